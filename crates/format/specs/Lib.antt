@@ -1,0 +1,6 @@
+pub mod Limits
+pub mod Types
+pub mod Range
+pub mod Write
+pub mod Read
+pub mod Setup

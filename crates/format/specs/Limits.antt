@@ -1,0 +1,33 @@
+-- Document 01, 'The engine and its edges' and 'Records': the limits, each named once.
+-- Assumes nothing.
+use Prim.Native.Nat.{ℕ}
+
+-- "Servers: 2 to 8, numbered from 0"
+abbrev pub fewestServers : ℕ
+fewestServers = 2
+
+abbrev pub mostServers : ℕ
+mostServers = 8
+
+-- "Quota q: 1 to 256 actions created per server."
+abbrev pub leastQuota : ℕ
+leastQuota = 1
+
+abbrev pub mostQuota : ℕ
+mostQuota = 256
+
+-- "Payload: 0 to 48 bytes."
+abbrev pub mostPayload : ℕ
+mostPayload = 48
+
+-- "Held requests: 16."
+abbrev pub mostHeld : ℕ
+mostHeld = 16
+
+-- "Primary and attempt indexes run 0 to 4,000,000,000."
+abbrev pub mostIndex : ℕ
+mostIndex = 4_000_000_000
+
+-- "version byte 1"
+abbrev pub version : ℕ
+version = 1

@@ -1,0 +1,33 @@
+-- Document 01, 'What `replay` prints': "a set-up record (kind 9: n 1 byte, q 2 bytes)".
+-- Assumes nothing.
+use Prim.Native.Nat.{ℕ, _+_}
+use mathlib.Core.Bool.{Bool}
+use mathlib.Core.List.{List, [], _∷_}
+use lib.ListN.{length}
+use Rattle.base.specs.Tests.{_and_, _≤?_, _=?_, pick}
+use Rattle.base.specs.Bytes.{bytesOf, numberAt, joined}
+use Rattle.format.specs.Limits.{version}
+use Rattle.format.specs.Types.{Reading, says, refused}
+use Rattle.format.specs.Range.{sizesOk}
+use Rattle.format.specs.Write.{framed}
+
+pub record Setup : Type 0 where
+  pub servers : ℕ
+  pub quota : ℕ
+
+unfoldable pub writeSetup : Setup → List ℕ
+writeSetup s = framed 9 (joined (bytesOf 1 (s .servers) ∷ bytesOf 2 (s .quota) ∷ []))
+
+unfoldable pub setupIn : List ℕ → Setup
+setupIn e = record { servers = numberAt 1 e 4; quota = numberAt 2 e 5 }
+
+unfoldable pub setupFrameOk : List ℕ → Bool
+setupFrameOk e = numberAt 2 e 0 + 2 =? length e and numberAt 1 e 2 =? version and numberAt 1 e 3 =? 9 and length e =? 7
+
+-- In range for a reader that takes n to `servers` and q to `quota`, which lie inside the format's own limits.
+unfoldable pub setupOk : (servers quota : ℕ) → Setup → Bool
+setupOk servers quota s = sizesOk (s .servers) (s .quota) and s .servers ≤? servers and s .quota ≤? quota
+
+unfoldable pub readSetup : (servers quota : ℕ) → List ℕ → Reading Setup
+readSetup servers quota e =
+    pick (setupFrameOk e) (pick (setupOk servers quota (setupIn e)) (says (setupIn e)) (refused 2)) (refused 1)

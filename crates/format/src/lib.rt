@@ -1,0 +1,1 @@
+// The record format: definitions and laws, no code.
