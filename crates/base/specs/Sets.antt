@@ -1,8 +1,9 @@
 -- A set of servers as a byte: bit k is server k.
 -- Assumes nothing.
-use Prim.Native.Nat.{ℕ, _/_, _%_, _^_}
+use Prim.Native.Nat.{ℕ, _-_, _/_, _%_, _^_}
 use mathlib.Core.Bool.{Bool}
-use lib.Bits.{bitAnd}
+use lib.Bits.{bitAnd, bitOr}
+use lib.Count.{ones}
 use Rattle.base.specs.Tests.{_=?_}
 
 -- Server k is in the set s.
@@ -12,3 +13,23 @@ inSet k s = s / 2 ^ k % 2 =? 1
 -- Each member of s is in t.
 unfoldable pub inside : ℕ → ℕ → Bool
 inside s t = bitAnd s t =? s
+
+-- s with server k.
+unfoldable pub withMember : ℕ → ℕ → ℕ
+withMember k s = bitOr s (2 ^ k)
+
+-- How many members s has.
+unfoldable pub size : ℕ → ℕ
+size s = ones s
+
+-- The common members of s and t.
+unfoldable pub common : ℕ → ℕ → ℕ
+common s t = bitAnd s t
+
+-- The members of s or t.
+unfoldable pub union : ℕ → ℕ → ℕ
+union s t = bitOr s t
+
+-- All of n servers.
+unfoldable pub everyone : ℕ → ℕ
+everyone n = 2 ^ n - 1

@@ -1,0 +1,70 @@
+-- Lists: tests on every element, filters, runs of numbers.
+-- Assumes nothing.
+use Prim.Native.Nat.{ℕ, zero, suc, _+_, _-_, max, min}
+use mathlib.Core.Bool.{Bool, true, false}
+use mathlib.Core.List.{List, [], _∷_, _++_}
+use mathlib.Core.Option.{Option, none, some}
+use Rattle.base.specs.Tests.{_and_, _or_, pick}
+
+-- Every element passes the test.
+unfoldable pub all : {A : Type 0} → (A → Bool) → List A → Bool
+all t [] = true
+all t (x ∷ xs) = t x and all t xs
+
+-- Some element passes the test.
+unfoldable pub any : {A : Type 0} → (A → Bool) → List A → Bool
+any t [] = false
+any t (x ∷ xs) = t x or any t xs
+
+-- The elements that pass the test, in order.
+unfoldable pub filter : {A : Type 0} → (A → Bool) → List A → List A
+filter t [] = []
+filter t (x ∷ xs) = pick (t x) (x ∷ filter t xs) (filter t xs)
+
+-- In front of the list, if there.
+unfoldable pub atFront : {A : Type 0} → Option A → List A → List A
+atFront none xs = xs
+atFront (some x) xs = x ∷ xs
+
+-- The values that are there, in order.
+unfoldable pub present : {A : Type 0} → List (Option A) → List A
+present [] = []
+present (x ∷ xs) = atFront x (present xs)
+
+-- What f makes of the elements, in order, where it makes something.
+unfoldable pub gather : {A B : Type 0} → (A → Option B) → List A → List B
+gather f [] = []
+gather f (x ∷ xs) = atFront (f x) (gather f xs)
+
+-- What f makes of the elements, one after another.
+unfoldable pub gatherAll : {A B : Type 0} → (A → List B) → List A → List B
+gatherAll f [] = []
+gatherAll f (x ∷ xs) = f x ++ gatherAll f xs
+
+-- The m numbers after k: k + 1, .., k + m.
+unfoldable pub after : ℕ → ℕ → List ℕ
+after k zero = []
+after k (suc m) = (k + 1) ∷ after (k + 1) m
+
+-- The numbers above `low` up to `high`.
+unfoldable pub above : ℕ → ℕ → List ℕ
+above low high = after low (high - low)
+
+-- The numbers below n.
+unfoldable pub below : ℕ → List ℕ
+below zero = []
+below (suc n) = below n ++ (n ∷ [])
+
+unfoldable pub isThere : {A : Type 0} → Option A → Bool
+isThere none = false
+isThere (some x) = true
+
+-- The element at i, if there.
+unfoldable pub at : {A : Type 0} → List A → ℕ → Option A
+at [] i = none
+at (x ∷ xs) zero = some x
+at (x ∷ xs) (suc i) = at xs i
+
+unfoldable pub sum : List ℕ → ℕ
+sum [] = 0
+sum (x ∷ xs) = x + sum xs

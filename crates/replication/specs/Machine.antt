@@ -1,0 +1,9 @@
+pub mod Types
+pub mod Colours
+pub mod Plan
+pub mod Exchange
+pub mod Install
+pub mod Requests
+pub mod Rules
+pub mod Step
+pub mod WellFormed

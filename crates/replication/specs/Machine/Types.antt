@@ -1,0 +1,123 @@
+-- The state of one server, and what an event gives. Document 01, 'What each event does'.
+-- Assumes nothing.
+use Prim.Native.Nat.{ℕ}
+use mathlib.Core.Bool.{Bool}
+use mathlib.Core.List.{List, [], _∷_}
+use mathlib.Core.Option.{Option, none, some}
+use lib.ListN.{replicate}
+use Rattle.base.specs.Sets.{everyone}
+use Rattle.format.specs.Types.{Action, Primary, Mark, Yellow, State, Context}
+
+-- The eight states, named as document 01 names them. (`State` is the record of kind 3.)
+pub data Mode : Type 0 where
+  Non-prim Reg-prim Trans-prim Exchange-states Exchange-actions Construct No Un : Mode
+
+-- The actions held: green ones (document 01's term: they have their lasting place) in their order, red ones (known, no lasting place yet) above
+-- them in the order in which they came; each creator's cut (document 01's term: the highest index entered); and the own list (own actions
+-- numbered and not yet entered) with the number of actions numbered so far.
+pub record Log : Type 0 where
+  pub green : List Action
+  pub red : List Action
+  pub cuts : List ℕ
+  pub own : List Action
+  pub numbered : ℕ
+
+-- What primary components are decided by.
+pub record Votes : Type 0 where
+  pub last : Primary
+  pub attempt : ℕ
+  pub mark : Mark
+  pub yellow : Yellow
+
+-- A regular configuration.
+pub record Configuration : Type 0 where
+  pub id : ℕ
+  pub set : ℕ
+
+-- The state's name, the last regular configuration and the set of the transitional one after it (since start or recovery), the States and CPCs
+-- collected in it, the former at their senders' numbers, and how many retransmissions have come in the exchange.
+pub record Membership : Type 0 where
+  pub mode : Mode
+  pub configuration : Option Configuration
+  pub transitional : Option ℕ
+  pub states : List (Option State)
+  pub cpcs : ℕ
+  pub come : ℕ
+
+-- One server. Cuts, noted lengths (document 01's term: the green length known of each server) and collected States are lists of `servers` entries.
+pub record Server : Type 0 where
+  pub servers : ℕ
+  pub quota : ℕ
+  pub me : ℕ
+  pub log : Log
+  pub votes : Votes
+  pub membership : Membership
+  pub held : List (List ℕ)
+  pub noted : List ℕ
+
+-- What an event gives: its refusal number, or the new state, the records to send in order, whether to store first, and the actions that turned
+-- green, in order.
+pub data Outcome (R : Type 0) : Type 0 where
+  refused : ℕ → Outcome R
+  taken : (after : Server) (records : List R) (store : Bool) (greened : List Action) → Outcome R
+
+-- ---- changes of one part
+
+abbrev pub withLog : Log → Server → Server
+withLog l s = record { servers = s .servers; quota = s .quota; me = s .me; log = l; votes = s .votes; membership = s .membership; held = s .held; noted = s .noted }
+
+abbrev pub withVotes : Votes → Server → Server
+withVotes v s = record { servers = s .servers; quota = s .quota; me = s .me; log = s .log; votes = v; membership = s .membership; held = s .held; noted = s .noted }
+
+abbrev pub withMembership : Membership → Server → Server
+withMembership m s = record { servers = s .servers; quota = s .quota; me = s .me; log = s .log; votes = s .votes; membership = m; held = s .held; noted = s .noted }
+
+abbrev pub withHeld : List (List ℕ) → Server → Server
+withHeld h s = record { servers = s .servers; quota = s .quota; me = s .me; log = s .log; votes = s .votes; membership = s .membership; held = h; noted = s .noted }
+
+abbrev pub withNoted : List ℕ → Server → Server
+withNoted l s = record { servers = s .servers; quota = s .quota; me = s .me; log = s .log; votes = s .votes; membership = s .membership; held = s .held; noted = l }
+
+abbrev pub withMode : Mode → Membership → Membership
+withMode m c = record { mode = m; configuration = c .configuration; transitional = c .transitional; states = c .states; cpcs = c .cpcs; come = c .come }
+
+abbrev pub withCome : ℕ → Membership → Membership
+withCome k c = record { mode = c .mode; configuration = c .configuration; transitional = c .transitional; states = c .states; cpcs = c .cpcs; come = k }
+
+abbrev pub inMode : Mode → Server → Server
+inMode m s = withMembership (withMode m (s .membership)) s
+
+-- ---- the start
+
+-- "A cleared mark is all zeros."
+unfoldable pub clearedMark : Mark
+clearedMark = record { status = 0; index = 0; attempt = 0; set = 0; bits = 0 }
+
+-- Invalid and empty.
+unfoldable pub noYellow : Yellow
+noYellow = record { status = 0; ids = [] }
+
+unfoldable pub noStates : ℕ → List (Option State)
+noStates n = replicate {A = Option State} n none
+
+-- "At the start: Non_prim, no configuration, nothing held or marked, yellow invalid, attempt 0, last primary (index 0, attempt 0, all servers)."
+unfoldable pub start : (servers quota me : ℕ) → Server
+start n q i = record {
+  servers = n;
+  quota = q;
+  me = i;
+  log = record { green = []; red = []; cuts = replicate {A = ℕ} n 0; own = []; numbered = 0 };
+  votes = record { last = record { index = 0; attempt = 0; set = everyone n }; attempt = 0; mark = clearedMark; yellow = noYellow };
+  membership = record { mode = Non-prim; configuration = none; transitional = none; states = noStates n; cpcs = 0; come = 0 };
+  held = [];
+  noted = replicate {A = ℕ} n 0;
+}
+
+-- ---- what a record is read against
+
+unfoldable pub setOf : Option Configuration → Option ℕ
+setOf none = none
+setOf (some c) = some (c .set)
+
+unfoldable pub contextOf : Server → Context
+contextOf s = record { servers = s .servers; quota = s .quota; self = s .me; last = setOf (s .membership .configuration) }

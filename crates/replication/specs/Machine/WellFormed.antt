@@ -1,0 +1,127 @@
+-- Document 01, 'Returned numbers', row 8: which states are well-formed. In the row's order; what it does not name is accepted.
+-- Assumes nothing.
+use Prim.Native.Nat.{ℕ, _+_, _*_}
+use mathlib.Core.Bool.{Bool, true, false, not}
+use mathlib.Core.List.{List, [], _∷_, _++_, map}
+use mathlib.Core.Option.{Option, none, some}
+use lib.ListN.{length}
+use Rattle.base.specs.Tests.{_and_, _or_, _=?_, _≤?_, _<?_}
+use Rattle.base.specs.Lists.{all, above, isThere}
+use Rattle.base.specs.Sets.{inSet, inside}
+use Rattle.format.specs.Limits.{mostHeld, mostIndex}
+use Rattle.format.specs.Types.{Id, Action, State, Context}
+use Rattle.format.specs.Range.{contextOk, lengthOk, payloadOk, actionOk, cutsOk, indexOk, setOk, ownSetOk, primaryOk, markOk, yellowOk, configurationOk, stateOk, sameId, hasId, idsDiffer}
+use Rattle.replication.specs.Machine.Types.{Mode, Non-prim, Reg-prim, Trans-prim, Exchange-states, Exchange-actions, Construct, No, Un, Log, Votes, Configuration, Membership, Server, contextOf}
+use Rattle.replication.specs.Machine.Colours.{cut}
+use Rattle.replication.specs.Machine.Install.{idsUpTo}
+use Rattle.replication.specs.Machine.Step.{theSet, theId, allStatesIn, allCome}
+
+-- ---- "a number or set out of range"
+
+unfoldable pub logRanges : Context → Log → Bool
+logRanges c l =
+    all (actionOk c) (l .green)
+    and all (actionOk c) (l .red)
+    and length (l .cuts) =? c .servers
+    and cutsOk (c .quota) (l .cuts)
+    and all (actionOk c) (l .own)
+    and l .numbered ≤? c .quota
+
+unfoldable pub votesRanges : Context → Votes → Bool
+votesRanges c v = primaryOk c (v .last) and indexOk (v .attempt) and markOk c (v .mark) and yellowOk c (v .yellow)
+
+unfoldable pub configurationFits : Context → Option Configuration → Bool
+configurationFits c none = true
+configurationFits c (some d) = configurationOk (d .id) and ownSetOk c (d .set)
+
+-- Inside the regular one, if any.
+unfoldable pub transitionalFits : Context → Option Configuration → Option ℕ → Bool
+transitionalFits c d none = true
+transitionalFits c none (some t) = ownSetOk c t
+transitionalFits c (some d) (some t) = ownSetOk c t and inside t (d .set)
+
+-- A collected State stands at its sender's number, and is of the configuration and of one of its members.
+unfoldable pub collectedFits : Context → Option Configuration → ℕ → Option State → Bool
+collectedFits c d k none = true
+collectedFits c none k (some x) = false
+collectedFits c (some d) k (some x) = stateOk c x and x .sender =? k and inSet k (d .set) and x .configuration =? d .id
+
+unfoldable pub collectedFit : Context → Option Configuration → ℕ → List (Option State) → Bool
+collectedFit c d k [] = true
+collectedFit c d k (x ∷ xs) = collectedFits c d k x and collectedFit c d (k + 1) xs
+
+unfoldable pub membershipRanges : Context → Membership → Bool
+membershipRanges c m =
+    configurationFits c (m .configuration)
+    and transitionalFits c (m .configuration) (m .transitional)
+    and length (m .states) =? c .servers
+    and collectedFit c (m .configuration) 0 (m .states)
+    and setOk c (m .cpcs)
+    and m .come ≤? 2 * (c .servers * c .quota)
+
+unfoldable pub ranges : Context → Server → Bool
+ranges c s =
+    contextOk c
+    and logRanges c (s .log)
+    and votesRanges c (s .votes)
+    and membershipRanges c (s .membership)
+    and length (s .held) ≤? mostHeld
+    and all payloadOk (s .held)
+    and length (s .noted) =? c .servers
+    and all (lengthOk c) (s .noted)
+
+-- ---- "an id twice in one list"; the ids of a yellow list differ by its range
+
+unfoldable pub idsIn : List Action → List Id
+idsIn l = map (λ a. a .id) l
+
+unfoldable pub queue : Log → List Action
+queue l = l .green ++ l .red
+
+-- ---- "held actions of a creator that are not 1 to its cut"
+
+unfoldable pub withinCut : Log → Action → Bool
+withinCut l a = a .id .index ≤? cut l (a .id .creator)
+
+unfoldable pub heldToCuts : Log → Bool
+heldToCuts l = all (withinCut l) (queue l) and all (λ d. hasId d (idsIn (queue l))) (idsUpTo 0 (l .cuts))
+
+-- ---- "an own list that is not own cut + 1 to the last numbered"
+
+unfoldable pub sameIds : List Id → List Id → Bool
+sameIds [] [] = true
+sameIds [] (y ∷ ys) = false
+sameIds (x ∷ xs) [] = false
+sameIds (x ∷ xs) (y ∷ ys) = sameId x y and sameIds xs ys
+
+unfoldable pub ownListFits : ℕ → Log → Bool
+ownListFits me l =
+    cut l me ≤? l .numbered
+    and sameIds (idsIn (l .own)) (map (λ i. record { creator = me; index = i }) (above (cut l me) (l .numbered)))
+
+-- ---- the rest of the row
+
+-- "numbered plus held above q" does not apply.
+unfoldable pub quotaKept : Server → Bool
+quotaKept s = s .log .numbered + length (s .held) ≤? s .quota
+
+-- "a state other than Non_prim with no configuration" does not apply; "Exchange_actions without every member's State or with all planned in"
+-- neither, nor "the primary index at 4,000,000,000 in Construct, No or Un".
+unfoldable pub modeFits : Mode → Server → Bool
+modeFits Non-prim s = true
+modeFits Reg-prim s = isThere (s .membership .configuration)
+modeFits Trans-prim s = isThere (s .membership .configuration)
+modeFits Exchange-states s = isThere (s .membership .configuration)
+modeFits Exchange-actions s = isThere (s .membership .configuration) and allStatesIn s and not (allCome s)
+modeFits Construct s = isThere (s .membership .configuration) and s .votes .last .index <? mostIndex
+modeFits No s = isThere (s .membership .configuration) and s .votes .last .index <? mostIndex
+modeFits Un s = isThere (s .membership .configuration) and s .votes .last .index <? mostIndex
+
+unfoldable pub wellFormed : Server → Bool
+wellFormed s =
+    ranges (contextOf s) s
+    and idsDiffer (idsIn (queue (s .log)))
+    and heldToCuts (s .log)
+    and ownListFits (s .me) (s .log)
+    and quotaKept s
+    and modeFits (s .membership .mode) s
