@@ -2,3 +2,5 @@ pub mod Tests
 pub mod Bytes
 pub mod Sets
 pub mod Lists
+pub mod Text
+pub mod Opened

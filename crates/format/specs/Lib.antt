@@ -4,3 +4,4 @@ pub mod Range
 pub mod Write
 pub mod Read
 pub mod Setup
+pub mod Opened

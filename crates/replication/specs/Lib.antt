@@ -1,1 +1,4 @@
 pub mod Machine
+pub mod Images
+pub mod Replay
+pub mod Opened
