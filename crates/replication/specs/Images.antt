@@ -2,7 +2,7 @@
 -- Assumes nothing.
 use Prim.Native.Nat.{ℕ}
 use mathlib.Core.Bool.{Bool, true, false}
-use mathlib.Core.List.{List}
+use mathlib.Core.List.{List, [], _∷_}
 use Rattle.base.specs.Tests.{pick}
 use Rattle.format.specs.Types.{Record, action, retransmission, state, cpc, regular, transitional, request, recovery, Reading, says, refused}
 use Rattle.format.specs.Read.{read}
@@ -39,3 +39,8 @@ arrive i e = step (sourceOf i e) e
 unfoldable pub leftBy : Outcome (List ℕ) → Images → Images
 leftBy (Outcome.refused k) i = i
 leftBy (taken t r b g) i = record { memory = t; store = pick b t (i .store) }
+
+-- What a server has after these events, whatever they are.
+unfoldable pub lived : Images → List (List ℕ) → Images
+lived i [] = i
+lived i (e ∷ es) = lived (leftBy (arrive i e) i) es
