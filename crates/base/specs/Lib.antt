@@ -1,3 +1,6 @@
 pub mod Tests
 pub mod Bytes
+pub mod BytesLaws
+pub mod Occurs
+pub mod Pigeonhole
 pub mod Sets
