@@ -55,7 +55,7 @@ pub state-length : (s : State) → length (stateBytes s) ≡ 36 + 2 * length (s 
 unfolding stateBytes primaryBytes markBytes yellowBytes joined bytesOf
 state-length s = simp (length-append, cuts-length, ids-length) (omega arith)
 
-body-length : (r : Record) → 4 + length (bodyOf r) ≡ lengthOf r
+pub body-length : (r : Record) → 4 + length (bodyOf r) ≡ lengthOf r
 unfolding bodyOf lengthOf joined bytesOf
 body-length (action a) = rw action-length (omega arith)
 body-length (retransmission s p a) = simp (length-append, action-length) (omega arith)
