@@ -146,6 +146,16 @@ pub bytes-append : (x y : List ℕ) → Bytes x → Bytes y → Bytes (x ++ y)
 bytes-append [] y h k = k
 bytes-append (b ∷ x) y h k = bytes-cons b (x ++ y) (h 0) (bytes-append x y (λ i. h (suc i)) k)
 
+-- Each part is bytes.
+abbrev pub BytesEach : List (List ℕ) → Type 0
+BytesEach [] = Unit {0}
+BytesEach (x ∷ xs) = Bytes x × BytesEach xs
+
+pub bytes-joined : (xs : List (List ℕ)) → BytesEach xs → Bytes (joined xs)
+unfolding joined
+bytes-joined [] h = bytes-nil
+bytes-joined (x ∷ xs) h = bytes-append x (joined xs) (h .0) (bytes-joined xs (h .1))
+
 pub bytes-small : (w v : ℕ) → Bytes (bytesOf w v)
 unfolding bytesOf
 bytes-small zero v = bytes-nil
