@@ -7,11 +7,11 @@ use mathlib.Core.Option.{none, some}
 use Rattle.base.specs.Tests.{_and_, _or_, _≤?_, _<?_, _=?_, pick}
 use Rattle.base.specs.Bytes.{areBytes, bytesOf, numberAt, numbersAt, partAt, joined}
 use Rattle.base.specs.Sets.{inSet, inside}
-use Rattle.format.specs.Types.{Id, Action, Mark, State, Record, action, retransmission, state, cpc, regular, transitional, request, recovery, kindNumber, kindOf, Context, Reading, says, refused}
+use Rattle.format.specs.Types.{Action, Mark, State, action, retransmission, state, cpc, regular, transitional, request, recovery, kindNumber, kindOf, Context, says, refused}
 use Rattle.format.specs.Range.{sizesOk, contextOk, idOk, lengthOk, payloadOk, actionOk, cutsOk, indexOk, setOk, statusOk, primaryOk, markOk, sameId, hasId, idsDiffer, idsInRange, idsOk, yellowOk, configurationOk, stateOk, ownSetOk, insideLast, fieldsOk, recordOk}
 use Rattle.format.specs.Write.{framed, payloadBytes, idBytes, actionBytes, cutsBytes, primaryBytes, markBytes, idsBytes, yellowBytes, stateBytes, bodyOf, write}
 use Rattle.format.specs.Read.{payloadAt, idAt, actionAt, primaryAt, markAt, idsAt, yellowAt, stateAt, kindNamed, lengthFor, frameOk, recordIn, readAs, read}
-use Rattle.format.specs.Setup.{Setup, writeSetup, setupIn, setupFrameOk, setupOk, readSetup}
+use Rattle.format.specs.Setup.{writeSetup, setupIn, setupFrameOk, setupOk, readSetup}
 
 -- One name that opens the format: to unfold it is to unfold what its own line names.
 opened : ℕ
