@@ -5,5 +5,6 @@ pub mod Occurs
 pub mod Pigeonhole
 pub mod Sets
 pub mod Lists
+pub mod AtLaws
 pub mod Text
 pub mod Opened
