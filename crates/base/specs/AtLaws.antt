@@ -45,6 +45,13 @@ module _ {A : Type 0} where
   at-in-take (suc k) (y ∷ l) zero x e = (omega arith, e)
   at-in-take (suc k) (y ∷ l) (suc p) x e = let h = at-in-take k l p x e in (omega (arith, h .0), h .1)
 
+  pub at-past-take : (k : ℕ) (l : List A) (p : ℕ) → k ≤ p → at (take k l) p ≡ none
+  unfolding at
+  at-past-take zero l p h = refl
+  at-past-take (suc k) [] p h = refl
+  at-past-take (suc k) (y ∷ l) zero h = absurd (omega arith)
+  at-past-take (suc k) (y ∷ l) (suc p) h = at-past-take k l p (omega arith)
+
   -- Past the end stands nothing.
   pub take-past : (l : List A) (p : ℕ) → at l p ≡ none → take (suc p) l ≡ take p l
   unfolding at
