@@ -3,4 +3,5 @@ pub mod Bytes
 pub mod Sets
 pub mod Lists
 pub mod Text
+pub mod Prefixes
 pub mod Opened

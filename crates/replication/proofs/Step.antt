@@ -1,0 +1,3 @@
+pub mod Inversion
+pub mod Moves
+pub mod Logs
