@@ -4,7 +4,7 @@ use Prim.Native.Nat.{ℕ, zero, suc, _+_, _≤_, _<_}
 use mathlib.Core.Path.{_≡_, refl, sym, ap, _∙_}
 use mathlib.Core.List.{List, [], _∷_, _++_, append-nil, append-assoc}
 use native.Mathlib.Omega.{arith}
-use lib.ListN.{length, drop, length-append}
+use lib.ListN.{length, drop, getD, set, length-append}
 
 -- The list x begins the list y.
 pub record Begins {A : Type 0} (x y : List A) : Type 0 where
@@ -37,3 +37,11 @@ module _ {A : Type 0} where
 
   pub begins-gained : {x y : List A} → Begins x y → y ≡ x ++ drop (length x) y
   begins-gained {x} p = p .whole ∙ ap (λ w. x ++ w) (sym (ap (drop (length x)) (p .whole) ∙ drop-beginning x (p .rest)))
+
+-- A number put in the place of a lower one lowers no entry.
+pub set-rises : (l : List ℕ) (i v j : ℕ) → getD l i 0 ≤ v → getD l j 0 ≤ getD (set l i v) j 0
+set-rises [] i v j h = omega arith
+set-rises (x ∷ l) zero v zero h = h
+set-rises (x ∷ l) zero v (suc j) h = omega arith
+set-rises (x ∷ l) (suc i) v zero h = omega arith
+set-rises (x ∷ l) (suc i) v (suc j) h = set-rises l i v j h

@@ -1,3 +1,6 @@
 pub mod Inversion
 pub mod Moves
 pub mod Logs
+pub mod Growth
+pub mod Lifts
+pub mod Control

@@ -1,1 +1,3 @@
 pub mod Transitions
+pub mod Images
+pub mod Order

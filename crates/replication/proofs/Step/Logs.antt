@@ -41,7 +41,6 @@ withOwn more k l = record { green = l .green; red = l .red; cuts = l .cuts; own 
 module _ (P : Log → Type 0)
     (on-enter : (a : Action) (l : Log) → isNext l a ≡ true → P l → P (enter a l))
     (on-promote : (d : Id) (x : Action) (l : Log) → find d (l .red) ≡ some x → P l → P (promote x l))
-    (on-own : (more : List Action) (k : ℕ) (l : Log) → P l → P (withOwn more k l))
   where
     pub on-red : (a : Action) (l : Log) → P l → P (red a l)
     on-red a l p = go (known (isNext l a))
@@ -85,39 +84,40 @@ module _ (P : Log → Type 0)
     unfolding placed
     on-placed k a l p = search (on-pick, on-green, on-red)
 
-    pub on-numbered : (ps : List (List ℕ)) (s : Server) → P (s .log) → P ((numbered ps s) .log)
-    unfolding numbered withOwn
-    on-numbered ps s p = on-own (madeOf ps s) (length ps) (s .log) p
+    module _ (on-own : (more : List Action) (k : ℕ) (l : Log) → P l → P (withOwn more k l)) where
+      pub on-numbered : (ps : List (List ℕ)) (s : Server) → P (s .log) → P ((numbered ps s) .log)
+      unfolding numbered withOwn
+      on-numbered ps s p = on-own (madeOf ps s) (length ps) (s .log) p
 
-    on-end : (t u : Server) (rs : List Record) → Ends t u rs → P (t .log) → P (u .log)
-    unfolding attempting decided sendHeld
-    on-end t u rs (L.withQuorum q) p = p
-    on-end t u rs (L.withoutQuorum q) p = on-numbered (t .held) _ p
+      on-end : (t u : Server) (rs : List Record) → Ends t u rs → P (t .log) → P (u .log)
+      unfolding attempting decided sendHeld
+      on-end t u rs (L.withQuorum q) p = p
+      on-end t u rs (L.withoutQuorum q) p = on-numbered (t .held) _ p
 
-    pub on-transition : (s : Server) (r : Record) (t : Server) (rs : List Record) (b : Bool) → Transition s r t rs b → P (s .log) → P (t .log)
-    unfolding greenAndNote install exchanged oneMore withState resending withCpc sendHeld entering leave hold recovered
-    on-transition s r t rs b (L.ignoresState x e) p = p
-    on-transition s r t rs b (L.ignoresCpc k i e) p = p
-    on-transition s r t rs b (L.reddens a e) p = on-red a (s .log) p
-    on-transition s r t rs b (L.reddensResent k i a e) p = on-red a (s .log) p
-    on-transition s r t rs b (L.reddensInExchange a e) p = on-red a (s .log) p
-    on-transition s r t rs b (L.greens a e) p = on-green a (s .log) p
-    on-transition s r t rs b (L.yellows a e) p = rw (yellow-log a s) (on-red a (s .log) p)
-    on-transition s r t rs b (L.installsLate a e) p = rw (yellow-log a (install s)) (on-red a _ (on-install (s .votes .yellow .ids) (s .log) p))
-    on-transition s r t rs b (L.exchanges k i a e c) p = on-placed i a (s .log) p
-    on-transition s r t rs b (L.exchangesLast k i a u us e c x) p = on-end (exchanged i a s) u us x (on-placed i a (s .log) p)
-    on-transition s r t rs b (L.collects x e c) p = p
-    on-transition s r t rs b (L.collectsLast x e c d) p = p
-    on-transition s r t rs b (L.collectsWhole x u us e c d y) p = on-end (withState x s) u us y p
-    on-transition s r t rs b (L.counts k i e c) p = p
-    on-transition s r t rs b (L.installs k i e c) p = on-numbered (s .held) _ (on-install (s .votes .yellow .ids) (s .log) p)
-    on-transition s r t rs b (L.countsLate k i e c) p = p
-    on-transition s r t rs b (L.countsAllLate k i e c) p = p
-    on-transition s r t rs b (L.joins c e) p = p
-    on-transition s r t rs b (L.joinsMarked c e) p = p
-    on-transition s r t rs b (L.joinsUnmarked c e) p = p
-    on-transition s r t rs b (L.joinsYellow c e) p = p
-    on-transition s r t rs b (L.leaves m n x e q) p = p
-    on-transition s r t rs b (L.sends q c) p = on-numbered (q ∷ []) s p
-    on-transition s r t rs b (L.holds q c) p = p
-    on-transition s r t rs b L.recovers p = on-reds (s .log .own) (s .log) p
+      pub on-transition : (s : Server) (r : Record) (t : Server) (rs : List Record) (b : Bool) → Transition s r t rs b → P (s .log) → P (t .log)
+      unfolding greenAndNote install exchanged oneMore withState resending withCpc sendHeld entering leave hold recovered
+      on-transition s r t rs b (L.ignoresState x e) p = p
+      on-transition s r t rs b (L.ignoresCpc k i e) p = p
+      on-transition s r t rs b (L.reddens a e) p = on-red a (s .log) p
+      on-transition s r t rs b (L.reddensResent k i a e) p = on-red a (s .log) p
+      on-transition s r t rs b (L.reddensInExchange a e) p = on-red a (s .log) p
+      on-transition s r t rs b (L.greens a e) p = on-green a (s .log) p
+      on-transition s r t rs b (L.yellows a e) p = rw (yellow-log a s) (on-red a (s .log) p)
+      on-transition s r t rs b (L.installsLate a e) p = rw (yellow-log a (install s)) (on-red a _ (on-install (s .votes .yellow .ids) (s .log) p))
+      on-transition s r t rs b (L.exchanges k i a e c) p = on-placed i a (s .log) p
+      on-transition s r t rs b (L.exchangesLast k i a u us e c x) p = on-end (exchanged i a s) u us x (on-placed i a (s .log) p)
+      on-transition s r t rs b (L.collects x e c) p = p
+      on-transition s r t rs b (L.collectsLast x e c d) p = p
+      on-transition s r t rs b (L.collectsWhole x u us e c d y) p = on-end (withState x s) u us y p
+      on-transition s r t rs b (L.counts k i e c) p = p
+      on-transition s r t rs b (L.installs k i e c) p = on-numbered (s .held) _ (on-install (s .votes .yellow .ids) (s .log) p)
+      on-transition s r t rs b (L.countsLate k i e c) p = p
+      on-transition s r t rs b (L.countsAllLate k i e c) p = p
+      on-transition s r t rs b (L.joins c e) p = p
+      on-transition s r t rs b (L.joinsMarked c e) p = p
+      on-transition s r t rs b (L.joinsUnmarked c e) p = p
+      on-transition s r t rs b (L.joinsYellow c e) p = p
+      on-transition s r t rs b (L.leaves m n x e q) p = p
+      on-transition s r t rs b (L.sends q c) p = on-numbered (q ∷ []) s p
+      on-transition s r t rs b (L.holds q c) p = p
+      on-transition s r t rs b L.recovers p = on-reds (s .log .own) (s .log) p
