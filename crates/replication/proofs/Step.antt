@@ -4,3 +4,5 @@ pub mod Logs
 pub mod Growth
 pub mod Lifts
 pub mod Control
+pub mod Table
+pub mod RequestRows

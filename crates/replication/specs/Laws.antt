@@ -1,3 +1,4 @@
 pub mod Transitions
 pub mod Images
 pub mod Order
+pub mod Rows
