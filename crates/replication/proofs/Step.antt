@@ -6,3 +6,4 @@ pub mod Lifts
 pub mod Control
 pub mod Table
 pub mod RequestRows
+pub mod Greens

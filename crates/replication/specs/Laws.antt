@@ -2,3 +2,4 @@ pub mod Transitions
 pub mod Images
 pub mod Order
 pub mod Rows
+pub mod Greens
