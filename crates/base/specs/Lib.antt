@@ -4,4 +4,5 @@ pub mod Sets
 pub mod Lists
 pub mod Text
 pub mod Prefixes
+pub mod Members
 pub mod Opened

@@ -7,3 +7,5 @@ pub mod Control
 pub mod Table
 pub mod RequestRows
 pub mod Greens
+pub mod Taken
+pub mod Votes
