@@ -7,4 +7,6 @@ pub mod Sets
 pub mod Lists
 pub mod AtLaws
 pub mod Text
+pub mod Prefixes
+pub mod Members
 pub mod Opened

@@ -1,0 +1,5 @@
+pub mod Transitions
+pub mod Images
+pub mod Order
+pub mod Rows
+pub mod Greens
