@@ -5,3 +5,10 @@ pub mod Entries
 pub mod Beginnings
 pub mod Deliveries
 pub mod PrefixClosed
+pub mod Lived
+pub mod Numbers
+pub mod Modes
+pub mod Refusals
+pub mod PlaceMoves
+pub mod Readings
+pub mod Coupling
