@@ -12,3 +12,4 @@ pub mod Refusals
 pub mod PlaceMoves
 pub mod Readings
 pub mod Coupling
+pub mod AllowedTurns

@@ -50,7 +50,7 @@ module _ (n q : ℕ) (l : Run) (p i : ℕ) (e : List ℕ) where
   unfolding sourceOf
   source-picked x b h = ap (λ c. pick c (x .store) (x .memory)) h
 
-  source-of-event : Allowed n q l → (k : ℕ) → at l p ≡ some (event i e k)
+  pub source-of-event : Allowed n q l → (k : ℕ) → at l p ≡ some (event i e k)
       → (worldAt n q l p .down i ≡ false → placeOf (worldAt n q l p .images i .memory) ≡ placeAt n q l i p) → Source
   unfolding pick isRecovery
   source-of-event A k h c = go (known (isRecovery (heardAt n q l p i e))) (worldAt n q l p .down i) refl
@@ -135,3 +135,15 @@ module _ {n q : ℕ} {l : Run} (A : Allowed n q l) where
           ap (λ y. placeOf (y .memory)) m ∙ refusal e k z x a f (source-of-event n q l p i e A k x f) ∙ sym c
       go (acts e k t bs b g x a m c d) f =
           ap (λ y. placeOf (y .memory)) m ∙ acting e t bs b g a f (source-of-event n q l p i e A k x f) ∙ sym c
+
+  -- The state that an event gets.
+  pub source : (p i k : ℕ) (e : List ℕ) → at l p ≡ some (event i e k) → Source n q l p i e
+  source p i k e h = source-of-event n q l p i e A k h (coupled p i)
+
+  -- A server that is up and refuses an event keeps its configuration.
+  pub refusal-stays : (p i k z : ℕ) (e : List ℕ) → at l p ≡ some (event i e k) → worldAt n q l p .down i ≡ false → isRecovery (heardAt n q l p i e) ≡ false
+      → step (worldAt n q l p .images i .memory) e ≡ Outcome.refused z → moved (heardAt n q l p i e) (placeAt n q l i p) ≡ placeAt n q l i p
+  refusal-stays p i k z e h u r a =
+      sym
+      (refused-place p i k z e _ h (standing n q l i p .memory) (coupled p i u) r
+      (reads-alike n q l p i e _ (numbers n q i l p .memory) (coupled p i u)) a _ refl)
