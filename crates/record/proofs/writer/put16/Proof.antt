@@ -1,0 +1,38 @@
+use borrow.Author.Needs.{needs}
+use Rattle.record.proofs.writer.put16.Statement.{statement}
+use Rattle.record.proofs.writer.put16.Tie as tie
+use Rattle.record.proofs.writer.put16.Reads as reads
+use Rattle.record.proofs.writer.put16.Lts as lts
+
+-- src/writer.rt:52:15
+cast-out : tie.Need-cast-out
+cast-out c = search needs
+
+-- src/writer.rt:52:5
+slice-write-out : tie.Need-slice-write-out
+slice-write-out c = search needs
+
+-- src/writer.rt:53:19
+cast-out-2 : tie.Need-cast-out-2
+cast-out-2 c = search needs
+
+-- src/writer.rt:53:9
+add-out : tie.Need-add-out
+add-out c = search needs
+
+-- src/writer.rt:53:5
+slice-write-out-2 : tie.Need-slice-write-out-2
+slice-write-out-2 c = ?
+
+-- src/writer.rt:48:1
+same-length : tie.Need-same-length
+same-length c = search needs
+
+-- src/writer.rt:48:1
+returns : tie.Need-returns
+returns c = ?
+
+pub put16-spec : {M : Type 1} → statement M
+put16-spec =
+    tie.close
+    (tie.spec cast-out slice-write-out cast-out-2 add-out slice-write-out-2 same-length returns)
