@@ -2,7 +2,7 @@
 -- Assumes nothing.
 use Prim.Native.Nat.{ℕ, zero, suc, _+_, _≤_, _<_, zero-le}
 use mathlib.Core.Path.{_≡_, refl, sym, ap, _∙_}
-use mathlib.Core.List.{List, _++_, append-assoc}
+use mathlib.Core.List.{List, [], _++_, append-assoc}
 use native.Mathlib.Omega.{arith}
 use lib.ListN.{length, getD, take, drop, set, length-append, length-take, length-drop}
 use lib.Seq.{length-take-le, take-at, drop-at, drop-drop, take-append-seam, sets, sets-eq, paste, paste-zero, paste-suc, take-length}
@@ -61,8 +61,8 @@ module _ {A : Type 0} where
       append-assoc (take at s) (take n b) (drop (at + n) s)
       ∙ ap (λ (k : ℕ). take at s ++ (take n b ++ drop (at + k) s)) (sym (length-take-le n b h))
 
-  pub patched-none : (at : ℕ) (b s : List A) → patched at (take zero b) s ≡ s
-  patched-none at b s = sym (paste-zero s at b ∙ paste-patched at zero b s zero-le)
+  pub patched-none : (at : ℕ) (s : List A) → patched at [] s ≡ s
+  patched-none at s = sym (paste-zero s at [] ∙ paste-patched at zero [] s zero-le)
 
   -- a turn of a loop that copies
   pub patched-more : (at n : ℕ) (b s : List A) (d : A) → at + n < length s → n < length b

@@ -10,7 +10,8 @@ use Rattle.format.specs.Types.{Id, Action, Primary, Yellow, State, Record, acti
 use Rattle.format.specs.Types as format
 use Rattle.format.specs.Read.{idsAt}
 use Rattle.format.specs.Write.{write}
-use Rattle.record.specs.declared.LastPrimary.{LastPrimary}
+use Rattle.record.specs.declared.PrimaryIndex.{PrimaryIndex}
+use Rattle.record.specs.declared.AttemptIndex.{AttemptIndex}
 use Rattle.record.specs.declared.Mark.{Mark}
 use Rattle.record.specs.declared.writer.ActionHead.{ActionHead}
 use Rattle.record.specs.declared.writer.StateHead.{StateHead}
@@ -33,15 +34,14 @@ putOf Full s = full s
 
 -- ---- the record made of a writer's arguments
 
-unfoldable pub actionOf : ActionHead → List ℕ → Action
-actionOf h p = record {
-  id = record { creator = h .creator; index = h .index };
-  greenLength = h .«green_length»;
-  payload = p;
-}
+unfoldable pub idOf : (creator index : ℕ) → Id
+idOf creator index = record { creator = creator; index = index }
 
-unfoldable pub primaryOf : LastPrimary → Primary
-primaryOf p = record { index = p .index .0; attempt = p .attempt .0; set = p .set }
+unfoldable pub actionOf : ActionHead → List ℕ → Action
+actionOf h p = record { id = idOf (h .creator) (h .index); greenLength = h .«green_length»; payload = p }
+
+unfoldable pub componentOf : PrimaryIndex → AttemptIndex → (set : ℕ) → Primary
+componentOf i a s = record { index = i .0; attempt = a .0; set = s }
 
 unfoldable pub markOf : Mark → format.Mark
 markOf m = record { status = m .status; index = m .index .0; attempt = m .attempt .0; set = m .set; bits = m .bits }
@@ -57,7 +57,7 @@ stateOf h cuts ids = record {
   cuts = numbersAt 2 (h .servers) cuts 0;
   greenLength = h .«green_length»;
   attempt = h .attempt .0;
-  last = primaryOf (h .last);
+  last = componentOf (h .last .index) (h .last .attempt) (h .last .set);
   mark = markOf (h .mark);
   yellow = yellowOf (h .«yellow_status») (h .«yellow_count») ids;
 }

@@ -3,6 +3,7 @@ pub mod writer;
 
 // "The primary index and the attempt index are two counters, and neither may stand for the other."
 pub struct PrimaryIndex(pub u32);
+
 pub struct AttemptIndex(pub u32);
 
 // The last primary component that a server knows of.

@@ -5,12 +5,15 @@ ghost use lib.ListN.{length, take};
 ghost use Rattle.base.specs.Bytes.{bytesOf};
 ghost use Rattle.base.specs.Patched.{patched};
 ghost use Rattle.format.specs.Types.{action, retransmission, cpc};
-ghost use Rattle.format.specs.Write.{write};
-ghost use Rattle.record.specs.Written.{put, putOf, putState, actionOf};
-
+ghost use Rattle.format.specs.Write.{idBytes, payloadBytes, actionBytes, primaryBytes, markBytes, write};
+ghost use Rattle.record.specs.Written.{put, putOf, putState, idOf, actionOf, componentOf, markOf};
+ghost use Rattle.record.specs.Blocks.{frameBytes, senderBytes, openingBytes, headBytes, pairBytes, markedBytes};
 use super::AttemptIndex;
 use super::LastPrimary;
 use super::Mark;
+use super::PrimaryIndex;
+
+const VERSION: u8 = 1;
 
 // Where the next record goes, or no room: then the buffer is as it was.
 pub enum Written {
@@ -72,4 +75,100 @@ fn copy(out: &mut [u8], at: usize, src: &[u8])
         out[at + j] = src[j];
         j += 1;
     }
+}
+
+// Two length bytes (counting what follows them), version and kind.
+fn put_frame(out: &mut [u8], at: usize, follows: usize, kind: u8)
+    requires { ⌜ at + 4 ≤ length (now out) ⌝ }
+    ensures { λ _. ⌜ now (out .exit) ≡ patched at (frameBytes follows kind) (now (out .entry)) ⌝ }
+{
+    out[at] = (follows / 256 % 256) as u8;
+    out[at + 1] = (follows % 256) as u8;
+    out[at + 2] = VERSION;
+    out[at + 3] = kind;
+}
+
+// A sender, and a number of four bytes.
+fn put_sender(out: &mut [u8], at: usize, sender: u8, number: u32)
+    requires { ⌜ at + 5 ≤ length (now out) ⌝ }
+    ensures { λ _. ⌜ now (out .exit) ≡ patched at (senderBytes sender number) (now (out .entry)) ⌝ }
+{
+    put8(out, at, sender);
+    put32(out, at + 1, number);
+}
+
+// What a retransmission, a State and a CPC begin with.
+fn put_opening(out: &mut [u8], at: usize, follows: usize, kind: u8, sender: u8, number: u32)
+    requires { ⌜ at + 9 ≤ length (now out) ⌝ }
+    ensures { λ _. ⌜ now (out .exit) ≡ patched at (openingBytes follows kind sender number) (now (out .entry)) ⌝ }
+{
+    put_frame(out, at, follows, kind);
+    put_sender(out, at + 4, sender, number);
+}
+
+fn put_id(out: &mut [u8], at: usize, creator: u8, index: u16)
+    requires { ⌜ at + 3 ≤ length (now out) ⌝ }
+    ensures { λ _. ⌜ now (out .exit) ≡ patched at (idBytes (idOf creator index)) (now (out .entry)) ⌝ }
+{
+    put8(out, at, creator);
+    put16(out, at + 1, index);
+}
+
+// An action's id and its creator's green length.
+fn put_head(out: &mut [u8], at: usize, head: ActionHead)
+    requires { ⌜ at + 7 ≤ length (now out) ⌝ }
+    ensures { λ _. ⌜ now (out .exit) ≡ patched at (headBytes head) (now (out .entry)) ⌝ }
+{
+    put_id(out, at, head.creator, head.index);
+    put32(out, at + 3, head.green_length);
+}
+
+fn put_payload(out: &mut [u8], at: usize, payload: &[u8])
+    requires { ⌜ at + (1 + length (now payload)) ≤ length (now out) ⌝ }
+    ensures { λ _. ⌜ now (out .exit) ≡ patched at (payloadBytes (now (payload .entry))) (now (out .entry)) ⌝ }
+{
+    put8(out, at, (payload.len() % 256) as u8);
+    copy(out, at + 1, payload);
+}
+
+fn put_action(out: &mut [u8], at: usize, head: ActionHead, payload: &[u8])
+    requires { ⌜ at + (8 + length (now payload)) ≤ length (now out) ⌝ }
+    ensures { λ _. ⌜ now (out .exit) ≡ patched at (actionBytes (actionOf head (now (payload .entry)))) (now (out .entry)) ⌝ }
+{
+    put_head(out, at, head);
+    put_payload(out, at + 7, payload);
+}
+
+// Two numbers of four bytes.
+fn put_pair(out: &mut [u8], at: usize, first: u32, second: u32)
+    requires { ⌜ at + 8 ≤ length (now out) ⌝ }
+    ensures { λ _. ⌜ now (out .exit) ≡ patched at (pairBytes first second) (now (out .entry)) ⌝ }
+{
+    put32(out, at, first);
+    put32(out, at + 4, second);
+}
+
+fn put_primary(out: &mut [u8], at: usize, index: PrimaryIndex, attempt: AttemptIndex, set: u8)
+    requires { ⌜ at + 9 ≤ length (now out) ⌝ }
+    ensures { λ _. ⌜ now (out .exit) ≡ patched at (primaryBytes (componentOf index attempt set)) (now (out .entry)) ⌝ }
+{
+    put_pair(out, at, index.0, attempt.0);
+    put8(out, at + 8, set);
+}
+
+// A mark but its status.
+fn put_marked(out: &mut [u8], at: usize, mark: Mark)
+    requires { ⌜ at + 10 ≤ length (now out) ⌝ }
+    ensures { λ _. ⌜ now (out .exit) ≡ patched at (markedBytes mark) (now (out .entry)) ⌝ }
+{
+    put_primary(out, at, mark.index, mark.attempt, mark.set);
+    put8(out, at + 9, mark.bits);
+}
+
+fn put_mark(out: &mut [u8], at: usize, mark: Mark)
+    requires { ⌜ at + 11 ≤ length (now out) ⌝ }
+    ensures { λ _. ⌜ now (out .exit) ≡ patched at (markBytes (markOf mark)) (now (out .entry)) ⌝ }
+{
+    put8(out, at, mark.status);
+    put_marked(out, at + 1, mark);
 }

@@ -1,3 +1,6 @@
+use native.Mathlib.Omega.{arith}
+use lib.ListN.{length-set}
+use Rattle.record.proofs.WriterStores.{store2}
 use borrow.Author.Needs.{needs}
 use Rattle.record.proofs.writer.put16.Statement.{statement}
 use Rattle.record.proofs.writer.put16.Tie as tie
@@ -22,7 +25,7 @@ add-out c = search needs
 
 -- src/writer.rt:53:5
 slice-write-out-2 : tie.Need-slice-write-out-2
-slice-write-out-2 c = ?
+slice-write-out-2 c = simp length-set (omega arith)
 
 -- src/writer.rt:48:1
 same-length : tie.Need-same-length
@@ -30,7 +33,7 @@ same-length c = search needs
 
 -- src/writer.rt:48:1
 returns : tie.Need-returns
-returns c = ?
+returns c = search (needs, store2)
 
 pub put16-spec : {M : Type 1} → statement M
 put16-spec =

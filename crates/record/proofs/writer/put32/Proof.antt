@@ -1,3 +1,6 @@
+use native.Mathlib.Omega.{arith}
+use lib.ListN.{length-set}
+use Rattle.record.proofs.WriterStores.{store4}
 use borrow.Author.Needs.{needs}
 use Rattle.record.proofs.writer.put32.Statement.{statement}
 use Rattle.record.proofs.writer.put32.Tie as tie
@@ -22,7 +25,7 @@ add-out c = search needs
 
 -- src/writer.rt:61:5
 slice-write-out-2 : tie.Need-slice-write-out-2
-slice-write-out-2 c = ?
+slice-write-out-2 c = simp length-set (omega arith)
 
 -- src/writer.rt:62:19
 cast-out-3 : tie.Need-cast-out-3
@@ -34,7 +37,7 @@ add-out-2 c = search needs
 
 -- src/writer.rt:62:5
 slice-write-out-3 : tie.Need-slice-write-out-3
-slice-write-out-3 c = ?
+slice-write-out-3 c = simp length-set (omega arith)
 
 -- src/writer.rt:63:19
 cast-out-4 : tie.Need-cast-out-4
@@ -46,7 +49,7 @@ add-out-3 c = search needs
 
 -- src/writer.rt:63:5
 slice-write-out-4 : tie.Need-slice-write-out-4
-slice-write-out-4 c = ?
+slice-write-out-4 c = simp length-set (omega arith)
 
 -- src/writer.rt:56:1
 same-length : tie.Need-same-length
@@ -54,7 +57,7 @@ same-length c = search needs
 
 -- src/writer.rt:56:1
 returns : tie.Need-returns
-returns c = ?
+returns c = search (needs, store4)
 
 pub put32-spec : {M : Type 1} → statement M
 put32-spec =

@@ -1,3 +1,4 @@
+use Rattle.record.proofs.WriterStores.{store1}
 use borrow.Author.Needs.{needs}
 use Rattle.record.proofs.writer.put8.Statement.{statement}
 use Rattle.record.proofs.writer.put8.Tie as tie
@@ -14,7 +15,7 @@ same-length c = search needs
 
 -- src/writer.rt:41:1
 returns : tie.Need-returns
-returns c = ?
+returns c = search (needs, store1)
 
 pub put8-spec : {M : Type 1} → statement M
 put8-spec = tie.close (tie.spec slice-write-out same-length returns)

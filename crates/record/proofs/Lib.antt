@@ -1,0 +1,2 @@
+pub mod WriterStores
+pub mod WriterBlocks

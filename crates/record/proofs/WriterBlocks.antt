@@ -1,0 +1,79 @@
+-- Blocks of bytes written one after another are one block.
+-- Assumes nothing.
+use Prim.Native.Nat.{ℕ, _+_, _%_, _≤_}
+use mathlib.Core.Path.{_≡_, refl, sym, ap, _∙_}
+use mathlib.Core.List.{List, [], _∷_, _++_, append-assoc, append-nil}
+use native.Mathlib.Omega.{arith}
+use lib.ListN.{length, length-append}
+use Rattle.base.specs.Bytes.{bytesOf, joined}
+use Rattle.base.specs.BytesLaws.{bytes-length, bytes1}
+use Rattle.base.specs.Patched.{patched, patched-next}
+use Rattle.format.specs.Limits.{version}
+use Rattle.format.specs.Types.{Id, Primary, Mark}
+use Rattle.format.specs.Write.{idBytes, payloadBytes, primaryBytes, markBytes}
+use Rattle.record.specs.declared.Mark as declared
+use Rattle.record.specs.Written.{componentOf, markOf}
+use Rattle.record.specs.Blocks.{frameBytes, senderBytes, openingBytes, markedBytes}
+
+-- ---- lengths
+
+pub frame-length : (n k : ℕ) → length (frameBytes n k) ≡ 4
+unfolding frameBytes joined bytesOf
+frame-length n k = refl
+
+pub opening-length : (n k s i : ℕ) → length (openingBytes n k s i) ≡ 9
+unfolding openingBytes senderBytes frameBytes joined bytesOf
+opening-length n k s i = refl
+
+pub id-length : (d : Id) → length (idBytes d) ≡ 3
+unfolding idBytes joined bytesOf
+id-length d = refl
+
+pub head-length : (d : Id) (v : ℕ) → length (joined (idBytes d ∷ bytesOf 4 v ∷ [])) ≡ 7
+unfolding idBytes joined bytesOf
+head-length d v = refl
+
+pub pair-length : (v w : ℕ) → length (joined (bytesOf 4 v ∷ bytesOf 4 w ∷ [])) ≡ 8
+unfolding joined bytesOf
+pair-length v w = refl
+
+pub primary-length : (p : Primary) → length (primaryBytes p) ≡ 9
+unfolding primaryBytes joined bytesOf
+primary-length p = refl
+
+pub ruleset lengths = (bytes-length, frame-length, opening-length, id-length, head-length, pair-length, primary-length)
+
+-- ---- one block after another
+
+-- b, and c next after it
+pub two-blocks : (at m k : ℕ) (b c s s₁ s₂ : List ℕ) → at + k ≤ length s → s₁ ≡ patched at b s → s₂ ≡ patched (at + m) c s₁ → length b ≡ m
+    → s₂ ≡ patched at (joined (b ∷ c ∷ [])) s
+unfolding joined
+two-blocks at m k b c s s₁ s₂ h e f g =
+    f ∙ rw (e, ← g, append-nil) (patched-next at b c s (omega arith))
+
+joined-two : (b c d : List ℕ) → joined (joined (b ∷ c ∷ []) ∷ d ∷ []) ≡ joined (b ∷ c ∷ d ∷ [])
+unfolding joined
+joined-two b c d = simp (append-nil, append-assoc)
+
+-- two in one, and d next after it
+pub three-blocks : (at m k : ℕ) (b c d s s₁ s₂ : List ℕ) → at + k ≤ length s → s₁ ≡ patched at (joined (b ∷ c ∷ [])) s → s₂ ≡ patched (at + m) d s₁
+    → length (joined (b ∷ c ∷ [])) ≡ m → s₂ ≡ patched at (joined (b ∷ c ∷ d ∷ [])) s
+three-blocks at m k b c d s s₁ s₂ h e f g = two-blocks at m k (joined (b ∷ c ∷ [])) d s s₁ s₂ h e f g ∙ rw joined-two
+
+pub ruleset blocks = (two-blocks, three-blocks, lengths)
+
+-- ---- a payload and a mark
+
+pub payload-blocks : (at k : ℕ) (p s s₁ s₂ : List ℕ) → at + k ≤ length s → s₁ ≡ patched at (bytesOf 1 (length p % 256)) s → s₂ ≡ patched (at + 1) p s₁
+    → s₂ ≡ patched at (payloadBytes p) s
+unfolding payloadBytes
+payload-blocks at k p s s₁ s₂ h e f =
+    let m : bytesOf 1 (length p % 256) ≡ bytesOf 1 (length p) = bytes1 (length p % 256) ∙ ap (λ (n : ℕ). n ∷ []) (omega arith) ∙ sym (bytes1 (length p)) in
+    two-blocks at 1 k (bytesOf 1 (length p)) p s s₁ s₂ h (rw m at e) f (bytes-length 1 (length p))
+
+pub mark-blocks : (at k : ℕ) (m : declared.Mark) (s s₁ s₂ : List ℕ) → at + k ≤ length s → s₁ ≡ patched at (bytesOf 1 (m .status)) s
+    → s₂ ≡ patched (at + 1) (markedBytes m) s₁ → s₂ ≡ patched at (markBytes (markOf m)) s
+unfolding markedBytes markBytes markOf primaryBytes componentOf joined
+mark-blocks at k m s s₁ s₂ h e f =
+    two-blocks at 1 k (bytesOf 1 (m .status)) (markedBytes m) s s₁ s₂ h e f (bytes-length 1 (m .status)) ∙ simp (append-nil, append-assoc)

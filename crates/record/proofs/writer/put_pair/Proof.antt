@@ -1,0 +1,32 @@
+use Rattle.record.specs.Blocks.{pairBytes}
+use Rattle.record.proofs.WriterBlocks.{blocks}
+use borrow.Author.Needs.{needs}
+use Rattle.record.proofs.writer.put_pair.Statement.{statement}
+use Rattle.record.proofs.writer.put_pair.Tie as tie
+use Rattle.record.proofs.writer.put_pair.Reads as reads
+use Rattle.record.proofs.writer.put_pair.Lts as lts
+use Rattle.record.proofs.writer.put32.Reads as put32-reads
+
+-- src/writer.rt:148:5
+put32-requires : tie.Need-put32-requires
+put32-requires c κs = search needs
+
+-- src/writer.rt:149:16
+add-put32 : tie.Need-add-put32
+add-put32 c = search needs
+
+-- src/writer.rt:149:5
+put32-requires-2 : tie.Need-put32-requires-2
+put32-requires-2 c κs = search needs
+
+-- src/writer.rt:144:1
+same-length : tie.Need-same-length
+same-length c = search needs
+
+-- src/writer.rt:144:1
+returns : tie.Need-returns
+unfolding pairBytes
+returns c = search (needs, blocks)
+
+pub put-pair-spec : {M : Type 1} → statement M
+put-pair-spec = tie.close (tie.spec put32-requires add-put32 put32-requires-2 same-length returns)
