@@ -1,2 +1,3 @@
 pub mod WriterStores
 pub mod WriterBlocks
+pub mod WriterRecords

@@ -15,6 +15,14 @@ use super::PrimaryIndex;
 
 const VERSION: u8 = 1;
 
+const ACTION: u8 = 1;
+
+const RETRANSMISSION: u8 = 2;
+
+const STATE: u8 = 3;
+
+const CPC: u8 = 4;
+
 // Where the next record goes, or no room: then the buffer is as it was.
 pub enum Written {
     Next(usize),
@@ -131,7 +139,8 @@ fn put_payload(out: &mut [u8], at: usize, payload: &[u8])
     copy(out, at + 1, payload);
 }
 
-fn put_action(out: &mut [u8], at: usize, head: ActionHead, payload: &[u8])
+// An action, as actions and retransmissions have it.
+fn put_body(out: &mut [u8], at: usize, head: ActionHead, payload: &[u8])
     requires { ⌜ at + (8 + length (now payload)) ≤ length (now out) ⌝ }
     ensures { λ _. ⌜ now (out .exit) ≡ patched at (actionBytes (actionOf head (now (payload .entry)))) (now (out .entry)) ⌝ }
 {
@@ -171,4 +180,86 @@ fn put_mark(out: &mut [u8], at: usize, mark: Mark)
 {
     put8(out, at, mark.status);
     put_marked(out, at + 1, mark);
+}
+
+// How many of `len` bytes there are from `at` on.
+fn room(len: usize, at: usize) -> usize
+    ensures { λ r. ⌜ r ≡ len - at ⌝ }
+{
+    if len < at { 0 } else { len - at }
+}
+
+pub fn write_cpc(out: &mut [u8], at: usize, sender: u8, configuration: u32) -> Written
+    ensures { λ r. ⌜ putOf r (now (out .exit)) ≡ put (write (cpc sender configuration)) at (now (out .entry)) ⌝ }
+{
+    if room(out.len(), at) < 9 {
+        return Written::Full;
+    }
+    put_opening(out, at, 7, CPC, sender, configuration);
+    Written::Next(at + 9)
+}
+
+fn put_action(out: &mut [u8], at: usize, head: ActionHead, payload: &[u8])
+    requires { ⌜ at + (12 + length (now payload)) ≤ length (now out) ⌝ }
+    ensures { λ _. ⌜ now (out .exit) ≡ patched at (write (action (actionOf head (now (payload .entry))))) (now (out .entry)) ⌝ }
+{
+    put_frame(out, at, 10 + payload.len(), ACTION);
+    put_body(out, at + 4, head, payload);
+}
+
+pub fn write_action(out: &mut [u8], at: usize, head: ActionHead, payload: &[u8]) -> Written
+    ensures { λ r. ⌜ putOf r (now (out .exit)) ≡ put (write (action (actionOf head (now (payload .entry))))) at (now (out .entry)) ⌝ }
+{
+    let room = room(out.len(), at);
+    if room < 12 {
+        return Written::Full;
+    }
+    if room - 12 < payload.len() {
+        return Written::Full;
+    }
+    put_action(out, at, head, payload);
+    Written::Next(at + 12 + payload.len())
+}
+
+fn put_retransmission(
+    out: &mut [u8],
+    at: usize,
+    sender: u8,
+    position: u32,
+    head: ActionHead,
+    payload: &[u8],
+)
+    requires { ⌜ at + (17 + length (now payload)) ≤ length (now out) ⌝ }
+    ensures { λ _. ⌜ now (out .exit) ≡ patched at (write (retransmission sender position (actionOf head (now (payload .entry))))) (now (out .entry)) ⌝ }
+{
+    put_opening(
+        out,
+        at,
+        15 + payload.len(),
+        RETRANSMISSION,
+        sender,
+        position,
+    );
+    put_body(out, at + 9, head, payload);
+}
+
+pub fn write_retransmission(
+    out: &mut [u8],
+    at: usize,
+    sender: u8,
+    position: u32,
+    head: ActionHead,
+    payload: &[u8],
+) -> Written
+    ensures { λ r. ⌜ putOf r (now (out .exit)) ≡ put (write (retransmission sender position (actionOf head (now (payload .entry))))) at (now (out .entry)) ⌝ }
+{
+    let room = room(out.len(), at);
+    if room < 17 {
+        return Written::Full;
+    }
+    if room - 17 < payload.len() {
+        return Written::Full;
+    }
+    put_retransmission(out, at, sender, position, head, payload);
+    Written::Next(at + 17 + payload.len())
 }
