@@ -12,8 +12,9 @@ use Rattle.format.specs.Limits.{version}
 use Rattle.format.specs.Types.{Id, Primary, Mark}
 use Rattle.format.specs.Write.{idBytes, payloadBytes, primaryBytes, markBytes}
 use Rattle.record.specs.declared.Mark as declared
+use Rattle.record.specs.declared.writer.StateHead.{StateHead}
 use Rattle.record.specs.Written.{componentOf, markOf}
-use Rattle.record.specs.Blocks.{frameBytes, senderBytes, openingBytes, markedBytes}
+use Rattle.record.specs.Blocks.{frameBytes, senderBytes, openingBytes, pairBytes, markedBytes, startBytes, progressBytes, standingBytes}
 
 -- ---- lengths
 
@@ -41,7 +42,35 @@ pub primary-length : (p : Primary) → length (primaryBytes p) ≡ 9
 unfolding primaryBytes joined bytesOf
 primary-length p = refl
 
-pub ruleset lengths = (bytes-length, frame-length, opening-length, id-length, head-length, pair-length, primary-length)
+pub start-length : (n : ℕ) (h : StateHead) (cuts : List ℕ) → length (startBytes n h cuts) ≡ 9 + length cuts
+unfolding startBytes joined
+start-length n h cuts = simp (append-nil, length-append, opening-length)
+
+pub progress-length : (h : StateHead) → length (progressBytes h) ≡ 17
+unfolding progressBytes pairBytes primaryBytes joined bytesOf
+progress-length h = refl
+
+pub standing-length : (h : StateHead) → length (standingBytes h) ≡ 28
+unfolding standingBytes progressBytes pairBytes primaryBytes markBytes joined bytesOf
+standing-length h = refl
+
+pub yellow-head-length : (v w : ℕ) → length (joined (bytesOf 1 v ∷ bytesOf 2 w ∷ [])) ≡ 3
+unfolding joined bytesOf
+yellow-head-length v w = refl
+
+pub ruleset lengths = (
+    bytes-length,
+    frame-length,
+    opening-length,
+    id-length,
+    head-length,
+    pair-length,
+    primary-length,
+    start-length,
+    progress-length,
+    standing-length,
+    yellow-head-length,
+)
 
 -- ---- one block after another
 

@@ -1,13 +1,15 @@
 -- The blocks of bytes that the writers make records of, beside the format's own.
 -- Assumes nothing.
-use Prim.Native.Nat.{ℕ}
+use Prim.Native.Nat.{ℕ, _+_}
 use mathlib.Core.List.{List, [], _∷_}
+use lib.ListN.{length}
 use Rattle.base.specs.Bytes.{bytesOf, joined}
 use Rattle.format.specs.Limits.{version}
-use Rattle.format.specs.Write.{idBytes, primaryBytes}
+use Rattle.format.specs.Write.{idBytes, primaryBytes, markBytes}
 use Rattle.record.specs.declared.Mark.{Mark}
 use Rattle.record.specs.declared.writer.ActionHead.{ActionHead}
-use Rattle.record.specs.Written.{idOf, componentOf}
+use Rattle.record.specs.declared.writer.StateHead.{StateHead}
+use Rattle.record.specs.Written.{idOf, componentOf, markOf}
 
 -- "Two length bytes (counting what follows them), version byte 1, kind byte"
 unfoldable pub frameBytes : (follows kind : ℕ) → List ℕ
@@ -27,3 +29,30 @@ pairBytes first second = joined (bytesOf 4 first ∷ bytesOf 4 second ∷ [])
 
 unfoldable pub markedBytes : Mark → List ℕ
 markedBytes m = joined (primaryBytes (componentOf (m .index) (m .attempt) (m .set)) ∷ bytesOf 1 (m .bits) ∷ [])
+
+-- ---- a State's
+
+unfoldable pub startBytes : (follows : ℕ) → StateHead → (cuts : List ℕ) → List ℕ
+startBytes follows h cuts = joined (openingBytes follows 3 (h .sender) (h .configuration) ∷ cuts ∷ [])
+
+unfoldable pub progressBytes : StateHead → List ℕ
+progressBytes h =
+    joined
+    (pairBytes (h .«green_length») (h .attempt .0)
+    ∷ primaryBytes (componentOf (h .last .index) (h .last .attempt) (h .last .set))
+    ∷ [])
+
+unfoldable pub standingBytes : StateHead → List ℕ
+standingBytes h = joined (progressBytes h ∷ markBytes (markOf (h .mark)) ∷ [])
+
+unfoldable pub yellowHeadBytes : (status count : ℕ) → List ℕ
+yellowHeadBytes status count = joined (bytesOf 1 status ∷ bytesOf 2 count ∷ [])
+
+unfoldable pub yellowListBytes : (status count : ℕ) → (ids : List ℕ) → List ℕ
+yellowListBytes status count ids = joined (bytesOf 1 status ∷ bytesOf 2 count ∷ ids ∷ [])
+
+unfoldable pub restBytes : StateHead → (ids : List ℕ) → List ℕ
+restBytes h ids = joined (standingBytes h ∷ yellowListBytes (h .«yellow_status») (h .«yellow_count») ids ∷ [])
+
+unfoldable pub stateBlocks : StateHead → (cuts ids : List ℕ) → List ℕ
+stateBlocks h cuts ids = joined (startBytes (38 + (length cuts + length ids)) h cuts ∷ restBytes h ids ∷ [])

@@ -7,7 +7,7 @@ ghost use Rattle.base.specs.Patched.{patched};
 ghost use Rattle.format.specs.Types.{action, retransmission, cpc};
 ghost use Rattle.format.specs.Write.{idBytes, payloadBytes, actionBytes, primaryBytes, markBytes, write};
 ghost use Rattle.record.specs.Written.{put, putOf, putState, idOf, actionOf, componentOf, markOf};
-ghost use Rattle.record.specs.Blocks.{frameBytes, senderBytes, openingBytes, headBytes, pairBytes, markedBytes};
+ghost use Rattle.record.specs.Blocks.{frameBytes, senderBytes, openingBytes, headBytes, pairBytes, markedBytes, startBytes, progressBytes, standingBytes, yellowHeadBytes, yellowListBytes, restBytes, stateBlocks};
 use super::AttemptIndex;
 use super::LastPrimary;
 use super::Mark;
@@ -262,4 +262,97 @@ pub fn write_retransmission(
     }
     put_retransmission(out, at, sender, position, head, payload);
     Written::Next(at + 17 + payload.len())
+}
+
+// The start of a State: its opening and its cuts.
+fn put_start(out: &mut [u8], at: usize, follows: usize, head: StateHead, cuts: &[u8])
+    requires { ⌜ at + (9 + length (now cuts)) ≤ length (now out) ⌝ }
+    ensures { λ _. ⌜ now (out .exit) ≡ patched at (startBytes follows head (now (cuts .entry))) (now (out .entry)) ⌝ }
+{
+    put_opening(out, at, follows, STATE, head.sender, head.configuration);
+    copy(out, at + 9, cuts);
+}
+
+// A State's green length, attempt and last primary.
+fn put_progress(out: &mut [u8], at: usize, head: StateHead)
+    requires { ⌜ at + 17 ≤ length (now out) ⌝ }
+    ensures { λ _. ⌜ now (out .exit) ≡ patched at (progressBytes head) (now (out .entry)) ⌝ }
+{
+    put_pair(out, at, head.green_length, head.attempt.0);
+    put_primary(
+        out,
+        at + 8,
+        head.last.index,
+        head.last.attempt,
+        head.last.set,
+    );
+}
+
+// The same and its mark.
+fn put_standing(out: &mut [u8], at: usize, head: StateHead)
+    requires { ⌜ at + 28 ≤ length (now out) ⌝ }
+    ensures { λ _. ⌜ now (out .exit) ≡ patched at (standingBytes head) (now (out .entry)) ⌝ }
+{
+    put_progress(out, at, head);
+    put_mark(out, at + 17, head.mark);
+}
+
+fn put_yellow_head(out: &mut [u8], at: usize, status: u8, count: u16)
+    requires { ⌜ at + 3 ≤ length (now out) ⌝ }
+    ensures { λ _. ⌜ now (out .exit) ≡ patched at (yellowHeadBytes status count) (now (out .entry)) ⌝ }
+{
+    put8(out, at, status);
+    put16(out, at + 1, count);
+}
+
+// A yellow list: its status, its count, and the bytes of its ids.
+fn put_yellow(out: &mut [u8], at: usize, status: u8, count: u16, ids: &[u8])
+    requires { ⌜ at + (3 + length (now ids)) ≤ length (now out) ⌝ }
+    ensures { λ _. ⌜ now (out .exit) ≡ patched at (yellowListBytes status count (now (ids .entry))) (now (out .entry)) ⌝ }
+{
+    put_yellow_head(out, at, status, count);
+    copy(out, at + 3, ids);
+}
+
+// All of a State behind its cuts.
+fn put_rest(out: &mut [u8], at: usize, head: StateHead, ids: &[u8])
+    requires { ⌜ at + (31 + length (now ids)) ≤ length (now out) ⌝ }
+    ensures { λ _. ⌜ now (out .exit) ≡ patched at (restBytes head (now (ids .entry))) (now (out .entry)) ⌝ }
+{
+    put_standing(out, at, head);
+    put_yellow(
+        out,
+        at + 28,
+        head.yellow_status,
+        head.yellow_count,
+        ids,
+    );
+}
+
+// A State whose cuts and ids are the bytes given.
+fn put_state(out: &mut [u8], at: usize, head: StateHead, cuts: &[u8], ids: &[u8])
+    requires { ⌜ at + (40 + (length (now cuts) + length (now ids))) ≤ length (now out) ⌝ }
+    ensures { λ _. ⌜ now (out .exit) ≡ patched at (stateBlocks head (now (cuts .entry)) (now (ids .entry))) (now (out .entry)) ⌝ }
+{
+    put_start(out, at, 38 + (cuts.len() + ids.len()), head, cuts);
+    put_rest(out, at + (9 + cuts.len()), head, ids);
+}
+
+pub fn write_state(out: &mut [u8], at: usize, head: StateHead, cuts: &[u8], ids: &[u8]) -> Written
+    ensures { λ r. ⌜ putOf r (now (out .exit)) ≡ putState head (now (cuts .entry)) (now (ids .entry)) at (now (out .entry)) ⌝ }
+{
+    let n = 2 * (head.servers as usize);
+    let m = 3 * (head.yellow_count as usize);
+    if cuts.len() < n {
+        return Written::Full;
+    }
+    if ids.len() < m {
+        return Written::Full;
+    }
+    let size = 40 + (n + m);
+    if room(out.len(), at) < size {
+        return Written::Full;
+    }
+    put_state(out, at, head, &cuts[..n], &ids[..m]);
+    Written::Next(at + size)
 }
