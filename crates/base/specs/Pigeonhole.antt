@@ -1,9 +1,10 @@
--- Values that differ pairwise and lie below m are at most m.
+-- Values that differ pairwise and lie below m are at most m; two numbers as one, to count pairs.
 -- Assumes nothing.
-use Prim.Native.Nat.{ℕ, zero, suc, _≤_, _<_}
-use mathlib.Core.Path.{_≡_, refl, sym, _∙_}
+use Prim.Native.Nat.{ℕ, zero, suc, _+_, _*_, _/_, _≤_, _<_}
+use mathlib.Core.Path.{_≡_, refl, sym, ap, _∙_}
 use mathlib.Core.Bool.{true, false}
 use mathlib.Core.List.{List}
+use native.Mathlib.Nat.{suc-mul, mul-le-mul-right, mul-add-div-right, div-eq-of-lt}
 use native.Mathlib.Omega.{arith}
 use lib.ListN.{length, getD}
 use Rattle.base.specs.Tests.{_=?_, pick, pick-yes, pick-no, eq-holds, eq-fails, Known, holds, fails, known}
@@ -54,3 +55,21 @@ pigeonhole (suc k) (suc m) f b d = let fewer : k ≤ m = pigeonhole k m (instead
 
 pub distinct-short : (l : List ℕ) (m : ℕ) → Below (length l) m (λ i. getD l i 0) → Differ (length l) (λ i. getD l i 0) → length l ≤ m
 distinct-short l m b d = pigeonhole (length l) m (λ i. getD l i 0) b d
+
+-- ---- the number a * q + b, with b below q, stands for the pair of a and b
+
+pub pair-below : (n q a b : ℕ) → a < n → b < q → a * q + b < n * q
+pair-below n q a b h k =
+    let rows : suc a * q ≤ n * q = mul-le-mul-right q h in
+    let row : suc a * q ≡ a * q + q = suc-mul a q in
+    omega arith
+
+pub pair-first : (q a b a′ b′ : ℕ) → b < q → b′ < q → a * q + b ≡ a′ * q + b′ → a ≡ a′
+pair-first q a b a′ b′ h h′ e =
+    let positive : 0 < q = omega arith in
+    let left : (a * q + b) / q ≡ a + b / q = mul-add-div-right positive a b in
+    let right : (a′ * q + b′) / q ≡ a′ + b′ / q = mul-add-div-right positive a′ b′ in
+    omega (arith, left, right, ap (λ (n : ℕ). n / q) e, div-eq-of-lt h, div-eq-of-lt h′)
+
+pub pair-second : (q a b a′ b′ : ℕ) → b < q → b′ < q → a * q + b ≡ a′ * q + b′ → b ≡ b′
+pair-second q a b a′ b′ h h′ e = omega (arith, ap (λ (n : ℕ). n * q) (pair-first q a b a′ b′ h h′ e))
