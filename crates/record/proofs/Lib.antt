@@ -1,3 +1,4 @@
 pub mod WriterStores
 pub mod WriterBlocks
 pub mod WriterRecords
+pub mod WriterState

@@ -11,6 +11,7 @@ use Rattle.base.specs.Patched.{patched, patched-next}
 use Rattle.format.specs.Limits.{version}
 use Rattle.format.specs.Types.{Id, Primary, Mark}
 use Rattle.format.specs.Write.{idBytes, payloadBytes, primaryBytes, markBytes}
+use Rattle.format.proofs.Lengths.{id-length, primary-length}
 use Rattle.record.specs.declared.Mark as declared
 use Rattle.record.specs.declared.writer.StateHead.{StateHead}
 use Rattle.record.specs.Written.{componentOf, markOf}
@@ -26,10 +27,6 @@ pub opening-length : (n k s i : ℕ) → length (openingBytes n k s i) ≡ 9
 unfolding openingBytes senderBytes frameBytes joined bytesOf
 opening-length n k s i = refl
 
-pub id-length : (d : Id) → length (idBytes d) ≡ 3
-unfolding idBytes joined bytesOf
-id-length d = refl
-
 pub head-length : (d : Id) (v : ℕ) → length (joined (idBytes d ∷ bytesOf 4 v ∷ [])) ≡ 7
 unfolding idBytes joined bytesOf
 head-length d v = refl
@@ -37,10 +34,6 @@ head-length d v = refl
 pub pair-length : (v w : ℕ) → length (joined (bytesOf 4 v ∷ bytesOf 4 w ∷ [])) ≡ 8
 unfolding joined bytesOf
 pair-length v w = refl
-
-pub primary-length : (p : Primary) → length (primaryBytes p) ≡ 9
-unfolding primaryBytes joined bytesOf
-primary-length p = refl
 
 pub start-length : (n : ℕ) (h : StateHead) (cuts : List ℕ) → length (startBytes n h cuts) ≡ 9 + length cuts
 unfolding startBytes joined
@@ -59,17 +52,17 @@ unfolding joined bytesOf
 yellow-head-length v w = refl
 
 pub ruleset lengths = (
-    bytes-length,
-    frame-length,
-    opening-length,
-    id-length,
-    head-length,
-    pair-length,
-    primary-length,
-    start-length,
-    progress-length,
-    standing-length,
-    yellow-head-length,
+  bytes-length,
+  frame-length,
+  opening-length,
+  id-length,
+  head-length,
+  pair-length,
+  primary-length,
+  start-length,
+  progress-length,
+  standing-length,
+  yellow-head-length,
 )
 
 -- ---- one block after another

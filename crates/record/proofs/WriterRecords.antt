@@ -10,7 +10,8 @@ use Rattle.base.specs.Bytes.{bytesOf, joined}
 use Rattle.base.specs.BytesLaws.{bytes-length}
 use Rattle.base.specs.Patched.{patched, patched-next}
 use Rattle.format.specs.Types.{Action, action, retransmission, cpc, kindNumber, kindOf}
-use Rattle.format.specs.Write.{framed, idBytes, payloadBytes, actionBytes, bodyOf, write}
+use Rattle.format.specs.Write.{framed, idBytes, payloadBytes, actionBytes, bodyOf, write, lengthOf}
+use Rattle.format.proofs.Lengths.{action-length, write-length}
 use Rattle.record.specs.declared.writer.Written.the-variants.{Next, Full}
 use Rattle.record.specs.declared.writer.ActionHead.{ActionHead}
 use Rattle.record.specs.Written.{actionOf, Put, next, full, put, putOf}
@@ -37,16 +38,12 @@ frame-blocks : (k : ℕ) (body : List ℕ) → framed k body ≡ joined (frameBy
 unfolding framed frameBytes joined
 frame-blocks k body = simp (append-nil, append-assoc)
 
-opening-blocks : (k s i : ℕ) (rest : List (List ℕ))
+pub opening-blocks : (k s i : ℕ) (rest : List (List ℕ))
     → framed k (joined (bytesOf 1 s ∷ bytesOf 4 i ∷ rest)) ≡ joined (openingBytes (7 + length (joined rest)) k s i ∷ rest)
 unfolding framed openingBytes senderBytes frameBytes joined
 opening-blocks k s i rest =
     let e : 2 + length (bytesOf 1 s ++ (bytesOf 4 i ++ joined rest)) ≡ 7 + length (joined rest) = simp (length-append, bytes-length) (omega arith) in
     rw e (simp (append-nil, append-assoc))
-
-pub action-length : (a : Action) → length (actionBytes a) ≡ 8 + length (a .payload)
-unfolding actionBytes idBytes payloadBytes joined
-action-length a = simp (append-nil, length-append, bytes-length) (omega arith)
 
 cpc-bytes : (s i : ℕ) → write (cpc s i) ≡ openingBytes 7 4 s i
 unfolding write bodyOf kindOf kindNumber framed openingBytes senderBytes frameBytes joined bytesOf
@@ -84,20 +81,16 @@ retransmission-carried h p s s₁ s₂ at k sender position r g₁ g₂ =
 -- ---- how long a record is
 
 cpc-length : (s i : ℕ) → length (write (cpc s i)) ≡ 9
-cpc-length s i = ap length (cpc-bytes s i) ∙ opening-length _ _ _ _
-
-carried-length : (w b : List ℕ) (m : ℕ) (a : Action) → w ≡ joined (b ∷ actionBytes a ∷ []) → length b ≡ m → length w ≡ m + 8 + length (a .payload)
-unfolding joined
-carried-length w b m a e l = ap length e ∙ simp (length-append, append-nil, action-length, l) (omega arith)
+unfolding lengthOf
+cpc-length s i = write-length (cpc s i)
 
 written-length : (h : ActionHead) (p : List ℕ) → length (write (action (actionOf h p))) ≡ 12 + length p
-unfolding actionOf
-written-length h p = carried-length _ _ 4 (actionOf h p) (action-bytes (actionOf h p)) (frame-length _ _)
+unfolding lengthOf actionOf
+written-length h p = write-length (action (actionOf h p))
 
 rewritten-length : (sender position : ℕ) (h : ActionHead) (p : List ℕ) → length (write (retransmission sender position (actionOf h p))) ≡ 17 + length p
-unfolding actionOf
-rewritten-length sender position h p =
-    carried-length _ _ 9 (actionOf h p) (retransmission-bytes sender position (actionOf h p)) (opening-length _ _ _ _)
+unfolding lengthOf actionOf
+rewritten-length sender position h p = write-length (retransmission sender position (actionOf h p))
 
 -- ---- each return of each writer; r is the room from `at` on
 

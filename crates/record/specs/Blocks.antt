@@ -1,6 +1,6 @@
 -- The blocks of bytes that the writers make records of, beside the format's own.
 -- Assumes nothing.
-use Prim.Native.Nat.{ℕ, _+_}
+use Prim.Native.Nat.{ℕ, _+_, _*_, _≤_}
 use mathlib.Core.List.{List, [], _∷_}
 use lib.ListN.{length}
 use Rattle.base.specs.Bytes.{bytesOf, joined}
@@ -56,3 +56,9 @@ restBytes h ids = joined (standingBytes h ∷ yellowListBytes (h .«yellow_statu
 
 unfoldable pub stateBlocks : StateHead → (cuts ids : List ℕ) → List ℕ
 stateBlocks h cuts ids = joined (startBytes (38 + (length cuts + length ids)) h cuts ∷ restBytes h ids ∷ [])
+
+-- The bytes given hold all cuts and ids of a State, and the buffer has room for it.
+pub record StateRoom (h : StateHead) (cuts ids : List ℕ) (at : ℕ) (s : List ℕ) : Type 0 where
+  pub enoughCuts : 2 * h .servers ≤ length cuts
+  pub enoughIds : 3 * h .«yellow_count» ≤ length ids
+  pub room : at + (40 + (2 * h .servers + 3 * h .«yellow_count»)) ≤ length s

@@ -4,10 +4,10 @@ ghost use Prim.Native.Nat.{_+_, _-_, _≤_};
 ghost use lib.ListN.{length, take};
 ghost use Rattle.base.specs.Bytes.{bytesOf};
 ghost use Rattle.base.specs.Patched.{patched};
-ghost use Rattle.format.specs.Types.{action, retransmission, cpc};
+ghost use Rattle.format.specs.Types.{action, retransmission, state, cpc};
 ghost use Rattle.format.specs.Write.{idBytes, payloadBytes, actionBytes, primaryBytes, markBytes, write};
-ghost use Rattle.record.specs.Written.{put, putOf, putState, idOf, actionOf, componentOf, markOf};
-ghost use Rattle.record.specs.Blocks.{frameBytes, senderBytes, openingBytes, headBytes, pairBytes, markedBytes, startBytes, progressBytes, standingBytes, yellowHeadBytes, yellowListBytes, restBytes, stateBlocks};
+ghost use Rattle.record.specs.Written.{put, putOf, putState, stateOf, idOf, actionOf, componentOf, markOf};
+ghost use Rattle.record.specs.Blocks.{frameBytes, senderBytes, openingBytes, headBytes, pairBytes, markedBytes, startBytes, progressBytes, standingBytes, yellowHeadBytes, yellowListBytes, restBytes, stateBlocks, StateRoom};
 use super::AttemptIndex;
 use super::LastPrimary;
 use super::Mark;
@@ -320,17 +320,11 @@ fn put_rest(out: &mut [u8], at: usize, head: StateHead, ids: &[u8])
     ensures { λ _. ⌜ now (out .exit) ≡ patched at (restBytes head (now (ids .entry))) (now (out .entry)) ⌝ }
 {
     put_standing(out, at, head);
-    put_yellow(
-        out,
-        at + 28,
-        head.yellow_status,
-        head.yellow_count,
-        ids,
-    );
+    put_yellow(out, at + 28, head.yellow_status, head.yellow_count, ids);
 }
 
-// A State whose cuts and ids are the bytes given.
-fn put_state(out: &mut [u8], at: usize, head: StateHead, cuts: &[u8], ids: &[u8])
+// A State whose cuts and ids are all of the bytes given.
+fn put_blocks(out: &mut [u8], at: usize, head: StateHead, cuts: &[u8], ids: &[u8])
     requires { ⌜ at + (40 + (length (now cuts) + length (now ids))) ≤ length (now out) ⌝ }
     ensures { λ _. ⌜ now (out .exit) ≡ patched at (stateBlocks head (now (cuts .entry)) (now (ids .entry))) (now (out .entry)) ⌝ }
 {
@@ -338,14 +332,23 @@ fn put_state(out: &mut [u8], at: usize, head: StateHead, cuts: &[u8], ids: &[u8]
     put_rest(out, at + (9 + cuts.len()), head, ids);
 }
 
+fn put_state(out: &mut [u8], at: usize, head: StateHead, cuts: &[u8], ids: &[u8])
+    requires { ⌜ StateRoom head (now cuts) (now ids) at (now out) ⌝ }
+    ensures { λ _. ⌜ now (out .exit) ≡ patched at (write (state (stateOf head (now (cuts .entry)) (now (ids .entry))))) (now (out .entry)) ⌝ }
+{
+    let n = 2 * (head.servers as usize);
+    let m = 3 * (head.yellow_count as usize);
+    put_blocks(out, at, head, &cuts[..n], &ids[..m]);
+}
+
 pub fn write_state(out: &mut [u8], at: usize, head: StateHead, cuts: &[u8], ids: &[u8]) -> Written
     ensures { λ r. ⌜ putOf r (now (out .exit)) ≡ putState head (now (cuts .entry)) (now (ids .entry)) at (now (out .entry)) ⌝ }
 {
     let n = 2 * (head.servers as usize);
-    let m = 3 * (head.yellow_count as usize);
     if cuts.len() < n {
         return Written::Full;
     }
+    let m = 3 * (head.yellow_count as usize);
     if ids.len() < m {
         return Written::Full;
     }
@@ -353,6 +356,6 @@ pub fn write_state(out: &mut [u8], at: usize, head: StateHead, cuts: &[u8], ids:
     if room(out.len(), at) < size {
         return Written::Full;
     }
-    put_state(out, at, head, &cuts[..n], &ids[..m]);
+    put_state(out, at, head, cuts, ids);
     Written::Next(at + size)
 }

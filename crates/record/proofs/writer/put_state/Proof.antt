@@ -1,55 +1,59 @@
-use Rattle.record.specs.Blocks.{stateBlocks}
-use Rattle.record.proofs.WriterBlocks.{blocks}
+use native.Mathlib.Omega.{arith}
+use lib.ListN.{length-take}
+use Rattle.record.proofs.WriterState.{state-filled}
 use borrow.Author.Needs.{needs}
 use Rattle.record.proofs.writer.put_state.Statement.{statement}
 use Rattle.record.proofs.writer.put_state.Tie as tie
 use Rattle.record.proofs.writer.put_state.Reads as reads
 use Rattle.record.proofs.writer.put_state.Lts as lts
-use Rattle.record.proofs.writer.put_rest.Reads as put-rest-reads
-use Rattle.record.proofs.writer.put_start.Reads as put-start-reads
+use Rattle.record.proofs.writer.put_blocks.Reads as put-blocks-reads
 
--- src/writer.rt:337:30
-add-put-start : tie.Need-add-put-start
-add-put-start c = search needs
+-- src/writer.rt:345:18
+cast-n : tie.Need-cast-n
+cast-n c = search needs
 
--- src/writer.rt:337:24
-add-put-start-2 : tie.Need-add-put-start-2
-add-put-start-2 c = search needs
+-- src/writer.rt:345:13
+mul-n : tie.Need-mul-n
+mul-n c = search needs
 
--- src/writer.rt:337:5
-put-start-requires : tie.Need-put-start-requires
-put-start-requires c κs = search needs
+-- src/writer.rt:346:18
+cast-m : tie.Need-cast-m
+cast-m c = search needs
 
--- src/writer.rt:338:25
-add-put-rest : tie.Need-add-put-rest
-add-put-rest c = search needs
+-- src/writer.rt:346:13
+mul-m : tie.Need-mul-m
+mul-m c = search needs
 
--- src/writer.rt:338:19
-add-put-rest-2 : tie.Need-add-put-rest-2
-add-put-rest-2 c = search needs
+-- src/writer.rt:347:31
+slice-aggregate-put-blocks : tie.Need-slice-aggregate-put-blocks
+slice-aggregate-put-blocks c = simp length-take (omega arith)
 
--- src/writer.rt:338:5
-put-rest-requires : tie.Need-put-rest-requires
-put-rest-requires c κs = search needs
+-- src/writer.rt:347:43
+slice-aggregate-put-blocks-2 : tie.Need-slice-aggregate-put-blocks-2
+slice-aggregate-put-blocks-2 c = simp length-take (omega arith)
 
--- src/writer.rt:333:1
+-- src/writer.rt:347:5
+put-blocks-requires : tie.Need-put-blocks-requires
+put-blocks-requires c κs = simp length-take (omega arith)
+
+-- src/writer.rt:341:1
 same-length : tie.Need-same-length
 same-length c = search needs
 
--- src/writer.rt:333:1
+-- src/writer.rt:341:1
 returns : tie.Need-returns
-unfolding stateBlocks
-returns c = search (needs, blocks)
+returns c = search (needs, state-filled)
 
 pub put-state-spec : {M : Type 1} → statement M
 put-state-spec =
     tie.close
     (tie.spec
-    add-put-start
-    add-put-start-2
-    put-start-requires
-    add-put-rest
-    add-put-rest-2
-    put-rest-requires
+    cast-n
+    mul-n
+    cast-m
+    mul-m
+    slice-aggregate-put-blocks
+    slice-aggregate-put-blocks-2
+    put-blocks-requires
     same-length
     returns)
