@@ -2,3 +2,4 @@ pub mod WriterStores
 pub mod WriterBlocks
 pub mod WriterRecords
 pub mod WriterState
+pub mod WriterRoundTrip
