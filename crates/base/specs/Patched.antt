@@ -5,7 +5,7 @@ use mathlib.Core.Path.{_≡_, refl, sym, ap, _∙_}
 use mathlib.Core.List.{List, [], _++_, append-assoc}
 use native.Mathlib.Omega.{arith}
 use lib.ListN.{length, getD, take, drop, set, length-append, length-take, length-drop}
-use lib.Seq.{length-take-le, take-at, drop-at, drop-drop, take-append-seam, sets, sets-eq, paste, paste-zero, paste-suc, take-length}
+use lib.Seq.{length-take-le, take-at, drop-at, drop-drop, take-append-seam, sets, sets-eq, paste, paste-zero, paste-suc}
 use Rattle.base.specs.Bytes.{partAt}
 
 -- s with b for its elements from `at` on

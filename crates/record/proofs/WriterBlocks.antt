@@ -2,14 +2,13 @@
 -- Assumes nothing.
 use Prim.Native.Nat.{ℕ, _+_, _%_, _≤_}
 use mathlib.Core.Path.{_≡_, refl, sym, ap, _∙_}
-use mathlib.Core.List.{List, [], _∷_, _++_, append-assoc, append-nil}
+use mathlib.Core.List.{List, [], _∷_, append-assoc, append-nil}
 use native.Mathlib.Omega.{arith}
 use lib.ListN.{length, length-append}
 use Rattle.base.specs.Bytes.{bytesOf, joined}
 use Rattle.base.specs.BytesLaws.{bytes-length, bytes1}
 use Rattle.base.specs.Patched.{patched, patched-next}
-use Rattle.format.specs.Limits.{version}
-use Rattle.format.specs.Types.{Id, Primary, Mark}
+use Rattle.format.specs.Types.{Id, Mark}
 use Rattle.format.specs.Write.{idBytes, payloadBytes, primaryBytes, markBytes}
 use Rattle.format.proofs.Lengths.{id-length, primary-length}
 use Rattle.record.specs.declared.Mark as declared

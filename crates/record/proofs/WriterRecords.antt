@@ -1,20 +1,20 @@
 -- A record's bytes are the writers' blocks, and they are put where there is room.
 -- Assumes nothing.
 use Prim.Native.Nat.{ℕ, _+_, _-_, _≤_, _<_}
-use mathlib.Core.Path.{_≡_, refl, sym, ap, _∙_}
+use mathlib.Core.Path.{_≡_, refl, ap, _∙_}
 use mathlib.Core.List.{List, [], _∷_, _++_, append-assoc, append-nil}
 use native.Mathlib.Omega.{arith}
 use lib.ListN.{length, length-append}
-use Rattle.base.specs.Tests.{_≤?_, pick, pick-le, pick-gt}
+use Rattle.base.specs.Tests.{pick-le, pick-gt}
 use Rattle.base.specs.Bytes.{bytesOf, joined}
 use Rattle.base.specs.BytesLaws.{bytes-length}
-use Rattle.base.specs.Patched.{patched, patched-next}
+use Rattle.base.specs.Patched.{patched}
 use Rattle.format.specs.Types.{Action, action, retransmission, cpc, kindNumber, kindOf}
-use Rattle.format.specs.Write.{framed, idBytes, payloadBytes, actionBytes, bodyOf, write, lengthOf}
+use Rattle.format.specs.Write.{framed, actionBytes, bodyOf, write, lengthOf}
 use Rattle.format.proofs.Lengths.{action-length, write-length}
 use Rattle.record.specs.declared.writer.Written.the-variants.{Next, Full}
 use Rattle.record.specs.declared.writer.ActionHead.{ActionHead}
-use Rattle.record.specs.Written.{actionOf, Put, next, full, put, putOf}
+use Rattle.record.specs.Written.{actionOf, next, full, put, putOf}
 use Rattle.record.specs.Blocks.{frameBytes, senderBytes, openingBytes}
 use Rattle.record.proofs.WriterBlocks.{two-blocks, frame-length, opening-length}
 

@@ -1,28 +1,26 @@
 -- A State's bytes are the writer's blocks, and they are put where there is room.
 -- Assumes nothing.
 use Prim.Native.Nat.{ℕ, _+_, _-_, _*_, _≤_, _<_}
-use mathlib.Core.Path.{_≡_, refl, sym, ap, ap₂, _∙_}
-use mathlib.Core.Bool.{Bool, true, false}
-use mathlib.Core.List.{List, [], _∷_, _++_, append-assoc, append-nil}
+use mathlib.Core.Path.{_≡_, refl, sym, ap, _∙_}
+use mathlib.Core.Bool.{false}
+use mathlib.Core.List.{List, [], _∷_, append-assoc, append-nil}
 use native.Mathlib.Omega.{arith}
 use mir.Val.{Fits}
 use mir.Syntax.{w8}
-use lib.ListN.{length, getD, take, drop, length-append}
-use lib.Seq.{length-take-le}
-use Rattle.base.specs.Tests.{_≤?_, _and_, pick, pick-yes, pick-no, le-yes, le-no, both-yes, and-yes, and-no}
+use lib.ListN.{length, getD, take, length-append}
+use Rattle.base.specs.Tests.{_≤?_, _and_, pick-yes, pick-no, le-yes, le-no, both-yes, and-yes, and-no}
 use Rattle.base.specs.Bytes.{Bytes, bytesOf, numbersAt, partAt, joined}
 use Rattle.base.specs.BytesLaws.{bytes-length, numbers-length}
-use Rattle.base.specs.Occurs.{Occurs}
 use Rattle.base.specs.Patched.{patched}
 use Rattle.format.specs.Types.{Primary, Mark, state, kindNumber, kindOf}
 use Rattle.format.specs.Read.{idsAt}
-use Rattle.format.specs.Write.{framed, cutsBytes, primaryBytes, markBytes, idsBytes, yellowBytes, stateBytes, bodyOf, write, lengthOf}
+use Rattle.format.specs.Write.{cutsBytes, primaryBytes, markBytes, idsBytes, yellowBytes, stateBytes, bodyOf, write, lengthOf}
 use Rattle.format.proofs.Lengths.{primary-length, mark-length, cuts-length, ids-length, write-length}
 use Rattle.format.proofs.Writing.{cuts-written, ids-written, ids-number}
 use Rattle.record.specs.declared.writer.StateHead.{StateHead}
 use Rattle.record.specs.declared.writer.Written.the-variants.{Next, Full}
-use Rattle.record.specs.Written.{Put, next, full, put, putOf, putState, stateOf, componentOf, markOf, yellowOf}
-use Rattle.record.specs.Blocks.{openingBytes, pairBytes, startBytes, progressBytes, standingBytes, yellowListBytes, restBytes, stateBlocks, StateRoom}
+use Rattle.record.specs.Written.{Put, full, put, putOf, putState, stateOf, yellowOf}
+use Rattle.record.specs.Blocks.{pairBytes, startBytes, progressBytes, standingBytes, yellowListBytes, restBytes, stateBlocks, StateRoom}
 use Rattle.record.proofs.WriterRecords.{opening-blocks, put-full, put-next}
 
 cuts-first : (n : ℕ) (e : List ℕ) → Bytes e → 2 * n ≤ length e → cutsBytes (numbersAt 2 n e 0) ≡ take (2 * n) e

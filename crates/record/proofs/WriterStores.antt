@@ -1,12 +1,12 @@
 -- A number's bytes stored one by one, and a copy, are one part replaced.
 -- Assumes nothing.
 use Prim.Native.Nat.{ℕ, suc, _+_, _/_, _%_, _≤_, _<_}
-use mathlib.Core.Path.{_≡_, sym, ap, _∙_}
+use mathlib.Core.Path.{_≡_, ap, _∙_}
 use mathlib.Core.List.{List, [], _∷_}
 use native.Mathlib.Omega.{arith}
 use native.Mathlib.Numerals.{add-one}
 use lib.ListN.{length, getD, take, set}
-use lib.Seq.{sets, take-all}
+use lib.Seq.{take-all}
 use Rattle.base.specs.Bytes.{bytesOf, joined}
 use Rattle.base.specs.BytesLaws.{bytes1, bytes2, bytes4}
 use Rattle.base.specs.Patched.{patched, sets-patched, patched-more}

@@ -6,7 +6,7 @@ use lib.ListN.{length}
 use Rattle.base.specs.Tests.{_and_, _≤?_, pick}
 use Rattle.base.specs.Bytes.{numbersAt}
 use Rattle.base.specs.Patched.{patched}
-use Rattle.format.specs.Types.{Id, Action, Primary, Yellow, State, Record, action, retransmission, state, cpc}
+use Rattle.format.specs.Types.{Id, Action, Primary, Yellow, State, state}
 use Rattle.format.specs.Types as format
 use Rattle.format.specs.Read.{idsAt}
 use Rattle.format.specs.Write.{write}

@@ -1,4 +1,5 @@
 // Records: the event reader, and the writers of what the engine sends.
+mod blocks;
 pub mod writer;
 
 // "The primary index and the attempt index are two counters, and neither may stand for the other."

@@ -1,20 +1,27 @@
 // Writers of the records that the engine sends, straight into the outgoing buffer.
 ghost use mathlib.Core.Path.{_≡_};
 ghost use Prim.Native.Nat.{_+_, _-_, _≤_};
-ghost use lib.ListN.{length, take};
-ghost use Rattle.base.specs.Bytes.{bytesOf};
+ghost use lib.ListN.{length};
 ghost use Rattle.base.specs.Patched.{patched};
 ghost use Rattle.format.specs.Types.{action, retransmission, state, cpc};
-ghost use Rattle.format.specs.Write.{idBytes, payloadBytes, actionBytes, primaryBytes, markBytes, write};
-ghost use Rattle.record.specs.Written.{put, putOf, putState, stateOf, idOf, actionOf, componentOf, markOf};
-ghost use Rattle.record.specs.Blocks.{frameBytes, senderBytes, openingBytes, headBytes, pairBytes, markedBytes, startBytes, progressBytes, standingBytes, yellowHeadBytes, yellowListBytes, restBytes, stateBlocks, StateRoom};
+ghost use Rattle.format.specs.Write.{actionBytes, write};
+ghost use Rattle.record.specs.Written.{put, putOf, putState, actionOf, stateOf};
+ghost use Rattle.record.specs.Blocks.{openingBytes, headBytes, startBytes, progressBytes, standingBytes, restBytes, stateBlocks, StateRoom};
 use super::AttemptIndex;
 use super::LastPrimary;
 use super::Mark;
-use super::PrimaryIndex;
+use super::blocks::copy;
+use super::blocks::put_frame;
+use super::blocks::put_id;
+use super::blocks::put_mark;
+use super::blocks::put_opening;
+use super::blocks::put_pair;
+use super::blocks::put_payload;
+use super::blocks::put_primary;
+use super::blocks::put_yellow;
+use super::blocks::put32;
 
-const VERSION: u8 = 1;
-
+// The kind bytes of the records that the engine sends.
 const ACTION: u8 = 1;
 
 const RETRANSMISSION: u8 = 2;
@@ -49,79 +56,6 @@ pub struct StateHead {
     pub yellow_count: u16,
 }
 
-fn put8(out: &mut [u8], at: usize, v: u8)
-    requires { ⌜ at + 1 ≤ length (now out) ⌝ }
-    ensures { λ _. ⌜ now (out .exit) ≡ patched at (bytesOf 1 v) (now (out .entry)) ⌝ }
-{
-    out[at] = v;
-}
-
-fn put16(out: &mut [u8], at: usize, v: u16)
-    requires { ⌜ at + 2 ≤ length (now out) ⌝ }
-    ensures { λ _. ⌜ now (out .exit) ≡ patched at (bytesOf 2 v) (now (out .entry)) ⌝ }
-{
-    out[at] = (v / 256 % 256) as u8;
-    out[at + 1] = (v % 256) as u8;
-}
-
-fn put32(out: &mut [u8], at: usize, v: u32)
-    requires { ⌜ at + 4 ≤ length (now out) ⌝ }
-    ensures { λ _. ⌜ now (out .exit) ≡ patched at (bytesOf 4 v) (now (out .entry)) ⌝ }
-{
-    out[at] = (v / 16777216 % 256) as u8;
-    out[at + 1] = (v / 65536 % 256) as u8;
-    out[at + 2] = (v / 256 % 256) as u8;
-    out[at + 3] = (v % 256) as u8;
-}
-
-fn copy(out: &mut [u8], at: usize, src: &[u8])
-    requires { ⌜ at + length (now src) ≤ length (now out) ⌝ }
-    ensures { λ _. ⌜ now (out .exit) ≡ patched at (now (src .entry)) (now (out .entry)) ⌝ }
-{
-    let mut j: usize = 0;
-    while j < src.len() {
-        out[at + j] = src[j];
-        j += 1;
-    }
-}
-
-// Two length bytes (counting what follows them), version and kind.
-fn put_frame(out: &mut [u8], at: usize, follows: usize, kind: u8)
-    requires { ⌜ at + 4 ≤ length (now out) ⌝ }
-    ensures { λ _. ⌜ now (out .exit) ≡ patched at (frameBytes follows kind) (now (out .entry)) ⌝ }
-{
-    out[at] = (follows / 256 % 256) as u8;
-    out[at + 1] = (follows % 256) as u8;
-    out[at + 2] = VERSION;
-    out[at + 3] = kind;
-}
-
-// A sender, and a number of four bytes.
-fn put_sender(out: &mut [u8], at: usize, sender: u8, number: u32)
-    requires { ⌜ at + 5 ≤ length (now out) ⌝ }
-    ensures { λ _. ⌜ now (out .exit) ≡ patched at (senderBytes sender number) (now (out .entry)) ⌝ }
-{
-    put8(out, at, sender);
-    put32(out, at + 1, number);
-}
-
-// What a retransmission, a State and a CPC begin with.
-fn put_opening(out: &mut [u8], at: usize, follows: usize, kind: u8, sender: u8, number: u32)
-    requires { ⌜ at + 9 ≤ length (now out) ⌝ }
-    ensures { λ _. ⌜ now (out .exit) ≡ patched at (openingBytes follows kind sender number) (now (out .entry)) ⌝ }
-{
-    put_frame(out, at, follows, kind);
-    put_sender(out, at + 4, sender, number);
-}
-
-fn put_id(out: &mut [u8], at: usize, creator: u8, index: u16)
-    requires { ⌜ at + 3 ≤ length (now out) ⌝ }
-    ensures { λ _. ⌜ now (out .exit) ≡ patched at (idBytes (idOf creator index)) (now (out .entry)) ⌝ }
-{
-    put8(out, at, creator);
-    put16(out, at + 1, index);
-}
-
 // An action's id and its creator's green length.
 fn put_head(out: &mut [u8], at: usize, head: ActionHead)
     requires { ⌜ at + 7 ≤ length (now out) ⌝ }
@@ -131,14 +65,6 @@ fn put_head(out: &mut [u8], at: usize, head: ActionHead)
     put32(out, at + 3, head.green_length);
 }
 
-fn put_payload(out: &mut [u8], at: usize, payload: &[u8])
-    requires { ⌜ at + (1 + length (now payload)) ≤ length (now out) ⌝ }
-    ensures { λ _. ⌜ now (out .exit) ≡ patched at (payloadBytes (now (payload .entry))) (now (out .entry)) ⌝ }
-{
-    put8(out, at, (payload.len() % 256) as u8);
-    copy(out, at + 1, payload);
-}
-
 // An action, as actions and retransmissions have it.
 fn put_body(out: &mut [u8], at: usize, head: ActionHead, payload: &[u8])
     requires { ⌜ at + (8 + length (now payload)) ≤ length (now out) ⌝ }
@@ -146,40 +72,6 @@ fn put_body(out: &mut [u8], at: usize, head: ActionHead, payload: &[u8])
 {
     put_head(out, at, head);
     put_payload(out, at + 7, payload);
-}
-
-// Two numbers of four bytes.
-fn put_pair(out: &mut [u8], at: usize, first: u32, second: u32)
-    requires { ⌜ at + 8 ≤ length (now out) ⌝ }
-    ensures { λ _. ⌜ now (out .exit) ≡ patched at (pairBytes first second) (now (out .entry)) ⌝ }
-{
-    put32(out, at, first);
-    put32(out, at + 4, second);
-}
-
-fn put_primary(out: &mut [u8], at: usize, index: PrimaryIndex, attempt: AttemptIndex, set: u8)
-    requires { ⌜ at + 9 ≤ length (now out) ⌝ }
-    ensures { λ _. ⌜ now (out .exit) ≡ patched at (primaryBytes (componentOf index attempt set)) (now (out .entry)) ⌝ }
-{
-    put_pair(out, at, index.0, attempt.0);
-    put8(out, at + 8, set);
-}
-
-// A mark but its status.
-fn put_marked(out: &mut [u8], at: usize, mark: Mark)
-    requires { ⌜ at + 10 ≤ length (now out) ⌝ }
-    ensures { λ _. ⌜ now (out .exit) ≡ patched at (markedBytes mark) (now (out .entry)) ⌝ }
-{
-    put_primary(out, at, mark.index, mark.attempt, mark.set);
-    put8(out, at + 9, mark.bits);
-}
-
-fn put_mark(out: &mut [u8], at: usize, mark: Mark)
-    requires { ⌜ at + 11 ≤ length (now out) ⌝ }
-    ensures { λ _. ⌜ now (out .exit) ≡ patched at (markBytes (markOf mark)) (now (out .entry)) ⌝ }
-{
-    put8(out, at, mark.status);
-    put_marked(out, at + 1, mark);
 }
 
 // How many of `len` bytes there are from `at` on.
@@ -295,23 +187,6 @@ fn put_standing(out: &mut [u8], at: usize, head: StateHead)
 {
     put_progress(out, at, head);
     put_mark(out, at + 17, head.mark);
-}
-
-fn put_yellow_head(out: &mut [u8], at: usize, status: u8, count: u16)
-    requires { ⌜ at + 3 ≤ length (now out) ⌝ }
-    ensures { λ _. ⌜ now (out .exit) ≡ patched at (yellowHeadBytes status count) (now (out .entry)) ⌝ }
-{
-    put8(out, at, status);
-    put16(out, at + 1, count);
-}
-
-// A yellow list: its status, its count, and the bytes of its ids.
-fn put_yellow(out: &mut [u8], at: usize, status: u8, count: u16, ids: &[u8])
-    requires { ⌜ at + (3 + length (now ids)) ≤ length (now out) ⌝ }
-    ensures { λ _. ⌜ now (out .exit) ≡ patched at (yellowListBytes status count (now (ids .entry))) (now (out .entry)) ⌝ }
-{
-    put_yellow_head(out, at, status, count);
-    copy(out, at + 3, ids);
 }
 
 // All of a State behind its cuts.

@@ -3,28 +3,19 @@ use Rattle.record.proofs.WriterBlocks.{blocks}
 use borrow.Author.Needs.{needs}
 use Rattle.record.proofs.writer.put_head.Statement.{statement}
 use Rattle.record.proofs.writer.put_head.Tie as tie
-use Rattle.record.proofs.writer.put_head.Reads as reads
-use Rattle.record.proofs.writer.put_head.Lts as lts
-use Rattle.record.proofs.writer.put32.Reads as put32-reads
-use Rattle.record.proofs.writer.put_id.Reads as put-id-reads
 
--- src/writer.rt:123:5
 put-id-requires : tie.Need-put-id-requires
 put-id-requires c κs = search needs
 
--- src/writer.rt:124:16
 add-put32 : tie.Need-add-put32
 add-put32 c = search needs
 
--- src/writer.rt:124:5
 put32-requires : tie.Need-put32-requires
 put32-requires c κs = search needs
 
--- src/writer.rt:119:1
 same-length : tie.Need-same-length
 same-length c = search needs
 
--- src/writer.rt:119:1
 returns : tie.Need-returns
 unfolding headBytes
 returns c = search (needs, blocks)

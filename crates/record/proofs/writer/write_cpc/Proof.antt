@@ -2,32 +2,22 @@ use Rattle.record.proofs.WriterRecords.{cpc-full, cpc-next}
 use borrow.Author.Needs.{needs}
 use Rattle.record.proofs.writer.write_cpc.Statement.{statement}
 use Rattle.record.proofs.writer.write_cpc.Tie as tie
-use Rattle.record.proofs.writer.write_cpc.Reads as reads
-use Rattle.record.proofs.writer.write_cpc.Lts as lts
-use Rattle.record.proofs.writer.put_opening.Reads as put-opening-reads
-use Rattle.record.proofs.writer.room.Reads as room-reads
 
--- src/writer.rt:190:8
 room-requires : tie.Need-room-requires
 room-requires c κs = search needs
 
--- src/writer.rt:191:9
 returns : tie.Need-returns
 returns c = search (needs, cpc-full)
 
--- src/writer.rt:193:5
 put-opening-requires : tie.Need-put-opening-requires
 put-opening-requires c κs = search needs
 
--- src/writer.rt:194:19
 add-t5 : tie.Need-add-t5
 add-t5 c = search needs
 
--- src/writer.rt:187:1
 same-length : tie.Need-same-length
 same-length c = search needs
 
--- src/writer.rt:187:1
 returns-2 : tie.Need-returns-2
 returns-2 c = search (needs, cpc-next)
 
