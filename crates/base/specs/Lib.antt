@@ -5,3 +5,4 @@ pub mod Occurs
 pub mod Pigeonhole
 pub mod Sets
 pub mod Patched
+pub mod Stores

@@ -1,4 +1,3 @@
-pub mod WriterStores
 pub mod WriterBlocks
 pub mod WriterRecords
 pub mod WriterState

@@ -1,14 +1,17 @@
 -- Blocks of bytes written one after another are one block.
 -- Assumes nothing.
-use Prim.Native.Nat.{ℕ, _+_, _%_, _≤_}
+use Prim.Native.Nat.{ℕ, suc, _+_, _/_, _%_, _≤_, _<_}
 use mathlib.Core.Path.{_≡_, refl, sym, ap, _∙_}
 use mathlib.Core.List.{List, [], _∷_, append-assoc, append-nil}
 use native.Mathlib.Omega.{arith}
-use lib.ListN.{length, length-append}
+use native.Mathlib.Numerals.{add-one}
+use lib.ListN.{length, set, length-append}
 use Rattle.base.specs.Bytes.{bytesOf, joined}
-use Rattle.base.specs.BytesLaws.{bytes-length, bytes1}
-use Rattle.base.specs.Patched.{patched, patched-next}
-use Rattle.format.specs.Types.{Id, Mark}
+use Rattle.base.specs.BytesLaws.{bytes-length, bytes1, bytes2}
+use Rattle.base.specs.Patched.{patched, sets-patched}
+use Rattle.base.specs.Stores.{two-blocks, three-blocks}
+use Rattle.format.specs.Limits.{version}
+use Rattle.format.specs.Types.{Id}
 use Rattle.format.specs.Write.{idBytes, payloadBytes, primaryBytes, markBytes}
 use Rattle.format.proofs.Lengths.{id-length, primary-length}
 use Rattle.record.specs.declared.Mark as declared
@@ -64,27 +67,18 @@ pub ruleset lengths = (
   yellow-head-length,
 )
 
--- ---- one block after another
-
--- b, and c next after it
-pub two-blocks : (at m k : ℕ) (b c s s₁ s₂ : List ℕ) → at + k ≤ length s → s₁ ≡ patched at b s → s₂ ≡ patched (at + m) c s₁ → length b ≡ m
-    → s₂ ≡ patched at (joined (b ∷ c ∷ [])) s
-unfolding joined
-two-blocks at m k b c s s₁ s₂ h e f g =
-    f ∙ rw (e, ← g, append-nil) (patched-next at b c s (omega arith))
-
-joined-two : (b c d : List ℕ) → joined (joined (b ∷ c ∷ []) ∷ d ∷ []) ≡ joined (b ∷ c ∷ d ∷ [])
-unfolding joined
-joined-two b c d = simp (append-nil, append-assoc)
-
--- two in one, and d next after it
-pub three-blocks : (at m k : ℕ) (b c d s s₁ s₂ : List ℕ) → at + k ≤ length s → s₁ ≡ patched at (joined (b ∷ c ∷ [])) s → s₂ ≡ patched (at + m) d s₁
-    → length (joined (b ∷ c ∷ [])) ≡ m → s₂ ≡ patched at (joined (b ∷ c ∷ d ∷ [])) s
-three-blocks at m k b c d s s₁ s₂ h e f g = two-blocks at m k (joined (b ∷ c ∷ [])) d s s₁ s₂ h e f g ∙ rw joined-two
-
 pub ruleset blocks = (two-blocks, three-blocks, lengths)
 
--- ---- a payload and a mark
+-- ---- a frame, a payload and a mark
+
+pub store-frame : (s : List ℕ) (at n k : ℕ) → at + 4 ≤ length s → k < 256
+    → set (set (set (set s at (n / 256 % 256)) (at + 1) (n % 256)) (at + 2) 1) (at + 3) k ≡ patched at (frameBytes n k) s
+unfolding frameBytes joined
+store-frame s at n k h b =
+    let e₂ : at + 2 ≡ suc (suc at) = omega arith in
+    let e₃ : at + 3 ≡ suc (suc (suc at)) = omega arith in
+    let e : k % 256 ≡ k = omega arith in
+    rw (add-one at, e₂, e₃, bytes2 n, bytes1 version, bytes1 k, e) (sets-patched at (n / 256 % 256 ∷ n % 256 ∷ 1 ∷ k ∷ []) s h)
 
 pub payload-blocks : (at k : ℕ) (p s s₁ s₂ : List ℕ) → at + k ≤ length s → s₁ ≡ patched at (bytesOf 1 (length p % 256)) s → s₂ ≡ patched (at + 1) p s₁
     → s₂ ≡ patched at (payloadBytes p) s

@@ -9,6 +9,7 @@ use Rattle.base.specs.Tests.{pick-le, pick-gt}
 use Rattle.base.specs.Bytes.{bytesOf, joined}
 use Rattle.base.specs.BytesLaws.{bytes-length}
 use Rattle.base.specs.Patched.{patched}
+use Rattle.base.specs.Stores.{two-blocks}
 use Rattle.format.specs.Types.{Action, action, retransmission, cpc, kindNumber, kindOf}
 use Rattle.format.specs.Write.{framed, actionBytes, bodyOf, write, lengthOf}
 use Rattle.format.proofs.Lengths.{action-length, write-length}
@@ -16,7 +17,7 @@ use Rattle.record.specs.declared.writer.Written.the-variants.{Next, Full
 use Rattle.record.specs.declared.writer.ActionHead.{ActionHead}
 use Rattle.record.specs.Written.{actionOf, next, full, put, putOf}
 use Rattle.record.specs.Blocks.{frameBytes, senderBytes, openingBytes}
-use Rattle.record.proofs.WriterBlocks.{two-blocks, frame-length, opening-length}
+use Rattle.record.proofs.WriterBlocks.{frame-length, opening-length}
 
 -- ---- put, by the room that there is
 
@@ -29,10 +30,6 @@ unfolding put
 put-next b s s₁ at n r e f h k g = pick-le (at + length b) (length s) _ _ _ (omega arith) (rw (e, g))
 
 -- ---- the bytes of a record
-
-joined-one : (b : List ℕ) → joined (b ∷ []) ≡ b
-unfolding joined
-joined-one b = append-nil b
 
 frame-blocks : (k : ℕ) (body : List ℕ) → framed k body ≡ joined (frameBytes (2 + length body) k ∷ body ∷ [])
 unfolding framed frameBytes joined
@@ -55,11 +52,13 @@ action-bytes a =
     let e : 2 + length (actionBytes a) ≡ 10 + length (a .payload) = omega (arith, action-length a) in
     frame-blocks 1 (actionBytes a) ∙ rw e
 
+after-opening : (a : Action) → 7 + length (joined (actionBytes a ∷ [])) ≡ 15 + length (a .payload)
+unfolding joined
+after-opening a = simp (append-nil, action-length) (omega arith)
+
 retransmission-bytes : (s p : ℕ) (a : Action) → write (retransmission s p a) ≡ joined (openingBytes (15 + length (a .payload)) 2 s p ∷ actionBytes a ∷ [])
 unfolding write bodyOf kindOf kindNumber
-retransmission-bytes s p a =
-    let e : 7 + length (joined (actionBytes a ∷ [])) ≡ 15 + length (a .payload) = omega (arith, ap length (joined-one (actionBytes a)), action-length a) in
-    opening-blocks 2 s p (actionBytes a ∷ []) ∙ rw e
+retransmission-bytes s p a = opening-blocks 2 s p (actionBytes a ∷ []) ∙ rw (after-opening a)
 
 -- b with an action after it
 carried : (w b s s₁ s₂ : List ℕ) (at m k : ℕ) (a : Action) → w ≡ joined (b ∷ actionBytes a ∷ []) → length b ≡ m → at + k ≤ length s
@@ -80,29 +79,29 @@ retransmission-carried h p s s₁ s₂ at k sender position r g₁ g₂ =
 
 -- ---- how long a record is
 
-cpc-length : (s i : ℕ) → length (write (cpc s i)) ≡ 9
+cpc-size : (s i : ℕ) → length (write (cpc s i)) ≡ 9
 unfolding lengthOf
-cpc-length s i = write-length (cpc s i)
+cpc-size s i = write-length (cpc s i)
 
-written-length : (h : ActionHead) (p : List ℕ) → length (write (action (actionOf h p))) ≡ 12 + length p
+action-size : (h : ActionHead) (p : List ℕ) → length (write (action (actionOf h p))) ≡ 12 + length p
 unfolding lengthOf actionOf
-written-length h p = write-length (action (actionOf h p))
+action-size h p = write-length (action (actionOf h p))
 
-rewritten-length : (sender position : ℕ) (h : ActionHead) (p : List ℕ) → length (write (retransmission sender position (actionOf h p))) ≡ 17 + length p
+retransmission-size : (sender position : ℕ) (h : ActionHead) (p : List ℕ) → length (write (retransmission sender position (actionOf h p))) ≡ 17 + length p
 unfolding lengthOf actionOf
-rewritten-length sender position h p = write-length (retransmission sender position (actionOf h p))
+retransmission-size sender position h p = write-length (retransmission sender position (actionOf h p))
 
 -- ---- each return of each writer; r is the room from `at` on
 
 pub cpc-full : (s : List ℕ) (at r sender configuration : ℕ) → r ≡ length s - at → r < 9 → putOf Full s ≡ put (write (cpc sender configuration)) at s
 unfolding putOf
-cpc-full s at r sender configuration e h = put-full _ s at 9 r (cpc-length sender configuration) e h
+cpc-full s at r sender configuration e h = put-full _ s at 9 r (cpc-size sender configuration) e h
 
 pub cpc-next : (s s₁ : List ℕ) (at r sender configuration : ℕ) → r ≡ length s - at → 9 ≤ r → s₁ ≡ patched at (openingBytes 7 4 sender configuration) s
     → putOf (Next (at + 9)) s₁ ≡ put (write (cpc sender configuration)) at s
 unfolding putOf
 cpc-next s s₁ at r sender configuration e h f =
-    put-next _ s s₁ at 9 r (cpc-length sender configuration) e (omega arith) h (rw cpc-bytes f)
+    put-next _ s s₁ at 9 r (cpc-size sender configuration) e (omega arith) h (rw cpc-bytes f)
 
 -- a record w of m bytes and a payload p
 module _ (w p s : List ℕ) (at m r : ℕ) (l : length w ≡ m + length p) (f : r ≡ length s - at) where
@@ -122,22 +121,22 @@ module _ (w p s : List ℕ) (at m r : ℕ) (l : length w ≡ m + length p) (f : 
 
 module _ (h : ActionHead) (p s : List ℕ) (at r : ℕ) (f : r ≡ length s - at) where
   pub action-full : r < 12 → putOf Full s ≡ put (write (action (actionOf h p))) at s
-  action-full = short-full _ p s at 12 r (written-length h p) f
+  action-full = short-full _ p s at 12 r (action-size h p) f
 
   pub action-long : 12 ≤ r → r - 12 < length p → putOf Full s ≡ put (write (action (actionOf h p))) at s
-  action-long = long-full _ p s at 12 r (written-length h p) f
+  action-long = long-full _ p s at 12 r (action-size h p) f
 
   pub action-next : (s₁ : List ℕ) → 12 ≤ r → length p ≤ r - 12 → s₁ ≡ patched at (write (action (actionOf h p))) s
       → putOf (Next (at + 12 + length p)) s₁ ≡ put (write (action (actionOf h p))) at s
-  action-next s₁ = fitting-next _ p s at 12 r (written-length h p) f s₁ (omega arith)
+  action-next s₁ = fitting-next _ p s at 12 r (action-size h p) f s₁ (omega arith)
 
   module _ (sender position : ℕ) where
     pub retransmission-full : r < 17 → putOf Full s ≡ put (write (retransmission sender position (actionOf h p))) at s
-    retransmission-full = short-full _ p s at 17 r (rewritten-length sender position h p) f
+    retransmission-full = short-full _ p s at 17 r (retransmission-size sender position h p) f
 
     pub retransmission-long : 17 ≤ r → r - 17 < length p → putOf Full s ≡ put (write (retransmission sender position (actionOf h p))) at s
-    retransmission-long = long-full _ p s at 17 r (rewritten-length sender position h p) f
+    retransmission-long = long-full _ p s at 17 r (retransmission-size sender position h p) f
 
     pub retransmission-next : (s₁ : List ℕ) → 17 ≤ r → length p ≤ r - 17 → s₁ ≡ patched at (write (retransmission sender position (actionOf h p))) s
         → putOf (Next (at + 17 + length p)) s₁ ≡ put (write (retransmission sender position (actionOf h p))) at s
-    retransmission-next s₁ = fitting-next _ p s at 17 r (rewritten-length sender position h p) f s₁ (omega arith)
+    retransmission-next s₁ = fitting-next _ p s at 17 r (retransmission-size sender position h p) f s₁ (omega arith)

@@ -1,7 +1,7 @@
 -- What a writer has put is read as the record that was written, and the rest of the buffer is as it was.
 -- Assumes nothing.
 use Prim.Native.Nat.{ℕ, _+_, _≤_}
-use mathlib.Core.Path.{_≡_, refl, ap, _∙_}
+use mathlib.Core.Path.{_≡_, refl, sym, ap, _∙_}
 use mathlib.Core.Bool.{Bool, true, false}
 use mathlib.Core.List.{List}
 use native.Mathlib.Omega.{arith}
@@ -15,7 +15,14 @@ use Rattle.format.specs.Read.{read}
 use Rattle.format.specs.Write.{write}
 use Rattle.format.proofs.RoundTrip.{read-written}
 use Rattle.record.specs.declared.writer.StateHead.{StateHead}
-use Rattle.record.specs.Written.{Put, next, full, put, putState, stateOf}
+use Rattle.record.specs.declared.writer.Written.{Written}
+use Rattle.record.specs.declared.writer.Written.the-variants.{Next}
+use Rattle.record.specs.Written.{Put, next, full, put, putOf, putState, stateOf}
+
+-- What a writer that answers `Next` ensures, as a put.
+pub answer-next : (w : Written) (z : Put) (n : ℕ) (buffer : List ℕ) → putOf w buffer ≡ z → w ≡ Next n → z ≡ next n buffer
+unfolding putOf
+answer-next w z n buffer e f = sym e ∙ rw f
 
 -- What a put that is not full says.
 pub record Fitted (b : List ℕ) (at : ℕ) (old : List ℕ) (place : ℕ) (buffer : List ℕ) : Type 0 where

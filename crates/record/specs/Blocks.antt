@@ -15,26 +15,33 @@ use Rattle.record.specs.Written.{idOf, componentOf, markOf}
 unfoldable pub frameBytes : (follows kind : ℕ) → List ℕ
 frameBytes follows kind = joined (bytesOf 2 follows ∷ bytesOf 1 version ∷ bytesOf 1 kind ∷ [])
 
+-- a sender, and a number of four bytes
 unfoldable pub senderBytes : (sender number : ℕ) → List ℕ
 senderBytes sender number = joined (bytesOf 1 sender ∷ bytesOf 4 number ∷ [])
 
+-- what a retransmission, a State and a CPC begin with
 unfoldable pub openingBytes : (follows kind sender number : ℕ) → List ℕ
 openingBytes follows kind sender number = joined (frameBytes follows kind ∷ senderBytes sender number ∷ [])
 
+-- "creator (1 byte), index (2), creator's green length (4)"
 unfoldable pub headBytes : ActionHead → List ℕ
 headBytes h = joined (idBytes (idOf (h .creator) (h .index)) ∷ bytesOf 4 (h .«green_length») ∷ [])
 
+-- two numbers of four bytes
 unfoldable pub pairBytes : (first second : ℕ) → List ℕ
 pairBytes first second = joined (bytesOf 4 first ∷ bytesOf 4 second ∷ [])
 
+-- a mark but its status
 unfoldable pub markedBytes : Mark → List ℕ
 markedBytes m = joined (primaryBytes (componentOf (m .index) (m .attempt) (m .set)) ∷ bytesOf 1 (m .bits) ∷ [])
 
 -- ---- a State's
 
+-- its opening and its cuts
 unfoldable pub startBytes : (follows : ℕ) → StateHead → (cuts : List ℕ) → List ℕ
 startBytes follows h cuts = joined (openingBytes follows 3 (h .sender) (h .configuration) ∷ cuts ∷ [])
 
+-- "green length (4), attempt (4), last primary's index (4), attempt (4), set (1)"
 unfoldable pub progressBytes : StateHead → List ℕ
 progressBytes h =
     joined
@@ -42,18 +49,23 @@ progressBytes h =
     ∷ primaryBytes (componentOf (h .last .index) (h .last .attempt) (h .last .set))
     ∷ [])
 
+-- the same and its mark
 unfoldable pub standingBytes : StateHead → List ℕ
 standingBytes h = joined (progressBytes h ∷ markBytes (markOf (h .mark)) ∷ [])
 
+-- "yellow status (1), count (2)"
 unfoldable pub yellowHeadBytes : (status count : ℕ) → List ℕ
 yellowHeadBytes status count = joined (bytesOf 1 status ∷ bytesOf 2 count ∷ [])
 
+-- the same and the bytes of its ids
 unfoldable pub yellowListBytes : (status count : ℕ) → (ids : List ℕ) → List ℕ
 yellowListBytes status count ids = joined (bytesOf 1 status ∷ bytesOf 2 count ∷ ids ∷ [])
 
+-- all behind its cuts
 unfoldable pub restBytes : StateHead → (ids : List ℕ) → List ℕ
 restBytes h ids = joined (standingBytes h ∷ yellowListBytes (h .«yellow_status») (h .«yellow_count») ids ∷ [])
 
+-- the whole
 unfoldable pub stateBlocks : StateHead → (cuts ids : List ℕ) → List ℕ
 stateBlocks h cuts ids = joined (startBytes (38 + (length cuts + length ids)) h cuts ∷ restBytes h ids ∷ [])
 

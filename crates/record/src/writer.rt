@@ -81,6 +81,7 @@ fn room(len: usize, at: usize) -> usize
     if len < at { 0 } else { len - at }
 }
 
+// Writes a CPC at `at`.
 pub fn write_cpc(out: &mut [u8], at: usize, sender: u8, configuration: u32) -> Written
     ensures { λ r. ⌜ putOf r (now (out .exit)) ≡ put (write (cpc sender configuration)) at (now (out .entry)) ⌝ }
 {
@@ -91,6 +92,7 @@ pub fn write_cpc(out: &mut [u8], at: usize, sender: u8, configuration: u32) -> W
     Written::Next(at + 9)
 }
 
+// The whole record of an action.
 fn put_action(out: &mut [u8], at: usize, head: ActionHead, payload: &[u8])
     requires { ⌜ at + (12 + length (now payload)) ≤ length (now out) ⌝ }
     ensures { λ _. ⌜ now (out .exit) ≡ patched at (write (action (actionOf head (now (payload .entry))))) (now (out .entry)) ⌝ }
@@ -99,6 +101,7 @@ fn put_action(out: &mut [u8], at: usize, head: ActionHead, payload: &[u8])
     put_body(out, at + 4, head, payload);
 }
 
+// Writes an action at `at`.
 pub fn write_action(out: &mut [u8], at: usize, head: ActionHead, payload: &[u8]) -> Written
     ensures { λ r. ⌜ putOf r (now (out .exit)) ≡ put (write (action (actionOf head (now (payload .entry))))) at (now (out .entry)) ⌝ }
 {
@@ -113,6 +116,7 @@ pub fn write_action(out: &mut [u8], at: usize, head: ActionHead, payload: &[u8])
     Written::Next(at + 12 + payload.len())
 }
 
+// The whole record of a retransmission.
 fn put_retransmission(
     out: &mut [u8],
     at: usize,
@@ -135,6 +139,7 @@ fn put_retransmission(
     put_body(out, at + 9, head, payload);
 }
 
+// Writes a retransmission of an action at `at`.
 pub fn write_retransmission(
     out: &mut [u8],
     at: usize,
@@ -207,6 +212,7 @@ fn put_blocks(out: &mut [u8], at: usize, head: StateHead, cuts: &[u8], ids: &[u8
     put_rest(out, at + (9 + cuts.len()), head, ids);
 }
 
+// The whole record of a State, of the first bytes given.
 fn put_state(out: &mut [u8], at: usize, head: StateHead, cuts: &[u8], ids: &[u8])
     requires { ⌜ StateRoom head (now cuts) (now ids) at (now out) ⌝ }
     ensures { λ _. ⌜ now (out .exit) ≡ patched at (write (state (stateOf head (now (cuts .entry)) (now (ids .entry))))) (now (out .entry)) ⌝ }
@@ -216,6 +222,7 @@ fn put_state(out: &mut [u8], at: usize, head: StateHead, cuts: &[u8], ids: &[u8]
     put_blocks(out, at, head, &cuts[..n], &ids[..m]);
 }
 
+// Writes a State at `at`: `cuts` begins with its cuts, two bytes each, and `ids` with its yellow ids, three bytes each.
 pub fn write_state(out: &mut [u8], at: usize, head: StateHead, cuts: &[u8], ids: &[u8]) -> Written
     ensures { λ r. ⌜ putOf r (now (out .exit)) ≡ putState head (now (cuts .entry)) (now (ids .entry)) at (now (out .entry)) ⌝ }
 {

@@ -1,6 +1,6 @@
 use native.Mathlib.Omega.{arith}
 use lib.ListN.{length-set}
-use Rattle.record.proofs.WriterStores.{store2}
+use Rattle.base.specs.Stores.{store2}
 use borrow.Author.Needs.{needs}
 use Rattle.record.proofs.blocks.put16.Statement.{statement}
 use Rattle.record.proofs.blocks.put16.Tie as tie

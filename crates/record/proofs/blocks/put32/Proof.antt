@@ -1,6 +1,6 @@
 use native.Mathlib.Omega.{arith}
 use lib.ListN.{length-set}
-use Rattle.record.proofs.WriterStores.{store4}
+use Rattle.base.specs.Stores.{store4}
 use borrow.Author.Needs.{needs}
 use Rattle.record.proofs.blocks.put32.Statement.{statement}
 use Rattle.record.proofs.blocks.put32.Tie as tie

@@ -1,4 +1,4 @@
-use Rattle.record.proofs.WriterStores.{store1}
+use Rattle.base.specs.Stores.{store1}
 use borrow.Author.Needs.{needs}
 use Rattle.record.proofs.blocks.put8.Statement.{statement}
 use Rattle.record.proofs.blocks.put8.Tie as tie

@@ -1,6 +1,6 @@
 use native.Mathlib.Omega.{arith}
 use lib.ListN.{length-set}
-use Rattle.record.proofs.WriterStores.{store-frame}
+use Rattle.record.proofs.WriterBlocks.{store-frame}
 use borrow.Author.Needs.{needs}
 use Rattle.record.proofs.blocks.put_frame.Statement.{statement}
 use Rattle.record.proofs.blocks.put_frame.Tie as tie
