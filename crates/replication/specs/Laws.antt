@@ -3,3 +3,4 @@ pub mod Images
 pub mod Order
 pub mod Rows
 pub mod Greens
+pub mod Modes

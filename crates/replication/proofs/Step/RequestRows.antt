@@ -6,6 +6,7 @@ use mathlib.Core.List.{List, [], _∷_}
 use mathlib.Core.Logic.{_↔_}
 use mathlib.Core.Option.{Option, none, some}
 use lib.ListN.{length}
+use borrow.Author.Tests.{not-false}
 use Rattle.base.specs.Tests.{_or_, _<?_, pick, not-both, lt-no, lt-fails, not-holds, or-fails}
 use Rattle.format.specs.Limits.{mostHeld}
 use Rattle.format.specs.Types.{Record, action, retransmission, state, cpc, regular, transitional, request, recovery, Kind, says}
@@ -16,10 +17,6 @@ use Rattle.replication.specs.Machine.Requests.{sendsNow, quotaLeft, room
 use Rattle.replication.specs.Machine.Rules.{withinQuota, withinHeld}
 use Rattle.replication.specs.Laws.Rows.{kindIn, frameFits, recordNamed, recordOf, tested, row1, row2, row3, row4}
 
-not-true : (b : Bool) → not b ≡ false → b ≡ true
-not-true true h = refl
-not-true false h = not-both (sym h)
-
 module _ (s : Server) (e : List ℕ) where
   -- An event that rows 1 and 2 let pass reads as the record that its fields say.
   pub reads-as : (r : Record) → row1 s e ≡ false → row2 s e ≡ false → recordOf s e ≡ some r → read (contextOf s) e ≡ says r
@@ -29,10 +26,10 @@ module _ (s : Server) (e : List ℕ) where
       go : (x : Option Kind) → kindIn e ≡ x → readAs x (contextOf s) e ≡ says r
       go none h = let z : recordNamed none (s .servers) e ≡ some r = subst (λ x. recordNamed x (s .servers) e ≡ some r) h q in cc
       go (some k) h =
-          let f : frameOk k (s .servers) e ≡ true = not-true _ (subst (λ x. not (frameFits x (s .servers) e) ≡ false) h n1) in
+          let f : frameOk k (s .servers) e ≡ true = not-false _ (subst (λ x. not (frameFits x (s .servers) e) ≡ false) h n1) in
           let z : recordNamed (some k) (s .servers) e ≡ some r = subst (λ x. recordNamed x (s .servers) e ≡ some r) h q in
           let y : recordIn k (s .servers) e ≡ r = cc in
-          let g : recordOk (contextOf s) r ≡ true = not-true _ (subst (λ x. tested (λ w. not (recordOk (contextOf s) w)) x ≡ false) q n2) in
+          let g : recordOk (contextOf s) r ≡ true = not-false _ (subst (λ x. tested (λ w. not (recordOk (contextOf s) w)) x ≡ false) q n2) in
           rw (f, y, g)
 
   of-request : (f : Record → Bool) (X : Type 0) → ((p : List ℕ) → recordOf s e ≡ some (request p) → f (request p) ≡ true → X)
