@@ -11,3 +11,4 @@ pub mod Taken
 pub mod Votes
 pub mod Modes
 pub mod Attempt
+pub mod Folds

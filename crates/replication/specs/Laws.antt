@@ -4,3 +4,4 @@ pub mod Order
 pub mod Rows
 pub mod Greens
 pub mod Modes
+pub mod Folds
