@@ -9,3 +9,6 @@ pub mod RequestRows
 pub mod Greens
 pub mod Taken
 pub mod Votes
+pub mod Modes
+pub mod Attempt
+pub mod Folds

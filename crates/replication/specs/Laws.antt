@@ -3,3 +3,5 @@ pub mod Images
 pub mod Order
 pub mod Rows
 pub mod Greens
+pub mod Modes
+pub mod Folds

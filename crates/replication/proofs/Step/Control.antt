@@ -52,6 +52,14 @@ control-yellow a s = go (known (isNext (s .log) a))
     go (holds e) = record { last = rw (e, pick); attempt = rw (e, pick); mark = rw (e, pick); numbered = rw (e, pick) }
     go (fails e) = record { last = rw (e, pick); attempt = rw (e, pick); mark = rw (e, pick); numbered = rw (e, pick) }
 
+pub yellow-membership : (a : Action) (s : Server) → (yellow a s) .membership ≡ s .membership
+unfolding yellow pick
+yellow-membership a s = go (known (isNext (s .log) a))
+  where
+    go : Known (isNext (s .log) a) → (yellow a s) .membership ≡ s .membership
+    go (holds e) = rw (e, pick)
+    go (fails e) = rw (e, pick)
+
 pub unstored-keeps : {s : Server} {r : Record} {t : Server} {rs : List Record} → Transition s r t rs false → SameControl s t
 unfolding greenAndNote exchanged oneMore withState resending withCpc leave hold
 unstored-keeps {s} (L.ignoresState x e) = control-refl s

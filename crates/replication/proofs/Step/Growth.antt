@@ -29,7 +29,7 @@ pub grows-refl : (l : Log) → Grows l l
 grows-refl l = record { greens = begins-refl (l .green); cuts = λ c. omega arith; numbers = omega arith }
 
 pub grows-trans : {l m n : Log} → Grows l m → Grows m n → Grows l n
-grows-trans p q = record { greens = begins-trans (p .greens) (q .greens); cuts = λ c. omega (arith, p .cuts c, q .cuts c); numbers = omega (arith, p .numbers, q .numbers) }
+grows-trans p q = record { greens = begins-trans _ _ _ (p .greens) (q .greens); cuts = λ c. omega (arith, p .cuts c, q .cuts c); numbers = omega (arith, p .numbers, q .numbers) }
 
 grows-enter : (l : Log) (a : Action) (m : Log) → isNext m a ≡ true → Grows l m → Grows l (enter a m)
 unfolding enter cut
@@ -41,7 +41,7 @@ grows-enter l a m e p = record {
 
 grows-promote : (l : Log) (d : Id) (x : Action) (m : Log) → find d (m .red) ≡ some x → Grows l m → Grows l (promote x m)
 unfolding promote cut
-grows-promote l d x m e p = record { greens = begins-more (x ∷ []) (p .greens); cuts = p .cuts; numbers = p .numbers }
+grows-promote l d x m e p = record { greens = begins-more _ _ (x ∷ []) (p .greens); cuts = p .cuts; numbers = p .numbers }
 
 grows-own : (l : Log) (more : List Action) (k : ℕ) (m : Log) → Grows l m → Grows l (withOwn more k m)
 unfolding withOwn cut
@@ -60,7 +60,7 @@ pub green-gained : (s : Server) (e : List ℕ) (t : Server) (bs : List (List ℕ
 unfolding greened
 green-gained s e t bs b g h =
     let m = moved (taken-by s e t bs b g h) in
-    rw (m .1) (begins-gained (transition-grows (m .0) .greens))
+    rw (m .1) (begins-gained _ _ (transition-grows (m .0) .greens))
 
 -- ---- over a run
 

@@ -6,7 +6,8 @@ use mathlib.Core.List.{List, [], _∷_}
 use mathlib.Core.Logic.{_↔_}
 use mathlib.Core.Option.{Option, none, some}
 use lib.ListN.{length}
-use Rattle.base.specs.Tests.{_or_, _<?_, pick, not-both, lt-no, lt-fails, Known, holds, fails, known}
+use borrow.Author.Tests.{not-false}
+use Rattle.base.specs.Tests.{_or_, _<?_, pick, not-both, lt-no, lt-fails, not-holds, or-fails}
 use Rattle.format.specs.Limits.{mostHeld}
 use Rattle.format.specs.Types.{Record, action, retransmission, state, cpc, regular, transitional, request, recovery, Kind, says}
 use Rattle.format.specs.Range.{recordOk}
@@ -15,19 +16,6 @@ use Rattle.replication.specs.Machine.Types.{Server, contextOf}
 use Rattle.replication.specs.Machine.Requests.{sendsNow, quotaLeft, roomToHold}
 use Rattle.replication.specs.Machine.Rules.{withinQuota, withinHeld}
 use Rattle.replication.specs.Laws.Rows.{kindIn, frameFits, recordNamed, recordOf, tested, row1, row2, row3, row4}
-
-not-false : (b : Bool) → not b ≡ true → b ≡ false
-not-false true h = not-both h
-not-false false h = refl
-
-not-true : (b : Bool) → not b ≡ false → b ≡ true
-not-true true h = refl
-not-true false h = not-both (sym h)
-
-or-false : (a b : Bool) → (a or b) ≡ false → (a ≡ false) × (b ≡ false)
-unfolding _or_
-or-false true b h = not-both (sym h)
-or-false false b h = (refl, h)
 
 module _ (s : Server) (e : List ℕ) where
   -- An event that rows 1 and 2 let pass reads as the record that its fields say.
@@ -38,10 +26,10 @@ module _ (s : Server) (e : List ℕ) where
       go : (x : Option Kind) → kindIn e ≡ x → readAs x (contextOf s) e ≡ says r
       go none h = let z : recordNamed none (s .servers) e ≡ some r = subst (λ x. recordNamed x (s .servers) e ≡ some r) h q in cc
       go (some k) h =
-          let f : frameOk k (s .servers) e ≡ true = not-true _ (subst (λ x. not (frameFits x (s .servers) e) ≡ false) h n1) in
+          let f : frameOk k (s .servers) e ≡ true = not-false _ (subst (λ x. not (frameFits x (s .servers) e) ≡ false) h n1) in
           let z : recordNamed (some k) (s .servers) e ≡ some r = subst (λ x. recordNamed x (s .servers) e ≡ some r) h q in
           let y : recordIn k (s .servers) e ≡ r = cc in
-          let g : recordOk (contextOf s) r ≡ true = not-true _ (subst (λ x. tested (λ w. not (recordOk (contextOf s) w)) x ≡ false) q n2) in
+          let g : recordOk (contextOf s) r ≡ true = not-false _ (subst (λ x. tested (λ w. not (recordOk (contextOf s) w)) x ≡ false) q n2) in
           rw (f, y, g)
 
   of-request : (f : Record → Bool) (X : Type 0) → ((p : List ℕ) → recordOf s e ≡ some (request p) → f (request p) ≡ true → X)
@@ -81,7 +69,7 @@ module _ (s : Server) (e : List ℕ) where
   pub quota-row : (row3 s e ≡ true) ↔ ((p : List ℕ) × (recordOf s e ≡ some (request p)) × (s .quota ≤ s .log .numbered + length (s .held)))
   unfolding row3 withinQuota quotaLeft tested
   quota-row = (
-    λ h. of-request (λ r. not (withinQuota s r)) _ (λ p q f. (p, q, lt-fails _ _ (not-false _ f))) quota-request h,
+    λ h. of-request (λ r. not (withinQuota s r)) _ (λ p q f. (p, q, lt-fails _ _ (not-holds _ f))) quota-request h,
     λ x. rw (x .1, lt-no (s .log .numbered + length (s .held)) (s .quota) (x .2)),
   )
 
@@ -91,6 +79,6 @@ module _ (s : Server) (e : List ℕ) where
   unfolding row4 withinHeld roomToHold tested _or_
   held-row = (
     λ h. of-request (λ r. not (withinHeld s r)) _
-        (λ p q f. let x = or-false (sendsNow (s .membership)) _ (not-false _ f) in (p, q, x .0, lt-fails _ _ (x .1))) held-request h,
+        (λ p q f. let x = or-fails (sendsNow (s .membership)) _ (not-holds _ f) in (p, q, x .0, lt-fails _ _ (x .1))) held-request h,
     λ x. rw (x .1, x .2, lt-no (length (s .held)) mostHeld (x .3)),
   )
