@@ -81,8 +81,8 @@ module _ {n q : ℕ} {l : Run} (A : Allowed n q l) where
   refused-place p i k z e s h d c r m a (says (regular j u)) x =
       absurd
       (regular-taken s j u z d
-      (λ y. A .between p i (record { id = j; set = u }) (y .0) (record { bytes = e; sent = k; here = h; heard = x })
-      (sym (ap (λ w. w .regular) c) ∙ y .1) (sym (ap (λ w. w .transitional) c) ∙ y .2))
+      (λ y. A .between p i (record { id = j; set = u }) (y .configuration) (record { bytes = e; sent = k; here = h; heard = x })
+      (sym (ap (λ w. w .regular) c) ∙ y .there) (sym (ap (λ w. w .transitional) c) ∙ y .none-after))
       (answer-refused s e _ z a (m ∙ x)))
   refused-place p i k z e s h d c r m a (says (transitional u)) x =
       absurd

@@ -12,7 +12,7 @@ use Rattle.replication.specs.Machine.Step.{entering, decided, attempting
 use Rattle.replication.specs.Laws.Transitions as L
 use Rattle.replication.specs.Laws.Transitions.{Ends, Transition}
 use Rattle.replication.specs.Runs.Run.{Place, nowhere, moved}
-use Rattle.replication.proofs.Runs.Modes.{yellow-membership}
+use Rattle.replication.proofs.Step.Control.{yellow-membership}
 
 -- The configurations that a server has.
 abbrev pub placeOf : Server → Place

@@ -12,8 +12,9 @@ use Rattle.format.specs.Types.{Action, Record, regular, transitional, recovery}
 use Rattle.replication.specs.Machine.Types.{Mode, Non-prim, Reg-prim, Trans-prim, Exchange-states, Exchange-actions, Construct, No, Un, Configuration, Server, Outcome, refused, taken}
 use Rattle.replication.specs.Machine.Rules.{Rule, onRegular, onTransitional, ruleFor, regularDue, transitionalDue, possible, isIgnored, fromMember, withinQuota, withinHeld}
 use Rattle.replication.specs.Machine.Step.{apply, applyRule, answer}
+use Rattle.replication.specs.Laws.Modes.{InRegular}
 use Rattle.replication.proofs.Step.Moves.{Moves, rule-moves}
-use Rattle.replication.proofs.Runs.Modes.{Regular, Transitional, Stands, Standing}
+use Rattle.replication.proofs.Runs.Modes.{Stands, Standing}
 
 moves-no-refusal : (s : Server) (r : Record) (o : Outcome Record) (z : ℕ) → o ≡ refused z → Moves s r o → ⊥
 moves-no-refusal s r o z e m = subst (Moves s r) e m
@@ -43,7 +44,7 @@ pub recovery-taken : (s : Server) (z : ℕ) → answer s recovery ≡ refused z 
 unfolding ruleFor possible fromMember withinQuota withinHeld isIgnored _or_
 recovery-taken s z h = not-refused s recovery _ refl refl refl refl refl z h
 
-regular-ruled : (m : Mode) (c : Option Configuration) (t : Option ℕ) (d : Configuration) → (Regular c t → ⊥) → Stands m c t → (k : Rule) × (onRegular m d ≡ some k)
+regular-ruled : (m : Mode) (c : Option Configuration) (t : Option ℕ) (d : Configuration) → (InRegular c t → ⊥) → Stands m c t → (k : Rule) × (onRegular m d ≡ some k)
 unfolding onRegular
 regular-ruled Non-prim c t d f h = (_, refl)
 regular-ruled Reg-prim c t d f h = absurd (f h)
@@ -54,14 +55,14 @@ regular-ruled Construct c t d f h = absurd (f h)
 regular-ruled No c t d f h = (_, refl)
 regular-ruled Un c t d f h = (_, refl)
 
-due : (c : Option Configuration) (t : Option ℕ) → (Regular c t → ⊥) → (isThere t or not (isThere c)) ≡ true
+due : (c : Option Configuration) (t : Option ℕ) → (InRegular c t → ⊥) → (isThere t or not (isThere c)) ≡ true
 unfolding isThere _or_
 due none none f = refl
-due (some d) none f = absurd (f (d, refl, refl))
+due (some d) none f = absurd (f (record { configuration = d; there = refl; none-after = refl }))
 due c (some x) f = refl
 
 -- A regular configuration is taken unless the latest one is regular.
-pub regular-taken : (s : Server) (i x z : ℕ) → Standing s → (Regular (s .membership .configuration) (s .membership .transitional) → ⊥)
+pub regular-taken : (s : Server) (i x z : ℕ) → Standing s → (InRegular (s .membership .configuration) (s .membership .transitional) → ⊥)
     → answer s (regular i x) ≡ refused z → ⊥
 unfolding ruleFor possible regularDue fromMember withinQuota withinHeld
 regular-taken s i x z h f e =
@@ -72,12 +73,12 @@ transitional-ruled : (m : Mode) (c : Option Configuration) (t : Option ℕ) (x :
 unfolding onTransitional
 transitional-ruled Non-prim c t x f h = (_, refl)
 transitional-ruled Reg-prim c t x f h = (_, refl)
-transitional-ruled Trans-prim c t x f h = none-some (sym f ∙ h .3)
+transitional-ruled Trans-prim c t x f h = none-some (sym f ∙ h .after)
 transitional-ruled Exchange-states c t x f h = (_, refl)
 transitional-ruled Exchange-actions c t x f h = (_, refl)
 transitional-ruled Construct c t x f h = (_, refl)
-transitional-ruled No c t x f h = none-some (sym f ∙ h .3)
-transitional-ruled Un c t x f h = none-some (sym f ∙ h .3)
+transitional-ruled No c t x f h = none-some (sym f ∙ h .after)
+transitional-ruled Un c t x f h = none-some (sym f ∙ h .after)
 
 -- A transitional configuration is taken unless one has come.
 pub transitional-taken : (s : Server) (x z : ℕ) → Standing s → s .membership .transitional ≡ none → answer s (transitional x) ≡ refused z → ⊥
