@@ -12,3 +12,6 @@ pub mod Votes
 pub mod Modes
 pub mod Attempt
 pub mod Folds
+pub mod Reds
+pub mod Formed
+pub mod ModeColours
