@@ -13,3 +13,5 @@ pub mod PlaceMoves
 pub mod Readings
 pub mod Coupling
 pub mod AllowedTurns
+pub mod Sending
+pub mod Order
