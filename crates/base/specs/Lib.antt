@@ -8,6 +8,7 @@ pub mod Pigeonhole
 pub mod Sets
 pub mod Lists
 pub mod AtLaws
+pub mod Rising
 pub mod Text
 pub mod Prefixes
 pub mod Members

@@ -15,3 +15,5 @@ pub mod Coupling
 pub mod AllowedTurns
 pub mod Sending
 pub mod Order
+pub mod DeliveryLists
+pub mod Agreement

@@ -115,13 +115,14 @@ module _ {n q : ℕ} {l : Run} (A : Allowed n q l) where
       in
       (x .0, x .1, x .2, still-regular j (x .0) r c (delivered-where-sent A (x .1) t) g (omega (arith, x .2)))
 
-  -- What a server delivers in regular c, each member that leaves com(c) without going down has delivered by then.
-  pub left-delivered : {p i j : ℕ} {m : Message} {c : Configuration} → Delivery A p i m → placeAt n q l i p ≡ inRegularOf c → inSet j (c .set) ≡ true
-      → (x : Left n q l j c) → (v : ℕ) × Delivery A v j m × (x .p < v) × (v < x .r)
-  left-delivered {p} {i} {j} {m} {c} d e s x =
+  -- What a server delivers in regular c, each member that leaves com(c) without going down has delivered there by then.
+  pub left-delivered : {p i j : ℕ} {m : Message} {c : Configuration} → Delivery A p i m → placeAt n q l i p ≡ inRegularOf c
+      → (x : Left n q l j c) → (v : ℕ) × Delivery A v j m × (x .p < v) × (v < x .r) × (placeAt n q l j v .regular ≡ some c)
+  left-delivered {p} {i} {j} {m} {c} d e x =
       let f = ap (λ y. y .regular) e in
-      let g = A .safe p i j m c d f (ap (inSet j) (members-regular c _ e) ∙ s) x in
+      let g = A .safe p i j m c d f (ap (inSet j) (members-regular c _ e) ∙ taker-member (x .took)) x in
       let t = A .same-configuration p i m d in
       let u = subst (λ y. Sends n q l (t .0) m y) (some-same (sym (t .3) ∙ f)) (t .2) in
-      let h = delivered-before-leaving A (g .it) (delivered-where-sent A (g .it) u) x in
-      (g .place, g .it, h .0, h .1)
+      let w = delivered-where-sent A (g .it) u in
+      let h = delivered-before-leaving A (g .it) w x in
+      (g .place, g .it, h .0, h .1, w)
