@@ -17,3 +17,6 @@ pub mod Reds
 pub mod Formed
 pub mod ModeColours
 pub mod Sending
+pub mod Parts
+pub mod OwnActions
+pub mod Held

@@ -30,7 +30,7 @@ unfolding numbered made
 numbers s u ps m n = record { numbered = ap (λ x. x + length ps) n; before = u .log .own; own = ap (λ x. u .log .own ++ x) (same-made s u ps m n) }
 
 -- What sending the held requests at u puts out and numbers.
-held-made : (s u : Server) → u .me ≡ s .me → u .held ≡ s .held → u .log .numbered ≡ s .log .numbered → heldRecords u ≡ map action (made s (sendHeld u) (s .held))
+pub held-made : (s u : Server) → u .me ≡ s .me → u .held ≡ s .held → u .log .numbered ≡ s .log .numbered → heldRecords u ≡ map action (made s (sendHeld u) (s .held))
 unfolding heldRecords sendHeld numbered made
 held-made s u m h n = ap (map action) (same-made s u (u .held) m n ∙ ap (made s u) h)
 

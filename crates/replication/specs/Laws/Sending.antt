@@ -1,15 +1,17 @@
 -- What a taken event puts out, numbers and holds.
 -- Assumes nothing.
-use Prim.Native.Nat.{ℕ, _+_}
+use Prim.Native.Nat.{ℕ, _+_, _-_, _≤_, _<_}
 use mathlib.Core.Path.{_≡_}
 use mathlib.Core.Bool.{Bool, true, false}
-use mathlib.Core.List.{List, [], _∷_, _++_, map}
+use mathlib.Core.List.{List, [], _∷_, _++_, map, List·Memᴰ}
 use mathlib.Core.Option.{Option, none, some}
 use lib.ListN.{length}
 use Rattle.base.specs.Tests.{_=?_}
-use Rattle.format.specs.Types.{Action, State, Record, action, state, cpc, regular, request, recovery}
-use Rattle.replication.specs.Machine.Types.{Non-prim, Reg-prim, Exchange-states, Exchange-actions, Construct, Configuration, Server}
-use Rattle.replication.specs.Machine.Plan.{ownPart}
+use Rattle.base.specs.Lists.{at}
+use Rattle.format.specs.Types.{Action, State, Record, action, retransmission, state, cpc, regular, request, recovery}
+use Rattle.replication.specs.Machine.Types.{Non-prim, Reg-prim, Exchange-states, Exchange-actions, Construct, Log, Configuration, Server}
+use Rattle.replication.specs.Machine.Colours.{find}
+use Rattle.replication.specs.Machine.Plan.{missing, cutIn, greenIn, ownPart}
 use Rattle.replication.specs.Machine.Requests.{sendsNow, numberedFrom}
 use Rattle.replication.specs.Machine.Step.{ownState, hereId, collected, allStatesIn, plannedNow, withCpc, allCpcsIn}
 use Rattle.replication.specs.Laws.Order.{EndsExchange}
@@ -60,3 +62,18 @@ pub data HeldChange (s : Server) (r : Record) (t : Server) : List Record → Typ
 pub data RequestKept (s t : Server) (p : List ℕ) : List Record → Bool → Type 0 where
   sent : sendsNow (s .membership) ≡ true → t .held ≡ s .held → RequestKept s t p (map action (made s t (p ∷ []))) true
   held : sendsNow (s .membership) ≡ false → t .held ≡ s .held ++ (p ∷ []) → RequestKept s t p [] false
+
+-- An own action that t sends after s: its creator, its index above those that s has numbered and among those that t has, its green length; it is on
+-- the own list.
+pub record Own (s t : Server) (a : Action) : Type 0 where
+  pub creator : a .id .creator ≡ s .me
+  pub above : s .log .numbered < a .id .index
+  pub within : a .id .index ≤ t .log .numbered
+  pub green-length : a .greenLength ≡ length (t .log .green)
+  pub listed : List·Memᴰ a (t .log .own)
+
+-- A record of one's part of the plan: "positions from the shortest length + 1", or "for each creator .. from the lowest cut + 1 .., as red".
+pub data Resent (me : ℕ) (l : Log) (xs : List State) (r : Record) : Type 0 where
+  asGreen : (p : ℕ) (a : Action) → List·Memᴰ p (missing greenIn xs) → at (l .green) (p - 1) ≡ some a → r ≡ retransmission me p a → Resent me l xs r
+  asRed : (c i : ℕ) (a : Action) → List·Memᴰ i (missing (cutIn c) xs) → find (record { creator = c; index = i }) (l .green ++ l .red) ≡ some a
+      → r ≡ retransmission me 0 a → Resent me l xs r
