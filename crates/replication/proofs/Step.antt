@@ -1,6 +1,7 @@
 pub mod Inversion
 pub mod Moves
 pub mod Logs
+pub mod Numbered
 pub mod Growth
 pub mod Lifts
 pub mod Control
@@ -12,3 +13,10 @@ pub mod Votes
 pub mod Modes
 pub mod Attempt
 pub mod Folds
+pub mod Reds
+pub mod Formed
+pub mod ModeColours
+pub mod Sending
+pub mod Parts
+pub mod OwnActions
+pub mod Held
