@@ -1,5 +1,8 @@
 pub mod Tests
 pub mod Bytes
+pub mod BytesLaws
+pub mod Occurs
+pub mod Pigeonhole
 pub mod Sets
 pub mod Lists
 pub mod Text
