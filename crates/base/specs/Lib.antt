@@ -6,6 +6,7 @@ pub mod Pigeonhole
 pub mod Sets
 pub mod Lists
 pub mod ListLaws
+pub mod Counts
 pub mod SetLaws
 pub mod Text
 pub mod Opened

@@ -6,6 +6,7 @@ use mathlib.Core.Bool.{Bool, true, false}
 use mathlib.Core.List.{List, [], _∷_, _++_, map}
 use mathlib.Core.Option.{Option, none, some}
 use native.Mathlib.Omega.{arith}
+use native.Mathlib.Decide.{ℕ-discrete}
 use lib.ListN.{length, getD, set, length-append, length-map}
 use Rattle.base.specs.Tests.{_and_, pick, not-both, and-holds, both-yes, Known, holds, fails, known}
 use Rattle.base.specs.Lists.{all, any, filter, atFront, present, gather, gatherAll, after, above, below, at, sum}
@@ -89,6 +90,10 @@ module _ {A B : Type 0} where
   each-map P f [] h = tt
   each-map P f (x ∷ xs) h = (h .0, each-map P f xs (h .1))
 
+  pub map-each : (P : B → Type 0) (f : A → B) (xs : List A) → Each P (map f xs) → Each (λ x. P (f x)) xs
+  map-each P f [] h = tt
+  map-each P f (x ∷ xs) h = (h .0, map-each P f xs (h .1))
+
   pub each-gather : (P : A → Type 0) (Q : B → Type 0) (f : A → Option B) → ((x : A) (y : B) → P x → f x ≡ some y → Q y) → (xs : List A)
       → Each P xs → Each Q (gather f xs)
   unfolding gather
@@ -124,6 +129,16 @@ after-between k zero = tt
 after-between k (suc m) =
     (omega arith, each-implied (λ i. (k + 1 < i) × (i ≤ k + 1 + m)) (λ i. (k < i) × (i ≤ k + suc m)) (λ i h. omega arith) (after (k + 1) m) (after-between (k + 1) m))
 
+-- What holds of every number of a run holds of each number between.
+pub after-each : (P : ℕ → Type 0) (k m : ℕ) → Each P (after k m) → (i : ℕ) → k < i → i ≤ k + m → P i
+unfolding after
+after-each P k zero h i l b = absurd (omega arith)
+after-each P k (suc m) h i l b = go (ℕ-discrete i (k + 1)) (λ g. after-each P (k + 1) m (h .1) i g (omega arith))
+  where
+    go : Dec (i ≡ k + 1) → (k + 1 < i → P i) → P i
+    go (yes e) more = rw e (h .0)
+    go (no e) more = more (omega arith)
+
 pub after-add : (k m j : ℕ) → after k (m + j) ≡ after k m ++ after (k + m) j
 unfolding after
 after-add k zero j = let e : 0 + j ≡ j = omega arith in let f : k + 0 ≡ k = omega arith in rw (e, f)
@@ -140,6 +155,10 @@ pub above-between : (low high : ℕ) → Each (λ i. (low < i) × (i ≤ high)) 
 unfolding above
 above-between low high =
     each-implied (λ i. (low < i) × (i ≤ low + (high - low))) (λ i. (low < i) × (i ≤ high)) (λ i h. omega arith) (after low (high - low)) (after-between low (high - low))
+
+pub above-each : (P : ℕ → Type 0) (low high : ℕ) → Each P (above low high) → (i : ℕ) → low < i → i ≤ high → P i
+unfolding above
+above-each P low high h i l b = after-each P low (high - low) h i l (omega arith)
 
 -- With the next number at the front.
 pub above-next : (low high : ℕ) → low < high → above low high ≡ (low + 1) ∷ above (low + 1) high
