@@ -1,2 +1,5 @@
 pub mod Ids
 pub mod Ranges
+pub mod Parts
+pub mod Modes
+pub mod Facts

@@ -1,7 +1,7 @@
 -- Tests on ids and lists of ids, as facts of counts.
 -- Assumes nothing.
 use Prim.Native.Nat.{ℕ, zero, suc, _+_, _≤_, _<_}
-use mathlib.Core.Path.{_≡_, refl, sym, ap, _∙_}
+use mathlib.Core.Path.{_≡_, refl, sym, ap, _∙_, subst}
 use mathlib.Core.Bool.{Bool, true, false, not}
 use mathlib.Core.List.{List, [], _∷_, _++_, map}
 use native.Mathlib.Omega.{arith}
@@ -9,7 +9,7 @@ use lib.ListN.{length, getD}
 use Rattle.base.specs.Tests.{_and_, _or_, _=?_, not-both, not-holds, or-fails, and-holds, both-yes, and-no, eq-yes, eq-no, eq-holds, eq-fails, Known, holds, fails, known}
 use Rattle.base.specs.Lists.{after, above}
 use Rattle.base.specs.ListLaws.{Each, each-append, each-first, each-second, each-map, map-each, each-implied, above-between, above-each}
-use Rattle.base.specs.Counts.{one, count, one-yes, one-no}
+use Rattle.base.specs.Counts.{one, count, one-yes, one-no, counted-element}
 use Rattle.format.specs.Types.{Id, Context}
 use Rattle.format.specs.Range.{idOk, sameId, hasId, idsDiffer, idsInRange}
 use Rattle.replication.specs.Machine.Install.{idsUpTo}
@@ -64,6 +64,18 @@ counted-has d xs h = go (known (hasId d xs))
     go (holds e) = e
     go (fails e) = absurd (omega (arith, not-had-counted d xs e))
 
+pub each-counted : (xs : List Id) → Each (λ x. 1 ≤ idCount x xs) xs
+unfolding count
+each-counted [] = tt
+each-counted (x ∷ xs) =
+    (omega (arith, one-yes _ (same-id-yes x x refl refl)), each-implied (λ y. 1 ≤ idCount y xs) (λ y. 1 ≤ idCount y (x ∷ xs)) (λ y h. omega arith) xs (each-counted xs))
+
+-- A fact of every id of a list, of one that stands in it.
+pub counted-fact : (P : Id → Type 0) (d : Id) (xs : List Id) → Each P xs → 1 ≤ idCount d xs → P d
+counted-fact P d xs h l =
+    let x = counted-element (sameId d) P xs h l in
+    subst P (sym (same-id-holds d (x .0) (x .1))) (x .2)
+
 -- ---- ids that differ
 
 pub differ-once : (xs : List Id) → idsDiffer xs ≡ true → (d : Id) → idCount d xs ≤ 1
@@ -117,7 +129,7 @@ up-to-each P k [] f = tt
 up-to-each P k (x ∷ cuts) f =
     each-append P (map (λ i. record { creator = k; index = i }) (above 0 x)) (idsUpTo (k + 1) cuts)
     (each-map P (λ i. record { creator = k; index = i }) (above 0 x)
-      (each-implied (λ i. (0 < i) × (i ≤ x)) (λ i. P (record { creator = k; index = i })) here (above 0 x) (above-between 0 x)))
+    (each-implied (λ i. (0 < i) × (i ≤ x)) (λ i. P (record { creator = k; index = i })) here (above 0 x) (above-between 0 x)))
     (up-to-each P (k + 1) cuts (λ c i l m. let e : k + 1 + c ≡ k + suc c = omega arith in rw e (f (suc c) i l m)))
   where
     here : (i : ℕ) → (0 < i) × (i ≤ x) → P (record { creator = k; index = i })
@@ -130,7 +142,7 @@ each-up-to P k [] h c i l m = absurd (omega arith)
 each-up-to P k (x ∷ cuts) h zero i l m =
     let e : k + 0 ≡ k = omega arith in
     rw e (above-each (λ j. P (record { creator = k; index = j })) 0 x
-      (map-each P (λ j. record { creator = k; index = j }) (above 0 x) (each-first P (map (λ j. record { creator = k; index = j }) (above 0 x)) (idsUpTo (k + 1) cuts) h)) i l m)
+    (map-each P (λ j. record { creator = k; index = j }) (above 0 x) (each-first P (map (λ j. record { creator = k; index = j }) (above 0 x)) (idsUpTo (k + 1) cuts) h)) i l m)
 each-up-to P k (x ∷ cuts) h (suc c) i l m =
     let e : k + 1 + c ≡ k + suc c = omega arith in
     rw e at (each-up-to P (k + 1) cuts (each-second P (map (λ j. record { creator = k; index = j }) (above 0 x)) (idsUpTo (k + 1) cuts) h) c i l m)
