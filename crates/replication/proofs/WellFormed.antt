@@ -3,3 +3,5 @@ pub mod Ranges
 pub mod Parts
 pub mod Modes
 pub mod Facts
+pub mod Held
+pub mod Logs

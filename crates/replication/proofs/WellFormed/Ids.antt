@@ -22,6 +22,10 @@ pub same-id-yes : (d x : Id) → d .creator ≡ x .creator → d .index ≡ x .i
 unfolding sameId
 same-id-yes d x p e = both-yes _ _ (eq-yes _ _ p) (eq-yes _ _ e)
 
+pub same-id-no : (d x : Id) → (d .creator ≡ x .creator → ⊥) → sameId d x ≡ false
+unfolding sameId
+same-id-no d x n = sym (and-no _ _ (eq-no _ _ n))
+
 pub same-id-holds : (d x : Id) → sameId d x ≡ true → d ≡ x
 unfolding sameId
 same-id-holds d x h =
