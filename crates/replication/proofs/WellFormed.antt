@@ -5,3 +5,4 @@ pub mod Modes
 pub mod Facts
 pub mod Held
 pub mod Logs
+pub mod Numbering

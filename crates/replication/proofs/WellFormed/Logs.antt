@@ -45,7 +45,7 @@ beyond-none l f d h = go (heldCount d l) refl
     go (suc k) e = absurd (omega (arith, f .within d (omega arith)))
 
 -- The server's own action with the index i.
-abbrev ownId : ℕ → ℕ → Id
+abbrev pub ownId : ℕ → ℕ → Id
 ownId me i = record { creator = me; index = i }
 
 -- ---- entering
