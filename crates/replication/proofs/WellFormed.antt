@@ -6,3 +6,4 @@ pub mod Facts
 pub mod Held
 pub mod Logs
 pub mod Numbering
+pub mod Decisions
