@@ -7,3 +7,5 @@ pub mod Held
 pub mod Logs
 pub mod Numbering
 pub mod Decisions
+pub mod Changes
+pub mod RuleFacts
