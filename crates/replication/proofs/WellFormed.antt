@@ -9,3 +9,5 @@ pub mod Numbering
 pub mod Decisions
 pub mod Changes
 pub mod RuleFacts
+pub mod Effects
+pub mod Exchanges

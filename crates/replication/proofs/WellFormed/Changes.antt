@@ -1,16 +1,16 @@
 -- A change of one part of a state keeps row 8's clauses, apart from those on the eight states.
 -- Assumes nothing.
-use Prim.Native.Nat.{ℕ, _+_, _*_, _^_, _≤_, _<_}
+use Prim.Native.Nat.{ℕ, zero, suc, _+_, _*_, _^_, _≤_, _<_}
 use mathlib.Core.Path.{_≡_, refl, sym, ap, _∙_}
 use mathlib.Core.Bool.{Bool, true, false}
 use mathlib.Core.List.{List, [], _∷_, _++_}
-use mathlib.Core.Option.{Option, none, some}
+use mathlib.Core.Option.{Option, none, some, Option·none-ne-some}
 use native.Mathlib.Omega.{arith}
 use lib.ListN.{length, getD, length-replicate}
 use Rattle.base.specs.ListLaws.{Each, each-present}
 use Rattle.format.specs.Limits.{mostHeld, mostIndex}
 use Rattle.format.specs.Types.{State}
-use Rattle.replication.specs.Machine.Types.{Mode, Non-prim, Reg-prim, Trans-prim, Exchange-states, Exchange-actions, Construct, No, Un, Log, Votes, Configuration, Membership, Server, withLog, withVotes, withMembership, withHeld, withNoted, withMode, withCome, inMode}
+use Rattle.replication.specs.Machine.Types.{Mode, Non-prim, Reg-prim, Trans-prim, Exchange-states, Exchange-actions, Construct, No, Un, Log, Votes, Configuration, Membership, Server, withLog, withVotes, withMembership, withHeld, withNoted, withMode, withCome, inMode, noStates}
 use Rattle.replication.specs.Machine.Step.{collected, hereSet, theSet, hereId, theId}
 use Rattle.replication.specs.Machine.WellFormedRanges.{SizesFit, PayloadFits, StateFits, ConfigurationFits, VotesRanges, MembershipRanges}
 use Rattle.replication.specs.Machine.WellFormedFacts.{ModeFits, WellFormed}
@@ -57,6 +57,15 @@ whole s b m = record {
   quota-kept = b .quota-kept;
   mode = m;
 }
+
+none-at : (n k : ℕ) → getD (noStates n) k none ≡ none
+unfolding noStates
+none-at zero k = refl
+none-at (suc n) zero = refl
+none-at (suc n) (suc k) = none-at n k
+
+pub no-states : {X : Type 0} (n k : ℕ) (x : State) → getD (noStates n) k none ≡ some x → X
+no-states n k x e = absurd (Option·none-ne-some x (sym (none-at n k) ∙ e))
 
 -- ---- one part changed
 

@@ -138,6 +138,10 @@ red-fits n q me a l f fits own = go (entered? a l)
     go (entered next t e) = rw e (enter-fits n q me a l f fits next own)
     go (ignored t e) = rw e f
 
+pub enter-numbered : (a : Action) (l : Log) → (enter a l) .numbered ≡ l .numbered
+unfolding enter
+enter-numbered a l = refl
+
 pub red-numbered : (a : Action) (l : Log) → (red a l) .numbered ≡ l .numbered
 unfolding enter
 red-numbered a l = go (entered? a l)
