@@ -11,3 +11,8 @@ pub mod Changes
 pub mod RuleFacts
 pub mod Effects
 pub mod Exchanges
+pub mod Kept
+pub mod Actions
+pub mod Attempts
+pub mod Apply
+pub mod YellowTwice

@@ -64,10 +64,16 @@ module _ (n q : ℕ) where
   pub planned-bound : (xs : List State) → Each (StateFits n q) xs → planned n xs ≤ 2 * (n * q)
   unfolding planned
   planned-bound xs h =
-      omega (arith, missing-length greenIn xs, green-bound xs h, below-length n, length-map (below n) (λ c. length (missing (cutIn c) xs)),
+      omega (
+        arith,
+        missing-length greenIn xs,
+        green-bound xs h,
+        below-length n,
+        length-map (below n) (λ c. length (missing (cutIn c) xs)),
         ap (λ k. k * q) (length-map (below n) (λ c. length (missing (cutIn c) xs)) ∙ below-length n),
         sum-bound q (map (λ c. length (missing (cutIn c) xs)) (below n))
-        (each-map (λ k. k ≤ q) (λ c. length (missing (cutIn c) xs)) (below n) (each-always (λ c. length (missing (cutIn c) xs) ≤ q) each (below n))))
+            (each-map (λ k. k ≤ q) (λ c. length (missing (cutIn c) xs)) (below n) (each-always (λ c. length (missing (cutIn c) xs) ≤ q) each (below n))),
+      )
     where
       each : (c : ℕ) → length (missing (cutIn c) xs) ≤ q
       each c = omega (arith, missing-length (cutIn c) xs, cut-bound c xs h)

@@ -27,7 +27,7 @@ use Rattle.replication.specs.Machine.Rules.{memberOf, isOf}
 use Rattle.replication.specs.Machine.Step.{entering, unmarked, yellowValid, hereSet, collected, decided, attempting, withState, plannedNow, placed, oneMore, exchanged, withCpc, leave, greenAndNote}
 use Rattle.replication.specs.Machine.WellFormed.{idsIn}
 use Rattle.replication.specs.Machine.WellFormedRanges.{idCount, IdFits, PayloadFits, ActionFits, YellowFits, StateFits, ConfigurationFits, TransitionalFits, VotesRanges, CollectedFits, MembershipRanges}
-use Rattle.replication.specs.Machine.WellFormedFacts.{OwnListFits}
+use Rattle.replication.specs.Machine.WellFormedFacts.{YellowWithinCuts}
 use Rattle.replication.proofs.WellFormed.Ids.{SameId, same, other, same-id?, counted-fact}
 use Rattle.replication.proofs.WellFormed.Held.{Entered, entered, ignored, entered?}
 use Rattle.replication.proofs.WellFormed.Logs.{LogFits, Numbered, ownId, enter-fits, enter-numbered, red-fits, red-numbered, reds-fits, reds-numbered, green-fits, install-log-fits}
@@ -66,6 +66,16 @@ join-yellow-fits n q d v f fits new = record {
 
 -- ---- actions
 
+-- Yellow, by cases.
+pub yellow-as : (P : Server → Type 0) (a : Action) (s : Server)
+    → (a .id .index ≡ cut (s .log) (a .id .creator) + 1 → P (withVotes (joinYellow (a .id) (s .votes)) (withLog (enter a (s .log)) s))) → P s → P (yellow a s)
+unfolding yellow pick
+yellow-as P a s h k = go (entered? a (s .log))
+  where
+    go : Entered a (s .log) → P (yellow a s)
+    go (entered next t e) = rw t (h next)
+    go (ignored t e) = rw t k
+
 module _ (s : Server) (b : Body s) (a : Action) (d : Delivered s a) where
   pub red-body : Body (withLog (red a (s .log)) s)
   red-body = log-changed-alike s b (red a (s .log)) (red-fits (s .servers) (s .quota) (s .me) a (s .log) (b .log) (d .fits) (d .own)) (red-numbered a (s .log))
@@ -79,24 +89,19 @@ module _ (s : Server) (b : Body s) (a : Action) (d : Delivered s a) where
       (note-length (a .id .creator) (a .greenLength) (s .noted))
       (note-bound (s .servers * s .quota) (a .id .creator) (a .greenLength) (s .noted) (b .noted) (d .fits .greenLength))
 
-  -- Every yellow id is of an entered action.
-  pub yellow-body : Each (λ x. x .index ≤ cut (s .log) (x .creator)) (s .votes .yellow .ids) → Body (yellow a s)
-  unfolding yellow pick
-  yellow-body w = go (entered? a (s .log))
+  -- An action that is entered, with its id joined to the yellow list, whose ids are of entered actions.
+  pub joined-body : YellowWithinCuts s → a .id .index ≡ cut (s .log) (a .id .creator) + 1
+      → Body (withVotes (joinYellow (a .id) (s .votes)) (withLog (enter a (s .log)) s))
+  joined-body w next =
+      votes-changed (withLog (enter a (s .log)) s)
+      (log-changed-alike s b (enter a (s .log)) (enter-fits (s .servers) (s .quota) (s .me) a (s .log) (b .log) (d .fits) next (d .own)) (enter-numbered a (s .log)))
+      (joinYellow (a .id) (s .votes))
+      (join-yellow-fits (s .servers) (s .quota) (a .id) (s .votes) (b .votes) (d .fits .id) (new (idCount (a .id) (s .votes .yellow .ids)) refl))
     where
-      new : a .id .index ≡ cut (s .log) (a .id .creator) + 1 → (k : ℕ) → idCount (a .id) (s .votes .yellow .ids) ≡ k → k ≡ 0
-      new next zero e = refl
-      new next (suc k) e =
+      new : (k : ℕ) → idCount (a .id) (s .votes .yellow .ids) ≡ k → k ≡ 0
+      new zero e = refl
+      new (suc k) e =
           absurd (omega (arith, counted-fact (λ x. x .index ≤ cut (s .log) (x .creator)) (a .id) (s .votes .yellow .ids) w (omega arith)))
-
-      go : Entered a (s .log) → Body (yellow a s)
-      go (entered next t e) =
-          rw t
-          (votes-changed (withLog (enter a (s .log)) s)
-            (log-changed-alike s b (enter a (s .log)) (enter-fits (s .servers) (s .quota) (s .me) a (s .log) (b .log) (d .fits) next (d .own)) (enter-numbered a (s .log)))
-            (joinYellow (a .id) (s .votes))
-            (join-yellow-fits (s .servers) (s .quota) (a .id) (s .votes) (b .votes) (d .fits .id) (new next (idCount (a .id) (s .votes .yellow .ids)) refl)))
-      go (ignored t e) = rw t b
 
   pub exchanged-body : (p : ℕ) → s .membership .come < plannedNow s → Body (exchanged p a s)
   unfolding exchanged oneMore plannedNow
@@ -114,7 +119,7 @@ module _ (s : Server) (b : Body s) where
   install-body h =
       votes-changed (withLog (installLog (s .votes .yellow .ids) (s .log)) s)
       (log-changed-alike s b (installLog (s .votes .yellow .ids) (s .log)) (install-log-fits (s .servers) (s .quota) (s .me) (s .votes .yellow .ids) (s .log) (b .log))
-        (install-log-numbered (s .votes .yellow .ids) (s .log)))
+      (install-log-numbered (s .votes .yellow .ids) (s .log)))
       (installVotes (s .votes)) (install-votes-fits (s .servers) (s .quota) (s .votes) (b .votes) h)
 
   pub send-held-body : Body (sendHeld s)
@@ -142,10 +147,10 @@ module _ (s : Server) (b : Body s) where
   recovered-body =
       membership-changed (withHeld [] (withLog (reds (s .log .own) (s .log)) s))
       (held-changed (withLog (reds (s .log .own) (s .log)) s)
-        (log-changed-alike s b (reds (s .log .own) (s .log))
-          (reds-fits (s .servers) (s .quota) (s .me) (s .log .own) (s .log) (b .log) (b .log .ranges .own) own-numbered)
-          (reds-numbered (s .log .own) (s .log)))
-        [] (omega arith) tt (omega (arith, reds-numbered (s .log .own) (s .log), b .quota-kept)))
+      (log-changed-alike s b (reds (s .log .own) (s .log))
+      (reds-fits (s .servers) (s .quota) (s .me) (s .log .own) (s .log) (b .log) (b .log .ranges .own) own-numbered)
+      (reds-numbered (s .log .own) (s .log)))
+      [] (omega arith) tt (omega (arith, reds-numbered (s .log .own) (s .log), b .quota-kept)))
       (record { mode = Non-prim; configuration = none; transitional = none; states = noStates (s .servers); cpcs = s .membership .cpcs; come = s .membership .come })
       (record {
         configuration = λ d e. absurd (Option·none-ne-some d e);
@@ -160,8 +165,8 @@ module _ (s : Server) (b : Body s) where
       own-ids =
           rw (b .log .own-list .ids)
           (each-map (λ x. x .index ≤ s .log .numbered) (ownId (s .me)) (above (cut (s .log) (s .me)) (s .log .numbered))
-            (each-implied (λ i. (cut (s .log) (s .me) < i) × (i ≤ s .log .numbered)) (λ i. i ≤ s .log .numbered) (λ i h. h .1)
-              (above (cut (s .log) (s .me)) (s .log .numbered)) (above-between (cut (s .log) (s .me)) (s .log .numbered))))
+          (each-implied (λ i. (cut (s .log) (s .me) < i) × (i ≤ s .log .numbered)) (λ i. i ≤ s .log .numbered) (λ i h. h .1)
+          (above (cut (s .log) (s .me)) (s .log .numbered)) (above-between (cut (s .log) (s .me)) (s .log .numbered))))
 
       own-numbered : Each (Numbered (s .me) (s .log .numbered)) (s .log .own)
       own-numbered =

@@ -81,7 +81,7 @@ module _ (s : Server) (b : Body s) where
           go : Dec (k ≡ x .sender) → CollectedFits (s .servers) (s .quota) (s .membership .configuration) k y
           go (yes p) =
               let there : getD (set (s .membership .states) (x .sender) (some x)) (x .sender) none ≡ some x =
-                  getD-set-same (s .membership .states) (x .sender) (some x) none (omega (arith, c .fits .sender, b .membership .states-length)) in
+              getD-set-same (s .membership .states) (x .sender) (some x) none (omega (arith, c .fits .sender, b .membership .states-length)) in
               let same : x ≡ y = Option·some-injective x y (sym there ∙ (rw p at e)) in
               subst (CollectedFits (s .servers) (s .quota) (s .membership .configuration) k) same
               (record { fits = c .fits; sender = sym p; member = rw p (c .member); configuration = c .configuration })

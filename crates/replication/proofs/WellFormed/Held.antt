@@ -125,5 +125,12 @@ greened? d l = go (found? d (l .red))
       where
         kept : (k : Id) → heldCount k (promote x l) ≡ heldCount k l
         kept k =
-            omega (arith, held-parts k (promote x l), held-parts k l, h k, ap (λ b. actionCount k (remove b (l .red))) f,
-              count-append (λ b. sameId k (b .id)) (l .green) (x ∷ []), count-single (λ b. sameId k (b .id)) x)
+            omega (
+              arith,
+              held-parts k (promote x l),
+              held-parts k l,
+              h k,
+              ap (λ b. actionCount k (remove b (l .red))) f,
+              count-append (λ b. sameId k (b .id)) (l .green) (x ∷ []),
+              count-single (λ b. sameId k (b .id)) x,
+            )

@@ -111,7 +111,7 @@ module _ (n q me : ℕ) (a : Action) (l : Log) (f : LogFits n q me l) (fits : Ac
       others c =
           rw (f .own-list .ids)
           (each-map (λ x. sameId (a .id) x ≡ false) (ownId me) (above (cut l me) (l .numbered))
-            (each-always (λ i. sameId (a .id) (ownId me i) ≡ false) (λ i. same-id-no (a .id) (ownId me i) (λ e. c (sym e))) (above (cut l me) (l .numbered))))
+          (each-always (λ i. sameId (a .id) (ownId me i) ≡ false) (λ i. same-id-no (a .id) (ownId me i) (λ e. c (sym e))) (above (cut l me) (l .numbered))))
 
       go : CutAfter a l me → OwnListFits me (enter a l)
       go (risen c k) = record {

@@ -104,10 +104,14 @@ placed-numbered p a l = placed-as (λ m. m .numbered ≡ l .numbered) p a l (gre
 pub queue-short : (n q me : ℕ) (l : Log) → LogFits n q me l → length (l .green) + length (l .red) ≤ n * q
 unfolding idsIn queue
 queue-short n q me l f =
-    omega (arith, length-append (l .green) (l .red), length-map (l .green ++ l .red) (λ a. a .id),
+    omega (
+      arith,
+      length-append (l .green) (l .red),
+      length-map (l .green ++ l .red) (λ a. a .id),
       ids-count context (idsIn (queue l))
-      (ids-ok context (idsIn (queue l)) (each-map (IdFits n q) (λ a. a .id) (queue l) (each-implied (ActionFits n q) (λ a. IdFits n q (a .id)) (λ a h. h .id) (queue l) every)))
-      (once-differ (idsIn (queue l)) (f .once)))
+          (ids-ok context (idsIn (queue l)) (each-map (IdFits n q) (λ a. a .id) (queue l) (each-implied (ActionFits n q) (λ a. IdFits n q (a .id)) (λ a h. h .id) (queue l) every)))
+          (once-differ (idsIn (queue l)) (f .once)),
+    )
   where
     context : Context
     context = record { servers = n; quota = q; self = me; last = none }
@@ -126,9 +130,10 @@ pub numbered-each : (n q me g k : ℕ) (ps : List (List ℕ)) → me < n → g �
     → Each (ActionFits n q) (numberedFrom me g k ps)
 unfolding numberedFrom
 numbered-each n q me g k [] own short room fits = tt
-numbered-each n q me g k (p ∷ ps) own short room fits =
-    (record { id = record { creator = own; least = omega arith; most = omega arith }; greenLength = short; payload = fits .0 },
-      numbered-each n q me g (k + 1) ps own short (omega arith) (fits .1))
+numbered-each n q me g k (p ∷ ps) own short room fits = (
+  record { id = record { creator = own; least = omega arith; most = omega arith }; greenLength = short; payload = fits .0 },
+  numbered-each n q me g (k + 1) ps own short (omega arith) (fits .1),
+)
 
 -- The log with these payloads numbered and put on the own list.
 abbrev pub numberedLog : ℕ → List (List ℕ) → Log → Log
@@ -164,4 +169,4 @@ numbering-fits n q me ps l own f room fits = record {
     ids =
         map-append (λ a. a .id) (l .own) made
         ∙ (rw (f .own-list .ids, numbered-ids me (length (l .green)) (l .numbered) ps, above-more (cut l me) (l .numbered) (length ps) (f .own-list .numbered))
-          (sym (map-append (ownId me) (above (cut l me) (l .numbered)) (after (l .numbered) (length ps)))))
+        (sym (map-append (ownId me) (above (cut l me) (l .numbered)) (after (l .numbered) (length ps)))))
