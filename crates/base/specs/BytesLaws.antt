@@ -1,14 +1,16 @@
 -- Laws of the numbers in bytes, over every width.
 -- Assumes nothing.
-use Prim.Native.Nat.{ℕ, zero, suc, _+_, _*_, _-_, _/_, _%_, _^_, _≤_, _<_}
+use Prim.Native.Nat.{ℕ, zero, suc, _+_, _*_, _/_, _%_, _^_, _≤_, _<_}
 use mathlib.Core.Path.{_≡_, refl, sym, ap, ap₂, _∙_}
-use mathlib.Core.Bool.{Bool, true, false}
-use mathlib.Core.List.{List, [], _∷_, _++_, append-assoc, append-nil}
+use mathlib.Core.Bool.{true}
+use mathlib.Core.List.{List, [], _∷_, _++_, append-assoc}
 use native.Mathlib.Nat.{add-assoc, add-zero, zero-add, suc-mul, pow-suc, div-lt-iff-lt-mul, mul-le-mul-right}
 use native.Mathlib.Omega.{arith}
-use lib.ListN.{length, getD, take, drop, length-append, length-take, length-drop, List·getD-append, List·getD-eq-default}
+use lib.ListN.{length, getD, take, drop, length-append, length-take, length-drop, List·getD-append}
 use lib.Seq.{drop-at, drop-drop, take-add, take-append-seam, getD-append-add, getD-at, getD-take, getD-drop, take-suc, drop-append-add}
-use Rattle.base.specs.Tests.{_and_, _<?_, lt-holds, lt-yes, and-holds, both-yes}
+use mir.Syntax.{w8}
+use mir.Val.{Fits}
+use Rattle.base.specs.Tests.{_<?_, lt-holds, lt-yes, and-holds, both-yes}
 use Rattle.base.specs.Bytes.{Bytes, areBytes, bytesOf, numberAt, numbersAt, partAt, joined}
 
 -- ---- length
@@ -135,6 +137,10 @@ unfolding areBytes
 bytes-are [] h = refl
 bytes-are (b ∷ e) h = both-yes (b <? 256) (areBytes e) (lt-yes b 256 (h 0)) (bytes-are e (λ i. h (suc i)))
 
+-- What the checker gives of a slice of the code.
+pub given-bytes : (e : List ℕ) → ((i : ℕ) → Fits w8 (getD e i 0)) → Bytes e
+given-bytes e h i = omega (arith, h i)
+
 pub bytes-nil : Bytes []
 bytes-nil i = omega arith
 
@@ -145,6 +151,16 @@ bytes-cons b e h k (suc i) = k i
 pub bytes-append : (x y : List ℕ) → Bytes x → Bytes y → Bytes (x ++ y)
 bytes-append [] y h k = k
 bytes-append (b ∷ x) y h k = bytes-cons b (x ++ y) (h 0) (bytes-append x y (λ i. h (suc i)) k)
+
+-- Each part is bytes.
+abbrev pub BytesEach : List (List ℕ) → Type 0
+BytesEach [] = Unit {0}
+BytesEach (x ∷ xs) = Bytes x × BytesEach xs
+
+pub bytes-joined : (xs : List (List ℕ)) → BytesEach xs → Bytes (joined xs)
+unfolding joined
+bytes-joined [] h = bytes-nil
+bytes-joined (x ∷ xs) h = bytes-append x (joined xs) (h .0) (bytes-joined xs (h .1))
 
 pub bytes-small : (w v : ℕ) → Bytes (bytesOf w v)
 unfolding bytesOf
@@ -163,6 +179,9 @@ bytes-drop m e h i = rw getD-drop (h (m + i))
 pub bytes-part : (m : ℕ) (e : List ℕ) (at : ℕ) → Bytes e → Bytes (partAt m e at)
 unfolding partAt
 bytes-part m e at h = bytes-take m (drop at e) (bytes-drop at e h)
+
+pub part-are-bytes : (m : ℕ) (e : List ℕ) (at : ℕ) → Bytes e → areBytes (partAt m e at) ≡ true
+part-are-bytes m e at h = bytes-are (partAt m e at) (bytes-part m e at h)
 
 -- ---- at the widths that the code has
 

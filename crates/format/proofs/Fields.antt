@@ -1,6 +1,6 @@
 -- The parts of a record, read where their bytes occur.
 -- Assumes nothing.
-use Prim.Native.Nat.{ℕ, zero, suc, _+_, _*_, _^_, _≤_, _<_}
+use Prim.Native.Nat.{ℕ, _+_, _*_, _≤_}
 use mathlib.Core.Path.{_≡_, refl, sym, ap, ap₂, _∙_}
 use mathlib.Core.Bool.{true}
 use mathlib.Core.List.{List, [], _∷_}
@@ -8,15 +8,15 @@ use native.Mathlib.Nat.{mul-le-mul}
 use native.Mathlib.Omega.{arith}
 use lib.ListN.{length}
 use Rattle.base.specs.Tests.{and-holds, le-holds}
-use Rattle.base.specs.Bytes.{bytesOf, numberAt, numbersAt, partAt, joined}
+use Rattle.base.specs.Bytes.{bytesOf, numberAt, numbersAt, partAt}
 use Rattle.base.specs.BytesLaws.{bytes-length}
-use Rattle.base.specs.Occurs.{Occurs, Parts, joined-parts, occurs-at, number-read}
-use Rattle.format.specs.Limits.{mostServers, mostQuota, mostPayload, mostIndex}
+use Rattle.base.specs.Occurs.{Occurs, joined-parts, occurs-at, number-read}
+use Rattle.format.specs.Limits.{mostServers, mostQuota}
 use Rattle.format.specs.Types.{Id, Action, Primary, Mark, Yellow, State, Context}
 use Rattle.format.specs.Range.{cutsOk, idsInRange}
 use Rattle.format.specs.Write.{payloadBytes, idBytes, actionBytes, cutsBytes, primaryBytes, markBytes, idsBytes, yellowBytes, stateBytes}
 use Rattle.format.specs.Read.{payloadAt, idAt, actionAt, primaryAt, markAt, idsAt, yellowAt, stateAt}
-use Rattle.format.proofs.Ranges.{SizesRange, ContextRange, IdRange, id-range, PayloadRange, ActionRange, PrimaryRange, MarkRange, YellowRange, StateRange}
+use Rattle.format.proofs.Ranges.{ContextRange, IdRange, id-range, PayloadRange, ActionRange, PrimaryRange, MarkRange, YellowRange, StateRange}
 use Rattle.format.proofs.IdCount.{ids-count}
 use Rattle.format.proofs.Lengths.{id-length, primary-length, mark-length, cuts-length}
 

@@ -1,12 +1,12 @@
 -- A record's frame: length, version, kind, and the body behind them.
 -- Assumes nothing.
-use Prim.Native.Nat.{ℕ, _+_, _≤_, _<_}
-use mathlib.Core.Path.{_≡_, refl, sym, ap, subst, _∙_}
-use mathlib.Core.List.{List, [], _∷_}
+use Prim.Native.Nat.{ℕ, _+_, _<_}
+use mathlib.Core.Path.{_≡_, refl, subst, _∙_}
+use mathlib.Core.List.{List}
 use native.Mathlib.Omega.{arith}
 use lib.ListN.{length}
-use Rattle.base.specs.Bytes.{Bytes, bytesOf, numberAt, joined}
-use Rattle.base.specs.Occurs.{Occurs, Parts, joined-parts, parts-joined, occurs-whole, occurs-all, number-read, number-occurs}
+use Rattle.base.specs.Bytes.{Bytes, bytesOf, numberAt}
+use Rattle.base.specs.Occurs.{Occurs, joined-parts, parts-joined, occurs-whole, occurs-all, number-read, number-occurs}
 use Rattle.format.specs.Limits.{version}
 use Rattle.format.specs.Write.{framed}
 use Rattle.format.proofs.Lengths.{framed-length}

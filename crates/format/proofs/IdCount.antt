@@ -9,7 +9,7 @@ use lib.ListN.{length, getD}
 use Rattle.base.specs.Tests.{not-both, and-holds, both-yes, not-holds, or-fails, eq-yes}
 use Rattle.base.specs.Pigeonhole.{pigeonhole, pair-below, pair-first, pair-second}
 use Rattle.format.specs.Types.{Id, Context}
-use Rattle.format.specs.Range.{idOk, sameId, hasId, idsDiffer, idsInRange}
+use Rattle.format.specs.Range.{sameId, hasId, idsDiffer, idsInRange}
 use Rattle.format.proofs.Ranges.{IdRange, id-range}
 
 -- what `getD` gives past a list's end

@@ -3,15 +3,14 @@
 use Prim.Native.Nat.{ℕ, _+_, _*_, _≤_}
 use mathlib.Core.Path.{_≡_, refl, _∙_}
 use mathlib.Core.Bool.{true}
-use mathlib.Core.List.{List, [], _∷_, _++_}
+use mathlib.Core.List.{List, [], _∷_}
 use native.Mathlib.Omega.{arith}
 use native.Mathlib.Nat.{mul-le-mul}
 use lib.ListN.{length, length-append}
 use Rattle.base.specs.Tests.{and-holds}
 use Rattle.base.specs.Bytes.{bytesOf, joined}
-use Rattle.base.specs.BytesLaws.{bytes-length}
-use Rattle.format.specs.Limits.{mostServers, mostQuota, version}
-use Rattle.format.specs.Types.{Id, Action, Primary, Mark, Yellow, State, Record, action, retransmission, state, cpc, regular, transitional, request, recovery, kindNumber, kindOf, Context}
+use Rattle.format.specs.Limits.{mostServers, mostQuota}
+use Rattle.format.specs.Types.{Id, Action, Primary, Mark, State, Record, action, retransmission, state, cpc, regular, transitional, request, recovery, kindNumber, kindOf, Context}
 use Rattle.format.specs.Range.{fieldsOk, recordOk}
 use Rattle.format.specs.Write.{framed, payloadBytes, idBytes, actionBytes, cutsBytes, primaryBytes, markBytes, idsBytes, yellowBytes, stateBytes, bodyOf, write, lengthOf}
 use Rattle.format.proofs.Ranges.{ContextRange, context-range, payload-range, action-range, state-range}

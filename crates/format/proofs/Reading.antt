@@ -1,13 +1,13 @@
 -- What it says that bytes are read as a record, or refused.
 -- Assumes nothing.
-use Prim.Native.Nat.{ℕ, _+_, _≤_, _<_}
-use mathlib.Core.Path.{_≡_, refl, sym, ap, subst, _∙_}
+use Prim.Native.Nat.{ℕ}
+use mathlib.Core.Path.{_≡_, refl, sym, ap, _∙_}
 use mathlib.Core.Bool.{Bool, true, false}
 use mathlib.Core.List.{List}
 use mathlib.Core.Logic.{_⊎_, inl, inr}
 use mathlib.Core.Option.{Option, none, some}
 use native.Mathlib.Omega.{arith}
-use Rattle.base.specs.Tests.{_=?_, pick, pick-yes, eq-holds, Known, holds, fails, known}
+use Rattle.base.specs.Tests.{_=?_, pick, pick-yes, eq-holds}
 use Rattle.base.specs.Bytes.{numberAt}
 use Rattle.format.specs.Types.{Record, Kind, ofAction, ofRetransmission, ofState, ofCpc, ofRegular, ofTransitional, ofRequest, ofRecovery, kindNumber, kindOf, Context, Reading, says, refused}
 use Rattle.format.specs.Range.{recordOk}

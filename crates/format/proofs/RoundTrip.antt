@@ -1,31 +1,29 @@
 -- The two laws of the record format: what is written is read back, and what is read is written back.
 -- Assumes nothing.
 use Prim.Native.Nat.{ℕ, _+_, _*_, _≤_, _<_}
-use mathlib.Core.Path.{_≡_, refl, sym, ap, ap₂, subst, _∙_}
+use mathlib.Core.Path.{_≡_, refl, sym, ap, _∙_}
 use mathlib.Core.Bool.{true}
-use mathlib.Core.List.{List, [], _∷_}
-use mathlib.Core.Option.{some}
+use mathlib.Core.List.{List}
 use native.Mathlib.Omega.{arith}
 use lib.ListN.{length}
 use Rattle.base.specs.Tests.{and-holds, both-yes, eq-yes, eq-holds, lt-holds}
-use Rattle.base.specs.Bytes.{Bytes, bytesOf, numberAt, partAt, joined}
+use Rattle.base.specs.Bytes.{Bytes, bytesOf, numberAt}
 use Rattle.base.specs.BytesLaws.{part-length, numbers-length}
-use Rattle.base.specs.Occurs.{Occurs, Parts, joined-parts, parts-joined, occurs-nil, occurs-at, number-read, number-occurs}
-use Rattle.format.specs.Limits.{version, mostServers}
-use Rattle.format.specs.Types.{State, Record, action, retransmission, state, cpc, regular, transitional, request, recovery, Kind, ofAction, ofRetransmission, ofState, ofCpc, ofRegular, ofTransitional, ofRequest, ofRecovery, kindNumber, kindOf, Context, Reading, says, refused}
+use Rattle.base.specs.Occurs.{Occurs, joined-parts, parts-joined, occurs-nil, number-read, number-occurs}
+use Rattle.format.specs.Types.{Record, action, retransmission, state, cpc, regular, transitional, request, recovery, Kind, ofAction, ofRetransmission, ofState, ofCpc, ofRegular, ofTransitional, ofRequest, ofRecovery, kindNumber, kindOf, Context, says}
 use Rattle.format.specs.Range.{fieldsOk, recordOk, ownSetOk}
-use Rattle.format.specs.Write.{framed, bodyOf, write, lengthOf}
-use Rattle.format.specs.Read.{payloadAt, actionAt, stateAt, idsAt, yellowAt, kindNamed, lengthFor, frameOk, recordIn, read}
+use Rattle.format.specs.Write.{bodyOf, write, lengthOf}
+use Rattle.format.specs.Read.{payloadAt, actionAt, stateAt, yellowAt, kindNamed, lengthFor, frameOk, recordIn, read}
 use Rattle.format.proofs.Ranges.{ContextRange, context-range, length-range, set-range, configuration-range, payload-range, action-range, state-range}
 use Rattle.format.proofs.Lengths.{framed-length, body-length, write-length, write-short}
 use Rattle.format.proofs.Fields.{payload-read, action-read, state-read}
 use Rattle.format.proofs.Writing.{payload-written, action-written, state-written, ids-number}
-use Rattle.format.proofs.Frame.{Frame, frame-read, frame-written}
-use Rattle.format.proofs.Reading.{kind-named, kind-number, record-kind, Read, read-says, says-read}
+use Rattle.format.proofs.Frame.{frame-read, frame-written}
+use Rattle.format.proofs.Reading.{kind-named, kind-number, record-kind, read-says, says-read}
 
 -- ---- written, then read
 
--- The body of a record, wherever it occurs behind a frame, is read as the record, and its length is that of the record.
+-- e, with the body of r behind its frame, is read as r, and its length is tested for that of r.
 record Back (c : Context) (e : List ℕ) (r : Record) : Type 0 where
   long : lengthFor (kindOf r) (c .servers) e ≡ lengthOf r
   same : recordIn (kindOf r) (c .servers) e ≡ r
@@ -98,7 +96,7 @@ read-written c r ok =
 
 -- ---- read, then written
 
--- The record that is read of e, written again: its body occurs behind the frame, and its length is that of e.
+-- The record that is read of e, written again: its body occurs behind the frame.
 body-written : (k : Kind) (n : ℕ) (e : List ℕ) → Bytes e → lengthFor k n e ≤ length e → Occurs (bodyOf (recordIn k n e)) e 4
 unfolding bodyOf recordIn lengthFor bytesOf
 body-written ofAction n e b h = action-written e 4 b h
@@ -111,6 +109,7 @@ body-written ofTransitional n e b h = number-occurs 1 e 4 refl b (omega arith)
 body-written ofRequest n e b h = payload-written e 4 b h
 body-written ofRecovery n e b h = occurs-nil e 4
 
+-- Its length is the one that e was tested for.
 length-written : (k : Kind) (n : ℕ) (e : List ℕ) → lengthFor k n e ≤ length e → lengthOf (recordIn k n e) ≡ lengthFor k n e
 unfolding lengthOf recordIn lengthFor actionAt payloadAt stateAt yellowAt
 length-written ofAction n e h = ap (λ (m : ℕ). 12 + m) (part-length (numberAt 1 e 11) e 12 h)

@@ -1,14 +1,13 @@
 -- The parts that are read of bytes, written again, occur where they were read.
 -- Assumes nothing.
-use Prim.Native.Nat.{ℕ, zero, suc, _+_, _*_, _≤_, _<_}
-use mathlib.Core.Path.{_≡_, refl, sym, ap, ap₂, subst, _∙_}
-use mathlib.Core.List.{List, [], _∷_}
+use Prim.Native.Nat.{ℕ, zero, suc, _+_, _*_, _≤_}
+use mathlib.Core.Path.{_≡_, refl, sym, ap, subst, _∙_}
+use mathlib.Core.List.{List}
 use native.Mathlib.Omega.{arith}
 use lib.ListN.{length}
-use Rattle.base.specs.Bytes.{Bytes, bytesOf, numberAt, numbersAt, partAt, joined}
-use Rattle.base.specs.BytesLaws.{bytes-length, part-length, numbers-length}
-use Rattle.base.specs.Occurs.{Occurs, Parts, parts-joined, occurs-nil, occurs-at, number-occurs, part-occurs}
-use Rattle.format.specs.Types.{Id, Action, Primary, Mark, Yellow, State}
+use Rattle.base.specs.Bytes.{Bytes, bytesOf, numberAt, numbersAt, partAt}
+use Rattle.base.specs.BytesLaws.{part-length, numbers-length}
+use Rattle.base.specs.Occurs.{Occurs, parts-joined, occurs-nil, occurs-at, number-occurs, part-occurs}
 use Rattle.format.specs.Write.{payloadBytes, idBytes, actionBytes, cutsBytes, primaryBytes, markBytes, idsBytes, yellowBytes, stateBytes}
 use Rattle.format.specs.Read.{payloadAt, idAt, actionAt, primaryAt, markAt, idsAt, yellowAt, stateAt}
 use Rattle.format.proofs.Lengths.{id-length, primary-length, mark-length, cuts-length}
