@@ -11,4 +11,6 @@ pub mod ListLaws
 pub mod Counts
 pub mod SetLaws
 pub mod Text
+pub mod Prefixes
+pub mod Members
 pub mod Opened

@@ -1,0 +1,13 @@
+pub mod Inversion
+pub mod Moves
+pub mod Logs
+pub mod Growth
+pub mod Lifts
+pub mod Control
+pub mod Table
+pub mod RequestRows
+pub mod Greens
+pub mod Taken
+pub mod Votes
+pub mod Modes
+pub mod Attempt

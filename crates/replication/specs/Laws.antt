@@ -1,0 +1,6 @@
+pub mod Transitions
+pub mod Images
+pub mod Order
+pub mod Rows
+pub mod Greens
+pub mod Modes

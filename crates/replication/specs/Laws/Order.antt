@@ -1,0 +1,83 @@
+-- Orders and equalities of states that the laws of a step speak of.
+-- Assumes nothing.
+use Prim.Native.Nat.{ℕ, _+_, _≤_, _<_}
+use mathlib.Core.Path.{_≡_}
+use mathlib.Core.Bool.{Bool, true, false}
+use mathlib.Core.Logic.{_⊎_}
+use mathlib.Core.Option.{Option, none, some}
+use lib.ListN.{getD}
+use Rattle.base.specs.Lists.{Begins}
+use Rattle.format.specs.Types.{State, Record, action, retransmission, state, cpc, regular, transitional, request, recovery}
+use Rattle.replication.specs.Machine.Types.{Mode, Non-prim, Reg-prim, Trans-prim, Exchange-states, Exchange-actions, Construct, No, Un, Log, Votes, Server}
+use Rattle.replication.specs.Machine.Colours.{cut}
+use Rattle.replication.specs.Machine.Exchange.{takenPrimary, takenAttempt}
+use Rattle.replication.specs.Machine.Step.{withState, allStatesIn, collected}
+
+-- The control part: last primary, attempt, mark, and how many actions are numbered.
+pub record SameControl (s t : Server) : Type 0 where
+  pub last : t .votes .last ≡ s .votes .last
+  pub attempt : t .votes .attempt ≡ s .votes .attempt
+  pub mark : t .votes .mark ≡ s .votes .mark
+  pub numbered : t .log .numbered ≡ s .log .numbered
+
+-- The log m has grown from the log l: the green list goes on, no cut and no number falls.
+pub record Grows (l m : Log) : Type 0 where
+  pub greens : Begins (l .green) (m .green)
+  pub cuts : (c : ℕ) → cut l c ≤ cut m c
+  pub numbers : l .numbered ≤ m .numbered
+
+-- (last primary's index, its attempt, attempt) of v is at most that of w, by the first in which they differ.
+pub data AtMost (v w : Votes) : Type 0 where
+  by-index : v .last .index < w .last .index → AtMost v w
+  by-primary : v .last .index ≡ w .last .index → v .last .attempt < w .last .attempt → AtMost v w
+  by-attempt : v .last .index ≡ w .last .index → v .last .attempt ≡ w .last .attempt → v .attempt ≤ w .attempt → AtMost v w
+
+-- ---- the own State
+
+unfoldable pub inExchange : Mode → Bool
+inExchange Non-prim = false
+inExchange Reg-prim = false
+inExchange Trans-prim = false
+inExchange Exchange-states = true
+inExchange Exchange-actions = true
+inExchange Construct = false
+inExchange No = false
+inExchange Un = false
+
+-- In an exchange, when every member's State is in, the own one is, and says the last primary and the attempt that the server has.
+unfoldable pub OwnStateTrue : Server → Type 0
+OwnStateTrue s =
+    inExchange (s .membership .mode) ≡ true
+    → allStatesIn s ≡ true
+    → (x : State) × (getD (s .membership .states) (s .me) none ≡ some x) × (x .last ≡ s .votes .last) × (x .attempt ≡ s .votes .attempt)
+
+-- The server with the State that the record brings, if it brings one.
+unfoldable pub hearing : Record → Server → Server
+hearing (action a) s = s
+hearing (retransmission k p a) s = s
+hearing (state x) s = withState x s
+hearing (cpc k i) s = s
+hearing (regular i c) s = s
+hearing (transitional c) s = s
+hearing (request p) s = s
+hearing recovery s = s
+
+-- ---- how the last primary and the attempt change
+
+-- The record ends the exchange: the last State with nothing planned, or the last retransmission.
+pub data EndsExchange (s : Server) (r : Record) : Type 0 where
+  withStates : s .membership .mode ≡ Exchange-states → allStatesIn (hearing r s) ≡ true → EndsExchange s r
+  withActions : s .membership .mode ≡ Exchange-actions → hearing r s ≡ s → EndsExchange s r
+
+pub data PrimaryChange (s : Server) (r : Record) (t : Server) : Type 0 where
+  -- not at all
+  kept : t .votes .last ≡ s .votes .last → t .votes .attempt ≡ s .votes .attempt → PrimaryChange s r t
+  -- by Install: "primary index + 1, its attempt the current one, its set the mark's; attempt 0"
+  installed : (s .membership .mode ≡ Construct) ⊎ (s .membership .mode ≡ Un) → t .votes .last .index ≡ s .votes .last .index + 1
+      → t .votes .last .attempt ≡ s .votes .attempt → t .votes .last .set ≡ s .votes .mark .set → t .votes .attempt ≡ 0 → t .votes .mark ≡ s .votes .mark
+      → PrimaryChange s r t
+  -- by the end of an exchange, without and with a quorum
+  decided : EndsExchange s r → t .votes .last ≡ takenPrimary (collected (hearing r s))
+      → t .votes .attempt ≡ takenAttempt (collected (hearing r s)) → PrimaryChange s r t
+  attempted : EndsExchange s r → t .votes .last ≡ takenPrimary (collected (hearing r s))
+      → t .votes .attempt ≡ takenAttempt (collected (hearing r s)) + 1 → PrimaryChange s r t
