@@ -15,4 +15,6 @@ pub mod Kept
 pub mod Actions
 pub mod Attempts
 pub mod Apply
+pub mod Steps
+pub mod Sizes
 pub mod YellowTwice

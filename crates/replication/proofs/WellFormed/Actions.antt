@@ -25,66 +25,54 @@ use Rattle.replication.proofs.WellFormed.Held.{Entered, entered, ignore
 use Rattle.replication.proofs.WellFormed.Logs.{CutsRise}
 use Rattle.replication.proofs.WellFormed.Numbering.{enter-rises, red-rises, green-rises, install-log-numbered}
 use Rattle.replication.proofs.WellFormed.Changes.{Body, body, in-mode, mode-changed, here-below}
-use Rattle.replication.proofs.WellFormed.RuleFacts.{Delivered, Leads, from-idle, from-states, from-actions, from-primary, from-attempt, StateCame, RuleFits}
+use Rattle.replication.proofs.WellFormed.RuleFacts.{Delivered, StateCame, RuleFits}
 use Rattle.replication.proofs.WellFormed.Effects.{red-body, green-and-note-body, yellow-as, joined-body, exchanged-body, install-body, send-held-body, number-body, hold-body, recovered-body}
 use Rattle.replication.proofs.WellFormed.Exchanges.{decided-body, attempting-body, with-state-body, with-cpc-body, entering-body, unmarked-body, yellow-valid-body, leave-body}
 use Rattle.replication.proofs.WellFormed.Modes.{all-in-facts}
-use Rattle.replication.proofs.WellFormed.Kept.{After, either, Kept, Keeps, mode-kept, within-kept, yellow-kept, within-joined}
+use Rattle.replication.proofs.WellFormed.Kept.{After, either, Kept, Keeps, YellowInTrans, mode-kept, within-kept, yellow-kept, within-joined}
 
-module _ (s : Server) (f : WellFormed s) (y : YellowEntered (s .membership .mode) s) where
+module _ (s : Server) (f : WellFormed s) (y : YellowInTrans s) where
   inside : (a : Action) → Delivered s a → a .id .creator < length (s .log .cuts)
   inside a d = omega (arith, d .fits .id .creator, f .log .cuts-length)
 
   pub ignoring-keeps : Keeps s (quiet s s)
   unfolding quiet
-  ignoring-keeps = record { servers = refl; quota = refl; me = refl; body = body s f; mode = f .mode; yellow = y }
+  ignoring-keeps = record { body = body s f; mode = f .mode; yellow = λ z. z }
 
   pub reddening-keeps : (a : Action) → Delivered s a → Keeps s (quiet s (withLog (red a (s .log)) s))
   unfolding quiet
   reddening-keeps a d = record {
-    servers = refl;
-    quota = refl;
-    me = refl;
     body = red-body s (body s f) a d;
     mode = mode-kept (s .membership .mode) s (red a (s .log)) (s .votes) (s .held) (s .noted) refl (f .mode);
-    yellow = yellow-kept (s .membership .mode) s (red a (s .log)) (s .held) (s .noted) (red-rises a (s .log) (inside a d)) y;
+    yellow = λ z. yellow-kept (s .membership .mode) s (red a (s .log)) (s .held) (s .noted) (red-rises a (s .log) (inside a d)) z;
   }
 
   pub greening-keeps : (a : Action) → Delivered s a → Keeps s (quiet s (greenAndNote a s))
   unfolding quiet greenAndNote
   greening-keeps a d = record {
-    servers = refl;
-    quota = refl;
-    me = refl;
     body = green-and-note-body s (body s f) a d;
     mode = mode-kept (s .membership .mode) s (green a (s .log)) (s .votes) (s .held) (note (a .id .creator) (a .greenLength) (s .noted)) refl (f .mode);
-    yellow = yellow-kept (s .membership .mode) s (green a (s .log)) (s .held) (note (a .id .creator) (a .greenLength) (s .noted)) (green-rises a (s .log) (inside a d)) y;
+    yellow = λ z. yellow-kept (s .membership .mode) s (green a (s .log)) (s .held) (note (a .id .creator) (a .greenLength) (s .noted)) (green-rises a (s .log) (inside a d)) z;
   }
 
   pub yellowing-keeps : (a : Action) → Delivered s a → s .membership .mode ≡ Trans-prim → Keeps s (quiet s (yellow a s))
   unfolding quiet joinYellow
-  yellowing-keeps a d e = yellow-as (Kept s) a s joined (record { servers = refl; quota = refl; me = refl; body = body s f; mode = f .mode; yellow = y })
+  yellowing-keeps a d e = yellow-as (Kept s) a s joined (record { body = body s f; mode = f .mode; yellow = λ z. z })
     where
-      within : YellowWithinCuts s
-      within = subst (λ m. YellowEntered m s) e y
-
       joined : a .id .index ≡ cut (s .log) (a .id .creator) + 1 → Kept s (withVotes (joinYellow (a .id) (s .votes)) (withLog (enter a (s .log)) s))
       joined next = record {
-        servers = refl;
-        quota = refl;
-        me = refl;
-        body = joined-body s (body s f) a d within next;
+        body = joined-body s (body s f) a d (y e) next;
         mode = mode-kept (s .membership .mode) s (enter a (s .log)) (joinYellow (a .id) (s .votes)) (s .held) (s .noted) refl (f .mode);
-        yellow =
+        yellow = λ z.
             subst (λ m. YellowEntered m (withVotes (joinYellow (a .id) (s .votes)) (withLog (enter a (s .log)) s))) (sym e)
-            (within-joined s a (inside a d) next within);
+            (within-joined s a (inside a d) next (y e));
       }
 
   pub lateInstalling-keeps : (a : Action) → Delivered s a → s .membership .mode ≡ Un → Keeps s (stored s (inMode Trans-prim (yellow a (install s))) [])
   unfolding stored install installVotes noYellow
   lateInstalling-keeps a d e =
       yellow-as (λ u. Kept s (inMode Trans-prim u)) a (install s) joined
-      (record { servers = refl; quota = refl; me = refl; body = in-mode (install s) installed Trans-prim; mode = attempt .0; yellow = tt })
+      (record { body = in-mode (install s) installed Trans-prim; mode = attempt .0; yellow = λ z. tt })
     where
       attempt : Configured s × (s .votes .last .index < mostIndex)
       attempt = subst (λ m. ModeFits m s) e (f .mode)
@@ -98,10 +86,7 @@ module _ (s : Server) (f : WellFormed s) (y : YellowEntered (s .membership .mode
       joined : a .id .index ≡ cut ((install s) .log) (a .id .creator) + 1
           → Kept s (inMode Trans-prim (withVotes (joinYellow (a .id) ((install s) .votes)) (withLog (enter a ((install s) .log)) (install s))))
       joined next = record {
-        servers = refl;
-        quota = refl;
-        me = refl;
         body = in-mode (withVotes (joinYellow (a .id) ((install s) .votes)) (withLog (enter a ((install s) .log)) (install s))) (joined-body (install s) installed a delivered tt next) Trans-prim;
         mode = attempt .0;
-        yellow = within-joined (install s) a (omega (arith, d .fits .id .creator, installed .log .ranges .cuts-length)) next tt;
+        yellow = λ z. within-joined (install s) a (omega (arith, d .fits .id .creator, installed .log .ranges .cuts-length)) next tt;
       }

@@ -19,48 +19,49 @@ use Rattle.replication.specs.Machine.Install.{installLog, installVotes, 
 use Rattle.replication.specs.Machine.Requests.{sendsNow, quotaLeft, roomToHold, numbered, hold, madeOf, sendHeld, heldRecords, recovered}
 use Rattle.replication.specs.Machine.Rules.{Rule, ignoring, reddening, greening, yellowing, lateInstalling, exchanging, collectingState, collectingCpc, collectingLateCpc, joining, joiningUnmarked, joiningYellow, leaving, requesting, recovering}
 use Rattle.replication.specs.Machine.Step.{quiet, stored, sent, entering, unmarked, yellowValid, join, hereSet, hereId, collected, decided, attempting, endExchange, withState, allStatesIn, plannedNow, resending, afterStates, collectState, placed, oneMore, exchanged, allCome, exchange, withCpc, allCpcsIn, installing, collectCpc, collectLateCpc, leave, greenAndNote, requested, apply}
+use Rattle.replication.specs.Laws.Transitions.{Leads, stays, parts, interruptsStates, interruptsActions, interruptsConstruct}
 use Rattle.replication.specs.Machine.WellFormedRanges.{PayloadFits, TransitionalFits}
 use Rattle.replication.specs.Machine.WellFormedFacts.{YellowWithinCuts, YellowEntered, Configured, StatesIn, ModeFits, WellFormed}
 use Rattle.replication.proofs.WellFormed.Held.{Entered, entered, ignored, entered?, CutAfter, risen, left, cut-after?}
 use Rattle.replication.proofs.WellFormed.Logs.{CutsRise}
 use Rattle.replication.proofs.WellFormed.Numbering.{enter-rises, red-rises, green-rises, install-log-numbered}
 use Rattle.replication.proofs.WellFormed.Changes.{Body, body, in-mode, mode-changed, here-below}
-use Rattle.replication.proofs.WellFormed.RuleFacts.{Delivered, Leads, from-idle, from-states, from-actions, from-primary, from-attempt, StateCame, RuleFits}
+use Rattle.replication.proofs.WellFormed.RuleFacts.{Delivered, StateCame, RuleFits}
 use Rattle.replication.proofs.WellFormed.Effects.{red-body, green-and-note-body, yellow-as, joined-body, exchanged-body, install-body, send-held-body, number-body, hold-body, recovered-body}
 use Rattle.replication.proofs.WellFormed.Exchanges.{decided-body, attempting-body, with-state-body, with-cpc-body, entering-body, unmarked-body, yellow-valid-body, leave-body}
 use Rattle.replication.proofs.WellFormed.Modes.{all-in-facts}
-use Rattle.replication.proofs.WellFormed.Kept.{After, either, Kept, Keeps, mode-kept, within-kept, yellow-kept, within-joined}
+use Rattle.replication.proofs.WellFormed.Kept.{After, either, Kept, Keeps, YellowInTrans, mode-kept, within-kept, yellow-kept, within-joined}
 use Rattle.replication.proofs.WellFormed.Actions.{ignoring-keeps, reddening-keeps, greening-keeps, yellowing-keeps, lateInstalling-keeps}
 use Rattle.replication.proofs.WellFormed.Attempts.{exchanging-keeps, collectingState-keeps, collectingCpc-keeps, collectingLateCpc-keeps}
 
 -- ---- configurations
 
-pub joining-keeps : (s t : Server) (c : Configuration) → t .servers ≡ s .servers → t .quota ≡ s .quota → t .me ≡ s .me → Body (entering c t) → Keeps s (join s c t)
+pub joining-keeps : (s t : Server) (c : Configuration) → Body (entering c t) → Keeps s (join s c t)
 unfolding join stored entering
-joining-keeps s t c n q i b = record { servers = n; quota = q; me = i; body = b; mode = (c, refl); yellow = tt }
+joining-keeps s t c b = record { body = b; mode = (c, refl); yellow = λ z. tt }
 
 leads-mode : {o m : Mode} (s : Server) (t : ℕ) → Leads o m → ModeFits o s → ModeFits m (leave m t s)
 unfolding leave
-leads-mode s t from-idle f = tt
-leads-mode s t from-states f = tt
-leads-mode s t from-actions f = tt
-leads-mode s t from-primary f = f
-leads-mode s t from-attempt f = f
+leads-mode s t stays f = tt
+leads-mode s t interruptsStates f = tt
+leads-mode s t interruptsActions f = tt
+leads-mode s t parts f = f
+leads-mode s t interruptsConstruct f = f
 
 leads-yellow : {o m : Mode} (s : Server) (t : ℕ) → Leads o m → YellowEntered o s → YellowEntered m (leave m t s)
 unfolding leave
-leads-yellow s t from-idle f = tt
-leads-yellow s t from-states f = tt
-leads-yellow s t from-actions f = tt
-leads-yellow s t from-primary f = f
-leads-yellow s t from-attempt f = tt
+leads-yellow s t stays f = tt
+leads-yellow s t interruptsStates f = tt
+leads-yellow s t interruptsActions f = tt
+leads-yellow s t parts f = f
+leads-yellow s t interruptsConstruct f = tt
 
-module _ (s : Server) (f : WellFormed s) (y : YellowEntered (s .membership .mode) s) where
+module _ (s : Server) (f : WellFormed s) (y : YellowInTrans s) where
   leaving-keeps : (m : Mode) (t : ℕ) → TransitionalFits (s .servers) (s .me) (s .membership .configuration) t → Leads (s .membership .mode) m
       → Keeps s (quiet s (leave m t s))
   unfolding quiet leave
   leaving-keeps m t g l =
-      record { servers = refl; quota = refl; me = refl; body = leave-body s (body s f) m t g; mode = leads-mode s t l (f .mode); yellow = leads-yellow s t l y }
+      record { body = leave-body s (body s f) m t g; mode = leads-mode s t l (f .mode); yellow = leads-yellow s t l }
 
   -- ---- requests and recovery
 
@@ -69,25 +70,19 @@ module _ (s : Server) (f : WellFormed s) (y : YellowEntered (s .membership .mode
   requesting-keeps p g q r =
       either (λ u r. Kept s u) (sendsNow (s .membership)) (stored s (numbered (p ∷ []) s) (map action (madeOf (p ∷ []) s))) (quiet s (hold p s))
       (λ h. record {
-        servers = refl;
-        quota = refl;
-        me = refl;
         body = number-body s (body s f) p g q;
         mode = mode-kept (s .membership .mode) s ((numbered (p ∷ []) s) .log) (s .votes) (s .held) (s .noted) refl (f .mode);
-        yellow = yellow-kept (s .membership .mode) s ((numbered (p ∷ []) s) .log) (s .held) (s .noted) (λ c. omega arith) y;
+        yellow = λ z. yellow-kept (s .membership .mode) s ((numbered (p ∷ []) s) .log) (s .held) (s .noted) (λ c. omega arith) z;
       })
       (λ h. record {
-        servers = refl;
-        quota = refl;
-        me = refl;
         body = hold-body s (body s f) p g q (lt-holds _ _ (rw h at r));
         mode = mode-kept (s .membership .mode) s (s .log) (s .votes) (s .held ++ (p ∷ [])) (s .noted) refl (f .mode);
-        yellow = yellow-kept (s .membership .mode) s (s .log) (s .held ++ (p ∷ [])) (s .noted) (λ c. omega arith) y;
+        yellow = λ z. yellow-kept (s .membership .mode) s (s .log) (s .held ++ (p ∷ [])) (s .noted) (λ c. omega arith) z;
       })
 
   recovering-keeps : Keeps s (stored s (recovered s) [])
   unfolding stored recovered
-  recovering-keeps = record { servers = refl; quota = refl; me = refl; body = recovered-body s (body s f); mode = tt; yellow = tt }
+  recovering-keeps = record { body = recovered-body s (body s f); mode = tt; yellow = λ z. tt }
 
   -- ---- every rule
 
@@ -102,11 +97,11 @@ module _ (s : Server) (f : WellFormed s) (y : YellowEntered (s .membership .mode
   apply-keeps (collectingState x) r = collectingState-keeps s f x (r .0) (r .1)
   apply-keeps (collectingCpc k) r = collectingCpc-keeps s f k (r .0) (r .1)
   apply-keeps (collectingLateCpc k) r = collectingLateCpc-keeps s f k (r .0) (r .1)
-  apply-keeps (joining c) r = joining-keeps s s c refl refl refl (entering-body s (body s f) c r)
+  apply-keeps (joining c) r = joining-keeps s s c (entering-body s (body s f) c r)
   apply-keeps (joiningUnmarked c) r =
-      joining-keeps s (withVotes (unmarked (s .votes)) s) c refl refl refl (entering-body (withVotes (unmarked (s .votes)) s) (unmarked-body s (body s f)) c r)
+      joining-keeps s (withVotes (unmarked (s .votes)) s) c (entering-body (withVotes (unmarked (s .votes)) s) (unmarked-body s (body s f)) c r)
   apply-keeps (joiningYellow c) r =
-      joining-keeps s (withVotes (yellowValid (unmarked (s .votes))) s) c refl refl refl
+      joining-keeps s (withVotes (yellowValid (unmarked (s .votes))) s) c
       (entering-body (withVotes (yellowValid (unmarked (s .votes))) s) (yellow-valid-body s (body s f)) c r)
   apply-keeps (leaving m t) r = leaving-keeps m t (r .0) (r .1)
   apply-keeps (requesting p) r = requesting-keeps p (r .0) (r .1) (r .2)

@@ -25,7 +25,7 @@ use Rattle.replication.proofs.WellFormed.Held.{Entered, entered, ignore
 use Rattle.replication.proofs.WellFormed.Logs.{CutsRise}
 use Rattle.replication.proofs.WellFormed.Numbering.{enter-rises, red-rises, green-rises, install-log-numbered}
 use Rattle.replication.proofs.WellFormed.Changes.{Body, body, in-mode, mode-changed, here-below}
-use Rattle.replication.proofs.WellFormed.RuleFacts.{Delivered, Leads, from-idle, from-states, from-actions, from-primary, from-attempt, StateCame, RuleFits}
+use Rattle.replication.proofs.WellFormed.RuleFacts.{Delivered, StateCame, RuleFits}
 use Rattle.replication.proofs.WellFormed.Effects.{red-body, green-and-note-body, yellow-as, joined-body, exchanged-body, install-body, send-held-body, number-body, hold-body, recovered-body}
 use Rattle.replication.proofs.WellFormed.Exchanges.{decided-body, attempting-body, with-state-body, with-cpc-body, entering-body, unmarked-body, yellow-valid-body, leave-body}
 use Rattle.replication.proofs.WellFormed.Modes.{all-in-facts}
@@ -33,7 +33,7 @@ use Rattle.replication.proofs.WellFormed.Kept.{After, either, Kept, Kee
 
 -- ---- the end of an exchange
 
-module _ (s t : Server) (n : t .servers ≡ s .servers) (q : t .quota ≡ s .quota) (i : t .me ≡ s .me) (b : Body t) (c : Configured t) where
+module _ (s t : Server) (b : Body t) (c : Configured t) where
   attempting-keeps : quorum (collected t) (hereSet t) ≡ true → Kept s (attempting (decided t))
   unfolding quorum attempting decided takenVotes attempted hereSet
   attempting-keeps h =
@@ -41,18 +41,15 @@ module _ (s t : Server) (n : t .servers ≡ s .servers) (q : t .quota ≡ s .quo
       let y = and-holds _ _ (x .1) in
       let z = and-holds _ _ (y .1) in
       record {
-        servers = n;
-        quota = q;
-        me = i;
         body = attempting-body (decided t) (decided-body t b) (lt-holds _ _ (z .1)) (here-below t b (c .0) (c .1));
         mode = (c, lt-holds _ _ (z .0));
-        yellow = tt;
+        yellow = λ z. tt;
       }
 
   giving-up-keeps : Kept s (sendHeld (inMode Non-prim (decided t)))
   unfolding sendHeld numbered decided
   giving-up-keeps =
-      record { servers = n; quota = q; me = i; body = send-held-body (inMode Non-prim (decided t)) (in-mode (decided t) (decided-body t b) Non-prim); mode = tt; yellow = tt }
+      record { body = send-held-body (inMode Non-prim (decided t)) (in-mode (decided t) (decided-body t b) Non-prim); mode = tt; yellow = λ z. tt }
 
   end-keeps : Keeps s (endExchange s t)
   unfolding endExchange stored
@@ -69,7 +66,7 @@ module _ (s t : Server) (n : t .servers ≡ s .servers) (q : t .quota ≡ s .quo
       some-planned h = let differ = eq-fails (plannedNow t) 0 h in omega arith
 
       more : (plannedNow t =? 0) ≡ false → Kept s (resending t)
-      more h = record { servers = n; quota = q; me = i; body = mode-changed t b Exchange-actions 0 (omega arith); mode = (c, all-in-facts t (b .membership .states-length) a, some-planned h); yellow = tt }
+      more h = record { body = mode-changed t b Exchange-actions 0 (omega arith); mode = (c, all-in-facts t (b .membership .states-length) a, some-planned h); yellow = λ z. tt }
 
 -- ---- the rules of exchanges and attempts
 
@@ -78,7 +75,7 @@ module _ (s : Server) (f : WellFormed s) where
   unfolding exchange quiet exchanged oneMore allCome plannedNow collected hereSet
   exchanging-keeps p a d e =
       either (λ u r. Kept s u) (allCome (exchanged p a s)) (endExchange s (exchanged p a s)) (quiet s (exchanged p a s))
-      (λ h. end-keeps s (exchanged p a s) refl refl refl after (fits .0)) more
+      (λ h. end-keeps s (exchanged p a s) after (fits .0)) more
     where
       fits : Configured s × StatesIn s × (s .membership .come < plannedNow s)
       fits = subst (λ m. ModeFits m s) e (f .mode)
@@ -88,26 +85,20 @@ module _ (s : Server) (f : WellFormed s) where
 
       more : allCome (exchanged p a s) ≡ false → Kept s (exchanged p a s)
       more h = record {
-        servers = refl;
-        quota = refl;
-        me = refl;
         body = after;
         mode = subst (λ m. ModeFits m (exchanged p a s)) (sym e) (fits .0, fits .1, le-fails _ _ h);
-        yellow = subst (λ m. YellowEntered m (exchanged p a s)) (sym e) tt;
+        yellow = λ z. subst (λ m. YellowEntered m (exchanged p a s)) (sym e) tt;
       }
 
   pub collectingState-keeps : (x : State) → StateCame s x → s .membership .mode ≡ Exchange-states → Keeps s (collectState x s)
   unfolding collectState quiet withState
   collectingState-keeps x c e =
       either (λ u r. Kept s u) (allStatesIn (withState x s)) (afterStates s (withState x s)) (quiet s (withState x s))
-      (λ h. after-states-keeps s (withState x s) refl refl refl after configured h)
+      (λ h. after-states-keeps s (withState x s) after configured h)
       (λ h. record {
-        servers = refl;
-        quota = refl;
-        me = refl;
         body = after;
         mode = subst (λ m. ModeFits m (withState x s)) (sym e) configured;
-        yellow = subst (λ m. YellowEntered m (withState x s)) (sym e) tt;
+        yellow = λ z. subst (λ m. YellowEntered m (withState x s)) (sym e) tt;
       })
     where
       configured : Configured s
@@ -121,21 +112,15 @@ module _ (s : Server) (f : WellFormed s) where
   collectingCpc-keeps k h e =
       either (λ u r. Kept s u) (allCpcsIn (withCpc k s)) (installing s (withCpc k s)) (quiet s (withCpc k s))
       (λ t. record {
-        servers = refl;
-        quota = refl;
-        me = refl;
         body =
             send-held-body (inMode Reg-prim (install (withCpc k s))) (in-mode (install (withCpc k s)) (install-body (withCpc k s) after (fits .1)) Reg-prim);
         mode = fits .0;
-        yellow = tt;
+        yellow = λ z. tt;
       })
       (λ t. record {
-        servers = refl;
-        quota = refl;
-        me = refl;
         body = after;
         mode = subst (λ m. ModeFits m (withCpc k s)) (sym e) fits;
-        yellow = subst (λ m. YellowEntered m (withCpc k s)) (sym e) tt;
+        yellow = λ z. subst (λ m. YellowEntered m (withCpc k s)) (sym e) tt;
       })
     where
       fits : Configured s × (s .votes .last .index < mostIndex)
@@ -148,14 +133,11 @@ module _ (s : Server) (f : WellFormed s) where
   unfolding collectLateCpc quiet withCpc
   collectingLateCpc-keeps k h e =
       either (λ u r. Kept s u) (allCpcsIn (withCpc k s)) (quiet s (inMode Un (withCpc k s))) (quiet s (withCpc k s))
-      (λ t. record { servers = refl; quota = refl; me = refl; body = in-mode (withCpc k s) after Un; mode = fits; yellow = tt })
+      (λ t. record { body = in-mode (withCpc k s) after Un; mode = fits; yellow = λ z. tt })
       (λ t. record {
-        servers = refl;
-        quota = refl;
-        me = refl;
         body = after;
         mode = subst (λ m. ModeFits m (withCpc k s)) (sym e) fits;
-        yellow = subst (λ m. YellowEntered m (withCpc k s)) (sym e) tt;
+        yellow = λ z. subst (λ m. YellowEntered m (withCpc k s)) (sym e) tt;
       })
     where
       fits : Configured s × (s .votes .last .index < mostIndex)

@@ -33,22 +33,26 @@ unfolding pick
 either P true x y h k = h refl
 either P false x y h k = k refl
 
--- ---- from s to t the invariant was kept, and the sizes are the same
+-- ---- from s to t row 8 and the yellow list's fact were kept
 
 pub record Kept (s t : Server) : Type 0 where
-  pub servers : t .servers ≡ s .servers
-  pub quota : t .quota ≡ s .quota
-  pub me : t .me ≡ s .me
   pub body : Body t
   pub mode : ModeFits (t .membership .mode) t
-  pub yellow : YellowEntered (t .membership .mode) t
+  pub yellow : YellowEntered (s .membership .mode) s → YellowEntered (t .membership .mode) t
 
 -- The records do not matter here.
 abbrev pub Keeps : Server → Outcome Record → Type 0
 Keeps s o = After (λ t r. Kept s t) o
 
-pub kept-invariant : (s t : Server) → Kept s t → Invariant t
-kept-invariant s t k = record { well-formed = whole t (k .body) (k .mode); yellow = k .yellow }
+-- What row 8 needs beside itself: in Trans_prim the yellow ids are of entered actions.
+abbrev pub YellowInTrans : Server → Type 0
+YellowInTrans s = s .membership .mode ≡ Trans-prim → YellowWithinCuts s
+
+pub entered-in-trans : (s : Server) → YellowEntered (s .membership .mode) s → YellowInTrans s
+entered-in-trans s y e = subst (λ m. YellowEntered m s) e y
+
+pub kept-invariant : (s t : Server) → Invariant s → Kept s t → Invariant t
+kept-invariant s t v k = record { well-formed = whole t (k .body) (k .mode); yellow = k .yellow (v .yellow) }
 
 -- ---- the state's name and the membership stay
 

@@ -13,6 +13,7 @@ use Rattle.format.specs.Range.{contextOk, actionOk, stateOk, configurationOk, o
 use Rattle.replication.specs.Machine.Types.{Mode, Non-prim, Reg-prim, Trans-prim, Exchange-states, Exchange-actions, Construct, No, Un, Configuration, Server, setOf, contextOf}
 use Rattle.replication.specs.Machine.Requests.{quotaLeft, roomToHold}
 use Rattle.replication.specs.Machine.Rules.{Rule, ignoring, reddening, greening, yellowing, lateInstalling, exchanging, collectingState, collectingCpc, collectingLateCpc, joining, joiningUnmarked, joiningYellow, leaving, requesting, recovering, onAction, onRetransmission, onState, onCpc, onRegular, onTransitional, ruleFor, numberedOwn, possible, memberOf, isOf, stateIn, cpcIn, fromMember, isIgnored, withinQuota, withinHeld}
+use Rattle.replication.specs.Laws.Transitions.{Leads, stays, parts, interruptsStates, interruptsActions, interruptsConstruct}
 use Rattle.replication.specs.Machine.WellFormedRanges.{PayloadFits, ActionFits, StateFits, ConfigurationFits, TransitionalFits}
 use Rattle.replication.proofs.WellFormed.Ranges.{payload-facts, action-facts, state-facts, own-set-facts}
 use Rattle.replication.proofs.WellFormed.Logs.{Numbered}
@@ -21,14 +22,6 @@ use Rattle.replication.proofs.WellFormed.Logs.{Numbered}
 pub record Delivered (s : Server) (a : Action) : Type 0 where
   pub fits : ActionFits (s .servers) (s .quota) a
   pub own : Numbered (s .me) (s .log .numbered) a
-
--- Where a transitional configuration leads from a state.
-pub data Leads : Mode → Mode → Type 0 where
-  from-idle : Leads Non-prim Non-prim
-  from-states : Leads Exchange-states Non-prim
-  from-actions : Leads Exchange-actions Non-prim
-  from-primary : Leads Reg-prim Trans-prim
-  from-attempt : Leads Construct No
 
 -- A State that row 6 does not refuse.
 pub record StateCame (s : Server) (x : State) : Type 0 where
@@ -134,12 +127,12 @@ module _ (s : Server) (k : Rule) where
   transitional-rule : (m : Mode) (t : ℕ) → s .membership .mode ≡ m → TransitionalFits (s .servers) (s .me) (s .membership .configuration) t
       → onTransitional m t ≡ some k → RuleFits k s
   unfolding onTransitional
-  transitional-rule Non-prim t e f h = by (leaving Non-prim t) h (f, rw e from-idle)
-  transitional-rule Reg-prim t e f h = by (leaving Trans-prim t) h (f, rw e from-primary)
+  transitional-rule Non-prim t e f h = by (leaving Non-prim t) h (f, rw e stays)
+  transitional-rule Reg-prim t e f h = by (leaving Trans-prim t) h (f, rw e parts)
   transitional-rule Trans-prim t e f h = no-rule (RuleFits k s) h
-  transitional-rule Exchange-states t e f h = by (leaving Non-prim t) h (f, rw e from-states)
-  transitional-rule Exchange-actions t e f h = by (leaving Non-prim t) h (f, rw e from-actions)
-  transitional-rule Construct t e f h = by (leaving No t) h (f, rw e from-attempt)
+  transitional-rule Exchange-states t e f h = by (leaving Non-prim t) h (f, rw e interruptsStates)
+  transitional-rule Exchange-actions t e f h = by (leaving Non-prim t) h (f, rw e interruptsActions)
+  transitional-rule Construct t e f h = by (leaving No t) h (f, rw e interruptsConstruct)
   transitional-rule No t e f h = no-rule (RuleFits k s) h
   transitional-rule Un t e f h = no-rule (RuleFits k s) h
 
