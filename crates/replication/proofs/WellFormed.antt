@@ -17,4 +17,5 @@ pub mod Attempts
 pub mod Apply
 pub mod Steps
 pub mod Sizes
+pub mod Runs
 pub mod YellowTwice
