@@ -9,6 +9,9 @@ pub mod Sets
 pub mod Lists
 pub mod AtLaws
 pub mod Rising
+pub mod ListLaws
+pub mod Counts
+pub mod SetLaws
 pub mod Text
 pub mod Prefixes
 pub mod Members
