@@ -9,6 +9,7 @@ pub mod Sets
 pub mod Lists
 pub mod AtLaws
 pub mod Rising
+pub mod Chains
 pub mod ListLaws
 pub mod Counts
 pub mod SetLaws

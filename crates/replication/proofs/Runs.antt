@@ -14,6 +14,7 @@ pub mod Readings
 pub mod Coupling
 pub mod AllowedTurns
 pub mod Sending
+pub mod ControlPart
 pub mod Order
 pub mod DeliveryLists
 pub mod Agreement
