@@ -15,6 +15,7 @@ use Rattle.base.specs.ListLaws.{Each}
 use Rattle.format.specs.Limits.{fewestServers, mostServers, leastQuota, mostQuota, mostPayload, mostIndex}
 use Rattle.format.specs.Types.{Id, Action, Primary, Mark, Yellow, State, Context}
 use Rattle.format.specs.Range.{sizesOk, contextOk, idOk, lengthOk, payloadOk, actionOk, cutsOk, indexOk, setOk, statusOk, primaryOk, markOk, idsInRange, idsDiffer, idsOk, yellowOk, configurationOk, stateOk, ownSetOk}
+use Rattle.format.proofs.IdCount.{ids-count}
 use Rattle.replication.specs.Machine.WellFormedRanges.{idCount, SizesFit, IdFits, PayloadFits, ActionFits, PrimaryFits, MarkFits, YellowFits, StateFits, OwnSetFits}
 use Rattle.replication.proofs.WellFormed.Ids.{differ-once, once-differ}
 
@@ -201,3 +202,10 @@ module _ (c : Context) where
   pub own-set-ok : (s : ℕ) → OwnSetFits (c .servers) (c .self) s → ownSetOk c s ≡ true
   unfolding ownSetOk
   own-set-ok s f = both-yes _ _ (set-ok s (f .below)) (f .own)
+
+-- Ids in range that differ are at most n × q.
+pub ids-short : (n q : ℕ) (xs : List Id) → Each (IdFits n q) xs → ((d : Id) → idCount d xs ≤ 1) → length xs ≤ n * q
+ids-short n q xs f once = ids-count context xs (ids-ok context xs f) (once-differ xs once)
+  where
+    context : Context
+    context = record { servers = n; quota = q; self = 0; last = none }
