@@ -20,4 +20,5 @@ pub mod Sizes
 pub mod Runs
 pub mod Records
 pub mod Sent
+pub mod Reads
 pub mod YellowTwice

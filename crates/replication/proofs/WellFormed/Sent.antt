@@ -1,5 +1,4 @@
--- Every record put out is in range for every server with the same n and q, is read there as what was meant, and names its sender; how many records
--- and bytes an event puts out.
+-- Each rule puts out records that are in range and name the server as sender, not too many and not too long.
 -- Assumes nothing.
 use Prim.Native.Nat.{ℕ, _+_, _*_, _^_, _≤_, _<_}
 use mathlib.Core.Path.{_≡_, refl, sym, ap, _∙_, subst}
@@ -33,7 +32,7 @@ use Rattle.replication.proofs.WellFormed.Exchanges.{decided-body, with-
 use Rattle.replication.proofs.WellFormed.Kept.{After, after-taken, either}
 use Rattle.replication.proofs.WellFormed.Records.{none-out, cpc-out, state-out, made-out, held-out, resent-out}
 
-abbrev PutsOut : Server → Outcome Record → Type 0
+abbrev pub PutsOut : Server → Outcome Record → Type 0
 PutsOut s o = After (λ t r. PutOut (s .servers) (s .quota) (s .me) r) o
 
 abbrev PutBy : Server → List Record → Type 0
@@ -114,16 +113,3 @@ module _ (s : Server) (f : WellFormed s) where
   apply-out (leaving m t) r = nothing-out
   apply-out (requesting p) r = requesting-out p (r .0) (r .1)
   apply-out recovering r = nothing-out
-
--- ---- what that says of reading them
-
-fits-ok : (c : Context) (r : Record) → RecordFits (c .servers) (c .quota) r → fieldsOk c r ≡ true
-unfolding fieldsOk configurationOk
-fits-ok c (action a) f = action-ok c a f
-fits-ok c (retransmission k p a) f = both-yes _ _ (lt-yes _ _ (f .0)) (both-yes _ _ (length-ok c p (f .1)) (action-ok c a (f .2)))
-fits-ok c (state x) f = state-ok c x f
-fits-ok c (cpc k i) f = both-yes _ _ (lt-yes _ _ (f .0)) (lt-yes _ _ (f .1))
-fits-ok c (regular i t) f = absurd f
-fits-ok c (transitional t) f = absurd f
-fits-ok c (request p) f = absurd f
-fits-ok c recovery f = absurd f
