@@ -1,24 +1,22 @@
 -- Cuts and the number of actions numbered as a log changes; numbering keeps the facts of a well-formed log; a log's length.
 -- Assumes nothing.
-use Prim.Native.Nat.{ℕ, zero, suc, _+_, _*_, _≤_, _<_}
+use Prim.Native.Nat.{ℕ, suc, _+_, _*_, _≤_, _<_}
 use mathlib.Core.Path.{_≡_, refl, sym, ap, _∙_}
 use mathlib.Core.Bool.{Bool, true, false}
 use mathlib.Core.List.{List, [], _∷_, _++_, map, map-append}
-use mathlib.Core.Option.{Option, none, some}
 use native.Mathlib.Omega.{arith}
 use lib.ListN.{length, length-append, length-map}
-use Rattle.base.specs.Tests.{_and_, _=?_, _≤?_, pick, Known, holds, fails, known}
+use Rattle.base.specs.Tests.{_and_, _=?_, _≤?_, pick}
 use Rattle.base.specs.Lists.{after, above}
-use Rattle.base.specs.ListLaws.{Each, each-append, each-map, map-each, each-implied, after-length, above-between, above-more}
-use Rattle.format.specs.Types.{Id, Action, Context}
+use Rattle.base.specs.ListLaws.{Each, each-append, each-map, each-implied, above-more}
+use Rattle.format.specs.Types.{Id, Action}
 use Rattle.replication.specs.Machine.Types.{Log}
-use Rattle.replication.specs.Machine.Colours.{cut, enter, red, reds, promote, greenId, greenIds, green}
+use Rattle.replication.specs.Machine.Colours.{cut, enter, red, promote, greenId, greenIds, green}
 use Rattle.replication.specs.Machine.Install.{installLog, idsUpTo}
 use Rattle.replication.specs.Machine.Requests.{numberedFrom}
 use Rattle.replication.specs.Machine.Step.{placed}
 use Rattle.replication.specs.Machine.WellFormed.{idsIn, queue}
-use Rattle.replication.specs.Machine.WellFormedRanges.{IdFits, PayloadFits, ActionFits, LogRanges}
-use Rattle.replication.specs.Machine.WellFormedFacts.{HeldToCuts, OwnListFits}
+use Rattle.replication.specs.Machine.WellFormedRanges.{IdFits, PayloadFits, ActionFits}
 use Rattle.replication.proofs.WellFormed.Ranges.{ids-short}
 use Rattle.replication.proofs.WellFormed.Held.{Entered, entered, ignored, entered?, CutAfter, risen, left, cut-after?, Greened, unmoved, moved, greened?}
 use Rattle.replication.proofs.WellFormed.Logs.{LogFits, Numbered, CutsRise, ownId, red-fits, green-fits, red-numbered}
@@ -108,7 +106,7 @@ queue-short n q me l f =
     every =
         each-map (IdFits n q) (λ a. a .id) (queue l)
         (each-implied (ActionFits n q) (λ a. IdFits n q (a .id)) (λ a h. h .id) (queue l)
-          (each-append (ActionFits n q) (l .green) (l .red) (f .ranges .green) (f .ranges .red)))
+        (each-append (ActionFits n q) (l .green) (l .red) (f .ranges .green) (f .ranges .red)))
 
 -- ---- numbering
 

@@ -1,20 +1,18 @@
 -- The range tests of the record format hold exactly if the facts of `WellFormedRanges` do.
 -- Assumes nothing.
-use Prim.Native.Nat.{ℕ, zero, suc, _+_, _*_, _^_, _≤_, _<_}
-use mathlib.Core.Path.{_≡_, refl, sym, ap, _∙_}
-use mathlib.Core.Bool.{Bool, true, false}
+use Prim.Native.Nat.{ℕ, zero, suc, _*_, _^_, _≤_, _<_}
+use mathlib.Core.Path.{_≡_, refl}
+use mathlib.Core.Bool.{true}
 use mathlib.Core.List.{List, [], _∷_}
-use mathlib.Core.Option.{Option, none, some}
+use mathlib.Core.Option.{none}
 use native.Mathlib.Omega.{arith}
 use lib.ListN.{length, getD}
-use Rattle.base.specs.Tests.{_and_, _≤?_, and-holds, both-yes, le-yes, le-holds, lt-yes, lt-holds, eq-yes, eq-holds}
-use Rattle.base.specs.Bytes.{Bytes, areBytes}
+use Rattle.base.specs.Tests.{and-holds, both-yes, le-yes, le-holds, lt-yes, lt-holds, eq-yes, eq-holds}
 use Rattle.base.specs.BytesLaws.{are-bytes, bytes-are}
-use Rattle.base.specs.Lists.{all}
 use Rattle.base.specs.ListLaws.{Each}
 use Rattle.format.specs.Limits.{fewestServers, mostServers, leastQuota, mostQuota, mostPayload, mostIndex}
 use Rattle.format.specs.Types.{Id, Action, Primary, Mark, Yellow, State, Context}
-use Rattle.format.specs.Range.{sizesOk, contextOk, idOk, lengthOk, payloadOk, actionOk, cutsOk, indexOk, setOk, statusOk, primaryOk, markOk, idsInRange, idsDiffer, idsOk, yellowOk, configurationOk, stateOk, ownSetOk}
+use Rattle.format.specs.Range.{sizesOk, contextOk, idOk, lengthOk, payloadOk, actionOk, cutsOk, indexOk, setOk, statusOk, primaryOk, markOk, idsInRange, idsOk, yellowOk, configurationOk, stateOk, ownSetOk}
 use Rattle.format.proofs.IdCount.{ids-count}
 use Rattle.replication.specs.Machine.WellFormedRanges.{idCount, SizesFit, IdFits, PayloadFits, ActionFits, PrimaryFits, MarkFits, YellowFits, StateFits, OwnSetFits}
 use Rattle.replication.proofs.WellFormed.Ids.{differ-once, once-differ}

@@ -1,29 +1,29 @@
 -- Every record that a taken event puts out reads at every server with the same n and q as what was meant, and names its sender; how many records and
 -- bytes an event puts out.
 -- Assumes nothing.
-use Prim.Native.Nat.{ℕ, _*_, _≤_, _<_}
-use mathlib.Core.Path.{_≡_, sym, _∙_, subst}
+use Prim.Native.Nat.{ℕ, _+_, _*_, max, _≤_, _<_}
+use mathlib.Core.Path.{_≡_, sym, subst}
 use mathlib.Core.Bool.{Bool, true}
 use mathlib.Core.List.{List, map}
-use mathlib.Core.Option.{some}
 use lib.ListN.{length, length-map}
 use native.Mathlib.Omega.{arith}
 use Rattle.base.specs.Tests.{both-yes, lt-yes}
 use Rattle.base.specs.Bytes.{joined}
 use Rattle.base.specs.ListLaws.{Each, each-implied}
 use Rattle.format.specs.Types.{Action, Record, action, retransmission, state, cpc, regular, transitional, request, recovery, Context, says}
-use Rattle.format.specs.Range.{contextOk, configurationOk, fieldsOk, recordOk}
+use Rattle.format.specs.Range.{configurationOk, fieldsOk, recordOk}
 use Rattle.format.specs.Read.{read}
-use Rattle.format.specs.Write.{write}
+use Rattle.format.specs.Write.{write, lengthOf}
+use Rattle.format.proofs.Lengths.{write-length}
 use Rattle.format.proofs.RoundTrip.{read-written}
 use Rattle.replication.specs.Machine.Types.{Server, taken}
 use Rattle.replication.specs.Machine.Step.{apply, step}
 use Rattle.replication.specs.Machine.WellFormed.{wellFormed}
 use Rattle.replication.specs.Machine.WellFormedRanges.{SizesFit}
-use Rattle.replication.specs.Machine.WellFormedSent.{senderOf, RecordFits, PutOut}
+use Rattle.replication.specs.Machine.WellFormedSent.{RecordFits, PutOut}
 use Rattle.replication.specs.Laws.Transitions.{TakenBy}
 use Rattle.replication.proofs.Step.Inversion.{taken-by}
-use Rattle.replication.proofs.WellFormed.Ranges.{sizes-ok, length-ok, action-ok, state-ok}
+use Rattle.replication.proofs.WellFormed.Ranges.{sizes-ok, length-ok, action-ok, state-ok, ids-short}
 use Rattle.replication.proofs.WellFormed.Facts.{well-formed-facts}
 use Rattle.replication.proofs.WellFormed.Kept.{after-taken}
 use Rattle.replication.proofs.WellFormed.Steps.{taken-fits}
@@ -72,6 +72,22 @@ module _ (s : Server) (f : wellFormed s ≡ true) (c : Context) (p : Peer s c) w
   -- What is read is what was meant.
   pub put-out-reads : (rs : List Record) → PutOut (s .servers) (s .quota) (s .me) rs → Each (λ r. read c (write r) ≡ says r) rs
   put-out-reads rs o = each-implied (λ r. recordOk c r ≡ true) (λ r. read c (write r) ≡ says r) (λ r h. read-written c r h) rs (put-out-in-range rs o)
+
+-- The longest record put out is a retransmission or a State.
+record-length : (n q : ℕ) (r : Record) → RecordFits n q r → lengthOf r ≤ max 65 (40 + 2 * n + 3 * (n * q))
+unfolding lengthOf
+record-length n q (action a) f = omega (arith, f .payload .most)
+record-length n q (retransmission k p a) f = omega (arith, f .2 .payload .most)
+record-length n q (state x) f = omega (arith, f .cuts-length, ids-short n q (x .yellow .ids) (f .yellow .ids) (f .yellow .once))
+record-length n q (cpc k i) f = omega arith
+record-length n q (regular i t) f = absurd f
+record-length n q (transitional t) f = absurd f
+record-length n q (request p) f = absurd f
+record-length n q recovery f = absurd f
+
+pub put-out-lengths : (n q me : ℕ) (rs : List Record) → PutOut n q me rs → Each (λ r. length (write r) ≤ max 65 (40 + 2 * n + 3 * (n * q))) rs
+put-out-lengths n q me rs o =
+    each-implied (RecordFits n q) (λ r. length (write r) ≤ max 65 (40 + 2 * n + 3 * (n * q))) (λ r f. omega (arith, write-length r, record-length n q r f)) rs (o .fit)
 
 -- ---- what a taken event puts out
 

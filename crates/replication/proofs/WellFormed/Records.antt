@@ -1,18 +1,17 @@
 -- The records of each kind that a server with a well-formed body puts out: in range, its own, few enough and short enough.
 -- Assumes nothing.
-use Prim.Native.Nat.{ℕ, zero, suc, _+_, _*_, _-_, _^_, _≤_, _<_}
-use mathlib.Core.Path.{_≡_, refl, sym, ap, _∙_, subst}
+use Prim.Native.Nat.{ℕ, _+_, _*_, _-_, _^_, _≤_, _<_}
+use mathlib.Core.Path.{_≡_, refl, ap, subst}
 use mathlib.Core.Bool.{Bool, true, false}
 use mathlib.Core.List.{List, [], _∷_, _++_, map}
 use mathlib.Core.Option.{Option, none, some, Option·some-injective, Option·none-ne-some}
 use native.Mathlib.Omega.{arith}
 use native.Mathlib.Nat.{mul-le-mul, mul-le-mul-right}
-use lib.ListN.{length, getD, length-append, length-map}
-use Rattle.base.specs.Tests.{_=?_, pick}
+use lib.ListN.{length, length-append, length-map}
+use Rattle.base.specs.Tests.{pick}
 use Rattle.base.specs.Bytes.{joined}
-use Rattle.base.specs.Lists.{gather, gatherAll, above, below, at, sum}
-use Rattle.base.specs.ListLaws.{Each, each-append, each-always, each-implied, each-map, each-both, each-at, each-gather, each-gather-all, gather-length, gather-all-length, above-between, below-each}
-use Rattle.format.specs.Limits.{mostPayload}
+use Rattle.base.specs.Lists.{gather, gatherAll, below, at}
+use Rattle.base.specs.ListLaws.{Each, each-append, each-always, each-implied, each-map, each-both, each-at, each-gather, each-gather-all, gather-length, gather-all-length, above-between}
 use Rattle.format.specs.Types.{Action, State, Record, action, retransmission, state, cpc}
 use Rattle.format.specs.Write.{write, lengthOf}
 use Rattle.format.proofs.Lengths.{write-length}
@@ -101,23 +100,23 @@ module _ (n q me : ℕ) (o : me < n) where
     green-short =
         each-mine (isMe me (resender greenIn xs)) (gather (λ p. resent me p (at (l .green) (p - 1))) (missing greenIn xs))
         (each-gather (λ p. (lowest greenIn xs < p) × (p ≤ highest greenIn xs)) (Short n q me) (λ p. resent me p (at (l .green) (p - 1)))
-          (λ p r h e.
-            resent-short p (at (l .green) (p - 1)) r (omega (arith, h .1, green-bound n q xs g))
-            (λ a i. each-at (ActionFits n q) (l .green) (p - 1) a (f .ranges .green) i) e)
-          (missing greenIn xs) (above-between (lowest greenIn xs) (highest greenIn xs)))
+        (λ p r h e.
+        resent-short p (at (l .green) (p - 1)) r (omega (arith, h .1, green-bound n q xs g))
+        (λ a i. each-at (ActionFits n q) (l .green) (p - 1) a (f .ranges .green) i) e)
+        (missing greenIn xs) (above-between (lowest greenIn xs) (highest greenIn xs)))
 
     red-short : (c : ℕ) → Each (Short n q me) (resendRed me l xs c)
     unfolding resendRed missing
     red-short c =
         each-mine (isMe me (resender (cutIn c) xs)) (gather (λ i. resent me 0 (find (record { creator = c; index = i }) (l .green ++ l .red))) (missing (cutIn c) xs))
         (each-gather (λ i. Unit {0}) (Short n q me) (λ i. resent me 0 (find (record { creator = c; index = i }) (l .green ++ l .red)))
-          (λ i r h e.
-            resent-short 0 (find (record { creator = c; index = i }) (l .green ++ l .red)) r (omega arith)
-            (λ a j.
-              found-fact (ActionFits n q) (record { creator = c; index = i }) (l .green ++ l .red) a
-              (each-append (ActionFits n q) (l .green) (l .red) (f .ranges .green) (f .ranges .red)) j)
-            e)
-          (missing (cutIn c) xs) (each-always (λ i. Unit {0}) (λ i. tt) (missing (cutIn c) xs)))
+        (λ i r h e.
+        resent-short 0 (find (record { creator = c; index = i }) (l .green ++ l .red)) r (omega arith)
+        (λ a j.
+        found-fact (ActionFits n q) (record { creator = c; index = i }) (l .green ++ l .red) a
+        (each-append (ActionFits n q) (l .green) (l .red) (f .ranges .green) (f .ranges .red)) j)
+        e)
+        (missing (cutIn c) xs) (each-always (λ i. Unit {0}) (λ i. tt) (missing (cutIn c) xs)))
 
     part-short : Each (Short n q me) (ownPart n me l xs)
     unfolding ownPart
@@ -128,10 +127,13 @@ module _ (n q me : ℕ) (o : me < n) where
     part-length : length (ownPart n me l xs) ≤ planned n xs
     unfolding ownPart planned resendGreen resendRed
     part-length =
-        omega (arith, length-append (resendGreen me l xs) (gatherAll (resendRed me l xs) (below n)),
+        omega (
+          arith,
+          length-append (resendGreen me l xs) (gatherAll (resendRed me l xs) (below n)),
           length-mine (isMe me (resender greenIn xs)) (gather (λ p. resent me p (at (l .green) (p - 1))) (missing greenIn xs)) (length (missing greenIn xs))
-          (gather-length (λ p. resent me p (at (l .green) (p - 1))) (missing greenIn xs)),
-          gather-all-length (resendRed me l xs) (λ c. length (missing (cutIn c) xs)) reds (below n))
+              (gather-length (λ p. resent me p (at (l .green) (p - 1))) (missing greenIn xs)),
+          gather-all-length (resendRed me l xs) (λ c. length (missing (cutIn c) xs)) reds (below n),
+        )
       where
         reds : (c : ℕ) → length (resendRed me l xs c) ≤ length (missing (cutIn c) xs)
         reds c =
@@ -155,10 +157,19 @@ module _ (s : Server) (b : Body s) where
     own = (refl, tt);
     count = omega (arith, many .two);
     bytes =
-        omega (arith, bytes-bound (130 * (s .servers * s .quota)) (state (ownState c s) ∷ [])
-          (omega (arith, many .two, many .servers, b .log .ranges .cuts-length,
-              ids-short (s .servers) (s .quota) (s .votes .yellow .ids) (b .votes .yellow .ids) (b .votes .yellow .once)),
-            tt));
+        omega (
+          arith,
+          bytes-bound (130 * (s .servers * s .quota)) (state (ownState c s) ∷ []) (
+            omega (
+              arith,
+              many .two,
+              many .servers,
+              b .log .ranges .cuts-length,
+              ids-short (s .servers) (s .quota) (s .votes .yellow .ids) (b .votes .yellow .ids) (b .votes .yellow .once),
+            ),
+            tt,
+          ),
+        );
   }
     where
       fits : StateFits (s .servers) (s .quota) (ownState c s)
@@ -179,12 +190,12 @@ module _ (s : Server) (b : Body s) where
   made-out ps q f =
       short-out (s .servers) (s .quota) (s .me) (map action made)
       (each-map (Short (s .servers) (s .quota) (s .me)) action made
-        (each-implied (λ a. ActionFits (s .servers) (s .quota) a × (a .id .creator ≡ s .me)) (λ a. Short (s .servers) (s .quota) (s .me) (action a))
-          (λ a h. action-short (s .servers) (s .quota) (s .me) a (h .0) (h .1)) made
-          (each-both (ActionFits (s .servers) (s .quota)) (λ a. a .id .creator ≡ s .me) made
-            (numbered-each (s .servers) (s .quota) (s .me) (length (s .log .green)) (s .log .numbered) ps (b .sizes .own)
-              (omega (arith, queue-short (s .servers) (s .quota) (s .me) (s .log) (b .log))) q f)
-            (numbered-own (s .me) (length (s .log .green)) (s .log .numbered) ps))))
+      (each-implied (λ a. ActionFits (s .servers) (s .quota) a × (a .id .creator ≡ s .me)) (λ a. Short (s .servers) (s .quota) (s .me) (action a))
+      (λ a h. action-short (s .servers) (s .quota) (s .me) a (h .0) (h .1)) made
+      (each-both (ActionFits (s .servers) (s .quota)) (λ a. a .id .creator ≡ s .me) made
+      (numbered-each (s .servers) (s .quota) (s .me) (length (s .log .green)) (s .log .numbered) ps (b .sizes .own)
+      (omega (arith, queue-short (s .servers) (s .quota) (s .me) (s .log) (b .log))) q f)
+      (numbered-own (s .me) (length (s .log .green)) (s .log .numbered) ps))))
       (omega (arith, length-map made action, numbered-length (s .me) (length (s .log .green)) (s .log .numbered) ps, many .quota))
     where
       made : List Action

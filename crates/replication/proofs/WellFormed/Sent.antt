@@ -1,35 +1,27 @@
 -- Each rule puts out records that are in range and name the server as sender, not too many and not too long.
 -- Assumes nothing.
-use Prim.Native.Nat.{ℕ, _+_, _*_, _^_, _≤_, _<_}
-use mathlib.Core.Path.{_≡_, refl, sym, ap, _∙_, subst}
-use mathlib.Core.Bool.{Bool, true, false}
-use mathlib.Core.List.{List, [], _∷_, _++_, map}
-use mathlib.Core.Option.{Option, none, some}
+use Prim.Native.Nat.{ℕ, _<_}
+use mathlib.Core.Path.{_≡_, subst}
+use mathlib.Core.Bool.{true}
+use mathlib.Core.List.{List, [], _∷_, map}
 use native.Mathlib.Omega.{arith}
-use lib.ListN.{length}
-use Rattle.base.specs.Tests.{_=?_, pick, both-yes, lt-yes, lt-holds}
-use Rattle.base.specs.ListLaws.{Each, each-implied}
-use Rattle.format.specs.Types.{Action, State, Record, action, retransmission, state, cpc, regular, transitional, request, recovery, Context, says}
-use Rattle.format.specs.Range.{sizesOk, contextOk, configurationOk, fieldsOk, recordOk}
-use Rattle.format.specs.Read.{read}
-use Rattle.format.specs.Write.{write}
-use Rattle.format.proofs.RoundTrip.{read-written}
-use Rattle.replication.specs.Machine.Types.{Mode, Non-prim, Reg-prim, Trans-prim, Exchange-states, Exchange-actions, Construct, No, Un, Configuration, Server, Outcome, refused, taken, withVotes, inMode}
+use Rattle.base.specs.Tests.{_=?_, lt-holds}
+use Rattle.format.specs.Types.{Action, State, Record, action, cpc}
+use Rattle.replication.specs.Machine.Types.{Non-prim, Reg-prim, Exchange-states, Exchange-actions, Construct, Un, Server, Outcome, withVotes, inMode}
 use Rattle.replication.specs.Machine.Exchange.{quorum}
 use Rattle.replication.specs.Machine.Plan.{ownPart}
 use Rattle.replication.specs.Machine.Install.{install}
 use Rattle.replication.specs.Machine.Requests.{sendsNow, quotaLeft, numbered, madeOf, hold, sendHeld, heldRecords}
 use Rattle.replication.specs.Machine.Rules.{Rule, ignoring, reddening, greening, yellowing, lateInstalling, exchanging, collectingState, collectingCpc, collectingLateCpc, joining, joiningUnmarked, joiningYellow, leaving, requesting, recovering}
-use Rattle.replication.specs.Machine.Step.{quiet, stored, sent, entering, ownState, unmarked, yellowValid, join, hereSet, hereId, collected, decided, attempting, endExchange, withState, allStatesIn, plannedNow, resending, afterStates, collectState, oneMore, exchanged, allCome, exchange, withCpc, allCpcsIn, installing, collectCpc, collectLateCpc, requested, apply, step}
-use Rattle.replication.specs.Machine.WellFormedRanges.{PayloadFits, ConfigurationFits, StateFits}
+use Rattle.replication.specs.Machine.Step.{quiet, stored, sent, unmarked, yellowValid, join, hereSet, hereId, collected, decided, attempting, endExchange, withState, allStatesIn, plannedNow, resending, afterStates, collectState, oneMore, exchanged, allCome, exchange, withCpc, allCpcsIn, installing, collectCpc, collectLateCpc, requested, apply}
+use Rattle.replication.specs.Machine.WellFormedRanges.{PayloadFits}
 use Rattle.replication.specs.Machine.WellFormedFacts.{Configured, StatesIn, ModeFits, WellFormed}
-use Rattle.replication.specs.Machine.WellFormedSent.{senderOf, RecordFits, PutOut}
-use Rattle.replication.proofs.WellFormed.Ranges.{action-ok, state-ok, length-ok}
+use Rattle.replication.specs.Machine.WellFormedSent.{PutOut}
 use Rattle.replication.proofs.WellFormed.Changes.{Body, body, in-mode, collected-fit, here-id-below}
 use Rattle.replication.proofs.WellFormed.RuleFacts.{Delivered, StateCame, RuleFits}
 use Rattle.replication.proofs.WellFormed.Effects.{exchanged-body, install-body}
 use Rattle.replication.proofs.WellFormed.Exchanges.{decided-body, with-state-body, with-cpc-body, unmarked-body, yellow-valid-body}
-use Rattle.replication.proofs.WellFormed.Kept.{After, after-taken, either}
+use Rattle.replication.proofs.WellFormed.Kept.{After, either}
 use Rattle.replication.proofs.WellFormed.Records.{none-out, cpc-out, state-out, made-out, held-out, resent-out}
 
 abbrev pub PutsOut : Server → Outcome Record → Type 0
@@ -81,8 +73,8 @@ module _ (s : Server) (f : WellFormed s) where
   collectingCpc-out k h e =
       either (λ u r. PutBy s r) (allCpcsIn (withCpc k s)) (installing s (withCpc k s)) (quiet s (withCpc k s))
       (λ t.
-        held-out (inMode Reg-prim (install (withCpc k s)))
-        (in-mode (install (withCpc k s)) (install-body (withCpc k s) (with-cpc-body s (body s f) k h) ((subst (λ m. ModeFits m s) e (f .mode)) .1)) Reg-prim))
+      held-out (inMode Reg-prim (install (withCpc k s)))
+      (in-mode (install (withCpc k s)) (install-body (withCpc k s) (with-cpc-body s (body s f) k h) ((subst (λ m. ModeFits m s) e (f .mode)) .1)) Reg-prim))
       (λ t. nothing-out)
 
   collectingLateCpc-out : (k : ℕ) → PutsOut s (collectLateCpc k s)
