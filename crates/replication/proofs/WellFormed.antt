@@ -18,4 +18,7 @@ pub mod Apply
 pub mod Steps
 pub mod Sizes
 pub mod Runs
+pub mod Records
+pub mod Sent
+pub mod Reads
 pub mod YellowTwice

@@ -1,19 +1,18 @@
 -- Row 8's clauses on the eight states hold exactly if `ModeFits` does.
 -- Assumes nothing.
-use Prim.Native.Nat.{ℕ, zero, suc, _+_, _≤_, _<_}
-use mathlib.Core.Path.{_≡_, refl, sym, ap, _∙_}
+use Prim.Native.Nat.{ℕ, zero, suc, _+_, _<_}
+use mathlib.Core.Path.{_≡_, refl, ap}
 use mathlib.Core.Bool.{Bool, true, false, not}
 use mathlib.Core.List.{List, [], _∷_}
-use mathlib.Core.Option.{Option, none, some}
+use mathlib.Core.Option.{Option, none}
 use native.Mathlib.Omega.{arith}
 use lib.ListN.{length, getD}
-use Rattle.base.specs.Tests.{_and_, _or_, _≤?_, not-both, not-holds, and-holds, both-yes, le-no, le-fails, lt-yes, lt-holds, Known, holds, fails, known}
+use Rattle.base.specs.Tests.{_or_, not-both, not-holds, and-holds, both-yes, le-no, le-fails, lt-yes, lt-holds}
 use Rattle.base.specs.Lists.{isThere}
 use Rattle.base.specs.ListLaws.{there, is-there}
 use Rattle.base.specs.Sets.{inSet}
-use Rattle.format.specs.Limits.{mostIndex}
 use Rattle.format.specs.Types.{State}
-use Rattle.replication.specs.Machine.Types.{Mode, Non-prim, Reg-prim, Trans-prim, Exchange-states, Exchange-actions, Construct, No, Un, Configuration, Server}
+use Rattle.replication.specs.Machine.Types.{Mode, Non-prim, Reg-prim, Trans-prim, Exchange-states, Exchange-actions, Construct, No, Un, Server}
 use Rattle.replication.specs.Machine.Step.{allFrom, allStatesIn, allCome, hereSet, plannedNow}
 use Rattle.replication.specs.Machine.WellFormed.{modeFits}
 use Rattle.replication.specs.Machine.WellFormedFacts.{Configured, StatesIn, ModeFits}

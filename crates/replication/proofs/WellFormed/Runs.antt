@@ -1,26 +1,23 @@
 -- The start is well-formed, and so are both images of a server after any events: in a run no event returns 8.
 -- Assumes nothing.
-use Prim.Native.Nat.{ℕ, zero, suc, _≤_, _<_}
+use Prim.Native.Nat.{ℕ, zero, suc, _<_}
 use mathlib.Core.Path.{_≡_, refl, sym, ap, _∙_}
-use mathlib.Core.Bool.{Bool, true}
-use mathlib.Core.List.{List, [], map}
-use mathlib.Core.Option.{Option, none, some, Option·none-ne-some}
+use mathlib.Core.Bool.{true}
+use mathlib.Core.List.{List, map}
+use mathlib.Core.Option.{none, Option·none-ne-some}
 use native.Mathlib.Omega.{arith}
-use lib.ListN.{length, getD, replicate, length-replicate}
+use lib.ListN.{getD, replicate, length-replicate}
 use Rattle.base.specs.Tests.{both-yes, lt-yes}
 use Rattle.base.specs.Lists.{after, above}
 use Rattle.base.specs.Counts.{count}
-use Rattle.base.specs.Sets.{everyone}
 use Rattle.base.specs.SetLaws.{everyone-below}
-use Rattle.format.specs.Types.{Action, Context}
 use Rattle.format.specs.Range.{sizesOk, contextOk}
-use Rattle.replication.specs.Machine.Types.{Server, taken, start, noStates}
+use Rattle.replication.specs.Machine.Types.{start, noStates}
 use Rattle.replication.specs.Machine.Colours.{cut}
-use Rattle.replication.specs.Machine.Step.{step}
 use Rattle.replication.specs.Machine.WellFormed.{idsIn, queue, wellFormed}
 use Rattle.replication.specs.Machine.WellFormedRanges.{SizesFit}
 use Rattle.replication.specs.Machine.WellFormedFacts.{WellFormed, Invariant, SameSizes}
-use Rattle.replication.specs.Images.{Images, started, lived}
+use Rattle.replication.specs.Images.{started, lived}
 use Rattle.replication.specs.Laws.Images.{OfBoth}
 use Rattle.replication.proofs.Step.Lifts.{lived-each}
 use Rattle.replication.proofs.WellFormed.Ranges.{sizes-facts}

@@ -1,13 +1,12 @@
 -- n, q and the server's number never change, whatever the state.
 -- Assumes nothing.
-use Prim.Native.Nat.{ℕ, _+_}
+use Prim.Native.Nat.{ℕ}
 use mathlib.Core.Path.{_≡_, refl}
 use mathlib.Core.Bool.{Bool}
 use mathlib.Core.List.{List, [], _∷_, map}
 use Rattle.base.specs.Tests.{_=?_}
 use Rattle.format.specs.Types.{Action, State, Record, action, cpc}
-use Rattle.replication.specs.Machine.Types.{Mode, Non-prim, Reg-prim, Trans-prim, Un, Server, Outcome, taken, inMode}
-use Rattle.replication.specs.Machine.Colours.{yellow}
+use Rattle.replication.specs.Machine.Types.{Non-prim, Trans-prim, Un, Server, Outcome, taken, inMode}
 use Rattle.replication.specs.Machine.Exchange.{quorum}
 use Rattle.replication.specs.Machine.Plan.{ownPart}
 use Rattle.replication.specs.Machine.Install.{install}
