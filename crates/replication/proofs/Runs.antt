@@ -16,5 +16,6 @@ pub mod AllowedTurns
 pub mod Sending
 pub mod ControlPart
 pub mod Order
+pub mod Origins
 pub mod DeliveryLists
 pub mod Agreement

@@ -5,10 +5,11 @@ use mathlib.Core.Bool.{true}
 use mathlib.Core.List.{List}
 use Rattle.format.specs.Range.{sizesOk}
 use Rattle.replication.specs.Machine.Types.{Server, start}
+use Rattle.replication.specs.Machine.WellFormed.{wellFormed}
 use Rattle.replication.specs.Machine.WellFormedFacts.{Invariant}
 use Rattle.replication.specs.Laws.Images.{OfBoth}
 use Rattle.replication.specs.Runs.Run.{Run, worldAt}
-use Rattle.replication.proofs.WellFormed.Runs.{lived-invariant}
+use Rattle.replication.proofs.WellFormed.Runs.{lived-invariant, lived-well-formed}
 use Rattle.replication.proofs.WellFormed.Sizes.{step-sizes}
 use Rattle.replication.proofs.Runs.Lived.{at-place, each-at-place}
 
@@ -28,3 +29,6 @@ numbers n q i l =
 
 pub invariant-at : (n q i : ℕ) → sizesOk n q ≡ true → i < n → (l : Run) (p : ℕ) → OfBoth Invariant (worldAt n q l p .images i)
 invariant-at n q i h k l p = at-place n q l (OfBoth Invariant) i (lived-invariant n q i h k) p
+
+pub well-formed-at : (n q i : ℕ) → sizesOk n q ≡ true → i < n → (l : Run) (p : ℕ) → OfBoth (λ s. wellFormed s ≡ true) (worldAt n q l p .images i)
+well-formed-at n q i h k l p = at-place n q l (OfBoth (λ s. wellFormed s ≡ true)) i (lived-well-formed n q i h k) p
