@@ -17,5 +17,6 @@ pub mod Sending
 pub mod ControlPart
 pub mod Order
 pub mod Origins
+pub mod Memberships
 pub mod DeliveryLists
 pub mod Agreement
