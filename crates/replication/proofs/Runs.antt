@@ -18,5 +18,7 @@ pub mod ControlPart
 pub mod Order
 pub mod Origins
 pub mod Memberships
+pub mod Stays
+pub mod StateOrigins
 pub mod DeliveryLists
 pub mod Agreement
