@@ -13,3 +13,12 @@ pub mod PlaceMoves
 pub mod Readings
 pub mod Coupling
 pub mod AllowedTurns
+pub mod Sending
+pub mod ControlPart
+pub mod Order
+pub mod Origins
+pub mod Memberships
+pub mod Stays
+pub mod StateOrigins
+pub mod DeliveryLists
+pub mod Agreement
