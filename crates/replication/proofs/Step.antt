@@ -20,3 +20,5 @@ pub mod Sending
 pub mod Parts
 pub mod OwnActions
 pub mod Held
+pub mod Shape
+pub mod Identity

@@ -13,6 +13,12 @@ use Rattle.replication.specs.Machine.Colours.{cut}
 use Rattle.replication.specs.Machine.Exchange.{takenPrimary, takenAttempt}
 use Rattle.replication.specs.Machine.Step.{withState, allStatesIn, collected}
 
+-- What a server never changes: the number of servers, the quota, its own number.
+pub record SameServer (s t : Server) : Type 0 where
+  pub servers : t .servers ≡ s .servers
+  pub quota : t .quota ≡ s .quota
+  pub me : t .me ≡ s .me
+
 -- The control part: last primary, attempt, mark, and how many actions are numbered.
 pub record SameControl (s t : Server) : Type 0 where
   pub last : t .votes .last ≡ s .votes .last
