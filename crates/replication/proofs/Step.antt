@@ -22,3 +22,4 @@ pub mod OwnActions
 pub mod Held
 pub mod Shape
 pub mod Identity
+pub mod Rising

@@ -116,3 +116,21 @@ pub yellow-all : (more : List Action) (s : Server) → Yellowed more s (yellowAl
 unfolding yellowAll entered cutsAfter
 yellow-all [] s = record { ids = sym (append-nil _); status = refl; green = refl; red = sym (append-nil _); cuts = refl }
 yellow-all (a ∷ more) s = yellowed-then (a ∷ []) more s (yellow a s) _ (yellow-one a s) (yellow-all more (yellow a s))
+
+-- ---- one action, with the test written out
+
+pub green-appends : (a : Action) (l : Log) → l .red ≡ [] → (green a l) .green ≡ pick (isNext l a) (l .green ++ (a ∷ [])) (l .green)
+unfolding promote enter pick
+green-appends a l r = go (known (isNext l a))
+  where
+    go : Known (isNext l a) → (green a l) .green ≡ pick (isNext l a) (l .green ++ (a ∷ [])) (l .green)
+    go (holds e) = rw (green-entered a l r e, e)
+    go (fails e) = rw (green-ignored a l r e, e)
+
+pub yellow-appends : (a : Action) (s : Server) → (yellow a s) .votes .yellow .ids ≡ pick (isNext (s .log) a) (s .votes .yellow .ids ++ (a .id ∷ [])) (s .votes .yellow .ids)
+unfolding yellow joinYellow pick
+yellow-appends a s = go (known (isNext (s .log) a))
+  where
+    go : Known (isNext (s .log) a) → (yellow a s) .votes .yellow .ids ≡ pick (isNext (s .log) a) (s .votes .yellow .ids ++ (a .id ∷ [])) (s .votes .yellow .ids)
+    go (holds e) = rw e
+    go (fails e) = rw e

@@ -97,7 +97,7 @@ module _ (s t : Server) (r : Record) where
           by-attempt (omega (arith, ap (λ w. w .index) p, ap (λ w. w .index) f)) (omega (arith, ap (λ w. w .attempt) p, ap (λ w. w .attempt) f))
           (omega (arith, taken-attempt-covers x (collected (hearing r s)) m h j))
 
-hearing-keeps : (r : Record) (s : Server) → (hearing r s .votes ≡ s .votes) × (hearing r s .membership .mode ≡ s .membership .mode)
+pub hearing-keeps : (r : Record) (s : Server) → (hearing r s .votes ≡ s .votes) × (hearing r s .membership .mode ≡ s .membership .mode)
 unfolding hearing withState
 hearing-keeps (action a) s = (refl, refl)
 hearing-keeps (retransmission k p a) s = (refl, refl)

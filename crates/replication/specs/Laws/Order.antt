@@ -6,9 +6,11 @@ use mathlib.Core.Bool.{Bool, true, false}
 use mathlib.Core.Logic.{_⊎_}
 use mathlib.Core.Option.{Option, none, some}
 use lib.ListN.{getD}
+use mathlib.Core.List.{List}
 use Rattle.base.specs.Lists.{Begins}
-use Rattle.format.specs.Types.{State, Record, action, retransmission, state, cpc, regular, transitional, request, recovery}
-use Rattle.replication.specs.Machine.Types.{Mode, Non-prim, Reg-prim, Trans-prim, Exchange-states, Exchange-actions, Construct, No, Un, Log, Votes, Server}
+use Rattle.format.specs.Types.{State, Record, action, retransmission, state, cpc, regular, transitional, request, recovery, says}
+use Rattle.format.specs.Read.{read}
+use Rattle.replication.specs.Machine.Types.{Mode, Non-prim, Reg-prim, Trans-prim, Exchange-states, Exchange-actions, Construct, No, Un, Log, Votes, Server, contextOf}
 use Rattle.replication.specs.Machine.Colours.{cut}
 use Rattle.replication.specs.Machine.Exchange.{takenPrimary, takenAttempt}
 use Rattle.replication.specs.Machine.Step.{withState, allStatesIn, collected}
@@ -67,6 +69,10 @@ hearing (regular i c) s = s
 hearing (transitional c) s = s
 hearing (request p) s = s
 hearing recovery s = s
+
+-- The same at the server that the event e comes to.
+abbrev pub OwnStateTrueAt : Server → List ℕ → Type 0
+OwnStateTrueAt s e = (r : Record) → read (contextOf s) e ≡ says r → OwnStateTrue (hearing r s)
 
 -- ---- how the last primary and the attempt change
 
