@@ -23,3 +23,4 @@ pub mod Held
 pub mod Shape
 pub mod Identity
 pub mod Rising
+pub mod Primary

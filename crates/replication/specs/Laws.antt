@@ -6,3 +6,4 @@ pub mod Greens
 pub mod Modes
 pub mod Folds
 pub mod Sending
+pub mod Primary
