@@ -10,6 +10,7 @@ pub mod RequestRows
 pub mod Greens
 pub mod Taken
 pub mod Votes
+pub mod VotesOrder
 pub mod Modes
 pub mod Attempt
 pub mod Folds

@@ -1,6 +1,7 @@
 pub mod Transitions
 pub mod Images
 pub mod Order
+pub mod Votes
 pub mod Rows
 pub mod Greens
 pub mod Modes

@@ -17,7 +17,7 @@ use Rattle.replication.proofs.Step.Moves.{moved}
 use Rattle.replication.proofs.Step.Control.{control-refl}
 use Rattle.replication.proofs.Step.Formed.{every-state-in}
 use Rattle.replication.proofs.Step.Lifts.{source-of}
-use Rattle.replication.proofs.Step.Votes.{hearing-keeps, at-most-same, at-most-refl, at-most-trans, votes-rise}
+use Rattle.replication.proofs.Step.VotesOrder.{hearing-keeps, at-most-same, at-most-refl, at-most-trans, votes-rise}
 
 -- Outside an exchange nothing is asked of the own State.
 pub votes-rise-outside : {s : Server} {r : Record} {t : Server} {rs : List Record} {b : Bool} → Transition s r t rs b → inExchange (s .membership .mode) ≡ false

@@ -13,8 +13,9 @@ use Rattle.replication.specs.Machine.Requests.{numberedFrom, madeOf, num
 use Rattle.replication.specs.Machine.Step.{entering, ownState, hereId, collected, decided, attempting, withState, allStatesIn, plannedNow, resending, placed, oneMore, exchanged, withCpc, leave, greenAndNote, hereSet}
 use Rattle.replication.specs.Laws.Transitions as L
 use Rattle.replication.specs.Laws.Transitions.{Ends, Transition}
-use Rattle.replication.specs.Laws.Order as O
-use Rattle.replication.specs.Laws.Order.{EndsExchange, hearing}
+use Rattle.replication.specs.Laws.Order.{hearing}
+use Rattle.replication.specs.Laws.Votes as C
+use Rattle.replication.specs.Laws.Votes.{EndsExchange}
 use Rattle.replication.specs.Laws.Sending as P
 use Rattle.replication.specs.Laws.Sending.{made, Numbers, PutsOut, HeldChange, RequestKept}
 use Rattle.replication.proofs.Step.Numbered.{numbered-red, numbered-reds, numbered-green, numbered-placed, numbered-install, numbered-yellow}
@@ -59,10 +60,10 @@ module _ (s : Server) where
   puts-out (L.yellows a e) = P.nothing _ (numbered-yellow a s)
   puts-out (L.installsLate a e) = P.nothing _ (numbered-yellow a (install s) ∙ numbered-install (s .votes .yellow .ids) (s .log))
   puts-out (L.exchanges k i a e c) = P.nothing _ (numbered-placed i a (s .log))
-  puts-out (L.exchangesLast k i a u us e c x) = ends-out _ (exchanged i a s) u us (O.withActions e refl) refl refl (numbered-placed i a (s .log)) x
+  puts-out (L.exchangesLast k i a u us e c x) = ends-out _ (exchanged i a s) u us (C.withActions e refl) refl refl (numbered-placed i a (s .log)) x
   puts-out (L.collects x e c) = P.nothing _ refl
   puts-out (L.collectsLast x e c d) = P.partOfPlan x refl e refl c d refl
-  puts-out (L.collectsWhole x u us e c d y) = ends-out _ (withState x s) u us (O.withStates e c) refl refl refl y
+  puts-out (L.collectsWhole x u us e c d y) = ends-out _ (withState x s) u us (C.withStates e c) refl refl refl y
   puts-out (L.counts k i e c) = P.nothing _ refl
   puts-out (L.installs k i e c) =
       let n = numbered-install (s .votes .yellow .ids) (s .log) in

@@ -14,7 +14,7 @@ use Rattle.replication.specs.Machine.Colours.{find}
 use Rattle.replication.specs.Machine.Plan.{missing, cutIn, greenIn, ownPart}
 use Rattle.replication.specs.Machine.Requests.{sendsNow, numberedFrom}
 use Rattle.replication.specs.Machine.Step.{ownState, hereId, collected, allStatesIn, plannedNow, withCpc, allCpcsIn}
-use Rattle.replication.specs.Laws.Order.{EndsExchange}
+use Rattle.replication.specs.Laws.Votes.{EndsExchange}
 
 -- ---- own actions
 
