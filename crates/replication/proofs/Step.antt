@@ -25,3 +25,5 @@ pub mod Shape
 pub mod Identity
 pub mod Rising
 pub mod Primary
+pub mod Configurations
+pub mod Kinds

@@ -8,3 +8,4 @@ pub mod Modes
 pub mod Folds
 pub mod Sending
 pub mod Primary
+pub mod Kinds

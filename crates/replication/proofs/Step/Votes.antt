@@ -17,7 +17,7 @@ use Rattle.replication.specs.Laws.Votes as C
 use Rattle.replication.specs.Laws.Votes.{EndsExchange, VotesChange, PrimaryChange}
 use Rattle.replication.proofs.Step.Control.{control-yellow}
 
-same-quorum : (xs ys : List State) (h k : ℕ) (b : Bool) → xs ≡ ys → h ≡ k → quorum xs h ≡ b → quorum ys k ≡ b
+pub same-quorum : (xs ys : List State) (h k : ℕ) (b : Bool) → xs ≡ ys → h ≡ k → quorum xs h ≡ b → quorum ys k ≡ b
 same-quorum xs ys h k b p q r = cc
 
 same-attempt : (i j h k : ℕ) (xs ys : List State) → i ≡ j → h ≡ k → xs ≡ ys → attempted h (takenVotes i xs) ≡ attempted k (takenVotes j ys)
@@ -45,14 +45,14 @@ module _ (s : Server) where
   votes-changes (L.yellows a e) = C.yellowed a e refl refl
   votes-changes (L.installsLate a e) = C.installedLate a e refl refl refl
   votes-changes (L.exchanges k i a e c) = C.VotesChange.kept refl
-  votes-changes (L.exchangesLast k i a u us e c x) = end-changes _ (exchanged i a s) u us (C.withActions e refl) refl refl refl x
-  votes-changes (L.collects x e c) = C.VotesChange.kept refl
-  votes-changes (L.collectsLast x e c d) = C.VotesChange.kept refl
-  votes-changes (L.collectsWhole x u us e c d y) = end-changes _ (withState x s) u us (C.withStates e c) refl refl refl y
-  votes-changes (L.counts k i e c) = C.VotesChange.kept refl
+  votes-changes (L.endsOnRetransmission k i a u us e c x) = end-changes _ (exchanged i a s) u us (C.withActions e refl) refl refl refl x
+  votes-changes (L.collectsState x e c) = C.VotesChange.kept refl
+  votes-changes (L.resends x e c d) = C.VotesChange.kept refl
+  votes-changes (L.endsOnState x u us e c d y) = end-changes _ (withState x s) u us (C.withStates e c) refl refl refl y
+  votes-changes (L.collectsCpc k i e c) = C.VotesChange.kept refl
   votes-changes (L.installs k i e c) = C.VotesChange.installed k i e refl refl refl
-  votes-changes (L.countsLate k i e c) = C.VotesChange.kept refl
-  votes-changes (L.countsAllLate k i e c) = C.VotesChange.kept refl
+  votes-changes (L.collectsLateCpc k i e c) = C.VotesChange.kept refl
+  votes-changes (L.collectsLastLateCpc k i e c) = C.VotesChange.kept refl
   votes-changes (L.joins c e) = C.VotesChange.kept refl
   votes-changes (L.joinsMarked c e) = C.VotesChange.kept refl
   votes-changes (L.joinsUnmarked c e) = C.unmarked c e refl refl

@@ -61,18 +61,18 @@ pub data Transition (s : Server) : Record → Server → List Record → Bool �
   installsLate : (a : Action) → s .membership .mode ≡ Un → Transition s (action a) (inMode Trans-prim (yellow a (install s))) [] true
   exchanges : (k p : ℕ) (a : Action) → s .membership .mode ≡ Exchange-actions → allCome (exchanged p a s) ≡ false
       → Transition s (retransmission k p a) (exchanged p a s) [] false
-  exchangesLast : (k p : ℕ) (a : Action) (t : Server) (rs : List Record) → s .membership .mode ≡ Exchange-actions → allCome (exchanged p a s) ≡ true
+  endsOnRetransmission : (k p : ℕ) (a : Action) (t : Server) (rs : List Record) → s .membership .mode ≡ Exchange-actions → allCome (exchanged p a s) ≡ true
       → Ends (exchanged p a s) t rs → Transition s (retransmission k p a) t rs true
-  collects : (x : State) → s .membership .mode ≡ Exchange-states → allStatesIn (withState x s) ≡ false → Transition s (state x) (withState x s) [] false
-  collectsLast : (x : State) → s .membership .mode ≡ Exchange-states → allStatesIn (withState x s) ≡ true → (plannedNow (withState x s) =? 0) ≡ false
+  collectsState : (x : State) → s .membership .mode ≡ Exchange-states → allStatesIn (withState x s) ≡ false → Transition s (state x) (withState x s) [] false
+  resends : (x : State) → s .membership .mode ≡ Exchange-states → allStatesIn (withState x s) ≡ true → (plannedNow (withState x s) =? 0) ≡ false
       → Transition s (state x) (resending (withState x s)) (ownPart (s .servers) (s .me) (s .log) (collected (withState x s))) false
-  collectsWhole : (x : State) (t : Server) (rs : List Record) → s .membership .mode ≡ Exchange-states → allStatesIn (withState x s) ≡ true
+  endsOnState : (x : State) (t : Server) (rs : List Record) → s .membership .mode ≡ Exchange-states → allStatesIn (withState x s) ≡ true
       → (plannedNow (withState x s) =? 0) ≡ true → Ends (withState x s) t rs → Transition s (state x) t rs true
-  counts : (k i : ℕ) → s .membership .mode ≡ Construct → allCpcsIn (withCpc k s) ≡ false → Transition s (cpc k i) (withCpc k s) [] false
+  collectsCpc : (k i : ℕ) → s .membership .mode ≡ Construct → allCpcsIn (withCpc k s) ≡ false → Transition s (cpc k i) (withCpc k s) [] false
   installs : (k i : ℕ) → s .membership .mode ≡ Construct → allCpcsIn (withCpc k s) ≡ true
       → Transition s (cpc k i) (sendHeld (inMode Reg-prim (install (withCpc k s)))) (heldRecords (inMode Reg-prim (install (withCpc k s)))) true
-  countsLate : (k i : ℕ) → s .membership .mode ≡ No → allCpcsIn (withCpc k s) ≡ false → Transition s (cpc k i) (withCpc k s) [] false
-  countsAllLate : (k i : ℕ) → s .membership .mode ≡ No → allCpcsIn (withCpc k s) ≡ true → Transition s (cpc k i) (inMode Un (withCpc k s)) [] false
+  collectsLateCpc : (k i : ℕ) → s .membership .mode ≡ No → allCpcsIn (withCpc k s) ≡ false → Transition s (cpc k i) (withCpc k s) [] false
+  collectsLastLateCpc : (k i : ℕ) → s .membership .mode ≡ No → allCpcsIn (withCpc k s) ≡ true → Transition s (cpc k i) (inMode Un (withCpc k s)) [] false
   joins : (c : Configuration) → s .membership .mode ≡ Non-prim → Transition s (regular (c .id) (c .set)) (entering c s) (state (ownState c s) ∷ []) true
   joinsMarked : (c : Configuration) → s .membership .mode ≡ Un → Transition s (regular (c .id) (c .set)) (entering c s) (state (ownState c s) ∷ []) true
   joinsUnmarked : (c : Configuration) → s .membership .mode ≡ No
