@@ -1,5 +1,4 @@
 -- The configuration that a server has changes only by events that bring one, and by recovery.
-use Prim.Native.Nat.{ℕ, _+_}
 use mathlib.Core.Path.{_≡_, refl, ap}
 use mathlib.Core.Bool.{Bool}
 use mathlib.Core.List.{List}

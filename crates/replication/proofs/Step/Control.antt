@@ -1,8 +1,8 @@
 -- The control part (last primary, attempt, mark, numbered) changes only in events that store, so memory and store agree on it.
-use Prim.Native.Nat.{ℕ, _+_}
-use mathlib.Core.Path.{_≡_, refl, sym, ap, subst, _∙_}
-use mathlib.Core.Bool.{Bool, true, false}
-use mathlib.Core.List.{List, [], _∷_, _++_}
+use Prim.Native.Nat.{ℕ}
+use mathlib.Core.Path.{_≡_, refl, ap, _∙_}
+use mathlib.Core.Bool.{false}
+use mathlib.Core.List.{List}
 use Rattle.base.specs.Tests.{pick, Known, holds, fails, known}
 use Rattle.format.specs.Types.{Action, Record}
 use Rattle.replication.specs.Machine.Types.{Server, taken}

@@ -1,11 +1,10 @@
 -- With no red action, greening appends the action if it is entered; yellowing appends its id if it is entered: one fold over the delivered actions.
-use Prim.Native.Nat.{ℕ, _+_}
-use mathlib.Core.Path.{_≡_, refl, sym, ap, subst, _∙_}
-use mathlib.Core.Bool.{Bool, true, false}
+use Prim.Native.Nat.{ℕ}
+use mathlib.Core.Path.{_≡_, refl, sym, ap, _∙_}
+use mathlib.Core.Bool.{true, false}
 use mathlib.Core.List.{List, [], _∷_, _++_, map, map-append, append-nil}
-use mathlib.Core.Option.{Option, none, some}
-use lib.ListN.{getD, set}
-use Rattle.base.specs.Tests.{_=?_, _and_, pick, eq-yes, both-yes, Known, holds, fails, known}
+use mathlib.Core.Option.{some}
+use Rattle.base.specs.Tests.{pick, eq-yes, both-yes, Known, holds, fails, known}
 use Rattle.base.specs.Prefixes.{gained-then}
 use Rattle.format.specs.Types.{Id, Action}
 use Rattle.format.specs.Range.{sameId}

@@ -1,12 +1,12 @@
 -- Which records a taken event puts out, kind by kind.
-use Prim.Native.Nat.{ℕ, _+_, _≤_}
-use mathlib.Core.Path.{_≡_, refl, sym, ap, subst, _∙_}
-use mathlib.Core.Bool.{Bool, true, false}
+use Prim.Native.Nat.{ℕ, _≤_}
+use mathlib.Core.Path.{_≡_, refl, sym, ap}
+use mathlib.Core.Bool.{Bool}
 use mathlib.Core.List.{List, [], _∷_, map, List·Memᴰ, List·Memᴰ·not-nil, List·Memᴰ·eq-of-singleton, Memᴰ·of-map}
 use native.Mathlib.Omega.{arith}
-use Rattle.format.specs.Types.{Action, State, Record, action, retransmission, state, cpc, regular, transitional, request, recovery, Kind, ofAction, ofRetransmission, ofState, ofCpc, ofRegular, ofTransitional, ofRequest, ofRecovery, kindNumber, kindOf}
+use Rattle.format.specs.Types.{Action, State, Record, action, retransmission, state, cpc, kindNumber, kindOf}
 use Rattle.replication.specs.Machine.Types.{Log, Server}
-use Rattle.replication.specs.Machine.Step.{ownState, hereId, collected}
+use Rattle.replication.specs.Machine.Step.{collected}
 use Rattle.replication.specs.Laws.Sending as P
 use Rattle.replication.specs.Laws.Sending.{made, PutsOut, Resent}
 use Rattle.replication.specs.Laws.Kinds.{StateSent, PartSent, CpcSent}

@@ -1,17 +1,17 @@
 -- What each event does in a primary component.
-use Prim.Native.Nat.{ℕ, _+_}
+use Prim.Native.Nat.{ℕ}
 use mathlib.Core.Path.{_≡_, refl, sym, ap, subst, _∙_}
 use mathlib.Core.Bool.{Bool, true, false}
-use mathlib.Core.List.{List, [], _∷_, append-nil}
+use mathlib.Core.List.{List, [], append-nil}
 use Rattle.base.specs.Tests.{not-both}
-use Rattle.format.specs.Types.{Action, Record}
+use Rattle.format.specs.Types.{Record}
 use Rattle.replication.specs.Machine.Types.{Mode, Non-prim, Reg-prim, Trans-prim, Exchange-states, Exchange-actions, Construct, No, Un, Server}
 use Rattle.replication.specs.Machine.Requests.{sendsIn, sendsNow, numbered, hold}
 use Rattle.replication.specs.Machine.Step.{entering, leave, greenAndNote}
 use Rattle.replication.specs.Laws.Transitions as L
 use Rattle.replication.specs.Laws.Transitions.{Leads, Transition}
 use Rattle.replication.specs.Laws.Modes.{ColourFacts, ColourFactsOf}
-use Rattle.replication.specs.Laws.Folds.{entered, cutsAfter, Greened}
+use Rattle.replication.specs.Laws.Folds.{entered, cutsAfter}
 use Rattle.replication.specs.Laws.Primary as S
 use Rattle.replication.specs.Laws.Primary.{RegularStep, TransitionalStep}
 use Rattle.replication.proofs.Step.Folds.{green-one, yellow-one}

@@ -1,12 +1,12 @@
 -- From event to event (last primary's index, its attempt, attempt) never falls, in memory and in the store.
-use Prim.Native.Nat.{ℕ, _+_}
-use mathlib.Core.Path.{_≡_, refl, sym, ap, subst, _∙_}
+use Prim.Native.Nat.{ℕ}
+use mathlib.Core.Path.{_≡_, refl, sym, ap, _∙_}
 use mathlib.Core.Bool.{Bool, true, false}
-use mathlib.Core.List.{List, [], _∷_}
+use mathlib.Core.List.{List}
 use Rattle.base.specs.Tests.{pick, not-both}
 use Rattle.format.specs.Types.{Action, Record}
-use Rattle.replication.specs.Machine.Types.{Exchange-actions, Votes, Server, Outcome, refused, taken}
-use Rattle.replication.specs.Machine.Step.{allStatesIn, step}
+use Rattle.replication.specs.Machine.Types.{Server, Outcome, refused, taken}
+use Rattle.replication.specs.Machine.Step.{step}
 use Rattle.replication.specs.Machine.WellFormed.{wellFormed}
 use Rattle.replication.specs.Images.{Images, sourceOf, arrive, leftBy}
 use Rattle.replication.specs.Laws.Transitions.{Transition}
@@ -14,7 +14,6 @@ use Rattle.replication.specs.Laws.Images.{next}
 use Rattle.replication.specs.Laws.Order.{AtMost, SameControl, inExchange, OwnStateTrue, OwnStateTrueAt}
 use Rattle.replication.proofs.Step.Inversion.{taken-by}
 use Rattle.replication.proofs.Step.Moves.{moved}
-use Rattle.replication.proofs.Step.Control.{control-refl}
 use Rattle.replication.proofs.Step.Formed.{every-state-in}
 use Rattle.replication.proofs.Step.Lifts.{source-of}
 use Rattle.replication.proofs.Step.VotesOrder.{hearing-keeps, at-most-same, at-most-refl, at-most-trans, votes-rise}

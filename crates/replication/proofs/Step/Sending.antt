@@ -1,23 +1,22 @@
 -- What a taken event puts out, and what it numbers and holds.
 use Prim.Native.Nat.{ℕ, _+_}
-use mathlib.Core.Path.{_≡_, refl, sym, ap, subst, _∙_}
+use mathlib.Core.Path.{_≡_, refl, ap, subst, _∙_}
 use mathlib.Core.Bool.{Bool, true, false}
 use mathlib.Core.List.{List, [], _∷_, _++_, map}
-use mathlib.Core.Option.{Option, none, some}
 use lib.ListN.{length}
-use Rattle.format.specs.Types.{Action, State, Record, action, request, retransmission, state}
-use Rattle.replication.specs.Machine.Types.{Mode, Log, Server, inMode, Non-prim, Reg-prim}
-use Rattle.replication.specs.Machine.Colours.{enter, red, reds, promote, green, yellow}
-use Rattle.replication.specs.Machine.Install.{installLog, install}
+use Rattle.format.specs.Types.{Record, action}
+use Rattle.replication.specs.Machine.Types.{Server, inMode, Non-prim, Reg-prim}
+use Rattle.replication.specs.Machine.Colours.{green, yellow}
+use Rattle.replication.specs.Machine.Install.{install}
 use Rattle.replication.specs.Machine.Requests.{numberedFrom, madeOf, numbered, hold, sendHeld, heldRecords, recovered}
-use Rattle.replication.specs.Machine.Step.{entering, ownState, hereId, collected, decided, attempting, withState, allStatesIn, plannedNow, resending, placed, oneMore, exchanged, withCpc, leave, greenAndNote, hereSet}
+use Rattle.replication.specs.Machine.Step.{entering, ownState, hereId, collected, decided, attempting, withState, allStatesIn, plannedNow, resending, oneMore, exchanged, withCpc, leave, greenAndNote, hereSet}
 use Rattle.replication.specs.Laws.Transitions as L
 use Rattle.replication.specs.Laws.Transitions.{Ends, Transition}
 use Rattle.replication.specs.Laws.Order.{hearing}
 use Rattle.replication.specs.Laws.Votes as C
 use Rattle.replication.specs.Laws.Votes.{EndsExchange}
 use Rattle.replication.specs.Laws.Sending as P
-use Rattle.replication.specs.Laws.Sending.{made, Numbers, PutsOut, HeldChange, RequestKept}
+use Rattle.replication.specs.Laws.Sending.{made, Numbers, PutsOut}
 use Rattle.replication.proofs.Step.Votes.{same-quorum}
 use Rattle.replication.proofs.Step.Numbered.{numbered-red, numbered-reds, numbered-green, numbered-placed, numbered-install, numbered-yellow}
 

@@ -1,8 +1,7 @@
 -- A rule's effect is never a refusal, and names as newly green what the green list gained.
-use Prim.Native.Nat.{ℕ, _+_}
 use mathlib.Core.Path.{_≡_, refl}
 use mathlib.Core.Bool.{Bool, true, false}
-use mathlib.Core.List.{List, [], _∷_}
+use mathlib.Core.List.{List}
 use Rattle.base.specs.Tests.{pick}
 use Rattle.format.specs.Types.{Record}
 use Rattle.replication.specs.Machine.Types.{Server, Outcome, taken}

@@ -1,11 +1,11 @@
 -- How a taken event changes the votes.
-use Prim.Native.Nat.{ℕ, _+_}
-use mathlib.Core.Path.{_≡_, refl, sym, ap, subst, _∙_}
+use Prim.Native.Nat.{ℕ}
+use mathlib.Core.Path.{_≡_, refl, ap, _∙_}
 use mathlib.Core.Bool.{Bool, true, false}
-use mathlib.Core.List.{List, [], _∷_}
+use mathlib.Core.List.{List}
 use mathlib.Core.Logic.{inl, inr}
-use Rattle.format.specs.Types.{Action, State, Record}
-use Rattle.replication.specs.Machine.Types.{Server, Votes}
+use Rattle.format.specs.Types.{State, Record}
+use Rattle.replication.specs.Machine.Types.{Server}
 use Rattle.replication.specs.Machine.Exchange.{takenVotes, attempted, quorum}
 use Rattle.replication.specs.Machine.Install.{install, installVotes}
 use Rattle.replication.specs.Machine.Requests.{numbered, hold, sendHeld, recovered}

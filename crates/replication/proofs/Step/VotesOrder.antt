@@ -1,9 +1,8 @@
 -- (last primary's index, its attempt, attempt) never falls in a taken event, while the own State says what the server has.
-use Prim.Native.Nat.{ℕ, _+_, _≤_, _<_}
-use mathlib.Core.Path.{_≡_, refl, sym, ap, subst, _∙_}
-use mathlib.Core.Bool.{Bool, true, false}
-use mathlib.Core.List.{List, [], _∷_, List·Memᴰ}
-use mathlib.Core.Option.{Option, none, some}
+use Prim.Native.Nat.{ℕ, _+_}
+use mathlib.Core.Path.{_≡_, refl, sym, ap, _∙_}
+use mathlib.Core.Bool.{Bool, true}
+use mathlib.Core.List.{List, List·Memᴰ}
 use native.Mathlib.Omega.{arith}
 use Rattle.base.specs.Tests.{_<?_, lt-holds, lt-fails, Known, holds, fails, known}
 use Rattle.base.specs.Members.{present-has}

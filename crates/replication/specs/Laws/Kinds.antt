@@ -4,7 +4,7 @@ use Prim.Native.Nat.{ℕ}
 use mathlib.Core.Path.{_≡_}
 use mathlib.Core.Bool.{Bool, true, false}
 use mathlib.Core.List.{List, [], _∷_}
-use mathlib.Core.Option.{Option, some}
+use mathlib.Core.Option.{some}
 use Rattle.format.specs.Types.{State, Record, state, cpc, regular}
 use Rattle.replication.specs.Machine.Types.{Exchange-states, Exchange-actions, Construct, Configuration, Server}
 use Rattle.replication.specs.Machine.Exchange.{quorum}

@@ -3,9 +3,9 @@
 use Prim.Native.Nat.{ℕ}
 use mathlib.Core.Path.{_≡_}
 use mathlib.Core.List.{List, [], _∷_}
-use mathlib.Core.Option.{Option, none, some}
+use mathlib.Core.Option.{none, some}
 use Rattle.format.specs.Types.{Action, Record, action, regular, transitional, request, recovery}
-use Rattle.replication.specs.Machine.Types.{Reg-prim, Trans-prim, Exchange-states, Configuration, Membership, Server}
+use Rattle.replication.specs.Machine.Types.{Trans-prim, Exchange-states, Configuration, Membership, Server}
 use Rattle.replication.specs.Machine.Step.{unmarked, yellowValid}
 use Rattle.replication.specs.Laws.Folds.{Greened, Yellowed}
 

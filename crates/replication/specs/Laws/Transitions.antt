@@ -4,19 +4,19 @@ use Prim.Native.Nat.{ℕ}
 use mathlib.Core.Path.{_≡_}
 use mathlib.Core.Bool.{Bool, true, false}
 use mathlib.Core.List.{List, [], _∷_, map}
-use mathlib.Core.Option.{Option, none, some}
+use mathlib.Core.Option.{some}
 use Rattle.base.specs.Tests.{_or_, _=?_}
 use Rattle.format.specs.Types.{Action, State, Record, action, retransmission, state, cpc, regular, transitional, request, recovery, says}
 use Rattle.format.specs.Read.{read}
 use Rattle.format.specs.Write.{write}
-use Rattle.replication.specs.Machine.Types.{Mode, Non-prim, Reg-prim, Trans-prim, Exchange-states, Exchange-actions, Construct, No, Un, Configuration, Membership, Server, Outcome, taken, withLog, withVotes, inMode, contextOf}
+use Rattle.replication.specs.Machine.Types.{Mode, Non-prim, Reg-prim, Trans-prim, Exchange-states, Exchange-actions, Construct, No, Un, Configuration, Server, taken, withLog, withVotes, inMode, contextOf}
 use Rattle.replication.specs.Machine.Colours.{red, yellow}
 use Rattle.replication.specs.Machine.Exchange.{quorum}
 use Rattle.replication.specs.Machine.Install.{install}
 use Rattle.replication.specs.Machine.Plan.{ownPart}
 use Rattle.replication.specs.Machine.Requests.{sendsNow, numbered, madeOf, hold, sendHeld, heldRecords, recovered}
 use Rattle.replication.specs.Machine.Rules.{Rule, ruleFor, possible, fromMember, isIgnored, withinQuota, withinHeld}
-use Rattle.replication.specs.Machine.Step.{greened, entering, ownState, unmarked, yellowValid, hereSet, hereId, collected, decided, attempting, withState, allStatesIn, plannedNow, resending, exchanged, allCome, withCpc, allCpcsIn, leave, greenAndNote, apply, step}
+use Rattle.replication.specs.Machine.Step.{entering, ownState, unmarked, yellowValid, hereSet, hereId, collected, decided, attempting, withState, allStatesIn, plannedNow, resending, exchanged, allCome, withCpc, allCpcsIn, leave, greenAndNote, apply}
 
 -- ---- the rule
 
