@@ -5,5 +5,8 @@ pub mod Occurs
 pub mod Pigeonhole
 pub mod Sets
 pub mod Lists
+pub mod ListLaws
+pub mod Counts
+pub mod SetLaws
 pub mod Text
 pub mod Opened
