@@ -2,6 +2,8 @@ pub mod Tests
 pub mod Bytes
 pub mod BytesLaws
 pub mod Occurs
+pub mod Patched
+pub mod Sections
 pub mod Pigeonhole
 pub mod Sets
 pub mod Lists

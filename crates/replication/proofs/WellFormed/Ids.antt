@@ -117,7 +117,7 @@ up-to-each P k [] f = tt
 up-to-each P k (x ∷ cuts) f =
     each-append P (map (λ i. record { creator = k; index = i }) (above 0 x)) (idsUpTo (k + 1) cuts)
     (each-map P (λ i. record { creator = k; index = i }) (above 0 x)
-      (each-implied (λ i. (0 < i) × (i ≤ x)) (λ i. P (record { creator = k; index = i })) here (above 0 x) (above-between 0 x)))
+    (each-implied (λ i. (0 < i) × (i ≤ x)) (λ i. P (record { creator = k; index = i })) here (above 0 x) (above-between 0 x)))
     (up-to-each P (k + 1) cuts (λ c i l m. let e : k + 1 + c ≡ k + suc c = omega arith in rw e (f (suc c) i l m)))
   where
     here : (i : ℕ) → (0 < i) × (i ≤ x) → P (record { creator = k; index = i })
@@ -130,7 +130,7 @@ each-up-to P k [] h c i l m = absurd (omega arith)
 each-up-to P k (x ∷ cuts) h zero i l m =
     let e : k + 0 ≡ k = omega arith in
     rw e (above-each (λ j. P (record { creator = k; index = j })) 0 x
-      (map-each P (λ j. record { creator = k; index = j }) (above 0 x) (each-first P (map (λ j. record { creator = k; index = j }) (above 0 x)) (idsUpTo (k + 1) cuts) h)) i l m)
+    (map-each P (λ j. record { creator = k; index = j }) (above 0 x) (each-first P (map (λ j. record { creator = k; index = j }) (above 0 x)) (idsUpTo (k + 1) cuts) h)) i l m)
 each-up-to P k (x ∷ cuts) h (suc c) i l m =
     let e : k + 1 + c ≡ k + suc c = omega arith in
     rw e at (each-up-to P (k + 1) cuts (each-second P (map (λ j. record { creator = k; index = j }) (above 0 x)) (idsUpTo (k + 1) cuts) h) c i l m)

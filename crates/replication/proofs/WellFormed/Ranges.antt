@@ -53,7 +53,7 @@ unfolding contextOk sizesOk
 sizes-ok c f =
     both-yes _ _
     (both-yes _ _ (le-yes fewestServers (c .servers) (f .fewest))
-      (both-yes _ _ (le-yes (c .servers) mostServers (f .most)) (both-yes _ _ (le-yes leastQuota (c .quota) (f .least)) (le-yes (c .quota) mostQuota (f .highest)))))
+    (both-yes _ _ (le-yes (c .servers) mostServers (f .most)) (both-yes _ _ (le-yes leastQuota (c .quota) (f .least)) (le-yes (c .quota) mostQuota (f .highest)))))
     (lt-yes (c .self) (c .servers) (f .own))
 
 pub payload-facts : (p : List ℕ) → payloadOk p ≡ true → PayloadFits p
@@ -137,7 +137,7 @@ module _ (c : Context) where
   mark-ok m f =
       both-yes _ _ (le-yes (m .status) 1 (f .status))
       (both-yes _ _ (le-yes (m .index) mostIndex (f .index))
-        (both-yes _ _ (le-yes (m .attempt) mostIndex (f .attempt)) (both-yes _ _ (set-ok (m .set) (f .set)) (set-ok (m .bits) (f .bits)))))
+      (both-yes _ _ (le-yes (m .attempt) mostIndex (f .attempt)) (both-yes _ _ (set-ok (m .set) (f .set)) (set-ok (m .bits) (f .bits)))))
 
   pub ids-facts : (xs : List Id) → idsInRange c xs ≡ true → Each (IdFits (c .servers) (c .quota)) xs
   unfolding idsInRange
@@ -188,11 +188,11 @@ module _ (c : Context) where
   state-ok x f =
       both-yes _ _ (lt-yes (x .sender) (c .servers) (f .sender))
       (both-yes _ _ (lt-yes (x .configuration) (2 ^ 32) (f .configuration))
-        (both-yes _ _ (eq-yes (length (x .cuts)) (c .servers) (f .cuts-length))
-          (both-yes _ _ (cuts-ok (c .quota) (x .cuts) (f .cuts))
-            (both-yes _ _ (length-ok (x .greenLength) (f .greenLength))
-              (both-yes _ _ (le-yes (x .attempt) mostIndex (f .attempt))
-                (both-yes _ _ (primary-ok (x .last) (f .last)) (both-yes _ _ (mark-ok (x .mark) (f .mark)) (yellow-ok (x .yellow) (f .yellow)))))))))
+      (both-yes _ _ (eq-yes (length (x .cuts)) (c .servers) (f .cuts-length))
+      (both-yes _ _ (cuts-ok (c .quota) (x .cuts) (f .cuts))
+      (both-yes _ _ (length-ok (x .greenLength) (f .greenLength))
+      (both-yes _ _ (le-yes (x .attempt) mostIndex (f .attempt))
+      (both-yes _ _ (primary-ok (x .last) (f .last)) (both-yes _ _ (mark-ok (x .mark) (f .mark)) (yellow-ok (x .yellow) (f .yellow)))))))))
 
   pub own-set-facts : (s : ℕ) → ownSetOk c s ≡ true → OwnSetFits (c .servers) (c .self) s
   unfolding ownSetOk
