@@ -1,3 +1,4 @@
 pub mod InRange
 pub mod Used
 pub mod Fit
+pub mod Again
