@@ -2,3 +2,4 @@ pub mod InRange
 pub mod Used
 pub mod Fit
 pub mod Again
+pub mod Slots

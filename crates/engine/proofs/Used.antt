@@ -157,10 +157,10 @@ state-over-bytes none l h = h
 state-over-bytes (some x) l h = over-bytes (write (state x)) l (state-record-bytes x) h
 
 -- The first of at least one slot.
-first-slot : (size m : ℕ) (l : List ℕ) → suc m * size ≤ length l → length (take size l) ≡ size
+pub first-slot : (size m : ℕ) (l : List ℕ) → suc m * size ≤ length l → length (take size l) ≡ size
 first-slot size m l h = length-take size l ∙ omega (arith, suc-mul m size)
 
-more-slots : (size m : ℕ) (l : List ℕ) → suc m * size ≤ length l → m * size ≤ length (drop size l)
+pub more-slots : (size m : ℕ) (l : List ℕ) → suc m * size ≤ length l → m * size ≤ length (drop size l)
 more-slots size m l h = omega (arith, suc-mul m size, length-drop size l)
 
 pub states-over-length : (size : ℕ) (xs : List (Option State)) (l : List ℕ) → Each (StateFits size) xs → length xs * size ≤ length l
