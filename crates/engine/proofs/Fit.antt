@@ -87,27 +87,27 @@ module _ (s : Server) (f : SectionsFit s) (b : List ℕ) (h : stateLength (s .se
   pub parts-sized : Sized (sections (s .servers) (s .quota)) (parts (s .servers) (s .quota) s b)
   unfolding parts sections sectionSize
   parts-sized = (
-      header-length s,
+    header-length s,
+    (
+      over-section (s .servers) (s .quota) theCuts _ b (omega (arith, cuts-length (s .log .cuts), f .cuts)) h,
       (
-        over-section (s .servers) (s .quota) theCuts _ b (omega (arith, cuts-length (s .log .cuts), f .cuts)) h,
+        over-section (s .servers) (s .quota) theNoted _ b (omega (arith, noted-length (s .noted), f .noted)) h,
         (
-          over-section (s .servers) (s .quota) theNoted _ b (omega (arith, noted-length (s .noted), f .noted)) h,
+          over-section (s .servers) (s .quota) theHeld _ b (omega (arith, held-slots-length (s .held) (f .held), f .heldCount)) h,
           (
-            over-section (s .servers) (s .quota) theHeld _ b (omega (arith, held-slots-length (s .held) (f .held), f .heldCount)) h,
+            states,
             (
-              states,
+              over-section (s .servers) (s .quota) theYellow _ b (omega (arith, ids-length (s .votes .yellow .ids), f .ids)) h,
               (
-                over-section (s .servers) (s .quota) theYellow _ b (omega (arith, ids-length (s .votes .yellow .ids), f .ids)) h,
-                (
-                  over-section (s .servers) (s .quota) theOwn _ b (omega (arith, action-slots-length (s .log .own) (f .own), f .ownCount)) h,
-                  (over-section (s .servers) (s .quota) theQueue _ b (omega (arith, action-slots-length (queue (s .log)) (f .actions), f .queueCount)) h, tt),
-                ),
+                over-section (s .servers) (s .quota) theOwn _ b (omega (arith, action-slots-length (s .log .own) (f .own), f .ownCount)) h,
+                (over-section (s .servers) (s .quota) theQueue _ b (omega (arith, action-slots-length (queue (s .log)) (f .actions), f .queueCount)) h, tt),
               ),
             ),
           ),
         ),
       ),
-    )
+    ),
+  )
     where
       states : length (statesOver (stateSize (s .servers) (s .quota)) (s .membership .states) (section (s .servers) (s .quota) theStates b)) ≡ s .servers * stateSize (s .servers) (s .quota)
       states =

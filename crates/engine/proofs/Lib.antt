@@ -3,3 +3,4 @@ pub mod Used
 pub mod Fit
 pub mod Again
 pub mod Slots
+pub mod Header

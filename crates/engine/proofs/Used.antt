@@ -129,10 +129,49 @@ header-length s = simp (length-append, configuration-length, transitional-length
 pub header-bytes : (s : Server) → Bytes (headerBytes s)
 unfolding headerBytes
 header-bytes s =
-    bytes-joined _
-    (bytes-small 1 _, (bytes-small 2 _, (bytes-small 1 _, (bytes-small 1 _, (configuration-bytes _, (transitional-bytes _,
-    (bytes-small 1 _, (bytes-small 1 _, (bytes-small 4 _, (bytes-small 4 _, (bytes-small 4 _, (bytes-small 2 _, (bytes-small 2 _, (bytes-small 2 _,
-    (bytes-small 4 _, (primary-bytes _, (mark-bytes _, (bytes-small 1 _, (bytes-small 2 _, tt)))))))))))))))))))
+    bytes-joined _ (
+      bytes-small 1 _,
+      (
+        bytes-small 2 _,
+        (
+          bytes-small 1 _,
+          (
+            bytes-small 1 _,
+            (
+              configuration-bytes _,
+              (
+                transitional-bytes _,
+                (
+                  bytes-small 1 _,
+                  (
+                    bytes-small 1 _,
+                    (
+                      bytes-small 4 _,
+                      (
+                        bytes-small 4 _,
+                        (
+                          bytes-small 4 _,
+                          (
+                            bytes-small 2 _,
+                            (
+                              bytes-small 2 _,
+                              (
+                                bytes-small 2 _,
+                                (bytes-small 4 _, (primary-bytes _, (mark-bytes _, (bytes-small 1 _, (bytes-small 2 _, tt))))),
+                              ),
+                            ),
+                          ),
+                        ),
+                      ),
+                    ),
+                  ),
+                ),
+              ),
+            ),
+          ),
+        ),
+      ),
+    )
 
 -- ---- States
 
