@@ -4,3 +4,4 @@ pub mod Fit
 pub mod Again
 pub mod Slots
 pub mod Header
+pub mod Decoded
