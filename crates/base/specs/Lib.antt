@@ -3,11 +3,11 @@ pub mod Bytes
 pub mod BytesLaws
 pub mod Occurs
 pub mod Patched
-pub mod Sections
 pub mod Pigeonhole
 pub mod Sets
 pub mod Lists
 pub mod ListLaws
+pub mod Sections
 pub mod Counts
 pub mod SetLaws
 pub mod Text

@@ -4,12 +4,14 @@ use Prim.Native.Nat.{ℕ, zero, suc, _+_, _≤_, _<_}
 use mathlib.Core.Path.{_≡_, refl, sym, ap, ap₂, _∙_}
 use mathlib.Core.List.{List, [], _∷_, _++_, append-assoc}
 use native.Mathlib.Omega.{arith}
+use native.Mathlib.Decide.{ℕ-discrete}
 use native.Mathlib.Nat.{zero-add, add-zero}
 use lib.ListN.{length, getD, take, drop, set, length-append, length-take, length-drop, take-append-drop}
-use lib.Seq.{take-at, drop-at, drop-drop, take-append-add, drop-append-add, drop-append-le, take-add, take-take}
+use lib.Seq.{getD-set-same, getD-set-other, ext-getD, take-at, drop-at, drop-drop, take-append-add, drop-append-add, drop-append-le, take-add, take-take}
 use Rattle.base.specs.Bytes.{partAt, joined}
 use Rattle.base.specs.BytesLaws.{part-length, part-behind}
 use Rattle.base.specs.Lists.{sum}
+use Rattle.base.specs.ListLaws.{Each}
 use Rattle.base.specs.Patched.{patched, patched-length, patched-behind}
 
 -- The parts have these sizes.
@@ -190,3 +192,47 @@ pub laid-cut : (ws : List ℕ) (b : List ℕ) → sum ws ≤ length b → Laid w
 laid-cut ws b h =
     let e : 0 + sum ws ≡ sum ws = zero-add (sum ws) in
     record { sized = cut-sized ws 0 b (omega arith); whole = sym (ap (λ (k : ℕ). joined (cutBy ws 0 b) ++ drop k b) (sym e) ∙ cut-whole ws 0 b) }
+
+-- ---- several sections written anew, one after the other
+
+-- b with the sections of these numbers replaced by those of `ts`.
+unfoldable pub patchedAll : List ℕ → List ℕ → List (List ℕ) → List ℕ → List ℕ
+patchedAll ws [] ts b = b
+patchedAll ws (k ∷ ks) ts b = patchedAll ws ks ts (patched (begin ws k) (getD ts k []) b)
+
+-- The number j is none of these.
+abbrev pub NoneOf : List ℕ → ℕ → Type 0
+NoneOf ks j = Each (λ k. j ≡ k → ⊥) ks
+
+set-agrees : (m : ℕ) (ps ts : List (List ℕ)) (k : ℕ) (ks : List ℕ) → k < length ps
+    → ((j : ℕ) → j < m → NoneOf (k ∷ ks) j → getD ps j [] ≡ getD ts j [])
+    → (j : ℕ) → j < m → NoneOf ks j → getD (set ps k (getD ts k [])) j [] ≡ getD ts j []
+set-agrees m ps ts k ks h agree j l none-of = go (ℕ-discrete j k)
+  where
+    go : Dec (j ≡ k) → getD (set ps k (getD ts k [])) j [] ≡ getD ts j []
+    go (yes e) = rw e (getD-set-same ps k (getD ts k []) [] h)
+    go (no e) = getD-set-other ps k j (getD ts k []) [] e ∙ agree j l (e, none-of)
+
+-- Where all other sections are already those of `ts`, the result is laid out in `ts`.
+pub all-patched : (ws ks : List ℕ) (ps ts : List (List ℕ)) (b : List ℕ) → Laid ws ps b → Sized ws ts → Each (λ k. k < length ws) ks
+    → ((j : ℕ) → j < length ws → NoneOf ks j → getD ps j [] ≡ getD ts j []) → patchedAll ws ks ts b ≡ joined ts ++ drop (sum ws) b
+unfolding patchedAll
+all-patched ws [] ps ts b l f h agree =
+    let count : length ps ≡ length ws = sized-count ws ps (l .sized) in
+    let same : ps ≡ ts = ext-getD [] ps ts (count ∙ sym (sized-count ws ts f)) (λ i k. agree i (omega arith) tt) in
+    l .whole ∙ ap (λ (xs : List (List ℕ)). joined xs ++ drop (sum ws) b) same
+all-patched ws (k ∷ ks) ps ts b l f h agree =
+    let y : List ℕ = getD ts k [] in
+    let size : length y ≡ getD ws k 0 = sized-at ws ts k f in
+    let inside : k < length ps = omega (arith, h .0, sized-count ws ps (l .sized)) in
+    all-patched ws ks (set ps k y) ts (patched (begin ws k) y b) (laid-set ws ps b l k y (h .0) size) f (h .1) (set-agrees (length ws) ps ts k ks inside agree)
+    ∙ ap (λ (r : List ℕ). joined ts ++ r) (laid-rest ws ps b l k y (h .0) size)
+
+-- The sections of b by their numbers.
+pub cut-at : (ws : List ℕ) (at : ℕ) (b : List ℕ) (k : ℕ) → k < length ws → getD (cutBy ws at b) k [] ≡ partAt (getD ws k 0) b (at + begin ws k)
+unfolding cutBy sum
+cut-at [] at b k h = absurd (omega arith)
+cut-at (w ∷ ws) at b zero h = rw add-zero
+cut-at (w ∷ ws) at b (suc k) h =
+    let there : at + w + begin ws k ≡ at + (w + begin ws k) = omega arith in
+    cut-at ws (at + w) b k (omega arith) ∙ ap (λ (m : ℕ). partAt (getD ws k 0) b m) there
