@@ -7,6 +7,7 @@ pub mod Pigeonhole
 pub mod Sets
 pub mod Lists
 pub mod ListLaws
+pub mod SameLaws
 pub mod Sections
 pub mod Counts
 pub mod SetLaws

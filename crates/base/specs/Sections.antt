@@ -7,7 +7,7 @@ use native.Mathlib.Omega.{arith}
 use native.Mathlib.Decide.{ℕ-discrete}
 use native.Mathlib.Nat.{zero-add, add-zero}
 use lib.ListN.{length, getD, take, drop, set, length-append, length-take, length-drop, take-append-drop}
-use lib.Seq.{getD-set-same, getD-set-other, ext-getD, take-at, drop-at, drop-drop, take-append-add, drop-append-add, drop-append-le, take-add, take-take}
+use lib.Seq.{getD-set-same, getD-set-other, ext-getD, take-at, drop-at, drop-drop, take-append-add, drop-append-add, drop-append-le, take-append-le, take-add, take-take}
 use Rattle.base.specs.Bytes.{partAt, joined}
 use Rattle.base.specs.BytesLaws.{part-length, part-behind}
 use Rattle.base.specs.Lists.{sum}
@@ -154,6 +154,13 @@ module _ (ws : List ℕ) (ps : List (List ℕ)) (b : List ℕ) (l : Laid ws ps b
 
 drop-taken : (m w : ℕ) (l : List ℕ) → m ≤ length (take w l) → drop m (take w l) ++ drop w l ≡ drop m l
 drop-taken m w l h = sym (drop-append-le m (take w l) (drop w l) h) ∙ ap (λ (k : List ℕ). drop m k) (take-append-drop w l)
+
+pub patched-front : (i : ℕ) (x y r : List ℕ) → i + length x ≤ length y → patched i x (y ++ r) ≡ patched i x y ++ r
+unfolding patched
+patched-front i x y r h =
+    let low : take i (y ++ r) ≡ take i y = take-append-le i y r (omega arith) in
+    let high : drop (i + length x) (y ++ r) ≡ drop (i + length x) y ++ r = drop-append-le (i + length x) y r h in
+    rw (low, high, append-assoc (take i y) (x ++ drop (i + length x) y) r, append-assoc x (drop (i + length x) y) r)
 
 pub patched-inside : (at i w : ℕ) (x b : List ℕ) → i + length x ≤ w → at + w ≤ length b → patched (at + i) x b ≡ patched at (patched i x (partAt w b at)) b
 unfolding patched partAt

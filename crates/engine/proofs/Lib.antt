@@ -5,3 +5,5 @@ pub mod Again
 pub mod Slots
 pub mod Header
 pub mod Decoded
+pub mod ImageLaws
+pub mod InPlace
