@@ -7,3 +7,4 @@ pub mod Header
 pub mod Decoded
 pub mod ImageLaws
 pub mod InPlace
+pub mod Refusals
