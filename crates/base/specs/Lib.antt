@@ -3,6 +3,7 @@ pub mod Bytes
 pub mod BytesLaws
 pub mod Occurs
 pub mod Patched
+pub mod Stores
 pub mod Pigeonhole
 pub mod Sets
 pub mod Lists

@@ -1,0 +1,4 @@
+pub mod WriterBlocks
+pub mod WriterRecords
+pub mod WriterState
+pub mod WriterRoundTrip
