@@ -1,8 +1,9 @@
 // Records: the types that the reader, the writer and the engine share, and document 01's limits.
 ghost use mathlib.Core.Path.{_≡_};
-ghost use Rattle.record.specs.Reading.{readingContext};
+ghost use Rattle.record.specs.Context.{readingContext};
 
 pub mod bytes; // bytes.rt: numbers in bytes
+pub mod range; // range.rt: which numbers and sets are in range
 
 // The index of a primary component, and that of an attempt to create one: neither stands for the other.
 pub struct PrimaryIndex(pub u32);

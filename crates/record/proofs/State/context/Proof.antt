@@ -1,5 +1,5 @@
 use borrow.Author.Needs.{needs}
-use Rattle.record.specs.Reading.{readingContext}
+use Rattle.record.specs.Context.{readingContext}
 use Rattle.record.proofs.State.context.Statement.{statement}
 use Rattle.record.proofs.State.context.Tie as tie
 

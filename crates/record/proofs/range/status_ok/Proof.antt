@@ -1,0 +1,15 @@
+use Rattle.format.specs.Range.{statusOk}
+use Rattle.base.specs.Branches.{told}
+use borrow.Author.Needs.{needs}
+use Rattle.record.proofs.range.status_ok.Statement.{statement}
+use Rattle.record.proofs.range.status_ok.Tie as tie
+use Rattle.record.proofs.range.status_ok.Reads as reads
+use Rattle.record.proofs.range.status_ok.Lts as lts
+
+-- src/range.rt:71:1
+returns : tie.Need-returns
+unfolding statusOk
+returns c = search (needs, told)
+
+pub status-ok-spec : {M : Type 1} → statement M
+status-ok-spec = tie.close (tie.spec returns)
