@@ -4,6 +4,7 @@ ghost use Rattle.record.specs.Context.{readingContext};
 
 pub mod bytes; // bytes.rt: numbers in bytes
 pub mod range; // range.rt: which numbers and sets are in range
+pub mod lists; // lists.rt: lists in bytes
 
 // The index of a primary component, and that of an attempt to create one: neither stands for the other.
 pub struct PrimaryIndex(pub u32);
