@@ -2,3 +2,4 @@ pub mod Numbers
 pub mod Ranges
 pub mod Marks
 pub mod Turns
+pub mod Made

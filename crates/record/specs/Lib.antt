@@ -1,2 +1,4 @@
 pub mod Context
 pub mod Values
+pub mod Events
+pub mod Framed

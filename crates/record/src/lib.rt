@@ -5,6 +5,8 @@ ghost use Rattle.record.specs.Context.{readingContext};
 pub mod bytes; // bytes.rt: numbers in bytes
 pub mod range; // range.rt: which numbers and sets are in range
 pub mod lists; // lists.rt: lists in bytes
+pub mod events; // events.rt: an event that was read
+pub mod frame; // frame.rt: its frame
 
 // The index of a primary component, and that of an attempt to create one: neither stands for the other.
 pub struct PrimaryIndex(pub u32);
