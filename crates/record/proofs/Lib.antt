@@ -3,3 +3,4 @@ pub mod Ranges
 pub mod Marks
 pub mod Turns
 pub mod Made
+pub mod Frames

@@ -75,3 +75,106 @@ fn state_at(e: &[u8], n: usize) -> StateAt
         yellow_count: num16(e, 38 + 2 * n) as usize,
     }
 }
+
+fn frame_action(e: &[u8]) -> Framed
+    ensures { λ r. ⌜ ((n : ℕ) → Answers (bodyIn ofAction n (now (e .entry))) n r (now (e .entry))) ⌝ }
+{
+    if e.len() < 12 {
+        return Framed::Bad;
+    }
+    let m = num8(e, 11) as usize;
+    if 12 + m != e.len() {
+        return Framed::Bad;
+    }
+    Framed::Good(Event::Action(action_at(e, 4)))
+}
+
+fn frame_retransmission(e: &[u8]) -> Framed
+    ensures { λ r. ⌜ ((n : ℕ) → Answers (bodyIn ofRetransmission n (now (e .entry))) n r (now (e .entry))) ⌝ }
+{
+    if e.len() < 17 {
+        return Framed::Bad;
+    }
+    let m = num8(e, 16) as usize;
+    if 17 + m != e.len() {
+        return Framed::Bad;
+    }
+    let action = action_at(e, 9);
+    Framed::Good(Event::Retransmission {
+        sender: num8(e, 4),
+        position: num32(e, 5),
+        action,
+    })
+}
+
+fn frame_state(e: &[u8], n: usize) -> Framed
+    requires { ⌜ n ≤ 255 ⌝ }
+    ensures { λ r. ⌜ Answers (bodyIn ofState n (now (e .entry))) n r (now (e .entry)) ⌝ }
+{
+    if e.len() < 40 + 2 * n {
+        return Framed::Bad;
+    }
+    let m = num16(e, 38 + 2 * n) as usize;
+    if 40 + 2 * n + 3 * m != e.len() {
+        return Framed::Bad;
+    }
+    Framed::Good(Event::State(state_at(e, n)))
+}
+
+fn frame_cpc(e: &[u8]) -> Framed
+    ensures { λ r. ⌜ ((n : ℕ) → Answers (bodyIn ofCpc n (now (e .entry))) n r (now (e .entry))) ⌝ }
+{
+    if e.len() != 9 {
+        return Framed::Bad;
+    }
+    Framed::Good(Event::Cpc {
+        sender: num8(e, 4),
+        configuration: num32(e, 5),
+    })
+}
+
+fn frame_regular(e: &[u8]) -> Framed
+    ensures { λ r. ⌜ ((n : ℕ) → Answers (bodyIn ofRegular n (now (e .entry))) n r (now (e .entry))) ⌝ }
+{
+    if e.len() != 9 {
+        return Framed::Bad;
+    }
+    Framed::Good(Event::Regular {
+        configuration: num32(e, 4),
+        set: num8(e, 8),
+    })
+}
+
+fn frame_transitional(e: &[u8]) -> Framed
+    ensures { λ r. ⌜ ((n : ℕ) → Answers (bodyIn ofTransitional n (now (e .entry))) n r (now (e .entry))) ⌝ }
+{
+    if e.len() != 5 {
+        return Framed::Bad;
+    }
+    Framed::Good(Event::Transitional { set: num8(e, 4) })
+}
+
+fn frame_request(e: &[u8]) -> Framed
+    ensures { λ r. ⌜ ((n : ℕ) → Answers (bodyIn ofRequest n (now (e .entry))) n r (now (e .entry))) ⌝ }
+{
+    if e.len() < 5 {
+        return Framed::Bad;
+    }
+    let m = num8(e, 4) as usize;
+    if 5 + m != e.len() {
+        return Framed::Bad;
+    }
+    Framed::Good(Event::Request {
+        payload_at: 5,
+        payload_length: m,
+    })
+}
+
+fn frame_recovery(e: &[u8]) -> Framed
+    ensures { λ r. ⌜ ((n : ℕ) → Answers (bodyIn ofRecovery n (now (e .entry))) n r (now (e .entry))) ⌝ }
+{
+    if e.len() != 4 {
+        return Framed::Bad;
+    }
+    Framed::Good(Event::Recovery)
+}
