@@ -4,3 +4,4 @@ pub mod Marks
 pub mod Turns
 pub mod Made
 pub mod Frames
+pub mod Heads

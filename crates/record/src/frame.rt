@@ -178,3 +178,38 @@ fn frame_recovery(e: &[u8]) -> Framed
     }
     Framed::Good(Event::Recovery)
 }
+
+// Whether the length bytes and the version are right. There is a kind byte then.
+fn head_ok(e: &[u8]) -> bool
+    ensures { λ r. ⌜ r ≡ headOk (now (e .entry)) ⌝ }
+    ensures { λ _. ⌜ areBytes (now (e .entry)) ≡ true ⌝ }
+{
+    if e.len() < 4 {
+        return false;
+    }
+    if num16(e, 0) as usize + 2 != e.len() {
+        return false;
+    }
+    num8(e, 2) == VERSION
+}
+
+// The event that the bytes frame for a server of this many.
+pub fn framed_event(e: &[u8], servers: u8) -> Framed
+    ensures { λ r. ⌜ Answers (framedIn servers (now (e .entry))) servers r (now (e .entry)) ⌝ }
+    ensures { λ _. ⌜ areBytes (now (e .entry)) ≡ true ⌝ }
+{
+    if !head_ok(e) {
+        return Framed::Bad;
+    }
+    match num8(e, 3) {
+        Event::ACTION => frame_action(e),
+        Event::RETRANSMISSION => frame_retransmission(e),
+        Event::STATE => frame_state(e, servers as usize),
+        Event::CPC => frame_cpc(e),
+        Event::REGULAR => frame_regular(e),
+        Event::TRANSITIONAL => frame_transitional(e),
+        Event::REQUEST => frame_request(e),
+        Event::RECOVERY => frame_recovery(e),
+        _ => Framed::Bad,
+    }
+}
