@@ -5,3 +5,4 @@ pub mod Turns
 pub mod Made
 pub mod Frames
 pub mod Heads
+pub mod Fields

@@ -2,3 +2,4 @@ pub mod Context
 pub mod Values
 pub mod Events
 pub mod Framed
+pub mod Reading

@@ -7,6 +7,7 @@ pub mod range; // range.rt: which numbers and sets are in range
 pub mod lists; // lists.rt: lists in bytes
 pub mod events; // events.rt: an event that was read
 pub mod frame; // frame.rt: its frame
+pub mod reader; // reader.rt: what an event says
 
 // The index of a primary component, and that of an attempt to create one: neither stands for the other.
 pub struct PrimaryIndex(pub u32);
@@ -70,7 +71,7 @@ impl State {
     pub const MOST_SERVERS: u8 = 8;
     pub const LEAST_QUOTA: u16 = 1;
     pub const MOST_QUOTA: u16 = 256;
-    pub const MOST_PAYLOAD: u8 = 48;
+    pub const MOST_PAYLOAD: usize = 48;
     pub const MOST_HELD: u8 = 16;
     pub const MOST_INDEX: u32 = 4_000_000_000;
 
