@@ -1,18 +1,17 @@
 -- The ranges of an event's parts, as the code tests them.
 -- Assumes nothing.
-use Prim.Native.Nat.{ℕ, zero, suc, _+_, _*_, _^_, _≤_, _<_}
+use Prim.Native.Nat.{ℕ, _+_, _≤_}
 use mathlib.Core.Path.{_≡_, refl, sym, ap, _∙_}
 use mathlib.Core.Bool.{Bool, true, false, not}
-use mathlib.Core.List.{List, [], _∷_}
-use native.Mathlib.Omega.{arith}
-use lib.ListN.{length, take, drop, length-drop}
-use lib.Seq.{length-take-le}
+use mathlib.Core.List.{List}
+use lib.ListN.{length}
 use lib.Dec.{leb}
 use mir.Syntax.{w32}
 use mir.Val.{Fits}
-use Rattle.base.specs.Tests.{_≤?_, _<?_, _=?_, _and_, and-holds, and-yes, lt-yes, eq-yes, both-yes, not-both}
+use Rattle.base.specs.Tests.{_≤?_, _<?_, _=?_, _and_, lt-yes, eq-yes}
 use Rattle.base.specs.Branches.{told-le, and-answered, and-denied}
-use Rattle.base.specs.Bytes.{areBytes, numberAt, numbersAt, partAt}
+use Rattle.base.specs.Bytes.{Bytes, partAt}
+use Rattle.base.specs.BytesLaws.{part-length, part-are-bytes, numbers-length}
 use Rattle.format.specs.Types.{Context as FormatContext, State as FormatState}
 use Rattle.format.specs.Range.{payloadOk, lengthOk, cutsOk, indexOk, primaryOk, markOk, statusOk, idsOk, yellowOk, configurationOk, stateOk}
 use Rattle.record.specs.Context.{contextOf}
@@ -20,26 +19,6 @@ use Rattle.record.specs.Events.{stateOf}
 use Rattle.record.specs.Reading.{numbersOk, listsOk}
 use Rattle.record.specs.declared.Context.{Context}
 use Rattle.record.specs.declared.events.StateAt.{StateAt}
-
--- A part of bytes is bytes.
-
-take-bytes : (m : ℕ) (e : List ℕ) → areBytes e ≡ true → areBytes (take m e) ≡ true
-unfolding areBytes
-take-bytes zero e h = refl
-take-bytes (suc m) [] h = refl
-take-bytes (suc m) (b ∷ e) h =
-    let p = and-holds (b <? 256) (areBytes e) h in
-    both-yes (b <? 256) (areBytes (take m e)) (p .0) (take-bytes m e (p .1))
-
-drop-bytes : (m : ℕ) (e : List ℕ) → areBytes e ≡ true → areBytes (drop m e) ≡ true
-unfolding areBytes
-drop-bytes zero e h = h
-drop-bytes (suc m) [] h = refl
-drop-bytes (suc m) (b ∷ e) h = drop-bytes m e (and-holds (b <? 256) (areBytes e) h .1)
-
-part-length : (m : ℕ) (e : List ℕ) (at : ℕ) → at + m ≤ length e → length (partAt m e at) ≡ m
-unfolding partAt
-part-length m e at h = length-take-le m (drop at e) (let z = length-drop at e in omega arith)
 
 and-true : (t : Bool) → t ≡ (t and true)
 unfolding _and_
@@ -52,9 +31,9 @@ and-false true = refl
 and-false false = refl
 
 -- The length is the one test of a payload in bytes.
-pub payload-law : (e : List ℕ) (at m : ℕ) → areBytes e ≡ true → at + m ≤ length e → leb m 48 ≡ payloadOk (partAt m e at)
-unfolding payloadOk partAt
-payload-law e at m b h = rw (part-length m e at h, take-bytes m (drop at e) (drop-bytes at e b)) (told-le m 48 ∙ and-true (m ≤? 48))
+pub payload-law : (e : List ℕ) (at m : ℕ) → Bytes e → at + m ≤ length e → leb m 48 ≡ payloadOk (partAt m e at)
+unfolding payloadOk
+payload-law e at m b h = rw (part-length m e at h, part-are-bytes m e at b) (told-le m 48 ∙ and-true (m ≤? 48))
 
 -- Any number of four bytes is a configuration id.
 
@@ -63,11 +42,6 @@ unfolding configurationOk
 configuration-law i h = lt-yes i _ (h .fits)
 
 -- A State's ranges are those of its numbers and those of its lists.
-
-numbers-length : (w m : ℕ) (e : List ℕ) (at : ℕ) → length (numbersAt w m e at) ≡ m
-unfolding numbersAt
-numbers-length w zero e at = refl
-numbers-length w (suc m) e at = ap suc (numbers-length w m e (at + w))
 
 shuffle : (a k l i p m s y : Bool) → (a and k and l and i and p and m and s and y) ≡ ((a and l and i and p and m and s) and k and y)
 unfolding _and_

@@ -1,30 +1,23 @@
 -- The head of an event, and the choice by its kind.
 -- Assumes nothing.
-use Prim.Native.Nat.{ℕ, zero, suc, _+_, _^_, _≤_, _<_}
+use Prim.Native.Nat.{ℕ, _+_, _≤_, _<_}
 use mathlib.Core.Path.{_≡_, refl, sym, ap, _∙_}
 use mathlib.Core.Bool.{Bool, true, false, not}
 use mathlib.Core.List.{List, [], _∷_}
 use mathlib.Core.Option.{Option, none, some}
 use native.Mathlib.Omega.{arith}
-use lib.ListN.{length, getD}
+use lib.ListN.{length}
 use lib.Dec.{eqb}
 use borrow.Author.Tests.{not-true, not-false}
-use mir.Syntax.{w8}
-use mir.Val.{Fits}
-use Rattle.base.specs.Tests.{_≤?_, _<?_, _=?_, _and_, pick, pick-yes, pick-no, pick-ne, and-holds, and-le, and-gt, and-eq, and-ne, le-holds, lt-yes, eq-no, both-yes}
+use Rattle.base.specs.Tests.{_≤?_, _=?_, _and_, pick, pick-yes, pick-no, pick-ne, and-holds, and-le, and-gt, and-eq, and-ne, le-holds}
 use Rattle.base.specs.Branches.{told-eq}
-use Rattle.base.specs.Bytes.{areBytes, numberAt}
+use Rattle.base.specs.Bytes.{numberAt}
 use Rattle.format.specs.Types.{Record, Kind, ofAction, ofRetransmission, ofState, ofCpc, ofRegular, ofTransitional, ofRequest, ofRecovery, kindNumber}
 use Rattle.format.specs.Read.{kindNamed}
+use Rattle.format.proofs.Reading.{kind-named}
 use Rattle.record.specs.Framed.{headOk, bodyIn, bodyAs, framedIn, found, FoundInside, Answers}
 use Rattle.record.specs.declared.frame.Framed.{Framed}
 use Rattle.record.specs.declared.frame.Framed.the-variants.{Good, Bad}
-
--- A slice's own fact.
-pub are-bytes : (e : List ℕ) → ((i : ℕ) → Fits w8 (getD e i 0)) → areBytes e ≡ true
-unfolding areBytes
-are-bytes [] h = refl
-are-bytes (b ∷ e) h = both-yes (b <? 256) (areBytes e) (lt-yes b 256 (h 0 .fits)) (are-bytes e (λ i. h (suc i)))
 
 -- the head
 
@@ -47,17 +40,6 @@ head-long e b f g = le-holds 4 (length e) (and-holds (4 ≤? length e) _ (sym f 
 
 -- the kind
 
-named : (k : Kind) → kindNamed (kindNumber k) ≡ some k
-unfolding kindNamed kindNumber pick _=?_
-named ofAction = refl
-named ofRetransmission = refl
-named ofState = refl
-named ofCpc = refl
-named ofRegular = refl
-named ofTransitional = refl
-named ofRequest = refl
-named ofRecovery = refl
-
 unnamed : (x : ℕ) → (x ≡ 1 → ⊥) → (x ≡ 2 → ⊥) → (x ≡ 3 → ⊥) → (x ≡ 4 → ⊥) → (x ≡ 5 → ⊥) → (x ≡ 6 → ⊥) → (x ≡ 7 → ⊥) → (x ≡ 8 → ⊥) → kindNamed x ≡ none
 unfolding kindNamed kindNumber
 unnamed x a b c d e f g h =
@@ -76,7 +58,7 @@ framed-as o e n b r f g h k =
 pub framed-one : (k : Kind) (e : List ℕ) (n x : ℕ) (b : Bool) (r : Framed) → b ≡ headOk e → not b ≡ false → x ≡ numberAt 1 e 3 → x ≡ kindNumber k
     → Answers (bodyIn k n e) n r e → Answers (framedIn n e) n r e
 unfolding bodyAs
-framed-one k e n x b r f g h i j = framed-as (some k) e n b r f g (ap kindNamed (sym h ∙ i) ∙ named k) j
+framed-one k e n x b r f g h i j = framed-as (some k) e n b r f g (ap kindNamed (sym h ∙ i) ∙ kind-named k) j
 
 pub framed-arm : (k : Kind) (e : List ℕ) (n x : ℕ) (b : Bool) (r : Framed) → b ≡ headOk e → not b ≡ false → x ≡ numberAt 1 e 3 → x ≡ kindNumber k
     → ((m : ℕ) → Answers (bodyIn k m e) m r e) → Answers (framedIn n e) n r e

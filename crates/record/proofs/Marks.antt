@@ -7,9 +7,10 @@ use mathlib.Core.List.{List, [], _∷_}
 use native.Mathlib.Omega.{arith}
 use lib.ListN.{length, getD, set, length-set, length-replicate, replicate}
 use lib.Seq.{getD-set-same, getD-set-other}
-use Rattle.base.specs.Tests.{_≤?_, _<?_, _=?_, _and_, _or_, not-both, and-holds, both-yes, lt-holds, le-holds, eq-holds, eq-yes}
+use Rattle.base.specs.Tests.{_=?_, _and_, _or_, not-both, and-holds, both-yes, eq-holds, eq-yes}
 use Rattle.format.specs.Types.{Id, Context}
 use Rattle.format.specs.Range.{idOk, sameId, hasId, idsDiffer, idsInRange, idsOk}
+use Rattle.format.proofs.Ranges.{IdRange, id-range}
 use Rattle.record.specs.Values.{slot}
 
 -- The id's place is set.
@@ -30,19 +31,7 @@ pub record Small (c : Context) : Type 0 where
   pub servers : c .servers ≤ 8
   pub quota : c .quota ≤ 256
 
-pub record In (c : Context) (x : Id) : Type 0 where
-  pub creator : x .creator < c .servers
-  pub low : 1 ≤ x .index
-  pub high : x .index ≤ c .quota
-
-pub id-in : (c : Context) (x : Id) → idOk c x ≡ true → In c x
-unfolding idOk
-id-in c x h =
-    let a = and-holds (x .creator <? c .servers) (1 ≤? x .index and x .index ≤? c .quota) h in
-    let b = and-holds (1 ≤? x .index) (x .index ≤? c .quota) (a .1) in
-    record { creator = lt-holds _ _ (a .0); low = le-holds _ _ (b .0); high = le-holds _ _ (b .1) }
-
-pub slot-lt : (c : Context) (x : Id) → Small c → In c x → slot x < 2048
+pub slot-lt : (c : Context) (x : Id) → Small c → IdRange c x → slot x < 2048
 unfolding slot
 slot-lt c x s h = omega arith
 
@@ -56,7 +45,7 @@ same-slot x y h =
     let i : x .index ≡ y .index = eq-holds _ _ (a .1) in
     rw (d, i)
 
-other-slot : (c : Context) (x y : Id) → Small c → In c x → In c y → sameId x y ≡ false → slot y ≡ slot x → ⊥
+other-slot : (c : Context) (x y : Id) → Small c → IdRange c x → IdRange c y → sameId x y ≡ false → slot y ≡ slot x → ⊥
 unfolding slot sameId
 other-slot c x y s a b f e =
     let d : x .creator ≡ y .creator = omega arith in
@@ -80,7 +69,7 @@ met-there : (t : List ℕ) (x y : Id) → (slot y ≡ slot x → ⊥) → met (s
 unfolding met
 met-there t x y n = rw (getD-set-other t (slot x) (slot y) 1 0 n)
 
-any-set-at : (c : Context) (t : List ℕ) (x y : Id) (ys : List Id) (b : Bool) → Small c → length t ≡ 2048 → In c x → In c y
+any-set-at : (c : Context) (t : List ℕ) (x y : Id) (ys : List Id) (b : Bool) → Small c → length t ≡ 2048 → IdRange c x → IdRange c y
     → anyMet (set t (slot x) 1) ys ≡ (hasId x ys or anyMet t ys) → sameId x y ≡ b
     → anyMet (set t (slot x) 1) (y ∷ ys) ≡ (hasId x (y ∷ ys) or anyMet t (y ∷ ys))
 unfolding anyMet hasId _or_
@@ -89,13 +78,13 @@ any-set-at c t x y ys true s l a b i e =
 any-set-at c t x y ys false s l a b i e =
     rw (e, met-there t x y (other-slot c x y s a b e), i) (swap (met t y) (hasId x ys) (anyMet t ys))
 
-any-set : (c : Context) (t : List ℕ) (x : Id) (ys : List Id) → Small c → length t ≡ 2048 → In c x → idsInRange c ys ≡ true
+any-set : (c : Context) (t : List ℕ) (x : Id) (ys : List Id) → Small c → length t ≡ 2048 → IdRange c x → idsInRange c ys ≡ true
     → anyMet (set t (slot x) 1) ys ≡ (hasId x ys or anyMet t ys)
 unfolding anyMet hasId idsInRange _or_
 any-set c t x [] s l a b = refl
 any-set c t x (y ∷ ys) s l a b =
     let p = and-holds (idOk c y) (idsInRange c ys) b in
-    any-set-at c t x y ys (sameId x y) s l a (id-in c y (p .0)) (any-set c t x ys s l a (p .1)) refl
+    any-set-at c t x y ys (sameId x y) s l a (id-range c y (p .0)) (any-set c t x ys s l a (p .1)) refl
 
 -- The pass answers whether all are in range, none was met, and all differ.
 
@@ -121,7 +110,7 @@ unfolding pass clear anyMet idsInRange idsDiffer _and_
 pass-at c t x xs false b s l e f i = rw (e)
 pass-at c t x xs true false s l e f i = rw (e, i, f) (and-false (not (met t x)))
 pass-at c t x xs true true s l e f i =
-    rw (e, i, f, any-set c t x xs s l (id-in c x e) f) (shuffle (met t x) (hasId x xs) (anyMet t xs) (idsDiffer xs))
+    rw (e, i, f, any-set c t x xs s l (id-range c x e) f) (shuffle (met t x) (hasId x xs) (anyMet t xs) (idsDiffer xs))
 
 pass-nil : (c : Context) (t : List ℕ) → pass c t [] ≡ clear c t []
 unfolding pass clear anyMet idsInRange idsDiffer _and_

@@ -12,10 +12,11 @@ use Rattle.base.specs.Bytes.{numberAt, numbersAt}
 use Rattle.format.specs.Types.{Id, Context as FormatContext}
 use Rattle.format.specs.Range.{cutsOk, idOk, idsOk}
 use Rattle.format.specs.Read.{idAt, idsAt}
+use Rattle.format.proofs.Ranges.{id-range}
 use Rattle.record.specs.declared.Context.{Context}
 use Rattle.record.specs.Context.{contextOf, ContextIn}
 use Rattle.record.specs.Values.{idOf, slot, placeOf}
-use Rattle.record.proofs.Marks.{Small, met, pass, id-in, slot-lt, pass-zeros}
+use Rattle.record.proofs.Marks.{Small, met, pass, slot-lt, pass-zeros}
 
 -- the cuts
 
@@ -81,7 +82,7 @@ ids-start c e at m h =
 place-out : (c : FormatContext) (x : Id) (p : ℕ) → Small c → Known (idOk c x) → p ≡ placeOf c x → 2048 ≤ p → idOk c x ≡ false
 unfolding placeOf
 place-out c x p s (holds e) f g =
-    let a = slot-lt c x s (id-in c x e) in
+    let a = slot-lt c x s (id-range c x e) in
     let b : p ≡ slot x = f ∙ sym (pick-yes (idOk c x) _ _ _ e refl) in
     absurd (omega arith)
 place-out c x p s (fails e) f g = e
@@ -128,7 +129,7 @@ ids-end c e t at k m w h j = sym (j ∙ ap (pass c t) (ids-none e (at + 3 * k) k
 
 pub place-low : (c : FormatContext) (creator index : ℕ) (b : Bool) → b ≡ idOk c (idOf creator index) → not b ≡ false → 1 ≤ index
 unfolding idOf
-place-low c creator index b e h = id-in c (idOf creator index) (sym e ∙ not-false b h) .low
+place-low c creator index b e h = id-range c (idOf creator index) (sym e ∙ not-false b h) .least
 
 pub place-read : (c : FormatContext) (e : List ℕ) (at x y r : ℕ) → x ≡ numberAt 1 e at → y ≡ numberAt 2 e (at + 1) → r ≡ placeOf c (idOf x y) → r ≡ placeOf c (idAt e at)
 unfolding idOf idAt

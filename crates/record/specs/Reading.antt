@@ -6,7 +6,7 @@ use mathlib.Core.Bool.{Bool, true}
 use mathlib.Core.List.{List}
 use lib.ListN.{length}
 use Rattle.base.specs.Tests.{_and_, _<?_}
-use Rattle.base.specs.Bytes.{areBytes}
+use Rattle.base.specs.Bytes.{Bytes}
 use Rattle.format.specs.Types.{Context as FormatContext, State as FormatState}
 use Rattle.format.specs.Range.{lengthOk, indexOk, primaryOk, markOk, statusOk, cutsOk, idsOk}
 use Rattle.record.specs.Context.{ContextIn}
@@ -18,7 +18,7 @@ use Rattle.record.specs.declared.events.Event.{Event}
 pub record Readable (c : Context) (v : Event) (e : List ℕ) : Type 0 where
   pub context : ContextIn c
   pub inside : Inside (c .servers) v e
-  pub bytes : areBytes e ≡ true
+  pub bytes : Bytes e
 
 -- A State's ranges: those of its numbers, and those of its lists.
 

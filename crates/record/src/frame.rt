@@ -1,9 +1,8 @@
 // The frame of an event: its length, version and kind, and where the parts of its body lie.
 ghost use mathlib.Core.Path.{_≡_};
-ghost use mathlib.Core.Bool.{true};
 ghost use Prim.Native.Nat.{ℕ, _+_, _*_, _≤_};
 ghost use lib.ListN.{length};
-ghost use Rattle.base.specs.Bytes.{areBytes};
+ghost use Rattle.base.specs.Bytes.{Bytes};
 ghost use Rattle.format.specs.Types.{ofAction, ofRetransmission, ofState, ofCpc, ofRegular, ofTransitional, ofRequest, ofRecovery};
 ghost use Rattle.record.specs.Events.{actionIn, lastIn, markIn, stateIn};
 ghost use Rattle.record.specs.Framed.{headOk, bodyIn, framedIn, Answers};
@@ -182,7 +181,7 @@ fn frame_recovery(e: &[u8]) -> Framed
 // Whether the length bytes and the version are right. There is a kind byte then.
 fn head_ok(e: &[u8]) -> bool
     ensures { λ r. ⌜ r ≡ headOk (now (e .entry)) ⌝ }
-    ensures { λ _. ⌜ areBytes (now (e .entry)) ≡ true ⌝ }
+    ensures { λ _. ⌜ Bytes (now (e .entry)) ⌝ }
 {
     if e.len() < 4 {
         return false;
@@ -196,7 +195,7 @@ fn head_ok(e: &[u8]) -> bool
 // The event that the bytes frame for a server of this many.
 pub fn framed_event(e: &[u8], servers: u8) -> Framed
     ensures { λ r. ⌜ Answers (framedIn servers (now (e .entry))) servers r (now (e .entry)) ⌝ }
-    ensures { λ _. ⌜ areBytes (now (e .entry)) ≡ true ⌝ }
+    ensures { λ _. ⌜ Bytes (now (e .entry)) ⌝ }
 {
     if !head_ok(e) {
         return Framed::Bad;

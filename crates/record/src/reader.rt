@@ -1,9 +1,8 @@
 // The reader: what an event's bytes say to a server, or the number that they are refused with.
 ghost use mathlib.Core.Path.{_≡_};
-ghost use mathlib.Core.Bool.{true};
 ghost use mathlib.Core.List.{List};
 ghost use Prim.Native.Nat.{ℕ};
-ghost use Rattle.base.specs.Bytes.{areBytes};
+ghost use Rattle.base.specs.Bytes.{Bytes};
 ghost use Rattle.format.specs.Range.{actionOk, stateOk, fieldsOk};
 ghost use Rattle.format.specs.Types.{transitional};
 ghost use Rattle.record.specs.Context.{contextOf, ContextIn};
@@ -17,7 +16,7 @@ use crate::{Context, State};
 
 fn action_ok(c: Context, a: ActionAt) -> bool
     requires { ⌜ ContextIn c ⌝ }
-    ensures { λ r. ⌜ ((e : List ℕ) → areBytes e ≡ true → PayloadInside a e → r ≡ actionOk (contextOf c) (actionOf a e)) ⌝ }
+    ensures { λ r. ⌜ ((e : List ℕ) → Bytes e → PayloadInside a e → r ≡ actionOk (contextOf c) (actionOf a e)) ⌝ }
 {
     if !id_ok(c, a.creator, a.index) {
         return false;

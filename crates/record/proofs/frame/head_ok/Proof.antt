@@ -1,4 +1,5 @@
-use Rattle.record.proofs.Heads.{are-bytes, head-short, head-length, head-version}
+use Rattle.base.specs.BytesLaws.{given-bytes}
+use Rattle.record.proofs.Heads.{head-short, head-length, head-version}
 use borrow.Author.Needs.{needs}
 use Rattle.record.proofs.frame.head_ok.Statement.{statement}
 use Rattle.record.proofs.frame.head_ok.Tie as tie
@@ -9,7 +10,7 @@ use Rattle.record.proofs.bytes.num8.Reads as num8-reads
 
 -- src/frame.rt:188:9
 returns : tie.Need-returns
-returns c = search (needs, head-short, are-bytes)
+returns c = search (needs, head-short, given-bytes)
 
 -- src/frame.rt:190:8
 num16-requires : tie.Need-num16-requires
@@ -25,7 +26,7 @@ add-if2 c = search needs
 
 -- src/frame.rt:191:9
 returns-2 : tie.Need-returns-2
-returns-2 c = search (needs, head-length, are-bytes)
+returns-2 c = search (needs, head-length, given-bytes)
 
 -- src/frame.rt:193:5
 num8-requires : tie.Need-num8-requires
@@ -33,7 +34,7 @@ num8-requires c κs = search needs
 
 -- src/frame.rt:183:1
 returns-3 : tie.Need-returns-3
-returns-3 c = search (needs, head-version, are-bytes)
+returns-3 c = search (needs, head-version, given-bytes)
 
 pub head-ok-spec : {M : Type 1} → statement M
 head-ok-spec =
