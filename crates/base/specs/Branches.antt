@@ -19,6 +19,16 @@ pub told-eq : (m n : ℕ) → eqb m n ≡ (m =? n)
 unfolding _=?_
 told-eq m n = refl
 
+pub and-true : (t : Bool) → t ≡ (t and true)
+unfolding _and_
+and-true true = refl
+and-true false = refl
+
+pub and-false : (t : Bool) → false ≡ (t and false)
+unfolding _and_
+and-false true = refl
+and-false false = refl
+
 -- b is what a call answered to the test t.
 
 pub and-answered : (b t r u : Bool) → b ≡ t → not b ≡ false → r ≡ u → r ≡ (t and u)

@@ -9,7 +9,7 @@ use lib.Dec.{leb}
 use mir.Syntax.{w32}
 use mir.Val.{Fits}
 use Rattle.base.specs.Tests.{_≤?_, _<?_, _=?_, _and_, lt-yes, eq-yes}
-use Rattle.base.specs.Branches.{told-le, and-answered, and-denied}
+use Rattle.base.specs.Branches.{told-le, and-true, and-false, and-answered, and-denied}
 use Rattle.base.specs.Bytes.{Bytes, partAt}
 use Rattle.base.specs.BytesLaws.{part-length, part-are-bytes, numbers-length}
 use Rattle.format.specs.Types.{Context as FormatContext, State as FormatState}
@@ -19,16 +19,6 @@ use Rattle.record.specs.Events.{stateOf}
 use Rattle.record.specs.Reading.{numbersOk, listsOk}
 use Rattle.record.specs.declared.Context.{Context}
 use Rattle.record.specs.declared.events.StateAt.{StateAt}
-
-and-true : (t : Bool) → t ≡ (t and true)
-unfolding _and_
-and-true true = refl
-and-true false = refl
-
-and-false : (t : Bool) → false ≡ (t and false)
-unfolding _and_
-and-false true = refl
-and-false false = refl
 
 -- The length is the one test of a payload in bytes.
 pub payload-law : (e : List ℕ) (at m : ℕ) → Bytes e → at + m ≤ length e → leb m 48 ≡ payloadOk (partAt m e at)

@@ -6,3 +6,7 @@ pub mod Made
 pub mod Frames
 pub mod Heads
 pub mod Fields
+pub mod Arms
+pub mod Judged
+pub mod Placing
+pub mod Returns

@@ -8,6 +8,7 @@ use native.Mathlib.Omega.{arith}
 use lib.ListN.{length, getD, set, length-set, length-replicate, replicate}
 use lib.Seq.{getD-set-same, getD-set-other}
 use Rattle.base.specs.Tests.{_=?_, _and_, _or_, not-both, and-holds, both-yes, eq-holds, eq-yes}
+use Rattle.base.specs.Branches.{and-false}
 use Rattle.format.specs.Types.{Id, Context}
 use Rattle.format.specs.Range.{idOk, sameId, hasId, idsDiffer, idsInRange, idsOk}
 use Rattle.format.proofs.Ranges.{IdRange, id-range}
@@ -98,17 +99,12 @@ shuffle false true true d = refl
 shuffle false true false d = refl
 shuffle false false v d = refl
 
-and-false : (u : Bool) → (u and false) ≡ false
-unfolding _and_
-and-false true = refl
-and-false false = refl
-
 pass-at : (c : Context) (t : List ℕ) (x : Id) (xs : List Id) (a b : Bool) → Small c → length t ≡ 2048
     → idOk c x ≡ a → idsInRange c xs ≡ b → pass c (set t (slot x) 1) xs ≡ clear c (set t (slot x) 1) xs
     → pass c t (x ∷ xs) ≡ clear c t (x ∷ xs)
 unfolding pass clear anyMet idsInRange idsDiffer _and_
 pass-at c t x xs false b s l e f i = rw (e)
-pass-at c t x xs true false s l e f i = rw (e, i, f) (and-false (not (met t x)))
+pass-at c t x xs true false s l e f i = rw (e, i, f) (sym (and-false (not (met t x))))
 pass-at c t x xs true true s l e f i =
     rw (e, i, f, any-set c t x xs s l (id-range c x e) f) (shuffle (met t x) (hasId x xs) (anyMet t xs) (idsDiffer xs))
 

@@ -3,16 +3,24 @@ ghost use mathlib.Core.Path.{_≡_};
 ghost use mathlib.Core.List.{List};
 ghost use Prim.Native.Nat.{ℕ};
 ghost use Rattle.base.specs.Bytes.{Bytes};
+ghost use Rattle.format.specs.Read.{read as readOf};
 ghost use Rattle.format.specs.Range.{actionOk, stateOk, fieldsOk};
-ghost use Rattle.format.specs.Types.{transitional};
+ghost use Rattle.format.specs.Types.{retransmission, transitional};
 ghost use Rattle.record.specs.Context.{contextOf, ContextIn};
 ghost use Rattle.record.specs.Events.{actionOf, stateOf, recordOf, PayloadInside, ListsInside};
-ghost use Rattle.record.specs.Reading.{Readable, numbersOk, listsOk};
+ghost use Rattle.record.specs.Reading.{Readable, numbersOk, listsOk, meaning, placed};
 
 use crate::events::{ActionAt, Event, StateAt};
+use crate::frame::{Framed, framed_event};
 use crate::lists::{cuts_ok, ids_ok};
-use crate::range::{id_ok, index_ok, inside_last, length_ok, mark_ok, own_set_ok, primary_ok, status_ok};
+use crate::range::{context_ok, id_ok, index_ok, inside_last, length_ok, mark_ok, own_set_ok, primary_ok, status_ok};
 use crate::{Context, State};
+
+// The event, or the number that it is refused with.
+pub enum Reading {
+    Good(Event),
+    Refused(u8),
+}
 
 fn action_ok(c: Context, a: ActionAt) -> bool
     requires { ⌜ ContextIn c ⌝ }
@@ -25,6 +33,19 @@ fn action_ok(c: Context, a: ActionAt) -> bool
         return false;
     }
     a.payload_length <= State::MOST_PAYLOAD
+}
+
+fn retransmission_ok(c: Context, sender: u8, position: u32, action: ActionAt) -> bool
+    requires { ⌜ ContextIn c ⌝ }
+    ensures { λ r. ⌜ ((e : List ℕ) → Bytes e → PayloadInside action e → r ≡ fieldsOk (contextOf c) (retransmission sender position (actionOf action e))) ⌝ }
+{
+    if c.servers <= sender {
+        return false;
+    }
+    if !length_ok(c, position) {
+        return false;
+    }
+    action_ok(c, action)
 }
 
 fn transitional_ok(c: Context, set: u8) -> bool
@@ -82,4 +103,52 @@ fn state_ok(c: Context, s: StateAt, e: &[u8]) -> bool
         return false;
     }
     lists_ok(c, s, e)
+}
+
+// Whether the numbers, sets and lists of an event are in range.
+fn event_ok(c: Context, v: Event, e: &[u8]) -> bool
+    requires { ⌜ Readable c v (now e) ⌝ }
+    ensures { λ r. ⌜ r ≡ fieldsOk (contextOf c) (recordOf (c .servers) v (now (e .entry))) ⌝ }
+{
+    match v {
+        Event::Action(action) => action_ok(c, action),
+        Event::Retransmission {
+            sender,
+            position,
+            action,
+        } => retransmission_ok(c, sender, position, action),
+        Event::State(s) => state_ok(c, s, e),
+        Event::Cpc {
+            sender,
+            configuration: _,
+        } => sender < c.servers,
+        Event::Regular {
+            configuration: _,
+            set,
+        } => own_set_ok(c, set),
+        Event::Transitional { set } => transitional_ok(c, set),
+        Event::Request {
+            payload_at: _,
+            payload_length,
+        } => payload_length <= State::MOST_PAYLOAD,
+        Event::Recovery => true,
+    }
+}
+
+// What an event's bytes say to a server with this context: "bad length, version or kind" first, then ranges.
+pub fn read(c: Context, e: &[u8]) -> Reading
+    ensures { λ r. ⌜ meaning (c .servers) r (now (e .entry)) ≡ readOf (contextOf c) (now (e .entry)) ⌝ }
+    ensures { λ r. ⌜ placed c r (now (e .entry)) ⌝ }
+{
+    let f = framed_event(e, c.servers);
+    let Framed::Good(v) = f else {
+        return Reading::Refused(1);
+    };
+    if !context_ok(c) {
+        return Reading::Refused(2);
+    }
+    if !event_ok(c, v, e) {
+        return Reading::Refused(2);
+    }
+    Reading::Good(v)
 }
