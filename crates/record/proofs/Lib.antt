@@ -1,6 +1,6 @@
 pub mod Numbers
 pub mod Ranges
-pub mod Marks
+pub mod OnePass
 pub mod Turns
 pub mod Made
 pub mod Frames

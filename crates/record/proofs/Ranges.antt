@@ -12,23 +12,21 @@ use mir.Val.{Fits}
 use Rattle.base.specs.Tests.{_≤?_, _<?_, _=?_}
 use Rattle.base.specs.Sets.{inside}
 use Rattle.base.specs.Branches.{told-le, told-lt}
+use Rattle.format.specs.Limits.{mostServers, mostQuota}
 use Rattle.format.specs.Range.{insideLast}
 use Rattle.record.specs.Context.{lastOf}
 
 -- n × q
 
-pub product-le : (n q : ℕ) → n ≤ 8 → q ≤ 256 → n * q ≤ 2048
-product-le n q h k = mul-le-mul h k
-
-pub product-fits : (n q : ℕ) → n ≤ 8 → q ≤ 256 → Fits w32 (n * q)
-product-fits n q h k = let z = product-le n q h k in record { fits = omega arith }
+pub product-fits : (n q : ℕ) → n ≤ mostServers → q ≤ mostQuota → Fits w32 (n * q)
+product-fits n q h k = let z : n * q ≤ mostServers * mostQuota = mul-le-mul h k in record { fits = omega arith }
 
 pub length-law : (l n q p : ℕ) → p ≡ n * q → leb l p ≡ (l ≤? n * q)
 length-law l n q p h = ap (leb l) h ∙ told-le l (n * q)
 
 -- sets
 
-pub set-law : (n s : ℕ) → n ≤ 8 → ltb s (1 * 2 ^ n % 4294967296) ≡ (s <? 2 ^ n)
+pub set-law : (n s : ℕ) → n ≤ mostServers → ltb s (1 * 2 ^ n % 4294967296) ≡ (s <? 2 ^ n)
 set-law n s h =
     let a : 2 ^ n ≤ 256 = pow-le-pow-right (omega arith) h in
     let b : 1 * 2 ^ n ≡ 2 ^ n = omega arith in

@@ -16,7 +16,7 @@ use Rattle.format.proofs.Ranges.{id-range}
 use Rattle.record.specs.declared.Context.{Context}
 use Rattle.record.specs.Context.{contextOf, ContextIn}
 use Rattle.record.specs.Values.{idOf, slot, placeOf}
-use Rattle.record.proofs.Marks.{Small, met, pass, slot-lt, pass-zeros}
+use Rattle.record.proofs.OnePass.{Small, met, pass, slot-lt, pass-zeros}
 
 -- the cuts
 

@@ -23,7 +23,9 @@ pub fn num16(e: &[u8], at: usize) -> u16
     requires { ⌜ at + 2 ≤ length (now e) ⌝ }
     ensures { λ r. ⌜ r ≡ numberAt 2 (now (e .entry)) at ⌝ }
 {
-    wide(e[at]) * 256 + wide(e[at + 1])
+    let high = e[at];
+    let low = e[at + 1];
+    wide(high) * 256 + wide(low)
 }
 
 fn wider(b: u16) -> u32

@@ -1,5 +1,7 @@
 // An event that was read: its numbers, and where its lists lie in its bytes.
-use crate::{AttemptIndex, LastPrimary, Mark};
+use crate::AttemptIndex;
+use crate::LastPrimary;
+use crate::Mark;
 
 // An action. Its payload is the `payload_length` bytes from `payload_at` on.
 pub struct ActionAt {
@@ -32,9 +34,17 @@ pub enum Event {
         action: ActionAt,
     },
     State(StateAt),
-    Cpc { sender: u8, configuration: u32 },
-    Regular { configuration: u32, set: u8 },
-    Transitional { set: u8 },
+    Cpc {
+        sender: u8,
+        configuration: u32,
+    },
+    Regular {
+        configuration: u32,
+        set: u8,
+    },
+    Transitional {
+        set: u8,
+    },
     Request {
         payload_at: usize,
         payload_length: usize,
@@ -45,11 +55,18 @@ pub enum Event {
 // The kind bytes.
 impl Event {
     pub const ACTION: u8 = 1;
+
     pub const RETRANSMISSION: u8 = 2;
+
     pub const STATE: u8 = 3;
+
     pub const CPC: u8 = 4;
+
     pub const REGULAR: u8 = 5;
+
     pub const TRANSITIONAL: u8 = 6;
+
     pub const REQUEST: u8 = 7;
+
     pub const RECOVERY: u8 = 8;
 }

@@ -6,10 +6,16 @@ ghost use Rattle.base.specs.Bytes.{Bytes};
 ghost use Rattle.format.specs.Types.{ofAction, ofRetransmission, ofState, ofCpc, ofRegular, ofTransitional, ofRequest, ofRecovery};
 ghost use Rattle.record.specs.Events.{actionIn, lastIn, markIn, stateIn};
 ghost use Rattle.record.specs.Framed.{headOk, bodyIn, framedIn, Answers};
-
-use crate::bytes::{num8, num16, num32};
-use crate::events::{ActionAt, Event, StateAt};
-use crate::{AttemptIndex, LastPrimary, Mark, PrimaryIndex};
+use crate::AttemptIndex;
+use crate::LastPrimary;
+use crate::Mark;
+use crate::PrimaryIndex;
+use crate::bytes::num8;
+use crate::bytes::num16;
+use crate::bytes::num32;
+use crate::events::ActionAt;
+use crate::events::Event;
+use crate::events::StateAt;
 
 // A record's version byte.
 pub const VERSION: u8 = 1;

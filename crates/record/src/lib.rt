@@ -68,11 +68,17 @@ pub struct State {
 
 impl State {
     pub const FEWEST_SERVERS: u8 = 2;
+
     pub const MOST_SERVERS: u8 = 8;
+
     pub const LEAST_QUOTA: u16 = 1;
+
     pub const MOST_QUOTA: u16 = 256;
+
     pub const MOST_PAYLOAD: usize = 48;
+
     pub const MOST_HELD: u8 = 16;
+
     pub const MOST_INDEX: u32 = 4_000_000_000;
 
     // What an event that comes in this state is read against.

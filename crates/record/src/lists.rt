@@ -7,10 +7,11 @@ ghost use Rattle.format.specs.Range.{cutsOk, idsOk};
 ghost use Rattle.format.specs.Read.{idAt, idsAt};
 ghost use Rattle.record.specs.Context.{contextOf, ContextIn};
 ghost use Rattle.record.specs.Values.{idOf, placeOf};
-
-use crate::bytes::{num8, num16};
+use crate::Context;
+use crate::State;
+use crate::bytes::num8;
+use crate::bytes::num16;
 use crate::range::id_ok;
-use crate::{Context, State};
 
 // Whether each of the n cuts from `at` on is at most the quota.
 pub fn cuts_ok(e: &[u8], at: usize, n: usize, quota: u16) -> bool

@@ -1,11 +1,14 @@
 // Which numbers, sets and lists are in range: document 01, 'Records', second paragraph.
 ghost use mathlib.Core.Path.{_≡_};
 ghost use Prim.Native.Nat.{_*_, _≤_};
+ghost use Rattle.format.specs.Limits.{mostServers, mostQuota};
 ghost use Rattle.format.specs.Range.{sizesOk, contextOk, idOk, lengthOk, indexOk, setOk, statusOk, primaryOk, markOk, ownSetOk, insideLast};
 ghost use Rattle.record.specs.Context.{contextOf, lastOf, ContextIn};
 ghost use Rattle.record.specs.Values.{idOf, primaryOf, markOf};
-
-use crate::{Context, LastPrimary, Mark, State};
+use crate::Context;
+use crate::LastPrimary;
+use crate::Mark;
+use crate::State;
 
 // "Servers: 2 to 8 .. Quota q: 1 to 256"
 pub fn sizes_ok(servers: u8, quota: u16) -> bool
@@ -46,8 +49,8 @@ pub fn id_ok(c: Context, creator: u8, index: u16) -> bool
 }
 
 fn product(servers: u8, quota: u16) -> u32
-    requires { ⌜ (servers ≤ 8) × (quota ≤ 256) ⌝ }
-    ensures { λ r. ⌜ (r ≡ servers * quota) × (r ≤ 2048) ⌝ }
+    requires { ⌜ (servers ≤ mostServers) × (quota ≤ mostQuota) ⌝ }
+    ensures { λ r. ⌜ r ≡ servers * quota ⌝ }
 {
     servers as u32 * quota as u32
 }

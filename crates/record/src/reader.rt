@@ -9,12 +9,24 @@ ghost use Rattle.format.specs.Types.{retransmission, transitional};
 ghost use Rattle.record.specs.Context.{contextOf, ContextIn};
 ghost use Rattle.record.specs.Events.{actionOf, stateOf, recordOf, PayloadInside, ListsInside};
 ghost use Rattle.record.specs.Reading.{Readable, numbersOk, listsOk, meaning, placed};
-
-use crate::events::{ActionAt, Event, StateAt};
-use crate::frame::{Framed, framed_event};
-use crate::lists::{cuts_ok, ids_ok};
-use crate::range::{context_ok, id_ok, index_ok, inside_last, length_ok, mark_ok, own_set_ok, primary_ok, status_ok};
-use crate::{Context, State};
+use crate::Context;
+use crate::State;
+use crate::events::ActionAt;
+use crate::events::Event;
+use crate::events::StateAt;
+use crate::frame::Framed;
+use crate::frame::framed_event;
+use crate::lists::cuts_ok;
+use crate::lists::ids_ok;
+use crate::range::context_ok;
+use crate::range::id_ok;
+use crate::range::index_ok;
+use crate::range::inside_last;
+use crate::range::length_ok;
+use crate::range::mark_ok;
+use crate::range::own_set_ok;
+use crate::range::primary_ok;
+use crate::range::status_ok;
 
 // The event, or the number that it is refused with.
 pub enum Reading {

@@ -2,14 +2,10 @@ use Rattle.record.proofs.Numbers.{byte-read}
 use borrow.Author.Needs.{needs}
 use Rattle.record.proofs.bytes.num8.Statement.{statement}
 use Rattle.record.proofs.bytes.num8.Tie as tie
-use Rattle.record.proofs.bytes.num8.Reads as reads
-use Rattle.record.proofs.bytes.num8.Lts as lts
 
--- src/bytes.rt:12:5
 shared-slice-read-result : tie.Need-shared-slice-read-result
 shared-slice-read-result c = search needs
 
--- src/bytes.rt:8:1
 returns : tie.Need-returns
 returns c = search (needs, byte-read)
 

@@ -5,38 +5,27 @@ use native.Mathlib.Omega.{arith}
 use borrow.Author.Needs.{needs}
 use Rattle.record.proofs.frame.frame_action.Statement.{statement}
 use Rattle.record.proofs.frame.frame_action.Tie as tie
-use Rattle.record.proofs.frame.frame_action.Reads as reads
-use Rattle.record.proofs.frame.frame_action.Lts as lts
-use Rattle.record.proofs.bytes.num8.Reads as num8-reads
-use Rattle.record.proofs.frame.action_at.Reads as action-at-reads
 
--- src/frame.rt:83:9
 returns : tie.Need-returns
 unfolding lengthFor
 returns c = λ n. bad ofAction n _ (λ z. omega arith)
 
--- src/frame.rt:85:13
 num8-requires : tie.Need-num8-requires
 num8-requires c κs = search needs
 
--- src/frame.rt:85:13
 cast-m : tie.Need-cast-m
 cast-m c = search needs
 
--- src/frame.rt:86:8
 add-if2 : tie.Need-add-if2
 add-if2 c = search needs
 
--- src/frame.rt:87:9
 returns-2 : tie.Need-returns-2
 unfolding lengthFor
 returns-2 c = λ n. bad ofAction n _ (λ z. omega arith)
 
--- src/frame.rt:89:32
 action-at-requires : tie.Need-action-at-requires
 action-at-requires c κs = search needs
 
--- src/frame.rt:79:1
 returns-3 : tie.Need-returns-3
 returns-3 c = search (needs, action-good)
 

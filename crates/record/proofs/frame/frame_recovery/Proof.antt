@@ -5,15 +5,11 @@ use native.Mathlib.Omega.{arith}
 use borrow.Author.Needs.{needs}
 use Rattle.record.proofs.frame.frame_recovery.Statement.{statement}
 use Rattle.record.proofs.frame.frame_recovery.Tie as tie
-use Rattle.record.proofs.frame.frame_recovery.Reads as reads
-use Rattle.record.proofs.frame.frame_recovery.Lts as lts
 
--- src/frame.rt:177:9
 returns : tie.Need-returns
 unfolding lengthFor
 returns c = λ n. bad ofRecovery n _ (λ z. omega arith)
 
--- src/frame.rt:173:1
 returns-2 : tie.Need-returns-2
 returns-2 c = search (needs, recovery-good)
 

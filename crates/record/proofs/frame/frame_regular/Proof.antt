@@ -5,25 +5,17 @@ use native.Mathlib.Omega.{arith}
 use borrow.Author.Needs.{needs}
 use Rattle.record.proofs.frame.frame_regular.Statement.{statement}
 use Rattle.record.proofs.frame.frame_regular.Tie as tie
-use Rattle.record.proofs.frame.frame_regular.Reads as reads
-use Rattle.record.proofs.frame.frame_regular.Lts as lts
-use Rattle.record.proofs.bytes.num32.Reads as num32-reads
-use Rattle.record.proofs.bytes.num8.Reads as num8-reads
 
--- src/frame.rt:140:9
 returns : tie.Need-returns
 unfolding lengthFor
 returns c = λ n. bad ofRegular n _ (λ z. omega arith)
 
--- src/frame.rt:143:24
 num32-requires : tie.Need-num32-requires
 num32-requires c κs = search needs
 
--- src/frame.rt:144:14
 num8-requires : tie.Need-num8-requires
 num8-requires c κs = search needs
 
--- src/frame.rt:136:1
 returns-2 : tie.Need-returns-2
 returns-2 c = search (needs, regular-good)
 

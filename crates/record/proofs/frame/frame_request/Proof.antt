@@ -5,33 +5,24 @@ use native.Mathlib.Omega.{arith}
 use borrow.Author.Needs.{needs}
 use Rattle.record.proofs.frame.frame_request.Statement.{statement}
 use Rattle.record.proofs.frame.frame_request.Tie as tie
-use Rattle.record.proofs.frame.frame_request.Reads as reads
-use Rattle.record.proofs.frame.frame_request.Lts as lts
-use Rattle.record.proofs.bytes.num8.Reads as num8-reads
 
--- src/frame.rt:161:9
 returns : tie.Need-returns
 unfolding lengthFor
 returns c = λ n. bad ofRequest n _ (λ z. omega arith)
 
--- src/frame.rt:163:13
 num8-requires : tie.Need-num8-requires
 num8-requires c κs = search needs
 
--- src/frame.rt:163:13
 cast-m : tie.Need-cast-m
 cast-m c = search needs
 
--- src/frame.rt:164:8
 add-if2 : tie.Need-add-if2
 add-if2 c = search needs
 
--- src/frame.rt:165:9
 returns-2 : tie.Need-returns-2
 unfolding lengthFor
 returns-2 c = λ n. bad ofRequest n _ (λ z. omega arith)
 
--- src/frame.rt:157:1
 returns-3 : tie.Need-returns-3
 returns-3 c = search (needs, request-good)
 

@@ -5,20 +5,14 @@ use native.Mathlib.Omega.{arith}
 use borrow.Author.Needs.{needs}
 use Rattle.record.proofs.frame.frame_transitional.Statement.{statement}
 use Rattle.record.proofs.frame.frame_transitional.Tie as tie
-use Rattle.record.proofs.frame.frame_transitional.Reads as reads
-use Rattle.record.proofs.frame.frame_transitional.Lts as lts
-use Rattle.record.proofs.bytes.num8.Reads as num8-reads
 
--- src/frame.rt:152:9
 returns : tie.Need-returns
 unfolding lengthFor
 returns c = λ n. bad ofTransitional n _ (λ z. omega arith)
 
--- src/frame.rt:154:45
 num8-requires : tie.Need-num8-requires
 num8-requires c κs = search needs
 
--- src/frame.rt:148:1
 returns-2 : tie.Need-returns-2
 returns-2 c = search (needs, transitional-good)
 

@@ -3,104 +3,72 @@ use Rattle.format.specs.Types.{ofAction, ofRetransmission, ofState, ofCpc, ofRe
 use borrow.Author.Needs.{needs}
 use Rattle.record.proofs.frame.framed_event.Statement.{statement}
 use Rattle.record.proofs.frame.framed_event.Tie as tie
-use Rattle.record.proofs.frame.framed_event.Reads as reads
-use Rattle.record.proofs.frame.framed_event.Lts as lts
-use Rattle.record.proofs.bytes.num8.Reads as num8-reads
-use Rattle.record.proofs.frame.frame_action.Reads as frame-action-reads
-use Rattle.record.proofs.frame.frame_cpc.Reads as frame-cpc-reads
-use Rattle.record.proofs.frame.frame_recovery.Reads as frame-recovery-reads
-use Rattle.record.proofs.frame.frame_regular.Reads as frame-regular-reads
-use Rattle.record.proofs.frame.frame_request.Reads as frame-request-reads
-use Rattle.record.proofs.frame.frame_retransmission.Reads as frame-retransmission-reads
-use Rattle.record.proofs.frame.frame_state.Reads as frame-state-reads
-use Rattle.record.proofs.frame.frame_transitional.Reads as frame-transitional-reads
-use Rattle.record.proofs.frame.head_ok.Reads as head-ok-reads
 
--- src/frame.rt:201:9
 head-ok-requires : tie.Need-head-ok-requires
 head-ok-requires c κs = search needs
 
--- src/frame.rt:202:9
 returns : tie.Need-returns
 returns c = search (needs, framed-bad)
 
--- src/frame.rt:204:11
 num8-requires : tie.Need-num8-requires
 num8-requires c κs = search (needs, head-long)
 
--- src/frame.rt:205:26
 frame-action-requires : tie.Need-frame-action-requires
 frame-action-requires c κs = search needs
 
--- src/frame.rt:206:34
 frame-retransmission-requires : tie.Need-frame-retransmission-requires
 frame-retransmission-requires c κs = search needs
 
--- src/frame.rt:207:25
 frame-state-requires : tie.Need-frame-state-requires
 frame-state-requires c κs = search needs
 
--- src/frame.rt:208:23
 frame-cpc-requires : tie.Need-frame-cpc-requires
 frame-cpc-requires c κs = search needs
 
--- src/frame.rt:209:27
 frame-regular-requires : tie.Need-frame-regular-requires
 frame-regular-requires c κs = search needs
 
--- src/frame.rt:210:32
 frame-transitional-requires : tie.Need-frame-transitional-requires
 frame-transitional-requires c κs = search needs
 
--- src/frame.rt:211:27
 frame-request-requires : tie.Need-frame-request-requires
 frame-request-requires c κs = search needs
 
--- src/frame.rt:212:28
 frame-recovery-requires : tie.Need-frame-recovery-requires
 frame-recovery-requires c κs = search needs
 
--- src/frame.rt:197:1
 returns-2 : tie.Need-returns-2
 unfolding kindNumber
 returns-2 c = search (needs, framed-arm ofAction)
 
--- src/frame.rt:197:1
 returns-3 : tie.Need-returns-3
 unfolding kindNumber
 returns-3 c = search (needs, framed-arm ofRetransmission)
 
--- src/frame.rt:197:1
 returns-4 : tie.Need-returns-4
 unfolding kindNumber
 returns-4 c = search (needs, framed-one ofState)
 
--- src/frame.rt:197:1
 returns-5 : tie.Need-returns-5
 unfolding kindNumber
 returns-5 c = search (needs, framed-arm ofCpc)
 
--- src/frame.rt:197:1
 returns-6 : tie.Need-returns-6
 unfolding kindNumber
 returns-6 c = search (needs, framed-arm ofRegular)
 
--- src/frame.rt:197:1
 returns-7 : tie.Need-returns-7
 unfolding kindNumber
 returns-7 c = search (needs, framed-arm ofTransitional)
 
--- src/frame.rt:197:1
 returns-8 : tie.Need-returns-8
 unfolding kindNumber
 returns-8 c = search (needs, framed-arm ofRequest)
 
--- src/frame.rt:197:1
 returns-9 : tie.Need-returns-9
 unfolding kindNumber
 returns-9 c = search (needs, framed-arm ofRecovery)
 
--- src/frame.rt:197:1
 returns-10 : tie.Need-returns-10
 returns-10 c = search (needs, framed-other)
 

@@ -3,36 +3,25 @@ use Rattle.record.proofs.Heads.{head-short, head-length, head-version}
 use borrow.Author.Needs.{needs}
 use Rattle.record.proofs.frame.head_ok.Statement.{statement}
 use Rattle.record.proofs.frame.head_ok.Tie as tie
-use Rattle.record.proofs.frame.head_ok.Reads as reads
-use Rattle.record.proofs.frame.head_ok.Lts as lts
-use Rattle.record.proofs.bytes.num16.Reads as num16-reads
-use Rattle.record.proofs.bytes.num8.Reads as num8-reads
 
--- src/frame.rt:188:9
 returns : tie.Need-returns
 returns c = search (needs, head-short, given-bytes)
 
--- src/frame.rt:190:8
 num16-requires : tie.Need-num16-requires
 num16-requires c κs = search needs
 
--- src/frame.rt:190:8
 cast-if2 : tie.Need-cast-if2
 cast-if2 c = search needs
 
--- src/frame.rt:190:8
 add-if2 : tie.Need-add-if2
 add-if2 c = search needs
 
--- src/frame.rt:191:9
 returns-2 : tie.Need-returns-2
 returns-2 c = search (needs, head-length, given-bytes)
 
--- src/frame.rt:193:5
 num8-requires : tie.Need-num8-requires
 num8-requires c κs = search needs
 
--- src/frame.rt:183:1
 returns-3 : tie.Need-returns-3
 returns-3 c = search (needs, head-version, given-bytes)
 

@@ -2,32 +2,22 @@ use Rattle.record.proofs.Made.{last-made}
 use borrow.Author.Needs.{needs}
 use Rattle.record.proofs.frame.last_at.Statement.{statement}
 use Rattle.record.proofs.frame.last_at.Tie as tie
-use Rattle.record.proofs.frame.last_at.Reads as reads
-use Rattle.record.proofs.frame.last_at.Lts as lts
-use Rattle.record.proofs.bytes.num32.Reads as num32-reads
-use Rattle.record.proofs.bytes.num8.Reads as num8-reads
 
--- src/frame.rt:42:29
 num32-requires : tie.Need-num32-requires
 num32-requires c κs = search needs
 
--- src/frame.rt:43:40
 add-num32 : tie.Need-add-num32
 add-num32 c = search needs
 
--- src/frame.rt:43:31
 num32-requires-2 : tie.Need-num32-requires-2
 num32-requires-2 c κs = search needs
 
--- src/frame.rt:44:22
 add-num8 : tie.Need-add-num8
 add-num8 c = search needs
 
--- src/frame.rt:44:14
 num8-requires : tie.Need-num8-requires
 num8-requires c κs = search needs
 
--- src/frame.rt:37:1
 returns : tie.Need-returns
 returns c = search (needs, last-made)
 

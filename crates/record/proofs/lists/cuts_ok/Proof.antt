@@ -7,9 +7,6 @@ use native.Mathlib.Omega.{arith}
 use borrow.Author.Needs.{needs}
 use Rattle.record.proofs.lists.cuts_ok.Statement.{statement}
 use Rattle.record.proofs.lists.cuts_ok.Tie as tie
-use Rattle.record.proofs.lists.cuts_ok.Reads as reads
-use Rattle.record.proofs.lists.cuts_ok.Lts as lts
-use Rattle.record.proofs.bytes.num16.Reads as num16-reads
 
 abbrev Inv-loop : tie.InvT-loop
 Inv-loop e at n quota k₀ k = (k ≤ n) × (cutsOk quota (numbersAt 2 n e at) ≡ cutsOk quota (numbersAt 2 (n - k) e (at + 2 * k)))
@@ -17,39 +14,30 @@ Inv-loop e at n quota k₀ k = (k ≤ n) × (cutsOk quota (numbersAt 2 n e at) �
 abbrev μ-loop : tie.MeasureT-loop
 μ-loop e at n quota k₀ k = n - k
 
--- src/lists.rt:21:5
 loop-holds : tie.Need-loop-holds Inv-loop μ-loop
 loop-holds c = search (needs, cuts-start)
 
--- src/lists.rt:22:31
 mul-num16 : tie.Need-mul-num16 Inv-loop μ-loop
 mul-num16 c = omega arith
 
--- src/lists.rt:22:26
 add-num16 : tie.Need-add-num16 Inv-loop μ-loop
 add-num16 c = omega arith
 
--- src/lists.rt:22:13
 num16-requires : tie.Need-num16-requires Inv-loop μ-loop
 num16-requires c κs = omega arith
 
--- src/lists.rt:24:13
 returns : tie.Need-returns Inv-loop μ-loop
 returns c = search (needs, cuts-high)
 
--- src/lists.rt:26:9
 add-k : tie.Need-add-k Inv-loop μ-loop
 add-k c = omega arith
 
--- src/lists.rt:21:5
 loop-less : tie.Need-loop-less Inv-loop μ-loop
 loop-less c = omega arith
 
--- src/lists.rt:21:5
 loop-again : tie.Need-loop-again Inv-loop μ-loop
 loop-again c = search (needs, cuts-again)
 
--- src/lists.rt:16:1
 returns-2 : tie.Need-returns-2 Inv-loop μ-loop
 returns-2 c = search (needs, cuts-end)
 

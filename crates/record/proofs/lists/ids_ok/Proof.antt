@@ -1,5 +1,5 @@
 use Rattle.record.proofs.Turns.{ids-start, ids-out, ids-twice, ids-again, ids-end}
-use Rattle.record.proofs.Marks.{pass}
+use Rattle.record.proofs.OnePass.{pass}
 use Rattle.record.specs.Context.{contextOf}
 use Rattle.format.specs.Read.{idsAt}
 use Rattle.format.specs.Range.{idsOk}
@@ -9,9 +9,6 @@ use native.Mathlib.Omega.{arith}
 use borrow.Author.Needs.{needs}
 use Rattle.record.proofs.lists.ids_ok.Statement.{statement}
 use Rattle.record.proofs.lists.ids_ok.Tie as tie
-use Rattle.record.proofs.lists.ids_ok.Reads as reads
-use Rattle.record.proofs.lists.ids_ok.Lts as lts
-use Rattle.record.proofs.lists.place_at.Reads as place-at-reads
 
 abbrev Inv-loop : tie.InvT-loop
 Inv-loop c e at count met₀ k₀ met k = (k ≤ count) × (idsOk (contextOf c) (idsAt count e at) ≡ pass (contextOf c) met (idsAt (count - k) e (at + 3 * k)))
@@ -19,51 +16,39 @@ Inv-loop c e at count met₀ k₀ met k = (k ≤ count) × (idsOk (contextOf c) 
 abbrev μ-loop : tie.MeasureT-loop
 μ-loop c e at count met₀ k₀ met k = count - k
 
--- src/lists.rt:59:5
 loop-holds : tie.Need-loop-holds Inv-loop μ-loop
 loop-holds c = search (needs, ids-start)
 
--- src/lists.rt:60:37
 mul-place-at : tie.Need-mul-place-at Inv-loop μ-loop
 mul-place-at c = omega arith
 
--- src/lists.rt:60:32
 add-place-at : tie.Need-add-place-at Inv-loop μ-loop
 add-place-at c = omega arith
 
--- src/lists.rt:60:13
 place-at-requires : tie.Need-place-at-requires Inv-loop μ-loop
 place-at-requires c κs = search needs
 
--- src/lists.rt:62:13
 returns : tie.Need-returns Inv-loop μ-loop
 returns c = search (needs, ids-out)
 
--- src/lists.rt:64:12
 array-read-if2 : tie.Need-array-read-if2 Inv-loop μ-loop
 array-read-if2 c = omega arith
 
--- src/lists.rt:65:13
 returns-2 : tie.Need-returns-2 Inv-loop μ-loop
 returns-2 c = search (needs, ids-twice)
 
--- src/lists.rt:67:9
 array-write-met : tie.Need-array-write-met Inv-loop μ-loop
 array-write-met c = omega arith
 
--- src/lists.rt:68:9
 add-k : tie.Need-add-k Inv-loop μ-loop
 add-k c = omega arith
 
--- src/lists.rt:59:5
 loop-less : tie.Need-loop-less Inv-loop μ-loop
 loop-less c = omega arith
 
--- src/lists.rt:59:5
 loop-again : tie.Need-loop-again Inv-loop μ-loop
 loop-again c = search (needs, ids-again)
 
--- src/lists.rt:53:1
 returns-3 : tie.Need-returns-3 Inv-loop μ-loop
 returns-3 c = search (needs, ids-end)
 

@@ -5,20 +5,14 @@ use Rattle.base.specs.Branches.{answers}
 use borrow.Author.Needs.{needs}
 use Rattle.record.proofs.range.context_ok.Statement.{statement}
 use Rattle.record.proofs.range.context_ok.Tie as tie
-use Rattle.record.proofs.range.context_ok.Reads as reads
-use Rattle.record.proofs.range.context_ok.Lts as lts
-use Rattle.record.proofs.range.sizes_ok.Reads as sizes-ok-reads
 
--- src/range.rt:29:9
 sizes-ok-requires : tie.Need-sizes-ok-requires
 sizes-ok-requires c κs = search needs
 
--- src/range.rt:30:9
 returns : tie.Need-returns
 unfolding contextOk contextOf
 returns c = search (needs, answers, told)
 
--- src/range.rt:26:1
 returns-2 : tie.Need-returns-2
 unfolding contextOk contextOf
 returns-2 c = search (needs, answers, told)

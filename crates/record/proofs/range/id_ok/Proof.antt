@@ -6,20 +6,15 @@ use Rattle.base.specs.Tests.{tests}
 use borrow.Author.Needs.{needs}
 use Rattle.record.proofs.range.id_ok.Statement.{statement}
 use Rattle.record.proofs.range.id_ok.Tie as tie
-use Rattle.record.proofs.range.id_ok.Reads as reads
-use Rattle.record.proofs.range.id_ok.Lts as lts
 
--- src/range.rt:40:9
 returns : tie.Need-returns
 unfolding idOk contextOf idOf
 returns c = search (needs, tests, told)
 
--- src/range.rt:43:9
 returns-2 : tie.Need-returns-2
 unfolding idOk contextOf idOf
 returns-2 c = search (needs, tests, told)
 
--- src/range.rt:36:1
 returns-3 : tie.Need-returns-3
 unfolding idOk contextOf idOf
 returns-3 c = search (needs, tests, told)

@@ -3,10 +3,7 @@ use Rattle.base.specs.Branches.{told}
 use borrow.Author.Needs.{needs}
 use Rattle.record.proofs.range.index_ok.Statement.{statement}
 use Rattle.record.proofs.range.index_ok.Tie as tie
-use Rattle.record.proofs.range.index_ok.Reads as reads
-use Rattle.record.proofs.range.index_ok.Lts as lts
 
--- src/range.rt:64:1
 returns : tie.Need-returns
 unfolding indexOk
 returns c = search (needs, told)

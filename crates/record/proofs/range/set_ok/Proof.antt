@@ -4,18 +4,13 @@ use Rattle.record.specs.Context.{contextOf}
 use borrow.Author.Needs.{needs}
 use Rattle.record.proofs.range.set_ok.Statement.{statement}
 use Rattle.record.proofs.range.set_ok.Tie as tie
-use Rattle.record.proofs.range.set_ok.Reads as reads
-use Rattle.record.proofs.range.set_ok.Lts as lts
 
--- src/range.rt:82:25
 cast-all : tie.Need-cast-all
 cast-all c = search needs
 
--- src/range.rt:82:20
 shl-all : tie.Need-shl-all
 shl-all c = search needs
 
--- src/range.rt:78:1
 returns : tie.Need-returns
 unfolding setOk contextOf
 returns c = search (needs, set-law)

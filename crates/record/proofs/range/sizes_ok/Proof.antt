@@ -4,25 +4,19 @@ use Rattle.base.specs.Tests.{tests}
 use borrow.Author.Needs.{needs}
 use Rattle.record.proofs.range.sizes_ok.Statement.{statement}
 use Rattle.record.proofs.range.sizes_ok.Tie as tie
-use Rattle.record.proofs.range.sizes_ok.Reads as reads
-use Rattle.record.proofs.range.sizes_ok.Lts as lts
 
--- src/range.rt:15:9
 returns : tie.Need-returns
 unfolding sizesOk
 returns c = search (needs, tests, told)
 
--- src/range.rt:18:9
 returns-2 : tie.Need-returns-2
 unfolding sizesOk
 returns-2 c = search (needs, tests, told)
 
--- src/range.rt:21:9
 returns-3 : tie.Need-returns-3
 unfolding sizesOk
 returns-3 c = search (needs, tests, told)
 
--- src/range.rt:11:1
 returns-4 : tie.Need-returns-4
 unfolding sizesOk
 returns-4 c = search (needs, tests, told)

@@ -3,10 +3,7 @@ use Rattle.base.specs.Branches.{told}
 use borrow.Author.Needs.{needs}
 use Rattle.record.proofs.range.status_ok.Statement.{statement}
 use Rattle.record.proofs.range.status_ok.Tie as tie
-use Rattle.record.proofs.range.status_ok.Reads as reads
-use Rattle.record.proofs.range.status_ok.Lts as lts
 
--- src/range.rt:71:1
 returns : tie.Need-returns
 unfolding statusOk
 returns c = search (needs, told)

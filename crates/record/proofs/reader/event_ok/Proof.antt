@@ -2,95 +2,67 @@ use Rattle.record.proofs.Arms.{arm-lists, arm-action, arm-retransmissio
 use borrow.Author.Needs.{needs}
 use Rattle.record.proofs.reader.event_ok.Statement.{statement}
 use Rattle.record.proofs.reader.event_ok.Tie as tie
-use Rattle.record.proofs.reader.event_ok.Reads as reads
-use Rattle.record.proofs.reader.event_ok.Lts as lts
-use Rattle.record.proofs.range.own_set_ok.Reads as own-set-ok-reads
-use Rattle.record.proofs.reader.action_ok.Reads as action-ok-reads
-use Rattle.record.proofs.reader.retransmission_ok.Reads as retransmission-ok-reads
-use Rattle.record.proofs.reader.state_ok.Reads as state-ok-reads
-use Rattle.record.proofs.reader.transitional_ok.Reads as transitional-ok-reads
 
--- src/reader.rt:114:23
 enum-known-v : tie.Need-enum-known-v
 enum-known-v c = search needs
 
--- src/reader.rt:114:34
 action-ok-requires : tie.Need-action-ok-requires
 action-ok-requires c κs = search needs
 
--- src/reader.rt:116:13
 enum-known-v-2 : tie.Need-enum-known-v-2
 enum-known-v-2 c = search needs
 
--- src/reader.rt:119:14
 retransmission-ok-requires : tie.Need-retransmission-ok-requires
 retransmission-ok-requires c κs = search needs
 
--- src/reader.rt:120:22
 enum-known-v-3 : tie.Need-enum-known-v-3
 enum-known-v-3 c = search needs
 
--- src/reader.rt:120:28
 state-ok-requires : tie.Need-state-ok-requires
 state-ok-requires c κs = search (needs, arm-lists)
 
--- src/reader.rt:122:13
 enum-known-v-4 : tie.Need-enum-known-v-4
 enum-known-v-4 c = search needs
 
--- src/reader.rt:127:13
 enum-known-v-5 : tie.Need-enum-known-v-5
 enum-known-v-5 c = search needs
 
--- src/reader.rt:128:14
 own-set-ok-requires : tie.Need-own-set-ok-requires
 own-set-ok-requires c κs = search needs
 
--- src/reader.rt:129:31
 enum-known-v-6 : tie.Need-enum-known-v-6
 enum-known-v-6 c = search needs
 
--- src/reader.rt:129:40
 transitional-ok-requires : tie.Need-transitional-ok-requires
 transitional-ok-requires c κs = search needs
 
--- src/reader.rt:132:13
 enum-known-v-7 : tie.Need-enum-known-v-7
 enum-known-v-7 c = search needs
 
--- src/reader.rt:134:28
 enum-told : tie.Need-enum-told
 enum-told c = search needs
 
--- src/reader.rt:109:1
 returns : tie.Need-returns
 returns c = search (needs, arm-action)
 
--- src/reader.rt:109:1
 returns-2 : tie.Need-returns-2
 returns-2 c = search (needs, arm-retransmission)
 
--- src/reader.rt:109:1
 returns-3 : tie.Need-returns-3
 returns-3 c = search (needs, arm-state)
 
--- src/reader.rt:109:1
 returns-4 : tie.Need-returns-4
 returns-4 c = search (needs, arm-cpc)
 
--- src/reader.rt:109:1
 returns-5 : tie.Need-returns-5
 returns-5 c = search (needs, arm-regular)
 
--- src/reader.rt:109:1
 returns-6 : tie.Need-returns-6
 returns-6 c = search (needs, arm-transitional)
 
--- src/reader.rt:109:1
 returns-7 : tie.Need-returns-7
 returns-7 c = search (needs, arm-request)
 
--- src/reader.rt:109:1
 returns-8 : tie.Need-returns-8
 returns-8 c = search (needs, arm-recovery)
 

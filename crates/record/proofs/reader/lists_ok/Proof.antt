@@ -5,29 +5,20 @@ use Rattle.base.specs.Branches.{answers}
 use borrow.Author.Needs.{needs}
 use Rattle.record.proofs.reader.lists_ok.Statement.{statement}
 use Rattle.record.proofs.reader.lists_ok.Tie as tie
-use Rattle.record.proofs.reader.lists_ok.Reads as reads
-use Rattle.record.proofs.reader.lists_ok.Lts as lts
-use Rattle.record.proofs.lists.cuts_ok.Reads as cuts-ok-reads
-use Rattle.record.proofs.lists.ids_ok.Reads as ids-ok-reads
 
--- src/reader.rt:46:13
 cast-n : tie.Need-cast-n
 cast-n c = search needs
 
--- src/reader.rt:47:9
 cuts-ok-requires : tie.Need-cuts-ok-requires
 cuts-ok-requires c κs = search needs
 
--- src/reader.rt:48:9
 returns : tie.Need-returns
 unfolding listsOk stateOf contextOf
 returns c = search (needs, answers)
 
--- src/reader.rt:51:5
 ids-ok-requires : tie.Need-ids-ok-requires
 ids-ok-requires c κs = search needs
 
--- src/reader.rt:41:1
 returns-2 : tie.Need-returns-2
 unfolding listsOk stateOf contextOf
 returns-2 c = search (needs, answers)

@@ -6,60 +6,42 @@ use Rattle.base.specs.Branches.{answers}
 use borrow.Author.Needs.{needs}
 use Rattle.record.proofs.reader.numbers_ok.Statement.{statement}
 use Rattle.record.proofs.reader.numbers_ok.Tie as tie
-use Rattle.record.proofs.reader.numbers_ok.Reads as reads
-use Rattle.record.proofs.reader.numbers_ok.Lts as lts
-use Rattle.record.proofs.range.index_ok.Reads as index-ok-reads
-use Rattle.record.proofs.range.length_ok.Reads as length-ok-reads
-use Rattle.record.proofs.range.mark_ok.Reads as mark-ok-reads
-use Rattle.record.proofs.range.primary_ok.Reads as primary-ok-reads
-use Rattle.record.proofs.range.status_ok.Reads as status-ok-reads
 
--- src/reader.rt:59:9
 returns : tie.Need-returns
 unfolding numbersOk stateOf contextOf
 returns c = search (needs, answers, tests) depth 8
 
--- src/reader.rt:61:9
 length-ok-requires : tie.Need-length-ok-requires
 length-ok-requires c κs = search needs
 
--- src/reader.rt:62:9
 returns-2 : tie.Need-returns-2
 unfolding numbersOk stateOf contextOf
 returns-2 c = search (needs, answers, tests) depth 8
 
--- src/reader.rt:64:9
 index-ok-requires : tie.Need-index-ok-requires
 index-ok-requires c κs = search needs
 
--- src/reader.rt:65:9
 returns-3 : tie.Need-returns-3
 unfolding numbersOk stateOf contextOf
 returns-3 c = search (needs, answers, tests) depth 8
 
--- src/reader.rt:68:9
 primary-ok-requires : tie.Need-primary-ok-requires
 primary-ok-requires c κs = search needs
 
--- src/reader.rt:69:9
 returns-4 : tie.Need-returns-4
 unfolding numbersOk stateOf contextOf
 returns-4 c = search (needs, answers, tests) depth 8
 
--- src/reader.rt:72:9
 mark-ok-requires : tie.Need-mark-ok-requires
 mark-ok-requires c κs = search needs
 
--- src/reader.rt:73:9
 returns-5 : tie.Need-returns-5
 unfolding numbersOk stateOf contextOf
 returns-5 c = search (needs, answers, tests) depth 8
 
--- src/reader.rt:75:5
 status-ok-requires : tie.Need-status-ok-requires
 status-ok-requires c κs = search needs
 
--- src/reader.rt:54:1
 returns-6 : tie.Need-returns-6
 unfolding numbersOk stateOf contextOf
 returns-6 c = search (needs, answers, tests) depth 8

@@ -2,45 +2,31 @@ use Rattle.record.proofs.Returns.{refusal-one, refusal-two, read-unfram
 use borrow.Author.Needs.{needs}
 use Rattle.record.proofs.reader.read.Statement.{statement}
 use Rattle.record.proofs.reader.read.Tie as tie
-use Rattle.record.proofs.reader.read.Reads as reads
-use Rattle.record.proofs.reader.read.Lts as lts
-use Rattle.record.proofs.frame.framed_event.Reads as framed-event-reads
-use Rattle.record.proofs.range.context_ok.Reads as context-ok-reads
-use Rattle.record.proofs.reader.event_ok.Reads as event-ok-reads
 
--- src/reader.rt:143:9
 framed-event-requires : tie.Need-framed-event-requires
 framed-event-requires c κs = search needs
 
--- src/reader.rt:144:22
 enum-known-f : tie.Need-enum-known-f
 enum-known-f c = search needs
 
--- src/reader.rt:145:9
 enum-told : tie.Need-enum-told
 enum-told c = search needs
 
--- src/reader.rt:145:9
 returns : tie.Need-returns
 returns c = search (needs, read-unframed, refusal-one)
 
--- src/reader.rt:147:9
 context-ok-requires : tie.Need-context-ok-requires
 context-ok-requires c κs = search needs
 
--- src/reader.rt:148:9
 returns-2 : tie.Need-returns-2
 returns-2 c = search (needs, read-context, refusal-two)
 
--- src/reader.rt:150:9
 event-ok-requires : tie.Need-event-ok-requires
 event-ok-requires c κs = search (needs, read-readable)
 
--- src/reader.rt:151:9
 returns-3 : tie.Need-returns-3
 returns-3 c = search (needs, read-ranges, refusal-two)
 
--- src/reader.rt:139:1
 returns-4 : tie.Need-returns-4
 returns-4 c = search (needs, read-good, read-placed)
 

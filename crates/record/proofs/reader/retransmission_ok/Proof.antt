@@ -6,30 +6,21 @@ use Rattle.base.specs.Branches.{answers}
 use borrow.Author.Needs.{needs}
 use Rattle.record.proofs.reader.retransmission_ok.Statement.{statement}
 use Rattle.record.proofs.reader.retransmission_ok.Tie as tie
-use Rattle.record.proofs.reader.retransmission_ok.Reads as reads
-use Rattle.record.proofs.reader.retransmission_ok.Lts as lts
-use Rattle.record.proofs.range.length_ok.Reads as length-ok-reads
-use Rattle.record.proofs.reader.action_ok.Reads as action-ok-reads
 
--- src/reader.rt:43:9
 returns : tie.Need-returns
 unfolding fieldsOk contextOf
 returns c = search (needs, tests, answers)
 
--- src/reader.rt:45:9
 length-ok-requires : tie.Need-length-ok-requires
 length-ok-requires c κs = search needs
 
--- src/reader.rt:46:9
 returns-2 : tie.Need-returns-2
 unfolding fieldsOk contextOf
 returns-2 c = search (needs, tests, answers)
 
--- src/reader.rt:48:5
 action-ok-requires : tie.Need-action-ok-requires
 action-ok-requires c κs = search needs
 
--- src/reader.rt:38:1
 returns-3 : tie.Need-returns-3
 returns-3 c = search (needs, retransmission-answered)
 

@@ -2,24 +2,16 @@ use Rattle.record.proofs.Fields.{state-denied, state-answered}
 use borrow.Author.Needs.{needs}
 use Rattle.record.proofs.reader.state_ok.Statement.{statement}
 use Rattle.record.proofs.reader.state_ok.Tie as tie
-use Rattle.record.proofs.reader.state_ok.Reads as reads
-use Rattle.record.proofs.reader.state_ok.Lts as lts
-use Rattle.record.proofs.reader.lists_ok.Reads as lists-ok-reads
-use Rattle.record.proofs.reader.numbers_ok.Reads as numbers-ok-reads
 
--- src/reader.rt:82:9
 numbers-ok-requires : tie.Need-numbers-ok-requires
 numbers-ok-requires c κs = search needs
 
--- src/reader.rt:83:9
 returns : tie.Need-returns
 returns c = search (needs, state-denied)
 
--- src/reader.rt:85:5
 lists-ok-requires : tie.Need-lists-ok-requires
 lists-ok-requires c κs = search needs
 
--- src/reader.rt:78:1
 returns-2 : tie.Need-returns-2
 returns-2 c = search (needs, state-answered)
 
