@@ -13,4 +13,5 @@ pub mod Sections
 pub mod Counts
 pub mod SetLaws
 pub mod Text
+pub mod Branches
 pub mod Opened
