@@ -10,3 +10,4 @@ pub mod Arms
 pub mod Judged
 pub mod Placing
 pub mod Returns
+pub mod Callers
