@@ -1,5 +1,4 @@
-use lib.ListN.{length}
-use Prim.Native.Nat.{_+_, _-_, _*_, _≤_}
+use Prim.Native.Nat.{_-_, _≤_}
 use borrow.Author.Needs.{needs}
 use Rattle.records.proofs.print.cuts.Statement.{statement}
 use Rattle.records.proofs.print.cuts.Tie as tie

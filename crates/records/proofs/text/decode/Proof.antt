@@ -3,7 +3,7 @@ use native.Mathlib.Omega.{arith}
 use Rattle.io.proofs.Counting.{counts}
 use mathlib.Core.Path.{_≡_}
 use lib.ListN.{length}
-use Prim.Native.Nat.{_+_, _-_, _*_, _≤_}
+use Prim.Native.Nat.{_-_, _≤_}
 use borrow.Author.Needs.{needs}
 use Rattle.records.proofs.text.decode.Statement.{statement}
 use Rattle.records.proofs.text.decode.Tie as tie

@@ -1,5 +1,5 @@
 use lib.ListN.{length}
-use Prim.Native.Nat.{_+_, _-_, _*_, _≤_}
+use Prim.Native.Nat.{_-_, _≤_}
 use borrow.Author.Needs.{needs}
 use Rattle.records.proofs.text.find.Statement.{statement}
 use Rattle.records.proofs.text.find.Tie as tie
