@@ -68,6 +68,7 @@ pub struct State {
     pub come: u32,
 }
 
+// "The starting state and these limits belong to the state's own kind": each limit is named here and nowhere else.
 impl State {
     pub const FEWEST_SERVERS: u8 = 2;
 
