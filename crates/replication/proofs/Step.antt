@@ -1,6 +1,7 @@
 pub mod Inversion
 pub mod Moves
 pub mod Logs
+pub mod Numbered
 pub mod Growth
 pub mod Lifts
 pub mod Control
@@ -9,5 +10,18 @@ pub mod RequestRows
 pub mod Greens
 pub mod Taken
 pub mod Votes
+pub mod VotesOrder
 pub mod Modes
 pub mod Attempt
+pub mod Folds
+pub mod Reds
+pub mod Formed
+pub mod ModeColours
+pub mod Sending
+pub mod Parts
+pub mod OwnActions
+pub mod Held
+pub mod Shape
+pub mod Identity
+pub mod Rising
+pub mod Primary
