@@ -7,7 +7,13 @@ pub mod Stores
 pub mod Pigeonhole
 pub mod Sets
 pub mod Lists
+pub mod ListLaws
+pub mod SameLaws
+pub mod Sections
+pub mod Counts
+pub mod SetLaws
 pub mod Text
 pub mod Prefixes
 pub mod Members
+pub mod Branches
 pub mod Opened
