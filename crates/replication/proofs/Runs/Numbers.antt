@@ -10,7 +10,9 @@ use Rattle.replication.specs.Machine.WellFormedFacts.{Invariant}
 use Rattle.replication.specs.Laws.Images.{OfBoth}
 use Rattle.replication.specs.Runs.Run.{Run, worldAt}
 use Rattle.replication.proofs.WellFormed.Runs.{lived-invariant, lived-well-formed}
-use Rattle.replication.proofs.WellFormed.Sizes.{step-sizes}
+use Rattle.replication.proofs.Step.Inversion.{taken-by}
+use Rattle.replication.proofs.Step.Moves.{moved}
+use Rattle.replication.proofs.Step.Identity.{identity-kept}
 use Rattle.replication.proofs.Runs.Lived.{at-place, each-at-place}
 
 -- Server i of n, with the quota q.
@@ -24,7 +26,7 @@ pub numbers : (n q i : ℕ) (l : Run) (p : ℕ) → OfBoth (Numbered n q i) (wor
 unfolding start
 numbers n q i l =
     each-at-place n q l (Numbered n q i)
-    (λ s e t bs b g h v. let w = step-sizes s e t bs b g h in record { servers = w .servers ∙ v .servers; quota = w .quota ∙ v .quota; me = w .me ∙ v .me }) i
+    (λ s e t bs b g h v. let w = identity-kept s (moved (taken-by s e t bs b g h) .0) in record { servers = w .servers ∙ v .servers; quota = w .quota ∙ v .quota; me = w .me ∙ v .me }) i
     (record { servers = refl; quota = refl; me = refl })
 
 pub invariant-at : (n q i : ℕ) → sizesOk n q ≡ true → i < n → (l : Run) (p : ℕ) → OfBoth Invariant (worldAt n q l p .images i)
