@@ -8,6 +8,11 @@ pub mod Pigeonhole
 pub mod Sets
 pub mod Lists
 pub mod AtLaws
+pub mod Rising
+pub mod Chains
+pub mod ListLaws
+pub mod Counts
+pub mod SetLaws
 pub mod Text
 pub mod Prefixes
 pub mod Members

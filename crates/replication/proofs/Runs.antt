@@ -13,3 +13,8 @@ pub mod PlaceMoves
 pub mod Readings
 pub mod Coupling
 pub mod AllowedTurns
+pub mod Sending
+pub mod ControlPart
+pub mod Order
+pub mod DeliveryLists
+pub mod Agreement

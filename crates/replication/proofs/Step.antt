@@ -1,6 +1,7 @@
 pub mod Inversion
 pub mod Moves
 pub mod Logs
+pub mod Numbered
 pub mod Growth
 pub mod Lifts
 pub mod Control
@@ -15,3 +16,7 @@ pub mod Folds
 pub mod Reds
 pub mod Formed
 pub mod ModeColours
+pub mod Sending
+pub mod Parts
+pub mod OwnActions
+pub mod Held

@@ -5,3 +5,4 @@ pub mod Rows
 pub mod Greens
 pub mod Modes
 pub mod Folds
+pub mod Sending

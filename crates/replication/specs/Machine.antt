@@ -7,3 +7,5 @@ pub mod Requests
 pub mod Rules
 pub mod Step
 pub mod WellFormed
+pub mod WellFormedRanges
+pub mod WellFormedFacts

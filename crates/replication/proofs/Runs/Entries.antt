@@ -24,10 +24,12 @@ module _ (n q : ℕ) (l : Run) where
     pub steady : (x : ℕ) → took-at < x → x < p → Falls n q l x i → ⊥
     pub alone : (x : ℕ) (d : Configuration) → took-at < x → x < p → Takes n q l x i d → ⊥
     pub kept : (x : ℕ) → took-at < x → x ≤ p → placeAt n q l i x .regular ≡ some c
+    pub not-left : placeAt n q l i p .transitional ≡ none → (x : ℕ) → took-at < x → x ≤ p → placeAt n q l i x .transitional ≡ none
 
   had-longer : {i p : ℕ} {c : Configuration} → placeAt n q l i (suc p) .regular ≡ some c → (Falls n q l p i → ⊥)
-      → ((d : Configuration) → Takes n q l p i d → ⊥) → Had i p c → Had i (suc p) c
-  had-longer {i} {p} {c} e f t h =
+      → ((d : Configuration) → Takes n q l p i d → ⊥) → (placeAt n q l i (suc p) .transitional ≡ none → placeAt n q l i p .transitional ≡ none)
+      → Had i p c → Had i (suc p) c
+  had-longer {i} {p} {c} e f t u h =
       record {
         took-at = h .took-at;
         earlier = omega (arith, h .earlier);
@@ -35,6 +37,7 @@ module _ (n q : ℕ) (l : Run) where
         steady = λ x a b. steady x a b (decLt x p);
         alone = λ x d a b. alone x d a b (decLt x p);
         kept = λ x a b. kept x a b (decLt x (suc p));
+        not-left = λ g x a b. not-left g x a b (decLt x (suc p));
       }
     where
       steady : (x : ℕ) → h .took-at < x → x < suc p → Dec (x < p) → Falls n q l x i → ⊥
@@ -48,6 +51,10 @@ module _ (n q : ℕ) (l : Run) where
       kept : (x : ℕ) → h .took-at < x → x ≤ suc p → Dec (x < suc p) → placeAt n q l i x .regular ≡ some c
       kept x a b (yes d) = h .kept x a (omega arith)
       kept x a b (no d) = let z : x ≡ suc p = omega arith in subst (λ w. placeAt n q l i w .regular ≡ some c) (sym z) e
+
+      not-left : placeAt n q l i (suc p) .transitional ≡ none → (x : ℕ) → h .took-at < x → x ≤ suc p → Dec (x < suc p) → placeAt n q l i x .transitional ≡ none
+      not-left g x a b (yes d) = h .not-left (u g) x a (omega arith)
+      not-left g x a b (no d) = let z : x ≡ suc p = omega arith in subst (λ w. placeAt n q l i w .transitional ≡ none) (sym z) g
 
   -- A configuration that a server has was taken.
   pub had : (p i : ℕ) (c : Configuration) → placeAt n q l i p .regular ≡ some c → Had i p c
@@ -64,10 +71,12 @@ module _ (n q : ℕ) (l : Run) where
             took = subst (λ w. Takes n q l p i w) z t;
             steady = λ x a b y. omega arith;
             alone = λ x d a b y. omega arith;
+            not-left = λ g x a b. let w : suc p ≡ x = omega arith in subst (λ v. placeAt n q l i v .transitional ≡ none) w g;
             kept = λ x a b. let w : suc p ≡ x = omega arith in subst (λ v. placeAt n q l i v .regular ≡ some c) w e;
           }
       go (to-transitional s t m) k =
-          had-longer e (λ f. transitional-no-fall t f) (λ d y. transitional-not-regular t y) (k (sym (ap (λ x. x .regular) m) ∙ e))
+          had-longer e (λ f. transitional-no-fall t f) (λ d y. transitional-not-regular t y)
+          (λ g. none-some (sym g ∙ ap (λ x. x .transitional) m)) (k (sym (ap (λ x. x .regular) m) ∙ e))
       go (to-nowhere f m) k = none-some (sym (ap (λ x. x .regular) m) ∙ e)
       go (stays u v m) k =
-          had-longer e (λ f. stays-no-fall u v f) (λ d y. stays-no-regular u y) (k (sym (ap (λ x. x .regular) m) ∙ e))
+          had-longer e (λ f. stays-no-fall u v f) (λ d y. stays-no-regular u y) (λ g. sym (ap (λ x. x .transitional) m) ∙ g) (k (sym (ap (λ x. x .regular) m) ∙ e))

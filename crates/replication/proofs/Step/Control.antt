@@ -5,36 +5,18 @@ use mathlib.Core.Bool.{Bool, true, false}
 use mathlib.Core.List.{List, [], _∷_, _++_}
 use Rattle.base.specs.Tests.{pick, Known, holds, fails, known}
 use Rattle.format.specs.Types.{Action, Record}
-use Rattle.replication.specs.Machine.Types.{Log, Server, taken}
-use Rattle.replication.specs.Machine.Colours.{isNext, enter, red, promote, green, joinYellow, yellow}
+use Rattle.replication.specs.Machine.Types.{Server, taken}
+use Rattle.replication.specs.Machine.Colours.{isNext, enter, joinYellow, yellow}
 use Rattle.replication.specs.Machine.Requests.{hold}
-use Rattle.replication.specs.Machine.Step.{withState, resending, placed, oneMore, exchanged, withCpc, leave, greenAndNote, step}
+use Rattle.replication.specs.Machine.Step.{withState, resending, oneMore, exchanged, withCpc, leave, greenAndNote, step}
 use Rattle.replication.specs.Images.{started, lived}
 use Rattle.replication.specs.Laws.Transitions as L
 use Rattle.replication.specs.Laws.Transitions.{Transition}
 use Rattle.replication.specs.Laws.Order.{SameControl}
 use Rattle.replication.proofs.Step.Inversion.{taken-by}
 use Rattle.replication.proofs.Step.Moves.{moved}
-use Rattle.replication.proofs.Step.Logs.{on-red, on-green, on-placed}
+use Rattle.replication.proofs.Step.Numbered.{numbered-red, numbered-green, numbered-placed}
 use Rattle.replication.proofs.Step.Lifts.{lived-pair}
-
--- ---- colours number nothing
-
-module _ (k : ℕ) where
-  Numbered : Log → Type 0
-  Numbered l = l .numbered ≡ k
-
-  numbered-red : (a : Action) (l : Log) → l .numbered ≡ k → (red a l) .numbered ≡ k
-  unfolding Numbered enter promote
-  numbered-red = on-red Numbered (λ a l e p. p) (λ d x l e p. p)
-
-  numbered-green : (a : Action) (l : Log) → l .numbered ≡ k → (green a l) .numbered ≡ k
-  unfolding Numbered enter promote
-  numbered-green = on-green Numbered (λ a l e p. p) (λ d x l e p. p)
-
-  numbered-placed : (i : ℕ) (a : Action) (l : Log) → l .numbered ≡ k → (placed i a l) .numbered ≡ k
-  unfolding Numbered enter promote
-  numbered-placed = on-placed Numbered (λ a l e p. p) (λ d x l e p. p)
 
 -- ---- one event
 
@@ -64,12 +46,12 @@ pub unstored-keeps : {s : Server} {r : Record} {t : Server} {rs : List Record} �
 unfolding greenAndNote exchanged oneMore withState resending withCpc leave hold
 unstored-keeps {s} (L.ignoresState x e) = control-refl s
 unstored-keeps {s} (L.ignoresCpc k i e) = control-refl s
-unstored-keeps {s} (L.reddens a e) = record { last = refl; attempt = refl; mark = refl; numbered = numbered-red _ a (s .log) refl }
-unstored-keeps {s} (L.reddensResent k i a e) = record { last = refl; attempt = refl; mark = refl; numbered = numbered-red _ a (s .log) refl }
-unstored-keeps {s} (L.reddensInExchange a e) = record { last = refl; attempt = refl; mark = refl; numbered = numbered-red _ a (s .log) refl }
-unstored-keeps {s} (L.greens a e) = record { last = refl; attempt = refl; mark = refl; numbered = numbered-green _ a (s .log) refl }
+unstored-keeps {s} (L.reddens a e) = record { last = refl; attempt = refl; mark = refl; numbered = numbered-red a (s .log) }
+unstored-keeps {s} (L.reddensResent k i a e) = record { last = refl; attempt = refl; mark = refl; numbered = numbered-red a (s .log) }
+unstored-keeps {s} (L.reddensInExchange a e) = record { last = refl; attempt = refl; mark = refl; numbered = numbered-red a (s .log) }
+unstored-keeps {s} (L.greens a e) = record { last = refl; attempt = refl; mark = refl; numbered = numbered-green a (s .log) }
 unstored-keeps {s} (L.yellows a e) = control-yellow a s
-unstored-keeps {s} (L.exchanges k i a e c) = record { last = refl; attempt = refl; mark = refl; numbered = numbered-placed _ i a (s .log) refl }
+unstored-keeps {s} (L.exchanges k i a e c) = record { last = refl; attempt = refl; mark = refl; numbered = numbered-placed i a (s .log) }
 unstored-keeps {s} (L.collects x e c) = record { last = refl; attempt = refl; mark = refl; numbered = refl }
 unstored-keeps {s} (L.collectsLast x e c d) = record { last = refl; attempt = refl; mark = refl; numbered = refl }
 unstored-keeps {s} (L.counts k i e c) = record { last = refl; attempt = refl; mark = refl; numbered = refl }
