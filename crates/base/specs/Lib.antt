@@ -13,6 +13,7 @@ pub mod Chains
 pub mod ListLaws
 pub mod Counts
 pub mod SetLaws
+pub mod Quorums
 pub mod Text
 pub mod Prefixes
 pub mod Members
