@@ -1,1 +1,4 @@
 pub mod Changes
+pub mod Turns
+pub mod Events
+pub mod Phases

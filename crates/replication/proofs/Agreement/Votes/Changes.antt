@@ -89,7 +89,7 @@ pub data VoteChange (s : Server) (r : Record) (t : Server) (rs : List Record) (b
 -- ---- what stays
 
 module _ (s t : Server) where
-  same-membership : t .membership ≡ s .membership → Stays s t
+  pub same-membership : t .membership ≡ s .membership → Stays s t
   same-membership e = record {
     exchange = λ h. (ap (λ m. inExchange (m .mode)) (sym e) ∙ h, ap (λ m. m .configuration) e);
     attempt = λ h. (ap (λ m. attempting (m .mode)) (sym e) ∙ h, ap (λ m. m .configuration) e);
@@ -99,7 +99,7 @@ module _ (s t : Server) where
       → attempting (t .membership .mode) ≡ attempting (s .membership .mode) → Stays s t
   same-phase c e a = record { exchange = λ h. (sym e ∙ h, c); attempt = λ h. (sym a ∙ h, c) }
 
-  outside : inExchange (t .membership .mode) ≡ false → attempting (t .membership .mode) ≡ false → Stays s t
+  pub outside : inExchange (t .membership .mode) ≡ false → attempting (t .membership .mode) ≡ false → Stays s t
   outside e a = record { exchange = λ h. not-both (sym e ∙ h); attempt = λ h. not-both (sym a ∙ h) }
 
 same-yellow : (a : Action) (s : Server) → SameVotes (s .votes) ((yellow a s) .votes)
