@@ -2,3 +2,4 @@ pub mod Changes
 pub mod Turns
 pub mod Events
 pub mod Phases
+pub mod Judging
