@@ -3,3 +3,5 @@ pub mod Turns
 pub mod Events
 pub mod Phases
 pub mod Judging
+pub mod Collected
+pub mod Rising
