@@ -5,3 +5,4 @@ pub mod Phases
 pub mod Judging
 pub mod Collected
 pub mod Rising
+pub mod Known
