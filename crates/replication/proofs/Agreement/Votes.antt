@@ -6,3 +6,4 @@ pub mod Judging
 pub mod Collected
 pub mod Rising
 pub mod Known
+pub mod Marks
