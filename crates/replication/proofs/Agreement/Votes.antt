@@ -7,3 +7,4 @@ pub mod Collected
 pub mod Rising
 pub mod Known
 pub mod Marks
+pub mod Attempts

@@ -27,6 +27,12 @@ use Rattle.replication.proofs.Agreement.Votes.Changes as C
 use Rattle.replication.proofs.Agreement.Votes.Changes.{isRegular, Joins, Installing, VoteChange, vote-change}
 use Rattle.replication.proofs.Agreement.Votes.Turns.{modeAt, Decides, with-quorum, without-quorum, ended}
 
+-- Of two configurations that a server took, which came first.
+pub data InOrder (w e : ℕ) (c d : Configuration) : Type 0 where
+  first : w < e → InOrder w e c d
+  same : c ≡ d → w ≡ e → InOrder w e c d
+  second : e < w → InOrder w e c d
+
 -- ---- what the events leave
 
 module _ {n q : ℕ} {l : Run} where
@@ -108,12 +114,7 @@ module _ {n q : ℕ} {l : Run} (A : Allowed n q l) where
       go (no a) (yes b) = b
       go (no a) (no b) = let k : e ≡ p = omega arith in not-both (sym m ∙ takes-exchanging (subst (λ z. Takes n q l z i d) k u))
 
-  -- Of two configurations that a server took, which came first.
-  pub data InOrder (w e : ℕ) (c d : Configuration) : Type 0 where
-    first : w < e → InOrder w e c d
-    same : c ≡ d → w ≡ e → InOrder w e c d
-    second : e < w → InOrder w e c d
-
+module _ {n q : ℕ} {l : Run} where
   pub in-order : {w e i : ℕ} {c d : Configuration} → Takes n q l w i c → Takes n q l e i d → InOrder w e c d
   in-order {w} {e} {i} {c} {d} t u = go (decLt w e) (decLt e w)
     where
