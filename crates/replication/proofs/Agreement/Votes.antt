@@ -8,3 +8,4 @@ pub mod Rising
 pub mod Known
 pub mod Marks
 pub mod Attempts
+pub mod Present
