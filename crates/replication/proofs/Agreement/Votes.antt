@@ -9,3 +9,4 @@ pub mod Known
 pub mod Marks
 pub mod Attempts
 pub mod Present
+pub mod Kept
