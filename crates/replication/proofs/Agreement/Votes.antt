@@ -10,3 +10,4 @@ pub mod Marks
 pub mod Attempts
 pub mod Present
 pub mod Kept
+pub mod Unique
