@@ -11,3 +11,4 @@ pub mod Attempts
 pub mod Present
 pub mod Kept
 pub mod Unique
+pub mod Primaries

@@ -19,13 +19,15 @@ use Rattle.replication.specs.Runs.Happenings.{Comes, Takes}
 use Rattle.replication.specs.Runs.Allowed.{Allowed}
 use Rattle.replication.proofs.Runs.Shifts.{regular-same, comes-of, takes-same}
 use Rattle.replication.proofs.Runs.Entries.{Had, had}
+use Rattle.replication.proofs.Runs.Coupling.{coupled}
+use Rattle.replication.proofs.Runs.Modes.{standing}
 use Rattle.replication.proofs.Runs.AllowedTurns.{memoryAt, Acts}
 use Rattle.replication.proofs.Runs.Sending.{regular-acts}
 use Rattle.replication.proofs.Runs.Order.{time, time-rises, time-before, configuration-time}
 use Rattle.replication.proofs.Agreement.Terms.{EndsAt, InstallsAt}
 use Rattle.replication.proofs.Agreement.Votes.Changes as C
 use Rattle.replication.proofs.Agreement.Votes.Changes.{isRegular, Joins, Installing, VoteChange, vote-change}
-use Rattle.replication.proofs.Agreement.Votes.Turns.{modeAt, Decides, with-quorum, without-quorum, ended}
+use Rattle.replication.proofs.Agreement.Votes.Turns.{modeAt, installer-placed, Decides, with-quorum, without-quorum, ended}
 
 -- Of two configurations that a server took, which came first.
 pub data InOrder (w e : ℕ) (c d : Configuration) : Type 0 where
@@ -91,6 +93,22 @@ module _ {n q : ℕ} {l : Run} (A : Allowed n q l) where
   pub takes-exchanging : {p i : ℕ} {c : Configuration} → Takes n q l p i c → inExchange (modeAt n q l (suc p) i) ≡ true
   unfolding inExchange
   takes-exchanging t = ap inExchange (takes-joins t .mode)
+
+  -- An event that installs finds a configuration.
+  pub installer-configured : {p i : ℕ} (x : Acts n q l p i) → installsBy (some (x .by .rule)) (memoryAt n q l p i) ≡ true
+      → (c : Configuration) × (placeAt n q l i p .regular ≡ some c)
+  installer-configured {p} {i} x h = go (vote-change (memoryAt n q l p i) (x .moves))
+    where
+      installs-here : C.installing (memoryAt n q l p i) (x .by .event) ≡ true
+      installs-here = ap (λ z. installsBy z (memoryAt n q l p i)) (x .by .ruled) ∙ h
+
+      go : VoteChange (memoryAt n q l p i) (x .by .event) (x .after) (x .by .records) (x .stores) → (c : Configuration) × (placeAt n q l i p .regular ≡ some c)
+      go (C.keeps r o v s) = not-both (sym o ∙ installs-here)
+      go (C.joins c e o j) = not-both (sym o ∙ installs-here)
+      go (C.ends r o b j) = not-both (sym o ∙ installs-here)
+      go (C.installs r o j) =
+          let g = installer-placed (memoryAt n q l p i) (j .from) (standing n q l i p .memory) in
+          (g .0, ap (λ z. z .regular) (sym (coupled A p i (x .up))) ∙ g .1)
 
   -- ---- the order at one server
 

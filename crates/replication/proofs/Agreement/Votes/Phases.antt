@@ -72,15 +72,17 @@ module _ {n q : ℕ} {l : Run} (A : Allowed n q l) where
       go : VoteTurn n q l p i → (inExchange (modeAt n q l p i) ≡ true → (c : Configuration) × ExchangesIn n q l p i c)
           → (c : Configuration) × ExchangesIn n q l (suc p) i c
       go (keeps v s) f = let e = s .exchange h in let x = f (e .0) in (x .0, longer (x .0) v (e .1) (x .1))
-      go (joins c t j) f =
-          (c, record {
-            took-at = p;
-            earlier = omega arith;
-            took = t;
-            votes = same-votes-refl _;
-            throughout = λ y a b. let k : suc p ≡ y = omega arith in subst (λ z. inExchange (modeAt n q l z i) ≡ true) k h;
-            configuration = j .configuration;
-          })
+      go (joins c t j) f = (
+        c,
+        record {
+          took-at = p;
+          earlier = omega arith;
+          took = t;
+          votes = same-votes-refl _;
+          throughout = λ y a b. let k : suc p ≡ y = omega arith in subst (λ z. inExchange (modeAt n q l z i) ≡ true) k h;
+          configuration = j .configuration;
+        },
+      )
       go (ends c x e) f = not-both (sym (ends-exchange x) ∙ h)
       go (installs c x) f = not-both (sym (installs-outside x .0) ∙ h)
 

@@ -123,17 +123,18 @@ module _ {n q : ℕ} {l : Run} (A : Allowed n q l) (X : ExchangeFacts n q l) {p 
       kept-present w s m o h =
           let f = present-waits w s m o h in
           let b = joined-without-installers w s o f in
-          let xs = collected (x .judged) in
-          (mark-kept xs s (f .alike .status)
-          (rule-a-no xs s (omega (arith, not-later, f .alike .index)))
-          (rule-b-no xs s
-          (λ u k g.
-          let v = state-from A X x u k in
-          let z = present-waits (v .0) u k (v .2) (ap (λ a. inSet a (c .set)) (sym (v .2 .sender)) ∙ ap (inSet (u .sender)) (sym (f .alike .set)) ∙ g) .alike in
-          (z .status, z .index ∙ sym (f .alike .index), z .attempt ∙ sym (f .alike .attempt))))
-          (rule-c-no xs s i (ap (inSet i) (f .alike .set) ∙ taker-member (had n q l p i c (inst .here) .took)) (b p i inst)),
-          record {
-            index = f .index;
-            alike = record { status = f .alike .status; index = f .alike .index; attempt = f .alike .attempt; set = f .alike .set };
-            without = b;
-          })
+          let xs = collected (x .judged) in (
+            mark-kept xs s (f .alike .status)
+                (rule-a-no xs s (omega (arith, not-later, f .alike .index)))
+                (rule-b-no xs s
+                (λ u k g.
+                let v = state-from A X x u k in
+                let z = present-waits (v .0) u k (v .2) (ap (λ a. inSet a (c .set)) (sym (v .2 .sender)) ∙ ap (inSet (u .sender)) (sym (f .alike .set)) ∙ g) .alike in
+                (z .status, z .index ∙ sym (f .alike .index), z .attempt ∙ sym (f .alike .attempt))))
+                (rule-c-no xs s i (ap (inSet i) (f .alike .set) ∙ taker-member (had n q l p i c (inst .here) .took)) (b p i inst)),
+            record {
+              index = f .index;
+              alike = record { status = f .alike .status; index = f .alike .index; attempt = f .alike .attempt; set = f .alike .set };
+              without = b;
+            },
+          )

@@ -70,7 +70,7 @@ exchange-regular No c t e h = not-both e
 exchange-regular Un c t e h = not-both e
 
 -- A server that installs has a configuration.
-installer-placed : (s : Server) → (s .membership .mode ≡ Construct) ⊎ (s .membership .mode ≡ Un) → Standing s
+pub installer-placed : (s : Server) → (s .membership .mode ≡ Construct) ⊎ (s .membership .mode ≡ Un) → Standing s
     → (c : Configuration) × (s .membership .configuration ≡ some c)
 installer-placed s (inl e) h = let g = standing-in s Construct e h in (g .configuration, g .there)
 installer-placed s (inr e) h = let g = standing-in s Un e h in (g .configuration, g .there)
