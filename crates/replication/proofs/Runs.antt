@@ -21,5 +21,7 @@ pub mod Memberships
 pub mod Stays
 pub mod PutRecords
 pub mod StateOrigins
+pub mod Hearing
+pub mod OwnStates
 pub mod DeliveryLists
 pub mod Agreement
