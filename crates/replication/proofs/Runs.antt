@@ -20,6 +20,8 @@ pub mod Origins
 pub mod Memberships
 pub mod Stays
 pub mod PutRecords
+pub mod LogActions
+pub mod Made
 pub mod StateOrigins
 pub mod Hearing
 pub mod OwnStates
