@@ -21,9 +21,9 @@ pub mod Memberships
 pub mod Stays
 pub mod PutRecords
 pub mod LogActions
-pub mod Made
 pub mod StateOrigins
 pub mod Hearing
 pub mod OwnStates
+pub mod Made
 pub mod DeliveryLists
 pub mod Agreement
