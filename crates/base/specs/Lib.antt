@@ -11,9 +11,12 @@ pub mod AtLaws
 pub mod Rising
 pub mod Chains
 pub mod ListLaws
+pub mod SameLaws
+pub mod Sections
 pub mod Counts
 pub mod SetLaws
 pub mod Text
 pub mod Prefixes
 pub mod Members
+pub mod Branches
 pub mod Opened

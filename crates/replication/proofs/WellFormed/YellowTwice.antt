@@ -20,8 +20,8 @@ use Rattle.replication.specs.Machine.WellFormedFacts.{Invariant}
 use Rattle.replication.proofs.WellFormed.Ids.{has-counted, counted-fact}
 use Rattle.replication.proofs.WellFormed.Kept.{entered-in-trans}
 
-abbrev pub theId : Id
-theId = record { creator = 1; index = 1 }
+abbrev pub yellowId : Id
+yellowId = record { creator = 1; index = 1 }
 
 -- Server 0 of 2, quota 1, in Trans_prim: nothing held, and server 1's first action on the yellow list.
 pub before : Server
@@ -30,7 +30,7 @@ before = record {
   quota = 1;
   me = 0;
   log = record { green = []; red = []; cuts = 0 ∷ 0 ∷ []; own = []; numbered = 0 };
-  votes = record { last = record { index = 0; attempt = 0; set = 3 }; attempt = 0; mark = clearedMark; yellow = record { status = 0; ids = theId ∷ [] } };
+  votes = record { last = record { index = 0; attempt = 0; set = 3 }; attempt = 0; mark = clearedMark; yellow = record { status = 0; ids = yellowId ∷ [] } };
   membership = record { mode = Trans-prim; configuration = some (record { id = 1; set = 3 }); transitional = some 3; states = none ∷ none ∷ []; cpcs = 0; come = 0 };
   held = [];
   noted = 0 ∷ 0 ∷ [];
@@ -38,7 +38,7 @@ before = record {
 
 -- That action is delivered.
 pub event : List ℕ
-event = write (action (record { id = theId; greenLength = 0; payload = [] }))
+event = write (action (record { id = yellowId; greenLength = 0; payload = [] }))
 
 pub fitsAfter : Outcome (List ℕ) → Option Bool
 fitsAfter (refused k) = none

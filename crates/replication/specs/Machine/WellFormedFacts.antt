@@ -93,9 +93,3 @@ YellowEntered Un s = Unit {0}
 pub record Invariant (s : Server) : Type 0 where
   pub well-formed : WellFormed s
   pub yellow : YellowEntered (s .membership .mode) s
-
--- n, q and the server's number are the same.
-pub record SameSizes (s t : Server) : Type 0 where
-  pub servers : t .servers ≡ s .servers
-  pub quota : t .quota ≡ s .quota
-  pub me : t .me ≡ s .me
