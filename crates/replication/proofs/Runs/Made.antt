@@ -27,6 +27,7 @@ use Rattle.replication.specs.Laws.Sending.{PutsOut, Own, Resent}
 use Rattle.replication.specs.Runs.Run.{Run, beginning, worldAt, placeAt}
 use Rattle.replication.specs.Runs.Happenings.{Message, isMessage, Comes, Delivers}
 use Rattle.replication.specs.Runs.Allowed.{Allowed}
+use Rattle.replication.proofs.Step.Kinds.{part-sent}
 use Rattle.replication.proofs.Step.OwnActions.{own-sent}
 use Rattle.replication.proofs.Step.Sending.{puts-out}
 use Rattle.replication.proofs.WellFormed.Held.{found-fact}
@@ -37,8 +38,7 @@ use Rattle.replication.proofs.Runs.AllowedTurns.{memoryAt, storeAt, Act
 use Rattle.replication.proofs.Runs.ControlPart.{numbered-between}
 use Rattle.replication.proofs.Runs.Sending.{Puts}
 use Rattle.replication.proofs.Runs.Origins.{Origin, origin}
-use Rattle.replication.proofs.Runs.PutRecords.{PutAs, action-put, PartPut, part-put}
-use Rattle.replication.proofs.Runs.StateOrigins.{puts-as}
+use Rattle.replication.proofs.Runs.StateOrigins.{puts-among, puts-by}
 use Rattle.replication.proofs.Runs.LogActions.{EachIn, carried, each-of, each-in, each-after, each-recovered, each-in-implied}
 
 -- In a list whose ids run on from k, an id is of one action.
@@ -143,7 +143,7 @@ module _ {n q : ℕ} {l : Run} (A : Allowed n q l) where
   put-made : (v k j : ℕ) (c : Configuration) (r : Record) (x : Puts A v k j c r) → EachIn (Made (suc v)) (memoryAt n q l (suc v) k .log) → Each (Made (suc v)) (carried r)
   put-made v k j c (action a) x h = (own-made v k (x .act) a (at-among _ j (action a) (x .record-there)), tt)
   put-made v k j c (retransmission w p a) x h =
-      (resent-made (suc v) _ _ _ w p a (subst (λ t. EachIn (Made (suc v)) (t .log)) (x .act .memory-next) h) (part-put (puts-as A x) .resent), tt)
+      (resent-made (suc v) _ _ _ w p a (subst (λ t. EachIn (Made (suc v)) (t .log)) (x .act .memory-next) h) (part-sent (puts-by A x) w p a (puts-among A x) .planned), tt)
   put-made v k j c (state y) x h = tt
   put-made v k j c (cpc w y) x h = tt
   put-made v k j c (regular w y) x h = tt

@@ -21,7 +21,7 @@ use Rattle.replication.specs.Runs.Run.{Run, placeAt, worldAt}
 use Rattle.replication.specs.Runs.Happenings.{Comes, Falls, by-crash, by-recovery, Takes}
 use Rattle.replication.specs.Runs.Allowed.{Allowed}
 use Rattle.replication.proofs.Step.Formed.{every-state-in}
-use Rattle.replication.proofs.Step.Votes.{at-most-same, at-most-refl, at-most-trans, votes-rise}
+use Rattle.replication.proofs.Step.VotesOrder.{at-most-same, at-most-refl, at-most-trans, votes-rise}
 use Rattle.replication.proofs.WellFormed.Modes.{all-in-facts}
 use Rattle.replication.proofs.Runs.Places.{of-event}
 use Rattle.replication.proofs.Runs.Numbers.{numbers, invariant-at, well-formed-at}

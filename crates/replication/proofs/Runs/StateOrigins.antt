@@ -2,7 +2,7 @@
 use Prim.Native.Nat.{ℕ, zero, suc, _≤_, _<_}
 use mathlib.Core.Path.{_≡_, refl, sym, ap, subst, _∙_}
 use mathlib.Core.Bool.{Bool, true, false}
-use mathlib.Core.List.{List, [], _∷_, map}
+use mathlib.Core.List.{List, [], _∷_, map, List·Memᴰ}
 use mathlib.Core.Logic.{_⊎_, inl, inr}
 use mathlib.Core.Option.{Option, none, some}
 use native.Mathlib.Omega.{arith}
@@ -11,21 +11,23 @@ use lib.ListN.{length, getD, set}
 use lib.Seq.{getD-set-same, getD-set-other, set-out}
 use Rattle.base.specs.Tests.{not-both}
 use Rattle.base.specs.Lists.{at}
-use Rattle.base.specs.AtLaws.{none-some, some-same}
+use Rattle.base.specs.AtLaws.{none-some, some-same, at-among}
 use Rattle.format.specs.Types.{Action, State, Record, action, retransmission, state, cpc, regular}
 use Rattle.replication.specs.Machine.Types.{Configuration, Membership, Server, noStates}
 use Rattle.replication.specs.Machine.Step.{ownState}
 use Rattle.replication.specs.Machine.WellFormedSent.{senderOf}
+use Rattle.replication.specs.Laws.Sending.{PutsOut}
 use Rattle.replication.specs.Runs.Run.{Run, placeAt}
 use Rattle.replication.specs.Runs.Happenings.{Message, isMessage, Comes, Falls, Takes, Delivers}
 use Rattle.replication.specs.Runs.Allowed.{Allowed}
+use Rattle.replication.proofs.Step.Kinds.{state-sent}
 use Rattle.replication.proofs.Step.Sending.{puts-out}
 use Rattle.replication.proofs.Runs.Deliveries.{Delivery}
 use Rattle.replication.proofs.Runs.AllowedTurns.{memoryAt, Acts}
 use Rattle.replication.proofs.Runs.Sending.{Puts}
 use Rattle.replication.proofs.Runs.Origins.{Origin, origin}
 use Rattle.replication.proofs.Runs.Coupling.{coupled}
-use Rattle.replication.proofs.Runs.PutRecords.{PutAs, put-as, state-put}
+use Rattle.replication.proofs.Runs.PutRecords.{alone-first}
 use Rattle.replication.proofs.Runs.Memberships as M
 use Rattle.replication.proofs.Runs.Memberships.{Completes, MembershipStep}
 use Rattle.replication.proofs.Runs.Stays.{membershipAt, in-stay, StayStep, rested, refused, took, stay-step, entering-membership}
@@ -76,8 +78,17 @@ put-or-there {A} xs i k x y h = go (ℕ-discrete k i) (decLt i (length xs))
     go (no e) b = inr (sym (getD-set-other xs i k (some x) none e) ∙ h)
 
 module _ {n q : ℕ} {l : Run} (A : Allowed n q l) where
-  pub puts-as : {v k j : ℕ} {c : Configuration} {y : Record} (x : Puts A v k j c y) → PutAs (memoryAt n q l v k) (x .act .by .event) (x .act .after) j y
-  puts-as {v} {k} {j} {c} {y} x = put-as j y (puts-out _ (x .act .moves)) (x .record-there)
+  -- What an event that puts something out puts out, and a record of it among them.
+  pub puts-among : {v k j : ℕ} {c : Configuration} {y : Record} (x : Puts A v k j c y) → List·Memᴰ y (x .act .by .records)
+  puts-among {v} {k} {j} {c} {y} x = at-among (x .act .by .records) j y (x .record-there)
+
+  pub puts-by : {v k j : ℕ} {c : Configuration} {y : Record} (x : Puts A v k j c y)
+      → PutsOut (memoryAt n q l v k) (x .act .by .event) (x .act .after) (x .act .by .records) (x .act .stores)
+  puts-by {v} {k} {j} {c} {y} x = puts-out _ (x .act .moves)
+
+  -- The record to which a server answers by putting out something.
+  pub puts-comes : {v k j : ℕ} {c : Configuration} {y : Record} (x : Puts A v k j c y) → Comes n q l v k (x .act .by .event)
+  puts-comes x = record { bytes = x .act .bytes; sent = x .act .sent; here = x .act .here; heard = x .act .heard }
 
   -- The configuration that a server has after it put something out.
   pub puts-configuration : {v k j : ℕ} {c : Configuration} {y : Record} (x : Puts A v k j c y) → x .act .after .membership .configuration ≡ some c
@@ -94,14 +105,13 @@ module _ {n q : ℕ} {l : Run} (A : Allowed n q l) where
   -- A State is put out on entering a configuration, and is the own one.
   pub state-entered : {v k j : ℕ} {c : Configuration} {x : State} → Puts A v k j c (state x) → Entered v k c x × (j ≡ 0)
   state-entered {v} {k} {j} {c} {x} u =
-      let h = state-put (puts-as u) in
-      let e : h .0 ≡ c = some-same (sym (h .2) ∙ puts-configuration u) in
-      let t : Comes n q l v k (u .act .by .event) = record { bytes = u .act .bytes; sent = u .act .sent; here = u .act .here; heard = u .act .heard } in (
+      let h = state-sent (puts-by u) x (puts-among u) in
+      let e : h .entered ≡ c = some-same (sym (h .there) ∙ puts-configuration u) in (
         record {
-          took = subst (λ d. Takes n q l v k d) e (subst (λ r. Comes n q l v k r) (h .1) t);
-          is = h .3 ∙ ap (λ d. ownState d (u .act .after)) e ∙ ap (ownState c) (sym (u .act .memory-next));
+          took = subst (λ d. Takes n q l v k d) e (subst (λ r. Comes n q l v k r) (h .brought) (puts-comes u));
+          is = h .says ∙ ap (λ d. ownState d (u .act .after)) e ∙ ap (ownState c) (sym (u .act .memory-next));
         },
-        h .4,
+        alone-first (u .act .by .records) _ j _ (h .alone) (u .record-there),
       )
 
   -- The State x of the server k came to the server i before p, in c, by the message m.
