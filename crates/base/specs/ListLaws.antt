@@ -1,15 +1,15 @@
 -- Laws of lists: a fact of every element, counts, runs of numbers, elements by place.
 -- Assumes nothing.
 use Prim.Native.Nat.{ℕ, zero, suc, _+_, _-_, _*_, _≤_, _<_}
-use mathlib.Core.Path.{_≡_, refl, sym, ap, _∙_}
+use mathlib.Core.Path.{_≡_, refl, ap}
 use mathlib.Core.Bool.{Bool, true, false}
 use mathlib.Core.List.{List, [], _∷_, _++_, map}
 use mathlib.Core.Option.{Option, none, some}
 use native.Mathlib.Omega.{arith}
 use native.Mathlib.Decide.{ℕ-discrete}
-use lib.ListN.{length, getD, set, length-append, length-map}
-use Rattle.base.specs.Tests.{_and_, pick, not-both, and-holds, both-yes, Known, holds, fails, known}
-use Rattle.base.specs.Lists.{all, any, filter, atFront, present, gather, gatherAll, after, above, below, isThere, at, sum}
+use lib.ListN.{length, getD, set, length-append}
+use Rattle.base.specs.Tests.{pick, not-both, and-holds, both-yes}
+use Rattle.base.specs.Lists.{all, filter, atFront, present, gather, gatherAll, after, above, below, isThere, at, sum}
 
 -- ---- a fact of every element
 

@@ -16,5 +16,14 @@ pub mod AllowedTurns
 pub mod Sending
 pub mod ControlPart
 pub mod Order
+pub mod Origins
+pub mod Memberships
+pub mod Stays
+pub mod PutRecords
+pub mod LogActions
+pub mod StateOrigins
+pub mod Hearing
+pub mod OwnStates
+pub mod Made
 pub mod DeliveryLists
 pub mod Agreement

@@ -10,6 +10,7 @@ pub mod RequestRows
 pub mod Greens
 pub mod Taken
 pub mod Votes
+pub mod VotesOrder
 pub mod Modes
 pub mod Attempt
 pub mod Folds
@@ -20,3 +21,9 @@ pub mod Sending
 pub mod Parts
 pub mod OwnActions
 pub mod Held
+pub mod Shape
+pub mod Identity
+pub mod Rising
+pub mod Primary
+pub mod Configurations
+pub mod Kinds

@@ -16,6 +16,8 @@ pub mod Actions
 pub mod Attempts
 pub mod Apply
 pub mod Steps
-pub mod Sizes
 pub mod Runs
+pub mod Records
+pub mod Sent
+pub mod Reads
 pub mod YellowTwice

@@ -133,16 +133,16 @@ module _ {n q : ℕ} {l : Run} (A : Allowed n q l) where
   -- ---- what is sent
 
   -- The record r, number k of those that the server i puts out at p, in the regular configuration c; its bytes are e.
-  pub record PutOut (p i k : ℕ) (c : Configuration) (r : Record) : Type 0 where
+  pub record Puts (p i k : ℕ) (c : Configuration) (r : Record) : Type 0 where
     pub act : Acts n q l p i
     pub record-there : at (act .by .records) k ≡ some r
     pub in-regular : placeAt n q l i (suc p) ≡ record { regular = some c; transitional = none }
 
-  sends-at : (p i k : ℕ) (r : Record) (x : Acts n q l p i) → at (x .by .records) k ≡ some r → (c : Configuration) × PutOut p i k c r
+  sends-at : (p i k : ℕ) (r : Record) (x : Acts n q l p i) → at (x .by .records) k ≡ some r → (c : Configuration) × Puts p i k c r
   unfolding at
   sends-at p i k r x h = go (transition-sends (x .moves) (standing n q l i p .memory))
     where
-      go : (x .by .records ≡ []) ⊎ InRegular (x .after .membership .configuration) (x .after .membership .transitional) → (c : Configuration) × PutOut p i k c r
+      go : (x .by .records ≡ []) ⊎ InRegular (x .after .membership .configuration) (x .after .membership .transitional) → (c : Configuration) × Puts p i k c r
       go (inl e) = none-some (ap (λ y. at y k) (sym e) ∙ h)
       go (inr y) =
           let s = coupled A (suc p) i (x .down-next) in
@@ -151,12 +151,12 @@ module _ {n q : ℕ} {l : Run} (A : Allowed n q l) where
           (y .configuration, record { act = x; record-there = h; in-regular = sym s ∙ z ∙ w })
 
   -- Whatever is sent was put out, by one server, in a regular configuration: "send_p(m, c)" has a regular c.
-  pub sent-put-out : (p k : ℕ) (e : List ℕ) → at (sentAt n q l p) k ≡ some e → (i : ℕ) × (c : Configuration) × (r : Record) × PutOut p i k c r × (e ≡ write r)
+  pub sent-put-out : (p k : ℕ) (e : List ℕ) → at (sentAt n q l p) k ≡ some e → (i : ℕ) × (c : Configuration) × (r : Record) × Puts p i k c r × (e ≡ write r)
   unfolding at
   sent-put-out p k e h = go (at l p) refl
     where
       from : (i : ℕ) → at (putOut n q l p) k ≡ some e → AllowedTurn n q l p i → (f : List ℕ) (j : ℕ) → at l p ≡ some (event i f j)
-          → (i : ℕ) × (c : Configuration) × (r : Record) × PutOut p i k c r × (e ≡ write r)
+          → (i : ℕ) × (c : Configuration) × (r : Record) × Puts p i k c r × (e ≡ write r)
       from i x (rests o m s d) f j y = absurd (o (of-event y))
       from i x (crashes o m s d) f j y = event-not-crash (some-same (sym y ∙ o))
       from i x (refuses z) f j y = none-some (ap (λ w. at w k) (sym (z .put)) ∙ x)
@@ -166,7 +166,7 @@ module _ {n q : ℕ} {l : Run} (A : Allowed n q l) where
           let v = sends-at p i k (u .0) z (u .1) in
           (i, v .0, u .0, v .1, u .2)
 
-      go : (x : Option Entry) → at l p ≡ x → (i : ℕ) × (c : Configuration) × (r : Record) × PutOut p i k c r × (e ≡ write r)
+      go : (x : Option Entry) → at l p ≡ x → (i : ℕ) × (c : Configuration) × (r : Record) × Puts p i k c r × (e ≡ write r)
       go none x = none-some (ap (λ w. at w k) (sym (sent-past n q l p x)) ∙ h)
       go (some (crash i)) x = none-some (ap (λ w. at w k) (sym (sent-by-crash n q l p i x)) ∙ h)
       go (some (event i f m)) x =

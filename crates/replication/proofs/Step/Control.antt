@@ -1,8 +1,8 @@
 -- The control part (last primary, attempt, mark, numbered) changes only in events that store, so memory and store agree on it.
-use Prim.Native.Nat.{ℕ, _+_}
-use mathlib.Core.Path.{_≡_, refl, sym, ap, subst, _∙_}
-use mathlib.Core.Bool.{Bool, true, false}
-use mathlib.Core.List.{List, [], _∷_, _++_}
+use Prim.Native.Nat.{ℕ}
+use mathlib.Core.Path.{_≡_, refl, ap, _∙_}
+use mathlib.Core.Bool.{false}
+use mathlib.Core.List.{List}
 use Rattle.base.specs.Tests.{pick, Known, holds, fails, known}
 use Rattle.format.specs.Types.{Action, Record}
 use Rattle.replication.specs.Machine.Types.{Server, taken}
@@ -20,8 +20,11 @@ use Rattle.replication.proofs.Step.Lifts.{lived-pair}
 
 -- ---- one event
 
+same : {s t : Server} → t .votes ≡ s .votes → t .log .numbered ≡ s .log .numbered → SameControl s t
+same p q = record { last = ap (λ v. v .last) p; attempt = ap (λ v. v .attempt) p; mark = ap (λ v. v .mark) p; numbered = q }
+
 pub control-refl : (s : Server) → SameControl s s
-control-refl s = record { last = refl; attempt = refl; mark = refl; numbered = refl }
+control-refl s = same refl refl
 
 pub control-trans : {s t u : Server} → SameControl s t → SameControl t u → SameControl s u
 control-trans p q = record { last = q .last ∙ p .last; attempt = q .attempt ∙ p .attempt; mark = q .mark ∙ p .mark; numbered = q .numbered ∙ p .numbered }
@@ -46,19 +49,19 @@ pub unstored-keeps : {s : Server} {r : Record} {t : Server} {rs : List Record} �
 unfolding greenAndNote exchanged oneMore withState resending withCpc leave hold
 unstored-keeps {s} (L.ignoresState x e) = control-refl s
 unstored-keeps {s} (L.ignoresCpc k i e) = control-refl s
-unstored-keeps {s} (L.reddens a e) = record { last = refl; attempt = refl; mark = refl; numbered = numbered-red a (s .log) }
-unstored-keeps {s} (L.reddensResent k i a e) = record { last = refl; attempt = refl; mark = refl; numbered = numbered-red a (s .log) }
-unstored-keeps {s} (L.reddensInExchange a e) = record { last = refl; attempt = refl; mark = refl; numbered = numbered-red a (s .log) }
-unstored-keeps {s} (L.greens a e) = record { last = refl; attempt = refl; mark = refl; numbered = numbered-green a (s .log) }
+unstored-keeps {s} (L.reddens a e) = same refl (numbered-red a (s .log))
+unstored-keeps {s} (L.reddensResent k i a e) = same refl (numbered-red a (s .log))
+unstored-keeps {s} (L.reddensInExchange a e) = same refl (numbered-red a (s .log))
+unstored-keeps {s} (L.greens a e) = same refl (numbered-green a (s .log))
 unstored-keeps {s} (L.yellows a e) = control-yellow a s
-unstored-keeps {s} (L.exchanges k i a e c) = record { last = refl; attempt = refl; mark = refl; numbered = numbered-placed i a (s .log) }
-unstored-keeps {s} (L.collects x e c) = record { last = refl; attempt = refl; mark = refl; numbered = refl }
-unstored-keeps {s} (L.collectsLast x e c d) = record { last = refl; attempt = refl; mark = refl; numbered = refl }
-unstored-keeps {s} (L.counts k i e c) = record { last = refl; attempt = refl; mark = refl; numbered = refl }
-unstored-keeps {s} (L.countsLate k i e c) = record { last = refl; attempt = refl; mark = refl; numbered = refl }
-unstored-keeps {s} (L.countsAllLate k i e c) = record { last = refl; attempt = refl; mark = refl; numbered = refl }
-unstored-keeps {s} (L.leaves m n x e q) = record { last = refl; attempt = refl; mark = refl; numbered = refl }
-unstored-keeps {s} (L.holds q c) = record { last = refl; attempt = refl; mark = refl; numbered = refl }
+unstored-keeps {s} (L.exchanges k i a e c) = same refl (numbered-placed i a (s .log))
+unstored-keeps {s} (L.collects x e c) = same refl refl
+unstored-keeps {s} (L.collectsLast x e c d) = same refl refl
+unstored-keeps {s} (L.counts k i e c) = same refl refl
+unstored-keeps {s} (L.countsLate k i e c) = same refl refl
+unstored-keeps {s} (L.countsAllLate k i e c) = same refl refl
+unstored-keeps {s} (L.leaves m n x e q) = same refl refl
+unstored-keeps {s} (L.holds q c) = same refl refl
 
 -- An event that does not store leaves the control part.
 pub unstored-control : (s : Server) (e : List ℕ) (t : Server) (bs : List (List ℕ)) (g : List Action) → step s e ≡ taken t bs false g → SameControl s t

@@ -1,11 +1,10 @@
 -- With no red action, greening appends the action if it is entered; yellowing appends its id if it is entered: one fold over the delivered actions.
-use Prim.Native.Nat.{ℕ, _+_}
-use mathlib.Core.Path.{_≡_, refl, sym, ap, subst, _∙_}
-use mathlib.Core.Bool.{Bool, true, false}
+use Prim.Native.Nat.{ℕ}
+use mathlib.Core.Path.{_≡_, refl, sym, ap, _∙_}
+use mathlib.Core.Bool.{true, false}
 use mathlib.Core.List.{List, [], _∷_, _++_, map, map-append, append-nil}
-use mathlib.Core.Option.{Option, none, some}
-use lib.ListN.{getD, set}
-use Rattle.base.specs.Tests.{_=?_, _and_, pick, eq-yes, both-yes, Known, holds, fails, known}
+use mathlib.Core.Option.{some}
+use Rattle.base.specs.Tests.{pick, eq-yes, both-yes, Known, holds, fails, known}
 use Rattle.base.specs.Prefixes.{gained-then}
 use Rattle.format.specs.Types.{Id, Action}
 use Rattle.format.specs.Range.{sameId}
@@ -116,3 +115,21 @@ pub yellow-all : (more : List Action) (s : Server) → Yellowed more s (yellowAl
 unfolding yellowAll entered cutsAfter
 yellow-all [] s = record { ids = sym (append-nil _); status = refl; green = refl; red = sym (append-nil _); cuts = refl }
 yellow-all (a ∷ more) s = yellowed-then (a ∷ []) more s (yellow a s) _ (yellow-one a s) (yellow-all more (yellow a s))
+
+-- ---- one action, with the test written out
+
+pub green-appends : (a : Action) (l : Log) → l .red ≡ [] → (green a l) .green ≡ pick (isNext l a) (l .green ++ (a ∷ [])) (l .green)
+unfolding promote enter pick
+green-appends a l r = go (known (isNext l a))
+  where
+    go : Known (isNext l a) → (green a l) .green ≡ pick (isNext l a) (l .green ++ (a ∷ [])) (l .green)
+    go (holds e) = rw (green-entered a l r e, e)
+    go (fails e) = rw (green-ignored a l r e, e)
+
+pub yellow-appends : (a : Action) (s : Server) → (yellow a s) .votes .yellow .ids ≡ pick (isNext (s .log) a) (s .votes .yellow .ids ++ (a .id ∷ [])) (s .votes .yellow .ids)
+unfolding yellow joinYellow pick
+yellow-appends a s = go (known (isNext (s .log) a))
+  where
+    go : Known (isNext (s .log) a) → (yellow a s) .votes .yellow .ids ≡ pick (isNext (s .log) a) (s .votes .yellow .ids ++ (a .id ∷ [])) (s .votes .yellow .ids)
+    go (holds e) = rw e
+    go (fails e) = rw e

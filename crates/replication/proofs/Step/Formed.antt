@@ -1,15 +1,15 @@
 -- What the laws of a step take from a well-formed state: red actions differ and stand within the cuts; in Exchange_actions every State is in.
 use Prim.Native.Nat.{ℕ, zero, suc, _+_, _-_, _≤_, _<_}
-use mathlib.Core.Path.{_≡_, refl, sym, ap, subst, _∙_}
-use mathlib.Core.Bool.{Bool, true, false, not}
+use mathlib.Core.Path.{_≡_, refl, sym, subst, _∙_}
+use mathlib.Core.Bool.{Bool, true, false}
 use mathlib.Core.List.{List, [], _∷_, _++_, map}
 use native.Mathlib.Omega.{arith}
 use lib.ListN.{length, getD}
-use Rattle.base.specs.Tests.{_and_, _or_, _=?_, pick, not-both, not-holds, and-holds, or-fails, eq-yes, eq-holds, eq-fails, le-holds, lt-holds, both-yes, Known, holds, fails, known}
+use Rattle.base.specs.Tests.{_or_, _=?_, pick, not-both, not-holds, and-holds, or-fails, eq-yes, eq-holds, eq-fails, le-holds, lt-holds, both-yes, Known, holds, fails, known}
 use Rattle.base.specs.Lists.{all, after, above}
 use Rattle.format.specs.Types.{Id, Action}
 use Rattle.format.specs.Range.{sameId, hasId, idsDiffer, idOk, actionOk}
-use Rattle.replication.specs.Machine.Types.{Mode, Exchange-actions, Log, Server, contextOf}
+use Rattle.replication.specs.Machine.Types.{Exchange-actions, Server, contextOf}
 use Rattle.replication.specs.Machine.Colours.{cut}
 use Rattle.replication.specs.Machine.Install.{idsUpTo}
 use Rattle.replication.specs.Machine.Step.{allStatesIn}

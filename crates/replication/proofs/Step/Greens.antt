@@ -1,18 +1,18 @@
 -- The green list changes only by an action in Reg_prim, a retransmission at the next position, and Install.
 use Prim.Native.Nat.{ℕ, _+_}
-use mathlib.Core.Path.{_≡_, refl, sym, ap, subst, _∙_}
-use mathlib.Core.Bool.{Bool, true, false}
-use mathlib.Core.List.{List, [], _∷_, _++_}
+use mathlib.Core.Path.{_≡_, refl, ap, _∙_}
+use mathlib.Core.Bool.{Bool}
+use mathlib.Core.List.{List, [], _∷_}
 use lib.ListN.{length}
 use Rattle.base.specs.Tests.{_=?_, _≤?_, _and_, pick, eq-holds, Known, holds, fails, known}
 use Rattle.format.specs.Types.{Action, Record, retransmission}
 use Rattle.replication.specs.Machine.Types.{Exchange-actions, Log, Server, taken}
 use Rattle.replication.specs.Machine.Colours.{isNext, enter, red, reds, green, yellow}
-use Rattle.replication.specs.Machine.Install.{installLog, install}
+use Rattle.replication.specs.Machine.Install.{install}
 use Rattle.replication.specs.Machine.Requests.{numbered, hold, sendHeld, recovered}
 use Rattle.replication.specs.Machine.Step.{entering, decided, attempting, withState, resending, placed, oneMore, exchanged, withCpc, leave, greenAndNote, step}
 use Rattle.replication.specs.Laws.Transitions as L
-use Rattle.replication.specs.Laws.Transitions.{Ends, Transition, TakenBy}
+use Rattle.replication.specs.Laws.Transitions.{Ends, Transition}
 use Rattle.replication.specs.Laws.Greens.{GreenChange, unchanged, delivered, resent, installed, installedLate}
 use Rattle.replication.proofs.Step.Inversion.{taken-by}
 use Rattle.replication.proofs.Step.Moves.{moved}

@@ -1,9 +1,9 @@
 -- In a taken event no green list, cut or number of numbered actions falls.
-use Prim.Native.Nat.{ℕ, _+_, _≤_, _<_}
-use mathlib.Core.Path.{_≡_, refl, sym, ap, subst, _∙_}
-use mathlib.Core.Bool.{Bool, true, false}
+use Prim.Native.Nat.{ℕ, _+_}
+use mathlib.Core.Path.{_≡_}
+use mathlib.Core.Bool.{Bool, true}
 use mathlib.Core.List.{List, [], _∷_, _++_}
-use mathlib.Core.Option.{Option, none, some}
+use mathlib.Core.Option.{some}
 use native.Mathlib.Omega.{arith}
 use Rattle.base.specs.Tests.{eq-holds}
 use Rattle.base.specs.Prefixes.{begins-refl, begins-trans, begins-more, begins-gained, set-rises}
@@ -12,7 +12,7 @@ use Rattle.replication.specs.Machine.Types.{Log, Server, taken}
 use Rattle.replication.specs.Images.{started, lived}
 use Rattle.replication.specs.Machine.Colours.{find, cut, nextIndex, isNext, enter, promote}
 use Rattle.replication.specs.Machine.Step.{greened, step}
-use Rattle.replication.specs.Laws.Transitions.{TakenBy, Transition}
+use Rattle.replication.specs.Laws.Transitions.{Transition}
 use Rattle.replication.specs.Laws.Order.{Grows}
 use Rattle.replication.proofs.Step.Inversion.{taken-by}
 use Rattle.replication.proofs.Step.Moves.{moved}

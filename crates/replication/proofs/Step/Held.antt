@@ -1,10 +1,10 @@
 -- A request is sent or held; held requests are sent in order at the end of an exchange without a quorum and at Install, and only recovery drops them.
-use Prim.Native.Nat.{ℕ, _+_}
-use mathlib.Core.Path.{_≡_, refl, sym, ap, subst, _∙_}
-use mathlib.Core.Bool.{Bool, true, false}
-use mathlib.Core.List.{List, [], _∷_, _++_, map}
+use Prim.Native.Nat.{ℕ}
+use mathlib.Core.Path.{_≡_, refl}
+use mathlib.Core.Bool.{Bool}
+use mathlib.Core.List.{List}
 use Rattle.base.specs.Tests.{pick, Known, holds, fails, known}
-use Rattle.format.specs.Types.{Action, Record, action, request}
+use Rattle.format.specs.Types.{Action, Record, request}
 use Rattle.replication.specs.Machine.Types.{Server, inMode, Non-prim, Reg-prim}
 use Rattle.replication.specs.Machine.Colours.{isNext, yellow}
 use Rattle.replication.specs.Machine.Install.{install}

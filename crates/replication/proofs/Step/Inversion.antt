@@ -1,8 +1,8 @@
 -- What a taken event read, by which rule it was taken, and which transition that made.
 use Prim.Native.Nat.{ℕ}
-use mathlib.Core.Path.{_≡_, refl, sym, ap, subst, _∙_}
+use mathlib.Core.Path.{_≡_, refl}
 use mathlib.Core.Bool.{Bool, true, false}
-use mathlib.Core.List.{List, [], _∷_, map}
+use mathlib.Core.List.{List, map}
 use mathlib.Core.Option.{Option, none, some}
 use native.Mathlib.Omega.{arith}
 use Rattle.base.specs.Tests.{_or_, pick}
@@ -11,7 +11,7 @@ use Rattle.format.specs.Read.{read}
 use Rattle.format.specs.Write.{write}
 use Rattle.replication.specs.Machine.Types.{Server, Outcome, refused, taken, contextOf}
 use Rattle.replication.specs.Machine.Rules.{Rule, ruleFor, possible, fromMember, isIgnored, withinQuota, withinHeld}
-use Rattle.replication.specs.Machine.Step.{apply, applyRule, answer, onReading, inBytes, step}
+use Rattle.replication.specs.Machine.Step.{applyRule, answer, onReading, inBytes, step}
 use Rattle.replication.specs.Laws.Transitions.{TakenBy}
 
 -- A refusal is nothing taken.

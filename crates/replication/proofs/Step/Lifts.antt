@@ -1,8 +1,8 @@
 -- From a step to a run: what each taken event keeps holds of both images after any events.
 use Prim.Native.Nat.{ℕ}
-use mathlib.Core.Path.{_≡_, refl, sym, ap, subst, _∙_}
+use mathlib.Core.Path.{_≡_, refl}
 use mathlib.Core.Bool.{Bool, true, false}
-use mathlib.Core.List.{List, [], _∷_, _++_}
+use mathlib.Core.List.{List, [], _∷_}
 use Rattle.base.specs.Tests.{pick}
 use Rattle.format.specs.Types.{Action}
 use Rattle.format.specs.Read.{read}

@@ -1,12 +1,12 @@
 -- In Reg_prim every held action is green and yellow is cleared; in Trans_prim every held action is green or yellow, and yellow is invalid.
-use Prim.Native.Nat.{ℕ, _+_}
+use Prim.Native.Nat.{ℕ}
 use mathlib.Core.Path.{_≡_, refl, sym, ap, subst, _∙_}
-use mathlib.Core.Bool.{Bool, true, false}
+use mathlib.Core.Bool.{Bool, true}
 use mathlib.Core.List.{List, [], _∷_, _++_, map, List·Memᴰ, List·Memᴰ·not-nil, List·Memᴰ·append-cases, Memᴰ·append-left, Memᴰ·append-right, Memᴰ·map}
 use mathlib.Core.Logic.{_⊎_, inl, inr}
-use Rattle.format.specs.Types.{Id, Action, Yellow, Record}
-use Rattle.replication.specs.Machine.Types.{Mode, Non-prim, Reg-prim, Trans-prim, Exchange-states, Exchange-actions, Construct, No, Un, Log, Votes, Server, taken, start, noYellow}
-use Rattle.replication.specs.Machine.Colours.{red, green, yellow}
+use Rattle.format.specs.Types.{Action, Yellow, Record}
+use Rattle.replication.specs.Machine.Types.{Mode, Non-prim, Reg-prim, Trans-prim, Exchange-states, Exchange-actions, Server, taken, start, noYellow}
+use Rattle.replication.specs.Machine.Colours.{red, yellow}
 use Rattle.replication.specs.Machine.Install.{installLog, install, installVotes}
 use Rattle.replication.specs.Machine.Requests.{numbered, hold, sendHeld, recovered}
 use Rattle.replication.specs.Machine.Step.{decided, attempting, withState, resending, oneMore, exchanged, withCpc, entering, leave, greenAndNote, step}

@@ -1,27 +1,24 @@
 -- In every image the mark, the last primary and the configuration are as the server's state says.
 use Prim.Native.Nat.{ℕ, _+_}
 use mathlib.Core.Path.{_≡_, refl, sym, ap, subst, _∙_}
-use mathlib.Core.Bool.{Bool, true, false}
+use mathlib.Core.Bool.{Bool}
 use mathlib.Core.List.{List, [], _∷_}
-use mathlib.Core.Logic.{inl, inr}
-use mathlib.Core.Option.{Option, none, some}
+use mathlib.Core.Option.{Option, some}
 use native.Mathlib.Omega.{arith}
-use Rattle.base.specs.Tests.{not-both}
 use Rattle.base.specs.Lists.{filter}
-use Rattle.format.specs.Types.{Action, State, Yellow, Record}
-use Rattle.replication.specs.Machine.Types.{Mode, Non-prim, Reg-prim, Trans-prim, Exchange-states, Exchange-actions, Construct, No, Un, Votes, Configuration, Server, taken, start, noYellow}
+use Rattle.format.specs.Types.{Action, State, Record}
+use Rattle.replication.specs.Machine.Types.{Mode, Trans-prim, Exchange-states, Exchange-actions, Construct, No, Un, Votes, Configuration, Server, start, noYellow}
 use Rattle.replication.specs.Machine.Colours.{yellow}
 use Rattle.replication.specs.Machine.Exchange.{isValid, updatedGroup, commonYellow, takenYellow, takenVotes, attempted}
 use Rattle.replication.specs.Machine.Install.{install, installVotes}
-use Rattle.replication.specs.Machine.Requests.{sendsIn, sendsNow, numbered, hold, sendHeld, recovered}
+use Rattle.replication.specs.Machine.Requests.{numbered, hold, sendHeld, recovered}
 use Rattle.replication.specs.Machine.Step as M
-use Rattle.replication.specs.Machine.Step.{theSet, hereSet, collected, decided, step}
+use Rattle.replication.specs.Machine.Step.{theSet, hereSet, collected, decided}
 use Rattle.replication.specs.Images.{started, lived}
 use Rattle.replication.specs.Laws.Transitions as L
 use Rattle.replication.specs.Laws.Transitions.{Ends, Leads, Transition}
 use Rattle.replication.specs.Laws.Images.{OfBoth}
-use Rattle.replication.specs.Laws.Modes as F
-use Rattle.replication.specs.Laws.Modes.{InRegular, InTransitional, Attempts, Attained, ModeFacts, ModeFactsOf}
+use Rattle.replication.specs.Laws.Modes.{InRegular, Attempts, Attained, ModeFacts, ModeFactsOf}
 use Rattle.replication.proofs.Step.Inversion.{taken-by}
 use Rattle.replication.proofs.Step.Moves.{moved}
 use Rattle.replication.proofs.Step.Control.{control-yellow, yellow-membership}

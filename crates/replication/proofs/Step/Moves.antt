@@ -1,8 +1,8 @@
 -- Each rule's effect is one of the transitions: the one case split over states, records and the tests that the rules make.
 use Prim.Native.Nat.{ℕ}
-use mathlib.Core.Path.{_≡_, refl, sym, ap, subst, _∙_}
+use mathlib.Core.Path.{_≡_, refl, subst}
 use mathlib.Core.Bool.{Bool, true, false}
-use mathlib.Core.List.{List, [], _∷_, map}
+use mathlib.Core.List.{List}
 use mathlib.Core.Option.{Option, none, some}
 use Rattle.base.specs.Tests.{_=?_, pick}
 use Rattle.format.specs.Types.{Action, State, Record, action, retransmission, state, cpc, regular, transitional, request, recovery}
@@ -10,9 +10,9 @@ use Rattle.replication.specs.Machine.Types.{Mode, Non-prim, Reg-prim, Tr
 use Rattle.replication.specs.Machine.Exchange.{quorum}
 use Rattle.replication.specs.Machine.Requests.{sendsNow}
 use Rattle.replication.specs.Machine.Rules.{Rule, onAction, onRetransmission, onState, onCpc, onRegular, onTransitional, ruleFor}
-use Rattle.replication.specs.Machine.Step.{greened, quiet, stored, sent, join, hereSet, collected, endExchange, withState, allStatesIn, plannedNow, afterStates, collectState, exchanged, allCome, exchange, withCpc, allCpcsIn, installing, collectCpc, collectLateCpc, requested, apply, step}
+use Rattle.replication.specs.Machine.Step.{greened, quiet, stored, sent, join, hereSet, collected, endExchange, withState, allStatesIn, plannedNow, afterStates, collectState, exchanged, allCome, exchange, withCpc, allCpcsIn, installing, collectCpc, collectLateCpc, requested, apply}
 use Rattle.replication.specs.Laws.Transitions as L
-use Rattle.replication.specs.Laws.Transitions.{TakenBy, Ends, Leads, Transition}
+use Rattle.replication.specs.Laws.Transitions.{TakenBy, Ends, Transition}
 
 -- The outcome is a transition, and names what turned green; it is no refusal.
 abbrev pub Moves : Server → Record → Outcome Record → Type 0

@@ -1,23 +1,19 @@
 -- Own actions are numbered on from those numbered before, carry the present green length, stand on the own list, and go out stored first;
 -- requests are sent or held.
 use Prim.Native.Nat.{ℕ, zero, suc, _+_, _≤_, _<_}
-use mathlib.Core.Path.{_≡_, refl, sym, ap, subst, _∙_}
-use mathlib.Core.Bool.{Bool, true, false}
-use mathlib.Core.List.{List, [], _∷_, _++_, map, List·Memᴰ, List·Memᴰ·head, List·Memᴰ·tail, List·Memᴰ·not-nil, List·Memᴰ·eq-of-singleton, Memᴰ·append-right, Memᴰ·of-map, Memᴰ·cast}
-use mathlib.Core.Option.{Option, none, some, Option·none-ne-some, Option·some-injective}
+use mathlib.Core.Path.{_≡_, refl, sym, ap, _∙_}
+use mathlib.Core.Bool.{Bool, true}
+use mathlib.Core.List.{List, [], _∷_, map, List·Memᴰ, List·Memᴰ·head, List·Memᴰ·tail, List·Memᴰ·not-nil, List·Memᴰ·eq-of-singleton, Memᴰ·append-right, Memᴰ·of-map, Memᴰ·cast}
+use mathlib.Core.Option.{some, Option·none-ne-some, Option·some-injective}
 use native.Mathlib.Omega.{arith}
 use lib.ListN.{length}
 use Rattle.base.specs.Lists.{at}
-use Rattle.format.specs.Types.{Action, State, Record, action, retransmission, state, cpc, request}
-use Rattle.replication.specs.Machine.Types.{Log, Server, inMode, Non-prim, Reg-prim}
-use Rattle.replication.specs.Machine.Plan.{ownPart}
+use Rattle.format.specs.Types.{Action, State, Record, action}
+use Rattle.replication.specs.Machine.Types.{Log, Server}
 use Rattle.replication.specs.Machine.Requests.{numberedFrom}
 use Rattle.replication.specs.Machine.Step.{collected}
-use Rattle.replication.specs.Laws.Transitions as L
-use Rattle.replication.specs.Laws.Transitions.{Ends, Transition}
 use Rattle.replication.specs.Laws.Sending as P
-use Rattle.replication.specs.Laws.Sending.{made, Numbers, PutsOut, HeldChange, RequestKept, Own, Resent}
-use Rattle.replication.proofs.Step.Sending.{puts-out}
+use Rattle.replication.specs.Laws.Sending.{made, Numbers, PutsOut, Own, Resent}
 use Rattle.replication.proofs.Step.Parts.{part-resent}
 
 -- ---- actions numbered from k + 1 on
@@ -66,7 +62,7 @@ pub own-sent : {s : Server} {r : Record} {t : Server} {rs : List Record} {b : Bo
 own-sent (P.nothing b n) a m = absurd (List·Memᴰ·not-nil m)
 own-sent (P.stateOnEntry c e f g n) a m = let h = List·Memᴰ·eq-of-singleton m in let z : _≡_ {A = ℕ} 0 1 = cc in absurd (omega arith)
 own-sent {t = t} (P.partOfPlan x e f g h i n) a m = resent-no-action (t .me) (t .log) (collected t) a (part-resent (t .me) (t .log) (collected t) (action a) (t .servers) m)
-own-sent (P.cpcOnAttempt e f n) a m = let h = List·Memᴰ·eq-of-singleton m in let z : _≡_ {A = ℕ} 0 1 = cc in absurd (omega arith)
+own-sent (P.cpcOnAttempt e q f n) a m = let h = List·Memᴰ·eq-of-singleton m in let z : _≡_ {A = ℕ} 0 1 = cc in absurd (omega arith)
 own-sent {s} {t = t} (P.requestAtOnce p e f g n) a m = (made-own s t (p ∷ []) a n m, refl)
-own-sent {s} {t = t} (P.heldAfterExchange e f n) a m = (made-own s t (s .held) a n m, refl)
+own-sent {s} {t = t} (P.heldAfterExchange e q f n) a m = (made-own s t (s .held) a n m, refl)
 own-sent {s} {t = t} (P.heldAfterInstall k i e f g h n) a m = (made-own s t (s .held) a n m, refl)

@@ -1,12 +1,12 @@
 -- One's part of the plan holds only retransmissions: of green actions at their positions, and of held ones as red.
-use Prim.Native.Nat.{ℕ, _+_, _-_}
-use mathlib.Core.Path.{_≡_, refl, sym, ap, _∙_}
+use Prim.Native.Nat.{ℕ, _-_}
+use mathlib.Core.Path.{_≡_, refl, sym}
 use mathlib.Core.Bool.{Bool, true, false}
-use mathlib.Core.List.{List, [], _∷_, _++_, List·Memᴰ, List·Memᴰ·not-nil, List·Memᴰ·append-cases}
+use mathlib.Core.List.{List, [], _++_, List·Memᴰ, List·Memᴰ·not-nil, List·Memᴰ·append-cases}
 use mathlib.Core.Logic.{⊎-elim}
 use mathlib.Core.Option.{Option, none, some, Option·none-ne-some, Option·some-injective}
 use Rattle.base.specs.Tests.{pick}
-use Rattle.base.specs.Lists.{gather, gatherAll, below, at}
+use Rattle.base.specs.Lists.{below, at}
 use Rattle.base.specs.Members.{gathered-from, gathered-all-from}
 use Rattle.format.specs.Types.{Action, State, Record, retransmission}
 use Rattle.replication.specs.Machine.Types.{Log}

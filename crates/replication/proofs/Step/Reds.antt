@@ -1,11 +1,11 @@
 -- Install leaves no red action, if the reds differ and each is within its creator's cut.
-use Prim.Native.Nat.{ℕ, zero, suc, _+_, _-_, _≤_, _<_}
+use Prim.Native.Nat.{ℕ, _+_, _-_, _≤_}
 use mathlib.Core.Path.{_≡_, refl, sym, ap, subst, _∙_}
-use mathlib.Core.Bool.{Bool, true, false, not}
-use mathlib.Core.List.{List, [], _∷_, _++_, map}
+use mathlib.Core.Bool.{true, false}
+use mathlib.Core.List.{List, [], _∷_}
 use mathlib.Core.Option.{Option, none, some, Option·none-ne-some, Option·some-injective}
 use native.Mathlib.Omega.{arith}
-use Rattle.base.specs.Tests.{_and_, _or_, _=?_, pick, not-both, and-holds, or-fails, eq-holds, Known, holds, fails, known}
+use Rattle.base.specs.Tests.{_or_, pick, not-both, and-holds, eq-holds, Known, holds, fails, known}
 use Rattle.format.specs.Types.{Id, Action}
 use Rattle.format.specs.Range.{sameId, hasId}
 use Rattle.replication.specs.Machine.Types.{Log}

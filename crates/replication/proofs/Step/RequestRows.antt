@@ -1,13 +1,13 @@
 -- Rows 3 and 4 are about requests only, and apply no sooner than the quota is used or 16 are held.
-use Prim.Native.Nat.{ℕ, _+_, _≤_, _<_}
-use mathlib.Core.Path.{_≡_, refl, sym, ap, subst, _∙_}
+use Prim.Native.Nat.{ℕ, _+_, _≤_}
+use mathlib.Core.Path.{_≡_, refl, ap, subst, _∙_}
 use mathlib.Core.Bool.{Bool, true, false, not}
-use mathlib.Core.List.{List, [], _∷_}
+use mathlib.Core.List.{List}
 use mathlib.Core.Logic.{_↔_}
 use mathlib.Core.Option.{Option, none, some}
 use lib.ListN.{length}
 use borrow.Author.Tests.{not-false}
-use Rattle.base.specs.Tests.{_or_, _<?_, pick, not-both, lt-no, lt-fails, not-holds, or-fails}
+use Rattle.base.specs.Tests.{_or_, pick, not-both, lt-no, lt-fails, not-holds, or-fails}
 use Rattle.format.specs.Limits.{mostHeld}
 use Rattle.format.specs.Types.{Record, action, retransmission, state, cpc, regular, transitional, request, recovery, Kind, says}
 use Rattle.format.specs.Range.{recordOk}

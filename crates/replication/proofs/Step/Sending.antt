@@ -1,22 +1,23 @@
 -- What a taken event puts out, and what it numbers and holds.
 use Prim.Native.Nat.{ℕ, _+_}
-use mathlib.Core.Path.{_≡_, refl, sym, ap, subst, _∙_}
+use mathlib.Core.Path.{_≡_, refl, ap, subst, _∙_}
 use mathlib.Core.Bool.{Bool, true, false}
 use mathlib.Core.List.{List, [], _∷_, _++_, map}
-use mathlib.Core.Option.{Option, none, some}
 use lib.ListN.{length}
-use Rattle.format.specs.Types.{Action, State, Record, action, request, retransmission, state}
-use Rattle.replication.specs.Machine.Types.{Mode, Log, Server, inMode, Non-prim, Reg-prim}
-use Rattle.replication.specs.Machine.Colours.{enter, red, reds, promote, green, yellow}
-use Rattle.replication.specs.Machine.Install.{installLog, install}
+use Rattle.format.specs.Types.{Record, action}
+use Rattle.replication.specs.Machine.Types.{Server, inMode, Non-prim, Reg-prim}
+use Rattle.replication.specs.Machine.Colours.{green, yellow}
+use Rattle.replication.specs.Machine.Install.{install}
 use Rattle.replication.specs.Machine.Requests.{numberedFrom, madeOf, numbered, hold, sendHeld, heldRecords, recovered}
-use Rattle.replication.specs.Machine.Step.{entering, ownState, hereId, collected, decided, attempting, withState, allStatesIn, plannedNow, resending, placed, oneMore, exchanged, withCpc, leave, greenAndNote, hereSet}
+use Rattle.replication.specs.Machine.Step.{entering, ownState, hereId, collected, decided, attempting, withState, allStatesIn, plannedNow, resending, oneMore, exchanged, withCpc, leave, greenAndNote, hereSet}
 use Rattle.replication.specs.Laws.Transitions as L
 use Rattle.replication.specs.Laws.Transitions.{Ends, Transition}
-use Rattle.replication.specs.Laws.Order as O
-use Rattle.replication.specs.Laws.Order.{EndsExchange, hearing}
+use Rattle.replication.specs.Laws.Order.{hearing}
+use Rattle.replication.specs.Laws.Votes as C
+use Rattle.replication.specs.Laws.Votes.{EndsExchange}
 use Rattle.replication.specs.Laws.Sending as P
-use Rattle.replication.specs.Laws.Sending.{made, Numbers, PutsOut, HeldChange, RequestKept}
+use Rattle.replication.specs.Laws.Sending.{made, Numbers, PutsOut}
+use Rattle.replication.proofs.Step.Votes.{same-quorum}
 use Rattle.replication.proofs.Step.Numbered.{numbered-red, numbered-reds, numbered-green, numbered-placed, numbered-install, numbered-yellow}
 
 -- The actions that u makes, a state on the way from s, are those that s makes with the green length of u.
@@ -41,12 +42,14 @@ held-numbers s u m h n =
     subst (λ ps. Numbers s (sendHeld u) ps) h (record { numbered = k .numbered; before = k .before; own = k .own })
 
 module _ (s : Server) where
-  ends-out : (r : Record) (t u : Server) (rs : List Record) → EndsExchange s r → t .me ≡ s .me → t .held ≡ s .held → t .log .numbered ≡ s .log .numbered → Ends t u rs
-      → PutsOut s r u rs true
+  ends-out : (r : Record) (t u : Server) (rs : List Record) → EndsExchange s r → t .me ≡ s .me → t .held ≡ s .held → t .log .numbered ≡ s .log .numbered
+      → collected t ≡ collected (hearing r s) → hereSet t ≡ hereSet s → Ends t u rs → PutsOut s r u rs true
   unfolding attempting decided sendHeld numbered hereId
-  ends-out r t u rs e m h n (L.withQuorum q) = P.cpcOnAttempt e refl n
-  ends-out r t u rs e m h n (L.withoutQuorum q) =
-      rw (held-made s (inMode Non-prim (decided t)) m h n) (P.heldAfterExchange e refl (held-numbers s (inMode Non-prim (decided t)) m h n))
+  ends-out r t u rs e m h n c d (L.withQuorum q) = P.cpcOnAttempt e (same-quorum (collected t) (collected (hearing r s)) (hereSet t) (hereSet s) true c d q) refl n
+  ends-out r t u rs e m h n c d (L.withoutQuorum q) =
+      rw (held-made s (inMode Non-prim (decided t)) m h n)
+      (P.heldAfterExchange e (same-quorum (collected t) (collected (hearing r s)) (hereSet t) (hereSet s) false c d q) refl
+      (held-numbers s (inMode Non-prim (decided t)) m h n))
 
   pub puts-out : {r : Record} {t : Server} {rs : List Record} {b : Bool} → Transition s r t rs b → PutsOut s r t rs b
   unfolding greenAndNote install exchanged oneMore withState resending withCpc sendHeld entering ownState leave hold recovered hearing allStatesIn hereSet plannedNow collected numbered made madeOf
@@ -59,10 +62,10 @@ module _ (s : Server) where
   puts-out (L.yellows a e) = P.nothing _ (numbered-yellow a s)
   puts-out (L.installsLate a e) = P.nothing _ (numbered-yellow a (install s) ∙ numbered-install (s .votes .yellow .ids) (s .log))
   puts-out (L.exchanges k i a e c) = P.nothing _ (numbered-placed i a (s .log))
-  puts-out (L.exchangesLast k i a u us e c x) = ends-out _ (exchanged i a s) u us (O.withActions e refl) refl refl (numbered-placed i a (s .log)) x
+  puts-out (L.exchangesLast k i a u us e c x) = ends-out _ (exchanged i a s) u us (C.withActions e refl) refl refl (numbered-placed i a (s .log)) refl refl x
   puts-out (L.collects x e c) = P.nothing _ refl
   puts-out (L.collectsLast x e c d) = P.partOfPlan x refl e refl c d refl
-  puts-out (L.collectsWhole x u us e c d y) = ends-out _ (withState x s) u us (O.withStates e c) refl refl refl y
+  puts-out (L.collectsWhole x u us e c d y) = ends-out _ (withState x s) u us (C.withStates e c) refl refl refl refl refl y
   puts-out (L.counts k i e c) = P.nothing _ refl
   puts-out (L.installs k i e c) =
       let n = numbered-install (s .votes .yellow .ids) (s .log) in

@@ -1,8 +1,8 @@
 -- 'Returned numbers': a number is returned exactly when its row applies and none before it does; an event is taken exactly when none applies.
-use Prim.Native.Nat.{ℕ, _+_, _≤_, _<_}
+use Prim.Native.Nat.{ℕ, _≤_}
 use mathlib.Core.Path.{_≡_, refl, sym, ap, subst, _∙_}
 use mathlib.Core.Bool.{Bool, true, false, not}
-use mathlib.Core.List.{List, [], _∷_, map}
+use mathlib.Core.List.{List}
 use mathlib.Core.Logic.{_↔_}
 use mathlib.Core.Option.{Option, none, some}
 use native.Mathlib.Omega.{arith}
@@ -11,10 +11,9 @@ use Rattle.base.specs.Lists.{isThere}
 use Rattle.format.specs.Types.{Action, Record, Kind}
 use Rattle.format.specs.Range.{recordOk}
 use Rattle.format.specs.Read.{frameOk, recordIn, readAs, read}
-use Rattle.format.specs.Write.{write}
 use Rattle.replication.specs.Machine.Types.{Server, Outcome, refused, taken, contextOf}
 use Rattle.replication.specs.Machine.Rules.{Rule, ruleFor, possible, fromMember, isIgnored, withinQuota, withinHeld}
-use Rattle.replication.specs.Machine.Step.{greened, apply, applyRule, answer, onReading, inBytes, step}
+use Rattle.replication.specs.Machine.Step.{apply, applyRule, answer, onReading, inBytes, step}
 use Rattle.replication.specs.Laws.Rows as R
 use Rattle.replication.specs.Laws.Rows.{kindIn, frameFits, recordNamed, recordOf, tested, ignores, row1, row2, row5, row6, row3, row4, Refuses, firstRow, NoRow}
 use Rattle.replication.proofs.Step.Moves.{Moves, rule-moves}

@@ -1,10 +1,10 @@
 -- What the States decide is at least what each of them says: the taken primary, and the attempt taken with it.
-use Prim.Native.Nat.{ℕ, _+_, _≤_, _<_, max}
-use mathlib.Core.Path.{_≡_, refl, sym, ap, subst, _∙_}
-use mathlib.Core.Bool.{Bool, true, false}
+use Prim.Native.Nat.{ℕ, _≤_, _<_}
+use mathlib.Core.Path.{_≡_, refl, sym, ap}
+use mathlib.Core.Bool.{true, false}
 use mathlib.Core.List.{List, [], _∷_, List·Memᴰ, List·Memᴰ·head, List·Memᴰ·tail}
 use native.Mathlib.Omega.{arith}
-use Rattle.base.specs.Tests.{_and_, _or_, _=?_, _<?_, pick, not-both, eq-yes, eq-holds, eq-fails, lt-yes, lt-holds, lt-fails, both-yes, and-holds, Known, holds, fails, known}
+use Rattle.base.specs.Tests.{_and_, _or_, _=?_, _<?_, pick, not-both, eq-yes, eq-holds, eq-fails, lt-holds, lt-fails, both-yes, Known, holds, fails, known}
 use Rattle.base.specs.Lists.{filter}
 use Rattle.base.specs.Members.{filter-has}
 use Rattle.format.specs.Types.{Primary, State}

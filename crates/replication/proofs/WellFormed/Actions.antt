@@ -1,35 +1,22 @@
 -- The rules of actions keep the invariant.
 -- Assumes nothing.
-use Prim.Native.Nat.{ℕ, zero, suc, _+_, _*_, _^_, _≤_, _<_}
-use mathlib.Core.Path.{_≡_, refl, sym, ap, _∙_, subst}
-use mathlib.Core.Bool.{Bool, true, false, not}
-use mathlib.Core.List.{List, [], _∷_, _++_, map}
-use mathlib.Core.Option.{Option, none, some}
+use Prim.Native.Nat.{_+_, _<_}
+use mathlib.Core.Path.{_≡_, refl, sym, subst}
+use mathlib.Core.List.{[]}
 use native.Mathlib.Omega.{arith}
-use lib.ListN.{length, getD}
-use Rattle.base.specs.Tests.{_or_, _=?_, _<?_, _≤?_, pick, not-both, and-holds, lt-holds, le-fails, eq-fails, Known, holds, fails, known}
-use Rattle.base.specs.ListLaws.{Each, each-append, each-implied}
-use Rattle.format.specs.Limits.{mostHeld, mostIndex}
-use Rattle.format.specs.Types.{Action, State, Record, cpc}
-use Rattle.replication.specs.Machine.Types.{Mode, Non-prim, Reg-prim, Trans-prim, Exchange-states, Exchange-actions, Construct, No, Un, Log, Votes, Configuration, Server, Outcome, refused, taken, withLog, withVotes, withMembership, withNoted, withMode, withCome, inMode, noYellow}
-use Rattle.replication.specs.Machine.Colours.{cut, isNext, enter, red, green, joinYellow, yellow, note}
-use Rattle.replication.specs.Machine.Exchange.{takenPrimary, takenAttempt, majority, markLeft, quorum, takenVotes, attempted}
-use Rattle.replication.specs.Machine.Plan.{ownPart}
-use Rattle.replication.specs.Machine.Install.{installLog, installVotes, install}
-use Rattle.replication.specs.Machine.Requests.{sendsNow, quotaLeft, roomToHold, numbered, hold, sendHeld, heldRecords, recovered}
-use Rattle.replication.specs.Machine.Rules.{Rule, ignoring, reddening, greening, yellowing, lateInstalling, exchanging, collectingState, collectingCpc, collectingLateCpc, joining, joiningUnmarked, joiningYellow, leaving, requesting, recovering}
-use Rattle.replication.specs.Machine.Step.{quiet, stored, sent, entering, unmarked, yellowValid, join, hereSet, hereId, collected, decided, attempting, endExchange, withState, allStatesIn, plannedNow, resending, afterStates, collectState, placed, oneMore, exchanged, allCome, exchange, withCpc, allCpcsIn, installing, collectCpc, collectLateCpc, leave, greenAndNote, requested, apply}
-use Rattle.replication.specs.Machine.WellFormedRanges.{PayloadFits, TransitionalFits}
-use Rattle.replication.specs.Machine.WellFormedFacts.{YellowWithinCuts, YellowEntered, Configured, StatesIn, ModeFits, WellFormed}
-use Rattle.replication.proofs.WellFormed.Held.{Entered, entered, ignored, entered?, CutAfter, risen, left, cut-after?}
-use Rattle.replication.proofs.WellFormed.Logs.{CutsRise}
-use Rattle.replication.proofs.WellFormed.Numbering.{enter-rises, red-rises, green-rises, install-log-numbered}
-use Rattle.replication.proofs.WellFormed.Changes.{Body, body, in-mode, mode-changed, here-below}
-use Rattle.replication.proofs.WellFormed.RuleFacts.{Delivered, StateCame, RuleFits}
-use Rattle.replication.proofs.WellFormed.Effects.{red-body, green-and-note-body, yellow-as, joined-body, exchanged-body, install-body, send-held-body, number-body, hold-body, recovered-body}
-use Rattle.replication.proofs.WellFormed.Exchanges.{decided-body, attempting-body, with-state-body, with-cpc-body, entering-body, unmarked-body, yellow-valid-body, leave-body}
-use Rattle.replication.proofs.WellFormed.Modes.{all-in-facts}
-use Rattle.replication.proofs.WellFormed.Kept.{After, either, Kept, Keeps, YellowInTrans, mode-kept, within-kept, yellow-kept, within-joined}
+use lib.ListN.{length}
+use Rattle.format.specs.Limits.{mostIndex}
+use Rattle.format.specs.Types.{Action}
+use Rattle.replication.specs.Machine.Types.{Trans-prim, Un, Server, withLog, withVotes, inMode, noYellow}
+use Rattle.replication.specs.Machine.Colours.{cut, enter, red, green, joinYellow, yellow, note}
+use Rattle.replication.specs.Machine.Install.{installVotes, install}
+use Rattle.replication.specs.Machine.Step.{quiet, stored, greenAndNote}
+use Rattle.replication.specs.Machine.WellFormedFacts.{YellowEntered, Configured, ModeFits, WellFormed}
+use Rattle.replication.proofs.WellFormed.Numbering.{red-rises, green-rises, install-log-numbered}
+use Rattle.replication.proofs.WellFormed.Changes.{Body, body, in-mode}
+use Rattle.replication.proofs.WellFormed.RuleFacts.{Delivered}
+use Rattle.replication.proofs.WellFormed.Effects.{red-body, green-and-note-body, yellow-as, joined-body, install-body}
+use Rattle.replication.proofs.WellFormed.Kept.{Kept, Keeps, YellowInTrans, mode-kept, yellow-kept, within-joined}
 
 module _ (s : Server) (f : WellFormed s) (y : YellowInTrans s) where
   inside : (a : Action) → Delivered s a → a .id .creator < length (s .log .cuts)

@@ -1,18 +1,17 @@
 -- A change of one part of a state keeps row 8's clauses, apart from those on the eight states.
 -- Assumes nothing.
 use Prim.Native.Nat.{ℕ, zero, suc, _+_, _*_, _^_, _≤_, _<_}
-use mathlib.Core.Path.{_≡_, refl, sym, ap, _∙_}
-use mathlib.Core.Bool.{Bool, true, false}
-use mathlib.Core.List.{List, [], _∷_, _++_}
-use mathlib.Core.Option.{Option, none, some, Option·none-ne-some}
+use mathlib.Core.Path.{_≡_, refl, sym, _∙_}
+use mathlib.Core.List.{List}
+use mathlib.Core.Option.{none, some, Option·none-ne-some}
 use native.Mathlib.Omega.{arith}
-use lib.ListN.{length, getD, length-replicate}
+use lib.ListN.{length, getD}
 use Rattle.base.specs.ListLaws.{Each, each-present}
-use Rattle.format.specs.Limits.{mostHeld, mostIndex}
+use Rattle.format.specs.Limits.{mostHeld}
 use Rattle.format.specs.Types.{State}
-use Rattle.replication.specs.Machine.Types.{Mode, Non-prim, Reg-prim, Trans-prim, Exchange-states, Exchange-actions, Construct, No, Un, Log, Votes, Configuration, Membership, Server, withLog, withVotes, withMembership, withHeld, withNoted, withMode, withCome, inMode, noStates}
+use Rattle.replication.specs.Machine.Types.{Mode, Log, Votes, Configuration, Membership, Server, withLog, withVotes, withMembership, withHeld, withNoted, withMode, withCome, inMode, noStates}
 use Rattle.replication.specs.Machine.Step.{collected, hereSet, theSet, hereId, theId}
-use Rattle.replication.specs.Machine.WellFormedRanges.{SizesFit, PayloadFits, StateFits, ConfigurationFits, VotesRanges, MembershipRanges}
+use Rattle.replication.specs.Machine.WellFormedRanges.{SizesFit, PayloadFits, StateFits, VotesRanges, MembershipRanges}
 use Rattle.replication.specs.Machine.WellFormedFacts.{ModeFits, WellFormed}
 use Rattle.replication.proofs.WellFormed.Logs.{LogFits}
 

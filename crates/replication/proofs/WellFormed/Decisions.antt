@@ -1,27 +1,26 @@
 -- What States in range decide is in range: votes, marks, yellow list, noted lengths, plan.
 -- Assumes nothing.
-use Prim.Native.Nat.{ℕ, zero, suc, _+_, _*_, _-_, _^_, max, _≤_, _<_}
-use mathlib.Core.Path.{_≡_, refl, sym, ap, _∙_}
+use Prim.Native.Nat.{ℕ, _*_, _^_, max, _≤_, _<_}
+use mathlib.Core.Path.{_≡_, refl, ap, _∙_}
 use mathlib.Core.Bool.{Bool, true, false, not}
-use mathlib.Core.List.{List, [], _∷_, _++_, map}
-use mathlib.Core.Option.{Option, none, some}
+use mathlib.Core.List.{List, [], _∷_, map}
 use native.Mathlib.Omega.{arith}
 use native.Mathlib.Nat.{one-le-pow}
 use lib.ListN.{length, getD, set, length-set, length-map}
 use Rattle.base.specs.Tests.{_and_, _=?_, pick}
-use Rattle.base.specs.Lists.{all, filter, above, below, sum}
+use Rattle.base.specs.Lists.{all, filter, below}
 use Rattle.base.specs.ListLaws.{Each, each-implied, each-filter, each-map, each-always, above-length, below-length, sum-bound, bounded-set}
 use Rattle.base.specs.Counts.{count, count-filter}
 use Rattle.base.specs.Sets.{union, withMember}
 use Rattle.base.specs.SetLaws.{union-below, with-member-below}
 use Rattle.format.specs.Limits.{mostIndex}
-use Rattle.format.specs.Types.{Id, Primary, Mark, Yellow, State}
+use Rattle.format.specs.Types.{Primary, State}
 use Rattle.format.specs.Range.{sameId, hasId}
 use Rattle.replication.specs.Machine.Types.{Votes, clearedMark, noYellow}
 use Rattle.replication.specs.Machine.Colours.{note}
 use Rattle.replication.specs.Machine.Plan.{highest, lowest, missing, cutIn, greenIn, planned}
 use Rattle.replication.specs.Machine.Exchange.{noteAll, later, latest, takenPrimary, samePair, updatedGroup, takenAttempt, isValid, commonYellow, takenYellow, isMarked, ruleA, ruleB, alike, joinBits, joinedBits, ruleC, keptMark, judgedMark, ownMark, takenVotes, attempted}
-use Rattle.replication.specs.Machine.WellFormedRanges.{idCount, IdFits, PrimaryFits, MarkFits, YellowFits, StateFits, VotesRanges}
+use Rattle.replication.specs.Machine.WellFormedRanges.{IdFits, PrimaryFits, MarkFits, YellowFits, StateFits, VotesRanges}
 
 picked : {A : Type 0} (P : A → Type 0) (t : Bool) (x y : A) → P x → P y → P (pick t x y)
 unfolding pick

@@ -1,40 +1,25 @@
 -- What exchanges and configurations do to a state keeps row 8's clauses, apart from those on the eight states.
 -- Assumes nothing.
-use Prim.Native.Nat.{ℕ, zero, suc, _+_, _*_, _^_, _≤_, _<_}
-use mathlib.Core.Path.{_≡_, refl, sym, ap, _∙_, subst}
-use mathlib.Core.Bool.{Bool, true, false}
-use mathlib.Core.List.{List, [], _∷_, _++_, map}
-use mathlib.Core.Option.{Option, none, some, Option·some-injective, Option·none-ne-some}
+use Prim.Native.Nat.{ℕ, _^_, _<_}
+use mathlib.Core.Path.{_≡_, sym, _∙_, subst}
+use mathlib.Core.Option.{none, some, Option·some-injective, Option·none-ne-some}
 use native.Mathlib.Omega.{arith}
 use native.Mathlib.Decide.{ℕ-discrete}
-use lib.ListN.{length, getD, set, replicate, length-append, length-set, length-replicate}
+use lib.ListN.{getD, set, length-set, length-replicate}
 use lib.Seq.{getD-set-same, getD-set-other}
-use Rattle.base.specs.Tests.{_or_, _<?_, pick, not-both, lt-holds, eq-holds, Known, holds, fails, known}
-use Rattle.base.specs.Lists.{isThere, above}
 use Rattle.base.specs.Sets.{withMember}
-use Rattle.base.specs.ListLaws.{Each, each-append, each-always, each-implied, each-map, map-each, above-between}
-use Rattle.base.specs.Counts.{one, count-append, count-single}
 use Rattle.base.specs.SetLaws.{with-member-below}
-use Rattle.format.specs.Limits.{mostHeld, mostIndex}
-use Rattle.format.specs.Types.{Id, Action, State}
-use Rattle.format.specs.Range.{sameId, insideLast}
-use Rattle.replication.specs.Machine.Types.{Mode, Non-prim, Exchange-states, Construct, Log, Votes, Configuration, Membership, Server, withLog, withVotes, withMembership, withHeld, withNoted, withMode, withCome, inMode, clearedMark, noStates, setOf}
-use Rattle.replication.specs.Machine.Colours.{cut, isNext, enter, red, reds, green, joinYellow, yellow, note}
+use Rattle.format.specs.Limits.{mostIndex}
+use Rattle.format.specs.Types.{State}
+use Rattle.replication.specs.Machine.Types.{Mode, Exchange-states, Construct, Configuration, Server, withVotes, noStates}
+use Rattle.replication.specs.Machine.Colours.{yellow}
 use Rattle.replication.specs.Machine.Exchange.{noteAll, takenVotes, attempted}
-use Rattle.replication.specs.Machine.Install.{installLog, installVotes, install}
-use Rattle.replication.specs.Machine.Requests.{sendsNow, quotaLeft, roomToHold, madeOf, numbered, hold, sendHeld, recovered}
-use Rattle.replication.specs.Machine.Rules.{memberOf, isOf}
-use Rattle.replication.specs.Machine.Step.{entering, unmarked, yellowValid, hereSet, collected, decided, attempting, withState, plannedNow, placed, oneMore, exchanged, withCpc, leave, greenAndNote}
-use Rattle.replication.specs.Machine.WellFormed.{idsIn}
-use Rattle.replication.specs.Machine.WellFormedRanges.{idCount, IdFits, PayloadFits, ActionFits, YellowFits, StateFits, ConfigurationFits, TransitionalFits, VotesRanges, CollectedFits, MembershipRanges}
-use Rattle.replication.specs.Machine.WellFormedFacts.{OwnListFits}
-use Rattle.replication.proofs.WellFormed.Ids.{SameId, same, other, same-id?, counted-fact}
-use Rattle.replication.proofs.WellFormed.Held.{Entered, entered, ignored, entered?}
-use Rattle.replication.proofs.WellFormed.Logs.{LogFits, Numbered, ownId, enter-fits, enter-numbered, red-fits, red-numbered, reds-fits, reds-numbered, green-fits, install-log-fits}
-use Rattle.replication.proofs.WellFormed.Numbering.{green-numbered, install-log-numbered, placed-fits, placed-numbered, numberedLog, numbering-fits}
-use Rattle.replication.proofs.WellFormed.Decisions.{empty-below, cleared-mark-fits, no-yellow-fits, planned-bound, taken-votes-fits, attempted-fits, note-length, note-bound, note-all-length, note-all-bound}
-use Rattle.replication.proofs.WellFormed.Changes.{Body, log-changed, log-changed-alike, votes-changed, membership-changed, held-changed, noted-changed, mode-changed, in-mode, collected-fit, here-below, no-states}
-use Rattle.replication.proofs.WellFormed.RuleFacts.{Delivered, StateCame}
+use Rattle.replication.specs.Machine.Step.{entering, unmarked, yellowValid, hereSet, collected, decided, attempting, withState, withCpc, leave}
+use Rattle.replication.specs.Machine.WellFormedRanges.{ConfigurationFits, TransitionalFits, CollectedFits}
+use Rattle.replication.proofs.WellFormed.Ids.{same}
+use Rattle.replication.proofs.WellFormed.Decisions.{empty-below, cleared-mark-fits, taken-votes-fits, attempted-fits, note-all-length, note-all-bound}
+use Rattle.replication.proofs.WellFormed.Changes.{Body, votes-changed, membership-changed, noted-changed, in-mode, collected-fit, no-states}
+use Rattle.replication.proofs.WellFormed.RuleFacts.{StateCame}
 
 module _ (s : Server) (b : Body s) where
   -- ---- exchanges

@@ -1,20 +1,19 @@
 -- The test `wellFormed` holds exactly if `WellFormed` does.
 -- Assumes nothing.
-use Prim.Native.Nat.{ℕ, _+_, _*_, _≤_}
+use Prim.Native.Nat.{_*_, _≤_}
 use mathlib.Core.Path.{_≡_}
 use mathlib.Core.Bool.{true}
-use mathlib.Core.List.{List, [], _∷_}
-use lib.ListN.{length, getD}
-use Rattle.base.specs.Tests.{_and_, and-holds, both-yes, le-yes, le-holds, eq-yes, eq-holds}
-use Rattle.base.specs.Lists.{all}
-use Rattle.base.specs.ListLaws.{Each, all-each, each-all, each-bounded, bounded-each}
-use Rattle.format.specs.Limits.{mostHeld}
+use native.Mathlib.Omega.{arith}
+use Rattle.base.specs.Tests.{and-holds, both-yes, le-yes, le-holds, eq-yes, eq-holds}
+use Rattle.base.specs.ListLaws.{all-each, each-all, each-append, each-map, each-implied, each-bounded, bounded-each}
+use Rattle.format.specs.Types.{Id}
 use Rattle.format.specs.Range.{lengthOk, payloadOk}
 use Rattle.replication.specs.Machine.Types.{Server, contextOf}
+use Rattle.replication.specs.Machine.Colours.{cut}
 use Rattle.replication.specs.Machine.WellFormed.{ranges, idsIn, queue, quotaKept, wellFormed}
-use Rattle.replication.specs.Machine.WellFormedRanges.{PayloadFits}
-use Rattle.replication.specs.Machine.WellFormedFacts.{WellFormed}
-use Rattle.replication.proofs.WellFormed.Ids.{differ-once, once-differ}
+use Rattle.replication.specs.Machine.WellFormedRanges.{IdFits, ActionFits, PayloadFits}
+use Rattle.replication.specs.Machine.WellFormedFacts.{heldCount, WellFormed}
+use Rattle.replication.proofs.WellFormed.Ids.{counted-fact, differ-once, once-differ}
 use Rattle.replication.proofs.WellFormed.Ranges.{sizes-facts, sizes-ok, payload-facts, payload-ok, length-facts, length-ok}
 use Rattle.replication.proofs.WellFormed.Parts.{log-facts, log-ok, votes-facts, votes-ok, membership-facts, membership-ok, held-to-cuts-facts, held-to-cuts-ok, own-list-facts, own-list-ok}
 use Rattle.replication.proofs.WellFormed.Modes.{mode-facts, mode-ok}
@@ -69,3 +68,20 @@ facts-well-formed s f =
     (both-yes _ _ (held-to-cuts-ok (s .log) (f .held-to-cuts))
     (both-yes _ _ (own-list-ok (s .me) (s .log) (f .own-list))
     (both-yes _ _ (le-yes _ _ (f .quota-kept)) (mode-ok (s .membership .mode) s (f .membership .states-length) (f .mode))))))
+
+-- ---- an action with the id (c, i) is held exactly if 1 ≤ i ≤ c's cut, and then once
+
+pub held-once : (s : Server) → WellFormed s → (d : Id) → 1 ≤ d .index → d .index ≤ cut (s .log) (d .creator) → heldCount d (s .log) ≡ 1
+held-once s f d low high = omega (arith, f .once d, f .held-to-cuts .entered d low high)
+
+pub held-fits : (s : Server) → WellFormed s → (d : Id) → 1 ≤ heldCount d (s .log) → IdFits (s .servers) (s .quota) d
+unfolding idsIn queue
+held-fits s f d h =
+    counted-fact (IdFits (s .servers) (s .quota)) d (idsIn (queue (s .log)))
+    (each-map (IdFits (s .servers) (s .quota)) (λ a. a .id) (queue (s .log))
+    (each-implied (ActionFits (s .servers) (s .quota)) (λ a. IdFits (s .servers) (s .quota) (a .id)) (λ a g. g .id) (queue (s .log))
+    (each-append (ActionFits (s .servers) (s .quota)) (s .log .green) (s .log .red) (f .log .green) (f .log .red))))
+    h
+
+pub held-index : (s : Server) → WellFormed s → (d : Id) → 1 ≤ heldCount d (s .log) → (1 ≤ d .index) × (d .index ≤ cut (s .log) (d .creator))
+held-index s f d h = (held-fits s f d h .least, f .held-to-cuts .within d h)

@@ -1,24 +1,24 @@
 -- How finding, removing, entering and promoting actions change which ids are held.
 -- Assumes nothing.
-use Prim.Native.Nat.{ℕ, zero, suc, _+_, _≤_, _<_}
+use Prim.Native.Nat.{ℕ, _+_, _<_}
 use mathlib.Core.Path.{_≡_, refl, sym, ap, _∙_, subst}
-use mathlib.Core.Bool.{Bool, true, false}
+use mathlib.Core.Bool.{true, false}
 use mathlib.Core.List.{List, [], _∷_, _++_, map}
-use mathlib.Core.Option.{Option, none, some}
+use mathlib.Core.Option.{none, some}
 use native.Mathlib.Omega.{arith}
 use native.Mathlib.Decide.{ℕ-discrete}
-use lib.ListN.{length, getD, set}
+use lib.ListN.{length}
 use lib.Seq.{getD-set-same, getD-set-other}
-use Rattle.base.specs.Tests.{_=?_, pick, pick-yes, pick-no, not-both, eq-yes, eq-no, eq-holds, eq-fails, Known, holds, fails, known}
+use Rattle.base.specs.Tests.{pick, eq-holds, Known, holds, fails, known}
 use Rattle.base.specs.ListLaws.{Each}
-use Rattle.base.specs.Counts.{one, count, one-yes, one-no, count-append, count-single, count-map}
+use Rattle.base.specs.Counts.{one, count, count-append, count-single, count-map}
 use Rattle.format.specs.Types.{Id, Action}
 use Rattle.format.specs.Range.{sameId}
 use Rattle.replication.specs.Machine.Types.{Log}
 use Rattle.replication.specs.Machine.Colours.{find, remove, cut, nextIndex, isNext, enter, red, promote, promoteFound, greenId}
 use Rattle.replication.specs.Machine.WellFormed.{idsIn, queue}
 use Rattle.replication.specs.Machine.WellFormedFacts.{heldCount}
-use Rattle.replication.proofs.WellFormed.Ids.{SameId, same, other, same-id?, same-id-holds, same-id-yes}
+use Rattle.replication.proofs.WellFormed.Ids.{SameId, same, other, same-id?, same-id-yes}
 
 -- How many actions of a list have the id d.
 abbrev pub actionCount : Id → List Action → ℕ

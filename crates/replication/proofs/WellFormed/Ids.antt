@@ -2,16 +2,16 @@
 -- Assumes nothing.
 use Prim.Native.Nat.{ℕ, zero, suc, _+_, _≤_, _<_}
 use mathlib.Core.Path.{_≡_, refl, sym, ap, _∙_, subst}
-use mathlib.Core.Bool.{Bool, true, false, not}
-use mathlib.Core.List.{List, [], _∷_, _++_, map}
+use mathlib.Core.Bool.{true, false, not}
+use mathlib.Core.List.{List, [], _∷_, map}
 use native.Mathlib.Omega.{arith}
-use lib.ListN.{length, getD}
-use Rattle.base.specs.Tests.{_and_, _or_, _=?_, not-both, not-holds, or-fails, and-holds, both-yes, and-no, eq-yes, eq-no, eq-holds, eq-fails, Known, holds, fails, known}
-use Rattle.base.specs.Lists.{after, above}
+use lib.ListN.{getD}
+use Rattle.base.specs.Tests.{_or_, not-both, not-holds, or-fails, and-holds, both-yes, and-no, eq-yes, eq-no, eq-holds, Known, holds, fails, known}
+use Rattle.base.specs.Lists.{above}
 use Rattle.base.specs.ListLaws.{Each, each-append, each-first, each-second, each-map, map-each, each-implied, above-between, above-each}
 use Rattle.base.specs.Counts.{one, count, one-yes, one-no, counted-element}
-use Rattle.format.specs.Types.{Id, Context}
-use Rattle.format.specs.Range.{idOk, sameId, hasId, idsDiffer, idsInRange}
+use Rattle.format.specs.Types.{Id}
+use Rattle.format.specs.Range.{sameId, hasId, idsDiffer}
 use Rattle.replication.specs.Machine.Install.{idsUpTo}
 use Rattle.replication.specs.Machine.WellFormed.{sameIds}
 use Rattle.replication.specs.Machine.WellFormedRanges.{idCount}

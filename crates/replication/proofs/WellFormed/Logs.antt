@@ -1,29 +1,22 @@
 -- Entering, greening and numbering keep the facts of a well-formed log.
 -- Assumes nothing.
-use Prim.Native.Nat.{ℕ, zero, suc, _+_, _*_, _≤_, _<_}
-use mathlib.Core.Path.{_≡_, refl, sym, ap, _∙_, subst}
-use mathlib.Core.Bool.{Bool, true, false}
-use mathlib.Core.List.{List, [], _∷_, _++_, map, map-append}
-use mathlib.Core.Option.{Option, none, some}
+use Prim.Native.Nat.{ℕ, zero, suc, _+_, _≤_, _<_}
+use mathlib.Core.Path.{_≡_, refl, sym, ap, _∙_}
+use mathlib.Core.Bool.{false}
+use mathlib.Core.List.{List, [], _∷_, map}
 use native.Mathlib.Omega.{arith}
-use native.Mathlib.Decide.{ℕ-discrete}
-use lib.ListN.{length, getD, set, length-set, length-append, length-map}
-use Rattle.base.specs.Tests.{pick}
-use Rattle.base.specs.Lists.{after, above}
-use Rattle.base.specs.ListLaws.{Each, each-append, each-first, each-implied, each-always, each-both, each-map, map-each, after-length, above-next, above-more, above-between, bounded-set}
-use Rattle.base.specs.Counts.{one}
-use Rattle.format.specs.Types.{Id, Action, Context}
+use lib.ListN.{length, length-set}
+use Rattle.base.specs.Lists.{above}
+use Rattle.base.specs.ListLaws.{Each, each-append, each-always, each-map, above-next, bounded-set}
+use Rattle.format.specs.Types.{Id, Action}
 use Rattle.format.specs.Range.{sameId}
-use Rattle.format.proofs.IdCount.{ids-count}
 use Rattle.replication.specs.Machine.Types.{Log}
-use Rattle.replication.specs.Machine.Colours.{remove, cut, isNext, enter, red, reds, promote, greenId, greenIds, green}
+use Rattle.replication.specs.Machine.Colours.{cut, enter, red, reds, promote, greenId, greenIds, green}
 use Rattle.replication.specs.Machine.Install.{installLog, idsUpTo}
-use Rattle.replication.specs.Machine.Requests.{numberedFrom}
-use Rattle.replication.specs.Machine.WellFormed.{idsIn, queue}
-use Rattle.replication.specs.Machine.WellFormedRanges.{IdFits, PayloadFits, ActionFits, LogRanges}
+use Rattle.replication.specs.Machine.WellFormed.{idsIn}
+use Rattle.replication.specs.Machine.WellFormedRanges.{ActionFits, LogRanges}
 use Rattle.replication.specs.Machine.WellFormedFacts.{heldCount, HeldToCuts, OwnListFits}
-use Rattle.replication.proofs.WellFormed.Ids.{SameId, same, other, same-id?, same-id-no, once-differ}
-use Rattle.replication.proofs.WellFormed.Ranges.{ids-ok}
+use Rattle.replication.proofs.WellFormed.Ids.{SameId, same, other, same-id?, same-id-no}
 use Rattle.replication.proofs.WellFormed.Held.{found-fact, each-remove, remove-first, remove-absent, Entered, entered, ignored, entered?, held-enter, CutAfter, risen, left, cut-after?, Greened, unmoved, moved, greened?}
 
 -- The clauses of row 8 on the log.

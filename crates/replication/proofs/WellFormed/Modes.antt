@@ -1,19 +1,18 @@
 -- Row 8's clauses on the eight states hold exactly if `ModeFits` does.
 -- Assumes nothing.
-use Prim.Native.Nat.{ℕ, zero, suc, _+_, _≤_, _<_}
-use mathlib.Core.Path.{_≡_, refl, sym, ap, _∙_}
+use Prim.Native.Nat.{ℕ, zero, suc, _+_, _<_}
+use mathlib.Core.Path.{_≡_, refl, ap}
 use mathlib.Core.Bool.{Bool, true, false, not}
 use mathlib.Core.List.{List, [], _∷_}
-use mathlib.Core.Option.{Option, none, some}
+use mathlib.Core.Option.{Option, none}
 use native.Mathlib.Omega.{arith}
 use lib.ListN.{length, getD}
-use Rattle.base.specs.Tests.{_and_, _or_, _≤?_, not-both, not-holds, and-holds, both-yes, le-no, le-fails, lt-yes, lt-holds, Known, holds, fails, known}
+use Rattle.base.specs.Tests.{_or_, not-both, not-holds, and-holds, both-yes, le-no, le-fails, lt-yes, lt-holds}
 use Rattle.base.specs.Lists.{isThere}
 use Rattle.base.specs.ListLaws.{there, is-there}
 use Rattle.base.specs.Sets.{inSet}
-use Rattle.format.specs.Limits.{mostIndex}
 use Rattle.format.specs.Types.{State}
-use Rattle.replication.specs.Machine.Types.{Mode, Non-prim, Reg-prim, Trans-prim, Exchange-states, Exchange-actions, Construct, No, Un, Configuration, Server}
+use Rattle.replication.specs.Machine.Types.{Mode, Non-prim, Reg-prim, Trans-prim, Exchange-states, Exchange-actions, Construct, No, Un, Server}
 use Rattle.replication.specs.Machine.Step.{allFrom, allStatesIn, allCome, hereSet, plannedNow}
 use Rattle.replication.specs.Machine.WellFormed.{modeFits}
 use Rattle.replication.specs.Machine.WellFormedFacts.{Configured, StatesIn, ModeFits}
@@ -30,7 +29,7 @@ unfolding _or_
 in-ok true u h = h refl
 in-ok false u h = refl
 
-from-facts : (here k : ℕ) (xs : List (Option State)) → allFrom here k xs ≡ true → (j : ℕ) → j < length xs → inSet (k + j) here ≡ true
+pub from-facts : (here k : ℕ) (xs : List (Option State)) → allFrom here k xs ≡ true → (j : ℕ) → j < length xs → inSet (k + j) here ≡ true
     → isThere (getD xs j none) ≡ true
 unfolding allFrom
 from-facts here k [] h j l m = absurd (omega arith)
@@ -39,7 +38,7 @@ from-facts here k (x ∷ xs) h (suc j) l m =
     let z : k + suc j ≡ k + 1 + j = omega arith in
     from-facts here (k + 1) xs (and-holds _ _ h .1) j (omega arith) (rw z at m)
 
-from-ok : (here k : ℕ) (xs : List (Option State)) → ((j : ℕ) → j < length xs → inSet (k + j) here ≡ true → isThere (getD xs j none) ≡ true)
+pub from-ok : (here k : ℕ) (xs : List (Option State)) → ((j : ℕ) → j < length xs → inSet (k + j) here ≡ true → isThere (getD xs j none) ≡ true)
     → allFrom here k xs ≡ true
 unfolding allFrom
 from-ok here k [] f = refl

@@ -1,27 +1,23 @@
 -- Cuts and the number of actions numbered as a log changes; numbering keeps the facts of a well-formed log; a log's length.
 -- Assumes nothing.
-use Prim.Native.Nat.{ℕ, zero, suc, _+_, _*_, _≤_, _<_}
+use Prim.Native.Nat.{ℕ, suc, _+_, _*_, _≤_, _<_}
 use mathlib.Core.Path.{_≡_, refl, sym, ap, _∙_}
 use mathlib.Core.Bool.{Bool, true, false}
 use mathlib.Core.List.{List, [], _∷_, _++_, map, map-append}
-use mathlib.Core.Option.{Option, none, some}
 use native.Mathlib.Omega.{arith}
 use lib.ListN.{length, length-append, length-map}
-use Rattle.base.specs.Tests.{_and_, _=?_, _≤?_, pick, Known, holds, fails, known}
+use Rattle.base.specs.Tests.{_and_, _=?_, _≤?_, pick}
 use Rattle.base.specs.Lists.{after, above}
-use Rattle.base.specs.ListLaws.{Each, each-append, each-map, map-each, each-implied, after-length, above-between, above-more}
-use Rattle.format.specs.Types.{Id, Action, Context}
-use Rattle.format.proofs.IdCount.{ids-count}
+use Rattle.base.specs.ListLaws.{Each, each-append, each-map, each-implied, above-more}
+use Rattle.format.specs.Types.{Id, Action}
 use Rattle.replication.specs.Machine.Types.{Log}
-use Rattle.replication.specs.Machine.Colours.{cut, enter, red, reds, promote, greenId, greenIds, green}
+use Rattle.replication.specs.Machine.Colours.{cut, enter, red, promote, greenId, greenIds, green}
 use Rattle.replication.specs.Machine.Install.{installLog, idsUpTo}
 use Rattle.replication.specs.Machine.Requests.{numberedFrom}
 use Rattle.replication.specs.Machine.Step.{placed}
 use Rattle.replication.specs.Machine.WellFormed.{idsIn, queue}
-use Rattle.replication.specs.Machine.WellFormedRanges.{IdFits, PayloadFits, ActionFits, LogRanges}
-use Rattle.replication.specs.Machine.WellFormedFacts.{HeldToCuts, OwnListFits}
-use Rattle.replication.proofs.WellFormed.Ids.{once-differ}
-use Rattle.replication.proofs.WellFormed.Ranges.{ids-ok}
+use Rattle.replication.specs.Machine.WellFormedRanges.{IdFits, PayloadFits, ActionFits}
+use Rattle.replication.proofs.WellFormed.Ranges.{ids-short}
 use Rattle.replication.proofs.WellFormed.Held.{Entered, entered, ignored, entered?, CutAfter, risen, left, cut-after?, Greened, unmoved, moved, greened?}
 use Rattle.replication.proofs.WellFormed.Logs.{LogFits, Numbered, CutsRise, ownId, red-fits, green-fits, red-numbered}
 
@@ -104,20 +100,13 @@ placed-numbered p a l = placed-as (λ m. m .numbered ≡ l .numbered) p a l (gre
 pub queue-short : (n q me : ℕ) (l : Log) → LogFits n q me l → length (l .green) + length (l .red) ≤ n * q
 unfolding idsIn queue
 queue-short n q me l f =
-    omega (
-      arith,
-      length-append (l .green) (l .red),
-      length-map (l .green ++ l .red) (λ a. a .id),
-      ids-count context (idsIn (queue l))
-          (ids-ok context (idsIn (queue l)) (each-map (IdFits n q) (λ a. a .id) (queue l) (each-implied (ActionFits n q) (λ a. IdFits n q (a .id)) (λ a h. h .id) (queue l) every)))
-          (once-differ (idsIn (queue l)) (f .once)),
-    )
+    omega (arith, length-append (l .green) (l .red), length-map (l .green ++ l .red) (λ a. a .id), ids-short n q (idsIn (queue l)) every (f .once))
   where
-    context : Context
-    context = record { servers = n; quota = q; self = me; last = none }
-
-    every : Each (ActionFits n q) (queue l)
-    every = each-append (ActionFits n q) (l .green) (l .red) (f .ranges .green) (f .ranges .red)
+    every : Each (IdFits n q) (idsIn (queue l))
+    every =
+        each-map (IdFits n q) (λ a. a .id) (queue l)
+        (each-implied (ActionFits n q) (λ a. IdFits n q (a .id)) (λ a h. h .id) (queue l)
+        (each-append (ActionFits n q) (l .green) (l .red) (f .ranges .green) (f .ranges .red)))
 
 -- ---- numbering
 
@@ -134,6 +123,16 @@ numbered-each n q me g k (p ∷ ps) own short room fits = (
   record { id = record { creator = own; least = omega arith; most = omega arith }; greenLength = short; payload = fits .0 },
   numbered-each n q me g (k + 1) ps own short (omega arith) (fits .1),
 )
+
+pub numbered-own : (me g k : ℕ) (ps : List (List ℕ)) → Each (λ a. a .id .creator ≡ me) (numberedFrom me g k ps)
+unfolding numberedFrom
+numbered-own me g k [] = tt
+numbered-own me g k (p ∷ ps) = (refl, numbered-own me g (k + 1) ps)
+
+pub numbered-length : (me g k : ℕ) (ps : List (List ℕ)) → length (numberedFrom me g k ps) ≡ length ps
+unfolding numberedFrom
+numbered-length me g k [] = refl
+numbered-length me g k (p ∷ ps) = ap suc (numbered-length me g (k + 1) ps)
 
 -- The log with these payloads numbered and put on the own list.
 abbrev pub numberedLog : ℕ → List (List ℕ) → Log → Log

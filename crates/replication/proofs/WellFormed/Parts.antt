@@ -1,26 +1,23 @@
 -- The tests on the parts of a state hold exactly if the facts of `WellFormedRanges` and `WellFormedFacts` do.
 -- Assumes nothing.
-use Prim.Native.Nat.{ℕ, zero, suc, _+_, _*_, _^_, _≤_, _<_}
-use mathlib.Core.Path.{_≡_, refl, sym, ap, _∙_, subst}
-use mathlib.Core.Bool.{Bool, true, false, not}
-use mathlib.Core.List.{List, [], _∷_, _++_, map}
+use Prim.Native.Nat.{ℕ, zero, suc, _+_, _≤_}
+use mathlib.Core.Path.{_≡_, refl, subst}
+use mathlib.Core.Bool.{true}
+use mathlib.Core.List.{List, [], _∷_}
 use mathlib.Core.Option.{Option, none, some}
 use native.Mathlib.Omega.{arith}
-use lib.ListN.{length, getD}
-use Rattle.base.specs.Tests.{_and_, _or_, _≤?_, _<?_, not-both, not-holds, and-holds, both-yes, le-yes, le-no, le-holds, le-fails, lt-yes, lt-holds, eq-yes, eq-holds, Known, holds, fails, known}
-use Rattle.base.specs.Lists.{all, above, isThere}
-use Rattle.base.specs.ListLaws.{Each, all-each, each-all, each-map, map-each}
-use Rattle.base.specs.Counts.{count}
-use Rattle.base.specs.Sets.{inSet, inside}
-use Rattle.format.specs.Limits.{mostHeld, mostIndex}
-use Rattle.format.specs.Types.{Id, Action, State, Context}
-use Rattle.format.specs.Range.{actionOk, lengthOk, cutsOk, indexOk, configurationOk, stateOk, ownSetOk, insideLast, sameId, hasId}
+use lib.ListN.{getD}
+use Rattle.base.specs.Tests.{not-both, and-holds, both-yes, le-yes, le-holds, lt-yes, lt-holds, eq-yes, eq-holds}
+use Rattle.base.specs.ListLaws.{all-each, each-all, each-map, map-each}
+use Rattle.base.specs.Sets.{inside}
+use Rattle.format.specs.Types.{Id, State, Context}
+use Rattle.format.specs.Range.{actionOk, indexOk, configurationOk, insideLast, hasId}
 use Rattle.replication.specs.Machine.Types.{Log, Votes, Configuration, Membership, setOf}
 use Rattle.replication.specs.Machine.Colours.{cut}
 use Rattle.replication.specs.Machine.Rules.{memberOf, isOf}
 use Rattle.replication.specs.Machine.Install.{idsUpTo}
 use Rattle.replication.specs.Machine.WellFormed.{logRanges, votesRanges, configurationFits, transitionalFits, collectedFits, collectedFit, membershipRanges, idsIn, queue, withinCut, heldToCuts, ownListFits}
-use Rattle.replication.specs.Machine.WellFormedRanges.{idCount, ActionFits, StateFits, OwnSetFits, ConfigurationFits, TransitionalFits, LogRanges, VotesRanges, CollectedFits, MembershipRanges}
+use Rattle.replication.specs.Machine.WellFormedRanges.{ActionFits, ConfigurationFits, TransitionalFits, LogRanges, VotesRanges, CollectedFits, MembershipRanges}
 use Rattle.replication.specs.Machine.WellFormedFacts.{heldCount, HeldToCuts, OwnListFits}
 use Rattle.replication.proofs.WellFormed.Ids.{each-counted, counted-fact, has-counted, counted-has, same-ids-holds, same-ids-yes, up-to-each, each-up-to}
 use Rattle.replication.proofs.WellFormed.Ranges.{cuts-facts, cuts-ok, set-facts, set-ok, action-facts, action-ok, primary-facts, primary-ok, mark-facts, mark-ok, yellow-facts, yellow-ok, state-facts, state-ok, own-set-facts, own-set-ok}

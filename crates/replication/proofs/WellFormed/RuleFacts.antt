@@ -1,18 +1,15 @@
 -- What each rule may rely on: the record was in range, the state takes it by this rule, and rows 5, 6, 3 and 4 do not apply.
 -- Assumes nothing.
-use Prim.Native.Nat.{ℕ, _+_, _≤_, _<_}
-use mathlib.Core.Path.{_≡_, refl, sym, ap, _∙_, subst}
-use mathlib.Core.Bool.{Bool, true, false, not}
-use mathlib.Core.List.{List}
-use mathlib.Core.Option.{Option, none, some, Option·some-injective, Option·none-ne-some}
-use native.Mathlib.Omega.{arith}
-use lib.ListN.{length}
-use Rattle.base.specs.Tests.{_and_, _or_, _=?_, _≤?_, not-both, and-holds, both-yes, eq-yes, le-holds, lt-holds}
+use Prim.Native.Nat.{ℕ, _<_}
+use mathlib.Core.Path.{_≡_, refl, subst}
+use mathlib.Core.Bool.{true}
+use mathlib.Core.Option.{none, some, Option·some-injective, Option·none-ne-some}
+use Rattle.base.specs.Tests.{_or_, and-holds, eq-yes, le-holds, lt-holds}
 use Rattle.format.specs.Types.{Action, State, Record, action, retransmission, state, cpc, regular, transitional, request, recovery}
-use Rattle.format.specs.Range.{contextOk, actionOk, stateOk, configurationOk, ownSetOk, insideLast, payloadOk, fieldsOk, recordOk}
-use Rattle.replication.specs.Machine.Types.{Mode, Non-prim, Reg-prim, Trans-prim, Exchange-states, Exchange-actions, Construct, No, Un, Configuration, Server, setOf, contextOf}
+use Rattle.format.specs.Range.{actionOk, configurationOk, fieldsOk, recordOk}
+use Rattle.replication.specs.Machine.Types.{Mode, Non-prim, Reg-prim, Trans-prim, Exchange-states, Exchange-actions, Construct, No, Un, Configuration, Server, contextOf}
 use Rattle.replication.specs.Machine.Requests.{quotaLeft, roomToHold}
-use Rattle.replication.specs.Machine.Rules.{Rule, ignoring, reddening, greening, yellowing, lateInstalling, exchanging, collectingState, collectingCpc, collectingLateCpc, joining, joiningUnmarked, joiningYellow, leaving, requesting, recovering, onAction, onRetransmission, onState, onCpc, onRegular, onTransitional, ruleFor, numberedOwn, possible, memberOf, isOf, stateIn, cpcIn, fromMember, isIgnored, withinQuota, withinHeld}
+use Rattle.replication.specs.Machine.Rules.{Rule, ignoring, reddening, greening, yellowing, lateInstalling, exchanging, collectingState, collectingCpc, collectingLateCpc, joining, joiningUnmarked, joiningYellow, leaving, requesting, recovering, onAction, onRetransmission, onState, onCpc, onRegular, onTransitional, ruleFor, numberedOwn, possible, memberOf, isOf, fromMember, isIgnored, withinQuota, withinHeld}
 use Rattle.replication.specs.Laws.Transitions.{Leads, stays, parts, interruptsStates, interruptsActions, interruptsConstruct}
 use Rattle.replication.specs.Machine.WellFormedRanges.{PayloadFits, ActionFits, StateFits, ConfigurationFits, TransitionalFits}
 use Rattle.replication.proofs.WellFormed.Ranges.{payload-facts, action-facts, state-facts, own-set-facts}

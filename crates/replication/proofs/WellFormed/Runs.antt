@@ -1,26 +1,23 @@
 -- The start is well-formed, and so are both images of a server after any events: in a run no event returns 8.
 -- Assumes nothing.
-use Prim.Native.Nat.{ℕ, zero, suc, _≤_, _<_}
-use mathlib.Core.Path.{_≡_, refl, sym, ap, _∙_}
-use mathlib.Core.Bool.{Bool, true}
-use mathlib.Core.List.{List, [], map}
-use mathlib.Core.Option.{Option, none, some, Option·none-ne-some}
+use Prim.Native.Nat.{ℕ, zero, suc, _<_}
+use mathlib.Core.Path.{_≡_, refl, sym, ap}
+use mathlib.Core.Bool.{true}
+use mathlib.Core.List.{List, map}
+use mathlib.Core.Option.{none, Option·none-ne-some}
 use native.Mathlib.Omega.{arith}
-use lib.ListN.{length, getD, replicate, length-replicate}
+use lib.ListN.{getD, replicate, length-replicate}
 use Rattle.base.specs.Tests.{both-yes, lt-yes}
 use Rattle.base.specs.Lists.{after, above}
 use Rattle.base.specs.Counts.{count}
-use Rattle.base.specs.Sets.{everyone}
 use Rattle.base.specs.SetLaws.{everyone-below}
-use Rattle.format.specs.Types.{Action, Context}
 use Rattle.format.specs.Range.{sizesOk, contextOk}
-use Rattle.replication.specs.Machine.Types.{Server, taken, start, noStates}
+use Rattle.replication.specs.Machine.Types.{start, noStates}
 use Rattle.replication.specs.Machine.Colours.{cut}
-use Rattle.replication.specs.Machine.Step.{step}
 use Rattle.replication.specs.Machine.WellFormed.{idsIn, queue, wellFormed}
 use Rattle.replication.specs.Machine.WellFormedRanges.{SizesFit}
-use Rattle.replication.specs.Machine.WellFormedFacts.{WellFormed, Invariant, SameSizes}
-use Rattle.replication.specs.Images.{Images, started, lived}
+use Rattle.replication.specs.Machine.WellFormedFacts.{WellFormed, Invariant}
+use Rattle.replication.specs.Images.{started, lived}
 use Rattle.replication.specs.Laws.Images.{OfBoth}
 use Rattle.replication.proofs.Step.Lifts.{lived-each}
 use Rattle.replication.proofs.WellFormed.Ranges.{sizes-facts}
@@ -28,7 +25,6 @@ use Rattle.replication.proofs.WellFormed.Facts.{facts-well-formed}
 use Rattle.replication.proofs.WellFormed.Decisions.{empty-below, cleared-mark-fits, no-yellow-fits}
 use Rattle.replication.proofs.WellFormed.Changes.{no-states}
 use Rattle.replication.proofs.WellFormed.Steps.{step-invariant}
-use Rattle.replication.proofs.WellFormed.Sizes.{step-sizes}
 
 zero-at : (n k : ℕ) → getD (replicate {A = ℕ} n 0) k 0 ≡ 0
 zero-at zero k = refl
@@ -96,11 +92,3 @@ module _ (n q i : ℕ) (sizes : sizesOk n q ≡ true) (own : i < n) where
   lived-well-formed es =
       let v = lived-invariant es in
       record { memory = facts-well-formed _ (v .memory .well-formed); store = facts-well-formed _ (v .store .well-formed) }
-
-  pub lived-sizes : (es : List (List ℕ)) → OfBoth (SameSizes (start n q i)) (lived (started (start n q i)) es)
-  unfolding started
-  lived-sizes es =
-      lived-each (SameSizes (start n q i))
-      (λ s e t bs b g h v. let w = step-sizes s e t bs b g h in record { servers = w .servers ∙ v .servers; quota = w .quota ∙ v .quota; me = w .me ∙ v .me })
-      (started (start n q i)) es
-      (record { memory = record { servers = refl; quota = refl; me = refl }; store = record { servers = refl; quota = refl; me = refl } })

@@ -6,7 +6,7 @@ use mathlib.Core.Bool.{Bool, true, false}
 use mathlib.Core.List.{List, [], List·Memᴰ}
 use mathlib.Core.Logic.{_⊎_}
 use mathlib.Core.Option.{Option, none, some}
-use Rattle.format.specs.Types.{Action, Mark, Yellow, Record, recovery}
+use Rattle.format.specs.Types.{Action, Yellow, Record, recovery}
 use Rattle.replication.specs.Machine.Types.{Mode, Non-prim, Reg-prim, Trans-prim, Exchange-states, Exchange-actions, Construct, No, Un, Votes, Configuration, Server, noYellow}
 use Rattle.replication.specs.Machine.Step.{theSet}
 

@@ -1,17 +1,23 @@
 -- Orders and equalities of states that the laws of a step speak of.
 -- Assumes nothing.
-use Prim.Native.Nat.{ℕ, _+_, _≤_, _<_}
+use Prim.Native.Nat.{ℕ, _≤_, _<_}
 use mathlib.Core.Path.{_≡_}
 use mathlib.Core.Bool.{Bool, true, false}
-use mathlib.Core.Logic.{_⊎_}
-use mathlib.Core.Option.{Option, none, some}
+use mathlib.Core.Option.{none, some}
 use lib.ListN.{getD}
+use mathlib.Core.List.{List}
 use Rattle.base.specs.Lists.{Begins}
-use Rattle.format.specs.Types.{State, Record, action, retransmission, state, cpc, regular, transitional, request, recovery}
-use Rattle.replication.specs.Machine.Types.{Mode, Non-prim, Reg-prim, Trans-prim, Exchange-states, Exchange-actions, Construct, No, Un, Log, Votes, Server}
+use Rattle.format.specs.Types.{State, Record, action, retransmission, state, cpc, regular, transitional, request, recovery, says}
+use Rattle.format.specs.Read.{read}
+use Rattle.replication.specs.Machine.Types.{Mode, Non-prim, Reg-prim, Trans-prim, Exchange-states, Exchange-actions, Construct, No, Un, Log, Votes, Server, contextOf}
 use Rattle.replication.specs.Machine.Colours.{cut}
-use Rattle.replication.specs.Machine.Exchange.{takenPrimary, takenAttempt}
-use Rattle.replication.specs.Machine.Step.{withState, allStatesIn, collected}
+use Rattle.replication.specs.Machine.Step.{withState, allStatesIn}
+
+-- What a server never changes: the number of servers, the quota, its own number.
+pub record SameServer (s t : Server) : Type 0 where
+  pub servers : t .servers ≡ s .servers
+  pub quota : t .quota ≡ s .quota
+  pub me : t .me ≡ s .me
 
 -- The control part: last primary, attempt, mark, and how many actions are numbered.
 pub record SameControl (s t : Server) : Type 0 where
@@ -62,22 +68,6 @@ hearing (transitional c) s = s
 hearing (request p) s = s
 hearing recovery s = s
 
--- ---- how the last primary and the attempt change
-
--- The record ends the exchange: the last State with nothing planned, or the last retransmission.
-pub data EndsExchange (s : Server) (r : Record) : Type 0 where
-  withStates : s .membership .mode ≡ Exchange-states → allStatesIn (hearing r s) ≡ true → EndsExchange s r
-  withActions : s .membership .mode ≡ Exchange-actions → hearing r s ≡ s → EndsExchange s r
-
-pub data PrimaryChange (s : Server) (r : Record) (t : Server) : Type 0 where
-  -- not at all
-  kept : t .votes .last ≡ s .votes .last → t .votes .attempt ≡ s .votes .attempt → PrimaryChange s r t
-  -- by Install: "primary index + 1, its attempt the current one, its set the mark's; attempt 0"
-  installed : (s .membership .mode ≡ Construct) ⊎ (s .membership .mode ≡ Un) → t .votes .last .index ≡ s .votes .last .index + 1
-      → t .votes .last .attempt ≡ s .votes .attempt → t .votes .last .set ≡ s .votes .mark .set → t .votes .attempt ≡ 0 → t .votes .mark ≡ s .votes .mark
-      → PrimaryChange s r t
-  -- by the end of an exchange, without and with a quorum
-  decided : EndsExchange s r → t .votes .last ≡ takenPrimary (collected (hearing r s))
-      → t .votes .attempt ≡ takenAttempt (collected (hearing r s)) → PrimaryChange s r t
-  attempted : EndsExchange s r → t .votes .last ≡ takenPrimary (collected (hearing r s))
-      → t .votes .attempt ≡ takenAttempt (collected (hearing r s)) + 1 → PrimaryChange s r t
+-- The same at the server that the event e comes to.
+abbrev pub OwnStateTrueAt : Server → List ℕ → Type 0
+OwnStateTrueAt s e = (r : Record) → read (contextOf s) e ≡ says r → OwnStateTrue (hearing r s)

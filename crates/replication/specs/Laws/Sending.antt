@@ -4,17 +4,19 @@ use Prim.Native.Nat.{ℕ, _+_, _-_, _≤_, _<_}
 use mathlib.Core.Path.{_≡_}
 use mathlib.Core.Bool.{Bool, true, false}
 use mathlib.Core.List.{List, [], _∷_, _++_, map, List·Memᴰ}
-use mathlib.Core.Option.{Option, none, some}
+use mathlib.Core.Option.{some}
 use lib.ListN.{length}
 use Rattle.base.specs.Tests.{_=?_}
 use Rattle.base.specs.Lists.{at}
 use Rattle.format.specs.Types.{Action, State, Record, action, retransmission, state, cpc, regular, request, recovery}
 use Rattle.replication.specs.Machine.Types.{Non-prim, Reg-prim, Exchange-states, Exchange-actions, Construct, Log, Configuration, Server}
 use Rattle.replication.specs.Machine.Colours.{find}
+use Rattle.replication.specs.Machine.Exchange.{quorum}
 use Rattle.replication.specs.Machine.Plan.{missing, cutIn, greenIn, ownPart}
 use Rattle.replication.specs.Machine.Requests.{sendsNow, numberedFrom}
-use Rattle.replication.specs.Machine.Step.{ownState, hereId, collected, allStatesIn, plannedNow, withCpc, allCpcsIn}
-use Rattle.replication.specs.Laws.Order.{EndsExchange}
+use Rattle.replication.specs.Machine.Step.{ownState, hereSet, hereId, collected, allStatesIn, plannedNow, withCpc, allCpcsIn}
+use Rattle.replication.specs.Laws.Order.{hearing}
+use Rattle.replication.specs.Laws.Votes.{EndsExchange}
 
 -- ---- own actions
 
@@ -40,12 +42,12 @@ pub data PutsOut (s : Server) (r : Record) (t : Server) : List Record → Bool �
   partOfPlan : (x : State) → r ≡ state x → s .membership .mode ≡ Exchange-states → t .membership .mode ≡ Exchange-actions → allStatesIn t ≡ true
       → (plannedNow t =? 0) ≡ false → t .log .numbered ≡ s .log .numbered → PutsOut s r t (ownPart (t .servers) (t .me) (t .log) (collected t)) false
   -- "attempt + 1, mark .., store, send CPC, Construct"
-  cpcOnAttempt : EndsExchange s r → t .membership .mode ≡ Construct → t .log .numbered ≡ s .log .numbered → PutsOut s r t (cpc (t .me) (hereId t) ∷ []) true
+  cpcOnAttempt : EndsExchange s r → quorum (collected (hearing r s)) (hereSet s) ≡ true → t .membership .mode ≡ Construct → t .log .numbered ≡ s .log .numbered → PutsOut s r t (cpc (t .me) (hereId t) ∷ []) true
   -- "Request: sent in Reg_prim, and in Non_prim .."
   requestAtOnce : (p : List ℕ) → r ≡ request p → sendsNow (s .membership) ≡ true → t .membership ≡ s .membership → Numbers s t (p ∷ [])
       → PutsOut s r t (map action (made s t (p ∷ []))) true
   -- "Elsewhere held, and sent in order on reaching those states."
-  heldAfterExchange : EndsExchange s r → t .membership .mode ≡ Non-prim → Numbers s t (s .held) → PutsOut s r t (map action (made s t (s .held))) true
+  heldAfterExchange : EndsExchange s r → quorum (collected (hearing r s)) (hereSet s) ≡ false → t .membership .mode ≡ Non-prim → Numbers s t (s .held) → PutsOut s r t (map action (made s t (s .held))) true
   heldAfterInstall : (k i : ℕ) → r ≡ cpc k i → s .membership .mode ≡ Construct → allCpcsIn (withCpc k s) ≡ true → t .membership .mode ≡ Reg-prim
       → Numbers s t (s .held) → PutsOut s r t (map action (made s t (s .held))) true
 

@@ -3,8 +3,8 @@
 use Prim.Native.Nat.{ℕ, _+_, _*_, _≤_, _<_}
 use mathlib.Core.Path.{_≡_}
 use mathlib.Core.Bool.{true}
-use mathlib.Core.List.{List, map}
-use mathlib.Core.Option.{Option, none, some}
+use mathlib.Core.List.{map}
+use mathlib.Core.Option.{none, some}
 use lib.ListN.{length, getD}
 use Rattle.base.specs.ListLaws.{Each}
 use Rattle.base.specs.Lists.{above, isThere}
@@ -93,9 +93,3 @@ YellowEntered Un s = Unit {0}
 pub record Invariant (s : Server) : Type 0 where
   pub well-formed : WellFormed s
   pub yellow : YellowEntered (s .membership .mode) s
-
--- n, q and the server's number are the same.
-pub record SameSizes (s t : Server) : Type 0 where
-  pub servers : t .servers ≡ s .servers
-  pub quota : t .quota ≡ s .quota
-  pub me : t .me ≡ s .me

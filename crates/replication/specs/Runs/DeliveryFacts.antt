@@ -27,6 +27,10 @@ unfoldable pub saysMessage : Reading Record → Bool
 saysMessage (says r) = isMessage r
 saysMessage (refused k) = false
 
+unfoldable pub recordFrom : Reading Record → Option Record
+recordFrom (says r) = some r
+recordFrom (refused k) = none
+
 module _ (n q : ℕ) (l : Run) where
   -- The entry x, which stands at p, delivers a message to the server i while its place passes the test.
   unfoldable pub deliversBy : (Place → Bool) → ℕ → ℕ → Option Entry → Bool
@@ -47,10 +51,6 @@ module _ (n q : ℕ) (l : Run) where
   delivered source t i p = map source (deliveryPlaces t i p)
 
   -- What a message says: the kinds 1 to 4 are read alike by every server, in every configuration.
-  unfoldable pub recordFrom : Reading Record → Option Record
-  recordFrom (says r) = some r
-  recordFrom (refused k) = none
-
   unfoldable pub recordIn : Option (List ℕ) → Option Record
   recordIn none = none
   recordIn (some e) = recordFrom (heard n q 0 nowhere e)

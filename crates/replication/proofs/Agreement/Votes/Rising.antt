@@ -17,7 +17,7 @@ use Rattle.replication.specs.Laws.Order.{AtMost, by-index, by-primary, b
 use Rattle.replication.specs.Runs.Run.{Run, Place, worldAt, placeAt}
 use Rattle.replication.specs.Runs.Allowed.{Allowed}
 use Rattle.replication.proofs.Step.Taken.{NotLater, lower, level, taken-covers, taken-attempt-covers}
-use Rattle.replication.proofs.Step.Votes.{at-most-same, at-most-refl, at-most-trans}
+use Rattle.replication.proofs.Step.VotesOrder.{at-most-same, at-most-refl, at-most-trans}
 use Rattle.replication.proofs.Runs.ControlPart.{control-at}
 use Rattle.replication.proofs.Runs.Coupling.{coupled}
 use Rattle.replication.proofs.Runs.AllowedTurns.{memoryAt, storeAt}
