@@ -1,28 +1,26 @@
 -- Where the primary components of an index agree, an attempt on the next one (index, attempt and set) is of one configuration.
-use Prim.Native.Nat.{ℕ, zero, suc, _+_, _≤_, _<_}
-use mathlib.Core.Path.{_≡_, refl, sym, ap, subst, _∙_}
-use mathlib.Core.Bool.{Bool, true, false}
-use mathlib.Core.List.{List, [], _∷_, List·Memᴰ}
-use mathlib.Core.Option.{Option, none, some}
+use Prim.Native.Nat.{ℕ, suc, _+_, _<_}
+use mathlib.Core.Path.{_≡_, sym, ap, _∙_}
+use mathlib.Core.List.{List·Memᴰ}
 use native.Mathlib.Omega.{arith}
 use Rattle.base.specs.Sets.{inSet}
-use Rattle.format.specs.Types.{Primary, Mark, State}
-use Rattle.replication.specs.Machine.Types.{Votes, Configuration, Server}
-use Rattle.replication.specs.Machine.Exchange.{takenPrimary, takenAttempt}
+use Rattle.format.specs.Types.{State}
+use Rattle.replication.specs.Machine.Types.{Configuration}
+use Rattle.replication.specs.Machine.Exchange.{takenPrimary}
 use Rattle.replication.specs.Machine.Step.{collected}
 use Rattle.replication.specs.Laws.Order.{AtMost, by-index, by-primary, by-attempt}
-use Rattle.replication.specs.Runs.Run.{Run, Place, placeAt}
+use Rattle.replication.specs.Runs.Run.{Run}
 use Rattle.replication.specs.Runs.Happenings.{Takes}
 use Rattle.replication.specs.Runs.Allowed.{Allowed}
 use Rattle.replication.proofs.Step.Taken.{NotLater, lower, level, taken-covers, taken-attempt-covers}
 use Rattle.replication.proofs.Runs.Entries.{Had, had}
+use Rattle.replication.proofs.Runs.OwnStates.{votes-rise-between}
 use Rattle.replication.proofs.Runs.Order.{taker-member, configurations-ordered}
-use Rattle.replication.proofs.Agreement.Terms.{EndsAt, MarksAt, InstallsAt, installed, ExchangeFacts}
+use Rattle.replication.proofs.Agreement.Terms.{MarksAt, InstallsAt, installed, ExchangeFacts}
 use Rattle.replication.proofs.Agreement.Votes.Turns.{votesAt, lastAt}
 use Rattle.replication.proofs.Agreement.Votes.Events.{installing-at, ends-exchange, done-before, InOrder, first, same, second, in-order}
 use Rattle.replication.proofs.Agreement.Votes.Judging.{Alike}
 use Rattle.replication.proofs.Agreement.Votes.Collected.{StateOf, state-of}
-use Rattle.replication.proofs.Agreement.Votes.Rising.{votes-rise}
 use Rattle.replication.proofs.Agreement.Votes.Known.{KnownPrimary, of-start, of-install, known-primary}
 use Rattle.replication.proofs.Agreement.Votes.Marks.{marking-last, marking-attempt, marking-mark}
 
@@ -67,7 +65,7 @@ module _ {n q : ℕ} {l : Run} (A : Allowed n q l) (X : ExchangeFacts n q l) whe
       → Takes n q l w i c → w < y .took-at → votesAt n q l (suc p) i .attempt < votesAt n q l (suc r) j .attempt
   unfolding OneKnown
   later-attempt {p} {r} {i} {j} {w} {c} {d} {s} k one m o e f h y t a =
-      go (votes-rise A X i (suc p) (suc (y .took-at)) (omega (arith, marked-first))) (taken-covers s (collected (o .ending .judged)) h)
+      go (votes-rise-between A i (suc p) (suc (y .took-at)) (omega (arith, marked-first))) (taken-covers s (collected (o .ending .judged)) h)
     where
       marked-first : p < y .took-at
       marked-first = done-before A t (y .took) (ap (λ z. z .regular) (m .ending .here)) (ends-exchange (m .ending)) a

@@ -1,18 +1,18 @@
 -- The four ways in which a taken event treats the votes: they stay but for yellow, a configuration is taken, an exchange ends, a primary component is installed.
 use Prim.Native.Nat.{ℕ, _+_}
-use mathlib.Core.Path.{_≡_, refl, sym, ap, subst, _∙_}
+use mathlib.Core.Path.{_≡_, refl, sym, ap, _∙_}
 use mathlib.Core.Bool.{Bool, true, false}
-use mathlib.Core.List.{List, [], _∷_}
+use mathlib.Core.List.{List}
 use mathlib.Core.Logic.{_⊎_, inl, inr}
-use mathlib.Core.Option.{Option, none, some}
+use mathlib.Core.Option.{some}
 use Rattle.base.specs.Tests.{not-both}
-use Rattle.format.specs.Types.{Action, State, Record, action, retransmission, state, cpc, regular, transitional, request, recovery}
+use Rattle.format.specs.Types.{Action, Record, action, retransmission, state, cpc, regular, transitional, request, recovery}
 use Rattle.replication.specs.Machine.Types.{Mode, Non-prim, Reg-prim, Trans-prim, Exchange-states, Exchange-actions, Construct, No, Un, Votes, Configuration, Server, clearedMark}
 use Rattle.replication.specs.Machine.Colours.{yellow}
 use Rattle.replication.specs.Machine.Install.{install, installVotes}
-use Rattle.replication.specs.Machine.Requests.{sendsIn, sendsNow, numbered, hold, sendHeld, recovered}
-use Rattle.replication.specs.Machine.Rules.{Rule, onAction, onRetransmission, onState, onCpc, onRegular, onTransitional, ruleFor}
-use Rattle.replication.specs.Machine.Step.{entering, unmarked, yellowValid, hereSet, collected, withState, allStatesIn, resending, oneMore, exchanged, withCpc, leave, greenAndNote, installsBy}
+use Rattle.replication.specs.Machine.Requests.{numbered, hold, sendHeld, recovered}
+use Rattle.replication.specs.Machine.Rules.{onAction, onRetransmission, onState, onCpc, onRegular, onTransitional, ruleFor}
+use Rattle.replication.specs.Machine.Step.{entering, unmarked, yellowValid, hereSet, withState, allStatesIn, resending, oneMore, exchanged, withCpc, leave, greenAndNote, installsBy}
 use Rattle.replication.specs.Laws.Transitions as L
 use Rattle.replication.specs.Laws.Transitions.{Ends, Leads, Transition}
 use Rattle.replication.specs.Laws.Order.{inExchange}
@@ -80,11 +80,11 @@ pub record Installing (s t : Server) : Type 0 where
 abbrev pub installing : Server → Record → Bool
 installing s r = installsBy (ruleFor (s .membership .mode) r) s
 
-pub data VoteChange (s : Server) (r : Record) (t : Server) (rs : List Record) (b : Bool) : Type 0 where
-  keeps : isRegular r ≡ false → installing s r ≡ false → SameVotes (s .votes) (t .votes) → Stays s t → VoteChange s r t rs b
-  joins : (c : Configuration) → r ≡ regular (c .id) (c .set) → installing s r ≡ false → Joins s c t → VoteChange s r t rs b
-  ends : isRegular r ≡ false → installing s r ≡ false → b ≡ true → Ending s t rs → VoteChange s r t rs b
-  installs : isRegular r ≡ false → installing s r ≡ true → Installing s t → VoteChange s r t rs b
+pub data VotesStep (s : Server) (r : Record) (t : Server) (rs : List Record) (b : Bool) : Type 0 where
+  keeps : isRegular r ≡ false → installing s r ≡ false → SameVotes (s .votes) (t .votes) → Stays s t → VotesStep s r t rs b
+  joins : (c : Configuration) → r ≡ regular (c .id) (c .set) → installing s r ≡ false → Joins s c t → VotesStep s r t rs b
+  ends : isRegular r ≡ false → installing s r ≡ false → b ≡ true → Ending s t rs → VotesStep s r t rs b
+  installs : isRegular r ≡ false → installing s r ≡ true → Installing s t → VotesStep s r t rs b
 
 -- ---- what stays
 
@@ -127,16 +127,16 @@ module _ (s : Server) where
 
   -- ---- the ways
 
-  pub vote-change : {r : Record} {t : Server} {rs : List Record} {b : Bool} → Transition s r t rs b → VoteChange s r t rs b
+  pub votes-step : {r : Record} {t : Server} {rs : List Record} {b : Bool} → Transition s r t rs b → VotesStep s r t rs b
   unfolding isRegular installsBy ruleFor onAction onRetransmission onState onCpc onRegular onTransitional greenAndNote install installVotes exchanged oneMore withState resending withCpc sendHeld numbered entering unmarked yellowValid leave hold recovered hereSet allStatesIn inExchange attempting
-  vote-change {r} (L.ignoresState x e) = keeps refl (in-state Non-prim r _ e refl) (same-votes-refl _) (same-membership s _ refl)
-  vote-change {r} (L.ignoresCpc k i e) = keeps refl (in-state Non-prim r _ e refl) (same-votes-refl _) (same-membership s _ refl)
-  vote-change {r} (L.reddens a e) = keeps refl (in-state Non-prim r _ e refl) (same-votes-refl _) (same-membership s _ refl)
-  vote-change {r} (L.reddensResent k p a e) = keeps refl (in-state Non-prim r _ e refl) (same-votes-refl _) (same-membership s _ refl)
-  vote-change {r} (L.reddensInExchange a e) = keeps refl (in-state Exchange-states r _ e refl) (same-votes-refl _) (same-membership s _ refl)
-  vote-change {r} (L.greens a e) = keeps refl (in-state Reg-prim r _ e refl) (same-votes-refl _) (same-membership s _ refl)
-  vote-change {r} (L.yellows a e) = keeps refl (in-state Trans-prim r _ e refl) (same-yellow a s) (same-membership s _ (yellow-membership a s))
-  vote-change {r} (L.installsLate a e) =
+  votes-step {r} (L.ignoresState x e) = keeps refl (in-state Non-prim r _ e refl) (same-votes-refl _) (same-membership s _ refl)
+  votes-step {r} (L.ignoresCpc k i e) = keeps refl (in-state Non-prim r _ e refl) (same-votes-refl _) (same-membership s _ refl)
+  votes-step {r} (L.reddens a e) = keeps refl (in-state Non-prim r _ e refl) (same-votes-refl _) (same-membership s _ refl)
+  votes-step {r} (L.reddensResent k p a e) = keeps refl (in-state Non-prim r _ e refl) (same-votes-refl _) (same-membership s _ refl)
+  votes-step {r} (L.reddensInExchange a e) = keeps refl (in-state Exchange-states r _ e refl) (same-votes-refl _) (same-membership s _ refl)
+  votes-step {r} (L.greens a e) = keeps refl (in-state Reg-prim r _ e refl) (same-votes-refl _) (same-membership s _ refl)
+  votes-step {r} (L.yellows a e) = keeps refl (in-state Trans-prim r _ e refl) (same-yellow a s) (same-membership s _ (yellow-membership a s))
+  votes-step {r} (L.installsLate a e) =
       let y = control-yellow a (install s) in
       installs refl (in-state Un r _ e refl)
       (record {
@@ -147,31 +147,31 @@ module _ (s : Server) where
         set = ap (λ p. p .set) (y .last);
         mark = y .mark;
       })
-  vote-change {r} (L.exchanges k p a e c) = keeps refl (in-state Exchange-actions r _ e refl) (same-votes-refl _) (same-phase s _ refl refl refl)
-  vote-change {r} (L.exchangesLast k p a u us e c x) =
+  votes-step {r} (L.exchanges k p a e c) = keeps refl (in-state Exchange-actions r _ e refl) (same-votes-refl _) (same-phase s _ refl refl refl)
+  votes-step {r} (L.exchangesLast k p a u us e c x) =
       ends refl (in-state Exchange-actions r _ e refl) refl
       (record { judged = exchanged p a s; ends = x; exchanging = ap inExchange e; me = refl; votes = refl; configuration = refl; complete = λ f. f e })
-  vote-change {r} (L.collects x e c) = keeps refl (in-state Exchange-states r _ e refl) (same-votes-refl _) (same-phase s _ refl refl refl)
-  vote-change {r} (L.collectsLast x e c d) =
+  votes-step {r} (L.collects x e c) = keeps refl (in-state Exchange-states r _ e refl) (same-votes-refl _) (same-phase s _ refl refl refl)
+  votes-step {r} (L.collectsLast x e c d) =
       keeps refl (in-state Exchange-states r _ e refl) (same-votes-refl _) (same-phase s _ refl (ap inExchange (sym e)) (ap attempting (sym e)))
-  vote-change {r} (L.collectsWhole x u us e c d y) =
+  votes-step {r} (L.collectsWhole x u us e c d y) =
       ends refl (in-state Exchange-states r _ e refl) refl
       (record { judged = withState x s; ends = y; exchanging = ap inExchange e; me = refl; votes = refl; configuration = refl; complete = λ f. c })
-  vote-change {r} (L.counts k i e c) = keeps refl (in-state Construct r _ e c) (same-votes-refl _) (same-phase s _ refl refl refl)
-  vote-change {r} (L.installs k i e c) =
+  votes-step {r} (L.counts k i e c) = keeps refl (in-state Construct r _ e c) (same-votes-refl _) (same-phase s _ refl refl refl)
+  votes-step {r} (L.installs k i e c) =
       installs refl (in-state Construct r _ e c) (record { from = inl e; to = inl refl; index = refl; attempt = refl; set = refl; mark = refl })
-  vote-change {r} (L.countsLate k i e c) = keeps refl (in-state No r _ e refl) (same-votes-refl _) (same-phase s _ refl refl refl)
-  vote-change {r} (L.countsAllLate k i e c) =
+  votes-step {r} (L.countsLate k i e c) = keeps refl (in-state No r _ e refl) (same-votes-refl _) (same-phase s _ refl refl refl)
+  votes-step {r} (L.countsAllLate k i e c) =
       keeps refl (in-state No r _ e refl) (same-votes-refl _) (same-phase s _ refl (ap inExchange (sym e)) (ap attempting (sym e)))
-  vote-change {r} (L.joins c e) =
+  votes-step {r} (L.joins c e) =
       joins c refl (in-state Non-prim r _ e refl) (record { mode = refl; configuration = refl; last = refl; attempt = refl; mark = mark-kept refl })
-  vote-change {r} (L.joinsMarked c e) =
+  votes-step {r} (L.joinsMarked c e) =
       joins c refl (in-state Un r _ e refl) (record { mode = refl; configuration = refl; last = refl; attempt = refl; mark = mark-kept refl })
-  vote-change {r} (L.joinsUnmarked c e) =
+  votes-step {r} (L.joinsUnmarked c e) =
       joins c refl (in-state No r _ e refl) (record { mode = refl; configuration = refl; last = refl; attempt = refl; mark = mark-cleared (inl e) refl })
-  vote-change {r} (L.joinsYellow c e) =
+  votes-step {r} (L.joinsYellow c e) =
       joins c refl (in-state Trans-prim r _ e refl) (record { mode = refl; configuration = refl; last = refl; attempt = refl; mark = mark-cleared (inr e) refl })
-  vote-change {r} (L.leaves m n x e q) = keeps refl (in-state m r _ e (leads-nowhere m n x q)) (same-votes-refl _) (leaving m n x e q)
-  vote-change (L.sends p c) = keeps refl refl (same-votes-refl _) (same-phase s _ refl refl refl)
-  vote-change (L.holds p c) = keeps refl refl (same-votes-refl _) (same-phase s _ refl refl refl)
-  vote-change L.recovers = keeps refl refl (same-votes-refl _) (outside s _ refl refl)
+  votes-step {r} (L.leaves m n x e q) = keeps refl (in-state m r _ e (leads-nowhere m n x q)) (same-votes-refl _) (leaving m n x e q)
+  votes-step (L.sends p c) = keeps refl refl (same-votes-refl _) (same-phase s _ refl refl refl)
+  votes-step (L.holds p c) = keeps refl refl (same-votes-refl _) (same-phase s _ refl refl refl)
+  votes-step L.recovers = keeps refl refl (same-votes-refl _) (outside s _ refl refl)

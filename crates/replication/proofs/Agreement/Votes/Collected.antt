@@ -1,13 +1,11 @@
 -- The States that a server judges at the end of an exchange: one of each member, as it was when it took the configuration.
-use Prim.Native.Nat.{ℕ, zero, suc, _+_, _≤_, _<_, _^_}
-use mathlib.Core.Path.{_≡_, refl, sym, ap, subst, _∙_}
-use mathlib.Core.Bool.{Bool, true, false}
-use mathlib.Core.List.{List, [], _∷_, List·Memᴰ}
-use mathlib.Core.Option.{Option, none, some}
-use native.Mathlib.Omega.{arith}
+use Prim.Native.Nat.{ℕ, suc, _<_, _^_}
+use mathlib.Core.Path.{_≡_, sym, ap, subst, _∙_}
+use mathlib.Core.Bool.{true}
+use mathlib.Core.List.{List·Memᴰ}
+use mathlib.Core.Option.{none, some}
 use lib.ListN.{getD}
-use Rattle.base.specs.Tests.{not-both, lt-holds, and-holds, Known, holds, fails, known}
-use Rattle.base.specs.Lists.{present}
+use Rattle.base.specs.Tests.{lt-holds, and-holds, Known, holds, fails, known}
 use Rattle.base.specs.AtLaws.{none-some, some-same}
 use Rattle.base.specs.Members.{present-has, present-from}
 use Rattle.base.specs.Sets.{inSet}
@@ -15,10 +13,10 @@ use Rattle.base.specs.SetLaws.{member-below}
 use Rattle.format.specs.Types.{State}
 use Rattle.format.specs.Range.{recordOk, fieldsOk, ownSetOk, setOk}
 use Rattle.format.proofs.Reading.{read-in-range}
-use Rattle.replication.specs.Machine.Types.{Configuration, Server}
+use Rattle.replication.specs.Machine.Types.{Configuration}
 use Rattle.replication.specs.Machine.Exchange.{ownMark, judgedMark}
 use Rattle.replication.specs.Machine.Step.{ownState, collected}
-use Rattle.replication.specs.Runs.Run.{Run, Place, heard, placeAt, heardAt}
+use Rattle.replication.specs.Runs.Run.{Run, heard, heardAt}
 use Rattle.replication.specs.Runs.Happenings.{Takes}
 use Rattle.replication.specs.Runs.Allowed.{Allowed}
 use Rattle.replication.proofs.Runs.Entries.{Had, had}

@@ -1,32 +1,29 @@
 -- Taking a configuration, ending an exchange and installing exclude one another; in which order a server does them.
-use Prim.Native.Nat.{ℕ, zero, suc, _+_, _≤_, _<_}
-use mathlib.Core.Path.{_≡_, refl, sym, ap, subst, _∙_}
-use mathlib.Core.Bool.{Bool, true, false}
-use mathlib.Core.List.{List, [], _∷_}
+use Prim.Native.Nat.{ℕ, suc, _<_}
+use mathlib.Core.Path.{_≡_, sym, ap, subst, _∙_}
+use mathlib.Core.Bool.{true, false}
 use mathlib.Core.Logic.{_⊎_, inl, inr}
-use mathlib.Core.Option.{Option, none, some}
+use mathlib.Core.Option.{some}
 use native.Mathlib.Omega.{arith}
 use native.Mathlib.Decide.{decLt}
 use Rattle.base.specs.Tests.{not-both}
-use Rattle.format.specs.Types.{State, Record, regular}
-use Rattle.replication.specs.Machine.Types.{Mode, Exchange-states, Construct, Non-prim, Reg-prim, Trans-prim, Configuration, Server}
-use Rattle.replication.specs.Machine.Rules.{ruleFor}
+use Rattle.format.specs.Types.{regular}
+use Rattle.replication.specs.Machine.Types.{Reg-prim, Trans-prim, Configuration}
 use Rattle.replication.specs.Machine.Step.{collected, installsBy}
 use Rattle.replication.specs.Laws.Modes as M
 use Rattle.replication.specs.Laws.Order.{inExchange}
-use Rattle.replication.specs.Runs.Run.{Run, Place, worldAt, placeAt}
-use Rattle.replication.specs.Runs.Happenings.{Comes, Takes}
+use Rattle.replication.specs.Runs.Run.{Run, placeAt}
+use Rattle.replication.specs.Runs.Happenings.{Takes}
 use Rattle.replication.specs.Runs.Allowed.{Allowed}
-use Rattle.replication.proofs.Runs.Shifts.{regular-same, comes-of, takes-same}
+use Rattle.replication.proofs.Runs.Shifts.{regular-same, takes-same}
 use Rattle.replication.proofs.Runs.Entries.{Had, had}
 use Rattle.replication.proofs.Runs.Coupling.{coupled}
 use Rattle.replication.proofs.Runs.Modes.{standing}
 use Rattle.replication.proofs.Runs.AllowedTurns.{memoryAt, Acts}
 use Rattle.replication.proofs.Runs.Sending.{regular-acts}
-use Rattle.replication.proofs.Runs.Order.{time, time-rises, time-before, configuration-time}
 use Rattle.replication.proofs.Agreement.Terms.{EndsAt, InstallsAt}
 use Rattle.replication.proofs.Agreement.Votes.Changes as C
-use Rattle.replication.proofs.Agreement.Votes.Changes.{isRegular, Joins, Installing, VoteChange, vote-change}
+use Rattle.replication.proofs.Agreement.Votes.Changes.{isRegular, Joins, Installing, VotesStep, votes-step}
 use Rattle.replication.proofs.Agreement.Votes.Turns.{modeAt, installer-placed, Decides, with-quorum, without-quorum, ended}
 
 -- Of two configurations that a server took, which came first.
@@ -39,12 +36,12 @@ pub data InOrder (w e : ℕ) (c d : Configuration) : Type 0 where
 
 module _ {n q : ℕ} {l : Run} where
   pub installing-at : {p i : ℕ} {c : Configuration} → InstallsAt n q l p i c → Installing (memoryAt n q l p i) (memoryAt n q l (suc p) i)
-  installing-at {p} {i} x = go (vote-change (memoryAt n q l p i) (x .acts .moves))
+  installing-at {p} {i} x = go (votes-step (memoryAt n q l p i) (x .acts .moves))
     where
       yes-installs : C.installing (memoryAt n q l p i) (x .acts .by .event) ≡ true
       yes-installs = ap (λ z. installsBy z (memoryAt n q l p i)) (x .acts .by .ruled) ∙ x .installs
 
-      go : VoteChange (memoryAt n q l p i) (x .acts .by .event) (x .acts .after) (x .acts .by .records) (x .acts .stores)
+      go : VotesStep (memoryAt n q l p i) (x .acts .by .event) (x .acts .after) (x .acts .by .records) (x .acts .stores)
           → Installing (memoryAt n q l p i) (memoryAt n q l (suc p) i)
       go (C.keeps r o v s) = not-both (sym o ∙ yes-installs)
       go (C.joins c e o j) = not-both (sym o ∙ yes-installs)
@@ -73,7 +70,7 @@ module _ {n q : ℕ} {l : Run} where
 module _ {n q : ℕ} {l : Run} (A : Allowed n q l) where
   pub takes-joins : {p i : ℕ} {c : Configuration} → Takes n q l p i c → Joins (memoryAt n q l p i) c (memoryAt n q l (suc p) i)
   unfolding isRegular
-  takes-joins {p} {i} {c} t = go (vote-change (memoryAt n q l p i) (x .moves))
+  takes-joins {p} {i} {c} t = go (votes-step (memoryAt n q l p i) (x .moves))
     where
       x : Acts n q l p i
       x = regular-acts A p i c t .0
@@ -81,7 +78,7 @@ module _ {n q : ℕ} {l : Run} (A : Allowed n q l) where
       e : x .by .event ≡ regular (c .id) (c .set)
       e = regular-acts A p i c t .1
 
-      go : VoteChange (memoryAt n q l p i) (x .by .event) (x .after) (x .by .records) (x .stores) → Joins (memoryAt n q l p i) c (memoryAt n q l (suc p) i)
+      go : VotesStep (memoryAt n q l p i) (x .by .event) (x .after) (x .by .records) (x .stores) → Joins (memoryAt n q l p i) c (memoryAt n q l (suc p) i)
       go (C.keeps r o v s) = not-both (sym r ∙ ap isRegular e)
       go (C.joins d f o j) =
           let g = regular-same (sym f ∙ e) in
@@ -97,12 +94,12 @@ module _ {n q : ℕ} {l : Run} (A : Allowed n q l) where
   -- An event that installs finds a configuration.
   pub installer-configured : {p i : ℕ} (x : Acts n q l p i) → installsBy (some (x .by .rule)) (memoryAt n q l p i) ≡ true
       → (c : Configuration) × (placeAt n q l i p .regular ≡ some c)
-  installer-configured {p} {i} x h = go (vote-change (memoryAt n q l p i) (x .moves))
+  installer-configured {p} {i} x h = go (votes-step (memoryAt n q l p i) (x .moves))
     where
       installs-here : C.installing (memoryAt n q l p i) (x .by .event) ≡ true
       installs-here = ap (λ z. installsBy z (memoryAt n q l p i)) (x .by .ruled) ∙ h
 
-      go : VoteChange (memoryAt n q l p i) (x .by .event) (x .after) (x .by .records) (x .stores) → (c : Configuration) × (placeAt n q l i p .regular ≡ some c)
+      go : VotesStep (memoryAt n q l p i) (x .by .event) (x .after) (x .by .records) (x .stores) → (c : Configuration) × (placeAt n q l i p .regular ≡ some c)
       go (C.keeps r o v s) = not-both (sym o ∙ installs-here)
       go (C.joins c e o j) = not-both (sym o ∙ installs-here)
       go (C.ends r o b j) = not-both (sym o ∙ installs-here)

@@ -1,14 +1,13 @@
 -- What judging the marks of collected States comes to: which mark is kept, with which bits, and that a kept mark leaves no quorum.
-use Prim.Native.Nat.{ℕ, zero, suc, _+_, _*_, _≤_, _<_}
-use mathlib.Core.Path.{_≡_, refl, sym, ap, subst, _∙_}
-use mathlib.Core.Bool.{Bool, true, false, not}
+use Prim.Native.Nat.{ℕ, _*_, _≤_, _<_}
+use mathlib.Core.Path.{_≡_, refl, sym, ap, _∙_}
+use mathlib.Core.Bool.{true, false, not}
 use mathlib.Core.List.{List, [], _∷_, List·Memᴰ, List·Memᴰ·head, List·Memᴰ·tail, List·Memᴰ·not-nil}
 use mathlib.Core.Logic.{_⊎_, inl, inr}
-use native.Mathlib.Omega.{arith}
-use Rattle.base.specs.Tests.{_and_, _or_, _=?_, _<?_, pick, not-both, eq-yes, eq-no, eq-holds, eq-fails, lt-holds, lt-no, and-holds, not-holds, Known, holds, fails, known}
-use Rattle.base.specs.Lists.{any, filter}
+use Rattle.base.specs.Tests.{_and_, _or_, _=?_, pick, not-both, eq-yes, eq-no, eq-holds, eq-fails, lt-holds, lt-no, and-holds, not-holds, Known, holds, fails, known}
+use Rattle.base.specs.Lists.{filter}
 use Rattle.base.specs.Members.{filter-from, any-yes, any-no}
-use Rattle.base.specs.Sets.{inSet, inside, withMember, size, common, union}
+use Rattle.base.specs.Sets.{inSet, inside, size, common, union}
 use Rattle.base.specs.SetLaws.{in-union, in-with-member, inside-member}
 use Rattle.format.specs.Types.{Primary, Mark, State}
 use Rattle.replication.specs.Machine.Types.{clearedMark}

@@ -1,23 +1,23 @@
 -- Once a primary component is installed in c, every server that marked in c keeps that mark, with no installer's bit, until it knows the primary or a later one.
 use Prim.Native.Nat.{ℕ, zero, suc, _+_, _≤_, _<_}
-use mathlib.Core.Path.{_≡_, refl, sym, ap, subst, subst₂, _∙_}
-use mathlib.Core.Bool.{Bool, true, false}
-use mathlib.Core.List.{List, [], _∷_, List·Memᴰ}
+use mathlib.Core.Path.{_≡_, sym, ap, subst, subst₂, _∙_}
+use mathlib.Core.Bool.{true}
+use mathlib.Core.List.{List, List·Memᴰ}
 use mathlib.Core.Logic.{_⊎_, inl, inr}
-use mathlib.Core.Option.{Option, none, some}
+use mathlib.Core.Option.{some}
 use native.Mathlib.Omega.{arith}
 use native.Mathlib.Decide.{decLt}
 use Rattle.base.specs.Chains.{strong}
 use Rattle.base.specs.Tests.{not-both}
 use Rattle.base.specs.Sets.{inSet}
 use Rattle.base.specs.SetLaws.{in-empty}
-use Rattle.format.specs.Types.{Primary, Mark, State}
-use Rattle.replication.specs.Machine.Types.{Mode, Trans-prim, No, Votes, Configuration, Server}
+use Rattle.format.specs.Types.{State}
+use Rattle.replication.specs.Machine.Types.{Trans-prim, No, Configuration, Server}
 use Rattle.replication.specs.Machine.Exchange.{takenPrimary, takenAttempt, judgedMark, keptMark}
 use Rattle.replication.specs.Machine.Step.{collected}
 use Rattle.replication.specs.Laws.Modes.{ModeFacts, attempting}
 use Rattle.replication.specs.Laws.Order.{inExchange}
-use Rattle.replication.specs.Runs.Run.{Run, Place, placeAt}
+use Rattle.replication.specs.Runs.Run.{Run}
 use Rattle.replication.specs.Runs.Happenings.{Takes}
 use Rattle.replication.specs.Runs.Allowed.{Allowed}
 use Rattle.replication.proofs.Runs.Coupling.{coupled}
@@ -25,18 +25,18 @@ use Rattle.replication.proofs.Runs.Modes.{mode-facts-at}
 use Rattle.replication.proofs.Runs.Order.{taker-member}
 use Rattle.replication.proofs.Runs.AllowedTurns.{memoryAt}
 use Rattle.replication.proofs.Runs.Sending.{regular-acts}
-use Rattle.replication.proofs.Agreement.Terms.{Image, EndsAt, MarksAt, InstallsAt, installed, ExchangeFacts}
+use Rattle.replication.proofs.Agreement.Terms.{Image, EndsAt, MarksAt, InstallsAt, ExchangeFacts}
 use Rattle.replication.proofs.Agreement.Votes.Changes as C
-use Rattle.replication.proofs.Agreement.Votes.Changes.{SameVotes, MarkJoins, Joins}
-use Rattle.replication.proofs.Agreement.Votes.Turns.{votesAt, lastAt, modeAt, VoteTurn, keeps, joins, ends, installs, vote-turn, Decides, with-quorum, without-quorum, ended}
+use Rattle.replication.proofs.Agreement.Votes.Changes.{MarkJoins, Joins}
+use Rattle.replication.proofs.Agreement.Votes.Turns.{votesAt, lastAt, modeAt, VotesTurn, keeps, joins, ends, installs, votes-turn, Decides, with-quorum, without-quorum, ended, ended-last}
 use Rattle.replication.proofs.Agreement.Votes.Events.{installing-at, ends-exchange}
-use Rattle.replication.proofs.Agreement.Votes.Phases.{ExchangesIn, AttemptsIn, attempts-in}
+use Rattle.replication.proofs.Agreement.Votes.Phases.{ExchangesIn, ends-entered, attempts-in}
 use Rattle.replication.proofs.Agreement.Votes.Judging.{Alike, no-quorum}
 use Rattle.replication.proofs.Agreement.Votes.Collected.{StateOf, own-state, own-mark-judged}
-use Rattle.replication.proofs.Agreement.Votes.Rising.{image-votes, ends-entered, ended-last}
+use Rattle.replication.proofs.Agreement.Votes.Rising.{image-votes}
 use Rattle.replication.proofs.Agreement.Votes.Marks.{taken-mark, marking-last, marking-mark, markings-agree}
 use Rattle.replication.proofs.Agreement.Votes.Attempts.{OneInstall, marking-taken, one-attempt}
-use Rattle.replication.proofs.Agreement.Votes.Present.{Waits, AfterAttempt, later-primary, waits, covered-index, installers-marking, markOf, indexOf, kept-present, present-waits}
+use Rattle.replication.proofs.Agreement.Votes.Present.{Waits, AfterAttempt, later-primary, waits, covered-index, installers-marking, markOf, indexOf, kept-present}
 
 module _ {n q : ℕ} {l : Run} (A : Allowed n q l) (X : ExchangeFacts n q l) {p i : ℕ} {c : Configuration} (inst : InstallsAt n q l p i c) where
   abbrev pub AfterAttemptAt : ℕ → ℕ → Type 0
@@ -100,7 +100,7 @@ module _ {n q : ℕ} {l : Run} (A : Allowed n q l) (X : ExchangeFacts n q l) {p 
         xs = collected (x .judged)
 
         entered : ExchangesIn n q l y v d
-        entered = ends-entered A X x h
+        entered = ends-entered A x h
 
         own : (s : State) × List·Memᴰ s xs × StateOf n q l y v d s
         own = own-state A X x
@@ -128,17 +128,17 @@ module _ {n q : ℕ} {l : Run} (A : Allowed n q l) (X : ExchangeFacts n q l) {p 
             subst (λ o. AfterAttempt n q l c (markOf A X inst) (indexOf A X inst) (lastAt n q l (suc y) v) o) (sym f)
             (waits
             (record {
-              index = omega (arith, ap (λ z. z .index) (ended-last A X x), covered-index (own .1), u .1 .index);
+              index = omega (arith, ap (λ z. z .index) (ended-last x), covered-index (own .1), u .1 .index);
               alike = u .1 .alike;
               without = u .1 .without;
             }))
 
         go : Dec (indexOf A X inst < takenPrimary xs .index) → AfterAttemptAt (suc y) v
-        go (yes a) = later-primary (omega (arith, ap (λ z. z .index) (ended-last A X x)))
+        go (yes a) = later-primary (omega (arith, ap (λ z. z .index) (ended-last x)))
         go (no a) = waiting (omega arith) (ended x)
 
     after-next : (y : ℕ) → ((z : ℕ) → z < suc y → (v r : ℕ) → MarksAt n q l r v c → r < z → AfterAttemptAt z v) → (v r : ℕ) → MarksAt n q l r v c → r < y
-        → VoteTurn n q l y v → AfterAttemptAt (suc y) v
+        → VotesTurn n q l y v → AfterAttemptAt (suc y) v
     after-next y before v r m o (keeps w s) = after-same y v (w .last) (w .mark) (before y (omega arith) v r m o)
     after-next y before v r m o (joins d t j) = after-joins t j (taker-member (marking-taken m .took)) (before y (omega arith) v r m o)
     after-next y before v r m o (ends d x h) = after-ends x h m o (λ z w u a. before z (omega arith) w u)
@@ -156,7 +156,7 @@ module _ {n q : ℕ} {l : Run} (A : Allowed n q l) (X : ExchangeFacts n q l) {p 
         step (suc y) before v r m h = go (decLt r y)
           where
             go : Dec (r < y) → AfterAttemptAt (suc y) v
-            go (yes a) = after-next y before v r m a (vote-turn A y v)
+            go (yes a) = after-next y before v r m a (votes-turn A y v)
             go (no a) = let e : r ≡ y = omega arith in after-marking (subst (λ z. MarksAt n q l z v c) e m)
 
     -- .. in every image.

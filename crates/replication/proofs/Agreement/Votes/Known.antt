@@ -1,31 +1,27 @@
 -- Every last primary that a server knows is the start's or was installed, in a configuration no later than one that the server has taken.
-use Prim.Native.Nat.{ℕ, zero, suc, _+_, _≤_, _<_}
-use mathlib.Core.Path.{_≡_, refl, sym, ap, subst, _∙_}
-use mathlib.Core.Bool.{Bool, true, false}
-use mathlib.Core.List.{List, [], _∷_, List·Memᴰ}
-use mathlib.Core.Option.{Option, none, some}
+use Prim.Native.Nat.{ℕ, zero, suc, _≤_, _<_}
+use mathlib.Core.Path.{_≡_, sym, ap, subst, _∙_}
 use native.Mathlib.Omega.{arith}
 use native.Mathlib.Decide.{decLt}
 use Rattle.base.specs.Chains.{strong}
 use Rattle.base.specs.Sets.{everyone}
 use Rattle.format.specs.Types.{Primary, State}
 use Rattle.replication.specs.Machine.Types.{Configuration, Server, start}
-use Rattle.replication.specs.Machine.Exchange.{takenPrimary}
 use Rattle.replication.specs.Machine.Step.{collected}
 use Rattle.replication.specs.Images.{started}
-use Rattle.replication.specs.Runs.Run.{Run, beginning, worldAt, placeAt}
+use Rattle.replication.specs.Runs.Run.{Run, beginning}
 use Rattle.replication.specs.Runs.Happenings.{Of, Takes}
 use Rattle.replication.specs.Runs.Allowed.{Allowed}
 use Rattle.replication.proofs.Runs.Places.{world-at-start}
 use Rattle.replication.proofs.Runs.Shifts.{comes-of}
-use Rattle.replication.proofs.Runs.Entries.{Had, had}
+use Rattle.replication.proofs.Runs.Entries.{had}
 use Rattle.replication.proofs.Runs.Order.{time, time-rises, configuration-time}
-use Rattle.replication.proofs.Agreement.Terms.{Image, EndsAt, InstallsAt, installed, ExchangeFacts}
-use Rattle.replication.proofs.Agreement.Votes.Turns.{lastAt, VoteTurn, keeps, joins, ends, installs, vote-turn}
+use Rattle.replication.proofs.Agreement.Terms.{Image, InstallsAt, installed, ExchangeFacts}
+use Rattle.replication.proofs.Agreement.Votes.Turns.{lastAt, VotesTurn, keeps, joins, ends, installs, votes-turn, ended-last}
 use Rattle.replication.proofs.Agreement.Votes.Events.{takes-joins}
 use Rattle.replication.proofs.Agreement.Votes.Judging.{taken-from}
 use Rattle.replication.proofs.Agreement.Votes.Collected.{StateOf, own-state, state-from}
-use Rattle.replication.proofs.Agreement.Votes.Rising.{image-votes, ended-last}
+use Rattle.replication.proofs.Agreement.Votes.Rising.{image-votes}
 
 -- "last primary (index 0, attempt 0, all servers)"
 abbrev pub startPrimary : ℕ → Primary
@@ -66,7 +62,7 @@ module _ {n q : ℕ} {l : Run} (A : Allowed n q l) where
     known-told {p} {i} {k} {y} {w} {c} f (of-install r j x e d g z b s u m o a) t h v d′ =
         of-install r j x w d c z (omega arith) (s ∙ sym f) u v (omega arith) (omega (arith, time-up-to (comes-of m) (comes-of t) (omega arith), configuration-time A t v))
 
-    known-next : (p : ℕ) → ((x : ℕ) → x < suc p → (i : ℕ) → KnownPrimary x i (lastAt n q l x i)) → (i : ℕ) → VoteTurn n q l p i
+    known-next : (p : ℕ) → ((x : ℕ) → x < suc p → (i : ℕ) → KnownPrimary x i (lastAt n q l x i)) → (i : ℕ) → VotesTurn n q l p i
         → KnownPrimary (suc p) i (lastAt n q l (suc p) i)
     known-next p below i (keeps v s) = known-longer (v .last) (below p (omega arith) i)
     known-next p below i (joins c t j) = known-longer (j .last) (below p (omega arith) i)
@@ -75,7 +71,7 @@ module _ {n q : ℕ} {l : Run} (A : Allowed n q l) where
         let r = taken-from (own .0) (collected (x .judged)) (own .1) in
         let y = state-from A X x (r .0) (r .1) in
         let s = y .2 in
-        known-told (ended-last A X x ∙ r .2 ∙ s .last) (below (suc (s .took-at)) (omega (arith, s .earlier)) (y .0)) (s .took) (s .earlier) (own .2 .took) (own .2 .earlier)
+        known-told (ended-last x ∙ r .2 ∙ s .last) (below (suc (s .took-at)) (omega (arith, s .earlier)) (y .0)) (s .took) (s .earlier) (own .2 .took) (own .2 .earlier)
     known-next p below i (installs c x) =
         let h = had n q l p i c (x .here) in
         of-install p i (h .took-at) (h .took-at) c c x (omega arith) (ap (λ s. s .votes .last) (sym (x .acts .memory-next))) (h .took) (h .took)
@@ -86,7 +82,7 @@ module _ {n q : ℕ} {l : Run} (A : Allowed n q l) where
       where
         step : (p : ℕ) → ((x : ℕ) → x < p → (i : ℕ) → KnownPrimary x i (lastAt n q l x i)) → (i : ℕ) → KnownPrimary p i (lastAt n q l p i)
         step zero below i = of-start (last-at-start i)
-        step (suc p) below i = known-next p below i (vote-turn A p i)
+        step (suc p) below i = known-next p below i (votes-turn A p i)
 
     -- .. in every image.
     pub image-known : {p i : ℕ} {s : Server} → Image n q l p i s → KnownPrimary p i (s .votes .last)

@@ -1,27 +1,25 @@
 -- Marks and attempts: what a marking leaves, what is installed, and that every mark is of the server's own marking.
 use Prim.Native.Nat.{ℕ, zero, suc, _+_, _≤_, _<_}
-use mathlib.Core.Path.{_≡_, refl, sym, ap, subst, _∙_}
-use mathlib.Core.Bool.{Bool, true, false}
-use mathlib.Core.List.{List, [], _∷_, List·Memᴰ}
-use mathlib.Core.Option.{Option, none, some}
+use mathlib.Core.Path.{_≡_, refl, sym, ap, _∙_}
+use mathlib.Core.List.{List}
 use native.Mathlib.Omega.{arith}
 use Rattle.base.specs.Chains.{strong}
 use Rattle.base.specs.Tests.{not-both}
 use Rattle.format.specs.Types.{Primary, Mark, State}
-use Rattle.replication.specs.Machine.Types.{Votes, Configuration, Server, start, clearedMark}
-use Rattle.replication.specs.Machine.Exchange.{takenPrimary, takenAttempt, takenVotes, attempted, ownMark, judgedMark, keptMark, quorum}
+use Rattle.replication.specs.Machine.Types.{Votes, Configuration, start, clearedMark}
+use Rattle.replication.specs.Machine.Exchange.{takenPrimary, takenAttempt, takenVotes, attempted, ownMark, judgedMark, keptMark}
 use Rattle.replication.specs.Machine.Step.{collected}
 use Rattle.replication.specs.Images.{started}
-use Rattle.replication.specs.Runs.Run.{Run, beginning, worldAt, placeAt}
+use Rattle.replication.specs.Runs.Run.{Run, beginning}
 use Rattle.replication.specs.Runs.Allowed.{Allowed}
 use Rattle.replication.proofs.Runs.Places.{world-at-start}
 use Rattle.replication.proofs.Runs.AllowedTurns.{memoryAt}
 use Rattle.replication.proofs.Agreement.Terms.{EndsAt, MarksAt, InstallsAt, installed, ExchangeFacts}
 use Rattle.replication.proofs.Agreement.Votes.Changes as C
-use Rattle.replication.proofs.Agreement.Votes.Changes.{SameVotes, MarkJoins}
-use Rattle.replication.proofs.Agreement.Votes.Turns.{votesAt, lastAt, VoteTurn, keeps, joins, ends, installs, vote-turn, Decides, with-quorum, without-quorum, ended}
+use Rattle.replication.proofs.Agreement.Votes.Changes.{MarkJoins}
+use Rattle.replication.proofs.Agreement.Votes.Turns.{votesAt, lastAt, VotesTurn, keeps, joins, ends, installs, votes-turn, Decides, with-quorum, without-quorum, ended}
 use Rattle.replication.proofs.Agreement.Votes.Events.{installing-at}
-use Rattle.replication.proofs.Agreement.Votes.Phases.{AttemptsIn, installs-attempt}
+use Rattle.replication.proofs.Agreement.Votes.Phases.{installs-attempt}
 use Rattle.replication.proofs.Agreement.Votes.Judging.{Alike, Judged, cleared, kept, judged?}
 use Rattle.replication.proofs.Agreement.Votes.Collected.{StateOf, own-state, own-mark-judged}
 
@@ -123,7 +121,7 @@ module _ {n q : ℕ} {l : Run} (A : Allowed n q l) (X : ExchangeFacts n q l) whe
       (f (ap (λ z. z .status) (sym g) ∙ h))
 
   own-next : (p : ℕ) → ((x : ℕ) → x < suc p → (i : ℕ) → votesAt n q l x i .mark .status ≡ 1 → OwnMarking x i (votesAt n q l x i .mark)) → (i : ℕ)
-      → VoteTurn n q l p i → votesAt n q l (suc p) i .mark .status ≡ 1 → OwnMarking (suc p) i (votesAt n q l (suc p) i .mark)
+      → VotesTurn n q l p i → votesAt n q l (suc p) i .mark .status ≡ 1 → OwnMarking (suc p) i (votesAt n q l (suc p) i .mark)
   unfolding clearedMark
   own-next p below i (keeps v s) h = own-kept (v .mark) h (below p (omega arith) i)
   own-next p below i (joins c t j) h = go (j .mark)
@@ -153,4 +151,4 @@ module _ {n q : ℕ} {l : Run} (A : Allowed n q l) (X : ExchangeFacts n q l) whe
       step : (p : ℕ) → ((x : ℕ) → x < p → (i : ℕ) → votesAt n q l x i .mark .status ≡ 1 → OwnMarking x i (votesAt n q l x i .mark)) → (i : ℕ)
           → votesAt n q l p i .mark .status ≡ 1 → OwnMarking p i (votesAt n q l p i .mark)
       step zero below i h = absurd (omega (arith, ap (λ w. w .images i .memory .votes .mark .status) (world-at-start n q l)))
-      step (suc p) below i h = own-next p below i (vote-turn A p i) h
+      step (suc p) below i h = own-next p below i (votes-turn A p i) h

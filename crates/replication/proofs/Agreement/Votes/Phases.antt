@@ -1,21 +1,19 @@
 -- A server in an exchange has the votes with which it took its configuration; one that attempts a primary component has those that it marked.
-use Prim.Native.Nat.{ℕ, zero, suc, _+_, _≤_, _<_}
-use mathlib.Core.Path.{_≡_, refl, sym, ap, subst, _∙_}
-use mathlib.Core.Bool.{Bool, true, false}
-use mathlib.Core.List.{List, [], _∷_}
+use Prim.Native.Nat.{ℕ, zero, suc, _≤_, _<_}
+use mathlib.Core.Path.{_≡_, sym, ap, subst, _∙_}
+use mathlib.Core.Bool.{true}
 use mathlib.Core.Logic.{_⊎_, inl, inr}
-use mathlib.Core.Option.{Option, none, some}
+use mathlib.Core.Option.{some}
 use native.Mathlib.Omega.{arith}
 use native.Mathlib.Decide.{decLt}
 use Rattle.base.specs.Tests.{not-both}
 use Rattle.base.specs.AtLaws.{some-same}
-use Rattle.format.specs.Types.{State}
-use Rattle.replication.specs.Machine.Types.{Mode, Non-prim, Construct, Un, Configuration, Server, start}
+use Rattle.replication.specs.Machine.Types.{Non-prim, Construct, Un, Configuration, start}
 use Rattle.replication.specs.Machine.Step.{collected}
 use Rattle.replication.specs.Images.{started}
 use Rattle.replication.specs.Laws.Modes.{attempting}
 use Rattle.replication.specs.Laws.Order.{inExchange}
-use Rattle.replication.specs.Runs.Run.{Run, Place, beginning, worldAt, placeAt}
+use Rattle.replication.specs.Runs.Run.{Run, beginning}
 use Rattle.replication.specs.Runs.Happenings.{Takes}
 use Rattle.replication.specs.Runs.Allowed.{Allowed}
 use Rattle.replication.proofs.Runs.Places.{world-at-start}
@@ -23,7 +21,7 @@ use Rattle.replication.proofs.Runs.Coupling.{coupled}
 use Rattle.replication.proofs.Runs.AllowedTurns.{memoryAt}
 use Rattle.replication.proofs.Agreement.Terms.{EndsAt, MarksAt, InstallsAt}
 use Rattle.replication.proofs.Agreement.Votes.Changes.{SameVotes, same-votes-refl, same-votes-trans}
-use Rattle.replication.proofs.Agreement.Votes.Turns.{votesAt, modeAt, VoteTurn, keeps, joins, ends, installs, vote-turn, Decides, with-quorum, without-quorum, ended}
+use Rattle.replication.proofs.Agreement.Votes.Turns.{votesAt, modeAt, VotesTurn, keeps, joins, ends, installs, votes-turn, Decides, with-quorum, without-quorum, ended}
 use Rattle.replication.proofs.Agreement.Votes.Events.{installing-at, ends-exchange, installs-outside}
 
 module _ (n q : ℕ) (l : Run) where
@@ -52,7 +50,7 @@ module _ {n q : ℕ} {l : Run} (A : Allowed n q l) where
   pub exchanges-in : (p i : ℕ) → inExchange (modeAt n q l p i) ≡ true → (c : Configuration) × ExchangesIn n q l p i c
   unfolding inExchange
   exchanges-in zero i h = not-both (sym (ap inExchange (mode-at-start n q l i)) ∙ h)
-  exchanges-in (suc p) i h = go (vote-turn A p i) (exchanges-in p i)
+  exchanges-in (suc p) i h = go (votes-turn A p i) (exchanges-in p i)
     where
       longer : (c : Configuration) → SameVotes (votesAt n q l p i) (votesAt n q l (suc p) i)
           → memoryAt n q l (suc p) i .membership .configuration ≡ memoryAt n q l p i .membership .configuration → ExchangesIn n q l p i c → ExchangesIn n q l (suc p) i c
@@ -69,7 +67,7 @@ module _ {n q : ℕ} {l : Run} (A : Allowed n q l) where
           more y a b (yes d) = let k : suc p ≡ y = omega arith in subst (λ z. inExchange (modeAt n q l z i) ≡ true) k h
           more y a b (no d) = x .throughout y a (omega arith)
 
-      go : VoteTurn n q l p i → (inExchange (modeAt n q l p i) ≡ true → (c : Configuration) × ExchangesIn n q l p i c)
+      go : VotesTurn n q l p i → (inExchange (modeAt n q l p i) ≡ true → (c : Configuration) × ExchangesIn n q l p i c)
           → (c : Configuration) × ExchangesIn n q l (suc p) i c
       go (keeps v s) f = let e = s .exchange h in let x = f (e .0) in (x .0, longer (x .0) v (e .1) (x .1))
       go (joins c t j) f = (
@@ -86,10 +84,16 @@ module _ {n q : ℕ} {l : Run} (A : Allowed n q l) where
       go (ends c x e) f = not-both (sym (ends-exchange x) ∙ h)
       go (installs c x) f = not-both (sym (installs-outside x .0) ∙ h)
 
+  -- An exchange that ends was entered in its configuration.
+  pub ends-entered : {p i : ℕ} {c : Configuration} → EndsAt n q l p i c → inExchange (modeAt n q l p i) ≡ true → ExchangesIn n q l p i c
+  ends-entered {p} {i} {c} x h =
+      let y = exchanges-in p i h in
+      subst (λ d. ExchangesIn n q l p i d) (some-same (sym (y .1 .configuration) ∙ ap (λ z. z .regular) (coupled A p i (x .acts .up) ∙ x .here))) (y .1)
+
   pub attempts-in : (p i : ℕ) → attempting (modeAt n q l p i) ≡ true → (c : Configuration) × AttemptsIn n q l p i c
   unfolding attempting
   attempts-in zero i h = not-both (sym (ap attempting (mode-at-start n q l i)) ∙ h)
-  attempts-in (suc p) i h = go (vote-turn A p i) (attempts-in p i)
+  attempts-in (suc p) i h = go (votes-turn A p i) (attempts-in p i)
     where
       longer : (c : Configuration) → SameVotes (votesAt n q l p i) (votesAt n q l (suc p) i)
           → memoryAt n q l (suc p) i .membership .configuration ≡ memoryAt n q l p i .membership .configuration → AttemptsIn n q l p i c → AttemptsIn n q l (suc p) i c
@@ -106,7 +110,7 @@ module _ {n q : ℕ} {l : Run} (A : Allowed n q l) where
           (c, record { marked-at = p; earlier = omega arith; marking = record { ending = x; has-quorum = k }; votes = same-votes-refl _; configuration = d })
       ending c x (without-quorum k v m) = not-both (sym (ap attempting m) ∙ h)
 
-      go : VoteTurn n q l p i → (attempting (modeAt n q l p i) ≡ true → (c : Configuration) × AttemptsIn n q l p i c)
+      go : VotesTurn n q l p i → (attempting (modeAt n q l p i) ≡ true → (c : Configuration) × AttemptsIn n q l p i c)
           → (c : Configuration) × AttemptsIn n q l (suc p) i c
       go (keeps v s) f = let e = s .attempt h in let x = f (e .0) in (x .0, longer (x .0) v (e .1) (x .1))
       go (joins c t j) f = not-both (sym (ap attempting (j .mode)) ∙ h)

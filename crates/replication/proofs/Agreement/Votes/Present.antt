@@ -1,22 +1,21 @@
 -- A configuration c in which a primary component is installed, seen from a later exchange that takes no later primary: the members of c that are present have the
 -- mark of c, no installer of c is present or in their bits, and so judging keeps their marks.
-use Prim.Native.Nat.{ℕ, zero, suc, _+_, _≤_, _<_}
-use mathlib.Core.Path.{_≡_, refl, sym, ap, subst, subst₂, _∙_}
-use mathlib.Core.Bool.{Bool, true, false}
-use mathlib.Core.List.{List, [], _∷_, List·Memᴰ}
-use mathlib.Core.Option.{Option, none, some}
+use Prim.Native.Nat.{ℕ, suc, _+_, _≤_, _<_}
+use mathlib.Core.Path.{_≡_, sym, ap, subst₂, _∙_}
+use mathlib.Core.Bool.{true, false}
+use mathlib.Core.List.{List, List·Memᴰ}
 use native.Mathlib.Omega.{arith}
 use Rattle.base.specs.Sets.{inSet}
 use Rattle.base.specs.SetLaws.{member-below}
 use Rattle.format.specs.Types.{Primary, Mark, State}
-use Rattle.replication.specs.Machine.Types.{Votes, Configuration, Server}
-use Rattle.replication.specs.Machine.Exchange.{takenPrimary, takenAttempt, judgedMark, keptMark, joinedBits}
+use Rattle.replication.specs.Machine.Types.{Configuration}
+use Rattle.replication.specs.Machine.Exchange.{takenPrimary, judgedMark, keptMark, joinedBits}
 use Rattle.replication.specs.Machine.Step.{collected}
-use Rattle.replication.specs.Runs.Run.{Run, Place, placeAt}
+use Rattle.replication.specs.Runs.Run.{Run}
 use Rattle.replication.specs.Runs.Happenings.{Takes}
 use Rattle.replication.specs.Runs.Allowed.{Allowed}
 use Rattle.replication.proofs.Step.Taken.{NotLater, lower, level, taken-covers}
-use Rattle.replication.proofs.Runs.Entries.{Had, had}
+use Rattle.replication.proofs.Runs.Entries.{had}
 use Rattle.replication.proofs.Runs.Order.{taker-member, configurations-ordered}
 use Rattle.replication.proofs.Agreement.Terms.{EndsAt, MarksAt, InstallsAt, installed, ExchangeFacts}
 use Rattle.replication.proofs.Agreement.Votes.Turns.{votesAt, lastAt}
@@ -25,8 +24,8 @@ use Rattle.replication.proofs.Agreement.Votes.Phases.{AttemptsIn, insta
 use Rattle.replication.proofs.Agreement.Votes.Judging.{Alike, mark-kept, rule-a-no, rule-b-no, rule-c-no, joined-without}
 use Rattle.replication.proofs.Agreement.Votes.Collected.{taken-below, StateOf, state-of, state-from}
 use Rattle.replication.proofs.Agreement.Votes.Rising.{index-rises}
-use Rattle.replication.proofs.Agreement.Votes.Marks.{attemptMark, attemptPrimary, marking-mark, installed-attempted, own-marking, OwnMarking}
-use Rattle.replication.proofs.Agreement.Votes.Attempts.{installed-index, marking-taken}
+use Rattle.replication.proofs.Agreement.Votes.Marks.{attemptMark, marking-mark, installed-attempted, own-marking}
+use Rattle.replication.proofs.Agreement.Votes.Attempts.{marking-taken}
 
 module _ (n q : ℕ) (l : Run) (c : Configuration) where
   -- No installer of c is in the set.
@@ -97,7 +96,7 @@ module _ {n q : ℕ} {l : Run} (A : Allowed n q l) (X : ExchangeFacts n q l) {p 
           let v = had n q l r j c (z .here) in
           let f = done-before A (v .took) (k .2 .took) (z .here) (installs-outside z .0) (configurations-ordered A took-c took-d (v .took) (k .2 .took) order) in
           omega
-          (arith, index-rises A X j (suc r) (suc (k .2 .took-at)) (omega arith), covered-index (k .1), ap (λ a. a .index) (k .2 .last), installed-next z, ap (λ a. a .votes .last .index) (z .acts .memory-next))
+          (arith, index-rises A j (suc r) (suc (k .2 .took-at)) (omega arith), covered-index (k .1), ap (λ a. a .index) (k .2 .last), installed-next z, ap (λ a. a .votes .last .index) (z .acts .memory-next))
 
       -- Whoever has a mark with the set of c is a member of c.
       marked-member : (w : ℕ) (s : State) → StateOf n q l y w d s → s .mark .status ≡ 1 → s .mark .set ≡ c .set → inSet w (c .set) ≡ true

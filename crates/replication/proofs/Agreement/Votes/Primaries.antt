@@ -1,28 +1,27 @@
 -- The primary half of demand 3: two primary components are equal exactly when their indexes are; every last primary known anywhere is one of them.
-use Prim.Native.Nat.{ℕ, zero, suc, _+_, _≤_, _<_}
+use Prim.Native.Nat.{ℕ}
 use mathlib.Core.Path.{_≡_, refl, sym, ap, subst, _∙_}
-use mathlib.Core.Bool.{Bool, true, false}
-use mathlib.Core.List.{List, [], _∷_}
-use mathlib.Core.Logic.{_⊎_, inl, inr, _↔_}
-use mathlib.Core.Option.{Option, none, some}
+use mathlib.Core.Bool.{Bool, true}
+use mathlib.Core.List.{List}
+use mathlib.Core.Logic.{_⊎_, inl, inr}
+use mathlib.Core.Option.{some}
 use native.Mathlib.Omega.{arith}
 use Rattle.base.specs.Tests.{not-both}
 use Rattle.base.specs.Lists.{at}
 use Rattle.base.specs.AtLaws.{some-same}
-use Rattle.format.specs.Types.{Action, Primary, Record, recovery, Reading, says}
-use Rattle.format.specs.Read.{read}
-use Rattle.replication.specs.Machine.Types.{Configuration, Server, Outcome, taken, contextOf}
+use Rattle.format.specs.Types.{Action, Primary, recovery, says}
+use Rattle.replication.specs.Machine.Types.{Configuration, Server, Outcome, taken}
 use Rattle.replication.specs.Machine.Rules.{ruleFor}
 use Rattle.replication.specs.Machine.Step.{step, installsBy, installsOn}
 use Rattle.replication.specs.Machine.Step as S
-use Rattle.replication.specs.Images.{Images, isRecovery, sourceOf, arrive}
-use Rattle.replication.specs.Runs.Run.{Entry, event, Run, worldAt, placeAt, heardAt}
+use Rattle.replication.specs.Images.{isRecovery, sourceOf, arrive}
+use Rattle.replication.specs.Runs.Run.{event, Run, worldAt, heardAt}
 use Rattle.replication.specs.Runs.Allowed.{Allowed}
 use Rattle.replication.specs.Runs.Claim.{IsPrimary, of-start, of-install, PrimariesAgree, KnownPrimaries}
 use Rattle.replication.proofs.Runs.Places.{of-event, event-entry, event-not-crash}
 use Rattle.replication.proofs.Runs.Coupling.{Source, from-store, from-memory, source}
-use Rattle.replication.proofs.Runs.AllowedTurns.{memoryAt, storeAt, Acts, Recovers, Refuses, AllowedTurn, rests, crashes, refuses, recovers, acts, allowed-turn}
-use Rattle.replication.proofs.Agreement.Terms.{Image, in-memory, in-store, InstallsAt, installed, ExchangeFacts}
+use Rattle.replication.proofs.Runs.AllowedTurns.{memoryAt, storeAt, Acts, Refuses, AllowedTurn, rests, crashes, refuses, recovers, acts, allowed-turn}
+use Rattle.replication.proofs.Agreement.Terms.{Image, in-store, InstallsAt, installed, ExchangeFacts}
 use Rattle.replication.proofs.Agreement.Votes.Events.{installer-configured}
 use Rattle.replication.proofs.Agreement.Votes.Known as K
 use Rattle.replication.proofs.Agreement.Votes.Known.{startPrimary, KnownPrimary, known-primary, image-known}

@@ -1,39 +1,34 @@
 -- What each place of an allowed run does to the votes of a server.
-use Prim.Native.Nat.{ℕ, zero, suc, _+_, _≤_, _<_}
-use mathlib.Core.Path.{_≡_, refl, sym, ap, subst, _∙_}
-use mathlib.Core.Bool.{Bool, true, false}
-use mathlib.Core.List.{List, [], _∷_}
+use Prim.Native.Nat.{ℕ, suc}
+use mathlib.Core.Path.{_≡_, sym, ap, subst, _∙_}
+use mathlib.Core.Bool.{true, false}
+use mathlib.Core.List.{List}
 use mathlib.Core.Logic.{_⊎_, inl, inr}
 use mathlib.Core.Option.{Option, none, some}
-use Rattle.base.specs.Tests.{pick, not-both}
-use Rattle.base.specs.AtLaws.{some-same}
 use Rattle.format.specs.Types.{Primary, State, Record, regular, says}
-use Rattle.replication.specs.Machine.Types.{Mode, Non-prim, Reg-prim, Trans-prim, Exchange-states, Exchange-actions, Construct, No, Un, Votes, Configuration, Server}
-use Rattle.replication.specs.Machine.Exchange.{quorum, takenVotes, attempted}
+use Rattle.replication.specs.Machine.Types.{Mode, Non-prim, Construct, Un, Votes, Configuration, Server}
+use Rattle.replication.specs.Machine.Exchange.{takenPrimary, quorum, takenVotes, attempted}
 use Rattle.replication.specs.Machine.Requests.{numbered, sendHeld, recovered}
 use Rattle.replication.specs.Machine.Step.{theSet, hereSet, collected, decided, attempting, installsBy}
-use Rattle.replication.specs.Machine.WellFormedFacts.{Invariant}
-use Rattle.replication.specs.Laws.Modes.{InRegular, InTransitional}
 use Rattle.replication.specs.Laws.Modes as M
 use Rattle.replication.specs.Laws.Order.{inExchange}
 use Rattle.replication.specs.Laws.Transitions as L
 use Rattle.replication.specs.Laws.Transitions.{Ends}
-use Rattle.replication.specs.Runs.Run.{Run, Place, worldAt, placeAt}
-use Rattle.replication.specs.Runs.Happenings.{Comes, Takes}
+use Rattle.replication.specs.Runs.Run.{Run, worldAt, placeAt}
+use Rattle.replication.specs.Runs.Happenings.{Takes}
 use Rattle.replication.specs.Runs.Allowed.{Allowed}
 use Rattle.replication.proofs.Step.Formed.{every-state-in}
 use Rattle.replication.proofs.WellFormed.Facts.{facts-well-formed}
 use Rattle.replication.proofs.Runs.Places.{of-event}
 use Rattle.replication.proofs.Runs.Numbers.{numbers, invariant-at}
-use Rattle.replication.proofs.Runs.Modes.{Stands, Standing, standing, standing-in}
-use Rattle.replication.proofs.Runs.PlaceMoves.{placeOf}
+use Rattle.replication.proofs.Runs.Modes.{Standing, standing, standing-in}
 use Rattle.replication.proofs.Runs.Coupling.{coupled}
-use Rattle.replication.proofs.Runs.ControlPart.{control-at, control-next}
-use Rattle.replication.proofs.Runs.AllowedTurns.{memoryAt, storeAt, Acts, Recovers, Refuses, AllowedTurn, rests, crashes, refuses, recovers, acts, allowed-turn}
-use Rattle.replication.proofs.Runs.Sending.{regular-acts}
+use Rattle.replication.proofs.Runs.ControlPart.{control-at}
+use Rattle.replication.proofs.Runs.AllowedTurns.{memoryAt, Acts, Recovers, AllowedTurn, rests, crashes, refuses, recovers, acts, allowed-turn}
+use Rattle.replication.proofs.Runs.OwnStates.{exchange-regular}
 use Rattle.replication.proofs.Agreement.Terms.{EndsAt, InstallsAt}
 use Rattle.replication.proofs.Agreement.Votes.Changes as C
-use Rattle.replication.proofs.Agreement.Votes.Changes.{SameVotes, Stays, isRegular, Joins, Ending, Installing, VoteChange, vote-change, same-membership, outside}
+use Rattle.replication.proofs.Agreement.Votes.Changes.{SameVotes, Stays, Joins, VotesStep, votes-step, same-membership, outside}
 
 module _ (n q : ℕ) (l : Run) where
   abbrev pub votesAt : ℕ → ℕ → Votes
@@ -45,29 +40,17 @@ module _ (n q : ℕ) (l : Run) where
   abbrev pub modeAt : ℕ → ℕ → Mode
   modeAt p i = memoryAt n q l p i .membership .mode
 
-  pub data VoteTurn (p i : ℕ) : Type 0 where
-    keeps : SameVotes (votesAt p i) (votesAt (suc p) i) → Stays (memoryAt n q l p i) (memoryAt n q l (suc p) i) → VoteTurn p i
-    joins : (c : Configuration) → Takes n q l p i c → Joins (memoryAt n q l p i) c (memoryAt n q l (suc p) i) → VoteTurn p i
-    ends : (c : Configuration) → EndsAt n q l p i c → inExchange (modeAt p i) ≡ true → VoteTurn p i
-    installs : (c : Configuration) → InstallsAt n q l p i c → VoteTurn p i
+  pub data VotesTurn (p i : ℕ) : Type 0 where
+    keeps : SameVotes (votesAt p i) (votesAt (suc p) i) → Stays (memoryAt n q l p i) (memoryAt n q l (suc p) i) → VotesTurn p i
+    joins : (c : Configuration) → Takes n q l p i c → Joins (memoryAt n q l p i) c (memoryAt n q l (suc p) i) → VotesTurn p i
+    ends : (c : Configuration) → EndsAt n q l p i c → inExchange (modeAt p i) ≡ true → VotesTurn p i
+    installs : (c : Configuration) → InstallsAt n q l p i c → VotesTurn p i
 
   -- What the end of an exchange leaves.
   pub data Decides (p i : ℕ) (c : Configuration) (xs : List State) : Type 0 where
     with-quorum : quorum xs (c .set) ≡ true → votesAt (suc p) i ≡ attempted (c .set) (takenVotes i xs) → modeAt (suc p) i ≡ Construct
         → memoryAt n q l (suc p) i .membership .configuration ≡ some c → Decides p i c xs
     without-quorum : quorum xs (c .set) ≡ false → votesAt (suc p) i ≡ takenVotes i xs → modeAt (suc p) i ≡ Non-prim → Decides p i c xs
-
--- Where an exchange goes on, the server's latest configuration is a regular one.
-exchange-regular : (m : Mode) (c : Option Configuration) (t : Option ℕ) → inExchange m ≡ true → Stands m c t → InRegular c t
-unfolding inExchange
-exchange-regular Non-prim c t e h = not-both e
-exchange-regular Reg-prim c t e h = not-both e
-exchange-regular Trans-prim c t e h = not-both e
-exchange-regular Exchange-states c t e h = h
-exchange-regular Exchange-actions c t e h = h
-exchange-regular Construct c t e h = not-both e
-exchange-regular No c t e h = not-both e
-exchange-regular Un c t e h = not-both e
 
 -- A server that installs has a configuration.
 pub installer-placed : (s : Server) → (s .membership .mode ≡ Construct) ⊎ (s .membership .mode ≡ Un) → Standing s
@@ -90,12 +73,20 @@ module _ {n q : ℕ} {l : Run} where
   pub ended : {p i : ℕ} {c : Configuration} (x : EndsAt n q l p i c) → Decides n q l p i c (collected (x .judged))
   ended {p} {i} {c} x = decides p i c (x .judged) (x .acts .after) (x .acts .by .records) (x .ends) (x .acts .memory-next) (x .of-me) (x .configuration)
 
+  pub ended-last : {p i : ℕ} {c : Configuration} (x : EndsAt n q l p i c) → lastAt n q l (suc p) i ≡ takenPrimary (collected (x .judged))
+  unfolding attempted takenVotes
+  ended-last {p} {i} {c} x = go (ended x)
+    where
+      go : Decides n q l p i c (collected (x .judged)) → lastAt n q l (suc p) i ≡ takenPrimary (collected (x .judged))
+      go (with-quorum h v m d) = ap (λ z. z .last) v
+      go (without-quorum h v m) = ap (λ z. z .last) v
+
 module _ {n q : ℕ} {l : Run} (A : Allowed n q l) where
   place-known : (p i : ℕ) → worldAt n q l p .down i ≡ false → (c : Option Configuration) (t : Option ℕ) → memoryAt n q l p i .membership .configuration ≡ c
       → memoryAt n q l p i .membership .transitional ≡ t → placeAt n q l i p ≡ record { regular = c; transitional = t }
   place-known p i u c t e f = sym (coupled A p i u) ∙ (λ j. record { regular = e j; transitional = f j })
 
-  acting : (p i : ℕ) (x : Acts n q l p i) → VoteChange (memoryAt n q l p i) (x .by .event) (x .after) (x .by .records) (x .stores) → VoteTurn n q l p i
+  acting : (p i : ℕ) (x : Acts n q l p i) → VotesStep (memoryAt n q l p i) (x .by .event) (x .after) (x .by .records) (x .stores) → VotesTurn n q l p i
   acting p i x (C.keeps r o v s) =
       keeps (subst (λ t. SameVotes (votesAt n q l p i) (t .votes)) (sym (x .memory-next)) v) (subst (λ t. Stays (memoryAt n q l p i) t) (sym (x .memory-next)) s)
   acting p i x (C.joins c e o j) =
@@ -124,7 +115,7 @@ module _ {n q : ℕ} {l : Run} (A : Allowed n q l) where
       let g = installer-placed s (j .from) (standing n q l i p .memory) in
       installs (g .0) (record { acts = x; installs = k; here = ap (λ z. z .regular) (sym (coupled A p i (x .up))) ∙ g .1 })
 
-  recovering : (p i : ℕ) → Recovers n q l p i → VoteTurn n q l p i
+  recovering : (p i : ℕ) → Recovers n q l p i → VotesTurn n q l p i
   unfolding recovered inExchange M.attempting
   recovering p i x =
       let e = x .memory-next in
@@ -133,18 +124,18 @@ module _ {n q : ℕ} {l : Run} (A : Allowed n q l) where
       (record { last = ap (λ s. s .votes .last) e ∙ sym (c .last); attempt = ap (λ s. s .votes .attempt) e ∙ sym (c .attempt); mark = ap (λ s. s .votes .mark) e ∙ sym (c .mark) })
       (outside _ _ (ap (λ s. inExchange (s .membership .mode)) e) (ap (λ s. M.attempting (s .membership .mode)) e))
 
-  pub vote-turn : (p i : ℕ) → VoteTurn n q l p i
-  vote-turn p i = go (allowed-turn A p i)
+  pub votes-turn : (p i : ℕ) → VotesTurn n q l p i
+  votes-turn p i = go (allowed-turn A p i)
     where
-      same : worldAt n q l (suc p) .images i ≡ worldAt n q l p .images i → VoteTurn n q l p i
+      same : worldAt n q l (suc p) .images i ≡ worldAt n q l p .images i → VotesTurn n q l p i
       same m =
           let e : memoryAt n q l (suc p) i ≡ memoryAt n q l p i = ap (λ x. x .memory) m in
           keeps (record { last = ap (λ s. s .votes .last) e; attempt = ap (λ s. s .votes .attempt) e; mark = ap (λ s. s .votes .mark) e })
           (same-membership _ _ (ap (λ s. s .membership) e))
 
-      go : AllowedTurn n q l p i → VoteTurn n q l p i
+      go : AllowedTurn n q l p i → VotesTurn n q l p i
       go (rests o m c d) = same m
       go (crashes x m c d) = same m
       go (refuses x) = same (x .images-next)
       go (recovers x) = recovering p i x
-      go (acts x) = acting p i x (vote-change (memoryAt n q l p i) (x .moves))
+      go (acts x) = acting p i x (votes-step (memoryAt n q l p i) (x .moves))
