@@ -26,8 +26,13 @@ shared : (m p a b : ℕ) → p < 2 ^ m → size (common p a) + size (common p b)
 unfolding size common
 shared zero p a b h = let e : p ≡ 0 = omega arith in rw e (omega (arith, ap ones (and-zero-l a), ap ones (and-zero-l b)))
 shared (suc m) p a b h =
-    omega
-    (arith, common-step p a, common-step p b, common-step p (common a b), ones-step p, ap (λ x. size (common (p / 2) x)) (and-half a b), and-rest a b, least (p % 2) (a % 2) (b % 2) (rest p) (rest a) (rest b), shared m (p / 2) (a / 2) (b / 2) (omega (arith, pow-succ' 2 m)))
+    let with-a = common-step p a in
+    let with-b = common-step p b in
+    let with-both = common-step p (common a b) in
+    let halves = ap (λ x. size (common (p / 2) x)) (and-half a b) in
+    let lowest = least (p % 2) (a % 2) (b % 2) (rest p) (rest a) (rest b) in
+    let others = shared m (p / 2) (a / 2) (b / 2) (omega (arith, pow-succ' 2 m)) in
+    omega (arith, ones-step p, and-rest a b)
 
 -- A set that is not empty has a member.
 pub some-member : (m s : ℕ) → s < 2 ^ m → 0 < size s → (k : ℕ) × (inSet k s ≡ true)

@@ -123,6 +123,5 @@ module _ {n q : ℕ} {l : Run} (A : Allowed n q l) (X : ExchangeFacts n q l) whe
       go (first h) = absurd (omega (arith, attempts, later-attempt k (one-known k one) m o index-first index-second (y .1) (y .2) (x .took) h))
       go (same h f) = h
       go (second h) =
-          absurd
-          (omega
-          (arith, attempts, later-attempt k (one-known k one) o m index-second index-first (u .1) (u .2) (z .took) (configurations-ordered A (y .2 .took) (x .took) (z .took) (u .2 .took) h)))
+          let g = configurations-ordered A (y .2 .took) (x .took) (z .took) (u .2 .took) h in
+          absurd (omega (arith, attempts, later-attempt k (one-known k one) o m index-second index-first (u .1) (u .2) (z .took) g))

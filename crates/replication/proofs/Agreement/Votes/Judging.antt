@@ -105,7 +105,8 @@ module _ (xs : List State) (v : State) where
   unfolding ruleA _and_
   rule-a-no h = rw (lt-no _ _ h)
 
-  pub rule-b-no : ((x : State) → List·Memᴰ x xs → inSet (x .sender) (v .mark .set) ≡ true → (x .mark .status ≡ 1) × (x .mark .index ≡ v .mark .index) × (x .mark .attempt ≡ v .mark .attempt))
+  pub rule-b-no : ((x : State) → List·Memᴰ x xs → inSet (x .sender) (v .mark .set) ≡ true
+      → (x .mark .status ≡ 1) × (x .mark .index ≡ v .mark .index) × (x .mark .attempt ≡ v .mark .attempt))
       → ruleB xs v ≡ false
   unfolding ruleB _and_ _or_ isMarked sameAttempt
   rule-b-no f = any-no _ xs (λ x m. go x (f x m) (known (inSet (x .sender) (v .mark .set))))

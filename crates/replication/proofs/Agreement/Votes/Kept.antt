@@ -42,7 +42,8 @@ module _ {n q : ℕ} {l : Run} (A : Allowed n q l) (X : ExchangeFacts n q l) {p 
   abbrev pub AfterAttemptAt : ℕ → ℕ → Type 0
   AfterAttemptAt y v = AfterAttempt n q l c (markOf A X inst) (indexOf A X inst) (lastAt n q l y v) (votesAt n q l y v .mark)
 
-  after-same : (y v : ℕ) → lastAt n q l (suc y) v ≡ lastAt n q l y v → votesAt n q l (suc y) v .mark ≡ votesAt n q l y v .mark → AfterAttemptAt y v → AfterAttemptAt (suc y) v
+  after-same : (y v : ℕ) → lastAt n q l (suc y) v ≡ lastAt n q l y v → votesAt n q l (suc y) v .mark ≡ votesAt n q l y v .mark → AfterAttemptAt y v
+      → AfterAttemptAt (suc y) v
   after-same y v e f h = subst₂ (λ a b. AfterAttempt n q l c (markOf A X inst) (indexOf A X inst) a b) (sym e) (sym f) h
 
   -- The marking itself.

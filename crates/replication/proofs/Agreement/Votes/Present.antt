@@ -95,8 +95,10 @@ module _ {n q : ℕ} {l : Run} (A : Allowed n q l) (X : ExchangeFacts n q l) {p 
           let k = state-of A X x j h in
           let v = had n q l r j c (z .here) in
           let f = done-before A (v .took) (k .2 .took) (z .here) (installs-outside z .0) (configurations-ordered A took-c took-d (v .took) (k .2 .took) order) in
-          omega
-          (arith, index-rises A j (suc r) (suc (k .2 .took-at)) (omega arith), covered-index (k .1), ap (λ a. a .index) (k .2 .last), installed-next z, ap (λ a. a .votes .last .index) (z .acts .memory-next))
+          let rises = index-rises A j (suc r) (suc (k .2 .took-at)) (omega arith) in
+          let says = ap (λ a. a .index) (k .2 .last) in
+          let has = ap (λ a. a .votes .last .index) (z .acts .memory-next) in
+          omega (arith, covered-index (k .1), installed-next z)
 
       -- Whoever has a mark with the set of c is a member of c.
       marked-member : (w : ℕ) (s : State) → StateOf n q l y w d s → s .mark .status ≡ 1 → s .mark .set ≡ c .set → inSet w (c .set) ≡ true

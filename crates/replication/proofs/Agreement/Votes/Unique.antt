@@ -91,7 +91,8 @@ module _ {n q : ℕ} {l : Run} (A : Allowed n q l) (X : ExchangeFacts n q l) whe
 
       common-member : (t : ℕ) × (inSet t (takenPrimary xs .set) ≡ true) × (inSet t (c .set) ≡ true) × (inSet t (d .set) ≡ true)
       common-member =
-          majorities-meet n (takenPrimary xs .set) (c .set) (d .set) (subst (λ z. z .set < 2 ^ n) last-c (last-below (suc (mark-c .marked-at)) i (A .servers p i (of-event (x .acts .here)))))
+          let below = last-below (suc (mark-c .marked-at)) i (A .servers p i (of-event (x .acts .here))) in
+          majorities-meet n (takenPrimary xs .set) (c .set) (d .set) (subst (λ z. z .set < 2 ^ n) last-c below)
           (quorum-majority xs (c .set) (mark-c .marking .has-quorum))
           (subst (λ z. size (z .set) < 2 * size (common (z .set) (d .set))) (sym one-taken) (quorum-majority ys (d .set) (mark-d .marking .has-quorum)))
 
