@@ -19,6 +19,11 @@ pub mod Order
 pub mod Origins
 pub mod Memberships
 pub mod Stays
+pub mod PutRecords
+pub mod LogActions
 pub mod StateOrigins
+pub mod Hearing
+pub mod OwnStates
+pub mod Made
 pub mod DeliveryLists
 pub mod Agreement
