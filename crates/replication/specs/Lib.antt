@@ -1,4 +1,5 @@
 pub mod Machine
 pub mod Images
 pub mod Replay
+pub mod Pairs
 pub mod Opened
