@@ -22,7 +22,7 @@ idOf c i = record { creator = c; index = i }
 abbrev pub actionOf : (creator index : ℕ) → Action
 actionOf c i = record { id = idOf c i; greenLength = 0; payload = [] }
 
--- Votes with a last primary of this set; with a valid yellow list; with a mark of the set {0,1,2}.
+-- Votes with a last primary of this set; with a valid yellow list; with a mark of the set {0,1,2}, no older than the last primary {1,2}.
 abbrev pub lastPrimary : (set : ℕ) → Votes
 lastPrimary s = record { last = record { index = 1; attempt = 1; set = s }; attempt = 0; mark = clearedMark; yellow = noYellow }
 
@@ -31,7 +31,7 @@ validYellow ds = record { last = record { index = 1; attempt = 1; set = 255 }; a
 
 abbrev pub marked : (bits : ℕ) → Votes
 marked b = record {
-  last = record { index = 1; attempt = 1; set = 255 };
+  last = record { index = 1; attempt = 1; set = 6 };
   attempt = 1;
   mark = record { status = 1; index = 1; attempt = 1; set = 7; bits = b };
   yellow = noYellow;

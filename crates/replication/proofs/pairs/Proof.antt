@@ -7,7 +7,16 @@ use Rattle.replication.proofs.pairs.Tie as tie
 
 theorem : Pairs
 unfolding opened
-theorem = record { p1 = refl; p2 = refl; p3 = refl; p4 = refl; p5 = refl; p6 = refl; p7 = refl; p8 = refl }
+theorem = record {
+  p1 = refl;
+  p2 = refl;
+  p3 = refl;
+  p4 = refl;
+  p5 = refl;
+  p6 = refl;
+  p7 = refl;
+  p8 = refl;
+}
 
 returns : tie.Need-returns
 returns c = theorem
