@@ -7,7 +7,7 @@ use lib.ListN.{length, getD, take, drop}
 use Rattle.base.specs.Tests.{_and_, _<?_}
 
 -- Every element is a byte.
-pub Bytes : List ℕ → Type 0
+abbrev pub Bytes : List ℕ → Type 0
 Bytes e = (i : ℕ) → getD e i 0 < 256
 
 -- The same, as a test.

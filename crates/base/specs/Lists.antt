@@ -4,7 +4,8 @@ use Prim.Native.Nat.{ℕ, zero, suc, _+_, _-_, max, min}
 use mathlib.Core.Bool.{Bool, true, false}
 use mathlib.Core.List.{List, [], _∷_, _++_}
 use mathlib.Core.Option.{Option, none, some}
-use Rattle.base.specs.Tests.{_and_, _or_, pick}
+use mathlib.Core.Path.{_≡_}
+use Rattle.base.specs.Tests.{_and_, _or_, _=?_, pick}
 
 -- Every element passes the test.
 unfoldable pub all : {A : Type 0} → (A → Bool) → List A → Bool
@@ -68,3 +69,18 @@ at (x ∷ xs) (suc i) = at xs i
 unfoldable pub sum : List ℕ → ℕ
 sum [] = 0
 sum (x ∷ xs) = x + sum xs
+
+-- The two lists are the same.
+unfoldable pub same : List ℕ → List ℕ → Bool
+same [] [] = true
+same [] (y ∷ ys) = false
+same (x ∷ xs) [] = false
+same (x ∷ xs) (y ∷ ys) = x =? y and same xs ys
+
+-- The map f with v at i.
+unfoldable pub upd : {A : Type 0} → (ℕ → A) → ℕ → A → ℕ → A
+upd f i v j = pick (j =? i) v (f j)
+
+-- x begins y.
+unfoldable pub Begins : {A : Type 0} → List A → List A → Type 0
+Begins {A} x y = (t : List A) × (y ≡ x ++ t)

@@ -111,6 +111,15 @@ and-no false u h = refl
 pub both-yes : (t u : Bool) → t ≡ true → u ≡ true → (t and u) ≡ true
 both-yes t u h e = sym (and-yes true t u h (sym e))
 
+pub not-holds : (t : Bool) → not t ≡ true → t ≡ false
+not-holds true h = not-both h
+not-holds false h = refl
+
+pub or-fails : (t u : Bool) → (t or u) ≡ false → (t ≡ false) × (u ≡ false)
+unfolding _or_
+or-fails true u h = not-both (sym h)
+or-fails false u h = (refl, h)
+
 pub pick-yes : {A : Type 0} (t : Bool) (r a b : A) → t ≡ true → r ≡ a → r ≡ pick t a b
 unfolding pick
 pick-yes true r a b e h = h

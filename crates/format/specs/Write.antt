@@ -1,6 +1,6 @@
 -- Document 01, 'Records': the bytes of a record.
 -- Assumes nothing.
-use Prim.Native.Nat.{ℕ, _+_}
+use Prim.Native.Nat.{ℕ, _+_, _*_}
 use mathlib.Core.List.{List, [], _∷_}
 use lib.ListN.{length}
 use Rattle.base.specs.Bytes.{bytesOf, joined}
@@ -64,3 +64,14 @@ bodyOf recovery = []
 
 unfoldable pub write : Record → List ℕ
 write r = framed (kindNumber (kindOf r)) (bodyOf r)
+
+-- How long the bytes of a record are, the two length bytes among them.
+unfoldable pub lengthOf : Record → ℕ
+lengthOf (action a) = 12 + length (a .payload)
+lengthOf (retransmission s p a) = 17 + length (a .payload)
+lengthOf (state s) = 40 + 2 * length (s .cuts) + 3 * length (s .yellow .ids)
+lengthOf (cpc s i) = 9
+lengthOf (regular i s) = 9
+lengthOf (transitional s) = 5
+lengthOf (request p) = 5 + length p
+lengthOf recovery = 4

@@ -228,3 +228,31 @@ inBytes (taken t r b g) = taken t (map write r) b g
 -- One event at one server: its state and the event's bytes. For a recovery the state is the stored image.
 unfoldable pub step : Server → List ℕ → Outcome (List ℕ)
 step s e = inBytes (onReading s (read (contextOf s) e))
+
+-- ---- Install, read off an event
+
+unfoldable pub installsBy : Option Rule → Server → Bool
+installsBy none s = false
+installsBy (some ignoring) s = false
+installsBy (some (reddening a)) s = false
+installsBy (some (greening a)) s = false
+installsBy (some (yellowing a)) s = false
+installsBy (some (lateInstalling a)) s = true
+installsBy (some (exchanging p a)) s = false
+installsBy (some (collectingState x)) s = false
+installsBy (some (collectingCpc k)) s = allCpcsIn (withCpc k s)
+installsBy (some (collectingLateCpc k)) s = false
+installsBy (some (joining c)) s = false
+installsBy (some (joiningUnmarked c)) s = false
+installsBy (some (joiningYellow c)) s = false
+installsBy (some (leaving m t)) s = false
+installsBy (some (requesting p)) s = false
+installsBy (some recovering) s = false
+
+unfoldable pub installsOn : Server → Reading Record → Bool
+installsOn s (says r) = installsBy (ruleFor (s .membership .mode) r) s
+installsOn s (Reading.refused k) = false
+
+-- The event e, if taken, installs a primary component.
+unfoldable pub installs : Server → List ℕ → Bool
+installs s e = installsOn s (read (contextOf s) e)

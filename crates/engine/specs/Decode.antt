@@ -1,0 +1,97 @@
+-- Reading an image back. Document 01, 'Returned numbers', row 8: a buffer reads exactly when it holds a well-formed state's image.
+-- Assumes nothing.
+use Prim.Native.Nat.{ℕ, zero, suc, _+_, _*_}
+use mathlib.Core.Bool.{Bool, true, false}
+use mathlib.Core.List.{List, [], _∷_}
+use mathlib.Core.Option.{Option, none, some}
+use lib.ListN.{take, drop}
+use Rattle.base.specs.Tests.{_and_, _=?_, pick}
+use Rattle.base.specs.Bytes.{numberAt, numbersAt}
+use Rattle.base.specs.Lists.{same}
+use Rattle.base.specs.Sets.{inSet}
+use Rattle.format.specs.Types.{Action, State}
+use Rattle.format.specs.Read.{payloadAt, actionAt, primaryAt, markAt, idsAt, stateAt}
+use Rattle.replication.specs.Machine.Types.{Mode, Non-prim, Reg-prim, Trans-prim, Exchange-states, Exchange-actions, Construct, No, Un, Configuration, Server}
+use Rattle.replication.specs.Machine.WellFormed.{wellFormed}
+use Rattle.engine.specs.Layout.{heldSize, slotSize, stateSize, theCuts, theNoted, theHeld, theStates, theYellow, theOwn, theQueue, offset}
+use Rattle.engine.specs.Image.{image}
+
+-- Another number than 0 to 7 names no state: it is no image's.
+unfoldable pub modeNamed : ℕ → Mode
+modeNamed k =
+    pick (k =? 1) Reg-prim
+    (pick (k =? 2) Trans-prim
+    (pick (k =? 3) Exchange-states
+    (pick (k =? 4) Exchange-actions
+    (pick (k =? 5) Construct
+    (pick (k =? 6) No
+    (pick (k =? 7) Un Non-prim))))))
+
+unfoldable pub configurationAt : List ℕ → ℕ → Option Configuration
+configurationAt b at = pick (numberAt 1 b at =? 1) (some (record { id = numberAt 4 b (at + 1); set = numberAt 1 b (at + 5) })) none
+
+unfoldable pub transitionalAt : List ℕ → ℕ → Option ℕ
+transitionalAt b at = pick (numberAt 1 b at =? 1) (some (numberAt 1 b (at + 1))) none
+
+-- m actions, a slot each, from `at` on
+unfoldable pub actionsAt : ℕ → List ℕ → ℕ → List Action
+actionsAt zero b at = []
+actionsAt (suc m) b at = actionAt b at ∷ actionsAt m b (at + slotSize)
+
+-- m held requests, a slot each, from `at` on
+unfoldable pub heldAt : ℕ → List ℕ → ℕ → List (List ℕ)
+heldAt zero b at = []
+heldAt (suc m) b at = payloadAt b at ∷ heldAt m b (at + heldSize)
+
+-- m slots for States from `at` on, of the senders from the number k on; `here` is the set of those that are in
+unfoldable pub statesAt : (n q here m k : ℕ) → List ℕ → ℕ → List (Option State)
+statesAt n q here zero k b at = []
+statesAt n q here (suc m) k b at =
+    pick (inSet k here) (some (stateAt n (drop at b))) none ∷ statesAt n q here m (k + 1) b (at + stateSize n q)
+
+-- What the bytes b say, with n servers and the quota q.
+unfoldable pub decodedAs : (n q : ℕ) → List ℕ → Server
+decodedAs n q b = record {
+  servers = n;
+  quota = q;
+  me = numberAt 1 b 3;
+  log = record {
+    green = take (numberAt 4 b 23) (actionsAt (numberAt 4 b 19) b (offset n q theQueue));
+    red = drop (numberAt 4 b 23) (actionsAt (numberAt 4 b 19) b (offset n q theQueue));
+    cuts = numbersAt 2 n b (offset n q theCuts);
+    own = actionsAt (numberAt 2 b 29) b (offset n q theOwn);
+    numbered = numberAt 2 b 27;
+  };
+  votes = record {
+    last = primaryAt b 37;
+    attempt = numberAt 4 b 33;
+    mark = markAt b 46;
+    yellow = record { status = numberAt 1 b 57; ids = idsAt (numberAt 2 b 58) b (offset n q theYellow) };
+  };
+  membership = record {
+    mode = modeNamed (numberAt 1 b 4);
+    configuration = configurationAt b 5;
+    transitional = transitionalAt b 11;
+    states = statesAt n q (numberAt 1 b 13) n 0 b (offset n q theStates);
+    cpcs = numberAt 1 b 14;
+    come = numberAt 4 b 15;
+  };
+  held = heldAt (numberAt 2 b 31) b (offset n q theHeld);
+  noted = numbersAt 4 n b (offset n q theNoted);
+}
+
+unfoldable pub serversIn : List ℕ → ℕ
+serversIn b = numberAt 1 b 0
+
+unfoldable pub quotaIn : List ℕ → ℕ
+quotaIn b = numberAt 2 b 1
+
+unfoldable pub decoded : List ℕ → Server
+decoded b = decodedAs (serversIn b) (quotaIn b) b
+
+-- The bytes hold the image of a well-formed state: writing what they say leaves them as they are.
+unfoldable pub reads : List ℕ → Bool
+reads b = wellFormed (decoded b) and same (image (decoded b) b) b
+
+unfoldable pub readImage : List ℕ → Option Server
+readImage b = pick (reads b) (some (decoded b)) none

@@ -1,0 +1,79 @@
+-- What the exported functions answer: numbers, and the bytes of both buffers. Document 01, 'Returned numbers'.
+-- Assumes nothing.
+use Prim.Native.Nat.{ℕ}
+use mathlib.Core.Bool.{Bool, true, false}
+use mathlib.Core.List.{List}
+use mathlib.Core.Option.{Option, none, some}
+use lib.ListN.{length}
+use Rattle.base.specs.Tests.{_or_, _<?_, pick}
+use Rattle.base.specs.Bytes.{joined}
+use Rattle.format.specs.Range.{sizesOk}
+use Rattle.replication.specs.Machine.Types.{Server, Outcome, refused, taken, start}
+use Rattle.replication.specs.Machine.Step.{step}
+use Rattle.engine.specs.Layout.{stateLength, outLength, leastStateLength, leastOutLength}
+use Rattle.engine.specs.Image.{over, image}
+use Rattle.engine.specs.Decode.{serversIn, quotaIn, reads, readImage}
+
+-- The number returned, the store word (1: store first), how many bytes of records there are, and both buffers afterwards.
+pub record Result : Type 0 where
+  pub number : ℕ
+  pub store : ℕ
+  pub sent : ℕ
+  pub state : List ℕ
+  pub out : List ℕ
+
+-- "all as before"
+unfoldable pub refusal : ℕ → List ℕ → List ℕ → Result
+refusal k b o = record { number = k; store = 0; sent = 0; state = b; out = o }
+
+unfoldable pub word : Bool → ℕ
+word true = 1
+word false = 0
+
+-- "a buffer is shorter than its formula; with n or q in the state out of range, shorter than the formula for n 2 and q 1"
+unfoldable pub tooShort : List ℕ → List ℕ → Bool
+tooShort b o =
+    pick (sizesOk (serversIn b) (quotaIn b))
+    (length b <? stateLength (serversIn b) (quotaIn b) or length o <? outLength (serversIn b) (quotaIn b))
+    (length b <? leastStateLength or length o <? leastOutLength)
+
+-- "new state, records, store word; bytes past either unchanged"
+unfoldable pub resultOf : Outcome (List ℕ) → List ℕ → List ℕ → Result
+resultOf (refused k) b o = refusal k b o
+resultOf (taken t r w g) b o = record { number = 0; store = word w; sent = length (joined r); state = image t b; out = over (joined r) o }
+
+unfoldable pub stepFrom : Option Server → List ℕ → List ℕ → List ℕ → Result
+stepFrom none b e o = refusal 8 b o
+stepFrom (some s) b e o = resultOf (step s e) b o
+
+-- The step over the buffers: 7, then 8, then the machine's step.
+unfoldable pub stepOn : (state event out : List ℕ) → Result
+stepOn b e o = pick (tooShort b o) (refusal 7 b o) (stepFrom (readImage b) b e o)
+
+-- The state's own part of 7 and 8: 0 exactly when an image reads.
+unfoldable pub stateNumber : List ℕ → List ℕ → ℕ
+stateNumber b o = pick (tooShort b o) 7 (pick (reads b) 0 8)
+
+-- ---- start and lengths
+
+pub record Started : Type 0 where
+  pub number : ℕ
+  pub state : List ℕ
+
+-- "a start with one out of range gets 2"; 7 before it, by the formula for n 2 and q 1 where n or q is out of range.
+unfoldable pub startOn : (n q me : ℕ) → List ℕ → Started
+startOn n q i b =
+    pick (sizesOk n q)
+    (pick (length b <? stateLength n q) (record { number = 7; state = b })
+    (pick (i <? n) (record { number = 0; state = image (start n q i) b }) (record { number = 2; state = b })))
+    (pick (length b <? leastStateLength) (record { number = 7; state = b }) (record { number = 2; state = b }))
+
+pub record Lengths : Type 0 where
+  pub number : ℕ
+  pub state : ℕ
+  pub out : ℕ
+
+-- Outside the range: 2 and zeros.
+unfoldable pub lengthsOf : (n q : ℕ) → Lengths
+lengthsOf n q =
+    pick (sizesOk n q) (record { number = 0; state = stateLength n q; out = outLength n q }) (record { number = 2; state = 0; out = 0 })

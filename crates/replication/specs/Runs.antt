@@ -1,0 +1,4 @@
+pub mod Run
+pub mod Happenings
+pub mod Allowed
+pub mod Claim

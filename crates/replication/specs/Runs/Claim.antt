@@ -1,0 +1,60 @@
+-- Demand 3: what is claimed of every allowed run, at the beginning and after each event or crash.
+-- Assumes nothing.
+use Prim.Native.Nat.{ℕ, suc, _<_}
+use mathlib.Core.Path.{_≡_}
+use mathlib.Core.Bool.{Bool, true, false}
+use mathlib.Core.List.{List}
+use mathlib.Core.Logic.{_↔_}
+use mathlib.Core.Option.{Option, none, some}
+use lib.ListN.{length}
+use Rattle.base.specs.Tests.{pick}
+use Rattle.base.specs.Lists.{at, Begins}
+use Rattle.base.specs.Sets.{everyone}
+use Rattle.format.specs.Types.{Action, Primary, says}
+use Rattle.replication.specs.Machine.Types.{Server, Outcome, taken}
+use Rattle.replication.specs.Machine.Rules.{ruleFor}
+use Rattle.replication.specs.Machine.Step.{installs}
+use Rattle.replication.specs.Images.{Images, arrive, sourceOf}
+use Rattle.replication.specs.Runs.Run.{Entry, event, Run, worldAt}
+use Rattle.replication.specs.Runs.Allowed.{Allowed}
+
+-- "equal exactly when equally long, else the shorter begins the longer"
+pub record ListsAgree (x y : List Action) : Type 0 where
+  pub equal : x ≡ y ↔ length x ≡ length y
+  pub shorter : length x < length y → Begins x y
+  pub longer : length y < length x → Begins y x
+
+-- "two primary components are equal, members and all, exactly when their indexes are"
+abbrev pub PrimariesAgree : Primary → Primary → Type 0
+PrimariesAgree a b = a ≡ b ↔ a .index ≡ b .index
+
+module _ (n q : ℕ) (l : Run) where
+  -- The green list of the server i at the moment p: from memory, or from the store while it is down.
+  unfoldable pub greenAt : ℕ → ℕ → List Action
+  greenAt p i = pick (worldAt n q l p .down i) (worldAt n q l p .images i .store .log .green) (worldAt n q l p .images i .memory .log .green)
+
+  -- "Primary components are the start's and each Install's (index, attempt, set)."
+  pub data IsPrimary : Primary → Type 0 where
+    of-start : IsPrimary (record { index = 0; attempt = 0; set = everyone n })
+    of-install : (p i k : ℕ) (e : List ℕ) (t : Server) (r : List (List ℕ)) (b : Bool) (g : List Action) → at l p ≡ some (event i e k)
+        → arrive (worldAt n q l p .images i) e ≡ taken t r b g → installs (sourceOf (worldAt n q l p .images i) e) e ≡ true
+        → IsPrimary (t .votes .last)
+
+  pub record Agreement : Type 0 where
+    pub green : (p i j : ℕ) → i < n → j < n → ListsAgree (greenAt p i) (greenAt p j)
+    pub primary : (a b : Primary) → IsPrimary a → IsPrimary b → PrimariesAgree a b
+
+  -- "Stored green lists agree likewise at different moments"
+  abbrev pub StoredAgree : Type 0
+  StoredAgree =
+      (p r i j : ℕ) → i < n → j < n
+      → ListsAgree (worldAt n q l p .images i .store .log .green) (worldAt n q l r .images j .store .log .green)
+
+  -- Every last primary known anywhere, in memory or store, is one of the primary components.
+  abbrev pub KnownPrimaries : Type 0
+  KnownPrimaries =
+      (p i : ℕ) → i < n → IsPrimary (worldAt n q l p .images i .memory .votes .last) × IsPrimary (worldAt n q l p .images i .store .votes .last)
+
+-- Demand 3.
+unfoldable pub Demand3 : Type 0
+Demand3 = (n q : ℕ) (l : Run) → Allowed n q l → Agreement n q l
