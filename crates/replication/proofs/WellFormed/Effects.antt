@@ -1,28 +1,28 @@
 -- What the rules do to a state keeps row 8's clauses, apart from those on the eight states.
 -- Assumes nothing.
-use Prim.Native.Nat.{ℕ, zero, suc, _+_, _*_, _≤_, _<_}
+use Prim.Native.Nat.{ℕ, _+_, _*_, _≤_, _<_}
 use mathlib.Core.Path.{_≡_, refl, ap}
 use mathlib.Core.Bool.{true}
 use mathlib.Core.List.{List, [], _∷_, _++_}
 use mathlib.Core.Option.{none, Option·none-ne-some}
 use native.Mathlib.Omega.{arith}
 use lib.ListN.{length, set, length-append, length-replicate}
-use Rattle.base.specs.Tests.{pick, lt-holds}
+use Rattle.base.specs.Tests.{pick, lt-holds, Known, holds, fails, known}
 use Rattle.base.specs.Lists.{above}
 use Rattle.base.specs.ListLaws.{Each, each-append, each-implied, each-map, map-each, above-between}
 use Rattle.base.specs.Counts.{count-append, count-single}
 use Rattle.format.specs.Limits.{mostHeld, mostIndex}
 use Rattle.format.specs.Types.{Id, Action}
-use Rattle.format.specs.Range.{sameId}
+use Rattle.format.specs.Range.{sameId, hasId}
 use Rattle.replication.specs.Machine.Types.{Non-prim, Votes, Server, withLog, withVotes, withHeld, noStates}
-use Rattle.replication.specs.Machine.Colours.{cut, enter, red, reds, green, joinYellow, yellow, note}
+use Rattle.replication.specs.Machine.Colours.{cut, enter, red, reds, green, addId, joinYellow, yellow, note}
 use Rattle.replication.specs.Machine.Install.{installLog, installVotes, install}
 use Rattle.replication.specs.Machine.Requests.{quotaLeft, madeOf, numbered, hold, sendHeld, recovered}
 use Rattle.replication.specs.Machine.Step.{collected, plannedNow, placed, oneMore, exchanged, greenAndNote}
 use Rattle.replication.specs.Machine.WellFormed.{idsIn}
 use Rattle.replication.specs.Machine.WellFormedRanges.{idCount, IdFits, PayloadFits, VotesRanges}
-use Rattle.replication.specs.Machine.WellFormedFacts.{YellowWithinCuts}
-use Rattle.replication.proofs.WellFormed.Ids.{SameId, same, other, same-id?, counted-fact}
+use Rattle.replication.proofs.Step.Yellows.{add-new, add-again}
+use Rattle.replication.proofs.WellFormed.Ids.{SameId, same, other, same-id?, not-had-counted}
 use Rattle.replication.proofs.WellFormed.Held.{Entered, entered, ignored, entered?}
 use Rattle.replication.proofs.WellFormed.Logs.{Numbered, ownId, enter-fits, enter-numbered, red-fits, red-numbered, reds-fits, reds-numbered, green-fits, install-log-fits}
 use Rattle.replication.proofs.WellFormed.Numbering.{green-numbered, install-log-numbered, placed-fits, placed-numbered, numberedLog, numbering-fits}
@@ -41,22 +41,34 @@ install-votes-fits n q v f h = record {
   yellow = no-yellow-fits n q;
 }
 
-join-yellow-fits : (n q : ℕ) (d : Id) (v : Votes) → VotesRanges n q v → IdFits n q d → idCount d (v .yellow .ids) ≡ 0 → VotesRanges n q (joinYellow d v)
+add-id-fits : (n q : ℕ) (d : Id) (ids : List Id) → Each (IdFits n q) ids → IdFits n q d → Each (IdFits n q) (addId d ids)
+add-id-fits n q d ids f fits = go (known (hasId d ids))
+  where
+    go : Known (hasId d ids) → Each (IdFits n q) (addId d ids)
+    go (holds h) = rw (add-again d ids h) f
+    go (fails h) = rw (add-new d ids h) (each-append (IdFits n q) ids (d ∷ []) f (fits, tt))
+
+add-id-once : (d : Id) (ids : List Id) → ((e : Id) → idCount e ids ≤ 1) → (e : Id) → idCount e (addId d ids) ≤ 1
+add-id-once d ids f e = go (known (hasId d ids)) (same-id? e d)
+  where
+    go : Known (hasId d ids) → SameId e d → idCount e (addId d ids) ≤ 1
+    go (holds h) x = rw (add-again d ids h) (f e)
+    go (fails h) (same p c i t u) =
+        rw (add-new d ids h) (omega (arith, count-append (sameId e) ids (d ∷ []), count-single (sameId e) d, not-had-counted d ids h, ap (λ y. idCount y ids) p))
+    go (fails h) (other m t u) = rw (add-new d ids h) (omega (arith, count-append (sameId e) ids (d ∷ []), count-single (sameId e) d, f e))
+
+join-yellow-fits : (n q : ℕ) (d : Id) (v : Votes) → VotesRanges n q v → IdFits n q d → VotesRanges n q (joinYellow d v)
 unfolding joinYellow
-join-yellow-fits n q d v f fits new = record {
+join-yellow-fits n q d v f fits = record {
   last = f .last;
   attempt = f .attempt;
   mark = f .mark;
-  yellow = record { status = f .yellow .status; ids = each-append (IdFits n q) (v .yellow .ids) (d ∷ []) (f .yellow .ids) (fits, tt); once = once };
+  yellow = record {
+    status = f .yellow .status;
+    ids = add-id-fits n q d (v .yellow .ids) (f .yellow .ids) fits;
+    once = add-id-once d (v .yellow .ids) (f .yellow .once);
+  };
 }
-  where
-    once : (e : Id) → idCount e (v .yellow .ids ++ (d ∷ [])) ≤ 1
-    once e = go (same-id? e d)
-      where
-        go : SameId e d → idCount e (v .yellow .ids ++ (d ∷ [])) ≤ 1
-        go (same p c i t u) =
-            omega (arith, count-append (sameId e) (v .yellow .ids) (d ∷ []), count-single (sameId e) d, ap (λ y. idCount y (v .yellow .ids)) p)
-        go (other m t u) = omega (arith, count-append (sameId e) (v .yellow .ids) (d ∷ []), count-single (sameId e) d, f .yellow .once e)
 
 -- ---- actions
 
@@ -83,19 +95,14 @@ module _ (s : Server) (b : Body s) (a : Action) (d : Delivered s a) where
       (note-length (a .id .creator) (a .greenLength) (s .noted))
       (note-bound (s .servers * s .quota) (a .id .creator) (a .greenLength) (s .noted) (b .noted) (d .fits .greenLength))
 
-  -- An action that is entered, with its id joined to the yellow list, whose ids are of entered actions.
-  pub joined-body : YellowWithinCuts s → a .id .index ≡ cut (s .log) (a .id .creator) + 1
-      → Body (withVotes (joinYellow (a .id) (s .votes)) (withLog (enter a (s .log)) s))
-  joined-body w next =
-      votes-changed (withLog (enter a (s .log)) s)
-      (log-changed-alike s b (enter a (s .log)) (enter-fits (s .servers) (s .quota) (s .me) a (s .log) (b .log) (d .fits) next (d .own)) (enter-numbered a (s .log)))
-      (joinYellow (a .id) (s .votes))
-      (join-yellow-fits (s .servers) (s .quota) (a .id) (s .votes) (b .votes) (d .fits .id) (new (idCount (a .id) (s .votes .yellow .ids)) refl))
+  pub yellow-body : Body (yellow a s)
+  yellow-body = yellow-as Body a s joined b
     where
-      new : (k : ℕ) → idCount (a .id) (s .votes .yellow .ids) ≡ k → k ≡ 0
-      new zero e = refl
-      new (suc k) e =
-          absurd (omega (arith, counted-fact (λ x. x .index ≤ cut (s .log) (x .creator)) (a .id) (s .votes .yellow .ids) w (omega arith)))
+      joined : a .id .index ≡ cut (s .log) (a .id .creator) + 1 → Body (withVotes (joinYellow (a .id) (s .votes)) (withLog (enter a (s .log)) s))
+      joined next =
+          votes-changed (withLog (enter a (s .log)) s)
+          (log-changed-alike s b (enter a (s .log)) (enter-fits (s .servers) (s .quota) (s .me) a (s .log) (b .log) (d .fits) next (d .own)) (enter-numbered a (s .log)))
+          (joinYellow (a .id) (s .votes)) (join-yellow-fits (s .servers) (s .quota) (a .id) (s .votes) (b .votes) (d .fits .id))
 
   pub exchanged-body : (p : ℕ) → s .membership .come < plannedNow s → Body (exchanged p a s)
   unfolding exchanged oneMore plannedNow

@@ -44,13 +44,6 @@ pub record Kept (s t : Server) : Type 0 where
 abbrev pub Keeps : Server → Outcome Record → Type 0
 Keeps s o = After (λ t r. Kept s t) o
 
--- What row 8 needs beside itself: in Trans_prim the yellow ids are of entered actions.
-abbrev pub YellowInTrans : Server → Type 0
-YellowInTrans s = s .membership .mode ≡ Trans-prim → YellowWithinCuts s
-
-pub entered-in-trans : (s : Server) → YellowEntered (s .membership .mode) s → YellowInTrans s
-entered-in-trans s y e = subst (λ m. YellowEntered m s) e y
-
 pub kept-invariant : (s t : Server) → Invariant s → Kept s t → Invariant t
 kept-invariant s t v k = record { well-formed = whole t (k .body) (k .mode); yellow = k .yellow (v .yellow) }
 
@@ -83,15 +76,3 @@ yellow-kept Exchange-actions s l h w r f = tt
 yellow-kept Construct s l h w r f = tt
 yellow-kept No s l h w r f = tt
 yellow-kept Un s l h w r f = tt
-
--- With an entered action's id joined.
-pub within-joined : (s : Server) (a : Action) → a .id .creator < length (s .log .cuts) → a .id .index ≡ cut (s .log) (a .id .creator) + 1 → YellowWithinCuts s
-    → YellowWithinCuts (withVotes (joinYellow (a .id) (s .votes)) (withLog (enter a (s .log)) s))
-unfolding joinYellow
-within-joined s a inside next f =
-    each-append (λ d. d .index ≤ cut (enter a (s .log)) (d .creator)) (s .votes .yellow .ids) (a .id ∷ [])
-    (within-kept s (enter a (s .log)) (enter-rises a (s .log) inside next) f) (go (cut-after? a (s .log) (a .id .creator) inside), tt)
-  where
-    go : CutAfter a (s .log) (a .id .creator) → a .id .index ≤ cut (enter a (s .log)) (a .id .creator)
-    go (risen p e) = omega arith
-    go (left p e) = absurd (p refl)
