@@ -32,14 +32,14 @@ module _ (s : Server) where
   configuration-changes (L.yellows a e) = let y = yellow-membership a s in kept (ap (λ m. m .configuration) y) (ap (λ m. m .transitional) y)
   configuration-changes (L.installsLate a e) = let y = yellow-membership a (install s) in kept (ap (λ m. m .configuration) y) (ap (λ m. m .transitional) y)
   configuration-changes (L.exchanges k i a e c) = kept refl refl
-  configuration-changes (L.endsOnRetransmission k i a u us e c x) = end-kept _ (exchanged i a s) u us refl refl x
-  configuration-changes (L.collectsState x e c) = kept refl refl
-  configuration-changes (L.resends x e c d) = kept refl refl
-  configuration-changes (L.endsOnState x u us e c d y) = end-kept _ (withState x s) u us refl refl y
-  configuration-changes (L.collectsCpc k i e c) = kept refl refl
+  configuration-changes (L.exchangesLast k i a u us e c x) = end-kept _ (exchanged i a s) u us refl refl x
+  configuration-changes (L.collects x e c) = kept refl refl
+  configuration-changes (L.collectsLast x e c d) = kept refl refl
+  configuration-changes (L.collectsWhole x u us e c d y) = end-kept _ (withState x s) u us refl refl y
+  configuration-changes (L.counts k i e c) = kept refl refl
   configuration-changes (L.installs k i e c) = kept refl refl
-  configuration-changes (L.collectsLateCpc k i e c) = kept refl refl
-  configuration-changes (L.collectsLastLateCpc k i e c) = kept refl refl
+  configuration-changes (L.countsLate k i e c) = kept refl refl
+  configuration-changes (L.countsAllLate k i e c) = kept refl refl
   configuration-changes (L.joins c e) = joined c refl refl refl
   configuration-changes (L.joinsMarked c e) = joined c refl refl refl
   configuration-changes (L.joinsUnmarked c e) = joined c refl refl refl

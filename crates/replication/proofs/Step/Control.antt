@@ -55,11 +55,11 @@ unstored-keeps {s} (L.reddensInExchange a e) = same refl (numbered-red a (s .log
 unstored-keeps {s} (L.greens a e) = same refl (numbered-green a (s .log))
 unstored-keeps {s} (L.yellows a e) = control-yellow a s
 unstored-keeps {s} (L.exchanges k i a e c) = same refl (numbered-placed i a (s .log))
-unstored-keeps {s} (L.collectsState x e c) = same refl refl
-unstored-keeps {s} (L.resends x e c d) = same refl refl
-unstored-keeps {s} (L.collectsCpc k i e c) = same refl refl
-unstored-keeps {s} (L.collectsLateCpc k i e c) = same refl refl
-unstored-keeps {s} (L.collectsLastLateCpc k i e c) = same refl refl
+unstored-keeps {s} (L.collects x e c) = same refl refl
+unstored-keeps {s} (L.collectsLast x e c d) = same refl refl
+unstored-keeps {s} (L.counts k i e c) = same refl refl
+unstored-keeps {s} (L.countsLate k i e c) = same refl refl
+unstored-keeps {s} (L.countsAllLate k i e c) = same refl refl
 unstored-keeps {s} (L.leaves m n x e q) = same refl refl
 unstored-keeps {s} (L.holds q c) = same refl refl
 

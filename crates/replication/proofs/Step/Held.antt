@@ -42,15 +42,15 @@ module _ (s : Server) where
   held-changes (L.yellows a e) = P.stay _ (yellow-held a s)
   held-changes (L.installsLate a e) = P.stay _ (yellow-held a (install s))
   held-changes (L.exchanges k i a e c) = P.stay _ refl
-  held-changes (L.endsOnRetransmission k i a u us e c x) = end-held _ (exchanged i a s) u us refl refl (numbered-placed i a (s .log)) x
-  held-changes (L.collectsState x e c) = P.stay _ refl
-  held-changes (L.resends x e c d) = P.stay _ refl
-  held-changes (L.endsOnState x u us e c d y) = end-held _ (withState x s) u us refl refl refl y
-  held-changes (L.collectsCpc k i e c) = P.stay _ refl
+  held-changes (L.exchangesLast k i a u us e c x) = end-held _ (exchanged i a s) u us refl refl (numbered-placed i a (s .log)) x
+  held-changes (L.collects x e c) = P.stay _ refl
+  held-changes (L.collectsLast x e c d) = P.stay _ refl
+  held-changes (L.collectsWhole x u us e c d y) = end-held _ (withState x s) u us refl refl refl y
+  held-changes (L.counts k i e c) = P.stay _ refl
   held-changes (L.installs k i e c) =
       rw (held-made s (inMode Reg-prim (install (withCpc k s))) refl refl (numbered-install (s .votes .yellow .ids) (s .log))) (P.areSent refl)
-  held-changes (L.collectsLateCpc k i e c) = P.stay _ refl
-  held-changes (L.collectsLastLateCpc k i e c) = P.stay _ refl
+  held-changes (L.countsLate k i e c) = P.stay _ refl
+  held-changes (L.countsAllLate k i e c) = P.stay _ refl
   held-changes (L.joins c e) = P.stay _ refl
   held-changes (L.joinsMarked c e) = P.stay _ refl
   held-changes (L.joinsUnmarked c e) = P.stay _ refl

@@ -47,14 +47,14 @@ module _ (s : Server) where
   identity-kept (L.yellows a e) = same-yellow a s
   identity-kept (L.installsLate a e) = let y = same-yellow a (install s) in same (y .servers) (y .quota) (y .me)
   identity-kept (L.exchanges k i a e c) = same refl refl refl
-  identity-kept (L.endsOnRetransmission k i a u us e c x) = end-same (exchanged i a s) u us (same refl refl refl) x
-  identity-kept (L.collectsState x e c) = same refl refl refl
-  identity-kept (L.resends x e c d) = same refl refl refl
-  identity-kept (L.endsOnState x u us e c d y) = end-same (withState x s) u us (same refl refl refl) y
-  identity-kept (L.collectsCpc k i e c) = same refl refl refl
+  identity-kept (L.exchangesLast k i a u us e c x) = end-same (exchanged i a s) u us (same refl refl refl) x
+  identity-kept (L.collects x e c) = same refl refl refl
+  identity-kept (L.collectsLast x e c d) = same refl refl refl
+  identity-kept (L.collectsWhole x u us e c d y) = end-same (withState x s) u us (same refl refl refl) y
+  identity-kept (L.counts k i e c) = same refl refl refl
   identity-kept (L.installs k i e c) = same refl refl refl
-  identity-kept (L.collectsLateCpc k i e c) = same refl refl refl
-  identity-kept (L.collectsLastLateCpc k i e c) = same refl refl refl
+  identity-kept (L.countsLate k i e c) = same refl refl refl
+  identity-kept (L.countsAllLate k i e c) = same refl refl refl
   identity-kept (L.joins c e) = same refl refl refl
   identity-kept (L.joinsMarked c e) = same refl refl refl
   identity-kept (L.joinsUnmarked c e) = same refl refl refl

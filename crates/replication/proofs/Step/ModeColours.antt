@@ -78,14 +78,14 @@ module _ (s : Server) (formed : wellFormed s ≡ true) where
   colour-facts-kept (L.installsLate a e) p =
       yellow-covers (install s) (yellow a (install s)) (a ∷ []) (yellow-one a (install s)) refl (λ x m. absurd (List·Memᴰ·not-nil (rw (install-no-red s formed) at m)))
   colour-facts-kept (L.exchanges k i a e c) p = back Exchange-actions _ _ e tt
-  colour-facts-kept (L.endsOnRetransmission k i a u us e c x) p = end-colours (exchanged i a s) u us x
-  colour-facts-kept (L.collectsState x e c) p = p
-  colour-facts-kept (L.resends x e c d) p = tt
-  colour-facts-kept (L.endsOnState x u us e c d y) p = end-colours (withState x s) u us y
-  colour-facts-kept (L.collectsCpc k i e c) p = p
+  colour-facts-kept (L.exchangesLast k i a u us e c x) p = end-colours (exchanged i a s) u us x
+  colour-facts-kept (L.collects x e c) p = p
+  colour-facts-kept (L.collectsLast x e c d) p = tt
+  colour-facts-kept (L.collectsWhole x u us e c d y) p = end-colours (withState x s) u us y
+  colour-facts-kept (L.counts k i e c) p = p
   colour-facts-kept (L.installs k i e c) p = (refl, install-no-red s formed)
-  colour-facts-kept (L.collectsLateCpc k i e c) p = p
-  colour-facts-kept (L.collectsLastLateCpc k i e c) p = tt
+  colour-facts-kept (L.countsLate k i e c) p = p
+  colour-facts-kept (L.countsAllLate k i e c) p = tt
   colour-facts-kept (L.joins c e) p = tt
   colour-facts-kept (L.joinsMarked c e) p = tt
   colour-facts-kept (L.joinsUnmarked c e) p = tt

@@ -96,14 +96,14 @@ module _ (s : Server) where
       let q = at Un e p in
       rw (yellow-membership a (install s)) (q .0, attained-yellow a (install s) (s .membership .configuration) (install-attains (s .votes) (s .membership .configuration) (q .1)))
   mode-facts-kept (L.exchanges k i a e c) p = p
-  mode-facts-kept (L.endsOnRetransmission k i a u us e c x) p = end-facts (M.exchanged i a s) u us refl refl (at Exchange-actions e p) x
-  mode-facts-kept (L.collectsState x e c) p = p
-  mode-facts-kept (L.resends x e c d) p = at Exchange-states e p
-  mode-facts-kept (L.endsOnState x u us e c d y) p = end-facts (M.withState x s) u us refl refl (at Exchange-states e p) y
-  mode-facts-kept (L.collectsCpc k i e c) p = p
+  mode-facts-kept (L.exchangesLast k i a u us e c x) p = end-facts (M.exchanged i a s) u us refl refl (at Exchange-actions e p) x
+  mode-facts-kept (L.collects x e c) p = p
+  mode-facts-kept (L.collectsLast x e c d) p = at Exchange-states e p
+  mode-facts-kept (L.collectsWhole x u us e c d y) p = end-facts (M.withState x s) u us refl refl (at Exchange-states e p) y
+  mode-facts-kept (L.counts k i e c) p = p
   mode-facts-kept (L.installs k i e c) p = let q = at Construct e p in (q .0, install-attains (s .votes) (s .membership .configuration) (q .1))
-  mode-facts-kept (L.collectsLateCpc k i e c) p = p
-  mode-facts-kept (L.collectsLastLateCpc k i e c) p = at No e p
+  mode-facts-kept (L.countsLate k i e c) p = p
+  mode-facts-kept (L.countsAllLate k i e c) p = at No e p
   mode-facts-kept (L.joins c e) p = record { configuration = c; there = refl; none-after = refl }
   mode-facts-kept (L.joinsMarked c e) p = record { configuration = c; there = refl; none-after = refl }
   mode-facts-kept (L.joinsUnmarked c e) p = record { configuration = c; there = refl; none-after = refl }

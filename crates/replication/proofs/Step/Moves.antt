@@ -52,7 +52,7 @@ module _ (s : Server) where
   on-retransmission Exchange-states e k p a = tt
   on-retransmission Exchange-actions e k p a =
       either (retransmission k p a) (allCome (exchanged p a s)) _ _
-      (λ c. ending (retransmission k p a) (exchanged p a s) (λ u rs x. L.endsOnRetransmission k p a u rs e c x))
+      (λ c. ending (retransmission k p a) (exchanged p a s) (λ u rs x. L.exchangesLast k p a u rs e c x))
       (λ c. (L.exchanges k p a e c, refl))
   on-retransmission Construct e k p a = tt
   on-retransmission No e k p a = tt
@@ -66,9 +66,9 @@ module _ (s : Server) where
   on-state Exchange-states e x =
       either (state x) (allStatesIn (withState x s)) _ _
       (λ c. either (state x) (plannedNow (withState x s) =? 0) _ _
-      (λ d. ending (state x) (withState x s) (λ u rs y. L.endsOnState x u rs e c d y))
-      (λ d. (L.resends x e c d, refl)))
-      (λ c. (L.collectsState x e c, refl))
+      (λ d. ending (state x) (withState x s) (λ u rs y. L.collectsWhole x u rs e c d y))
+      (λ d. (L.collectsLast x e c d, refl)))
+      (λ c. (L.collects x e c, refl))
   on-state Exchange-actions e x = tt
   on-state Construct e x = tt
   on-state No e x = tt
@@ -81,8 +81,8 @@ module _ (s : Server) where
   on-cpc Trans-prim e k i = tt
   on-cpc Exchange-states e k i = tt
   on-cpc Exchange-actions e k i = tt
-  on-cpc Construct e k i = either (cpc k i) (allCpcsIn (withCpc k s)) _ _ (λ c. (L.installs k i e c, refl)) (λ c. (L.collectsCpc k i e c, refl))
-  on-cpc No e k i = either (cpc k i) (allCpcsIn (withCpc k s)) _ _ (λ c. (L.collectsLastLateCpc k i e c, refl)) (λ c. (L.collectsLateCpc k i e c, refl))
+  on-cpc Construct e k i = either (cpc k i) (allCpcsIn (withCpc k s)) _ _ (λ c. (L.installs k i e c, refl)) (λ c. (L.counts k i e c, refl))
+  on-cpc No e k i = either (cpc k i) (allCpcsIn (withCpc k s)) _ _ (λ c. (L.countsAllLate k i e c, refl)) (λ c. (L.countsLate k i e c, refl))
   on-cpc Un e k i = tt
 
   on-regular : (m : Mode) → s .membership .mode ≡ m → (i x : ℕ) → Ruled s (regular i x) (onRegular m (record { id = i; set = x }))

@@ -62,17 +62,17 @@ module _ (s : Server) where
   puts-out (L.yellows a e) = P.nothing _ (numbered-yellow a s)
   puts-out (L.installsLate a e) = P.nothing _ (numbered-yellow a (install s) ∙ numbered-install (s .votes .yellow .ids) (s .log))
   puts-out (L.exchanges k i a e c) = P.nothing _ (numbered-placed i a (s .log))
-  puts-out (L.endsOnRetransmission k i a u us e c x) = ends-out _ (exchanged i a s) u us (C.withActions e refl) refl refl (numbered-placed i a (s .log)) refl refl x
-  puts-out (L.collectsState x e c) = P.nothing _ refl
-  puts-out (L.resends x e c d) = P.partOfPlan x refl e refl c d refl
-  puts-out (L.endsOnState x u us e c d y) = ends-out _ (withState x s) u us (C.withStates e c) refl refl refl refl refl y
-  puts-out (L.collectsCpc k i e c) = P.nothing _ refl
+  puts-out (L.exchangesLast k i a u us e c x) = ends-out _ (exchanged i a s) u us (C.withActions e refl) refl refl (numbered-placed i a (s .log)) refl refl x
+  puts-out (L.collects x e c) = P.nothing _ refl
+  puts-out (L.collectsLast x e c d) = P.partOfPlan x refl e refl c d refl
+  puts-out (L.collectsWhole x u us e c d y) = ends-out _ (withState x s) u us (C.withStates e c) refl refl refl refl refl y
+  puts-out (L.counts k i e c) = P.nothing _ refl
   puts-out (L.installs k i e c) =
       let n = numbered-install (s .votes .yellow .ids) (s .log) in
       rw (held-made s (inMode Reg-prim (install (withCpc k s))) refl refl n)
       (P.heldAfterInstall k i refl e c refl (held-numbers s (inMode Reg-prim (install (withCpc k s))) refl refl n))
-  puts-out (L.collectsLateCpc k i e c) = P.nothing _ refl
-  puts-out (L.collectsLastLateCpc k i e c) = P.nothing _ refl
+  puts-out (L.countsLate k i e c) = P.nothing _ refl
+  puts-out (L.countsAllLate k i e c) = P.nothing _ refl
   puts-out (L.joins c e) = P.stateOnEntry c refl refl refl refl
   puts-out (L.joinsMarked c e) = P.stateOnEntry c refl refl refl refl
   puts-out (L.joinsUnmarked c e) = P.stateOnEntry c refl refl refl refl

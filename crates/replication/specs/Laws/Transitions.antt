@@ -51,28 +51,34 @@ pub data Leads : Mode → Mode → Type 0 where
 
 -- What the server s does with the record it reads: the new state, the records sent, and the store word.
 pub data Transition (s : Server) : Record → Server → List Record → Bool → Type 0 where
+  -- "Non_prim: .. State and CPC ignored."
   ignoresState : (x : State) → s .membership .mode ≡ Non-prim → Transition s (state x) s [] false
   ignoresCpc : (k i : ℕ) → s .membership .mode ≡ Non-prim → Transition s (cpc k i) s [] false
+  -- an action or retransmission entered red; an action green, yellow, after a late Install
   reddens : (a : Action) → s .membership .mode ≡ Non-prim → Transition s (action a) (withLog (red a (s .log)) s) [] false
   reddensResent : (k p : ℕ) (a : Action) → s .membership .mode ≡ Non-prim → Transition s (retransmission k p a) (withLog (red a (s .log)) s) [] false
   reddensInExchange : (a : Action) → s .membership .mode ≡ Exchange-states → Transition s (action a) (withLog (red a (s .log)) s) [] false
   greens : (a : Action) → s .membership .mode ≡ Reg-prim → Transition s (action a) (greenAndNote a s) [] false
   yellows : (a : Action) → s .membership .mode ≡ Trans-prim → Transition s (action a) (yellow a s) [] false
   installsLate : (a : Action) → s .membership .mode ≡ Un → Transition s (action a) (inMode Trans-prim (yellow a (install s))) [] true
+  -- a retransmission in an exchange, not the last; the last
   exchanges : (k p : ℕ) (a : Action) → s .membership .mode ≡ Exchange-actions → allCome (exchanged p a s) ≡ false
       → Transition s (retransmission k p a) (exchanged p a s) [] false
-  endsOnRetransmission : (k p : ℕ) (a : Action) (t : Server) (rs : List Record) → s .membership .mode ≡ Exchange-actions → allCome (exchanged p a s) ≡ true
+  exchangesLast : (k p : ℕ) (a : Action) (t : Server) (rs : List Record) → s .membership .mode ≡ Exchange-actions → allCome (exchanged p a s) ≡ true
       → Ends (exchanged p a s) t rs → Transition s (retransmission k p a) t rs true
-  collectsState : (x : State) → s .membership .mode ≡ Exchange-states → allStatesIn (withState x s) ≡ false → Transition s (state x) (withState x s) [] false
-  resends : (x : State) → s .membership .mode ≡ Exchange-states → allStatesIn (withState x s) ≡ true → (plannedNow (withState x s) =? 0) ≡ false
+  -- a State that is not the last; the last, with something planned; the last, with nothing planned
+  collects : (x : State) → s .membership .mode ≡ Exchange-states → allStatesIn (withState x s) ≡ false → Transition s (state x) (withState x s) [] false
+  collectsLast : (x : State) → s .membership .mode ≡ Exchange-states → allStatesIn (withState x s) ≡ true → (plannedNow (withState x s) =? 0) ≡ false
       → Transition s (state x) (resending (withState x s)) (ownPart (s .servers) (s .me) (s .log) (collected (withState x s))) false
-  endsOnState : (x : State) (t : Server) (rs : List Record) → s .membership .mode ≡ Exchange-states → allStatesIn (withState x s) ≡ true
+  collectsWhole : (x : State) (t : Server) (rs : List Record) → s .membership .mode ≡ Exchange-states → allStatesIn (withState x s) ≡ true
       → (plannedNow (withState x s) =? 0) ≡ true → Ends (withState x s) t rs → Transition s (state x) t rs true
-  collectsCpc : (k i : ℕ) → s .membership .mode ≡ Construct → allCpcsIn (withCpc k s) ≡ false → Transition s (cpc k i) (withCpc k s) [] false
+  -- a CPC that is not the last; the last; the same after a transitional configuration
+  counts : (k i : ℕ) → s .membership .mode ≡ Construct → allCpcsIn (withCpc k s) ≡ false → Transition s (cpc k i) (withCpc k s) [] false
   installs : (k i : ℕ) → s .membership .mode ≡ Construct → allCpcsIn (withCpc k s) ≡ true
       → Transition s (cpc k i) (sendHeld (inMode Reg-prim (install (withCpc k s)))) (heldRecords (inMode Reg-prim (install (withCpc k s)))) true
-  collectsLateCpc : (k i : ℕ) → s .membership .mode ≡ No → allCpcsIn (withCpc k s) ≡ false → Transition s (cpc k i) (withCpc k s) [] false
-  collectsLastLateCpc : (k i : ℕ) → s .membership .mode ≡ No → allCpcsIn (withCpc k s) ≡ true → Transition s (cpc k i) (inMode Un (withCpc k s)) [] false
+  countsLate : (k i : ℕ) → s .membership .mode ≡ No → allCpcsIn (withCpc k s) ≡ false → Transition s (cpc k i) (withCpc k s) [] false
+  countsAllLate : (k i : ℕ) → s .membership .mode ≡ No → allCpcsIn (withCpc k s) ≡ true → Transition s (cpc k i) (inMode Un (withCpc k s)) [] false
+  -- a regular configuration, with the mark kept, cleared, cleared and yellow made valid
   joins : (c : Configuration) → s .membership .mode ≡ Non-prim → Transition s (regular (c .id) (c .set)) (entering c s) (state (ownState c s) ∷ []) true
   joinsMarked : (c : Configuration) → s .membership .mode ≡ Un → Transition s (regular (c .id) (c .set)) (entering c s) (state (ownState c s) ∷ []) true
   joinsUnmarked : (c : Configuration) → s .membership .mode ≡ No
@@ -80,6 +86,7 @@ pub data Transition (s : Server) : Record → Server → List Record → Bool �
   joinsYellow : (c : Configuration) → s .membership .mode ≡ Trans-prim
       → Transition s (regular (c .id) (c .set)) (entering c (withVotes (yellowValid (unmarked (s .votes))) s))
       (state (ownState c (withVotes (yellowValid (unmarked (s .votes))) s)) ∷ []) true
+  -- a transitional configuration, a request sent or held, recovery
   leaves : (from to : Mode) (x : ℕ) → s .membership .mode ≡ from → Leads from to → Transition s (transitional x) (leave to x s) [] false
   sends : (p : List ℕ) → sendsNow (s .membership) ≡ true → Transition s (request p) (numbered (p ∷ []) s) (map action (madeOf (p ∷ []) s)) true
   holds : (p : List ℕ) → sendsNow (s .membership) ≡ false → Transition s (request p) (hold p s) [] false
