@@ -4,18 +4,14 @@ use mathlib.Core.Path.{_≡_, refl, sym, ap, _∙_}
 use mathlib.Core.Bool.{true, false}
 use mathlib.Core.List.{List, [], _∷_, _++_, map, map-append, append-nil}
 use mathlib.Core.Option.{some}
-use Rattle.base.specs.Tests.{pick, eq-yes, both-yes, Known, holds, fails, known}
+use Rattle.base.specs.Tests.{pick, pick-yes, pick-no, Known, holds, fails, known}
 use Rattle.base.specs.Prefixes.{gained-then}
 use Rattle.format.specs.Types.{Id, Action}
-use Rattle.format.specs.Range.{sameId}
 use Rattle.replication.specs.Machine.Types.{Log, Server}
 use Rattle.replication.specs.Machine.Colours.{find, remove, cut, nextIndex, isNext, enter, red, promote, promoteFound, greenId, green, addId, joinYellow, yellow}
 use Rattle.replication.specs.Laws.Folds.{follows, cutsWith, cutsAfter, entered, addIds, greenAll, yellowAll, Greened, Yellowed}
-use Rattle.replication.proofs.Step.Logs.{red-entered, red-ignored}
-
-pub same-id-self : (d : Id) → sameId d d ≡ true
-unfolding sameId
-same-id-self d = both-yes _ _ (eq-yes (d .creator) (d .creator) refl) (eq-yes (d .index) (d .index) refl)
+use Rattle.replication.proofs.Step.Logs.{red-entered, red-ignored, yellow-as}
+use Rattle.replication.proofs.WellFormed.Ids.{same-id-yes}
 
 -- An action is the next one by the log's cuts alone.
 pub next-follows : (l : Log) (a : Action) → isNext l a ≡ follows (l .cuts) a
@@ -27,11 +23,11 @@ next-follows l a = refl
 -- The action just entered is found among the reds, and leaves none.
 find-alone : (a : Action) (l : List Action) → l ≡ [] → find (a .id) (l ++ (a ∷ [])) ≡ some a
 unfolding find pick
-find-alone a l r = rw (r, same-id-self (a .id))
+find-alone a l r = rw (r, same-id-yes (a .id) (a .id) refl refl)
 
 remove-alone : (a : Action) (l : List Action) → l ≡ [] → remove (a .id) (l ++ (a ∷ [])) ≡ []
 unfolding remove pick
-remove-alone a l r = rw (r, same-id-self (a .id))
+remove-alone a l r = rw (r, same-id-yes (a .id) (a .id) refl refl)
 
 green-entered : (a : Action) (l : Log) → l .red ≡ [] → isNext l a ≡ true → green a l ≡ promote a (enter a l)
 unfolding green greenId promoteFound enter
@@ -54,16 +50,15 @@ green-one a l r = go (known (isNext l a))
         rw (green-ignored a l r e) (record { green = rw f (sym (append-nil (l .green))); red = r; cuts = rw f })
 
 pub yellow-one : (a : Action) (s : Server) → Yellowed (a ∷ []) s (yellow a s)
-unfolding yellow joinYellow addIds enter entered cutsAfter cutsWith pick
-yellow-one a s = go (known (isNext (s .log) a))
-  where
-    go : Known (isNext (s .log) a) → Yellowed (a ∷ []) s (yellow a s)
-    go (holds e) =
-        let f : follows (s .log .cuts) a ≡ true = sym (next-follows (s .log) a) ∙ e in
-        rw e (record { ids = rw f; status = refl; green = refl; red = rw f; cuts = rw f })
-    go (fails e) =
-        let f : follows (s .log .cuts) a ≡ false = sym (next-follows (s .log) a) ∙ e in
-        rw e (record { ids = rw f; status = refl; green = refl; red = rw f (sym (append-nil _)); cuts = rw f })
+unfolding joinYellow addIds enter entered cutsAfter cutsWith pick
+yellow-one a s =
+    yellow-as (Yellowed (a ∷ []) s) a s
+    (λ e.
+    let f : follows (s .log .cuts) a ≡ true = sym (next-follows (s .log) a) ∙ e in
+    record { ids = rw f; status = refl; green = refl; red = rw f; cuts = rw f })
+    (λ e.
+    let f : follows (s .log .cuts) a ≡ false = sym (next-follows (s .log) a) ∙ e in
+    record { ids = rw f; status = refl; green = refl; red = rw f (sym (append-nil _)); cuts = rw f })
 
 -- ---- one after another
 
@@ -136,9 +131,7 @@ green-appends a l r = go (known (isNext l a))
     go (fails e) = rw (green-ignored a l r e, e)
 
 pub yellow-adds : (a : Action) (s : Server) → (yellow a s) .votes .yellow .ids ≡ pick (isNext (s .log) a) (addId (a .id) (s .votes .yellow .ids)) (s .votes .yellow .ids)
-unfolding yellow joinYellow pick
-yellow-adds a s = go (known (isNext (s .log) a))
-  where
-    go : Known (isNext (s .log) a) → (yellow a s) .votes .yellow .ids ≡ pick (isNext (s .log) a) (addId (a .id) (s .votes .yellow .ids)) (s .votes .yellow .ids)
-    go (holds e) = rw e
-    go (fails e) = rw e
+unfolding joinYellow
+yellow-adds a s =
+    yellow-as (λ t. t .votes .yellow .ids ≡ pick (isNext (s .log) a) (addId (a .id) (s .votes .yellow .ids)) (s .votes .yellow .ids)) a s
+    (λ e. pick-yes _ _ _ _ e refl) (λ e. pick-no _ _ _ _ e refl)

@@ -13,13 +13,15 @@ use Rattle.replication.specs.Machine.Colours.{enter, red, green, joinYel
 use Rattle.replication.specs.Machine.Install.{installVotes, install}
 use Rattle.replication.specs.Machine.Step.{quiet, stored, greenAndNote}
 use Rattle.replication.specs.Machine.WellFormedFacts.{YellowEntered, Configured, ModeFits, WellFormed}
+use Rattle.replication.proofs.Step.Logs.{yellow-as}
+use Rattle.replication.proofs.Step.Numbered.{numbered-install}
+use Rattle.replication.proofs.Step.Growth.{red-grows, green-grows}
 use Rattle.replication.proofs.Step.Control.{yellow-membership}
 use Rattle.replication.proofs.Step.Folds.{yellow-one}
 use Rattle.replication.proofs.Step.Yellows.{yellow-gained}
-use Rattle.replication.proofs.WellFormed.Numbering.{red-rises, green-rises, install-log-numbered}
 use Rattle.replication.proofs.WellFormed.Changes.{Body, body, in-mode}
 use Rattle.replication.proofs.WellFormed.RuleFacts.{Delivered}
-use Rattle.replication.proofs.WellFormed.Effects.{red-body, green-and-note-body, yellow-as, yellow-body, install-body}
+use Rattle.replication.proofs.WellFormed.Effects.{red-body, green-and-note-body, yellow-body, install-body}
 use Rattle.replication.proofs.WellFormed.Kept.{Keeps, mode-kept, yellow-kept}
 
 module _ (s : Server) (f : WellFormed s) where
@@ -35,7 +37,7 @@ module _ (s : Server) (f : WellFormed s) where
   reddening-keeps a d = record {
     body = red-body s (body s f) a d;
     mode = mode-kept (s .membership .mode) s (red a (s .log)) (s .votes) (s .held) (s .noted) refl (f .mode);
-    yellow = λ z. yellow-kept (s .membership .mode) s (red a (s .log)) (s .held) (s .noted) (red-rises a (s .log) (inside a d)) z;
+    yellow = λ z. yellow-kept (s .membership .mode) s (red a (s .log)) (s .held) (s .noted) (red-grows a (s .log) .cuts) z;
   }
 
   pub greening-keeps : (a : Action) → Delivered s a → Keeps s (quiet s (greenAndNote a s))
@@ -43,7 +45,7 @@ module _ (s : Server) (f : WellFormed s) where
   greening-keeps a d = record {
     body = green-and-note-body s (body s f) a d;
     mode = mode-kept (s .membership .mode) s (green a (s .log)) (s .votes) (s .held) (note (a .id .creator) (a .greenLength) (s .noted)) refl (f .mode);
-    yellow = λ z. yellow-kept (s .membership .mode) s (green a (s .log)) (s .held) (note (a .id .creator) (a .greenLength) (s .noted)) (green-rises a (s .log) (inside a d)) z;
+    yellow = λ z. yellow-kept (s .membership .mode) s (green a (s .log)) (s .held) (note (a .id .creator) (a .greenLength) (s .noted)) (green-grows a (s .log) .cuts) z;
   }
 
   pub yellowing-keeps : (a : Action) → Delivered s a → s .membership .mode ≡ Trans-prim → Keeps s (quiet s (yellow a s))
@@ -52,7 +54,7 @@ module _ (s : Server) (f : WellFormed s) where
     body = yellow-body s (body s f) a d;
     mode =
         yellow-as (λ u. ModeFits (u .membership .mode) u) a s
-        (λ next. mode-kept (s .membership .mode) s (enter a (s .log)) (joinYellow (a .id) (s .votes)) (s .held) (s .noted) refl (f .mode)) (f .mode);
+        (λ next. mode-kept (s .membership .mode) s (enter a (s .log)) (joinYellow (a .id) (s .votes)) (s .held) (s .noted) refl (f .mode)) (λ old. f .mode);
     yellow = λ z.
         subst (λ m. YellowEntered m (yellow a s)) (sym (ap (λ m. m .mode) (yellow-membership a s) ∙ e))
         (yellow-gained (a ∷ []) s (yellow a s) (yellow-one a s) (subst (λ m. YellowEntered m s) e z) (inside a d, tt) .within);
@@ -75,4 +77,4 @@ module _ (s : Server) (f : WellFormed s) where
       installed = install-body s (body s f) (attempt .1)
 
       delivered : Delivered (install s) a
-      delivered = record { fits = d .fits; own = λ p. omega (arith, d .own p, install-log-numbered (s .votes .yellow .ids) (s .log)) }
+      delivered = record { fits = d .fits; own = λ p. omega (arith, d .own p, numbered-install (s .votes .yellow .ids) (s .log)) }

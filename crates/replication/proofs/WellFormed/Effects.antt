@@ -15,17 +15,18 @@ use Rattle.format.specs.Limits.{mostHeld, mostIndex}
 use Rattle.format.specs.Types.{Id, Action}
 use Rattle.format.specs.Range.{sameId, hasId}
 use Rattle.replication.specs.Machine.Types.{Non-prim, Votes, Server, withLog, withVotes, withHeld, noStates}
-use Rattle.replication.specs.Machine.Colours.{cut, enter, red, reds, green, addId, joinYellow, yellow, note}
+use Rattle.replication.specs.Machine.Colours.{cut, isNext, enter, red, reds, green, addId, joinYellow, yellow, note}
 use Rattle.replication.specs.Machine.Install.{installLog, installVotes, install}
 use Rattle.replication.specs.Machine.Requests.{quotaLeft, madeOf, numbered, hold, sendHeld, recovered}
 use Rattle.replication.specs.Machine.Step.{collected, plannedNow, placed, oneMore, exchanged, greenAndNote}
 use Rattle.replication.specs.Machine.WellFormed.{idsIn}
 use Rattle.replication.specs.Machine.WellFormedRanges.{idCount, IdFits, PayloadFits, VotesRanges}
+use Rattle.replication.proofs.Step.Logs.{red-entered, yellow-as}
+use Rattle.replication.proofs.Step.Numbered.{numbered-red, numbered-reds, numbered-green, numbered-placed, numbered-install}
 use Rattle.replication.proofs.Step.Yellows.{add-new, add-again}
 use Rattle.replication.proofs.WellFormed.Ids.{SameId, same, other, same-id?, not-had-counted}
-use Rattle.replication.proofs.WellFormed.Held.{Entered, entered, ignored, entered?}
-use Rattle.replication.proofs.WellFormed.Logs.{Numbered, ownId, enter-fits, enter-numbered, red-fits, red-numbered, reds-fits, reds-numbered, green-fits, install-log-fits}
-use Rattle.replication.proofs.WellFormed.Numbering.{green-numbered, install-log-numbered, placed-fits, placed-numbered, numberedLog, numbering-fits}
+use Rattle.replication.proofs.WellFormed.Logs.{Numbered, ownId, red-fits, reds-fits, green-fits, install-log-fits}
+use Rattle.replication.proofs.WellFormed.Numbering.{placed-fits, numberedLog, numbering-fits}
 use Rattle.replication.proofs.WellFormed.Decisions.{no-yellow-fits, planned-bound, note-length, note-bound}
 use Rattle.replication.proofs.WellFormed.Changes.{Body, log-changed, log-changed-alike, votes-changed, membership-changed, held-changed, noted-changed, mode-changed, collected-fit, no-states}
 use Rattle.replication.proofs.WellFormed.RuleFacts.{Delivered}
@@ -72,43 +73,33 @@ join-yellow-fits n q d v f fits = record {
 
 -- ---- actions
 
--- Yellow, by cases.
-pub yellow-as : (P : Server → Type 0) (a : Action) (s : Server)
-    → (a .id .index ≡ cut (s .log) (a .id .creator) + 1 → P (withVotes (joinYellow (a .id) (s .votes)) (withLog (enter a (s .log)) s))) → P s → P (yellow a s)
-unfolding yellow pick
-yellow-as P a s h k = go (entered? a (s .log))
-  where
-    go : Entered a (s .log) → P (yellow a s)
-    go (entered next t e) = rw t (h next)
-    go (ignored t e) = rw t k
-
 module _ (s : Server) (b : Body s) (a : Action) (d : Delivered s a) where
   pub red-body : Body (withLog (red a (s .log)) s)
-  red-body = log-changed-alike s b (red a (s .log)) (red-fits (s .servers) (s .quota) (s .me) a (s .log) (b .log) (d .fits) (d .own)) (red-numbered a (s .log))
+  red-body = log-changed-alike s b (red a (s .log)) (red-fits (s .servers) (s .quota) (s .me) a (s .log) (b .log) (d .fits) (d .own)) (numbered-red a (s .log))
 
   pub green-and-note-body : Body (greenAndNote a s)
   unfolding greenAndNote
   green-and-note-body =
       noted-changed (withLog (green a (s .log)) s)
-      (log-changed-alike s b (green a (s .log)) (green-fits (s .servers) (s .quota) (s .me) a (s .log) (b .log) (d .fits) (d .own)) (green-numbered a (s .log)))
+      (log-changed-alike s b (green a (s .log)) (green-fits (s .servers) (s .quota) (s .me) a (s .log) (b .log) (d .fits) (d .own)) (numbered-green a (s .log)))
       (note (a .id .creator) (a .greenLength) (s .noted))
       (note-length (a .id .creator) (a .greenLength) (s .noted))
       (note-bound (s .servers * s .quota) (a .id .creator) (a .greenLength) (s .noted) (b .noted) (d .fits .greenLength))
 
   pub yellow-body : Body (yellow a s)
-  yellow-body = yellow-as Body a s joined b
+  yellow-body = yellow-as Body a s joined (λ e. b)
     where
-      joined : a .id .index ≡ cut (s .log) (a .id .creator) + 1 → Body (withVotes (joinYellow (a .id) (s .votes)) (withLog (enter a (s .log)) s))
-      joined next =
-          votes-changed (withLog (enter a (s .log)) s)
-          (log-changed-alike s b (enter a (s .log)) (enter-fits (s .servers) (s .quota) (s .me) a (s .log) (b .log) (d .fits) next (d .own)) (enter-numbered a (s .log)))
-          (joinYellow (a .id) (s .votes)) (join-yellow-fits (s .servers) (s .quota) (a .id) (s .votes) (b .votes) (d .fits .id))
+      joined : isNext (s .log) a ≡ true → Body (withVotes (joinYellow (a .id) (s .votes)) (withLog (enter a (s .log)) s))
+      joined e =
+          rw (red-entered a (s .log) e) at
+          (votes-changed (withLog (red a (s .log)) s) red-body (joinYellow (a .id) (s .votes))
+          (join-yellow-fits (s .servers) (s .quota) (a .id) (s .votes) (b .votes) (d .fits .id)))
 
   pub exchanged-body : (p : ℕ) → s .membership .come < plannedNow s → Body (exchanged p a s)
   unfolding exchanged oneMore plannedNow
   exchanged-body p h =
       mode-changed (withLog (placed p a (s .log)) s)
-      (log-changed-alike s b (placed p a (s .log)) (placed-fits (s .servers) (s .quota) (s .me) p a (s .log) (b .log) (d .fits) (d .own)) (placed-numbered p a (s .log)))
+      (log-changed-alike s b (placed p a (s .log)) (placed-fits (s .servers) (s .quota) (s .me) p a (s .log) (b .log) (d .fits) (d .own)) (numbered-placed p a (s .log)))
       (s .membership .mode) (s .membership .come + 1)
       (omega (arith, planned-bound (s .servers) (s .quota) (collected s) (collected-fit s b)))
 
@@ -120,7 +111,7 @@ module _ (s : Server) (b : Body s) where
   install-body h =
       votes-changed (withLog (installLog (s .votes .yellow .ids) (s .log)) s)
       (log-changed-alike s b (installLog (s .votes .yellow .ids) (s .log)) (install-log-fits (s .servers) (s .quota) (s .me) (s .votes .yellow .ids) (s .log) (b .log))
-      (install-log-numbered (s .votes .yellow .ids) (s .log)))
+      (numbered-install (s .votes .yellow .ids) (s .log)))
       (installVotes (s .votes)) (install-votes-fits (s .servers) (s .quota) (s .votes) (b .votes) h)
 
   pub send-held-body : Body (sendHeld s)
@@ -150,8 +141,8 @@ module _ (s : Server) (b : Body s) where
       (held-changed (withLog (reds (s .log .own) (s .log)) s)
       (log-changed-alike s b (reds (s .log .own) (s .log))
       (reds-fits (s .servers) (s .quota) (s .me) (s .log .own) (s .log) (b .log) (b .log .ranges .own) own-numbered)
-      (reds-numbered (s .log .own) (s .log)))
-      [] (omega arith) tt (omega (arith, reds-numbered (s .log .own) (s .log), b .quota-kept)))
+      (numbered-reds (s .log .own) (s .log)))
+      [] (omega arith) tt (omega (arith, numbered-reds (s .log .own) (s .log), b .quota-kept)))
       (record { mode = Non-prim; configuration = none; transitional = none; states = noStates (s .servers); cpcs = s .membership .cpcs; come = s .membership .come })
       (record {
         configuration = λ d e. absurd (Option·none-ne-some d e);

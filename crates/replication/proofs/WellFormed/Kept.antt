@@ -13,9 +13,6 @@ use Rattle.replication.specs.Machine.Types.{Mode, Non-prim, Reg-prim, Tr
 use Rattle.replication.specs.Machine.Colours.{cut, enter, joinYellow}
 use Rattle.replication.specs.Machine.Step.{collected, hereSet, plannedNow}
 use Rattle.replication.specs.Machine.WellFormedFacts.{YellowWithinCuts, YellowEntered, ModeFits, Invariant}
-use Rattle.replication.proofs.WellFormed.Held.{CutAfter, risen, left, cut-after?}
-use Rattle.replication.proofs.WellFormed.Logs.{CutsRise}
-use Rattle.replication.proofs.WellFormed.Numbering.{enter-rises}
 use Rattle.replication.proofs.WellFormed.Changes.{Body, body, whole}
 
 -- ---- a fact of the state and the records of an outcome
@@ -61,7 +58,9 @@ mode-kept Construct s l v h w e f = (f .0, omega (arith, f .1))
 mode-kept No s l v h w e f = (f .0, omega (arith, f .1))
 mode-kept Un s l v h w e f = (f .0, omega (arith, f .1))
 
--- With a log whose cuts are no lower.
+abbrev pub CutsRise : Log → Log → Type 0
+CutsRise l m = (c : ℕ) → cut l c ≤ cut m c
+
 pub within-kept : (s : Server) (l : Log) → CutsRise (s .log) l → YellowWithinCuts s → YellowWithinCuts (withLog l s)
 within-kept s l r f =
     each-implied (λ d. d .index ≤ cut (s .log) (d .creator)) (λ d. d .index ≤ cut l (d .creator)) (λ d h. omega (arith, r (d .creator))) (s .votes .yellow .ids) f
