@@ -1,30 +1,24 @@
 -- In Reg_prim every held action is green and yellow is cleared; in Trans_prim every held action is green or yellow, and yellow is invalid.
-use Prim.Native.Nat.{ℕ}
 use mathlib.Core.Path.{_≡_, refl, sym, ap, subst, _∙_}
 use mathlib.Core.Bool.{Bool, true}
-use mathlib.Core.List.{List, [], _∷_, _++_, map, List·Memᴰ, List·Memᴰ·not-nil, List·Memᴰ·append-cases, Memᴰ·append-left, Memᴰ·append-right, Memᴰ·map}
+use mathlib.Core.List.{List, [], _∷_, map, List·Memᴰ, List·Memᴰ·not-nil, List·Memᴰ·append-cases, Memᴰ·map}
 use mathlib.Core.Logic.{_⊎_, inl, inr}
 use Rattle.format.specs.Types.{Action, Yellow, Record}
-use Rattle.replication.specs.Machine.Types.{Mode, Non-prim, Reg-prim, Trans-prim, Exchange-states, Exchange-actions, Server, taken, start, noYellow}
+use Rattle.replication.specs.Machine.Types.{Mode, Non-prim, Reg-prim, Trans-prim, Exchange-states, Exchange-actions, Server, noYellow}
 use Rattle.replication.specs.Machine.Colours.{red, yellow}
 use Rattle.replication.specs.Machine.Install.{installLog, install, installVotes}
 use Rattle.replication.specs.Machine.Requests.{numbered, hold, sendHeld, recovered}
-use Rattle.replication.specs.Machine.Step.{decided, attempting, withState, resending, oneMore, exchanged, withCpc, entering, leave, greenAndNote, step}
+use Rattle.replication.specs.Machine.Step.{decided, attempting, withState, resending, oneMore, exchanged, withCpc, entering, leave, greenAndNote}
 use Rattle.replication.specs.Machine.WellFormed.{wellFormed}
-use Rattle.replication.specs.Images.{started, lived}
 use Rattle.replication.specs.Laws.Transitions as L
 use Rattle.replication.specs.Laws.Transitions.{Ends, Leads, Transition}
-use Rattle.replication.specs.Laws.Images.{OfBoth}
 use Rattle.replication.specs.Laws.Modes.{ColourFacts, ColourFactsOf}
 use Rattle.replication.specs.Laws.Folds.{entered, addIds, Yellowed}
-use Rattle.replication.proofs.Step.Inversion.{taken-by}
-use Rattle.replication.proofs.Step.Moves.{moved}
 use Rattle.replication.proofs.Step.Control.{yellow-membership}
 use Rattle.replication.proofs.Step.Folds.{green-one, yellow-one}
 use Rattle.replication.proofs.Step.Yellows.{add-ids-keeps, add-ids-joins}
 use Rattle.replication.proofs.Step.Reds.{install-empties}
 use Rattle.replication.proofs.Step.Formed.{reds-differ, reds-within}
-use Rattle.replication.proofs.Step.Lifts.{lived-each}
 
 -- ---- the colours
 

@@ -1,13 +1,13 @@
 -- What the rules do to a state keeps row 8's clauses, apart from those on the eight states.
 -- Assumes nothing.
 use Prim.Native.Nat.{ℕ, _+_, _*_, _≤_, _<_}
-use mathlib.Core.Path.{_≡_, refl, ap}
+use mathlib.Core.Path.{_≡_, ap}
 use mathlib.Core.Bool.{true}
 use mathlib.Core.List.{List, [], _∷_, _++_}
 use mathlib.Core.Option.{none, Option·none-ne-some}
 use native.Mathlib.Omega.{arith}
 use lib.ListN.{length, set, length-append, length-replicate}
-use Rattle.base.specs.Tests.{pick, lt-holds, Known, holds, fails, known}
+use Rattle.base.specs.Tests.{lt-holds, Known, holds, fails, known}
 use Rattle.base.specs.Lists.{above}
 use Rattle.base.specs.ListLaws.{Each, each-append, each-implied, each-map, map-each, above-between}
 use Rattle.base.specs.Counts.{count-append, count-single}

@@ -1,16 +1,15 @@
 -- Outcomes that keep the invariant, and the parts of it that depend on which of the eight states it is.
 -- Assumes nothing.
-use Prim.Native.Nat.{ℕ, _+_, _≤_, _<_}
+use Prim.Native.Nat.{ℕ, _≤_}
 use mathlib.Core.Path.{_≡_, refl, subst}
 use mathlib.Core.Bool.{Bool, true, false}
-use mathlib.Core.List.{List, [], _∷_}
+use mathlib.Core.List.{List}
 use native.Mathlib.Omega.{arith}
-use lib.ListN.{length}
 use Rattle.base.specs.Tests.{pick}
-use Rattle.base.specs.ListLaws.{each-append, each-implied}
+use Rattle.base.specs.ListLaws.{each-implied}
 use Rattle.format.specs.Types.{Action, Record}
-use Rattle.replication.specs.Machine.Types.{Mode, Non-prim, Reg-prim, Trans-prim, Exchange-states, Exchange-actions, Construct, No, Un, Log, Votes, Server, Outcome, refused, taken, withLog, withVotes}
-use Rattle.replication.specs.Machine.Colours.{cut, enter, joinYellow}
+use Rattle.replication.specs.Machine.Types.{Mode, Non-prim, Reg-prim, Trans-prim, Exchange-states, Exchange-actions, Construct, No, Un, Log, Votes, Server, Outcome, refused, taken, withLog}
+use Rattle.replication.specs.Machine.Colours.{cut}
 use Rattle.replication.specs.Machine.Step.{collected, hereSet, plannedNow}
 use Rattle.replication.specs.Machine.WellFormedFacts.{YellowWithinCuts, YellowEntered, ModeFits, Invariant}
 use Rattle.replication.proofs.WellFormed.Changes.{Body, body, whole}

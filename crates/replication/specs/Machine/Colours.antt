@@ -1,14 +1,14 @@
 -- Document 01, 'What each event does', second paragraph: Red, Yellow, Green.
 -- Assumes nothing.
 use Prim.Native.Nat.{ℕ, _+_, max}
-use mathlib.Core.Bool.{Bool, true, false}
+use mathlib.Core.Bool.{Bool}
 use mathlib.Core.List.{List, [], _∷_, _++_}
 use mathlib.Core.Option.{Option, none, some}
-use lib.ListN.{length, getD, set}
+use lib.ListN.{getD, set}
 use Rattle.base.specs.Tests.{_=?_, pick}
-use Rattle.format.specs.Types.{Id, Action, Yellow}
+use Rattle.format.specs.Types.{Id, Action}
 use Rattle.format.specs.Range.{sameId, hasId}
-use Rattle.replication.specs.Machine.Types.{Log, Votes, Server, withLog, withVotes, withNoted}
+use Rattle.replication.specs.Machine.Types.{Log, Votes, Server, withLog, withVotes}
 
 -- ---- actions in a list, by id
 
