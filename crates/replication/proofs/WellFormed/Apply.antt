@@ -5,7 +5,7 @@ use mathlib.Core.Path.{_≡_, refl}
 use mathlib.Core.Bool.{true}
 use mathlib.Core.List.{List, [], _∷_, _++_, map}
 use native.Mathlib.Omega.{arith}
-use Rattle.base.specs.Tests.{_or_, lt-holds}
+use Rattle.base.specs.Tests.{_or_, lt-holds, pick-as}
 use Rattle.format.specs.Types.{action}
 use Rattle.replication.specs.Machine.Types.{Mode, Configuration, Server, withVotes}
 use Rattle.replication.specs.Machine.Colours.{cut, yellow}
@@ -19,7 +19,7 @@ use Rattle.replication.proofs.WellFormed.Changes.{Body, body}
 use Rattle.replication.proofs.WellFormed.RuleFacts.{RuleFits}
 use Rattle.replication.proofs.WellFormed.Effects.{number-body, hold-body, recovered-body}
 use Rattle.replication.proofs.WellFormed.Exchanges.{entering-body, unmarked-body, yellow-valid-body, leave-body}
-use Rattle.replication.proofs.WellFormed.Kept.{either, Kept, Keeps, mode-kept, yellow-kept}
+use Rattle.replication.proofs.WellFormed.Kept.{Keeps, mode-kept, yellow-kept}
 use Rattle.replication.proofs.WellFormed.Actions.{ignoring-keeps, reddening-keeps, greening-keeps, yellowing-keeps, lateInstalling-keeps}
 use Rattle.replication.proofs.WellFormed.Attempts.{exchanging-keeps, collectingState-keeps, collectingCpc-keeps, collectingLateCpc-keeps}
 
@@ -57,7 +57,7 @@ module _ (s : Server) (f : WellFormed s) where
   requesting-keeps : (p : List ℕ) → PayloadFits p → quotaLeft s ≡ true → roomToHold s ≡ true → Keeps s (requested p s)
   unfolding requested stored quiet numbered hold cut roomToHold _or_
   requesting-keeps p g q r =
-      either (λ u r. Kept s u) (sendsNow (s .membership)) (stored s (numbered (p ∷ []) s) (map action (madeOf (p ∷ []) s))) (quiet s (hold p s))
+      pick-as (Keeps s) (sendsNow (s .membership)) (stored s (numbered (p ∷ []) s) (map action (madeOf (p ∷ []) s))) (quiet s (hold p s))
       (λ h. record {
         body = number-body s (body s f) p g q;
         mode = mode-kept (s .membership .mode) s ((numbered (p ∷ []) s) .log) (s .votes) (s .held) (s .noted) refl (f .mode);

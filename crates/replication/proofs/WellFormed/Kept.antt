@@ -1,11 +1,10 @@
 -- Outcomes that keep the invariant, and the parts of it that depend on which of the eight states it is.
 -- Assumes nothing.
 use Prim.Native.Nat.{ℕ, _≤_}
-use mathlib.Core.Path.{_≡_, refl, subst}
-use mathlib.Core.Bool.{Bool, true, false}
+use mathlib.Core.Path.{_≡_, sym, subst}
+use mathlib.Core.Bool.{Bool}
 use mathlib.Core.List.{List}
 use native.Mathlib.Omega.{arith}
-use Rattle.base.specs.Tests.{pick}
 use Rattle.base.specs.ListLaws.{each-implied}
 use Rattle.format.specs.Types.{Action, Record}
 use Rattle.replication.specs.Machine.Types.{Mode, Non-prim, Reg-prim, Trans-prim, Exchange-states, Exchange-actions, Construct, No, Un, Log, Votes, Server, Outcome, refused, taken, withLog}
@@ -24,11 +23,6 @@ pub after-taken : (P : Server → List Record → Type 0) (o : Outcome Record) (
     → After P o → P t r
 after-taken P o t r b g e h = subst (After P) e h
 
-pub either : (P : Server → List Record → Type 0) (t : Bool) (x y : Outcome Record) → (t ≡ true → After P x) → (t ≡ false → After P y) → After P (pick t x y)
-unfolding pick
-either P true x y h k = h refl
-either P false x y h k = k refl
-
 -- ---- from s to t row 8 and the yellow list's fact were kept
 
 pub record Kept (s t : Server) : Type 0 where
@@ -39,6 +33,10 @@ pub record Kept (s t : Server) : Type 0 where
 -- The records do not matter here.
 abbrev pub Keeps : Server → Outcome Record → Type 0
 Keeps s o = After (λ t r. Kept s t) o
+
+-- Kept, at a state known to be m.
+pub kept-at : (s t : Server) (m : Mode) → t .membership .mode ≡ m → Body t → ModeFits m t → YellowEntered m t → Kept s t
+kept-at s t m e b f y = record { body = b; mode = subst (λ n. ModeFits n t) (sym e) f; yellow = λ z. subst (λ n. YellowEntered n t) (sym e) y }
 
 pub kept-invariant : (s t : Server) → Invariant s → Kept s t → Invariant t
 kept-invariant s t v k = record { well-formed = whole t (k .body) (k .mode); yellow = k .yellow (v .yellow) }

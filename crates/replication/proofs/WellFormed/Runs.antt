@@ -1,13 +1,14 @@
 -- The start is well-formed, and so are both images of a server after any events: in a run no event returns 8.
 -- Assumes nothing.
-use Prim.Native.Nat.{ℕ, zero, suc, _<_}
-use mathlib.Core.Path.{_≡_, refl, sym, ap}
+use Prim.Native.Nat.{ℕ, _<_}
+use mathlib.Core.Path.{_≡_, sym, ap}
 use mathlib.Core.Bool.{true}
 use mathlib.Core.List.{List, map}
 use mathlib.Core.Option.{none, Option·none-ne-some}
 use native.Mathlib.Omega.{arith}
-use lib.ListN.{getD, replicate, length-replicate}
+use lib.ListN.{length-replicate}
 use Rattle.base.specs.Tests.{both-yes, lt-yes}
+use Rattle.base.specs.ListLaws.{replicate-at}
 use Rattle.base.specs.Lists.{after, above}
 use Rattle.base.specs.Counts.{count}
 use Rattle.base.specs.SetLaws.{everyone-below}
@@ -33,11 +34,6 @@ use Rattle.replication.proofs.WellFormed.Decisions.{empty-below, cleare
 use Rattle.replication.proofs.WellFormed.Changes.{no-states}
 use Rattle.replication.proofs.WellFormed.Steps.{step-well-formed, step-invariant}
 
-zero-at : (n k : ℕ) → getD (replicate {A = ℕ} n 0) k 0 ≡ 0
-zero-at zero k = refl
-zero-at (suc n) zero = refl
-zero-at (suc n) (suc k) = zero-at n k
-
 module _ (n q i : ℕ) (sizes : sizesOk n q ≡ true) (own : i < n) where
   start-sizes : SizesFit n q i
   unfolding contextOk
@@ -51,7 +47,7 @@ module _ (n q i : ℕ) (sizes : sizesOk n q ≡ true) (own : i < n) where
       green = tt;
       red = tt;
       cuts-length = length-replicate n 0;
-      cuts = λ c. omega (arith, zero-at n c);
+      cuts = λ c. omega (arith, replicate-at {A = ℕ} 0 n c);
       own = tt;
       numbered = omega arith;
     };
@@ -72,10 +68,10 @@ module _ (n q i : ℕ) (sizes : sizesOk n q ≡ true) (own : i < n) where
     held-length = omega arith;
     held = tt;
     noted-length = length-replicate n 0;
-    noted = λ c. omega (arith, zero-at n c);
+    noted = λ c. omega (arith, replicate-at {A = ℕ} 0 n c);
     once = λ d. omega arith;
-    held-to-cuts = record { within = λ d h. absurd (omega arith); entered = λ d low high. absurd (omega (arith, zero-at n (d .creator))) };
-    own-list = record { numbered = omega (arith, zero-at n i); ids = ap (λ k. map (λ j. record { creator = i; index = j }) (above k 0)) (sym (zero-at n i)) };
+    held-to-cuts = record { within = λ d h. absurd (omega arith); entered = λ d low high. absurd (omega (arith, replicate-at {A = ℕ} 0 n (d .creator))) };
+    own-list = record { numbered = omega (arith, replicate-at {A = ℕ} 0 n i); ids = ap (λ k. map (λ j. record { creator = i; index = j }) (above k 0)) (sym (replicate-at {A = ℕ} 0 n i)) };
     quota-kept = omega arith;
     mode = tt;
   }
