@@ -5,7 +5,7 @@ use mathlib.Core.Bool.{Bool, true, false}
 use mathlib.Core.List.{List, [], _∷_, _++_}
 use mathlib.Core.Option.{Option, none, some}
 use lib.ListN.{length}
-use Rattle.base.specs.Tests.{_and_, _=?_, _≤?_, pick, eq-holds, Known, holds, fails, known}
+use Rattle.base.specs.Tests.{_and_, _=?_, _≤?_, pick, pick-as, eq-holds, Known, holds, fails, known}
 use Rattle.format.specs.Types.{Id, Action, Record}
 use Rattle.replication.specs.Machine.Types.{Log, Server, withLog, withVotes}
 use Rattle.replication.specs.Machine.Colours.{find, cut, nextIndex, isNext, enter, red, reds, promote, promoteFound, greenId, greenIds, green, joinYellow, yellow}
@@ -33,12 +33,8 @@ red-ignored a l e = rw e
 -- Yellow, by cases.
 pub yellow-as : (P : Server → Type 0) (a : Action) (s : Server)
     → (isNext (s .log) a ≡ true → P (withVotes (joinYellow (a .id) (s .votes)) (withLog (enter a (s .log)) s))) → (isNext (s .log) a ≡ false → P s) → P (yellow a s)
-unfolding yellow pick
-yellow-as P a s h k = go (known (isNext (s .log) a))
-  where
-    go : Known (isNext (s .log) a) → P (yellow a s)
-    go (holds e) = rw e (h e)
-    go (fails e) = rw e (k e)
+unfolding yellow
+yellow-as P a s entered ignored = pick-as P (isNext (s .log) a) _ s entered ignored
 
 -- The log of a server that colours an action yellow is as if red.
 pub yellow-log : (a : Action) (s : Server) → (yellow a s) .log ≡ red a (s .log)

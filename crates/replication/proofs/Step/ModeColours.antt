@@ -5,7 +5,7 @@ use mathlib.Core.List.{List, [], _∷_, map, List·Memᴰ, List·Memᴰ·not-nil
 use mathlib.Core.Logic.{_⊎_, inl, inr}
 use Rattle.format.specs.Types.{Action, Yellow, Record}
 use Rattle.replication.specs.Machine.Types.{Mode, Non-prim, Reg-prim, Trans-prim, Exchange-states, Exchange-actions, Server, noYellow}
-use Rattle.replication.specs.Machine.Colours.{red, yellow}
+use Rattle.replication.specs.Machine.Colours.{yellow}
 use Rattle.replication.specs.Machine.Install.{installLog, install, installVotes}
 use Rattle.replication.specs.Machine.Requests.{numbered, hold, sendHeld, recovered}
 use Rattle.replication.specs.Machine.Step.{decided, attempting, withState, resending, oneMore, exchanged, withCpc, entering, leave, greenAndNote}

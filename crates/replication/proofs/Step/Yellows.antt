@@ -7,7 +7,7 @@ use mathlib.Core.List.{List, [], _∷_, _++_, map, append-nil, append-assoc, Lis
 use native.Mathlib.Omega.{arith}
 use lib.ListN.{length, getD, set, length-set}
 use lib.Seq.{getD-set-same}
-use Rattle.base.specs.Tests.{pick, eq-holds, Known, holds, fails, known}
+use Rattle.base.specs.Tests.{pick, pick-as, eq-holds, Known, holds, fails, known}
 use Rattle.base.specs.ListLaws.{Each, each-append, each-implied}
 use Rattle.base.specs.Prefixes.{set-rises}
 use Rattle.format.specs.Types.{Id, Action}
@@ -20,29 +20,18 @@ use Rattle.replication.proofs.WellFormed.Ids.{has-counted, has-member, 
 
 -- ---- one id
 
-pub add-new : (d : Id) (ids : List Id) → hasId d ids ≡ false → addId d ids ≡ ids ++ (d ∷ [])
-unfolding addId pick
-add-new d ids h = rw h
-
-pub add-again : (d : Id) (ids : List Id) → hasId d ids ≡ true → addId d ids ≡ ids
-unfolding addId pick
-add-again d ids h = rw h
+-- A list that an id joins, by cases: it is there already, or it is new.
+pub add-as : (P : List Id → Type 0) (d : Id) (ids : List Id) → (hasId d ids ≡ true → P ids) → (hasId d ids ≡ false → P (ids ++ (d ∷ []))) → P (addId d ids)
+unfolding addId
+add-as P d ids again new = pick-as P (hasId d ids) ids (ids ++ (d ∷ [])) again new
 
 -- ---- what is on the list after ids joined
 
 add-keeps : (x d : Id) (ids : List Id) → List·Memᴰ x ids → List·Memᴰ x (addId d ids)
-add-keeps x d ids m = go (known (hasId d ids))
-  where
-    go : Known (hasId d ids) → List·Memᴰ x (addId d ids)
-    go (holds h) = rw (add-again d ids h) m
-    go (fails h) = rw (add-new d ids h) (Memᴰ·append-left _ m)
+add-keeps x d ids m = add-as (List·Memᴰ x) d ids (λ h. m) (λ h. Memᴰ·append-left _ m)
 
 add-joins : (d : Id) (ids : List Id) → List·Memᴰ d (addId d ids)
-add-joins d ids = go (known (hasId d ids))
-  where
-    go : Known (hasId d ids) → List·Memᴰ d (addId d ids)
-    go (holds h) = rw (add-again d ids h) (has-member d ids h)
-    go (fails h) = rw (add-new d ids h) (Memᴰ·append-right ids (List·Memᴰ·head refl))
+add-joins d ids = add-as (List·Memᴰ d) d ids (has-member d ids) (λ h. Memᴰ·append-right ids (List·Memᴰ·head refl))
 
 pub add-ids-keeps : (x : Id) (ds ids : List Id) → List·Memᴰ x ids → List·Memᴰ x (addIds ds ids)
 unfolding addIds
@@ -60,20 +49,15 @@ add-ids-joins x (d ∷ ds) ids (List·Memᴰ·tail m) = add-ids-joins x ds (addI
 abbrev Within : List ℕ → Id → Type 0
 Within cuts d = d .index ≤ getD cuts (d .creator) 0
 
-above-new : (cuts : List ℕ) (d : Id) (ids : List Id) → Each (Within cuts) ids → getD cuts (d .creator) 0 < d .index → hasId d ids ≡ false
-above-new cuts d ids w h = go (known (hasId d ids))
-  where
-    go : Known (hasId d ids) → hasId d ids ≡ false
-    go (holds e) = absurd (omega (arith, counted-fact (Within cuts) d ids w (has-counted d ids e)))
-    go (fails e) = e
-
 module _ (cuts : List ℕ) (a : Action) (ids : List Id) (w : Each (Within cuts) ids) (inside : a .id .creator < length cuts) (f : follows cuts a ≡ true) where
   next : a .id .index ≡ getD cuts (a .id .creator) 0 + 1
   unfolding follows
   next = eq-holds _ _ f
 
   entered-new : addId (a .id) ids ≡ ids ++ (a .id ∷ [])
-  entered-new = add-new (a .id) ids (above-new cuts (a .id) ids w (omega (arith, next)))
+  entered-new =
+      add-as (λ l. l ≡ ids ++ (a .id ∷ [])) (a .id) ids
+      (λ h. absurd (omega (arith, next, counted-fact (Within cuts) (a .id) ids w (has-counted (a .id) ids h)))) (λ h. refl)
 
   entered-within : Each (Within (set cuts (a .id .creator) (a .id .index))) (ids ++ (a .id ∷ []))
   entered-within =

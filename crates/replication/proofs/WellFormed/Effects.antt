@@ -2,12 +2,12 @@
 -- Assumes nothing.
 use Prim.Native.Nat.{ℕ, _+_, _*_, _≤_, _<_}
 use mathlib.Core.Path.{_≡_, ap}
-use mathlib.Core.Bool.{true}
+use mathlib.Core.Bool.{true, false}
 use mathlib.Core.List.{List, [], _∷_, _++_}
 use mathlib.Core.Option.{none, Option·none-ne-some}
 use native.Mathlib.Omega.{arith}
 use lib.ListN.{length, set, length-append, length-replicate}
-use Rattle.base.specs.Tests.{lt-holds, Known, holds, fails, known}
+use Rattle.base.specs.Tests.{lt-holds}
 use Rattle.base.specs.Lists.{above}
 use Rattle.base.specs.ListLaws.{Each, each-append, each-implied, each-map, map-each, above-between}
 use Rattle.base.specs.Counts.{count-append, count-single}
@@ -23,7 +23,7 @@ use Rattle.replication.specs.Machine.WellFormed.{idsIn}
 use Rattle.replication.specs.Machine.WellFormedRanges.{idCount, IdFits, PayloadFits, VotesRanges}
 use Rattle.replication.proofs.Step.Logs.{red-entered, yellow-as}
 use Rattle.replication.proofs.Step.Numbered.{numbered-red, numbered-reds, numbered-green, numbered-placed, numbered-install}
-use Rattle.replication.proofs.Step.Yellows.{add-new, add-again}
+use Rattle.replication.proofs.Step.Yellows.{add-as}
 use Rattle.replication.proofs.WellFormed.Ids.{SameId, same, other, same-id?, not-had-counted}
 use Rattle.replication.proofs.WellFormed.Logs.{Numbered, ownId, red-fits, reds-fits, green-fits, install-log-fits}
 use Rattle.replication.proofs.WellFormed.Numbering.{placed-fits, numberedLog, numbering-fits}
@@ -43,20 +43,14 @@ install-votes-fits n q v f h = record {
 }
 
 add-id-fits : (n q : ℕ) (d : Id) (ids : List Id) → Each (IdFits n q) ids → IdFits n q d → Each (IdFits n q) (addId d ids)
-add-id-fits n q d ids f fits = go (known (hasId d ids))
-  where
-    go : Known (hasId d ids) → Each (IdFits n q) (addId d ids)
-    go (holds h) = rw (add-again d ids h) f
-    go (fails h) = rw (add-new d ids h) (each-append (IdFits n q) ids (d ∷ []) f (fits, tt))
+add-id-fits n q d ids f fits = add-as (Each (IdFits n q)) d ids (λ h. f) (λ h. each-append (IdFits n q) ids (d ∷ []) f (fits, tt))
 
 add-id-once : (d : Id) (ids : List Id) → ((e : Id) → idCount e ids ≤ 1) → (e : Id) → idCount e (addId d ids) ≤ 1
-add-id-once d ids f e = go (known (hasId d ids)) (same-id? e d)
+add-id-once d ids f e = add-as (λ l. idCount e l ≤ 1) d ids (λ h. f e) (λ h. go h (same-id? e d))
   where
-    go : Known (hasId d ids) → SameId e d → idCount e (addId d ids) ≤ 1
-    go (holds h) x = rw (add-again d ids h) (f e)
-    go (fails h) (same p c i t u) =
-        rw (add-new d ids h) (omega (arith, count-append (sameId e) ids (d ∷ []), count-single (sameId e) d, not-had-counted d ids h, ap (λ y. idCount y ids) p))
-    go (fails h) (other m t u) = rw (add-new d ids h) (omega (arith, count-append (sameId e) ids (d ∷ []), count-single (sameId e) d, f e))
+    go : hasId d ids ≡ false → SameId e d → idCount e (ids ++ (d ∷ [])) ≤ 1
+    go h (same p c i t u) = omega (arith, count-append (sameId e) ids (d ∷ []), count-single (sameId e) d, not-had-counted d ids h, ap (λ y. idCount y ids) p)
+    go h (other m t u) = omega (arith, count-append (sameId e) ids (d ∷ []), count-single (sameId e) d, f e)
 
 join-yellow-fits : (n q : ℕ) (d : Id) (v : Votes) → VotesRanges n q v → IdFits n q d → VotesRanges n q (joinYellow d v)
 unfolding joinYellow

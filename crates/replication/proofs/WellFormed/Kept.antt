@@ -55,10 +55,11 @@ mode-kept Construct s l v h w e f = (f .0, omega (arith, f .1))
 mode-kept No s l v h w e f = (f .0, omega (arith, f .1))
 mode-kept Un s l v h w e f = (f .0, omega (arith, f .1))
 
+-- No cut of the log m is lower than in the log l.
 abbrev pub CutsRise : Log → Log → Type 0
 CutsRise l m = (c : ℕ) → cut l c ≤ cut m c
 
-pub within-kept : (s : Server) (l : Log) → CutsRise (s .log) l → YellowWithinCuts s → YellowWithinCuts (withLog l s)
+within-kept : (s : Server) (l : Log) → CutsRise (s .log) l → YellowWithinCuts s → YellowWithinCuts (withLog l s)
 within-kept s l r f =
     each-implied (λ d. d .index ≤ cut (s .log) (d .creator)) (λ d. d .index ≤ cut l (d .creator)) (λ d h. omega (arith, r (d .creator))) (s .votes .yellow .ids) f
 
