@@ -1,0 +1,5 @@
+pub mod Beginnings
+pub mod Terms
+pub mod Parts
+pub mod Invariant
+pub mod Residues
