@@ -3,3 +3,4 @@ pub mod Terms
 pub mod Parts
 pub mod Invariant
 pub mod Residues
+pub mod Comparing

@@ -13,12 +13,15 @@ use Rattle.replication.specs.Runs.Allowed.{Allowed}
 use Rattle.replication.proofs.Agreement.Terms.{Image, InstallsAt, installed}
 use Rattle.replication.proofs.Agreement.Votes.Judging.{Alike}
 use Rattle.replication.proofs.Agreement.Greens.Beginnings.{Prefix}
-use Rattle.replication.proofs.Agreement.Greens.Terms.{greens, plus, Fifo, validYellow, baseOf, markOfInstall, residue, Reached, Answers, Known}
+use Rattle.replication.proofs.Agreement.Greens.Terms.{greens, plus, Fifo, validYellow, baseOf, cutsOf, markOfInstall, residue, Reached, Answers, Known}
 
 module _ {n q : ℕ} {l : Run} (A : Allowed n q l) where
   pub record Invariant (t : ℕ) : Type 0 where
     -- Every green list is within an installed primary component.
     pub reached : (s : ℕ) (u : Server) → Image n q l t s u → Reached A t s (greens u)
+    -- The Installs in one configuration give the same.
+    pub same-install : (p r i j : ℕ) (c : Configuration) (x : InstallsAt n q l p i c) (y : InstallsAt n q l r j c) → p < t → r < t
+        → (baseOf A x ≡ baseOf A y) × (cutsOf A x ≡ cutsOf A y)
     -- Whoever knows a primary component has what was green at its Install.
     pub has-base : (p i s : ℕ) (c : Configuration) (u : Server) (x : InstallsAt n q l p i c) → p < t → Image n q l t s u
         → u .votes .last .index ≡ installed n q l x .index → Prefix (baseOf A x) (greens u)
