@@ -4,3 +4,5 @@ pub mod Parts
 pub mod Invariant
 pub mod Residues
 pub mod Comparing
+pub mod Taking
+pub mod Claim

@@ -46,18 +46,18 @@ module _ {A : Type 0} where
   comparable-sym (shorter h) = longer h
   comparable-sym (longer h) = shorter h
 
-  prefix-cons : {x y : List A} (a b : A) → a ≡ b → Prefix x y → Prefix (a ∷ x) (b ∷ y)
+  pub prefix-cons : {x y : List A} (a b : A) → a ≡ b → Prefix x y → Prefix (a ∷ x) (b ∷ y)
   unfolding Begins
   prefix-cons {x} {y} a b e h = prefix-to (record { begins = (h .begins .0, ap (λ w. a ∷ w) (h .begins .1)) }) (ap (λ z. z ∷ y) e)
 
-  prefix-head : {a b : A} {x y : List A} → Prefix (a ∷ x) (b ∷ y) → a ≡ b
+  pub prefix-head : {a b : A} {x y : List A} → Prefix (a ∷ x) (b ∷ y) → a ≡ b
   unfolding Begins
   prefix-head {a} {b} {x} {y} h = heads (h .begins .1)
     where
       heads : {z : List A} → b ∷ y ≡ a ∷ z → a ≡ b
       heads e = cc
 
-  prefix-tail : {a b : A} {x y : List A} → Prefix (a ∷ x) (b ∷ y) → Prefix x y
+  pub prefix-tail : {a b : A} {x y : List A} → Prefix (a ∷ x) (b ∷ y) → Prefix x y
   unfolding Begins
   prefix-tail {a} {b} {x} {y} h = record { begins = (h .begins .0, tails (h .begins .1)) }
     where
