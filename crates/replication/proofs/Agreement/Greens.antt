@@ -6,3 +6,4 @@ pub mod Residues
 pub mod Comparing
 pub mod Taking
 pub mod Claim
+pub mod Steps
