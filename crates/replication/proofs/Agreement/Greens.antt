@@ -7,3 +7,5 @@ pub mod Comparing
 pub mod Taking
 pub mod Claim
 pub mod Steps
+pub mod Images
+pub mod Settling
