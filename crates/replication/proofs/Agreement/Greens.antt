@@ -9,3 +9,4 @@ pub mod Claim
 pub mod Steps
 pub mod Images
 pub mod Settling
+pub mod Reaching
