@@ -10,3 +10,5 @@ pub mod Steps
 pub mod Images
 pub mod Settling
 pub mod Reaching
+pub mod Earlier
+pub mod Bases

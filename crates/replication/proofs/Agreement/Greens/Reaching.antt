@@ -36,11 +36,12 @@ use Rattle.replication.proofs.Agreement.Greens.Settling.{settled-prefix
 
 module _ {n q : ℕ} {l : Run} (A : Allowed n q l) where
   -- An event that installs, at a server that takes it.
-  pub installs-here : {t s : ℕ} (x : Acts n q l t s) → installing (memoryAt n q l t s) (x .by .event) ≡ true → (c : Configuration) × InstallsAt n q l t s c
+  pub installs-here : {t s : ℕ} (x : Acts n q l t s) → installing (memoryAt n q l t s) (x .by .event) ≡ true
+      → (c : Configuration) × (y : InstallsAt n q l t s c) × (y .acts ≡ x)
   installs-here {t} {s} x h =
       let k = ap (λ z. installsBy z (memoryAt n q l t s)) (sym (x .by .ruled)) ∙ h in
       let c = installer-configured A x k in
-      (c .0, record { acts = x; installs = k; here = c .1 })
+      (c .0, record { acts = x; installs = k; here = c .1 }, refl)
 
   pub base-after : {t s : ℕ} {c : Configuration} (x : InstallsAt n q l t s c) → greens (x .acts .after) ≡ baseOf A x
   unfolding baseOf
@@ -54,10 +55,10 @@ module _ {n q : ℕ} {l : Run} (A : Allowed n q l) where
     memory-reached : {s : ℕ} (x : Acts n q l t s) → Reached A t s (greens (memoryAt n q l t s))
     memory-reached {s} x = U t (omega arith) .reached s (memoryAt n q l t s) (in-memory (x .up))
 
-    installing-reached : {s : ℕ} (x : Acts n q l t s) → (c : Configuration) × InstallsAt n q l t s c → greens (memoryAt n q l (suc t) s) ≡ greens (x .after)
+    installing-reached : {s : ℕ} (x : Acts n q l t s) → (c : Configuration) × (y : InstallsAt n q l t s c) × (y .acts ≡ x) → greens (memoryAt n q l (suc t) s) ≡ greens (x .after)
         → Reached A (suc t) s (greens (x .after))
     unfolding baseOf
-    installing-reached {s} x (c, y) e = settled (at-base t s c y (omega arith) (prefix-same (sym e)))
+    installing-reached {s} x (c, y, z) e = settled (at-base t s c y (omega arith) (prefix-same (sym e)))
 
     acting : {s : ℕ} (x : Acts n q l t s) → GreenChange (memoryAt n q l t s) (x .by .event) (x .after) → Reached A (suc t) s (greens (x .after))
     unfolding moved installsBy ruleFor onAction onCpc
