@@ -12,3 +12,4 @@ pub mod Settling
 pub mod Reaching
 pub mod Earlier
 pub mod Bases
+pub mod Covering

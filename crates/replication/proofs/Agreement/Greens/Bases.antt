@@ -68,7 +68,7 @@ module _ {n q : ℕ} {l : Run} (A : Allowed n q l) (X : ExchangeFacts n q l) (P 
         prefix-to
         (taken-base x h (z .1) (ap (λ w. w .index) (sym (ended-last (z .1))) ∙ ap (λ w. w .votes .last .index) (y .memory-next) ∙ e))
         (ap greens (y .memory-next))
-    acting {s} y (S.installs k b a j) e =
+    acting {s} y (S.installs k b a j g) e =
         let z = installs-here A y k in
         prefix-same
         (installing-base x h (unique-install A X x (z .1) (sym e ∙ ap (λ w. w .after .votes .last .index) (sym (z .2))) .0) (z .1) ∙ sym (base-after A (z .1))
