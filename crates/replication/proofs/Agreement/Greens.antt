@@ -13,3 +13,4 @@ pub mod Reaching
 pub mod Earlier
 pub mod Bases
 pub mod Covering
+pub mod Silence

@@ -47,7 +47,7 @@ use Rattle.replication.proofs.Agreement.Greens.Earlier.{Earlier, earlie
 module _ {n q : ℕ} {l : Run} (A : Allowed n q l) where
   -- ---- the state that installs
 
-  installing-attempts : {p i : ℕ} {c : Configuration} (x : InstallsAt n q l p i c)
+  pub installing-attempts : {p i : ℕ} {c : Configuration} (x : InstallsAt n q l p i c)
       → (M.attempting (modeAt n q l p i) ≡ true) × Attempts (votesAt n q l p i) (memoryAt n q l p i .membership .configuration)
   unfolding M.attempting
   installing-attempts {p} {i} x = go (installing-at x .from) (mode-facts-at n q l i p .memory)
