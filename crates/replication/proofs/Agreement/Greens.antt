@@ -14,3 +14,4 @@ pub mod Earlier
 pub mod Bases
 pub mod Covering
 pub mod Silence
+pub mod Answering

@@ -18,7 +18,7 @@ use Rattle.replication.specs.Runs.Run.{Run}
 use Rattle.replication.specs.Runs.Happenings.{Takes, Falls}
 use Rattle.replication.specs.Runs.Allowed.{Allowed}
 use Rattle.replication.proofs.Runs.AllowedTurns.{memoryAt, Acts}
-use Rattle.replication.proofs.Agreement.Terms.{Within, EndsAt, InstallsAt}
+use Rattle.replication.proofs.Agreement.Terms.{Within, EndsAt, InstallsAt, installed}
 use Rattle.replication.proofs.Agreement.Greens.Beginnings.{Prefix, Comparable}
 use Rattle.replication.proofs.Agreement.Greens.Terms.{greens, plus, Fifo, baseOf, cutsOf, reach, Agreeable}
 
@@ -61,8 +61,10 @@ module _ {n q : ℕ} {l : Run} (A : Allowed n q l) where
   -- ---- one primary component
 
   pub record PrimaryParts : Type 0 where
+    -- Whoever is in a primary component installed it in its present configuration.
     pub in-primary : (p i : ℕ) (c : Configuration) → Within n q l p i c
-        → (memoryAt n q l p i .membership .mode ≡ Reg-prim) ⊎ (memoryAt n q l p i .membership .mode ≡ Trans-prim) → (r : ℕ) × (r < p) × InstallsAt n q l r i c
+        → (memoryAt n q l p i .membership .mode ≡ Reg-prim) ⊎ (memoryAt n q l p i .membership .mode ≡ Trans-prim)
+        → (r : ℕ) × (r < p) × (x : InstallsAt n q l r i c) × (installed n q l x ≡ memoryAt n q l p i .votes .last)
     pub begins-reach : (p r i : ℕ) (c : Configuration) (x : InstallsAt n q l r i c) → r < p → Within n q l p i c → Prefix (greens (memoryAt n q l p i)) (reach A x i)
     pub reaches-comparable : (r i d e : ℕ) (c : Configuration) (x : InstallsAt n q l r i c) → inSet d (c .set) ≡ true → inSet e (c .set) ≡ true
         → Comparable (reach A x d) (reach A x e)
