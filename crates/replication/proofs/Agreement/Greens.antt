@@ -15,3 +15,4 @@ pub mod Bases
 pub mod Covering
 pub mod Silence
 pub mod Answering
+pub mod Gathered
