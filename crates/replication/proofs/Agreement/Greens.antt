@@ -16,3 +16,4 @@ pub mod Covering
 pub mod Silence
 pub mod Answering
 pub mod Gathered
+pub mod Ordering

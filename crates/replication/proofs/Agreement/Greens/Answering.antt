@@ -39,14 +39,14 @@ use Rattle.replication.proofs.Agreement.Greens.Covering.{answers-in}
 use Rattle.replication.proofs.Agreement.Greens.Silence.{install-mark, silent}
 
 -- What an image has, green and valid yellow.
-abbrev pub known : Server → List Id
-known u = plus (greens u) (validYellow u)
+abbrev pub known-list : Server → List Id
+known-list u = plus (greens u) (validYellow u)
 
-same-known : (u v : Server) → u .log .green ≡ v .log .green → u .votes .yellow ≡ v .votes .yellow → known u ≡ known v
+pub same-known : (u v : Server) → u .log .green ≡ v .log .green → u .votes .yellow ≡ v .votes .yellow → known-list u ≡ known-list v
 unfolding validYellow
 same-known u v e f = λ z. plus (idsIn (e z)) (pick (f z .status =? 1) (f z .ids) [])
 
-all-valid : (ids : List Id) → pick (1 =? 1) ids [] ≡ ids
+pub all-valid : (ids : List Id) → pick (1 =? 1) ids [] ≡ ids
 unfolding pick
 all-valid ids = rw (eq-yes 1 1 refl)
 
@@ -58,7 +58,7 @@ busy : {m : Mode} → m ≡ No → M.attempting m ≡ true
 unfolding M.attempting
 busy e = ap M.attempting e
 
-takes-of : {n q : ℕ} {l : Run} {t s : ℕ} {c : Configuration} (y : Acts n q l t s) → y .by .event ≡ regular (c .id) (c .set) → Takes n q l t s c
+pub takes-of : {n q : ℕ} {l : Run} {t s : ℕ} {c : Configuration} (y : Acts n q l t s) → y .by .event ≡ regular (c .id) (c .set) → Takes n q l t s c
 takes-of y r = record { bytes = y .bytes; sent = y .sent; here = y .here; heard = y .heard ∙ ap says r }
 
 module _ {n q : ℕ} {l : Run} (A : Allowed n q l) (X : ExchangeFacts n q l) where
@@ -92,15 +92,15 @@ module _ {n q : ℕ} {l : Run} (A : Allowed n q l) (X : ExchangeFacts n q l) whe
     abbrev pub ExchangeCovers : Type 0
     ExchangeCovers =
         (p i s d : ℕ) (c e : Configuration) (x : InstallsAt n q l p i c) → p < suc t → EndsAt n q l t s e → lastAt n q l (suc t) s .index ≡ installed n q l x .index
-        → Answers A x s (memoryAt n q l (suc t) s) → inSet d (c .set) ≡ true → Prefix (residue A x (suc t) d) (known (memoryAt n q l (suc t) s))
+        → Answers A x s (memoryAt n q l (suc t) s) → inSet d (c .set) ≡ true → Prefix (residue A x (suc t) d) (known-list (memoryAt n q l (suc t) s))
 
     module _ {p i : ℕ} {c : Configuration} (x : InstallsAt n q l p i c) (h : p < suc t) (d : ℕ) (m : inSet d (c .set) ≡ true) where
-      before : {s : ℕ} {u : Server} → Image n q l t s u → u .votes .last .index ≡ installed n q l x .index → Answers A x s u → Prefix (residue A x (suc t) d) (known u)
+      before : {s : ℕ} {u : Server} → Image n q l t s u → u .votes .last .index ≡ installed n q l x .index → Answers A x s u → Prefix (residue A x (suc t) d) (known-list u)
       before {s} {u} y e a = answers-in A X P U d x h (omega arith) y e (answers-same x a) m
 
       -- A retransmission made green.
       growing : {s : ℕ} (y : Acts n q l t s) → memoryAt n q l t s .membership .mode ≡ Exchange-actions → y .after .votes ≡ memoryAt n q l t s .votes
-          → y .after .votes .last .index ≡ installed n q l x .index → Answers A x s (memoryAt n q l t s) → Prefix (residue A x (suc t) d) (known (y .after))
+          → y .after .votes .last .index ≡ installed n q l x .index → Answers A x s (memoryAt n q l t s) → Prefix (residue A x (suc t) d) (known-list (y .after))
       unfolding validYellow
       growing {s} y k v e a =
           let u = memoryAt n q l t s in
@@ -148,7 +148,7 @@ module _ {n q : ℕ} {l : Run} (A : Allowed n q l) (X : ExchangeFacts n q l) whe
           go (r, a, z, v) = same (g .configuration) (unique-install A X x z (sym (ap (λ b. b .index) v ∙ f)) .0) w r a z
 
       acting : ExchangeCovers → {s : ℕ} (y : Acts n q l t s) → GreenStep (memoryAt n q l t s) (y .by .event) (y .after) (y .by .records) (y .stores)
-          → y .after .votes .last .index ≡ installed n q l x .index → Answers A x s (y .after) → Prefix (residue A x (suc t) d) (known (y .after))
+          → y .after .votes .last .index ≡ installed n q l x .index → Answers A x s (y .after) → Prefix (residue A x (suc t) d) (known-list (y .after))
       unfolding unmarked yellowValid validYellow pick
       acting E {s} y (S.steady g v k) e a =
           prefix-to (before (in-memory (y .up)) (ap (λ z. z .last .index) (sym v) ∙ e) (unchanged a)) (sym (same-known (y .after) (memoryAt n q l t s) g (ap (λ z. z .yellow) v)))
@@ -168,7 +168,7 @@ module _ {n q : ℕ} {l : Run} (A : Allowed n q l) (X : ExchangeFacts n q l) whe
           let z = ends-here A y b j in
           prefix-to
           (E p i s d c (z .0) x h (z .1) (ap (λ w. w .votes .last .index) (y .memory-next) ∙ e) (subst (λ w. Answers A x s w) (sym (y .memory-next)) a) m)
-          (ap known (y .memory-next))
+          (ap known-list (y .memory-next))
       acting E {s} y (S.installs k b o j g) e a = absurd (silent A X y o x e a)
       acting E {s} y (S.unmarks k b g v) e a =
           prefix-to (before (in-memory (y .up)) (ap (λ z. z .last .index) (sym v) ∙ e) (by-attempt (busy k))) (sym (same-known (y .after) (memoryAt n q l t s) (ap (λ z. z .green) g) (ap (λ z. z .yellow) v)))
@@ -178,7 +178,7 @@ module _ {n q : ℕ} {l : Run} (A : Allowed n q l) (X : ExchangeFacts n q l) whe
           ∙ ap (λ z. plus (greens (memoryAt n q l t s)) z) (all-valid (memoryAt n q l t s .votes .yellow .ids))))
 
       pub answers-after : ExchangeCovers → (s : ℕ) (u : Server) → Image n q l (suc t) s u → u .votes .last .index ≡ installed n q l x .index → Answers A x s u
-          → Prefix (residue A x (suc t) d) (known u)
+          → Prefix (residue A x (suc t) d) (known-list u)
       unfolding recovered validYellow M.attempting
       answers-after E s u y e a = go (image-step A y)
         where
@@ -193,14 +193,14 @@ module _ {n q : ℕ} {l : Run} (A : Allowed n q l) (X : ExchangeFacts n q l) whe
           restoring (by-attempt f) = not-both f
           restoring (by-mark o f) = by-mark o f
 
-          go : ImageStep n q l t s u → Prefix (residue A x (suc t) d) (known u)
+          go : ImageStep n q l t s u → Prefix (residue A x (suc t) d) (known-list u)
           go (kept z f) = before z e a
           go (fallen f g) =
-              prefix-to (before stored (ap (λ z. z .votes .last .index) (sym g) ∙ e) (subst (λ z. Answers A x s z) g a)) (ap known (sym g))
+              prefix-to (before stored (ap (λ z. z .votes .last .index) (sym g) ∙ e) (subst (λ z. Answers A x s z) g a)) (ap known-list (sym g))
           go (restored f g) =
               prefix-to (before stored (ap (λ z. z .votes .last .index) (sym g) ∙ e) (restoring (subst (λ z. Answers A x s z) g a)))
-              (ap (λ z. plus z (validYellow w)) (sym (recovered-greens A w)) ∙ ap known (sym g))
+              (ap (λ z. plus z (validYellow w)) (sym (recovered-greens A w)) ∙ ap known-list (sym g))
           go (acted z g) =
               prefix-to
               (acting E z (green-step (memoryAt n q l t s) (z .moves)) (ap (λ w. w .votes .last .index) (sym g) ∙ e) (subst (λ z. Answers A x s z) g a))
-              (ap known (sym g))
+              (ap known-list (sym g))

@@ -91,3 +91,37 @@ module _ {n q : ℕ} {l : Run} (A : Allowed n q l) where
           begins = b;
           by-length = ap (λ v. take v (greens (memoryAt n q l (suc t) s))) k ∙ take-prefix (greens u) (greens (memoryAt n q l (suc t) s)) b;
         }
+
+    -- ---- the yellow list that is taken
+
+    pub data YellowTaken (u : Server) (xs : List State) : Type 0 where
+      invalid : u .votes .yellow .status ≡ 0 → filter isValid (updatedGroup xs) ≡ [] → YellowTaken u xs
+      valid : (v : State) (vs : List State) → filter isValid (updatedGroup xs) ≡ v ∷ vs → u .votes .yellow .status ≡ 1
+          → validYellow u ≡ commonYellow (v ∷ vs) .ids → YellowTaken u xs
+
+    pub yellow-taken : {s : ℕ} {c : Configuration} (y : EndsAt n q l t s c) → YellowTaken (memoryAt n q l (suc t) s) (collected (y .judged))
+    unfolding takenYellow commonYellow noYellow
+    yellow-taken {s} {c} y = go (filter isValid (updatedGroup (collected (y .judged)))) refl
+      where
+        u : Server
+        u = memoryAt n q l (suc t) s
+
+        go : (ws : List State) → filter isValid (updatedGroup (collected (y .judged))) ≡ ws → YellowTaken u (collected (y .judged))
+        go [] e = invalid (ap (λ z. z .status) (ended-yellow y ∙ ap commonYellow e)) e
+        go (v ∷ vs) e =
+            let f : u .votes .yellow ≡ commonYellow (v ∷ vs) = ended-yellow y ∙ ap commonYellow e in
+            let h : u .votes .yellow .status ≡ 1 = ap (λ z. z .status) f in
+            valid v vs e h (valid-yellow u h ∙ ap (λ z. z .ids) f)
+
+    -- A valid State, with what its sender had green and yellow.
+    pub valid-sender : {s : ℕ} {c : Configuration} (y : EndsAt n q l t s c) {v w : State} {vs : List State}
+        → filter isValid (updatedGroup (collected (y .judged))) ≡ v ∷ vs → List·Memᴰ w (v ∷ vs)
+        → ValidState (collected (y .judged)) w × Sender t c (greens (memoryAt n q l (suc t) s)) w
+    valid-sender y {v} {w} {vs} e m =
+        let a = valid-state (collected (y .judged)) w (subst (λ z. List·Memᴰ w z) (sym e) m) in
+        (a, sender y w (a .among))
+
+    pub sender-yellow : {c : Configuration} {g : List Id} {w : State} (z : Sender t c g w) → w .yellow .status ≡ 1
+        → validYellow (memoryAt n q l (suc (z .it .took-at)) (z .server)) ≡ w .yellow .ids
+    sender-yellow z h =
+        valid-yellow (memoryAt n q l (suc (z .it .took-at)) (z .server)) (ap (λ v. v .status) (sym (z .yellow)) ∙ h) ∙ ap (λ v. v .ids) (sym (z .yellow))
