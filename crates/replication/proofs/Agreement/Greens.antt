@@ -17,3 +17,4 @@ pub mod Silence
 pub mod Answering
 pub mod Gathered
 pub mod Ordering
+pub mod Entering
