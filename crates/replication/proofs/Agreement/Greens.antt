@@ -18,3 +18,4 @@ pub mod Answering
 pub mod Gathered
 pub mod Ordering
 pub mod Entering
+pub mod Leaving
