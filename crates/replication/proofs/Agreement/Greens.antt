@@ -19,3 +19,4 @@ pub mod Gathered
 pub mod Ordering
 pub mod Entering
 pub mod Leaving
+pub mod Joined
