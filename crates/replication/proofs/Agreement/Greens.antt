@@ -20,3 +20,4 @@ pub mod Ordering
 pub mod Entering
 pub mod Leaving
 pub mod Joined
+pub mod Deciding

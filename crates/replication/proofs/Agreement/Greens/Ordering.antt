@@ -54,7 +54,7 @@ pub no-valid-yellow : (u : Server) → u .votes .yellow .status ≡ 0 → validY
 unfolding validYellow pick
 no-valid-yellow u h = rw (eq-no (u .votes .yellow .status) 1 (λ e. omega arith))
 
-plus-nothing : (g : List Id) → plus g [] ≡ g
+pub plus-nothing : (g : List Id) → plus g [] ≡ g
 unfolding plus filter
 plus-nothing g = append-nil g
 

@@ -1,0 +1,273 @@
+-- At the end of an exchange: whoever answers for the taken primary component has all that can still be known of it.
+use Prim.Native.Nat.{ℕ, zero, suc, _+_, _*_, _^_, _≤_, _<_}
+use mathlib.Core.Path.{_≡_, refl, sym, ap, subst, subst₂, _∙_}
+use mathlib.Core.Bool.{Bool, true, false, not}
+use mathlib.Core.List.{List, [], _∷_, List·Memᴰ, List·Memᴰ·head, List·Memᴰ·tail, List·Memᴰ·not-nil}
+use mathlib.Core.Logic.{_⊎_, inl, inr}
+use mathlib.Core.Option.{some}
+use native.Mathlib.Omega.{arith}
+use lib.ListN.{length, take}
+use Rattle.base.specs.Lists.{filter, any}
+use Rattle.base.specs.Members.{filter-has}
+use Rattle.base.specs.Quorums.{majorities-meet}
+use Rattle.base.specs.Sets.{inSet, inside, size, common}
+use Rattle.base.specs.SetLaws.{inside-member}
+use Rattle.base.specs.Tests.{_and_, _or_, _=?_, pick, not-both, and-holds, both-yes, eq-holds, eq-fails, eq-yes, not-holds, Known, holds, fails, known}
+use Rattle.format.specs.Types.{Id, Mark, State, Primary}
+use Rattle.replication.specs.Machine.Types.{Non-prim, Configuration, Server}
+use Rattle.replication.specs.Machine.Exchange.{takenPrimary, updatedGroup, samePair, isValid, isMarked, sameAttempt, ruleA, ruleB, ruleC, commonYellow, judgedMark, keptMark, quorum}
+use Rattle.replication.specs.Machine.Step.{collected, theSet}
+use Rattle.replication.specs.Laws.Modes as M
+use Rattle.replication.specs.Runs.Run.{Run}
+use Rattle.replication.specs.Runs.Happenings.{Takes, Falls}
+use Rattle.replication.specs.Runs.Allowed.{Allowed}
+use Rattle.replication.proofs.Runs.AllowedTurns.{memoryAt, storeAt}
+use Rattle.replication.proofs.Runs.ControlPart.{store-below}
+use Rattle.replication.proofs.Runs.Entries.{had}
+use Rattle.replication.proofs.Runs.Order.{time, time-before, configuration-time}
+use Rattle.replication.proofs.Runs.Shifts.{comes-of}
+use Rattle.replication.proofs.Agreement.Terms.{Image, in-memory, in-store, Within, EndsAt, MarksAt, InstallsAt, installed, ExchangeFacts}
+use Rattle.replication.proofs.Agreement.Votes.Turns.{votesAt, lastAt, Decides, with-quorum, without-quorum, ended, ended-last}
+use Rattle.replication.proofs.Agreement.Votes.Events.{ends-exchange, done-before}
+use Rattle.replication.proofs.Agreement.Votes.Known.{KnownEarlier, at-start, installed-earlier, state-known}
+use Rattle.replication.proofs.Agreement.Votes.Phases.{installs-attempt}
+use Rattle.replication.proofs.Agreement.Votes.Attempts.{installed-index, marking-taken}
+use Rattle.replication.proofs.Agreement.Votes.Judging.{Alike, mark-kept, taken-from, no-quorum, quorum-majority}
+use Rattle.replication.proofs.Agreement.Votes.Collected.{StateOf, taken-below, own-state, own-mark-judged, state-of}
+use Rattle.replication.proofs.Agreement.Votes.Marks.{taken-mark}
+use Rattle.replication.proofs.Agreement.Votes.Present.{AfterAttempt, later-primary, waits, covered-index}
+use Rattle.replication.proofs.Agreement.Votes.Unique.{markFor, unique-install, unique-known, kept-mark}
+use Rattle.replication.proofs.Agreement.Greens.Beginnings.{Prefix, Comparable, prefix-refl, prefix-trans, prefix-to, prefix-from, prefix-same, comparable-beginnings, take-begins}
+use Rattle.replication.proofs.Agreement.Greens.Terms as G
+use Rattle.replication.proofs.Agreement.Greens.Terms.{greens, plus, Fifo, validYellow, baseOf, reach, markOfInstall, residue, Answers, by-yellow, by-attempt, by-mark, nothing-more, fell}
+use Rattle.replication.proofs.Agreement.Greens.Parts.{Parts}
+use Rattle.replication.proofs.Agreement.Greens.Invariant.{Invariant, UpTo}
+use Rattle.replication.proofs.Agreement.Greens.Residues.{residue-shrinks, residue-reach, residue-stored, same-reach}
+use Rattle.replication.proofs.Agreement.Greens.Comparing.{residue-comparable}
+use Rattle.replication.proofs.Agreement.Greens.Taking.{grows-greens, took-begins, same-install-next}
+use Rattle.replication.proofs.Agreement.Greens.Earlier.{Earlier, earlier, earlier-residue, enders-before, ending-agreeable}
+use Rattle.replication.proofs.Agreement.Greens.Bases.{taken-base}
+use Rattle.replication.proofs.Agreement.Greens.Covering.{installing-attempts, answers-in}
+use Rattle.replication.proofs.Agreement.Greens.Silence.{install-mark}
+use Rattle.replication.proofs.Agreement.Greens.Answering.{known-list, answers-same, ExchangeCovers}
+use Rattle.replication.proofs.Agreement.Greens.Gathered.{Sender, sender, ValidState, YellowTaken, invalid, valid, yellow-taken, valid-sender, sender-yellow}
+use Rattle.replication.proofs.Agreement.Greens.Ordering.{no-valid-yellow, plus-nothing, greens-fifo}
+use Rattle.replication.proofs.Agreement.Greens.Joined.{joined-known}
+
+-- ---- marks
+
+alike? : (m o : Mark) → Alike m o ⊎ (Alike m o → ⊥)
+alike? m o = go (known (o .status =? 1)) (known (o .index =? m .index)) (known (o .attempt =? m .attempt)) (known (o .set =? m .set))
+  where
+    go : Known (o .status =? 1) → Known (o .index =? m .index) → Known (o .attempt =? m .attempt) → Known (o .set =? m .set) → Alike m o ⊎ (Alike m o → ⊥)
+    go (holds a) (holds b) (holds c) (holds d) =
+        inl (record { status = eq-holds _ _ a; index = eq-holds _ _ b; attempt = eq-holds _ _ c; set = eq-holds _ _ d })
+    go (fails a) b c d = inr (λ h. eq-fails _ _ a (h .status))
+    go (holds a) (fails b) c d = inr (λ h. eq-fails _ _ b (h .index))
+    go (holds a) (holds b) (fails c) d = inr (λ h. eq-fails _ _ c (h .attempt))
+    go (holds a) (holds b) (holds c) (fails d) = inr (λ h. eq-fails _ _ d (h .set))
+
+invalid-yellow : (u : Server) → (u .votes .yellow .status =? 1) ≡ false → validYellow u ≡ []
+unfolding validYellow pick
+invalid-yellow u h = rw h
+
+any-from : (t : State → Bool) (l : List State) → any t l ≡ true → (x : State) × List·Memᴰ x l × (t x ≡ true)
+unfolding any _or_
+any-from t [] h = not-both h
+any-from t (x ∷ l) h = go (known (t x)) (any-from t l)
+  where
+    go : Known (t x) → (any t l ≡ true → (y : State) × List·Memᴰ y l × (t y ≡ true)) → (y : State) × List·Memᴰ y (x ∷ l) × (t y ≡ true)
+    go (holds a) f = (x, List·Memᴰ·head refl, a)
+    go (fails a) f = let r = f (sym (ap (λ z. z or any t l) a) ∙ h) in (r .0, List·Memᴰ·tail (r .1), r .2)
+
+-- Rule (b) names a present member of the mark's set whose mark is another, or none.
+rule-b-names : (xs : List State) (v : State) → ruleB xs v ≡ true
+    → (w : State) × List·Memᴰ w xs × (inSet (w .sender) (v .mark .set) ≡ true) × ((m : Mark) → Alike m (v .mark) → Alike m (w .mark) → ⊥)
+unfolding ruleB isMarked sameAttempt _or_
+rule-b-names xs v h =
+    let r = any-from (λ x. inSet (x .sender) (v .mark .set) and (not (isMarked x) or not (sameAttempt (v .mark) (x .mark)))) xs h in
+    let k = and-holds _ _ (r .2) in
+    (r .0, r .1, k .0, λ m a b. differ (r .0) m a b (k .1))
+  where
+    differ : (w : State) (m : Mark) → Alike m (v .mark) → Alike m (w .mark)
+        → (not (w .mark .status =? 1) or not ((w .mark .index =? v .mark .index) and (w .mark .attempt =? v .mark .attempt))) ≡ true → ⊥
+    differ w m a b e =
+        let p : (w .mark .status =? 1) ≡ true = eq-yes _ _ (b .status) in
+        let q : ((w .mark .index =? v .mark .index) and (w .mark .attempt =? v .mark .attempt)) ≡ true =
+        both-yes _ _ (eq-yes _ _ (b .index ∙ sym (a .index))) (eq-yes _ _ (b .attempt ∙ sym (a .attempt))) in
+        not-both (sym (ap (λ z. not z or not ((w .mark .index =? v .mark .index) and (w .mark .attempt =? v .mark .attempt))) p ∙ ap (λ z. not z) q) ∙ e)
+
+module _ {n q : ℕ} {l : Run} (A : Allowed n q l) (X : ExchangeFacts n q l) (P : Parts A) {t : ℕ} (U : UpTo A t) {p i s : ℕ} {c e : Configuration} (x : InstallsAt n q l p i c)
+    (h : p < suc t) (y : EndsAt n q l t s e) (same-index : takenPrimary (collected (y .judged)) .index ≡ installed n q l x .index) where
+  xs : List State
+  xs = collected (y .judged)
+
+  abbrev g : List Id
+  g = greens (memoryAt n q l (suc t) s)
+
+  -- ---- the State whose last primary is taken
+
+  top : (w : State) × List·Memᴰ w (collected (y .judged)) × (takenPrimary (collected (y .judged)) ≡ w .last)
+  top = let own = own-state A X y in taken-from (own .0) (collected (y .judged)) (own .1)
+
+  top-sender : Sender A t e g (top .0)
+  top-sender = sender A X P U y (top .0) (top .1)
+
+  -- A State of that index knows what was installed.
+  last-installed : (w : State) → (z : Sender A t e g w) → w .last .index ≡ installed n q l x .index → w .last ≡ installed n q l x
+  last-installed w z k =
+      let b : Image n q l (suc p) i (memoryAt n q l (suc p) i) = in-memory (x .acts .down-next) in
+      z .it .last
+      ∙ unique-known A X (z .image) b (ap (λ a. a .index) (sym (z .it .last)) ∙ k ∙ ap (λ a. a .votes .last .index) (sym (x .acts .memory-next)))
+      ∙ ap (λ a. a .votes .last) (x .acts .memory-next)
+
+  taken-installed : takenPrimary (collected (y .judged)) ≡ installed n q l x
+  taken-installed = top .2 ∙ last-installed (top .0) top-sender (ap (λ a. a .index) (sym (top .2)) ∙ same-index)
+
+  installed-set : installed n q l x .set ≡ c .set
+  unfolding theSet
+  installed-set =
+      install-mark A x .set ∙ ap (λ m. m .set) (installing-attempts A x .1 .mark) ∙ ap theSet (installs-attempt A x .configuration)
+
+  before-top : Earlier A x (suc (top-sender .it .took-at))
+  before-top =
+      earlier A X P U x h (top-sender .it .earlier) (top-sender .image)
+      (ap (λ a. a .index) (sym (top-sender .it .last)) ∙ ap (λ a. a .index) (sym (top .2)) ∙ same-index)
+
+  has-base : Prefix (baseOf A x) g
+  has-base = taken-base A X P U x h y same-index
+
+  module _ (d : ℕ) (m : inSet d (c .set) ≡ true) where
+    abbrev r : List Id
+    r = residue A x (suc t) d
+
+    comparable : Comparable r g
+    comparable =
+        let b = P .contents .ends-from t s e (ending-agreeable A X P U (omega arith) y) y in
+        let st : Image n q l t (b .0) (storeAt n q l t (b .0)) = in-store in
+        let z = before-top in
+        let o : z .place < t = omega (arith, z .before, top-sender .it .earlier) in
+        comparable-beginnings (prefix-to (residue-shrinks A x t (suc t) d (omega arith)) (earlier-residue A x z t d))
+        (prefix-from (b .3) (took-begins A (b .2) (enders-before A X y (b .2))))
+        (residue-comparable A X P (U t (omega arith)) d (z .install) o m st)
+
+    -- ---- with a valid yellow list
+
+    by-valid : (v : State) (vs : List State) → filter isValid (updatedGroup (collected (y .judged))) ≡ v ∷ vs → Prefix r (plus g (commonYellow (v ∷ vs) .ids))
+    by-valid v vs k =
+        P .lists .common-covers r g (λ w. take (w .greenLength) g) v vs comparable (greens-fifo A X P U (in-memory (y .acts .down-next))) each
+      where
+        each : (w : State) → List·Memᴰ w (v ∷ vs)
+            → Prefix (take (w .greenLength) g) g × Prefix r (plus (take (w .greenLength) g) (w .yellow .ids)) × Fifo (plus (take (w .greenLength) g) (w .yellow .ids))
+        each w o =
+            let a = valid-sender A X P U y k o in
+            let z = a .1 in
+            let f = sender-yellow A X P U z (a .0 .status) in
+            let b = U (suc (z .it .took-at)) (z .it .earlier) .fifo (z .server) _ (z .image) in
+            let j : lastAt n q l (suc (z .it .took-at)) (z .server) .index ≡ installed n q l x .index =
+            ap (λ a. a .index) (sym (z .it .last)) ∙ a .0 .index ∙ same-index in
+            let u = answers-in A X P U d x h (z .it .earlier) (z .image) j (λ w. by-yellow (ap (λ v. v .status) (sym (z .yellow)) ∙ a .0 .status)) m in
+            (
+              take-begins (w .greenLength) g,
+              subst₂ (λ a b. Prefix r (plus a b)) (sym (z .by-length)) f u,
+              subst₂ (λ a b. Fifo (plus a b)) (sym (z .by-length)) f b,
+            )
+
+    -- ---- with none
+
+    -- What a bit or a fall leaves.
+    known-covers : G.Known A x (suc t) d (memoryAt n q l (suc t) s) → Prefix r g
+    known-covers (nothing-more k) = prefix-trans (residue-reach A x (suc t) d) (prefix-from k has-base)
+    known-covers (fell z a f w b o) = go (P .primaries .falls-after z p i d c x f w)
+      where
+        go : ((k : ℕ) × (k < z) × InstallsAt n q l k d c) ⊎ (reach A x d ≡ baseOf A x) → Prefix r g
+        go (inr k) = prefix-trans (residue-reach A x (suc t) d) (prefix-from k has-base)
+        go (inl (k, j, u)) =
+            let same = same-install-next A X P U p k i d c x u h (omega arith) in
+            residue-stored A x z (suc t) d g a f w
+            (prefix-to (prefix-trans (grows-greens (storeAt n q l z d) (memoryAt n q l z d) (store-below n q l d z)) (P .primaries .begins-reach z k d c u j w))
+            (sym (same-reach A x u (same .0) (same .1) d)))
+            has-base o
+
+    -- A present member of c marked in c before it took e.
+    marked-before : {k w : ℕ} → inSet k (c .set) ≡ true → Takes n q l w k e → (z : ℕ) × (z < suc w) × MarksAt n q l z k c
+    marked-before {k} {w} a o =
+        let b = X .all-marked p i c x k (A .servers w k (comes-of o)) a in
+        let v = marking-taken (b .2) in
+        (
+          b .0,
+          omega (arith, done-before A (v .took) o (ap (λ z. z .regular) (b .2 .ending .here)) (ends-exchange (b .2 .ending))
+          (time-before A (comes-of (v .took)) (comes-of o) (earlier-time (v .took)))),
+          b .2,
+        )
+      where
+        earlier-time : {v : ℕ} → Takes n q l v k c → time A v < time A w
+        earlier-time {v} u = go (state-known A X (top-sender .it))
+          where
+            go : KnownEarlier A (time A (top-sender .it .took-at)) (top .0 .last) → time A v < time A w
+            go (at-start f) = absurd (omega (arith, ap (λ a. a .index) (top .2), ap (λ a. a .index) f, same-index, installed-index x))
+            go (installed-earlier a j b c′ z f b′ lt) =
+                let same = unique-install A X x z (sym (ap (λ a. a .index) (f ∙ sym (top .2)) ∙ same-index)) .0 in
+                omega (arith, lt, configuration-time A (top-sender .it .took) o,
+                configuration-time A u (subst (λ v. Takes n q l b j v) (sym same) b′))
+
+    -- A present member of c without the mark has all.
+    by-unmarked : filter isValid (updatedGroup (collected (y .judged))) ≡ [] → (w : State) → List·Memᴰ w (collected (y .judged)) → inSet (w .sender) (c .set) ≡ true
+        → (Alike (markOfInstall A x) (w .mark) → ⊥) → Prefix r g
+    unfolding isValid updatedGroup samePair
+    by-unmarked none w a b f = prefix-trans (prefix-to covers (ap (plus (greens u)) no-yellow ∙ plus-nothing (greens u))) (z .begins)
+      where
+        z : Sender A t e g w
+        z = sender A X P U y w a
+
+        u : Server
+        u = memoryAt n q l (suc (z .it .took-at)) (z .server)
+
+        member : inSet (z .server) (c .set) ≡ true
+        member = subst (λ k. inSet k (c .set) ≡ true) (z .it .sender) b
+
+        unlike : Alike (markOfInstall A x) (u .votes .mark) → ⊥
+        unlike k = f (subst (λ o. Alike (markOfInstall A x) o) (sym (z .it .mark)) k)
+
+        index : u .votes .last .index ≡ installed n q l x .index
+        index = go (kept-mark A X x (installed-index-suc) (z .image) (marking .2) (marking .1))
+          where
+            marking : (k : ℕ) × (k < suc (z .it .took-at)) × MarksAt n q l k (z .server) c
+            marking = marked-before member (z .it .took)
+
+            installed-index-suc : installed n q l x .index ≡ suc (lastAt n q l p i .index)
+            installed-index-suc = omega (arith, installed-index x)
+
+            high : u .votes .last .index ≤ installed n q l x .index
+            high = omega (arith, covered-index a, ap (λ a. a .index) (z .it .last), same-index)
+
+            go : AfterAttempt n q l c (markFor (lastAt n q l p i .index) (installed n q l x)) (lastAt n q l p i .index) (u .votes .last) (u .votes .mark)
+                → u .votes .last .index ≡ installed n q l x .index
+            go (later-primary k) = omega (arith, high, installed-index x)
+            go (waits k) =
+                let o = install-mark A x in
+                absurd
+                (unlike
+                (record {
+                  status = k .alike .status;
+                  index = omega (arith, k .alike .index, o .index, installed-index x);
+                  attempt = k .alike .attempt ∙ o .attempt;
+                  set = k .alike .set ∙ o .set;
+                }))
+
+        covers : Prefix r (plus (greens u) (validYellow u))
+        covers = answers-in A X P U d x h (z .it .earlier) (z .image) index (λ k. answers-same A X x (by-mark member unlike) k) m
+
+        no-yellow : validYellow u ≡ []
+        no-yellow = go (known (u .votes .yellow .status =? 1))
+          where
+            same-last : w .last ≡ takenPrimary (collected (y .judged))
+            same-last = last-installed w z (ap (λ a. a .index) (z .it .last) ∙ index) ∙ sym taken-installed
+
+            go : Known (u .votes .yellow .status =? 1) → validYellow u ≡ []
+            go (holds k) =
+                let j = filter-has (samePair (takenPrimary (collected (y .judged)))) w (collected (y .judged)) a
+                (both-yes _ _ (eq-yes _ _ (ap (λ a. a .index) same-last)) (eq-yes _ _ (ap (λ a. a .attempt) same-last))) in
+                let o = filter-has isValid w (updatedGroup (collected (y .judged))) j (ap (λ v. v .status =? 1) (z .yellow) ∙ k) in
+                absurd (List·Memᴰ·not-nil (subst (λ ws. List·Memᴰ w ws) none o))
+            go (fails k) = invalid-yellow u k
