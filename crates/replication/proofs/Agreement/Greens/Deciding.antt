@@ -271,3 +271,73 @@ module _ {n q : ℕ} {l : Run} (A : Allowed n q l) (X : ExchangeFacts n q l) (P 
                 let o = filter-has isValid w (updatedGroup (collected (y .judged))) j (ap (λ v. v .status =? 1) (z .yellow) ∙ k) in
                 absurd (List·Memᴰ·not-nil (subst (λ ws. List·Memᴰ w ws) none o))
             go (fails k) = invalid-yellow u k
+
+    -- A present member of c whose mark is cleared, or who has none.
+    by-cleared : filter isValid (updatedGroup (collected (y .judged))) ≡ [] → (v : State) → List·Memᴰ v (collected (y .judged)) → inSet (v .sender) (c .set) ≡ true
+        → (Alike (markOfInstall A x) (judgedMark (collected (y .judged)) v) → ⊥) → Prefix r g
+    unfolding ruleA ruleC keptMark
+    by-cleared none v a b f = go (alike? (markOfInstall A x) (v .mark))
+      where
+        ws : List State
+        ws = collected (y .judged)
+
+        marked : Alike (markOfInstall A x) (v .mark) → Known (ruleA (takenPrimary ws) v) → Known (ruleB ws v) → Known (ruleC ws v) → Prefix r g
+        marked k (holds j) o u =
+            let z = and-holds _ _ j .1 in
+            not-both (sym (not-holds _ z) ∙ ap (inSet (v .sender)) (ap (λ a. a .set) taken-installed ∙ installed-set) ∙ b)
+        marked k (fails j) (holds o) u =
+            let z = rule-b-names ws v o in
+            by-unmarked none (z .0) (z .1) (ap (inSet (z .0 .sender)) (sym (mark-set k)) ∙ z .2) (λ n. z .3 (markOfInstall A x) k n)
+          where
+            mark-set : Alike (markOfInstall A x) (v .mark) → v .mark .set ≡ c .set
+            mark-set k = k .set ∙ sym (install-mark A x .set) ∙ installed-set
+        marked k (fails j) (fails o) (holds u) =
+            known-covers (joined-known A X P x U d y v a k (inside-member _ _ d u (ap (inSet d) (k .set ∙ sym (install-mark A x .set) ∙ installed-set) ∙ m)))
+        marked k (fails j) (fails o) (fails u) =
+            let z = mark-kept ws v (k .status) j o u in
+            absurd
+            (f
+            (record {
+              status = ap (λ a. a .status) z ∙ k .status;
+              index = ap (λ a. a .index) z ∙ k .index;
+              attempt = ap (λ a. a .attempt) z ∙ k .attempt;
+              set = ap (λ a. a .set) z ∙ k .set;
+            }))
+
+        go : Alike (markOfInstall A x) (v .mark) ⊎ (Alike (markOfInstall A x) (v .mark) → ⊥) → Prefix r g
+        go (inl k) = marked k (known (ruleA (takenPrimary ws) v)) (known (ruleB ws v)) (known (ruleC ws v))
+        go (inr k) = by-unmarked none v a b k
+
+    -- With a quorum some member of c is present, and no mark is left.
+    by-quorum : filter isValid (updatedGroup (collected (y .judged))) ≡ [] → quorum (collected (y .judged)) (e .set) ≡ true → Prefix r g
+    by-quorum none k =
+        let ws = collected (y .judged) in
+        let o = had n q l p i c (x .here) in
+        let b : takenPrimary ws .set ≡ c .set = ap (λ a. a .set) taken-installed ∙ installed-set in
+        let w : takenPrimary ws .set < 2 ^ n = subst (λ a. a < 2 ^ n) (sym b) (taken-below (o .took)) in
+        let j = quorum-majority ws (e .set) k in
+        let z = majorities-meet n (takenPrimary ws .set) (e .set) (e .set) w j j in
+        let v = state-of A X y (z .0) (z .2) in
+        by-cleared none (v .0) (v .1) (subst (λ a. inSet a (c .set) ≡ true) (sym (v .2 .sender)) (ap (inSet (z .0)) (sym b) ∙ z .1))
+        (λ f. no-quorum ws (e .set) (v .0) (v .1) (f .status) k)
+
+    by-own : filter isValid (updatedGroup (collected (y .judged))) ≡ [] → memoryAt n q l (suc t) s .votes .yellow .status ≡ 0
+        → Answers A x s (memoryAt n q l (suc t) s) → Decides n q l t s e (collected (y .judged)) → Prefix r g
+    unfolding M.attempting
+    by-own none k a (with-quorum b v o f) = by-quorum none b
+    by-own none k (by-yellow a) (without-quorum b v o) = absurd (omega (arith, k, a))
+    by-own none k (by-attempt a) (without-quorum b v o) = not-both (sym (ap M.attempting o) ∙ a)
+    by-own none k (by-mark a f) (without-quorum b v o) =
+        let w = own-state A X y in
+        by-cleared none (w .0) (w .1) (subst (λ z. inSet z (c .set) ≡ true) (sym (w .2 .sender)) a)
+        (λ j. f (subst (λ z. Alike (markOfInstall A x) z) (sym (taken-mark s (collected (y .judged)) v ∙ own-mark-judged A X y (w .0) (w .1) (w .2))) j))
+
+    pub decided-covers : Answers A x s (memoryAt n q l (suc t) s) → Prefix r (known-list (memoryAt n q l (suc t) s))
+    decided-covers a = go (yellow-taken A X P U y)
+      where
+        u : Server
+        u = memoryAt n q l (suc t) s
+
+        go : YellowTaken A X P U u (collected (y .judged)) → Prefix r (known-list u)
+        go (invalid k none) = prefix-to (by-own none k a (ended y)) (sym (ap (plus g) (no-valid-yellow u k) ∙ plus-nothing g))
+        go (valid v vs k b f) = prefix-to (by-valid v vs k) (ap (plus g) (sym f))
