@@ -21,3 +21,4 @@ pub mod Entering
 pub mod Leaving
 pub mod Joined
 pub mod Deciding
+pub mod Induction

@@ -43,7 +43,7 @@ use Rattle.replication.proofs.Agreement.Greens.Silence.{no-yellow-after
 use Rattle.replication.proofs.Agreement.Greens.Answering.{known-list, same-known, all-valid, takes-of}
 use Rattle.replication.proofs.Agreement.Greens.Gathered.{Sender, ValidState, YellowTaken, invalid, valid, yellow-taken, valid-sender, sender-yellow}
 
-fifo-nil : Fifo []
+pub fifo-nil : Fifo []
 fifo-nil = record { new = λ y z d e. absurd (no y d z e); first = λ y z d e. absurd (no y d z e); next = λ y z d j e. absurd (no y d z e) }
   where
     no : (y : List Id) (d : Id) (z : List Id) → [] ≡ y ++ (d ∷ z) → ⊥
