@@ -3,7 +3,9 @@ pub mod Used
 pub mod Fit
 pub mod Again
 pub mod Slots
-pub mod Header
+pub mod HeaderRead
+pub mod Loaded
+pub mod Saved
 pub mod Decoded
 pub mod ImageLaws
 pub mod InPlace

@@ -16,6 +16,9 @@ startOf n q i = record {
   «configuration_set» = 0;
   «transitional_status» = 0;
   «transitional_set» = 0;
+  states = 0;
+  cpcs = 0;
+  come = 0;
   «queue_length» = 0;
   «green_length» = 0;
   numbered = 0;
@@ -26,7 +29,4 @@ startOf n q i = record {
   mark = record { status = 0; index = record { 0 = 0 }; attempt = record { 0 = 0 }; set = 0; bits = 0 };
   «yellow_status» = 0;
   «yellow_count» = 0;
-  states = 0;
-  cpcs = 0;
-  come = 0;
 }

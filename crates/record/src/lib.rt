@@ -46,7 +46,7 @@ pub struct Context {
     pub set: u8,
 }
 
-// The numbers of a server's state. Its lists lie beside them.
+// The numbers of a server's state, in the order of its buffer. Its lists lie beside them.
 pub struct State {
     pub servers: u8,
     pub quota: u16,
@@ -57,6 +57,9 @@ pub struct State {
     pub configuration_set: u8,
     pub transitional_status: u8,
     pub transitional_set: u8,
+    pub states: u8,
+    pub cpcs: u8,
+    pub come: u32,
     pub queue_length: u32,
     pub green_length: u32,
     pub numbered: u16,
@@ -67,9 +70,6 @@ pub struct State {
     pub mark: Mark,
     pub yellow_status: u8,
     pub yellow_count: u16,
-    pub states: u8,
-    pub cpcs: u8,
-    pub come: u32,
 }
 
 impl State {
@@ -115,6 +115,9 @@ impl State {
             configuration_set: 0,
             transitional_status: 0,
             transitional_set: 0,
+            states: 0,
+            cpcs: 0,
+            come: 0,
             queue_length: 0,
             green_length: 0,
             numbered: 0,
@@ -125,9 +128,6 @@ impl State {
             mark,
             yellow_status: 0,
             yellow_count: 0,
-            states: 0,
-            cpcs: 0,
-            come: 0,
         }
     }
 
