@@ -10,3 +10,4 @@ pub mod Decoded
 pub mod ImageLaws
 pub mod InPlace
 pub mod Refusals
+pub mod HeaderLaws

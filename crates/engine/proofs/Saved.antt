@@ -83,15 +83,15 @@ counts-saved h s t e =
 
 -- ---- one block after another
 
-membership-length : (h : State) → length (membershipBytes h) ≡ 19
+pub membership-length : (h : State) → length (membershipBytes h) ≡ 19
 unfolding membershipBytes joined bytesOf
 membership-length h = refl
 
-first-length : (h : State) → length (firstBytes h) ≡ 37
+pub first-length : (h : State) → length (firstBytes h) ≡ 37
 unfolding firstBytes membershipBytes countsBytes joined bytesOf
 first-length h = refl
 
-standing-length : (h : State) → length (standingBytes h) ≡ 20
+pub standing-length : (h : State) → length (standingBytes h) ≡ 20
 unfolding standingBytes primaryBytes markBytes joined bytesOf
 standing-length h = refl
 
