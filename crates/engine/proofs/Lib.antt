@@ -4,6 +4,7 @@ pub mod Fit
 pub mod Again
 pub mod Slots
 pub mod HeaderRead
+pub mod SizeLaws
 pub mod Loaded
 pub mod Saved
 pub mod Decoded
