@@ -13,5 +13,7 @@ pub mod Sections
 pub mod Counts
 pub mod SetLaws
 pub mod Text
+pub mod Prefixes
+pub mod Members
 pub mod Branches
 pub mod Opened

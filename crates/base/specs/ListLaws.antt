@@ -1,15 +1,15 @@
 -- Laws of lists: a fact of every element, counts, runs of numbers, elements by place.
 -- Assumes nothing.
 use Prim.Native.Nat.{ℕ, zero, suc, _+_, _-_, _*_, _≤_, _<_}
-use mathlib.Core.Path.{_≡_, refl, sym, ap, _∙_}
+use mathlib.Core.Path.{_≡_, refl, ap}
 use mathlib.Core.Bool.{Bool, true, false}
 use mathlib.Core.List.{List, [], _∷_, _++_, map}
 use mathlib.Core.Option.{Option, none, some}
 use native.Mathlib.Omega.{arith}
 use native.Mathlib.Decide.{ℕ-discrete}
-use lib.ListN.{length, getD, set, length-append, length-map}
-use Rattle.base.specs.Tests.{_and_, pick, not-both, and-holds, both-yes, Known, holds, fails, known}
-use Rattle.base.specs.Lists.{all, any, filter, atFront, present, gather, gatherAll, after, above, below, at, sum}
+use lib.ListN.{length, getD, set, length-append}
+use Rattle.base.specs.Tests.{pick, not-both, and-holds, both-yes}
+use Rattle.base.specs.Lists.{all, filter, atFront, present, gather, gatherAll, after, above, below, isThere, at, sum}
 
 -- ---- a fact of every element
 
@@ -116,6 +116,17 @@ module _ {A B : Type 0} where
   gather-all-length f g h [] = omega arith
   gather-all-length f g h (x ∷ xs) = omega (arith, length-append (f x) (gatherAll f xs), h x, gather-all-length f g h xs)
 
+-- ---- a value that is there
+
+pub there : {A : Type 0} (o : Option A) → isThere o ≡ true → (x : A) × (o ≡ some x)
+unfolding isThere
+there none h = not-both h
+there (some x) h = (x, refl)
+
+pub is-there : {A : Type 0} (o : Option A) (x : A) → o ≡ some x → isThere o ≡ true
+unfolding isThere
+is-there o x e = rw e
+
 -- ---- runs of numbers
 
 pub after-length : (k m : ℕ) → length (after k m) ≡ m
@@ -190,6 +201,15 @@ sum-bound b [] h = omega arith
 sum-bound b (x ∷ xs) h = omega (arith, sum-bound b xs (h .1))
 
 -- ---- elements by place
+
+pub each-bounded : (b : ℕ) (xs : List ℕ) → Each (λ x. x ≤ b) xs → (c : ℕ) → getD xs c 0 ≤ b
+each-bounded b [] h c = omega arith
+each-bounded b (x ∷ xs) h zero = h .0
+each-bounded b (x ∷ xs) h (suc c) = each-bounded b xs (h .1) c
+
+pub bounded-each : (b : ℕ) (xs : List ℕ) → ((c : ℕ) → getD xs c 0 ≤ b) → Each (λ x. x ≤ b) xs
+bounded-each b [] h = tt
+bounded-each b (x ∷ xs) h = (h 0, bounded-each b xs (λ c. h (suc c)))
 
 pub bounded-set : (l : List ℕ) (i v b : ℕ) → ((c : ℕ) → getD l c 0 ≤ b) → v ≤ b → (c : ℕ) → getD (set l i v) c 0 ≤ b
 bounded-set [] i v b h k c = h c

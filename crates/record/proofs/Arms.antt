@@ -1,19 +1,18 @@
 -- The ranges of an event, kind by kind.
 -- Assumes nothing.
-use Prim.Native.Nat.{ℕ, _+_, _≤_, _<_}
-use mathlib.Core.Path.{_≡_, refl, sym, ap, subst, _∙_}
+use Prim.Native.Nat.{ℕ, _<_}
+use mathlib.Core.Path.{_≡_, refl, _∙_}
 use mathlib.Core.Bool.{Bool, true, false, not}
 use mathlib.Core.List.{List}
-use lib.ListN.{length}
 use lib.Dec.{leb, ltb}
 use mir.Syntax.{w32}
 use mir.Val.{Fits}
-use Rattle.base.specs.Tests.{_<?_, _and_, and-yes, and-lt}
+use Rattle.base.specs.Tests.{_<?_, and-yes, and-lt}
 use Rattle.base.specs.Branches.{told-lt, and-true, and-answered}
 use Rattle.base.specs.Bytes.{Bytes}
 use Rattle.format.specs.Types.{retransmission, transitional}
 use Rattle.format.specs.Range.{lengthOk, actionOk, stateOk, configurationOk, ownSetOk, fieldsOk}
-use Rattle.record.specs.Context.{contextOf, ContextIn}
+use Rattle.record.specs.Context.{contextOf}
 use Rattle.record.specs.Events.{actionOf, stateOf, recordOf, Inside, PayloadInside, ListsInside}
 use Rattle.record.specs.Reading.{Readable}
 use Rattle.record.specs.declared.Context.{Context}

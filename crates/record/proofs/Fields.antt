@@ -1,14 +1,14 @@
 -- The ranges of an event's parts, as the code tests them.
 -- Assumes nothing.
 use Prim.Native.Nat.{ℕ, _+_, _≤_}
-use mathlib.Core.Path.{_≡_, refl, sym, ap, _∙_}
+use mathlib.Core.Path.{_≡_, refl, sym, _∙_}
 use mathlib.Core.Bool.{Bool, true, false, not}
 use mathlib.Core.List.{List}
 use lib.ListN.{length}
 use lib.Dec.{leb}
 use mir.Syntax.{w32}
 use mir.Val.{Fits}
-use Rattle.base.specs.Tests.{_≤?_, _<?_, _=?_, _and_, lt-yes, eq-yes}
+use Rattle.base.specs.Tests.{_≤?_, _<?_, _and_, lt-yes, eq-yes}
 use Rattle.base.specs.Branches.{told-le, and-true, and-false, and-answered, and-denied}
 use Rattle.base.specs.Bytes.{Bytes, partAt}
 use Rattle.base.specs.BytesLaws.{part-length, part-are-bytes, numbers-length}
@@ -46,7 +46,16 @@ shuffle true true true true true true s y = refl
 state-split : (c : FormatContext) (s : FormatState) → configurationOk (s .configuration) ≡ true → length (s .cuts) ≡ c .servers → (numbersOk c s and listsOk c s) ≡ stateOk c s
 unfolding stateOk numbersOk listsOk yellowOk _and_
 state-split c s h k =
-    sym (shuffle (s .sender <? c .servers) (cutsOk (c .quota) (s .cuts)) (lengthOk c (s .greenLength)) (indexOk (s .attempt)) (primaryOk c (s .last)) (markOk c (s .mark)) (statusOk (s .yellow .status)) (idsOk c (s .yellow .ids)))
+    sym
+    (shuffle
+    (s .sender <? c .servers)
+    (cutsOk (c .quota) (s .cuts))
+    (lengthOk c (s .greenLength))
+    (indexOk (s .attempt))
+    (primaryOk c (s .last))
+    (markOk c (s .mark))
+    (statusOk (s .yellow .status))
+    (idsOk c (s .yellow .ids)))
     ∙ rw (h, eq-yes (length (s .cuts)) (c .servers) k)
 
 state-parts : (c : Context) (s : StateAt) (e : List ℕ) → Fits w32 (s .configuration)

@@ -1,16 +1,15 @@
 -- What the functions that frame a kind answer.
 -- Assumes nothing.
-use Prim.Native.Nat.{ℕ, _+_, _*_, _≤_, _<_}
-use mathlib.Core.Path.{_≡_, refl, sym, ap, _∙_}
-use mathlib.Core.Bool.{Bool, true, false, not}
+use Prim.Native.Nat.{ℕ, _+_, _*_}
+use mathlib.Core.Path.{_≡_, refl, ap}
 use mathlib.Core.List.{List}
-use mathlib.Core.Option.{Option, none, some}
+use mathlib.Core.Option.{some}
 use native.Mathlib.Omega.{arith}
 use lib.ListN.{length}
-use Rattle.base.specs.Tests.{_=?_, pick, pick-yes, pick-no, eq-yes, eq-no}
-use Rattle.base.specs.Bytes.{numberAt, partAt}
-use Rattle.format.specs.Types.{Record, action, retransmission, state, request, Kind, ofAction, ofRetransmission, ofState, ofCpc, ofRegular, ofTransitional, ofRequest, ofRecovery}
-use Rattle.format.specs.Read.{payloadAt, idAt, actionAt, primaryAt, markAt, yellowAt, idsAt, stateAt, lengthFor, recordIn}
+use Rattle.base.specs.Tests.{_=?_, pick-yes, pick-no, eq-yes, eq-no}
+use Rattle.base.specs.Bytes.{numberAt}
+use Rattle.format.specs.Types.{action, retransmission, state, Kind, ofAction, ofRetransmission, ofState, ofCpc, ofRegular, ofTransitional, ofRequest, ofRecovery}
+use Rattle.format.specs.Read.{payloadAt, idAt, actionAt, primaryAt, markAt, yellowAt, stateAt, lengthFor, recordIn}
 use Rattle.record.specs.Values.{idOf, primaryOf, markOf}
 use Rattle.record.specs.Events.{actionOf, stateOf, recordOf, Inside, PayloadInside, ListsInside, actionIn, lastIn, markIn, stateIn}
 use Rattle.record.specs.Framed.{bodyIn, found, FoundInside, Answers}
@@ -18,7 +17,6 @@ use Rattle.record.specs.declared.events.ActionAt.{ActionAt}
 use Rattle.record.specs.declared.events.StateAt.{StateAt}
 use Rattle.record.specs.declared.events.Event.{Event}
 use Rattle.record.specs.declared.events.Event.the-variants.{Action, Retransmission, State, Cpc, Regular, Transitional, Request, Recovery}
-use Rattle.record.specs.declared.frame.Framed.{Framed}
 use Rattle.record.specs.declared.frame.Framed.the-variants.{Good, Bad}
 
 -- any kind

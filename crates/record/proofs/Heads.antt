@@ -3,21 +3,21 @@
 use Prim.Native.Nat.{ℕ, _+_, _≤_, _<_}
 use mathlib.Core.Path.{_≡_, refl, sym, ap, _∙_}
 use mathlib.Core.Bool.{Bool, true, false, not}
-use mathlib.Core.List.{List, [], _∷_}
+use mathlib.Core.List.{List}
 use mathlib.Core.Option.{Option, none, some}
 use native.Mathlib.Omega.{arith}
 use lib.ListN.{length}
 use lib.Dec.{eqb}
 use borrow.Author.Tests.{not-true, not-false}
-use Rattle.base.specs.Tests.{_≤?_, _=?_, _and_, pick, pick-yes, pick-no, pick-ne, and-holds, and-le, and-gt, and-eq, and-ne, le-holds}
+use Rattle.base.specs.Tests.{_≤?_, pick-yes, pick-no, pick-ne, and-holds, and-le, and-gt, and-eq, and-ne, le-holds}
 use Rattle.base.specs.Branches.{told-eq}
 use Rattle.base.specs.Bytes.{numberAt}
-use Rattle.format.specs.Types.{Record, Kind, ofAction, ofRetransmission, ofState, ofCpc, ofRegular, ofTransitional, ofRequest, ofRecovery, kindNumber}
+use Rattle.format.specs.Types.{Kind, kindNumber}
 use Rattle.format.specs.Read.{kindNamed}
 use Rattle.format.proofs.Reading.{kind-named}
 use Rattle.record.specs.Framed.{headOk, bodyIn, bodyAs, framedIn, found, FoundInside, Answers}
 use Rattle.record.specs.declared.frame.Framed.{Framed}
-use Rattle.record.specs.declared.frame.Framed.the-variants.{Good, Bad}
+use Rattle.record.specs.declared.frame.Framed.the-variants.{Bad}
 
 -- the head
 
@@ -43,7 +43,11 @@ head-long e b f g = le-holds 4 (length e) (and-holds (4 ≤? length e) _ (sym f 
 unnamed : (x : ℕ) → (x ≡ 1 → ⊥) → (x ≡ 2 → ⊥) → (x ≡ 3 → ⊥) → (x ≡ 4 → ⊥) → (x ≡ 5 → ⊥) → (x ≡ 6 → ⊥) → (x ≡ 7 → ⊥) → (x ≡ 8 → ⊥) → kindNamed x ≡ none
 unfolding kindNamed kindNumber
 unnamed x a b c d e f g h =
-    sym (pick-ne x 1 _ _ _ a (pick-ne x 2 _ _ _ b (pick-ne x 3 _ _ _ c (pick-ne x 4 _ _ _ d (pick-ne x 5 _ _ _ e (pick-ne x 6 _ _ _ f (pick-ne x 7 _ _ _ g (pick-ne x 8 _ _ _ h refl))))))))
+    sym
+    (pick-ne x 1 _ _ _ a
+    (pick-ne x 2 _ _ _ b
+    (pick-ne x 3 _ _ _ c
+    (pick-ne x 4 _ _ _ d (pick-ne x 5 _ _ _ e (pick-ne x 6 _ _ _ f (pick-ne x 7 _ _ _ g (pick-ne x 8 _ _ _ h refl))))))))
 
 pub framed-bad : (e : List ℕ) (n : ℕ) (b : Bool) → b ≡ headOk e → not b ≡ true → Answers (framedIn n e) n Bad e
 unfolding framedIn found FoundInside

@@ -1,19 +1,18 @@
 -- A reading in two steps: the frame, then the ranges.
 -- Assumes nothing.
-use Prim.Native.Nat.{ℕ, _+_, _≤_, _<_}
+use Prim.Native.Nat.{ℕ, _+_, _≤_}
 use mathlib.Core.Path.{_≡_, refl, sym, ap, _∙_}
-use mathlib.Core.Bool.{Bool, true, false, not}
+use mathlib.Core.Bool.{Bool, true, false}
 use mathlib.Core.List.{List}
 use mathlib.Core.Option.{Option, none, some}
 use native.Mathlib.Omega.{arith}
-use lib.ListN.{length, getD, List·getD-eq-default}
-use borrow.Author.Tests.{not-true, not-false}
-use Rattle.base.specs.Tests.{_≤?_, _=?_, _and_, pick, pick-yes, pick-no, and-no, both-yes, le-yes, le-fails, Known, known, holds, fails}
-use Rattle.base.specs.Bytes.{Bytes, numberAt}
+use lib.ListN.{length, List·getD-eq-default}
+use Rattle.base.specs.Tests.{_≤?_, _=?_, _and_, pick, le-fails, Known, known, holds, fails}
+use Rattle.base.specs.Bytes.{numberAt}
 use Rattle.base.specs.BytesLaws.{number1}
 use Rattle.format.specs.Limits.{version}
 use Rattle.format.specs.Types.{Record, Kind, kindNumber, Context as FormatContext, Reading as FormatReading, says, refused}
-use Rattle.format.specs.Range.{contextOk, fieldsOk, recordOk}
+use Rattle.format.specs.Range.{recordOk}
 use Rattle.format.specs.Read.{kindNamed, lengthFor, frameOk, recordIn, readAs, read}
 use Rattle.record.specs.Framed.{headOk, bodyIn, bodyAs, framedIn}
 
@@ -37,7 +36,8 @@ named-long e k h (fails f) =
     let z : _≡_ {A = ℕ} 0 1 = cc in
     absurd (omega arith)
 
-split : (c : FormatContext) (r : Record) (a b l : Bool) → pick (a and b and l) (pick (recordOk c r) (says r) (refused 2)) (refused 1) ≡ judged c (pick (a and b) (pick l (some r) none) none)
+split : (c : FormatContext) (r : Record) (a b l : Bool)
+    → pick (a and b and l) (pick (recordOk c r) (says r) (refused 2)) (refused 1) ≡ judged c (pick (a and b) (pick l (some r) none) none)
 unfolding judged pick _and_
 split c r false b l = refl
 split c r true false l = refl

@@ -15,3 +15,4 @@ pub mod WriterBlocks
 pub mod WriterRecords
 pub mod WriterState
 pub mod WriterRoundTrip
+pub mod Callers

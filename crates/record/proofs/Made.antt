@@ -1,7 +1,7 @@
 -- A struct that the code makes of numbers that it read is the one that the definition names.
 -- Assumes nothing.
 use Prim.Native.Nat.{ℕ, _+_, _*_}
-use mathlib.Core.Path.{_≡_, refl}
+use mathlib.Core.Path.{_≡_}
 use mathlib.Core.List.{List}
 use Rattle.base.specs.Bytes.{numberAt}
 use Rattle.record.specs.Events.{actionIn, lastIn, markIn, stateIn}
@@ -27,6 +27,19 @@ mark-made e at t i a s b f g h k l = rw (f, g, h, k, l)
 
 pub state-made : (e : List ℕ) (n s i g a y m : ℕ) (p : LastPrimary) (k : Mark) → s ≡ numberAt 1 e 4 → i ≡ numberAt 4 e 5 → g ≡ numberAt 4 e (9 + 2 * n)
     → a ≡ numberAt 4 e (13 + 2 * n) → p ≡ lastIn e (17 + 2 * n) → k ≡ markIn e (26 + 2 * n) → y ≡ numberAt 1 e (37 + 2 * n) → m ≡ numberAt 2 e (38 + 2 * n)
-    → _≡_ {A = StateAt} (record { sender = s; configuration = i; «cuts_at» = 9; «green_length» = g; attempt = record { 0 = a }; last = p; mark = k; «yellow_status» = y; «yellow_at» = 40 + 2 * n; «yellow_count» = m }) (stateIn n e)
+    → _≡_ {A = StateAt}
+    (record {
+      sender = s;
+      configuration = i;
+      «cuts_at» = 9;
+      «green_length» = g;
+      attempt = record { 0 = a };
+      last = p;
+      mark = k;
+      «yellow_status» = y;
+      «yellow_at» = 40 + 2 * n;
+      «yellow_count» = m;
+    })
+    (stateIn n e)
 unfolding stateIn
 state-made e n s i g a y m p k f₁ f₂ f₃ f₄ f₅ f₆ f₇ f₈ = rw (f₁, f₂, f₃, f₄, f₅, f₆, f₇, f₈)

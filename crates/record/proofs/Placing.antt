@@ -1,24 +1,23 @@
 -- What a caller knows of an event that is in range.
 -- Assumes nothing.
-use Prim.Native.Nat.{ℕ, _+_, _*_, _≤_, _<_}
-use mathlib.Core.Path.{_≡_, refl, sym, ap, subst, _∙_}
-use mathlib.Core.Bool.{Bool, true}
+use Prim.Native.Nat.{ℕ, _+_, _*_, _≤_}
+use mathlib.Core.Path.{_≡_}
+use mathlib.Core.Bool.{true}
 use mathlib.Core.List.{List}
 use native.Mathlib.Omega.{arith}
 use lib.ListN.{length}
-use Rattle.base.specs.Tests.{_<?_, _≤?_, _and_, and-holds, lt-holds, le-holds}
+use Rattle.base.specs.Tests.{and-holds, lt-holds, le-holds}
 use Rattle.base.specs.Bytes.{Bytes, partAt}
 use Rattle.base.specs.BytesLaws.{part-length}
-use Rattle.format.specs.Types.{Context as FormatContext}
 use Rattle.format.specs.Range.{contextOk, lengthOk, payloadOk, actionOk, stateOk, fieldsOk}
 use Rattle.format.specs.Read.{idsAt}
-use Rattle.format.proofs.Ranges.{context-range, id-range, payload-range, action-range, state-range}
+use Rattle.format.proofs.Ranges.{context-range, id-range, payload-range, state-range}
 use Rattle.format.proofs.IdCount.{ids-count}
 use Rattle.format.proofs.Writing.{ids-number}
 use Rattle.record.specs.Context.{contextOf, ContextIn}
 use Rattle.record.specs.Values.{idOf}
 use Rattle.record.specs.Events.{actionOf, stateOf, recordOf, Inside, PayloadInside, ListsInside}
-use Rattle.record.specs.Reading.{Readable, PlacedAction, PlacedRetransmission, PlacedState, PlacedPayload, Placed, PlacedEvent}
+use Rattle.record.specs.Reading.{PlacedAction, PlacedState, Placed, PlacedEvent}
 use Rattle.record.specs.declared.Context.{Context}
 use Rattle.record.specs.declared.events.ActionAt.{ActionAt}
 use Rattle.record.specs.declared.events.StateAt.{StateAt}

@@ -1,27 +1,26 @@
 -- What each return of the reader is worth.
 -- Assumes nothing.
-use Prim.Native.Nat.{ℕ, _≤_}
+use Prim.Native.Nat.{ℕ}
 use mathlib.Core.Path.{_≡_, refl, sym, ap, _∙_}
 use mathlib.Core.Bool.{Bool, true, false, not}
 use mathlib.Core.List.{List}
-use mathlib.Core.Option.{Option, none, some}
+use mathlib.Core.Option.{some}
 use native.Mathlib.Omega.{arith}
 use borrow.Author.Tests.{not-true, not-false}
 use Rattle.base.specs.Tests.{_and_, pick-yes, pick-no, and-no, both-yes}
 use Rattle.base.specs.Branches.{and-false}
 use Rattle.base.specs.Bytes.{Bytes}
-use Rattle.format.specs.Types.{Record, says, refused}
+use Rattle.format.specs.Types.{says, refused}
 use Rattle.format.specs.Range.{contextOk, fieldsOk, recordOk}
 use Rattle.format.specs.Read.{read}
-use Rattle.record.specs.Context.{contextOf, ContextIn}
+use Rattle.record.specs.Context.{contextOf}
 use Rattle.record.specs.Events.{recordOf, Inside}
 use Rattle.record.specs.Framed.{framedIn, found, FoundInside, Answers}
-use Rattle.record.specs.Reading.{Readable, PlacedEvent, Refusal, meaning, placed}
+use Rattle.record.specs.Reading.{Readable, meaning, placed}
 use Rattle.record.specs.declared.Context.{Context}
 use Rattle.record.specs.declared.events.Event.{Event}
 use Rattle.record.specs.declared.frame.Framed.{Framed}
 use Rattle.record.specs.declared.frame.Framed.the-variants.{Good, Bad}
-use Rattle.record.specs.declared.reader.Reading.{Reading}
 use Rattle.record.specs.declared.reader.Reading.the-variants.{Good as Says, Refused}
 use Rattle.record.proofs.Judged.{judged, read-judged}
 use Rattle.record.proofs.Placing.{context-in, event-placed}

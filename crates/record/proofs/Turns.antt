@@ -1,13 +1,13 @@
 -- A turn of each loop over a list in bytes takes one entry off the front of what is left.
 -- Assumes nothing.
-use Prim.Native.Nat.{ℕ, zero, suc, _+_, _*_, _-_, _≤_, _<_}
+use Prim.Native.Nat.{ℕ, suc, _+_, _*_, _-_, _≤_, _<_}
 use mathlib.Core.Path.{_≡_, refl, sym, ap, _∙_}
 use mathlib.Core.Bool.{Bool, true, false, not}
 use mathlib.Core.List.{List, [], _∷_}
 use native.Mathlib.Omega.{arith}
-use lib.ListN.{length, getD, set, replicate}
+use lib.ListN.{getD, set, replicate}
 use borrow.Author.Tests.{not-false}
-use Rattle.base.specs.Tests.{_≤?_, _=?_, _and_, pick, pick-yes, pick-no, and-yes, and-no, le-yes, le-no, eq-yes, eq-no, Known, known, holds, fails}
+use Rattle.base.specs.Tests.{_≤?_, _=?_, pick-yes, pick-no, and-yes, and-no, le-yes, le-no, eq-yes, eq-no, Known, known, holds, fails}
 use Rattle.base.specs.Bytes.{numberAt, numbersAt}
 use Rattle.format.specs.Types.{Id, Context as FormatContext}
 use Rattle.format.specs.Range.{cutsOk, idOk, idsOk}

@@ -72,6 +72,7 @@ pub struct State {
     pub yellow_count: u16,
 }
 
+// "The starting state and these limits belong to the state's own kind": each limit is named here and nowhere else.
 impl State {
     pub const FEWEST_SERVERS: u8 = 2;
 

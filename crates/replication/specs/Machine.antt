@@ -9,3 +9,4 @@ pub mod Step
 pub mod WellFormed
 pub mod WellFormedRanges
 pub mod WellFormedFacts
+pub mod WellFormedSent

@@ -1,17 +1,17 @@
 -- Tests on ids and lists of ids, as facts of counts.
 -- Assumes nothing.
 use Prim.Native.Nat.{ℕ, zero, suc, _+_, _≤_, _<_}
-use mathlib.Core.Path.{_≡_, refl, sym, ap, _∙_}
-use mathlib.Core.Bool.{Bool, true, false, not}
-use mathlib.Core.List.{List, [], _∷_, _++_, map}
+use mathlib.Core.Path.{_≡_, refl, sym, ap, _∙_, subst}
+use mathlib.Core.Bool.{true, false, not}
+use mathlib.Core.List.{List, [], _∷_, map}
 use native.Mathlib.Omega.{arith}
-use lib.ListN.{length, getD}
-use Rattle.base.specs.Tests.{_and_, _or_, _=?_, not-both, not-holds, or-fails, and-holds, both-yes, and-no, eq-yes, eq-no, eq-holds, eq-fails, Known, holds, fails, known}
-use Rattle.base.specs.Lists.{after, above}
+use lib.ListN.{getD}
+use Rattle.base.specs.Tests.{_or_, not-both, not-holds, or-fails, and-holds, both-yes, and-no, eq-yes, eq-no, eq-holds, Known, holds, fails, known}
+use Rattle.base.specs.Lists.{above}
 use Rattle.base.specs.ListLaws.{Each, each-append, each-first, each-second, each-map, map-each, each-implied, above-between, above-each}
-use Rattle.base.specs.Counts.{one, count, one-yes, one-no}
-use Rattle.format.specs.Types.{Id, Context}
-use Rattle.format.specs.Range.{idOk, sameId, hasId, idsDiffer, idsInRange}
+use Rattle.base.specs.Counts.{one, count, one-yes, one-no, counted-element}
+use Rattle.format.specs.Types.{Id}
+use Rattle.format.specs.Range.{sameId, hasId, idsDiffer}
 use Rattle.replication.specs.Machine.Install.{idsUpTo}
 use Rattle.replication.specs.Machine.WellFormed.{sameIds}
 use Rattle.replication.specs.Machine.WellFormedRanges.{idCount}
@@ -21,6 +21,10 @@ use Rattle.replication.specs.Machine.WellFormedRanges.{idCount}
 pub same-id-yes : (d x : Id) → d .creator ≡ x .creator → d .index ≡ x .index → sameId d x ≡ true
 unfolding sameId
 same-id-yes d x p e = both-yes _ _ (eq-yes _ _ p) (eq-yes _ _ e)
+
+pub same-id-no : (d x : Id) → (d .creator ≡ x .creator → ⊥) → sameId d x ≡ false
+unfolding sameId
+same-id-no d x n = sym (and-no _ _ (eq-no _ _ n))
 
 pub same-id-holds : (d x : Id) → sameId d x ≡ true → d ≡ x
 unfolding sameId
@@ -63,6 +67,18 @@ counted-has d xs h = go (known (hasId d xs))
     go : Known (hasId d xs) → hasId d xs ≡ true
     go (holds e) = e
     go (fails e) = absurd (omega (arith, not-had-counted d xs e))
+
+pub each-counted : (xs : List Id) → Each (λ x. 1 ≤ idCount x xs) xs
+unfolding count
+each-counted [] = tt
+each-counted (x ∷ xs) =
+    (omega (arith, one-yes _ (same-id-yes x x refl refl)), each-implied (λ y. 1 ≤ idCount y xs) (λ y. 1 ≤ idCount y (x ∷ xs)) (λ y h. omega arith) xs (each-counted xs))
+
+-- A fact of every id of a list, of one that stands in it.
+pub counted-fact : (P : Id → Type 0) (d : Id) (xs : List Id) → Each P xs → 1 ≤ idCount d xs → P d
+counted-fact P d xs h l =
+    let x = counted-element (sameId d) P xs h l in
+    subst P (sym (same-id-holds d (x .0) (x .1))) (x .2)
 
 -- ---- ids that differ
 

@@ -1,20 +1,19 @@
 -- The range tests of the record format hold exactly if the facts of `WellFormedRanges` do.
 -- Assumes nothing.
-use Prim.Native.Nat.{ℕ, zero, suc, _+_, _*_, _^_, _≤_, _<_}
-use mathlib.Core.Path.{_≡_, refl, sym, ap, _∙_}
-use mathlib.Core.Bool.{Bool, true, false}
+use Prim.Native.Nat.{ℕ, zero, suc, _*_, _^_, _≤_, _<_}
+use mathlib.Core.Path.{_≡_, refl}
+use mathlib.Core.Bool.{true}
 use mathlib.Core.List.{List, [], _∷_}
-use mathlib.Core.Option.{Option, none, some}
+use mathlib.Core.Option.{none}
 use native.Mathlib.Omega.{arith}
 use lib.ListN.{length, getD}
-use Rattle.base.specs.Tests.{_and_, _≤?_, and-holds, both-yes, le-yes, le-holds, lt-yes, lt-holds, eq-yes, eq-holds}
-use Rattle.base.specs.Bytes.{Bytes, areBytes}
+use Rattle.base.specs.Tests.{and-holds, both-yes, le-yes, le-holds, lt-yes, lt-holds, eq-yes, eq-holds}
 use Rattle.base.specs.BytesLaws.{are-bytes, bytes-are}
-use Rattle.base.specs.Lists.{all}
 use Rattle.base.specs.ListLaws.{Each}
 use Rattle.format.specs.Limits.{fewestServers, mostServers, leastQuota, mostQuota, mostPayload, mostIndex}
 use Rattle.format.specs.Types.{Id, Action, Primary, Mark, Yellow, State, Context}
-use Rattle.format.specs.Range.{sizesOk, contextOk, idOk, lengthOk, payloadOk, actionOk, cutsOk, indexOk, setOk, statusOk, primaryOk, markOk, idsInRange, idsDiffer, idsOk, yellowOk, configurationOk, stateOk, ownSetOk}
+use Rattle.format.specs.Range.{sizesOk, contextOk, idOk, lengthOk, payloadOk, actionOk, cutsOk, indexOk, setOk, statusOk, primaryOk, markOk, idsInRange, idsOk, yellowOk, configurationOk, stateOk, ownSetOk}
+use Rattle.format.proofs.IdCount.{ids-count}
 use Rattle.replication.specs.Machine.WellFormedRanges.{idCount, SizesFit, IdFits, PayloadFits, ActionFits, PrimaryFits, MarkFits, YellowFits, StateFits, OwnSetFits}
 use Rattle.replication.proofs.WellFormed.Ids.{differ-once, once-differ}
 
@@ -201,3 +200,10 @@ module _ (c : Context) where
   pub own-set-ok : (s : ℕ) → OwnSetFits (c .servers) (c .self) s → ownSetOk c s ≡ true
   unfolding ownSetOk
   own-set-ok s f = both-yes _ _ (set-ok s (f .below)) (f .own)
+
+-- Ids in range that differ are at most n × q.
+pub ids-short : (n q : ℕ) (xs : List Id) → Each (IdFits n q) xs → ((d : Id) → idCount d xs ≤ 1) → length xs ≤ n * q
+ids-short n q xs f once = ids-count context xs (ids-ok context xs f) (once-differ xs once)
+  where
+    context : Context
+    context = record { servers = n; quota = q; self = 0; last = none }

@@ -3,8 +3,8 @@
 use Prim.Native.Nat.{ℕ, _+_, _*_, _≤_, _<_}
 use mathlib.Core.Path.{_≡_}
 use mathlib.Core.Bool.{true}
-use mathlib.Core.List.{List, map}
-use mathlib.Core.Option.{Option, none, some}
+use mathlib.Core.List.{map}
+use mathlib.Core.Option.{none, some}
 use lib.ListN.{length, getD}
 use Rattle.base.specs.ListLaws.{Each}
 use Rattle.base.specs.Lists.{above, isThere}
@@ -70,3 +70,26 @@ pub record WellFormed (s : Server) : Type 0 where
   pub own-list : OwnListFits (s .me) (s .log)
   pub quota-kept : s .log .numbered + length (s .held) ≤ s .quota
   pub mode : ModeFits (s .membership .mode) s
+
+-- ---- beside row 8
+
+-- Each id of the yellow list is of an entered action.
+abbrev pub YellowWithinCuts : Server → Type 0
+YellowWithinCuts s = Each (λ d. d .index ≤ cut (s .log) (d .creator)) (s .votes .yellow .ids)
+
+-- So it is in Reg_prim and Trans_prim: Install empties the list, and there "its id joins the yellow list if it was entered". Row 8 does not ask for
+-- it, but without it an entered action's id could join a list in which it already is.
+abbrev pub YellowEntered : Mode → Server → Type 0
+YellowEntered Non-prim s = Unit {0}
+YellowEntered Reg-prim s = YellowWithinCuts s
+YellowEntered Trans-prim s = YellowWithinCuts s
+YellowEntered Exchange-states s = Unit {0}
+YellowEntered Exchange-actions s = Unit {0}
+YellowEntered Construct s = Unit {0}
+YellowEntered No s = Unit {0}
+YellowEntered Un s = Unit {0}
+
+-- What every state that a run reaches satisfies.
+pub record Invariant (s : Server) : Type 0 where
+  pub well-formed : WellFormed s
+  pub yellow : YellowEntered (s .membership .mode) s
