@@ -12,3 +12,4 @@ pub mod ImageLaws
 pub mod InPlace
 pub mod Refusals
 pub mod HeaderLaws
+pub mod StartLaws
