@@ -13,4 +13,4 @@ pub mod InPlace
 pub mod Refusals
 pub mod HeaderLaws
 pub mod StartLaws
-pub mod OutFits
+pub mod Taken
