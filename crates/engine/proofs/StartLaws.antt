@@ -4,11 +4,9 @@ use Prim.Native.Nat.{ℕ, zero, suc, _+_, _*_, _≤_, _<_}
 use mathlib.Core.Path.{_≡_, refl, sym, ap, ap₂, _∙_}
 use mathlib.Core.Bool.{Bool, true, false, not}
 use mathlib.Core.List.{List, [], _∷_, _++_, append-nil}
-use mathlib.Core.Option.{Option, none, some}
-use native.Mathlib.Nat.{add-zero, mul-zero}
-use native.Mathlib.Numerals.{add-one}
+use mathlib.Core.Option.{none, some}
 use native.Mathlib.Omega.{arith}
-use lib.ListN.{length, getD, take, drop, set, replicate, length-append, length-replicate, take-append-drop}
+use lib.ListN.{length, getD, take, drop, set, replicate, length-replicate, take-append-drop}
 use mir.Syntax.{w8, w16}
 use mir.Val.{Fits}
 use lib.Seq.{take-all, take-append-seam, drop-length}
@@ -26,9 +24,9 @@ use Rattle.format.specs.Write.{cutsBytes, idsBytes}
 use Rattle.record.specs.declared.State as declared
 use Rattle.record.specs.Start.{startOf}
 use Rattle.replication.specs.Machine.Types.{Server, clearedMark, noYellow, noStates, start}
-use Rattle.replication.specs.Machine.WellFormed.{queue, wellFormed}
+use Rattle.replication.specs.Machine.WellFormed.{queue}
 use Rattle.replication.proofs.WellFormed.Runs.{start-well-formed}
-use Rattle.engine.specs.Layout.{StartRoom, stateSize, theHeader, theCuts, theNoted, theHeld, theStates, theYellow, theOwn, theQueue, sections, sectionSize, stateLength, leastStateLength}
+use Rattle.engine.specs.Layout.{StartRoom, stateSize, theHeader, theCuts, theNoted, theStates, sections, sectionSize, stateLength, leastStateLength}
 use Rattle.engine.specs.Image.{modeNumber, over, zeros, senders, headerBytes, notedBytes, stateOver, statesOver, actionSlots, heldSlots, section, parts, image}
 use Rattle.engine.specs.Header.{statusOf, idOf, setOf, transitionalOf, lastOf, markNumbers, headerOf, headerWritten}
 use Rattle.engine.specs.Decode.{readImage}
