@@ -26,7 +26,7 @@ pub state-length-made : (n q all states : ℕ) → all ≡ n * q → states ≡ 
 unfolding stateLength sections sum stateSize
 state-length-made n q all states e f = rw (f, e) (omega arith)
 
-pub out-length-made : (n q all : ℕ) → all ≡ n * q → 130 * all + 960 ≡ outLength n q
+pub out-length-made : (n q all : ℕ) → all ≡ n * q → 130 * all ≡ outLength n q
 unfolding outLength
 out-length-made n q all e = rw e
 
