@@ -7,5 +7,6 @@ pub mod Stores
 pub mod Pigeonhole
 pub mod Sets
 pub mod Lists
+pub mod Quantifiers
 pub mod Text
 pub mod Opened
