@@ -8,5 +8,7 @@ pub mod Pigeonhole
 pub mod Sets
 pub mod Lists
 pub mod Quantifiers
+pub mod QuantifierLaws
+pub mod Deciding
 pub mod Text
 pub mod Opened
