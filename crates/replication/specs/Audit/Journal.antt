@@ -66,18 +66,19 @@ isBeside r x = x .server =? r .server and sameRegular (x .before .regular) (r .b
 unfoldable pub earlierIn : List Row → Row → List Message
 earlierIn rs r = gather (λ x. pick (isBeside r x) (messageBy (x .role) x) none) (take (r .place) rs)
 
+unfoldable pub deliveryOf : List Row → Stamps → Row → Delivery
+deliveryOf rs s r = record {
+  place = r .place;
+  server = r .server;
+  before = r .before;
+  ord = r .ord;
+  bytes = r .bytes;
+  sending = sendingIn s (r .source) (at rs (r .source .sending));
+  earlier = earlierIn rs r;
+}
+
 unfoldable pub deliveryBy : Role → List Row → Stamps → Row → Option Delivery
-deliveryBy delivers rs s r =
-    some
-    (record {
-      place = r .place;
-      server = r .server;
-      before = r .before;
-      ord = r .ord;
-      bytes = r .bytes;
-      sending = sendingIn s (r .source) (at rs (r .source .sending));
-      earlier = earlierIn rs r;
-    })
+deliveryBy delivers rs s r = some (deliveryOf rs s r)
 deliveryBy (takes c) rs s r = none
 deliveryBy (transits t) rs s r = none
 deliveryBy goes-down rs s r = none
@@ -206,13 +207,19 @@ takingsIn rs = gather (λ r. takingBy (r .role) r) rs
 unfoldable pub changesIn : List Row → List Change
 changesIn rs = gather (λ r. changeBy (r .role) r) rs
 
+unfoldable pub transitionsIn : List Row → List Transition
+transitionsIn rs = gather (λ r. transitionBy (r .role) r) rs
+
+unfoldable pub deliveriesIn : List Row → Stamps → List Delivery
+deliveriesIn rs s = gather (λ r. deliveryBy (r .role) rs s r) rs
+
 unfoldable pub sorted : List Row → Stamps → Journal
 sorted rs s = record {
   rows = rs;
   sendings = gatherAll (sendingsOf s) rs;
-  deliveries = gather (λ r. deliveryBy (r .role) rs s r) rs;
+  deliveries = deliveriesIn rs s;
   takings = takingsIn rs;
-  transitions = gather (λ r. transitionBy (r .role) r) rs;
+  transitions = transitionsIn rs;
   changes = changesIn rs;
   leavings = filter (hasLeft rs) (takingsIn rs);
   passages = gather (passageFrom rs) (changesIn rs);

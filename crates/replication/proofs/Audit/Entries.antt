@@ -1,0 +1,231 @@
+-- What comes at a place of a run is in the journal's lists, with what the definitions say of it; and what is in them comes.
+-- Assumes nothing.
+use Prim.Native.Nat.{ℕ, suc, _+_, _<_}
+use mathlib.Core.Path.{_≡_, refl, sym, ap, ap₂, subst, subst₂, subst₃, _∙_}
+use mathlib.Core.Bool.{Bool, true, false}
+use mathlib.Core.List.{List, [], _∷_, map}
+use mathlib.Core.Option.{Option, none, some}
+use native.Mathlib.Omega.{arith}
+use lib.ListN.{length, take, getD}
+use Rattle.base.specs.Tests.{_=?_, _and_, pick, Known, holds, fails, known, not-both, and-holds, eq-holds}
+use Rattle.base.specs.Lists.{any, gather, gatherAll, below, at}
+use Rattle.base.specs.QuantifierLaws.{Among, any-among, among-gather, gather-among, among-gather-all, among-map, among-below, at-taken}
+use Rattle.format.specs.Types.{Record, action, retransmission, state, cpc, regular, transitional, request, recovery, says}
+use Rattle.replication.specs.Machine.Types.{Configuration}
+use Rattle.replication.specs.Runs.Run.{Entry, event, crash, Run, serverOf, placeAt, sentAt}
+use Rattle.replication.specs.Runs.Happenings.{Message, isMessage, Configured, regularly, transitionally, Happening, entry-at, sending-of, Of, Comes, Takes, Sends, Delivers, Configures, to-regular, to-transitional}
+use Rattle.replication.specs.Audit.Witness.{Witness, sourceIn, nameIn, entryOrd, sendingOrdsAt, ordIn}
+use Rattle.replication.specs.Audit.Same.{sameMessage}
+use Rattle.replication.specs.Audit.Table.{Role, delivers, takes, transits, goes-down, comes-back, neither, roleIn, Row, rowOf, table}
+use Rattle.replication.specs.Audit.Clocks.{Stamps, numberOf, clockAt, stamps}
+use Rattle.replication.specs.Audit.Journal.{Sending, sendingIn, sendingsOf, messageBy, isBeside, earlierIn, Delivery, deliveryOf, deliveryBy, Taking, takingBy, Transition, transitionBy, Change, changeBy, takingsIn, transitionsIn, changesIn, deliveriesIn}
+use Rattle.replication.proofs.Audit.Sameness.{messages-decided}
+use Rattle.replication.proofs.Audit.Rows.{rowAt, row-among, table-holds, table-is, row-place, row-server, row-after, row-sent, meaning, Meaning, role-of}
+
+clash : {X : Type 0} {A : Type 0} {x : A} → _≡_ {A = Option A} none (some x) → X
+clash e = let z : _≡_ {A = ℕ} 0 1 = cc in absurd (omega arith)
+
+-- A message that comes is a delivery.
+message-role : (r : Record) → isMessage r ≡ true → roleIn (says r) ≡ delivers
+unfolding isMessage roleIn
+message-role (action a) h = refl
+message-role (retransmission k p a) h = refl
+message-role (state x) h = refl
+message-role (cpc k i) h = refl
+message-role (regular i s) h = not-both h
+message-role (transitional s) h = not-both h
+message-role (request p) h = not-both h
+message-role recovery h = not-both h
+
+sending-message : (s : Stamps) (m : Message) (o : Option Row) → sendingIn s m o .message ≡ m
+unfolding sendingIn
+sending-message s m none = refl
+sending-message s m (some r) = refl
+
+picked : {A : Type 0} (t : Bool) (o : Option A) (x : A) → pick t o none ≡ some x → (t ≡ true) × (o ≡ some x)
+unfolding pick
+picked true o x h = (refl, h)
+picked false o x h = clash h
+
+message-by : (o : Role) (x : Row) (m : Message) → messageBy o x ≡ some m → (o ≡ delivers) × (x .source ≡ m)
+unfolding messageBy
+message-by delivers x m h = (refl, cc)
+message-by (takes c) x m h = clash h
+message-by (transits t) x m h = clash h
+message-by goes-down x m h = clash h
+message-by comes-back x m h = clash h
+message-by neither x m h = clash h
+
+delivery-by : (o : Role) (rs : List Row) (s : Stamps) (x : Row) (d : Delivery) → deliveryBy o rs s x ≡ some d → (o ≡ delivers) × (deliveryOf rs s x ≡ d)
+unfolding deliveryBy
+delivery-by delivers rs s x d h = (refl, cc)
+delivery-by (takes c) rs s x d h = clash h
+delivery-by (transits t) rs s x d h = clash h
+delivery-by goes-down rs s x d h = clash h
+delivery-by comes-back rs s x d h = clash h
+delivery-by neither rs s x d h = clash h
+
+module _ (n q : ℕ) (l : Run) (w : Witness) where
+  abbrev rows : List Row
+  rows = table n q l w
+
+  row-ords : (p : ℕ) (y : Entry) → rowAt n q l w p y .sendingOrds ≡ sendingOrdsAt w p
+  unfolding rowAt rowOf
+  row-ords p (event i e k) = refl
+  row-ords p (crash i) = refl
+
+  row-source : (p : ℕ) (y : Entry) → rowAt n q l w p y .source ≡ sourceIn w p
+  unfolding rowAt rowOf
+  row-source p (event i e k) = refl
+  row-source p (crash i) = refl
+
+  -- ---- configurations
+
+  pub taking-among : (p i : ℕ) (c : Configuration) → Takes n q l p i c
+      → Among (record { place = p; server = i; before = placeAt n q l i p; configuration = c }) (takingsIn rows)
+  unfolding takingsIn takingBy rowAt rowOf serverOf roleIn
+  taking-among p i c t =
+      let y : Entry = event i (t .bytes) (t .sent) in
+      among-gather (λ r. takingBy (r .role) r) (row-among n q l w p y (t .here)) (ap (λ o. takingBy o (rowAt n q l w p y)) (role-of n q l w p i _ t))
+
+  pub transition-among : (p i s : ℕ) → Comes n q l p i (transitional s)
+      → Among (record { place = p; server = i; before = placeAt n q l i p; set = s; name = nameIn w p }) (transitionsIn rows)
+  unfolding transitionsIn transitionBy rowAt rowOf serverOf roleIn
+  transition-among p i s t =
+      let y : Entry = event i (t .bytes) (t .sent) in
+      among-gather (λ r. transitionBy (r .role) r) (row-among n q l w p y (t .here)) (ap (λ o. transitionBy o (rowAt n q l w p y)) (role-of n q l w p i _ t))
+
+  pub change-among : (p i : ℕ) (c : Configured) → Configures n q l (sourceIn w) (nameIn w) p i c
+      → Among (record { place = p; server = i; ord = entryOrd w p; to = c }) (changesIn rows)
+  unfolding changesIn changeBy rowAt rowOf serverOf roleIn
+  change-among p i d (to-regular c t) =
+      let y : Entry = event i (t .bytes) (t .sent) in
+      among-gather (λ r. changeBy (r .role) r) (row-among n q l w p y (t .here)) (ap (λ o. changeBy o (rowAt n q l w p y)) (role-of n q l w p i _ t))
+  change-among p i d (to-transitional s t) =
+      let y : Entry = event i (t .bytes) (t .sent) in
+      among-gather (λ r. changeBy (r .role) r) (row-among n q l w p y (t .here)) (ap (λ o. changeBy o (rowAt n q l w p y)) (role-of n q l w p i _ t))
+
+  -- ---- messages
+
+  -- A message's sending, by the definitions, where y stands at its place.
+  unfoldable pub sendingAt : Message → Entry → Sending
+  sendingAt m y = record {
+    message = m;
+    server = serverOf y;
+    regular = placeAt n q l (serverOf y) (suc (m .sending)) .regular;
+    ord = ordIn w (sending-of m);
+    bytes = at (sentAt n q l (m .sending)) (m .number);
+    number = numberOf (stamps rows) m;
+    clock = clockAt (stamps rows) m;
+  }
+
+  sending-is : (m : Message) (y : Entry) → at l (m .sending) ≡ some y → sendingIn (stamps rows) m (some (rowAt n q l w (m .sending) y)) ≡ sendingAt m y
+  unfolding sendingIn sendingAt ordIn
+  sending-is m y e = λ i. record {
+    message = m;
+    server = row-server n q l w (m .sending) y i;
+    regular = row-after n q l w (m .sending) y e i .regular;
+    ord = getD (row-ords (m .sending) y i) (m .number) 0;
+    bytes = at (row-sent n q l w (m .sending) y e i) (m .number);
+    number = numberOf (stamps rows) m;
+    clock = clockAt (stamps rows) m;
+  }
+
+  pub sending-among : (i : ℕ) (m : Message) (c : Configuration) (s : Sends n q l i m c)
+      → Among (sendingAt m (s .mine .entry)) (gatherAll (sendingsOf (stamps rows)) rows)
+  unfolding sendingsOf
+  sending-among i m c s =
+      let y : Entry = s .mine .entry in
+      let r : Row = rowAt n q l w (m .sending) y in
+      let here : at l (m .sending) ≡ some y = s .mine .here in
+      let place : r .place ≡ m .sending = row-place n q l w (m .sending) y in
+      let out : m .number < length (r .sent) = subst (λ (z : List (List ℕ)). m .number < length z) (sym (row-sent n q l w (m .sending) y here)) (s .out) in
+      let made : ℕ → Sending = λ k. sendingIn (stamps rows) (record { sending = r .place; number = k }) (some r) in
+      let which : made (m .number) ≡ sendingAt m y =
+          ap (λ p. sendingIn (stamps rows) (record { sending = p; number = m .number }) (some r)) place ∙ sending-is m y here in
+      among-gather-all (sendingsOf (stamps rows)) (row-among n q l w (m .sending) y here)
+      (subst (λ z. Among z (map made (below (length (r .sent))))) which (among-map made (among-below (length (r .sent)) (m .number) out)))
+
+  -- ---- deliveries
+
+  row-delivers : (p : ℕ) (y : Entry) → at l p ≡ some y → rowAt n q l w p y .role ≡ delivers
+      → Delivers n q l (sourceIn w) (nameIn w) p (serverOf y) (sourceIn w p)
+  row-delivers p y e h =
+      let m : Meaning n q l w p (serverOf y) delivers = subst (Meaning n q l w p (serverOf y)) h (meaning n q l w p y e) in
+      record { what = m .0; comes = m .1; message = m .2; which = refl }
+
+  earlier-is : (p i k : ℕ) (e : List ℕ) (m : Message) → Among m (earlierIn rows (rowAt n q l w p (event i e k)))
+      → (v : ℕ) × Delivers n q l (sourceIn w) (nameIn w) v i m × (v < p)
+  unfolding earlierIn isBeside rowAt rowOf
+  earlier-is p i k e m a = found (gather-among _ (take p rows) a)
+    where
+      r : Row
+      r = rowAt n q l w p (event i e k)
+
+      it : (v : ℕ) (y : Entry) → at l v ≡ some y → v < p → isBeside r (rowAt n q l w v y) ≡ true
+          → messageBy (rowAt n q l w v y .role) (rowAt n q l w v y) ≡ some m → (z : ℕ) × Delivers n q l (sourceIn w) (nameIn w) z i m × (z < p)
+      it v y h less near f =
+          let by = message-by (rowAt n q l w v y .role) (rowAt n q l w v y) m f in
+          let server : serverOf y ≡ i = sym (row-server n q l w v y) ∙ eq-holds (rowAt n q l w v y .server) i (and-holds _ _ near .0) in
+          let source : sourceIn w v ≡ m = sym (row-source v y) ∙ by .1 in
+          (v, subst₂ (λ a b. Delivers n q l (sourceIn w) (nameIn w) v a b) server source (row-delivers v y h (by .0)), less)
+
+      found : (x : Row) × Among x (take p rows) × (pick (isBeside r x) (messageBy (x .role) x) none ≡ some m)
+          → (v : ℕ) × Delivers n q l (sourceIn w) (nameIn w) v i m × (v < p)
+      found f =
+          let v : ℕ = f .1 .place in
+          let taken = at-taken p rows v (f .0) (f .1 .there) in
+          let t = table-is n q l w v (f .0) (taken .1) in
+          let way = picked (isBeside r (f .0)) (messageBy (f .0 .role) (f .0)) m (f .2) in
+          it v (t .0) (t .1) (taken .0) (subst (λ x. isBeside r x ≡ true) (t .2) (way .0)) (subst (λ x. messageBy (x .role) x ≡ some m) (t .2) (way .1))
+
+  -- A delivery in the journal.
+  pub record Delivering (p i : ℕ) (m : Message) : Type 0 where
+    pub it : Delivery
+    pub among : Among it (deliveriesIn rows (stamps rows))
+    pub place : it .place ≡ p
+    pub server : it .server ≡ i
+    pub before : it .before ≡ placeAt n q l i p
+    pub ord : it .ord ≡ ordIn w (entry-at p)
+    pub message : it .sending .message ≡ m
+    pub sending : (y : Entry) → at l (m .sending) ≡ some y → it .sending ≡ sendingAt m y
+    pub earlier : (x : Message) → any (sameMessage x) (it .earlier) ≡ true → (v : ℕ) × Delivers n q l (sourceIn w) (nameIn w) v i x × (v < p)
+
+  pub delivering : (p i : ℕ) (m : Message) → Delivers n q l (sourceIn w) (nameIn w) p i m → Delivering p i m
+  unfolding deliveriesIn deliveryBy deliveryOf rowAt rowOf serverOf ordIn
+  delivering p i m d =
+      let y : Entry = event i (d .comes .bytes) (d .comes .sent) in
+      let r : Row = rowAt n q l w p y in
+      let role : r .role ≡ delivers = role-of n q l w p i (d .what) (d .comes) ∙ message-role (d .what) (d .message) in
+      record {
+        it = deliveryOf rows (stamps rows) r;
+        among = among-gather (λ x. deliveryBy (x .role) rows (stamps rows) x) (row-among n q l w p y (d .comes .here)) (ap (λ o. deliveryBy o rows (stamps rows) r) role);
+        place = refl;
+        server = refl;
+        before = refl;
+        ord = refl;
+        message = sending-message (stamps rows) (sourceIn w p) (at rows (sourceIn w p .sending)) ∙ d .which;
+        sending = λ z e.
+            ap (λ x. sendingIn (stamps rows) x (at rows (x .sending))) (d .which)
+            ∙ ap (sendingIn (stamps rows) m) (table-holds n q l w (m .sending) z e)
+            ∙ sending-is m z e;
+        earlier = λ x h.
+            let f = any-among (sameMessage x) _ h in
+            let same : f .0 ≡ x = sym (messages-decided .says x (f .0) (f .2)) in
+            earlier-is p i (d .comes .sent) (d .comes .bytes) x (subst (λ z. Among z (earlierIn rows r)) same (f .1));
+      }
+
+  pub delivered : (d : Delivery) → Among d (deliveriesIn rows (stamps rows)) → Delivers n q l (sourceIn w) (nameIn w) (d .place) (d .server) (d .sending .message)
+  unfolding deliveriesIn deliveryOf
+  delivered d a =
+      let f = gather-among (λ r. deliveryBy (r .role) rows (stamps rows) r) rows a in
+      let v : ℕ = f .1 .place in
+      let t = table-is n q l w v (f .0) (f .1 .there) in
+      let y : Entry = t .0 in
+      let r : Row = rowAt n q l w v y in
+      let by = delivery-by (r .role) rows (stamps rows) r d (subst (λ x. deliveryBy (x .role) rows (stamps rows) x ≡ some d) (t .2) (f .2)) in
+      let which : sourceIn w v ≡ deliveryOf rows (stamps rows) r .sending .message =
+          sym (sending-message (stamps rows) (r .source) (at rows (r .source .sending)) ∙ row-source v y) in
+      subst (λ x. Delivers n q l (sourceIn w) (nameIn w) (x .place) (x .server) (x .sending .message)) (by .1)
+      (subst₃ (λ a b c. Delivers n q l (sourceIn w) (nameIn w) a b c) (sym (row-place n q l w v y)) (sym (row-server n q l w v y)) which
+      (row-delivers v y (t .1) (by .0)))
