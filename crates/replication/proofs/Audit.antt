@@ -1,3 +1,4 @@
 pub mod Sameness
 pub mod Rows
 pub mod Entries
+pub mod Later

@@ -95,15 +95,27 @@ module _ (n q : ℕ) (l : Run) (w : Witness) where
       let y : Entry = event i (t .bytes) (t .sent) in
       among-gather (λ r. transitionBy (r .role) r) (row-among n q l w p y (t .here)) (ap (λ o. transitionBy o (rowAt n q l w p y)) (role-of n q l w p i _ t))
 
+  -- The row of a change of configuration.
+  pub record ChangeRow (p i : ℕ) (c : Configured) : Type 0 where
+    pub entry : Entry
+    pub here : at l p ≡ some entry
+    pub its : serverOf entry ≡ i
+    pub change : changeBy (rowAt n q l w p entry .role) (rowAt n q l w p entry) ≡ some (record { place = p; server = i; ord = entryOrd w p; to = c })
+
+  pub change-row : (p i : ℕ) (c : Configured) → Configures n q l (sourceIn w) (nameIn w) p i c → ChangeRow p i c
+  unfolding changeBy rowAt rowOf serverOf roleIn
+  change-row p i d (to-regular c t) =
+      let y : Entry = event i (t .bytes) (t .sent) in
+      record { entry = y; here = t .here; its = refl; change = ap (λ o. changeBy o (rowAt n q l w p y)) (role-of n q l w p i _ t) }
+  change-row p i d (to-transitional s t) =
+      let y : Entry = event i (t .bytes) (t .sent) in
+      record { entry = y; here = t .here; its = refl; change = ap (λ o. changeBy o (rowAt n q l w p y)) (role-of n q l w p i _ t) }
+
   pub change-among : (p i : ℕ) (c : Configured) → Configures n q l (sourceIn w) (nameIn w) p i c
       → Among (record { place = p; server = i; ord = entryOrd w p; to = c }) (changesIn rows)
-  unfolding changesIn changeBy rowAt rowOf serverOf roleIn
-  change-among p i d (to-regular c t) =
-      let y : Entry = event i (t .bytes) (t .sent) in
-      among-gather (λ r. changeBy (r .role) r) (row-among n q l w p y (t .here)) (ap (λ o. changeBy o (rowAt n q l w p y)) (role-of n q l w p i _ t))
-  change-among p i d (to-transitional s t) =
-      let y : Entry = event i (t .bytes) (t .sent) in
-      among-gather (λ r. changeBy (r .role) r) (row-among n q l w p y (t .here)) (ap (λ o. changeBy o (rowAt n q l w p y)) (role-of n q l w p i _ t))
+  unfolding changesIn
+  change-among p i c t =
+      let r = change-row p i c t in among-gather (λ z. changeBy (z .role) z) (row-among n q l w p (r .entry) (r .here)) (r .change)
 
   -- ---- messages
 
