@@ -2,3 +2,4 @@ pub mod Sameness
 pub mod Rows
 pub mod Entries
 pub mod Later
+pub mod Stamps
