@@ -3,3 +3,4 @@ pub mod Rows
 pub mod Entries
 pub mod Later
 pub mod Stamps
+pub mod Causality

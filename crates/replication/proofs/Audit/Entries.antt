@@ -26,7 +26,7 @@ clash : {X : Type 0} {A : Type 0} {x : A} → _≡_ {A = Option A} none (some x)
 clash e = let z : _≡_ {A = ℕ} 0 1 = cc in absurd (omega arith)
 
 -- A message that comes is a delivery.
-message-role : (r : Record) → isMessage r ≡ true → roleIn (says r) ≡ delivers
+pub message-role : (r : Record) → isMessage r ≡ true → roleIn (says r) ≡ delivers
 unfolding isMessage roleIn
 message-role (action a) h = refl
 message-role (retransmission k p a) h = refl
@@ -74,7 +74,7 @@ module _ (n q : ℕ) (l : Run) (w : Witness) where
   row-ords p (event i e k) = refl
   row-ords p (crash i) = refl
 
-  row-source : (p : ℕ) (y : Entry) → rowAt n q l w p y .source ≡ sourceIn w p
+  pub row-source : (p : ℕ) (y : Entry) → rowAt n q l w p y .source ≡ sourceIn w p
   unfolding rowAt rowOf
   row-source p (event i e k) = refl
   row-source p (crash i) = refl
