@@ -4,3 +4,4 @@ pub mod Entries
 pub mod Later
 pub mod Stamps
 pub mod Causality
+pub mod Ords

@@ -69,7 +69,7 @@ module _ (n q : ℕ) (l : Run) (w : Witness) where
   abbrev rows : List Row
   rows = table n q l w
 
-  row-ords : (p : ℕ) (y : Entry) → rowAt n q l w p y .sendingOrds ≡ sendingOrdsAt w p
+  pub row-ords : (p : ℕ) (y : Entry) → rowAt n q l w p y .sendingOrds ≡ sendingOrdsAt w p
   unfolding rowAt rowOf
   row-ords p (event i e k) = refl
   row-ords p (crash i) = refl
