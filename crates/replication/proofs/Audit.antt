@@ -5,3 +5,4 @@ pub mod Later
 pub mod Stamps
 pub mod Causality
 pub mod Ords
+pub mod RuleFields

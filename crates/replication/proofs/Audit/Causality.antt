@@ -136,6 +136,9 @@ module _ (n q : ℕ) (l : Run) (w : Witness) (sent-before : (p i : ℕ) (m : Mes
   learns a c (through {b = b} f g) real = learns-through a b c (learns a b f real) (learns b c g (reached a b f))
 
   -- A message whose sending causes the sending of m′ is known there.
-  pub cause-known : (m m′ : Message) → Causes n q l (sourceIn w) (nameIn w) (sending-of m) (sending-of m′) → m .number < length (sentAt n q l (m .sending))
-      → numberOf S m < getD (clockAt S m′) (S .stamp (m .sending) .server) 0
-  cause-known m m′ c real = learns (sending-of m) (sending-of m′) c real .itself
+  pub cause-known : (m m′ : Message) (y : Entry) → at l (m .sending) ≡ some y → Causes n q l (sourceIn w) (nameIn w) (sending-of m) (sending-of m′)
+      → m .number < length (sentAt n q l (m .sending)) → numberOf S m < getD (clockAt S m′) (serverOf y) 0
+  cause-known m m′ y e c real =
+      let server : S .stamp (m .sending) .server ≡ serverOf y =
+          stamp-server rows ordered (m .sending) (rowAt n q l w (m .sending) y) (table-holds n q l w (m .sending) y e) ∙ row-server n q l w (m .sending) y in
+      subst (λ i. numberOf S m < getD (clockAt S m′) i 0) server (learns (sending-of m) (sending-of m′) c real .itself)

@@ -199,8 +199,8 @@ module _ (n q : ℕ) (l : Run) (w : Witness) where
     pub server : it .server ≡ i
     pub before : it .before ≡ placeAt n q l i p
     pub ord : it .ord ≡ ordIn w (entry-at p)
-    pub message : it .sending .message ≡ m
-    pub sending : (y : Entry) → at l (m .sending) ≡ some y → it .sending ≡ sendingAt m y
+    pub bytes : (k : ℕ) (e : List ℕ) → at l p ≡ some (event i e k) → it .bytes ≡ e
+    pub sending : it .sending ≡ sendingIn (stamps rows) m (at rows (m .sending))
     pub earlier : (x : Message) → any (sameMessage x) (it .earlier) ≡ true → (v : ℕ) × Delivers n q l (sourceIn w) (nameIn w) v i x × (v < p)
 
   pub delivering : (p i : ℕ) (m : Message) → Delivers n q l (sourceIn w) (nameIn w) p i m → Delivering p i m
@@ -216,16 +216,19 @@ module _ (n q : ℕ) (l : Run) (w : Witness) where
         server = refl;
         before = refl;
         ord = refl;
-        message = sending-message (stamps rows) (sourceIn w p) (at rows (sourceIn w p .sending)) ∙ d .which;
-        sending = λ z e.
-            ap (λ x. sendingIn (stamps rows) x (at rows (x .sending))) (d .which)
-            ∙ ap (sendingIn (stamps rows) m) (table-holds n q l w (m .sending) z e)
-            ∙ sending-is m z e;
+        bytes = λ k e h. let same : _≡_ {A = Option Entry} (some y) (some (event i e k)) = sym (d .comes .here) ∙ h in cc;
+        sending = ap (λ x. sendingIn (stamps rows) x (at rows (x .sending))) (d .which);
         earlier = λ x h.
             let f = any-among (sameMessage x) _ h in
             let same : f .0 ≡ x = sym (messages-decided .says x (f .0) (f .2)) in
             earlier-is p i (d .comes .sent) (d .comes .bytes) x (subst (λ z. Among z (earlierIn rows r)) same (f .1));
       }
+
+  pub delivered-message : (p i : ℕ) (m : Message) (d : Delivering p i m) → d .it .sending .message ≡ m
+  delivered-message p i m d = ap (λ z. z .message) (d .sending) ∙ sending-message (stamps rows) m (at rows (m .sending))
+
+  pub delivered-sending : (p i : ℕ) (m : Message) (d : Delivering p i m) (y : Entry) → at l (m .sending) ≡ some y → d .it .sending ≡ sendingAt m y
+  delivered-sending p i m d y e = d .sending ∙ ap (sendingIn (stamps rows) m) (table-holds n q l w (m .sending) y e) ∙ sending-is m y e
 
   pub delivered : (d : Delivery) → Among d (deliveriesIn rows (stamps rows)) → Delivers n q l (sourceIn w) (nameIn w) (d .place) (d .server) (d .sending .message)
   unfolding deliveriesIn deliveryOf

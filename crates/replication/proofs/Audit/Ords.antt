@@ -20,7 +20,7 @@ use Rattle.replication.specs.Audit.Clocks.{stamps}
 use Rattle.replication.specs.Audit.Journal.{Delivery, Journal, deliveriesIn}
 use Rattle.replication.specs.Audit.Specifications.{isRising, lastOf, ownSendings, inTurn}
 use Rattle.replication.proofs.Audit.Rows.{rowAt, table-holds, row-server, row-sent}
-use Rattle.replication.proofs.Audit.Entries.{row-ords, Delivering, delivering, sendingAt}
+use Rattle.replication.proofs.Audit.Entries.{row-ords, Delivering, delivering, delivered-sending, sendingAt}
 
 -- ---- rising numbers
 
@@ -110,7 +110,7 @@ module _ (n q : ℕ) (l : Run) (w : Witness) where
         let y = sent-entry (m .sending) (m .number) (real p i m d) in
         let it = delivering n q l w p i m d in
         let low : it .it .sending .ord < it .it .ord = lt-holds (it .it .sending .ord) (it .it .ord) (all-among (λ z. z .sending .ord <? z .ord) (it .among) ends) in
-        subst₂ (λ a b. a < b) (ap (λ z. z .ord) (it .sending (y .0) (y .1))) (it .ord) low
+        subst₂ (λ a b. a < b) (ap (λ z. z .ord) (delivered-sending n q l w p i m it (y .0) (y .1))) (it .ord) low
 
     pub causes-rise : (a b : Happening) → Causes n q l (sourceIn w) (nameIn w) a b → ordIn w a < ordIn w b
     unfolding ordIn
