@@ -6,3 +6,4 @@ pub mod Stamps
 pub mod Causality
 pub mod Ords
 pub mod RuleFields
+pub mod SpecificationFields

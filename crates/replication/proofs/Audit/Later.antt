@@ -176,22 +176,19 @@ module _ (n q : ℕ) (l : Run) (w : Witness) where
   leaving-among i c f =
       among-filter (hasLeft rows) (taking-among n q l w (f .p) i c (f .took)) (settled i (f .p) (f .r) (f .next) (f .order) (f .took-next) (f .steady))
 
+  abbrev pub change : (p i : ℕ) → Configured → Change
+  change p i c = record { place = p; server = i; ord = entryOrd w p; to = c }
+
   -- A passage is among the passages.
   pub passage-among : (i : ℕ) (c d : Configured) (p r : ℕ) → Passes n q l (sourceIn w) (nameIn w) i c d p r
-      → Among
-      (record {
-        from = record { place = p; server = i; ord = entryOrd w p; to = c };
-        to = record { place = r; server = i; ord = entryOrd w r; to = d };
-      }) (gather (passageFrom rows) (changesIn rows))
+      → Among (record { from = change p i c; to = change r i d }) (gather (passageFrom rows) (changesIn rows))
   unfolding passageFrom passageTo
   passage-among i c d p r f =
-      let a : Change = record { place = p; server = i; ord = entryOrd w p; to = c } in
-      let b : Change = record { place = r; server = i; ord = entryOrd w r; to = d } in
       let row = change-row n q l w r i d (f .to) in
       let y : Entry = row .entry in
       among-gather (passageFrom rows) (change-among n q l w p i c (f .from))
-      (ap (passageTo a)
-      (next-yes i (drop (suc p) rows) (r - suc p) (rowAt n q l w r y) b (later-row p r y (f .order) (row .here)) (row-server n q l w r y ∙ row .its) (row .change)
+      (ap (passageTo (change p i c))
+      (next-yes i (drop (suc p) rows) (r - suc p) (rowAt n q l w r y) (change r i d) (later-row p r y (f .order) (row .here)) (row-server n q l w r y ∙ row .its) (row .change)
       (until-next Quiet i p r (λ x z u v e s.
         quiet-role x i (rowAt n q l w x z .role) (subst (λ j. Meaning n q l w x j (rowAt n q l w x z .role)) s (meaning n q l w x z e)) (f .steady x u v)
         (λ k. f .direct x k u v)))))
