@@ -7,3 +7,5 @@ pub mod Causality
 pub mod Ords
 pub mod RuleFields
 pub mod SpecificationFields
+pub mod OrderFields
+pub mod Sound

@@ -140,5 +140,5 @@ module _ (n q : ℕ) (l : Run) (w : Witness) (sent-before : (p i : ℕ) (m : Mes
       → m .number < length (sentAt n q l (m .sending)) → numberOf S m < getD (clockAt S m′) (serverOf y) 0
   cause-known m m′ y e c real =
       let server : S .stamp (m .sending) .server ≡ serverOf y =
-          stamp-server rows ordered (m .sending) (rowAt n q l w (m .sending) y) (table-holds n q l w (m .sending) y e) ∙ row-server n q l w (m .sending) y in
+      stamp-server rows ordered (m .sending) (rowAt n q l w (m .sending) y) (table-holds n q l w (m .sending) y e) ∙ row-server n q l w (m .sending) y in
       subst (λ i. numberOf S m < getD (clockAt S m′) i 0) server (learns (sending-of m) (sending-of m′) c real .itself)

@@ -154,7 +154,7 @@ module _ (n q : ℕ) (l : Run) (w : Witness) where
       let out : m .number < length (r .sent) = subst (λ (z : List (List ℕ)). m .number < length z) (sym (row-sent n q l w (m .sending) y here)) (s .out) in
       let made : ℕ → Sending = λ k. sendingIn (stamps rows) (record { sending = r .place; number = k }) (some r) in
       let which : made (m .number) ≡ sendingAt m y =
-          ap (λ p. sendingIn (stamps rows) (record { sending = p; number = m .number }) (some r)) place ∙ sending-is m y here in
+      ap (λ p. sendingIn (stamps rows) (record { sending = p; number = m .number }) (some r)) place ∙ sending-is m y here in
       among-gather-all (sendingsOf (stamps rows)) (row-among n q l w (m .sending) y here)
       (subst (λ z. Among z (map made (below (length (r .sent))))) which (among-map made (among-below (length (r .sent)) (m .number) out)))
 
@@ -240,7 +240,7 @@ module _ (n q : ℕ) (l : Run) (w : Witness) where
       let r : Row = rowAt n q l w v y in
       let by = delivery-by (r .role) rows (stamps rows) r d (subst (λ x. deliveryBy (x .role) rows (stamps rows) x ≡ some d) (t .2) (f .2)) in
       let which : sourceIn w v ≡ deliveryOf rows (stamps rows) r .sending .message =
-          sym (sending-message (stamps rows) (r .source) (at rows (r .source .sending)) ∙ row-source v y) in
+      sym (sending-message (stamps rows) (r .source) (at rows (r .source .sending)) ∙ row-source v y) in
       subst (λ x. Delivers n q l (sourceIn w) (nameIn w) (x .place) (x .server) (x .sending .message)) (by .1)
       (subst₃ (λ a b c. Delivers n q l (sourceIn w) (nameIn w) a b c) (sym (row-place n q l w v y)) (sym (row-server n q l w v y)) which
       (row-delivers v y (t .1) (by .0)))

@@ -167,7 +167,7 @@ module _ (n q : ℕ) (l : Run) (w : Witness) where
       settles-yes i (drop (suc p) rows) (r - suc p) (rowAt n q l w r (event i (t .bytes) (t .sent))) c
       (later-row p r (event i (t .bytes) (t .sent)) less (t .here)) refl (role-of n q l w r i _ t)
       (until-next Steady i p r (λ x y a b e s.
-        steady-role x i (rowAt n q l w x y .role) (subst (λ j. Meaning n q l w x j (rowAt n q l w x y .role)) s (meaning n q l w x y e)) (steady x a b)))
+      steady-role x i (rowAt n q l w x y .role) (subst (λ j. Meaning n q l w x j (rowAt n q l w x y .role)) s (meaning n q l w x y e)) (steady x a b)))
 
   -- A configuration that was left is among the leavings.
   pub leaving-among : (i : ℕ) (c : Configuration) (f : Left n q l i c)
@@ -190,15 +190,15 @@ module _ (n q : ℕ) (l : Run) (w : Witness) where
       (ap (passageTo (change p i c))
       (next-yes i (drop (suc p) rows) (r - suc p) (rowAt n q l w r y) (change r i d) (later-row p r y (f .order) (row .here)) (row-server n q l w r y ∙ row .its) (row .change)
       (until-next Quiet i p r (λ x z u v e s.
-        quiet-role x i (rowAt n q l w x z .role) (subst (λ j. Meaning n q l w x j (rowAt n q l w x z .role)) s (meaning n q l w x z e)) (f .steady x u v)
-        (λ k. f .direct x k u v)))))
+      quiet-role x i (rowAt n q l w x z .role) (subst (λ j. Meaning n q l w x j (rowAt n q l w x z .role)) s (meaning n q l w x z e)) (f .steady x u v)
+      (λ k. f .direct x k u v)))))
 
   -- The next entry of a server whose last event was cut is a crash.
   pub crash-next : (i p r : ℕ) → p < r → Of l r i → ((x : ℕ) → p < x → x < r → Of l x i → ⊥) → crashesNext i (drop (suc p) rows) ≡ true → Crashes l r i
   crash-next i p r less o none-between h =
       let y : Entry = o .entry in
       let role : rowAt n q l w r y .role ≡ goes-down =
-          is-crash (rowAt n q l w r y .role)
-          (crash-says i (drop (suc p) rows) (r - suc p) (rowAt n q l w r y) (later-row p r y less (o .here)) (row-server n q l w r y ∙ o .its)
-          (until-next Never i p r (λ x z a b e s. none-between x a b (record { entry = z; here = e; its = s }))) h) in
+      is-crash (rowAt n q l w r y .role)
+      (crash-says i (drop (suc p) rows) (r - suc p) (rowAt n q l w r y) (later-row p r y less (o .here)) (row-server n q l w r y ∙ o .its)
+      (until-next Never i p r (λ x z a b e s. none-between x a b (record { entry = z; here = e; its = s }))) h) in
       subst (λ j. Crashes l r j) (o .its) (subst (Meaning n q l w r (serverOf y)) role (meaning n q l w r y (o .here)))

@@ -68,17 +68,17 @@ module _ (n q : ℕ) (l : Run) (w : Witness) where
   row-ord p (crash i) = refl
 
   module _ (real : (p i : ℕ) (m : Message) → Delivers n q l (sourceIn w) (nameIn w) p i m → m .number < length (sentAt n q l (m .sending)))
-    (own : all ownSendings rows ≡ true) (turns : pairs inTurn rows ≡ true) (ends : all (λ d. d .sending .ord <? d .ord) (deliveriesIn rows (stamps rows)) ≡ true) where
-
+      (own : all ownSendings rows ≡ true) (turns : pairs inTurn rows ≡ true) (ends : all (λ d. d .sending .ord <? d .ord) (deliveriesIn rows (stamps rows)) ≡ true) where
     own-at : (p : ℕ) (y : Entry) → at l p ≡ some y
         → (length (sendingOrdsAt w p) ≡ length (sentAt n q l p)) × (isRising (entryOrd w p) (sendingOrdsAt w p) ≡ true)
     unfolding ownSendings
     own-at p y e =
         let r : Row = rowAt n q l w p y in
         let both = and-holds (length (r .sendingOrds) =? length (r .sent)) (isRising (r .ord) (r .sendingOrds)) (all-at ownSendings rows own p r (table-holds n q l w p y e)) in
-        let same = eq-holds (length (r .sendingOrds)) (length (r .sent)) (both .0) in
-        (subst₂ (λ (a : List ℕ) (b : List (List ℕ)). length a ≡ length b) (row-ords n q l w p y) (row-sent n q l w p y e) same,
-        subst₂ (λ a b. isRising a b ≡ true) (row-ord p y) (row-ords n q l w p y) (both .1))
+        let same = eq-holds (length (r .sendingOrds)) (length (r .sent)) (both .0) in (
+          subst₂ (λ (a : List ℕ) (b : List (List ℕ)). length a ≡ length b) (row-ords n q l w p y) (row-sent n q l w p y e) same,
+          subst₂ (λ a b. isRising a b ≡ true) (row-ord p y) (row-ords n q l w p y) (both .1),
+        )
 
     turn-at : (p r i : ℕ) → Of l p i → Of l r i → p < r → lastOf (entryOrd w p) (sendingOrdsAt w p) < entryOrd w r
     unfolding inTurn
@@ -88,8 +88,8 @@ module _ (n q : ℕ) (l : Run) (w : Witness) where
         let same : z .server ≡ x .server = row-server n q l w r (u .entry) ∙ u .its ∙ sym (row-server n q l w p (o .entry) ∙ o .its) in
         let test = pairs-at inTurn rows turns p r x z less (table-holds n q l w p (o .entry) (o .here)) (table-holds n q l w r (u .entry) (u .here)) in
         let higher : lastOf (x .ord) (x .sendingOrds) < z .ord =
-            lt-holds (lastOf (x .ord) (x .sendingOrds)) (z .ord)
-            (implied (z .server =? x .server) (lastOf (x .ord) (x .sendingOrds) <? z .ord) test (eq-yes (z .server) (x .server) same)) in
+        lt-holds (lastOf (x .ord) (x .sendingOrds)) (z .ord)
+        (implied (z .server =? x .server) (lastOf (x .ord) (x .sendingOrds) <? z .ord) test (eq-yes (z .server) (x .server) same)) in
         subst₃ (λ a b c. lastOf a b < c) (row-ord p (o .entry)) (row-ords n q l w p (o .entry)) (row-ord r (u .entry)) higher
 
     sends-rise : (m : Message) → m .number < length (sentAt n q l (m .sending)) → entryOrd w (m .sending) < getD (sendingOrdsAt w (m .sending)) (m .number) 0

@@ -46,7 +46,7 @@ module _ (n q : ℕ) (l : Run) (w : Witness) where
   Del p i m = Delivers n q l (sourceIn w) (nameIn w) p i m
 
   -- What the test finds is a delivery.
-  found-delivered : (i : ℕ) (m : Message) → isDelivered (J .deliveries) i m ≡ true → Delivered n q l (sourceIn w) (nameIn w) i m
+  pub found-delivered : (i : ℕ) (m : Message) → isDelivered (J .deliveries) i m ≡ true → Delivered n q l (sourceIn w) (nameIn w) i m
   unfolding isDelivered journalOf sorted
   found-delivered i m h =
       let f = any-among _ _ h in
@@ -69,15 +69,18 @@ module _ (n q : ℕ) (l : Run) (w : Witness) where
       let c = there (it .it .before .regular) (both .0) in
       let here : it .it .before .regular ≡ placeAt n q l i p .regular = ap (λ (z : Place). z .regular) (it .before) in
       let under : placeAt n q l (serverOf (gen .entry)) (suc (m .sending)) .regular ≡ some (c .0) =
-          sym (ap (λ z. z .regular) (delivered-sending n q l w p i m it (gen .entry) (gen .here)))
-          ∙ regulars-decided .says (it .it .sending .regular) (it .it .before .regular) (both .1)
-          ∙ c .1 in
-      (serverOf (gen .entry), c .0,
-      record {
-        mine = record { entry = gen .entry; here = gen .here; its = refl };
-        out = at-below (sentAt n q l (m .sending)) (m .number) _ (gen .sent);
-        under = under;
-      }, sym here ∙ c .1)
+      sym (ap (λ z. z .regular) (delivered-sending n q l w p i m it (gen .entry) (gen .here)))
+      ∙ regulars-decided .says (it .it .sending .regular) (it .it .before .regular) (both .1)
+      ∙ c .1 in (
+        serverOf (gen .entry),
+        c .0,
+        record {
+          mine = record { entry = gen .entry; here = gen .here; its = refl };
+          out = at-below (sentAt n q l (m .sending)) (m .number) _ (gen .sent);
+          under = under;
+        },
+        sym here ∙ c .1,
+      )
 
   pub one-delivery-holds : one-delivery J ≡ true → (p r i : ℕ) (m : Message) → Del p i m → Del r i m → placeAt n q l i p ≡ placeAt n q l i r
   unfolding one-delivery journalOf sorted
@@ -85,10 +88,10 @@ module _ (n q : ℕ) (l : Run) (w : Witness) where
       let a = delivering n q l w p i m d in
       let b = delivering n q l w r i m e in
       let same : a .it .before ≡ b .it .before =
-          each-two _ (λ (x y : Delivery). x .server ≡ y .server → x .sending .message ≡ y .sending .message → x .before ≡ y .before)
-          (λ x s t. refl) (λ x y f s t. sym (f (sym s) (sym t)))
-          (λ x y f s t. places-decided .says (x .before) (y .before) (implied _ _ f (both-yes _ _ (eq-yes (x .server) (y .server) s) (decided messages-decided t))))
-          h (a .among) (b .among) (a .server ∙ sym (b .server)) (delivered-message n q l w p i m a ∙ sym (delivered-message n q l w r i m b)) in
+      each-two _ (λ (x y : Delivery). x .server ≡ y .server → x .sending .message ≡ y .sending .message → x .before ≡ y .before)
+      (λ x s t. refl) (λ x y f s t. sym (f (sym s) (sym t)))
+      (λ x y f s t. places-decided .says (x .before) (y .before) (implied _ _ f (both-yes _ _ (eq-yes (x .server) (y .server) s) (decided messages-decided t))))
+      h (a .among) (b .among) (a .server ∙ sym (b .server)) (delivered-message n q l w p i m a ∙ sym (delivered-message n q l w r i m b)) in
       sym (a .before) ∙ same ∙ b .before
 
   -- ---- 2
@@ -100,8 +103,8 @@ module _ (n q : ℕ) (l : Run) (w : Witness) where
       each-two _ (λ (x y : Transition). x .name ≡ y .name → (x .before .regular ≡ y .before .regular) × (x .set ≡ y .set))
       (λ x e. (refl, refl)) (λ x y f e. let g = f (sym e) in (sym (g .0), sym (g .1)))
       (λ x y f e.
-        let both = and-holds _ _ (implied _ _ f (eq-yes (x .name) (y .name) e)) in
-        (regulars-decided .says (x .before .regular) (y .before .regular) (both .0), eq-holds (x .set) (y .set) (both .1)))
+      let both = and-holds _ _ (implied _ _ f (eq-yes (x .name) (y .name) e)) in
+      (regulars-decided .says (x .before .regular) (y .before .regular) (both .0), eq-holds (x .set) (y .set) (both .1)))
       h (transition-among n q l w p i s u) (transition-among n q l w r j t v)
 
   -- ---- 3
@@ -115,8 +118,8 @@ module _ (n q : ℕ) (l : Run) (w : Witness) where
       let test = all-among (λ (z : Sending). leftBy (J .leavings) z implies isDelivered (J .deliveries) (z .server) (z .message)) (sending-among n q l w i m c s) h in
       let under : some c ≡ a .regular = sym (ap (λ k. placeAt n q l k (suc (m .sending)) .regular) (s .mine .its) ∙ s .under) in
       let left : leftBy (J .leavings) a ≡ true =
-          among-any (λ (t : Taking). t .server =? a .server and sameRegular (some (t .configuration)) (a .regular)) (leaving-among n q l w i c f)
-          (both-yes _ _ (eq-yes i (a .server) (sym (s .mine .its))) (decided regulars-decided under)) in
+      among-any (λ (t : Taking). t .server =? a .server and sameRegular (some (t .configuration)) (a .regular)) (leaving-among n q l w i c f)
+      (both-yes _ _ (eq-yes i (a .server) (sym (s .mine .its))) (decided regulars-decided under)) in
       subst (λ k. Delivered n q l (sourceIn w) (nameIn w) k m) (s .mine .its) (found-delivered (serverOf y) m (implied _ _ test left))
 
   -- ---- 4
@@ -155,9 +158,12 @@ module _ (n q : ℕ) (l : Run) (w : Witness) where
       let f = filter-among _ _ h in
       let first = and-holds (d .server =? a .from .server) _ (f .1) in
       let second = and-holds (a .from .place <? d .place) (d .place <? a .to .place) (first .1) in
-      let its : d .server ≡ j = eq-holds (d .server) (a .from .server) (first .0) ∙ server in
-      (d .place, subst₂ (λ k x. Del (d .place) k x) its message (delivered n q l w d (f .0)), lt-holds (a .from .place) (d .place) (second .0),
-      lt-holds (d .place) (a .to .place) (second .1))
+      let its : d .server ≡ j = eq-holds (d .server) (a .from .server) (first .0) ∙ server in (
+        d .place,
+        subst₂ (λ k x. Del (d .place) k x) its message (delivered n q l w d (f .0)),
+        lt-holds (a .from .place) (d .place) (second .0),
+        lt-holds (d .place) (a .to .place) (second .1),
+      )
 
   pub atomic-holds : atomic J ≡ true → (i j p r x y z v : ℕ) (m : Message) (c d : Configured) (f : Configuration)
       → Passes n q l (sourceIn w) (nameIn w) i c d p r → Passes n q l (sourceIn w) (nameIn w) j c d x y → p < z → z < r → Del z i m
@@ -170,6 +176,6 @@ module _ (n q : ℕ) (l : Run) (w : Witness) where
       let B : Passage = record { from = change n q l w x j c; to = change n q l w y j d } in
       let test = all-among _ (passage-among n q l w j c d x y b) (all-among _ (passage-among n q l w i c d p r a) h) in
       let way = both-yes _ _ (both-yes _ _ (configured-decided .itself c) (configured-decided .itself d))
-          (over j y v d f (b .to) late t (λ u less. steady u (omega (arith, b .order)))) in
+      (over j y v d f (b .to) late t (λ u less. steady u (omega (arith, b .order)))) in
       let found = any-among _ _ (all-among _ (during-has A z i m it refl low high) (implied _ _ test way)) in
       during-is B (found .0) j m (found .1) refl (messages-decided .says (found .0 .sending .message) (it .it .sending .message) (found .2) ∙ delivered-message n q l w z i m it)

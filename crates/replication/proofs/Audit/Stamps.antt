@@ -200,8 +200,8 @@ module _ (rs : List Row) (ordered : (p : ℕ) (r : Row) → at rs p ≡ some r �
   knows-delivered p r e h less =
       let s : ℕ = r .source .sending in
       let told : learnt (until p) (r .role) (r .source) ≡ clockWith (stamps rs) (r .source) =
-          ap (λ o. learnt (until p) o (r .source)) h
-          ∙ ap (λ (z : Stamp). raise (z .server) (suc (z .first + r .source .number)) (z .clock)) (sym (stamp-lasts s p less)) in
+      ap (λ o. learnt (until p) o (r .source)) h
+      ∙ ap (λ (z : Stamp). raise (z .server) (suc (z .first + r .source .number)) (z .clock)) (sym (stamp-lasts s p less)) in
       subst (λ (z : Stamp). Below (clockWith (stamps rs) (r .source)) (z .clock)) (sym (stamp-is p r e))
       (subst (λ z. Below z (stampFor (until p) r .clock)) told (join-right (until p .latest (r .server)) (learnt (until p) (r .role) (r .source))))
 
