@@ -9,3 +9,4 @@ pub mod RuleFields
 pub mod SpecificationFields
 pub mod OrderFields
 pub mod Sound
+pub mod Runs

@@ -1,0 +1,69 @@
+-- What a run shows: the state of each entry's server after it, the primary components installed, and how marks are judged.
+-- Assumes nothing.
+use Prim.Native.Nat.{ℕ}
+use mathlib.Core.Bool.{Bool, true, false}
+use mathlib.Core.List.{List, [], _∷_}
+use mathlib.Core.Option.{Option, none, some}
+use lib.ListN.{length, getD}
+use Rattle.base.specs.Tests.{pick}
+use Rattle.base.specs.Lists.{atFront}
+use Rattle.format.specs.Types.{Primary, Mark, State}
+use Rattle.replication.specs.Machine.Types.{Mode, Server, Outcome, taken, refused}
+use Rattle.replication.specs.Machine.Exchange.{takenPrimary, isMarked, ruleA, ruleB, ruleC, ownMark}
+use Rattle.replication.specs.Machine.Step.{collected, installsBy, installsOn, installs}
+use Rattle.replication.specs.Images.{arrive, sourceOf}
+use Rattle.replication.specs.Runs.Run.{Entry, event, crash, Run, serverOf, World, beginning, worldAfter}
+use Rattle.replication.specs.Audit.Opened.{opened as opened-audit}
+
+-- An entry's server, and after it that server's state, green length and last primary's index.
+pub record Shown : Type 0 where
+  pub server : ℕ
+  pub mode : Mode
+  pub green : ℕ
+  pub primary : ℕ
+
+abbrev pub shows : (server : ℕ) → Mode → (green primary : ℕ) → Shown
+shows i m g p = record { server = i; mode = m; green = g; primary = p }
+
+unfoldable pub shownBy : ℕ → Server → Shown
+shownBy i s = shows i (s .membership .mode) (length (s .log .green)) (s .votes .last .index)
+
+unfoldable pub shownFrom : World → Run → List Shown
+shownFrom w [] = []
+shownFrom w (x ∷ l) = shownBy (serverOf x) (worldAfter w x .images (serverOf x) .memory) ∷ shownFrom (worldAfter w x) l
+
+-- By place.
+unfoldable pub shown : (n q : ℕ) → Run → List Shown
+shown n q l = shownFrom (beginning n q) l
+
+-- "each Install's (index, attempt, set)", in the order of the run
+unfoldable pub lastOfOutcome : Outcome (List ℕ) → Option Primary
+lastOfOutcome (refused k) = none
+lastOfOutcome (taken t r b g) = some (t .votes .last)
+
+unfoldable pub installedBy : World → Entry → Option Primary
+installedBy w (event i e k) = pick (installs (sourceOf (w .images i) e) e) (lastOfOutcome (arrive (w .images i) e)) none
+installedBy w (crash i) = none
+
+unfoldable pub installedFrom : World → Run → List Primary
+installedFrom w [] = []
+installedFrom w (x ∷ l) = atFront (installedBy w x) (installedFrom (worldAfter w x) l)
+
+unfoldable pub installed : (n q : ℕ) → Run → List Primary
+installed n q l = installedFrom (beginning n q) l
+
+-- Of the State that a server has collected of itself: marked; to be cleared by (a), by (b), by (c).
+unfoldable pub rulesOn : List State → Option State → List Bool
+rulesOn xs none = []
+rulesOn xs (some v) = isMarked v ∷ ruleA (takenPrimary xs) v ∷ ruleB xs v ∷ ruleC xs v ∷ []
+
+unfoldable pub ownRules : Server → List Bool
+ownRules s = rulesOn (collected s) (getD (s .membership .states) (s .me) none)
+
+-- The own mark as judged.
+unfoldable pub judged : Server → Mark
+judged s = ownMark (s .me) (collected s) (collected s)
+
+unfoldable pub opened : ℕ
+unfolding opened-audit shownBy shownFrom shown lastOfOutcome installedBy installedFrom installed rulesOn ownRules judged installsBy installsOn installs
+opened = 0
