@@ -1,6 +1,8 @@
 -- What a run shows: the state of each entry's server after it, the primary components installed, and how marks are judged.
 -- Assumes nothing.
 use Prim.Native.Nat.{ℕ}
+use Prim.Native.String.{String}
+use mathlib.Core.Path.{_≡_}
 use mathlib.Core.Bool.{Bool, true, false}
 use mathlib.Core.List.{List, [], _∷_}
 use mathlib.Core.Option.{Option, none, some}
@@ -13,6 +15,8 @@ use Rattle.replication.specs.Machine.Exchange.{takenPrimary, isMarked, r
 use Rattle.replication.specs.Machine.Step.{collected, installsBy, installsOn, installs}
 use Rattle.replication.specs.Images.{arrive, sourceOf}
 use Rattle.replication.specs.Runs.Run.{Entry, event, crash, Run, serverOf, World, beginning, worldAfter}
+use Rattle.replication.specs.Audit.Witness.{Witness}
+use Rattle.replication.specs.Audit.Verdict.{audit, report}
 use Rattle.replication.specs.Audit.Opened.{opened as opened-audit}
 
 -- An entry's server, and after it that server's state, green length and last primary's index.
@@ -63,6 +67,10 @@ ownRules s = rulesOn (collected s) (getD (s .membership .states) (s .me) none)
 -- The own mark as judged.
 unfoldable pub judged : Server → Mark
 judged s = ownMark (s .me) (collected s) (collected s)
+
+-- The audit refuses the run, and these tests fail.
+abbrev pub Refused : (n q : ℕ) → Run → Witness → List String → Type 0
+Refused n q l w names = (audit n q l w ≡ false) × (report n q l w ≡ names)
 
 unfoldable pub opened : ℕ
 unfolding opened-audit shownBy shownFrom shown lastOfOutcome installedBy installedFrom installed rulesOn ownRules judged installsBy installsOn installs

@@ -1,0 +1,79 @@
+-- A run that Specifications 2.3 and 2.4 forbid, and in which one index is installed twice. Server 1 takes configuration 1, sends its State and goes down;
+-- back, it attempts a primary component with 2 in configuration 2, and installs it. Server 2 goes down with its mark, and then takes configuration 1,
+-- which came to 1 before configuration 2: the State that 1 sent there has no mark, so by rule (b) the mark is cleared, and 2 makes another with 0.
+-- Assumes nothing.
+use Prim.Native.Nat.{ℕ}
+use Prim.Native.String.{String}
+use mathlib.Core.Path.{_≡_, refl}
+use mathlib.Core.List.{List, [], _∷_}
+use Rattle.format.specs.Types.{Record, state, cpc, regular, transitional, recovery}
+use Rattle.format.specs.Write.{write}
+use Rattle.replication.specs.Runs.Run.{event, crash, Run}
+use Rattle.replication.specs.Audit.Witness.{Witness}
+use Rattle.replication.proofs.Audit.Runs.Records.{sent, primary, unmarked, marked, no-yellow, told}
+use Rattle.replication.proofs.Audit.Runs.Shown.{Refused, installed, opened}
+
+unfoldable pub run : Run
+run =
+    event 1 (write (regular 1 6)) 1
+    ∷ crash 1
+    ∷ event 1 (write recovery) 0
+    ∷ event 1 (write (regular 2 6)) 1
+    ∷ event 2 (write (regular 2 6)) 1
+    ∷ event 1 (write (state (told 1 2 (0 ∷ 0 ∷ 0 ∷ []) 0 0 (primary 0 0 7) unmarked no-yellow))) 0
+    ∷ event 2 (write (state (told 1 2 (0 ∷ 0 ∷ 0 ∷ []) 0 0 (primary 0 0 7) unmarked no-yellow))) 0
+    ∷ event 1 (write (state (told 2 2 (0 ∷ 0 ∷ 0 ∷ []) 0 0 (primary 0 0 7) unmarked no-yellow))) 1
+    ∷ event 2 (write (state (told 2 2 (0 ∷ 0 ∷ 0 ∷ []) 0 0 (primary 0 0 7) unmarked no-yellow))) 1
+    ∷ event 1 (write (cpc 1 2)) 0
+    ∷ event 1 (write (cpc 2 2)) 0
+    ∷ crash 2
+    ∷ event 2 (write recovery) 0
+    ∷ event 2 (write (regular 1 6)) 1
+    ∷ event 2 (write (state (told 1 1 (0 ∷ 0 ∷ 0 ∷ []) 0 0 (primary 0 0 7) unmarked no-yellow))) 0
+    ∷ event 2 (write (state (told 2 1 (0 ∷ 0 ∷ 0 ∷ []) 0 1 (primary 0 0 7) (marked 0 1 6 0) no-yellow))) 1
+    ∷ event 2 (write (cpc 2 1)) 0
+    ∷ event 2 (write (transitional 4)) 0
+    ∷ event 0 (write (regular 3 5)) 1
+    ∷ event 2 (write (regular 3 5)) 1
+    ∷ event 0 (write (state (told 0 3 (0 ∷ 0 ∷ 0 ∷ []) 0 0 (primary 0 0 7) unmarked no-yellow))) 0
+    ∷ event 2 (write (state (told 0 3 (0 ∷ 0 ∷ 0 ∷ []) 0 0 (primary 0 0 7) unmarked no-yellow))) 0
+    ∷ event 0 (write (state (told 2 3 (0 ∷ 0 ∷ 0 ∷ []) 0 2 (primary 0 0 7) unmarked no-yellow))) 1
+    ∷ event 2 (write (state (told 2 3 (0 ∷ 0 ∷ 0 ∷ []) 0 2 (primary 0 0 7) unmarked no-yellow))) 1
+    ∷ event 0 (write (cpc 0 3)) 0
+    ∷ event 2 (write (cpc 0 3)) 0
+    ∷ event 0 (write (cpc 2 3)) 0
+    ∷ event 2 (write (cpc 2 3)) 0
+    ∷ []
+
+unfoldable pub witness : Witness
+witness = record {
+  sources =
+      sent 0 0 ∷ sent 0 0 ∷ sent 0 0 ∷ sent 0 0 ∷ sent 0 0 ∷ sent 3 0 ∷ sent 3 0 ∷ sent 4 0 ∷ sent 4 0 ∷ sent 7 0
+      ∷ sent 8 0 ∷ sent 0 0 ∷ sent 0 0 ∷ sent 0 0 ∷ sent 0 0 ∷ sent 13 0 ∷ sent 15 0 ∷ sent 0 0 ∷ sent 0 0 ∷ sent 0 0
+      ∷ sent 18 0 ∷ sent 18 0 ∷ sent 19 0 ∷ sent 19 0 ∷ sent 22 0 ∷ sent 22 0 ∷ sent 23 0 ∷ sent 23 0
+      ∷ [];
+  names =
+      0 ∷ 0 ∷ 0 ∷ 0 ∷ 0 ∷ 0 ∷ 0 ∷ 0 ∷ 0 ∷ 0
+      ∷ 0 ∷ 0 ∷ 0 ∷ 0 ∷ 0 ∷ 0 ∷ 0 ∷ 1 ∷ 0 ∷ 0
+      ∷ 0 ∷ 0 ∷ 0 ∷ 0 ∷ 0 ∷ 0 ∷ 0 ∷ 0
+      ∷ [];
+  ords =
+      0 ∷ 2 ∷ 3 ∷ 4 ∷ 4 ∷ 7 ∷ 7 ∷ 8 ∷ 8 ∷ 11
+      ∷ 12 ∷ 13 ∷ 14 ∷ 0 ∷ 16 ∷ 17 ∷ 19 ∷ 20 ∷ 21 ∷ 21
+      ∷ 24 ∷ 24 ∷ 25 ∷ 25 ∷ 28 ∷ 28 ∷ 29 ∷ 29
+      ∷ [];
+  sendingOrds =
+      (1 ∷ []) ∷ [] ∷ [] ∷ (5 ∷ []) ∷ (6 ∷ []) ∷ [] ∷ [] ∷ (9 ∷ []) ∷ (10 ∷ []) ∷ []
+      ∷ [] ∷ [] ∷ [] ∷ (15 ∷ []) ∷ [] ∷ (18 ∷ []) ∷ [] ∷ [] ∷ (22 ∷ []) ∷ (23 ∷ [])
+      ∷ [] ∷ [] ∷ (26 ∷ []) ∷ (27 ∷ []) ∷ [] ∷ [] ∷ [] ∷ []
+      ∷ [];
+}
+
+refused : Refused 3 4 run witness ("rises" ∷ [])
+unfolding opened run witness
+refused = (refl, refl)
+
+-- Two primary components of index 1.
+installs : installed 3 4 run ≡ primary 1 1 6 ∷ primary 1 3 5 ∷ primary 1 3 5 ∷ []
+unfolding opened run
+installs = refl
