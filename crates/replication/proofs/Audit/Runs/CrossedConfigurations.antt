@@ -6,9 +6,14 @@ use Prim.Native.Nat.{ℕ}
 use Prim.Native.String.{String}
 use mathlib.Core.Path.{_≡_, refl}
 use mathlib.Core.List.{List, [], _∷_}
+use native.Mathlib.Omega.{arith}
+use Rattle.base.specs.Lists.{at}
 use Rattle.format.specs.Types.{Record, state, cpc, regular, transitional, recovery}
 use Rattle.format.specs.Write.{write}
-use Rattle.replication.specs.Runs.Run.{event, crash, Run}
+use Rattle.replication.specs.Machine.Types.{Configuration}
+use Rattle.replication.specs.Runs.Run.{event, crash, Run, heardAt}
+use Rattle.replication.specs.Runs.Happenings.{entry-at, regularly, Of, Takes, to-regular, in-turn, Precedes, causes, before-all, along}
+use Rattle.replication.specs.Runs.Allowed.{Allowed}
 use Rattle.replication.specs.Audit.Witness.{Witness}
 use Rattle.replication.proofs.Audit.Runs.Records.{sent, primary, unmarked, marked, no-yellow, told}
 use Rattle.replication.proofs.Audit.Runs.Shown.{Refused, installed, opened}
@@ -77,3 +82,38 @@ refused = (refl, refl)
 installs : installed 3 4 run ≡ primary 1 1 6 ∷ primary 1 3 5 ∷ primary 1 3 5 ∷ []
 unfolding opened run
 installs = refl
+
+-- With no other witness is it allowed: by 2.4 the first entry would precede itself.
+first-at-1 : Takes 3 4 run 0 1 (record { id = 1; set = 6 })
+unfolding opened run heardAt
+first-at-1 = record { bytes = write (regular 1 6); sent = 1; here = refl; heard = refl }
+
+second-at-1 : Takes 3 4 run 3 1 (record { id = 2; set = 6 })
+unfolding opened run heardAt
+second-at-1 = record { bytes = write (regular 2 6); sent = 1; here = refl; heard = refl }
+
+second-at-2 : Takes 3 4 run 4 2 (record { id = 2; set = 6 })
+unfolding opened run heardAt
+second-at-2 = record { bytes = write (regular 2 6); sent = 1; here = refl; heard = refl }
+
+first-at-2 : Takes 3 4 run 13 2 (record { id = 1; set = 6 })
+unfolding opened run heardAt
+first-at-2 = record { bytes = write (regular 1 6); sent = 1; here = refl; heard = refl }
+
+its : (p i : ℕ) (c : Configuration) → Takes 3 4 run p i c → Of run p i
+unfolding opened
+its p i c t = record { entry = event i (t .bytes) (t .sent); here = t .here; its = refl }
+
+module _ (a : Allowed 3 4 run) where
+  to-second : Precedes 3 4 run (a .source) (a .name) (entry-at 0) (entry-at 4)
+  to-second =
+      before-all 1 2 (regularly (record { id = 2; set = 6 })) (to-regular _ second-at-1) (to-regular _ second-at-2)
+      (causes (in-turn 1 (its 0 1 _ first-at-1) (its 3 1 _ second-at-1) (omega arith)))
+
+  circle : Precedes 3 4 run (a .source) (a .name) (entry-at 0) (entry-at 0)
+  circle =
+      before-all 2 1 (regularly (record { id = 1; set = 6 })) (to-regular _ first-at-2) (to-regular _ first-at-1)
+      (along to-second (causes (in-turn 2 (its 4 2 _ second-at-2) (its 13 2 _ first-at-2) (omega arith))))
+
+pub not-allowed : Allowed 3 4 run → ⊥
+not-allowed a = omega (arith, a .rises (entry-at 0) (entry-at 0) (circle a))
