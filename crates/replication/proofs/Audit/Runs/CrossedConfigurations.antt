@@ -4,19 +4,20 @@
 -- Assumes nothing.
 use Prim.Native.Nat.{ℕ}
 use Prim.Native.String.{String}
-use mathlib.Core.Path.{_≡_, refl}
+use mathlib.Core.Path.{_≡_, refl, ap}
 use mathlib.Core.List.{List, [], _∷_}
 use native.Mathlib.Omega.{arith}
 use Rattle.base.specs.Lists.{at}
-use Rattle.format.specs.Types.{Record, state, cpc, regular, transitional, recovery}
+use Rattle.format.specs.Types.{Primary, Record, state, cpc, regular, transitional, recovery}
 use Rattle.format.specs.Write.{write}
 use Rattle.replication.specs.Machine.Types.{Configuration}
 use Rattle.replication.specs.Runs.Run.{event, crash, Run, heardAt}
 use Rattle.replication.specs.Runs.Happenings.{entry-at, regularly, Of, Takes, to-regular, in-turn, Precedes, causes, before-all, along}
 use Rattle.replication.specs.Runs.Allowed.{Allowed}
+use Rattle.replication.specs.Runs.Claim.{IsPrimary, Agreement}
 use Rattle.replication.specs.Audit.Witness.{Witness}
 use Rattle.replication.proofs.Audit.Runs.Records.{sent, primary, unmarked, marked, no-yellow, told}
-use Rattle.replication.proofs.Audit.Runs.Shown.{Refused, installed, opened}
+use Rattle.replication.proofs.Audit.Runs.Shown.{Refused, installed, installed-primary, opened}
 
 unfoldable pub run : Run
 run =
@@ -82,6 +83,18 @@ refused = (refl, refl)
 installs : installed 3 4 run ≡ primary 1 1 6 ∷ primary 1 3 5 ∷ primary 1 3 5 ∷ []
 unfolding opened run
 installs = refl
+
+one : IsPrimary 3 4 run (primary 1 1 6)
+unfolding opened run
+one = installed-primary 3 4 run 10 (event 1 (write (cpc 2 2)) 0) (primary 1 1 6) refl refl
+
+another : IsPrimary 3 4 run (primary 1 3 5)
+unfolding opened run
+another = installed-primary 3 4 run 26 (event 0 (write (cpc 2 3)) 0) (primary 1 3 5) refl refl
+
+-- So the claim of demand 3 fails of it.
+pub disagree : Agreement 3 4 run → ⊥
+disagree a = omega (arith, ap (λ (x : Primary). x .attempt) (a .primary (primary 1 1 6) (primary 1 3 5) one another .1 refl))
 
 -- With no other witness is it allowed: by 2.4 the first entry would precede itself.
 first-at-1 : Takes 3 4 run 0 1 (record { id = 1; set = 6 })

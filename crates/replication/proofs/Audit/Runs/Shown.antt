@@ -2,22 +2,30 @@
 -- Assumes nothing.
 use Prim.Native.Nat.{ℕ}
 use Prim.Native.String.{String}
-use mathlib.Core.Path.{_≡_}
+use mathlib.Core.Path.{_≡_, refl, subst}
 use mathlib.Core.Bool.{Bool, true, false}
 use mathlib.Core.List.{List, [], _∷_}
 use mathlib.Core.Option.{Option, none, some}
 use lib.ListN.{length, getD}
-use Rattle.base.specs.Tests.{pick}
-use Rattle.base.specs.Lists.{atFront}
+use native.Mathlib.Omega.{arith}
+use Rattle.base.specs.Tests.{pick, Known, holds, fails, known}
+use Rattle.base.specs.Lists.{atFront, at}
 use Rattle.format.specs.Types.{Primary, Mark, State}
 use Rattle.replication.specs.Machine.Types.{Mode, Server, Outcome, taken, refused}
 use Rattle.replication.specs.Machine.Exchange.{takenPrimary, isMarked, ruleA, ruleB, ruleC, ownMark}
 use Rattle.replication.specs.Machine.Step.{collected, installsBy, installsOn, installs}
 use Rattle.replication.specs.Images.{arrive, sourceOf}
-use Rattle.replication.specs.Runs.Run.{Entry, event, crash, Run, serverOf, World, beginning, worldAfter}
+use Rattle.replication.specs.Runs.Run.{Entry, event, crash, Run, serverOf, World, beginning, worldAfter, worldAt}
+use Rattle.replication.specs.Runs.Claim.{IsPrimary, of-install}
 use Rattle.replication.specs.Audit.Witness.{Witness}
 use Rattle.replication.specs.Audit.Verdict.{audit, report}
 use Rattle.replication.specs.Audit.Opened.{opened as opened-audit}
+
+nothing-there : {A X : Type 0} {x : A} → _≡_ {A = Option A} none (some x) → X
+nothing-there e = let z : _≡_ {A = ℕ} 0 1 = cc in absurd (omega arith)
+
+some-same : {A : Type 0} {x y : A} → _≡_ {A = Option A} (some x) (some y) → x ≡ y
+some-same e = cc
 
 -- An entry's server, and after it that server's state, green length and last primary's index.
 pub record Shown : Type 0 where
@@ -55,6 +63,17 @@ installedFrom w (x ∷ l) = atFront (installedBy w x) (installedFrom (worldAfter
 
 unfoldable pub installed : (n q : ℕ) → Run → List Primary
 installed n q l = installedFrom (beginning n q) l
+
+-- What is installed at a place is a primary component of the run.
+pub installed-primary : (n q : ℕ) (l : Run) (p : ℕ) (y : Entry) (a : Primary) → at l p ≡ some y → installedBy (worldAt n q l p) y ≡ some a → IsPrimary n q l a
+unfolding installedBy lastOfOutcome pick
+installed-primary n q l p (crash i) a h f = nothing-there f
+installed-primary n q l p (event i e k) a h f = go (known (installs (sourceOf (worldAt n q l p .images i) e) e)) (arrive (worldAt n q l p .images i) e) refl
+  where
+    go : Known (installs (sourceOf (worldAt n q l p .images i) e) e) → (o : Outcome (List ℕ)) → arrive (worldAt n q l p .images i) e ≡ o → IsPrimary n q l a
+    go (fails t) o g = nothing-there (rw t at f)
+    go (holds t) (refused j) g = nothing-there (rw (t, g) at f)
+    go (holds t) (taken s r b c) g = subst (IsPrimary n q l) (some-same (rw (t, g) at f)) (of-install p i k e s r b c h g t)
 
 -- Of the State that a server has collected of itself: marked; to be cleared by (a), by (b), by (c).
 unfoldable pub rulesOn : List State → Option State → List Bool

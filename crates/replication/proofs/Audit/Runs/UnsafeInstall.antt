@@ -12,18 +12,19 @@ use Rattle.base.specs.Tests.{_=?_, _and_, not-both, not-holds, both-yes}
 use Rattle.base.specs.Lists.{all, same, at}
 use Rattle.base.specs.QuantifierLaws.{all-at}
 use Rattle.base.specs.Deciding.{decided, numbers-decided, lists-decided}
-use Rattle.format.specs.Types.{Record, state, cpc, regular, transitional, recovery}
+use Rattle.format.specs.Types.{Primary, Record, state, cpc, regular, transitional, recovery}
 use Rattle.format.specs.Write.{write}
 use Rattle.replication.specs.Machine.Types.{Configuration}
 use Rattle.replication.specs.Runs.Run.{Entry, event, crash, Run, heardAt, sentAt}
 use Rattle.replication.specs.Runs.Happenings.{Message, isMessage, Falls, by-crash, by-recovery, Comes, Takes, Left, Delivers, Delivered}
 use Rattle.replication.specs.Runs.Allowed.{Allowed}
+use Rattle.replication.specs.Runs.Claim.{IsPrimary, Agreement}
 use Rattle.replication.specs.Audit.Witness.{Witness}
 use Rattle.replication.specs.Audit.Table.{roleIn, Row, rowOf, table}
 use Rattle.replication.specs.Audit.Rules.{bringsBack}
 use Rattle.replication.proofs.Audit.Rows.{rowAt, table-holds, role-of}
 use Rattle.replication.proofs.Audit.Runs.Records.{sent, primary, unmarked, no-yellow, told}
-use Rattle.replication.proofs.Audit.Runs.Shown.{Refused, installed, opened}
+use Rattle.replication.proofs.Audit.Runs.Shown.{Refused, installed, installed-primary, opened}
 
 unfoldable pub run : Run
 run =
@@ -77,6 +78,18 @@ refused = (refl, refl)
 installs : installed 3 4 run ≡ primary 1 1 3 ∷ primary 1 2 6 ∷ primary 1 2 6 ∷ []
 unfolding opened run
 installs = refl
+
+one : IsPrimary 3 4 run (primary 1 1 3)
+unfolding opened run
+one = installed-primary 3 4 run 7 (event 0 (write (cpc 1 1)) 0) (primary 1 1 3) refl refl
+
+another : IsPrimary 3 4 run (primary 1 2 6)
+unfolding opened run
+another = installed-primary 3 4 run 18 (event 1 (write (cpc 2 2)) 0) (primary 1 2 6) refl refl
+
+-- So the claim of demand 3 fails of it.
+pub disagree : Agreement 3 4 run → ⊥
+disagree a = omega (arith, ap (λ (x : Primary). x .attempt) (a .primary (primary 1 1 3) (primary 1 2 6) one another .1 refl))
 
 -- ---- with no other witness is it allowed: server 1 never delivers 0's CPC
 
