@@ -1,12 +1,12 @@
 -- Tests that decide an equation.
 -- Assumes nothing.
 use Prim.Native.Nat.{ℕ}
-use mathlib.Core.Path.{_≡_, refl, ap, ap₂, subst}
+use mathlib.Core.Path.{_≡_, refl, ap, subst}
 use mathlib.Core.Bool.{Bool, true, false}
-use mathlib.Core.List.{List, [], _∷_}
 use mathlib.Core.Option.{Option, none, some}
 use Rattle.base.specs.Tests.{_=?_, _and_, not-both, eq-yes, eq-holds, and-holds, both-yes}
 use Rattle.base.specs.Lists.{same}
+use Rattle.base.specs.SameLaws.{same-yes, same-holds}
 use Rattle.base.specs.Quantifiers.{sameOption}
 
 pub record Decides {A : Type 0} (t : A → A → Bool) : Type 0 where
@@ -19,21 +19,8 @@ decided {A} {t} d {x} e = subst (λ z. t x z ≡ true) e (d .itself x)
 pub numbers-decided : Decides _=?_
 numbers-decided = record { says = eq-holds; itself = λ x. eq-yes x x refl }
 
-same-says : (x y : List ℕ) → same x y ≡ true → x ≡ y
-unfolding same
-same-says [] [] h = refl
-same-says [] (b ∷ y) h = not-both h
-same-says (a ∷ x) [] h = not-both h
-same-says (a ∷ x) (b ∷ y) h =
-    let both = and-holds (a =? b) (same x y) h in ap₂ {A = ℕ} {B = List ℕ} {C = List ℕ} (λ c z. c ∷ z) (eq-holds a b (both .0)) (same-says x y (both .1))
-
-same-itself : (x : List ℕ) → same x x ≡ true
-unfolding same
-same-itself [] = refl
-same-itself (a ∷ x) = both-yes (a =? a) (same x x) (eq-yes a a refl) (same-itself x)
-
 pub lists-decided : Decides same
-lists-decided = record { says = same-says; itself = same-itself }
+lists-decided = record { says = same-holds; itself = same-yes }
 
 module _ {A : Type 0} {t : A → A → Bool} (d : Decides t) where
   option-says : (x y : Option A) → sameOption t x y ≡ true → x ≡ y

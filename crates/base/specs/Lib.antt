@@ -7,8 +7,16 @@ pub mod Stores
 pub mod Pigeonhole
 pub mod Sets
 pub mod Lists
+pub mod ListLaws
+pub mod SameLaws
+pub mod Sections
+pub mod Counts
+pub mod SetLaws
 pub mod Quantifiers
 pub mod QuantifierLaws
 pub mod Deciding
 pub mod Text
+pub mod Prefixes
+pub mod Members
+pub mod Branches
 pub mod Opened

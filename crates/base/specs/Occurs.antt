@@ -74,6 +74,11 @@ parts-joined (x ∷ xs) e at o = occurs-append x (joined xs) e at (at + length x
 pub occurs-at : {x e : List ℕ} {at k : ℕ} → Occurs x e at → at ≡ k → Occurs x e k
 occurs-at {x} {e} o h = subst (Occurs x e) h o
 
+-- Without what lies in front.
+pub occurs-drop : {x e : List ℕ} (at k : ℕ) → Occurs x e (at + k) → Occurs x (drop at e) k
+unfolding partAt
+occurs-drop {x} {e} at k o = record { part = ap (take (length x)) (drop-drop k at e) ∙ o .part }
+
 -- ---- a number where its bytes occur, and the bytes of a number that is read
 
 pub number-read : (w : ℕ) {v : ℕ} {e : List ℕ} {at : ℕ} (k : ℕ) → Occurs (bytesOf w v) e at → at ≡ k → v < 256 ^ w → numberAt w e k ≡ v

@@ -37,10 +37,10 @@ compared m n = go (known (m <? n)) (known (n <? m))
     go (fails h) (fails k) = level (omega (arith, lt-fails m n h, lt-fails n m k))
 
 module _ {A : Type 0} where
-  some-same : {x y : A} → _≡_ {A = Option A} (some x) (some y) → x ≡ y
+  pub some-same : {x y : A} → _≡_ {A = Option A} (some x) (some y) → x ≡ y
   some-same e = cc
 
-  nothing-there : {X : Type 0} {x : A} → _≡_ {A = Option A} none (some x) → X
+  pub nothing-there : {X : Type 0} {x : A} → _≡_ {A = Option A} none (some x) → X
   nothing-there e = let z : _≡_ {A = ℕ} 0 1 = cc in absurd (omega arith)
 
   pub among-first : {x y : A} (xs : List A) → y ≡ x → Among x (y ∷ xs)

@@ -16,33 +16,33 @@ pub framed-bytes : (kind : ℕ) (body : List ℕ) → Bytes body → Bytes (fram
 unfolding framed
 framed-bytes kind body b = bytes-joined _ (bytes-small 2 _, (bytes-small 1 _, (bytes-small 1 kind, (b, tt))))
 
-payload-bytes : (p : List ℕ) → Bytes p → Bytes (payloadBytes p)
+pub payload-bytes : (p : List ℕ) → Bytes p → Bytes (payloadBytes p)
 unfolding payloadBytes
 payload-bytes p b = bytes-joined _ (bytes-small 1 _, (b, tt))
 
-id-bytes : (d : Id) → Bytes (idBytes d)
+pub id-bytes : (d : Id) → Bytes (idBytes d)
 unfolding idBytes
 id-bytes d = bytes-joined _ (bytes-small 1 _, (bytes-small 2 _, tt))
 
-action-bytes : (a : Action) → Bytes (a .payload) → Bytes (actionBytes a)
+pub action-bytes : (a : Action) → Bytes (a .payload) → Bytes (actionBytes a)
 unfolding actionBytes
 action-bytes a b = bytes-joined _ (id-bytes (a .id), (bytes-small 4 _, (payload-bytes (a .payload) b, tt)))
 
-cuts-bytes : (xs : List ℕ) → Bytes (cutsBytes xs)
+pub cuts-bytes : (xs : List ℕ) → Bytes (cutsBytes xs)
 unfolding cutsBytes
 cuts-bytes [] = bytes-nil
 cuts-bytes (x ∷ xs) = bytes-joined _ (bytes-small 2 x, (cuts-bytes xs, tt))
 
-ids-bytes : (xs : List Id) → Bytes (idsBytes xs)
+pub ids-bytes : (xs : List Id) → Bytes (idsBytes xs)
 unfolding idsBytes
 ids-bytes [] = bytes-nil
 ids-bytes (x ∷ xs) = bytes-joined _ (id-bytes x, (ids-bytes xs, tt))
 
-primary-bytes : (p : Primary) → Bytes (primaryBytes p)
+pub primary-bytes : (p : Primary) → Bytes (primaryBytes p)
 unfolding primaryBytes
 primary-bytes p = bytes-joined _ (bytes-small 4 _, (bytes-small 4 _, (bytes-small 1 _, tt)))
 
-mark-bytes : (m : Mark) → Bytes (markBytes m)
+pub mark-bytes : (m : Mark) → Bytes (markBytes m)
 unfolding markBytes
 mark-bytes m = bytes-joined _ (bytes-small 1 _, (bytes-small 4 _, (bytes-small 4 _, (bytes-small 1 _, (bytes-small 1 _, tt)))))
 
@@ -87,3 +87,8 @@ body-bytes c recovery ok = bytes-nil
 pub write-bytes : (c : Context) (r : Record) → recordOk c r ≡ true → Bytes (write r)
 unfolding recordOk write
 write-bytes c r ok = framed-bytes _ (bodyOf r) (body-bytes c r (and-holds _ _ ok .1))
+
+-- A State's numbers are in no range here.
+pub state-record-bytes : (s : State) → Bytes (write (state s))
+unfolding write bodyOf
+state-record-bytes s = framed-bytes _ (stateBytes s) (state-bytes s)

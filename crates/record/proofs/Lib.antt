@@ -1,4 +1,17 @@
+pub mod Numbers
+pub mod Ranges
+pub mod OnePass
+pub mod Turns
+pub mod Made
+pub mod Frames
+pub mod Heads
+pub mod Fields
+pub mod Arms
+pub mod Judged
+pub mod Placing
+pub mod Returns
 pub mod WriterBlocks
 pub mod WriterRecords
 pub mod WriterState
 pub mod WriterRoundTrip
+pub mod Callers

@@ -1,2 +1,7 @@
+pub mod Context
+pub mod Values
+pub mod Events
+pub mod Framed
+pub mod Reading
 pub mod Written
 pub mod Blocks

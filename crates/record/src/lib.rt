@@ -1,8 +1,17 @@
-// Records: the event reader, and the writers of what the engine sends.
-mod blocks;
-pub mod writer;
+// Records: the types that the reader, the writers and the engine share, and document 01's limits.
+ghost use mathlib.Core.Path.{_≡_};
+ghost use Rattle.record.specs.Context.{readingContext};
 
-// "The primary index and the attempt index are two counters, and neither may stand for the other."
+pub mod bytes; // bytes.rt: numbers in bytes
+pub mod range; // range.rt: which numbers and sets are in range
+pub mod lists; // lists.rt: lists in bytes
+pub mod events; // events.rt: an event that was read
+pub mod frame; // frame.rt: its frame
+pub mod reader; // reader.rt: what an event says
+pub mod blocks; // blocks.rt: parts of records, written
+pub mod writer; // writer.rt: writers of what the engine sends
+
+// The index of a primary component, and that of an attempt to create one: neither stands for the other.
 pub struct PrimaryIndex(pub u32);
 
 pub struct AttemptIndex(pub u32);
@@ -21,4 +30,70 @@ pub struct Mark {
     pub attempt: AttemptIndex,
     pub set: u8,
     pub bits: u8,
+}
+
+// What a record is read against. `configured` is 0 where there was no regular configuration since the start or the last
+// recovery; `set` is then not looked at.
+pub struct Context {
+    pub servers: u8,
+    pub quota: u16,
+    pub me: u8,
+    pub configured: u8,
+    pub set: u8,
+}
+
+// The numbers of a server's state. Its lists lie beside them.
+pub struct State {
+    pub servers: u8,
+    pub quota: u16,
+    pub me: u8,
+    pub mode: u8,
+    pub configuration_status: u8,
+    pub configuration_id: u32,
+    pub configuration_set: u8,
+    pub transitional_status: u8,
+    pub transitional_set: u8,
+    pub queue_length: u32,
+    pub green_length: u32,
+    pub numbered: u16,
+    pub own_count: u16,
+    pub held_count: u8,
+    pub attempt: AttemptIndex,
+    pub last: LastPrimary,
+    pub mark: Mark,
+    pub yellow_status: u8,
+    pub yellow_count: u16,
+    pub states: u8,
+    pub cpcs: u8,
+    pub come: u32,
+}
+
+// "The starting state and these limits belong to the state's own kind": each limit is named here and nowhere else.
+impl State {
+    pub const FEWEST_SERVERS: u8 = 2;
+
+    pub const MOST_SERVERS: u8 = 8;
+
+    pub const LEAST_QUOTA: u16 = 1;
+
+    pub const MOST_QUOTA: u16 = 256;
+
+    pub const MOST_PAYLOAD: usize = 48;
+
+    pub const MOST_HELD: u8 = 16;
+
+    pub const MOST_INDEX: u32 = 4_000_000_000;
+
+    // What an event that comes in this state is read against.
+    pub fn context(self) -> Context
+        ensures { λ r. ⌜ r ≡ readingContext self ⌝ }
+    {
+        Context {
+            servers: self.servers,
+            quota: self.quota,
+            me: self.me,
+            configured: self.configuration_status,
+            set: self.configuration_set,
+        }
+    }
 }

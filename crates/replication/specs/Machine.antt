@@ -7,3 +7,6 @@ pub mod Requests
 pub mod Rules
 pub mod Step
 pub mod WellFormed
+pub mod WellFormedRanges
+pub mod WellFormedFacts
+pub mod WellFormedSent

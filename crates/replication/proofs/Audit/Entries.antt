@@ -9,7 +9,7 @@ use native.Mathlib.Omega.{arith}
 use lib.ListN.{length, take, getD}
 use Rattle.base.specs.Tests.{_=?_, _and_, pick, Known, holds, fails, known, not-both, and-holds, eq-holds}
 use Rattle.base.specs.Lists.{any, gather, gatherAll, below, at}
-use Rattle.base.specs.QuantifierLaws.{Among, any-among, among-gather, gather-among, among-gather-all, among-map, among-below, at-taken}
+use Rattle.base.specs.QuantifierLaws.{nothing-there, Among, any-among, among-gather, gather-among, among-gather-all, among-map, among-below, at-taken}
 use Rattle.format.specs.Types.{Record, action, retransmission, state, cpc, regular, transitional, request, recovery, says}
 use Rattle.replication.specs.Machine.Types.{Configuration}
 use Rattle.replication.specs.Runs.Run.{Entry, event, crash, Run, serverOf, placeAt, sentAt}
@@ -21,9 +21,6 @@ use Rattle.replication.specs.Audit.Clocks.{Stamps, numberOf, clockAt, st
 use Rattle.replication.specs.Audit.Journal.{Sending, sendingIn, sendingsOf, messageBy, isBeside, earlierIn, Delivery, deliveryOf, deliveryBy, Taking, takingBy, Transition, transitionBy, Change, changeBy, takingsIn, transitionsIn, changesIn, deliveriesIn}
 use Rattle.replication.proofs.Audit.Sameness.{messages-decided}
 use Rattle.replication.proofs.Audit.Rows.{rowAt, row-among, table-holds, table-is, row-place, row-server, row-after, row-sent, meaning, Meaning, role-of}
-
-clash : {X : Type 0} {A : Type 0} {x : A} → _≡_ {A = Option A} none (some x) → X
-clash e = let z : _≡_ {A = ℕ} 0 1 = cc in absurd (omega arith)
 
 -- A message that comes is a delivery.
 pub message-role : (r : Record) → isMessage r ≡ true → roleIn (says r) ≡ delivers
@@ -45,25 +42,25 @@ sending-message s m (some r) = refl
 picked : {A : Type 0} (t : Bool) (o : Option A) (x : A) → pick t o none ≡ some x → (t ≡ true) × (o ≡ some x)
 unfolding pick
 picked true o x h = (refl, h)
-picked false o x h = clash h
+picked false o x h = nothing-there h
 
 message-by : (o : Role) (x : Row) (m : Message) → messageBy o x ≡ some m → (o ≡ delivers) × (x .source ≡ m)
 unfolding messageBy
 message-by delivers x m h = (refl, cc)
-message-by (takes c) x m h = clash h
-message-by (transits t) x m h = clash h
-message-by goes-down x m h = clash h
-message-by comes-back x m h = clash h
-message-by neither x m h = clash h
+message-by (takes c) x m h = nothing-there h
+message-by (transits t) x m h = nothing-there h
+message-by goes-down x m h = nothing-there h
+message-by comes-back x m h = nothing-there h
+message-by neither x m h = nothing-there h
 
 delivery-by : (o : Role) (rs : List Row) (s : Stamps) (x : Row) (d : Delivery) → deliveryBy o rs s x ≡ some d → (o ≡ delivers) × (deliveryOf rs s x ≡ d)
 unfolding deliveryBy
 delivery-by delivers rs s x d h = (refl, cc)
-delivery-by (takes c) rs s x d h = clash h
-delivery-by (transits t) rs s x d h = clash h
-delivery-by goes-down rs s x d h = clash h
-delivery-by comes-back rs s x d h = clash h
-delivery-by neither rs s x d h = clash h
+delivery-by (takes c) rs s x d h = nothing-there h
+delivery-by (transits t) rs s x d h = nothing-there h
+delivery-by goes-down rs s x d h = nothing-there h
+delivery-by comes-back rs s x d h = nothing-there h
+delivery-by neither rs s x d h = nothing-there h
 
 module _ (n q : ℕ) (l : Run) (w : Witness) where
   abbrev rows : List Row

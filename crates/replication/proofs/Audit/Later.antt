@@ -9,7 +9,7 @@ use native.Mathlib.Omega.{arith}
 use lib.ListN.{length, drop}
 use Rattle.base.specs.Tests.{_=?_, pick, Known, holds, fails, known, eq-holds, eq-yes, not-both}
 use Rattle.base.specs.Lists.{at, filter, gather}
-use Rattle.base.specs.QuantifierLaws.{Among, at-drop, among-filter, among-gather}
+use Rattle.base.specs.QuantifierLaws.{nothing-there, some-same, Among, at-drop, among-filter, among-gather}
 use Rattle.replication.specs.Machine.Types.{Configuration}
 use Rattle.replication.specs.Runs.Run.{Entry, event, Run, serverOf, placeAt}
 use Rattle.replication.specs.Runs.Happenings.{Configured, regularly, transitionally, Of, Crashes, Comes, Falls, by-crash, by-recovery, Takes, Left, Configures, to-regular, to-transitional, Passes}
@@ -18,12 +18,6 @@ use Rattle.replication.specs.Audit.Table.{Role, delivers, takes, transit
 use Rattle.replication.specs.Audit.Journal.{Taking, Change, changeBy, settlesBy, settles, nextBy, nextChange, isCrash, crashesNext, hasLeft, Passage, passageTo, passageFrom, takingsIn, changesIn}
 use Rattle.replication.proofs.Audit.Rows.{rowAt, table-holds, table-is, row-server, Meaning, meaning, role-of}
 use Rattle.replication.proofs.Audit.Entries.{taking-among, change-row, change-among}
-
-nothing-there : {A X : Type 0} {x : A} → _≡_ {A = Option A} none (some x) → X
-nothing-there e = let z : _≡_ {A = ℕ} 0 1 = cc in absurd (omega arith)
-
-some-same : {A : Type 0} {x y : A} → _≡_ {A = Option A} (some x) (some y) → x ≡ y
-some-same e = cc
 
 -- ---- a list of rows
 

@@ -10,7 +10,7 @@ use native.Mathlib.Omega.{arith}
 use lib.ListN.{length, take}
 use Rattle.base.specs.Tests.{_=?_, _<?_, pick, Known, holds, fails, known, eq-holds, eq-fails, eq-no, not-both, lt-holds, lt-yes}
 use Rattle.base.specs.Lists.{at, upd}
-use Rattle.base.specs.QuantifierLaws.{Among}
+use Rattle.base.specs.QuantifierLaws.{nothing-there, some-same, Among}
 use Rattle.format.specs.Types.{Record, action, retransmission, state, cpc, regular, transitional, request, recovery, Reading, says, refused}
 use Rattle.replication.specs.Machine.Types.{Configuration}
 use Rattle.replication.specs.Images.{arrive}
@@ -18,12 +18,6 @@ use Rattle.replication.specs.Runs.Run.{Entry, event, crash, Run, serverO
 use Rattle.replication.specs.Runs.Happenings.{isMessage, Of, Crashes, Comes, Takes}
 use Rattle.replication.specs.Audit.Witness.{Witness}
 use Rattle.replication.specs.Audit.Table.{Role, delivers, takes, transits, goes-down, comes-back, neither, roleIn, Row, rowOf, rowsFrom, table}
-
-nothing-there : {A X : Type 0} {x : A} → _≡_ {A = Option A} none (some x) → X
-nothing-there e = let z : _≡_ {A = ℕ} 0 1 = cc in absurd (omega arith)
-
-some-same : {A : Type 0} {x y : A} → _≡_ {A = Option A} (some x) (some y) → x ≡ y
-some-same e = cc
 
 -- ---- the walk
 

@@ -9,8 +9,9 @@ use native.Mathlib.Omega.{arith}
 use lib.ListN.{length, drop}
 use Rattle.base.specs.Tests.{_=?_, _<?_, _and_, and-holds, not-both, not-holds, eq-yes, both-yes, lt-holds}
 use Rattle.base.specs.Lists.{all, isThere, same, at}
+use Rattle.base.specs.ListLaws.{is-there}
 use Rattle.base.specs.Quantifiers.{_implies_, pairs, sameOption}
-use Rattle.base.specs.QuantifierLaws.{Among, implied, all-among, each-two, at-below}
+use Rattle.base.specs.QuantifierLaws.{nothing-there, Among, implied, all-among, each-two, at-below}
 use Rattle.base.specs.Deciding.{decided, lists-decided, options-decided}
 use Rattle.format.specs.Types.{Record, transitional, recovery}
 use Rattle.replication.specs.Machine.Types.{Configuration}
@@ -27,18 +28,10 @@ use Rattle.replication.proofs.Audit.Rows.{rowAt, row-among, table-is, r
 use Rattle.replication.proofs.Audit.Entries.{taking-among, transition-among, sendingAt, Delivering, delivering, delivered-message, delivered-sending}
 use Rattle.replication.proofs.Audit.Later.{crash-next}
 
-clash : {A X : Type 0} {x : A} → _≡_ {A = Option A} none (some x) → X
-clash e = let z : _≡_ {A = ℕ} 0 1 = cc in absurd (omega arith)
-
 there-is : {A : Type 0} (o : Option A) → isThere o ≡ true → o ≡ none → ⊥
 unfolding isThere
 there-is none h e = not-both h
-there-is (some x) h e = clash (sym e)
-
-is-there : {A : Type 0} (o : Option A) (x : A) → o ≡ some x → isThere o ≡ true
-unfolding isThere
-is-there none x e = clash e
-is-there (some y) x e = refl
+there-is (some x) h e = nothing-there (sym e)
 
 not-there : {A : Type 0} (o : Option A) → isThere o ≡ false → o ≡ none
 unfolding isThere
@@ -116,7 +109,7 @@ module _ (n q : ℕ) (l : Run) (w : Witness) where
 
       go : (o : Option Row) → at rows (m .sending) ≡ o → Genuine p m (d .comes .bytes)
       go none e =
-          let nothing : it .it .sending .bytes ≡ none = ap (λ z. z .bytes) (it .sending ∙ ap (sendingIn (stamps rows) m) e) in clash (sym nothing ∙ bytes)
+          let nothing : it .it .sending .bytes ≡ none = ap (λ z. z .bytes) (it .sending ∙ ap (sendingIn (stamps rows) m) e) in nothing-there (sym nothing ∙ bytes)
       go (some r) e =
           let t = table-is n q l w (m .sending) r e in
           record {

@@ -9,6 +9,7 @@ use native.Mathlib.Omega.{arith}
 use lib.ListN.{length, drop, getD}
 use Rattle.base.specs.Tests.{_=?_, _<?_, _and_, _or_, and-holds, not-both, eq-yes, eq-holds, both-yes, lt-yes, lt-holds, Known, holds, fails, known}
 use Rattle.base.specs.Lists.{all, any, filter, isThere, at}
+use Rattle.base.specs.ListLaws.{there}
 use Rattle.base.specs.Quantifiers.{_implies_, pairs}
 use Rattle.base.specs.QuantifierLaws.{Among, implied, all-among, any-among, among-any, each-two, among-filter, filter-among, at-below}
 use Rattle.base.specs.Deciding.{decided}
@@ -29,14 +30,6 @@ use Rattle.replication.proofs.Audit.Entries.{transition-among, change-a
 use Rattle.replication.proofs.Audit.Later.{settled, leaving-among, change, passage-among}
 use Rattle.replication.proofs.Audit.Causality.{cause-known}
 use Rattle.replication.proofs.Audit.RuleFields.{Genuine, genuine-delivery}
-
-clash : {A X : Type 0} {x : A} → _≡_ {A = Option A} none (some x) → X
-clash e = let z : _≡_ {A = ℕ} 0 1 = cc in absurd (omega arith)
-
-there : {A : Type 0} (o : Option A) → isThere o ≡ true → (x : A) × (o ≡ some x)
-unfolding isThere
-there none h = not-both h
-there (some x) h = (x, refl)
 
 module _ (n q : ℕ) (l : Run) (w : Witness) where
   abbrev J : Journal

@@ -8,7 +8,7 @@ use native.Mathlib.Omega.{arith}
 use lib.ListN.{length, take, drop, getD}
 use Rattle.base.specs.Tests.{_=?_, pick, Known, holds, fails, known, eq-holds, eq-fails, eq-yes, eq-no}
 use Rattle.base.specs.Lists.{at, upd}
-use Rattle.base.specs.QuantifierLaws.{at-drop}
+use Rattle.base.specs.QuantifierLaws.{nothing-there, some-same, at-drop}
 use Rattle.replication.specs.Runs.Happenings.{Message}
 use Rattle.replication.specs.Audit.Table.{Role, delivers, takes, transits, goes-down, comes-back, neither, Row}
 use Rattle.replication.specs.Audit.Clocks.{joinClocks, raise, Stamp, Stamps, numberOf, clockAt, clockWith, learnt, stampFor, withStamp, stampsThrough, noStamps, stamps}
@@ -64,12 +64,6 @@ raise-more (suc i) v u (x ∷ xs) h zero = omega arith
 raise-more (suc i) v u (x ∷ xs) h (suc j) = raise-more i v u xs h j
 
 -- ---- the walk
-
-nothing-there : {A X : Type 0} {x : A} → _≡_ {A = Option A} none (some x) → X
-nothing-there e = let z : _≡_ {A = ℕ} 0 1 = cc in absurd (omega arith)
-
-some-same : {A : Type 0} {x y : A} → _≡_ {A = Option A} (some x) (some y) → x ≡ y
-some-same e = cc
 
 upd-here : {A : Type 0} (f : ℕ → A) (i : ℕ) (v : A) (j : ℕ) → j ≡ i → upd f i v j ≡ v
 unfolding upd pick

@@ -9,6 +9,7 @@ use mathlib.Core.Option.{Option, none, some}
 use lib.ListN.{length, getD}
 use native.Mathlib.Omega.{arith}
 use Rattle.base.specs.Tests.{pick, Known, holds, fails, known}
+use Rattle.base.specs.QuantifierLaws.{nothing-there, some-same}
 use Rattle.base.specs.Lists.{atFront, at}
 use Rattle.format.specs.Types.{Primary, Mark, State}
 use Rattle.replication.specs.Machine.Types.{Mode, Server, Outcome, taken, refused}
@@ -20,12 +21,6 @@ use Rattle.replication.specs.Runs.Claim.{IsPrimary, of-install}
 use Rattle.replication.specs.Audit.Witness.{Witness}
 use Rattle.replication.specs.Audit.Verdict.{audit, report}
 use Rattle.replication.specs.Audit.Opened.{opened as opened-audit}
-
-nothing-there : {A X : Type 0} {x : A} → _≡_ {A = Option A} none (some x) → X
-nothing-there e = let z : _≡_ {A = ℕ} 0 1 = cc in absurd (omega arith)
-
-some-same : {A : Type 0} {x y : A} → _≡_ {A = Option A} (some x) (some y) → x ≡ y
-some-same e = cc
 
 -- An entry's server, and after it that server's state, green length and last primary's index.
 pub record Shown : Type 0 where

@@ -10,7 +10,7 @@ use mathlib.Core.Option.{Option, some}
 use native.Mathlib.Omega.{arith}
 use Rattle.base.specs.Tests.{_=?_, _and_, not-both, not-holds, both-yes}
 use Rattle.base.specs.Lists.{all, same, at}
-use Rattle.base.specs.QuantifierLaws.{all-at}
+use Rattle.base.specs.QuantifierLaws.{some-same, all-at}
 use Rattle.base.specs.Deciding.{decided, numbers-decided, lists-decided}
 use Rattle.format.specs.Types.{Primary, Record, state, cpc, regular, transitional, recovery}
 use Rattle.format.specs.Write.{write}
@@ -95,9 +95,6 @@ disagree a = omega (arith, ap (λ (x : Primary). x .attempt) (a .primary (primar
 
 abbrev first : Configuration
 first = record { id = 1; set = 3 }
-
-some-same : {A : Type 0} {x y : A} → _≡_ {A = Option A} (some x) (some y) → x ≡ y
-some-same e = cc
 
 took : Takes 3 4 run 1 1 first
 unfolding opened run heardAt

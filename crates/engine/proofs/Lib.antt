@@ -1,0 +1,10 @@
+pub mod InRange
+pub mod Used
+pub mod Fit
+pub mod Again
+pub mod Slots
+pub mod Header
+pub mod Decoded
+pub mod ImageLaws
+pub mod InPlace
+pub mod Refusals

@@ -1,0 +1,45 @@
+-- A struct that the code makes of numbers that it read is the one that the definition names.
+-- Assumes nothing.
+use Prim.Native.Nat.{ℕ, _+_, _*_}
+use mathlib.Core.Path.{_≡_}
+use mathlib.Core.List.{List}
+use Rattle.base.specs.Bytes.{numberAt}
+use Rattle.record.specs.Events.{actionIn, lastIn, markIn, stateIn}
+use Rattle.record.specs.declared.LastPrimary.{LastPrimary}
+use Rattle.record.specs.declared.Mark.{Mark}
+use Rattle.record.specs.declared.events.ActionAt.{ActionAt}
+use Rattle.record.specs.declared.events.StateAt.{StateAt}
+
+pub action-made : (e : List ℕ) (at x i g m : ℕ) → x ≡ numberAt 1 e at → i ≡ numberAt 2 e (at + 1) → g ≡ numberAt 4 e (at + 3) → m ≡ numberAt 1 e (at + 7)
+    → _≡_ {A = ActionAt} (record { creator = x; index = i; «green_length» = g; «payload_at» = at + 8; «payload_length» = m }) (actionIn e at)
+unfolding actionIn
+action-made e at x i g m a b c d = rw (a, b, c, d)
+
+pub last-made : (e : List ℕ) (at i a s : ℕ) → i ≡ numberAt 4 e at → a ≡ numberAt 4 e (at + 4) → s ≡ numberAt 1 e (at + 8)
+    → _≡_ {A = LastPrimary} (record { index = record { 0 = i }; attempt = record { 0 = a }; set = s }) (lastIn e at)
+unfolding lastIn
+last-made e at i a s f g h = rw (f, g, h)
+
+pub mark-made : (e : List ℕ) (at t i a s b : ℕ) → t ≡ numberAt 1 e at → i ≡ numberAt 4 e (at + 1) → a ≡ numberAt 4 e (at + 5) → s ≡ numberAt 1 e (at + 9)
+    → b ≡ numberAt 1 e (at + 10) → _≡_ {A = Mark} (record { status = t; index = record { 0 = i }; attempt = record { 0 = a }; set = s; bits = b }) (markIn e at)
+unfolding markIn
+mark-made e at t i a s b f g h k l = rw (f, g, h, k, l)
+
+pub state-made : (e : List ℕ) (n s i g a y m : ℕ) (p : LastPrimary) (k : Mark) → s ≡ numberAt 1 e 4 → i ≡ numberAt 4 e 5 → g ≡ numberAt 4 e (9 + 2 * n)
+    → a ≡ numberAt 4 e (13 + 2 * n) → p ≡ lastIn e (17 + 2 * n) → k ≡ markIn e (26 + 2 * n) → y ≡ numberAt 1 e (37 + 2 * n) → m ≡ numberAt 2 e (38 + 2 * n)
+    → _≡_ {A = StateAt}
+    (record {
+      sender = s;
+      configuration = i;
+      «cuts_at» = 9;
+      «green_length» = g;
+      attempt = record { 0 = a };
+      last = p;
+      mark = k;
+      «yellow_status» = y;
+      «yellow_at» = 40 + 2 * n;
+      «yellow_count» = m;
+    })
+    (stateIn n e)
+unfolding stateIn
+state-made e n s i g a y m p k f₁ f₂ f₃ f₄ f₅ f₆ f₇ f₈ = rw (f₁, f₂, f₃, f₄, f₅, f₆, f₇, f₈)

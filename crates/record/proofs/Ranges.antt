@@ -1,0 +1,43 @@
+-- What each range test of the code answers.
+-- Assumes nothing.
+use Prim.Native.Nat.{ℕ, zero, suc, _*_, _^_, _%_, _≤_}
+use mathlib.Core.Path.{_≡_, refl, ap, _∙_}
+use mathlib.Core.Bool.{true}
+use native.Mathlib.Omega.{arith}
+use native.Mathlib.Nat.{mul-le-mul, pow-le-pow-right, mod-eq-of-lt}
+use lib.Bits.{bitAnd}
+use lib.Dec.{leb, ltb, eqb}
+use mir.Syntax.{w32}
+use mir.Val.{Fits}
+use Rattle.base.specs.Tests.{_≤?_, _<?_, _=?_}
+use Rattle.base.specs.Sets.{inside}
+use Rattle.base.specs.Branches.{told-le, told-lt}
+use Rattle.format.specs.Limits.{mostServers, mostQuota}
+use Rattle.format.specs.Range.{insideLast}
+use Rattle.record.specs.Context.{lastOf}
+
+-- n × q
+
+pub product-fits : (n q : ℕ) → n ≤ mostServers → q ≤ mostQuota → Fits w32 (n * q)
+product-fits n q h k = let z : n * q ≤ mostServers * mostQuota = mul-le-mul h k in record { fits = omega arith }
+
+pub length-law : (l n q p : ℕ) → p ≡ n * q → leb l p ≡ (l ≤? n * q)
+length-law l n q p h = ap (leb l) h ∙ told-le l (n * q)
+
+-- sets
+
+pub set-law : (n s : ℕ) → n ≤ mostServers → ltb s (1 * 2 ^ n % 4294967296) ≡ (s <? 2 ^ n)
+set-law n s h =
+    let a : 2 ^ n ≤ 256 = pow-le-pow-right (omega arith) h in
+    let b : 1 * 2 ^ n ≡ 2 ^ n = omega arith in
+    let c : 2 ^ n % 4294967296 ≡ 2 ^ n = mod-eq-of-lt (omega arith) in
+    rw (b, c) (told-lt s (2 ^ n))
+
+pub inside-none : (k l s : ℕ) → k ≡ 0 → true ≡ insideLast (lastOf k l) s
+unfolding insideLast lastOf
+inside-none k l s h = rw h refl
+
+pub inside-some : (k l s : ℕ) → (k ≡ 0 → ⊥) → eqb (bitAnd s l) s ≡ insideLast (lastOf k l) s
+unfolding insideLast lastOf inside _=?_
+inside-some zero l s h = absurd (h refl)
+inside-some (suc k) l s h = refl

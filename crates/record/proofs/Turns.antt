@@ -1,0 +1,136 @@
+-- A turn of each loop over a list in bytes takes one entry off the front of what is left.
+-- Assumes nothing.
+use Prim.Native.Nat.{ℕ, suc, _+_, _*_, _-_, _≤_, _<_}
+use mathlib.Core.Path.{_≡_, refl, sym, ap, _∙_}
+use mathlib.Core.Bool.{Bool, true, false, not}
+use mathlib.Core.List.{List, [], _∷_}
+use native.Mathlib.Omega.{arith}
+use lib.ListN.{getD, set, replicate}
+use borrow.Author.Tests.{not-false}
+use Rattle.base.specs.Tests.{_≤?_, _=?_, pick-yes, pick-no, and-yes, and-no, le-yes, le-no, eq-yes, eq-no, Known, known, holds, fails}
+use Rattle.base.specs.Bytes.{numberAt, numbersAt}
+use Rattle.format.specs.Types.{Id, Context as FormatContext}
+use Rattle.format.specs.Range.{cutsOk, idOk, idsOk}
+use Rattle.format.specs.Read.{idAt, idsAt}
+use Rattle.format.proofs.Ranges.{id-range}
+use Rattle.record.specs.declared.Context.{Context}
+use Rattle.record.specs.Context.{contextOf, ContextIn}
+use Rattle.record.specs.Values.{idOf, slot, placeOf}
+use Rattle.record.proofs.OnePass.{Small, met, pass, slot-lt, pass-zeros}
+
+-- the cuts
+
+numbers-more : (w : ℕ) (e : List ℕ) (at k m : ℕ) → k < m
+    → numbersAt w (m - k) e (at + w * k) ≡ numberAt w e (at + w * k) ∷ numbersAt w (m - (k + 1)) e (at + w * (k + 1))
+unfolding numbersAt
+numbers-more w e at k m h =
+    let a : m - k ≡ suc (m - (k + 1)) = omega arith in
+    let b : at + w * (k + 1) ≡ at + w * k + w = omega arith in
+    ap (λ (i : ℕ). numbersAt w i e (at + w * k)) a ∙ rw b
+
+numbers-none : (w : ℕ) (e : List ℕ) (at k m : ℕ) → m ≤ k → numbersAt w (m - k) e at ≡ []
+unfolding numbersAt
+numbers-none w e at k m h = let a : m - k ≡ 0 = omega arith in ap (λ (i : ℕ). numbersAt w i e at) a
+
+pub cuts-start : (e : List ℕ) (at m q : ℕ) → cutsOk q (numbersAt 2 m e at) ≡ cutsOk q (numbersAt 2 (m - 0) e (at + 2 * 0))
+cuts-start e at m q =
+    let a : m - 0 ≡ m = omega arith in
+    let b : at + 2 * 0 ≡ at = omega arith in
+    rw (a, b)
+
+pub cuts-high : (e : List ℕ) (at k m q x : ℕ) (w : Bool) → k < m → x ≡ numberAt 2 e (at + 2 * k) → q < x
+    → w ≡ cutsOk q (numbersAt 2 (m - k) e (at + 2 * k)) → false ≡ w
+unfolding cutsOk
+cuts-high e at k m q x w h f g j = and-no (numberAt 2 e (at + 2 * k) ≤? q) _ (le-no _ q (rw f at g)) ∙ sym (j ∙ ap (cutsOk q) (numbers-more 2 e at k m h))
+
+pub cuts-again : (e : List ℕ) (at k m q x : ℕ) (w : Bool) → k < m → x ≡ numberAt 2 e (at + 2 * k) → x ≤ q
+    → w ≡ cutsOk q (numbersAt 2 (m - k) e (at + 2 * k)) → w ≡ cutsOk q (numbersAt 2 (m - (k + 1)) e (at + 2 * (k + 1)))
+unfolding cutsOk
+cuts-again e at k m q x w h f g j =
+    j ∙ ap (cutsOk q) (numbers-more 2 e at k m h) ∙ sym (and-yes _ (numberAt 2 e (at + 2 * k) ≤? q) _ (le-yes _ q (rw f at g)) refl)
+
+pub cuts-end : (e : List ℕ) (at k m q : ℕ) (w : Bool) → m ≤ k → w ≡ cutsOk q (numbersAt 2 (m - k) e (at + 2 * k)) → true ≡ w
+unfolding cutsOk
+cuts-end e at k m q w h j = sym (j ∙ ap (cutsOk q) (numbers-none 2 e (at + 2 * k) k m h))
+
+-- the ids
+
+ids-more : (e : List ℕ) (at k m : ℕ) → k < m → idsAt (m - k) e (at + 3 * k) ≡ idAt e (at + 3 * k) ∷ idsAt (m - (k + 1)) e (at + 3 * (k + 1))
+unfolding idsAt
+ids-more e at k m h =
+    let a : m - k ≡ suc (m - (k + 1)) = omega arith in
+    let b : at + 3 * (k + 1) ≡ at + 3 * k + 3 = omega arith in
+    ap (λ (i : ℕ). idsAt i e (at + 3 * k)) a ∙ rw b
+
+ids-none : (e : List ℕ) (at k m : ℕ) → m ≤ k → idsAt (m - k) e at ≡ []
+unfolding idsAt
+ids-none e at k m h = let a : m - k ≡ 0 = omega arith in ap (λ (i : ℕ). idsAt i e at) a
+
+small : (c : Context) → ContextIn c → Small (contextOf c)
+unfolding contextOf
+small c h = record { servers = h .most; quota = h .largest }
+
+pub ids-start : (c : Context) (e : List ℕ) (at m : ℕ) → ContextIn c
+    → idsOk (contextOf c) (idsAt m e at) ≡ pass (contextOf c) (replicate {A = ℕ} 2048 0) (idsAt (m - 0) e (at + 3 * 0))
+ids-start c e at m h =
+    let a : m - 0 ≡ m = omega arith in
+    let b : at + 3 * 0 ≡ at = omega arith in
+    rw (a, b) (pass-zeros (contextOf c) (idsAt m e at) (small c h))
+
+-- An id has a place below 2048 exactly where it is in range.
+
+place-out : (c : FormatContext) (x : Id) (p : ℕ) → Small c → Known (idOk c x) → p ≡ placeOf c x → 2048 ≤ p → idOk c x ≡ false
+unfolding placeOf
+place-out c x p s (holds e) f g =
+    let a = slot-lt c x s (id-range c x e) in
+    let b : p ≡ slot x = f ∙ sym (pick-yes (idOk c x) _ _ _ e refl) in
+    absurd (omega arith)
+place-out c x p s (fails e) f g = e
+
+place-in : (c : FormatContext) (x : Id) (p : ℕ) → Known (idOk c x) → p ≡ placeOf c x → p < 2048 → (idOk c x ≡ true) × (p ≡ slot x)
+unfolding placeOf
+place-in c x p (holds e) f g = (e, f ∙ sym (pick-yes (idOk c x) _ _ _ e refl))
+place-in c x p (fails e) f g =
+    let b : p ≡ 2048 = f ∙ sym (pick-no (idOk c x) _ _ _ e refl) in
+    absurd (omega arith)
+
+pub ids-out : (c : Context) (e t : List ℕ) (at k m p : ℕ) (w : Bool) → ContextIn c → k < m
+    → p ≡ placeOf (contextOf c) (idAt e (at + 3 * k)) → 2048 ≤ p → w ≡ pass (contextOf c) t (idsAt (m - k) e (at + 3 * k)) → false ≡ w
+unfolding pass
+ids-out c e t at k m p w s h f g j =
+    let d : FormatContext = contextOf c in
+    let x : Id = idAt e (at + 3 * k) in
+    and-no (idOk d x) _ (place-out d x p (small c s) (known (idOk d x)) f g) ∙ sym (j ∙ ap (pass d t) (ids-more e at k m h))
+
+pub ids-twice : (c : FormatContext) (e t : List ℕ) (at k m p : ℕ) (w : Bool) → k < m
+    → p ≡ placeOf c (idAt e (at + 3 * k)) → p < 2048 → getD t p 0 ≡ 1 → w ≡ pass c t (idsAt (m - k) e (at + 3 * k)) → false ≡ w
+unfolding pass met
+ids-twice c e t at k m p w h f g y j =
+    let x : Id = idAt e (at + 3 * k) in
+    let z = place-in c x p (known (idOk c x)) f g in
+    let u : not (getD t (slot x) 0 =? 1) ≡ false = ap not (eq-yes _ 1 (rw (z .1) at y)) in
+    and-yes false (idOk c x) _ (z .0) (and-no (not (getD t (slot x) 0 =? 1)) _ u) ∙ sym (j ∙ ap (pass c t) (ids-more e at k m h))
+
+pub ids-again : (c : FormatContext) (e t : List ℕ) (at k m p : ℕ) (w : Bool) → k < m
+    → p ≡ placeOf c (idAt e (at + 3 * k)) → p < 2048 → (getD t p 0 ≡ 1 → ⊥) → w ≡ pass c t (idsAt (m - k) e (at + 3 * k))
+    → w ≡ pass c (set t p 1) (idsAt (m - (k + 1)) e (at + 3 * (k + 1)))
+unfolding pass met
+ids-again c e t at k m p w h f g y j =
+    let x : Id = idAt e (at + 3 * k) in
+    let z = place-in c x p (known (idOk c x)) f g in
+    let u : not (getD t (slot x) 0 =? 1) ≡ true = ap not (eq-no _ 1 (rw (z .1) at y)) in
+    j ∙ ap (pass c t) (ids-more e at k m h) ∙ sym (and-yes _ (idOk c x) _ (z .0) (and-yes _ (not (getD t (slot x) 0 =? 1)) _ u (rw (z .1))))
+
+pub ids-end : (c : FormatContext) (e t : List ℕ) (at k m : ℕ) (w : Bool) → m ≤ k → w ≡ pass c t (idsAt (m - k) e (at + 3 * k)) → true ≡ w
+unfolding pass
+ids-end c e t at k m w h j = sym (j ∙ ap (pass c t) (ids-none e (at + 3 * k) k m h))
+
+-- the place of an id
+
+pub place-low : (c : FormatContext) (creator index : ℕ) (b : Bool) → b ≡ idOk c (idOf creator index) → not b ≡ false → 1 ≤ index
+unfolding idOf
+place-low c creator index b e h = id-range c (idOf creator index) (sym e ∙ not-false b h) .least
+
+pub place-read : (c : FormatContext) (e : List ℕ) (at x y r : ℕ) → x ≡ numberAt 1 e at → y ≡ numberAt 2 e (at + 1) → r ≡ placeOf c (idOf x y) → r ≡ placeOf c (idAt e at)
+unfolding idOf idAt
+place-read c e at x y r a b h = h ∙ rw (a, b)

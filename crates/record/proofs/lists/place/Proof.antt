@@ -1,0 +1,34 @@
+use Rattle.record.proofs.Turns.{place-low}
+use Rattle.record.specs.Values.{idOf, slot, placeOf}
+use Rattle.base.specs.Branches.{answers}
+use borrow.Author.Needs.{needs}
+use Rattle.record.proofs.lists.place.Statement.{statement}
+use Rattle.record.proofs.lists.place.Tie as tie
+
+id-ok-requires : tie.Need-id-ok-requires
+id-ok-requires c κs = search needs
+
+returns : tie.Need-returns
+unfolding placeOf
+returns c = search (needs, answers)
+
+cast-result : tie.Need-cast-result
+cast-result c = search needs
+
+mul-result : tie.Need-mul-result
+mul-result c = search needs
+
+sub-result : tie.Need-sub-result
+sub-result c = search (needs, place-low)
+
+add-result : tie.Need-add-result
+add-result c = search needs
+
+returns-2 : tie.Need-returns-2
+unfolding placeOf slot idOf
+returns-2 c = search (needs, answers)
+
+pub place-spec : {M : Type 1} → statement M
+place-spec =
+    tie.close
+    (tie.spec id-ok-requires returns cast-result mul-result sub-result add-result returns-2)

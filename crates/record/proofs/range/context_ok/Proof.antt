@@ -1,0 +1,21 @@
+use Rattle.record.specs.Context.{contextOf}
+use Rattle.format.specs.Range.{contextOk}
+use Rattle.base.specs.Branches.{told}
+use Rattle.base.specs.Branches.{answers}
+use borrow.Author.Needs.{needs}
+use Rattle.record.proofs.range.context_ok.Statement.{statement}
+use Rattle.record.proofs.range.context_ok.Tie as tie
+
+sizes-ok-requires : tie.Need-sizes-ok-requires
+sizes-ok-requires c κs = search needs
+
+returns : tie.Need-returns
+unfolding contextOk contextOf
+returns c = search (needs, answers, told)
+
+returns-2 : tie.Need-returns-2
+unfolding contextOk contextOf
+returns-2 c = search (needs, answers, told)
+
+pub context-ok-spec : {M : Type 1} → statement M
+context-ok-spec = tie.close (tie.spec sizes-ok-requires returns returns-2)

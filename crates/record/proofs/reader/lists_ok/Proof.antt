@@ -1,0 +1,27 @@
+use Rattle.record.specs.Reading.{listsOk}
+use Rattle.record.specs.Events.{stateOf}
+use Rattle.record.specs.Context.{contextOf}
+use Rattle.base.specs.Branches.{answers}
+use borrow.Author.Needs.{needs}
+use Rattle.record.proofs.reader.lists_ok.Statement.{statement}
+use Rattle.record.proofs.reader.lists_ok.Tie as tie
+
+cast-n : tie.Need-cast-n
+cast-n c = search needs
+
+cuts-ok-requires : tie.Need-cuts-ok-requires
+cuts-ok-requires c κs = search needs
+
+returns : tie.Need-returns
+unfolding listsOk stateOf contextOf
+returns c = search (needs, answers)
+
+ids-ok-requires : tie.Need-ids-ok-requires
+ids-ok-requires c κs = search needs
+
+returns-2 : tie.Need-returns-2
+unfolding listsOk stateOf contextOf
+returns-2 c = search (needs, answers)
+
+pub lists-ok-spec : {M : Type 1} → statement M
+lists-ok-spec = tie.close (tie.spec cast-n cuts-ok-requires returns ids-ok-requires returns-2)

@@ -1,0 +1,141 @@
+// Which numbers, sets and lists are in range: document 01, 'Records', second paragraph.
+ghost use mathlib.Core.Path.{_≡_};
+ghost use Prim.Native.Nat.{_*_, _≤_};
+ghost use Rattle.format.specs.Limits.{mostServers, mostQuota};
+ghost use Rattle.format.specs.Range.{sizesOk, contextOk, idOk, lengthOk, indexOk, setOk, statusOk, primaryOk, markOk, ownSetOk, insideLast};
+ghost use Rattle.record.specs.Context.{contextOf, lastOf, ContextIn};
+ghost use Rattle.record.specs.Values.{idOf, primaryOf, markOf};
+use crate::Context;
+use crate::LastPrimary;
+use crate::Mark;
+use crate::State;
+
+// "Servers: 2 to 8 .. Quota q: 1 to 256"
+pub fn sizes_ok(servers: u8, quota: u16) -> bool
+    ensures { λ r. ⌜ r ≡ sizesOk servers quota ⌝ }
+{
+    if servers < State::FEWEST_SERVERS {
+        return false;
+    }
+    if State::MOST_SERVERS < servers {
+        return false;
+    }
+    if quota < State::LEAST_QUOTA {
+        return false;
+    }
+    quota <= State::MOST_QUOTA
+}
+
+pub fn context_ok(c: Context) -> bool
+    ensures { λ r. ⌜ r ≡ contextOk (contextOf c) ⌝ }
+{
+    if !sizes_ok(c.servers, c.quota) {
+        return false;
+    }
+    c.me < c.servers
+}
+
+// "Indexes of actions run 1 to q"
+pub fn id_ok(c: Context, creator: u8, index: u16) -> bool
+    ensures { λ r. ⌜ r ≡ idOk (contextOf c) (idOf creator index) ⌝ }
+{
+    if c.servers <= creator {
+        return false;
+    }
+    if index < 1 {
+        return false;
+    }
+    index <= c.quota
+}
+
+fn product(servers: u8, quota: u16) -> u32
+    requires { ⌜ (servers ≤ mostServers) × (quota ≤ mostQuota) ⌝ }
+    ensures { λ r. ⌜ r ≡ servers * quota ⌝ }
+{
+    servers as u32 * quota as u32
+}
+
+// "positions and green lengths 0 to n × q"
+pub fn length_ok(c: Context, length: u32) -> bool
+    requires { ⌜ ContextIn c ⌝ }
+    ensures { λ r. ⌜ r ≡ lengthOk (contextOf c) length ⌝ }
+{
+    length <= product(c.servers, c.quota)
+}
+
+// "Primary and attempt indexes run 0 to 4,000,000,000."
+pub fn index_ok(i: u32) -> bool
+    ensures { λ r. ⌜ r ≡ indexOk i ⌝ }
+{
+    i <= State::MOST_INDEX
+}
+
+// "A status is 0 or 1."
+pub fn status_ok(s: u8) -> bool
+    ensures { λ r. ⌜ r ≡ statusOk s ⌝ }
+{
+    s <= 1
+}
+
+// Only bits of servers that there are.
+pub fn set_ok(c: Context, s: u8) -> bool
+    requires { ⌜ ContextIn c ⌝ }
+    ensures { λ r. ⌜ r ≡ setOk (contextOf c) s ⌝ }
+{
+    let all: u32 = 1 << c.servers;
+    (s as u32) < all
+}
+
+pub fn primary_ok(c: Context, p: LastPrimary) -> bool
+    requires { ⌜ ContextIn c ⌝ }
+    ensures { λ r. ⌜ r ≡ primaryOk (contextOf c) (primaryOf p) ⌝ }
+{
+    if !index_ok(p.index.0) {
+        return false;
+    }
+    if !index_ok(p.attempt.0) {
+        return false;
+    }
+    set_ok(c, p.set)
+}
+
+pub fn mark_ok(c: Context, m: Mark) -> bool
+    requires { ⌜ ContextIn c ⌝ }
+    ensures { λ r. ⌜ r ≡ markOk (contextOf c) (markOf m) ⌝ }
+{
+    if !status_ok(m.status) {
+        return false;
+    }
+    if !index_ok(m.index.0) {
+        return false;
+    }
+    if !index_ok(m.attempt.0) {
+        return false;
+    }
+    if !set_ok(c, m.set) {
+        return false;
+    }
+    set_ok(c, m.bits)
+}
+
+// "A regular set holds the server itself"
+pub fn own_set_ok(c: Context, s: u8) -> bool
+    requires { ⌜ ContextIn c ⌝ }
+    ensures { λ r. ⌜ r ≡ ownSetOk (contextOf c) s ⌝ }
+{
+    if !set_ok(c, s) {
+        return false;
+    }
+    let me = c.me;
+    (s >> me) % 2 == 1
+}
+
+// "lies inside the last regular one, if any"
+pub fn inside_last(c: Context, s: u8) -> bool
+    ensures { λ r. ⌜ r ≡ insideLast (lastOf (c .configured) (c .set)) s ⌝ }
+{
+    if c.configured == 0 {
+        return true;
+    }
+    s & c.set == s
+}

@@ -1,0 +1,166 @@
+// The reader: what an event's bytes say to a server, or the number that they are refused with.
+ghost use mathlib.Core.Path.{_≡_};
+ghost use mathlib.Core.List.{List};
+ghost use Prim.Native.Nat.{ℕ};
+ghost use Rattle.base.specs.Bytes.{Bytes};
+ghost use Rattle.format.specs.Read.{read as readOf};
+ghost use Rattle.format.specs.Range.{actionOk, stateOk, fieldsOk};
+ghost use Rattle.format.specs.Types.{retransmission, transitional};
+ghost use Rattle.record.specs.Context.{contextOf, ContextIn};
+ghost use Rattle.record.specs.Events.{actionOf, stateOf, recordOf, PayloadInside, ListsInside};
+ghost use Rattle.record.specs.Reading.{Readable, numbersOk, listsOk, meaning, placed};
+use crate::Context;
+use crate::State;
+use crate::events::ActionAt;
+use crate::events::Event;
+use crate::events::StateAt;
+use crate::frame::Framed;
+use crate::frame::framed_event;
+use crate::lists::cuts_ok;
+use crate::lists::ids_ok;
+use crate::range::context_ok;
+use crate::range::id_ok;
+use crate::range::index_ok;
+use crate::range::inside_last;
+use crate::range::length_ok;
+use crate::range::mark_ok;
+use crate::range::own_set_ok;
+use crate::range::primary_ok;
+use crate::range::status_ok;
+
+// The event, or the number that it is refused with.
+pub enum Reading {
+    Good(Event),
+    Refused(u8),
+}
+
+fn action_ok(c: Context, a: ActionAt) -> bool
+    requires { ⌜ ContextIn c ⌝ }
+    ensures { λ r. ⌜ ((e : List ℕ) → Bytes e → PayloadInside a e → r ≡ actionOk (contextOf c) (actionOf a e)) ⌝ }
+{
+    if !id_ok(c, a.creator, a.index) {
+        return false;
+    }
+    if !length_ok(c, a.green_length) {
+        return false;
+    }
+    a.payload_length <= State::MOST_PAYLOAD
+}
+
+fn retransmission_ok(c: Context, sender: u8, position: u32, action: ActionAt) -> bool
+    requires { ⌜ ContextIn c ⌝ }
+    ensures { λ r. ⌜ ((e : List ℕ) → Bytes e → PayloadInside action e → r ≡ fieldsOk (contextOf c) (retransmission sender position (actionOf action e))) ⌝ }
+{
+    if c.servers <= sender {
+        return false;
+    }
+    if !length_ok(c, position) {
+        return false;
+    }
+    action_ok(c, action)
+}
+
+fn transitional_ok(c: Context, set: u8) -> bool
+    requires { ⌜ ContextIn c ⌝ }
+    ensures { λ r. ⌜ r ≡ fieldsOk (contextOf c) (transitional set) ⌝ }
+{
+    if !own_set_ok(c, set) {
+        return false;
+    }
+    inside_last(c, set)
+}
+
+fn lists_ok(c: Context, s: StateAt, e: &[u8]) -> bool
+    requires { ⌜ ContextIn c × ListsInside (c .servers) s (now e) ⌝ }
+    ensures { λ r. ⌜ r ≡ listsOk (contextOf c) (stateOf (c .servers) s (now (e .entry))) ⌝ }
+{
+    let cuts_at = s.cuts_at;
+    let n = c.servers as usize;
+    if !cuts_ok(e, cuts_at, n, c.quota) {
+        return false;
+    }
+    let yellow_at = s.yellow_at;
+    ids_ok(c, e, yellow_at, s.yellow_count)
+}
+
+fn numbers_ok(c: Context, s: StateAt) -> bool
+    requires { ⌜ ContextIn c ⌝ }
+    ensures { λ r. ⌜ ((e : List ℕ) → r ≡ numbersOk (contextOf c) (stateOf (c .servers) s e)) ⌝ }
+{
+    if c.servers <= s.sender {
+        return false;
+    }
+    if !length_ok(c, s.green_length) {
+        return false;
+    }
+    if !index_ok(s.attempt.0) {
+        return false;
+    }
+    let last = s.last;
+    if !primary_ok(c, last) {
+        return false;
+    }
+    let mark = s.mark;
+    if !mark_ok(c, mark) {
+        return false;
+    }
+    status_ok(s.yellow_status)
+}
+
+fn state_ok(c: Context, s: StateAt, e: &[u8]) -> bool
+    requires { ⌜ ContextIn c × ListsInside (c .servers) s (now e) ⌝ }
+    ensures { λ r. ⌜ r ≡ stateOk (contextOf c) (stateOf (c .servers) s (now (e .entry))) ⌝ }
+{
+    if !numbers_ok(c, s) {
+        return false;
+    }
+    lists_ok(c, s, e)
+}
+
+// Whether the numbers, sets and lists of an event are in range.
+fn event_ok(c: Context, v: Event, e: &[u8]) -> bool
+    requires { ⌜ Readable c v (now e) ⌝ }
+    ensures { λ r. ⌜ r ≡ fieldsOk (contextOf c) (recordOf (c .servers) v (now (e .entry))) ⌝ }
+{
+    match v {
+        Event::Action(action) => action_ok(c, action),
+        Event::Retransmission {
+            sender,
+            position,
+            action,
+        } => retransmission_ok(c, sender, position, action),
+        Event::State(s) => state_ok(c, s, e),
+        Event::Cpc {
+            sender,
+            configuration: _,
+        } => sender < c.servers,
+        Event::Regular {
+            configuration: _,
+            set,
+        } => own_set_ok(c, set),
+        Event::Transitional { set } => transitional_ok(c, set),
+        Event::Request {
+            payload_at: _,
+            payload_length,
+        } => payload_length <= State::MOST_PAYLOAD,
+        Event::Recovery => true,
+    }
+}
+
+// What an event's bytes say to a server with this context: "bad length, version or kind" first, then ranges.
+pub fn read(c: Context, e: &[u8]) -> Reading
+    ensures { λ r. ⌜ meaning (c .servers) r (now (e .entry)) ≡ readOf (contextOf c) (now (e .entry)) ⌝ }
+    ensures { λ r. ⌜ placed c r (now (e .entry)) ⌝ }
+{
+    let f = framed_event(e, c.servers);
+    let Framed::Good(v) = f else {
+        return Reading::Refused(1);
+    };
+    if !context_ok(c) {
+        return Reading::Refused(2);
+    }
+    if !event_ok(c, v, e) {
+        return Reading::Refused(2);
+    }
+    Reading::Good(v)
+}

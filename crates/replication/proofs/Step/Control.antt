@@ -1,0 +1,74 @@
+-- The control part (last primary, attempt, mark, numbered) changes only in events that store, so memory and store agree on it.
+use Prim.Native.Nat.{ℕ}
+use mathlib.Core.Path.{_≡_, refl, ap, _∙_}
+use mathlib.Core.Bool.{false}
+use mathlib.Core.List.{List}
+use Rattle.base.specs.Tests.{pick, Known, holds, fails, known}
+use Rattle.format.specs.Types.{Action, Record}
+use Rattle.replication.specs.Machine.Types.{Server, taken}
+use Rattle.replication.specs.Machine.Colours.{isNext, enter, joinYellow, yellow}
+use Rattle.replication.specs.Machine.Requests.{hold}
+use Rattle.replication.specs.Machine.Step.{withState, resending, oneMore, exchanged, withCpc, leave, greenAndNote, step}
+use Rattle.replication.specs.Images.{started, lived}
+use Rattle.replication.specs.Laws.Transitions as L
+use Rattle.replication.specs.Laws.Transitions.{Transition}
+use Rattle.replication.specs.Laws.Order.{SameControl}
+use Rattle.replication.proofs.Step.Inversion.{taken-by}
+use Rattle.replication.proofs.Step.Moves.{moved}
+use Rattle.replication.proofs.Step.Numbered.{numbered-red, numbered-green, numbered-placed}
+use Rattle.replication.proofs.Step.Lifts.{lived-pair}
+
+-- ---- one event
+
+same : {s t : Server} → t .votes ≡ s .votes → t .log .numbered ≡ s .log .numbered → SameControl s t
+same p q = record { last = ap (λ v. v .last) p; attempt = ap (λ v. v .attempt) p; mark = ap (λ v. v .mark) p; numbered = q }
+
+pub control-refl : (s : Server) → SameControl s s
+control-refl s = same refl refl
+
+pub control-trans : {s t u : Server} → SameControl s t → SameControl t u → SameControl s u
+control-trans p q = record { last = q .last ∙ p .last; attempt = q .attempt ∙ p .attempt; mark = q .mark ∙ p .mark; numbered = q .numbered ∙ p .numbered }
+
+pub control-yellow : (a : Action) (s : Server) → SameControl s (yellow a s)
+unfolding yellow pick joinYellow enter
+control-yellow a s = go (known (isNext (s .log) a))
+  where
+    go : Known (isNext (s .log) a) → SameControl s (yellow a s)
+    go (holds e) = record { last = rw (e, pick); attempt = rw (e, pick); mark = rw (e, pick); numbered = rw (e, pick) }
+    go (fails e) = record { last = rw (e, pick); attempt = rw (e, pick); mark = rw (e, pick); numbered = rw (e, pick) }
+
+pub yellow-membership : (a : Action) (s : Server) → (yellow a s) .membership ≡ s .membership
+unfolding yellow pick
+yellow-membership a s = go (known (isNext (s .log) a))
+  where
+    go : Known (isNext (s .log) a) → (yellow a s) .membership ≡ s .membership
+    go (holds e) = rw (e, pick)
+    go (fails e) = rw (e, pick)
+
+pub unstored-keeps : {s : Server} {r : Record} {t : Server} {rs : List Record} → Transition s r t rs false → SameControl s t
+unfolding greenAndNote exchanged oneMore withState resending withCpc leave hold
+unstored-keeps {s} (L.ignoresState x e) = control-refl s
+unstored-keeps {s} (L.ignoresCpc k i e) = control-refl s
+unstored-keeps {s} (L.reddens a e) = same refl (numbered-red a (s .log))
+unstored-keeps {s} (L.reddensResent k i a e) = same refl (numbered-red a (s .log))
+unstored-keeps {s} (L.reddensInExchange a e) = same refl (numbered-red a (s .log))
+unstored-keeps {s} (L.greens a e) = same refl (numbered-green a (s .log))
+unstored-keeps {s} (L.yellows a e) = control-yellow a s
+unstored-keeps {s} (L.exchanges k i a e c) = same refl (numbered-placed i a (s .log))
+unstored-keeps {s} (L.collects x e c) = same refl refl
+unstored-keeps {s} (L.collectsLast x e c d) = same refl refl
+unstored-keeps {s} (L.counts k i e c) = same refl refl
+unstored-keeps {s} (L.countsLate k i e c) = same refl refl
+unstored-keeps {s} (L.countsAllLate k i e c) = same refl refl
+unstored-keeps {s} (L.leaves m n x e q) = same refl refl
+unstored-keeps {s} (L.holds q c) = same refl refl
+
+-- An event that does not store leaves the control part.
+pub unstored-control : (s : Server) (e : List ℕ) (t : Server) (bs : List (List ℕ)) (g : List Action) → step s e ≡ taken t bs false g → SameControl s t
+unstored-control s e t bs g h = unstored-keeps (moved (taken-by s e t bs false g h) .0)
+
+-- ---- over a run
+
+pub control-stored : (s : Server) (es : List (List ℕ)) → SameControl ((lived (started s) es) .store) ((lived (started s) es) .memory)
+unfolding started
+control-stored s es = lived-pair SameControl control-refl (λ u v e t bs g h p. control-trans p (unstored-control v e t bs g h)) (started s) es (control-refl s)

@@ -1,0 +1,73 @@
+-- In a taken event no green list, cut or number of numbered actions falls.
+use Prim.Native.Nat.{ℕ, _+_}
+use mathlib.Core.Path.{_≡_}
+use mathlib.Core.Bool.{Bool, true}
+use mathlib.Core.List.{List, [], _∷_, _++_}
+use mathlib.Core.Option.{some}
+use native.Mathlib.Omega.{arith}
+use Rattle.base.specs.Tests.{eq-holds}
+use Rattle.base.specs.Prefixes.{begins-refl, begins-trans, begins-more, begins-gained, set-rises}
+use Rattle.format.specs.Types.{Id, Action, Record}
+use Rattle.replication.specs.Machine.Types.{Log, Server, taken}
+use Rattle.replication.specs.Images.{started, lived}
+use Rattle.replication.specs.Machine.Colours.{find, cut, nextIndex, isNext, enter, promote}
+use Rattle.replication.specs.Machine.Step.{greened, step}
+use Rattle.replication.specs.Laws.Transitions.{Transition}
+use Rattle.replication.specs.Laws.Order.{Grows}
+use Rattle.replication.proofs.Step.Inversion.{taken-by}
+use Rattle.replication.proofs.Step.Moves.{moved}
+use Rattle.replication.proofs.Step.Logs.{withOwn, on-transition}
+use Rattle.replication.proofs.Step.Lifts as Lift
+use Rattle.replication.specs.Laws.Images.{next}
+
+-- An entered action has the index after its creator's cut.
+pub next-index : (l : Log) (a : Action) → isNext l a ≡ true → a .id .index ≡ cut l (a .id .creator) + 1
+unfolding isNext nextIndex
+next-index l a e = eq-holds (a .id .index) (cut l (a .id .creator) + 1) e
+
+pub grows-refl : (l : Log) → Grows l l
+grows-refl l = record { greens = begins-refl (l .green); cuts = λ c. omega arith; numbers = omega arith }
+
+pub grows-trans : {l m n : Log} → Grows l m → Grows m n → Grows l n
+grows-trans p q = record { greens = begins-trans _ _ _ (p .greens) (q .greens); cuts = λ c. omega (arith, p .cuts c, q .cuts c); numbers = omega (arith, p .numbers, q .numbers) }
+
+grows-enter : (l : Log) (a : Action) (m : Log) → isNext m a ≡ true → Grows l m → Grows l (enter a m)
+unfolding enter cut
+grows-enter l a m e p = record {
+  greens = p .greens;
+  cuts = λ c. omega (arith, p .cuts c, set-rises (m .cuts) (a .id .creator) (a .id .index) c (omega (arith, next-index m a e)));
+  numbers = p .numbers;
+}
+
+grows-promote : (l : Log) (d : Id) (x : Action) (m : Log) → find d (m .red) ≡ some x → Grows l m → Grows l (promote x m)
+unfolding promote cut
+grows-promote l d x m e p = record { greens = begins-more _ _ (x ∷ []) (p .greens); cuts = p .cuts; numbers = p .numbers }
+
+grows-own : (l : Log) (more : List Action) (k : ℕ) (m : Log) → Grows l m → Grows l (withOwn more k m)
+unfolding withOwn cut
+grows-own l more k m p = record { greens = p .greens; cuts = p .cuts; numbers = omega (arith, p .numbers) }
+
+pub transition-grows : {s : Server} {r : Record} {t : Server} {rs : List Record} {b : Bool} → Transition s r t rs b → Grows (s .log) (t .log)
+transition-grows {s} {r} {t} {rs} {b} x =
+    on-transition (Grows (s .log)) (grows-enter (s .log)) (grows-promote (s .log)) (grows-own (s .log)) s r t rs b x (grows-refl (s .log))
+
+pub taken-grows : (s : Server) (e : List ℕ) (t : Server) (bs : List (List ℕ)) (b : Bool) (g : List Action) → step s e ≡ taken t bs b g → Grows (s .log) (t .log)
+taken-grows s e t bs b g h = transition-grows (moved (taken-by s e t bs b g h) .0)
+
+-- The green list grows by exactly the actions that the outcome names.
+pub green-gained : (s : Server) (e : List ℕ) (t : Server) (bs : List (List ℕ)) (b : Bool) (g : List Action)
+    → step s e ≡ taken t bs b g → t .log .green ≡ s .log .green ++ g
+unfolding greened
+green-gained s e t bs b g h =
+    let m = moved (taken-by s e t bs b g h) in
+    rw (m .1) (begins-gained _ _ (transition-grows (m .0) .greens))
+
+-- ---- over a run
+
+-- The store's log is one that the memory's has grown from.
+pub store-begins : (s : Server) (es : List (List ℕ)) → Grows ((lived (started s) es) .store .log) ((lived (started s) es) .memory .log)
+store-begins = Lift.lived-rises (λ s t. Grows (s .log) (t .log)) (λ s. grows-refl (s .log)) (λ s t u p q. grows-trans p q) taken-grows
+
+-- From one event to the next the store's log only grows.
+pub store-grows : (s : Server) (es : List (List ℕ)) (e : List ℕ) → Grows ((lived (started s) es) .store .log) ((next (lived (started s) es) e) .store .log)
+store-grows = Lift.store-rises (λ s t. Grows (s .log) (t .log)) (λ s. grows-refl (s .log)) (λ s t u p q. grows-trans p q) taken-grows

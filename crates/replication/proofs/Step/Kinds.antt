@@ -1,0 +1,81 @@
+-- Which records a taken event puts out, kind by kind.
+use Prim.Native.Nat.{ℕ, _≤_}
+use mathlib.Core.Path.{_≡_, refl, sym, ap}
+use mathlib.Core.Bool.{Bool}
+use mathlib.Core.List.{List, [], _∷_, map, List·Memᴰ, List·Memᴰ·not-nil, List·Memᴰ·eq-of-singleton, Memᴰ·of-map}
+use native.Mathlib.Omega.{arith}
+use Rattle.format.specs.Types.{Action, State, Record, action, retransmission, state, cpc, kindNumber, kindOf}
+use Rattle.replication.specs.Machine.Types.{Log, Server}
+use Rattle.replication.specs.Machine.Step.{collected}
+use Rattle.replication.specs.Laws.Sending as P
+use Rattle.replication.specs.Laws.Sending.{made, PutsOut, Resent}
+use Rattle.replication.specs.Laws.Kinds.{StateSent, PartSent, CpcSent}
+use Rattle.replication.proofs.Step.Parts.{part-resent}
+
+-- Records of different kinds differ.
+other-kind : {X : Type 0} (x y : Record) → x ≡ y → (kindNumber (kindOf x) ≡ kindNumber (kindOf y) → ⊥) → X
+other-kind x y e n = absurd (n (ap (λ r. kindNumber (kindOf r)) e))
+
+not-made : {X : Type 0} (s t : Server) (ps : List (List ℕ)) (x : Record) → List·Memᴰ x (map action (made s t ps)) → (kindNumber (kindOf x) ≡ 1 → ⊥) → X
+unfolding kindNumber kindOf
+not-made s t ps x m n = let k = Memᴰ·of-map action (made s t ps) m in other-kind x (action (k .0)) (sym (k .2)) n
+
+made-kind : (s t : Server) (ps : List (List ℕ)) (x : Record) → List·Memᴰ x (map action (made s t ps)) → kindNumber (kindOf x) ≤ 4
+unfolding kindNumber kindOf
+made-kind s t ps x m = let k = Memᴰ·of-map action (made s t ps) m in rw (← k .2) (omega arith)
+
+resent-kind : (me : ℕ) (l : Log) (xs : List State) (x : Record) → Resent me l xs x → kindNumber (kindOf x) ≡ 2
+unfolding kindNumber kindOf
+resent-kind me l xs x (P.asGreen p a m f e) = rw e
+resent-kind me l xs x (P.asRed c i a m f e) = rw e
+
+not-resent : {X : Type 0} (t : Server) (x : Record) → Resent (t .me) (t .log) (collected t) x → (kindNumber (kindOf x) ≡ 2 → ⊥) → X
+not-resent t x p n = absurd (n (resent-kind (t .me) (t .log) (collected t) x p))
+
+module _ {s : Server} {r : Record} {t : Server} where
+  pub state-sent : {rs : List Record} {b : Bool} → PutsOut s r t rs b → (x : State) → List·Memᴰ (state x) rs → StateSent r t rs b x
+  unfolding kindNumber kindOf
+  state-sent (P.nothing b n) x m = absurd (List·Memᴰ·not-nil m)
+  state-sent (P.stateOnEntry c e f g n) x m =
+      let h = List·Memᴰ·eq-of-singleton m in
+      record { entered = c; brought = e; there = g; to = f; says = cc; alone = ap (λ y. y ∷ []) (sym h); stored = refl }
+  state-sent (P.partOfPlan y e f g h i n) x m = not-resent t (state x) (part-resent (t .me) (t .log) (collected t) (state x) (t .servers) m) (λ z. omega arith)
+  state-sent (P.cpcOnAttempt e q f n) x m = other-kind (state x) _ (List·Memᴰ·eq-of-singleton m) (λ z. omega arith)
+  state-sent (P.requestAtOnce p e f g n) x m = not-made s t (p ∷ []) (state x) m (λ z. omega arith)
+  state-sent (P.heldAfterExchange e q f n) x m = not-made s t (s .held) (state x) m (λ z. omega arith)
+  state-sent (P.heldAfterInstall k i e f g h n) x m = not-made s t (s .held) (state x) m (λ z. omega arith)
+
+  pub part-sent : {rs : List Record} {b : Bool} → PutsOut s r t rs b → (k p : ℕ) (a : Action) → List·Memᴰ (retransmission k p a) rs
+      → PartSent s r t rs b (retransmission k p a)
+  unfolding kindNumber kindOf
+  part-sent (P.nothing b n) k p a m = absurd (List·Memᴰ·not-nil m)
+  part-sent (P.stateOnEntry c e f g n) k p a m = other-kind (retransmission k p a) _ (List·Memᴰ·eq-of-singleton m) (λ z. omega arith)
+  part-sent (P.partOfPlan y e f g h i n) k p a m =
+      record { last = y; brought = e; from = f; to = g; complete = h; whole = refl; planned = part-resent (t .me) (t .log) (collected t) _ (t .servers) m; unstored = refl }
+  part-sent (P.cpcOnAttempt e q f n) k p a m = other-kind (retransmission k p a) _ (List·Memᴰ·eq-of-singleton m) (λ z. omega arith)
+  part-sent (P.requestAtOnce q e f g n) k p a m = not-made s t (q ∷ []) (retransmission k p a) m (λ z. omega arith)
+  part-sent (P.heldAfterExchange e q f n) k p a m = not-made s t (s .held) (retransmission k p a) m (λ z. omega arith)
+  part-sent (P.heldAfterInstall j i e f g h n) k p a m = not-made s t (s .held) (retransmission k p a) m (λ z. omega arith)
+
+  pub cpc-sent : {rs : List Record} {b : Bool} → PutsOut s r t rs b → (k i : ℕ) → List·Memᴰ (cpc k i) rs → CpcSent s r t rs b k i
+  unfolding kindNumber kindOf
+  cpc-sent (P.nothing b n) k i m = absurd (List·Memᴰ·not-nil m)
+  cpc-sent (P.stateOnEntry c e f g n) k i m = other-kind (cpc k i) _ (List·Memᴰ·eq-of-singleton m) (λ z. omega arith)
+  cpc-sent (P.partOfPlan y e f g h j n) k i m = not-resent t (cpc k i) (part-resent (t .me) (t .log) (collected t) (cpc k i) (t .servers) m) (λ z. omega arith)
+  cpc-sent (P.cpcOnAttempt e q f n) k i m =
+      let h = List·Memᴰ·eq-of-singleton m in
+      record { ended = e; agreed = q; to = f; sender = cc; configuration = cc; alone = ap (λ y. y ∷ []) (sym h); stored = refl }
+  cpc-sent (P.requestAtOnce p e f g n) k i m = not-made s t (p ∷ []) (cpc k i) m (λ z. omega arith)
+  cpc-sent (P.heldAfterExchange e q f n) k i m = not-made s t (s .held) (cpc k i) m (λ z. omega arith)
+  cpc-sent (P.heldAfterInstall j l e f g h n) k i m = not-made s t (s .held) (cpc k i) m (λ z. omega arith)
+
+  -- Only records of the kinds 1 to 4 are put out.
+  pub sent-kinds : {rs : List Record} {b : Bool} → PutsOut s r t rs b → (x : Record) → List·Memᴰ x rs → kindNumber (kindOf x) ≤ 4
+  unfolding kindNumber kindOf
+  sent-kinds (P.nothing b n) x m = absurd (List·Memᴰ·not-nil m)
+  sent-kinds (P.stateOnEntry c e f g n) x m = rw (List·Memᴰ·eq-of-singleton m) (omega arith)
+  sent-kinds (P.partOfPlan y e f g h i n) x m = omega (arith, resent-kind (t .me) (t .log) (collected t) x (part-resent (t .me) (t .log) (collected t) x (t .servers) m))
+  sent-kinds (P.cpcOnAttempt e q f n) x m = rw (List·Memᴰ·eq-of-singleton m) (omega arith)
+  sent-kinds (P.requestAtOnce p e f g n) x m = made-kind s t (p ∷ []) x m
+  sent-kinds (P.heldAfterExchange e q f n) x m = made-kind s t (s .held) x m
+  sent-kinds (P.heldAfterInstall k i e f g h n) x m = made-kind s t (s .held) x m

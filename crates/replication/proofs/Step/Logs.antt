@@ -1,0 +1,123 @@
+-- What every transition keeps of a log, once for all facts that entering, greening and numbering keep.
+use Prim.Native.Nat.{ℕ, _+_}
+use mathlib.Core.Path.{_≡_, refl}
+use mathlib.Core.Bool.{Bool, true, false}
+use mathlib.Core.List.{List, [], _∷_, _++_}
+use mathlib.Core.Option.{Option, none, some}
+use lib.ListN.{length}
+use Rattle.base.specs.Tests.{pick, Known, holds, fails, known}
+use Rattle.format.specs.Types.{Id, Action, Record}
+use Rattle.replication.specs.Machine.Types.{Log, Server}
+use Rattle.replication.specs.Machine.Colours.{find, isNext, enter, red, reds, promote, promoteFound, greenId, greenIds, green, yellow}
+use Rattle.replication.specs.Machine.Install.{installLog, install}
+use Rattle.replication.specs.Machine.Requests.{numbered, madeOf, hold, sendHeld, recovered}
+use Rattle.replication.specs.Machine.Step.{entering, decided, attempting, withState, resending, placed, oneMore, exchanged, withCpc, leave, greenAndNote}
+use Rattle.replication.specs.Laws.Transitions as L
+use Rattle.replication.specs.Laws.Transitions.{Ends, Transition}
+
+-- ---- what each colour does to a log
+
+pub red-entered : (a : Action) (l : Log) → isNext l a ≡ true → red a l ≡ enter a l
+unfolding red pick
+red-entered a l e = rw e
+
+pub red-ignored : (a : Action) (l : Log) → isNext l a ≡ false → red a l ≡ l
+unfolding red pick
+red-ignored a l e = rw e
+
+-- The log of a server that colours an action yellow is as if red.
+pub yellow-log : (a : Action) (s : Server) → (yellow a s) .log ≡ red a (s .log)
+unfolding yellow red pick
+yellow-log a s = go (known (isNext (s .log) a))
+  where
+    go : Known (isNext (s .log) a) → (yellow a s) .log ≡ red a (s .log)
+    go (holds e) = rw (e, pick)
+    go (fails e) = rw (e, pick)
+
+-- The log with more actions on the own list, and that many more numbered.
+unfoldable pub withOwn : List Action → ℕ → Log → Log
+withOwn more k l = record { green = l .green; red = l .red; cuts = l .cuts; own = l .own ++ more; numbered = l .numbered + k }
+
+module _ (P : Log → Type 0)
+    (on-enter : (a : Action) (l : Log) → isNext l a ≡ true → P l → P (enter a l))
+    (on-promote : (d : Id) (x : Action) (l : Log) → find d (l .red) ≡ some x → P l → P (promote x l))
+  where
+    pub on-red : (a : Action) (l : Log) → P l → P (red a l)
+    on-red a l p = go (known (isNext l a))
+      where
+        go : Known (isNext l a) → P (red a l)
+        go (holds e) = rw (red-entered a l e) (on-enter a l e p)
+        go (fails e) = rw (red-ignored a l e) p
+
+    pub on-reds : (more : List Action) (l : Log) → P l → P (reds more l)
+    unfolding reds
+    on-reds [] l p = p
+    on-reds (a ∷ more) l p = on-reds more (red a l) (on-red a l p)
+
+    pub on-greenId : (d : Id) (l : Log) → P l → P (greenId d l)
+    unfolding greenId promoteFound
+    on-greenId d l p = go (find d (l .red)) refl
+      where
+        go : (x : Option Action) → find d (l .red) ≡ x → P (promoteFound x l)
+        go none e = p
+        go (some x) e = on-promote d x l e p
+
+    pub on-greenIds : (ds : List Id) (l : Log) → P l → P (greenIds ds l)
+    unfolding greenIds
+    on-greenIds [] l p = p
+    on-greenIds (d ∷ ds) l p = on-greenIds ds (greenId d l) (on-greenId d l p)
+
+    pub on-green : (a : Action) (l : Log) → P l → P (green a l)
+    unfolding green
+    on-green a l p = on-greenId (a .id) (red a l) (on-red a l p)
+
+    pub on-install : (ds : List Id) (l : Log) → P l → P (installLog ds l)
+    unfolding installLog
+    on-install ds l p = on-greenIds _ (greenIds ds l) (on-greenIds ds l p)
+
+    on-pick : (c : Bool) (x y : Log) → P x → P y → P (pick c x y)
+    unfolding pick
+    on-pick true x y p q = p
+    on-pick false x y p q = q
+
+    pub on-placed : (k : ℕ) (a : Action) (l : Log) → P l → P (placed k a l)
+    unfolding placed
+    on-placed k a l p = search (on-pick, on-green, on-red)
+
+    module _ (on-own : (more : List Action) (k : ℕ) (l : Log) → P l → P (withOwn more k l)) where
+      pub on-numbered : (ps : List (List ℕ)) (s : Server) → P (s .log) → P ((numbered ps s) .log)
+      unfolding numbered withOwn
+      on-numbered ps s p = on-own (madeOf ps s) (length ps) (s .log) p
+
+      on-end : (t u : Server) (rs : List Record) → Ends t u rs → P (t .log) → P (u .log)
+      unfolding attempting decided sendHeld
+      on-end t u rs (L.withQuorum q) p = p
+      on-end t u rs (L.withoutQuorum q) p = on-numbered (t .held) _ p
+
+      pub on-transition : (s : Server) (r : Record) (t : Server) (rs : List Record) (b : Bool) → Transition s r t rs b → P (s .log) → P (t .log)
+      unfolding greenAndNote install exchanged oneMore withState resending withCpc sendHeld entering leave hold recovered
+      on-transition s r t rs b (L.ignoresState x e) p = p
+      on-transition s r t rs b (L.ignoresCpc k i e) p = p
+      on-transition s r t rs b (L.reddens a e) p = on-red a (s .log) p
+      on-transition s r t rs b (L.reddensResent k i a e) p = on-red a (s .log) p
+      on-transition s r t rs b (L.reddensInExchange a e) p = on-red a (s .log) p
+      on-transition s r t rs b (L.greens a e) p = on-green a (s .log) p
+      on-transition s r t rs b (L.yellows a e) p = rw (yellow-log a s) (on-red a (s .log) p)
+      on-transition s r t rs b (L.installsLate a e) p = rw (yellow-log a (install s)) (on-red a _ (on-install (s .votes .yellow .ids) (s .log) p))
+      on-transition s r t rs b (L.exchanges k i a e c) p = on-placed i a (s .log) p
+      on-transition s r t rs b (L.exchangesLast k i a u us e c x) p = on-end (exchanged i a s) u us x (on-placed i a (s .log) p)
+      on-transition s r t rs b (L.collects x e c) p = p
+      on-transition s r t rs b (L.collectsLast x e c d) p = p
+      on-transition s r t rs b (L.collectsWhole x u us e c d y) p = on-end (withState x s) u us y p
+      on-transition s r t rs b (L.counts k i e c) p = p
+      on-transition s r t rs b (L.installs k i e c) p = on-numbered (s .held) _ (on-install (s .votes .yellow .ids) (s .log) p)
+      on-transition s r t rs b (L.countsLate k i e c) p = p
+      on-transition s r t rs b (L.countsAllLate k i e c) p = p
+      on-transition s r t rs b (L.joins c e) p = p
+      on-transition s r t rs b (L.joinsMarked c e) p = p
+      on-transition s r t rs b (L.joinsUnmarked c e) p = p
+      on-transition s r t rs b (L.joinsYellow c e) p = p
+      on-transition s r t rs b (L.leaves m n x e q) p = p
+      on-transition s r t rs b (L.sends q c) p = on-numbered (q ∷ []) s p
+      on-transition s r t rs b (L.holds q c) p = p
+      on-transition s r t rs b L.recovers p = on-reds (s .log .own) (s .log) p

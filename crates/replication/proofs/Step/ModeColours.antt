@@ -1,0 +1,105 @@
+-- In Reg_prim every held action is green and yellow is cleared; in Trans_prim every held action is green or yellow, and yellow is invalid.
+use Prim.Native.Nat.{ℕ}
+use mathlib.Core.Path.{_≡_, refl, sym, ap, subst, _∙_}
+use mathlib.Core.Bool.{Bool, true}
+use mathlib.Core.List.{List, [], _∷_, _++_, map, List·Memᴰ, List·Memᴰ·not-nil, List·Memᴰ·append-cases, Memᴰ·append-left, Memᴰ·append-right, Memᴰ·map}
+use mathlib.Core.Logic.{_⊎_, inl, inr}
+use Rattle.format.specs.Types.{Action, Yellow, Record}
+use Rattle.replication.specs.Machine.Types.{Mode, Non-prim, Reg-prim, Trans-prim, Exchange-states, Exchange-actions, Server, taken, start, noYellow}
+use Rattle.replication.specs.Machine.Colours.{red, yellow}
+use Rattle.replication.specs.Machine.Install.{installLog, install, installVotes}
+use Rattle.replication.specs.Machine.Requests.{numbered, hold, sendHeld, recovered}
+use Rattle.replication.specs.Machine.Step.{decided, attempting, withState, resending, oneMore, exchanged, withCpc, entering, leave, greenAndNote, step}
+use Rattle.replication.specs.Machine.WellFormed.{wellFormed}
+use Rattle.replication.specs.Images.{started, lived}
+use Rattle.replication.specs.Laws.Transitions as L
+use Rattle.replication.specs.Laws.Transitions.{Ends, Leads, Transition}
+use Rattle.replication.specs.Laws.Images.{OfBoth}
+use Rattle.replication.specs.Laws.Modes.{ColourFacts, ColourFactsOf}
+use Rattle.replication.specs.Laws.Folds.{entered, Yellowed}
+use Rattle.replication.proofs.Step.Inversion.{taken-by}
+use Rattle.replication.proofs.Step.Moves.{moved}
+use Rattle.replication.proofs.Step.Control.{yellow-membership}
+use Rattle.replication.proofs.Step.Folds.{green-one, yellow-one}
+use Rattle.replication.proofs.Step.Reds.{install-empties}
+use Rattle.replication.proofs.Step.Formed.{reds-differ, reds-within}
+use Rattle.replication.proofs.Step.Lifts.{lived-each}
+
+-- ---- the colours
+
+pub install-no-red : (s : Server) → wellFormed s ≡ true → (installLog (s .votes .yellow .ids) (s .log)) .red ≡ []
+install-no-red s w = install-empties (s .votes .yellow .ids) (s .log) (reds-differ s w) (reds-within s w)
+
+-- Yellowing keeps every red action yellow.
+yellow-covers : (s t : Server) (more : List Action) → Yellowed more s t → s .votes .yellow .status ≡ 0
+    → ((a : Action) → List·Memᴰ a (s .log .red) → List·Memᴰ (a .id) (s .votes .yellow .ids))
+    → (t .votes .yellow .status ≡ 0) × ((a : Action) → List·Memᴰ a (t .log .red) → List·Memᴰ (a .id) (t .votes .yellow .ids))
+yellow-covers s t more y z p = (y .status ∙ z, λ a m. rw (y .ids) (go a (List·Memᴰ·append-cases (s .log .red) (rw (y .red) at m))))
+  where
+    go : (a : Action) → List·Memᴰ a (s .log .red) ⊎ List·Memᴰ a (entered (s .log .cuts) more)
+        → List·Memᴰ (a .id) (s .votes .yellow .ids ++ map (λ (x : Action). x .id) (entered (s .log .cuts) more))
+    go a (inl m) = Memᴰ·append-left _ (p a m)
+    go a (inr m) = Memᴰ·append-right (s .votes .yellow .ids) (Memᴰ·map (λ (x : Action). x .id) m)
+
+leads-colours : {m n : Mode} (y : Yellow) (l : List Action) → Leads m n → ColourFacts m y l → ColourFacts n y l
+unfolding noYellow
+leads-colours y l L.stays p = tt
+leads-colours y l L.parts p = (ap (λ x. x .status) (p .0), λ a m. absurd (List·Memᴰ·not-nil (rw (p .1) at m)))
+leads-colours y l L.interruptsStates p = tt
+leads-colours y l L.interruptsActions p = tt
+leads-colours y l L.interruptsConstruct p = tt
+
+-- ---- kept by every transition
+
+module _ (s : Server) (formed : wellFormed s ≡ true) where
+  at : (m : Mode) → s .membership .mode ≡ m → ColourFactsOf s → ColourFacts m (s .votes .yellow) (s .log .red)
+  at m e p = subst (λ n. ColourFacts n (s .votes .yellow) (s .log .red)) e p
+
+  back : (m : Mode) (y : Yellow) (l : List Action) → s .membership .mode ≡ m → ColourFacts m y l → ColourFacts (s .membership .mode) y l
+  back m y l e p = subst (λ n. ColourFacts n y l) (sym e) p
+
+  end-colours : (t u : Server) (rs : List Record) → Ends t u rs → ColourFactsOf u
+  unfolding attempting decided sendHeld numbered
+  end-colours t u rs (L.withQuorum q) = tt
+  end-colours t u rs (L.withoutQuorum q) = tt
+
+  pub colour-facts-kept : {r : Record} {t : Server} {rs : List Record} {b : Bool} → Transition s r t rs b → ColourFactsOf s → ColourFactsOf t
+  unfolding greenAndNote install installVotes noYellow exchanged oneMore withState resending withCpc sendHeld numbered entering leave hold recovered
+  colour-facts-kept (L.ignoresState x e) p = p
+  colour-facts-kept (L.ignoresCpc k i e) p = p
+  colour-facts-kept (L.reddens a e) p = back Non-prim _ _ e tt
+  colour-facts-kept (L.reddensResent k i a e) p = back Non-prim _ _ e tt
+  colour-facts-kept (L.reddensInExchange a e) p = back Exchange-states _ _ e tt
+  colour-facts-kept (L.greens a e) p = let q = at Reg-prim e p in back Reg-prim _ _ e (q .0, green-one a (s .log) (q .1) .red)
+  colour-facts-kept (L.yellows a e) p =
+      let q = at Trans-prim e p in
+      rw (yellow-membership a s) (back Trans-prim _ _ e (yellow-covers s (yellow a s) (a ∷ []) (yellow-one a s) (q .0) (q .1)))
+  colour-facts-kept (L.installsLate a e) p =
+      yellow-covers (install s) (yellow a (install s)) (a ∷ []) (yellow-one a (install s)) refl (λ x m. absurd (List·Memᴰ·not-nil (rw (install-no-red s formed) at m)))
+  colour-facts-kept (L.exchanges k i a e c) p = back Exchange-actions _ _ e tt
+  colour-facts-kept (L.exchangesLast k i a u us e c x) p = end-colours (exchanged i a s) u us x
+  colour-facts-kept (L.collects x e c) p = p
+  colour-facts-kept (L.collectsLast x e c d) p = tt
+  colour-facts-kept (L.collectsWhole x u us e c d y) p = end-colours (withState x s) u us y
+  colour-facts-kept (L.counts k i e c) p = p
+  colour-facts-kept (L.installs k i e c) p = (refl, install-no-red s formed)
+  colour-facts-kept (L.countsLate k i e c) p = p
+  colour-facts-kept (L.countsAllLate k i e c) p = tt
+  colour-facts-kept (L.joins c e) p = tt
+  colour-facts-kept (L.joinsMarked c e) p = tt
+  colour-facts-kept (L.joinsUnmarked c e) p = tt
+  colour-facts-kept (L.joinsYellow c e) p = tt
+  colour-facts-kept (L.leaves m n x e q) p = leads-colours (s .votes .yellow) (s .log .red) q (at m e p)
+  colour-facts-kept (L.sends q c) p = p
+  colour-facts-kept (L.holds q c) p = p
+  colour-facts-kept L.recovers p = tt
+
+-- ---- over a run, where steps keep states well-formed
+
+pub colour-facts : ((s : Server) (e : List ℕ) (t : Server) (bs : List (List ℕ)) (b : Bool) (g : List Action) → step s e ≡ taken t bs b g → wellFormed s ≡ true → wellFormed t ≡ true)
+    → (n q i : ℕ) → wellFormed (start n q i) ≡ true → (es : List (List ℕ)) → OfBoth (λ s. (wellFormed s ≡ true) × ColourFactsOf s) (lived (started (start n q i)) es)
+unfolding start started
+colour-facts kept n q i w es =
+    lived-each (λ s. (wellFormed s ≡ true) × ColourFactsOf s)
+    (λ s e t bs b g h p. (kept s e t bs b g h (p .0), colour-facts-kept s (p .0) (moved (taken-by s e t bs b g h) .0) (p .1)))
+    (started (start n q i)) es (record { memory = (w, tt); store = (w, tt) })

@@ -1,0 +1,168 @@
+-- A change of one part of a state keeps row 8's clauses, apart from those on the eight states.
+-- Assumes nothing.
+use Prim.Native.Nat.{ℕ, zero, suc, _+_, _*_, _^_, _≤_, _<_}
+use mathlib.Core.Path.{_≡_, refl, sym, _∙_}
+use mathlib.Core.List.{List}
+use mathlib.Core.Option.{none, some, Option·none-ne-some}
+use native.Mathlib.Omega.{arith}
+use lib.ListN.{length, getD}
+use Rattle.base.specs.ListLaws.{Each, each-present}
+use Rattle.format.specs.Limits.{mostHeld}
+use Rattle.format.specs.Types.{State}
+use Rattle.replication.specs.Machine.Types.{Mode, Log, Votes, Configuration, Membership, Server, withLog, withVotes, withMembership, withHeld, withNoted, withMode, withCome, inMode, noStates}
+use Rattle.replication.specs.Machine.Step.{collected, hereSet, theSet, hereId, theId}
+use Rattle.replication.specs.Machine.WellFormedRanges.{SizesFit, PayloadFits, StateFits, VotesRanges, MembershipRanges}
+use Rattle.replication.specs.Machine.WellFormedFacts.{ModeFits, WellFormed}
+use Rattle.replication.proofs.WellFormed.Logs.{LogFits}
+
+-- The clauses that do not depend on which of the eight states it is.
+pub record Body (s : Server) : Type 0 where
+  pub sizes : SizesFit (s .servers) (s .quota) (s .me)
+  pub log : LogFits (s .servers) (s .quota) (s .me) (s .log)
+  pub votes : VotesRanges (s .servers) (s .quota) (s .votes)
+  pub membership : MembershipRanges (s .servers) (s .quota) (s .me) (s .membership)
+  pub held-length : length (s .held) ≤ mostHeld
+  pub held : Each PayloadFits (s .held)
+  pub noted-length : length (s .noted) ≡ s .servers
+  pub noted : (c : ℕ) → getD (s .noted) c 0 ≤ s .servers * s .quota
+  pub quota-kept : s .log .numbered + length (s .held) ≤ s .quota
+
+pub body : (s : Server) → WellFormed s → Body s
+body s f = record {
+  sizes = f .sizes;
+  log = record { ranges = f .log; once = f .once; held-to-cuts = f .held-to-cuts; own-list = f .own-list };
+  votes = f .votes;
+  membership = f .membership;
+  held-length = f .held-length;
+  held = f .held;
+  noted-length = f .noted-length;
+  noted = f .noted;
+  quota-kept = f .quota-kept;
+}
+
+pub whole : (s : Server) → Body s → ModeFits (s .membership .mode) s → WellFormed s
+whole s b m = record {
+  sizes = b .sizes;
+  log = b .log .ranges;
+  votes = b .votes;
+  membership = b .membership;
+  held-length = b .held-length;
+  held = b .held;
+  noted-length = b .noted-length;
+  noted = b .noted;
+  once = b .log .once;
+  held-to-cuts = b .log .held-to-cuts;
+  own-list = b .log .own-list;
+  quota-kept = b .quota-kept;
+  mode = m;
+}
+
+none-at : (n k : ℕ) → getD (noStates n) k none ≡ none
+unfolding noStates
+none-at zero k = refl
+none-at (suc n) zero = refl
+none-at (suc n) (suc k) = none-at n k
+
+pub no-states : {X : Type 0} (n k : ℕ) (x : State) → getD (noStates n) k none ≡ some x → X
+no-states n k x e = absurd (Option·none-ne-some x (sym (none-at n k) ∙ e))
+
+-- ---- one part changed
+
+module _ (s : Server) (b : Body s) where
+  pub log-changed : (l : Log) → LogFits (s .servers) (s .quota) (s .me) l → l .numbered + length (s .held) ≤ s .quota → Body (withLog l s)
+  log-changed l f q = record {
+    sizes = b .sizes;
+    log = f;
+    votes = b .votes;
+    membership = b .membership;
+    held-length = b .held-length;
+    held = b .held;
+    noted-length = b .noted-length;
+    noted = b .noted;
+    quota-kept = q;
+  }
+
+  pub log-changed-alike : (l : Log) → LogFits (s .servers) (s .quota) (s .me) l → l .numbered ≡ s .log .numbered → Body (withLog l s)
+  log-changed-alike l f e = log-changed l f (omega (arith, b .quota-kept))
+
+  pub votes-changed : (v : Votes) → VotesRanges (s .servers) (s .quota) v → Body (withVotes v s)
+  votes-changed v f = record {
+    sizes = b .sizes;
+    log = b .log;
+    votes = f;
+    membership = b .membership;
+    held-length = b .held-length;
+    held = b .held;
+    noted-length = b .noted-length;
+    noted = b .noted;
+    quota-kept = b .quota-kept;
+  }
+
+  pub membership-changed : (m : Membership) → MembershipRanges (s .servers) (s .quota) (s .me) m → Body (withMembership m s)
+  membership-changed m f = record {
+    sizes = b .sizes;
+    log = b .log;
+    votes = b .votes;
+    membership = f;
+    held-length = b .held-length;
+    held = b .held;
+    noted-length = b .noted-length;
+    noted = b .noted;
+    quota-kept = b .quota-kept;
+  }
+
+  pub held-changed : (h : List (List ℕ)) → length h ≤ mostHeld → Each PayloadFits h → s .log .numbered + length h ≤ s .quota → Body (withHeld h s)
+  held-changed h l f q = record {
+    sizes = b .sizes;
+    log = b .log;
+    votes = b .votes;
+    membership = b .membership;
+    held-length = l;
+    held = f;
+    noted-length = b .noted-length;
+    noted = b .noted;
+    quota-kept = q;
+  }
+
+  pub noted-changed : (w : List ℕ) → length w ≡ length (s .noted) → ((c : ℕ) → getD w c 0 ≤ s .servers * s .quota) → Body (withNoted w s)
+  noted-changed w l f = record {
+    sizes = b .sizes;
+    log = b .log;
+    votes = b .votes;
+    membership = b .membership;
+    held-length = b .held-length;
+    held = b .held;
+    noted-length = l ∙ b .noted-length;
+    noted = f;
+    quota-kept = b .quota-kept;
+  }
+
+  -- Another of the eight states, and another count of retransmissions.
+  pub mode-changed : (m : Mode) (k : ℕ) → k ≤ 2 * (s .servers * s .quota) → Body (withMembership (withMode m (withCome k (s .membership))) s)
+  mode-changed m k h =
+      membership-changed (withMode m (withCome k (s .membership)))
+      (record {
+        configuration = b .membership .configuration;
+        transitional = b .membership .transitional;
+        states-length = b .membership .states-length;
+        states = b .membership .states;
+        cpcs = b .membership .cpcs;
+        come = h;
+      })
+
+  pub in-mode : (m : Mode) → Body (inMode m s)
+  in-mode m = mode-changed m (s .membership .come) (b .membership .come)
+
+  -- ---- what is read off
+
+  pub collected-fit : Each (StateFits (s .servers) (s .quota)) (collected s)
+  unfolding collected
+  collected-fit = each-present (StateFits (s .servers) (s .quota)) (s .membership .states) (λ k x e. b .membership .states k x e .fits)
+
+  pub here-below : (d : Configuration) → s .membership .configuration ≡ some d → hereSet s < 2 ^ s .servers
+  unfolding hereSet theSet
+  here-below d e = rw e (b .membership .configuration d e .set .below)
+
+  pub here-id-below : (d : Configuration) → s .membership .configuration ≡ some d → hereId s < 2 ^ 32
+  unfolding hereId theId
+  here-id-below d e = rw e (b .membership .configuration d e .id)

@@ -1,0 +1,168 @@
+-- What the rules do to a state keeps row 8's clauses, apart from those on the eight states.
+-- Assumes nothing.
+use Prim.Native.Nat.{ℕ, zero, suc, _+_, _*_, _≤_, _<_}
+use mathlib.Core.Path.{_≡_, refl, ap}
+use mathlib.Core.Bool.{true}
+use mathlib.Core.List.{List, [], _∷_, _++_}
+use mathlib.Core.Option.{none, Option·none-ne-some}
+use native.Mathlib.Omega.{arith}
+use lib.ListN.{length, set, length-append, length-replicate}
+use Rattle.base.specs.Tests.{pick, lt-holds}
+use Rattle.base.specs.Lists.{above}
+use Rattle.base.specs.ListLaws.{Each, each-append, each-implied, each-map, map-each, above-between}
+use Rattle.base.specs.Counts.{count-append, count-single}
+use Rattle.format.specs.Limits.{mostHeld, mostIndex}
+use Rattle.format.specs.Types.{Id, Action}
+use Rattle.format.specs.Range.{sameId}
+use Rattle.replication.specs.Machine.Types.{Non-prim, Votes, Server, withLog, withVotes, withHeld, noStates}
+use Rattle.replication.specs.Machine.Colours.{cut, enter, red, reds, green, joinYellow, yellow, note}
+use Rattle.replication.specs.Machine.Install.{installLog, installVotes, install}
+use Rattle.replication.specs.Machine.Requests.{quotaLeft, madeOf, numbered, hold, sendHeld, recovered}
+use Rattle.replication.specs.Machine.Step.{collected, plannedNow, placed, oneMore, exchanged, greenAndNote}
+use Rattle.replication.specs.Machine.WellFormed.{idsIn}
+use Rattle.replication.specs.Machine.WellFormedRanges.{idCount, IdFits, PayloadFits, VotesRanges}
+use Rattle.replication.specs.Machine.WellFormedFacts.{YellowWithinCuts}
+use Rattle.replication.proofs.WellFormed.Ids.{SameId, same, other, same-id?, counted-fact}
+use Rattle.replication.proofs.WellFormed.Held.{Entered, entered, ignored, entered?}
+use Rattle.replication.proofs.WellFormed.Logs.{Numbered, ownId, enter-fits, enter-numbered, red-fits, red-numbered, reds-fits, reds-numbered, green-fits, install-log-fits}
+use Rattle.replication.proofs.WellFormed.Numbering.{green-numbered, install-log-numbered, placed-fits, placed-numbered, numberedLog, numbering-fits}
+use Rattle.replication.proofs.WellFormed.Decisions.{no-yellow-fits, planned-bound, note-length, note-bound}
+use Rattle.replication.proofs.WellFormed.Changes.{Body, log-changed, log-changed-alike, votes-changed, membership-changed, held-changed, noted-changed, mode-changed, collected-fit, no-states}
+use Rattle.replication.proofs.WellFormed.RuleFacts.{Delivered}
+
+-- ---- parts of votes and memberships
+
+install-votes-fits : (n q : ℕ) (v : Votes) → VotesRanges n q v → v .last .index < mostIndex → VotesRanges n q (installVotes v)
+unfolding installVotes
+install-votes-fits n q v f h = record {
+  last = record { index = omega arith; attempt = f .attempt; set = f .mark .set };
+  attempt = omega arith;
+  mark = f .mark;
+  yellow = no-yellow-fits n q;
+}
+
+join-yellow-fits : (n q : ℕ) (d : Id) (v : Votes) → VotesRanges n q v → IdFits n q d → idCount d (v .yellow .ids) ≡ 0 → VotesRanges n q (joinYellow d v)
+unfolding joinYellow
+join-yellow-fits n q d v f fits new = record {
+  last = f .last;
+  attempt = f .attempt;
+  mark = f .mark;
+  yellow = record { status = f .yellow .status; ids = each-append (IdFits n q) (v .yellow .ids) (d ∷ []) (f .yellow .ids) (fits, tt); once = once };
+}
+  where
+    once : (e : Id) → idCount e (v .yellow .ids ++ (d ∷ [])) ≤ 1
+    once e = go (same-id? e d)
+      where
+        go : SameId e d → idCount e (v .yellow .ids ++ (d ∷ [])) ≤ 1
+        go (same p c i t u) =
+            omega (arith, count-append (sameId e) (v .yellow .ids) (d ∷ []), count-single (sameId e) d, ap (λ y. idCount y (v .yellow .ids)) p)
+        go (other m t u) = omega (arith, count-append (sameId e) (v .yellow .ids) (d ∷ []), count-single (sameId e) d, f .yellow .once e)
+
+-- ---- actions
+
+-- Yellow, by cases.
+pub yellow-as : (P : Server → Type 0) (a : Action) (s : Server)
+    → (a .id .index ≡ cut (s .log) (a .id .creator) + 1 → P (withVotes (joinYellow (a .id) (s .votes)) (withLog (enter a (s .log)) s))) → P s → P (yellow a s)
+unfolding yellow pick
+yellow-as P a s h k = go (entered? a (s .log))
+  where
+    go : Entered a (s .log) → P (yellow a s)
+    go (entered next t e) = rw t (h next)
+    go (ignored t e) = rw t k
+
+module _ (s : Server) (b : Body s) (a : Action) (d : Delivered s a) where
+  pub red-body : Body (withLog (red a (s .log)) s)
+  red-body = log-changed-alike s b (red a (s .log)) (red-fits (s .servers) (s .quota) (s .me) a (s .log) (b .log) (d .fits) (d .own)) (red-numbered a (s .log))
+
+  pub green-and-note-body : Body (greenAndNote a s)
+  unfolding greenAndNote
+  green-and-note-body =
+      noted-changed (withLog (green a (s .log)) s)
+      (log-changed-alike s b (green a (s .log)) (green-fits (s .servers) (s .quota) (s .me) a (s .log) (b .log) (d .fits) (d .own)) (green-numbered a (s .log)))
+      (note (a .id .creator) (a .greenLength) (s .noted))
+      (note-length (a .id .creator) (a .greenLength) (s .noted))
+      (note-bound (s .servers * s .quota) (a .id .creator) (a .greenLength) (s .noted) (b .noted) (d .fits .greenLength))
+
+  -- An action that is entered, with its id joined to the yellow list, whose ids are of entered actions.
+  pub joined-body : YellowWithinCuts s → a .id .index ≡ cut (s .log) (a .id .creator) + 1
+      → Body (withVotes (joinYellow (a .id) (s .votes)) (withLog (enter a (s .log)) s))
+  joined-body w next =
+      votes-changed (withLog (enter a (s .log)) s)
+      (log-changed-alike s b (enter a (s .log)) (enter-fits (s .servers) (s .quota) (s .me) a (s .log) (b .log) (d .fits) next (d .own)) (enter-numbered a (s .log)))
+      (joinYellow (a .id) (s .votes))
+      (join-yellow-fits (s .servers) (s .quota) (a .id) (s .votes) (b .votes) (d .fits .id) (new (idCount (a .id) (s .votes .yellow .ids)) refl))
+    where
+      new : (k : ℕ) → idCount (a .id) (s .votes .yellow .ids) ≡ k → k ≡ 0
+      new zero e = refl
+      new (suc k) e =
+          absurd (omega (arith, counted-fact (λ x. x .index ≤ cut (s .log) (x .creator)) (a .id) (s .votes .yellow .ids) w (omega arith)))
+
+  pub exchanged-body : (p : ℕ) → s .membership .come < plannedNow s → Body (exchanged p a s)
+  unfolding exchanged oneMore plannedNow
+  exchanged-body p h =
+      mode-changed (withLog (placed p a (s .log)) s)
+      (log-changed-alike s b (placed p a (s .log)) (placed-fits (s .servers) (s .quota) (s .me) p a (s .log) (b .log) (d .fits) (d .own)) (placed-numbered p a (s .log)))
+      (s .membership .mode) (s .membership .come + 1)
+      (omega (arith, planned-bound (s .servers) (s .quota) (collected s) (collected-fit s b)))
+
+-- ---- Install, requests, recovery
+
+module _ (s : Server) (b : Body s) where
+  pub install-body : s .votes .last .index < mostIndex → Body (install s)
+  unfolding install
+  install-body h =
+      votes-changed (withLog (installLog (s .votes .yellow .ids) (s .log)) s)
+      (log-changed-alike s b (installLog (s .votes .yellow .ids) (s .log)) (install-log-fits (s .servers) (s .quota) (s .me) (s .votes .yellow .ids) (s .log) (b .log))
+      (install-log-numbered (s .votes .yellow .ids) (s .log)))
+      (installVotes (s .votes)) (install-votes-fits (s .servers) (s .quota) (s .votes) (b .votes) h)
+
+  pub send-held-body : Body (sendHeld s)
+  unfolding sendHeld numbered madeOf
+  send-held-body =
+      log-changed (withHeld [] s) (held-changed s b [] (omega arith) tt (omega (arith, b .quota-kept))) (numberedLog (s .me) (s .held) (s .log))
+      (numbering-fits (s .servers) (s .quota) (s .me) (s .held) (s .log) (b .sizes .own) (b .log) (b .quota-kept) (b .held)) (omega (arith, b .quota-kept))
+
+  pub number-body : (p : List ℕ) → PayloadFits p → quotaLeft s ≡ true → Body (numbered (p ∷ []) s)
+  unfolding numbered madeOf quotaLeft
+  number-body p f q =
+      let room = lt-holds _ _ q in
+      log-changed s b (numberedLog (s .me) (p ∷ []) (s .log))
+      (numbering-fits (s .servers) (s .quota) (s .me) (p ∷ []) (s .log) (b .sizes .own) (b .log) (omega arith) (f, tt)) (omega arith)
+
+  pub hold-body : (p : List ℕ) → PayloadFits p → quotaLeft s ≡ true → length (s .held) < mostHeld → Body (hold p s)
+  unfolding hold quotaLeft
+  hold-body p f q r =
+      let room = lt-holds _ _ q in
+      let more = length-append (s .held) (p ∷ []) in
+      held-changed s b (s .held ++ (p ∷ [])) (omega arith) (each-append PayloadFits (s .held) (p ∷ []) (b .held) (f, tt)) (omega arith)
+
+  pub recovered-body : Body (recovered s)
+  unfolding recovered idsIn noStates
+  recovered-body =
+      membership-changed (withHeld [] (withLog (reds (s .log .own) (s .log)) s))
+      (held-changed (withLog (reds (s .log .own) (s .log)) s)
+      (log-changed-alike s b (reds (s .log .own) (s .log))
+      (reds-fits (s .servers) (s .quota) (s .me) (s .log .own) (s .log) (b .log) (b .log .ranges .own) own-numbered)
+      (reds-numbered (s .log .own) (s .log)))
+      [] (omega arith) tt (omega (arith, reds-numbered (s .log .own) (s .log), b .quota-kept)))
+      (record { mode = Non-prim; configuration = none; transitional = none; states = noStates (s .servers); cpcs = s .membership .cpcs; come = s .membership .come })
+      (record {
+        configuration = λ d e. absurd (Option·none-ne-some d e);
+        transitional = λ t e. absurd (Option·none-ne-some t e);
+        states-length = length-replicate (s .servers) none;
+        states = λ k x e. no-states (s .servers) k x e;
+        cpcs = b .membership .cpcs;
+        come = b .membership .come;
+      })
+    where
+      own-ids : Each (λ x. x .index ≤ s .log .numbered) (idsIn (s .log .own))
+      own-ids =
+          rw (b .log .own-list .ids)
+          (each-map (λ x. x .index ≤ s .log .numbered) (ownId (s .me)) (above (cut (s .log) (s .me)) (s .log .numbered))
+          (each-implied (λ i. (cut (s .log) (s .me) < i) × (i ≤ s .log .numbered)) (λ i. i ≤ s .log .numbered) (λ i h. h .1)
+          (above (cut (s .log) (s .me)) (s .log .numbered)) (above-between (cut (s .log) (s .me)) (s .log .numbered))))
+
+      own-numbered : Each (Numbered (s .me) (s .log .numbered)) (s .log .own)
+      own-numbered =
+          each-implied (λ a. a .id .index ≤ s .log .numbered) (Numbered (s .me) (s .log .numbered)) (λ a h e. h) (s .log .own)
+          (map-each (λ x. x .index ≤ s .log .numbered) (λ a. a .id) (s .log .own) own-ids)

@@ -1,0 +1,11 @@
+pub mod Transitions
+pub mod Images
+pub mod Order
+pub mod Votes
+pub mod Rows
+pub mod Greens
+pub mod Modes
+pub mod Folds
+pub mod Sending
+pub mod Primary
+pub mod Kinds
