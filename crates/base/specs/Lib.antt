@@ -7,11 +7,16 @@ pub mod Stores
 pub mod Pigeonhole
 pub mod Sets
 pub mod Lists
+pub mod AtLaws
+pub mod Rising
+pub mod Chains
+pub mod Distinct
 pub mod ListLaws
 pub mod SameLaws
 pub mod Sections
 pub mod Counts
 pub mod SetLaws
+pub mod Quorums
 pub mod Quantifiers
 pub mod QuantifierLaws
 pub mod Deciding

@@ -10,6 +10,7 @@ use native.Mathlib.Omega.{arith}
 use lib.ListN.{length, take, drop}
 use Rattle.base.specs.Tests.{_and_, _or_, _<?_, pick, not-both, and-holds, lt-holds, lt-fails, Known, holds, fails, known}
 use Rattle.base.specs.Lists.{all, any, filter, atFront, gather, gatherAll, below, at}
+use Rattle.base.specs.AtLaws.{none-some, some-same}
 use Rattle.base.specs.Quantifiers.{_implies_, pairs}
 
 pub implied : (t u : Bool) → (t implies u) ≡ true → t ≡ true → u ≡ true
@@ -37,12 +38,6 @@ compared m n = go (known (m <? n)) (known (n <? m))
     go (fails h) (fails k) = level (omega (arith, lt-fails m n h, lt-fails n m k))
 
 module _ {A : Type 0} where
-  pub some-same : {x y : A} → _≡_ {A = Option A} (some x) (some y) → x ≡ y
-  some-same e = cc
-
-  pub nothing-there : {X : Type 0} {x : A} → _≡_ {A = Option A} none (some x) → X
-  nothing-there e = let z : _≡_ {A = ℕ} 0 1 = cc in absurd (omega arith)
-
   pub among-first : {x y : A} (xs : List A) → y ≡ x → Among x (y ∷ xs)
   unfolding at
   among-first xs e = record { place = 0; there = ap some e }
@@ -51,28 +46,15 @@ module _ {A : Type 0} where
   unfolding at
   among-later y m = record { place = suc (m .place); there = m .there }
 
-  pub at-below : (xs : List A) (p : ℕ) (x : A) → at xs p ≡ some x → p < length xs
-  unfolding at
-  at-below [] p x e = nothing-there e
-  at-below (y ∷ xs) zero x e = omega arith
-  at-below (y ∷ xs) (suc p) x e = omega (arith, at-below xs p x e)
-
   pub at-drop : (k : ℕ) (xs : List A) (p : ℕ) → at (drop k xs) p ≡ at xs (k + p)
   unfolding at
   at-drop zero xs p = ap (at xs) (sym (zero-add p))
   at-drop (suc k) [] p = refl
   at-drop (suc k) (x ∷ xs) p = at-drop k xs p ∙ ap (at (x ∷ xs)) (sym (suc-add k p))
 
-  pub at-taken : (k : ℕ) (xs : List A) (p : ℕ) (x : A) → at (take k xs) p ≡ some x → (p < k) × (at xs p ≡ some x)
-  unfolding at
-  at-taken zero xs p x e = nothing-there e
-  at-taken (suc k) [] p x e = nothing-there e
-  at-taken (suc k) (y ∷ xs) zero x e = (omega arith, e)
-  at-taken (suc k) (y ∷ xs) (suc p) x e = let h = at-taken k xs p x e in (omega (arith, h .0), h .1)
-
   filter-at : (t : A → Bool) (xs : List A) (p : ℕ) (x : A) → at xs p ≡ some x → t x ≡ true → Among x (filter t xs)
   unfolding filter at pick
-  filter-at t [] p x e h = nothing-there e
+  filter-at t [] p x e h = none-some e
   filter-at t (y ∷ xs) zero x e h = let f : y ≡ x = cc in rw (ap t f, h) (among-first (filter t xs) f)
   filter-at t (y ∷ xs) (suc p) x e h = go (known (t y)) (filter-at t xs p x e h)
     where
@@ -82,7 +64,7 @@ module _ {A : Type 0} where
 
   at-filter : (t : A → Bool) (xs : List A) (p : ℕ) (x : A) → at (filter t xs) p ≡ some x → Among x xs × (t x ≡ true)
   unfolding filter at pick
-  at-filter t [] p x e = nothing-there e
+  at-filter t [] p x e = none-some e
   at-filter t (y ∷ xs) p x e = go (known (t y)) p e (λ r h. at-filter t xs r x h)
     where
       Later : Type 0
@@ -98,7 +80,7 @@ module _ {A : Type 0} where
 
   pub all-at : (t : A → Bool) (xs : List A) → all t xs ≡ true → (p : ℕ) (x : A) → at xs p ≡ some x → t x ≡ true
   unfolding all at
-  all-at t [] h p x e = nothing-there e
+  all-at t [] h p x e = none-some e
   all-at t (y ∷ xs) h zero x e = let f : y ≡ x = cc in subst (λ z. t z ≡ true) f (and-holds (t y) (all t xs) h .0)
   all-at t (y ∷ xs) h (suc p) x e = all-at t xs (and-holds (t y) (all t xs) h .1) p x e
 
@@ -116,7 +98,7 @@ module _ {A : Type 0} where
 
   any-at : (t : A → Bool) (xs : List A) (p : ℕ) (x : A) → at xs p ≡ some x → t x ≡ true → any t xs ≡ true
   unfolding any at _or_
-  any-at t [] p x e h = nothing-there e
+  any-at t [] p x e h = none-some e
   any-at t (y ∷ xs) zero x e h = let f : y ≡ x = cc in rw (ap t f, h)
   any-at t (y ∷ xs) (suc p) x e h = go (known (t y)) (any-at t xs p x e h)
     where
@@ -130,7 +112,7 @@ module _ {A : Type 0} where
   pub pairs-at : (t : A → A → Bool) (xs : List A) → pairs t xs ≡ true
       → (p r : ℕ) (x y : A) → p < r → at xs p ≡ some x → at xs r ≡ some y → t x y ≡ true
   unfolding pairs at
-  pairs-at t [] h p r x y l e f = nothing-there e
+  pairs-at t [] h p r x y l e f = none-some e
   pairs-at t (z ∷ xs) h p zero x y l e f = absurd (omega arith)
   pairs-at t (z ∷ xs) h zero (suc r) x y l e f =
       let same : z ≡ x = cc in subst (λ w. t w y ≡ true) same (all-at (t z) xs (and-holds (all (t z) xs) (pairs t xs) h .0) r y f)
@@ -158,7 +140,7 @@ module _ {A : Type 0} where
 
   at-left : (xs ys : List A) (p : ℕ) (x : A) → at xs p ≡ some x → at (xs ++ ys) p ≡ some x
   unfolding at
-  at-left [] ys p x e = nothing-there e
+  at-left [] ys p x e = none-some e
   at-left (y ∷ xs) ys zero x e = e
   at-left (y ∷ xs) ys (suc p) x e = at-left xs ys p x e
 
@@ -182,7 +164,7 @@ among-below (suc n) k h = go (compared k n) (λ l. among-below n k l)
 module _ {A B : Type 0} where
   map-at : (f : A → B) (xs : List A) (p : ℕ) (x : A) → at xs p ≡ some x → at (map f xs) p ≡ some (f x)
   unfolding at
-  map-at f [] p x e = nothing-there e
+  map-at f [] p x e = none-some e
   map-at f (y ∷ xs) zero x e = ap (λ z. some (f z)) (some-same e)
   map-at f (y ∷ xs) (suc p) x e = map-at f xs p x e
 
@@ -193,7 +175,7 @@ module _ {A B : Type 0} where
 
   gather-at : (f : A → Option B) (xs : List A) (p : ℕ) (x : A) (y : B) → at xs p ≡ some x → f x ≡ some y → Among y (gather f xs)
   unfolding gather at atFront
-  gather-at f [] p x y e h = nothing-there e
+  gather-at f [] p x y e h = none-some e
   gather-at f (z ∷ xs) zero x y e h = let g : f z ≡ some y = ap f (some-same e) ∙ h in rw g (among-first (gather f xs) refl)
   gather-at f (z ∷ xs) (suc p) x y e h = go (f z) (gather-at f xs p x y e h)
     where
@@ -206,7 +188,7 @@ module _ {A B : Type 0} where
 
   at-gather : (f : A → Option B) (xs : List A) (p : ℕ) (y : B) → at (gather f xs) p ≡ some y → (x : A) × Among x xs × (f x ≡ some y)
   unfolding gather at atFront
-  at-gather f [] p y e = nothing-there e
+  at-gather f [] p y e = none-some e
   at-gather f (x ∷ xs) p y e = go (f x) refl p e (λ r h. at-gather f xs r y h)
     where
       go : (o : Option B) → f x ≡ o → (r : ℕ) → at (atFront o (gather f xs)) r ≡ some y
@@ -220,7 +202,7 @@ module _ {A B : Type 0} where
 
   gather-all-at : (f : A → List B) (xs : List A) (p : ℕ) (x : A) {y : B} → at xs p ≡ some x → Among y (f x) → Among y (gatherAll f xs)
   unfolding gatherAll at
-  gather-all-at f [] p x e m = nothing-there e
+  gather-all-at f [] p x e m = none-some e
   gather-all-at f (z ∷ xs) zero x {y} e m = among-left (gatherAll f xs) (subst (λ w. Among y (f w)) (sym (some-same e)) m)
   gather-all-at f (z ∷ xs) (suc p) x e m = among-right (f z) (gather-all-at f xs p x e m)
 

@@ -130,6 +130,12 @@ unfolding pick
 pick-no false r a b e h = h
 pick-no true r a b e h = not-both (sym e)
 
+-- What holds of both holds of the one chosen.
+pub pick-either : {A : Type 0} (P : A → Type 0) (t : Bool) (a b : A) → P a → P b → P (pick t a b)
+unfolding pick
+pick-either P true a b h k = h
+pick-either P false a b h k = k
+
 -- A test with its equation, as data to split on.
 pub data Known (t : Bool) : Type 0 where
   holds : t ≡ true → Known t
@@ -138,6 +144,12 @@ pub data Known (t : Bool) : Type 0 where
 pub known : (t : Bool) → Known t
 known true = holds refl
 known false = fails refl
+
+-- A fact of whichever is chosen.
+pub pick-as : {A : Type 0} (P : A → Type 0) (t : Bool) (x y : A) → (t ≡ true → P x) → (t ≡ false → P y) → P (pick t x y)
+unfolding pick
+pick-as P true x y h k = h refl
+pick-as P false x y h k = k refl
 
 -- ---- for the code: each test of a number, as the code has it, in front of the rest of a conjunction or a choice
 

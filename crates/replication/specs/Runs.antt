@@ -2,3 +2,4 @@ pub mod Run
 pub mod Happenings
 pub mod Allowed
 pub mod Claim
+pub mod DeliveryFacts

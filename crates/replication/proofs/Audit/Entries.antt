@@ -9,7 +9,8 @@ use native.Mathlib.Omega.{arith}
 use lib.ListN.{length, take, getD}
 use Rattle.base.specs.Tests.{_=?_, _and_, pick, Known, holds, fails, known, not-both, and-holds, eq-holds}
 use Rattle.base.specs.Lists.{any, gather, gatherAll, below, at}
-use Rattle.base.specs.QuantifierLaws.{nothing-there, Among, any-among, among-gather, gather-among, among-gather-all, among-map, among-below, at-taken}
+use Rattle.base.specs.AtLaws.{none-some, at-in-take}
+use Rattle.base.specs.QuantifierLaws.{Among, any-among, among-gather, gather-among, among-gather-all, among-map, among-below}
 use Rattle.format.specs.Types.{Record, action, retransmission, state, cpc, regular, transitional, request, recovery, says}
 use Rattle.replication.specs.Machine.Types.{Configuration}
 use Rattle.replication.specs.Runs.Run.{Entry, event, crash, Run, serverOf, placeAt, sentAt}
@@ -42,25 +43,25 @@ sending-message s m (some r) = refl
 picked : {A : Type 0} (t : Bool) (o : Option A) (x : A) → pick t o none ≡ some x → (t ≡ true) × (o ≡ some x)
 unfolding pick
 picked true o x h = (refl, h)
-picked false o x h = nothing-there h
+picked false o x h = none-some h
 
 message-by : (o : Role) (x : Row) (m : Message) → messageBy o x ≡ some m → (o ≡ delivers) × (x .source ≡ m)
 unfolding messageBy
 message-by delivers x m h = (refl, cc)
-message-by (takes c) x m h = nothing-there h
-message-by (transits t) x m h = nothing-there h
-message-by goes-down x m h = nothing-there h
-message-by comes-back x m h = nothing-there h
-message-by neither x m h = nothing-there h
+message-by (takes c) x m h = none-some h
+message-by (transits t) x m h = none-some h
+message-by goes-down x m h = none-some h
+message-by comes-back x m h = none-some h
+message-by neither x m h = none-some h
 
 delivery-by : (o : Role) (rs : List Row) (s : Stamps) (x : Row) (d : Delivery) → deliveryBy o rs s x ≡ some d → (o ≡ delivers) × (deliveryOf rs s x ≡ d)
 unfolding deliveryBy
 delivery-by delivers rs s x d h = (refl, cc)
-delivery-by (takes c) rs s x d h = nothing-there h
-delivery-by (transits t) rs s x d h = nothing-there h
-delivery-by goes-down rs s x d h = nothing-there h
-delivery-by comes-back rs s x d h = nothing-there h
-delivery-by neither rs s x d h = nothing-there h
+delivery-by (takes c) rs s x d h = none-some h
+delivery-by (transits t) rs s x d h = none-some h
+delivery-by goes-down rs s x d h = none-some h
+delivery-by comes-back rs s x d h = none-some h
+delivery-by neither rs s x d h = none-some h
 
 module _ (n q : ℕ) (l : Run) (w : Witness) where
   abbrev rows : List Row
@@ -183,7 +184,7 @@ module _ (n q : ℕ) (l : Run) (w : Witness) where
           → (v : ℕ) × Delivers n q l (sourceIn w) (nameIn w) v i m × (v < p)
       found f =
           let v : ℕ = f .1 .place in
-          let taken = at-taken p rows v (f .0) (f .1 .there) in
+          let taken = at-in-take p rows v (f .0) (f .1 .there) in
           let t = table-is n q l w v (f .0) (taken .1) in
           let way = picked (isBeside r (f .0)) (messageBy (f .0 .role) (f .0)) m (f .2) in
           it v (t .0) (t .1) (taken .0) (subst (λ x. isBeside r x ≡ true) (t .2) (way .0)) (subst (λ x. messageBy (x .role) x ≡ some m) (t .2) (way .1))

@@ -9,7 +9,8 @@ use native.Mathlib.Omega.{arith}
 use lib.ListN.{length, drop}
 use Rattle.base.specs.Tests.{_=?_, pick, Known, holds, fails, known, eq-holds, eq-yes, not-both}
 use Rattle.base.specs.Lists.{at, filter, gather}
-use Rattle.base.specs.QuantifierLaws.{nothing-there, some-same, Among, at-drop, among-filter, among-gather}
+use Rattle.base.specs.AtLaws.{none-some, some-same}
+use Rattle.base.specs.QuantifierLaws.{Among, at-drop, among-filter, among-gather}
 use Rattle.replication.specs.Machine.Types.{Configuration}
 use Rattle.replication.specs.Runs.Run.{Entry, event, Run, serverOf, placeAt}
 use Rattle.replication.specs.Runs.Happenings.{Configured, regularly, transitionally, Of, Crashes, Comes, Falls, by-crash, by-recovery, Takes, Left, Configures, to-regular, to-transitional, Passes}
@@ -53,7 +54,7 @@ settles-by neither b s h = h
 settles-yes : (i : ℕ) (rs : List Row) (k : ℕ) (r : Row) (c : Configuration) → at rs k ≡ some r → r .server ≡ i → r .role ≡ takes c → Until Steady i rs k
     → settles i rs ≡ true
 unfolding settles settlesBy at pick
-settles-yes i [] k r c e h t u = nothing-there e
+settles-yes i [] k r c e h t u = none-some e
 settles-yes i (y ∷ rs) zero r c e h t u =
     let f : y ≡ r = some-same e in
     let role : y .role ≡ takes c = ap (λ z. z .role) f ∙ t in
@@ -71,17 +72,17 @@ next-by neither y b s = refl
 
 next-change-by : (o : Role) (y : Row) (b : Option Change) (d : Change) → changeBy o y ≡ some d → nextBy o y b ≡ some d
 unfolding nextBy changeBy
-next-change-by delivers y b d h = nothing-there h
+next-change-by delivers y b d h = none-some h
 next-change-by (takes c) y b d h = h
 next-change-by (transits t) y b d h = h
-next-change-by goes-down y b d h = nothing-there h
-next-change-by comes-back y b d h = nothing-there h
-next-change-by neither y b d h = nothing-there h
+next-change-by goes-down y b d h = none-some h
+next-change-by comes-back y b d h = none-some h
+next-change-by neither y b d h = none-some h
 
 next-yes : (i : ℕ) (rs : List Row) (k : ℕ) (r : Row) (d : Change) → at rs k ≡ some r → r .server ≡ i → changeBy (r .role) r ≡ some d → Until Quiet i rs k
     → nextChange i rs ≡ some d
 unfolding nextChange at pick
-next-yes i [] k r d e h t u = nothing-there e
+next-yes i [] k r d e h t u = none-some e
 next-yes i (y ∷ rs) zero r d e h t u =
     let f : r ≡ y = sym (some-same e) in
     rw (eq-yes (y .server) i (ap (λ z. z .server) (some-same e) ∙ h))
@@ -98,7 +99,7 @@ Never o = ⊥
 crash-says : (i : ℕ) (rs : List Row) (k : ℕ) (r : Row) → at rs k ≡ some r → r .server ≡ i → Until Never i rs k → crashesNext i rs ≡ true
     → isCrash (r .role) ≡ true
 unfolding crashesNext at pick
-crash-says i [] k r e h u c = nothing-there e
+crash-says i [] k r e h u c = none-some e
 crash-says i (y ∷ rs) zero r e h u c =
     let f : y ≡ r = some-same e in
     let same : (y .server =? i) ≡ true = eq-yes (y .server) i (ap (λ z. z .server) f ∙ h) in

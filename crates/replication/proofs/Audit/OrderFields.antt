@@ -10,7 +10,8 @@ use lib.ListN.{length, getD}
 use Rattle.base.specs.Tests.{_=?_, _<?_, _and_, and-holds, eq-yes, eq-holds, both-yes, lt-yes}
 use Rattle.base.specs.Lists.{all, any, at}
 use Rattle.base.specs.Quantifiers.{_implies_, pairs}
-use Rattle.base.specs.QuantifierLaws.{Among, implied, all-among, each-two, at-below}
+use Rattle.base.specs.AtLaws.{at-low}
+use Rattle.base.specs.QuantifierLaws.{Among, implied, all-among, each-two}
 use Rattle.base.specs.Deciding.{decided}
 use Rattle.base.specs.Sets.{inSet}
 use Rattle.replication.specs.Machine.Types.{Configuration}
@@ -72,7 +73,7 @@ module _ (n q : ℕ) (l : Run) (w : Witness) where
   rises-holds g h s a b f =
       let first = and-holds _ _ h in
       let second = and-holds _ _ (first .1) in
-      precedes-rise n q l w (λ p i m d. at-below (sentAt n q l (m .sending)) (m .number) _ (genuine-delivery n q l w g p i m d .sent))
+      precedes-rise n q l w (λ p i m d. at-low (sentAt n q l (m .sending)) (m .number) _ (genuine-delivery n q l w g p i m d .sent))
       (first .0) (second .0) (second .1) (same-moment-holds s) a b f
 
   pub same-message-holds : same-message J ≡ true → (p r i j : ℕ) (m : Message) → Del p i m → Del r j m → ordIn w (entry-at p) ≡ ordIn w (entry-at r)

@@ -10,13 +10,15 @@ use native.Mathlib.Omega.{arith}
 use lib.ListN.{length, take}
 use Rattle.base.specs.Tests.{_=?_, _<?_, pick, Known, holds, fails, known, eq-holds, eq-fails, eq-no, not-both, lt-holds, lt-yes}
 use Rattle.base.specs.Lists.{at, upd}
-use Rattle.base.specs.QuantifierLaws.{nothing-there, some-same, Among}
+use Rattle.base.specs.AtLaws.{none-some, some-same}
+use Rattle.base.specs.QuantifierLaws.{Among}
 use Rattle.format.specs.Types.{Record, action, retransmission, state, cpc, regular, transitional, request, recovery, Reading, says, refused}
 use Rattle.replication.specs.Machine.Types.{Configuration}
 use Rattle.replication.specs.Images.{arrive}
 use Rattle.replication.specs.Runs.Run.{Entry, event, crash, Run, serverOf, World, beginning, worldAfter, worldThrough, Place, nowhere, heard, placeAfter, placeThrough, recordsOf, worldAt, placeAt, heardAt, putOutBy, putOut, sentBy, sentAt}
 use Rattle.replication.specs.Runs.Happenings.{isMessage, Of, Crashes, Comes, Takes}
 use Rattle.replication.specs.Audit.Witness.{Witness}
+use Rattle.replication.proofs.Runs.Places.{place-next, put-out-at, sent-at, sent-by-crash}
 use Rattle.replication.specs.Audit.Table.{Role, delivers, takes, transits, goes-down, comes-back, neither, roleIn, Row, rowOf, rowsFrom, table}
 
 -- ---- the walk
@@ -41,7 +43,7 @@ module _ (n q : ℕ) (w : Witness) where
       → at (rowsFrom n q w p x c l) k
       ≡ some (rowOf n q w (p + k) (worldThrough x (take k l)) (placeThrough n q (serverOf y) (c (serverOf y)) (take k l)) y)
   unfolding rowsFrom at worldThrough placeThrough
-  rows-hold p x c [] k y e = nothing-there e
+  rows-hold p x c [] k y e = none-some e
   rows-hold p x c (z ∷ l) zero y e =
       let f : z ≡ y = some-same e in ap some (rw add-zero (ap (λ v. rowOf n q w p x (c (serverOf v)) v) f))
   rows-hold p x c (z ∷ l) (suc k) y e =
@@ -51,16 +53,9 @@ module _ (n q : ℕ) (w : Witness) where
 
   rows-are : (p : ℕ) (x : World) (c : ℕ → Place) (l : Run) (k : ℕ) (r : Row) → at (rowsFrom n q w p x c l) k ≡ some r → (y : Entry) × (at l k ≡ some y)
   unfolding rowsFrom at
-  rows-are p x c [] k r e = nothing-there e
+  rows-are p x c [] k r e = none-some e
   rows-are p x c (z ∷ l) zero r e = (z, refl)
   rows-are p x c (z ∷ l) (suc k) r e = rows-are (suc p) (worldAfter x z) (upd c (serverOf z) (placeAfter n q (serverOf z) (c (serverOf z)) z)) l k r e
-
-place-through-next : (n q i : ℕ) (c : Place) (l : Run) (p : ℕ) (y : Entry) → at l p ≡ some y
-    → placeThrough n q i c (take (suc p) l) ≡ placeAfter n q i (placeThrough n q i c (take p l)) y
-unfolding placeThrough at
-place-through-next n q i c [] p y e = nothing-there e
-place-through-next n q i c (z ∷ l) zero y e = ap (placeAfter n q i c) (some-same e)
-place-through-next n q i c (z ∷ l) (suc p) y e = place-through-next n q i (placeAfter n q i c z) l p y e
 
 -- ---- the row at a place
 
@@ -101,28 +96,20 @@ module _ (n q : ℕ) (l : Run) (w : Witness) where
   row-before p (event i e k) = refl
   row-before p (crash i) = refl
 
-  place-next : (i p : ℕ) (y : Entry) → at l p ≡ some y → placeAt n q l i (suc p) ≡ placeAfter n q i (placeAt n q l i p) y
-  unfolding placeAt
-  place-next i p y e = place-through-next n q i nowhere l p y e
-
   pub row-after : (p : ℕ) (y : Entry) → at l p ≡ some y → rowAt p y .after ≡ placeAt n q l (serverOf y) (suc p)
   unfolding rowAt rowOf serverOf
-  row-after p (event i e k) h = sym (place-next i p (event i e k) h)
-  row-after p (crash i) h = sym (place-next i p (crash i) h)
-
-  put-out : (p i k : ℕ) (e : List ℕ) → at l p ≡ some (event i e k) → putOut n q l p ≡ recordsOf (arrive (worldAt n q l p .images i) e)
-  unfolding putOut putOutBy
-  put-out p i k e h = ap (putOutBy n q l p) h
+  row-after p (event i e k) h = sym (place-next n q l i p (event i e k) h)
+  row-after p (crash i) h = sym (place-next n q l i p (crash i) h)
 
   pub row-sent : (p : ℕ) (y : Entry) → at l p ≡ some y → rowAt p y .sent ≡ sentAt n q l p
-  unfolding rowAt rowOf sentAt sentBy
-  row-sent p (event i e k) h = ap (take k) (sym (put-out p i k e h)) ∙ ap (sentBy n q l p) (sym h)
-  row-sent p (crash i) h = ap (sentBy n q l p) (sym h)
+  unfolding rowAt rowOf
+  row-sent p (event i e k) h = sym (sent-at n q l p i k e h ∙ ap (take k) (put-out-at n q l p i k e h))
+  row-sent p (crash i) h = sym (sent-by-crash n q l p i h)
 
   -- A row whose records were not all sent.
   pub row-cut : (p i k : ℕ) (e : List ℕ) → at l p ≡ some (event i e k) → k < length (putOut n q l p) → rowAt p (event i e k) .cut ≡ true
   unfolding rowAt rowOf
-  row-cut p i k e h less = lt-yes k _ (subst (λ (r : List (List ℕ)). k < length r) (put-out p i k e h) less)
+  row-cut p i k e h less = lt-yes k _ (subst (λ (r : List (List ℕ)). k < length r) (put-out-at n q l p i k e h) less)
 
   -- ---- its role
 

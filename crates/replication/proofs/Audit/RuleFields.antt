@@ -11,7 +11,8 @@ use Rattle.base.specs.Tests.{_=?_, _<?_, _and_, and-holds, not-both, not-holds,
 use Rattle.base.specs.Lists.{all, isThere, same, at}
 use Rattle.base.specs.ListLaws.{is-there}
 use Rattle.base.specs.Quantifiers.{_implies_, pairs, sameOption}
-use Rattle.base.specs.QuantifierLaws.{nothing-there, Among, implied, all-among, each-two, at-below}
+use Rattle.base.specs.AtLaws.{none-some, at-low}
+use Rattle.base.specs.QuantifierLaws.{Among, implied, all-among, each-two}
 use Rattle.base.specs.Deciding.{decided, lists-decided, options-decided}
 use Rattle.format.specs.Types.{Record, transitional, recovery}
 use Rattle.replication.specs.Machine.Types.{Configuration}
@@ -31,7 +32,7 @@ use Rattle.replication.proofs.Audit.Later.{crash-next}
 there-is : {A : Type 0} (o : Option A) → isThere o ≡ true → o ≡ none → ⊥
 unfolding isThere
 there-is none h e = not-both h
-there-is (some x) h e = nothing-there (sym e)
+there-is (some x) h e = none-some (sym e)
 
 not-there : {A : Type 0} (o : Option A) → isThere o ≡ false → o ≡ none
 unfolding isThere
@@ -109,7 +110,7 @@ module _ (n q : ℕ) (l : Run) (w : Witness) where
 
       go : (o : Option Row) → at rows (m .sending) ≡ o → Genuine p m (d .comes .bytes)
       go none e =
-          let nothing : it .it .sending .bytes ≡ none = ap (λ z. z .bytes) (it .sending ∙ ap (sendingIn (stamps rows) m) e) in nothing-there (sym nothing ∙ bytes)
+          let nothing : it .it .sending .bytes ≡ none = ap (λ z. z .bytes) (it .sending ∙ ap (sendingIn (stamps rows) m) e) in none-some (sym nothing ∙ bytes)
       go (some r) e =
           let t = table-is n q l w (m .sending) r e in
           record {

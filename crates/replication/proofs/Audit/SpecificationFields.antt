@@ -11,7 +11,8 @@ use Rattle.base.specs.Tests.{_=?_, _<?_, _and_, _or_, and-holds, not-both, eq-y
 use Rattle.base.specs.Lists.{all, any, filter, isThere, at}
 use Rattle.base.specs.ListLaws.{there}
 use Rattle.base.specs.Quantifiers.{_implies_, pairs}
-use Rattle.base.specs.QuantifierLaws.{Among, implied, all-among, any-among, among-any, each-two, among-filter, filter-among, at-below}
+use Rattle.base.specs.AtLaws.{at-low}
+use Rattle.base.specs.QuantifierLaws.{Among, implied, all-among, any-among, among-any, each-two, among-filter, filter-among}
 use Rattle.base.specs.Deciding.{decided}
 use Rattle.base.specs.Sets.{inSet}
 use Rattle.format.specs.Types.{Record, regular, transitional, Reading, says}
@@ -69,7 +70,7 @@ module _ (n q : ℕ) (l : Run) (w : Witness) where
         c .0,
         record {
           mine = record { entry = gen .entry; here = gen .here; its = refl };
-          out = at-below (sentAt n q l (m .sending)) (m .number) _ (gen .sent);
+          out = at-low (sentAt n q l (m .sending)) (m .number) _ (gen .sent);
           under = under;
         },
         sym here ∙ c .1,

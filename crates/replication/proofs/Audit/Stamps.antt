@@ -8,7 +8,8 @@ use native.Mathlib.Omega.{arith}
 use lib.ListN.{length, take, drop, getD}
 use Rattle.base.specs.Tests.{_=?_, pick, Known, holds, fails, known, eq-holds, eq-fails, eq-yes, eq-no}
 use Rattle.base.specs.Lists.{at, upd}
-use Rattle.base.specs.QuantifierLaws.{nothing-there, some-same, at-drop}
+use Rattle.base.specs.AtLaws.{upd-here, upd-elsewhere, none-some, some-same}
+use Rattle.base.specs.QuantifierLaws.{at-drop}
 use Rattle.replication.specs.Runs.Happenings.{Message}
 use Rattle.replication.specs.Audit.Table.{Role, delivers, takes, transits, goes-down, comes-back, neither, Row}
 use Rattle.replication.specs.Audit.Clocks.{joinClocks, raise, Stamp, Stamps, numberOf, clockAt, clockWith, learnt, stampFor, withStamp, stampsThrough, noStamps, stamps}
@@ -65,14 +66,6 @@ raise-more (suc i) v u (x ∷ xs) h (suc j) = raise-more i v u xs h j
 
 -- ---- the walk
 
-upd-here : {A : Type 0} (f : ℕ → A) (i : ℕ) (v : A) (j : ℕ) → j ≡ i → upd f i v j ≡ v
-unfolding upd pick
-upd-here f i v j e = rw (eq-yes j i e)
-
-upd-elsewhere : {A : Type 0} (f : ℕ → A) (i : ℕ) (v : A) (j : ℕ) → (j ≡ i → ⊥) → upd f i v j ≡ f j
-unfolding upd pick
-upd-elsewhere f i v j h = rw (eq-no j i h)
-
 stamped : Stamps → Row → Stamps
 stamped s r = withStamp s r (stampFor s r)
 
@@ -85,7 +78,7 @@ through-split (suc m) s (r ∷ rs) = through-split m (withStamp s r (stampFor s 
 through-next : (s : Stamps) (rs : List Row) (p : ℕ) (r : Row) → at rs p ≡ some r
     → stampsThrough s (take (suc p) rs) ≡ stamped (stampsThrough s (take p rs)) r
 unfolding stampsThrough stamped at
-through-next s [] p r e = nothing-there e
+through-next s [] p r e = none-some e
 through-next s (y ∷ rs) zero r e = ap (λ z. withStamp s z (stampFor s z)) (some-same e)
 through-next s (y ∷ rs) (suc p) r e = through-next (withStamp s y (stampFor s y)) rs p r e
 
@@ -93,7 +86,7 @@ through-past : (s : Stamps) (rs : List Row) (p : ℕ) → at rs p ≡ none → s
 unfolding stampsThrough at
 through-past s [] zero e = refl
 through-past s [] (suc p) e = refl
-through-past s (y ∷ rs) zero e = nothing-there (sym e)
+through-past s (y ∷ rs) zero e = none-some (sym e)
 through-past s (y ∷ rs) (suc p) e = through-past (withStamp s y (stampFor s y)) rs p e
 
 -- Rows of other places leave a place's stamp.
@@ -121,7 +114,7 @@ module _ (rs : List Row) (ordered : (p : ℕ) (r : Row) → at rs p ≡ some r �
   stamp-is p r e =
       stamp-lasts p (suc p) (omega arith)
       ∙ ap (λ (z : Stamps). z .stamp p) (through-next noStamps rs p r e)
-      ∙ upd-here (until p .stamp) (r .place) (stampFor (until p) r) p (sym (ordered p r e))
+      ∙ subst (λ x. upd (until p .stamp) x (stampFor (until p) r) p ≡ stampFor (until p) r) (sym (ordered p r e)) (upd-here (until p .stamp) p (stampFor (until p) r))
 
   -- What a server knows after its row r at p.
   abbrev after : ℕ → Row → List ℕ
@@ -141,7 +134,7 @@ module _ (rs : List Row) (ordered : (p : ℕ) (r : Row) → at rs p ≡ some r �
       go : Known (i =? y .server) → Below (until m .latest i) (upd (until m .latest) (y .server) new i)
       go (holds h) =
           let same : i ≡ y .server = eq-holds i (y .server) h in
-          subst (λ z. Below (until m .latest i) z) (sym (upd-here (until m .latest) (y .server) new i same))
+          subst (λ z. Below (until m .latest i) z) (sym (ap (upd (until m .latest) (y .server) new) same ∙ upd-here (until m .latest) (y .server) new))
           (below-trans (until m .latest i) (t .clock) new
           (subst (λ k. Below (until m .latest k) (t .clock)) (sym same) (join-left (until m .latest (y .server)) (learnt (until m) (y .role) (y .source))))
           (raise-below (y .server) (until m .count + length (y .sent)) (t .clock)))
@@ -160,7 +153,7 @@ module _ (rs : List Row) (ordered : (p : ℕ) (r : Row) → at rs p ≡ some r �
   unfolding until stamped withStamp stampFor
   latest-here p r e =
       ap (λ (z : Stamp). raise (r .server) (z .first + length (r .sent)) (z .clock)) (stamp-is p r e)
-      ∙ sym (upd-here (until p .latest) (r .server) (raise (r .server) (until p .count + length (r .sent)) (stampFor (until p) r .clock)) (r .server) refl)
+      ∙ sym (upd-here (until p .latest) (r .server) (raise (r .server) (until p .count + length (r .sent)) (stampFor (until p) r .clock)))
       ∙ ap (λ (z : Stamps). z .latest (r .server)) (sym (through-next noStamps rs p r e))
 
   latest-knows : (m p : ℕ) (r : Row) → p < m → at rs p ≡ some r → Below (after p r) (until m .latest (r .server))

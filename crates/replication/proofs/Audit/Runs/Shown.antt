@@ -9,7 +9,7 @@ use mathlib.Core.Option.{Option, none, some}
 use lib.ListN.{length, getD}
 use native.Mathlib.Omega.{arith}
 use Rattle.base.specs.Tests.{pick, Known, holds, fails, known}
-use Rattle.base.specs.QuantifierLaws.{nothing-there, some-same}
+use Rattle.base.specs.AtLaws.{none-some, some-same}
 use Rattle.base.specs.Lists.{atFront, at}
 use Rattle.format.specs.Types.{Primary, Mark, State}
 use Rattle.replication.specs.Machine.Types.{Mode, Server, Outcome, taken, refused}
@@ -62,12 +62,12 @@ installed n q l = installedFrom (beginning n q) l
 -- What is installed at a place is a primary component of the run.
 pub installed-primary : (n q : ℕ) (l : Run) (p : ℕ) (y : Entry) (a : Primary) → at l p ≡ some y → installedBy (worldAt n q l p) y ≡ some a → IsPrimary n q l a
 unfolding installedBy lastOfOutcome pick
-installed-primary n q l p (crash i) a h f = nothing-there f
+installed-primary n q l p (crash i) a h f = none-some f
 installed-primary n q l p (event i e k) a h f = go (known (installs (sourceOf (worldAt n q l p .images i) e) e)) (arrive (worldAt n q l p .images i) e) refl
   where
     go : Known (installs (sourceOf (worldAt n q l p .images i) e) e) → (o : Outcome (List ℕ)) → arrive (worldAt n q l p .images i) e ≡ o → IsPrimary n q l a
-    go (fails t) o g = nothing-there (rw t at f)
-    go (holds t) (refused j) g = nothing-there (rw (t, g) at f)
+    go (fails t) o g = none-some (rw t at f)
+    go (holds t) (refused j) g = none-some (rw (t, g) at f)
     go (holds t) (taken s r b c) g = subst (IsPrimary n q l) (some-same (rw (t, g) at f)) (of-install p i k e s r b c h g t)
 
 -- Of the State that a server has collected of itself: marked; to be cleared by (a), by (b), by (c).

@@ -10,7 +10,8 @@ use mathlib.Core.Option.{Option, some}
 use native.Mathlib.Omega.{arith}
 use Rattle.base.specs.Tests.{_=?_, _and_, not-both, not-holds, both-yes}
 use Rattle.base.specs.Lists.{all, same, at}
-use Rattle.base.specs.QuantifierLaws.{some-same, all-at}
+use Rattle.base.specs.AtLaws.{some-same}
+use Rattle.base.specs.QuantifierLaws.{all-at}
 use Rattle.base.specs.Deciding.{decided, numbers-decided, lists-decided}
 use Rattle.format.specs.Types.{Primary, Record, state, cpc, regular, transitional, recovery}
 use Rattle.format.specs.Write.{write}

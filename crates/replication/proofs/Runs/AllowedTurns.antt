@@ -1,0 +1,188 @@
+-- What a place of an allowed run does to one server: the event that it takes, what that says, and the transition that it makes.
+use Prim.Native.Nat.{ℕ, zero, suc, _≤_, _<_}
+use mathlib.Core.Path.{_≡_, refl, sym, ap, subst, _∙_}
+use mathlib.Core.Bool.{Bool, true, false}
+use mathlib.Core.List.{List, [], _∷_, _++_, map}
+use mathlib.Core.Option.{Option, none, some}
+use native.Mathlib.Omega.{arith}
+use Rattle.base.specs.Tests.{pick, not-both}
+use Rattle.base.specs.Lists.{at}
+use Rattle.base.specs.AtLaws.{some-same}
+use Rattle.format.specs.Types.{Action, Record, recovery, Reading, says, refused}
+use Rattle.format.specs.Read.{read}
+use Rattle.format.specs.Write.{write}
+use Rattle.replication.specs.Machine.Types.{Server, Outcome, taken, contextOf}
+use Rattle.replication.specs.Machine.Requests.{recovered}
+use Rattle.replication.specs.Machine.Rules.{recovering, ruleFor}
+use Rattle.replication.specs.Machine.Step.{apply, stored, step}
+use Rattle.replication.specs.Images.{Images, isRecovery, sourceOf, arrive}
+use Rattle.replication.specs.Laws.Transitions as L
+use Rattle.replication.specs.Laws.Transitions.{TakenBy, Transition}
+use Rattle.replication.specs.Runs.Run.{Entry, event, crash, Run, Place, nowhere, moved, recordsOf, worldAt, placeAt, heardAt, putOut}
+use Rattle.replication.specs.Runs.Happenings.{Of, Crashes, Comes}
+use Rattle.replication.specs.Runs.Allowed.{Allowed}
+use Rattle.replication.proofs.Step.Inversion.{taken-by}
+use Rattle.replication.proofs.Step.Moves as M
+use Rattle.replication.proofs.Runs.Places.{put-out-at}
+use Rattle.replication.proofs.Runs.Turns as T
+use Rattle.replication.proofs.Runs.Shifts.{says-same}
+use Rattle.replication.proofs.Runs.Readings.{answer-refused}
+use Rattle.replication.proofs.Runs.Refusals.{recovery-taken}
+use Rattle.replication.proofs.Runs.PlaceMoves.{placeOf}
+use Rattle.replication.proofs.Runs.Coupling.{Source, from-store, from-memory, source, refusal-stays}
+
+module _ (n q : ℕ) (l : Run) where
+  abbrev pub memoryAt : ℕ → ℕ → Server
+  memoryAt p i = worldAt n q l p .images i .memory
+
+  abbrev pub storeAt : ℕ → ℕ → Server
+  storeAt p i = worldAt n q l p .images i .store
+
+  -- The server i, which is up, takes an event that is no recovery.
+  pub record Acts (p i : ℕ) : Type 0 where
+    pub bytes : List ℕ
+    pub sent : ℕ
+    pub here : at l p ≡ some (event i bytes sent)
+    pub up : worldAt n q l p .down i ≡ false
+    pub after : Server
+    pub written : List (List ℕ)
+    pub stores : Bool
+    pub greened : List Action
+    pub arrives : arrive (worldAt n q l p .images i) bytes ≡ taken after written stores greened
+    pub by : TakenBy (memoryAt p i) bytes after written stores greened
+    pub heard : heardAt n q l p i bytes ≡ says (by .event)
+    pub running : isRecovery (says (by .event)) ≡ false
+    pub moves : Transition (memoryAt p i) (by .event) after (by .records) stores
+    pub memory-next : memoryAt (suc p) i ≡ after
+    pub store-next : storeAt (suc p) i ≡ pick stores after (storeAt p i)
+    pub down-next : worldAt n q l (suc p) .down i ≡ false
+    pub place-next : placeAt n q l i (suc p) ≡ moved (says (by .event)) (placeAt n q l i p)
+    pub put : putOut n q l p ≡ map write (by .records)
+
+  -- The server i recovers from its store.
+  pub record Recovers (p i : ℕ) : Type 0 where
+    pub comes : Comes n q l p i recovery
+    pub memory-next : memoryAt (suc p) i ≡ recovered (storeAt p i)
+    pub store-next : storeAt (suc p) i ≡ recovered (storeAt p i)
+    pub down-next : worldAt n q l (suc p) .down i ≡ false
+    pub place-next : placeAt n q l i (suc p) ≡ nowhere
+    pub put : putOut n q l p ≡ []
+
+  -- The server i, which is up, refuses an event.
+  pub record Refuses (p i : ℕ) : Type 0 where
+    pub bytes : List ℕ
+    pub sent : ℕ
+    pub number : ℕ
+    pub here : at l p ≡ some (event i bytes sent)
+    pub up : worldAt n q l p .down i ≡ false
+    pub running : isRecovery (heardAt n q l p i bytes) ≡ false
+    pub reads : read (contextOf (memoryAt p i)) bytes ≡ heardAt n q l p i bytes
+    pub refusal : step (memoryAt p i) bytes ≡ Outcome.refused number
+    pub images-next : worldAt n q l (suc p) .images i ≡ worldAt n q l p .images i
+    pub down-next : worldAt n q l (suc p) .down i ≡ false
+    pub place-next : placeAt n q l i (suc p) ≡ placeAt n q l i p
+    pub put : putOut n q l p ≡ []
+
+  pub data AllowedTurn (p i : ℕ) : Type 0 where
+    rests : (Of l p i → ⊥) → worldAt n q l (suc p) .images i ≡ worldAt n q l p .images i → placeAt n q l i (suc p) ≡ placeAt n q l i p
+        → worldAt n q l (suc p) .down i ≡ worldAt n q l p .down i → AllowedTurn p i
+    crashes : Crashes l p i → worldAt n q l (suc p) .images i ≡ worldAt n q l p .images i → placeAt n q l i (suc p) ≡ nowhere
+        → worldAt n q l (suc p) .down i ≡ true → AllowedTurn p i
+    refuses : Refuses p i → AllowedTurn p i
+    recovers : Recovers p i → AllowedTurn p i
+    acts : Acts p i → AllowedTurn p i
+
+-- A recovery leaves the recovered store, stored, and sends nothing.
+recovery-takes : {s : Server} {e : List ℕ} {t : Server} {bs : List (List ℕ)} {b : Bool} {g : List Action} (x : TakenBy s e t bs b g)
+    → x .event ≡ recovery → (t ≡ recovered s) × (bs ≡ []) × (b ≡ true)
+unfolding ruleFor apply stored
+recovery-takes {s} {e} {t} {bs} {b} {g} x h =
+    let k : recovering ≡ x .rule = some-same (ap (ruleFor (s .membership .mode)) (sym h) ∙ x .ruled) in
+    let o = ap (λ z. apply z s) k ∙ x .applied in
+    (outcome-after o, x .written ∙ ap (map write) (outcome-records o), outcome-stores o)
+  where
+    outcome-after : {u v : Server} {rs us : List Record} {c d : Bool} {y z : List Action} → taken u rs c y ≡ taken v us d z → v ≡ u
+    outcome-after w = cc
+
+    outcome-records : {u v : Server} {rs us : List Record} {c d : Bool} {y z : List Action} → taken u rs c y ≡ taken v us d z → us ≡ rs
+    outcome-records w = cc
+
+    outcome-stores : {u v : Server} {rs us : List Record} {c d : Bool} {y z : List Action} → taken u rs c y ≡ taken v us d z → d ≡ c
+    outcome-stores w = cc
+
+module _ {n q : ℕ} {l : Run} (A : Allowed n q l) (p i : ℕ) where
+  acting : (e : List ℕ) (k : ℕ) (t : Server) (bs : List (List ℕ)) (b : Bool) (g : List Action) → at l p ≡ some (event i e k)
+      → arrive (worldAt n q l p .images i) e ≡ taken t bs b g
+      → worldAt n q l (suc p) .images i ≡ record { memory = t; store = pick b t (worldAt n q l p .images i .store) }
+      → placeAt n q l i (suc p) ≡ moved (heardAt n q l p i e) (placeAt n q l i p) → worldAt n q l (suc p) .down i ≡ false
+      → Source n q l p i e → AllowedTurn n q l p i
+  unfolding arrive moved isRecovery pick recordsOf
+  acting e k t bs b g h a m c d (from-store s o r) =
+      let y = taken-by (storeAt n q l p i) e t bs b g (ap (λ z. step z e) (sym o) ∙ a) in
+      let w = recovery-takes y (says-same (sym (y .reads) ∙ r)) in
+      recovers
+      (record {
+        comes = record { bytes = e; sent = k; here = h; heard = s };
+        memory-next = ap (λ z. z .memory) m ∙ w .0;
+        store-next = ap (λ z. z .store) m ∙ ap (λ z. pick z t (storeAt n q l p i)) (w .2) ∙ w .0;
+        down-next = d;
+        place-next = c ∙ ap (λ z. moved z (placeAt n q l i p)) s;
+        put = put-out-at n q l p i k e h ∙ ap recordsOf a ∙ w .1;
+      })
+  acting e k t bs b g h a m c d (from-memory u r o x) =
+      let y = taken-by (memoryAt n q l p i) e t bs b g (ap (λ z. step z e) (sym o) ∙ a) in
+      let w = sym x ∙ y .reads in
+      acts
+      (record {
+        bytes = e;
+        sent = k;
+        here = h;
+        up = u;
+        after = t;
+        written = bs;
+        stores = b;
+        greened = g;
+        arrives = a;
+        by = y;
+        heard = w;
+        running = ap isRecovery (sym w) ∙ r;
+        moves = M.moved y .0;
+        memory-next = ap (λ z. z .memory) m;
+        store-next = ap (λ z. z .store) m;
+        down-next = d;
+        place-next = c ∙ ap (λ z. moved z (placeAt n q l i p)) w;
+        put = put-out-at n q l p i k e h ∙ ap recordsOf a ∙ y .written;
+      })
+
+  refusing : (e : List ℕ) (k z : ℕ) → at l p ≡ some (event i e k) → arrive (worldAt n q l p .images i) e ≡ Outcome.refused z
+      → worldAt n q l (suc p) .images i ≡ worldAt n q l p .images i → placeAt n q l i (suc p) ≡ moved (heardAt n q l p i e) (placeAt n q l i p)
+      → worldAt n q l (suc p) .down i ≡ false → Source n q l p i e → AllowedTurn n q l p i
+  unfolding arrive recordsOf
+  refusing e k z h a m c d (from-store s o r) =
+      absurd (recovery-taken _ z (answer-refused (storeAt n q l p i) e recovery z (ap (λ y. step y e) (sym o) ∙ a) r))
+  refusing e k z h a m c d (from-memory u r o x) =
+      let y = ap (λ w. step w e) (sym o) ∙ a in
+      refuses
+      (record {
+        bytes = e;
+        sent = k;
+        number = z;
+        here = h;
+        up = u;
+        running = r;
+        reads = x;
+        refusal = y;
+        images-next = m;
+        down-next = d;
+        place-next = c ∙ refusal-stays A p i k z e h u r y;
+        put = put-out-at n q l p i k e h ∙ ap recordsOf a;
+      })
+
+  pub allowed-turn : AllowedTurn n q l p i
+  allowed-turn = go (T.turn n q l p i)
+    where
+      go : T.Turn n q l p i → AllowedTurn n q l p i
+      go (T.rests o m c d) = rests o m c d
+      go (T.crashes x m c d) = crashes x m c d
+      go (T.refuses e k z h a m c d) = refusing e k z h a m c d (source A p i k e h)
+      go (T.acts e k t bs b g h a m c d) = acting e k t bs b g h a m c d (source A p i k e h)
