@@ -1,8 +1,7 @@
 -- Tests that decide an equation.
 -- Assumes nothing.
-use Prim.Native.Nat.{ℕ}
 use mathlib.Core.Path.{_≡_, refl, ap, subst}
-use mathlib.Core.Bool.{Bool, true, false}
+use mathlib.Core.Bool.{Bool, true}
 use mathlib.Core.Option.{Option, none, some}
 use Rattle.base.specs.Tests.{_=?_, _and_, not-both, eq-yes, eq-holds, and-holds, both-yes}
 use Rattle.base.specs.Lists.{same}

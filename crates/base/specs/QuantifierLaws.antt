@@ -2,13 +2,13 @@
 -- Assumes nothing.
 use Prim.Native.Nat.{ℕ, zero, suc, _+_, _<_}
 use mathlib.Core.Path.{_≡_, refl, sym, ap, subst, _∙_}
-use mathlib.Core.Bool.{Bool, true, false, not}
+use mathlib.Core.Bool.{Bool, true, false}
 use mathlib.Core.List.{List, [], _∷_, _++_, map}
 use mathlib.Core.Option.{Option, none, some}
 use native.Mathlib.Nat.{zero-add, suc-add}
 use native.Mathlib.Omega.{arith}
-use lib.ListN.{length, take, drop}
-use Rattle.base.specs.Tests.{_and_, _or_, _<?_, pick, not-both, and-holds, lt-holds, lt-fails, Known, holds, fails, known}
+use lib.ListN.{drop}
+use Rattle.base.specs.Tests.{_or_, _<?_, pick, not-both, and-holds, lt-holds, lt-fails, Known, holds, fails, known}
 use Rattle.base.specs.Lists.{all, any, filter, atFront, gather, gatherAll, below, at}
 use Rattle.base.specs.AtLaws.{none-some, some-same}
 use Rattle.base.specs.Quantifiers.{_implies_, pairs}

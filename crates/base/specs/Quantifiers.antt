@@ -1,6 +1,5 @@
 -- Tests of all, of some and of each two elements of a list, and tests that decide an equation.
 -- Assumes nothing.
-use Prim.Native.Nat.{ℕ}
 use mathlib.Core.Bool.{Bool, true, false}
 use mathlib.Core.List.{List, [], _∷_}
 use mathlib.Core.Option.{Option, none, some}

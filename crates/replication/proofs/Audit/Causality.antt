@@ -1,16 +1,16 @@
 -- What causes something is known there, by the vector clocks.
 -- Assumes nothing.
-use Prim.Native.Nat.{ℕ, suc, _+_, _≤_, _<_}
-use mathlib.Core.Path.{_≡_, refl, sym, ap, subst, subst₂, _∙_}
+use Prim.Native.Nat.{ℕ, suc, _+_, _<_}
+use mathlib.Core.Path.{_≡_, sym, ap, subst, subst₂, _∙_}
 use mathlib.Core.List.{List}
-use mathlib.Core.Option.{Option, none, some}
+use mathlib.Core.Option.{some}
 use native.Mathlib.Omega.{arith}
 use lib.ListN.{length, getD}
 use Rattle.base.specs.Lists.{at}
 use Rattle.replication.specs.Runs.Run.{Entry, event, Run, serverOf, sentAt}
 use Rattle.replication.specs.Runs.Happenings.{Message, Happening, entry-at, sending-of, Of, Delivers, Causes, in-turn, sends, in-order, before-next, carries, through}
 use Rattle.replication.specs.Audit.Witness.{Witness, sourceIn, nameIn}
-use Rattle.replication.specs.Audit.Table.{delivers, Row, rowOf, table}
+use Rattle.replication.specs.Audit.Table.{delivers, Row, table}
 use Rattle.replication.specs.Audit.Clocks.{raise, Stamps, numberOf, clockAt, clockWith, stamps}
 use Rattle.replication.proofs.Audit.Rows.{rowAt, table-holds, table-is, row-place, row-server, row-sent, role-of}
 use Rattle.replication.proofs.Audit.Entries.{message-role, row-source}

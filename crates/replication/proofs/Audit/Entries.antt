@@ -1,25 +1,24 @@
 -- What comes at a place of a run is in the journal's lists, with what the definitions say of it; and what is in them comes.
 -- Assumes nothing.
-use Prim.Native.Nat.{ℕ, suc, _+_, _<_}
-use mathlib.Core.Path.{_≡_, refl, sym, ap, ap₂, subst, subst₂, subst₃, _∙_}
+use Prim.Native.Nat.{ℕ, suc, _<_}
+use mathlib.Core.Path.{_≡_, refl, sym, ap, subst, subst₂, subst₃, _∙_}
 use mathlib.Core.Bool.{Bool, true, false}
-use mathlib.Core.List.{List, [], _∷_, map}
+use mathlib.Core.List.{List, map}
 use mathlib.Core.Option.{Option, none, some}
-use native.Mathlib.Omega.{arith}
 use lib.ListN.{length, take, getD}
-use Rattle.base.specs.Tests.{_=?_, _and_, pick, Known, holds, fails, known, not-both, and-holds, eq-holds}
-use Rattle.base.specs.Lists.{any, gather, gatherAll, below, at}
+use Rattle.base.specs.Tests.{pick, not-both, and-holds, eq-holds}
+use Rattle.base.specs.Lists.{any, gatherAll, below, at}
 use Rattle.base.specs.AtLaws.{none-some, at-in-take}
 use Rattle.base.specs.QuantifierLaws.{Among, any-among, among-gather, gather-among, among-gather-all, among-map, among-below}
 use Rattle.format.specs.Types.{Record, action, retransmission, state, cpc, regular, transitional, request, recovery, says}
 use Rattle.replication.specs.Machine.Types.{Configuration}
 use Rattle.replication.specs.Runs.Run.{Entry, event, crash, Run, serverOf, placeAt, sentAt}
-use Rattle.replication.specs.Runs.Happenings.{Message, isMessage, Configured, regularly, transitionally, Happening, entry-at, sending-of, Of, Comes, Takes, Sends, Delivers, Configures, to-regular, to-transitional}
+use Rattle.replication.specs.Runs.Happenings.{Message, isMessage, Configured, entry-at, sending-of, Comes, Takes, Sends, Delivers, Configures, to-regular, to-transitional}
 use Rattle.replication.specs.Audit.Witness.{Witness, sourceIn, nameIn, entryOrd, sendingOrdsAt, ordIn}
 use Rattle.replication.specs.Audit.Same.{sameMessage}
 use Rattle.replication.specs.Audit.Table.{Role, delivers, takes, transits, goes-down, comes-back, neither, roleIn, Row, rowOf, table}
 use Rattle.replication.specs.Audit.Clocks.{Stamps, numberOf, clockAt, stamps}
-use Rattle.replication.specs.Audit.Journal.{Sending, sendingIn, sendingsOf, messageBy, isBeside, earlierIn, Delivery, deliveryOf, deliveryBy, Taking, takingBy, Transition, transitionBy, Change, changeBy, takingsIn, transitionsIn, changesIn, deliveriesIn}
+use Rattle.replication.specs.Audit.Journal.{Sending, sendingIn, sendingsOf, messageBy, isBeside, earlierIn, Delivery, deliveryOf, deliveryBy, takingBy, transitionBy, changeBy, takingsIn, transitionsIn, changesIn, deliveriesIn}
 use Rattle.replication.proofs.Audit.Sameness.{messages-decided}
 use Rattle.replication.proofs.Audit.Rows.{rowAt, row-among, table-holds, table-is, row-place, row-server, row-after, row-sent, meaning, Meaning, role-of}
 

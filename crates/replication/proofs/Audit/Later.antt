@@ -2,21 +2,21 @@
 -- Assumes nothing.
 use Prim.Native.Nat.{ℕ, zero, suc, _+_, _-_, _<_}
 use mathlib.Core.Path.{_≡_, refl, sym, ap, subst, _∙_}
-use mathlib.Core.Bool.{Bool, true, false}
+use mathlib.Core.Bool.{Bool, true}
 use mathlib.Core.List.{List, [], _∷_}
-use mathlib.Core.Option.{Option, none, some}
+use mathlib.Core.Option.{Option, some}
 use native.Mathlib.Omega.{arith}
-use lib.ListN.{length, drop}
+use lib.ListN.{drop}
 use Rattle.base.specs.Tests.{_=?_, pick, Known, holds, fails, known, eq-holds, eq-yes, not-both}
 use Rattle.base.specs.Lists.{at, filter, gather}
 use Rattle.base.specs.AtLaws.{none-some, some-same}
 use Rattle.base.specs.QuantifierLaws.{Among, at-drop, among-filter, among-gather}
 use Rattle.replication.specs.Machine.Types.{Configuration}
 use Rattle.replication.specs.Runs.Run.{Entry, event, Run, serverOf, placeAt}
-use Rattle.replication.specs.Runs.Happenings.{Configured, regularly, transitionally, Of, Crashes, Comes, Falls, by-crash, by-recovery, Takes, Left, Configures, to-regular, to-transitional, Passes}
+use Rattle.replication.specs.Runs.Happenings.{Configured, regularly, transitionally, Of, Crashes, Falls, by-crash, by-recovery, Takes, Left, Configures, to-regular, to-transitional, Passes}
 use Rattle.replication.specs.Audit.Witness.{Witness, sourceIn, nameIn, entryOrd}
 use Rattle.replication.specs.Audit.Table.{Role, delivers, takes, transits, goes-down, comes-back, neither, roleIn, Row, rowOf, table}
-use Rattle.replication.specs.Audit.Journal.{Taking, Change, changeBy, settlesBy, settles, nextBy, nextChange, isCrash, crashesNext, hasLeft, Passage, passageTo, passageFrom, takingsIn, changesIn}
+use Rattle.replication.specs.Audit.Journal.{Change, changeBy, settlesBy, settles, nextBy, nextChange, isCrash, crashesNext, hasLeft, passageTo, passageFrom, takingsIn, changesIn}
 use Rattle.replication.proofs.Audit.Rows.{rowAt, table-holds, table-is, row-server, Meaning, meaning, role-of}
 use Rattle.replication.proofs.Audit.Entries.{taking-among, change-row, change-among}
 

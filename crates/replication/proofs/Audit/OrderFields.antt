@@ -2,34 +2,33 @@
 -- Assumes nothing.
 use Prim.Native.Nat.{ℕ, suc, _<_}
 use mathlib.Core.Path.{_≡_, refl, sym, ap, subst, subst₂, _∙_}
-use mathlib.Core.Bool.{Bool, true}
-use mathlib.Core.List.{List}
-use mathlib.Core.Option.{Option, some}
+use mathlib.Core.Bool.{true}
+use mathlib.Core.Option.{some}
 use native.Mathlib.Omega.{arith}
-use lib.ListN.{length, getD}
-use Rattle.base.specs.Tests.{_=?_, _<?_, _and_, and-holds, eq-yes, eq-holds, both-yes, lt-yes}
-use Rattle.base.specs.Lists.{all, any, at}
-use Rattle.base.specs.Quantifiers.{_implies_, pairs}
+use lib.ListN.{getD}
+use Rattle.base.specs.Tests.{and-holds, eq-yes, eq-holds, both-yes, lt-yes}
+use Rattle.base.specs.Lists.{any}
+use Rattle.base.specs.Quantifiers.{_implies_}
 use Rattle.base.specs.AtLaws.{at-low}
-use Rattle.base.specs.QuantifierLaws.{Among, implied, all-among, each-two}
+use Rattle.base.specs.QuantifierLaws.{implied, all-among, each-two}
 use Rattle.base.specs.Deciding.{decided}
 use Rattle.base.specs.Sets.{inSet}
 use Rattle.replication.specs.Machine.Types.{Configuration}
-use Rattle.replication.specs.Runs.Run.{Entry, Run, serverOf, Place, placeAt, members, sentAt}
+use Rattle.replication.specs.Runs.Run.{Entry, Run, Place, placeAt, members, sentAt}
 use Rattle.replication.specs.Runs.Happenings.{Message, Configured, Happening, entry-at, sending-of, Left, Sends, Delivers, Delivered, Configures, Causes, Precedes}
 use Rattle.replication.specs.Audit.Witness.{Witness, sourceIn, nameIn, ordIn}
-use Rattle.replication.specs.Audit.Same.{sameMessage, sameRegular, sameConfigured}
+use Rattle.replication.specs.Audit.Same.{sameMessage}
 use Rattle.replication.specs.Audit.Table.{table}
 use Rattle.replication.specs.Audit.Clocks.{knows}
 use Rattle.replication.specs.Audit.Journal.{Sending, Delivery, Taking, Change, Journal, sorted, journalOf}
 use Rattle.replication.specs.Audit.Rules.{genuine}
-use Rattle.replication.specs.Audit.Specifications.{isDelivered, comesAfter, isCause, causal, ownSendings, inTurn, rises, same-moment, same-message, one-order, isOwed, agreed, isSharedWith, safe}
+use Rattle.replication.specs.Audit.Specifications.{isDelivered, comesAfter, isCause, causal, rises, same-moment, same-message, one-order, isOwed, agreed, isSharedWith, safe}
 use Rattle.replication.proofs.Audit.Sameness.{messages-decided, regulars-decided, configured-decided}
-use Rattle.replication.proofs.Audit.Entries.{change-among, sendingAt, sending-among, Delivering, delivering, delivered-message, delivered-sending}
+use Rattle.replication.proofs.Audit.Entries.{change-among, sendingAt, sending-among, delivering, delivered-message, delivered-sending}
 use Rattle.replication.proofs.Audit.Later.{leaving-among}
 use Rattle.replication.proofs.Audit.Causality.{cause-known}
 use Rattle.replication.proofs.Audit.Ords.{precedes-rise}
-use Rattle.replication.proofs.Audit.RuleFields.{Genuine, genuine-delivery}
+use Rattle.replication.proofs.Audit.RuleFields.{genuine-delivery}
 use Rattle.replication.proofs.Audit.SpecificationFields.{found-delivered}
 
 module _ (n q : ℕ) (l : Run) (w : Witness) where

@@ -8,19 +8,19 @@ use mathlib.Core.List.{List, [], _∷_}
 use mathlib.Core.Option.{Option, none, some}
 use native.Mathlib.Omega.{arith}
 use lib.ListN.{length, getD}
-use Rattle.base.specs.Tests.{_=?_, _<?_, _and_, and-holds, eq-yes, eq-holds, lt-holds}
+use Rattle.base.specs.Tests.{_=?_, _<?_, and-holds, eq-yes, eq-holds, lt-holds}
 use Rattle.base.specs.Lists.{all, at}
-use Rattle.base.specs.Quantifiers.{_implies_, pairs}
+use Rattle.base.specs.Quantifiers.{pairs}
 use Rattle.base.specs.QuantifierLaws.{implied, all-at, all-among, pairs-at}
-use Rattle.replication.specs.Runs.Run.{Entry, event, crash, Run, serverOf, sentBy, sentAt}
+use Rattle.replication.specs.Runs.Run.{Entry, event, crash, Run, sentBy, sentAt}
 use Rattle.replication.specs.Runs.Happenings.{Message, Configured, Happening, entry-at, sending-of, Of, Delivers, Configures, Causes, in-turn, sends, in-order, before-next, carries, through, Precedes, causes, after-all, before-all, along}
 use Rattle.replication.specs.Audit.Witness.{Witness, sourceIn, nameIn, entryOrd, sendingOrdsAt, ordIn}
 use Rattle.replication.specs.Audit.Table.{Row, rowOf, table}
 use Rattle.replication.specs.Audit.Clocks.{stamps}
-use Rattle.replication.specs.Audit.Journal.{Delivery, Journal, deliveriesIn}
+use Rattle.replication.specs.Audit.Journal.{deliveriesIn}
 use Rattle.replication.specs.Audit.Specifications.{isRising, lastOf, ownSendings, inTurn}
 use Rattle.replication.proofs.Audit.Rows.{rowAt, table-holds, row-server, row-sent}
-use Rattle.replication.proofs.Audit.Entries.{row-ords, Delivering, delivering, delivered-sending, sendingAt}
+use Rattle.replication.proofs.Audit.Entries.{row-ords, delivering, delivered-sending, sendingAt}
 
 -- ---- rising numbers
 

@@ -2,21 +2,19 @@
 -- Assumes nothing.
 use Prim.Native.Nat.{ℕ, zero, suc, _+_, _<_}
 use mathlib.Core.Path.{_≡_, refl, sym, ap, ap₂, subst, _∙_}
-use mathlib.Core.Bool.{Bool, true, false}
+use mathlib.Core.Bool.{true}
 use mathlib.Core.List.{List, [], _∷_}
-use mathlib.Core.Option.{Option, none, some}
-use native.Mathlib.Nat.{add-zero, add-suc, suc-add, zero-add}
+use mathlib.Core.Option.{Option, some}
+use native.Mathlib.Nat.{add-zero, zero-add}
 use native.Mathlib.Omega.{arith}
 use lib.ListN.{length, take}
-use Rattle.base.specs.Tests.{_=?_, _<?_, pick, Known, holds, fails, known, eq-holds, eq-fails, eq-no, not-both, lt-holds, lt-yes}
+use Rattle.base.specs.Tests.{_=?_, pick, Known, holds, fails, known, eq-holds, eq-fails, eq-no, lt-yes}
 use Rattle.base.specs.Lists.{at, upd}
 use Rattle.base.specs.AtLaws.{none-some, some-same}
 use Rattle.base.specs.QuantifierLaws.{Among}
 use Rattle.format.specs.Types.{Record, action, retransmission, state, cpc, regular, transitional, request, recovery, Reading, says, refused}
-use Rattle.replication.specs.Machine.Types.{Configuration}
-use Rattle.replication.specs.Images.{arrive}
-use Rattle.replication.specs.Runs.Run.{Entry, event, crash, Run, serverOf, World, beginning, worldAfter, worldThrough, Place, nowhere, heard, placeAfter, placeThrough, recordsOf, worldAt, placeAt, heardAt, putOutBy, putOut, sentBy, sentAt}
-use Rattle.replication.specs.Runs.Happenings.{isMessage, Of, Crashes, Comes, Takes}
+use Rattle.replication.specs.Runs.Run.{Entry, event, crash, Run, serverOf, World, beginning, worldAfter, worldThrough, Place, nowhere, heard, placeAfter, placeThrough, worldAt, placeAt, heardAt, putOut, sentAt}
+use Rattle.replication.specs.Runs.Happenings.{isMessage, Crashes, Comes, Takes}
 use Rattle.replication.specs.Audit.Witness.{Witness}
 use Rattle.replication.proofs.Runs.Places.{place-next, put-out-at, sent-at, sent-by-crash}
 use Rattle.replication.specs.Audit.Table.{Role, delivers, takes, transits, goes-down, comes-back, neither, roleIn, Row, rowOf, rowsFrom, table}

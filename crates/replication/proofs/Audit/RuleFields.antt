@@ -2,24 +2,23 @@
 -- Assumes nothing.
 use Prim.Native.Nat.{ℕ, suc, _<_}
 use mathlib.Core.Path.{_≡_, refl, sym, ap, subst, subst₂, _∙_}
-use mathlib.Core.Bool.{Bool, true, false, not}
+use mathlib.Core.Bool.{true, false, not}
 use mathlib.Core.List.{List}
 use mathlib.Core.Option.{Option, none, some}
 use native.Mathlib.Omega.{arith}
 use lib.ListN.{length, drop}
-use Rattle.base.specs.Tests.{_=?_, _<?_, _and_, and-holds, not-both, not-holds, eq-yes, both-yes, lt-holds}
-use Rattle.base.specs.Lists.{all, isThere, same, at}
+use Rattle.base.specs.Tests.{_<?_, _and_, and-holds, not-both, not-holds, eq-yes, both-yes, lt-holds}
+use Rattle.base.specs.Lists.{isThere, same, at}
 use Rattle.base.specs.ListLaws.{is-there}
-use Rattle.base.specs.Quantifiers.{_implies_, pairs, sameOption}
-use Rattle.base.specs.AtLaws.{none-some, at-low}
-use Rattle.base.specs.QuantifierLaws.{Among, implied, all-among, each-two}
+use Rattle.base.specs.Quantifiers.{_implies_, sameOption}
+use Rattle.base.specs.AtLaws.{none-some}
+use Rattle.base.specs.QuantifierLaws.{implied, all-among, each-two}
 use Rattle.base.specs.Deciding.{decided, lists-decided, options-decided}
 use Rattle.format.specs.Types.{Record, transitional, recovery}
 use Rattle.replication.specs.Machine.Types.{Configuration}
 use Rattle.replication.specs.Runs.Run.{Entry, event, crash, Run, serverOf, worldAt, placeAt, putOut, sentAt}
 use Rattle.replication.specs.Runs.Happenings.{Message, isMessage, Of, Crashes, Comes, Takes, Delivers}
 use Rattle.replication.specs.Audit.Witness.{Witness, sourceIn, nameIn}
-use Rattle.replication.specs.Audit.Same.{sameConfiguration}
 use Rattle.replication.specs.Audit.Table.{Role, delivers, takes, transits, goes-down, comes-back, neither, Row, rowOf, table}
 use Rattle.replication.specs.Audit.Clocks.{stamps}
 use Rattle.replication.specs.Audit.Journal.{Delivery, Taking, Transition, Journal, crashesNext, sendingIn, sorted, journalOf}

@@ -1,11 +1,8 @@
 -- The audit's tests whether two things are the same decide it.
 -- Assumes nothing.
-use Prim.Native.Nat.{ℕ}
 use mathlib.Core.Path.{_≡_, ap}
 use mathlib.Core.Bool.{true}
-use mathlib.Core.Option.{Option}
-use Rattle.base.specs.Tests.{_=?_, not-both}
-use Rattle.base.specs.Quantifiers.{sameOption}
+use Rattle.base.specs.Tests.{not-both}
 use Rattle.base.specs.Deciding.{Decides, numbers-decided, options-decided, parts-decided}
 use Rattle.replication.specs.Machine.Types.{Configuration}
 use Rattle.replication.specs.Runs.Run.{Place}

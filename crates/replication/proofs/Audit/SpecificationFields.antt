@@ -1,36 +1,32 @@
 -- The thesis's Specifications hold of a run whose tests pass.
 -- Assumes nothing.
 use Prim.Native.Nat.{ℕ, suc, _≤_, _<_}
-use mathlib.Core.Path.{_≡_, refl, sym, ap, subst, subst₂, subst₃, _∙_}
-use mathlib.Core.Bool.{Bool, true, false}
-use mathlib.Core.List.{List}
-use mathlib.Core.Option.{Option, none, some}
+use mathlib.Core.Path.{_≡_, refl, sym, ap, subst, subst₂, _∙_}
+use mathlib.Core.Bool.{true}
+use mathlib.Core.Option.{Option, some}
 use native.Mathlib.Omega.{arith}
-use lib.ListN.{length, drop, getD}
-use Rattle.base.specs.Tests.{_=?_, _<?_, _and_, _or_, and-holds, not-both, eq-yes, eq-holds, both-yes, lt-yes, lt-holds, Known, holds, fails, known}
-use Rattle.base.specs.Lists.{all, any, filter, isThere, at}
+use lib.ListN.{drop}
+use Rattle.base.specs.Tests.{_=?_, _<?_, _and_, _or_, and-holds, eq-yes, eq-holds, both-yes, lt-yes, lt-holds}
+use Rattle.base.specs.Lists.{isThere}
 use Rattle.base.specs.ListLaws.{there}
-use Rattle.base.specs.Quantifiers.{_implies_, pairs}
+use Rattle.base.specs.Quantifiers.{_implies_}
 use Rattle.base.specs.AtLaws.{at-low}
 use Rattle.base.specs.QuantifierLaws.{Among, implied, all-among, any-among, among-any, each-two, among-filter, filter-among}
 use Rattle.base.specs.Deciding.{decided}
-use Rattle.base.specs.Sets.{inSet}
 use Rattle.format.specs.Types.{Record, regular, transitional, Reading, says}
 use Rattle.replication.specs.Machine.Types.{Configuration}
-use Rattle.replication.specs.Runs.Run.{Entry, event, Run, serverOf, Place, placeAt, heardAt, members, sentAt}
-use Rattle.replication.specs.Runs.Happenings.{Message, Configured, regularly, transitionally, Happening, entry-at, sending-of, Of, Comes, Falls, Takes, Left, Sends, Delivers, Delivered, Configures, to-regular, to-transitional, Passes, Causes}
-use Rattle.replication.specs.Audit.Witness.{Witness, sourceIn, nameIn, ordIn}
-use Rattle.replication.specs.Audit.Same.{sameMessage, sameRegular, samePlace, sameConfigured}
-use Rattle.replication.specs.Audit.Table.{Row, table}
-use Rattle.replication.specs.Audit.Clocks.{stamps, knows}
-use Rattle.replication.specs.Audit.Journal.{Sending, Delivery, Taking, Transition, Change, Passage, Journal, settles, deliveriesIn, sorted, journalOf}
+use Rattle.replication.specs.Runs.Run.{Entry, event, Run, serverOf, Place, placeAt, heardAt, sentAt}
+use Rattle.replication.specs.Runs.Happenings.{Message, Configured, Comes, Falls, Takes, Left, Sends, Delivers, Delivered, Configures, to-regular, to-transitional, Passes}
+use Rattle.replication.specs.Audit.Witness.{Witness, sourceIn, nameIn}
+use Rattle.replication.specs.Audit.Same.{sameMessage, sameRegular}
+use Rattle.replication.specs.Audit.Table.{table}
+use Rattle.replication.specs.Audit.Journal.{Sending, Delivery, Taking, Transition, Passage, Journal, settles, sorted, journalOf}
 use Rattle.replication.specs.Audit.Rules.{genuine}
-use Rattle.replication.specs.Audit.Specifications.{isDelivered, comesAfter, same-configuration, one-delivery, one-name, leftBy, self-delivery, during, isRegular, isOver, sameWay, allAmong, atomic, isCause, causal, same-moment, same-message, one-order, isOwed, agreed, isSharedWith, safe}
+use Rattle.replication.specs.Audit.Specifications.{isDelivered, same-configuration, one-delivery, one-name, leftBy, self-delivery, during, isRegular, isOver, sameWay, allAmong, atomic}
 use Rattle.replication.proofs.Audit.Sameness.{messages-decided, regulars-decided, places-decided, configured-decided}
-use Rattle.replication.proofs.Audit.Entries.{transition-among, change-among, sendingAt, sending-among, Delivering, delivering, delivered-message, delivered-sending, delivered}
+use Rattle.replication.proofs.Audit.Entries.{transition-among, sendingAt, sending-among, Delivering, delivering, delivered-message, delivered-sending, delivered}
 use Rattle.replication.proofs.Audit.Later.{settled, leaving-among, change, passage-among}
-use Rattle.replication.proofs.Audit.Causality.{cause-known}
-use Rattle.replication.proofs.Audit.RuleFields.{Genuine, genuine-delivery}
+use Rattle.replication.proofs.Audit.RuleFields.{genuine-delivery}
 
 module _ (n q : ℕ) (l : Run) (w : Witness) where
   abbrev J : Journal

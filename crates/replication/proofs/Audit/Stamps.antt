@@ -1,18 +1,17 @@
 -- The vector clocks of a table: each row knows what its server knew after its earlier rows, and what the sender of the message it delivers knew.
 -- Assumes nothing.
-use Prim.Native.Nat.{ℕ, zero, suc, _+_, _≤_, _<_, max}
-use mathlib.Core.Path.{_≡_, refl, sym, ap, ap₂, subst, _∙_}
+use Prim.Native.Nat.{ℕ, zero, suc, _+_, _≤_, _<_}
+use mathlib.Core.Path.{_≡_, refl, sym, ap, subst, _∙_}
 use mathlib.Core.List.{List, [], _∷_}
 use mathlib.Core.Option.{Option, none, some}
 use native.Mathlib.Omega.{arith}
 use lib.ListN.{length, take, drop, getD}
-use Rattle.base.specs.Tests.{_=?_, pick, Known, holds, fails, known, eq-holds, eq-fails, eq-yes, eq-no}
+use Rattle.base.specs.Tests.{_=?_, Known, holds, fails, known, eq-holds, eq-fails}
 use Rattle.base.specs.Lists.{at, upd}
 use Rattle.base.specs.AtLaws.{upd-here, upd-elsewhere, none-some, some-same}
 use Rattle.base.specs.QuantifierLaws.{at-drop}
-use Rattle.replication.specs.Runs.Happenings.{Message}
-use Rattle.replication.specs.Audit.Table.{Role, delivers, takes, transits, goes-down, comes-back, neither, Row}
-use Rattle.replication.specs.Audit.Clocks.{joinClocks, raise, Stamp, Stamps, numberOf, clockAt, clockWith, learnt, stampFor, withStamp, stampsThrough, noStamps, stamps}
+use Rattle.replication.specs.Audit.Table.{delivers, Row}
+use Rattle.replication.specs.Audit.Clocks.{joinClocks, raise, Stamp, Stamps, numberOf, clockWith, learnt, stampFor, withStamp, stampsThrough, noStamps, stamps}
 
 -- ---- clocks
 

@@ -2,16 +2,15 @@
 -- Assumes nothing.
 use Prim.Native.Nat.{ℕ, suc}
 use mathlib.Core.Bool.{Bool, true, false, not}
-use mathlib.Core.List.{List}
-use mathlib.Core.Option.{Option, some}
+use mathlib.Core.Option.{some}
 use lib.ListN.{drop}
-use Rattle.base.specs.Tests.{_and_, _or_, _=?_, _<?_}
+use Rattle.base.specs.Tests.{_and_, _=?_, _<?_}
 use Rattle.base.specs.Lists.{all, isThere, same}
 use Rattle.base.specs.Quantifiers.{_implies_, pairs, sameOption}
 use Rattle.format.specs.Range.{sizesOk}
 use Rattle.replication.specs.Audit.Same.{sameConfiguration}
-use Rattle.replication.specs.Audit.Table.{Role, delivers, takes, transits, goes-down, comes-back, neither, Row}
-use Rattle.replication.specs.Audit.Journal.{Delivery, Taking, Transition, Journal, crashesNext}
+use Rattle.replication.specs.Audit.Table.{Role, delivers, takes, transits, goes-down, comes-back, neither}
+use Rattle.replication.specs.Audit.Journal.{Journal, crashesNext}
 
 -- "All servers begin at the start, with one n and one q, each under its own number"
 unfoldable pub sizes : ℕ → ℕ → Bool

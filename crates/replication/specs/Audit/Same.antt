@@ -1,7 +1,6 @@
 -- Tests whether two messages, configurations or places are the same.
 -- Assumes nothing.
-use Prim.Native.Nat.{ℕ}
-use mathlib.Core.Bool.{Bool, true, false}
+use mathlib.Core.Bool.{Bool, false}
 use mathlib.Core.Option.{Option}
 use Rattle.base.specs.Tests.{_and_, _=?_}
 use Rattle.base.specs.Quantifiers.{sameOption}

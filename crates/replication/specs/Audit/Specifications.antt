@@ -3,7 +3,7 @@
 use Prim.Native.Nat.{ℕ, suc}
 use mathlib.Core.Bool.{Bool, true, false}
 use mathlib.Core.List.{List, [], _∷_}
-use mathlib.Core.Option.{Option, some}
+use mathlib.Core.Option.{some}
 use lib.ListN.{length, drop}
 use Rattle.base.specs.Tests.{_and_, _or_, _=?_, _<?_}
 use Rattle.base.specs.Lists.{all, any, filter, isThere}
@@ -14,7 +14,7 @@ use Rattle.replication.specs.Runs.Happenings.{Message, Configured, regul
 use Rattle.replication.specs.Audit.Same.{sameMessage, sameRegular, samePlace, sameConfigured}
 use Rattle.replication.specs.Audit.Table.{Row}
 use Rattle.replication.specs.Audit.Clocks.{knows}
-use Rattle.replication.specs.Audit.Journal.{Sending, Delivery, Taking, Transition, Change, Passage, Journal, settles}
+use Rattle.replication.specs.Audit.Journal.{Sending, Delivery, Taking, Passage, Journal, settles}
 
 -- The server i delivers m.
 unfoldable pub isDelivered : List Delivery → ℕ → Message → Bool

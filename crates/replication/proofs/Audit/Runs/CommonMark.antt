@@ -1,14 +1,13 @@
 -- An allowed run: servers 1 and 2 attempt a primary component, go down before they know how the attempt ended, come back, meet again, and make one.
 -- Both sent the mark of their attempt, so by rule (c) the marks are cleared.
 -- Assumes nothing.
-use Prim.Native.Nat.{ℕ}
 use mathlib.Core.Path.{_≡_, refl}
 use mathlib.Core.Bool.{true, false}
-use mathlib.Core.List.{List, [], _∷_}
+use mathlib.Core.List.{[], _∷_}
 use Rattle.base.specs.Lists.{at, gather}
-use Rattle.format.specs.Types.{Record, state, cpc, regular, recovery}
+use Rattle.format.specs.Types.{state, cpc, regular, recovery}
 use Rattle.format.specs.Write.{write}
-use Rattle.replication.specs.Machine.Types.{Mode, Non-prim, Reg-prim, Exchange-states, Construct}
+use Rattle.replication.specs.Machine.Types.{Non-prim, Reg-prim, Exchange-states, Construct}
 use Rattle.replication.specs.Runs.Run.{event, crash, Run, worldAt}
 use Rattle.replication.specs.Runs.Allowed.{Allowed}
 use Rattle.replication.specs.Audit.Witness.{Witness}

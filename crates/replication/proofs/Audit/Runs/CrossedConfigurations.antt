@@ -3,12 +3,10 @@
 -- which came to 1 before configuration 2: the State that 1 sent there has no mark, so by rule (b) the mark is cleared, and 2 makes another with 0.
 -- Assumes nothing.
 use Prim.Native.Nat.{ℕ}
-use Prim.Native.String.{String}
 use mathlib.Core.Path.{_≡_, refl, ap}
-use mathlib.Core.List.{List, [], _∷_}
+use mathlib.Core.List.{[], _∷_}
 use native.Mathlib.Omega.{arith}
-use Rattle.base.specs.Lists.{at}
-use Rattle.format.specs.Types.{Primary, Record, state, cpc, regular, transitional, recovery}
+use Rattle.format.specs.Types.{Primary, state, cpc, regular, transitional, recovery}
 use Rattle.format.specs.Write.{write}
 use Rattle.replication.specs.Machine.Types.{Configuration}
 use Rattle.replication.specs.Runs.Run.{event, crash, Run, heardAt}

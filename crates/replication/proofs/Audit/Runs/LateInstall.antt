@@ -2,15 +2,14 @@
 -- it in their transitional configurations, and 1 the action too: it installs from Un. Server 2 goes on from Un with its mark. Then 0 and 1 meet, both
 -- with a valid yellow list, and the action turns green with the next primary component.
 -- Assumes nothing.
-use Prim.Native.Nat.{ℕ}
 use mathlib.Core.Path.{_≡_, refl}
 use mathlib.Core.Bool.{true, false}
-use mathlib.Core.List.{List, [], _∷_}
+use mathlib.Core.List.{[], _∷_}
 use Rattle.base.specs.Lists.{at, gather}
-use Rattle.format.specs.Types.{Record, action, state, cpc, regular, transitional, request}
+use Rattle.format.specs.Types.{action, state, cpc, regular, transitional, request}
 use Rattle.format.specs.Write.{write}
-use Rattle.replication.specs.Machine.Types.{Mode, Non-prim, Reg-prim, Trans-prim, Exchange-states, Construct, No, Un}
-use Rattle.replication.specs.Runs.Run.{event, crash, Run, worldAt}
+use Rattle.replication.specs.Machine.Types.{Non-prim, Reg-prim, Trans-prim, Exchange-states, Construct, No, Un}
+use Rattle.replication.specs.Runs.Run.{event, Run, worldAt}
 use Rattle.replication.specs.Runs.Allowed.{Allowed}
 use Rattle.replication.specs.Audit.Witness.{Witness}
 use Rattle.replication.specs.Audit.Verdict.{audit}

@@ -2,14 +2,13 @@
 -- component and a further action green. Server 1 goes down, which loses that green action, comes back and meets 0 and 2: what each lacks is resent,
 -- green and red, and the three make the third primary component, with all three actions green.
 -- Assumes nothing.
-use Prim.Native.Nat.{ℕ}
 use mathlib.Core.Path.{_≡_, refl}
 use mathlib.Core.Bool.{true, false}
-use mathlib.Core.List.{List, [], _∷_}
+use mathlib.Core.List.{[], _∷_}
 use Rattle.base.specs.Lists.{at, gather}
-use Rattle.format.specs.Types.{Record, action, retransmission, state, cpc, regular, transitional, request, recovery}
+use Rattle.format.specs.Types.{action, retransmission, state, cpc, regular, transitional, request, recovery}
 use Rattle.format.specs.Write.{write}
-use Rattle.replication.specs.Machine.Types.{Mode, Non-prim, Reg-prim, Trans-prim, Exchange-actions, Construct}
+use Rattle.replication.specs.Machine.Types.{Non-prim, Reg-prim, Trans-prim, Exchange-actions, Construct}
 use Rattle.replication.specs.Runs.Run.{event, crash, Run, worldAt}
 use Rattle.replication.specs.Runs.Allowed.{Allowed}
 use Rattle.replication.specs.Audit.Witness.{Witness}

@@ -1,14 +1,13 @@
 -- An allowed run: server 2 attempts a primary component with 1 and goes down; 1, who knows nothing of it, makes one with 0; server 2 comes back with
 -- its mark and meets 0. The primary component that 0 knows is later than the mark and without 2, so by rule (a) the mark is cleared.
 -- Assumes nothing.
-use Prim.Native.Nat.{ℕ}
 use mathlib.Core.Path.{_≡_, refl}
 use mathlib.Core.Bool.{true, false}
-use mathlib.Core.List.{List, [], _∷_}
+use mathlib.Core.List.{[], _∷_}
 use Rattle.base.specs.Lists.{at, gather}
-use Rattle.format.specs.Types.{Record, state, cpc, regular, transitional, recovery}
+use Rattle.format.specs.Types.{state, cpc, regular, transitional, recovery}
 use Rattle.format.specs.Write.{write}
-use Rattle.replication.specs.Machine.Types.{Mode, Non-prim, Reg-prim, Trans-prim, Construct}
+use Rattle.replication.specs.Machine.Types.{Non-prim, Reg-prim, Trans-prim, Construct}
 use Rattle.replication.specs.Runs.Run.{event, crash, Run, worldAt}
 use Rattle.replication.specs.Runs.Allowed.{Allowed}
 use Rattle.replication.specs.Audit.Witness.{Witness}

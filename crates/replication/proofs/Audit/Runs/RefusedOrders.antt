@@ -1,12 +1,10 @@
 -- Runs that are refused by Specifications 2 and 6, and the tests that they fail.
 -- Assumes nothing.
-use Prim.Native.Nat.{ℕ}
-use Prim.Native.String.{String}
-use mathlib.Core.Path.{_≡_, refl}
-use mathlib.Core.List.{List, [], _∷_}
-use Rattle.format.specs.Types.{Record, state, regular, transitional}
+use mathlib.Core.Path.{refl}
+use mathlib.Core.List.{[], _∷_}
+use Rattle.format.specs.Types.{state, regular, transitional}
 use Rattle.format.specs.Write.{write}
-use Rattle.replication.specs.Runs.Run.{event, crash, Run}
+use Rattle.replication.specs.Runs.Run.{event, Run}
 use Rattle.replication.specs.Audit.Witness.{Witness}
 use Rattle.replication.proofs.Audit.Runs.Records.{sent, primary, unmarked, no-yellow, told}
 use Rattle.replication.proofs.Audit.Runs.Shown.{Refused, opened}

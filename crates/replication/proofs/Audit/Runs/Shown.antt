@@ -3,11 +3,10 @@
 use Prim.Native.Nat.{ℕ}
 use Prim.Native.String.{String}
 use mathlib.Core.Path.{_≡_, refl, subst}
-use mathlib.Core.Bool.{Bool, true, false}
+use mathlib.Core.Bool.{Bool, false}
 use mathlib.Core.List.{List, [], _∷_}
 use mathlib.Core.Option.{Option, none, some}
 use lib.ListN.{length, getD}
-use native.Mathlib.Omega.{arith}
 use Rattle.base.specs.Tests.{pick, Known, holds, fails, known}
 use Rattle.base.specs.AtLaws.{none-some, some-same}
 use Rattle.base.specs.Lists.{atFront, at}

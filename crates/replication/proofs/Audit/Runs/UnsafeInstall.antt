@@ -2,22 +2,21 @@
 -- server 1 leaves that configuration without 0's CPC, clears its mark, and makes another primary component with 2.
 -- Assumes nothing.
 use Prim.Native.Nat.{ℕ}
-use Prim.Native.String.{String}
 use mathlib.Core.Path.{_≡_, refl, sym, ap, subst, _∙_}
-use mathlib.Core.Bool.{Bool, true, false, not}
-use mathlib.Core.List.{List, [], _∷_}
-use mathlib.Core.Option.{Option, some}
+use mathlib.Core.Bool.{Bool, true, not}
+use mathlib.Core.List.{[], _∷_}
+use mathlib.Core.Option.{some}
 use native.Mathlib.Omega.{arith}
 use Rattle.base.specs.Tests.{_=?_, _and_, not-both, not-holds, both-yes}
 use Rattle.base.specs.Lists.{all, same, at}
 use Rattle.base.specs.AtLaws.{some-same}
 use Rattle.base.specs.QuantifierLaws.{all-at}
 use Rattle.base.specs.Deciding.{decided, numbers-decided, lists-decided}
-use Rattle.format.specs.Types.{Primary, Record, state, cpc, regular, transitional, recovery}
+use Rattle.format.specs.Types.{Primary, state, cpc, regular, transitional, recovery}
 use Rattle.format.specs.Write.{write}
 use Rattle.replication.specs.Machine.Types.{Configuration}
 use Rattle.replication.specs.Runs.Run.{Entry, event, crash, Run, heardAt, sentAt}
-use Rattle.replication.specs.Runs.Happenings.{Message, isMessage, Falls, by-crash, by-recovery, Comes, Takes, Left, Delivers, Delivered}
+use Rattle.replication.specs.Runs.Happenings.{Message, isMessage, Falls, by-crash, by-recovery, Comes, Takes, Left, Delivers}
 use Rattle.replication.specs.Runs.Allowed.{Allowed}
 use Rattle.replication.specs.Runs.Claim.{IsPrimary, Agreement}
 use Rattle.replication.specs.Audit.Witness.{Witness}
