@@ -8,10 +8,10 @@ use mathlib.Core.Option.{Option, none, some}
 use native.Mathlib.Nat.{zero-add, suc-add}
 use native.Mathlib.Omega.{arith}
 use lib.ListN.{drop}
-use Rattle.base.specs.Tests.{_or_, _<?_, pick, not-both, and-holds, lt-holds, lt-fails, Known, holds, fails, known}
+use Rattle.base.specs.Tests.{_or_, _<?_, _=?_, eq-yes, eq-holds, pick, not-both, and-holds, lt-holds, lt-fails, Known, holds, fails, known}
 use Rattle.base.specs.Lists.{all, any, filter, atFront, gather, gatherAll, below, at}
 use Rattle.base.specs.AtLaws.{none-some, some-same}
-use Rattle.base.specs.Quantifiers.{_implies_, pairs}
+use Rattle.base.specs.Quantifiers.{_implies_, pairs, addNew, eachOnce, withNumber}
 
 pub implied : (t u : Bool) → (t implies u) ≡ true → t ≡ true → u ≡ true
 unfolding _implies_
@@ -150,6 +150,41 @@ module _ {A : Type 0} where
   pub among-right : {x : A} (xs : List A) {ys : List A} → Among x ys → Among x (xs ++ ys)
   among-right [] m = m
   among-right (y ∷ xs) m = among-later y (among-right xs m)
+
+-- ---- numbers
+
+among-new : (j k : ℕ) (ks : List ℕ) → Among j ks → Among j (addNew k ks)
+unfolding addNew pick
+among-new j k ks m = go (known (any (λ x. x =? k) ks))
+  where
+    go : Known (any (λ x. x =? k) ks) → Among j (addNew k ks)
+    go (holds h) = rw h m
+    go (fails h) = rw h (among-later k m)
+
+new-among : (k : ℕ) (ks : List ℕ) → Among k (addNew k ks)
+unfolding addNew pick
+new-among k ks = go (known (any (λ x. x =? k) ks))
+  where
+    go : Known (any (λ x. x =? k) ks) → Among k (addNew k ks)
+    go (holds h) = let f = any-among (λ x. x =? k) ks h in rw h (subst (λ x. Among x ks) (eq-holds (f .0) k (f .2)) (f .1))
+    go (fails h) = rw h (among-first ks refl)
+
+once-at : (ks : List ℕ) (p k : ℕ) → at ks p ≡ some k → Among k (eachOnce ks)
+unfolding eachOnce at
+once-at [] p k e = none-some e
+once-at (j ∷ ks) zero k e = subst (λ x. Among x (addNew j (eachOnce ks))) (some-same e) (new-among j (eachOnce ks))
+once-at (j ∷ ks) (suc p) k e = among-new k j (eachOnce ks) (once-at ks p k e)
+
+pub among-once : {k : ℕ} {ks : List ℕ} → Among k ks → Among k (eachOnce ks)
+among-once {k} {ks} m = once-at ks (m .place) k (m .there)
+
+pub among-number : {A : Type 0} (f : A → ℕ) (k : ℕ) {x : A} {xs : List A} → Among x xs → f x ≡ k → Among x (withNumber f k xs)
+unfolding withNumber
+among-number f k {x} m e = among-filter (λ y. f y =? k) m (eq-yes (f x) k e)
+
+pub number-among : {A : Type 0} (f : A → ℕ) (k : ℕ) {x : A} (xs : List A) → Among x (withNumber f k xs) → Among x xs
+unfolding withNumber
+number-among f k xs m = filter-among (λ y. f y =? k) xs m .0
 
 pub among-below : (n k : ℕ) → k < n → Among k (below n)
 unfolding below

@@ -1,10 +1,11 @@
--- Tests of all, of some and of each two elements of a list, and tests that decide an equation.
+-- Tests of each two elements of a list, elements by a number of theirs, and the test that two options are the same.
 -- Assumes nothing.
+use Prim.Native.Nat.{ℕ}
 use mathlib.Core.Bool.{Bool, true, false}
 use mathlib.Core.List.{List, [], _∷_}
 use mathlib.Core.Option.{Option, none, some}
-use Rattle.base.specs.Tests.{_and_}
-use Rattle.base.specs.Lists.{all}
+use Rattle.base.specs.Tests.{_and_, _=?_, pick}
+use Rattle.base.specs.Lists.{all, any, filter}
 
 infixr 25 _implies_
 unfoldable pub _implies_ : Bool → Bool → Bool
@@ -15,6 +16,19 @@ false implies b = true
 unfoldable pub pairs : {A : Type 0} → (A → A → Bool) → List A → Bool
 pairs t [] = true
 pairs t (x ∷ xs) = all (t x) xs and pairs t xs
+
+-- The number in front, unless it is there.
+unfoldable pub addNew : ℕ → List ℕ → List ℕ
+addNew k ks = pick (any (λ x. x =? k) ks) ks (k ∷ ks)
+
+-- The numbers of a list, each once.
+unfoldable pub eachOnce : List ℕ → List ℕ
+eachOnce [] = []
+eachOnce (k ∷ ks) = addNew k (eachOnce ks)
+
+-- The elements whose number is k.
+unfoldable pub withNumber : {A : Type 0} → (A → ℕ) → ℕ → List A → List A
+withNumber f k xs = filter (λ x. f x =? k) xs
 
 -- Both are there and the same by the test, or neither is there.
 unfoldable pub sameOption : {A : Type 0} → (A → A → Bool) → Option A → Option A → Bool

@@ -1,25 +1,23 @@
 -- What comes at a place of a run is in the journal's lists, with what the definitions say of it; and what is in them comes.
 -- Assumes nothing.
 use Prim.Native.Nat.{ℕ, suc, _<_}
-use mathlib.Core.Path.{_≡_, refl, sym, ap, subst, subst₂, subst₃, _∙_}
-use mathlib.Core.Bool.{Bool, true, false}
+use mathlib.Core.Path.{_≡_, refl, sym, ap, subst, subst₃, _∙_}
+use mathlib.Core.Bool.{true}
 use mathlib.Core.List.{List, map}
 use mathlib.Core.Option.{Option, none, some}
-use lib.ListN.{length, take, getD}
-use Rattle.base.specs.Tests.{pick, not-both, and-holds, eq-holds}
-use Rattle.base.specs.Lists.{any, gatherAll, below, at}
-use Rattle.base.specs.AtLaws.{none-some, at-in-take}
-use Rattle.base.specs.QuantifierLaws.{Among, any-among, among-gather, gather-among, among-gather-all, among-map, among-below}
+use lib.ListN.{length, getD}
+use Rattle.base.specs.Tests.{not-both}
+use Rattle.base.specs.Lists.{below, at}
+use Rattle.base.specs.AtLaws.{none-some}
+use Rattle.base.specs.QuantifierLaws.{Among, among-gather, gather-among, among-gather-all, among-map, among-below}
 use Rattle.format.specs.Types.{Record, action, retransmission, state, cpc, regular, transitional, request, recovery, says}
 use Rattle.replication.specs.Machine.Types.{Configuration}
 use Rattle.replication.specs.Runs.Run.{Entry, event, crash, Run, serverOf, placeAt, sentAt}
 use Rattle.replication.specs.Runs.Happenings.{Message, isMessage, Configured, entry-at, sending-of, Comes, Takes, Sends, Delivers, Configures, to-regular, to-transitional}
 use Rattle.replication.specs.Audit.Witness.{Witness, sourceIn, nameIn, entryOrd, sendingOrdsAt, ordIn}
-use Rattle.replication.specs.Audit.Same.{sameMessage}
 use Rattle.replication.specs.Audit.Table.{Role, delivers, takes, transits, goes-down, comes-back, neither, roleIn, Row, rowOf, table}
 use Rattle.replication.specs.Audit.Clocks.{Stamps, numberOf, clockAt, stamps}
-use Rattle.replication.specs.Audit.Journal.{Sending, sendingIn, sendingsOf, messageBy, isBeside, earlierIn, Delivery, deliveryOf, deliveryBy, takingBy, transitionBy, changeBy, takingsIn, transitionsIn, changesIn, deliveriesIn}
-use Rattle.replication.proofs.Audit.Sameness.{messages-decided}
+use Rattle.replication.specs.Audit.Journal.{Sending, sendingIn, sendingsOf, Delivery, deliveryOf, deliveryBy, takingBy, transitionBy, changeBy, takingsIn, transitionsIn, changesIn, sendingsIn, deliveriesIn}
 use Rattle.replication.proofs.Audit.Rows.{rowAt, row-among, table-holds, table-is, row-place, row-server, row-after, row-sent, meaning, Meaning, role-of}
 
 -- A message that comes is a delivery.
@@ -38,20 +36,6 @@ sending-message : (s : Stamps) (m : Message) (o : Option Row) → sendingIn s m 
 unfolding sendingIn
 sending-message s m none = refl
 sending-message s m (some r) = refl
-
-picked : {A : Type 0} (t : Bool) (o : Option A) (x : A) → pick t o none ≡ some x → (t ≡ true) × (o ≡ some x)
-unfolding pick
-picked true o x h = (refl, h)
-picked false o x h = none-some h
-
-message-by : (o : Role) (x : Row) (m : Message) → messageBy o x ≡ some m → (o ≡ delivers) × (x .source ≡ m)
-unfolding messageBy
-message-by delivers x m h = (refl, cc)
-message-by (takes c) x m h = none-some h
-message-by (transits t) x m h = none-some h
-message-by goes-down x m h = none-some h
-message-by comes-back x m h = none-some h
-message-by neither x m h = none-some h
 
 delivery-by : (o : Role) (rs : List Row) (s : Stamps) (x : Row) (d : Delivery) → deliveryBy o rs s x ≡ some d → (o ≡ delivers) × (deliveryOf rs s x ≡ d)
 unfolding deliveryBy
@@ -141,8 +125,8 @@ module _ (n q : ℕ) (l : Run) (w : Witness) where
   }
 
   pub sending-among : (i : ℕ) (m : Message) (c : Configuration) (s : Sends n q l i m c)
-      → Among (sendingAt m (s .mine .entry)) (gatherAll (sendingsOf (stamps rows)) rows)
-  unfolding sendingsOf
+      → Among (sendingAt m (s .mine .entry)) (sendingsIn rows (stamps rows))
+  unfolding sendingsIn sendingsOf
   sending-among i m c s =
       let y : Entry = s .mine .entry in
       let r : Row = rowAt n q l w (m .sending) y in
@@ -163,31 +147,6 @@ module _ (n q : ℕ) (l : Run) (w : Witness) where
       let m : Meaning n q l w p (serverOf y) delivers = subst (Meaning n q l w p (serverOf y)) h (meaning n q l w p y e) in
       record { what = m .0; comes = m .1; message = m .2; which = refl }
 
-  earlier-is : (p i k : ℕ) (e : List ℕ) (m : Message) → Among m (earlierIn rows (rowAt n q l w p (event i e k)))
-      → (v : ℕ) × Delivers n q l (sourceIn w) (nameIn w) v i m × (v < p)
-  unfolding earlierIn isBeside rowAt rowOf
-  earlier-is p i k e m a = found (gather-among _ (take p rows) a)
-    where
-      r : Row
-      r = rowAt n q l w p (event i e k)
-
-      it : (v : ℕ) (y : Entry) → at l v ≡ some y → v < p → isBeside r (rowAt n q l w v y) ≡ true
-          → messageBy (rowAt n q l w v y .role) (rowAt n q l w v y) ≡ some m → (z : ℕ) × Delivers n q l (sourceIn w) (nameIn w) z i m × (z < p)
-      it v y h less near f =
-          let by = message-by (rowAt n q l w v y .role) (rowAt n q l w v y) m f in
-          let server : serverOf y ≡ i = sym (row-server n q l w v y) ∙ eq-holds (rowAt n q l w v y .server) i (and-holds _ _ near .0) in
-          let source : sourceIn w v ≡ m = sym (row-source v y) ∙ by .1 in
-          (v, subst₂ (λ a b. Delivers n q l (sourceIn w) (nameIn w) v a b) server source (row-delivers v y h (by .0)), less)
-
-      found : (x : Row) × Among x (take p rows) × (pick (isBeside r x) (messageBy (x .role) x) none ≡ some m)
-          → (v : ℕ) × Delivers n q l (sourceIn w) (nameIn w) v i m × (v < p)
-      found f =
-          let v : ℕ = f .1 .place in
-          let taken = at-in-take p rows v (f .0) (f .1 .there) in
-          let t = table-is n q l w v (f .0) (taken .1) in
-          let way = picked (isBeside r (f .0)) (messageBy (f .0 .role) (f .0)) m (f .2) in
-          it v (t .0) (t .1) (taken .0) (subst (λ x. isBeside r x ≡ true) (t .2) (way .0)) (subst (λ x. messageBy (x .role) x ≡ some m) (t .2) (way .1))
-
   -- A delivery in the journal.
   pub record Delivering (p i : ℕ) (m : Message) : Type 0 where
     pub it : Delivery
@@ -198,7 +157,6 @@ module _ (n q : ℕ) (l : Run) (w : Witness) where
     pub ord : it .ord ≡ ordIn w (entry-at p)
     pub bytes : (k : ℕ) (e : List ℕ) → at l p ≡ some (event i e k) → it .bytes ≡ e
     pub sending : it .sending ≡ sendingIn (stamps rows) m (at rows (m .sending))
-    pub earlier : (x : Message) → any (sameMessage x) (it .earlier) ≡ true → (v : ℕ) × Delivers n q l (sourceIn w) (nameIn w) v i x × (v < p)
 
   pub delivering : (p i : ℕ) (m : Message) → Delivers n q l (sourceIn w) (nameIn w) p i m → Delivering p i m
   unfolding deliveriesIn deliveryBy deliveryOf rowAt rowOf serverOf ordIn
@@ -215,10 +173,6 @@ module _ (n q : ℕ) (l : Run) (w : Witness) where
         ord = refl;
         bytes = λ k e h. let same : _≡_ {A = Option Entry} (some y) (some (event i e k)) = sym (d .comes .here) ∙ h in cc;
         sending = ap (λ x. sendingIn (stamps rows) x (at rows (x .sending))) (d .which);
-        earlier = λ x h.
-            let f = any-among (sameMessage x) _ h in
-            let same : f .0 ≡ x = sym (messages-decided .says x (f .0) (f .2)) in
-            earlier-is p i (d .comes .sent) (d .comes .bytes) x (subst (λ z. Among z (earlierIn rows r)) same (f .1));
       }
 
   pub delivered-message : (p i : ℕ) (m : Message) (d : Delivering p i m) → d .it .sending .message ≡ m

@@ -8,7 +8,7 @@ use mathlib.Core.Option.{Option, some}
 use native.Mathlib.Omega.{arith}
 use lib.ListN.{drop}
 use Rattle.base.specs.Tests.{_=?_, pick, Known, holds, fails, known, eq-holds, eq-yes, not-both}
-use Rattle.base.specs.Lists.{at, filter, gather}
+use Rattle.base.specs.Lists.{at}
 use Rattle.base.specs.AtLaws.{none-some, some-same}
 use Rattle.base.specs.QuantifierLaws.{Among, at-drop, among-filter, among-gather}
 use Rattle.replication.specs.Machine.Types.{Configuration}
@@ -16,7 +16,7 @@ use Rattle.replication.specs.Runs.Run.{Entry, event, Run, serverOf, plac
 use Rattle.replication.specs.Runs.Happenings.{Configured, regularly, transitionally, Of, Crashes, Falls, by-crash, by-recovery, Takes, Left, Configures, to-regular, to-transitional, Passes}
 use Rattle.replication.specs.Audit.Witness.{Witness, sourceIn, nameIn, entryOrd}
 use Rattle.replication.specs.Audit.Table.{Role, delivers, takes, transits, goes-down, comes-back, neither, roleIn, Row, rowOf, table}
-use Rattle.replication.specs.Audit.Journal.{Change, changeBy, settlesBy, settles, nextBy, nextChange, isCrash, crashesNext, hasLeft, passageTo, passageFrom, takingsIn, changesIn}
+use Rattle.replication.specs.Audit.Journal.{Change, changeBy, settlesBy, settles, nextBy, nextChange, isCrash, crashesNext, hasLeft, passageTo, passageFrom, leavingsIn, passagesIn}
 use Rattle.replication.proofs.Audit.Rows.{rowAt, table-holds, table-is, row-server, Meaning, meaning, role-of}
 use Rattle.replication.proofs.Audit.Entries.{taking-among, change-row, change-among}
 
@@ -166,8 +166,8 @@ module _ (n q : ℕ) (l : Run) (w : Witness) where
 
   -- A configuration that was left is among the leavings.
   pub leaving-among : (i : ℕ) (c : Configuration) (f : Left n q l i c)
-      → Among (record { place = f .p; server = i; before = placeAt n q l i (f .p); configuration = c }) (filter (hasLeft rows) (takingsIn rows))
-  unfolding hasLeft
+      → Among (record { place = f .p; server = i; before = placeAt n q l i (f .p); configuration = c }) (leavingsIn rows)
+  unfolding leavingsIn hasLeft
   leaving-among i c f =
       among-filter (hasLeft rows) (taking-among n q l w (f .p) i c (f .took)) (settled i (f .p) (f .r) (f .next) (f .order) (f .took-next) (f .steady))
 
@@ -176,8 +176,8 @@ module _ (n q : ℕ) (l : Run) (w : Witness) where
 
   -- A passage is among the passages.
   pub passage-among : (i : ℕ) (c d : Configured) (p r : ℕ) → Passes n q l (sourceIn w) (nameIn w) i c d p r
-      → Among (record { from = change p i c; to = change r i d }) (gather (passageFrom rows) (changesIn rows))
-  unfolding passageFrom passageTo
+      → Among (record { from = change p i c; to = change r i d }) (passagesIn rows)
+  unfolding passagesIn passageFrom passageTo
   passage-among i c d p r f =
       let row = change-row n q l w r i d (f .to) in
       let y : Entry = row .entry in

@@ -18,14 +18,16 @@ use Rattle.replication.specs.Machine.Types.{Configuration}
 use Rattle.replication.specs.Runs.Run.{Entry, event, Run, serverOf, Place, placeAt, heardAt, sentAt}
 use Rattle.replication.specs.Runs.Happenings.{Message, Configured, Comes, Falls, Takes, Left, Sends, Delivers, Delivered, Configures, to-regular, to-transitional, Passes}
 use Rattle.replication.specs.Audit.Witness.{Witness, sourceIn, nameIn}
-use Rattle.replication.specs.Audit.Same.{sameMessage, sameRegular}
+use Rattle.replication.specs.Audit.Same.{sameRegular}
 use Rattle.replication.specs.Audit.Table.{table}
 use Rattle.replication.specs.Audit.Journal.{Sending, Delivery, Taking, Transition, Passage, Journal, settles, sorted, journalOf}
 use Rattle.replication.specs.Audit.Rules.{genuine}
-use Rattle.replication.specs.Audit.Specifications.{isDelivered, same-configuration, one-delivery, one-name, leftBy, self-delivery, during, isRegular, isOver, sameWay, allAmong, atomic}
+use Rattle.replication.specs.Audit.Specifications.{isDelivered, same-configuration, one-delivery, one-name, hasLeftSince, self-delivery, during, isRegular, isOver, sameWay, allAmong, atomic}
 use Rattle.replication.proofs.Audit.Sameness.{messages-decided, regulars-decided, places-decided, configured-decided}
-use Rattle.replication.proofs.Audit.Entries.{transition-among, sendingAt, sending-among, Delivering, delivering, delivered-message, delivered-sending, delivered}
-use Rattle.replication.proofs.Audit.Later.{settled, leaving-among, change, passage-among}
+use Rattle.replication.proofs.Audit.Entries.{transition-among, sendingAt, Delivering, delivering, delivered-message, delivered-sending, delivered}
+use Rattle.replication.proofs.Audit.Later.{settled, change, passage-among}
+use Rattle.replication.proofs.Runs.Deliveries.{sends-one}
+use Rattle.replication.proofs.Audit.Chapters.{chapter, chapter-there, sending-in, delivery-in, leaving-in, found-delivered}
 use Rattle.replication.proofs.Audit.RuleFields.{genuine-delivery}
 
 module _ (n q : ℕ) (l : Run) (w : Witness) where
@@ -34,17 +36,6 @@ module _ (n q : ℕ) (l : Run) (w : Witness) where
 
   abbrev Del : (p i : ℕ) → Message → Type 0
   Del p i m = Delivers n q l (sourceIn w) (nameIn w) p i m
-
-  -- What the test finds is a delivery.
-  pub found-delivered : (i : ℕ) (m : Message) → isDelivered (J .deliveries) i m ≡ true → Delivered n q l (sourceIn w) (nameIn w) i m
-  unfolding isDelivered journalOf sorted
-  found-delivered i m h =
-      let f = any-among _ _ h in
-      let both = and-holds (f .0 .server =? i) (sameMessage (f .0 .sending .message) m) (f .2) in
-      record {
-        place = f .0 .place;
-        it = subst₂ (λ a b. Del (f .0 .place) a b) (eq-holds (f .0 .server) i (both .0)) (messages-decided .says (f .0 .sending .message) m (both .1)) (delivered n q l w (f .0) (f .1));
-      }
 
   -- ---- 1
 
@@ -72,17 +63,36 @@ module _ (n q : ℕ) (l : Run) (w : Witness) where
         sym here ∙ c .1,
       )
 
-  pub one-delivery-holds : one-delivery J ≡ true → (p r i : ℕ) (m : Message) → Del p i m → Del r i m → placeAt n q l i p ≡ placeAt n q l i r
-  unfolding one-delivery journalOf sorted
-  one-delivery-holds h p r i m d e =
-      let a = delivering n q l w p i m d in
-      let b = delivering n q l w r i m e in
-      let same : a .it .before ≡ b .it .before =
+  -- A delivery is in the chapter of the configuration in which its message was sent.
+  pub record Placed (p i : ℕ) (m : Message) : Type 0 where
+    pub it : Delivering n q l w p i m
+    pub sender : ℕ
+    pub configuration : Configuration
+    pub sent : Sends n q l sender m configuration
+    pub regular : placeAt n q l i p .regular ≡ some configuration
+    pub among : Among (it .it) (chapter n q l w configuration .deliveries)
+
+  pub placed : genuine J ≡ true → same-configuration J ≡ true → (p i : ℕ) (m : Message) → Del p i m → Placed p i m
+  placed g h p i m d =
+      let s = same-configuration-holds g h p i m d in
+      let it = delivering n q l w p i m d in
+      record { it = it; sender = s .0; configuration = s .1; sent = s .2; regular = s .3; among = delivery-in n q l w p i m it (s .1) (s .3) }
+
+  pub one-delivery-holds : genuine J ≡ true → same-configuration J ≡ true → one-delivery J ≡ true
+      → (p r i : ℕ) (m : Message) → Del p i m → Del r i m → placeAt n q l i p ≡ placeAt n q l i r
+  unfolding one-delivery
+  one-delivery-holds g u h p r i m d e =
+      let a = placed g u p i m d in
+      let b = placed g u r i m e in
+      let one : b .configuration ≡ a .configuration = sends-one (b .sent) (a .sent) .1 in
+      let same : a .it .it .before ≡ b .it .it .before =
       each-two _ (λ (x y : Delivery). x .server ≡ y .server → x .sending .message ≡ y .sending .message → x .before ≡ y .before)
       (λ x s t. refl) (λ x y f s t. sym (f (sym s) (sym t)))
       (λ x y f s t. places-decided .says (x .before) (y .before) (implied _ _ f (both-yes _ _ (eq-yes (x .server) (y .server) s) (decided messages-decided t))))
-      h (a .among) (b .among) (a .server ∙ sym (b .server)) (delivered-message n q l w p i m a ∙ sym (delivered-message n q l w r i m b)) in
-      sym (a .before) ∙ same ∙ b .before
+      (all-among _ (chapter-there n q l w (a .sender) m (a .configuration) (a .sent)) h)
+      (a .among) (subst (λ c. Among (b .it .it) (chapter n q l w c .deliveries)) one (b .among)) (a .it .server ∙ sym (b .it .server))
+      (delivered-message n q l w p i m (a .it) ∙ sym (delivered-message n q l w r i m (b .it))) in
+      sym (a .it .before) ∙ same ∙ b .it .before
 
   -- ---- 2
 
@@ -101,16 +111,17 @@ module _ (n q : ℕ) (l : Run) (w : Witness) where
 
   pub self-delivery-holds : self-delivery J ≡ true → (i : ℕ) (m : Message) (c : Configuration) → Sends n q l i m c → Left n q l i c
       → Delivered n q l (sourceIn w) (nameIn w) i m
-  unfolding self-delivery leftBy journalOf sorted sendingAt
+  unfolding self-delivery hasLeftSince sendingAt
   self-delivery-holds h i m c s f =
       let y : Entry = s .mine .entry in
       let a : Sending = sendingAt n q l w m y in
-      let test = all-among (λ (z : Sending). leftBy (J .leavings) z implies isDelivered (J .deliveries) (z .server) (z .message)) (sending-among n q l w i m c s) h in
+      let test = all-among (λ (z : Sending). hasLeftSince (chapter n q l w c .leavings) z implies isDelivered (chapter n q l w c .deliveries) (z .server) (z .message))
+      (sending-in n q l w i m c s) (all-among _ (chapter-there n q l w i m c s) h) in
       let under : some c ≡ a .regular = sym (ap (λ k. placeAt n q l k (suc (m .sending)) .regular) (s .mine .its) ∙ s .under) in
-      let left : leftBy (J .leavings) a ≡ true =
-      among-any (λ (t : Taking). t .server =? a .server and sameRegular (some (t .configuration)) (a .regular)) (leaving-among n q l w i c f)
+      let left : hasLeftSince (chapter n q l w c .leavings) a ≡ true =
+      among-any (λ (t : Taking). t .server =? a .server and sameRegular (some (t .configuration)) (a .regular)) (leaving-in n q l w i c f)
       (both-yes _ _ (eq-yes i (a .server) (sym (s .mine .its))) (decided regulars-decided under)) in
-      subst (λ k. Delivered n q l (sourceIn w) (nameIn w) k m) (s .mine .its) (found-delivered (serverOf y) m (implied _ _ test left))
+      subst (λ k. Delivered n q l (sourceIn w) (nameIn w) k m) (s .mine .its) (found-delivered n q l w c (serverOf y) m (implied _ _ test left))
 
   -- ---- 4
 

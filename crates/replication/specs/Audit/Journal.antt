@@ -4,13 +4,14 @@ use Prim.Native.Nat.{ℕ, suc}
 use mathlib.Core.Bool.{Bool, true, false}
 use mathlib.Core.List.{List, [], _∷_, map}
 use mathlib.Core.Option.{Option, none, some}
-use lib.ListN.{length, take, drop, getD}
-use Rattle.base.specs.Tests.{_and_, _=?_, pick}
+use lib.ListN.{length, drop, getD}
+use Rattle.base.specs.Tests.{_=?_, pick}
 use Rattle.base.specs.Lists.{filter, gather, gatherAll, below, at}
+use Rattle.base.specs.Quantifiers.{eachOnce, withNumber}
 use Rattle.replication.specs.Machine.Types.{Configuration}
+use Rattle.replication.specs.Machine.Step.{theId}
 use Rattle.replication.specs.Runs.Run.{Place}
 use Rattle.replication.specs.Runs.Happenings.{Message, Configured, regularly, transitionally}
-use Rattle.replication.specs.Audit.Same.{sameRegular}
 use Rattle.replication.specs.Audit.Table.{Role, delivers, takes, transits, goes-down, comes-back, neither, Row}
 use Rattle.replication.specs.Audit.Clocks.{Stamps, numberOf, clockAt, stamps}
 
@@ -42,7 +43,6 @@ sendingIn s m (some r) = record {
 unfoldable pub sendingsOf : Stamps → Row → List Sending
 sendingsOf s r = map (λ k. sendingIn s (record { sending = r .place; number = k }) (some r)) (below (length (r .sent)))
 
--- A delivery, and the messages that its server delivered before it in the same regular configuration.
 pub record Delivery : Type 0 where
   pub place : ℕ
   pub server : ℕ
@@ -50,21 +50,6 @@ pub record Delivery : Type 0 where
   pub ord : ℕ
   pub bytes : List ℕ
   pub sending : Sending
-  pub earlier : List Message
-
-unfoldable pub messageBy : Role → Row → Option Message
-messageBy delivers r = some (r .source)
-messageBy (takes c) r = none
-messageBy (transits t) r = none
-messageBy goes-down r = none
-messageBy comes-back r = none
-messageBy neither r = none
-
-unfoldable pub isBeside : Row → Row → Bool
-isBeside r x = x .server =? r .server and sameRegular (x .before .regular) (r .before .regular)
-
-unfoldable pub earlierIn : List Row → Row → List Message
-earlierIn rs r = gather (λ x. pick (isBeside r x) (messageBy (x .role) x) none) (take (r .place) rs)
 
 unfoldable pub deliveryOf : List Row → Stamps → Row → Delivery
 deliveryOf rs s r = record {
@@ -74,7 +59,6 @@ deliveryOf rs s r = record {
   ord = r .ord;
   bytes = r .bytes;
   sending = sendingIn s (r .source) (at rs (r .source .sending));
-  earlier = earlierIn rs r;
 }
 
 unfoldable pub deliveryBy : Role → List Row → Stamps → Row → Option Delivery
@@ -190,39 +174,63 @@ passageFrom rs a = passageTo a (nextChange (a .server) (drop (suc (a .place)) rs
 
 -- ---- the journal
 
+-- What concerns the regular configurations with one id: what was sent in them, what was delivered in them and after them, and which servers have
+-- left them.
+pub record Chapter : Type 0 where
+  pub sendings : List Sending
+  pub deliveries : List Delivery
+  pub leavings : List Taking
+
+unfoldable pub chapterOf : List Sending → List Delivery → List Taking → ℕ → Chapter
+chapterOf ss ds ts k = record {
+  sendings = withNumber (λ s. theId (s .regular)) k ss;
+  deliveries = withNumber (λ d. theId (d .before .regular)) k ds;
+  leavings = withNumber (λ t. t .configuration .id) k ts;
+}
+
+unfoldable pub chaptersOf : List Sending → List Delivery → List Taking → List Chapter
+chaptersOf ss ds ts = map (chapterOf ss ds ts) (eachOnce (map (λ s. theId (s .regular)) ss))
+
 pub record Journal : Type 0 where
   pub rows : List Row
-  pub sendings : List Sending
   pub deliveries : List Delivery
   pub takings : List Taking
   pub transitions : List Transition
   pub changes : List Change
-  -- the takings of configurations that their servers have left
-  pub leavings : List Taking
   pub passages : List Passage
+  pub chapters : List Chapter
 
-unfoldable pub takingsIn : List Row → List Taking
-takingsIn rs = gather (λ r. takingBy (r .role) r) rs
-
-unfoldable pub changesIn : List Row → List Change
-changesIn rs = gather (λ r. changeBy (r .role) r) rs
-
-unfoldable pub transitionsIn : List Row → List Transition
-transitionsIn rs = gather (λ r. transitionBy (r .role) r) rs
+unfoldable pub sendingsIn : List Row → Stamps → List Sending
+sendingsIn rs s = gatherAll (sendingsOf s) rs
 
 unfoldable pub deliveriesIn : List Row → Stamps → List Delivery
 deliveriesIn rs s = gather (λ r. deliveryBy (r .role) rs s r) rs
 
+unfoldable pub takingsIn : List Row → List Taking
+takingsIn rs = gather (λ r. takingBy (r .role) r) rs
+
+-- The takings of configurations that their servers have left.
+unfoldable pub leavingsIn : List Row → List Taking
+leavingsIn rs = filter (hasLeft rs) (takingsIn rs)
+
+unfoldable pub transitionsIn : List Row → List Transition
+transitionsIn rs = gather (λ r. transitionBy (r .role) r) rs
+
+unfoldable pub changesIn : List Row → List Change
+changesIn rs = gather (λ r. changeBy (r .role) r) rs
+
+unfoldable pub passagesIn : List Row → List Passage
+passagesIn rs = gather (passageFrom rs) (changesIn rs)
+
 unfoldable pub sorted : List Row → Stamps → Journal
 sorted rs s = record {
   rows = rs;
-  sendings = gatherAll (sendingsOf s) rs;
   deliveries = deliveriesIn rs s;
   takings = takingsIn rs;
   transitions = transitionsIn rs;
   changes = changesIn rs;
-  leavings = filter (hasLeft rs) (takingsIn rs);
-  passages = gather (passageFrom rs) (changesIn rs);
+  passages = passagesIn rs;
+  chapters = chaptersOf (sendingsIn rs s) (deliveriesIn rs s) (leavingsIn rs);
 }
 
 unfoldable pub journalOf : List Row → Journal
