@@ -6,7 +6,7 @@ pub mod Stamps
 pub mod Causality
 pub mod Ords
 pub mod RuleFields
-pub mod Chapters
+pub mod PerConfiguration
 pub mod SpecificationFields
 pub mod OrderFields
 pub mod Sound

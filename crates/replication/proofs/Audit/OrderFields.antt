@@ -18,7 +18,7 @@ use Rattle.replication.specs.Runs.Happenings.{Message, Configured, Happe
 use Rattle.replication.specs.Audit.Witness.{Witness, sourceIn, nameIn, ordIn}
 use Rattle.replication.specs.Audit.Table.{table}
 use Rattle.replication.specs.Audit.Clocks.{knows}
-use Rattle.replication.specs.Audit.Journal.{Sending, Delivery, Taking, Change, Chapter, Journal, sorted, journalOf}
+use Rattle.replication.specs.Audit.Journal.{Sending, Delivery, Taking, Change, PerConfiguration, Journal, sorted, journalOf}
 use Rattle.replication.specs.Audit.Rules.{genuine}
 use Rattle.replication.specs.Audit.Specifications.{same-configuration, isDelivered, comesAfter, isCause, causal, rises, same-moment, same-message, one-order, isOwed, agreed, isSharedWith, safe}
 use Rattle.replication.proofs.Audit.Sameness.{messages-decided, regulars-decided, configured-decided}
@@ -26,7 +26,7 @@ use Rattle.replication.proofs.Audit.Entries.{change-among, sendingAt, D
 use Rattle.replication.proofs.Audit.Causality.{cause-known}
 use Rattle.replication.proofs.Audit.Ords.{precedes-rise}
 use Rattle.replication.proofs.Runs.Deliveries.{sends-one}
-use Rattle.replication.proofs.Audit.Chapters.{chapter as chapter-of, chapter-there, sending-in, delivery-in, leaving-in, found-delivered, found-before}
+use Rattle.replication.proofs.Audit.PerConfiguration.{part as part-of, part-there, sending-in, delivery-in, leaving-in, found-delivered, found-before}
 use Rattle.replication.proofs.Audit.RuleFields.{genuine-delivery}
 use Rattle.replication.proofs.Audit.SpecificationFields.{placed}
 
@@ -37,11 +37,11 @@ module _ (n q : ℕ) (l : Run) (w : Witness) where
   abbrev Del : (p i : ℕ) → Message → Type 0
   Del p i m = Delivers n q l (sourceIn w) (nameIn w) p i m
 
-  abbrev chapter : Configuration → Chapter
-  chapter c = chapter-of n q l w c
+  abbrev part : Configuration → PerConfiguration
+  part c = part-of n q l w c
 
   -- What is found before a delivery is delivered before it.
-  before : (p i : ℕ) (m : Message) (d : Delivering n q l w p i m) (x : Message) (c : Configuration) → comesAfter (chapter c .deliveries) (d .it) x ≡ true
+  before : (p i : ℕ) (m : Message) (d : Delivering n q l w p i m) (x : Message) (c : Configuration) → comesAfter (part c .deliveries) (d .it) x ≡ true
       → (v : ℕ) × Del v i x × (v < p)
   before p i m d x c h =
       let f = found-before n q l w c (d .it) x h in
@@ -56,12 +56,12 @@ module _ (n q : ℕ) (l : Run) (w : Witness) where
       let it = placed n q l w g u p k m′ d in
       let D : Delivery = it .it .it in
       let one : it .configuration ≡ c = sends-one (it .sent) t .1 in
-      let here : Among D (chapter c .deliveries) = subst (λ e. Among D (chapter e .deliveries)) one (it .among) in
+      let here : Among D (part c .deliveries) = subst (λ e. Among D (part e .deliveries)) one (it .among) in
       let y : Entry = s .mine .entry in
       let a : Sending = sendingAt n q l w m y in
       let b : Sending = sendingAt n q l w m′ (t .mine .entry) in
-      let test = all-among (λ (z : Sending). isCause z (D .sending) implies comesAfter (chapter c .deliveries) D (z .message)) (sending-in n q l w i m c s)
-      (all-among _ here (all-among _ (chapter-there n q l w i m c s) h)) in
+      let test = all-among (λ (z : Sending). isCause z (D .sending) implies comesAfter (part c .deliveries) D (z .message)) (sending-in n q l w i m c s)
+      (all-among _ here (all-among _ (part-there n q l w i m c s) h)) in
       let regular : a .regular ≡ b .regular =
       ap (λ v. placeAt n q l v (suc (m .sending)) .regular) (s .mine .its) ∙ s .under
       ∙ sym (ap (λ v. placeAt n q l v (suc (m′ .sending)) .regular) (t .mine .its) ∙ t .under) in
@@ -98,8 +98,8 @@ module _ (n q : ℕ) (l : Run) (w : Witness) where
       let same : a .it .it .ord ≡ b .it .it .ord =
       each-two _ (λ (x y : Delivery). x .sending .message ≡ y .sending .message → x .ord ≡ y .ord) (λ x s. refl) (λ x y f s. sym (f (sym s)))
       (λ x y f s. eq-holds (x .ord) (y .ord) (implied _ _ f (decided messages-decided s)))
-      (all-among _ (chapter-there n q l w (a .sender) m (a .configuration) (a .sent)) h)
-      (a .among) (subst (λ c. Among (b .it .it) (chapter c .deliveries)) one (b .among))
+      (all-among _ (part-there n q l w (a .sender) m (a .configuration) (a .sent)) h)
+      (a .among) (subst (λ c. Among (b .it .it) (part c .deliveries)) one (b .among))
       (delivered-message n q l w p i m (a .it) ∙ sym (delivered-message n q l w r j m (b .it))) in
       sym (a .it .ord) ∙ same ∙ b .it .ord
 
@@ -114,7 +114,7 @@ module _ (n q : ℕ) (l : Run) (w : Witness) where
       (λ x s t. refl) (λ x y f s t. sym (f (sym s) (sym t)))
       (λ x y f s t. messages-decided .says (x .sending .message) (y .sending .message)
       (implied _ _ f (both-yes _ _ (eq-yes (x .ord) (y .ord) s) (decided regulars-decided t))))
-      (all-among _ (chapter-there n q l w (a .sender) m (a .configuration) (a .sent)) h)
+      (all-among _ (part-there n q l w (a .sender) m (a .configuration) (a .sent)) h)
       (a .among) (delivery-in n q l w r j m′ (b .it) (a .configuration) (sym regular ∙ a .regular)) (a .it .ord ∙ ord ∙ sym (b .it .ord))
       (ap (λ (z : Place). z .regular) (a .it .before) ∙ regular ∙ ap (λ (z : Place). z .regular) (sym (b .it .before))) in
       sym (delivered-message n q l w p i m (a .it)) ∙ same ∙ delivered-message n q l w r j m′ (b .it)
@@ -129,9 +129,9 @@ module _ (n q : ℕ) (l : Run) (w : Witness) where
       let A : Delivery = a .it .it in
       let y : Entry = s .mine .entry in
       let sending = delivered-sending n q l w p i m (a .it) y (s .mine .here) in
-      let here : Among A (chapter c .deliveries) = subst (λ e. Among A (chapter e .deliveries)) (sends-one (a .sent) s .1) (a .among) in
-      let test = all-among (λ (z : Delivery). isOwed A z implies comesAfter (chapter c .deliveries) z (A .sending .message)) (delivery-in n q l w r j m′ b c regular)
-      (all-among _ here (all-among _ (chapter-there n q l w k m c s) h)) in
+      let here : Among A (part c .deliveries) = subst (λ e. Among A (part e .deliveries)) (sends-one (a .sent) s .1) (a .among) in
+      let test = all-among (λ (z : Delivery). isOwed A z implies comesAfter (part c .deliveries) z (A .sending .message)) (delivery-in n q l w r j m′ b c regular)
+      (all-among _ here (all-among _ (part-there n q l w k m c s) h)) in
       let under : A .sending .regular ≡ b .it .before .regular =
       ap (λ z. z .regular) sending ∙ ap (λ v. placeAt n q l v (suc (m .sending)) .regular) (s .mine .its) ∙ s .under
       ∙ sym regular ∙ ap (λ (z : Place). z .regular) (sym (b .before)) in
@@ -140,7 +140,7 @@ module _ (n q : ℕ) (l : Run) (w : Witness) where
       both-yes _ _ (lt-yes (A .ord) (b .it .ord) (omega (arith, a .it .ord, b .ord)))
       (both-yes _ _ (decided regulars-decided under) (subst₂ (λ v z. inSet v (members z) ≡ true) sender (sym (b .before)) member)) in
       before r j m′ b m c
-      (subst (λ z. comesAfter (chapter c .deliveries) (b .it) z ≡ true) (delivered-message n q l w p i m (a .it)) (implied _ _ test owed))
+      (subst (λ z. comesAfter (part c .deliveries) (b .it) z ≡ true) (delivered-message n q l w p i m (a .it)) (implied _ _ test owed))
 
   -- ---- 7
 
@@ -151,10 +151,10 @@ module _ (n q : ℕ) (l : Run) (w : Witness) where
       let a = placed n q l w g u p i m d in
       let A : Delivery = a .it .it in
       let one : a .configuration ≡ c = some-same (sym (a .regular) ∙ regular) in
-      let here : Among A (chapter c .deliveries) = subst (λ e. Among A (chapter e .deliveries)) one (a .among) in
-      let there : Among (chapter c) (J .chapters) =
-      subst (λ e. Among (chapter e) (J .chapters)) one (chapter-there n q l w (a .sender) m (a .configuration) (a .sent)) in
-      let test = all-among (λ (t : Taking). isSharedWith A t implies isDelivered (chapter c .deliveries) (t .server) (A .sending .message)) (leaving-in n q l w j c f)
+      let here : Among A (part c .deliveries) = subst (λ e. Among A (part e .deliveries)) one (a .among) in
+      let there : Among (part c) (J .configurations) =
+      subst (λ e. Among (part e) (J .configurations)) one (part-there n q l w (a .sender) m (a .configuration) (a .sent)) in
+      let test = all-among (λ (t : Taking). isSharedWith A t implies isDelivered (part c .deliveries) (t .server) (A .sending .message)) (leaving-in n q l w j c f)
       (all-among _ here (all-among _ there h)) in
       let shared = both-yes _ _ (decided regulars-decided (sym (ap (λ (z : Place). z .regular) (a .it .before) ∙ regular)))
       (subst (λ z. inSet j (members z) ≡ true) (sym (a .it .before)) member) in

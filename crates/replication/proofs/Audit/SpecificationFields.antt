@@ -27,7 +27,7 @@ use Rattle.replication.proofs.Audit.Sameness.{messages-decided, regular
 use Rattle.replication.proofs.Audit.Entries.{transition-among, sendingAt, Delivering, delivering, delivered-message, delivered-sending, delivered}
 use Rattle.replication.proofs.Audit.Later.{settled, change, passage-among}
 use Rattle.replication.proofs.Runs.Deliveries.{sends-one}
-use Rattle.replication.proofs.Audit.Chapters.{chapter, chapter-there, sending-in, delivery-in, leaving-in, found-delivered}
+use Rattle.replication.proofs.Audit.PerConfiguration.{part, part-there, sending-in, delivery-in, leaving-in, found-delivered}
 use Rattle.replication.proofs.Audit.RuleFields.{genuine-delivery}
 
 module _ (n q : ℕ) (l : Run) (w : Witness) where
@@ -63,14 +63,14 @@ module _ (n q : ℕ) (l : Run) (w : Witness) where
         sym here ∙ c .1,
       )
 
-  -- A delivery is in the chapter of the configuration in which its message was sent.
+  -- A delivery is in the part of the configuration in which its message was sent.
   pub record Placed (p i : ℕ) (m : Message) : Type 0 where
     pub it : Delivering n q l w p i m
     pub sender : ℕ
     pub configuration : Configuration
     pub sent : Sends n q l sender m configuration
     pub regular : placeAt n q l i p .regular ≡ some configuration
-    pub among : Among (it .it) (chapter n q l w configuration .deliveries)
+    pub among : Among (it .it) (part n q l w configuration .deliveries)
 
   pub placed : genuine J ≡ true → same-configuration J ≡ true → (p i : ℕ) (m : Message) → Del p i m → Placed p i m
   placed g h p i m d =
@@ -89,8 +89,8 @@ module _ (n q : ℕ) (l : Run) (w : Witness) where
       each-two _ (λ (x y : Delivery). x .server ≡ y .server → x .sending .message ≡ y .sending .message → x .before ≡ y .before)
       (λ x s t. refl) (λ x y f s t. sym (f (sym s) (sym t)))
       (λ x y f s t. places-decided .says (x .before) (y .before) (implied _ _ f (both-yes _ _ (eq-yes (x .server) (y .server) s) (decided messages-decided t))))
-      (all-among _ (chapter-there n q l w (a .sender) m (a .configuration) (a .sent)) h)
-      (a .among) (subst (λ c. Among (b .it .it) (chapter n q l w c .deliveries)) one (b .among)) (a .it .server ∙ sym (b .it .server))
+      (all-among _ (part-there n q l w (a .sender) m (a .configuration) (a .sent)) h)
+      (a .among) (subst (λ c. Among (b .it .it) (part n q l w c .deliveries)) one (b .among)) (a .it .server ∙ sym (b .it .server))
       (delivered-message n q l w p i m (a .it) ∙ sym (delivered-message n q l w r i m (b .it))) in
       sym (a .it .before) ∙ same ∙ b .it .before
 
@@ -115,10 +115,10 @@ module _ (n q : ℕ) (l : Run) (w : Witness) where
   self-delivery-holds h i m c s f =
       let y : Entry = s .mine .entry in
       let a : Sending = sendingAt n q l w m y in
-      let test = all-among (λ (z : Sending). hasLeftSince (chapter n q l w c .leavings) z implies isDelivered (chapter n q l w c .deliveries) (z .server) (z .message))
-      (sending-in n q l w i m c s) (all-among _ (chapter-there n q l w i m c s) h) in
+      let test = all-among (λ (z : Sending). hasLeftSince (part n q l w c .leavings) z implies isDelivered (part n q l w c .deliveries) (z .server) (z .message))
+      (sending-in n q l w i m c s) (all-among _ (part-there n q l w i m c s) h) in
       let under : some c ≡ a .regular = sym (ap (λ k. placeAt n q l k (suc (m .sending)) .regular) (s .mine .its) ∙ s .under) in
-      let left : hasLeftSince (chapter n q l w c .leavings) a ≡ true =
+      let left : hasLeftSince (part n q l w c .leavings) a ≡ true =
       among-any (λ (t : Taking). t .server =? a .server and sameRegular (some (t .configuration)) (a .regular)) (leaving-in n q l w i c f)
       (both-yes _ _ (eq-yes i (a .server) (sym (s .mine .its))) (decided regulars-decided under)) in
       subst (λ k. Delivered n q l (sourceIn w) (nameIn w) k m) (s .mine .its) (found-delivered n q l w c (serverOf y) m (implied _ _ test left))

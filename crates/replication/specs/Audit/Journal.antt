@@ -176,20 +176,20 @@ passageFrom rs a = passageTo a (nextChange (a .server) (drop (suc (a .place)) rs
 
 -- What concerns the regular configurations with one id: what was sent in them, what was delivered in them and after them, and which servers have
 -- left them.
-pub record Chapter : Type 0 where
+pub record PerConfiguration : Type 0 where
   pub sendings : List Sending
   pub deliveries : List Delivery
   pub leavings : List Taking
 
-unfoldable pub chapterOf : List Sending → List Delivery → List Taking → ℕ → Chapter
-chapterOf ss ds ts k = record {
+unfoldable pub perConfiguration : List Sending → List Delivery → List Taking → ℕ → PerConfiguration
+perConfiguration ss ds ts k = record {
   sendings = withNumber (λ s. theId (s .regular)) k ss;
   deliveries = withNumber (λ d. theId (d .before .regular)) k ds;
   leavings = withNumber (λ t. t .configuration .id) k ts;
 }
 
-unfoldable pub chaptersOf : List Sending → List Delivery → List Taking → List Chapter
-chaptersOf ss ds ts = map (chapterOf ss ds ts) (eachOnce (map (λ s. theId (s .regular)) ss))
+unfoldable pub configurationsOf : List Sending → List Delivery → List Taking → List PerConfiguration
+configurationsOf ss ds ts = map (perConfiguration ss ds ts) (eachOnce (map (λ s. theId (s .regular)) ss))
 
 pub record Journal : Type 0 where
   pub rows : List Row
@@ -198,7 +198,7 @@ pub record Journal : Type 0 where
   pub transitions : List Transition
   pub changes : List Change
   pub passages : List Passage
-  pub chapters : List Chapter
+  pub configurations : List PerConfiguration
 
 unfoldable pub sendingsIn : List Row → Stamps → List Sending
 sendingsIn rs s = gatherAll (sendingsOf s) rs
@@ -230,7 +230,7 @@ sorted rs s = record {
   transitions = transitionsIn rs;
   changes = changesIn rs;
   passages = passagesIn rs;
-  chapters = chaptersOf (sendingsIn rs s) (deliveriesIn rs s) (leavingsIn rs);
+  configurations = configurationsOf (sendingsIn rs s) (deliveriesIn rs s) (leavingsIn rs);
 }
 
 unfoldable pub journalOf : List Row → Journal

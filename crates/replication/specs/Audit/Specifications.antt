@@ -35,7 +35,7 @@ unfoldable pub one-delivery : Journal → Bool
 one-delivery j =
     all
     (λ c. pairs (λ a b. a .server =? b .server and sameMessage (a .sending .message) (b .sending .message) implies samePlace (a .before) (b .before)) (c .deliveries))
-    (j .chapters)
+    (j .configurations)
 
 -- ---- Specification 2
 
@@ -52,7 +52,7 @@ hasLeftSince ts s = any (λ t. t .server =? s .server and sameRegular (some (t .
 -- "3. If there exist send_p(m, c) and deliver_conf_p(c') where c' ≠ trans_p(c) .. then there exists deliver_p(m, com_p(c))"
 unfoldable pub self-delivery : Journal → Bool
 self-delivery j =
-    all (λ c. all (λ s. hasLeftSince (c .leavings) s implies isDelivered (c .deliveries) (s .server) (s .message)) (c .sendings)) (j .chapters)
+    all (λ c. all (λ s. hasLeftSince (c .leavings) s implies isDelivered (c .deliveries) (s .server) (s .message)) (c .sendings)) (j .configurations)
 
 -- ---- Specification 4
 
@@ -92,7 +92,7 @@ isCause s t = sameRegular (s .regular) (t .regular) and knows (t .clock) (s .ser
 -- before it delivered every record sent in the same regular configuration that causally precedes it"
 unfoldable pub causal : Journal → Bool
 causal j =
-    all (λ c. all (λ d. all (λ s. isCause s (d .sending) implies comesAfter (c .deliveries) d (s .message)) (c .sendings)) (c .deliveries)) (j .chapters)
+    all (λ c. all (λ d. all (λ s. isCause s (d .sending) implies comesAfter (c .deliveries) d (s .message)) (c .sendings)) (c .deliveries)) (j .configurations)
 
 -- ---- Specification 6
 
@@ -124,7 +124,7 @@ same-moment j = pairs (λ a b. sameConfigured (a .to) (b .to) implies a .ord =? 
 -- "or deliver_p(m, c) and deliver_q(m, c'), then ord(e) = ord(e')."
 unfoldable pub same-message : Journal → Bool
 same-message j =
-    all (λ c. pairs (λ a b. sameMessage (a .sending .message) (b .sending .message) implies a .ord =? b .ord) (c .deliveries)) (j .chapters)
+    all (λ c. pairs (λ a b. sameMessage (a .sending .message) (b .sending .message) implies a .ord =? b .ord) (c .deliveries)) (j .configurations)
 
 -- "Specification 6's one order": two records of one regular configuration never share a moment.
 unfoldable pub one-order : Journal → Bool
@@ -132,7 +132,7 @@ one-order j =
     all
     (λ c.
     pairs (λ a b. a .ord =? b .ord and sameRegular (a .before .regular) (b .before .regular) implies sameMessage (a .sending .message) (b .sending .message)) (c .deliveries))
-    (j .chapters)
+    (j .configurations)
 
 -- The delivery b must come after one of a's message at the same server.
 unfoldable pub isOwed : Delivery → Delivery → Bool
@@ -142,7 +142,7 @@ isOwed a b = a .ord <? b .ord and sameRegular (a .sending .regular) (b .before .
 -- the deliverer's configuration then"
 unfoldable pub agreed : Journal → Bool
 agreed j =
-    all (λ c. all (λ a. all (λ b. isOwed a b implies comesAfter (c .deliveries) b (a .sending .message)) (c .deliveries)) (c .deliveries)) (j .chapters)
+    all (λ c. all (λ a. all (λ b. isOwed a b implies comesAfter (c .deliveries) b (a .sending .message)) (c .deliveries)) (c .deliveries)) (j .configurations)
 
 -- ---- Specification 7
 
@@ -154,4 +154,4 @@ isSharedWith d t = sameRegular (some (t .configuration)) (d .before .regular) an
 -- crash_q(com_q(c))"; "all are safe".
 unfoldable pub safe : Journal → Bool
 safe j =
-    all (λ c. all (λ d. all (λ t. isSharedWith d t implies isDelivered (c .deliveries) (t .server) (d .sending .message)) (c .leavings)) (c .deliveries)) (j .chapters)
+    all (λ c. all (λ d. all (λ t. isSharedWith d t implies isDelivered (c .deliveries) (t .server) (d .sending .message)) (c .leavings)) (c .deliveries)) (j .configurations)

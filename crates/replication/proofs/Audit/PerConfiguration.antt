@@ -1,4 +1,4 @@
--- What is sent, delivered and left in a regular configuration is in its chapter of the journal.
+-- What is sent, delivered and left in a regular configuration is in its part of the journal.
 -- Assumes nothing.
 use Prim.Native.Nat.{ℕ, suc, _<_}
 use mathlib.Core.Path.{_≡_, refl, ap, subst, subst₂, _∙_}
@@ -15,7 +15,7 @@ use Rattle.replication.specs.Audit.Witness.{Witness, sourceIn, nameIn}
 use Rattle.replication.specs.Audit.Same.{sameMessage}
 use Rattle.replication.specs.Audit.Table.{table}
 use Rattle.replication.specs.Audit.Clocks.{stamps}
-use Rattle.replication.specs.Audit.Journal.{Sending, Delivery, Taking, Chapter, chapterOf, chaptersOf, Journal, sendingsIn, deliveriesIn, leavingsIn, sorted, journalOf}
+use Rattle.replication.specs.Audit.Journal.{Sending, Delivery, Taking, PerConfiguration, perConfiguration, configurationsOf, Journal, sendingsIn, deliveriesIn, leavingsIn, sorted, journalOf}
 use Rattle.replication.specs.Audit.Specifications.{isDelivered, comesAfter}
 use Rattle.replication.proofs.Audit.Sameness.{messages-decided}
 use Rattle.replication.proofs.Audit.Entries.{sendingAt, sending-among, Delivering, delivered}
@@ -31,9 +31,9 @@ module _ (n q : ℕ) (l : Run) (w : Witness) where
   abbrev sendings : List Sending
   sendings = sendingsIn (table n q l w) (stamps (table n q l w))
 
-  -- The chapter of the configuration c.
-  abbrev pub chapter : Configuration → Chapter
-  chapter c = chapterOf sendings (deliveriesIn (table n q l w) (stamps (table n q l w))) (leavingsIn (table n q l w)) (c .id)
+  -- The part of the configuration c.
+  abbrev pub part : Configuration → PerConfiguration
+  part c = perConfiguration sendings (deliveriesIn (table n q l w) (stamps (table n q l w))) (leavingsIn (table n q l w)) (c .id)
 
   -- ---- what is there
 
@@ -41,30 +41,30 @@ module _ (n q : ℕ) (l : Run) (w : Witness) where
   unfolding theId sendingAt
   sent-id i m c s = ap theId (ap (λ k. placeAt n q l k (suc (m .sending)) .regular) (s .mine .its) ∙ s .under)
 
-  pub chapter-there : (i : ℕ) (m : Message) (c : Configuration) → Sends n q l i m c → Among (chapter c) (J .chapters)
-  unfolding journalOf sorted chaptersOf
-  chapter-there i m c s =
-      among-map (chapterOf _ _ _)
+  pub part-there : (i : ℕ) (m : Message) (c : Configuration) → Sends n q l i m c → Among (part c) (J .configurations)
+  unfolding journalOf sorted configurationsOf
+  part-there i m c s =
+      among-map (perConfiguration _ _ _)
       (among-once (subst (λ k. Among k (map (λ (z : Sending). theId (z .regular)) sendings)) (sent-id i m c s) (among-map (λ (z : Sending). theId (z .regular)) (sending-among n q l w i m c s))))
 
-  pub sending-in : (i : ℕ) (m : Message) (c : Configuration) (s : Sends n q l i m c) → Among (sendingAt n q l w m (s .mine .entry)) (chapter c .sendings)
-  unfolding chapterOf
+  pub sending-in : (i : ℕ) (m : Message) (c : Configuration) (s : Sends n q l i m c) → Among (sendingAt n q l w m (s .mine .entry)) (part c .sendings)
+  unfolding perConfiguration
   sending-in i m c s = among-number (λ (z : Sending). theId (z .regular)) (c .id) (sending-among n q l w i m c s) (sent-id i m c s)
 
-  pub delivery-in : (p i : ℕ) (m : Message) (d : Delivering n q l w p i m) (c : Configuration) → placeAt n q l i p .regular ≡ some c → Among (d .it) (chapter c .deliveries)
-  unfolding chapterOf theId
+  pub delivery-in : (p i : ℕ) (m : Message) (d : Delivering n q l w p i m) (c : Configuration) → placeAt n q l i p .regular ≡ some c → Among (d .it) (part c .deliveries)
+  unfolding perConfiguration theId
   delivery-in p i m d c e =
       among-number (λ (z : Delivery). theId (z .before .regular)) (c .id) (d .among) (ap theId (ap (λ (z : Place). z .regular) (d .before) ∙ e))
 
   pub leaving-in : (i : ℕ) (c : Configuration) (f : Left n q l i c)
-      → Among (record { place = f .p; server = i; before = placeAt n q l i (f .p); configuration = c }) (chapter c .leavings)
-  unfolding chapterOf
+      → Among (record { place = f .p; server = i; before = placeAt n q l i (f .p); configuration = c }) (part c .leavings)
+  unfolding perConfiguration
   leaving-in i c f = among-number (λ (z : Taking). z .configuration .id) (c .id) (leaving-among n q l w i c f) refl
 
   -- ---- what is found
 
-  pub found-delivered : (c : Configuration) (i : ℕ) (m : Message) → isDelivered (chapter c .deliveries) i m ≡ true → Delivered n q l (sourceIn w) (nameIn w) i m
-  unfolding isDelivered chapterOf
+  pub found-delivered : (c : Configuration) (i : ℕ) (m : Message) → isDelivered (part c .deliveries) i m ≡ true → Delivered n q l (sourceIn w) (nameIn w) i m
+  unfolding isDelivered perConfiguration
   found-delivered c i m h =
       let f = any-among _ _ h in
       let both = and-holds (f .0 .server =? i) (sameMessage (f .0 .sending .message) m) (f .2) in
@@ -74,9 +74,9 @@ module _ (n q : ℕ) (l : Run) (w : Witness) where
             (delivered n q l w (f .0) (number-among (λ (z : Delivery). theId (z .before .regular)) (c .id) _ (f .1)));
       }
 
-  pub found-before : (c : Configuration) (d : Delivery) (m : Message) → comesAfter (chapter c .deliveries) d m ≡ true
+  pub found-before : (c : Configuration) (d : Delivery) (m : Message) → comesAfter (part c .deliveries) d m ≡ true
       → (x : ℕ) × Del x (d .server) m × (x < d .place)
-  unfolding comesAfter chapterOf
+  unfolding comesAfter perConfiguration
   found-before c d m h =
       let f = any-among _ _ h in
       let first = and-holds (f .0 .server =? d .server) _ (f .2) in
