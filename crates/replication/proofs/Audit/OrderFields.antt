@@ -20,7 +20,7 @@ use Rattle.replication.specs.Audit.Table.{table}
 use Rattle.replication.specs.Audit.Clocks.{knows}
 use Rattle.replication.specs.Audit.Journal.{Sending, Delivery, Taking, Change, PerConfiguration, Journal, sorted, journalOf}
 use Rattle.replication.specs.Audit.Rules.{genuine}
-use Rattle.replication.specs.Audit.Specifications.{same-configuration, isDelivered, comesAfter, isCause, causal, rises, same-moment, same-message, one-order, isOwed, agreed, isSharedWith, safe}
+use Rattle.replication.specs.Audit.Specifications.{same-configuration, isDelivered, earlier, hasMessage, eachWithEarlier, isCause, causal, rises, same-moment, same-message, one-order, isOwed, agreed, isSharedWith, safe}
 use Rattle.replication.proofs.Audit.Sameness.{messages-decided, regulars-decided, configured-decided}
 use Rattle.replication.proofs.Audit.Entries.{change-among, sendingAt, Delivering, delivering, delivered-message, delivered-sending}
 use Rattle.replication.proofs.Audit.Causality.{cause-known}
@@ -41,7 +41,7 @@ module _ (n q : ℕ) (l : Run) (w : Witness) where
   part c = part-of n q l w c
 
   -- What is found before a delivery is delivered before it.
-  before : (p i : ℕ) (m : Message) (d : Delivering n q l w p i m) (x : Message) (c : Configuration) → comesAfter (part c .deliveries) (d .it) x ≡ true
+  before : (p i : ℕ) (m : Message) (d : Delivering n q l w p i m) (x : Message) (c : Configuration) → hasMessage x (earlier (part c .deliveries) (d .it)) ≡ true
       → (v : ℕ) × Del v i x × (v < p)
   before p i m d x c h =
       let f = found-before n q l w c (d .it) x h in
@@ -51,7 +51,7 @@ module _ (n q : ℕ) (l : Run) (w : Witness) where
 
   pub causal-holds : genuine J ≡ true → same-configuration J ≡ true → causal J ≡ true → (p i j k : ℕ) (m m′ : Message) (c : Configuration) → Sends n q l i m c
       → Sends n q l j m′ c → Causes n q l (sourceIn w) (nameIn w) (sending-of m) (sending-of m′) → Del p k m′ → (x : ℕ) × Del x k m × (x < p)
-  unfolding causal isCause knows sendingAt
+  unfolding causal eachWithEarlier isCause knows sendingAt
   causal-holds g u h p i j k m m′ c s t f d =
       let it = placed n q l w g u p k m′ d in
       let D : Delivery = it .it .it in
@@ -60,7 +60,7 @@ module _ (n q : ℕ) (l : Run) (w : Witness) where
       let y : Entry = s .mine .entry in
       let a : Sending = sendingAt n q l w m y in
       let b : Sending = sendingAt n q l w m′ (t .mine .entry) in
-      let test = all-among (λ (z : Sending). isCause z (D .sending) implies comesAfter (part c .deliveries) D (z .message)) (sending-in n q l w i m c s)
+      let test = all-among (λ (z : Sending). isCause z (D .sending) implies hasMessage (z .message) (earlier (part c .deliveries) D)) (sending-in n q l w i m c s)
       (all-among _ here (all-among _ (part-there n q l w i m c s) h)) in
       let regular : a .regular ≡ b .regular =
       ap (λ v. placeAt n q l v (suc (m .sending)) .regular) (s .mine .its) ∙ s .under
@@ -122,7 +122,7 @@ module _ (n q : ℕ) (l : Run) (w : Witness) where
   pub agreed-holds : genuine J ≡ true → same-configuration J ≡ true → agreed J ≡ true → (p r i j k : ℕ) (m m′ : Message) (c : Configuration) → Sends n q l k m c
       → Del p i m → Del r j m′ → placeAt n q l j r .regular ≡ some c → ordIn w (entry-at p) < ordIn w (entry-at r)
       → inSet k (members (placeAt n q l j r)) ≡ true → (x : ℕ) × Del x j m × (x < r)
-  unfolding agreed isOwed sendingAt
+  unfolding agreed eachWithEarlier isOwed sendingAt
   agreed-holds g u h p r i j k m m′ c s d e regular less member =
       let a = placed n q l w g u p i m d in
       let b = delivering n q l w r j m′ e in
@@ -130,8 +130,8 @@ module _ (n q : ℕ) (l : Run) (w : Witness) where
       let y : Entry = s .mine .entry in
       let sending = delivered-sending n q l w p i m (a .it) y (s .mine .here) in
       let here : Among A (part c .deliveries) = subst (λ e. Among A (part e .deliveries)) (sends-one (a .sent) s .1) (a .among) in
-      let test = all-among (λ (z : Delivery). isOwed A z implies comesAfter (part c .deliveries) z (A .sending .message)) (delivery-in n q l w r j m′ b c regular)
-      (all-among _ here (all-among _ (part-there n q l w k m c s) h)) in
+      let test = all-among (λ (z : Delivery). isOwed z (b .it) implies hasMessage (z .sending .message) (earlier (part c .deliveries) (b .it))) here
+      (all-among _ (delivery-in n q l w r j m′ b c regular) (all-among _ (part-there n q l w k m c s) h)) in
       let under : A .sending .regular ≡ b .it .before .regular =
       ap (λ z. z .regular) sending ∙ ap (λ v. placeAt n q l v (suc (m .sending)) .regular) (s .mine .its) ∙ s .under
       ∙ sym regular ∙ ap (λ (z : Place). z .regular) (sym (b .before)) in
@@ -140,7 +140,7 @@ module _ (n q : ℕ) (l : Run) (w : Witness) where
       both-yes _ _ (lt-yes (A .ord) (b .it .ord) (omega (arith, a .it .ord, b .ord)))
       (both-yes _ _ (decided regulars-decided under) (subst₂ (λ v z. inSet v (members z) ≡ true) sender (sym (b .before)) member)) in
       before r j m′ b m c
-      (subst (λ z. comesAfter (part c .deliveries) (b .it) z ≡ true) (delivered-message n q l w p i m (a .it)) (implied _ _ test owed))
+      (subst (λ z. hasMessage z (earlier (part c .deliveries) (b .it)) ≡ true) (delivered-message n q l w p i m (a .it)) (implied _ _ test owed))
 
   -- ---- 7
 

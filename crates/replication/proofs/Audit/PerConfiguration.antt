@@ -1,12 +1,13 @@
 -- What is sent, delivered and left in a regular configuration is in its part of the journal.
 -- Assumes nothing.
 use Prim.Native.Nat.{ℕ, suc, _<_}
-use mathlib.Core.Path.{_≡_, refl, ap, subst, subst₂, _∙_}
+use mathlib.Core.Path.{_≡_, refl, ap, subst, subst₂, _∙_, sym}
 use mathlib.Core.Bool.{true}
 use mathlib.Core.List.{List, map}
 use mathlib.Core.Option.{some}
 use Rattle.base.specs.Tests.{_=?_, _<?_, and-holds, eq-holds, lt-holds}
-use Rattle.base.specs.QuantifierLaws.{Among, any-among, among-map, among-once, among-number, number-among}
+use Rattle.base.specs.AtLaws.{at-map}
+use Rattle.base.specs.QuantifierLaws.{Among, any-among, filter-among, among-map, among-once, among-number, number-among}
 use Rattle.replication.specs.Machine.Types.{Configuration}
 use Rattle.replication.specs.Machine.Step.{theId}
 use Rattle.replication.specs.Runs.Run.{Run, Place, placeAt}
@@ -16,7 +17,7 @@ use Rattle.replication.specs.Audit.Same.{sameMessage}
 use Rattle.replication.specs.Audit.Table.{table}
 use Rattle.replication.specs.Audit.Clocks.{stamps}
 use Rattle.replication.specs.Audit.Journal.{Sending, Delivery, Taking, PerConfiguration, perConfiguration, configurationsOf, Journal, sendingsIn, deliveriesIn, leavingsIn, sorted, journalOf}
-use Rattle.replication.specs.Audit.Specifications.{isDelivered, comesAfter}
+use Rattle.replication.specs.Audit.Specifications.{isDelivered, earlier, hasMessage}
 use Rattle.replication.proofs.Audit.Sameness.{messages-decided}
 use Rattle.replication.proofs.Audit.Entries.{sendingAt, sending-among, Delivering, delivered}
 use Rattle.replication.proofs.Audit.Later.{leaving-among}
@@ -74,15 +75,16 @@ module _ (n q : ℕ) (l : Run) (w : Witness) where
             (delivered n q l w (f .0) (number-among (λ (z : Delivery). theId (z .before .regular)) (c .id) _ (f .1)));
       }
 
-  pub found-before : (c : Configuration) (d : Delivery) (m : Message) → comesAfter (part c .deliveries) d m ≡ true
+  pub found-before : (c : Configuration) (d : Delivery) (m : Message) → hasMessage m (earlier (part c .deliveries) d) ≡ true
       → (x : ℕ) × Del x (d .server) m × (x < d .place)
-  unfolding comesAfter perConfiguration
+  unfolding hasMessage earlier perConfiguration
   found-before c d m h =
-      let f = any-among _ _ h in
-      let first = and-holds (f .0 .server =? d .server) _ (f .2) in
-      let second = and-holds (f .0 .place <? d .place) (sameMessage (f .0 .sending .message) m) (first .1) in (
-        f .0 .place,
-        subst₂ (λ a b. Del (f .0 .place) a b) (eq-holds (f .0 .server) (d .server) (first .0)) (messages-decided .says (f .0 .sending .message) m (second .1))
-            (delivered n q l w (f .0) (number-among (λ (z : Delivery). theId (z .before .regular)) (c .id) _ (f .1))),
-        lt-holds (f .0 .place) (d .place) (second .0),
+      let f = any-among (sameMessage m) _ h in
+      let y = at-map (λ (x : Delivery). x .sending .message) _ (f .1 .place) (f .0) (f .1 .there) in
+      let z = filter-among _ _ (record { place = f .1 .place; there = y .1 }) in
+      let both = and-holds (y .0 .server =? d .server) (y .0 .place <? d .place) (z .1) in (
+        y .0 .place,
+        subst₂ (λ a b. Del (y .0 .place) a b) (eq-holds (y .0 .server) (d .server) (both .0)) (sym (messages-decided .says m (f .0) (f .2) ∙ y .2))
+            (delivered n q l w (y .0) (number-among (λ (x : Delivery). theId (x .before .regular)) (c .id) _ (z .0))),
+        lt-holds (y .0 .place) (d .place) (both .1),
       )

@@ -43,7 +43,7 @@ genuine j = all (λ d. d .sending .message .sending <? d .place and sameOption s
 unfoldable pub cut-by-crash : Journal → Bool
 cut-by-crash j = all (λ r. r .cut implies crashesNext (r .server) (drop (suc (r .place)) (j .rows))) (j .rows)
 
--- "that server's next event is then recovery"
+-- A recovery, or one more crash.
 unfoldable pub bringsBack : Role → Bool
 bringsBack delivers = false
 bringsBack (takes c) = false
@@ -52,5 +52,6 @@ bringsBack goes-down = true
 bringsBack comes-back = true
 bringsBack neither = false
 
+-- "that server's next event is then recovery, from its store."
 unfoldable pub recovers : Journal → Bool
 recovers j = all (λ r. r .down implies bringsBack (r .role)) (j .rows)

@@ -2,7 +2,7 @@
 -- Assumes nothing.
 use Prim.Native.Nat.{ℕ, suc}
 use mathlib.Core.Bool.{Bool, true, false}
-use mathlib.Core.List.{List, [], _∷_}
+use mathlib.Core.List.{List, [], _∷_, map}
 use mathlib.Core.Option.{some}
 use lib.ListN.{length, drop}
 use Rattle.base.specs.Tests.{_and_, _or_, _=?_, _<?_}
@@ -20,9 +20,16 @@ use Rattle.replication.specs.Audit.Journal.{Sending, Delivery, Taking, P
 unfoldable pub isDelivered : List Delivery → ℕ → Message → Bool
 isDelivered ds i m = any (λ d. d .server =? i and sameMessage (d .sending .message) m) ds
 
--- The server of d delivers m before it.
-unfoldable pub comesAfter : List Delivery → Delivery → Message → Bool
-comesAfter ds d m = any (λ x. x .server =? d .server and x .place <? d .place and sameMessage (x .sending .message) m) ds
+-- What the server of d delivers before it.
+unfoldable pub earlier : List Delivery → Delivery → List Message
+earlier ds d = map (λ (x : Delivery). x .sending .message) (filter (λ x. x .server =? d .server and x .place <? d .place) ds)
+
+unfoldable pub hasMessage : Message → List Message → Bool
+hasMessage m ms = any (sameMessage m) ms
+
+-- Each delivery passes the test, with what its server delivers before it.
+unfoldable pub eachWithEarlier : (Delivery → List Message → Bool) → List Delivery → Bool
+eachWithEarlier t ds = all (λ d. t d (earlier ds d)) ds
 
 -- ---- Specification 1
 
@@ -92,7 +99,9 @@ isCause s t = sameRegular (s .regular) (t .regular) and knows (t .clock) (s .ser
 -- before it delivered every record sent in the same regular configuration that causally precedes it"
 unfoldable pub causal : Journal → Bool
 causal j =
-    all (λ c. all (λ d. all (λ s. isCause s (d .sending) implies comesAfter (c .deliveries) d (s .message)) (c .sendings)) (c .deliveries)) (j .configurations)
+    all
+    (λ c. eachWithEarlier (λ d ms. all (λ s. isCause s (d .sending) implies hasMessage (s .message) ms) (c .sendings)) (c .deliveries))
+    (j .configurations)
 
 -- ---- Specification 6
 
@@ -142,7 +151,9 @@ isOwed a b = a .ord <? b .ord and sameRegular (a .sending .regular) (b .before .
 -- the deliverer's configuration then"
 unfoldable pub agreed : Journal → Bool
 agreed j =
-    all (λ c. all (λ a. all (λ b. isOwed a b implies comesAfter (c .deliveries) b (a .sending .message)) (c .deliveries)) (c .deliveries)) (j .configurations)
+    all
+    (λ c. eachWithEarlier (λ b ms. all (λ a. isOwed a b implies hasMessage (a .sending .message) ms) (c .deliveries)) (c .deliveries))
+    (j .configurations)
 
 -- ---- Specification 7
 
