@@ -20,7 +20,7 @@ use Rattle.replication.specs.Audit.Table.{table}
 use Rattle.replication.specs.Audit.Clocks.{knows}
 use Rattle.replication.specs.Audit.Journal.{Sending, Delivery, Taking, Change, PerConfiguration, Journal, sorted, journalOf}
 use Rattle.replication.specs.Audit.Rules.{genuine}
-use Rattle.replication.specs.Audit.Specifications.{same-configuration, isDelivered, earlier, hasMessage, eachWithEarlier, isCause, causal, rises, same-moment, same-message, one-order, isOwed, agreed, isSharedWith, safe}
+use Rattle.replication.specs.Audit.Specifications.{same-configuration, isDelivered, earlier, hasMessage, eachWithEarlier, isCause, causal, rises, same-moment, same-message, isTogether, one-order, isOwed, agreed, isSharedWith, safe}
 use Rattle.replication.proofs.Audit.Sameness.{messages-decided, regulars-decided, configured-decided}
 use Rattle.replication.proofs.Audit.Entries.{change-among, sendingAt, Delivering, delivering, delivered-message, delivered-sending}
 use Rattle.replication.proofs.Audit.Causality.{cause-known}
@@ -105,7 +105,7 @@ module _ (n q : ℕ) (l : Run) (w : Witness) where
 
   pub one-order-holds : genuine J ≡ true → same-configuration J ≡ true → one-order J ≡ true → (p r i j : ℕ) (m m′ : Message) → Del p i m → Del r j m′
       → placeAt n q l i p .regular ≡ placeAt n q l j r .regular → ordIn w (entry-at p) ≡ ordIn w (entry-at r) → m ≡ m′
-  unfolding one-order
+  unfolding one-order isTogether
   one-order-holds g u h p r i j m m′ d e regular ord =
       let a = placed n q l w g u p i m d in
       let b = placed n q l w g u r j m′ e in

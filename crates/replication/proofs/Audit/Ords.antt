@@ -121,7 +121,8 @@ module _ (n q : ℕ) (l : Run) (w : Witness) where
         subst (λ s. getD (sendingOrdsAt w s) (m .number) 0 < getD (sendingOrdsAt w (m′ .sending)) (m′ .number) 0) (sym e)
         (in-order-rise (m′ .sending) (m .number) (m′ .number) less h)
     causes-rise a b (before-next {r} i m o u less) =
-        omega (arith, turn-at (m .sending) r i o u less, last-highest (entryOrd w (m .sending)) (sendingOrdsAt w (m .sending)) (m .number) (own-at (m .sending) (o .entry) (o .here) .1))
+        let s : ℕ = m .sending in
+        omega (arith, turn-at s r i o u less, last-highest (entryOrd w s) (sendingOrdsAt w s) (m .number) (own-at s (o .entry) (o .here) .1))
     causes-rise a b (carries {p} i m d) = carries-rise p i m d
     causes-rise a c (through {b = b} f g) = omega (arith, causes-rise a b f, causes-rise b c g)
 

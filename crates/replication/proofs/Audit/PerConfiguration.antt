@@ -45,8 +45,9 @@ module _ (n q : ℕ) (l : Run) (w : Witness) where
   pub part-there : (i : ℕ) (m : Message) (c : Configuration) → Sends n q l i m c → Among (part c) (J .configurations)
   unfolding journalOf sorted configurationsOf
   part-there i m c s =
+      let id : Sending → ℕ = λ z. theId (z .regular) in
       among-map (perConfiguration _ _ _)
-      (among-once (subst (λ k. Among k (map (λ (z : Sending). theId (z .regular)) sendings)) (sent-id i m c s) (among-map (λ (z : Sending). theId (z .regular)) (sending-among n q l w i m c s))))
+      (among-once (subst (λ k. Among k (map id sendings)) (sent-id i m c s) (among-map id (sending-among n q l w i m c s))))
 
   pub sending-in : (i : ℕ) (m : Message) (c : Configuration) (s : Sends n q l i m c) → Among (sendingAt n q l w m (s .mine .entry)) (part c .sendings)
   unfolding perConfiguration

@@ -22,7 +22,7 @@ use Rattle.replication.specs.Audit.Same.{sameRegular}
 use Rattle.replication.specs.Audit.Table.{table}
 use Rattle.replication.specs.Audit.Journal.{Sending, Delivery, Taking, Transition, Passage, Journal, settles, sorted, journalOf}
 use Rattle.replication.specs.Audit.Rules.{genuine}
-use Rattle.replication.specs.Audit.Specifications.{isDelivered, same-configuration, one-delivery, one-name, hasLeftSince, self-delivery, during, isRegular, isOver, sameWay, allAmong, atomic}
+use Rattle.replication.specs.Audit.Specifications.{isDelivered, same-configuration, isAgain, one-delivery, one-name, hasLeftSince, self-delivery, during, isRegular, isOver, sameWay, allAmong, atomic}
 use Rattle.replication.proofs.Audit.Sameness.{messages-decided, regulars-decided, places-decided, configured-decided}
 use Rattle.replication.proofs.Audit.Entries.{transition-among, sendingAt, Delivering, delivering, delivered-message, delivered-sending, delivered}
 use Rattle.replication.proofs.Audit.Later.{settled, change, passage-among}
@@ -80,7 +80,7 @@ module _ (n q : ℕ) (l : Run) (w : Witness) where
 
   pub one-delivery-holds : genuine J ≡ true → same-configuration J ≡ true → one-delivery J ≡ true
       → (p r i : ℕ) (m : Message) → Del p i m → Del r i m → placeAt n q l i p ≡ placeAt n q l i r
-  unfolding one-delivery
+  unfolding one-delivery isAgain
   one-delivery-holds g u h p r i m d e =
       let a = placed g u p i m d in
       let b = placed g u r i m e in
@@ -179,4 +179,5 @@ module _ (n q : ℕ) (l : Run) (w : Witness) where
       let way = both-yes _ _ (both-yes _ _ (configured-decided .itself c) (configured-decided .itself d))
       (over j y v d f (b .to) late t (λ u less. steady u (omega (arith, b .order)))) in
       let found = any-among _ _ (all-among _ (during-has A z i m it refl low high) (implied _ _ test way)) in
-      during-is B (found .0) j m (found .1) refl (messages-decided .says (found .0 .sending .message) (it .it .sending .message) (found .2) ∙ delivered-message n q l w z i m it)
+      let message = messages-decided .says (found .0 .sending .message) (it .it .sending .message) (found .2) ∙ delivered-message n q l w z i m it in
+      during-is B (found .0) j m (found .1) refl message

@@ -37,12 +37,13 @@ eachWithEarlier t ds = all (λ d. t d (earlier ds d)) ds
 unfoldable pub same-configuration : Journal → Bool
 same-configuration j = all (λ d. isThere (d .before .regular) and sameRegular (d .sending .regular) (d .before .regular)) (j .deliveries)
 
+-- One message at one server.
+unfoldable pub isAgain : Delivery → Delivery → Bool
+isAgain a b = a .server =? b .server and sameMessage (a .sending .message) (b .sending .message)
+
 -- "1.4 .. if there exists deliver_p(m, c), then there does not exist deliver_p(m, c') where c ≠ c'."
 unfoldable pub one-delivery : Journal → Bool
-one-delivery j =
-    all
-    (λ c. pairs (λ a b. a .server =? b .server and sameMessage (a .sending .message) (b .sending .message) implies samePlace (a .before) (b .before)) (c .deliveries))
-    (j .configurations)
+one-delivery j = all (λ c. pairs (λ a b. isAgain a b implies samePlace (a .before) (b .before)) (c .deliveries)) (j .configurations)
 
 -- ---- Specification 2
 
@@ -135,13 +136,14 @@ unfoldable pub same-message : Journal → Bool
 same-message j =
     all (λ c. pairs (λ a b. sameMessage (a .sending .message) (b .sending .message) implies a .ord =? b .ord) (c .deliveries)) (j .configurations)
 
+-- One moment in one regular configuration.
+unfoldable pub isTogether : Delivery → Delivery → Bool
+isTogether a b = a .ord =? b .ord and sameRegular (a .before .regular) (b .before .regular)
+
 -- "Specification 6's one order": two records of one regular configuration never share a moment.
 unfoldable pub one-order : Journal → Bool
 one-order j =
-    all
-    (λ c.
-    pairs (λ a b. a .ord =? b .ord and sameRegular (a .before .regular) (b .before .regular) implies sameMessage (a .sending .message) (b .sending .message)) (c .deliveries))
-    (j .configurations)
+    all (λ c. pairs (λ a b. isTogether a b implies sameMessage (a .sending .message) (b .sending .message)) (c .deliveries)) (j .configurations)
 
 -- The delivery b must come after one of a's message at the same server.
 unfoldable pub isOwed : Delivery → Delivery → Bool
@@ -165,4 +167,6 @@ isSharedWith d t = sameRegular (some (t .configuration)) (d .before .regular) an
 -- crash_q(com_q(c))"; "all are safe".
 unfoldable pub safe : Journal → Bool
 safe j =
-    all (λ c. all (λ d. all (λ t. isSharedWith d t implies isDelivered (c .deliveries) (t .server) (d .sending .message)) (c .leavings)) (c .deliveries)) (j .configurations)
+    all
+    (λ c. all (λ d. all (λ t. isSharedWith d t implies isDelivered (c .deliveries) (t .server) (d .sending .message)) (c .leavings)) (c .deliveries))
+    (j .configurations)
