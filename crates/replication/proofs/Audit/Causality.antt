@@ -58,7 +58,7 @@ module _ (n q : ℕ) (l : Run) (w : Witness) (sent-before : (p i : ℕ) (m : Mes
   reached a b (in-turn i o u less) = tt
   reached a b (sends m h) = h
   reached a b (in-order m m′ e less h) = h
-  reached a b (before-next i m o u less) = tt
+  reached a b (before-next i m out o u less) = tt
   reached a b (carries i m d) = tt
   reached a c (through {b = b} f g) = reached b c g
 
@@ -131,7 +131,7 @@ module _ (n q : ℕ) (l : Run) (w : Witness) (sent-before : (p i : ℕ) (m : Mes
   learns a b (sends m h) real = sends-learns m
   learns a b (in-order m m′ e less h) real =
       subst (λ s. Learns (sending-of m) (sending-of (record { sending = s; number = m′ .number }))) e (in-order-learns (m .sending) (m .number) (m′ .number) less)
-  learns a b (before-next {r} i m o u less) real = before-next-learns r i m o u less real
+  learns a b (before-next {r} i m out o u less) real = before-next-learns r i m o u less real
   learns a b (carries {p} i m d) real = carries-learns p i m d
   learns a c (through {b = b} f g) real = learns-through a b c (learns a b f real) (learns b c g (reached a b f))
 

@@ -120,7 +120,7 @@ module _ (n q : ℕ) (l : Run) (w : Witness) where
     causes-rise a b (in-order m m′ e less h) =
         subst (λ s. getD (sendingOrdsAt w s) (m .number) 0 < getD (sendingOrdsAt w (m′ .sending)) (m′ .number) 0) (sym e)
         (in-order-rise (m′ .sending) (m .number) (m′ .number) less h)
-    causes-rise a b (before-next {r} i m o u less) =
+    causes-rise a b (before-next {r} i m out o u less) =
         let s : ℕ = m .sending in
         omega (arith, turn-at s r i o u less, last-highest (entryOrd w s) (sendingOrdsAt w s) (m .number) (own-at s (o .entry) (o .here) .1))
     causes-rise a b (carries {p} i m d) = carries-rise p i m d
