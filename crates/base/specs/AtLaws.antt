@@ -3,7 +3,7 @@
 use Prim.Native.Nat.{ℕ, zero, suc, _≤_, _<_}
 use mathlib.Core.Path.{_≡_, refl, sym, ap, subst, _∙_}
 use mathlib.Core.Bool.{Bool, true, false}
-use mathlib.Core.List.{List, [], _∷_, _++_, map}
+use mathlib.Core.List.{List, [], _∷_, _++_, map, List·Memᴰ, List·Memᴰ·head, List·Memᴰ·tail}
 use mathlib.Core.Option.{Option, none, some}
 use native.Mathlib.Omega.{arith}
 use lib.ListN.{length, take}
@@ -65,6 +65,17 @@ module _ {A : Type 0} where
   take-next [] p x e = none-some e
   take-next (y ∷ l) zero x e = let f : y ≡ x = some-same e in ap (λ z. z ∷ []) f
   take-next (y ∷ l) (suc p) x e = ap (λ z. y ∷ z) (take-next l p x e)
+
+  pub at-among : (l : List A) (p : ℕ) (x : A) → at l p ≡ some x → List·Memᴰ x l
+  unfolding at
+  at-among [] p x e = none-some e
+  at-among (y ∷ l) zero x e = List·Memᴰ·head (sym (some-same e))
+  at-among (y ∷ l) (suc p) x e = List·Memᴰ·tail (at-among l p x e)
+
+  pub at-single : (y : A) (p : ℕ) (x : A) → at (y ∷ []) p ≡ some x → (p ≡ 0) × (x ≡ y)
+  unfolding at
+  at-single y zero x e = (refl, sym (some-same e))
+  at-single y (suc p) x e = none-some e
 
 pub at-map : {A B : Type 0} (f : A → B) (l : List A) (p : ℕ) (y : B) → at (map f l) p ≡ some y → (x : A) × (at l p ≡ some x) × (y ≡ f x)
 unfolding at

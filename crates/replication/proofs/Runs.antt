@@ -19,6 +19,7 @@ pub mod Order
 pub mod Origins
 pub mod Memberships
 pub mod Stays
+pub mod PutRecords
 pub mod StateOrigins
 pub mod DeliveryLists
 pub mod Agreement
