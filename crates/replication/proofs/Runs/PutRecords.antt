@@ -14,7 +14,7 @@ use Rattle.replication.specs.Machine.Types.{Mode, Non-prim, Reg-prim, Tr
 use Rattle.replication.specs.Machine.Plan.{ownPart}
 use Rattle.replication.specs.Machine.Requests.{sendsIn, sendsNow}
 use Rattle.replication.specs.Machine.Step.{ownState, hereId, collected, allStatesIn, plannedNow}
-use Rattle.replication.specs.Laws.Order.{EndsExchange}
+use Rattle.replication.specs.Laws.Votes.{EndsExchange}
 use Rattle.replication.specs.Laws.Sending as P
 use Rattle.replication.specs.Laws.Sending.{made, PutsOut, Own, Resent}
 use Rattle.replication.proofs.Step.OwnActions.{own-sent}
@@ -57,13 +57,13 @@ put-as {s} {t} {r} j y (P.stateOnEntry c h m o n) e =
     subst (λ k. PutAs s r t k y) (sym (f .0)) (subst (PutAs s r t 0) (sym (f .1)) (ownStateOnEntry c h m o))
 put-as {s} {t} {r} j y (P.partOfPlan x h m o a p n) e =
     ownPartOfPlan j y x h m o a p e (part-resent (t .me) (t .log) (collected t) y (t .servers) (at-among _ j y e))
-put-as {s} {t} {r} j y (P.cpcOnAttempt h m n) e =
+put-as {s} {t} {r} j y (P.cpcOnAttempt h g m n) e =
     let f = at-single _ j y e in
     subst (λ k. PutAs s r t k y) (sym (f .0)) (subst (PutAs s r t 0) (sym (f .1)) (ownCpc h m))
 put-as {s} {t} {r} j y (P.requestAtOnce p h m o n) e =
     as-action j y (made s t (p ∷ [])) (P.requestAtOnce p h m o n) e
     (subst (λ z. (z .mode ≡ Non-prim) ⊎ (z .mode ≡ Reg-prim)) (sym o) (sends-in (s .membership .mode) _ m))
-put-as {s} {t} {r} j y (P.heldAfterExchange h m n) e = as-action j y (made s t (s .held)) (P.heldAfterExchange h m n) e (inl m)
+put-as {s} {t} {r} j y (P.heldAfterExchange h g m n) e = as-action j y (made s t (s .held)) (P.heldAfterExchange h g m n) e (inl m)
 put-as {s} {t} {r} j y (P.heldAfterInstall k i h m a o n) e = as-action j y (made s t (s .held)) (P.heldAfterInstall k i h m a o n) e (inr o)
 
 -- ---- by kind
