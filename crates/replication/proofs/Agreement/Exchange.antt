@@ -1,3 +1,6 @@
 pub mod Stages
 pub mod Endings
 pub mod Phases
+pub mod Collected
+pub mod Answers
+pub mod States

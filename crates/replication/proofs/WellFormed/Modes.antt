@@ -29,7 +29,7 @@ unfolding _or_
 in-ok true u h = h refl
 in-ok false u h = refl
 
-from-facts : (here k : ℕ) (xs : List (Option State)) → allFrom here k xs ≡ true → (j : ℕ) → j < length xs → inSet (k + j) here ≡ true
+pub from-facts : (here k : ℕ) (xs : List (Option State)) → allFrom here k xs ≡ true → (j : ℕ) → j < length xs → inSet (k + j) here ≡ true
     → isThere (getD xs j none) ≡ true
 unfolding allFrom
 from-facts here k [] h j l m = absurd (omega arith)

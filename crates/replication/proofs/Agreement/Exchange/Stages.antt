@@ -41,6 +41,18 @@ stage Construct = 3
 stage No = 3
 stage Un = 3
 
+-- At the first stage a server is in Exchange_states.
+pub first-stage : (m : Mode) → stage m ≤ 0 → m ≡ Exchange-states
+unfolding stage
+first-stage Non-prim h = absurd (omega arith)
+first-stage Reg-prim h = absurd (omega arith)
+first-stage Trans-prim h = absurd (omega arith)
+first-stage Exchange-states h = refl
+first-stage Exchange-actions h = absurd (omega arith)
+first-stage Construct h = absurd (omega arith)
+first-stage No h = absurd (omega arith)
+first-stage Un h = absurd (omega arith)
+
 -- The states by number, to tell them apart.
 unfoldable pub modeNumber : Mode → ℕ
 modeNumber Non-prim = 0
