@@ -4,3 +4,4 @@ pub mod Phases
 pub mod Collected
 pub mod Answers
 pub mod States
+pub mod SameStates
