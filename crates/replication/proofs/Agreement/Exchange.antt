@@ -5,3 +5,4 @@ pub mod Collected
 pub mod Answers
 pub mod States
 pub mod SameStates
+pub mod Marked
