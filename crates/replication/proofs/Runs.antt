@@ -22,6 +22,7 @@ pub mod Stays
 pub mod PutRecords
 pub mod LogActions
 pub mod StateOrigins
+pub mod CpcOrigins
 pub mod Hearing
 pub mod OwnStates
 pub mod Made
