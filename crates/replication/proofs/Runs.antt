@@ -23,6 +23,7 @@ pub mod PutRecords
 pub mod LogActions
 pub mod StateOrigins
 pub mod CpcOrigins
+pub mod Progress
 pub mod Hearing
 pub mod OwnStates
 pub mod Made
