@@ -20,6 +20,12 @@ pub mod Origins
 pub mod Memberships
 pub mod Stays
 pub mod PutRecords
+pub mod LogActions
 pub mod StateOrigins
+pub mod CpcOrigins
+pub mod Progress
+pub mod Hearing
+pub mod OwnStates
+pub mod Made
 pub mod DeliveryLists
 pub mod Agreement

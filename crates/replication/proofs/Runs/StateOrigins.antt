@@ -2,7 +2,7 @@
 use Prim.Native.Nat.{ℕ, zero, suc, _≤_, _<_}
 use mathlib.Core.Path.{_≡_, refl, sym, ap, subst, _∙_}
 use mathlib.Core.Bool.{Bool, true, false}
-use mathlib.Core.List.{List, [], _∷_, map}
+use mathlib.Core.List.{List, [], _∷_, map, List·Memᴰ}
 use mathlib.Core.Logic.{_⊎_, inl, inr}
 use mathlib.Core.Option.{Option, none, some}
 use native.Mathlib.Omega.{arith}
@@ -11,21 +11,24 @@ use lib.ListN.{length, getD, set}
 use lib.Seq.{getD-set-same, getD-set-other, set-out}
 use Rattle.base.specs.Tests.{not-both}
 use Rattle.base.specs.Lists.{at}
-use Rattle.base.specs.AtLaws.{none-some, some-same}
+use Rattle.base.specs.AtLaws.{none-some, some-same, at-among}
+use Rattle.base.specs.Sets.{inSet}
 use Rattle.format.specs.Types.{Action, State, Record, action, retransmission, state, cpc, regular}
 use Rattle.replication.specs.Machine.Types.{Configuration, Membership, Server, noStates}
 use Rattle.replication.specs.Machine.Step.{ownState}
 use Rattle.replication.specs.Machine.WellFormedSent.{senderOf}
+use Rattle.replication.specs.Laws.Sending.{PutsOut}
 use Rattle.replication.specs.Runs.Run.{Run, placeAt}
 use Rattle.replication.specs.Runs.Happenings.{Message, isMessage, Comes, Falls, Takes, Delivers}
 use Rattle.replication.specs.Runs.Allowed.{Allowed}
+use Rattle.replication.proofs.Step.Kinds.{state-sent}
 use Rattle.replication.proofs.Step.Sending.{puts-out}
 use Rattle.replication.proofs.Runs.Deliveries.{Delivery}
 use Rattle.replication.proofs.Runs.AllowedTurns.{memoryAt, Acts}
 use Rattle.replication.proofs.Runs.Sending.{Puts}
 use Rattle.replication.proofs.Runs.Origins.{Origin, origin}
 use Rattle.replication.proofs.Runs.Coupling.{coupled}
-use Rattle.replication.proofs.Runs.PutRecords.{PutAs, put-as, state-put}
+use Rattle.replication.proofs.Runs.PutRecords.{alone-first}
 use Rattle.replication.proofs.Runs.Memberships as M
 use Rattle.replication.proofs.Runs.Memberships.{Completes, MembershipStep}
 use Rattle.replication.proofs.Runs.Stays.{membershipAt, in-stay, StayStep, rested, refused, took, stay-step, entering-membership}
@@ -76,8 +79,17 @@ put-or-there {A} xs i k x y h = go (ℕ-discrete k i) (decLt i (length xs))
     go (no e) b = inr (sym (getD-set-other xs i k (some x) none e) ∙ h)
 
 module _ {n q : ℕ} {l : Run} (A : Allowed n q l) where
-  pub puts-as : {v k j : ℕ} {c : Configuration} {y : Record} (x : Puts A v k j c y) → PutAs (memoryAt n q l v k) (x .act .by .event) (x .act .after) j y
-  puts-as {v} {k} {j} {c} {y} x = put-as j y (puts-out _ (x .act .moves)) (x .record-there)
+  -- What an event that puts something out puts out, and a record of it among them.
+  pub puts-among : {v k j : ℕ} {c : Configuration} {y : Record} (x : Puts A v k j c y) → List·Memᴰ y (x .act .by .records)
+  puts-among {v} {k} {j} {c} {y} x = at-among (x .act .by .records) j y (x .record-there)
+
+  pub puts-by : {v k j : ℕ} {c : Configuration} {y : Record} (x : Puts A v k j c y)
+      → PutsOut (memoryAt n q l v k) (x .act .by .event) (x .act .after) (x .act .by .records) (x .act .stores)
+  puts-by {v} {k} {j} {c} {y} x = puts-out _ (x .act .moves)
+
+  -- The record to which a server answers by putting out something.
+  pub puts-comes : {v k j : ℕ} {c : Configuration} {y : Record} (x : Puts A v k j c y) → Comes n q l v k (x .act .by .event)
+  puts-comes x = record { bytes = x .act .bytes; sent = x .act .sent; here = x .act .here; heard = x .act .heard }
 
   -- The configuration that a server has after it put something out.
   pub puts-configuration : {v k j : ℕ} {c : Configuration} {y : Record} (x : Puts A v k j c y) → x .act .after .membership .configuration ≡ some c
@@ -94,31 +106,61 @@ module _ {n q : ℕ} {l : Run} (A : Allowed n q l) where
   -- A State is put out on entering a configuration, and is the own one.
   pub state-entered : {v k j : ℕ} {c : Configuration} {x : State} → Puts A v k j c (state x) → Entered v k c x × (j ≡ 0)
   state-entered {v} {k} {j} {c} {x} u =
-      let h = state-put (puts-as u) in
-      let e : h .0 ≡ c = some-same (sym (h .2) ∙ puts-configuration u) in
-      let t : Comes n q l v k (u .act .by .event) = record { bytes = u .act .bytes; sent = u .act .sent; here = u .act .here; heard = u .act .heard } in (
+      let h = state-sent (puts-by u) x (puts-among u) in
+      let e : h .entered ≡ c = some-same (sym (h .there) ∙ puts-configuration u) in (
         record {
-          took = subst (λ d. Takes n q l v k d) e (subst (λ r. Comes n q l v k r) (h .1) t);
-          is = h .3 ∙ ap (λ d. ownState d (u .act .after)) e ∙ ap (ownState c) (sym (u .act .memory-next));
+          took = subst (λ d. Takes n q l v k d) e (subst (λ r. Comes n q l v k r) (h .brought) (puts-comes u));
+          is = h .says ∙ ap (λ d. ownState d (u .act .after)) e ∙ ap (ownState c) (sym (u .act .memory-next));
         },
-        h .4,
+        alone-first (u .act .by .records) _ j _ (h .alone) (u .record-there),
       )
 
-  -- The State x of the server k came to the server i before p, in c, by the message m.
-  pub record StateCame (p i k : ℕ) (c : Configuration) (x : State) : Type 0 where
+  -- The record r came to the server i before p, in c.
+  pub record Came (p i : ℕ) (c : Configuration) (r : Record) : Type 0 where
     pub place : ℕ
     pub earlier : place < p
     pub delivery : Delivery A place i (A .source place)
-    pub what : delivery .what ≡ state x
+    pub what : delivery .what ≡ r
     pub here : placeAt n q l i place .regular ≡ some c
-    pub from : k ≡ x .sender
 
-  came-later : {p i k : ℕ} {c : Configuration} {x : State} → StateCame p i k c x → StateCame (suc p) i k c x
-  came-later h = record { place = h .place; earlier = omega (arith, h .earlier); delivery = h .delivery; what = h .what; here = h .here; from = h .from }
+  pub came-later : {p t i : ℕ} {c : Configuration} {r : Record} → p ≤ t → Came p i c r → Came t i c r
+  came-later h x = record { place = x .place; earlier = omega (arith, x .earlier); delivery = x .delivery; what = x .what; here = x .here }
+
+  pub came-now : {p i : ℕ} {c : Configuration} {r : Record} → Comes n q l p i r → isMessage r ≡ true → placeAt n q l i p .regular ≡ some c → Came (suc p) i c r
+  came-now {p} {i} {c} {r} x m h = record { place = p; earlier = omega arith; delivery = record { what = r; comes = x; message = m; which = refl }; what = refl; here = h }
+
+  -- Who sent it, and that it was put out in c.
+  pub record Sender (p i : ℕ) (c : Configuration) (r : Record) : Type 0 where
+    pub sender : ℕ
+    pub sending : ℕ
+    pub number : ℕ
+    pub puts : Puts A sending sender number c r
+    pub earlier : sending < p
+    pub named : senderOf r ≡ some sender
+    pub member : inSet sender (c .set) ≡ true
+
+  pub came-from : {p i : ℕ} {c : Configuration} {r : Record} → Came p i c r → Sender p i c r
+  came-from {p} {i} {c} {r} x =
+      let o = origin A (x .delivery) in
+      let w = some-same (sym (o .here) ∙ x .here) in
+      record {
+        sender = o .sender;
+        sending = A .source (x .place) .sending;
+        number = A .source (x .place) .number;
+        puts =
+            subst (λ y. Puts A (A .source (x .place) .sending) (o .sender) (A .source (x .place) .number) y r) w
+            (subst (λ y. Puts A (A .source (x .place) .sending) (o .sender) (A .source (x .place) .number) (o .configuration) y) (x .what) (o .puts));
+        earlier = omega (arith, o .earlier, x .earlier);
+        named = ap senderOf (sym (x .what)) ∙ o .named;
+        member = subst (λ y. inSet (o .sender) (y .set) ≡ true) w (o .member);
+      }
+
+  abbrev StateCame : ℕ → ℕ → ℕ → Configuration → State → Type 0
+  StateCame p i k c x = Came p i c (state x) × (k ≡ x .sender)
 
   -- Every State that a server has collected came to it, in its configuration.
   pub states-came : (i : ℕ) (c : Configuration) (p : ℕ) → placeAt n q l i p .regular ≡ some c → (k : ℕ) (x : State)
-      → getD (membershipAt n q l p i .states) k none ≡ some x → StateCame p i k c x
+      → getD (membershipAt n q l p i .states) k none ≡ some x → Came p i c (state x) × (k ≡ x .sender)
   unfolding isMessage
   states-came i c =
       in-stay n q l i c (λ p. (k : ℕ) (x : State) → getD (membershipAt n q l p i .states) k none ≡ some x → StateCame p i k c x)
@@ -127,7 +169,7 @@ module _ {n q : ℕ} {l : Run} (A : Allowed n q l) where
     where
       same : (p : ℕ) → ((k : ℕ) (x : State) → getD (membershipAt n q l p i .states) k none ≡ some x → StateCame p i k c x) → (k : ℕ) (x : State)
           → getD (membershipAt n q l (suc p) i .states) k none ≡ some x → membershipAt n q l (suc p) i .states ≡ membershipAt n q l p i .states → StateCame (suc p) i k c x
-      same p h k x e m = came-later (h k x (ap (λ z. getD z k none) (sym m) ∙ e))
+      same p h k x e m = let y = h k x (ap (λ z. getD z k none) (sym m) ∙ e) in (came-later (omega arith) (y .0), y .1)
 
       taking : (p : ℕ) → placeAt n q l i p .regular ≡ some c → ((d : Configuration) → Takes n q l p i d → ⊥)
           → ((k : ℕ) (x : State) → getD (membershipAt n q l p i .states) k none ≡ some x → StateCame p i k c x) → (k : ℕ) (x : State)
@@ -137,17 +179,8 @@ module _ {n q : ℕ} {l : Run} (A : Allowed n q l) where
       taking p a g h k x e r y (added z w m) = at (put-or-there (membershipAt n q l p i .states) (z .sender) k z x (ap (λ u. getD u k none) (sym m) ∙ e))
         where
           at : ((k ≡ z .sender) × (z ≡ x)) ⊎ (getD (membershipAt n q l p i .states) k none ≡ some x) → StateCame (suc p) i k c x
-          at (inl u) =
-              let v = subst (λ s. Comes n q l p i s) (w ∙ ap state (u .1)) y in
-              record {
-                place = p;
-                earlier = omega arith;
-                delivery = record { what = state x; comes = v; message = refl; which = refl };
-                what = refl;
-                here = a;
-                from = u .0 ∙ ap (λ s. s .sender) (u .1);
-              }
-          at (inr u) = came-later (h k x u)
+          at (inl u) = (came-now (subst (λ s. Comes n q l p i s) (w ∙ ap state (u .1)) y) refl a, u .0 ∙ ap (λ s. s .sender) (u .1))
+          at (inr u) = let v = h k x u in (came-later (omega arith) (v .0), v .1)
       taking p a g h k x e r y (dropped m) = none-some (sym (ap (λ z. getD z k none) m ∙ no-states-none n k) ∙ e)
 
       go : (p : ℕ) → placeAt n q l i p .regular ≡ some c → ((d : Configuration) → Takes n q l p i d → ⊥)
@@ -163,13 +196,6 @@ module _ {n q : ℕ} {l : Run} (A : Allowed n q l) where
   unfolding senderOf
   states-entered i c p a k x e =
       let h = states-came i c p a k x e in
-      let o = origin A (h .delivery) in
-      let w = some-same (sym (o .here) ∙ h .here) in
-      let u = subst (λ r. Puts A (A .source (h .place) .sending) (o .sender) (A .source (h .place) .number) (o .configuration) r) (h .what) (o .puts) in
-      let v = state-entered u .0 in
-      let z : o .sender ≡ k = some-same (sym (o .named) ∙ ap senderOf (h .what) ∙ ap some (sym (h .from))) in (
-        A .source (h .place) .sending,
-        subst (λ j. Entered (A .source (h .place) .sending) j c x) z (subst (λ d. Entered (A .source (h .place) .sending) (o .sender) d x) w v),
-        omega (arith, o .earlier, h .earlier),
-        sym (h .from),
-      )
+      let o = came-from (h .0) in
+      let z : o .sender ≡ k = some-same (sym (o .named) ∙ ap some (sym (h .1))) in
+      (o .sending, subst (λ j. Entered (o .sending) j c x) z (state-entered (o .puts) .0), o .earlier, sym (h .1))

@@ -38,7 +38,7 @@ from-facts here k (x ∷ xs) h (suc j) l m =
     let z : k + suc j ≡ k + 1 + j = omega arith in
     from-facts here (k + 1) xs (and-holds _ _ h .1) j (omega arith) (rw z at m)
 
-from-ok : (here k : ℕ) (xs : List (Option State)) → ((j : ℕ) → j < length xs → inSet (k + j) here ≡ true → isThere (getD xs j none) ≡ true)
+pub from-ok : (here k : ℕ) (xs : List (Option State)) → ((j : ℕ) → j < length xs → inSet (k + j) here ≡ true → isThere (getD xs j none) ≡ true)
     → allFrom here k xs ≡ true
 unfolding allFrom
 from-ok here k [] f = refl

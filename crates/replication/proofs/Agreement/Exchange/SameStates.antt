@@ -36,8 +36,9 @@ module _ {n q : ℕ} {l : Run} (A : Allowed n q l) where
   pub collected-sent : (p i : ℕ) (c : Configuration) → InCom n q l p i c → (k : ℕ) (x : State) → getD (membershipAt n q l p i .states) k none ≡ some x
       → (y : SentState n q l k c x) × (suc (y .at) < p) × (inSet k (c .set) ≡ true)
   collected-sent p i c here k x e =
-      let w = states-came A i c p here k x e in
-      let m = subst (λ z. StateMessage A (A .source (w .place)) z c x) (sym (w .from)) (state-message A (w .delivery) (w .what) (w .here)) in
+      let h = states-came A i c p here k x e in
+      let w = h .0 in
+      let m = subst (λ z. StateMessage A (A .source (w .place)) z c x) (sym (h .1)) (state-message A (w .delivery) (w .what) (w .here)) in
       let s : SentState n q l k c x = record { at = A .source (w .place) .sending; took = m .entered .took; says = m .entered .is } in
       (s, omega (arith, sent-before A (w .delivery), w .earlier), m .member)
 

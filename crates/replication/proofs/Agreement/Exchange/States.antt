@@ -26,7 +26,7 @@ use Rattle.replication.proofs.Runs.Order.{delivered-once}
 use Rattle.replication.proofs.Runs.AllowedTurns.{memoryAt, Acts}
 use Rattle.replication.proofs.Runs.Sending.{Puts}
 use Rattle.replication.proofs.Runs.Origins.{origin}
-use Rattle.replication.proofs.Runs.StateOrigins.{Entered, state-entered, StateCame, states-came}
+use Rattle.replication.proofs.Runs.StateOrigins.{Entered, state-entered, states-came}
 use Rattle.replication.proofs.Runs.Memberships.{MembershipStep}
 use Rattle.replication.proofs.Runs.Stays.{membershipAt, acts-membership}
 use Rattle.replication.proofs.Agreement.Exchange.Stages.{stage, first-stage, modeNumber, InCom, between, onward, stage-onward}
@@ -88,7 +88,7 @@ module _ {n q : ℕ} {l : Run} (A : Allowed n q l) where
         go (holds e) =
             let y = there _ e in
             let w = states-came A i c p here (x .sender) (y .0) (y .1) in
-            absurd (omega (arith, w .earlier, state-comes-once (w .delivery) (coming A come refl) (w .what) refl (w .here) here (sym (w .from))))
+            absurd (omega (arith, w .0 .earlier, state-comes-once (w .0 .delivery) (coming A come refl) (w .0 .what) refl (w .0 .here) here (sym (w .1))))
         go (fails e) = e
 
     sender-below : x .sender < n

@@ -1,0 +1,224 @@
+-- Every action held, on an own list, sent or resent was made once, by its creator's numbering: an id fixes the action everywhere in a run.
+use Prim.Native.Nat.{ℕ, zero, suc, _+_, _-_, _≤_, _<_}
+use mathlib.Core.Path.{_≡_, refl, sym, ap, subst, _∙_}
+use mathlib.Core.Bool.{Bool, true, false}
+use mathlib.Core.List.{List, [], _∷_, _++_, map, List·Memᴰ, List·Memᴰ·head, List·Memᴰ·tail, List·Memᴰ·not-nil}
+use mathlib.Core.Logic.{_⊎_, inl, inr}
+use mathlib.Core.Option.{Option, none, some}
+use native.Mathlib.Omega.{arith}
+use native.Mathlib.Decide.{decLt}
+use lib.ListN.{length}
+use Rattle.base.specs.Tests.{pick, pick-either}
+use Rattle.base.specs.Lists.{at, above, after}
+use Rattle.base.specs.AtLaws.{at-among}
+use Rattle.base.specs.Chains.{strong}
+use Rattle.base.specs.ListLaws.{Each, each-append, each-implied}
+use Rattle.format.specs.Types.{Id, Action, State, Record, action, retransmission, state, cpc, regular, transitional, request, recovery}
+use Rattle.replication.specs.Machine.Types.{Configuration, Log, Server, start}
+use Rattle.replication.specs.Machine.Colours.{find}
+use Rattle.replication.specs.Machine.Requests.{recovered}
+use Rattle.replication.specs.Machine.Step.{collected}
+use Rattle.replication.specs.Machine.WellFormed.{idsIn}
+use Rattle.replication.specs.Machine.WellFormedSent.{senderOf}
+use Rattle.replication.specs.Images.{Images, started}
+use Rattle.replication.specs.Laws.Images.{OfBoth}
+use Rattle.replication.specs.Laws.Sending as P
+use Rattle.replication.specs.Laws.Sending.{PutsOut, Own, Resent}
+use Rattle.replication.specs.Runs.Run.{Run, beginning, worldAt, placeAt}
+use Rattle.replication.specs.Runs.Happenings.{Message, isMessage, Comes, Delivers}
+use Rattle.replication.specs.Runs.Allowed.{Allowed}
+use Rattle.replication.proofs.Step.Kinds.{part-sent}
+use Rattle.replication.proofs.Step.OwnActions.{own-sent}
+use Rattle.replication.proofs.Step.Sending.{puts-out}
+use Rattle.replication.proofs.WellFormed.Held.{found-fact}
+use Rattle.replication.proofs.Runs.Places.{world-at-start, of-event}
+use Rattle.replication.proofs.Runs.Numbers.{numbers, invariant-at}
+use Rattle.replication.proofs.Runs.Deliveries.{Delivery}
+use Rattle.replication.proofs.Runs.AllowedTurns.{memoryAt, storeAt, Acts, Recovers, Refuses, AllowedTurn, rests, crashes, refuses, recovers, acts, allowed-turn}
+use Rattle.replication.proofs.Runs.ControlPart.{numbered-between}
+use Rattle.replication.proofs.Runs.Sending.{Puts}
+use Rattle.replication.proofs.Runs.Origins.{Origin, origin}
+use Rattle.replication.proofs.Runs.StateOrigins.{puts-among, puts-by}
+use Rattle.replication.proofs.Runs.LogActions.{EachIn, carried, each-of, each-in, each-after, each-recovered, each-in-implied}
+
+-- In a list whose ids run on from k, an id is of one action.
+ids-above : (me k m : ℕ) (xs : List Action) → idsIn xs ≡ map (λ i. record { creator = me; index = i }) (after k m) → (a : Action) → List·Memᴰ a xs → k < a .id .index
+unfolding after idsIn
+ids-above me k zero [] e a h = absurd (List·Memᴰ·not-nil h)
+ids-above me k (suc m) [] e a h = absurd (List·Memᴰ·not-nil h)
+ids-above me k zero (x ∷ xs) e a h = let z : _≡_ {A = ℕ} 0 1 = cc in absurd (omega arith)
+ids-above me k (suc m) (x ∷ xs) e a (List·Memᴰ·head f) =
+    let g : x .id ≡ record { creator = me; index = k + 1 } = cc in
+    omega (arith, ap (λ y. y .id .index) f, ap (λ d. d .index) g)
+ids-above me k (suc m) (x ∷ xs) e a (List·Memᴰ·tail h) =
+    let g : map (λ y. y .id) xs ≡ map (λ i. record { creator = me; index = i }) (after (k + 1) m) = cc in
+    omega (arith, ids-above me (k + 1) m xs g a h)
+
+one-of-id : (me k m : ℕ) (xs : List Action) → idsIn xs ≡ map (λ i. record { creator = me; index = i }) (after k m) → (a b : Action) → List·Memᴰ a xs
+    → List·Memᴰ b xs → a .id ≡ b .id → a ≡ b
+unfolding after idsIn
+one-of-id me k zero (x ∷ xs) e a b h g i = let z : _≡_ {A = ℕ} 0 1 = cc in absurd (omega arith)
+one-of-id me k (suc m) (x ∷ xs) e a b (List·Memᴰ·head f) (List·Memᴰ·head g) i = f ∙ sym g
+one-of-id me k (suc m) (x ∷ xs) e a b (List·Memᴰ·head f) (List·Memᴰ·tail g) i =
+    let u : x .id ≡ record { creator = me; index = k + 1 } = cc in
+    let v : map (λ y. y .id) xs ≡ map (λ i. record { creator = me; index = i }) (after (k + 1) m) = cc in
+    absurd (omega (arith, ids-above me (k + 1) m xs v b g, ap (λ d. d .index) u, ap (λ y. y .id .index) f, ap (λ d. d .index) i))
+one-of-id me k (suc m) (x ∷ xs) e a b (List·Memᴰ·tail f) (List·Memᴰ·head g) i =
+    let u : x .id ≡ record { creator = me; index = k + 1 } = cc in
+    let v : map (λ y. y .id) xs ≡ map (λ i. record { creator = me; index = i }) (after (k + 1) m) = cc in
+    absurd (omega (arith, ids-above me (k + 1) m xs v a f, ap (λ d. d .index) u, ap (λ y. y .id .index) g, ap (λ d. d .index) i))
+one-of-id me k (suc m) (x ∷ xs) e a b (List·Memᴰ·tail f) (List·Memᴰ·tail g) i =
+    let v : map (λ y. y .id) xs ≡ map (λ i. record { creator = me; index = i }) (after (k + 1) m) = cc in
+    one-of-id me (k + 1) m xs v a b f g i
+
+module _ {n q : ℕ} {l : Run} (A : Allowed n q l) where
+  -- Before p the server i made the action a: it numbered it and put it on its own list.
+  pub record Made (p : ℕ) (a : Action) : Type 0 where
+    pub place : ℕ
+    pub earlier : place < p
+    pub server : ℕ
+    pub act : Acts n q l place server
+    pub own : Own (memoryAt n q l place server) (memoryAt n q l (suc place) server) a
+
+  made-later : {p r : ℕ} {a : Action} → p ≤ r → Made p a → Made r a
+  made-later h x = record { place = x .place; earlier = omega (arith, x .earlier); server = x .server; act = x .act; own = x .own }
+
+  made-by : {p : ℕ} {a : Action} (x : Made p a) → a .id .creator ≡ x .server
+  made-by x = x .own .creator ∙ numbers n q (x .server) l (x .place) .memory .me
+
+  -- No index is given twice.
+  numbered-once : {p r : ℕ} {a b : Action} (x : Made p a) (y : Made r b) → a .id ≡ b .id → x .server ≡ y .server → x .place ≡ y .place
+  numbered-once {p} {r} {a} {b} x y e s = go (decLt (x .place) (y .place)) (decLt (y .place) (x .place))
+    where
+      low : memoryAt n q l (y .place) (x .server) .log .numbered < a .id .index
+      low = subst (λ k. memoryAt n q l (y .place) k .log .numbered < a .id .index) (sym s) (omega (arith, y .own .above, ap (λ d. d .index) e))
+
+      high : a .id .index ≤ memoryAt n q l (suc (y .place)) (x .server) .log .numbered
+      high = subst (λ k. a .id .index ≤ memoryAt n q l (suc (y .place)) k .log .numbered) (sym s) (omega (arith, y .own .within, ap (λ d. d .index) e))
+
+      go : Dec (x .place < y .place) → Dec (y .place < x .place) → x .place ≡ y .place
+      go (yes u) v = absurd (omega (arith, low, x .own .within, numbered-between A (x .server) (suc (x .place)) (y .place) u))
+      go (no u) (yes v) = absurd (omega (arith, high, x .own .above, numbered-between A (x .server) (suc (y .place)) (x .place) v))
+      go (no u) (no v) = omega arith
+
+  -- An id is of one action.
+  pub made-one : {p r : ℕ} {a b : Action} → Made p a → Made r b → a .id ≡ b .id → a ≡ b
+  unfolding above
+  made-one {p} {r} {a} {b} x y e =
+      let s : x .server ≡ y .server = sym (made-by x) ∙ ap (λ d. d .creator) e ∙ made-by y in
+      let v = numbered-once x y e s in
+      let w = invariant-at n q (x .server) (A .sizes) (A .servers (x .place) (x .server) (of-event (x .act .here))) l (suc (x .place)) .memory .well-formed .own-list in
+      one-of-id _ _ _ (memoryAt n q l (suc (x .place)) (x .server) .log .own) (w .ids) a b (x .own .listed)
+      (subst (λ k. List·Memᴰ b (memoryAt n q l (suc k) (x .server) .log .own)) (sym v)
+      (subst (λ k. List·Memᴰ b (memoryAt n q l (suc (y .place)) k .log .own)) (sym s) (y .own .listed)))
+      e
+
+  -- ---- everything is made
+
+  abbrev AllMade : ℕ → Type 0
+  AllMade p = (i : ℕ) → OfBoth (λ s. EachIn (Made p) (s .log)) (worldAt n q l p .images i)
+
+  own-made : (p i : ℕ) (x : Acts n q l p i) (a : Action) → List·Memᴰ (action a) (x .by .records) → Made (suc p) a
+  own-made p i x a m = record {
+    place = p;
+    earlier = omega arith;
+    server = i;
+    act = x;
+    own = subst (λ t. Own (memoryAt n q l p i) t a) (sym (x .memory-next)) (own-sent (puts-out _ (x .moves)) a m .0);
+  }
+
+  each-later : (p r : ℕ) (m : Log) → p ≤ r → EachIn (Made p) m → EachIn (Made r) m
+  each-later p r m h = each-in-implied (Made p) (Made r) (λ a. made-later h) m
+
+  found-in : {P : Action → Type 0} (d : Id) (m : Log) (a : Action) → EachIn P m → find d (m .green ++ m .red) ≡ some a → P a
+  found-in {P} d m a h e = found-fact P d (m .green ++ m .red) a (each-append P (m .green) (m .red) (h .green) (h .red)) e
+
+  resent-made : (v k : ℕ) (m : Log) (xs : List State) (j p : ℕ) (a : Action) → EachIn (Made v) m → Resent k m xs (retransmission j p a) → Made v a
+  resent-made v k m xs j p a h (P.asGreen u b i e f) =
+      let z : b ≡ a = cc in
+      subst (Made v) z (each-in (Made v) (m .green) (h .green) b (at-among (m .green) (u - 1) b e))
+  resent-made v k m xs j p a h (P.asRed c u b i e f) = let z : b ≡ a = cc in subst (Made v) z (found-in _ m b h e)
+
+  -- What a record put out carries was made.
+  put-made : (v k j : ℕ) (c : Configuration) (r : Record) (x : Puts A v k j c r) → EachIn (Made (suc v)) (memoryAt n q l (suc v) k .log) → Each (Made (suc v)) (carried r)
+  put-made v k j c (action a) x h = (own-made v k (x .act) a (at-among _ j (action a) (x .record-there)), tt)
+  put-made v k j c (retransmission w p a) x h =
+      (resent-made (suc v) _ _ _ w p a (subst (λ t. EachIn (Made (suc v)) (t .log)) (x .act .memory-next) h) (part-sent (puts-by A x) w p a (puts-among A x) .planned), tt)
+  put-made v k j c (state y) x h = tt
+  put-made v k j c (cpc w y) x h = tt
+  put-made v k j c (regular w y) x h = tt
+  put-made v k j c (transitional y) x h = tt
+  put-made v k j c (request y) x h = tt
+  put-made v k j c recovery x h = tt
+
+  -- What a delivery carries was made.
+  delivery-made : (p i : ℕ) → ((x : ℕ) → x ≤ p → AllMade x) → (m : Message) (d : Delivery A p i m) → Each (Made p) (carried (d .what))
+  delivery-made p i h m d =
+      let o = origin A d in
+      each-implied (Made (suc (m .sending))) (Made p) (λ a. made-later (o .earlier)) (carried (d .what))
+      (put-made (m .sending) (o .sender) (m .number) (o .configuration) (d .what) (o .puts) (h (suc (m .sending)) (o .earlier) (o .sender) .memory))
+
+  -- What an event's record carries was made: it carries something only if it is a delivery.
+  carried-made : (p i : ℕ) → ((x : ℕ) → x ≤ p → AllMade x) → (r : Record) → Comes n q l p i r → Each (Made p) (carried r)
+  unfolding isMessage
+  carried-made p i h (action a) c = delivery-made p i h (A .source p) (record { what = action a; comes = c; message = refl; which = refl })
+  carried-made p i h (retransmission k u a) c = delivery-made p i h (A .source p) (record { what = retransmission k u a; comes = c; message = refl; which = refl })
+  carried-made p i h (state y) c = tt
+  carried-made p i h (cpc k u) c = tt
+  carried-made p i h (regular k u) c = tt
+  carried-made p i h (transitional u) c = tt
+  carried-made p i h (request u) c = tt
+  carried-made p i h recovery c = tt
+
+  start-made : (i : ℕ) → EachIn (Made 0) (start n q i .log)
+  unfolding start
+  start-made i = record { green = tt; red = tt; own = tt }
+
+  all-made-next : (p i : ℕ) → ((x : ℕ) → x ≤ p → AllMade x) → AllowedTurn n q l p i → OfBoth (λ s. EachIn (Made (suc p)) (s .log)) (worldAt n q l (suc p) .images i)
+  all-made-next p i h t = go t
+    where
+      before : OfBoth (λ s. EachIn (Made (suc p)) (s .log)) (worldAt n q l p .images i)
+      before = let b = h p (omega arith) i in record { memory = each-later p (suc p) _ (omega arith) (b .memory); store = each-later p (suc p) _ (omega arith) (b .store) }
+
+      same : worldAt n q l (suc p) .images i ≡ worldAt n q l p .images i → OfBoth (λ s. EachIn (Made (suc p)) (s .log)) (worldAt n q l (suc p) .images i)
+      same m = subst (OfBoth (λ s. EachIn (Made (suc p)) (s .log))) (sym m) before
+
+      go : AllowedTurn n q l p i → OfBoth (λ s. EachIn (Made (suc p)) (s .log)) (worldAt n q l (suc p) .images i)
+      go (rests o m c d) = same m
+      go (crashes x m c d) = same m
+      go (refuses x) = same (x .images-next)
+      go (recovers x) =
+          let r = each-recovered (Made (suc p)) _ (before .store) in
+          record {
+            memory = subst (λ s. EachIn (Made (suc p)) (s .log)) (sym (x .memory-next)) r;
+            store = subst (λ s. EachIn (Made (suc p)) (s .log)) (sym (x .store-next)) r;
+          }
+      go (acts x) =
+          let c = carried-made p i h (x .by .event) (record { bytes = x .bytes; sent = x .sent; here = x .here; heard = x .heard }) in
+          let r =
+          each-after (Made (suc p)) (x .moves) (before .memory) (each-implied (Made p) (Made (suc p)) (λ a. made-later (omega arith)) (carried (x .by .event)) c)
+          (own-made p i x)
+          in
+          record {
+            memory = subst (λ s. EachIn (Made (suc p)) (s .log)) (sym (x .memory-next)) r;
+            store =
+                subst (λ s. EachIn (Made (suc p)) (s .log)) (sym (x .store-next))
+                (pick-either (λ s. EachIn (Made (suc p)) (s .log)) (x .stores) (x .after) (storeAt n q l p i) r (before .store));
+          }
+
+  -- Every action in a log, in memory or store, held or on an own list, was made.
+  pub all-made : (p i : ℕ) → OfBoth (λ s. EachIn (Made p) (s .log)) (worldAt n q l p .images i)
+  unfolding beginning started
+  all-made = strong AllMade (λ p h. go p h)
+    where
+      go : (p : ℕ) → ((x : ℕ) → x < p → AllMade x) → AllMade p
+      go zero h i = subst (λ w. OfBoth (λ s. EachIn (Made 0) (s .log)) (w .images i)) (sym (world-at-start n q l)) (record { memory = start-made i; store = start-made i })
+      go (suc p) h i = all-made-next p i (λ x k. h x (omega arith)) (allowed-turn A p i)
+
+  -- Every action in a record that is put out was made.
+  pub sent-made : {v k j : ℕ} {c : Configuration} {r : Record} (x : Puts A v k j c r) → Each (Made (suc v)) (carried r)
+  sent-made {v} {k} {j} {c} {r} x = put-made v k j c r x (all-made (suc v) k .memory)
+
+  -- Every action in a record that is delivered was made.
+  pub delivered-made : {p i : ℕ} {m : Message} (d : Delivery A p i m) → Each (Made p) (carried (d .what))
+  delivered-made {p} {i} {m} d = delivery-made p i (λ x h. all-made x) m d
