@@ -6,3 +6,4 @@ pub mod Answers
 pub mod States
 pub mod SameStates
 pub mod Marked
+pub mod Cpcs

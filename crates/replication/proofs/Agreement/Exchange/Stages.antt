@@ -6,14 +6,16 @@ use mathlib.Core.Option.{Option, none, some}
 use native.Mathlib.Omega.{arith}
 use native.Mathlib.Decide.{decLt}
 use Rattle.base.specs.Tests.{not-both}
+use Rattle.base.specs.AtLaws.{none-some}
 use Rattle.base.specs.Chains.{chain}
 use Rattle.format.specs.Types.{Record, action, retransmission, state, cpc, regular, transitional, request, recovery}
 use Rattle.replication.specs.Machine.Types.{Mode, Non-prim, Reg-prim, Trans-prim, Exchange-states, Exchange-actions, Construct, No, Un, Configuration, Membership}
 use Rattle.replication.specs.Laws.Transitions as L
 use Rattle.replication.specs.Laws.Transitions.{Leads}
-use Rattle.replication.specs.Runs.Run.{Run, placeAt}
+use Rattle.replication.specs.Runs.Run.{Run, Place, nowhere, placeAt}
 use Rattle.replication.specs.Runs.Happenings.{Comes, Falls, by-recovery, Takes}
 use Rattle.replication.specs.Runs.Allowed.{Allowed}
+use Rattle.replication.proofs.Runs.Shifts as S
 use Rattle.replication.proofs.Runs.Entries.{Had, had}
 use Rattle.replication.proofs.Runs.Memberships as M
 use Rattle.replication.proofs.Runs.Memberships.{enteredIn, Completes, MembershipStep}
@@ -169,3 +171,14 @@ module _ {n q : ℕ} {l : Run} (A : Allowed n q l) (i : ℕ) (c : Configuration)
       go (yes y) z = absurd (omega (arith, stage-onward (suc p) r b e y))
       go (no y) (yes z) = absurd (omega (arith, stage-onward (suc r) p f a z))
       go (no y) (no z) = omega arith
+
+  -- A server past Exchange_states had its configuration before.
+  pub had-before : (p : ℕ) → InCom n q l (suc p) i c → 1 ≤ stage (membershipAt n q l (suc p) i .mode) → InCom n q l p i c
+  unfolding stage nowhere
+  had-before p a h = go (S.shift n q l p i)
+    where
+      go : S.Shift n q l p i → InCom n q l p i c
+      go (S.to-regular d t m) = absurd (omega (arith, ap (λ o. stage (o .mode)) (entering-membership A p i d t)))
+      go (S.to-transitional s t m) = sym (ap (λ x. x .regular) m) ∙ a
+      go (S.to-nowhere f m) = none-some (sym (ap (λ x. x .regular) m) ∙ a)
+      go (S.stays u v m) = sym (ap (λ x. x .regular) m) ∙ a
