@@ -7,3 +7,4 @@ pub mod States
 pub mod SameStates
 pub mod Marked
 pub mod Cpcs
+pub mod Installs
