@@ -8,3 +8,4 @@ pub mod SameStates
 pub mod Marked
 pub mod Cpcs
 pub mod Installs
+pub mod Causality
