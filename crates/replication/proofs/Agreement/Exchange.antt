@@ -2,6 +2,7 @@ pub mod Stages
 pub mod Endings
 pub mod Phases
 pub mod Collected
+pub mod Messages
 pub mod Answers
 pub mod States
 pub mod SameStates
@@ -9,3 +10,4 @@ pub mod Marked
 pub mod Cpcs
 pub mod Installs
 pub mod Causality
+pub mod Retransmissions

@@ -4,7 +4,6 @@ use mathlib.Core.Path.{_≡_, refl, sym, ap, subst, _∙_}
 use mathlib.Core.Bool.{Bool, true, false}
 use mathlib.Core.Option.{Option, none, some}
 use native.Mathlib.Omega.{arith}
-use Rattle.base.specs.AtLaws.{some-same}
 use Rattle.base.specs.Sets.{inSet}
 use Rattle.base.specs.SetLaws.{inside-member}
 use Rattle.format.specs.Types.{Record, cpc}
@@ -19,14 +18,13 @@ use Rattle.replication.specs.Runs.Allowed.{Allowed}
 use Rattle.replication.proofs.Runs.Deliveries.{Delivery, sent-before}
 use Rattle.replication.proofs.Runs.Order.{delivered-once}
 use Rattle.replication.proofs.Runs.AllowedTurns.{memoryAt}
-use Rattle.replication.proofs.Runs.Sending.{Puts}
-use Rattle.replication.proofs.Runs.Origins.{origin}
 use Rattle.replication.proofs.Runs.StateOrigins.{Came}
 use Rattle.replication.proofs.Runs.CpcOrigins.{cpcs-came, Attempted, cpc-attempted}
 use Rattle.replication.proofs.Runs.Progress.{Installable}
 use Rattle.replication.proofs.Runs.Stays.{membershipAt, stay-configuration}
 use Rattle.replication.proofs.Agreement.Terms.{EndsAt, MarksAt}
 use Rattle.replication.proofs.Agreement.Exchange.Stages.{stage, InCom, rises-once, had-before}
+use Rattle.replication.proofs.Agreement.Exchange.Messages.{same-message, sent-in}
 use Rattle.replication.proofs.Agreement.Exchange.Marked.{marked-in-stay}
 
 -- An exchange ends for a server that is in it.
@@ -50,18 +48,14 @@ module _ {n q : ℕ} {l : Run} (A : Allowed n q l) where
       → CpcMessage m k c × (x ≡ c .id)
   unfolding senderOf stage
   cpc-message {p} {i} {k} {x} {m} {c} d e a =
-      let o = origin A d in
-      let f : o .configuration ≡ c = some-same (sym (o .here) ∙ a) in
-      let g : o .sender ≡ k = some-same (sym (o .named) ∙ ap senderOf e) in
-      let u = subst (λ r. Puts A (m .sending) (o .sender) (m .number) (o .configuration) r) e (o .puts) in
-      let v = subst (λ y. Puts A (m .sending) y (m .number) c (cpc k x)) g (subst (λ y. Puts A (m .sending) (o .sender) (m .number) y (cpc k x)) f u) in
-      let w = cpc-attempted A v in
-      let z = ap (λ y. y .regular) (v .in-regular) in
+      let u = sent-in A k c d e refl a in
+      let w = cpc-attempted A (u .puts) in
+      let z = ap (λ y. y .regular) (u .puts .in-regular) in
       let t : 3 ≤ stage (membershipAt n q l (suc (m .sending)) k .mode) = omega (arith, ap stage (w .0 .constructs)) in (
         record {
           first = w .2;
-          sends = subst (λ y. Sends n q l y m c) g (subst (λ y. Sends n q l (o .sender) m y) f (o .sends));
-          member = subst (λ y. inSet y (c .set) ≡ true) g (subst (λ y. inSet (o .sender) (y .set) ≡ true) f (o .member));
+          sends = u .sends;
+          member = u .member;
           before = had-before A k c (m .sending) z (omega (arith, t));
           after = z;
           early = ending-stage (w .0 .ended);
@@ -74,8 +68,7 @@ module _ {n q : ℕ} {l : Run} (A : Allowed n q l) where
   pub one-cpc : {m m′ : Message} {k : ℕ} {c : Configuration} → CpcMessage m k c → CpcMessage m′ k c → m ≡ m′
   one-cpc {m} {m′} {k} {c} u v =
       let e : m .sending ≡ m′ .sending = rises-once A k c 1 (m .sending) (m′ .sending) (u .before) (u .after) (v .before) (v .after) (u .early) (omega (arith, u .marking)) (v .early) (omega (arith, v .marking)) in
-      let f : m .number ≡ m′ .number = u .first ∙ sym (v .first) in
-      λ j. record { sending = e j; number = f j }
+      same-message e (u .first ∙ sym (v .first))
 
   -- A server's CPC comes once to each server.
   pub cpc-comes-once : {p r i k x y : ℕ} {m m′ : Message} {c : Configuration} (d : Delivery A p i m) (e : Delivery A r i m′) → d .what ≡ cpc k x → e .what ≡ cpc k y

@@ -24,21 +24,14 @@ use Rattle.replication.proofs.Runs.Deliveries.{Delivery}
 use Rattle.replication.proofs.Runs.Numbers.{numbers}
 use Rattle.replication.proofs.Runs.Order.{delivered-once}
 use Rattle.replication.proofs.Runs.AllowedTurns.{memoryAt, Acts}
-use Rattle.replication.proofs.Runs.Sending.{Puts}
-use Rattle.replication.proofs.Runs.Origins.{origin}
 use Rattle.replication.proofs.Runs.StateOrigins.{Entered, state-entered, states-came}
 use Rattle.replication.proofs.Runs.Memberships.{MembershipStep}
 use Rattle.replication.proofs.Runs.Stays.{membershipAt, acts-membership}
 use Rattle.replication.proofs.Agreement.Exchange.Stages.{stage, first-stage, modeNumber, InCom, between, onward, stage-onward}
 use Rattle.replication.proofs.Agreement.Exchange.Phases.{server-below}
 use Rattle.replication.proofs.Agreement.Exchange.Collected.{complete-in, states-in, states-length, state-adds, state-stays}
+use Rattle.replication.proofs.Agreement.Exchange.Messages.{same-message, sent-in}
 use Rattle.replication.proofs.Agreement.Exchange.Answers.{coming, TakenAt, taken-by-rule, member-here, is-here}
-
-same-message : {m m′ : Message} → m .sending ≡ m′ .sending → m .number ≡ m′ .number → m ≡ m′
-same-message e f = λ j. record { sending = e j; number = f j }
-
-state-same : {x y : State} → state x ≡ state y → x ≡ y
-state-same e = cc
 
 module _ {n q : ℕ} {l : Run} (A : Allowed n q l) where
   -- The message m is the State x that the server k sent on taking c.
@@ -47,19 +40,14 @@ module _ {n q : ℕ} {l : Run} (A : Allowed n q l) where
     pub first : m .number ≡ 0
     pub sends : Sends n q l k m c
     pub member : inSet k (c .set) ≡ true
-    pub names : x .sender ≡ k
 
   pub state-message : {p i : ℕ} {m : Message} {c : Configuration} {x : State} (d : Delivery A p i m) → d .what ≡ state x → InCom n q l p i c
       → StateMessage m (x .sender) c x
   unfolding senderOf
   state-message {p} {i} {m} {c} {x} d e a =
-      let o = origin A d in
-      let f : o .configuration ≡ c = some-same (sym (o .here) ∙ a) in
-      let g : o .sender ≡ x .sender = some-same (sym (o .named) ∙ ap senderOf e) in
-      let u = subst (λ r. Puts A (m .sending) (o .sender) (m .number) (o .configuration) r) e (o .puts) in
-      let v = state-entered A u in
-      let w : StateMessage m (o .sender) (o .configuration) x = record { entered = v .0; first = v .1; sends = o .sends; member = o .member; names = sym g } in
-      subst (λ z. StateMessage m (x .sender) z x) f (subst (λ z. StateMessage m z (o .configuration) x) g w)
+      let u = sent-in A (x .sender) c d e refl a in
+      let v = state-entered A (u .puts) in
+      record { entered = v .0; first = v .1; sends = u .sends; member = u .member }
 
   -- A server sends one State in a configuration.
   pub one-state : {m m′ : Message} {k : ℕ} {c : Configuration} {x y : State} → StateMessage m k c x → StateMessage m′ k c y → m ≡ m′
