@@ -66,3 +66,12 @@ module _ (t : ℕ → Bool) where
       go : Known (t p) → length (passing t p) ≤ length (passing t (suc p))
       go (holds f) = omega (arith, ap length (passing-more p f))
       go (fails f) = omega (arith, ap length (passing-same p f))
+
+  pub passing-none : (p : ℕ) → ((x : ℕ) → x < p → t x ≡ true → ⊥) → passing t p ≡ []
+  unfolding passing
+  passing-none zero f = refl
+  passing-none (suc p) f = go (known (t p)) (passing-none p (λ x h. f x (omega arith)))
+    where
+      go : Known (t p) → passing t p ≡ [] → passing t (suc p) ≡ []
+      go (holds e) g = absurd (f p (omega arith) e)
+      go (fails e) g = passing-same p e ∙ g

@@ -11,3 +11,4 @@ pub mod Cpcs
 pub mod Installs
 pub mod Causality
 pub mod Retransmissions
+pub mod Tally

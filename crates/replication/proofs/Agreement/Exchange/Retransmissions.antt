@@ -49,7 +49,7 @@ saysResent (says (request p)) = false
 saysResent (says recovery) = false
 saysResent (refused k) = false
 
-says-resent : (x : Reading Record) → saysResent x ≡ true → (k p : ℕ) × (a : Action) × (x ≡ says (retransmission k p a))
+pub says-resent : (x : Reading Record) → saysResent x ≡ true → (k p : ℕ) × (a : Action) × (x ≡ says (retransmission k p a))
 unfolding saysResent
 says-resent (says (action a)) h = not-both h
 says-resent (says (retransmission k p a)) h = (k, p, a, refl)
