@@ -12,3 +12,4 @@ pub mod Installs
 pub mod Causality
 pub mod Retransmissions
 pub mod Tally
+pub mod PastExchange
