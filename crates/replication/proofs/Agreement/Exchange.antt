@@ -13,3 +13,4 @@ pub mod Causality
 pub mod Retransmissions
 pub mod Tally
 pub mod PastExchange
+pub mod CpcsTaken
