@@ -14,3 +14,4 @@ pub mod Retransmissions
 pub mod Tally
 pub mod PastExchange
 pub mod CpcsTaken
+pub mod ActionsTaken
