@@ -12,6 +12,7 @@ pub mod Rising
 pub mod Chains
 pub mod Distinct
 pub mod Passing
+pub mod Totals
 pub mod ListLaws
 pub mod SameLaws
 pub mod Sections

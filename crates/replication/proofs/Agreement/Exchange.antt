@@ -15,3 +15,4 @@ pub mod Tally
 pub mod PastExchange
 pub mod CpcsTaken
 pub mod ActionsTaken
+pub mod Shares
