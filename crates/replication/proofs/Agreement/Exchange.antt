@@ -16,3 +16,4 @@ pub mod PastExchange
 pub mod CpcsTaken
 pub mod ActionsTaken
 pub mod Shares
+pub mod ResentTaken
