@@ -17,3 +17,4 @@ pub mod CpcsTaken
 pub mod ActionsTaken
 pub mod Shares
 pub mod ResentTaken
+pub mod NotRefused
