@@ -18,3 +18,5 @@ pub mod ActionsTaken
 pub mod Shares
 pub mod ResentTaken
 pub mod NotRefused
+pub mod Leaving
+pub mod Facts

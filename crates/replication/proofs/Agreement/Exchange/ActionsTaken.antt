@@ -20,12 +20,13 @@ use Rattle.replication.specs.Runs.Happenings.{Message, isMessage, Comes,
 use Rattle.replication.specs.Runs.Allowed.{Allowed}
 use Rattle.replication.proofs.Runs.Numbers.{numbers, invariant-at}
 use Rattle.replication.proofs.Runs.Deliveries.{Delivery}
+use Rattle.replication.proofs.Runs.Order.{inRegularOf}
 use Rattle.replication.proofs.Runs.AllowedTurns.{memoryAt}
 use Rattle.replication.proofs.Runs.PutRecords.{action-sent-in}
 use Rattle.replication.proofs.Runs.StateOrigins.{puts-among, puts-by}
 use Rattle.replication.proofs.Runs.Made.{delivered-made}
 use Rattle.replication.proofs.Runs.Progress.{Attempting, Settled, Installable, progress-in, progress}
-use Rattle.replication.proofs.Runs.Memberships.{everyCpcIn, quorumIn}
+use Rattle.replication.proofs.Runs.Memberships.{everyStateIn, everyCpcIn, quorumIn}
 use Rattle.replication.proofs.Runs.Stays.{membershipAt, stay-configuration, stay-transitional}
 use Rattle.replication.proofs.Agreement.Exchange.Stages.{stage, modeNumber, other-mode, InCom}
 use Rattle.replication.proofs.Agreement.Exchange.Phases.{server-below}
@@ -43,6 +44,7 @@ module _ {n q : ℕ} {l : Run} (A : Allowed n q l) where
   pub record ActionMessage (m : Message) (k : ℕ) (c : Configuration) : Type 0 where
     pub sends : Sends n q l k m c
     pub member : inSet k (c .set) ≡ true
+    pub in-regular : placeAt n q l k (suc (m .sending)) ≡ inRegularOf c
     pub after : InCom n q l (suc (m .sending)) k c
     pub regular : membershipAt n q l (suc (m .sending)) k .transitional ≡ none
     pub sender-in : (membershipAt n q l (suc (m .sending)) k .mode ≡ Non-prim) ⊎ (membershipAt n q l (suc (m .sending)) k .mode ≡ Reg-prim)
@@ -57,6 +59,7 @@ module _ {n q : ℕ} {l : Run} (A : Allowed n q l) where
       record {
         sends = u .sends;
         member = u .member;
+        in-regular = u .puts .in-regular;
         after = z;
         regular = stay-transitional A (suc (m .sending)) k c z ∙ ap (λ y. y .transitional) (u .puts .in-regular);
         sender-in =
@@ -85,13 +88,26 @@ module _ {n q : ℕ} {l : Run} (A : Allowed n q l) where
       let y = came-before A s (w .1) d .0 in
       cpcs-recorded A p i c b f (y .place) j (w .0) (y .earlier) (subst (λ r. Comes n q l (y .place) i r) (y .what) (y .delivery .comes)) (y .here))
 
-  -- Who marked in c and who settled in c cannot both be.
-  pub one-decision : (p r i j : ℕ) (c : Configuration) → InCom n q l p i c → InCom n q l r j c → Attempting n (membershipAt n q l p i) → Settled n (membershipAt n q l r j) → ⊥
+  -- One who ended the exchange in c with a quorum, and one without, cannot both be.
+  pub one-decision : (p r i j : ℕ) (c : Configuration) → InCom n q l p i c → InCom n q l r j c → everyStateIn (membershipAt n q l p i) ≡ true
+      → quorumIn (membershipAt n q l p i) ≡ true → Settled n (membershipAt n q l r j) → ⊥
   unfolding theSet
-  one-decision p r i j c a b x y =
-      let e = complete-same A p r i j c a b (x .ended .all-in) (y .ended .all-in) in
+  one-decision p r i j c a b x u y =
+      let e = complete-same A p r i j c a b x (y .ended .all-in) in
       let f = stay-configuration A p i c a ∙ sym (stay-configuration A r j c b) in
-      not-both (sym (y .refused) ∙ sym ((λ z. quorum (present (e z)) (theSet (f z)))) ∙ x .agreed)
+      not-both (sym (y .refused) ∙ sym (λ z. quorum (present (e z)) (theSet (f z))) ∙ u)
+
+  -- The sender of an action in Non_prim ended the exchange without a quorum.
+  pub sender-settled : {m : Message} {k : ℕ} {c : Configuration} → ActionMessage m k c → membershipAt n q l (suc (m .sending)) k .mode ≡ Non-prim
+      → Settled n (membershipAt n q l (suc (m .sending)) k)
+  sender-settled {m} {k} {c} x e =
+      progress-in n _ Non-prim e (progress A k c (suc (m .sending)) (x .after))
+      (record { configuration = c; there = stay-configuration A (suc (m .sending)) k c (x .after); none-after = x .regular })
+
+  -- The sender of an action in Reg_prim had every CPC.
+  pub sender-installed : {m : Message} {k : ℕ} {c : Configuration} → ActionMessage m k c → membershipAt n q l (suc (m .sending)) k .mode ≡ Reg-prim
+      → Installable n (membershipAt n q l (suc (m .sending)) k)
+  sender-installed {m} {k} {c} x e = progress-in n _ Reg-prim e (progress A k c (suc (m .sending)) (x .after))
 
   module _ (p i : ℕ) (a : Action) (come : Comes n q l p i (action a)) (c : Configuration) (here : InCom n q l p i c) where
     message : ActionMessage (A .source p) (a .id .creator) c
@@ -105,14 +121,9 @@ module _ {n q : ℕ} {l : Run} (A : Allowed n q l) where
       where
         go : (membershipAt n q l (suc (A .source p .sending)) (a .id .creator) .mode ≡ Non-prim) ⊎ (membershipAt n q l (suc (A .source p .sending)) (a .id .creator) .mode ≡ Reg-prim) → ⊥
         go (inl e) =
-            one-decision p (suc (A .source p .sending)) i (a .id .creator) c here (message .after) x
-            (progress-in n _ Non-prim e (progress A (a .id .creator) c (suc (A .source p .sending)) (message .after))
-            (record { configuration = c; there = stay-configuration A _ _ c (message .after); none-after = message .regular }))
+            one-decision p (suc (A .source p .sending)) i (a .id .creator) c here (message .after) (x .ended .all-in) (x .agreed) (sender-settled message e)
         go (inr e) =
-            not-both
-            (sym (x .not-all-cpcs)
-            ∙ no-cpc-lacks (message .sends) (message .after) (progress-in n _ Reg-prim e (progress A (a .id .creator) c (suc (A .source p .sending)) (message .after)))
-            (coming A come refl) here f)
+            not-both (sym (x .not-all-cpcs) ∙ no-cpc-lacks (message .sends) (message .after) (sender-installed message e) (coming A come refl) here f)
 
     past : 2 ≤ stage (membershipAt n q l p i .mode)
     unfolding isMessage stage
