@@ -8,12 +8,11 @@ use Rattle.replication.specs.Machine.Types.{Server, start}
 use Rattle.replication.specs.Machine.WellFormed.{wellFormed}
 use Rattle.replication.specs.Machine.WellFormedFacts.{Invariant}
 use Rattle.replication.specs.Laws.Images.{OfBoth}
+use Rattle.replication.specs.Laws.Order.{SameServer}
 use Rattle.replication.specs.Runs.Run.{Run, worldAt}
+use Rattle.replication.proofs.Step.Identity.{identity}
 use Rattle.replication.proofs.WellFormed.Runs.{lived-invariant, lived-well-formed}
-use Rattle.replication.proofs.Step.Inversion.{taken-by}
-use Rattle.replication.proofs.Step.Moves.{moved}
-use Rattle.replication.proofs.Step.Identity.{identity-kept}
-use Rattle.replication.proofs.Runs.Lived.{at-place, each-at-place}
+use Rattle.replication.proofs.Runs.Lived.{at-place}
 
 -- Server i of n, with the quota q.
 pub record Numbered (n q i : ℕ) (s : Server) : Type 0 where
@@ -24,10 +23,12 @@ pub record Numbered (n q i : ℕ) (s : Server) : Type 0 where
 -- Both images of the server i, at every place of every run.
 pub numbers : (n q i : ℕ) (l : Run) (p : ℕ) → OfBoth (Numbered n q i) (worldAt n q l p .images i)
 unfolding start
-numbers n q i l =
-    each-at-place n q l (Numbered n q i)
-    (λ s e t bs b g h v. let w = identity-kept s (moved (taken-by s e t bs b g h) .0) in record { servers = w .servers ∙ v .servers; quota = w .quota ∙ v .quota; me = w .me ∙ v .me }) i
-    (record { servers = refl; quota = refl; me = refl })
+numbers n q i l p =
+    let h = at-place n q l (OfBoth (SameServer (start n q i))) i (identity (start n q i)) p in
+    record {
+      memory = record { servers = h .memory .servers; quota = h .memory .quota; me = h .memory .me };
+      store = record { servers = h .store .servers; quota = h .store .quota; me = h .store .me };
+    }
 
 pub invariant-at : (n q i : ℕ) → sizesOk n q ≡ true → i < n → (l : Run) (p : ℕ) → OfBoth Invariant (worldAt n q l p .images i)
 invariant-at n q i h k l p = at-place n q l (OfBoth Invariant) i (lived-invariant n q i h k) p

@@ -39,7 +39,7 @@ is-there none e = not-both e
 is-there (some a) e = (a, refl)
 
 -- In an exchange the latest configuration is regular.
-exchange-regular : (m : Mode) (c : Option Configuration) (t : Option ℕ) → inExchange m ≡ true → Stands m c t → InRegular c t
+pub exchange-regular : (m : Mode) (c : Option Configuration) (t : Option ℕ) → inExchange m ≡ true → Stands m c t → InRegular c t
 unfolding inExchange
 exchange-regular Non-prim c t e h = not-both e
 exchange-regular Reg-prim c t e h = not-both e
