@@ -20,3 +20,5 @@ pub mod ResentTaken
 pub mod NotRefused
 pub mod Leaving
 pub mod Facts
+pub mod SameDecision
+pub mod OwnMarks

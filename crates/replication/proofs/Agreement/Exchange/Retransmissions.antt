@@ -111,25 +111,32 @@ module _ {n q : ℕ} {l : Run} (A : Allowed n q l) where
     pub complete : everyStateIn (membershipAt n q l (suc v) k) ≡ true
     pub below-length : j < length (ownPart n k (memoryAt n q l (suc v) k .log) (statesIn (membershipAt n q l (suc v) k)))
 
+  -- The part of the plan of the server k at v, as the States that it has collected say.
+  abbrev partOf : ℕ → ℕ → List Record
+  partOf v k = ownPart n k (memoryAt n q l v k .log) (statesIn (membershipAt n q l v k))
+
+  part-of : (v k : ℕ) (t : Server) → memoryAt n q l v k ≡ t → ownPart (t .servers) (t .me) (t .log) (collected t) ≡ partOf v k
+  unfolding collected
+  part-of v k t e =
+      let o = numbers n q k l v .memory in
+      ap (λ s. ownPart (s .servers) (s .me) (s .log) (statesIn (s .membership))) (sym e)
+      ∙ (λ z. ownPart (o .servers z) (o .me z) (memoryAt n q l v k .log) (statesIn (membershipAt n q l v k)))
+
   part-put : {v k j x y : ℕ} {a : Action} {c : Configuration} → Puts A v k j c (retransmission x y a) → PartPut v k j c
-  unfolding stage allStatesIn hereSet collected
+  unfolding stage allStatesIn hereSet
   part-put {v} {k} {j} {x} {y} {a} {c} u =
       let w = part-sent (puts-by A u) x y a (puts-among A u) in
       let z = ap (λ o. o .regular) (u .in-regular) in
       let t = subst (λ s. s .membership .mode ≡ Exchange-actions) (sym (u .act .memory-next)) (w .to) in
-      let o = numbers n q k l (suc v) .memory in
-      let g : u .act .by .records ≡ ownPart n k (memoryAt n q l (suc v) k .log) (statesIn (membershipAt n q l (suc v) k)) =
-      w .whole ∙ ap (λ s. ownPart (s .servers) (s .me) (s .log) (statesIn (s .membership))) (sym (u .act .memory-next))
-      ∙ ap (λ e. ownPart e (memoryAt n q l (suc v) k .me) (memoryAt n q l (suc v) k .log) (statesIn (membershipAt n q l (suc v) k))) (o .servers)
-      ∙ ap (λ e. ownPart n e (memoryAt n q l (suc v) k .log) (statesIn (membershipAt n q l (suc v) k))) (o .me)
-      in
       record {
         before = had-before A k c v z (omega (arith, ap stage t));
         after = z;
         collecting = w .from;
         resending = t;
         complete = subst (λ s. everyStateIn (s .membership) ≡ true) (sym (u .act .memory-next)) (w .complete);
-        below-length = subst (λ rs. j < length rs) g (at-low (u .act .by .records) j _ (u .record-there));
+        below-length =
+            subst (λ rs. j < length rs) (part-of (suc v) k (u .act .after) (u .act .memory-next))
+            (subst (λ rs. j < length rs) (w .whole) (at-low (u .act .by .records) j _ (u .record-there)));
       }
 
   -- The message m is of the part of the plan that the server k sent in c.
