@@ -1,21 +1,21 @@
 -- An action that comes is taken: its sender has ended the exchange, and if it marked, it had every CPC.
-use Prim.Native.Nat.{ℕ, zero, suc, _^_, _≤_, _<_}
+use Prim.Native.Nat.{ℕ, suc, _^_, _≤_, _<_}
 use mathlib.Core.Path.{_≡_, refl, sym, ap, subst, _∙_}
-use mathlib.Core.Bool.{Bool, true, false}
+use mathlib.Core.Bool.{true}
 use mathlib.Core.Logic.{_⊎_, inl, inr}
-use mathlib.Core.Option.{Option, none, some}
+use mathlib.Core.Option.{none}
 use native.Mathlib.Omega.{arith}
 use Rattle.base.specs.Tests.{_or_, not-both}
 use Rattle.base.specs.Lists.{present}
 use Rattle.base.specs.Sets.{inSet, inside}
 use Rattle.base.specs.SetLaws.{members-inside}
-use Rattle.format.specs.Types.{Action, Record, action, cpc}
-use Rattle.replication.specs.Machine.Types.{Mode, Non-prim, Reg-prim, Trans-prim, Exchange-states, Exchange-actions, Construct, No, Un, Configuration, Membership}
+use Rattle.format.specs.Types.{Action, action}
+use Rattle.replication.specs.Machine.Types.{Mode, Non-prim, Reg-prim, Trans-prim, Exchange-states, Exchange-actions, Construct, No, Un, Configuration}
 use Rattle.replication.specs.Machine.Exchange.{quorum}
 use Rattle.replication.specs.Machine.Rules.{reddening, greening, yellowing, lateInstalling, onAction, ruleFor, possible, fromMember, isIgnored}
 use Rattle.replication.specs.Machine.Step.{theSet}
 use Rattle.replication.specs.Machine.WellFormedSent.{senderOf}
-use Rattle.replication.specs.Runs.Run.{Run, Place, placeAt}
+use Rattle.replication.specs.Runs.Run.{Run, placeAt}
 use Rattle.replication.specs.Runs.Happenings.{Message, isMessage, Comes, Sends}
 use Rattle.replication.specs.Runs.Allowed.{Allowed}
 use Rattle.replication.proofs.Runs.Numbers.{numbers, invariant-at}
@@ -25,11 +25,10 @@ use Rattle.replication.proofs.Runs.AllowedTurns.{memoryAt}
 use Rattle.replication.proofs.Runs.PutRecords.{action-sent-in}
 use Rattle.replication.proofs.Runs.StateOrigins.{puts-among, puts-by}
 use Rattle.replication.proofs.Runs.Made.{delivered-made}
-use Rattle.replication.proofs.Runs.Progress.{Attempting, Settled, Installable, progress-in, progress}
+use Rattle.replication.proofs.Runs.Progress.{Attempting, Settled, Installable, progress-in, stay-member, progress}
 use Rattle.replication.proofs.Runs.Memberships.{everyStateIn, everyCpcIn, quorumIn}
 use Rattle.replication.proofs.Runs.Stays.{membershipAt, stay-configuration, stay-transitional}
 use Rattle.replication.proofs.Agreement.Exchange.Stages.{stage, modeNumber, other-mode, InCom}
-use Rattle.replication.proofs.Agreement.Exchange.Phases.{server-below}
 use Rattle.replication.proofs.Agreement.Exchange.SameStates.{complete-same}
 use Rattle.replication.proofs.Agreement.Exchange.Messages.{sent-in}
 use Rattle.replication.proofs.Agreement.Exchange.Answers.{coming, TakenAt, taken-by-rule, member-here}
@@ -39,6 +38,10 @@ use Rattle.replication.proofs.Agreement.Exchange.Cpcs.{every-cpc-came}
 use Rattle.replication.proofs.Agreement.Exchange.PastExchange.{past-exchange}
 use Rattle.replication.proofs.Agreement.Exchange.CpcsTaken.{cpcs-recorded}
 
+-- The states in which actions are sent.
+abbrev pub SendsActions : Mode → Type 0
+SendsActions m = (m ≡ Non-prim) ⊎ (m ≡ Reg-prim)
+
 module _ {n q : ℕ} {l : Run} (A : Allowed n q l) where
   -- The message m is an action that the server k sent in regular c, in Non_prim or Reg_prim.
   pub record ActionMessage (m : Message) (k : ℕ) (c : Configuration) : Type 0 where
@@ -47,7 +50,7 @@ module _ {n q : ℕ} {l : Run} (A : Allowed n q l) where
     pub in-regular : placeAt n q l k (suc (m .sending)) ≡ inRegularOf c
     pub after : InCom n q l (suc (m .sending)) k c
     pub regular : membershipAt n q l (suc (m .sending)) k .transitional ≡ none
-    pub sender-in : (membershipAt n q l (suc (m .sending)) k .mode ≡ Non-prim) ⊎ (membershipAt n q l (suc (m .sending)) k .mode ≡ Reg-prim)
+    pub sender-in : SendsActions (membershipAt n q l (suc (m .sending)) k .mode)
 
   pub action-message : {p i : ℕ} {a : Action} {m : Message} {c : Configuration} (d : Delivery A p i m) → d .what ≡ action a → InCom n q l p i c
       → ActionMessage m (a .id .creator) c
@@ -63,7 +66,7 @@ module _ {n q : ℕ} {l : Run} (A : Allowed n q l) where
         after = z;
         regular = stay-transitional A (suc (m .sending)) k c z ∙ ap (λ y. y .transitional) (u .puts .in-regular);
         sender-in =
-            subst (λ s. (s .membership .mode ≡ Non-prim) ⊎ (s .membership .mode ≡ Reg-prim)) (sym (u .puts .act .memory-next))
+            subst (λ s. SendsActions (s .membership .mode)) (sym (u .puts .act .memory-next))
             (action-sent-in (puts-by A (u .puts)) a (puts-among A (u .puts)));
       }
 
@@ -73,7 +76,7 @@ module _ {n q : ℕ} {l : Run} (A : Allowed n q l) where
   unfolding theSet
   every-cpc-in p i c here f =
       let h = stay-configuration A p i c here in
-      let w = invariant-at n q i (A .sizes) (server-below A i c p here) l p .memory .well-formed .membership .configuration c h .set .below in
+      let w = invariant-at n q i (A .sizes) (stay-member A i p c here .0) l p .memory .well-formed .membership .configuration c h .set .below in
       ap (λ d. inside (theSet d) (membershipAt n q l p i .cpcs)) h
       ∙ members-inside n (c .set) (membershipAt n q l p i .cpcs) (subst (λ z. c .set < 2 ^ z) (numbers n q i l p .memory .servers) w) (λ k a m. f k m)
 
@@ -119,7 +122,7 @@ module _ {n q : ℕ} {l : Run} (A : Allowed n q l) where
     unfolding isMessage
     not-attempting x f = go (message .sender-in)
       where
-        go : (membershipAt n q l (suc (A .source p .sending)) (a .id .creator) .mode ≡ Non-prim) ⊎ (membershipAt n q l (suc (A .source p .sending)) (a .id .creator) .mode ≡ Reg-prim) → ⊥
+        go : SendsActions (membershipAt n q l (suc (A .source p .sending)) (a .id .creator) .mode) → ⊥
         go (inl e) =
             one-decision p (suc (A .source p .sending)) i (a .id .creator) c here (message .after) (x .ended .all-in) (x .agreed) (sender-settled message e)
         go (inr e) =
@@ -129,7 +132,7 @@ module _ {n q : ℕ} {l : Run} (A : Allowed n q l) where
     unfolding isMessage stage
     past = past-exchange A (message .sends) (message .after) (go (message .sender-in)) (λ e. message .regular) (coming A come refl) here
       where
-        go : (membershipAt n q l (suc (A .source p .sending)) (a .id .creator) .mode ≡ Non-prim) ⊎ (membershipAt n q l (suc (A .source p .sending)) (a .id .creator) .mode ≡ Reg-prim)
+        go : SendsActions (membershipAt n q l (suc (A .source p .sending)) (a .id .creator) .mode)
             → 2 ≤ stage (membershipAt n q l (suc (A .source p .sending)) (a .id .creator) .mode)
         go (inl e) = omega (arith, ap stage e)
         go (inr e) = omega (arith, ap stage e)

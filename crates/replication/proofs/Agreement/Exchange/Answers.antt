@@ -1,19 +1,17 @@
 -- What it takes for a delivered record to be taken.
-use Prim.Native.Nat.{ℕ, suc, _≤_, _<_}
-use mathlib.Core.Path.{_≡_, refl, sym, ap, subst, _∙_}
-use mathlib.Core.Bool.{Bool, true, false}
-use mathlib.Core.List.{List}
-use mathlib.Core.Option.{Option, none, some}
-use Rattle.base.specs.Tests.{_or_, _=?_, not-both, eq-yes}
+use Prim.Native.Nat.{ℕ}
+use mathlib.Core.Path.{_≡_, refl, sym, ap, _∙_}
+use mathlib.Core.Bool.{true, false}
+use mathlib.Core.Option.{some}
+use Rattle.base.specs.Tests.{_or_, not-both, eq-yes}
 use Rattle.base.specs.AtLaws.{some-same}
 use Rattle.base.specs.Sets.{inSet}
 use Rattle.format.specs.Types.{Record, action, retransmission, state, cpc, regular, transitional, request, recovery, says}
-use Rattle.replication.specs.Machine.Types.{Configuration, Membership, Server, Outcome}
+use Rattle.replication.specs.Machine.Types.{Configuration, Server}
 use Rattle.replication.specs.Machine.Rules.{Rule, ruleFor, possible, memberOf, isOf, fromMember, isIgnored, withinQuota, withinHeld}
-use Rattle.replication.specs.Machine.Step.{answer}
 use Rattle.replication.specs.Images.{isRecovery}
 use Rattle.replication.specs.Runs.Run.{Run, heardAt}
-use Rattle.replication.specs.Runs.Happenings.{Message, isMessage, Comes}
+use Rattle.replication.specs.Runs.Happenings.{isMessage, Comes}
 use Rattle.replication.specs.Runs.Allowed.{Allowed}
 use Rattle.replication.proofs.Runs.Places.{event-entry}
 use Rattle.replication.proofs.Runs.Refusals.{not-refused}

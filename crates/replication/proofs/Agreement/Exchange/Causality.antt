@@ -1,8 +1,8 @@
 -- What a server had delivered when it sent a message, whoever delivers that message has delivered before it.
-use Prim.Native.Nat.{ℕ, zero, suc, _≤_, _<_}
+use Prim.Native.Nat.{ℕ, suc, _<_}
 use mathlib.Core.Path.{_≡_, refl, sym, ap, subst, _∙_}
-use mathlib.Core.Bool.{Bool, true, false}
-use mathlib.Core.Option.{Option, none, some}
+use mathlib.Core.Bool.{true}
+use mathlib.Core.Option.{none}
 use native.Mathlib.Omega.{arith}
 use native.Mathlib.Decide.{decLt}
 use lib.ListN.{getD}
@@ -10,12 +10,11 @@ use Rattle.base.specs.Tests.{not-both}
 use Rattle.base.specs.AtLaws.{some-same}
 use Rattle.base.specs.Lists.{isThere}
 use Rattle.base.specs.Sets.{inSet}
-use Rattle.format.specs.Types.{State, Record, state}
+use Rattle.format.specs.Types.{Record}
 use Rattle.replication.specs.Machine.Types.{Exchange-states, Configuration}
-use Rattle.replication.specs.Runs.Run.{Run, placeAt}
+use Rattle.replication.specs.Runs.Run.{Run}
 use Rattle.replication.specs.Runs.Happenings.{Message, entry-at, sending-of, Sends, Comes, Causes, in-turn, sends, carries, through}
 use Rattle.replication.specs.Runs.Allowed.{Allowed}
-use Rattle.replication.specs.Runs.DeliveryFacts.{recordOf}
 use Rattle.replication.proofs.Runs.Shifts.{comes-of}
 use Rattle.replication.proofs.Runs.Deliveries.{Delivery, delivered-where-sent}
 use Rattle.replication.proofs.Runs.Origins.{origin, delivery-says}

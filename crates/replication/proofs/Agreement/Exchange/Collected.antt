@@ -1,35 +1,31 @@
 -- Which States a server has collected in its stay in a configuration.
-use Prim.Native.Nat.{ℕ, zero, suc, _+_, _≤_, _<_}
-use mathlib.Core.Path.{_≡_, refl, sym, ap, subst, _∙_}
-use mathlib.Core.Bool.{Bool, true, false}
-use mathlib.Core.List.{List, [], _∷_}
+use Prim.Native.Nat.{ℕ, _≤_, _<_}
+use mathlib.Core.Path.{_≡_, refl, sym, ap, _∙_}
+use mathlib.Core.Bool.{true, false}
+use mathlib.Core.List.{List}
 use mathlib.Core.Option.{Option, none, some}
 use native.Mathlib.Omega.{arith}
 use native.Mathlib.Decide.{decLt, ℕ-discrete}
 use lib.ListN.{length, getD, set}
 use lib.Seq.{getD-set-same, getD-set-other, set-out}
-use Rattle.base.specs.Tests.{not-both, Known, holds, fails, known}
-use Rattle.base.specs.AtLaws.{none-some}
+use Rattle.base.specs.Tests.{not-both}
 use Rattle.base.specs.Lists.{isThere}
 use Rattle.base.specs.ListLaws.{there}
 use Rattle.base.specs.Sets.{inSet}
 use Rattle.format.specs.Types.{State, Record, state}
-use Rattle.replication.specs.Machine.Types.{Mode, Non-prim, Reg-prim, Trans-prim, Exchange-states, Exchange-actions, Construct, No, Un, Configuration, Membership, Server, noStates}
-use Rattle.replication.specs.Machine.Step.{theSet, hereSet, allFrom, allStatesIn}
+use Rattle.replication.specs.Machine.Types.{Mode, Non-prim, Reg-prim, Trans-prim, Exchange-states, Exchange-actions, Construct, No, Un, Configuration, Membership}
+use Rattle.replication.specs.Machine.Step.{theSet, hereSet, allStatesIn}
 use Rattle.replication.specs.Machine.WellFormedFacts.{WellFormed}
-use Rattle.replication.specs.Laws.Transitions as L
-use Rattle.replication.specs.Laws.Transitions.{Leads}
-use Rattle.replication.specs.Runs.Run.{Run, placeAt}
+use Rattle.replication.specs.Runs.Run.{Run}
 use Rattle.replication.specs.Runs.Allowed.{Allowed}
 use Rattle.replication.proofs.WellFormed.Modes.{all-in-facts, all-in-ok}
 use Rattle.replication.proofs.Runs.Numbers.{numbers, invariant-at}
 use Rattle.replication.proofs.Runs.AllowedTurns.{memoryAt}
-use Rattle.replication.proofs.Runs.Progress.{Progress, progress-in, progress}
+use Rattle.replication.proofs.Runs.Progress.{Progress, progress-in, stay-member, progress}
 use Rattle.replication.proofs.Runs.Memberships as M
-use Rattle.replication.proofs.Runs.Memberships.{enteredIn, everyStateIn, Completes, MembershipStep}
+use Rattle.replication.proofs.Runs.Memberships.{everyStateIn, Completes, MembershipStep}
 use Rattle.replication.proofs.Runs.Stays.{membershipAt, stay-configuration}
-use Rattle.replication.proofs.Agreement.Exchange.Stages.{remains, stage, modeNumber, other-mode, InCom, KeptInStay, throughout}
-use Rattle.replication.proofs.Agreement.Exchange.Phases.{server-below}
+use Rattle.replication.proofs.Agreement.Exchange.Stages.{remains, stage, modeNumber, other-mode, InCom, KeptInStay}
 
 -- ---- which States each event of a stay leaves
 
@@ -94,7 +90,7 @@ state-stays n k m o r s h e = go (states-grow s h)
 
 module _ {n q : ℕ} {l : Run} (A : Allowed n q l) (i : ℕ) (c : Configuration) (p : ℕ) (here : InCom n q l p i c) where
   formed : WellFormed (memoryAt n q l p i)
-  formed = invariant-at n q i (A .sizes) (server-below A i c p here) l p .memory .well-formed
+  formed = invariant-at n q i (A .sizes) (stay-member A i p c here .0) l p .memory .well-formed
 
   servers : memoryAt n q l p i .servers ≡ n
   servers = numbers n q i l p .memory .servers

@@ -1,28 +1,26 @@
 -- CPCs in one configuration: each server sends one at most, at its marking; whoever installs has one of each member.
-use Prim.Native.Nat.{ℕ, zero, suc, _≤_, _<_}
+use Prim.Native.Nat.{ℕ, suc, _≤_}
 use mathlib.Core.Path.{_≡_, refl, sym, ap, subst, _∙_}
-use mathlib.Core.Bool.{Bool, true, false}
-use mathlib.Core.Option.{Option, none, some}
+use mathlib.Core.Bool.{true}
 use native.Mathlib.Omega.{arith}
 use Rattle.base.specs.Sets.{inSet}
 use Rattle.base.specs.SetLaws.{inside-member}
 use Rattle.format.specs.Types.{Record, cpc}
-use Rattle.replication.specs.Machine.Types.{Mode, Exchange-states, Exchange-actions, Construct, Configuration, Membership, Server}
+use Rattle.replication.specs.Machine.Types.{Configuration, Server}
 use Rattle.replication.specs.Machine.Step.{theSet}
 use Rattle.replication.specs.Machine.WellFormedSent.{senderOf}
 use Rattle.replication.specs.Laws.Votes as E
 use Rattle.replication.specs.Laws.Votes.{EndsExchange}
-use Rattle.replication.specs.Runs.Run.{Run, Place, placeAt}
+use Rattle.replication.specs.Runs.Run.{Run}
 use Rattle.replication.specs.Runs.Happenings.{Message, Sends}
 use Rattle.replication.specs.Runs.Allowed.{Allowed}
-use Rattle.replication.proofs.Runs.Deliveries.{Delivery, sent-before}
+use Rattle.replication.proofs.Runs.Deliveries.{Delivery}
 use Rattle.replication.proofs.Runs.Order.{delivered-once}
-use Rattle.replication.proofs.Runs.AllowedTurns.{memoryAt}
 use Rattle.replication.proofs.Runs.StateOrigins.{Came}
-use Rattle.replication.proofs.Runs.CpcOrigins.{cpcs-came, Attempted, cpc-attempted}
+use Rattle.replication.proofs.Runs.CpcOrigins.{cpcs-came, cpc-attempted}
 use Rattle.replication.proofs.Runs.Progress.{Installable}
 use Rattle.replication.proofs.Runs.Stays.{membershipAt, stay-configuration}
-use Rattle.replication.proofs.Agreement.Terms.{EndsAt, MarksAt}
+use Rattle.replication.proofs.Agreement.Terms.{MarksAt}
 use Rattle.replication.proofs.Agreement.Exchange.Stages.{stage, InCom, rises-once, had-before}
 use Rattle.replication.proofs.Agreement.Exchange.Messages.{same-message, sent-in}
 use Rattle.replication.proofs.Agreement.Exchange.Marked.{marked-in-stay}
@@ -67,12 +65,14 @@ module _ {n q : ℕ} {l : Run} (A : Allowed n q l) where
   -- A server sends one CPC in a configuration.
   pub one-cpc : {m m′ : Message} {k : ℕ} {c : Configuration} → CpcMessage m k c → CpcMessage m′ k c → m ≡ m′
   one-cpc {m} {m′} {k} {c} u v =
-      let e : m .sending ≡ m′ .sending = rises-once A k c 1 (m .sending) (m′ .sending) (u .before) (u .after) (v .before) (v .after) (u .early) (omega (arith, u .marking)) (v .early) (omega (arith, v .marking)) in
-      same-message e (u .first ∙ sym (v .first))
+      same-message
+      (rises-once A k c 1 (m .sending) (m′ .sending) (u .before) (u .after) (v .before) (v .after) (u .early) (omega (arith, u .marking)) (v .early)
+      (omega (arith, v .marking)))
+      (u .first ∙ sym (v .first))
 
   -- A server's CPC comes once to each server.
-  pub cpc-comes-once : {p r i k x y : ℕ} {m m′ : Message} {c : Configuration} (d : Delivery A p i m) (e : Delivery A r i m′) → d .what ≡ cpc k x → e .what ≡ cpc k y
-      → InCom n q l p i c → InCom n q l r i c → p ≡ r
+  pub cpc-comes-once : {p r i k x y : ℕ} {m m′ : Message} {c : Configuration} (d : Delivery A p i m) (e : Delivery A r i m′)
+      → d .what ≡ cpc k x → e .what ≡ cpc k y → InCom n q l p i c → InCom n q l r i c → p ≡ r
   cpc-comes-once {p} {r} {i} {k} {x} {y} {m} {m′} {c} d e f g a b =
       delivered-once A d (subst (λ z. Delivery A r i z) (sym (one-cpc (cpc-message d f a .0) (cpc-message e g b .0))) e)
 

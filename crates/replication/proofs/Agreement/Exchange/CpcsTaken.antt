@@ -1,18 +1,17 @@
 -- A CPC that comes is taken, and outside Non_prim it is kept.
-use Prim.Native.Nat.{ℕ, zero, suc, _≤_, _<_}
+use Prim.Native.Nat.{ℕ, suc, _≤_, _<_}
 use mathlib.Core.Path.{_≡_, refl, sym, ap, subst, _∙_}
 use mathlib.Core.Bool.{Bool, true, false, not}
 use mathlib.Core.Logic.{_⊎_, inl, inr}
-use mathlib.Core.Option.{Option, none, some}
 use native.Mathlib.Omega.{arith}
-use Rattle.base.specs.Tests.{_and_, _or_, _=?_, not-both, eq-yes, both-yes, Known, holds, fails, known}
+use Rattle.base.specs.Tests.{_or_, not-both, eq-yes, both-yes, Known, holds, fails, known}
 use Rattle.base.specs.Sets.{inSet, withMember}
 use Rattle.base.specs.SetLaws.{in-with-member, inside-member}
 use Rattle.format.specs.Types.{Record, cpc, kindNumber, kindOf}
 use Rattle.replication.specs.Machine.Types.{Mode, Non-prim, Reg-prim, Trans-prim, Exchange-states, Exchange-actions, Construct, No, Un, Configuration, Membership}
 use Rattle.replication.specs.Machine.Rules.{ignoring, collectingCpc, collectingLateCpc, onCpc, ruleFor, possible, cpcIn, fromMember, isIgnored}
 use Rattle.replication.specs.Machine.Step.{theSet}
-use Rattle.replication.specs.Runs.Run.{Run, placeAt}
+use Rattle.replication.specs.Runs.Run.{Run}
 use Rattle.replication.specs.Runs.Happenings.{isMessage, Comes}
 use Rattle.replication.specs.Runs.Allowed.{Allowed}
 use Rattle.replication.proofs.Runs.CpcOrigins.{cpcs-came}
@@ -20,7 +19,7 @@ use Rattle.replication.proofs.Runs.Progress.{Installable, progress-in, 
 use Rattle.replication.proofs.Runs.Memberships as M
 use Rattle.replication.proofs.Runs.Memberships.{Completes, MembershipStep}
 use Rattle.replication.proofs.Runs.Stays.{membershipAt, stay-configuration, acts-membership}
-use Rattle.replication.proofs.Agreement.Exchange.Stages.{remains, stage, modeNumber, other-mode, InCom, KeptInStay, between, onward}
+use Rattle.replication.proofs.Agreement.Exchange.Stages.{remains, stage, InCom, between, onward}
 use Rattle.replication.proofs.Agreement.Exchange.Phases.{settled-step}
 use Rattle.replication.proofs.Agreement.Exchange.Answers.{coming, TakenAt, taken-by-rule, member-here, is-here}
 use Rattle.replication.proofs.Agreement.Exchange.Cpcs.{CpcMessage, cpc-message, cpc-comes-once}

@@ -1,25 +1,25 @@
 -- How a server leaves an exchange: by its end, or by a transitional configuration.
-use Prim.Native.Nat.{ℕ, zero, suc, _≤_, _<_}
-use mathlib.Core.Path.{_≡_, refl, sym, ap, subst, _∙_}
+use Prim.Native.Nat.{ℕ, _≤_, _<_}
+use mathlib.Core.Path.{_≡_, refl, sym, ap, _∙_}
 use mathlib.Core.Bool.{Bool, true, false}
-use mathlib.Core.List.{List, [], _∷_}
+use mathlib.Core.List.{List}
 use mathlib.Core.Logic.{_⊎_, inl, inr}
-use mathlib.Core.Option.{Option, none, some}
+use mathlib.Core.Option.{some}
 use native.Mathlib.Omega.{arith}
 use Rattle.base.specs.Tests.{not-both}
-use Rattle.format.specs.Types.{State, Record}
-use Rattle.replication.specs.Machine.Types.{Mode, Non-prim, Reg-prim, Trans-prim, Exchange-states, Exchange-actions, Construct, No, Un, Configuration, Membership, Server}
+use Rattle.format.specs.Types.{Record}
+use Rattle.replication.specs.Machine.Types.{Mode, Non-prim, Reg-prim, Trans-prim, Exchange-states, Exchange-actions, Construct, No, Un, Server, withMode}
 use Rattle.replication.specs.Machine.Exchange.{quorum}
 use Rattle.replication.specs.Machine.Requests.{sendsIn, sendsNow, numbered, hold, sendHeld}
-use Rattle.replication.specs.Machine.Step.{hereSet, theSet, collected, decided, attempting, withState, allStatesIn, resending, oneMore, exchanged, leave}
+use Rattle.replication.specs.Machine.Step.{hereSet, collected, decided, attempting, withState, allStatesIn, resending, oneMore, exchanged, leave}
 use Rattle.replication.specs.Laws.Transitions as L
 use Rattle.replication.specs.Laws.Transitions.{Ends, Leads, Transition}
 use Rattle.replication.proofs.Agreement.Exchange.Stages.{remains, stage}
 
 -- ---- one step
 
--- The end of an exchange leaves the collected States, the configuration and the CPCs alone.
-pub ends-membership : {t u : Server} {rs : List Record} → Ends t u rs → (m : Mode) × (u .membership ≡ record { mode = m; configuration = t .membership .configuration; transitional = t .membership .transitional; states = t .membership .states; cpcs = t .membership .cpcs; come = t .membership .come })
+-- The end of an exchange changes only the state's name in the membership part.
+pub ends-membership : {t u : Server} {rs : List Record} → Ends t u rs → (m : Mode) × (u .membership ≡ withMode m (t .membership))
 unfolding attempting decided sendHeld numbered
 ends-membership (L.withQuorum h) = (Construct, refl)
 ends-membership (L.withoutQuorum h) = (Non-prim, refl)
@@ -54,8 +54,8 @@ module _ (s : Server) (early : stage (s .membership .mode) ≤ 1) where
   early-holds No b h = refl
   early-holds Un b h = refl
 
-  pub exchange-move : {r : Record} {t : Server} {rs : List Record} {b : Bool} → (s .membership .mode ≡ Exchange-actions → allStatesIn s ≡ true) → remains r ≡ true
-      → Transition s r t rs b → ExchangeMove s t rs b
+  pub exchange-move : {r : Record} {t : Server} {rs : List Record} {b : Bool} → (s .membership .mode ≡ Exchange-actions → allStatesIn s ≡ true)
+      → remains r ≡ true → Transition s r t rs b → ExchangeMove s t rs b
   unfolding exchanged oneMore withState resending hold stage remains allStatesIn hereSet sendsNow
   exchange-move f h (L.ignoresState x e) = past Non-prim e (omega arith)
   exchange-move f h (L.ignoresCpc k i e) = past Non-prim e (omega arith)

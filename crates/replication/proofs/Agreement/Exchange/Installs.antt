@@ -1,26 +1,22 @@
 -- Whoever installs in a configuration has the CPC of each member: every member marked there before.
-use Prim.Native.Nat.{ℕ, zero, suc, _≤_, _<_}
+use Prim.Native.Nat.{ℕ, suc, _<_}
 use mathlib.Core.Path.{_≡_, refl, sym, ap, subst, _∙_}
 use mathlib.Core.Bool.{Bool, true, false}
 use mathlib.Core.List.{List}
-use mathlib.Core.Logic.{_⊎_, inl, inr}
-use mathlib.Core.Option.{Option, none, some}
 use native.Mathlib.Omega.{arith}
 use Rattle.base.specs.Tests.{not-both}
 use Rattle.base.specs.Sets.{inSet}
 use Rattle.format.specs.Types.{Action, Record, action, cpc, transitional, says}
 use Rattle.replication.specs.Machine.Types.{Mode, Non-prim, Reg-prim, Trans-prim, Exchange-states, Exchange-actions, Construct, No, Un, Configuration, Server}
 use Rattle.replication.specs.Machine.Rules.{onAction, onRetransmission, onState, onCpc, onRegular, onTransitional, ruleFor}
-use Rattle.replication.specs.Machine.Colours.{yellow}
-use Rattle.replication.specs.Machine.Install.{install}
 use Rattle.replication.specs.Machine.Requests.{numbered, sendHeld}
 use Rattle.replication.specs.Machine.Step.{installsBy}
 use Rattle.replication.specs.Laws.Transitions as L
 use Rattle.replication.specs.Laws.Transitions.{Leads, Transition}
-use Rattle.replication.specs.Runs.Run.{Run, Place, moved, placeAt}
+use Rattle.replication.specs.Runs.Run.{Run, moved, placeAt}
 use Rattle.replication.specs.Runs.Allowed.{Allowed}
 use Rattle.replication.proofs.Runs.Deliveries.{sent-before}
-use Rattle.replication.proofs.Runs.AllowedTurns.{memoryAt, Acts}
+use Rattle.replication.proofs.Runs.AllowedTurns.{memoryAt}
 use Rattle.replication.proofs.Runs.Progress.{Installable, Progress, progress-in, progress}
 use Rattle.replication.proofs.Runs.Stays.{membershipAt}
 use Rattle.replication.proofs.Agreement.Terms.{MarksAt, InstallsAt}
@@ -35,7 +31,8 @@ pub data Installing (s t : Server) : Record → Type 0 where
   on-action : (a : Action) → s .membership .mode ≡ Un → t .membership .mode ≡ Trans-prim → Installing s t (action a)
 
 module _ (s : Server) where
-  no-install : {X : Type 0} (r : Record) (m : Mode) → s .membership .mode ≡ m → installsBy (ruleFor m r) s ≡ false → installsBy (ruleFor (s .membership .mode) r) s ≡ true → X
+  no-install : {X : Type 0} (r : Record) (m : Mode) → s .membership .mode ≡ m → installsBy (ruleFor m r) s ≡ false
+      → installsBy (ruleFor (s .membership .mode) r) s ≡ true → X
   no-install r m e f h = not-both (sym f ∙ ap (λ o. installsBy (ruleFor o r) s) (sym e) ∙ h)
 
   leads-rule : {m o : Mode} (x : ℕ) → Leads m o → installsBy (ruleFor m (transitional x)) s ≡ false
@@ -46,7 +43,8 @@ module _ (s : Server) where
   leads-rule x L.interruptsActions = refl
   leads-rule x L.interruptsConstruct = refl
 
-  pub installing : {r : Record} {t : Server} {rs : List Record} {b : Bool} → Transition s r t rs b → installsBy (ruleFor (s .membership .mode) r) s ≡ true → Installing s t r
+  pub installing : {r : Record} {t : Server} {rs : List Record} {b : Bool} → Transition s r t rs b
+      → installsBy (ruleFor (s .membership .mode) r) s ≡ true → Installing s t r
   unfolding ruleFor onAction onRetransmission onState onCpc onRegular onTransitional installsBy sendHeld numbered
   installing {r} (L.ignoresState x e) h = no-install r Non-prim e refl h
   installing {r} (L.ignoresCpc k i e) h = no-install r Non-prim e refl h

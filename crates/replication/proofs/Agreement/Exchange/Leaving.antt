@@ -1,20 +1,17 @@
 -- If anyone installs in a configuration, no member leaves it and its transitional configuration from No.
-use Prim.Native.Nat.{ℕ, zero, suc, _≤_, _<_}
+use Prim.Native.Nat.{ℕ, suc}
 use mathlib.Core.Path.{_≡_, refl, sym, ap, subst, _∙_}
-use mathlib.Core.Bool.{Bool, true, false}
-use mathlib.Core.Logic.{_⊎_, inl, inr}
-use mathlib.Core.Option.{Option, none, some}
+use mathlib.Core.Bool.{true}
+use mathlib.Core.Logic.{inl, inr}
 use native.Mathlib.Omega.{arith}
 use Rattle.base.specs.Tests.{not-both}
 use Rattle.base.specs.AtLaws.{some-same}
 use Rattle.base.specs.Sets.{inSet}
-use Rattle.format.specs.Types.{Action, Record, action, cpc, says}
-use Rattle.replication.specs.Machine.Types.{Mode, Non-prim, Reg-prim, Un, No, Configuration}
-use Rattle.replication.specs.Laws.Modes.{InRegular}
-use Rattle.replication.specs.Runs.Run.{Run, Place, placeAt}
+use Rattle.format.specs.Types.{Action, Record, action, says}
+use Rattle.replication.specs.Machine.Types.{Non-prim, Reg-prim, Un, No, Configuration}
+use Rattle.replication.specs.Runs.Run.{Run, placeAt}
 use Rattle.replication.specs.Runs.Happenings.{isMessage, Comes, Takes, Left}
 use Rattle.replication.specs.Runs.Allowed.{Allowed}
-use Rattle.replication.specs.Runs.DeliveryFacts.{recordOf}
 use Rattle.replication.proofs.Runs.Entries.{had}
 use Rattle.replication.proofs.Runs.Modes.{standing-in, standing}
 use Rattle.replication.proofs.Runs.Order.{inRegularOf, still-regular, left-delivered}
@@ -27,7 +24,7 @@ use Rattle.replication.proofs.Agreement.Exchange.Stages.{modeNumber, ot
 use Rattle.replication.proofs.Agreement.Exchange.Answers.{coming}
 use Rattle.replication.proofs.Agreement.Exchange.Cpcs.{every-cpc-came}
 use Rattle.replication.proofs.Agreement.Exchange.CpcsTaken.{cpcs-recorded}
-use Rattle.replication.proofs.Agreement.Exchange.ActionsTaken.{ActionMessage, action-message, every-cpc-in, one-decision, sender-settled, sender-installed}
+use Rattle.replication.proofs.Agreement.Exchange.ActionsTaken.{SendsActions, ActionMessage, action-message, every-cpc-in, one-decision, sender-settled, sender-installed}
 use Rattle.replication.proofs.Agreement.Exchange.Installs.{Installing, on-cpc, on-action, installs-on, installs-here, installs-with-all}
 
 module _ {n q : ℕ} {l : Run} (A : Allowed n q l) where
@@ -52,18 +49,22 @@ module _ {n q : ℕ} {l : Run} (A : Allowed n q l) where
           late : Installable n (membershipAt n q l p i)
           late = progress-in n _ Un e (progress A i c p (x .here))
 
-          at : (membershipAt n q l (suc (A .source p .sending)) (a .id .creator) .mode ≡ Non-prim) ⊎ (membershipAt n q l (suc (A .source p .sending)) (a .id .creator) .mode ≡ Reg-prim)
-              → HasEveryCpc c
+          at : SendsActions (membershipAt n q l (suc (A .source p .sending)) (a .id .creator) .mode) → HasEveryCpc c
           at (inl f) =
-              absurd (one-decision A p (suc (A .source p .sending)) i (a .id .creator) c (x .here) (m .after) (late .ended .all-in) (late .agreed) (sender-settled A m f))
+              absurd
+              (one-decision A p (suc (A .source p .sending)) i (a .id .creator) c (x .here) (m .after) (late .ended .all-in) (late .agreed)
+              (sender-settled A m f))
           at (inr f) = record { v = suc (A .source p .sending); j = a .id .creator; in-regular = m .in-regular; with-all = sender-installed A m f }
 
       go : (r : Record) → x .acts .by .event ≡ r → Installing (memoryAt n q l p i) (memoryAt n q l (suc p) i) r → HasEveryCpc c
       go r e (on-cpc k d f g) =
-          let t = sym (stay-transitional A (suc p) i c here) ∙ standing-in (memoryAt n q l (suc p) i) Reg-prim g (standing n q l i (suc p) .memory) .none-after in
+          let s = standing-in (memoryAt n q l (suc p) i) Reg-prim g (standing n q l i (suc p) .memory) in
+          let t = sym (stay-transitional A (suc p) i c here) ∙ s .none-after in
           record { v = suc p; j = i; in-regular = λ z. record { regular = here z; transitional = t z }; with-all = installs-with-all A x }
       go r e (on-action a f g) =
-          let y : Comes n q l p i (action a) = record { bytes = x .acts .bytes; sent = x .acts .sent; here = x .acts .here; heard = x .acts .heard ∙ ap says e } in
+          let y : Comes n q l p i (action a) =
+          record { bytes = x .acts .bytes; sent = x .acts .sent; here = x .acts .here; heard = x .acts .heard ∙ ap says e }
+          in
           by-action a f (action-message A (coming A y refl) refl (x .here))
 
   -- Who leaves com(c) then has every CPC.

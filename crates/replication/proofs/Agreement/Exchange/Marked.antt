@@ -1,16 +1,15 @@
 -- A server in Construct, No, Un, Reg_prim or Trans_prim marked its attempt in its present configuration.
-use Prim.Native.Nat.{ℕ, zero, suc, _≤_, _<_}
-use mathlib.Core.Path.{_≡_, refl, sym, ap, subst, _∙_}
-use mathlib.Core.Option.{Option, none, some}
+use Prim.Native.Nat.{ℕ, _≤_, _<_}
+use mathlib.Core.Path.{_≡_, ap}
 use native.Mathlib.Omega.{arith}
-use Rattle.replication.specs.Machine.Types.{Mode, Non-prim, Reg-prim, Trans-prim, Construct, No, Un, Configuration}
-use Rattle.replication.specs.Runs.Run.{Run, Place, placeAt}
+use Rattle.replication.specs.Machine.Types.{Mode, Configuration}
+use Rattle.replication.specs.Runs.Run.{Run}
 use Rattle.replication.specs.Runs.Happenings.{Falls}
 use Rattle.replication.specs.Runs.Allowed.{Allowed}
 use Rattle.replication.proofs.Runs.Entries.{had}
 use Rattle.replication.proofs.Runs.AllowedTurns.{memoryAt}
 use Rattle.replication.proofs.Runs.Stays.{membershipAt}
-use Rattle.replication.proofs.Agreement.Terms.{Within, EndsAt, MarksAt, AfterMarking, in-construct, in-no, in-un, in-reg, in-trans}
+use Rattle.replication.proofs.Agreement.Terms.{Within, MarksAt, AfterMarking, in-construct, in-no, in-un, in-reg, in-trans}
 use Rattle.replication.proofs.Agreement.Exchange.Stages.{stage, InCom}
 use Rattle.replication.proofs.Agreement.Exchange.Phases.{Phase, exchanging, marked, settled, interrupted, phase}
 

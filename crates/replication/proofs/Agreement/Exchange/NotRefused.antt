@@ -1,17 +1,16 @@
 -- In an allowed run no delivered record is refused.
-use Prim.Native.Nat.{ℕ, suc}
-use mathlib.Core.Path.{_≡_, refl, sym, ap, subst, _∙_}
-use mathlib.Core.Bool.{Bool, true, false}
+use Prim.Native.Nat.{ℕ}
+use mathlib.Core.Path.{_≡_, sym, ap, _∙_}
+use mathlib.Core.Bool.{Bool, true}
 use mathlib.Core.List.{List}
-use mathlib.Core.Option.{Option, none, some}
 use native.Mathlib.Omega.{arith}
 use Rattle.base.specs.Tests.{not-both}
 use Rattle.base.specs.AtLaws.{some-same}
 use Rattle.format.specs.Types.{Action, Record, action, retransmission, state, cpc, regular, transitional, request, recovery, says}
 use Rattle.replication.specs.Machine.Types.{Configuration, Server, Outcome, taken}
 use Rattle.replication.specs.Machine.Step.{step}
-use Rattle.replication.specs.Images.{isRecovery, sourceOf, arrive}
-use Rattle.replication.specs.Runs.Run.{Run, worldAt, heardAt}
+use Rattle.replication.specs.Images.{isRecovery, arrive}
+use Rattle.replication.specs.Runs.Run.{Run, heardAt}
 use Rattle.replication.specs.Runs.Happenings.{isMessage, Comes}
 use Rattle.replication.specs.Runs.Allowed.{Allowed}
 use Rattle.replication.proofs.Runs.Places.{event-entry}

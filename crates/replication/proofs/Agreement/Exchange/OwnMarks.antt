@@ -1,18 +1,16 @@
 -- A mark in an image of a server was made by that server's own marking, and the server is in its set.
-use Prim.Native.Nat.{ℕ, suc}
-use mathlib.Core.Path.{_≡_, sym, ap, subst, _∙_}
+use Prim.Native.Nat.{ℕ}
+use mathlib.Core.Path.{_≡_, ap, subst, _∙_}
 use mathlib.Core.Bool.{true}
 use Rattle.base.specs.Sets.{inSet}
 use Rattle.format.specs.Types.{Mark}
-use Rattle.replication.specs.Machine.Types.{Configuration, Server}
-use Rattle.replication.specs.Runs.Run.{Run, Place}
+use Rattle.replication.specs.Machine.Types.{Server}
+use Rattle.replication.specs.Runs.Run.{Run}
 use Rattle.replication.specs.Runs.Allowed.{Allowed}
 use Rattle.replication.proofs.Runs.Entries.{had}
 use Rattle.replication.proofs.Runs.Order.{taker-member}
 use Rattle.replication.proofs.Runs.ControlPart.{control-at}
-use Rattle.replication.proofs.Runs.AllowedTurns.{memoryAt}
 use Rattle.replication.proofs.Agreement.Terms.{Image, in-memory, in-store}
-use Rattle.replication.proofs.Agreement.Votes.Judging.{Alike}
 use Rattle.replication.proofs.Agreement.Votes.Marks.{OwnMarking, own-marking, marking-mark}
 use Rattle.replication.proofs.Agreement.Exchange.Facts.{exchange-facts}
 

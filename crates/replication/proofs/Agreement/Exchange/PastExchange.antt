@@ -1,19 +1,18 @@
 -- Whoever delivers, in a configuration, a message of a server that has ended the exchange there, is past the exchange.
-use Prim.Native.Nat.{ℕ, zero, suc, _≤_, _<_}
+use Prim.Native.Nat.{ℕ, suc, _≤_}
 use mathlib.Core.Path.{_≡_, refl, sym, ap, subst, _∙_}
-use mathlib.Core.Bool.{Bool, true, false}
-use mathlib.Core.List.{List, map, List·Memᴰ, Memᴰ·map, Memᴰ·of-map, Memᴰ·cast}
-use mathlib.Core.Option.{Option, none, some}
+use mathlib.Core.List.{map, List·Memᴰ, Memᴰ·map, Memᴰ·of-map, Memᴰ·cast}
+use mathlib.Core.Option.{none}
 use native.Mathlib.Omega.{arith}
-use lib.ListN.{length, length-map}
+use lib.ListN.{length-map}
 use Rattle.base.specs.AtLaws.{none-some}
 use Rattle.base.specs.Lists.{present}
 use Rattle.base.specs.Distinct.{included-length, distinct-map}
 use Rattle.base.specs.Passing.{passing, passing-has, passing-in, passing-distinct}
-use Rattle.format.specs.Types.{State, retransmission}
+use Rattle.format.specs.Types.{retransmission}
 use Rattle.replication.specs.Machine.Types.{Mode, Non-prim, Reg-prim, Trans-prim, Exchange-states, Exchange-actions, Construct, No, Un, Configuration}
 use Rattle.replication.specs.Machine.Plan.{planned}
-use Rattle.replication.specs.Runs.Run.{Run, placeAt}
+use Rattle.replication.specs.Runs.Run.{Run}
 use Rattle.replication.specs.Runs.Happenings.{Message, isMessage, Comes, Sends}
 use Rattle.replication.specs.Runs.Allowed.{Allowed}
 use Rattle.replication.proofs.Runs.Deliveries.{Delivery}
@@ -28,7 +27,7 @@ use Rattle.replication.proofs.Agreement.Exchange.SameStates.{complete-s
 use Rattle.replication.proofs.Agreement.Exchange.Answers.{coming}
 use Rattle.replication.proofs.Agreement.Exchange.Causality.{came-before, not-collecting}
 use Rattle.replication.proofs.Agreement.Exchange.Retransmissions.{resentAt, resent-yes, resent-holds}
-use Rattle.replication.proofs.Agreement.Exchange.Tally.{Tally, TallyOf, none-yet, counted, enough, interrupted, later-count, resentCount, tally}
+use Rattle.replication.proofs.Agreement.Exchange.Tally.{TallyOf, none-yet, counted, enough, interrupted, later-count, resentCount, tally}
 
 module _ {n q : ℕ} {l : Run} (A : Allowed n q l) where
   -- The retransmissions that came to a server in com(c) are as many messages.
@@ -47,7 +46,8 @@ module _ {n q : ℕ} {l : Run} (A : Allowed n q l) where
   resent-included {m} {k} {p} {i} {c} s d =
       let z =
       included-length (map (A .source) (passing (resentAt n q l c k) (suc (m .sending)))) (map (A .source) (passing (resentAt n q l c i) p))
-      (distinct-map (A .source) (passing (resentAt n q l c k) (suc (m .sending))) (messages-differ k c (suc (m .sending))) (passing-distinct (resentAt n q l c k) (suc (m .sending))))
+      (distinct-map (A .source) (passing (resentAt n q l c k) (suc (m .sending))) (messages-differ k c (suc (m .sending)))
+      (passing-distinct (resentAt n q l c k) (suc (m .sending))))
       (λ y h. let x = Memᴰ·of-map (A .source) _ h in Memᴰ·cast (sym (x .2)) (one (x .0) (x .1)))
       in
       omega (arith, z, length-map (passing (resentAt n q l c k) (suc (m .sending))) (A .source), length-map (passing (resentAt n q l c i) p) (A .source))
@@ -87,8 +87,14 @@ module _ {n q : ℕ} {l : Run} (A : Allowed n q l) where
       receiving e =
           let u = progress-in n _ Exchange-actions e (progress A i c p b) in
           let w = complete-same A p (suc (m .sending)) i k c b a (u .all-in) (states-in A k c (suc (m .sending)) a (omega arith) f) in
-          omega
-          (arith, u .not-all-come, later-count e (tally A i c p b), resent-included s d, ended-count (suc (m .sending)) k c a h f, ap (λ z. planned n (present z)) w)
+          omega (
+            arith,
+            u .not-all-come,
+            later-count e (tally A i c p b),
+            resent-included s d,
+            ended-count (suc (m .sending)) k c a h f,
+            ap (λ z. planned n (present z)) w,
+          )
 
       go : (o : Mode) → membershipAt n q l p i .mode ≡ o → 2 ≤ stage (membershipAt n q l p i .mode)
       go Non-prim e = omega (arith, ap stage e)

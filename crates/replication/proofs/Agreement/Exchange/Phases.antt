@@ -1,33 +1,30 @@
--- Where a server stands in its stay in a configuration: in the exchange, past its end with a quorum or without one, or out of it by a transitional configuration.
-use Prim.Native.Nat.{ℕ, zero, suc, _≤_, _<_}
-use mathlib.Core.Path.{_≡_, refl, sym, ap, subst, _∙_}
-use mathlib.Core.Bool.{Bool, true, false}
-use mathlib.Core.List.{List, [], _∷_}
+-- Where a server stands in its stay in a configuration: in the exchange, past its end with a quorum or without one, or out of it by a transitional
+-- configuration.
+use Prim.Native.Nat.{ℕ, suc, _≤_, _<_}
+use mathlib.Core.Path.{_≡_, refl, sym, ap, _∙_}
+use mathlib.Core.Bool.{true, false}
 use mathlib.Core.Logic.{_⊎_, inl, inr}
 use mathlib.Core.Option.{Option, none, some}
 use native.Mathlib.Omega.{arith}
 use Rattle.base.specs.Tests.{not-both}
-use Rattle.base.specs.AtLaws.{none-some}
-use Rattle.format.specs.Types.{State, Record}
+use Rattle.format.specs.Types.{Record}
 use Rattle.replication.specs.Machine.Types.{Mode, Non-prim, Reg-prim, Trans-prim, Exchange-states, Exchange-actions, Construct, No, Un, Configuration, Membership, Server}
 use Rattle.replication.specs.Machine.Exchange.{quorum}
 use Rattle.replication.specs.Machine.Step.{theSet, hereSet, collected, allStatesIn}
-use Rattle.replication.specs.Laws.Modes.{InRegular}
 use Rattle.replication.specs.Laws.Transitions as L
-use Rattle.replication.specs.Laws.Transitions.{Ends, Leads, Transition}
-use Rattle.replication.specs.Runs.Run.{Run, Place, worldAt, placeAt}
-use Rattle.replication.specs.Runs.Happenings.{Comes, Falls, Takes}
+use Rattle.replication.specs.Laws.Transitions.{Ends, Leads}
+use Rattle.replication.specs.Runs.Run.{Run}
+use Rattle.replication.specs.Runs.Happenings.{Falls, Takes}
 use Rattle.replication.specs.Runs.Allowed.{Allowed}
 use Rattle.replication.proofs.Step.Formed.{every-state-in}
-use Rattle.replication.proofs.Runs.Modes.{Stands, Standing, standing}
-use Rattle.replication.proofs.Runs.Shifts.{comes-of}
-use Rattle.replication.proofs.Runs.Entries.{Had, had}
+use Rattle.replication.proofs.Runs.Modes.{Stands, standing}
 use Rattle.replication.proofs.Runs.Numbers.{numbers, well-formed-at}
 use Rattle.replication.proofs.Runs.AllowedTurns.{memoryAt, Acts}
 use Rattle.replication.proofs.Runs.Memberships as M
-use Rattle.replication.proofs.Runs.Memberships.{enteredIn, Completes, MembershipStep}
+use Rattle.replication.proofs.Runs.Memberships.{Completes, MembershipStep}
+use Rattle.replication.proofs.Runs.Progress.{stay-member}
 use Rattle.replication.proofs.Runs.Stays.{membershipAt, in-stay, entering-membership, stay-configuration, stay-transitional, StayStep, rested, refused, took, stay-step}
-use Rattle.replication.proofs.Agreement.Terms.{EndsAt, MarksAt, AfterMarking, in-construct, in-no, in-un, in-reg, in-trans}
+use Rattle.replication.proofs.Agreement.Terms.{EndsAt, MarksAt}
 use Rattle.replication.proofs.Agreement.Exchange.Stages.{remains, stage, modeNumber, other-mode, stage-rises, InCom, remaining}
 use Rattle.replication.proofs.Agreement.Exchange.Endings.{ExchangeMove, goes-on, is-left, is-ended, exchange-move, ends-decide}
 
@@ -81,17 +78,6 @@ settled-step (M.joins c o e j) h i = not-both h
 settled-step (M.leaves o u x e y) h i = leads-transitional y (sym e ∙ i) (λ z. (z, λ t u. (x, refl)))
 settled-step M.recovers h i = not-both h
 
-pub after-marking : (n q : ℕ) (l : Run) (m : Mode) → 3 ≤ stage m → AfterMarking n q l m
-unfolding stage
-after-marking n q l Non-prim h = absurd (omega arith)
-after-marking n q l Reg-prim h = in-reg
-after-marking n q l Trans-prim h = in-trans
-after-marking n q l Exchange-states h = absurd (omega arith)
-after-marking n q l Exchange-actions h = absurd (omega arith)
-after-marking n q l Construct h = in-construct
-after-marking n q l No h = in-no
-after-marking n q l Un h = in-un
-
 -- ---- a stay
 
 module _ (n q : ℕ) (l : Run) (p i : ℕ) (c : Configuration) where
@@ -103,13 +89,10 @@ module _ (n q : ℕ) (l : Run) (p i : ℕ) (c : Configuration) where
     interrupted : (x : ℕ) → membershipAt n q l p i .mode ≡ Non-prim → membershipAt n q l p i .transitional ≡ some x → Phase
 
 module _ {n q : ℕ} {l : Run} (A : Allowed n q l) (i : ℕ) (c : Configuration) where
-  -- A server in com(c) is one of the n.
-  pub server-below : (p : ℕ) → InCom n q l p i c → i < n
-  server-below p a = let h = had n q l p i c a in A .servers (h .took-at) i (comes-of (h .took))
-
   -- The end of an exchange, from the event that brings it.
-  ending : (p : ℕ) → InCom n q l p i c → stage (membershipAt n q l p i .mode) ≤ 1 → (x : Acts n q l p i) (judged : Server) → Ends judged (x .after) (x .by .records) → x .stores ≡ true
-      → judged .me ≡ memoryAt n q l p i .me → judged .votes ≡ memoryAt n q l p i .votes → judged .membership .configuration ≡ membershipAt n q l p i .configuration
+  ending : (p : ℕ) → InCom n q l p i c → stage (membershipAt n q l p i .mode) ≤ 1 → (x : Acts n q l p i) (judged : Server)
+      → Ends judged (x .after) (x .by .records) → x .stores ≡ true → judged .me ≡ memoryAt n q l p i .me → judged .votes ≡ memoryAt n q l p i .votes
+      → judged .membership .configuration ≡ membershipAt n q l p i .configuration
       → allStatesIn judged ≡ true → EndsAt n q l p i c
   ending p a h x j e b m v d s =
       let t = early-regular _ _ _ h (standing n q l i p .memory) in
@@ -139,7 +122,9 @@ module _ {n q : ℕ} {l : Run} (A : Allowed n q l) (i : ℕ) (c : Configuration)
       go : ((quorum (collected (x .judged)) (hereSet (x .judged)) ≡ true) × (x .acts .after .membership .mode ≡ Construct))
           ⊎ ((quorum (collected (x .judged)) (hereSet (x .judged)) ≡ false) × (x .acts .after .membership .mode ≡ Non-prim))
           → Phase n q l (suc p) i c
-      go (inl y) = marked p (omega arith) (record { ending = x; has-quorum = ap (quorum (collected (x .judged))) (sym h) ∙ y .0 }) (omega (arith, ap stage (next ∙ y .1)))
+      go (inl y) =
+          marked p (omega arith) (record { ending = x; has-quorum = ap (quorum (collected (x .judged))) (sym h) ∙ y .0 })
+          (omega (arith, ap stage (next ∙ y .1)))
       go (inr y) = settled p (omega arith) x (ap (quorum (collected (x .judged))) (sym h) ∙ y .0) (next ∙ y .1)
 
   pub phase : (p : ℕ) → InCom n q l p i c → Phase n q l p i c
@@ -165,12 +150,13 @@ module _ {n q : ℕ} {l : Run} (A : Allowed n q l) (i : ℕ) (c : Configuration)
           → MembershipStep n (membershipAt n q l p i) (x .by .event) (membershipAt n q l (suc p) i) → Phase n q l p i c → Phase n q l (suc p) i c
       going p a x k m (exchanging h) =
           moving p a h x
-          (exchange-move (memoryAt n q l p i) h (every-state-in _ (well-formed-at n q i (A .sizes) (server-below p a) l p .memory)) k (x .moves))
+          (exchange-move (memoryAt n q l p i) h (every-state-in _ (well-formed-at n q i (A .sizes) (stay-member A i p c a .0) l p .memory)) k (x .moves))
       going p a x k m (marked r u y h) = marked r (omega arith) y (omega (arith, stage-rises m k))
       going p a x k m (settled r u y w h) = settled r (omega arith) y w (settled-step m k h .0)
       going p a x k m (interrupted t h w) = let z = settled-step m k h in let v = z .1 t w in interrupted (v .0) (z .0) (v .1)
 
-      go : (p : ℕ) → InCom n q l p i c → StayStep A p i → ((d : Configuration) → Takes n q l p i d → ⊥) → (Falls n q l p i → ⊥) → Phase n q l p i c → Phase n q l (suc p) i c
+      go : (p : ℕ) → InCom n q l p i c → StayStep A p i → ((d : Configuration) → Takes n q l p i d → ⊥) → (Falls n q l p i → ⊥) → Phase n q l p i c
+          → Phase n q l (suc p) i c
       go p a (rested o m) g f h = same p m h
       go p a (refused y m) g f h = same p m h
       go p a (took x z m) g f h = going p a x (remaining g f _ z) m h

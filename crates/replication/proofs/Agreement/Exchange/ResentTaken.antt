@@ -1,7 +1,7 @@
 -- No more retransmissions come in a configuration than are planned, so each one that comes is taken.
-use Prim.Native.Nat.{ℕ, zero, suc, _+_, _≤_, _<_}
+use Prim.Native.Nat.{ℕ, suc, _+_, _≤_, _<_}
 use mathlib.Core.Path.{_≡_, refl, sym, ap, subst, _∙_}
-use mathlib.Core.Bool.{Bool, true, false}
+use mathlib.Core.Bool.{true}
 use mathlib.Core.List.{List, List·Memᴰ}
 use mathlib.Core.Option.{Option, none, some}
 use native.Mathlib.Omega.{arith}
@@ -14,13 +14,13 @@ use Rattle.base.specs.Totals.{total, slot-below, slot-same}
 use Rattle.format.specs.Types.{Action, State, retransmission}
 use Rattle.replication.specs.Machine.Types.{Mode, Non-prim, Reg-prim, Trans-prim, Exchange-states, Exchange-actions, Construct, No, Un, Configuration}
 use Rattle.replication.specs.Machine.Rules.{reddening, onRetransmission, ruleFor, fromMember, isIgnored}
-use Rattle.replication.specs.Runs.Run.{Entry, Run, serverOf, placeAt}
-use Rattle.replication.specs.Runs.Happenings.{Message, isMessage, Of, Comes}
+use Rattle.replication.specs.Runs.Run.{Entry, Run, serverOf}
+use Rattle.replication.specs.Runs.Happenings.{isMessage, Of, Comes}
 use Rattle.replication.specs.Runs.Allowed.{Allowed}
 use Rattle.replication.proofs.Runs.AllowedTurns.{memoryAt}
 use Rattle.replication.proofs.Runs.Memberships.{statesIn, everyStateIn, plannedIn}
 use Rattle.replication.proofs.Runs.Stays.{membershipAt}
-use Rattle.replication.proofs.Agreement.Exchange.Stages.{stage, modeNumber, other-mode, InCom}
+use Rattle.replication.proofs.Agreement.Exchange.Stages.{stage, InCom}
 use Rattle.replication.proofs.Agreement.Exchange.Collected.{states-in}
 use Rattle.replication.proofs.Agreement.Exchange.SameStates.{complete-same}
 use Rattle.replication.proofs.Agreement.Exchange.Messages.{same-message}
@@ -78,7 +78,8 @@ module _ {n q : ℕ} {l : Run} (A : Allowed n q l) where
           arith,
           y .number,
           shares-planned n (statesIn (membershipAt n q l p i)),
-          slot-below n (share n (statesIn (membershipAt n q l p i))) (y .sender) (A .source x .number) (A .servers (A .source x .sending) (y .sender) (m .sends .mine)) (y .below-share),
+          slot-below n (share n (statesIn (membershipAt n q l p i))) (y .sender) (A .source x .number)
+              (A .servers (A .source x .sending) (y .sender) (m .sends .mine)) (y .below-share),
         )
 
     -- Retransmissions with one number are one.
@@ -86,7 +87,10 @@ module _ {n q : ℕ} {l : Run} (A : Allowed n q l) where
     number-once x y h k e =
         let u = resent x h in
         let w = resent y k in
-        let z = slot-same (share n planOf) (u .sender) (A .source x .number) (w .sender) (A .source y .number) (u .below-share) (w .below-share) (sym (u .number) ∙ e ∙ w .number) in
+        let z =
+        slot-same (share n planOf) (u .sender) (A .source x .number) (w .sender) (A .source y .number) (u .below-share) (w .below-share)
+        (sym (u .number) ∙ e ∙ w .number)
+        in
         let f = one-place A (subst (λ j. PartMessage A (A .source x) j c) (z .0) (u .message)) (w .message) in
         messages-differ A i c t x y h k (same-message f (z .1))
 
@@ -119,7 +123,8 @@ module _ {n q : ℕ} {l : Run} (A : Allowed n q l) where
       where
         go : (m : Mode) → membershipAt n q l p i .mode ≡ m → TakenAt n q l p i (retransmission k x a)
         go Non-prim e =
-            taken-by-rule A p i come refl (reddening a) (ap (λ m. onRetransmission m x a) e) (resent-possible A p i k x a come c here) (member-here A p i c here k (message .member))
+            taken-by-rule A p i come refl (reddening a) (ap (λ m. onRetransmission m x a) e) (resent-possible A p i k x a come c here)
+            (member-here A p i c here k (message .member))
         go Reg-prim e = not-past Reg-prim e (omega arith)
         go Trans-prim e = not-past Trans-prim e (omega arith)
         go Exchange-states e = absurd (resent-late A p i k x a come c here e)

@@ -1,22 +1,22 @@
 -- Retransmissions in one configuration: each server sends its part of the plan once, with all States in; in Exchange_actions those that come are taken.
-use Prim.Native.Nat.{ℕ, zero, suc, _+_, _≤_, _<_}
+use Prim.Native.Nat.{ℕ, suc, _≤_, _<_}
 use mathlib.Core.Path.{_≡_, refl, sym, ap, subst, _∙_}
 use mathlib.Core.Bool.{Bool, true, false, not}
-use mathlib.Core.List.{List, [], _∷_}
+use mathlib.Core.List.{List}
 use mathlib.Core.Option.{Option, none, some}
 use native.Mathlib.Omega.{arith}
 use lib.ListN.{length}
-use Rattle.base.specs.Tests.{_and_, _or_, _=?_, _≤?_, not-both, eq-holds, eq-yes, le-yes, and-holds, both-yes, Known, holds, fails, known}
-use Rattle.base.specs.AtLaws.{none-some, some-same, at-low}
+use Rattle.base.specs.Tests.{_and_, _or_, _=?_, not-both, eq-holds, eq-yes, le-yes, and-holds, both-yes}
+use Rattle.base.specs.AtLaws.{at-low}
 use Rattle.base.specs.Lists.{at}
 use Rattle.base.specs.Sets.{inSet}
 use Rattle.format.specs.Types.{Action, Record, action, retransmission, state, cpc, regular, transitional, request, recovery, Reading, says, refused}
-use Rattle.replication.specs.Machine.Types.{Mode, Exchange-states, Exchange-actions, Configuration, Server}
+use Rattle.replication.specs.Machine.Types.{Exchange-states, Exchange-actions, Configuration, Server}
 use Rattle.replication.specs.Machine.Plan.{ownPart}
 use Rattle.replication.specs.Machine.Rules.{exchanging, onRetransmission, ruleFor, numberedOwn, possible, fromMember, isIgnored}
-use Rattle.replication.specs.Machine.Step.{theSet, hereSet, collected, allStatesIn}
+use Rattle.replication.specs.Machine.Step.{hereSet, collected, allStatesIn}
 use Rattle.replication.specs.Machine.WellFormedSent.{senderOf}
-use Rattle.replication.specs.Runs.Run.{Entry, event, crash, Run, Place, placeAt, heardAt}
+use Rattle.replication.specs.Runs.Run.{Entry, event, crash, Run, placeAt, heardAt}
 use Rattle.replication.specs.Runs.Happenings.{Message, isMessage, Comes, Sends}
 use Rattle.replication.specs.Runs.Allowed.{Allowed}
 use Rattle.replication.specs.Runs.DeliveryFacts.{within}

@@ -1,10 +1,7 @@
 -- All who end the exchange in one configuration take the same primary, attempt and yellow list, decide alike, and with a quorum make the same mark.
 use Prim.Native.Nat.{ℕ, suc, _+_}
 use mathlib.Core.Path.{_≡_, sym, ap, _∙_}
-use mathlib.Core.Bool.{true, false}
-use mathlib.Core.List.{List}
 use Rattle.base.specs.Tests.{not-both}
-use Rattle.format.specs.Types.{State}
 use Rattle.replication.specs.Machine.Types.{Configuration}
 use Rattle.replication.specs.Machine.Exchange.{takenPrimary, takenYellow, takenAttempt, quorum, takenVotes, attempted}
 use Rattle.replication.specs.Machine.Step.{collected}
@@ -48,7 +45,8 @@ module _ {n q : ℕ} {l : Run} (A : Allowed n q l) {c : Configuration} where
       f : quorum (collected (x .judged)) (c .set) ≡ quorum (collected (y .judged)) (c .set)
       f = ap (λ z. quorum z (c .set)) e
 
-      attempts : Decides n q l p i c (collected (x .judged)) → Decides n q l r j c (collected (y .judged)) → votesAt n q l (suc p) i .attempt ≡ votesAt n q l (suc r) j .attempt
+      attempts : Decides n q l p i c (collected (x .judged)) → Decides n q l r j c (collected (y .judged))
+          → votesAt n q l (suc p) i .attempt ≡ votesAt n q l (suc r) j .attempt
       attempts (with-quorum h v m d) (with-quorum k w o u) = ap (λ z. z .attempt) v ∙ ap (λ z. takenAttempt z + 1) e ∙ sym (ap (λ z. z .attempt) w)
       attempts (with-quorum h v m d) (without-quorum k w o) = not-both (sym k ∙ sym f ∙ h)
       attempts (without-quorum h v m) (with-quorum k w o u) = not-both (sym h ∙ f ∙ k)

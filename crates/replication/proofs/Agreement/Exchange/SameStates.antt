@@ -1,26 +1,23 @@
 -- Whoever ends an exchange has the State that each member sent on taking the configuration, and no other; so all have the same.
-use Prim.Native.Nat.{ℕ, zero, suc, _≤_, _<_}
+use Prim.Native.Nat.{ℕ, suc, _<_}
 use mathlib.Core.Path.{_≡_, refl, sym, ap, subst, _∙_}
-use mathlib.Core.Bool.{Bool, true, false}
-use mathlib.Core.List.{List}
+use mathlib.Core.Bool.{true, false}
 use mathlib.Core.Option.{Option, none, some}
 use native.Mathlib.Omega.{arith}
-use native.Mathlib.Decide.{decLt}
-use lib.ListN.{length, getD}
+use lib.ListN.{getD}
 use lib.Seq.{ext-getD}
 use Rattle.base.specs.Tests.{not-both, Known, holds, fails, known}
-use Rattle.base.specs.AtLaws.{some-same}
 use Rattle.base.specs.Lists.{present}
 use Rattle.base.specs.Sets.{inSet}
 use Rattle.format.specs.Types.{State}
-use Rattle.replication.specs.Machine.Types.{Configuration, Membership, Server}
-use Rattle.replication.specs.Machine.Step.{ownState, theSet, hereSet, allStatesIn, collected}
-use Rattle.replication.specs.Runs.Run.{Run, placeAt}
+use Rattle.replication.specs.Machine.Types.{Configuration}
+use Rattle.replication.specs.Machine.Step.{ownState, hereSet, allStatesIn, collected}
+use Rattle.replication.specs.Runs.Run.{Run}
 use Rattle.replication.specs.Runs.Allowed.{Allowed}
 use Rattle.replication.proofs.Runs.Deliveries.{sent-before}
 use Rattle.replication.proofs.Runs.AllowedTurns.{memoryAt}
 use Rattle.replication.proofs.Runs.Coupling.{coupled}
-use Rattle.replication.proofs.Runs.Memberships.{everyStateIn, statesIn}
+use Rattle.replication.proofs.Runs.Memberships.{everyStateIn}
 use Rattle.replication.proofs.Runs.Stays.{membershipAt}
 use Rattle.replication.proofs.Runs.StateOrigins.{states-came}
 use Rattle.replication.proofs.Agreement.Terms.{EndsAt, SentState}
@@ -48,7 +45,8 @@ module _ {n q : ℕ} {l : Run} (A : Allowed n q l) where
       u .says ∙ ap (λ z. ownState c (memoryAt n q l (suc z) k)) (A .once (u .at) (v .at) k c (u .took) (v .took)) ∙ sym (v .says)
 
   -- A server collects only members' States.
-  pub collected-only : (p i : ℕ) (c : Configuration) → InCom n q l p i c → (k : ℕ) → inSet k (c .set) ≡ false → getD (membershipAt n q l p i .states) k none ≡ none
+  pub collected-only : (p i : ℕ) (c : Configuration) → InCom n q l p i c → (k : ℕ) → inSet k (c .set) ≡ false
+      → getD (membershipAt n q l p i .states) k none ≡ none
   collected-only p i c here k h = go (getD (membershipAt n q l p i .states) k none) refl
     where
       go : (x : Option State) → getD (membershipAt n q l p i .states) k none ≡ x → x ≡ none
@@ -59,7 +57,8 @@ module _ {n q : ℕ} {l : Run} (A : Allowed n q l) where
   pub complete-same : (p r i j : ℕ) (c : Configuration) → InCom n q l p i c → InCom n q l r j c → everyStateIn (membershipAt n q l p i) ≡ true
       → everyStateIn (membershipAt n q l r j) ≡ true → membershipAt n q l p i .states ≡ membershipAt n q l r j .states
   complete-same p r i j c a b e f =
-      ext-getD none _ _ (states-length A i c p a ∙ sym (states-length A j c r b)) (λ k h. go k (omega (arith, states-length A i c p a)) (known (inSet k (c .set))))
+      ext-getD none _ _ (states-length A i c p a ∙ sym (states-length A j c r b))
+      (λ k h. go k (omega (arith, states-length A i c p a)) (known (inSet k (c .set))))
     where
       go : (k : ℕ) → k < n → Known (inSet k (c .set)) → getD (membershipAt n q l p i .states) k none ≡ getD (membershipAt n q l r j .states) k none
       go k h (holds m) =

@@ -1,16 +1,15 @@
 -- The plan shared out: each member's part is within its share, and the shares together are what is planned.
-use Prim.Native.Nat.{ℕ, zero, suc, _+_, _-_, _≤_, _<_}
-use mathlib.Core.Path.{_≡_, refl, sym, ap, subst, _∙_}
+use Prim.Native.Nat.{ℕ, _+_, _-_, _≤_}
 use mathlib.Core.Bool.{Bool, true, false}
-use mathlib.Core.List.{List, [], _∷_, _++_, map}
+use mathlib.Core.List.{List, [], _++_}
 use mathlib.Core.Option.{Option, none, some}
 use native.Mathlib.Omega.{arith}
 use lib.ListN.{length, length-append}
-use Rattle.base.specs.Tests.{_=?_, pick}
-use Rattle.base.specs.Lists.{below, sum, gather, gatherAll, at}
+use Rattle.base.specs.Tests.{pick}
+use Rattle.base.specs.Lists.{below, gatherAll, at}
 use Rattle.base.specs.ListLaws.{gather-length, gather-all-length}
 use Rattle.base.specs.Totals.{total, total-sum, total-add, total-most, total-none, total-swap, total-one}
-use Rattle.format.specs.Types.{State, Record}
+use Rattle.format.specs.Types.{State}
 use Rattle.replication.specs.Machine.Types.{Log}
 use Rattle.replication.specs.Machine.Colours.{find}
 use Rattle.replication.specs.Machine.Plan.{resender, missing, cutIn, greenIn, planned, isMe, resent, resendGreen, resendRed, ownPart}
@@ -31,7 +30,9 @@ picked-length false rs m h = omega arith
 module _ (n k : ℕ) (g : Log) (xs : List State) where
   red-length : (c : ℕ) → length (resendRed k g xs c) ≤ shareBy (cutIn c) xs k
   unfolding resendRed shareBy
-  red-length c = picked-length (isMe k (resender (cutIn c) xs)) _ _ (gather-length (λ i. resent k 0 (find (record { creator = c; index = i }) (g .green ++ g .red))) (missing (cutIn c) xs))
+  red-length c =
+      picked-length (isMe k (resender (cutIn c) xs)) _ _
+      (gather-length (λ i. resent k 0 (find (record { creator = c; index = i }) (g .green ++ g .red))) (missing (cutIn c) xs))
 
   green-length : length (resendGreen k g xs) ≤ shareBy greenIn xs k
   unfolding resendGreen shareBy

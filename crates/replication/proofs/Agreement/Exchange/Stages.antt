@@ -1,8 +1,8 @@
 -- A server's way through the exchange of one configuration: Exchange_states, Exchange_actions, then past the exchange, never back.
-use Prim.Native.Nat.{ℕ, zero, suc, _≤_, _<_}
+use Prim.Native.Nat.{ℕ, suc, _≤_, _<_}
 use mathlib.Core.Path.{_≡_, refl, sym, ap, subst, _∙_}
 use mathlib.Core.Bool.{Bool, true, false}
-use mathlib.Core.Option.{Option, none, some}
+use mathlib.Core.Option.{some}
 use native.Mathlib.Omega.{arith}
 use native.Mathlib.Decide.{decLt}
 use Rattle.base.specs.Tests.{not-both}
@@ -12,14 +12,14 @@ use Rattle.format.specs.Types.{Record, action, retransmission, state, cpc, regu
 use Rattle.replication.specs.Machine.Types.{Mode, Non-prim, Reg-prim, Trans-prim, Exchange-states, Exchange-actions, Construct, No, Un, Configuration, Membership}
 use Rattle.replication.specs.Laws.Transitions as L
 use Rattle.replication.specs.Laws.Transitions.{Leads}
-use Rattle.replication.specs.Runs.Run.{Run, Place, nowhere, placeAt}
+use Rattle.replication.specs.Runs.Run.{Run, nowhere, placeAt}
 use Rattle.replication.specs.Runs.Happenings.{Comes, Falls, by-recovery, Takes}
 use Rattle.replication.specs.Runs.Allowed.{Allowed}
 use Rattle.replication.proofs.Runs.Shifts as S
-use Rattle.replication.proofs.Runs.Entries.{Had, had}
+use Rattle.replication.proofs.Runs.Entries.{had}
 use Rattle.replication.proofs.Runs.Memberships as M
-use Rattle.replication.proofs.Runs.Memberships.{enteredIn, Completes, MembershipStep}
-use Rattle.replication.proofs.Runs.Stays.{membershipAt, in-stay, entering-membership, StayStep, rested, refused, took, stay-step}
+use Rattle.replication.proofs.Runs.Memberships.{Completes, MembershipStep}
+use Rattle.replication.proofs.Runs.Stays.{membershipAt, entering-membership, StayStep, rested, refused, took, stay-step}
 
 -- The record ends no stay in a configuration: it is no regular configuration and no recovery.
 unfoldable pub remains : Record → Bool
@@ -148,12 +148,6 @@ module _ {n q : ℕ} {l : Run} (A : Allowed n q l) (i : ℕ) (c : Configuration)
       let s = A .once (h .took-at) (k .took-at) i c (h .took) (k .took) in
       chain (λ m o. P m → P o) (λ m u. u) (λ m o w u v x. v (u x)) (λ x. membershipAt n q l x i) p r g
       (λ x u v. kept-at P f x (k .steady x (omega (arith, h .earlier, s)) v) (λ d. k .alone x d (omega (arith, h .earlier, s)) v))
-
-  -- What holds on entering c, and each event of a stay keeps, holds throughout the stay.
-  pub throughout : (P : Membership → Type 0) → ((m : Membership) → P (enteredIn n c m)) → KeptInStay n P
-      → (p : ℕ) → InCom n q l p i c → P (membershipAt n q l p i)
-  throughout P e f =
-      in-stay n q l i c (λ p. P (membershipAt n q l p i)) (λ t h. subst P (sym (entering-membership A t i c h)) (e (membershipAt n q l t i))) (λ x a b g h. kept-at P f x g h)
 
   -- The stage never falls.
   pub stage-onward : (p r : ℕ) → InCom n q l p i c → InCom n q l r i c → p ≤ r

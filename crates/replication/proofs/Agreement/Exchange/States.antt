@@ -1,34 +1,29 @@
 -- States in one configuration: each member sends one, on taking it; those that come are taken; all who have them all have the same.
-use Prim.Native.Nat.{ℕ, zero, suc, _≤_, _<_}
+use Prim.Native.Nat.{ℕ, suc, _≤_, _<_}
 use mathlib.Core.Path.{_≡_, refl, sym, ap, subst, _∙_}
-use mathlib.Core.Bool.{Bool, true, false, not}
-use mathlib.Core.List.{List, [], _∷_}
-use mathlib.Core.Option.{Option, none, some}
+use mathlib.Core.Bool.{true, false, not}
+use mathlib.Core.Option.{none, some}
 use native.Mathlib.Omega.{arith}
-use lib.ListN.{length, getD}
+use lib.ListN.{getD}
 use lib.Seq.{getD-set-same}
-use Rattle.base.specs.Tests.{_and_, _or_, not-both, both-yes, Known, holds, fails, known}
-use Rattle.base.specs.AtLaws.{none-some, some-same}
+use Rattle.base.specs.Tests.{_or_, not-both, both-yes, Known, holds, fails, known}
 use Rattle.base.specs.Lists.{isThere}
 use Rattle.base.specs.ListLaws.{there}
 use Rattle.base.specs.Sets.{inSet}
-use Rattle.format.specs.Types.{State, Record, state}
-use Rattle.replication.specs.Machine.Types.{Mode, Non-prim, Reg-prim, Trans-prim, Exchange-states, Exchange-actions, Construct, No, Un, Configuration, Membership, Server}
+use Rattle.format.specs.Types.{State, state}
+use Rattle.replication.specs.Machine.Types.{Mode, Non-prim, Reg-prim, Trans-prim, Exchange-states, Exchange-actions, Construct, No, Un, Configuration}
 use Rattle.replication.specs.Machine.Rules.{ignoring, collectingState, onState, ruleFor, possible, stateIn, fromMember, isIgnored}
 use Rattle.replication.specs.Machine.Step.{ownState}
 use Rattle.replication.specs.Machine.WellFormedSent.{senderOf}
-use Rattle.replication.specs.Runs.Run.{Run, placeAt}
-use Rattle.replication.specs.Runs.Happenings.{Message, isMessage, Comes, Sends, Takes}
+use Rattle.replication.specs.Runs.Run.{Run}
+use Rattle.replication.specs.Runs.Happenings.{Message, isMessage, Comes, Sends}
 use Rattle.replication.specs.Runs.Allowed.{Allowed}
 use Rattle.replication.proofs.Runs.Deliveries.{Delivery}
-use Rattle.replication.proofs.Runs.Numbers.{numbers}
 use Rattle.replication.proofs.Runs.Order.{delivered-once}
-use Rattle.replication.proofs.Runs.AllowedTurns.{memoryAt, Acts}
 use Rattle.replication.proofs.Runs.StateOrigins.{Entered, state-entered, states-came}
 use Rattle.replication.proofs.Runs.Memberships.{MembershipStep}
 use Rattle.replication.proofs.Runs.Stays.{membershipAt, acts-membership}
 use Rattle.replication.proofs.Agreement.Exchange.Stages.{stage, first-stage, modeNumber, InCom, between, onward, stage-onward}
-use Rattle.replication.proofs.Agreement.Exchange.Phases.{server-below}
 use Rattle.replication.proofs.Agreement.Exchange.Collected.{complete-in, states-in, states-length, state-adds, state-stays}
 use Rattle.replication.proofs.Agreement.Exchange.Messages.{same-message, sent-in}
 use Rattle.replication.proofs.Agreement.Exchange.Answers.{coming, TakenAt, taken-by-rule, member-here, is-here}
@@ -104,7 +99,8 @@ module _ {n q : ℕ} {l : Run} (A : Allowed n q l) where
         go Trans-prim e = not-past Trans-prim e (omega arith) (λ z. omega arith)
         go Exchange-states e =
             taken-by-rule A p i come refl (collectingState x) (ap (λ m. onState m x) e) refl
-            (both-yes _ _ (member-here A p i c here (x .sender) (message .member)) (both-yes _ _ (is-here A p i c here (x .configuration) names-here) (ap not not-in)))
+            (both-yes _ _ (member-here A p i c here (x .sender) (message .member))
+            (both-yes _ _ (is-here A p i c here (x .configuration) names-here) (ap not not-in)))
         go Exchange-actions e = not-past Exchange-actions e (omega arith) (λ z. omega arith)
         go Construct e = not-past Construct e (omega arith) (λ z. omega arith)
         go No e = not-past No e (omega arith) (λ z. omega arith)
@@ -118,7 +114,9 @@ module _ {n q : ℕ} {l : Run} (A : Allowed n q l) where
       onward A i c (λ m. isThere (getD (m .states) (x .sender) none) ≡ true) (state-stays n (x .sender)) (suc y) p
       (between A i c there-then here (omega arith) h) here h
       (ap (λ z. isThere (getD z (x .sender) none)) (state-adds step collecting)
-      ∙ ap isThere (getD-set-same (membershipAt n q l y i .states) (x .sender) (some x) none (omega (arith, states-length A i c y there-then, sender-below y i x come c there-then))))
+      ∙ ap isThere
+      (getD-set-same (membershipAt n q l y i .states) (x .sender) (some x) none
+      (omega (arith, states-length A i c y there-then, sender-below y i x come c there-then))))
     where
       collecting : membershipAt n q l y i .mode ≡ Exchange-states
       collecting = first-stage _ (omega (arith, stage-onward A i c y p there-then here (omega arith), ap stage e))

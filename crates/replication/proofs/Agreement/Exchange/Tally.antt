@@ -1,29 +1,28 @@
 -- How many retransmissions have come to a server in its stay in a configuration: in Exchange_actions it has counted all of them, and an exchange that
 -- has ended had as many as planned.
-use Prim.Native.Nat.{ℕ, zero, suc, _+_, _≤_, _<_}
+use Prim.Native.Nat.{ℕ, suc, _+_, _≤_, _<_}
 use mathlib.Core.Path.{_≡_, refl, sym, ap, subst, _∙_}
-use mathlib.Core.Bool.{Bool, true, false}
-use mathlib.Core.List.{List, [], _∷_}
-use mathlib.Core.Option.{Option, none, some}
+use mathlib.Core.Bool.{true, false}
+use mathlib.Core.List.{List}
+use mathlib.Core.Option.{Option, some}
 use native.Mathlib.Omega.{arith}
 use lib.ListN.{length}
-use Rattle.base.specs.Tests.{_=?_, _≤?_, not-both, eq-holds, le-holds, Known, holds, fails, known}
-use Rattle.base.specs.AtLaws.{none-some}
+use Rattle.base.specs.Tests.{not-both, eq-holds, le-holds, Known, holds, fails, known}
 use Rattle.base.specs.Lists.{present}
 use Rattle.base.specs.Passing.{passing, passing-more, passing-same, passing-none, passing-longer}
-use Rattle.format.specs.Types.{Action, State, Record, action, retransmission, state, cpc, regular, transitional, request, recovery, says}
-use Rattle.replication.specs.Machine.Types.{Mode, Non-prim, Reg-prim, Trans-prim, Exchange-states, Exchange-actions, Construct, No, Un, Configuration, Membership}
+use Rattle.format.specs.Types.{State, Record, transitional, says}
+use Rattle.replication.specs.Machine.Types.{Mode, Non-prim, Reg-prim, Exchange-states, Exchange-actions, Construct, No, Un, Configuration, Membership}
 use Rattle.replication.specs.Machine.Plan.{planned}
 use Rattle.replication.specs.Laws.Transitions as L
 use Rattle.replication.specs.Laws.Transitions.{Leads}
-use Rattle.replication.specs.Runs.Run.{Run, placeAt}
-use Rattle.replication.specs.Runs.Happenings.{Of, Comes, Falls, Takes}
+use Rattle.replication.specs.Runs.Run.{Run}
+use Rattle.replication.specs.Runs.Happenings.{Comes, Falls, Takes}
 use Rattle.replication.specs.Runs.Allowed.{Allowed}
 use Rattle.replication.proofs.Runs.Shifts.{says-same, comes-once}
 use Rattle.replication.proofs.Runs.Entries.{had}
-use Rattle.replication.proofs.Runs.AllowedTurns.{Acts, Refuses}
+use Rattle.replication.proofs.Runs.AllowedTurns.{Acts}
 use Rattle.replication.proofs.Runs.Memberships as M
-use Rattle.replication.proofs.Runs.Memberships.{TakesActions, plannedIn, Completes, MembershipStep}
+use Rattle.replication.proofs.Runs.Memberships.{plannedIn, Completes, MembershipStep}
 use Rattle.replication.proofs.Runs.Stays.{membershipAt, in-stay, entering-membership, acts-membership, StayStep, rested, refused, took, stay-step}
 use Rattle.replication.proofs.Agreement.Exchange.Stages.{remains, stage, modeNumber, other-mode, InCom, remaining}
 use Rattle.replication.proofs.Agreement.Exchange.Retransmissions.{saysResent, says-resent, resentAt, resent-yes, resent-holds, resent-late, resent-taken}
@@ -61,7 +60,8 @@ module _ {n : ℕ} {u : Option ℕ} {xs : List (Option State)} {come : ℕ} wher
   as-before e (interrupted x h k) = interrupted x h k
 
   -- Past the exchange more may come.
-  pub past : {m o : Mode} {u′ : Option ℕ} {come′ t t′ : ℕ} (x : Mode) → m ≡ x → 3 ≤ stage x → 2 ≤ stage o → t ≤ t′ → Tally n m u xs come t → Tally n o u′ xs come′ t′
+  pub past : {m o : Mode} {u′ : Option ℕ} {come′ t t′ : ℕ} (x : Mode) → m ≡ x → 3 ≤ stage x → 2 ≤ stage o → t ≤ t′
+      → Tally n m u xs come t → Tally n o u′ xs come′ t′
   unfolding stage
   past x e h k g (none-yet f s) = absurd (omega (arith, ap stage e, ap stage f))
   past x e h k g (counted f s) = absurd (omega (arith, ap stage e, ap stage f))
