@@ -80,11 +80,11 @@ module _ {n q : ℕ} {l : Run} (A : Allowed n q l) where
       ap (λ d. inside (theSet d) (membershipAt n q l p i .cpcs)) h
       ∙ members-inside n (c .set) (membershipAt n q l p i .cpcs) (subst (λ z. c .set < 2 ^ z) (numbers n q i l p .memory .servers) w) (λ k a m. f k m)
 
-  -- Who has every CPC when it sends, has told all its hearers: none of them still lacks one.
-  pub no-cpc-lacks : {m : Message} {k p i : ℕ} {c : Configuration} → Sends n q l k m c → InCom n q l (suc (m .sending)) k c
+  -- If the sender of a message had every CPC, whoever delivers it outside Non_prim has every CPC in.
+  pub every-cpc-delivered : {m : Message} {k p i : ℕ} {c : Configuration} → Sends n q l k m c → InCom n q l (suc (m .sending)) k c
       → Installable n (membershipAt n q l (suc (m .sending)) k) → Delivery A p i m → InCom n q l p i c → (membershipAt n q l p i .mode ≡ Non-prim → ⊥)
       → everyCpcIn (membershipAt n q l p i) ≡ true
-  no-cpc-lacks {m} {k} {p} {i} {c} s a h d b f =
+  every-cpc-delivered {m} {k} {p} {i} {c} s a h d b f =
       every-cpc-in p i c b
       (λ j u.
       let w = every-cpc-came A (suc (m .sending)) k c a h j u in
@@ -126,7 +126,7 @@ module _ {n q : ℕ} {l : Run} (A : Allowed n q l) where
         go (inl e) =
             one-decision p (suc (A .source p .sending)) i (a .id .creator) c here (message .after) (x .ended .all-in) (x .agreed) (sender-settled message e)
         go (inr e) =
-            not-both (sym (x .not-all-cpcs) ∙ no-cpc-lacks (message .sends) (message .after) (sender-installed message e) (coming A come refl) here f)
+            not-both (sym (x .not-all-cpcs) ∙ every-cpc-delivered (message .sends) (message .after) (sender-installed message e) (coming A come refl) here f)
 
     past : 2 ≤ stage (membershipAt n q l p i .mode)
     unfolding isMessage stage

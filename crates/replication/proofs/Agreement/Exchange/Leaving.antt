@@ -28,12 +28,12 @@ use Rattle.replication.proofs.Agreement.Exchange.ActionsTaken.{SendsAct
 use Rattle.replication.proofs.Agreement.Exchange.Installs.{Installing, on-cpc, on-action, installs-on, installs-here, installs-with-all}
 
 module _ {n q : ℕ} {l : Run} (A : Allowed n q l) where
-  -- The server j, at v in regular c, has every CPC.
+  -- A server in regular c has every CPC.
   pub record HasEveryCpc (c : Configuration) : Type 0 where
-    pub v : ℕ
-    pub j : ℕ
-    pub in-regular : placeAt n q l j v ≡ inRegularOf c
-    pub with-all : Installable n (membershipAt n q l v j)
+    pub place : ℕ
+    pub server : ℕ
+    pub in-regular : placeAt n q l server place ≡ inRegularOf c
+    pub with-all : Installable n (membershipAt n q l place server)
 
   -- If anyone installs in c, someone has every CPC in regular c: one who installs later does so by an action of c.
   pub regular-installer : {p i : ℕ} {c : Configuration} → InstallsAt n q l p i c → HasEveryCpc c
@@ -54,13 +54,13 @@ module _ {n q : ℕ} {l : Run} (A : Allowed n q l) where
               absurd
               (one-decision A p (suc (A .source p .sending)) i (a .id .creator) c (x .here) (m .after) (late .ended .all-in) (late .agreed)
               (sender-settled A m f))
-          at (inr f) = record { v = suc (A .source p .sending); j = a .id .creator; in-regular = m .in-regular; with-all = sender-installed A m f }
+          at (inr f) = record { place = suc (A .source p .sending); server = a .id .creator; in-regular = m .in-regular; with-all = sender-installed A m f }
 
       go : (r : Record) → x .acts .by .event ≡ r → Installing (memoryAt n q l p i) (memoryAt n q l (suc p) i) r → HasEveryCpc c
       go r e (on-cpc k d f g) =
           let s = standing-in (memoryAt n q l (suc p) i) Reg-prim g (standing n q l i (suc p) .memory) in
           let t = sym (stay-transitional A (suc p) i c here) ∙ s .none-after in
-          record { v = suc p; j = i; in-regular = λ z. record { regular = here z; transitional = t z }; with-all = installs-with-all A x }
+          record { place = suc p; server = i; in-regular = λ z. record { regular = here z; transitional = t z }; with-all = installs-with-all A x }
       go r e (on-action a f g) =
           let y : Comes n q l p i (action a) =
           record { bytes = x .acts .bytes; sent = x .acts .sent; here = x .acts .here; heard = x .acts .heard ∙ ap says e }
@@ -72,9 +72,9 @@ module _ {n q : ℕ} {l : Run} (A : Allowed n q l) where
       → (membershipAt n q l r k .mode ≡ Non-prim → ⊥) → (i : ℕ) → inSet i (c .set) ≡ true → inSet i (membershipAt n q l r k .cpcs) ≡ true
   leaves-with-all {c} x r k d here t f i m =
       let h = had n q l r k c here in
-      let w = every-cpc-came A (x .v) (x .j) c (ap (λ z. z .regular) (x .in-regular)) (x .with-all) i m in
+      let w = every-cpc-came A (x .place) (x .server) c (ap (λ z. z .regular) (x .in-regular)) (x .with-all) i m in
       let left : Left n q l k c = record { p = h .took-at; r = r; next = d; took = h .took; took-next = t; order = h .earlier; steady = h .steady } in
-      let s = still-regular A (x .j) (w .1 .place) (x .v) c (w .1 .here) (x .in-regular) (omega (arith, w .1 .earlier)) in
+      let s = still-regular A (x .server) (w .1 .place) (x .place) c (w .1 .here) (x .in-regular) (omega (arith, w .1 .earlier)) in
       let y = left-delivered A (w .1 .delivery) s left in
       let e = some-same (sym (delivery-says A (y .1)) ∙ delivery-says A (w .1 .delivery)) ∙ w .1 .what in
       cpcs-recorded A r k c here f (y .0) i (w .0) (y .3) (subst (λ z. Comes n q l (y .0) k z) e (y .1 .comes)) (y .4)

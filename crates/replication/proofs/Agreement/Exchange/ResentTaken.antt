@@ -41,21 +41,21 @@ owner x = ap ownerOf (x .here) ∙ x .its
 
 module _ {n q : ℕ} {l : Run} (A : Allowed n q l) where
   module _ (p i : ℕ) (c : Configuration) (here : InCom n q l p i c) (complete : everyStateIn (membershipAt n q l p i) ≡ true) (t : ℕ) where
-    planOf : List State
-    planOf = statesIn (membershipAt n q l p i)
+    statesHere : List State
+    statesHere = statesIn (membershipAt n q l p i)
 
     -- The number, among all that are planned, of the retransmission that comes at x.
-    numbered : ℕ → ℕ
-    numbered x = total (ownerOf (at l (A .source x .sending))) (share n planOf) + A .source x .number
+    planNumber : ℕ → ℕ
+    planNumber x = total (ownerOf (at l (A .source x .sending))) (share n statesHere) + A .source x .number
 
     record Resent (x : ℕ) : Type 0 where
       sender : ℕ
       message : PartMessage A (A .source x) sender c
-      number : numbered x ≡ total sender (share n planOf) + A .source x .number
-      below-share : A .source x .number < share n planOf sender
+      number : planNumber x ≡ total sender (share n statesHere) + A .source x .number
+      below-share : A .source x .number < share n statesHere sender
 
     resent : (x : ℕ) → List·Memᴰ x (passing (resentAt n q l c i) t) → Resent x
-    unfolding isMessage numbered planOf
+    unfolding isMessage planNumber statesHere
     resent x h =
         let u = resent-holds n q l c i x (passing-in (resentAt n q l c i) t x h .1) in
         let m = part-message A (coming A (u .3) refl) refl (u .4) in
@@ -69,8 +69,8 @@ module _ {n q : ℕ} {l : Run} (A : Allowed n q l) where
           below-share = subst (λ z. A .source x .number < share n (present z) (u .0)) e (omega (arith, w, m .put .below-length));
         }
 
-    number-below : (x : ℕ) → List·Memᴰ x (passing (resentAt n q l c i) t) → numbered x < plannedIn n (membershipAt n q l p i)
-    unfolding planOf
+    number-below : (x : ℕ) → List·Memᴰ x (passing (resentAt n q l c i) t) → planNumber x < plannedIn n (membershipAt n q l p i)
+    unfolding statesHere
     number-below x h =
         let y = resent x h in
         let m = y .message in
@@ -83,12 +83,12 @@ module _ {n q : ℕ} {l : Run} (A : Allowed n q l) where
         )
 
     -- Retransmissions with one number are one.
-    number-once : (x y : ℕ) → List·Memᴰ x (passing (resentAt n q l c i) t) → List·Memᴰ y (passing (resentAt n q l c i) t) → numbered x ≡ numbered y → x ≡ y
+    number-once : (x y : ℕ) → List·Memᴰ x (passing (resentAt n q l c i) t) → List·Memᴰ y (passing (resentAt n q l c i) t) → planNumber x ≡ planNumber y → x ≡ y
     number-once x y h k e =
         let u = resent x h in
         let w = resent y k in
         let z =
-        slot-same (share n planOf) (u .sender) (A .source x .number) (w .sender) (A .source y .number) (u .below-share) (w .below-share)
+        slot-same (share n statesHere) (u .sender) (A .source x .number) (w .sender) (A .source y .number) (u .below-share) (w .below-share)
         (sym (u .number) ∙ e ∙ w .number)
         in
         let f = one-place A (subst (λ j. PartMessage A (A .source x) j c) (z .0) (u .message)) (w .message) in
@@ -96,7 +96,7 @@ module _ {n q : ℕ} {l : Run} (A : Allowed n q l) where
 
     -- However long one waits, no more come than are planned.
     pub most-planned : resentCount A i c t ≤ plannedIn n (membershipAt n q l p i)
-    most-planned = numbered-length numbered _ (passing (resentAt n q l c i) t) number-once number-below (passing-distinct (resentAt n q l c i) t)
+    most-planned = numbered-length planNumber _ (passing (resentAt n q l c i) t) number-once number-below (passing-distinct (resentAt n q l c i) t)
 
   module _ (p i k x : ℕ) (a : Action) (come : Comes n q l p i (retransmission k x a)) (c : Configuration) (here : InCom n q l p i c) where
     -- After the end of the exchange none comes.
