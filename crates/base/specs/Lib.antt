@@ -19,6 +19,9 @@ pub mod Sections
 pub mod Counts
 pub mod SetLaws
 pub mod Quorums
+pub mod Quantifiers
+pub mod QuantifierLaws
+pub mod Deciding
 pub mod Text
 pub mod Prefixes
 pub mod Members
