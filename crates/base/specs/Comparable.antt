@@ -10,8 +10,8 @@ use native.Mathlib.Omega.{arith}
 use native.Mathlib.Decide.{decLe}
 use lib.ListN.{length, take, drop, take-append-drop, length-append, length-take}
 use lib.Seq.{take-append-seam, take-all}
-use Rattle.base.specs.Tests.{pick, Known, holds, fails, known}
 use Rattle.base.specs.Lists.{filter, atFront, gather, gatherAll, Begins}
+use Rattle.base.specs.Filters.{filter-append}
 use Rattle.base.specs.Prefixes.{begins-same, begins-append, begins-trans, begins-length}
 
 -- One of x and y begins the other.
@@ -193,15 +193,6 @@ module _ {A B : Type 0} where
   begins-gather-all f x y h = (gatherAll f (h .0), ap (gatherAll f) (h .1) ∙ gather-all-append f x (h .0))
 
 module _ {A : Type 0} where
-  pub filter-append : (t : A → Bool) (x y : List A) → filter t (x ++ y) ≡ filter t x ++ filter t y
-  unfolding filter pick
-  filter-append t [] y = refl
-  filter-append t (a ∷ x) y = go (known (t a)) (filter-append t x y)
-    where
-      go : Known (t a) → filter t (x ++ y) ≡ filter t x ++ filter t y → filter t (a ∷ (x ++ y)) ≡ filter t (a ∷ x) ++ filter t y
-      go (holds e) h = rw e (ap (λ z. a ∷ z) h)
-      go (fails e) h = rw e h
-
   pub begins-filter : (t : A → Bool) (x y : List A) → Begins x y → Begins (filter t x) (filter t y)
   unfolding Begins
   begins-filter t x y h = (filter t (h .0), ap (filter t) (h .1) ∙ filter-append t x (h .0))

@@ -19,6 +19,7 @@ pub mod SetLaws
 pub mod Quorums
 pub mod Text
 pub mod Prefixes
+pub mod Filters
 pub mod Comparable
 pub mod Members
 pub mod Branches
