@@ -1,2 +1,5 @@
 pub mod Plus
 pub mod Common
+pub mod Fifo
+pub mod FifoPlus
+pub mod Entered
