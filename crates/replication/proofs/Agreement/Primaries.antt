@@ -1,1 +1,5 @@
 pub mod Acted
+pub mod Parts
+pub mod Steps
+pub mod Terms
+pub mod Phases
