@@ -3,3 +3,5 @@ pub mod Parts
 pub mod Steps
 pub mod Terms
 pub mod Phases
+pub mod Installed
+pub mod Leaving
