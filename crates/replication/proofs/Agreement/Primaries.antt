@@ -5,3 +5,4 @@ pub mod Terms
 pub mod Phases
 pub mod Installed
 pub mod Leaving
+pub mod Orders

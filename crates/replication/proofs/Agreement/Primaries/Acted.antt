@@ -11,6 +11,7 @@ use lib.ListN.{length}
 use Rattle.base.specs.AtLaws.{at-low}
 use Rattle.base.specs.Chains.{chain}
 use Rattle.base.specs.Comparable.{Comparable, begins-map, gather-append, begins-gather}
+use Rattle.base.specs.ListLaws.{Each, each-append}
 use Rattle.base.specs.Lists.{atFront, gather, Begins}
 use Rattle.base.specs.Prefixes.{begins-refl, begins-same, begins-append, begins-trans}
 use Rattle.base.specs.Tests.{pick, not-both, Known, holds, fails, known}
@@ -36,17 +37,6 @@ gather-no-more : {X Y : Type 0} (f : X → Option Y) (xs : List X) (x : X) → f
 unfolding gather atFront
 gather-no-more f xs x e = gather-append f xs (x ∷ []) ∙ ap (λ o. gather f xs ++ atFront o []) e ∙ append-nil (gather f xs)
 
-not-action : (r : Record) → ((a : Action) → r ≡ action a → ⊥) → actionIn r ≡ none
-unfolding actionIn
-not-action (action a) f = absurd (f a refl)
-not-action (retransmission k p a) f = refl
-not-action (state x) f = refl
-not-action (cpc k i) f = refl
-not-action (regular i s) f = refl
-not-action (transitional s) f = refl
-not-action (request p) f = refl
-not-action recovery f = refl
-
 -- ---- the list
 
 module _ {n q : ℕ} {l : Run} (A : Allowed n q l) where
@@ -64,21 +54,58 @@ module _ {n q : ℕ} {l : Run} (A : Allowed n q l) where
         ∙ ap (gather actionIn) (gather-more (recordOf n q l) (delivered n q l (A .source) t i p) (A .source p) (action a) (delivery-says A d))
         ∙ gather-more actionIn (deliveredRecords n q l (A .source) t i p) (action a) a refl
 
-    -- Nothing else is.
-    pub acted-same : (p : ℕ) → ((a : Action) → Comes n q l p i (action a) → t (placeAt n q l i p) ≡ true → ⊥) → actedIn t i (suc p) ≡ actedIn t i p
+    -- A place adds an action that comes there, or nothing.
+    pub data ActedNext (p : ℕ) : Type 0 where
+      adds : (a : Action) → Comes n q l p i (action a) → t (placeAt n q l i p) ≡ true → actedIn t i (suc p) ≡ actedIn t i p ++ (a ∷ []) → ActedNext p
+      adds-nothing : actedIn t i (suc p) ≡ actedIn t i p → ActedNext p
+
+    other : (p : ℕ) (r : Record) → Comes n q l p i r → isMessage r ≡ true → t (placeAt n q l i p) ≡ true → actionIn r ≡ none → ActedNext p
     unfolding deliveredActions deliveredRecords
-    acted-same p f = go (known (deliversAt n q l t i p))
+    other p r x m h e =
+        let d : Delivery A p i (A .source p) = coming A x m in
+        adds-nothing
+        (ap (λ ms. gather actionIn (gather (recordOf n q l) ms)) (delivered-more A t i p (A .source p) d h)
+        ∙ ap (gather actionIn) (gather-more (recordOf n q l) (delivered n q l (A .source) t i p) (A .source p) r (delivery-says A d))
+        ∙ gather-no-more actionIn (deliveredRecords n q l (A .source) t i p) r e)
+
+    pub acted-next : (p : ℕ) → ActedNext p
+    unfolding deliveredActions deliveredRecords actionIn
+    acted-next p = go (known (deliversAt n q l t i p))
       where
-        go : Known (deliversAt n q l t i p) → actedIn t i (suc p) ≡ actedIn t i p
+        by-kind : (r : Record) → Comes n q l p i r → isMessage r ≡ true → t (placeAt n q l i p) ≡ true → ActedNext p
+        by-kind (action a) x m h = adds a x h (acted-more p a x h)
+        by-kind (retransmission k s a) x m h = other p _ x m h refl
+        by-kind (state s) x m h = other p _ x m h refl
+        by-kind (cpc k s) x m h = other p _ x m h refl
+        by-kind (regular k s) x m h = other p _ x m h refl
+        by-kind (transitional s) x m h = other p _ x m h refl
+        by-kind (request s) x m h = other p _ x m h refl
+        by-kind recovery x m h = other p _ x m h refl
+
+        go : Known (deliversAt n q l t i p) → ActedNext p
         go (fails e) =
-            ap (λ ms. gather actionIn (gather (recordOf n q l) ms))
-            (delivered-same A t i p (λ m d h. not-both (sym e ∙ delivers-yes A t i p m d h)))
-        go (holds e) =
-            let x = delivers-holds A t i p e in
-            let none-there = not-action (x .0 .what) (λ a z. f a (subst (λ r. Comes n q l p i r) z (x .0 .comes)) (x .1)) in
-            ap (λ ms. gather actionIn (gather (recordOf n q l) ms)) (delivered-more A t i p (A .source p) (x .0) (x .1))
-            ∙ ap (gather actionIn) (gather-more (recordOf n q l) (delivered n q l (A .source) t i p) (A .source p) (x .0 .what) (delivery-says A (x .0)))
-            ∙ gather-no-more actionIn (deliveredRecords n q l (A .source) t i p) (x .0 .what) none-there
+            adds-nothing
+            (ap (λ ms. gather actionIn (gather (recordOf n q l) ms))
+            (delivered-same A t i p (λ m d h. not-both (sym e ∙ delivers-yes A t i p m d h))))
+        go (holds e) = let x = delivers-holds A t i p e in by-kind (x .0 .what) (x .0 .comes) (x .0 .message) (x .1)
+
+    -- Only an action that comes is added.
+    pub acted-same : (p : ℕ) → ((a : Action) → Comes n q l p i (action a) → t (placeAt n q l i p) ≡ true → ⊥) → actedIn t i (suc p) ≡ actedIn t i p
+    acted-same p f = go (acted-next p)
+      where
+        go : ActedNext p → actedIn t i (suc p) ≡ actedIn t i p
+        go (adds a x h e) = absurd (f a x h)
+        go (adds-nothing e) = e
+
+    -- A fact of each action that comes.
+    pub each-acted : (P : Action → Type 0) → ((x : ℕ) (a : Action) → Comes n q l x i (action a) → t (placeAt n q l i x) ≡ true → P a) → (p : ℕ) → Each P (actedIn t i p)
+    unfolding deliveredActions deliveredRecords delivered deliveryPlaces gather
+    each-acted P f zero = tt
+    each-acted P f (suc p) = go (acted-next p) (each-acted P f p)
+      where
+        go : ActedNext p → Each P (actedIn t i p) → Each P (actedIn t i (suc p))
+        go (adds a x h e) k = subst (Each P) (sym e) (each-append P (actedIn t i p) (a ∷ []) k (f p a x h, tt))
+        go (adds-nothing e) k = subst (Each P) (sym e) k
 
     -- The list only grows.
     pub acted-grows : (p r : ℕ) → p ≤ r → Begins (actedIn t i p) (actedIn t i r)

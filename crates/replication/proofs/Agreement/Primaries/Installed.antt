@@ -12,6 +12,8 @@ use Rattle.base.specs.Tests.{not-both}
 use Rattle.format.specs.Types.{Record}
 use Rattle.replication.specs.Machine.Types.{Mode, Non-prim, Reg-prim, Trans-prim, Exchange-states, Exchange-actions, Construct, No, Un, Configuration, Membership, Server}
 use Rattle.replication.specs.Machine.Exchange.{quorum}
+use Rattle.replication.specs.Machine.Install.{installLog}
+use Rattle.replication.specs.Machine.WellFormed.{wellFormed}
 use Rattle.replication.specs.Machine.Step.{collected, decided, attempting, theSet, hereSet}
 use Rattle.replication.specs.Laws.Transitions as L
 use Rattle.replication.specs.Laws.Transitions.{Ends, Leads}
@@ -22,6 +24,7 @@ use Rattle.replication.proofs.Runs.AllowedTurns.{memoryAt}
 use Rattle.replication.proofs.Runs.Coupling.{coupled}
 use Rattle.replication.proofs.Runs.Memberships as M
 use Rattle.replication.proofs.Runs.Memberships.{Completes, MembershipStep}
+use Rattle.replication.proofs.Runs.Numbers.{well-formed-at}
 use Rattle.replication.proofs.Runs.Progress.{stay-member}
 use Rattle.replication.proofs.Runs.Stays.{membershipAt}
 use Rattle.replication.proofs.Agreement.Terms.{Within, MarksAt, InstallsAt}
@@ -31,7 +34,7 @@ use Rattle.replication.proofs.Agreement.Exchange.Stages.{remains, stage
 use Rattle.replication.proofs.Agreement.Primaries.Acted.{acted-grows}
 use Rattle.replication.proofs.Agreement.Primaries.Parts.{InRegPrim, InTransPrim}
 use Rattle.replication.proofs.Agreement.Primaries.Phases.{primary-phase}
-use Rattle.replication.proofs.Agreement.Primaries.Steps.{beforeInstall}
+use Rattle.replication.proofs.Agreement.Primaries.Steps.{beforeInstall, EarlyStep, goes-on, reddens, settles, installs, installs-late, leaves, early-step}
 use Rattle.replication.proofs.Agreement.Primaries.Terms.{begins-nothing, base, cutsOf, regularly, inCom, PrimaryPhase, early, settled, regular, transitional}
 
 -- ---- the states of a primary component
@@ -125,6 +128,35 @@ module _ {n q : ℕ} {l : Run} (A : Allowed n q l) where
       go (yes a) b = before-not-primary _ (installs-before y) (stays-primary x r a (y .here))
       go (no a) (yes b) = before-not-primary _ (installs-before x) (stays-primary y p b (x .here))
       go (no a) (no b) = omega arith
+
+  -- The green list after the Install.
+  pub base-installed : {p i : ℕ} {c : Configuration} (x : InstallsAt n q l p i c)
+      → base A x ≡ (installLog (memoryAt n q l p i .votes .yellow .ids) (memoryAt n q l p i .log)) .green
+  unfolding beforeInstall inPrimary remains modeNumber
+  base-installed {p} {i} {c} x = ap (λ s. s .log .green) (x .acts .memory-next) ∙ go (early-step (memoryAt n q l p i) formed (installs-before x) (x .acts .moves)) (x .acts .by .event) refl (installs-on A x)
+    where
+      formed : wellFormed (memoryAt n q l p i) ≡ true
+      formed = well-formed-at n q i (A .sizes) (stay-member A i p c (x .here) .0) l p .memory
+
+      primary : inPrimary (x .acts .after .membership .mode) ≡ true
+      primary = subst (λ s. inPrimary (s .membership .mode) ≡ true) (x .acts .memory-next) (installs-primary x)
+
+      exchanging : {r : Record} → Installing (memoryAt n q l p i) (memoryAt n q l (suc p) i) r → memoryAt n q l p i .membership .mode ≡ Exchange-states → ⊥
+      exchanging (on-cpc k d e f) h = other-mode e h (λ z. omega arith)
+      exchanging (on-action a e f) h = other-mode e h (λ z. omega arith)
+
+      ends-no-stay : {r : Record} → Installing (memoryAt n q l p i) (memoryAt n q l (suc p) i) r → remains r ≡ false → ⊥
+      ends-no-stay (on-cpc k d e f) h = not-both (sym h)
+      ends-no-stay (on-action a e f) h = not-both (sym h)
+
+      go : EarlyStep (memoryAt n q l p i) (x .acts .by .event) (x .acts .after) → (r : Record) → x .acts .by .event ≡ r → Installing (memoryAt n q l p i) (memoryAt n q l (suc p) i) r
+          → x .acts .after .log .green ≡ (installLog (memoryAt n q l p i .votes .yellow .ids) (memoryAt n q l p i .log)) .green
+      go (goes-on e f) r h z = before-not-primary (x .acts .after .membership .mode) e primary
+      go (reddens a e m) r h z = absurd (exchanging z m)
+      go (settles e) r h z = not-both (sym (ap inPrimary e) ∙ primary)
+      go (installs k d e m g w v) r h z = w
+      go (installs-late a e m w v) r h z = w
+      go (leaves e) r h z = absurd (ends-no-stay z (ap remains (sym h) ∙ e))
 
   -- ---- after the Install
 

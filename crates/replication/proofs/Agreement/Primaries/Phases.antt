@@ -117,20 +117,20 @@ module _ {n q : ℕ} {l : Run} (A : Allowed n q l) (i : ℕ) (c : Configuration)
     from-early k (goes-on e f) = early e (still f (within c) ∙ k)
     from-early k (reddens a e m) = absurd (past-exchanging A p i a (an-action a e) c here m)
     from-early k (settles e) = settled e
-    from-early k (installs j d e m g h) =
+    from-early k (installs j d e m g w h) =
         let same = still (λ a z. other-record _ a (ap isAction e) z) in
         let rule = ap (λ z. installsBy z now) (sym (x .by .ruled)) ∙ ap (λ r. installsBy (ruleFor (now .membership .mode) r) now) e ∙ ap (λ o. installsBy (ruleFor o (cpc j d)) now) m in
         let y : InstallsAt n q l p i c = record { acts = x; installs = rule ∙ g; here = here } in
         regular p (omega arith) y
         (subst₂ (λ r a. InRegPrim (base A y) (cutsOf A y) r a after) (sym (same (withinRegular c) ∙ none-regular k)) (sym (same (within c) ∙ k)) h)
-    from-early k (installs-late a e m h) =
+    from-early k (installs-late a e m w h) =
         let y = an-action a e in
         let t = standing-in now Un m (standing n q l i p .memory) in
         let rule = ap (λ z. installsBy z now) (sym (x .by .ruled)) ∙ ap (λ r. installsBy (ruleFor (now .membership .mode) r) now) e ∙ ap (λ o. installsBy (ruleFor o (action a)) now) m in
         let z : InstallsAt n q l p i c = record { acts = x; installs = rule; here = here } in
         transitional p (omega arith) z
         (subst₂ (λ r b. InTransPrim (base A z) (cutsOf A z) r b after) (sym (still-regular (t .set) (t .after) ∙ none-regular k))
-        (sym (acted-more A (within c) i p a y in-com ∙ ap (λ w. w ++ (a ∷ [])) k))
+        (sym (acted-more A (within c) i p a y in-com ∙ ap (λ z. z ++ (a ∷ [])) k))
         (h (creator-cut A p i a y c here)))
     from-early k (leaves e) = not-both (sym e ∙ kept)
 

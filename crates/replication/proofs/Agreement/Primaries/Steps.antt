@@ -9,7 +9,7 @@ use Rattle.base.specs.Tests.{not-both}
 use Rattle.format.specs.Types.{Action, Record, action, retransmission, state, cpc, regular, transitional, request, recovery}
 use Rattle.replication.specs.Machine.Types.{Mode, Non-prim, Reg-prim, Trans-prim, Exchange-states, Exchange-actions, Construct, No, Un, Server, inMode, noYellow}
 use Rattle.replication.specs.Machine.Colours.{yellow}
-use Rattle.replication.specs.Machine.Install.{install, installVotes}
+use Rattle.replication.specs.Machine.Install.{installLog, install, installVotes}
 use Rattle.replication.specs.Machine.Requests.{numbered, sendHeld, hold, sendsIn, sendsNow}
 use Rattle.replication.specs.Machine.Step.{withCpc, allCpcsIn, decided, attempting, withState, resending, oneMore, exchanged, leave}
 use Rattle.replication.specs.Machine.WellFormed.{wellFormed, idsIn}
@@ -54,12 +54,20 @@ pub data EarlyStep (s : Server) (r : Record) (t : Server) : Type 0 where
   reddens : (a : Action) → r ≡ action a → s .membership .mode ≡ Exchange-states → EarlyStep s r t
   settles : t .membership .mode ≡ Non-prim → EarlyStep s r t
   installs : (k i : ℕ) → r ≡ cpc k i → s .membership .mode ≡ Construct → allCpcsIn (withCpc k s) ≡ true
-      → InRegPrim (t .log .green) (s .log .cuts) [] [] t → EarlyStep s r t
-  installs-late : (a : Action) → r ≡ action a → s .membership .mode ≡ Un
+      → t .log .green ≡ (installLog (s .votes .yellow .ids) (s .log)) .green → InRegPrim (t .log .green) (s .log .cuts) [] [] t → EarlyStep s r t
+  installs-late : (a : Action) → r ≡ action a → s .membership .mode ≡ Un → t .log .green ≡ (installLog (s .votes .yellow .ids) (s .log)) .green
       → (a .id .creator < length (s .log .cuts) → InTransPrim (t .log .green) (s .log .cuts) [] (a ∷ []) t) → EarlyStep s r t
   leaves : remains r ≡ false → EarlyStep s r t
 
 -- ---- the Installs
+
+regular-green : (s : Server) (k : ℕ) → (sendHeld (inMode Reg-prim (install (withCpc k s)))) .log .green ≡ (installLog (s .votes .yellow .ids) (s .log)) .green
+unfolding sendHeld numbered install withCpc
+regular-green s k = refl
+
+late-green : (s : Server) (a : Action) → (yellow a (install s)) .log .green ≡ (installLog (s .votes .yellow .ids) (s .log)) .green
+unfolding install
+late-green s a = yellow-one a (install s) .green
 
 module _ (s : Server) (formed : wellFormed s ≡ true) where
   installed-regular : (k : ℕ) → let t = sendHeld (inMode Reg-prim (install (withCpc k s))) in InRegPrim (t .log .green) (s .log .cuts) [] [] t
@@ -137,14 +145,14 @@ module _ (s : Server) (formed : wellFormed s ≡ true) (early : beforeInstall (s
   early-step (L.reddensInExchange a e) = reddens a refl e
   early-step (L.greens a e) = elsewhere Reg-prim e refl
   early-step (L.yellows a e) = elsewhere Trans-prim e refl
-  early-step (L.installsLate a e) = installs-late a refl e (λ h. yellowed-late s formed a h)
+  early-step (L.installsLate a e) = installs-late a refl e (late-green s a) (λ h. yellowed-late s formed a h)
   early-step (L.exchanges k p a e c) = goes-on early (λ b h. other-record _ b refl h)
   early-step (L.exchangesLast k p a t rs e c x) = ended x (λ b h. other-record _ b refl h)
   early-step (L.collects x e c) = goes-on early (λ b h. other-record _ b refl h)
   early-step (L.collectsLast x e c d) = goes-on refl (λ b h. other-record _ b refl h)
   early-step (L.collectsWhole x t rs e c d y) = ended y (λ b h. other-record _ b refl h)
   early-step (L.counts k i e c) = goes-on early (λ b h. other-record _ b refl h)
-  early-step (L.installs k i e c) = installs k i refl e c (installed-regular s formed k)
+  early-step (L.installs k i e c) = installs k i refl e c (regular-green s k) (installed-regular s formed k)
   early-step (L.countsLate k i e c) = goes-on early (λ b h. other-record _ b refl h)
   early-step (L.countsAllLate k i e c) = goes-on refl (λ b h. other-record _ b refl h)
   early-step (L.joins c e) = leaves refl
