@@ -1,7 +1,7 @@
 -- The actions that a server delivers while its place passes a test: how their list grows, and what servers deliver in one configuration.
 use Prim.Native.Nat.{ℕ, zero, suc, _≤_, _<_}
 use mathlib.Core.Path.{_≡_, refl, sym, ap, subst, _∙_}
-use mathlib.Core.Bool.{Bool, true, false}
+use mathlib.Core.Bool.{Bool, true}
 use mathlib.Core.List.{List, [], _∷_, _++_, append-nil}
 use mathlib.Core.Logic.{_⊎_, inl, inr}
 use mathlib.Core.Option.{Option, none, some}
@@ -18,7 +18,7 @@ use Rattle.base.specs.Tests.{pick, not-both, Known, holds, fails, known}
 use Rattle.format.specs.Types.{Action, Record, action, retransmission, state, cpc, regular, transitional, request, recovery}
 use Rattle.replication.specs.Machine.Types.{Configuration}
 use Rattle.replication.specs.Runs.Run.{Run, Place, placeAt}
-use Rattle.replication.specs.Runs.Happenings.{Message, isMessage, Comes, Left}
+use Rattle.replication.specs.Runs.Happenings.{isMessage, Comes, Left}
 use Rattle.replication.specs.Runs.Allowed.{Allowed}
 use Rattle.replication.specs.Runs.DeliveryFacts.{within, withinRegular, actionIn, recordOf, deliversAt, deliveryPlaces, delivered, deliveredRecords, deliveredActions}
 use Rattle.replication.proofs.Runs.Agreement.{regular-agreement, left-agreement, regular-begins-com}

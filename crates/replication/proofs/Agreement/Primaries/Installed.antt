@@ -3,8 +3,6 @@ use Prim.Native.Nat.{ℕ, suc, _≤_, _<_}
 use mathlib.Core.Path.{_≡_, refl, sym, ap, subst, _∙_}
 use mathlib.Core.Bool.{Bool, true, false}
 use mathlib.Core.List.{List, []}
-use mathlib.Core.Logic.{_⊎_, inl, inr}
-use mathlib.Core.Option.{some}
 use native.Mathlib.Omega.{arith}
 use native.Mathlib.Decide.{decLt}
 use Rattle.base.specs.Lists.{Begins}
@@ -27,7 +25,7 @@ use Rattle.replication.proofs.Runs.Memberships.{Completes, MembershipSt
 use Rattle.replication.proofs.Runs.Numbers.{well-formed-at}
 use Rattle.replication.proofs.Runs.Progress.{stay-member}
 use Rattle.replication.proofs.Runs.Stays.{membershipAt}
-use Rattle.replication.proofs.Agreement.Terms.{Within, MarksAt, InstallsAt}
+use Rattle.replication.proofs.Agreement.Terms.{MarksAt, InstallsAt}
 use Rattle.replication.proofs.Agreement.Exchange.Installs.{Installing, on-cpc, on-action, installs-on, installs-here, all-marked}
 use Rattle.replication.proofs.Agreement.Exchange.Phases.{settled-step}
 use Rattle.replication.proofs.Agreement.Exchange.Stages.{remains, stage, modeNumber, other-mode, InCom, onward, stage-onward}

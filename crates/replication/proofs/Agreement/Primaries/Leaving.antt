@@ -2,23 +2,21 @@
 -- otherwise, without going down, nobody gets further than the Install.
 use Prim.Native.Nat.{ℕ, suc, _≤_, _<_}
 use mathlib.Core.Path.{_≡_, refl, sym, ap, subst, _∙_}
-use mathlib.Core.Bool.{Bool, true, false}
-use mathlib.Core.List.{List, [], _∷_, _++_, append-nil}
+use mathlib.Core.Bool.{true}
+use mathlib.Core.List.{List, [], _++_}
 use mathlib.Core.Logic.{_⊎_, inl, inr}
-use mathlib.Core.Option.{some}
 use native.Mathlib.Omega.{arith}
 use native.Mathlib.Decide.{decLt}
 use lib.ListN.{length}
-use Rattle.base.specs.AtLaws.{none-some}
 use Rattle.base.specs.Comparable.{Comparable, begins-behind, begins-map}
 use Rattle.base.specs.Lists.{Begins}
 use Rattle.base.specs.Tests.{pick, not-both}
-use Rattle.format.specs.Types.{Id, Action, Record, action, regular}
-use Rattle.replication.specs.Machine.Types.{Mode, Non-prim, Reg-prim, Trans-prim, Exchange-states, Exchange-actions, Construct, No, Un, Configuration, Membership, Server}
+use Rattle.format.specs.Types.{Action, action, regular}
+use Rattle.replication.specs.Machine.Types.{Mode, Trans-prim, Un, Configuration, Membership}
 use Rattle.replication.specs.Machine.WellFormed.{idsIn}
 use Rattle.replication.specs.Laws.Folds.{cutsAfter, entered}
 use Rattle.replication.specs.Laws.Order.{SameControl}
-use Rattle.replication.specs.Runs.Run.{Run, nowhere, placeAt}
+use Rattle.replication.specs.Runs.Run.{Run, placeAt}
 use Rattle.replication.specs.Runs.Happenings.{isMessage, Comes, Falls, Takes, Left}
 use Rattle.replication.specs.Runs.Allowed.{Allowed}
 use Rattle.replication.specs.Runs.DeliveryFacts.{within, withinRegular}
@@ -26,21 +24,19 @@ use Rattle.replication.proofs.Step.Folds.{entered-append}
 use Rattle.replication.proofs.Runs.AllowedTurns.{memoryAt, storeAt, Acts}
 use Rattle.replication.proofs.Runs.ControlPart.{control-next, store-below, store-grows-between}
 use Rattle.replication.proofs.Runs.Shifts.{changes, unchanging}
-use Rattle.replication.proofs.Runs.DeliveryLists.{within-holds, within-regular-holds}
+use Rattle.replication.proofs.Runs.DeliveryLists.{within-holds}
 use Rattle.replication.proofs.Runs.Entries.{had}
 use Rattle.replication.proofs.Runs.Memberships as M
 use Rattle.replication.proofs.Runs.Memberships.{Joinable, MembershipStep}
 use Rattle.replication.proofs.Runs.Progress.{stay-member}
 use Rattle.replication.proofs.Runs.Sending.{regular-acts}
 use Rattle.replication.proofs.Runs.Stays.{membershipAt, placed-up, acts-membership}
-use Rattle.replication.proofs.Agreement.Terms.{Within, InstallsAt}
+use Rattle.replication.proofs.Agreement.Terms.{InstallsAt}
 use Rattle.replication.proofs.Agreement.Exchange.Leaving.{none-leaves-late}
 use Rattle.replication.proofs.Agreement.Exchange.Stages.{modeNumber, other-mode, InCom}
 use Rattle.replication.proofs.Agreement.Votes.Events.{installing-at}
-use Rattle.replication.proofs.Agreement.Primaries.Acted.{actedIn, acted-grows, acted-still, acted-whole, acted-agreement, acted-left, acted-regular}
-use Rattle.replication.proofs.Agreement.Primaries.Installed.{inPrimary, before-not-primary, AfterInstall, in-regular, in-transitional, after-install, none-settled, MemberPhase, not-yet, installed, member-phase}
-use Rattle.replication.proofs.Agreement.Primaries.Parts.{InRegPrim, InTransPrim}
-use Rattle.replication.proofs.Agreement.Primaries.Steps.{beforeInstall}
+use Rattle.replication.proofs.Agreement.Primaries.Acted.{acted-grows, acted-still, acted-whole, acted-agreement, acted-left}
+use Rattle.replication.proofs.Agreement.Primaries.Installed.{AfterInstall, in-regular, in-transitional, after-install, none-settled, MemberPhase, not-yet, installed, member-phase}
 use Rattle.replication.proofs.Agreement.Primaries.Terms.{begins-nothing, base, cutsOf, regularly, inCom}
 
 -- More delivered actions, more entered ones.

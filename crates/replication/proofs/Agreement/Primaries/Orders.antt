@@ -1,23 +1,21 @@
 -- In a primary component each creator's actions stand in order, if they do at the Install: in what each member reaches, and in the green list with the yellow ids
 -- above it, which differ from it.
-use Prim.Native.Nat.{ℕ, suc, _+_, _≤_, _<_}
-use mathlib.Core.Path.{_≡_, refl, sym, ap, subst, _∙_}
-use mathlib.Core.Bool.{Bool, true, false}
-use mathlib.Core.List.{List, [], _∷_, _++_, List·Memᴰ}
+use Prim.Native.Nat.{ℕ, _+_, _≤_, _<_}
+use mathlib.Core.Path.{_≡_, sym, ap, subst, _∙_}
+use mathlib.Core.Bool.{Bool, true}
+use mathlib.Core.List.{List, _++_}
 use native.Mathlib.Omega.{arith}
 use lib.ListN.{length, getD}
 use Rattle.base.specs.Counts.{count, count-append}
-use Rattle.base.specs.Lists.{Begins}
-use Rattle.format.specs.Types.{Id, Action}
+use Rattle.format.specs.Types.{Id}
 use Rattle.format.specs.Range.{sameId}
-use Rattle.replication.specs.Machine.Types.{Trans-prim, Configuration, Server}
+use Rattle.replication.specs.Machine.Types.{Trans-prim, Configuration}
 use Rattle.replication.specs.Machine.Colours.{cut}
 use Rattle.replication.specs.Machine.Install.{installLog}
-use Rattle.replication.specs.Machine.WellFormed.{idsIn, queue, wellFormed}
+use Rattle.replication.specs.Machine.WellFormed.{idsIn, queue}
 use Rattle.replication.specs.Machine.WellFormedFacts.{WellFormed}
 use Rattle.replication.specs.Laws.Folds.{entered}
 use Rattle.replication.specs.Runs.Run.{Run, Place, placeAt}
-use Rattle.replication.specs.Runs.Happenings.{Takes}
 use Rattle.replication.specs.Runs.Allowed.{Allowed}
 use Rattle.replication.specs.Runs.DeliveryFacts.{within, withinRegular}
 use Rattle.replication.proofs.Step.ModeColours.{install-no-red}
@@ -36,8 +34,8 @@ use Rattle.replication.proofs.Agreement.Lists.Install.{install-cuts, in
 use Rattle.replication.proofs.Agreement.Lists.Plus.{plus, Once, member-has, plus-apart}
 use Rattle.replication.proofs.Agreement.Primaries.Acted.{actedIn, each-acted}
 use Rattle.replication.proofs.Agreement.Primaries.Installed.{AfterInstall, in-regular, in-transitional, after-install, base-installed}
-use Rattle.replication.proofs.Agreement.Primaries.Leaving.{reached, leaves-with-all}
-use Rattle.replication.proofs.Agreement.Primaries.Parts.{InRegPrim, InTransPrim, ids-append}
+use Rattle.replication.proofs.Agreement.Primaries.Leaving.{reached}
+use Rattle.replication.proofs.Agreement.Primaries.Parts.{InTransPrim, ids-append}
 use Rattle.replication.proofs.Agreement.Primaries.Terms.{base, cutsOf, regularly, inCom, creator-server}
 
 -- ---- lists of ids

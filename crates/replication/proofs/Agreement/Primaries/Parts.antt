@@ -1,10 +1,10 @@
 -- What a server in a primary component has, by the actions that it has delivered there since the Install, and how each event keeps it.
 use Prim.Native.Nat.{ℕ, _<_}
-use mathlib.Core.Path.{_≡_, refl, sym, ap, subst, _∙_}
-use mathlib.Core.List.{List, [], _∷_, _++_, map, map-append, append-nil, append-assoc}
+use mathlib.Core.Path.{_≡_, sym, ap, subst, _∙_}
+use mathlib.Core.List.{List, [], _++_, map-append, append-nil, append-assoc}
 use lib.ListN.{length}
 use Rattle.base.specs.ListLaws.{Each}
-use Rattle.format.specs.Types.{Id, Action}
+use Rattle.format.specs.Types.{Action}
 use Rattle.replication.specs.Machine.Types.{Reg-prim, Trans-prim, Server, noYellow}
 use Rattle.replication.specs.Machine.WellFormed.{idsIn}
 use Rattle.replication.specs.Machine.WellFormedFacts.{YellowWithinCuts}

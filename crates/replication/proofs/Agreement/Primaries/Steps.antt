@@ -3,7 +3,6 @@ use Prim.Native.Nat.{ℕ, _<_}
 use mathlib.Core.Path.{_≡_, refl, sym, ap, subst, _∙_}
 use mathlib.Core.Bool.{Bool, true, false}
 use mathlib.Core.List.{List, [], _∷_, _++_, append-nil}
-use native.Mathlib.Omega.{arith}
 use lib.ListN.{length}
 use Rattle.base.specs.Tests.{not-both}
 use Rattle.format.specs.Types.{Action, Record, action, retransmission, state, cpc, regular, transitional, request, recovery}
@@ -16,7 +15,6 @@ use Rattle.replication.specs.Machine.WellFormed.{wellFormed, idsIn}
 use Rattle.replication.specs.Laws.Folds.{entered, cutsAfter, Yellowed}
 use Rattle.replication.specs.Laws.Transitions as L
 use Rattle.replication.specs.Laws.Transitions.{Ends, Leads, Transition}
-use Rattle.replication.proofs.Step.Control.{yellow-membership}
 use Rattle.replication.proofs.Step.Folds.{yellow-one}
 use Rattle.replication.proofs.Step.ModeColours.{install-no-red}
 use Rattle.replication.proofs.Agreement.Exchange.Stages.{remains}

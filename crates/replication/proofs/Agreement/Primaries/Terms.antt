@@ -1,52 +1,41 @@
 -- A server's stay in a configuration: no action comes before the Install; after it the server has what it had then and the actions that have come since.
 use Prim.Native.Nat.{ℕ, suc, _≤_, _<_}
-use mathlib.Core.Path.{_≡_, refl, sym, ap, subst, subst₂, _∙_}
-use mathlib.Core.Bool.{Bool, true, false}
-use mathlib.Core.List.{List, [], _∷_, _++_, append-nil}
-use mathlib.Core.Logic.{_⊎_, inl, inr}
-use mathlib.Core.Option.{Option, none, some}
+use mathlib.Core.Path.{_≡_, refl, sym, ap, _∙_}
+use mathlib.Core.Bool.{true}
+use mathlib.Core.List.{List, [], _∷_}
+use mathlib.Core.Logic.{inl, inr}
+use mathlib.Core.Option.{some}
 use native.Mathlib.Omega.{arith}
 use lib.ListN.{length}
-use Rattle.base.specs.AtLaws.{none-some, some-same}
+use Rattle.base.specs.AtLaws.{none-some}
 use Rattle.base.specs.Comparable.{begins-empty}
 use Rattle.base.specs.Lists.{Begins}
-use Rattle.base.specs.Tests.{not-both}
-use Rattle.format.specs.Types.{Action, Record, action, cpc}
-use Rattle.replication.specs.Machine.Types.{Mode, Non-prim, Reg-prim, Trans-prim, Exchange-states, Construct, Un, Configuration, Server}
-use Rattle.replication.specs.Machine.Rules.{ruleFor, onAction, onCpc}
-use Rattle.replication.specs.Machine.Step.{withCpc, allCpcsIn, installsBy}
-use Rattle.replication.specs.Machine.WellFormed.{wellFormed}
+use Rattle.format.specs.Types.{Action, action}
+use Rattle.replication.specs.Machine.Types.{Non-prim, Reg-prim, Exchange-states, Configuration}
 use Rattle.replication.specs.Laws.Images.{OfBoth}
 use Rattle.replication.specs.Laws.Modes.{ColourFactsOf}
-use Rattle.replication.specs.Laws.Primary as S
-use Rattle.replication.specs.Laws.Primary.{RegularStep, TransitionalStep}
-use Rattle.replication.specs.Runs.Run.{Run, Place, worldAt, placeAt, heardAt}
-use Rattle.replication.specs.Runs.Happenings.{isMessage, Comes, Falls, by-crash, by-recovery, Takes}
+use Rattle.replication.specs.Runs.Run.{Run, worldAt, placeAt}
+use Rattle.replication.specs.Runs.Happenings.{isMessage, Comes}
 use Rattle.replication.specs.Runs.Allowed.{Allowed}
 use Rattle.replication.specs.Runs.DeliveryFacts.{within, withinRegular}
-use Rattle.replication.proofs.Step.Primary.{regular-step, transitional-step}
 use Rattle.replication.proofs.WellFormed.Runs.{colour-facts}
-use Rattle.replication.proofs.Runs.AllowedTurns.{memoryAt, Acts, Refuses, AllowedTurn, rests, crashes, refuses, recovers, acts, allowed-turn}
-use Rattle.replication.proofs.Runs.DeliveryLists.{within-holds, within-yes, within-regular-holds, within-regular-yes}
+use Rattle.replication.proofs.Runs.AllowedTurns.{memoryAt}
+use Rattle.replication.proofs.Runs.DeliveryLists.{within-regular-holds}
 use Rattle.replication.proofs.Runs.Entries.{had}
 use Rattle.replication.proofs.Runs.Lived.{at-place}
 use Rattle.replication.proofs.Runs.Modes.{standing, standing-in}
-use Rattle.replication.proofs.Runs.Numbers.{numbers, invariant-at, well-formed-at}
+use Rattle.replication.proofs.Runs.Numbers.{numbers, invariant-at}
 use Rattle.replication.proofs.Runs.Order.{inRegularOf}
-use Rattle.replication.proofs.Runs.Places.{event-entry}
 use Rattle.replication.proofs.Runs.Progress.{stay-member}
-use Rattle.replication.proofs.Runs.Shifts.{comes-once, comes-of}
-use Rattle.replication.proofs.Runs.Stays.{membershipAt, in-stay, entering-membership, stay-transitional, acts-membership}
+use Rattle.replication.proofs.Runs.Stays.{membershipAt, stay-transitional}
 use Rattle.replication.proofs.Agreement.Terms.{InstallsAt}
 use Rattle.replication.proofs.Agreement.Exchange.ActionsTaken.{SendsActions, ActionMessage, action-message}
 use Rattle.replication.proofs.Agreement.Exchange.Answers.{coming}
-use Rattle.replication.proofs.Agreement.Exchange.NotRefused.{no-delivery-refused}
 use Rattle.replication.proofs.Agreement.Exchange.PastExchange.{past-exchange}
-use Rattle.replication.proofs.Agreement.Exchange.Phases.{settled-step}
-use Rattle.replication.proofs.Agreement.Exchange.Stages.{remains, stage, InCom, remaining}
-use Rattle.replication.proofs.Agreement.Primaries.Acted.{actedIn, acted-more, acted-same, acted-none, acted-regular}
-use Rattle.replication.proofs.Agreement.Primaries.Parts.{InRegPrim, InTransPrim, greened-kept, yellowed-kept, parted, regular-unchanged, transitional-unchanged}
-use Rattle.replication.proofs.Agreement.Primaries.Steps.{beforeInstall, isAction, other-record, EarlyStep, goes-on, reddens, settles, installs, installs-late, leaves, early-step}
+use Rattle.replication.proofs.Agreement.Exchange.Stages.{stage, InCom}
+use Rattle.replication.proofs.Agreement.Primaries.Acted.{actedIn}
+use Rattle.replication.proofs.Agreement.Primaries.Parts.{InRegPrim, InTransPrim}
+use Rattle.replication.proofs.Agreement.Primaries.Steps.{beforeInstall}
 
 pub begins-nothing : {X : Type 0} (x : List X) → Begins x [] → x ≡ []
 begins-nothing [] h = refl
