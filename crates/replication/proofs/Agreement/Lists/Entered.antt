@@ -4,10 +4,10 @@ use mathlib.Core.Path.{_≡_, refl, sym, ap}
 use mathlib.Core.Bool.{true}
 use mathlib.Core.List.{List, [], _∷_, _++_}
 use native.Mathlib.Omega.{arith}
-use lib.ListN.{length, getD, set, length-set}
+use lib.ListN.{length, getD, set, replicate, length-set}
 use lib.Seq.{getD-set-same, getD-set-other}
 use Rattle.base.specs.Tests.{_=?_, pick, eq-yes, eq-holds, eq-fails, Known, holds, fails, known}
-use Rattle.base.specs.ListLaws.{Each, each-map}
+use Rattle.base.specs.ListLaws.{Each, each-map, replicate-at}
 use Rattle.base.specs.Counts.{one, count, one-yes, one-no}
 use Rattle.format.specs.Types.{Id, Action}
 use Rattle.replication.specs.Machine.WellFormed.{idsIn}
@@ -29,7 +29,8 @@ raised cuts a b e c = go (known (a .id .creator =? c))
     go : Known (a .id .creator =? c) → getD (set cuts (a .id .creator) (a .id .index)) c 0 ≡ getD cuts c 0 + one (a .id .creator =? c)
     go (holds h) =
         let p : a .id .creator ≡ c = eq-holds _ _ h in
-        omega (arith, one-yes _ h, next cuts a e, getD-set-same cuts (a .id .creator) (a .id .index) 0 b, ap (λ k. getD cuts k 0) p, ap (λ k. getD (set cuts (a .id .creator) (a .id .index)) k 0) p)
+        let then = set cuts (a .id .creator) (a .id .index) in
+        omega (arith, one-yes _ h, next cuts a e, getD-set-same cuts (a .id .creator) (a .id .index) 0 b, ap (λ k. getD cuts k 0) p, ap (λ k. getD then k 0) p)
     go (fails h) = omega (arith, one-no _ h, getD-set-other cuts (a .id .creator) c (a .id .index) 0 (λ p. eq-fails _ _ h (sym p)))
 
 -- Actions whose creators have a cut after one more was entered.
@@ -41,13 +42,15 @@ unfolding entered cutsWith pick idsIn
 entered-follows cuts [] h = tt
 entered-follows cuts (a ∷ xs) h = go (known (follows cuts a)) (λ k b. entered-follows k xs b)
   where
-    go : Known (follows cuts a) → ((k : List ℕ) → Creators k xs → Follows (λ c. getD k c 0) (idsIn (entered k xs))) → Follows (λ c. getD cuts c 0) (idsIn (entered cuts (a ∷ xs)))
+    go : Known (follows cuts a) → ((k : List ℕ) → Creators k xs → Follows (λ c. getD k c 0) (idsIn (entered k xs)))
+        → Follows (λ c. getD cuts c 0) (idsIn (entered cuts (a ∷ xs)))
     go (holds e) more =
         let then = set cuts (a .id .creator) (a .id .index) in
         rw e (next cuts a e, follows-same _ _ (idsIn (entered then xs)) (raised cuts a (h .0) e) (more then (creators-set cuts _ _ xs (h .1))))
     go (fails e) more = rw e (more cuts (h .1))
 
-pub cuts-after : (cuts : List ℕ) (xs : List Action) → Creators cuts xs → (c : ℕ) → getD (cutsAfter cuts xs) c 0 ≡ getD cuts c 0 + createdBy c (idsIn (entered cuts xs))
+pub cuts-after : (cuts : List ℕ) (xs : List Action) → Creators cuts xs → (c : ℕ)
+    → getD (cutsAfter cuts xs) c 0 ≡ getD cuts c 0 + createdBy c (idsIn (entered cuts xs))
 unfolding entered cutsAfter cutsWith pick idsIn count
 cuts-after cuts [] h c = omega arith
 cuts-after cuts (a ∷ xs) h c = go (known (follows cuts a)) (λ k b. cuts-after k xs b c)
@@ -76,6 +79,13 @@ entered-all cuts (a ∷ xs) h f =
     let e : follows cuts a ≡ true = eq-yes _ _ (f .0) in
     let then = set cuts (a .id .creator) (a .id .index) in
     rw e (ap (λ z. a ∷ z) (entered-all then xs (creators-set cuts _ _ xs (h .1)) (follows-same _ _ (idsIn xs) (λ c. sym (raised cuts a (h .0) e c)) (f .1))))
+
+-- From no cut on, actions in order raise each creator's cut to as many as it has.
+pub fifo-cuts : (n : ℕ) (xs : List Action) → Creators (replicate n 0) xs → Fifo (idsIn xs) → (c : ℕ)
+    → getD (cutsAfter (replicate n 0) xs) c 0 ≡ createdBy c (idsIn xs)
+fifo-cuts n xs h p c =
+    let all = entered-all (replicate n 0) xs h (follows-same (λ k. 0) (λ k. getD (replicate n 0) k 0) (idsIn xs) (λ k. sym (replicate-at 0 n k)) p) in
+    omega (arith, cuts-after (replicate n 0) xs h c, ap (λ z. createdBy c (idsIn z)) all, replicate-at {A = ℕ} 0 n c)
 
 -- Behind a list in order that has as many ids of each creator as its cut says.
 pub fifo-entered : (g : List Id) (cuts : List ℕ) (xs : List Action) → Fifo g → ((c : ℕ) → c < length cuts → createdBy c g ≡ getD cuts c 0) → Creators cuts xs

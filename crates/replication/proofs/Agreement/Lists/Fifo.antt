@@ -27,6 +27,10 @@ Follows f (d ∷ x) = (d .index ≡ f (d .creator) + 1) × Follows (λ c. f c + 
 abbrev pub Fifo : List Id → Type 0
 Fifo x = Follows (λ c. 0) x
 
+-- The id of d's creator with the index j.
+abbrev pub withIndex : Id → ℕ → Id
+withIndex d j = record { creator = d .creator; index = j }
+
 -- ---- the cuts
 
 pub follows-same : (f g : ℕ → ℕ) (x : List Id) → ((c : ℕ) → f c ≡ g c) → Follows f x → Follows g x
@@ -65,7 +69,8 @@ begins-fifo x y b h = follows-first (λ c. 0) x (b .0) (subst Fifo (b .1) h)
 self : (c : ℕ) → one (c =? c) ≡ 1
 self c = one-yes _ (eq-yes c c refl)
 
-pub follows-within : (f : ℕ → ℕ) (x : List Id) (d : Id) → Follows f x → List·Memᴰ d x → (f (d .creator) < d .index) × (d .index ≤ f (d .creator) + createdBy (d .creator) x)
+pub follows-within : (f : ℕ → ℕ) (x : List Id) (d : Id) → Follows f x → List·Memᴰ d x
+    → (f (d .creator) < d .index) × (d .index ≤ f (d .creator) + createdBy (d .creator) x)
 unfolding count
 follows-within f (e ∷ x) d h (List·Memᴰ·head p) =
     subst (λ z. (f (z .creator) < z .index) × (z .index ≤ f (z .creator) + createdBy (z .creator) (e ∷ x))) (sym p)
@@ -114,21 +119,23 @@ pub fifo-has : (x : List Id) → Fifo x → (c i : ℕ) → 1 ≤ i → i ≤ cr
 fifo-has x h c i low high = follows-has (λ z. 0) x h c i low (omega arith)
 
 -- With an id each lower one of its creator is there.
-pub fifo-lower : (x : List Id) (d : Id) → Fifo x → List·Memᴰ d x → (j : ℕ) → 1 ≤ j → j ≤ d .index → List·Memᴰ (record { creator = d .creator; index = j }) x
+pub fifo-lower : (x : List Id) (d : Id) → Fifo x → List·Memᴰ d x → (j : ℕ) → 1 ≤ j → j ≤ d .index → List·Memᴰ (withIndex d j) x
 fifo-lower x d h m j low high = fifo-has x h (d .creator) j low (omega (arith, fifo-within x d h m .1))
 
 -- .. and stands before it.
-pub fifo-before : (x : List Id) (d : Id) (y : List Id) → Fifo (x ++ (d ∷ y)) → (j : ℕ) → 1 ≤ j → j < d .index → List·Memᴰ (record { creator = d .creator; index = j }) x
+pub fifo-before : (x : List Id) (d : Id) (y : List Id) → Fifo (x ++ (d ∷ y)) → (j : ℕ) → 1 ≤ j → j < d .index → List·Memᴰ (withIndex d j) x
 fifo-before x d y h j low high =
     fifo-has x (follows-first (λ c. 0) x (d ∷ y) h) (d .creator) j low (omega (arith, follows-second (λ c. 0) x (d ∷ y) h .0))
 
 -- A new id whose creator's lower ones are all there.
 pub fifo-next : (x : List Id) (d : Id) → Fifo x → (List·Memᴰ d x → ⊥) → 1 ≤ d .index
-    → ((j : ℕ) → 1 ≤ j → j < d .index → List·Memᴰ (record { creator = d .creator; index = j }) x) → Fifo (x ++ (d ∷ []))
-fifo-next x d h new low f = follows-append (λ c. 0) x (d ∷ []) h (go (decLe (d .index) (createdBy (d .creator) x)) (decLe (d .index) (createdBy (d .creator) x + 1)), tt)
+    → ((j : ℕ) → 1 ≤ j → j < d .index → List·Memᴰ (withIndex d j) x) → Fifo (x ++ (d ∷ []))
+fifo-next x d h new low f = follows-append (λ c. 0) x (d ∷ []) h (go (decLe (d .index) k) (decLe (d .index) (k + 1)), tt)
   where
-    go : Dec (d .index ≤ createdBy (d .creator) x) → Dec (d .index ≤ createdBy (d .creator) x + 1) → d .index ≡ 0 + createdBy (d .creator) x + 1
-    go (yes l) k = absurd (new (fifo-has x h (d .creator) (d .index) low l))
-    go (no l) (yes k) = omega arith
-    go (no l) (no k) =
-        absurd (omega (arith, fifo-within x (record { creator = d .creator; index = createdBy (d .creator) x + 1 }) h (f (createdBy (d .creator) x + 1) (omega arith) (omega arith)) .1))
+    k : ℕ
+    k = createdBy (d .creator) x
+
+    go : Dec (d .index ≤ k) → Dec (d .index ≤ k + 1) → d .index ≡ 0 + k + 1
+    go (yes l) m = absurd (new (fifo-has x h (d .creator) (d .index) low l))
+    go (no l) (yes m) = omega arith
+    go (no l) (no m) = absurd (omega (arith, fifo-within x (withIndex d (k + 1)) h (f (k + 1) (omega arith) (omega arith)) .1))

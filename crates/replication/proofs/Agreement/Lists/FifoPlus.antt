@@ -19,11 +19,8 @@ use Rattle.replication.specs.Laws.Folds.{addIds}
 use Rattle.replication.proofs.WellFormed.Ids.{has-member}
 use Rattle.replication.proofs.Agreement.Lists.Plus.{plus, Among, within, outside, among?, member-has, add-there, add-new, add-begins, add-has, add-from, plus-begins, plus-joins, plus-from}
 use Rattle.replication.proofs.Agreement.Lists.Common.{commonIds}
+pub use Rattle.replication.proofs.Agreement.Lists.Fifo.{withIndex}
 use Rattle.replication.proofs.Agreement.Lists.Fifo.{Fifo, begins-fifo, fifo-within, fifo-lower, fifo-next}
-
--- The id of d's creator with the index j.
-abbrev pub withIndex : Id → ℕ → Id
-withIndex d j = record { creator = d .creator; index = j }
 
 -- An id joins whose creator's lower ones are all there.
 pub fifo-add : (g : List Id) (d : Id) → Fifo g → 1 ≤ d .index → ((j : ℕ) → 1 ≤ j → j < d .index → List·Memᴰ (withIndex d j) g) → Fifo (addId d g)
@@ -48,16 +45,17 @@ fifo-filtered t a g (d ∷ y) p q f h = go (known (t d)) (λ b r k l. fifo-filte
         → ((e : Id) (j : ℕ) → t e ≡ true → 1 ≤ j → j < e .index → List·Memᴰ (withIndex e j) b ⊎ (t (withIndex e j) ≡ true)) → Fifo (plus b (filter t y)))
         → Fifo (plus a (filter t (d ∷ y)))
     go (fails e) more = rw e (more a p (λ x m k. ⊎-elim (λ z. f x z k) (λ z. not-both (sym e ∙ ap t (sym z) ∙ k)) (add-from d x g m)) h)
-    go (holds e) more = rw e (more (addId d a) (fifo-add a d p (fifo-within (addId d g) d front (add-has d g) .0) lower) joined (λ x j k l m. ⊎-elim (λ z. inl (kept (withIndex x j) z)) (λ z. inr z) (h x j k l m)))
+    go (holds e) more =
+        rw e (more (addId d a) (fifo-add a d p (fifo-within (addId d g) d front (add-has d g) .0) lower) joined
+        (λ x j k l m. ⊎-elim (λ z. inl (kept (withIndex x j) z)) (λ z. inr z) (h x j k l m)))
       where
         kept : (x : Id) → List·Memᴰ x a → List·Memᴰ x (addId d a)
         kept x m = begins-member a (addId d a) x (add-begins d a) m
 
         lower : (j : ℕ) → 1 ≤ j → j < d .index → List·Memᴰ (withIndex d j) a
         lower j low high =
-            ⊎-elim (λ z. z)
-            (λ z. ⊎-elim (λ m. f (withIndex d j) m z) (λ m. absurd (omega (arith, ap (λ x. x .index) m))) (add-from d (withIndex d j) g (fifo-lower (addId d g) d front (add-has d g) j low (omega arith))))
-            (h d j e low high)
+            let there = add-from d (withIndex d j) g (fifo-lower (addId d g) d front (add-has d g) j low (omega arith)) in
+            ⊎-elim (λ z. z) (λ z. ⊎-elim (λ m. f (withIndex d j) m z) (λ m. absurd (omega (arith, ap (λ x. x .index) m))) there) (h d j e low high)
 
         joined : (x : Id) → List·Memᴰ x (addId d g) → t x ≡ true → List·Memᴰ x (addId d a)
         joined x m k = ⊎-elim (λ z. kept x (f x z k)) (λ z. subst (λ w. List·Memᴰ w (addId d a)) (sym z) (add-has d a)) (add-from d x g m)
@@ -73,7 +71,8 @@ module _ {S : Type 0} (ids : S → List Id) where
   unfolding commonIds
   common-fifo g v vs p f =
       let b = f v (List·Memᴰ·head refl) in
-      fifo-filtered (λ d. all (λ w. hasId d (ids w)) vs) g (b .0) (ids v) p (b .2) (λ e m k. begins-member (b .0) g e (b .1) m) (λ d j k low high. go d j k low high (among? (withIndex d j) g))
+      fifo-filtered (λ d. all (λ w. hasId d (ids w)) vs) g (b .0) (ids v) p (b .2) (λ e m k. begins-member (b .0) g e (b .1) m)
+      (λ d j k low high. go d j k low high (among? (withIndex d j) g))
     where
       go : (d : Id) (j : ℕ) → all (λ w. hasId d (ids w)) vs ≡ true → 1 ≤ j → j < d .index → Among (withIndex d j) g
           → List·Memᴰ (withIndex d j) g ⊎ (all (λ w. hasId (withIndex d j) (ids w)) vs ≡ true)

@@ -44,7 +44,8 @@ fits-exactly n q me l f = record {
     fit : Each (IdFits n q) (idsIn (queue l))
     fit =
         each-map (IdFits n q) (λ a. a .id) (queue l)
-        (each-implied (ActionFits n q) (λ a. IdFits n q (a .id)) (λ a g. g .id) (queue l) (each-append (ActionFits n q) (l .green) (l .red) (f .ranges .green) (f .ranges .red)))
+        (each-implied (ActionFits n q) (λ a. IdFits n q (a .id)) (λ a g. g .id) (queue l)
+        (each-append (ActionFits n q) (l .green) (l .red) (f .ranges .green) (f .ranges .red)))
 
 -- By these cuts the id d is held.
 unfoldable pub isHeld : List ℕ → Id → Bool

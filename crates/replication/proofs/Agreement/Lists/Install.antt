@@ -2,7 +2,7 @@
 use Prim.Native.Nat.{ℕ, zero, suc, _+_, _-_, _≤_}
 use mathlib.Core.Path.{_≡_, sym, ap, subst, _∙_}
 use mathlib.Core.Bool.{true, false}
-use mathlib.Core.List.{List, [], _∷_, map, List·Memᴰ}
+use mathlib.Core.List.{List, [], _∷_, _++_, map, List·Memᴰ}
 use mathlib.Core.Logic.{inr}
 use native.Mathlib.Omega.{arith}
 use native.Mathlib.Decide.{ℕ-discrete, decLe}
@@ -11,20 +11,21 @@ use Rattle.base.specs.Lists.{filter, after, above, Begins}
 use Rattle.base.specs.Counts.{count}
 use Rattle.base.specs.Filters.{filter-all}
 use Rattle.base.specs.Comparable.{begins-member}
-use Rattle.format.specs.Types.{Id}
+use Rattle.format.specs.Types.{Id, Action}
 use Rattle.format.specs.Range.{hasId}
 use Rattle.replication.specs.Machine.Types.{Log}
 use Rattle.replication.specs.Machine.Colours.{cut, greenIds, addId}
 use Rattle.replication.specs.Machine.Install.{idsUpTo, installLog}
 use Rattle.replication.specs.Machine.WellFormed.{idsIn}
 use Rattle.replication.specs.Machine.WellFormedFacts.{heldCount}
-use Rattle.replication.specs.Laws.Folds.{addIds}
+use Rattle.replication.specs.Laws.Folds.{addIds, entered}
 use Rattle.replication.proofs.Step.Reds.{install-empties}
 use Rattle.replication.proofs.Runs.LogActions.{each-of, each-in}
 use Rattle.replication.proofs.WellFormed.Ids.{counted-has, has-member, up-to-each, each-up-to}
 use Rattle.replication.proofs.WellFormed.Held.{actionCount}
 use Rattle.replication.proofs.Agreement.Lists.Plus.{plus, has-absent, add-begins, add-has, plus-append, plus-begins}
 use Rattle.replication.proofs.Agreement.Lists.Fifo.{createdBy, Fifo, begins-fifo, fifo-within, fifo-has}
+use Rattle.replication.proofs.Agreement.Lists.Entered.{Creators, fifo-entered}
 use Rattle.replication.proofs.Agreement.Lists.FifoPlus.{withIndex, fifo-add, fifo-filtered}
 use Rattle.replication.proofs.Agreement.Lists.Held.{HeldExactly, isHeld, is-held, held-bounds, tells-kept, cuts-tell, green-count, green-held, green-ids-held, green-ids-cuts, green-ids-plus}
 
@@ -149,3 +150,9 @@ module _ (ys : List Id) (l : Log) (h : HeldExactly l) where
   pub install-created : Fifo (plus (idsIn (l .green)) ys) → (c : ℕ) → createdBy c (idsIn ((installLog ys l) .green)) ≡ cut l c
   unfolding cut
   install-created p c = green-created (installLog ys l) (install-exactly ys l h) install-reds (install-fifo ys l h p) c ∙ ap (λ k. getD k c 0) (install-cuts ys l)
+
+  -- What is entered afterwards goes on in order.
+  pub install-entered : Fifo (plus (idsIn (l .green)) ys) → (xs : List Action) → Creators (l .cuts) xs
+      → Fifo (idsIn ((installLog ys l) .green) ++ idsIn (entered (l .cuts) xs))
+  unfolding cut
+  install-entered p xs f = fifo-entered _ (l .cuts) xs (install-fifo ys l h p) (λ c b. install-created p c) f

@@ -7,7 +7,7 @@ use native.Mathlib.Omega.{arith}
 use native.Mathlib.Decide.{decLe}
 use lib.ListN.{length, getD}
 use lib.Seq.{getD-set-other}
-use Rattle.base.specs.Tests.{pick, eq-yes, eq-fails}
+use Rattle.base.specs.Tests.{pick, pick-yes, pick-no, both-yes, and-no, eq-yes, eq-no, eq-fails, le-yes, le-no}
 use Rattle.base.specs.Counts.{one-yes}
 use Rattle.format.specs.Types.{Id, Action}
 use Rattle.replication.specs.Machine.Types.{Log}
@@ -29,6 +29,23 @@ not-next : (l : Log) (a : Action) → isNext l a ≡ false → a .id .index ≡ 
 unfolding isNext nextIndex
 not-next l a e p = eq-fails _ _ e p
 
+-- ---- a retransmission, by its position
+
+pub placed-next : (p : ℕ) (a : Action) (l : Log) → p ≡ length (l .green) + 1 → placed p a l ≡ green a l
+unfolding placed
+placed-next p a l e = sym (pick-yes _ _ _ _ (eq-yes p (length (l .green) + 1) e) refl)
+
+pub placed-below : (p : ℕ) (a : Action) (l : Log) → 1 ≤ p → p ≤ length (l .green) → placed p a l ≡ l
+unfolding placed
+placed-below p a l low high =
+    sym (pick-no _ _ _ _ (eq-no p (length (l .green) + 1) (λ e. omega arith)) (pick-yes _ _ _ _ (both-yes _ _ (le-yes 1 p low) (le-yes p _ high)) refl))
+
+-- At position 0 stand the red ones.
+pub placed-red : (p : ℕ) (a : Action) (l : Log) → p ≡ 0 → placed p a l ≡ red a l
+unfolding placed
+placed-red p a l e =
+    sym (pick-no _ _ _ _ (eq-no p (length (l .green) + 1) (λ f. omega arith)) (pick-no _ _ _ _ (sym (and-no _ _ (le-no 1 p (omega arith)))) refl))
+
 -- ---- the green list
 
 module _ (a : Action) (l : Log) (h : HeldExactly l) where
@@ -46,7 +63,8 @@ module _ (a : Action) (l : Log) (h : HeldExactly l) where
     where
       go : Entered a l → idsIn ((green a l) .green) ≡ addId (a .id) (idsIn (l .green))
       go (entered next t e) =
-          let held : heldCount (a .id) (enter a l) ≡ 1 = omega (arith, held-enter a l (a .id), none-beyond (omega arith), one-yes _ (same-id-yes (a .id) (a .id) refl refl)) in
+          let self = one-yes _ (same-id-yes (a .id) (a .id) refl refl) in
+          let held : heldCount (a .id) (enter a l) ≡ 1 = omega (arith, held-enter a l (a .id), none-beyond (omega arith), self) in
           rw e (green-id-joins (a .id) (enter a l) (omega arith) (omega arith))
       go (ignored t e) =
           let other : a .id .index ≡ cut l (a .id .creator) + 1 → ⊥ = not-next l a t in
@@ -71,10 +89,10 @@ module _ (a : Action) (l : Log) (h : HeldExactly l) where
       let next = follows-second (λ c. 0) g (a .id ∷ z) p .0 in
       green-next (omega (arith, next)) (λ m. omega (arith, next, fifo-within g (a .id) (follows-first (λ c. 0) g (a .id ∷ z) p) m .1)) (fifo-before g (a .id) z p)
 
+  -- .. also by a retransmission at its position.
   pub placed-in-order : (z : List Id) (p : ℕ) → p ≡ length (l .green) + 1 → Fifo (idsIn (l .green) ++ (a .id ∷ z))
       → idsIn ((placed p a l) .green) ≡ idsIn (l .green) ++ (a .id ∷ [])
-  unfolding placed pick
-  placed-in-order z p e f = rw (eq-yes p (length (l .green) + 1) e) (green-in-order z f)
+  placed-in-order z p e f = ap (λ m. idsIn (m .green)) (placed-next p a l e) ∙ green-in-order z f
 
 -- ---- the cuts
 
@@ -91,7 +109,8 @@ unfolding green
 green-cuts a l = green-id-cuts (a .id) (red a l) ∙ red-cuts a l
 
 -- The creator's cut rises to the index of an action that is its next, and no other cut changes.
-pub red-cut : (a : Action) (l : Log) → a .id .creator < length (l .cuts) → a .id .index ≤ cut l (a .id .creator) + 1 → cut (red a l) (a .id .creator) ≡ max (cut l (a .id .creator)) (a .id .index)
+pub red-cut : (a : Action) (l : Log) → a .id .creator < length (l .cuts) → a .id .index ≤ cut l (a .id .creator) + 1
+    → cut (red a l) (a .id .creator) ≡ max (cut l (a .id .creator)) (a .id .index)
 red-cut a l b high = go (entered? a l)
   where
     go : Entered a l → cut (red a l) (a .id .creator) ≡ max (cut l (a .id .creator)) (a .id .index)

@@ -181,9 +181,15 @@ pub plus-apart : (g y : List Id) → Once y → ((d : Id) → List·Memᴰ d y �
 plus-apart g y o f =
     plus-filter g y o ∙ ap (λ z. g ++ z) (filter-all (λ d. not (hasId d g)) y (λ d m. ap not (absent-has d g (f d m))))
 
+-- The two together have no id twice.
+pub plus-once-behind : (g y : List Id) → Once (g ++ y) → plus g y ≡ g ++ y
+plus-once-behind g y o =
+    plus-apart g y (λ d. omega (arith, o d, count-append (sameId d) g y))
+    (λ d m k. omega (arith, o d, count-append (sameId d) g y, has-counted d y (member-has d y m), has-counted d g (member-has d g k)))
+
 -- ---- what begins such a list
 
--- R begins g plus y. It goes on to do so while g grows, as long as g does not turn away from R.
+-- What begins g plus y begins it while g grows, as long as the two stay comparable.
 pub plus-grown : (r g h y : List Id) → Begins r (plus g y) → Begins g h → Comparable r h → Begins r (plus h y)
 unfolding plus addIds Comparable
 plus-grown r g h [] b p c = begins-trans r g h b p
@@ -204,8 +210,9 @@ plus-grown r g h (d ∷ y) b p c = go c (among? d g) (λ k z q. plus-grown r k h
         after (inl z) = subst (λ k. Begins r (plus k (d ∷ y))) (begins-antisym g h p z) b
         after (inr z) = rw (add-there d h (next-member g h d z)) (more (g ++ (d ∷ [])) (rw (add-new d g f) at b) z)
 
--- Leaving out of y what is not in R.
-pub plus-filtered : (t : Id → Bool) (r g y : List Id) → Begins r (plus g y) → ((d : Id) → List·Memᴰ d r → List·Memᴰ d g ⊎ (t d ≡ true)) → Begins r (plus g (filter t y))
+-- Leaving out of y what is neither in r nor in g.
+pub plus-filtered : (t : Id → Bool) (r g y : List Id) → Begins r (plus g y)
+    → ((d : Id) → List·Memᴰ d r → List·Memᴰ d g ⊎ (t d ≡ true)) → Begins r (plus g (filter t y))
 unfolding plus addIds filter pick
 plus-filtered t r g [] b f = b
 plus-filtered t r g (d ∷ y) b f = go (known (t d)) (among? d g) (λ k z h. plus-filtered t r k y z h)
