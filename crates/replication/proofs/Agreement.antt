@@ -1,3 +1,6 @@
 pub mod Terms
+pub mod Exchange
 pub mod Votes
+pub mod Lists
+pub mod Primaries
 pub mod Greens

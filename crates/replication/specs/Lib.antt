@@ -4,4 +4,5 @@ pub mod Replay
 pub mod Pairs
 pub mod Runs
 pub mod Laws
+pub mod Audit
 pub mod Opened

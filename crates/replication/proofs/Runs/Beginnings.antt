@@ -167,7 +167,7 @@ module _ (n q : ℕ) (l : Run) (k : ℕ) where
     causes-whole (in-turn i x y h) = in-turn i (of-whole x) (of-whole y) h
     causes-whole (sends m h) = sends m (sent-whole (m .sending) (m .number) h)
     causes-whole (in-order m m′ e h g) = in-order m m′ e h (sent-whole (m′ .sending) (m′ .number) g)
-    causes-whole (before-next i m x y h) = before-next i m (of-whole x) (of-whole y) h
+    causes-whole (before-next i m b x y h) = before-next i m (sent-whole (m .sending) (m .number) b) (of-whole x) (of-whole y) h
     causes-whole (carries i m d) = carries i m (delivers-whole d)
     causes-whole (through x y) = through (causes-whole x) (causes-whole y)
 

@@ -86,7 +86,7 @@ module _ {n q : ℕ} {l : Run} (A : Allowed n q l) where
   own-order {p} {i} {j} {m} {m′} {c} s t b d = A .causal p i i j m m′ c s t (go b) d
     where
       go : SentBefore m m′ → Causes n q l (A .source) (A .name) (sending-of m) (sending-of m′)
-      go (in-earlier-event h) = through (before-next i m (s .mine) (t .mine) h) (sends m′ (t .out))
+      go (in-earlier-event h) = through (before-next i m (s .out) (s .mine) (t .mine) h) (sends m′ (t .out))
       go (in-same-event e h) = in-order m m′ e h (t .out)
 
   members-regular : (c : Configuration) (x : Place) → x ≡ inRegularOf c → members x ≡ c .set
