@@ -11,6 +11,8 @@ pub mod AtLaws
 pub mod Rising
 pub mod Chains
 pub mod Distinct
+pub mod Passing
+pub mod Totals
 pub mod ListLaws
 pub mod SameLaws
 pub mod Sections

@@ -22,6 +22,8 @@ pub mod Stays
 pub mod PutRecords
 pub mod LogActions
 pub mod StateOrigins
+pub mod CpcOrigins
+pub mod Progress
 pub mod Hearing
 pub mod OwnStates
 pub mod Made
