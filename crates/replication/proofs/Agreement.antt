@@ -2,3 +2,4 @@ pub mod Terms
 pub mod Exchange
 pub mod Votes
 pub mod Lists
+pub mod Contents
