@@ -1,1 +1,5 @@
 pub mod Plan
+pub mod Logs
+pub mod Sent
+pub mod Agreeable
+pub mod Collected
