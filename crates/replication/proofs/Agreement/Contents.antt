@@ -3,3 +3,5 @@ pub mod Logs
 pub mod Sent
 pub mod Agreeable
 pub mod Collected
+pub mod Placing
+pub mod Come

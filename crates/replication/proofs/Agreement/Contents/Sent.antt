@@ -132,9 +132,20 @@ module _ {n q : ℕ} {l : Run} (A : Allowed n q l) where
 
   -- Those that the server put out before it came before it.
   pub part-before : {x i k : ℕ} {m : Message} {c : Configuration} → PartMessage A m k c → Delivery A x i m → (u : ℕ) → u < m .number
-      → (y : ℕ) × (y < x) × Delivery A y i (record { sending = m .sending; number = u }) × InCom n q l y i c
+      → (y : ℕ) × (y < x) × Delivery A y i (record { sending = m .sending; number = u })
+      × PartMessage A (record { sending = m .sending; number = u }) k c × InCom n q l y i c
   part-before {x} {i} {k} {m} {c} s d u h =
       let m′ : Message = record { sending = m .sending; number = u } in
       let w : Sends n q l k m′ c = record { mine = s .sends .mine; out = omega (arith, s .sends .out); under = s .sends .under } in
       let y = A .causal x k k i m′ m c w (s .sends) (in-order m′ m refl h (s .sends .out)) d in
-      (y .0, y .2, y .1, delivered-where-sent A (y .1) w)
+      let z : PartPut A (m .sending) k u c =
+      record {
+        before = s .put .before;
+        after = s .put .after;
+        collecting = s .put .collecting;
+        resending = s .put .resending;
+        complete = s .put .complete;
+        below-length = omega (arith, s .put .below-length);
+      }
+      in
+      (y .0, y .2, y .1, record { sends = w; member = s .member; put = z }, delivered-where-sent A (y .1) w)

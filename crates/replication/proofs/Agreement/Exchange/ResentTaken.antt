@@ -41,7 +41,7 @@ owner x = ap ownerOf (x .here) ∙ x .its
 
 module _ {n q : ℕ} {l : Run} (A : Allowed n q l) where
   module _ (p i : ℕ) (c : Configuration) (here : InCom n q l p i c) (complete : everyStateIn (membershipAt n q l p i) ≡ true) (t : ℕ) where
-    pub statesHere : List State
+    abbrev pub statesHere : List State
     statesHere = statesIn (membershipAt n q l p i)
 
     -- The number, among all that are planned, of the retransmission that comes at x.
@@ -55,7 +55,7 @@ module _ {n q : ℕ} {l : Run} (A : Allowed n q l) where
       pub below-share : A .source x .number < share n statesHere sender
 
     pub resent : (x : ℕ) → List·Memᴰ x (passing (resentAt n q l c i) t) → Resent x
-    unfolding isMessage planNumber statesHere
+    unfolding isMessage planNumber
     resent x h =
         let u = resent-holds n q l c i x (passing-in (resentAt n q l c i) t x h .1) in
         let m = part-message A (coming A (u .3) refl) refl (u .4) in
@@ -70,7 +70,6 @@ module _ {n q : ℕ} {l : Run} (A : Allowed n q l) where
         }
 
     pub number-below : (x : ℕ) → List·Memᴰ x (passing (resentAt n q l c i) t) → planNumber x < plannedIn n (membershipAt n q l p i)
-    unfolding statesHere
     number-below x h =
         let y = resent x h in
         let m = y .message in
