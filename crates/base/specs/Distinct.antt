@@ -3,9 +3,9 @@
 use Prim.Native.Nat.{ℕ, zero, suc, _+_, _≤_, _<_}
 use mathlib.Core.Path.{_≡_, refl, sym, ap, subst, _∙_}
 use mathlib.Core.List.{List, [], _∷_, _++_, map, List·Memᴰ, List·Memᴰ·head, List·Memᴰ·tail, List·Memᴰ·not-nil, List·Memᴰ·cases-cons, List·Memᴰ·append-cases, Memᴰ·append-left, Memᴰ·append-right, Memᴰ·cast, Memᴰ·of-map}
-use mathlib.Core.Logic.{_⊎_, inl, inr}
+use mathlib.Core.Logic.{_⊎_, inl, inr, ⊎-elim}
 use native.Mathlib.Omega.{arith}
-use native.Mathlib.Decide.{decLt}
+use native.Mathlib.Decide.{decLt, ℕ-discrete}
 use lib.ListN.{length, length-append, length-map}
 use Rattle.base.specs.Lists.{below}
 use Rattle.base.specs.ListLaws.{below-length}
@@ -65,6 +65,16 @@ below-has (suc n) k h = go (decLt k n) (below-has n k)
     go (yes a) f = Memᴰ·append-left (n ∷ []) (f a)
     go (no a) f = let e : k ≡ n = omega arith in Memᴰ·append-right (below n) (List·Memᴰ·head e)
 
+-- Whether a number is in a list.
+among? : (y : ℕ) (xs : List ℕ) → Dec (List·Memᴰ y xs)
+among? y [] = no (λ m. List·Memᴰ·not-nil m)
+among? y (x ∷ xs) = go (ℕ-discrete y x) (among? y xs)
+  where
+    go : Dec (y ≡ x) → Dec (List·Memᴰ y xs) → Dec (List·Memᴰ y (x ∷ xs))
+    go (yes e) r = yes (List·Memᴰ·head e)
+    go (no e) (yes m) = yes (List·Memᴰ·tail m)
+    go (no e) (no m) = no (λ w. ⊎-elim (λ p. e p) (λ p. m p) (List·Memᴰ·cases-cons w))
+
 -- Numbers below m that a list tells apart are at most m.
 pub numbered-length : {A : Type 0} (f : A → ℕ) (m : ℕ) (xs : List A) → ((a b : A) → List·Memᴰ a xs → List·Memᴰ b xs → f a ≡ f b → a ≡ b)
     → ((a : A) → List·Memᴰ a xs → f a < m) → Distinct xs → length xs ≤ m
@@ -74,3 +84,21 @@ numbered-length f m xs h k d =
     (λ b i. let a = Memᴰ·of-map f xs i in subst (λ y. List·Memᴰ y (below m)) (a .2) (below-has m (f (a .0)) (k (a .0) (a .1))))
     in
     omega (arith, z, length-map xs f, below-length m)
+
+-- If a list tells apart as many numbers below m as there are, each is the number of an element.
+pub numbered-onto : {A : Type 0} (f : A → ℕ) (m : ℕ) (xs : List A) → ((a b : A) → List·Memᴰ a xs → List·Memᴰ b xs → f a ≡ f b → a ≡ b)
+    → ((a : A) → List·Memᴰ a xs → f a < m) → Distinct xs → m ≤ length xs → (y : ℕ) → y < m → (a : A) × List·Memᴰ a xs × (f a ≡ y)
+numbered-onto {A} f m xs h k d g y b = go (among? y (map f xs))
+  where
+    go : Dec (List·Memᴰ y (map f xs)) → (a : A) × List·Memᴰ a xs × (f a ≡ y)
+    go (yes i) = let a = Memᴰ·of-map f xs i in (a .0, a .1, a .2)
+    go (no i) =
+        let z =
+        included-length (y ∷ map f xs) (below m) (i, distinct-map f xs h d)
+        (λ u w. has u (List·Memᴰ·cases-cons w))
+        in
+        absurd (omega (arith, z, length-map xs f, below-length m))
+      where
+        has : (u : ℕ) → (u ≡ y) ⊎ List·Memᴰ u (map f xs) → List·Memᴰ u (below m)
+        has u (inl e) = below-has m u (omega arith)
+        has u (inr w) = let a = Memᴰ·of-map f xs w in subst (λ v. List·Memᴰ v (below m)) (a .2) (below-has m (f (a .0)) (k (a .0) (a .1)))
