@@ -7,7 +7,6 @@ use mathlib.Core.List.{List, [], _∷_, _++_, append-assoc}
 use mathlib.Core.Option.{some}
 use native.Mathlib.Omega.{arith}
 use native.Mathlib.Decide.{decLt}
-use Rattle.base.specs.Lists.{Begins}
 use Rattle.base.specs.Sets.{inSet}
 use Rattle.format.specs.Types.{Id}
 use Rattle.replication.specs.Machine.Types.{Configuration, Server}
@@ -24,6 +23,8 @@ use Rattle.replication.proofs.Agreement.Votes.Events.{taken-before}
 use Rattle.replication.proofs.Agreement.Votes.Known.{KnownPrimary, of-start, of-install, known-primary, image-known}
 use Rattle.replication.proofs.Agreement.Votes.Attempts.{installed-index}
 use Rattle.replication.proofs.Agreement.Votes.Unique.{unique-install}
+use Rattle.replication.proofs.Agreement.Lists.Plus.{plus-begins}
+use Rattle.replication.proofs.Agreement.Lists.Fifo.{begins-fifo}
 use Rattle.replication.proofs.Agreement.Greens.Beginnings.{Prefix, Comparable, shorter, longer, prefix-refl, prefix-trans, prefix-to, prefix-from, prefix-nil, prefix-append, both-begin, comparable-beginnings, comparable-sym}
 use Rattle.replication.proofs.Agreement.Greens.Terms.{greens, plus, Fifo, baseOf, cutsOf, reach, residue, Settled, nothing, at-base, left, Reached, settled, own, Agreeable}
 use Rattle.replication.proofs.Agreement.Greens.Parts.{Parts}
@@ -33,18 +34,7 @@ use Rattle.replication.proofs.Agreement.Greens.Residues.{residue-reach,
 -- ---- orders
 
 pub fifo-beginning : {x y : List Id} → Prefix x y → Fifo y → Fifo x
-unfolding Begins
-fifo-beginning {x} {y} h f = record {
-  new = λ u v d e. f .new u (v ++ rest) d (longer-too u v d e);
-  first = λ u v d e. f .first u (v ++ rest) d (longer-too u v d e);
-  next = λ u v d j e. f .next u (v ++ rest) d j (longer-too u v d e);
-}
-  where
-    rest : List Id
-    rest = h .begins .0
-
-    longer-too : (u v : List Id) (d : Id) → x ≡ u ++ (d ∷ v) → y ≡ u ++ (d ∷ (v ++ rest))
-    longer-too u v d e = h .begins .1 ∙ ap (λ w. w ++ rest) e ∙ append-assoc u (d ∷ v) rest
+fifo-beginning {x} {y} h f = record { follows = begins-fifo x y (h .begins) (f .follows) }
 
 -- ---- Installs before t
 
@@ -154,5 +144,4 @@ module _ {n q : ℕ} {l : Run} (A : Allowed n q l) (X : ExchangeFacts n q l) whe
     residue-comparable d {p} {i} {s} {c} {u} x h m y = bounded-comparable (under p i d c x h m prefix-refl) (reached-bounded (I .reached s u y))
 
     pub image-fifo : {s : ℕ} {u : Server} → Image n q l t s u → Fifo (greens u)
-    unfolding plus
-    image-fifo {s} {u} x = fifo-beginning (prefix-append (greens u) _) (I .fifo s u x)
+    image-fifo {s} {u} x = fifo-beginning (record { begins = plus-begins (greens u) _ }) (I .fifo s u x)

@@ -38,6 +38,7 @@ use Rattle.replication.proofs.Agreement.Votes.Marks.{taken-mark}
 use Rattle.replication.proofs.Agreement.Votes.Present.{AfterAttempt, later-primary, waits, covered-index}
 use Rattle.replication.proofs.Agreement.Votes.Unique.{markFor, unique-install, unique-known, kept-mark}
 use Rattle.replication.proofs.Agreement.Greens.Beginnings.{Prefix, Comparable, prefix-refl, prefix-trans, prefix-to, prefix-from, prefix-same, comparable-beginnings, take-begins}
+use Rattle.replication.proofs.Agreement.Lists.Plus.{plus-nil}
 use Rattle.replication.proofs.Agreement.Greens.Terms as G
 use Rattle.replication.proofs.Agreement.Greens.Terms.{greens, plus, Fifo, validYellow, baseOf, reach, markOfInstall, residue, Answers, by-yellow, by-attempt, by-mark, nothing-more, fell}
 use Rattle.replication.proofs.Agreement.Greens.Parts.{Parts}
@@ -51,7 +52,7 @@ use Rattle.replication.proofs.Agreement.Greens.Covering.{installing-att
 use Rattle.replication.proofs.Agreement.Greens.Silence.{install-mark}
 use Rattle.replication.proofs.Agreement.Greens.Answering.{known-list, answers-same, ExchangeCovers}
 use Rattle.replication.proofs.Agreement.Greens.Gathered.{Sender, sender, ValidState, YellowTaken, invalid, valid, yellow-taken, valid-sender, sender-yellow}
-use Rattle.replication.proofs.Agreement.Greens.Ordering.{no-valid-yellow, plus-nothing, greens-fifo}
+use Rattle.replication.proofs.Agreement.Greens.Ordering.{no-valid-yellow, greens-fifo}
 use Rattle.replication.proofs.Agreement.Greens.Joined.{joined-known}
 
 -- ---- marks
@@ -215,7 +216,7 @@ module _ {n q : ℕ} {l : Run} (A : Allowed n q l) (X : ExchangeFacts n q l) (P 
     by-unmarked : filter isValid (updatedGroup (collected (y .judged))) ≡ [] → (w : State) → List·Memᴰ w (collected (y .judged)) → inSet (w .sender) (c .set) ≡ true
         → (Alike (markOfInstall A x) (w .mark) → ⊥) → Prefix r g
     unfolding isValid updatedGroup samePair
-    by-unmarked none w a b f = prefix-trans (prefix-to covers (ap (plus (greens u)) no-yellow ∙ plus-nothing (greens u))) (z .begins)
+    by-unmarked none w a b f = prefix-trans (prefix-to covers (ap (plus (greens u)) no-yellow ∙ plus-nil (greens u))) (z .begins)
       where
         z : Sender A t e g w
         z = sender A X P U y w a
@@ -339,5 +340,5 @@ module _ {n q : ℕ} {l : Run} (A : Allowed n q l) (X : ExchangeFacts n q l) (P 
         u = memoryAt n q l (suc t) s
 
         go : YellowTaken A X P U u (collected (y .judged)) → Prefix r (known-list u)
-        go (invalid k none) = prefix-to (by-own none k a (ended y)) (sym (ap (plus g) (no-valid-yellow u k) ∙ plus-nothing g))
+        go (invalid k none) = prefix-to (by-own none k a (ended y)) (sym (ap (plus g) (no-valid-yellow u k) ∙ plus-nil g))
         go (valid v vs k b f) = prefix-to (by-valid v vs k) (ap (plus g) (sym f))

@@ -16,6 +16,7 @@ use Rattle.replication.specs.Runs.Claim.{Agreement, StoredAgree}
 use Rattle.replication.proofs.Runs.Places.{world-at-start}
 use Rattle.replication.proofs.Agreement.Terms.{Image, in-memory, in-store, ExchangeFacts}
 use Rattle.replication.proofs.Agreement.Votes.Turns.{ended-last}
+use Rattle.replication.proofs.Agreement.Lists.Plus.{plus-nil}
 use Rattle.replication.proofs.Agreement.Greens.Terms.{greens, plus, Fifo, validYellow, settled, nothing}
 use Rattle.replication.proofs.Agreement.Greens.Parts.{Parts}
 use Rattle.replication.proofs.Agreement.Greens.Invariant.{Invariant, UpTo}
@@ -24,7 +25,7 @@ use Rattle.replication.proofs.Agreement.Greens.Reaching.{reached-after}
 use Rattle.replication.proofs.Agreement.Greens.Bases.{has-base-after}
 use Rattle.replication.proofs.Agreement.Greens.Covering.{base-fifo-after, next-covers-after}
 use Rattle.replication.proofs.Agreement.Greens.Answering.{ExchangeCovers, answers-after}
-use Rattle.replication.proofs.Agreement.Greens.Ordering.{fifo-nil, no-valid-yellow, plus-nothing, fifo-after}
+use Rattle.replication.proofs.Agreement.Greens.Ordering.{fifo-nil, no-valid-yellow, fifo-after}
 use Rattle.replication.proofs.Agreement.Greens.Entering.{yellow-entered-after}
 use Rattle.replication.proofs.Agreement.Greens.Joined.{bits-after}
 use Rattle.replication.proofs.Agreement.Greens.Deciding.{decided-covers}
@@ -50,7 +51,7 @@ module _ {n q : ℕ} {l : Run} (A : Allowed n q l) where
     answers = λ p i s d c u x h y e a m. absurd (omega arith);
     bits = λ p i s d c u x y h b. absurd (omega (arith, start-empty y .2, h .status));
     base-fifo = λ p i c x h. absurd (omega arith);
-    fifo = λ s u y. subst (λ z. Fifo z) (sym (ap (plus (greens u)) (no-valid-yellow u (start-empty y .1)) ∙ plus-nothing (greens u) ∙ start-empty y .0)) fifo-nil;
+    fifo = λ s u y. subst (λ z. Fifo z) (sym (ap (plus (greens u)) (no-valid-yellow u (start-empty y .1)) ∙ plus-nil (greens u) ∙ start-empty y .0)) fifo-nil;
     yellow-entered = λ s u y. subst (λ z. Each (λ d. d .index ≤ cut (u .log) (d .creator)) z) (sym (no-valid-yellow u (start-empty y .1))) tt;
   }
 

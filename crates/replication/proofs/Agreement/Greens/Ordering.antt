@@ -26,6 +26,7 @@ use Rattle.replication.proofs.Runs.Modes.{standing, standing-in}
 use Rattle.replication.proofs.Runs.Numbers.{invariant-at}
 use Rattle.replication.proofs.Runs.Places.{of-event}
 use Rattle.replication.proofs.Agreement.Terms.{Image, in-memory, in-store, Within, EndsAt, InstallsAt, ExchangeFacts}
+use Rattle.replication.proofs.Agreement.Lists.Plus.{plus-nil}
 use Rattle.replication.proofs.Agreement.Greens.Beginnings.{Prefix, prefix-refl, prefix-trans, prefix-to, prefix-from, take-begins}
 use Rattle.replication.proofs.Agreement.Greens.Terms.{greens, plus, Fifo, validYellow, baseOf, Settled, nothing, at-base, left, Reached, settled, own}
 use Rattle.replication.proofs.Agreement.Greens.Parts.{Parts}
@@ -44,19 +45,12 @@ use Rattle.replication.proofs.Agreement.Greens.Answering.{known-list, s
 use Rattle.replication.proofs.Agreement.Greens.Gathered.{Sender, ValidState, YellowTaken, invalid, valid, yellow-taken, valid-sender, sender-yellow}
 
 pub fifo-nil : Fifo []
-fifo-nil = record { new = λ y z d e. absurd (no y d z e); first = λ y z d e. absurd (no y d z e); next = λ y z d j e. absurd (no y d z e) }
-  where
-    no : (y : List Id) (d : Id) (z : List Id) → [] ≡ y ++ (d ∷ z) → ⊥
-    no y d z e = omega (arith, ap length e, length-append y (d ∷ z))
+fifo-nil = record { follows = tt }
 
 -- Not valid.
 pub no-valid-yellow : (u : Server) → u .votes .yellow .status ≡ 0 → validYellow u ≡ []
 unfolding validYellow pick
 no-valid-yellow u h = rw (eq-no (u .votes .yellow .status) 1 (λ e. omega arith))
-
-pub plus-nothing : (g : List Id) → plus g [] ≡ g
-unfolding plus filter
-plus-nothing g = append-nil g
 
 module _ {n q : ℕ} {l : Run} (A : Allowed n q l) (X : ExchangeFacts n q l) (P : Parts A) {t : ℕ} (U : UpTo A t) where
   settled-fifo : {g : List Id} → Settled A (suc t) g → Fifo g
@@ -77,13 +71,13 @@ module _ {n q : ℕ} {l : Run} (A : Allowed n q l) (X : ExchangeFacts n q l) (P 
   acted-fifo {s} y = subst (λ u. Fifo (greens u)) (y .memory-next) (greens-fifo (in-memory (y .down-next)))
 
   invalid-fifo : {s : ℕ} (y : Acts n q l t s) → y .after .votes .yellow .status ≡ 0 → Fifo (known-list (y .after))
-  invalid-fifo y h = subst (λ z. Fifo z) (sym (ap (plus (greens (y .after))) (no-valid-yellow (y .after) h) ∙ plus-nothing _)) (acted-fifo y)
+  invalid-fifo y h = subst (λ z. Fifo z) (sym (ap (plus (greens (y .after))) (no-valid-yellow (y .after) h) ∙ plus-nil _)) (acted-fifo y)
 
   -- ---- at the end of an exchange
 
   ending-fifo : {s : ℕ} {c : Configuration} (y : EndsAt n q l t s c) → YellowTaken A X P U (memoryAt n q l (suc t) s) (collected (y .judged))
       → Fifo (known-list (memoryAt n q l (suc t) s))
-  ending-fifo {s} y (invalid h e) = subst (λ z. Fifo z) (sym (ap (plus (greens u)) (no-valid-yellow u h) ∙ plus-nothing _)) (greens-fifo (in-memory (y .acts .down-next)))
+  ending-fifo {s} y (invalid h e) = subst (λ z. Fifo z) (sym (ap (plus (greens u)) (no-valid-yellow u h) ∙ plus-nil _)) (greens-fifo (in-memory (y .acts .down-next)))
     where
       u : Server
       u = memoryAt n q l (suc t) s

@@ -24,8 +24,9 @@ use Rattle.replication.proofs.Runs.Entries.{had}
 use Rattle.replication.proofs.Runs.Shifts.{Shift, to-regular, to-transitional, to-nowhere, stays, shift, takes-no-fall, transitional-no-fall, stays-no-fall}
 use Rattle.replication.proofs.Runs.Stays.{placed-up}
 use Rattle.replication.proofs.Agreement.Terms.{Within, InstallsAt}
+use Rattle.replication.proofs.Agreement.Primaries.Acted.{actedIn}
 use Rattle.replication.proofs.Agreement.Greens.Beginnings.{Prefix, Comparable, prefix-refl, prefix-trans, prefix-to, prefix-from, prefix-same, prefix-append, prefix-length, both-begin, comparable-beginnings, take-begins, begins-take, take-within, shorter}
-use Rattle.replication.proofs.Agreement.Greens.Terms.{greens, actedIn, baseOf, cutsOf, reach, isFall, fallsIn, residue}
+use Rattle.replication.proofs.Agreement.Greens.Terms.{greens, baseOf, cutsOf, reach, isFall, fallsIn, residue}
 
 module _ {n q : ℕ} {l : Run} (A : Allowed n q l) where
   -- ---- the test for a fall

@@ -2,28 +2,27 @@
 -- that can still be known after a fall.
 use Prim.Native.Nat.{ℕ, zero, suc, max, _≤_, _<_}
 use mathlib.Core.Path.{_≡_}
-use mathlib.Core.Bool.{Bool, true, false, not}
-use mathlib.Core.List.{List, [], _∷_, _++_}
-use mathlib.Core.Logic.{_⊎_}
-use mathlib.Core.Option.{Option, none, some}
+use mathlib.Core.Bool.{Bool, true, false}
+use mathlib.Core.List.{List, [], _++_}
 use lib.ListN.{length, take}
 use Rattle.base.specs.Tests.{_and_, _=?_, pick}
-use Rattle.base.specs.Lists.{filter, gather}
 use Rattle.base.specs.Sets.{inSet}
-use Rattle.format.specs.Types.{Id, Action, Record, action, retransmission, state, cpc, regular, transitional, request, recovery, Mark, Primary}
-use Rattle.format.specs.Range.{hasId}
+use Rattle.format.specs.Types.{Id, Mark}
 use Rattle.replication.specs.Machine.Types.{Configuration, Server}
 use Rattle.replication.specs.Machine.WellFormed.{idsIn}
 use Rattle.replication.specs.Laws.Folds.{entered}
 use Rattle.replication.specs.Laws.Modes.{attempting}
-use Rattle.replication.specs.Runs.Run.{Run, Place, placeAt}
-use Rattle.replication.specs.Runs.DeliveryFacts.{within, withinRegular, deliveredRecords}
+use Rattle.replication.specs.Runs.Run.{Run, placeAt}
+use Rattle.replication.specs.Runs.DeliveryFacts.{within, withinRegular}
 use Rattle.replication.specs.Runs.Happenings.{Falls, Takes}
 use Rattle.replication.specs.Runs.Allowed.{Allowed}
 use Rattle.replication.proofs.Runs.Shifts.{Shift, to-regular, to-transitional, to-nowhere, stays, shift}
 use Rattle.replication.proofs.Runs.AllowedTurns.{memoryAt, storeAt}
 use Rattle.replication.proofs.Agreement.Terms.{Within, InstallsAt, installed}
 use Rattle.replication.proofs.Agreement.Votes.Judging.{Alike}
+pub use Rattle.replication.proofs.Agreement.Lists.Plus.{plus}
+use Rattle.replication.proofs.Agreement.Lists.Fifo as F
+use Rattle.replication.proofs.Agreement.Primaries.Acted.{actedIn}
 use Rattle.replication.proofs.Agreement.Greens.Beginnings.{Prefix, Comparable}
 
 -- ---- lists of ids
@@ -32,15 +31,9 @@ use Rattle.replication.proofs.Agreement.Greens.Beginnings.{Prefix, Comp
 abbrev pub greens : Server → List Id
 greens u = idsIn (u .log .green)
 
--- The ids g, then those of the ids ys that are not among them.
-unfoldable pub plus : List Id → List Id → List Id
-plus g ys = g ++ filter (λ d. not (hasId d g)) ys
-
--- Each id comes once, after all lower indexes of its creator.
+-- Each creator's ids stand 1, 2, 3 .. in order: `Follows` from no cuts, as a record, so that the list is read off it.
 pub record Fifo (x : List Id) : Type 0 where
-  pub new : (y z : List Id) (d : Id) → x ≡ y ++ (d ∷ z) → hasId d y ≡ false
-  pub first : (y z : List Id) (d : Id) → x ≡ y ++ (d ∷ z) → 1 ≤ d .index
-  pub next : (y z : List Id) (d : Id) (j : ℕ) → x ≡ y ++ (d ∷ z) → 1 ≤ j → j < d .index → hasId (record { creator = d .creator; index = j }) y ≡ true
+  pub follows : F.Fifo x
 
 -- The yellow ids, if yellow is valid.
 unfoldable pub validYellow : Server → List Id
@@ -48,21 +41,7 @@ validYellow u = pick (u .votes .yellow .status =? 1) (u .votes .yellow .ids) []
 
 -- ---- an Install, and what follows it in its configuration
 
-unfoldable pub actionIn : Record → Option Action
-actionIn (action a) = some a
-actionIn (retransmission k p a) = none
-actionIn (state x) = none
-actionIn (cpc k i) = none
-actionIn (regular i s) = none
-actionIn (transitional s) = none
-actionIn (request p) = none
-actionIn recovery = none
-
 module _ {n q : ℕ} {l : Run} (A : Allowed n q l) where
-  -- The actions that the server i delivers before p while its place passes the test, in order.
-  unfoldable pub actedIn : (Place → Bool) → ℕ → ℕ → List Action
-  actedIn t i p = gather actionIn (deliveredRecords n q l (A .source) t i p)
-
   module _ {p i : ℕ} {c : Configuration} (x : InstallsAt n q l p i c) where
     -- The green list after the Install; the cuts at it.
     unfoldable pub baseOf : List Id
@@ -73,7 +52,7 @@ module _ {n q : ℕ} {l : Run} (A : Allowed n q l) where
 
     -- How far the member d gets in the regular configuration, in the whole run.
     unfoldable pub reach : ℕ → List Id
-    reach d = baseOf ++ idsIn (entered cutsOf (actedIn (withinRegular c) d (length l)))
+    reach d = baseOf ++ idsIn (entered cutsOf (actedIn A (withinRegular c) d (length l)))
 
   -- The mark of the attempt that was installed.
   abbrev pub markOfInstall : {p i : ℕ} {c : Configuration} → InstallsAt n q l p i c → Mark
