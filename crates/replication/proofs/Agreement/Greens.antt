@@ -22,3 +22,4 @@ pub mod Leaving
 pub mod Joined
 pub mod Deciding
 pub mod Induction
+pub mod OfLists
