@@ -23,3 +23,4 @@ pub mod Joined
 pub mod Deciding
 pub mod Induction
 pub mod OfLists
+pub mod OfPrimaries
