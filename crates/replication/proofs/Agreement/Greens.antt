@@ -24,3 +24,4 @@ pub mod Deciding
 pub mod Induction
 pub mod OfLists
 pub mod OfPrimaries
+pub mod Demand
