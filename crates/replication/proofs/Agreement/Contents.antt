@@ -5,3 +5,4 @@ pub mod Agreeable
 pub mod Collected
 pub mod Placing
 pub mod Come
+pub mod Gained
