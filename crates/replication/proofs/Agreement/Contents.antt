@@ -6,3 +6,4 @@ pub mod Collected
 pub mod Placing
 pub mod Come
 pub mod Gained
+pub mod Exchanging

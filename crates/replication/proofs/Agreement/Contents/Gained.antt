@@ -48,7 +48,7 @@ use Rattle.replication.proofs.Agreement.Contents.Come.{Came, came-later
 -- ---- finding a held action
 
 -- What is found has the id.
-found-id : (d : Id) (xs : List Action) (a : Action) → find d xs ≡ some a → d ≡ a .id
+pub found-id : (d : Id) (xs : List Action) (a : Action) → find d xs ≡ some a → d ≡ a .id
 found-id d xs a e = go (found? d xs)
   where
     go : Found d xs → d ≡ a .id
@@ -79,7 +79,7 @@ resent-action e = cc
 
 module _ {n q : ℕ} {l : Run} (A : Allowed n q l) (c : Configuration) (p0 i0 : ℕ) (here : InCom n q l p0 i0 c)
     (full : everyStateIn (membershipAt n q l p0 i0) ≡ true) (t : ℕ) (most : p0 ≤ suc t) (G : Agreeable n q l t c) where
-  abbrev states : List State
+  abbrev pub states : List State
   states = statesOf A c p0 i0 here full
 
   -- Who resends by position.
@@ -95,15 +95,15 @@ module _ {n q : ℕ} {l : Run} (A : Allowed n q l) (c : Configuration) (p0 i0 : 
   highCut d = highest (cutIn d) states
 
   -- One who took c is a member.
-  member : {e k : ℕ} → Takes n q l e k c → (k < n) × (inSet k (c .set) ≡ true)
+  pub member : {e k : ℕ} → Takes n q l e k c → (k < n) × (inSet k (c .set) ≡ true)
   member {e} {k} w = (A .servers e k (comes-of w), taker-member w)
 
-  exact : {e k : ℕ} → Takes n q l e k c → (p : ℕ) → HeldExactly (memoryAt n q l p k .log)
+  pub exact : {e k : ℕ} → Takes n q l e k c → (p : ℕ) → HeldExactly (memoryAt n q l p k .log)
   exact {e} {k} w p = held-exactly (memoryAt n q l p k) (invariant-at n q k (A .sizes) (member w .0) l p .memory .well-formed)
 
   -- ---- what members had when they took c
 
-  longest-length : length longest ≡ highest greenIn states
+  pub longest-length : length longest ≡ highest greenIn states
   unfolding greenIn ownState
   longest-length = ids-length (memoryAt n q l (suc (leader .at-place)) (leader .server) .log .green) ∙ leader .has
 
@@ -138,14 +138,14 @@ module _ {n q : ℕ} {l : Run} (A : Allowed n q l) (c : Configuration) (p0 i0 : 
     pub indexes : (k : ℕ) (a : Action) → Came A c y i (retransmission k 0 a) → a .id .index ≤ cut m (a .id .creator)
 
   -- What it had when it took c.
-  pub gained-nothing : {e i y : ℕ} → Takes n q l e i c → ((r : Record) → Came A c y i r → ⊥) → Gained (memoryAt n q l (suc e) i .log) y i
+  pub gained-nothing : {e i y : ℕ} → Takes n q l e i c → ((k p : ℕ) (a : Action) → Came A c y i (retransmission k p a) → ⊥) → Gained (memoryAt n q l (suc e) i .log) y i
   gained-nothing w f = record {
     begins = had-begins w;
     low-length = had-length w;
-    positions = λ k p a z. absurd (f _ z);
+    positions = λ k p a z. absurd (f k p a z);
     low-cuts = λ d. had-cuts w d .0;
     high-cuts = λ d. had-cuts w d .1;
-    indexes = λ k a z. absurd (f _ z);
+    indexes = λ k a z. absurd (f k 0 a z);
   }
 
   -- Nothing came.
