@@ -7,3 +7,4 @@ pub mod Placing
 pub mod Come
 pub mod Gained
 pub mod Exchanging
+pub mod Ended
