@@ -5,3 +5,6 @@ pub mod Agreeable
 pub mod Collected
 pub mod Placing
 pub mod Come
+pub mod Gained
+pub mod Exchanging
+pub mod Ended

@@ -7,6 +7,7 @@ use mathlib.Core.Option.{Option, none, some}
 use native.Mathlib.Omega.{arith}
 use lib.ListN.{length, getD}
 use Rattle.base.specs.Lists.{at, present}
+use Rattle.base.specs.AtLaws.{some-same}
 use Rattle.base.specs.Members.{present-has, present-from}
 use Rattle.base.specs.Sets.{inSet}
 use Rattle.format.specs.Types.{State, Record}
@@ -102,6 +103,18 @@ module _ {n q : ℕ} {l : Run} (A : Allowed n q l) where
           named = e ∙ ap some (sym (x .2));
           has = ap f (sym (s .says)) ∙ x .3;
         }
+
+    -- It is one server, and took c once.
+    pub resender-same : {f : State → ℕ} {e k : ℕ} (r : Resender f) → resender f statesOf ≡ some k → Takes n q l e k c → (r .server ≡ k) × (r .at-place ≡ e)
+    resender-same {f} {e} {k} r h t =
+        let s : r .server ≡ k = some-same (sym (r .named) ∙ h) in
+        (s, A .once (r .at-place) e k c (subst (λ j. Takes n q l (r .at-place) j c) s (r .took)) t)
+
+    pub resender-has : (f : State → ℕ) {e k : ℕ} → resender f statesOf ≡ some k → Takes n q l e k c → f (ownState c (memoryAt n q l (suc e) k)) ≡ highest f statesOf
+    resender-has f {e} {k} h t =
+        let r = resends f k h in
+        let s = resender-same r h t in
+        sym (λ j. f (ownState c (memoryAt n q l (suc (s .1 j)) (s .0 j)))) ∙ r .has
 
     own-state : List·Memᴰ (ownState c (memoryAt n q l (suc (took-it here .0)) i0)) statesOf
     own-state = sent-one (took-it here .1) (stay-member A i0 p0 c here) .0
