@@ -13,6 +13,7 @@ use Rattle.replication.specs.Machine.Requests.{recovered}
 use Rattle.replication.specs.Machine.Step.{unmarked, yellowValid}
 use Rattle.replication.specs.Machine.WellFormed.{idsIn}
 use Rattle.replication.specs.Laws.Modes as M
+use Rattle.replication.specs.Laws.Order.{inExchange}
 use Rattle.replication.specs.Runs.Run.{Run}
 use Rattle.replication.specs.Runs.Happenings.{Takes}
 use Rattle.replication.specs.Runs.Allowed.{Allowed}
@@ -91,7 +92,8 @@ module _ {n q : ℕ} {l : Run} (A : Allowed n q l) (X : ExchangeFacts n q l) whe
     -- At the end of an exchange.
     abbrev pub ExchangeCovers : Type 0
     ExchangeCovers =
-        (p i s d : ℕ) (c e : Configuration) (x : InstallsAt n q l p i c) → p < suc t → EndsAt n q l t s e → lastAt n q l (suc t) s .index ≡ installed n q l x .index
+        (p i s d : ℕ) (c e : Configuration) (x : InstallsAt n q l p i c) → p < suc t → EndsAt n q l t s e → inExchange (memoryAt n q l t s .membership .mode) ≡ true
+        → lastAt n q l (suc t) s .index ≡ installed n q l x .index
         → Answers A x s (memoryAt n q l (suc t) s) → inSet d (c .set) ≡ true → Prefix (residue A x (suc t) d) (known-list (memoryAt n q l (suc t) s))
 
     module _ {p i : ℕ} {c : Configuration} (x : InstallsAt n q l p i c) (h : p < suc t) (d : ℕ) (m : inSet d (c .set) ≡ true) where
@@ -167,7 +169,7 @@ module _ {n q : ℕ} {l : Run} (A : Allowed n q l) (X : ExchangeFacts n q l) whe
       acting E {s} y (S.ends b j) e a =
           let z = ends-here A y b j in
           prefix-to
-          (E p i s d c (z .0) x h (z .1) (ap (λ w. w .votes .last .index) (y .memory-next) ∙ e) (subst (λ w. Answers A x s w) (sym (y .memory-next)) a) m)
+          (E p i s d c (z .0) x h (z .1) (j .exchanging) (ap (λ w. w .votes .last .index) (y .memory-next) ∙ e) (subst (λ w. Answers A x s w) (sym (y .memory-next)) a) m)
           (ap known-list (y .memory-next))
       acting E {s} y (S.installs k b o j g) e a = absurd (silent A X y o x e a)
       acting E {s} y (S.unmarks k b g v) e a =

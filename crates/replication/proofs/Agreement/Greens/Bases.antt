@@ -10,6 +10,7 @@ use Rattle.replication.specs.Machine.Exchange.{takenPrimary}
 use Rattle.replication.specs.Machine.Requests.{recovered}
 use Rattle.replication.specs.Machine.Step.{collected, unmarked, yellowValid}
 use Rattle.replication.specs.Machine.WellFormed.{idsIn}
+use Rattle.replication.specs.Laws.Order.{inExchange}
 use Rattle.replication.specs.Runs.Run.{Run}
 use Rattle.replication.specs.Runs.Allowed.{Allowed}
 use Rattle.replication.proofs.Step.Growth.{transition-grows}
@@ -42,15 +43,15 @@ module _ {n q : ℕ} {l : Run} (A : Allowed n q l) (X : ExchangeFacts n q l) (P 
       prefix-from (z .base) (U r k .has-base (z .place) (z .server) s c u (z .install) (z .before) y (e ∙ sym (z .index)))
 
   -- Whoever ends an exchange has the base of what is taken.
-  pub taken-base : {p i s : ℕ} {c e : Configuration} (x : InstallsAt n q l p i c) → p < suc t → (y : EndsAt n q l t s e)
+  pub taken-base : {p i s : ℕ} {c e : Configuration} (x : InstallsAt n q l p i c) → p < suc t → (y : EndsAt n q l t s e) → inExchange (memoryAt n q l t s .membership .mode) ≡ true
       → takenPrimary (collected (y .judged)) .index ≡ installed n q l x .index → Prefix (baseOf A x) (greens (memoryAt n q l (suc t) s))
-  taken-base {p} {i} {s} {c} {e} x h y f =
+  taken-base {p} {i} {s} {c} {e} x h y w f =
       let own = own-state A X y in
       let r = taken-from (own .0) (collected (y .judged)) (own .1) in
       let z = state-from A X y (r .0) (r .1) in
       let g : lastAt n q l (suc (z .2 .took-at)) (z .0) .index ≡ installed n q l x .index = ap (λ a. a .index) (sym (z .2 .last) ∙ sym (r .2)) ∙ f in
       prefix-trans (base-in x h (z .2 .earlier) (taker-image A (z .2 .took)) g)
-      (P .contents .ends-longest t s (z .2 .took-at) (z .0) e (ending-agreeable A X P U (omega arith) y) y (z .2 .took))
+      (P .contents .ends-longest t s (z .2 .took-at) (z .0) e (ending-agreeable A X P U (omega arith) y) y w (z .2 .took))
 
   installing-base : {p i s : ℕ} {c d : Configuration} (x : InstallsAt n q l p i c) → p < suc t → c ≡ d → (y : InstallsAt n q l t s d) → baseOf A x ≡ baseOf A y
   installing-base {p} {i} {s} {c} {d} x h f =
@@ -66,7 +67,7 @@ module _ {n q : ℕ} {l : Run} (A : Allowed n q l) (X : ExchangeFacts n q l) (P 
     acting {s} y (S.ends b j) e =
         let z = ends-here A y b j in
         prefix-to
-        (taken-base x h (z .1) (ap (λ w. w .index) (sym (ended-last (z .1))) ∙ ap (λ w. w .votes .last .index) (y .memory-next) ∙ e))
+        (taken-base x h (z .1) (j .exchanging) (ap (λ w. w .index) (sym (ended-last (z .1))) ∙ ap (λ w. w .votes .last .index) (y .memory-next) ∙ e))
         (ap greens (y .memory-next))
     acting {s} y (S.installs k b a j g) e =
         let z = installs-here A y k in

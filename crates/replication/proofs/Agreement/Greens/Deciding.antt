@@ -18,6 +18,7 @@ use Rattle.replication.specs.Machine.Types.{Non-prim, Configuration, Ser
 use Rattle.replication.specs.Machine.Exchange.{takenPrimary, updatedGroup, samePair, isValid, isMarked, sameAttempt, ruleA, ruleB, ruleC, commonYellow, judgedMark, keptMark, quorum}
 use Rattle.replication.specs.Machine.Step.{collected, theSet}
 use Rattle.replication.specs.Laws.Modes as M
+use Rattle.replication.specs.Laws.Order.{inExchange}
 use Rattle.replication.specs.Runs.Run.{Run}
 use Rattle.replication.specs.Runs.Happenings.{Takes, Falls}
 use Rattle.replication.specs.Runs.Allowed.{Allowed}
@@ -99,7 +100,7 @@ rule-b-names xs v h =
         not-both (sym (ap (λ z. not z or not ((w .mark .index =? v .mark .index) and (w .mark .attempt =? v .mark .attempt))) p ∙ ap (λ z. not z) q) ∙ e)
 
 module _ {n q : ℕ} {l : Run} (A : Allowed n q l) (X : ExchangeFacts n q l) (P : Parts A) {t : ℕ} (U : UpTo A t) {p i s : ℕ} {c e : Configuration} (x : InstallsAt n q l p i c)
-    (h : p < suc t) (y : EndsAt n q l t s e) (same-index : takenPrimary (collected (y .judged)) .index ≡ installed n q l x .index) where
+    (h : p < suc t) (y : EndsAt n q l t s e) (exchanging : inExchange (memoryAt n q l t s .membership .mode) ≡ true) (same-index : takenPrimary (collected (y .judged)) .index ≡ installed n q l x .index) where
   xs : List State
   xs = collected (y .judged)
 
@@ -112,7 +113,7 @@ module _ {n q : ℕ} {l : Run} (A : Allowed n q l) (X : ExchangeFacts n q l) (P 
   top = let own = own-state A X y in taken-from (own .0) (collected (y .judged)) (own .1)
 
   top-sender : Sender A t e g (top .0)
-  top-sender = sender A X P U y (top .0) (top .1)
+  top-sender = sender A X P U y exchanging (top .0) (top .1)
 
   -- A State of that index knows what was installed.
   last-installed : (w : State) → (z : Sender A t e g w) → w .last .index ≡ installed n q l x .index → w .last ≡ installed n q l x
@@ -136,7 +137,7 @@ module _ {n q : ℕ} {l : Run} (A : Allowed n q l) (X : ExchangeFacts n q l) (P 
       (ap (λ a. a .index) (sym (top-sender .it .last)) ∙ ap (λ a. a .index) (sym (top .2)) ∙ same-index)
 
   has-base : Prefix (baseOf A x) g
-  has-base = taken-base A X P U x h y same-index
+  has-base = taken-base A X P U x h y exchanging same-index
 
   module _ (d : ℕ) (m : inSet d (c .set) ≡ true) where
     abbrev r : List Id
@@ -144,7 +145,7 @@ module _ {n q : ℕ} {l : Run} (A : Allowed n q l) (X : ExchangeFacts n q l) (P 
 
     comparable : Comparable r g
     comparable =
-        let b = P .contents .ends-from t s e (ending-agreeable A X P U (omega arith) y) y in
+        let b = P .contents .ends-from t s e (ending-agreeable A X P U (omega arith) y) y exchanging in
         let st : Image n q l t (b .0) (storeAt n q l t (b .0)) = in-store in
         let z = before-top in
         let o : z .place < t = omega (arith, z .before, top-sender .it .earlier) in
@@ -161,7 +162,7 @@ module _ {n q : ℕ} {l : Run} (A : Allowed n q l) (X : ExchangeFacts n q l) (P 
         each : (w : State) → List·Memᴰ w (v ∷ vs)
             → Prefix (take (w .greenLength) g) g × Prefix r (plus (take (w .greenLength) g) (w .yellow .ids)) × Fifo (plus (take (w .greenLength) g) (w .yellow .ids))
         each w o =
-            let a = valid-sender A X P U y k o in
+            let a = valid-sender A X P U y exchanging k o in
             let z = a .1 in
             let f = sender-yellow A X P U z (a .0 .status) in
             let b = U (suc (z .it .took-at)) (z .it .earlier) .fifo (z .server) _ (z .image) in
@@ -219,7 +220,7 @@ module _ {n q : ℕ} {l : Run} (A : Allowed n q l) (X : ExchangeFacts n q l) (P 
     by-unmarked none w a b f = prefix-trans (prefix-to covers (ap (plus (greens u)) no-yellow ∙ plus-nil (greens u))) (z .begins)
       where
         z : Sender A t e g w
-        z = sender A X P U y w a
+        z = sender A X P U y exchanging w a
 
         u : Server
         u = memoryAt n q l (suc (z .it .took-at)) (z .server)
@@ -293,7 +294,7 @@ module _ {n q : ℕ} {l : Run} (A : Allowed n q l) (X : ExchangeFacts n q l) (P 
             mark-set : Alike (markOfInstall A x) (v .mark) → v .mark .set ≡ c .set
             mark-set k = k .set ∙ sym (install-mark A x .set) ∙ installed-set
         marked k (fails j) (fails o) (holds u) =
-            known-covers (joined-known A X P x U d y v a k (inside-member _ _ d u (ap (inSet d) (k .set ∙ sym (install-mark A x .set) ∙ installed-set) ∙ m)))
+            known-covers (joined-known A X P x U d y exchanging v a k (inside-member _ _ d u (ap (inSet d) (k .set ∙ sym (install-mark A x .set) ∙ installed-set) ∙ m)))
         marked k (fails j) (fails o) (fails u) =
             let z = mark-kept ws v (k .status) j o u in
             absurd

@@ -15,7 +15,7 @@ use Rattle.replication.specs.Machine.Exchange.{commonYellow}
 use Rattle.replication.specs.Machine.Requests.{recovered}
 use Rattle.replication.specs.Machine.Step.{collected, unmarked, yellowValid}
 use Rattle.replication.specs.Machine.WellFormedFacts.{YellowEntered, YellowWithinCuts}
-use Rattle.replication.specs.Laws.Order.{Grows}
+use Rattle.replication.specs.Laws.Order.{Grows, inExchange}
 use Rattle.replication.specs.Laws.Transitions as L
 use Rattle.replication.specs.Runs.Run.{Run}
 use Rattle.replication.specs.Runs.Allowed.{Allowed}
@@ -56,18 +56,18 @@ module _ {n q : ℕ} {l : Run} (A : Allowed n q l) (X : ExchangeFacts n q l) (P 
       subst (λ z. Entered (y .after .log) z) (ap (λ z. pick (z .status =? 1) (z .ids) []) (sym v))
       (entered-more (memoryAt n q l t s .log) (y .after .log) (validYellow (memoryAt n q l t s)) (transition-grows (y .moves) .cuts) (before y))
 
-  ending : {s : ℕ} {c : Configuration} (y : EndsAt n q l t s c) → YellowTaken A X P U (memoryAt n q l (suc t) s) (collected (y .judged))
+  ending : {s : ℕ} {c : Configuration} (y : EndsAt n q l t s c) → inExchange (memoryAt n q l t s .membership .mode) ≡ true → YellowTaken A X P U (memoryAt n q l (suc t) s) (collected (y .judged))
       → Entered (memoryAt n q l (suc t) s .log) (validYellow (memoryAt n q l (suc t) s))
   unfolding commonYellow
-  ending {s} {c} y (invalid h e) = none-entered (memoryAt n q l (suc t) s .log) _ (no-valid-yellow (memoryAt n q l (suc t) s) h)
-  ending {s} {c} y (valid v vs e h f) =
-      let a = valid-sender A X P U y e (List·Memᴰ·head refl) in
+  ending {s} {c} y j (invalid h e) = none-entered (memoryAt n q l (suc t) s .log) _ (no-valid-yellow (memoryAt n q l (suc t) s) h)
+  ending {s} {c} y j (valid v vs e h f) =
+      let a = valid-sender A X P U y j e (List·Memᴰ·head refl) in
       let z = a .1 in
       let m = memoryAt n q l (suc (z .it .took-at)) (z .server) .log in
       let o = memoryAt n q l (suc t) s .log in
       let b = U (suc (z .it .took-at)) (z .it .earlier) .yellow-entered (z .server) _ (z .image) in
       let k = entered-more m o (v .yellow .ids)
-      (P .contents .ends-cuts t s (z .it .took-at) (z .server) c (ending-agreeable A X P U (omega arith) y) y (z .it .took))
+      (P .contents .ends-cuts t s (z .it .took-at) (z .server) c (ending-agreeable A X P U (omega arith) y) y j (z .it .took))
       (subst (λ w. Entered m w) (sender-yellow A X P U z (a .0 .status)) b) in
       subst (λ w. Entered o w) (sym f)
       (each-filter (λ d. d .index ≤ cut o (d .creator)) (λ d. all (λ w. hasId d (w .yellow .ids)) vs) (v .yellow .ids) k)
@@ -80,7 +80,7 @@ module _ {n q : ℕ} {l : Run} (A : Allowed n q l) (X : ExchangeFacts n q l) (P 
   acting y (S.exchanges k b v) = same-yellow y (ap (λ z. z .yellow) v)
   acting {s} y (S.ends b j) =
       let z = ends-here A y b j in
-      subst (λ u. Entered (u .log) (validYellow u)) (y .memory-next) (ending (z .1) (yellow-taken A X P U (z .1)))
+      subst (λ u. Entered (u .log) (validYellow u)) (y .memory-next) (ending (z .1) (j .exchanging) (yellow-taken A X P U (z .1)))
   acting y (S.installs k b o j g) = none-entered (y .after .log) _ (no-valid-yellow (y .after) (no-yellow-after A y o))
   acting y (S.unmarks k b g v) = same-yellow y (ap (λ z. z .yellow) v)
   acting {s} y (S.makesValid o r k b g v) =

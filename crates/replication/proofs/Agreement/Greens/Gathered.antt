@@ -14,6 +14,7 @@ use Rattle.replication.specs.Machine.Types.{Configuration, Server, noYel
 use Rattle.replication.specs.Machine.Exchange.{takenPrimary, updatedGroup, samePair, isValid, commonYellow, takenYellow, takenVotes, attempted}
 use Rattle.replication.specs.Machine.Step.{collected, ownState}
 use Rattle.replication.specs.Machine.WellFormed.{idsIn}
+use Rattle.replication.specs.Laws.Order.{inExchange}
 use Rattle.replication.specs.Runs.Run.{Run}
 use Rattle.replication.specs.Runs.Happenings.{Takes}
 use Rattle.replication.specs.Runs.Allowed.{Allowed}
@@ -73,13 +74,13 @@ module _ {n q : ℕ} {l : Run} (A : Allowed n q l) where
     pub by-length : take (w .greenLength) g ≡ greens (memoryAt n q l (suc (it .took-at)) server)
 
   module _ (X : ExchangeFacts n q l) (P : Parts A) {t : ℕ} (U : UpTo A t) where
-    pub sender : {s : ℕ} {c : Configuration} (y : EndsAt n q l t s c) (w : State) → List·Memᴰ w (collected (y .judged))
+    pub sender : {s : ℕ} {c : Configuration} (y : EndsAt n q l t s c) → inExchange (memoryAt n q l t s .membership .mode) ≡ true → (w : State) → List·Memᴰ w (collected (y .judged))
         → Sender t c (greens (memoryAt n q l (suc t) s)) w
     unfolding ownState idsIn
-    sender {s} {c} y w m =
+    sender {s} {c} y o w m =
         let z = state-from A X y w m in
         let u = memoryAt n q l (suc (z .2 .took-at)) (z .0) in
-        let b = P .contents .ends-longest t s (z .2 .took-at) (z .0) c (ending-agreeable A X P U (omega arith) y) y (z .2 .took) in
+        let b = P .contents .ends-longest t s (z .2 .took-at) (z .0) c (ending-agreeable A X P U (omega arith) y) y o (z .2 .took) in
         let k : w .greenLength ≡ length (greens u) = ap (λ v. v .greenLength) (z .2 .says) ∙ sym (length-map (u .log .green) (λ a. a .id)) in
         record {
           server = z .0;
@@ -114,12 +115,12 @@ module _ {n q : ℕ} {l : Run} (A : Allowed n q l) where
             valid v vs e h (valid-yellow u h ∙ ap (λ z. z .ids) f)
 
     -- A valid State, with what its sender had green and yellow.
-    pub valid-sender : {s : ℕ} {c : Configuration} (y : EndsAt n q l t s c) {v w : State} {vs : List State}
+    pub valid-sender : {s : ℕ} {c : Configuration} (y : EndsAt n q l t s c) → inExchange (memoryAt n q l t s .membership .mode) ≡ true → {v w : State} {vs : List State}
         → filter isValid (updatedGroup (collected (y .judged))) ≡ v ∷ vs → List·Memᴰ w (v ∷ vs)
         → ValidState (collected (y .judged)) w × Sender t c (greens (memoryAt n q l (suc t) s)) w
-    valid-sender y {v} {w} {vs} e m =
+    valid-sender y o {v} {w} {vs} e m =
         let a = valid-state (collected (y .judged)) w (subst (λ z. List·Memᴰ w z) (sym e) m) in
-        (a, sender y w (a .among))
+        (a, sender y o w (a .among))
 
     pub sender-yellow : {c : Configuration} {g : List Id} {w : State} (z : Sender t c g w) → w .yellow .status ≡ 1
         → validYellow (memoryAt n q l (suc (z .it .took-at)) (z .server)) ≡ w .yellow .ids

@@ -57,7 +57,7 @@ module _ {n q : ℕ} {l : Run} (A : Allowed n q l) where
 
   module _ (X : ExchangeFacts n q l) (P : Parts A) where
     exchange-covers : {t : ℕ} (U : UpTo A t) → ExchangeCovers A X P U
-    exchange-covers U p i s d c e x h y f a m = decided-covers A X P U x h y (ap (λ z. z .index) (sym (ended-last y)) ∙ f) d m a
+    exchange-covers U p i s d c e x h y o f a m = decided-covers A X P U x h y o (ap (λ z. z .index) (sym (ended-last y)) ∙ f) d m a
 
     invariant-next : {t : ℕ} → UpTo A t → Invariant A (suc t)
     invariant-next {t} U = record {

@@ -18,6 +18,7 @@ use Rattle.replication.specs.Machine.Types.{Configuration, Server, clear
 use Rattle.replication.specs.Machine.Exchange.{takenPrimary, alike, isMarked, sameAttempt, joinBits, joinedBits, judgedMark, keptMark}
 use Rattle.replication.specs.Machine.Requests.{recovered}
 use Rattle.replication.specs.Machine.Step.{collected, unmarked, yellowValid}
+use Rattle.replication.specs.Laws.Order.{inExchange}
 use Rattle.replication.specs.Runs.Run.{Run}
 use Rattle.replication.specs.Runs.Happenings.{Takes, Falls}
 use Rattle.replication.specs.Runs.Allowed.{Allowed}
@@ -140,15 +141,15 @@ module _ {n q : ℕ} {l : Run} (A : Allowed n q l) (X : ExchangeFacts n q l) (P 
 
   module _ {t : ℕ} (U : UpTo A t) where
     -- A joined bit, at the end of an exchange.
-    pub joined-known : (d : ℕ) {s : ℕ} {e : Configuration} (y : EndsAt n q l t s e) (v : State) → List·Memᴰ v (collected (y .judged)) → Alike (markOfInstall A x) (v .mark)
+    pub joined-known : (d : ℕ) {s : ℕ} {e : Configuration} (y : EndsAt n q l t s e) → inExchange (memoryAt n q l t s .membership .mode) ≡ true → (v : State) → List·Memᴰ v (collected (y .judged)) → Alike (markOfInstall A x) (v .mark)
         → inSet d (joinedBits (collected (y .judged)) v) ≡ true → G.Known A x (suc t) d (memoryAt n q l (suc t) s)
-    joined-known d {s} {e} y v a h b = go (joined-from d (collected (y .judged)) v (markOfInstall A x) a h b)
+    joined-known d {s} {e} y o v a h b = go (joined-from d (collected (y .judged)) v (markOfInstall A x) a h b)
       where
         go : (w : State) × List·Memᴰ w (collected (y .judged)) × Alike (markOfInstall A x) (w .mark) × Brings w d → G.Known A x (suc t) d (memoryAt n q l (suc t) s)
         go (w, m, k, r) = brought r
           where
             z : Sender A t e (greens (memoryAt n q l (suc t) s)) w
-            z = sender A X P U y w m
+            z = sender A X P U y o w m
 
             u : Server
             u = memoryAt n q l (suc (z .it .took-at)) (z .server)
@@ -183,11 +184,11 @@ module _ {n q : ℕ} {l : Run} (A : Allowed n q l) (X : ExchangeFacts n q l) (P 
             known-further (omega arith) k (grown y)
             (U t (omega arith) .bits p i s d c u x (in-memory (y .up)) (subst (λ o. Alike (markOfInstall A x) o) e h) (ap (λ o. inSet d (o .bits)) (sym e) ∙ b))
 
-        ending : {e : Configuration} (z : EndsAt n q l t s e) → Decides n q l t s e (collected (z .judged)) → G.Known A x (suc t) d (memoryAt n q l (suc t) s)
-        ending {e} z (with-quorum a v m o) =
+        ending : {e : Configuration} (z : EndsAt n q l t s e) → inExchange (memoryAt n q l t s .membership .mode) ≡ true → Decides n q l t s e (collected (z .judged)) → G.Known A x (suc t) d (memoryAt n q l (suc t) s)
+        ending {e} z j (with-quorum a v m o) =
             let k = marking-mark (record { ending = z; has-quorum = a }) in
             not-both (sym (ap (λ o. inSet d (o .bits)) k ∙ in-empty d) ∙ ap (λ w. inSet d (w .votes .mark .bits)) (y .memory-next) ∙ b)
-        ending {e} z (without-quorum a v m) = judging (judged? (collected (z .judged)) (own .0))
+        ending {e} z j (without-quorum a v m) = judging (judged? (collected (z .judged)) (own .0))
           where
             own : (s′ : State) × List·Memᴰ s′ (collected (z .judged)) × StateOf n q l t s e s′
             own = own-state A X z
@@ -199,7 +200,7 @@ module _ {n q : ℕ} {l : Run} (A : Allowed n q l) (X : ExchangeFacts n q l) (P 
             judging : Judged (collected (z .judged)) (own .0) → G.Known A x (suc t) d (memoryAt n q l (suc t) s)
             judging (cleared f) = absurd (omega (arith, ap (λ o. o .status) (mark-now ∙ f), h .status))
             judging (kept a f) =
-                joined-known d z (own .0) (own .1) (kept-alike (own .0) _ _ (mark-now ∙ f) h) (ap (λ o. inSet d (o .bits)) (sym (mark-now ∙ f)) ∙ b)
+                joined-known d z j (own .0) (own .1) (kept-alike (own .0) _ _ (mark-now ∙ f) h) (ap (λ o. inSet d (o .bits)) (sym (mark-now ∙ f)) ∙ b)
 
         go : GreenStep u (y .by .event) (y .after) (y .by .records) (y .stores) → G.Known A x (suc t) d (y .after)
         go (S.steady a v k) = same (ap (λ z. z .mark) v) (omega (arith, ap (λ z. z .last .index) v))
@@ -207,7 +208,7 @@ module _ {n q : ℕ} {l : Run} (A : Allowed n q l) (X : ExchangeFacts n q l) (P 
         go (S.exchanges a o v) = same (ap (λ z. z .mark) v) (omega (arith, ap (λ z. z .last .index) v))
         go (S.ends o j) =
             let z = ends-here A y o j in
-            subst (λ w. G.Known A x (suc t) d w) (y .memory-next) (ending (z .1) (ended (z .1)))
+            subst (λ w. G.Known A x (suc t) d w) (y .memory-next) (ending (z .1) (j .exchanging) (ended (z .1)))
         go (S.installs k o a j f) = same (j .mark) (omega (arith, j .index))
         go (S.unmarks a o f v) = absurd (omega (arith, ap (λ z. z .mark .status) v, h .status))
         go (S.makesValid a r o f g′ v) = absurd (omega (arith, ap (λ z. z .mark .status) v, h .status))

@@ -18,6 +18,7 @@ use Rattle.replication.specs.Machine.Requests.{recovered}
 use Rattle.replication.specs.Machine.Step.{collected, unmarked, yellowValid}
 use Rattle.replication.specs.Machine.WellFormed.{idsIn}
 use Rattle.replication.specs.Laws.Order.{Grows}
+use Rattle.replication.specs.Laws.Order.{inExchange}
 use Rattle.replication.specs.Runs.Run.{Run}
 use Rattle.replication.specs.Runs.Allowed.{Allowed}
 use Rattle.replication.proofs.Step.Growth.{transition-grows}
@@ -75,13 +76,13 @@ module _ {n q : ℕ} {l : Run} (A : Allowed n q l) (X : ExchangeFacts n q l) (P 
 
   -- ---- at the end of an exchange
 
-  ending-fifo : {s : ℕ} {c : Configuration} (y : EndsAt n q l t s c) → YellowTaken A X P U (memoryAt n q l (suc t) s) (collected (y .judged))
+  ending-fifo : {s : ℕ} {c : Configuration} (y : EndsAt n q l t s c) → inExchange (memoryAt n q l t s .membership .mode) ≡ true → YellowTaken A X P U (memoryAt n q l (suc t) s) (collected (y .judged))
       → Fifo (known-list (memoryAt n q l (suc t) s))
-  ending-fifo {s} y (invalid h e) = subst (λ z. Fifo z) (sym (ap (plus (greens u)) (no-valid-yellow u h) ∙ plus-nil _)) (greens-fifo (in-memory (y .acts .down-next)))
+  ending-fifo {s} y o (invalid h e) = subst (λ z. Fifo z) (sym (ap (plus (greens u)) (no-valid-yellow u h) ∙ plus-nil _)) (greens-fifo (in-memory (y .acts .down-next)))
     where
       u : Server
       u = memoryAt n q l (suc t) s
-  ending-fifo {s} {c} y (valid v vs e h f) =
+  ending-fifo {s} {c} y o (valid v vs e h f) =
       subst (λ z. Fifo (plus g z)) (sym f) (P .lists .common-fifo g (λ w. take (w .greenLength) g) v vs (greens-fifo (in-memory (y .acts .down-next))) each)
     where
       g : List Id
@@ -89,7 +90,7 @@ module _ {n q : ℕ} {l : Run} (A : Allowed n q l) (X : ExchangeFacts n q l) (P 
 
       each : (w : State) → List·Memᴰ w (v ∷ vs) → Prefix (take (w .greenLength) g) g × Fifo (plus (take (w .greenLength) g) (w .yellow .ids))
       each w m =
-          let a = valid-sender A X P U y e m in
+          let a = valid-sender A X P U y o e m in
           let z = a .1 in
           let b = U (suc (z .it .took-at)) (z .it .earlier) .fifo (z .server) _ (z .image) in
           (take-begins (w .greenLength) g, subst₂ (λ j k. Fifo (plus j k)) (sym (z .by-length)) (sender-yellow A X P U z (a .0 .status)) b)
@@ -107,7 +108,7 @@ module _ {n q : ℕ} {l : Run} (A : Allowed n q l) (X : ExchangeFacts n q l) (P 
       (acted-fifo y))
   acting-fifo {s} y (S.ends b j) =
       let z = ends-here A y b j in
-      subst (λ u. Fifo (known-list u)) (y .memory-next) (ending-fifo (z .1) (yellow-taken A X P U (z .1)))
+      subst (λ u. Fifo (known-list u)) (y .memory-next) (ending-fifo (z .1) (j .exchanging) (yellow-taken A X P U (z .1)))
   acting-fifo y (S.installs k b o j g) = invalid-fifo y (no-yellow-after A y o)
   acting-fifo {s} y (S.unmarks k b g v) =
       subst (λ z. Fifo z) (sym (same-known (y .after) (memoryAt n q l t s) (ap (λ z. z .green) g) (ap (λ z. z .yellow) v))) (U t (omega arith) .fifo s _ (in-memory (y .up)))

@@ -14,6 +14,7 @@ use Rattle.replication.specs.Machine.Exchange.{commonYellow}
 use Rattle.replication.specs.Machine.Install.{installLog}
 use Rattle.replication.specs.Machine.WellFormed.{idsIn}
 use Rattle.replication.specs.Machine.WellFormedFacts.{WellFormed}
+use Rattle.replication.specs.Laws.Order.{inExchange}
 use Rattle.replication.specs.Runs.Run.{Run}
 use Rattle.replication.specs.Runs.Happenings.{Takes, Falls}
 use Rattle.replication.specs.Runs.Allowed.{Allowed}
@@ -44,12 +45,12 @@ module _ {n q : ℕ} {l : Run} (A : Allowed n q l) where
 
   pub record ContentParts : Type 0 where
     -- Whoever ends the exchange has a green list that a member had, which each member's begins, and each member's cuts.
-    pub ends-longest : (p i e k : ℕ) (c : Configuration) → Agreeable A c → EndsAt n q l p i c → Takes n q l e k c
-        → Prefix (greens (memoryAt n q l (suc e) k)) (greens (memoryAt n q l (suc p) i))
-    pub ends-from : (p i : ℕ) (c : Configuration) → Agreeable A c → EndsAt n q l p i c
+    pub ends-longest : (p i e k : ℕ) (c : Configuration) → Agreeable A c → EndsAt n q l p i c → inExchange (memoryAt n q l p i .membership .mode) ≡ true
+        → Takes n q l e k c → Prefix (greens (memoryAt n q l (suc e) k)) (greens (memoryAt n q l (suc p) i))
+    pub ends-from : (p i : ℕ) (c : Configuration) → Agreeable A c → EndsAt n q l p i c → inExchange (memoryAt n q l p i .membership .mode) ≡ true
         → (k : ℕ) × (e : ℕ) × Takes n q l e k c × (greens (memoryAt n q l (suc p) i) ≡ greens (memoryAt n q l (suc e) k))
-    pub ends-cuts : (p i e k : ℕ) (c : Configuration) → Agreeable A c → EndsAt n q l p i c → Takes n q l e k c
-        → (a : ℕ) → cut (memoryAt n q l (suc e) k .log) a ≤ cut (memoryAt n q l (suc p) i .log) a
+    pub ends-cuts : (p i e k : ℕ) (c : Configuration) → Agreeable A c → EndsAt n q l p i c → inExchange (memoryAt n q l p i .membership .mode) ≡ true
+        → Takes n q l e k c → (a : ℕ) → cut (memoryAt n q l (suc e) k .log) a ≤ cut (memoryAt n q l (suc p) i .log) a
     -- While retransmissions come, all members have taken c, and the green list begins one that a member had.
     pub all-took : (p i e k : ℕ) (c : Configuration) → Within n q l p i c → memoryAt n q l p i .membership .mode ≡ Exchange-actions → Takes n q l e k c → e < p
     pub resent-from : (p i : ℕ) (c : Configuration) → Agreeable A c → Within n q l p i c → memoryAt n q l p i .membership .mode ≡ Exchange-actions → Acts n q l p i
