@@ -142,8 +142,8 @@ module _ {n q : ℕ} {l : Run} (A : Allowed n q l) (X : ExchangeFacts n q l) whe
           same b v =
               subst (λ b. Within n q l t s b → (r : ℕ) → r < t → InstallsAt n q l r s b → Prefix (residue A x (suc t) d) (plus (greens u) (u .votes .yellow .ids))) v
               (λ w r a z.
-                let k′ = same-install-next A X P U p r i s c x z h (omega arith) in
-                prefix-trans (residue-reach A x (suc t) d) (P .primaries .leaves-with-all t p r i s d c e x z a k w o (k′ .0) (k′ .1) m))
+              let k′ = same-install-next A X P U p r i s c x z h (omega arith) in
+              prefix-trans (residue-reach A x (suc t) d) (P .primaries .leaves-with-all t p r i s d c e x z a k w o (k′ .0) (k′ .1) m))
 
           go : (r : ℕ) × (r < t) × (z : InstallsAt n q l r s (g .configuration)) × (installed n q l z ≡ u .votes .last)
               → Prefix (residue A x (suc t) d) (plus (greens u) (u .votes .yellow .ids))

@@ -168,8 +168,7 @@ module _ {n q : ℕ} {l : Run} (A : Allowed n q l) (X : ExchangeFacts n q l) (P 
             let b = U (suc (z .it .took-at)) (z .it .earlier) .fifo (z .server) _ (z .image) in
             let j : lastAt n q l (suc (z .it .took-at)) (z .server) .index ≡ installed n q l x .index =
             ap (λ a. a .index) (sym (z .it .last)) ∙ a .0 .index ∙ same-index in
-            let u = answers-in A X P U d x h (z .it .earlier) (z .image) j (λ w. by-yellow (ap (λ v. v .status) (sym (z .yellow)) ∙ a .0 .status)) m in
-            (
+            let u = answers-in A X P U d x h (z .it .earlier) (z .image) j (λ w. by-yellow (ap (λ v. v .status) (sym (z .yellow)) ∙ a .0 .status)) m in (
               take-begins (w .greenLength) g,
               subst₂ (λ a b. Prefix r (plus a b)) (sym (z .by-length)) f u,
               subst₂ (λ a b. Fifo (plus a b)) (sym (z .by-length)) f b,
@@ -195,11 +194,13 @@ module _ {n q : ℕ} {l : Run} (A : Allowed n q l) (X : ExchangeFacts n q l) (P 
     marked-before : {k w : ℕ} → inSet k (c .set) ≡ true → Takes n q l w k e → (z : ℕ) × (z < suc w) × MarksAt n q l z k c
     marked-before {k} {w} a o =
         let b = X .all-marked p i c x k (A .servers w k (comes-of o)) a in
-        let v = marking-taken (b .2) in
-        (
+        let v = marking-taken (b .2) in (
           b .0,
-          omega (arith, done-before A (v .took) o (ap (λ z. z .regular) (b .2 .ending .here)) (ends-exchange (b .2 .ending))
-          (time-before A (comes-of (v .took)) (comes-of o) (earlier-time (v .took)))),
+          omega (
+            arith,
+            done-before A (v .took) o (ap (λ z. z .regular) (b .2 .ending .here)) (ends-exchange (b .2 .ending))
+                (time-before A (comes-of (v .took)) (comes-of o) (earlier-time (v .took))),
+          ),
           b .2,
         )
       where
@@ -210,8 +211,12 @@ module _ {n q : ℕ} {l : Run} (A : Allowed n q l) (X : ExchangeFacts n q l) (P 
             go (at-start f) = absurd (omega (arith, ap (λ a. a .index) (top .2), ap (λ a. a .index) f, same-index, installed-index x))
             go (installed-earlier a j b c′ z f b′ lt) =
                 let same = unique-install A X x z (sym (ap (λ a. a .index) (f ∙ sym (top .2)) ∙ same-index)) .0 in
-                omega (arith, lt, configuration-time A (top-sender .it .took) o,
-                configuration-time A u (subst (λ v. Takes n q l b j v) (sym same) b′))
+                omega (
+                  arith,
+                  lt,
+                  configuration-time A (top-sender .it .took) o,
+                  configuration-time A u (subst (λ v. Takes n q l b j v) (sym same) b′),
+                )
 
     -- A present member of c without the mark has all.
     by-unmarked : filter isValid (updatedGroup (collected (y .judged))) ≡ [] → (w : State) → List·Memᴰ w (collected (y .judged)) → inSet (w .sender) (c .set) ≡ true

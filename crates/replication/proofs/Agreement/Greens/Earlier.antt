@@ -57,8 +57,7 @@ module _ {n q : ℕ} {l : Run} (A : Allowed n q l) where
   ends-here {t} {s} x b j =
       let m = memoryAt n q l t s in
       let g = exchange-regular (m .membership .mode) (m .membership .configuration) (m .membership .transitional) (j .exchanging) (standing n q l s t .memory) in
-      let w = invariant-at n q s (A .sizes) (A .servers t s (of-event (x .here))) l t .memory .well-formed in
-      (
+      let w = invariant-at n q s (A .sizes) (A .servers t s (of-event (x .here))) l t .memory .well-formed in (
         g .configuration,
         record {
           acts = x;
@@ -93,8 +92,8 @@ module _ {n q : ℕ} {l : Run} (A : Allowed n q l) where
       along-same {p} {r} {i} {j} {c} {d} x h k f =
           subst (λ v. (y : InstallsAt n q l r j v) → installed n q l y .index ≡ installed n q l x .index → (z : ℕ) → r < z → Earlier x z) f
           (λ y e z o.
-            let s = same-install-next A X P U p r i j c x y h k in
-            record { place = r; server = j; install = y; before = o; index = e; base = s .0; cuts = s .1 })
+          let s = same-install-next A X P U p r i j c x y h k in
+          record { place = r; server = j; install = y; before = o; index = e; base = s .0; cuts = s .1 })
 
       -- What an image knows last was installed before, in the same way.
       pub earlier : {p i r s : ℕ} {c : Configuration} {u : Server} (x : InstallsAt n q l p i c) → p < suc t → r ≤ t → Image n q l r s u
