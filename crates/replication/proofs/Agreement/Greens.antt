@@ -20,6 +20,7 @@ pub mod Ordering
 pub mod Entering
 pub mod Leaving
 pub mod Joined
+pub mod Unlike
 pub mod Deciding
 pub mod Induction
 pub mod OfLists

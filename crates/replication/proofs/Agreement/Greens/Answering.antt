@@ -1,9 +1,9 @@
 -- Whoever answers for the primary component that it knows last has all that can still be known of it, one place further.
-use Prim.Native.Nat.{ℕ, zero, suc, _+_, _≤_, _<_}
+use Prim.Native.Nat.{ℕ, suc, _<_}
 use mathlib.Core.Path.{_≡_, refl, sym, ap, subst, _∙_}
-use mathlib.Core.Bool.{Bool, true, false}
+use mathlib.Core.Bool.{true, false}
 use mathlib.Core.List.{List, []}
-use mathlib.Core.Logic.{_⊎_, inl, inr}
+use mathlib.Core.Logic.{inr}
 use native.Mathlib.Omega.{arith}
 use Rattle.base.specs.Tests.{_=?_, pick, not-both, eq-yes}
 use Rattle.base.specs.Sets.{inSet}
@@ -23,10 +23,10 @@ use Rattle.replication.proofs.Agreement.Terms.{Image, in-memory, in-sto
 use Rattle.replication.proofs.Agreement.Votes.Turns.{lastAt}
 use Rattle.replication.proofs.Agreement.Votes.Judging.{Alike}
 use Rattle.replication.proofs.Agreement.Votes.Unique.{unique-install}
-use Rattle.replication.proofs.Agreement.Greens.Beginnings.{Prefix, Comparable, prefix-refl, prefix-trans, prefix-to, prefix-from, comparable-beginnings}
-use Rattle.replication.proofs.Agreement.Greens.Terms.{greens, plus, validYellow, baseOf, reach, markOfInstall, residue, Answers, by-yellow, by-attempt, by-mark}
+use Rattle.replication.proofs.Agreement.Greens.Beginnings.{Prefix, prefix-trans, prefix-to, prefix-from, comparable-beginnings}
+use Rattle.replication.proofs.Agreement.Greens.Terms.{greens, plus, validYellow, markOfInstall, residue, Answers, by-yellow, by-attempt, by-mark}
 use Rattle.replication.proofs.Agreement.Greens.Parts.{Parts}
-use Rattle.replication.proofs.Agreement.Greens.Invariant.{Invariant, UpTo}
+use Rattle.replication.proofs.Agreement.Greens.Invariant.{UpTo}
 use Rattle.replication.proofs.Agreement.Greens.Residues.{residue-shrinks, residue-reach}
 use Rattle.replication.proofs.Agreement.Greens.Comparing.{residue-comparable}
 use Rattle.replication.proofs.Agreement.Greens.Taking.{agreeable, took-begins, same-install-next}

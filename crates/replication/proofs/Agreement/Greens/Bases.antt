@@ -1,15 +1,12 @@
 -- Whoever knows a primary component has what was green at its Install, one place further.
 use Prim.Native.Nat.{ℕ, suc, _≤_, _<_}
-use mathlib.Core.Path.{_≡_, refl, sym, ap, subst, _∙_}
-use mathlib.Core.Bool.{Bool, true, false}
-use mathlib.Core.List.{List, List·Memᴰ}
+use mathlib.Core.Path.{_≡_, sym, ap, subst, _∙_}
+use mathlib.Core.Bool.{true}
 use native.Mathlib.Omega.{arith}
-use Rattle.format.specs.Types.{Record, State}
 use Rattle.replication.specs.Machine.Types.{Configuration, Server}
 use Rattle.replication.specs.Machine.Exchange.{takenPrimary}
 use Rattle.replication.specs.Machine.Requests.{recovered}
 use Rattle.replication.specs.Machine.Step.{collected, unmarked, yellowValid}
-use Rattle.replication.specs.Machine.WellFormed.{idsIn}
 use Rattle.replication.specs.Laws.Order.{inExchange}
 use Rattle.replication.specs.Runs.Run.{Run}
 use Rattle.replication.specs.Runs.Allowed.{Allowed}
@@ -18,18 +15,18 @@ use Rattle.replication.proofs.Runs.AllowedTurns.{memoryAt, storeAt, Act
 use Rattle.replication.proofs.Agreement.Terms.{Image, in-memory, in-store, EndsAt, InstallsAt, installed, ExchangeFacts}
 use Rattle.replication.proofs.Agreement.Votes.Turns.{lastAt, ended-last}
 use Rattle.replication.proofs.Agreement.Votes.Judging.{taken-from}
-use Rattle.replication.proofs.Agreement.Votes.Collected.{StateOf, own-state, state-from}
+use Rattle.replication.proofs.Agreement.Votes.Collected.{own-state, state-from}
 use Rattle.replication.proofs.Agreement.Votes.Unique.{unique-install}
-use Rattle.replication.proofs.Agreement.Greens.Beginnings.{Prefix, prefix-refl, prefix-trans, prefix-to, prefix-from, prefix-same}
+use Rattle.replication.proofs.Agreement.Greens.Beginnings.{Prefix, prefix-trans, prefix-to, prefix-from, prefix-same}
 use Rattle.replication.proofs.Agreement.Greens.Terms.{greens, baseOf}
 use Rattle.replication.proofs.Agreement.Greens.Parts.{Parts}
-use Rattle.replication.proofs.Agreement.Greens.Invariant.{Invariant, UpTo}
+use Rattle.replication.proofs.Agreement.Greens.Invariant.{UpTo}
 use Rattle.replication.proofs.Agreement.Greens.Taking.{grows-greens, same-install-next}
 use Rattle.replication.proofs.Agreement.Greens.Steps as S
 use Rattle.replication.proofs.Agreement.Greens.Steps.{GreenStep, green-step}
 use Rattle.replication.proofs.Agreement.Greens.Images.{ImageStep, kept, fallen, restored, acted, image-step}
 use Rattle.replication.proofs.Agreement.Greens.Reaching.{installs-here, base-after, recovered-greens}
-use Rattle.replication.proofs.Agreement.Greens.Earlier.{Earlier, ends-here, taker-image, ending-agreeable, earlier}
+use Rattle.replication.proofs.Agreement.Greens.Earlier.{ends-here, taker-image, ending-agreeable, earlier}
 
 pub grown : {n q : ℕ} {l : Run} {t s : ℕ} (x : Acts n q l t s) → Prefix (greens (memoryAt n q l t s)) (greens (x .after))
 grown {n} {q} {l} {t} {s} x = grows-greens (memoryAt n q l t s) (x .after) (transition-grows (x .moves))

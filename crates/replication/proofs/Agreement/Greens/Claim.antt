@@ -1,7 +1,6 @@
 -- Demand 3 from the invariant: an id is of one action, so green lists with comparable ids agree.
-use Prim.Native.Nat.{ℕ, suc, max, _≤_, _<_}
-use mathlib.Core.Path.{_≡_, refl, sym, ap, subst, subst₂, _∙_}
-use mathlib.Core.Bool.{Bool, true, false}
+use Prim.Native.Nat.{ℕ, max, _<_}
+use mathlib.Core.Path.{_≡_, sym, ap, subst₂, _∙_}
 use mathlib.Core.List.{List, [], _∷_}
 use native.Mathlib.Omega.{arith}
 use lib.ListN.{length, length-map}
@@ -18,8 +17,7 @@ use Rattle.replication.proofs.Runs.ControlPart.{store-grows-between}
 use Rattle.replication.proofs.Runs.Made.{Made, made-one, all-made}
 use Rattle.replication.proofs.Agreement.Terms.{Image, in-memory, in-store, ExchangeFacts}
 use Rattle.replication.proofs.Agreement.Votes.Primaries.{primaries-agree}
-use Rattle.replication.proofs.Agreement.Greens.Beginnings.{Prefix, Comparable, shorter, longer, prefix-nil, prefix-cons, prefix-head, prefix-tail, prefix-length, prefix-refl, prefix-same, comparable-beginnings, shorter-begins, equal-lengths, comparable-sym}
-use Rattle.replication.proofs.Agreement.Greens.Terms.{greens}
+use Rattle.replication.proofs.Agreement.Greens.Beginnings.{Prefix, Comparable, shorter, longer, prefix-nil, prefix-cons, prefix-head, prefix-tail, prefix-length, prefix-same, comparable-beginnings, shorter-begins, equal-lengths, comparable-sym}
 use Rattle.replication.proofs.Agreement.Greens.Parts.{Parts}
 use Rattle.replication.proofs.Agreement.Greens.Invariant.{Invariant}
 use Rattle.replication.proofs.Agreement.Greens.Comparing.{agree}

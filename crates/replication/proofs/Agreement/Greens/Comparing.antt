@@ -1,10 +1,9 @@
 -- From the invariant at t: any two green lists are comparable, and with what can still be known of any member; so members who took one configuration had
 -- comparable lists, and all Installs in it give the same.
-use Prim.Native.Nat.{ℕ, zero, suc, _+_, _≤_, _<_}
+use Prim.Native.Nat.{ℕ, zero, suc, _<_}
 use mathlib.Core.Path.{_≡_, refl, sym, ap, subst, _∙_}
-use mathlib.Core.Bool.{true, false}
-use mathlib.Core.List.{List, [], _∷_, _++_, append-assoc}
-use mathlib.Core.Option.{some}
+use mathlib.Core.Bool.{true}
+use mathlib.Core.List.{List, []}
 use native.Mathlib.Omega.{arith}
 use native.Mathlib.Decide.{decLt}
 use Rattle.base.specs.Sets.{inSet}
@@ -13,20 +12,19 @@ use Rattle.replication.specs.Machine.Types.{Configuration, Server}
 use Rattle.replication.specs.Runs.Run.{Run}
 use Rattle.replication.specs.Runs.Happenings.{Takes}
 use Rattle.replication.specs.Runs.Allowed.{Allowed}
-use Rattle.replication.proofs.Runs.AllowedTurns.{memoryAt, storeAt, Acts}
+use Rattle.replication.proofs.Runs.AllowedTurns.{memoryAt}
 use Rattle.replication.proofs.Runs.Entries.{had}
 use Rattle.replication.proofs.Runs.Order.{taker-member}
-use Rattle.replication.proofs.Runs.Places.{of-event}
 use Rattle.replication.proofs.Runs.Shifts.{comes-of}
-use Rattle.replication.proofs.Agreement.Terms.{Image, in-memory, in-store, InstallsAt, installed, ExchangeFacts}
+use Rattle.replication.proofs.Agreement.Terms.{Image, in-memory, InstallsAt, installed, ExchangeFacts}
 use Rattle.replication.proofs.Agreement.Votes.Events.{taken-before}
-use Rattle.replication.proofs.Agreement.Votes.Known.{KnownPrimary, of-start, of-install, known-primary, image-known}
+use Rattle.replication.proofs.Agreement.Votes.Known.{KnownPrimary, of-start, of-install, image-known}
 use Rattle.replication.proofs.Agreement.Votes.Attempts.{installed-index}
 use Rattle.replication.proofs.Agreement.Votes.Unique.{unique-install}
 use Rattle.replication.proofs.Agreement.Lists.Plus.{plus-begins}
 use Rattle.replication.proofs.Agreement.Lists.Fifo.{begins-fifo}
-use Rattle.replication.proofs.Agreement.Greens.Beginnings.{Prefix, Comparable, shorter, longer, prefix-refl, prefix-trans, prefix-to, prefix-from, prefix-nil, prefix-append, both-begin, comparable-beginnings, comparable-sym}
-use Rattle.replication.proofs.Agreement.Greens.Terms.{greens, plus, Fifo, baseOf, cutsOf, reach, residue, Settled, nothing, at-base, left, Reached, settled, own, Agreeable}
+use Rattle.replication.proofs.Agreement.Greens.Beginnings.{Prefix, Comparable, shorter, longer, prefix-refl, prefix-trans, prefix-from, prefix-nil, both-begin, comparable-beginnings}
+use Rattle.replication.proofs.Agreement.Greens.Terms.{greens, Fifo, baseOf, residue, Settled, nothing, at-base, left, Reached, settled, own}
 use Rattle.replication.proofs.Agreement.Greens.Parts.{Parts}
 use Rattle.replication.proofs.Agreement.Greens.Invariant.{Invariant}
 use Rattle.replication.proofs.Agreement.Greens.Residues.{residue-reach, base-residue, same-residue}

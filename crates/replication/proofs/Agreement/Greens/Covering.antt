@@ -1,46 +1,38 @@
 -- At an Install all that the installer answers for becomes green: so what can still be known of a primary component is green at the Install of the next.
 use Prim.Native.Nat.{ℕ, zero, suc, _+_, _≤_, _<_}
 use mathlib.Core.Path.{_≡_, refl, sym, ap, subst, _∙_}
-use mathlib.Core.Bool.{Bool, true, false}
-use mathlib.Core.List.{List, []}
+use mathlib.Core.Bool.{true, false}
 use mathlib.Core.Logic.{_⊎_, inl, inr}
-use mathlib.Core.Option.{some}
 use native.Mathlib.Omega.{arith}
 use native.Mathlib.Decide.{decLt}
 use Rattle.base.specs.ListLaws.{Each}
 use Rattle.base.specs.Tests.{_=?_, pick, not-both, eq-fails, Known, holds, fails, known}
 use Rattle.base.specs.Sets.{inSet}
-use Rattle.format.specs.Types.{Id}
-use Rattle.replication.specs.Machine.Types.{Reg-prim, Trans-prim, Construct, Un, Configuration, Server, noYellow}
+use Rattle.replication.specs.Machine.Types.{Construct, Un, Configuration, Server}
 use Rattle.replication.specs.Machine.Colours.{cut}
 use Rattle.replication.specs.Machine.Install.{installLog}
-use Rattle.replication.specs.Machine.Step.{unmarked, yellowValid, theSet}
+use Rattle.replication.specs.Machine.Step.{unmarked, yellowValid}
 use Rattle.replication.specs.Machine.WellFormed.{idsIn}
 use Rattle.replication.specs.Laws.Modes as M
-use Rattle.replication.specs.Laws.Modes.{Attempts, Attained, ModeFacts, ColourFactsOf, ColourFacts}
+use Rattle.replication.specs.Laws.Modes.{Attempts, ModeFacts}
 use Rattle.replication.specs.Laws.Order.{inExchange}
-use Rattle.replication.specs.Laws.Images.{OfBoth}
-use Rattle.replication.specs.Runs.Run.{Run, worldAt}
+use Rattle.replication.specs.Runs.Run.{Run}
 use Rattle.replication.specs.Runs.Allowed.{Allowed}
-use Rattle.replication.proofs.WellFormed.Runs.{colour-facts}
-use Rattle.replication.proofs.Runs.Lived.{at-place}
-use Rattle.replication.proofs.Runs.AllowedTurns.{memoryAt, storeAt, Acts}
+use Rattle.replication.proofs.Runs.AllowedTurns.{memoryAt}
 use Rattle.replication.proofs.Runs.Modes.{mode-facts-at}
 use Rattle.replication.proofs.Runs.Numbers.{invariant-at}
 use Rattle.replication.proofs.Runs.Places.{of-event}
-use Rattle.replication.proofs.Agreement.Terms.{Image, in-memory, in-store, InstallsAt, installed, ExchangeFacts}
+use Rattle.replication.proofs.Agreement.Terms.{Image, in-memory, InstallsAt, installed, ExchangeFacts}
 use Rattle.replication.proofs.Agreement.Votes.Turns.{lastAt, votesAt, modeAt}
 use Rattle.replication.proofs.Agreement.Votes.Events.{installing-at}
 use Rattle.replication.proofs.Agreement.Votes.Attempts.{installed-index}
-use Rattle.replication.proofs.Agreement.Votes.Judging.{Alike}
-use Rattle.replication.proofs.Agreement.Votes.Unique.{unique-known}
 use Rattle.replication.proofs.Agreement.Greens.Beginnings.{Prefix, prefix-trans, prefix-to, prefix-from}
-use Rattle.replication.proofs.Agreement.Greens.Terms.{greens, plus, Fifo, validYellow, baseOf, markOfInstall, residue, Answers, by-yellow, by-attempt, by-mark}
+use Rattle.replication.proofs.Agreement.Greens.Terms.{greens, plus, Fifo, validYellow, baseOf, residue, Answers, by-attempt}
 use Rattle.replication.proofs.Agreement.Greens.Parts.{Parts}
-use Rattle.replication.proofs.Agreement.Greens.Invariant.{Invariant, UpTo}
+use Rattle.replication.proofs.Agreement.Greens.Invariant.{UpTo}
 use Rattle.replication.proofs.Agreement.Greens.Residues.{residue-shrinks}
 use Rattle.replication.proofs.Agreement.Greens.Steps as S
-use Rattle.replication.proofs.Agreement.Greens.Steps.{InPrimary, GreenStep, green-step, mark-set-at, MarkSet, MarkSetOf}
+use Rattle.replication.proofs.Agreement.Greens.Steps.{GreenStep, green-step}
 use Rattle.replication.proofs.Agreement.Greens.Reaching.{base-after}
 use Rattle.replication.proofs.Agreement.Greens.Earlier.{Earlier, earlier, earlier-residue}
 

@@ -1,49 +1,48 @@
 -- At the end of an exchange: whoever answers for the taken primary component has all that can still be known of it.
-use Prim.Native.Nat.{ℕ, zero, suc, _+_, _*_, _^_, _≤_, _<_}
-use mathlib.Core.Path.{_≡_, refl, sym, ap, subst, subst₂, _∙_}
-use mathlib.Core.Bool.{Bool, true, false, not}
-use mathlib.Core.List.{List, [], _∷_, List·Memᴰ, List·Memᴰ·head, List·Memᴰ·tail, List·Memᴰ·not-nil}
+use Prim.Native.Nat.{ℕ, suc, _^_, _≤_, _<_}
+use mathlib.Core.Path.{_≡_, sym, ap, subst, subst₂, _∙_}
+use mathlib.Core.Bool.{true}
+use mathlib.Core.List.{List, [], _∷_, List·Memᴰ, List·Memᴰ·not-nil}
 use mathlib.Core.Logic.{_⊎_, inl, inr}
-use mathlib.Core.Option.{some}
 use native.Mathlib.Omega.{arith}
-use lib.ListN.{length, take}
-use Rattle.base.specs.Lists.{filter, any}
+use lib.ListN.{take}
+use Rattle.base.specs.Lists.{filter}
 use Rattle.base.specs.Members.{filter-has}
 use Rattle.base.specs.Quorums.{majorities-meet}
-use Rattle.base.specs.Sets.{inSet, inside, size, common}
+use Rattle.base.specs.Sets.{inSet}
 use Rattle.base.specs.SetLaws.{inside-member}
-use Rattle.base.specs.Tests.{_and_, _or_, _=?_, pick, not-both, and-holds, both-yes, eq-holds, eq-fails, eq-yes, not-holds, Known, holds, fails, known}
-use Rattle.format.specs.Types.{Id, Mark, State, Primary}
-use Rattle.replication.specs.Machine.Types.{Non-prim, Configuration, Server}
-use Rattle.replication.specs.Machine.Exchange.{takenPrimary, updatedGroup, samePair, isValid, isMarked, sameAttempt, ruleA, ruleB, ruleC, commonYellow, judgedMark, keptMark, quorum}
+use Rattle.base.specs.Tests.{_=?_, not-both, and-holds, both-yes, eq-yes, not-holds, Known, holds, fails, known}
+use Rattle.format.specs.Types.{Id, State}
+use Rattle.replication.specs.Machine.Types.{Configuration, Server}
+use Rattle.replication.specs.Machine.Exchange.{takenPrimary, updatedGroup, samePair, isValid, ruleA, ruleB, ruleC, commonYellow, judgedMark, keptMark, quorum}
 use Rattle.replication.specs.Machine.Step.{collected, theSet}
 use Rattle.replication.specs.Laws.Modes as M
 use Rattle.replication.specs.Laws.Order.{inExchange}
 use Rattle.replication.specs.Runs.Run.{Run}
-use Rattle.replication.specs.Runs.Happenings.{Takes, Falls}
+use Rattle.replication.specs.Runs.Happenings.{Takes}
 use Rattle.replication.specs.Runs.Allowed.{Allowed}
 use Rattle.replication.proofs.Runs.AllowedTurns.{memoryAt, storeAt}
 use Rattle.replication.proofs.Runs.ControlPart.{store-below}
 use Rattle.replication.proofs.Runs.Entries.{had}
 use Rattle.replication.proofs.Runs.Order.{time, time-before, configuration-time}
 use Rattle.replication.proofs.Runs.Shifts.{comes-of}
-use Rattle.replication.proofs.Agreement.Terms.{Image, in-memory, in-store, Within, EndsAt, MarksAt, InstallsAt, installed, ExchangeFacts}
-use Rattle.replication.proofs.Agreement.Votes.Turns.{votesAt, lastAt, Decides, with-quorum, without-quorum, ended, ended-last}
+use Rattle.replication.proofs.Agreement.Terms.{Image, in-memory, in-store, EndsAt, MarksAt, InstallsAt, installed, ExchangeFacts}
+use Rattle.replication.proofs.Agreement.Votes.Turns.{lastAt, Decides, with-quorum, without-quorum, ended}
 use Rattle.replication.proofs.Agreement.Votes.Events.{ends-exchange, done-before}
 use Rattle.replication.proofs.Agreement.Votes.Known.{KnownEarlier, at-start, installed-earlier, state-known}
 use Rattle.replication.proofs.Agreement.Votes.Phases.{installs-attempt}
 use Rattle.replication.proofs.Agreement.Votes.Attempts.{installed-index, marking-taken}
 use Rattle.replication.proofs.Agreement.Votes.Judging.{Alike, mark-kept, taken-from, no-quorum, quorum-majority}
-use Rattle.replication.proofs.Agreement.Votes.Collected.{StateOf, taken-below, own-state, own-mark-judged, state-of}
+use Rattle.replication.proofs.Agreement.Votes.Collected.{taken-below, own-state, own-mark-judged, state-of}
 use Rattle.replication.proofs.Agreement.Votes.Marks.{taken-mark}
 use Rattle.replication.proofs.Agreement.Votes.Present.{AfterAttempt, later-primary, waits, covered-index}
 use Rattle.replication.proofs.Agreement.Votes.Unique.{markFor, unique-install, unique-known, kept-mark}
-use Rattle.replication.proofs.Agreement.Greens.Beginnings.{Prefix, Comparable, prefix-refl, prefix-trans, prefix-to, prefix-from, prefix-same, comparable-beginnings, take-begins}
+use Rattle.replication.proofs.Agreement.Greens.Beginnings.{Prefix, Comparable, prefix-trans, prefix-to, prefix-from, comparable-beginnings, take-begins}
 use Rattle.replication.proofs.Agreement.Lists.Plus.{plus-nil}
 use Rattle.replication.proofs.Agreement.Greens.Terms as G
 use Rattle.replication.proofs.Agreement.Greens.Terms.{greens, plus, Fifo, validYellow, baseOf, reach, markOfInstall, residue, Answers, by-yellow, by-attempt, by-mark, nothing-more, fell}
 use Rattle.replication.proofs.Agreement.Greens.Parts.{Parts}
-use Rattle.replication.proofs.Agreement.Greens.Invariant.{Invariant, UpTo}
+use Rattle.replication.proofs.Agreement.Greens.Invariant.{UpTo}
 use Rattle.replication.proofs.Agreement.Greens.Residues.{residue-shrinks, residue-reach, residue-stored, same-reach}
 use Rattle.replication.proofs.Agreement.Greens.Comparing.{residue-comparable}
 use Rattle.replication.proofs.Agreement.Greens.Taking.{grows-greens, took-begins, same-install-next}
@@ -51,53 +50,11 @@ use Rattle.replication.proofs.Agreement.Greens.Earlier.{Earlier, earlie
 use Rattle.replication.proofs.Agreement.Greens.Bases.{taken-base}
 use Rattle.replication.proofs.Agreement.Greens.Covering.{installing-attempts, answers-in}
 use Rattle.replication.proofs.Agreement.Greens.Silence.{install-mark}
-use Rattle.replication.proofs.Agreement.Greens.Answering.{known-list, answers-same, ExchangeCovers}
-use Rattle.replication.proofs.Agreement.Greens.Gathered.{Sender, sender, ValidState, YellowTaken, invalid, valid, yellow-taken, valid-sender, sender-yellow}
+use Rattle.replication.proofs.Agreement.Greens.Answering.{known-list, answers-same}
+use Rattle.replication.proofs.Agreement.Greens.Gathered.{Sender, sender, YellowTaken, invalid, valid, yellow-taken, valid-sender, sender-yellow}
 use Rattle.replication.proofs.Agreement.Greens.Ordering.{no-valid-yellow, greens-fifo}
+use Rattle.replication.proofs.Agreement.Greens.Unlike.{alike?, invalid-yellow, rule-b-names}
 use Rattle.replication.proofs.Agreement.Greens.Joined.{joined-known}
-
--- ---- marks
-
-alike? : (m o : Mark) → Alike m o ⊎ (Alike m o → ⊥)
-alike? m o = go (known (o .status =? 1)) (known (o .index =? m .index)) (known (o .attempt =? m .attempt)) (known (o .set =? m .set))
-  where
-    go : Known (o .status =? 1) → Known (o .index =? m .index) → Known (o .attempt =? m .attempt) → Known (o .set =? m .set) → Alike m o ⊎ (Alike m o → ⊥)
-    go (holds a) (holds b) (holds c) (holds d) =
-        inl (record { status = eq-holds _ _ a; index = eq-holds _ _ b; attempt = eq-holds _ _ c; set = eq-holds _ _ d })
-    go (fails a) b c d = inr (λ h. eq-fails _ _ a (h .status))
-    go (holds a) (fails b) c d = inr (λ h. eq-fails _ _ b (h .index))
-    go (holds a) (holds b) (fails c) d = inr (λ h. eq-fails _ _ c (h .attempt))
-    go (holds a) (holds b) (holds c) (fails d) = inr (λ h. eq-fails _ _ d (h .set))
-
-invalid-yellow : (u : Server) → (u .votes .yellow .status =? 1) ≡ false → validYellow u ≡ []
-unfolding validYellow pick
-invalid-yellow u h = rw h
-
-any-from : (t : State → Bool) (l : List State) → any t l ≡ true → (x : State) × List·Memᴰ x l × (t x ≡ true)
-unfolding any _or_
-any-from t [] h = not-both h
-any-from t (x ∷ l) h = go (known (t x)) (any-from t l)
-  where
-    go : Known (t x) → (any t l ≡ true → (y : State) × List·Memᴰ y l × (t y ≡ true)) → (y : State) × List·Memᴰ y (x ∷ l) × (t y ≡ true)
-    go (holds a) f = (x, List·Memᴰ·head refl, a)
-    go (fails a) f = let r = f (sym (ap (λ z. z or any t l) a) ∙ h) in (r .0, List·Memᴰ·tail (r .1), r .2)
-
--- Rule (b) names a present member of the mark's set whose mark is another, or none.
-rule-b-names : (xs : List State) (v : State) → ruleB xs v ≡ true
-    → (w : State) × List·Memᴰ w xs × (inSet (w .sender) (v .mark .set) ≡ true) × ((m : Mark) → Alike m (v .mark) → Alike m (w .mark) → ⊥)
-unfolding ruleB isMarked sameAttempt _or_
-rule-b-names xs v h =
-    let r = any-from (λ x. inSet (x .sender) (v .mark .set) and (not (isMarked x) or not (sameAttempt (v .mark) (x .mark)))) xs h in
-    let k = and-holds _ _ (r .2) in
-    (r .0, r .1, k .0, λ m a b. differ (r .0) m a b (k .1))
-  where
-    differ : (w : State) (m : Mark) → Alike m (v .mark) → Alike m (w .mark)
-        → (not (w .mark .status =? 1) or not ((w .mark .index =? v .mark .index) and (w .mark .attempt =? v .mark .attempt))) ≡ true → ⊥
-    differ w m a b e =
-        let p : (w .mark .status =? 1) ≡ true = eq-yes _ _ (b .status) in
-        let q : ((w .mark .index =? v .mark .index) and (w .mark .attempt =? v .mark .attempt)) ≡ true =
-        both-yes _ _ (eq-yes _ _ (b .index ∙ sym (a .index))) (eq-yes _ _ (b .attempt ∙ sym (a .attempt))) in
-        not-both (sym (ap (λ z. not z or not ((w .mark .index =? v .mark .index) and (w .mark .attempt =? v .mark .attempt))) p ∙ ap (λ z. not z) q) ∙ e)
 
 module _ {n q : ℕ} {l : Run} (A : Allowed n q l) (X : ExchangeFacts n q l) (P : Parts A) {t : ℕ} (U : UpTo A t) {p i s : ℕ} {c e : Configuration} (x : InstallsAt n q l p i c)
     (h : p < suc t) (y : EndsAt n q l t s e) (exchanging : inExchange (memoryAt n q l t s .membership .mode) ≡ true) (same-index : takenPrimary (collected (y .judged)) .index ≡ installed n q l x .index) where

@@ -1,15 +1,10 @@
 -- A primary component that is known was installed before; all its Installs give the same, so a fact of one is a fact of all. The end of an exchange, with its place.
-use Prim.Native.Nat.{ℕ, suc, _+_, _≤_, _<_}
-use mathlib.Core.Path.{_≡_, refl, sym, ap, subst, _∙_}
-use mathlib.Core.Bool.{Bool, true, false}
-use mathlib.Core.List.{List, List·Memᴰ}
-use mathlib.Core.Option.{some, none}
+use Prim.Native.Nat.{ℕ, suc, _≤_, _<_}
+use mathlib.Core.Path.{_≡_, refl, sym, subst, _∙_}
+use mathlib.Core.Bool.{true}
 use native.Mathlib.Omega.{arith}
-use Rattle.format.specs.Types.{State}
 use Rattle.replication.specs.Machine.Types.{Configuration, Server}
-use Rattle.replication.specs.Machine.Exchange.{takenPrimary}
-use Rattle.replication.specs.Machine.Step.{collected}
-use Rattle.replication.specs.Runs.Run.{Run, placeAt}
+use Rattle.replication.specs.Runs.Run.{Run}
 use Rattle.replication.specs.Runs.Happenings.{Takes}
 use Rattle.replication.specs.Runs.Allowed.{Allowed}
 use Rattle.replication.proofs.Step.Formed.{every-state-in}
@@ -28,12 +23,11 @@ use Rattle.replication.proofs.Agreement.Votes.Changes.{Ending}
 use Rattle.replication.proofs.Agreement.Votes.Turns.{lastAt}
 use Rattle.replication.proofs.Agreement.Votes.Attempts.{installed-index}
 use Rattle.replication.proofs.Agreement.Votes.Unique.{unique-install}
-use Rattle.replication.proofs.Agreement.Votes.Collected.{StateOf}
 use Rattle.replication.proofs.Agreement.Greens.Terms.{baseOf, cutsOf, residue, Agreeable}
 use Rattle.replication.proofs.Agreement.Greens.Parts.{Parts}
-use Rattle.replication.proofs.Agreement.Greens.Invariant.{Invariant, UpTo}
+use Rattle.replication.proofs.Agreement.Greens.Invariant.{UpTo}
 use Rattle.replication.proofs.Agreement.Greens.Residues.{same-residue}
-use Rattle.replication.proofs.Agreement.Greens.Comparing.{InstalledBefore, known-installed}
+use Rattle.replication.proofs.Agreement.Greens.Comparing.{known-installed}
 use Rattle.replication.proofs.Agreement.Greens.Taking.{agreeable, same-install-next}
 
 module _ {n q : ℕ} {l : Run} (A : Allowed n q l) where

@@ -1,21 +1,21 @@
 -- Valid yellow ids are of entered actions, one place further.
-use Prim.Native.Nat.{ℕ, suc, _≤_, _<_}
+use Prim.Native.Nat.{ℕ, suc, _≤_}
 use mathlib.Core.Path.{_≡_, refl, sym, ap, subst, subst₂, _∙_}
-use mathlib.Core.Bool.{Bool, true, false}
-use mathlib.Core.List.{List, [], _∷_, List·Memᴰ·head}
+use mathlib.Core.Bool.{true}
+use mathlib.Core.List.{List, [], List·Memᴰ·head}
 use native.Mathlib.Omega.{arith}
 use Rattle.base.specs.ListLaws.{Each, each-implied, each-filter}
-use Rattle.base.specs.Lists.{filter, all}
+use Rattle.base.specs.Lists.{all}
 use Rattle.base.specs.Tests.{_=?_, pick}
-use Rattle.format.specs.Types.{Id, State}
+use Rattle.format.specs.Types.{Id}
 use Rattle.format.specs.Range.{hasId}
-use Rattle.replication.specs.Machine.Types.{Trans-prim, Configuration, Server, Log}
+use Rattle.replication.specs.Machine.Types.{Configuration, Server, Log}
 use Rattle.replication.specs.Machine.Colours.{cut}
 use Rattle.replication.specs.Machine.Exchange.{commonYellow}
 use Rattle.replication.specs.Machine.Requests.{recovered}
 use Rattle.replication.specs.Machine.Step.{collected, unmarked, yellowValid}
 use Rattle.replication.specs.Machine.WellFormedFacts.{YellowEntered, YellowWithinCuts}
-use Rattle.replication.specs.Laws.Order.{Grows, inExchange}
+use Rattle.replication.specs.Laws.Order.{inExchange}
 use Rattle.replication.specs.Laws.Transitions as L
 use Rattle.replication.specs.Runs.Run.{Run}
 use Rattle.replication.specs.Runs.Allowed.{Allowed}
@@ -26,14 +26,14 @@ use Rattle.replication.proofs.Runs.Places.{of-event}
 use Rattle.replication.proofs.Agreement.Terms.{Image, in-memory, in-store, EndsAt, ExchangeFacts}
 use Rattle.replication.proofs.Agreement.Greens.Terms.{validYellow}
 use Rattle.replication.proofs.Agreement.Greens.Parts.{Parts}
-use Rattle.replication.proofs.Agreement.Greens.Invariant.{Invariant, UpTo}
+use Rattle.replication.proofs.Agreement.Greens.Invariant.{UpTo}
 use Rattle.replication.proofs.Agreement.Greens.Steps as S
 use Rattle.replication.proofs.Agreement.Greens.Steps.{GreenStep, green-step}
 use Rattle.replication.proofs.Agreement.Greens.Images.{ImageStep, kept, fallen, restored, acted, image-step}
 use Rattle.replication.proofs.Agreement.Greens.Earlier.{ends-here, ending-agreeable}
 use Rattle.replication.proofs.Agreement.Greens.Silence.{no-yellow-after}
 use Rattle.replication.proofs.Agreement.Greens.Answering.{all-valid}
-use Rattle.replication.proofs.Agreement.Greens.Gathered.{Sender, ValidState, YellowTaken, invalid, valid, yellow-taken, valid-sender, sender-yellow}
+use Rattle.replication.proofs.Agreement.Greens.Gathered.{YellowTaken, invalid, valid, yellow-taken, valid-sender, sender-yellow}
 use Rattle.replication.proofs.Agreement.Greens.Ordering.{no-valid-yellow}
 
 -- The ids are of actions that the log m has entered.

@@ -1,31 +1,30 @@
 -- The States that the end of an exchange judges, as images of their senders; the yellow list that it takes.
-use Prim.Native.Nat.{ℕ, zero, suc, _+_, _≤_, _<_}
+use Prim.Native.Nat.{ℕ, suc}
 use mathlib.Core.Path.{_≡_, refl, sym, ap, subst, _∙_}
-use mathlib.Core.Bool.{Bool, true, false}
+use mathlib.Core.Bool.{true}
 use mathlib.Core.List.{List, [], _∷_, List·Memᴰ}
 use native.Mathlib.Omega.{arith}
 use lib.ListN.{length, take, length-map}
 use Rattle.base.specs.Lists.{filter}
 use Rattle.base.specs.Members.{filter-from}
 use Rattle.base.specs.Sets.{inSet}
-use Rattle.base.specs.Tests.{_=?_, pick, and-holds, eq-holds, eq-yes}
-use Rattle.format.specs.Types.{Id, State, Yellow}
+use Rattle.base.specs.Tests.{pick, and-holds, eq-holds, eq-yes}
+use Rattle.format.specs.Types.{Id, State}
 use Rattle.replication.specs.Machine.Types.{Configuration, Server, noYellow}
 use Rattle.replication.specs.Machine.Exchange.{takenPrimary, updatedGroup, samePair, isValid, commonYellow, takenYellow, takenVotes, attempted}
 use Rattle.replication.specs.Machine.Step.{collected, ownState}
 use Rattle.replication.specs.Machine.WellFormed.{idsIn}
 use Rattle.replication.specs.Laws.Order.{inExchange}
 use Rattle.replication.specs.Runs.Run.{Run}
-use Rattle.replication.specs.Runs.Happenings.{Takes}
 use Rattle.replication.specs.Runs.Allowed.{Allowed}
 use Rattle.replication.proofs.Runs.AllowedTurns.{memoryAt}
 use Rattle.replication.proofs.Agreement.Terms.{Image, EndsAt, ExchangeFacts}
 use Rattle.replication.proofs.Agreement.Votes.Turns.{votesAt, Decides, with-quorum, without-quorum, ended}
-use Rattle.replication.proofs.Agreement.Votes.Collected.{StateOf, state-from, state-of}
-use Rattle.replication.proofs.Agreement.Greens.Beginnings.{Prefix, shorter, prefix-to, prefix-length, begins-take, take-within, shorter-begins, equal-lengths, both-begin, take-begins, prefix-refl}
+use Rattle.replication.proofs.Agreement.Votes.Collected.{StateOf, state-from}
+use Rattle.replication.proofs.Agreement.Greens.Beginnings.{Prefix, shorter, prefix-length, begins-take, take-within, equal-lengths}
 use Rattle.replication.proofs.Agreement.Greens.Terms.{greens, validYellow}
 use Rattle.replication.proofs.Agreement.Greens.Parts.{Parts}
-use Rattle.replication.proofs.Agreement.Greens.Invariant.{Invariant, UpTo}
+use Rattle.replication.proofs.Agreement.Greens.Invariant.{UpTo}
 use Rattle.replication.proofs.Agreement.Greens.Earlier.{taker-image, ending-agreeable}
 
 -- A beginning is found by its length.

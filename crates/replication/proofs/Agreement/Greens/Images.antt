@@ -1,15 +1,14 @@
 -- The images of a server after a place: as before it, the store after a fall, what is restored from it, or what an event left.
-use Prim.Native.Nat.{ℕ, suc, _<_}
-use mathlib.Core.Path.{_≡_, refl, sym, ap, subst, _∙_}
-use mathlib.Core.Bool.{Bool, true, false}
+use Prim.Native.Nat.{ℕ, suc}
+use mathlib.Core.Path.{_≡_, sym, ap, subst, _∙_}
+use mathlib.Core.Bool.{true, false}
 use mathlib.Core.Option.{some}
 use Rattle.base.specs.Tests.{pick, not-both, Known, holds, fails, known}
 use Rattle.base.specs.AtLaws.{some-same}
-use Rattle.format.specs.Types.{recovery, says}
 use Rattle.replication.specs.Machine.Types.{Server, Configuration}
 use Rattle.replication.specs.Machine.Requests.{recovered}
 use Rattle.replication.specs.Images.{isRecovery}
-use Rattle.replication.specs.Runs.Run.{Run, worldAt, heardAt, placeAt}
+use Rattle.replication.specs.Runs.Run.{Run, worldAt, heardAt}
 use Rattle.replication.specs.Runs.Happenings.{Falls, by-crash, by-recovery}
 use Rattle.replication.specs.Runs.Allowed.{Allowed}
 use Rattle.replication.proofs.Runs.AllowedTurns.{memoryAt, storeAt, Acts, Refuses, Recovers, AllowedTurn, rests, crashes, refuses, recovers, acts, allowed-turn}

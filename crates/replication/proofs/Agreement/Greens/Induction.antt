@@ -1,12 +1,11 @@
 -- The invariant of green lists holds at every place, and with it demand 3.
 use Prim.Native.Nat.{ℕ, zero, suc, _≤_, _<_}
-use mathlib.Core.Path.{_≡_, refl, sym, ap, subst, _∙_}
-use mathlib.Core.List.{List, []}
+use mathlib.Core.Path.{_≡_, sym, ap, subst, _∙_}
+use mathlib.Core.List.{[]}
 use native.Mathlib.Omega.{arith}
 use Rattle.base.specs.Chains.{strong}
 use Rattle.base.specs.ListLaws.{Each}
-use Rattle.format.specs.Types.{Id}
-use Rattle.replication.specs.Machine.Types.{Configuration, Server, start, noYellow, clearedMark}
+use Rattle.replication.specs.Machine.Types.{Server, start, noYellow, clearedMark}
 use Rattle.replication.specs.Machine.Colours.{cut}
 use Rattle.replication.specs.Machine.WellFormed.{idsIn}
 use Rattle.replication.specs.Images.{started}
@@ -17,7 +16,7 @@ use Rattle.replication.proofs.Runs.Places.{world-at-start}
 use Rattle.replication.proofs.Agreement.Terms.{Image, in-memory, in-store, ExchangeFacts}
 use Rattle.replication.proofs.Agreement.Votes.Turns.{ended-last}
 use Rattle.replication.proofs.Agreement.Lists.Plus.{plus-nil}
-use Rattle.replication.proofs.Agreement.Greens.Terms.{greens, plus, Fifo, validYellow, settled, nothing}
+use Rattle.replication.proofs.Agreement.Greens.Terms.{greens, plus, Fifo, settled, nothing}
 use Rattle.replication.proofs.Agreement.Greens.Parts.{Parts}
 use Rattle.replication.proofs.Agreement.Greens.Invariant.{Invariant, UpTo}
 use Rattle.replication.proofs.Agreement.Greens.Taking.{same-install-next}

@@ -2,10 +2,8 @@
 use Prim.Native.Nat.{ℕ, suc, _≤_, _<_}
 use mathlib.Core.Path.{_≡_}
 use mathlib.Core.Bool.{true}
-use mathlib.Core.List.{List}
 use Rattle.base.specs.ListLaws.{Each}
 use Rattle.base.specs.Sets.{inSet}
-use Rattle.format.specs.Types.{Id}
 use Rattle.replication.specs.Machine.Types.{Configuration, Server}
 use Rattle.replication.specs.Machine.Colours.{cut}
 use Rattle.replication.specs.Runs.Run.{Run}

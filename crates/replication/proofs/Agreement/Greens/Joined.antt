@@ -1,21 +1,19 @@
 -- A bit of a mark is of a member of which the image has all that can be known, one place further.
-use Prim.Native.Nat.{ℕ, zero, suc, _+_, _≤_, _<_}
+use Prim.Native.Nat.{ℕ, suc, _≤_, _<_}
 use mathlib.Core.Path.{_≡_, refl, sym, ap, subst, _∙_}
-use mathlib.Core.Bool.{Bool, true, false}
+use mathlib.Core.Bool.{true}
 use mathlib.Core.List.{List, [], _∷_, List·Memᴰ, List·Memᴰ·head, List·Memᴰ·tail}
 use mathlib.Core.Logic.{_⊎_, inl, inr}
-use mathlib.Core.Option.{some}
 use native.Mathlib.Omega.{arith}
-use Rattle.base.specs.AtLaws.{some-same}
 use Rattle.base.specs.Lists.{filter}
 use Rattle.base.specs.Members.{filter-from}
 use Rattle.base.specs.Sets.{inSet, union, withMember}
 use Rattle.base.specs.SetLaws.{in-empty, in-union, in-with-member}
-use Rattle.base.specs.Tests.{_and_, _or_, _=?_, and-holds, eq-holds, not-both, Known, holds, fails}
+use Rattle.base.specs.Tests.{_or_, _=?_, and-holds, eq-holds, not-both, Known, holds, fails}
 use Rattle.base.specs.Tests as T
-use Rattle.format.specs.Types.{Id, Mark, State}
+use Rattle.format.specs.Types.{Mark, State}
 use Rattle.replication.specs.Machine.Types.{Configuration, Server, clearedMark}
-use Rattle.replication.specs.Machine.Exchange.{takenPrimary, alike, isMarked, sameAttempt, joinBits, joinedBits, judgedMark, keptMark}
+use Rattle.replication.specs.Machine.Exchange.{alike, isMarked, sameAttempt, joinBits, joinedBits, judgedMark, keptMark}
 use Rattle.replication.specs.Machine.Requests.{recovered}
 use Rattle.replication.specs.Machine.Step.{collected, unmarked, yellowValid}
 use Rattle.replication.specs.Laws.Order.{inExchange}
@@ -24,22 +22,21 @@ use Rattle.replication.specs.Runs.Happenings.{Takes, Falls}
 use Rattle.replication.specs.Runs.Allowed.{Allowed}
 use Rattle.replication.proofs.Runs.AllowedTurns.{memoryAt, storeAt, Acts}
 use Rattle.replication.proofs.Runs.ControlPart.{store-below, store-grows-between}
-use Rattle.replication.proofs.Runs.Entries.{Had, had}
-use Rattle.replication.proofs.Agreement.Terms.{Image, in-memory, in-store, Within, EndsAt, MarksAt, InstallsAt, installed, ExchangeFacts}
-use Rattle.replication.proofs.Agreement.Votes.Turns.{votesAt, lastAt, Decides, with-quorum, without-quorum, ended, ended-last}
+use Rattle.replication.proofs.Runs.Entries.{had}
+use Rattle.replication.proofs.Agreement.Terms.{Image, in-memory, in-store, Within, EndsAt, InstallsAt, installed, ExchangeFacts}
+use Rattle.replication.proofs.Agreement.Votes.Turns.{votesAt, Decides, with-quorum, without-quorum, ended, ended-last}
 use Rattle.replication.proofs.Agreement.Votes.Events.{taken-before}
-use Rattle.replication.proofs.Agreement.Votes.Attempts.{installed-index}
 use Rattle.replication.proofs.Agreement.Votes.Judging.{Alike, Judged, cleared, kept, judged?}
 use Rattle.replication.proofs.Agreement.Votes.Collected.{StateOf, own-state, own-mark-judged}
 use Rattle.replication.proofs.Agreement.Votes.Marks.{taken-mark, marking-mark, installed-attempted}
 use Rattle.replication.proofs.Agreement.Votes.Phases.{installs-attempt}
 use Rattle.replication.proofs.Agreement.Votes.Present.{covered-index}
 use Rattle.replication.proofs.Agreement.Votes.Rising.{index-rises}
-use Rattle.replication.proofs.Agreement.Greens.Beginnings.{Prefix, prefix-refl, prefix-trans, prefix-to, prefix-from}
+use Rattle.replication.proofs.Agreement.Greens.Beginnings.{Prefix, prefix-refl, prefix-trans, prefix-to}
 use Rattle.replication.proofs.Agreement.Greens.Terms as G
 use Rattle.replication.proofs.Agreement.Greens.Terms.{greens, baseOf, reach, markOfInstall, nothing-more, fell}
 use Rattle.replication.proofs.Agreement.Greens.Parts.{Parts}
-use Rattle.replication.proofs.Agreement.Greens.Invariant.{Invariant, UpTo}
+use Rattle.replication.proofs.Agreement.Greens.Invariant.{UpTo}
 use Rattle.replication.proofs.Agreement.Greens.Taking.{grows-greens}
 use Rattle.replication.proofs.Agreement.Greens.Steps as S
 use Rattle.replication.proofs.Agreement.Greens.Steps.{GreenStep, green-step}
@@ -49,7 +46,7 @@ use Rattle.replication.proofs.Agreement.Greens.Reaching.{recovered-gree
 use Rattle.replication.proofs.Agreement.Greens.Earlier.{ends-here}
 use Rattle.replication.proofs.Agreement.Greens.Bases.{grown}
 use Rattle.replication.proofs.Agreement.Greens.Gathered.{Sender, sender}
-use Rattle.replication.proofs.Agreement.Greens.Leaving.{like-marked, like-member, Departed, with-none, by-fall, departed, kept-alike}
+use Rattle.replication.proofs.Agreement.Greens.Leaving.{like-marked, Departed, with-none, by-fall, departed, kept-alike}
 
 -- ---- which State a joined bit is from
 

@@ -1,43 +1,42 @@
 -- A server that still has the mark of an attempt that was installed, but is no longer in its configuration, fell there, or nobody got further than the Install.
 use Prim.Native.Nat.{ℕ, zero, suc, _≤_, _<_}
-use mathlib.Core.Path.{_≡_, refl, sym, ap, subst, _∙_}
-use mathlib.Core.Bool.{Bool, true, false}
+use mathlib.Core.Path.{_≡_, sym, ap, subst, _∙_}
+use mathlib.Core.Bool.{true}
 use mathlib.Core.List.{List, List·Memᴰ}
-use mathlib.Core.Option.{Option, some}
+use mathlib.Core.Option.{some}
 use native.Mathlib.Omega.{arith}
-use native.Mathlib.Decide.{decLt}
 use Rattle.base.specs.Chains.{strong}
 use Rattle.base.specs.AtLaws.{some-same}
 use Rattle.base.specs.Tests.{not-both, Known, holds, fails, known}
 use Rattle.base.specs.Sets.{inSet}
-use Rattle.format.specs.Types.{Mark, Action, Record, action, regular, request, recovery, State}
-use Rattle.replication.specs.Machine.Types.{Mode, Trans-prim, Configuration, Server, clearedMark, start}
+use Rattle.format.specs.Types.{Mark, Action, action, regular, request, recovery, State}
+use Rattle.replication.specs.Machine.Types.{Trans-prim, Configuration, Server, clearedMark, start}
 use Rattle.replication.specs.Machine.Exchange.{judgedMark, keptMark}
 use Rattle.replication.specs.Machine.Step.{collected, unmarked, yellowValid}
 use Rattle.replication.specs.Images.{started}
 use Rattle.replication.specs.Laws.Primary as Q
 use Rattle.replication.specs.Laws.Primary.{TransitionalStep}
-use Rattle.replication.specs.Runs.Run.{Run, nowhere, placeAt, beginning}
+use Rattle.replication.specs.Runs.Run.{Run, placeAt, beginning}
 use Rattle.replication.specs.Runs.DeliveryFacts.{within}
 use Rattle.replication.specs.Runs.Happenings.{Takes, Falls}
 use Rattle.replication.specs.Runs.Allowed.{Allowed}
 use Rattle.replication.proofs.Step.Primary.{transitional-step}
-use Rattle.replication.proofs.Runs.AllowedTurns.{memoryAt, storeAt, Acts}
+use Rattle.replication.proofs.Runs.AllowedTurns.{memoryAt, Acts}
 use Rattle.replication.proofs.Runs.DeliveryLists.{within-holds, within-yes}
-use Rattle.replication.proofs.Runs.Entries.{Had, had}
+use Rattle.replication.proofs.Runs.Entries.{had}
 use Rattle.replication.proofs.Runs.Order.{taker-member}
 use Rattle.replication.proofs.Runs.Places.{world-at-start}
 use Rattle.replication.proofs.Runs.Sending.{regular-acts}
 use Rattle.replication.proofs.Runs.Shifts.{Shift, to-regular, to-transitional, to-nowhere, stays, shift}
-use Rattle.replication.proofs.Agreement.Terms.{Within, EndsAt, MarksAt, InstallsAt, ExchangeFacts}
+use Rattle.replication.proofs.Agreement.Terms.{Within, MarksAt, InstallsAt, ExchangeFacts}
 use Rattle.replication.proofs.Agreement.Votes.Changes as C
 use Rattle.replication.proofs.Agreement.Votes.Changes.{MarkJoins}
-use Rattle.replication.proofs.Agreement.Votes.Turns.{votesAt, modeAt, VotesTurn, keeps, joins, ends, installs, votes-turn, Decides, with-quorum, without-quorum, ended}
-use Rattle.replication.proofs.Agreement.Votes.Events.{installing-at, taken-before}
-use Rattle.replication.proofs.Agreement.Votes.Phases.{AttemptsIn, installs-attempt}
+use Rattle.replication.proofs.Agreement.Votes.Turns.{votesAt, VotesTurn, keeps, joins, ends, installs, votes-turn, Decides, with-quorum, without-quorum, ended}
+use Rattle.replication.proofs.Agreement.Votes.Events.{installing-at}
+use Rattle.replication.proofs.Agreement.Votes.Phases.{installs-attempt}
 use Rattle.replication.proofs.Agreement.Votes.Judging.{Alike, Judged, cleared, kept, judged?}
 use Rattle.replication.proofs.Agreement.Votes.Collected.{StateOf, own-state, own-mark-judged}
-use Rattle.replication.proofs.Agreement.Votes.Marks.{OwnMarking, own-marking, taken-mark, marking-mark}
+use Rattle.replication.proofs.Agreement.Votes.Marks.{own-marking, taken-mark, marking-mark}
 use Rattle.replication.proofs.Agreement.Votes.Unique.{unique-attempt}
 use Rattle.replication.proofs.Agreement.Greens.Terms.{baseOf, reach, markOfInstall}
 use Rattle.replication.proofs.Agreement.Greens.Parts.{Parts}

@@ -1,19 +1,15 @@
 -- The part on lists of ids.
-use Prim.Native.Nat.{ℕ, _≤_}
-use mathlib.Core.Path.{_≡_, refl}
-use mathlib.Core.Bool.{true}
-use mathlib.Core.List.{List, [], _∷_, List·Memᴰ, List·Memᴰ·head}
-use mathlib.Core.Logic.{_⊎_, inl, inr}
-use lib.ListN.{getD}
+use Prim.Native.Nat.{_≤_}
+use mathlib.Core.Path.{refl}
+use mathlib.Core.List.{List, _∷_, List·Memᴰ·head}
+use mathlib.Core.Logic.{inl, inr}
 use Rattle.base.specs.Comparable as B
 use Rattle.base.specs.Comparable.{begins-member}
 use Rattle.base.specs.ListLaws.{Each}
 use Rattle.base.specs.Members.{each-in}
-use Rattle.base.specs.Lists.{Begins}
-use Rattle.format.specs.Types.{Id, State}
+use Rattle.format.specs.Types.{Id}
 use Rattle.replication.specs.Machine.Types.{Server}
 use Rattle.replication.specs.Machine.Colours.{cut}
-use Rattle.replication.specs.Machine.Exchange.{commonYellow}
 use Rattle.replication.specs.Machine.Install.{installLog}
 use Rattle.replication.specs.Machine.WellFormed.{idsIn}
 use Rattle.replication.specs.Machine.WellFormedFacts.{WellFormed}
@@ -21,7 +17,7 @@ use Rattle.replication.proofs.Agreement.Lists.Plus.{plus-grown, plus-jo
 use Rattle.replication.proofs.Agreement.Lists.Common.{yellow-begins}
 use Rattle.replication.proofs.Agreement.Lists.Fifo.{fifo-within}
 use Rattle.replication.proofs.Agreement.Lists.FifoPlus.{fifo-grown, yellow-fifo}
-use Rattle.replication.proofs.Agreement.Lists.Held.{isHeld, is-held, held-exactly}
+use Rattle.replication.proofs.Agreement.Lists.Held.{is-held, held-exactly}
 use Rattle.replication.proofs.Agreement.Lists.Install.{install-begins, install-fifo}
 use Rattle.replication.proofs.Agreement.Greens.Beginnings.{Prefix, Comparable, shorter, longer}
 use Rattle.replication.proofs.Agreement.Greens.Terms.{greens, plus, Fifo}

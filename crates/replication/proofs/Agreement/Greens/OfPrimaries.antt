@@ -1,7 +1,7 @@
 -- The part on one primary component.
-use Prim.Native.Nat.{ℕ, zero, suc, _≤_, _<_}
-use mathlib.Core.Path.{_≡_, refl, sym, ap, subst, subst₂, _∙_}
-use mathlib.Core.Bool.{Bool, true, false}
+use Prim.Native.Nat.{ℕ, zero, suc, _<_}
+use mathlib.Core.Path.{_≡_, sym, ap, subst, subst₂, _∙_}
+use mathlib.Core.Bool.{true}
 use mathlib.Core.List.{List, [], _++_, append-nil}
 use mathlib.Core.Logic.{_⊎_, inl, inr}
 use mathlib.Core.Option.{some}
@@ -13,20 +13,20 @@ use Rattle.base.specs.Comparable.{begins-map, comparable-map}
 use Rattle.base.specs.Lists.{Begins}
 use Rattle.base.specs.Sets.{inSet}
 use Rattle.base.specs.Tests.{not-both}
-use Rattle.format.specs.Types.{Id, Action}
-use Rattle.replication.specs.Machine.Types.{Mode, Reg-prim, Trans-prim, Un, Configuration, Server}
+use Rattle.format.specs.Types.{Action}
+use Rattle.replication.specs.Machine.Types.{Mode, Reg-prim, Trans-prim, Un, Configuration}
 use Rattle.replication.specs.Machine.WellFormed.{idsIn}
 use Rattle.replication.specs.Laws.Folds.{entered}
 use Rattle.replication.specs.Laws.Order.{inExchange}
 use Rattle.replication.specs.Runs.Run.{Run, placeAt}
-use Rattle.replication.specs.Runs.DeliveryFacts.{within, withinRegular}
-use Rattle.replication.specs.Runs.Happenings.{Takes, Falls}
+use Rattle.replication.specs.Runs.DeliveryFacts.{withinRegular}
+use Rattle.replication.specs.Runs.Happenings.{Takes}
 use Rattle.replication.specs.Runs.Allowed.{Allowed}
 use Rattle.replication.proofs.Runs.AllowedTurns.{memoryAt}
 use Rattle.replication.proofs.Runs.Entries.{Had, had}
-use Rattle.replication.proofs.Runs.Made.{Made, all-made}
+use Rattle.replication.proofs.Runs.Made.{all-made}
 use Rattle.replication.proofs.Agreement.Terms.{Within, InstallsAt, installed}
-use Rattle.replication.proofs.Agreement.Votes.Turns.{lastAt, modeAt, VotesTurn, keeps, joins, ends, installs, votes-turn}
+use Rattle.replication.proofs.Agreement.Votes.Turns.{lastAt, VotesTurn, keeps, joins, ends, installs, votes-turn}
 use Rattle.replication.proofs.Agreement.Votes.Events.{taken-before}
 use Rattle.replication.proofs.Agreement.Lists.Fifo as F
 use Rattle.replication.proofs.Agreement.Primaries.Acted.{actedIn, acted-regular}
@@ -37,7 +37,7 @@ use Rattle.replication.proofs.Agreement.Primaries.Installed.{inPrimary,
 use Rattle.replication.proofs.Agreement.Primaries.Leaving as L
 use Rattle.replication.proofs.Agreement.Primaries.Leaving.{reached, reached-comparable, green-whole, leaves-from-un}
 use Rattle.replication.proofs.Agreement.Primaries.Orders.{reached-fifo, yellow-joins, yellow-fifo}
-use Rattle.replication.proofs.Agreement.Greens.Beginnings.{Prefix, Comparable, prefix-to, prefix-from, equal-lengths}
+use Rattle.replication.proofs.Agreement.Greens.Beginnings.{Prefix, Comparable, prefix-to, prefix-from}
 use Rattle.replication.proofs.Agreement.Greens.Terms.{greens, plus, Fifo, baseOf, cutsOf, reach}
 use Rattle.replication.proofs.Agreement.Greens.Parts.{PrimaryParts}
 use Rattle.replication.proofs.Agreement.Greens.Residues.{within-place}

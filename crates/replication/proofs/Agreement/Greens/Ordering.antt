@@ -1,49 +1,40 @@
 -- Each creator's ids stand in order in every green list, with the valid yellow ones above it, and these are entered: one place further.
-use Prim.Native.Nat.{ℕ, zero, suc, _+_, _≤_, _<_}
-use mathlib.Core.Path.{_≡_, refl, sym, ap, subst, subst₂, _∙_}
-use mathlib.Core.Bool.{Bool, true, false, not}
-use mathlib.Core.List.{List, [], _∷_, _++_, append-nil, List·Memᴰ, List·Memᴰ·head, List·Memᴰ·tail}
-use mathlib.Core.Logic.{_⊎_, inl, inr}
+use Prim.Native.Nat.{ℕ, suc}
+use mathlib.Core.Path.{_≡_, sym, ap, subst, subst₂, _∙_}
+use mathlib.Core.Bool.{true}
+use mathlib.Core.List.{List, [], _∷_, List·Memᴰ}
+use mathlib.Core.Logic.{inr}
 use native.Mathlib.Omega.{arith}
-use lib.ListN.{length, take, length-append}
-use Rattle.base.specs.ListLaws.{Each, each-implied, each-filter}
-use Rattle.base.specs.Lists.{filter, all}
-use Rattle.base.specs.Tests.{_=?_, pick, not-both, eq-no, Known, holds, fails, known}
-use Rattle.format.specs.Types.{Id, State, regular}
-use Rattle.format.specs.Range.{hasId}
-use Rattle.replication.specs.Machine.Types.{Trans-prim, Exchange-actions, Configuration, Server}
-use Rattle.replication.specs.Machine.Colours.{cut}
-use Rattle.replication.specs.Machine.Exchange.{commonYellow}
+use lib.ListN.{take}
+use Rattle.base.specs.Tests.{_=?_, pick, eq-no}
+use Rattle.format.specs.Types.{Id, State}
+use Rattle.replication.specs.Machine.Types.{Trans-prim, Configuration, Server}
 use Rattle.replication.specs.Machine.Requests.{recovered}
 use Rattle.replication.specs.Machine.Step.{collected, unmarked, yellowValid}
 use Rattle.replication.specs.Machine.WellFormed.{idsIn}
-use Rattle.replication.specs.Laws.Order.{Grows}
 use Rattle.replication.specs.Laws.Order.{inExchange}
 use Rattle.replication.specs.Runs.Run.{Run}
 use Rattle.replication.specs.Runs.Allowed.{Allowed}
-use Rattle.replication.proofs.Step.Growth.{transition-grows}
 use Rattle.replication.proofs.Runs.AllowedTurns.{memoryAt, storeAt, Acts}
 use Rattle.replication.proofs.Runs.Modes.{standing, standing-in}
-use Rattle.replication.proofs.Runs.Numbers.{invariant-at}
-use Rattle.replication.proofs.Runs.Places.{of-event}
-use Rattle.replication.proofs.Agreement.Terms.{Image, in-memory, in-store, Within, EndsAt, InstallsAt, ExchangeFacts}
+use Rattle.replication.proofs.Agreement.Terms.{Image, in-memory, in-store, Within, EndsAt, ExchangeFacts}
 use Rattle.replication.proofs.Agreement.Lists.Plus.{plus-nil}
-use Rattle.replication.proofs.Agreement.Greens.Beginnings.{Prefix, prefix-refl, prefix-trans, prefix-to, prefix-from, take-begins}
-use Rattle.replication.proofs.Agreement.Greens.Terms.{greens, plus, Fifo, validYellow, baseOf, Settled, nothing, at-base, left, Reached, settled, own}
+use Rattle.replication.proofs.Agreement.Greens.Beginnings.{Prefix, prefix-trans, take-begins}
+use Rattle.replication.proofs.Agreement.Greens.Terms.{greens, plus, Fifo, validYellow, Settled, nothing, at-base, left, Reached, settled, own}
 use Rattle.replication.proofs.Agreement.Greens.Parts.{Parts}
-use Rattle.replication.proofs.Agreement.Greens.Invariant.{Invariant, UpTo}
+use Rattle.replication.proofs.Agreement.Greens.Invariant.{UpTo}
 use Rattle.replication.proofs.Agreement.Greens.Residues.{residue-reach}
 use Rattle.replication.proofs.Agreement.Greens.Comparing.{fifo-beginning}
 use Rattle.replication.proofs.Agreement.Greens.Steps as S
-use Rattle.replication.proofs.Agreement.Greens.Steps.{GreenStep, green-step, InPrimary}
+use Rattle.replication.proofs.Agreement.Greens.Steps.{GreenStep, green-step}
 use Rattle.replication.proofs.Agreement.Greens.Images.{ImageStep, kept, fallen, restored, acted, image-step, configured-within}
 use Rattle.replication.proofs.Agreement.Greens.Reaching.{recovered-greens, reached-after}
-use Rattle.replication.proofs.Agreement.Greens.Earlier.{ends-here, ending-agreeable}
+use Rattle.replication.proofs.Agreement.Greens.Earlier.{ends-here}
 use Rattle.replication.proofs.Agreement.Greens.Bases.{grown}
 use Rattle.replication.proofs.Agreement.Greens.Covering.{base-fifo-after}
 use Rattle.replication.proofs.Agreement.Greens.Silence.{no-yellow-after}
 use Rattle.replication.proofs.Agreement.Greens.Answering.{known-list, same-known, all-valid, takes-of}
-use Rattle.replication.proofs.Agreement.Greens.Gathered.{Sender, ValidState, YellowTaken, invalid, valid, yellow-taken, valid-sender, sender-yellow}
+use Rattle.replication.proofs.Agreement.Greens.Gathered.{YellowTaken, invalid, valid, yellow-taken, valid-sender, sender-yellow}
 
 pub fifo-nil : Fifo []
 fifo-nil = record { follows = tt }

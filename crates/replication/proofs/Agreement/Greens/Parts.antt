@@ -4,7 +4,6 @@ use mathlib.Core.Path.{_≡_}
 use mathlib.Core.Bool.{true}
 use mathlib.Core.List.{List, _∷_, List·Memᴰ}
 use mathlib.Core.Logic.{_⊎_}
-use mathlib.Core.Option.{some}
 use Rattle.base.specs.ListLaws.{Each}
 use Rattle.base.specs.Sets.{inSet}
 use Rattle.format.specs.Types.{Id, State}

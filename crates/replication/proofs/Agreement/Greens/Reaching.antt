@@ -1,11 +1,10 @@
 -- Every green list is within an installed primary component, one place further.
-use Prim.Native.Nat.{ℕ, suc, _≤_, _<_}
+use Prim.Native.Nat.{ℕ, suc, _<_}
 use mathlib.Core.Path.{_≡_, refl, sym, ap, subst, _∙_}
-use mathlib.Core.Bool.{Bool, true, false}
-use mathlib.Core.Logic.{_⊎_, inl, inr}
-use mathlib.Core.Option.{some}
+use mathlib.Core.Bool.{true}
+use mathlib.Core.Logic.{inl}
 use native.Mathlib.Omega.{arith}
-use Rattle.format.specs.Types.{Record, action, says}
+use Rattle.format.specs.Types.{says}
 use Rattle.replication.specs.Machine.Types.{Reg-prim, Exchange-actions, Configuration, Server}
 use Rattle.replication.specs.Machine.Requests.{recovered}
 use Rattle.replication.specs.Machine.Rules.{ruleFor, onAction, onCpc}
@@ -14,7 +13,6 @@ use Rattle.replication.specs.Machine.WellFormed.{idsIn}
 use Rattle.replication.specs.Laws.Greens as G
 use Rattle.replication.specs.Laws.Greens.{GreenChange}
 use Rattle.replication.specs.Runs.Run.{Run, moved, placeAt}
-use Rattle.replication.specs.Runs.Happenings.{Takes}
 use Rattle.replication.specs.Runs.Allowed.{Allowed}
 use Rattle.replication.proofs.Step.Greens.{reds-green, green-changes}
 use Rattle.replication.proofs.Runs.AllowedTurns.{memoryAt, storeAt, Acts}
@@ -25,10 +23,10 @@ use Rattle.replication.proofs.Runs.Sending.{regular-acts}
 use Rattle.replication.proofs.Agreement.Terms.{Image, in-memory, in-store, Within, InstallsAt, ExchangeFacts}
 use Rattle.replication.proofs.Agreement.Votes.Changes.{installing}
 use Rattle.replication.proofs.Agreement.Votes.Events.{installer-configured}
-use Rattle.replication.proofs.Agreement.Greens.Beginnings.{Prefix, prefix-refl, prefix-to, prefix-from, prefix-same}
-use Rattle.replication.proofs.Agreement.Greens.Terms.{greens, baseOf, Reached, settled, own, at-base, Agreeable}
+use Rattle.replication.proofs.Agreement.Greens.Beginnings.{prefix-to, prefix-from, prefix-same}
+use Rattle.replication.proofs.Agreement.Greens.Terms.{greens, baseOf, Reached, settled, own, at-base}
 use Rattle.replication.proofs.Agreement.Greens.Parts.{Parts}
-use Rattle.replication.proofs.Agreement.Greens.Invariant.{Invariant, UpTo}
+use Rattle.replication.proofs.Agreement.Greens.Invariant.{UpTo}
 use Rattle.replication.proofs.Agreement.Greens.Residues.{residue-whole}
 use Rattle.replication.proofs.Agreement.Greens.Taking.{agreeable}
 use Rattle.replication.proofs.Agreement.Greens.Images.{ImageStep, kept, fallen, restored, acted, image-step, acts-no-fall, configured-within}

@@ -1,31 +1,30 @@
 -- What can still be known of a member's part in a primary component: it only shrinks, never below what was green at the Install, and only by a fall.
 use Prim.Native.Nat.{ℕ, zero, suc, max, _≤_, _<_}
-use mathlib.Core.Path.{_≡_, refl, sym, ap, subst, _∙_}
-use mathlib.Core.Bool.{Bool, true, false}
-use mathlib.Core.List.{List, [], _++_}
+use mathlib.Core.Path.{_≡_, refl, sym, _∙_}
+use mathlib.Core.Bool.{true, false}
+use mathlib.Core.List.{List, _++_}
 use mathlib.Core.Option.{some}
 use native.Mathlib.Omega.{arith}
 use native.Mathlib.Decide.{decLt}
 use lib.ListN.{length, take}
 use Rattle.base.specs.Chains.{chain}
-use Rattle.base.specs.Tests.{_and_, pick, not-both, and-holds, both-yes, Known, holds, fails, known}
-use Rattle.base.specs.Sets.{inSet}
+use Rattle.base.specs.Tests.{pick, not-both, and-holds, both-yes, Known, holds, fails, known}
 use Rattle.format.specs.Types.{Id}
 use Rattle.replication.specs.Machine.Types.{Configuration}
 use Rattle.replication.specs.Machine.WellFormed.{idsIn}
 use Rattle.replication.specs.Laws.Folds.{entered}
 use Rattle.replication.specs.Runs.Run.{Run, nowhere, placeAt}
-use Rattle.replication.specs.Runs.DeliveryFacts.{within, withinRegular}
-use Rattle.replication.specs.Runs.Happenings.{Falls, Takes}
+use Rattle.replication.specs.Runs.DeliveryFacts.{withinRegular}
+use Rattle.replication.specs.Runs.Happenings.{Falls}
 use Rattle.replication.specs.Runs.Allowed.{Allowed}
-use Rattle.replication.proofs.Runs.AllowedTurns.{memoryAt, storeAt}
+use Rattle.replication.proofs.Runs.AllowedTurns.{storeAt}
 use Rattle.replication.proofs.Runs.DeliveryLists.{within-holds, within-yes}
 use Rattle.replication.proofs.Runs.Entries.{had}
 use Rattle.replication.proofs.Runs.Shifts.{Shift, to-regular, to-transitional, to-nowhere, stays, shift, takes-no-fall, transitional-no-fall, stays-no-fall}
 use Rattle.replication.proofs.Runs.Stays.{placed-up}
 use Rattle.replication.proofs.Agreement.Terms.{Within, InstallsAt}
 use Rattle.replication.proofs.Agreement.Primaries.Acted.{actedIn}
-use Rattle.replication.proofs.Agreement.Greens.Beginnings.{Prefix, Comparable, prefix-refl, prefix-trans, prefix-to, prefix-from, prefix-same, prefix-append, prefix-length, both-begin, comparable-beginnings, take-begins, begins-take, take-within, shorter}
+use Rattle.replication.proofs.Agreement.Greens.Beginnings.{Prefix, prefix-refl, prefix-trans, prefix-to, prefix-from, prefix-same, prefix-append, comparable-beginnings, take-begins, begins-take, take-within, shorter}
 use Rattle.replication.proofs.Agreement.Greens.Terms.{greens, baseOf, cutsOf, reach, isFall, fallsIn, residue}
 
 module _ {n q : ℕ} {l : Run} (A : Allowed n q l) where

@@ -1,24 +1,22 @@
 -- Every green list stays within an installed primary component: what a place does to one.
-use Prim.Native.Nat.{ℕ, zero, suc, max, _≤_, _<_}
-use mathlib.Core.Path.{_≡_, refl, sym, ap, subst, _∙_}
-use mathlib.Core.Bool.{Bool, true, false}
+use Prim.Native.Nat.{ℕ, suc, max, _≤_, _<_}
+use mathlib.Core.Path.{_≡_, refl, sym}
+use mathlib.Core.Bool.{false}
 use mathlib.Core.List.{List, [], _∷_}
-use mathlib.Core.Option.{some}
 use native.Mathlib.Omega.{arith}
 use native.Mathlib.Decide.{decLt}
 use lib.ListN.{length}
-use Rattle.base.specs.Tests.{_and_, not-both, Known, holds, fails, known}
+use Rattle.base.specs.Tests.{Known, holds, fails, known}
 use Rattle.base.specs.Chains.{chain}
-use Rattle.base.specs.Sets.{inSet}
 use Rattle.format.specs.Types.{Id}
-use Rattle.replication.specs.Machine.Types.{Configuration, Server}
-use Rattle.replication.specs.Runs.Run.{Run, placeAt}
+use Rattle.replication.specs.Machine.Types.{Configuration}
+use Rattle.replication.specs.Runs.Run.{Run}
 use Rattle.replication.specs.Runs.Happenings.{Takes, Falls}
 use Rattle.replication.specs.Runs.Allowed.{Allowed}
-use Rattle.replication.proofs.Runs.AllowedTurns.{memoryAt, storeAt}
+use Rattle.replication.proofs.Runs.AllowedTurns.{storeAt}
 use Rattle.replication.proofs.Runs.Entries.{Had, had}
 use Rattle.replication.proofs.Agreement.Terms.{Within, InstallsAt, ExchangeFacts}
-use Rattle.replication.proofs.Agreement.Greens.Beginnings.{Prefix, prefix-trans, prefix-to, prefix-from, begins-take, prefix-nil, prefix-length}
+use Rattle.replication.proofs.Agreement.Greens.Beginnings.{Prefix, prefix-trans, prefix-to, begins-take, prefix-length}
 use Rattle.replication.proofs.Agreement.Greens.Terms.{greens, baseOf, fallsIn, residue, Settled, nothing, at-base, left, Reached, settled, own}
 use Rattle.replication.proofs.Agreement.Greens.Residues.{within-place, fallen, residue-stays, residue-fallen}
 use Rattle.replication.proofs.Agreement.Greens.Comparing.{takers-before}

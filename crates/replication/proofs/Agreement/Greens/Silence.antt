@@ -1,22 +1,22 @@
 -- In a primary component a server has the mark of its attempt and no valid yellow list: it does not answer for the primary component.
-use Prim.Native.Nat.{ℕ, zero, suc, _+_, _≤_, _<_}
-use mathlib.Core.Path.{_≡_, refl, sym, ap, subst, _∙_}
-use mathlib.Core.Bool.{Bool, true, false}
-use mathlib.Core.Logic.{_⊎_, inl, inr}
+use Prim.Native.Nat.{ℕ, suc}
+use mathlib.Core.Path.{_≡_, sym, ap, subst, _∙_}
+use mathlib.Core.Bool.{false}
+use mathlib.Core.Logic.{inl, inr}
 use native.Mathlib.Omega.{arith}
 use Rattle.base.specs.Tests.{not-both}
-use Rattle.replication.specs.Machine.Types.{Mode, Reg-prim, Trans-prim, Configuration, Server, Votes, noYellow}
+use Rattle.replication.specs.Machine.Types.{Configuration, Server, noYellow}
 use Rattle.replication.specs.Laws.Modes as M
 use Rattle.replication.specs.Laws.Modes.{Attained, ModeFacts, ModeFactsOf, ColourFactsOf, ColourFacts}
 use Rattle.replication.specs.Laws.Images.{OfBoth}
-use Rattle.replication.specs.Runs.Run.{Run, worldAt}
+use Rattle.replication.specs.Runs.Run.{Run}
 use Rattle.replication.specs.Runs.Allowed.{Allowed}
 use Rattle.replication.proofs.WellFormed.Runs.{colour-facts}
 use Rattle.replication.proofs.Runs.Lived.{at-place}
 use Rattle.replication.proofs.Runs.AllowedTurns.{memoryAt, Acts}
 use Rattle.replication.proofs.Runs.Modes.{mode-facts-at}
 use Rattle.replication.proofs.Runs.Places.{of-event}
-use Rattle.replication.proofs.Agreement.Terms.{Image, in-memory, in-store, InstallsAt, installed, ExchangeFacts}
+use Rattle.replication.proofs.Agreement.Terms.{Image, in-memory, InstallsAt, installed, ExchangeFacts}
 use Rattle.replication.proofs.Agreement.Votes.Events.{installing-at}
 use Rattle.replication.proofs.Agreement.Votes.Attempts.{installed-index}
 use Rattle.replication.proofs.Agreement.Votes.Judging.{Alike}

@@ -1,12 +1,12 @@
 -- The ways in which a taken event treats what the invariant of green lists speaks of: the green list, the last primary, the mark, the yellow list, an attempt.
 use mathlib.Core.Path.{_≡_, refl, sym, ap, subst, _∙_}
 use Prim.Native.Nat.{ℕ}
-use mathlib.Core.Bool.{Bool, true, false}
+use mathlib.Core.Bool.{Bool, true}
 use mathlib.Core.List.{List}
 use mathlib.Core.Logic.{_⊎_, inl, inr}
 use Rattle.base.specs.Tests.{not-both}
 use Rattle.format.specs.Types.{Record, regular}
-use Rattle.replication.specs.Machine.Types.{Mode, Non-prim, Reg-prim, Trans-prim, Exchange-states, Exchange-actions, Construct, No, Un, Votes, Configuration, Server, clearedMark, noYellow, start}
+use Rattle.replication.specs.Machine.Types.{Mode, Non-prim, Reg-prim, Trans-prim, Exchange-states, Exchange-actions, Construct, No, Un, Votes, Configuration, Server, start}
 use Rattle.replication.specs.Machine.Install.{install, installVotes, installLog}
 use Rattle.replication.specs.Machine.Requests.{numbered, hold, sendHeld, recovered}
 use Rattle.replication.specs.Machine.Rules.{ruleFor, onAction, onCpc}

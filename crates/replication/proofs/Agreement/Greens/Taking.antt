@@ -1,13 +1,12 @@
 -- On taking a configuration a server stores what it has; so members who took it at different places had comparable green lists.
-use Prim.Native.Nat.{ℕ, suc, _≤_, _<_}
-use mathlib.Core.Path.{_≡_, refl, sym, ap, subst, _∙_}
-use mathlib.Core.Bool.{Bool, true, false}
-use mathlib.Core.List.{List, map, map-append}
+use Prim.Native.Nat.{ℕ, suc, _<_}
+use mathlib.Core.Path.{_≡_, refl, sym, ap, _∙_}
+use mathlib.Core.Bool.{Bool, true}
+use mathlib.Core.List.{List, map-append}
 use native.Mathlib.Omega.{arith}
-use native.Mathlib.Decide.{decLt}
 use Rattle.base.specs.Lists.{Begins}
 use Rattle.base.specs.Tests.{pick, not-both}
-use Rattle.format.specs.Types.{Action, Record, regular}
+use Rattle.format.specs.Types.{Action, Record}
 use Rattle.replication.specs.Machine.Types.{Configuration, Server}
 use Rattle.replication.specs.Machine.WellFormed.{idsIn}
 use Rattle.replication.specs.Laws.Order.{Grows}
@@ -17,11 +16,11 @@ use Rattle.replication.specs.Runs.Run.{Run}
 use Rattle.replication.specs.Runs.Happenings.{Takes}
 use Rattle.replication.specs.Runs.Allowed.{Allowed}
 use Rattle.replication.proofs.Runs.AllowedTurns.{memoryAt, storeAt, Acts}
-use Rattle.replication.proofs.Runs.ControlPart.{store-below, store-grows-between}
+use Rattle.replication.proofs.Runs.ControlPart.{store-grows-between}
 use Rattle.replication.proofs.Runs.Sending.{regular-acts}
 use Rattle.replication.proofs.Agreement.Terms.{Image, in-store, InstallsAt, ExchangeFacts}
 use Rattle.replication.proofs.Agreement.Votes.Changes.{isRegular}
-use Rattle.replication.proofs.Agreement.Greens.Beginnings.{Prefix, Comparable, prefix-to, prefix-from, comparable-beginnings}
+use Rattle.replication.proofs.Agreement.Greens.Beginnings.{Prefix, prefix-from, comparable-beginnings}
 use Rattle.replication.proofs.Agreement.Greens.Terms.{greens, baseOf, cutsOf, Agreeable}
 use Rattle.replication.proofs.Agreement.Greens.Parts.{Parts}
 use Rattle.replication.proofs.Agreement.Greens.Invariant.{Invariant, UpTo}
