@@ -8,3 +8,4 @@ pub mod Come
 pub mod Gained
 pub mod Exchanging
 pub mod Ended
+pub mod Places
