@@ -9,3 +9,4 @@ pub mod Gained
 pub mod Exchanging
 pub mod Ended
 pub mod Places
+pub mod Same
