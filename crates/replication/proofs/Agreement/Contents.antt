@@ -8,3 +8,5 @@ pub mod Come
 pub mod Gained
 pub mod Exchanging
 pub mod Ended
+pub mod Places
+pub mod Same
