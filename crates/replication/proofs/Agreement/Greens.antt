@@ -26,3 +26,4 @@ pub mod Induction
 pub mod OfLists
 pub mod OfPrimaries
 pub mod Demand
+pub mod OfContents
