@@ -10,3 +10,4 @@ pub mod Exchanging
 pub mod Ended
 pub mod Places
 pub mod Same
+pub mod Installed
