@@ -25,5 +25,5 @@ pub mod Deciding
 pub mod Induction
 pub mod OfLists
 pub mod OfPrimaries
-pub mod Demand
 pub mod OfContents
+pub mod Demand

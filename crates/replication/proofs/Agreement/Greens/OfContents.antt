@@ -37,8 +37,10 @@ use Rattle.replication.proofs.Agreement.Contents.Gained.{leader}
 use Rattle.replication.proofs.Agreement.Contents.Exchanging.{gained-next, exchanging}
 use Rattle.replication.proofs.Agreement.Contents.Ended as E
 use Rattle.replication.proofs.Agreement.Contents.Places.{EndedAt, ends-ended}
+use Rattle.replication.proofs.Agreement.Contents.Installed.{same-install-ids, same-install-cuts}
 use Rattle.replication.proofs.Agreement.Greens.Beginnings.{Prefix, prefix-to, shorter-begins}
-use Rattle.replication.proofs.Agreement.Greens.Terms.{greens, Agreeable}
+use Rattle.replication.proofs.Agreement.Greens.Terms.{greens, baseOf, cutsOf, Agreeable}
+use Rattle.replication.proofs.Agreement.Greens.Parts.{ContentParts}
 use Rattle.replication.proofs.Agreement.Greens.OfLists.{comparable-lists}
 
 exchange-stage : (m : Mode) → inExchange m ≡ true → stage m ≤ 1
@@ -146,3 +148,20 @@ module _ {n q : ℕ} {l : Run} (A : Allowed n q l) where
         let g = gained-next A c p i (w .here) all-in p most H i p (w .here) b late (omega (arith, ap stage m)) (exchanging A c p i (w .here) all-in p most H i p (w .here)) in
         let r = leader A c p i (w .here) all-in p most H in
         (r .server, r .at-place, r .took, record { begins = g .begins })
+
+  -- ---- the whole
+
+  pub content-parts : ContentParts A
+  unfolding baseOf cutsOf
+  content-parts =
+      record {
+        ends-longest = λ p i e k c G x w t. ends-longest G x w e k t;
+        ends-from = λ p i c G x w. ends-from G x w;
+        ends-cuts = λ p i e k c G x w t a. ends-cuts G x w e k t a;
+        all-took = λ p i e k c w m t. all-took w m e k t;
+        resent-from = λ p i c G w m x. resent-from w m G x;
+        one-base = λ p r i j c G x y.
+            let before = agreeable-before p G in
+            let after = agreeable-before r G in
+            (same-install-ids A x y before after, same-install-cuts A x y before after);
+      }
