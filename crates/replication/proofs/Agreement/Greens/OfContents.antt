@@ -84,10 +84,10 @@ module _ {n q : ℕ} {l : Run} (A : Allowed n q l) where
   -- ---- the end
 
   module _ {p i : ℕ} {c : Configuration} (G : Agreeable A c) (x : EndsAt n q l p i c) (w : inExchange (memoryAt n q l p i .membership .mode) ≡ true) where
-    z : EndedAt A p i c
+    abbrev z : EndedAt A p i c
     z = ends-ended A x (exchange-stage _ w)
 
-    full : everyStateIn (membershipAt n q l (suc p) i) ≡ true
+    abbrev full : everyStateIn (membershipAt n q l (suc p) i) ≡ true
     full = E.full A p i c (z .here) (z .after) (z .before) (z .late) (z .whole) (agreeable-before p G)
 
     r : Resender A c (suc p) i (z .after) full greenIn

@@ -6,13 +6,13 @@ use mathlib.Core.Logic.{inl, inr}
 use Rattle.base.specs.Comparable as B
 use Rattle.base.specs.Comparable.{begins-member}
 use Rattle.base.specs.ListLaws.{Each}
-use Rattle.base.specs.Members.{each-in}
 use Rattle.format.specs.Types.{Id}
 use Rattle.replication.specs.Machine.Types.{Server}
 use Rattle.replication.specs.Machine.Colours.{cut}
 use Rattle.replication.specs.Machine.Install.{installLog}
 use Rattle.replication.specs.Machine.WellFormed.{idsIn}
 use Rattle.replication.specs.Machine.WellFormedFacts.{WellFormed}
+use Rattle.replication.proofs.Runs.LogActions.{each-in}
 use Rattle.replication.proofs.Agreement.Lists.Plus.{plus-grown, plus-joins}
 use Rattle.replication.proofs.Agreement.Lists.Common.{yellow-begins}
 use Rattle.replication.proofs.Agreement.Lists.Fifo.{fifo-within}

@@ -117,6 +117,12 @@ module _ {n q : ℕ} {l : Run} (A : Allowed n q l) where
       prefix-from (sym (reach-ids x e))
       (prefix-to (record { begins = L.leaves-with-all A x y (same-base x y b) k h (w .here) t m e (length l) }) (sym (yellow-joins A y p h (w .here) m)))
 
+  compare : (r i d e : ℕ) (c : Configuration) (x : InstallsAt n q l r i c) → Comparable (reach A x d) (reach A x e)
+  unfolding idsIn
+  compare r i d e c x =
+      subst₂ (λ y z. Comparable y z) (reach-ids x d) (reach-ids x e)
+      (lists-comparable _ _ (comparable-map (λ a. a .id) _ _ (reached-comparable A c (base A x) (memoryAt n q l r i .log .cuts) d e (length l) (length l))))
+
   pub primary-parts : PrimaryParts A
   unfolding baseOf cutsOf
   primary-parts =
@@ -134,11 +140,6 @@ module _ {n q : ℕ} {l : Run} (A : Allowed n q l) where
         reach-fifo = λ r i d c x m f. record { follows = subst (λ z. F.Fifo z) (reach-ids x d) (reached-fifo A x (f .follows) d (length l)) };
       }
     where
-      compare : (r i d e : ℕ) (c : Configuration) (x : InstallsAt n q l r i c) → Comparable (reach A x d) (reach A x e)
-      compare r i d e c x =
-          subst₂ (λ y z. Comparable y z) (reach-ids x d) (reach-ids x e)
-          (lists-comparable _ _ (comparable-map (λ a. a .id) _ _ (reached-comparable A c (base A x) (memoryAt n q l r i .log .cuts) d e (length l) (length l))))
-
       falling : (r i d : ℕ) (c : Configuration) (x : InstallsAt n q l r i c) {p : ℕ} → ((s : ℕ) × (s < p) × InstallsAt n q l s d c) ⊎ ((r : ℕ) → inCom A c d r ≡ [])
           → ((s : ℕ) × (s < p) × InstallsAt n q l s d c) ⊎ (reach A x d ≡ baseOf A x)
       falling r i d c x (inl y) = inl y
