@@ -37,12 +37,11 @@ use Rattle.replication.proofs.Agreement.Primaries.Installed.{inPrimary,
 use Rattle.replication.proofs.Agreement.Primaries.Leaving as L
 use Rattle.replication.proofs.Agreement.Primaries.Leaving.{reached, reached-comparable, green-whole, leaves-from-un}
 use Rattle.replication.proofs.Agreement.Primaries.Orders.{reached-fifo, yellow-joins, yellow-fifo}
-use Rattle.replication.proofs.Agreement.Greens.Beginnings.{Prefix, Comparable, prefix-to, prefix-from}
+use Rattle.replication.proofs.Agreement.Greens.Beginnings.{Prefix, Comparable, lists-comparable, prefix-to, prefix-from}
 use Rattle.replication.proofs.Agreement.Greens.Terms.{greens, plus, Fifo, baseOf, cutsOf, reach}
 use Rattle.replication.proofs.Agreement.Greens.Parts.{PrimaryParts}
 use Rattle.replication.proofs.Agreement.Greens.Residues.{within-place}
-use Rattle.replication.proofs.Agreement.Greens.OfLists.{lists-comparable}
-use Rattle.replication.proofs.Agreement.Greens.Claim.{same-actions}
+use Rattle.replication.proofs.Agreement.Contents.Same.{same-actions}
 
 primary-mode : {m : Mode} → (m ≡ Reg-prim) ⊎ (m ≡ Trans-prim) → inPrimary m ≡ true
 unfolding inPrimary
