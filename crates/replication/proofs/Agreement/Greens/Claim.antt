@@ -73,7 +73,8 @@ module _ {n q : ℕ} {l : Run} (A : Allowed n q l) where
         let b : Image n q l t j (storeAt n q l t j) = in-store in
         comparable-agree _ _
         (same-ids p r (storeAt n q l p i .log .green) (storeAt n q l r j .log .green) (all-made A p i .store .green) (all-made A r j .store .green)
-        (comparable-beginnings (grows-greens (storeAt n q l p i) (storeAt n q l t i) (store-grows-between n q l i p t (omega arith))) (grows-greens (storeAt n q l r j) (storeAt n q l t j) (store-grows-between n q l j r t (omega arith)))
+        (comparable-beginnings (grows-greens (storeAt n q l p i) (storeAt n q l t i) (store-grows-between n q l i p t (omega arith)))
+        (grows-greens (storeAt n q l r j) (storeAt n q l t j) (store-grows-between n q l j r t (omega arith)))
         (agree A X P (I t) a b)))
 
     pub agreement : Agreement n q l

@@ -59,7 +59,8 @@ module _ {n q : ℕ} {l : Run} (A : Allowed n q l) where
     pub by-length : take (w .greenLength) g ≡ greens (memoryAt n q l (suc (it .took-at)) server)
 
   module _ (X : ExchangeFacts n q l) (P : Parts A) {t : ℕ} (U : UpTo A t) where
-    pub sender : {s : ℕ} {c : Configuration} (y : EndsAt n q l t s c) → inExchange (memoryAt n q l t s .membership .mode) ≡ true → (w : State) → List·Memᴰ w (collected (y .judged))
+    pub sender : {s : ℕ} {c : Configuration} (y : EndsAt n q l t s c) → inExchange (memoryAt n q l t s .membership .mode) ≡ true → (w : State)
+        → List·Memᴰ w (collected (y .judged))
         → Sender t c (greens (memoryAt n q l (suc t) s)) w
     unfolding ownState idsIn
     sender {s} {c} y o w m =
@@ -100,7 +101,8 @@ module _ {n q : ℕ} {l : Run} (A : Allowed n q l) where
             valid v vs e h (valid-yellow u h ∙ ap (λ z. z .ids) f)
 
     -- A valid State, with what its sender had green and yellow.
-    pub valid-sender : {s : ℕ} {c : Configuration} (y : EndsAt n q l t s c) → inExchange (memoryAt n q l t s .membership .mode) ≡ true → {v w : State} {vs : List State}
+    pub valid-sender : {s : ℕ} {c : Configuration} (y : EndsAt n q l t s c) → inExchange (memoryAt n q l t s .membership .mode) ≡ true
+        → {v w : State} {vs : List State}
         → filter isValid (updatedGroup (collected (y .judged))) ≡ v ∷ vs → List·Memᴰ w (v ∷ vs)
         → ValidState (collected (y .judged)) w × Sender t c (greens (memoryAt n q l (suc t) s)) w
     valid-sender y o {v} {w} {vs} e m =

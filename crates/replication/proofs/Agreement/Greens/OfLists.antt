@@ -28,7 +28,8 @@ installs-yellow s ys w h f =
     let e = held-exactly s w in (
       record {
         begins = install-begins ys (s .log) e
-            (λ d m. is-held (s .log .cuts) d (fifo-within (plus (greens s) ys) d (f .follows) (plus-joins (greens s) ys d m) .0) (each-in (λ d. d .index ≤ cut (s .log) (d .creator)) ys h d m));
+            (λ d m. is-held (s .log .cuts) d (fifo-within (plus (greens s) ys) d (f .follows) (plus-joins (greens s) ys d m) .0)
+            (each-in (λ d. d .index ≤ cut (s .log) (d .creator)) ys h d m));
       },
       record { follows = install-fifo ys (s .log) e (f .follows) },
     )
