@@ -63,7 +63,7 @@ pub fn mark_at(e: &[u8], at: usize) -> Mark
     }
 }
 
-fn state_at(e: &[u8], n: usize) -> StateAt
+pub fn state_at(e: &[u8], n: usize) -> StateAt
     requires { ⌜ (n ≤ 255) × (40 + 2 * n ≤ length (now e)) ⌝ }
     ensures { λ r. ⌜ r ≡ stateIn n (now (e .entry)) ⌝ }
 {

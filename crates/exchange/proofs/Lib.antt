@@ -1,0 +1,17 @@
+pub mod SlotLaws
+pub mod Collected
+pub mod ReadLaws
+pub mod PlanLaws
+pub mod ResendLaws
+pub mod PassingLaws
+pub mod PrimaryLaws
+pub mod AnyLaws
+pub mod MarkLaws
+pub mod JudgedLaws
+pub mod RoomLaws
+pub mod YellowLaws
+pub mod TableLaws
+pub mod RaiseLaws
+pub mod KeepLaws
+pub mod CommonLaws
+pub mod ListLaws

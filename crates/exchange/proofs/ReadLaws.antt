@@ -1,0 +1,78 @@
+-- The numbers of a State, read from its slot.
+-- Assumes nothing.
+use Prim.Native.Nat.{ℕ, zero, suc, _+_, _*_, _-_, _<_, _≤_}
+use mathlib.Core.Path.{_≡_, refl, sym, ap, _∙_}
+use mathlib.Core.Bool.{Bool, true, false}
+use mathlib.Core.List.{List, [], _∷_}
+use native.Mathlib.Nat.{add-zero}
+use native.Mathlib.Omega.{arith}
+use lib.ListN.{length, getD, take, drop, length-drop}
+use lib.Seq.{getD-drop, take-all}
+use Rattle.base.specs.Bytes.{numberAt, numbersAt}
+use Rattle.base.specs.BytesLaws.{number2}
+use Rattle.base.specs.Sets.{inSet}
+use Rattle.base.specs.Tests.{pick}
+use Rattle.format.specs.Types.{State}
+use Rattle.format.specs.Read.{stateAt}
+use Rattle.record.specs.Events.{stateIn as headIn}
+use Rattle.record.specs.declared.events.StateAt.{StateAt}
+use Rattle.replication.specs.Machine.Plan.{cutIn, greenIn}
+use Rattle.exchange.specs.declared.slots.Slots.{Slots}
+use Rattle.exchange.specs.declared.plan.Number.{Number}
+use Rattle.exchange.specs.declared.plan.Number.the-variants.{Green, Attempt, Cut}
+use Rattle.exchange.specs.Slots.{Room, slotAt, stateIn}
+use Rattle.exchange.specs.Numbers.{numberIn, Within}
+use Rattle.exchange.proofs.SlotLaws.{slot-inside}
+
+pub place-made : (v : Slots) (b : List ℕ) (k : ℕ) → Room v b → k < v .servers
+    → (v .at + k * v .size ≡ slotAt v k) × (v .at + k * v .size + v .size ≤ length b)
+unfolding slotAt
+place-made v b k r h = (refl, slot-inside v b k r h)
+
+pub head-made : (v : Slots) (b : List ℕ) (k at : ℕ) (x : StateAt) → at ≡ slotAt v k → x ≡ headIn (v .servers) (take (length b - at) (drop at b))
+    → x ≡ headIn (v .servers) (drop (slotAt v k) b)
+head-made v b k at x e h =
+    let whole : take (length b - at) (drop at b) ≡ drop at b = take-all (length b - at) (drop at b) (omega (arith, length-drop at b)) in
+    h ∙ ap (headIn (v .servers)) whole ∙ ap (λ (i : ℕ). headIn (v .servers) (drop i b)) e
+
+-- ---- numbers
+
+numbers-at : (w m : ℕ) (e : List ℕ) (at c : ℕ) → c < m → getD (numbersAt w m e at) c 0 ≡ numberAt w e (at + w * c)
+unfolding numbersAt
+numbers-at w zero e at c h = absurd (omega arith)
+numbers-at w (suc m) e at zero h = let z : at + w * 0 ≡ at = omega arith in rw z
+numbers-at w (suc m) e at (suc c) h =
+    let z : at + w + w * c ≡ at + w * suc c = omega arith in
+    numbers-at w m e (at + w) c (omega arith) ∙ ap (numberAt w e) z
+
+pub number-drop : (w : ℕ) (b : List ℕ) (p at : ℕ) → numberAt w (drop p b) at ≡ numberAt w b (p + at)
+unfolding numberAt
+number-drop zero b p at = refl
+number-drop (suc w) b p at =
+    let z : p + (at + w) ≡ p + at + w = omega arith in
+    rw (number-drop w b p at, getD-drop p b (at + w) 0, z)
+
+pub cut-read : (v : Slots) (b : List ℕ) (k c at x : ℕ) → c < v .servers → at ≡ slotAt v k → x ≡ numberAt 2 b (at + 9 + 2 * c) → x ≡ cutIn c (stateIn v b k)
+unfolding cutIn stateIn stateAt
+cut-read v b k c at x h e i =
+    let z : at + 9 + 2 * c ≡ at + (9 + 2 * c) = omega arith in
+    i ∙ ap (numberAt 2 b) z ∙ sym (number-drop 2 b at (9 + 2 * c)) ∙ ap (λ (p : ℕ). numberAt 2 (drop p b) (9 + 2 * c)) e
+    ∙ sym (numbers-at 2 (v .servers) (drop (slotAt v k) b) 9 c h)
+
+pub green-read : (v : Slots) (b : List ℕ) (k : ℕ) (x : StateAt) (f : Number) → f ≡ Green → x ≡ headIn (v .servers) (drop (slotAt v k) b)
+    → x .«green_length» ≡ numberIn f (stateIn v b k)
+unfolding numberIn greenIn stateIn stateAt headIn
+green-read v b k x f e h = rw (e, h)
+
+pub attempt-read : (v : Slots) (b : List ℕ) (k : ℕ) (x : StateAt) (f : Number) → f ≡ Attempt → x ≡ headIn (v .servers) (drop (slotAt v k) b)
+    → x .attempt .0 ≡ numberIn f (stateIn v b k)
+unfolding numberIn stateIn stateAt headIn
+attempt-read v b k x f e h = rw (e, h)
+
+pub within-cut : (n c : ℕ) (f : Number) → Within n f → f ≡ Cut c → c < n
+unfolding Within
+within-cut n c f h e = rw e at h
+
+pub cut-value : (v : Slots) (b : List ℕ) (k c x : ℕ) (f : Number) → f ≡ Cut c → x ≡ cutIn c (stateIn v b k) → x ≡ numberIn f (stateIn v b k)
+unfolding numberIn
+cut-value v b k c x f e h = h ∙ rw e

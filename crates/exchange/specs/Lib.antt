@@ -1,0 +1,5 @@
+pub mod Slots
+pub mod Numbers
+pub mod Passing
+pub mod Marks
+pub mod Table
