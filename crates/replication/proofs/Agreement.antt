@@ -1,3 +1,4 @@
 pub mod Terms
 pub mod Exchange
 pub mod Votes
+pub mod OnePrimary

@@ -1,7 +1,13 @@
 // The replication machine of document 01, allowed runs, and their agreement: definitions and theorems, no running code.
 ghost use Rattle.replication.specs.Pairs.{Pairs};
+ghost use Rattle.replication.specs.Runs.Claim.{OnePrimary};
 
 // Document 01's pairs P1 to P8. It does nothing: its contract is the theorem.
 pub fn pairs()
     ensures { λ _. ⌜ Pairs ⌝ }
+{}
+
+// Demand 3's half on primary components, of every allowed run. It does nothing: its contract is the theorem.
+pub fn one_primary()
+    ensures { λ _. ⌜ OnePrimary ⌝ }
 {}
