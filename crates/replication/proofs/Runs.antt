@@ -24,6 +24,7 @@ pub mod LogActions
 pub mod StateOrigins
 pub mod CpcOrigins
 pub mod Progress
+pub mod Phases
 pub mod Hearing
 pub mod OwnStates
 pub mod Made
