@@ -25,6 +25,8 @@ pub mod StateOrigins
 pub mod CpcOrigins
 pub mod Progress
 pub mod Phases
+pub mod SameStates
+pub mod Complete
 pub mod Hearing
 pub mod OwnStates
 pub mod Made

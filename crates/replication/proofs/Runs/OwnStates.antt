@@ -8,6 +8,7 @@ use mathlib.Core.Option.{Option, none, some}
 use native.Mathlib.Omega.{arith}
 use lib.ListN.{length, getD}
 use Rattle.base.specs.Tests.{not-both}
+use Rattle.base.specs.AtLaws.{is-there}
 use Rattle.base.specs.Lists.{isThere}
 use Rattle.base.specs.Chains.{chain}
 use Rattle.base.specs.Sets.{inSet}
@@ -32,11 +33,6 @@ use Rattle.replication.proofs.Runs.ControlPart.{control-next}
 use Rattle.replication.proofs.Runs.Hearing.{exchange-votes, withHeard, hearing-states, HeardSame, hearing-same, heard-length, exchange-kept}
 use Rattle.replication.proofs.Runs.StateOrigins.{Entered, states-entered}
 use Rattle.replication.proofs.Runs.Stays.{membershipAt, in-stay, acts-membership}
-
-is-there : {A : Type 0} (x : Option A) → isThere x ≡ true → (a : A) × (x ≡ some a)
-unfolding isThere
-is-there none e = not-both e
-is-there (some a) e = (a, refl)
 
 -- In an exchange the latest configuration is regular.
 exchange-regular : (m : Mode) (c : Option Configuration) (t : Option ℕ) → inExchange m ≡ true → Stands m c t → InRegular c t
