@@ -27,6 +27,7 @@ pub mod Progress
 pub mod Phases
 pub mod SameStates
 pub mod Complete
+pub mod CpcsComplete
 pub mod Hearing
 pub mod OwnStates
 pub mod Made

@@ -1,4 +1,4 @@
--- Where no delivery was refused so far, a server has collected all States and CPCs that have come in its configuration.
+-- Where no delivery was refused so far, a server that collects States has all that have come in its configuration.
 use Prim.Native.Nat.{ℕ, zero, suc, _+_, _≤_, _<_}
 use mathlib.Core.Path.{_≡_, refl, sym, ap, subst, _∙_}
 use mathlib.Core.Bool.{Bool, true, false}
@@ -9,10 +9,7 @@ use native.Mathlib.Omega.{arith}
 use native.Mathlib.Decide.{decLt, ℕ-discrete}
 use lib.ListN.{length, getD, set}
 use lib.Seq.{getD-set-same, getD-set-other}
-use Rattle.base.specs.Tests.{_or_, _=?_, not-both, eq-yes, Known, holds, fails, known}
 use Rattle.base.specs.AtLaws.{some-same}
-use Rattle.base.specs.Sets.{inSet, withMember}
-use Rattle.base.specs.SetLaws.{in-with-member}
 use Rattle.format.specs.Types.{Action, State, Record, action, retransmission, state, cpc, regular, transitional, request, recovery, says}
 use Rattle.replication.specs.Machine.Types.{Mode, Non-prim, Reg-prim, Trans-prim, Exchange-states, Exchange-actions, Construct, No, Un, Configuration, Membership}
 use Rattle.replication.specs.Machine.WellFormedSent.{senderOf}
@@ -20,7 +17,7 @@ use Rattle.replication.specs.Images.{isRecovery}
 use Rattle.replication.specs.Laws.Transitions as L
 use Rattle.replication.specs.Laws.Transitions.{Leads}
 use Rattle.replication.specs.Runs.Run.{Run, placeAt}
-use Rattle.replication.specs.Runs.Happenings.{Message, isMessage, Comes, Falls, Takes, Delivers}
+use Rattle.replication.specs.Runs.Happenings.{Message, isMessage, Of, Comes, Falls, Takes, Delivers}
 use Rattle.replication.specs.Runs.Allowed.{Allowed}
 use Rattle.replication.proofs.Runs.Places.{of-event}
 use Rattle.replication.proofs.Runs.Shifts.{comes-once, comes-of}
@@ -30,7 +27,7 @@ use Rattle.replication.proofs.Runs.AllowedTurns.{memoryAt, Acts, Refuse
 use Rattle.replication.proofs.Runs.Memberships as M
 use Rattle.replication.proofs.Runs.Memberships.{Completes, MembershipStep}
 use Rattle.replication.proofs.Runs.Stays.{membershipAt, in-stay, StayStep, rested, refused, took, stay-step, entering-membership}
-use Rattle.replication.proofs.Runs.StateOrigins.{Came, came-later, came-from}
+use Rattle.replication.proofs.Runs.StateOrigins.{Came, came-later, came-now, came-from}
 use Rattle.replication.proofs.Runs.SameStates.{one-came, states-long}
 
 -- ---- what has come at the next place
@@ -66,6 +63,13 @@ module _ {n q : ℕ} {l : Run} (A : Allowed n q l) where
       go : Came A p i c r ⊎ (Delivery A p i (A .source p) × Comes n q l p i r) → Came A p i c r ⊎ (s ≡ r)
       go (inl z) = inl z
       go (inr z) = inr (comes-once y (z .1))
+
+  pub came-rested : {p i : ℕ} {c : Configuration} {r : Record} → (Of l p i → ⊥) → Came A (suc p) i c r → Came A p i c r
+  came-rested {p} {i} {c} {r} o x = go (came-split x)
+    where
+      go : Came A p i c r ⊎ (Delivery A p i (A .source p) × Comes n q l p i r) → Came A p i c r
+      go (inl z) = z
+      go (inr z) = absurd (o (comes-of (z .1)))
 
   -- Where nothing is taken and no delivery refused, nothing has come.
   pub came-refused : {p i : ℕ} {c : Configuration} {r : Record} → NotRefused p → Refuses n q l p i → Came A (suc p) i c r → Came A p i c r
@@ -110,3 +114,62 @@ within-states (M.installsLate a e) h = clash (cc)
 within-states (M.joins c o e j) h = enters c refl
 within-states (M.leaves o u x e y) h = leads-elsewhere y h
 within-states M.recovers h = clash (cc)
+
+module _ {n q : ℕ} {l : Run} (A : Allowed n q l) (c : Configuration) where
+  -- A State's place in the list is there.
+  sender-below : {p i : ℕ} {x : State} → Came A p i c (state x) → x .sender < n
+  unfolding senderOf
+  sender-below {x = x} a =
+      let f = came-from A a in
+      subst (λ z. z < n) (some-same (sym (f .named))) (A .servers (f .sending) (f .sender) (of-event (f .puts .act .here)))
+
+  -- While it collects States, a server has those that have come.
+  abbrev AllIn : ℕ → ℕ → Type 0
+  AllIn p i = (x : State) → Came A p i c (state x) → getD (membershipAt n q l p i .states) (x .sender) none ≡ some x
+
+  added-in : (p i : ℕ) (x : State) → placeAt n q l i p .regular ≡ some c → Comes n q l p i (state x) → AllIn p i
+      → membershipAt n q l (suc p) i .states ≡ set (membershipAt n q l p i .states) (x .sender) (some x) → Came A (suc p) i c (state x) → AllIn (suc p) i
+  added-in p i x a u h m k y w = go (ℕ-discrete (y .sender) (x .sender)) (came-or-taken A u w)
+    where
+      go : Dec (y .sender ≡ x .sender) → Came A p i c (state y) ⊎ (state x ≡ state y) → getD (membershipAt n q l (suc p) i .states) (y .sender) none ≡ some y
+      go (yes e) z =
+          ap (λ s. getD s (y .sender) none) m
+          ∙ ap (λ s. getD (set (membershipAt n q l p i .states) (x .sender) (some x)) s none) e
+          ∙ getD-set-same (membershipAt n q l p i .states) (x .sender) (some x) none (omega (arith, sender-below k, states-long A c p i a))
+          ∙ ap some (one-came A c k w (sym e))
+      go (no e) (inl z) = ap (λ s. getD s (y .sender) none) m ∙ getD-set-other (membershipAt n q l p i .states) (x .sender) (y .sender) (some x) none e ∙ h y z
+      go (no e) (inr z) = let d : x ≡ y = cc in absurd (e (ap (λ s. s .sender) (sym d)))
+
+  module _ (P : ℕ) (nr : (x : ℕ) → x < P → NotRefused A x) where
+    pub states-complete : (i p : ℕ) → placeAt n q l i p .regular ≡ some c → p ≤ P → membershipAt n q l p i .mode ≡ Exchange-states → (x : State)
+        → Came A p i c (state x) → getD (membershipAt n q l p i .states) (x .sender) none ≡ some x
+    unfolding isMessage
+    states-complete i =
+        in-stay n q l i c (λ p. p ≤ P → membershipAt n q l p i .mode ≡ Exchange-states → AllIn p i) (λ t h k e x w. absurd (nothing-came A h w))
+        (λ p a b f g h k e. go p a g h k e (stay-step A p i f))
+      where
+        kept : (p : ℕ) → AllIn p i → membershipAt n q l (suc p) i .states ≡ membershipAt n q l p i .states
+            → ((x : State) → Came A (suc p) i c (state x) → Came A p i c (state x)) → AllIn (suc p) i
+        kept p h m f x w = ap (λ s. getD s (x .sender) none) m ∙ h x (f x w)
+
+        taking : (p : ℕ) → placeAt n q l i p .regular ≡ some c → ((d : Configuration) → Takes n q l p i d → ⊥)
+            → (p ≤ P → membershipAt n q l p i .mode ≡ Exchange-states → AllIn p i) → suc p ≤ P → (r : Record) → Comes n q l p i r
+            → WithinStates (membershipAt n q l p i) r (membershipAt n q l (suc p) i) → AllIn (suc p) i
+        taking p a g h k r u (same e m f) = kept p (h (omega arith) e) m (λ x w. at x (came-or-taken A u w))
+          where
+            at : (x : State) → Came A p i c (state x) ⊎ (r ≡ state x) → Came A p i c (state x)
+            at x (inl z) = z
+            at x (inr z) = absurd (f x z)
+        taking p a g h k r u (adds x e f m) =
+            let v = subst (λ s. Comes n q l p i s) f u in
+            added-in p i x a v (h (omega arith) e) m (came-now A v refl a)
+        taking p a g h k r u (enters d e) = absurd (g d (subst (λ s. Comes n q l p i s) e u))
+
+        go : (p : ℕ) → placeAt n q l i p .regular ≡ some c → ((d : Configuration) → Takes n q l p i d → ⊥)
+            → (p ≤ P → membershipAt n q l p i .mode ≡ Exchange-states → AllIn p i) → suc p ≤ P → membershipAt n q l (suc p) i .mode ≡ Exchange-states
+            → StayStep A p i → AllIn (suc p) i
+        go p a g h k e (rested o m) =
+            kept p (h (omega arith) (ap (λ z. z .mode) (sym m) ∙ e)) (ap (λ z. z .states) m) (λ x w. came-rested A o w)
+        go p a g h k e (refused y m) =
+            kept p (h (omega arith) (ap (λ z. z .mode) (sym m) ∙ e)) (ap (λ z. z .states) m) (λ x w. came-refused A (nr p k) y w)
+        go p a g h k e (took y z m) = taking p a g h k _ z (within-states m e)
