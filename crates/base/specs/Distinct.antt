@@ -8,6 +8,7 @@ use native.Mathlib.Omega.{arith}
 use native.Mathlib.Decide.{decLt}
 use lib.ListN.{length, length-append, length-map}
 use Rattle.base.specs.Lists.{below}
+use Rattle.base.specs.Rising.{Rises}
 use Rattle.base.specs.ListLaws.{below-length}
 
 abbrev pub Distinct : {A : Type 0} → List A → Type 0
@@ -47,6 +48,11 @@ module _ {A : Type 0} where
       (λ z m. without x z (s .front) (s .back) (λ e. d .0 (Memᴰ·cast (sym e) m)) (subst (List·Memᴰ z) (s .whole) (f z (List·Memᴰ·tail m))))
       in
       omega (arith, h, length-append (s .front) (s .back), ap length (s .whole), length-append (s .front) (x ∷ s .back))
+
+-- A list that rises has no repetition.
+pub rises-distinct : {A : Type 0} (s : A → ℕ) (xs : List A) → Rises s xs → Distinct xs
+rises-distinct s [] h = tt
+rises-distinct s (x ∷ xs) h = (λ m. omega (arith, h .0 x m), rises-distinct s xs (h .1))
 
 -- Images under a map that tells the elements apart.
 pub distinct-map : {A B : Type 0} (f : A → B) (xs : List A) → ((a b : A) → List·Memᴰ a xs → List·Memᴰ b xs → f a ≡ f b → a ≡ b) → Distinct xs → Distinct (map f xs)

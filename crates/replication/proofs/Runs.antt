@@ -28,6 +28,8 @@ pub mod Phases
 pub mod SameStates
 pub mod Complete
 pub mod CpcsComplete
+pub mod ResentLists
+pub mod ComeComplete
 pub mod Hearing
 pub mod OwnStates
 pub mod Made
