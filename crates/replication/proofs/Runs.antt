@@ -30,6 +30,7 @@ pub mod Complete
 pub mod CpcsComplete
 pub mod ResentLists
 pub mod ComeComplete
+pub mod Causal
 pub mod Hearing
 pub mod OwnStates
 pub mod Made
