@@ -7,19 +7,14 @@ use mathlib.Core.List.{List, [], _∷_, _++_, map, List·Memᴰ, List·Memᴰ·h
 use mathlib.Core.Option.{Option, none, some}
 use native.Mathlib.Omega.{arith}
 use lib.ListN.{length, take}
-use Rattle.base.specs.Tests.{_=?_, pick, not-both, Known, holds, fails, known, eq-holds, eq-fails, eq-yes, eq-no}
-use Rattle.base.specs.Lists.{isThere, at, upd}
+use Rattle.base.specs.Tests.{_=?_, pick, Known, holds, fails, known, eq-holds, eq-fails, eq-yes, eq-no}
+use Rattle.base.specs.Lists.{at, upd}
 
 pub none-some : {A X : Type 0} {x : A} → _≡_ {A = Option A} none (some x) → X
 none-some e = let z : _≡_ {A = ℕ} 0 1 = cc in absurd (omega arith)
 
 pub some-same : {A : Type 0} {x y : A} → _≡_ {A = Option A} (some x) (some y) → x ≡ y
 some-same e = cc
-
-pub is-there : {A : Type 0} (x : Option A) → isThere x ≡ true → (a : A) × (x ≡ some a)
-unfolding isThere
-is-there none e = not-both e
-is-there (some a) e = (a, refl)
 
 module _ {A : Type 0} where
   -- What stands at a place stands below the length.

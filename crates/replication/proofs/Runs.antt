@@ -31,6 +31,7 @@ pub mod CpcsComplete
 pub mod ResentLists
 pub mod ComeComplete
 pub mod Causal
+pub mod PlanSlots
 pub mod Hearing
 pub mod OwnStates
 pub mod Made

@@ -8,7 +8,7 @@ use mathlib.Core.Option.{Option, none, some}
 use native.Mathlib.Omega.{arith}
 use lib.ListN.{length, getD}
 use Rattle.base.specs.Tests.{not-both}
-use Rattle.base.specs.AtLaws.{is-there}
+use Rattle.base.specs.ListLaws.{there}
 use Rattle.base.specs.Lists.{isThere}
 use Rattle.base.specs.Chains.{chain}
 use Rattle.base.specs.Sets.{inSet}
@@ -104,7 +104,7 @@ module _ {n q : ℕ} {l : Run} (A : Allowed n q l) where
         → (y : State) × (getD (hearing (x .by .event) (memoryAt n q l p i) .membership .states) i none ≡ some y)
     unfolding hereSet theSet
     own-there c r f =
-        is-there _
+        there _
         (all-in-facts (hearing (x .by .event) (memoryAt n q l p i)) long f i (omega (arith, own, h .servers, numbers n q i l p .memory .servers))
         (ap (λ z. inSet i (theSet z)) (h .configuration ∙ r)
         ∙ subst (λ z. inSet z (c .set) ≡ true) (numbers n q i l p .memory .me) (w .configuration c r .set .own)))

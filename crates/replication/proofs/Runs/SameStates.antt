@@ -8,7 +8,8 @@ use native.Mathlib.Omega.{arith}
 use lib.ListN.{length, getD}
 use lib.Seq.{ext-getD}
 use Rattle.base.specs.Tests.{not-both, Known, holds, fails, known}
-use Rattle.base.specs.AtLaws.{none-some, some-same, is-there}
+use Rattle.base.specs.AtLaws.{none-some, some-same}
+use Rattle.base.specs.ListLaws.{there}
 use Rattle.base.specs.Lists.{isThere, present}
 use Rattle.base.specs.Sets.{inSet}
 use Rattle.format.specs.Types.{State, Record, state}
@@ -55,7 +56,7 @@ module _ {n q : ℕ} {l : Run} (A : Allowed n q l) (c : Configuration) where
   unfolding theSet
   member-in p i j a h k m =
       let z : 0 + j ≡ j = omega arith in
-      is-there _
+      there _
       (from-facts _ 0 _ h j (omega (arith, states-long p i a))
       (ap (λ y. inSet y (setIn (membershipAt n q l p i))) z ∙ ap (λ y. inSet j (theSet y)) (stay-configuration A p i c a) ∙ m))
 
