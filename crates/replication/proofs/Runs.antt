@@ -32,6 +32,7 @@ pub mod ResentLists
 pub mod ComeComplete
 pub mod Causal
 pub mod PlanSlots
+pub mod ResentBound
 pub mod Hearing
 pub mod OwnStates
 pub mod Made
