@@ -33,6 +33,8 @@ pub mod ComeComplete
 pub mod Causal
 pub mod PlanSlots
 pub mod ResentBound
+pub mod SenderAhead
+pub mod NotRefused
 pub mod Hearing
 pub mod OwnStates
 pub mod Made

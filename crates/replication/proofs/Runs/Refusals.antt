@@ -24,7 +24,7 @@ unfolding pick
 picked-true true x y e = refl
 picked-true false x y e = not-both e
 
-or-true : (c d : Bool) → d ≡ true → (c or d) ≡ true
+pub or-true : (c d : Bool) → d ≡ true → (c or d) ≡ true
 unfolding _or_
 or-true true d e = refl
 or-true false d e = e
