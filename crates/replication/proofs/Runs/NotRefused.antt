@@ -1,0 +1,175 @@
+-- In an allowed run no delivered record is refused: each comes only to a server that is in a state for it.
+use Prim.Native.Nat.{ℕ, zero, suc, _+_, _≤_, _<_}
+use mathlib.Core.Path.{_≡_, refl, sym, ap, subst, _∙_}
+use mathlib.Core.Bool.{Bool, true, false, not}
+use mathlib.Core.List.{List, [], _∷_}
+use mathlib.Core.Logic.{_⊎_, inl, inr}
+use mathlib.Core.Option.{Option, none, some}
+use native.Mathlib.Omega.{arith}
+use lib.ListN.{length, getD}
+use Rattle.base.specs.Tests.{_and_, _or_, _=?_, _≤?_, not-both, both-yes, eq-yes, eq-holds, le-yes, Known, holds, fails, known}
+use Rattle.base.specs.AtLaws.{some-same}
+use Rattle.base.specs.Chains.{strong}
+use Rattle.base.specs.ListLaws.{Each, there}
+use Rattle.base.specs.Lists.{isThere}
+use Rattle.base.specs.Sets.{inSet}
+use Rattle.base.specs.SetLaws.{inside-member}
+use Rattle.format.specs.Types.{Action, State, Record, action, retransmission, state, cpc, regular, transitional, request, recovery, says}
+use Rattle.replication.specs.Machine.Types.{Mode, Non-prim, Reg-prim, Trans-prim, Exchange-states, Exchange-actions, Construct, No, Un, Configuration, Membership, Server, Outcome}
+use Rattle.replication.specs.Machine.Rules.{Rule, onAction, onRetransmission, onState, onCpc, ruleFor, numberedOwn, possible, memberOf, isOf, stateIn, cpcIn, isIgnored, fromMember, withinQuota, withinHeld}
+use Rattle.replication.specs.Machine.Step.{theSet, ownState, answer}
+use Rattle.replication.specs.Machine.WellFormedSent.{senderOf}
+use Rattle.replication.specs.Runs.Run.{Run, placeAt, heardAt}
+use Rattle.replication.specs.Runs.Happenings.{Message, isMessage, Comes, Delivers}
+use Rattle.replication.specs.Runs.Allowed.{Allowed}
+use Rattle.replication.proofs.Runs.Places.{event-entry, of-event}
+use Rattle.replication.proofs.Runs.Shifts.{comes-of}
+use Rattle.replication.proofs.Runs.Numbers.{numbers}
+use Rattle.replication.proofs.Runs.Readings.{answer-refused}
+use Rattle.replication.proofs.Runs.Refusals.{not-refused, or-true}
+use Rattle.replication.proofs.Runs.Deliveries.{Delivery}
+use Rattle.replication.proofs.Runs.AllowedTurns.{memoryAt, Acts, Refuses}
+use Rattle.replication.proofs.Runs.ControlPart.{numbered-between}
+use Rattle.replication.proofs.Runs.Sending.{Puts}
+use Rattle.replication.proofs.Runs.PutRecords.{action-sent-in}
+use Rattle.replication.proofs.Runs.Origins.{Origin, origin}
+use Rattle.replication.proofs.Runs.Memberships.{everyStateIn, everyCpcIn, plannedIn, quorumIn}
+use Rattle.replication.proofs.Runs.Stays.{membershipAt, stay-configuration}
+use Rattle.replication.proofs.Runs.StateOrigins.{puts-among, puts-by, state-entered, states-came}
+use Rattle.replication.proofs.Runs.CpcOrigins.{cpc-attempted, cpcs-came}
+use Rattle.replication.proofs.Runs.LogActions.{carried}
+use Rattle.replication.proofs.Runs.Made.{Made, delivered-made}
+use Rattle.replication.proofs.Runs.Progress.{Ended, Progress, ProgressIn, progress-in}
+use Rattle.replication.proofs.Runs.Phases.{puts-after, part-resends}
+use Rattle.replication.proofs.Runs.SameStates.{member-in}
+use Rattle.replication.proofs.Runs.Complete.{NotRefused}
+use Rattle.replication.proofs.Runs.CpcsComplete.{CpcsIn, CpcOf, cpcs-complete}
+use Rattle.replication.proofs.Runs.ResentLists.{resentPlaces}
+use Rattle.replication.proofs.Runs.ComeComplete.{ComeIn, come-complete}
+use Rattle.replication.proofs.Runs.SenderAhead as Ahead
+
+module _ {n q : ℕ} {l : Run} (A : Allowed n q l) where
+  -- What a refused delivery would have been answered.
+  refused-answer : {p i : ℕ} {m : Message} (d : Delivery A p i m) (y : Refuses n q l p i) → answer (memoryAt n q l p i) (d .what) ≡ Outcome.refused (y .number)
+  refused-answer {p} {i} d y =
+      let e = event-entry (some-same (sym (y .here) ∙ d .comes .here)) in
+      answer-refused (memoryAt n q l p i) (y .bytes) (d .what) (y .number) (y .refusal) (y .reads ∙ ap (heardAt n q l p i) (e .1) ∙ d .comes .heard)
+
+  -- An action that comes is not an own one above those numbered.
+  own-numbered : (p i : ℕ) (a : Action) → Made A p a → numberedOwn (memoryAt n q l p i) a ≡ true
+  unfolding numberedOwn _or_
+  own-numbered p i a x = go (known (a .id .creator =? memoryAt n q l p i .me))
+    where
+      own : a .id .creator ≡ memoryAt n q l p i .me → a .id .index ≤ memoryAt n q l p i .log .numbered
+      own e =
+          let f : x .server ≡ i = sym (numbers n q (x .server) l (x .place) .memory .me) ∙ sym (x .own .creator) ∙ e ∙ numbers n q i l p .memory .me in
+          omega (
+            arith,
+            subst (λ k. a .id .index ≤ memoryAt n q l (suc (x .place)) k .log .numbered) f (x .own .within),
+            numbered-between A i (suc (x .place)) p (x .earlier),
+          )
+
+      go : Known (a .id .creator =? memoryAt n q l p i .me)
+          → (not (a .id .creator =? memoryAt n q l p i .me) or a .id .index ≤? memoryAt n q l p i .log .numbered) ≡ true
+      go (holds e) = ap (λ b. not b or a .id .index ≤? memoryAt n q l p i .log .numbered) e ∙ le-yes _ _ (own (eq-holds _ _ e))
+      go (fails e) = ap (λ b. not b or a .id .index ≤? memoryAt n q l p i .log .numbered) e
+
+  module _ (p : ℕ) (nr : (x : ℕ) → x < p → NotRefused A x) {i : ℕ} {m : Message} (d : Delivery A p i m) (o : Origin A p i m (d .what)) (y : Refuses n q l p i) where
+    -- The sender is a member of the configuration that the server has.
+    from-member : (k : ℕ) → some k ≡ some (o .sender) → memberOf (membershipAt n q l p i .configuration) k ≡ true
+    unfolding memberOf
+    from-member k e =
+        ap (λ z. memberOf z k) (stay-configuration A p i (o .configuration) (o .here)) ∙ ap (λ z. inSet z (o .configuration .set)) (some-same e) ∙ o .member
+
+    -- Where the state has a rule and no row of the table applies, the record is not refused.
+    ruled : (r : Record) (k : Rule) → d .what ≡ r → ruleFor (membershipAt n q l p i .mode) r ≡ some k → possible (memoryAt n q l p i) r ≡ true
+        → (isIgnored k or fromMember (membershipAt n q l p i) r) ≡ true → withinQuota (memoryAt n q l p i) r ≡ true → withinHeld (memoryAt n q l p i) r ≡ true → ⊥
+    ruled r k e a b f g h = not-refused (memoryAt n q l p i) r k a b f g h (y .number) (ap (answer (memoryAt n q l p i)) (sym e) ∙ refused-answer d y)
+
+    puts-as : (r : Record) → d .what ≡ r → Puts A (m .sending) (o .sender) (m .number) (o .configuration) r
+    puts-as r e = subst (λ z. Puts A (m .sending) (o .sender) (m .number) (o .configuration) z) e (o .puts)
+
+    -- ---- how far the sender was
+
+    abbrev theirs : Membership
+    theirs = membershipAt n q l (suc (m .sending)) (o .sender)
+
+    abbrev mine : Membership
+    mine = membershipAt n q l p i
+
+    -- The sender had ended its exchange, and delivered as many retransmissions as planned.
+    record Done : Type 0 where
+      ended : Ended n theirs
+      count : plannedIn n theirs ≤ length (resentPlaces A (o .configuration) (o .sender) (suc (m .sending)))
+
+    their-come : (z : Mode) → theirs .mode ≡ z → ComeIn z n theirs (length (resentPlaces A (o .configuration) (o .sender) (suc (m .sending))))
+    their-come z e =
+        subst (λ x. ComeIn x n theirs (length (resentPlaces A (o .configuration) (o .sender) (suc (m .sending))))) e
+        (come-complete A (o .configuration) p nr (o .sender) (suc (m .sending)) (puts-after A (o .puts)) (o .earlier))
+
+    their-facts : (z : Mode) → theirs .mode ≡ z → ProgressIn n z theirs
+    their-facts z e = progress-in n theirs z e (Ahead.their-progress A p nr d o)
+
+    my-facts : (z : Mode) → mine .mode ≡ z → ProgressIn n z mine
+    my-facts z e = progress-in n mine z e (Ahead.my-progress A p nr d o)
+
+    my-come : (z : Mode) → mine .mode ≡ z → ComeIn z n mine (length (resentPlaces A (o .configuration) i p))
+    my-come z e =
+        subst (λ x. ComeIn x n mine (length (resentPlaces A (o .configuration) i p))) e (come-complete A (o .configuration) p nr i p (o .here) (omega arith))
+
+    my-cpcs : (z : Mode) → mine .mode ≡ z → CpcsIn z mine (CpcOf A (o .configuration) p nr p i)
+    my-cpcs z e = subst (λ x. CpcsIn x mine (CpcOf A (o .configuration) p nr p i)) e (cpcs-complete A (o .configuration) p nr i p (o .here) (omega arith))
+
+    done-settled : theirs .mode ≡ Non-prim → Done
+    done-settled e = record { ended = their-facts Non-prim e (Ahead.their-regular A p nr d o) .ended; count = their-come Non-prim e (Ahead.their-regular A p nr d o) }
+
+    done-installed : theirs .mode ≡ Reg-prim → Done
+    done-installed e = record { ended = their-facts Reg-prim e .ended; count = their-come Reg-prim e }
+
+    done-attempting : theirs .mode ≡ Construct → Done
+    done-attempting e = record { ended = their-facts Construct e .ended; count = their-come Construct e }
+
+    not-collecting : everyStateIn theirs ≡ true → mine .mode ≡ Exchange-states → ⊥
+    not-collecting f e = Ahead.not-collecting A p nr d o f e
+
+    not-receiving : Done → mine .mode ≡ Exchange-actions → ⊥
+    not-receiving f e = Ahead.not-receiving A p nr d o (f .ended) (f .count) e
+
+    -- ---- actions
+
+    module _ (a : Action) (e : d .what ≡ action a) where
+      sent-in : (theirs .mode ≡ Non-prim) ⊎ (theirs .mode ≡ Reg-prim)
+      sent-in =
+          let u = puts-as (action a) e in
+          subst (λ s. (s .membership .mode ≡ Non-prim) ⊎ (s .membership .mode ≡ Reg-prim)) (sym (u .act .memory-next)) (action-sent-in (puts-by A u) a (puts-among A u))
+
+      done : (theirs .mode ≡ Non-prim) ⊎ (theirs .mode ≡ Reg-prim) → Done
+      done (inl z) = done-settled z
+      done (inr z) = done-installed z
+
+      -- Who attempts decided as the sender, which did not settle; and has not all CPCs, which the sender had.
+      attempting : everyStateIn mine ≡ true → quorumIn mine ≡ true → everyCpcIn mine ≡ false
+          → ((j : ℕ) → CpcOf A (o .configuration) p nr p i j → inSet j (mine .cpcs) ≡ true) → (theirs .mode ≡ Non-prim) ⊎ (theirs .mode ≡ Reg-prim) → ⊥
+      attempting f g h k (inl z) =
+          let w = their-facts Non-prim z (Ahead.their-regular A p nr d o) in
+          not-both (sym (w .refused) ∙ sym (Ahead.same-decision A p nr d o f (w .ended .all-in)) ∙ g)
+      attempting f g h k (inr z) = not-both (sym h ∙ Ahead.cpcs-reach A p nr d o (their-facts Reg-prim z .all-cpcs) k)
+
+      by : (k : Rule) → onAction (mine .mode) a ≡ some k → ⊥
+      unfolding ruleFor possible fromMember withinQuota withinHeld senderOf
+      by k z =
+          ruled (action a) k e z (own-numbered p i a (subst (λ r. Each (Made A p) (carried r)) e (delivered-made A d) .0))
+          (or-true _ _ (from-member (a .id .creator) (ap senderOf (sym e) ∙ o .named))) refl refl
+
+      action-taken : (z : Mode) → mine .mode ≡ z → ⊥
+      unfolding onAction
+      action-taken Non-prim f = by _ (ap (λ x. onAction x a) f)
+      action-taken Reg-prim f = by _ (ap (λ x. onAction x a) f)
+      action-taken Trans-prim f = by _ (ap (λ x. onAction x a) f)
+      action-taken Exchange-states f = by _ (ap (λ x. onAction x a) f)
+      action-taken Exchange-actions f = not-receiving (done sent-in) f
+      action-taken Construct f =
+          let w = my-facts Construct f in
+          attempting (w .ended .all-in) (w .agreed) (w .not-all-cpcs) (my-cpcs Construct f) sent-in
+      action-taken No f = let w = my-facts No f in attempting (w .ended .all-in) (w .agreed) (w .not-all-cpcs) (my-cpcs No f) sent-in
+      action-taken Un f = by _ (ap (λ x. onAction x a) f)
