@@ -173,3 +173,144 @@ module _ {n q : ℕ} {l : Run} (A : Allowed n q l) where
           attempting (w .ended .all-in) (w .agreed) (w .not-all-cpcs) (my-cpcs Construct f) sent-in
       action-taken No f = let w = my-facts No f in attempting (w .ended .all-in) (w .agreed) (w .not-all-cpcs) (my-cpcs No f) sent-in
       action-taken Un f = by _ (ap (λ x. onAction x a) f)
+
+    -- ---- retransmissions
+
+    module _ (k u : ℕ) (a : Action) (e : d .what ≡ retransmission k u a) where
+      sent-complete : everyStateIn theirs ≡ true
+      sent-complete = their-facts Exchange-actions (part-resends A (puts-as _ e) .receives) .all-in
+
+      no-more : everyStateIn mine ≡ true → plannedIn n mine ≤ length (resentPlaces A (o .configuration) i p) → ⊥
+      no-more f g = Ahead.no-more-retransmissions A p nr d o (record { sender = k; position = u; what = a; is = e }) f g
+
+      resent-by : (z : Rule) → onRetransmission (mine .mode) u a ≡ some z → ⊥
+      unfolding ruleFor possible fromMember withinQuota withinHeld senderOf
+      resent-by z f =
+          ruled (retransmission k u a) z e f (own-numbered p i a (subst (λ r. Each (Made A p) (carried r)) e (delivered-made A d) .0))
+          (or-true _ _ (from-member k (ap senderOf (sym e) ∙ o .named))) refl refl
+
+      retransmission-taken : (z : Mode) → mine .mode ≡ z → ⊥
+      unfolding onRetransmission
+      retransmission-taken Non-prim f = resent-by _ (ap (λ x. onRetransmission x u a) f)
+      retransmission-taken Reg-prim f = no-more (my-facts Reg-prim f .ended .all-in) (my-come Reg-prim f)
+      retransmission-taken Trans-prim f = no-more (my-facts Trans-prim f .ended .all-in) (my-come Trans-prim f)
+      retransmission-taken Exchange-states f = not-collecting sent-complete f
+      retransmission-taken Exchange-actions f = resent-by _ (ap (λ x. onRetransmission x u a) f)
+      retransmission-taken Construct f = no-more (my-facts Construct f .ended .all-in) (my-come Construct f)
+      retransmission-taken No f = no-more (my-facts No f .ended .all-in) (my-come No f)
+      retransmission-taken Un f = no-more (my-facts Un f .ended .all-in) (my-come Un f)
+
+    -- ---- States
+
+    module _ (x : State) (e : d .what ≡ state x) where
+      state-sender : x .sender ≡ o .sender
+      unfolding senderOf
+      state-sender = some-same (ap senderOf (sym e) ∙ o .named)
+
+      -- The State of its sender is not in.
+      not-in : (z : State) → getD (mine .states) (x .sender) none ≡ some z → ⊥
+      not-in z f =
+          let w = states-came A i (o .configuration) p (o .here) (x .sender) z f in
+          Ahead.no-second-state A p nr d o x z e (w .0) (sym (w .1))
+
+      complete : everyStateIn mine ≡ true → ⊥
+      complete f =
+          let w = member-in A (o .configuration) p i (x .sender) (o .here) f (subst (λ k. k < n) (sym state-sender) (A .servers (m .sending) (o .sender) (of-event (o .puts .act .here)))) in
+          let z = w (subst (λ k. inSet k (o .configuration .set) ≡ true) (sym state-sender) (o .member)) in
+          not-in (z .0) (z .1)
+
+      right-id : isOf (mine .configuration) (x .configuration) ≡ true
+      unfolding isOf ownState
+      right-id =
+          let h = state-entered A (puts-as (state x) e) .0 in
+          ap (λ z. isOf z (x .configuration)) (stay-configuration A p i (o .configuration) (o .here)) ∙ eq-yes _ _ (ap (λ z. z .configuration) (h .is))
+
+      not-twice : not (stateIn mine (x .sender)) ≡ true
+      unfolding stateIn
+      not-twice = go (known (isThere (getD (mine .states) (x .sender) none)))
+        where
+          go : Known (isThere (getD (mine .states) (x .sender) none)) → not (isThere (getD (mine .states) (x .sender) none)) ≡ true
+          go (holds f) = let z = there _ f in absurd (not-in (z .0) (z .1))
+          go (fails f) = ap not f
+
+      state-by : (z : Rule) → onState (mine .mode) x ≡ some z → ⊥
+      unfolding ruleFor possible fromMember withinQuota withinHeld
+      state-by z f =
+          ruled (state x) z e f refl
+          (or-true _ _ (both-yes _ _ (from-member (x .sender) (ap some state-sender)) (both-yes _ _ right-id not-twice))) refl refl
+
+      state-taken : (z : Mode) → mine .mode ≡ z → ⊥
+      unfolding onState
+      state-taken Non-prim f = state-by _ (ap (λ y. onState y x) f)
+      state-taken Reg-prim f = complete (my-facts Reg-prim f .ended .all-in)
+      state-taken Trans-prim f = complete (my-facts Trans-prim f .ended .all-in)
+      state-taken Exchange-states f = state-by _ (ap (λ y. onState y x) f)
+      state-taken Exchange-actions f = complete (my-facts Exchange-actions f .all-in)
+      state-taken Construct f = complete (my-facts Construct f .ended .all-in)
+      state-taken No f = complete (my-facts No f .ended .all-in)
+      state-taken Un f = complete (my-facts Un f .ended .all-in)
+
+    -- ---- CPCs
+
+    module _ (k b : ℕ) (e : d .what ≡ cpc k b) where
+      cpc-sender : k ≡ o .sender
+      unfolding senderOf
+      cpc-sender = some-same (ap senderOf (sym e) ∙ o .named)
+
+      attempted : theirs .mode ≡ Construct
+      attempted = cpc-attempted A (puts-as (cpc k b) e) .0 .constructs
+
+      cpc-not-in : inSet k (mine .cpcs) ≡ true → ⊥
+      cpc-not-in f = let w = cpcs-came A i (o .configuration) p (o .here) k f in Ahead.no-second-cpc A p nr d o k b (w .0) e (w .1)
+
+      all-cpcs : everyCpcIn mine ≡ true → ⊥
+      unfolding theSet
+      all-cpcs f =
+          cpc-not-in
+          (inside-member _ _ k f
+          (ap (λ z. inSet k (theSet z)) (stay-configuration A p i (o .configuration) (o .here)) ∙ subst (λ z. inSet z (o .configuration .set) ≡ true) (sym cpc-sender) (o .member)))
+
+      cpc-id : isOf (mine .configuration) b ≡ true
+      unfolding isOf
+      cpc-id = ap (λ z. isOf z b) (stay-configuration A p i (o .configuration) (o .here)) ∙ eq-yes _ _ (cpc-attempted A (puts-as (cpc k b) e) .1)
+
+      cpc-not-twice : not (cpcIn mine k) ≡ true
+      unfolding cpcIn
+      cpc-not-twice = go (known (inSet k (mine .cpcs)))
+        where
+          go : Known (inSet k (mine .cpcs)) → not (inSet k (mine .cpcs)) ≡ true
+          go (holds f) = absurd (cpc-not-in f)
+          go (fails f) = ap not f
+
+      cpc-by : (z : Rule) → onCpc (mine .mode) k ≡ some z → ⊥
+      unfolding ruleFor possible fromMember withinQuota withinHeld
+      cpc-by z f =
+          ruled (cpc k b) z e f refl (or-true _ _ (both-yes _ _ (from-member k (ap some cpc-sender)) (both-yes _ _ cpc-id cpc-not-twice))) refl refl
+
+      cpc-taken : (z : Mode) → mine .mode ≡ z → ⊥
+      unfolding onCpc
+      cpc-taken Non-prim f = cpc-by _ (ap (λ y. onCpc y k) f)
+      cpc-taken Reg-prim f = all-cpcs (my-facts Reg-prim f .all-cpcs)
+      cpc-taken Trans-prim f = all-cpcs (my-facts Trans-prim f .all-cpcs)
+      cpc-taken Exchange-states f = not-collecting (their-facts Construct attempted .ended .all-in) f
+      cpc-taken Exchange-actions f = not-receiving (done-attempting attempted) f
+      cpc-taken Construct f = cpc-by _ (ap (λ y. onCpc y k) f)
+      cpc-taken No f = cpc-by _ (ap (λ y. onCpc y k) f)
+      cpc-taken Un f = all-cpcs (my-facts Un f .all-cpcs)
+
+    -- ---- any delivery
+
+    taken : (r : Record) → d .what ≡ r → isMessage r ≡ true → ⊥
+    unfolding isMessage
+    taken (action a) e h = action-taken a e _ refl
+    taken (retransmission k u a) e h = retransmission-taken k u a e _ refl
+    taken (state x) e h = state-taken x e _ refl
+    taken (cpc k b) e h = cpc-taken k b e _ refl
+    taken (regular b c) e h = not-both h
+    taken (transitional c) e h = not-both h
+    taken (request b) e h = not-both h
+    taken recovery e h = not-both h
+
+  -- In an allowed run no delivered record is refused.
+  pub never-refused : (p i : ℕ) (m : Message) → Delivery A p i m → Refuses n q l p i → ⊥
+  never-refused = strong (NotRefused A) (λ p nr i m d y. taken p nr d (origin A d) y (d .what) refl (d .message))
