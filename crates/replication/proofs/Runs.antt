@@ -34,6 +34,7 @@ pub mod Causal
 pub mod PlanSlots
 pub mod ResentBound
 pub mod SenderAhead
+pub mod RefusedDeliveries
 pub mod NotRefused
 pub mod Hearing
 pub mod OwnStates

@@ -7,29 +7,25 @@ use mathlib.Core.Logic.{_⊎_, inl, inr}
 use mathlib.Core.Option.{Option, none, some}
 use native.Mathlib.Omega.{arith}
 use lib.ListN.{length, getD}
-use Rattle.base.specs.Tests.{_and_, _or_, _=?_, _≤?_, not-both, both-yes, eq-yes, eq-holds, le-yes, Known, holds, fails, known}
+use Rattle.base.specs.Tests.{_and_, _or_, not-both, both-yes, eq-yes, Known, holds, fails, known}
 use Rattle.base.specs.AtLaws.{some-same}
 use Rattle.base.specs.Chains.{strong}
 use Rattle.base.specs.ListLaws.{Each, there}
 use Rattle.base.specs.Lists.{isThere}
 use Rattle.base.specs.Sets.{inSet}
 use Rattle.base.specs.SetLaws.{inside-member}
-use Rattle.format.specs.Types.{Action, State, Record, action, retransmission, state, cpc, regular, transitional, request, recovery, says}
-use Rattle.replication.specs.Machine.Types.{Mode, Non-prim, Reg-prim, Trans-prim, Exchange-states, Exchange-actions, Construct, No, Un, Configuration, Membership, Server, Outcome}
-use Rattle.replication.specs.Machine.Rules.{Rule, onAction, onRetransmission, onState, onCpc, ruleFor, numberedOwn, possible, memberOf, isOf, stateIn, cpcIn, isIgnored, fromMember, withinQuota, withinHeld}
+use Rattle.format.specs.Types.{Action, State, Record, action, retransmission, state, cpc, regular, transitional, request, recovery}
+use Rattle.replication.specs.Machine.Types.{Mode, Non-prim, Reg-prim, Trans-prim, Exchange-states, Exchange-actions, Construct, No, Un, Membership}
+use Rattle.replication.specs.Machine.Rules.{Rule, onAction, onRetransmission, onState, onCpc, ruleFor, possible, memberOf, isOf, stateIn, cpcIn, isIgnored, fromMember, withinQuota, withinHeld}
 use Rattle.replication.specs.Machine.Step.{theSet, ownState, answer}
 use Rattle.replication.specs.Machine.WellFormedSent.{senderOf}
-use Rattle.replication.specs.Runs.Run.{Run, placeAt, heardAt}
-use Rattle.replication.specs.Runs.Happenings.{Message, isMessage, Comes, Delivers}
+use Rattle.replication.specs.Runs.Run.{Run}
+use Rattle.replication.specs.Runs.Happenings.{Message, isMessage, Delivers}
 use Rattle.replication.specs.Runs.Allowed.{Allowed}
-use Rattle.replication.proofs.Runs.Places.{event-entry, of-event}
-use Rattle.replication.proofs.Runs.Shifts.{comes-of}
-use Rattle.replication.proofs.Runs.Numbers.{numbers}
-use Rattle.replication.proofs.Runs.Readings.{answer-refused}
+use Rattle.replication.proofs.Runs.Places.{of-event}
 use Rattle.replication.proofs.Runs.Refusals.{not-refused, or-true}
 use Rattle.replication.proofs.Runs.Deliveries.{Delivery}
-use Rattle.replication.proofs.Runs.AllowedTurns.{memoryAt, Acts, Refuses}
-use Rattle.replication.proofs.Runs.ControlPart.{numbered-between}
+use Rattle.replication.proofs.Runs.AllowedTurns.{memoryAt, Refuses}
 use Rattle.replication.proofs.Runs.Sending.{Puts}
 use Rattle.replication.proofs.Runs.PutRecords.{action-sent-in}
 use Rattle.replication.proofs.Runs.Origins.{Origin, origin}
@@ -42,6 +38,7 @@ use Rattle.replication.proofs.Runs.Made.{Made, delivered-made}
 use Rattle.replication.proofs.Runs.Progress.{Ended, Progress, ProgressIn, progress-in}
 use Rattle.replication.proofs.Runs.Phases.{puts-after, part-resends}
 use Rattle.replication.proofs.Runs.SameStates.{member-in}
+use Rattle.replication.proofs.Runs.RefusedDeliveries.{refused-answer, own-numbered}
 use Rattle.replication.proofs.Runs.Complete.{NotRefused}
 use Rattle.replication.proofs.Runs.CpcsComplete.{CpcsIn, CpcOf, cpcs-complete}
 use Rattle.replication.proofs.Runs.ResentLists.{resentPlaces}
@@ -49,31 +46,6 @@ use Rattle.replication.proofs.Runs.ComeComplete.{ComeIn, come-complete}
 use Rattle.replication.proofs.Runs.SenderAhead as Ahead
 
 module _ {n q : ℕ} {l : Run} (A : Allowed n q l) where
-  -- What a refused delivery would have been answered.
-  refused-answer : {p i : ℕ} {m : Message} (d : Delivery A p i m) (y : Refuses n q l p i) → answer (memoryAt n q l p i) (d .what) ≡ Outcome.refused (y .number)
-  refused-answer {p} {i} d y =
-      let e = event-entry (some-same (sym (y .here) ∙ d .comes .here)) in
-      answer-refused (memoryAt n q l p i) (y .bytes) (d .what) (y .number) (y .refusal) (y .reads ∙ ap (heardAt n q l p i) (e .1) ∙ d .comes .heard)
-
-  -- An action that comes is not an own one above those numbered.
-  own-numbered : (p i : ℕ) (a : Action) → Made A p a → numberedOwn (memoryAt n q l p i) a ≡ true
-  unfolding numberedOwn _or_
-  own-numbered p i a x = go (known (a .id .creator =? memoryAt n q l p i .me))
-    where
-      own : a .id .creator ≡ memoryAt n q l p i .me → a .id .index ≤ memoryAt n q l p i .log .numbered
-      own e =
-          let f : x .server ≡ i = sym (numbers n q (x .server) l (x .place) .memory .me) ∙ sym (x .own .creator) ∙ e ∙ numbers n q i l p .memory .me in
-          omega (
-            arith,
-            subst (λ k. a .id .index ≤ memoryAt n q l (suc (x .place)) k .log .numbered) f (x .own .within),
-            numbered-between A i (suc (x .place)) p (x .earlier),
-          )
-
-      go : Known (a .id .creator =? memoryAt n q l p i .me)
-          → (not (a .id .creator =? memoryAt n q l p i .me) or a .id .index ≤? memoryAt n q l p i .log .numbered) ≡ true
-      go (holds e) = ap (λ b. not b or a .id .index ≤? memoryAt n q l p i .log .numbered) e ∙ le-yes _ _ (own (eq-holds _ _ e))
-      go (fails e) = ap (λ b. not b or a .id .index ≤? memoryAt n q l p i .log .numbered) e
-
   module _ (p : ℕ) (nr : (x : ℕ) → x < p → NotRefused A x) {i : ℕ} {m : Message} (d : Delivery A p i m) (o : Origin A p i m (d .what)) (y : Refuses n q l p i) where
     -- The sender is a member of the configuration that the server has.
     from-member : (k : ℕ) → some k ≡ some (o .sender) → memberOf (membershipAt n q l p i .configuration) k ≡ true
@@ -84,7 +56,7 @@ module _ {n q : ℕ} {l : Run} (A : Allowed n q l) where
     -- Where the state has a rule and no row of the table applies, the record is not refused.
     ruled : (r : Record) (k : Rule) → d .what ≡ r → ruleFor (membershipAt n q l p i .mode) r ≡ some k → possible (memoryAt n q l p i) r ≡ true
         → (isIgnored k or fromMember (membershipAt n q l p i) r) ≡ true → withinQuota (memoryAt n q l p i) r ≡ true → withinHeld (memoryAt n q l p i) r ≡ true → ⊥
-    ruled r k e a b f g h = not-refused (memoryAt n q l p i) r k a b f g h (y .number) (ap (answer (memoryAt n q l p i)) (sym e) ∙ refused-answer d y)
+    ruled r k e a b f g h = not-refused (memoryAt n q l p i) r k a b f g h (y .number) (ap (answer (memoryAt n q l p i)) (sym e) ∙ refused-answer A d y)
 
     puts-as : (r : Record) → d .what ≡ r → Puts A (m .sending) (o .sender) (m .number) (o .configuration) r
     puts-as r e = subst (λ z. Puts A (m .sending) (o .sender) (m .number) (o .configuration) z) e (o .puts)
@@ -158,7 +130,7 @@ module _ {n q : ℕ} {l : Run} (A : Allowed n q l) where
       by : (k : Rule) → onAction (mine .mode) a ≡ some k → ⊥
       unfolding ruleFor possible fromMember withinQuota withinHeld senderOf
       by k z =
-          ruled (action a) k e z (own-numbered p i a (subst (λ r. Each (Made A p) (carried r)) e (delivered-made A d) .0))
+          ruled (action a) k e z (own-numbered A p i a (subst (λ r. Each (Made A p) (carried r)) e (delivered-made A d) .0))
           (or-true _ _ (from-member (a .id .creator) (ap senderOf (sym e) ∙ o .named))) refl refl
 
       action-taken : (z : Mode) → mine .mode ≡ z → ⊥
@@ -186,7 +158,7 @@ module _ {n q : ℕ} {l : Run} (A : Allowed n q l) where
       resent-by : (z : Rule) → onRetransmission (mine .mode) u a ≡ some z → ⊥
       unfolding ruleFor possible fromMember withinQuota withinHeld senderOf
       resent-by z f =
-          ruled (retransmission k u a) z e f (own-numbered p i a (subst (λ r. Each (Made A p) (carried r)) e (delivered-made A d) .0))
+          ruled (retransmission k u a) z e f (own-numbered A p i a (subst (λ r. Each (Made A p) (carried r)) e (delivered-made A d) .0))
           (or-true _ _ (from-member k (ap senderOf (sym e) ∙ o .named))) refl refl
 
       retransmission-taken : (z : Mode) → mine .mode ≡ z → ⊥
