@@ -4,7 +4,7 @@ use Prim.Native.Nat.{ℕ, zero, suc}
 use mathlib.Core.Path.{_≡_, refl, sym, ap, subst, _∙_}
 use mathlib.Core.Bool.{Bool, true}
 use mathlib.Core.List.{List, [], _∷_, List·Memᴰ, List·Memᴰ·head, List·Memᴰ·tail, List·Memᴰ·not-nil, List·Memᴰ·cases-cons, List·Memᴰ·append-cases, Memᴰ·append-left, Memᴰ·append-right}
-use mathlib.Core.Logic.{⊎-elim}
+use mathlib.Core.Logic.{_⊎_, inl, inr, ⊎-elim}
 use mathlib.Core.Option.{Option, none, some, Option·none-ne-some, Option·some-injective}
 use lib.ListN.{getD}
 use Rattle.base.specs.Tests.{pick, Known, holds, fails, known}
@@ -29,6 +29,17 @@ module _ {A : Type 0} where
   present-has x (none ∷ l) (suc k) h = present-has x l k h
   present-has x (some y ∷ l) zero h = List·Memᴰ·head (sym (Option·some-injective y x h))
   present-has x (some y ∷ l) (suc k) h = List·Memᴰ·tail (present-has x l k h)
+
+  -- What is present stands at a place.
+  pub present-from : (x : A) (l : List (Option A)) → List·Memᴰ x (present l) → (k : ℕ) × (getD l k none ≡ some x)
+  unfolding present atFront
+  present-from x [] m = absurd (List·Memᴰ·not-nil m)
+  present-from x (none ∷ l) m = let r = present-from x l m in (suc (r .0), r .1)
+  present-from x (some y ∷ l) m = go (List·Memᴰ·cases-cons m) (λ k. present-from x l k)
+    where
+      go : (x ≡ y) ⊎ List·Memᴰ x (present l) → (List·Memᴰ x (present l) → (k : ℕ) × (getD l k none ≡ some x)) → (k : ℕ) × (getD (some y ∷ l) k none ≡ some x)
+      go (inl e) f = (0, ap some (sym e))
+      go (inr k) f = let r = f k in (suc (r .0), r .1)
 
 module _ {A B : Type 0} where
   -- What is gathered was made of some element.

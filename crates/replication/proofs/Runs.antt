@@ -36,6 +36,8 @@ pub mod ResentBound
 pub mod SenderAhead
 pub mod RefusedDeliveries
 pub mod NotRefused
+pub mod Exchanges
+pub mod Marks
 pub mod Hearing
 pub mod OwnStates
 pub mod Made

@@ -86,17 +86,27 @@ module _ {n q : ℕ} {l : Run} (A : Allowed n q l) where
   -- The own State, once come, says the votes that the server has while in the exchange.
   pub own-state-says : (p i : ℕ) (c : Configuration) (y : State) → placeAt n q l i p .regular ≡ some c → placeAt n q l i (suc p) .regular ≡ some c
       → inExchange (membershipAt n q l p i .mode) ≡ true → getD (membershipAt n q l (suc p) i .states) i none ≡ some y
-      → (y .last ≡ memoryAt n q l p i .votes .last) × (y .attempt ≡ memoryAt n q l p i .votes .attempt)
+      → (y .last ≡ memoryAt n q l p i .votes .last)
+      × (y .attempt ≡ memoryAt n q l p i .votes .attempt)
+      × (y .mark ≡ memoryAt n q l p i .votes .mark)
+      × (y .yellow ≡ memoryAt n q l p i .votes .yellow)
   unfolding ownState
   own-state-says p i c y b d e f = go (states-entered A i c (suc p) d i y f) (since-entry i c p b)
     where
       go : (v : ℕ) × Entered A v i c y × (v < suc p) × (y .sender ≡ i) → SinceEntry p i c
-          → (y .last ≡ memoryAt n q l p i .votes .last) × (y .attempt ≡ memoryAt n q l p i .votes .attempt)
+          → (y .last ≡ memoryAt n q l p i .votes .last)
+          × (y .attempt ≡ memoryAt n q l p i .votes .attempt)
+          × (y .mark ≡ memoryAt n q l p i .votes .mark)
+          × (y .yellow ≡ memoryAt n q l p i .votes .yellow)
       go (v, w, h, g) t =
           let z : memoryAt n q l (suc v) i .votes ≡ memoryAt n q l p i .votes =
           ap (λ a. memoryAt n q l (suc a) i .votes) (A .once v (t .took-at) i c (w .took) (t .took)) ∙ sym (t .votes e)
-          in
-          (ap (λ a. a .last) (w .is) ∙ ap (λ a. a .last) z, ap (λ a. a .attempt) (w .is) ∙ ap (λ a. a .attempt) z)
+          in (
+            ap (λ a. a .last) (w .is) ∙ ap (λ a. a .last) z,
+            ap (λ a. a .attempt) (w .is) ∙ ap (λ a. a .attempt) z,
+            ap (λ a. a .mark) (w .is) ∙ ap (λ a. a .mark) z,
+            ap (λ a. a .yellow) (w .is) ∙ ap (λ a. a .yellow) z,
+          )
 
   module _ (p i : ℕ) (x : Acts n q l p i) where
     -- When every member's State is in, the own one is.
