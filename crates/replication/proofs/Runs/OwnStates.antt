@@ -35,7 +35,7 @@ use Rattle.replication.proofs.Runs.StateOrigins.{Entered, states-entere
 use Rattle.replication.proofs.Runs.Stays.{membershipAt, in-stay, acts-membership}
 
 -- In an exchange the latest configuration is regular.
-exchange-regular : (m : Mode) (c : Option Configuration) (t : Option ℕ) → inExchange m ≡ true → Stands m c t → InRegular c t
+pub exchange-regular : (m : Mode) (c : Option Configuration) (t : Option ℕ) → inExchange m ≡ true → Stands m c t → InRegular c t
 unfolding inExchange
 exchange-regular Non-prim c t e h = not-both e
 exchange-regular Reg-prim c t e h = not-both e

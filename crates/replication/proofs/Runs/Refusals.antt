@@ -19,10 +19,15 @@ use Rattle.replication.proofs.Runs.Modes.{Stands, Standing}
 moves-no-refusal : (s : Server) (r : Record) (o : Outcome Record) (z : ℕ) → o ≡ refused z → Moves s r o → ⊥
 moves-no-refusal s r o z e m = subst (Moves s r) e m
 
-picked-true : {A : Type 0} (c : Bool) (x y : A) → c ≡ true → pick c x y ≡ x
+pub picked-true : {A : Type 0} (c : Bool) (x y : A) → c ≡ true → pick c x y ≡ x
 unfolding pick
 picked-true true x y e = refl
 picked-true false x y e = not-both e
+
+pub picked-false : {A : Type 0} (c : Bool) (x y : A) → c ≡ false → pick c x y ≡ y
+unfolding pick
+picked-false true x y e = not-both (sym e)
+picked-false false x y e = refl
 
 pub or-true : (c d : Bool) → d ≡ true → (c or d) ≡ true
 unfolding _or_
