@@ -1,12 +1,12 @@
--- Filtered lists: what is in them, how they grow, that they rise as the whole does.
+-- Filtered lists: how they grow, and that they rise as the whole does.
 -- Assumes nothing.
 use Prim.Native.Nat.{ℕ, _<_}
 use mathlib.Core.Path.{_≡_, refl, sym, ap, subst, _∙_}
 use mathlib.Core.Bool.{Bool, true, false}
-use mathlib.Core.List.{List, [], _∷_, _++_, List·Memᴰ, List·Memᴰ·head, List·Memᴰ·tail, List·Memᴰ·not-nil, List·Memᴰ·cases-cons}
-use mathlib.Core.Logic.{_⊎_, inl, inr}
+use mathlib.Core.List.{List, [], _∷_, _++_, List·Memᴰ}
 use Rattle.base.specs.Tests.{pick, Known, holds, fails, known}
 use Rattle.base.specs.Lists.{filter}
+use Rattle.base.specs.Members.{filter-from}
 use Rattle.base.specs.Rising.{Rises}
 
 module _ {A : Type 0} (t : A → Bool) where
@@ -35,24 +35,11 @@ module _ {A : Type 0} (t : A → Bool) where
   unfolding filter
   filter-none x e = filter-no x [] e
 
-  pub filter-from : (x : A) (xs : List A) → List·Memᴰ x (filter t xs) → List·Memᴰ x xs × (t x ≡ true)
-  unfolding filter
-  filter-from x [] m = absurd (List·Memᴰ·not-nil m)
-  filter-from x (y ∷ xs) m = go (known (t y)) (λ k. filter-from x xs k)
-    where
-      at : t y ≡ true → (x ≡ y) ⊎ List·Memᴰ x (filter t xs) → (List·Memᴰ x (filter t xs) → List·Memᴰ x xs × (t x ≡ true)) → List·Memᴰ x (y ∷ xs) × (t x ≡ true)
-      at e (inl s) f = (List·Memᴰ·head s, ap t s ∙ e)
-      at e (inr k) f = let r = f k in (List·Memᴰ·tail (r .0), r .1)
-
-      go : Known (t y) → (List·Memᴰ x (filter t xs) → List·Memᴰ x xs × (t x ≡ true)) → List·Memᴰ x (y ∷ xs) × (t x ≡ true)
-      go (holds e) f = at e (List·Memᴰ·cases-cons (subst (List·Memᴰ x) (filter-yes y xs e) m)) f
-      go (fails e) f = let r = f (subst (List·Memᴰ x) (filter-no y xs e) m) in (List·Memᴰ·tail (r .0), r .1)
-
   pub rises-filter : (s : A → ℕ) (xs : List A) → Rises s xs → Rises s (filter t xs)
   unfolding filter
   rises-filter s [] h = tt
   rises-filter s (x ∷ xs) h = go (known (t x)) (rises-filter s xs (h .1))
     where
       go : Known (t x) → Rises s (filter t xs) → Rises s (filter t (x ∷ xs))
-      go (holds e) k = subst (Rises s) (sym (filter-yes x xs e)) (λ b m. h .0 b (filter-from b xs m .0), k)
+      go (holds e) k = subst (Rises s) (sym (filter-yes x xs e)) (λ b m. h .0 b (filter-from t b xs m .0), k)
       go (fails e) k = subst (Rises s) (sym (filter-no x xs e)) k

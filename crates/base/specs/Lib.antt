@@ -17,6 +17,7 @@ pub mod SameLaws
 pub mod Sections
 pub mod Counts
 pub mod SetLaws
+pub mod Quorums
 pub mod Text
 pub mod Prefixes
 pub mod Members

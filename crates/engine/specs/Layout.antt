@@ -1,10 +1,10 @@
 -- Where the state lies in its buffer: fixed-size fields first, then sections whose sizes depend on n and q only (docs/LAYOUT.md).
 -- Assumes nothing.
-use Prim.Native.Nat.{ℕ, _+_, _*_}
+use Prim.Native.Nat.{ℕ, _+_, _*_, _≤_}
 use mathlib.Core.List.{List, [], _∷_}
-use lib.ListN.{take, getD}
+use lib.ListN.{length, take, getD}
 use Rattle.base.specs.Lists.{sum}
-use Rattle.format.specs.Limits.{mostPayload, mostHeld, fewestServers, leastQuota}
+use Rattle.format.specs.Limits.{fewestServers, mostServers, leastQuota, mostQuota, mostPayload, mostHeld}
 
 -- The fixed-size fields.
 abbrev pub headerSize : ℕ
@@ -58,9 +58,19 @@ sectionSize n q k = getD (sections n q) k 0
 unfoldable pub offset : (n q k : ℕ) → ℕ
 offset n q k = sum (take k (sections n q))
 
+-- Servers and quota that do not exceed their limits.
+pub record SizesIn (n q : ℕ) : Type 0 where
+  pub servers : n ≤ mostServers
+  pub quota : q ≤ mostQuota
+
 -- The required length of the state's buffer.
 unfoldable pub stateLength : (n q : ℕ) → ℕ
 stateLength n q = sum (sections n q)
+
+-- Room for a start.
+pub record StartRoom (n q : ℕ) (b : List ℕ) : Type 0 where
+  pub sizes : SizesIn n q
+  pub long : stateLength n q ≤ length b
 
 -- The required length of the outgoing buffer: n × q retransmissions by position and n × q as red, of 65 bytes each at most, and 16 held requests
 -- sent as actions, of 60 bytes each at most. A State or a CPC is shorter, and no event sends two of these sorts.

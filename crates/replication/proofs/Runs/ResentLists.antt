@@ -9,9 +9,9 @@ use lib.ListN.{length, length-append}
 use Rattle.base.specs.Tests.{not-both, Known, holds, fails, known}
 use Rattle.base.specs.AtLaws.{none-some, some-same}
 use Rattle.base.specs.Distinct.{Distinct, rises-distinct}
-use Rattle.base.specs.Filters.{filter-append, filter-one, filter-none, filter-from, rises-filter}
+use Rattle.base.specs.Filters.{filter-append, filter-one, filter-none, rises-filter}
 use Rattle.base.specs.Lists.{filter}
-use Rattle.base.specs.Members.{filter-has}
+use Rattle.base.specs.Members.{filter-has, filter-from}
 use Rattle.base.specs.Rising.{Rises}
 use Rattle.format.specs.Types.{Action, State, Record, action, retransmission, state, cpc, regular, transitional, request, recovery}
 use Rattle.replication.specs.Machine.Types.{Configuration}

@@ -1,26 +1,25 @@
 -- The header's numbers, read where its bytes occur.
 -- Assumes nothing.
 use Prim.Native.Nat.{ℕ, _+_, _*_, _≤_, _<_}
-use mathlib.Core.Path.{_≡_, refl, sym, ap, _∙_}
-use mathlib.Core.Bool.{true, false}
-use mathlib.Core.List.{List, [], _∷_}
+use mathlib.Core.Path.{_≡_, refl, sym, ap}
+use mathlib.Core.List.{List}
 use mathlib.Core.Option.{Option, none, some}
 use native.Mathlib.Nat.{mul-le-mul}
 use native.Mathlib.Omega.{arith}
 use lib.ListN.{length, length-append}
 use Rattle.base.specs.Tests.{_=?_, pick, pick-yes, pick-no, eq-yes, eq-no}
-use Rattle.base.specs.Bytes.{bytesOf, numberAt, joined}
+use Rattle.base.specs.Bytes.{bytesOf, numberAt}
 use Rattle.base.specs.Occurs.{Occurs, occurs-at, joined-parts, number-read}
 use Rattle.format.specs.Limits.{mostServers, mostQuota}
 use Rattle.format.specs.Write.{primaryBytes, markBytes}
 use Rattle.format.specs.Read.{primaryAt, markAt}
-use Rattle.format.proofs.Ranges.{ContextRange}
 use Rattle.format.proofs.IdCount.{ids-count}
 use Rattle.format.proofs.Lengths.{primary-length, mark-length}
 use Rattle.format.proofs.Fields.{primary-read, mark-read}
 use Rattle.replication.specs.Machine.Types.{Mode, Non-prim, Reg-prim, Trans-prim, Exchange-states, Exchange-actions, Construct, No, Un, Configuration, Server, contextOf}
 use Rattle.replication.specs.Machine.WellFormed.{queue}
 use Rattle.engine.specs.Image.{modeNumber, configurationBytes, transitionalBytes, senders, headerBytes}
+use Rattle.engine.specs.Header.{statusOf, idOf, setOf, transitionalOf}
 use Rattle.engine.specs.Decode.{modeNamed, configurationAt, transitionalAt}
 use Rattle.engine.proofs.InRange.{ConfigurationRange, TransitionalRange, InRange}
 use Rattle.engine.proofs.Used.{configuration-length, transitional-length}
@@ -48,31 +47,48 @@ mode-small Construct = omega arith
 mode-small No = omega arith
 mode-small Un = omega arith
 
-configuration-read : (d : Option Configuration) (e : List ℕ) (at : ℕ) → ConfigurationRange d → Occurs (configurationBytes d) e at → configurationAt e at ≡ d
-unfolding configurationBytes configurationAt bytesOf
-configuration-read none e at r o =
+-- A field that may be absent, number by number.
+configuration-numbers : (d : Option Configuration) (e : List ℕ) (at : ℕ) → ConfigurationRange d → Occurs (configurationBytes d) e at
+    → (numberAt 1 e at ≡ statusOf d) × (numberAt 4 e (at + 1) ≡ idOf d) × (numberAt 1 e (at + 5) ≡ setOf d)
+unfolding configurationBytes bytesOf statusOf idOf setOf
+configuration-numbers none e at r o =
+    let parts = joined-parts _ e at o in (
+      number-read 1 at (parts .0) refl (omega arith),
+      number-read 4 (at + 1) (parts .1 .0) refl (omega arith),
+      number-read 1 (at + 5) (parts .1 .1 .0) (omega arith) (omega arith),
+    )
+configuration-numbers (some d) e at r o =
+    let parts = joined-parts _ e at o in (
+      number-read 1 at (parts .0) refl (omega arith),
+      number-read 4 (at + 1) (parts .1 .0) refl (omega (arith, r .0)),
+      number-read 1 (at + 5) (parts .1 .1 .0) (omega arith) (omega (arith, r .1)),
+    )
+
+transitional-numbers : (t : Option ℕ) (e : List ℕ) (at : ℕ) → TransitionalRange t → Occurs (transitionalBytes t) e at
+    → (numberAt 1 e at ≡ statusOf t) × (numberAt 1 e (at + 1) ≡ transitionalOf t)
+unfolding transitionalBytes bytesOf statusOf transitionalOf
+transitional-numbers none e at r o =
     let parts = joined-parts _ e at o in
-    let status : numberAt 1 e at ≡ 0 = number-read 1 at (parts .0) refl (omega arith) in
+    (number-read 1 at (parts .0) refl (omega arith), number-read 1 (at + 1) (parts .1 .0) refl (omega arith))
+transitional-numbers (some t) e at r o =
+    let parts = joined-parts _ e at o in
+    (number-read 1 at (parts .0) refl (omega arith), number-read 1 (at + 1) (parts .1 .0) refl (omega arith))
+
+configuration-read : (d : Option Configuration) (e : List ℕ) (at : ℕ) → numberAt 1 e at ≡ statusOf d → numberAt 4 e (at + 1) ≡ idOf d
+    → numberAt 1 e (at + 5) ≡ setOf d → configurationAt e at ≡ d
+unfolding configurationAt statusOf idOf setOf
+configuration-read none e at status id set =
     let other : numberAt 1 e at ≡ 1 → ⊥ = λ p. omega arith in
     sym (pick-no (numberAt 1 e at =? 1) none _ _ (eq-no _ 1 other) refl)
-configuration-read (some d) e at r o =
-    let parts = joined-parts _ e at o in
-    let status : numberAt 1 e at ≡ 1 = number-read 1 at (parts .0) refl (omega arith) in
-    let id : numberAt 4 e (at + 1) ≡ d .id = number-read 4 (at + 1) (parts .1 .0) refl (omega (arith, r .0)) in
-    let set : numberAt 1 e (at + 5) ≡ d .set = number-read 1 (at + 5) (parts .1 .1 .0) (omega arith) (omega (arith, r .1)) in
+configuration-read (some d) e at status id set =
     sym (pick-yes (numberAt 1 e at =? 1) (some d) _ _ (eq-yes _ 1 status) (λ i. some (record { id = sym id i; set = sym set i })))
 
-transitional-read : (t : Option ℕ) (e : List ℕ) (at : ℕ) → TransitionalRange t → Occurs (transitionalBytes t) e at → transitionalAt e at ≡ t
-unfolding transitionalBytes transitionalAt bytesOf
-transitional-read none e at r o =
-    let parts = joined-parts _ e at o in
-    let status : numberAt 1 e at ≡ 0 = number-read 1 at (parts .0) refl (omega arith) in
+transitional-read : (t : Option ℕ) (e : List ℕ) (at : ℕ) → numberAt 1 e at ≡ statusOf t → numberAt 1 e (at + 1) ≡ transitionalOf t → transitionalAt e at ≡ t
+unfolding transitionalAt statusOf transitionalOf
+transitional-read none e at status set =
     let other : numberAt 1 e at ≡ 1 → ⊥ = λ p. omega arith in
     sym (pick-no (numberAt 1 e at =? 1) none _ _ (eq-no _ 1 other) refl)
-transitional-read (some t) e at r o =
-    let parts = joined-parts _ e at o in
-    let status : numberAt 1 e at ≡ 1 = number-read 1 at (parts .0) refl (omega arith) in
-    let set : numberAt 1 e (at + 1) ≡ t = number-read 1 (at + 1) (parts .1 .0) refl (omega arith) in
+transitional-read (some t) e at status set =
     sym (pick-yes (numberAt 1 e at =? 1) (some t) _ _ (eq-yes _ 1 status) (ap some (sym set)))
 
 -- What the header of e says is what s has.
@@ -81,7 +97,12 @@ pub record HeaderRead (s : Server) (e : List ℕ) : Type 0 where
   pub quota : numberAt 2 e 1 ≡ s .quota
   pub me : numberAt 1 e 3 ≡ s .me
   pub mode : numberAt 1 e 4 ≡ modeNumber (s .membership .mode)
+  pub configurationStatus : numberAt 1 e 5 ≡ statusOf (s .membership .configuration)
+  pub configurationId : numberAt 4 e 6 ≡ idOf (s .membership .configuration)
+  pub configurationSet : numberAt 1 e 10 ≡ setOf (s .membership .configuration)
   pub configuration : configurationAt e 5 ≡ s .membership .configuration
+  pub transitionalStatus : numberAt 1 e 11 ≡ statusOf (s .membership .transitional)
+  pub transitionalSet : numberAt 1 e 12 ≡ transitionalOf (s .membership .transitional)
   pub transitional : transitionalAt e 11 ≡ s .membership .transitional
   pub states : numberAt 1 e 13 ≡ senders 0 (s .membership .states)
   pub cpcs : numberAt 1 e 14 ≡ s .membership .cpcs
@@ -127,13 +148,20 @@ header-read s e r o =
     let f₁₆ = f₁₅ .1 in
     let f₁₇ = f₁₆ .1 in
     let f₁₈ = f₁₇ .1 in
+    let d = configuration-numbers (s .membership .configuration) e 5 (r .configuration) (occurs-at (f₄ .0) refl) in
+    let u = transitional-numbers (s .membership .transitional) e 11 (r .transitional) (occurs-at (f₅ .0) (omega arith)) in
     record {
       servers = number-read 1 0 (f₀ .0) (refl) (omega arith);
       quota = number-read 2 1 (f₁ .0) (refl) (omega arith);
       me = number-read 1 3 (f₂ .0) (refl) (omega arith);
       mode = number-read 1 4 (f₃ .0) (refl) (mode-small (s .membership .mode));
-      configuration = configuration-read (s .membership .configuration) e 5 (r .configuration) (occurs-at (f₄ .0) (refl));
-      transitional = transitional-read (s .membership .transitional) e 11 (r .transitional) (occurs-at (f₅ .0) (omega arith));
+      configurationStatus = d .0;
+      configurationId = d .1;
+      configurationSet = d .2;
+      configuration = configuration-read (s .membership .configuration) e 5 (d .0) (d .1) (d .2);
+      transitionalStatus = u .0;
+      transitionalSet = u .1;
+      transitional = transitional-read (s .membership .transitional) e 11 (u .0) (u .1);
       states = number-read 1 13 (f₆ .0) (omega arith) (senders-below mostServers 0 (s .membership .states) (omega (arith, r .statesCount)));
       cpcs = number-read 1 14 (f₇ .0) (omega arith) (r .cpcs);
       come = number-read 4 15 (f₈ .0) (omega arith) (omega (arith, r .come));

@@ -1,0 +1,28 @@
+use Rattle.engine.specs.Outcome.{lengthsOf}
+use Rattle.base.specs.Branches.{pick-answered, pick-denied}
+use Rattle.engine.proofs.SizeLaws.{sizes-answered, lengths-made}
+use borrow.Author.Needs.{needs}
+use Rattle.engine.proofs.guzbytor_lengths.Statement.{statement}
+use Rattle.engine.proofs.guzbytor_lengths.Tie as tie
+
+sizes-in-requires : tie.Need-sizes-in-requires
+sizes-in-requires c κs = search needs
+
+returns : tie.Need-returns
+unfolding lengthsOf
+returns c = search (needs, pick-denied)
+
+state-length-requires : tie.Need-state-length-requires
+state-length-requires c κs = search (needs, sizes-answered)
+
+out-length-requires : tie.Need-out-length-requires
+out-length-requires c κs = search (needs, sizes-answered)
+
+returns-2 : tie.Need-returns-2
+unfolding lengthsOf
+returns-2 c = search (needs, pick-answered, lengths-made)
+
+pub guzbytor-lengths-spec : {M : Type 1} → statement M
+guzbytor-lengths-spec =
+    tie.close
+    (tie.spec sizes-in-requires returns state-length-requires out-length-requires returns-2)
