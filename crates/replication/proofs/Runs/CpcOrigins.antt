@@ -23,7 +23,7 @@ use Rattle.replication.proofs.Runs.Sending.{Puts}
 use Rattle.replication.proofs.Runs.PutRecords.{alone-first}
 use Rattle.replication.proofs.Runs.Memberships as M
 use Rattle.replication.proofs.Runs.Memberships.{Completes, MembershipStep}
-use Rattle.replication.proofs.Runs.StateOrigins.{puts-among, puts-by, puts-configuration, Came, came-later, came-now}
+use Rattle.replication.proofs.Runs.StateOrigins.{puts-among, puts-by, puts-configuration, Came, came-later, came-now, came-from}
 use Rattle.replication.proofs.Runs.Stays.{membershipAt, in-stay, StayStep, rested, refused, took, stay-step, entering-membership}
 
 pub data CpcsChange (m : Membership) (r : Record) (o : Membership) : Type 0 where
@@ -102,4 +102,18 @@ module _ {n q : ℕ} {l : Run} (A : Allowed n q l) where
         record { act = u .act; ended = h .ended; constructs = ap (λ s. s .membership .mode) (u .act .memory-next) ∙ h .to },
         h .configuration ∙ ap theId (puts-configuration A u),
         alone-first (u .act .by .records) _ j _ (h .alone) (u .record-there),
+      )
+
+  -- Every CPC that a server has collected was put out by its sender, a member, at the end of its exchange in that configuration.
+  pub cpcs-attempted : (i : ℕ) (c : Configuration) (p : ℕ) → placeAt n q l i p .regular ≡ some c → (j : ℕ) → inSet j (membershipAt n q l p i .cpcs) ≡ true
+      → (v : ℕ) × Attempted v j c × (v < p) × (inSet j (c .set) ≡ true)
+  unfolding senderOf
+  cpcs-attempted i c p a j e =
+      let h = cpcs-came i c p a j e in
+      let o = came-from A (h .1) in
+      let z : o .sender ≡ j = some-same (sym (o .named)) in (
+        o .sending,
+        subst (λ k. Attempted (o .sending) k c) z (cpc-attempted (o .puts) .0),
+        o .earlier,
+        subst (λ k. inSet k (c .set) ≡ true) z (o .member),
       )

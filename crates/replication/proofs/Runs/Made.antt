@@ -222,3 +222,30 @@ module _ {n q : ℕ} {l : Run} (A : Allowed n q l) where
   -- Every action in a record that is delivered was made.
   pub delivered-made : {p i : ℕ} {m : Message} (d : Delivery A p i m) → Each (Made p) (carried (d .what))
   delivered-made {p} {i} {m} d = delivery-made p i (λ x h. all-made x) m d
+
+  -- ---- an id fixes the action
+
+  pub data InLog (a : Action) (m : Log) : Type 0 where
+    green : List·Memᴰ a (m .green) → InLog a m
+    red : List·Memᴰ a (m .red) → InLog a m
+    own : List·Memᴰ a (m .own) → InLog a m
+
+  -- The action a is somewhere at p: held or on an own list, in a memory or a store; or in a record put out before.
+  pub data Known (p : ℕ) (a : Action) : Type 0 where
+    in-memory : (i : ℕ) → InLog a (memoryAt n q l p i .log) → Known p a
+    in-store : (i : ℕ) → InLog a (storeAt n q l p i .log) → Known p a
+    put-out : (v k j : ℕ) (c : Configuration) (r : Record) → Puts A v k j c r → v < p → List·Memᴰ a (carried r) → Known p a
+
+  in-log-made : {p : ℕ} {a : Action} {m : Log} → EachIn (Made p) m → InLog a m → Made p a
+  in-log-made {p} {a} {m} h (green x) = each-in (Made p) (m .green) (h .green) a x
+  in-log-made {p} {a} {m} h (red x) = each-in (Made p) (m .red) (h .red) a x
+  in-log-made {p} {a} {m} h (own x) = each-in (Made p) (m .own) (h .own) a x
+
+  pub known-made : {p : ℕ} {a : Action} → Known p a → Made p a
+  known-made {p} (in-memory i x) = in-log-made (all-made p i .memory) x
+  known-made {p} (in-store i x) = in-log-made (all-made p i .store) x
+  known-made {p} {a} (put-out v k j c r x h m) = made-later h (each-in (Made (suc v)) (carried r) (sent-made x) a m)
+
+  -- Everywhere in the run, at any two places.
+  pub id-fixes-action : {p r : ℕ} {a b : Action} → Known p a → Known r b → a .id ≡ b .id → a ≡ b
+  id-fixes-action x y e = made-one (known-made x) (known-made y) e

@@ -20,7 +20,7 @@ use Rattle.replication.proofs.Runs.Memberships as M
 use Rattle.replication.proofs.Runs.Memberships.{cpcAdded, leftTo, Completes, MembershipStep}
 use Rattle.replication.proofs.Runs.Stays.{membershipAt, in-stay, StayStep, rested, refused, took, stay-step, entering-membership}
 use Rattle.replication.proofs.Runs.StateOrigins.{Came}
-use Rattle.replication.proofs.Runs.Complete.{NotRefused, nothing-came, came-or-taken, came-rested, came-refused}
+use Rattle.replication.proofs.Runs.Exchange.StatesComplete.{NotRefused, nothing-came, came-or-taken, came-rested, came-refused}
 
 -- In each state: none of the CPCs C has come, or all of them are in.
 abbrev pub CpcsIn : Mode → Membership → (ℕ → Type 0) → Type 0

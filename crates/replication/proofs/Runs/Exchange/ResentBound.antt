@@ -28,11 +28,11 @@ use Rattle.replication.proofs.Runs.Origins.{Origin, origin, delivery-sa
 use Rattle.replication.proofs.Runs.Memberships.{everyStateIn, statesIn, plannedIn}
 use Rattle.replication.proofs.Runs.Stays.{membershipAt}
 use Rattle.replication.proofs.Runs.StateOrigins.{puts-among, puts-by}
-use Rattle.replication.proofs.Runs.Phases.{puts-after, part-once}
-use Rattle.replication.proofs.Runs.SameStates.{states-same}
-use Rattle.replication.proofs.Runs.ResentLists.{Retransmitted, resentPlaces, resent-listed, resent-distinct}
-use Rattle.replication.proofs.Runs.PlanSlots as Plan
-use Rattle.replication.proofs.Runs.PlanSlots.{Slot, greenAt, redOf, slotOf, slots, slots-length, PlanEntry, plan-entry, entry-slot, part-distinct}
+use Rattle.replication.proofs.Runs.Exchange.Phases.{puts-after, part-once}
+use Rattle.replication.proofs.Runs.Exchange.SameStates.{states-same}
+use Rattle.replication.proofs.Runs.Exchange.ResentLists.{Retransmitted, resentPlaces, resent-listed, resent-distinct}
+use Rattle.replication.proofs.Runs.Exchange.PlanSlots as Plan
+use Rattle.replication.proofs.Runs.Exchange.PlanSlots.{Slot, greenAt, redOf, slotOf, slots, slots-length, PlanEntry, plan-entry, entry-slot, part-distinct}
 
 is-me : (a b : ℕ) (o : Option ℕ) → isMe a o ≡ true → isMe b o ≡ true → a ≡ b
 unfolding isMe

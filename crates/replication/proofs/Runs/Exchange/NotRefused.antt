@@ -36,14 +36,14 @@ use Rattle.replication.proofs.Runs.CpcOrigins.{cpc-attempted, cpcs-came
 use Rattle.replication.proofs.Runs.LogActions.{carried}
 use Rattle.replication.proofs.Runs.Made.{Made, delivered-made}
 use Rattle.replication.proofs.Runs.Progress.{Ended, Progress, ProgressIn, progress-in}
-use Rattle.replication.proofs.Runs.Phases.{puts-after, part-resends}
-use Rattle.replication.proofs.Runs.SameStates.{member-in}
-use Rattle.replication.proofs.Runs.RefusedDeliveries.{refused-answer, own-numbered}
-use Rattle.replication.proofs.Runs.Complete.{NotRefused}
-use Rattle.replication.proofs.Runs.CpcsComplete.{CpcsIn, CpcOf, cpcs-complete}
-use Rattle.replication.proofs.Runs.ResentLists.{resentPlaces}
-use Rattle.replication.proofs.Runs.ComeComplete.{ComeIn, come-complete}
-use Rattle.replication.proofs.Runs.SenderAhead as Ahead
+use Rattle.replication.proofs.Runs.Exchange.Phases.{puts-after, part-resends}
+use Rattle.replication.proofs.Runs.Exchange.SameStates.{member-in}
+use Rattle.replication.proofs.Runs.Exchange.RefusedDeliveries.{refused-answer, own-numbered}
+use Rattle.replication.proofs.Runs.Exchange.StatesComplete.{NotRefused}
+use Rattle.replication.proofs.Runs.Exchange.CpcsComplete.{CpcsIn, CpcOf, cpcs-complete}
+use Rattle.replication.proofs.Runs.Exchange.ResentLists.{resentPlaces}
+use Rattle.replication.proofs.Runs.Exchange.ComeComplete.{ComeIn, come-complete}
+use Rattle.replication.proofs.Runs.Exchange.SenderAhead as Ahead
 
 module _ {n q : ℕ} {l : Run} (A : Allowed n q l) where
   module _ (p : ℕ) (nr : (x : ℕ) → x < p → NotRefused A x) {i : ℕ} {m : Message} (d : Delivery A p i m) (o : Origin A p i m (d .what)) (y : Refuses n q l p i) where

@@ -28,7 +28,7 @@ use Rattle.replication.proofs.Runs.Memberships.{setIn, everyStateIn, pl
 use Rattle.replication.proofs.Runs.Stays.{membershipAt, stay-configuration}
 use Rattle.replication.proofs.Runs.StateOrigins.{Came, Sender, came-from, states-came}
 use Rattle.replication.proofs.Runs.Progress.{stay-member}
-use Rattle.replication.proofs.Runs.Phases.{state-once}
+use Rattle.replication.proofs.Runs.Exchange.Phases.{state-once}
 
 module _ {n q : ℕ} {l : Run} (A : Allowed n q l) (c : Configuration) where
   -- One server's State is one in c.

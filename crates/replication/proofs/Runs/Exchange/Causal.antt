@@ -20,7 +20,7 @@ use Rattle.replication.proofs.Runs.Deliveries.{Delivery, delivered-wher
 use Rattle.replication.proofs.Runs.Order.{delivered-once}
 use Rattle.replication.proofs.Runs.Origins.{Origin, origin, delivery-says}
 use Rattle.replication.proofs.Runs.StateOrigins.{Came}
-use Rattle.replication.proofs.Runs.ResentLists.{Retransmitted, resentPlaces, resent-listed, in-resent, resent-distinct}
+use Rattle.replication.proofs.Runs.Exchange.ResentLists.{Retransmitted, resentPlaces, resent-listed, in-resent, resent-distinct}
 
 module _ {n q : ℕ} {l : Run} (A : Allowed n q l) where
   -- A delivery at u precedes the sending of a record at u or later, by the same server.

@@ -22,8 +22,8 @@ use Rattle.replication.proofs.Runs.Memberships as M
 use Rattle.replication.proofs.Runs.Memberships.{plannedIn, cpcAdded, leftTo, Completes, MembershipStep}
 use Rattle.replication.proofs.Runs.Stays.{membershipAt, in-stay, StayStep, rested, refused, took, stay-step, entering-membership}
 use Rattle.replication.proofs.Runs.StateOrigins.{Came}
-use Rattle.replication.proofs.Runs.Complete.{NotRefused, nothing-came}
-use Rattle.replication.proofs.Runs.ResentLists.{Retransmitted, resentPlaces, resent-more, resent-same, resent-listed, resent-nothing}
+use Rattle.replication.proofs.Runs.Exchange.StatesComplete.{NotRefused, nothing-came}
+use Rattle.replication.proofs.Runs.Exchange.ResentLists.{Retransmitted, resentPlaces, resent-more, resent-same, resent-listed, resent-nothing}
 
 -- In each state, where k retransmissions have come: none, as many as counted, or as many as planned.
 abbrev pub ComeIn : Mode → ℕ → Membership → ℕ → Type 0

@@ -28,7 +28,7 @@ use Rattle.replication.proofs.Runs.Memberships as M
 use Rattle.replication.proofs.Runs.Memberships.{Completes, MembershipStep}
 use Rattle.replication.proofs.Runs.Stays.{membershipAt, in-stay, StayStep, rested, refused, took, stay-step, entering-membership}
 use Rattle.replication.proofs.Runs.StateOrigins.{Came, came-later, came-now, came-from}
-use Rattle.replication.proofs.Runs.SameStates.{one-came, states-long}
+use Rattle.replication.proofs.Runs.Exchange.SameStates.{one-came, states-long}
 
 -- ---- what has come at the next place
 

@@ -31,14 +31,14 @@ use Rattle.replication.proofs.Runs.Stays.{membershipAt, stay-configurat
 use Rattle.replication.proofs.Runs.StateOrigins.{Came, came-from, came-message, states-came}
 use Rattle.replication.proofs.Runs.CpcOrigins.{cpcs-came}
 use Rattle.replication.proofs.Runs.Progress.{Ended, Progress, progress, progress-in, stay-member}
-use Rattle.replication.proofs.Runs.Phases.{puts-after, state-once, cpc-once}
-use Rattle.replication.proofs.Runs.SameStates.{member-in, states-long, planned-same, quorum-same}
-use Rattle.replication.proofs.Runs.Complete.{NotRefused, states-complete}
-use Rattle.replication.proofs.Runs.CpcsComplete.{CpcsIn, CpcOf, cpcs-complete}
-use Rattle.replication.proofs.Runs.ResentLists.{Retransmitted, resentPlaces, resent-more}
-use Rattle.replication.proofs.Runs.ComeComplete.{ComeIn, come-complete}
-use Rattle.replication.proofs.Runs.Causal.{came-likewise, resent-likewise}
-use Rattle.replication.proofs.Runs.ResentBound.{resent-bound}
+use Rattle.replication.proofs.Runs.Exchange.Phases.{puts-after, state-once, cpc-once}
+use Rattle.replication.proofs.Runs.Exchange.SameStates.{member-in, states-long, planned-same, quorum-same}
+use Rattle.replication.proofs.Runs.Exchange.StatesComplete.{NotRefused, states-complete}
+use Rattle.replication.proofs.Runs.Exchange.CpcsComplete.{CpcsIn, CpcOf, cpcs-complete}
+use Rattle.replication.proofs.Runs.Exchange.ResentLists.{Retransmitted, resentPlaces, resent-more}
+use Rattle.replication.proofs.Runs.Exchange.ComeComplete.{ComeIn, come-complete}
+use Rattle.replication.proofs.Runs.Exchange.Causal.{came-likewise, resent-likewise}
+use Rattle.replication.proofs.Runs.Exchange.ResentBound.{resent-bound}
 
 is-some : {A : Type 0} {x : Option A} {a : A} → x ≡ some a → isThere x ≡ true
 unfolding isThere

@@ -18,14 +18,14 @@ use Rattle.replication.proofs.Runs.Sending.{comes-taken}
 use Rattle.replication.proofs.Runs.Memberships.{everyStateIn, plannedIn}
 use Rattle.replication.proofs.Runs.Stays.{membershipAt}
 use Rattle.replication.proofs.Runs.StateOrigins.{Came}
-use Rattle.replication.proofs.Runs.Complete as States
-use Rattle.replication.proofs.Runs.CpcsComplete as Cpcs
-use Rattle.replication.proofs.Runs.CpcsComplete.{CpcsIn}
-use Rattle.replication.proofs.Runs.ComeComplete as Come
-use Rattle.replication.proofs.Runs.ComeComplete.{ComeIn}
-use Rattle.replication.proofs.Runs.ResentLists.{resentPlaces}
-use Rattle.replication.proofs.Runs.ResentBound.{resent-bound}
-use Rattle.replication.proofs.Runs.NotRefused.{never-refused}
+use Rattle.replication.proofs.Runs.Exchange.StatesComplete as States
+use Rattle.replication.proofs.Runs.Exchange.CpcsComplete as Cpcs
+use Rattle.replication.proofs.Runs.Exchange.CpcsComplete.{CpcsIn}
+use Rattle.replication.proofs.Runs.Exchange.ComeComplete as Come
+use Rattle.replication.proofs.Runs.Exchange.ComeComplete.{ComeIn}
+use Rattle.replication.proofs.Runs.Exchange.ResentLists.{resentPlaces}
+use Rattle.replication.proofs.Runs.Exchange.ResentBound.{resent-bound}
+use Rattle.replication.proofs.Runs.Exchange.NotRefused.{never-refused}
 
 -- A message is no recovery.
 message-running : (r : Record) → isMessage r ≡ true → isRecovery (says r) ≡ false
