@@ -1,9 +1,9 @@
 -- Filtered lists: how they grow, and that they rise as the whole does.
 -- Assumes nothing.
-use Prim.Native.Nat.{ℕ, _<_}
+use Prim.Native.Nat.{ℕ}
 use mathlib.Core.Path.{_≡_, refl, sym, ap, subst, _∙_}
 use mathlib.Core.Bool.{Bool, true, false}
-use mathlib.Core.List.{List, [], _∷_, _++_, List·Memᴰ}
+use mathlib.Core.List.{List, [], _∷_, _++_}
 use Rattle.base.specs.Tests.{pick, Known, holds, fails, known}
 use Rattle.base.specs.Lists.{filter}
 use Rattle.base.specs.Members.{filter-from}

@@ -1,21 +1,20 @@
 -- Every CPC that a server has collected came to it in its configuration, and was put out there by its sender at the end of its exchange.
-use Prim.Native.Nat.{ℕ, zero, suc, _≤_, _<_}
+use Prim.Native.Nat.{ℕ, suc, _<_}
 use mathlib.Core.Path.{_≡_, refl, sym, ap, subst, _∙_}
-use mathlib.Core.Bool.{Bool, true, false}
-use mathlib.Core.List.{List, [], _∷_}
-use mathlib.Core.Option.{Option, none, some}
+use mathlib.Core.Bool.{true, false}
+use mathlib.Core.Option.{some}
 use native.Mathlib.Omega.{arith}
 use Rattle.base.specs.Tests.{_or_, _=?_, not-both, eq-holds, Known, holds, fails, known}
 use Rattle.base.specs.AtLaws.{some-same}
 use Rattle.base.specs.Sets.{inSet, withMember}
 use Rattle.base.specs.SetLaws.{in-empty, in-with-member}
-use Rattle.format.specs.Types.{Record, action, retransmission, state, cpc, regular}
-use Rattle.replication.specs.Machine.Types.{Construct, Configuration, Membership, Server}
+use Rattle.format.specs.Types.{Record, cpc, regular}
+use Rattle.replication.specs.Machine.Types.{Construct, Configuration, Membership}
 use Rattle.replication.specs.Machine.Step.{theId, hereId}
 use Rattle.replication.specs.Machine.WellFormedSent.{senderOf}
 use Rattle.replication.specs.Laws.Votes.{EndsExchange}
 use Rattle.replication.specs.Runs.Run.{Run, placeAt}
-use Rattle.replication.specs.Runs.Happenings.{isMessage, Comes, Falls, Takes}
+use Rattle.replication.specs.Runs.Happenings.{isMessage, Comes}
 use Rattle.replication.specs.Runs.Allowed.{Allowed}
 use Rattle.replication.proofs.Step.Kinds.{cpc-sent}
 use Rattle.replication.proofs.Runs.AllowedTurns.{memoryAt, Acts}

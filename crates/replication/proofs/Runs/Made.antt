@@ -1,31 +1,25 @@
 -- Every action held, on an own list, sent or resent was made once, by its creator's numbering: an id fixes the action everywhere in a run.
 use Prim.Native.Nat.{ℕ, zero, suc, _+_, _-_, _≤_, _<_}
 use mathlib.Core.Path.{_≡_, refl, sym, ap, subst, _∙_}
-use mathlib.Core.Bool.{Bool, true, false}
 use mathlib.Core.List.{List, [], _∷_, _++_, map, List·Memᴰ, List·Memᴰ·head, List·Memᴰ·tail, List·Memᴰ·not-nil}
-use mathlib.Core.Logic.{_⊎_, inl, inr}
-use mathlib.Core.Option.{Option, none, some}
+use mathlib.Core.Option.{some}
 use native.Mathlib.Omega.{arith}
 use native.Mathlib.Decide.{decLt}
-use lib.ListN.{length}
-use Rattle.base.specs.Tests.{pick, pick-either}
-use Rattle.base.specs.Lists.{at, above, after}
+use Rattle.base.specs.Tests.{pick-either}
+use Rattle.base.specs.Lists.{above, after}
 use Rattle.base.specs.AtLaws.{at-among}
 use Rattle.base.specs.Chains.{strong}
 use Rattle.base.specs.ListLaws.{Each, each-append, each-implied}
 use Rattle.format.specs.Types.{Id, Action, State, Record, action, retransmission, state, cpc, regular, transitional, request, recovery}
-use Rattle.replication.specs.Machine.Types.{Configuration, Log, Server, start}
+use Rattle.replication.specs.Machine.Types.{Configuration, Log, start}
 use Rattle.replication.specs.Machine.Colours.{find}
-use Rattle.replication.specs.Machine.Requests.{recovered}
-use Rattle.replication.specs.Machine.Step.{collected}
 use Rattle.replication.specs.Machine.WellFormed.{idsIn}
-use Rattle.replication.specs.Machine.WellFormedSent.{senderOf}
-use Rattle.replication.specs.Images.{Images, started}
+use Rattle.replication.specs.Images.{started}
 use Rattle.replication.specs.Laws.Images.{OfBoth}
 use Rattle.replication.specs.Laws.Sending as P
-use Rattle.replication.specs.Laws.Sending.{PutsOut, Own, Resent}
-use Rattle.replication.specs.Runs.Run.{Run, beginning, worldAt, placeAt}
-use Rattle.replication.specs.Runs.Happenings.{Message, isMessage, Comes, Delivers}
+use Rattle.replication.specs.Laws.Sending.{Own, Resent}
+use Rattle.replication.specs.Runs.Run.{Run, beginning, worldAt}
+use Rattle.replication.specs.Runs.Happenings.{Message, isMessage, Comes}
 use Rattle.replication.specs.Runs.Allowed.{Allowed}
 use Rattle.replication.proofs.Step.Kinds.{part-sent}
 use Rattle.replication.proofs.Step.OwnActions.{own-sent}
@@ -34,12 +28,12 @@ use Rattle.replication.proofs.WellFormed.Held.{found-fact}
 use Rattle.replication.proofs.Runs.Places.{world-at-start, of-event}
 use Rattle.replication.proofs.Runs.Numbers.{numbers, invariant-at}
 use Rattle.replication.proofs.Runs.Deliveries.{Delivery}
-use Rattle.replication.proofs.Runs.AllowedTurns.{memoryAt, storeAt, Acts, Recovers, Refuses, AllowedTurn, rests, crashes, refuses, recovers, acts, allowed-turn}
+use Rattle.replication.proofs.Runs.AllowedTurns.{memoryAt, storeAt, Acts, AllowedTurn, rests, crashes, refuses, recovers, acts, allowed-turn}
 use Rattle.replication.proofs.Runs.ControlPart.{numbered-between}
 use Rattle.replication.proofs.Runs.Sending.{Puts}
-use Rattle.replication.proofs.Runs.Origins.{Origin, origin}
+use Rattle.replication.proofs.Runs.Origins.{origin}
 use Rattle.replication.proofs.Runs.StateOrigins.{puts-among, puts-by}
-use Rattle.replication.proofs.Runs.LogActions.{EachIn, carried, each-of, each-in, each-after, each-recovered, each-in-implied}
+use Rattle.replication.proofs.Runs.LogActions.{EachIn, carried, each-in, each-after, each-recovered, each-in-implied}
 
 -- In a list whose ids run on from k, an id is of one action.
 ids-above : (me k m : ℕ) (xs : List Action) → idsIn xs ≡ map (λ i. record { creator = me; index = i }) (after k m) → (a : Action) → List·Memᴰ a xs → k < a .id .index

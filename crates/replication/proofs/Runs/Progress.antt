@@ -1,12 +1,11 @@
 -- How far a server is in its configuration, by its state: which States and CPCs are in, and whether as many retransmissions have come as are planned.
-use Prim.Native.Nat.{ℕ, zero, suc, _+_, _≤_, _<_}
+use Prim.Native.Nat.{ℕ, suc, _+_, _≤_, _<_}
 use mathlib.Core.Path.{_≡_, refl, sym, ap, subst, _∙_}
-use mathlib.Core.Bool.{Bool, true, false}
-use mathlib.Core.List.{List, [], _∷_}
+use mathlib.Core.Bool.{true, false}
 use mathlib.Core.Option.{Option, none, some}
 use native.Mathlib.Omega.{arith}
-use lib.ListN.{length, getD, length-replicate}
-use Rattle.base.specs.Tests.{_=?_, _≤?_, not-both, eq-holds, eq-fails, le-holds, le-fails, Known, holds, fails, known}
+use lib.ListN.{length-replicate}
+use Rattle.base.specs.Tests.{not-both, eq-holds, eq-fails, le-holds, le-fails, Known, holds, fails, known}
 use Rattle.base.specs.AtLaws.{none-some}
 use Rattle.base.specs.Lists.{isThere}
 use Rattle.base.specs.Sets.{inSet, inside}
@@ -18,7 +17,6 @@ use Rattle.replication.specs.Laws.Modes.{InRegular}
 use Rattle.replication.specs.Laws.Transitions as L
 use Rattle.replication.specs.Laws.Transitions.{Leads}
 use Rattle.replication.specs.Runs.Run.{Run, placeAt}
-use Rattle.replication.specs.Runs.Happenings.{Falls, Takes}
 use Rattle.replication.specs.Runs.Allowed.{Allowed}
 use Rattle.replication.proofs.WellFormed.Modes.{from-facts}
 use Rattle.replication.proofs.Runs.Order.{taker-member}

@@ -1,14 +1,13 @@
 -- What an event's bytes say, at the run's place and at the machine.
 use Prim.Native.Nat.{ℕ}
 use mathlib.Core.Path.{_≡_, refl, sym, ap, subst, _∙_}
-use mathlib.Core.Bool.{Bool, true, false}
-use mathlib.Core.List.{List, [], _∷_}
-use mathlib.Core.Option.{Option, none, some}
-use Rattle.base.specs.Tests.{_and_, not-both, and-holds, both-yes}
+use mathlib.Core.Bool.{true}
+use mathlib.Core.List.{List}
+use Rattle.base.specs.Tests.{not-both, and-holds, both-yes}
 use Rattle.format.specs.Types.{Record, action, retransmission, state, cpc, regular, transitional, request, recovery, Context, Reading, says, refused}
 use Rattle.format.specs.Range.{contextOk, fieldsOk, recordOk}
 use Rattle.format.specs.Read.{frameOk, recordIn, read}
-use Rattle.format.proofs.Reading.{Read, read-says, says-read}
+use Rattle.format.proofs.Reading.{read-says, says-read}
 use Rattle.replication.specs.Machine.Types.{Server, Outcome, taken, contextOf}
 use Rattle.replication.specs.Machine.Step.{answer, onReading, inBytes, step}
 use Rattle.replication.specs.Images.{isRecovery}

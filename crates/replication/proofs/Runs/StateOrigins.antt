@@ -1,32 +1,31 @@
 -- Every State that a server has collected was put out by its sender on entering the configuration, and says what that server then had.
 use Prim.Native.Nat.{ℕ, zero, suc, _≤_, _<_}
 use mathlib.Core.Path.{_≡_, refl, sym, ap, subst, _∙_}
-use mathlib.Core.Bool.{Bool, true, false}
-use mathlib.Core.List.{List, [], _∷_, map, List·Memᴰ}
+use mathlib.Core.Bool.{true}
+use mathlib.Core.List.{List, List·Memᴰ}
 use mathlib.Core.Logic.{_⊎_, inl, inr}
 use mathlib.Core.Option.{Option, none, some}
 use native.Mathlib.Omega.{arith}
 use native.Mathlib.Decide.{decLt, ℕ-discrete}
 use lib.ListN.{length, getD, set}
 use lib.Seq.{getD-set-same, getD-set-other, set-out}
-use Rattle.base.specs.Tests.{not-both}
 use Rattle.base.specs.Lists.{at}
 use Rattle.base.specs.AtLaws.{none-some, some-same, at-among}
 use Rattle.base.specs.Sets.{inSet}
-use Rattle.format.specs.Types.{Action, State, Record, action, retransmission, state, cpc, regular}
-use Rattle.replication.specs.Machine.Types.{Configuration, Membership, Server, noStates}
+use Rattle.format.specs.Types.{State, Record, state, regular}
+use Rattle.replication.specs.Machine.Types.{Configuration, Membership, noStates}
 use Rattle.replication.specs.Machine.Step.{ownState}
 use Rattle.replication.specs.Machine.WellFormedSent.{senderOf}
 use Rattle.replication.specs.Laws.Sending.{PutsOut}
 use Rattle.replication.specs.Runs.Run.{Run, placeAt}
-use Rattle.replication.specs.Runs.Happenings.{Message, isMessage, Comes, Falls, Takes, Delivers}
+use Rattle.replication.specs.Runs.Happenings.{isMessage, Comes, Takes}
 use Rattle.replication.specs.Runs.Allowed.{Allowed}
 use Rattle.replication.proofs.Step.Kinds.{state-sent}
 use Rattle.replication.proofs.Step.Sending.{puts-out}
 use Rattle.replication.proofs.Runs.Deliveries.{Delivery}
-use Rattle.replication.proofs.Runs.AllowedTurns.{memoryAt, Acts}
+use Rattle.replication.proofs.Runs.AllowedTurns.{memoryAt}
 use Rattle.replication.proofs.Runs.Sending.{Puts}
-use Rattle.replication.proofs.Runs.Origins.{Origin, origin}
+use Rattle.replication.proofs.Runs.Origins.{origin}
 use Rattle.replication.proofs.Runs.Coupling.{coupled}
 use Rattle.replication.proofs.Runs.PutRecords.{alone-first}
 use Rattle.replication.proofs.Runs.Memberships as M

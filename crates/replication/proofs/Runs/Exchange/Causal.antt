@@ -1,9 +1,8 @@
 -- Whoever delivers a record has delivered before it, in the same configuration, all that its sender had delivered there when it sent it.
-use Prim.Native.Nat.{ℕ, zero, suc, _+_, _≤_, _<_}
-use mathlib.Core.Path.{_≡_, refl, sym, ap, subst, _∙_}
-use mathlib.Core.Bool.{Bool, true, false}
-use mathlib.Core.List.{List, [], _∷_, map, List·Memᴰ, Memᴰ·map, Memᴰ·of-map}
-use mathlib.Core.Option.{Option, none, some}
+use Prim.Native.Nat.{ℕ, suc, _≤_, _<_}
+use mathlib.Core.Path.{_≡_, sym, ap, subst, _∙_}
+use mathlib.Core.List.{List, map, List·Memᴰ, Memᴰ·map, Memᴰ·of-map}
+use mathlib.Core.Option.{some}
 use native.Mathlib.Omega.{arith}
 use native.Mathlib.Decide.{decLt}
 use lib.ListN.{length, length-map}
@@ -12,7 +11,7 @@ use Rattle.base.specs.Distinct.{Distinct, included-length, distinct-map}
 use Rattle.format.specs.Types.{Record}
 use Rattle.replication.specs.Machine.Types.{Configuration}
 use Rattle.replication.specs.Runs.Run.{Run, placeAt}
-use Rattle.replication.specs.Runs.Happenings.{Message, Happening, entry-at, sending-of, Of, Comes, Sends, Delivers, Causes, in-turn, sends, carries, through}
+use Rattle.replication.specs.Runs.Happenings.{Message, sending-of, Sends, Causes, in-turn, sends, carries, through}
 use Rattle.replication.specs.Runs.Allowed.{Allowed}
 use Rattle.replication.specs.Runs.DeliveryFacts.{recordOf}
 use Rattle.replication.proofs.Runs.Shifts.{comes-of}

@@ -1,27 +1,24 @@
 -- Where no delivery was refused so far, a server's count of retransmissions is the number that it has delivered in its configuration.
-use Prim.Native.Nat.{ℕ, zero, suc, _+_, _≤_, _<_}
+use Prim.Native.Nat.{ℕ, suc, _+_, _≤_, _<_}
 use mathlib.Core.Path.{_≡_, refl, sym, ap, subst, _∙_}
-use mathlib.Core.Bool.{Bool, true, false}
-use mathlib.Core.List.{List, [], _∷_, _++_, List·Memᴰ}
-use mathlib.Core.Logic.{_⊎_, inl, inr}
-use mathlib.Core.Option.{Option, none, some}
+use mathlib.Core.List.{[], _∷_}
+use mathlib.Core.Option.{some}
 use native.Mathlib.Omega.{arith}
 use lib.ListN.{length, length-append}
-use Rattle.base.specs.Tests.{not-both, eq-holds, le-holds, Known, holds, fails, known}
+use Rattle.base.specs.Tests.{eq-holds, le-holds}
 use Rattle.base.specs.AtLaws.{none-some}
-use Rattle.format.specs.Types.{Action, State, Record, action, retransmission, state, cpc, regular, transitional, request, recovery}
+use Rattle.format.specs.Types.{Action, Record, action, retransmission, state, cpc, regular, transitional, request, recovery}
 use Rattle.replication.specs.Machine.Types.{Mode, Non-prim, Reg-prim, Trans-prim, Exchange-states, Exchange-actions, Construct, No, Un, Configuration, Membership}
 use Rattle.replication.specs.Laws.Modes.{InRegular}
 use Rattle.replication.specs.Laws.Transitions as L
 use Rattle.replication.specs.Laws.Transitions.{Leads}
 use Rattle.replication.specs.Runs.Run.{Run, placeAt}
-use Rattle.replication.specs.Runs.Happenings.{isMessage, Comes, Falls, Takes}
+use Rattle.replication.specs.Runs.Happenings.{isMessage, Comes, Takes}
 use Rattle.replication.specs.Runs.Allowed.{Allowed}
 use Rattle.replication.proofs.Runs.Shifts.{comes-once, comes-of}
 use Rattle.replication.proofs.Runs.Memberships as M
 use Rattle.replication.proofs.Runs.Memberships.{plannedIn, cpcAdded, leftTo, Completes, MembershipStep}
 use Rattle.replication.proofs.Runs.Stays.{membershipAt, in-stay, StayStep, rested, refused, took, stay-step, entering-membership}
-use Rattle.replication.proofs.Runs.StateOrigins.{Came}
 use Rattle.replication.proofs.Runs.Exchange.StatesComplete.{NotRefused, nothing-came}
 use Rattle.replication.proofs.Runs.Exchange.ResentLists.{Retransmitted, resentPlaces, resent-more, resent-same, resent-listed, resent-nothing}
 

@@ -1,12 +1,11 @@
 -- Where no delivery was refused so far, a server has in Construct and No all CPCs that have come in its configuration; before, none has come.
-use Prim.Native.Nat.{ℕ, zero, suc, _+_, _≤_, _<_}
+use Prim.Native.Nat.{ℕ, suc, _≤_, _<_}
 use mathlib.Core.Path.{_≡_, refl, sym, ap, subst, _∙_}
 use mathlib.Core.Bool.{Bool, true, false}
-use mathlib.Core.List.{List, [], _∷_}
 use mathlib.Core.Logic.{_⊎_, inl, inr}
-use mathlib.Core.Option.{Option, none, some}
+use mathlib.Core.Option.{some}
 use native.Mathlib.Omega.{arith}
-use Rattle.base.specs.Tests.{_or_, _=?_, not-both, eq-yes}
+use Rattle.base.specs.Tests.{_or_, _=?_, eq-yes}
 use Rattle.base.specs.Sets.{inSet, withMember}
 use Rattle.base.specs.SetLaws.{in-with-member}
 use Rattle.format.specs.Types.{Record, cpc, regular}
@@ -14,7 +13,7 @@ use Rattle.replication.specs.Machine.Types.{Mode, Non-prim, Reg-prim, Tr
 use Rattle.replication.specs.Laws.Transitions as L
 use Rattle.replication.specs.Laws.Transitions.{Leads}
 use Rattle.replication.specs.Runs.Run.{Run, placeAt}
-use Rattle.replication.specs.Runs.Happenings.{Comes, Falls, Takes}
+use Rattle.replication.specs.Runs.Happenings.{Comes, Takes}
 use Rattle.replication.specs.Runs.Allowed.{Allowed}
 use Rattle.replication.proofs.Runs.Memberships as M
 use Rattle.replication.proofs.Runs.Memberships.{cpcAdded, leftTo, Completes, MembershipStep}

@@ -1,18 +1,17 @@
 -- A mark at a server was made by that server, at an end of its exchange with a quorum, and names the configuration in which it was made; the server is in its set.
-use Prim.Native.Nat.{ℕ, zero, suc, _+_, _≤_, _<_}
+use Prim.Native.Nat.{ℕ, zero, suc, _≤_, _<_}
 use mathlib.Core.Path.{_≡_, refl, sym, ap, subst, _∙_}
 use mathlib.Core.Bool.{Bool, true, false}
 use mathlib.Core.List.{List, [], _∷_, List·Memᴰ, List·Memᴰ·head, List·Memᴰ·tail}
 use mathlib.Core.Logic.{_⊎_, inl, inr}
-use mathlib.Core.Option.{Option, none, some}
+use mathlib.Core.Option.{none, some}
 use native.Mathlib.Omega.{arith}
 use lib.ListN.{getD}
-use Rattle.base.specs.Tests.{_and_, _=?_, pick, not-both, eq-holds, and-holds, Known, holds, fails, known}
-use Rattle.base.specs.Lists.{present}
+use Rattle.base.specs.Tests.{_=?_, pick, eq-holds, Known, holds, fails, known}
 use Rattle.base.specs.Members.{present-from}
 use Rattle.base.specs.Sets.{inSet}
 use Rattle.format.specs.Types.{Mark, State, Record}
-use Rattle.replication.specs.Machine.Types.{Mode, Exchange-states, Exchange-actions, Construct, Configuration, Votes, Server, clearedMark, start}
+use Rattle.replication.specs.Machine.Types.{Construct, Configuration, Votes, Server, clearedMark, start}
 use Rattle.replication.specs.Machine.Exchange.{keptMark, judgedMark, ownMark, takenVotes}
 use Rattle.replication.specs.Machine.Install.{install, installVotes}
 use Rattle.replication.specs.Machine.Step as Step
@@ -32,7 +31,7 @@ use Rattle.replication.proofs.Runs.Numbers.{numbers}
 use Rattle.replication.proofs.Runs.Modes.{mode-facts-at, standing}
 use Rattle.replication.proofs.Runs.Refusals.{picked-true, picked-false}
 use Rattle.replication.proofs.Runs.Coupling.{coupled}
-use Rattle.replication.proofs.Runs.AllowedTurns.{memoryAt, storeAt, Acts}
+use Rattle.replication.proofs.Runs.AllowedTurns.{memoryAt, Acts}
 use Rattle.replication.proofs.Runs.ControlPart.{control-at, control-next}
 use Rattle.replication.proofs.Runs.Hearing.{withHeard, hearing-states, exchange-kept}
 use Rattle.replication.proofs.Runs.StateOrigins.{states-came}

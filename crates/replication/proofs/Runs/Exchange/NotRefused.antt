@@ -1,13 +1,12 @@
 -- In an allowed run no delivered record is refused: each comes only to a server that is in a state for it.
-use Prim.Native.Nat.{ℕ, zero, suc, _+_, _≤_, _<_}
+use Prim.Native.Nat.{ℕ, suc, _≤_, _<_}
 use mathlib.Core.Path.{_≡_, refl, sym, ap, subst, _∙_}
-use mathlib.Core.Bool.{Bool, true, false, not}
-use mathlib.Core.List.{List, [], _∷_}
+use mathlib.Core.Bool.{true, false, not}
 use mathlib.Core.Logic.{_⊎_, inl, inr}
-use mathlib.Core.Option.{Option, none, some}
+use mathlib.Core.Option.{none, some}
 use native.Mathlib.Omega.{arith}
 use lib.ListN.{length, getD}
-use Rattle.base.specs.Tests.{_and_, _or_, not-both, both-yes, eq-yes, Known, holds, fails, known}
+use Rattle.base.specs.Tests.{_or_, not-both, both-yes, eq-yes, Known, holds, fails, known}
 use Rattle.base.specs.AtLaws.{some-same}
 use Rattle.base.specs.Chains.{strong}
 use Rattle.base.specs.ListLaws.{Each, there}
@@ -20,7 +19,7 @@ use Rattle.replication.specs.Machine.Rules.{Rule, onAction, onRetransmis
 use Rattle.replication.specs.Machine.Step.{theSet, ownState, answer}
 use Rattle.replication.specs.Machine.WellFormedSent.{senderOf}
 use Rattle.replication.specs.Runs.Run.{Run}
-use Rattle.replication.specs.Runs.Happenings.{Message, isMessage, Delivers}
+use Rattle.replication.specs.Runs.Happenings.{Message, isMessage}
 use Rattle.replication.specs.Runs.Allowed.{Allowed}
 use Rattle.replication.proofs.Runs.Places.{of-event}
 use Rattle.replication.proofs.Runs.Refusals.{not-refused, or-true}
@@ -35,7 +34,7 @@ use Rattle.replication.proofs.Runs.StateOrigins.{puts-among, puts-by, s
 use Rattle.replication.proofs.Runs.CpcOrigins.{cpc-attempted, cpcs-came}
 use Rattle.replication.proofs.Runs.LogActions.{carried}
 use Rattle.replication.proofs.Runs.Made.{Made, delivered-made}
-use Rattle.replication.proofs.Runs.Progress.{Ended, Progress, ProgressIn, progress-in}
+use Rattle.replication.proofs.Runs.Progress.{Ended, ProgressIn, progress-in}
 use Rattle.replication.proofs.Runs.Exchange.Phases.{puts-after, part-resends}
 use Rattle.replication.proofs.Runs.Exchange.SameStates.{member-in}
 use Rattle.replication.proofs.Runs.Exchange.RefusedDeliveries.{refused-answer, own-numbered}

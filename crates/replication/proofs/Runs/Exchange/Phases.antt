@@ -1,9 +1,8 @@
 -- In one configuration a server collects States, then retransmissions, then neither: each server sends there one State, its part of the plan once, and one CPC.
-use Prim.Native.Nat.{ℕ, zero, suc, _+_, _≤_, _<_}
+use Prim.Native.Nat.{ℕ, suc, _≤_, _<_}
 use mathlib.Core.Path.{_≡_, refl, sym, ap, subst, _∙_}
-use mathlib.Core.Bool.{Bool, true, false}
-use mathlib.Core.List.{List, [], _∷_}
-use mathlib.Core.Option.{Option, none, some}
+use mathlib.Core.Bool.{true, false}
+use mathlib.Core.Option.{some}
 use native.Mathlib.Omega.{arith}
 use native.Mathlib.Decide.{decLt}
 use Rattle.base.specs.Tests.{not-both}
@@ -21,16 +20,16 @@ use Rattle.replication.specs.Runs.Run.{Run, placeAt}
 use Rattle.replication.specs.Runs.Happenings.{Comes, Falls, Takes}
 use Rattle.replication.specs.Runs.Allowed.{Allowed}
 use Rattle.replication.proofs.Step.Kinds.{part-sent}
-use Rattle.replication.proofs.Runs.Entries.{Had, had}
+use Rattle.replication.proofs.Runs.Entries.{had}
 use Rattle.replication.proofs.Runs.Coupling.{coupled}
 use Rattle.replication.proofs.Runs.Hearing.{exchange-kept}
 use Rattle.replication.proofs.Runs.AllowedTurns.{memoryAt}
 use Rattle.replication.proofs.Runs.Sending.{Puts}
 use Rattle.replication.proofs.Runs.Memberships as M
-use Rattle.replication.proofs.Runs.Memberships.{Completes, MembershipStep}
+use Rattle.replication.proofs.Runs.Memberships.{MembershipStep}
 use Rattle.replication.proofs.Runs.Stays.{membershipAt, StayStep, rested, refused, took, stay-step, acts-membership}
 use Rattle.replication.proofs.Runs.StateOrigins.{puts-among, puts-by, state-entered}
-use Rattle.replication.proofs.Runs.CpcOrigins.{Attempted, cpc-attempted}
+use Rattle.replication.proofs.Runs.CpcOrigins.{cpc-attempted}
 
 -- 0 while States come, 1 while retransmissions come, 2 afterwards.
 abbrev pub phase : Mode → ℕ

@@ -1,8 +1,8 @@
 -- The retransmissions that are planned, as slots: each record of one's part of the plan fills one slot, which is its own, and there are as many as planned.
-use Prim.Native.Nat.{ℕ, zero, suc, _+_, _-_, _≤_, _<_}
+use Prim.Native.Nat.{ℕ, zero, suc, _-_, _≤_}
 use mathlib.Core.Path.{_≡_, refl, sym, ap, subst, _∙_}
 use mathlib.Core.Bool.{Bool, true, false}
-use mathlib.Core.List.{List, [], _∷_, _++_, map, map-append, List·Memᴰ, List·Memᴰ·not-nil, List·Memᴰ·append-cases, Memᴰ·map, Memᴰ·of-map, Memᴰ·append-left, Memᴰ·append-right}
+use mathlib.Core.List.{List, [], _++_, map, map-append, List·Memᴰ, List·Memᴰ·not-nil, List·Memᴰ·append-cases, Memᴰ·map, Memᴰ·of-map, Memᴰ·append-left, Memᴰ·append-right}
 use mathlib.Core.Logic.{_⊎_, inl, inr}
 use mathlib.Core.Option.{Option, none, some}
 use native.Mathlib.Omega.{arith}
@@ -10,13 +10,13 @@ use lib.ListN.{length, length-append, length-map}
 use Rattle.base.specs.Tests.{pick}
 use Rattle.base.specs.AtLaws.{none-some, some-same}
 use Rattle.base.specs.Distinct.{Distinct, distinct-map, distinct-append, gather-distinct, gather-all-distinct, above-distinct, below-distinct, after-higher}
-use Rattle.base.specs.Lists.{at, gather, gatherAll, above, below, sum}
+use Rattle.base.specs.Lists.{at, gatherAll, above, below}
 use Rattle.base.specs.ListLaws.{gather-all-length}
 use Rattle.base.specs.Members.{gathered-from, gathered-all-from, gathered-all}
 use Rattle.format.specs.Types.{Id, Action, State, Record, action, retransmission, state, cpc, regular, transitional, request, recovery}
 use Rattle.replication.specs.Machine.Types.{Log}
 use Rattle.replication.specs.Machine.Colours.{find}
-use Rattle.replication.specs.Machine.Plan.{resender, missing, lowest, cutIn, greenIn, planned, isMe, resent, resendGreen, resendRed, ownPart}
+use Rattle.replication.specs.Machine.Plan.{resender, missing, cutIn, greenIn, planned, isMe, resent, resendGreen, resendRed, ownPart}
 use Rattle.replication.proofs.WellFormed.Held.{Found, absent, found, found?}
 
 -- What a retransmission resends: a green position, or an action as red.

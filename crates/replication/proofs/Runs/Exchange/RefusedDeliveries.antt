@@ -1,17 +1,16 @@
 -- What would refuse a delivery: the machine's answer to its record, and an own action above those numbered.
-use Prim.Native.Nat.{ℕ, suc, _≤_, _<_}
-use mathlib.Core.Path.{_≡_, refl, sym, ap, subst, _∙_}
-use mathlib.Core.Bool.{Bool, true, false, not}
-use mathlib.Core.List.{List, [], _∷_}
+use Prim.Native.Nat.{ℕ, suc, _≤_}
+use mathlib.Core.Path.{_≡_, sym, ap, subst, _∙_}
+use mathlib.Core.Bool.{true, not}
 use native.Mathlib.Omega.{arith}
 use Rattle.base.specs.Tests.{_or_, _=?_, _≤?_, eq-holds, le-yes, Known, holds, fails, known}
 use Rattle.base.specs.AtLaws.{some-same}
 use Rattle.format.specs.Types.{Action}
-use Rattle.replication.specs.Machine.Types.{Server, Outcome}
+use Rattle.replication.specs.Machine.Types.{Outcome}
 use Rattle.replication.specs.Machine.Rules.{numberedOwn}
 use Rattle.replication.specs.Machine.Step.{answer}
 use Rattle.replication.specs.Runs.Run.{Run, heardAt}
-use Rattle.replication.specs.Runs.Happenings.{Message, Delivers}
+use Rattle.replication.specs.Runs.Happenings.{Message}
 use Rattle.replication.specs.Runs.Allowed.{Allowed}
 use Rattle.replication.proofs.Runs.Places.{event-entry}
 use Rattle.replication.proofs.Runs.Numbers.{numbers}

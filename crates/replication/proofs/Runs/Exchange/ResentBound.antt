@@ -1,21 +1,20 @@
 -- In one configuration no more retransmissions are delivered than are planned.
-use Prim.Native.Nat.{ℕ, zero, suc, _+_, _≤_, _<_}
-use mathlib.Core.Path.{_≡_, refl, sym, ap, subst, _∙_}
-use mathlib.Core.Bool.{Bool, true, false}
-use mathlib.Core.List.{List, [], _∷_, map, List·Memᴰ, Memᴰ·of-map}
+use Prim.Native.Nat.{ℕ, suc, _≤_, _<_}
+use mathlib.Core.Path.{_≡_, sym, ap, subst, _∙_}
+use mathlib.Core.Bool.{true}
+use mathlib.Core.List.{List, map, List·Memᴰ, Memᴰ·of-map}
 use mathlib.Core.Option.{Option, none, some}
 use native.Mathlib.Omega.{arith}
 use lib.ListN.{length, length-map}
-use Rattle.base.specs.Tests.{_=?_, not-both, eq-holds}
+use Rattle.base.specs.Tests.{not-both, eq-holds}
 use Rattle.base.specs.AtLaws.{some-same, at-among, map-at}
-use Rattle.base.specs.Distinct.{Distinct, included-length, distinct-map, distinct-at}
+use Rattle.base.specs.Distinct.{included-length, distinct-map, distinct-at}
 use Rattle.base.specs.Lists.{at, present}
 use Rattle.format.specs.Types.{Action, State, Record, retransmission}
-use Rattle.replication.specs.Machine.Types.{Configuration, Log, Server}
-use Rattle.replication.specs.Machine.Plan.{resender, cutIn, greenIn, isMe, ownPart}
-use Rattle.replication.specs.Machine.Step.{theSet, hereSet, collected, allStatesIn}
+use Rattle.replication.specs.Machine.Types.{Configuration, Log}
+use Rattle.replication.specs.Machine.Plan.{resender, cutIn, isMe, ownPart}
+use Rattle.replication.specs.Machine.Step.{hereSet, collected, allStatesIn}
 use Rattle.replication.specs.Runs.Run.{Run, placeAt}
-use Rattle.replication.specs.Runs.Happenings.{Message, Delivers}
 use Rattle.replication.specs.Runs.Allowed.{Allowed}
 use Rattle.replication.specs.Runs.DeliveryFacts.{recordOf}
 use Rattle.replication.proofs.Step.Kinds.{part-sent}
@@ -32,7 +31,7 @@ use Rattle.replication.proofs.Runs.Exchange.Phases.{puts-after, part-on
 use Rattle.replication.proofs.Runs.Exchange.SameStates.{states-same}
 use Rattle.replication.proofs.Runs.Exchange.ResentLists.{Retransmitted, resentPlaces, resent-listed, resent-distinct}
 use Rattle.replication.proofs.Runs.Exchange.PlanSlots as Plan
-use Rattle.replication.proofs.Runs.Exchange.PlanSlots.{Slot, greenAt, redOf, slotOf, slots, slots-length, PlanEntry, plan-entry, entry-slot, part-distinct}
+use Rattle.replication.proofs.Runs.Exchange.PlanSlots.{Slot, greenAt, slotOf, slots, slots-length, PlanEntry, plan-entry, entry-slot, part-distinct}
 
 is-me : (a b : ℕ) (o : Option ℕ) → isMe a o ≡ true → isMe b o ≡ true → a ≡ b
 unfolding isMe

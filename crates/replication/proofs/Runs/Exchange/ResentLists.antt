@@ -1,30 +1,25 @@
 -- The retransmissions that a server has delivered in a configuration.
-use Prim.Native.Nat.{ℕ, zero, suc, _+_, _≤_, _<_}
+use Prim.Native.Nat.{ℕ, suc, _<_}
 use mathlib.Core.Path.{_≡_, refl, sym, ap, subst, _∙_}
 use mathlib.Core.Bool.{Bool, true, false}
 use mathlib.Core.List.{List, [], _∷_, _++_, append-nil, List·Memᴰ, List·Memᴰ·head}
 use mathlib.Core.Option.{Option, none, some}
-use native.Mathlib.Omega.{arith}
-use lib.ListN.{length, length-append}
+use lib.ListN.{length}
 use Rattle.base.specs.Tests.{not-both, Known, holds, fails, known}
-use Rattle.base.specs.AtLaws.{none-some, some-same}
 use Rattle.base.specs.Distinct.{Distinct, rises-distinct}
 use Rattle.base.specs.Filters.{filter-append, filter-one, filter-none, rises-filter}
 use Rattle.base.specs.Lists.{filter}
 use Rattle.base.specs.Members.{filter-has, filter-from}
-use Rattle.base.specs.Rising.{Rises}
-use Rattle.format.specs.Types.{Action, State, Record, action, retransmission, state, cpc, regular, transitional, request, recovery}
+use Rattle.format.specs.Types.{Action, Record, action, retransmission, state, cpc, regular, transitional, request, recovery}
 use Rattle.replication.specs.Machine.Types.{Configuration}
-use Rattle.replication.specs.Runs.Run.{Run, Place, placeAt}
-use Rattle.replication.specs.Runs.Happenings.{Message, isMessage, Comes, Delivers}
+use Rattle.replication.specs.Runs.Run.{Run, placeAt}
+use Rattle.replication.specs.Runs.Happenings.{isMessage, Comes}
 use Rattle.replication.specs.Runs.Allowed.{Allowed}
 use Rattle.replication.specs.Runs.DeliveryFacts.{within, deliversAt, deliveryPlaces, recordOf}
-use Rattle.replication.proofs.Runs.Shifts.{comes-once}
 use Rattle.replication.proofs.Runs.Deliveries.{Delivery}
 use Rattle.replication.proofs.Runs.Order.{time}
 use Rattle.replication.proofs.Runs.Origins.{delivery-says}
-use Rattle.replication.proofs.Runs.DeliveryLists.{within-holds, within-yes, delivers-holds, delivers-yes, places-more, places-same, Listed, listed, in-list, places-rise}
-use Rattle.replication.proofs.Runs.StateOrigins.{Came}
+use Rattle.replication.proofs.Runs.DeliveryLists.{within-holds, within-yes, delivers-holds, delivers-yes, places-more, places-same, listed, in-list, places-rise}
 
 abbrev pub isResent : Option Record → Bool
 isResent none = false

@@ -1,19 +1,17 @@
 -- All who have every member's State in one configuration have the same States, so the same plan and the same decision.
-use Prim.Native.Nat.{ℕ, zero, suc, _+_, _≤_, _<_}
+use Prim.Native.Nat.{ℕ, _+_, _<_}
 use mathlib.Core.Path.{_≡_, refl, sym, ap, subst, _∙_}
-use mathlib.Core.Bool.{Bool, true, false}
-use mathlib.Core.List.{List, [], _∷_}
+use mathlib.Core.Bool.{true}
 use mathlib.Core.Option.{Option, none, some}
 use native.Mathlib.Omega.{arith}
 use lib.ListN.{length, getD}
 use lib.Seq.{ext-getD}
-use Rattle.base.specs.Tests.{not-both, Known, holds, fails, known}
 use Rattle.base.specs.AtLaws.{none-some, some-same}
 use Rattle.base.specs.ListLaws.{there}
-use Rattle.base.specs.Lists.{isThere, present}
+use Rattle.base.specs.Lists.{present}
 use Rattle.base.specs.Sets.{inSet}
-use Rattle.format.specs.Types.{State, Record, state}
-use Rattle.replication.specs.Machine.Types.{Configuration, Membership}
+use Rattle.format.specs.Types.{State, state}
+use Rattle.replication.specs.Machine.Types.{Configuration}
 use Rattle.replication.specs.Machine.Plan.{planned}
 use Rattle.replication.specs.Machine.Exchange.{quorum}
 use Rattle.replication.specs.Machine.Step.{theSet}
@@ -23,10 +21,9 @@ use Rattle.replication.specs.Runs.Allowed.{Allowed}
 use Rattle.replication.proofs.WellFormed.Modes.{from-facts}
 use Rattle.replication.proofs.Runs.Numbers.{numbers, invariant-at}
 use Rattle.replication.proofs.Runs.Sending.{Puts}
-use Rattle.replication.proofs.Runs.AllowedTurns.{memoryAt}
 use Rattle.replication.proofs.Runs.Memberships.{setIn, everyStateIn, plannedIn, quorumIn}
 use Rattle.replication.proofs.Runs.Stays.{membershipAt, stay-configuration}
-use Rattle.replication.proofs.Runs.StateOrigins.{Came, Sender, came-from, states-came}
+use Rattle.replication.proofs.Runs.StateOrigins.{Came, came-from, states-came}
 use Rattle.replication.proofs.Runs.Progress.{stay-member}
 use Rattle.replication.proofs.Runs.Exchange.Phases.{state-once}
 

@@ -1,31 +1,30 @@
 -- Where no delivery was refused so far: a server to which a record comes is, in the exchange and in the attempt, not behind the server that sent it.
-use Prim.Native.Nat.{ℕ, zero, suc, _+_, _≤_, _<_, _^_}
-use mathlib.Core.Path.{_≡_, refl, sym, ap, subst, _∙_}
-use mathlib.Core.Bool.{Bool, true, false}
-use mathlib.Core.List.{List, [], _∷_}
+use Prim.Native.Nat.{ℕ, suc, _+_, _≤_, _<_, _^_}
+use mathlib.Core.Path.{_≡_, sym, ap, subst, _∙_}
+use mathlib.Core.Bool.{true}
+use mathlib.Core.List.{[], _∷_}
 use mathlib.Core.Option.{Option, none, some}
 use native.Mathlib.Omega.{arith}
 use lib.ListN.{length, getD, length-append}
 use Rattle.base.specs.Tests.{not-both}
 use Rattle.base.specs.AtLaws.{some-same}
 use Rattle.base.specs.Lists.{isThere}
-use Rattle.base.specs.Sets.{inSet, inside}
+use Rattle.base.specs.Sets.{inSet}
 use Rattle.base.specs.SetLaws.{inside-member, members-inside}
-use Rattle.format.specs.Types.{Action, State, Record, action, retransmission, state, cpc}
-use Rattle.replication.specs.Machine.Types.{Mode, Non-prim, Reg-prim, Trans-prim, Exchange-states, Exchange-actions, Construct, No, Un, Configuration, Membership}
+use Rattle.format.specs.Types.{State, state, cpc}
+use Rattle.replication.specs.Machine.Types.{Exchange-states, Exchange-actions}
 use Rattle.replication.specs.Machine.Step.{theSet}
 use Rattle.replication.specs.Machine.WellFormedSent.{senderOf}
 use Rattle.replication.specs.Laws.Modes.{InRegular}
 use Rattle.replication.specs.Runs.Run.{Run, placeAt}
-use Rattle.replication.specs.Runs.Happenings.{Message, isMessage, Delivers}
+use Rattle.replication.specs.Runs.Happenings.{Message}
 use Rattle.replication.specs.Runs.Allowed.{Allowed}
 use Rattle.replication.proofs.WellFormed.Modes.{from-ok}
 use Rattle.replication.proofs.Runs.Numbers.{numbers, invariant-at}
 use Rattle.replication.proofs.Runs.Deliveries.{Delivery}
 use Rattle.replication.proofs.Runs.Order.{delivered-once}
-use Rattle.replication.proofs.Runs.AllowedTurns.{memoryAt}
 use Rattle.replication.proofs.Runs.Sending.{Puts}
-use Rattle.replication.proofs.Runs.Origins.{Origin, origin}
+use Rattle.replication.proofs.Runs.Origins.{Origin}
 use Rattle.replication.proofs.Runs.Memberships.{setIn, everyStateIn, everyCpcIn, plannedIn, quorumIn}
 use Rattle.replication.proofs.Runs.Stays.{membershipAt, stay-configuration, stay-transitional}
 use Rattle.replication.proofs.Runs.StateOrigins.{Came, came-from, came-message, states-came}
@@ -34,7 +33,7 @@ use Rattle.replication.proofs.Runs.Progress.{Ended, Progress, progress,
 use Rattle.replication.proofs.Runs.Exchange.Phases.{puts-after, state-once, cpc-once}
 use Rattle.replication.proofs.Runs.Exchange.SameStates.{member-in, states-long, planned-same, quorum-same}
 use Rattle.replication.proofs.Runs.Exchange.StatesComplete.{NotRefused, states-complete}
-use Rattle.replication.proofs.Runs.Exchange.CpcsComplete.{CpcsIn, CpcOf, cpcs-complete}
+use Rattle.replication.proofs.Runs.Exchange.CpcsComplete.{CpcOf}
 use Rattle.replication.proofs.Runs.Exchange.ResentLists.{Retransmitted, resentPlaces, resent-more}
 use Rattle.replication.proofs.Runs.Exchange.ComeComplete.{ComeIn, come-complete}
 use Rattle.replication.proofs.Runs.Exchange.Causal.{came-likewise, resent-likewise}

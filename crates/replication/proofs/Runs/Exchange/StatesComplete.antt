@@ -1,33 +1,30 @@
 -- Where no delivery was refused so far, a server that collects States has all that have come in its configuration.
-use Prim.Native.Nat.{ℕ, zero, suc, _+_, _≤_, _<_}
+use Prim.Native.Nat.{ℕ, suc, _≤_, _<_}
 use mathlib.Core.Path.{_≡_, refl, sym, ap, subst, _∙_}
-use mathlib.Core.Bool.{Bool, true, false}
-use mathlib.Core.List.{List, [], _∷_}
 use mathlib.Core.Logic.{_⊎_, inl, inr}
-use mathlib.Core.Option.{Option, none, some}
+use mathlib.Core.Option.{none, some}
 use native.Mathlib.Omega.{arith}
 use native.Mathlib.Decide.{decLt, ℕ-discrete}
-use lib.ListN.{length, getD, set}
+use lib.ListN.{getD, set}
 use lib.Seq.{getD-set-same, getD-set-other}
 use Rattle.base.specs.AtLaws.{some-same}
-use Rattle.format.specs.Types.{Action, State, Record, action, retransmission, state, cpc, regular, transitional, request, recovery, says}
-use Rattle.replication.specs.Machine.Types.{Mode, Non-prim, Reg-prim, Trans-prim, Exchange-states, Exchange-actions, Construct, No, Un, Configuration, Membership}
+use Rattle.format.specs.Types.{State, Record, state, regular}
+use Rattle.replication.specs.Machine.Types.{Mode, Exchange-states, Configuration, Membership}
 use Rattle.replication.specs.Machine.WellFormedSent.{senderOf}
-use Rattle.replication.specs.Images.{isRecovery}
 use Rattle.replication.specs.Laws.Transitions as L
 use Rattle.replication.specs.Laws.Transitions.{Leads}
 use Rattle.replication.specs.Runs.Run.{Run, placeAt}
-use Rattle.replication.specs.Runs.Happenings.{Message, isMessage, Of, Comes, Falls, Takes, Delivers}
+use Rattle.replication.specs.Runs.Happenings.{Message, isMessage, Of, Comes, Takes}
 use Rattle.replication.specs.Runs.Allowed.{Allowed}
 use Rattle.replication.proofs.Runs.Places.{of-event}
 use Rattle.replication.proofs.Runs.Shifts.{comes-once, comes-of}
 use Rattle.replication.proofs.Runs.Entries.{had}
 use Rattle.replication.proofs.Runs.Deliveries.{Delivery}
-use Rattle.replication.proofs.Runs.AllowedTurns.{memoryAt, Acts, Refuses}
+use Rattle.replication.proofs.Runs.AllowedTurns.{Refuses}
 use Rattle.replication.proofs.Runs.Memberships as M
-use Rattle.replication.proofs.Runs.Memberships.{Completes, MembershipStep}
-use Rattle.replication.proofs.Runs.Stays.{membershipAt, in-stay, StayStep, rested, refused, took, stay-step, entering-membership}
-use Rattle.replication.proofs.Runs.StateOrigins.{Came, came-later, came-now, came-from}
+use Rattle.replication.proofs.Runs.Memberships.{MembershipStep}
+use Rattle.replication.proofs.Runs.Stays.{membershipAt, in-stay, StayStep, rested, refused, took, stay-step}
+use Rattle.replication.proofs.Runs.StateOrigins.{Came, came-now, came-from}
 use Rattle.replication.proofs.Runs.Exchange.SameStates.{one-came, states-long}
 
 -- ---- what has come at the next place

@@ -1,16 +1,15 @@
 -- The exchange in an allowed run: what has come is in, and as many retransmissions come as are planned.
-use Prim.Native.Nat.{ℕ, zero, suc, _+_, _≤_, _<_}
-use mathlib.Core.Path.{_≡_, refl, sym, ap, subst, _∙_}
-use mathlib.Core.Bool.{Bool, true, false}
-use mathlib.Core.List.{List, [], _∷_}
-use mathlib.Core.Option.{Option, none, some}
+use Prim.Native.Nat.{ℕ, _≤_}
+use mathlib.Core.Path.{_≡_, refl, sym}
+use mathlib.Core.Bool.{true, false}
+use mathlib.Core.Option.{none, some}
 use native.Mathlib.Omega.{arith}
 use lib.ListN.{length, getD}
 use Rattle.format.specs.Types.{State, Record, action, retransmission, state, cpc, regular, transitional, request, recovery, says}
-use Rattle.replication.specs.Machine.Types.{Mode, Exchange-states, Exchange-actions, Configuration, Membership}
+use Rattle.replication.specs.Machine.Types.{Exchange-states, Configuration}
 use Rattle.replication.specs.Images.{isRecovery}
 use Rattle.replication.specs.Runs.Run.{Run, placeAt}
-use Rattle.replication.specs.Runs.Happenings.{Message, isMessage, Delivers}
+use Rattle.replication.specs.Runs.Happenings.{Message, isMessage}
 use Rattle.replication.specs.Runs.Allowed.{Allowed}
 use Rattle.replication.proofs.Runs.Deliveries.{Delivery}
 use Rattle.replication.proofs.Runs.AllowedTurns.{Acts}
