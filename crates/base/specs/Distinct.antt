@@ -58,7 +58,8 @@ rises-distinct s [] h = tt
 rises-distinct s (x ∷ xs) h = (λ m. omega (arith, h .0 x m), rises-distinct s xs (h .1))
 
 -- Images under a map that tells the elements apart.
-pub distinct-map : {A B : Type 0} (f : A → B) (xs : List A) → ((a b : A) → List·Memᴰ a xs → List·Memᴰ b xs → f a ≡ f b → a ≡ b) → Distinct xs → Distinct (map f xs)
+pub distinct-map : {A B : Type 0} (f : A → B) (xs : List A) → ((a b : A) → List·Memᴰ a xs → List·Memᴰ b xs → f a ≡ f b → a ≡ b) → Distinct xs
+    → Distinct (map f xs)
 distinct-map f [] h d = tt
 distinct-map {A} f (x ∷ xs) h d = (
   λ m. let k = Memᴰ·of-map f xs m in d .0 (Memᴰ·cast (sym (h (k .0) x (List·Memᴰ·tail (k .1)) (List·Memᴰ·head refl) (k .2))) (k .1)),
@@ -106,7 +107,8 @@ module _ {A : Type 0} where
 
 -- What is gathered, told apart by s, as the elements are by g.
 module _ {A B C : Type 0} (s : B → C) where
-  pub gather-distinct : (g : A → C) (f : A → Option B) (xs : List A) → ((x : A) (y : B) → List·Memᴰ x xs → f x ≡ some y → s y ≡ g x) → Distinct (map g xs) → Distinct (map s (gather f xs))
+  pub gather-distinct : (g : A → C) (f : A → Option B) (xs : List A) → ((x : A) (y : B) → List·Memᴰ x xs → f x ≡ some y → s y ≡ g x)
+      → Distinct (map g xs) → Distinct (map s (gather f xs))
   unfolding gather atFront
   gather-distinct g f [] h d = tt
   gather-distinct g f (x ∷ xs) h d = go (f x) refl (gather-distinct g f xs (λ z y m. h z y (List·Memᴰ·tail m)) (d .1))

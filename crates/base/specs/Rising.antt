@@ -70,12 +70,14 @@ module _ {A L : Type 0} (f : A → L) (s : A → ℕ) where
   begins-nil y = (y, refl)
 
   -- x is initial in y and all of its labels are in y: x's labels begin y's.
-  pub included-begins : (x y : List A) → Rises s x → Rises s y → Alike x y → Initial x y → ((a : A) → List·Memᴰ a x → Labelled y (f a)) → Begins (map f x) (map f y)
+  pub included-begins : (x y : List A) → Rises s x → Rises s y → Alike x y → Initial x y → ((a : A) → List·Memᴰ a x → Labelled y (f a))
+      → Begins (map f x) (map f y)
   included-begins [] y p q h i k = begins-nil (map f y)
   included-begins (a ∷ x) [] p q h i k = absurd (List·Memᴰ·not-nil (k a (List·Memᴰ·head refl) .among))
   included-begins (a ∷ x) (b ∷ y) p q h i k = go (decLt (s a) (s b)) (decLt (s b) (s a)) (included-begins x y (p .1) (q .1) (alike-tails a b x y h))
     where
-      go : Dec (s a < s b) → Dec (s b < s a) → (Initial x y → ((c : A) → List·Memᴰ c x → Labelled y (f c)) → Begins (map f x) (map f y)) → Begins (map f (a ∷ x)) (map f (b ∷ y))
+      go : Dec (s a < s b) → Dec (s b < s a) → (Initial x y → ((c : A) → List·Memᴰ c x → Labelled y (f c)) → Begins (map f x) (map f y))
+          → Begins (map f (a ∷ x)) (map f (b ∷ y))
       go (yes u) v w =
           let z = k a (List·Memᴰ·head refl) in
           absurd (omega (arith, least b y (q .0) _ (z .among), h .numbers a _ (List·Memᴰ·head refl) (z .among) (sym (z .label))))

@@ -70,7 +70,8 @@ module _ {n q : ℕ} {l : Run} (A : Allowed n q l) where
   pub control-next : (p i : ℕ) → SameControl (memoryAt n q l p i) (memoryAt n q l (suc p) i) ⊎ ((x : Acts n q l p i) × (x .stores ≡ true))
   control-next p i = go (allowed-turn A p i)
     where
-      acting : (x : Acts n q l p i) (b : Bool) → x .stores ≡ b → SameControl (memoryAt n q l p i) (memoryAt n q l (suc p) i) ⊎ ((x : Acts n q l p i) × (x .stores ≡ true))
+      acting : (x : Acts n q l p i) (b : Bool) → x .stores ≡ b
+          → SameControl (memoryAt n q l p i) (memoryAt n q l (suc p) i) ⊎ ((x : Acts n q l p i) × (x .stores ≡ true))
       acting x true e = inr (x, e)
       acting x false e =
           inl

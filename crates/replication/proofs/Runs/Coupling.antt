@@ -90,7 +90,8 @@ module _ {n q : ℕ} {l : Run} (A : Allowed n q l) where
   refused-place p i k z e s h d c r m a (says recovery) x = not-both (sym r ∙ ap isRecovery x)
   refused-place p i k z e s h d c r m a (refused u) x = refl
 
-  taken-place : (s : Server) (e : List ℕ) (t : Server) (bs : List (List ℕ)) (b : Bool) (g : List Action) (x : Reading Record) (c : Place) → step s e ≡ taken t bs b g
+  taken-place : (s : Server) (e : List ℕ) (t : Server) (bs : List (List ℕ)) (b : Bool) (g : List Action) (x : Reading Record) (c : Place)
+      → step s e ≡ taken t bs b g
       → read (contextOf s) e ≡ x → placeOf s ≡ c → placeOf t ≡ moved x c
   taken-place s e t bs b g x c h r d =
       let y = taken-by s e t bs b g h in

@@ -105,10 +105,12 @@ module _ {n q : ℕ} {l : Run} (A : Allowed n q l) (t : Place → Bool) (i : ℕ
   unfolding deliveryPlaces
   places-no p e = no-more (deliversAt n q l t i p) (deliveryPlaces n q l t i p) p e
 
-  pub places-more : (p : ℕ) (m : Message) → Delivery A p i m → t (placeAt n q l i p) ≡ true → deliveryPlaces n q l t i (suc p) ≡ deliveryPlaces n q l t i p ++ (p ∷ [])
+  pub places-more : (p : ℕ) (m : Message) → Delivery A p i m → t (placeAt n q l i p) ≡ true
+      → deliveryPlaces n q l t i (suc p) ≡ deliveryPlaces n q l t i p ++ (p ∷ [])
   places-more p m d h = places-yes p (delivers-yes p m d h)
 
-  pub places-same : (p : ℕ) → ((m : Message) → Delivery A p i m → t (placeAt n q l i p) ≡ true → ⊥) → deliveryPlaces n q l t i (suc p) ≡ deliveryPlaces n q l t i p
+  pub places-same : (p : ℕ) → ((m : Message) → Delivery A p i m → t (placeAt n q l i p) ≡ true → ⊥)
+      → deliveryPlaces n q l t i (suc p) ≡ deliveryPlaces n q l t i p
   places-same p f = go (known (deliversAt n q l t i p))
     where
       go : Known (deliversAt n q l t i p) → deliveryPlaces n q l t i (suc p) ≡ deliveryPlaces n q l t i p

@@ -49,7 +49,8 @@ module _ (n q : ℕ) (l : Run) where
       kept x a b (yes d) = h .kept x a (omega arith)
       kept x a b (no d) = let z : x ≡ suc p = omega arith in subst (λ w. placeAt n q l i w .regular ≡ some c) (sym z) e
 
-      not-left : placeAt n q l i (suc p) .transitional ≡ none → (x : ℕ) → h .took-at < x → x ≤ suc p → Dec (x < suc p) → placeAt n q l i x .transitional ≡ none
+      not-left : placeAt n q l i (suc p) .transitional ≡ none → (x : ℕ) → h .took-at < x → x ≤ suc p → Dec (x < suc p)
+          → placeAt n q l i x .transitional ≡ none
       not-left g x a b (yes d) = h .not-left (u g) x a (omega arith)
       not-left g x a b (no d) = let z : x ≡ suc p = omega arith in subst (λ w. placeAt n q l i w .transitional ≡ none) (sym z) g
 

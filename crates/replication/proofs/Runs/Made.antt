@@ -36,7 +36,8 @@ use Rattle.replication.proofs.Runs.StateOrigins.{puts-among, puts-by}
 use Rattle.replication.proofs.Runs.LogActions.{EachIn, carried, each-in, each-after, each-recovered, each-in-implied}
 
 -- In a list whose ids run on from k, an id is of one action.
-ids-above : (me k m : ℕ) (xs : List Action) → idsIn xs ≡ map (λ i. record { creator = me; index = i }) (after k m) → (a : Action) → List·Memᴰ a xs → k < a .id .index
+ids-above : (me k m : ℕ) (xs : List Action) → idsIn xs ≡ map (λ i. record { creator = me; index = i }) (after k m) → (a : Action) → List·Memᴰ a xs
+    → k < a .id .index
 unfolding after idsIn
 ids-above me k zero [] e a h = absurd (List·Memᴰ·not-nil h)
 ids-above me k (suc m) [] e a h = absurd (List·Memᴰ·not-nil h)
@@ -134,7 +135,8 @@ module _ {n q : ℕ} {l : Run} (A : Allowed n q l) where
   resent-made v k m xs j p a h (P.asRed c u b i e f) = let z : b ≡ a = cc in subst (Made v) z (found-in _ m b h e)
 
   -- What a record put out carries was made.
-  put-made : (v k j : ℕ) (c : Configuration) (r : Record) (x : Puts A v k j c r) → EachIn (Made (suc v)) (memoryAt n q l (suc v) k .log) → Each (Made (suc v)) (carried r)
+  put-made : (v k j : ℕ) (c : Configuration) (r : Record) (x : Puts A v k j c r) → EachIn (Made (suc v)) (memoryAt n q l (suc v) k .log)
+      → Each (Made (suc v)) (carried r)
   put-made v k j c (action a) x h = (own-made v k (x .act) a (at-among _ j (action a) (x .record-there)), tt)
   put-made v k j c (retransmission w p a) x h =
       (resent-made (suc v) _ _ _ w p a (subst (λ t. EachIn (Made (suc v)) (t .log)) (x .act .memory-next) h) (part-sent (puts-by A x) w p a (puts-among A x) .planned), tt)
@@ -168,7 +170,8 @@ module _ {n q : ℕ} {l : Run} (A : Allowed n q l) where
   unfolding start
   start-made i = record { green = tt; red = tt; own = tt }
 
-  all-made-next : (p i : ℕ) → ((x : ℕ) → x ≤ p → AllMade x) → AllowedTurn n q l p i → OfBoth (λ s. EachIn (Made (suc p)) (s .log)) (worldAt n q l (suc p) .images i)
+  all-made-next : (p i : ℕ) → ((x : ℕ) → x ≤ p → AllMade x) → AllowedTurn n q l p i
+      → OfBoth (λ s. EachIn (Made (suc p)) (s .log)) (worldAt n q l (suc p) .images i)
   all-made-next p i h t = go t
     where
       before : OfBoth (λ s. EachIn (Made (suc p)) (s .log)) (worldAt n q l p .images i)

@@ -110,7 +110,8 @@ module _ (s : Server) where
   ended r t u rs h (L.withQuorum q) = attempts _ _ h q
   ended r t u rs h (L.withoutQuorum q) = settles _ _ h q
 
-  pub membership-step : {r : Record} {t : Server} {rs : List Record} {b : Bool} → Transition s r t rs b → MembershipStep (s .servers) (s .membership) r (t .membership)
+  pub membership-step : {r : Record} {t : Server} {rs : List Record} {b : Bool} → Transition s r t rs b
+      → MembershipStep (s .servers) (s .membership) r (t .membership)
   unfolding isMessage greenAndNote install exchanged oneMore withState resending withCpc sendHeld numbered entering leave hold recovered allStatesIn plannedNow collected hereSet allCome allCpcsIn
   membership-step (L.ignoresState x e) = ignores (state x) refl e
   membership-step (L.ignoresCpc k i e) = ignores (cpc k i) refl e

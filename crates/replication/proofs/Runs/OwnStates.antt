@@ -65,7 +65,8 @@ module _ {n q : ℕ} {l : Run} (A : Allowed n q l) where
         votes = λ e. ap (λ x. x .memory .votes) m ∙ h .votes (ap (λ x. inExchange (x .memory .membership .mode)) (sym m) ∙ e);
       }
 
-      go : (p : ℕ) → (Falls n q l p i → ⊥) → ((d : Configuration) → Takes n q l p i d → ⊥) → SinceEntry p i c → AllowedTurn n q l p i → SinceEntry (suc p) i c
+      go : (p : ℕ) → (Falls n q l p i → ⊥) → ((d : Configuration) → Takes n q l p i d → ⊥) → SinceEntry p i c → AllowedTurn n q l p i
+          → SinceEntry (suc p) i c
       go p f g h (rests o m u d) = same p h m
       go p f g h (crashes x m u d) = absurd (f (by-crash x))
       go p f g h (refuses x) = same p h (x .images-next)
@@ -108,7 +109,8 @@ module _ {n q : ℕ} {l : Run} (A : Allowed n q l) where
 
   module _ (p i : ℕ) (x : Acts n q l p i) where
     -- When every member's State is in, the own one is.
-    own-there : (c : Configuration) → memoryAt n q l p i .membership .configuration ≡ some c → allStatesIn (hearing (x .by .event) (memoryAt n q l p i)) ≡ true
+    own-there : (c : Configuration) → memoryAt n q l p i .membership .configuration ≡ some c
+        → allStatesIn (hearing (x .by .event) (memoryAt n q l p i)) ≡ true
         → (y : State) × (getD (hearing (x .by .event) (memoryAt n q l p i) .membership .states) i none ≡ some y)
     unfolding hereSet theSet
     own-there c r f =

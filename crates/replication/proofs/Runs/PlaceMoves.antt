@@ -21,7 +21,8 @@ unfolding attempting decided sendHeld numbered
 ends-place (L.withQuorum c) = refl
 ends-place (L.withoutQuorum c) = refl
 
-pub transition-place : {s : Server} {r : Record} {t : Server} {rs : List Record} {b : Bool} → Transition s r t rs b → placeOf t ≡ moved (says r) (placeOf s)
+pub transition-place : {s : Server} {r : Record} {t : Server} {rs : List Record} {b : Bool} → Transition s r t rs b
+    → placeOf t ≡ moved (says r) (placeOf s)
 unfolding moved nowhere greenAndNote install exchanged oneMore withState resending withCpc sendHeld numbered entering leave hold recovered
 transition-place (L.ignoresState x e) = refl
 transition-place (L.ignoresCpc k j e) = refl

@@ -110,7 +110,8 @@ leads-progress n m x L.interruptsConstruct h =
     record { ended = record { all-in = h .ended .all-in; all-come = h .ended .all-come }; agreed = h .agreed; not-all-cpcs = h .not-all-cpcs }
 
 -- The server k, of n, stays a member.
-pub progress-step : {n k : ℕ} {m : Membership} {r : Record} {o : Membership} → k < n → inSet k (setIn o) ≡ true → MembershipStep n m r o → Progress n m → Progress n o
+pub progress-step : {n k : ℕ} {m : Membership} {r : Record} {o : Membership} → k < n → inSet k (setIn o) ≡ true → MembershipStep n m r o
+    → Progress n m → Progress n o
 unfolding theSet
 progress-step l i (M.ignores r e f) h = h
 progress-step l i (M.acts a o e t) h = h
@@ -168,7 +169,8 @@ module _ {n q : ℕ} {l : Run} (A : Allowed n q l) where
       (record { not-all-in = no-states-in n i (c .set) (A .servers t i (comes-of h)) (taker-member h); no-cpcs = refl }))
       (λ p a b f g h. go p b h (stay-step A p i f))
     where
-      go : (p : ℕ) → placeAt n q l i (suc p) .regular ≡ some c → Progress n (membershipAt n q l p i) → StayStep A p i → Progress n (membershipAt n q l (suc p) i)
+      go : (p : ℕ) → placeAt n q l i (suc p) .regular ≡ some c → Progress n (membershipAt n q l p i) → StayStep A p i
+          → Progress n (membershipAt n q l (suc p) i)
       go p b h (rested o m) = subst (Progress n) (sym m) h
       go p b h (refused x m) = subst (Progress n) (sym m) h
       go p b h (took x y m) =

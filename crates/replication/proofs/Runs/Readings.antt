@@ -13,7 +13,8 @@ use Rattle.replication.specs.Machine.Step.{answer, onReading, inBytes, s
 use Rattle.replication.specs.Images.{isRecovery}
 
 -- A recovery is read alike whatever the configuration.
-pub recovery-alike : (c d : Context) (e : List ℕ) → c .servers ≡ d .servers → c .quota ≡ d .quota → c .self ≡ d .self → read c e ≡ says recovery → read d e ≡ says recovery
+pub recovery-alike : (c d : Context) (e : List ℕ) → c .servers ≡ d .servers → c .quota ≡ d .quota → c .self ≡ d .self → read c e ≡ says recovery
+    → read d e ≡ says recovery
 unfolding recordOk fieldsOk contextOk
 recovery-alike c d e a b f h =
     let x = says-read c e recovery h in
@@ -40,7 +41,8 @@ is-recovery (says recovery) e = refl
 is-recovery (refused k) e = not-both e
 
 -- A step that is refused, of a record that reads, is the answer's refusal.
-pub answer-refused : (s : Server) (e : List ℕ) (r : Record) (z : ℕ) → step s e ≡ Outcome.refused z → read (contextOf s) e ≡ says r → answer s r ≡ Outcome.refused z
+pub answer-refused : (s : Server) (e : List ℕ) (r : Record) (z : ℕ) → step s e ≡ Outcome.refused z → read (contextOf s) e ≡ says r
+    → answer s r ≡ Outcome.refused z
 unfolding step onReading inBytes
 answer-refused s e r z h x = go (answer s r) (ap (λ y. inBytes (onReading s y)) (sym x) ∙ h)
   where

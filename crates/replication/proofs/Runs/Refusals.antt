@@ -47,7 +47,8 @@ pub recovery-taken : (s : Server) (z : ℕ) → answer s recovery ≡ refused z 
 unfolding ruleFor possible fromMember withinQuota withinHeld isIgnored _or_
 recovery-taken s z h = not-refused s recovery _ refl refl refl refl refl z h
 
-regular-ruled : (m : Mode) (c : Option Configuration) (t : Option ℕ) (d : Configuration) → (InRegular c t → ⊥) → Stands m c t → (k : Rule) × (onRegular m d ≡ some k)
+regular-ruled : (m : Mode) (c : Option Configuration) (t : Option ℕ) (d : Configuration) → (InRegular c t → ⊥) → Stands m c t
+    → (k : Rule) × (onRegular m d ≡ some k)
 unfolding onRegular
 regular-ruled Non-prim c t d f h = (_, refl)
 regular-ruled Reg-prim c t d f h = absurd (f h)

@@ -32,7 +32,8 @@ use Rattle.replication.proofs.Runs.AllowedTurns.{Acts, Refuses, Allowed
 
 -- ---- one step: what sends leaves the server in a regular configuration
 
-sends-regular : (m : Mode) (c : Option Configuration) (t : Option ℕ) → sendsIn m (isThere c and inRegular t) ≡ true → (m ≡ Reg-prim → InRegular c t) → InRegular c t
+sends-regular : (m : Mode) (c : Option Configuration) (t : Option ℕ) → sendsIn m (isThere c and inRegular t) ≡ true → (m ≡ Reg-prim → InRegular c t)
+    → InRegular c t
 unfolding sendsIn isThere inRegular _and_
 sends-regular Non-prim none t e f = not-both e
 sends-regular Non-prim (some c) none e f = record { configuration = c; there = refl; none-after = refl }
@@ -139,7 +140,8 @@ module _ {n q : ℕ} {l : Run} (A : Allowed n q l) where
   unfolding at
   sends-at p i k r x h = go (transition-sends (x .moves) (standing n q l i p .memory))
     where
-      go : (x .by .records ≡ []) ⊎ InRegular (x .after .membership .configuration) (x .after .membership .transitional) → (c : Configuration) × Puts p i k c r
+      go : (x .by .records ≡ []) ⊎ InRegular (x .after .membership .configuration) (x .after .membership .transitional)
+          → (c : Configuration) × Puts p i k c r
       go (inl e) = none-some (ap (λ y. at y k) (sym e) ∙ h)
       go (inr y) =
           let s = coupled A (suc p) i (x .down-next) in
@@ -148,7 +150,8 @@ module _ {n q : ℕ} {l : Run} (A : Allowed n q l) where
           (y .configuration, record { act = x; record-there = h; in-regular = sym s ∙ z ∙ w })
 
   -- Whatever is sent was put out, by one server, in a regular configuration: "send_p(m, c)" has a regular c.
-  pub sent-put-out : (p k : ℕ) (e : List ℕ) → at (sentAt n q l p) k ≡ some e → (i : ℕ) × (c : Configuration) × (r : Record) × Puts p i k c r × (e ≡ write r)
+  pub sent-put-out : (p k : ℕ) (e : List ℕ) → at (sentAt n q l p) k ≡ some e
+      → (i : ℕ) × (c : Configuration) × (r : Record) × Puts p i k c r × (e ≡ write r)
   unfolding at
   sent-put-out p k e h = go (at l p) refl
     where

@@ -125,7 +125,8 @@ module _ {n q : ℕ} {l : Run} (A : Allowed n q l) where
   pub came-later : {p t i : ℕ} {c : Configuration} {r : Record} → p ≤ t → Came p i c r → Came t i c r
   came-later h x = record { place = x .place; earlier = omega (arith, x .earlier); delivery = x .delivery; what = x .what; here = x .here }
 
-  pub came-now : {p i : ℕ} {c : Configuration} {r : Record} → Comes n q l p i r → isMessage r ≡ true → placeAt n q l i p .regular ≡ some c → Came (suc p) i c r
+  pub came-now : {p i : ℕ} {c : Configuration} {r : Record} → Comes n q l p i r → isMessage r ≡ true → placeAt n q l i p .regular ≡ some c
+      → Came (suc p) i c r
   came-now {p} {i} {c} {r} x m h = record { place = p; earlier = omega arith; delivery = record { what = r; comes = x; message = m; which = refl }; what = refl; here = h }
 
   -- Who sent it, and that it was put out in c.
@@ -172,7 +173,8 @@ module _ {n q : ℕ} {l : Run} (A : Allowed n q l) where
       (λ p a b f g h k x e. go p a g h k x e (stay-step A p i f))
     where
       same : (p : ℕ) → ((k : ℕ) (x : State) → getD (membershipAt n q l p i .states) k none ≡ some x → StateCame p i k c x) → (k : ℕ) (x : State)
-          → getD (membershipAt n q l (suc p) i .states) k none ≡ some x → membershipAt n q l (suc p) i .states ≡ membershipAt n q l p i .states → StateCame (suc p) i k c x
+          → getD (membershipAt n q l (suc p) i .states) k none ≡ some x → membershipAt n q l (suc p) i .states ≡ membershipAt n q l p i .states
+          → StateCame (suc p) i k c x
       same p h k x e m = let y = h k x (ap (λ z. getD z k none) (sym m) ∙ e) in (came-later (omega arith) (y .0), y .1)
 
       taking : (p : ℕ) → placeAt n q l i p .regular ≡ some c → ((d : Configuration) → Takes n q l p i d → ⊥)

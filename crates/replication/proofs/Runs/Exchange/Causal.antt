@@ -42,7 +42,8 @@ module _ {n q : ℕ} {l : Run} (A : Allowed n q l) where
     pub what : delivery .what ≡ d .what
     pub here : placeAt n q l i place .regular ≡ some c
 
-  likewise : {p i u k : ℕ} {c : Configuration} (e : Delivery A u k (A .source u)) (x : ℕ) → Delivery A x i (A .source u) → x < p → placeAt n q l i x .regular ≡ some c
+  likewise : {p i u k : ℕ} {c : Configuration} (e : Delivery A u k (A .source u)) (x : ℕ) → Delivery A x i (A .source u) → x < p
+      → placeAt n q l i x .regular ≡ some c
       → Likewise p i c e
   likewise {p} {i} {u} {k} {c} e x d h f = record { place = x; earlier = h; delivery = g; message = d .which; what = same; here = f }
     where
@@ -54,7 +55,8 @@ module _ {n q : ℕ} {l : Run} (A : Allowed n q l) where
 
   -- What the sender of m had delivered when it sent m.
   module _ {p i : ℕ} {m : Message} (d : Delivery A p i m) (o : Origin A p i m (d .what)) where
-    pub delivered-likewise : {u : ℕ} (e : Delivery A u (o .sender) (A .source u)) → u ≤ m .sending → placeAt n q l (o .sender) u .regular ≡ some (o .configuration)
+    pub delivered-likewise : {u : ℕ} (e : Delivery A u (o .sender) (A .source u)) → u ≤ m .sending
+        → placeAt n q l (o .sender) u .regular ≡ some (o .configuration)
         → Likewise p i (o .configuration) e
     delivered-likewise {u} e h f =
         let s = origin A e in

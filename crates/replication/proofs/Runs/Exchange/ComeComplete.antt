@@ -47,7 +47,8 @@ no-retransmission : {X : Type 0} {r : Record} → Retransmitted r → ((k p : �
 no-retransmission x f = absurd (f (x .sender) (x .position) (x .what) (x .is))
 
 -- At the end of the exchange as many have come as planned.
-come-completes : {n : ℕ} {m : Membership} {r : Record} {o : Membership} (k j : ℕ) → Completes n m r o → (Retransmitted r → j ≡ k + 1) → ComeIn (m .mode) n m k → plannedIn n o ≤ j
+come-completes : {n : ℕ} {m : Membership} {r : Record} {o : Membership} (k j : ℕ) → Completes n m r o → (Retransmitted r → j ≡ k + 1)
+    → ComeIn (m .mode) n m k → plannedIn n o ≤ j
 come-completes k j (M.byState x e c d) f h = omega (arith, eq-holds _ _ d)
 come-completes {n} {m} k j (M.byRetransmission i p a e c) f h =
     omega (arith, le-holds _ _ c, subst (λ z. ComeIn z n m k) e h, f (record { sender = i; position = p; what = a; is = refl }))
@@ -100,7 +101,8 @@ module _ {n q : ℕ} {l : Run} (A : Allowed n q l) (c : Configuration) (P : ℕ)
   abbrev pub resentCount : ℕ → ℕ → ℕ
   resentCount i p = length (resentPlaces A c i p)
 
-  pub come-complete : (i p : ℕ) → placeAt n q l i p .regular ≡ some c → p ≤ P → ComeIn (membershipAt n q l p i .mode) n (membershipAt n q l p i) (resentCount i p)
+  pub come-complete : (i p : ℕ) → placeAt n q l i p .regular ≡ some c → p ≤ P
+      → ComeIn (membershipAt n q l p i .mode) n (membershipAt n q l p i) (resentCount i p)
   unfolding isMessage
   come-complete i =
       in-stay n q l i c (λ p. p ≤ P → ComeIn (membershipAt n q l p i .mode) n (membershipAt n q l p i) (resentCount i p))
@@ -112,20 +114,23 @@ module _ {n q : ℕ} {l : Run} (A : Allowed n q l) (c : Configuration) (P : ℕ)
       nothing-came A h (record { place = u; earlier = x .0; delivery = x .1; what = refl; here = x .3 }))))
       (λ p a b f g h k. go p a g (h (omega arith)) k (stay-step A p i f))
     where
-      kept : (p : ℕ) → ComeIn (membershipAt n q l p i .mode) n (membershipAt n q l p i) (resentCount i p) → membershipAt n q l (suc p) i ≡ membershipAt n q l p i
+      kept : (p : ℕ) → ComeIn (membershipAt n q l p i .mode) n (membershipAt n q l p i) (resentCount i p)
+          → membershipAt n q l (suc p) i ≡ membershipAt n q l p i
           → ((r : Record) → Comes n q l p i r → Retransmitted r → ⊥)
           → ComeIn (membershipAt n q l (suc p) i .mode) n (membershipAt n q l (suc p) i) (resentCount i (suc p))
       kept p h m f =
           subst (λ z. ComeIn (z .mode) n z (resentCount i (suc p))) (sym m)
           (come-same (membershipAt n q l p i .mode) n (membershipAt n q l p i) _ _ (ap length (resent-same A c i p f)) h)
 
-      one-more : (p : ℕ) (r : Record) → Comes n q l p i r → placeAt n q l i p .regular ≡ some c → Retransmitted r → resentCount i (suc p) ≡ resentCount i p + 1
+      one-more : (p : ℕ) (r : Record) → Comes n q l p i r → placeAt n q l i p .regular ≡ some c → Retransmitted r
+          → resentCount i (suc p) ≡ resentCount i p + 1
       one-more p r z a x = ap length (resent-more A c i p r z x a) ∙ length-append (resentPlaces A c i p) (p ∷ [])
 
       no-more : (p : ℕ) (r : Record) → Comes n q l p i r → (Retransmitted r → ⊥) → resentCount i (suc p) ≡ resentCount i p
       no-more p r z f = ap length (resent-same A c i p (λ s y x. f (subst Retransmitted (comes-once y z) x)))
 
-      grows : (p : ℕ) (r : Record) → Comes n q l p i r → placeAt n q l i p .regular ≡ some c → Dec (Retransmitted r) → resentCount i p ≤ resentCount i (suc p)
+      grows : (p : ℕ) (r : Record) → Comes n q l p i r → placeAt n q l i p .regular ≡ some c → Dec (Retransmitted r)
+          → resentCount i p ≤ resentCount i (suc p)
       grows p r z a (yes x) = omega (arith, one-more p r z a x)
       grows p r z a (no f) = omega (arith, no-more p r z f)
 

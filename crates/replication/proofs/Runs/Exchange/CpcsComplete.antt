@@ -121,7 +121,8 @@ module _ {n q : ℕ} {l : Run} (A : Allowed n q l) (c : Configuration) (P : ℕ)
       (λ p a b f g h k. go p g (h (omega arith)) k (stay-step A p i f))
     where
       kept : (p : ℕ) → CpcsIn (membershipAt n q l p i .mode) (membershipAt n q l p i) (CpcOf p i) → membershipAt n q l (suc p) i ≡ membershipAt n q l p i
-          → ((r : Record) → Came A (suc p) i c r → Came A p i c r) → CpcsIn (membershipAt n q l (suc p) i .mode) (membershipAt n q l (suc p) i) (CpcOf (suc p) i)
+          → ((r : Record) → Came A (suc p) i c r → Came A p i c r)
+          → CpcsIn (membershipAt n q l (suc p) i .mode) (membershipAt n q l (suc p) i) (CpcOf (suc p) i)
       kept p h m f =
           subst (λ z. CpcsIn (z .mode) z (CpcOf (suc p) i)) (sym m)
           (cpcs-same (CpcOf p i) (CpcOf (suc p) i) (membershipAt n q l p i .mode) (membershipAt n q l p i) (λ j x. (x .0, f _ (x .1))) h)

@@ -54,7 +54,8 @@ same-mark-trans f g = record { stands = g .stands; index = f .index ∙ g .index
 same-mark : {x y : Mark} → x ≡ y → x .status ≡ 1 → SameMark x y
 same-mark e h = record { stands = ap (λ m. m .status) (sym e) ∙ h; index = ap (λ m. m .index) e; attempt = ap (λ m. m .attempt) e; set = ap (λ m. m .set) e }
 
-kept-or-cleared : (b : Bool) (xs : List State) (v : State) → (pick b (keptMark xs v) clearedMark) .status ≡ 1 → SameMark (pick b (keptMark xs v) clearedMark) (v .mark)
+kept-or-cleared : (b : Bool) (xs : List State) (v : State) → (pick b (keptMark xs v) clearedMark) .status ≡ 1
+    → SameMark (pick b (keptMark xs v) clearedMark) (v .mark)
 unfolding pick keptMark clearedMark
 kept-or-cleared true xs v e = record { stands = e; index = refl; attempt = refl; set = refl }
 kept-or-cleared false xs v e = absurd (omega arith)
@@ -63,7 +64,8 @@ judged-kept : (xs : List State) (v : State) → judgedMark xs v .status ≡ 1 �
 unfolding judgedMark
 judged-kept xs v e = kept-or-cleared _ xs v e
 
-own-kept : (me : ℕ) (xs vs : List State) → ownMark me xs vs .status ≡ 1 → (v : State) × List·Memᴰ v vs × (v .sender ≡ me) × SameMark (ownMark me xs vs) (v .mark)
+own-kept : (me : ℕ) (xs vs : List State) → ownMark me xs vs .status ≡ 1
+    → (v : State) × List·Memᴰ v vs × (v .sender ≡ me) × SameMark (ownMark me xs vs) (v .mark)
 unfolding ownMark clearedMark
 own-kept me xs [] e = absurd (omega arith)
 own-kept me xs (v ∷ vs) e = go (known (v .sender =? me)) (own-kept me xs vs)
@@ -133,7 +135,8 @@ module _ {n q : ℕ} {l : Run} (A : Allowed n q l) where
 
   -- The own State that judging found says the mark that the server has.
   own-sent : (p i : ℕ) (x : Acts n q l p i) → inExchange (membershipAt n q l p i .mode) ≡ true → (v : State)
-      → List·Memᴰ v (collected (hearing (x .by .event) (memoryAt n q l p i))) → v .sender ≡ memoryAt n q l p i .me → v .mark ≡ memoryAt n q l p i .votes .mark
+      → List·Memᴰ v (collected (hearing (x .by .event) (memoryAt n q l p i))) → v .sender ≡ memoryAt n q l p i .me
+      → v .mark ≡ memoryAt n q l p i .votes .mark
   unfolding collected
   own-sent p i x g v m e = go (exchange-regular _ _ _ g (standing n q l i p .memory)) (present-from v _ m)
     where

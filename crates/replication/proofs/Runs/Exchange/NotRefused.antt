@@ -54,7 +54,8 @@ module _ {n q : ℕ} {l : Run} (A : Allowed n q l) where
 
     -- Where the state has a rule and no row of the table applies, the record is not refused.
     ruled : (r : Record) (k : Rule) → d .what ≡ r → ruleFor (membershipAt n q l p i .mode) r ≡ some k → possible (memoryAt n q l p i) r ≡ true
-        → (isIgnored k or fromMember (membershipAt n q l p i) r) ≡ true → withinQuota (memoryAt n q l p i) r ≡ true → withinHeld (memoryAt n q l p i) r ≡ true → ⊥
+        → (isIgnored k or fromMember (membershipAt n q l p i) r) ≡ true → withinQuota (memoryAt n q l p i) r ≡ true
+        → withinHeld (memoryAt n q l p i) r ≡ true → ⊥
     ruled r k e a b f g h = not-refused (memoryAt n q l p i) r k a b f g h (y .number) (ap (answer (memoryAt n q l p i)) (sym e) ∙ refused-answer A d y)
 
     puts-as : (r : Record) → d .what ≡ r → Puts A (m .sending) (o .sender) (m .number) (o .configuration) r

@@ -148,7 +148,8 @@ module _ {n q : ℕ} {l : Run} (A : Allowed n q l) where
   pub puts-after : {v k j : ℕ} {c : Configuration} {r : Record} → Puts A v k j c r → placeAt n q l k (suc v) .regular ≡ some c
   puts-after u = ap (λ z. z .regular) (u .in-regular)
 
-  pub puts-before : {v k j : ℕ} {c : Configuration} {r : Record} → Puts A v k j c r → phase (membershipAt n q l v k .mode) ≤ 1 → placeAt n q l k v .regular ≡ some c
+  pub puts-before : {v k j : ℕ} {c : Configuration} {r : Record} → Puts A v k j c r → phase (membershipAt n q l v k .mode) ≤ 1
+      → placeAt n q l k v .regular ≡ some c
   puts-before {v} {k} u h =
       ap (λ z. z .regular) (sym (coupled A v k (u .act .up)))
       ∙ sym (exchange-kept (acts-membership A v k (u .act)) (early-in-exchange _ h) (u .act .running) .0)
@@ -176,7 +177,8 @@ module _ {n q : ℕ} {l : Run} (A : Allowed n q l) where
       record { collects = f .from; receives = ap (λ s. s .membership .mode) (x .act .memory-next) ∙ f .to }
 
   -- A server sends its part of the plan once in a configuration.
-  pub part-once : {v w k i j a b a′ b′ : ℕ} {d e : Action} {c : Configuration} → Puts A v k i c (retransmission a b d) → Puts A w k j c (retransmission a′ b′ e) → v ≡ w
+  pub part-once : {v w k i j a b a′ b′ : ℕ} {d e : Action} {c : Configuration} → Puts A v k i c (retransmission a b d)
+      → Puts A w k j c (retransmission a′ b′ e) → v ≡ w
   part-once {v} {w} {k} {c = c} x y =
       let f = part-resends x in
       let g = part-resends y in

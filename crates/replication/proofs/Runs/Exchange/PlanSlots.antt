@@ -67,7 +67,8 @@ missing-positive f xs m = omega (arith, after-higher _ _ 0 m)
 module _ (n me : ℕ) (l : Log) (xs : List State) where
   -- A record of one's part: whose part it is in, and what it resends.
   pub data PlanEntry : Record → Type 0 where
-    green-entry : (p : ℕ) (a : Action) → isMe me (resender greenIn xs) ≡ true → List·Memᴰ (suc p) (missing greenIn xs) → PlanEntry (retransmission me (suc p) a)
+    green-entry : (p : ℕ) (a : Action) → isMe me (resender greenIn xs) ≡ true → List·Memᴰ (suc p) (missing greenIn xs)
+        → PlanEntry (retransmission me (suc p) a)
     red-entry : (a : Action) → List·Memᴰ (a .id .creator) (below n) → isMe me (resender (cutIn (a .id .creator)) xs) ≡ true
         → List·Memᴰ (a .id .index) (missing (cutIn (a .id .creator)) xs) → PlanEntry (retransmission me 0 a)
 
@@ -145,7 +146,8 @@ module _ (n me : ℕ) (l : Log) (xs : List State) where
       (gather-distinct slotOf greenAt (λ p. resent me p (at (l .green) (p - 1))) (missing greenIn xs) (λ p r m e. go p r m (resent-is p _ r e))
       (distinct-map greenAt (missing greenIn xs) (λ a b u v e. cc) (above-distinct _ _)))
     where
-      go : (p : ℕ) (r : Record) → List·Memᴰ p (missing greenIn xs) → (a : Action) × (at (l .green) (p - 1) ≡ some a) × (r ≡ retransmission me p a) → slotOf r ≡ greenAt p
+      go : (p : ℕ) (r : Record) → List·Memᴰ p (missing greenIn xs) → (a : Action) × (at (l .green) (p - 1) ≡ some a) × (r ≡ retransmission me p a)
+          → slotOf r ≡ greenAt p
       go zero r m x = absurd (missing-positive greenIn xs m)
       go (suc p) r m x = ap slotOf (x .2)
 

@@ -22,7 +22,8 @@ use Rattle.replication.proofs.Runs.Made.{Made}
 
 module _ {n q : ℕ} {l : Run} (A : Allowed n q l) where
   -- What a refused delivery would have been answered.
-  pub refused-answer : {p i : ℕ} {m : Message} (d : Delivery A p i m) (y : Refuses n q l p i) → answer (memoryAt n q l p i) (d .what) ≡ Outcome.refused (y .number)
+  pub refused-answer : {p i : ℕ} {m : Message} (d : Delivery A p i m) (y : Refuses n q l p i)
+      → answer (memoryAt n q l p i) (d .what) ≡ Outcome.refused (y .number)
   refused-answer {p} {i} d y =
       let e = event-entry (some-same (sym (y .here) ∙ d .comes .here)) in
       answer-refused (memoryAt n q l p i) (y .bytes) (d .what) (y .number) (y .refusal) (y .reads ∙ ap (heardAt n q l p i) (e .1) ∙ d .comes .heard)

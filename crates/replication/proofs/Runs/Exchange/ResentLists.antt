@@ -61,7 +61,8 @@ module _ {n q : ℕ} {l : Run} (A : Allowed n q l) (c : Configuration) (i : ℕ)
   resent-says p r x m = delivery-says A {p = p} {i = i} {m = A .source p} (record { what = r; comes = x; message = m; which = refl })
 
   -- A retransmission adds its place.
-  pub resent-more : (p : ℕ) (r : Record) → Comes n q l p i r → Retransmitted r → placeAt n q l i p .regular ≡ some c → resentPlaces (suc p) ≡ resentPlaces p ++ (p ∷ [])
+  pub resent-more : (p : ℕ) (r : Record) → Comes n q l p i r → Retransmitted r → placeAt n q l i p .regular ≡ some c
+      → resentPlaces (suc p) ≡ resentPlaces p ++ (p ∷ [])
   unfolding isMessage
   resent-more p r x y h =
       let z = subst (λ s. Comes n q l p i s) (y .is) x in
@@ -103,7 +104,8 @@ module _ {n q : ℕ} {l : Run} (A : Allowed n q l) (c : Configuration) (i : ℕ)
         within-holds c _ (y .there),
       )
 
-  pub in-resent : (p u : ℕ) (d : Delivery A u i (A .source u)) → Retransmitted (d .what) → placeAt n q l i u .regular ≡ some c → u < p → List·Memᴰ u (resentPlaces p)
+  pub in-resent : (p u : ℕ) (d : Delivery A u i (A .source u)) → Retransmitted (d .what) → placeAt n q l i u .regular ≡ some c → u < p
+      → List·Memᴰ u (resentPlaces p)
   in-resent p u d r h e =
       filter-has (λ v. resentAt v) u (deliveryPlaces n q l (within c) i p) (in-list A (within c) i p u (A .source u) d (within-yes c _ h) e)
       (ap isResent (delivery-says A d ∙ ap some (r .is)))

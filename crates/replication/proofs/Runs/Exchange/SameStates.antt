@@ -58,7 +58,8 @@ module _ {n q : ℕ} {l : Run} (A : Allowed n q l) (c : Configuration) where
       (ap (λ y. inSet y (setIn (membershipAt n q l p i))) z ∙ ap (λ y. inSet j (theSet y)) (stay-configuration A p i c a) ∙ m))
 
   -- Only members' States are in.
-  pub in-member : (p i j : ℕ) (x : State) → placeAt n q l i p .regular ≡ some c → getD (membershipAt n q l p i .states) j none ≡ some x → inSet j (c .set) ≡ true
+  pub in-member : (p i j : ℕ) (x : State) → placeAt n q l i p .regular ≡ some c → getD (membershipAt n q l p i .states) j none ≡ some x
+      → inSet j (c .set) ≡ true
   unfolding senderOf
   in-member p i j x a e =
       let u = states-came A i c p a j x e in
@@ -69,7 +70,8 @@ module _ {n q : ℕ} {l : Run} (A : Allowed n q l) (c : Configuration) where
   module _ (p i r k : ℕ) (a : placeAt n q l i p .regular ≡ some c) (b : placeAt n q l k r .regular ≡ some c)
       (e : everyStateIn (membershipAt n q l p i) ≡ true) (f : everyStateIn (membershipAt n q l r k) ≡ true)
     where
-      entry-same : (j : ℕ) → j < n → (x y : Option State) → getD (membershipAt n q l p i .states) j none ≡ x → getD (membershipAt n q l r k .states) j none ≡ y → x ≡ y
+      entry-same : (j : ℕ) → j < n → (x y : Option State) → getD (membershipAt n q l p i .states) j none ≡ x
+          → getD (membershipAt n q l r k .states) j none ≡ y → x ≡ y
       entry-same j h none none u v = refl
       entry-same j h (some x) (some y) u v = ap some (one-collected p i r k j x y a b u v)
       entry-same j h none (some y) u v = let z = member-in p i j a e h (in-member r k j y b v) in none-some (sym u ∙ z .1)

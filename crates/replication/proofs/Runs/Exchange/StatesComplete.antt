@@ -128,7 +128,8 @@ module _ {n q : ℕ} {l : Run} (A : Allowed n q l) (c : Configuration) where
       → membershipAt n q l (suc p) i .states ≡ set (membershipAt n q l p i .states) (x .sender) (some x) → Came A (suc p) i c (state x) → AllIn (suc p) i
   added-in p i x a u h m k y w = go (ℕ-discrete (y .sender) (x .sender)) (came-or-taken A u w)
     where
-      go : Dec (y .sender ≡ x .sender) → Came A p i c (state y) ⊎ (state x ≡ state y) → getD (membershipAt n q l (suc p) i .states) (y .sender) none ≡ some y
+      go : Dec (y .sender ≡ x .sender) → Came A p i c (state y) ⊎ (state x ≡ state y)
+          → getD (membershipAt n q l (suc p) i .states) (y .sender) none ≡ some y
       go (yes e) z =
           ap (λ s. getD s (y .sender) none) m
           ∙ ap (λ s. getD (set (membershipAt n q l p i .states) (x .sender) (some x)) s none) e
