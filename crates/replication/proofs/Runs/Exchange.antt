@@ -1,0 +1,14 @@
+pub mod Phases
+pub mod SameStates
+pub mod StatesComplete
+pub mod CpcsComplete
+pub mod ResentLists
+pub mod ComeComplete
+pub mod Causal
+pub mod PlanSlots
+pub mod ResentBound
+pub mod SenderAhead
+pub mod RefusedDeliveries
+pub mod NotRefused
+pub mod Taken
+pub mod Marks
