@@ -29,4 +29,3 @@ pub mod OwnStates
 pub mod Made
 pub mod DeliveryLists
 pub mod Agreement
-pub mod Exchange
