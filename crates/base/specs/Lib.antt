@@ -10,7 +10,6 @@ pub mod Lists
 pub mod AtLaws
 pub mod Rising
 pub mod Chains
-pub mod Filters
 pub mod Distinct
 pub mod Passing
 pub mod Totals

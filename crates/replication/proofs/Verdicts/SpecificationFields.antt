@@ -23,12 +23,12 @@ use Rattle.replication.specs.Audit.Table.{table}
 use Rattle.replication.specs.Audit.Journal.{Sending, Delivery, Taking, Transition, Passage, Journal, settles, sorted, journalOf}
 use Rattle.replication.specs.Audit.Rules.{genuine}
 use Rattle.replication.specs.Audit.Specifications.{isDelivered, same-configuration, isAgain, one-delivery, one-name, hasLeftSince, self-delivery, during, isRegular, isOver, sameWay, allAmong, atomic}
-use Rattle.replication.proofs.Audit.Sameness.{messages-decided, regulars-decided, places-decided, configured-decided}
-use Rattle.replication.proofs.Audit.Entries.{transition-among, sendingAt, Delivering, delivering, delivered-message, delivered-sending, delivered}
-use Rattle.replication.proofs.Audit.Later.{settled, change, passage-among}
+use Rattle.replication.proofs.Verdicts.Sameness.{messages-decided, regulars-decided, places-decided, configured-decided}
+use Rattle.replication.proofs.Verdicts.Entries.{transition-among, sendingAt, Delivering, delivering, delivered-message, delivered-sending, delivered}
+use Rattle.replication.proofs.Verdicts.Later.{settled, change, passage-among}
 use Rattle.replication.proofs.Runs.Deliveries.{sends-one}
-use Rattle.replication.proofs.Audit.PerConfiguration.{part, part-there, sending-in, delivery-in, leaving-in, found-delivered}
-use Rattle.replication.proofs.Audit.RuleFields.{genuine-delivery}
+use Rattle.replication.proofs.Verdicts.PerConfiguration.{part, part-there, sending-in, delivery-in, leaving-in, found-delivered}
+use Rattle.replication.proofs.Verdicts.RuleFields.{genuine-delivery}
 
 module _ (n q : ℕ) (l : Run) (w : Witness) where
   abbrev J : Journal

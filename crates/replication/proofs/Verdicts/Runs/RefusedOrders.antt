@@ -6,8 +6,8 @@ use Rattle.format.specs.Types.{state, regular, transitional}
 use Rattle.format.specs.Write.{write}
 use Rattle.replication.specs.Runs.Run.{event, Run}
 use Rattle.replication.specs.Audit.Witness.{Witness}
-use Rattle.replication.proofs.Audit.Runs.Records.{sent, primary, unmarked, no-yellow, told}
-use Rattle.replication.proofs.Audit.Runs.Shown.{Refused, opened}
+use Rattle.replication.proofs.Verdicts.Runs.Records.{sent, primary, unmarked, no-yellow, told}
+use Rattle.replication.proofs.Verdicts.Runs.Shown.{Refused, opened}
 
 -- 2.3, 2.4: two configurations come to two servers in opposite orders. With one ord for each configuration 6.1 fails.
 abbrev rises-run : Run

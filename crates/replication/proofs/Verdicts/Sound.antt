@@ -11,9 +11,9 @@ use Rattle.replication.specs.Runs.Allowed.{Allowed}
 use Rattle.replication.specs.Audit.Witness.{Witness, sourceIn, nameIn, ordIn}
 use Rattle.replication.specs.Audit.Rules.{sizes}
 use Rattle.replication.specs.Audit.Verdict.{Test, testsOf, tests, audit}
-use Rattle.replication.proofs.Audit.RuleFields.{servers-hold, one-set-holds, once-holds, between-holds, one-transitional-holds, genuine-holds, cut-by-crash-holds, recovers-holds}
-use Rattle.replication.proofs.Audit.SpecificationFields.{same-configuration-holds, one-delivery-holds, one-name-holds, self-delivery-holds, atomic-holds}
-use Rattle.replication.proofs.Audit.OrderFields.{causal-holds, rises-holds, same-moment-holds, same-message-holds, one-order-holds, agreed-holds, safe-holds}
+use Rattle.replication.proofs.Verdicts.RuleFields.{servers-hold, one-set-holds, once-holds, between-holds, one-transitional-holds, genuine-holds, cut-by-crash-holds, recovers-holds}
+use Rattle.replication.proofs.Verdicts.SpecificationFields.{same-configuration-holds, one-delivery-holds, one-name-holds, self-delivery-holds, atomic-holds}
+use Rattle.replication.proofs.Verdicts.OrderFields.{causal-holds, rises-holds, same-moment-holds, same-message-holds, one-order-holds, agreed-holds, safe-holds}
 
 -- A run that passes the audit is allowed.
 pub audit-sound : (n q : ℕ) (l : Run) (w : Witness) → audit n q l w ≡ true → Allowed n q l

@@ -6,8 +6,8 @@ use Rattle.format.specs.Types.{action, state, regular, transitional, request}
 use Rattle.format.specs.Write.{write}
 use Rattle.replication.specs.Runs.Run.{event, Run}
 use Rattle.replication.specs.Audit.Witness.{Witness}
-use Rattle.replication.proofs.Audit.Runs.Records.{sent, made, primary, unmarked, no-yellow, told}
-use Rattle.replication.proofs.Audit.Runs.Shown.{Refused, opened}
+use Rattle.replication.proofs.Verdicts.Runs.Records.{sent, made, primary, unmarked, no-yellow, told}
+use Rattle.replication.proofs.Verdicts.Runs.Shown.{Refused, opened}
 
 -- 1.3: server 1 delivers in its configuration what 0 sent in another.
 abbrev same-configuration-run : Run

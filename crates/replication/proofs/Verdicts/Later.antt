@@ -17,8 +17,8 @@ use Rattle.replication.specs.Runs.Happenings.{Configured, regularly, tra
 use Rattle.replication.specs.Audit.Witness.{Witness, sourceIn, nameIn, entryOrd}
 use Rattle.replication.specs.Audit.Table.{Role, delivers, takes, transits, goes-down, comes-back, neither, roleIn, Row, rowOf, table}
 use Rattle.replication.specs.Audit.Journal.{Change, changeBy, settlesBy, settles, nextBy, nextChange, isCrash, crashesNext, hasLeft, passageTo, passageFrom, leavingsIn, passagesIn}
-use Rattle.replication.proofs.Audit.Rows.{rowAt, table-holds, table-is, row-server, Meaning, meaning, role-of}
-use Rattle.replication.proofs.Audit.Entries.{taking-among, change-row, change-among}
+use Rattle.replication.proofs.Verdicts.Rows.{rowAt, table-holds, table-is, row-server, Meaning, meaning, role-of}
+use Rattle.replication.proofs.Verdicts.Entries.{taking-among, change-row, change-among}
 
 -- ---- a list of rows
 

@@ -12,9 +12,9 @@ use Rattle.replication.specs.Runs.Happenings.{Message, Happening, entry-
 use Rattle.replication.specs.Audit.Witness.{Witness, sourceIn, nameIn}
 use Rattle.replication.specs.Audit.Table.{delivers, Row, table}
 use Rattle.replication.specs.Audit.Clocks.{raise, Stamps, numberOf, clockAt, clockWith, stamps}
-use Rattle.replication.proofs.Audit.Rows.{rowAt, table-holds, table-is, row-place, row-server, row-sent, role-of}
-use Rattle.replication.proofs.Audit.Entries.{message-role, row-source}
-use Rattle.replication.proofs.Audit.Stamps.{Below, below-trans, raise-below, raise-at, raise-more, knows-own, knows-delivered, stamp-server}
+use Rattle.replication.proofs.Verdicts.Rows.{rowAt, table-holds, table-is, row-place, row-server, row-sent, role-of}
+use Rattle.replication.proofs.Verdicts.Entries.{message-role, row-source}
+use Rattle.replication.proofs.Verdicts.Stamps.{Below, below-trans, raise-below, raise-at, raise-more, knows-own, knows-delivered, stamp-server}
 
 module _ (n q : ℕ) (l : Run) (w : Witness) (sent-before : (p i : ℕ) (m : Message) → Delivers n q l (sourceIn w) (nameIn w) p i m → m .sending < p) where
   abbrev rows : List Row

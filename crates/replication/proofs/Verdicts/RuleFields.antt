@@ -23,10 +23,10 @@ use Rattle.replication.specs.Audit.Table.{Role, delivers, takes, transit
 use Rattle.replication.specs.Audit.Clocks.{stamps}
 use Rattle.replication.specs.Audit.Journal.{Delivery, Taking, Transition, Journal, crashesNext, sendingIn, sorted, journalOf}
 use Rattle.replication.specs.Audit.Rules.{servers, one-set, once, between, one-transitional, genuine, cut-by-crash, bringsBack, recovers}
-use Rattle.replication.proofs.Audit.Sameness.{configurations-decided}
-use Rattle.replication.proofs.Audit.Rows.{rowAt, row-among, table-is, row-server, row-cut, Meaning, meaning}
-use Rattle.replication.proofs.Audit.Entries.{taking-among, transition-among, sendingAt, Delivering, delivering, delivered-message, delivered-sending}
-use Rattle.replication.proofs.Audit.Later.{crash-next}
+use Rattle.replication.proofs.Verdicts.Sameness.{configurations-decided}
+use Rattle.replication.proofs.Verdicts.Rows.{rowAt, row-among, table-is, row-server, row-cut, Meaning, meaning}
+use Rattle.replication.proofs.Verdicts.Entries.{taking-among, transition-among, sendingAt, Delivering, delivering, delivered-message, delivered-sending}
+use Rattle.replication.proofs.Verdicts.Later.{crash-next}
 
 there-is : {A : Type 0} (o : Option A) → isThere o ≡ true → o ≡ none → ⊥
 unfolding isThere

@@ -14,8 +14,8 @@ use Rattle.replication.specs.Runs.Happenings.{entry-at, regularly, Of, T
 use Rattle.replication.specs.Runs.Allowed.{Allowed}
 use Rattle.replication.specs.Runs.Claim.{IsPrimary, Agreement}
 use Rattle.replication.specs.Audit.Witness.{Witness}
-use Rattle.replication.proofs.Audit.Runs.Records.{sent, primary, unmarked, marked, no-yellow, told}
-use Rattle.replication.proofs.Audit.Runs.Shown.{Refused, installed, installed-primary, opened}
+use Rattle.replication.proofs.Verdicts.Runs.Records.{sent, primary, unmarked, marked, no-yellow, told}
+use Rattle.replication.proofs.Verdicts.Runs.Shown.{Refused, installed, installed-primary, opened}
 
 unfoldable pub run : Run
 run =

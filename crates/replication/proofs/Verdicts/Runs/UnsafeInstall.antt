@@ -22,9 +22,9 @@ use Rattle.replication.specs.Runs.Claim.{IsPrimary, Agreement}
 use Rattle.replication.specs.Audit.Witness.{Witness}
 use Rattle.replication.specs.Audit.Table.{roleIn, Row, rowOf, table}
 use Rattle.replication.specs.Audit.Rules.{bringsBack}
-use Rattle.replication.proofs.Audit.Rows.{rowAt, table-holds, role-of}
-use Rattle.replication.proofs.Audit.Runs.Records.{sent, primary, unmarked, no-yellow, told}
-use Rattle.replication.proofs.Audit.Runs.Shown.{Refused, installed, installed-primary, opened}
+use Rattle.replication.proofs.Verdicts.Rows.{rowAt, table-holds, role-of}
+use Rattle.replication.proofs.Verdicts.Runs.Records.{sent, primary, unmarked, no-yellow, told}
+use Rattle.replication.proofs.Verdicts.Runs.Shown.{Refused, installed, installed-primary, opened}
 
 unfoldable pub run : Run
 run =

@@ -21,14 +21,14 @@ use Rattle.replication.specs.Audit.Clocks.{knows}
 use Rattle.replication.specs.Audit.Journal.{Sending, Delivery, Taking, Change, PerConfiguration, Journal, sorted, journalOf}
 use Rattle.replication.specs.Audit.Rules.{genuine}
 use Rattle.replication.specs.Audit.Specifications.{same-configuration, isDelivered, earlier, hasMessage, eachWithEarlier, isCause, causal, rises, same-moment, same-message, isTogether, one-order, isOwed, agreed, isSharedWith, safe}
-use Rattle.replication.proofs.Audit.Sameness.{messages-decided, regulars-decided, configured-decided}
-use Rattle.replication.proofs.Audit.Entries.{change-among, sendingAt, Delivering, delivering, delivered-message, delivered-sending}
-use Rattle.replication.proofs.Audit.Causality.{cause-known}
-use Rattle.replication.proofs.Audit.Ords.{precedes-rise}
+use Rattle.replication.proofs.Verdicts.Sameness.{messages-decided, regulars-decided, configured-decided}
+use Rattle.replication.proofs.Verdicts.Entries.{change-among, sendingAt, Delivering, delivering, delivered-message, delivered-sending}
+use Rattle.replication.proofs.Verdicts.Causality.{cause-known}
+use Rattle.replication.proofs.Verdicts.Ords.{precedes-rise}
 use Rattle.replication.proofs.Runs.Deliveries.{sends-one}
-use Rattle.replication.proofs.Audit.PerConfiguration.{part as part-of, part-there, sending-in, delivery-in, leaving-in, found-delivered, found-before}
-use Rattle.replication.proofs.Audit.RuleFields.{genuine-delivery}
-use Rattle.replication.proofs.Audit.SpecificationFields.{placed}
+use Rattle.replication.proofs.Verdicts.PerConfiguration.{part as part-of, part-there, sending-in, delivery-in, leaving-in, found-delivered, found-before}
+use Rattle.replication.proofs.Verdicts.RuleFields.{genuine-delivery}
+use Rattle.replication.proofs.Verdicts.SpecificationFields.{placed}
 
 module _ (n q : ℕ) (l : Run) (w : Witness) where
   abbrev J : Journal

@@ -6,8 +6,8 @@ use Rattle.format.specs.Types.{action, state, regular, transitional, request, r
 use Rattle.format.specs.Write.{write}
 use Rattle.replication.specs.Runs.Run.{event, crash, Run}
 use Rattle.replication.specs.Audit.Witness.{Witness}
-use Rattle.replication.proofs.Audit.Runs.Records.{made, primary, unmarked, no-yellow, told}
-use Rattle.replication.proofs.Audit.Runs.Shown.{Refused, opened}
+use Rattle.replication.proofs.Verdicts.Runs.Records.{made, primary, unmarked, no-yellow, told}
+use Rattle.replication.proofs.Verdicts.Runs.Shown.{Refused, opened}
 
 -- Nine servers.
 sizes-refused : Refused 9 1 [] (record { sources = []; names = []; ords = []; sendingOrds = [] }) ("sizes" ∷ [])

@@ -18,7 +18,7 @@ use Rattle.replication.specs.Audit.Witness.{Witness, sourceIn, nameIn, e
 use Rattle.replication.specs.Audit.Table.{Role, delivers, takes, transits, goes-down, comes-back, neither, roleIn, Row, rowOf, table}
 use Rattle.replication.specs.Audit.Clocks.{Stamps, numberOf, clockAt, stamps}
 use Rattle.replication.specs.Audit.Journal.{Sending, sendingIn, sendingsOf, Delivery, deliveryOf, deliveryBy, takingBy, transitionBy, changeBy, takingsIn, transitionsIn, changesIn, sendingsIn, deliveriesIn}
-use Rattle.replication.proofs.Audit.Rows.{rowAt, row-among, table-holds, table-is, row-place, row-server, row-after, row-sent, meaning, Meaning, role-of}
+use Rattle.replication.proofs.Verdicts.Rows.{rowAt, row-among, table-holds, table-is, row-place, row-server, row-after, row-sent, meaning, Meaning, role-of}
 
 -- A message that comes is a delivery.
 pub message-role : (r : Record) → isMessage r ≡ true → roleIn (says r) ≡ delivers

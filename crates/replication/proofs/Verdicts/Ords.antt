@@ -19,8 +19,8 @@ use Rattle.replication.specs.Audit.Table.{Row, rowOf, table}
 use Rattle.replication.specs.Audit.Clocks.{stamps}
 use Rattle.replication.specs.Audit.Journal.{deliveriesIn}
 use Rattle.replication.specs.Audit.Specifications.{isRising, lastOf, ownSendings, inTurn}
-use Rattle.replication.proofs.Audit.Rows.{rowAt, table-holds, row-server, row-sent}
-use Rattle.replication.proofs.Audit.Entries.{row-ords, delivering, delivered-sending, sendingAt}
+use Rattle.replication.proofs.Verdicts.Rows.{rowAt, table-holds, row-server, row-sent}
+use Rattle.replication.proofs.Verdicts.Entries.{row-ords, delivering, delivered-sending, sendingAt}
 
 -- ---- rising numbers
 

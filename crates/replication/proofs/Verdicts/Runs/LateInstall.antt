@@ -13,9 +13,9 @@ use Rattle.replication.specs.Runs.Run.{event, Run, worldAt}
 use Rattle.replication.specs.Runs.Allowed.{Allowed}
 use Rattle.replication.specs.Audit.Witness.{Witness}
 use Rattle.replication.specs.Audit.Verdict.{audit}
-use Rattle.replication.proofs.Audit.Sound.{audit-sound}
-use Rattle.replication.proofs.Audit.Runs.Records.{sent, named, made, primary, unmarked, marked, no-yellow, yellows, told}
-use Rattle.replication.proofs.Audit.Runs.Shown.{shows, shown, installed, ownRules, judged, opened}
+use Rattle.replication.proofs.Verdicts.Sound.{audit-sound}
+use Rattle.replication.proofs.Verdicts.Runs.Records.{sent, named, made, primary, unmarked, marked, no-yellow, yellows, told}
+use Rattle.replication.proofs.Verdicts.Runs.Shown.{shows, shown, installed, ownRules, judged, opened}
 
 unfoldable pub run : Run
 run =

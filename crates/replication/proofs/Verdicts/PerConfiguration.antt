@@ -18,9 +18,9 @@ use Rattle.replication.specs.Audit.Table.{table}
 use Rattle.replication.specs.Audit.Clocks.{stamps}
 use Rattle.replication.specs.Audit.Journal.{Sending, Delivery, Taking, PerConfiguration, perConfiguration, configurationsOf, Journal, sendingsIn, deliveriesIn, leavingsIn, sorted, journalOf}
 use Rattle.replication.specs.Audit.Specifications.{isDelivered, earlier, hasMessage}
-use Rattle.replication.proofs.Audit.Sameness.{messages-decided}
-use Rattle.replication.proofs.Audit.Entries.{sendingAt, sending-among, Delivering, delivered}
-use Rattle.replication.proofs.Audit.Later.{leaving-among}
+use Rattle.replication.proofs.Verdicts.Sameness.{messages-decided}
+use Rattle.replication.proofs.Verdicts.Entries.{sendingAt, sending-among, Delivering, delivered}
+use Rattle.replication.proofs.Verdicts.Later.{leaving-among}
 
 module _ (n q : ℕ) (l : Run) (w : Witness) where
   abbrev J : Journal
