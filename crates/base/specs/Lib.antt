@@ -24,6 +24,8 @@ pub mod QuantifierLaws
 pub mod Deciding
 pub mod Text
 pub mod Prefixes
+pub mod Filters
+pub mod Comparable
 pub mod Members
 pub mod Branches
 pub mod Opened

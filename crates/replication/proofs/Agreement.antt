@@ -1,4 +1,5 @@
 pub mod Terms
+pub mod Lists
 pub mod Exchange
 pub mod Votes
 pub mod OnePrimary
