@@ -9,11 +9,8 @@ product-requires c κs = search needs
 mul-result : tie.Need-mul-result
 mul-result c = search needs
 
-add-result : tie.Need-add-result
-add-result c = search needs
-
 returns : tie.Need-returns
 returns c = search (needs, out-length-made)
 
 pub out-length-spec : {M : Type 1} → statement M
-out-length-spec = tie.close (tie.spec product-requires mul-result add-result returns)
+out-length-spec = tie.close (tie.spec product-requires mul-result returns)
