@@ -27,5 +27,6 @@ pub mod Prefixes
 pub mod Filters
 pub mod Comparable
 pub mod Members
+pub mod Gathered
 pub mod Branches
 pub mod Opened

@@ -2,4 +2,6 @@ pub mod Terms
 pub mod Lists
 pub mod Exchange
 pub mod Votes
-pub mod OnePrimary
+pub mod Primaries
+pub mod Contents
+pub mod Greens

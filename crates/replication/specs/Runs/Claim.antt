@@ -59,8 +59,6 @@ module _ (n q : ℕ) (l : Run) where
 unfoldable pub Demand3 : Type 0
 Demand3 = (n q : ℕ) (l : Run) → Allowed n q l → Agreement n q l
 
--- Its half on primary components: those of one index are equal, and every last primary known anywhere is one of them.
-unfoldable pub OnePrimary : Type 0
-OnePrimary =
-    (n q : ℕ) (l : Run) → Allowed n q l
-    → ((a b : Primary) → IsPrimary n q l a → IsPrimary n q l b → PrimariesAgree a b) × KnownPrimaries n q l
+-- What follows beside it.
+unfoldable pub Corollaries : Type 0
+Corollaries = (n q : ℕ) (l : Run) → Allowed n q l → StoredAgree n q l × KnownPrimaries n q l

@@ -128,7 +128,8 @@ module _ {n q : ℕ} {l : Run} (A : Allowed n q l) where
         go (inr e) =
             not-both (sym (x .not-all-cpcs) ∙ every-cpc-delivered (message .sends) (message .after) (sender-installed message e) (coming A come refl) here f)
 
-    past : 2 ≤ stage (membershipAt n q l p i .mode)
+    -- The server is past the exchange.
+    pub past : 2 ≤ stage (membershipAt n q l p i .mode)
     unfolding isMessage stage
     past = past-exchange A (message .sends) (message .after) (go (message .sender-in)) (λ e. message .regular) (coming A come refl) here
       where

@@ -41,21 +41,21 @@ owner x = ap ownerOf (x .here) ∙ x .its
 
 module _ {n q : ℕ} {l : Run} (A : Allowed n q l) where
   module _ (p i : ℕ) (c : Configuration) (here : InCom n q l p i c) (complete : everyStateIn (membershipAt n q l p i) ≡ true) (t : ℕ) where
-    statesHere : List State
+    abbrev pub statesHere : List State
     statesHere = statesIn (membershipAt n q l p i)
 
     -- The number, among all that are planned, of the retransmission that comes at x.
-    planNumber : ℕ → ℕ
+    pub planNumber : ℕ → ℕ
     planNumber x = total (ownerOf (at l (A .source x .sending))) (share n statesHere) + A .source x .number
 
-    record Resent (x : ℕ) : Type 0 where
-      sender : ℕ
-      message : PartMessage A (A .source x) sender c
-      number : planNumber x ≡ total sender (share n statesHere) + A .source x .number
-      below-share : A .source x .number < share n statesHere sender
+    pub record Resent (x : ℕ) : Type 0 where
+      pub sender : ℕ
+      pub message : PartMessage A (A .source x) sender c
+      pub number : planNumber x ≡ total sender (share n statesHere) + A .source x .number
+      pub below-share : A .source x .number < share n statesHere sender
 
-    resent : (x : ℕ) → List·Memᴰ x (passing (resentAt n q l c i) t) → Resent x
-    unfolding isMessage planNumber statesHere
+    pub resent : (x : ℕ) → List·Memᴰ x (passing (resentAt n q l c i) t) → Resent x
+    unfolding isMessage planNumber
     resent x h =
         let u = resent-holds n q l c i x (passing-in (resentAt n q l c i) t x h .1) in
         let m = part-message A (coming A (u .3) refl) refl (u .4) in
@@ -69,8 +69,7 @@ module _ {n q : ℕ} {l : Run} (A : Allowed n q l) where
           below-share = subst (λ z. A .source x .number < share n (present z) (u .0)) e (omega (arith, w, m .put .below-length));
         }
 
-    number-below : (x : ℕ) → List·Memᴰ x (passing (resentAt n q l c i) t) → planNumber x < plannedIn n (membershipAt n q l p i)
-    unfolding statesHere
+    pub number-below : (x : ℕ) → List·Memᴰ x (passing (resentAt n q l c i) t) → planNumber x < plannedIn n (membershipAt n q l p i)
     number-below x h =
         let y = resent x h in
         let m = y .message in
@@ -83,7 +82,7 @@ module _ {n q : ℕ} {l : Run} (A : Allowed n q l) where
         )
 
     -- Retransmissions with one number are one.
-    number-once : (x y : ℕ) → List·Memᴰ x (passing (resentAt n q l c i) t) → List·Memᴰ y (passing (resentAt n q l c i) t) → planNumber x ≡ planNumber y → x ≡ y
+    pub number-once : (x y : ℕ) → List·Memᴰ x (passing (resentAt n q l c i) t) → List·Memᴰ y (passing (resentAt n q l c i) t) → planNumber x ≡ planNumber y → x ≡ y
     number-once x y h k e =
         let u = resent x h in
         let w = resent y k in

@@ -112,10 +112,10 @@ module _ {n q : ℕ} {l : Run} (A : Allowed n q l) where
     pub below-length : j < length (ownPart n k (memoryAt n q l (suc v) k .log) (statesIn (membershipAt n q l (suc v) k)))
 
   -- The part of the plan of the server k at v, as the States that it has collected say.
-  abbrev partOf : ℕ → ℕ → List Record
+  abbrev pub partOf : ℕ → ℕ → List Record
   partOf v k = ownPart n k (memoryAt n q l v k .log) (statesIn (membershipAt n q l v k))
 
-  part-of : (v k : ℕ) (t : Server) → memoryAt n q l v k ≡ t → ownPart (t .servers) (t .me) (t .log) (collected t) ≡ partOf v k
+  pub part-of : (v k : ℕ) (t : Server) → memoryAt n q l v k ≡ t → ownPart (t .servers) (t .me) (t .log) (collected t) ≡ partOf v k
   unfolding collected
   part-of v k t e =
       let o = numbers n q k l v .memory in

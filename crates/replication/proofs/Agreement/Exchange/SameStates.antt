@@ -70,7 +70,7 @@ module _ {n q : ℕ} {l : Run} (A : Allowed n q l) where
   -- ---- at the end of an exchange
 
   module _ {p i : ℕ} {c : Configuration} (x : EndsAt n q l p i c) where
-    after-states : membershipAt n q l (suc p) i .states ≡ x .judged .membership .states
+    pub after-states : membershipAt n q l (suc p) i .states ≡ x .judged .membership .states
     after-states = ap (λ s. s .membership .states) (x .acts .memory-next) ∙ ap (λ m. m .states) (ends-membership (x .ends) .1)
 
     pub still-here : InCom n q l (suc p) i c
