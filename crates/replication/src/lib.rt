@@ -9,11 +9,11 @@ pub fn pairs()
 {}
 
 // Demand 3: in every allowed run, at every moment, green lists agree and primary components agree.
-pub fn agreement()
+pub fn runs_agree()
     ensures { λ _. ⌜ Demand3 ⌝ }
 {}
 
 // Stored green lists agree at different moments too; every last primary known anywhere is one of the primary components.
-pub fn agreement_corollaries()
+pub fn corollaries()
     ensures { λ _. ⌜ Corollaries ⌝ }
 {}
