@@ -7,7 +7,7 @@ use mathlib.Core.List.{List, [], _∷_, List·Memᴰ, List·Memᴰ·head, List·
 use mathlib.Core.Logic.{⊎-elim}
 use mathlib.Core.Option.{Option, none, some, Option·none-ne-some, Option·some-injective}
 use lib.ListN.{getD}
-use Rattle.base.specs.Tests.{_or_, pick, Known, holds, fails, known}
+use Rattle.base.specs.Tests.{_or_, pick, not-both, Known, holds, fails, known}
 use Rattle.base.specs.Lists.{any, filter, atFront, present, gather, gatherAll}
 
 module _ {A : Type 0} where
@@ -65,6 +65,15 @@ module _ {A : Type 0} where
   unfolding any _or_
   any-no t [] f = refl
   any-no t (x ∷ l) f = rw (f x (List·Memᴰ·head refl)) (any-no t l (λ y m. f y (List·Memᴰ·tail m)))
+
+  pub any-from : (t : A → Bool) (l : List A) → any t l ≡ true → (x : A) × List·Memᴰ x l × (t x ≡ true)
+  unfolding any _or_
+  any-from t [] h = not-both h
+  any-from t (x ∷ l) h = go (known (t x)) (any-from t l)
+    where
+      go : Known (t x) → (any t l ≡ true → (y : A) × List·Memᴰ y l × (t y ≡ true)) → (y : A) × List·Memᴰ y (x ∷ l) × (t y ≡ true)
+      go (holds a) f = (x, List·Memᴰ·head refl, a)
+      go (fails a) f = let r = f (sym (ap (λ z. z or any t l) a) ∙ h) in (r .0, List·Memᴰ·tail (r .1), r .2)
 
 module _ {A B : Type 0} where
   -- What is gathered was made of some element.

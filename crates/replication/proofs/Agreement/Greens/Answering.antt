@@ -64,7 +64,8 @@ takes-of y r = record { bytes = y .bytes; sent = y .sent; here = y .here; heard 
 
 module _ {n q : ℕ} {l : Run} (A : Allowed n q l) (X : ExchangeFacts n q l) where
   -- All Installs of a primary component have like marks.
-  pub like-marks : {p r i j : ℕ} {c d : Configuration} (x : InstallsAt n q l p i c) (y : InstallsAt n q l r j d) → installed n q l y .index ≡ installed n q l x .index
+  pub like-marks : {p r i j : ℕ} {c d : Configuration} (x : InstallsAt n q l p i c) (y : InstallsAt n q l r j d)
+      → installed n q l y .index ≡ installed n q l x .index
       → Alike (markOfInstall A x) (markOfInstall A y)
   like-marks x y e =
       let a = install-mark A x in
@@ -77,13 +78,15 @@ module _ {n q : ℕ} {l : Run} (A : Allowed n q l) (X : ExchangeFacts n q l) whe
         set = sym (b .set) ∙ ap (λ z. z .set) f ∙ a .set;
       }
 
-  alike-through : {p r i j : ℕ} {c d : Configuration} (x : InstallsAt n q l p i c) (y : InstallsAt n q l r j d) → installed n q l y .index ≡ installed n q l x .index
+  alike-through : {p r i j : ℕ} {c d : Configuration} (x : InstallsAt n q l p i c) (y : InstallsAt n q l r j d)
+      → installed n q l y .index ≡ installed n q l x .index
       → (u : Server) → Alike (markOfInstall A y) (u .votes .mark) → Alike (markOfInstall A x) (u .votes .mark)
   alike-through x y e u h =
       let k = like-marks x y e in
       record { status = h .status; index = h .index ∙ k .index; attempt = h .attempt ∙ k .attempt; set = h .set ∙ k .set }
 
-  pub answers-same : {p i r s : ℕ} {c : Configuration} {u : Server} (x : InstallsAt n q l p i c) → Answers A x s u → (z : Earlier A x r) → Answers A (z .install) s u
+  pub answers-same : {p i r s : ℕ} {c : Configuration} {u : Server} (x : InstallsAt n q l p i c) → Answers A x s u → (z : Earlier A x r)
+      → Answers A (z .install) s u
   answers-same x (by-yellow h) z = by-yellow h
   answers-same x (by-attempt h) z = by-attempt h
   answers-same {u = u} x (by-mark m f) z = by-mark m (λ h. f (alike-through x (z .install) (z .index) u h))
@@ -97,12 +100,14 @@ module _ {n q : ℕ} {l : Run} (A : Allowed n q l) (X : ExchangeFacts n q l) whe
         → Answers A x s (memoryAt n q l (suc t) s) → inSet d (c .set) ≡ true → Prefix (residue A x (suc t) d) (known-list (memoryAt n q l (suc t) s))
 
     module _ {p i : ℕ} {c : Configuration} (x : InstallsAt n q l p i c) (h : p < suc t) (d : ℕ) (m : inSet d (c .set) ≡ true) where
-      before : {s : ℕ} {u : Server} → Image n q l t s u → u .votes .last .index ≡ installed n q l x .index → Answers A x s u → Prefix (residue A x (suc t) d) (known-list u)
+      before : {s : ℕ} {u : Server} → Image n q l t s u → u .votes .last .index ≡ installed n q l x .index → Answers A x s u
+          → Prefix (residue A x (suc t) d) (known-list u)
       before {s} {u} y e a = answers-in A X P U d x h (omega arith) y e (answers-same x a) m
 
       -- A retransmission made green.
       growing : {s : ℕ} (y : Acts n q l t s) → memoryAt n q l t s .membership .mode ≡ Exchange-actions → y .after .votes ≡ memoryAt n q l t s .votes
-          → y .after .votes .last .index ≡ installed n q l x .index → Answers A x s (memoryAt n q l t s) → Prefix (residue A x (suc t) d) (known-list (y .after))
+          → y .after .votes .last .index ≡ installed n q l x .index → Answers A x s (memoryAt n q l t s)
+          → Prefix (residue A x (suc t) d) (known-list (y .after))
       unfolding validYellow
       growing {s} y k v e a =
           let u = memoryAt n q l t s in
@@ -153,7 +158,8 @@ module _ {n q : ℕ} {l : Run} (A : Allowed n q l) (X : ExchangeFacts n q l) whe
           → y .after .votes .last .index ≡ installed n q l x .index → Answers A x s (y .after) → Prefix (residue A x (suc t) d) (known-list (y .after))
       unfolding unmarked yellowValid validYellow pick
       acting E {s} y (S.steady g v k) e a =
-          prefix-to (before (in-memory (y .up)) (ap (λ z. z .last .index) (sym v) ∙ e) (unchanged a)) (sym (same-known (y .after) (memoryAt n q l t s) g (ap (λ z. z .yellow) v)))
+          prefix-to (before (in-memory (y .up)) (ap (λ z. z .last .index) (sym v) ∙ e) (unchanged a))
+          (sym (same-known (y .after) (memoryAt n q l t s) g (ap (λ z. z .yellow) v)))
         where
           unchanged : Answers A x s (y .after) → Answers A x s (memoryAt n q l t s)
           unchanged (by-yellow f) = by-yellow (ap (λ z. z .yellow .status) (sym v) ∙ f)
@@ -171,9 +177,10 @@ module _ {n q : ℕ} {l : Run} (A : Allowed n q l) (X : ExchangeFacts n q l) whe
           prefix-to
           (E p i s d c (z .0) x h (z .1) (j .exchanging) (ap (λ w. w .votes .last .index) (y .memory-next) ∙ e) (subst (λ w. Answers A x s w) (sym (y .memory-next)) a) m)
           (ap known-list (y .memory-next))
-      acting E {s} y (S.installs k b o j g) e a = absurd (silent A X y o x e a)
+      acting E {s} y (S.installs k b o j) e a = absurd (silent A X y o x e a)
       acting E {s} y (S.unmarks k b g v) e a =
-          prefix-to (before (in-memory (y .up)) (ap (λ z. z .last .index) (sym v) ∙ e) (by-attempt (busy k))) (sym (same-known (y .after) (memoryAt n q l t s) (ap (λ z. z .green) g) (ap (λ z. z .yellow) v)))
+          prefix-to (before (in-memory (y .up)) (ap (λ z. z .last .index) (sym v) ∙ e) (by-attempt (busy k)))
+          (sym (same-known (y .after) (memoryAt n q l t s) (ap (λ z. z .green) g) (ap (λ z. z .yellow) v)))
       acting E {s} y (S.makesValid o r k b g v) e a =
           prefix-to (leaving y (takes-of y r) k (ap (λ z. z .last .index) (sym v) ∙ e))
           (sym (ap (λ z. plus (idsIn (z .green)) (validYellow (y .after))) g ∙ ap (λ z. plus (greens (memoryAt n q l t s)) (pick (z .yellow .status =? 1) (z .yellow .ids) [])) v

@@ -40,7 +40,8 @@ module _ {n q : ℕ} {l : Run} (A : Allowed n q l) (X : ExchangeFacts n q l) (P 
       prefix-from (z .base) (U r k .has-base (z .place) (z .server) s c u (z .install) (z .before) y (e ∙ sym (z .index)))
 
   -- Whoever ends an exchange has the base of what is taken.
-  pub taken-base : {p i s : ℕ} {c e : Configuration} (x : InstallsAt n q l p i c) → p < suc t → (y : EndsAt n q l t s e) → inExchange (memoryAt n q l t s .membership .mode) ≡ true
+  pub taken-base : {p i s : ℕ} {c e : Configuration} (x : InstallsAt n q l p i c) → p < suc t → (y : EndsAt n q l t s e)
+      → inExchange (memoryAt n q l t s .membership .mode) ≡ true
       → takenPrimary (collected (y .judged)) .index ≡ installed n q l x .index → Prefix (baseOf A x) (greens (memoryAt n q l (suc t) s))
   taken-base {p} {i} {s} {c} {e} x h y w f =
       let own = own-state A X y in
@@ -66,7 +67,7 @@ module _ {n q : ℕ} {l : Run} (A : Allowed n q l) (X : ExchangeFacts n q l) (P 
         prefix-to
         (taken-base x h (z .1) (j .exchanging) (ap (λ w. w .index) (sym (ended-last (z .1))) ∙ ap (λ w. w .votes .last .index) (y .memory-next) ∙ e))
         (ap greens (y .memory-next))
-    acting {s} y (S.installs k b a j g) e =
+    acting {s} y (S.installs k b a j) e =
         let z = installs-here A y k in
         prefix-same
         (installing-base x h (unique-install A X x (z .1) (sym e ∙ ap (λ w. w .after .votes .last .index) (sym (z .2))) .0) (z .1) ∙ sym (base-after A (z .1))

@@ -1,9 +1,9 @@
 -- Demand 3 from the invariant: an id is of one action, so green lists with comparable ids agree.
 use Prim.Native.Nat.{ℕ, max, _<_}
-use mathlib.Core.Path.{_≡_, sym, ap, subst₂, _∙_}
+use mathlib.Core.Path.{_≡_, sym, ap, subst₂}
 use mathlib.Core.List.{List, [], _∷_}
 use native.Mathlib.Omega.{arith}
-use lib.ListN.{length, length-map}
+use lib.ListN.{length}
 use Rattle.base.specs.ListLaws.{Each}
 use Rattle.base.specs.Tests.{pick, Known, holds, fails, known}
 use Rattle.format.specs.Types.{Action}
@@ -17,7 +17,7 @@ use Rattle.replication.proofs.Runs.ControlPart.{store-grows-between}
 use Rattle.replication.proofs.Runs.Made.{Made, made-one, all-made}
 use Rattle.replication.proofs.Agreement.Terms.{Image, in-memory, in-store, ExchangeFacts}
 use Rattle.replication.proofs.Agreement.Votes.Primaries.{primaries-agree}
-use Rattle.replication.proofs.Agreement.Greens.Beginnings.{Prefix, Comparable, shorter, longer, prefix-nil, prefix-cons, prefix-head, prefix-tail, prefix-length, prefix-same, comparable-beginnings, shorter-begins, equal-lengths, comparable-sym}
+use Rattle.replication.proofs.Agreement.Greens.Beginnings.{Prefix, Comparable, shorter, longer, prefix-nil, prefix-cons, prefix-head, prefix-tail, prefix-length, comparable-beginnings, shorter-begins, equal-lengths, comparable-sym}
 use Rattle.replication.proofs.Agreement.Greens.Parts.{Parts}
 use Rattle.replication.proofs.Agreement.Greens.Invariant.{Invariant}
 use Rattle.replication.proofs.Agreement.Greens.Comparing.{agree}
@@ -42,12 +42,6 @@ module _ {n q : ℕ} {l : Run} (A : Allowed n q l) where
   same-ids : (p r : ℕ) (x y : List Action) → Each (Made A p) x → Each (Made A r) y → Comparable (idsIn x) (idsIn y) → Comparable x y
   same-ids p r x y f g (shorter h) = shorter (same-ids-prefix p r x y f g h)
   same-ids p r x y f g (longer h) = longer (same-ids-prefix r p y x g f h)
-
-  -- .. equal, if their ids are.
-  pub same-actions : (p r : ℕ) (x y : List Action) → Each (Made A p) x → Each (Made A r) y → idsIn x ≡ idsIn y → x ≡ y
-  unfolding idsIn
-  same-actions p r x y f g e =
-      equal-lengths x y (same-ids p r x y f g (shorter (prefix-same e))) (sym (length-map x (λ a. a .id)) ∙ ap length e ∙ length-map y (λ a. a .id))
 
   image-made : {p i : ℕ} {u : Server} → Image n q l p i u → Each (Made A p) (u .log .green)
   image-made {p} {i} (in-memory h) = all-made A p i .memory .green
@@ -79,7 +73,8 @@ module _ {n q : ℕ} {l : Run} (A : Allowed n q l) where
         let b : Image n q l t j (storeAt n q l t j) = in-store in
         comparable-agree _ _
         (same-ids p r (storeAt n q l p i .log .green) (storeAt n q l r j .log .green) (all-made A p i .store .green) (all-made A r j .store .green)
-        (comparable-beginnings (grows-greens (storeAt n q l p i) (storeAt n q l t i) (store-grows-between n q l i p t (omega arith))) (grows-greens (storeAt n q l r j) (storeAt n q l t j) (store-grows-between n q l j r t (omega arith)))
+        (comparable-beginnings (grows-greens (storeAt n q l p i) (storeAt n q l t i) (store-grows-between n q l i p t (omega arith)))
+        (grows-greens (storeAt n q l r j) (storeAt n q l t j) (store-grows-between n q l j r t (omega arith)))
         (agree A X P (I t) a b)))
 
     pub agreement : Agreement n q l

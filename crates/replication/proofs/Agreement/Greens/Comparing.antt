@@ -56,7 +56,8 @@ module _ {n q : ℕ} {l : Run} (A : Allowed n q l) (X : ExchangeFacts n q l) whe
           record { place = r; server = j; configuration = c; install = y; index = ap (λ z. z .index) f ∙ e; before = h }
 
   -- .. and so was the one before it, if that is not the start's.
-  pub previous-installed : {p i k : ℕ} {c : Configuration} (x : InstallsAt n q l p i c) → installed n q l x .index ≡ suc (suc k) → InstalledBefore n q l p (suc k)
+  pub previous-installed : {p i k : ℕ} {c : Configuration} (x : InstallsAt n q l p i c) → installed n q l x .index ≡ suc (suc k)
+      → InstalledBefore n q l p (suc k)
   previous-installed {p} {i} {k} x e =
       let m : Image n q l p i (memoryAt n q l p i) = in-memory (x .acts .up) in
       known-installed m (omega (arith, installed-index x))
@@ -137,7 +138,8 @@ module _ {n q : ℕ} {l : Run} (A : Allowed n q l) (X : ExchangeFacts n q l) whe
     pub agree : {s z : ℕ} {u v : Server} → Image n q l t s u → Image n q l t z v → Comparable (greens u) (greens v)
     agree {s} {z} {u} {v} x y = bounded-comparable (reached-bounded (I .reached s u x)) (reached-bounded (I .reached z v y))
 
-    pub residue-comparable : (d : ℕ) {p i s : ℕ} {c : Configuration} {u : Server} (x : InstallsAt n q l p i c) → p < t → inSet d (c .set) ≡ true → Image n q l t s u
+    pub residue-comparable : (d : ℕ) {p i s : ℕ} {c : Configuration} {u : Server} (x : InstallsAt n q l p i c) → p < t → inSet d (c .set) ≡ true
+        → Image n q l t s u
         → Comparable (residue A x t d) (greens u)
     residue-comparable d {p} {i} {s} {c} {u} x h m y = bounded-comparable (under p i d c x h m prefix-refl) (reached-bounded (I .reached s u y))
 

@@ -1,21 +1,19 @@
 -- At an Install all that the installer answers for becomes green: so what can still be known of a primary component is green at the Install of the next.
-use Prim.Native.Nat.{ℕ, zero, suc, _+_, _≤_, _<_}
+use Prim.Native.Nat.{ℕ, zero, suc, _≤_, _<_}
 use mathlib.Core.Path.{_≡_, refl, sym, ap, subst, _∙_}
-use mathlib.Core.Bool.{true, false}
+use mathlib.Core.Bool.{true}
 use mathlib.Core.Logic.{_⊎_, inl, inr}
 use native.Mathlib.Omega.{arith}
 use native.Mathlib.Decide.{decLt}
 use Rattle.base.specs.ListLaws.{Each}
-use Rattle.base.specs.Tests.{_=?_, pick, not-both, eq-fails, Known, holds, fails, known}
+use Rattle.base.specs.Tests.{_=?_, pick, eq-fails, Known, holds, fails, known}
 use Rattle.base.specs.Sets.{inSet}
 use Rattle.replication.specs.Machine.Types.{Construct, Un, Configuration, Server}
 use Rattle.replication.specs.Machine.Colours.{cut}
 use Rattle.replication.specs.Machine.Install.{installLog}
-use Rattle.replication.specs.Machine.Step.{unmarked, yellowValid}
 use Rattle.replication.specs.Machine.WellFormed.{idsIn}
 use Rattle.replication.specs.Laws.Modes as M
 use Rattle.replication.specs.Laws.Modes.{Attempts, ModeFacts}
-use Rattle.replication.specs.Laws.Order.{inExchange}
 use Rattle.replication.specs.Runs.Run.{Run}
 use Rattle.replication.specs.Runs.Allowed.{Allowed}
 use Rattle.replication.proofs.Runs.AllowedTurns.{memoryAt}
@@ -26,13 +24,12 @@ use Rattle.replication.proofs.Agreement.Terms.{Image, in-memory, Instal
 use Rattle.replication.proofs.Agreement.Votes.Turns.{lastAt, votesAt, modeAt}
 use Rattle.replication.proofs.Agreement.Votes.Events.{installing-at}
 use Rattle.replication.proofs.Agreement.Votes.Attempts.{installed-index}
+use Rattle.replication.proofs.Agreement.Contents.Installed.{installs-green}
 use Rattle.replication.proofs.Agreement.Greens.Beginnings.{Prefix, prefix-trans, prefix-to, prefix-from}
 use Rattle.replication.proofs.Agreement.Greens.Terms.{greens, plus, Fifo, validYellow, baseOf, residue, Answers, by-attempt}
 use Rattle.replication.proofs.Agreement.Greens.Parts.{Parts}
 use Rattle.replication.proofs.Agreement.Greens.Invariant.{UpTo}
 use Rattle.replication.proofs.Agreement.Greens.Residues.{residue-shrinks}
-use Rattle.replication.proofs.Agreement.Greens.Steps as S
-use Rattle.replication.proofs.Agreement.Greens.Steps.{GreenStep, green-step}
 use Rattle.replication.proofs.Agreement.Greens.Reaching.{base-after}
 use Rattle.replication.proofs.Agreement.Greens.Earlier.{Earlier, earlier, earlier-residue}
 
@@ -74,28 +71,7 @@ module _ {n q : ℕ} {l : Run} (A : Allowed n q l) where
 
   installed-green : {p i : ℕ} {c : Configuration} (x : InstallsAt n q l p i c)
       → x .acts .after .log .green ≡ (installLog (memoryAt n q l p i .votes .yellow .ids) (memoryAt n q l p i .log)) .green
-  unfolding unmarked yellowValid inExchange
-  installed-green {p} {i} x = go (green-step (memoryAt n q l p i) (x .acts .moves))
-    where
-      u : Server
-      u = memoryAt n q l p i
-
-      higher : x .acts .after .votes .last .index ≡ u .votes .last .index + 1
-      higher = installed-index x
-
-      no-exchange : (u .membership .mode ≡ Construct) ⊎ (u .membership .mode ≡ Un) → inExchange (u .membership .mode) ≡ false
-      no-exchange (inl e) = ap inExchange e
-      no-exchange (inr e) = ap inExchange e
-
-      go : GreenStep u (x .acts .by .event) (x .acts .after) (x .acts .by .records) (x .acts .stores)
-          → x .acts .after .log .green ≡ (installLog (u .votes .yellow .ids) (u .log)) .green
-      go (S.steady g v a) = absurd (omega (arith, higher, ap (λ z. z .last .index) v))
-      go (S.delivers a b v m) = absurd (omega (arith, higher, ap (λ z. z .index) v))
-      go (S.exchanges a b v) = absurd (omega (arith, higher, ap (λ z. z .last .index) v))
-      go (S.ends b j) = not-both (sym (no-exchange (installing-at x .from)) ∙ j .exchanging)
-      go (S.installs k b a j g) = g
-      go (S.unmarks a b g v) = absurd (omega (arith, higher, ap (λ z. z .last .index) v))
-      go (S.makesValid d r a b g v) = absurd (omega (arith, higher, ap (λ z. z .last .index) v))
+  installed-green x = ap (λ s. s .log .green) (sym (x .acts .memory-next)) ∙ installs-green A x
 
   module _ (X : ExchangeFacts n q l) (P : Parts A) {t : ℕ} (U : UpTo A t) where
     -- ---- what becomes green

@@ -56,8 +56,10 @@ use Rattle.replication.proofs.Agreement.Greens.Ordering.{no-valid-yello
 use Rattle.replication.proofs.Agreement.Greens.Unlike.{alike?, invalid-yellow, rule-b-names}
 use Rattle.replication.proofs.Agreement.Greens.Joined.{joined-known}
 
-module _ {n q : ℕ} {l : Run} (A : Allowed n q l) (X : ExchangeFacts n q l) (P : Parts A) {t : ℕ} (U : UpTo A t) {p i s : ℕ} {c e : Configuration} (x : InstallsAt n q l p i c)
-    (h : p < suc t) (y : EndsAt n q l t s e) (exchanging : inExchange (memoryAt n q l t s .membership .mode) ≡ true) (same-index : takenPrimary (collected (y .judged)) .index ≡ installed n q l x .index) where
+module _ {n q : ℕ} {l : Run} (A : Allowed n q l) (X : ExchangeFacts n q l) (P : Parts A) {t : ℕ} (U : UpTo A t)
+    {p i s : ℕ} {c e : Configuration} (x : InstallsAt n q l p i c)
+    (h : p < suc t) (y : EndsAt n q l t s e) (exchanging : inExchange (memoryAt n q l t s .membership .mode) ≡ true)
+    (same-index : takenPrimary (collected (y .judged)) .index ≡ installed n q l x .index) where
   xs : List State
   xs = collected (y .judged)
 
@@ -176,7 +178,8 @@ module _ {n q : ℕ} {l : Run} (A : Allowed n q l) (X : ExchangeFacts n q l) (P 
                 )
 
     -- A present member of c without the mark has all.
-    by-unmarked : filter isValid (updatedGroup (collected (y .judged))) ≡ [] → (w : State) → List·Memᴰ w (collected (y .judged)) → inSet (w .sender) (c .set) ≡ true
+    by-unmarked : filter isValid (updatedGroup (collected (y .judged))) ≡ [] → (w : State) → List·Memᴰ w (collected (y .judged))
+        → inSet (w .sender) (c .set) ≡ true
         → (Alike (markOfInstall A x) (w .mark) → ⊥) → Prefix r g
     unfolding isValid updatedGroup samePair
     by-unmarked none w a b f = prefix-trans (prefix-to covers (ap (plus (greens u)) no-yellow ∙ plus-nil (greens u))) (z .begins)
@@ -237,7 +240,8 @@ module _ {n q : ℕ} {l : Run} (A : Allowed n q l) (X : ExchangeFacts n q l) (P 
             go (fails k) = invalid-yellow u k
 
     -- A present member of c whose mark is cleared, or who has none.
-    by-cleared : filter isValid (updatedGroup (collected (y .judged))) ≡ [] → (v : State) → List·Memᴰ v (collected (y .judged)) → inSet (v .sender) (c .set) ≡ true
+    by-cleared : filter isValid (updatedGroup (collected (y .judged))) ≡ [] → (v : State) → List·Memᴰ v (collected (y .judged))
+        → inSet (v .sender) (c .set) ≡ true
         → (Alike (markOfInstall A x) (judgedMark (collected (y .judged)) v) → ⊥) → Prefix r g
     unfolding ruleA ruleC keptMark
     by-cleared none v a b f = go (alike? (markOfInstall A x) (v .mark))

@@ -56,7 +56,8 @@ module _ {n q : ℕ} {l : Run} (A : Allowed n q l) (X : ExchangeFacts n q l) (P 
       subst (λ z. Entered (y .after .log) z) (ap (λ z. pick (z .status =? 1) (z .ids) []) (sym v))
       (entered-more (memoryAt n q l t s .log) (y .after .log) (validYellow (memoryAt n q l t s)) (transition-grows (y .moves) .cuts) (before y))
 
-  ending : {s : ℕ} {c : Configuration} (y : EndsAt n q l t s c) → inExchange (memoryAt n q l t s .membership .mode) ≡ true → YellowTaken A X P U (memoryAt n q l (suc t) s) (collected (y .judged))
+  ending : {s : ℕ} {c : Configuration} (y : EndsAt n q l t s c) → inExchange (memoryAt n q l t s .membership .mode) ≡ true
+      → YellowTaken A X P U (memoryAt n q l (suc t) s) (collected (y .judged))
       → Entered (memoryAt n q l (suc t) s .log) (validYellow (memoryAt n q l (suc t) s))
   unfolding commonYellow
   ending {s} {c} y j (invalid h e) = none-entered (memoryAt n q l (suc t) s .log) _ (no-valid-yellow (memoryAt n q l (suc t) s) h)
@@ -81,7 +82,7 @@ module _ {n q : ℕ} {l : Run} (A : Allowed n q l) (X : ExchangeFacts n q l) (P 
   acting {s} y (S.ends b j) =
       let z = ends-here A y b j in
       subst (λ u. Entered (u .log) (validYellow u)) (y .memory-next) (ending (z .1) (j .exchanging) (yellow-taken A X P U (z .1)))
-  acting y (S.installs k b o j g) = none-entered (y .after .log) _ (no-valid-yellow (y .after) (no-yellow-after A y o))
+  acting y (S.installs k b o j) = none-entered (y .after .log) _ (no-valid-yellow (y .after) (no-yellow-after A y o))
   acting y (S.unmarks k b g v) = same-yellow y (ap (λ z. z .yellow) v)
   acting {s} y (S.makesValid o r k b g v) =
       let u = memoryAt n q l t s in

@@ -11,7 +11,7 @@ use Rattle.base.specs.Sets.{inSet}
 use Rattle.base.specs.Tests.{pick, and-holds, eq-holds, eq-yes}
 use Rattle.format.specs.Types.{Id, State}
 use Rattle.replication.specs.Machine.Types.{Configuration, Server, noYellow}
-use Rattle.replication.specs.Machine.Exchange.{takenPrimary, updatedGroup, samePair, isValid, commonYellow, takenYellow, takenVotes, attempted}
+use Rattle.replication.specs.Machine.Exchange.{takenPrimary, updatedGroup, samePair, isValid, commonYellow, takenYellow}
 use Rattle.replication.specs.Machine.Step.{collected, ownState}
 use Rattle.replication.specs.Machine.WellFormed.{idsIn}
 use Rattle.replication.specs.Laws.Order.{inExchange}
@@ -19,20 +19,14 @@ use Rattle.replication.specs.Runs.Run.{Run}
 use Rattle.replication.specs.Runs.Allowed.{Allowed}
 use Rattle.replication.proofs.Runs.AllowedTurns.{memoryAt}
 use Rattle.replication.proofs.Agreement.Terms.{Image, EndsAt, ExchangeFacts}
-use Rattle.replication.proofs.Agreement.Votes.Turns.{votesAt, Decides, with-quorum, without-quorum, ended}
+use Rattle.replication.proofs.Agreement.Votes.Turns.{votesAt}
 use Rattle.replication.proofs.Agreement.Votes.Collected.{StateOf, state-from}
-use Rattle.replication.proofs.Agreement.Greens.Beginnings.{Prefix, shorter, prefix-length, begins-take, take-within, equal-lengths}
+use Rattle.replication.proofs.Agreement.Contents.Installed.{ended-yellow}
+use Rattle.replication.proofs.Agreement.Greens.Beginnings.{take-prefix, Prefix}
 use Rattle.replication.proofs.Agreement.Greens.Terms.{greens, validYellow}
 use Rattle.replication.proofs.Agreement.Greens.Parts.{Parts}
 use Rattle.replication.proofs.Agreement.Greens.Invariant.{UpTo}
 use Rattle.replication.proofs.Agreement.Greens.Earlier.{taker-image, ending-agreeable}
-
--- A beginning is found by its length.
-take-prefix : (x y : List Id) → Prefix x y → take (length x) y ≡ x
-take-prefix x y h =
-    let a = take-within (length x) x y (shorter h) (omega arith) in
-    let b = begins-take (length x) x y h (omega arith) in
-    equal-lengths (take (length x) y) x (shorter a) (omega (arith, prefix-length a, prefix-length b))
 
 pub valid-yellow : (u : Server) → u .votes .yellow .status ≡ 1 → validYellow u ≡ u .votes .yellow .ids
 unfolding validYellow pick
@@ -53,14 +47,6 @@ valid-state xs w m =
     record { among = b .0; status = eq-holds _ _ (a .1); index = eq-holds _ _ (and-holds _ _ (b .1) .0) }
 
 module _ {n q : ℕ} {l : Run} (A : Allowed n q l) where
-  pub ended-yellow : {p i : ℕ} {c : Configuration} (x : EndsAt n q l p i c) → votesAt n q l (suc p) i .yellow ≡ takenYellow (collected (x .judged))
-  unfolding attempted takenVotes
-  ended-yellow {p} {i} {c} x = go (ended x)
-    where
-      go : Decides n q l p i c (collected (x .judged)) → votesAt n q l (suc p) i .yellow ≡ takenYellow (collected (x .judged))
-      go (with-quorum h v m d) = ap (λ z. z .yellow) v
-      go (without-quorum h v m) = ap (λ z. z .yellow) v
-
   -- The State w is what its sender had when it took c; what was green there begins g, by its length.
   pub record Sender (p : ℕ) (c : Configuration) (g : List Id) (w : State) : Type 0 where
     pub server : ℕ
@@ -73,7 +59,8 @@ module _ {n q : ℕ} {l : Run} (A : Allowed n q l) where
     pub by-length : take (w .greenLength) g ≡ greens (memoryAt n q l (suc (it .took-at)) server)
 
   module _ (X : ExchangeFacts n q l) (P : Parts A) {t : ℕ} (U : UpTo A t) where
-    pub sender : {s : ℕ} {c : Configuration} (y : EndsAt n q l t s c) → inExchange (memoryAt n q l t s .membership .mode) ≡ true → (w : State) → List·Memᴰ w (collected (y .judged))
+    pub sender : {s : ℕ} {c : Configuration} (y : EndsAt n q l t s c) → inExchange (memoryAt n q l t s .membership .mode) ≡ true → (w : State)
+        → List·Memᴰ w (collected (y .judged))
         → Sender t c (greens (memoryAt n q l (suc t) s)) w
     unfolding ownState idsIn
     sender {s} {c} y o w m =
@@ -107,14 +94,15 @@ module _ {n q : ℕ} {l : Run} (A : Allowed n q l) where
         u = memoryAt n q l (suc t) s
 
         go : (ws : List State) → filter isValid (updatedGroup (collected (y .judged))) ≡ ws → YellowTaken u (collected (y .judged))
-        go [] e = invalid (ap (λ z. z .status) (ended-yellow y ∙ ap commonYellow e)) e
+        go [] e = invalid (ap (λ z. z .status) (ended-yellow A y ∙ ap commonYellow e)) e
         go (v ∷ vs) e =
-            let f : u .votes .yellow ≡ commonYellow (v ∷ vs) = ended-yellow y ∙ ap commonYellow e in
+            let f : u .votes .yellow ≡ commonYellow (v ∷ vs) = ended-yellow A y ∙ ap commonYellow e in
             let h : u .votes .yellow .status ≡ 1 = ap (λ z. z .status) f in
             valid v vs e h (valid-yellow u h ∙ ap (λ z. z .ids) f)
 
     -- A valid State, with what its sender had green and yellow.
-    pub valid-sender : {s : ℕ} {c : Configuration} (y : EndsAt n q l t s c) → inExchange (memoryAt n q l t s .membership .mode) ≡ true → {v w : State} {vs : List State}
+    pub valid-sender : {s : ℕ} {c : Configuration} (y : EndsAt n q l t s c) → inExchange (memoryAt n q l t s .membership .mode) ≡ true
+        → {v w : State} {vs : List State}
         → filter isValid (updatedGroup (collected (y .judged))) ≡ v ∷ vs → List·Memᴰ w (v ∷ vs)
         → ValidState (collected (y .judged)) w × Sender t c (greens (memoryAt n q l (suc t) s)) w
     valid-sender y o {v} {w} {vs} e m =

@@ -28,7 +28,8 @@ module _ {n q : ℕ} {l : Run} (A : Allowed n q l) where
         → installed n q l y .index ≡ suc (installed n q l x .index) → inSet d (c .set) ≡ true → Prefix (residue A x t d) (baseOf A y)
     -- Whoever answers for the primary component that it knows last has all that can still be known of it.
     pub answers : (p i s d : ℕ) (c : Configuration) (u : Server) (x : InstallsAt n q l p i c) → p < t → Image n q l t s u
-        → u .votes .last .index ≡ installed n q l x .index → Answers A x s u → inSet d (c .set) ≡ true → Prefix (residue A x t d) (plus (greens u) (validYellow u))
+        → u .votes .last .index ≡ installed n q l x .index → Answers A x s u → inSet d (c .set) ≡ true
+        → Prefix (residue A x t d) (plus (greens u) (validYellow u))
     -- A bit of a mark is of a member of which the image has all that can be known.
     pub bits : (p i s d : ℕ) (c : Configuration) (u : Server) (x : InstallsAt n q l p i c) → Image n q l t s u → Alike (markOfInstall A x) (u .votes .mark)
         → inSet d (u .votes .mark .bits) ≡ true → Known A x t d u

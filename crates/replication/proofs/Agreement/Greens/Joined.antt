@@ -87,7 +87,8 @@ pub joined-from : (d : ℕ) (xs : List State) (v : State) (m : Mark) → List·M
 unfolding joinedBits
 joined-from d xs v m a h e = go (joins-from d (filter (alike v) xs) (v .mark .bits) e)
   where
-    go : (inSet d (v .mark .bits) ≡ true) ⊎ ((w : State) × List·Memᴰ w (filter (alike v) xs) × Brings w d) → (w : State) × List·Memᴰ w xs × Alike m (w .mark) × Brings w d
+    go : (inSet d (v .mark .bits) ≡ true) ⊎ ((w : State) × List·Memᴰ w (filter (alike v) xs) × Brings w d)
+        → (w : State) × List·Memᴰ w xs × Alike m (w .mark) × Brings w d
     go (inl f) = (v, a, h, inl f)
     go (inr r) =
         let k = filter-from (alike v) (r .0) xs (r .1) in
@@ -96,7 +97,8 @@ joined-from d xs v m a h e = go (joins-from d (filter (alike v) xs) (v .mark .bi
 
 module _ {n q : ℕ} {l : Run} (A : Allowed n q l) (X : ExchangeFacts n q l) (P : Parts A) {p i : ℕ} {c : Configuration} (x : InstallsAt n q l p i c) where
   -- What one image has another has that goes further.
-  known-further : {r t d : ℕ} {u v : Server} → r ≤ t → u .votes .last .index ≤ v .votes .last .index → Prefix (greens u) (greens v) → G.Known A x r d u → G.Known A x t d v
+  known-further : {r t d : ℕ} {u v : Server} → r ≤ t → u .votes .last .index ≤ v .votes .last .index → Prefix (greens u) (greens v) → G.Known A x r d u
+      → G.Known A x t d v
   known-further h k b (nothing-more e) = nothing-more e
   known-further h k b (fell y o f w a g) = fell y (omega arith) f w (omega arith) (prefix-trans g b)
 
@@ -138,11 +140,13 @@ module _ {n q : ℕ} {l : Run} (A : Allowed n q l) (X : ExchangeFacts n q l) (P 
 
   module _ {t : ℕ} (U : UpTo A t) where
     -- A joined bit, at the end of an exchange.
-    pub joined-known : (d : ℕ) {s : ℕ} {e : Configuration} (y : EndsAt n q l t s e) → inExchange (memoryAt n q l t s .membership .mode) ≡ true → (v : State) → List·Memᴰ v (collected (y .judged)) → Alike (markOfInstall A x) (v .mark)
+    pub joined-known : (d : ℕ) {s : ℕ} {e : Configuration} (y : EndsAt n q l t s e) → inExchange (memoryAt n q l t s .membership .mode) ≡ true
+        → (v : State) → List·Memᴰ v (collected (y .judged)) → Alike (markOfInstall A x) (v .mark)
         → inSet d (joinedBits (collected (y .judged)) v) ≡ true → G.Known A x (suc t) d (memoryAt n q l (suc t) s)
     joined-known d {s} {e} y o v a h b = go (joined-from d (collected (y .judged)) v (markOfInstall A x) a h b)
       where
-        go : (w : State) × List·Memᴰ w (collected (y .judged)) × Alike (markOfInstall A x) (w .mark) × Brings w d → G.Known A x (suc t) d (memoryAt n q l (suc t) s)
+        go : (w : State) × List·Memᴰ w (collected (y .judged)) × Alike (markOfInstall A x) (w .mark) × Brings w d
+            → G.Known A x (suc t) d (memoryAt n q l (suc t) s)
         go (w, m, k, r) = brought r
           where
             z : Sender A t e (greens (memoryAt n q l (suc t) s)) w
@@ -181,7 +185,8 @@ module _ {n q : ℕ} {l : Run} (A : Allowed n q l) (X : ExchangeFacts n q l) (P 
             known-further (omega arith) k (grown y)
             (U t (omega arith) .bits p i s d c u x (in-memory (y .up)) (subst (λ o. Alike (markOfInstall A x) o) e h) (ap (λ o. inSet d (o .bits)) (sym e) ∙ b))
 
-        ending : {e : Configuration} (z : EndsAt n q l t s e) → inExchange (memoryAt n q l t s .membership .mode) ≡ true → Decides n q l t s e (collected (z .judged)) → G.Known A x (suc t) d (memoryAt n q l (suc t) s)
+        ending : {e : Configuration} (z : EndsAt n q l t s e) → inExchange (memoryAt n q l t s .membership .mode) ≡ true
+            → Decides n q l t s e (collected (z .judged)) → G.Known A x (suc t) d (memoryAt n q l (suc t) s)
         ending {e} z j (with-quorum a v m o) =
             let k = marking-mark (record { ending = z; has-quorum = a }) in
             not-both (sym (ap (λ o. inSet d (o .bits)) k ∙ in-empty d) ∙ ap (λ w. inSet d (w .votes .mark .bits)) (y .memory-next) ∙ b)
@@ -206,7 +211,7 @@ module _ {n q : ℕ} {l : Run} (A : Allowed n q l) (X : ExchangeFacts n q l) (P 
         go (S.ends o j) =
             let z = ends-here A y o j in
             subst (λ w. G.Known A x (suc t) d w) (y .memory-next) (ending (z .1) (j .exchanging) (ended (z .1)))
-        go (S.installs k o a j f) = same (j .mark) (omega (arith, j .index))
+        go (S.installs k o a j) = same (j .mark) (omega (arith, j .index))
         go (S.unmarks a o f v) = absurd (omega (arith, ap (λ z. z .mark .status) v, h .status))
         go (S.makesValid a r o f g′ v) = absurd (omega (arith, ap (λ z. z .mark .status) v, h .status))
 

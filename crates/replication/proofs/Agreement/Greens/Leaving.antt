@@ -50,7 +50,8 @@ unfolding clearedMark
 cleared-unlike e h = omega (arith, ap (λ z. z .status) e, h .status)
 
 -- What judging keeps is like what it judges.
-pub kept-alike : {m : Mark} (v : State) (o : Mark) (bits : ℕ) → o ≡ record { status = v .mark .status; index = v .mark .index; attempt = v .mark .attempt; set = v .mark .set; bits = bits }
+pub kept-alike : {m : Mark} (v : State) (o : Mark) (bits : ℕ)
+    → o ≡ record { status = v .mark .status; index = v .mark .index; attempt = v .mark .attempt; set = v .mark .set; bits = bits }
     → Alike m o → Alike m (v .mark)
 kept-alike v o bits e h = record {
   status = ap (λ z. z .status) (sym e) ∙ h .status;
@@ -79,7 +80,8 @@ module _ {n q : ℕ} {l : Run} (A : Allowed n q l) (X : ExchangeFacts n q l) {p 
       }) in
       (o .marked-at, o .earlier, subst (λ z. MarksAt n q l (o .marked-at) d z) (sym e) (o .marking))
     where
-      made-status : {r : ℕ} {e : Configuration} → Alike (votesAt n q l (suc r) d .mark) (votesAt n q l t d .mark) → MarksAt n q l r d e → votesAt n q l (suc r) d .mark .status ≡ 1
+      made-status : {r : ℕ} {e : Configuration} → Alike (votesAt n q l (suc r) d .mark) (votesAt n q l t d .mark) → MarksAt n q l r d e
+          → votesAt n q l (suc r) d .mark .status ≡ 1
       made-status k m = ap (λ z. z .status) (marking-mark m)
 
   pub like-member : (t d : ℕ) → Alike (markOfInstall A x) (votesAt n q l t d .mark) → inSet d (c .set) ≡ true

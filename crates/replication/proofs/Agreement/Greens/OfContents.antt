@@ -1,9 +1,9 @@
 -- The part on one exchange.
 use Prim.Native.Nat.{ℕ, zero, suc, _≤_, _<_}
-use mathlib.Core.Path.{_≡_, refl, sym, ap, subst, _∙_}
-use mathlib.Core.Bool.{Bool, true, false}
+use mathlib.Core.Path.{_≡_, refl, sym, ap, _∙_}
+use mathlib.Core.Bool.{true, false}
 use mathlib.Core.List.{List, [], _∷_}
-use mathlib.Core.Option.{Option, none, some}
+use mathlib.Core.Option.{some}
 use native.Mathlib.Omega.{arith}
 use native.Mathlib.Decide.{decLt}
 use lib.ListN.{length, getD}
@@ -11,9 +11,9 @@ use Rattle.base.specs.AtLaws.{none-some}
 use Rattle.base.specs.Tests.{not-both}
 use Rattle.base.specs.Sets.{inSet}
 use Rattle.format.specs.Types.{Record, action, retransmission, state, cpc, regular, transitional, request, recovery, says}
-use Rattle.replication.specs.Machine.Types.{Mode, Non-prim, Reg-prim, Trans-prim, Exchange-states, Exchange-actions, Construct, No, Un, Configuration, Server}
+use Rattle.replication.specs.Machine.Types.{Mode, Non-prim, Reg-prim, Trans-prim, Exchange-states, Exchange-actions, Construct, No, Un, Configuration}
 use Rattle.replication.specs.Machine.Colours.{cut}
-use Rattle.replication.specs.Machine.Plan.{greenIn, cutIn, highest}
+use Rattle.replication.specs.Machine.Plan.{greenIn, cutIn}
 use Rattle.replication.specs.Machine.Rules.{Rule, ruleFor, onRegular}
 use Rattle.replication.specs.Machine.Step.{ownState}
 use Rattle.replication.specs.Images.{isRecovery}
@@ -27,7 +27,7 @@ use Rattle.replication.proofs.Runs.Numbers.{numbers, invariant-at}
 use Rattle.replication.proofs.Runs.Order.{taker-member}
 use Rattle.replication.proofs.Runs.Shifts.{comes-of}
 use Rattle.replication.proofs.Runs.Stays.{membershipAt}
-use Rattle.replication.proofs.Agreement.Terms.{Within, EndsAt, InstallsAt}
+use Rattle.replication.proofs.Agreement.Terms.{Within, EndsAt}
 use Rattle.replication.proofs.Agreement.Exchange.Stages.{stage, InCom, stage-onward}
 use Rattle.replication.proofs.Agreement.Exchange.Collected.{states-in}
 use Rattle.replication.proofs.Agreement.Contents.Agreeable as C
@@ -38,10 +38,9 @@ use Rattle.replication.proofs.Agreement.Contents.Exchanging.{gained-nex
 use Rattle.replication.proofs.Agreement.Contents.Ended as E
 use Rattle.replication.proofs.Agreement.Contents.Places.{EndedAt, ends-ended}
 use Rattle.replication.proofs.Agreement.Contents.Installed.{same-install-ids, same-install-cuts}
-use Rattle.replication.proofs.Agreement.Greens.Beginnings.{Prefix, prefix-to, shorter-begins}
+use Rattle.replication.proofs.Agreement.Greens.Beginnings.{Prefix, prefix-to, shorter-begins, comparable-lists}
 use Rattle.replication.proofs.Agreement.Greens.Terms.{greens, baseOf, cutsOf, Agreeable}
 use Rattle.replication.proofs.Agreement.Greens.Parts.{ContentParts}
-use Rattle.replication.proofs.Agreement.Greens.OfLists.{comparable-lists}
 
 exchange-stage : (m : Mode) → inExchange m ≡ true → stage m ≤ 1
 unfolding inExchange stage

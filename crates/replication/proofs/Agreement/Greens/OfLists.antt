@@ -2,8 +2,6 @@
 use Prim.Native.Nat.{_≤_}
 use mathlib.Core.Path.{refl}
 use mathlib.Core.List.{List, _∷_, List·Memᴰ·head}
-use mathlib.Core.Logic.{inl, inr}
-use Rattle.base.specs.Comparable as B
 use Rattle.base.specs.Comparable.{begins-member}
 use Rattle.base.specs.ListLaws.{Each}
 use Rattle.format.specs.Types.{Id}
@@ -19,19 +17,9 @@ use Rattle.replication.proofs.Agreement.Lists.Fifo.{fifo-within}
 use Rattle.replication.proofs.Agreement.Lists.FifoPlus.{fifo-grown, yellow-fifo}
 use Rattle.replication.proofs.Agreement.Lists.Held.{is-held, held-exactly}
 use Rattle.replication.proofs.Agreement.Lists.Install.{install-begins, install-fifo}
-use Rattle.replication.proofs.Agreement.Greens.Beginnings.{Prefix, Comparable, shorter, longer}
+use Rattle.replication.proofs.Agreement.Greens.Beginnings.{Prefix, comparable-lists}
 use Rattle.replication.proofs.Agreement.Greens.Terms.{greens, plus, Fifo}
 use Rattle.replication.proofs.Agreement.Greens.Parts.{ListParts}
-
-pub comparable-lists : {A : Type 0} {x y : List A} → Comparable x y → B.Comparable x y
-unfolding B.Comparable
-comparable-lists (shorter h) = inl (h .begins)
-comparable-lists (longer h) = inr (h .begins)
-
-pub lists-comparable : {A : Type 0} (x y : List A) → B.Comparable x y → Comparable x y
-unfolding B.Comparable
-lists-comparable x y (inl h) = shorter (record { begins = h })
-lists-comparable x y (inr h) = longer (record { begins = h })
 
 installs-yellow : (s : Server) (ys : List Id) → WellFormed s → Each (λ d. d .index ≤ cut (s .log) (d .creator)) ys → Fifo (plus (greens s) ys)
     → Prefix (plus (greens s) ys) (idsIn ((installLog ys (s .log)) .green)) × Fifo (idsIn ((installLog ys (s .log)) .green))
@@ -40,7 +28,8 @@ installs-yellow s ys w h f =
     let e = held-exactly s w in (
       record {
         begins = install-begins ys (s .log) e
-            (λ d m. is-held (s .log .cuts) d (fifo-within (plus (greens s) ys) d (f .follows) (plus-joins (greens s) ys d m) .0) (each-in (λ d. d .index ≤ cut (s .log) (d .creator)) ys h d m));
+            (λ d m. is-held (s .log .cuts) d (fifo-within (plus (greens s) ys) d (f .follows) (plus-joins (greens s) ys d m) .0)
+            (each-in (λ d. d .index ≤ cut (s .log) (d .creator)) ys h d m));
       },
       record { follows = install-fifo ys (s .log) e (f .follows) },
     )

@@ -37,12 +37,11 @@ use Rattle.replication.proofs.Agreement.Primaries.Installed.{inPrimary,
 use Rattle.replication.proofs.Agreement.Primaries.Leaving as L
 use Rattle.replication.proofs.Agreement.Primaries.Leaving.{reached, reached-comparable, green-whole, leaves-from-un}
 use Rattle.replication.proofs.Agreement.Primaries.Orders.{reached-fifo, yellow-joins, yellow-fifo}
-use Rattle.replication.proofs.Agreement.Greens.Beginnings.{Prefix, Comparable, prefix-to, prefix-from}
+use Rattle.replication.proofs.Agreement.Greens.Beginnings.{Prefix, Comparable, lists-comparable, prefix-to, prefix-from}
 use Rattle.replication.proofs.Agreement.Greens.Terms.{greens, plus, Fifo, baseOf, cutsOf, reach}
 use Rattle.replication.proofs.Agreement.Greens.Parts.{PrimaryParts}
 use Rattle.replication.proofs.Agreement.Greens.Residues.{within-place}
-use Rattle.replication.proofs.Agreement.Greens.OfLists.{lists-comparable}
-use Rattle.replication.proofs.Agreement.Greens.Claim.{same-actions}
+use Rattle.replication.proofs.Agreement.Contents.Same.{same-actions}
 
 primary-mode : {m : Mode} → (m ≡ Reg-prim) ⊎ (m ≡ Trans-prim) → inPrimary m ≡ true
 unfolding inPrimary
@@ -88,7 +87,8 @@ module _ {n q : ℕ} {l : Run} (A : Allowed n q l) where
       go (no a) f = let e : r ≡ p = omega arith in subst (λ z. lastAt n q l (suc z) i ≡ installed n q l x) e (ap (λ s. s .votes .last) (x .acts .memory-next))
 
   -- What is reached, on ids.
-  reach-ids : {p i : ℕ} {c : Configuration} (x : InstallsAt n q l p i c) (d : ℕ) → idsIn (reached A c (base A x) (memoryAt n q l p i .log .cuts) d (length l)) ≡ reach A x d
+  reach-ids : {p i : ℕ} {c : Configuration} (x : InstallsAt n q l p i c) (d : ℕ)
+      → idsIn (reached A c (base A x) (memoryAt n q l p i .log .cuts) d (length l)) ≡ reach A x d
   unfolding reach baseOf cutsOf
   reach-ids {p} {i} {c} x d = ids-append (base A x) (entered (memoryAt n q l p i .log .cuts) (actedIn A (withinRegular c) d (length l)))
 
@@ -109,7 +109,8 @@ module _ {n q : ℕ} {l : Run} (A : Allowed n q l) where
   unfolding idsIn
   begins-ids x y h = record { begins = begins-map (λ a. a .id) x y h }
 
-  leaves-with-all : (p r s i j e : ℕ) (c d : Configuration) (x : InstallsAt n q l r i c) (y : InstallsAt n q l s j c) → s < p → Takes n q l p j d → Within n q l p j c
+  leaves-with-all : (p r s i j e : ℕ) (c d : Configuration) (x : InstallsAt n q l r i c) (y : InstallsAt n q l s j c) → s < p → Takes n q l p j d
+      → Within n q l p j c
       → memoryAt n q l p j .membership .mode ≡ Trans-prim → baseOf A x ≡ baseOf A y → cutsOf A x ≡ cutsOf A y → inSet e (c .set) ≡ true
       → Prefix (reach A x e) (plus (greens (memoryAt n q l p j)) (memoryAt n q l p j .votes .yellow .ids))
   unfolding cutsOf
@@ -140,7 +141,8 @@ module _ {n q : ℕ} {l : Run} (A : Allowed n q l) where
         reach-fifo = λ r i d c x m f. record { follows = subst (λ z. F.Fifo z) (reach-ids x d) (reached-fifo A x (f .follows) d (length l)) };
       }
     where
-      falling : (r i d : ℕ) (c : Configuration) (x : InstallsAt n q l r i c) {p : ℕ} → ((s : ℕ) × (s < p) × InstallsAt n q l s d c) ⊎ ((r : ℕ) → inCom A c d r ≡ [])
+      falling : (r i d : ℕ) (c : Configuration) (x : InstallsAt n q l r i c) {p : ℕ}
+          → ((s : ℕ) × (s < p) × InstallsAt n q l s d c) ⊎ ((r : ℕ) → inCom A c d r ≡ [])
           → ((s : ℕ) × (s < p) × InstallsAt n q l s d c) ⊎ (reach A x d ≡ baseOf A x)
       falling r i d c x (inl y) = inl y
       falling r i d c x (inr f) = inr (reach-nothing x d (none-regularly c d f))

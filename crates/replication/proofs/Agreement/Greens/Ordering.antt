@@ -67,7 +67,8 @@ module _ {n q : ℕ} {l : Run} (A : Allowed n q l) (X : ExchangeFacts n q l) (P 
 
   -- ---- at the end of an exchange
 
-  ending-fifo : {s : ℕ} {c : Configuration} (y : EndsAt n q l t s c) → inExchange (memoryAt n q l t s .membership .mode) ≡ true → YellowTaken A X P U (memoryAt n q l (suc t) s) (collected (y .judged))
+  ending-fifo : {s : ℕ} {c : Configuration} (y : EndsAt n q l t s c) → inExchange (memoryAt n q l t s .membership .mode) ≡ true
+      → YellowTaken A X P U (memoryAt n q l (suc t) s) (collected (y .judged))
       → Fifo (known-list (memoryAt n q l (suc t) s))
   ending-fifo {s} y o (invalid h e) = subst (λ z. Fifo z) (sym (ap (plus (greens u)) (no-valid-yellow u h) ∙ plus-nil _)) (greens-fifo (in-memory (y .acts .down-next)))
     where
@@ -88,7 +89,8 @@ module _ {n q : ℕ} {l : Run} (A : Allowed n q l) (X : ExchangeFacts n q l) (P 
 
   -- ---- the step
 
-  acting-fifo : {s : ℕ} (y : Acts n q l t s) → GreenStep (memoryAt n q l t s) (y .by .event) (y .after) (y .by .records) (y .stores) → Fifo (known-list (y .after))
+  acting-fifo : {s : ℕ} (y : Acts n q l t s) → GreenStep (memoryAt n q l t s) (y .by .event) (y .after) (y .by .records) (y .stores)
+      → Fifo (known-list (y .after))
   unfolding unmarked yellowValid validYellow pick
   acting-fifo {s} y (S.steady g v k) =
       subst (λ z. Fifo z) (sym (same-known (y .after) (memoryAt n q l t s) g (ap (λ z. z .yellow) v))) (U t (omega arith) .fifo s _ (in-memory (y .up)))
@@ -100,7 +102,7 @@ module _ {n q : ℕ} {l : Run} (A : Allowed n q l) (X : ExchangeFacts n q l) (P 
   acting-fifo {s} y (S.ends b j) =
       let z = ends-here A y b j in
       subst (λ u. Fifo (known-list u)) (y .memory-next) (ending-fifo (z .1) (j .exchanging) (yellow-taken A X P U (z .1)))
-  acting-fifo y (S.installs k b o j g) = invalid-fifo y (no-yellow-after A y o)
+  acting-fifo y (S.installs k b o j) = invalid-fifo y (no-yellow-after A y o)
   acting-fifo {s} y (S.unmarks k b g v) =
       subst (λ z. Fifo z) (sym (same-known (y .after) (memoryAt n q l t s) (ap (λ z. z .green) g) (ap (λ z. z .yellow) v))) (U t (omega arith) .fifo s _ (in-memory (y .up)))
   acting-fifo {s} y (S.makesValid o r k b g v) =

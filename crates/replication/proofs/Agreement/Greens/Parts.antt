@@ -52,7 +52,8 @@ module _ {n q : ℕ} {l : Run} (A : Allowed n q l) where
         → Takes n q l e k c → (a : ℕ) → cut (memoryAt n q l (suc e) k .log) a ≤ cut (memoryAt n q l (suc p) i .log) a
     -- While retransmissions come, all members have taken c, and the green list begins one that a member had.
     pub all-took : (p i e k : ℕ) (c : Configuration) → Within n q l p i c → memoryAt n q l p i .membership .mode ≡ Exchange-actions → Takes n q l e k c → e < p
-    pub resent-from : (p i : ℕ) (c : Configuration) → Agreeable A c → Within n q l p i c → memoryAt n q l p i .membership .mode ≡ Exchange-actions → Acts n q l p i
+    pub resent-from : (p i : ℕ) (c : Configuration) → Agreeable A c → Within n q l p i c → memoryAt n q l p i .membership .mode ≡ Exchange-actions
+        → Acts n q l p i
         → (k : ℕ) × (e : ℕ) × Takes n q l e k c × Prefix (greens (memoryAt n q l (suc p) i)) (greens (memoryAt n q l (suc e) k))
     -- All Installs in c give the same.
     pub one-base : (p r i j : ℕ) (c : Configuration) → Agreeable A c → (x : InstallsAt n q l p i c) (y : InstallsAt n q l r j c)
@@ -65,11 +66,13 @@ module _ {n q : ℕ} {l : Run} (A : Allowed n q l) where
     pub in-primary : (p i : ℕ) (c : Configuration) → Within n q l p i c
         → (memoryAt n q l p i .membership .mode ≡ Reg-prim) ⊎ (memoryAt n q l p i .membership .mode ≡ Trans-prim)
         → (r : ℕ) × (r < p) × (x : InstallsAt n q l r i c) × (installed n q l x ≡ memoryAt n q l p i .votes .last)
-    pub begins-reach : (p r i : ℕ) (c : Configuration) (x : InstallsAt n q l r i c) → r < p → Within n q l p i c → Prefix (greens (memoryAt n q l p i)) (reach A x i)
+    pub begins-reach : (p r i : ℕ) (c : Configuration) (x : InstallsAt n q l r i c) → r < p → Within n q l p i c
+        → Prefix (greens (memoryAt n q l p i)) (reach A x i)
     pub reaches-comparable : (r i d e : ℕ) (c : Configuration) (x : InstallsAt n q l r i c) → inSet d (c .set) ≡ true → inSet e (c .set) ≡ true
         → Comparable (reach A x d) (reach A x e)
     -- Whoever leaves from Trans_prim has all that any member reaches, green or yellow.
-    pub leaves-with-all : (p r s i j e : ℕ) (c d : Configuration) (x : InstallsAt n q l r i c) (y : InstallsAt n q l s j c) → s < p → Takes n q l p j d → Within n q l p j c
+    pub leaves-with-all : (p r s i j e : ℕ) (c d : Configuration) (x : InstallsAt n q l r i c) (y : InstallsAt n q l s j c) → s < p → Takes n q l p j d
+        → Within n q l p j c
         → memoryAt n q l p j .membership .mode ≡ Trans-prim → baseOf A x ≡ baseOf A y → cutsOf A x ≡ cutsOf A y → inSet e (c .set) ≡ true
         → Prefix (reach A x e) (plus (greens (memoryAt n q l p j)) (memoryAt n q l p j .votes .yellow .ids))
     pub leaves-in-order : (p s j : ℕ) (c d : Configuration) (y : InstallsAt n q l s j c) → s < p → Takes n q l p j d → Within n q l p j c

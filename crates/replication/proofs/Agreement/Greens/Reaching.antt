@@ -53,7 +53,8 @@ module _ {n q : ℕ} {l : Run} (A : Allowed n q l) where
     memory-reached : {s : ℕ} (x : Acts n q l t s) → Reached A t s (greens (memoryAt n q l t s))
     memory-reached {s} x = U t (omega arith) .reached s (memoryAt n q l t s) (in-memory (x .up))
 
-    installing-reached : {s : ℕ} (x : Acts n q l t s) → (c : Configuration) × (y : InstallsAt n q l t s c) × (y .acts ≡ x) → greens (memoryAt n q l (suc t) s) ≡ greens (x .after)
+    installing-reached : {s : ℕ} (x : Acts n q l t s) → (c : Configuration) × (y : InstallsAt n q l t s c) × (y .acts ≡ x)
+        → greens (memoryAt n q l (suc t) s) ≡ greens (x .after)
         → Reached A (suc t) s (greens (x .after))
     unfolding baseOf
     installing-reached {s} x (c, y, z) e = settled (at-base t s c y (omega arith) (prefix-same (sym e)))

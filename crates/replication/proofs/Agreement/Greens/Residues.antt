@@ -139,7 +139,8 @@ module _ {n q : ℕ} {l : Run} (A : Allowed n q l) where
 
   -- ---- Installs in one configuration that give the same
 
-  module _ {p r i j : ℕ} {c : Configuration} (x : InstallsAt n q l p i c) (y : InstallsAt n q l r j c) (same-base : baseOf A x ≡ baseOf A y) (same-cuts : cutsOf A x ≡ cutsOf A y) where
+  module _ {p r i j : ℕ} {c : Configuration} (x : InstallsAt n q l p i c) (y : InstallsAt n q l r j c)
+      (same-base : baseOf A x ≡ baseOf A y) (same-cuts : cutsOf A x ≡ cutsOf A y) where
     pub same-reach : (d : ℕ) → reach A x d ≡ reach A y d
     unfolding reach
     same-reach d = λ z. same-base z ++ idsIn (entered (same-cuts z) (actedIn A (withinRegular c) d (length l)))

@@ -7,7 +7,7 @@ use mathlib.Core.Logic.{_⊎_, inl, inr}
 use Rattle.base.specs.Tests.{not-both}
 use Rattle.format.specs.Types.{Record, regular}
 use Rattle.replication.specs.Machine.Types.{Mode, Non-prim, Reg-prim, Trans-prim, Exchange-states, Exchange-actions, Construct, No, Un, Votes, Configuration, Server, start}
-use Rattle.replication.specs.Machine.Install.{install, installVotes, installLog}
+use Rattle.replication.specs.Machine.Install.{install, installVotes}
 use Rattle.replication.specs.Machine.Requests.{numbered, hold, sendHeld, recovered}
 use Rattle.replication.specs.Machine.Rules.{ruleFor, onAction, onCpc}
 use Rattle.replication.specs.Machine.Step.{entering, unmarked, yellowValid, withState, resending, exchanged, oneMore, withCpc, leave, greenAndNote, attempting, decided, installsBy, hereSet, allStatesIn}
@@ -23,7 +23,7 @@ use Rattle.replication.proofs.Step.Inversion.{taken-by}
 use Rattle.replication.proofs.Step.Moves.{moved}
 use Rattle.replication.proofs.Step.Modes.{mode-facts-kept}
 use Rattle.replication.proofs.Runs.Lived.{each-at-place}
-use Rattle.replication.proofs.Step.Greens.{red-green, yellow-green, reds-green}
+use Rattle.replication.proofs.Step.Greens.{red-green, reds-green}
 use Rattle.replication.proofs.Step.Control.{control-yellow, yellow-membership}
 use Rattle.replication.proofs.Agreement.Votes.Changes as C
 use Rattle.replication.proofs.Agreement.Votes.Changes.{Ending, Installing, VotesStep, votes-step, installing}
@@ -38,8 +38,7 @@ pub data GreenStep (s : Server) (r : Record) (t : Server) (rs : List Record) (b 
   delivers : InPrimary s → InPrimary t → t .votes .last ≡ s .votes .last → t .votes .mark ≡ s .votes .mark → GreenStep s r t rs b
   exchanges : s .membership .mode ≡ Exchange-actions → t .membership .mode ≡ Exchange-actions → t .votes ≡ s .votes → GreenStep s r t rs b
   ends : b ≡ true → Ending s t rs → GreenStep s r t rs b
-  installs : installing s r ≡ true → b ≡ true → InPrimary t → Installing s t → t .log .green ≡ (installLog (s .votes .yellow .ids) (s .log)) .green
-      → GreenStep s r t rs b
+  installs : installing s r ≡ true → b ≡ true → InPrimary t → Installing s t → GreenStep s r t rs b
   unmarks : s .membership .mode ≡ No → t .membership .mode ≡ Exchange-states → t .log ≡ s .log → t .votes ≡ unmarked (s .votes) → GreenStep s r t rs b
   makesValid : (c : Configuration) → r ≡ regular (c .id) (c .set) → s .membership .mode ≡ Trans-prim → t .membership .mode ≡ Exchange-states → t .log ≡ s .log
       → t .votes ≡ yellowValid (unmarked (s .votes)) → GreenStep s r t rs b
@@ -53,12 +52,12 @@ module _ (s : Server) where
   leads-steady m n e L.interruptsActions h = not-both h
   leads-steady m n e L.interruptsConstruct h = ap M.attempting e
 
-  by-votes : {r : Record} {t : Server} {rs : List Record} {b : Bool} → b ≡ true → InPrimary t → installing s r ≡ true
-      → t .log .green ≡ (installLog (s .votes .yellow .ids) (s .log)) .green → VotesStep s r t rs b → GreenStep s r t rs b
-  by-votes h p k m (C.keeps g o v w) = not-both (sym o ∙ k)
-  by-votes h p k m (C.joins c e o j) = not-both (sym o ∙ k)
-  by-votes h p k m (C.ends g o w j) = not-both (sym o ∙ k)
-  by-votes h p k m (C.installs g o j) = installs o h p j m
+  by-votes : {r : Record} {t : Server} {rs : List Record} {b : Bool} → b ≡ true → InPrimary t → installing s r ≡ true → VotesStep s r t rs b
+      → GreenStep s r t rs b
+  by-votes h p k (C.keeps g o v w) = not-both (sym o ∙ k)
+  by-votes h p k (C.joins c e o j) = not-both (sym o ∙ k)
+  by-votes h p k (C.ends g o w j) = not-both (sym o ∙ k)
+  by-votes h p k (C.installs g o j) = installs o h p j
 
   pub green-step : {r : Record} {t : Server} {rs : List Record} {b : Bool} → Transition s r t rs b → GreenStep s r t rs b
   unfolding greenAndNote install exchanged oneMore withState resending withCpc sendHeld numbered entering leave hold recovered M.attempting inExchange installsBy ruleFor onAction onCpc hereSet allStatesIn
@@ -70,7 +69,7 @@ module _ (s : Server) where
   green-step (L.greens a e) = delivers (inl e) (inl e) refl refl
   green-step (L.yellows a e) =
       delivers (inr e) (inr (ap (λ m. m .mode) (yellow-membership a s) ∙ e)) (control-yellow a s .last) (control-yellow a s .mark)
-  green-step (L.installsLate a e) = by-votes refl (inr refl) (ap (λ m. installsBy (onAction m a) s) e) (yellow-green a (install s)) (votes-step s (L.installsLate a e))
+  green-step (L.installsLate a e) = by-votes refl (inr refl) (ap (λ m. installsBy (onAction m a) s) e) (votes-step s (L.installsLate a e))
   green-step (L.exchanges k p a e c) = exchanges e e refl
   green-step (L.exchangesLast k p a u us e c x) =
       ends refl (record { judged = exchanged p a s; ends = x; exchanging = ap inExchange e; me = refl; votes = refl; configuration = refl; complete = λ f. f e })
@@ -79,7 +78,7 @@ module _ (s : Server) where
   green-step (L.collectsWhole x u us e c d y) =
       ends refl (record { judged = withState x s; ends = y; exchanging = ap inExchange e; me = refl; votes = refl; configuration = refl; complete = λ f. c })
   green-step (L.counts k i e c) = steady refl refl (λ h. h)
-  green-step (L.installs k i e c) = by-votes refl (inl refl) (ap (λ m. installsBy (onCpc m k) s) e ∙ c) refl (votes-step s (L.installs k i e c))
+  green-step (L.installs k i e c) = by-votes refl (inl refl) (ap (λ m. installsBy (onCpc m k) s) e ∙ c) (votes-step s (L.installs k i e c))
   green-step (L.countsLate k i e c) = steady refl refl (λ h. h)
   green-step (L.countsAllLate k i e c) = steady refl refl (λ h. ap M.attempting e)
   green-step (L.joins c e) = steady refl refl (λ h. not-both h)

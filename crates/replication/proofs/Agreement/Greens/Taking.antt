@@ -75,7 +75,9 @@ module _ {n q : ℕ} {l : Run} (A : Allowed n q l) where
       stored-next (x .0) (regular-stores (x .0 .moves) (ap isRegular (x .1)))
 
   pub took-begins : {e j t : ℕ} {c : Configuration} → Takes n q l e j c → e < t → Prefix (greens (memoryAt n q l (suc e) j)) (greens (storeAt n q l t j))
-  took-begins {e} {j} {t} k h = prefix-from (ap greens (sym (takes-stored k))) (grows-greens (storeAt n q l (suc e) j) (storeAt n q l t j) (store-grows-between n q l j (suc e) t h))
+  took-begins {e} {j} {t} k h =
+      prefix-from (ap greens (sym (takes-stored k)))
+      (grows-greens (storeAt n q l (suc e) j) (storeAt n q l t j) (store-grows-between n q l j (suc e) t h))
 
   module _ (X : ExchangeFacts n q l) (P : Parts A) where
     pub agreeable : {t : ℕ} (c : Configuration) → Invariant A t → ((e k : ℕ) → Takes n q l e k c → e < t) → Agreeable A c
@@ -87,7 +89,8 @@ module _ {n q : ℕ} {l : Run} (A : Allowed n q l) where
         stored : (j : ℕ) → Image n q l t j (storeAt n q l t j)
         stored j = in-store
 
-    pub same-install-next : {t : ℕ} → UpTo A t → (p r i j : ℕ) (c : Configuration) (x : InstallsAt n q l p i c) (y : InstallsAt n q l r j c) → p < suc t → r < suc t
+    pub same-install-next : {t : ℕ} → UpTo A t → (p r i j : ℕ) (c : Configuration) (x : InstallsAt n q l p i c) (y : InstallsAt n q l r j c)
+        → p < suc t → r < suc t
         → (baseOf A x ≡ baseOf A y) × (cutsOf A x ≡ cutsOf A y)
     same-install-next {t} U p r i j c x y h k =
         P .contents .one-base p r i j c (agreeable c (U t (omega arith)) (λ e k o. omega (arith, takers-before A X x o))) x y

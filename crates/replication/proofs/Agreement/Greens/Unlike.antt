@@ -1,9 +1,9 @@
 -- Marks told apart; whom rule (b) names.
-use mathlib.Core.Path.{_≡_, refl, sym, ap, _∙_}
-use mathlib.Core.Bool.{Bool, true, false, not}
-use mathlib.Core.List.{List, [], _∷_, List·Memᴰ, List·Memᴰ·head, List·Memᴰ·tail}
+use mathlib.Core.Path.{_≡_, sym, ap, _∙_}
+use mathlib.Core.Bool.{true, false, not}
+use mathlib.Core.List.{List, [], List·Memᴰ}
 use mathlib.Core.Logic.{_⊎_, inl, inr}
-use Rattle.base.specs.Lists.{any}
+use Rattle.base.specs.Members.{any-from}
 use Rattle.base.specs.Sets.{inSet}
 use Rattle.base.specs.Tests.{_and_, _or_, _=?_, pick, not-both, and-holds, both-yes, eq-holds, eq-fails, eq-yes, Known, holds, fails, known}
 use Rattle.format.specs.Types.{Mark, State}
@@ -11,7 +11,6 @@ use Rattle.replication.specs.Machine.Types.{Server}
 use Rattle.replication.specs.Machine.Exchange.{isMarked, sameAttempt, ruleB}
 use Rattle.replication.proofs.Agreement.Votes.Judging.{Alike}
 use Rattle.replication.proofs.Agreement.Greens.Terms.{validYellow}
-use Rattle.replication.proofs.Agreement.Greens.Gathered.{sender}
 
 pub alike? : (m o : Mark) → Alike m o ⊎ (Alike m o → ⊥)
 alike? m o = go (known (o .status =? 1)) (known (o .index =? m .index)) (known (o .attempt =? m .attempt)) (known (o .set =? m .set))
@@ -27,15 +26,6 @@ alike? m o = go (known (o .status =? 1)) (known (o .index =? m .index)) (known (
 pub invalid-yellow : (u : Server) → (u .votes .yellow .status =? 1) ≡ false → validYellow u ≡ []
 unfolding validYellow pick
 invalid-yellow u h = rw h
-
-any-from : (t : State → Bool) (l : List State) → any t l ≡ true → (x : State) × List·Memᴰ x l × (t x ≡ true)
-unfolding any _or_
-any-from t [] h = not-both h
-any-from t (x ∷ l) h = go (known (t x)) (any-from t l)
-  where
-    go : Known (t x) → (any t l ≡ true → (y : State) × List·Memᴰ y l × (t y ≡ true)) → (y : State) × List·Memᴰ y (x ∷ l) × (t y ≡ true)
-    go (holds a) f = (x, List·Memᴰ·head refl, a)
-    go (fails a) f = let r = f (sym (ap (λ z. z or any t l) a) ∙ h) in (r .0, List·Memᴰ·tail (r .1), r .2)
 
 -- Rule (b) names a present member of the mark's set whose mark is another, or none.
 pub rule-b-names : (xs : List State) (v : State) → ruleB xs v ≡ true
