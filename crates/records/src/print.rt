@@ -1,10 +1,11 @@
 // An event that was read, in words.
-ghost use Prim.Native.Nat.{_+_, _*_, _≤_};
+ghost use Prim.Native.Nat.{_+_, _*_, _≤_, _<_};
 ghost use lib.ListN.{length};
 ghost use Rattle.record.specs.Reading.{PlacedEvent, PlacedAction, PlacedRetransmission, PlacedState, PlacedPayload};
 use record::Context;
 use record::LastPrimary;
 use record::Mark;
+use record::StateHead;
 use record::bytes::num8;
 use record::bytes::num16;
 use record::events::ActionAt;
@@ -26,9 +27,10 @@ fn part(label: &[u8], e: &[u8], at: usize, m: usize)
 fn action(c: Context, a: ActionAt, e: &[u8])
     requires { ⌜ PlacedAction c a (now e) ⌝ }
 {
-    number(b"action creator ", a.creator as u64);
-    number(b" index ", a.index as u64);
-    number(b" green ", a.green_length as u64);
+    let h = a.head;
+    number(b"action creator ", h.creator as u64);
+    number(b" index ", h.index as u64);
+    number(b" green ", h.green_length as u64);
     let at = a.payload_at;
     part(b" payload ", e, at, a.payload_length);
 }
@@ -71,7 +73,7 @@ fn ids(e: &[u8], at: usize, count: usize)
     }
 }
 
-fn numbers(s: StateAt) {
+fn numbers(s: StateHead) {
     number(b"State sender ", s.sender as u64);
     number(b" configuration ", s.configuration as u64);
     number(b" green ", s.green_length as u64);
@@ -86,11 +88,12 @@ fn numbers(s: StateAt) {
 fn state(c: Context, s: StateAt, e: &[u8])
     requires { ⌜ PlacedState c s (now e) ⌝ }
 {
-    numbers(s);
+    let h = s.head;
+    numbers(h);
     let cuts_at = s.cuts_at;
-    cuts(e, cuts_at, c.servers as usize);
+    cuts(e, cuts_at, h.servers as usize);
     let yellow_at = s.yellow_at;
-    ids(e, yellow_at, s.yellow_count);
+    ids(e, yellow_at, h.yellow_count as usize);
 }
 
 fn retransmission(c: Context, sender: u8, position: u32, a: ActionAt, e: &[u8])
@@ -141,5 +144,46 @@ pub fn event(c: Context, v: Event, e: &[u8])
         Event::Recovery => {
             io::write_all(1, b"recovery");
         }
+    }
+}
+
+fn wide(b: u8) -> u64 {
+    b as u64
+}
+
+fn sum(x: u64, y: u64) -> u64
+    ensures { λ r. ⌜ r < 65521 ⌝ }
+{
+    (x % 65521 + y % 65521) % 65521
+}
+
+// Adler-32: the sum of the bytes and 1, and the sum of these sums, each modulo 65521.
+fn digest(s: &[u8]) -> u64 {
+    let mut low: u64 = 1;
+    let mut high: u64 = 0;
+    let mut k = 0;
+    while k < s.len() {
+        low = sum(low, wide(s[k]));
+        high = sum(high, low);
+        k += 1;
+    }
+    high * 65536 + low
+}
+
+fn hex(s: &[u8]) {
+    let mut k = 0;
+    while k < s.len() {
+        io::print_hex(1, wide(s[k]), 2);
+        k += 1;
+    }
+}
+
+// A digest of the bytes and, where there are few, the bytes themselves.
+pub fn bytes(s: &[u8]) {
+    io::write_all(1, b" digest ");
+    io::print_hex(1, digest(s), 8);
+    if s.len() <= 72 {
+        io::write_all(1, b" bytes ");
+        hex(s);
     }
 }

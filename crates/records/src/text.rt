@@ -18,6 +18,13 @@ pub fn find(s: &[u8], at: usize, b: u8) -> usize
     i
 }
 
+pub fn begins(s: &[u8], b: u8) -> bool {
+    if s.len() < 1 {
+        return false;
+    }
+    s[0] == b
+}
+
 // The value of a hexadecimal digit, and 16 of any other byte.
 fn digit(b: u8) -> u16
     ensures { λ r. ⌜ r ≤ 16 ⌝ }

@@ -1,7 +1,7 @@
 use Rattle.record.proofs.Callers.{good-placed}
 use borrow.Author.Needs.{needs}
-use Rattle.records.proofs.say.Statement.{statement}
-use Rattle.records.proofs.say.Tie as tie
+use Rattle.records.proofs.writing.say.Statement.{statement}
+use Rattle.records.proofs.writing.say.Tie as tie
 
 read-requires : tie.Need-read-requires
 read-requires c κs = search needs
