@@ -6,7 +6,6 @@ mod text;
 mod writing;
 
 use record::Context;
-use record::bytes::num16;
 use record::range::Limits;
 
 fn context(e: &[u8]) -> Context {
@@ -21,7 +20,7 @@ fn context(e: &[u8]) -> Context {
     }
     Context {
         servers: e[0],
-        quota: num16(e, 1),
+        quota: text::two(e[1], e[2]),
         me: e[3],
         configured: e[4],
         set: e[5],
@@ -63,15 +62,27 @@ fn lines(s: &[u8]) {
     }
 }
 
+fn limit_numbers(l: Limits) -> [u64; 13] {
+    [
+        l.fewest_servers as u64,
+        l.most_servers as u64,
+        l.least_quota as u64,
+        l.most_quota as u64,
+        l.most_payload as u64,
+        l.most_held as u64,
+        l.most_index as u64,
+        0,
+        0,
+        0,
+        0,
+        0,
+        0,
+    ]
+}
+
 fn limits() {
-    let l = Limits::all();
-    print::number(b"servers ", l.fewest_servers as u64);
-    print::number(b" to ", l.most_servers as u64);
-    print::number(b", quota ", l.least_quota as u64);
-    print::number(b" to ", l.most_quota as u64);
-    print::number(b", payload to ", l.most_payload as u64);
-    print::number(b", held to ", l.most_held as u64);
-    print::number(b", indexes to ", l.most_index as u64);
+    io::write_all(1, b"limits");
+    print::numbers(limit_numbers(Limits::all()), 7);
     io::write_all(1, b"\n");
 }
 

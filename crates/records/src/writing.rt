@@ -82,7 +82,7 @@ pub fn say(c: Context, e: &[u8]) {
     let r = record::reader::read(c, e);
     match r {
         Reading::Good(v) => print::event(c, v, e),
-        Reading::Refused(k) => print::number(b"refused ", k as u64),
+        Reading::Refused(k) => print::refused(k),
     }
 }
 
@@ -95,11 +95,10 @@ fn fill(c: Context, v: Event, e: &[u8], out: &mut [u8])
     while k < 3 {
         let w = again(c, v, e, out, at);
         let Written::Next(next) = w else {
-            io::write_all(1, b" full");
+            print::full();
             return;
         };
-        print::number(b" next ", next as u64);
-        io::write_all(1, b" ");
+        print::next(next);
         reading(c, out, at, next);
         at = next;
         k += 1;
@@ -109,7 +108,7 @@ fn fill(c: Context, v: Event, e: &[u8], out: &mut [u8])
 fn room(c: Context, v: Event, e: &[u8], out: &mut [u8])
     requires { ⌜ PlacedEvent c v (now e) ⌝ }
 {
-    print::number(b"  room ", out.len() as u64);
+    print::room(out.len());
     fill(c, v, e, out);
     print::bytes(out);
     io::write_all(1, b"\n");

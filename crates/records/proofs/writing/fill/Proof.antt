@@ -6,10 +6,10 @@ use Rattle.records.proofs.writing.fill.Statement.{statement}
 use Rattle.records.proofs.writing.fill.Tie as tie
 
 abbrev Inv-loop : tie.InvT-loop
-Inv-loop c v e out₀ at₀ k₀ t9 t10 t11 out at k = length out ≡ length out₀
+Inv-loop c v e out₀ at₀ k₀ out at k = length out ≡ length out₀
 
 abbrev μ-loop : tie.MeasureT-loop
-μ-loop c v e out₀ at₀ k₀ t9 t10 t11 out at k = 3 - k
+μ-loop c v e out₀ at₀ k₀ out at k = 3 - k
 
 loop-holds : tie.Need-loop-holds Inv-loop μ-loop
 loop-holds c = search needs
@@ -23,11 +23,8 @@ enum-known-w c = search needs
 enum-told : tie.Need-enum-told Inv-loop μ-loop
 enum-told c = search needs
 
-slice-aggregate-write-all : tie.Need-slice-aggregate-write-all Inv-loop μ-loop
-slice-aggregate-write-all c = search needs
-
-write-all-requires : tie.Need-write-all-requires Inv-loop μ-loop
-write-all-requires c κs = search needs
+full-requires : tie.Need-full-requires Inv-loop μ-loop
+full-requires c κs = search needs
 
 same-length : tie.Need-same-length Inv-loop μ-loop
 same-length c = search needs
@@ -35,17 +32,8 @@ same-length c = search needs
 returns : tie.Need-returns Inv-loop μ-loop
 returns c = search needs
 
-slice-aggregate-number : tie.Need-slice-aggregate-number Inv-loop μ-loop
-slice-aggregate-number c = search needs
-
-number-requires : tie.Need-number-requires Inv-loop μ-loop
-number-requires c κs = search needs
-
-slice-aggregate-write-all-2 : tie.Need-slice-aggregate-write-all-2 Inv-loop μ-loop
-slice-aggregate-write-all-2 c = search needs
-
-write-all-requires-2 : tie.Need-write-all-requires-2 Inv-loop μ-loop
-write-all-requires-2 c κs = search needs
+next-requires : tie.Need-next-requires Inv-loop μ-loop
+next-requires c κs = search needs
 
 reading-requires : tie.Need-reading-requires Inv-loop μ-loop
 reading-requires c κs = search needs
@@ -75,14 +63,10 @@ fill-spec =
     again-requires
     enum-known-w
     enum-told
-    slice-aggregate-write-all
-    write-all-requires
+    full-requires
     same-length
     returns
-    slice-aggregate-number
-    number-requires
-    slice-aggregate-write-all-2
-    write-all-requires-2
+    next-requires
     reading-requires
     add-k
     loop-less

@@ -15,14 +15,8 @@ event-requires c κs = search (needs, good-placed)
 enum-known-r-2 : tie.Need-enum-known-r-2
 enum-known-r-2 c = search needs
 
-slice-aggregate-number : tie.Need-slice-aggregate-number
-slice-aggregate-number c = search needs
-
-cast-number : tie.Need-cast-number
-cast-number c = search needs
-
-number-requires : tie.Need-number-requires
-number-requires c κs = search needs
+refused-requires : tie.Need-refused-requires
+refused-requires c κs = search needs
 
 returns : tie.Need-returns
 returns c = search needs
@@ -38,8 +32,6 @@ say-spec =
     enum-known-r
     event-requires
     enum-known-r-2
-    slice-aggregate-number
-    cast-number
-    number-requires
+    refused-requires
     returns
     returns-2)
