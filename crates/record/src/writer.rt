@@ -1,6 +1,6 @@
 // Writers of the records that the engine sends, straight into the outgoing buffer.
 ghost use mathlib.Core.Path.{_≡_};
-ghost use Prim.Native.Nat.{_+_, _*_, _<_};
+ghost use Prim.Native.Nat.{_+_, _*_, _%_};
 ghost use Rattle.base.specs.Patched.{patched};
 ghost use Rattle.format.specs.Types.{action, retransmission, state, cpc, kindNumber, ofState};
 ghost use Rattle.format.specs.Write.{write};
@@ -39,7 +39,7 @@ fn place_after(length: usize, at: usize, size: usize, more: usize) -> Written
 // Each record's numbers up to its bytes, filled up with zeros, and their widths.
 
 // All of a CPC, and what a State begins with.
-const OPENING: [u8; 12] = [2, 1, 1, 1, 4, 0, 0, 0, 0, 0, 0, 0];
+const OPENING_WIDTHS: [u8; 12] = [2, 1, 1, 1, 4, 0, 0, 0, 0, 0, 0, 0];
 
 fn opening(follows: u32, kind: u8, sender: u8, number: u32) -> [u32; 12]
     ensures { λ r. ⌜ r ≡ openingNumbers follows kind sender number ⌝ }
@@ -62,20 +62,21 @@ fn opening(follows: u32, kind: u8, sender: u8, number: u32) -> [u32; 12]
     ]
 }
 
-const ACTION: [u8; 12] = [2, 1, 1, 1, 2, 4, 1, 0, 0, 0, 0, 0];
+const ACTION_WIDTHS: [u8; 12] = [2, 1, 1, 1, 2, 4, 1, 0, 0, 0, 0, 0];
 
-fn action_numbers(head: ActionHead, payload: u32) -> [u32; 12]
-    requires { ⌜ payload < 65536 ⌝ }
-    ensures { λ r. ⌜ r ≡ actionNumbers head payload ⌝ }
+// Of the payload's length as much as two bytes can tell.
+fn action_numbers(head: ActionHead, payload: usize) -> [u32; 12]
+    ensures { λ r. ⌜ r ≡ actionNumbers head (payload % 65536) ⌝ }
 {
+    let size = (payload % 65536) as u32;
     [
-        10 + payload,
+        10 + size,
         VERSION as u32,
         Event::ACTION as u32,
         head.creator as u32,
         head.index as u32,
         head.green_length,
-        payload,
+        size,
         0,
         0,
         0,
@@ -84,14 +85,14 @@ fn action_numbers(head: ActionHead, payload: u32) -> [u32; 12]
     ]
 }
 
-const RETRANSMISSION: [u8; 12] = [2, 1, 1, 1, 4, 1, 2, 4, 1, 0, 0, 0];
+const RETRANSMISSION_WIDTHS: [u8; 12] = [2, 1, 1, 1, 4, 1, 2, 4, 1, 0, 0, 0];
 
-fn retransmission_numbers(sender: u8, position: u32, head: ActionHead, payload: u32) -> [u32; 12]
-    requires { ⌜ payload < 65536 ⌝ }
-    ensures { λ r. ⌜ r ≡ retransmissionNumbers sender position head payload ⌝ }
+fn retransmission_numbers(sender: u8, position: u32, head: ActionHead, payload: usize) -> [u32; 12]
+    ensures { λ r. ⌜ r ≡ retransmissionNumbers sender position head (payload % 65536) ⌝ }
 {
+    let size = (payload % 65536) as u32;
     [
-        15 + payload,
+        15 + size,
         VERSION as u32,
         Event::RETRANSMISSION as u32,
         sender as u32,
@@ -99,14 +100,14 @@ fn retransmission_numbers(sender: u8, position: u32, head: ActionHead, payload: 
         head.creator as u32,
         head.index as u32,
         head.green_length,
-        payload,
+        size,
         0,
         0,
         0,
     ]
 }
 
-const STANDING: [u8; 12] = [4, 4, 4, 4, 1, 1, 4, 4, 1, 1, 1, 2];
+const STANDING_WIDTHS: [u8; 12] = [4, 4, 4, 4, 1, 1, 4, 4, 1, 1, 1, 2];
 
 fn standing(head: StateHead) -> [u32; 12]
     ensures { λ r. ⌜ r ≡ standingNumbers head ⌝ }
@@ -138,7 +139,7 @@ pub fn write_cpc(out: &mut [u8], at: usize, sender: u8, configuration: u32) -> W
         return Written::Full;
     };
     let numbers = opening(7, Event::CPC, sender, configuration);
-    put_numbers(out, at, OPENING, numbers);
+    put_numbers(out, at, OPENING_WIDTHS, numbers);
     w
 }
 
@@ -151,8 +152,8 @@ pub fn write_action(out: &mut [u8], at: usize, head: ActionHead, payload: &[u8])
     let Written::Next(_) = w else {
         return Written::Full;
     };
-    let numbers = action_numbers(head, (size % 65536) as u32);
-    put_block(out, at, ACTION, numbers, payload);
+    let numbers = action_numbers(head, size);
+    put_block(out, at, ACTION_WIDTHS, numbers, payload);
     w
 }
 
@@ -172,8 +173,8 @@ pub fn write_retransmission(
     let Written::Next(_) = w else {
         return Written::Full;
     };
-    let numbers = retransmission_numbers(sender, position, head, (size % 65536) as u32);
-    put_block(out, at, RETRANSMISSION, numbers, payload);
+    let numbers = retransmission_numbers(sender, position, head, size);
+    put_block(out, at, RETRANSMISSION_WIDTHS, numbers, payload);
     w
 }
 
@@ -209,11 +210,12 @@ fn put_state(out: &mut [u8], at: usize, head: StateHead, cuts: &[u8], ids: &[u8]
     let m = 3 * (head.yellow_count as usize);
     let first = state_opening(head);
     let second = standing(head);
-    put_block(out, at, OPENING, first, &cuts[..n]);
-    put_block(out, at + (9 + n), STANDING, second, &ids[..m]);
+    put_block(out, at, OPENING_WIDTHS, first, &cuts[..n]);
+    put_block(out, at + (9 + n), STANDING_WIDTHS, second, &ids[..m]);
 }
 
-// Writes a State at `at`: `cuts` begins with its cuts, two bytes each, and `ids` with its yellow ids, three bytes each.
+// Writes a State at `at`: `cuts` begins with its cuts, two bytes each, and `ids` with its yellow ids, three bytes each. Full too where
+// these are too few.
 pub fn write_state(out: &mut [u8], at: usize, head: StateHead, cuts: &[u8], ids: &[u8]) -> Written
     ensures { λ r. ⌜ putOf r (now (out .exit)) ≡ putState head (now (cuts .entry)) (now (ids .entry)) at (now (out .entry)) ⌝ }
 {

@@ -16,9 +16,6 @@ enum-told-2 c = search needs
 returns : tie.Need-returns
 returns c = search (needs, action-full)
 
-cast-action-numbers : tie.Need-cast-action-numbers
-cast-action-numbers c = search needs
-
 action-numbers-requires : tie.Need-action-numbers-requires
 action-numbers-requires c κs = search needs
 
@@ -40,7 +37,6 @@ write-action-spec =
     enum-told
     enum-told-2
     returns
-    cast-action-numbers
     action-numbers-requires
     put-block-requires
     same-length

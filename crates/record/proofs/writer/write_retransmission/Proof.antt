@@ -16,9 +16,6 @@ enum-told-2 c = search needs
 returns : tie.Need-returns
 returns c = search (needs, retransmission-full)
 
-cast-retransmission-numbers : tie.Need-cast-retransmission-numbers
-cast-retransmission-numbers c = search needs
-
 retransmission-numbers-requires : tie.Need-retransmission-numbers-requires
 retransmission-numbers-requires c κs = search needs
 
@@ -40,7 +37,6 @@ write-retransmission-spec =
     enum-told
     enum-told-2
     returns
-    cast-retransmission-numbers
     retransmission-numbers-requires
     put-block-requires
     same-length
