@@ -1,4 +1,3 @@
-pub mod Modes
 pub mod Numbers
 pub mod Ranges
 pub mod OnePass
@@ -17,3 +16,4 @@ pub mod WriterReturns
 pub mod WriterState
 pub mod WriterRoundTrip
 pub mod Callers
+pub mod Modes

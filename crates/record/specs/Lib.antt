@@ -1,9 +1,9 @@
 pub mod Context
-pub mod Limits
 pub mod Values
 pub mod Events
 pub mod Framed
 pub mod Reading
 pub mod Written
 pub mod Blocks
+pub mod Limits
 pub mod Modes
