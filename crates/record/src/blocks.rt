@@ -14,7 +14,7 @@ use crate::Mark;
 use crate::PrimaryIndex;
 
 // A number in its last `width` bytes.
-fn put_number(out: &mut [u8], at: usize, width: usize, number: u32)
+pub fn put_number(out: &mut [u8], at: usize, width: usize, number: u32)
     requires { ⌜ at + width ≤ length (now out) ⌝ }
     ensures { λ _. ⌜ now (out .exit) ≡ patched at (bytesOf width number) (now (out .entry)) ⌝ }
 {
