@@ -4,6 +4,7 @@ pub mod BytesLaws
 pub mod Occurs
 pub mod Patched
 pub mod Stores
+pub mod NumberStores
 pub mod Pigeonhole
 pub mod Sets
 pub mod Lists

@@ -17,7 +17,7 @@ use Rattle.record.specs.declared.State.{State}
 use Rattle.record.specs.declared.Mark as declared
 use Rattle.record.specs.Blocks.{yellowHeadBytes}
 use Rattle.record.specs.Events.{lastIn, markIn}
-use Rattle.record.specs.Written.{componentOf, markOf}
+use Rattle.record.specs.Values.{componentOf, markOf}
 use Rattle.replication.specs.Machine.Types.{Configuration, Server}
 use Rattle.engine.specs.Layout.{theHeader, sections, offset}
 use Rattle.engine.specs.Image.{configurationBytes, transitionalBytes, headerBytes, parts}

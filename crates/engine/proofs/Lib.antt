@@ -5,6 +5,7 @@ pub mod Again
 pub mod Slots
 pub mod HeaderRead
 pub mod SizeLaws
+pub mod PlaceLaws
 pub mod Loaded
 pub mod Saved
 pub mod Decoded

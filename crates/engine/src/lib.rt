@@ -4,6 +4,7 @@ ghost use Rattle.engine.specs.Outcome.{lengthsOf, started, startOn};
 
 pub mod header; // header.rt: the state's numbers in its buffer
 pub mod sizes; // sizes.rt: how long the buffers must be
+pub mod places; // places.rt: where the sections begin
 pub mod starting; // starting.rt: the start in its buffer
 
 use record::State;

@@ -7,11 +7,11 @@ ghost use Rattle.engine.specs.Layout.{SizesIn, stateLength, outLength};
 use record::State;
 
 // The fixed-size fields; a held request; an action on the own list or in the queue.
-const HEADER: u32 = 60;
+pub const HEADER: u32 = 60;
 
-const HELD: u32 = 1 + State::MOST_PAYLOAD as u32;
+pub const HELD: u32 = 1 + State::MOST_PAYLOAD as u32;
 
-const SLOT: u32 = 8 + State::MOST_PAYLOAD as u32;
+pub const SLOT: u32 = 8 + State::MOST_PAYLOAD as u32;
 
 // "Servers: 2 to 8 .. Quota q: 1 to 256"
 pub fn sizes_in(servers: u32, quota: u32) -> bool
@@ -29,7 +29,7 @@ pub fn sizes_in(servers: u32, quota: u32) -> bool
     quota <= State::MOST_QUOTA as u32
 }
 
-fn product(n: u32, m: u32) -> u32
+pub fn product(n: u32, m: u32) -> u32
     requires { ⌜ (n ≤ mostServers) × (m ≤ 65535) ⌝ }
     ensures { λ r. ⌜ (r ≡ n * m) × (r ≤ 8 * m) ⌝ }
 {

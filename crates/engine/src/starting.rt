@@ -10,7 +10,7 @@ use crate::header::save;
 use record::State;
 
 // Zeros for `count` bytes from `at` on.
-fn clear(state: &mut [u8], at: usize, count: usize)
+pub fn clear(state: &mut [u8], at: usize, count: usize)
     requires { ⌜ at + count ≤ length (now state) ⌝ }
     ensures { λ _. ⌜ now (state .exit) ≡ patched at (zeros count) (now (state .entry)) ⌝ }
 {

@@ -19,29 +19,28 @@ use Rattle.record.specs.Context.{contextOf, ContextIn}
 use Rattle.record.specs.declared.Context.{Context}
 use Rattle.replication.specs.Machine.Types.{noYellow}
 use Rattle.replication.specs.Machine.Exchange.{commonYellow, takenYellow}
-use Rattle.record.specs.Events.{stateIn as headIn}
 use Rattle.record.specs.Values.{slot}
-use Rattle.record.specs.declared.events.StateAt.{StateAt}
+use Rattle.record.specs.declared.StateHead.{StateHead}
 use Rattle.record.proofs.OnePass.{Small}
 use Rattle.exchange.specs.declared.slots.Slots.{Slots}
-use Rattle.exchange.specs.Slots.{First, withHere, slotAt, stateIn, statesFrom, statesOf}
+use Rattle.exchange.specs.Slots.{First, withHere, slotAt, stateIn, statesFrom, statesOf, headOf}
 use Rattle.exchange.specs.Passing.{Voters}
-use Rattle.exchange.specs.Table.{isKept, keptIds, raisedLists, ListInside, ListsInside, ListsShort, ListsInRange}
+use Rattle.exchange.specs.Table.{isKept, keptIds, Listed, raisedLists, ListInside, ListsInside, ListsShort, ListsInRange}
 use Rattle.exchange.proofs.TableLaws.{table-decides}
 use Rattle.exchange.proofs.RaiseLaws.{ids-read, small}
 use Rattle.exchange.proofs.SlotLaws.{states-in, states-end}
 use Rattle.exchange.proofs.YellowLaws.{same-servers, same-here, voters-states}
 
-pub common-made : (c : FormatContext) (v : Slots) (b : List ℕ) (k at round r : ℕ) (t o : List ℕ) (x : StateAt)
-    → x ≡ headIn (v .servers) (drop (slotAt v k) b) → at ≡ slotAt v k
+pub common-made : (c : FormatContext) (v : Slots) (b : List ℕ) (k at round r : ℕ) (t o : List ℕ) (x : StateHead)
+    → x ≡ headOf v b k → at ≡ slotAt v k
     → round ≡ length (statesFrom v b (v .servers - (k + 1)) (k + 1))
     → t ≡ raisedLists c 0 (replicate {A = ℕ} 2048 0) (statesFrom v b (v .servers - (k + 1)) (k + 1))
-    → take (3 * r) o ≡ idsBytes (filter (isKept c round t) (idsAt (x .«yellow_count») (take (length b - at) (drop at b)) (x .«yellow_at»)))
-    → take (3 * r) o ≡ idsBytes (keptIds c v b k)
+    → Listed r o (filter (isKept c round t) (idsAt (x .«yellow_count») (take (length b - at) (drop at b)) (40 + 2 * v .servers)))
+    → Listed r o (keptIds c v b k)
 unfolding keptIds
 common-made c v b k at round r t o x h e f g i =
-    i ∙ ap (λ (l : List Id). idsBytes (filter (isKept c round t) l)) (ids-read v b k at x h e)
-    ∙ (λ j. idsBytes (filter (isKept c (f j) (g j)) (stateIn v b k .yellow .ids)))
+    subst (Listed r o)
+    (ap (λ (l : List Id). filter (isKept c round t) l) (ids-read v b k at x h e) ∙ (λ j. filter (isKept c (f j) (g j)) (stateIn v b k .yellow .ids))) i
 
 -- ---- kept means: in every list
 
@@ -107,21 +106,23 @@ each-from c v b f (suc m) k h =
     (λ y. each-from c v b f m (k + 1) (omega arith))
 
 pub taken-ids-none : (c : FormatContext) (v w : Slots) (b : List ℕ) (set k : ℕ) (o : List ℕ) → Voters v b set → w ≡ withHere set v → First w k → v .servers ≤ k
-    → ListsInRange c v b → take (3 * 0) o ≡ idsBytes (takenYellow (statesOf v b) .ids)
+    → ListsInRange c v b → Listed 0 o (takenYellow (statesOf v b) .ids)
 unfolding commonYellow noYellow idsBytes
 taken-ids-none c v w b set k o g e r h f =
     let l : w .servers ≤ k = rw (same-servers v w set e) h in
-    sym (ap (λ (y : Yellow). idsBytes (y .ids)) (voters-states v w b set k g e r ∙ ap commonYellow (states-end w b k l)))
+    let none : takenYellow (statesOf v b) .ids ≡ [] = ap (λ (y : Yellow). y .ids) (voters-states v w b set k g e r ∙ ap commonYellow (states-end w b k l)) in
+    subst (Listed 0 o) (sym none) (record { count = refl; bytes = refl })
 
 pub taken-ids-some : (c : Context) (v w : Slots) (b : List ℕ) (set k n : ℕ) (o : List ℕ) → ContextIn c → Voters v b set → w ≡ withHere set v → First w k → k < v .servers
-    → take (3 * n) o ≡ idsBytes (keptIds (contextOf c) w b k) → ListsInRange (contextOf c) v b → take (3 * n) o ≡ idsBytes (takenYellow (statesOf v b) .ids)
+    → Listed n o (keptIds (contextOf c) w b k) → ListsInRange (contextOf c) v b → Listed n o (takenYellow (statesOf v b) .ids)
 unfolding commonYellow ListsInRange
 taken-ids-some c v w b set k n o s g e r h i f =
     let l : k < w .servers = first-below v w set k e h in
     let range : ListsInRange (contextOf c) w b = voters-in-range v w b set g e (contextOf c) f in
+    subst (Listed n o)
+    (kept-common (contextOf c) w b k (small c s) (in-range-at (contextOf c) w b k range l (r .there l)) (each-from (contextOf c) w b range (w .servers - (k + 1)) (k + 1) (omega arith))
+    ∙ sym (ap (λ (y : Yellow). y .ids) (voters-states v w b set k g e r ∙ ap commonYellow (states-in w b k l (r .there l)))))
     i
-    ∙ ap idsBytes (kept-common (contextOf c) w b k (small c s) (in-range-at (contextOf c) w b k range l (r .there l)) (each-from (contextOf c) w b range (w .servers - (k + 1)) (k + 1) (omega arith)))
-    ∙ sym (ap (λ (y : Yellow). idsBytes (y .ids)) (voters-states v w b set k g e r ∙ ap commonYellow (states-in w b k l (r .there l))))
   where
     in-range-at : (c : FormatContext) (w : Slots) (b : List ℕ) (k : ℕ) → ListsInRange c w b → k < w .servers → inSet k (w .here) ≡ true → idsInRange c (stateIn w b k .yellow .ids) ≡ true
     in-range-at c w b k f = f k

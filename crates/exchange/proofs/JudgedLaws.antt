@@ -15,15 +15,14 @@ use Rattle.base.specs.Lists.{any}
 use Rattle.base.specs.Sets.{inSet, inside}
 use Rattle.format.specs.Limits.{mostIndex}
 use Rattle.format.specs.Types.{State, Primary, Mark as FormatMark}
-use Rattle.record.specs.Events.{stateIn as headIn}
-use Rattle.record.specs.Values.{primaryOf, markOf}
+use Rattle.record.specs.Values.{componentOf, primaryOf, markOf}
 use Rattle.record.specs.declared.LastPrimary.{LastPrimary}
 use Rattle.record.specs.declared.Mark.{Mark}
-use Rattle.record.specs.declared.events.StateAt.{StateAt}
+use Rattle.record.specs.declared.StateHead.{StateHead}
 use Rattle.replication.specs.Machine.Types.{clearedMark}
 use Rattle.replication.specs.Machine.Exchange.{isMarked, ruleA, ruleB, ruleC, joinedBits, keptMark, judgedMark, markLeft, ownMark, majority, takenPrimary, takenAttempt, quorum}
 use Rattle.exchange.specs.declared.slots.Slots.{Slots}
-use Rattle.exchange.specs.Slots.{Room, slotAt, stateIn, statesFrom, statesOf}
+use Rattle.exchange.specs.Slots.{Room, slotAt, stateIn, statesFrom, statesOf, headOf}
 use Rattle.exchange.specs.Marks.{withBits, isLeft}
 use Rattle.exchange.proofs.AnyLaws.{any-end, found-now}
 use Rattle.exchange.proofs.MarkLaws.{mark-read, sender-read}
@@ -59,7 +58,7 @@ pub kept-made : (m : Mark) (bits : ℕ) → markOf (record { status = m .status;
 unfolding markOf withBits
 kept-made m bits = refl
 
-module _ (v : Slots) (b : List ℕ) (k : ℕ) (x : StateAt) (r : Mark) (h : x ≡ headIn (v .servers) (drop (slotAt v k) b)) where
+module _ (v : Slots) (b : List ℕ) (k : ℕ) (x : StateHead) (r : Mark) (h : x ≡ headOf v b k) where
   marked : isMarked (stateIn v b k) ≡ (x .mark .status =? 1)
   unfolding isMarked markOf
   marked = ap (λ (o : FormatMark). o .status =? 1) (mark-read v b k x h)
@@ -199,7 +198,7 @@ module _ (xs : List State) (p : LastPrimary) (here : ℕ) (u : Bool) (e : primar
     most = f ∙ ap (λ (y : Primary). majority y here) e
 
     index : p .index .0 ≡ takenPrimary xs .index
-    unfolding primaryOf
+    unfolding primaryOf componentOf
     index = ap (λ (y : Primary). y .index) e
 
     pub quorum-few : not w ≡ true → false ≡ quorum xs here

@@ -6,7 +6,7 @@ use mathlib.Core.Bool.{Bool, true, false, not}
 use mathlib.Core.List.{List, [], _∷_, _++_, append-assoc, append-nil}
 use native.Mathlib.Omega.{arith}
 use lib.Dec.{eqb}
-use lib.ListN.{length, getD, take, length-append}
+use lib.ListN.{length, getD, take, length-append, length-take}
 use borrow.Author.Tests.{not-true, not-false}
 use Rattle.base.specs.Tests.{_=?_, _and_, pick, pick-yes, pick-no, and-no, and-yes, Known, known, holds, fails}
 use Rattle.base.specs.Branches.{told-eq}
@@ -18,11 +18,11 @@ use Rattle.format.specs.Types.{Id, Context as FormatContext}
 use Rattle.format.specs.Range.{idOk}
 use Rattle.format.specs.Read.{idAt, idsAt}
 use Rattle.format.specs.Write.{idBytes, idsBytes}
+use Rattle.format.proofs.Lengths.{id-length, ids-length}
 use Rattle.record.specs.Context.{contextOf, ContextIn}
-use Rattle.record.specs.Values.{slot, placeOf}
-use Rattle.record.specs.Written.{idOf}
+use Rattle.record.specs.Values.{idOf, slot, placeOf}
 use Rattle.record.specs.declared.Context.{Context}
-use Rattle.exchange.specs.Table.{isKept}
+use Rattle.exchange.specs.Table.{isKept, Listed}
 use Rattle.exchange.proofs.RaiseLaws.{place-out, place-in, small, ids-more}
 
 pub kept-out : (c : Context) (r p : ℕ) (t : List ℕ) (d : Id) → ContextIn c → p ≡ placeOf (contextOf c) d → 2048 ≤ p → false ≡ isKept (contextOf c) r t d
@@ -39,10 +39,6 @@ pub kept-written : (e : List ℕ) (at x y i : ℕ) (o u : List ℕ) → x ≡ nu
     → u ≡ patched i (idBytes (idAt e at)) o
 unfolding idOf idAt
 kept-written e at x y i o u a b h = h ∙ rw (a, b)
-
-id-length : (d : Id) → length (idBytes d) ≡ 3
-unfolding idBytes joined
-id-length d = simp (length-append, bytes-length) refl
 
 ids-cons : (d : Id) (ds : List Id) → idsBytes (d ∷ ds) ≡ idBytes d ++ idsBytes ds
 unfolding idsBytes joined
@@ -119,8 +115,10 @@ pub kept-again : (t : Id → Bool) (e : List ℕ) (at count j w q n : ℕ) (o u 
     → Kept t e at count (j + 1) q n u
 kept-again t e at count j w q n o u m h f g = kept-by t e at count j w q n o u (known (t (idAt e (at + 3 * j)))) m h f g
 
-pub kept-end : (t : Id → Bool) (e : List ℕ) (at count j w n : ℕ) (o : List ℕ) → Kept t e at count j w n o → count ≤ j → take (3 * w) o ≡ idsBytes (filter t (idsAt count e at))
+pub kept-end : (t : Id → Bool) (e : List ℕ) (at count j w n : ℕ) (o : List ℕ) → Kept t e at count j w n o → count ≤ j → Listed w o (filter t (idsAt count e at))
 unfolding idsAt filter idsBytes
 kept-end t e at count j w n o m h =
     let a : count - j ≡ 0 = omega arith in
-    sym (m .ids ∙ ap (λ (n : ℕ). take (3 * w) o ++ idsBytes (filter t (idsAt n e (at + 3 * j)))) a ∙ append-nil (take (3 * w) o))
+    let all : take (3 * w) o ≡ idsBytes (filter t (idsAt count e at)) =
+    sym (m .ids ∙ ap (λ (n : ℕ). take (3 * w) o ++ idsBytes (filter t (idsAt n e (at + 3 * j)))) a ∙ append-nil (take (3 * w) o)) in
+    record { count = omega (arith, ap length all, length-take (3 * w) o, ids-length (filter t (idsAt count e at)), m .most, m .room, m .size); bytes = all }

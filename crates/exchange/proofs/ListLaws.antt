@@ -52,4 +52,4 @@ module _ (s : Server) (b : List ℕ) (h : Holds s b) where
   pub holds-inside : ListsInside (slotsOf (s .servers) (s .quota) (senders 0 (s .membership .states))) b
   unfolding ListsInside ListInside slotsOf slotAt stateSize
   holds-inside k l t =
-      omega (arith, few k l t, slot-inside (slotsOf (s .servers) (s .quota) (senders 0 (s .membership .states))) b k (holds-room s b h) l)
+      omega (arith, few k l t, slot-inside (slotsOf (s .servers) (s .quota) (senders 0 (s .membership .states))) b k (holds-room s b h .space) l)

@@ -14,31 +14,30 @@ use Rattle.base.specs.Branches.{told-eq, and-answered, and-denied}
 use Rattle.base.specs.Lists.{any, filter}
 use Rattle.base.specs.Sets.{inSet, withMember, union}
 use Rattle.format.specs.Types.{State, Primary, Mark as FormatMark}
-use Rattle.format.specs.Read.{stateAt, markAt}
-use Rattle.record.specs.Events.{stateIn as headIn, markIn}
-use Rattle.record.specs.Values.{primaryOf, markOf}
+use Rattle.record.specs.Values.{componentOf, primaryOf, markOf, stateOf}
 use Rattle.record.specs.declared.LastPrimary.{LastPrimary}
 use Rattle.record.specs.declared.Mark.{Mark}
-use Rattle.record.specs.declared.events.StateAt.{StateAt}
+use Rattle.record.specs.declared.StateHead.{StateHead}
 use Rattle.replication.specs.Machine.Types.{clearedMark}
 use Rattle.replication.specs.Machine.Exchange.{isMarked, sameAttempt, ruleA, ruleB, alike, joinBits, joinedBits}
 use Rattle.exchange.specs.declared.slots.Slots.{Slots}
-use Rattle.exchange.specs.Slots.{Room, slotAt, stateIn, statesFrom, statesOf}
+use Rattle.exchange.specs.Slots.{Room, slotAt, stateIn, statesFrom, statesOf, headOf}
 use Rattle.exchange.specs.Marks.{against, likewise}
 use Rattle.exchange.proofs.SlotLaws.{states-start, fold-again, fold-end}
+use Rattle.exchange.proofs.ReadLaws.{state-stands}
 use Rattle.exchange.proofs.AnyLaws.{any-end}
 
 -- ---- a mark read
 
-pub mark-read : (v : Slots) (b : List ℕ) (k : ℕ) (x : StateAt) → x ≡ headIn (v .servers) (drop (slotAt v k) b) → stateIn v b k .mark ≡ markOf (x .mark)
-unfolding markOf stateIn stateAt markAt headIn markIn
-mark-read v b k x h = rw h
+pub mark-read : (v : Slots) (b : List ℕ) (k : ℕ) (x : StateHead) → x ≡ headOf v b k → stateIn v b k .mark ≡ markOf (x .mark)
+unfolding stateOf
+mark-read v b k x h = ap (λ (s : State). s .mark) (sym (state-stands v b k x h))
 
-pub sender-read : (v : Slots) (b : List ℕ) (k : ℕ) (x : StateAt) → x ≡ headIn (v .servers) (drop (slotAt v k) b) → stateIn v b k .sender ≡ x .sender
-unfolding stateIn stateAt headIn
-sender-read v b k x h = rw h
+pub sender-read : (v : Slots) (b : List ℕ) (k : ℕ) (x : StateHead) → x ≡ headOf v b k → stateIn v b k .sender ≡ x .sender
+unfolding stateOf
+sender-read v b k x h = ap (λ (s : State). s .sender) (sym (state-stands v b k x h))
 
-pub bits-read : (v : Slots) (b : List ℕ) (k : ℕ) (x : StateAt) → x ≡ headIn (v .servers) (drop (slotAt v k) b) → stateIn v b k .mark .bits ≡ x .mark .bits
+pub bits-read : (v : Slots) (b : List ℕ) (k : ℕ) (x : StateHead) → x ≡ headOf v b k → stateIn v b k .mark .bits ≡ x .mark .bits
 unfolding markOf
 bits-read v b k x h = ap (λ (o : FormatMark). o .bits) (mark-read v b k x h)
 
@@ -72,12 +71,12 @@ like-told m o u s e h = and-yes _ _ _ (eq-yes _ _ s) (and-answered u _ _ _ e h (
 -- ---- rule (a)
 
 pub rule-a-low : (p : LastPrimary) (m : Mark) (sender : ℕ) → p .index .0 ≤ m .index .0 → (s : State) → s .sender ≡ sender → s .mark ≡ markOf m → false ≡ ruleA (primaryOf p) s
-unfolding ruleA primaryOf markOf
+unfolding ruleA primaryOf componentOf markOf
 rule-a-low p m sender h s e i = rw i (and-no _ _ (lt-no (m .index .0) (p .index .0) h))
 
 pub rule-a-told : (p : LastPrimary) (m : Mark) (sender : ℕ) (u : Bool) → m .index .0 < p .index .0 → u ≡ inSet sender (p .set)
     → (s : State) → s .sender ≡ sender → s .mark ≡ markOf m → not u ≡ ruleA (primaryOf p) s
-unfolding ruleA primaryOf markOf
+unfolding ruleA primaryOf componentOf markOf
 rule-a-told p m sender u h j s e i = rw (i, e, j) (and-yes _ _ _ (lt-yes (m .index .0) (p .index .0) h) refl)
 
 -- ---- rule (b)
@@ -92,7 +91,7 @@ unfolding _or_
 or-else false u r h e = e
 or-else true u r h e = not-both (sym h)
 
-module _ (v : Slots) (b : List ℕ) (k : ℕ) (m : Mark) (x : StateAt) (u : Bool) (h : x ≡ headIn (v .servers) (drop (slotAt v k) b)) (e : u ≡ inSet (x .sender) (m .set)) where
+module _ (v : Slots) (b : List ℕ) (k : ℕ) (m : Mark) (x : StateHead) (u : Bool) (h : x ≡ headOf v b k) (e : u ≡ inSet (x .sender) (m .set)) where
   there : u ≡ inSet (stateIn v b k .sender) (markOf m .set)
   unfolding markOf
   there = e ∙ ap (λ (j : ℕ). inSet j (m .set)) (sym (sender-read v b k x h))
@@ -154,8 +153,8 @@ join-end v b k m bits h i s e =
 
 -- a turn
 
-module _ (v : Slots) (b : List ℕ) (k : ℕ) (m : Mark) (x : StateAt) (bits : ℕ) (u w : Bool) (e : u ≡ inSet k (v .here)) (n : not u ≡ false)
-    (h : x ≡ headIn (v .servers) (drop (slotAt v k) b)) (i : w ≡ likewise (markOf m) (markOf (x .mark))) where
+module _ (v : Slots) (b : List ℕ) (k : ℕ) (m : Mark) (x : StateHead) (bits : ℕ) (u w : Bool) (e : u ≡ inSet k (v .here)) (n : not u ≡ false)
+    (h : x ≡ headOf v b k) (i : w ≡ likewise (markOf m) (markOf (x .mark))) where
   like-there : w ≡ likewise (markOf m) (stateIn v b k .mark)
   like-there = i ∙ ap (likewise (markOf m)) (sym (mark-read v b k x h))
 

@@ -96,9 +96,7 @@ module _ (t : State → Bool) (v : Slots) (b : List ℕ) where
       record {
         states = passing-from set (v .servers) 0 is (omega arith);
         room = record {
-          servers = r .servers;
-          long = r .long;
-          inside = r .inside;
+          space = record { servers = r .space .servers; long = r .space .long; inside = r .space .inside };
           senders = λ j m i. r .senders j m (and-holds _ _ (sym (is j m) ∙ i) .0);
         };
         among = λ j m i. and-holds _ _ (sym (is j m) ∙ i) .0;

@@ -15,19 +15,18 @@ use Rattle.base.specs.Branches.{told-eq, told-lt}
 use Rattle.base.specs.Lists.{filter}
 use Rattle.base.specs.Sets.{inSet, size, common}
 use Rattle.format.specs.Types.{State, Primary}
-use Rattle.format.specs.Read.{stateAt, primaryAt}
-use Rattle.record.specs.Events.{stateIn as headIn, lastIn}
-use Rattle.record.specs.Values.{primaryOf}
+use Rattle.record.specs.Values.{componentOf, primaryOf, stateOf}
 use Rattle.record.specs.declared.LastPrimary.{LastPrimary}
-use Rattle.record.specs.declared.events.StateAt.{StateAt}
+use Rattle.record.specs.declared.StateHead.{StateHead}
 use Rattle.replication.specs.Machine.Plan.{highest}
 use Rattle.replication.specs.Machine.Exchange.{later, latest, takenPrimary, samePair, updatedGroup, takenAttempt, majority}
 use Rattle.exchange.specs.declared.slots.Slots.{Slots}
 use Rattle.exchange.specs.declared.plan.Number.the-variants.{Attempt}
-use Rattle.exchange.specs.Slots.{Room, First, withHere, slotAt, stateIn, statesFrom, statesOf}
+use Rattle.exchange.specs.Slots.{Room, First, withHere, slotAt, stateIn, statesFrom, statesOf, headOf}
 use Rattle.exchange.specs.Numbers.{numberIn}
 use Rattle.exchange.specs.Passing.{Passing}
 use Rattle.exchange.proofs.SlotLaws.{states-in, states-end, fold-again, fold-end}
+use Rattle.exchange.proofs.ReadLaws.{state-stands}
 
 -- ---- choices, as the code makes them
 
@@ -53,21 +52,21 @@ or-yes true u h = refl
 or-yes false u h = not-both h
 
 pub later-index : (p r : LastPrimary) → p .index .0 < r .index .0 → true ≡ later (primaryOf p) (primaryOf r)
-unfolding later primaryOf
+unfolding later primaryOf componentOf
 later-index p r h = or-yes _ _ (lt-yes (p .index .0) (r .index .0) h)
 
 pub later-not : (p r : LastPrimary) → r .index .0 ≤ p .index .0 → (p .index .0 ≡ r .index .0 → ⊥) → false ≡ later (primaryOf p) (primaryOf r)
-unfolding later primaryOf
+unfolding later primaryOf componentOf
 later-not p r h n = or-no _ _ false (lt-no (p .index .0) (r .index .0) h) (and-no _ _ (eq-no (p .index .0) (r .index .0) n))
 
 pub later-attempt : (p r : LastPrimary) → r .index .0 ≤ p .index .0 → p .index .0 ≡ r .index .0 → ltb (p .attempt .0) (r .attempt .0) ≡ later (primaryOf p) (primaryOf r)
-unfolding later primaryOf
+unfolding later primaryOf componentOf
 later-attempt p r h e =
     or-no _ _ _ (lt-no (p .index .0) (r .index .0) h) (and-yes _ _ _ (eq-yes (p .index .0) (r .index .0) e) (told-lt (p .attempt .0) (r .attempt .0)))
 
-pub last-read : (v : Slots) (b : List ℕ) (k : ℕ) (x : StateAt) → x ≡ headIn (v .servers) (drop (slotAt v k) b) → primaryOf (x .last) ≡ stateIn v b k .last
-unfolding primaryOf stateIn stateAt primaryAt headIn lastIn
-last-read v b k x h = rw h
+pub last-read : (v : Slots) (b : List ℕ) (k : ℕ) (x : StateHead) → x ≡ headOf v b k → primaryOf (x .last) ≡ stateIn v b k .last
+unfolding stateOf
+last-read v b k x h = ap (λ (s : State). s .last) (state-stands v b k x h)
 
 pub later-in : (t u : Bool) (p q r : LastPrimary) (x : Primary) → u ≡ t → not u ≡ false → primaryOf q ≡ x
     → primaryOf r ≡ pick (later (primaryOf p) (primaryOf q)) (primaryOf q) (primaryOf p)
@@ -79,7 +78,7 @@ later-in t u p q r x e h i j =
 
 pub taken-none : (v : Slots) (b : List ℕ) (k : ℕ) → First v k → v .servers ≤ k
     → primaryOf (record { index = record { 0 = 0 }; attempt = record { 0 = 0 }; set = 0 }) ≡ takenPrimary (statesOf v b)
-unfolding takenPrimary primaryOf
+unfolding takenPrimary primaryOf componentOf
 taken-none v b k r h = sym (ap takenPrimary (r .rest b ∙ states-end v b k h))
 
 pub taken-start : (v : Slots) (b : List ℕ) (k : ℕ) (p : LastPrimary) → First v k → k < v .servers → primaryOf p ≡ stateIn v b k .last
@@ -102,11 +101,11 @@ taken-end v b k p w h i = sym (fold-end latest v b k (primaryOf p) w h i)
 -- ---- the group and its attempt
 
 pub pair-not : (p x : LastPrimary) (s : State) → primaryOf x ≡ s .last → (x .index .0 ≡ p .index .0 → ⊥) → false ≡ samePair (primaryOf p) s
-unfolding samePair primaryOf
+unfolding samePair primaryOf componentOf
 pair-not p x s e n = and-no _ _ (eq-no _ _ (λ z. n (ap (λ (y : Primary). y .index) e ∙ z)))
 
 pub pair-told : (p x : LastPrimary) (s : State) → primaryOf x ≡ s .last → x .index .0 ≡ p .index .0 → eqb (x .attempt .0) (p .attempt .0) ≡ samePair (primaryOf p) s
-unfolding samePair primaryOf
+unfolding samePair primaryOf componentOf
 pair-told p x s e i =
     and-yes _ _ _ (eq-yes _ _ (sym (ap (λ (y : Primary). y .index) e) ∙ i)) (told-eq (x .attempt .0) (p .attempt .0) ∙ ap (λ (m : ℕ). m =? p .attempt .0) (ap (λ (y : Primary). y .attempt) e))
 
@@ -127,5 +126,5 @@ pub majority-fits : (s here : ℕ) → s < 256 → 2 * ones (bitAnd s here) ≤ 
 majority-fits s here h = omega (arith, ones-le 8 (bitAnd s here) (omega (arith, and-le-l s here)))
 
 pub majority-told : (p : LastPrimary) (s here : ℕ) → s ≡ p .set → ltb (ones s) (2 * ones (bitAnd s here)) ≡ majority (primaryOf p) here
-unfolding majority size common primaryOf _<?_
+unfolding majority size common primaryOf componentOf _<?_
 majority-told p s here e = rw e

@@ -13,18 +13,18 @@ use Rattle.base.specs.Bytes.{numberAt}
 use Rattle.base.specs.Sets.{inSet}
 use Rattle.format.specs.Types.{Id, State, Context as FormatContext}
 use Rattle.format.specs.Range.{idOk}
-use Rattle.format.specs.Read.{idAt, idsAt, stateAt, yellowAt}
+use Rattle.format.specs.Read.{idAt, idsAt}
 use Rattle.format.proofs.Ranges.{id-range}
 use Rattle.record.specs.Context.{contextOf, ContextIn}
-use Rattle.record.specs.Events.{stateIn as headIn}
-use Rattle.record.specs.Values.{slot, placeOf}
+use Rattle.record.specs.Values.{slot, placeOf, stateOf}
 use Rattle.record.specs.declared.Context.{Context}
-use Rattle.record.specs.declared.events.StateAt.{StateAt}
+use Rattle.record.specs.declared.StateHead.{StateHead}
 use Rattle.record.proofs.OnePass.{Small, slot-lt}
 use Rattle.exchange.specs.declared.slots.Slots.{Slots}
-use Rattle.exchange.specs.Slots.{Room, slotAt, stateIn, statesFrom}
+use Rattle.exchange.specs.Slots.{Room, slotAt, stateIn, statesFrom, headOf}
 use Rattle.exchange.specs.Table.{raised, raisedAll, raisedLists, ListInside, ListsInside}
 use Rattle.exchange.proofs.SlotLaws.{states-in, states-out, states-end}
+use Rattle.exchange.proofs.ReadLaws.{state-stands}
 use Rattle.exchange.proofs.TableLaws.{raised-length, raised-all-length}
 
 pub small : (c : Context) → ContextIn c → Small (contextOf c)
@@ -105,27 +105,24 @@ ids-length (suc m) e at = ap suc (ids-length m e (at + 3))
 rest-whole : (b : List ℕ) (at : ℕ) → take (length b - at) (drop at b) ≡ drop at b
 rest-whole b at = take-all (length b - at) (drop at b) (omega (arith, length-drop at b))
 
-pub ids-read : (v : Slots) (b : List ℕ) (k at : ℕ) (x : StateAt) → x ≡ headIn (v .servers) (drop (slotAt v k) b) → at ≡ slotAt v k
-    → idsAt (x .«yellow_count») (take (length b - at) (drop at b)) (x .«yellow_at») ≡ stateIn v b k .yellow .ids
-unfolding stateIn stateAt yellowAt headIn
+pub ids-read : (v : Slots) (b : List ℕ) (k at : ℕ) (x : StateHead) → x ≡ headOf v b k → at ≡ slotAt v k
+    → idsAt (x .«yellow_count») (take (length b - at) (drop at b)) (40 + 2 * v .servers) ≡ stateIn v b k .yellow .ids
+unfolding stateOf
 ids-read v b k at x h e =
-    let z : 40 + 2 * v .servers ≡ 37 + 2 * v .servers + 3 = omega arith in
-    let y : 38 + 2 * v .servers ≡ 37 + 2 * v .servers + 1 = omega arith in
-    rw h
-    (λ i. idsAt (numberAt 2 (drop (slotAt v k) b) (y i)) ((rest-whole b at ∙ ap (λ (p : ℕ). drop p b) e) i) (z i))
+    let z : 40 + 2 * v .servers ≡ 9 + 2 * v .servers + 31 = omega arith in
+    (λ i. idsAt (x .«yellow_count») ((rest-whole b at ∙ ap (λ (p : ℕ). drop p b) e) i) (z i)) ∙ ap (λ (s : State). s .yellow .ids) (state-stands v b k x h)
 
-pub slot-raised : (c : FormatContext) (r : ℕ) (t u : List ℕ) (v : Slots) (b : List ℕ) (k at : ℕ) (x : StateAt)
-    → x ≡ headIn (v .servers) (drop (slotAt v k) b) → at ≡ slotAt v k
-    → u ≡ raisedAll c r t (idsAt (x .«yellow_count») (take (length b - at) (drop at b)) (x .«yellow_at»)) → u ≡ raisedAll c r t (stateIn v b k .yellow .ids)
+pub slot-raised : (c : FormatContext) (r : ℕ) (t u : List ℕ) (v : Slots) (b : List ℕ) (k at : ℕ) (x : StateHead)
+    → x ≡ headOf v b k → at ≡ slotAt v k
+    → u ≡ raisedAll c r t (idsAt (x .«yellow_count») (take (length b - at) (drop at b)) (40 + 2 * v .servers)) → u ≡ raisedAll c r t (stateIn v b k .yellow .ids)
 slot-raised c r t u v b k at x h e i = i ∙ ap (raisedAll c r t) (ids-read v b k at x h e)
 
-pub slot-list-inside : (v : Slots) (b : List ℕ) (k at : ℕ) (x : StateAt) → x ≡ headIn (v .servers) (drop (slotAt v k) b) → at ≡ slotAt v k → ListInside v b k
-    → x .«yellow_at» + 3 * x .«yellow_count» ≤ length (take (length b - at) (drop at b))
-unfolding ListInside headIn
+pub slot-list-inside : (v : Slots) (b : List ℕ) (k at : ℕ) (x : StateHead) → x ≡ headOf v b k → at ≡ slotAt v k → ListInside v b k
+    → 40 + 2 * v .servers + 3 * x .«yellow_count» ≤ length (take (length b - at) (drop at b))
+unfolding ListInside
 slot-list-inside v b k at x h e i =
-    let n : length (stateIn v b k .yellow .ids) ≡ x .«yellow_count» = ap length (sym (ids-read v b k at x h e)) ∙ ids-length (x .«yellow_count») _ (x .«yellow_at») in
-    let y : x .«yellow_at» ≡ 40 + 2 * v .servers = rw h in
-    omega (arith, i, n, y, e, ap length (rest-whole b at), length-drop at b)
+    let n : length (stateIn v b k .yellow .ids) ≡ x .«yellow_count» = ap length (sym (ids-read v b k at x h e)) ∙ ids-length (x .«yellow_count») _ (40 + 2 * v .servers) in
+    omega (arith, i, n, e, ap length (rest-whole b at), length-drop at b)
 
 pub raised-still : (c : FormatContext) (r : ℕ) (t u : List ℕ) (d : Id) → length t ≡ 2048 → u ≡ raised c r t d → length u ≡ 2048
 raised-still c r t u d h e = ap length e ∙ raised-length c r t d ∙ h
@@ -214,8 +211,8 @@ raised-lists-length c r t (y ∷ ys) = raised-lists-length c (r + 1) (raisedAll 
 pub table-still : (c : FormatContext) (t u : List ℕ) (ys : List State) → length t ≡ 2048 → u ≡ raisedLists c 0 t ys → length u ≡ 2048
 table-still c t u ys h e = ap length e ∙ raised-lists-length c 0 t ys ∙ h
 
-pub list-short : (v : Slots) (b : List ℕ) (k n : ℕ) (x : StateAt) → x ≡ headIn (v .servers) (drop (slotAt v k) b) → 3 * length (stateIn v b k .yellow .ids) ≤ n
+pub list-short : (v : Slots) (b : List ℕ) (k n : ℕ) (x : StateHead) → x ≡ headOf v b k → 3 * length (stateIn v b k .yellow .ids) ≤ n
     → 3 * x .«yellow_count» ≤ n
 list-short v b k n x h l =
-    let m : length (stateIn v b k .yellow .ids) ≡ x .«yellow_count» = ap length (sym (ids-read v b k (slotAt v k) x h refl)) ∙ ids-length (x .«yellow_count») _ (x .«yellow_at») in
+    let m : length (stateIn v b k .yellow .ids) ≡ x .«yellow_count» = ap length (sym (ids-read v b k (slotAt v k) x h refl)) ∙ ids-length (x .«yellow_count») _ (40 + 2 * v .servers) in
     omega arith

@@ -62,26 +62,16 @@ pub holds-room : (s : Server) (b : List ℕ) → Holds s b → Room (slotsOf (s 
 unfolding slotsOf stateSize offset sections sum stateLength contextOf
 holds-room s b h =
     record {
-      servers = in-range s (h .formed) .context .sizes .most;
-      long = omega arith;
-      inside = omega (arith, h .long);
+      space = record { servers = in-range s (h .formed) .context .sizes .most; long = omega arith; inside = omega (arith, h .long) };
       senders = λ k l t. well-formed-facts s (h .formed) .membership .states k _ (state-there s b h k l t) .sender;
     }
 
 -- ---- the slots as the code computes them
 
-pub product-fits : (n q : ℕ) → SizesIn n q → Fits w64 (n * q)
-product-fits n q r = let z : n * q ≤ mostServers * mostQuota = mul-le-mul (r .servers) (r .quota) in record { fits = omega arith }
-
-pub product-small : (n q : ℕ) → SizesIn n q → n * q ≤ 2048
-product-small n q r = mul-le-mul (r .servers) (r .quota)
-
-pub slots-made : (n q all here : ℕ) → all ≡ n * q
-    → _≡_ {A = Slots} (record { servers = n; size = 40 + 2 * n + 3 * all; at = 844 + 6 * n; here = here }) (slotsOf n q here)
-unfolding slotsOf stateSize offset sections sum
-slots-made n q all here e =
-    let z : 844 + 6 * n ≡ offset n q theStates = omega arith in
-    λ i. record { servers = n; size = 40 + 2 * n + 3 * e i; at = z i; here = here }
+pub slots-made : (n q size at here : ℕ) → size ≡ stateSize n q → at ≡ offset n q theStates
+    → _≡_ {A = Slots} (record { servers = n; size = size; at = at; here = here }) (slotsOf n q here)
+unfolding slotsOf
+slots-made n q size at here e f = λ i. record { servers = n; size = e i; at = f i; here = here }
 
 pub inside-told : (s t : ℕ) → eqb (bitAnd s t) s ≡ inside s t
 unfolding inside

@@ -15,11 +15,11 @@ use mir.Syntax.{w8}
 use mir.Val.{Fits}
 use Rattle.format.specs.Types.{State}
 use Rattle.exchange.specs.declared.slots.Slots.{Slots}
-use Rattle.exchange.specs.Slots.{Room, First, slotAt, stateIn, statesFrom, statesOf}
+use Rattle.exchange.specs.Slots.{Space, First, slotAt, stateIn, statesFrom, statesOf}
 
 -- ---- the slot k lies in the buffer
 
-pub slot-inside : (v : Slots) (b : List ℕ) (k : ℕ) → Room v b → k < v .servers → v .at + k * v .size + v .size ≤ length b
+pub slot-inside : (v : Slots) (b : List ℕ) (k : ℕ) → Space v b → k < v .servers → v .at + k * v .size + v .size ≤ length b
 slot-inside v b k r h =
     let z : suc k * v .size ≤ v .servers * v .size = mul-le-mul-right (v .size) h in
     omega (arith, r .inside)

@@ -11,21 +11,20 @@ use Rattle.base.specs.Branches.{told-eq}
 use Rattle.base.specs.Lists.{filter}
 use Rattle.base.specs.Sets.{inSet}
 use Rattle.format.specs.Types.{State, Primary, Yellow}
-use Rattle.format.specs.Read.{stateAt, yellowAt}
-use Rattle.record.specs.Events.{stateIn as headIn}
-use Rattle.record.specs.Values.{primaryOf}
+use Rattle.record.specs.Values.{primaryOf, stateOf}
 use Rattle.record.specs.declared.LastPrimary.{LastPrimary}
-use Rattle.record.specs.declared.events.StateAt.{StateAt}
+use Rattle.record.specs.declared.StateHead.{StateHead}
 use Rattle.replication.specs.Machine.Types.{noYellow}
 use Rattle.replication.specs.Machine.Exchange.{takenPrimary, samePair, updatedGroup, isValid, commonYellow, takenYellow}
 use Rattle.exchange.specs.declared.slots.Slots.{Slots}
-use Rattle.exchange.specs.Slots.{Room, First, withHere, slotAt, stateIn, statesFrom, statesOf}
+use Rattle.exchange.specs.Slots.{Room, First, withHere, slotAt, stateIn, statesFrom, statesOf, headOf}
 use Rattle.exchange.specs.Passing.{Passing, Voters}
 use Rattle.exchange.proofs.SlotLaws.{states-in, states-end}
+use Rattle.exchange.proofs.ReadLaws.{state-stands}
 
-pub valid-told : (v : Slots) (b : List ℕ) (k : ℕ) (x : StateAt) → x ≡ headIn (v .servers) (drop (slotAt v k) b) → eqb (x .«yellow_status») 1 ≡ isValid (stateIn v b k)
-unfolding isValid stateIn stateAt yellowAt headIn
-valid-told v b k x h = told-eq (x .«yellow_status») 1 ∙ rw h
+pub valid-told : (v : Slots) (b : List ℕ) (k : ℕ) (x : StateHead) → x ≡ headOf v b k → eqb (x .«yellow_status») 1 ≡ isValid (stateIn v b k)
+unfolding isValid stateOf
+valid-told v b k x h = told-eq (x .«yellow_status») 1 ∙ ap (λ (s : State). s .yellow .status =? 1) (state-stands v b k x h)
 
 again-here : (set r : ℕ) (v : Slots) → withHere r (withHere set v) ≡ withHere r v
 unfolding withHere

@@ -10,6 +10,8 @@ use Rattle.base.specs.Sets.{inSet}
 use Rattle.format.specs.Limits.{mostServers}
 use Rattle.format.specs.Types.{State}
 use Rattle.format.specs.Read.{stateAt}
+use Rattle.record.specs.Events.{headIn}
+use Rattle.record.specs.declared.StateHead.{StateHead}
 use Rattle.engine.specs.Layout.{stateSize, theStates, offset}
 use Rattle.exchange.specs.declared.slots.Slots.{Slots}
 
@@ -29,6 +31,10 @@ slotAt v k = v .at + k * v .size
 unfoldable pub stateIn : Slots → List ℕ → ℕ → State
 stateIn v b k = stateAt (v .servers) (drop (slotAt v k) b)
 
+-- Its numbers, as the code reads them.
+unfoldable pub headOf : Slots → List ℕ → ℕ → StateHead
+headOf v b k = headIn (v .servers) (drop (slotAt v k) b) (9 + 2 * v .servers)
+
 -- The States of the m slots from k on, of the senders that are meant.
 unfoldable pub statesFrom : Slots → List ℕ → (m k : ℕ) → List State
 statesFrom v b zero k = []
@@ -37,11 +43,15 @@ statesFrom v b (suc m) k = pick (inSet k (v .here)) (stateIn v b k ∷ statesFro
 unfoldable pub statesOf : Slots → List ℕ → List State
 statesOf v b = statesFrom v b (v .servers) 0
 
--- The slots lie in the buffer, a State's fixed parts fit in one, and each State that is meant is its server's.
-pub record Room (v : Slots) (b : List ℕ) : Type 0 where
+-- The slots lie in the buffer, and a State's fixed parts fit in one.
+pub record Space (v : Slots) (b : List ℕ) : Type 0 where
   pub servers : v .servers ≤ mostServers
   pub long : 40 + 2 * v .servers ≤ v .size
   pub inside : v .at + v .servers * v .size ≤ length b
+
+-- And each State that is meant is its server's.
+pub record Room (v : Slots) (b : List ℕ) : Type 0 where
+  pub space : Space v b
   pub senders : (k : ℕ) → k < v .servers → inSet k (v .here) ≡ true → stateIn v b k .sender ≡ k
 
 -- k is the first slot that is meant, or past the last one.

@@ -4,12 +4,13 @@ use Prim.Native.Nat.{ℕ, _+_, _*_, _-_, _≤_, _<_}
 use mathlib.Core.Path.{_≡_}
 use mathlib.Core.Bool.{Bool, true}
 use mathlib.Core.List.{List, [], _∷_}
-use lib.ListN.{length, getD, set, replicate}
+use lib.ListN.{length, getD, set, take, replicate}
 use Rattle.base.specs.Lists.{filter}
 use Rattle.base.specs.Sets.{inSet}
 use Rattle.base.specs.Tests.{_and_, _=?_, pick}
 use Rattle.format.specs.Types.{Id, State, Context}
 use Rattle.format.specs.Range.{idOk, idsInRange}
+use Rattle.format.specs.Write.{idsBytes}
 use Rattle.record.specs.Values.{slot}
 use Rattle.exchange.specs.declared.slots.Slots.{Slots}
 use Rattle.exchange.specs.Slots.{slotAt, stateIn, statesFrom}
@@ -45,6 +46,11 @@ keptIds c v b k =
     filter
     (isKept c (length (statesFrom v b (v .servers - (k + 1)) (k + 1))) (raisedLists c 0 (replicate {A = ℕ} 2048 0) (statesFrom v b (v .servers - (k + 1)) (k + 1))))
     (stateIn v b k .yellow .ids)
+
+-- The bytes o begin with the ids ds, of which there are r.
+pub record Listed (r : ℕ) (o : List ℕ) (ds : List Id) : Type 0 where
+  pub count : r ≡ length ds
+  pub bytes : take (3 * r) o ≡ idsBytes ds
 
 -- Those of the senders that are meant are at most n bytes long.
 unfoldable pub ListsShort : Slots → List ℕ → ℕ → Type 0

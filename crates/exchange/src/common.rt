@@ -1,15 +1,15 @@
 // The ids common to all the yellow lists that count.
 ghost use mathlib.Core.Path.{_≡_};
 ghost use Prim.Native.Nat.{ℕ, _+_, _*_, _≤_, _<_};
-ghost use lib.ListN.{length, take};
+ghost use lib.ListN.{length};
 ghost use Rattle.base.specs.Lists.{filter};
 ghost use Rattle.base.specs.Patched.{patched};
 ghost use Rattle.base.specs.Tests.{pick};
 ghost use Rattle.format.specs.Read.{idAt, idsAt};
-ghost use Rattle.format.specs.Write.{idBytes, idsBytes};
+ghost use Rattle.format.specs.Write.{idBytes};
 ghost use Rattle.record.specs.Context.{contextOf, ContextIn};
 ghost use Rattle.exchange.specs.Slots.{Room, stateIn, statesOf};
-ghost use Rattle.exchange.specs.Table.{isKept, keptIds, ListInside, ListsInside, ListsShort, ListsInRange};
+ghost use Rattle.exchange.specs.Table.{isKept, keptIds, Listed, ListInside, ListsInside, ListsShort, ListsInRange};
 ghost use Rattle.replication.specs.Machine.Exchange.{takenYellow};
 use crate::slots::Slots;
 use crate::slots::first;
@@ -18,11 +18,11 @@ use crate::slots::place;
 use crate::table::raise_lists;
 use crate::yellow::yellow_voters;
 use record::Context;
-use record::blocks::put_id;
 use record::bytes::num8;
 use record::bytes::num16;
 use record::lists::PLACES;
 use record::lists::place_at;
+use stores::put_id;
 
 // Whether the place of the id from `at` on tells `round`.
 fn is_kept(c: Context, e: &[u8], at: usize, round: u8, table: &[u8]) -> bool
@@ -75,7 +75,7 @@ pub fn keep(
     out: &mut [u8],
 ) -> usize
     requires { ⌜ ContextIn c × (at + 3 * count ≤ length (now e)) × (length (now table) ≡ 2048) × (3 * count ≤ length (now out)) ⌝ }
-    ensures { λ r. ⌜ take (3 * r) (now (out .exit)) ≡ idsBytes (filter (isKept (contextOf c) round (now (table .entry))) (idsAt count (now (e .entry)) at)) ⌝ }
+    ensures { λ r. ⌜ Listed r (now (out .exit)) (filter (isKept (contextOf c) round (now (table .entry))) (idsAt count (now (e .entry)) at)) ⌝ }
 {
     let mut kept = 0;
     let mut j = 0;
@@ -89,7 +89,7 @@ pub fn keep(
 // The ids of the list in the slot `start` that every list behind it has, too: how many there are.
 fn common(c: Context, v: Slots, state: &[u8], start: usize, out: &mut [u8]) -> usize
     requires { ⌜ ContextIn c × Room v (now state) × (start < v .servers) × ListsInside v (now state) × ListInside v (now state) start × (3 * length (stateIn v (now state) start .yellow .ids) ≤ length (now out)) ⌝ }
-    ensures { λ r. ⌜ take (3 * r) (now (out .exit)) ≡ idsBytes (keptIds (contextOf c) v (now (state .entry)) start) ⌝ }
+    ensures { λ r. ⌜ Listed r (now (out .exit)) (keptIds (contextOf c) v (now (state .entry)) start) ⌝ }
 {
     let mut table: [u8; PLACES] = [0; PLACES];
     let round = raise_lists(c, v, state, start + 1, &mut table);
@@ -98,8 +98,8 @@ fn common(c: Context, v: Slots, state: &[u8], start: usize, out: &mut [u8]) -> u
     keep(
         c,
         &state[at..],
-        x.yellow_at,
-        x.yellow_count,
+        40 + 2 * v.servers,
+        x.yellow_count as usize,
         round,
         &table,
         out,
@@ -110,7 +110,7 @@ fn common(c: Context, v: Slots, state: &[u8], start: usize, out: &mut [u8]) -> u
 // empty": how many; their bytes are in `out`.
 pub fn taken_ids(c: Context, v: Slots, state: &[u8], out: &mut [u8]) -> usize
     requires { ⌜ ContextIn c × Room v (now state) × ListsInside v (now state) × ListsShort v (now state) (length (now out)) ⌝ }
-    ensures { λ r. ⌜ (ListsInRange (contextOf c) v (now (state .entry)) → take (3 * r) (now (out .exit)) ≡ idsBytes (takenYellow (statesOf v (now (state .entry))) .ids)) ⌝ }
+    ensures { λ r. ⌜ (ListsInRange (contextOf c) v (now (state .entry)) → Listed r (now (out .exit)) (takenYellow (statesOf v (now (state .entry))) .ids)) ⌝ }
 {
     let set = yellow_voters(v, state);
     let w = v.only(set);

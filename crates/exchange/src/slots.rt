@@ -5,10 +5,11 @@ ghost use Prim.Native.Nat.{ℕ, _+_, _*_, _≤_, _<_};
 ghost use lib.ListN.{length, drop};
 ghost use Rattle.base.specs.Sets.{inSet, inside, withMember};
 ghost use Rattle.engine.specs.Layout.{SizesIn};
-ghost use Rattle.record.specs.Events.{stateIn as headIn};
-ghost use Rattle.exchange.specs.Slots.{Room, First, slotsOf, slotAt, withHere};
-use record::events::StateAt;
-use record::frame::state_at;
+ghost use Rattle.exchange.specs.Slots.{Space, First, slotsOf, slotAt, headOf, withHere};
+use engine::places::state_size;
+use engine::places::states_at;
+use record::StateHead;
+use record::frame::state_head;
 
 // Where the slots lie, and which of them are meant: the slot of server k begins at `at` + k × `size`, and `here` is a set of
 // servers.
@@ -53,20 +54,20 @@ pub fn with_member(set: u8, k: usize) -> u8
 
 // Where the slot k begins.
 pub fn place(v: Slots, state: &[u8], k: usize) -> usize
-    requires { ⌜ Room v (now state) × (k < v .servers) ⌝ }
+    requires { ⌜ Space v (now state) × (k < v .servers) ⌝ }
     ensures { λ r. ⌜ (r ≡ slotAt v k) × (r + v .size ≤ length (now (state .entry))) ⌝ }
 {
     let size = v.size;
     v.at + k * size
 }
 
-// The numbers of the State in the slot k. Where its lists lie is counted from the slot's beginning.
-pub fn head(v: Slots, state: &[u8], k: usize) -> StateAt
-    requires { ⌜ Room v (now state) × (k < v .servers) ⌝ }
-    ensures { λ r. ⌜ r ≡ headIn (v .servers) (drop (slotAt v k) (now (state .entry))) ⌝ }
+// The numbers of the State in the slot k.
+pub fn head(v: Slots, state: &[u8], k: usize) -> StateHead
+    requires { ⌜ Space v (now state) × (k < v .servers) ⌝ }
+    ensures { λ r. ⌜ r ≡ headOf v (now (state .entry)) k ⌝ }
 {
     let at = place(v, state, k);
-    state_at(&state[at..], v.servers)
+    state_head(&state[at..], v.servers as u8, 9 + 2 * v.servers)
 }
 
 // The first slot that is meant.
@@ -89,20 +90,14 @@ pub fn collected(servers: u8, quota: u16, here: u8) -> Slots
     requires { ⌜ SizesIn servers quota ⌝ }
     ensures { λ r. ⌜ r ≡ slotsOf servers quota here ⌝ }
 {
-    let n = servers as usize;
+    let n = servers as u32;
+    let q = quota as u32;
     Slots {
-        servers: n,
-        size: 40 + 2 * n + 3 * product(n, quota as usize),
-        at: 844 + 6 * n,
+        servers: servers as usize,
+        size: state_size(n, q) as usize,
+        at: states_at(n, q) as usize,
         here,
     }
-}
-
-fn product(n: usize, q: usize) -> usize
-    requires { ⌜ SizesIn n q ⌝ }
-    ensures { λ r. ⌜ (r ≡ n * q) × (r ≤ 2048) ⌝ }
-{
-    n * q
 }
 
 // Whether each member of `set` is in `states`: every member's State is in.

@@ -52,7 +52,14 @@ fn raise_slot(c: Context, v: Slots, state: &[u8], k: usize, round: u8, table: &m
 {
     let x = head(v, state, k);
     let at = place(v, state, k);
-    raise_list(c, &state[at..], x.yellow_at, x.yellow_count, round, table);
+    raise_list(
+        c,
+        &state[at..],
+        40 + 2 * v.servers,
+        x.yellow_count as usize,
+        round,
+        table,
+    );
 }
 
 // The list in the slot k, if it is meant; how many lists there were then.

@@ -1,18 +1,17 @@
 -- In an exchange the own State says what the server has; so (last primary's index, its attempt, attempt) never falls along a server.
-use Prim.Native.Nat.{ℕ, zero, suc, _+_, _≤_, _<_}
+use Prim.Native.Nat.{ℕ, suc, _≤_, _<_}
 use mathlib.Core.Path.{_≡_, refl, sym, ap, subst, _∙_}
-use mathlib.Core.Bool.{Bool, true, false}
-use mathlib.Core.List.{List, [], _∷_}
+use mathlib.Core.Bool.{true}
 use mathlib.Core.Logic.{_⊎_, inl, inr}
 use mathlib.Core.Option.{Option, none, some}
 use native.Mathlib.Omega.{arith}
 use lib.ListN.{length, getD}
 use Rattle.base.specs.Tests.{not-both}
-use Rattle.base.specs.Lists.{isThere}
+use Rattle.base.specs.ListLaws.{there}
 use Rattle.base.specs.Chains.{chain}
 use Rattle.base.specs.Sets.{inSet}
-use Rattle.format.specs.Types.{State, Record, regular}
-use Rattle.replication.specs.Machine.Types.{Mode, Non-prim, Reg-prim, Trans-prim, Exchange-states, Exchange-actions, Construct, No, Un, Configuration, Votes, Server}
+use Rattle.format.specs.Types.{State, regular}
+use Rattle.replication.specs.Machine.Types.{Mode, Non-prim, Reg-prim, Trans-prim, Exchange-states, Exchange-actions, Construct, No, Un, Configuration}
 use Rattle.replication.specs.Machine.Step.{ownState, theSet, hereSet, allStatesIn}
 use Rattle.replication.specs.Machine.WellFormedRanges.{MembershipRanges}
 use Rattle.replication.specs.Laws.Modes.{InRegular}
@@ -25,18 +24,13 @@ use Rattle.replication.proofs.Step.VotesOrder.{at-most-same, at-most-re
 use Rattle.replication.proofs.WellFormed.Modes.{all-in-facts}
 use Rattle.replication.proofs.Runs.Places.{of-event}
 use Rattle.replication.proofs.Runs.Numbers.{numbers, invariant-at, well-formed-at}
-use Rattle.replication.proofs.Runs.Modes.{standing, Standing, Stands}
+use Rattle.replication.proofs.Runs.Modes.{standing, Stands}
 use Rattle.replication.proofs.Runs.Coupling.{coupled}
-use Rattle.replication.proofs.Runs.AllowedTurns.{memoryAt, storeAt, Acts, Recovers, Refuses, AllowedTurn, rests, crashes, refuses, recovers, acts, allowed-turn}
+use Rattle.replication.proofs.Runs.AllowedTurns.{memoryAt, Acts, AllowedTurn, rests, crashes, refuses, recovers, acts, allowed-turn}
 use Rattle.replication.proofs.Runs.ControlPart.{control-next}
-use Rattle.replication.proofs.Runs.Hearing.{exchange-votes, withHeard, hearing-states, HeardSame, hearing-same, heard-length, exchange-kept}
+use Rattle.replication.proofs.Runs.Hearing.{exchange-votes, hearing-states, HeardSame, hearing-same, heard-length, exchange-kept}
 use Rattle.replication.proofs.Runs.StateOrigins.{Entered, states-entered}
 use Rattle.replication.proofs.Runs.Stays.{membershipAt, in-stay, acts-membership}
-
-is-there : {A : Type 0} (x : Option A) → isThere x ≡ true → (a : A) × (x ≡ some a)
-unfolding isThere
-is-there none e = not-both e
-is-there (some a) e = (a, refl)
 
 -- In an exchange the latest configuration is regular.
 pub exchange-regular : (m : Mode) (c : Option Configuration) (t : Option ℕ) → inExchange m ≡ true → Stands m c t → InRegular c t
@@ -71,7 +65,8 @@ module _ {n q : ℕ} {l : Run} (A : Allowed n q l) where
         votes = λ e. ap (λ x. x .memory .votes) m ∙ h .votes (ap (λ x. inExchange (x .memory .membership .mode)) (sym m) ∙ e);
       }
 
-      go : (p : ℕ) → (Falls n q l p i → ⊥) → ((d : Configuration) → Takes n q l p i d → ⊥) → SinceEntry p i c → AllowedTurn n q l p i → SinceEntry (suc p) i c
+      go : (p : ℕ) → (Falls n q l p i → ⊥) → ((d : Configuration) → Takes n q l p i d → ⊥) → SinceEntry p i c → AllowedTurn n q l p i
+          → SinceEntry (suc p) i c
       go p f g h (rests o m u d) = same p h m
       go p f g h (crashes x m u d) = absurd (f (by-crash x))
       go p f g h (refuses x) = same p h (x .images-next)
@@ -90,25 +85,36 @@ module _ {n q : ℕ} {l : Run} (A : Allowed n q l) where
   -- The own State, once come, says the votes that the server has while in the exchange.
   pub own-state-says : (p i : ℕ) (c : Configuration) (y : State) → placeAt n q l i p .regular ≡ some c → placeAt n q l i (suc p) .regular ≡ some c
       → inExchange (membershipAt n q l p i .mode) ≡ true → getD (membershipAt n q l (suc p) i .states) i none ≡ some y
-      → (y .last ≡ memoryAt n q l p i .votes .last) × (y .attempt ≡ memoryAt n q l p i .votes .attempt)
+      → (y .last ≡ memoryAt n q l p i .votes .last)
+      × (y .attempt ≡ memoryAt n q l p i .votes .attempt)
+      × (y .mark ≡ memoryAt n q l p i .votes .mark)
+      × (y .yellow ≡ memoryAt n q l p i .votes .yellow)
   unfolding ownState
   own-state-says p i c y b d e f = go (states-entered A i c (suc p) d i y f) (since-entry i c p b)
     where
       go : (v : ℕ) × Entered A v i c y × (v < suc p) × (y .sender ≡ i) → SinceEntry p i c
-          → (y .last ≡ memoryAt n q l p i .votes .last) × (y .attempt ≡ memoryAt n q l p i .votes .attempt)
+          → (y .last ≡ memoryAt n q l p i .votes .last)
+          × (y .attempt ≡ memoryAt n q l p i .votes .attempt)
+          × (y .mark ≡ memoryAt n q l p i .votes .mark)
+          × (y .yellow ≡ memoryAt n q l p i .votes .yellow)
       go (v, w, h, g) t =
           let z : memoryAt n q l (suc v) i .votes ≡ memoryAt n q l p i .votes =
           ap (λ a. memoryAt n q l (suc a) i .votes) (A .once v (t .took-at) i c (w .took) (t .took)) ∙ sym (t .votes e)
-          in
-          (ap (λ a. a .last) (w .is) ∙ ap (λ a. a .last) z, ap (λ a. a .attempt) (w .is) ∙ ap (λ a. a .attempt) z)
+          in (
+            ap (λ a. a .last) (w .is) ∙ ap (λ a. a .last) z,
+            ap (λ a. a .attempt) (w .is) ∙ ap (λ a. a .attempt) z,
+            ap (λ a. a .mark) (w .is) ∙ ap (λ a. a .mark) z,
+            ap (λ a. a .yellow) (w .is) ∙ ap (λ a. a .yellow) z,
+          )
 
   module _ (p i : ℕ) (x : Acts n q l p i) where
     -- When every member's State is in, the own one is.
-    own-there : (c : Configuration) → memoryAt n q l p i .membership .configuration ≡ some c → allStatesIn (hearing (x .by .event) (memoryAt n q l p i)) ≡ true
+    own-there : (c : Configuration) → memoryAt n q l p i .membership .configuration ≡ some c
+        → allStatesIn (hearing (x .by .event) (memoryAt n q l p i)) ≡ true
         → (y : State) × (getD (hearing (x .by .event) (memoryAt n q l p i) .membership .states) i none ≡ some y)
     unfolding hereSet theSet
     own-there c r f =
-        is-there _
+        there _
         (all-in-facts (hearing (x .by .event) (memoryAt n q l p i)) long f i (omega (arith, own, h .servers, numbers n q i l p .memory .servers))
         (ap (λ z. inSet i (theSet z)) (h .configuration ∙ r)
         ∙ subst (λ z. inSet z (c .set) ≡ true) (numbers n q i l p .memory .me) (w .configuration c r .set .own)))

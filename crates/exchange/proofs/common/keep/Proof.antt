@@ -3,15 +3,10 @@ use Rattle.record.specs.Context.{contextOf}
 use lib.ListN.{length}
 use borrow.Author.Needs.{needs}
 use native.Mathlib.Omega.{arith}
-use mathlib.Core.Path.{_≡_}
-use Prim.Native.Nat.{ℕ, _+_, _-_, _≤_, _<_}
-use Rattle.exchange.specs.Slots.{statesFrom, statesOf}
+use Prim.Native.Nat.{_-_}
 use Rattle.exchange.proofs.KeepLaws.{Kept, kept-start, kept-again, kept-end}
 use Rattle.exchange.proofs.common.keep.Statement.{statement}
 use Rattle.exchange.proofs.common.keep.Tie as tie
-use Rattle.exchange.proofs.common.keep.Reads as reads
-use Rattle.exchange.proofs.common.keep.Lts as lts
-use Rattle.exchange.proofs.common.keep_at.Reads as keep-at-reads
 
 abbrev Inv-loop : tie.InvT-loop
 Inv-loop c e at count round table out₀ kept₀ j₀ out kept j = Kept (isKept (contextOf c) round table) e at count j kept (length out₀) out
@@ -19,39 +14,30 @@ Inv-loop c e at count round table out₀ kept₀ j₀ out kept j = Kept (isKept 
 abbrev μ-loop : tie.MeasureT-loop
 μ-loop c e at count round table out₀ kept₀ j₀ out kept j = count - j
 
--- src/common.rt:58:5
 loop-holds : tie.Need-loop-holds Inv-loop μ-loop
 loop-holds c = search (needs, kept-start)
 
--- src/common.rt:59:35
 mul-keep-at : tie.Need-mul-keep-at Inv-loop μ-loop
 mul-keep-at c = omega arith
 
--- src/common.rt:59:30
 add-keep-at : tie.Need-add-keep-at Inv-loop μ-loop
 add-keep-at c = omega arith
 
--- src/common.rt:59:9
 keep-at-requires : tie.Need-keep-at-requires Inv-loop μ-loop
 keep-at-requires c κs = search needs
 
--- src/common.rt:60:9
 add-j : tie.Need-add-j Inv-loop μ-loop
 add-j c = omega arith
 
--- src/common.rt:58:5
 loop-less : tie.Need-loop-less Inv-loop μ-loop
 loop-less c = omega arith
 
--- src/common.rt:58:5
 loop-again : tie.Need-loop-again Inv-loop μ-loop
 loop-again c = search (needs, kept-again)
 
--- src/common.rt:52:1
 same-length : tie.Need-same-length Inv-loop μ-loop
 same-length c = search needs
 
--- src/common.rt:52:1
 returns : tie.Need-returns Inv-loop μ-loop
 returns c = search (needs, kept-end)
 

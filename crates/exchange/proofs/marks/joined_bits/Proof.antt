@@ -2,14 +2,11 @@ use Rattle.record.specs.Values.{markOf}
 use borrow.Author.Needs.{needs}
 use native.Mathlib.Omega.{arith}
 use mathlib.Core.Path.{_≡_}
-use Prim.Native.Nat.{ℕ, _+_, _-_, _≤_, _<_}
+use Prim.Native.Nat.{_-_, _≤_}
 use Rattle.exchange.specs.Slots.{statesFrom, statesOf}
 use Rattle.exchange.proofs.MarkLaws.{joinLike, join-start, join-again, join-end}
 use Rattle.exchange.proofs.marks.joined_bits.Statement.{statement}
 use Rattle.exchange.proofs.marks.joined_bits.Tie as tie
-use Rattle.exchange.proofs.marks.joined_bits.Reads as reads
-use Rattle.exchange.proofs.marks.joined_bits.Lts as lts
-use Rattle.exchange.proofs.marks.joined_at.Reads as joined-at-reads
 
 abbrev Inv-loop : tie.InvT-loop
 Inv-loop v state m bits₀ k₀ bits k = (k ≤ v .servers) × (joinLike (markOf m) (m .bits) (statesOf v state) ≡ joinLike (markOf m) bits (statesFrom v state (v .servers - k) k))
@@ -17,27 +14,21 @@ Inv-loop v state m bits₀ k₀ bits k = (k ≤ v .servers) × (joinLike (markOf
 abbrev μ-loop : tie.MeasureT-loop
 μ-loop v state m bits₀ k₀ bits k = v .servers - k
 
--- src/marks.rt:134:5
 loop-holds : tie.Need-loop-holds Inv-loop μ-loop
 loop-holds c = search (needs, join-start)
 
--- src/marks.rt:135:9
 joined-at-requires : tie.Need-joined-at-requires Inv-loop μ-loop
 joined-at-requires c κs = search needs
 
--- src/marks.rt:136:9
 add-k : tie.Need-add-k Inv-loop μ-loop
 add-k c = omega arith
 
--- src/marks.rt:134:5
 loop-less : tie.Need-loop-less Inv-loop μ-loop
 loop-less c = omega arith
 
--- src/marks.rt:134:5
 loop-again : tie.Need-loop-again Inv-loop μ-loop
 loop-again c = search (needs, join-again)
 
--- src/marks.rt:128:1
 returns : tie.Need-returns Inv-loop μ-loop
 returns c = search (needs, join-end)
 

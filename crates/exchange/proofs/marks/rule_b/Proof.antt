@@ -6,14 +6,11 @@ use Rattle.exchange.proofs.AnyLaws.{any-start, any-again}
 use borrow.Author.Needs.{needs}
 use native.Mathlib.Omega.{arith}
 use mathlib.Core.Path.{_≡_}
-use Prim.Native.Nat.{ℕ, _+_, _-_, _≤_, _<_}
+use Prim.Native.Nat.{_-_, _≤_}
 use Rattle.exchange.specs.Slots.{statesFrom, statesOf}
 use Rattle.exchange.proofs.MarkLaws.{rule-b-end}
 use Rattle.exchange.proofs.marks.rule_b.Statement.{statement}
 use Rattle.exchange.proofs.marks.rule_b.Tie as tie
-use Rattle.exchange.proofs.marks.rule_b.Reads as reads
-use Rattle.exchange.proofs.marks.rule_b.Lts as lts
-use Rattle.exchange.proofs.marks.against_at.Reads as against-at-reads
 
 abbrev Inv-loop : tie.InvT-loop
 Inv-loop v state m found₀ k₀ found k = (k ≤ v .servers) × (any (against (markOf m)) (statesOf v state) ≡ (found or any (against (markOf m)) (statesFrom v state (v .servers - k) k)))
@@ -21,27 +18,21 @@ Inv-loop v state m found₀ k₀ found k = (k ≤ v .servers) × (any (against (
 abbrev μ-loop : tie.MeasureT-loop
 μ-loop v state m found₀ k₀ found k = v .servers - k
 
--- src/marks.rt:106:5
 loop-holds : tie.Need-loop-holds Inv-loop μ-loop
 loop-holds c = search (needs, any-start)
 
--- src/marks.rt:107:9
 against-at-requires : tie.Need-against-at-requires Inv-loop μ-loop
 against-at-requires c κs = search needs
 
--- src/marks.rt:108:9
 add-k : tie.Need-add-k Inv-loop μ-loop
 add-k c = omega arith
 
--- src/marks.rt:106:5
 loop-less : tie.Need-loop-less Inv-loop μ-loop
 loop-less c = omega arith
 
--- src/marks.rt:106:5
 loop-again : tie.Need-loop-again Inv-loop μ-loop
 loop-again c = search (needs, any-again)
 
--- src/marks.rt:100:1
 returns : tie.Need-returns Inv-loop μ-loop
 returns c = search (needs, rule-b-end)
 

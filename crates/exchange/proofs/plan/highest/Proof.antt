@@ -1,16 +1,13 @@
 use borrow.Author.Needs.{needs}
 use native.Mathlib.Omega.{arith}
 use mathlib.Core.Path.{_≡_}
-use Prim.Native.Nat.{_+_, _-_, _≤_, max}
+use Prim.Native.Nat.{_-_, _≤_, max}
 use Rattle.replication.specs.Machine.Plan.{highest as highestOf}
 use Rattle.exchange.specs.Numbers.{numberIn}
 use Rattle.exchange.specs.Slots.{statesFrom, statesOf}
 use Rattle.exchange.proofs.PlanLaws.{highest-start, highest-again, highest-end}
 use Rattle.exchange.proofs.plan.highest.Statement.{statement}
 use Rattle.exchange.proofs.plan.highest.Tie as tie
-use Rattle.exchange.proofs.plan.highest.Reads as reads
-use Rattle.exchange.proofs.plan.highest.Lts as lts
-use Rattle.exchange.proofs.plan.raised.Reads as raised-reads
 
 abbrev Inv-loop : tie.InvT-loop
 Inv-loop v state f high₀ k₀ high k = (k ≤ v .servers) × (highestOf (numberIn f) (statesOf v state) ≡ max high (highestOf (numberIn f) (statesFrom v state (v .servers - k) k)))
@@ -18,27 +15,21 @@ Inv-loop v state f high₀ k₀ high k = (k ≤ v .servers) × (highestOf (numbe
 abbrev μ-loop : tie.MeasureT-loop
 μ-loop v state f high₀ k₀ high k = v .servers - k
 
--- src/plan.rt:65:5
 loop-holds : tie.Need-loop-holds Inv-loop μ-loop
 loop-holds c = search (needs, highest-start)
 
--- src/plan.rt:66:9
 raised-requires : tie.Need-raised-requires Inv-loop μ-loop
 raised-requires c κs = search needs
 
--- src/plan.rt:67:9
 add-k : tie.Need-add-k Inv-loop μ-loop
 add-k c = omega arith
 
--- src/plan.rt:65:5
 loop-less : tie.Need-loop-less Inv-loop μ-loop
 loop-less c = omega arith
 
--- src/plan.rt:65:5
 loop-again : tie.Need-loop-again Inv-loop μ-loop
 loop-again c = search (needs, highest-again)
 
--- src/plan.rt:59:1
 returns : tie.Need-returns Inv-loop μ-loop
 returns c = search (needs, highest-end)
 

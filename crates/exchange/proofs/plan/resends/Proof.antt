@@ -3,15 +3,11 @@ use Rattle.exchange.specs.Numbers.{numberIn}
 use borrow.Author.Needs.{needs}
 use native.Mathlib.Omega.{arith}
 use mathlib.Core.Path.{_≡_}
-use Prim.Native.Nat.{ℕ, _+_, _-_, _≤_, _<_}
+use Prim.Native.Nat.{_-_, _≤_}
 use Rattle.exchange.specs.Slots.{statesFrom, statesOf}
 use Rattle.exchange.proofs.ResendLaws.{firstIs, resends-start, resends-found, resends-again, resends-end}
 use Rattle.exchange.proofs.plan.resends.Statement.{statement}
 use Rattle.exchange.proofs.plan.resends.Tie as tie
-use Rattle.exchange.proofs.plan.resends.Reads as reads
-use Rattle.exchange.proofs.plan.resends.Lts as lts
-use Rattle.exchange.proofs.plan.highest.Reads as highest-reads
-use Rattle.exchange.proofs.plan.is_value.Reads as is-value-reads
 
 abbrev Inv-loop : tie.InvT-loop
 Inv-loop v state f me high k₀ k = (k ≤ v .servers) × (isMe me (resender (numberIn f) (statesOf v state)) ≡ firstIs me (numberIn f) high (statesFrom v state (v .servers - k) k))
@@ -19,35 +15,27 @@ Inv-loop v state f me high k₀ k = (k ≤ v .servers) × (isMe me (resender (nu
 abbrev μ-loop : tie.MeasureT-loop
 μ-loop v state f me high k₀ k = v .servers - k
 
--- src/plan.rt:120:9
 highest-requires : tie.Need-highest-requires Inv-loop μ-loop
 highest-requires c κs = search needs
 
--- src/plan.rt:122:5
 loop-holds : tie.Need-loop-holds Inv-loop μ-loop
 loop-holds c = search (needs, resends-start)
 
--- src/plan.rt:123:12
 is-value-requires : tie.Need-is-value-requires Inv-loop μ-loop
 is-value-requires c κs = search needs
 
--- src/plan.rt:124:13
 returns : tie.Need-returns Inv-loop μ-loop
 returns c = search (needs, resends-found)
 
--- src/plan.rt:126:9
 add-k : tie.Need-add-k Inv-loop μ-loop
 add-k c = omega arith
 
--- src/plan.rt:122:5
 loop-less : tie.Need-loop-less Inv-loop μ-loop
 loop-less c = omega arith
 
--- src/plan.rt:122:5
 loop-again : tie.Need-loop-again Inv-loop μ-loop
 loop-again c = search (needs, resends-again)
 
--- src/plan.rt:116:1
 returns-2 : tie.Need-returns-2 Inv-loop μ-loop
 returns-2 c = search (needs, resends-end)
 

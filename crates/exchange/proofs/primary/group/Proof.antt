@@ -3,14 +3,10 @@ use Rattle.record.specs.Values.{primaryOf}
 use borrow.Author.Needs.{needs}
 use native.Mathlib.Omega.{arith}
 use mathlib.Core.Path.{_≡_}
-use Prim.Native.Nat.{ℕ, _+_, _-_, _≤_, _<_}
-use Rattle.exchange.specs.Slots.{statesFrom, statesOf}
+use Prim.Native.Nat.{_-_, _≤_}
 use Rattle.exchange.proofs.PassingLaws.{passingTo, passing-start, passing-again, passing-end}
 use Rattle.exchange.proofs.primary.group.Statement.{statement}
 use Rattle.exchange.proofs.primary.group.Tie as tie
-use Rattle.exchange.proofs.primary.group.Reads as reads
-use Rattle.exchange.proofs.primary.group.Lts as lts
-use Rattle.exchange.proofs.primary.joined_at.Reads as joined-at-reads
 
 abbrev Inv-loop : tie.InvT-loop
 Inv-loop v state p set₀ k₀ set k = (k ≤ v .servers) × (set ≡ passingTo (samePair (primaryOf p)) v state k)
@@ -18,27 +14,21 @@ Inv-loop v state p set₀ k₀ set k = (k ≤ v .servers) × (set ≡ passingTo 
 abbrev μ-loop : tie.MeasureT-loop
 μ-loop v state p set₀ k₀ set k = v .servers - k
 
--- src/primary.rt:123:5
 loop-holds : tie.Need-loop-holds Inv-loop μ-loop
 loop-holds c = search (needs, passing-start)
 
--- src/primary.rt:124:9
 joined-at-requires : tie.Need-joined-at-requires Inv-loop μ-loop
 joined-at-requires c κs = search needs
 
--- src/primary.rt:125:9
 add-k : tie.Need-add-k Inv-loop μ-loop
 add-k c = omega arith
 
--- src/primary.rt:123:5
 loop-less : tie.Need-loop-less Inv-loop μ-loop
 loop-less c = omega arith
 
--- src/primary.rt:123:5
 loop-again : tie.Need-loop-again Inv-loop μ-loop
 loop-again c = search (needs, passing-again)
 
--- src/primary.rt:117:1
 returns : tie.Need-returns Inv-loop μ-loop
 returns c = search (needs, passing-end)
 

@@ -2,14 +2,11 @@ use borrow.Author.Needs.{needs}
 use native.Mathlib.Omega.{arith}
 use mathlib.Core.Path.{_≡_}
 use mathlib.Core.List.{List}
-use Prim.Native.Nat.{ℕ, _+_, _-_, _≤_}
+use Prim.Native.Nat.{ℕ, _-_, _≤_}
 use Rattle.exchange.specs.Slots.{statesFrom, statesOf}
 use Rattle.exchange.proofs.SlotLaws.{states-start, first-found, first-again, first-none}
 use Rattle.exchange.proofs.slots.first.Statement.{statement}
 use Rattle.exchange.proofs.slots.first.Tie as tie
-use Rattle.exchange.proofs.slots.first.Reads as reads
-use Rattle.exchange.proofs.slots.first.Lts as lts
-use Rattle.exchange.proofs.slots.has.Reads as has-reads
 
 abbrev Inv-loop : tie.InvT-loop
 Inv-loop v k₀ k = (k ≤ v .servers) × ((b : List ℕ) → statesOf v b ≡ statesFrom v b (v .servers - k) k)
@@ -17,31 +14,24 @@ Inv-loop v k₀ k = (k ≤ v .servers) × ((b : List ℕ) → statesOf v b ≡ s
 abbrev μ-loop : tie.MeasureT-loop
 μ-loop v k₀ k = v .servers - k
 
--- src/slots.rt:75:5
 loop-holds : tie.Need-loop-holds Inv-loop μ-loop
 loop-holds c = search (needs, states-start)
 
--- src/slots.rt:76:12
 has-requires : tie.Need-has-requires Inv-loop μ-loop
 has-requires c κs = omega arith
 
--- src/slots.rt:77:13
 returns : tie.Need-returns Inv-loop μ-loop
 returns c = search (needs, first-found)
 
--- src/slots.rt:79:9
 add-k : tie.Need-add-k Inv-loop μ-loop
 add-k c = omega arith
 
--- src/slots.rt:75:5
 loop-less : tie.Need-loop-less Inv-loop μ-loop
 loop-less c = omega arith
 
--- src/slots.rt:75:5
 loop-again : tie.Need-loop-again Inv-loop μ-loop
 loop-again c = search (needs, first-again)
 
--- src/slots.rt:70:1
 returns-2 : tie.Need-returns-2 Inv-loop μ-loop
 returns-2 c = search (needs, first-none)
 

@@ -1,44 +1,45 @@
-use denote.Ref.{now}
 use Rattle.exchange.proofs.ReadLaws.{head-made}
 use borrow.Author.Needs.{needs}
 use Rattle.exchange.proofs.slots.head.Statement.{statement}
 use Rattle.exchange.proofs.slots.head.Tie as tie
-use Rattle.exchange.proofs.slots.head.Reads as reads
-use Rattle.exchange.proofs.slots.head.Lts as lts
-use Rattle.exchange.proofs.slots.place.Reads as place-reads
-use Rattle.record.proofs.frame.state_at.Reads as state-at-reads
 
--- src/slots.rt:65:9
 place-requires : tie.Need-place-requires
 place-requires c κs = search needs
 
--- src/slots.rt:66:14
-sub-state-at : tie.Need-sub-state-at
-sub-state-at c = search needs
+sub-state-head : tie.Need-sub-state-head
+sub-state-head c = search needs
 
--- src/slots.rt:66:14
-part-state-at-start : tie.Need-part-state-at-start
-part-state-at-start c = search needs
+part-state-head-start : tie.Need-part-state-head-start
+part-state-head-start c = search needs
 
--- src/slots.rt:66:14
-part-state-at-end : tie.Need-part-state-at-end
-part-state-at-end c = search needs
+part-state-head-end : tie.Need-part-state-head-end
+part-state-head-end c = search needs
 
--- src/slots.rt:66:5
-state-at-requires : tie.Need-state-at-requires
-state-at-requires c κs = search needs
+cast-state-head : tie.Need-cast-state-head
+cast-state-head c = search needs
 
--- src/slots.rt:61:1
+mul-state-head : tie.Need-mul-state-head
+mul-state-head c = search needs
+
+add-state-head : tie.Need-add-state-head
+add-state-head c = search needs
+
+state-head-requires : tie.Need-state-head-requires
+state-head-requires c κs = search needs
+
 returns : tie.Need-returns
-returns c = let a = c .before .before .before .before .args in search (needs, head-made (a .v) (now (a .state)) (a .k))
+returns c = search (needs, head-made)
 
 pub head-spec : {M : Type 1} → statement M
 head-spec =
     tie.close
     (tie.spec
     place-requires
-    sub-state-at
-    part-state-at-start
-    part-state-at-end
-    state-at-requires
+    sub-state-head
+    part-state-head-start
+    part-state-head-end
+    cast-state-head
+    mul-state-head
+    add-state-head
+    state-head-requires
     returns)

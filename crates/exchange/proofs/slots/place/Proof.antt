@@ -5,18 +5,13 @@ use Rattle.exchange.proofs.ReadLaws.{place-made}
 use Rattle.exchange.proofs.SlotLaws.{slot-inside}
 use Rattle.exchange.proofs.slots.place.Statement.{statement}
 use Rattle.exchange.proofs.slots.place.Tie as tie
-use Rattle.exchange.proofs.slots.place.Reads as reads
-use Rattle.exchange.proofs.slots.place.Lts as lts
 
--- src/slots.rt:57:12
 mul-result : tie.Need-mul-result
 mul-result c = let z = slot-inside (c .args .v) (now (c .args .state)) (c .args .k) (search needs) (search needs) in omega arith
 
--- src/slots.rt:57:5
 add-result : tie.Need-add-result
 add-result c = let z = slot-inside (c .before .args .v) (now (c .before .args .state)) (c .before .args .k) (search needs) (search needs) in omega arith
 
--- src/slots.rt:52:1
 returns : tie.Need-returns
 returns c = place-made (c .before .args .v) (now (c .before .args .state)) (c .before .args .k) (search needs) (search needs)
 

@@ -6,14 +6,10 @@ use Prim.Native.Nat.{_*_}
 use borrow.Author.Needs.{needs}
 use native.Mathlib.Omega.{arith}
 use mathlib.Core.Path.{_≡_}
-use Prim.Native.Nat.{ℕ, _+_, _-_, _≤_, _<_}
-use Rattle.exchange.specs.Slots.{statesFrom, statesOf}
+use Prim.Native.Nat.{_+_, _-_, _≤_}
 use Rattle.exchange.proofs.RaiseLaws.{list-start, list-again, list-end, raised-still}
 use Rattle.exchange.proofs.table.raise_list.Statement.{statement}
 use Rattle.exchange.proofs.table.raise_list.Tie as tie
-use Rattle.exchange.proofs.table.raise_list.Reads as reads
-use Rattle.exchange.proofs.table.raise_list.Lts as lts
-use Rattle.exchange.proofs.table.raise_at.Reads as raise-at-reads
 
 abbrev Inv-loop : tie.InvT-loop
 Inv-loop c e at count round table₀ j₀ table j = (j ≤ count) × (length table ≡ 2048) × (raisedAll (contextOf c) round table₀ (idsAt count e at) ≡ raisedAll (contextOf c) round table (idsAt (count - j) e (at + 3 * j)))
@@ -21,39 +17,30 @@ Inv-loop c e at count round table₀ j₀ table j = (j ≤ count) × (length tab
 abbrev μ-loop : tie.MeasureT-loop
 μ-loop c e at count round table₀ j₀ table j = count - j
 
--- src/table.rt:42:5
 loop-holds : tie.Need-loop-holds Inv-loop μ-loop
 loop-holds c = search (needs, list-start)
 
--- src/table.rt:43:29
 mul-raise-at : tie.Need-mul-raise-at Inv-loop μ-loop
 mul-raise-at c = omega arith
 
--- src/table.rt:43:24
 add-raise-at : tie.Need-add-raise-at Inv-loop μ-loop
 add-raise-at c = omega arith
 
--- src/table.rt:43:9
 raise-at-requires : tie.Need-raise-at-requires Inv-loop μ-loop
 raise-at-requires c κs = search needs
 
--- src/table.rt:44:9
 add-j : tie.Need-add-j Inv-loop μ-loop
 add-j c = omega arith
 
--- src/table.rt:42:5
 loop-less : tie.Need-loop-less Inv-loop μ-loop
 loop-less c = omega arith
 
--- src/table.rt:42:5
 loop-again : tie.Need-loop-again Inv-loop μ-loop
 loop-again c = search (needs, list-again, raised-still)
 
--- src/table.rt:37:1
 same-length : tie.Need-same-length Inv-loop μ-loop
 same-length c = search needs
 
--- src/table.rt:37:1
 returns : tie.Need-returns Inv-loop μ-loop
 returns c = search (needs, list-end)
 

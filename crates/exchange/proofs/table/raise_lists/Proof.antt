@@ -1,17 +1,10 @@
 use Rattle.exchange.proofs.RaiseLaws.{Met, met-start, met-again, met-count, met-lists}
-use Rattle.exchange.specs.Table.{raisedLists}
 use Rattle.record.specs.Context.{contextOf}
-use lib.ListN.{length}
 use borrow.Author.Needs.{needs}
 use native.Mathlib.Omega.{arith}
-use mathlib.Core.Path.{_≡_}
-use Prim.Native.Nat.{ℕ, _+_, _-_, _≤_, _<_}
-use Rattle.exchange.specs.Slots.{statesFrom, statesOf}
+use Prim.Native.Nat.{_-_}
 use Rattle.exchange.proofs.table.raise_lists.Statement.{statement}
 use Rattle.exchange.proofs.table.raise_lists.Tie as tie
-use Rattle.exchange.proofs.table.raise_lists.Reads as reads
-use Rattle.exchange.proofs.table.raise_lists.Lts as lts
-use Rattle.exchange.proofs.table.raise_turn.Reads as raise-turn-reads
 
 abbrev Inv-loop : tie.InvT-loop
 Inv-loop c v state start table₀ round₀ k₀ table round k = Met (contextOf c) v state start k round table₀ table
@@ -19,31 +12,24 @@ Inv-loop c v state start table₀ round₀ k₀ table round k = Met (contextOf c
 abbrev μ-loop : tie.MeasureT-loop
 μ-loop c v state start table₀ round₀ k₀ table round k = v .servers - k
 
--- src/table.rt:77:5
 loop-holds : tie.Need-loop-holds Inv-loop μ-loop
 loop-holds c = search (needs, met-start)
 
--- src/table.rt:78:9
 raise-turn-requires : tie.Need-raise-turn-requires Inv-loop μ-loop
 raise-turn-requires c κs = search needs
 
--- src/table.rt:79:9
 add-k : tie.Need-add-k Inv-loop μ-loop
 add-k c = omega arith
 
--- src/table.rt:77:5
 loop-less : tie.Need-loop-less Inv-loop μ-loop
 loop-less c = omega arith
 
--- src/table.rt:77:5
 loop-again : tie.Need-loop-again Inv-loop μ-loop
 loop-again c = search (needs, met-again)
 
--- src/table.rt:71:1
 same-length : tie.Need-same-length Inv-loop μ-loop
 same-length c = search needs
 
--- src/table.rt:71:1
 returns : tie.Need-returns Inv-loop μ-loop
 returns c = search (needs, met-count, met-lists)
 

@@ -2,14 +2,10 @@ use Rattle.replication.specs.Machine.Exchange.{isValid}
 use borrow.Author.Needs.{needs}
 use native.Mathlib.Omega.{arith}
 use mathlib.Core.Path.{_≡_}
-use Prim.Native.Nat.{ℕ, _+_, _-_, _≤_, _<_}
-use Rattle.exchange.specs.Slots.{statesFrom, statesOf}
+use Prim.Native.Nat.{_-_, _≤_}
 use Rattle.exchange.proofs.PassingLaws.{passingTo, passing-start, passing-again, passing-end}
 use Rattle.exchange.proofs.yellow.valid.Statement.{statement}
 use Rattle.exchange.proofs.yellow.valid.Tie as tie
-use Rattle.exchange.proofs.yellow.valid.Reads as reads
-use Rattle.exchange.proofs.yellow.valid.Lts as lts
-use Rattle.exchange.proofs.yellow.valid_at.Reads as valid-at-reads
 
 abbrev Inv-loop : tie.InvT-loop
 Inv-loop v state set₀ k₀ set k = (k ≤ v .servers) × (set ≡ passingTo isValid v state k)
@@ -17,27 +13,21 @@ Inv-loop v state set₀ k₀ set k = (k ≤ v .servers) × (set ≡ passingTo is
 abbrev μ-loop : tie.MeasureT-loop
 μ-loop v state set₀ k₀ set k = v .servers - k
 
--- src/yellow.rt:45:5
 loop-holds : tie.Need-loop-holds Inv-loop μ-loop
 loop-holds c = search (needs, passing-start)
 
--- src/yellow.rt:46:9
 valid-at-requires : tie.Need-valid-at-requires Inv-loop μ-loop
 valid-at-requires c κs = search needs
 
--- src/yellow.rt:47:9
 add-k : tie.Need-add-k Inv-loop μ-loop
 add-k c = omega arith
 
--- src/yellow.rt:45:5
 loop-less : tie.Need-loop-less Inv-loop μ-loop
 loop-less c = omega arith
 
--- src/yellow.rt:45:5
 loop-again : tie.Need-loop-again Inv-loop μ-loop
 loop-again c = search (needs, passing-again)
 
--- src/yellow.rt:39:1
 returns : tie.Need-returns Inv-loop μ-loop
 returns c = search (needs, passing-end)
 

@@ -2,10 +2,7 @@ use mathlib.Core.Path.{refl}
 use Rattle.exchange.specs.Slots.{withHere}
 use Rattle.exchange.proofs.slots.Slots.only.Statement.{statement}
 use Rattle.exchange.proofs.slots.Slots.only.Tie as tie
-use Rattle.exchange.proofs.slots.Slots.only.Reads as reads
-use Rattle.exchange.proofs.slots.Slots.only.Lts as lts
 
--- src/slots.rt:23:5
 returns : tie.Need-returns
 unfolding withHere
 returns c = refl
