@@ -1,27 +1,18 @@
 -- Whether some State of the slots passes a test.
 -- Assumes nothing.
 use Prim.Native.Nat.{ℕ, _+_, _-_, _≤_, _<_}
-use mathlib.Core.Path.{_≡_, refl, sym, ap, _∙_}
+use mathlib.Core.Path.{_≡_, sym, ap, _∙_}
 use mathlib.Core.Bool.{Bool, true, false, not}
-use mathlib.Core.List.{List, [], _∷_}
+use mathlib.Core.List.{List}
 use borrow.Author.Tests.{not-false}
 use Rattle.base.specs.Tests.{_or_, pick, pick-yes}
+use Rattle.base.specs.Branches.{or-assoc, or-false}
 use Rattle.base.specs.Lists.{any}
 use Rattle.base.specs.Sets.{inSet}
 use Rattle.format.specs.Types.{State}
 use Rattle.exchange.specs.declared.slots.Slots.{Slots}
 use Rattle.exchange.specs.Slots.{stateIn, statesFrom, statesOf}
 use Rattle.exchange.proofs.SlotLaws.{states-start, fold-again, fold-end}
-
-or-assoc : (a b c : Bool) → (a or b or c) ≡ ((a or b) or c)
-unfolding _or_
-or-assoc true b c = refl
-or-assoc false b c = refl
-
-or-false : (a : Bool) → (a or false) ≡ a
-unfolding _or_
-or-false true = refl
-or-false false = refl
 
 module _ (t : State → Bool) (v : Slots) (b : List ℕ) where
   pub any-start : any t (statesOf v b) ≡ (false or any t (statesFrom v b (v .servers - 0) 0))

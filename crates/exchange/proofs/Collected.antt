@@ -1,31 +1,26 @@
 -- The collected States of a state are those in the slots of the buffer that holds it.
 -- Assumes nothing.
-use Prim.Native.Nat.{ℕ, zero, suc, _+_, _*_, _≤_, _<_}
+use Prim.Native.Nat.{ℕ, zero, suc, _+_}
 use mathlib.Core.Path.{_≡_, refl, sym, ap, _∙_}
 use mathlib.Core.Bool.{Bool, true, false}
-use mathlib.Core.List.{List, [], _∷_}
+use mathlib.Core.List.{List, _∷_}
 use mathlib.Core.Option.{Option, none, some}
 use native.Mathlib.Omega.{arith}
-use lib.ListN.{length, drop}
+use lib.ListN.{drop}
 use Rattle.base.specs.Tests.{pick}
-use Rattle.base.specs.Bytes.{numberAt}
 use Rattle.base.specs.Lists.{present, atFront, sum}
-use Rattle.base.specs.Occurs.{Occurs}
 use Rattle.base.specs.Sets.{inSet}
-use Rattle.format.specs.Types.{State}
 use Rattle.format.specs.Read.{stateAt}
 use Rattle.replication.specs.Machine.Types.{Server}
 use Rattle.replication.specs.Machine.Step.{collected}
-use Rattle.engine.specs.Layout.{stateSize, theHeader, theStates, offset}
-use Rattle.engine.specs.Image.{senders, headerBytes, image, parts}
+use Rattle.engine.specs.Layout.{stateSize, theStates, offset}
+use Rattle.engine.specs.Image.{senders, image}
 use Rattle.engine.specs.Decode.{statesAt, decoded, decodedAs, serversIn, quotaIn}
-use Rattle.engine.proofs.InRange.{in-range}
-use Rattle.engine.proofs.Fit.{well-formed-fits}
-use Rattle.engine.proofs.HeaderRead.{HeaderRead, header-read}
-use Rattle.engine.proofs.Decoded.{image-part}
+use Rattle.engine.specs.Header.{headerOf, headerIn}
+use Rattle.engine.proofs.HeaderLaws.{header-loaded}
 use Rattle.engine.proofs.ImageLaws.{decoded-image}
 use Rattle.engine.proofs.InPlace.{Holds}
-use Rattle.exchange.specs.declared.slots.Slots.{Slots}
+use Rattle.exchange.specs.View.{slotsIn}
 use Rattle.exchange.specs.Slots.{slotsOf, slotAt, stateIn, statesFrom, statesOf}
 
 present-pick : {A : Type 0} (t : Bool) (x : A) (l : List (Option A)) → present (pick t (some x) none ∷ l) ≡ pick t (x ∷ present l) (present l)
@@ -42,24 +37,16 @@ present-states n q here b (suc m) k at e =
     present-pick (inSet k here) (stateAt n (drop at b)) (statesAt n q here m (k + 1) b (at + stateSize n q))
     ∙ rw (present-states n q here b m (k + 1) (at + stateSize n q) next, e)
 
-holds-decoded : (s : Server) (b : List ℕ) → Holds s b → decoded b ≡ s
-holds-decoded s b h = ap decoded (sym (h .written)) ∙ decoded-image s b (h .formed) (h .long)
-
-holds-header : (s : Server) (b : List ℕ) → Holds s b → HeaderRead s b
-unfolding offset parts sum
-holds-header s b h =
-    let o : Occurs (headerBytes s) (image s b) 0 = image-part s (well-formed-fits s (h .formed)) b (h .long) theHeader (omega arith) in
-    header-read s b (in-range s (h .formed)) (rw (h .written) at o)
-
 pub states-there : (s : Server) (b : List ℕ) → Holds s b
     → statesAt (s .servers) (s .quota) (senders 0 (s .membership .states)) (s .servers) 0 b (offset (s .servers) (s .quota) theStates) ≡ s .membership .states
-unfolding decoded decodedAs serversIn quotaIn
+unfolding decoded decodedAs serversIn quotaIn headerIn headerOf
 states-there s b h =
-    let r = holds-header s b h in
-    (λ i. statesAt (sym (r .servers) i) (sym (r .quota) i) (sym (r .states) i) (sym (r .servers) i) 0 b (offset (sym (r .servers) i) (sym (r .quota) i) theStates))
-    ∙ ap (λ (t : Server). t .membership .states) (holds-decoded s b h)
+    let e : headerOf s ≡ headerIn b = sym (header-loaded s b h) in
+    (λ i. statesAt (e i .servers) (e i .quota) (e i .states) (e i .servers) 0 b (offset (e i .servers) (e i .quota) theStates))
+    ∙ ap (λ (t : Server). t .membership .states) (ap decoded (sym (h .written)) ∙ decoded-image s b (h .formed) (h .long))
 
-pub collected-slots : (s : Server) (b : List ℕ) → Holds s b → collected s ≡ statesOf (slotsOf (s .servers) (s .quota) (senders 0 (s .membership .states))) b
-unfolding collected statesOf slotsOf slotAt
+-- The code's States are the machine's.
+pub collected-slots : (s : Server) (b : List ℕ) → Holds s b → statesOf (slotsIn s) b ≡ collected s
+unfolding collected statesOf slotsIn slotsOf slotAt
 collected-slots s b h =
-    ap present (sym (states-there s b h)) ∙ present-states (s .servers) (s .quota) (senders 0 (s .membership .states)) b (s .servers) 0 _ (omega arith)
+    sym (present-states (s .servers) (s .quota) (senders 0 (s .membership .states)) b (s .servers) 0 _ (omega arith)) ∙ ap present (states-there s b h)

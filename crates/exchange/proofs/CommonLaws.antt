@@ -1,12 +1,12 @@
 -- The ids common to the yellow lists that count.
 -- Assumes nothing.
 use Prim.Native.Nat.{ℕ, zero, suc, _+_, _*_, _-_, _≤_, _<_}
-use mathlib.Core.Path.{_≡_, refl, sym, ap, ap₂, subst, _∙_}
-use mathlib.Core.Bool.{Bool, true, false, not}
+use mathlib.Core.Path.{_≡_, refl, sym, ap, subst, _∙_}
+use mathlib.Core.Bool.{Bool, true}
 use mathlib.Core.List.{List, [], _∷_}
 use native.Mathlib.Omega.{arith}
-use lib.ListN.{length, getD, take, drop, replicate, length-replicate}
-use Rattle.base.specs.Tests.{_=?_, _and_, and-holds, pick, pick-as}
+use lib.ListN.{length, take, drop, replicate, length-replicate}
+use Rattle.base.specs.Tests.{_and_, and-holds, pick, pick-as}
 use Rattle.base.specs.Lists.{all, filter}
 use Rattle.base.specs.ListLaws.{Each, replicate-at}
 use Rattle.base.specs.Sets.{inSet}
@@ -29,7 +29,7 @@ use Rattle.exchange.specs.Table.{isKept, keptIds, Listed, raisedLists, L
 use Rattle.exchange.proofs.TableLaws.{table-decides}
 use Rattle.exchange.proofs.RaiseLaws.{ids-read, small}
 use Rattle.exchange.proofs.SlotLaws.{states-in, states-end}
-use Rattle.exchange.proofs.YellowLaws.{same-servers, same-here, voters-states}
+use Rattle.exchange.proofs.YellowLaws.{same-servers, voters-states}
 
 pub common-made : (c : FormatContext) (v : Slots) (b : List ℕ) (k at round r : ℕ) (t o : List ℕ) (x : StateHead)
     → x ≡ headOf v b k → at ≡ slotAt v k

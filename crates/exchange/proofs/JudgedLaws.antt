@@ -3,14 +3,13 @@
 use Prim.Native.Nat.{ℕ, zero, suc, _+_, _-_, _≤_, _<_}
 use mathlib.Core.Path.{_≡_, refl, sym, ap, _∙_}
 use mathlib.Core.Bool.{Bool, true, false, not}
-use mathlib.Core.List.{List, [], _∷_}
+use mathlib.Core.List.{List, _∷_}
 use native.Mathlib.Omega.{arith}
 use lib.Bits.{bitAnd}
 use lib.Dec.{eqb, ltb}
-use lib.ListN.{drop}
 use borrow.Author.Tests.{not-true, not-false}
 use Rattle.base.specs.Tests.{_and_, _or_, _=?_, _<?_, pick, pick-yes, pick-no, and-no, and-yes, both-yes, lt-yes, lt-no, eq-yes, eq-no, eq-holds, eq-fails, not-both, Known, known, holds, fails}
-use Rattle.base.specs.Branches.{told-eq, told-lt, and-answered, and-denied, and-true, and-false}
+use Rattle.base.specs.Branches.{told-eq, told-lt, and-answered, and-denied}
 use Rattle.base.specs.Lists.{any}
 use Rattle.base.specs.Sets.{inSet, inside}
 use Rattle.format.specs.Limits.{mostIndex}
@@ -22,7 +21,7 @@ use Rattle.record.specs.declared.StateHead.{StateHead}
 use Rattle.replication.specs.Machine.Types.{clearedMark}
 use Rattle.replication.specs.Machine.Exchange.{isMarked, ruleA, ruleB, ruleC, joinedBits, keptMark, judgedMark, markLeft, ownMark, majority, takenPrimary, takenAttempt, quorum}
 use Rattle.exchange.specs.declared.slots.Slots.{Slots}
-use Rattle.exchange.specs.Slots.{Room, slotAt, stateIn, statesFrom, statesOf, headOf}
+use Rattle.exchange.specs.Slots.{Room, stateIn, statesFrom, statesOf, headOf}
 use Rattle.exchange.specs.Marks.{withBits, isLeft}
 use Rattle.exchange.proofs.AnyLaws.{any-end, found-now}
 use Rattle.exchange.proofs.MarkLaws.{mark-read, sender-read}

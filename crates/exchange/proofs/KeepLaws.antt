@@ -1,29 +1,28 @@
 -- The ids that are kept, written by the code.
 -- Assumes nothing.
-use Prim.Native.Nat.{ℕ, zero, suc, _+_, _*_, _-_, _≤_, _<_}
-use mathlib.Core.Path.{_≡_, refl, sym, ap, ap₂, _∙_}
-use mathlib.Core.Bool.{Bool, true, false, not}
-use mathlib.Core.List.{List, [], _∷_, _++_, append-assoc, append-nil}
+use Prim.Native.Nat.{ℕ, _+_, _*_, _-_, _≤_, _<_}
+use mathlib.Core.Path.{_≡_, refl, sym, ap, _∙_}
+use mathlib.Core.Bool.{Bool, false}
+use mathlib.Core.List.{List, _∷_, _++_, append-assoc, append-nil}
 use native.Mathlib.Omega.{arith}
 use lib.Dec.{eqb}
-use lib.ListN.{length, getD, take, length-append, length-take}
-use borrow.Author.Tests.{not-true, not-false}
+use lib.ListN.{length, getD, take, length-take}
 use Rattle.base.specs.Tests.{_=?_, _and_, pick, pick-yes, pick-no, and-no, and-yes, Known, known, holds, fails}
 use Rattle.base.specs.Branches.{told-eq}
-use Rattle.base.specs.Bytes.{bytesOf, joined, numberAt}
-use Rattle.base.specs.BytesLaws.{bytes-length}
+use Rattle.base.specs.Bytes.{joined, numberAt}
 use Rattle.base.specs.Lists.{filter}
+use Rattle.base.specs.Filters.{filter-yes, filter-no}
 use Rattle.base.specs.Patched.{patched, patched-until, patched-length}
-use Rattle.format.specs.Types.{Id, Context as FormatContext}
-use Rattle.format.specs.Range.{idOk}
+use Rattle.format.specs.Types.{Id}
 use Rattle.format.specs.Read.{idAt, idsAt}
 use Rattle.format.specs.Write.{idBytes, idsBytes}
 use Rattle.format.proofs.Lengths.{id-length, ids-length}
+use Rattle.format.proofs.Writing.{ids-more}
 use Rattle.record.specs.Context.{contextOf, ContextIn}
-use Rattle.record.specs.Values.{idOf, slot, placeOf}
+use Rattle.record.specs.Values.{idOf, placeOf}
 use Rattle.record.specs.declared.Context.{Context}
 use Rattle.exchange.specs.Table.{isKept, Listed}
-use Rattle.exchange.proofs.RaiseLaws.{place-out, place-in, small, ids-more}
+use Rattle.exchange.proofs.RaiseLaws.{place-out, place-in, small}
 
 pub kept-out : (c : Context) (r p : ℕ) (t : List ℕ) (d : Id) → ContextIn c → p ≡ placeOf (contextOf c) d → 2048 ≤ p → false ≡ isKept (contextOf c) r t d
 unfolding isKept
@@ -57,14 +56,6 @@ kept-start t e at count o h =
     let a : count ≡ count - 0 = omega arith in
     let b : at ≡ at + 3 * 0 = omega arith in
     record { low = omega arith; most = omega arith; room = h; size = refl; ids = λ i. idsBytes (filter t (idsAt (a i) e (b i))) }
-
-filter-yes : (t : Id → Bool) (d : Id) (ds : List Id) → t d ≡ true → filter t (d ∷ ds) ≡ d ∷ filter t ds
-unfolding filter
-filter-yes t d ds h = sym (pick-yes _ _ _ _ h refl)
-
-filter-no : (t : Id → Bool) (d : Id) (ds : List Id) → t d ≡ false → filter t (d ∷ ds) ≡ filter t ds
-unfolding filter
-filter-no t d ds h = sym (pick-no _ _ _ _ h refl)
 
 one-more : (d : Id) (w : ℕ) (o : List ℕ) → 3 * w + 3 ≤ length o → take (3 * (w + 1)) (patched (3 * w) (idBytes d) o) ≡ take (3 * w) o ++ idBytes d
 one-more d w o h =

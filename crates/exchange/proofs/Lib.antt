@@ -15,3 +15,5 @@ pub mod RaiseLaws
 pub mod KeepLaws
 pub mod CommonLaws
 pub mod ListLaws
+pub mod ViewLaws
+pub mod DecidedLaws

@@ -3,17 +3,15 @@
 use Prim.Native.Nat.{ℕ, _+_, _-_, _≤_, _<_}
 use mathlib.Core.Path.{_≡_, refl, sym, ap, ap₂, _∙_}
 use mathlib.Core.Bool.{Bool, true, false, not}
-use mathlib.Core.List.{List, [], _∷_}
-use native.Mathlib.Omega.{arith}
+use mathlib.Core.List.{List, _∷_}
 use lib.Bits.{bitOr}
 use lib.Dec.{eqb}
-use lib.ListN.{drop}
 use borrow.Author.Tests.{not-true, not-false}
-use Rattle.base.specs.Tests.{_and_, _or_, _=?_, _<?_, pick, pick-yes, pick-no, and-no, and-yes, lt-yes, lt-no, eq-yes, eq-no, not-both, Known, known, holds, fails}
+use Rattle.base.specs.Tests.{_or_, _=?_, pick, pick-yes, pick-no, and-no, and-yes, lt-yes, lt-no, eq-yes, eq-no, not-both}
 use Rattle.base.specs.Branches.{told-eq, and-answered, and-denied}
 use Rattle.base.specs.Lists.{any, filter}
 use Rattle.base.specs.Sets.{inSet, withMember, union}
-use Rattle.format.specs.Types.{State, Primary, Mark as FormatMark}
+use Rattle.format.specs.Types.{State, Mark as FormatMark}
 use Rattle.record.specs.Values.{componentOf, primaryOf, markOf, stateOf}
 use Rattle.record.specs.declared.LastPrimary.{LastPrimary}
 use Rattle.record.specs.declared.Mark.{Mark}
@@ -21,7 +19,7 @@ use Rattle.record.specs.declared.StateHead.{StateHead}
 use Rattle.replication.specs.Machine.Types.{clearedMark}
 use Rattle.replication.specs.Machine.Exchange.{isMarked, sameAttempt, ruleA, ruleB, alike, joinBits, joinedBits}
 use Rattle.exchange.specs.declared.slots.Slots.{Slots}
-use Rattle.exchange.specs.Slots.{Room, slotAt, stateIn, statesFrom, statesOf, headOf}
+use Rattle.exchange.specs.Slots.{Room, stateIn, statesFrom, statesOf, headOf}
 use Rattle.exchange.specs.Marks.{against, likewise}
 use Rattle.exchange.proofs.SlotLaws.{states-start, fold-again, fold-end}
 use Rattle.exchange.proofs.ReadLaws.{state-stands}

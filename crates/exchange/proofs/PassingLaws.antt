@@ -3,36 +3,19 @@
 use Prim.Native.Nat.{ℕ, zero, suc, _+_, _≤_, _<_}
 use mathlib.Core.Path.{_≡_, refl, sym, ap, ap₂, _∙_}
 use mathlib.Core.Bool.{Bool, true, false, not}
-use mathlib.Core.List.{List, [], _∷_}
+use mathlib.Core.List.{List, _∷_}
 use native.Mathlib.Omega.{arith}
 use native.Mathlib.Numerals.{add-one}
-use Rattle.base.specs.Tests.{_and_, _or_, _=?_, pick, pick-yes, pick-no, Known, known, holds, fails, and-holds, eq-yes, eq-no, eq-holds, eq-fails}
+use Rattle.base.specs.Tests.{_and_, _=?_, pick, pick-yes, pick-no, Known, known, holds, fails, and-holds, eq-holds, eq-fails}
 use borrow.Author.Tests.{not-true, not-false}
 use Rattle.base.specs.Branches.{and-answered, and-denied}
 use Rattle.base.specs.Lists.{filter}
 use Rattle.base.specs.Sets.{inSet, withMember}
-use Rattle.base.specs.SetLaws.{in-empty, in-with-member}
+use Rattle.base.specs.SetLaws.{in-empty, member-other, member-same}
 use Rattle.format.specs.Types.{State}
 use Rattle.exchange.specs.declared.slots.Slots.{Slots}
 use Rattle.exchange.specs.Slots.{Room, withHere, slotAt, stateIn, statesFrom, statesOf}
 use Rattle.exchange.specs.Passing.{Passing}
-
--- ---- sets
-
-or-false : (x : Bool) → (x or false) ≡ x
-unfolding _or_
-or-false true = refl
-or-false false = refl
-
-member-other : (u : Bool) (j k s : ℕ) → (j ≡ k → ⊥) → inSet j (pick u (withMember k s) s) ≡ inSet j s
-unfolding pick
-member-other true j k s h = in-with-member j k s ∙ ap (λ (x : Bool). inSet j s or x) (eq-no j k h) ∙ or-false (inSet j s)
-member-other false j k s h = refl
-
-member-same : (u : Bool) (k s : ℕ) → inSet k s ≡ false → inSet k (pick u (withMember k s) s) ≡ u
-unfolding pick _or_
-member-same true k s h = in-with-member k k s ∙ ap₂ {A = Bool} {B = Bool} {C = Bool} (λ x y. x or y) h (eq-yes k k refl)
-member-same false k s h = h
 
 -- ---- the set made
 

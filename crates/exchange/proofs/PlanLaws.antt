@@ -3,7 +3,7 @@
 use Prim.Native.Nat.{ℕ, _+_, _-_, _≤_, _<_, max, min}
 use mathlib.Core.Path.{_≡_, refl, sym, ap, _∙_}
 use mathlib.Core.Bool.{Bool, true, false, not}
-use mathlib.Core.List.{List, [], _∷_}
+use mathlib.Core.List.{List}
 use native.Mathlib.Omega.{arith}
 use borrow.Author.Tests.{not-true, not-false}
 use Rattle.base.specs.Tests.{pick, pick-yes, pick-no}
@@ -11,8 +11,8 @@ use Rattle.base.specs.Sets.{inSet}
 use Rattle.format.specs.Types.{State}
 use Rattle.replication.specs.Machine.Plan.{highest, lowestFrom, lowest}
 use Rattle.exchange.specs.declared.slots.Slots.{Slots}
-use Rattle.exchange.specs.Slots.{Room, First, stateIn, statesFrom, statesOf}
-use Rattle.exchange.proofs.SlotLaws.{states-start, states-in, states-out, states-end, fold-again, fold-end}
+use Rattle.exchange.specs.Slots.{First, stateIn, statesFrom, statesOf}
+use Rattle.exchange.proofs.SlotLaws.{states-start, states-in, states-end, fold-again, fold-end}
 
 -- ---- the highest
 

@@ -1,17 +1,16 @@
 -- The taken primary, its group and the attempt, computed from the slots.
 -- Assumes nothing.
 use Prim.Native.Nat.{ℕ, _+_, _-_, _*_, _≤_, _<_}
-use mathlib.Core.Path.{_≡_, refl, sym, ap, ap₂, _∙_}
+use mathlib.Core.Path.{_≡_, refl, sym, ap, _∙_}
 use mathlib.Core.Bool.{Bool, true, false, not}
-use mathlib.Core.List.{List, [], _∷_}
+use mathlib.Core.List.{List}
 use native.Mathlib.Omega.{arith}
 use lib.Bits.{bitAnd, and-le-l}
 use lib.Count.{ones, ones-le}
 use lib.Dec.{eqb, ltb}
-use lib.ListN.{drop}
-use borrow.Author.Tests.{not-true, not-false}
-use Rattle.base.specs.Tests.{_and_, _or_, _=?_, _<?_, pick, pick-yes, pick-no, and-no, and-yes, lt-yes, lt-no, eq-yes, eq-no, not-both}
-use Rattle.base.specs.Branches.{told-eq, told-lt}
+use borrow.Author.Tests.{not-false}
+use Rattle.base.specs.Tests.{_<?_, _and_, _=?_, pick, pick-yes, pick-no, and-no, and-yes, lt-yes, lt-no, eq-yes, eq-no}
+use Rattle.base.specs.Branches.{told-eq, told-lt, or-yes, or-no}
 use Rattle.base.specs.Lists.{filter}
 use Rattle.base.specs.Sets.{inSet, size, common}
 use Rattle.format.specs.Types.{State, Primary}
@@ -22,7 +21,7 @@ use Rattle.replication.specs.Machine.Plan.{highest}
 use Rattle.replication.specs.Machine.Exchange.{later, latest, takenPrimary, samePair, updatedGroup, takenAttempt, majority}
 use Rattle.exchange.specs.declared.slots.Slots.{Slots}
 use Rattle.exchange.specs.declared.plan.Number.the-variants.{Attempt}
-use Rattle.exchange.specs.Slots.{Room, First, withHere, slotAt, stateIn, statesFrom, statesOf, headOf}
+use Rattle.exchange.specs.Slots.{Room, First, withHere, stateIn, statesFrom, statesOf, headOf}
 use Rattle.exchange.specs.Numbers.{numberIn}
 use Rattle.exchange.specs.Passing.{Passing}
 use Rattle.exchange.proofs.SlotLaws.{states-in, states-end, fold-again, fold-end}
@@ -36,20 +35,7 @@ chosen-yes t u x y e h = pick-yes t x x y (sym e ∙ h) refl
 pub chosen-no : {A : Type 0} (t u : Bool) (x y : A) → u ≡ t → u ≡ false → y ≡ pick t x y
 chosen-no t u x y e h = pick-no t y x y (sym e ∙ h) refl
 
-pub left-out : {A : Type 0} (t u : Bool) (x y : A) → u ≡ t → not u ≡ true → y ≡ pick t x y
-left-out t u x y e h = pick-no t y x y (sym e ∙ not-true u h) refl
-
 -- ---- the later one
-
-or-no : (t u r : Bool) → t ≡ false → r ≡ u → r ≡ (t or u)
-unfolding _or_
-or-no false u r h e = e
-or-no true u r h e = not-both (sym h)
-
-or-yes : (t u : Bool) → t ≡ true → true ≡ (t or u)
-unfolding _or_
-or-yes true u h = refl
-or-yes false u h = not-both h
 
 pub later-index : (p r : LastPrimary) → p .index .0 < r .index .0 → true ≡ later (primaryOf p) (primaryOf r)
 unfolding later primaryOf componentOf
@@ -57,7 +43,7 @@ later-index p r h = or-yes _ _ (lt-yes (p .index .0) (r .index .0) h)
 
 pub later-not : (p r : LastPrimary) → r .index .0 ≤ p .index .0 → (p .index .0 ≡ r .index .0 → ⊥) → false ≡ later (primaryOf p) (primaryOf r)
 unfolding later primaryOf componentOf
-later-not p r h n = or-no _ _ false (lt-no (p .index .0) (r .index .0) h) (and-no _ _ (eq-no (p .index .0) (r .index .0) n))
+later-not p r h n = or-no false _ _ (lt-no (p .index .0) (r .index .0) h) (and-no _ _ (eq-no (p .index .0) (r .index .0) n))
 
 pub later-attempt : (p r : LastPrimary) → r .index .0 ≤ p .index .0 → p .index .0 ≡ r .index .0 → ltb (p .attempt .0) (r .attempt .0) ≡ later (primaryOf p) (primaryOf r)
 unfolding later primaryOf componentOf

@@ -1,27 +1,28 @@
 -- The table, raised by the code.
 -- Assumes nothing.
-use Prim.Native.Nat.{ℕ, zero, suc, _+_, _*_, _-_, _≤_, _<_}
-use mathlib.Core.Path.{_≡_, refl, sym, ap, ap₂, _∙_}
+use Prim.Native.Nat.{ℕ, _+_, _*_, _-_, _≤_, _<_}
+use mathlib.Core.Path.{_≡_, refl, sym, ap, _∙_}
 use mathlib.Core.Bool.{Bool, true, false, not}
 use mathlib.Core.List.{List, [], _∷_}
 use native.Mathlib.Omega.{arith}
 use lib.ListN.{length, getD, take, drop, set, length-drop}
 use lib.Seq.{take-all}
-use Rattle.base.specs.Tests.{_=?_, _and_, pick, pick-yes, pick-no, both-yes, and-no, eq-yes, eq-no, Known, known, holds, fails}
-use borrow.Author.Tests.{not-true, not-false}
-use Rattle.base.specs.Bytes.{numberAt}
+use Rattle.base.specs.Tests.{_and_, pick, pick-yes, pick-no, both-yes, and-no, eq-yes, eq-no, Known, known, holds, fails}
+use borrow.Author.Tests.{not-false}
+use Rattle.base.specs.Branches.{and-false}
 use Rattle.base.specs.Sets.{inSet}
 use Rattle.format.specs.Types.{Id, State, Context as FormatContext}
 use Rattle.format.specs.Range.{idOk}
 use Rattle.format.specs.Read.{idAt, idsAt}
 use Rattle.format.proofs.Ranges.{id-range}
+use Rattle.format.proofs.Writing.{ids-number, ids-more}
 use Rattle.record.specs.Context.{contextOf, ContextIn}
 use Rattle.record.specs.Values.{slot, placeOf, stateOf}
 use Rattle.record.specs.declared.Context.{Context}
 use Rattle.record.specs.declared.StateHead.{StateHead}
 use Rattle.record.proofs.OnePass.{Small, slot-lt}
 use Rattle.exchange.specs.declared.slots.Slots.{Slots}
-use Rattle.exchange.specs.Slots.{Room, slotAt, stateIn, statesFrom, headOf}
+use Rattle.exchange.specs.Slots.{slotAt, stateIn, statesFrom, headOf}
 use Rattle.exchange.specs.Table.{raised, raisedAll, raisedLists, ListInside, ListsInside}
 use Rattle.exchange.proofs.SlotLaws.{states-in, states-out, states-end}
 use Rattle.exchange.proofs.ReadLaws.{state-stands}
@@ -46,11 +47,6 @@ place-in c x p (fails e) f g =
     let b : p ≡ 2048 = f ∙ sym (pick-no (idOk c x) _ _ _ e refl) in
     absurd (omega arith)
 
-and-false : (a : Bool) → (a and false) ≡ false
-unfolding _and_
-and-false true = refl
-and-false false = refl
-
 -- ---- one id
 
 pub raise-out : (c : Context) (r p : ℕ) (t : List ℕ) (d : Id) → ContextIn c → p ≡ placeOf (contextOf c) d → 2048 ≤ p → t ≡ raised (contextOf c) r t d
@@ -62,7 +58,7 @@ unfolding raised
 raise-other c r p t d e h n =
     let z = place-in (contextOf c) d p (known _) e h in
     let m : getD t (slot d) 0 ≡ r → ⊥ = λ y. n (ap (λ (i : ℕ). getD t i 0) (z .1) ∙ y) in
-    pick-no _ _ _ _ (ap (λ (u : Bool). idOk (contextOf c) d and u) (eq-no _ _ m) ∙ and-false (idOk (contextOf c) d)) refl
+    pick-no _ _ _ _ (ap (λ (u : Bool). idOk (contextOf c) d and u) (eq-no _ _ m) ∙ sym (and-false (idOk (contextOf c) d))) refl
 
 pub raise-here : (c : Context) (r p : ℕ) (t : List ℕ) (d : Id) → p ≡ placeOf (contextOf c) d → p < 2048 → getD t p 0 ≡ r → set t p (r + 1) ≡ raised (contextOf c) r t d
 unfolding raised
@@ -71,13 +67,6 @@ raise-here c r p t d e h n =
     pick-yes _ _ _ _ (both-yes _ _ (z .0) (eq-yes _ _ (ap (λ (i : ℕ). getD t i 0) (sym (z .1)) ∙ n))) (ap (λ (i : ℕ). set t i (r + 1)) (z .1))
 
 -- ---- one list
-
-pub ids-more : (e : List ℕ) (at k m : ℕ) → k < m → idsAt (m - k) e (at + 3 * k) ≡ idAt e (at + 3 * k) ∷ idsAt (m - (k + 1)) e (at + 3 * (k + 1))
-unfolding idsAt
-ids-more e at k m h =
-    let a : m - k ≡ suc (m - (k + 1)) = omega arith in
-    let b : at + 3 * (k + 1) ≡ at + 3 * k + 3 = omega arith in
-    ap (λ (i : ℕ). idsAt i e (at + 3 * k)) a ∙ rw b
 
 pub list-start : (c : FormatContext) (r : ℕ) (t e : List ℕ) (at m : ℕ) → raisedAll c r t (idsAt m e at) ≡ raisedAll c r t (idsAt (m - 0) e (at + 3 * 0))
 list-start c r t e at m =
@@ -96,11 +85,6 @@ unfolding raisedAll idsAt
 list-end c r t w e at k m h j = let a : m - k ≡ 0 = omega arith in sym (j ∙ ap (λ (i : ℕ). raisedAll c r t (idsAt i e (at + 3 * k))) a)
 
 -- ---- the list of a slot
-
-ids-length : (m : ℕ) (e : List ℕ) (at : ℕ) → length (idsAt m e at) ≡ m
-unfolding idsAt
-ids-length zero e at = refl
-ids-length (suc m) e at = ap suc (ids-length m e (at + 3))
 
 rest-whole : (b : List ℕ) (at : ℕ) → take (length b - at) (drop at b) ≡ drop at b
 rest-whole b at = take-all (length b - at) (drop at b) (omega (arith, length-drop at b))
@@ -121,7 +105,7 @@ pub slot-list-inside : (v : Slots) (b : List ℕ) (k at : ℕ) (x : StateHead) �
     → 40 + 2 * v .servers + 3 * x .«yellow_count» ≤ length (take (length b - at) (drop at b))
 unfolding ListInside
 slot-list-inside v b k at x h e i =
-    let n : length (stateIn v b k .yellow .ids) ≡ x .«yellow_count» = ap length (sym (ids-read v b k at x h e)) ∙ ids-length (x .«yellow_count») _ (40 + 2 * v .servers) in
+    let n : length (stateIn v b k .yellow .ids) ≡ x .«yellow_count» = ap length (sym (ids-read v b k at x h e)) ∙ ids-number (x .«yellow_count») _ (40 + 2 * v .servers) in
     omega (arith, i, n, e, ap length (rest-whole b at), length-drop at b)
 
 pub raised-still : (c : FormatContext) (r : ℕ) (t u : List ℕ) (d : Id) → length t ≡ 2048 → u ≡ raised c r t d → length u ≡ 2048
@@ -132,12 +116,6 @@ raised-still c r t u d h e = ap length e ∙ raised-length c r t d ∙ h
 pub list-of : (v : Slots) (b : List ℕ) (k : ℕ) (u : Bool) → ListsInside v b → k < v .servers → u ≡ inSet k (v .here) → not u ≡ false → ListInside v b k
 unfolding ListsInside
 list-of v b k u f h e n = f k h (sym e ∙ not-false u n)
-
-pub turn-self : {A : Type 0} (t u : Bool) (x y : A) → u ≡ t → not u ≡ false → x ≡ pick t x y
-turn-self t u x y e n = pick-yes t x x y (sym e ∙ not-false u n) refl
-
-pub turn-in : {A : Type 0} (t u : Bool) (x y z : A) → u ≡ t → not u ≡ false → z ≡ x → z ≡ pick t x y
-turn-in t u x y z e n i = pick-yes t z x y (sym e ∙ not-false u n) i
 
 turn-most : (t : Bool) (r q k : ℕ) → q ≡ pick t (r + 1) r → r ≤ k → q ≤ k + 1
 unfolding pick
@@ -214,5 +192,5 @@ table-still c t u ys h e = ap length e ∙ raised-lists-length c 0 t ys ∙ h
 pub list-short : (v : Slots) (b : List ℕ) (k n : ℕ) (x : StateHead) → x ≡ headOf v b k → 3 * length (stateIn v b k .yellow .ids) ≤ n
     → 3 * x .«yellow_count» ≤ n
 list-short v b k n x h l =
-    let m : length (stateIn v b k .yellow .ids) ≡ x .«yellow_count» = ap length (sym (ids-read v b k (slotAt v k) x h refl)) ∙ ids-length (x .«yellow_count») _ (40 + 2 * v .servers) in
+    let m : length (stateIn v b k .yellow .ids) ≡ x .«yellow_count» = ap length (sym (ids-read v b k (slotAt v k) x h refl)) ∙ ids-number (x .«yellow_count») _ (40 + 2 * v .servers) in
     omega arith

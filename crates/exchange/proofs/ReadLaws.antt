@@ -1,17 +1,13 @@
 -- The numbers of a State, read from its slot.
 -- Assumes nothing.
-use Prim.Native.Nat.{ℕ, zero, suc, _+_, _*_, _-_, _<_, _≤_}
+use Prim.Native.Nat.{ℕ, _+_, _*_, _-_, _<_, _≤_}
 use mathlib.Core.Path.{_≡_, refl, sym, ap, _∙_}
-use mathlib.Core.Bool.{Bool, true, false}
-use mathlib.Core.List.{List, [], _∷_}
-use native.Mathlib.Nat.{add-zero}
+use mathlib.Core.List.{List}
 use native.Mathlib.Omega.{arith}
-use lib.ListN.{length, getD, take, drop, length-drop}
-use lib.Seq.{getD-drop, take-all}
-use Rattle.base.specs.Bytes.{numberAt, numbersAt}
-use Rattle.base.specs.BytesLaws.{number2}
-use Rattle.base.specs.Sets.{inSet}
-use Rattle.base.specs.Tests.{pick}
+use lib.ListN.{length, take, drop, length-drop}
+use lib.Seq.{take-all}
+use Rattle.base.specs.Bytes.{numberAt}
+use Rattle.base.specs.BytesLaws.{numbers-at, number-drop}
 use Rattle.format.specs.Types.{State}
 use Rattle.format.specs.Read.{stateAt}
 use Rattle.record.specs.Events.{headIn, stateFrom}
@@ -45,21 +41,6 @@ unfolding headOf stateIn stateFrom
 state-stands v b k x h = rw h (state-is (v .servers) (drop (slotAt v k) b))
 
 -- ---- numbers
-
-numbers-at : (w m : ℕ) (e : List ℕ) (at c : ℕ) → c < m → getD (numbersAt w m e at) c 0 ≡ numberAt w e (at + w * c)
-unfolding numbersAt
-numbers-at w zero e at c h = absurd (omega arith)
-numbers-at w (suc m) e at zero h = let z : at + w * 0 ≡ at = omega arith in rw z
-numbers-at w (suc m) e at (suc c) h =
-    let z : at + w + w * c ≡ at + w * suc c = omega arith in
-    numbers-at w m e (at + w) c (omega arith) ∙ ap (numberAt w e) z
-
-pub number-drop : (w : ℕ) (b : List ℕ) (p at : ℕ) → numberAt w (drop p b) at ≡ numberAt w b (p + at)
-unfolding numberAt
-number-drop zero b p at = refl
-number-drop (suc w) b p at =
-    let z : p + (at + w) ≡ p + at + w = omega arith in
-    rw (number-drop w b p at, getD-drop p b (at + w) 0, z)
 
 pub cut-read : (v : Slots) (b : List ℕ) (k c at x : ℕ) → c < v .servers → at ≡ slotAt v k → x ≡ numberAt 2 b (at + 9 + 2 * c) → x ≡ cutIn c (stateIn v b k)
 unfolding cutIn stateIn stateAt

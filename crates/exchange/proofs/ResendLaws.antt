@@ -1,19 +1,20 @@
 -- Who resends, and how many are planned.
 -- Assumes nothing.
-use Prim.Native.Nat.{ℕ, zero, suc, _+_, _-_, _*_, _≤_, _<_}
+use Prim.Native.Nat.{ℕ, _+_, _-_, _≤_, _<_}
 use mathlib.Core.Path.{_≡_, refl, sym, ap, ap₂, _∙_}
 use mathlib.Core.Bool.{Bool, true, false, not}
-use mathlib.Core.List.{List, [], _∷_, _++_, map}
-use mathlib.Core.Option.{Option, none, some}
+use mathlib.Core.List.{List, [], _∷_, _++_, map, map-append}
+use mathlib.Core.Option.{some}
 use native.Mathlib.Omega.{arith}
 use native.Mathlib.Numerals.{add-one}
 use lib.Dec.{eqb}
 use lib.ListN.{length}
-use Rattle.base.specs.Tests.{_and_, _=?_, pick, pick-yes, pick-no, and-holds, not-both, Known, known, holds, fails}
+use Rattle.base.specs.Tests.{_and_, _=?_, pick-yes, pick-no, and-holds, not-both, Known, known, holds, fails}
 use Rattle.base.specs.Branches.{told-eq, and-answered}
 use Rattle.base.specs.Sets.{inSet}
-use Rattle.base.specs.Lists.{sum, below, above}
+use Rattle.base.specs.Lists.{sum, below}
 use Rattle.base.specs.ListLaws.{above-length}
+use Rattle.base.specs.Totals.{sum-append}
 use Rattle.format.specs.Types.{State}
 use Rattle.replication.specs.Machine.Plan.{highest, lowest, firstWith, resender, missing, planned, isMe, greenIn, cutIn}
 use Rattle.exchange.specs.declared.slots.Slots.{Slots}
@@ -78,15 +79,6 @@ missing-none f xs low high e i h = omega (arith, above-length (lowest f xs) (hig
 pub missing-some : (f : State → ℕ) (xs : List State) (low high : ℕ) → low ≡ lowest f xs → high ≡ highest f xs → low < high → high - low ≡ length (missing f xs)
 unfolding missing
 missing-some f xs low high e i h = omega (arith, above-length (lowest f xs) (highest f xs))
-
-sum-append : (xs ys : List ℕ) → sum (xs ++ ys) ≡ sum xs + sum ys
-unfolding sum
-sum-append [] ys = omega arith
-sum-append (x ∷ xs) ys = omega (arith, sum-append xs ys)
-
-map-append : {A B : Type 0} (g : A → B) (xs ys : List A) → map g (xs ++ ys) ≡ map g xs ++ map g ys
-map-append g [] ys = refl
-map-append g (x ∷ xs) ys = ap (λ l. g x ∷ l) (map-append g xs ys)
 
 pub planned-start : (xs : List State) (x : ℕ) → x ≡ length (missing (numberIn Green) xs) → x ≡ planned 0 xs
 unfolding planned numberIn greenIn below sum

@@ -1,36 +1,34 @@
 -- Where a buffer holds a state, its slots have room.
 -- Assumes nothing.
-use Prim.Native.Nat.{ℕ, zero, suc, _+_, _*_, _^_, _≤_, _<_}
+use Prim.Native.Nat.{ℕ, zero, suc, _+_, _*_, _^_, _<_}
 use mathlib.Core.Path.{_≡_, refl, sym, ap, _∙_}
 use mathlib.Core.Bool.{Bool, true, false, not}
 use mathlib.Core.List.{List, [], _∷_}
 use mathlib.Core.Option.{Option, none, some}
-use native.Mathlib.Nat.{zero-add, add-zero, mul-le-mul, one-le-pow}
+use native.Mathlib.Nat.{zero-add, add-zero, one-le-pow}
 use native.Mathlib.Omega.{arith}
 use lib.Bits.{bitAnd}
 use lib.Dec.{eqb}
 use lib.ListN.{length, getD, drop}
-use mir.Syntax.{w64}
-use mir.Val.{Fits}
-use Rattle.base.specs.Tests.{_=?_, _and_, _or_, pick, pick-yes, and-holds, both-yes, not-both, Known, known, holds, fails}
-use Rattle.base.specs.Branches.{told-eq}
+use Rattle.base.specs.Tests.{_or_, pick, pick-yes, and-holds, both-yes, not-both, holds}
+use Rattle.base.specs.Branches.{told-eq, same-truth}
 use Rattle.base.specs.Lists.{isThere, sum}
 use Rattle.base.specs.Sets.{inSet, inside}
 use Rattle.base.specs.SetLaws.{members-inside, inside-member}
-use Rattle.format.specs.Limits.{mostServers, mostQuota}
 use Rattle.format.specs.Types.{State}
 use Rattle.format.specs.Read.{stateAt}
 use Rattle.replication.specs.Machine.Types.{Configuration, Server, contextOf}
 use Rattle.replication.specs.Machine.Step.{theSet, allFrom, allStatesIn, hereSet}
 use Rattle.replication.specs.Machine.WellFormed.{wellFormed}
 use Rattle.replication.proofs.WellFormed.Facts.{well-formed-facts}
-use Rattle.engine.specs.Layout.{SizesIn, stateSize, sections, stateLength, theStates, offset}
+use Rattle.engine.specs.Layout.{stateSize, sections, stateLength, theStates, offset}
 use Rattle.engine.specs.Image.{senders}
 use Rattle.engine.specs.Decode.{statesAt}
 use Rattle.engine.proofs.InRange.{in-range}
 use Rattle.engine.proofs.Slots.{in-senders}
 use Rattle.engine.proofs.InPlace.{Holds}
 use Rattle.exchange.specs.declared.slots.Slots.{Slots}
+use Rattle.exchange.specs.View.{slotsIn}
 use Rattle.exchange.specs.Slots.{Room, slotsOf, slotAt, stateIn}
 use Rattle.exchange.proofs.Collected.{states-there}
 
@@ -50,16 +48,16 @@ states-at n q here b (suc m) k at (suc j) h =
 
 -- The State that is in at the place k.
 pub state-there : (s : Server) (b : List ℕ) → Holds s b → (k : ℕ) → k < s .servers → inSet k (senders 0 (s .membership .states)) ≡ true
-    → getD (s .membership .states) k none ≡ some (stateIn (slotsOf (s .servers) (s .quota) (senders 0 (s .membership .states))) b k)
-unfolding stateIn slotsOf slotAt
+    → getD (s .membership .states) k none ≡ some (stateIn (slotsIn s) b k)
+unfolding slotsIn stateIn slotsOf slotAt
 state-there s b h k l t =
     let z : inSet (0 + k) (senders 0 (s .membership .states)) ≡ true = ap (λ (n : ℕ). inSet n (senders 0 (s .membership .states))) (zero-add k) ∙ t in
     ap (λ (xs : List (Option State)). getD xs k none) (sym (states-there s b h))
     ∙ states-at (s .servers) (s .quota) (senders 0 (s .membership .states)) b (s .servers) 0 (offset (s .servers) (s .quota) theStates) k l
     ∙ sym (pick-yes (inSet (0 + k) (senders 0 (s .membership .states))) _ _ _ z refl)
 
-pub holds-room : (s : Server) (b : List ℕ) → Holds s b → Room (slotsOf (s .servers) (s .quota) (senders 0 (s .membership .states))) b
-unfolding slotsOf stateSize offset sections sum stateLength contextOf
+pub holds-room : (s : Server) (b : List ℕ) → Holds s b → Room (slotsIn s) b
+unfolding slotsIn slotsOf stateSize offset sections sum stateLength contextOf
 holds-room s b h =
     record {
       space = record { servers = in-range s (h .formed) .context .sizes .most; long = omega arith; inside = omega (arith, h .long) };
@@ -103,11 +101,6 @@ there-all here k (x ∷ xs) h zero l e = or-holds _ _ (and-holds _ _ h .0) (ap (
 there-all here k (x ∷ xs) h (suc j) l e =
     let z : k + 1 + j ≡ k + suc j = omega arith in
     there-all here (k + 1) xs (and-holds _ _ h .1) j (omega arith) (ap (λ (m : ℕ). inSet m here) z ∙ e)
-
-same-truth : (a c : Bool) → (a ≡ true → c ≡ true) → (c ≡ true → a ≡ true) → a ≡ c
-same-truth true c f g = sym (f refl)
-same-truth false true f g = g refl
-same-truth false false f g = refl
 
 in-senders-at : (xs : List (Option State)) (j : ℕ) → inSet j (senders 0 xs) ≡ isThere (getD xs j none)
 in-senders-at xs j = ap (λ (m : ℕ). inSet m (senders 0 xs)) (sym (zero-add j)) ∙ in-senders 0 xs j

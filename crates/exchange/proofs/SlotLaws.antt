@@ -1,12 +1,12 @@
 -- A turn of a loop over the slots takes one State, or none, off the front of those that are left.
 -- Assumes nothing.
-use Prim.Native.Nat.{ℕ, zero, suc, _+_, _*_, _-_, _≤_, _<_, _^_, _%_}
+use Prim.Native.Nat.{ℕ, suc, _+_, _*_, _-_, _≤_, _<_, _^_, _%_}
 use mathlib.Core.Path.{_≡_, refl, sym, ap, _∙_}
 use mathlib.Core.Bool.{Bool, true, false}
 use mathlib.Core.List.{List, [], _∷_}
-use native.Mathlib.Nat.{mul-le-mul-right, mod-eq-of-lt}
+use native.Mathlib.Nat.{mul-le-mul-right}
 use native.Mathlib.Omega.{arith}
-use lib.ListN.{length, drop}
+use lib.ListN.{length}
 use Rattle.base.specs.Tests.{pick, pick-yes, pick-no, Known, known, holds, fails}
 use lib.Bits.{bitOr}
 use Rattle.base.specs.Sets.{inSet, withMember}
@@ -15,7 +15,7 @@ use mir.Syntax.{w8}
 use mir.Val.{Fits}
 use Rattle.format.specs.Types.{State}
 use Rattle.exchange.specs.declared.slots.Slots.{Slots}
-use Rattle.exchange.specs.Slots.{Space, First, slotAt, stateIn, statesFrom, statesOf}
+use Rattle.exchange.specs.Slots.{Space, First, stateIn, statesFrom, statesOf}
 
 -- ---- the slot k lies in the buffer
 

@@ -1,15 +1,15 @@
 -- A table of the ids that every list has: after r lists the place of an id holds r exactly if each of them has it.
 -- Assumes nothing.
-use Prim.Native.Nat.{ℕ, zero, suc, _+_, _≤_, _<_}
-use mathlib.Core.Path.{_≡_, refl, sym, ap, ap₂, _∙_}
+use Prim.Native.Nat.{ℕ, suc, _+_, _≤_}
+use mathlib.Core.Path.{_≡_, refl, sym, ap, _∙_}
 use mathlib.Core.Bool.{Bool, true, false, not}
 use mathlib.Core.List.{List, [], _∷_}
 use native.Mathlib.Omega.{arith}
 use native.Mathlib.Nat.{zero-add}
 use lib.ListN.{length, getD, set, length-set}
 use lib.Seq.{getD-set-same, getD-set-other}
-use Rattle.base.specs.Tests.{_=?_, _and_, _or_, pick, pick-yes, pick-no, not-both, and-holds, both-yes, and-no, pick-either, eq-holds, eq-fails, eq-yes, eq-no, Known, known, holds, fails}
-use Rattle.base.specs.Branches.{and-true}
+use Rattle.base.specs.Tests.{_=?_, _and_, _or_, pick, pick-yes, pick-no, not-both, and-holds, both-yes, and-no, pick-either, eq-holds, eq-yes, eq-no, Known, known, holds, fails}
+use Rattle.base.specs.Branches.{and-true, and-false}
 use Rattle.base.specs.Lists.{all}
 use Rattle.base.specs.ListLaws.{Each}
 use Rattle.format.specs.Types.{Id, State, Context}
@@ -38,18 +38,13 @@ other-place c x y s a b f e =
 
 -- ---- one id
 
-and-false : (a : Bool) → (a and false) ≡ false
-unfolding _and_
-and-false true = refl
-and-false false = refl
-
 raised-now : (c : Context) (r : ℕ) (t : List ℕ) (d : Id) → idOk c d ≡ true → (getD t (slot d) 0 =? r) ≡ true → raised c r t d ≡ set t (slot d) (r + 1)
 unfolding raised
 raised-now c r t d ok e = sym (pick-yes _ _ _ _ (both-yes _ _ ok e) refl)
 
 raised-not : (c : Context) (r : ℕ) (t : List ℕ) (d : Id) → (getD t (slot d) 0 =? r) ≡ false → raised c r t d ≡ t
 unfolding raised
-raised-not c r t d e = sym (pick-no _ _ _ _ (ap (λ (u : Bool). idOk c d and u) e ∙ and-false (idOk c d)) refl)
+raised-not c r t d e = sym (pick-no _ _ _ _ (ap (λ (u : Bool). idOk c d and u) e ∙ sym (and-false (idOk c d))) refl)
 
 -- The place of x, at v, after an id or a list that has x or not.
 unfoldable lifted : Bool → ℕ → ℕ → ℕ
@@ -61,7 +56,7 @@ lifted-yes has r v h e = sym (pick-yes _ _ _ _ (both-yes _ _ h e) refl)
 
 lifted-not : (has : Bool) (r v : ℕ) → (v =? r) ≡ false → lifted has r v ≡ v
 unfolding lifted
-lifted-not has r v e = sym (pick-no _ _ _ _ (ap (λ (u : Bool). has and u) e ∙ and-false has) refl)
+lifted-not has r v e = sym (pick-no _ _ _ _ (ap (λ (u : Bool). has and u) e ∙ sym (and-false has)) refl)
 
 lifted-no : (has : Bool) (r v : ℕ) → has ≡ false → lifted has r v ≡ v
 unfolding lifted
@@ -129,7 +124,7 @@ lifted-most has r v h = pick-either (λ w. w ≤ r + 1) _ (r + 1) v (omega arith
 lifted-reached : (has : Bool) (r v : ℕ) → v ≤ r → Known (v =? r) → (lifted has r v =? (r + 1)) ≡ (has and v =? r)
 lifted-reached true r v h (holds e) = eq-yes _ _ (lifted-yes true r v refl e) ∙ sym (both-yes _ _ refl e)
 lifted-reached false r v h (holds e) = eq-no _ _ (λ z. omega (arith, sym (lifted-no false r v refl) ∙ z)) ∙ and-no false (v =? r) refl
-lifted-reached has r v h (fails e) = eq-no _ _ (λ z. omega (arith, sym (lifted-not has r v e) ∙ z)) ∙ sym (ap (λ (u : Bool). has and u) e ∙ and-false has)
+lifted-reached has r v h (fails e) = eq-no _ _ (λ z. omega (arith, sym (lifted-not has r v e) ∙ z)) ∙ sym (ap (λ (u : Bool). has and u) e ∙ sym (and-false has))
 
 shuffle : (all has q : Bool) → (all and has and q) ≡ ((has and all) and q)
 unfolding _and_

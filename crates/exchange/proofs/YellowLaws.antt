@@ -1,11 +1,10 @@
 -- Whose yellow lists count, and whether there are any.
 -- Assumes nothing.
-use Prim.Native.Nat.{ℕ, _+_, _-_, _≤_, _<_}
+use Prim.Native.Nat.{ℕ, _-_, _≤_, _<_}
 use mathlib.Core.Path.{_≡_, refl, sym, ap, _∙_}
-use mathlib.Core.Bool.{Bool, true, false}
-use mathlib.Core.List.{List, [], _∷_}
+use mathlib.Core.Bool.{true}
+use mathlib.Core.List.{List}
 use lib.Dec.{eqb}
-use lib.ListN.{drop}
 use Rattle.base.specs.Tests.{_=?_}
 use Rattle.base.specs.Branches.{told-eq}
 use Rattle.base.specs.Lists.{filter}
@@ -17,7 +16,7 @@ use Rattle.record.specs.declared.StateHead.{StateHead}
 use Rattle.replication.specs.Machine.Types.{noYellow}
 use Rattle.replication.specs.Machine.Exchange.{takenPrimary, samePair, updatedGroup, isValid, commonYellow, takenYellow}
 use Rattle.exchange.specs.declared.slots.Slots.{Slots}
-use Rattle.exchange.specs.Slots.{Room, First, withHere, slotAt, stateIn, statesFrom, statesOf, headOf}
+use Rattle.exchange.specs.Slots.{Room, First, withHere, stateIn, statesFrom, statesOf, headOf}
 use Rattle.exchange.specs.Passing.{Passing, Voters}
 use Rattle.exchange.proofs.SlotLaws.{states-in, states-end}
 use Rattle.exchange.proofs.ReadLaws.{state-stands}

@@ -1,5 +1,4 @@
-use Rattle.exchange.proofs.PrimaryLaws.{left-out}
-use Rattle.exchange.proofs.RaiseLaws.{turn-self, turn-in}
+use Rattle.base.specs.Branches.{pick-answered, pick-denied}
 use borrow.Author.Needs.{needs}
 use Rattle.exchange.proofs.common.keep_at.Statement.{statement}
 use Rattle.exchange.proofs.common.keep_at.Tie as tie
@@ -8,7 +7,7 @@ is-kept-requires : tie.Need-is-kept-requires
 is-kept-requires c κs = search needs
 
 returns : tie.Need-returns
-returns c = search (needs, left-out)
+returns c = search (needs, pick-denied)
 
 put-kept-requires : tie.Need-put-kept-requires
 put-kept-requires c κs = search needs
@@ -20,7 +19,7 @@ same-length : tie.Need-same-length
 same-length c = search needs
 
 returns-2 : tie.Need-returns-2
-returns-2 c = search (needs, turn-self, turn-in)
+returns-2 c = search (needs, pick-answered)
 
 pub keep-at-spec : {M : Type 1} → statement M
 keep-at-spec =

@@ -1,4 +1,4 @@
-use Rattle.exchange.proofs.PrimaryLaws.{left-out}
+use Rattle.base.specs.Branches.{pick-denied}
 use Rattle.exchange.proofs.MarkLaws.{join-not, join-yes}
 use borrow.Author.Needs.{needs}
 use Rattle.exchange.proofs.marks.joined_at.Statement.{statement}
@@ -8,7 +8,7 @@ has-requires : tie.Need-has-requires
 has-requires c κs = search needs
 
 returns : tie.Need-returns
-returns c = search (needs, left-out)
+returns c = search (needs, pick-denied)
 
 head-requires : tie.Need-head-requires
 head-requires c κs = search needs

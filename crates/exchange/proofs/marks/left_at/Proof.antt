@@ -1,5 +1,5 @@
+use Rattle.base.specs.Branches.{pick-denied}
 use Rattle.exchange.proofs.AnyLaws.{found-already}
-use Rattle.exchange.proofs.PrimaryLaws.{left-out}
 use Rattle.exchange.proofs.JudgedLaws.{left-now}
 use borrow.Author.Needs.{needs}
 use Rattle.exchange.proofs.marks.left_at.Statement.{statement}
@@ -9,7 +9,7 @@ has-requires : tie.Need-has-requires
 has-requires c κs = search needs
 
 returns : tie.Need-returns
-returns c = search (needs, left-out)
+returns c = search (needs, pick-denied)
 
 returns-2 : tie.Need-returns-2
 returns-2 c = search (needs, found-already)

@@ -1,4 +1,5 @@
-use Rattle.exchange.proofs.PrimaryLaws.{left-out, later-in}
+use Rattle.base.specs.Branches.{pick-denied}
+use Rattle.exchange.proofs.PrimaryLaws.{later-in}
 use borrow.Author.Needs.{needs}
 use Rattle.exchange.proofs.primary.later_at.Statement.{statement}
 use Rattle.exchange.proofs.primary.later_at.Tie as tie
@@ -7,7 +8,7 @@ has-requires : tie.Need-has-requires
 has-requires c κs = search needs
 
 returns : tie.Need-returns
-returns c = search (needs, left-out)
+returns c = search (needs, pick-denied)
 
 last-requires : tie.Need-last-requires
 last-requires c κs = search needs

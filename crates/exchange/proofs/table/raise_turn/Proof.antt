@@ -1,5 +1,5 @@
-use Rattle.exchange.proofs.PrimaryLaws.{left-out}
-use Rattle.exchange.proofs.RaiseLaws.{list-of, turn-self, turn-in}
+use Rattle.base.specs.Branches.{pick-answered, pick-denied}
+use Rattle.exchange.proofs.RaiseLaws.{list-of}
 use borrow.Author.Needs.{needs}
 use Rattle.exchange.proofs.table.raise_turn.Statement.{statement}
 use Rattle.exchange.proofs.table.raise_turn.Tie as tie
@@ -8,7 +8,7 @@ has-requires : tie.Need-has-requires
 has-requires c κs = search needs
 
 returns : tie.Need-returns
-returns c = search (needs, left-out)
+returns c = search (needs, pick-denied)
 
 raise-slot-requires : tie.Need-raise-slot-requires
 raise-slot-requires c κs = search (needs, list-of)
@@ -20,7 +20,7 @@ same-length : tie.Need-same-length
 same-length c = search needs
 
 returns-2 : tie.Need-returns-2
-returns-2 c = search (needs, turn-self, turn-in)
+returns-2 c = search (needs, pick-answered)
 
 pub raise-turn-spec : {M : Type 1} → statement M
 raise-turn-spec =
