@@ -22,12 +22,13 @@ use Rattle.replication.specs.Machine.Exchange.{commonYellow, takenYellow}
 use Rattle.record.specs.Values.{slot}
 use Rattle.record.specs.declared.StateHead.{StateHead}
 use Rattle.record.proofs.OnePass.{Small}
+use Rattle.record.proofs.Turns.{small}
 use Rattle.exchange.specs.declared.slots.Slots.{Slots}
 use Rattle.exchange.specs.Slots.{First, withHere, slotAt, stateIn, statesFrom, statesOf, headOf}
 use Rattle.exchange.specs.Passing.{Voters}
 use Rattle.exchange.specs.Table.{isKept, keptIds, Listed, raisedLists, ListInside, ListsInside, ListsShort, ListsInRange}
 use Rattle.exchange.proofs.TableLaws.{table-decides}
-use Rattle.exchange.proofs.RaiseLaws.{ids-read, small}
+use Rattle.exchange.proofs.RaiseLaws.{ids-read}
 use Rattle.exchange.proofs.SlotLaws.{states-in, states-end}
 use Rattle.exchange.proofs.YellowLaws.{same-servers, voters-states}
 

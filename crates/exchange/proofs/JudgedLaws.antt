@@ -19,12 +19,12 @@ use Rattle.record.specs.declared.LastPrimary.{LastPrimary}
 use Rattle.record.specs.declared.Mark.{Mark}
 use Rattle.record.specs.declared.StateHead.{StateHead}
 use Rattle.replication.specs.Machine.Types.{clearedMark}
-use Rattle.replication.specs.Machine.Exchange.{isMarked, ruleA, ruleB, ruleC, joinedBits, keptMark, judgedMark, markLeft, ownMark, majority, takenPrimary, takenAttempt, quorum}
+use Rattle.replication.specs.Machine.Exchange.{ruleA, ruleB, ruleC, joinedBits, keptMark, judgedMark, markLeft, ownMark, majority, takenPrimary, takenAttempt, quorum}
 use Rattle.exchange.specs.declared.slots.Slots.{Slots}
 use Rattle.exchange.specs.Slots.{Room, stateIn, statesFrom, statesOf, headOf}
 use Rattle.exchange.specs.Marks.{withBits, isLeft}
 use Rattle.exchange.proofs.AnyLaws.{any-end, found-now}
-use Rattle.exchange.proofs.MarkLaws.{mark-read, sender-read}
+use Rattle.exchange.proofs.MarkLaws.{mark-read, sender-read, status-read}
 
 -- ---- conjunctions
 
@@ -58,10 +58,6 @@ unfolding markOf withBits
 kept-made m bits = refl
 
 module _ (v : Slots) (b : List ℕ) (k : ℕ) (x : StateHead) (r : Mark) (h : x ≡ headOf v b k) where
-  marked : isMarked (stateIn v b k) ≡ (x .mark .status =? 1)
-  unfolding isMarked markOf
-  marked = ap (λ (o : FormatMark). o .status =? 1) (mark-read v b k x h)
-
   covers : (bits : ℕ) → bits ≡ joinedBits (statesOf v b) (stateIn v b k) → ruleC (statesOf v b) (stateIn v b k) ≡ (bitAnd (x .mark .set) bits =? x .mark .set)
   unfolding ruleC inside markOf
   covers bits e =
@@ -70,7 +66,7 @@ module _ (v : Slots) (b : List ℕ) (k : ℕ) (x : StateHead) (r : Mark) (h : x 
 
   pub judged-unmarked : (x .mark .status ≡ 1 → ⊥) → markOf r ≡ clearedMark → markOf r ≡ judgedMark (statesOf v b) (stateIn v b k)
   unfolding judgedMark
-  judged-unmarked n c = pick-no _ _ _ _ (sym (and-no _ _ (marked ∙ eq-no _ _ n))) c
+  judged-unmarked n c = pick-no _ _ _ _ (sym (and-no _ _ (status-read v b k x h ∙ eq-no _ _ n))) c
 
   pub judged-a : (p : LastPrimary) (u : Bool) → primaryOf p ≡ takenPrimary (statesOf v b)
       → ((s : State) → s .sender ≡ x .sender → s .mark ≡ markOf (x .mark) → u ≡ ruleA (primaryOf p) s) → u ≡ true → markOf r ≡ clearedMark
@@ -107,7 +103,7 @@ module _ (v : Slots) (b : List ℕ) (k : ℕ) (x : StateHead) (r : Mark) (h : x 
       let zb : ruleB (statesOf v b) (stateIn v b k) ≡ false = sym (g (stateIn v b k) m) ∙ i in
       let zc : ruleC (statesOf v b) (stateIn v b k) ≡ false = covers bits (j (stateIn v b k) m) ∙ eq-no _ _ n in
       let joined : bits ≡ joinedBits (statesOf v b) (stateIn v b k) = j (stateIn v b k) m in
-      pick-yes _ _ _ _ (all-four _ _ _ _ (marked ∙ eq-yes _ _ s) (ap not za) (ap not zb) (ap not zc)) (c ∙ (λ i. withBits (joined i) (sym m i)))
+      pick-yes _ _ _ _ (all-four _ _ _ _ (status-read v b k x h ∙ eq-yes _ _ s) (ap not za) (ap not zb) (ap not zc)) (c ∙ (λ i. withBits (joined i) (sym m i)))
 
 -- ---- some mark left
 

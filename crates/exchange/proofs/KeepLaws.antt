@@ -22,7 +22,7 @@ use Rattle.record.specs.Context.{contextOf, ContextIn}
 use Rattle.record.specs.Values.{idOf, placeOf}
 use Rattle.record.specs.declared.Context.{Context}
 use Rattle.exchange.specs.Table.{isKept, Listed}
-use Rattle.exchange.proofs.RaiseLaws.{place-out, place-in, small}
+use Rattle.record.proofs.Turns.{small, place-out, place-in}
 
 pub kept-out : (c : Context) (r p : ℕ) (t : List ℕ) (d : Id) → ContextIn c → p ≡ placeOf (contextOf c) d → 2048 ≤ p → false ≡ isKept (contextOf c) r t d
 unfolding isKept

@@ -14,38 +14,18 @@ use Rattle.base.specs.Sets.{inSet}
 use Rattle.format.specs.Types.{Id, State, Context as FormatContext}
 use Rattle.format.specs.Range.{idOk}
 use Rattle.format.specs.Read.{idAt, idsAt}
-use Rattle.format.proofs.Ranges.{id-range}
 use Rattle.format.proofs.Writing.{ids-number, ids-more}
 use Rattle.record.specs.Context.{contextOf, ContextIn}
 use Rattle.record.specs.Values.{slot, placeOf, stateOf}
 use Rattle.record.specs.declared.Context.{Context}
 use Rattle.record.specs.declared.StateHead.{StateHead}
-use Rattle.record.proofs.OnePass.{Small, slot-lt}
+use Rattle.record.proofs.Turns.{small, place-out, place-in}
 use Rattle.exchange.specs.declared.slots.Slots.{Slots}
 use Rattle.exchange.specs.Slots.{slotAt, stateIn, statesFrom, headOf}
 use Rattle.exchange.specs.Table.{raised, raisedAll, raisedLists, ListInside, ListsInside}
 use Rattle.exchange.proofs.SlotLaws.{states-in, states-out, states-end}
 use Rattle.exchange.proofs.ReadLaws.{state-stands}
 use Rattle.exchange.proofs.TableLaws.{raised-length, raised-all-length}
-
-pub small : (c : Context) → ContextIn c → Small (contextOf c)
-unfolding contextOf
-small c h = record { servers = h .most; quota = h .largest }
-
-pub place-out : (c : FormatContext) (x : Id) (p : ℕ) → Small c → Known (idOk c x) → p ≡ placeOf c x → 2048 ≤ p → idOk c x ≡ false
-unfolding placeOf
-place-out c x p s (holds e) f g =
-    let a = slot-lt c x s (id-range c x e) in
-    let b : p ≡ slot x = f ∙ sym (pick-yes (idOk c x) _ _ _ e refl) in
-    absurd (omega arith)
-place-out c x p s (fails e) f g = e
-
-pub place-in : (c : FormatContext) (x : Id) (p : ℕ) → Known (idOk c x) → p ≡ placeOf c x → p < 2048 → (idOk c x ≡ true) × (p ≡ slot x)
-unfolding placeOf
-place-in c x p (holds e) f g = (e, f ∙ sym (pick-yes (idOk c x) _ _ _ e refl))
-place-in c x p (fails e) f g =
-    let b : p ≡ 2048 = f ∙ sym (pick-no (idOk c x) _ _ _ e refl) in
-    absurd (omega arith)
 
 -- ---- one id
 
