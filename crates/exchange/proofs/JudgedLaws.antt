@@ -58,7 +58,8 @@ unfolding markOf withBits
 kept-made m bits = refl
 
 module _ (v : Slots) (b : List ℕ) (k : ℕ) (x : StateHead) (r : Mark) (h : x ≡ headOf v b k) where
-  covers : (bits : ℕ) → bits ≡ joinedBits (statesOf v b) (stateIn v b k) → ruleC (statesOf v b) (stateIn v b k) ≡ (bitAnd (x .mark .set) bits =? x .mark .set)
+  covers : (bits : ℕ) → bits ≡ joinedBits (statesOf v b) (stateIn v b k)
+      → ruleC (statesOf v b) (stateIn v b k) ≡ (bitAnd (x .mark .set) bits =? x .mark .set)
   unfolding ruleC inside markOf
   covers bits e =
       let s : stateIn v b k .mark .set ≡ x .mark .set = ap (λ (o : FormatMark). o .set) (mark-read v b k x h) in
@@ -84,7 +85,8 @@ module _ (v : Slots) (b : List ℕ) (k : ℕ) (x : StateHead) (r : Mark) (h : x 
       let z : ruleB (statesOf v b) (stateIn v b k) ≡ true = sym (f (stateIn v b k) (mark-read v b k x h)) ∙ t in
       pick-no _ _ _ _ (third-no _ _ _ _ (ap not z)) c
 
-  pub judged-c : (bits : ℕ) → ((s : State) → s .mark ≡ markOf (x .mark) → bits ≡ joinedBits (statesOf v b) s) → bitAnd (x .mark .set) bits ≡ x .mark .set
+  pub judged-c : (bits : ℕ) → ((s : State) → s .mark ≡ markOf (x .mark) → bits ≡ joinedBits (statesOf v b) s)
+      → bitAnd (x .mark .set) bits ≡ x .mark .set
       → markOf r ≡ clearedMark → markOf r ≡ judgedMark (statesOf v b) (stateIn v b k)
   unfolding judgedMark
   judged-c bits f t c =
@@ -113,7 +115,8 @@ unfolding isLeft markOf
 left-now t u found m xs s e h i j = found-now t u found _ _ e h i (told-eq (m .status) 1 ∙ ap (λ (o : FormatMark). o .status =? 1) j)
 
 pub left-end : (v : Slots) (b : List ℕ) (k : ℕ) (found : Bool) → v .servers ≤ k
-    → any (isLeft (statesOf v b)) (statesOf v b) ≡ (found or any (isLeft (statesOf v b)) (statesFrom v b (v .servers - k) k)) → found ≡ markLeft (statesOf v b)
+    → any (isLeft (statesOf v b)) (statesOf v b) ≡ (found or any (isLeft (statesOf v b)) (statesFrom v b (v .servers - k) k))
+    → found ≡ markLeft (statesOf v b)
 unfolding markLeft isLeft
 left-end v b k found h i = sym (any-end (isLeft (statesOf v b)) v b k found _ h i)
 
@@ -131,7 +134,8 @@ unfolding ownMark
 own-other me xs ys s n = sym (pick-no _ _ _ _ (eq-no _ _ n) refl)
 
 module _ (v : Slots) (b : List ℕ) (xs : List State) (me : ℕ) (room : Room v b) where
-  own-from : (m k : ℕ) → k + m ≤ v .servers → k ≤ me → me < k + m → inSet me (v .here) ≡ true → ownMark me xs (statesFrom v b m k) ≡ judgedMark xs (stateIn v b me)
+  own-from : (m k : ℕ) → k + m ≤ v .servers → k ≤ me → me < k + m → inSet me (v .here) ≡ true
+      → ownMark me xs (statesFrom v b m k) ≡ judgedMark xs (stateIn v b me)
   unfolding statesFrom
   own-from zero k l i j t = absurd (omega arith)
   own-from (suc m) k l i j t = go (known (inSet k (v .here))) (known (k =? me)) (λ z. own-from m (k + 1) (omega arith) z (omega arith) t)

@@ -117,7 +117,8 @@ shuffle false true q = refl
 shuffle false false q = refl
 
 module _ (c : Context) (x : Id) (s : Small c) (a : IdRange c x) where
-  raised-lists-at : (r : ℕ) (t : List ℕ) (ys : List State) → length t ≡ 2048 → getD t (slot x) 0 ≤ r → Each (λ y. idsInRange c (y .yellow .ids) ≡ true) ys
+  raised-lists-at : (r : ℕ) (t : List ℕ) (ys : List State) → length t ≡ 2048 → getD t (slot x) 0 ≤ r
+      → Each (λ y. idsInRange c (y .yellow .ids) ≡ true) ys
       → (getD (raisedLists c r t ys) (slot x) 0 =? (r + length ys)) ≡ (all (λ y. hasId x (y .yellow .ids)) ys and getD t (slot x) 0 =? r)
   unfolding raisedLists all _and_
   raised-lists-at r t [] l h e = let z : r + 0 ≡ r = omega arith in rw z
