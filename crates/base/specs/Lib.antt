@@ -15,6 +15,7 @@ pub mod Distinct
 pub mod ListLaws
 pub mod SameLaws
 pub mod Sections
+pub mod Entries
 pub mod Counts
 pub mod SetLaws
 pub mod Text

@@ -26,7 +26,7 @@ use Rattle.engine.specs.Decode.{modeNamed, configurationAt, transitional
 use Rattle.engine.proofs.InRange.{InRange}
 use Rattle.engine.proofs.Fit.{SectionsFit, range-fits, section-length, parts-sized, image-section}
 use Rattle.engine.proofs.Slots.{actions-read, held-read, noted-read, in-senders, states-read}
-use Rattle.engine.proofs.Header.{HeaderRead, header-read, mode-named}
+use Rattle.engine.proofs.HeaderRead.{HeaderRead, header-read, mode-named}
 
 -- Each part of an image occurs where its section begins.
 pub image-part : (s : Server) → SectionsFit s → (b : List ℕ) → stateLength (s .servers) (s .quota) ≤ length b → (k : ℕ) → k < 8

@@ -3,8 +3,13 @@ pub mod Used
 pub mod Fit
 pub mod Again
 pub mod Slots
-pub mod Header
+pub mod HeaderRead
+pub mod SizeLaws
+pub mod PlaceLaws
+pub mod Loaded
+pub mod Saved
 pub mod Decoded
 pub mod ImageLaws
 pub mod InPlace
 pub mod Refusals
+pub mod HeaderLaws

@@ -6,7 +6,7 @@ use mathlib.Core.List.{List, [], _∷_, _++_, map}
 use mathlib.Core.Option.{Option, none, some}
 use native.Mathlib.Nat.{suc-mul}
 use native.Mathlib.Omega.{arith}
-use lib.ListN.{length, take, drop, replicate, length-append, length-take, length-drop, length-replicate}
+use lib.ListN.{length, take, drop, length-append, length-take, length-drop, length-replicate}
 use lib.Seq.{drop-at, take-at, take-all}
 use Rattle.base.specs.Bytes.{Bytes, bytesOf, joined}
 use Rattle.base.specs.BytesLaws.{bytes-nil, bytes-small, bytes-append, bytes-cons, bytes-take, bytes-drop, bytes-joined}
@@ -19,7 +19,7 @@ use Rattle.format.proofs.Ranges.{PayloadRange}
 use Rattle.format.proofs.WriteBytes.{action-bytes, payload-bytes, primary-bytes, mark-bytes, state-record-bytes}
 use Rattle.replication.specs.Machine.Types.{Configuration, Server}
 use Rattle.engine.specs.Layout.{heldSize, slotSize}
-use Rattle.engine.specs.Image.{over, slot, configurationBytes, transitionalBytes, headerBytes, notedBytes, stateOver, statesOver, actionSlots, heldSlots}
+use Rattle.engine.specs.Image.{over, zeros, slot, configurationBytes, transitionalBytes, headerBytes, notedBytes, stateOver, statesOver, actionSlots, heldSlots}
 
 -- ---- over what was there
 
@@ -43,16 +43,17 @@ over-none l = refl
 -- ---- slots
 
 pub slot-length : (size : ℕ) (y : List ℕ) → length y ≤ size → length (slot size y) ≡ size
-unfolding slot
+unfolding slot zeros
 slot-length size y h = simp (length-append, length-replicate) (omega arith)
 
-zeros-bytes : (m : ℕ) → Bytes (replicate {A = ℕ} m 0)
+zeros-bytes : (m : ℕ) → Bytes (zeros m)
+unfolding zeros
 zeros-bytes ℕ.zero = bytes-nil
-zeros-bytes (suc m) = bytes-cons 0 (replicate {A = ℕ} m 0) (omega arith) (zeros-bytes m)
+zeros-bytes (suc m) = bytes-cons 0 (zeros m) (omega arith) (zeros-bytes m)
 
 pub slot-bytes : (size : ℕ) (y : List ℕ) → Bytes y → Bytes (slot size y)
 unfolding slot
-slot-bytes size y h = bytes-append y (replicate {A = ℕ} (size - length y) 0) h (zeros-bytes (size - length y))
+slot-bytes size y h = bytes-append y (zeros (size - length y)) h (zeros-bytes (size - length y))
 
 pub action-slot-length : (a : Action) → PayloadRange (a .payload) → length (slot slotSize (actionBytes a)) ≡ slotSize
 action-slot-length a r = slot-length slotSize (actionBytes a) (omega (arith, action-length a, r .most))

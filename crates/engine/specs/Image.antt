@@ -31,9 +31,12 @@ modeNumber Un = 7
 unfoldable pub over : List ℕ → List ℕ → List ℕ
 over y l = y ++ drop (length y) l
 
+unfoldable pub zeros : ℕ → List ℕ
+zeros m = replicate {A = ℕ} m 0
+
 -- y filled up with zeros to the size of a slot.
 unfoldable pub slot : ℕ → List ℕ → List ℕ
-slot size y = y ++ replicate {A = ℕ} (size - length y) 0
+slot size y = y ++ zeros (size - length y)
 
 -- A field that may be absent: status, then the value, zeros where it is absent.
 unfoldable pub configurationBytes : Option Configuration → List ℕ

@@ -1,10 +1,10 @@
 -- Where the state lies in its buffer: fixed-size fields first, then sections whose sizes depend on n and q only (docs/LAYOUT.md).
 -- Assumes nothing.
-use Prim.Native.Nat.{ℕ, _+_, _*_}
+use Prim.Native.Nat.{ℕ, _+_, _*_, _≤_}
 use mathlib.Core.List.{List, [], _∷_}
 use lib.ListN.{take, getD}
 use Rattle.base.specs.Lists.{sum}
-use Rattle.format.specs.Limits.{mostPayload, mostHeld, fewestServers, leastQuota}
+use Rattle.format.specs.Limits.{fewestServers, mostServers, leastQuota, mostQuota, mostPayload, mostHeld}
 
 -- The fixed-size fields.
 abbrev pub headerSize : ℕ
@@ -57,6 +57,11 @@ sectionSize n q k = getD (sections n q) k 0
 -- Where the section k begins.
 unfoldable pub offset : (n q k : ℕ) → ℕ
 offset n q k = sum (take k (sections n q))
+
+-- Servers and quota that do not exceed their limits.
+pub record SizesIn (n q : ℕ) : Type 0 where
+  pub servers : n ≤ mostServers
+  pub quota : q ≤ mostQuota
 
 -- The required length of the state's buffer.
 unfoldable pub stateLength : (n q : ℕ) → ℕ

@@ -10,6 +10,7 @@ use Rattle.base.specs.Bytes.{joined}
 use Rattle.format.specs.Range.{sizesOk}
 use Rattle.replication.specs.Machine.Types.{Server, Outcome, refused, taken, start}
 use Rattle.replication.specs.Machine.Step.{step}
+use Rattle.engine.specs.declared.Lengths.{Lengths}
 use Rattle.engine.specs.Layout.{stateLength, outLength, leastStateLength, leastOutLength}
 use Rattle.engine.specs.Image.{over, image}
 use Rattle.engine.specs.Decode.{serversIn, quotaIn, reads, readImage}
@@ -60,18 +61,16 @@ pub record Started : Type 0 where
   pub number : ℕ
   pub state : List ℕ
 
+-- A number returned, and the buffer left.
+unfoldable pub started : ℕ → List ℕ → Started
+started k b = record { number = k; state = b }
+
 -- "a start with one out of range gets 2"; 7 before it, by the formula for n 2 and q 1 where n or q is out of range.
 unfoldable pub startOn : (n q me : ℕ) → List ℕ → Started
 startOn n q i b =
     pick (sizesOk n q)
-    (pick (length b <? stateLength n q) (record { number = 7; state = b })
-    (pick (i <? n) (record { number = 0; state = image (start n q i) b }) (record { number = 2; state = b })))
-    (pick (length b <? leastStateLength) (record { number = 7; state = b }) (record { number = 2; state = b }))
-
-pub record Lengths : Type 0 where
-  pub number : ℕ
-  pub state : ℕ
-  pub out : ℕ
+    (pick (length b <? stateLength n q) (started 7 b) (pick (i <? n) (started 0 (image (start n q i) b)) (started 2 b)))
+    (pick (length b <? leastStateLength) (started 7 b) (started 2 b))
 
 -- Outside the range: 2 and zeros.
 unfoldable pub lengthsOf : (n q : ℕ) → Lengths

@@ -1,4 +1,5 @@
 pub mod Context
+pub mod Start
 pub mod Values
 pub mod Events
 pub mod Framed

@@ -39,7 +39,7 @@ fn action_at(e: &[u8], at: usize) -> ActionAt
     }
 }
 
-fn last_at(e: &[u8], at: usize) -> LastPrimary
+pub fn last_at(e: &[u8], at: usize) -> LastPrimary
     requires { ⌜ at + 9 ≤ length (now e) ⌝ }
     ensures { λ r. ⌜ r ≡ lastIn (now (e .entry)) at ⌝ }
 {
@@ -50,7 +50,7 @@ fn last_at(e: &[u8], at: usize) -> LastPrimary
     }
 }
 
-fn mark_at(e: &[u8], at: usize) -> Mark
+pub fn mark_at(e: &[u8], at: usize) -> Mark
     requires { ⌜ at + 11 ≤ length (now e) ⌝ }
     ensures { λ r. ⌜ r ≡ markIn (now (e .entry)) at ⌝ }
 {

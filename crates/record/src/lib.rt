@@ -1,6 +1,10 @@
 // Records: the types that the reader, the writers and the engine share, and document 01's limits.
 ghost use mathlib.Core.Path.{_≡_};
+ghost use Prim.Native.Nat.{_≤_};
+ghost use Rattle.base.specs.Sets.{everyone as setOfAll};
+ghost use Rattle.format.specs.Limits.{mostServers};
 ghost use Rattle.record.specs.Context.{readingContext};
+ghost use Rattle.record.specs.Start.{startOf};
 
 pub mod bytes; // bytes.rt: numbers in bytes
 pub mod range; // range.rt: which numbers and sets are in range
@@ -42,7 +46,7 @@ pub struct Context {
     pub set: u8,
 }
 
-// The numbers of a server's state. Its lists lie beside them.
+// The numbers of a server's state, in the order of its buffer. Its lists lie beside them.
 pub struct State {
     pub servers: u8,
     pub quota: u16,
@@ -53,19 +57,19 @@ pub struct State {
     pub configuration_set: u8,
     pub transitional_status: u8,
     pub transitional_set: u8,
+    pub states: u8,
+    pub cpcs: u8,
+    pub come: u32,
     pub queue_length: u32,
     pub green_length: u32,
     pub numbered: u16,
     pub own_count: u16,
-    pub held_count: u8,
+    pub held_count: u16,
     pub attempt: AttemptIndex,
     pub last: LastPrimary,
     pub mark: Mark,
     pub yellow_status: u8,
     pub yellow_count: u16,
-    pub states: u8,
-    pub cpcs: u8,
-    pub come: u32,
 }
 
 // "The starting state and these limits belong to the state's own kind": each limit is named here and nowhere else.
@@ -84,6 +88,50 @@ impl State {
 
     pub const MOST_INDEX: u32 = 4_000_000_000;
 
+    // "At the start: Non_prim, no configuration, nothing held or marked, yellow invalid, attempt 0, last primary (index 0,
+    // attempt 0, all servers)."
+    pub fn start(servers: u8, quota: u16, me: u8) -> State
+        requires { ⌜ servers ≤ mostServers ⌝ }
+        ensures { λ r. ⌜ r ≡ startOf servers quota me ⌝ }
+    {
+        let last = LastPrimary {
+            index: PrimaryIndex(0),
+            attempt: AttemptIndex(0),
+            set: everyone(servers),
+        };
+        let mark = Mark {
+            status: 0,
+            index: PrimaryIndex(0),
+            attempt: AttemptIndex(0),
+            set: 0,
+            bits: 0,
+        };
+        State {
+            servers,
+            quota,
+            me,
+            mode: 0,
+            configuration_status: 0,
+            configuration_id: 0,
+            configuration_set: 0,
+            transitional_status: 0,
+            transitional_set: 0,
+            states: 0,
+            cpcs: 0,
+            come: 0,
+            queue_length: 0,
+            green_length: 0,
+            numbered: 0,
+            own_count: 0,
+            held_count: 0,
+            attempt: AttemptIndex(0),
+            last,
+            mark,
+            yellow_status: 0,
+            yellow_count: 0,
+        }
+    }
+
     // What an event that comes in this state is read against.
     pub fn context(self) -> Context
         ensures { λ r. ⌜ r ≡ readingContext self ⌝ }
@@ -96,4 +144,13 @@ impl State {
             set: self.configuration_set,
         }
     }
+}
+
+// The set of all servers.
+fn everyone(servers: u8) -> u8
+    requires { ⌜ servers ≤ mostServers ⌝ }
+    ensures { λ r. ⌜ r ≡ setOfAll servers ⌝ }
+{
+    let all: u32 = 1 << servers;
+    (all - 1) as u8
 }

@@ -1,7 +1,6 @@
 // Runs vectors through the reader. A line of the input is a vector: the context (servers 1 byte, quota 2, own number 1,
 // configured 1, set 1) and the event in hexadecimal, and from '#' on a label, which is written behind what was read.
 mod print;
-mod text;
 
 use record::Context;
 use record::bytes::num16;

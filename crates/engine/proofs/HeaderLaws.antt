@@ -1,0 +1,161 @@
+-- The state's numbers and the first section of its image.
+-- Assumes nothing.
+use Prim.Native.Nat.{ℕ, _+_, _≤_, _<_}
+use mathlib.Core.Path.{_≡_, refl, sym, ap, subst, _∙_}
+use mathlib.Core.List.{List, [], _∷_, _++_, append-assoc, append-nil}
+use mathlib.Core.Option.{Option, none, some}
+use native.Mathlib.Omega.{arith}
+use lib.ListN.{length}
+use Rattle.base.specs.Bytes.{Bytes, bytesOf, numberAt, partAt, joined}
+use Rattle.base.specs.Lists.{sum}
+use Rattle.base.specs.Occurs.{Occurs, occurs-at, parts-joined, number-occurs}
+use Rattle.format.specs.Types.{Primary, Mark}
+use Rattle.format.specs.Write.{primaryBytes, markBytes}
+use Rattle.format.specs.Read.{primaryAt, markAt}
+use Rattle.format.proofs.Lengths.{primary-length, mark-length}
+use Rattle.format.proofs.Writing.{primary-written, mark-written}
+use Rattle.record.specs.declared.State.{State}
+use Rattle.record.specs.declared.LastPrimary.{LastPrimary}
+use Rattle.record.specs.declared.Mark as declared
+use Rattle.record.specs.Blocks.{yellowHeadBytes}
+use Rattle.record.specs.Events.{lastIn, markIn}
+use Rattle.record.specs.Written.{componentOf, markOf}
+use Rattle.replication.specs.Machine.Types.{Configuration, Server}
+use Rattle.replication.specs.Machine.WellFormed.{wellFormed}
+use Rattle.engine.specs.Layout.{theHeader, sections, offset, stateLength}
+use Rattle.engine.specs.Image.{configurationBytes, transitionalBytes, headerBytes, parts, image}
+use Rattle.engine.specs.Header.{statusOf, idOf, setOf, transitionalOf, lastOf, markNumbers, headerOf, headerIn, membershipBytes, countsBytes, standingBytes, votesBytes, firstBytes, headerWritten}
+use Rattle.engine.proofs.InRange.{InRange, in-range}
+use Rattle.engine.proofs.HeaderRead.{HeaderRead, header-read}
+use Rattle.engine.proofs.Fit.{well-formed-fits}
+use Rattle.engine.proofs.Decoded.{image-part}
+use Rattle.engine.proofs.Saved.{membership-length, first-length, standing-length}
+use Rattle.engine.proofs.InPlace.{Holds}
+
+configuration-written : (d : Option Configuration) → configurationBytes d ≡ joined (bytesOf 1 (statusOf d) ∷ bytesOf 4 (idOf d) ∷ bytesOf 1 (setOf d) ∷ [])
+unfolding configurationBytes statusOf idOf setOf
+configuration-written none = refl
+configuration-written (some d) = refl
+
+transitional-written : (t : Option ℕ) → transitionalBytes t ≡ joined (bytesOf 1 (statusOf t) ∷ bytesOf 1 (transitionalOf t) ∷ [])
+unfolding transitionalBytes statusOf transitionalOf
+transitional-written none = refl
+transitional-written (some t) = refl
+
+-- The numbers of a state, written, are its header.
+pub header-written : (s : Server) → headerWritten (headerOf s) ≡ headerBytes s
+unfolding headerWritten headerOf firstBytes membershipBytes countsBytes votesBytes standingBytes yellowHeadBytes headerBytes lastOf markNumbers componentOf markOf bytesOf joined primaryBytes markBytes
+header-written s =
+    sym (rw (configuration-written (s .membership .configuration), transitional-written (s .membership .transitional)) refl)
+
+pub written-length : (h : State) → length (headerWritten h) ≡ 60
+unfolding headerWritten firstBytes membershipBytes countsBytes votesBytes standingBytes yellowHeadBytes componentOf markOf bytesOf joined primaryBytes markBytes
+written-length h = refl
+
+-- ---- loaded
+
+header-here : (s : Server) (b : List ℕ) → Holds s b → HeaderRead s b
+unfolding parts offset sections sum
+header-here s b r =
+    let here = image-part s (well-formed-fits s (r .formed)) b (r .long) theHeader (omega arith) in
+    header-read s b (in-range s (r .formed)) (subst (λ (c : List ℕ). Occurs (headerBytes s) c 0) (r .written) here)
+
+-- What is loaded of a buffer that holds a state is the numbers of that state.
+pub header-loaded : (s : Server) (b : List ℕ) → Holds s b → headerIn b ≡ headerOf s
+unfolding headerIn headerOf lastIn lastOf markIn markNumbers primaryAt markAt
+header-loaded s b r =
+    let x = header-here s b r in
+    λ i. record {
+      servers = x .servers i;
+      quota = x .quota i;
+      me = x .me i;
+      mode = x .mode i;
+      «configuration_status» = x .configurationStatus i;
+      «configuration_id» = x .configurationId i;
+      «configuration_set» = x .configurationSet i;
+      «transitional_status» = x .transitionalStatus i;
+      «transitional_set» = x .transitionalSet i;
+      states = x .states i;
+      cpcs = x .cpcs i;
+      come = x .come i;
+      «queue_length» = x .queueCount i;
+      «green_length» = x .greenCount i;
+      numbered = x .numbered i;
+      «own_count» = x .ownCount i;
+      «held_count» = x .heldCount i;
+      attempt = record { 0 = x .attempt i };
+      last = lastOf (x .last i);
+      mark = markNumbers (x .mark i);
+      «yellow_status» = x .yellow i;
+      «yellow_count» = x .idCount i;
+    }
+
+-- ---- loaded and saved
+
+membership-kept : (b : List ℕ) → Bytes b → 60 ≤ length b → Occurs (membershipBytes (headerIn b)) b 0
+unfolding membershipBytes headerIn bytesOf
+membership-kept b k h =
+    parts-joined _ b 0 (
+      number-occurs 1 b 0 refl k (omega arith),
+      (
+        number-occurs 2 b 1 refl k (omega arith),
+        (
+          number-occurs 1 b 3 refl k (omega arith),
+          (
+            number-occurs 1 b 4 refl k (omega arith),
+            (
+              number-occurs 1 b 5 refl k (omega arith),
+              (
+                number-occurs 4 b 6 refl k (omega arith),
+                (
+                  number-occurs 1 b 10 refl k (omega arith),
+                  (
+                    number-occurs 1 b 11 refl k (omega arith),
+                    (number-occurs 1 b 12 refl k (omega arith), (number-occurs 1 b 13 refl k (omega arith), (number-occurs 1 b 14 refl k (omega arith), (number-occurs 4 b 15 refl k (omega arith), tt)))),
+                  ),
+                ),
+              ),
+            ),
+          ),
+        ),
+      ),
+    )
+
+counts-kept : (b : List ℕ) → Bytes b → 60 ≤ length b → Occurs (countsBytes (headerIn b)) b 19
+unfolding countsBytes headerIn bytesOf
+counts-kept b k h =
+    parts-joined _ b 19 (
+      number-occurs 4 b 19 refl k (omega arith),
+      (
+        number-occurs 4 b 23 refl k (omega arith),
+        (
+          number-occurs 2 b 27 refl k (omega arith),
+          (number-occurs 2 b 29 refl k (omega arith), (number-occurs 2 b 31 refl k (omega arith), (number-occurs 4 b 33 refl k (omega arith), tt))),
+        ),
+      ),
+    )
+
+standing-kept : (b : List ℕ) → Bytes b → 60 ≤ length b → Occurs (standingBytes (headerIn b)) b 37
+unfolding standingBytes headerIn lastIn markIn componentOf markOf primaryAt markAt
+standing-kept b k h =
+    parts-joined _ b 37
+    (primary-written b 37 k (omega arith), (occurs-at (mark-written b 46 k (omega arith)) (omega (arith, primary-length (primaryAt b 37))), tt))
+
+yellow-kept : (b : List ℕ) → Bytes b → 60 ≤ length b → Occurs (yellowHeadBytes (numberAt 1 b 57) (numberAt 2 b 58)) b 57
+unfolding yellowHeadBytes bytesOf
+yellow-kept b k h = parts-joined _ b 57 (number-occurs 1 b 57 refl k (omega arith), (number-occurs 2 b 58 refl k (omega arith), tt))
+
+first-kept : (b : List ℕ) → Bytes b → 60 ≤ length b → Occurs (firstBytes (headerIn b)) b 0
+unfolding firstBytes
+first-kept b k h =
+    parts-joined _ b 0 (membership-kept b k h, (occurs-at (counts-kept b k h) (omega (arith, membership-length (headerIn b))), tt))
+
+votes-kept : (b : List ℕ) → Bytes b → 60 ≤ length b → Occurs (votesBytes (headerIn b)) b 37
+unfolding votesBytes headerIn
+votes-kept b k h =
+    parts-joined _ b 37 (standing-kept b k h, (occurs-at (yellow-kept b k h) (omega (arith, standing-length (headerIn b))), tt))
+
+-- What is loaded, written again, occurs where it was.
+pub header-kept : (b : List ℕ) → Bytes b → 60 ≤ length b → Occurs (headerWritten (headerIn b)) b 0
+unfolding headerWritten
+header-kept b k h = parts-joined _ b 0 (first-kept b k h, (occurs-at (votes-kept b k h) (omega (arith, first-length (headerIn b))), tt))

@@ -1,0 +1,36 @@
+-- Where sections begin, as the code computes it.
+-- Assumes nothing.
+use Prim.Native.Nat.{ℕ, _+_, _*_, _≤_}
+use mathlib.Core.Path.{_≡_, refl}
+use native.Mathlib.Omega.{arith}
+use lib.ListN.{take}
+use Rattle.base.specs.Lists.{sum}
+use Rattle.engine.specs.Layout.{stateSize, theNoted, theHeld, theStates, theYellow, theOwn, theQueue, sections, offset}
+
+pub noted-place : (n q : ℕ) → 60 + 2 * n ≡ offset n q theNoted
+unfolding offset sections sum
+noted-place n q = omega arith
+
+pub held-place : (n q : ℕ) → 60 + 6 * n ≡ offset n q theHeld
+unfolding offset sections sum
+held-place n q = omega arith
+
+pub states-place : (n q : ℕ) → 60 + 6 * n + 784 ≡ offset n q theStates
+unfolding offset sections sum
+states-place n q = omega arith
+
+pub size-made : (n q all : ℕ) → all ≡ n * q → 40 + 2 * n + 3 * all ≡ stateSize n q
+unfolding stateSize
+size-made n q all e = rw e
+
+pub yellow-place : (n q at size all : ℕ) → at ≡ offset n q theStates → size ≡ stateSize n q → all ≡ n * size → at + all ≡ offset n q theYellow
+unfolding offset sections sum
+yellow-place n q at size all e f g = rw (e, g, f) (omega arith)
+
+pub own-place : (n q at all : ℕ) → at ≡ offset n q theYellow → all ≡ n * q → at + 3 * all ≡ offset n q theOwn
+unfolding offset sections sum
+own-place n q at all e f = rw (e, f) (omega arith)
+
+pub queue-place : (n q at : ℕ) → at ≡ offset n q theOwn → at + 56 * q ≡ offset n q theQueue
+unfolding offset sections sum
+queue-place n q at e = rw e (omega arith)

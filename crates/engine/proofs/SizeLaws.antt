@@ -1,0 +1,41 @@
+-- Required lengths as the code computes them.
+-- Assumes nothing.
+use Prim.Native.Nat.{ℕ, _+_, _*_, _≤_}
+use mathlib.Core.Path.{_≡_, refl, sym, ap, _∙_}
+use mathlib.Core.Bool.{Bool, true, false, not}
+use mathlib.Core.List.{List}
+use native.Mathlib.Nat.{mul-le-mul-right}
+use native.Mathlib.Omega.{arith}
+use borrow.Author.Tests.{not-false}
+use lib.ListN.{take}
+use mir.Syntax.{w32}
+use mir.Val.{Fits}
+use Rattle.base.specs.Lists.{sum}
+use Rattle.format.specs.Limits.{mostServers}
+use Rattle.format.specs.Range.{sizesOk}
+use Rattle.format.proofs.Ranges.{SizesRange, sizes-range}
+use Rattle.engine.specs.declared.Lengths.{Lengths}
+use Rattle.engine.specs.Layout.{SizesIn, stateSize, sections, stateLength, outLength}
+
+pub product-most : (n m : ℕ) → n ≤ mostServers → n * m ≤ 8 * m
+product-most n m h = mul-le-mul-right m h
+
+pub product-fits : (n m : ℕ) → n ≤ mostServers → m ≤ 65535 → Fits w32 (n * m)
+product-fits n m h k = omega (arith, product-most n m h)
+
+pub state-length-made : (n q all states : ℕ) → all ≡ n * q → states ≡ n * (40 + 2 * n + 3 * all)
+    → 60 + 6 * n + 784 + states + 3 * all + 56 * q + 56 * all ≡ stateLength n q
+unfolding stateLength sections sum stateSize
+state-length-made n q all states e f = rw (f, e) (omega arith)
+
+pub out-length-made : (n q all : ℕ) → all ≡ n * q → 130 * all + 960 ≡ outLength n q
+unfolding outLength
+out-length-made n q all e = rw e
+
+-- The code tested them.
+pub sizes-answered : (t : Bool) (n q : ℕ) → t ≡ sizesOk n q → not t ≡ false → SizesIn n q
+sizes-answered t n q e h = let r = sizes-range n q (sym e ∙ not-false t h) in record { servers = r .most; quota = r .highest }
+
+pub lengths-made : (n q a b : ℕ) → a ≡ stateLength n q → b ≡ outLength n q
+    → _≡_ {A = Lengths} (record { number = 0; state = a; out = b }) (record { number = 0; state = stateLength n q; out = outLength n q })
+lengths-made n q a b e f = λ i. record { number = 0; state = e i; out = f i }

@@ -1,0 +1,159 @@
+-- The numbers of a state, which the first section of its image holds: the struct that the code works on.
+-- Assumes nothing.
+use Prim.Native.Nat.{ℕ}
+use mathlib.Core.List.{List, [], _∷_}
+use mathlib.Core.Option.{Option, none, some}
+use lib.ListN.{length}
+use Rattle.base.specs.Bytes.{bytesOf, numberAt, joined}
+use Rattle.format.specs.Types.{Primary, Mark}
+use Rattle.format.specs.Write.{primaryBytes, markBytes}
+use Rattle.record.specs.declared.State.{State}
+use Rattle.record.specs.declared.LastPrimary.{LastPrimary}
+use Rattle.record.specs.declared.Mark as declared
+use Rattle.record.specs.Written.{componentOf, markOf}
+use Rattle.record.specs.Blocks.{yellowHeadBytes}
+use Rattle.record.specs.Events.{lastIn, markIn}
+use Rattle.replication.specs.Machine.Types.{Configuration, Server}
+use Rattle.replication.specs.Machine.WellFormed.{queue}
+use Rattle.engine.specs.declared.header.Membership.{Membership}
+use Rattle.engine.specs.Image.{modeNumber, senders}
+
+-- ---- of a state
+
+-- A field that may be absent: its status, and zeros where it is absent.
+unfoldable pub statusOf : {A : Type 0} → Option A → ℕ
+statusOf none = 0
+statusOf (some x) = 1
+
+unfoldable pub idOf : Option Configuration → ℕ
+idOf none = 0
+idOf (some c) = c .id
+
+unfoldable pub setOf : Option Configuration → ℕ
+setOf none = 0
+setOf (some c) = c .set
+
+unfoldable pub transitionalOf : Option ℕ → ℕ
+transitionalOf none = 0
+transitionalOf (some t) = t
+
+unfoldable pub lastOf : Primary → LastPrimary
+lastOf p = record { index = record { 0 = p .index }; attempt = record { 0 = p .attempt }; set = p .set }
+
+unfoldable pub markNumbers : Mark → declared.Mark
+markNumbers m = record { status = m .status; index = record { 0 = m .index }; attempt = record { 0 = m .attempt }; set = m .set; bits = m .bits }
+
+unfoldable pub headerOf : Server → State
+headerOf s = record {
+  servers = s .servers;
+  quota = s .quota;
+  me = s .me;
+  mode = modeNumber (s .membership .mode);
+  «configuration_status» = statusOf (s .membership .configuration);
+  «configuration_id» = idOf (s .membership .configuration);
+  «configuration_set» = setOf (s .membership .configuration);
+  «transitional_status» = statusOf (s .membership .transitional);
+  «transitional_set» = transitionalOf (s .membership .transitional);
+  states = senders 0 (s .membership .states);
+  cpcs = s .membership .cpcs;
+  come = s .membership .come;
+  «queue_length» = length (queue (s .log));
+  «green_length» = length (s .log .green);
+  numbered = s .log .numbered;
+  «own_count» = length (s .log .own);
+  «held_count» = length (s .held);
+  attempt = record { 0 = s .votes .attempt };
+  last = lastOf (s .votes .last);
+  mark = markNumbers (s .votes .mark);
+  «yellow_status» = s .votes .yellow .status;
+  «yellow_count» = length (s .votes .yellow .ids);
+}
+
+-- ---- in bytes
+
+-- What the first section says.
+unfoldable pub headerIn : List ℕ → State
+headerIn b = record {
+  servers = numberAt 1 b 0;
+  quota = numberAt 2 b 1;
+  me = numberAt 1 b 3;
+  mode = numberAt 1 b 4;
+  «configuration_status» = numberAt 1 b 5;
+  «configuration_id» = numberAt 4 b 6;
+  «configuration_set» = numberAt 1 b 10;
+  «transitional_status» = numberAt 1 b 11;
+  «transitional_set» = numberAt 1 b 12;
+  states = numberAt 1 b 13;
+  cpcs = numberAt 1 b 14;
+  come = numberAt 4 b 15;
+  «queue_length» = numberAt 4 b 19;
+  «green_length» = numberAt 4 b 23;
+  numbered = numberAt 2 b 27;
+  «own_count» = numberAt 2 b 29;
+  «held_count» = numberAt 2 b 31;
+  attempt = record { 0 = numberAt 4 b 33 };
+  last = lastIn b 37;
+  mark = markIn b 46;
+  «yellow_status» = numberAt 1 b 57;
+  «yellow_count» = numberAt 2 b 58;
+}
+
+-- Its first 19 bytes: sizes, state and configurations.
+unfoldable pub membershipIn : List ℕ → Membership
+membershipIn b = record {
+  servers = numberAt 1 b 0;
+  quota = numberAt 2 b 1;
+  me = numberAt 1 b 3;
+  mode = numberAt 1 b 4;
+  «configuration_status» = numberAt 1 b 5;
+  «configuration_id» = numberAt 4 b 6;
+  «configuration_set» = numberAt 1 b 10;
+  «transitional_status» = numberAt 1 b 11;
+  «transitional_set» = numberAt 1 b 12;
+  states = numberAt 1 b 13;
+  cpcs = numberAt 1 b 14;
+  come = numberAt 4 b 15;
+}
+
+unfoldable pub membershipBytes : State → List ℕ
+membershipBytes h =
+    joined
+    (bytesOf 1 (h .servers)
+    ∷ bytesOf 2 (h .quota)
+    ∷ bytesOf 1 (h .me)
+    ∷ bytesOf 1 (h .mode)
+    ∷ bytesOf 1 (h .«configuration_status»)
+    ∷ bytesOf 4 (h .«configuration_id»)
+    ∷ bytesOf 1 (h .«configuration_set»)
+    ∷ bytesOf 1 (h .«transitional_status»)
+    ∷ bytesOf 1 (h .«transitional_set»)
+    ∷ bytesOf 1 (h .states)
+    ∷ bytesOf 1 (h .cpcs)
+    ∷ bytesOf 4 (h .come)
+    ∷ [])
+
+-- The next 18: counts, and the attempt.
+unfoldable pub countsBytes : State → List ℕ
+countsBytes h =
+    joined
+    (bytesOf 4 (h .«queue_length»)
+    ∷ bytesOf 4 (h .«green_length»)
+    ∷ bytesOf 2 (h .numbered)
+    ∷ bytesOf 2 (h .«own_count»)
+    ∷ bytesOf 2 (h .«held_count»)
+    ∷ bytesOf 4 (h .attempt .0)
+    ∷ [])
+
+-- The last 23: last primary and mark, and the yellow list's status and count.
+unfoldable pub standingBytes : State → List ℕ
+standingBytes h = joined (primaryBytes (componentOf (h .last .index) (h .last .attempt) (h .last .set)) ∷ markBytes (markOf (h .mark)) ∷ [])
+
+unfoldable pub votesBytes : State → List ℕ
+votesBytes h = joined (standingBytes h ∷ yellowHeadBytes (h .«yellow_status») (h .«yellow_count») ∷ [])
+
+unfoldable pub firstBytes : State → List ℕ
+firstBytes h = joined (membershipBytes h ∷ countsBytes h ∷ [])
+
+-- The first section of a state with these numbers.
+unfoldable pub headerWritten : State → List ℕ
+headerWritten h = joined (firstBytes h ∷ votesBytes h ∷ [])

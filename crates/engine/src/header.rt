@@ -1,0 +1,186 @@
+// The state's numbers, in the first section of its buffer.
+ghost use mathlib.Core.Path.{_≡_};
+ghost use Prim.Native.Nat.{_≤_};
+ghost use lib.ListN.{length};
+ghost use Rattle.base.specs.Patched.{patched};
+ghost use Rattle.engine.specs.Header.{headerIn, membershipIn, membershipBytes, countsBytes, standingBytes, votesBytes, firstBytes, headerWritten};
+use record::AttemptIndex;
+use record::State;
+use record::blocks::copy;
+use record::blocks::put_mark;
+use record::blocks::put_primary;
+use record::blocks::put_yellow_head;
+use record::bytes::num8;
+use record::bytes::num16;
+use record::bytes::num32;
+use record::frame::last_at;
+use record::frame::mark_at;
+
+// Bytes 0 to 19: sizes, state and configurations.
+pub struct Membership {
+    pub servers: u8,
+    pub quota: u16,
+    pub me: u8,
+    pub mode: u8,
+    pub configuration_status: u8,
+    pub configuration_id: u32,
+    pub configuration_set: u8,
+    pub transitional_status: u8,
+    pub transitional_set: u8,
+    pub states: u8,
+    pub cpcs: u8,
+    pub come: u32,
+}
+
+fn load_membership(state: &[u8]) -> Membership
+    requires { ⌜ 60 ≤ length (now state) ⌝ }
+    ensures { λ r. ⌜ r ≡ membershipIn (now (state .entry)) ⌝ }
+{
+    Membership {
+        servers: num8(state, 0),
+        quota: num16(state, 1),
+        me: num8(state, 3),
+        mode: num8(state, 4),
+        configuration_status: num8(state, 5),
+        configuration_id: num32(state, 6),
+        configuration_set: num8(state, 10),
+        transitional_status: num8(state, 11),
+        transitional_set: num8(state, 12),
+        states: num8(state, 13),
+        cpcs: num8(state, 14),
+        come: num32(state, 15),
+    }
+}
+
+// The state's numbers at the front of its buffer.
+pub fn load(state: &[u8]) -> State
+    requires { ⌜ 60 ≤ length (now state) ⌝ }
+    ensures { λ r. ⌜ r ≡ headerIn (now (state .entry)) ⌝ }
+{
+    let m = load_membership(state);
+    State {
+        servers: m.servers,
+        quota: m.quota,
+        me: m.me,
+        mode: m.mode,
+        configuration_status: m.configuration_status,
+        configuration_id: m.configuration_id,
+        configuration_set: m.configuration_set,
+        transitional_status: m.transitional_status,
+        transitional_set: m.transitional_set,
+        states: m.states,
+        cpcs: m.cpcs,
+        come: m.come,
+        queue_length: num32(state, 19),
+        green_length: num32(state, 23),
+        numbered: num16(state, 27),
+        own_count: num16(state, 29),
+        held_count: num16(state, 31),
+        attempt: AttemptIndex(num32(state, 33)),
+        last: last_at(state, 37),
+        mark: mark_at(state, 46),
+        yellow_status: num8(state, 57),
+        yellow_count: num16(state, 58),
+    }
+}
+
+fn save_membership(state: &mut [u8], h: State)
+    requires { ⌜ 60 ≤ length (now state) ⌝ }
+    ensures { λ _. ⌜ now (state .exit) ≡ patched 0 (membershipBytes h) (now (state .entry)) ⌝ }
+{
+    let quota = h.quota;
+    let id = h.configuration_id;
+    let come = h.come;
+    let b: [u8; 19] = [
+        h.servers,
+        (quota / 256 % 256) as u8,
+        (quota % 256) as u8,
+        h.me,
+        h.mode,
+        h.configuration_status,
+        (id / 16777216 % 256) as u8,
+        (id / 65536 % 256) as u8,
+        (id / 256 % 256) as u8,
+        (id % 256) as u8,
+        h.configuration_set,
+        h.transitional_status,
+        h.transitional_set,
+        h.states,
+        h.cpcs,
+        (come / 16777216 % 256) as u8,
+        (come / 65536 % 256) as u8,
+        (come / 256 % 256) as u8,
+        (come % 256) as u8,
+    ];
+    copy(state, 0, &b);
+}
+
+// Bytes 19 to 37.
+fn save_counts(state: &mut [u8], h: State)
+    requires { ⌜ 60 ≤ length (now state) ⌝ }
+    ensures { λ _. ⌜ now (state .exit) ≡ patched 19 (countsBytes h) (now (state .entry)) ⌝ }
+{
+    let queue = h.queue_length;
+    let green = h.green_length;
+    let numbered = h.numbered;
+    let own = h.own_count;
+    let held = h.held_count;
+    let attempt = h.attempt.0;
+    let b: [u8; 18] = [
+        (queue / 16777216 % 256) as u8,
+        (queue / 65536 % 256) as u8,
+        (queue / 256 % 256) as u8,
+        (queue % 256) as u8,
+        (green / 16777216 % 256) as u8,
+        (green / 65536 % 256) as u8,
+        (green / 256 % 256) as u8,
+        (green % 256) as u8,
+        (numbered / 256 % 256) as u8,
+        (numbered % 256) as u8,
+        (own / 256 % 256) as u8,
+        (own % 256) as u8,
+        (held / 256 % 256) as u8,
+        (held % 256) as u8,
+        (attempt / 16777216 % 256) as u8,
+        (attempt / 65536 % 256) as u8,
+        (attempt / 256 % 256) as u8,
+        (attempt % 256) as u8,
+    ];
+    copy(state, 19, &b);
+}
+
+// Bytes 37 to 57.
+fn save_standing(state: &mut [u8], h: State)
+    requires { ⌜ 60 ≤ length (now state) ⌝ }
+    ensures { λ _. ⌜ now (state .exit) ≡ patched 37 (standingBytes h) (now (state .entry)) ⌝ }
+{
+    put_primary(state, 37, h.last.index, h.last.attempt, h.last.set);
+    put_mark(state, 46, h.mark);
+}
+
+// Bytes 37 to 60.
+fn save_votes(state: &mut [u8], h: State)
+    requires { ⌜ 60 ≤ length (now state) ⌝ }
+    ensures { λ _. ⌜ now (state .exit) ≡ patched 37 (votesBytes h) (now (state .entry)) ⌝ }
+{
+    save_standing(state, h);
+    put_yellow_head(state, 57, h.yellow_status, h.yellow_count);
+}
+
+// Bytes 0 to 37.
+fn save_first(state: &mut [u8], h: State)
+    requires { ⌜ 60 ≤ length (now state) ⌝ }
+    ensures { λ _. ⌜ now (state .exit) ≡ patched 0 (firstBytes h) (now (state .entry)) ⌝ }
+{
+    save_membership(state, h);
+    save_counts(state, h);
+}
+
+// Writes the state's numbers at the front of its buffer.
+pub fn save(state: &mut [u8], h: State)
+    requires { ⌜ 60 ≤ length (now state) ⌝ }
+    ensures { λ _. ⌜ now (state .exit) ≡ patched 0 (headerWritten h) (now (state .entry)) ⌝ }
+{
+    save_first(state, h);
+    save_votes(state, h);
+}

@@ -1,0 +1,1 @@
+// The start in its buffer.

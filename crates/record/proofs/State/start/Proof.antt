@@ -1,0 +1,19 @@
+use Rattle.record.specs.Start.{startOf}
+use borrow.Author.Needs.{needs}
+use Rattle.record.proofs.State.start.Statement.{statement}
+use Rattle.record.proofs.State.start.Tie as tie
+use Rattle.record.proofs.State.start.Reads as reads
+use Rattle.record.proofs.State.start.Lts as lts
+use Rattle.record.proofs.everyone.Reads as everyone-reads
+
+-- src/lib.rt:99:18
+everyone-requires : tie.Need-everyone-requires
+everyone-requires c κs = search needs
+
+-- src/lib.rt:92:5
+returns : tie.Need-returns
+unfolding startOf
+returns c = rw (c .everyone .ensures)
+
+pub start-spec : {M : Type 1} → statement M
+start-spec = tie.close (tie.spec everyone-requires returns)

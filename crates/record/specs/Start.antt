@@ -1,0 +1,32 @@
+-- The numbers of a server's state at the start.
+-- Assumes nothing.
+use Prim.Native.Nat.{ℕ}
+use Rattle.base.specs.Sets.{everyone}
+use Rattle.record.specs.declared.State.{State}
+
+-- "At the start: Non_prim, no configuration, nothing held or marked, yellow invalid, attempt 0, last primary (index 0, attempt 0, all servers)."
+unfoldable pub startOf : (servers quota me : ℕ) → State
+startOf n q i = record {
+  servers = n;
+  quota = q;
+  me = i;
+  mode = 0;
+  «configuration_status» = 0;
+  «configuration_id» = 0;
+  «configuration_set» = 0;
+  «transitional_status» = 0;
+  «transitional_set» = 0;
+  states = 0;
+  cpcs = 0;
+  come = 0;
+  «queue_length» = 0;
+  «green_length» = 0;
+  numbered = 0;
+  «own_count» = 0;
+  «held_count» = 0;
+  attempt = record { 0 = 0 };
+  last = record { index = record { 0 = 0 }; attempt = record { 0 = 0 }; set = everyone n };
+  mark = record { status = 0; index = record { 0 = 0 }; attempt = record { 0 = 0 }; set = 0; bits = 0 };
+  «yellow_status» = 0;
+  «yellow_count» = 0;
+}
