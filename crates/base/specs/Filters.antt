@@ -1,58 +1,43 @@
--- Filtered lists: what is in them, how they grow, that they rise as the whole does.
+-- Laws of filters, and of tests on every element.
 -- Assumes nothing.
-use Prim.Native.Nat.{ℕ, _<_}
-use mathlib.Core.Path.{_≡_, refl, sym, ap, subst, _∙_}
-use mathlib.Core.Bool.{Bool, true, false}
-use mathlib.Core.List.{List, [], _∷_, _++_, List·Memᴰ, List·Memᴰ·head, List·Memᴰ·tail, List·Memᴰ·not-nil, List·Memᴰ·cases-cons}
-use mathlib.Core.Logic.{_⊎_, inl, inr}
-use Rattle.base.specs.Tests.{pick, Known, holds, fails, known}
-use Rattle.base.specs.Lists.{filter}
-use Rattle.base.specs.Rising.{Rises}
+use mathlib.Core.Path.{_≡_, refl, ap, _∙_}
+use mathlib.Core.Bool.{Bool, true}
+use mathlib.Core.List.{List, [], _∷_, _++_, List·Memᴰ, List·Memᴰ·head, List·Memᴰ·tail}
+use Rattle.base.specs.Tests.{pick, and-holds, both-yes, Known, holds, fails, known}
+use Rattle.base.specs.Lists.{all, filter}
 
-module _ {A : Type 0} (t : A → Bool) where
-  filter-yes : (x : A) (xs : List A) → t x ≡ true → filter t (x ∷ xs) ≡ x ∷ filter t xs
+module _ {A : Type 0} where
+  pub filter-append : (t : A → Bool) (x y : List A) → filter t (x ++ y) ≡ filter t x ++ filter t y
   unfolding filter pick
-  filter-yes x xs e = ap (λ b. pick b (x ∷ filter t xs) (filter t xs)) e
+  filter-append t [] y = refl
+  filter-append t (a ∷ x) y = go (known (t a)) (filter-append t x y)
+    where
+      go : Known (t a) → filter t (x ++ y) ≡ filter t x ++ filter t y → filter t (a ∷ (x ++ y)) ≡ filter t (a ∷ x) ++ filter t y
+      go (holds e) h = rw e (ap (λ z. a ∷ z) h)
+      go (fails e) h = rw e h
 
-  filter-no : (x : A) (xs : List A) → t x ≡ false → filter t (x ∷ xs) ≡ filter t xs
+  -- Two tests that agree on every element.
+  pub filter-same : (t u : A → Bool) (x : List A) → ((a : A) → List·Memᴰ a x → t a ≡ u a) → filter t x ≡ filter u x
   unfolding filter pick
-  filter-no x xs e = ap (λ b. pick b (x ∷ filter t xs) (filter t xs)) e
-
-  pub filter-append : (xs ys : List A) → filter t (xs ++ ys) ≡ filter t xs ++ filter t ys
-  unfolding filter
-  filter-append [] ys = refl
-  filter-append (x ∷ xs) ys = go (known (t x)) (filter-append xs ys)
+  filter-same t u [] f = refl
+  filter-same t u (a ∷ x) f = go (known (u a)) (f a (List·Memᴰ·head refl)) (filter-same t u x (λ b m. f b (List·Memᴰ·tail m)))
     where
-      go : Known (t x) → filter t (xs ++ ys) ≡ filter t xs ++ filter t ys → filter t (x ∷ (xs ++ ys)) ≡ filter t (x ∷ xs) ++ filter t ys
-      go (holds e) h = filter-yes x (xs ++ ys) e ∙ ap (λ z. x ∷ z) h ∙ ap (λ z. z ++ filter t ys) (sym (filter-yes x xs e))
-      go (fails e) h = filter-no x (xs ++ ys) e ∙ h ∙ ap (λ z. z ++ filter t ys) (sym (filter-no x xs e))
+      go : Known (u a) → t a ≡ u a → filter t x ≡ filter u x → filter t (a ∷ x) ≡ filter u (a ∷ x)
+      go (holds e) p h = rw (p, e) (ap (λ z. a ∷ z) h)
+      go (fails e) p h = rw (p, e) h
 
-  pub filter-one : (x : A) → t x ≡ true → filter t (x ∷ []) ≡ x ∷ []
-  unfolding filter
-  filter-one x e = filter-yes x [] e
+  -- A test that every element passes.
+  pub filter-all : (t : A → Bool) (x : List A) → ((a : A) → List·Memᴰ a x → t a ≡ true) → filter t x ≡ x
+  unfolding filter pick
+  filter-all t [] f = refl
+  filter-all t (a ∷ x) f = rw (f a (List·Memᴰ·head refl)) (ap (λ z. a ∷ z) (filter-all t x (λ b m. f b (List·Memᴰ·tail m))))
 
-  pub filter-none : (x : A) → t x ≡ false → filter t (x ∷ []) ≡ []
-  unfolding filter
-  filter-none x e = filter-no x [] e
+  pub all-yes : (t : A → Bool) (x : List A) → ((a : A) → List·Memᴰ a x → t a ≡ true) → all t x ≡ true
+  unfolding all
+  all-yes t [] f = refl
+  all-yes t (a ∷ x) f = both-yes _ _ (f a (List·Memᴰ·head refl)) (all-yes t x (λ b m. f b (List·Memᴰ·tail m)))
 
-  pub filter-from : (x : A) (xs : List A) → List·Memᴰ x (filter t xs) → List·Memᴰ x xs × (t x ≡ true)
-  unfolding filter
-  filter-from x [] m = absurd (List·Memᴰ·not-nil m)
-  filter-from x (y ∷ xs) m = go (known (t y)) (λ k. filter-from x xs k)
-    where
-      at : t y ≡ true → (x ≡ y) ⊎ List·Memᴰ x (filter t xs) → (List·Memᴰ x (filter t xs) → List·Memᴰ x xs × (t x ≡ true)) → List·Memᴰ x (y ∷ xs) × (t x ≡ true)
-      at e (inl s) f = (List·Memᴰ·head s, ap t s ∙ e)
-      at e (inr k) f = let r = f k in (List·Memᴰ·tail (r .0), r .1)
-
-      go : Known (t y) → (List·Memᴰ x (filter t xs) → List·Memᴰ x xs × (t x ≡ true)) → List·Memᴰ x (y ∷ xs) × (t x ≡ true)
-      go (holds e) f = at e (List·Memᴰ·cases-cons (subst (List·Memᴰ x) (filter-yes y xs e) m)) f
-      go (fails e) f = let r = f (subst (List·Memᴰ x) (filter-no y xs e) m) in (List·Memᴰ·tail (r .0), r .1)
-
-  pub rises-filter : (s : A → ℕ) (xs : List A) → Rises s xs → Rises s (filter t xs)
-  unfolding filter
-  rises-filter s [] h = tt
-  rises-filter s (x ∷ xs) h = go (known (t x)) (rises-filter s xs (h .1))
-    where
-      go : Known (t x) → Rises s (filter t xs) → Rises s (filter t (x ∷ xs))
-      go (holds e) k = subst (Rises s) (sym (filter-yes x xs e)) (λ b m. h .0 b (filter-from b xs m .0), k)
-      go (fails e) k = subst (Rises s) (sym (filter-no x xs e)) k
+  pub all-member : (t : A → Bool) (x : List A) (a : A) → all t x ≡ true → List·Memᴰ a x → t a ≡ true
+  unfolding all
+  all-member t (b ∷ x) a h (List·Memᴰ·head e) = ap t e ∙ and-holds _ _ h .0
+  all-member t (b ∷ x) a h (List·Memᴰ·tail m) = all-member t x a (and-holds _ _ h .1) m

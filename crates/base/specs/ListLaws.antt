@@ -7,7 +7,7 @@ use mathlib.Core.List.{List, [], _∷_, _++_, map}
 use mathlib.Core.Option.{Option, none, some}
 use native.Mathlib.Omega.{arith}
 use native.Mathlib.Decide.{ℕ-discrete}
-use lib.ListN.{length, getD, set, length-append}
+use lib.ListN.{length, getD, set, replicate, length-append}
 use Rattle.base.specs.Tests.{pick, not-both, and-holds, both-yes}
 use Rattle.base.specs.Lists.{all, filter, atFront, present, gather, gatherAll, after, above, below, isThere, at, sum}
 
@@ -115,6 +115,14 @@ module _ {A B : Type 0} where
   unfolding gatherAll sum
   gather-all-length f g h [] = omega arith
   gather-all-length f g h (x ∷ xs) = omega (arith, length-append (f x) (gatherAll f xs), h x, gather-all-length f g h xs)
+
+-- ---- one value at every place
+
+-- With the value itself beyond the end.
+pub replicate-at : {A : Type 0} (x : A) (n k : ℕ) → getD (replicate n x) k x ≡ x
+replicate-at x zero k = refl
+replicate-at x (suc n) zero = refl
+replicate-at x (suc n) (suc k) = replicate-at x n k
 
 -- ---- a value that is there
 

@@ -2,13 +2,13 @@
 -- Assumes nothing.
 use Prim.Native.Nat.{ℕ, zero, suc}
 use mathlib.Core.Path.{_≡_, refl, sym, ap, subst, _∙_}
-use mathlib.Core.Bool.{Bool, true}
+use mathlib.Core.Bool.{Bool, true, false}
 use mathlib.Core.List.{List, [], _∷_, List·Memᴰ, List·Memᴰ·head, List·Memᴰ·tail, List·Memᴰ·not-nil, List·Memᴰ·cases-cons, List·Memᴰ·append-cases, Memᴰ·append-left, Memᴰ·append-right}
-use mathlib.Core.Logic.{_⊎_, inl, inr, ⊎-elim}
+use mathlib.Core.Logic.{⊎-elim}
 use mathlib.Core.Option.{Option, none, some, Option·none-ne-some, Option·some-injective}
 use lib.ListN.{getD}
-use Rattle.base.specs.Tests.{pick, Known, holds, fails, known}
-use Rattle.base.specs.Lists.{filter, atFront, present, gather, gatherAll}
+use Rattle.base.specs.Tests.{_or_, pick, not-both, Known, holds, fails, known}
+use Rattle.base.specs.Lists.{any, filter, atFront, present, gather, gatherAll}
 
 module _ {A : Type 0} where
   -- An element that passes the test is among those that pass.
@@ -30,16 +30,50 @@ module _ {A : Type 0} where
   present-has x (some y ∷ l) zero h = List·Memᴰ·head (sym (Option·some-injective y x h))
   present-has x (some y ∷ l) (suc k) h = List·Memᴰ·tail (present-has x l k h)
 
-  -- What is present stands at a place.
   pub present-from : (x : A) (l : List (Option A)) → List·Memᴰ x (present l) → (k : ℕ) × (getD l k none ≡ some x)
   unfolding present atFront
   present-from x [] m = absurd (List·Memᴰ·not-nil m)
   present-from x (none ∷ l) m = let r = present-from x l m in (suc (r .0), r .1)
-  present-from x (some y ∷ l) m = go (List·Memᴰ·cases-cons m) (λ k. present-from x l k)
+  present-from x (some y ∷ l) (List·Memᴰ·head e) = (0, ap some (sym e))
+  present-from x (some y ∷ l) (List·Memᴰ·tail m) = let r = present-from x l m in (suc (r .0), r .1)
+
+  -- What a filter keeps is an element that passes.
+  pub filter-from : (t : A → Bool) (x : A) (l : List A) → List·Memᴰ x (filter t l) → List·Memᴰ x l × (t x ≡ true)
+  unfolding filter pick
+  filter-from t x [] m = absurd (List·Memᴰ·not-nil m)
+  filter-from t x (y ∷ l) m = go (known (t y)) (λ z. filter-from t x l z)
     where
-      go : (x ≡ y) ⊎ List·Memᴰ x (present l) → (List·Memᴰ x (present l) → (k : ℕ) × (getD l k none ≡ some x)) → (k : ℕ) × (getD (some y ∷ l) k none ≡ some x)
-      go (inl e) f = (0, ap some (sym e))
-      go (inr k) f = let r = f k in (suc (r .0), r .1)
+      front : t y ≡ true → List·Memᴰ x (y ∷ filter t l) → (List·Memᴰ x (filter t l) → List·Memᴰ x l × (t x ≡ true)) → List·Memᴰ x (y ∷ l) × (t x ≡ true)
+      front h (List·Memᴰ·head e) f = (List·Memᴰ·head e, ap t e ∙ h)
+      front h (List·Memᴰ·tail z) f = let r = f z in (List·Memᴰ·tail (r .0), r .1)
+
+      go : Known (t y) → (List·Memᴰ x (filter t l) → List·Memᴰ x l × (t x ≡ true)) → List·Memᴰ x (y ∷ l) × (t x ≡ true)
+      go (holds h) f = front h (rw h at m) f
+      go (fails h) f = let r = f (rw h at m) in (List·Memᴰ·tail (r .0), r .1)
+
+  -- Whether some element passes.
+  pub any-yes : (t : A → Bool) (x : A) (l : List A) → List·Memᴰ x l → t x ≡ true → any t l ≡ true
+  unfolding any _or_
+  any-yes t x (y ∷ l) (List·Memᴰ·head e) h = rw (ap t (sym e), h)
+  any-yes t x (y ∷ l) (List·Memᴰ·tail m) h = go (known (t y)) (any-yes t x l m h)
+    where
+      go : Known (t y) → any t l ≡ true → any t (y ∷ l) ≡ true
+      go (holds e) k = rw e
+      go (fails e) k = rw e k
+
+  pub any-no : (t : A → Bool) (l : List A) → ((x : A) → List·Memᴰ x l → t x ≡ false) → any t l ≡ false
+  unfolding any _or_
+  any-no t [] f = refl
+  any-no t (x ∷ l) f = rw (f x (List·Memᴰ·head refl)) (any-no t l (λ y m. f y (List·Memᴰ·tail m)))
+
+  pub any-from : (t : A → Bool) (l : List A) → any t l ≡ true → (x : A) × List·Memᴰ x l × (t x ≡ true)
+  unfolding any _or_
+  any-from t [] h = not-both h
+  any-from t (x ∷ l) h = go (known (t x)) (any-from t l)
+    where
+      go : Known (t x) → (any t l ≡ true → (y : A) × List·Memᴰ y l × (t y ≡ true)) → (y : A) × List·Memᴰ y (x ∷ l) × (t y ≡ true)
+      go (holds a) f = (x, List·Memᴰ·head refl, a)
+      go (fails a) f = let r = f (sym (ap (λ z. z or any t l) a) ∙ h) in (r .0, List·Memᴰ·tail (r .1), r .2)
 
 module _ {A B : Type 0} where
   -- What is gathered was made of some element.

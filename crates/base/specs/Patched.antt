@@ -2,10 +2,10 @@
 -- Assumes nothing.
 use Prim.Native.Nat.{ℕ, zero, suc, _+_, _≤_, _<_, zero-le}
 use mathlib.Core.Path.{_≡_, refl, sym, ap, _∙_}
-use mathlib.Core.List.{List, [], _++_, append-assoc}
+use mathlib.Core.List.{List, [], _∷_, _++_, append-assoc}
 use native.Mathlib.Omega.{arith}
 use lib.ListN.{length, getD, take, drop, set, length-append, length-take, length-drop}
-use lib.Seq.{length-take-le, take-at, drop-at, drop-drop, take-append-seam, sets, sets-eq, paste, paste-zero, paste-suc}
+use lib.Seq.{length-take-le, take-at, drop-at, drop-drop, take-append-seam, take-set-le, sets, sets-eq, paste, paste-zero, paste-suc}
 use Rattle.base.specs.Bytes.{partAt}
 
 -- s with b for its elements from `at` on
@@ -70,6 +70,16 @@ module _ {A : Type 0} where
   patched-more at n b s d h k =
       let e : paste s at b n ≡ patched at (take n b) s = paste-patched at n b s (omega arith) in
       ap (λ (l : List A). set l (at + n) (getD b n d)) (sym e) ∙ paste-suc s at b n d h k ∙ paste-patched at (suc n) b s k
+
+  -- A store next behind the part is the part's last element.
+  pub patched-last : (at : ℕ) (b s : List A) (x : A) → at + length b < length s → patched at b (set s (at + length b) x) ≡ patched at (b ++ (x ∷ [])) s
+  unfolding patched
+  patched-last at b s x h =
+      let t : take at (set s (at + length b) x) ≡ take at s = take-set-le at s (at + length b) x (omega arith) in
+      let z : set s (at + length b) x ≡ patched (at + length b) (x ∷ []) s = sets-patched (at + length b) (x ∷ []) s (omega arith) in
+      let d : drop (at + length b) (set s (at + length b) x) ≡ x ∷ drop (at + length b + 1) s = ap (drop (at + length b)) z ∙ patched-from (at + length b) (x ∷ []) s (omega arith) in
+      let n : at + length (b ++ (x ∷ [])) ≡ at + length b + 1 = simp length-append (omega arith) in
+      rw (t, d, n, append-assoc)
 
   -- A part that was lent is back, with b for its n elements.
   pub lent-patched : (at n : ℕ) (b s : List A) → length b ≡ n → take at s ++ (b ++ drop n (drop at s)) ≡ patched at b s

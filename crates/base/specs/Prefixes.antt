@@ -50,3 +50,11 @@ set-rises (x ∷ l) zero v zero h = h
 set-rises (x ∷ l) zero v (suc j) h = omega arith
 set-rises (x ∷ l) (suc i) v zero h = omega arith
 set-rises (x ∷ l) (suc i) v (suc j) h = set-rises l i v j h
+
+-- A number put in leaves an entry at most as high as both are.
+pub set-most : (l : List ℕ) (i v j h : ℕ) → getD l j 0 ≤ h → (j ≡ i → v ≤ h) → getD (set l i v) j 0 ≤ h
+set-most [] i v j h a b = a
+set-most (x ∷ l) zero v zero h a b = b refl
+set-most (x ∷ l) zero v (suc j) h a b = a
+set-most (x ∷ l) (suc i) v zero h a b = a
+set-most (x ∷ l) (suc i) v (suc j) h a b = set-most l i v j h a (λ e. b (ap suc e))

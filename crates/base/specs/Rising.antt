@@ -1,7 +1,7 @@
 -- Lists that rise by a number of their elements, compared by labels: each an initial part of one order.
 -- Assumes nothing.
-use Prim.Native.Nat.{ℕ, zero, suc, _≤_, _<_}
-use mathlib.Core.Path.{_≡_, refl, sym, ap, subst, _∙_}
+use Prim.Native.Nat.{ℕ, _≤_, _<_}
+use mathlib.Core.Path.{_≡_, refl, sym, ap, _∙_}
 use mathlib.Core.List.{List, [], _∷_, _++_, map, List·Memᴰ, List·Memᴰ·head, List·Memᴰ·tail, List·Memᴰ·not-nil, List·Memᴰ·cases-cons}
 use mathlib.Core.Logic.{_⊎_, inl, inr}
 use native.Mathlib.Omega.{arith}
@@ -70,12 +70,14 @@ module _ {A L : Type 0} (f : A → L) (s : A → ℕ) where
   begins-nil y = (y, refl)
 
   -- x is initial in y and all of its labels are in y: x's labels begin y's.
-  pub included-begins : (x y : List A) → Rises s x → Rises s y → Alike x y → Initial x y → ((a : A) → List·Memᴰ a x → Labelled y (f a)) → Begins (map f x) (map f y)
+  pub included-begins : (x y : List A) → Rises s x → Rises s y → Alike x y → Initial x y → ((a : A) → List·Memᴰ a x → Labelled y (f a))
+      → Begins (map f x) (map f y)
   included-begins [] y p q h i k = begins-nil (map f y)
   included-begins (a ∷ x) [] p q h i k = absurd (List·Memᴰ·not-nil (k a (List·Memᴰ·head refl) .among))
   included-begins (a ∷ x) (b ∷ y) p q h i k = go (decLt (s a) (s b)) (decLt (s b) (s a)) (included-begins x y (p .1) (q .1) (alike-tails a b x y h))
     where
-      go : Dec (s a < s b) → Dec (s b < s a) → (Initial x y → ((c : A) → List·Memᴰ c x → Labelled y (f c)) → Begins (map f x) (map f y)) → Begins (map f (a ∷ x)) (map f (b ∷ y))
+      go : Dec (s a < s b) → Dec (s b < s a) → (Initial x y → ((c : A) → List·Memᴰ c x → Labelled y (f c)) → Begins (map f x) (map f y))
+          → Begins (map f (a ∷ x)) (map f (b ∷ y))
       go (yes u) v w =
           let z = k a (List·Memᴰ·head refl) in
           absurd (omega (arith, least b y (q .0) _ (z .among), h .numbers a _ (List·Memᴰ·head refl) (z .among) (sym (z .label))))

@@ -12,7 +12,7 @@ use Rattle.base.specs.Bytes.{partAt, joined}
 use Rattle.base.specs.BytesLaws.{part-length, part-behind}
 use Rattle.base.specs.Lists.{sum}
 use Rattle.base.specs.ListLaws.{Each}
-use Rattle.base.specs.Patched.{patched, patched-length, patched-behind}
+use Rattle.base.specs.Patched.{patched, patched-length}
 
 -- The parts have these sizes.
 abbrev pub Sized : List ℕ → List (List ℕ) → Type 0

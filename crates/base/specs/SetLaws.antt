@@ -44,10 +44,10 @@ pub in-set-suc : (k s : ℕ) → inSet (suc k) s ≡ inSet k (s / 2)
 unfolding inSet
 in-set-suc k s = rw (pow-succ' 2 k, ← (div-div-eq-div-mul s 2 (2 ^ k)))
 
-and-half : (a b : ℕ) → bitAnd a b / 2 ≡ bitAnd (a / 2) (b / 2)
+pub and-half : (a b : ℕ) → bitAnd a b / 2 ≡ bitAnd (a / 2) (b / 2)
 and-half a b = omega (arith, and-step a b, div-add-mod' (bitAnd a b) 2, rest (bitAnd a b), rest a)
 
-and-rest : (a b : ℕ) → bitAnd a b % 2 ≡ min (a % 2) (b % 2)
+pub and-rest : (a b : ℕ) → bitAnd a b % 2 ≡ min (a % 2) (b % 2)
 and-rest a b = omega (arith, and-step a b, div-add-mod' (bitAnd a b) 2, rest (bitAnd a b), rest a)
 
 or-half : (a b : ℕ) → bitOr a b / 2 ≡ bitOr (a / 2) (b / 2)

@@ -145,6 +145,12 @@ pub known : (t : Bool) → Known t
 known true = holds refl
 known false = fails refl
 
+-- A fact of whichever is chosen.
+pub pick-as : {A : Type 0} (P : A → Type 0) (t : Bool) (x y : A) → (t ≡ true → P x) → (t ≡ false → P y) → P (pick t x y)
+unfolding pick
+pick-as P true x y h k = h refl
+pick-as P false x y h k = k refl
+
 -- ---- for the code: each test of a number, as the code has it, in front of the rest of a conjunction or a choice
 
 pub and-le : (m n : ℕ) (r u : Bool) → m ≤ n → r ≡ u → r ≡ (m ≤? n and u)

@@ -1,11 +1,10 @@
 -- What is read of an image is the state written.
 -- Assumes nothing.
 use Prim.Native.Nat.{ℕ, _+_, _*_, _≤_, _<_}
-use mathlib.Core.Path.{_≡_, refl, sym, ap, ap₂, subst, _∙_}
-use mathlib.Core.Bool.{true}
-use mathlib.Core.List.{List, [], _∷_, _++_}
-use mathlib.Core.Option.{Option, none, some}
-use native.Mathlib.Nat.{mul-le-mul-right, zero-add}
+use mathlib.Core.Path.{_≡_, sym, ap, ap₂, _∙_}
+use mathlib.Core.List.{List, []}
+use mathlib.Core.Option.{Option, none}
+use native.Mathlib.Nat.{mul-le-mul-right}
 use native.Mathlib.Omega.{arith}
 use lib.ListN.{length, getD, take, drop}
 use lib.Seq.{take-append-seam, drop-append-seam}
@@ -14,15 +13,14 @@ use Rattle.base.specs.Lists.{isThere, sum}
 use Rattle.base.specs.Occurs.{Occurs, occurs-first}
 use Rattle.base.specs.Sections.{sized-at}
 use Rattle.base.specs.Sets.{inSet}
-use Rattle.format.specs.Types.{Id, Action, State}
-use Rattle.format.specs.Write.{cutsBytes, idsBytes}
+use Rattle.format.specs.Types.{Action, State}
 use Rattle.format.specs.Read.{idsAt}
 use Rattle.format.proofs.Fields.{cuts-read, ids-read}
-use Rattle.replication.specs.Machine.Types.{Log, Votes, Membership, Server, contextOf}
+use Rattle.replication.specs.Machine.Types.{Server, contextOf}
 use Rattle.replication.specs.Machine.WellFormed.{queue}
 use Rattle.engine.specs.Layout.{stateSize, theHeader, theCuts, theNoted, theHeld, theStates, theYellow, theOwn, theQueue, sections, sectionSize, offset, stateLength}
-use Rattle.engine.specs.Image.{over, senders, headerBytes, notedBytes, statesOver, actionSlots, heldSlots, section, parts, image}
-use Rattle.engine.specs.Decode.{modeNamed, configurationAt, transitionalAt, actionsAt, heldAt, statesAt, decodedAs, serversIn, quotaIn, decoded}
+use Rattle.engine.specs.Image.{over, senders, section, parts, image}
+use Rattle.engine.specs.Decode.{modeNamed, actionsAt, heldAt, statesAt, decodedAs, serversIn, quotaIn, decoded}
 use Rattle.engine.proofs.InRange.{InRange}
 use Rattle.engine.proofs.Fit.{SectionsFit, range-fits, section-length, parts-sized, image-section}
 use Rattle.engine.proofs.Slots.{actions-read, held-read, noted-read, in-senders, states-read}

@@ -1,29 +1,28 @@
 -- Each used part fits its section, so that an image is laid out in its sections.
 -- Assumes nothing.
-use Prim.Native.Nat.{ℕ, _+_, _*_, _≤_, _<_}
-use mathlib.Core.Path.{_≡_, refl, sym, ap, _∙_}
+use Prim.Native.Nat.{ℕ, _*_, _≤_, _<_}
+use mathlib.Core.Path.{_≡_, sym, ap, _∙_}
 use mathlib.Core.Bool.{true}
-use mathlib.Core.List.{List, [], _∷_, _++_}
+use mathlib.Core.List.{List, [], _++_}
 use mathlib.Core.Option.{Option, none, some}
-use native.Mathlib.Nat.{mul-le-mul-right, mul-comm}
+use native.Mathlib.Nat.{mul-le-mul-right}
 use native.Mathlib.Omega.{arith}
 use lib.ListN.{length, getD, drop, length-append, length-drop}
-use Rattle.base.specs.Bytes.{Bytes, partAt, joined}
+use Rattle.base.specs.Bytes.{Bytes, joined}
 use Rattle.base.specs.BytesLaws.{part-length, bytes-append, bytes-joined, bytes-part, bytes-drop}
-use Rattle.base.specs.Lists.{sum}
 use Rattle.base.specs.ListLaws.{Each, each-implied}
 use Rattle.base.specs.Sections.{Sized, Laid, begin-end, sized-rest, sized-length, laid-part}
 use Rattle.format.specs.Limits.{mostHeld}
-use Rattle.format.specs.Types.{Action, State, Context, state}
-use Rattle.format.specs.Write.{cutsBytes, idsBytes, lengthOf}
-use Rattle.format.proofs.Ranges.{ContextRange, PayloadRange, ActionRange, StateRange}
+use Rattle.format.specs.Types.{State, Context, state}
+use Rattle.format.specs.Write.{lengthOf}
+use Rattle.format.proofs.Ranges.{PayloadRange, ActionRange}
 use Rattle.format.proofs.IdCount.{ids-count}
 use Rattle.format.proofs.Lengths.{cuts-length, ids-length, write-length}
 use Rattle.format.proofs.WriteBytes.{cuts-bytes, ids-bytes}
 use Rattle.replication.specs.Machine.Types.{Server, contextOf}
 use Rattle.replication.specs.Machine.WellFormed.{queue, wellFormed}
-use Rattle.engine.specs.Layout.{heldSize, slotSize, stateSize, theCuts, theNoted, theHeld, theStates, theYellow, theOwn, theQueue, sections, sectionSize, offset, stateLength}
-use Rattle.engine.specs.Image.{over, headerBytes, notedBytes, statesOver, actionSlots, heldSlots, section, parts, image}
+use Rattle.engine.specs.Layout.{stateSize, theCuts, theNoted, theHeld, theStates, theYellow, theOwn, theQueue, sections, sectionSize, offset, stateLength}
+use Rattle.engine.specs.Image.{over, statesOver, section, parts, image}
 use Rattle.engine.proofs.InRange.{CollectedRange, InRange, in-range}
 use Rattle.engine.proofs.Used.{over-length, over-bytes, ActionFits, action-slots-length, action-slots-bytes, held-slots-length, held-slots-bytes, noted-length, noted-bytes, header-length, header-bytes, StateFits, states-over-length, states-over-bytes}
 

@@ -1,31 +1,28 @@
 -- The state's numbers and the first section of its image.
 -- Assumes nothing.
-use Prim.Native.Nat.{ℕ, _+_, _≤_, _<_}
-use mathlib.Core.Path.{_≡_, refl, sym, ap, subst, _∙_}
-use mathlib.Core.List.{List, [], _∷_, _++_, append-assoc, append-nil}
+use Prim.Native.Nat.{ℕ, _≤_}
+use mathlib.Core.Path.{_≡_, refl, sym, subst}
+use mathlib.Core.List.{List, [], _∷_}
 use mathlib.Core.Option.{Option, none, some}
 use native.Mathlib.Omega.{arith}
 use lib.ListN.{length}
-use Rattle.base.specs.Bytes.{Bytes, bytesOf, numberAt, partAt, joined}
+use Rattle.base.specs.Bytes.{Bytes, bytesOf, numberAt, joined}
 use Rattle.base.specs.Lists.{sum}
 use Rattle.base.specs.Occurs.{Occurs, occurs-at, parts-joined, number-occurs}
-use Rattle.format.specs.Types.{Primary, Mark}
 use Rattle.format.specs.Write.{primaryBytes, markBytes}
 use Rattle.format.specs.Read.{primaryAt, markAt}
-use Rattle.format.proofs.Lengths.{primary-length, mark-length}
+use Rattle.format.proofs.Lengths.{primary-length}
 use Rattle.format.proofs.Writing.{primary-written, mark-written}
 use Rattle.record.specs.declared.State.{State}
-use Rattle.record.specs.declared.LastPrimary.{LastPrimary}
 use Rattle.record.specs.declared.Mark as declared
 use Rattle.record.specs.Blocks.{yellowHeadBytes}
 use Rattle.record.specs.Events.{lastIn, markIn}
-use Rattle.record.specs.Written.{componentOf, markOf}
+use Rattle.record.specs.Values.{componentOf, markOf}
 use Rattle.replication.specs.Machine.Types.{Configuration, Server}
-use Rattle.replication.specs.Machine.WellFormed.{wellFormed}
-use Rattle.engine.specs.Layout.{theHeader, sections, offset, stateLength}
-use Rattle.engine.specs.Image.{configurationBytes, transitionalBytes, headerBytes, parts, image}
+use Rattle.engine.specs.Layout.{theHeader, sections, offset}
+use Rattle.engine.specs.Image.{configurationBytes, transitionalBytes, headerBytes, parts}
 use Rattle.engine.specs.Header.{statusOf, idOf, setOf, transitionalOf, lastOf, markNumbers, headerOf, headerIn, membershipBytes, countsBytes, standingBytes, votesBytes, firstBytes, headerWritten}
-use Rattle.engine.proofs.InRange.{InRange, in-range}
+use Rattle.engine.proofs.InRange.{in-range}
 use Rattle.engine.proofs.HeaderRead.{HeaderRead, header-read}
 use Rattle.engine.proofs.Fit.{well-formed-fits}
 use Rattle.engine.proofs.Decoded.{image-part}

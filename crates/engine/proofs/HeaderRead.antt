@@ -1,20 +1,18 @@
 -- The header's numbers, read where its bytes occur.
 -- Assumes nothing.
 use Prim.Native.Nat.{ℕ, _+_, _*_, _≤_, _<_}
-use mathlib.Core.Path.{_≡_, refl, sym, ap, _∙_}
-use mathlib.Core.Bool.{true, false}
-use mathlib.Core.List.{List, [], _∷_}
+use mathlib.Core.Path.{_≡_, refl, sym, ap}
+use mathlib.Core.List.{List}
 use mathlib.Core.Option.{Option, none, some}
 use native.Mathlib.Nat.{mul-le-mul}
 use native.Mathlib.Omega.{arith}
 use lib.ListN.{length, length-append}
 use Rattle.base.specs.Tests.{_=?_, pick, pick-yes, pick-no, eq-yes, eq-no}
-use Rattle.base.specs.Bytes.{bytesOf, numberAt, joined}
+use Rattle.base.specs.Bytes.{bytesOf, numberAt}
 use Rattle.base.specs.Occurs.{Occurs, occurs-at, joined-parts, number-read}
 use Rattle.format.specs.Limits.{mostServers, mostQuota}
 use Rattle.format.specs.Write.{primaryBytes, markBytes}
 use Rattle.format.specs.Read.{primaryAt, markAt}
-use Rattle.format.proofs.Ranges.{ContextRange}
 use Rattle.format.proofs.IdCount.{ids-count}
 use Rattle.format.proofs.Lengths.{primary-length, mark-length}
 use Rattle.format.proofs.Fields.{primary-read, mark-read}

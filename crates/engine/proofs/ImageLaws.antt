@@ -1,13 +1,13 @@
 -- The laws of a state's image over the bytes of its buffer.
 -- Assumes nothing.
 use Prim.Native.Nat.{ℕ, _≤_}
-use mathlib.Core.Path.{_≡_, refl, sym, ap, ap₂, _∙_}
+use mathlib.Core.Path.{_≡_, refl, sym, ap, _∙_}
 use mathlib.Core.Bool.{Bool, true, false}
 use mathlib.Core.List.{List}
-use mathlib.Core.Option.{Option, none, some}
+use mathlib.Core.Option.{none, some}
 use native.Mathlib.Omega.{arith}
 use lib.ListN.{length, drop}
-use Rattle.base.specs.Tests.{_and_, pick, pick-yes, pick-no, both-yes, and-holds}
+use Rattle.base.specs.Tests.{pick, pick-yes, both-yes, and-holds}
 use Rattle.base.specs.Bytes.{Bytes}
 use Rattle.base.specs.Lists.{same}
 use Rattle.base.specs.SameLaws.{same-yes, same-holds}

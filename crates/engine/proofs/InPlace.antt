@@ -1,26 +1,25 @@
 -- Changes in place: an image is made of the buffer by writing the sections that change.
 -- Assumes nothing.
-use Prim.Native.Nat.{ℕ, zero, suc, _+_, _*_, _≤_, _<_}
+use Prim.Native.Nat.{ℕ, zero, suc, _+_, _≤_, _<_}
 use mathlib.Core.Path.{_≡_, refl, sym, ap, subst, _∙_}
 use mathlib.Core.Bool.{true}
 use mathlib.Core.List.{List, [], _∷_, _++_, append-assoc}
-use mathlib.Core.Option.{Option, none, some}
+use mathlib.Core.Option.{some}
 use native.Mathlib.Omega.{arith}
 use native.Mathlib.Nat.{zero-add}
-use lib.ListN.{length, getD, take, drop, length-append, length-drop}
+use lib.ListN.{length, getD, take, drop, length-append}
 use lib.Seq.{take-at, drop-at}
-use Rattle.base.specs.Bytes.{partAt, joined}
+use Rattle.base.specs.Bytes.{partAt}
 use Rattle.base.specs.Lists.{sum}
 use Rattle.base.specs.ListLaws.{Each}
 use Rattle.base.specs.Patched.{patched, patched-length}
 use Rattle.base.specs.Sections.{cutBy, cut-at, laid-cut, begin-end, patched-front, patched-inside, NoneOf, patchedAll, all-patched}
-use Rattle.format.specs.Types.{State}
 use Rattle.format.specs.Write.{cutsBytes, idsBytes}
 use Rattle.replication.specs.Machine.Types.{Server}
 use Rattle.replication.specs.Machine.WellFormed.{queue, wellFormed}
 use Rattle.engine.specs.Layout.{stateSize, theHeader, theCuts, theNoted, theHeld, theStates, theYellow, theOwn, theQueue, sections, sectionSize, offset, stateLength}
 use Rattle.engine.specs.Image.{over, headerBytes, notedBytes, statesOver, actionSlots, heldSlots, section, parts, image}
-use Rattle.engine.specs.Decode.{decoded, readImage}
+use Rattle.engine.specs.Decode.{readImage}
 use Rattle.engine.proofs.Fit.{SectionsFit, well-formed-fits, parts-sized, image-section}
 use Rattle.engine.proofs.ImageLaws.{image-read}
 

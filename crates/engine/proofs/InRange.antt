@@ -1,21 +1,21 @@
 -- What a well-formed state's numbers and lists are, as far as its image has to hold them.
 -- Assumes nothing.
-use Prim.Native.Nat.{ℕ, suc, _+_, _*_, _-_, _^_, _≤_, _<_}
-use mathlib.Core.Path.{_≡_, refl, sym, ap, _∙_}
-use mathlib.Core.Bool.{Bool, true}
-use mathlib.Core.List.{List, [], _∷_, _++_, map}
+use Prim.Native.Nat.{ℕ, suc, _+_, _*_, _^_, _≤_, _<_}
+use mathlib.Core.Path.{_≡_, refl, ap}
+use mathlib.Core.Bool.{true}
+use mathlib.Core.List.{List, [], _∷_, _++_}
 use mathlib.Core.Option.{Option, none, some}
 use native.Mathlib.Omega.{arith}
-use lib.ListN.{length, length-append, length-map}
-use Rattle.base.specs.Tests.{and-holds, both-yes, le-holds, lt-holds, eq-holds, not-both}
+use lib.ListN.{length, length-map}
+use Rattle.base.specs.Tests.{and-holds, both-yes, le-holds, eq-holds, not-both}
 use Rattle.base.specs.Lists.{all, above}
-use Rattle.base.specs.ListLaws.{Each, all-each, each-append, each-implied, above-length}
+use Rattle.base.specs.ListLaws.{Each, all-each, above-length}
 use Rattle.format.specs.Limits.{mostServers, mostQuota, mostHeld, mostIndex}
 use Rattle.format.specs.Types.{Id, Action, State, Context}
 use Rattle.format.specs.Range.{actionOk, lengthOk, payloadOk, cutsOk, ownSetOk, idsInRange}
 use Rattle.format.proofs.Ranges.{ContextRange, context-range, length-range, set-range, index-range, configuration-range, PayloadRange, payload-range, ActionRange, action-range, PrimaryRange, primary-range, MarkRange, mark-range, YellowRange, yellow-range, StateRange, state-range}
 use Rattle.format.proofs.IdCount.{ids-count}
-use Rattle.replication.specs.Machine.Types.{Log, Votes, Configuration, Membership, Server, contextOf}
+use Rattle.replication.specs.Machine.Types.{Log, Configuration, Server, contextOf}
 use Rattle.replication.specs.Machine.Colours.{cut}
 use Rattle.replication.specs.Machine.WellFormed.{logRanges, votesRanges, configurationFits, transitionalFits, collectedFits, collectedFit, membershipRanges, ranges, idsIn, queue, sameIds, ownListFits, wellFormed}
 

@@ -13,3 +13,5 @@ pub mod ImageLaws
 pub mod InPlace
 pub mod Refusals
 pub mod HeaderLaws
+pub mod StartLaws
+pub mod Taken

@@ -2,20 +2,20 @@
 -- Assumes nothing.
 use Prim.Native.Nat.{ℕ, _≤_}
 use mathlib.Core.Path.{_≡_, refl, sym, ap, _∙_}
-use mathlib.Core.Bool.{Bool, true, false}
+use mathlib.Core.Bool.{true, false}
 use mathlib.Core.List.{List}
 use mathlib.Core.Option.{Option, none, some}
 use native.Mathlib.Omega.{arith}
 use lib.ListN.{length}
-use Rattle.base.specs.Tests.{_or_, _<?_, pick, pick-yes, pick-no, and-holds, or-fails, lt-fails, lt-yes, Known, holds, fails, known}
+use Rattle.base.specs.Tests.{pick-yes, pick-no, and-holds, or-fails, lt-fails, Known, holds, fails, known}
 use Rattle.format.specs.Range.{sizesOk, contextOk}
 use Rattle.replication.specs.Machine.Types.{Server, contextOf}
 use Rattle.replication.specs.Machine.Step.{step}
 use Rattle.replication.specs.Machine.WellFormed.{ranges, wellFormed}
-use Rattle.engine.specs.Layout.{stateLength, outLength, leastStateLength, leastOutLength}
+use Rattle.engine.specs.Layout.{stateLength, outLength}
 use Rattle.engine.specs.Image.{image}
 use Rattle.engine.specs.Decode.{decodedAs, decoded, serversIn, quotaIn, reads, readImage}
-use Rattle.engine.specs.Outcome.{Result, refusal, tooShort, resultOf, stepFrom, stepOn, stateNumber}
+use Rattle.engine.specs.Outcome.{refusal, tooShort, resultOf, stepFrom, stepOn, stateNumber}
 use Rattle.engine.proofs.ImageLaws.{image-read}
 use Rattle.engine.proofs.InPlace.{Holds, read-holds}
 

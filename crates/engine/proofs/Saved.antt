@@ -1,8 +1,8 @@
 -- The state's numbers as the code stores them.
 -- Assumes nothing.
-use Prim.Native.Nat.{ℕ, _+_, _*_, _/_, _%_, _≤_, _<_}
-use mathlib.Core.Path.{_≡_, refl, sym, ap, _∙_}
-use mathlib.Core.List.{List, [], _∷_, _++_}
+use Prim.Native.Nat.{ℕ, _/_, _%_, _≤_}
+use mathlib.Core.Path.{_≡_, refl, ap, _∙_}
+use mathlib.Core.List.{List, [], _∷_}
 use native.Mathlib.Omega.{arith}
 use native.Mathlib.Nat.{mod-eq-of-lt}
 use lib.ListN.{length}
@@ -15,7 +15,7 @@ use Rattle.base.specs.Stores.{two-blocks}
 use Rattle.format.specs.Write.{primaryBytes, markBytes}
 use Rattle.format.proofs.Lengths.{primary-length}
 use Rattle.record.specs.Blocks.{yellowHeadBytes}
-use Rattle.record.specs.Written.{componentOf, markOf}
+use Rattle.record.specs.Values.{componentOf, markOf}
 use Rattle.record.specs.declared.State.{State}
 use Rattle.engine.specs.Header.{membershipBytes, countsBytes, standingBytes, votesBytes, firstBytes, headerWritten}
 

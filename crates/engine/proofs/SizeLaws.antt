@@ -1,19 +1,17 @@
 -- Required lengths as the code computes them.
 -- Assumes nothing.
 use Prim.Native.Nat.{ℕ, _+_, _*_, _≤_}
-use mathlib.Core.Path.{_≡_, refl, sym, ap, _∙_}
-use mathlib.Core.Bool.{Bool, true, false, not}
-use mathlib.Core.List.{List}
+use mathlib.Core.Path.{_≡_, sym, _∙_}
+use mathlib.Core.Bool.{Bool, false, not}
 use native.Mathlib.Nat.{mul-le-mul-right}
 use native.Mathlib.Omega.{arith}
 use borrow.Author.Tests.{not-false}
-use lib.ListN.{take}
 use mir.Syntax.{w32}
 use mir.Val.{Fits}
 use Rattle.base.specs.Lists.{sum}
 use Rattle.format.specs.Limits.{mostServers}
 use Rattle.format.specs.Range.{sizesOk}
-use Rattle.format.proofs.Ranges.{SizesRange, sizes-range}
+use Rattle.format.proofs.Ranges.{sizes-range}
 use Rattle.engine.specs.declared.Lengths.{Lengths}
 use Rattle.engine.specs.Layout.{SizesIn, stateSize, sections, stateLength, outLength}
 
@@ -28,7 +26,7 @@ pub state-length-made : (n q all states : ℕ) → all ≡ n * q → states ≡ 
 unfolding stateLength sections sum stateSize
 state-length-made n q all states e f = rw (f, e) (omega arith)
 
-pub out-length-made : (n q all : ℕ) → all ≡ n * q → 130 * all + 960 ≡ outLength n q
+pub out-length-made : (n q all : ℕ) → all ≡ n * q → 130 * all ≡ outLength n q
 unfolding outLength
 out-length-made n q all e = rw e
 

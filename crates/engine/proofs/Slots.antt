@@ -3,12 +3,12 @@
 use Prim.Native.Nat.{ℕ, zero, suc, _+_, _*_, _^_, _≤_, _<_}
 use mathlib.Core.Path.{_≡_, refl, sym, ap, ap₂, _∙_}
 use mathlib.Core.Bool.{Bool, true, false}
-use mathlib.Core.List.{List, [], _∷_, _++_}
+use mathlib.Core.List.{List, [], _∷_}
 use mathlib.Core.Option.{Option, none, some}
 use native.Mathlib.Nat.{add-zero, one-le-pow}
 use native.Mathlib.Omega.{arith}
-use lib.ListN.{length, getD, take, drop, length-drop}
-use Rattle.base.specs.Tests.{_or_, _=?_, pick, pick-yes, pick-no, eq-yes, eq-no}
+use lib.ListN.{length, getD, take, drop}
+use Rattle.base.specs.Tests.{_or_, pick, pick-yes, pick-no, eq-yes, eq-no}
 use Rattle.base.specs.Bytes.{bytesOf, numberAt, numbersAt, joined}
 use Rattle.base.specs.Lists.{isThere}
 use Rattle.base.specs.ListLaws.{Each}

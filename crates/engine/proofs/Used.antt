@@ -1,17 +1,16 @@
 -- The used parts of an image: how long they are, that they are bytes, and what writing them twice gives.
 -- Assumes nothing.
-use Prim.Native.Nat.{ℕ, suc, _+_, _*_, _-_, _≤_}
-use mathlib.Core.Path.{_≡_, refl, sym, ap, ap₂, _∙_}
-use mathlib.Core.List.{List, [], _∷_, _++_, map}
+use Prim.Native.Nat.{ℕ, suc, _*_, _-_, _≤_}
+use mathlib.Core.Path.{_≡_, refl, ap, ap₂, _∙_}
+use mathlib.Core.List.{List, [], _∷_, _++_}
 use mathlib.Core.Option.{Option, none, some}
 use native.Mathlib.Nat.{suc-mul}
 use native.Mathlib.Omega.{arith}
 use lib.ListN.{length, take, drop, length-append, length-take, length-drop, length-replicate}
-use lib.Seq.{drop-at, take-at, take-all}
+use lib.Seq.{drop-at, take-at}
 use Rattle.base.specs.Bytes.{Bytes, bytesOf, joined}
 use Rattle.base.specs.BytesLaws.{bytes-nil, bytes-small, bytes-append, bytes-cons, bytes-take, bytes-drop, bytes-joined}
 use Rattle.base.specs.ListLaws.{Each}
-use Rattle.format.specs.Limits.{mostPayload}
 use Rattle.format.specs.Types.{Action, State, state}
 use Rattle.format.specs.Write.{write, actionBytes, payloadBytes, primaryBytes, markBytes}
 use Rattle.format.proofs.Lengths.{action-length, payload-length}

@@ -10,7 +10,7 @@ use Rattle.format.specs.Write.{primaryBytes, markBytes}
 use Rattle.record.specs.declared.State.{State}
 use Rattle.record.specs.declared.LastPrimary.{LastPrimary}
 use Rattle.record.specs.declared.Mark as declared
-use Rattle.record.specs.Written.{componentOf, markOf}
+use Rattle.record.specs.Values.{componentOf, markOf}
 use Rattle.record.specs.Blocks.{yellowHeadBytes}
 use Rattle.record.specs.Events.{lastIn, markIn}
 use Rattle.replication.specs.Machine.Types.{Configuration, Server}

@@ -2,7 +2,7 @@
 -- Assumes nothing.
 use Prim.Native.Nat.{ℕ, _+_, _*_, _≤_}
 use mathlib.Core.List.{List, [], _∷_}
-use lib.ListN.{take, getD}
+use lib.ListN.{length, take, getD}
 use Rattle.base.specs.Lists.{sum}
 use Rattle.format.specs.Limits.{fewestServers, mostServers, leastQuota, mostQuota, mostPayload, mostHeld}
 
@@ -67,10 +67,15 @@ pub record SizesIn (n q : ℕ) : Type 0 where
 unfoldable pub stateLength : (n q : ℕ) → ℕ
 stateLength n q = sum (sections n q)
 
--- The required length of the outgoing buffer: n × q retransmissions by position and n × q as red, of 65 bytes each at most, and 16 held requests
--- sent as actions, of 60 bytes each at most. A State or a CPC is shorter, and no event sends two of these sorts.
+-- Room for a start.
+pub record StartRoom (n q : ℕ) (b : List ℕ) : Type 0 where
+  pub sizes : SizesIn n q
+  pub long : stateLength n q ≤ length b
+
+-- The required length of the outgoing buffer: an event puts out at most n × q retransmissions by position and n × q as red, of 65 bytes each at
+-- most; whatever else an event puts out is shorter.
 unfoldable pub outLength : (n q : ℕ) → ℕ
-outLength n q = 130 * (n * q) + 960
+outLength n q = 130 * (n * q)
 
 -- "with n or q in the state out of range, shorter than the formula for n 2 and q 1"
 unfoldable pub leastStateLength : ℕ

@@ -7,9 +7,11 @@ pub mod sizes; // sizes.rt: how long the buffers must be
 pub mod places; // places.rt: where the sections begin
 pub mod starting; // starting.rt: the start in its buffer
 
+use record::State;
 use sizes::out_length;
 use sizes::sizes_in;
 use sizes::state_length;
+use starting::begin;
 
 // 0 and the required lengths of both buffers, or 2 where servers or quota is out of range.
 #[repr(C)]
@@ -35,4 +37,27 @@ pub extern "C" fn guzbytor_lengths(servers: u32, quota: u32) -> Lengths
         state: state_length(servers, quota),
         out: out_length(servers, quota),
     }
+}
+
+// Makes the start of server `me` in its buffer. 7 where the buffer is too short, 2 where a number is out of range: then it is
+// as before.
+#[no_mangle]
+pub extern "C" fn guzbytor_start(state: &mut [u8], servers: u32, quota: u32, me: u32) -> u32
+    ensures { λ r. ⌜ started r (now (state .exit)) ≡ startOn servers quota me (now (state .entry)) ⌝ }
+{
+    if !sizes_in(servers, quota) {
+        let least = state_length(State::FEWEST_SERVERS as u32, State::LEAST_QUOTA as u32);
+        if state.len() < least as usize {
+            return 7;
+        }
+        return 2;
+    }
+    if state.len() < state_length(servers, quota) as usize {
+        return 7;
+    }
+    if servers <= me {
+        return 2;
+    }
+    begin(state, servers as u8, quota as u16, me as u8);
+    0
 }

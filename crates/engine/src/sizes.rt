@@ -51,5 +51,5 @@ pub fn out_length(n: u32, q: u32) -> u32
     requires { ⌜ SizesIn n q ⌝ }
     ensures { λ r. ⌜ r ≡ outLength n q ⌝ }
 {
-    130 * product(n, q) + 960
+    130 * product(n, q)
 }

@@ -1,1 +1,32 @@
 // The start in its buffer.
+ghost use mathlib.Core.Path.{_≡_};
+ghost use Prim.Native.Nat.{_+_, _≤_};
+ghost use lib.ListN.{length};
+ghost use Rattle.base.specs.Patched.{patched};
+ghost use Rattle.replication.specs.Machine.Types.{start};
+ghost use Rattle.engine.specs.Layout.{StartRoom};
+ghost use Rattle.engine.specs.Image.{zeros, image};
+use crate::header::save;
+use record::State;
+
+// Zeros for `count` bytes from `at` on.
+pub fn clear(state: &mut [u8], at: usize, count: usize)
+    requires { ⌜ at + count ≤ length (now state) ⌝ }
+    ensures { λ _. ⌜ now (state .exit) ≡ patched at (zeros count) (now (state .entry)) ⌝ }
+{
+    let mut j: usize = 0;
+    while j < count {
+        state[at + j] = 0;
+        j += 1;
+    }
+}
+
+// Makes the start: its numbers, and zeros for the cuts and noted lengths.
+pub fn begin(state: &mut [u8], servers: u8, quota: u16, me: u8)
+    requires { ⌜ StartRoom servers quota (now state) ⌝ }
+    ensures { λ _. ⌜ now (state .exit) ≡ image (start servers quota me) (now (state .entry)) ⌝ }
+{
+    let h = State::start(servers, quota, me);
+    save(state, h);
+    clear(state, 60, 6 * servers as usize);
+}

@@ -18,14 +18,14 @@ use Rattle.record.specs.declared.reader.Reading.the-variants.{Good, Refu
 
 -- the reading
 
-pub good-says : (c : Context) (r : Reading) (v : Event) (e : List ℕ) → meaning (c .servers) r e ≡ read (contextOf c) e → r ≡ Good v
-    → read (contextOf c) e ≡ says (recordOf (c .servers) v e)
+pub good-says : (c : Context) (r : Reading) (v : Event) (e : List ℕ) → meaning r e ≡ read (contextOf c) e → r ≡ Good v
+    → read (contextOf c) e ≡ says (recordOf v e)
 unfolding meaning
-good-says c r v e h f = sym h ∙ ap (λ (x : Reading). meaning (c .servers) x e) f
+good-says c r v e h f = sym h ∙ ap (λ (x : Reading). meaning x e) f
 
-pub refused-says : (c : Context) (r : Reading) (k : ℕ) (e : List ℕ) → meaning (c .servers) r e ≡ read (contextOf c) e → r ≡ Refused k → read (contextOf c) e ≡ refused k
+pub refused-says : (c : Context) (r : Reading) (k : ℕ) (e : List ℕ) → meaning r e ≡ read (contextOf c) e → r ≡ Refused k → read (contextOf c) e ≡ refused k
 unfolding meaning
-refused-says c r k e h f = sym h ∙ ap (λ (x : Reading). meaning (c .servers) x e) f
+refused-says c r k e h f = sym h ∙ ap (λ (x : Reading). meaning x e) f
 
 pub good-placed : (c : Context) (r : Reading) (v : Event) (e : List ℕ) → placed c r e → r ≡ Good v → PlacedEvent c v e
 unfolding placed

@@ -15,7 +15,8 @@ use Rattle.base.specs.BytesLaws.{part-length, part-are-bytes, numbers-length}
 use Rattle.format.specs.Types.{Context as FormatContext, State as FormatState}
 use Rattle.format.specs.Range.{payloadOk, lengthOk, cutsOk, indexOk, primaryOk, markOk, statusOk, idsOk, yellowOk, configurationOk, stateOk}
 use Rattle.record.specs.Context.{contextOf}
-use Rattle.record.specs.Events.{stateOf}
+use Rattle.record.specs.Values.{stateOf}
+use Rattle.record.specs.Events.{stateFrom, ListsInside}
 use Rattle.record.specs.Reading.{numbersOk, listsOk}
 use Rattle.record.specs.declared.Context.{Context}
 use Rattle.record.specs.declared.events.StateAt.{StateAt}
@@ -58,16 +59,21 @@ state-split c s h k =
     (idsOk c (s .yellow .ids)))
     ∙ rw (h, eq-yes (length (s .cuts)) (c .servers) k)
 
-state-parts : (c : Context) (s : StateAt) (e : List ℕ) → Fits w32 (s .configuration)
-    → (numbersOk (contextOf c) (stateOf (c .servers) s e) and listsOk (contextOf c) (stateOf (c .servers) s e)) ≡ stateOk (contextOf c) (stateOf (c .servers) s e)
-unfolding stateOf contextOf
-state-parts c s e h = state-split (contextOf c) (stateOf (c .servers) s e) (configuration-law (s .configuration) h) (numbers-length 2 (c .servers) e (s .«cuts_at»))
+state-parts : (c : Context) (s : StateAt) (e : List ℕ) → Fits w32 (s .head .configuration) → ListsInside (c .servers) s e
+    → (numbersOk (contextOf c) (stateFrom s e) and listsOk (contextOf c) (stateFrom s e)) ≡ stateOk (contextOf c) (stateFrom s e)
+unfolding stateFrom stateOf contextOf
+state-parts c s e h i =
+    state-split (contextOf c) (stateFrom s e) (configuration-law (s .head .configuration) h) (numbers-length 2 (s .head .servers) e (s .«cuts_at») ∙ i .servers)
 
-pub state-denied : (c : Context) (s : StateAt) (e : List ℕ) (b : Bool) → Fits w32 (s .configuration)
-    → ((d : List ℕ) → b ≡ numbersOk (contextOf c) (stateOf (c .servers) s d)) → not b ≡ true → false ≡ stateOk (contextOf c) (stateOf (c .servers) s e)
-state-denied c s e b h f g = and-denied b (numbersOk (contextOf c) (stateOf (c .servers) s e)) _ (f e) g ∙ state-parts c s e h
+-- What is known of the numbers wherever the lists lie.
+module _ (c : Context) (s : StateAt) (e : List ℕ) (b : Bool) (h : Fits w32 (s .head .configuration)) (i : ListsInside (c .servers) s e)
+    (f : (cuts ids : List ℕ) (at start : ℕ) → b ≡ numbersOk (contextOf c) (stateOf (s .head) cuts at ids start)) where
+  numbers-are : b ≡ numbersOk (contextOf c) (stateFrom s e)
+  unfolding stateFrom
+  numbers-are = f e e (s .«cuts_at») (s .«yellow_at»)
 
-pub state-answered : (c : Context) (s : StateAt) (e : List ℕ) (b r : Bool) → Fits w32 (s .configuration)
-    → ((d : List ℕ) → b ≡ numbersOk (contextOf c) (stateOf (c .servers) s d)) → not b ≡ false → r ≡ listsOk (contextOf c) (stateOf (c .servers) s e)
-    → r ≡ stateOk (contextOf c) (stateOf (c .servers) s e)
-state-answered c s e b r h f g k = and-answered b (numbersOk (contextOf c) (stateOf (c .servers) s e)) r _ (f e) g k ∙ state-parts c s e h
+  pub state-denied : not b ≡ true → false ≡ stateOk (contextOf c) (stateFrom s e)
+  state-denied g = and-denied b (numbersOk (contextOf c) (stateFrom s e)) _ numbers-are g ∙ state-parts c s e h i
+
+  pub state-answered : (r : Bool) → not b ≡ false → r ≡ listsOk (contextOf c) (stateFrom s e) → r ≡ stateOk (contextOf c) (stateFrom s e)
+  state-answered r g k = and-answered b (numbersOk (contextOf c) (stateFrom s e)) r _ numbers-are g k ∙ state-parts c s e h i

@@ -1,7 +1,7 @@
 -- What the functions that frame a kind answer.
 -- Assumes nothing.
-use Prim.Native.Nat.{ℕ, _+_, _*_}
-use mathlib.Core.Path.{_≡_, refl, ap}
+use Prim.Native.Nat.{ℕ, _+_, _*_, _<_}
+use mathlib.Core.Path.{_≡_, refl, sym, ap, _∙_}
 use mathlib.Core.List.{List}
 use mathlib.Core.Option.{some}
 use native.Mathlib.Omega.{arith}
@@ -10,9 +10,10 @@ use Rattle.base.specs.Tests.{_=?_, pick-yes, pick-no, eq-yes, eq-no}
 use Rattle.base.specs.Bytes.{numberAt}
 use Rattle.format.specs.Types.{action, retransmission, state, Kind, ofAction, ofRetransmission, ofState, ofCpc, ofRegular, ofTransitional, ofRequest, ofRecovery}
 use Rattle.format.specs.Read.{payloadAt, idAt, actionAt, primaryAt, markAt, yellowAt, stateAt, lengthFor, recordIn}
-use Rattle.record.specs.Values.{idOf, primaryOf, markOf}
-use Rattle.record.specs.Events.{actionOf, stateOf, recordOf, Inside, PayloadInside, ListsInside, actionIn, lastIn, markIn, stateIn}
+use Rattle.record.specs.Values.{idOf, componentOf, primaryOf, markOf, actionOf, stateOf}
+use Rattle.record.specs.Events.{actionFrom, stateFrom, recordOf, Inside, PayloadInside, ListsInside, actionIn, lastIn, markIn, headIn}
 use Rattle.record.specs.Framed.{bodyIn, found, FoundInside, Answers}
+use Rattle.record.specs.declared.StateHead.{StateHead}
 use Rattle.record.specs.declared.events.ActionAt.{ActionAt}
 use Rattle.record.specs.declared.events.StateAt.{StateAt}
 use Rattle.record.specs.declared.events.Event.{Event}
@@ -25,15 +26,15 @@ pub bad : (k : Kind) (n : ℕ) (e : List ℕ) → (lengthFor k n e ≡ length e 
 unfolding bodyIn found FoundInside
 bad k n e h = record { is = pick-no (lengthFor k n e =? length e) _ _ _ (eq-no _ _ h) refl; within = tt }
 
-pub good : (k : Kind) (n : ℕ) (e : List ℕ) (v : Event) → lengthFor k n e ≡ length e → recordOf n v e ≡ recordIn k n e → Inside n v e
+pub good : (k : Kind) (n : ℕ) (e : List ℕ) (v : Event) → lengthFor k n e ≡ length e → recordOf v e ≡ recordIn k n e → Inside n v e
     → Answers (bodyIn k n e) n (Good v) e
 unfolding bodyIn found FoundInside
 good k n e v h f i = record { is = pick-yes (lengthFor k n e =? length e) _ _ _ (eq-yes _ _ h) (ap some f); within = i }
 
 -- an action, here and in a retransmission
 
-action-is : (e : List ℕ) (at : ℕ) → actionOf (actionIn e at) e ≡ actionAt e at
-unfolding actionOf actionIn actionAt idOf idAt payloadAt
+action-is : (e : List ℕ) (at : ℕ) → actionFrom (actionIn e at) e ≡ actionAt e at
+unfolding actionFrom actionOf actionIn actionAt idOf idAt payloadAt
 action-is e at = let a : at + 7 + 1 ≡ at + 8 = omega arith in rw a
 
 pub action-good : (e : List ℕ) (m : ℕ) (a : ActionAt) → m ≡ numberAt 1 e 11 → 12 + m ≡ length e → a ≡ actionIn e 4 → (n : ℕ)
@@ -49,19 +50,43 @@ retransmission-good e m s p a f h g i j n =
 
 -- a State
 
-state-is : (n : ℕ) (e : List ℕ) → stateOf n (stateIn n e) e ≡ stateAt n e
-unfolding stateOf stateIn stateAt primaryOf lastIn primaryAt markOf markIn markAt yellowAt
-state-is n e =
-    let a : 37 + 2 * n + 1 ≡ 38 + 2 * n = omega arith in
-    let b : 37 + 2 * n + 3 ≡ 40 + 2 * n = omega arith in
-    rw (a, b)
+-- its numbers behind the cuts begin at `at`
+abbrev stateIn : StateHead → ℕ → StateAt
+stateIn h at = record { head = h; «cuts_at» = 9; «yellow_at» = at + 31 }
 
-pub state-good : (n : ℕ) (e : List ℕ) (m : ℕ) (s : StateAt) → m ≡ numberAt 2 e (38 + 2 * n) → 40 + 2 * n + 3 * m ≡ length e → s ≡ stateIn n e
-    → Answers (bodyIn ofState n e) n (Good (State s)) e
-unfolding lengthFor recordOf recordIn Inside stateIn
-state-good n e m s f h g =
-    let i : ListsInside n (stateIn n e) e = record { cuts = omega arith; ids = omega arith } in
-    good ofState n e (State s) (omega arith) (ap state (rw g (state-is n e))) (rw g i)
+state-is : (n : ℕ) (e : List ℕ) → stateFrom (stateIn (headIn n e (9 + 2 * n)) (9 + 2 * n)) e ≡ stateAt n e
+unfolding stateFrom stateOf headIn stateAt primaryOf componentOf lastIn primaryAt markOf markIn markAt yellowAt
+state-is n e =
+    let a₁ : 9 + 2 * n + 4 ≡ 13 + 2 * n = omega arith in
+    let a₂ : 9 + 2 * n + 8 ≡ 17 + 2 * n = omega arith in
+    let a₃ : 9 + 2 * n + 17 ≡ 26 + 2 * n = omega arith in
+    let a₄ : 9 + 2 * n + 28 ≡ 37 + 2 * n = omega arith in
+    let a₅ : 9 + 2 * n + 29 ≡ 37 + 2 * n + 1 = omega arith in
+    let a₆ : 9 + 2 * n + 31 ≡ 37 + 2 * n + 3 = omega arith in
+    rw (a₁, a₂, a₃, a₄, a₅, a₆)
+
+-- how long the bytes say that it is
+state-length : (n : ℕ) (e : List ℕ) (h : StateHead) → h ≡ headIn n e (9 + 2 * n) → lengthFor ofState n e ≡ 9 + 2 * n + 31 + 3 * h .«yellow_count»
+unfolding lengthFor headIn
+state-length n e h g =
+    let a : 9 + 2 * n + 29 ≡ 38 + 2 * n = omega arith in
+    rw (g, a) (omega arith)
+
+pub state-short : (n : ℕ) (e : List ℕ) → length e < 9 + 2 * n + 31 → Answers (bodyIn ofState n e) n Bad e
+unfolding lengthFor
+state-short n e h = bad ofState n e (λ z. omega arith)
+
+pub state-bad : (n : ℕ) (e : List ℕ) (h : StateHead) → h ≡ headIn n e (9 + 2 * n) → (9 + 2 * n + 31 + 3 * h .«yellow_count» ≡ length e → ⊥)
+    → Answers (bodyIn ofState n e) n Bad e
+state-bad n e h g k = bad ofState n e (λ z. k (sym (state-length n e h g) ∙ z))
+
+pub state-good : (n : ℕ) (e : List ℕ) (h : StateHead) → h ≡ headIn n e (9 + 2 * n) → 9 + 2 * n + 31 + 3 * h .«yellow_count» ≡ length e
+    → Answers (bodyIn ofState n e) n (Good (State (stateIn h (9 + 2 * n)))) e
+unfolding recordOf recordIn Inside headIn
+state-good n e h g k =
+    let s : h .servers ≡ n = ap (λ (x : StateHead). x .servers) g in
+    let i : ListsInside n (stateIn h (9 + 2 * n)) e = record { servers = s; cuts = omega arith; ids = omega arith } in
+    good ofState n e (State (stateIn h (9 + 2 * n))) (state-length n e h g ∙ k) (ap state (rw g (state-is n e))) i
 
 -- the rest
 

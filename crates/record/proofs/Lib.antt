@@ -11,8 +11,10 @@ pub mod Arms
 pub mod Judged
 pub mod Placing
 pub mod Returns
-pub mod WriterBlocks
-pub mod WriterRecords
+pub mod WriterPlaces
+pub mod WriterNumbers
+pub mod WriterReturns
 pub mod WriterState
 pub mod WriterRoundTrip
 pub mod Callers
+pub mod Modes

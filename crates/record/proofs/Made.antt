@@ -1,17 +1,17 @@
 -- A struct that the code makes of numbers that it read is the one that the definition names.
 -- Assumes nothing.
-use Prim.Native.Nat.{ℕ, _+_, _*_}
+use Prim.Native.Nat.{ℕ, _+_}
 use mathlib.Core.Path.{_≡_}
 use mathlib.Core.List.{List}
 use Rattle.base.specs.Bytes.{numberAt}
-use Rattle.record.specs.Events.{actionIn, lastIn, markIn, stateIn}
+use Rattle.record.specs.Events.{actionIn, lastIn, markIn, headIn}
 use Rattle.record.specs.declared.LastPrimary.{LastPrimary}
 use Rattle.record.specs.declared.Mark.{Mark}
+use Rattle.record.specs.declared.StateHead.{StateHead}
 use Rattle.record.specs.declared.events.ActionAt.{ActionAt}
-use Rattle.record.specs.declared.events.StateAt.{StateAt}
 
 pub action-made : (e : List ℕ) (at x i g m : ℕ) → x ≡ numberAt 1 e at → i ≡ numberAt 2 e (at + 1) → g ≡ numberAt 4 e (at + 3) → m ≡ numberAt 1 e (at + 7)
-    → _≡_ {A = ActionAt} (record { creator = x; index = i; «green_length» = g; «payload_at» = at + 8; «payload_length» = m }) (actionIn e at)
+    → _≡_ {A = ActionAt} (record { head = record { creator = x; index = i; «green_length» = g }; «payload_at» = at + 8; «payload_length» = m }) (actionIn e at)
 unfolding actionIn
 action-made e at x i g m a b c d = rw (a, b, c, d)
 
@@ -25,21 +25,20 @@ pub mark-made : (e : List ℕ) (at t i a s b : ℕ) → t ≡ numberAt 1 e at �
 unfolding markIn
 mark-made e at t i a s b f g h k l = rw (f, g, h, k, l)
 
-pub state-made : (e : List ℕ) (n s i g a y m : ℕ) (p : LastPrimary) (k : Mark) → s ≡ numberAt 1 e 4 → i ≡ numberAt 4 e 5 → g ≡ numberAt 4 e (9 + 2 * n)
-    → a ≡ numberAt 4 e (13 + 2 * n) → p ≡ lastIn e (17 + 2 * n) → k ≡ markIn e (26 + 2 * n) → y ≡ numberAt 1 e (37 + 2 * n) → m ≡ numberAt 2 e (38 + 2 * n)
-    → _≡_ {A = StateAt}
+pub head-made : (e : List ℕ) (n at s i g a y m : ℕ) (p : LastPrimary) (k : Mark) → s ≡ numberAt 1 e 4 → i ≡ numberAt 4 e 5 → g ≡ numberAt 4 e at
+    → a ≡ numberAt 4 e (at + 4) → p ≡ lastIn e (at + 8) → k ≡ markIn e (at + 17) → y ≡ numberAt 1 e (at + 28) → m ≡ numberAt 2 e (at + 29)
+    → _≡_ {A = StateHead}
     (record {
       sender = s;
       configuration = i;
-      «cuts_at» = 9;
+      servers = n;
       «green_length» = g;
       attempt = record { 0 = a };
       last = p;
       mark = k;
       «yellow_status» = y;
-      «yellow_at» = 40 + 2 * n;
       «yellow_count» = m;
     })
-    (stateIn n e)
-unfolding stateIn
-state-made e n s i g a y m p k f₁ f₂ f₃ f₄ f₅ f₆ f₇ f₈ = rw (f₁, f₂, f₃, f₄, f₅, f₆, f₇, f₈)
+    (headIn n e at)
+unfolding headIn
+head-made e n at s i g a y m p k f₁ f₂ f₃ f₄ f₅ f₆ f₇ f₈ = rw (f₁, f₂, f₃, f₄, f₅, f₆, f₇, f₈)

@@ -15,8 +15,8 @@ use Rattle.format.proofs.Ranges.{context-range, id-range, payload-range, state-
 use Rattle.format.proofs.IdCount.{ids-count}
 use Rattle.format.proofs.Writing.{ids-number}
 use Rattle.record.specs.Context.{contextOf, ContextIn}
-use Rattle.record.specs.Values.{idOf}
-use Rattle.record.specs.Events.{actionOf, stateOf, recordOf, Inside, PayloadInside, ListsInside}
+use Rattle.record.specs.Values.{idOf, actionOf, stateOf}
+use Rattle.record.specs.Events.{actionFrom, stateFrom, recordOf, Inside, PayloadInside, ListsInside}
 use Rattle.record.specs.Reading.{PlacedAction, PlacedState, Placed, PlacedEvent}
 use Rattle.record.specs.declared.Context.{Context}
 use Rattle.record.specs.declared.events.ActionAt.{ActionAt}
@@ -37,26 +37,26 @@ length-in c l h = le-holds l (c .servers * c .quota) h
 payload-short : (at m : ℕ) (e : List ℕ) → at + m ≤ length e → payloadOk (partAt m e at) ≡ true → m ≤ 48
 payload-short at m e h k = let z = payload-range (partAt m e at) k .most in let y = part-length m e at h in omega arith
 
-action-placed : (c : Context) (a : ActionAt) (e : List ℕ) → PayloadInside a e → actionOk (contextOf c) (actionOf a e) ≡ true → PlacedAction c a e
-unfolding actionOk actionOf PayloadInside idOf contextOf
+action-placed : (c : Context) (a : ActionAt) (e : List ℕ) → PayloadInside a e → actionOk (contextOf c) (actionFrom a e) ≡ true → PlacedAction c a e
+unfolding actionOk actionFrom actionOf PayloadInside idOf contextOf
 action-placed c a e i h =
     let x = and-holds _ _ h in
     let y = and-holds _ _ (x .1) in
-    let d = id-range (contextOf c) (idOf (a .creator) (a .index)) (x .0) in
+    let d = id-range (contextOf c) (idOf (a .head .creator) (a .head .index)) (x .0) in
     record {
       creator = d .creator;
       least = d .least;
       most = d .most;
-      green = length-in c (a .«green_length») (y .0);
+      green = length-in c (a .head .«green_length») (y .0);
       short = payload-short (a .«payload_at») (a .«payload_length») e i (y .1);
       inside = i;
     }
 
 state-placed : (c : Context) (s : StateAt) (e : List ℕ) → contextOk (contextOf c) ≡ true → ListsInside (c .servers) s e
-    → stateOk (contextOf c) (stateOf (c .servers) s e) ≡ true → PlacedState c s e
-unfolding stateOk stateOf contextOf
+    → stateOk (contextOf c) (stateFrom s e) ≡ true → PlacedState c s e
+unfolding stateOk stateFrom stateOf contextOf
 state-placed c s e k i h =
-    let r = state-range (contextOf c) (stateOf (c .servers) s e) (context-range (contextOf c) k) h in
+    let r = state-range (contextOf c) (stateFrom s e) (context-range (contextOf c) k) h in
     let a₁ = and-holds _ _ h in
     let a₂ = and-holds _ _ (a₁ .1) in
     let a₃ = and-holds _ _ (a₂ .1) in
@@ -64,15 +64,16 @@ state-placed c s e k i h =
     let a₅ = and-holds _ _ (a₄ .1) in
     record {
       sender = r .sender;
-      green = length-in c (s .«green_length») (a₅ .0);
+      servers = i .servers;
+      green = length-in c (s .head .«green_length») (a₅ .0);
       cuts = i .cuts;
       ids = i .ids;
       count =
-          rw (ids-number (s .«yellow_count») e (s .«yellow_at»)) at (ids-count (contextOf c) (idsAt (s .«yellow_count») e (s .«yellow_at»)) (r .yellow .ids) (r .yellow .differ));
+          rw (ids-number (s .head .«yellow_count») e (s .«yellow_at»)) at (ids-count (contextOf c) (idsAt (s .head .«yellow_count») e (s .«yellow_at»)) (r .yellow .ids) (r .yellow .differ));
     }
 
 parts-placed : (c : Context) (v : Event) (e : List ℕ) → contextOk (contextOf c) ≡ true → Inside (c .servers) v e
-    → fieldsOk (contextOf c) (recordOf (c .servers) v e) ≡ true → Placed c v e
+    → fieldsOk (contextOf c) (recordOf v e) ≡ true → Placed c v e
 unfolding fieldsOk recordOf Inside Placed contextOf
 parts-placed c (Action a) e k i h = action-placed c a e i h
 parts-placed c (Retransmission s p a) e k i h =
@@ -87,5 +88,5 @@ parts-placed c (Request at m) e k i h = record { short = payload-short at m e i 
 parts-placed c Recovery e k i h = tt
 
 pub event-placed : (c : Context) (v : Event) (e : List ℕ) → contextOk (contextOf c) ≡ true → Inside (c .servers) v e → Bytes e
-    → fieldsOk (contextOf c) (recordOf (c .servers) v e) ≡ true → PlacedEvent c v e
+    → fieldsOk (contextOf c) (recordOf v e) ≡ true → PlacedEvent c v e
 event-placed c v e k i b h = record { context = context-in c k; ranges = h; parts = parts-placed c v e k i h; bytes = b }

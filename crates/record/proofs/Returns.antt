@@ -30,20 +30,20 @@ use Rattle.record.proofs.Placing.{context-in, event-placed}
 unframed : (c : Context) (e : List ℕ) (f : Framed) → Answers (framedIn (c .servers) e) (c .servers) f e → f ≡ Bad → read (contextOf c) e ≡ refused 1
 unfolding found judged contextOf
 unframed c e f h g =
-    read-judged (contextOf c) e ∙ ap (judged (contextOf c)) (sym (h .is) ∙ ap (λ (x : Framed). found (c .servers) x e) g)
+    read-judged (contextOf c) e ∙ ap (judged (contextOf c)) (sym (h .is) ∙ ap (λ (x : Framed). found x e) g)
 
 framed-as : (c : Context) (e : List ℕ) (f : Framed) (v : Event) → Answers (framedIn (c .servers) e) (c .servers) f e → f ≡ Good v
-    → read (contextOf c) e ≡ judged (contextOf c) (some (recordOf (c .servers) v e))
+    → read (contextOf c) e ≡ judged (contextOf c) (some (recordOf v e))
 unfolding found contextOf
 framed-as c e f v h g =
-    read-judged (contextOf c) e ∙ ap (judged (contextOf c)) (sym (h .is) ∙ ap (λ (x : Framed). found (c .servers) x e) g)
+    read-judged (contextOf c) e ∙ ap (judged (contextOf c)) (sym (h .is) ∙ ap (λ (x : Framed). found x e) g)
 
 inside-as : (c : Context) (e : List ℕ) (f : Framed) (v : Event) → Answers (framedIn (c .servers) e) (c .servers) f e → f ≡ Good v → Inside (c .servers) v e
 unfolding FoundInside
 inside-as c e f v h g = rw g at (h .within)
 
 pub read-unframed : (c : Context) (e : List ℕ) (f : Framed) → Answers (framedIn (c .servers) e) (c .servers) f e → f ≡ Bad
-    → meaning (c .servers) (Refused 1) e ≡ read (contextOf c) e
+    → meaning (Refused 1) e ≡ read (contextOf c) e
 unfolding meaning
 read-unframed c e f h g = sym (unframed c e f h g)
 
@@ -56,33 +56,33 @@ unfolding placed
 refusal-two c e = record { least = omega arith; most = omega arith }
 
 pub read-context : (c : Context) (e : List ℕ) (f : Framed) (v : Event) (b : Bool) → Answers (framedIn (c .servers) e) (c .servers) f e → f ≡ Good v
-    → b ≡ contextOk (contextOf c) → not b ≡ true → meaning (c .servers) (Refused 2) e ≡ read (contextOf c) e
+    → b ≡ contextOk (contextOf c) → not b ≡ true → meaning (Refused 2) e ≡ read (contextOf c) e
 unfolding meaning judged recordOk
 read-context c e f v b h g i j =
-    pick-no _ (refused 2) _ _ (sym (and-no (contextOk (contextOf c)) (fieldsOk (contextOf c) (recordOf (c .servers) v e)) (sym i ∙ not-true b j))) refl
+    pick-no _ (refused 2) _ _ (sym (and-no (contextOk (contextOf c)) (fieldsOk (contextOf c) (recordOf v e)) (sym i ∙ not-true b j))) refl
     ∙ sym (framed-as c e f v h g)
 
 both-no : (t u : Bool) → u ≡ false → (t and u) ≡ false
 both-no t u h = rw h (sym (and-false t))
 
 pub read-ranges : (c : Context) (e : List ℕ) (f : Framed) (v : Event) (b d : Bool) → Answers (framedIn (c .servers) e) (c .servers) f e → f ≡ Good v
-    → b ≡ contextOk (contextOf c) → not b ≡ false → d ≡ fieldsOk (contextOf c) (recordOf (c .servers) v e) → not d ≡ true
-    → meaning (c .servers) (Refused 2) e ≡ read (contextOf c) e
+    → b ≡ contextOk (contextOf c) → not b ≡ false → d ≡ fieldsOk (contextOf c) (recordOf v e) → not d ≡ true
+    → meaning (Refused 2) e ≡ read (contextOf c) e
 unfolding meaning judged recordOk
 read-ranges c e f v b d h g i j k l =
-    pick-no _ (refused 2) _ _ (both-no (contextOk (contextOf c)) (fieldsOk (contextOf c) (recordOf (c .servers) v e)) (sym k ∙ not-true d l)) refl
+    pick-no _ (refused 2) _ _ (both-no (contextOk (contextOf c)) (fieldsOk (contextOf c) (recordOf v e)) (sym k ∙ not-true d l)) refl
     ∙ sym (framed-as c e f v h g)
 
 pub read-good : (c : Context) (e : List ℕ) (f : Framed) (v : Event) (b d : Bool) → Answers (framedIn (c .servers) e) (c .servers) f e → f ≡ Good v
-    → b ≡ contextOk (contextOf c) → not b ≡ false → d ≡ fieldsOk (contextOf c) (recordOf (c .servers) v e) → not d ≡ false
-    → meaning (c .servers) (Says v) e ≡ read (contextOf c) e
+    → b ≡ contextOk (contextOf c) → not b ≡ false → d ≡ fieldsOk (contextOf c) (recordOf v e) → not d ≡ false
+    → meaning (Says v) e ≡ read (contextOf c) e
 unfolding meaning judged recordOk
 read-good c e f v b d h g i j k l =
-    pick-yes _ (says (recordOf (c .servers) v e)) _ _ (both-yes (contextOk (contextOf c)) (fieldsOk (contextOf c) (recordOf (c .servers) v e)) (sym i ∙ not-false b j) (sym k ∙ not-false d l)) refl
+    pick-yes _ (says (recordOf v e)) _ _ (both-yes (contextOk (contextOf c)) (fieldsOk (contextOf c) (recordOf v e)) (sym i ∙ not-false b j) (sym k ∙ not-false d l)) refl
     ∙ sym (framed-as c e f v h g)
 
 pub read-placed : (c : Context) (e : List ℕ) (f : Framed) (v : Event) (b d : Bool) → Answers (framedIn (c .servers) e) (c .servers) f e → f ≡ Good v → Bytes e
-    → b ≡ contextOk (contextOf c) → not b ≡ false → d ≡ fieldsOk (contextOf c) (recordOf (c .servers) v e) → not d ≡ false → placed c (Says v) e
+    → b ≡ contextOk (contextOf c) → not b ≡ false → d ≡ fieldsOk (contextOf c) (recordOf v e) → not d ≡ false → placed c (Says v) e
 unfolding placed
 read-placed c e f v b d h g y i j k l = event-placed c v e (sym i ∙ not-false b j) (inside-as c e f v h g) y (sym k ∙ not-false d l)
 

@@ -14,10 +14,11 @@ use Rattle.format.specs.Range.{recordOk}
 use Rattle.format.specs.Read.{read}
 use Rattle.format.specs.Write.{write}
 use Rattle.format.proofs.RoundTrip.{read-written}
-use Rattle.record.specs.declared.writer.StateHead.{StateHead}
+use Rattle.record.specs.declared.StateHead.{StateHead}
 use Rattle.record.specs.declared.writer.Written.{Written}
 use Rattle.record.specs.declared.writer.Written.the-variants.{Next}
-use Rattle.record.specs.Written.{Put, next, full, put, putOf, putState, stateOf}
+use Rattle.record.specs.Values.{stateOf}
+use Rattle.record.specs.Written.{Put, next, full, put, putOf, putState}
 
 -- What a writer that answers `Next` ensures, as a put.
 pub answer-next : (w : Written) (z : Put) (n : ℕ) (buffer : List ℕ) → putOf w buffer ≡ z → w ≡ Next n → z ≡ next n buffer
@@ -83,7 +84,7 @@ put-unchanged b old buffer at e = chosen-full _ _ old buffer (λ h. let c : _≡
 
 -- The same of a State.
 pub state-put : (h : StateHead) (cuts ids old buffer : List ℕ) (at place : ℕ) → putState h cuts ids at old ≡ next place buffer
-    → put (write (state (stateOf h cuts ids))) at old ≡ next place buffer
+    → put (write (state (stateOf h cuts 0 ids 0))) at old ≡ next place buffer
 unfolding putState
 state-put h cuts ids old buffer at place e = chosen-next _ _ old buffer place e .1
 

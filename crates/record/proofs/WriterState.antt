@@ -1,27 +1,35 @@
--- A State's bytes are the writer's blocks, and they are put where there is room.
+-- What each return of the writer of a State is worth.
 -- Assumes nothing.
-use Prim.Native.Nat.{ℕ, _+_, _-_, _*_, _≤_, _<_}
+use Prim.Native.Nat.{ℕ, _+_, _*_, _≤_, _<_}
 use mathlib.Core.Path.{_≡_, refl, sym, ap, _∙_}
-use mathlib.Core.Bool.{false}
-use mathlib.Core.List.{List, [], _∷_, append-assoc, append-nil}
+use mathlib.Core.Bool.{Bool, true, false}
+use mathlib.Core.List.{List, _++_}
 use native.Mathlib.Omega.{arith}
 use mir.Val.{Fits}
 use mir.Syntax.{w8}
 use lib.ListN.{length, getD, take, length-append}
-use Rattle.base.specs.Tests.{_≤?_, _and_, pick-yes, pick-no, le-yes, le-no, both-yes, and-yes, and-no}
-use Rattle.base.specs.Bytes.{Bytes, bytesOf, numbersAt, partAt, joined}
-use Rattle.base.specs.BytesLaws.{bytes-length, numbers-length}
-use Rattle.base.specs.Patched.{patched}
-use Rattle.format.specs.Types.{Primary, Mark, state, kindNumber, kindOf}
+use lib.Seq.{length-take-le}
+use Rattle.base.specs.Tests.{_≤?_, _and_, pick, pick-yes, pick-no, le-yes, le-no, le-holds, both-yes, and-holds, and-yes, and-no, Known, known, holds, fails}
+use Rattle.base.specs.Bytes.{Bytes, bytesOfAll, numbersAt, partAt}
+use Rattle.base.specs.BytesLaws.{numbers-length}
+use Rattle.base.specs.NumberStores.{bytes-all-length}
+use Rattle.base.specs.Lists.{sum}
+use Rattle.base.specs.Patched.{patched, patched-next}
+use Rattle.format.specs.Types.{state, kindNumber, ofState}
 use Rattle.format.specs.Read.{idsAt}
-use Rattle.format.specs.Write.{cutsBytes, primaryBytes, markBytes, idsBytes, yellowBytes, stateBytes, bodyOf, write, lengthOf}
-use Rattle.format.proofs.Lengths.{primary-length, mark-length, cuts-length, ids-length, write-length}
+use Rattle.format.specs.Write.{cutsBytes, idsBytes, write, lengthOf}
+use Rattle.format.proofs.Lengths.{cuts-length, ids-length, write-length}
 use Rattle.format.proofs.Writing.{cuts-written, ids-written, ids-number}
-use Rattle.record.specs.declared.writer.StateHead.{StateHead}
+use Rattle.record.specs.declared.StateHead.{StateHead}
+use Rattle.record.specs.declared.writer.Written.{Written}
 use Rattle.record.specs.declared.writer.Written.the-variants.{Next, Full}
-use Rattle.record.specs.Written.{Put, full, put, putOf, putState, stateOf, yellowOf}
-use Rattle.record.specs.Blocks.{pairBytes, startBytes, progressBytes, standingBytes, yellowListBytes, restBytes, stateBlocks, StateRoom}
-use Rattle.record.proofs.WriterRecords.{opening-blocks, put-full, put-next}
+use Rattle.record.specs.Values.{stateOf}
+use Rattle.record.specs.Written.{full, put, putOf, putState, placeAfter, statePlace}
+use Rattle.record.specs.Blocks.{openingNumbers, standingNumbers, StateRoom}
+use Rattle.record.proofs.WriterPlaces.{next-full, room-next, put-full, put-next}
+use Rattle.record.proofs.WriterNumbers.{openingWidths, standingWidths, state-bytes}
+
+-- ---- the bytes given
 
 cuts-first : (n : ℕ) (e : List ℕ) → Bytes e → 2 * n ≤ length e → cutsBytes (numbersAt 2 n e 0) ≡ take (2 * n) e
 unfolding partAt
@@ -35,58 +43,103 @@ ids-first n e b h =
     let l : length (idsBytes (idsAt n e 0)) ≡ 3 * n = ids-length (idsAt n e 0) ∙ ap (λ (m : ℕ). 3 * m) (ids-number n e 0) in
     sym (ids-written n e 0 b (omega arith) .part) ∙ ap (λ (m : ℕ). take m e) l
 
-blocks-flat : (o x g a p m v w y : List ℕ) → joined (o ∷ x ∷ g ∷ a ∷ p ∷ m ∷ joined (v ∷ w ∷ y ∷ []) ∷ [])
-    ≡ joined (joined (o ∷ x ∷ []) ∷ joined (joined (joined (joined (g ∷ a ∷ []) ∷ p ∷ []) ∷ m ∷ []) ∷ joined (v ∷ w ∷ y ∷ []) ∷ []) ∷ [])
-unfolding joined
-blocks-flat o x g a p m v w y = simp (append-nil, append-assoc)
+-- ---- two blocks make a State
 
-rest-length : (x y : List ℕ) (g a v w : ℕ) (p : Primary) (m : Mark)
-    → 7 + length (joined (x ∷ bytesOf 4 g ∷ bytesOf 4 a ∷ primaryBytes p ∷ markBytes m ∷ joined (bytesOf 1 v ∷ bytesOf 2 w ∷ y ∷ []) ∷ [])) ≡ 38 + (length x + length y)
-unfolding joined
-rest-length x y g a v w p m = simp (append-nil, length-append, bytes-length, primary-length, mark-length) (omega arith)
+two-parts : (a b w s s₁ s₂ : List ℕ) (at n : ℕ) → at ≤ length s → length a ≡ n → w ≡ a ++ b → s₁ ≡ patched at a s → s₂ ≡ patched (at + n) b s₁ → s₂ ≡ patched at w s
+two-parts a b w s s₁ s₂ at n h l e f g = g ∙ rw (f, e, ← l) (patched-next at a b s h)
 
--- the bytes of its cuts and of its ids are x and y
-state-blocks : (h : StateHead) (cuts ids x y : List ℕ) → cutsBytes (numbersAt 2 (h .servers) cuts 0) ≡ x → idsBytes (idsAt (h .«yellow_count») ids 0) ≡ y
-    → length (idsAt (h .«yellow_count») ids 0) ≡ h .«yellow_count» → write (state (stateOf h cuts ids)) ≡ stateBlocks h x y
-unfolding write bodyOf kindOf kindNumber stateBytes stateOf yellowBytes yellowOf stateBlocks startBytes restBytes standingBytes progressBytes pairBytes yellowListBytes
-state-blocks h cuts ids x y e f g =
-    rw (e, f, g)
-    (opening-blocks 3 (h .sender) (h .configuration) _ ∙ rw (rest-length x y) (blocks-flat _ x _ _ _ _ _ _ y))
+opening-length : (vs x : List ℕ) (n : ℕ) → length x ≡ n → length (bytesOfAll openingWidths vs ++ x) ≡ 9 + n
+unfolding sum
+opening-length vs x n h = length-append (bytesOfAll openingWidths vs) x ∙ rw (bytes-all-length openingWidths vs, h)
 
-pub state-filled : (h : StateHead) (cuts ids s s₁ : List ℕ) (at : ℕ) → ((i : ℕ) → Fits w8 (getD cuts i 0)) → ((i : ℕ) → Fits w8 (getD ids i 0))
-    → StateRoom h cuts ids at s → s₁ ≡ patched at (stateBlocks h (take (2 * h .servers) cuts) (take (3 * h .«yellow_count») ids)) s
-    → s₁ ≡ patched at (write (state (stateOf h cuts ids))) s
-state-filled h cuts ids s s₁ at b c k e =
-    let x : cutsBytes (numbersAt 2 (h .servers) cuts 0) ≡ take (2 * h .servers) cuts = cuts-first (h .servers) cuts (λ i. b i .fits) (k .enoughCuts) in
-    let y : idsBytes (idsAt (h .«yellow_count») ids 0) ≡ take (3 * h .«yellow_count») ids = ids-first (h .«yellow_count») ids (λ i. c i .fits) (k .enoughIds) in
-    e ∙ ap (λ (l : List ℕ). patched at l s) (sym (state-blocks h cuts ids _ _ x y (ids-number (h .«yellow_count») ids 0)))
+module _ (h : StateHead) (cuts ids s : List ℕ) (at : ℕ) (r : StateRoom h cuts ids at s) where
+  pub cuts-given : 2 * h .servers ≡ length (take (2 * h .servers) cuts)
+  cuts-given = sym (length-take-le (2 * h .servers) cuts (r .enoughCuts))
 
-state-size : (h : StateHead) (cuts ids : List ℕ) → length (write (state (stateOf h cuts ids))) ≡ 40 + (2 * h .servers + 3 * h .«yellow_count»)
-unfolding lengthOf stateOf yellowOf
+  pub ids-given : 3 * h .«yellow_count» ≡ length (take (3 * h .«yellow_count») ids)
+  ids-given = sym (length-take-le (3 * h .«yellow_count») ids (r .enoughIds))
+
+  -- Each block has room.
+  pub first-fits : (ws : List ℕ) → sum ws ≡ 9 → at + sum ws + length (take (2 * h .servers) cuts) ≤ length s
+  first-fits ws e = let z = cuts-given in omega (arith, r .room)
+
+  pub second-fits : (ws s₁ : List ℕ) → length s₁ ≡ length s → sum ws ≡ 31
+      → at + (9 + 2 * h .servers) + sum ws + length (take (3 * h .«yellow_count») ids) ≤ length s₁
+  second-fits ws s₁ l e = let z = ids-given in omega (arith, r .room)
+
+  pub state-filled : (vs us s₁ s₂ : List ℕ) → ((i : ℕ) → Fits w8 (getD cuts i 0)) → ((i : ℕ) → Fits w8 (getD ids i 0))
+      → vs ≡ openingNumbers (38 + (2 * h .servers + 3 * h .«yellow_count»)) (kindNumber ofState) (h .sender) (h .configuration) → us ≡ standingNumbers h
+      → s₁ ≡ patched at (bytesOfAll openingWidths vs ++ take (2 * h .servers) cuts) s
+      → s₂ ≡ patched (at + (9 + 2 * h .servers)) (bytesOfAll standingWidths us ++ take (3 * h .«yellow_count») ids) s₁
+      → s₂ ≡ patched at (write (state (stateOf h cuts 0 ids 0))) s
+  state-filled vs us s₁ s₂ b c e f g i =
+      let x : List ℕ = take (2 * h .servers) cuts in
+      let y : List ℕ = take (3 * h .«yellow_count») ids in
+      let lx : length x ≡ 2 * h .servers = sym cuts-given in
+      let ly : length y ≡ 3 * h .«yellow_count» = sym ids-given in
+      let ex : cutsBytes (numbersAt 2 (h .servers) cuts 0) ≡ x = cuts-first (h .servers) cuts (λ i. b i .fits) (r .enoughCuts) in
+      let ey : idsBytes (idsAt (h .«yellow_count») ids 0) ≡ y = ids-first (h .«yellow_count») ids (λ i. c i .fits) (r .enoughIds) in
+      let w = state-bytes h cuts ids x y ex ey (ids-number (h .«yellow_count») ids 0) in
+      two-parts _ _ _ s s₁ s₂ at (9 + 2 * h .servers) (omega (arith, r .room)) (opening-length vs x _ lx) (w ∙ rw (e, f, lx, ly)) g i
+
+-- ---- the place of a State
+
+module _ (h : StateHead) (cuts ids l at : ℕ) where
+  pub place-cuts : cuts < 2 * h .servers → Full ≡ statePlace h cuts ids l at
+  unfolding statePlace
+  place-cuts k = pick-no _ _ _ _ (sym (and-no (2 * h .servers ≤? cuts) _ (le-no _ _ k))) refl
+
+  pub place-ids : 2 * h .servers ≤ cuts → ids < 3 * h .«yellow_count» → Full ≡ statePlace h cuts ids l at
+  unfolding statePlace
+  place-ids k j = pick-no _ _ _ _ (sym (and-yes false _ _ (le-yes _ _ k) (sym (le-no _ _ j)))) refl
+
+  pub place-state : (w : Written) → 2 * h .servers ≤ cuts → 3 * h .«yellow_count» ≤ ids → w ≡ placeAfter l at (40 + (2 * h .servers + 3 * h .«yellow_count»))
+      → w ≡ statePlace h cuts ids l at
+  unfolding statePlace
+  place-state w k j e = pick-yes _ w _ _ (both-yes _ _ (le-yes _ _ k) (le-yes _ _ j)) e
+
+-- ---- the writer
+
+state-size : (h : StateHead) (cuts ids : List ℕ) → length (write (state (stateOf h cuts 0 ids 0))) ≡ 40 + (2 * h .servers + 3 * h .«yellow_count»)
+unfolding lengthOf stateOf
 state-size h cuts ids =
-    write-length (state (stateOf h cuts ids)) ∙ rw (numbers-length 2 (h .servers) cuts 0, ids-number (h .«yellow_count») ids 0) (omega arith)
+    write-length (state (stateOf h cuts 0 ids 0)) ∙ rw (numbers-length 2 (h .servers) cuts 0, ids-number (h .«yellow_count») ids 0) (omega arith)
 
--- ---- each return of the writer; r is the room from `at` on
+-- The bytes given hold all cuts and ids.
+abbrev enough : StateHead → (cuts ids : List ℕ) → Bool
+enough h cuts ids = 2 * h .servers ≤? length cuts and 3 * h .«yellow_count» ≤? length ids
 
-module _ (h : StateHead) (cuts ids s : List ℕ) (at : ℕ) where
-  pub state-cuts : length cuts < 2 * h .servers → putOf Full s ≡ putState h cuts ids at s
-  unfolding putOf putState
-  state-cuts k = pick-no _ _ _ _ (sym (and-no (2 * h .servers ≤? length cuts) _ (le-no _ _ k))) refl
+module _ (h : StateHead) (cuts ids s : List ℕ) (at : ℕ) (w : Written) (e : w ≡ statePlace h (length cuts) (length ids) (length s) at) where
+  placed-at : enough h cuts ids ≡ true → w ≡ placeAfter (length s) at (40 + (2 * h .servers + 3 * h .«yellow_count»))
+  unfolding statePlace
+  placed-at t = e ∙ sym (pick-yes (enough h cuts ids) _ _ _ t refl)
 
-  pub state-ids : 2 * h .servers ≤ length cuts → length ids < 3 * h .«yellow_count» → putOf Full s ≡ putState h cuts ids at s
-  unfolding putOf putState
-  state-ids k j = pick-no _ _ _ _ (sym (and-yes false _ _ (le-yes _ _ k) (sym (le-no _ _ j)))) refl
+  unplaced : enough h cuts ids ≡ false → w ≡ Full
+  unfolding statePlace
+  unplaced t = e ∙ sym (pick-no (enough h cuts ids) _ _ _ t refl)
 
-  whole : 2 * h .servers ≤ length cuts → 3 * h .«yellow_count» ≤ length ids → (z : Put) → z ≡ put (write (state (stateOf h cuts ids))) at s → z ≡ putState h cuts ids at s
+  room-at : (k : ℕ) → w ≡ Next k → Known (enough h cuts ids) → StateRoom h cuts ids at s
+  room-at k f (holds t) =
+      let z = and-holds _ _ t in
+      record { enoughCuts = le-holds _ _ (z .0); enoughIds = le-holds _ _ (z .1); room = room-next (length s) at _ w (placed-at t) k f }
+  room-at k f (fails t) = next-full k (sym f ∙ unplaced t)
+
+  pub state-room : (k : ℕ) → w ≡ Next k → StateRoom h cuts ids at s
+  state-room k f = room-at k f (known (enough h cuts ids))
+
+  full-at : w ≡ Full → Known (enough h cuts ids) → putOf Full s ≡ putState h cuts ids at s
+  unfolding putState putOf
+  full-at f (holds t) = pick-yes (enough h cuts ids) _ _ _ t (put-full _ s at _ w (state-size h cuts ids) (placed-at t) f)
+  full-at f (fails t) = pick-no (enough h cuts ids) _ _ _ t refl
+
+  pub state-full : w ≡ Full → putOf Full s ≡ putState h cuts ids at s
+  state-full f = full-at f (known (enough h cuts ids))
+
+  next-at : (k : ℕ) (s₁ : List ℕ) → w ≡ Next k → s₁ ≡ patched at (write (state (stateOf h cuts 0 ids 0))) s → Known (enough h cuts ids)
+      → putOf w s₁ ≡ putState h cuts ids at s
   unfolding putState
-  whole k j z e = pick-yes _ z _ _ (both-yes _ _ (le-yes _ _ k) (le-yes _ _ j)) e
+  next-at k s₁ f g (holds t) = pick-yes (enough h cuts ids) _ _ _ t (put-next _ s at _ w (state-size h cuts ids) (placed-at t) k s₁ f g)
+  next-at k s₁ f g (fails t) = next-full k (sym f ∙ unplaced t)
 
-  module _ (r : ℕ) (f : r ≡ length s - at) (k : 2 * h .servers ≤ length cuts) (j : 3 * h .«yellow_count» ≤ length ids) where
-    pub state-full : r < 40 + (2 * h .servers + 3 * h .«yellow_count») → putOf Full s ≡ putState h cuts ids at s
-    unfolding putOf
-    state-full l = whole k j (full s) (put-full _ s at _ r (state-size h cuts ids) f l)
-
-    pub state-next : (s₁ : List ℕ) → 40 + (2 * h .servers + 3 * h .«yellow_count») ≤ r → s₁ ≡ patched at (write (state (stateOf h cuts ids))) s
-        → putOf (Next (at + (40 + (2 * h .servers + 3 * h .«yellow_count»)))) s₁ ≡ putState h cuts ids at s
-    unfolding putOf
-    state-next s₁ l g = whole k j _ (put-next _ s s₁ at _ r (state-size h cuts ids) f (omega arith) l g)
+  pub state-next : (k : ℕ) (s₁ : List ℕ) → w ≡ Next k → s₁ ≡ patched at (write (state (stateOf h cuts 0 ids 0))) s → putOf w s₁ ≡ putState h cuts ids at s
+  state-next k s₁ f g = next-at k s₁ f g (known (enough h cuts ids))

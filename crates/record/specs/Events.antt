@@ -1,57 +1,45 @@
 -- What an event that was read stands for, together with its bytes.
 -- Assumes nothing.
 use Prim.Native.Nat.{ℕ, _+_, _*_, _≤_}
+use mathlib.Core.Path.{_≡_}
 use mathlib.Core.List.{List}
 use lib.ListN.{length}
-use Rattle.base.specs.Bytes.{numberAt, numbersAt, partAt}
+use Rattle.base.specs.Bytes.{numberAt, partAt}
 use Rattle.format.specs.Types.{Action as FormatAction, State as FormatState, Record, action, retransmission, state, cpc, regular, transitional, request, recovery}
-use Rattle.format.specs.Read.{idsAt}
-use Rattle.record.specs.Values.{idOf, primaryOf, markOf}
+use Rattle.record.specs.Values.{actionOf, stateOf}
 use Rattle.record.specs.declared.LastPrimary.{LastPrimary}
 use Rattle.record.specs.declared.Mark.{Mark}
+use Rattle.record.specs.declared.StateHead.{StateHead}
 use Rattle.record.specs.declared.events.ActionAt.{ActionAt}
 use Rattle.record.specs.declared.events.StateAt.{StateAt}
 use Rattle.record.specs.declared.events.Event.{Event}
 use Rattle.record.specs.declared.events.Event.the-variants.{Action, Retransmission, State, Cpc, Regular, Transitional, Request, Recovery}
 
-unfoldable pub actionOf : ActionAt → List ℕ → FormatAction
-actionOf a e = record {
-  id = idOf (a .creator) (a .index);
-  greenLength = a .«green_length»;
-  payload = partAt (a .«payload_length») e (a .«payload_at»);
-}
+unfoldable pub actionFrom : ActionAt → List ℕ → FormatAction
+actionFrom a e = actionOf (a .head) (partAt (a .«payload_length») e (a .«payload_at»))
 
--- n is the number of servers, and so of cuts.
-unfoldable pub stateOf : ℕ → StateAt → List ℕ → FormatState
-stateOf n s e = record {
-  sender = s .sender;
-  configuration = s .configuration;
-  cuts = numbersAt 2 n e (s .«cuts_at»);
-  greenLength = s .«green_length»;
-  attempt = s .attempt .0;
-  last = primaryOf (s .last);
-  mark = markOf (s .mark);
-  yellow = record { status = s .«yellow_status»; ids = idsAt (s .«yellow_count») e (s .«yellow_at») };
-}
+unfoldable pub stateFrom : StateAt → List ℕ → FormatState
+stateFrom s e = stateOf (s .head) e (s .«cuts_at») e (s .«yellow_at»)
 
-unfoldable pub recordOf : ℕ → Event → List ℕ → Record
-recordOf n (Action a) e = action (actionOf a e)
-recordOf n (Retransmission s p a) e = retransmission s p (actionOf a e)
-recordOf n (State s) e = state (stateOf n s e)
-recordOf n (Cpc s i) e = cpc s i
-recordOf n (Regular i s) e = regular i s
-recordOf n (Transitional s) e = transitional s
-recordOf n (Request at m) e = request (partAt m e at)
-recordOf n Recovery e = recovery
+unfoldable pub recordOf : Event → List ℕ → Record
+recordOf (Action a) e = action (actionFrom a e)
+recordOf (Retransmission s p a) e = retransmission s p (actionFrom a e)
+recordOf (State s) e = state (stateFrom s e)
+recordOf (Cpc s i) e = cpc s i
+recordOf (Regular i s) e = regular i s
+recordOf (Transitional s) e = transitional s
+recordOf (Request at m) e = request (partAt m e at)
+recordOf Recovery e = recovery
 
--- The lists of an event lie inside its bytes.
+-- The lists of an event lie inside its bytes. n is the number of servers, and so of a State's cuts.
 
 unfoldable pub PayloadInside : ActionAt → List ℕ → Type 0
 PayloadInside a e = a .«payload_at» + a .«payload_length» ≤ length e
 
 pub record ListsInside (n : ℕ) (s : StateAt) (e : List ℕ) : Type 0 where
-  pub cuts : s .«cuts_at» + 2 * n ≤ length e
-  pub ids : s .«yellow_at» + 3 * s .«yellow_count» ≤ length e
+  pub servers : s .head .servers ≡ n
+  pub cuts : s .«cuts_at» + 2 * s .head .servers ≤ length e
+  pub ids : s .«yellow_at» + 3 * s .head .«yellow_count» ≤ length e
 
 unfoldable pub Inside : ℕ → Event → List ℕ → Type 0
 Inside n (Action a) e = PayloadInside a e
@@ -63,13 +51,11 @@ Inside n (Transitional s) e = Unit {0}
 Inside n (Request at m) e = at + m ≤ length e
 Inside n Recovery e = Unit {0}
 
--- Where the parts of each body lie: what the code makes of the bytes from `at` on, and of a whole State.
+-- What the code makes of the bytes from `at` on: an action, a primary component, a mark, and the numbers of a State.
 
 unfoldable pub actionIn : List ℕ → ℕ → ActionAt
 actionIn e at = record {
-  creator = numberAt 1 e at;
-  index = numberAt 2 e (at + 1);
-  «green_length» = numberAt 4 e (at + 3);
+  head = record { creator = numberAt 1 e at; index = numberAt 2 e (at + 1); «green_length» = numberAt 4 e (at + 3) };
   «payload_at» = at + 8;
   «payload_length» = numberAt 1 e (at + 7);
 }
@@ -90,16 +76,16 @@ markIn e at = record {
   bits = numberAt 1 e (at + 10);
 }
 
-unfoldable pub stateIn : ℕ → List ℕ → StateAt
-stateIn n e = record {
+-- Those behind the cuts begin at `at`.
+unfoldable pub headIn : (servers : ℕ) → List ℕ → ℕ → StateHead
+headIn n e at = record {
   sender = numberAt 1 e 4;
   configuration = numberAt 4 e 5;
-  «cuts_at» = 9;
-  «green_length» = numberAt 4 e (9 + 2 * n);
-  attempt = record { 0 = numberAt 4 e (13 + 2 * n) };
-  last = lastIn e (17 + 2 * n);
-  mark = markIn e (26 + 2 * n);
-  «yellow_status» = numberAt 1 e (37 + 2 * n);
-  «yellow_at» = 40 + 2 * n;
-  «yellow_count» = numberAt 2 e (38 + 2 * n);
+  servers = n;
+  «green_length» = numberAt 4 e at;
+  attempt = record { 0 = numberAt 4 e (at + 4) };
+  last = lastIn e (at + 8);
+  mark = markIn e (at + 17);
+  «yellow_status» = numberAt 1 e (at + 28);
+  «yellow_count» = numberAt 2 e (at + 29);
 }

@@ -31,9 +31,9 @@ unfoldable pub framedIn : ℕ → List ℕ → Option Record
 framedIn n e = pick (headOk e) (bodyAs (kindNamed (numberAt 1 e 3)) n e) none
 
 -- What the code's answer stands for.
-unfoldable pub found : ℕ → Framed → List ℕ → Option Record
-found n (Good v) e = some (recordOf n v e)
-found n Bad e = none
+unfoldable pub found : Framed → List ℕ → Option Record
+found (Good v) e = some (recordOf v e)
+found Bad e = none
 
 unfoldable pub FoundInside : ℕ → Framed → List ℕ → Type 0
 FoundInside n (Good v) e = Inside n v e
@@ -41,5 +41,5 @@ FoundInside n Bad e = Unit {0}
 
 -- The code's answer is w, and its lists lie inside the bytes.
 pub record Answers (w : Option Record) (n : ℕ) (r : Framed) (e : List ℕ) : Type 0 where
-  pub is : found n r e ≡ w
+  pub is : found r e ≡ w
   pub within : FoundInside n r e

@@ -6,3 +6,5 @@ pub mod Framed
 pub mod Reading
 pub mod Written
 pub mod Blocks
+pub mod Limits
+pub mod Modes

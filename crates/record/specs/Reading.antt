@@ -40,19 +40,18 @@ numbersOk c s =
 unfoldable pub listsOk : FormatContext → FormatState → Bool
 listsOk c s = cutsOk (c .quota) (s .cuts) and idsOk c (s .yellow .ids)
 
--- "Where an answer is an enum, a definition gives this paper's number and values for each of its cases": n is the number of
--- servers, and e the event's bytes.
-unfoldable pub meaning : ℕ → Reading → List ℕ → FormatReading Record
-meaning n (Good v) e = says (recordOf n v e)
-meaning n (Refused k) e = refused k
+-- "Where an answer is an enum, a definition gives this paper's number and values for each of its cases": e is the event's bytes.
+unfoldable pub meaning : Reading → List ℕ → FormatReading Record
+meaning (Good v) e = says (recordOf v e)
+meaning (Refused k) e = refused k
 
 -- Where the parts of an event lie, and how large its numbers are.
 
 pub record PlacedAction (c : Context) (a : ActionAt) (e : List ℕ) : Type 0 where
-  pub creator : a .creator < c .servers
-  pub least : 1 ≤ a .index
-  pub most : a .index ≤ c .quota
-  pub green : a .«green_length» ≤ c .servers * c .quota
+  pub creator : a .head .creator < c .servers
+  pub least : 1 ≤ a .head .index
+  pub most : a .head .index ≤ c .quota
+  pub green : a .head .«green_length» ≤ c .servers * c .quota
   pub short : a .«payload_length» ≤ mostPayload
   pub inside : a .«payload_at» + a .«payload_length» ≤ length e
 
@@ -62,11 +61,12 @@ pub record PlacedRetransmission (c : Context) (s p : ℕ) (a : ActionAt) (e : Li
   pub action : PlacedAction c a e
 
 pub record PlacedState (c : Context) (s : StateAt) (e : List ℕ) : Type 0 where
-  pub sender : s .sender < c .servers
-  pub green : s .«green_length» ≤ c .servers * c .quota
-  pub cuts : s .«cuts_at» + 2 * c .servers ≤ length e
-  pub ids : s .«yellow_at» + 3 * s .«yellow_count» ≤ length e
-  pub count : s .«yellow_count» ≤ c .servers * c .quota
+  pub sender : s .head .sender < c .servers
+  pub servers : s .head .servers ≡ c .servers
+  pub green : s .head .«green_length» ≤ c .servers * c .quota
+  pub cuts : s .«cuts_at» + 2 * s .head .servers ≤ length e
+  pub ids : s .«yellow_at» + 3 * s .head .«yellow_count» ≤ length e
+  pub count : s .head .«yellow_count» ≤ c .servers * c .quota
 
 pub record PlacedPayload (at m : ℕ) (e : List ℕ) : Type 0 where
   pub short : m ≤ mostPayload
@@ -85,7 +85,7 @@ Placed c Recovery e = Unit {0}
 -- What a caller knows of a good reading.
 pub record PlacedEvent (c : Context) (v : Event) (e : List ℕ) : Type 0 where
   pub context : ContextIn c
-  pub ranges : fieldsOk (contextOf c) (recordOf (c .servers) v e) ≡ true
+  pub ranges : fieldsOk (contextOf c) (recordOf v e) ≡ true
   pub parts : Placed c v e
   pub bytes : Bytes e
 

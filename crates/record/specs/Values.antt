@@ -1,24 +1,48 @@
--- What the code's small structs stand for.
+-- What the code's structs stand for.
 -- Assumes nothing.
 use Prim.Native.Nat.{ℕ, zero, suc, _+_, _*_, _-_, _≤_}
 use mathlib.Core.List.{List, [], _∷_}
 use lib.ListN.{length}
 use Rattle.base.specs.Tests.{pick}
+use Rattle.base.specs.Bytes.{numbersAt}
 use Rattle.format.specs.Limits.{mostServers, mostQuota}
-use Rattle.format.specs.Types.{Id, Primary, Mark as FormatMark, Context}
+use Rattle.format.specs.Types.{Id, Action, Primary, Mark as FormatMark, State, Context}
 use Rattle.format.specs.Range.{idOk}
-use Rattle.format.specs.Read.{idAt}
+use Rattle.format.specs.Read.{idAt, idsAt}
+use Rattle.record.specs.declared.PrimaryIndex.{PrimaryIndex}
+use Rattle.record.specs.declared.AttemptIndex.{AttemptIndex}
 use Rattle.record.specs.declared.LastPrimary.{LastPrimary}
 use Rattle.record.specs.declared.Mark.{Mark}
+use Rattle.record.specs.declared.ActionHead.{ActionHead}
+use Rattle.record.specs.declared.StateHead.{StateHead}
 
-unfoldable pub idOf : ℕ → ℕ → Id
+unfoldable pub idOf : (creator index : ℕ) → Id
 idOf creator index = record { creator = creator; index = index }
 
+unfoldable pub componentOf : PrimaryIndex → AttemptIndex → (set : ℕ) → Primary
+componentOf i a s = record { index = i .0; attempt = a .0; set = s }
+
 unfoldable pub primaryOf : LastPrimary → Primary
-primaryOf p = record { index = p .index .0; attempt = p .attempt .0; set = p .set }
+primaryOf p = componentOf (p .index) (p .attempt) (p .set)
 
 unfoldable pub markOf : Mark → FormatMark
 markOf m = record { status = m .status; index = m .index .0; attempt = m .attempt .0; set = m .set; bits = m .bits }
+
+unfoldable pub actionOf : ActionHead → (payload : List ℕ) → Action
+actionOf h p = record { id = idOf (h .creator) (h .index); greenLength = h .«green_length»; payload = p }
+
+-- A State: its cuts lie in the bytes `cuts` from `at` on, and its yellow ids in the bytes `ids` from `start` on.
+unfoldable pub stateOf : StateHead → (cuts : List ℕ) → (at : ℕ) → (ids : List ℕ) → (start : ℕ) → State
+stateOf h cuts at ids start = record {
+  sender = h .sender;
+  configuration = h .configuration;
+  cuts = numbersAt 2 (h .servers) cuts at;
+  greenLength = h .«green_length»;
+  attempt = h .attempt .0;
+  last = primaryOf (h .last);
+  mark = markOf (h .mark);
+  yellow = record { status = h .«yellow_status»; ids = idsAt (h .«yellow_count») ids start };
+}
 
 -- The reader's table of the ids that it has met has a place for each id that can be in range.
 unfoldable pub slot : Id → ℕ

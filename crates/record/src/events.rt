@@ -1,29 +1,22 @@
 // An event that was read: its numbers, and where its lists lie in its bytes.
-use crate::AttemptIndex;
-use crate::LastPrimary;
-use crate::Mark;
+use crate::ActionHead;
+use crate::StateHead;
+
+// A record's version byte.
+pub const VERSION: u8 = 1;
 
 // An action. Its payload is the `payload_length` bytes from `payload_at` on.
 pub struct ActionAt {
-    pub creator: u8,
-    pub index: u16,
-    pub green_length: u32,
+    pub head: ActionHead,
     pub payload_at: usize,
     pub payload_length: usize,
 }
 
-// A State. Its cuts, two bytes for each server, begin at `cuts_at`, and its `yellow_count` ids of three bytes at `yellow_at`.
+// A State. Its cuts, two bytes for each server, begin at `cuts_at`, and its yellow ids, three bytes each, at `yellow_at`.
 pub struct StateAt {
-    pub sender: u8,
-    pub configuration: u32,
+    pub head: StateHead,
     pub cuts_at: usize,
-    pub green_length: u32,
-    pub attempt: AttemptIndex,
-    pub last: LastPrimary,
-    pub mark: Mark,
-    pub yellow_status: u8,
     pub yellow_at: usize,
-    pub yellow_count: usize,
 }
 
 pub enum Event {

@@ -4,21 +4,21 @@ ghost use Prim.Native.Nat.{ℕ, _+_, _*_, _≤_};
 ghost use lib.ListN.{length};
 ghost use Rattle.base.specs.Bytes.{Bytes};
 ghost use Rattle.format.specs.Types.{ofAction, ofRetransmission, ofState, ofCpc, ofRegular, ofTransitional, ofRequest, ofRecovery};
-ghost use Rattle.record.specs.Events.{actionIn, lastIn, markIn, stateIn};
+ghost use Rattle.record.specs.Events.{actionIn, lastIn, markIn, headIn};
 ghost use Rattle.record.specs.Framed.{headOk, bodyIn, framedIn, Answers};
+use crate::ActionHead;
 use crate::AttemptIndex;
 use crate::LastPrimary;
 use crate::Mark;
 use crate::PrimaryIndex;
+use crate::StateHead;
 use crate::bytes::num8;
 use crate::bytes::num16;
 use crate::bytes::num32;
 use crate::events::ActionAt;
 use crate::events::Event;
 use crate::events::StateAt;
-
-// A record's version byte.
-pub const VERSION: u8 = 1;
+use crate::events::VERSION;
 
 // The event that the bytes frame, its ranges not looked at; or none.
 pub enum Framed {
@@ -31,9 +31,11 @@ fn action_at(e: &[u8], at: usize) -> ActionAt
     ensures { λ r. ⌜ r ≡ actionIn (now (e .entry)) at ⌝ }
 {
     ActionAt {
-        creator: num8(e, at),
-        index: num16(e, at + 1),
-        green_length: num32(e, at + 3),
+        head: ActionHead {
+            creator: num8(e, at),
+            index: num16(e, at + 1),
+            green_length: num32(e, at + 3),
+        },
         payload_at: at + 8,
         payload_length: num8(e, at + 7) as usize,
     }
@@ -63,21 +65,21 @@ pub fn mark_at(e: &[u8], at: usize) -> Mark
     }
 }
 
-fn state_at(e: &[u8], n: usize) -> StateAt
-    requires { ⌜ (n ≤ 255) × (40 + 2 * n ≤ length (now e)) ⌝ }
-    ensures { λ r. ⌜ r ≡ stateIn n (now (e .entry)) ⌝ }
+// The numbers of a State of this many servers. Those behind its cuts begin at `at`.
+fn state_head(e: &[u8], servers: u8, at: usize) -> StateHead
+    requires { ⌜ (9 ≤ at) × (at + 31 ≤ length (now e)) ⌝ }
+    ensures { λ r. ⌜ r ≡ headIn servers (now (e .entry)) at ⌝ }
 {
-    StateAt {
+    StateHead {
         sender: num8(e, 4),
         configuration: num32(e, 5),
-        cuts_at: 9,
-        green_length: num32(e, 9 + 2 * n),
-        attempt: AttemptIndex(num32(e, 13 + 2 * n)),
-        last: last_at(e, 17 + 2 * n),
-        mark: mark_at(e, 26 + 2 * n),
-        yellow_status: num8(e, 37 + 2 * n),
-        yellow_at: 40 + 2 * n,
-        yellow_count: num16(e, 38 + 2 * n) as usize,
+        servers,
+        green_length: num32(e, at),
+        attempt: AttemptIndex(num32(e, at + 4)),
+        last: last_at(e, at + 8),
+        mark: mark_at(e, at + 17),
+        yellow_status: num8(e, at + 28),
+        yellow_count: num16(e, at + 29),
     }
 }
 
@@ -112,18 +114,22 @@ fn frame_retransmission(e: &[u8]) -> Framed
     })
 }
 
-fn frame_state(e: &[u8], n: usize) -> Framed
-    requires { ⌜ n ≤ 255 ⌝ }
-    ensures { λ r. ⌜ Answers (bodyIn ofState n (now (e .entry))) n r (now (e .entry)) ⌝ }
+fn frame_state(e: &[u8], servers: u8) -> Framed
+    ensures { λ r. ⌜ Answers (bodyIn ofState servers (now (e .entry))) servers r (now (e .entry)) ⌝ }
 {
-    if e.len() < 40 + 2 * n {
+    let at = 9 + 2 * (servers as usize);
+    if e.len() < at + 31 {
         return Framed::Bad;
     }
-    let m = num16(e, 38 + 2 * n) as usize;
-    if 40 + 2 * n + 3 * m != e.len() {
+    let head = state_head(e, servers, at);
+    if at + 31 + 3 * (head.yellow_count as usize) != e.len() {
         return Framed::Bad;
     }
-    Framed::Good(Event::State(state_at(e, n)))
+    Framed::Good(Event::State(StateAt {
+        head,
+        cuts_at: 9,
+        yellow_at: at + 31,
+    }))
 }
 
 fn frame_cpc(e: &[u8]) -> Framed
@@ -209,7 +215,7 @@ pub fn framed_event(e: &[u8], servers: u8) -> Framed
     match num8(e, 3) {
         Event::ACTION => frame_action(e),
         Event::RETRANSMISSION => frame_retransmission(e),
-        Event::STATE => frame_state(e, servers as usize),
+        Event::STATE => frame_state(e, servers),
         Event::CPC => frame_cpc(e),
         Event::REGULAR => frame_regular(e),
         Event::TRANSITIONAL => frame_transitional(e),

@@ -6,6 +6,7 @@ ghost use Rattle.format.specs.Limits.{mostServers};
 ghost use Rattle.record.specs.Context.{readingContext};
 ghost use Rattle.record.specs.Start.{startOf};
 
+pub mod mode; // mode.rt: the eight states
 pub mod bytes; // bytes.rt: numbers in bytes
 pub mod range; // range.rt: which numbers and sets are in range
 pub mod lists; // lists.rt: lists in bytes
@@ -34,6 +35,26 @@ pub struct Mark {
     pub attempt: AttemptIndex,
     pub set: u8,
     pub bits: u8,
+}
+
+// An action but its payload.
+pub struct ActionHead {
+    pub creator: u8,
+    pub index: u16,
+    pub green_length: u32,
+}
+
+// A State but its cuts and its yellow ids; how many there are of each.
+pub struct StateHead {
+    pub sender: u8,
+    pub configuration: u32,
+    pub servers: u8,
+    pub green_length: u32,
+    pub attempt: AttemptIndex,
+    pub last: LastPrimary,
+    pub mark: Mark,
+    pub yellow_status: u8,
+    pub yellow_count: u16,
 }
 
 // What a record is read against. `configured` is 0 where there was no regular configuration since the start or the last

@@ -4,11 +4,39 @@ ghost use Prim.Native.Nat.{_*_, _≤_};
 ghost use Rattle.format.specs.Limits.{mostServers, mostQuota};
 ghost use Rattle.format.specs.Range.{sizesOk, contextOk, idOk, lengthOk, indexOk, setOk, statusOk, primaryOk, markOk, ownSetOk, insideLast};
 ghost use Rattle.record.specs.Context.{contextOf, lastOf, ContextIn};
+ghost use Rattle.record.specs.Limits.{theLimits};
 ghost use Rattle.record.specs.Values.{idOf, primaryOf, markOf};
 use crate::Context;
 use crate::LastPrimary;
 use crate::Mark;
 use crate::State;
+
+// The limits as one value.
+pub struct Limits {
+    pub fewest_servers: u8,
+    pub most_servers: u8,
+    pub least_quota: u16,
+    pub most_quota: u16,
+    pub most_payload: usize,
+    pub most_held: u8,
+    pub most_index: u32,
+}
+
+impl Limits {
+    pub fn all() -> Limits
+        ensures { λ r. ⌜ r ≡ theLimits ⌝ }
+    {
+        Limits {
+            fewest_servers: State::FEWEST_SERVERS,
+            most_servers: State::MOST_SERVERS,
+            least_quota: State::LEAST_QUOTA,
+            most_quota: State::MOST_QUOTA,
+            most_payload: State::MOST_PAYLOAD,
+            most_held: State::MOST_HELD,
+            most_index: State::MOST_INDEX,
+        }
+    }
+}
 
 // "Servers: 2 to 8 .. Quota q: 1 to 256"
 pub fn sizes_ok(servers: u8, quota: u16) -> bool

@@ -7,10 +7,12 @@ ghost use Rattle.format.specs.Read.{read as readOf};
 ghost use Rattle.format.specs.Range.{actionOk, stateOk, fieldsOk};
 ghost use Rattle.format.specs.Types.{retransmission, transitional};
 ghost use Rattle.record.specs.Context.{contextOf, ContextIn};
-ghost use Rattle.record.specs.Events.{actionOf, stateOf, recordOf, PayloadInside, ListsInside};
+ghost use Rattle.record.specs.Values.{stateOf};
+ghost use Rattle.record.specs.Events.{actionFrom, stateFrom, recordOf, PayloadInside, ListsInside};
 ghost use Rattle.record.specs.Reading.{Readable, numbersOk, listsOk, meaning, placed};
 use crate::Context;
 use crate::State;
+use crate::StateHead;
 use crate::events::ActionAt;
 use crate::events::Event;
 use crate::events::StateAt;
@@ -36,12 +38,12 @@ pub enum Reading {
 
 fn action_ok(c: Context, a: ActionAt) -> bool
     requires { ⌜ ContextIn c ⌝ }
-    ensures { λ r. ⌜ ((e : List ℕ) → Bytes e → PayloadInside a e → r ≡ actionOk (contextOf c) (actionOf a e)) ⌝ }
+    ensures { λ r. ⌜ ((e : List ℕ) → Bytes e → PayloadInside a e → r ≡ actionOk (contextOf c) (actionFrom a e)) ⌝ }
 {
-    if !id_ok(c, a.creator, a.index) {
+    if !id_ok(c, a.head.creator, a.head.index) {
         return false;
     }
-    if !length_ok(c, a.green_length) {
+    if !length_ok(c, a.head.green_length) {
         return false;
     }
     a.payload_length <= State::MOST_PAYLOAD
@@ -49,7 +51,7 @@ fn action_ok(c: Context, a: ActionAt) -> bool
 
 fn retransmission_ok(c: Context, sender: u8, position: u32, action: ActionAt) -> bool
     requires { ⌜ ContextIn c ⌝ }
-    ensures { λ r. ⌜ ((e : List ℕ) → Bytes e → PayloadInside action e → r ≡ fieldsOk (contextOf c) (retransmission sender position (actionOf action e))) ⌝ }
+    ensures { λ r. ⌜ ((e : List ℕ) → Bytes e → PayloadInside action e → r ≡ fieldsOk (contextOf c) (retransmission sender position (actionFrom action e))) ⌝ }
 {
     if c.servers <= sender {
         return false;
@@ -72,20 +74,20 @@ fn transitional_ok(c: Context, set: u8) -> bool
 
 fn lists_ok(c: Context, s: StateAt, e: &[u8]) -> bool
     requires { ⌜ ContextIn c × ListsInside (c .servers) s (now e) ⌝ }
-    ensures { λ r. ⌜ r ≡ listsOk (contextOf c) (stateOf (c .servers) s (now (e .entry))) ⌝ }
+    ensures { λ r. ⌜ r ≡ listsOk (contextOf c) (stateFrom s (now (e .entry))) ⌝ }
 {
     let cuts_at = s.cuts_at;
-    let n = c.servers as usize;
+    let n = s.head.servers as usize;
     if !cuts_ok(e, cuts_at, n, c.quota) {
         return false;
     }
     let yellow_at = s.yellow_at;
-    ids_ok(c, e, yellow_at, s.yellow_count)
+    ids_ok(c, e, yellow_at, s.head.yellow_count as usize)
 }
 
-fn numbers_ok(c: Context, s: StateAt) -> bool
+fn numbers_ok(c: Context, s: StateHead) -> bool
     requires { ⌜ ContextIn c ⌝ }
-    ensures { λ r. ⌜ ((e : List ℕ) → r ≡ numbersOk (contextOf c) (stateOf (c .servers) s e)) ⌝ }
+    ensures { λ r. ⌜ ((cuts ids : List ℕ) (at start : ℕ) → r ≡ numbersOk (contextOf c) (stateOf s cuts at ids start)) ⌝ }
 {
     if c.servers <= s.sender {
         return false;
@@ -109,9 +111,10 @@ fn numbers_ok(c: Context, s: StateAt) -> bool
 
 fn state_ok(c: Context, s: StateAt, e: &[u8]) -> bool
     requires { ⌜ ContextIn c × ListsInside (c .servers) s (now e) ⌝ }
-    ensures { λ r. ⌜ r ≡ stateOk (contextOf c) (stateOf (c .servers) s (now (e .entry))) ⌝ }
+    ensures { λ r. ⌜ r ≡ stateOk (contextOf c) (stateFrom s (now (e .entry))) ⌝ }
 {
-    if !numbers_ok(c, s) {
+    let head = s.head;
+    if !numbers_ok(c, head) {
         return false;
     }
     lists_ok(c, s, e)
@@ -120,7 +123,7 @@ fn state_ok(c: Context, s: StateAt, e: &[u8]) -> bool
 // Whether the numbers, sets and lists of an event are in range.
 fn event_ok(c: Context, v: Event, e: &[u8]) -> bool
     requires { ⌜ Readable c v (now e) ⌝ }
-    ensures { λ r. ⌜ r ≡ fieldsOk (contextOf c) (recordOf (c .servers) v (now (e .entry))) ⌝ }
+    ensures { λ r. ⌜ r ≡ fieldsOk (contextOf c) (recordOf v (now (e .entry))) ⌝ }
 {
     match v {
         Event::Action(action) => action_ok(c, action),
@@ -149,7 +152,7 @@ fn event_ok(c: Context, v: Event, e: &[u8]) -> bool
 
 // What an event's bytes say to a server with this context: "bad length, version or kind" first, then ranges.
 pub fn read(c: Context, e: &[u8]) -> Reading
-    ensures { λ r. ⌜ meaning (c .servers) r (now (e .entry)) ≡ readOf (contextOf c) (now (e .entry)) ⌝ }
+    ensures { λ r. ⌜ meaning r (now (e .entry)) ≡ readOf (contextOf c) (now (e .entry)) ⌝ }
     ensures { λ r. ⌜ placed c r (now (e .entry)) ⌝ }
 {
     let f = framed_event(e, c.servers);

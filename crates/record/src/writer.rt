@@ -1,34 +1,18 @@
 // Writers of the records that the engine sends, straight into the outgoing buffer.
 ghost use mathlib.Core.Path.{_≡_};
-ghost use Prim.Native.Nat.{_+_, _-_, _≤_};
-ghost use lib.ListN.{length};
+ghost use Prim.Native.Nat.{_+_, _*_, _%_};
 ghost use Rattle.base.specs.Patched.{patched};
-ghost use Rattle.format.specs.Types.{action, retransmission, state, cpc};
-ghost use Rattle.format.specs.Write.{actionBytes, write};
-ghost use Rattle.record.specs.Written.{put, putOf, putState, actionOf, stateOf};
-ghost use Rattle.record.specs.Blocks.{openingBytes, headBytes, startBytes, progressBytes, standingBytes, restBytes, stateBlocks, StateRoom};
-use super::AttemptIndex;
-use super::LastPrimary;
-use super::Mark;
-use super::blocks::copy;
-use super::blocks::put_frame;
-use super::blocks::put_id;
-use super::blocks::put_mark;
-use super::blocks::put_opening;
-use super::blocks::put_pair;
-use super::blocks::put_payload;
-use super::blocks::put_primary;
-use super::blocks::put_yellow;
-use super::blocks::put32;
-
-// The kind bytes of the records that the engine sends.
-const ACTION: u8 = 1;
-
-const RETRANSMISSION: u8 = 2;
-
-const STATE: u8 = 3;
-
-const CPC: u8 = 4;
+ghost use Rattle.format.specs.Types.{action, retransmission, state, cpc, kindNumber, ofState};
+ghost use Rattle.format.specs.Write.{write};
+ghost use Rattle.record.specs.Values.{actionOf, stateOf};
+ghost use Rattle.record.specs.Written.{put, putOf, putState, placeAfter, statePlace};
+ghost use Rattle.record.specs.Blocks.{openingNumbers, actionNumbers, retransmissionNumbers, standingNumbers, StateRoom};
+use crate::ActionHead;
+use crate::StateHead;
+use crate::blocks::put_block;
+use crate::blocks::put_numbers;
+use crate::events::Event;
+use crate::events::VERSION;
 
 // Where the next record goes, or no room: then the buffer is as it was.
 pub enum Written {
@@ -36,107 +20,141 @@ pub enum Written {
     Full,
 }
 
-// An action but its payload.
-pub struct ActionHead {
-    pub creator: u8,
-    pub index: u16,
-    pub green_length: u32,
-}
-
-// A State but its cuts and its yellow ids.
-pub struct StateHead {
-    pub sender: u8,
-    pub configuration: u32,
-    pub servers: u8,
-    pub green_length: u32,
-    pub attempt: AttemptIndex,
-    pub last: LastPrimary,
-    pub mark: Mark,
-    pub yellow_status: u8,
-    pub yellow_count: u16,
-}
-
-// An action's id and its creator's green length.
-fn put_head(out: &mut [u8], at: usize, head: ActionHead)
-    requires { ⌜ at + 7 ≤ length (now out) ⌝ }
-    ensures { λ _. ⌜ now (out .exit) ≡ patched at (headBytes head) (now (out .entry)) ⌝ }
+// The place behind `size` and `more` bytes at `at`, if they lie inside `length` bytes.
+fn place_after(length: usize, at: usize, size: usize, more: usize) -> Written
+    ensures { λ r. ⌜ r ≡ placeAfter length at (size + more) ⌝ }
 {
-    put_id(out, at, head.creator, head.index);
-    put32(out, at + 3, head.green_length);
+    if length < at {
+        return Written::Full;
+    }
+    if length - at < size {
+        return Written::Full;
+    }
+    if length - at - size < more {
+        return Written::Full;
+    }
+    Written::Next(at + size + more)
 }
 
-// An action, as actions and retransmissions have it.
-fn put_body(out: &mut [u8], at: usize, head: ActionHead, payload: &[u8])
-    requires { ⌜ at + (8 + length (now payload)) ≤ length (now out) ⌝ }
-    ensures { λ _. ⌜ now (out .exit) ≡ patched at (actionBytes (actionOf head (now (payload .entry)))) (now (out .entry)) ⌝ }
+// Each record's numbers up to its bytes, filled up with zeros, and their widths.
+
+// All of a CPC, and what a State begins with.
+const OPENING_WIDTHS: [u8; 12] = [2, 1, 1, 1, 4, 0, 0, 0, 0, 0, 0, 0];
+
+fn opening(follows: u32, kind: u8, sender: u8, number: u32) -> [u32; 12]
+    ensures { λ r. ⌜ r ≡ openingNumbers follows kind sender number ⌝ }
 {
-    put_head(out, at, head);
-    put_payload(out, at + 7, payload);
+    let kind = kind as u32;
+    let sender = sender as u32;
+    [
+        follows,
+        VERSION as u32,
+        kind,
+        sender,
+        number,
+        0,
+        0,
+        0,
+        0,
+        0,
+        0,
+        0,
+    ]
 }
 
-// How many of `len` bytes there are from `at` on.
-fn room(len: usize, at: usize) -> usize
-    ensures { λ r. ⌜ r ≡ len - at ⌝ }
+const ACTION_WIDTHS: [u8; 12] = [2, 1, 1, 1, 2, 4, 1, 0, 0, 0, 0, 0];
+
+// Of the payload's length as much as two bytes can tell.
+fn action_numbers(head: ActionHead, payload: usize) -> [u32; 12]
+    ensures { λ r. ⌜ r ≡ actionNumbers head (payload % 65536) ⌝ }
 {
-    if len < at { 0 } else { len - at }
+    let size = (payload % 65536) as u32;
+    [
+        10 + size,
+        VERSION as u32,
+        Event::ACTION as u32,
+        head.creator as u32,
+        head.index as u32,
+        head.green_length,
+        size,
+        0,
+        0,
+        0,
+        0,
+        0,
+    ]
+}
+
+const RETRANSMISSION_WIDTHS: [u8; 12] = [2, 1, 1, 1, 4, 1, 2, 4, 1, 0, 0, 0];
+
+fn retransmission_numbers(sender: u8, position: u32, head: ActionHead, payload: usize) -> [u32; 12]
+    ensures { λ r. ⌜ r ≡ retransmissionNumbers sender position head (payload % 65536) ⌝ }
+{
+    let size = (payload % 65536) as u32;
+    [
+        15 + size,
+        VERSION as u32,
+        Event::RETRANSMISSION as u32,
+        sender as u32,
+        position,
+        head.creator as u32,
+        head.index as u32,
+        head.green_length,
+        size,
+        0,
+        0,
+        0,
+    ]
+}
+
+const STANDING_WIDTHS: [u8; 12] = [4, 4, 4, 4, 1, 1, 4, 4, 1, 1, 1, 2];
+
+fn standing(head: StateHead) -> [u32; 12]
+    ensures { λ r. ⌜ r ≡ standingNumbers head ⌝ }
+{
+    let last = head.last;
+    let mark = head.mark;
+    [
+        head.green_length,
+        head.attempt.0,
+        last.index.0,
+        last.attempt.0,
+        last.set as u32,
+        mark.status as u32,
+        mark.index.0,
+        mark.attempt.0,
+        mark.set as u32,
+        mark.bits as u32,
+        head.yellow_status as u32,
+        head.yellow_count as u32,
+    ]
 }
 
 // Writes a CPC at `at`.
 pub fn write_cpc(out: &mut [u8], at: usize, sender: u8, configuration: u32) -> Written
     ensures { λ r. ⌜ putOf r (now (out .exit)) ≡ put (write (cpc sender configuration)) at (now (out .entry)) ⌝ }
 {
-    if room(out.len(), at) < 9 {
+    let w = place_after(out.len(), at, 9, 0);
+    let Written::Next(_) = w else {
         return Written::Full;
-    }
-    put_opening(out, at, 7, CPC, sender, configuration);
-    Written::Next(at + 9)
-}
-
-// The whole record of an action.
-fn put_action(out: &mut [u8], at: usize, head: ActionHead, payload: &[u8])
-    requires { ⌜ at + (12 + length (now payload)) ≤ length (now out) ⌝ }
-    ensures { λ _. ⌜ now (out .exit) ≡ patched at (write (action (actionOf head (now (payload .entry))))) (now (out .entry)) ⌝ }
-{
-    put_frame(out, at, 10 + payload.len(), ACTION);
-    put_body(out, at + 4, head, payload);
+    };
+    let numbers = opening(7, Event::CPC, sender, configuration);
+    put_numbers(out, at, OPENING_WIDTHS, numbers);
+    w
 }
 
 // Writes an action at `at`.
 pub fn write_action(out: &mut [u8], at: usize, head: ActionHead, payload: &[u8]) -> Written
     ensures { λ r. ⌜ putOf r (now (out .exit)) ≡ put (write (action (actionOf head (now (payload .entry))))) at (now (out .entry)) ⌝ }
 {
-    let room = room(out.len(), at);
-    if room < 12 {
+    let size = payload.len();
+    let w = place_after(out.len(), at, 12, size);
+    let Written::Next(_) = w else {
         return Written::Full;
-    }
-    if room - 12 < payload.len() {
-        return Written::Full;
-    }
-    put_action(out, at, head, payload);
-    Written::Next(at + 12 + payload.len())
-}
-
-// The whole record of a retransmission.
-fn put_retransmission(
-    out: &mut [u8],
-    at: usize,
-    sender: u8,
-    position: u32,
-    head: ActionHead,
-    payload: &[u8],
-)
-    requires { ⌜ at + (17 + length (now payload)) ≤ length (now out) ⌝ }
-    ensures { λ _. ⌜ now (out .exit) ≡ patched at (write (retransmission sender position (actionOf head (now (payload .entry))))) (now (out .entry)) ⌝ }
-{
-    put_opening(
-        out,
-        at,
-        15 + payload.len(),
-        RETRANSMISSION,
-        sender,
-        position,
-    );
-    put_body(out, at + 9, head, payload);
+    };
+    let numbers = action_numbers(head, size);
+    put_block(out, at, ACTION_WIDTHS, numbers, payload);
+    w
 }
 
 // Writes a retransmission of an action at `at`.
@@ -150,94 +168,61 @@ pub fn write_retransmission(
 ) -> Written
     ensures { λ r. ⌜ putOf r (now (out .exit)) ≡ put (write (retransmission sender position (actionOf head (now (payload .entry))))) at (now (out .entry)) ⌝ }
 {
-    let room = room(out.len(), at);
-    if room < 17 {
+    let size = payload.len();
+    let w = place_after(out.len(), at, 17, size);
+    let Written::Next(_) = w else {
+        return Written::Full;
+    };
+    let numbers = retransmission_numbers(sender, position, head, size);
+    put_block(out, at, RETRANSMISSION_WIDTHS, numbers, payload);
+    w
+}
+
+// The place behind a State at `at`, if the bytes given hold all its cuts and ids and it lies inside `length` bytes.
+fn state_place(head: StateHead, cuts: usize, ids: usize, length: usize, at: usize) -> Written
+    ensures { λ r. ⌜ r ≡ statePlace head cuts ids length at ⌝ }
+{
+    let n = 2 * (head.servers as usize);
+    if cuts < n {
         return Written::Full;
     }
-    if room - 17 < payload.len() {
+    let m = 3 * (head.yellow_count as usize);
+    if ids < m {
         return Written::Full;
     }
-    put_retransmission(out, at, sender, position, head, payload);
-    Written::Next(at + 17 + payload.len())
+    place_after(length, at, 40, n + m)
 }
 
-// The start of a State: its opening and its cuts.
-fn put_start(out: &mut [u8], at: usize, follows: usize, head: StateHead, cuts: &[u8])
-    requires { ⌜ at + (9 + length (now cuts)) ≤ length (now out) ⌝ }
-    ensures { λ _. ⌜ now (out .exit) ≡ patched at (startBytes follows head (now (cuts .entry))) (now (out .entry)) ⌝ }
+// A State's first numbers.
+fn state_opening(head: StateHead) -> [u32; 12]
+    ensures { λ r. ⌜ r ≡ openingNumbers (38 + (2 * head .servers + 3 * head .«yellow_count»)) (kindNumber ofState) (head .sender) (head .configuration) ⌝ }
 {
-    put_opening(out, at, follows, STATE, head.sender, head.configuration);
-    copy(out, at + 9, cuts);
-}
-
-// A State's green length, attempt and last primary.
-fn put_progress(out: &mut [u8], at: usize, head: StateHead)
-    requires { ⌜ at + 17 ≤ length (now out) ⌝ }
-    ensures { λ _. ⌜ now (out .exit) ≡ patched at (progressBytes head) (now (out .entry)) ⌝ }
-{
-    put_pair(out, at, head.green_length, head.attempt.0);
-    put_primary(
-        out,
-        at + 8,
-        head.last.index,
-        head.last.attempt,
-        head.last.set,
-    );
-}
-
-// The same and its mark.
-fn put_standing(out: &mut [u8], at: usize, head: StateHead)
-    requires { ⌜ at + 28 ≤ length (now out) ⌝ }
-    ensures { λ _. ⌜ now (out .exit) ≡ patched at (standingBytes head) (now (out .entry)) ⌝ }
-{
-    put_progress(out, at, head);
-    put_mark(out, at + 17, head.mark);
-}
-
-// All of a State behind its cuts.
-fn put_rest(out: &mut [u8], at: usize, head: StateHead, ids: &[u8])
-    requires { ⌜ at + (31 + length (now ids)) ≤ length (now out) ⌝ }
-    ensures { λ _. ⌜ now (out .exit) ≡ patched at (restBytes head (now (ids .entry))) (now (out .entry)) ⌝ }
-{
-    put_standing(out, at, head);
-    put_yellow(out, at + 28, head.yellow_status, head.yellow_count, ids);
-}
-
-// A State whose cuts and ids are all of the bytes given.
-fn put_blocks(out: &mut [u8], at: usize, head: StateHead, cuts: &[u8], ids: &[u8])
-    requires { ⌜ at + (40 + (length (now cuts) + length (now ids))) ≤ length (now out) ⌝ }
-    ensures { λ _. ⌜ now (out .exit) ≡ patched at (stateBlocks head (now (cuts .entry)) (now (ids .entry))) (now (out .entry)) ⌝ }
-{
-    put_start(out, at, 38 + (cuts.len() + ids.len()), head, cuts);
-    put_rest(out, at + (9 + cuts.len()), head, ids);
+    let follows = 38 + (2 * (head.servers as u32) + 3 * (head.yellow_count as u32));
+    opening(follows, Event::STATE, head.sender, head.configuration)
 }
 
 // The whole record of a State, of the first bytes given.
 fn put_state(out: &mut [u8], at: usize, head: StateHead, cuts: &[u8], ids: &[u8])
     requires { ⌜ StateRoom head (now cuts) (now ids) at (now out) ⌝ }
-    ensures { λ _. ⌜ now (out .exit) ≡ patched at (write (state (stateOf head (now (cuts .entry)) (now (ids .entry))))) (now (out .entry)) ⌝ }
+    ensures { λ _. ⌜ now (out .exit) ≡ patched at (write (state (stateOf head (now (cuts .entry)) 0 (now (ids .entry)) 0))) (now (out .entry)) ⌝ }
 {
     let n = 2 * (head.servers as usize);
     let m = 3 * (head.yellow_count as usize);
-    put_blocks(out, at, head, &cuts[..n], &ids[..m]);
+    let first = state_opening(head);
+    let second = standing(head);
+    put_block(out, at, OPENING_WIDTHS, first, &cuts[..n]);
+    put_block(out, at + (9 + n), STANDING_WIDTHS, second, &ids[..m]);
 }
 
-// Writes a State at `at`: `cuts` begins with its cuts, two bytes each, and `ids` with its yellow ids, three bytes each.
+// Writes a State at `at`: `cuts` begins with its cuts, two bytes each, and `ids` with its yellow ids, three bytes each. Full too where
+// these are too few.
 pub fn write_state(out: &mut [u8], at: usize, head: StateHead, cuts: &[u8], ids: &[u8]) -> Written
     ensures { λ r. ⌜ putOf r (now (out .exit)) ≡ putState head (now (cuts .entry)) (now (ids .entry)) at (now (out .entry)) ⌝ }
 {
-    let n = 2 * (head.servers as usize);
-    if cuts.len() < n {
+    let w = state_place(head, cuts.len(), ids.len(), out.len(), at);
+    let Written::Next(_) = w else {
         return Written::Full;
-    }
-    let m = 3 * (head.yellow_count as usize);
-    if ids.len() < m {
-        return Written::Full;
-    }
-    let size = 40 + (n + m);
-    if room(out.len(), at) < size {
-        return Written::Full;
-    }
+    };
     put_state(out, at, head, cuts, ids);
-    Written::Next(at + size)
+    w
 }

@@ -1,110 +1,152 @@
-// An event that was read, in words.
-ghost use Prim.Native.Nat.{_+_, _*_, _≤_};
+// An event that was read: its kind, its numbers in the record's order, and its lists.
+ghost use Prim.Native.Nat.{_+_, _*_, _≤_, _<_};
 ghost use lib.ListN.{length};
 ghost use Rattle.record.specs.Reading.{PlacedEvent, PlacedAction, PlacedRetransmission, PlacedState, PlacedPayload};
+use record::ActionHead;
 use record::Context;
-use record::LastPrimary;
-use record::Mark;
-use record::bytes::num8;
-use record::bytes::num16;
+use record::StateHead;
 use record::events::ActionAt;
 use record::events::Event;
 use record::events::StateAt;
 
-pub fn number(label: &[u8], v: u64) {
-    io::write_all(1, label);
+pub fn number(v: u64) {
+    io::write_all(1, b" ");
     io::print_decimal(1, v);
 }
 
-fn part(label: &[u8], e: &[u8], at: usize, m: usize)
+// The first `count` of them.
+pub fn numbers(v: [u64; 13], count: usize) {
+    let mut k = 0;
+    while k < 13 && k < count {
+        number(v[k]);
+        k += 1;
+    }
+}
+
+fn name(kind: u8) {
+    match kind {
+        Event::ACTION => io::write_all(1, b"action"),
+        Event::RETRANSMISSION => io::write_all(1, b"retransmission"),
+        Event::STATE => io::write_all(1, b"State"),
+        Event::CPC => io::write_all(1, b"CPC"),
+        Event::REGULAR => io::write_all(1, b"regular"),
+        Event::TRANSITIONAL => io::write_all(1, b"transitional"),
+        Event::REQUEST => io::write_all(1, b"request"),
+        _ => io::write_all(1, b"recovery"),
+    }
+    ;
+}
+
+fn pair(kind: u8, x: u64, y: u64) {
+    name(kind);
+    number(x);
+    number(y);
+}
+
+fn payload(e: &[u8], at: usize, m: usize)
     requires { ⌜ PlacedPayload at m (now e) ⌝ }
 {
-    io::write_all(1, label);
+    io::write_all(1, b" payload ");
     io::write_all(1, &e[at..at + m]);
+}
+
+fn action_numbers(h: ActionHead) -> [u64; 13] {
+    [
+        h.creator as u64,
+        h.index as u64,
+        h.green_length as u64,
+        0,
+        0,
+        0,
+        0,
+        0,
+        0,
+        0,
+        0,
+        0,
+        0,
+    ]
 }
 
 fn action(c: Context, a: ActionAt, e: &[u8])
     requires { ⌜ PlacedAction c a (now e) ⌝ }
 {
-    number(b"action creator ", a.creator as u64);
-    number(b" index ", a.index as u64);
-    number(b" green ", a.green_length as u64);
+    name(Event::ACTION);
+    let h = a.head;
+    numbers(action_numbers(h), 3);
     let at = a.payload_at;
-    part(b" payload ", e, at, a.payload_length);
-}
-
-fn primary(p: LastPrimary) {
-    number(b" last ", p.index.0 as u64);
-    number(b" ", p.attempt.0 as u64);
-    number(b" ", p.set as u64);
-}
-
-fn mark(m: Mark) {
-    number(b" mark ", m.status as u64);
-    number(b" ", m.index.0 as u64);
-    number(b" ", m.attempt.0 as u64);
-    number(b" ", m.set as u64);
-    number(b" ", m.bits as u64);
-}
-
-fn cuts(e: &[u8], at: usize, n: usize)
-    requires { ⌜ at + 2 * n ≤ length (now e) ⌝ }
-{
-    io::write_all(1, b" cuts");
-    let mut k = 0;
-    while k < n {
-        number(b" ", num16(e, at + 2 * k) as u64);
-        k += 1;
-    }
-}
-
-// The ids, of many the first three.
-fn ids(e: &[u8], at: usize, count: usize)
-    requires { ⌜ at + 3 * count ≤ length (now e) ⌝ }
-{
-    number(b" count ", count as u64);
-    let mut k = 0;
-    while k < count && k < 3 {
-        number(b" ", num8(e, at + 3 * k) as u64);
-        number(b".", num16(e, at + 3 * k + 1) as u64);
-        k += 1;
-    }
-}
-
-fn numbers(s: StateAt) {
-    number(b"State sender ", s.sender as u64);
-    number(b" configuration ", s.configuration as u64);
-    number(b" green ", s.green_length as u64);
-    number(b" attempt ", s.attempt.0 as u64);
-    let p = s.last;
-    primary(p);
-    let m = s.mark;
-    mark(m);
-    number(b" yellow ", s.yellow_status as u64);
-}
-
-fn state(c: Context, s: StateAt, e: &[u8])
-    requires { ⌜ PlacedState c s (now e) ⌝ }
-{
-    numbers(s);
-    let cuts_at = s.cuts_at;
-    cuts(e, cuts_at, c.servers as usize);
-    let yellow_at = s.yellow_at;
-    ids(e, yellow_at, s.yellow_count);
+    payload(e, at, a.payload_length);
 }
 
 fn retransmission(c: Context, sender: u8, position: u32, a: ActionAt, e: &[u8])
     requires { ⌜ PlacedRetransmission c sender position a (now e) ⌝ }
 {
-    number(b"retransmission sender ", sender as u64);
-    number(b" position ", position as u64);
+    pair(Event::RETRANSMISSION, sender as u64, position as u64);
     io::write_all(1, b" ");
     action(c, a, e);
 }
 
-fn pair(first: &[u8], x: u64, second: &[u8], y: u64) {
-    number(first, x);
-    number(second, y);
+fn state_numbers(h: StateHead) -> [u64; 13] {
+    let last = h.last;
+    let mark = h.mark;
+    [
+        h.sender as u64,
+        h.configuration as u64,
+        h.green_length as u64,
+        h.attempt.0 as u64,
+        last.index.0 as u64,
+        last.attempt.0 as u64,
+        last.set as u64,
+        mark.status as u64,
+        mark.index.0 as u64,
+        mark.attempt.0 as u64,
+        mark.set as u64,
+        mark.bits as u64,
+        h.yellow_status as u64,
+    ]
+}
+
+// The cuts in hexadecimal.
+fn cuts(e: &[u8], at: usize, n: usize)
+    requires { ⌜ at + 2 * n ≤ length (now e) ⌝ }
+{
+    io::write_all(1, b" cuts ");
+    let end = at + 2 * n;
+    hex(&e[at..end]);
+}
+
+// How many ids there are, and a digest of their bytes.
+fn ids(e: &[u8], at: usize, count: usize)
+    requires { ⌜ at + 3 * count ≤ length (now e) ⌝ }
+{
+    io::write_all(1, b" ids");
+    number(count as u64);
+    let end = at + 3 * count;
+    bytes(&e[at..end]);
+}
+
+fn state(c: Context, s: StateAt, e: &[u8])
+    requires { ⌜ PlacedState c s (now e) ⌝ }
+{
+    name(Event::STATE);
+    let h = s.head;
+    numbers(state_numbers(h), 13);
+    let cuts_at = s.cuts_at;
+    cuts(e, cuts_at, h.servers as usize);
+    let yellow_at = s.yellow_at;
+    ids(e, yellow_at, h.yellow_count as usize);
+}
+
+fn request(e: &[u8], at: usize, m: usize)
+    requires { ⌜ PlacedPayload at m (now e) ⌝ }
+{
+    name(Event::REQUEST);
+    payload(e, at, m);
+}
+
+fn transitional(set: u64) {
+    name(Event::TRANSITIONAL);
+    number(set);
 }
 
 pub fn event(c: Context, v: Event, e: &[u8])
@@ -121,25 +163,77 @@ pub fn event(c: Context, v: Event, e: &[u8])
         Event::Cpc {
             sender,
             configuration,
-        } => pair(
-            b"CPC sender ",
-            sender as u64,
-            b" configuration ",
-            configuration as u64,
-        ),
-        Event::Regular { configuration, set } => pair(
-            b"regular configuration ",
-            configuration as u64,
-            b" set ",
-            set as u64,
-        ),
-        Event::Transitional { set } => number(b"transitional set ", set as u64),
+        } => pair(Event::CPC, sender as u64, configuration as u64),
+        Event::Regular { configuration, set } => {
+            pair(Event::REGULAR, configuration as u64, set as u64)
+        }
+        Event::Transitional { set } => transitional(set as u64),
         Event::Request {
             payload_at,
             payload_length,
-        } => part(b"request payload ", e, payload_at, payload_length),
-        Event::Recovery => {
-            io::write_all(1, b"recovery");
-        }
+        } => request(e, payload_at, payload_length),
+        Event::Recovery => name(Event::RECOVERY),
+    }
+}
+
+pub fn refused(k: u8) {
+    io::write_all(1, b"refused");
+    number(k as u64);
+}
+
+// What a writer answered.
+pub fn next(place: usize) {
+    io::write_all(1, b" next");
+    number(place as u64);
+    io::write_all(1, b" ");
+}
+
+pub fn full() {
+    io::write_all(1, b" full");
+}
+
+pub fn room(size: usize) {
+    io::write_all(1, b"  room");
+    number(size as u64);
+}
+
+fn wide(b: u8) -> u64 {
+    b as u64
+}
+
+fn sum(x: u64, y: u64) -> u64
+    ensures { λ r. ⌜ r < 65521 ⌝ }
+{
+    (x % 65521 + y % 65521) % 65521
+}
+
+// Adler-32: the sum of the bytes and 1, and the sum of these sums, each modulo 65521.
+fn digest(s: &[u8]) -> u64 {
+    let mut low: u64 = 1;
+    let mut high: u64 = 0;
+    let mut k = 0;
+    while k < s.len() {
+        low = sum(low, wide(s[k]));
+        high = sum(high, low);
+        k += 1;
+    }
+    high * 65536 + low
+}
+
+fn hex(s: &[u8]) {
+    let mut k = 0;
+    while k < s.len() {
+        io::print_hex(1, wide(s[k]), 2);
+        k += 1;
+    }
+}
+
+// A digest of the bytes and, where there are few, the bytes themselves.
+pub fn bytes(s: &[u8]) {
+    io::write_all(1, b" digest ");
+    io::print_hex(1, digest(s), 8);
+    if s.len() <= 72 {
+        io::write_all(1, b" bytes ");
+        hex(s);
     }
 }

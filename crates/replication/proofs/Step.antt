@@ -14,6 +14,7 @@ pub mod VotesOrder
 pub mod Modes
 pub mod Attempt
 pub mod Folds
+pub mod Yellows
 pub mod Reds
 pub mod Formed
 pub mod ModeColours

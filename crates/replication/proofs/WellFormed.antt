@@ -20,4 +20,4 @@ pub mod Runs
 pub mod Records
 pub mod Sent
 pub mod Reads
-pub mod YellowTwice
+pub mod YellowOnce

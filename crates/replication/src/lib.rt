@@ -1,1 +1,19 @@
 // The replication machine of document 01, allowed runs, and their agreement: definitions and theorems, no running code.
+// A function here does nothing: its contract is a theorem.
+ghost use Rattle.replication.specs.Pairs.{Pairs};
+ghost use Rattle.replication.specs.Runs.Claim.{Demand3, Corollaries};
+
+// Document 01's pairs P1 to P8.
+pub fn pairs()
+    ensures { λ _. ⌜ Pairs ⌝ }
+{}
+
+// Demand 3: in every allowed run, at every moment, green lists agree and primary components agree.
+pub fn runs_agree()
+    ensures { λ _. ⌜ Demand3 ⌝ }
+{}
+
+// Stored green lists agree at different moments too; every last primary known anywhere is one of the primary components.
+pub fn corollaries()
+    ensures { λ _. ⌜ Corollaries ⌝ }
+{}

@@ -31,10 +31,10 @@ fn is_state(v: Event, sender: u8, configuration: u32) -> bool
             action: _,
         } => false,
         Event::State(s) => {
-            if s.sender != sender {
+            if s.head.sender != sender {
                 return false;
             }
-            s.configuration == configuration
+            s.head.configuration == configuration
         }
         Event::Cpc {
             sender: _,

@@ -18,6 +18,18 @@ pub fn find(s: &[u8], at: usize, b: u8) -> usize
     i
 }
 
+// The number in two bytes.
+pub fn two(high: u8, low: u8) -> u16 {
+    high as u16 * 256 + low as u16
+}
+
+pub fn begins(s: &[u8], b: u8) -> bool {
+    if s.len() < 1 {
+        return false;
+    }
+    s[0] == b
+}
+
 // The value of a hexadecimal digit, and 16 of any other byte.
 fn digit(b: u8) -> u16
     ensures { λ r. ⌜ r ≤ 16 ⌝ }

@@ -4,30 +4,20 @@ use Rattle.engine.proofs.SizeLaws.{sizes-answered, lengths-made}
 use borrow.Author.Needs.{needs}
 use Rattle.engine.proofs.guzbytor_lengths.Statement.{statement}
 use Rattle.engine.proofs.guzbytor_lengths.Tie as tie
-use Rattle.engine.proofs.guzbytor_lengths.Reads as reads
-use Rattle.engine.proofs.guzbytor_lengths.Lts as lts
-use Rattle.engine.proofs.sizes.out_length.Reads as out-length-reads
-use Rattle.engine.proofs.sizes.sizes_in.Reads as sizes-in-reads
-use Rattle.engine.proofs.sizes.state_length.Reads as state-length-reads
 
--- src/lib.rt:25:9
 sizes-in-requires : tie.Need-sizes-in-requires
 sizes-in-requires c κs = search needs
 
--- src/lib.rt:26:9
 returns : tie.Need-returns
 unfolding lengthsOf
 returns c = search (needs, pick-denied)
 
--- src/lib.rt:34:16
 state-length-requires : tie.Need-state-length-requires
 state-length-requires c κs = search (needs, sizes-answered)
 
--- src/lib.rt:35:14
 out-length-requires : tie.Need-out-length-requires
 out-length-requires c κs = search (needs, sizes-answered)
 
--- src/lib.rt:21:1
 returns-2 : tie.Need-returns-2
 unfolding lengthsOf
 returns-2 c = search (needs, pick-answered, lengths-made)

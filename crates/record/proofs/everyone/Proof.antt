@@ -2,22 +2,16 @@ use Rattle.record.proofs.Start.{some-shifted, everyone-fits, everyone-m
 use borrow.Author.Needs.{needs}
 use Rattle.record.proofs.everyone.Statement.{statement}
 use Rattle.record.proofs.everyone.Tie as tie
-use Rattle.record.proofs.everyone.Reads as reads
-use Rattle.record.proofs.everyone.Lts as lts
 
--- src/lib.rt:153:20
 shl-all : tie.Need-shl-all
 shl-all c = search needs
 
--- src/lib.rt:154:6
 sub-result : tie.Need-sub-result
 sub-result c = search (needs, some-shifted)
 
--- src/lib.rt:154:5
 cast-result : tie.Need-cast-result
 cast-result c = search (needs, everyone-fits)
 
--- src/lib.rt:149:1
 returns : tie.Need-returns
 returns c = search (needs, everyone-made)
 

@@ -1,21 +1,20 @@
 -- What servers deliver in one configuration: in regular c any two agree, and who leaves com(c) has all of it, in the same order.
-use Prim.Native.Nat.{ℕ, zero, suc, _≤_, _<_}
+use Prim.Native.Nat.{ℕ, _≤_}
 use mathlib.Core.Path.{_≡_, refl, sym, ap, subst, _∙_}
-use mathlib.Core.Bool.{Bool, true, false}
-use mathlib.Core.List.{List, [], _∷_, _++_, map, List·Memᴰ}
-use mathlib.Core.Logic.{_⊎_, inl, inr}
-use mathlib.Core.Option.{Option, none, some}
+use mathlib.Core.Bool.{Bool, true}
+use mathlib.Core.Logic.{_⊎_}
+use mathlib.Core.Option.{some}
 use native.Mathlib.Omega.{arith}
 use Rattle.base.specs.Lists.{Begins}
-use Rattle.base.specs.Rising.{Rises, Labelled, Alike, Initial, included-begins, comparable}
+use Rattle.base.specs.Rising.{Alike, Initial, included-begins, comparable}
 use Rattle.replication.specs.Machine.Types.{Configuration}
-use Rattle.replication.specs.Runs.Run.{Run, Place, placeAt}
-use Rattle.replication.specs.Runs.Happenings.{Message, Left, Delivers}
+use Rattle.replication.specs.Runs.Run.{Run, Place}
+use Rattle.replication.specs.Runs.Happenings.{Left}
 use Rattle.replication.specs.Runs.Allowed.{Allowed}
 use Rattle.replication.specs.Runs.DeliveryFacts.{within, withinRegular, deliveryPlaces, delivered}
 use Rattle.replication.proofs.Runs.Deliveries.{Delivery}
-use Rattle.replication.proofs.Runs.Order.{inRegularOf, time, lower-delivered, left-delivered}
-use Rattle.replication.proofs.Runs.DeliveryLists.{within-holds, within-yes, within-regular-holds, within-regular-yes, Listed, listed, in-list, places-rise}
+use Rattle.replication.proofs.Runs.Order.{time, lower-delivered, left-delivered}
+use Rattle.replication.proofs.Runs.DeliveryLists.{within-holds, within-yes, within-regular-holds, within-regular-yes, listed, in-list, places-rise}
 
 module _ {n q : ℕ} {l : Run} (A : Allowed n q l) (c : Configuration) where
   -- Tests under which a server has c.

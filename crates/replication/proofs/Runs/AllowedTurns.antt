@@ -1,24 +1,22 @@
 -- What a place of an allowed run does to one server: the event that it takes, what that says, and the transition that it makes.
-use Prim.Native.Nat.{ℕ, zero, suc, _≤_, _<_}
-use mathlib.Core.Path.{_≡_, refl, sym, ap, subst, _∙_}
+use Prim.Native.Nat.{ℕ, suc}
+use mathlib.Core.Path.{_≡_, sym, ap, _∙_}
 use mathlib.Core.Bool.{Bool, true, false}
-use mathlib.Core.List.{List, [], _∷_, _++_, map}
-use mathlib.Core.Option.{Option, none, some}
-use native.Mathlib.Omega.{arith}
-use Rattle.base.specs.Tests.{pick, not-both}
+use mathlib.Core.List.{List, [], map}
+use mathlib.Core.Option.{some}
+use Rattle.base.specs.Tests.{pick}
 use Rattle.base.specs.Lists.{at}
 use Rattle.base.specs.AtLaws.{some-same}
-use Rattle.format.specs.Types.{Action, Record, recovery, Reading, says, refused}
+use Rattle.format.specs.Types.{Action, Record, recovery, says, refused}
 use Rattle.format.specs.Read.{read}
 use Rattle.format.specs.Write.{write}
 use Rattle.replication.specs.Machine.Types.{Server, Outcome, taken, contextOf}
 use Rattle.replication.specs.Machine.Requests.{recovered}
 use Rattle.replication.specs.Machine.Rules.{recovering, ruleFor}
 use Rattle.replication.specs.Machine.Step.{apply, stored, step}
-use Rattle.replication.specs.Images.{Images, isRecovery, sourceOf, arrive}
-use Rattle.replication.specs.Laws.Transitions as L
+use Rattle.replication.specs.Images.{isRecovery, arrive}
 use Rattle.replication.specs.Laws.Transitions.{TakenBy, Transition}
-use Rattle.replication.specs.Runs.Run.{Entry, event, crash, Run, Place, nowhere, moved, recordsOf, worldAt, placeAt, heardAt, putOut}
+use Rattle.replication.specs.Runs.Run.{event, Run, nowhere, moved, recordsOf, worldAt, placeAt, heardAt, putOut}
 use Rattle.replication.specs.Runs.Happenings.{Of, Crashes, Comes}
 use Rattle.replication.specs.Runs.Allowed.{Allowed}
 use Rattle.replication.proofs.Step.Inversion.{taken-by}
@@ -28,7 +26,6 @@ use Rattle.replication.proofs.Runs.Turns as T
 use Rattle.replication.proofs.Runs.Shifts.{says-same}
 use Rattle.replication.proofs.Runs.Readings.{answer-refused}
 use Rattle.replication.proofs.Runs.Refusals.{recovery-taken}
-use Rattle.replication.proofs.Runs.PlaceMoves.{placeOf}
 use Rattle.replication.proofs.Runs.Coupling.{Source, from-store, from-memory, source, refusal-stays}
 
 module _ (n q : ℕ) (l : Run) where

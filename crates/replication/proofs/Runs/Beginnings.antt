@@ -1,8 +1,7 @@
 -- A beginning of a run: what stands at its places is what stands there in the whole run.
-use Prim.Native.Nat.{ℕ, zero, suc, _≤_, _<_}
+use Prim.Native.Nat.{ℕ, suc, _≤_, _<_}
 use mathlib.Core.Path.{_≡_, refl, sym, ap, subst, _∙_}
-use mathlib.Core.Bool.{Bool, true, false}
-use mathlib.Core.List.{List, [], _∷_, _++_}
+use mathlib.Core.List.{List}
 use mathlib.Core.Option.{Option, none, some}
 use native.Mathlib.Omega.{arith}
 use native.Mathlib.Decide.{decLt}
@@ -10,11 +9,11 @@ use lib.ListN.{length, take}
 use lib.Seq.{take-take}
 use Rattle.base.specs.Lists.{at}
 use Rattle.base.specs.AtLaws.{at-take, at-in-take, at-past-take}
-use Rattle.format.specs.Types.{Record, Reading, says, transitional, recovery}
+use Rattle.format.specs.Types.{Record}
 use Rattle.replication.specs.Machine.Types.{Configuration}
 use Rattle.replication.specs.Images.{arrive}
-use Rattle.replication.specs.Runs.Run.{Entry, event, crash, Run, World, beginning, worldThrough, Place, nowhere, heard, placeThrough, recordsOf, worldAt, placeAt, heardAt, putOutBy, putOut, sentBy, sentAt}
-use Rattle.replication.specs.Runs.Happenings.{Message, Configured, regularly, transitionally, Happening, entry-at, sending-of, Of, Crashes, Comes, Falls, by-crash, by-recovery, Takes, Left, Sends, Delivers, Delivered, Configures, to-regular, to-transitional, Passes, Causes, in-turn, sends, in-order, before-next, carries, through, Precedes, causes, after-all, before-all, along}
+use Rattle.replication.specs.Runs.Run.{Entry, event, crash, Run, beginning, worldThrough, nowhere, heard, placeThrough, recordsOf, worldAt, placeAt, heardAt, putOutBy, putOut, sentBy, sentAt}
+use Rattle.replication.specs.Runs.Happenings.{Message, Configured, Happening, Of, Crashes, Comes, Falls, by-crash, by-recovery, Left, Sends, Delivers, Configures, to-regular, to-transitional, Passes, Causes, in-turn, sends, in-order, before-next, carries, through, Precedes, causes, after-all, before-all, along}
 use Rattle.replication.proofs.Runs.Places.{sent-past}
 
 module _ (n q : ℕ) (l : Run) (k : ℕ) where
@@ -167,7 +166,7 @@ module _ (n q : ℕ) (l : Run) (k : ℕ) where
     causes-whole (in-turn i x y h) = in-turn i (of-whole x) (of-whole y) h
     causes-whole (sends m h) = sends m (sent-whole (m .sending) (m .number) h)
     causes-whole (in-order m m′ e h g) = in-order m m′ e h (sent-whole (m′ .sending) (m′ .number) g)
-    causes-whole (before-next i m x y h) = before-next i m (of-whole x) (of-whole y) h
+    causes-whole (before-next i m b x y h) = before-next i m (sent-whole (m .sending) (m .number) b) (of-whole x) (of-whole y) h
     causes-whole (carries i m d) = carries i m (delivers-whole d)
     causes-whole (through x y) = through (causes-whole x) (causes-whole y)
 

@@ -1,16 +1,14 @@
 -- The control part (last primary, attempt, mark, numbered) over a run: memory and store agree on it, and only an event that stores changes it.
-use Prim.Native.Nat.{ℕ, zero, suc, _≤_, _<_}
+use Prim.Native.Nat.{ℕ, suc, _≤_}
 use mathlib.Core.Path.{_≡_, refl, sym, ap, subst, _∙_}
 use mathlib.Core.Bool.{Bool, true, false}
-use mathlib.Core.List.{List, [], _∷_}
+use mathlib.Core.List.{List}
 use mathlib.Core.Logic.{_⊎_, inl, inr}
 use native.Mathlib.Omega.{arith}
-use Rattle.base.specs.Tests.{pick}
 use Rattle.base.specs.Chains.{chain}
-use Rattle.format.specs.Types.{Action, Record}
-use Rattle.replication.specs.Machine.Types.{Server, Outcome, taken, start}
+use Rattle.replication.specs.Machine.Types.{Server, Outcome, start}
 use Rattle.replication.specs.Machine.Requests.{recovered}
-use Rattle.replication.specs.Images.{Images, started, arrive, leftBy, lived}
+use Rattle.replication.specs.Images.{arrive, leftBy}
 use Rattle.replication.specs.Laws.Images.{next}
 use Rattle.replication.specs.Laws.Order.{SameControl, Grows}
 use Rattle.replication.specs.Laws.Transitions.{Transition}
@@ -21,7 +19,7 @@ use Rattle.replication.proofs.Step.Growth.{grows-refl, grows-trans, tra
 use Rattle.replication.proofs.Step.Numbered.{numbered-reds}
 use Rattle.replication.proofs.Runs.Lived.{images-lived, at-place}
 use Rattle.replication.proofs.Runs.Turns as T
-use Rattle.replication.proofs.Runs.AllowedTurns.{memoryAt, storeAt, Acts, Recovers, Refuses, AllowedTurn, rests, crashes, refuses, recovers, acts, allowed-turn}
+use Rattle.replication.proofs.Runs.AllowedTurns.{memoryAt, storeAt, Acts, AllowedTurn, rests, crashes, refuses, recovers, acts, allowed-turn}
 
 pub control-sym : {s t : Server} → SameControl s t → SameControl t s
 control-sym h = record { last = sym (h .last); attempt = sym (h .attempt); mark = sym (h .mark); numbered = sym (h .numbered) }
@@ -72,7 +70,8 @@ module _ {n q : ℕ} {l : Run} (A : Allowed n q l) where
   pub control-next : (p i : ℕ) → SameControl (memoryAt n q l p i) (memoryAt n q l (suc p) i) ⊎ ((x : Acts n q l p i) × (x .stores ≡ true))
   control-next p i = go (allowed-turn A p i)
     where
-      acting : (x : Acts n q l p i) (b : Bool) → x .stores ≡ b → SameControl (memoryAt n q l p i) (memoryAt n q l (suc p) i) ⊎ ((x : Acts n q l p i) × (x .stores ≡ true))
+      acting : (x : Acts n q l p i) (b : Bool) → x .stores ≡ b
+          → SameControl (memoryAt n q l p i) (memoryAt n q l (suc p) i) ⊎ ((x : Acts n q l p i) × (x .stores ≡ true))
       acting x true e = inr (x, e)
       acting x false e =
           inl

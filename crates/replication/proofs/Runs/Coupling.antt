@@ -1,21 +1,18 @@
 -- In an allowed run, while a server is up, its configuration is the one that the run has given it, and it reads what the run says.
-use Prim.Native.Nat.{ℕ, zero, suc, _≤_, _<_}
-use mathlib.Core.Path.{_≡_, refl, sym, ap, subst, _∙_}
+use Prim.Native.Nat.{ℕ, zero, suc}
+use mathlib.Core.Path.{_≡_, refl, sym, ap, _∙_}
 use mathlib.Core.Bool.{Bool, true, false}
-use mathlib.Core.List.{List, [], _∷_, _++_}
-use mathlib.Core.Option.{Option, none, some}
-use native.Mathlib.Omega.{arith}
+use mathlib.Core.List.{List}
+use mathlib.Core.Option.{some}
 use Rattle.base.specs.Tests.{pick, not-both, Known, holds, fails, known}
 use Rattle.base.specs.Lists.{at}
-use Rattle.base.specs.AtLaws.{none-some, some-same}
-use Rattle.format.specs.Types.{Action, Record, action, retransmission, state, cpc, regular, transitional, request, recovery, Context, Reading, says, refused}
+use Rattle.base.specs.AtLaws.{some-same}
+use Rattle.format.specs.Types.{Action, Record, action, retransmission, state, cpc, regular, transitional, request, recovery, Reading, says, refused}
 use Rattle.format.specs.Read.{read}
-use Rattle.replication.specs.Machine.Types.{Configuration, Server, Outcome, taken, start, setOf, contextOf}
-use Rattle.replication.specs.Machine.Step.{answer, step}
+use Rattle.replication.specs.Machine.Types.{Server, Outcome, taken, start, setOf, contextOf}
+use Rattle.replication.specs.Machine.Step.{step}
 use Rattle.replication.specs.Images.{Images, started, isRecovery, sourceOf, arrive}
-use Rattle.replication.specs.Laws.Transitions.{TakenBy, Transition}
-use Rattle.replication.specs.Runs.Run.{Entry, event, crash, Run, beginning, Place, nowhere, heard, moved, worldAt, placeAt, heardAt}
-use Rattle.replication.specs.Runs.Happenings.{Of, Crashes, Comes, Takes}
+use Rattle.replication.specs.Runs.Run.{event, Run, beginning, Place, nowhere, heard, moved, worldAt, placeAt, heardAt}
 use Rattle.replication.specs.Runs.Allowed.{Allowed}
 use Rattle.replication.proofs.Step.Inversion.{taken-by}
 use Rattle.replication.proofs.Step.Moves as M
@@ -93,7 +90,8 @@ module _ {n q : ℕ} {l : Run} (A : Allowed n q l) where
   refused-place p i k z e s h d c r m a (says recovery) x = not-both (sym r ∙ ap isRecovery x)
   refused-place p i k z e s h d c r m a (refused u) x = refl
 
-  taken-place : (s : Server) (e : List ℕ) (t : Server) (bs : List (List ℕ)) (b : Bool) (g : List Action) (x : Reading Record) (c : Place) → step s e ≡ taken t bs b g
+  taken-place : (s : Server) (e : List ℕ) (t : Server) (bs : List (List ℕ)) (b : Bool) (g : List Action) (x : Reading Record) (c : Place)
+      → step s e ≡ taken t bs b g
       → read (contextOf s) e ≡ x → placeOf s ≡ c → placeOf t ≡ moved x c
   taken-place s e t bs b g x c h r d =
       let y = taken-by s e t bs b g h in

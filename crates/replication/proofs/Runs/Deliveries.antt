@@ -1,19 +1,15 @@
 -- Where a message is delivered: in the configuration in which it was sent, and before the server leaves that.
-use Prim.Native.Nat.{ℕ, zero, suc, _≤_, _<_}
-use mathlib.Core.Path.{_≡_, refl, sym, ap, subst, _∙_}
-use mathlib.Core.Bool.{Bool, true, false}
-use mathlib.Core.List.{List, [], _∷_, _++_}
-use mathlib.Core.Option.{Option, none, some}
+use Prim.Native.Nat.{ℕ, suc, _≤_, _<_}
+use mathlib.Core.Path.{_≡_, sym, ap, subst, _∙_}
+use mathlib.Core.Option.{some}
 use native.Mathlib.Omega.{arith}
 use native.Mathlib.Decide.{decLt}
-use lib.ListN.{length, take}
 use Rattle.base.specs.Tests.{not-both}
-use Rattle.base.specs.Lists.{at}
 use Rattle.base.specs.AtLaws.{some-same}
-use Rattle.format.specs.Types.{Record, transitional, recovery, regular}
+use Rattle.format.specs.Types.{regular}
 use Rattle.replication.specs.Machine.Types.{Configuration}
-use Rattle.replication.specs.Runs.Run.{Entry, event, crash, Run, placeAt, sentAt}
-use Rattle.replication.specs.Runs.Happenings.{Message, isMessage, Of, Comes, Takes, Left, Sends, Delivers, Delivered}
+use Rattle.replication.specs.Runs.Run.{Run, placeAt}
+use Rattle.replication.specs.Runs.Happenings.{Message, Takes, Left, Sends, Delivers}
 use Rattle.replication.specs.Runs.Allowed.{Allowed}
 use Rattle.replication.proofs.Runs.Places.{of-one}
 use Rattle.replication.proofs.Runs.Shifts.{changes, comes-once, message-changes-nothing}

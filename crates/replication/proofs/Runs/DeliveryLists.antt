@@ -1,5 +1,5 @@
 -- The list of a server's deliveries: what is in it, how it grows, and that it rises in time.
-use Prim.Native.Nat.{ℕ, zero, suc, _≤_, _<_}
+use Prim.Native.Nat.{ℕ, zero, suc, _<_}
 use mathlib.Core.Path.{_≡_, refl, sym, ap, subst, _∙_}
 use mathlib.Core.Bool.{Bool, true, false, not}
 use mathlib.Core.List.{List, [], _∷_, _++_, map, map-append, append-nil, List·Memᴰ, List·Memᴰ·head, List·Memᴰ·not-nil, List·Memᴰ·append-cases, List·Memᴰ·eq-of-singleton, Memᴰ·append-left, Memᴰ·append-right}
@@ -7,14 +7,13 @@ use mathlib.Core.Logic.{_⊎_, inl, inr}
 use mathlib.Core.Option.{Option, none, some}
 use native.Mathlib.Omega.{arith}
 use native.Mathlib.Decide.{decLt}
-use Rattle.base.specs.Tests.{_and_, _=?_, pick, not-both, not-holds, and-holds, both-yes, eq-yes, eq-holds, Known, holds, fails, known}
+use Rattle.base.specs.Tests.{pick, not-both, not-holds, and-holds, both-yes, eq-yes, eq-holds, Known, holds, fails, known}
 use Rattle.base.specs.Lists.{at, isThere}
-use Rattle.base.specs.AtLaws.{none-some, some-same}
 use Rattle.base.specs.Rising.{Rises, rises-more}
 use Rattle.format.specs.Types.{Record, Reading, says, refused}
 use Rattle.replication.specs.Machine.Types.{Configuration}
-use Rattle.replication.specs.Runs.Run.{Entry, event, crash, Run, Place, placeAt, heardAt}
-use Rattle.replication.specs.Runs.Happenings.{Message, isMessage, Comes, Delivers}
+use Rattle.replication.specs.Runs.Run.{Entry, event, crash, Run, Place, placeAt}
+use Rattle.replication.specs.Runs.Happenings.{Message, isMessage}
 use Rattle.replication.specs.Runs.Allowed.{Allowed}
 use Rattle.replication.specs.Runs.DeliveryFacts.{isConfiguration, within, withinRegular, saysMessage, deliversBy, deliversAt, deliveryPlaces, delivered}
 use Rattle.replication.proofs.Runs.Shifts.{comes-of}
@@ -106,10 +105,12 @@ module _ {n q : ℕ} {l : Run} (A : Allowed n q l) (t : Place → Bool) (i : ℕ
   unfolding deliveryPlaces
   places-no p e = no-more (deliversAt n q l t i p) (deliveryPlaces n q l t i p) p e
 
-  pub places-more : (p : ℕ) (m : Message) → Delivery A p i m → t (placeAt n q l i p) ≡ true → deliveryPlaces n q l t i (suc p) ≡ deliveryPlaces n q l t i p ++ (p ∷ [])
+  pub places-more : (p : ℕ) (m : Message) → Delivery A p i m → t (placeAt n q l i p) ≡ true
+      → deliveryPlaces n q l t i (suc p) ≡ deliveryPlaces n q l t i p ++ (p ∷ [])
   places-more p m d h = places-yes p (delivers-yes p m d h)
 
-  pub places-same : (p : ℕ) → ((m : Message) → Delivery A p i m → t (placeAt n q l i p) ≡ true → ⊥) → deliveryPlaces n q l t i (suc p) ≡ deliveryPlaces n q l t i p
+  pub places-same : (p : ℕ) → ((m : Message) → Delivery A p i m → t (placeAt n q l i p) ≡ true → ⊥)
+      → deliveryPlaces n q l t i (suc p) ≡ deliveryPlaces n q l t i p
   places-same p f = go (known (deliversAt n q l t i p))
     where
       go : Known (deliversAt n q l t i p) → deliveryPlaces n q l t i (suc p) ≡ deliveryPlaces n q l t i p

@@ -1,19 +1,16 @@
 -- Where a server took the configuration that it has.
 use Prim.Native.Nat.{ℕ, zero, suc, _≤_, _<_}
-use mathlib.Core.Path.{_≡_, refl, sym, ap, subst, _∙_}
-use mathlib.Core.Bool.{Bool, true, false}
-use mathlib.Core.List.{List, [], _∷_, _++_}
-use mathlib.Core.Option.{Option, none, some}
+use mathlib.Core.Path.{_≡_, sym, ap, subst, _∙_}
+use mathlib.Core.Option.{none, some}
 use native.Mathlib.Omega.{arith}
 use native.Mathlib.Decide.{decLt}
-use Rattle.base.specs.Lists.{at}
 use Rattle.base.specs.AtLaws.{none-some, some-same}
-use Rattle.format.specs.Types.{Record, regular, transitional, recovery}
+use Rattle.format.specs.Types.{regular, transitional}
 use Rattle.replication.specs.Machine.Types.{Configuration}
-use Rattle.replication.specs.Runs.Run.{Entry, event, crash, Run, Place, nowhere, placeAt}
-use Rattle.replication.specs.Runs.Happenings.{Of, Crashes, Comes, Falls, by-crash, by-recovery, Takes}
+use Rattle.replication.specs.Runs.Run.{Run, nowhere, placeAt}
+use Rattle.replication.specs.Runs.Happenings.{Falls, Takes}
 use Rattle.replication.proofs.Runs.Places.{place-at-start}
-use Rattle.replication.proofs.Runs.Shifts.{changes, comes-once, stays-no-fall, stays-no-regular, transitional-no-fall, transitional-not-regular, Shift, to-regular, to-transitional, to-nowhere, stays, shift}
+use Rattle.replication.proofs.Runs.Shifts.{stays-no-fall, stays-no-regular, transitional-no-fall, transitional-not-regular, Shift, to-regular, to-transitional, to-nowhere, stays, shift}
 
 module _ (n q : ℕ) (l : Run) where
   -- Before p the server i took c, at `took-at`, and has had it since.
@@ -52,7 +49,8 @@ module _ (n q : ℕ) (l : Run) where
       kept x a b (yes d) = h .kept x a (omega arith)
       kept x a b (no d) = let z : x ≡ suc p = omega arith in subst (λ w. placeAt n q l i w .regular ≡ some c) (sym z) e
 
-      not-left : placeAt n q l i (suc p) .transitional ≡ none → (x : ℕ) → h .took-at < x → x ≤ suc p → Dec (x < suc p) → placeAt n q l i x .transitional ≡ none
+      not-left : placeAt n q l i (suc p) .transitional ≡ none → (x : ℕ) → h .took-at < x → x ≤ suc p → Dec (x < suc p)
+          → placeAt n q l i x .transitional ≡ none
       not-left g x a b (yes d) = h .not-left (u g) x a (omega arith)
       not-left g x a b (no d) = let z : x ≡ suc p = omega arith in subst (λ w. placeAt n q l i w .transitional ≡ none) (sym z) g
 

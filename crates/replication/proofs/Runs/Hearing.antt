@@ -1,10 +1,10 @@
 -- One step in an exchange: it changes no votes, and no States but by one that comes.
 use Prim.Native.Nat.{ℕ}
-use mathlib.Core.Path.{_≡_, refl, sym, ap, subst, _∙_}
+use mathlib.Core.Path.{_≡_, refl, sym, ap, _∙_}
 use mathlib.Core.Bool.{Bool, true, false}
-use mathlib.Core.List.{List, [], _∷_}
+use mathlib.Core.List.{List}
 use mathlib.Core.Logic.{_⊎_, inl, inr}
-use mathlib.Core.Option.{Option, none, some}
+use mathlib.Core.Option.{Option, some}
 use lib.ListN.{length, set, length-set}
 use Rattle.base.specs.Tests.{not-both}
 use Rattle.format.specs.Types.{State, Record, action, retransmission, state, cpc, regular, transitional, request, recovery, says}
@@ -20,7 +20,8 @@ use Rattle.replication.proofs.Runs.Memberships as M
 use Rattle.replication.proofs.Runs.Memberships.{Joinable, Completes, MembershipStep}
 
 -- A server in an exchange was in one before, with the same votes, or has entered it now.
-pub exchange-votes : {s : Server} {r : Record} {t : Server} {rs : List Record} {b : Bool} → Transition s r t rs b → (inExchange (t .membership .mode) ≡ true)
+pub exchange-votes : {s : Server} {r : Record} {t : Server} {rs : List Record} {b : Bool} → Transition s r t rs b
+    → (inExchange (t .membership .mode) ≡ true)
     → ((inExchange (s .membership .mode) ≡ true) × (t .votes ≡ s .votes)) ⊎ ((c : Configuration) × (r ≡ regular (c .id) (c .set)))
 unfolding inExchange greenAndNote exchanged oneMore withState resending withCpc sendHeld numbered leave hold recovered attempting decided
 exchange-votes (L.ignoresState x e) h = inl (h, refl)
@@ -106,7 +107,8 @@ heard-length (transitional c) xs = refl
 heard-length (request p) xs = refl
 heard-length recovery xs = refl
 
-completes-kept : {n : ℕ} {m : Membership} {r : Record} {o : Membership} → Completes n m r o → (o .configuration ≡ m .configuration) × (o .states ≡ withHeard r (m .states))
+completes-kept : {n : ℕ} {m : Membership} {r : Record} {o : Membership} → Completes n m r o
+    → (o .configuration ≡ m .configuration) × (o .states ≡ withHeard r (m .states))
 completes-kept (M.byState x e c d) = (refl, refl)
 completes-kept (M.byRetransmission k p a e c) = (refl, refl)
 
@@ -121,7 +123,8 @@ not-joinable M.fromNo = refl
 not-joinable M.fromUn = refl
 
 -- In an exchange an event brings a State, or leaves the States and the configuration as they are.
-pub exchange-kept : {n : ℕ} {m : Membership} {r : Record} {o : Membership} → MembershipStep n m r o → inExchange (m .mode) ≡ true → isRecovery (says r) ≡ false
+pub exchange-kept : {n : ℕ} {m : Membership} {r : Record} {o : Membership} → MembershipStep n m r o → inExchange (m .mode) ≡ true
+    → isRecovery (says r) ≡ false
     → (o .configuration ≡ m .configuration) × (o .states ≡ withHeard r (m .states))
 unfolding inExchange isRecovery
 exchange-kept (M.ignores r e f) h g = not-in-exchange f h refl

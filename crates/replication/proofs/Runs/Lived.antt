@@ -1,14 +1,13 @@
 -- The images of a server at a place of a run are those after some events: what holds after any events holds at every place.
-use Prim.Native.Nat.{ℕ, zero, suc, _≤_, _<_}
+use Prim.Native.Nat.{ℕ, zero, suc}
 use mathlib.Core.Path.{_≡_, refl, sym, ap, subst, _∙_}
-use mathlib.Core.Bool.{Bool, true, false}
+use mathlib.Core.Bool.{Bool, false}
 use mathlib.Core.List.{List, [], _∷_, _++_}
-use Rattle.base.specs.Tests.{pick}
 use Rattle.format.specs.Types.{Action}
 use Rattle.replication.specs.Machine.Types.{Server, Outcome, taken, start}
 use Rattle.replication.specs.Machine.Step.{step}
 use Rattle.replication.specs.Images.{Images, started, arrive, leftBy, lived}
-use Rattle.replication.specs.Laws.Images.{OfBoth, next}
+use Rattle.replication.specs.Laws.Images.{OfBoth}
 use Rattle.replication.specs.Runs.Run.{Run, beginning, worldAt}
 use Rattle.replication.proofs.Step.Lifts.{lived-each, lived-pair}
 use Rattle.replication.proofs.Runs.Places.{world-at-start}

@@ -1,11 +1,11 @@
 -- The actions in a log: after a taken event each was there before, came with the event's record, or was put out by the event.
 use Prim.Native.Nat.{ℕ, _+_}
-use mathlib.Core.Path.{_≡_, refl, sym, ap, subst, _∙_}
-use mathlib.Core.Bool.{Bool, true, false}
-use mathlib.Core.List.{List, [], _∷_, _++_, map, List·Memᴰ, List·Memᴰ·head, List·Memᴰ·tail, Memᴰ·map}
+use mathlib.Core.Path.{_≡_, refl, sym, subst}
+use mathlib.Core.Bool.{Bool}
+use mathlib.Core.List.{List, [], _∷_, map, List·Memᴰ, List·Memᴰ·head, List·Memᴰ·tail, Memᴰ·map}
 use mathlib.Core.Option.{Option, none, some}
 use lib.ListN.{length}
-use Rattle.base.specs.Tests.{_=?_, _≤?_, _and_, pick, pick-either, Known, holds, fails, known}
+use Rattle.base.specs.Tests.{_=?_, _≤?_, _and_, pick-either, Known, holds, fails, known}
 use Rattle.base.specs.ListLaws.{Each, each-append, each-implied}
 use Rattle.format.specs.Types.{Id, Action, Record, action, retransmission, state, cpc, regular, transitional, request, recovery}
 use Rattle.replication.specs.Machine.Types.{Non-prim, Reg-prim, Log, Server, inMode}

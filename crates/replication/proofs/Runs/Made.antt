@@ -1,31 +1,25 @@
 -- Every action held, on an own list, sent or resent was made once, by its creator's numbering: an id fixes the action everywhere in a run.
 use Prim.Native.Nat.{ℕ, zero, suc, _+_, _-_, _≤_, _<_}
 use mathlib.Core.Path.{_≡_, refl, sym, ap, subst, _∙_}
-use mathlib.Core.Bool.{Bool, true, false}
 use mathlib.Core.List.{List, [], _∷_, _++_, map, List·Memᴰ, List·Memᴰ·head, List·Memᴰ·tail, List·Memᴰ·not-nil}
-use mathlib.Core.Logic.{_⊎_, inl, inr}
-use mathlib.Core.Option.{Option, none, some}
+use mathlib.Core.Option.{some}
 use native.Mathlib.Omega.{arith}
 use native.Mathlib.Decide.{decLt}
-use lib.ListN.{length}
-use Rattle.base.specs.Tests.{pick, pick-either}
-use Rattle.base.specs.Lists.{at, above, after}
+use Rattle.base.specs.Tests.{pick-either}
+use Rattle.base.specs.Lists.{above, after}
 use Rattle.base.specs.AtLaws.{at-among}
 use Rattle.base.specs.Chains.{strong}
 use Rattle.base.specs.ListLaws.{Each, each-append, each-implied}
 use Rattle.format.specs.Types.{Id, Action, State, Record, action, retransmission, state, cpc, regular, transitional, request, recovery}
-use Rattle.replication.specs.Machine.Types.{Configuration, Log, Server, start}
+use Rattle.replication.specs.Machine.Types.{Configuration, Log, start}
 use Rattle.replication.specs.Machine.Colours.{find}
-use Rattle.replication.specs.Machine.Requests.{recovered}
-use Rattle.replication.specs.Machine.Step.{collected}
 use Rattle.replication.specs.Machine.WellFormed.{idsIn}
-use Rattle.replication.specs.Machine.WellFormedSent.{senderOf}
-use Rattle.replication.specs.Images.{Images, started}
+use Rattle.replication.specs.Images.{started}
 use Rattle.replication.specs.Laws.Images.{OfBoth}
 use Rattle.replication.specs.Laws.Sending as P
-use Rattle.replication.specs.Laws.Sending.{PutsOut, Own, Resent}
-use Rattle.replication.specs.Runs.Run.{Run, beginning, worldAt, placeAt}
-use Rattle.replication.specs.Runs.Happenings.{Message, isMessage, Comes, Delivers}
+use Rattle.replication.specs.Laws.Sending.{Own, Resent}
+use Rattle.replication.specs.Runs.Run.{Run, beginning, worldAt}
+use Rattle.replication.specs.Runs.Happenings.{Message, isMessage, Comes}
 use Rattle.replication.specs.Runs.Allowed.{Allowed}
 use Rattle.replication.proofs.Step.Kinds.{part-sent}
 use Rattle.replication.proofs.Step.OwnActions.{own-sent}
@@ -34,15 +28,16 @@ use Rattle.replication.proofs.WellFormed.Held.{found-fact}
 use Rattle.replication.proofs.Runs.Places.{world-at-start, of-event}
 use Rattle.replication.proofs.Runs.Numbers.{numbers, invariant-at}
 use Rattle.replication.proofs.Runs.Deliveries.{Delivery}
-use Rattle.replication.proofs.Runs.AllowedTurns.{memoryAt, storeAt, Acts, Recovers, Refuses, AllowedTurn, rests, crashes, refuses, recovers, acts, allowed-turn}
+use Rattle.replication.proofs.Runs.AllowedTurns.{memoryAt, storeAt, Acts, AllowedTurn, rests, crashes, refuses, recovers, acts, allowed-turn}
 use Rattle.replication.proofs.Runs.ControlPart.{numbered-between}
 use Rattle.replication.proofs.Runs.Sending.{Puts}
-use Rattle.replication.proofs.Runs.Origins.{Origin, origin}
+use Rattle.replication.proofs.Runs.Origins.{origin}
 use Rattle.replication.proofs.Runs.StateOrigins.{puts-among, puts-by}
-use Rattle.replication.proofs.Runs.LogActions.{EachIn, carried, each-of, each-in, each-after, each-recovered, each-in-implied}
+use Rattle.replication.proofs.Runs.LogActions.{EachIn, carried, each-in, each-after, each-recovered, each-in-implied}
 
 -- In a list whose ids run on from k, an id is of one action.
-ids-above : (me k m : ℕ) (xs : List Action) → idsIn xs ≡ map (λ i. record { creator = me; index = i }) (after k m) → (a : Action) → List·Memᴰ a xs → k < a .id .index
+ids-above : (me k m : ℕ) (xs : List Action) → idsIn xs ≡ map (λ i. record { creator = me; index = i }) (after k m) → (a : Action) → List·Memᴰ a xs
+    → k < a .id .index
 unfolding after idsIn
 ids-above me k zero [] e a h = absurd (List·Memᴰ·not-nil h)
 ids-above me k (suc m) [] e a h = absurd (List·Memᴰ·not-nil h)
@@ -140,7 +135,8 @@ module _ {n q : ℕ} {l : Run} (A : Allowed n q l) where
   resent-made v k m xs j p a h (P.asRed c u b i e f) = let z : b ≡ a = cc in subst (Made v) z (found-in _ m b h e)
 
   -- What a record put out carries was made.
-  put-made : (v k j : ℕ) (c : Configuration) (r : Record) (x : Puts A v k j c r) → EachIn (Made (suc v)) (memoryAt n q l (suc v) k .log) → Each (Made (suc v)) (carried r)
+  put-made : (v k j : ℕ) (c : Configuration) (r : Record) (x : Puts A v k j c r) → EachIn (Made (suc v)) (memoryAt n q l (suc v) k .log)
+      → Each (Made (suc v)) (carried r)
   put-made v k j c (action a) x h = (own-made v k (x .act) a (at-among _ j (action a) (x .record-there)), tt)
   put-made v k j c (retransmission w p a) x h =
       (resent-made (suc v) _ _ _ w p a (subst (λ t. EachIn (Made (suc v)) (t .log)) (x .act .memory-next) h) (part-sent (puts-by A x) w p a (puts-among A x) .planned), tt)
@@ -174,7 +170,8 @@ module _ {n q : ℕ} {l : Run} (A : Allowed n q l) where
   unfolding start
   start-made i = record { green = tt; red = tt; own = tt }
 
-  all-made-next : (p i : ℕ) → ((x : ℕ) → x ≤ p → AllMade x) → AllowedTurn n q l p i → OfBoth (λ s. EachIn (Made (suc p)) (s .log)) (worldAt n q l (suc p) .images i)
+  all-made-next : (p i : ℕ) → ((x : ℕ) → x ≤ p → AllMade x) → AllowedTurn n q l p i
+      → OfBoth (λ s. EachIn (Made (suc p)) (s .log)) (worldAt n q l (suc p) .images i)
   all-made-next p i h t = go t
     where
       before : OfBoth (λ s. EachIn (Made (suc p)) (s .log)) (worldAt n q l p .images i)
@@ -222,3 +219,30 @@ module _ {n q : ℕ} {l : Run} (A : Allowed n q l) where
   -- Every action in a record that is delivered was made.
   pub delivered-made : {p i : ℕ} {m : Message} (d : Delivery A p i m) → Each (Made p) (carried (d .what))
   delivered-made {p} {i} {m} d = delivery-made p i (λ x h. all-made x) m d
+
+  -- ---- an id fixes the action
+
+  pub data InLog (a : Action) (m : Log) : Type 0 where
+    green : List·Memᴰ a (m .green) → InLog a m
+    red : List·Memᴰ a (m .red) → InLog a m
+    own : List·Memᴰ a (m .own) → InLog a m
+
+  -- The action a is somewhere at p: held or on an own list, in a memory or a store; or in a record put out before.
+  pub data Known (p : ℕ) (a : Action) : Type 0 where
+    in-memory : (i : ℕ) → InLog a (memoryAt n q l p i .log) → Known p a
+    in-store : (i : ℕ) → InLog a (storeAt n q l p i .log) → Known p a
+    put-out : (v k j : ℕ) (c : Configuration) (r : Record) → Puts A v k j c r → v < p → List·Memᴰ a (carried r) → Known p a
+
+  in-log-made : {p : ℕ} {a : Action} {m : Log} → EachIn (Made p) m → InLog a m → Made p a
+  in-log-made {p} {a} {m} h (green x) = each-in (Made p) (m .green) (h .green) a x
+  in-log-made {p} {a} {m} h (red x) = each-in (Made p) (m .red) (h .red) a x
+  in-log-made {p} {a} {m} h (own x) = each-in (Made p) (m .own) (h .own) a x
+
+  pub known-made : {p : ℕ} {a : Action} → Known p a → Made p a
+  known-made {p} (in-memory i x) = in-log-made (all-made p i .memory) x
+  known-made {p} (in-store i x) = in-log-made (all-made p i .store) x
+  known-made {p} {a} (put-out v k j c r x h m) = made-later h (each-in (Made (suc v)) (carried r) (sent-made x) a m)
+
+  -- Everywhere in the run, at any two places.
+  pub id-fixes-action : {p r : ℕ} {a b : Action} → Known p a → Known r b → a .id ≡ b .id → a ≡ b
+  id-fixes-action x y e = made-one (known-made x) (known-made y) e

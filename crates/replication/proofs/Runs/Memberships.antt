@@ -1,10 +1,9 @@
 -- The part of a server that follows configurations, States, CPCs and the count of retransmissions changes by itself: how each event changes it.
 use Prim.Native.Nat.{ℕ, _+_}
-use mathlib.Core.Path.{_≡_, refl, sym, ap, subst, _∙_}
+use mathlib.Core.Path.{_≡_, refl, sym, subst}
 use mathlib.Core.Bool.{Bool, true, false}
-use mathlib.Core.List.{List, [], _∷_}
-use mathlib.Core.Logic.{_⊎_, inl, inr}
-use mathlib.Core.Option.{Option, none, some}
+use mathlib.Core.List.{List}
+use mathlib.Core.Option.{none, some}
 use lib.ListN.{set}
 use Rattle.base.specs.Tests.{_=?_, _≤?_}
 use Rattle.base.specs.Lists.{present}
@@ -13,7 +12,6 @@ use Rattle.format.specs.Types.{Action, State, Record, action, retransmission, s
 use Rattle.replication.specs.Machine.Types.{Mode, Non-prim, Reg-prim, Trans-prim, Exchange-states, Exchange-actions, Construct, No, Un, Configuration, Membership, Server, withMode, withCome, noStates}
 use Rattle.replication.specs.Machine.Plan.{planned}
 use Rattle.replication.specs.Machine.Exchange.{quorum}
-use Rattle.replication.specs.Machine.Colours.{yellow}
 use Rattle.replication.specs.Machine.Install.{install}
 use Rattle.replication.specs.Machine.Requests.{numbered, hold, sendHeld, recovered}
 use Rattle.replication.specs.Machine.Step.{entering, theSet, hereSet, collected, decided, attempting, withState, allFrom, allStatesIn, plannedNow, resending, oneMore, exchanged, allCome, withCpc, allCpcsIn, leave, greenAndNote}
@@ -112,7 +110,8 @@ module _ (s : Server) where
   ended r t u rs h (L.withQuorum q) = attempts _ _ h q
   ended r t u rs h (L.withoutQuorum q) = settles _ _ h q
 
-  pub membership-step : {r : Record} {t : Server} {rs : List Record} {b : Bool} → Transition s r t rs b → MembershipStep (s .servers) (s .membership) r (t .membership)
+  pub membership-step : {r : Record} {t : Server} {rs : List Record} {b : Bool} → Transition s r t rs b
+      → MembershipStep (s .servers) (s .membership) r (t .membership)
   unfolding isMessage greenAndNote install exchanged oneMore withState resending withCpc sendHeld numbered entering leave hold recovered allStatesIn plannedNow collected hereSet allCome allCpcsIn
   membership-step (L.ignoresState x e) = ignores (state x) refl e
   membership-step (L.ignoresCpc k i e) = ignores (cpc k i) refl e

@@ -1,10 +1,8 @@
 -- Which states have a configuration, and whether their latest one is regular or transitional, at every place of a run.
 use Prim.Native.Nat.{ℕ}
-use mathlib.Core.Path.{_≡_, refl, sym, ap, subst, _∙_}
-use mathlib.Core.List.{List}
-use mathlib.Core.Option.{Option, none, some}
+use mathlib.Core.Path.{_≡_, subst}
+use mathlib.Core.Option.{Option}
 use Rattle.replication.specs.Machine.Types.{Mode, Non-prim, Reg-prim, Trans-prim, Exchange-states, Exchange-actions, Construct, No, Un, Configuration, Votes, Server}
-use Rattle.replication.specs.Images.{Images}
 use Rattle.replication.specs.Laws.Images.{OfBoth}
 use Rattle.replication.specs.Laws.Modes.{InRegular, InTransitional, ModeFacts, ModeFactsOf}
 use Rattle.replication.specs.Runs.Run.{Run, worldAt}

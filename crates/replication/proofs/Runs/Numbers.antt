@@ -1,8 +1,7 @@
 -- A server keeps its own number, the number of servers and the quota; its images are well-formed at every place.
 use Prim.Native.Nat.{ℕ, _<_}
-use mathlib.Core.Path.{_≡_, refl, _∙_}
+use mathlib.Core.Path.{_≡_}
 use mathlib.Core.Bool.{true}
-use mathlib.Core.List.{List}
 use Rattle.format.specs.Range.{sizesOk}
 use Rattle.replication.specs.Machine.Types.{Server, start}
 use Rattle.replication.specs.Machine.WellFormed.{wellFormed}

@@ -1,27 +1,23 @@
 -- Consequences of Specifications 1, 2, 5, 6 and 7: the one order of configurations and deliveries, and what a server has delivered by when.
-use Prim.Native.Nat.{ℕ, zero, suc, _≤_, _<_}
-use mathlib.Core.Path.{_≡_, refl, sym, ap, subst, _∙_}
-use mathlib.Core.Bool.{Bool, true, false}
-use mathlib.Core.List.{List, [], _∷_, _++_}
-use mathlib.Core.Logic.{_⊎_, inl, inr}
-use mathlib.Core.Option.{Option, none, some}
+use Prim.Native.Nat.{ℕ, suc, _≤_, _<_}
+use mathlib.Core.Path.{_≡_, sym, ap, subst, _∙_}
+use mathlib.Core.Bool.{true}
+use mathlib.Core.Option.{none, some}
 use native.Mathlib.Omega.{arith}
 use native.Mathlib.Decide.{decLt}
-use lib.ListN.{length}
-use Rattle.base.specs.Tests.{_and_, and-holds}
-use Rattle.base.specs.Lists.{at}
+use Rattle.base.specs.Tests.{and-holds}
 use Rattle.base.specs.AtLaws.{some-same}
 use Rattle.base.specs.Sets.{inSet}
-use Rattle.format.specs.Types.{Record, regular, transitional}
+use Rattle.format.specs.Types.{regular, transitional}
 use Rattle.format.specs.Range.{recordOk, fieldsOk, ownSetOk}
 use Rattle.format.proofs.Reading.{read-in-range}
 use Rattle.replication.specs.Machine.Types.{Configuration}
-use Rattle.replication.specs.Runs.Run.{Entry, event, crash, Run, Place, heard, members, membersIn, placeAt, heardAt, sentAt}
-use Rattle.replication.specs.Runs.Happenings.{Message, Configured, regularly, Happening, entry-at, sending-of, Of, Comes, Takes, Left, Sends, Delivers, Delivered, to-regular, Causes, in-turn, sends, in-order, before-next, through, Precedes, causes}
+use Rattle.replication.specs.Runs.Run.{Run, Place, heard, members, membersIn, placeAt, heardAt}
+use Rattle.replication.specs.Runs.Happenings.{Message, regularly, entry-at, sending-of, Of, Takes, Left, Sends, to-regular, Causes, in-turn, sends, in-order, before-next, through, causes}
 use Rattle.replication.specs.Runs.Allowed.{Allowed}
 use Rattle.replication.proofs.Runs.Shifts.{comes-of}
-use Rattle.replication.proofs.Runs.Entries.{Had, had}
-use Rattle.replication.proofs.Runs.Deliveries.{Delivery, sends-one, delivered-where-sent, delivered-before-leaving}
+use Rattle.replication.proofs.Runs.Entries.{had}
+use Rattle.replication.proofs.Runs.Deliveries.{Delivery, delivered-where-sent, delivered-before-leaving}
 
 -- The place of a server whose latest configuration is the regular c.
 abbrev pub inRegularOf : Configuration → Place
@@ -86,7 +82,7 @@ module _ {n q : ℕ} {l : Run} (A : Allowed n q l) where
   own-order {p} {i} {j} {m} {m′} {c} s t b d = A .causal p i i j m m′ c s t (go b) d
     where
       go : SentBefore m m′ → Causes n q l (A .source) (A .name) (sending-of m) (sending-of m′)
-      go (in-earlier-event h) = through (before-next i m (s .mine) (t .mine) h) (sends m′ (t .out))
+      go (in-earlier-event h) = through (before-next i m (s .out) (s .mine) (t .mine) h) (sends m′ (t .out))
       go (in-same-event e h) = in-order m m′ e h (t .out)
 
   members-regular : (c : Configuration) (x : Place) → x ≡ inRegularOf c → members x ≡ c .set

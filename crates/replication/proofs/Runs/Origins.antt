@@ -1,9 +1,9 @@
 -- A delivered record is one that a member of the deliverer's configuration put out and sent there, earlier, in its own name.
-use Prim.Native.Nat.{ℕ, zero, suc, _≤_, _<_}
-use mathlib.Core.Path.{_≡_, refl, sym, ap, subst, _∙_}
-use mathlib.Core.Bool.{Bool, true, false}
-use mathlib.Core.List.{List, [], _∷_, _++_, map}
-use mathlib.Core.Option.{Option, none, some}
+use Prim.Native.Nat.{ℕ, suc, _<_}
+use mathlib.Core.Path.{_≡_, sym, ap, subst, _∙_}
+use mathlib.Core.Bool.{true}
+use mathlib.Core.List.{List}
+use mathlib.Core.Option.{some}
 use native.Mathlib.Omega.{arith}
 use Rattle.base.specs.Lists.{at}
 use Rattle.base.specs.AtLaws.{some-same}
@@ -13,10 +13,10 @@ use Rattle.format.specs.Types.{Record, Context, says}
 use Rattle.format.specs.Read.{read}
 use Rattle.format.specs.Write.{write}
 use Rattle.format.proofs.Ranges.{sizes-range}
-use Rattle.replication.specs.Machine.Types.{Configuration, Server, setOf}
+use Rattle.replication.specs.Machine.Types.{Configuration, setOf}
 use Rattle.replication.specs.Machine.WellFormedSent.{senderOf}
-use Rattle.replication.specs.Runs.Run.{Entry, event, crash, Run, Place, nowhere, heard, placeAt, heardAt, sentAt}
-use Rattle.replication.specs.Runs.Happenings.{Message, isMessage, Of, Comes, Sends, Delivers}
+use Rattle.replication.specs.Runs.Run.{Run, Place, nowhere, heard, placeAt, heardAt, sentAt}
+use Rattle.replication.specs.Runs.Happenings.{Message, Sends}
 use Rattle.replication.specs.Runs.Allowed.{Allowed}
 use Rattle.replication.specs.Runs.DeliveryFacts.{recordFrom, recordIn, recordOf}
 use Rattle.replication.proofs.WellFormed.Reads.{Peer, put-out-reads, taken-put-out}
@@ -24,7 +24,7 @@ use Rattle.replication.proofs.Runs.Places.{of-one, of-event}
 use Rattle.replication.proofs.Runs.Shifts.{says-same, comes-of}
 use Rattle.replication.proofs.Runs.Numbers.{numbers, well-formed-at}
 use Rattle.replication.proofs.Runs.Deliveries.{Delivery}
-use Rattle.replication.proofs.Runs.AllowedTurns.{memoryAt, Acts}
+use Rattle.replication.proofs.Runs.AllowedTurns.{memoryAt}
 use Rattle.replication.proofs.Runs.Sending.{Puts, sent-put-out}
 use Rattle.replication.proofs.Runs.Order.{sender-member}
 

@@ -1,19 +1,17 @@
 -- In an exchange the own State says what the server has; so (last primary's index, its attempt, attempt) never falls along a server.
-use Prim.Native.Nat.{ℕ, zero, suc, _+_, _≤_, _<_}
+use Prim.Native.Nat.{ℕ, suc, _≤_, _<_}
 use mathlib.Core.Path.{_≡_, refl, sym, ap, subst, _∙_}
-use mathlib.Core.Bool.{Bool, true, false}
-use mathlib.Core.List.{List, [], _∷_}
+use mathlib.Core.Bool.{true}
 use mathlib.Core.Logic.{_⊎_, inl, inr}
 use mathlib.Core.Option.{Option, none, some}
 use native.Mathlib.Omega.{arith}
 use lib.ListN.{length, getD}
 use Rattle.base.specs.Tests.{not-both}
 use Rattle.base.specs.ListLaws.{there}
-use Rattle.base.specs.Lists.{isThere}
 use Rattle.base.specs.Chains.{chain}
 use Rattle.base.specs.Sets.{inSet}
-use Rattle.format.specs.Types.{State, Record, regular}
-use Rattle.replication.specs.Machine.Types.{Mode, Non-prim, Reg-prim, Trans-prim, Exchange-states, Exchange-actions, Construct, No, Un, Configuration, Votes, Server}
+use Rattle.format.specs.Types.{State, regular}
+use Rattle.replication.specs.Machine.Types.{Mode, Non-prim, Reg-prim, Trans-prim, Exchange-states, Exchange-actions, Construct, No, Un, Configuration}
 use Rattle.replication.specs.Machine.Step.{ownState, theSet, hereSet, allStatesIn}
 use Rattle.replication.specs.Machine.WellFormedRanges.{MembershipRanges}
 use Rattle.replication.specs.Laws.Modes.{InRegular}
@@ -26,11 +24,11 @@ use Rattle.replication.proofs.Step.VotesOrder.{at-most-same, at-most-re
 use Rattle.replication.proofs.WellFormed.Modes.{all-in-facts}
 use Rattle.replication.proofs.Runs.Places.{of-event}
 use Rattle.replication.proofs.Runs.Numbers.{numbers, invariant-at, well-formed-at}
-use Rattle.replication.proofs.Runs.Modes.{standing, Standing, Stands}
+use Rattle.replication.proofs.Runs.Modes.{standing, Stands}
 use Rattle.replication.proofs.Runs.Coupling.{coupled}
-use Rattle.replication.proofs.Runs.AllowedTurns.{memoryAt, storeAt, Acts, Recovers, Refuses, AllowedTurn, rests, crashes, refuses, recovers, acts, allowed-turn}
+use Rattle.replication.proofs.Runs.AllowedTurns.{memoryAt, Acts, AllowedTurn, rests, crashes, refuses, recovers, acts, allowed-turn}
 use Rattle.replication.proofs.Runs.ControlPart.{control-next}
-use Rattle.replication.proofs.Runs.Hearing.{exchange-votes, withHeard, hearing-states, HeardSame, hearing-same, heard-length, exchange-kept}
+use Rattle.replication.proofs.Runs.Hearing.{exchange-votes, hearing-states, HeardSame, hearing-same, heard-length, exchange-kept}
 use Rattle.replication.proofs.Runs.StateOrigins.{Entered, states-entered}
 use Rattle.replication.proofs.Runs.Stays.{membershipAt, in-stay, acts-membership}
 
@@ -67,7 +65,8 @@ module _ {n q : ℕ} {l : Run} (A : Allowed n q l) where
         votes = λ e. ap (λ x. x .memory .votes) m ∙ h .votes (ap (λ x. inExchange (x .memory .membership .mode)) (sym m) ∙ e);
       }
 
-      go : (p : ℕ) → (Falls n q l p i → ⊥) → ((d : Configuration) → Takes n q l p i d → ⊥) → SinceEntry p i c → AllowedTurn n q l p i → SinceEntry (suc p) i c
+      go : (p : ℕ) → (Falls n q l p i → ⊥) → ((d : Configuration) → Takes n q l p i d → ⊥) → SinceEntry p i c → AllowedTurn n q l p i
+          → SinceEntry (suc p) i c
       go p f g h (rests o m u d) = same p h m
       go p f g h (crashes x m u d) = absurd (f (by-crash x))
       go p f g h (refuses x) = same p h (x .images-next)
@@ -110,7 +109,8 @@ module _ {n q : ℕ} {l : Run} (A : Allowed n q l) where
 
   module _ (p i : ℕ) (x : Acts n q l p i) where
     -- When every member's State is in, the own one is.
-    own-there : (c : Configuration) → memoryAt n q l p i .membership .configuration ≡ some c → allStatesIn (hearing (x .by .event) (memoryAt n q l p i)) ≡ true
+    own-there : (c : Configuration) → memoryAt n q l p i .membership .configuration ≡ some c
+        → allStatesIn (hearing (x .by .event) (memoryAt n q l p i)) ≡ true
         → (y : State) × (getD (hearing (x .by .event) (memoryAt n q l p i) .membership .states) i none ≡ some y)
     unfolding hereSet theSet
     own-there c r f =

@@ -1,9 +1,7 @@
 -- A taken event moves a server's configurations as the run's are moved.
-use Prim.Native.Nat.{ℕ}
-use mathlib.Core.Path.{_≡_, refl, sym, ap, subst, _∙_}
-use mathlib.Core.Bool.{Bool, true, false}
-use mathlib.Core.List.{List, [], _∷_}
-use mathlib.Core.Option.{Option, none, some}
+use mathlib.Core.Path.{_≡_, refl, ap}
+use mathlib.Core.Bool.{Bool}
+use mathlib.Core.List.{List}
 use Rattle.format.specs.Types.{Record, says}
 use Rattle.replication.specs.Machine.Types.{Server}
 use Rattle.replication.specs.Machine.Install.{install}
@@ -23,7 +21,8 @@ unfolding attempting decided sendHeld numbered
 ends-place (L.withQuorum c) = refl
 ends-place (L.withoutQuorum c) = refl
 
-pub transition-place : {s : Server} {r : Record} {t : Server} {rs : List Record} {b : Bool} → Transition s r t rs b → placeOf t ≡ moved (says r) (placeOf s)
+pub transition-place : {s : Server} {r : Record} {t : Server} {rs : List Record} {b : Bool} → Transition s r t rs b
+    → placeOf t ≡ moved (says r) (placeOf s)
 unfolding moved nowhere greenAndNote install exchanged oneMore withState resending withCpc sendHeld numbered entering leave hold recovered
 transition-place (L.ignoresState x e) = refl
 transition-place (L.ignoresCpc k j e) = refl

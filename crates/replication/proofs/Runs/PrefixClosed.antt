@@ -1,9 +1,9 @@
 -- Each beginning of an allowed run is allowed.
-use Prim.Native.Nat.{ℕ, zero, suc, _≤_, _<_}
-use mathlib.Core.Path.{_≡_, refl, sym, ap, subst, _∙_}
-use mathlib.Core.Bool.{Bool, true, false}
-use mathlib.Core.List.{List, [], _∷_, _++_}
-use mathlib.Core.Option.{Option, none, some}
+use Prim.Native.Nat.{ℕ, _≤_, _<_}
+use mathlib.Core.Path.{_≡_, sym, ap, subst, _∙_}
+use mathlib.Core.Bool.{true}
+use mathlib.Core.List.{List}
+use mathlib.Core.Option.{Option, some}
 use native.Mathlib.Omega.{arith}
 use lib.ListN.{length, take}
 use Rattle.base.specs.Lists.{at}
@@ -11,8 +11,8 @@ use Rattle.base.specs.AtLaws.{at-in-take, some-same}
 use Rattle.base.specs.Sets.{inSet}
 use Rattle.format.specs.Types.{Record, transitional, recovery, regular}
 use Rattle.replication.specs.Machine.Types.{Configuration}
-use Rattle.replication.specs.Runs.Run.{Entry, event, crash, Run, Place, members, worldAt, placeAt, putOut, sentAt}
-use Rattle.replication.specs.Runs.Happenings.{Message, isMessage, Configured, Happening, entry-at, sending-of, Of, Crashes, Comes, Falls, Takes, Left, Sends, Delivers, Delivered, Configures, Passes, Causes, Precedes}
+use Rattle.replication.specs.Runs.Run.{event, Run, members, worldAt, placeAt, putOut, sentAt}
+use Rattle.replication.specs.Runs.Happenings.{Message, isMessage, Configured, entry-at, sending-of, Of, Crashes, Comes, Falls, Takes, Left, Sends, Delivers, Delivered, Passes, Causes}
 use Rattle.replication.specs.Runs.Allowed.{Allowed}
 use Rattle.replication.proofs.Runs.Beginnings as B
 use Rattle.replication.proofs.Runs.Deliveries.{delivered-where-sent, sent-before, delivered-before-leaving}

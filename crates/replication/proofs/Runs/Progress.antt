@@ -1,12 +1,11 @@
 -- How far a server is in its configuration, by its state: which States and CPCs are in, and whether as many retransmissions have come as are planned.
-use Prim.Native.Nat.{ℕ, zero, suc, _+_, _≤_, _<_}
+use Prim.Native.Nat.{ℕ, suc, _+_, _≤_, _<_}
 use mathlib.Core.Path.{_≡_, refl, sym, ap, subst, _∙_}
-use mathlib.Core.Bool.{Bool, true, false}
-use mathlib.Core.List.{List, [], _∷_}
+use mathlib.Core.Bool.{true, false}
 use mathlib.Core.Option.{Option, none, some}
 use native.Mathlib.Omega.{arith}
-use lib.ListN.{length, getD, length-replicate}
-use Rattle.base.specs.Tests.{_=?_, _≤?_, not-both, eq-holds, eq-fails, le-holds, le-fails, Known, holds, fails, known}
+use lib.ListN.{length-replicate}
+use Rattle.base.specs.Tests.{not-both, eq-holds, eq-fails, le-holds, le-fails, Known, holds, fails, known}
 use Rattle.base.specs.AtLaws.{none-some}
 use Rattle.base.specs.Lists.{isThere}
 use Rattle.base.specs.Sets.{inSet, inside}
@@ -18,7 +17,6 @@ use Rattle.replication.specs.Laws.Modes.{InRegular}
 use Rattle.replication.specs.Laws.Transitions as L
 use Rattle.replication.specs.Laws.Transitions.{Leads}
 use Rattle.replication.specs.Runs.Run.{Run, placeAt}
-use Rattle.replication.specs.Runs.Happenings.{Falls, Takes}
 use Rattle.replication.specs.Runs.Allowed.{Allowed}
 use Rattle.replication.proofs.WellFormed.Modes.{from-facts}
 use Rattle.replication.proofs.Runs.Order.{taker-member}
@@ -112,7 +110,8 @@ leads-progress n m x L.interruptsConstruct h =
     record { ended = record { all-in = h .ended .all-in; all-come = h .ended .all-come }; agreed = h .agreed; not-all-cpcs = h .not-all-cpcs }
 
 -- The server k, of n, stays a member.
-pub progress-step : {n k : ℕ} {m : Membership} {r : Record} {o : Membership} → k < n → inSet k (setIn o) ≡ true → MembershipStep n m r o → Progress n m → Progress n o
+pub progress-step : {n k : ℕ} {m : Membership} {r : Record} {o : Membership} → k < n → inSet k (setIn o) ≡ true → MembershipStep n m r o
+    → Progress n m → Progress n o
 unfolding theSet
 progress-step l i (M.ignores r e f) h = h
 progress-step l i (M.acts a o e t) h = h
@@ -170,7 +169,8 @@ module _ {n q : ℕ} {l : Run} (A : Allowed n q l) where
       (record { not-all-in = no-states-in n i (c .set) (A .servers t i (comes-of h)) (taker-member h); no-cpcs = refl }))
       (λ p a b f g h. go p b h (stay-step A p i f))
     where
-      go : (p : ℕ) → placeAt n q l i (suc p) .regular ≡ some c → Progress n (membershipAt n q l p i) → StayStep A p i → Progress n (membershipAt n q l (suc p) i)
+      go : (p : ℕ) → placeAt n q l i (suc p) .regular ≡ some c → Progress n (membershipAt n q l p i) → StayStep A p i
+          → Progress n (membershipAt n q l (suc p) i)
       go p b h (rested o m) = subst (Progress n) (sym m) h
       go p b h (refused x m) = subst (Progress n) (sym m) h
       go p b h (took x y m) =

@@ -1,15 +1,15 @@
 -- Records put out: the number of one that is put out alone, and the states in which actions are put out.
 use Prim.Native.Nat.{ℕ}
 use mathlib.Core.Path.{_≡_, refl, sym, ap, subst, _∙_}
-use mathlib.Core.Bool.{Bool, true, false}
-use mathlib.Core.List.{List, [], _∷_, map, List·Memᴰ, List·Memᴰ·not-nil, List·Memᴰ·eq-of-singleton}
+use mathlib.Core.Bool.{Bool, true}
+use mathlib.Core.List.{List, [], _∷_, List·Memᴰ, List·Memᴰ·not-nil, List·Memᴰ·eq-of-singleton}
 use mathlib.Core.Logic.{_⊎_, inl, inr}
-use mathlib.Core.Option.{Option, none, some}
+use mathlib.Core.Option.{some}
 use native.Mathlib.Omega.{arith}
 use Rattle.base.specs.Tests.{not-both}
 use Rattle.base.specs.Lists.{at}
 use Rattle.base.specs.AtLaws.{at-single}
-use Rattle.format.specs.Types.{Action, State, Record, action, retransmission}
+use Rattle.format.specs.Types.{Action, State, Record, action}
 use Rattle.replication.specs.Machine.Types.{Mode, Non-prim, Reg-prim, Trans-prim, Exchange-states, Exchange-actions, Construct, No, Un, Log, Server}
 use Rattle.replication.specs.Machine.Requests.{sendsIn, sendsNow}
 use Rattle.replication.specs.Machine.Step.{collected}

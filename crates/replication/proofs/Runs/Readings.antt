@@ -1,20 +1,20 @@
 -- What an event's bytes say, at the run's place and at the machine.
 use Prim.Native.Nat.{ℕ}
 use mathlib.Core.Path.{_≡_, refl, sym, ap, subst, _∙_}
-use mathlib.Core.Bool.{Bool, true, false}
-use mathlib.Core.List.{List, [], _∷_}
-use mathlib.Core.Option.{Option, none, some}
-use Rattle.base.specs.Tests.{_and_, not-both, and-holds, both-yes}
+use mathlib.Core.Bool.{true}
+use mathlib.Core.List.{List}
+use Rattle.base.specs.Tests.{not-both, and-holds, both-yes}
 use Rattle.format.specs.Types.{Record, action, retransmission, state, cpc, regular, transitional, request, recovery, Context, Reading, says, refused}
 use Rattle.format.specs.Range.{contextOk, fieldsOk, recordOk}
 use Rattle.format.specs.Read.{frameOk, recordIn, read}
-use Rattle.format.proofs.Reading.{Read, read-says, says-read}
+use Rattle.format.proofs.Reading.{read-says, says-read}
 use Rattle.replication.specs.Machine.Types.{Server, Outcome, taken, contextOf}
 use Rattle.replication.specs.Machine.Step.{answer, onReading, inBytes, step}
 use Rattle.replication.specs.Images.{isRecovery}
 
 -- A recovery is read alike whatever the configuration.
-pub recovery-alike : (c d : Context) (e : List ℕ) → c .servers ≡ d .servers → c .quota ≡ d .quota → c .self ≡ d .self → read c e ≡ says recovery → read d e ≡ says recovery
+pub recovery-alike : (c d : Context) (e : List ℕ) → c .servers ≡ d .servers → c .quota ≡ d .quota → c .self ≡ d .self → read c e ≡ says recovery
+    → read d e ≡ says recovery
 unfolding recordOk fieldsOk contextOk
 recovery-alike c d e a b f h =
     let x = says-read c e recovery h in
@@ -41,7 +41,8 @@ is-recovery (says recovery) e = refl
 is-recovery (refused k) e = not-both e
 
 -- A step that is refused, of a record that reads, is the answer's refusal.
-pub answer-refused : (s : Server) (e : List ℕ) (r : Record) (z : ℕ) → step s e ≡ Outcome.refused z → read (contextOf s) e ≡ says r → answer s r ≡ Outcome.refused z
+pub answer-refused : (s : Server) (e : List ℕ) (r : Record) (z : ℕ) → step s e ≡ Outcome.refused z → read (contextOf s) e ≡ says r
+    → answer s r ≡ Outcome.refused z
 unfolding step onReading inBytes
 answer-refused s e r z h x = go (answer s r) (ap (λ y. inBytes (onReading s y)) (sym x) ∙ h)
   where

@@ -1,15 +1,13 @@
 -- Which events a server does not refuse.
-use Prim.Native.Nat.{ℕ, zero, suc, _≤_, _<_}
+use Prim.Native.Nat.{ℕ}
 use mathlib.Core.Path.{_≡_, refl, sym, ap, subst, _∙_}
 use mathlib.Core.Bool.{Bool, true, false, not}
-use mathlib.Core.List.{List, [], _∷_, _++_}
 use mathlib.Core.Option.{Option, none, some}
-use native.Mathlib.Omega.{arith}
 use Rattle.base.specs.Tests.{_or_, pick, not-both}
 use Rattle.base.specs.Lists.{isThere}
 use Rattle.base.specs.AtLaws.{none-some}
-use Rattle.format.specs.Types.{Action, Record, regular, transitional, recovery}
-use Rattle.replication.specs.Machine.Types.{Mode, Non-prim, Reg-prim, Trans-prim, Exchange-states, Exchange-actions, Construct, No, Un, Configuration, Server, Outcome, refused, taken}
+use Rattle.format.specs.Types.{Record, regular, transitional, recovery}
+use Rattle.replication.specs.Machine.Types.{Mode, Non-prim, Reg-prim, Trans-prim, Exchange-states, Exchange-actions, Construct, No, Un, Configuration, Server, Outcome, refused}
 use Rattle.replication.specs.Machine.Rules.{Rule, onRegular, onTransitional, ruleFor, regularDue, transitionalDue, possible, isIgnored, fromMember, withinQuota, withinHeld}
 use Rattle.replication.specs.Machine.Step.{apply, applyRule, answer}
 use Rattle.replication.specs.Laws.Modes.{InRegular}
@@ -49,7 +47,8 @@ pub recovery-taken : (s : Server) (z : ℕ) → answer s recovery ≡ refused z 
 unfolding ruleFor possible fromMember withinQuota withinHeld isIgnored _or_
 recovery-taken s z h = not-refused s recovery _ refl refl refl refl refl z h
 
-regular-ruled : (m : Mode) (c : Option Configuration) (t : Option ℕ) (d : Configuration) → (InRegular c t → ⊥) → Stands m c t → (k : Rule) × (onRegular m d ≡ some k)
+regular-ruled : (m : Mode) (c : Option Configuration) (t : Option ℕ) (d : Configuration) → (InRegular c t → ⊥) → Stands m c t
+    → (k : Rule) × (onRegular m d ≡ some k)
 unfolding onRegular
 regular-ruled Non-prim c t d f h = (_, refl)
 regular-ruled Reg-prim c t d f h = absurd (f h)

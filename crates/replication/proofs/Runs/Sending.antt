@@ -1,41 +1,39 @@
 -- In an allowed run configurations that read are taken, and records are sent only in a regular configuration (Specification 1.4).
-use Prim.Native.Nat.{ℕ, zero, suc, _≤_, _<_}
-use mathlib.Core.Path.{_≡_, refl, sym, ap, subst, _∙_}
+use Prim.Native.Nat.{ℕ, suc}
+use mathlib.Core.Path.{_≡_, refl, sym, ap, _∙_}
 use mathlib.Core.Bool.{Bool, true, false}
-use mathlib.Core.List.{List, [], _∷_, _++_, map}
+use mathlib.Core.List.{List, []}
 use mathlib.Core.Logic.{_⊎_, inl, inr}
 use mathlib.Core.Option.{Option, none, some}
-use native.Mathlib.Omega.{arith}
-use lib.ListN.{length, take}
-use Rattle.base.specs.Tests.{_and_, pick, not-both, and-holds}
+use Rattle.base.specs.Tests.{_and_, not-both}
 use Rattle.base.specs.Lists.{at, isThere}
 use Rattle.base.specs.AtLaws.{none-some, some-same, at-in-take, at-map}
-use Rattle.format.specs.Types.{Action, Record, action, regular, transitional, recovery, Reading, says}
+use Rattle.format.specs.Types.{Record, regular, transitional, says}
 use Rattle.format.specs.Write.{write}
-use Rattle.replication.specs.Machine.Types.{Mode, Non-prim, Reg-prim, Trans-prim, Exchange-states, Exchange-actions, Construct, No, Un, Configuration, Membership, Server, Outcome}
-use Rattle.replication.specs.Machine.Colours.{yellow}
+use Rattle.replication.specs.Machine.Types.{Mode, Non-prim, Reg-prim, Trans-prim, Exchange-states, Exchange-actions, Construct, No, Un, Configuration, Server}
 use Rattle.replication.specs.Machine.Install.{install}
-use Rattle.replication.specs.Machine.Requests.{inRegular, sendsIn, sendsNow, numbered, hold, sendHeld, recovered}
-use Rattle.replication.specs.Machine.Step.{entering, decided, attempting, withState, resending, oneMore, exchanged, withCpc, leave, greenAndNote}
+use Rattle.replication.specs.Machine.Requests.{inRegular, sendsIn, sendsNow, numbered, sendHeld}
+use Rattle.replication.specs.Machine.Step.{entering, decided, attempting, withState, resending, oneMore, exchanged, withCpc}
 use Rattle.replication.specs.Images.{isRecovery}
 use Rattle.replication.specs.Laws.Modes.{InRegular}
 use Rattle.replication.specs.Laws.Transitions as L
-use Rattle.replication.specs.Laws.Transitions.{Ends, TakenBy, Transition}
-use Rattle.replication.specs.Runs.Run.{Entry, event, crash, Run, Place, nowhere, worldAt, placeAt, heardAt, putOut, sentAt}
-use Rattle.replication.specs.Runs.Happenings.{Of, Crashes, Comes, Takes}
+use Rattle.replication.specs.Laws.Transitions.{Ends, Transition}
+use Rattle.replication.specs.Runs.Run.{Entry, event, crash, Run, placeAt, heardAt, putOut, sentAt}
+use Rattle.replication.specs.Runs.Happenings.{Comes, Takes}
 use Rattle.replication.specs.Runs.Allowed.{Allowed}
 use Rattle.replication.proofs.Runs.Places.{event-entry, event-not-crash, of-event, sent-at, sent-past, sent-by-crash}
-use Rattle.replication.proofs.Runs.Shifts.{says-same, comes-once, comes-of, crash-says-nothing, changes}
+use Rattle.replication.proofs.Runs.Shifts.{says-same, comes-once, comes-of, crash-says-nothing}
 use Rattle.replication.proofs.Runs.Modes.{Standing, standing-in, standing}
 use Rattle.replication.proofs.Runs.Readings.{answer-refused}
 use Rattle.replication.proofs.Runs.Refusals.{regular-taken, transitional-taken}
 use Rattle.replication.proofs.Runs.PlaceMoves.{placeOf}
 use Rattle.replication.proofs.Runs.Coupling.{coupled}
-use Rattle.replication.proofs.Runs.AllowedTurns.{memoryAt, storeAt, Acts, Recovers, Refuses, AllowedTurn, rests, crashes, refuses, recovers, acts, allowed-turn}
+use Rattle.replication.proofs.Runs.AllowedTurns.{Acts, Refuses, AllowedTurn, rests, crashes, refuses, recovers, acts, allowed-turn}
 
 -- ---- one step: what sends leaves the server in a regular configuration
 
-sends-regular : (m : Mode) (c : Option Configuration) (t : Option ℕ) → sendsIn m (isThere c and inRegular t) ≡ true → (m ≡ Reg-prim → InRegular c t) → InRegular c t
+sends-regular : (m : Mode) (c : Option Configuration) (t : Option ℕ) → sendsIn m (isThere c and inRegular t) ≡ true → (m ≡ Reg-prim → InRegular c t)
+    → InRegular c t
 unfolding sendsIn isThere inRegular _and_
 sends-regular Non-prim none t e f = not-both e
 sends-regular Non-prim (some c) none e f = record { configuration = c; there = refl; none-after = refl }
@@ -142,7 +140,8 @@ module _ {n q : ℕ} {l : Run} (A : Allowed n q l) where
   unfolding at
   sends-at p i k r x h = go (transition-sends (x .moves) (standing n q l i p .memory))
     where
-      go : (x .by .records ≡ []) ⊎ InRegular (x .after .membership .configuration) (x .after .membership .transitional) → (c : Configuration) × Puts p i k c r
+      go : (x .by .records ≡ []) ⊎ InRegular (x .after .membership .configuration) (x .after .membership .transitional)
+          → (c : Configuration) × Puts p i k c r
       go (inl e) = none-some (ap (λ y. at y k) (sym e) ∙ h)
       go (inr y) =
           let s = coupled A (suc p) i (x .down-next) in
@@ -151,7 +150,8 @@ module _ {n q : ℕ} {l : Run} (A : Allowed n q l) where
           (y .configuration, record { act = x; record-there = h; in-regular = sym s ∙ z ∙ w })
 
   -- Whatever is sent was put out, by one server, in a regular configuration: "send_p(m, c)" has a regular c.
-  pub sent-put-out : (p k : ℕ) (e : List ℕ) → at (sentAt n q l p) k ≡ some e → (i : ℕ) × (c : Configuration) × (r : Record) × Puts p i k c r × (e ≡ write r)
+  pub sent-put-out : (p k : ℕ) (e : List ℕ) → at (sentAt n q l p) k ≡ some e
+      → (i : ℕ) × (c : Configuration) × (r : Record) × Puts p i k c r × (e ≡ write r)
   unfolding at
   sent-put-out p k e h = go (at l p) refl
     where

@@ -1,16 +1,16 @@
 -- What a place does to one server's configuration.
-use Prim.Native.Nat.{ℕ, zero, suc, _≤_, _<_}
-use mathlib.Core.Path.{_≡_, refl, sym, ap, subst, _∙_}
+use Prim.Native.Nat.{ℕ, suc}
+use mathlib.Core.Path.{_≡_, refl, sym, ap, _∙_}
 use mathlib.Core.Bool.{Bool, true, false}
-use mathlib.Core.List.{List, [], _∷_, _++_}
-use mathlib.Core.Option.{Option, none, some}
+use mathlib.Core.List.{List}
+use mathlib.Core.Option.{none, some}
 use native.Mathlib.Omega.{arith}
 use Rattle.base.specs.Tests.{not-both}
 use Rattle.base.specs.Lists.{at}
-use Rattle.base.specs.AtLaws.{none-some, some-same}
+use Rattle.base.specs.AtLaws.{some-same}
 use Rattle.format.specs.Types.{Record, action, retransmission, state, cpc, regular, transitional, request, recovery, Reading, says, refused}
 use Rattle.replication.specs.Machine.Types.{Configuration}
-use Rattle.replication.specs.Runs.Run.{Entry, event, crash, Run, serverOf, Place, nowhere, moved, placeAt, heardAt}
+use Rattle.replication.specs.Runs.Run.{event, Run, nowhere, moved, placeAt, heardAt}
 use Rattle.replication.specs.Runs.Happenings.{isMessage, Of, Crashes, Comes, Falls, by-crash, by-recovery, Takes}
 use Rattle.replication.proofs.Runs.Places.{event-entry, event-not-crash, of-event, of-crash}
 use Rattle.replication.proofs.Runs.Turns.{Turn, rests, crashes, refuses, acts, turn}

@@ -1,32 +1,31 @@
 -- Every State that a server has collected was put out by its sender on entering the configuration, and says what that server then had.
 use Prim.Native.Nat.{ℕ, zero, suc, _≤_, _<_}
 use mathlib.Core.Path.{_≡_, refl, sym, ap, subst, _∙_}
-use mathlib.Core.Bool.{Bool, true, false}
-use mathlib.Core.List.{List, [], _∷_, map, List·Memᴰ}
+use mathlib.Core.Bool.{true}
+use mathlib.Core.List.{List, List·Memᴰ}
 use mathlib.Core.Logic.{_⊎_, inl, inr}
 use mathlib.Core.Option.{Option, none, some}
 use native.Mathlib.Omega.{arith}
 use native.Mathlib.Decide.{decLt, ℕ-discrete}
 use lib.ListN.{length, getD, set}
 use lib.Seq.{getD-set-same, getD-set-other, set-out}
-use Rattle.base.specs.Tests.{not-both}
 use Rattle.base.specs.Lists.{at}
 use Rattle.base.specs.AtLaws.{none-some, some-same, at-among}
 use Rattle.base.specs.Sets.{inSet}
-use Rattle.format.specs.Types.{Action, State, Record, action, retransmission, state, cpc, regular}
-use Rattle.replication.specs.Machine.Types.{Configuration, Membership, Server, noStates}
+use Rattle.format.specs.Types.{State, Record, state, regular}
+use Rattle.replication.specs.Machine.Types.{Configuration, Membership, noStates}
 use Rattle.replication.specs.Machine.Step.{ownState}
 use Rattle.replication.specs.Machine.WellFormedSent.{senderOf}
 use Rattle.replication.specs.Laws.Sending.{PutsOut}
 use Rattle.replication.specs.Runs.Run.{Run, placeAt}
-use Rattle.replication.specs.Runs.Happenings.{Message, isMessage, Comes, Falls, Takes, Delivers}
+use Rattle.replication.specs.Runs.Happenings.{isMessage, Comes, Takes}
 use Rattle.replication.specs.Runs.Allowed.{Allowed}
 use Rattle.replication.proofs.Step.Kinds.{state-sent}
 use Rattle.replication.proofs.Step.Sending.{puts-out}
 use Rattle.replication.proofs.Runs.Deliveries.{Delivery}
-use Rattle.replication.proofs.Runs.AllowedTurns.{memoryAt, Acts}
+use Rattle.replication.proofs.Runs.AllowedTurns.{memoryAt}
 use Rattle.replication.proofs.Runs.Sending.{Puts}
-use Rattle.replication.proofs.Runs.Origins.{Origin, origin}
+use Rattle.replication.proofs.Runs.Origins.{origin}
 use Rattle.replication.proofs.Runs.Coupling.{coupled}
 use Rattle.replication.proofs.Runs.PutRecords.{alone-first}
 use Rattle.replication.proofs.Runs.Memberships as M
@@ -126,7 +125,8 @@ module _ {n q : ℕ} {l : Run} (A : Allowed n q l) where
   pub came-later : {p t i : ℕ} {c : Configuration} {r : Record} → p ≤ t → Came p i c r → Came t i c r
   came-later h x = record { place = x .place; earlier = omega (arith, x .earlier); delivery = x .delivery; what = x .what; here = x .here }
 
-  pub came-now : {p i : ℕ} {c : Configuration} {r : Record} → Comes n q l p i r → isMessage r ≡ true → placeAt n q l i p .regular ≡ some c → Came (suc p) i c r
+  pub came-now : {p i : ℕ} {c : Configuration} {r : Record} → Comes n q l p i r → isMessage r ≡ true → placeAt n q l i p .regular ≡ some c
+      → Came (suc p) i c r
   came-now {p} {i} {c} {r} x m h = record { place = p; earlier = omega arith; delivery = record { what = r; comes = x; message = m; which = refl }; what = refl; here = h }
 
   -- Who sent it, and that it was put out in c.
@@ -173,7 +173,8 @@ module _ {n q : ℕ} {l : Run} (A : Allowed n q l) where
       (λ p a b f g h k x e. go p a g h k x e (stay-step A p i f))
     where
       same : (p : ℕ) → ((k : ℕ) (x : State) → getD (membershipAt n q l p i .states) k none ≡ some x → StateCame p i k c x) → (k : ℕ) (x : State)
-          → getD (membershipAt n q l (suc p) i .states) k none ≡ some x → membershipAt n q l (suc p) i .states ≡ membershipAt n q l p i .states → StateCame (suc p) i k c x
+          → getD (membershipAt n q l (suc p) i .states) k none ≡ some x → membershipAt n q l (suc p) i .states ≡ membershipAt n q l p i .states
+          → StateCame (suc p) i k c x
       same p h k x e m = let y = h k x (ap (λ z. getD z k none) (sym m) ∙ e) in (came-later (omega arith) (y .0), y .1)
 
       taking : (p : ℕ) → placeAt n q l i p .regular ≡ some c → ((d : Configuration) → Takes n q l p i d → ⊥)

@@ -1,28 +1,24 @@
 -- A server's stay in com(c): from taking c until its next regular configuration, crash or recovery.
-use Prim.Native.Nat.{ℕ, zero, suc, _≤_, _<_}
+use Prim.Native.Nat.{ℕ, zero, suc}
 use mathlib.Core.Path.{_≡_, refl, sym, ap, subst, _∙_}
 use mathlib.Core.Bool.{Bool, true, false}
-use mathlib.Core.List.{List, [], _∷_}
-use mathlib.Core.Option.{Option, none, some}
-use native.Mathlib.Omega.{arith}
+use mathlib.Core.Option.{some}
 use Rattle.base.specs.Tests.{not-both}
 use Rattle.base.specs.AtLaws.{none-some, some-same}
-use Rattle.format.specs.Types.{Record, regular, recovery}
-use Rattle.replication.specs.Machine.Types.{Configuration, Membership, Server}
-use Rattle.replication.specs.Images.{isRecovery}
-use Rattle.replication.specs.Runs.Run.{Run, beginning, Place, nowhere, worldAt, placeAt}
+use Rattle.format.specs.Types.{regular}
+use Rattle.replication.specs.Machine.Types.{Configuration, Membership}
+use Rattle.replication.specs.Runs.Run.{Run, beginning, nowhere, worldAt, placeAt}
 use Rattle.replication.specs.Runs.Happenings.{isMessage, Of, Comes, Falls, by-crash, by-recovery, Takes}
 use Rattle.replication.specs.Runs.Allowed.{Allowed}
-use Rattle.replication.proofs.Runs.Places.{world-at-start, place-at-start}
+use Rattle.replication.proofs.Runs.Places.{place-at-start}
 use Rattle.replication.proofs.Runs.Turns as T
 use Rattle.replication.proofs.Runs.Shifts as S
 use Rattle.replication.proofs.Runs.Numbers.{numbers}
-use Rattle.replication.proofs.Runs.PlaceMoves.{placeOf}
 use Rattle.replication.proofs.Runs.Coupling.{coupled}
-use Rattle.replication.proofs.Runs.AllowedTurns.{memoryAt, storeAt, Acts, Recovers, Refuses, AllowedTurn, rests, crashes, refuses, recovers, acts, allowed-turn}
+use Rattle.replication.proofs.Runs.AllowedTurns.{memoryAt, Acts, Refuses, AllowedTurn, rests, crashes, refuses, recovers, acts, allowed-turn}
 use Rattle.replication.proofs.Runs.Sending.{regular-acts}
 use Rattle.replication.proofs.Runs.Memberships as M
-use Rattle.replication.proofs.Runs.Memberships.{enteredIn, Completes, MembershipStep, membership-step}
+use Rattle.replication.proofs.Runs.Memberships.{enteredIn, MembershipStep, membership-step}
 
 -- A regular configuration is entered.
 pub regular-enters : {n : ℕ} {m o : Membership} {i s : ℕ} → MembershipStep n m (regular i s) o → o ≡ enteredIn n (record { id = i; set = s }) m

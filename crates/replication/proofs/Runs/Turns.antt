@@ -1,17 +1,16 @@
 -- What a place does to one server: to its images, its configuration, and whether it is down.
-use Prim.Native.Nat.{ℕ, zero, suc, _≤_, _<_}
+use Prim.Native.Nat.{ℕ, suc}
 use mathlib.Core.Path.{_≡_, refl, sym, ap, subst, _∙_}
 use mathlib.Core.Bool.{Bool, true, false}
-use mathlib.Core.List.{List, [], _∷_, _++_}
+use mathlib.Core.List.{List}
 use mathlib.Core.Option.{Option, none, some}
-use native.Mathlib.Omega.{arith}
 use Rattle.base.specs.Tests.{_=?_, pick, Known, holds, fails, known, eq-holds, eq-fails}
 use Rattle.base.specs.Lists.{at, upd}
-use Rattle.base.specs.AtLaws.{none-some, some-same, upd-here, upd-elsewhere}
+use Rattle.base.specs.AtLaws.{none-some, upd-here, upd-elsewhere}
 use Rattle.format.specs.Types.{Action}
 use Rattle.replication.specs.Machine.Types.{Server, Outcome, taken}
-use Rattle.replication.specs.Images.{Images, arrive, leftBy}
-use Rattle.replication.specs.Runs.Run.{Entry, event, crash, Run, serverOf, World, worldAfter, Place, nowhere, moved, heard, placeAfter, worldAt, placeAt, heardAt}
+use Rattle.replication.specs.Images.{arrive, leftBy}
+use Rattle.replication.specs.Runs.Run.{Entry, event, crash, Run, worldAfter, nowhere, moved, placeAfter, worldAt, placeAt, heardAt}
 use Rattle.replication.specs.Runs.Happenings.{Of, Crashes}
 use Rattle.replication.proofs.Runs.Places.{world-next, world-past, place-next, place-past, of-one, of-event, of-crash}
 

@@ -3,10 +3,9 @@ use Prim.Native.Nat.{ℕ}
 use mathlib.Core.Path.{_≡_, refl, ap, _∙_}
 use mathlib.Core.Bool.{false}
 use mathlib.Core.List.{List}
-use Rattle.base.specs.Tests.{pick, Known, holds, fails, known}
 use Rattle.format.specs.Types.{Action, Record}
 use Rattle.replication.specs.Machine.Types.{Server, taken}
-use Rattle.replication.specs.Machine.Colours.{isNext, enter, joinYellow, yellow}
+use Rattle.replication.specs.Machine.Colours.{enter, joinYellow, yellow}
 use Rattle.replication.specs.Machine.Requests.{hold}
 use Rattle.replication.specs.Machine.Step.{withState, resending, oneMore, exchanged, withCpc, leave, greenAndNote, step}
 use Rattle.replication.specs.Images.{started, lived}
@@ -15,6 +14,7 @@ use Rattle.replication.specs.Laws.Transitions.{Transition}
 use Rattle.replication.specs.Laws.Order.{SameControl}
 use Rattle.replication.proofs.Step.Inversion.{taken-by}
 use Rattle.replication.proofs.Step.Moves.{moved}
+use Rattle.replication.proofs.Step.Logs.{yellow-as}
 use Rattle.replication.proofs.Step.Numbered.{numbered-red, numbered-green, numbered-placed}
 use Rattle.replication.proofs.Step.Lifts.{lived-pair}
 
@@ -30,20 +30,11 @@ pub control-trans : {s t u : Server} → SameControl s t → SameControl t u →
 control-trans p q = record { last = q .last ∙ p .last; attempt = q .attempt ∙ p .attempt; mark = q .mark ∙ p .mark; numbered = q .numbered ∙ p .numbered }
 
 pub control-yellow : (a : Action) (s : Server) → SameControl s (yellow a s)
-unfolding yellow pick joinYellow enter
-control-yellow a s = go (known (isNext (s .log) a))
-  where
-    go : Known (isNext (s .log) a) → SameControl s (yellow a s)
-    go (holds e) = record { last = rw (e, pick); attempt = rw (e, pick); mark = rw (e, pick); numbered = rw (e, pick) }
-    go (fails e) = record { last = rw (e, pick); attempt = rw (e, pick); mark = rw (e, pick); numbered = rw (e, pick) }
+unfolding joinYellow enter
+control-yellow a s = yellow-as (SameControl s) a s (λ e. record { last = refl; attempt = refl; mark = refl; numbered = refl }) (λ e. control-refl s)
 
 pub yellow-membership : (a : Action) (s : Server) → (yellow a s) .membership ≡ s .membership
-unfolding yellow pick
-yellow-membership a s = go (known (isNext (s .log) a))
-  where
-    go : Known (isNext (s .log) a) → (yellow a s) .membership ≡ s .membership
-    go (holds e) = rw (e, pick)
-    go (fails e) = rw (e, pick)
+yellow-membership a s = yellow-as (λ t. t .membership ≡ s .membership) a s (λ e. refl) (λ e. refl)
 
 pub unstored-keeps : {s : Server} {r : Record} {t : Server} {rs : List Record} → Transition s r t rs false → SameControl s t
 unfolding greenAndNote exchanged oneMore withState resending withCpc leave hold

@@ -1,21 +1,17 @@
--- With no red action, greening appends the action if it is entered; yellowing appends its id if it is entered: one fold over the delivered actions.
+-- With no red action, greening appends the action if it is entered; yellowing adds its id if it is entered: one fold over the delivered actions.
 use Prim.Native.Nat.{ℕ}
 use mathlib.Core.Path.{_≡_, refl, sym, ap, _∙_}
 use mathlib.Core.Bool.{true, false}
 use mathlib.Core.List.{List, [], _∷_, _++_, map, map-append, append-nil}
 use mathlib.Core.Option.{some}
-use Rattle.base.specs.Tests.{pick, eq-yes, both-yes, Known, holds, fails, known}
+use Rattle.base.specs.Tests.{pick, pick-yes, pick-no, Known, holds, fails, known}
 use Rattle.base.specs.Prefixes.{gained-then}
 use Rattle.format.specs.Types.{Id, Action}
-use Rattle.format.specs.Range.{sameId}
 use Rattle.replication.specs.Machine.Types.{Log, Server}
-use Rattle.replication.specs.Machine.Colours.{find, remove, cut, nextIndex, isNext, enter, red, promote, promoteFound, greenId, green, joinYellow, yellow}
-use Rattle.replication.specs.Laws.Folds.{follows, cutsWith, cutsAfter, entered, greenAll, yellowAll, Greened, Yellowed}
-use Rattle.replication.proofs.Step.Logs.{red-entered, red-ignored}
-
-pub same-id-self : (d : Id) → sameId d d ≡ true
-unfolding sameId
-same-id-self d = both-yes _ _ (eq-yes (d .creator) (d .creator) refl) (eq-yes (d .index) (d .index) refl)
+use Rattle.replication.specs.Machine.Colours.{find, remove, cut, nextIndex, isNext, enter, red, promote, promoteFound, greenId, green, addId, joinYellow, yellow}
+use Rattle.replication.specs.Laws.Folds.{follows, cutsWith, cutsAfter, entered, addIds, greenAll, yellowAll, Greened, Yellowed}
+use Rattle.replication.proofs.Step.Logs.{red-entered, red-ignored, yellow-as}
+use Rattle.replication.proofs.WellFormed.Ids.{same-id-yes}
 
 -- An action is the next one by the log's cuts alone.
 pub next-follows : (l : Log) (a : Action) → isNext l a ≡ follows (l .cuts) a
@@ -27,11 +23,11 @@ next-follows l a = refl
 -- The action just entered is found among the reds, and leaves none.
 find-alone : (a : Action) (l : List Action) → l ≡ [] → find (a .id) (l ++ (a ∷ [])) ≡ some a
 unfolding find pick
-find-alone a l r = rw (r, same-id-self (a .id))
+find-alone a l r = rw (r, same-id-yes (a .id) (a .id) refl refl)
 
 remove-alone : (a : Action) (l : List Action) → l ≡ [] → remove (a .id) (l ++ (a ∷ [])) ≡ []
 unfolding remove pick
-remove-alone a l r = rw (r, same-id-self (a .id))
+remove-alone a l r = rw (r, same-id-yes (a .id) (a .id) refl refl)
 
 green-entered : (a : Action) (l : Log) → l .red ≡ [] → isNext l a ≡ true → green a l ≡ promote a (enter a l)
 unfolding green greenId promoteFound enter
@@ -54,16 +50,15 @@ green-one a l r = go (known (isNext l a))
         rw (green-ignored a l r e) (record { green = rw f (sym (append-nil (l .green))); red = r; cuts = rw f })
 
 pub yellow-one : (a : Action) (s : Server) → Yellowed (a ∷ []) s (yellow a s)
-unfolding yellow joinYellow enter entered cutsAfter cutsWith pick
-yellow-one a s = go (known (isNext (s .log) a))
-  where
-    go : Known (isNext (s .log) a) → Yellowed (a ∷ []) s (yellow a s)
-    go (holds e) =
-        let f : follows (s .log .cuts) a ≡ true = sym (next-follows (s .log) a) ∙ e in
-        rw e (record { ids = rw f; status = refl; green = refl; red = rw f; cuts = rw f })
-    go (fails e) =
-        let f : follows (s .log .cuts) a ≡ false = sym (next-follows (s .log) a) ∙ e in
-        rw e (record { ids = rw f (sym (append-nil _)); status = refl; green = refl; red = rw f (sym (append-nil _)); cuts = rw f })
+unfolding joinYellow addIds enter entered cutsAfter cutsWith pick
+yellow-one a s =
+    yellow-as (Yellowed (a ∷ []) s) a s
+    (λ e.
+    let f : follows (s .log .cuts) a ≡ true = sym (next-follows (s .log) a) ∙ e in
+    record { ids = rw f; status = refl; green = refl; red = rw f; cuts = rw f })
+    (λ e.
+    let f : follows (s .log .cuts) a ≡ false = sym (next-follows (s .log) a) ∙ e in
+    record { ids = rw f; status = refl; green = refl; red = rw f (sym (append-nil _)); cuts = rw f })
 
 -- ---- one after another
 
@@ -99,12 +94,21 @@ unfolding greenAll entered cutsAfter
 green-all [] l r = record { green = sym (append-nil (l .green)); red = r; cuts = refl }
 green-all (a ∷ more) l r = let p = green-one a l r in greened-then (a ∷ []) more l (green a l) _ p (green-all more (green a l) (p .red))
 
+add-ids-append : (x y ids : List Id) → addIds (x ++ y) ids ≡ addIds y (addIds x ids)
+unfolding addIds
+add-ids-append [] y ids = refl
+add-ids-append (d ∷ x) y ids = add-ids-append x y (addId d ids)
+
 -- Yellowing x and then y is yellowing x ++ y.
 pub yellowed-then : (x y : List Action) (s t u : Server) → Yellowed x s t → Yellowed y t u → Yellowed (x ++ y) s u
 yellowed-then x y s t u p q =
     let e = entered-then (s .log .cuts) (t .log .cuts) x y (p .cuts) in
     record {
-      ids = gained-then (s .votes .yellow .ids) (t .votes .yellow .ids) (u .votes .yellow .ids) _ _ _ (p .ids) (q .ids) (ap (map (λ a. a .id)) e ∙ map-append (λ (a : Action). a .id) (entered (s .log .cuts) x) (entered (t .log .cuts) y));
+      ids =
+          q .ids
+          ∙ ap (addIds (map (λ a. a .id) (entered (t .log .cuts) y))) (p .ids)
+          ∙ sym (add-ids-append (map (λ a. a .id) (entered (s .log .cuts) x)) (map (λ a. a .id) (entered (t .log .cuts) y)) (s .votes .yellow .ids))
+          ∙ ap (λ ds. addIds ds (s .votes .yellow .ids)) (sym (ap (map (λ a. a .id)) e ∙ map-append (λ (a : Action). a .id) (entered (s .log .cuts) x) (entered (t .log .cuts) y)));
       status = q .status ∙ p .status;
       green = q .green ∙ p .green;
       red = gained-then (s .log .red) (t .log .red) (u .log .red) _ _ _ (p .red) (q .red) e;
@@ -112,8 +116,8 @@ yellowed-then x y s t u p q =
     }
 
 pub yellow-all : (more : List Action) (s : Server) → Yellowed more s (yellowAll more s)
-unfolding yellowAll entered cutsAfter
-yellow-all [] s = record { ids = sym (append-nil _); status = refl; green = refl; red = sym (append-nil _); cuts = refl }
+unfolding yellowAll addIds entered cutsAfter
+yellow-all [] s = record { ids = refl; status = refl; green = refl; red = sym (append-nil _); cuts = refl }
 yellow-all (a ∷ more) s = yellowed-then (a ∷ []) more s (yellow a s) _ (yellow-one a s) (yellow-all more (yellow a s))
 
 -- ---- one action, with the test written out
@@ -126,10 +130,8 @@ green-appends a l r = go (known (isNext l a))
     go (holds e) = rw (green-entered a l r e, e)
     go (fails e) = rw (green-ignored a l r e, e)
 
-pub yellow-appends : (a : Action) (s : Server) → (yellow a s) .votes .yellow .ids ≡ pick (isNext (s .log) a) (s .votes .yellow .ids ++ (a .id ∷ [])) (s .votes .yellow .ids)
-unfolding yellow joinYellow pick
-yellow-appends a s = go (known (isNext (s .log) a))
-  where
-    go : Known (isNext (s .log) a) → (yellow a s) .votes .yellow .ids ≡ pick (isNext (s .log) a) (s .votes .yellow .ids ++ (a .id ∷ [])) (s .votes .yellow .ids)
-    go (holds e) = rw e
-    go (fails e) = rw e
+pub yellow-adds : (a : Action) (s : Server) → (yellow a s) .votes .yellow .ids ≡ pick (isNext (s .log) a) (addId (a .id) (s .votes .yellow .ids)) (s .votes .yellow .ids)
+unfolding joinYellow
+yellow-adds a s =
+    yellow-as (λ t. t .votes .yellow .ids ≡ pick (isNext (s .log) a) (addId (a .id) (s .votes .yellow .ids)) (s .votes .yellow .ids)) a s
+    (λ e. pick-yes _ _ _ _ e refl) (λ e. pick-no _ _ _ _ e refl)

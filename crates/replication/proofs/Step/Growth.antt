@@ -1,29 +1,23 @@
 -- In a taken event no green list, cut or number of numbered actions falls.
-use Prim.Native.Nat.{ℕ, _+_}
+use Prim.Native.Nat.{ℕ}
 use mathlib.Core.Path.{_≡_}
 use mathlib.Core.Bool.{Bool, true}
 use mathlib.Core.List.{List, [], _∷_, _++_}
 use mathlib.Core.Option.{some}
 use native.Mathlib.Omega.{arith}
-use Rattle.base.specs.Tests.{eq-holds}
 use Rattle.base.specs.Prefixes.{begins-refl, begins-trans, begins-more, begins-gained, set-rises}
 use Rattle.format.specs.Types.{Id, Action, Record}
 use Rattle.replication.specs.Machine.Types.{Log, Server, taken}
 use Rattle.replication.specs.Images.{started, lived}
-use Rattle.replication.specs.Machine.Colours.{find, cut, nextIndex, isNext, enter, promote}
+use Rattle.replication.specs.Machine.Colours.{find, cut, isNext, enter, red, promote, green}
 use Rattle.replication.specs.Machine.Step.{greened, step}
 use Rattle.replication.specs.Laws.Transitions.{Transition}
 use Rattle.replication.specs.Laws.Order.{Grows}
 use Rattle.replication.proofs.Step.Inversion.{taken-by}
 use Rattle.replication.proofs.Step.Moves.{moved}
-use Rattle.replication.proofs.Step.Logs.{withOwn, on-transition}
+use Rattle.replication.proofs.Step.Logs.{next-index, withOwn, on-red, on-green, on-transition}
 use Rattle.replication.proofs.Step.Lifts as Lift
 use Rattle.replication.specs.Laws.Images.{next}
-
--- An entered action has the index after its creator's cut.
-pub next-index : (l : Log) (a : Action) → isNext l a ≡ true → a .id .index ≡ cut l (a .id .creator) + 1
-unfolding isNext nextIndex
-next-index l a e = eq-holds (a .id .index) (cut l (a .id .creator) + 1) e
 
 pub grows-refl : (l : Log) → Grows l l
 grows-refl l = record { greens = begins-refl (l .green); cuts = λ c. omega arith; numbers = omega arith }
@@ -46,6 +40,12 @@ grows-promote l d x m e p = record { greens = begins-more _ _ (x ∷ []) (p .gre
 grows-own : (l : Log) (more : List Action) (k : ℕ) (m : Log) → Grows l m → Grows l (withOwn more k m)
 unfolding withOwn cut
 grows-own l more k m p = record { greens = p .greens; cuts = p .cuts; numbers = omega (arith, p .numbers) }
+
+pub red-grows : (a : Action) (l : Log) → Grows l (red a l)
+red-grows a l = on-red (Grows l) (grows-enter l) (grows-promote l) a l (grows-refl l)
+
+pub green-grows : (a : Action) (l : Log) → Grows l (green a l)
+green-grows a l = on-green (Grows l) (grows-enter l) (grows-promote l) a l (grows-refl l)
 
 pub transition-grows : {s : Server} {r : Record} {t : Server} {rs : List Record} {b : Bool} → Transition s r t rs b → Grows (s .log) (t .log)
 transition-grows {s} {r} {t} {rs} {b} x =

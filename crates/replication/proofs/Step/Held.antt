@@ -3,10 +3,9 @@ use Prim.Native.Nat.{ℕ}
 use mathlib.Core.Path.{_≡_, refl}
 use mathlib.Core.Bool.{Bool}
 use mathlib.Core.List.{List}
-use Rattle.base.specs.Tests.{pick, Known, holds, fails, known}
 use Rattle.format.specs.Types.{Action, Record, request}
 use Rattle.replication.specs.Machine.Types.{Server, inMode, Non-prim, Reg-prim}
-use Rattle.replication.specs.Machine.Colours.{isNext, yellow}
+use Rattle.replication.specs.Machine.Colours.{yellow}
 use Rattle.replication.specs.Machine.Install.{install}
 use Rattle.replication.specs.Machine.Requests.{madeOf, numbered, hold, sendHeld, recovered}
 use Rattle.replication.specs.Machine.Step.{entering, decided, attempting, withState, resending, oneMore, exchanged, withCpc, leave, greenAndNote}
@@ -14,16 +13,12 @@ use Rattle.replication.specs.Laws.Transitions as L
 use Rattle.replication.specs.Laws.Transitions.{Ends, Transition}
 use Rattle.replication.specs.Laws.Sending as P
 use Rattle.replication.specs.Laws.Sending.{made, HeldChange, RequestKept}
+use Rattle.replication.proofs.Step.Logs.{yellow-as}
 use Rattle.replication.proofs.Step.Numbered.{numbered-placed, numbered-install}
 use Rattle.replication.proofs.Step.Sending.{held-made}
 
 yellow-held : (a : Action) (s : Server) → (yellow a s) .held ≡ s .held
-unfolding yellow pick
-yellow-held a s = go (known (isNext (s .log) a))
-  where
-    go : Known (isNext (s .log) a) → (yellow a s) .held ≡ s .held
-    go (holds e) = rw (e, pick)
-    go (fails e) = rw (e, pick)
+yellow-held a s = yellow-as (λ t. t .held ≡ s .held) a s (λ e. refl) (λ e. refl)
 
 module _ (s : Server) where
   end-held : (r : Record) (t u : Server) (rs : List Record) → t .me ≡ s .me → t .held ≡ s .held → t .log .numbered ≡ s .log .numbered → Ends t u rs → HeldChange s r u rs

@@ -3,10 +3,9 @@ use Prim.Native.Nat.{ℕ}
 use mathlib.Core.Path.{_≡_, refl, _∙_}
 use mathlib.Core.Bool.{Bool}
 use mathlib.Core.List.{List}
-use Rattle.base.specs.Tests.{pick, Known, holds, fails, known}
 use Rattle.format.specs.Types.{Action, Record}
 use Rattle.replication.specs.Machine.Types.{Server}
-use Rattle.replication.specs.Machine.Colours.{isNext, yellow}
+use Rattle.replication.specs.Machine.Colours.{yellow}
 use Rattle.replication.specs.Machine.Install.{install}
 use Rattle.replication.specs.Machine.Requests.{numbered, hold, sendHeld, recovered}
 use Rattle.replication.specs.Machine.Step.{entering, decided, attempting, withState, resending, oneMore, exchanged, withCpc, leave, greenAndNote}
@@ -17,18 +16,14 @@ use Rattle.replication.specs.Laws.Images.{OfBoth}
 use Rattle.replication.specs.Laws.Order.{SameServer}
 use Rattle.replication.proofs.Step.Inversion.{taken-by}
 use Rattle.replication.proofs.Step.Moves.{moved}
+use Rattle.replication.proofs.Step.Logs.{yellow-as}
 use Rattle.replication.proofs.Step.Lifts.{lived-each}
 
 same : {s t : Server} → t .servers ≡ s .servers → t .quota ≡ s .quota → t .me ≡ s .me → SameServer s t
 same p q r = record { servers = p; quota = q; me = r }
 
 same-yellow : (a : Action) (s : Server) → SameServer s (yellow a s)
-unfolding yellow pick
-same-yellow a s = go (known (isNext (s .log) a))
-  where
-    go : Known (isNext (s .log) a) → SameServer s (yellow a s)
-    go (holds e) = same (rw (e, pick)) (rw (e, pick)) (rw (e, pick))
-    go (fails e) = same (rw (e, pick)) (rw (e, pick)) (rw (e, pick))
+same-yellow a s = yellow-as (SameServer s) a s (λ e. same refl refl refl) (λ e. same refl refl refl)
 
 module _ (s : Server) where
   end-same : (t u : Server) (rs : List Record) → SameServer s t → Ends t u rs → SameServer s u

@@ -1,14 +1,14 @@
 -- What every transition keeps of a log, once for all facts that entering, greening and numbering keep.
 use Prim.Native.Nat.{ℕ, _+_}
-use mathlib.Core.Path.{_≡_, refl}
+use mathlib.Core.Path.{_≡_, refl, sym}
 use mathlib.Core.Bool.{Bool, true, false}
 use mathlib.Core.List.{List, [], _∷_, _++_}
 use mathlib.Core.Option.{Option, none, some}
 use lib.ListN.{length}
-use Rattle.base.specs.Tests.{pick, Known, holds, fails, known}
+use Rattle.base.specs.Tests.{_and_, _=?_, _≤?_, pick, pick-as, eq-holds, Known, holds, fails, known}
 use Rattle.format.specs.Types.{Id, Action, Record}
-use Rattle.replication.specs.Machine.Types.{Log, Server}
-use Rattle.replication.specs.Machine.Colours.{find, isNext, enter, red, reds, promote, promoteFound, greenId, greenIds, green, yellow}
+use Rattle.replication.specs.Machine.Types.{Log, Server, withLog, withVotes}
+use Rattle.replication.specs.Machine.Colours.{find, cut, nextIndex, isNext, enter, red, reds, promote, promoteFound, greenId, greenIds, green, joinYellow, yellow}
 use Rattle.replication.specs.Machine.Install.{installLog, install}
 use Rattle.replication.specs.Machine.Requests.{numbered, madeOf, hold, sendHeld, recovered}
 use Rattle.replication.specs.Machine.Step.{entering, decided, attempting, withState, resending, placed, oneMore, exchanged, withCpc, leave, greenAndNote}
@@ -16,6 +16,11 @@ use Rattle.replication.specs.Laws.Transitions as L
 use Rattle.replication.specs.Laws.Transitions.{Ends, Transition}
 
 -- ---- what each colour does to a log
+
+-- An entered action has the index after its creator's cut.
+pub next-index : (l : Log) (a : Action) → isNext l a ≡ true → a .id .index ≡ cut l (a .id .creator) + 1
+unfolding isNext nextIndex
+next-index l a e = eq-holds (a .id .index) (cut l (a .id .creator) + 1) e
 
 pub red-entered : (a : Action) (l : Log) → isNext l a ≡ true → red a l ≡ enter a l
 unfolding red pick
@@ -25,14 +30,25 @@ pub red-ignored : (a : Action) (l : Log) → isNext l a ≡ false → red a l �
 unfolding red pick
 red-ignored a l e = rw e
 
+-- Yellow, by cases.
+pub yellow-as : (P : Server → Type 0) (a : Action) (s : Server)
+    → (isNext (s .log) a ≡ true → P (withVotes (joinYellow (a .id) (s .votes)) (withLog (enter a (s .log)) s))) → (isNext (s .log) a ≡ false → P s) → P (yellow a s)
+unfolding yellow
+yellow-as P a s entered ignored = pick-as P (isNext (s .log) a) _ s entered ignored
+
 -- The log of a server that colours an action yellow is as if red.
 pub yellow-log : (a : Action) (s : Server) → (yellow a s) .log ≡ red a (s .log)
-unfolding yellow red pick
-yellow-log a s = go (known (isNext (s .log) a))
+yellow-log a s = yellow-as (λ t. t .log ≡ red a (s .log)) a s (λ e. sym (red-entered a (s .log) e)) (λ e. sym (red-ignored a (s .log) e))
+
+-- What a retransmission does to a log, by cases.
+pub placed-as : (P : Log → Type 0) (k : ℕ) (a : Action) (l : Log) → P (green a l) → P l → P (red a l) → P (placed k a l)
+unfolding placed pick
+placed-as P k a l g i r = go (k =? length (l .green) + 1) (1 ≤? k and k ≤? length (l .green))
   where
-    go : Known (isNext (s .log) a) → (yellow a s) .log ≡ red a (s .log)
-    go (holds e) = rw (e, pick)
-    go (fails e) = rw (e, pick)
+    go : (t u : Bool) → P (pick t (green a l) (pick u l (red a l)))
+    go true u = g
+    go false true = i
+    go false false = r
 
 -- The log with more actions on the own list, and that many more numbered.
 unfoldable pub withOwn : List Action → ℕ → Log → Log
@@ -75,14 +91,8 @@ module _ (P : Log → Type 0)
     unfolding installLog
     on-install ds l p = on-greenIds _ (greenIds ds l) (on-greenIds ds l p)
 
-    on-pick : (c : Bool) (x y : Log) → P x → P y → P (pick c x y)
-    unfolding pick
-    on-pick true x y p q = p
-    on-pick false x y p q = q
-
     pub on-placed : (k : ℕ) (a : Action) (l : Log) → P l → P (placed k a l)
-    unfolding placed
-    on-placed k a l p = search (on-pick, on-green, on-red)
+    on-placed k a l p = placed-as P k a l (on-green a l p) p (on-red a l p)
 
     module _ (on-own : (more : List Action) (k : ℕ) (l : Log) → P l → P (withOwn more k l)) where
       pub on-numbered : (ps : List (List ℕ)) (s : Server) → P (s .log) → P ((numbered ps s) .log)

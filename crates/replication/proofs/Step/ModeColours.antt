@@ -1,29 +1,24 @@
 -- In Reg_prim every held action is green and yellow is cleared; in Trans_prim every held action is green or yellow, and yellow is invalid.
-use Prim.Native.Nat.{ℕ}
 use mathlib.Core.Path.{_≡_, refl, sym, ap, subst, _∙_}
 use mathlib.Core.Bool.{Bool, true}
-use mathlib.Core.List.{List, [], _∷_, _++_, map, List·Memᴰ, List·Memᴰ·not-nil, List·Memᴰ·append-cases, Memᴰ·append-left, Memᴰ·append-right, Memᴰ·map}
+use mathlib.Core.List.{List, [], _∷_, map, List·Memᴰ, List·Memᴰ·not-nil, List·Memᴰ·append-cases, Memᴰ·map}
 use mathlib.Core.Logic.{_⊎_, inl, inr}
 use Rattle.format.specs.Types.{Action, Yellow, Record}
-use Rattle.replication.specs.Machine.Types.{Mode, Non-prim, Reg-prim, Trans-prim, Exchange-states, Exchange-actions, Server, taken, start, noYellow}
-use Rattle.replication.specs.Machine.Colours.{red, yellow}
+use Rattle.replication.specs.Machine.Types.{Mode, Non-prim, Reg-prim, Trans-prim, Exchange-states, Exchange-actions, Server, noYellow}
+use Rattle.replication.specs.Machine.Colours.{yellow}
 use Rattle.replication.specs.Machine.Install.{installLog, install, installVotes}
 use Rattle.replication.specs.Machine.Requests.{numbered, hold, sendHeld, recovered}
-use Rattle.replication.specs.Machine.Step.{decided, attempting, withState, resending, oneMore, exchanged, withCpc, entering, leave, greenAndNote, step}
+use Rattle.replication.specs.Machine.Step.{decided, attempting, withState, resending, oneMore, exchanged, withCpc, entering, leave, greenAndNote}
 use Rattle.replication.specs.Machine.WellFormed.{wellFormed}
-use Rattle.replication.specs.Images.{started, lived}
 use Rattle.replication.specs.Laws.Transitions as L
 use Rattle.replication.specs.Laws.Transitions.{Ends, Leads, Transition}
-use Rattle.replication.specs.Laws.Images.{OfBoth}
 use Rattle.replication.specs.Laws.Modes.{ColourFacts, ColourFactsOf}
-use Rattle.replication.specs.Laws.Folds.{entered, Yellowed}
-use Rattle.replication.proofs.Step.Inversion.{taken-by}
-use Rattle.replication.proofs.Step.Moves.{moved}
+use Rattle.replication.specs.Laws.Folds.{entered, addIds, Yellowed}
 use Rattle.replication.proofs.Step.Control.{yellow-membership}
 use Rattle.replication.proofs.Step.Folds.{green-one, yellow-one}
+use Rattle.replication.proofs.Step.Yellows.{add-ids-keeps, add-ids-joins}
 use Rattle.replication.proofs.Step.Reds.{install-empties}
 use Rattle.replication.proofs.Step.Formed.{reds-differ, reds-within}
-use Rattle.replication.proofs.Step.Lifts.{lived-each}
 
 -- ---- the colours
 
@@ -37,9 +32,9 @@ yellow-covers : (s t : Server) (more : List Action) → Yellowed more s t → s 
 yellow-covers s t more y z p = (y .status ∙ z, λ a m. rw (y .ids) (go a (List·Memᴰ·append-cases (s .log .red) (rw (y .red) at m))))
   where
     go : (a : Action) → List·Memᴰ a (s .log .red) ⊎ List·Memᴰ a (entered (s .log .cuts) more)
-        → List·Memᴰ (a .id) (s .votes .yellow .ids ++ map (λ (x : Action). x .id) (entered (s .log .cuts) more))
-    go a (inl m) = Memᴰ·append-left _ (p a m)
-    go a (inr m) = Memᴰ·append-right (s .votes .yellow .ids) (Memᴰ·map (λ (x : Action). x .id) m)
+        → List·Memᴰ (a .id) (addIds (map (λ x. x .id) (entered (s .log .cuts) more)) (s .votes .yellow .ids))
+    go a (inl m) = add-ids-keeps (a .id) (map (λ x. x .id) (entered (s .log .cuts) more)) (s .votes .yellow .ids) (p a m)
+    go a (inr m) = add-ids-joins (a .id) (map (λ x. x .id) (entered (s .log .cuts) more)) (s .votes .yellow .ids) (Memᴰ·map (λ (x : Action). x .id) m)
 
 leads-colours : {m n : Mode} (y : Yellow) (l : List Action) → Leads m n → ColourFacts m y l → ColourFacts n y l
 unfolding noYellow
@@ -93,13 +88,3 @@ module _ (s : Server) (formed : wellFormed s ≡ true) where
   colour-facts-kept (L.sends q c) p = p
   colour-facts-kept (L.holds q c) p = p
   colour-facts-kept L.recovers p = tt
-
--- ---- over a run, where steps keep states well-formed
-
-pub colour-facts : ((s : Server) (e : List ℕ) (t : Server) (bs : List (List ℕ)) (b : Bool) (g : List Action) → step s e ≡ taken t bs b g → wellFormed s ≡ true → wellFormed t ≡ true)
-    → (n q i : ℕ) → wellFormed (start n q i) ≡ true → (es : List (List ℕ)) → OfBoth (λ s. (wellFormed s ≡ true) × ColourFactsOf s) (lived (started (start n q i)) es)
-unfolding start started
-colour-facts kept n q i w es =
-    lived-each (λ s. (wellFormed s ≡ true) × ColourFactsOf s)
-    (λ s e t bs b g h p. (kept s e t bs b g h (p .0), colour-facts-kept s (p .0) (moved (taken-by s e t bs b g h) .0) (p .1)))
-    (started (start n q i)) es (record { memory = (w, tt); store = (w, tt) })

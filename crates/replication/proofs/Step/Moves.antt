@@ -1,10 +1,10 @@
 -- Each rule's effect is one of the transitions: the one case split over states, records and the tests that the rules make.
 use Prim.Native.Nat.{ℕ}
 use mathlib.Core.Path.{_≡_, refl, subst}
-use mathlib.Core.Bool.{Bool, true, false}
+use mathlib.Core.Bool.{Bool, true}
 use mathlib.Core.List.{List}
 use mathlib.Core.Option.{Option, none, some}
-use Rattle.base.specs.Tests.{_=?_, pick}
+use Rattle.base.specs.Tests.{_=?_, pick-as}
 use Rattle.format.specs.Types.{Action, State, Record, action, retransmission, state, cpc, regular, transitional, request, recovery}
 use Rattle.replication.specs.Machine.Types.{Mode, Non-prim, Reg-prim, Trans-prim, Exchange-states, Exchange-actions, Construct, No, Un, Server, Outcome, refused, taken}
 use Rattle.replication.specs.Machine.Exchange.{quorum}
@@ -24,14 +24,9 @@ Ruled s r none = Unit {0}
 Ruled s r (some k) = Moves s r (apply k s)
 
 module _ (s : Server) where
-  either : (r : Record) (c : Bool) (x y : Outcome Record) → (c ≡ true → Moves s r x) → (c ≡ false → Moves s r y) → Moves s r (pick c x y)
-  unfolding pick
-  either r true x y p q = p refl
-  either r false x y p q = q refl
-
   ending : (r : Record) (t : Server) → ((u : Server) (rs : List Record) → Ends t u rs → Transition s r u rs true) → Moves s r (endExchange s t)
   unfolding endExchange stored
-  ending r t f = either r (quorum (collected t) (hereSet t)) _ _ (λ c. (f _ _ (L.withQuorum c), refl)) (λ c. (f _ _ (L.withoutQuorum c), refl))
+  ending r t f = pick-as (Moves s r) (quorum (collected t) (hereSet t)) _ _ (λ c. (f _ _ (L.withQuorum c), refl)) (λ c. (f _ _ (L.withoutQuorum c), refl))
 
   on-action : (m : Mode) → s .membership .mode ≡ m → (a : Action) → Ruled s (action a) (onAction m a)
   unfolding onAction apply quiet stored
@@ -51,7 +46,7 @@ module _ (s : Server) where
   on-retransmission Trans-prim e k p a = tt
   on-retransmission Exchange-states e k p a = tt
   on-retransmission Exchange-actions e k p a =
-      either (retransmission k p a) (allCome (exchanged p a s)) _ _
+      pick-as (Moves s (retransmission k p a)) (allCome (exchanged p a s)) _ _
       (λ c. ending (retransmission k p a) (exchanged p a s) (λ u rs x. L.exchangesLast k p a u rs e c x))
       (λ c. (L.exchanges k p a e c, refl))
   on-retransmission Construct e k p a = tt
@@ -64,8 +59,8 @@ module _ (s : Server) where
   on-state Reg-prim e x = tt
   on-state Trans-prim e x = tt
   on-state Exchange-states e x =
-      either (state x) (allStatesIn (withState x s)) _ _
-      (λ c. either (state x) (plannedNow (withState x s) =? 0) _ _
+      pick-as (Moves s (state x)) (allStatesIn (withState x s)) _ _
+      (λ c. pick-as (Moves s (state x)) (plannedNow (withState x s) =? 0) _ _
       (λ d. ending (state x) (withState x s) (λ u rs y. L.collectsWhole x u rs e c d y))
       (λ d. (L.collectsLast x e c d, refl)))
       (λ c. (L.collects x e c, refl))
@@ -81,8 +76,8 @@ module _ (s : Server) where
   on-cpc Trans-prim e k i = tt
   on-cpc Exchange-states e k i = tt
   on-cpc Exchange-actions e k i = tt
-  on-cpc Construct e k i = either (cpc k i) (allCpcsIn (withCpc k s)) _ _ (λ c. (L.installs k i e c, refl)) (λ c. (L.counts k i e c, refl))
-  on-cpc No e k i = either (cpc k i) (allCpcsIn (withCpc k s)) _ _ (λ c. (L.countsAllLate k i e c, refl)) (λ c. (L.countsLate k i e c, refl))
+  on-cpc Construct e k i = pick-as (Moves s (cpc k i)) (allCpcsIn (withCpc k s)) _ _ (λ c. (L.installs k i e c, refl)) (λ c. (L.counts k i e c, refl))
+  on-cpc No e k i = pick-as (Moves s (cpc k i)) (allCpcsIn (withCpc k s)) _ _ (λ c. (L.countsAllLate k i e c, refl)) (λ c. (L.countsLate k i e c, refl))
   on-cpc Un e k i = tt
 
   on-regular : (m : Mode) → s .membership .mode ≡ m → (i x : ℕ) → Ruled s (regular i x) (onRegular m (record { id = i; set = x }))
@@ -115,7 +110,7 @@ module _ (s : Server) where
   by-record (cpc k i) = on-cpc _ refl k i
   by-record (regular i x) = on-regular _ refl i x
   by-record (transitional x) = on-transitional _ refl x
-  by-record (request p) = either (request p) (sendsNow (s .membership)) _ _ (λ c. (L.sends p c, refl)) (λ c. (L.holds p c, refl))
+  by-record (request p) = pick-as (Moves s (request p)) (sendsNow (s .membership)) _ _ (λ c. (L.sends p c, refl)) (λ c. (L.holds p c, refl))
   by-record recovery = (L.recovers, refl)
 
 -- A rule that a record takes is never a refusal.

@@ -3,7 +3,7 @@ use Prim.Native.Nat.{ℕ}
 use mathlib.Core.Path.{_≡_, refl, sym, ap, subst, _∙_}
 use mathlib.Core.Bool.{Bool, true, false}
 use mathlib.Core.List.{List, [], append-nil}
-use Rattle.base.specs.Tests.{not-both}
+use Rattle.base.specs.Tests.{_=?_, eq-fails, not-both}
 use Rattle.format.specs.Types.{Record}
 use Rattle.replication.specs.Machine.Types.{Mode, Non-prim, Reg-prim, Trans-prim, Exchange-states, Exchange-actions, Construct, No, Un, Server}
 use Rattle.replication.specs.Machine.Requests.{sendsIn, sendsNow, numbered, hold}
@@ -17,26 +17,19 @@ use Rattle.replication.specs.Laws.Primary.{RegularStep, TransitionalStep
 use Rattle.replication.proofs.Step.Folds.{green-one, yellow-one}
 use Rattle.replication.proofs.Step.Control.{yellow-membership}
 
--- Which states are these two.
-isRegular : Mode → Bool
-isRegular Non-prim = false
-isRegular Reg-prim = true
-isRegular Trans-prim = false
-isRegular Exchange-states = false
-isRegular Exchange-actions = false
-isRegular Construct = false
-isRegular No = false
-isRegular Un = false
+-- The states, numbered, so that two are told apart by a test.
+number : Mode → ℕ
+number Non-prim = 0
+number Reg-prim = 1
+number Trans-prim = 2
+number Exchange-states = 3
+number Exchange-actions = 4
+number Construct = 5
+number No = 6
+number Un = 7
 
-isEnding : Mode → Bool
-isEnding Non-prim = false
-isEnding Reg-prim = false
-isEnding Trans-prim = true
-isEnding Exchange-states = false
-isEnding Exchange-actions = false
-isEnding Construct = false
-isEnding No = false
-isEnding Un = false
+apart : {X : Type 0} (m n o : Mode) → o ≡ m → o ≡ n → (number m =? number n) ≡ false → X
+apart m n o p q f = absurd (eq-fails (number m) (number n) f (ap number (sym p ∙ q)))
 
 regular-sends : (m : Mode) (r : Bool) → m ≡ Reg-prim → sendsIn m r ≡ true
 unfolding sendsIn
@@ -49,15 +42,15 @@ ending-holds m r e = rw e
 -- ---- Reg_prim
 
 module _ (s : Server) (here : s .membership .mode ≡ Reg-prim) (colours : ColourFactsOf s) where
-  not-here : {X : Type 0} (m : Mode) → s .membership .mode ≡ m → isRegular m ≡ false → X
-  unfolding isRegular
-  not-here m e f = not-both (sym f ∙ ap isRegular (sym e ∙ here))
+  not-here : {X : Type 0} (m : Mode) → s .membership .mode ≡ m → (number m =? 1) ≡ false → X
+  unfolding number
+  not-here m e f = apart m Reg-prim (s .membership .mode) e here f
 
   no-red : s .log .red ≡ []
   no-red = let p : ColourFacts Reg-prim (s .votes .yellow) (s .log .red) = subst (λ m. ColourFacts m (s .votes .yellow) (s .log .red)) here colours in p .1
 
   leads-regular : (r : Record) (m n : Mode) (x : ℕ) → r ≡ Record.transitional x → s .membership .mode ≡ m → Leads m n → RegularStep s r (leave n x s)
-  unfolding isRegular leave
+  unfolding number _=?_ leave
   leads-regular r m n x q e L.stays = not-here Non-prim e refl
   leads-regular r m n x q e L.parts = S.RegularStep.leaves x q refl refl refl
   leads-regular r m n x q e L.interruptsStates = not-here Exchange-states e refl
@@ -65,7 +58,7 @@ module _ (s : Server) (here : s .membership .mode ≡ Reg-prim) (colours : Colou
   leads-regular r m n x q e L.interruptsConstruct = not-here Construct e refl
 
   pub regular-step : {r : Record} {t : Server} {rs : List Record} {b : Bool} → Transition s r t rs b → RegularStep s r t
-  unfolding isRegular greenAndNote numbered entered cutsAfter sendsNow
+  unfolding number _=?_ greenAndNote numbered entered cutsAfter sendsNow
   regular-step (L.ignoresState x e) = not-here Non-prim e refl
   regular-step (L.ignoresCpc k i e) = not-here Non-prim e refl
   regular-step (L.reddens a e) = not-here Non-prim e refl
@@ -95,12 +88,12 @@ module _ (s : Server) (here : s .membership .mode ≡ Reg-prim) (colours : Colou
 -- ---- Trans_prim
 
 module _ (s : Server) (here : s .membership .mode ≡ Trans-prim) where
-  not-there : {X : Type 0} (m : Mode) → s .membership .mode ≡ m → isEnding m ≡ false → X
-  unfolding isEnding
-  not-there m e f = not-both (sym f ∙ ap isEnding (sym e ∙ here))
+  not-there : {X : Type 0} (m : Mode) → s .membership .mode ≡ m → (number m =? 2) ≡ false → X
+  unfolding number
+  not-there m e f = apart m Trans-prim (s .membership .mode) e here f
 
   leads-ending : {X : Type 0} (m n : Mode) → s .membership .mode ≡ m → Leads m n → X
-  unfolding isEnding
+  unfolding number _=?_
   leads-ending m n e L.stays = not-there Non-prim e refl
   leads-ending m n e L.parts = not-there Reg-prim e refl
   leads-ending m n e L.interruptsStates = not-there Exchange-states e refl
@@ -108,7 +101,7 @@ module _ (s : Server) (here : s .membership .mode ≡ Trans-prim) where
   leads-ending m n e L.interruptsConstruct = not-there Construct e refl
 
   pub transitional-step : {r : Record} {t : Server} {rs : List Record} {b : Bool} → Transition s r t rs b → TransitionalStep s r t
-  unfolding isEnding hold entering sendsNow
+  unfolding number _=?_ hold entering sendsNow
   transitional-step (L.ignoresState x e) = not-there Non-prim e refl
   transitional-step (L.ignoresCpc k i e) = not-there Non-prim e refl
   transitional-step (L.reddens a e) = not-there Non-prim e refl

@@ -6,7 +6,6 @@ use mathlib.Core.List.{List, [], _∷_, _++_, map}
 use lib.ListN.{length}
 use Rattle.format.specs.Types.{Record, action}
 use Rattle.replication.specs.Machine.Types.{Server, inMode, Non-prim, Reg-prim}
-use Rattle.replication.specs.Machine.Colours.{green, yellow}
 use Rattle.replication.specs.Machine.Install.{install}
 use Rattle.replication.specs.Machine.Requests.{numberedFrom, madeOf, numbered, hold, sendHeld, heldRecords, recovered}
 use Rattle.replication.specs.Machine.Step.{entering, ownState, hereId, collected, decided, attempting, withState, allStatesIn, plannedNow, resending, oneMore, exchanged, withCpc, leave, greenAndNote, hereSet}

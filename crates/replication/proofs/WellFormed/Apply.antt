@@ -5,7 +5,7 @@ use mathlib.Core.Path.{_≡_, refl}
 use mathlib.Core.Bool.{true}
 use mathlib.Core.List.{List, [], _∷_, _++_, map}
 use native.Mathlib.Omega.{arith}
-use Rattle.base.specs.Tests.{_or_, lt-holds}
+use Rattle.base.specs.Tests.{_or_, lt-holds, pick-as}
 use Rattle.format.specs.Types.{action}
 use Rattle.replication.specs.Machine.Types.{Mode, Configuration, Server, withVotes}
 use Rattle.replication.specs.Machine.Colours.{cut, yellow}
@@ -19,7 +19,7 @@ use Rattle.replication.proofs.WellFormed.Changes.{Body, body}
 use Rattle.replication.proofs.WellFormed.RuleFacts.{RuleFits}
 use Rattle.replication.proofs.WellFormed.Effects.{number-body, hold-body, recovered-body}
 use Rattle.replication.proofs.WellFormed.Exchanges.{entering-body, unmarked-body, yellow-valid-body, leave-body}
-use Rattle.replication.proofs.WellFormed.Kept.{either, Kept, Keeps, YellowInTrans, mode-kept, yellow-kept}
+use Rattle.replication.proofs.WellFormed.Kept.{Keeps, mode-kept, yellow-kept}
 use Rattle.replication.proofs.WellFormed.Actions.{ignoring-keeps, reddening-keeps, greening-keeps, yellowing-keeps, lateInstalling-keeps}
 use Rattle.replication.proofs.WellFormed.Attempts.{exchanging-keeps, collectingState-keeps, collectingCpc-keeps, collectingLateCpc-keeps}
 
@@ -45,7 +45,7 @@ leads-yellow s t interruptsActions f = tt
 leads-yellow s t parts f = f
 leads-yellow s t interruptsConstruct f = tt
 
-module _ (s : Server) (f : WellFormed s) (y : YellowInTrans s) where
+module _ (s : Server) (f : WellFormed s) where
   leaving-keeps : (m : Mode) (t : ℕ) → TransitionalFits (s .servers) (s .me) (s .membership .configuration) t → Leads (s .membership .mode) m
       → Keeps s (quiet s (leave m t s))
   unfolding quiet leave
@@ -57,7 +57,7 @@ module _ (s : Server) (f : WellFormed s) (y : YellowInTrans s) where
   requesting-keeps : (p : List ℕ) → PayloadFits p → quotaLeft s ≡ true → roomToHold s ≡ true → Keeps s (requested p s)
   unfolding requested stored quiet numbered hold cut roomToHold _or_
   requesting-keeps p g q r =
-      either (λ u r. Kept s u) (sendsNow (s .membership)) (stored s (numbered (p ∷ []) s) (map action (madeOf (p ∷ []) s))) (quiet s (hold p s))
+      pick-as (Keeps s) (sendsNow (s .membership)) (stored s (numbered (p ∷ []) s) (map action (madeOf (p ∷ []) s))) (quiet s (hold p s))
       (λ h. record {
         body = number-body s (body s f) p g q;
         mode = mode-kept (s .membership .mode) s ((numbered (p ∷ []) s) .log) (s .votes) (s .held) (s .noted) refl (f .mode);
@@ -77,11 +77,11 @@ module _ (s : Server) (f : WellFormed s) (y : YellowInTrans s) where
 
   pub apply-keeps : (k : Rule) → RuleFits k s → Keeps s (apply k s)
   unfolding apply
-  apply-keeps ignoring r = ignoring-keeps s f y
-  apply-keeps (reddening a) r = reddening-keeps s f y a r
-  apply-keeps (greening a) r = greening-keeps s f y a (r .0)
-  apply-keeps (yellowing a) r = yellowing-keeps s f y a (r .0) (r .1)
-  apply-keeps (lateInstalling a) r = lateInstalling-keeps s f y a (r .0) (r .1)
+  apply-keeps ignoring r = ignoring-keeps s f
+  apply-keeps (reddening a) r = reddening-keeps s f a r
+  apply-keeps (greening a) r = greening-keeps s f a (r .0)
+  apply-keeps (yellowing a) r = yellowing-keeps s f a (r .0) (r .1)
+  apply-keeps (lateInstalling a) r = lateInstalling-keeps s f a (r .0) (r .1)
   apply-keeps (exchanging p a) r = exchanging-keeps s f p a (r .0) (r .1)
   apply-keeps (collectingState x) r = collectingState-keeps s f x (r .0) (r .1)
   apply-keeps (collectingCpc k) r = collectingCpc-keeps s f k (r .0) (r .1)

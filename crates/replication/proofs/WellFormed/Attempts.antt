@@ -1,11 +1,11 @@
 -- The rules of exchanges and of attempts to create a primary component keep the invariant.
 -- Assumes nothing.
 use Prim.Native.Nat.{ℕ, _<_}
-use mathlib.Core.Path.{_≡_, sym, subst}
+use mathlib.Core.Path.{_≡_, subst}
 use mathlib.Core.Bool.{true, false}
 use mathlib.Core.List.{[], _∷_}
 use native.Mathlib.Omega.{arith}
-use Rattle.base.specs.Tests.{_=?_, and-holds, lt-holds, le-fails, eq-fails}
+use Rattle.base.specs.Tests.{_=?_, and-holds, lt-holds, le-fails, eq-fails, pick-as}
 use Rattle.format.specs.Limits.{mostIndex}
 use Rattle.format.specs.Types.{Action, State, cpc}
 use Rattle.replication.specs.Machine.Types.{Non-prim, Reg-prim, Exchange-states, Exchange-actions, Construct, No, Un, Server, inMode, noYellow}
@@ -15,13 +15,13 @@ use Rattle.replication.specs.Machine.Plan.{ownPart}
 use Rattle.replication.specs.Machine.Install.{installVotes, install}
 use Rattle.replication.specs.Machine.Requests.{numbered, sendHeld, heldRecords}
 use Rattle.replication.specs.Machine.Step.{quiet, stored, sent, hereSet, hereId, collected, decided, attempting, endExchange, withState, allStatesIn, plannedNow, resending, afterStates, collectState, oneMore, exchanged, allCome, exchange, withCpc, allCpcsIn, installing, collectCpc, collectLateCpc}
-use Rattle.replication.specs.Machine.WellFormedFacts.{YellowEntered, Configured, StatesIn, ModeFits, WellFormed}
+use Rattle.replication.specs.Machine.WellFormedFacts.{Configured, StatesIn, ModeFits, WellFormed}
 use Rattle.replication.proofs.WellFormed.Changes.{Body, body, in-mode, mode-changed, here-below}
 use Rattle.replication.proofs.WellFormed.RuleFacts.{Delivered, StateCame}
 use Rattle.replication.proofs.WellFormed.Effects.{exchanged-body, install-body, send-held-body}
 use Rattle.replication.proofs.WellFormed.Exchanges.{decided-body, attempting-body, with-state-body, with-cpc-body}
 use Rattle.replication.proofs.WellFormed.Modes.{all-in-facts}
-use Rattle.replication.proofs.WellFormed.Kept.{either, Kept, Keeps}
+use Rattle.replication.proofs.WellFormed.Kept.{Kept, Keeps, kept-at}
 
 -- ---- the end of an exchange
 
@@ -46,13 +46,13 @@ module _ (s t : Server) (b : Body t) (c : Configured t) where
   end-keeps : Keeps s (endExchange s t)
   unfolding endExchange stored
   end-keeps =
-      either (λ u r. Kept s u) (quorum (collected t) (hereSet t)) (stored s (attempting (decided t)) (cpc (t .me) (hereId t) ∷ []))
+      pick-as (Keeps s) (quorum (collected t) (hereSet t)) (stored s (attempting (decided t)) (cpc (t .me) (hereId t) ∷ []))
       (stored s (sendHeld (inMode Non-prim (decided t))) (heldRecords (inMode Non-prim (decided t)))) attempting-keeps (λ h. giving-up-keeps)
 
   after-states-keeps : allStatesIn t ≡ true → Keeps s (afterStates s t)
   unfolding afterStates sent resending hereSet plannedNow collected
   after-states-keeps a =
-      either (λ u r. Kept s u) (plannedNow t =? 0) (endExchange s t) (sent s (resending t) (ownPart (t .servers) (t .me) (t .log) (collected t))) (λ h. end-keeps) more
+      pick-as (Keeps s) (plannedNow t =? 0) (endExchange s t) (sent s (resending t) (ownPart (t .servers) (t .me) (t .log) (collected t))) (λ h. end-keeps) more
     where
       some-planned : (plannedNow t =? 0) ≡ false → 0 < plannedNow t
       some-planned h = let differ = eq-fails (plannedNow t) 0 h in omega arith
@@ -66,7 +66,7 @@ module _ (s : Server) (f : WellFormed s) where
   pub exchanging-keeps : (p : ℕ) (a : Action) → Delivered s a → s .membership .mode ≡ Exchange-actions → Keeps s (exchange p a s)
   unfolding exchange quiet exchanged oneMore allCome plannedNow collected hereSet
   exchanging-keeps p a d e =
-      either (λ u r. Kept s u) (allCome (exchanged p a s)) (endExchange s (exchanged p a s)) (quiet s (exchanged p a s))
+      pick-as (Keeps s) (allCome (exchanged p a s)) (endExchange s (exchanged p a s)) (quiet s (exchanged p a s))
       (λ h. end-keeps s (exchanged p a s) after (fits .0)) more
     where
       fits : Configured s × StatesIn s × (s .membership .come < plannedNow s)
@@ -76,22 +76,14 @@ module _ (s : Server) (f : WellFormed s) where
       after = exchanged-body s (body s f) a d p (fits .2)
 
       more : allCome (exchanged p a s) ≡ false → Kept s (exchanged p a s)
-      more h = record {
-        body = after;
-        mode = subst (λ m. ModeFits m (exchanged p a s)) (sym e) (fits .0, fits .1, le-fails _ _ h);
-        yellow = λ z. subst (λ m. YellowEntered m (exchanged p a s)) (sym e) tt;
-      }
+      more h = kept-at s (exchanged p a s) Exchange-actions e after (fits .0, fits .1, le-fails _ _ h) tt
 
   pub collectingState-keeps : (x : State) → StateCame s x → s .membership .mode ≡ Exchange-states → Keeps s (collectState x s)
   unfolding collectState quiet withState
   collectingState-keeps x c e =
-      either (λ u r. Kept s u) (allStatesIn (withState x s)) (afterStates s (withState x s)) (quiet s (withState x s))
+      pick-as (Keeps s) (allStatesIn (withState x s)) (afterStates s (withState x s)) (quiet s (withState x s))
       (λ h. after-states-keeps s (withState x s) after configured h)
-      (λ h. record {
-        body = after;
-        mode = subst (λ m. ModeFits m (withState x s)) (sym e) configured;
-        yellow = λ z. subst (λ m. YellowEntered m (withState x s)) (sym e) tt;
-      })
+      (λ h. kept-at s (withState x s) Exchange-states e after configured tt)
     where
       configured : Configured s
       configured = subst (λ m. ModeFits m s) e (f .mode)
@@ -102,18 +94,14 @@ module _ (s : Server) (f : WellFormed s) where
   pub collectingCpc-keeps : (k : ℕ) → k < s .servers → s .membership .mode ≡ Construct → Keeps s (collectCpc k s)
   unfolding collectCpc installing quiet stored withCpc sendHeld numbered install installVotes noYellow
   collectingCpc-keeps k h e =
-      either (λ u r. Kept s u) (allCpcsIn (withCpc k s)) (installing s (withCpc k s)) (quiet s (withCpc k s))
+      pick-as (Keeps s) (allCpcsIn (withCpc k s)) (installing s (withCpc k s)) (quiet s (withCpc k s))
       (λ t. record {
         body =
             send-held-body (inMode Reg-prim (install (withCpc k s))) (in-mode (install (withCpc k s)) (install-body (withCpc k s) after (fits .1)) Reg-prim);
         mode = fits .0;
         yellow = λ z. tt;
       })
-      (λ t. record {
-        body = after;
-        mode = subst (λ m. ModeFits m (withCpc k s)) (sym e) fits;
-        yellow = λ z. subst (λ m. YellowEntered m (withCpc k s)) (sym e) tt;
-      })
+      (λ t. kept-at s (withCpc k s) Construct e after fits tt)
     where
       fits : Configured s × (s .votes .last .index < mostIndex)
       fits = subst (λ m. ModeFits m s) e (f .mode)
@@ -124,13 +112,9 @@ module _ (s : Server) (f : WellFormed s) where
   pub collectingLateCpc-keeps : (k : ℕ) → k < s .servers → s .membership .mode ≡ No → Keeps s (collectLateCpc k s)
   unfolding collectLateCpc quiet withCpc
   collectingLateCpc-keeps k h e =
-      either (λ u r. Kept s u) (allCpcsIn (withCpc k s)) (quiet s (inMode Un (withCpc k s))) (quiet s (withCpc k s))
+      pick-as (Keeps s) (allCpcsIn (withCpc k s)) (quiet s (inMode Un (withCpc k s))) (quiet s (withCpc k s))
       (λ t. record { body = in-mode (withCpc k s) after Un; mode = fits; yellow = λ z. tt })
-      (λ t. record {
-        body = after;
-        mode = subst (λ m. ModeFits m (withCpc k s)) (sym e) fits;
-        yellow = λ z. subst (λ m. YellowEntered m (withCpc k s)) (sym e) tt;
-      })
+      (λ t. kept-at s (withCpc k s) No e after fits tt)
     where
       fits : Configured s × (s .votes .last .index < mostIndex)
       fits = subst (λ m. ModeFits m s) e (f .mode)

@@ -1,12 +1,12 @@
 -- A change of one part of a state keeps row 8's clauses, apart from those on the eight states.
 -- Assumes nothing.
-use Prim.Native.Nat.{ℕ, zero, suc, _+_, _*_, _^_, _≤_, _<_}
-use mathlib.Core.Path.{_≡_, refl, sym, _∙_}
+use Prim.Native.Nat.{ℕ, _+_, _*_, _^_, _≤_, _<_}
+use mathlib.Core.Path.{_≡_, sym, _∙_}
 use mathlib.Core.List.{List}
 use mathlib.Core.Option.{none, some, Option·none-ne-some}
 use native.Mathlib.Omega.{arith}
 use lib.ListN.{length, getD}
-use Rattle.base.specs.ListLaws.{Each, each-present}
+use Rattle.base.specs.ListLaws.{Each, each-present, replicate-at}
 use Rattle.format.specs.Limits.{mostHeld}
 use Rattle.format.specs.Types.{State}
 use Rattle.replication.specs.Machine.Types.{Mode, Log, Votes, Configuration, Membership, Server, withLog, withVotes, withMembership, withHeld, withNoted, withMode, withCome, inMode, noStates}
@@ -57,85 +57,46 @@ whole s b m = record {
   mode = m;
 }
 
-none-at : (n k : ℕ) → getD (noStates n) k none ≡ none
-unfolding noStates
-none-at zero k = refl
-none-at (suc n) zero = refl
-none-at (suc n) (suc k) = none-at n k
-
 pub no-states : {X : Type 0} (n k : ℕ) (x : State) → getD (noStates n) k none ≡ some x → X
-no-states n k x e = absurd (Option·none-ne-some x (sym (none-at n k) ∙ e))
+unfolding noStates
+no-states n k x e = absurd (Option·none-ne-some x (sym (replicate-at none n k) ∙ e))
 
 -- ---- one part changed
 
 module _ (s : Server) (b : Body s) where
-  pub log-changed : (l : Log) → LogFits (s .servers) (s .quota) (s .me) l → l .numbered + length (s .held) ≤ s .quota → Body (withLog l s)
-  log-changed l f q = record {
+  changed : (l : Log) (v : Votes) (m : Membership) (h : List (List ℕ)) (w : List ℕ) → LogFits (s .servers) (s .quota) (s .me) l → VotesRanges (s .servers) (s .quota) v
+      → MembershipRanges (s .servers) (s .quota) (s .me) m → length h ≤ mostHeld → Each PayloadFits h → length w ≡ s .servers
+      → ((c : ℕ) → getD w c 0 ≤ s .servers * s .quota) → l .numbered + length h ≤ s .quota
+      → Body (record { servers = s .servers; quota = s .quota; me = s .me; log = l; votes = v; membership = m; held = h; noted = w })
+  changed l v m h w log votes membership short held long noted q = record {
     sizes = b .sizes;
-    log = f;
-    votes = b .votes;
-    membership = b .membership;
-    held-length = b .held-length;
-    held = b .held;
-    noted-length = b .noted-length;
-    noted = b .noted;
+    log = log;
+    votes = votes;
+    membership = membership;
+    held-length = short;
+    held = held;
+    noted-length = long;
+    noted = noted;
     quota-kept = q;
   }
+
+  pub log-changed : (l : Log) → LogFits (s .servers) (s .quota) (s .me) l → l .numbered + length (s .held) ≤ s .quota → Body (withLog l s)
+  log-changed l f q = changed l (s .votes) (s .membership) (s .held) (s .noted) f (b .votes) (b .membership) (b .held-length) (b .held) (b .noted-length) (b .noted) q
 
   pub log-changed-alike : (l : Log) → LogFits (s .servers) (s .quota) (s .me) l → l .numbered ≡ s .log .numbered → Body (withLog l s)
   log-changed-alike l f e = log-changed l f (omega (arith, b .quota-kept))
 
   pub votes-changed : (v : Votes) → VotesRanges (s .servers) (s .quota) v → Body (withVotes v s)
-  votes-changed v f = record {
-    sizes = b .sizes;
-    log = b .log;
-    votes = f;
-    membership = b .membership;
-    held-length = b .held-length;
-    held = b .held;
-    noted-length = b .noted-length;
-    noted = b .noted;
-    quota-kept = b .quota-kept;
-  }
+  votes-changed v f = changed (s .log) v (s .membership) (s .held) (s .noted) (b .log) f (b .membership) (b .held-length) (b .held) (b .noted-length) (b .noted) (b .quota-kept)
 
   pub membership-changed : (m : Membership) → MembershipRanges (s .servers) (s .quota) (s .me) m → Body (withMembership m s)
-  membership-changed m f = record {
-    sizes = b .sizes;
-    log = b .log;
-    votes = b .votes;
-    membership = f;
-    held-length = b .held-length;
-    held = b .held;
-    noted-length = b .noted-length;
-    noted = b .noted;
-    quota-kept = b .quota-kept;
-  }
+  membership-changed m f = changed (s .log) (s .votes) m (s .held) (s .noted) (b .log) (b .votes) f (b .held-length) (b .held) (b .noted-length) (b .noted) (b .quota-kept)
 
   pub held-changed : (h : List (List ℕ)) → length h ≤ mostHeld → Each PayloadFits h → s .log .numbered + length h ≤ s .quota → Body (withHeld h s)
-  held-changed h l f q = record {
-    sizes = b .sizes;
-    log = b .log;
-    votes = b .votes;
-    membership = b .membership;
-    held-length = l;
-    held = f;
-    noted-length = b .noted-length;
-    noted = b .noted;
-    quota-kept = q;
-  }
+  held-changed h l f q = changed (s .log) (s .votes) (s .membership) h (s .noted) (b .log) (b .votes) (b .membership) l f (b .noted-length) (b .noted) q
 
   pub noted-changed : (w : List ℕ) → length w ≡ length (s .noted) → ((c : ℕ) → getD w c 0 ≤ s .servers * s .quota) → Body (withNoted w s)
-  noted-changed w l f = record {
-    sizes = b .sizes;
-    log = b .log;
-    votes = b .votes;
-    membership = b .membership;
-    held-length = b .held-length;
-    held = b .held;
-    noted-length = l ∙ b .noted-length;
-    noted = f;
-    quota-kept = b .quota-kept;
-  }
+  noted-changed w l f = changed (s .log) (s .votes) (s .membership) (s .held) w (b .log) (b .votes) (b .membership) (b .held-length) (b .held) (l ∙ b .noted-length) f (b .quota-kept)
 
   -- Another of the eight states, and another count of retransmissions.
   pub mode-changed : (m : Mode) (k : ℕ) → k ≤ 2 * (s .servers * s .quota) → Body (withMembership (withMode m (withCome k (s .membership))) s)

@@ -1,31 +1,32 @@
 -- What the rules do to a state keeps row 8's clauses, apart from those on the eight states.
 -- Assumes nothing.
-use Prim.Native.Nat.{ℕ, zero, suc, _+_, _*_, _≤_, _<_}
-use mathlib.Core.Path.{_≡_, refl, ap}
-use mathlib.Core.Bool.{true}
+use Prim.Native.Nat.{ℕ, _+_, _*_, _≤_, _<_}
+use mathlib.Core.Path.{_≡_, ap}
+use mathlib.Core.Bool.{true, false}
 use mathlib.Core.List.{List, [], _∷_, _++_}
 use mathlib.Core.Option.{none, Option·none-ne-some}
 use native.Mathlib.Omega.{arith}
 use lib.ListN.{length, set, length-append, length-replicate}
-use Rattle.base.specs.Tests.{pick, lt-holds}
+use Rattle.base.specs.Tests.{lt-holds}
 use Rattle.base.specs.Lists.{above}
 use Rattle.base.specs.ListLaws.{Each, each-append, each-implied, each-map, map-each, above-between}
 use Rattle.base.specs.Counts.{count-append, count-single}
 use Rattle.format.specs.Limits.{mostHeld, mostIndex}
 use Rattle.format.specs.Types.{Id, Action}
-use Rattle.format.specs.Range.{sameId}
+use Rattle.format.specs.Range.{sameId, hasId}
 use Rattle.replication.specs.Machine.Types.{Non-prim, Votes, Server, withLog, withVotes, withHeld, noStates}
-use Rattle.replication.specs.Machine.Colours.{cut, enter, red, reds, green, joinYellow, yellow, note}
+use Rattle.replication.specs.Machine.Colours.{cut, isNext, enter, red, reds, green, addId, joinYellow, yellow, note}
 use Rattle.replication.specs.Machine.Install.{installLog, installVotes, install}
 use Rattle.replication.specs.Machine.Requests.{quotaLeft, madeOf, numbered, hold, sendHeld, recovered}
 use Rattle.replication.specs.Machine.Step.{collected, plannedNow, placed, oneMore, exchanged, greenAndNote}
 use Rattle.replication.specs.Machine.WellFormed.{idsIn}
 use Rattle.replication.specs.Machine.WellFormedRanges.{idCount, IdFits, PayloadFits, VotesRanges}
-use Rattle.replication.specs.Machine.WellFormedFacts.{YellowWithinCuts}
-use Rattle.replication.proofs.WellFormed.Ids.{SameId, same, other, same-id?, counted-fact}
-use Rattle.replication.proofs.WellFormed.Held.{Entered, entered, ignored, entered?}
-use Rattle.replication.proofs.WellFormed.Logs.{Numbered, ownId, enter-fits, enter-numbered, red-fits, red-numbered, reds-fits, reds-numbered, green-fits, install-log-fits}
-use Rattle.replication.proofs.WellFormed.Numbering.{green-numbered, install-log-numbered, placed-fits, placed-numbered, numberedLog, numbering-fits}
+use Rattle.replication.proofs.Step.Logs.{red-entered, yellow-as}
+use Rattle.replication.proofs.Step.Numbered.{numbered-red, numbered-reds, numbered-green, numbered-placed, numbered-install}
+use Rattle.replication.proofs.Step.Yellows.{add-as}
+use Rattle.replication.proofs.WellFormed.Ids.{SameId, same, other, same-id?, not-had-counted}
+use Rattle.replication.proofs.WellFormed.Logs.{Numbered, ownId, red-fits, reds-fits, green-fits, install-log-fits}
+use Rattle.replication.proofs.WellFormed.Numbering.{placed-fits, numberedLog, numbering-fits}
 use Rattle.replication.proofs.WellFormed.Decisions.{no-yellow-fits, planned-bound, note-length, note-bound}
 use Rattle.replication.proofs.WellFormed.Changes.{Body, log-changed, log-changed-alike, votes-changed, membership-changed, held-changed, noted-changed, mode-changed, collected-fit, no-states}
 use Rattle.replication.proofs.WellFormed.RuleFacts.{Delivered}
@@ -41,67 +42,58 @@ install-votes-fits n q v f h = record {
   yellow = no-yellow-fits n q;
 }
 
-join-yellow-fits : (n q : ℕ) (d : Id) (v : Votes) → VotesRanges n q v → IdFits n q d → idCount d (v .yellow .ids) ≡ 0 → VotesRanges n q (joinYellow d v)
+add-id-fits : (n q : ℕ) (d : Id) (ids : List Id) → Each (IdFits n q) ids → IdFits n q d → Each (IdFits n q) (addId d ids)
+add-id-fits n q d ids f fits = add-as (Each (IdFits n q)) d ids (λ h. f) (λ h. each-append (IdFits n q) ids (d ∷ []) f (fits, tt))
+
+add-id-once : (d : Id) (ids : List Id) → ((e : Id) → idCount e ids ≤ 1) → (e : Id) → idCount e (addId d ids) ≤ 1
+add-id-once d ids f e = add-as (λ l. idCount e l ≤ 1) d ids (λ h. f e) (λ h. go h (same-id? e d))
+  where
+    go : hasId d ids ≡ false → SameId e d → idCount e (ids ++ (d ∷ [])) ≤ 1
+    go h (same p c i t u) = omega (arith, count-append (sameId e) ids (d ∷ []), count-single (sameId e) d, not-had-counted d ids h, ap (λ y. idCount y ids) p)
+    go h (other m t u) = omega (arith, count-append (sameId e) ids (d ∷ []), count-single (sameId e) d, f e)
+
+join-yellow-fits : (n q : ℕ) (d : Id) (v : Votes) → VotesRanges n q v → IdFits n q d → VotesRanges n q (joinYellow d v)
 unfolding joinYellow
-join-yellow-fits n q d v f fits new = record {
+join-yellow-fits n q d v f fits = record {
   last = f .last;
   attempt = f .attempt;
   mark = f .mark;
-  yellow = record { status = f .yellow .status; ids = each-append (IdFits n q) (v .yellow .ids) (d ∷ []) (f .yellow .ids) (fits, tt); once = once };
+  yellow = record {
+    status = f .yellow .status;
+    ids = add-id-fits n q d (v .yellow .ids) (f .yellow .ids) fits;
+    once = add-id-once d (v .yellow .ids) (f .yellow .once);
+  };
 }
-  where
-    once : (e : Id) → idCount e (v .yellow .ids ++ (d ∷ [])) ≤ 1
-    once e = go (same-id? e d)
-      where
-        go : SameId e d → idCount e (v .yellow .ids ++ (d ∷ [])) ≤ 1
-        go (same p c i t u) =
-            omega (arith, count-append (sameId e) (v .yellow .ids) (d ∷ []), count-single (sameId e) d, ap (λ y. idCount y (v .yellow .ids)) p)
-        go (other m t u) = omega (arith, count-append (sameId e) (v .yellow .ids) (d ∷ []), count-single (sameId e) d, f .yellow .once e)
 
 -- ---- actions
 
--- Yellow, by cases.
-pub yellow-as : (P : Server → Type 0) (a : Action) (s : Server)
-    → (a .id .index ≡ cut (s .log) (a .id .creator) + 1 → P (withVotes (joinYellow (a .id) (s .votes)) (withLog (enter a (s .log)) s))) → P s → P (yellow a s)
-unfolding yellow pick
-yellow-as P a s h k = go (entered? a (s .log))
-  where
-    go : Entered a (s .log) → P (yellow a s)
-    go (entered next t e) = rw t (h next)
-    go (ignored t e) = rw t k
-
 module _ (s : Server) (b : Body s) (a : Action) (d : Delivered s a) where
   pub red-body : Body (withLog (red a (s .log)) s)
-  red-body = log-changed-alike s b (red a (s .log)) (red-fits (s .servers) (s .quota) (s .me) a (s .log) (b .log) (d .fits) (d .own)) (red-numbered a (s .log))
+  red-body = log-changed-alike s b (red a (s .log)) (red-fits (s .servers) (s .quota) (s .me) a (s .log) (b .log) (d .fits) (d .own)) (numbered-red a (s .log))
 
   pub green-and-note-body : Body (greenAndNote a s)
   unfolding greenAndNote
   green-and-note-body =
       noted-changed (withLog (green a (s .log)) s)
-      (log-changed-alike s b (green a (s .log)) (green-fits (s .servers) (s .quota) (s .me) a (s .log) (b .log) (d .fits) (d .own)) (green-numbered a (s .log)))
+      (log-changed-alike s b (green a (s .log)) (green-fits (s .servers) (s .quota) (s .me) a (s .log) (b .log) (d .fits) (d .own)) (numbered-green a (s .log)))
       (note (a .id .creator) (a .greenLength) (s .noted))
       (note-length (a .id .creator) (a .greenLength) (s .noted))
       (note-bound (s .servers * s .quota) (a .id .creator) (a .greenLength) (s .noted) (b .noted) (d .fits .greenLength))
 
-  -- An action that is entered, with its id joined to the yellow list, whose ids are of entered actions.
-  pub joined-body : YellowWithinCuts s → a .id .index ≡ cut (s .log) (a .id .creator) + 1
-      → Body (withVotes (joinYellow (a .id) (s .votes)) (withLog (enter a (s .log)) s))
-  joined-body w next =
-      votes-changed (withLog (enter a (s .log)) s)
-      (log-changed-alike s b (enter a (s .log)) (enter-fits (s .servers) (s .quota) (s .me) a (s .log) (b .log) (d .fits) next (d .own)) (enter-numbered a (s .log)))
-      (joinYellow (a .id) (s .votes))
-      (join-yellow-fits (s .servers) (s .quota) (a .id) (s .votes) (b .votes) (d .fits .id) (new (idCount (a .id) (s .votes .yellow .ids)) refl))
+  pub yellow-body : Body (yellow a s)
+  yellow-body = yellow-as Body a s joined (λ e. b)
     where
-      new : (k : ℕ) → idCount (a .id) (s .votes .yellow .ids) ≡ k → k ≡ 0
-      new zero e = refl
-      new (suc k) e =
-          absurd (omega (arith, counted-fact (λ x. x .index ≤ cut (s .log) (x .creator)) (a .id) (s .votes .yellow .ids) w (omega arith)))
+      joined : isNext (s .log) a ≡ true → Body (withVotes (joinYellow (a .id) (s .votes)) (withLog (enter a (s .log)) s))
+      joined e =
+          rw (red-entered a (s .log) e) at
+          (votes-changed (withLog (red a (s .log)) s) red-body (joinYellow (a .id) (s .votes))
+          (join-yellow-fits (s .servers) (s .quota) (a .id) (s .votes) (b .votes) (d .fits .id)))
 
   pub exchanged-body : (p : ℕ) → s .membership .come < plannedNow s → Body (exchanged p a s)
   unfolding exchanged oneMore plannedNow
   exchanged-body p h =
       mode-changed (withLog (placed p a (s .log)) s)
-      (log-changed-alike s b (placed p a (s .log)) (placed-fits (s .servers) (s .quota) (s .me) p a (s .log) (b .log) (d .fits) (d .own)) (placed-numbered p a (s .log)))
+      (log-changed-alike s b (placed p a (s .log)) (placed-fits (s .servers) (s .quota) (s .me) p a (s .log) (b .log) (d .fits) (d .own)) (numbered-placed p a (s .log)))
       (s .membership .mode) (s .membership .come + 1)
       (omega (arith, planned-bound (s .servers) (s .quota) (collected s) (collected-fit s b)))
 
@@ -113,7 +105,7 @@ module _ (s : Server) (b : Body s) where
   install-body h =
       votes-changed (withLog (installLog (s .votes .yellow .ids) (s .log)) s)
       (log-changed-alike s b (installLog (s .votes .yellow .ids) (s .log)) (install-log-fits (s .servers) (s .quota) (s .me) (s .votes .yellow .ids) (s .log) (b .log))
-      (install-log-numbered (s .votes .yellow .ids) (s .log)))
+      (numbered-install (s .votes .yellow .ids) (s .log)))
       (installVotes (s .votes)) (install-votes-fits (s .servers) (s .quota) (s .votes) (b .votes) h)
 
   pub send-held-body : Body (sendHeld s)
@@ -143,8 +135,8 @@ module _ (s : Server) (b : Body s) where
       (held-changed (withLog (reds (s .log .own) (s .log)) s)
       (log-changed-alike s b (reds (s .log .own) (s .log))
       (reds-fits (s .servers) (s .quota) (s .me) (s .log .own) (s .log) (b .log) (b .log .ranges .own) own-numbered)
-      (reds-numbered (s .log .own) (s .log)))
-      [] (omega arith) tt (omega (arith, reds-numbered (s .log .own) (s .log), b .quota-kept)))
+      (numbered-reds (s .log .own) (s .log)))
+      [] (omega arith) tt (omega (arith, numbered-reds (s .log .own) (s .log), b .quota-kept)))
       (record { mode = Non-prim; configuration = none; transitional = none; states = noStates (s .servers); cpcs = s .membership .cpcs; come = s .membership .come })
       (record {
         configuration = λ d e. absurd (Option·none-ne-some d e);

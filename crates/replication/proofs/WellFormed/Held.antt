@@ -9,15 +9,16 @@ use native.Mathlib.Omega.{arith}
 use native.Mathlib.Decide.{ℕ-discrete}
 use lib.ListN.{length}
 use lib.Seq.{getD-set-same, getD-set-other}
-use Rattle.base.specs.Tests.{pick, eq-holds, Known, holds, fails, known}
+use Rattle.base.specs.Tests.{pick, Known, holds, fails, known}
 use Rattle.base.specs.ListLaws.{Each}
 use Rattle.base.specs.Counts.{one, count, count-append, count-single, count-map}
 use Rattle.format.specs.Types.{Id, Action}
 use Rattle.format.specs.Range.{sameId}
 use Rattle.replication.specs.Machine.Types.{Log}
-use Rattle.replication.specs.Machine.Colours.{find, remove, cut, nextIndex, isNext, enter, red, promote, promoteFound, greenId}
+use Rattle.replication.specs.Machine.Colours.{find, remove, cut, isNext, enter, red, promote, promoteFound, greenId}
 use Rattle.replication.specs.Machine.WellFormed.{idsIn, queue}
 use Rattle.replication.specs.Machine.WellFormedFacts.{heldCount}
+use Rattle.replication.proofs.Step.Logs.{next-index, red-entered, red-ignored}
 use Rattle.replication.proofs.WellFormed.Ids.{SameId, same, other, same-id?, same-id-yes}
 
 -- How many actions of a list have the id d.
@@ -84,12 +85,11 @@ pub data Entered (a : Action) (l : Log) : Type 0 where
   ignored : isNext l a ≡ false → red a l ≡ l → Entered a l
 
 pub entered? : (a : Action) (l : Log) → Entered a l
-unfolding red isNext nextIndex pick
 entered? a l = go (known (isNext l a))
   where
     go : Known (isNext l a) → Entered a l
-    go (holds t) = entered (eq-holds _ _ t) t (rw t)
-    go (fails t) = ignored t (rw t)
+    go (holds t) = entered (next-index l a t) t (red-entered a l t)
+    go (fails t) = ignored t (red-ignored a l t)
 
 pub held-enter : (a : Action) (l : Log) (d : Id) → heldCount d (enter a l) ≡ heldCount d l + one (sameId d (a .id))
 unfolding enter

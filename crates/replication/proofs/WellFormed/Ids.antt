@@ -3,7 +3,7 @@
 use Prim.Native.Nat.{ℕ, zero, suc, _+_, _≤_, _<_}
 use mathlib.Core.Path.{_≡_, refl, sym, ap, _∙_, subst}
 use mathlib.Core.Bool.{true, false, not}
-use mathlib.Core.List.{List, [], _∷_, map}
+use mathlib.Core.List.{List, [], _∷_, map, List·Memᴰ, List·Memᴰ·head, List·Memᴰ·tail}
 use native.Mathlib.Omega.{arith}
 use lib.ListN.{getD}
 use Rattle.base.specs.Tests.{_or_, not-both, not-holds, or-fails, and-holds, both-yes, and-no, eq-yes, eq-no, eq-holds, Known, holds, fails, known}
@@ -67,6 +67,15 @@ counted-has d xs h = go (known (hasId d xs))
     go : Known (hasId d xs) → hasId d xs ≡ true
     go (holds e) = e
     go (fails e) = absurd (omega (arith, not-had-counted d xs e))
+
+pub has-member : (d : Id) (xs : List Id) → hasId d xs ≡ true → List·Memᴰ d xs
+unfolding hasId _or_
+has-member d [] h = not-both h
+has-member d (x ∷ xs) h = go (known (sameId d x)) (λ g. has-member d xs g)
+  where
+    go : Known (sameId d x) → (hasId d xs ≡ true → List·Memᴰ d xs) → List·Memᴰ d (x ∷ xs)
+    go (holds e) more = List·Memᴰ·head (same-id-holds d x e)
+    go (fails e) more = List·Memᴰ·tail (more (rw e at h))
 
 pub each-counted : (xs : List Id) → Each (λ x. 1 ≤ idCount x xs) xs
 unfolding count

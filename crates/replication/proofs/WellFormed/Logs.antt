@@ -16,6 +16,7 @@ use Rattle.replication.specs.Machine.Install.{installLog, idsUpTo}
 use Rattle.replication.specs.Machine.WellFormed.{idsIn}
 use Rattle.replication.specs.Machine.WellFormedRanges.{ActionFits, LogRanges}
 use Rattle.replication.specs.Machine.WellFormedFacts.{heldCount, HeldToCuts, OwnListFits}
+use Rattle.replication.proofs.Step.Numbered.{numbered-red}
 use Rattle.replication.proofs.WellFormed.Ids.{SameId, same, other, same-id?, same-id-no}
 use Rattle.replication.proofs.WellFormed.Held.{found-fact, each-remove, remove-first, remove-absent, Entered, entered, ignored, entered?, held-enter, CutAfter, risen, left, cut-after?, Greened, unmoved, moved, greened?}
 
@@ -121,9 +122,6 @@ module _ (n q me : ℕ) (a : Action) (l : Log) (f : LogFits n q me l) (fits : Ac
 
 -- ---- the cuts of m are those of l or higher
 
-abbrev pub CutsRise : Log → Log → Type 0
-CutsRise l m = (c : ℕ) → cut l c ≤ cut m c
-
 pub red-fits : (n q me : ℕ) (a : Action) (l : Log) → LogFits n q me l → ActionFits n q a → Numbered me (l .numbered) a → LogFits n q me (red a l)
 red-fits n q me a l f fits own = go (entered? a l)
   where
@@ -131,29 +129,12 @@ red-fits n q me a l f fits own = go (entered? a l)
     go (entered next t e) = rw e (enter-fits n q me a l f fits next own)
     go (ignored t e) = rw e f
 
-pub enter-numbered : (a : Action) (l : Log) → (enter a l) .numbered ≡ l .numbered
-unfolding enter
-enter-numbered a l = refl
-
-pub red-numbered : (a : Action) (l : Log) → (red a l) .numbered ≡ l .numbered
-unfolding enter
-red-numbered a l = go (entered? a l)
-  where
-    go : Entered a l → (red a l) .numbered ≡ l .numbered
-    go (entered next t e) = rw e
-    go (ignored t e) = rw e
-
 pub reds-fits : (n q me : ℕ) (more : List Action) (l : Log) → LogFits n q me l → Each (ActionFits n q) more → Each (Numbered me (l .numbered)) more
     → LogFits n q me (reds more l)
 unfolding reds
 reds-fits n q me [] l f fits own = f
 reds-fits n q me (a ∷ more) l f fits own =
-    reds-fits n q me more (red a l) (red-fits n q me a l f (fits .0) (own .0)) (fits .1) (rw (red-numbered a l) (own .1))
-
-pub reds-numbered : (more : List Action) (l : Log) → (reds more l) .numbered ≡ l .numbered
-unfolding reds
-reds-numbered [] l = refl
-reds-numbered (a ∷ more) l = reds-numbered more (red a l) ∙ red-numbered a l
+    reds-fits n q me more (red a l) (red-fits n q me a l f (fits .0) (own .0)) (fits .1) (rw (numbered-red a l) (own .1))
 
 -- ---- turning green
 

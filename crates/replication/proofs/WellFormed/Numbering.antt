@@ -1,99 +1,28 @@
--- Cuts and the number of actions numbered as a log changes; numbering keeps the facts of a well-formed log; a log's length.
+-- Placing a retransmission's action and numbering keep the facts of a well-formed log; a log's length.
 -- Assumes nothing.
 use Prim.Native.Nat.{ℕ, suc, _+_, _*_, _≤_, _<_}
 use mathlib.Core.Path.{_≡_, refl, sym, ap, _∙_}
-use mathlib.Core.Bool.{Bool, true, false}
 use mathlib.Core.List.{List, [], _∷_, _++_, map, map-append}
 use native.Mathlib.Omega.{arith}
 use lib.ListN.{length, length-append, length-map}
-use Rattle.base.specs.Tests.{_and_, _=?_, _≤?_, pick}
 use Rattle.base.specs.Lists.{after, above}
 use Rattle.base.specs.ListLaws.{Each, each-append, each-map, each-implied, above-more}
-use Rattle.format.specs.Types.{Id, Action}
+use Rattle.format.specs.Types.{Action}
 use Rattle.replication.specs.Machine.Types.{Log}
-use Rattle.replication.specs.Machine.Colours.{cut, enter, red, promote, greenId, greenIds, green}
-use Rattle.replication.specs.Machine.Install.{installLog, idsUpTo}
+use Rattle.replication.specs.Machine.Colours.{cut}
 use Rattle.replication.specs.Machine.Requests.{numberedFrom}
 use Rattle.replication.specs.Machine.Step.{placed}
 use Rattle.replication.specs.Machine.WellFormed.{idsIn, queue}
 use Rattle.replication.specs.Machine.WellFormedRanges.{IdFits, PayloadFits, ActionFits}
+use Rattle.replication.proofs.Step.Logs.{placed-as}
 use Rattle.replication.proofs.WellFormed.Ranges.{ids-short}
-use Rattle.replication.proofs.WellFormed.Held.{Entered, entered, ignored, entered?, CutAfter, risen, left, cut-after?, Greened, unmoved, moved, greened?}
-use Rattle.replication.proofs.WellFormed.Logs.{LogFits, Numbered, CutsRise, ownId, red-fits, green-fits, red-numbered}
-
--- ---- greening leaves cuts and numbers alone
-
-pub green-id-cuts : (d : Id) (l : Log) → (greenId d l) .cuts ≡ l .cuts
-unfolding promote
-green-id-cuts d l = go (greened? d l)
-  where
-    go : Greened d l → (greenId d l) .cuts ≡ l .cuts
-    go (unmoved e) = rw e
-    go (moved x r e kept) = rw e
-
-pub green-id-numbered : (d : Id) (l : Log) → (greenId d l) .numbered ≡ l .numbered
-unfolding promote
-green-id-numbered d l = go (greened? d l)
-  where
-    go : Greened d l → (greenId d l) .numbered ≡ l .numbered
-    go (unmoved e) = rw e
-    go (moved x r e kept) = rw e
-
-pub green-ids-cuts : (ds : List Id) (l : Log) → (greenIds ds l) .cuts ≡ l .cuts
-unfolding greenIds
-green-ids-cuts [] l = refl
-green-ids-cuts (d ∷ ds) l = green-ids-cuts ds (greenId d l) ∙ green-id-cuts d l
-
-pub green-ids-numbered : (ds : List Id) (l : Log) → (greenIds ds l) .numbered ≡ l .numbered
-unfolding greenIds
-green-ids-numbered [] l = refl
-green-ids-numbered (d ∷ ds) l = green-ids-numbered ds (greenId d l) ∙ green-id-numbered d l
-
-pub green-numbered : (a : Action) (l : Log) → (green a l) .numbered ≡ l .numbered
-unfolding green
-green-numbered a l = green-id-numbered (a .id) (red a l) ∙ red-numbered a l
-
-pub install-log-numbered : (yellows : List Id) (l : Log) → (installLog yellows l) .numbered ≡ l .numbered
-unfolding installLog
-install-log-numbered yellows l = green-ids-numbered (idsUpTo 0 (l .cuts)) (greenIds yellows l) ∙ green-ids-numbered yellows l
-
--- ---- cuts rise
-
-pub enter-rises : (a : Action) (l : Log) → a .id .creator < length (l .cuts) → a .id .index ≡ cut l (a .id .creator) + 1 → CutsRise l (enter a l)
-enter-rises a l inside next c = go (cut-after? a l c inside)
-  where
-    go : CutAfter a l c → cut l c ≤ cut (enter a l) c
-    go (risen p e) = omega (arith, ap (cut l) p)
-    go (left p e) = omega arith
-
-pub red-rises : (a : Action) (l : Log) → a .id .creator < length (l .cuts) → CutsRise l (red a l)
-red-rises a l inside = go (entered? a l)
-  where
-    go : Entered a l → CutsRise l (red a l)
-    go (entered next t e) = rw e (enter-rises a l inside next)
-    go (ignored t e) = rw e (λ c. omega arith)
-
-pub green-rises : (a : Action) (l : Log) → a .id .creator < length (l .cuts) → CutsRise l (green a l)
-unfolding green cut
-green-rises a l inside = rw (green-id-cuts (a .id) (red a l)) (red-rises a l inside)
+use Rattle.replication.proofs.WellFormed.Logs.{LogFits, Numbered, ownId, red-fits, green-fits}
 
 -- ---- a retransmission's action
-
-placed-as : (P : Log → Type 0) (p : ℕ) (a : Action) (l : Log) → P (green a l) → P l → P (red a l) → P (placed p a l)
-unfolding placed pick
-placed-as P p a l g i r = go (p =? length (l .green) + 1) (1 ≤? p and p ≤? length (l .green))
-  where
-    go : (t u : Bool) → P (pick t (green a l) (pick u l (red a l)))
-    go true u = g
-    go false true = i
-    go false false = r
 
 pub placed-fits : (n q me p : ℕ) (a : Action) (l : Log) → LogFits n q me l → ActionFits n q a → Numbered me (l .numbered) a → LogFits n q me (placed p a l)
 placed-fits n q me p a l f fits own =
     placed-as (LogFits n q me) p a l (green-fits n q me a l f fits own) f (red-fits n q me a l f fits own)
-
-pub placed-numbered : (p : ℕ) (a : Action) (l : Log) → (placed p a l) .numbered ≡ l .numbered
-placed-numbered p a l = placed-as (λ m. m .numbered ≡ l .numbered) p a l (green-numbered a l) refl (red-numbered a l)
 
 -- ---- how many are held
 

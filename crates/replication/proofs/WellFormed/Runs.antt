@@ -1,13 +1,14 @@
 -- The start is well-formed, and so are both images of a server after any events: in a run no event returns 8.
 -- Assumes nothing.
-use Prim.Native.Nat.{ℕ, zero, suc, _<_}
-use mathlib.Core.Path.{_≡_, refl, sym, ap}
+use Prim.Native.Nat.{ℕ, _<_}
+use mathlib.Core.Path.{_≡_, sym, ap}
 use mathlib.Core.Bool.{true}
 use mathlib.Core.List.{List, map}
 use mathlib.Core.Option.{none, Option·none-ne-some}
 use native.Mathlib.Omega.{arith}
-use lib.ListN.{getD, replicate, length-replicate}
+use lib.ListN.{length-replicate}
 use Rattle.base.specs.Tests.{both-yes, lt-yes}
+use Rattle.base.specs.ListLaws.{replicate-at}
 use Rattle.base.specs.Lists.{after, above}
 use Rattle.base.specs.Counts.{count}
 use Rattle.base.specs.SetLaws.{everyone-below}
@@ -17,19 +18,21 @@ use Rattle.replication.specs.Machine.Colours.{cut}
 use Rattle.replication.specs.Machine.WellFormed.{idsIn, queue, wellFormed}
 use Rattle.replication.specs.Machine.WellFormedRanges.{SizesFit}
 use Rattle.replication.specs.Machine.WellFormedFacts.{WellFormed, Invariant}
-use Rattle.replication.specs.Images.{started, lived}
-use Rattle.replication.specs.Laws.Images.{OfBoth}
-use Rattle.replication.proofs.Step.Lifts.{lived-each}
+use Rattle.replication.specs.Images.{started, sourceOf, lived}
+use Rattle.replication.specs.Laws.Images.{OfBoth, next}
+use Rattle.replication.specs.Laws.Order.{AtMost, OwnStateTrueAt}
+use Rattle.replication.specs.Laws.Modes.{ColourFactsOf}
+use Rattle.replication.proofs.Step.Inversion.{taken-by}
+use Rattle.replication.proofs.Step.Moves.{moved}
+use Rattle.replication.proofs.Step.Lifts.{source-of, lived-each}
+use Rattle.replication.proofs.Step.Control.{control-stored}
+use Rattle.replication.proofs.Step.Rising.{next-votes-rise}
+use Rattle.replication.proofs.Step.ModeColours.{colour-facts-kept}
 use Rattle.replication.proofs.WellFormed.Ranges.{sizes-facts}
 use Rattle.replication.proofs.WellFormed.Facts.{facts-well-formed}
 use Rattle.replication.proofs.WellFormed.Decisions.{empty-below, cleared-mark-fits, no-yellow-fits}
 use Rattle.replication.proofs.WellFormed.Changes.{no-states}
-use Rattle.replication.proofs.WellFormed.Steps.{step-invariant}
-
-zero-at : (n k : ℕ) → getD (replicate {A = ℕ} n 0) k 0 ≡ 0
-zero-at zero k = refl
-zero-at (suc n) zero = refl
-zero-at (suc n) (suc k) = zero-at n k
+use Rattle.replication.proofs.WellFormed.Steps.{step-well-formed, step-invariant}
 
 module _ (n q i : ℕ) (sizes : sizesOk n q ≡ true) (own : i < n) where
   start-sizes : SizesFit n q i
@@ -44,7 +47,7 @@ module _ (n q i : ℕ) (sizes : sizesOk n q ≡ true) (own : i < n) where
       green = tt;
       red = tt;
       cuts-length = length-replicate n 0;
-      cuts = λ c. omega (arith, zero-at n c);
+      cuts = λ c. omega (arith, replicate-at {A = ℕ} 0 n c);
       own = tt;
       numbered = omega arith;
     };
@@ -65,10 +68,10 @@ module _ (n q i : ℕ) (sizes : sizesOk n q ≡ true) (own : i < n) where
     held-length = omega arith;
     held = tt;
     noted-length = length-replicate n 0;
-    noted = λ c. omega (arith, zero-at n c);
+    noted = λ c. omega (arith, replicate-at {A = ℕ} 0 n c);
     once = λ d. omega arith;
-    held-to-cuts = record { within = λ d h. absurd (omega arith); entered = λ d low high. absurd (omega (arith, zero-at n (d .creator))) };
-    own-list = record { numbered = omega (arith, zero-at n i); ids = ap (λ k. map (λ j. record { creator = i; index = j }) (above k 0)) (sym (zero-at n i)) };
+    held-to-cuts = record { within = λ d h. absurd (omega arith); entered = λ d low high. absurd (omega (arith, replicate-at {A = ℕ} 0 n (d .creator))) };
+    own-list = record { numbered = omega (arith, replicate-at {A = ℕ} 0 n i); ids = ap (λ k. map (λ j. record { creator = i; index = j }) (above k 0)) (sym (replicate-at {A = ℕ} 0 n i)) };
     quota-kept = omega arith;
     mode = tt;
   }
@@ -92,3 +95,20 @@ module _ (n q i : ℕ) (sizes : sizesOk n q ≡ true) (own : i < n) where
   lived-well-formed es =
       let v = lived-invariant es in
       record { memory = facts-well-formed _ (v .memory .well-formed); store = facts-well-formed _ (v .store .well-formed) }
+
+  pub colour-facts : (es : List (List ℕ)) → OfBoth ColourFactsOf (lived (started (start n q i)) es)
+  unfolding start started
+  colour-facts es =
+      let both = lived-each (λ s. (wellFormed s ≡ true) × ColourFactsOf s)
+      (λ s e t bs b g h p. (step-well-formed s e t bs b g (p .0) h, colour-facts-kept s (p .0) (moved (taken-by s e t bs b g h) .0) (p .1)))
+      (started (start n q i)) es (record { memory = (start-well-formed, tt); store = (start-well-formed, tt) }) in
+      record { memory = both .memory .1; store = both .store .1 }
+
+  -- With one more event no vote falls, in memory or in the store, if the own State that the event brings is true.
+  pub lived-votes-rise : (es : List (List ℕ)) (e : List ℕ) → OwnStateTrueAt (sourceOf (lived (started (start n q i)) es) e) e
+      → AtMost ((lived (started (start n q i)) es) .memory .votes) ((next (lived (started (start n q i)) es) e) .memory .votes)
+      × AtMost ((lived (started (start n q i)) es) .store .votes) ((next (lived (started (start n q i)) es) e) .store .votes)
+  lived-votes-rise es e own =
+      let w = lived-well-formed es in
+      next-votes-rise (lived (started (start n q i)) es) e (control-stored (start n q i) es)
+      (source-of (λ s. wellFormed s ≡ true) (lived (started (start n q i)) es) e (w .store) (w .memory)) own

@@ -5,7 +5,7 @@ use mathlib.Core.Path.{_≡_, subst}
 use mathlib.Core.Bool.{true}
 use mathlib.Core.List.{List, [], _∷_, map}
 use native.Mathlib.Omega.{arith}
-use Rattle.base.specs.Tests.{_=?_, lt-holds}
+use Rattle.base.specs.Tests.{_=?_, lt-holds, pick-as}
 use Rattle.format.specs.Types.{Action, State, Record, action, cpc}
 use Rattle.replication.specs.Machine.Types.{Non-prim, Reg-prim, Exchange-states, Exchange-actions, Construct, Un, Server, Outcome, withVotes, inMode}
 use Rattle.replication.specs.Machine.Exchange.{quorum}
@@ -21,7 +21,7 @@ use Rattle.replication.proofs.WellFormed.Changes.{Body, body, in-mode, 
 use Rattle.replication.proofs.WellFormed.RuleFacts.{Delivered, StateCame, RuleFits}
 use Rattle.replication.proofs.WellFormed.Effects.{exchanged-body, install-body}
 use Rattle.replication.proofs.WellFormed.Exchanges.{decided-body, with-state-body, with-cpc-body, unmarked-body, yellow-valid-body}
-use Rattle.replication.proofs.WellFormed.Kept.{After, either}
+use Rattle.replication.proofs.WellFormed.Kept.{After}
 use Rattle.replication.proofs.WellFormed.Records.{none-out, cpc-out, state-out, made-out, held-out, resent-out}
 
 abbrev pub PutsOut : Server → Outcome Record → Type 0
@@ -33,18 +33,18 @@ PutBy s r = PutOut (s .servers) (s .quota) (s .me) r
 -- ---- the end of an exchange, at t
 
 module _ (s t : Server) (b : Body t) (c : Configured t) where
-  end-out : After (λ u r. PutBy t r) (endExchange s t)
+  end-out : PutsOut t (endExchange s t)
   unfolding endExchange stored decided
   end-out =
-      either (λ u r. PutBy t r) (quorum (collected t) (hereSet t)) (stored s (attempting (decided t)) (cpc (t .me) (hereId t) ∷ []))
+      pick-as (PutsOut t) (quorum (collected t) (hereSet t)) (stored s (attempting (decided t)) (cpc (t .me) (hereId t) ∷ []))
       (stored s (sendHeld (inMode Non-prim (decided t))) (heldRecords (inMode Non-prim (decided t))))
       (λ h. cpc-out t b (hereId t) (here-id-below t b (c .0) (c .1)))
       (λ h. held-out (inMode Non-prim (decided t)) (in-mode (decided t) (decided-body t b) Non-prim))
 
-  states-out : After (λ u r. PutBy t r) (afterStates s t)
+  states-out : PutsOut t (afterStates s t)
   unfolding afterStates sent
   states-out =
-      either (λ u r. PutBy t r) (plannedNow t =? 0) (endExchange s t) (sent s (resending t) (ownPart (t .servers) (t .me) (t .log) (collected t))) (λ h. end-out)
+      pick-as (PutsOut t) (plannedNow t =? 0) (endExchange s t) (sent s (resending t) (ownPart (t .servers) (t .me) (t .log) (collected t))) (λ h. end-out)
       (λ h. resent-out t b (collected t) (collected-fit t b))
 
 -- ---- the rules
@@ -56,7 +56,7 @@ module _ (s : Server) (f : WellFormed s) where
   exchanging-out : (p : ℕ) (a : Action) → Delivered s a → s .membership .mode ≡ Exchange-actions → PutsOut s (exchange p a s)
   unfolding exchange quiet exchanged oneMore
   exchanging-out p a d e =
-      either (λ u r. PutBy s r) (allCome (exchanged p a s)) (endExchange s (exchanged p a s)) (quiet s (exchanged p a s))
+      pick-as (PutsOut s) (allCome (exchanged p a s)) (endExchange s (exchanged p a s)) (quiet s (exchanged p a s))
       (λ h. end-out s (exchanged p a s) (exchanged-body s (body s f) a d p (fits .2)) (fits .0)) (λ h. nothing-out)
     where
       fits : Configured s × StatesIn s × (s .membership .come < plannedNow s)
@@ -65,13 +65,13 @@ module _ (s : Server) (f : WellFormed s) where
   collectingState-out : (x : State) → StateCame s x → s .membership .mode ≡ Exchange-states → PutsOut s (collectState x s)
   unfolding collectState quiet withState
   collectingState-out x c e =
-      either (λ u r. PutBy s r) (allStatesIn (withState x s)) (afterStates s (withState x s)) (quiet s (withState x s))
+      pick-as (PutsOut s) (allStatesIn (withState x s)) (afterStates s (withState x s)) (quiet s (withState x s))
       (λ h. states-out s (withState x s) (with-state-body s (body s f) x c) (subst (λ m. ModeFits m s) e (f .mode))) (λ h. nothing-out)
 
   collectingCpc-out : (k : ℕ) → k < s .servers → s .membership .mode ≡ Construct → PutsOut s (collectCpc k s)
   unfolding collectCpc installing quiet stored withCpc install
   collectingCpc-out k h e =
-      either (λ u r. PutBy s r) (allCpcsIn (withCpc k s)) (installing s (withCpc k s)) (quiet s (withCpc k s))
+      pick-as (PutsOut s) (allCpcsIn (withCpc k s)) (installing s (withCpc k s)) (quiet s (withCpc k s))
       (λ t.
       held-out (inMode Reg-prim (install (withCpc k s)))
       (in-mode (install (withCpc k s)) (install-body (withCpc k s) (with-cpc-body s (body s f) k h) ((subst (λ m. ModeFits m s) e (f .mode)) .1)) Reg-prim))
@@ -80,12 +80,12 @@ module _ (s : Server) (f : WellFormed s) where
   collectingLateCpc-out : (k : ℕ) → PutsOut s (collectLateCpc k s)
   unfolding collectLateCpc quiet
   collectingLateCpc-out k =
-      either (λ u r. PutBy s r) (allCpcsIn (withCpc k s)) (quiet s (inMode Un (withCpc k s))) (quiet s (withCpc k s)) (λ t. nothing-out) (λ t. nothing-out)
+      pick-as (PutsOut s) (allCpcsIn (withCpc k s)) (quiet s (inMode Un (withCpc k s))) (quiet s (withCpc k s)) (λ t. nothing-out) (λ t. nothing-out)
 
   requesting-out : (p : List ℕ) → PayloadFits p → quotaLeft s ≡ true → PutsOut s (requested p s)
   unfolding requested stored quiet quotaLeft
   requesting-out p g q =
-      either (λ u r. PutBy s r) (sendsNow (s .membership)) (stored s (numbered (p ∷ []) s) (map action (madeOf (p ∷ []) s))) (quiet s (hold p s))
+      pick-as (PutsOut s) (sendsNow (s .membership)) (stored s (numbered (p ∷ []) s) (map action (madeOf (p ∷ []) s))) (quiet s (hold p s))
       (λ h. let room = lt-holds _ _ q in made-out s (body s f) (p ∷ []) (omega arith) (g, tt)) (λ h. nothing-out)
 
   pub apply-out : (k : Rule) → RuleFits k s → PutsOut s (apply k s)

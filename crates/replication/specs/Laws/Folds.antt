@@ -6,9 +6,10 @@ use mathlib.Core.Bool.{Bool}
 use mathlib.Core.List.{List, [], _∷_, _++_, map}
 use lib.ListN.{getD, set}
 use Rattle.base.specs.Tests.{_=?_, pick}
-use Rattle.format.specs.Types.{Action}
+use Rattle.format.specs.Types.{Id, Action}
 use Rattle.replication.specs.Machine.Types.{Log, Server}
-use Rattle.replication.specs.Machine.Colours.{green, yellow}
+use Rattle.replication.specs.Machine.Colours.{green, addId, yellow}
+use Rattle.replication.specs.Machine.WellFormedFacts.{YellowWithinCuts}
 
 -- "an action is entered only if its index is its creator's cut plus one"
 unfoldable pub follows : List ℕ → Action → Bool
@@ -28,6 +29,11 @@ unfoldable pub entered : List ℕ → List Action → List Action
 entered cuts [] = []
 entered cuts (a ∷ more) = pick (follows cuts a) (a ∷ entered (cutsWith a cuts) more) (entered (cutsWith a cuts) more)
 
+-- A yellow list that these ids have joined, one after another.
+unfoldable pub addIds : List Id → List Id → List Id
+addIds [] ids = ids
+addIds (d ∷ ds) ids = addIds ds (addId d ids)
+
 unfoldable pub greenAll : List Action → Log → Log
 greenAll [] l = l
 greenAll (a ∷ more) l = greenAll more (green a l)
@@ -44,8 +50,13 @@ pub record Greened (delivered : List Action) (l m : Log) : Type 0 where
 
 -- The server t is the server s with these delivered and yellowed.
 pub record Yellowed (delivered : List Action) (s t : Server) : Type 0 where
-  pub ids : t .votes .yellow .ids ≡ s .votes .yellow .ids ++ map (λ a. a .id) (entered (s .log .cuts) delivered)
+  pub ids : t .votes .yellow .ids ≡ addIds (map (λ a. a .id) (entered (s .log .cuts) delivered)) (s .votes .yellow .ids)
   pub status : t .votes .yellow .status ≡ s .votes .yellow .status
   pub green : t .log .green ≡ s .log .green
   pub red : t .log .red ≡ s .log .red ++ entered (s .log .cuts) delivered
   pub cuts : t .log .cuts ≡ cutsAfter (s .log .cuts) delivered
+
+-- From s to t the yellow list gained the ids of those entered, and holds ids of entered actions only.
+pub record YellowGained (delivered : List Action) (s t : Server) : Type 0 where
+  pub ids : t .votes .yellow .ids ≡ s .votes .yellow .ids ++ map (λ a. a .id) (entered (s .log .cuts) delivered)
+  pub within : YellowWithinCuts t

@@ -1,14 +1,14 @@
 -- Document 01, 'What each event does', second paragraph: Red, Yellow, Green.
 -- Assumes nothing.
 use Prim.Native.Nat.{ℕ, _+_, max}
-use mathlib.Core.Bool.{Bool, true, false}
+use mathlib.Core.Bool.{Bool}
 use mathlib.Core.List.{List, [], _∷_, _++_}
 use mathlib.Core.Option.{Option, none, some}
-use lib.ListN.{length, getD, set}
+use lib.ListN.{getD, set}
 use Rattle.base.specs.Tests.{_=?_, pick}
-use Rattle.format.specs.Types.{Id, Action, Yellow}
-use Rattle.format.specs.Range.{sameId}
-use Rattle.replication.specs.Machine.Types.{Log, Votes, Server, withLog, withVotes, withNoted}
+use Rattle.format.specs.Types.{Id, Action}
+use Rattle.format.specs.Range.{sameId, hasId}
+use Rattle.replication.specs.Machine.Types.{Log, Votes, Server, withLog, withVotes}
 
 -- ---- actions in a list, by id
 
@@ -74,8 +74,12 @@ green a l = greenId (a .id) (red a l)
 
 -- ---- Yellow: "as red, and its id joins the yellow list if it was entered."
 
+-- "Ids in a yellow list differ": an id that is already there has joined.
+unfoldable pub addId : Id → List Id → List Id
+addId d ids = pick (hasId d ids) ids (ids ++ (d ∷ []))
+
 unfoldable pub joinYellow : Id → Votes → Votes
-joinYellow d v = record { last = v .last; attempt = v .attempt; mark = v .mark; yellow = record { status = v .yellow .status; ids = v .yellow .ids ++ (d ∷ []) } }
+joinYellow d v = record { last = v .last; attempt = v .attempt; mark = v .mark; yellow = record { status = v .yellow .status; ids = addId d (v .yellow .ids) } }
 
 unfoldable pub yellow : Action → Server → Server
 yellow a s = pick (isNext (s .log) a) (withVotes (joinYellow (a .id) (s .votes)) (withLog (enter a (s .log)) s)) s

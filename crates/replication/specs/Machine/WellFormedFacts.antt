@@ -78,7 +78,7 @@ abbrev pub YellowWithinCuts : Server → Type 0
 YellowWithinCuts s = Each (λ d. d .index ≤ cut (s .log) (d .creator)) (s .votes .yellow .ids)
 
 -- So it is in Reg_prim and Trans_prim: Install empties the list, and there "its id joins the yellow list if it was entered". Row 8 does not ask for
--- it, but without it an entered action's id could join a list in which it already is.
+-- it; with it each id that joins is new.
 abbrev pub YellowEntered : Mode → Server → Type 0
 YellowEntered Non-prim s = Unit {0}
 YellowEntered Reg-prim s = YellowWithinCuts s

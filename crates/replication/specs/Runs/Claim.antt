@@ -58,3 +58,7 @@ module _ (n q : ℕ) (l : Run) where
 -- Demand 3.
 unfoldable pub Demand3 : Type 0
 Demand3 = (n q : ℕ) (l : Run) → Allowed n q l → Agreement n q l
+
+-- What follows beside it.
+unfoldable pub Corollaries : Type 0
+Corollaries = (n q : ℕ) (l : Run) → Allowed n q l → StoredAgree n q l × KnownPrimaries n q l

@@ -1,12 +1,12 @@
 -- What a server delivers in a configuration, in order, and what a message says.
 -- Assumes nothing.
 use Prim.Native.Nat.{ℕ, zero, suc}
-use mathlib.Core.Bool.{Bool, true, false, not}
+use mathlib.Core.Bool.{Bool, false, not}
 use mathlib.Core.List.{List, [], _∷_, _++_, map}
 use mathlib.Core.Option.{Option, none, some}
 use Rattle.base.specs.Tests.{_and_, _=?_, pick}
 use Rattle.base.specs.Lists.{at, isThere, gather}
-use Rattle.format.specs.Types.{Record, Reading, says, refused}
+use Rattle.format.specs.Types.{Action, Record, action, retransmission, state, cpc, regular, transitional, request, recovery, Reading, says, refused}
 use Rattle.replication.specs.Machine.Types.{Configuration}
 use Rattle.replication.specs.Runs.Run.{Entry, event, crash, Run, Place, nowhere, heard, placeAt, heardAt, sentAt}
 use Rattle.replication.specs.Runs.Happenings.{Message, isMessage}
@@ -30,6 +30,17 @@ saysMessage (refused k) = false
 unfoldable pub recordFrom : Reading Record → Option Record
 recordFrom (says r) = some r
 recordFrom (refused k) = none
+
+-- The action of a record of kind 1.
+unfoldable pub actionIn : Record → Option Action
+actionIn (action a) = some a
+actionIn (retransmission k p a) = none
+actionIn (state x) = none
+actionIn (cpc k i) = none
+actionIn (regular i s) = none
+actionIn (transitional s) = none
+actionIn (request p) = none
+actionIn recovery = none
 
 module _ (n q : ℕ) (l : Run) where
   -- The entry x, which stands at p, delivers a message to the server i while its place passes the test.
@@ -61,3 +72,7 @@ module _ (n q : ℕ) (l : Run) where
   -- The records that the server i delivers, in order.
   unfoldable pub deliveredRecords : (ℕ → Message) → (Place → Bool) → ℕ → ℕ → List Record
   deliveredRecords source t i p = gather recordOf (delivered source t i p)
+
+  -- The actions that it delivers, in order.
+  unfoldable pub deliveredActions : (ℕ → Message) → (Place → Bool) → ℕ → ℕ → List Action
+  deliveredActions source t i p = gather actionIn (deliveredRecords source t i p)

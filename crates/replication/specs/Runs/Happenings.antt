@@ -113,7 +113,7 @@ module _ (n q : ℕ) (l : Run) where
       sends : (m : Message) → m .number < length (sentAt n q l (m .sending)) → Causes (entry-at (m .sending)) (sending-of m)
       in-order : (m m′ : Message) → m .sending ≡ m′ .sending → m .number < m′ .number → m′ .number < length (sentAt n q l (m′ .sending))
           → Causes (sending-of m) (sending-of m′)
-      before-next : {r : ℕ} (i : ℕ) (m : Message) → Of l (m .sending) i → Of l r i → m .sending < r → Causes (sending-of m) (entry-at r)
+      before-next : {r : ℕ} (i : ℕ) (m : Message) → m .number < length (sentAt n q l (m .sending)) → Of l (m .sending) i → Of l r i → m .sending < r → Causes (sending-of m) (entry-at r)
       -- 1.3
       carries : {p : ℕ} (i : ℕ) (m : Message) → Delivers p i m → Causes (sending-of m) (entry-at p)
       -- 1.1

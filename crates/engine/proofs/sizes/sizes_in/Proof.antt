@@ -4,41 +4,31 @@ use Rattle.format.specs.Range.{sizesOk}
 use borrow.Author.Needs.{needs}
 use Rattle.engine.proofs.sizes.sizes_in.Statement.{statement}
 use Rattle.engine.proofs.sizes.sizes_in.Tie as tie
-use Rattle.engine.proofs.sizes.sizes_in.Reads as reads
-use Rattle.engine.proofs.sizes.sizes_in.Lts as lts
 
--- src/sizes.rt:20:18
 cast-if1 : tie.Need-cast-if1
 cast-if1 c = search needs
 
--- src/sizes.rt:21:9
 returns : tie.Need-returns
 unfolding sizesOk
 returns c = search (needs, tests, told)
 
--- src/sizes.rt:23:9
 cast-if2 : tie.Need-cast-if2
 cast-if2 c = search needs
 
--- src/sizes.rt:24:9
 returns-2 : tie.Need-returns-2
 unfolding sizesOk
 returns-2 c = search (needs, tests, told)
 
--- src/sizes.rt:26:16
 cast-if3 : tie.Need-cast-if3
 cast-if3 c = search needs
 
--- src/sizes.rt:27:9
 returns-3 : tie.Need-returns-3
 unfolding sizesOk
 returns-3 c = search (needs, tests, told)
 
--- src/sizes.rt:29:14
 cast-result : tie.Need-cast-result
 cast-result c = search needs
 
--- src/sizes.rt:17:1
 returns-4 : tie.Need-returns-4
 unfolding sizesOk
 returns-4 c = search (needs, tests, told)

@@ -2,83 +2,61 @@ use Rattle.engine.proofs.SizeLaws.{state-length-made}
 use borrow.Author.Needs.{needs}
 use Rattle.engine.proofs.sizes.state_length.Statement.{statement}
 use Rattle.engine.proofs.sizes.state_length.Tie as tie
-use Rattle.engine.proofs.sizes.state_length.Reads as reads
-use Rattle.engine.proofs.sizes.state_length.Lts as lts
-use Rattle.engine.proofs.sizes.product.Reads as product-reads
 
--- src/sizes.rt:44:9
 product-requires : tie.Need-product-requires
 product-requires c κs = search needs
 
--- src/sizes.rt:45:34
 mul-product : tie.Need-mul-product
 mul-product c = search needs
 
--- src/sizes.rt:45:29
 add-product : tie.Need-add-product
 add-product c = search needs
 
--- src/sizes.rt:45:42
 mul-product-2 : tie.Need-mul-product-2
 mul-product-2 c = search needs
 
--- src/sizes.rt:45:29
 add-product-2 : tie.Need-add-product-2
 add-product-2 c = search needs
 
--- src/sizes.rt:45:9
 product-requires-2 : tie.Need-product-requires-2
 product-requires-2 c κs = search needs
 
--- src/sizes.rt:46:14
 mul-result : tie.Need-mul-result
 mul-result c = search needs
 
--- src/sizes.rt:46:5
 add-result : tie.Need-add-result
 add-result c = search needs
 
--- src/sizes.rt:46:29
 cast-result : tie.Need-cast-result
 cast-result c = search needs
 
--- src/sizes.rt:46:22
 mul-result-2 : tie.Need-mul-result-2
 mul-result-2 c = search needs
 
--- src/sizes.rt:46:5
 add-result-2 : tie.Need-add-result-2
 add-result-2 c = search needs
 
--- src/sizes.rt:46:5
 add-result-3 : tie.Need-add-result-3
 add-result-3 c = search needs
 
--- src/sizes.rt:46:64
 mul-result-3 : tie.Need-mul-result-3
 mul-result-3 c = search needs
 
--- src/sizes.rt:46:5
 add-result-4 : tie.Need-add-result-4
 add-result-4 c = search needs
 
--- src/sizes.rt:46:74
 mul-result-4 : tie.Need-mul-result-4
 mul-result-4 c = search needs
 
--- src/sizes.rt:46:5
 add-result-5 : tie.Need-add-result-5
 add-result-5 c = search needs
 
--- src/sizes.rt:46:85
 mul-result-5 : tie.Need-mul-result-5
 mul-result-5 c = search needs
 
--- src/sizes.rt:46:5
 add-result-6 : tie.Need-add-result-6
 add-result-6 c = search needs
 
--- src/sizes.rt:40:1
 returns : tie.Need-returns
 returns c = search (needs, state-length-made)
 

@@ -2,15 +2,10 @@ use Rattle.record.specs.Start.{startOf}
 use borrow.Author.Needs.{needs}
 use Rattle.record.proofs.State.start.Statement.{statement}
 use Rattle.record.proofs.State.start.Tie as tie
-use Rattle.record.proofs.State.start.Reads as reads
-use Rattle.record.proofs.State.start.Lts as lts
-use Rattle.record.proofs.everyone.Reads as everyone-reads
 
--- src/lib.rt:99:18
 everyone-requires : tie.Need-everyone-requires
 everyone-requires c κs = search needs
 
--- src/lib.rt:92:5
 returns : tie.Need-returns
 unfolding startOf
 returns c = rw (c .everyone .ensures)

@@ -1,23 +1,29 @@
-use Rattle.record.proofs.WriterBlocks.{mark-blocks}
+use native.Mathlib.Omega.{arith}
+use Rattle.base.specs.Lists.{sum}
+use Rattle.record.proofs.WriterNumbers.{mark-put}
 use borrow.Author.Needs.{needs}
 use Rattle.record.proofs.blocks.put_mark.Statement.{statement}
 use Rattle.record.proofs.blocks.put_mark.Tie as tie
 
-put8-requires : tie.Need-put8-requires
-put8-requires c κs = search needs
+cast-t5 : tie.Need-cast-t5
+cast-t5 c = search needs
 
-add-put-marked : tie.Need-add-put-marked
-add-put-marked c = search needs
+cast-t6 : tie.Need-cast-t6
+cast-t6 c = search needs
 
-put-marked-requires : tie.Need-put-marked-requires
-put-marked-requires c κs = search needs
+cast-t7 : tie.Need-cast-t7
+cast-t7 c = search needs
+
+put-numbers-requires : tie.Need-put-numbers-requires
+unfolding sum
+put-numbers-requires c κs = omega arith
 
 same-length : tie.Need-same-length
 same-length c = search needs
 
 returns : tie.Need-returns
-returns c = search (needs, mark-blocks)
+returns c = search (needs, mark-put)
 
 pub put-mark-spec : {M : Type 1} → statement M
 put-mark-spec =
-    tie.close (tie.spec put8-requires add-put-marked put-marked-requires same-length returns)
+    tie.close (tie.spec cast-t5 cast-t6 cast-t7 put-numbers-requires same-length returns)

@@ -1,25 +1,19 @@
-use Rattle.record.specs.Blocks.{yellowHeadBytes}
-use Rattle.record.proofs.WriterBlocks.{blocks}
+use native.Mathlib.Omega.{arith}
+use Rattle.base.specs.Lists.{sum}
+use Rattle.record.proofs.WriterNumbers.{yellow-put}
 use borrow.Author.Needs.{needs}
 use Rattle.record.proofs.blocks.put_yellow_head.Statement.{statement}
 use Rattle.record.proofs.blocks.put_yellow_head.Tie as tie
 
-put8-requires : tie.Need-put8-requires
-put8-requires c κs = search needs
-
-add-put16 : tie.Need-add-put16
-add-put16 c = search needs
-
-put16-requires : tie.Need-put16-requires
-put16-requires c κs = search needs
+put-numbers-requires : tie.Need-put-numbers-requires
+unfolding sum
+put-numbers-requires c κs = omega arith
 
 same-length : tie.Need-same-length
 same-length c = search needs
 
 returns : tie.Need-returns
-unfolding yellowHeadBytes
-returns c = search (needs, blocks)
+returns c = search (needs, yellow-put)
 
 pub put-yellow-head-spec : {M : Type 1} → statement M
-put-yellow-head-spec =
-    tie.close (tie.spec put8-requires add-put16 put16-requires same-length returns)
+put-yellow-head-spec = tie.close (tie.spec put-numbers-requires same-length returns)

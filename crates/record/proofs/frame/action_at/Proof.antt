@@ -18,8 +18,8 @@ add-num32 c = search needs
 num32-requires : tie.Need-num32-requires
 num32-requires c κs = search needs
 
-add-t8 : tie.Need-add-t8
-add-t8 c = search needs
+add-t9 : tie.Need-add-t9
+add-t9 c = search needs
 
 add-num8 : tie.Need-add-num8
 add-num8 c = search needs
@@ -27,8 +27,8 @@ add-num8 c = search needs
 num8-requires-2 : tie.Need-num8-requires-2
 num8-requires-2 c κs = search needs
 
-cast-t11 : tie.Need-cast-t11
-cast-t11 c = search needs
+cast-t12 : tie.Need-cast-t12
+cast-t12 c = search needs
 
 returns : tie.Need-returns
 returns c = search (needs, action-made)
@@ -42,8 +42,8 @@ action-at-spec =
     num16-requires
     add-num32
     num32-requires
-    add-t8
+    add-t9
     add-num8
     num8-requires-2
-    cast-t11
+    cast-t12
     returns)

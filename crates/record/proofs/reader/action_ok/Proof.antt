@@ -1,5 +1,6 @@
 use Rattle.record.proofs.Fields.{payload-law}
-use Rattle.record.specs.Events.{actionOf, PayloadInside}
+use Rattle.record.specs.Values.{actionOf}
+use Rattle.record.specs.Events.{actionFrom, PayloadInside}
 use Rattle.format.specs.Range.{actionOk}
 use Rattle.base.specs.Branches.{answers}
 use borrow.Author.Needs.{needs}
@@ -10,18 +11,18 @@ id-ok-requires : tie.Need-id-ok-requires
 id-ok-requires c κs = search needs
 
 returns : tie.Need-returns
-unfolding actionOk actionOf
+unfolding actionOk actionFrom actionOf
 returns c = search (needs, answers)
 
 length-ok-requires : tie.Need-length-ok-requires
 length-ok-requires c κs = search needs
 
 returns-2 : tie.Need-returns-2
-unfolding actionOk actionOf
+unfolding actionOk actionFrom actionOf
 returns-2 c = search (needs, answers)
 
 returns-3 : tie.Need-returns-3
-unfolding actionOk actionOf PayloadInside
+unfolding actionOk actionFrom actionOf PayloadInside
 returns-3 c = search (needs, answers, payload-law)
 
 pub action-ok-spec : {M : Type 1} → statement M

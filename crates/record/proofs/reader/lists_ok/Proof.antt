@@ -1,5 +1,6 @@
 use Rattle.record.specs.Reading.{listsOk}
-use Rattle.record.specs.Events.{stateOf}
+use Rattle.record.specs.Values.{stateOf}
+use Rattle.record.specs.Events.{stateFrom}
 use Rattle.record.specs.Context.{contextOf}
 use Rattle.base.specs.Branches.{answers}
 use borrow.Author.Needs.{needs}
@@ -13,15 +14,18 @@ cuts-ok-requires : tie.Need-cuts-ok-requires
 cuts-ok-requires c κs = search needs
 
 returns : tie.Need-returns
-unfolding listsOk stateOf contextOf
+unfolding listsOk stateFrom stateOf contextOf
 returns c = search (needs, answers)
+
+cast-ids-ok : tie.Need-cast-ids-ok
+cast-ids-ok c = search needs
 
 ids-ok-requires : tie.Need-ids-ok-requires
 ids-ok-requires c κs = search needs
 
 returns-2 : tie.Need-returns-2
-unfolding listsOk stateOf contextOf
+unfolding listsOk stateFrom stateOf contextOf
 returns-2 c = search (needs, answers)
 
 pub lists-ok-spec : {M : Type 1} → statement M
-lists-ok-spec = tie.close (tie.spec cast-n cuts-ok-requires returns ids-ok-requires returns-2)
+lists-ok-spec = tie.close (tie.spec cast-n cuts-ok-requires returns cast-ids-ok ids-ok-requires returns-2)

@@ -1,5 +1,5 @@
 use Rattle.record.specs.Reading.{numbersOk}
-use Rattle.record.specs.Events.{stateOf}
+use Rattle.record.specs.Values.{stateOf}
 use Rattle.record.specs.Context.{contextOf}
 use Rattle.base.specs.Tests.{tests}
 use Rattle.base.specs.Branches.{answers}

@@ -1,6 +1,5 @@
-use native.Mathlib.Omega.{arith}
-use lib.ListN.{length-take}
-use Rattle.record.proofs.WriterState.{state-filled}
+use Rattle.base.specs.Lists.{sum}
+use Rattle.record.proofs.WriterState.{cuts-given, ids-given, first-fits, second-fits, state-filled}
 use borrow.Author.Needs.{needs}
 use Rattle.record.proofs.writer.put_state.Statement.{statement}
 use Rattle.record.proofs.writer.put_state.Tie as tie
@@ -17,14 +16,31 @@ cast-m c = search needs
 mul-m : tie.Need-mul-m
 mul-m c = search needs
 
-slice-aggregate-put-blocks : tie.Need-slice-aggregate-put-blocks
-slice-aggregate-put-blocks c = simp length-take (omega arith)
+state-opening-requires : tie.Need-state-opening-requires
+state-opening-requires c κs = search needs
 
-slice-aggregate-put-blocks-2 : tie.Need-slice-aggregate-put-blocks-2
-slice-aggregate-put-blocks-2 c = simp length-take (omega arith)
+standing-requires : tie.Need-standing-requires
+standing-requires c κs = search needs
 
-put-blocks-requires : tie.Need-put-blocks-requires
-put-blocks-requires c κs = simp length-take (omega arith)
+slice-aggregate-put-block : tie.Need-slice-aggregate-put-block
+slice-aggregate-put-block c = search (needs, cuts-given)
+
+put-block-requires : tie.Need-put-block-requires
+unfolding sum
+put-block-requires c κs = search (needs, first-fits)
+
+add-put-block : tie.Need-add-put-block
+add-put-block c = search needs
+
+add-put-block-2 : tie.Need-add-put-block-2
+add-put-block-2 c = search needs
+
+slice-aggregate-put-block-2 : tie.Need-slice-aggregate-put-block-2
+slice-aggregate-put-block-2 c = search (needs, ids-given)
+
+put-block-requires-2 : tie.Need-put-block-requires-2
+unfolding sum
+put-block-requires-2 c κs = search (needs, second-fits)
 
 same-length : tie.Need-same-length
 same-length c = search needs
@@ -40,8 +56,13 @@ put-state-spec =
     mul-n
     cast-m
     mul-m
-    slice-aggregate-put-blocks
-    slice-aggregate-put-blocks-2
-    put-blocks-requires
+    state-opening-requires
+    standing-requires
+    slice-aggregate-put-block
+    put-block-requires
+    add-put-block
+    add-put-block-2
+    slice-aggregate-put-block-2
+    put-block-requires-2
     same-length
     returns)

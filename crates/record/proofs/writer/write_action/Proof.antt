@@ -1,41 +1,43 @@
-use Rattle.record.proofs.WriterRecords.{action-full, action-long, action-next}
+use Rattle.base.specs.Lists.{sum}
+use Rattle.record.proofs.WriterReturns.{block-fits, action-full, action-next}
 use borrow.Author.Needs.{needs}
 use Rattle.record.proofs.writer.write_action.Statement.{statement}
 use Rattle.record.proofs.writer.write_action.Tie as tie
 
-room-requires : tie.Need-room-requires
-room-requires c κs = search needs
+place-after-requires : tie.Need-place-after-requires
+place-after-requires c κs = search needs
+
+enum-told : tie.Need-enum-told
+enum-told c = search needs
+
+enum-told-2 : tie.Need-enum-told-2
+enum-told-2 c = search needs
 
 returns : tie.Need-returns
 returns c = search (needs, action-full)
 
-returns-2 : tie.Need-returns-2
-returns-2 c = search (needs, action-long)
+action-numbers-requires : tie.Need-action-numbers-requires
+action-numbers-requires c κs = search needs
 
-put-action-requires : tie.Need-put-action-requires
-put-action-requires c κs = search needs
-
-add-t6 : tie.Need-add-t6
-add-t6 c = search needs
-
-add-t12 : tie.Need-add-t12
-add-t12 c = search needs
+put-block-requires : tie.Need-put-block-requires
+unfolding sum
+put-block-requires c κs = search (needs, block-fits)
 
 same-length : tie.Need-same-length
 same-length c = search needs
 
-returns-3 : tie.Need-returns-3
-returns-3 c = search (needs, action-next)
+returns-2 : tie.Need-returns-2
+returns-2 c = search (needs, action-next)
 
 pub write-action-spec : {M : Type 1} → statement M
 write-action-spec =
     tie.close
     (tie.spec
-    room-requires
+    place-after-requires
+    enum-told
+    enum-told-2
     returns
-    returns-2
-    put-action-requires
-    add-t6
-    add-t12
+    action-numbers-requires
+    put-block-requires
     same-length
-    returns-3)
+    returns-2)

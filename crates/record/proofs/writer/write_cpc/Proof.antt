@@ -1,19 +1,27 @@
-use Rattle.record.proofs.WriterRecords.{cpc-full, cpc-next}
+use Rattle.base.specs.Lists.{sum}
+use Rattle.record.proofs.WriterReturns.{numbers-fit, cpc-full, cpc-next}
 use borrow.Author.Needs.{needs}
 use Rattle.record.proofs.writer.write_cpc.Statement.{statement}
 use Rattle.record.proofs.writer.write_cpc.Tie as tie
 
-room-requires : tie.Need-room-requires
-room-requires c κs = search needs
+place-after-requires : tie.Need-place-after-requires
+place-after-requires c κs = search needs
+
+enum-told : tie.Need-enum-told
+enum-told c = search needs
+
+enum-told-2 : tie.Need-enum-told-2
+enum-told-2 c = search needs
 
 returns : tie.Need-returns
 returns c = search (needs, cpc-full)
 
-put-opening-requires : tie.Need-put-opening-requires
-put-opening-requires c κs = search needs
+opening-requires : tie.Need-opening-requires
+opening-requires c κs = search needs
 
-add-t5 : tie.Need-add-t5
-add-t5 c = search needs
+put-numbers-requires : tie.Need-put-numbers-requires
+unfolding sum
+put-numbers-requires c κs = search (needs, numbers-fit)
 
 same-length : tie.Need-same-length
 same-length c = search needs
@@ -23,4 +31,13 @@ returns-2 c = search (needs, cpc-next)
 
 pub write-cpc-spec : {M : Type 1} → statement M
 write-cpc-spec =
-    tie.close (tie.spec room-requires returns put-opening-requires add-t5 same-length returns-2)
+    tie.close
+    (tie.spec
+    place-after-requires
+    enum-told
+    enum-told-2
+    returns
+    opening-requires
+    put-numbers-requires
+    same-length
+    returns-2)

@@ -1,41 +1,43 @@
-use Rattle.record.proofs.WriterRecords.{retransmission-full, retransmission-long, retransmission-next}
+use Rattle.base.specs.Lists.{sum}
+use Rattle.record.proofs.WriterReturns.{block-fits, retransmission-full, retransmission-next}
 use borrow.Author.Needs.{needs}
 use Rattle.record.proofs.writer.write_retransmission.Statement.{statement}
 use Rattle.record.proofs.writer.write_retransmission.Tie as tie
 
-room-requires : tie.Need-room-requires
-room-requires c κs = search needs
+place-after-requires : tie.Need-place-after-requires
+place-after-requires c κs = search needs
+
+enum-told : tie.Need-enum-told
+enum-told c = search needs
+
+enum-told-2 : tie.Need-enum-told-2
+enum-told-2 c = search needs
 
 returns : tie.Need-returns
 returns c = search (needs, retransmission-full)
 
-returns-2 : tie.Need-returns-2
-returns-2 c = search (needs, retransmission-long)
+retransmission-numbers-requires : tie.Need-retransmission-numbers-requires
+retransmission-numbers-requires c κs = search needs
 
-put-retransmission-requires : tie.Need-put-retransmission-requires
-put-retransmission-requires c κs = search needs
-
-add-t8 : tie.Need-add-t8
-add-t8 c = search needs
-
-add-t14 : tie.Need-add-t14
-add-t14 c = search needs
+put-block-requires : tie.Need-put-block-requires
+unfolding sum
+put-block-requires c κs = search (needs, block-fits)
 
 same-length : tie.Need-same-length
 same-length c = search needs
 
-returns-3 : tie.Need-returns-3
-returns-3 c = search (needs, retransmission-next)
+returns-2 : tie.Need-returns-2
+returns-2 c = search (needs, retransmission-next)
 
 pub write-retransmission-spec : {M : Type 1} → statement M
 write-retransmission-spec =
     tie.close
     (tie.spec
-    room-requires
+    place-after-requires
+    enum-told
+    enum-told-2
     returns
-    returns-2
-    put-retransmission-requires
-    add-t8
-    add-t14
+    retransmission-numbers-requires
+    put-block-requires
     same-length
-    returns-3)
+    returns-2)

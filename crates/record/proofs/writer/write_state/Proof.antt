@@ -1,65 +1,37 @@
-use Rattle.record.proofs.WriterState.{state-cuts, state-ids, state-full, state-next}
+use Rattle.record.proofs.WriterState.{state-room, state-full, state-next}
 use borrow.Author.Needs.{needs}
 use Rattle.record.proofs.writer.write_state.Statement.{statement}
 use Rattle.record.proofs.writer.write_state.Tie as tie
 
-cast-n : tie.Need-cast-n
-cast-n c = search needs
+state-place-requires : tie.Need-state-place-requires
+state-place-requires c κs = search needs
 
-mul-n : tie.Need-mul-n
-mul-n c = search needs
+enum-told : tie.Need-enum-told
+enum-told c = search needs
+
+enum-told-2 : tie.Need-enum-told-2
+enum-told-2 c = search needs
 
 returns : tie.Need-returns
-returns c = search (needs, state-cuts)
-
-cast-m : tie.Need-cast-m
-cast-m c = search needs
-
-mul-m : tie.Need-mul-m
-mul-m c = search needs
-
-returns-2 : tie.Need-returns-2
-returns-2 c = search (needs, state-ids)
-
-add-size : tie.Need-add-size
-add-size c = search needs
-
-add-size-2 : tie.Need-add-size-2
-add-size-2 c = search needs
-
-room-requires : tie.Need-room-requires
-room-requires c κs = search needs
-
-returns-3 : tie.Need-returns-3
-returns-3 c = search (needs, state-full)
+returns c = search (needs, state-full)
 
 put-state-requires : tie.Need-put-state-requires
-put-state-requires c κs = search needs
-
-add-t9 : tie.Need-add-t9
-add-t9 c = search needs
+put-state-requires c κs = search (needs, state-room)
 
 same-length : tie.Need-same-length
 same-length c = search needs
 
-returns-4 : tie.Need-returns-4
-returns-4 c = search (needs, state-next)
+returns-2 : tie.Need-returns-2
+returns-2 c = search (needs, state-next)
 
 pub write-state-spec : {M : Type 1} → statement M
 write-state-spec =
     tie.close
     (tie.spec
-    cast-n
-    mul-n
+    state-place-requires
+    enum-told
+    enum-told-2
     returns
-    cast-m
-    mul-m
-    returns-2
-    add-size
-    add-size-2
-    room-requires
-    returns-3
     put-state-requires
-    add-t9
     same-length
-    returns-4)
+    returns-2)

@@ -24,14 +24,8 @@ state-requires c κs = search (needs, state-placed)
 enum-known-v-4 : tie.Need-enum-known-v-4
 enum-known-v-4 c = search needs
 
-slice-aggregate-pair : tie.Need-slice-aggregate-pair
-slice-aggregate-pair c = search needs
-
 cast-pair : tie.Need-cast-pair
 cast-pair c = search needs
-
-slice-aggregate-pair-2 : tie.Need-slice-aggregate-pair-2
-slice-aggregate-pair-2 c = search needs
 
 cast-pair-2 : tie.Need-cast-pair-2
 cast-pair-2 c = search needs
@@ -42,14 +36,8 @@ pair-requires c κs = search needs
 enum-known-v-5 : tie.Need-enum-known-v-5
 enum-known-v-5 c = search needs
 
-slice-aggregate-pair-3 : tie.Need-slice-aggregate-pair-3
-slice-aggregate-pair-3 c = search needs
-
 cast-pair-3 : tie.Need-cast-pair-3
 cast-pair-3 c = search needs
-
-slice-aggregate-pair-4 : tie.Need-slice-aggregate-pair-4
-slice-aggregate-pair-4 c = search needs
 
 cast-pair-4 : tie.Need-cast-pair-4
 cast-pair-4 c = search needs
@@ -60,32 +48,23 @@ pair-requires-2 c κs = search needs
 enum-known-v-6 : tie.Need-enum-known-v-6
 enum-known-v-6 c = search needs
 
-slice-aggregate-number : tie.Need-slice-aggregate-number
-slice-aggregate-number c = search needs
+cast-transitional : tie.Need-cast-transitional
+cast-transitional c = search needs
 
-cast-number : tie.Need-cast-number
-cast-number c = search needs
-
-number-requires : tie.Need-number-requires
-number-requires c κs = search needs
+transitional-requires : tie.Need-transitional-requires
+transitional-requires c κs = search needs
 
 enum-known-v-7 : tie.Need-enum-known-v-7
 enum-known-v-7 c = search needs
 
-slice-aggregate-part : tie.Need-slice-aggregate-part
-slice-aggregate-part c = search needs
-
-part-requires : tie.Need-part-requires
-part-requires c κs = search (needs, request-placed)
+request-requires : tie.Need-request-requires
+request-requires c κs = search (needs, request-placed)
 
 enum-told : tie.Need-enum-told
 enum-told c = search needs
 
-slice-aggregate-write-all : tie.Need-slice-aggregate-write-all
-slice-aggregate-write-all c = search needs
-
-write-all-requires : tie.Need-write-all-requires
-write-all-requires c κs = search needs
+name-requires : tie.Need-name-requires
+name-requires c κs = search needs
 
 returns : tie.Need-returns
 returns c = search needs
@@ -122,27 +101,20 @@ event-spec =
     enum-known-v-3
     state-requires
     enum-known-v-4
-    slice-aggregate-pair
     cast-pair
-    slice-aggregate-pair-2
     cast-pair-2
     pair-requires
     enum-known-v-5
-    slice-aggregate-pair-3
     cast-pair-3
-    slice-aggregate-pair-4
     cast-pair-4
     pair-requires-2
     enum-known-v-6
-    slice-aggregate-number
-    cast-number
-    number-requires
+    cast-transitional
+    transitional-requires
     enum-known-v-7
-    slice-aggregate-part
-    part-requires
+    request-requires
     enum-told
-    slice-aggregate-write-all
-    write-all-requires
+    name-requires
     returns
     returns-2
     returns-3

@@ -1,0 +1,25 @@
+-- From a buffer that holds a state to the image of another.
+-- Assumes nothing.
+use Prim.Native.Nat.{ℕ}
+use mathlib.Core.Path.{_≡_, ap, ap₂, _∙_}
+use mathlib.Core.List.{List, _++_}
+use Rattle.base.specs.Bytes.{joined}
+use Rattle.base.specs.Patched.{patched}
+use Rattle.replication.specs.Machine.Types.{Server}
+use Rattle.engine.specs.Layout.{sections, stateLength}
+use Rattle.engine.specs.Image.{parts, image}
+use Rattle.queue.proofs.Inside.{Changed}
+
+-- Where the parts have become those of t.
+pub changed-image : (t : Server) (ps : List (List ℕ)) (old b : List ℕ) → Changed (sections (t .servers) (t .quota)) ps old b
+    → ps ≡ parts (t .servers) (t .quota) t old → b ≡ image t old
+unfolding image stateLength
+changed-image t ps old b c e =
+    c .laid .whole ∙ ap₂ {A = List (List ℕ)} {B = List ℕ} {C = List ℕ} (λ xs r. joined xs ++ r) e (c .rest)
+
+-- Two stores, one after the other.
+pub two-stores : (at i : ℕ) (x y b b₁ b₂ : List ℕ) → b₁ ≡ patched at x b → b₂ ≡ patched i y b₁ → b₂ ≡ patched i y (patched at x b)
+two-stores at i x y b b₁ b₂ e f = f ∙ ap (patched i y) e
+
+pub three-stores : (at i j : ℕ) (x y z b b₁ b₂ : List ℕ) → b₁ ≡ patched at x b → b₂ ≡ patched j z (patched i y b₁) → b₂ ≡ patched j z (patched i y (patched at x b))
+three-stores at i j x y z b b₁ b₂ e f = f ∙ ap (λ (l : List ℕ). patched j z (patched i y l)) e

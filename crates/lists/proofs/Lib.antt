@@ -1,0 +1,9 @@
+pub mod Changes
+pub mod Fields
+pub mod Counts
+pub mod YellowLaws
+pub mod NumberLaws
+pub mod MembershipLaws
+pub mod RequestLaws
+pub mod NoteLaws
+pub mod StateLaws

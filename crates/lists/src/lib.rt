@@ -1,0 +1,9 @@
+// The lists of a state in its buffer, changed in place.
+
+pub mod numbers; // numbers.rt: numbers alone
+pub mod yellow; // yellow.rt: the yellow list
+pub mod membership; // membership.rt: state and configurations
+pub mod votes; // votes.rt: mark and yellow status
+pub mod requests; // requests.rt: numbered and held requests
+pub mod notes; // notes.rt: noted lengths
+pub mod states; // states.rt: collected States

@@ -1,0 +1,120 @@
+// Requests in a state's buffer: numbered ones on the own list, and held ones.
+ghost use mathlib.Core.Path.{_≡_};
+ghost use mathlib.Core.Bool.{true};
+ghost use mathlib.Core.List.{[], _∷_};
+ghost use Prim.Native.Nat.{_+_, _*_, _≤_, _<_};
+ghost use lib.ListN.{length};
+ghost use Rattle.base.specs.Bytes.{bytesOf, numberAt};
+ghost use Rattle.base.specs.Patched.{patched};
+ghost use Rattle.format.specs.Limits.{mostHeld};
+ghost use Rattle.format.specs.Range.{payloadOk};
+ghost use Rattle.format.specs.Write.{actionBytes, payloadBytes};
+ghost use Rattle.record.specs.Values.{actionOf};
+ghost use Rattle.replication.specs.Machine.Types.{Server};
+ghost use Rattle.replication.specs.Machine.Requests.{quotaLeft, numbered as withNumbered, hold as withHeld};
+ghost use Rattle.engine.specs.Layout.{heldSize, slotSize, theHeld, theOwn};
+ghost use Rattle.engine.specs.Image.{slot, image};
+ghost use Rattle.engine.proofs.InPlace.{Holds};
+ghost use Rattle.lists.specs.Lists.{CountsIn, PayloadRoom, SlotRoom, nextHead, place};
+use engine::places::held_at;
+use engine::places::own_at;
+use engine::starting::clear;
+use queue::slots::put_slot;
+use record::ActionHead;
+use record::bytes::num8;
+use record::bytes::num16;
+use record::bytes::num32;
+use stores::put_payload;
+use stores::put16;
+
+// Where the own list begins: there is room for one action more.
+fn own_place(state: &[u8]) -> usize
+    requires { ⌜ CountsIn (now state) ⌝ }
+    ensures { λ r. ⌜ (r ≡ place theOwn (now (state .entry))) × (r + (56 * numberAt 2 (now (state .entry)) 29 + 56) ≤ length (now (state .entry))) × (numberAt 2 (now (state .entry)) 29 ≤ 256) × (numberAt 2 (now (state .entry)) 27 ≤ 256) × (60 ≤ length (now (state .entry))) ⌝ }
+{
+    own_at(num8(state, 0) as u32, num16(state, 1) as u32) as usize
+}
+
+// The next own action but its payload.
+fn next_head(state: &[u8]) -> ActionHead
+    requires { ⌜ (numberAt 2 (now state) 27 ≤ 256) × (60 ≤ length (now state)) ⌝ }
+    ensures { λ r. ⌜ r ≡ nextHead (now (state .entry)) ⌝ }
+{
+    ActionHead {
+        creator: num8(state, 3),
+        index: num16(state, 27) + 1,
+        green_length: num32(state, 23),
+    }
+}
+
+fn put_counts(state: &mut [u8], numbered: u16, own: u16)
+    requires { ⌜ 60 ≤ length (now state) ⌝ }
+    ensures { λ _. ⌜ now (state .exit) ≡ patched 29 (bytesOf 2 own) (patched 27 (bytesOf 2 numbered) (now (state .entry))) ⌝ }
+{
+    put16(state, 27, numbered);
+    put16(state, 29, own);
+}
+
+// An action's slot at `at`, and the counts.
+fn push_own(state: &mut [u8], at: usize, head: ActionHead, payload: &[u8], numbered: u16, own: u16)
+    requires { ⌜ SlotRoom slotSize at (now payload) (now state) ⌝ }
+    ensures { λ _. ⌜ now (state .exit) ≡ patched 29 (bytesOf 2 own) (patched 27 (bytesOf 2 numbered) (patched at (slot slotSize (actionBytes (actionOf head (now (payload .entry))))) (now (state .entry)))) ⌝ }
+{
+    put_slot(state, at, head, payload);
+    put_counts(state, numbered, own);
+}
+
+// "numbered, put on the own list"
+pub fn number(state: &mut [u8], payload: &[u8])
+    requires { ⌜ PayloadRoom (now payload) (now state) ⌝ }
+    ensures { λ _. ⌜ ((s : Server) → Holds s (now (state .entry)) → quotaLeft s ≡ true → now (state .exit) ≡ image (withNumbered (now (payload .entry) ∷ []) s) (now (state .entry))) ⌝ }
+{
+    let at = own_place(state);
+    let own = num16(state, 29);
+    let numbered = num16(state, 27);
+    let head = next_head(state);
+    push_own(
+        state,
+        at + 56 * own as usize,
+        head,
+        payload,
+        numbered + 1,
+        own + 1,
+    );
+}
+
+// Where the held requests begin: there is room for one more.
+fn held_place(state: &[u8]) -> usize
+    requires { ⌜ CountsIn (now state) ⌝ }
+    ensures { λ r. ⌜ (r ≡ place theHeld (now (state .entry))) × (r + (49 * numberAt 2 (now (state .entry)) 31 + 49) ≤ length (now (state .entry))) × (numberAt 2 (now (state .entry)) 31 ≤ 16) × (60 ≤ length (now (state .entry))) ⌝ }
+{
+    held_at(num8(state, 0) as u32, num16(state, 1) as u32) as usize
+}
+
+// A held request's slot from `at` on: its payload, filled up with zeros.
+fn put_held(state: &mut [u8], at: usize, payload: &[u8])
+    requires { ⌜ SlotRoom heldSize at (now payload) (now state) ⌝ }
+    ensures { λ _. ⌜ now (state .exit) ≡ patched at (slot heldSize (payloadBytes (now (payload .entry)))) (now (state .entry)) ⌝ }
+{
+    put_payload(state, at, payload);
+    clear(state, at + (1 + payload.len()), 48 - payload.len());
+}
+
+// The same, and the count.
+fn push_held(state: &mut [u8], at: usize, payload: &[u8], count: u16)
+    requires { ⌜ SlotRoom heldSize at (now payload) (now state) ⌝ }
+    ensures { λ _. ⌜ now (state .exit) ≡ patched 31 (bytesOf 2 count) (patched at (slot heldSize (payloadBytes (now (payload .entry)))) (now (state .entry))) ⌝ }
+{
+    put_held(state, at, payload);
+    put16(state, 31, count);
+}
+
+// "Elsewhere held"
+pub fn hold(state: &mut [u8], payload: &[u8])
+    requires { ⌜ PayloadRoom (now payload) (now state) ⌝ }
+    ensures { λ _. ⌜ ((s : Server) → Holds s (now (state .entry)) → length (s .held) < mostHeld → now (state .exit) ≡ image (withHeld (now (payload .entry)) s) (now (state .entry))) ⌝ }
+{
+    let at = held_place(state);
+    let count = num16(state, 31);
+    push_held(state, at + 49 * count as usize, payload, count + 1);
+}

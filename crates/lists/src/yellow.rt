@@ -1,0 +1,78 @@
+// The yellow list in a state's buffer.
+ghost use mathlib.Core.Path.{_≡_};
+ghost use mathlib.Core.Bool.{true};
+ghost use Prim.Native.Nat.{_+_, _*_, _≤_};
+ghost use lib.ListN.{length};
+ghost use Rattle.base.specs.Bytes.{bytesOf, numberAt};
+ghost use Rattle.base.specs.Patched.{patched};
+ghost use Rattle.format.specs.Range.{idOk, sameId, hasId};
+ghost use Rattle.format.specs.Read.{idAt, idsAt};
+ghost use Rattle.format.specs.Write.{idBytes};
+ghost use Rattle.record.specs.Values.{idOf};
+ghost use Rattle.replication.specs.Machine.Types.{Server, contextOf, withVotes};
+ghost use Rattle.replication.specs.Machine.Colours.{joinYellow};
+ghost use Rattle.engine.specs.Layout.{theYellow};
+ghost use Rattle.engine.specs.Image.{image};
+ghost use Rattle.engine.proofs.InPlace.{Holds};
+ghost use Rattle.lists.specs.Lists.{CountsIn, place};
+use engine::places::yellow_at;
+use record::bytes::num8;
+use record::bytes::num16;
+use stores::put_id;
+use stores::put16;
+
+// Whether the id at `at` is this one.
+fn is_id(e: &[u8], at: usize, creator: u8, index: u16) -> bool
+    requires { ⌜ at + 3 ≤ length (now e) ⌝ }
+    ensures { λ r. ⌜ r ≡ sameId (idOf creator index) (idAt (now (e .entry)) at) ⌝ }
+{
+    if creator != num8(e, at) {
+        return false;
+    }
+    index == num16(e, at + 1)
+}
+
+// Whether this id is one of the `count` ids from `at` on.
+fn has_id(e: &[u8], at: usize, count: usize, creator: u8, index: u16) -> bool
+    requires { ⌜ at + 3 * count ≤ length (now e) ⌝ }
+    ensures { λ r. ⌜ r ≡ hasId (idOf creator index) (idsAt count (now (e .entry)) at) ⌝ }
+{
+    let mut k: usize = 0;
+    while k < count {
+        if is_id(e, at + 3 * k, creator, index) {
+            return true;
+        }
+        k += 1;
+    }
+    false
+}
+
+// Where the yellow list begins: there is room for one id more.
+fn yellow_place(state: &[u8]) -> usize
+    requires { ⌜ CountsIn (now state) ⌝ }
+    ensures { λ r. ⌜ (r ≡ place theYellow (now (state .entry))) × (r + (3 * numberAt 2 (now (state .entry)) 58 + 3) ≤ length (now (state .entry))) × (numberAt 2 (now (state .entry)) 58 ≤ 2048) × (60 ≤ length (now (state .entry))) ⌝ }
+{
+    yellow_at(num8(state, 0) as u32, num16(state, 1) as u32) as usize
+}
+
+// An id at `at`, and the count.
+fn add_id(state: &mut [u8], at: usize, count: u16, creator: u8, index: u16)
+    requires { ⌜ (60 ≤ length (now state)) × (at + 3 ≤ length (now state)) × (count ≤ 2048) ⌝ }
+    ensures { λ _. ⌜ now (state .exit) ≡ patched 58 (bytesOf 2 (count + 1)) (patched at (idBytes (idOf creator index)) (now (state .entry))) ⌝ }
+{
+    put_id(state, at, creator, index);
+    put16(state, 58, count + 1);
+}
+
+// "its id joins the yellow list": one that is already there has joined.
+pub fn join_yellow(state: &mut [u8], creator: u8, index: u16)
+    requires { ⌜ CountsIn (now state) ⌝ }
+    ensures { λ _. ⌜ ((s : Server) → Holds s (now (state .entry)) → idOk (contextOf s) (idOf creator index) ≡ true → now (state .exit) ≡ image (withVotes (joinYellow (idOf creator index) (s .votes)) s) (now (state .entry))) ⌝ }
+{
+    let at = yellow_place(state);
+    let count = num16(state, 58);
+    if has_id(state, at, count as usize, creator, index) {
+        return;
+    }
+    add_id(state, at + 3 * count as usize, count, creator, index);
+}

@@ -1,0 +1,119 @@
+-- An action is entered in the buffer.
+-- Assumes nothing.
+use Prim.Native.Nat.{ℕ, zero, suc, _+_, _*_, _-_, _≤_, _<_}
+use mathlib.Core.Path.{_≡_, refl, sym, ap, ap₂, subst, _∙_}
+use mathlib.Core.Bool.{true, false}
+use mathlib.Core.List.{List, [], _∷_, _++_, append-assoc, map}
+use native.Mathlib.Omega.{arith}
+use lib.ListN.{length, getD, take, drop, set, length-append}
+use lib.Seq.{take-at, drop-at, take-take}
+use Rattle.base.specs.Bytes.{bytesOf, numberAt, partAt, joined}
+use Rattle.base.specs.BytesLaws.{bytes-length}
+use Rattle.base.specs.Lists.{sum, above}
+use Rattle.base.specs.ListLaws.{Each, each-always, each-map, above-next}
+use Rattle.base.specs.Patched.{patched}
+use Rattle.base.specs.Tests.{pick}
+use Rattle.base.specs.Sections.{Sized, Laid, sized-set, laid-part}
+use Rattle.format.specs.Types.{Id, Action}
+use Rattle.format.specs.Range.{sameId}
+use Rattle.format.specs.Write.{cutsBytes, actionBytes}
+use Rattle.format.proofs.Lengths.{cuts-length}
+use Rattle.replication.specs.Machine.Types.{Log, Server, withLog}
+use Rattle.replication.specs.Machine.Colours.{cut, remove, isNext, enter}
+use Rattle.replication.specs.Machine.WellFormed.{idsIn, queue}
+use Rattle.replication.specs.Machine.WellFormedFacts.{OwnListFits}
+use Rattle.replication.proofs.Step.Logs.{next-index}
+use Rattle.replication.proofs.WellFormed.Ids.{same-id-yes, same-id-no}
+use Rattle.replication.proofs.WellFormed.Held.{remove-absent}
+use Rattle.replication.proofs.WellFormed.Logs.{ownId, enter-fits}
+use Rattle.replication.proofs.WellFormed.RuleFacts.{Delivered}
+use Rattle.engine.specs.Layout.{slotSize, theHeader, theCuts, theOwn, theQueue, sections, offset}
+use Rattle.engine.specs.Image.{over, slot, headerBytes, actionSlots, section, parts, image}
+use Rattle.engine.proofs.InRange.{in-range}
+use Rattle.engine.proofs.Used.{ActionFits, action-slot-length, action-slots-length}
+use Rattle.engine.proofs.Fit.{SectionsFit, well-formed-fits}
+use Rattle.engine.proofs.InPlace.{Holds, holds-section}
+use Rattle.record.specs.declared.ActionHead.{ActionHead}
+use Rattle.record.specs.Values.{idOf, actionOf}
+use Rattle.queue.specs.Queue.{appended, queued, popped, CountsIn, RoomFor}
+use Rattle.queue.proofs.Inside.{Changed, changed-at, over-extended, over-changed, over-front}
+use Rattle.queue.proofs.Fields.{fieldSizes, fields, header-fields, fields-sized, field-changed, theQueueCount, theOwnCount}
+use Rattle.queue.proofs.SlotLaws.{slots-append, slots-one, slots-cons, cut-set}
+use Rattle.queue.proofs.Holding.{log-formed, log-fits, Numbers, numbers, holds-counts, holds-changed, log-image}
+
+-- ---- the header
+
+pub one-more : (a : Action) (l : Log) → length (queue (enter a l)) ≡ length (queue l) + 1
+unfolding queue enter
+one-more a l =
+    length-append (l .green) (l .red ++ (a ∷ [])) ∙ omega (arith, length-append (l .green) (l .red), length-append (l .red) (a ∷ []))
+
+-- The counts of the queue and of the own list.
+header-counts : (s : Server) (u v : List ℕ) → length u ≡ 4 → length v ≡ 2
+    → (patched 19 u (headerBytes s) ≡ joined (set (fields s) theQueueCount u))
+    × (patched 29 v (joined (set (fields s) theQueueCount u)) ≡ joined (set (set (fields s) theQueueCount u) theOwnCount v))
+unfolding sum
+header-counts s u v e f = (
+  ap (patched 19 u) (header-fields s) ∙ field-changed (fields s) theQueueCount u (fields-sized s) (omega arith) e,
+  field-changed (set (fields s) theQueueCount u) theOwnCount v (sized-set fieldSizes (fields s) theQueueCount u (fields-sized s) e) (omega arith) f,
+)
+
+pub header-entered : (s : Server) (a : Action) → length (remove (a .id) (s .log .own)) ≡ length (s .log .own)
+    → patched 19 (bytesOf 4 (length (queue (s .log)) + 1)) (headerBytes s) ≡ headerBytes (withLog (enter a (s .log)) s)
+unfolding enter
+header-entered s a e =
+    let t : Server = withLog (enter a (s .log)) s in
+    let u : List ℕ = bytesOf 4 (length (queue (s .log)) + 1) in
+    let m : length (queue (s .log)) + 1 ≡ length (queue (t .log)) = sym (one-more a (s .log)) in
+    header-counts s u (bytesOf 2 0) (bytes-length 4 _) (bytes-length 2 _) .0
+    ∙ ap₂ {A = ℕ} {B = ℕ} {C = List ℕ} (λ i j. joined (set (set (fields s) theQueueCount (bytesOf 4 i)) theOwnCount (bytesOf 2 j))) m (sym e)
+    ∙ sym (header-fields t)
+
+pub header-left : (s : Server) (a : Action) (k : ℕ) → k ≡ length (remove (a .id) (s .log .own))
+    → patched 29 (bytesOf 2 k) (patched 19 (bytesOf 4 (length (queue (s .log)) + 1)) (headerBytes s)) ≡ headerBytes (withLog (enter a (s .log)) s)
+unfolding enter
+header-left s a k e =
+    let t : Server = withLog (enter a (s .log)) s in
+    let u : List ℕ = bytesOf 4 (length (queue (s .log)) + 1) in
+    let m : length (queue (s .log)) + 1 ≡ length (queue (t .log)) = sym (one-more a (s .log)) in
+    let x = header-counts s u (bytesOf 2 k) (bytes-length 4 _) (bytes-length 2 _) in
+    ap (patched 29 (bytesOf 2 k)) (x .0)
+    ∙ x .1
+    ∙ ap₂ {A = ℕ} {B = ℕ} {C = List ℕ} (λ i j. joined (set (set (fields s) theQueueCount (bytesOf 4 i)) theOwnCount (bytesOf 2 j))) m e
+    ∙ sym (header-fields t)
+
+-- ---- the sections
+
+joins : (a : Action) (l : Log) → queue l ++ (a ∷ []) ≡ queue (enter a l)
+unfolding queue enter
+joins a l = append-assoc (l .green) (l .red) (a ∷ [])
+
+pub queue-entered : (a : Action) (l : Log) (k : ℕ) (x : List ℕ) → Each ActionFits (queue l) → k ≡ slotSize * length (queue l)
+    → patched k (slot slotSize (actionBytes a)) (over (actionSlots (queue l)) x) ≡ over (actionSlots (queue (enter a l))) x
+queue-entered a l k x f e =
+    ap (λ (m : ℕ). patched m (slot slotSize (actionBytes a)) (over (actionSlots (queue l)) x)) (e ∙ sym (action-slots-length (queue l) f))
+    ∙ over-extended (actionSlots (queue l)) (slot slotSize (actionBytes a)) x
+    ∙ ap (λ (y : List ℕ). over y x)
+    (ap (λ (y : List ℕ). actionSlots (queue l) ++ y) (sym (slots-one a)) ∙ sym (slots-append (queue l) (a ∷ [])) ∙ ap actionSlots (joins a l))
+
+pub cuts-entered : (a : Action) (l : Log) (x : List ℕ) → a .id .creator < length (l .cuts)
+    → patched (2 * a .id .creator) (bytesOf 2 (a .id .index)) (over (cutsBytes (l .cuts)) x) ≡ over (cutsBytes ((enter a l) .cuts)) x
+unfolding enter
+cuts-entered a l x h =
+    over-changed (cutsBytes (l .cuts)) (bytesOf 2 (a .id .index)) x (2 * a .id .creator)
+    (omega (arith, cuts-length (l .cuts), bytes-length 2 (a .id .index)))
+    ∙ ap (λ (y : List ℕ). over y x) (cut-set (l .cuts) (a .id .creator) (a .id .index) h)
+
+-- ---- the own list
+
+pub others-stay : (me : ℕ) (a : Action) (l : Log) → OwnListFits me l → (a .id .creator ≡ me → ⊥) → remove (a .id) (l .own) ≡ l .own
+others-stay me a l f c =
+    remove-absent (a .id) (l .own)
+    (rw (f .ids)
+    (each-map (λ x. sameId (a .id) x ≡ false) (ownId me) (above (cut l me) (l .numbered))
+    (each-always (λ i. sameId (a .id) (ownId me i) ≡ false) (λ i. same-id-no (a .id) (ownId me i) c) (above (cut l me) (l .numbered)))))
+
+-- The first of the own list leaves it.
+pub first-leaves : (d : Id) (x : Action) (rest : List Action) → x .id ≡ d → remove d (x ∷ rest) ≡ rest
+unfolding remove pick
+first-leaves d x rest e = let t : sameId d (x .id) ≡ true = same-id-yes d (x .id) (ap (λ y. y .creator) (sym e)) (ap (λ y. y .index) (sym e)) in rw t

@@ -1,0 +1,67 @@
+-- The search for an id, slot by slot.
+-- Assumes nothing.
+use Prim.Native.Nat.{ℕ, suc, _+_, _*_, _-_, _≤_, _<_}
+use mathlib.Core.Path.{_≡_, refl, sym, ap, _∙_}
+use mathlib.Core.Bool.{Bool, true, false}
+use mathlib.Core.List.{List, [], _∷_}
+use native.Mathlib.Omega.{arith}
+use lib.Dec.{eqb}
+use Rattle.base.specs.Tests.{_=?_, pick-yes, pick-no, and-eq, and-ne}
+use Rattle.base.specs.Branches.{told-eq}
+use Rattle.base.specs.Bytes.{numberAt}
+use Rattle.format.specs.Types.{Id, Action}
+use Rattle.format.specs.Range.{sameId}
+use Rattle.format.specs.Read.{idAt, actionAt}
+use Rattle.record.specs.Values.{idOf}
+use Rattle.engine.specs.Layout.{slotSize}
+use Rattle.engine.specs.Decode.{actionsAt}
+use Rattle.queue.specs.Queue.{position}
+
+-- ---- one slot
+
+pub other-creator : (c i x at : ℕ) (e : List ℕ) → x ≡ numberAt 1 e at → (c ≡ x → ⊥) → false ≡ sameId (idOf c i) (idAt e at)
+unfolding sameId idOf idAt
+other-creator c i x at e f n = and-ne c (numberAt 1 e at) _ (λ g. n (g ∙ sym f))
+
+pub same-creator : (c i x y at : ℕ) (e : List ℕ) → x ≡ numberAt 1 e at → c ≡ x → y ≡ numberAt 2 e (at + 1) → eqb i y ≡ sameId (idOf c i) (idAt e at)
+unfolding sameId idOf idAt
+same-creator c i x y at e f g h = and-eq c (numberAt 1 e at) _ _ (g ∙ f) (told-eq i y ∙ ap (λ (m : ℕ). i =? m) h)
+
+-- ---- all slots
+
+more : (d : Id) (e : List ℕ) (at k m : ℕ) → k < m
+    → actionsAt (m - k) e (at + slotSize * k) ≡ actionAt e (at + slotSize * k) ∷ actionsAt (m - (k + 1)) e (at + slotSize * (k + 1))
+unfolding actionsAt
+more d e at k m h =
+    let a : m - k ≡ suc (m - (k + 1)) = omega arith in
+    let b : at + slotSize * (k + 1) ≡ at + slotSize * k + slotSize = omega arith in
+    ap (λ (i : ℕ). actionsAt i e (at + slotSize * k)) a ∙ rw b
+
+pub find-start : (d : Id) (e : List ℕ) (at m : ℕ) → position d (actionsAt m e at) ≡ 0 + position d (actionsAt (m - 0) e (at + slotSize * 0))
+find-start d e at m =
+    let a : m - 0 ≡ m = omega arith in
+    let b : at + slotSize * 0 ≡ at = omega arith in
+    rw (a, b) (omega arith)
+
+pub find-found : (d : Id) (e : List ℕ) (at k m p : ℕ) (t : Bool) → k < m → t ≡ sameId d (idAt e (at + slotSize * k)) → t ≡ true
+    → p ≡ k + position d (actionsAt (m - k) e (at + slotSize * k)) → k ≡ p
+unfolding position actionAt
+find-found d e at k m p t h f g j =
+    let here : 0 ≡ position d (actionsAt (m - k) e (at + slotSize * k)) =
+    pick-yes (sameId d (idAt e (at + slotSize * k))) 0 0 _ (sym f ∙ g) refl ∙ sym (ap (position d) (more d e at k m h)) in
+    omega arith
+
+pub find-again : (d : Id) (e : List ℕ) (at k m p : ℕ) (t : Bool) → k < m → t ≡ sameId d (idAt e (at + slotSize * k)) → t ≡ false
+    → p ≡ k + position d (actionsAt (m - k) e (at + slotSize * k)) → p ≡ k + 1 + position d (actionsAt (m - (k + 1)) e (at + slotSize * (k + 1)))
+unfolding position actionAt
+find-again d e at k m p t h f g j =
+    let there : suc (position d (actionsAt (m - (k + 1)) e (at + slotSize * (k + 1)))) ≡ position d (actionsAt (m - k) e (at + slotSize * k)) =
+    pick-no (sameId d (idAt e (at + slotSize * k))) _ _ _ (sym f ∙ g) refl ∙ sym (ap (position d) (more d e at k m h)) in
+    omega arith
+
+pub find-end : (d : Id) (e : List ℕ) (at k m p : ℕ) → k ≤ m → m ≤ k → p ≡ k + position d (actionsAt (m - k) e (at + slotSize * k)) → m ≡ p
+unfolding position actionsAt
+find-end d e at k m p h l j =
+    let a : m - k ≡ 0 = omega arith in
+    let none : position d (actionsAt (m - k) e (at + slotSize * k)) ≡ 0 = ap (λ (i : ℕ). position d (actionsAt i e (at + slotSize * k))) a in
+    omega arith

@@ -1,0 +1,155 @@
+-- Entered and then green: one image over another.
+-- Assumes nothing.
+use Prim.Native.Nat.{ℕ, suc, _+_, _*_, _-_, _≤_, _<_}
+use mathlib.Core.Path.{_≡_, refl, sym, ap, ap₂, subst, _∙_}
+use mathlib.Core.Bool.{true}
+use mathlib.Core.List.{List, [], _∷_, _++_}
+use mathlib.Core.Option.{Option, none, some, Option·none-ne-some}
+use native.Mathlib.Omega.{arith}
+use lib.ListN.{length, getD, drop, length-append}
+use lib.Seq.{drop-at, drop-drop}
+use Rattle.base.specs.AtLaws.{some-same}
+use Rattle.base.specs.Tests.{_≤?_, Known, holds, fails, known, le-holds, le-fails}
+use Rattle.base.specs.Bytes.{joined}
+use Rattle.base.specs.Lists.{sum}
+use Rattle.format.specs.Types.{Id, Action}
+use Rattle.format.specs.Write.{cutsBytes, idsBytes}
+use Rattle.replication.specs.Machine.Types.{Log, Server, withLog}
+use Rattle.replication.specs.Machine.Colours.{find, remove, red, promote, greenId, green}
+use Rattle.replication.specs.Machine.WellFormed.{queue, wellFormed}
+use Rattle.replication.proofs.Step.Numbered.{numbered-red}
+use Rattle.replication.proofs.WellFormed.Held.{Greened, unmoved, moved, greened?}
+use Rattle.replication.proofs.WellFormed.Logs.{LogFits, red-fits, green-id-fits}
+use Rattle.replication.proofs.WellFormed.RuleFacts.{Delivered}
+use Rattle.engine.specs.Layout.{slotSize, stateSize, theCuts, theNoted, theHeld, theStates, theYellow, theOwn, theQueue, stateLength}
+use Rattle.engine.specs.Image.{over, headerBytes, notedBytes, statesOver, actionSlots, heldSlots, section, parts, image}
+use Rattle.engine.proofs.Used.{over-again, action-slots-length, states-over-again}
+use Rattle.engine.proofs.Fit.{SectionsFit, well-formed-fits, image-section, image-rest}
+use Rattle.engine.proofs.Again.{parts-again, image-twice}
+use Rattle.engine.proofs.InPlace.{Holds}
+use Rattle.record.specs.declared.ActionHead.{ActionHead}
+use Rattle.record.specs.Values.{idOf, actionOf}
+use Rattle.queue.specs.Queue.{position, CountsIn, RoomIfNext}
+use Rattle.queue.specs.Ready.{Ready}
+use Rattle.queue.proofs.Positions.{Stands, position-found, position-none}
+use Rattle.queue.proofs.Holding.{log-formed, log-fits, holds-counts, image-holds}
+use Rattle.queue.proofs.RedLaws.{room-if-next}
+
+-- What is no longer does not show.
+pub over-over : (y z l : List ℕ) → length y ≤ length z → over z (over y l) ≡ over z l
+unfolding over
+over-over y z l h =
+    let m : length y + (length z - length y) ≡ length z = omega arith in
+    ap (λ (r : List ℕ). z ++ r)
+    (ap (λ (k : ℕ). drop k (y ++ drop (length y) l)) (sym m)
+    ∙ sym (drop-drop (length z - length y) (length y) (y ++ drop (length y) l))
+    ∙ ap (drop (length z - length y)) (drop-at y (drop (length y) l) (length y) refl)
+    ∙ drop-drop (length z - length y) (length y) l
+    ∙ ap (λ (k : ℕ). drop k l) m)
+
+module _ (s : Server) (l m : Log) (b : List ℕ) (ok : wellFormed (withLog l s) ≡ true) (h : stateLength (s .servers) (s .quota) ≤ length b)
+    (cuts : length (cutsBytes (l .cuts)) ≤ length (cutsBytes (m .cuts))) (own : length (actionSlots (l .own)) ≤ length (actionSlots (m .own)))
+    (actions : length (actionSlots (queue l)) ≤ length (actionSlots (queue m))) where
+  part-of : (k : ℕ) (y z : List ℕ) → section (s .servers) (s .quota) k (image (withLog l s) b) ≡ over y (section (s .servers) (s .quota) k b) → length y ≤ length z
+      → over z (section (s .servers) (s .quota) k (image (withLog l s) b)) ≡ over z (section (s .servers) (s .quota) k b)
+  part-of k y z e f = ap (over z) e ∙ over-over y z (section (s .servers) (s .quota) k b) f
+
+  -- The image of a state with longer lists over that of another.
+  pub log-image-over : image (withLog m s) (image (withLog l s) b) ≡ image (withLog m s) b
+  unfolding image parts
+  log-image-over =
+      let u : Server = withLog l s in
+      let f = well-formed-fits u ok in
+      let same = parts-again u f b h in
+      let x = part-of theCuts (cutsBytes (l .cuts)) (cutsBytes (m .cuts)) (image-section u f b h theCuts (omega arith)) cuts in
+      let y = part-of theOwn (actionSlots (l .own)) (actionSlots (m .own)) (image-section u f b h theOwn (omega arith)) own in
+      let z = part-of theQueue (actionSlots (queue l)) (actionSlots (queue m)) (image-section u f b h theQueue (omega arith)) actions in
+      ap₂ {A = List (List ℕ)} {B = List ℕ} {C = List ℕ} (λ ps r. joined ps ++ r)
+      (λ i. headerBytes (withLog m s) ∷ x i ∷ getD (same i) theNoted [] ∷ getD (same i) theHeld [] ∷ getD (same i) theStates [] ∷ getD (same i) theYellow [] ∷ y i ∷ z i ∷ [])
+      (image-rest u f b h)
+
+promote-over : (s : Server) (x : Action) (l : Log) (b : List ℕ) → wellFormed (withLog l s) ≡ true → stateLength (s .servers) (s .quota) ≤ length b
+    → length (actionSlots (queue l)) ≤ length (actionSlots (queue (promote x l))) → image (withLog (promote x l) s) (image (withLog l s) b) ≡ image (withLog (promote x l) s) b
+unfolding promote
+promote-over s x l b ok h e = log-image-over s l (promote x l) b ok h (omega arith) (omega arith) e
+
+-- ---- turning green keeps the lists' lengths
+
+removed-count : (d : Id) (l : List Action) (x : Action) → find d l ≡ some x → suc (length (remove (x .id) l)) ≡ length l
+removed-count d l x e = go (known (length l ≤? position d l))
+  where
+    go : Known (length l ≤? position d l) → suc (length (remove (x .id) l)) ≡ length l
+    go (holds h) = absurd (Option·none-ne-some x (sym (position-none d l (le-holds _ _ h)) ∙ e))
+    go (fails h) =
+        let k = position-found d l (le-fails _ _ h) in
+        let same : k .it ≡ x = some-same (sym (k .found) ∙ e) in
+        let left : remove (x .id) l ≡ k .before ++ k .behind = ap (λ (y : Action). remove (y .id) l) (sym same) ∙ ap (λ (i : Id). remove i l) (sym (k .named)) ∙ k .left in
+        omega (arith, ap length left, length-append (k .before) (k .behind), ap length (k .whole), length-append (k .before) (k .it ∷ k .behind))
+
+promoted-count : (d : Id) (l : Log) (x : Action) → find d (l .red) ≡ some x → length (queue (promote x l)) ≡ length (queue l)
+unfolding queue promote
+promoted-count d l x e =
+    length-append (l .green ++ (x ∷ [])) (remove (x .id) (l .red))
+    ∙ omega (arith, length-append (l .green) (x ∷ []), removed-count d (l .red) x e, length-append (l .green) (l .red))
+
+numbered-kept : (d : Id) (l : Log) → (greenId d l) .numbered ≡ l .numbered
+unfolding promote
+numbered-kept d l = go (greened? d l)
+  where
+    go : Greened d l → (greenId d l) .numbered ≡ l .numbered
+    go (unmoved e) = ap (λ (m : Log). m .numbered) e
+    go (moved x found e kept) = ap (λ (m : Log). m .numbered) e
+
+pub green-over : (s : Server) (d : Id) (l : Log) (b : List ℕ) → wellFormed (withLog l s) ≡ true → wellFormed (withLog (greenId d l) s) ≡ true
+    → stateLength (s .servers) (s .quota) ≤ length b → image (withLog (greenId d l) s) (image (withLog l s) b) ≡ image (withLog (greenId d l) s) b
+green-over s d l b ok ok₂ h = go (greened? d l)
+  where
+    go : Greened d l → image (withLog (greenId d l) s) (image (withLog l s) b) ≡ image (withLog (greenId d l) s) b
+    go (unmoved e) =
+        ap (λ (m : Log). image (withLog m s) (image (withLog l s) b)) e
+        ∙ image-twice (withLog l s) (well-formed-fits (withLog l s) ok) b h
+        ∙ ap (λ (m : Log). image (withLog m s) b) (sym e)
+    go (moved x found e kept) =
+        let f = well-formed-fits (withLog l s) ok in
+        let g = well-formed-fits (withLog (promote x l) s) (ap (λ (m : Log). wellFormed (withLog m s)) (sym e) ∙ ok₂) in
+        let same : length (actionSlots (queue l)) ≡ length (actionSlots (queue (promote x l))) =
+        action-slots-length (queue l) (f .actions) ∙ ap (λ (k : ℕ). slotSize * k) (sym (promoted-count d l x found)) ∙ sym (action-slots-length (queue (promote x l)) (g .actions)) in
+        ap (λ (m : Log). image (withLog m s) (image (withLog l s) b)) e
+        ∙ promote-over s x l b ok h (omega arith)
+        ∙ ap (λ (m : Log). image (withLog m s) b) (sym e)
+
+-- ---- as the code makes it
+
+reddened : (s : Server) (a : Action) (b : List ℕ) → Holds s b → Delivered s a → wellFormed (withLog (red a (s .log)) s) ≡ true
+reddened s a b r d =
+    log-formed s (red a (s .log)) (r .formed) (red-fits (s .servers) (s .quota) (s .me) a (s .log) (log-fits s (r .formed)) (d .fits) (d .own)) (numbered-red a (s .log))
+
+red-holds : (s : Server) (a : Action) (b c : List ℕ) → Holds s b → Delivered s a → c ≡ image (withLog (red a (s .log)) s) b → Holds (withLog (red a (s .log)) s) c
+red-holds s a b c r d e =
+    subst (Holds (withLog (red a (s .log)) s)) (sym e) (image-holds s (withLog (red a (s .log)) s) b r refl refl (reddened s a b r d))
+
+module _ (h : ActionHead) (p b : List ℕ) where
+  pub ready-room : Ready (actionOf h p) b → RoomIfNext (h .creator) (h .index) (length p) b
+  unfolding actionOf idOf
+  ready-room r = room-if-next (r .state) (actionOf h p) b (r .holds) (r .delivered)
+
+  pub ready-counts : (c : List ℕ) → Ready (actionOf h p) b
+      → ((s : Server) → Holds s b → Delivered s (actionOf h p) → c ≡ image (withLog (red (actionOf h p) (s .log)) s) b) → CountsIn c
+  ready-counts c r f =
+      holds-counts (withLog (red (actionOf h p) (r .state .log)) (r .state)) c
+      (red-holds (r .state) (actionOf h p) b c (r .holds) (r .delivered) (f (r .state) (r .holds) (r .delivered)))
+
+  pub green-made : (c e : List ℕ) → ((s : Server) → Holds s b → Delivered s (actionOf h p) → c ≡ image (withLog (red (actionOf h p) (s .log)) s) b)
+      → ((t : Server) → Holds t c → e ≡ image (withLog (greenId (idOf (h .creator) (h .index)) (t .log)) t) c)
+      → (s : Server) → Holds s b → Delivered s (actionOf h p) → e ≡ image (withLog (green (actionOf h p) (s .log)) s) b
+  unfolding green actionOf
+  green-made c e f g s r d =
+      let a : Action = actionOf h p in
+      let l : Log = red a (s .log) in
+      let t : Server = withLog l s in
+      let held : Holds t c = red-holds s a b c r d (f s r d) in
+      let ok₂ : wellFormed (withLog (greenId (a .id) l) s) ≡ true =
+      log-formed t (greenId (a .id) l) (held .formed) (green-id-fits (s .servers) (s .quota) (s .me) (a .id) l (log-fits t (held .formed))) (numbered-kept (a .id) l) in
+      g t held
+      ∙ ap (image (withLog (greenId (a .id) l) s)) (f s r d)
+      ∙ green-over s (a .id) l b (held .formed) ok₂ (r .long)

@@ -1,0 +1,227 @@
+-- The buffer after an action turned green is the image of the new state.
+-- Assumes nothing.
+use Prim.Native.Nat.{ℕ, zero, suc, _+_, _*_, _-_, _≤_, _<_}
+use mathlib.Core.Path.{_≡_, refl, sym, ap, ap₂, subst, _∙_}
+use mathlib.Core.Bool.{true}
+use mathlib.Core.List.{List, [], _∷_, _++_, append-assoc}
+use mathlib.Core.Option.{Option, none, some}
+use native.Mathlib.Omega.{arith}
+use lib.ListN.{length, getD, take, drop, set, length-append}
+use lib.Seq.{take-at, drop-at}
+use Rattle.base.specs.Bytes.{bytesOf, numberAt, partAt, joined}
+use Rattle.base.specs.BytesLaws.{bytes-length}
+use Rattle.base.specs.Lists.{sum}
+use Rattle.base.specs.ListLaws.{Each, each-first, each-second}
+use Rattle.base.specs.Occurs.{Occurs, occurs-first, occurs-second}
+use Rattle.base.specs.Patched.{patched}
+use Rattle.base.specs.Sections.{laid-part}
+use Rattle.format.specs.Types.{Id, Action}
+use Rattle.format.specs.Write.{actionBytes}
+use Rattle.replication.specs.Machine.Types.{Log, Server, withLog}
+use Rattle.replication.specs.Machine.Colours.{find, remove, promote, promoteFound, greenId}
+use Rattle.replication.specs.Machine.WellFormed.{queue, wellFormed}
+use Rattle.replication.proofs.WellFormed.Logs.{LogFits, green-id-fits}
+use Rattle.engine.specs.Layout.{slotSize, theHeader, theQueue, sections, offset}
+use Rattle.engine.specs.Image.{over, slot, headerBytes, actionSlots, section, parts, image}
+use Rattle.engine.specs.Decode.{actionsAt, decodedAs, serversIn, quotaIn, decoded}
+use Rattle.engine.proofs.InRange.{in-range}
+use Rattle.engine.proofs.Used.{ActionFits, action-slot-length, action-slots-length}
+use Rattle.engine.proofs.Fit.{well-formed-fits, section-length}
+use Rattle.engine.proofs.Decoded.{image-part}
+use Rattle.engine.proofs.InPlace.{Holds, holds-section}
+use Rattle.record.specs.Values.{idOf}
+use Rattle.queue.specs.Queue.{position, queueAt, redsIn, promoted}
+use Rattle.queue.proofs.Inside.{Changed, changed-at, over-changed}
+use Rattle.queue.proofs.Fields.{fieldSizes, fields, header-fields, fields-sized, field-changed, theGreenCount}
+use Rattle.queue.proofs.SlotLaws.{slots-append, slots-one, slots-cons}
+use Rattle.queue.proofs.Positions.{Stands, position-found, position-none, actions-drop, actions-count}
+use Rattle.queue.proofs.Holding.{log-formed, log-fits, Numbers, numbers, holds-counts, holds-decoded, holds-changed, log-image}
+
+-- ---- lists
+
+pub patched-middle : (g y z v : List ℕ) → length y ≡ length z → patched (length g) y (g ++ (z ++ v)) ≡ g ++ (y ++ v)
+unfolding patched
+patched-middle g y z v e =
+    let m : length (g ++ z) ≡ length g + length y = length-append g z ∙ omega arith in
+    ap₂ {A = List ℕ} {B = List ℕ} {C = List ℕ} (λ u w. u ++ (y ++ w)) (take-at g (z ++ v) (length g) refl)
+    (ap (drop (length g + length y)) (sym (append-assoc g z v)) ∙ drop-at (g ++ z) v (length g + length y) m)
+
+pub used-part : (y l e : List ℕ) (at : ℕ) → Occurs (over y l) e at → Occurs y e at
+unfolding over
+used-part y l e at o = occurs-first y (drop (length y) l) e at o
+
+-- ---- the header
+
+header-promoted : (s : Server) (x : Action) → length (queue (promote x (s .log))) ≡ length (queue (s .log))
+    → patched 23 (bytesOf 4 (length (s .log .green) + 1)) (headerBytes s) ≡ headerBytes (withLog (promote x (s .log)) s)
+unfolding promote sum
+header-promoted s x e =
+    let t : Server = withLog (promote x (s .log)) s in
+    let m : length (s .log .green) + 1 ≡ length (t .log .green) = sym (length-append (s .log .green) (x ∷ [])) in
+    ap (patched 23 (bytesOf 4 (length (s .log .green) + 1))) (header-fields s)
+    ∙ field-changed (fields s) theGreenCount (bytesOf 4 (length (s .log .green) + 1)) (fields-sized s) (omega arith) (bytes-length 4 _)
+    ∙ ap₂ {A = ℕ} {B = ℕ} {C = List ℕ} (λ i j. joined (set (set (fields s) theGreenCount (bytesOf 4 i)) 9 (bytesOf 4 j))) m (sym e)
+    ∙ sym (header-fields t)
+
+-- ---- the queue's section
+
+module _ (s : Server) (b : List ℕ) (r : Holds s b) (d : Id) (k : ℕ) (k-th : Stands d (s .log .red) k) where
+  abbrev greens : List ℕ
+  greens = actionSlots (s .log .green)
+
+  abbrev before : List ℕ
+  before = actionSlots (k-th .before)
+
+  abbrev it : List ℕ
+  it = slot slotSize (actionBytes (k-th .it))
+
+  abbrev behind : List ℕ
+  behind = actionSlots (k-th .behind)
+
+  queue-slots : actionSlots (queue (s .log)) ≡ greens ++ (before ++ (it ++ behind))
+  unfolding queue
+  queue-slots =
+      slots-append (s .log .green) (s .log .red)
+      ∙ ap (λ (l : List ℕ). greens ++ l) (ap actionSlots (k-th .whole) ∙ slots-append (k-th .before) (k-th .it ∷ k-th .behind) ∙ ap (λ (l : List ℕ). before ++ l) (slots-cons (k-th .it) (k-th .behind)))
+
+  queue-slots-after : greens ++ ((it ++ before) ++ behind) ≡ actionSlots (queue (promote (k-th .it) (s .log)))
+  unfolding queue promote
+  queue-slots-after =
+      let rest : remove ((k-th .it) .id) (s .log .red) ≡ k-th .before ++ k-th .behind = ap (λ (e : Id). remove e (s .log .red)) (sym (k-th .named)) ∙ k-th .left in
+      sym
+      (slots-append (s .log .green ++ ((k-th .it) ∷ [])) (remove ((k-th .it) .id) (s .log .red))
+      ∙ ap₂ {A = List ℕ} {B = List ℕ} {C = List ℕ} (λ g l. g ++ l) (slots-append (s .log .green) ((k-th .it) ∷ []) ∙ ap (λ (l : List ℕ). greens ++ l) (slots-one (k-th .it)))
+      (ap actionSlots rest ∙ slots-append (k-th .before) (k-th .behind))
+      ∙ append-assoc greens it (before ++ behind)
+      ∙ ap (λ (l : List ℕ). greens ++ l) (sym (append-assoc it before behind)))
+
+  red-fits : Each ActionFits (k-th .before ++ ((k-th .it) ∷ k-th .behind))
+  unfolding queue
+  red-fits = subst (λ (l : List Action). Each ActionFits l) (k-th .whole) (each-second ActionFits (s .log .green) (s .log .red) (well-formed-fits s (r .formed) .actions))
+
+  green-size : length greens ≡ slotSize * length (s .log .green)
+  unfolding queue
+  green-size = action-slots-length (s .log .green) (each-first ActionFits (s .log .green) (s .log .red) (well-formed-fits s (r .formed) .actions))
+
+  before-size : length before ≡ slotSize * k
+  before-size = action-slots-length (k-th .before) (each-first ActionFits (k-th .before) ((k-th .it) ∷ k-th .behind) red-fits) ∙ ap (λ (m : ℕ). slotSize * m) (k-th .count)
+
+  it-size : length it ≡ slotSize
+  it-size = action-slot-length (k-th .it) (each-second ActionFits (k-th .before) ((k-th .it) ∷ k-th .behind) red-fits .0)
+
+  same-count : length (queue (promote (k-th .it) (s .log))) ≡ length (queue (s .log))
+  unfolding queue promote
+  same-count =
+      let rest : remove ((k-th .it) .id) (s .log .red) ≡ k-th .before ++ k-th .behind = ap (λ (e : Id). remove e (s .log .red)) (sym (k-th .named)) ∙ k-th .left in
+      length-append (s .log .green ++ ((k-th .it) ∷ [])) (remove ((k-th .it) .id) (s .log .red))
+      ∙ omega (
+        arith,
+        length-append (s .log .green) ((k-th .it) ∷ []),
+        ap length rest,
+        length-append (k-th .before) (k-th .behind),
+        length-append (s .log .green) (s .log .red),
+        ap length (k-th .whole),
+        length-append (k-th .before) ((k-th .it) ∷ k-th .behind),
+      )
+
+  -- The slots in the buffer.
+  queue-occurs : Occurs (greens ++ (before ++ (it ++ behind))) b (offset (s .servers) (s .quota) theQueue)
+  unfolding parts
+  queue-occurs =
+      let at : ℕ = offset (s .servers) (s .quota) theQueue in
+      let there = subst (λ (c : List ℕ). Occurs (over (actionSlots (queue (s .log))) (section (s .servers) (s .quota) theQueue b)) c at) (r .written) (image-part s (well-formed-fits s (r .formed)) b (r .long) theQueue (omega arith)) in
+      subst (λ (y : List ℕ). Occurs y b at) queue-slots (used-part (actionSlots (queue (s .log))) _ b at there)
+
+  abbrev greenEnd : ℕ
+  greenEnd = offset (s .servers) (s .quota) theQueue + slotSize * length (s .log .green)
+
+  reds-occur : Occurs (before ++ (it ++ behind)) b greenEnd
+  reds-occur = occurs-second greens (before ++ (it ++ behind)) b (offset (s .servers) (s .quota) theQueue) greenEnd (omega (arith, green-size)) queue-occurs
+
+  before-part : partAt (slotSize * k) b greenEnd ≡ before
+  before-part = ap (λ (m : ℕ). partAt m b greenEnd) (sym before-size) ∙ occurs-first before (it ++ behind) b greenEnd reds-occur .part
+
+  it-part : partAt slotSize b (greenEnd + slotSize * k) ≡ it
+  it-part =
+      let o = occurs-second before (it ++ behind) b greenEnd (greenEnd + slotSize * k) (omega (arith, before-size)) reds-occur in
+      ap (λ (m : ℕ). partAt m b (greenEnd + slotSize * k)) (sym it-size) ∙ occurs-first it behind b (greenEnd + slotSize * k) o .part
+
+  moved-size : length (it ++ before) ≡ slotSize + slotSize * k
+  moved-size = length-append it before ∙ omega (arith, it-size, before-size)
+
+  moved-room : length (s .log .green) + (k + 1) ≤ length (queue (s .log))
+  unfolding queue
+  moved-room =
+      omega (
+        arith,
+        length-append (s .log .green) (s .log .red),
+        ap length (k-th .whole),
+        length-append (k-th .before) (k-th .it ∷ k-th .behind),
+        k-th .count,
+      )
+
+  queue-promoted : (l : List ℕ)
+      → patched (slotSize * length (s .log .green)) (it ++ before) (over (actionSlots (queue (s .log))) l) ≡ over (actionSlots (queue (promote (k-th .it) (s .log)))) l
+  queue-promoted l =
+      let f = well-formed-fits s (r .formed) in
+      over-changed (actionSlots (queue (s .log))) (it ++ before) l (slotSize * length (s .log .green))
+      (omega (arith, moved-size, moved-room, action-slots-length (queue (s .log)) (f .actions)))
+      ∙ ap (λ (y : List ℕ). over y l)
+      (ap₂ {A = ℕ} {B = List ℕ} {C = List ℕ} (λ m y. patched m (it ++ before) y) (sym green-size) (queue-slots ∙ ap (λ (y : List ℕ). greens ++ y) (sym (append-assoc before it behind)))
+      ∙ patched-middle greens (it ++ before) (before ++ it) behind (length-append it before ∙ omega (arith, length-append before it))
+      ∙ queue-slots-after)
+
+  pub promoted-image : promoted greenEnd k (length (s .log .green) + 1) b ≡ image (withLog (promote (k-th .it) (s .log)) s) b
+  unfolding promoted promote parts sections offset sum
+  promoted-image =
+      let ws : List ℕ = sections (s .servers) (s .quota) in
+      let y : List ℕ = it ++ before in
+      let room : length (queue (s .log)) ≤ s .servers * s .quota = in-range s (r .formed) .queueCount in
+      let c₁ = changed-at ws _ b b (holds-changed s b r) theQueue (slotSize * length (s .log .green)) greenEnd y refl (omega arith) (omega (arith, moved-size, moved-room)) in
+      let c₂ = changed-at ws _ b (patched greenEnd y b) c₁ theHeader 23 23 (bytesOf 4 (length (s .log .green) + 1)) refl (omega arith) (omega (arith, bytes-length 4 (length (s .log .green) + 1))) in
+      ap₂ {A = List ℕ} {B = List ℕ} {C = List ℕ} (λ u v. patched 23 (bytesOf 4 (length (s .log .green) + 1)) (patched greenEnd (u ++ v) b)) it-part before-part
+      ∙ log-image s (promote (k-th .it) (s .log)) b _ _ _ _ _ c₂ (header-promoted s (k-th .it) same-count) refl refl (queue-promoted (section (s .servers) (s .quota) theQueue b))
+
+-- ---- as the code makes it
+
+pub reds-made : (b : List ℕ) (d : Id) (count green at k : ℕ) → count ≡ numberAt 4 b 19 - numberAt 4 b 23 → green ≡ numberAt 4 b 23 → at ≡ queueAt b
+    → k ≡ position d (actionsAt count b (at + slotSize * green)) → k ≡ position d (redsIn b)
+unfolding redsIn
+reds-made b d count green at k e f g j = j ∙ (λ i. position d (actionsAt (e i) b (g i + slotSize * f i)))
+
+-- The red actions, as they are read from the buffer.
+pub reds-read : (s : Server) (b : List ℕ) → Holds s b → redsIn b ≡ s .log .red
+unfolding redsIn decoded decodedAs serversIn quotaIn
+reds-read s b r =
+    sym (actions-drop (numberAt 4 b 23) (numberAt 4 b 19) b (queueAt b) (holds-counts s b r .green)) ∙ ap (λ (t : Server). t .log .red) (holds-decoded s b r)
+
+reds-counted : (s : Server) (b : List ℕ) → Holds s b → length (s .log .red) ≡ numberAt 4 b 19 - numberAt 4 b 23
+unfolding redsIn
+reds-counted s b r = ap length (sym (reds-read s b r)) ∙ actions-count (numberAt 4 b 19 - numberAt 4 b 23) b (queueAt b + slotSize * numberAt 4 b 23)
+
+module _ (b : List ℕ) (d : Id) (k count : ℕ) (j : k ≡ position d (redsIn b)) (e : count ≡ numberAt 4 b 19 - numberAt 4 b 23) where
+  position-known : (s : Server) → Holds s b → k ≡ position d (s .log .red)
+  position-known s r = j ∙ ap (position d) (reds-read s b r)
+
+  counted : (s : Server) → Holds s b → length (s .log .red) ≡ count
+  counted s r = reds-counted s b r ∙ sym e
+
+  pub green-passed : count ≤ k → (s : Server) → Holds s b → b ≡ image (withLog (greenId d (s .log)) s) b
+  unfolding greenId promoteFound
+  green-passed h s r =
+      let absent : find d (s .log .red) ≡ none = position-none d (s .log .red) (omega (arith, position-known s r, counted s r)) in
+      sym (rw absent (r .written))
+
+  pub green-taken : (green at : ℕ) (c : List ℕ) → green ≡ numberAt 4 b 23 → at ≡ queueAt b → k < count → c ≡ promoted (at + slotSize * green) k (green + 1) b
+      → (s : Server) → Holds s b → c ≡ image (withLog (greenId d (s .log)) s) b
+  unfolding greenId promoteFound
+  green-taken green at c f g h n s r =
+      let p = position-known s r in
+      let x = position-found d (s .log .red) (omega (arith, counted s r)) in
+      let i = numbers s b r in
+      let there : at ≡ offset (s .servers) (s .quota) theQueue = g ∙ ap₂ {A = ℕ} {B = ℕ} {C = ℕ} (λ u v. offset u v theQueue) (i .servers) (i .quota) in
+      let greens : green ≡ length (s .log .green) = f ∙ i .green in
+      n
+      ∙ (λ t. promoted (there t + slotSize * greens t) (p t) (greens t + 1) b)
+      ∙ promoted-image s b r d (position d (s .log .red)) x
+      ∙ ap (λ (o : Option Action). image (withLog (promoteFound o (s .log)) s) b) (sym (x .found))

@@ -1,0 +1,82 @@
+-- Actions read from the slots of a buffer that holds a state.
+-- Assumes nothing.
+use Prim.Native.Nat.{ℕ, zero, suc, _+_, _*_, _<_}
+use mathlib.Core.Path.{_≡_, refl, sym, ap, ap₂, _∙_}
+use mathlib.Core.Bool.{true, false}
+use mathlib.Core.List.{List, [], _∷_, _++_}
+use mathlib.Core.Option.{Option, none, some}
+use native.Mathlib.Omega.{arith}
+use native.Mathlib.Nat.{add-assoc}
+use lib.ListN.{take, drop, take-append-drop}
+use Rattle.base.specs.Bytes.{numberAt}
+use Rattle.base.specs.Lists.{at}
+use Rattle.base.specs.Tests.{pick, Known, holds, fails, known}
+use Rattle.format.specs.Types.{Id, Action}
+use Rattle.format.specs.Range.{sameId}
+use Rattle.format.specs.Read.{idAt, payloadAt, actionAt}
+use Rattle.record.specs.Events.{actionIn, actionFrom}
+use Rattle.record.specs.Values.{idOf, actionOf}
+use Rattle.replication.specs.Machine.Types.{Server}
+use Rattle.replication.specs.Machine.Colours.{find}
+use Rattle.replication.specs.Machine.WellFormed.{queue}
+use Rattle.engine.specs.Layout.{slotSize}
+use Rattle.engine.specs.Decode.{actionsAt, decodedAs, serversIn, quotaIn, decoded}
+use Rattle.engine.proofs.InPlace.{Holds}
+use Rattle.queue.specs.Queue.{position, queueCount, queueAt, ownCount, ownAt}
+use Rattle.queue.proofs.Holding.{holds-decoded}
+
+-- ---- the lists
+
+pub queue-read : (s : Server) (b : List ℕ) → Holds s b → actionsAt (queueCount b) b (queueAt b) ≡ queue (s .log)
+unfolding queue decoded decodedAs serversIn quotaIn
+queue-read s b r =
+    let e = holds-decoded s b r in
+    sym (take-append-drop (numberAt 4 b 23) (actionsAt (queueCount b) b (queueAt b)))
+    ∙ ap₂ {A = List Action} {B = List Action} {C = List Action} (λ x y. x ++ y) (ap (λ (t : Server). t .log .green) e) (ap (λ (t : Server). t .log .red) e)
+
+pub own-read : (s : Server) (b : List ℕ) → Holds s b → actionsAt (ownCount b) b (ownAt b) ≡ s .log .own
+unfolding decoded decodedAs serversIn quotaIn
+own-read s b r = ap (λ (t : Server). t .log .own) (holds-decoded s b r)
+
+-- ---- one slot
+
+actions-at : (m : ℕ) (b : List ℕ) (p k : ℕ) → k < m → at (actionsAt m b p) k ≡ some (actionAt b (p + slotSize * k))
+unfolding actionsAt at
+actions-at zero b p k h = absurd (omega arith)
+actions-at (suc m) b p zero h = let e : p ≡ p + slotSize * 0 = omega arith in ap (λ (i : ℕ). some (actionAt b i)) e
+actions-at (suc m) b p (suc k) h =
+    let e : p + slotSize + slotSize * k ≡ p + slotSize * suc k = omega arith in
+    actions-at m b (p + slotSize) k (omega arith) ∙ ap (λ (i : ℕ). some (actionAt b i)) e
+
+-- The numbers that the code reads of a slot are those of its action.
+pub slot-read : (b : List ℕ) (p : ℕ) → actionFrom (actionIn b p) b ≡ actionAt b p
+unfolding actionFrom actionOf actionIn actionAt idAt payloadAt idOf
+slot-read b p = rw (add-assoc p 7 1)
+
+pub queue-slot : (s : Server) (b : List ℕ) (k : ℕ) → Holds s b → k < queueCount b → at (queue (s .log)) k ≡ some (actionFrom (actionIn b (queueAt b + slotSize * k)) b)
+queue-slot s b k r h =
+    ap (λ (l : List Action). at l k) (sym (queue-read s b r))
+    ∙ actions-at (queueCount b) b (queueAt b) k h
+    ∙ ap some (sym (slot-read b (queueAt b + slotSize * k)))
+
+pub own-slot : (s : Server) (b : List ℕ) (k : ℕ) → Holds s b → k < ownCount b → at (s .log .own) k ≡ some (actionFrom (actionIn b (ownAt b + slotSize * k)) b)
+own-slot s b k r h =
+    ap (λ (l : List Action). at l k) (sym (own-read s b r))
+    ∙ actions-at (ownCount b) b (ownAt b) k h
+    ∙ ap some (sym (slot-read b (ownAt b + slotSize * k)))
+
+-- ---- by id
+
+-- What the machine finds stands at the place of the id.
+pub find-at : (d : Id) (l : List Action) → find d l ≡ at l (position d l)
+unfolding find position at pick
+find-at d [] = refl
+find-at d (a ∷ l) = go (known (sameId d (a .id))) (find-at d l)
+  where
+    go : Known (sameId d (a .id)) → find d l ≡ at l (position d l) → pick (sameId d (a .id)) (some a) (find d l) ≡ at (a ∷ l) (pick (sameId d (a .id)) 0 (suc (position d l)))
+    go (holds t) e = rw t
+    go (fails t) e = rw t e
+
+pub queue-found : (b : List ℕ) (d : Id) (count p k : ℕ) → count ≡ numberAt 4 b 19 → p ≡ queueAt b → k ≡ position d (actionsAt count b p)
+    → (s : Server) → Holds s b → k ≡ position d (queue (s .log))
+queue-found b d count p k e f g s r = g ∙ (λ i. position d (actionsAt (e i) b (f i))) ∙ ap (position d) (queue-read s b r)

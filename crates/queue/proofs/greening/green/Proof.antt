@@ -1,0 +1,27 @@
+use Rattle.queue.proofs.GreenLaws.{ready-room, ready-counts, green-made}
+use borrow.Author.Needs.{needs}
+use Rattle.queue.proofs.greening.green.Statement.{statement}
+use Rattle.queue.proofs.greening.green.Tie as tie
+use Rattle.queue.proofs.greening.green.Reads as reads
+use Rattle.queue.proofs.greening.green.Lts as lts
+use Rattle.queue.proofs.entering.red.Reads as red-reads
+use Rattle.queue.proofs.greening.green_id.Reads as green-id-reads
+
+-- src/greening.rt:61:5
+red-requires : tie.Need-red-requires
+red-requires c κs = search (needs, ready-room)
+
+-- src/greening.rt:62:5
+green-id-requires : tie.Need-green-id-requires
+green-id-requires c κs = search (needs, ready-counts)
+
+-- src/greening.rt:57:1
+same-length : tie.Need-same-length
+same-length c = search needs
+
+-- src/greening.rt:57:1
+returns : tie.Need-returns
+returns c = green-made _ _ _ _ _ (c .before .before .before .before .before .before .red .ensures) (c .before .before .green-id .ensures)
+
+pub green-spec : {M : Type 1} → statement M
+green-spec = tie.close (tie.spec red-requires green-id-requires same-length returns)

@@ -1,0 +1,49 @@
+use Rattle.queue.proofs.MoveLaws.{to-front}
+use borrow.Author.Needs.{needs}
+use Rattle.queue.proofs.slots.last_to_front.Statement.{statement}
+use Rattle.queue.proofs.slots.last_to_front.Tie as tie
+use Rattle.queue.proofs.slots.last_to_front.Reads as reads
+use Rattle.queue.proofs.slots.last_to_front.Lts as lts
+use Rattle.queue.proofs.slots.shift_up.Reads as shift-up-reads
+use Rattle.queue.proofs.slots.slot_at.Reads as slot-at-reads
+use Rattle.record.proofs.blocks.copy.Reads as copy-reads
+
+-- src/slots.rt:71:27
+sub-slot-at : tie.Need-sub-slot-at
+sub-slot-at c = search needs
+
+-- src/slots.rt:71:16
+slot-at-requires : tie.Need-slot-at-requires
+slot-at-requires c κs = search needs
+
+-- src/slots.rt:72:5
+shift-up-requires : tie.Need-shift-up-requires
+shift-up-requires c κs = search needs
+
+-- src/slots.rt:73:16
+slice-aggregate-copy : tie.Need-slice-aggregate-copy
+slice-aggregate-copy c = search needs
+
+-- src/slots.rt:73:5
+copy-requires : tie.Need-copy-requires
+copy-requires c κs = search needs
+
+-- src/slots.rt:67:1
+same-length : tie.Need-same-length
+same-length c = search needs
+
+-- src/slots.rt:67:1
+returns : tie.Need-returns
+returns c = search (needs, to-front)
+
+pub last-to-front-spec : {M : Type 1} → statement M
+last-to-front-spec =
+    tie.close
+    (tie.spec
+    sub-slot-at
+    slot-at-requires
+    shift-up-requires
+    slice-aggregate-copy
+    copy-requires
+    same-length
+    returns)

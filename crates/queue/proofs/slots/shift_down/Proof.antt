@@ -1,0 +1,74 @@
+use Rattle.queue.proofs.MoveLaws.{down-turn, down-end}
+use Rattle.base.specs.Patched.{patched, patched-none}
+use lib.ListN.{length, take, drop, length-set}
+use Prim.Native.Nat.{_≤_, _-_}
+use mathlib.Core.Path.{_≡_, sym}
+use native.Mathlib.Omega.{arith}
+use borrow.Author.Needs.{needs}
+use Rattle.queue.proofs.slots.shift_down.Statement.{statement}
+use Rattle.queue.proofs.slots.shift_down.Tie as tie
+use Rattle.queue.proofs.slots.shift_down.Reads as reads
+use Rattle.queue.proofs.slots.shift_down.Lts as lts
+
+abbrev Inv-loop : tie.InvT-loop
+Inv-loop s₀ w n i₀ s i = (i ≤ n) × (n ≡ length s₀ - w) × (length s ≡ length s₀) × (s ≡ patched 0 (take i (drop w s₀)) s₀)
+
+abbrev μ-loop : tie.MeasureT-loop
+μ-loop s₀ w n i₀ s i = n - i
+
+-- src/slots.rt:32:13
+sub-n : tie.Need-sub-n Inv-loop μ-loop
+sub-n c = search needs
+
+-- src/slots.rt:34:5
+loop-holds : tie.Need-loop-holds Inv-loop μ-loop
+loop-holds c = (omega arith, search needs, search needs, sym (patched-none _ _))
+
+-- src/slots.rt:35:18
+add-s : tie.Need-add-s Inv-loop μ-loop
+add-s c = omega arith
+
+-- src/slots.rt:35:16
+slice-read-s : tie.Need-slice-read-s Inv-loop μ-loop
+slice-read-s c = omega arith
+
+-- src/slots.rt:35:9
+slice-write-s : tie.Need-slice-write-s Inv-loop μ-loop
+slice-write-s c = omega arith
+
+-- src/slots.rt:36:9
+add-i : tie.Need-add-i Inv-loop μ-loop
+add-i c = omega arith
+
+-- src/slots.rt:34:5
+loop-less : tie.Need-loop-less Inv-loop μ-loop
+loop-less c = omega arith
+
+-- src/slots.rt:34:5
+loop-again : tie.Need-loop-again Inv-loop μ-loop
+loop-again c = (omega arith, search needs, simp length-set (omega arith), search (needs, down-turn))
+
+-- src/slots.rt:28:1
+same-length : tie.Need-same-length Inv-loop μ-loop
+same-length c = search needs
+
+-- src/slots.rt:28:1
+returns : tie.Need-returns Inv-loop μ-loop
+returns c = search (needs, down-end)
+
+pub shift-down-spec : {M : Type 1} → statement M
+shift-down-spec =
+    tie.close
+    (tie.spec
+    Inv-loop
+    μ-loop
+    sub-n
+    loop-holds
+    add-s
+    slice-read-s
+    slice-write-s
+    add-i
+    loop-less
+    loop-again
+    same-length
+    returns)

@@ -1,0 +1,52 @@
+// An action in slots, by its id.
+ghost use mathlib.Core.Path.{_≡_};
+ghost use Prim.Native.Nat.{_+_, _*_, _≤_};
+ghost use lib.ListN.{length};
+ghost use Rattle.format.specs.Range.{sameId};
+ghost use Rattle.format.specs.Read.{idAt};
+ghost use Rattle.record.specs.Values.{idOf};
+ghost use Rattle.engine.specs.Layout.{slotSize};
+ghost use Rattle.engine.specs.Decode.{actionsAt};
+ghost use Rattle.engine.proofs.InPlace.{Holds};
+ghost use Rattle.replication.specs.Machine.Types.{Server};
+ghost use Rattle.replication.specs.Machine.WellFormed.{queue};
+ghost use Rattle.queue.specs.Queue.{position, CountsIn};
+use crate::places::queue_place;
+use record::bytes::num8;
+use record::bytes::num16;
+use record::bytes::num32;
+
+// Whether the slot from `at` on is that of this id.
+fn has_id(state: &[u8], at: usize, creator: u8, index: u16) -> bool
+    requires { ⌜ at + slotSize ≤ length (now state) ⌝ }
+    ensures { λ r. ⌜ r ≡ sameId (idOf creator index) (idAt (now (state .entry)) at) ⌝ }
+{
+    if creator != num8(state, at) {
+        return false;
+    }
+    index == num16(state, at + 1)
+}
+
+// How many of the `count` slots from `at` on come before the first with this id: all where there is none.
+pub fn find(state: &[u8], at: usize, count: usize, creator: u8, index: u16) -> usize
+    requires { ⌜ at + slotSize * count ≤ length (now state) ⌝ }
+    ensures { λ r. ⌜ r ≡ position (idOf creator index) (actionsAt count (now (state .entry)) at) ⌝ }
+{
+    let mut k: usize = 0;
+    while k < count {
+        if has_id(state, at + 56 * k, creator, index) {
+            return k;
+        }
+        k += 1;
+    }
+    count
+}
+
+// The place of an id in the queue: how many actions come before it, all where it is not held.
+pub fn queue_find(state: &[u8], creator: u8, index: u16) -> usize
+    requires { ⌜ CountsIn (now state) ⌝ }
+    ensures { λ r. ⌜ ((s : Server) → Holds s (now (state .entry)) → r ≡ position (idOf creator index) (queue (s .log))) ⌝ }
+{
+    let count = num32(state, 19) as usize;
+    find(state, queue_place(state), count, creator, index)
+}

@@ -1,0 +1,76 @@
+// An action turns green.
+ghost use mathlib.Core.Path.{_≡_};
+ghost use Prim.Native.Nat.{_+_, _*_, _-_, _≤_, _<_};
+ghost use lib.ListN.{length};
+ghost use Rattle.record.specs.Values.{idOf, actionOf};
+ghost use Rattle.replication.specs.Machine.Types.{Server, withLog};
+ghost use Rattle.replication.specs.Machine.Colours.{greenId, green as greened};
+ghost use Rattle.replication.proofs.WellFormed.RuleFacts.{Delivered};
+ghost use Rattle.engine.specs.Layout.{slotSize};
+ghost use Rattle.engine.specs.Image.{image};
+ghost use Rattle.engine.proofs.InPlace.{Holds};
+ghost use Rattle.queue.specs.Queue.{position, queueCount, greenCount, redsIn, CountsIn, promoted};
+ghost use Rattle.queue.specs.Ready.{Ready};
+use crate::entering::red;
+use crate::finding::find;
+use crate::places::queue_place;
+use crate::slots::last_to_front;
+use record::ActionHead;
+use record::bytes::num32;
+use stores::put32;
+
+// The slot k from `at` on goes to the front of those before it.
+fn promote(state: &mut [u8], at: usize, k: usize, green: u32)
+    requires { ⌜ (60 ≤ length (now state)) × (at + (slotSize * k + slotSize) ≤ length (now state)) × (green ≤ 4096) ⌝ }
+    ensures { λ _. ⌜ now (state .exit) ≡ promoted at k (green + 1) (now (state .entry)) ⌝ }
+{
+    let end = at + (56 * k + 56);
+    last_to_front(&mut state[at..end]);
+    put32(state, 23, green + 1);
+}
+
+// How many red actions there are.
+fn red_count(state: &[u8]) -> usize
+    requires { ⌜ CountsIn (now state) ⌝ }
+    ensures { λ r. ⌜ r ≡ queueCount (now (state .entry)) - greenCount (now (state .entry)) ⌝ }
+{
+    (num32(state, 19) - num32(state, 23)) as usize
+}
+
+// How many red actions come before the first with this id: all where there is none.
+fn red_place(state: &[u8], creator: u8, index: u16) -> usize
+    requires { ⌜ CountsIn (now state) ⌝ }
+    ensures { λ r. ⌜ r ≡ position (idOf creator index) (redsIn (now (state .entry))) ⌝ }
+{
+    let reds = red_count(state);
+    let green = num32(state, 23);
+    find(
+        state,
+        queue_place(state) + 56 * green as usize,
+        reds,
+        creator,
+        index,
+    )
+}
+
+// "A newly green action goes directly above the last green one, and reds above it move up. One already green stays."
+pub fn green_id(state: &mut [u8], creator: u8, index: u16)
+    requires { ⌜ CountsIn (now state) ⌝ }
+    ensures { λ _. ⌜ ((s : Server) → Holds s (now (state .entry)) → now (state .exit) ≡ image (withLog (greenId (idOf creator index) (s .log)) s) (now (state .entry))) ⌝ }
+{
+    let k = red_place(state, creator, index);
+    if red_count(state) <= k {
+        return;
+    }
+    let green = num32(state, 23);
+    promote(state, queue_place(state) + 56 * green as usize, k, green);
+}
+
+// "As red, then" green.
+pub fn green(state: &mut [u8], head: ActionHead, payload: &[u8])
+    requires { ⌜ Ready (actionOf head (now payload)) (now state) ⌝ }
+    ensures { λ _. ⌜ ((s : Server) → Holds s (now (state .entry)) → Delivered s (actionOf head (now (payload .entry))) → now (state .exit) ≡ image (withLog (greened (actionOf head (now (payload .entry))) (s .log)) s) (now (state .entry))) ⌝ }
+{
+    red(state, head, payload);
+    green_id(state, head.creator, head.index);
+}

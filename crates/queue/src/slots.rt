@@ -1,0 +1,74 @@
+// A slot of an action written, and slots moved in place.
+ghost use mathlib.Core.Path.{_≡_};
+ghost use mathlib.Core.List.{_++_};
+ghost use Prim.Native.Nat.{_+_, _-_, _≤_};
+ghost use lib.ListN.{length, take, drop};
+ghost use Rattle.base.specs.Bytes.{partAt};
+ghost use Rattle.base.specs.Patched.{patched};
+ghost use Rattle.format.specs.Limits.{mostPayload};
+ghost use Rattle.format.specs.Write.{actionBytes};
+ghost use Rattle.record.specs.Values.{actionOf};
+ghost use Rattle.engine.specs.Layout.{slotSize};
+ghost use Rattle.engine.specs.Image.{slot};
+use engine::starting::clear;
+use record::ActionHead;
+use record::blocks::copy;
+use stores::put_body;
+
+// An action's slot from `at` on: its bytes, filled up with zeros.
+pub fn put_slot(state: &mut [u8], at: usize, head: ActionHead, payload: &[u8])
+    requires { ⌜ (length (now payload) ≤ mostPayload) × (at + slotSize ≤ length (now state)) ⌝ }
+    ensures { λ _. ⌜ now (state .exit) ≡ patched at (slot slotSize (actionBytes (actionOf head (now (payload .entry))))) (now (state .entry)) ⌝ }
+{
+    put_body(state, at, head, payload);
+    clear(state, at + (8 + payload.len()), 48 - payload.len());
+}
+
+// Moves s down by w bytes; the last w stay as they were.
+pub fn shift_down(s: &mut [u8], w: usize)
+    requires { ⌜ w ≤ length (now s) ⌝ }
+    ensures { λ _. ⌜ now (s .exit) ≡ patched 0 (drop w (now (s .entry))) (now (s .entry)) ⌝ }
+{
+    let n = s.len() - w;
+    let mut i: usize = 0;
+    while i < n {
+        s[i] = s[w + i];
+        i += 1;
+    }
+}
+
+// Moves s up by w bytes; the first w stay as they were.
+pub fn shift_up(s: &mut [u8], w: usize)
+    requires { ⌜ w ≤ length (now s) ⌝ }
+    ensures { λ _. ⌜ now (s .exit) ≡ take w (now (s .entry)) ++ take (length (now (s .entry)) - w) (now (s .entry)) ⌝ }
+{
+    let mut i: usize = s.len() - w;
+    while 0 < i {
+        i -= 1;
+        s[w + i] = s[i];
+    }
+}
+
+// The slot from `at` on.
+pub fn slot_at(s: &[u8], at: usize) -> [u8; 56]
+    requires { ⌜ at + slotSize ≤ length (now s) ⌝ }
+    ensures { λ r. ⌜ r ≡ partAt slotSize (now (s .entry)) at ⌝ }
+{
+    let mut x: [u8; 56] = [0; 56];
+    let mut j: usize = 0;
+    while j < 56 {
+        x[j] = s[at + j];
+        j += 1;
+    }
+    x
+}
+
+// The last slot goes to the front; the others move up one place.
+pub fn last_to_front(s: &mut [u8])
+    requires { ⌜ slotSize ≤ length (now s) ⌝ }
+    ensures { λ _. ⌜ now (s .exit) ≡ drop (length (now (s .entry)) - slotSize) (now (s .entry)) ++ take (length (now (s .entry)) - slotSize) (now (s .entry)) ⌝ }
+{
+    let last = slot_at(s, s.len() - 56);
+    shift_up(s, 56);
+    copy(s, 0, &last);
+}

@@ -1,0 +1,15 @@
+-- The code's limits are the format's.
+-- Assumes nothing.
+use Rattle.format.specs.Limits.{fewestServers, mostServers, leastQuota, mostQuota, mostPayload, mostHeld, mostIndex}
+use Rattle.record.specs.declared.range.Limits.{Limits}
+
+unfoldable pub theLimits : Limits
+theLimits = record {
+  «fewest_servers» = fewestServers;
+  «most_servers» = mostServers;
+  «least_quota» = leastQuota;
+  «most_quota» = mostQuota;
+  «most_payload» = mostPayload;
+  «most_held» = mostHeld;
+  «most_index» = mostIndex;
+}

@@ -1,0 +1,7 @@
+pub mod Terms
+pub mod Lists
+pub mod Exchange
+pub mod Votes
+pub mod Primaries
+pub mod Contents
+pub mod Greens

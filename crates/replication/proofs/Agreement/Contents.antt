@@ -1,0 +1,13 @@
+pub mod Plan
+pub mod Logs
+pub mod Sent
+pub mod Agreeable
+pub mod Collected
+pub mod Placing
+pub mod Come
+pub mod Gained
+pub mod Exchanging
+pub mod Ended
+pub mod Places
+pub mod Same
+pub mod Installed

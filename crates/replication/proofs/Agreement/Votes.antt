@@ -1,0 +1,15 @@
+pub mod Changes
+pub mod Turns
+pub mod Events
+pub mod Phases
+pub mod Judging
+pub mod Collected
+pub mod Rising
+pub mod Known
+pub mod Marks
+pub mod Attempts
+pub mod Present
+pub mod Kept
+pub mod Unique
+pub mod Succession
+pub mod Primaries

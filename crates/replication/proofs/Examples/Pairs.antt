@@ -1,0 +1,18 @@
+-- Document 01's pairs P1 to P8 hold by computation.
+-- Assumes nothing.
+use mathlib.Core.Path.{refl}
+use Rattle.replication.specs.Pairs.{Pairs}
+use Rattle.replication.specs.Opened.{opened}
+
+pub pairs-hold : Pairs
+unfolding opened
+pairs-hold = record {
+  p1 = refl;
+  p2 = refl;
+  p3 = refl;
+  p4 = refl;
+  p5 = refl;
+  p6 = refl;
+  p7 = refl;
+  p8 = refl;
+}

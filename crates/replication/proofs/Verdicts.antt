@@ -1,0 +1,13 @@
+pub mod Sameness
+pub mod Rows
+pub mod Entries
+pub mod Later
+pub mod Stamps
+pub mod Causality
+pub mod Ords
+pub mod RuleFields
+pub mod PerConfiguration
+pub mod SpecificationFields
+pub mod OrderFields
+pub mod Sound
+pub mod Runs

@@ -1,0 +1,11 @@
+pub mod Records
+pub mod Shown
+pub mod Merge
+pub mod LateInstall
+pub mod OutsidersMark
+pub mod CommonMark
+pub mod RefusedRules
+pub mod RefusedDeliveries
+pub mod RefusedOrders
+pub mod CrossedConfigurations
+pub mod UnsafeInstall

@@ -1,0 +1,9 @@
+pub mod Witness
+pub mod Same
+pub mod Table
+pub mod Clocks
+pub mod Journal
+pub mod Rules
+pub mod Specifications
+pub mod Verdict
+pub mod Opened
