@@ -24,7 +24,7 @@ use Rattle.format.proofs.IdCount.{ids-count}
 use Rattle.format.proofs.Ranges.{ContextRange, PayloadRange, context-range}
 use Rattle.format.proofs.Writing.{ids-number}
 use Rattle.record.specs.Context.{lastOf}
-use Rattle.record.specs.Values.{primaryOf, markOf, idsBy}
+use Rattle.record.specs.Values.{componentOf, primaryOf, markOf, idsBy}
 use Rattle.record.specs.declared.State.{State}
 use Rattle.replication.specs.Machine.Types.{Configuration, Server}
 use Rattle.replication.specs.Machine.Colours.{cut}
@@ -258,7 +258,7 @@ module _ (c : Context) (h : State) (b : List ℕ) (f : WellFormed (said c h b)) 
   set-small (one-there s o e) = own-set-facts c (h .«configuration_set») o .below
 
   mode-test : modeOk c h b ≡ true
-  unfolding modeOk exchangeOk plannedIn plannedNow collected primaryOf headerOf
+  unfolding modeOk exchangeOk plannedIn plannedNow collected primaryOf componentOf headerOf
   mode-test =
       let here = here-set regular-in in
       let number : h .mode ≡ modeNumber (modeNamed (h .mode)) = ap (λ (x : State). x .mode) same in

@@ -17,8 +17,9 @@ use Rattle.format.specs.Range.{lengthOk}
 use Rattle.format.specs.Read.{read}
 use Rattle.format.proofs.Ranges.{length-range}
 use Rattle.record.specs.Context.{contextOf, ContextIn}
-use Rattle.record.specs.Events.{stateOf, recordOf}
+use Rattle.record.specs.Events.{stateFrom, recordOf}
 use Rattle.record.specs.Reading.{meaning}
+use Rattle.record.specs.Values.{stateOf}
 use Rattle.record.specs.declared.Context.{Context}
 use Rattle.record.specs.declared.events.ActionAt.{ActionAt}
 use Rattle.record.specs.declared.events.StateAt.{StateAt}
@@ -31,56 +32,56 @@ use Rattle.state_check.specs.Collected.{isState, saysState, idsInSlot, s
 
 -- ---- by the kind of the event
 
-module _ (k i : ℕ) (v : Event) (n : ℕ) (e : List ℕ) where
-  answers-as : (w : Event) (r : Bool) → v ≡ w → r ≡ isState k i (recordOf n w e) → r ≡ isState k i (recordOf n v e)
+module _ (k i : ℕ) (v : Event) (e : List ℕ) where
+  answers-as : (w : Event) (r : Bool) → v ≡ w → r ≡ isState k i (recordOf w e) → r ≡ isState k i (recordOf v e)
   answers-as w r f h = rw f h
 
-  pub no-action : (a : ActionAt) → v ≡ Action a → false ≡ isState k i (recordOf n v e)
+  pub no-action : (a : ActionAt) → v ≡ Action a → false ≡ isState k i (recordOf v e)
   unfolding isState recordOf
   no-action a f = answers-as (Action a) false f refl
 
-  pub no-retransmission : (s p : ℕ) (a : ActionAt) → v ≡ Retransmission s p a → false ≡ isState k i (recordOf n v e)
+  pub no-retransmission : (s p : ℕ) (a : ActionAt) → v ≡ Retransmission s p a → false ≡ isState k i (recordOf v e)
   unfolding isState recordOf
   no-retransmission s p a f = answers-as (Retransmission s p a) false f refl
 
-  pub no-cpc : (s j : ℕ) → v ≡ Cpc s j → false ≡ isState k i (recordOf n v e)
+  pub no-cpc : (s j : ℕ) → v ≡ Cpc s j → false ≡ isState k i (recordOf v e)
   unfolding isState recordOf
   no-cpc s j f = answers-as (Cpc s j) false f refl
 
-  pub no-regular : (j s : ℕ) → v ≡ Regular j s → false ≡ isState k i (recordOf n v e)
+  pub no-regular : (j s : ℕ) → v ≡ Regular j s → false ≡ isState k i (recordOf v e)
   unfolding isState recordOf
   no-regular j s f = answers-as (Regular j s) false f refl
 
-  pub no-transitional : (s : ℕ) → v ≡ Transitional s → false ≡ isState k i (recordOf n v e)
+  pub no-transitional : (s : ℕ) → v ≡ Transitional s → false ≡ isState k i (recordOf v e)
   unfolding isState recordOf
   no-transitional s f = answers-as (Transitional s) false f refl
 
-  pub no-request : (at m : ℕ) → v ≡ Request at m → false ≡ isState k i (recordOf n v e)
+  pub no-request : (at m : ℕ) → v ≡ Request at m → false ≡ isState k i (recordOf v e)
   unfolding isState recordOf
   no-request at m f = answers-as (Request at m) false f refl
 
-  pub no-recovery : v ≡ Recovery → false ≡ isState k i (recordOf n v e)
+  pub no-recovery : v ≡ Recovery → false ≡ isState k i (recordOf v e)
   unfolding isState recordOf
   no-recovery f = answers-as Recovery false f refl
 
-  pub other-sender : (s : StateAt) → v ≡ State s → (s .sender ≡ k → ⊥) → false ≡ isState k i (recordOf n v e)
-  unfolding isState recordOf stateOf
-  other-sender s f h = answers-as (State s) false f (and-no (s .sender =? k) (s .configuration =? i) (eq-no _ _ h))
+  pub other-sender : (s : StateAt) → v ≡ State s → (s .head .sender ≡ k → ⊥) → false ≡ isState k i (recordOf v e)
+  unfolding isState recordOf stateFrom stateOf
+  other-sender s f h = answers-as (State s) false f (and-no (s .head .sender =? k) (s .head .configuration =? i) (eq-no _ _ h))
 
-  pub this-sender : (s : StateAt) → v ≡ State s → s .sender ≡ k → eqb (s .configuration) i ≡ isState k i (recordOf n v e)
-  unfolding isState recordOf stateOf
-  this-sender s f h = answers-as (State s) _ f (and-yes _ (s .sender =? k) (s .configuration =? i) (eq-yes _ _ h) (told-eq (s .configuration) i))
+  pub this-sender : (s : StateAt) → v ≡ State s → s .head .sender ≡ k → eqb (s .head .configuration) i ≡ isState k i (recordOf v e)
+  unfolding isState recordOf stateFrom stateOf
+  this-sender s f h = answers-as (State s) _ f (and-yes _ (s .head .sender =? k) (s .head .configuration =? i) (eq-yes _ _ h) (told-eq (s .head .configuration) i))
 
 -- ---- by the reading
 
-pub refused-state : (k i : ℕ) (r : Reading) (m n : ℕ) (e : List ℕ) → r ≡ Refused m → false ≡ saysState k i (meaning n r e)
+pub refused-state : (k i : ℕ) (r : Reading) (m : ℕ) (e : List ℕ) → r ≡ Refused m → false ≡ saysState k i (meaning r e)
 unfolding saysState meaning
-refused-state k i r m n e f = rw f refl
+refused-state k i r m e f = rw f refl
 
-pub good-state : (k i : ℕ) (r : Reading) (v : Event) (t : Bool) (n : ℕ) (e : List ℕ) → r ≡ Good v → ((j : ℕ) (d : List ℕ) → t ≡ isState k i (recordOf j v d))
-    → t ≡ saysState k i (meaning n r e)
+pub good-state : (k i : ℕ) (r : Reading) (v : Event) (t : Bool) (e : List ℕ) → r ≡ Good v → ((d : List ℕ) → t ≡ isState k i (recordOf v d))
+    → t ≡ saysState k i (meaning r e)
 unfolding saysState meaning
-good-state k i r v t n e f h = rw f (h n e)
+good-state k i r v t e f h = rw f (h e)
 
 -- ---- by the slot
 
@@ -104,8 +105,8 @@ module _ (c : Context) (b : List ℕ) (at : ℕ) where
   slot-denied k i x t e f h = and-no (lengthOk (contextOf c) (numberAt 2 b (at + (38 + 2 * c .servers)))) _ (ap (lengthOk (contextOf c)) (sym e) ∙ sym f ∙ not-true t h)
 
   pub slot-answered : (k i x : ℕ) (t u : Bool) (r : Reading) → x ≡ numberAt 2 b (at + (38 + 2 * c .servers)) → t ≡ lengthOk (contextOf c) x → not t ≡ false
-      → meaning (c .servers) r (take (at + (40 + 2 * c .servers + 3 * x) - at) (drop at b)) ≡ read (contextOf c) (take (at + (40 + 2 * c .servers + 3 * x) - at) (drop at b))
-      → ((n : ℕ) (e : List ℕ) → u ≡ saysState k i (meaning n r e)) → u ≡ holdsState (contextOf c) k i b at
+      → meaning r (take (at + (40 + 2 * c .servers + 3 * x) - at) (drop at b)) ≡ read (contextOf c) (take (at + (40 + 2 * c .servers + 3 * x) - at) (drop at b))
+      → ((e : List ℕ) → u ≡ saysState k i (meaning r e)) → u ≡ holdsState (contextOf c) k i b at
   unfolding holdsState idsInSlot slotRecord partAt contextOf
   slot-answered k i x t u r e f h g s =
       let m : ℕ = 40 + 2 * c .servers + 3 * x in
@@ -113,7 +114,7 @@ module _ (c : Context) (b : List ℕ) (at : ℕ) where
       let part : take (at + m - at) (drop at b) ≡ take (40 + 2 * c .servers + 3 * numberAt 2 b (at + (38 + 2 * c .servers))) (drop at b) =
       ap (λ (j : ℕ). take j (drop at b)) long ∙ ap (λ (j : ℕ). take (40 + 2 * c .servers + 3 * j) (drop at b)) e in
       and-yes u (lengthOk (contextOf c) (numberAt 2 b (at + (38 + 2 * c .servers)))) _ (ap (lengthOk (contextOf c)) (sym e) ∙ sym f ∙ not-false t h)
-      (s (c .servers) (take (at + m - at) (drop at b)) ∙ ap (saysState k i) (g ∙ ap (read (contextOf c)) part))
+      (s (take (at + m - at) (drop at b)) ∙ ap (saysState k i) (g ∙ ap (read (contextOf c)) part))
 
 -- ---- by the senders
 

@@ -21,7 +21,7 @@ use Rattle.format.specs.Range.{lengthOk, indexOk, statusOk, idsInRange, idsDiff
 use Rattle.format.specs.Read.{idsAt}
 use Rattle.format.proofs.Ranges.{ContextRange, PayloadRange, context-range}
 use Rattle.record.specs.Context.{lastOf}
-use Rattle.record.specs.Values.{primaryOf, idsBy}
+use Rattle.record.specs.Values.{componentOf, primaryOf, idsBy}
 use Rattle.record.specs.declared.State.{State}
 use Rattle.replication.specs.Machine.Types.{Log, Configuration}
 use Rattle.replication.specs.Machine.Colours.{cut}
@@ -207,7 +207,7 @@ module _ (c : Context) (h : State) (b : List ℕ) (k : Checked c h b) (bytes : B
   here-set (there s o e) = ap theSet e
 
   pub mode-is : ModeFits (modeNamed (h .mode)) (said c h b) × (modeNumber (modeNamed (h .mode)) ≡ h .mode)
-  unfolding modeOk exchangeOk plannedIn plannedNow collected primaryOf
+  unfolding modeOk exchangeOk plannedIn plannedNow collected primaryOf componentOf
   mode-is =
       mode-in (said c h b) _ _ _ (λ e. configured regular-in (eq-holds _ _ e))
       (λ e. let a = and-holds _ _ e in (inside-all-in (said c h b) (c .quota) (h .states) b (placeOf c theStates) refl (ap (λ (x : ℕ). inside x (h .states)) (here-set regular-in) ∙ a .0), lt-holds _ _ (a .1)))

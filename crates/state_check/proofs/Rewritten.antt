@@ -23,7 +23,7 @@ use Rattle.format.proofs.Lengths.{cuts-length, ids-length}
 use Rattle.format.proofs.Ranges.{PayloadRange, context-range}
 use Rattle.format.proofs.Writing.{cuts-written, ids-written, ids-number}
 use Rattle.record.specs.Context.{lastOf}
-use Rattle.record.specs.Values.{primaryOf, markOf}
+use Rattle.record.specs.Values.{componentOf, primaryOf, markOf}
 use Rattle.record.specs.declared.State.{State}
 use Rattle.replication.specs.Machine.WellFormed.{queue}
 use Rattle.replication.specs.Machine.WellFormedRanges.{ActionFits}
@@ -78,7 +78,7 @@ module _ (c : Context) (h : State) (b : List ℕ) (k : Checked c h b) (bytes : B
     (small : h .«configuration_id» < 2 ^ 32) (last-is : c .last ≡ lastOf (h .«configuration_status») (h .«configuration_set»))
     (n-is : c .servers ≡ h .servers) (q-is : c .quota ≡ h .quota) (me-is : c .self ≡ h .me) where
   numbers-same : headerOf (said c h b) ≡ h
-  unfolding headerOf lastNumbers markNumbers primaryOf markOf setOk
+  unfolding headerOf lastNumbers markNumbers primaryOf componentOf markOf setOk
   numbers-same =
       let r = regular-numbers c h (regular c h (k .regular)) in
       let t = transitional-numbers c h (transitional c h (k .transitional)) in

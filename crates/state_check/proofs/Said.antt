@@ -9,7 +9,7 @@ use Rattle.format.specs.Types.{Context}
 use Rattle.format.specs.Read.{primaryAt, markAt, idsAt}
 use Rattle.record.specs.Context.{readingContext, contextOf}
 use Rattle.record.specs.Events.{lastIn, markIn}
-use Rattle.record.specs.Values.{primaryOf, markOf}
+use Rattle.record.specs.Values.{componentOf, primaryOf, markOf}
 use Rattle.record.specs.declared.State.{State}
 use Rattle.replication.specs.Machine.Types.{Log, Votes, Membership, Server}
 use Rattle.engine.specs.Layout.{theCuts, theNoted, theHeld, theStates, theYellow, theOwn, theQueue}
@@ -58,5 +58,5 @@ said c h b = record {
 }
 
 pub decoded-said : (b : List ℕ) → decoded b ≡ said (contextIn b) (headerIn b) b
-unfolding decoded decodedAs serversIn quotaIn contextIn contextOf readingContext headerIn placeOf primaryOf lastIn primaryAt markOf markIn markAt regularOf configurationAt transitionalIn transitionalAt
+unfolding decoded decodedAs serversIn quotaIn contextIn contextOf readingContext headerIn placeOf primaryOf componentOf lastIn primaryAt markOf markIn markAt regularOf configurationAt transitionalIn transitionalAt
 decoded-said b = refl

@@ -21,7 +21,7 @@ use record::reader::read;
 
 // Whether an event is a State of this sender in this configuration.
 fn is_state(v: Event, sender: u8, configuration: u32) -> bool
-    ensures { λ r. ⌜ ((n : ℕ) (e : List ℕ) → r ≡ isState sender configuration (recordOf n v e)) ⌝ }
+    ensures { λ r. ⌜ ((e : List ℕ) → r ≡ isState sender configuration (recordOf v e)) ⌝ }
 {
     match v {
         Event::Action(_) => false,
@@ -54,7 +54,7 @@ fn is_state(v: Event, sender: u8, configuration: u32) -> bool
 }
 
 fn says_state(r: Reading, sender: u8, configuration: u32) -> bool
-    ensures { λ t. ⌜ ((n : ℕ) (e : List ℕ) → t ≡ saysState sender configuration (meaning n r e)) ⌝ }
+    ensures { λ t. ⌜ ((e : List ℕ) → t ≡ saysState sender configuration (meaning r e)) ⌝ }
 {
     let Reading::Good(v) = r else {
         return false;
