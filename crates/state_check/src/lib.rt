@@ -126,3 +126,11 @@ pub fn state_number(state: &[u8], out: &[u8]) -> u32
     }
     0
 }
+
+// The same for C.
+#[no_mangle]
+pub extern "C" fn guzbytor_state_check(state: &[u8], out: &[u8]) -> u32
+    ensures { λ r. ⌜ r ≡ stateNumber (now (state .entry)) (now (out .entry)) ⌝ }
+{
+    state_number(state, out)
+}

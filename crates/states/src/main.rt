@@ -8,14 +8,13 @@
 ghost use mathlib.Core.Path.{_≡_};
 ghost use Prim.Native.Nat.{_<_};
 ghost use lib.ListN.{length};
-use engine::header::save;
-use record::State;
+use engine::guzbytor_start;
 use record::blocks::copy;
 use record::bytes::num8;
 use record::bytes::num16;
 use state_check::state_number;
 
-const ROOM: usize = 4096;
+const ROOM: usize = 8192;
 
 // Changes `count` bytes from `at` on to those of src, if there is room.
 fn patch(state: &mut [u8], at: usize, src: &[u8]) {
@@ -48,16 +47,10 @@ fn patches(state: &mut [u8], e: &[u8]) {
 fn begin(base: &mut [u8], e: &[u8]) {
     let zeros: [u8; ROOM] = [0; ROOM];
     patch(base, 0, &zeros);
-    if base.len() < 60 {
-        return;
-    }
     if e.len() < 4 {
         return;
     }
-    if e[0] > State::MOST_SERVERS {
-        return;
-    }
-    save(base, State::start(e[0], num16(e, 1), e[3]));
+    guzbytor_start(base, e[0] as u32, num16(e, 1) as u32, e[3] as u32);
 }
 
 // The number for the first bytes of a state and of an outgoing buffer; 9 where there are fewer.
