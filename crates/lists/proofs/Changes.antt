@@ -23,3 +23,6 @@ two-stores at i x y b b₁ b₂ e f = f ∙ ap (patched i y) e
 
 pub three-stores : (at i j : ℕ) (x y z b b₁ b₂ : List ℕ) → b₁ ≡ patched at x b → b₂ ≡ patched j z (patched i y b₁) → b₂ ≡ patched j z (patched i y (patched at x b))
 three-stores at i j x y z b b₁ b₂ e f = f ∙ ap (λ (l : List ℕ). patched j z (patched i y l)) e
+
+pub stores-more : (i j k : ℕ) (x y z b b₁ b₂ : List ℕ) → b₁ ≡ patched j y (patched i x b) → b₂ ≡ patched k z b₁ → b₂ ≡ patched k z (patched j y (patched i x b))
+stores-more i j k x y z b b₁ b₂ e f = f ∙ ap (patched k z) e

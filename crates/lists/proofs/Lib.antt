@@ -7,3 +7,8 @@ pub mod MembershipLaws
 pub mod RequestLaws
 pub mod NoteLaws
 pub mod StateLaws
+pub mod YellowWritten
+pub mod SendLaws
+pub mod Sent
+pub mod Examples
+pub mod RecoveryLaws

@@ -12,7 +12,7 @@ use Rattle.base.specs.SetLaws.{power-below}
 use Rattle.base.specs.Tests.{pick}
 use Rattle.base.specs.Lists.{isThere, Begins}
 use Rattle.record.specs.declared.State.{State}
-use Rattle.replication.specs.Machine.Types.{Log, Votes, Mode, Exchange-states, Configuration, Membership, Server, withVotes, inMode, noYellow, noStates}
+use Rattle.replication.specs.Machine.Types.{Log, Votes, Mode, Membership, Server, withVotes, inMode, noYellow, noStates}
 use Rattle.replication.specs.Machine.Step.{entering, leave, withCpc, unmarked, yellowValid}
 use Rattle.engine.specs.Image.{modeNumber, senders, image}
 use Rattle.engine.specs.Header.{headerOf, headerIn}

@@ -8,6 +8,7 @@ use lib.ListN.{length}
 use Rattle.base.specs.Bytes.{numberAt}
 use Rattle.base.specs.Lists.{Begins}
 use Rattle.format.specs.Limits.{mostPayload, mostHeld}
+use Rattle.format.specs.Types.{Id}
 use Rattle.record.specs.declared.ActionHead.{ActionHead}
 use Rattle.replication.specs.Machine.Types.{Log, Votes, Configuration, Membership, Server, noYellow, noStates}
 use Rattle.replication.specs.Machine.WellFormed.{queue}
@@ -48,6 +49,15 @@ pub record CountsIn (b : List ℕ) : Type 0 where
 -- The next own action but its payload: the server's number, the next index, the green length.
 unfoldable pub nextHead : List ℕ → ActionHead
 nextHead b = record { creator = numberAt 1 b 3; index = numberAt 2 b 27 + 1; «green_length» = numberAt 4 b 23 }
+
+-- Room for a yellow list of these bytes.
+pub record YellowRoom (e b : List ℕ) : Type 0 where
+  pub counts : CountsIn b
+  pub short : length e ≤ 3 * (serversIn b * quotaIn b)
+
+-- The votes with this yellow list.
+unfoldable pub withYellow : (status : ℕ) → List Id → Votes → Votes
+withYellow status ids v = record { last = v .last; attempt = v .attempt; mark = v .mark; yellow = record { status = status; ids = ids } }
 
 -- A server's number.
 pub record NumberIn (k : ℕ) (b : List ℕ) : Type 0 where

@@ -7,3 +7,4 @@ pub mod votes; // votes.rt: mark and yellow status
 pub mod requests; // requests.rt: numbered and held requests
 pub mod notes; // notes.rt: noted lengths
 pub mod states; // states.rt: collected States
+pub mod sending; // sending.rt: held requests numbered
