@@ -27,7 +27,7 @@ senders-none k zero = refl
 senders-none k (suc n) = senders-none (k + 1) n
 
 -- Only the membership changes, and its States stay.
-membership-kept : (s : Server) (m : Membership) → m .states ≡ s .membership .states → Shortened s (s .log) (s .votes) m (s .held)
+pub membership-kept : (s : Server) (m : Membership) → m .states ≡ s .membership .states → Shortened s (s .log) (s .votes) m (s .held)
 membership-kept s m e =
     record { cuts = refl; queued = refl; own = begins-refl _; yellow = begins-refl _; held = begins-refl _; states = inl e }
 

@@ -1,10 +1,10 @@
 -- All held requests are numbered, in place.
 -- Assumes nothing.
 use Prim.Native.Nat.{ℕ, zero, suc, _+_, _*_, _-_, _≤_}
-use mathlib.Core.Path.{_≡_, refl, sym, ap, ap₂, subst, _∙_}
+use mathlib.Core.Path.{_≡_, refl, sym, ap, ap₂, _∙_}
 use mathlib.Core.List.{List, [], _∷_, _++_, append-assoc, append-nil}
 use native.Mathlib.Omega.{arith}
-use lib.ListN.{length, getD, set, length-append}
+use lib.ListN.{length, set, length-append}
 use Rattle.base.specs.Bytes.{bytesOf, numberAt, partAt, joined}
 use Rattle.base.specs.BytesLaws.{bytes-length}
 use Rattle.base.specs.Lists.{sum}
@@ -26,7 +26,6 @@ use Rattle.replication.proofs.WellFormed.Facts.{well-formed-facts}
 use Rattle.engine.specs.Layout.{heldSize, slotSize, theHeader, theHeld, theOwn, sections, offset, stateLength}
 use Rattle.engine.specs.Header.{headerOf, headerIn}
 use Rattle.engine.specs.Image.{over, zeros, slot, headerBytes, actionSlots, heldSlots, section, parts, image}
-use Rattle.engine.proofs.Decoded.{image-part}
 use Rattle.engine.proofs.Fit.{well-formed-fits}
 use Rattle.engine.proofs.HeaderLaws.{header-loaded}
 use Rattle.engine.proofs.Used.{held-slot-length, action-slots-length}
@@ -37,7 +36,7 @@ use Rattle.queue.proofs.Inside.{changed-at, over-extended}
 use Rattle.queue.proofs.SlotLaws.{slots-append}
 use Rattle.lists.specs.Lists.{place, ownCount, heldCount, numberedIn, nextHead}
 use Rattle.lists.specs.Sending.{laterHead, movedSlots, SendRoom, SendReady}
-use Rattle.lists.proofs.Changes.{changed-image}
+use Rattle.lists.proofs.Changes.{changed-image, part-here}
 use Rattle.lists.proofs.Counts.{holds-counts, holds-place, holds-quota, holds-own-count, holds-held-count, holds-numbered}
 use Rattle.lists.proofs.Fields.{theNumbered, theHeldCount, three-fields}
 use Rattle.lists.proofs.NumberLaws.{begun}
@@ -93,10 +92,7 @@ moved-made me g k (p ∷ ps) b from r o =
 
 held-here : (s : Server) (b : List ℕ) → Holds s b → Occurs (heldSlots (s .held)) b (offset (s .servers) (s .quota) theHeld)
 unfolding parts over
-held-here s b r =
-    let here = image-part s (well-formed-fits s (r .formed)) b (r .long) theHeld (omega arith) in
-    occurs-first (heldSlots (s .held)) _ b (offset (s .servers) (s .quota) theHeld)
-    (subst (λ (c : List ℕ). Occurs (getD (parts (s .servers) (s .quota) s b) theHeld []) c (offset (s .servers) (s .quota) theHeld)) (r .written) here)
+held-here s b r = occurs-first (heldSlots (s .held)) _ b (offset (s .servers) (s .quota) theHeld) (part-here s b r theHeld (omega arith))
 
 all-made : (s : Server) (b : List ℕ) → Holds s b → movedSlots (nextHead b) (length (s .held)) (place theHeld b) b ≡ actionSlots (madeOf (s .held) s)
 unfolding nextHead madeOf headerIn headerOf

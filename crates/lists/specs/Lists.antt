@@ -8,7 +8,6 @@ use lib.ListN.{length}
 use Rattle.base.specs.Bytes.{numberAt}
 use Rattle.base.specs.Lists.{Begins}
 use Rattle.format.specs.Limits.{mostPayload, mostHeld}
-use Rattle.format.specs.Types.{Id}
 use Rattle.record.specs.declared.ActionHead.{ActionHead}
 use Rattle.replication.specs.Machine.Types.{Log, Votes, Configuration, Membership, Server, noYellow, noStates}
 use Rattle.replication.specs.Machine.WellFormed.{queue}
@@ -54,10 +53,6 @@ nextHead b = record { creator = numberAt 1 b 3; index = numberAt 2 b 27 + 1; «g
 pub record YellowRoom (e b : List ℕ) : Type 0 where
   pub counts : CountsIn b
   pub short : length e ≤ 3 * (serversIn b * quotaIn b)
-
--- The votes with this yellow list.
-unfoldable pub withYellow : (status : ℕ) → List Id → Votes → Votes
-withYellow status ids v = record { last = v .last; attempt = v .attempt; mark = v .mark; yellow = record { status = status; ids = ids } }
 
 -- A server's number.
 pub record NumberIn (k : ℕ) (b : List ℕ) : Type 0 where

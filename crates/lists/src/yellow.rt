@@ -1,28 +1,24 @@
 // The yellow list in a state's buffer.
 ghost use mathlib.Core.Path.{_≡_};
 ghost use mathlib.Core.Bool.{true};
-ghost use mathlib.Core.List.{List};
 ghost use Prim.Native.Nat.{_+_, _*_, _≤_};
 ghost use lib.ListN.{length};
 ghost use Rattle.base.specs.Bytes.{bytesOf, numberAt};
 ghost use Rattle.base.specs.Patched.{patched};
-ghost use Rattle.format.specs.Types.{Id};
 ghost use Rattle.format.specs.Range.{idOk, sameId, hasId};
 ghost use Rattle.format.specs.Read.{idAt, idsAt};
-ghost use Rattle.format.specs.Write.{idBytes, idsBytes};
+ghost use Rattle.format.specs.Write.{idBytes};
 ghost use Rattle.record.specs.Values.{idOf};
 ghost use Rattle.replication.specs.Machine.Types.{Server, contextOf, withVotes};
 ghost use Rattle.replication.specs.Machine.Colours.{joinYellow};
 ghost use Rattle.engine.specs.Layout.{theYellow};
 ghost use Rattle.engine.specs.Image.{image};
 ghost use Rattle.engine.proofs.InPlace.{Holds};
-ghost use Rattle.lists.specs.Lists.{CountsIn, YellowRoom, place, withYellow};
+ghost use Rattle.lists.specs.Lists.{CountsIn, place};
 use engine::places::yellow_at;
-use record::blocks::copy;
 use record::bytes::num8;
 use record::bytes::num16;
 use stores::put_id;
-use stores::put8;
 use stores::put16;
 
 // Whether the id at `at` is this one.
@@ -52,7 +48,7 @@ fn has_id(e: &[u8], at: usize, count: usize, creator: u8, index: u16) -> bool
 }
 
 // Where the yellow list begins: there is room for one id more.
-fn yellow_place(state: &[u8]) -> usize
+pub fn yellow_place(state: &[u8]) -> usize
     requires { ⌜ CountsIn (now state) ⌝ }
     ensures { λ r. ⌜ (r ≡ place theYellow (now (state .entry))) × (r + (3 * numberAt 2 (now (state .entry)) 58 + 3) ≤ length (now (state .entry))) × (numberAt 2 (now (state .entry)) 58 ≤ 2048) × (60 ≤ length (now (state .entry))) ⌝ }
 {
@@ -79,22 +75,4 @@ pub fn join_yellow(state: &mut [u8], creator: u8, index: u16)
         return;
     }
     add_id(state, at + 3 * count as usize, count, creator, index);
-}
-
-fn put_numbers(state: &mut [u8], status: u8, count: u16)
-    requires { ⌜ 60 ≤ length (now state) ⌝ }
-    ensures { λ _. ⌜ now (state .exit) ≡ patched 58 (bytesOf 2 count) (patched 57 (bytesOf 1 status) (now (state .entry))) ⌝ }
-{
-    put8(state, 57, status);
-    put16(state, 58, count);
-}
-
-// Another yellow list: its status, its count, and the bytes of its ids.
-pub fn write_yellow(state: &mut [u8], status: u8, count: u16, ids: &[u8])
-    requires { ⌜ YellowRoom (now ids) (now state) ⌝ }
-    ensures { λ _. ⌜ ((s : Server) (l : List Id) → Holds s (now (state .entry)) → idsBytes l ≡ now (ids .entry) → length l ≡ count → now (state .exit) ≡ image (withVotes (withYellow status l (s .votes)) s) (now (state .entry))) ⌝ }
-{
-    let at = yellow_place(state);
-    copy(state, at, ids);
-    put_numbers(state, status, count);
 }
