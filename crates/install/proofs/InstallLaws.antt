@@ -9,8 +9,8 @@ use Rattle.replication.specs.Machine.Install.{idsUpTo, installLog}
 use Rattle.replication.specs.Machine.WellFormed.{wellFormed}
 use Rattle.replication.proofs.Step.Formed.{reds-differ}
 use Rattle.replication.proofs.Step.ModeColours.{install-no-red}
-use Rattle.queue.specs.Swaps.{greenSwaps}
-use Rattle.queue.proofs.SwapLaws.{alike-greens, alike-itself, alike-same}
+use Rattle.install.specs.Swaps.{greenSwaps}
+use Rattle.install.proofs.SwapLaws.{alike-greens, alike-itself, alike-same}
 
 -- "yellow list green in order, ids not held passed over" .. "all other reds green by creator, then index"
 pub install-swaps : (s : Server) → wellFormed s ≡ true

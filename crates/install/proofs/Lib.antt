@@ -1,0 +1,6 @@
+pub mod SwapLaws
+pub mod InstallLaws
+pub mod Swapped
+pub mod Places
+pub mod SwapFits
+pub mod Turning
