@@ -4,3 +4,5 @@ pub mod Swapped
 pub mod Places
 pub mod SwapFits
 pub mod Turning
+pub mod TableLaws
+pub mod TurnLaws
