@@ -84,12 +84,12 @@ module _ (s : Server) (b : List ℕ) (r : Holds s b) where
       ap (λ (x : Action). x .id) (some-same (sym (read-at k h) ∙ e))
 
 pub entry-made : (b : List ℕ) (k p x y r : ℕ) → Stated b → k < queueCount b → p ≡ queueAt b → x ≡ numberAt 1 b (p + slotSize * k) → y ≡ numberAt 2 b (p + slotSize * k + 1)
-    → (r ≡ slot (idOf x y)) × (r < 2048) → (r ≡ slot (idAt b (queueAt b + slotSize * k))) × (r < 2048)
+    → r ≡ slot (idOf x y) → r ≡ slot (idAt b (queueAt b + slotSize * k))
 unfolding idAt idOf
 entry-made b k p x y r s h e f g m =
     let same : idOf x y ≡ idAt b (queueAt b + slotSize * k) =
     (λ i. idOf (f i) (g i)) ∙ (λ i. idAt b (e i + slotSize * k)) in
-    (m .0 ∙ ap slot same, m .1)
+    m ∙ ap slot same
 
 pub entry-in : (b : List ℕ) (k p x y : ℕ) → Stated b → k < queueCount b → p ≡ queueAt b → x ≡ numberAt 1 b (p + slotSize * k) → y ≡ numberAt 2 b (p + slotSize * k + 1)
     → InTable x y
@@ -131,10 +131,10 @@ module _ (b : List ℕ) (s : Stated b) where
     right = λ j a h l m. absurd (omega (arith, green-read));
   }
 
-  pub filled-again : (k p : ℕ) (t : List ℕ) → Filled k t b → k < numberAt 4 b 19 → (p ≡ slot (idAt b (queueAt b + slotSize * k))) × (p < 2048)
+  pub filled-again : (k p n : ℕ) (t : List ℕ) → Filled k t b → n ≡ numberAt 4 b 19 → k < n → p ≡ slot (idAt b (queueAt b + slotSize * k)) → p < 2048
       → Filled (k + 1) (set t p k) b
   unfolding logIn
-  filled-again k p t f h e = record {
+  filled-again k p n t f count h e l = record {
     size = length-set t p k ∙ f .size;
     low = omega (arith, f .low);
     high = omega arith;
@@ -148,20 +148,20 @@ module _ (b : List ℕ) (s : Stated b) where
           w = decoded b
 
           here : (i : ℕ) (x : Action) → i ≡ k → at (queue ((decoded b) .log)) i ≡ some x → p ≡ slot (x .id)
-          here i x q n = e .0 ∙ ap (λ (z : ℕ). slot (idAt b (queueAt b + slotSize * z))) (sym q) ∙ ap slot (read-id (decoded b) b (s .holds) i x n)
+          here i x q n = e ∙ ap (λ (z : ℕ). slot (idAt b (queueAt b + slotSize * z))) (sym q) ∙ ap slot (read-id (decoded b) b (s .holds) i x n)
 
           go : Dec (j ≡ k) → getD (set t p k) (slot (a .id)) 0 ≡ j
-          go (yes q) = ap (λ (z : ℕ). getD (set t p k) z 0) (sym (here j a q m)) ∙ getD-set-same t p k 0 (omega (arith, e .1, f .size)) ∙ sym q
+          go (yes q) = ap (λ (z : ℕ). getD (set t p k) z 0) (sym (here j a q m)) ∙ getD-set-same t p k 0 (omega (arith, f .size)) ∙ sym q
           go (no q) =
               let x : Action = actionAt b (queueAt b + slotSize * k) in
-              let there : at (queue ((decoded b) .log)) k ≡ some x = read-at (decoded b) b (s .holds) k h in
+              let there : at (queue ((decoded b) .log)) k ≡ some x = read-at (decoded b) b (s .holds) k (omega arith) in
               let apart : slot (a .id) ≡ p → ⊥ = λ z. slots-apart (decoded b) b (s .holds) j k a x m there q (z ∙ here k x refl there) in
               getD-set-other t p (slot (a .id)) k 0 apart ∙ f .right j a low (omega arith) m
 
-  pub filled-end : (k : ℕ) (t : List ℕ) → Filled k t b → numberAt 4 b 19 ≤ k → Indexed t b
+  pub filled-end : (k n : ℕ) (t : List ℕ) → Filled k t b → n ≡ numberAt 4 b 19 → n ≤ k → Indexed t b
   unfolding logIn
-  filled-end k t f h = record {
+  filled-end k n t f m h = record {
     stated = s;
     size = f .size;
-    right = λ j a low m. f .right j a low (omega (arith, at-low (queue ((decoded b) .log)) j a m, numbers (decoded b) b (s .holds) .queue)) m;
+    right = λ j a low z. f .right j a low (omega (arith, at-low (queue ((decoded b) .log)) j a z, numbers (decoded b) b (s .holds) .queue)) z;
   }

@@ -52,8 +52,7 @@ module _ (t b : List ℕ) (x : Indexed t b) (d : Id) where
   red-entry h =
       let k = position-found d ((decoded b) .log .red) h in
       let there : at (queue ((decoded b) .log)) (redPlace d b) ≡ some (k .it) = red-at (position d ((decoded b) .log .red)) ∙ sym (find-at d ((decoded b) .log .red)) ∙ k .found in
-      let named : idAt b (queueAt b + slotSize * redPlace d b) ≡ d = read-id (decoded b) b (x .stated .holds) (redPlace d b) (k .it) there ∙ sym (k .named) in
-      (
+      let named : idAt b (queueAt b + slotSize * redPlace d b) ≡ d = read-id (decoded b) b (x .stated .holds) (redPlace d b) (k .it) there ∙ sym (k .named) in (
         ap (λ (e : Id). getD t (slot e) 0) (k .named) ∙ x .right (redPlace d b) (k .it) (omega arith) there,
         omega (arith, queue-count b (x .stated)),
         same-id-yes d _ (ap (λ (e : Id). e .creator) (sym named)) (ap (λ (e : Id). e .index) (sym named)),
@@ -75,30 +74,24 @@ module _ (t b : List ℕ) (x : Indexed t b) (d : Id) where
   unfolding redPlace
   green-low = omega (arith, green-read b (x .stated))
 
-  pub entry-green : (p k g n : ℕ) → (p ≡ slot d) × (p < 2048) → k ≡ getD t p 0 → g ≡ numberAt 4 b 23 → n ≡ numberAt 4 b 19 → k < g → (n ≡ redPlace d b) × (greenCount b ≤ n)
+  pub entry-green : (p k g n : ℕ) → p ≡ slot d → k ≡ getD t p 0 → g ≡ numberAt 4 b 23 → n ≡ numberAt 4 b 19 → k < g → n ≡ redPlace d b
   entry-green p k g n e f i j h =
-      let place : n ≡ redPlace d b =
-      j ∙ red-absent (λ m. let z = red-entry m in let w : k ≡ redPlace d b = f ∙ ap (λ (q : ℕ). getD t q 0) (e .0) ∙ z .0 in omega (arith, green-low)) in
-      (place, omega (arith, green-low))
+      j ∙ red-absent (λ m. let z = red-entry m in let w : k ≡ redPlace d b = f ∙ ap (λ (q : ℕ). getD t q 0) e ∙ z .0 in omega (arith, green-low))
 
-  pub entry-past : (p k n : ℕ) → (p ≡ slot d) × (p < 2048) → k ≡ getD t p 0 → n ≡ numberAt 4 b 19 → n ≤ k → (n ≡ redPlace d b) × (greenCount b ≤ n)
+  pub entry-past : (p k n : ℕ) → p ≡ slot d → k ≡ getD t p 0 → n ≡ numberAt 4 b 19 → n ≤ k → n ≡ redPlace d b
   entry-past p k n e f j h =
-      let place : n ≡ redPlace d b =
-      j ∙ red-absent (λ m. let z = red-entry m in let w : k ≡ redPlace d b = f ∙ ap (λ (q : ℕ). getD t q 0) (e .0) ∙ z .0 in omega (arith, z .1)) in
-      (place, omega (arith, green-low))
+      j ∙ red-absent (λ m. let z = red-entry m in let w : k ≡ redPlace d b = f ∙ ap (λ (q : ℕ). getD t q 0) e ∙ z .0 in omega (arith, z .1))
 
-  pub entry-other : (p k n a : ℕ) (has : Bool) → (p ≡ slot d) × (p < 2048) → k ≡ getD t p 0 → n ≡ numberAt 4 b 19 → a ≡ queueAt b
-      → has ≡ sameId d (idAt b (a + slotSize * k)) → has ≡ false → (n ≡ redPlace d b) × (greenCount b ≤ n)
+  pub entry-other : (p k n a : ℕ) (has : Bool) → p ≡ slot d → k ≡ getD t p 0 → n ≡ numberAt 4 b 19 → a ≡ queueAt b
+      → has ≡ sameId d (idAt b (a + slotSize * k)) → has ≡ false → n ≡ redPlace d b
   entry-other p k n a has e f j q g h =
-      let place : n ≡ redPlace d b =
       j ∙ red-absent (λ m. let z = red-entry m in
-      let w : k ≡ redPlace d b = f ∙ ap (λ (i : ℕ). getD t i 0) (e .0) ∙ z .0 in
+      let w : k ≡ redPlace d b = f ∙ ap (λ (i : ℕ). getD t i 0) e ∙ z .0 in
       let same : idAt b (a + slotSize * k) ≡ idAt b (queueAt b + slotSize * redPlace d b) = λ i. idAt b (q i + slotSize * w i) in
-      not-both (sym h ∙ g ∙ ap (sameId d) same ∙ z .2)) in
-      (place, omega (arith, green-low))
+      not-both (sym h ∙ g ∙ ap (sameId d) same ∙ z .2))
 
-  pub entry-found : (k g n a : ℕ) (has : Bool) → g ≡ numberAt 4 b 23 → (k < g → ⊥) → n ≡ numberAt 4 b 19 → (n ≤ k → ⊥) → a ≡ queueAt b
-      → has ≡ sameId d (idAt b (a + slotSize * k)) → has ≡ true → (k ≡ redPlace d b) × (greenCount b ≤ k)
+  pub entry-found : (k g n a : ℕ) (has : Bool) → g ≡ numberAt 4 b 23 → g ≤ k → n ≡ numberAt 4 b 19 → k < n → a ≡ queueAt b
+      → has ≡ sameId d (idAt b (a + slotSize * k)) → has ≡ true → k ≡ redPlace d b
   unfolding redPlace logIn
   entry-found k g n a has i low j high q e h =
       let w : Server = decoded b in
@@ -110,17 +103,17 @@ module _ (t b : List ℕ) (x : Indexed t b) (d : Id) where
       let once = fits-once (w .servers) (w .quota) (w .me) (w .log) (log-fits w (x .stated .holds .formed)) in
       let place : position d ((decoded b) .log .red) ≡ k - length ((decoded b) .log .green) =
       ap (λ (z : Id). position z ((decoded b) .log .red)) named ∙ position-at ((decoded b) .log .red) once (k - length ((decoded b) .log .green)) y red-there in
-      (omega arith, omega arith)
+      omega arith
 
 -- ---- turned green
 
-pub turned-passed : (t b : List ℕ) (d : Id) (k n : ℕ) → Indexed t b → (k ≡ redPlace d b) × (greenCount b ≤ k) → n ≡ numberAt 4 b 19 → n ≤ k → Turned (d ∷ []) b t b
+pub turned-passed : (t b : List ℕ) (d : Id) (k n : ℕ) → Indexed t b → k ≡ redPlace d b → n ≡ numberAt 4 b 19 → n ≤ k → Turned (d ∷ []) b t b
 unfolding redPlace logIn greenSwaps
 turned-passed t b d k n x e f h = go (swap? d ((decoded b) .log))
   where
     go : Swap d ((decoded b) .log) → Turned (d ∷ []) b t b
     go (unmoved m p) = record { written = sym (ap (λ (l : Log). image (withLog l (decoded b)) b) p ∙ x .stated .holds .written); indexed = x }
-    go (moved s p) = absurd (omega (arith, e .0, queue-count b (x .stated), s .count, ap length (s .whole), length-append (s .before) (s .it ∷ s .behind)))
+    go (moved s p) = absurd (omega (arith, queue-count b (x .stated), s .count, ap length (s .whole), length-append (s .before) (s .it ∷ s .behind)))
 
 -- The swap leaves a table of the new queue: only the action that was the lowest red one has another place.
 module _ (s : Server) (b : List ℕ) (r : Holds s b) (d : Id) (k : Stands d (s .log .red) (position d (s .log .red))) (t : List ℕ)
@@ -165,20 +158,20 @@ module _ (s : Server) (b : List ℕ) (r : Holds s b) (d : Id) (k : Stands d (s .
       (λ i a h e.
       right-after i a (omega (arith, ap (λ (l : Log). length (l .green)) q, length-append (s .log .green) (k .it ∷ []))) (ap (λ (l : Log). at (queue l) i) (sym q) ∙ e))
 
-pub turned-swapped : (t b t₁ b₁ : List ℕ) (d : Id) (k n g p : ℕ) → Indexed t b → (k ≡ redPlace d b) × (greenCount b ≤ k) → n ≡ numberAt 4 b 19 → (n ≤ k → ⊥)
-    → g ≡ numberAt 4 b 23 → (p ≡ slot (idAt b (queueAt b + slotSize * g))) × (p < 2048) → b₁ ≡ greenAt k b → t₁ ≡ set t p k → Turned (d ∷ []) b t₁ b₁
+pub turned-swapped : (t b t₁ b₁ : List ℕ) (d : Id) (k n g p : ℕ) → Indexed t b → k ≡ redPlace d b → n ≡ numberAt 4 b 19 → k < n
+    → g ≡ numberAt 4 b 23 → p ≡ slot (idAt b (queueAt b + slotSize * g)) → b₁ ≡ greenAt k b → t₁ ≡ set t p k → Turned (d ∷ []) b t₁ b₁
 unfolding redPlace logIn greenSwaps
 turned-swapped t b t₁ b₁ d k n g p x e f h i j made stored = go (swap? d ((decoded b) .log))
   where
     go : Swap d ((decoded b) .log) → Turned (d ∷ []) b t₁ b₁
-    go (unmoved m q) = absurd (h (omega (arith, e .0, queue-count b (x .stated))))
+    go (unmoved m q) = absurd (omega (arith, queue-count b (x .stated)))
     go (moved s q) =
         let w : Server = decoded b in
         let r : Holds w b = x .stated .holds in
         let l : Log = (decoded b) .log in
-        let written : b₁ ≡ image (withLog (greenSwap d l) w) b = made ∙ ap (λ (z : ℕ). greenAt z b) (e .0) ∙ swap-image w b r d s in
+        let written : b₁ ≡ image (withLog (greenSwap d l) w) b = made ∙ ap (λ (z : ℕ). greenAt z b) e ∙ swap-image w b r d s in
         let held : Holds (withLog (greenSwap d l) w) b₁ = swaps-hold w b b₁ r (d ∷ []) written in
         let place : p ≡ slot (lowest (s .before) (s .it) .id) =
-        j .0 ∙ ap (λ (z : ℕ). slot (idAt b (queueAt b + slotSize * z))) (i ∙ green-read b (x .stated)) ∙ ap slot (read-id w b r (length (l .green)) (lowest (s .before) (s .it)) (y-at w b r d s)) in
-        let same : t₁ ≡ set t (slot (lowest (s .before) (s .it) .id)) (length (l .green) + position d (l .red)) = stored ∙ (λ z. set t (place z) (e .0 z)) in
+        j ∙ ap (λ (z : ℕ). slot (idAt b (queueAt b + slotSize * z))) (i ∙ green-read b (x .stated)) ∙ ap slot (read-id w b r (length (l .green)) (lowest (s .before) (s .it)) (y-at w b r d s)) in
+        let same : t₁ ≡ set t (slot (lowest (s .before) (s .it) .id)) (length (l .green) + position d (l .red)) = stored ∙ (λ z. set t (place z) (e z)) in
         record { written = written; indexed = subst (λ (u : List ℕ). Indexed u b₁) (sym same) (indexed-after w b r d s t (x .size) (x .right) b₁ q held) }

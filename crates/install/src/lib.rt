@@ -2,3 +2,4 @@
 // ids up to the cuts turn the actions green, each by one swap: the cost is linear.
 
 pub mod swapping; // swapping.rt: an action turns green by a swap
+pub mod table; // table.rt: the places of the red actions
