@@ -6,3 +6,4 @@ pub mod SwapFits
 pub mod Turning
 pub mod TableLaws
 pub mod TurnLaws
+pub mod PassLaws
