@@ -1,5 +1,4 @@
 pub mod SwapLaws
-pub mod InstallLaws
 pub mod Swapped
 pub mod Places
 pub mod SwapFits
@@ -7,3 +6,4 @@ pub mod Turning
 pub mod TableLaws
 pub mod TurnLaws
 pub mod PassLaws
+pub mod InstallLaws

@@ -47,6 +47,10 @@ ids-at (suc m) e p (suc k) h =
     let f : p + 3 + 3 * k ≡ p + 3 * suc k = omega arith in
     ids-at m e (p + 3) k (omega arith) ∙ ap (λ (i : ℕ). some (idAt e i)) f
 
+pub turned-read : (b t₁ b₁ : List ℕ) (p x y : ℕ) → x ≡ numberAt 1 b p → y ≡ numberAt 2 b (p + 1) → Turned (idOf x y ∷ []) b t₁ b₁ → Turned (idAt b p ∷ []) b t₁ b₁
+unfolding idAt idOf
+turned-read b t₁ b₁ p x y e f turn = turned-as (idOf x y ∷ []) (idAt b p ∷ []) b t₁ b₁ (λ i. idOf (e i) (f i) ∷ []) turn
+
 pub yellow-start : (b t : List ℕ) → Indexed t b → Turned (take 0 (yellowsIn b)) b t b
 yellow-start b t r = turned-none b t r
 
@@ -66,34 +70,34 @@ module _ (b₀ : List ℕ) (s₀ : Stated b₀) where
   unfolding yellowsIn
   yellow-count = holds-yellow-count (decoded b₀) b₀ (s₀ .holds)
 
-  yellow-id : (ds : List Id) (t b : List ℕ) (j n p x y : ℕ) → Turned ds b₀ t b → p ≡ place theYellow b₀ → n ≡ numberAt 2 b₀ 58 → j < n
-      → x ≡ numberAt 1 b (p + 3 * j) → y ≡ numberAt 2 b (p + 3 * j + 1) → at (yellowsIn b₀) j ≡ some (idOf x y)
-  unfolding idAt idOf yellowCount
-  yellow-id ds t b j n p x y e f g h i k =
+  yellow-id : (ds : List Id) (t b : List ℕ) (j n p : ℕ) → Turned ds b₀ t b → p ≡ place theYellow b₀ → n ≡ numberAt 2 b₀ 58 → j < n
+      → at (yellowsIn b₀) j ≡ some (idAt b (p + 3 * j))
+  unfolding yellowCount
+  yellow-id ds t b j n p e f g h =
       let kept = yellow-kept ds t b e in
       let r = e .indexed .stated .holds in
       let many : j < numberAt 2 b 58 = omega (arith, holds-yellow-count (decoded b) b r, ap length kept, yellow-count) in
       ap (λ (l : List Id). at l j) (sym kept ∙ sym (holds-ids (decoded b) b r))
       ∙ ids-at (numberAt 2 b 58) b (place theYellow b) j many
       ∙ ap (λ (q : ℕ). some (idAt b (q + 3 * j))) (yellow-place ds t b e ∙ sym f)
-      ∙ (λ q. some (idOf (sym i q) (sym k q)))
 
-  pub yellow-in : (ds : List Id) (t b : List ℕ) (j n p x y : ℕ) → Turned ds b₀ t b → p ≡ place theYellow b₀ → n ≡ numberAt 2 b₀ 58 → j < n
-      → x ≡ numberAt 1 b (p + 3 * j) → y ≡ numberAt 2 b (p + 3 * j + 1) → InTable x y
-  unfolding yellowsIn idOf
-  yellow-in ds t b j n p x y e f g h i k =
+  pub yellow-in : (ds : List Id) (t b : List ℕ) (j n p : ℕ) → Turned ds b₀ t b → p ≡ place theYellow b₀ → n ≡ numberAt 2 b₀ 58 → j < n
+      → InTable (numberAt 1 b (p + 3 * j)) (numberAt 2 b (p + 3 * j + 1))
+  unfolding yellowsIn idAt
+  yellow-in ds t b j n p e f g h =
       let v : Server = decoded b₀ in
       let facts = well-formed-facts v (s₀ .holds .formed) in
-      let fits = each-at (IdFits (v .servers) (v .quota)) (v .votes .yellow .ids) j (idOf x y) (facts .votes .yellow .ids) (yellow-id ds t b j n p x y e f g h i k) in
+      let fits = each-at (IdFits (v .servers) (v .quota)) (v .votes .yellow .ids) j (idAt b (p + 3 * j)) (facts .votes .yellow .ids) (yellow-id ds t b j n p e f g h) in
       record { creator = omega (arith, facts .sizes .most); least = fits .least; most = omega (arith, facts .sizes .highest) }
 
-  pub yellow-again : (t b t₁ b₁ : List ℕ) (j n p x y : ℕ) → Turned (take j (yellowsIn b₀)) b₀ t b → p ≡ place theYellow b₀ → n ≡ numberAt 2 b₀ 58 → j < n
-      → x ≡ numberAt 1 b (p + 3 * j) → y ≡ numberAt 2 b (p + 3 * j + 1) → Turned (idOf x y ∷ []) b t₁ b₁ → Turned (take (j + 1) (yellowsIn b₀)) b₀ t₁ b₁
-  yellow-again t b t₁ b₁ j n p x y e f g h i k turn =
+  pub yellow-again : (t b t₁ b₁ : List ℕ) (j n p : ℕ) → Turned (take j (yellowsIn b₀)) b₀ t b → p ≡ place theYellow b₀ → n ≡ numberAt 2 b₀ 58 → j < n
+      → Turned (idAt b (p + 3 * j) ∷ []) b t₁ b₁ → Turned (take (j + 1) (yellowsIn b₀)) b₀ t₁ b₁
+  yellow-again t b t₁ b₁ j n p e f g h turn =
       let ids : List Id = yellowsIn b₀ in
-      turned-as (take j ids ++ (idOf x y ∷ [])) (take (j + 1) ids) b₀ t₁ b₁
-      (sym (ap (λ (m : ℕ). take m ids) (add-one j) ∙ take-next ids j (idOf x y) (yellow-id (take j ids) t b j n p x y e f g h i k)))
-      (turned-append (take j ids) (idOf x y ∷ []) b₀ t b t₁ b₁ s₀ e turn)
+      let d : Id = idAt b (p + 3 * j) in
+      turned-as (take j ids ++ (d ∷ [])) (take (j + 1) ids) b₀ t₁ b₁
+      (sym (ap (λ (m : ℕ). take m ids) (add-one j) ∙ take-next ids j d (yellow-id (take j ids) t b j n p e f g h)))
+      (turned-append (take j ids) (d ∷ []) b₀ t b t₁ b₁ s₀ e turn)
 
   pub yellow-end : (t b : List ℕ) (j n : ℕ) → Turned (take j (yellowsIn b₀)) b₀ t b → n ≡ numberAt 2 b₀ 58 → n ≤ j → Turned (yellowsIn b₀) b₀ t b
   unfolding yellowCount

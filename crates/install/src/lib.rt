@@ -3,3 +3,5 @@
 
 pub mod swapping; // swapping.rt: an action turns green by a swap
 pub mod table; // table.rt: the places of the red actions
+pub mod passes; // passes.rt: the ids in Install's order
+pub mod installing; // installing.rt: Install
