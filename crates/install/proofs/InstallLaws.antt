@@ -31,7 +31,7 @@ use Rattle.engine.proofs.InPlace.{Holds, holds-section}
 use Rattle.queue.proofs.Holding.{log-formed, log-fits, holds-decoded, image-holds}
 use Rattle.lists.proofs.MembershipLaws.{Saved}
 use Rattle.install.specs.Swaps.{greenSwaps}
-use Rattle.install.specs.Table.{Stated, logIn, yellowsIn, Indexed, Turned}
+use Rattle.install.specs.Table.{Stated, logIn, yellowsIn, Turned}
 use Rattle.install.proofs.SwapFits.{swaps-kept, swaps-append}
 use Rattle.install.proofs.Turning.{holds-stated, turned-append}
 use Rattle.install.proofs.PassLaws.{cuts-kept}

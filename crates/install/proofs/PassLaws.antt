@@ -1,7 +1,7 @@
 -- The passes over the yellow list and over the cuts.
 -- Assumes nothing.
 use Prim.Native.Nat.{ℕ, zero, suc, _+_, _*_, _-_, _≤_, _<_}
-use mathlib.Core.Path.{_≡_, refl, sym, ap, subst, _∙_}
+use mathlib.Core.Path.{_≡_, sym, ap, subst, _∙_}
 use mathlib.Core.List.{List, [], _∷_, _++_, append-assoc, append-nil, map, map-append}
 use mathlib.Core.Option.{some}
 use native.Mathlib.Nat.{add-zero}
@@ -16,20 +16,17 @@ use Rattle.base.specs.ListLaws.{each-at, above-more}
 use Rattle.format.specs.Types.{Id}
 use Rattle.format.specs.Read.{idAt, idsAt}
 use Rattle.record.specs.Values.{idOf}
-use Rattle.replication.specs.Machine.Types.{Log, Server, withLog}
+use Rattle.replication.specs.Machine.Types.{Server}
 use Rattle.replication.specs.Machine.Colours.{cut}
 use Rattle.replication.specs.Machine.Install.{idsUpTo}
 use Rattle.replication.specs.Machine.WellFormedRanges.{IdFits}
 use Rattle.replication.proofs.WellFormed.Facts.{well-formed-facts}
 use Rattle.engine.specs.Layout.{theYellow, offset}
 use Rattle.engine.specs.Decode.{decoded}
-use Rattle.engine.proofs.InPlace.{Holds}
-use Rattle.queue.specs.Queue.{serversOf}
 use Rattle.queue.proofs.Holding.{numbers}
 use Rattle.queue.proofs.RedLaws.{cut-read}
 use Rattle.lists.specs.Lists.{yellowCount, place}
 use Rattle.lists.proofs.Counts.{holds-ids, holds-place, holds-yellow-count}
-use Rattle.install.specs.Swaps.{greenSwaps}
 use Rattle.install.specs.Table.{Stated, logIn, yellowsIn, idsOf, InTable, Indexed, Turned}
 use Rattle.install.proofs.SwapFits.{swaps-kept}
 use Rattle.install.proofs.Turning.{turned-decoded, turned-append, turned-none}

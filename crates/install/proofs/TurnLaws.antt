@@ -1,15 +1,15 @@
 -- The table looked up, and kept by a swap.
 -- Assumes nothing.
-use Prim.Native.Nat.{ℕ, zero, suc, _+_, _*_, _-_, _≤_, _<_}
-use mathlib.Core.Path.{_≡_, refl, sym, ap, ap₂, subst, _∙_}
+use Prim.Native.Nat.{ℕ, _+_, _*_, _-_, _≤_, _<_}
+use mathlib.Core.Path.{_≡_, sym, ap, subst, _∙_}
 use mathlib.Core.Bool.{Bool, true, false}
-use mathlib.Core.List.{List, [], _∷_, _++_}
-use mathlib.Core.Option.{Option, none, some}
+use mathlib.Core.List.{List, [], _∷_}
+use mathlib.Core.Option.{some}
 use native.Mathlib.Decide.{ℕ-discrete}
 use native.Mathlib.Omega.{arith}
 use lib.ListN.{length, getD, set, length-append, length-set}
 use lib.Seq.{getD-set-same, getD-set-other}
-use Rattle.base.specs.AtLaws.{some-same, at-low, at-there, at-set-same, at-set-other}
+use Rattle.base.specs.AtLaws.{some-same, at-set-same, at-set-other}
 use Rattle.base.specs.Bytes.{numberAt}
 use Rattle.base.specs.Gathered.{at-second}
 use Rattle.base.specs.Lists.{at}
@@ -31,12 +31,12 @@ use Rattle.queue.proofs.Holding.{log-fits}
 use Rattle.queue.proofs.Positions.{Stands, position-found, position-most}
 use Rattle.queue.proofs.ReadLaws.{find-at}
 use Rattle.install.specs.Swaps.{greenSwap, greenSwaps, greenFound, greenAt}
-use Rattle.install.specs.Table.{Stated, logIn, redPlace, Indexed, Turned}
+use Rattle.install.specs.Table.{logIn, redPlace, Indexed, Turned}
 use Rattle.install.proofs.Places.{position-at}
 use Rattle.install.proofs.SwapFits.{Swap, unmoved, moved, swap?, fits-once}
-use Rattle.install.proofs.Swapped.{lowest, queue-after, y-at, x-low, y-low, swap-image}
+use Rattle.install.proofs.Swapped.{lowest, queue-after, y-at, x-low, swap-image}
 use Rattle.install.proofs.TableLaws.{id-low, slots-apart, read-at, read-id, green-read, queue-count}
-use Rattle.install.proofs.Turning.{swaps-hold, turned-none, indexed-by}
+use Rattle.install.proofs.Turning.{swaps-hold, indexed-by}
 
 -- ---- looked up
 

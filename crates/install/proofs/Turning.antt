@@ -1,9 +1,9 @@
 -- Actions turned green one after the other, in a buffer.
 -- Assumes nothing.
-use Prim.Native.Nat.{ℕ, _+_, _*_, _≤_, _<_}
+use Prim.Native.Nat.{ℕ, _+_, _*_, _≤_}
 use mathlib.Core.Path.{_≡_, refl, sym, ap, subst, _∙_}
 use mathlib.Core.Bool.{true}
-use mathlib.Core.List.{List, [], _∷_, _++_}
+use mathlib.Core.List.{List, [], _++_}
 use mathlib.Core.Option.{some}
 use native.Mathlib.Omega.{arith}
 use lib.ListN.{length, getD}
@@ -14,12 +14,11 @@ use Rattle.format.specs.Write.{cutsBytes}
 use Rattle.record.specs.Values.{slot}
 use Rattle.replication.specs.Machine.Types.{Log, Server, withLog}
 use Rattle.replication.specs.Machine.WellFormed.{queue, wellFormed}
-use Rattle.engine.specs.Layout.{slotSize, stateLength}
+use Rattle.engine.specs.Layout.{slotSize}
 use Rattle.engine.specs.Image.{actionSlots, image}
 use Rattle.engine.specs.Decode.{decoded}
 use Rattle.engine.proofs.Used.{action-slots-length}
 use Rattle.engine.proofs.Fit.{well-formed-fits}
-use Rattle.engine.proofs.ImageLaws.{decoded-image}
 use Rattle.engine.proofs.InPlace.{Holds}
 use Rattle.queue.proofs.Holding.{log-formed, log-fits, holds-counts, holds-decoded, image-holds}
 use Rattle.queue.proofs.GreenLaws.{log-image-over}
