@@ -44,7 +44,8 @@ ids-at (suc m) e p (suc k) h =
     let f : p + 3 + 3 * k ≡ p + 3 * suc k = omega arith in
     ids-at m e (p + 3) k (omega arith) ∙ ap (λ (i : ℕ). some (idAt e i)) f
 
-pub turned-read : (b t₁ b₁ : List ℕ) (p x y : ℕ) → x ≡ numberAt 1 b p → y ≡ numberAt 2 b (p + 1) → Turned (idOf x y ∷ []) b t₁ b₁ → Turned (idAt b p ∷ []) b t₁ b₁
+pub turned-read : (b t₁ b₁ : List ℕ) (p x y : ℕ) → x ≡ numberAt 1 b p → y ≡ numberAt 2 b (p + 1) → Turned (idOf x y ∷ []) b t₁ b₁
+    → Turned (idAt b p ∷ []) b t₁ b₁
 unfolding idAt idOf
 turned-read b t₁ b₁ p x y e f turn = turned-as (idOf x y ∷ []) (idAt b p ∷ []) b t₁ b₁ (λ i. idOf (e i) (f i) ∷ []) turn
 
@@ -129,7 +130,8 @@ module _ (b₀ : List ℕ) (s₀ : Stated b₀) (c : ℕ) where
       (sym (ap (map (idOf c)) (above-more 0 i 1 (omega arith)) ∙ map-append (idOf c) (above 0 i) (after i 1)))
       (turned-append (map (idOf c) (above 0 i)) (idOf c (i + 1) ∷ []) b₀ t b t₁ b₁ s₀ e turn)
 
-  pub creator-end : (t b : List ℕ) (k i : ℕ) → c < numberAt 1 b₀ 0 → k ≡ numberAt 2 b₀ (60 + 2 * c) → i ≤ k → k ≤ i → Turned (map (idOf c) (above 0 i)) b₀ t b
+  pub creator-end : (t b : List ℕ) (k i : ℕ) → c < numberAt 1 b₀ 0 → k ≡ numberAt 2 b₀ (60 + 2 * c) → i ≤ k → k ≤ i
+      → Turned (map (idOf c) (above 0 i)) b₀ t b
       → Turned (idsOf c b₀) b₀ t b
   unfolding idsOf
   creator-end t b k i h e l m turn =
@@ -168,7 +170,8 @@ module _ (b₀ : List ℕ) (s₀ : Stated b₀) where
         ap (λ (v : Server). v .servers) (turned-decoded ds b₀ t b s₀ e),
       )
 
-  pub rest-again : (t b t₁ b₁ : List ℕ) (n c : ℕ) → Turned (idsUpTo 0 (take c (logIn b₀ .cuts))) b₀ t b → n ≡ numberAt 1 b₀ 0 → c < n → Turned (idsOf c b) b t₁ b₁
+  pub rest-again : (t b t₁ b₁ : List ℕ) (n c : ℕ) → Turned (idsUpTo 0 (take c (logIn b₀ .cuts))) b₀ t b → n ≡ numberAt 1 b₀ 0 → c < n
+      → Turned (idsOf c b) b t₁ b₁
       → Turned (idsUpTo 0 (take (c + 1) (logIn b₀ .cuts))) b₀ t₁ b₁
   unfolding idsOf cut
   rest-again t b t₁ b₁ n c e f h turn =
@@ -184,7 +187,8 @@ module _ (b₀ : List ℕ) (s₀ : Stated b₀) where
       turned-as (idsUpTo 0 (take c cuts) ++ idsOf c b) (idsUpTo 0 (take (c + 1) cuts)) b₀ t₁ b₁ (sym last)
       (turned-append (idsUpTo 0 (take c cuts)) (idsOf c b) b₀ t b t₁ b₁ s₀ e turn)
 
-  pub rest-end : (t b : List ℕ) (n c : ℕ) → Turned (idsUpTo 0 (take c (logIn b₀ .cuts))) b₀ t b → n ≡ numberAt 1 b₀ 0 → n ≤ c → Turned (idsUpTo 0 (logIn b₀ .cuts)) b₀ t b
+  pub rest-end : (t b : List ℕ) (n c : ℕ) → Turned (idsUpTo 0 (take c (logIn b₀ .cuts))) b₀ t b → n ≡ numberAt 1 b₀ 0 → n ≤ c
+      → Turned (idsUpTo 0 (logIn b₀ .cuts)) b₀ t b
   rest-end t b n c e f h =
       turned-as (idsUpTo 0 (take c (logIn b₀ .cuts))) (idsUpTo 0 (logIn b₀ .cuts)) b₀ t b
       (ap (idsUpTo 0) (take-all c (logIn b₀ .cuts) (omega (arith, cuts-count)))) e

@@ -69,7 +69,12 @@ found-kept d l k = record {
   numbered = refl;
   count =
       length-append (l .green ++ (k .it ∷ [])) (swapOut (position d (l .red)) (l .red))
-      ∙ omega (arith, length-append (l .green) (k .it ∷ []), swap-out-length (position d (l .red)) (l .red) (stands-low d (l .red) (position d (l .red)) k), length-append (l .green) (l .red));
+      ∙ omega (
+        arith,
+        length-append (l .green) (k .it ∷ []),
+        swap-out-length (position d (l .red)) (l .red) (stands-low d (l .red) (position d (l .red)) k),
+        length-append (l .green) (l .red),
+      );
 }
 
 swap-kept : (d : Id) (l : Log) → Kept l (greenSwap d l)
@@ -105,7 +110,8 @@ found-held d l once k e =
       count-single (λ (a : Action). sameId e (a .id)) (k .it),
     )
 
-found-fits : (n q me : ℕ) (d : Id) (l : Log) (k : Stands d (l .red) (position d (l .red))) → ((e : Id) → heldCount e (greenFound (some (k .it)) (position d (l .red)) l) ≡ heldCount e l)
+found-fits : (n q me : ℕ) (d : Id) (l : Log) (k : Stands d (l .red) (position d (l .red)))
+    → ((e : Id) → heldCount e (greenFound (some (k .it)) (position d (l .red)) l) ≡ heldCount e l)
     → LogFits n q me l → LogFits n q me (greenFound (some (k .it)) (position d (l .red)) l)
 unfolding greenFound cut
 found-fits n q me d l k kept f = record {

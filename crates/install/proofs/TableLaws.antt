@@ -53,7 +53,8 @@ module _ (s : Server) (b : List ℕ) (r : Holds s b) where
       omega (arith, log-fits s (r .formed) .once d, count-map (sameId d) (λ (a : Action). a .id) (queue (s .log)))
 
   -- Actions at different places have different places in the table.
-  pub slots-apart : (i j : ℕ) (x y : Action) → at (queue (s .log)) i ≡ some x → at (queue (s .log)) j ≡ some y → (i ≡ j → ⊥) → slot (x .id) ≡ slot (y .id) → ⊥
+  pub slots-apart : (i j : ℕ) (x y : Action) → at (queue (s .log)) i ≡ some x → at (queue (s .log)) j ≡ some y → (i ≡ j → ⊥)
+      → slot (x .id) ≡ slot (y .id) → ⊥
   slots-apart i j x y e f n h = go (known (sameId (x .id) (y .id)))
     where
       go : Known (sameId (x .id) (y .id)) → ⊥
@@ -78,7 +79,8 @@ entry-made b k p x y r e f g m =
     (λ i. idOf (f i) (g i)) ∙ (λ i. idAt b (e i + slotSize * k)) in
     m ∙ ap slot same
 
-pub entry-in : (b : List ℕ) (k p x y : ℕ) → Stated b → k < queueCount b → p ≡ queueAt b → x ≡ numberAt 1 b (p + slotSize * k) → y ≡ numberAt 2 b (p + slotSize * k + 1)
+pub entry-in : (b : List ℕ) (k p x y : ℕ) → Stated b → k < queueCount b → p ≡ queueAt b → x ≡ numberAt 1 b (p + slotSize * k)
+    → y ≡ numberAt 2 b (p + slotSize * k + 1)
     → InTable x y
 unfolding idAt idOf contextOf
 entry-in b k p x y s h e f g =
@@ -128,7 +130,8 @@ module _ (b : List ℕ) (s : Stated b) where
     right = right;
   }
     where
-      right : (j : ℕ) (a : Action) → length ((decoded b) .log .green) ≤ j → j < k + 1 → at (queue ((decoded b) .log)) j ≡ some a → getD (set t p k) (slot (a .id)) 0 ≡ j
+      right : (j : ℕ) (a : Action) → length ((decoded b) .log .green) ≤ j → j < k + 1 → at (queue ((decoded b) .log)) j ≡ some a
+          → getD (set t p k) (slot (a .id)) 0 ≡ j
       right j a low lt m = go (ℕ-discrete j k)
         where
           here : (i : ℕ) (x : Action) → i ≡ k → at (queue ((decoded b) .log)) i ≡ some x → p ≡ slot (x .id)

@@ -65,7 +65,9 @@ swaps-over s ds es b r =
     let k = swaps-kept es l in
     let actions : length (actionSlots (queue m)) ≡ length (actionSlots (queue l)) =
     action-slots-length (queue m) (g .actions) ∙ ap (λ (i : ℕ). slotSize * i) (k .count) ∙ sym (action-slots-length (queue l) (f .actions)) in
-    log-image-over s l m b ok (r .long) (omega (arith, ap (λ (x : List ℕ). length (cutsBytes x)) (k .cuts))) (omega (arith, ap (λ (x : List Action). length (actionSlots x)) (k .own))) (omega arith)
+    let cuts : length (cutsBytes (m .cuts)) ≡ length (cutsBytes (l .cuts)) = ap (λ (x : List ℕ). length (cutsBytes x)) (k .cuts) in
+    let own : length (actionSlots (m .own)) ≡ length (actionSlots (l .own)) = ap (λ (x : List Action). length (actionSlots x)) (k .own) in
+    log-image-over s l m b ok (r .long) (omega arith) (omega arith) (omega arith)
 
 pub turned-append : (ds es : List Id) (b t₁ b₁ t₂ b₂ : List ℕ) → Stated b → Turned ds b t₁ b₁ → Turned es b₁ t₂ b₂ → Turned (ds ++ es) b t₂ b₂
 unfolding logIn
