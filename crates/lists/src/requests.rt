@@ -36,7 +36,7 @@ fn own_place(state: &[u8]) -> usize
 }
 
 // The next own action but its payload.
-fn next_head(state: &[u8]) -> ActionHead
+pub fn next_head(state: &[u8]) -> ActionHead
     requires { ⌜ (numberAt 2 (now state) 27 ≤ 256) × (60 ≤ length (now state)) ⌝ }
     ensures { λ r. ⌜ r ≡ nextHead (now (state .entry)) ⌝ }
 {
