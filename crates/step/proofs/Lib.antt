@@ -4,3 +4,9 @@ pub mod ModeLaws
 pub mod ForceLaws
 pub mod ColourLaws
 pub mod ActionLaws
+pub mod RetransmissionLaws
+pub mod SenderLaws
+pub mod StateEventLaws
+pub mod CpcLaws
+pub mod ConfigurationLaws
+pub mod RequestEventLaws

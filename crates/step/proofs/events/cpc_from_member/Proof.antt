@@ -1,3 +1,4 @@
+use Rattle.step.proofs.SenderLaws.{cpc-stranger, cpc-elsewhere, cpc-once}
 use borrow.Author.Needs.{needs}
 use Rattle.step.proofs.events.cpc_from_member.Statement.{statement}
 use Rattle.step.proofs.events.cpc_from_member.Tie as tie
@@ -13,7 +14,7 @@ is-member-requires c κs = search needs
 
 -- src/events.rt:184:9
 returns : tie.Need-returns
-returns c = ?
+returns c = search (needs, cpc-stranger)
 
 -- src/events.rt:186:9
 is-of-requires : tie.Need-is-of-requires
@@ -21,7 +22,7 @@ is-of-requires c κs = search needs
 
 -- src/events.rt:187:9
 returns-2 : tie.Need-returns-2
-returns-2 c = ?
+returns-2 c = search (needs, cpc-elsewhere)
 
 -- src/events.rt:189:6
 cpc-in-requires : tie.Need-cpc-in-requires
@@ -29,7 +30,7 @@ cpc-in-requires c κs = search needs
 
 -- src/events.rt:179:1
 returns-3 : tie.Need-returns-3
-returns-3 c = ?
+returns-3 c = search (needs, cpc-once)
 
 pub cpc-from-member-spec : {M : Type 1} → statement M
 cpc-from-member-spec =

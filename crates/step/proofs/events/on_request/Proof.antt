@@ -1,3 +1,4 @@
+use Rattle.step.proofs.RequestEventLaws.{quota-used, held-full, request-ready, request-taken}
 use borrow.Author.Needs.{needs}
 use Rattle.step.proofs.events.on_request.Statement.{statement}
 use Rattle.step.proofs.events.on_request.Tie as tie
@@ -18,7 +19,7 @@ refused-requires c κs = search needs
 
 -- src/events.rt:263:9
 returns : tie.Need-returns
-returns c = ?
+returns c = search (needs, quota-used)
 
 -- src/events.rt:265:9
 room-to-hold-requires : tie.Need-room-to-hold-requires
@@ -30,11 +31,11 @@ refused-requires-2 c κs = search needs
 
 -- src/events.rt:266:9
 returns-2 : tie.Need-returns-2
-returns-2 c = ?
+returns-2 c = search (needs, held-full)
 
 -- src/events.rt:268:5
 request-requires : tie.Need-request-requires
-request-requires c κs = ?
+request-requires c κs = request-ready _ _ _ _ (c .before .before .before .before .before .before .before .before .before .pre) _ (c .before .before .before .before .before .quota-left .ensures) (c .before .before .before .before .if1 .left) _ (c .before .before .before .room-to-hold .ensures) (c .before .before .if2 .left)
 
 -- src/events.rt:258:1
 same-length : tie.Need-same-length
@@ -46,7 +47,7 @@ same-length-2 c = search needs
 
 -- src/events.rt:258:1
 returns-3 : tie.Need-returns-3
-returns-3 c = ?
+returns-3 c = search (needs, request-taken)
 
 pub on-request-spec : {M : Type 1} → statement M
 on-request-spec =

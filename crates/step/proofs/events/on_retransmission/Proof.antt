@@ -1,3 +1,4 @@
+use Rattle.step.proofs.RetransmissionLaws.{sender-below, resent-untaken, resent-unnumbered, resent-outside, exchange-ready, resent-exchanged, resent-room, resent-red}
 use borrow.Author.Needs.{needs}
 use Rattle.step.proofs.events.on_retransmission.Statement.{statement}
 use Rattle.step.proofs.events.on_retransmission.Tie as tie
@@ -21,7 +22,7 @@ refused-requires c κs = search needs
 
 -- src/events.rt:120:9
 returns : tie.Need-returns
-returns c = ?
+returns c = search (needs, resent-untaken)
 
 -- src/events.rt:122:9
 numbered-own-requires : tie.Need-numbered-own-requires
@@ -33,11 +34,11 @@ refused-requires-2 c κs = search needs
 
 -- src/events.rt:123:9
 returns-2 : tie.Need-returns-2
-returns-2 c = ?
+returns-2 c = search (needs, resent-unnumbered)
 
 -- src/events.rt:125:9
 is-member-requires : tie.Need-is-member-requires
-is-member-requires c κs = ?
+is-member-requires c κs = search (needs, sender-below)
 
 -- src/events.rt:126:9
 refused-requires-3 : tie.Need-refused-requires-3
@@ -45,11 +46,11 @@ refused-requires-3 c κs = search needs
 
 -- src/events.rt:126:9
 returns-3 : tie.Need-returns-3
-returns-3 c = ?
+returns-3 c = search (needs, resent-outside)
 
 -- src/events.rt:129:9
 exchange-requires : tie.Need-exchange-requires
-exchange-requires c κs = ?
+exchange-requires c κs = exchange-ready _ _ _ _ _ _ _ (c .before .before .before .before .before .before .before .before .before .before .before .before .before .pre) _ (c .before .before .before .before .before .before .before .before .before .takes-retransmission .ensures) (c .before .before .before .before .before .before .before .before .if1 .left) _ (c .before .before .before .before .before .before .before .numbered-own .ensures) (c .before .before .before .before .before .before .if2 .left) _ (c .before .before .before .before .before .is-member .ensures) (c .before .before .before .before .if3 .left) (c .before .before .if4 .taken)
 
 -- src/events.rt:129:9
 same-length : tie.Need-same-length
@@ -61,11 +62,11 @@ same-length-2 c = search needs
 
 -- src/events.rt:129:9
 returns-4 : tie.Need-returns-4
-returns-4 c = ?
+returns-4 c = search (needs, resent-exchanged)
 
 -- src/events.rt:131:5
 red-requires : tie.Need-red-requires
-red-requires c κs = ?
+red-requires c κs = search (needs, resent-room)
 
 -- src/events.rt:132:5
 quiet-requires : tie.Need-quiet-requires
@@ -77,7 +78,7 @@ same-length-3 c = search needs
 
 -- src/events.rt:107:1
 returns-5 : tie.Need-returns-5
-returns-5 c = ?
+returns-5 c = search (needs, resent-red)
 
 pub on-retransmission-spec : {M : Type 1} → statement M
 on-retransmission-spec =

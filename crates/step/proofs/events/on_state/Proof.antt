@@ -1,3 +1,4 @@
+use Rattle.step.proofs.StateEventLaws.{state-sender-below, state-ignored, state-untaken, state-outside, state-came, state-collected}
 use borrow.Author.Needs.{needs}
 use Rattle.step.proofs.events.on_state.Statement.{statement}
 use Rattle.step.proofs.events.on_state.Tie as tie
@@ -14,7 +15,7 @@ quiet-requires c κs = search needs
 
 -- src/events.rt:155:9
 returns : tie.Need-returns
-returns c = ?
+returns c = search (needs, state-ignored)
 
 -- src/events.rt:158:9
 refused-requires : tie.Need-refused-requires
@@ -22,11 +23,11 @@ refused-requires c κs = search needs
 
 -- src/events.rt:158:9
 returns-2 : tie.Need-returns-2
-returns-2 c = ?
+returns-2 c = search (needs, state-untaken)
 
 -- src/events.rt:160:9
 state-from-member-requires : tie.Need-state-from-member-requires
-state-from-member-requires c κs = ?
+state-from-member-requires c κs = search (needs, state-sender-below)
 
 -- src/events.rt:161:9
 refused-requires-2 : tie.Need-refused-requires-2
@@ -34,11 +35,11 @@ refused-requires-2 c κs = search needs
 
 -- src/events.rt:161:9
 returns-3 : tie.Need-returns-3
-returns-3 c = ?
+returns-3 c = search (needs, state-outside)
 
 -- src/events.rt:163:5
 collect-requires : tie.Need-collect-requires
-collect-requires c κs = ?
+collect-requires c κs = search (needs, state-came)
 
 -- src/events.rt:150:1
 same-length : tie.Need-same-length
@@ -50,7 +51,7 @@ same-length-2 c = search needs
 
 -- src/events.rt:150:1
 returns-4 : tie.Need-returns-4
-returns-4 c = ?
+returns-4 c = search (needs, state-collected)
 
 pub on-state-spec : {M : Type 1} → statement M
 on-state-spec =

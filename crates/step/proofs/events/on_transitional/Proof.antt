@@ -1,3 +1,4 @@
+use Rattle.step.proofs.ConfigurationLaws.{such-header, transitional-untaken, transitional-second, transitional-left}
 use borrow.Author.Needs.{needs}
 use Rattle.step.proofs.events.on_transitional.Statement.{statement}
 use Rattle.step.proofs.events.on_transitional.Tie as tie
@@ -19,7 +20,7 @@ refused-requires c κs = search needs
 
 -- src/events.rt:249:9
 returns : tie.Need-returns
-returns c = ?
+returns c = search (needs, transitional-untaken)
 
 -- src/events.rt:251:9
 transitional-due-requires : tie.Need-transitional-due-requires
@@ -31,11 +32,11 @@ refused-requires-2 c κs = search needs
 
 -- src/events.rt:252:9
 returns-2 : tie.Need-returns-2
-returns-2 c = ?
+returns-2 c = search (needs, transitional-second)
 
 -- src/events.rt:254:5
 leave-requires : tie.Need-leave-requires
-leave-requires c κs = ?
+leave-requires c κs = search (needs, such-header)
 
 -- src/events.rt:255:5
 quiet-requires : tie.Need-quiet-requires
@@ -47,7 +48,7 @@ same-length c = search needs
 
 -- src/events.rt:243:1
 returns-3 : tie.Need-returns-3
-returns-3 c = ?
+returns-3 c = transitional-left _ _ _ (c .before .before .before .before .before .before .before .before .before .before .pre) _ (c .before .before .before .before .before .before .before .before .after-transitional .ensures) _ (c .before .before .before .before .before .before .transitional-due .ensures) (c .before .before .before .before .before .before .before .if1 .left) (c .before .before .before .before .before .if2 .left) _ _ (c .before .before .before .leave .ensures) (c .quiet .ensures)
 
 pub on-transitional-spec : {M : Type 1} → statement M
 on-transitional-spec =

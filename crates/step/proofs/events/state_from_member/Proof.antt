@@ -1,3 +1,4 @@
+use Rattle.step.proofs.SenderLaws.{state-stranger, state-elsewhere, state-once}
 use borrow.Author.Needs.{needs}
 use Rattle.step.proofs.events.state_from_member.Statement.{statement}
 use Rattle.step.proofs.events.state_from_member.Tie as tie
@@ -13,7 +14,7 @@ is-member-requires c κs = search needs
 
 -- src/events.rt:141:9
 returns : tie.Need-returns
-returns c = ?
+returns c = search (needs, state-stranger)
 
 -- src/events.rt:143:9
 is-of-requires : tie.Need-is-of-requires
@@ -21,7 +22,7 @@ is-of-requires c κs = search needs
 
 -- src/events.rt:144:9
 returns-2 : tie.Need-returns-2
-returns-2 c = ?
+returns-2 c = search (needs, state-elsewhere)
 
 -- src/events.rt:146:6
 state-in-requires : tie.Need-state-in-requires
@@ -29,7 +30,7 @@ state-in-requires c κs = search needs
 
 -- src/events.rt:136:1
 returns-3 : tie.Need-returns-3
-returns-3 c = ?
+returns-3 c = search (needs, state-once)
 
 pub state-from-member-spec : {M : Type 1} → statement M
 state-from-member-spec =
