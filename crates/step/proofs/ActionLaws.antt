@@ -21,7 +21,7 @@ use Rattle.engine.specs.Image.{modeNumber}
 use Rattle.engine.proofs.InPlace.{Holds}
 use Rattle.step.specs.declared.Answer.{Answer}
 use Rattle.step.specs.Answers.{answered, outcomeOn, HoldsSuch, InForce, refusedWith}
-use Rattle.step.specs.Modes.{Takes}
+use Rattle.step.specs.Events.{Takes}
 use Rattle.step.proofs.Chained.{such-fact}
 use Rattle.step.proofs.AnswerLaws.{Passes, untaken, impossible, outside, passed, passed-fits, not-there, refused-as}
 use Rattle.step.proofs.ForceLaws.{numbers-mode, below-eight, OwnNumbered, own-numbered, Member}

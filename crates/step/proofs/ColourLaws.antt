@@ -22,7 +22,7 @@ use Rattle.queue.specs.Queue.{RoomIfNext}
 use Rattle.queue.proofs.RedLaws.{room-if-next}
 use Rattle.step.specs.declared.Answer.{Answer}
 use Rattle.step.specs.Answers.{answered, outcomeOn, HoldsSuch, quietly, storedFirst}
-use Rattle.step.specs.Modes.{Takes}
+use Rattle.step.specs.Events.{Takes}
 use Rattle.step.proofs.Chained.{such-fact}
 use Rattle.step.proofs.AnswerLaws.{quiet-as, stored-as}
 use Rattle.step.proofs.ModeLaws.{in-mode}

@@ -23,7 +23,7 @@ use Rattle.lists.specs.Lists.{configurationOf}
 use Rattle.lists.proofs.Counts.{holds-counts, header-room}
 use Rattle.step.specs.declared.Answer.{Answer}
 use Rattle.step.specs.Answers.{answered, outcomeOn, HoldsSuch, LentSuch, InForce, refusedWith, quietly}
-use Rattle.step.specs.Modes.{modeAfter}
+use Rattle.step.specs.Events.{modeAfter}
 use Rattle.step.proofs.Chained.{such-fact, lent-fact}
 use Rattle.step.proofs.AnswerLaws.{Passes, untaken, impossible, passed, passed-fits, refused-as, quiet-as}
 use Rattle.step.proofs.ModeLaws.{regular-not, no-transitional, leads}

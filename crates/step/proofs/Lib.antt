@@ -10,3 +10,5 @@ pub mod StateEventLaws
 pub mod CpcLaws
 pub mod ConfigurationLaws
 pub mod RequestEventLaws
+pub mod TakingLaws
+pub mod ReadingLaws

@@ -13,7 +13,7 @@ use Rattle.replication.specs.Machine.Rules.{Rule, leaving, onAction, onRetransm
 use Rattle.engine.specs.Image.{modeNumber}
 use Rattle.engine.specs.Decode.{modeNamed}
 use Rattle.engine.proofs.HeaderRead.{mode-named}
-use Rattle.step.specs.Modes.{modeAfter}
+use Rattle.step.specs.Events.{modeAfter}
 
 pub in-mode : (m : Mode) (k : ℕ) → k ≡ modeNumber m → m ≡ modeNamed k
 in-mode m k e = sym (mode-named m) ∙ ap modeNamed (sym e)

@@ -14,7 +14,7 @@ ghost use Rattle.engine.specs.Image.{modeNumber};
 ghost use Rattle.engine.specs.Header.{headerOf};
 ghost use Rattle.engine.proofs.InPlace.{Holds};
 ghost use Rattle.step.specs.Answers.{answered, outcomeOn, HoldsSuch, LentSuch, InForce, StateInForce};
-ghost use Rattle.step.specs.Modes.{Takes, modeAfter};
+ghost use Rattle.step.specs.Events.{Takes, modeAfter};
 use crate::Answer;
 use crate::colours::green_and_note;
 use crate::colours::yellow;

@@ -1,4 +1,4 @@
-use Rattle.step.specs.Modes.{modeAfter}
+use Rattle.step.specs.Events.{modeAfter}
 use Rattle.engine.specs.Decode.{modeNamed}
 use Rattle.engine.specs.Image.{modeNumber}
 use Rattle.base.specs.Tests.{_=?_, pick}
