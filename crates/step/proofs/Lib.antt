@@ -2,7 +2,6 @@ pub mod Chained
 pub mod AnswerLaws
 pub mod ModeLaws
 pub mod ForceLaws
-pub mod ColourLaws
 pub mod ActionLaws
 pub mod RetransmissionLaws
 pub mod SenderLaws

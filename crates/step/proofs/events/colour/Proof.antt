@@ -1,4 +1,4 @@
-use Rattle.step.proofs.ColourLaws.{green-taken, yellow-taken, late-taken, red-taken, green-done, yellow-done, late-done, red-done}
+use Rattle.step.proofs.ActionLaws.{green-taken, yellow-taken, late-taken, red-taken, green-done, yellow-done, late-done, red-done}
 use borrow.Author.Needs.{needs}
 use Rattle.step.proofs.events.colour.Statement.{statement}
 use Rattle.step.proofs.events.colour.Tie as tie
