@@ -2,24 +2,16 @@ use Rattle.step.proofs.ColoursLaws.{note-room, green-noted}
 use borrow.Author.Needs.{needs}
 use Rattle.step.proofs.colours.green_and_note.Statement.{statement}
 use Rattle.step.proofs.colours.green_and_note.Tie as tie
-use Rattle.step.proofs.colours.green_and_note.Reads as reads
-use Rattle.step.proofs.colours.green_and_note.Lts as lts
-use Rattle.lists.proofs.notes.note.Reads as note-reads
-use Rattle.queue.proofs.greening.green.Reads as green-reads
 
--- src/colours.rt:25:5
 green-requires : tie.Need-green-requires
 green-requires c κs = search needs
 
--- src/colours.rt:26:5
 note-requires : tie.Need-note-requires
 note-requires c κs = note-room _ _ _ _ (c .before .before .before .before .before .before .before .pre) (c .before .before .before .green .ensures)
 
--- src/colours.rt:21:1
 same-length : tie.Need-same-length
 same-length c = search needs
 
--- src/colours.rt:21:1
 returns : tie.Need-returns
 returns c =
     green-noted _ _ _ _ _

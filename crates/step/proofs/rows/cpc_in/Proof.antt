@@ -2,15 +2,10 @@ use Rattle.step.proofs.RowsLaws.{cpc-told}
 use borrow.Author.Needs.{needs}
 use Rattle.step.proofs.rows.cpc_in.Statement.{statement}
 use Rattle.step.proofs.rows.cpc_in.Tie as tie
-use Rattle.step.proofs.rows.cpc_in.Reads as reads
-use Rattle.step.proofs.rows.cpc_in.Lts as lts
-use Rattle.step.proofs.rows.in_set.Reads as in-set-reads
 
--- src/rows.rt:82:5
 in-set-requires : tie.Need-in-set-requires
 in-set-requires c κs = search needs
 
--- src/rows.rt:78:1
 returns : tie.Need-returns
 returns c = search (needs, cpc-told)
 

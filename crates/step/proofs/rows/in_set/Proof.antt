@@ -4,14 +4,10 @@ use Rattle.base.specs.Tests.{_=?_}
 use borrow.Author.Needs.{needs}
 use Rattle.step.proofs.rows.in_set.Statement.{statement}
 use Rattle.step.proofs.rows.in_set.Tie as tie
-use Rattle.step.proofs.rows.in_set.Reads as reads
-use Rattle.step.proofs.rows.in_set.Lts as lts
 
--- src/rows.rt:45:6
 shr-result : tie.Need-shr-result
 shr-result c = search needs
 
--- src/rows.rt:41:1
 returns : tie.Need-returns
 unfolding inSet _=?_
 returns c = refl

@@ -2,14 +2,10 @@ use Rattle.step.proofs.RowsLaws.{of-none, of-last}
 use borrow.Author.Needs.{needs}
 use Rattle.step.proofs.rows.is_of.Statement.{statement}
 use Rattle.step.proofs.rows.is_of.Tie as tie
-use Rattle.step.proofs.rows.is_of.Reads as reads
-use Rattle.step.proofs.rows.is_of.Lts as lts
 
--- src/rows.rt:64:9
 returns : tie.Need-returns
 returns c = search (needs, of-none)
 
--- src/rows.rt:60:1
 returns-2 : tie.Need-returns-2
 returns-2 c = search (needs, of-last)
 

@@ -2,14 +2,10 @@ use Rattle.step.proofs.RowsLaws.{others-numbered, own-numbered}
 use borrow.Author.Needs.{needs}
 use Rattle.step.proofs.rows.numbered_own.Statement.{statement}
 use Rattle.step.proofs.rows.numbered_own.Tie as tie
-use Rattle.step.proofs.rows.numbered_own.Reads as reads
-use Rattle.step.proofs.rows.numbered_own.Lts as lts
 
--- src/rows.rt:18:9
 returns : tie.Need-returns
 returns c = search (needs, others-numbered)
 
--- src/rows.rt:14:1
 returns-2 : tie.Need-returns-2
 returns-2 c = search (needs, own-numbered)
 

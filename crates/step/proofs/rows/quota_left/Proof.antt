@@ -2,26 +2,19 @@ use Rattle.step.proofs.RowsLaws.{quota-told}
 use borrow.Author.Needs.{needs}
 use Rattle.step.proofs.rows.quota_left.Statement.{statement}
 use Rattle.step.proofs.rows.quota_left.Tie as tie
-use Rattle.step.proofs.rows.quota_left.Reads as reads
-use Rattle.step.proofs.rows.quota_left.Lts as lts
 
--- src/rows.rt:105:6
 cast-result : tie.Need-cast-result
 cast-result c = search needs
 
--- src/rows.rt:105:28
 cast-result-2 : tie.Need-cast-result-2
 cast-result-2 c = search needs
 
--- src/rows.rt:105:5
 add-result : tie.Need-add-result
 add-result c = search needs
 
--- src/rows.rt:105:51
 cast-result-3 : tie.Need-cast-result-3
 cast-result-3 c = search needs
 
--- src/rows.rt:102:1
 returns : tie.Need-returns
 returns c = search (needs, quota-told)
 

@@ -2,22 +2,16 @@ use Rattle.step.proofs.RowsLaws.{sends-primary, sends-elsewhere, sends-
 use borrow.Author.Needs.{needs}
 use Rattle.step.proofs.rows.sends_now.Statement.{statement}
 use Rattle.step.proofs.rows.sends_now.Tie as tie
-use Rattle.step.proofs.rows.sends_now.Reads as reads
-use Rattle.step.proofs.rows.sends_now.Lts as lts
 
--- src/rows.rt:90:9
 returns : tie.Need-returns
 returns c = search (needs, sends-primary)
 
--- src/rows.rt:93:9
 returns-2 : tie.Need-returns-2
 returns-2 c = search (needs, sends-elsewhere)
 
--- src/rows.rt:96:9
 returns-3 : tie.Need-returns-3
 returns-3 c = search (needs, sends-unformed)
 
--- src/rows.rt:86:1
 returns-4 : tie.Need-returns-4
 returns-4 c = search (needs, sends-formed)
 
