@@ -11,3 +11,6 @@ pub mod ConfigurationLaws
 pub mod RequestEventLaws
 pub mod TakingLaws
 pub mod ReadingLaws
+pub mod ColoursLaws
+pub mod InstallingLaws
+pub mod RowsLaws

@@ -1,6 +1,5 @@
 // Actions that a state colours green or yellow.
 ghost use mathlib.Core.Path.{_≡_};
-ghost use Prim.Native.Nat.{_<_};
 ghost use Rattle.record.specs.Values.{actionOf};
 ghost use Rattle.replication.specs.Machine.Types.{Server};
 ghost use mathlib.Core.Bool.{true};

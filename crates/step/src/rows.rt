@@ -1,6 +1,7 @@
 // The conditions of rows 5, 6, 3 and 4 of document 01's 'Returned numbers', from the state's numbers alone.
 ghost use mathlib.Core.Path.{_≡_};
 ghost use Prim.Native.Nat.{_<_};
+ghost use Rattle.base.specs.Sets.{inSet};
 ghost use Rattle.format.specs.Types.{Action};
 ghost use Rattle.record.specs.Values.{idOf};
 ghost use Rattle.replication.specs.Machine.Types.{Server};
@@ -36,6 +37,14 @@ pub fn transitional_due(h: State) -> bool
     h.transitional_status != 1
 }
 
+// Whether server k is in the set.
+fn in_set(k: u8, set: u8) -> bool
+    requires { ⌜ k < 8 ⌝ }
+    ensures { λ r. ⌜ r ≡ inSet k set ⌝ }
+{
+    (set >> k) % 2 == 1
+}
+
 // Whether server k is in the last regular set.
 pub fn is_member(h: State, k: u8) -> bool
     requires { ⌜ k < 8 ⌝ }
@@ -44,7 +53,7 @@ pub fn is_member(h: State, k: u8) -> bool
     if h.configuration_status != 1 {
         return false;
     }
-    h.configuration_set & (1 << k) != 0
+    in_set(k, h.configuration_set)
 }
 
 // Whether the last regular configuration has this id.
@@ -62,7 +71,7 @@ pub fn state_in(h: State, k: u8) -> bool
     requires { ⌜ k < 8 ⌝ }
     ensures { λ r. ⌜ ((s : Server) → h ≡ headerOf s → r ≡ stateIn (s .membership) k) ⌝ }
 {
-    h.states & (1 << k) != 0
+    in_set(k, h.states)
 }
 
 // Whether server k's CPC is in.
@@ -70,7 +79,7 @@ pub fn cpc_in(h: State, k: u8) -> bool
     requires { ⌜ k < 8 ⌝ }
     ensures { λ r. ⌜ ((s : Server) → h ≡ headerOf s → r ≡ cpcIn (s .membership) k) ⌝ }
 {
-    h.cpcs & (1 << k) != 0
+    in_set(k, h.cpcs)
 }
 
 // "sent in Reg_prim, and in Non_prim if the latest configuration since start or recovery is regular"
