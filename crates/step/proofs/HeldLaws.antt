@@ -81,7 +81,8 @@ module _ (k at i n : ℕ) (b o : List ℕ) (h : HeldRoom k at b o) (e : i ≡ he
     room : at + length (write (action (heldAction b k))) ≤ length o
     unfolding heldAction lengthOf actionOf payloadAt partAt
     room =
-        let taken : length (take (numberAt 1 b (heldPlace b k)) (drop (heldPlace b k + 1) b)) ≤ 48 = omega (arith, length-take (numberAt 1 b (heldPlace b k)) (drop (heldPlace b k + 1) b), h .short) in
+        let taken : length (take (numberAt 1 b (heldPlace b k)) (drop (heldPlace b k + 1) b)) ≤ 48 =
+        omega (arith, length-take (numberAt 1 b (heldPlace b k)) (drop (heldPlace b k + 1) b), h .short) in
         omega (arith, write-length (action (heldAction b k)), h .room)
 
     pub held-full : w ≡ Full → (r : ℕ)
@@ -106,7 +107,8 @@ held-more (suc k) b at =
     ap (λ (l : List (List ℕ)). payloadAt b at ∷ l) (held-more k b (at + heldSize) ∙ ap (λ (i : ℕ). heldAt k b (at + heldSize) ++ (payloadAt b i ∷ [])) e)
 
 numbered-more : (me g j : ℕ) (ps : List (List ℕ)) (p : List ℕ)
-    → numberedFrom me g j (ps ++ (p ∷ [])) ≡ numberedFrom me g j ps ++ (record { id = record { creator = me; index = j + length ps + 1 }; greenLength = g; payload = p } ∷ [])
+    → numberedFrom me g j (ps ++ (p ∷ []))
+    ≡ numberedFrom me g j ps ++ (record { id = record { creator = me; index = j + length ps + 1 }; greenLength = g; payload = p } ∷ [])
 unfolding numberedFrom
 numbered-more me g j [] p =
     let e : j + 1 ≡ j + 0 + 1 = omega arith in
@@ -137,28 +139,33 @@ bytes-more b k =
     ∙ records-append (numberedFrom me g j ps) (record { id = record { creator = me; index = j + length ps + 1 }; greenLength = g; payload = p } ∷ [])
     ∙ ap (λ (l : List ℕ). recordBytes (map action (numberedFrom me g j ps)) ++ l)
     (one-record (action (record { id = record { creator = me; index = j + length ps + 1 }; greenLength = g; payload = p }))
-    ∙ ap (λ (m : ℕ). write (action (record { id = record { creator = me; index = j + m + 1 }; greenLength = g; payload = p }))) (held-count k b (place theHeld b)))
+    ∙ ap (λ (m : ℕ). write (action (record { id = record { creator = me; index = j + m + 1 }; greenLength = g; payload = p })))
+    (held-count k b (place theHeld b)))
 
 -- ---- in a buffer that holds a state
 
-slots-short : (l : List (List ℕ)) (e : List ℕ) (at k : ℕ) → Each PayloadRange l → Occurs (heldSlots l) e at → k < length l → numberAt 1 e (at + heldSize * k) ≤ 48
+slots-short : (l : List (List ℕ)) (e : List ℕ) (at k : ℕ) → Each PayloadRange l → Occurs (heldSlots l) e at → k < length l
+    → numberAt 1 e (at + heldSize * k) ≤ 48
 unfolding heldSlots joined slot
 slots-short [] e at k r o h = absurd (omega arith)
 slots-short (p ∷ l) e at zero r o h =
-    let first : numberAt 1 e at ≡ length p = payload-read p e at (r .0) (occurs-first (payloadBytes p) _ e at (occurs-first (slot heldSize (payloadBytes p)) (heldSlots l) e at o)) .0 in
+    let first : numberAt 1 e at ≡ length p =
+    payload-read p e at (r .0) (occurs-first (payloadBytes p) _ e at (occurs-first (slot heldSize (payloadBytes p)) (heldSlots l) e at o)) .0 in
     let here : at ≡ at + heldSize * 0 = omega arith in
     rw (← here) (omega (arith, r .0 .most))
 slots-short (p ∷ l) e at (suc k) r o h =
     let next : at + length (slot heldSize (payloadBytes p)) ≡ at + heldSize = ap (λ (m : ℕ). at + m) (held-slot-length p (r .0)) in
     let there : at + heldSize + heldSize * k ≡ at + heldSize * suc k = omega arith in
-    rw (← there) (slots-short l e (at + heldSize) k (r .1) (occurs-second (slot heldSize (payloadBytes p)) (heldSlots l) e at (at + heldSize) next o) (omega arith))
+    rw (← there) (slots-short l e (at + heldSize) k (r .1)
+    (occurs-second (slot heldSize (payloadBytes p)) (heldSlots l) e at (at + heldSize) next o) (omega arith))
 
 module _ (s : Server) (b : List ℕ) (r : Holds s b) where
   held-short : (k : ℕ) → k < heldCount b → numberAt 1 b (heldPlace b k) ≤ 48
   unfolding heldPlace parts over
   held-short k h =
       rw (holds-place s b r theHeld)
-      (slots-short (s .held) b _ k (well-formed-fits s (r .formed) .held) (occurs-first (heldSlots (s .held)) _ b _ (holds-part s b r theHeld (omega arith))) (omega (arith, holds-held-count s b r)))
+      (slots-short (s .held) b _ k (well-formed-fits s (r .formed) .held)
+      (occurs-first (heldSlots (s .held)) _ b _ (holds-part s b r theHeld (omega arith))) (omega (arith, holds-held-count s b r)))
 
   action-most : (k : ℕ) → k < heldCount b → length (write (action (heldAction b k))) ≤ 60
   unfolding heldAction lengthOf actionOf payloadAt partAt
@@ -169,7 +176,13 @@ module _ (s : Server) (b : List ℕ) (r : Holds s b) where
   unfolding heldBytes recordBytes numberedFrom heldAt joined
   bytes-most zero h = omega arith
   bytes-most (suc k) h =
-      omega (arith, ap length (bytes-more b k), length-append (heldBytes b k) (write (action (heldAction b k))), bytes-most k (omega arith), action-most k (omega arith))
+      omega (
+        arith,
+        ap length (bytes-more b k),
+        length-append (heldBytes b k) (write (action (heldAction b k))),
+        bytes-most k (omega arith),
+        action-most k (omega arith),
+      )
 
   held-quota : 60 * heldCount b ≤ outLength (s .servers) (s .quota)
   unfolding outLength
@@ -231,7 +244,15 @@ module _ (b o₀ : List ℕ) (count : ℕ) (o : List ℕ) (at k : ℕ) (h : Lent
 
   pub sent-small : Fits w32 at
   sent-small =
-      omega (arith, v .placed, v .below, v .counted, bytes-most (h .state) b (h .holds) k (omega (arith, v .below, v .counted)), well-formed-fits (h .state) (h .holds .formed) .heldCount, holds-held-count (h .state) b (h .holds))
+      omega (
+        arith,
+        v .placed,
+        v .below,
+        v .counted,
+        bytes-most (h .state) b (h .holds) k (omega (arith, v .below, v .counted)),
+        well-formed-fits (h .state) (h .holds .formed) .heldCount,
+        holds-held-count (h .state) b (h .holds),
+      )
 
   pub sent-all : count ≤ k → (s : Server) → Holds s b → (at ≡ length (recordBytes (heldRecords s))) × (o ≡ over (recordBytes (heldRecords s)) o₀)
   sent-all l s r =

@@ -60,7 +60,8 @@ module _ (s : Server) (b : List ℕ) (r : Holds s b) where
   own-cuts : numbersAt 2 (s .servers) (drop 60 b) 0 ≡ s .log .cuts
   unfolding parts contextOf offset sections sum over
   own-cuts =
-      let there : Occurs (cutsBytes (s .log .cuts)) b (60 + 0) = occurs-first (cutsBytes (s .log .cuts)) _ b 60 (holds-part s b r theCuts (omega arith)) in
+      let there : Occurs (cutsBytes (s .log .cuts)) b (60 + 0) =
+      occurs-first (cutsBytes (s .log .cuts)) _ b 60 (holds-part s b r theCuts (omega arith)) in
       ap (λ (m : ℕ). numbersAt 2 m (drop 60 b) 0) (sym (range .cutsCount))
       ∙ cuts-read (s .quota) (s .log .cuts) (drop 60 b) 0 (range .context .sizes .highest) (range .cuts) (occurs-drop 60 0 there)
 
@@ -69,10 +70,12 @@ module _ (s : Server) (b : List ℕ) (r : Holds s b) where
   own-ids =
       let ids : List Id = s .votes .yellow .ids in
       let at : ℕ = offset (s .servers) (s .quota) theYellow in
-      let there : Occurs (idsBytes ids) b (at + 0) = occurs-at (occurs-first (idsBytes ids) _ b at (holds-part s b r theYellow (omega arith))) (omega arith) in
+      let there : Occurs (idsBytes ids) b (at + 0) =
+      occurs-at (occurs-first (idsBytes ids) _ b at (holds-part s b r theYellow (omega arith))) (omega arith) in
       ids-read (contextOf s) ids (drop at b) 0 (range .context) (range .yellow .ids) (occurs-drop at 0 there)
 
-  own-made : (id set : ℕ) → stateOf (ownHead (headerOf s) id) (drop 60 b) 0 (drop (offset (s .servers) (s .quota) theYellow) b) 0 ≡ ownState (configurationOf id set) s
+  own-made : (id set : ℕ) → stateOf (ownHead (headerOf s) id) (drop 60 b) 0 (drop (offset (s .servers) (s .quota) theYellow) b) 0
+      ≡ ownState (configurationOf id set) s
   unfolding stateOf ownHead headerOf lastOf markNumbers primaryOf componentOf markOf ownState configurationOf
   own-made id set =
       λ i. record {
@@ -90,13 +93,27 @@ module _ (s : Server) (b : List ℕ) (r : Holds s b) where
   own-short : (id set : ℕ) → length (write (state (ownState (configurationOf id set) s))) ≤ outLength (s .servers) (s .quota)
   unfolding ownState lengthOf outLength
   own-short id set =
-      omega (arith, write-length (state (ownState (configurationOf id set) s)), range .cutsCount, well-formed-fits s (r .formed) .ids, holds-products s b r .two, holds-products s b r .servers)
+      omega (
+        arith,
+        write-length (state (ownState (configurationOf id set) s)),
+        range .cutsCount,
+        well-formed-fits s (r .formed) .ids,
+        holds-products s b r .two,
+        holds-products s b r .servers,
+      )
 
   own-most : (id set : ℕ) → length (write (state (ownState (configurationOf id set) s))) ≤ 6200
   unfolding ownState lengthOf contextOf
   own-most id set =
-      let all : s .servers * s .quota ≤ 8 * 256 = mul-le-mul {n₁ = s .servers} {m₁ = s .quota} {n₂ = 8} {m₂ = 256} (range .context .sizes .most) (range .context .sizes .highest) in
-      omega (arith, write-length (state (ownState (configurationOf id set) s)), range .cutsCount, range .context .sizes .most, well-formed-fits s (r .formed) .ids)
+      let all : s .servers * s .quota ≤ 8 * 256 =
+      mul-le-mul {n₁ = s .servers} {m₁ = s .quota} {n₂ = 8} {m₂ = 256} (range .context .sizes .most) (range .context .sizes .highest) in
+      omega (
+        arith,
+        write-length (state (ownState (configurationOf id set) s)),
+        range .cutsCount,
+        range .context .sizes .most,
+        well-formed-fits s (r .formed) .ids,
+      )
 
   own-end : (60 + 2 * s .servers ≤ length b) × (offset (s .servers) (s .quota) theYellow + 3 * length (s .votes .yellow .ids) ≤ length b)
   unfolding offset stateLength sections sum
@@ -104,7 +121,8 @@ module _ (s : Server) (b : List ℕ) (r : Holds s b) where
 
   -- What the writer leaves.
   own-put : (o : List ℕ) (id set at : ℕ) (g : StateHead) → g ≡ ownHead (headerIn b) id → at ≡ place theYellow b
-      → putState g (take (length b - 60) (drop 60 b)) (take (length b - at) (drop at b)) 0 o ≡ put (write (state (ownState (configurationOf id set) s))) 0 o
+      → putState g (take (length b - 60) (drop 60 b)) (take (length b - at) (drop at b)) 0 o
+      ≡ put (write (state (ownState (configurationOf id set) s))) 0 o
   unfolding putState ownHead headerOf
   own-put o id set at g e f =
       let n : ℕ = s .servers in
@@ -113,14 +131,17 @@ module _ (s : Server) (b : List ℕ) (r : Holds s b) where
       let head : g ≡ ownHead (headerOf s) id = e ∙ ap (λ (h : declared.State). ownHead h id) (header-loaded s b r) in
       let there : at ≡ y = f ∙ holds-place s b r theYellow in
       let fits : (2 * n ≤? length (drop 60 b) and 3 * m ≤? length (drop y b)) ≡ true =
-      both-yes _ _ (le-yes (2 * n) (length (drop 60 b)) (omega (arith, length-drop 60 b, own-end .0))) (le-yes (3 * m) (length (drop y b)) (omega (arith, length-drop y b, own-end .1))) in
+      both-yes _ _ (le-yes (2 * n) (length (drop 60 b)) (omega (arith, length-drop 60 b, own-end .0)))
+      (le-yes (3 * m) (length (drop y b)) (omega (arith, length-drop y b, own-end .1))) in
       (λ i. putState (head i) (rest b 60 i) (rest b (there i) i) 0 o)
-      ∙ sym (pick-yes (2 * n ≤? length (drop 60 b) and 3 * m ≤? length (drop y b)) (put (write (state (ownState (configurationOf id set) s))) 0 o) _ _ fits
+      ∙ sym (pick-yes (2 * n ≤? length (drop 60 b) and 3 * m ≤? length (drop y b)) (put (write (state (ownState (configurationOf id set) s))) 0 o)
+      _ _ fits
       (ap (λ (x : State). put (write (state x)) 0 o) (sym (own-made id set))))
 
 -- ---- as the code writes it
 
-module _ (b o o₁ : List ℕ) (id at : ℕ) (g : StateHead) (w : Written) (h : LentSuch (λ s. 0 ≤ 0) b o) (i : g ≡ ownHead (headerIn b) id) (j : at ≡ place theYellow b)
+module _ (b o o₁ : List ℕ) (id at : ℕ) (g : StateHead) (w : Written) (h : LentSuch (λ s. 0 ≤ 0) b o)
+    (i : g ≡ ownHead (headerIn b) id) (j : at ≡ place theYellow b)
     (e : putOf w o₁ ≡ putState g (take (length b - 60) (drop 60 b)) (take (length b - at) (drop at b)) 0 o) where
   pub state-full : w ≡ Full → (m : ℕ) (s : Server) (set : ℕ) → Holds s b
       → (m ≡ length (recordBytes (ownRecord id set s))) × (o₁ ≡ over (recordBytes (ownRecord id set s)) o)

@@ -39,7 +39,8 @@ pub holds-products : (s : Server) (b : List ℕ) → Holds s b → Products (s .
 holds-products s b r = products (s .servers) (s .quota) (s .me) (body s (well-formed-facts s (r .formed)) .sizes)
 
 -- Each section, where it begins.
-pub holds-part : (s : Server) (b : List ℕ) → Holds s b → (k : ℕ) → k < 8 → Occurs (getD (parts (s .servers) (s .quota) s b) k []) b (offset (s .servers) (s .quota) k)
+pub holds-part : (s : Server) (b : List ℕ) → Holds s b → (k : ℕ) → k < 8
+    → Occurs (getD (parts (s .servers) (s .quota) s b) k []) b (offset (s .servers) (s .quota) k)
 holds-part s b r k l =
     subst (λ (c : List ℕ). Occurs (getD (parts (s .servers) (s .quota) s b) k []) c (offset (s .servers) (s .quota) k)) (r .written)
     (image-part s (well-formed-fits s (r .formed)) b (r .long) k l)

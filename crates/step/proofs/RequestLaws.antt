@@ -57,7 +57,8 @@ sent-payload p b o h = record { counts = lent-counts (λ s. Sent p s) b o h; sho
 pub asked-payload : (p b o : List ℕ) (n : State) → LentSuch (λ s. Asked p n s) b o → PayloadRoom p b
 asked-payload p b o n h = record { counts = lent-counts (λ s. Asked p n s) b o h; short = h .fact .0 .most }
 
-pub asked-sent : (p b o : List ℕ) (n : State) (t : Bool) → LentSuch (λ s. Asked p n s) b o → ((s : Server) → n ≡ headerOf s → t ≡ sendsNow (s .membership)) → t ≡ true
+pub asked-sent : (p b o : List ℕ) (n : State) (t : Bool) → LentSuch (λ s. Asked p n s) b o
+    → ((s : Server) → n ≡ headerOf s → t ≡ sendsNow (s .membership)) → t ≡ true
     → LentSuch (λ s. Sent p s) b o
 asked-sent p b o n t h f e =
     let k = h .fact in
@@ -90,11 +91,13 @@ module _ (p b o o₁ : List ℕ) (g : ActionHead) (w : Written) (h : LentSuch (�
       let x : List ℕ = write (action (actionOf g p)) in
       let done = put-done x o o₁ 0 w e m f in
       let made : actionOf g p ∷ [] ≡ madeOf (p ∷ []) s = ap (λ (c : ActionHead). actionOf c p ∷ []) i ∙ head-made s b p k in
-      let bytes : x ≡ recordBytes (map action (madeOf (p ∷ []) s)) = sym (one-record (action (actionOf g p))) ∙ ap (λ (l : List Action). recordBytes (map action l)) made in
+      let bytes : x ≡ recordBytes (map action (madeOf (p ∷ []) s)) =
+      sym (one-record (action (actionOf g p))) ∙ ap (λ (l : List Action). recordBytes (map action l)) made in
       let count : m ≡ length (recordBytes (map action (madeOf (p ∷ []) s))) = omega (arith, done .placed, ap length bytes) in
       let out : o₁ ≡ over (recordBytes (map action (madeOf (p ∷ []) s))) o = done .filled ∙ over-front x o ∙ ap (λ (y : List ℕ). over y o) bytes in
       stored-outcome s (numbered (p ∷ []) s) (map action (madeOf (p ∷ []) s)) b o b₁ o₁ m r a (d s k (fact .1)) count out
-      ∙ ap (λ z. outcomeOn z b o) (pick-yes (sendsNow (s .membership)) (stored s (numbered (p ∷ []) s) (map action (madeOf (p ∷ []) s))) _ _ (fact .2) refl)
+      ∙ ap (λ z. outcomeOn z b o)
+      (pick-yes (sendsNow (s .membership)) (stored s (numbered (p ∷ []) s) (map action (madeOf (p ∷ []) s))) _ _ (fact .2) refl)
 
 -- ---- held
 

@@ -30,7 +30,8 @@ use Rattle.step.proofs.Chained.{Covers, image-over, lent-fact, then-hol
 
 -- ---- well-formed states on the way
 
-voted-formed : (s : Server) (v : Votes) → wellFormed s ≡ true → Body (withVotes v s) → v .last .index ≡ s .votes .last .index → wellFormed (withVotes v s) ≡ true
+voted-formed : (s : Server) (v : Votes) → wellFormed s ≡ true → Body (withVotes v s) → v .last .index ≡ s .votes .last .index
+    → wellFormed (withVotes v s) ≡ true
 voted-formed s v ok b e =
     let g = well-formed-facts s ok in
     facts-well-formed (withVotes v s) (whole (withVotes v s) b (mode-kept (s .membership .mode) s (s .log) v (s .held) (s .noted) e (g .mode)))
@@ -46,7 +47,12 @@ valid-formed s ok =
     let y = b .votes .yellow in
     voted-formed s (yellowValid (s .votes)) ok
     (votes-changed s b (yellowValid (s .votes))
-    (record { last = b .votes .last; attempt = b .votes .attempt; mark = b .votes .mark; yellow = record { status = omega arith; ids = y .ids; once = y .once } }))
+    (record {
+      last = b .votes .last;
+      attempt = b .votes .attempt;
+      mark = b .votes .mark;
+      yellow = record { status = omega arith; ids = y .ids; once = y .once };
+    }))
     refl
 
 entering-formed : (s : Server) (c : Configuration) → wellFormed s ≡ true → ConfigurationFits (s .servers) (s .me) c → wellFormed (entering c s) ≡ true
@@ -56,7 +62,8 @@ entering-formed s c ok f =
 
 -- ---- the outcome over the buffer at the beginning
 
-votes-covers : (s : Server) (v : Votes) (c : Configuration) (x : Votes) → v .yellow .ids ≡ s .votes .yellow .ids → Covers s (withVotes v s) (entering c (withVotes x s))
+votes-covers : (s : Server) (v : Votes) (c : Configuration) (x : Votes) → v .yellow .ids ≡ s .votes .yellow .ids
+    → Covers s (withVotes v s) (entering c (withVotes x s))
 unfolding entering
 votes-covers s v c x e = record {
   servers = (refl, refl);
@@ -68,19 +75,23 @@ votes-covers s v c x e = record {
   actions = inr (begins-refl _);
 }
 
-stored-over : (s u : Server) (rs : List Record) (b b₁ o : List ℕ) → image u b₁ ≡ image u b → outcomeOn (stored s u rs) b₁ o ≡ outcomeOn (stored s u rs) b o
+stored-over : (s u : Server) (rs : List Record) (b b₁ o : List ℕ) → image u b₁ ≡ image u b
+    → outcomeOn (stored s u rs) b₁ o ≡ outcomeOn (stored s u rs) b o
 unfolding outcomeOn stored inBytes resultOf word
-stored-over s u rs b b₁ o e = λ i. record { number = 0; store = 1; sent = length (joined (map write rs)); state = e i; out = over (joined (map write rs)) o }
+stored-over s u rs b b₁ o e =
+    λ i. record { number = 0; store = 1; sent = length (joined (map write rs)); state = e i; out = over (joined (map write rs)) o }
 
 -- From the votes of t to v, and then a configuration with the votes x.
-joined-over : (s t : Server) (v x : Votes) (c : Configuration) (b b₁ o : List ℕ) → Holds t b → b₁ ≡ image (withVotes v t) b → wellFormed (withVotes v t) ≡ true
+joined-over : (s t : Server) (v x : Votes) (c : Configuration) (b b₁ o : List ℕ) → Holds t b → b₁ ≡ image (withVotes v t) b
+    → wellFormed (withVotes v t) ≡ true
     → wellFormed (withVotes x t) ≡ true → ConfigurationFits (t .servers) (t .me) c → v .yellow .ids ≡ t .votes .yellow .ids
     → outcomeOn (join s c (withVotes x t)) b₁ o ≡ outcomeOn (join s c (withVotes x t)) b o
 unfolding join
 joined-over s t v x c b b₁ o r e ok fine f same =
     let u : Server = entering c (withVotes x t) in
     let last : wellFormed u ≡ true = entering-formed (withVotes x t) c fine f in
-    stored-over s u (state (ownState c (withVotes x t)) ∷ []) b b₁ o (ap (image u) e ∙ image-over t (withVotes v t) u b r ok last (votes-covers t v c x same))
+    stored-over s u (state (ownState c (withVotes x t)) ∷ []) b b₁ o
+    (ap (image u) e ∙ image-over t (withVotes v t) u b r ok last (votes-covers t v c x same))
 
 -- ---- as the code makes them
 
