@@ -84,7 +84,7 @@ pub fn number(state: &mut [u8], payload: &[u8])
 }
 
 // Where the held requests begin: there is room for one more.
-fn held_place(state: &[u8]) -> usize
+pub fn held_place(state: &[u8]) -> usize
     requires { ⌜ CountsIn (now state) ⌝ }
     ensures { λ r. ⌜ (r ≡ place theHeld (now (state .entry))) × (r + (49 * numberAt 2 (now (state .entry)) 31 + 49) ≤ length (now (state .entry))) × (numberAt 2 (now (state .entry)) 31 ≤ 16) × (60 ≤ length (now (state .entry))) ⌝ }
 {

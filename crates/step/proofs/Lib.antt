@@ -14,3 +14,9 @@ pub mod ReadingLaws
 pub mod ColoursLaws
 pub mod InstallingLaws
 pub mod RowsLaws
+pub mod LentLaws
+pub mod OutcomeLaws
+pub mod RequestLaws
+pub mod JoinLaws
+pub mod VotesLaws
+pub mod HeldLaws
