@@ -53,36 +53,36 @@ same-rule : (s : Server) (m : Mode) (a : Action) (j k : Rule) → onAction m a �
 same-rule s m a j k e f = ap (λ (i : Rule). apply i s) (Option·some-injective k j (sym f ∙ e))
 
 module _ (n : ℕ) (x : ActionHead) (p b : List ℕ) (h : HoldsSuch (Takes n (actionOf x p)) b) where
-  abbrev a : Action
-  a = actionOf x p
+  abbrev act : Action
+  act = actionOf x p
 
-  rule-at : (s : Server) (l : ℕ) (j : Rule) → Takes n a s → n ≡ l → onAction (modeNamed l) a ≡ some j → onAction (s .membership .mode) a ≡ some j
-  rule-at s l j t e f = ap (λ (m : Mode). onAction m a) (in-mode (s .membership .mode) l (sym e ∙ t .number)) ∙ f
+  rule-at : (s : Server) (l : ℕ) (j : Rule) → Takes n act s → n ≡ l → onAction (modeNamed l) act ≡ some j → onAction (s .membership .mode) act ≡ some j
+  rule-at s l j t e f = ap (λ (m : Mode). onAction m act) (in-mode (s .membership .mode) l (sym e ∙ t .number)) ∙ f
 
-  fits-as : (s : Server) (j : Rule) → Takes n a s → onAction (s .membership .mode) a ≡ some j → RuleFits j s
+  fits-as : (s : Server) (j : Rule) → Takes n act s → onAction (s .membership .mode) act ≡ some j → RuleFits j s
   fits-as s j t f = subst (λ (i : Rule). RuleFits i s) (Option·some-injective (t .rule) j (sym (t .taken) ∙ f)) (t .fits)
 
   pub green-taken : n ≡ 1 → HoldsSuch (λ s. Delivered s (actionOf x p)) b
   unfolding modeNamed pick _=?_ onAction
   green-taken e =
-      record { state = h .state; holds = h .holds; fact = fits-as (h .state) (greening a) (h .fact) (rule-at (h .state) 1 (greening a) (h .fact) e refl) .0 }
+      record { state = h .state; holds = h .holds; fact = fits-as (h .state) (greening act) (h .fact) (rule-at (h .state) 1 (greening act) (h .fact) e refl) .0 }
 
   pub yellow-taken : n ≡ 2 → HoldsSuch (λ s. Delivered s (actionOf x p)) b
   unfolding modeNamed pick _=?_ onAction
   yellow-taken e =
-      record { state = h .state; holds = h .holds; fact = fits-as (h .state) (yellowing a) (h .fact) (rule-at (h .state) 2 (yellowing a) (h .fact) e refl) .0 }
+      record { state = h .state; holds = h .holds; fact = fits-as (h .state) (yellowing act) (h .fact) (rule-at (h .state) 2 (yellowing act) (h .fact) e refl) .0 }
 
   pub late-taken : n ≡ 7 → HoldsSuch (λ s. Delivered s (actionOf x p) × (s .membership .mode ≡ Un)) b
   unfolding modeNamed pick _=?_ onAction
   late-taken e =
-      record { state = h .state; holds = h .holds; fact = fits-as (h .state) (lateInstalling a) (h .fact) (rule-at (h .state) 7 (lateInstalling a) (h .fact) e refl) }
+      record { state = h .state; holds = h .holds; fact = fits-as (h .state) (lateInstalling act) (h .fact) (rule-at (h .state) 7 (lateInstalling act) (h .fact) e refl) }
 
-  red-rule : (n ≡ 1 → ⊥) → (n ≡ 2 → ⊥) → (n ≡ 7 → ⊥) → (s : Server) → Takes n a s → onAction (s .membership .mode) a ≡ some (reddening a)
-  red-rule u v w s t = red-else n (s .membership .mode) a (t .rule) (t .number) u v w (t .taken)
+  red-rule : (n ≡ 1 → ⊥) → (n ≡ 2 → ⊥) → (n ≡ 7 → ⊥) → (s : Server) → Takes n act s → onAction (s .membership .mode) act ≡ some (reddening act)
+  red-rule u v w s t = red-else n (s .membership .mode) act (t .rule) (t .number) u v w (t .taken)
 
   pub red-taken : (n ≡ 1 → ⊥) → (n ≡ 2 → ⊥) → (n ≡ 7 → ⊥) → RoomIfNext (x .creator) (x .index) (length p) b
   unfolding actionOf idOf
-  red-taken u v w = room-if-next (h .state) (actionOf x p) b (h .holds) (fits-as (h .state) (reddening a) (h .fact) (red-rule u v w (h .state) (h .fact)))
+  red-taken u v w = room-if-next (h .state) (actionOf x p) b (h .holds) (fits-as (h .state) (reddening act) (h .fact) (red-rule u v w (h .state) (h .fact)))
 
   -- ---- as the code leaves it
 
@@ -91,31 +91,31 @@ module _ (n : ℕ) (x : ActionHead) (p b : List ℕ) (h : HoldsSuch (Takes n (ac
         → (s : Server) (o : List ℕ) (k : Rule) → Holds s b → onAction (s .membership .mode) (actionOf x p) ≡ some k → answered r c o ≡ outcomeOn (apply k s) b o
     unfolding modeNamed pick _=?_ onAction apply
     green-done e f q s o k i t =
-        let j = rule-at s 1 (greening a) (such-fact _ b s h i) e refl in
-        quiet-as s (greenAndNote a s) (apply k s) r b c o q (same-rule s (s .membership .mode) a (greening a) k j t) (f s i)
+        let j = rule-at s 1 (greening act) (such-fact _ b s h i) e refl in
+        quiet-as s (greenAndNote act s) (apply k s) r b c o q (same-rule s (s .membership .mode) act (greening act) k j t) (f s i)
 
     pub yellow-done : n ≡ 2 → ((s : Server) → Holds s b → c ≡ image (yellow (actionOf x p) s) b) → r ≡ quietly
         → (s : Server) (o : List ℕ) (k : Rule) → Holds s b → onAction (s .membership .mode) (actionOf x p) ≡ some k → answered r c o ≡ outcomeOn (apply k s) b o
     unfolding modeNamed pick _=?_ onAction apply
     yellow-done e f q s o k i t =
-        let j = rule-at s 2 (yellowing a) (such-fact _ b s h i) e refl in
-        quiet-as s (yellow a s) (apply k s) r b c o q (same-rule s (s .membership .mode) a (yellowing a) k j t) (f s i)
+        let j = rule-at s 2 (yellowing act) (such-fact _ b s h i) e refl in
+        quiet-as s (yellow act s) (apply k s) r b c o q (same-rule s (s .membership .mode) act (yellowing act) k j t) (f s i)
 
     pub late-done : n ≡ 7 → ((s : Server) → Holds s b → c ≡ image (inMode Trans-prim (yellow (actionOf x p) (install s))) b) → r ≡ storedFirst 0
         → (s : Server) (o : List ℕ) (k : Rule) → Holds s b → onAction (s .membership .mode) (actionOf x p) ≡ some k → answered r c o ≡ outcomeOn (apply k s) b o
     unfolding modeNamed pick _=?_ onAction apply
     late-done e f q s o k i t =
-        let j = rule-at s 7 (lateInstalling a) (such-fact _ b s h i) e refl in
-        stored-as s (inMode Trans-prim (yellow a (install s))) (apply k s) r b c o q (same-rule s (s .membership .mode) a (lateInstalling a) k j t) (f s i)
+        let j = rule-at s 7 (lateInstalling act) (such-fact _ b s h i) e refl in
+        stored-as s (inMode Trans-prim (yellow act (install s))) (apply k s) r b c o q (same-rule s (s .membership .mode) act (lateInstalling act) k j t) (f s i)
 
     pub red-done : (n ≡ 1 → ⊥) → (n ≡ 2 → ⊥) → (n ≡ 7 → ⊥)
         → ((s : Server) → Holds s b → Delivered s (actionOf x p) → c ≡ image (withLog (red (actionOf x p) (s .log)) s) b) → r ≡ quietly
         → (s : Server) (o : List ℕ) (k : Rule) → Holds s b → onAction (s .membership .mode) (actionOf x p) ≡ some k → answered r c o ≡ outcomeOn (apply k s) b o
     unfolding apply
     red-done u v w f q s o k i t =
-        let g : Takes n a s = such-fact _ b s h i in
+        let g : Takes n act s = such-fact _ b s h i in
         let j = red-rule u v w s g in
-        quiet-as s (withLog (red a (s .log)) s) (apply k s) r b c o q (same-rule s (s .membership .mode) a (reddening a) k j t) (f s i (fits-as s (reddening a) g j))
+        quiet-as s (withLog (red act (s .log)) s) (apply k s) r b c o q (same-rule s (s .membership .mode) act (reddening act) k j t) (f s i (fits-as s (reddening act) g j))
 
 -- ---- rows 5 and 6
 

@@ -16,9 +16,10 @@ use Rattle.replication.specs.Machine.Step.{quiet, stored, apply, applyRule, ans
 use Rattle.replication.specs.Machine.WellFormed.{ranges, wellFormed}
 use Rattle.replication.proofs.WellFormed.RuleFacts.{RuleFits, rule-fits}
 use Rattle.engine.specs.Image.{over, image}
-use Rattle.engine.specs.Outcome.{refusal, word, resultOf}
+use Rattle.engine.specs.Outcome.{refusal, resultOf}
 use Rattle.step.specs.declared.Answer.{Answer}
-use Rattle.step.specs.Answers.{answered, outcomeOn, refusedWith, quietly, storedFirst}
+use Rattle.step.specs.Answers.{answered, outcomeOn, refusedWith, quietly, storedFirst, recordBytes}
+use Rattle.step.proofs.OutcomeLaws.{quiet-outcome, stored-outcome}
 
 -- ---- rows 5, 6, 3 and 4
 
@@ -103,10 +104,9 @@ unfolding answered outcomeOn inBytes resultOf refusal
 refused-as x a k b o e f = ap (λ (y : Answer). answered y b o) e ∙ ap (λ (y : Outcome Record). outcomeOn y b o) (sym f)
 
 pub quiet-as : (s t : Server) (x : Outcome Record) (a : Answer) (b c o : List ℕ) → a ≡ quietly → x ≡ quiet s t → c ≡ image t b → answered a c o ≡ outcomeOn x b o
-unfolding answered outcomeOn inBytes resultOf quiet word joined over
-quiet-as s t x a b c o e f g = (λ i. answered (e i) (g i) o) ∙ ap (λ (y : Outcome Record). outcomeOn y b o) (sym f)
+quiet-as s t x a b c o e f g = quiet-outcome s t b o c a e g ∙ ap (λ (y : Outcome Record). outcomeOn y b o) (sym f)
 
 pub stored-as : (s t : Server) (x : Outcome Record) (a : Answer) (b c o : List ℕ) → a ≡ storedFirst 0 → x ≡ stored s t [] → c ≡ image t b
     → answered a c o ≡ outcomeOn x b o
-unfolding answered outcomeOn inBytes resultOf stored word joined over
-stored-as s t x a b c o e f g = (λ i. answered (e i) (g i) o) ∙ ap (λ (y : Outcome Record). outcomeOn y b o) (sym f)
+unfolding recordBytes joined over
+stored-as s t x a b c o e f g = stored-outcome s t [] b o c o 0 a e g refl refl ∙ ap (λ (y : Outcome Record). outcomeOn y b o) (sym f)

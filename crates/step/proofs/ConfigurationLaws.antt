@@ -20,11 +20,11 @@ use Rattle.engine.specs.Header.{headerOf}
 use Rattle.engine.specs.Decode.{modeNamed}
 use Rattle.engine.proofs.InPlace.{Holds}
 use Rattle.lists.specs.Lists.{configurationOf}
-use Rattle.lists.proofs.Counts.{holds-counts, header-room}
 use Rattle.step.specs.declared.Answer.{Answer}
 use Rattle.step.specs.Answers.{answered, outcomeOn, HoldsSuch, LentSuch, InForce, refusedWith, quietly}
 use Rattle.step.specs.Events.{modeAfter}
 use Rattle.step.proofs.Chained.{such-fact, lent-fact}
+use Rattle.step.proofs.InstallingLaws.{holds-header}
 use Rattle.step.proofs.AnswerLaws.{Passes, untaken, impossible, passed, passed-fits, refused-as, quiet-as}
 use Rattle.step.proofs.ModeLaws.{regular-not, no-transitional, leads}
 use Rattle.step.proofs.ForceLaws.{numbers-mode, numbers-at}
@@ -110,7 +110,7 @@ module _ (h : Numbers) (id set : ℕ) (b o : List ℕ) (f : LentSuch (InForce h 
 -- ---- transitional ones
 
 pub such-header : (P : Server → Type 0) (b : List ℕ) → HoldsSuch P b → 60 ≤ length b
-such-header P b f = header-room b (holds-counts (f .state) b (f .holds))
+such-header P b f = holds-header (f .state) b (f .holds)
 
 module _ (h : Numbers) (set : ℕ) (b : List ℕ) (f : HoldsSuch (InForce h (transitional set)) b) where
   abbrev x : Record

@@ -31,10 +31,10 @@ use Rattle.engine.specs.Outcome.{Result, refusal, resultOf, stateNumber, stepOn
 use Rattle.engine.proofs.HeaderLaws.{header-loaded}
 use Rattle.engine.proofs.InPlace.{Holds}
 use Rattle.engine.proofs.Refusals.{Ready, zero-read, zero-ready, step-read, step-refused}
-use Rattle.lists.proofs.Counts.{holds-counts, header-room}
 use Rattle.step.specs.declared.Answer.{Answer}
 use Rattle.step.specs.Answers.{answered, outcomeOn, LentSuch, InForce, refusedWith}
 use Rattle.step.specs.Events.{ReadInForce, numberOf}
+use Rattle.step.proofs.InstallingLaws.{holds-header}
 
 -- ---- the context
 
@@ -61,7 +61,7 @@ refused-number r k e = ap numberOf (sym e)
 -- ---- the step
 
 pub ready-header : (b o : List ℕ) → stateNumber b o ≡ 0 → 60 ≤ length b
-ready-header b o z = let r = zero-ready b o z in header-room b (holds-counts (decoded b) b (r .image))
+ready-header b o z = holds-header (decoded b) b (zero-ready b o z .image)
 
 module _ (b e o : List ℕ) (z : stateNumber b o ≡ 0) (h : Numbers) (l : h ≡ headerIn b) (c : Context) (q : c ≡ readingContext h) (r : Reading)
     (said : meaning r e ≡ read (code.contextOf c) e) where
