@@ -1,7 +1,7 @@
 -- Noted lengths in place.
 -- Assumes nothing.
 use Prim.Native.Nat.{ℕ, zero, suc, _+_, _*_, _≤_, _<_, max}
-use mathlib.Core.Path.{_≡_, refl, sym, ap, ap₂, _∙_}
+use mathlib.Core.Path.{_≡_, refl, sym, ap, _∙_}
 use mathlib.Core.List.{List, [], _∷_, _++_}
 use native.Mathlib.Omega.{arith}
 use lib.ListN.{length, getD, set}
@@ -21,7 +21,7 @@ use Rattle.engine.proofs.Used.{noted-length}
 use Rattle.engine.proofs.InPlace.{Holds}
 use Rattle.queue.proofs.Inside.{changed-at, over-changed}
 use Rattle.queue.proofs.Holding.{holds-changed, holds-decoded}
-use Rattle.lists.specs.Lists.{place, CountsIn, NumberIn}
+use Rattle.lists.specs.Lists.{place, NumberIn}
 use Rattle.lists.proofs.Changes.{changed-image}
 use Rattle.lists.proofs.Counts.{holds-servers, holds-place, place-read, header-room}
 

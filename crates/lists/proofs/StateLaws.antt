@@ -178,7 +178,7 @@ state-collected k e b b₁ at m room e₁ e₂ e₃ s x r w from =
 
 -- ---- the code's numbers
 
-slots-end : (b : List ℕ) (k : ℕ) → NumberIn k b → place theStates b + k * stateSize (serversIn b) (quotaIn b) + stateSize (serversIn b) (quotaIn b) ≤ length b
+pub slots-end : (b : List ℕ) (k : ℕ) → NumberIn k b → place theStates b + k * stateSize (serversIn b) (quotaIn b) + stateSize (serversIn b) (quotaIn b) ≤ length b
 unfolding place offset stateLength sections sum
 slots-end b k h =
     let size : ℕ = stateSize (serversIn b) (quotaIn b) in

@@ -28,7 +28,7 @@ use stores::put_payload;
 use stores::put16;
 
 // Where the own list begins: there is room for one action more.
-fn own_place(state: &[u8]) -> usize
+pub fn own_place(state: &[u8]) -> usize
     requires { ⌜ CountsIn (now state) ⌝ }
     ensures { λ r. ⌜ (r ≡ place theOwn (now (state .entry))) × (r + (56 * numberAt 2 (now (state .entry)) 29 + 56) ≤ length (now (state .entry))) × (numberAt 2 (now (state .entry)) 29 ≤ 256) × (numberAt 2 (now (state .entry)) 27 ≤ 256) × (60 ≤ length (now (state .entry))) ⌝ }
 {
@@ -36,7 +36,7 @@ fn own_place(state: &[u8]) -> usize
 }
 
 // The next own action but its payload.
-fn next_head(state: &[u8]) -> ActionHead
+pub fn next_head(state: &[u8]) -> ActionHead
     requires { ⌜ (numberAt 2 (now state) 27 ≤ 256) × (60 ≤ length (now state)) ⌝ }
     ensures { λ r. ⌜ r ≡ nextHead (now (state .entry)) ⌝ }
 {
@@ -47,7 +47,7 @@ fn next_head(state: &[u8]) -> ActionHead
     }
 }
 
-fn put_counts(state: &mut [u8], numbered: u16, own: u16)
+pub fn put_counts(state: &mut [u8], numbered: u16, own: u16)
     requires { ⌜ 60 ≤ length (now state) ⌝ }
     ensures { λ _. ⌜ now (state .exit) ≡ patched 29 (bytesOf 2 own) (patched 27 (bytesOf 2 numbered) (now (state .entry))) ⌝ }
 {
@@ -84,7 +84,7 @@ pub fn number(state: &mut [u8], payload: &[u8])
 }
 
 // Where the held requests begin: there is room for one more.
-fn held_place(state: &[u8]) -> usize
+pub fn held_place(state: &[u8]) -> usize
     requires { ⌜ CountsIn (now state) ⌝ }
     ensures { λ r. ⌜ (r ≡ place theHeld (now (state .entry))) × (r + (49 * numberAt 2 (now (state .entry)) 31 + 49) ≤ length (now (state .entry))) × (numberAt 2 (now (state .entry)) 31 ≤ 16) × (60 ≤ length (now (state .entry))) ⌝ }
 {

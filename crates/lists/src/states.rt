@@ -24,7 +24,7 @@ use record::bytes::num16;
 use stores::put8;
 
 // Where the slot of server k begins.
-fn state_place(state: &[u8], k: u8) -> usize
+pub fn state_place(state: &[u8], k: u8) -> usize
     requires { ⌜ NumberIn k (now state) ⌝ }
     ensures { λ r. ⌜ (r ≡ place theStates (now (state .entry)) + k * stateSize (serversIn (now (state .entry))) (quotaIn (now (state .entry)))) × (r + stateSize (serversIn (now (state .entry))) (quotaIn (now (state .entry))) ≤ length (now (state .entry))) × (60 ≤ length (now (state .entry))) ⌝ }
 {

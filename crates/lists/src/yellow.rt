@@ -48,7 +48,7 @@ fn has_id(e: &[u8], at: usize, count: usize, creator: u8, index: u16) -> bool
 }
 
 // Where the yellow list begins: there is room for one id more.
-fn yellow_place(state: &[u8]) -> usize
+pub fn yellow_place(state: &[u8]) -> usize
     requires { ⌜ CountsIn (now state) ⌝ }
     ensures { λ r. ⌜ (r ≡ place theYellow (now (state .entry))) × (r + (3 * numberAt 2 (now (state .entry)) 58 + 3) ≤ length (now (state .entry))) × (numberAt 2 (now (state .entry)) 58 ≤ 2048) × (60 ≤ length (now (state .entry))) ⌝ }
 {
