@@ -46,7 +46,7 @@ same-slot x y h =
     let i : x .index ≡ y .index = eq-holds _ _ (a .1) in
     rw (d, i)
 
-other-slot : (c : Context) (x y : Id) → Small c → IdRange c x → IdRange c y → sameId x y ≡ false → slot y ≡ slot x → ⊥
+pub other-slot : (c : Context) (x y : Id) → Small c → IdRange c x → IdRange c y → sameId x y ≡ false → slot y ≡ slot x → ⊥
 unfolding slot sameId
 other-slot c x y s a b f e =
     let d : x .creator ≡ y .creator = omega arith in

@@ -1,14 +1,17 @@
 -- Turning green without a shift: the action and the lowest red one change places. At Install all red actions turn green, so that
 -- the order in which the others wait does not matter.
 -- Assumes nothing.
-use Prim.Native.Nat.{ℕ, zero, suc}
+use Prim.Native.Nat.{ℕ, zero, suc, _+_, _*_}
 use mathlib.Core.List.{List, [], _∷_, _++_}
 use mathlib.Core.Option.{Option, none, some}
 use lib.ListN.{set}
+use Rattle.base.specs.Bytes.{bytesOf, partAt}
+use Rattle.base.specs.Patched.{patched}
 use Rattle.format.specs.Types.{Id, Action}
 use Rattle.replication.specs.Machine.Types.{Log}
 use Rattle.replication.specs.Machine.Colours.{find}
-use Rattle.queue.specs.Queue.{position}
+use Rattle.engine.specs.Layout.{slotSize}
+use Rattle.queue.specs.Queue.{position, queueAt, greenCount}
 
 -- The list without its element at k, whose place the first one takes.
 unfoldable pub swapOut : ℕ → List Action → List Action
@@ -27,3 +30,13 @@ greenSwap d l = greenFound (find d (l .red)) (position d (l .red)) l
 unfoldable pub greenSwaps : List Id → Log → Log
 greenSwaps [] l = l
 greenSwaps (d ∷ ds) l = greenSwaps ds (greenSwap d l)
+
+-- ---- the bytes
+
+-- The slots from i on and from j on change places.
+unfoldable pub exchanged : (i j : ℕ) → List ℕ → List ℕ
+exchanged i j b = patched j (partAt slotSize b i) (patched i (partAt slotSize b j) b)
+
+-- The action at the place k of the queue and the lowest red one change places, and the green length is one more.
+unfoldable pub greenAt : ℕ → List ℕ → List ℕ
+greenAt k b = patched 23 (bytesOf 4 (greenCount b + 1)) (exchanged (queueAt b + slotSize * greenCount b) (queueAt b + slotSize * k) b)

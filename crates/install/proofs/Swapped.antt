@@ -13,7 +13,8 @@ use Rattle.base.specs.AtLaws.{none-some, some-same, at-low}
 use Rattle.base.specs.Bytes.{bytesOf, numberAt, partAt, joined}
 use Rattle.base.specs.BytesLaws.{bytes-length}
 use Rattle.base.specs.Lists.{sum, at}
-use Rattle.base.specs.ListLaws.{Each, each-at}
+use Rattle.base.specs.Gathered.{at-second}
+use Rattle.base.specs.ListLaws.{Each, each-at, each-set}
 use Rattle.base.specs.Occurs.{Occurs, occurs-first, occurs-second}
 use Rattle.base.specs.Patched.{patched, patched-length}
 use Rattle.format.specs.Types.{Id, Action}
@@ -28,14 +29,14 @@ use Rattle.engine.proofs.Used.{ActionFits, action-slot-length, action-slots-len
 use Rattle.engine.proofs.Fit.{well-formed-fits}
 use Rattle.engine.proofs.Decoded.{image-part}
 use Rattle.engine.proofs.InPlace.{Holds}
-use Rattle.queue.specs.Queue.{position, queueAt, exchanged, greenAt}
-use Rattle.queue.specs.Swaps.{swapOut, greenFound, greenSwap}
+use Rattle.queue.specs.Queue.{position, queueAt}
+use Rattle.install.specs.Swaps.{swapOut, greenFound, greenSwap, exchanged, greenAt}
 use Rattle.queue.proofs.Inside.{Changed, changed-at, over-changed}
 use Rattle.queue.proofs.Fields.{fieldSizes, fields, header-fields, fields-sized, field-changed, theGreenCount, theQueueCount}
 use Rattle.queue.proofs.SlotLaws.{slots-append, slots-one, slots-cons}
 use Rattle.queue.proofs.Positions.{Stands}
 use Rattle.queue.proofs.Promoted.{used-part, patched-middle}
 use Rattle.queue.proofs.Holding.{Numbers, numbers, holds-counts, holds-changed, log-image}
 
 -- ---- lists
 
@@ -82,11 +83,6 @@ slot-occurs (x ∷ l) b p (suc j) a f e o =
     let there = occurs-second w (actionSlots l) b p (p + slotSize) (ap (λ (m : ℕ). p + m) (action-slot-length x (f .0))) (subst (λ (y : List ℕ). Occurs y b p) (slots-cons x l) o) in
     subst (Occurs (slot slotSize (actionBytes a)) b) k (slot-occurs l b (p + slotSize) j a (f .1) e there)
 
-at-behind : (u v : List Action) (n : ℕ) → at (u ++ v) (length u + n) ≡ at v n
-unfolding at
-at-behind [] v n = let e : 0 + n ≡ n = omega arith in rw e
-at-behind (z ∷ u) v n = let e : suc (length u) + n ≡ suc (length u + n) = omega arith in rw e (at-behind u v n)
-
 at-first : (u : List Action) (x : Action) (v : List Action) → at (u ++ (x ∷ v)) (length u) ≡ some x
 unfolding at
 at-first [] x v = refl
@@ -115,22 +111,17 @@ swapped-queue green (z ∷ w) x v =
     (ap (λ (l : List Action). set l (length green + suc (length w)) z) (set-append-seam green z (w ++ (x ∷ v)) x)
     ∙ set-behind green (x ∷ (w ++ (x ∷ v))) (suc (length w)) z)
 
-each-set : (P : Action → Type 0) (l : List Action) (j : ℕ) (a : Action) → Each P l → P a → Each P (set l j a)
-each-set P [] j a f g = tt
-each-set P (x ∷ l) zero a f g = (g, f .1)
-each-set P (x ∷ l) (suc j) a f g = (f .0, each-set P l j a (f .1) g)
-
 module _ (s : Server) (b : List ℕ) (r : Holds s b) (d : Id) (k : Stands d (s .log .red) (position d (s .log .red))) where
-  abbrev x : Action
+  abbrev pub x : Action
   x = k .it
 
-  abbrev y : Action
+  abbrev pub y : Action
   y = lowest (k .before) (k .it)
 
-  abbrev swappedLog : Log
+  abbrev pub swappedLog : Log
   swappedLog = greenFound (some x) (position d (s .log .red)) (s .log)
 
-  abbrev place : ℕ
+  abbrev pub place : ℕ
   place = length (s .log .green) + position d (s .log .red)
 
   swap-as : greenSwap d (s .log) ≡ swappedLog
@@ -140,20 +131,20 @@ module _ (s : Server) (b : List ℕ) (r : Holds s b) (d : Id) (k : Stands d (s .
   x-at : at (queue (s .log)) place ≡ some x
   unfolding queue
   x-at =
-      at-behind (s .log .green) (s .log .red) (position d (s .log .red))
+      at-second (s .log .green) (s .log .red) (position d (s .log .red))
       ∙ ap₂ {A = List Action} {B = ℕ} {C = Option Action} (λ l i. at l i) (k .whole) (sym (k .count))
       ∙ at-first (k .before) x (k .behind)
 
-  y-at : at (queue (s .log)) (length (s .log .green)) ≡ some y
+  pub y-at : at (queue (s .log)) (length (s .log .green)) ≡ some y
   unfolding queue
   y-at =
       let e : length (s .log .green) ≡ length (s .log .green) + 0 = omega arith in
       ap (at (s .log .green ++ s .log .red)) e
-      ∙ at-behind (s .log .green) (s .log .red) 0
+      ∙ at-second (s .log .green) (s .log .red) 0
       ∙ ap (λ (l : List Action). at l 0) (k .whole)
       ∙ lowest-at (k .before) x (k .behind)
 
-  queue-after : queue swappedLog ≡ set (set (queue (s .log)) (length (s .log .green)) x) place y
+  pub queue-after : queue swappedLog ≡ set (set (queue (s .log)) (length (s .log .green)) x) place y
   unfolding queue greenFound
   queue-after =
       ap₂ {A = ℕ} {B = List Action} {C = List Action} (λ i l. (s .log .green ++ (x ∷ [])) ++ swapOut i l) (sym (k .count)) (k .whole)
@@ -183,10 +174,10 @@ module _ (s : Server) (b : List ℕ) (r : Holds s b) (d : Id) (k : Stands d (s .
   y-fits : ActionFits y
   y-fits = each-at ActionFits (queue (s .log)) (length (s .log .green)) y fits y-at
 
-  x-low : place < length (queue (s .log))
+  pub x-low : place < length (queue (s .log))
   x-low = at-low (queue (s .log)) place x x-at
 
-  y-low : length (s .log .green) < length (queue (s .log))
+  pub y-low : length (s .log .green) < length (queue (s .log))
   y-low = at-low (queue (s .log)) (length (s .log .green)) y y-at
 
   abbrev once-set : List Action

@@ -17,9 +17,9 @@ use Rattle.replication.specs.Machine.Types.{Log}
 use Rattle.replication.specs.Machine.Colours.{find, remove, promote, promoteFound, greenId, greenIds}
 use Rattle.replication.proofs.WellFormed.Ids.{same-id-yes, same-id-holds}
 use Rattle.replication.proofs.WellFormed.Held.{actionCount, Found, absent, found, found?}
 use Rattle.queue.specs.Queue.{position}
-use Rattle.queue.specs.Swaps.{swapOut, greenFound, greenSwap, greenSwaps}
+use Rattle.install.specs.Swaps.{swapOut, greenFound, greenSwap, greenSwaps}
 use Rattle.queue.proofs.Positions.{Stands, position-found, position-none}
 
 -- ---- finding in a list with no id twice
 
@@ -42,7 +42,7 @@ cons-passed : (e : Id) (z : Action) (l : List Action) → sameId e (z .id) ≡ f
 unfolding find pick
 cons-passed e z l t = rw t
 
-cons-count : (e : Id) (z : Action) (l : List Action) → actionCount e (z ∷ l) ≡ one (sameId e (z .id)) + actionCount e l
+pub cons-count : (e : Id) (z : Action) (l : List Action) → actionCount e (z ∷ l) ≡ one (sameId e (z .id)) + actionCount e l
 unfolding count
 cons-count e z l = refl
 
@@ -102,7 +102,7 @@ module _ (d : Id) (l : List Action) (once : Once l) (k : Stands d l (position d 
   swapped-as =
       ap₂ {A = ℕ} {B = List Action} {C = List Action} (λ i m. swapOut i m) (sym (k .count)) (k .whole) ∙ swap-rest (k .before) (k .it) (k .behind)
 
-  swapped-count : (e : Id) → actionCount e l ≡ one (sameId e (k .it .id)) + actionCount e (swapOut (position d l) l)
+  pub swapped-count : (e : Id) → actionCount e l ≡ one (sameId e (k .it .id)) + actionCount e (swapOut (position d l) l)
   swapped-count e =
       ap (actionCount e) (k .whole)
       ∙ whole-count e (k .before) (k .it) (k .behind)

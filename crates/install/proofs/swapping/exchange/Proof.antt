@@ -1,10 +1,10 @@
-use Rattle.queue.proofs.Swapped.{exchange-made}
+use Rattle.install.proofs.Swapped.{exchange-made}
 use borrow.Author.Needs.{needs}
-use Rattle.queue.proofs.installing.exchange.Statement.{statement}
-use Rattle.queue.proofs.installing.exchange.Tie as tie
-use Rattle.queue.proofs.installing.exchange.Reads as reads
-use Rattle.queue.proofs.installing.exchange.Lts as lts
+use Rattle.install.proofs.swapping.exchange.Statement.{statement}
+use Rattle.install.proofs.swapping.exchange.Tie as tie
+use Rattle.install.proofs.swapping.exchange.Reads as reads
+use Rattle.install.proofs.swapping.exchange.Lts as lts
 use Rattle.queue.proofs.slots.slot_at.Reads as slot-at-reads
 use Rattle.record.proofs.blocks.copy.Reads as copy-reads
 
 -- src/installing.rt:21:13

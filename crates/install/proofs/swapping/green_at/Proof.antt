@@ -1,11 +1,11 @@
-use Rattle.queue.proofs.Swapped.{green-at-made}
+use Rattle.install.proofs.Swapped.{green-at-made}
 use borrow.Author.Needs.{needs}
-use Rattle.queue.proofs.installing.green_at.Statement.{statement}
-use Rattle.queue.proofs.installing.green_at.Tie as tie
-use Rattle.queue.proofs.installing.green_at.Reads as reads
-use Rattle.queue.proofs.installing.green_at.Lts as lts
-use Rattle.queue.proofs.installing.exchange.Reads as exchange-reads
+use Rattle.install.proofs.swapping.green_at.Statement.{statement}
+use Rattle.install.proofs.swapping.green_at.Tie as tie
+use Rattle.install.proofs.swapping.green_at.Reads as reads
+use Rattle.install.proofs.swapping.green_at.Lts as lts
+use Rattle.install.proofs.swapping.exchange.Reads as exchange-reads
 use Rattle.queue.proofs.places.queue_place.Reads as queue-place-reads
 use Rattle.stores.proofs.put32.Reads as put32-reads
 use Rattle.record.proofs.bytes.num32.Reads as num32-reads
 

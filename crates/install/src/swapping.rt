@@ -1,14 +1,14 @@
-// Install: the yellow actions turn green in order, then all other red ones by creator and index. The lowest red action and the one
-// that turns green change places, so that no other slot moves.
+// An action turns green: it and the lowest red one change places, so that no other slot moves.
 ghost use mathlib.Core.Path.{_≡_};
 ghost use Prim.Native.Nat.{_+_, _*_, _≤_, _<_};
 ghost use lib.ListN.{length};
 ghost use Rattle.base.specs.Bytes.{partAt};
 ghost use Rattle.base.specs.Patched.{patched};
 ghost use Rattle.engine.specs.Layout.{slotSize};
-ghost use Rattle.queue.specs.Queue.{queueCount, greenCount, CountsIn, exchanged, greenAt};
-use crate::places::queue_place;
-use crate::slots::slot_at;
+ghost use Rattle.queue.specs.Queue.{queueCount, greenCount, CountsIn};
+ghost use Rattle.install.specs.Swaps.{exchanged, greenAt};
+use queue::places::queue_place;
+use queue::slots::slot_at;
 use record::blocks::copy;
 use record::bytes::num32;
 use stores::put32;
@@ -25,7 +25,7 @@ fn exchange(state: &mut [u8], i: usize, j: usize)
 }
 
 // The red action at the place k of the queue turns green: it and the lowest red one change places.
-fn green_at(state: &mut [u8], k: usize)
+pub fn green_at(state: &mut [u8], k: usize)
     requires { ⌜ CountsIn (now state) × (greenCount (now state) ≤ k) × (k < queueCount (now state)) ⌝ }
     ensures { λ _. ⌜ now (state .exit) ≡ greenAt k (now (state .entry)) ⌝ }
 {
