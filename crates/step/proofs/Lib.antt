@@ -1,0 +1,4 @@
+pub mod Chained
+pub mod ColoursLaws
+pub mod InstallingLaws
+pub mod RowsLaws
