@@ -10,6 +10,7 @@ use lib.Bits.{bitAnd, bitOr, and-step, or-step, or-lt, and-le-l, and-zero-l}
 use Rattle.base.specs.Tests.{_and_, _or_, _=?_, pick, not-both, eq-yes, eq-no, eq-holds, and-holds}
 use Rattle.base.specs.Branches.{or-false}
 use Rattle.base.specs.Sets.{inSet, inside, withMember, common, union, everyone}
+use lib.Bits.{and-comm}
 
 -- ---- bounds
 
@@ -157,3 +158,8 @@ inside-same (suc n) s t h f =
 pub members-inside : (n s t : ℕ) → s < 2 ^ n → ((k : ℕ) → k < n → inSet k s ≡ true → inSet k t ≡ true) → inside s t ≡ true
 unfolding inside
 members-inside n s t h f = eq-yes _ _ (inside-same n s t h f)
+
+-- Sets with the same members are the same.
+pub same-sets : (n s t : ℕ) → s < 2 ^ n → t < 2 ^ n → ((k : ℕ) → k < n → inSet k s ≡ inSet k t) → s ≡ t
+same-sets n s t h l f =
+    sym (inside-same n s t h (λ k i e. sym (f k i) ∙ e)) ∙ and-comm s t ∙ inside-same n t s l (λ k i e. f k i ∙ e)

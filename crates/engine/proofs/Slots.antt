@@ -46,6 +46,18 @@ held-read (p ∷ l) e at r o =
     let rest = held-read l e (at + heldSize) (r .1) (occurs-second (slot heldSize (payloadBytes p)) (heldSlots l) e at (at + heldSize) place o) in
     ap₂ {A = List ℕ} {B = List (List ℕ)} {C = List (List ℕ)} (λ x xs. x ∷ xs) first rest
 
+-- As many are read as are asked for.
+
+pub held-count : (m : ℕ) (b : List ℕ) (at : ℕ) → length (heldAt m b at) ≡ m
+unfolding heldAt
+held-count zero b at = refl
+held-count (suc m) b at = ap suc (held-count m b (at + heldSize))
+
+pub actions-count : (m : ℕ) (b : List ℕ) (at : ℕ) → length (actionsAt m b at) ≡ m
+unfolding actionsAt
+actions-count zero b at = refl
+actions-count (suc m) b at = ap suc (actions-count m b (at + slotSize))
+
 pub noted-read : (l : List ℕ) (e : List ℕ) (at : ℕ) → Each (λ x. x ≤ mostServers * mostQuota) l → Occurs (notedBytes l) e at → numbersAt 4 (length l) e at ≡ l
 unfolding notedBytes numbersAt bytesOf
 noted-read [] e at r o = refl

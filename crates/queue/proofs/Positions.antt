@@ -93,8 +93,3 @@ actions-drop (suc g) (suc m) b at h =
     let e : suc m - suc g ≡ m - g = omega arith in
     let f : at + slotSize * suc g ≡ at + slotSize + slotSize * g = omega arith in
     actions-drop g m b (at + slotSize) (omega arith) ∙ sym (rw (e, f))
-
-pub actions-count : (m : ℕ) (b : List ℕ) (at : ℕ) → length (actionsAt m b at) ≡ m
-unfolding actionsAt
-actions-count zero b at = refl
-actions-count (suc m) b at = ap suc (actions-count m b (at + slotSize))
