@@ -31,7 +31,7 @@ use Rattle.engine.proofs.InPlace.{Holds, holds-section}
 use Rattle.queue.proofs.Holding.{log-formed, log-fits, holds-decoded, image-holds}
 use Rattle.lists.proofs.MembershipLaws.{Saved}
 use Rattle.install.specs.Swaps.{greenSwaps}
-use Rattle.install.specs.Table.{Stated, logIn, yellowsIn, Indexed, Turned}
+use Rattle.install.specs.Table.{Stated, logIn, yellowsIn, Turned}
 use Rattle.install.proofs.SwapFits.{swaps-kept, swaps-append}
 use Rattle.install.proofs.Turning.{holds-stated, turned-append}
 use Rattle.install.proofs.PassLaws.{cuts-kept}
@@ -50,7 +50,9 @@ installed-formed : (s : Server) → wellFormed s ≡ true → wellFormed (withLo
 installed-formed s ok =
     log-formed s (installLog (s .votes .yellow .ids) (s .log)) ok
     (install-log-fits (s .servers) (s .quota) (s .me) (s .votes .yellow .ids) (s .log) (log-fits s ok))
-    (ap (λ (l : Log). l .numbered) (sym (install-swaps s ok)) ∙ swaps-kept (idsUpTo 0 (s .log .cuts)) _ .numbered ∙ swaps-kept (s .votes .yellow .ids) (s .log) .numbered)
+    (ap (λ (l : Log). l .numbered) (sym (install-swaps s ok))
+    ∙ swaps-kept (idsUpTo 0 (s .log .cuts)) _ .numbered
+    ∙ swaps-kept (s .votes .yellow .ids) (s .log) .numbered)
 
 log-holds : (b b₁ : List ℕ) (s : Server) → Holds s b → b₁ ≡ image (withLog (installLog (s .votes .yellow .ids) (s .log)) s) b
     → Holds (withLog (installLog (s .votes .yellow .ids) (s .log)) s) b₁
@@ -74,8 +76,11 @@ log-installed b t₁ b₁ t₂ b₂ w e f s r =
 -- ---- the votes
 
 -- The state is there after the log's part.
-pub log-stated : (b b₁ : List ℕ) → Stated b → ((s : Server) → Holds s b → b₁ ≡ image (withLog (installLog (s .votes .yellow .ids) (s .log)) s) b) → Stated b₁
-log-stated b b₁ w f = holds-stated (withLog (installLog ((decoded b) .votes .yellow .ids) ((decoded b) .log)) (decoded b)) b₁ (log-holds b b₁ (decoded b) (w .holds) (f (decoded b) (w .holds)))
+pub log-stated : (b b₁ : List ℕ) → Stated b → ((s : Server) → Holds s b → b₁ ≡ image (withLog (installLog (s .votes .yellow .ids) (s .log)) s) b)
+    → Stated b₁
+log-stated b b₁ w f =
+    let v : Server = decoded b in
+    holds-stated (withLog (installLog (v .votes .yellow .ids) (v .log)) v) b₁ (log-holds b b₁ v (w .holds) (f v (w .holds)))
 
 pub votes-low : (b : List ℕ) (h : State) → Stated b → h ≡ headerIn b → h .last .index .0 ≤ mostIndex
 unfolding headerOf lastOf
@@ -84,7 +89,8 @@ votes-low b h w e =
     let same : h .last .index .0 ≡ v .votes .last .index = ap (λ (x : State). x .last .index .0) (e ∙ header-loaded v b (w .holds)) in
     omega (arith, in-range v (w .holds .formed) .last .index)
 
-pub votes-installed : (h t : State) (b b₁ : List ℕ) → h ≡ headerIn b → ((s : Server) → h ≡ headerOf s → t ≡ headerOf (withVotes (installVotes (s .votes)) s))
+pub votes-installed : (h t : State) (b b₁ : List ℕ) → h ≡ headerIn b
+    → ((s : Server) → h ≡ headerOf s → t ≡ headerOf (withVotes (installVotes (s .votes)) s))
     → Saved t b b₁ → (s : Server) → Holds s b → b₁ ≡ image (withVotes (installVotes (s .votes)) s) b
 unfolding installVotes noYellow
 votes-installed h t b b₁ e f g s r =
@@ -102,7 +108,8 @@ unfolding image parts installVotes noYellow idsBytes over
 votes-over t b ok h e =
     let f = well-formed-fits t ok in
     let same = parts-again t f b h in
-    let yellow : section (t .servers) (t .quota) theYellow (image t b) ≡ section (t .servers) (t .quota) theYellow b = image-section t f b h theYellow (omega arith) ∙ sym e in
+    let yellow : section (t .servers) (t .quota) theYellow (image t b) ≡ section (t .servers) (t .quota) theYellow b =
+    image-section t f b h theYellow (omega arith) ∙ sym e in
     ap₂ {A = List (List ℕ)} {B = List ℕ} {C = List ℕ} (λ ps r. joined ps ++ r)
     (λ i.
     headerBytes (withVotes (installVotes (t .votes)) t)

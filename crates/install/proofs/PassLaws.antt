@@ -1,7 +1,7 @@
 -- The passes over the yellow list and over the cuts.
 -- Assumes nothing.
 use Prim.Native.Nat.{ℕ, zero, suc, _+_, _*_, _-_, _≤_, _<_}
-use mathlib.Core.Path.{_≡_, refl, sym, ap, subst, _∙_}
+use mathlib.Core.Path.{_≡_, sym, ap, subst, _∙_}
 use mathlib.Core.List.{List, [], _∷_, _++_, append-assoc, append-nil, map, map-append}
 use mathlib.Core.Option.{some}
 use native.Mathlib.Nat.{add-zero}
@@ -16,20 +16,17 @@ use Rattle.base.specs.ListLaws.{each-at, above-more}
 use Rattle.format.specs.Types.{Id}
 use Rattle.format.specs.Read.{idAt, idsAt}
 use Rattle.record.specs.Values.{idOf}
-use Rattle.replication.specs.Machine.Types.{Log, Server, withLog}
+use Rattle.replication.specs.Machine.Types.{Server}
 use Rattle.replication.specs.Machine.Colours.{cut}
 use Rattle.replication.specs.Machine.Install.{idsUpTo}
 use Rattle.replication.specs.Machine.WellFormedRanges.{IdFits}
 use Rattle.replication.proofs.WellFormed.Facts.{well-formed-facts}
 use Rattle.engine.specs.Layout.{theYellow, offset}
 use Rattle.engine.specs.Decode.{decoded}
-use Rattle.engine.proofs.InPlace.{Holds}
-use Rattle.queue.specs.Queue.{serversOf}
 use Rattle.queue.proofs.Holding.{numbers}
 use Rattle.queue.proofs.RedLaws.{cut-read}
 use Rattle.lists.specs.Lists.{yellowCount, place}
 use Rattle.lists.proofs.Counts.{holds-ids, holds-place, holds-yellow-count}
-use Rattle.install.specs.Swaps.{greenSwaps}
 use Rattle.install.specs.Table.{Stated, logIn, yellowsIn, idsOf, InTable, Indexed, Turned}
 use Rattle.install.proofs.SwapFits.{swaps-kept}
 use Rattle.install.proofs.Turning.{turned-decoded, turned-append, turned-none}
@@ -47,7 +44,8 @@ ids-at (suc m) e p (suc k) h =
     let f : p + 3 + 3 * k ≡ p + 3 * suc k = omega arith in
     ids-at m e (p + 3) k (omega arith) ∙ ap (λ (i : ℕ). some (idAt e i)) f
 
-pub turned-read : (b t₁ b₁ : List ℕ) (p x y : ℕ) → x ≡ numberAt 1 b p → y ≡ numberAt 2 b (p + 1) → Turned (idOf x y ∷ []) b t₁ b₁ → Turned (idAt b p ∷ []) b t₁ b₁
+pub turned-read : (b t₁ b₁ : List ℕ) (p x y : ℕ) → x ≡ numberAt 1 b p → y ≡ numberAt 2 b (p + 1) → Turned (idOf x y ∷ []) b t₁ b₁
+    → Turned (idAt b p ∷ []) b t₁ b₁
 unfolding idAt idOf
 turned-read b t₁ b₁ p x y e f turn = turned-as (idOf x y ∷ []) (idAt b p ∷ []) b t₁ b₁ (λ i. idOf (e i) (f i) ∷ []) turn
 
@@ -132,7 +130,8 @@ module _ (b₀ : List ℕ) (s₀ : Stated b₀) (c : ℕ) where
       (sym (ap (map (idOf c)) (above-more 0 i 1 (omega arith)) ∙ map-append (idOf c) (above 0 i) (after i 1)))
       (turned-append (map (idOf c) (above 0 i)) (idOf c (i + 1) ∷ []) b₀ t b t₁ b₁ s₀ e turn)
 
-  pub creator-end : (t b : List ℕ) (k i : ℕ) → c < numberAt 1 b₀ 0 → k ≡ numberAt 2 b₀ (60 + 2 * c) → i ≤ k → k ≤ i → Turned (map (idOf c) (above 0 i)) b₀ t b
+  pub creator-end : (t b : List ℕ) (k i : ℕ) → c < numberAt 1 b₀ 0 → k ≡ numberAt 2 b₀ (60 + 2 * c) → i ≤ k → k ≤ i
+      → Turned (map (idOf c) (above 0 i)) b₀ t b
       → Turned (idsOf c b₀) b₀ t b
   unfolding idsOf
   creator-end t b k i h e l m turn =
@@ -171,7 +170,8 @@ module _ (b₀ : List ℕ) (s₀ : Stated b₀) where
         ap (λ (v : Server). v .servers) (turned-decoded ds b₀ t b s₀ e),
       )
 
-  pub rest-again : (t b t₁ b₁ : List ℕ) (n c : ℕ) → Turned (idsUpTo 0 (take c (logIn b₀ .cuts))) b₀ t b → n ≡ numberAt 1 b₀ 0 → c < n → Turned (idsOf c b) b t₁ b₁
+  pub rest-again : (t b t₁ b₁ : List ℕ) (n c : ℕ) → Turned (idsUpTo 0 (take c (logIn b₀ .cuts))) b₀ t b → n ≡ numberAt 1 b₀ 0 → c < n
+      → Turned (idsOf c b) b t₁ b₁
       → Turned (idsUpTo 0 (take (c + 1) (logIn b₀ .cuts))) b₀ t₁ b₁
   unfolding idsOf cut
   rest-again t b t₁ b₁ n c e f h turn =
@@ -187,7 +187,8 @@ module _ (b₀ : List ℕ) (s₀ : Stated b₀) where
       turned-as (idsUpTo 0 (take c cuts) ++ idsOf c b) (idsUpTo 0 (take (c + 1) cuts)) b₀ t₁ b₁ (sym last)
       (turned-append (idsUpTo 0 (take c cuts)) (idsOf c b) b₀ t b t₁ b₁ s₀ e turn)
 
-  pub rest-end : (t b : List ℕ) (n c : ℕ) → Turned (idsUpTo 0 (take c (logIn b₀ .cuts))) b₀ t b → n ≡ numberAt 1 b₀ 0 → n ≤ c → Turned (idsUpTo 0 (logIn b₀ .cuts)) b₀ t b
+  pub rest-end : (t b : List ℕ) (n c : ℕ) → Turned (idsUpTo 0 (take c (logIn b₀ .cuts))) b₀ t b → n ≡ numberAt 1 b₀ 0 → n ≤ c
+      → Turned (idsUpTo 0 (logIn b₀ .cuts)) b₀ t b
   rest-end t b n c e f h =
       turned-as (idsUpTo 0 (take c (logIn b₀ .cuts))) (idsUpTo 0 (logIn b₀ .cuts)) b₀ t b
       (ap (idsUpTo 0) (take-all c (logIn b₀ .cuts) (omega (arith, cuts-count)))) e

@@ -1,13 +1,13 @@
 -- Places in a list of actions with no id twice.
 -- Assumes nothing.
-use Prim.Native.Nat.{ℕ, zero, suc, _+_, _≤_, _<_}
-use mathlib.Core.Path.{_≡_, refl, sym, ap, _∙_}
-use mathlib.Core.Bool.{true, false}
-use mathlib.Core.List.{List, [], _∷_, _++_}
+use Prim.Native.Nat.{ℕ, zero, suc, _≤_}
+use mathlib.Core.Path.{_≡_, sym, ap, _∙_}
+use mathlib.Core.Bool.{true}
+use mathlib.Core.List.{List, [], _∷_}
 use mathlib.Core.Option.{some}
 use native.Mathlib.Omega.{arith}
 use Rattle.base.specs.AtLaws.{none-some, some-same}
-use Rattle.base.specs.Counts.{count, one, one-yes}
+use Rattle.base.specs.Counts.{one, one-yes}
 use Rattle.base.specs.Lists.{at}
 use Rattle.base.specs.Tests.{pick, Known, holds, fails, known}
 use Rattle.format.specs.Types.{Id, Action}

@@ -1,22 +1,22 @@
 -- Turning green by swaps keeps the facts of a well-formed log.
 -- Assumes nothing.
 use Prim.Native.Nat.{ℕ, zero, suc, _+_, _≤_, _<_}
-use mathlib.Core.Path.{_≡_, refl, sym, ap, _∙_}
+use mathlib.Core.Path.{_≡_, refl, ap, _∙_}
 use mathlib.Core.List.{List, [], _∷_, _++_}
-use mathlib.Core.Option.{Option, none, some}
+use mathlib.Core.Option.{some}
 use native.Mathlib.Omega.{arith}
-use lib.ListN.{length, set, length-append, length-set}
+use lib.ListN.{length, length-append, length-set}
 use Rattle.base.specs.Counts.{count-append, count-single}
 use Rattle.base.specs.ListLaws.{Each, each-append, each-set}
 use Rattle.base.specs.Tests.{_≤?_, le-holds, le-fails, Known, holds, fails, known}
 use Rattle.format.specs.Types.{Id, Action}
 use Rattle.format.specs.Range.{sameId}
 use Rattle.replication.specs.Machine.Types.{Log}
-use Rattle.replication.specs.Machine.Colours.{find, cut}
+use Rattle.replication.specs.Machine.Colours.{cut}
 use Rattle.replication.specs.Machine.WellFormed.{queue}
 use Rattle.replication.specs.Machine.WellFormedRanges.{ActionFits}
 use Rattle.replication.specs.Machine.WellFormedFacts.{heldCount}
-use Rattle.replication.proofs.WellFormed.Held.{actionCount, held-parts, found-fact}
+use Rattle.replication.proofs.WellFormed.Held.{held-parts, found-fact}
 use Rattle.replication.proofs.WellFormed.Logs.{LogFits}
 use Rattle.queue.specs.Queue.{position}
 use Rattle.queue.proofs.Positions.{Stands, position-found, position-none}
@@ -69,7 +69,12 @@ found-kept d l k = record {
   numbered = refl;
   count =
       length-append (l .green ++ (k .it ∷ [])) (swapOut (position d (l .red)) (l .red))
-      ∙ omega (arith, length-append (l .green) (k .it ∷ []), swap-out-length (position d (l .red)) (l .red) (stands-low d (l .red) (position d (l .red)) k), length-append (l .green) (l .red));
+      ∙ omega (
+        arith,
+        length-append (l .green) (k .it ∷ []),
+        swap-out-length (position d (l .red)) (l .red) (stands-low d (l .red) (position d (l .red)) k),
+        length-append (l .green) (l .red),
+      );
 }
 
 swap-kept : (d : Id) (l : Log) → Kept l (greenSwap d l)
@@ -105,7 +110,8 @@ found-held d l once k e =
       count-single (λ (a : Action). sameId e (a .id)) (k .it),
     )
 
-found-fits : (n q me : ℕ) (d : Id) (l : Log) (k : Stands d (l .red) (position d (l .red))) → ((e : Id) → heldCount e (greenFound (some (k .it)) (position d (l .red)) l) ≡ heldCount e l)
+found-fits : (n q me : ℕ) (d : Id) (l : Log) (k : Stands d (l .red) (position d (l .red)))
+    → ((e : Id) → heldCount e (greenFound (some (k .it)) (position d (l .red)) l) ≡ heldCount e l)
     → LogFits n q me l → LogFits n q me (greenFound (some (k .it)) (position d (l .red)) l)
 unfolding greenFound cut
 found-fits n q me d l k kept f = record {

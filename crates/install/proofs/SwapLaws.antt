@@ -1,14 +1,13 @@
 -- Actions that turn green by swaps are those that turn green by shifts, in the same order.
 -- Assumes nothing.
-use Prim.Native.Nat.{ℕ, zero, suc, _+_, _*_, _-_, _≤_, _<_}
-use mathlib.Core.Path.{_≡_, refl, sym, ap, ap₂, subst, _∙_}
-use mathlib.Core.Bool.{Bool, true, false}
+use Prim.Native.Nat.{ℕ, _+_, _-_, _≤_}
+use mathlib.Core.Path.{_≡_, refl, sym, ap, ap₂, _∙_}
+use mathlib.Core.Bool.{true, false}
 use mathlib.Core.List.{List, [], _∷_, _++_}
-use mathlib.Core.Option.{Option, none, some, Option·none-ne-some}
+use mathlib.Core.Option.{none, some, Option·none-ne-some}
 use native.Mathlib.Omega.{arith}
-use lib.ListN.{length, set, length-append}
+use lib.ListN.{length}
 use lib.Seq.{set-append-seam}
-use Rattle.base.specs.AtLaws.{some-same}
 use Rattle.base.specs.Counts.{count, one, one-yes, count-append}
 use Rattle.base.specs.Tests.{_≤?_, le-holds, le-fails, pick, Known, holds, fails, known}
 use Rattle.format.specs.Types.{Id, Action}

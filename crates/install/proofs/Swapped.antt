@@ -2,12 +2,11 @@
 -- Assumes nothing.
 use Prim.Native.Nat.{ℕ, zero, suc, _+_, _*_, _-_, _≤_, _<_}
 use mathlib.Core.Path.{_≡_, refl, sym, ap, ap₂, subst, _∙_}
-use mathlib.Core.Bool.{true}
 use mathlib.Core.List.{List, [], _∷_, _++_, append-assoc}
-use mathlib.Core.Option.{Option, none, some}
+use mathlib.Core.Option.{Option, some}
 use native.Mathlib.Omega.{arith}
 use native.Mathlib.Nat.{add-zero}
-use lib.ListN.{length, getD, take, drop, set, length-append, length-set}
+use lib.ListN.{length, take, drop, set, length-append, length-set}
 use lib.Seq.{set-append-seam, take-append-add, drop-append-add}
 use Rattle.base.specs.AtLaws.{none-some, some-same, at-low}
 use Rattle.base.specs.Bytes.{bytesOf, numberAt, partAt, joined}
@@ -16,12 +15,11 @@ use Rattle.base.specs.Lists.{sum, at}
 use Rattle.base.specs.Gathered.{at-second}
 use Rattle.base.specs.ListLaws.{Each, each-at, each-set}
 use Rattle.base.specs.Occurs.{Occurs, occurs-first, occurs-second}
-use Rattle.base.specs.Patched.{patched, patched-length}
+use Rattle.base.specs.Patched.{patched}
 use Rattle.format.specs.Types.{Id, Action}
 use Rattle.format.specs.Write.{actionBytes}
 use Rattle.replication.specs.Machine.Types.{Log, Server, withLog}
-use Rattle.replication.specs.Machine.Colours.{find}
-use Rattle.replication.specs.Machine.WellFormed.{queue, wellFormed}
+use Rattle.replication.specs.Machine.WellFormed.{queue}
 use Rattle.engine.specs.Layout.{slotSize, theHeader, theQueue, sections, offset}
 use Rattle.engine.specs.Image.{over, slot, headerBytes, actionSlots, section, parts, image}
 use Rattle.engine.proofs.InRange.{in-range}
@@ -31,12 +29,12 @@ use Rattle.engine.proofs.Decoded.{image-part}
 use Rattle.engine.proofs.InPlace.{Holds}
 use Rattle.queue.specs.Queue.{position, queueAt}
 use Rattle.install.specs.Swaps.{swapOut, greenFound, greenSwap, exchanged, greenAt}
-use Rattle.queue.proofs.Inside.{Changed, changed-at, over-changed}
-use Rattle.queue.proofs.Fields.{fieldSizes, fields, header-fields, fields-sized, field-changed, theGreenCount, theQueueCount}
-use Rattle.queue.proofs.SlotLaws.{slots-append, slots-one, slots-cons}
+use Rattle.queue.proofs.Inside.{changed-at, over-changed}
+use Rattle.queue.proofs.Fields.{fields, header-fields, fields-sized, field-changed, theGreenCount, theQueueCount}
+use Rattle.queue.proofs.SlotLaws.{slots-cons}
 use Rattle.queue.proofs.Positions.{Stands}
 use Rattle.queue.proofs.Promoted.{used-part, patched-middle}
-use Rattle.queue.proofs.Holding.{Numbers, numbers, holds-counts, holds-changed, log-image}
+use Rattle.queue.proofs.Holding.{numbers, holds-changed, log-image}
 
 -- ---- lists
 
@@ -177,7 +175,7 @@ module _ (s : Server) (b : List ℕ) (r : Holds s b) (d : Id) (k : Stands d (s .
   pub x-low : place < length (queue (s .log))
   x-low = at-low (queue (s .log)) place x x-at
 
-  pub y-low : length (s .log .green) < length (queue (s .log))
+  y-low : length (s .log .green) < length (queue (s .log))
   y-low = at-low (queue (s .log)) (length (s .log .green)) y y-at
 
   abbrev once-set : List Action

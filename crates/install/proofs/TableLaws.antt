@@ -1,53 +1,40 @@
 -- The table of places: filled, looked up, kept by a swap.
 -- Assumes nothing.
-use Prim.Native.Nat.{ℕ, zero, suc, _+_, _*_, _-_, _≤_, _<_}
-use mathlib.Core.Path.{_≡_, refl, sym, ap, ap₂, subst, _∙_}
-use mathlib.Core.Bool.{Bool, true, false}
-use mathlib.Core.List.{List, [], _∷_, _++_}
-use mathlib.Core.Option.{Option, none, some}
+use Prim.Native.Nat.{ℕ, _+_, _*_, _-_, _≤_, _<_}
+use mathlib.Core.Path.{_≡_, refl, sym, ap, _∙_}
+use mathlib.Core.List.{List}
+use mathlib.Core.Option.{some}
 use native.Mathlib.Decide.{ℕ-discrete}
 use native.Mathlib.Omega.{arith}
-use lib.ListN.{length, getD, set, replicate, length-append, length-set, length-replicate}
+use lib.ListN.{length, getD, set, replicate, length-set, length-replicate}
 use lib.Seq.{getD-set-same, getD-set-other}
-use Rattle.base.specs.AtLaws.{some-same, at-low, at-there, at-set-same, at-set-other}
+use Rattle.base.specs.AtLaws.{some-same, at-low}
 use Rattle.base.specs.Bytes.{numberAt}
 use Rattle.base.specs.Counts.{count-map}
-use Rattle.base.specs.Gathered.{at-second}
 use Rattle.base.specs.Lists.{at}
 use Rattle.base.specs.ListLaws.{each-at}
-use Rattle.base.specs.Tests.{_≤?_, not-both, le-holds, le-fails, Known, holds, fails, known}
+use Rattle.base.specs.Tests.{Known, holds, fails, known}
 use Rattle.format.specs.Limits.{mostServers, mostQuota}
-use Rattle.format.specs.Types.{Id, Action, Context}
+use Rattle.format.specs.Types.{Id, Action}
 use Rattle.format.specs.Range.{sameId}
 use Rattle.format.specs.Read.{idAt, actionAt}
 use Rattle.format.proofs.Ranges.{IdRange, ActionRange}
 use Rattle.record.specs.Values.{idOf, slot}
 use Rattle.record.proofs.OnePass.{Small, slot-lt, other-slot}
-use Rattle.replication.specs.Machine.Types.{Log, Server, contextOf, withLog}
-use Rattle.replication.specs.Machine.WellFormed.{queue, idsIn, wellFormed}
-use Rattle.replication.proofs.WellFormed.Ids.{same-id-holds}
+use Rattle.replication.specs.Machine.Types.{Server, contextOf}
+use Rattle.replication.specs.Machine.WellFormed.{queue, idsIn}
 use Rattle.engine.specs.Layout.{slotSize}
-use Rattle.engine.specs.Image.{image}
-use Rattle.engine.specs.Decode.{actionsAt, decoded}
+use Rattle.engine.specs.Decode.{decoded}
 use Rattle.engine.proofs.InRange.{in-range}
 use Rattle.engine.proofs.InPlace.{Holds}
-use Rattle.queue.specs.Queue.{position, queueCount, greenCount, queueAt}
-use Rattle.queue.proofs.Holding.{Numbers, numbers, log-fits, queue-parts}
-use Rattle.queue.proofs.Positions.{Stands, position-found, position-most}
+use Rattle.queue.specs.Queue.{queueCount, greenCount, queueAt}
+use Rattle.queue.proofs.Holding.{numbers, log-fits, queue-parts}
 use Rattle.queue.proofs.ReadLaws.{queue-read, actions-at}
-use Rattle.install.specs.Swaps.{greenSwap, greenSwaps, greenFound, greenAt}
-use Rattle.install.specs.Table.{Stated, logIn, redPlace, InTable, Indexed, Turned}
-use Rattle.install.proofs.Places.{position-at, same-place}
+use Rattle.install.specs.Table.{Stated, logIn, InTable, Indexed}
+use Rattle.install.proofs.Places.{same-place}
 use Rattle.install.proofs.SwapLaws.{Once}
-use Rattle.install.proofs.SwapFits.{Swap, unmoved, moved, swap?, fits-once}
-use Rattle.install.proofs.Swapped.{lowest, queue-after, y-at, x-low, swap-image}
-use Rattle.install.proofs.Turning.{swaps-hold, turned-none, indexed-by}
 
 -- ---- the place of an id in the table
-
-pub entry-low : (c i : ℕ) → InTable c i → slot (idOf c i) < 2048
-unfolding slot idOf
-entry-low c i r = omega arith
 
 module _ (s : Server) (b : List ℕ) (r : Holds s b) where
   small : Small (contextOf s)
@@ -66,7 +53,8 @@ module _ (s : Server) (b : List ℕ) (r : Holds s b) where
       omega (arith, log-fits s (r .formed) .once d, count-map (sameId d) (λ (a : Action). a .id) (queue (s .log)))
 
   -- Actions at different places have different places in the table.
-  pub slots-apart : (i j : ℕ) (x y : Action) → at (queue (s .log)) i ≡ some x → at (queue (s .log)) j ≡ some y → (i ≡ j → ⊥) → slot (x .id) ≡ slot (y .id) → ⊥
+  pub slots-apart : (i j : ℕ) (x y : Action) → at (queue (s .log)) i ≡ some x → at (queue (s .log)) j ≡ some y → (i ≡ j → ⊥)
+      → slot (x .id) ≡ slot (y .id) → ⊥
   slots-apart i j x y e f n h = go (known (sameId (x .id) (y .id)))
     where
       go : Known (sameId (x .id) (y .id)) → ⊥
@@ -83,15 +71,16 @@ module _ (s : Server) (b : List ℕ) (r : Holds s b) where
       let h : k < queueCount b = omega (arith, at-low (queue (s .log)) k a e, numbers s b r .queue) in
       ap (λ (x : Action). x .id) (some-same (sym (read-at k h) ∙ e))
 
-pub entry-made : (b : List ℕ) (k p x y r : ℕ) → Stated b → k < queueCount b → p ≡ queueAt b → x ≡ numberAt 1 b (p + slotSize * k) → y ≡ numberAt 2 b (p + slotSize * k + 1)
+pub entry-made : (b : List ℕ) (k p x y r : ℕ) → p ≡ queueAt b → x ≡ numberAt 1 b (p + slotSize * k) → y ≡ numberAt 2 b (p + slotSize * k + 1)
     → r ≡ slot (idOf x y) → r ≡ slot (idAt b (queueAt b + slotSize * k))
 unfolding idAt idOf
-entry-made b k p x y r s h e f g m =
+entry-made b k p x y r e f g m =
     let same : idOf x y ≡ idAt b (queueAt b + slotSize * k) =
     (λ i. idOf (f i) (g i)) ∙ (λ i. idAt b (e i + slotSize * k)) in
     m ∙ ap slot same
 
-pub entry-in : (b : List ℕ) (k p x y : ℕ) → Stated b → k < queueCount b → p ≡ queueAt b → x ≡ numberAt 1 b (p + slotSize * k) → y ≡ numberAt 2 b (p + slotSize * k + 1)
+pub entry-in : (b : List ℕ) (k p x y : ℕ) → Stated b → k < queueCount b → p ≡ queueAt b → x ≡ numberAt 1 b (p + slotSize * k)
+    → y ≡ numberAt 2 b (p + slotSize * k + 1)
     → InTable x y
 unfolding idAt idOf contextOf
 entry-in b k p x y s h e f g =
@@ -141,12 +130,10 @@ module _ (b : List ℕ) (s : Stated b) where
     right = right;
   }
     where
-      right : (j : ℕ) (a : Action) → length ((decoded b) .log .green) ≤ j → j < k + 1 → at (queue ((decoded b) .log)) j ≡ some a → getD (set t p k) (slot (a .id)) 0 ≡ j
+      right : (j : ℕ) (a : Action) → length ((decoded b) .log .green) ≤ j → j < k + 1 → at (queue ((decoded b) .log)) j ≡ some a
+          → getD (set t p k) (slot (a .id)) 0 ≡ j
       right j a low lt m = go (ℕ-discrete j k)
         where
-          w : Server
-          w = decoded b
-
           here : (i : ℕ) (x : Action) → i ≡ k → at (queue ((decoded b) .log)) i ≡ some x → p ≡ slot (x .id)
           here i x q n = e ∙ ap (λ (z : ℕ). slot (idAt b (queueAt b + slotSize * z))) (sym q) ∙ ap slot (read-id (decoded b) b (s .holds) i x n)
 

@@ -1,15 +1,15 @@
 -- The table looked up, and kept by a swap.
 -- Assumes nothing.
-use Prim.Native.Nat.{ℕ, zero, suc, _+_, _*_, _-_, _≤_, _<_}
-use mathlib.Core.Path.{_≡_, refl, sym, ap, ap₂, subst, _∙_}
+use Prim.Native.Nat.{ℕ, _+_, _*_, _-_, _≤_, _<_}
+use mathlib.Core.Path.{_≡_, sym, ap, subst, _∙_}
 use mathlib.Core.Bool.{Bool, true, false}
-use mathlib.Core.List.{List, [], _∷_, _++_}
-use mathlib.Core.Option.{Option, none, some}
+use mathlib.Core.List.{List, [], _∷_}
+use mathlib.Core.Option.{some}
 use native.Mathlib.Decide.{ℕ-discrete}
 use native.Mathlib.Omega.{arith}
 use lib.ListN.{length, getD, set, length-append, length-set}
 use lib.Seq.{getD-set-same, getD-set-other}
-use Rattle.base.specs.AtLaws.{some-same, at-low, at-there, at-set-same, at-set-other}
+use Rattle.base.specs.AtLaws.{some-same, at-set-same, at-set-other}
 use Rattle.base.specs.Bytes.{numberAt}
 use Rattle.base.specs.Gathered.{at-second}
 use Rattle.base.specs.Lists.{at}
@@ -31,12 +31,12 @@ use Rattle.queue.proofs.Holding.{log-fits}
 use Rattle.queue.proofs.Positions.{Stands, position-found, position-most}
 use Rattle.queue.proofs.ReadLaws.{find-at}
 use Rattle.install.specs.Swaps.{greenSwap, greenSwaps, greenFound, greenAt}
-use Rattle.install.specs.Table.{Stated, logIn, redPlace, Indexed, Turned}
+use Rattle.install.specs.Table.{logIn, redPlace, Indexed, Turned}
 use Rattle.install.proofs.Places.{position-at}
 use Rattle.install.proofs.SwapFits.{Swap, unmoved, moved, swap?, fits-once}
-use Rattle.install.proofs.Swapped.{lowest, queue-after, y-at, x-low, y-low, swap-image}
+use Rattle.install.proofs.Swapped.{lowest, queue-after, y-at, x-low, swap-image}
 use Rattle.install.proofs.TableLaws.{id-low, slots-apart, read-at, read-id, green-read, queue-count}
-use Rattle.install.proofs.Turning.{swaps-hold, turned-none, indexed-by}
+use Rattle.install.proofs.Turning.{swaps-hold, indexed-by}
 
 -- ---- looked up
 
@@ -51,8 +51,10 @@ module _ (t b : List ℕ) (x : Indexed t b) (d : Id) where
   unfolding redPlace logIn
   red-entry h =
       let k = position-found d ((decoded b) .log .red) h in
-      let there : at (queue ((decoded b) .log)) (redPlace d b) ≡ some (k .it) = red-at (position d ((decoded b) .log .red)) ∙ sym (find-at d ((decoded b) .log .red)) ∙ k .found in
-      let named : idAt b (queueAt b + slotSize * redPlace d b) ≡ d = read-id (decoded b) b (x .stated .holds) (redPlace d b) (k .it) there ∙ sym (k .named) in (
+      let there : at (queue ((decoded b) .log)) (redPlace d b) ≡ some (k .it) =
+      red-at (position d ((decoded b) .log .red)) ∙ sym (find-at d ((decoded b) .log .red)) ∙ k .found in
+      let named : idAt b (queueAt b + slotSize * redPlace d b) ≡ d =
+      read-id (decoded b) b (x .stated .holds) (redPlace d b) (k .it) there ∙ sym (k .named) in (
         ap (λ (e : Id). getD t (slot e) 0) (k .named) ∙ x .right (redPlace d b) (k .it) (omega arith) there,
         omega (arith, queue-count b (x .stated)),
         same-id-yes d _ (ap (λ (e : Id). e .creator) (sym named)) (ap (λ (e : Id). e .index) (sym named)),
@@ -98,11 +100,14 @@ module _ (t b : List ℕ) (x : Indexed t b) (d : Id) where
       let y : Action = actionAt b (queueAt b + slotSize * k) in
       let there : at (queue ((decoded b) .log)) k ≡ some y = read-at w b (x .stated .holds) k (omega arith) in
       let at-k : length ((decoded b) .log .green) + (k - length ((decoded b) .log .green)) ≡ k = omega (arith, green-read b (x .stated)) in
-      let red-there : at ((decoded b) .log .red) (k - length ((decoded b) .log .green)) ≡ some y = sym (red-at (k - length ((decoded b) .log .green))) ∙ ap (at (queue ((decoded b) .log))) at-k ∙ there in
-      let named : d ≡ y .id = same-id-holds d _ (sym e ∙ h) ∙ ap (λ (z : ℕ). idAt b (z + slotSize * k)) q ∙ read-id w b (x .stated .holds) k y there in
+      let red-there : at ((decoded b) .log .red) (k - length ((decoded b) .log .green)) ≡ some y =
+      sym (red-at (k - length ((decoded b) .log .green))) ∙ ap (at (queue ((decoded b) .log))) at-k ∙ there in
+      let named : d ≡ y .id =
+      same-id-holds d _ (sym e ∙ h) ∙ ap (λ (z : ℕ). idAt b (z + slotSize * k)) q ∙ read-id w b (x .stated .holds) k y there in
       let once = fits-once (w .servers) (w .quota) (w .me) (w .log) (log-fits w (x .stated .holds .formed)) in
       let place : position d ((decoded b) .log .red) ≡ k - length ((decoded b) .log .green) =
-      ap (λ (z : Id). position z ((decoded b) .log .red)) named ∙ position-at ((decoded b) .log .red) once (k - length ((decoded b) .log .green)) y red-there in
+      ap (λ (z : Id). position z ((decoded b) .log .red)) named
+      ∙ position-at ((decoded b) .log .red) once (k - length ((decoded b) .log .green)) y red-there in
       omega arith
 
 -- ---- turned green
@@ -128,24 +133,29 @@ module _ (s : Server) (b : List ℕ) (r : Holds s b) (d : Id) (k : Stands d (s .
   low-at : at (queue (s .log)) (length (s .log .green)) ≡ some low
   low-at = y-at s b r d k
 
-  pub right-after : (i : ℕ) (a : Action) → length (s .log .green) + 1 ≤ i → at (queue (greenFound (some (k .it)) (position d (s .log .red)) (s .log))) i ≡ some a
+  -- The queue with the action that turns green in its place.
+  abbrev lowered : List Action
+  lowered = set (queue (s .log)) (length (s .log .green)) (k .it)
+
+  pub right-after : (i : ℕ) (a : Action) → length (s .log .green) + 1 ≤ i
+      → at (queue (greenFound (some (k .it)) (position d (s .log .red)) (s .log))) i ≡ some a
       → getD (set t (slot (low .id)) to) (slot (a .id)) 0 ≡ i
   right-after i a h e = go (ℕ-discrete i to)
     where
-      there : at (set (set (queue (s .log)) (length (s .log .green)) (k .it)) to low) i ≡ some a
+      there : at (set lowered to low) i ≡ some a
       there = ap (λ (l : List Action). at l i) (sym (queue-after s b r d k)) ∙ e
 
       go : Dec (i ≡ to) → getD (set t (slot (low .id)) to) (slot (a .id)) 0 ≡ i
       go (yes q) =
-          let long : to < length (set (queue (s .log)) (length (s .log .green)) (k .it)) = omega (arith, length-set (queue (s .log)) (length (s .log .green)) (k .it), x-low s b r d k) in
-          let same : low ≡ a = some-same (sym (at-set-same (set (queue (s .log)) (length (s .log .green)) (k .it)) to low long) ∙ ap (at (set (set (queue (s .log)) (length (s .log .green)) (k .it)) to low)) (sym q) ∙ there) in
+          let long : to < length lowered = omega (arith, length-set (queue (s .log)) (length (s .log .green)) (k .it), x-low s b r d k) in
+          let same : low ≡ a = some-same (sym (at-set-same lowered to low long) ∙ ap (at (set lowered to low)) (sym q) ∙ there) in
           ap (λ (y : Action). getD (set t (slot (low .id)) to) (slot (y .id)) 0) (sym same)
           ∙ getD-set-same t (slot (low .id)) to 0 (omega (arith, size, id-low s b r (length (s .log .green)) low low-at))
           ∙ sym q
       go (no q) =
           let before : at (queue (s .log)) i ≡ some a =
           sym (at-set-other (queue (s .log)) (length (s .log .green)) i (k .it) (λ z. omega arith))
-          ∙ sym (at-set-other (set (queue (s .log)) (length (s .log .green)) (k .it)) to i low q)
+          ∙ sym (at-set-other lowered to i low q)
           ∙ there in
           let apart : slot (a .id) ≡ slot (low .id) → ⊥ = slots-apart s b r i (length (s .log .green)) a low before low-at (λ z. omega arith) in
           getD-set-other t (slot (low .id)) (slot (a .id)) to 0 apart ∙ right i a (omega arith) before
@@ -172,6 +182,8 @@ turned-swapped t b t₁ b₁ d k n g p x e f h i j made stored = go (swap? d ((d
         let written : b₁ ≡ image (withLog (greenSwap d l) w) b = made ∙ ap (λ (z : ℕ). greenAt z b) e ∙ swap-image w b r d s in
         let held : Holds (withLog (greenSwap d l) w) b₁ = swaps-hold w b b₁ r (d ∷ []) written in
         let place : p ≡ slot (lowest (s .before) (s .it) .id) =
-        j ∙ ap (λ (z : ℕ). slot (idAt b (queueAt b + slotSize * z))) (i ∙ green-read b (x .stated)) ∙ ap slot (read-id w b r (length (l .green)) (lowest (s .before) (s .it)) (y-at w b r d s)) in
-        let same : t₁ ≡ set t (slot (lowest (s .before) (s .it) .id)) (length (l .green) + position d (l .red)) = stored ∙ (λ z. set t (place z) (e z)) in
+        j ∙ ap (λ (z : ℕ). slot (idAt b (queueAt b + slotSize * z))) (i ∙ green-read b (x .stated))
+        ∙ ap slot (read-id w b r (length (l .green)) (lowest (s .before) (s .it)) (y-at w b r d s)) in
+        let same : t₁ ≡ set t (slot (lowest (s .before) (s .it) .id)) (length (l .green) + position d (l .red)) =
+        stored ∙ (λ z. set t (place z) (e z)) in
         record { written = written; indexed = subst (λ (u : List ℕ). Indexed u b₁) (sym same) (indexed-after w b r d s t (x .size) (x .right) b₁ q held) }

@@ -1,9 +1,9 @@
 -- Actions turned green one after the other, in a buffer.
 -- Assumes nothing.
-use Prim.Native.Nat.{ℕ, _+_, _*_, _≤_, _<_}
+use Prim.Native.Nat.{ℕ, _+_, _*_, _≤_}
 use mathlib.Core.Path.{_≡_, refl, sym, ap, subst, _∙_}
 use mathlib.Core.Bool.{true}
-use mathlib.Core.List.{List, [], _∷_, _++_}
+use mathlib.Core.List.{List, [], _++_}
 use mathlib.Core.Option.{some}
 use native.Mathlib.Omega.{arith}
 use lib.ListN.{length, getD}
@@ -14,12 +14,11 @@ use Rattle.format.specs.Write.{cutsBytes}
 use Rattle.record.specs.Values.{slot}
 use Rattle.replication.specs.Machine.Types.{Log, Server, withLog}
 use Rattle.replication.specs.Machine.WellFormed.{queue, wellFormed}
-use Rattle.engine.specs.Layout.{slotSize, stateLength}
+use Rattle.engine.specs.Layout.{slotSize}
 use Rattle.engine.specs.Image.{actionSlots, image}
 use Rattle.engine.specs.Decode.{decoded}
 use Rattle.engine.proofs.Used.{action-slots-length}
 use Rattle.engine.proofs.Fit.{well-formed-fits}
-use Rattle.engine.proofs.ImageLaws.{decoded-image}
 use Rattle.engine.proofs.InPlace.{Holds}
 use Rattle.queue.proofs.Holding.{log-formed, log-fits, holds-counts, holds-decoded, image-holds}
 use Rattle.queue.proofs.GreenLaws.{log-image-over}
@@ -66,7 +65,9 @@ swaps-over s ds es b r =
     let k = swaps-kept es l in
     let actions : length (actionSlots (queue m)) ≡ length (actionSlots (queue l)) =
     action-slots-length (queue m) (g .actions) ∙ ap (λ (i : ℕ). slotSize * i) (k .count) ∙ sym (action-slots-length (queue l) (f .actions)) in
-    log-image-over s l m b ok (r .long) (omega (arith, ap (λ (x : List ℕ). length (cutsBytes x)) (k .cuts))) (omega (arith, ap (λ (x : List Action). length (actionSlots x)) (k .own))) (omega arith)
+    let cuts : length (cutsBytes (m .cuts)) ≡ length (cutsBytes (l .cuts)) = ap (λ (x : List ℕ). length (cutsBytes x)) (k .cuts) in
+    let own : length (actionSlots (m .own)) ≡ length (actionSlots (l .own)) = ap (λ (x : List Action). length (actionSlots x)) (k .own) in
+    log-image-over s l m b ok (r .long) (omega arith) (omega arith) (omega arith)
 
 pub turned-append : (ds es : List Id) (b t₁ b₁ t₂ b₂ : List ℕ) → Stated b → Turned ds b t₁ b₁ → Turned es b₁ t₂ b₂ → Turned (ds ++ es) b t₂ b₂
 unfolding logIn

@@ -9,7 +9,7 @@ use Rattle.base.specs.Lists.{above, at}
 use Rattle.format.specs.Limits.{mostServers, mostQuota}
 use Rattle.format.specs.Types.{Id, Action}
 use Rattle.record.specs.Values.{idOf, slot}
-use Rattle.replication.specs.Machine.Types.{Log, Server, withLog}
+use Rattle.replication.specs.Machine.Types.{Log, withLog}
 use Rattle.replication.specs.Machine.Colours.{cut}
 use Rattle.replication.specs.Machine.WellFormed.{queue}
 use Rattle.engine.specs.Image.{image}

@@ -1,5 +1,4 @@
 // The ids in Install's order, each turned green: a pass over the yellow list and one over the cuts.
-ghost use mathlib.Core.Path.{_≡_};
 ghost use mathlib.Core.List.{[], _∷_};
 ghost use Prim.Native.Nat.{_+_, _≤_, _<_};
 ghost use lib.ListN.{length};

@@ -2,8 +2,6 @@
 ghost use mathlib.Core.Path.{_≡_};
 ghost use Prim.Native.Nat.{_+_, _*_, _≤_, _<_};
 ghost use lib.ListN.{length};
-ghost use Rattle.base.specs.Bytes.{partAt};
-ghost use Rattle.base.specs.Patched.{patched};
 ghost use Rattle.engine.specs.Layout.{slotSize};
 ghost use Rattle.queue.specs.Queue.{queueCount, greenCount, CountsIn};
 ghost use Rattle.install.specs.Swaps.{exchanged, greenAt};

@@ -1,9 +1,8 @@
-// The table of places: at each id, where in the queue its action stands if it is red. Whatever the table has at another id is known by the
-// id found at that place of the queue.
+// The table of places: at each id, where in the queue its action stands if it is red. Any other entry is told by the place that it names: the
+// action there is not red, or has another id.
 ghost use mathlib.Core.Path.{_≡_};
 ghost use mathlib.Core.List.{[], _∷_};
 ghost use Prim.Native.Nat.{_+_, _*_, _≤_, _<_};
-ghost use lib.ListN.{length};
 ghost use Rattle.format.specs.Read.{idAt};
 ghost use Rattle.record.specs.Values.{idOf, slot};
 ghost use Rattle.engine.specs.Layout.{slotSize};

@@ -2,24 +2,16 @@ use Rattle.install.proofs.InstallLaws.{log-stated, installed}
 use borrow.Author.Needs.{needs}
 use Rattle.install.proofs.installing.install.Statement.{statement}
 use Rattle.install.proofs.installing.install.Tie as tie
-use Rattle.install.proofs.installing.install.Reads as reads
-use Rattle.install.proofs.installing.install.Lts as lts
-use Rattle.install.proofs.installing.install_log.Reads as install-log-reads
-use Rattle.install.proofs.installing.install_votes.Reads as install-votes-reads
 
--- src/installing.rt:76:5
 install-log-requires : tie.Need-install-log-requires
 install-log-requires c κs = search needs
 
--- src/installing.rt:77:5
 install-votes-requires : tie.Need-install-votes-requires
 install-votes-requires c κs = search (needs, log-stated)
 
--- src/installing.rt:72:1
 same-length : tie.Need-same-length
 same-length c = search needs
 
--- src/installing.rt:72:1
 returns : tie.Need-returns
 returns c = installed _ _ _ (c .before .before .before .before .before .before .install-log .ensures) (c .before .before .install-votes .ensures)
 

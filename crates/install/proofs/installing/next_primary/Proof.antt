@@ -3,14 +3,10 @@ use Rattle.engine.specs.Header.{headerOf, lastOf, markNumbers}
 use borrow.Author.Needs.{needs}
 use Rattle.install.proofs.installing.next_primary.Statement.{statement}
 use Rattle.install.proofs.installing.next_primary.Tie as tie
-use Rattle.install.proofs.installing.next_primary.Reads as reads
-use Rattle.install.proofs.installing.next_primary.Lts as lts
 
--- src/installing.rt:41:29
 add-t6 : tie.Need-add-t6
 add-t6 c = search needs
 
--- src/installing.rt:32:1
 returns : tie.Need-returns
 unfolding installVotes headerOf lastOf markNumbers
 returns c = λ s e. rw e

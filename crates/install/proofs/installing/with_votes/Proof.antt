@@ -1,18 +1,13 @@
 use Rattle.replication.specs.Machine.Install.{installVotes}
 use Rattle.replication.specs.Machine.Types.{noYellow}
-use Rattle.engine.specs.Header.{headerOf, lastOf, markNumbers}
+use Rattle.engine.specs.Header.{headerOf}
 use borrow.Author.Needs.{needs}
 use Rattle.install.proofs.installing.with_votes.Statement.{statement}
 use Rattle.install.proofs.installing.with_votes.Tie as tie
-use Rattle.install.proofs.installing.with_votes.Reads as reads
-use Rattle.install.proofs.installing.with_votes.Lts as lts
-use Rattle.install.proofs.installing.next_primary.Reads as next-primary-reads
 
--- src/installing.rt:51:9
 next-primary-requires : tie.Need-next-primary-requires
 next-primary-requires c κs = search needs
 
--- src/installing.rt:47:1
 returns : tie.Need-returns
 unfolding installVotes headerOf noYellow
 returns c = λ s e. rw (e, c .next-primary .ensures s e)

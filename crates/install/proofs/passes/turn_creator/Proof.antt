@@ -9,10 +9,6 @@ use lib.ListN.{length}
 use borrow.Author.Needs.{needs}
 use Rattle.install.proofs.passes.turn_creator.Statement.{statement}
 use Rattle.install.proofs.passes.turn_creator.Tie as tie
-use Rattle.install.proofs.passes.turn_creator.Reads as reads
-use Rattle.install.proofs.passes.turn_creator.Lts as lts
-use Rattle.install.proofs.table.turn_green.Reads as turn-green-reads
-use Rattle.record.proofs.bytes.num16.Reads as num16-reads
 
 abbrev Inv-loop : tie.InvT-loop
 Inv-loop state₀ places₀ creator cut i₀ state places i = (i ≤ cut) × (length state ≡ length state₀) × Turned (map (idOf creator) (above 0 i)) state₀ places state
@@ -20,47 +16,36 @@ Inv-loop state₀ places₀ creator cut i₀ state places i = (i ≤ cut) × (le
 abbrev μ-loop : tie.MeasureT-loop
 μ-loop state₀ places₀ creator cut i₀ state places i = cut - i
 
--- src/passes.rt:34:33
 mul-num16 : tie.Need-mul-num16 Inv-loop μ-loop
 mul-num16 c = search needs
 
--- src/passes.rt:34:28
 add-num16 : tie.Need-add-num16 Inv-loop μ-loop
 add-num16 c = search needs
 
--- src/passes.rt:34:9
 num16-requires : tie.Need-num16-requires Inv-loop μ-loop
 num16-requires c κs = search needs
 
--- src/passes.rt:36:5
 loop-holds : tie.Need-loop-holds Inv-loop μ-loop
 loop-holds c = search (needs, creator-start)
 
--- src/passes.rt:37:44
 add-turn-green : tie.Need-add-turn-green Inv-loop μ-loop
 add-turn-green c = search needs
 
--- src/passes.rt:37:9
 turn-green-requires : tie.Need-turn-green-requires Inv-loop μ-loop
 turn-green-requires c κs = search (needs, creator-in)
 
--- src/passes.rt:38:9
 add-i : tie.Need-add-i Inv-loop μ-loop
 add-i c = search needs
 
--- src/passes.rt:36:5
 loop-less : tie.Need-loop-less Inv-loop μ-loop
 loop-less c = search needs
 
--- src/passes.rt:36:5
 loop-again : tie.Need-loop-again Inv-loop μ-loop
 loop-again c = search (needs, creator-again)
 
--- src/passes.rt:30:1
 same-length : tie.Need-same-length Inv-loop μ-loop
 same-length c = search needs
 
--- src/passes.rt:30:1
 returns : tie.Need-returns Inv-loop μ-loop
 returns c = search (needs, creator-end)
 

@@ -6,11 +6,6 @@ use lib.ListN.{length, take}
 use borrow.Author.Needs.{needs}
 use Rattle.install.proofs.passes.turn_yellow.Statement.{statement}
 use Rattle.install.proofs.passes.turn_yellow.Tie as tie
-use Rattle.install.proofs.passes.turn_yellow.Reads as reads
-use Rattle.install.proofs.passes.turn_yellow.Lts as lts
-use Rattle.install.proofs.passes.turn_at.Reads as turn-at-reads
-use Rattle.lists.proofs.yellow.yellow_place.Reads as yellow-place-reads
-use Rattle.record.proofs.bytes.num16.Reads as num16-reads
 
 abbrev Inv-loop : tie.InvT-loop
 Inv-loop state₀ places₀ at count j₀ state places j = (j ≤ count) × (length state ≡ length state₀) × Turned (take j (yellowsIn state₀)) state₀ places state
@@ -18,51 +13,39 @@ Inv-loop state₀ places₀ at count j₀ state places j = (j ≤ count) × (len
 abbrev μ-loop : tie.MeasureT-loop
 μ-loop state₀ places₀ at count j₀ state places j = count - j
 
--- src/passes.rt:32:9
 yellow-place-requires : tie.Need-yellow-place-requires Inv-loop μ-loop
 yellow-place-requires c κs = search needs
 
--- src/passes.rt:33:17
 num16-requires : tie.Need-num16-requires Inv-loop μ-loop
 num16-requires c κs = search needs
 
--- src/passes.rt:33:17
 cast-count : tie.Need-cast-count Inv-loop μ-loop
 cast-count c = search needs
 
--- src/passes.rt:35:5
 loop-holds : tie.Need-loop-holds Inv-loop μ-loop
 loop-holds c = search (needs, yellow-start)
 
--- src/passes.rt:36:37
 mul-turn-at : tie.Need-mul-turn-at Inv-loop μ-loop
 mul-turn-at c = search needs
 
--- src/passes.rt:36:32
 add-turn-at : tie.Need-add-turn-at Inv-loop μ-loop
 add-turn-at c = search needs
 
--- src/passes.rt:36:9
 turn-at-requires : tie.Need-turn-at-requires Inv-loop μ-loop
 turn-at-requires c κs = search (needs, yellow-in)
 
--- src/passes.rt:37:9
 add-j : tie.Need-add-j Inv-loop μ-loop
 add-j c = search needs
 
--- src/passes.rt:35:5
 loop-less : tie.Need-loop-less Inv-loop μ-loop
 loop-less c = search needs
 
--- src/passes.rt:35:5
 loop-again : tie.Need-loop-again Inv-loop μ-loop
 loop-again c = search (needs, yellow-again)
 
--- src/passes.rt:28:1
 same-length : tie.Need-same-length Inv-loop μ-loop
 same-length c = search needs
 
--- src/passes.rt:28:1
 returns : tie.Need-returns Inv-loop μ-loop
 returns c = search (needs, yellow-end)
 
