@@ -59,7 +59,7 @@ unfolding nextHead
 head-read b x y z e f g = λ i. record { creator = e i; index = f i + 1; «green_length» = g i }
 
 -- The action that the code makes of the payload p.
-head-made : (s : Server) (b : List ℕ) (p : List ℕ) → Holds s b → actionOf (nextHead b) p ∷ [] ≡ madeOf (p ∷ []) s
+pub head-made : (s : Server) (b : List ℕ) (p : List ℕ) → Holds s b → actionOf (nextHead b) p ∷ [] ≡ madeOf (p ∷ []) s
 unfolding actionOf nextHead idOf madeOf numberedFrom headerIn headerOf
 head-made s b p r =
     let h : headerIn b ≡ headerOf s = header-loaded s b r in

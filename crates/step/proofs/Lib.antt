@@ -2,3 +2,9 @@ pub mod Chained
 pub mod ColoursLaws
 pub mod InstallingLaws
 pub mod RowsLaws
+pub mod LentLaws
+pub mod OutcomeLaws
+pub mod RequestLaws
+pub mod JoinLaws
+pub mod VotesLaws
+pub mod HeldLaws

@@ -1,18 +1,11 @@
 // A request: numbered, put on the own list and sent, or held.
 ghost use mathlib.Core.Path.{_≡_};
 ghost use mathlib.Core.Bool.{true};
-ghost use mathlib.Core.List.{List, [], _∷_, map};
-ghost use Prim.Native.Nat.{ℕ};
-ghost use lib.ListN.{length};
-ghost use Rattle.base.specs.Bytes.{joined};
-ghost use Rattle.format.specs.Types.{action};
-ghost use Rattle.format.specs.Write.{write};
 ghost use Rattle.replication.specs.Machine.Types.{Server};
 ghost use Rattle.replication.specs.Machine.Requests.{sendsNow, quotaLeft, roomToHold};
 ghost use Rattle.replication.specs.Machine.Step.{requested};
 ghost use Rattle.replication.specs.Machine.WellFormedRanges.{PayloadFits};
 ghost use Rattle.engine.specs.Header.{headerOf};
-ghost use Rattle.engine.specs.Image.{over};
 ghost use Rattle.engine.proofs.InPlace.{Holds};
 ghost use Rattle.step.specs.Answers.{answered, outcomeOn, LentSuch};
 use crate::Answer;
