@@ -82,6 +82,13 @@ number-behind (suc w) p e at =
     ap₂ {A = ℕ} {B = ℕ} {C = ℕ} (λ n b. n * 256 + b) (number-behind w p e at)
     (ap (λ (k : ℕ). getD (p ++ e) k 0) (add-assoc (length p) at w) ∙ getD-append-add p e (at + w) 0)
 
+pub number-drop : (w : ℕ) (e : List ℕ) (p at : ℕ) → numberAt w (drop p e) at ≡ numberAt w e (p + at)
+unfolding numberAt
+number-drop zero e p at = refl
+number-drop (suc w) e p at =
+    ap₂ {A = ℕ} {B = ℕ} {C = ℕ} (λ n b. n * 256 + b) (number-drop w e p at)
+    (getD-drop p e (at + w) 0 ∙ ap (λ (k : ℕ). getD e k 0) (sym (add-assoc p at w)))
+
 pub part-behind : (m : ℕ) (p e : List ℕ) (at : ℕ) → partAt m (p ++ e) (length p + at) ≡ partAt m e at
 unfolding partAt
 part-behind m p e at = ap (take m) (drop-append-add p e at)
