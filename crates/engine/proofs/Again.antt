@@ -21,7 +21,7 @@ use Rattle.engine.proofs.Fit.{SectionsFit, section-length, image-rest, 
 
 -- ---- one section
 
-over-over : (y z l : List ℕ) → length y ≤ length z → over z (over y l) ≡ over z l
+pub over-over : (y z l : List ℕ) → length y ≤ length z → over z (over y l) ≡ over z l
 unfolding over
 over-over y z l h =
     let m : length y + (length z - length y) ≡ length z = omega arith in
