@@ -38,7 +38,7 @@ slot-lt c x s h = omega arith
 
 -- The same id has the same place, and another in range has another.
 
-same-slot : (x y : Id) → sameId x y ≡ true → slot y ≡ slot x
+pub same-slot : (x y : Id) → sameId x y ≡ true → slot y ≡ slot x
 unfolding sameId slot
 same-slot x y h =
     let a = and-holds (x .creator =? y .creator) (x .index =? y .index) h in
