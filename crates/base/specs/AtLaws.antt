@@ -5,7 +5,7 @@ use mathlib.Core.Path.{_≡_, refl, sym, ap}
 use mathlib.Core.List.{List, [], _∷_, _++_, map, List·Memᴰ, List·Memᴰ·head, List·Memᴰ·tail}
 use mathlib.Core.Option.{Option, none, some}
 use native.Mathlib.Omega.{arith}
-use lib.ListN.{length, take}
+use lib.ListN.{length, take, set}
 use Rattle.base.specs.Tests.{_=?_, pick, Known, holds, fails, known, eq-holds, eq-fails}
 use Rattle.base.specs.Lists.{at, upd}
 
@@ -75,6 +75,21 @@ module _ {A : Type 0} where
   unfolding at
   at-single y zero x e = (refl, sym (some-same e))
   at-single y (suc p) x e = none-some e
+
+  -- An element set anew.
+  pub at-set-same : (l : List A) (i : ℕ) (x : A) → i < length l → at (set l i x) i ≡ some x
+  unfolding at
+  at-set-same [] i x h = absurd (omega arith)
+  at-set-same (y ∷ l) zero x h = refl
+  at-set-same (y ∷ l) (suc i) x h = at-set-same l i x (omega arith)
+
+  pub at-set-other : (l : List A) (i j : ℕ) (x : A) → (j ≡ i → ⊥) → at (set l i x) j ≡ at l j
+  unfolding at
+  at-set-other [] i j x h = refl
+  at-set-other (y ∷ l) zero zero x h = absurd (h refl)
+  at-set-other (y ∷ l) zero (suc j) x h = refl
+  at-set-other (y ∷ l) (suc i) zero x h = refl
+  at-set-other (y ∷ l) (suc i) (suc j) x h = at-set-other l i j x (λ e. h (ap suc e))
 
 pub at-map : {A B : Type 0} (f : A → B) (l : List A) (p : ℕ) (y : B) → at (map f l) p ≡ some y → (x : A) × (at l p ≡ some x) × (y ≡ f x)
 unfolding at

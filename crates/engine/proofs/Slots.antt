@@ -8,13 +8,13 @@ use mathlib.Core.Option.{Option, none, some}
 use native.Mathlib.Nat.{add-zero, one-le-pow}
 use native.Mathlib.Omega.{arith}
 use lib.ListN.{length, getD, take, drop}
-use Rattle.base.specs.Tests.{_or_, pick, pick-yes, pick-no, eq-yes, eq-no}
+use Rattle.base.specs.Tests.{pick, pick-yes, pick-no}
 use Rattle.base.specs.Bytes.{bytesOf, numberAt, numbersAt, joined}
 use Rattle.base.specs.Lists.{isThere}
 use Rattle.base.specs.ListLaws.{Each}
 use Rattle.base.specs.Occurs.{Occurs, occurs-first, occurs-second, occurs-at, occurs-drop, joined-parts, number-read}
 use Rattle.base.specs.Sets.{inSet, withMember}
-use Rattle.base.specs.SetLaws.{in-empty, in-with-member, with-member-below}
+use Rattle.base.specs.SetLaws.{in-empty, member-other, member-same, with-member-below}
 use Rattle.format.specs.Limits.{mostServers, mostQuota}
 use Rattle.format.specs.Types.{Action, State, Context, state, kindNumber, kindOf}
 use Rattle.format.specs.Write.{write, framed, bodyOf, stateBytes, actionBytes, payloadBytes}
@@ -46,6 +46,18 @@ held-read (p ∷ l) e at r o =
     let rest = held-read l e (at + heldSize) (r .1) (occurs-second (slot heldSize (payloadBytes p)) (heldSlots l) e at (at + heldSize) place o) in
     ap₂ {A = List ℕ} {B = List (List ℕ)} {C = List (List ℕ)} (λ x xs. x ∷ xs) first rest
 
+-- As many are read as are asked for.
+
+pub held-count : (m : ℕ) (b : List ℕ) (at : ℕ) → length (heldAt m b at) ≡ m
+unfolding heldAt
+held-count zero b at = refl
+held-count (suc m) b at = ap suc (held-count m b (at + heldSize))
+
+pub actions-count : (m : ℕ) (b : List ℕ) (at : ℕ) → length (actionsAt m b at) ≡ m
+unfolding actionsAt
+actions-count zero b at = refl
+actions-count (suc m) b at = ap suc (actions-count m b (at + slotSize))
+
 pub noted-read : (l : List ℕ) (e : List ℕ) (at : ℕ) → Each (λ x. x ≤ mostServers * mostQuota) l → Occurs (notedBytes l) e at → numbersAt 4 (length l) e at ≡ l
 unfolding notedBytes numbersAt bytesOf
 noted-read [] e at r o = refl
@@ -55,22 +67,6 @@ noted-read (x ∷ l) e at r o =
     ap₂ {A = ℕ} {B = List ℕ} {C = List ℕ} (λ y ys. y ∷ ys) first rest
 
 -- ---- the set of those whose State is in
-
-or-false : (t : Bool) → (t or false) ≡ t
-unfolding _or_
-or-false true = refl
-or-false false = refl
-
--- One server more, or not: the others are in as before.
-member-other : (t : Bool) (j k s : ℕ) → (j ≡ k → ⊥) → inSet j (pick t (withMember k s) s) ≡ inSet j s
-unfolding pick
-member-other true j k s h = in-with-member j k s ∙ ap (λ (u : Bool). inSet j s or u) (eq-no j k h) ∙ or-false (inSet j s)
-member-other false j k s h = refl
-
-member-same : (t : Bool) (k s : ℕ) → inSet k s ≡ false → inSet k (pick t (withMember k s) s) ≡ t
-unfolding pick _or_
-member-same true k s h = in-with-member k k s ∙ ap₂ {A = Bool} {B = Bool} {C = Bool} (λ u v. u or v) h (eq-yes k k refl)
-member-same false k s h = h
 
 pub senders-from : (k : ℕ) (xs : List (Option State)) (j : ℕ) → j < k → inSet j (senders k xs) ≡ false
 unfolding senders

@@ -1,21 +1,18 @@
 -- What a buffer that holds a state says of its lists.
 -- Assumes nothing.
 use Prim.Native.Nat.{ℕ, _+_, _*_, _≤_, _<_}
-use mathlib.Core.Path.{_≡_, sym, ap, _∙_}
+use mathlib.Core.Path.{_≡_, ap}
 use mathlib.Core.List.{List}
 use native.Mathlib.Nat.{mul-le-mul}
 use native.Mathlib.Omega.{arith}
 use lib.ListN.{length}
 use Rattle.base.specs.Bytes.{numberAt}
 use Rattle.base.specs.Lists.{sum}
-use Rattle.base.specs.Sections.{begin-end}
-use Rattle.format.specs.Types.{Id}
 use Rattle.format.specs.Read.{idsAt}
-use Rattle.format.proofs.Ranges.{ContextRange}
 use Rattle.format.proofs.IdCount.{ids-count}
 use Rattle.record.specs.declared.State.{State}
 use Rattle.replication.specs.Machine.Types.{Server, contextOf}
-use Rattle.engine.specs.Layout.{SizesIn, theHeld, theStates, theYellow, theOwn, theQueue, sections, offset, stateLength}
+use Rattle.engine.specs.Layout.{SizesIn, theHeld, theYellow, theOwn, sections, offset, stateLength}
 use Rattle.engine.specs.Header.{headerOf, headerIn}
 use Rattle.engine.specs.Decode.{serversIn, quotaIn, decoded, decodedAs}
 use Rattle.engine.proofs.InRange.{InRange, in-range}

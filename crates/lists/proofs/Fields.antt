@@ -44,3 +44,15 @@ two-fields s t j k y z h i e d f =
     ∙ field-changed (set (fields s) j y) k z (sized-set fieldSizes (fields s) j y (fields-sized s) e) i d
     ∙ ap (λ (l : List (List ℕ)). joined l) f
     ∙ sym (header-fields t)
+
+-- Three.
+pub three-fields : (s t : Server) (i j k : ℕ) (x y z : List ℕ) → i < 19 → j < 19 → k < 19 → length x ≡ getD fieldSizes i 0 → length y ≡ getD fieldSizes j 0
+    → length z ≡ getD fieldSizes k 0 → set (set (set (fields s) i x) j y) k z ≡ fields t
+    → patched (begin fieldSizes k) z (patched (begin fieldSizes j) y (patched (begin fieldSizes i) x (headerBytes s))) ≡ headerBytes t
+three-fields s t i j k x y z hi hj hk ei ej ek f =
+    let one = sized-set fieldSizes (fields s) i x (fields-sized s) ei in
+    ap (λ (l : List ℕ). patched (begin fieldSizes k) z (patched (begin fieldSizes j) y l)) (ap (patched (begin fieldSizes i) x) (header-fields s) ∙ field-changed (fields s) i x (fields-sized s) hi ei)
+    ∙ ap (patched (begin fieldSizes k) z) (field-changed (set (fields s) i x) j y one hj ej)
+    ∙ field-changed (set (set (fields s) i x) j y) k z (sized-set fieldSizes (set (fields s) i x) j y one ej) hk ek
+    ∙ ap (λ (l : List (List ℕ)). joined l) f
+    ∙ sym (header-fields t)

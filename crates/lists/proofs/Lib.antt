@@ -4,6 +4,15 @@ pub mod Counts
 pub mod YellowLaws
 pub mod NumberLaws
 pub mod MembershipLaws
+pub mod Composed
+pub mod VotesTaken
 pub mod RequestLaws
 pub mod NoteLaws
 pub mod StateLaws
+pub mod NoteAllLaws
+pub mod SendLaws
+pub mod Sent
+pub mod Examples
+pub mod RecoveryLaws
+pub mod Recovered
+pub mod ExchangeLaws

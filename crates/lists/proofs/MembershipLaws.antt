@@ -12,7 +12,7 @@ use Rattle.base.specs.SetLaws.{power-below}
 use Rattle.base.specs.Tests.{pick}
 use Rattle.base.specs.Lists.{isThere, Begins}
 use Rattle.record.specs.declared.State.{State}
-use Rattle.replication.specs.Machine.Types.{Log, Votes, Mode, Exchange-states, Configuration, Membership, Server, withVotes, inMode, noYellow, noStates}
+use Rattle.replication.specs.Machine.Types.{Log, Votes, Mode, Membership, Server, withVotes, inMode, noYellow, noStates}
 use Rattle.replication.specs.Machine.Step.{entering, leave, withCpc, unmarked, yellowValid}
 use Rattle.engine.specs.Image.{modeNumber, senders, image}
 use Rattle.engine.specs.Header.{headerOf, headerIn}
@@ -27,7 +27,7 @@ senders-none k zero = refl
 senders-none k (suc n) = senders-none (k + 1) n
 
 -- Only the membership changes, and its States stay.
-membership-kept : (s : Server) (m : Membership) → m .states ≡ s .membership .states → Shortened s (s .log) (s .votes) m (s .held)
+pub membership-kept : (s : Server) (m : Membership) → m .states ≡ s .membership .states → Shortened s (s .log) (s .votes) m (s .held)
 membership-kept s m e =
     record { cuts = refl; queued = refl; own = begins-refl _; yellow = begins-refl _; held = begins-refl _; states = inl e }
 

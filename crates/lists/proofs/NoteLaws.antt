@@ -1,13 +1,13 @@
 -- Noted lengths in place.
 -- Assumes nothing.
 use Prim.Native.Nat.{ℕ, zero, suc, _+_, _*_, _≤_, _<_, max}
-use mathlib.Core.Path.{_≡_, refl, sym, ap, ap₂, _∙_}
+use mathlib.Core.Path.{_≡_, refl, sym, ap, _∙_}
 use mathlib.Core.List.{List, [], _∷_, _++_}
 use native.Mathlib.Omega.{arith}
 use lib.ListN.{length, getD, set}
 use lib.Seq.{set-getD}
 use Rattle.base.specs.Bytes.{bytesOf, numberAt, numbersAt}
-use Rattle.base.specs.BytesLaws.{bytes-length}
+use Rattle.base.specs.BytesLaws.{bytes-length, numbers-at}
 use Rattle.base.specs.Lists.{sum}
 use Rattle.base.specs.Patched.{patched}
 use Rattle.base.specs.Sections.{begin}
@@ -21,19 +21,11 @@ use Rattle.engine.proofs.Used.{noted-length}
 use Rattle.engine.proofs.InPlace.{Holds}
 use Rattle.queue.proofs.Inside.{changed-at, over-changed}
 use Rattle.queue.proofs.Holding.{holds-changed, holds-decoded}
-use Rattle.lists.specs.Lists.{place, CountsIn, NumberIn}
+use Rattle.lists.specs.Lists.{place, NumberIn}
 use Rattle.lists.proofs.Changes.{changed-image}
 use Rattle.lists.proofs.Counts.{holds-servers, holds-place, place-read, header-room}
 
 -- ---- one of the numbers
-
-numbers-at : (w m : ℕ) (e : List ℕ) (at k : ℕ) → k < m → getD (numbersAt w m e at) k 0 ≡ numberAt w e (at + w * k)
-unfolding numbersAt
-numbers-at w zero e at k h = absurd (omega arith)
-numbers-at w (suc m) e at zero h = let f : at ≡ at + w * 0 = omega arith in ap (numberAt w e) f
-numbers-at w (suc m) e at (suc k) h =
-    let f : at + w + w * k ≡ at + w * suc k = omega arith in
-    numbers-at w m e (at + w) k (omega arith) ∙ ap (numberAt w e) f
 
 noted-at : (s : Server) (b : List ℕ) (c : ℕ) → Holds s b → c < serversIn b → numberAt 4 b (place theNoted b + 4 * c) ≡ getD (s .noted) c 0
 unfolding decoded decodedAs place serversIn

@@ -1,24 +1,21 @@
 -- Only the header is written: the other sections stay, where the lists are the same or shorter.
 -- Assumes nothing.
-use Prim.Native.Nat.{ℕ, zero, suc, _+_, _≤_, _<_}
-use mathlib.Core.Path.{_≡_, refl, sym, ap, ap₂, subst, _∙_}
-use mathlib.Core.List.{List, [], _∷_, _++_, append-assoc, append-nil, map}
+use Prim.Native.Nat.{ℕ, zero, suc, _<_}
+use mathlib.Core.Path.{_≡_, refl, sym, ap, _∙_}
+use mathlib.Core.List.{List, [], _∷_, _++_, append-assoc}
 use mathlib.Core.Logic.{⊎-elim}
-use mathlib.Core.Option.{Option, none}
+use mathlib.Core.Option.{Option}
 use native.Mathlib.Omega.{arith}
-use native.Mathlib.Nat.{zero-add}
 use lib.ListN.{length, getD, take, drop, set, take-append-drop}
-use lib.Seq.{drop-at, drop-length}
 use Rattle.base.specs.Bytes.{joined}
 use Rattle.base.specs.Lists.{Begins, sum}
-use Rattle.base.specs.Patched.{patched}
-use Rattle.base.specs.Sections.{begin}
-use Rattle.format.specs.Types.{Id, Action, State as Collected}
-use Rattle.format.specs.Write.{idsBytes, actionBytes, payloadBytes, cutsBytes}
+use Rattle.base.specs.Patched.{patched, patched-whole}
+use Rattle.format.specs.Types.{Action, State as Collected}
+use Rattle.format.specs.Write.{idsBytes, payloadBytes, cutsBytes}
 use Rattle.record.specs.declared.State.{State}
 use Rattle.replication.specs.Machine.Types.{Log, Votes, Membership, Server, noStates}
 use Rattle.replication.specs.Machine.WellFormed.{queue}
-use Rattle.engine.specs.Layout.{heldSize, slotSize, stateSize, theHeader, theCuts, theNoted, theHeld, theStates, theYellow, theOwn, theQueue, sections, offset}
+use Rattle.engine.specs.Layout.{heldSize, stateSize, theHeader, theCuts, theNoted, theHeld, theStates, theYellow, theOwn, theQueue, sections}
 use Rattle.engine.specs.Image.{over, slot, headerBytes, notedBytes, stateOver, statesOver, actionSlots, heldSlots, section, parts, image}
 use Rattle.engine.specs.Header.{headerOf, headerWritten}
 use Rattle.engine.proofs.Used.{header-length}
@@ -43,7 +40,7 @@ held-append (p ∷ x) y =
 -- ---- a beginning of a used part, dropped States
 
 -- A used part w that begins with y, over bytes that hold it.
-begun : (w y z l : List ℕ) → w ≡ y ++ z → l ≡ over w l → over w l ≡ over y l
+pub begun : (w y z l : List ℕ) → w ≡ y ++ z → l ≡ over w l → over w l ≡ over y l
 begun w y z l e h = sym h ∙ sym (over-less y z l (h ∙ ap (λ (x : List ℕ). over x l) e))
 
 dropped : (size m : ℕ) (l : List ℕ) → statesOver size (noStates m) l ≡ l
@@ -85,11 +82,6 @@ module _ (s : Server) (b : List ℕ) (r : Holds s b) where
       ∷ own i
       ∷ actions i
       ∷ []
-
--- All of it written anew.
-patched-whole : (x y : List ℕ) → length x ≡ length y → patched 0 x y ≡ x
-unfolding patched
-patched-whole x y e = rw (zero-add (length x), e, drop-length y) (append-nil x)
 
 -- The numbers of the changed state, saved.
 pub numbers-saved : (h : State) (b b₁ : List ℕ) → b₁ ≡ patched 0 (headerWritten h) b

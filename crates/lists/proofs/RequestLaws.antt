@@ -5,7 +5,7 @@ use mathlib.Core.Path.{_≡_, refl, sym, ap, ap₂, _∙_}
 use mathlib.Core.Bool.{true}
 use mathlib.Core.List.{List, [], _∷_, _++_, append-nil, map}
 use native.Mathlib.Omega.{arith}
-use lib.ListN.{length, getD, set, length-append, length-map}
+use lib.ListN.{length, set, length-append, length-map}
 use Rattle.base.specs.Bytes.{bytesOf, numberAt, joined}
 use Rattle.base.specs.BytesLaws.{bytes-length}
 use Rattle.base.specs.Lists.{above, sum}
@@ -19,11 +19,10 @@ use Rattle.format.specs.Write.{actionBytes, payloadBytes}
 use Rattle.format.proofs.Lengths.{action-length, payload-length}
 use Rattle.record.specs.Values.{idOf, actionOf}
 use Rattle.record.specs.declared.ActionHead.{ActionHead}
-use Rattle.record.specs.declared.State.{State}
-use Rattle.replication.specs.Machine.Types.{Server, withLog, withHeld}
+use Rattle.replication.specs.Machine.Types.{Server, withHeld}
 use Rattle.replication.specs.Machine.Colours.{cut}
 use Rattle.replication.specs.Machine.Requests.{quotaLeft, numberedFrom, madeOf, numbered, hold}
-use Rattle.replication.specs.Machine.WellFormed.{idsIn, queue, wellFormed}
+use Rattle.replication.specs.Machine.WellFormed.{idsIn, queue}
 use Rattle.replication.proofs.WellFormed.Facts.{well-formed-facts}
 use Rattle.engine.specs.Layout.{heldSize, slotSize, theHeader, theHeld, theOwn, sections, offset}
 use Rattle.engine.specs.Header.{headerOf, headerIn}
@@ -43,7 +42,7 @@ use Rattle.lists.proofs.Fields.{theNumbered, theHeldCount, one-field, t
 use Rattle.lists.proofs.NumberLaws.{held-append}
 
 -- The own list is no longer than what was numbered.
-own-short : (s : Server) (b : List ℕ) → Holds s b → length (s .log .own) ≤ s .log .numbered
+pub own-short : (s : Server) (b : List ℕ) → Holds s b → length (s .log .own) ≤ s .log .numbered
 unfolding idsIn
 own-short s b r =
     let f = well-formed-facts s (r .formed) .own-list in

@@ -1,14 +1,14 @@
 -- A collected State in place.
 -- Assumes nothing.
 use Prim.Native.Nat.{ℕ, zero, suc, _+_, _*_, _%_, _^_, _≤_, _<_}
-use mathlib.Core.Path.{_≡_, refl, sym, ap, ap₂, subst, _∙_}
+use mathlib.Core.Path.{_≡_, refl, sym, ap, ap₂, _∙_}
 use mathlib.Core.Bool.{Bool, true, false}
 use mathlib.Core.List.{List, [], _∷_, _++_, append-assoc}
 use mathlib.Core.Option.{Option, none, some}
 use native.Mathlib.Decide.{ℕ-discrete}
 use native.Mathlib.Nat.{zero-add, suc-mul, mul-le-mul-right}
 use native.Mathlib.Omega.{arith}
-use lib.Bits.{bitAnd, bitOr, and-comm}
+use lib.Bits.{bitOr, bitAnd, and-comm}
 use lib.ListN.{length, getD, take, drop, set, length-append, length-take, length-drop, length-set, take-append-drop}
 use lib.Seq.{take-at, drop-at, getD-set-same, getD-set-other, take-append-add, drop-append-add, drop-append-le}
 use Rattle.base.specs.Bytes.{bytesOf, numberAt}
@@ -17,14 +17,14 @@ use Rattle.base.specs.Lists.{isThere, sum}
 use Rattle.base.specs.ListLaws.{Each}
 use Rattle.base.specs.Patched.{patched}
 use Rattle.base.specs.Sections.{begin, begin-end}
-use Rattle.base.specs.Sets.{inSet, inside, withMember}
-use Rattle.base.specs.SetLaws.{in-with-member, with-member-below, members-inside}
+use Rattle.base.specs.Sets.{inSet, withMember, inside}
+use Rattle.base.specs.SetLaws.{in-with-member, with-member-below, same-sets, members-inside}
 use Rattle.base.specs.Tests.{_or_, eq-yes, eq-no, eq-holds}
 use Rattle.format.specs.Types.{State, state}
 use Rattle.format.specs.Write.{write}
 use Rattle.replication.specs.Machine.Types.{Server, contextOf}
 use Rattle.replication.specs.Machine.Step.{withState}
-use Rattle.engine.specs.Layout.{SizesIn, stateSize, theHeader, theStates, sections, sectionSize, offset, stateLength}
+use Rattle.engine.specs.Layout.{stateSize, theHeader, theStates, sections, sectionSize, offset, stateLength}
 use Rattle.engine.specs.Image.{over, headerBytes, senders, stateOver, statesOver, section, parts, image}
 use Rattle.record.specs.declared.State.{State as Numbers}
 use Rattle.engine.specs.Header.{headerOf, headerIn}
@@ -38,20 +38,13 @@ use Rattle.engine.proofs.InPlace.{Holds, holds-section}
 use Rattle.queue.proofs.Fields.{fields}
 use Rattle.queue.proofs.Holding.{holds-changed}
 use Rattle.queue.proofs.Inside.{changed-at}
-use Rattle.lists.specs.Lists.{place, CountsIn, NumberIn, CollectRoom}
+use Rattle.lists.specs.Lists.{place, NumberIn, CollectRoom}
 use Rattle.lists.proofs.Changes.{changed-image}
 use Rattle.lists.proofs.Counts.{holds-servers, holds-quota, holds-place, place-read, header-room}
 use Rattle.lists.proofs.MembershipLaws.{member-shifted}
 use Rattle.lists.proofs.Fields.{theSenders, one-field}
 
 -- ---- the set of senders
-
-same-sets : (n s t : ℕ) → s < 2 ^ n → t < 2 ^ n → ((k : ℕ) → inSet k s ≡ inSet k t) → s ≡ t
-unfolding inside
-same-sets n s t h k e =
-    let a : bitAnd s t ≡ s = eq-holds (bitAnd s t) s (members-inside n s t h (λ j l m. sym (e j) ∙ m)) in
-    let b : bitAnd t s ≡ t = eq-holds (bitAnd t s) t (members-inside n t s k (λ j l m. e j ∙ m)) in
-    sym a ∙ and-comm s t ∙ b
 
 or-no : (t : Bool) → (t or false) ≡ t
 unfolding _or_
@@ -68,7 +61,7 @@ pub sender-more : (xs : List (Option State)) (k : ℕ) (x : State) → k < lengt
 unfolding isThere
 sender-more xs k x h few =
     same-sets 8 _ _ (with-member-below 8 k (senders 0 xs) (omega arith) (senders-below 8 0 xs (omega arith)))
-    (senders-below 8 0 (set xs k (some x)) (omega (arith, length-set xs k (some x)))) (λ j. go j (ℕ-discrete j k))
+    (senders-below 8 0 (set xs k (some x)) (omega (arith, length-set xs k (some x)))) (λ j l. go j (ℕ-discrete j k))
   where
     in-set : (j : ℕ) (ys : List (Option State)) → inSet j (senders 0 ys) ≡ isThere (getD ys j none)
     in-set j ys = ap (λ (i : ℕ). inSet i (senders 0 ys)) (sym (zero-add j)) ∙ in-senders 0 ys j

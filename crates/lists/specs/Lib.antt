@@ -1,1 +1,4 @@
 pub mod Lists
+pub mod Sending
+pub mod Noting
+pub mod Standing

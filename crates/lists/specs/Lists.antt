@@ -49,6 +49,11 @@ pub record CountsIn (b : List ℕ) : Type 0 where
 unfoldable pub nextHead : List ℕ → ActionHead
 nextHead b = record { creator = numberAt 1 b 3; index = numberAt 2 b 27 + 1; «green_length» = numberAt 4 b 23 }
 
+-- Room for a yellow list of these bytes.
+pub record YellowRoom (e b : List ℕ) : Type 0 where
+  pub counts : CountsIn b
+  pub short : length e ≤ 3 * (serversIn b * quotaIn b)
+
 -- A server's number.
 pub record NumberIn (k : ℕ) (b : List ℕ) : Type 0 where
   pub counts : CountsIn b

@@ -1,14 +1,22 @@
 // Noted lengths in a state's buffer.
 ghost use mathlib.Core.Path.{_≡_};
-ghost use Prim.Native.Nat.{_+_, _*_, _≤_};
-ghost use lib.ListN.{length};
+ghost use mathlib.Core.Option.{none};
+ghost use Prim.Native.Nat.{_+_, _*_, _≤_, _<_};
+ghost use lib.ListN.{length, getD};
 ghost use Rattle.base.specs.Bytes.{numberAt};
+ghost use Rattle.base.specs.Sets.{inSet};
 ghost use Rattle.replication.specs.Machine.Types.{Server, withNoted};
 ghost use Rattle.replication.specs.Machine.Colours.{note as noted};
-ghost use Rattle.engine.specs.Layout.{theNoted};
+ghost use Rattle.replication.specs.Machine.Exchange.{noteAll};
+ghost use Rattle.replication.specs.Machine.Step.{collected};
+ghost use Rattle.engine.specs.Layout.{stateSize, theNoted, theStates};
 ghost use Rattle.engine.specs.Image.{image};
+ghost use Rattle.engine.specs.Decode.{serversIn, quotaIn};
 ghost use Rattle.engine.proofs.InPlace.{Holds};
-ghost use Rattle.lists.specs.Lists.{CountsIn, NumberIn, place};
+ghost use Rattle.lists.specs.Lists.{NumberIn, place};
+ghost use Rattle.lists.specs.Noting.{noteSlot};
+ghost use Rattle.lists.specs.Standing.{HoldsSome};
+use crate::states::state_place;
 use engine::places::noted_at;
 use record::bytes::num8;
 use record::bytes::num16;
@@ -34,4 +42,47 @@ pub fn note(state: &mut [u8], c: u8, l: u32)
         return;
     }
     put32(state, at, l);
+}
+
+// Whether the State of server k is in.
+fn is_in(state: &[u8], k: u8) -> bool
+    requires { ⌜ (60 ≤ length (now state)) × (k < 8) ⌝ }
+    ensures { λ r. ⌜ r ≡ inSet k (numberAt 1 (now (state .entry)) 13) ⌝ }
+{
+    (num8(state, 13) >> k) % 2 == 1
+}
+
+// The green length in the State of server k: behind the cuts.
+fn sent_length(state: &[u8], k: u8) -> u32
+    requires { ⌜ NumberIn k (now state) ⌝ }
+    ensures { λ r. ⌜ r ≡ numberAt 4 (now (state .entry)) (place theStates (now (state .entry)) + k * stateSize (serversIn (now (state .entry))) (quotaIn (now (state .entry))) + (9 + 2 * serversIn (now (state .entry)))) ⌝ }
+{
+    let at = state_place(state, k);
+    let n = num8(state, 0) as usize;
+    num32(state, at + (9 + 2 * n))
+}
+
+// The green length of server k, if its State is in.
+fn note_state(state: &mut [u8], k: u8)
+    requires { ⌜ NumberIn k (now state) ⌝ }
+    ensures { λ _. ⌜ ((s : Server) → Holds s (now (state .entry)) → now (state .exit) ≡ image (withNoted (noteSlot (getD (s .membership .states) k none) (s .noted)) s) (now (state .entry))) ⌝ }
+{
+    if !is_in(state, k) {
+        return;
+    }
+    let l = sent_length(state, k);
+    note(state, k, l);
+}
+
+// "note each State's green length"
+pub fn note_all(state: &mut [u8])
+    requires { ⌜ HoldsSome (now state) ⌝ }
+    ensures { λ _. ⌜ ((s : Server) → Holds s (now (state .entry)) → now (state .exit) ≡ image (withNoted (noteAll (collected s) (s .noted)) s) (now (state .entry))) ⌝ }
+{
+    let n = num8(state, 0);
+    let mut k: u8 = 0;
+    while k < n {
+        note_state(state, k);
+        k += 1;
+    }
 }

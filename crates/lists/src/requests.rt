@@ -7,7 +7,6 @@ ghost use lib.ListN.{length};
 ghost use Rattle.base.specs.Bytes.{bytesOf, numberAt};
 ghost use Rattle.base.specs.Patched.{patched};
 ghost use Rattle.format.specs.Limits.{mostHeld};
-ghost use Rattle.format.specs.Range.{payloadOk};
 ghost use Rattle.format.specs.Write.{actionBytes, payloadBytes};
 ghost use Rattle.record.specs.Values.{actionOf};
 ghost use Rattle.replication.specs.Machine.Types.{Server};
@@ -28,7 +27,7 @@ use stores::put_payload;
 use stores::put16;
 
 // Where the own list begins: there is room for one action more.
-fn own_place(state: &[u8]) -> usize
+pub fn own_place(state: &[u8]) -> usize
     requires { ⌜ CountsIn (now state) ⌝ }
     ensures { λ r. ⌜ (r ≡ place theOwn (now (state .entry))) × (r + (56 * numberAt 2 (now (state .entry)) 29 + 56) ≤ length (now (state .entry))) × (numberAt 2 (now (state .entry)) 29 ≤ 256) × (numberAt 2 (now (state .entry)) 27 ≤ 256) × (60 ≤ length (now (state .entry))) ⌝ }
 {
@@ -47,7 +46,7 @@ pub fn next_head(state: &[u8]) -> ActionHead
     }
 }
 
-fn put_counts(state: &mut [u8], numbered: u16, own: u16)
+pub fn put_counts(state: &mut [u8], numbered: u16, own: u16)
     requires { ⌜ 60 ≤ length (now state) ⌝ }
     ensures { λ _. ⌜ now (state .exit) ≡ patched 29 (bytesOf 2 own) (patched 27 (bytesOf 2 numbered) (now (state .entry))) ⌝ }
 {

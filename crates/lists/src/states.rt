@@ -2,7 +2,6 @@
 ghost use mathlib.Core.Path.{_≡_};
 ghost use Prim.Native.Nat.{_+_, _*_, _≤_, _<_};
 ghost use lib.ListN.{length};
-ghost use lib.Bits.{bitOr};
 ghost use Rattle.base.specs.Bytes.{bytesOf, numberAt};
 ghost use Rattle.base.specs.Patched.{patched};
 ghost use Rattle.base.specs.Sets.{withMember};
@@ -24,7 +23,7 @@ use record::bytes::num16;
 use stores::put8;
 
 // Where the slot of server k begins.
-fn state_place(state: &[u8], k: u8) -> usize
+pub fn state_place(state: &[u8], k: u8) -> usize
     requires { ⌜ NumberIn k (now state) ⌝ }
     ensures { λ r. ⌜ (r ≡ place theStates (now (state .entry)) + k * stateSize (serversIn (now (state .entry))) (quotaIn (now (state .entry)))) × (r + stateSize (serversIn (now (state .entry))) (quotaIn (now (state .entry))) ≤ length (now (state .entry))) × (60 ≤ length (now (state .entry))) ⌝ }
 {

@@ -2,18 +2,33 @@
 ghost use mathlib.Core.Path.{_≡_};
 ghost use Prim.Native.Nat.{_≤_};
 ghost use lib.ListN.{length};
-ghost use Rattle.replication.specs.Machine.Types.{Server, withVotes};
+ghost use Rattle.format.specs.Write.{idsBytes};
+ghost use Rattle.replication.specs.Machine.Types.{Votes, Server, withVotes};
 ghost use Rattle.replication.specs.Machine.Step.{unmarked, yellowValid};
 ghost use Rattle.engine.specs.Image.{image};
 ghost use Rattle.engine.specs.Header.{headerOf};
 ghost use Rattle.engine.proofs.InPlace.{Holds};
-ghost use Rattle.lists.specs.Lists.{withoutYellow};
+ghost use Rattle.lists.specs.Lists.{YellowRoom, withoutYellow};
+ghost use Rattle.lists.specs.Standing.{voteNumbers};
 use crate::numbers::save_numbers;
+use crate::yellow::yellow_place;
 use engine::header::load;
+use engine::header::save;
 use record::AttemptIndex;
+use record::LastPrimary;
 use record::Mark;
 use record::PrimaryIndex;
 use record::State;
+use record::blocks::copy;
+
+// The numbers of votes; the yellow ids lie beside them.
+pub struct VoteNumbers {
+    pub last: LastPrimary,
+    pub attempt: AttemptIndex,
+    pub mark: Mark,
+    pub yellow_status: u8,
+    pub yellow_count: u16,
+}
 
 fn without_mark(h: State) -> State
     ensures { λ r. ⌜ ((s : Server) → h ≡ headerOf s → r ≡ headerOf (withVotes (unmarked (s .votes)) s)) ⌝ }
@@ -75,4 +90,31 @@ pub fn clear_yellow(state: &mut [u8])
     let h = load(state);
     let t = with_no_yellow(h);
     save_numbers(state, t);
+}
+
+fn with_votes(h: State, v: VoteNumbers) -> State
+    ensures { λ r. ⌜ ((s : Server) (w : Votes) → h ≡ headerOf s → v ≡ voteNumbers w → r ≡ headerOf (withVotes w s)) ⌝ }
+{
+    let last = v.last;
+    let attempt = v.attempt;
+    let mark = v.mark;
+    let mut t = h;
+    t.last = last;
+    t.attempt = attempt;
+    t.mark = mark;
+    t.yellow_status = v.yellow_status;
+    t.yellow_count = v.yellow_count;
+    t
+}
+
+// Other votes: their numbers, and the bytes of the yellow ids.
+pub fn take_votes(state: &mut [u8], v: VoteNumbers, ids: &[u8])
+    requires { ⌜ YellowRoom (now ids) (now state) ⌝ }
+    ensures { λ _. ⌜ ((s : Server) (w : Votes) → Holds s (now (state .entry)) → v ≡ voteNumbers w → idsBytes (w .yellow .ids) ≡ now (ids .entry) → now (state .exit) ≡ image (withVotes w s) (now (state .entry))) ⌝ }
+{
+    let h = load(state);
+    let t = with_votes(h, v);
+    let at = yellow_place(state);
+    copy(state, at, ids);
+    save(state, t);
 }

@@ -81,7 +81,7 @@ queue-end : (n q : ℕ) → offset n q theQueue + slotSize * (n * q) ≤ stateLe
 unfolding sections
 queue-end n q = sections-end n q theQueue
 
-queue-parts : (l : Log) → length (queue l) ≡ length (l .green) + length (l .red)
+pub queue-parts : (l : Log) → length (queue l) ≡ length (l .green) + length (l .red)
 unfolding queue
 queue-parts l = length-append (l .green) (l .red)
 

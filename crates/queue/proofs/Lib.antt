@@ -13,6 +13,3 @@ pub mod Positions
 pub mod Promoted
 pub mod GreenLaws
 pub mod ReadLaws
-pub mod SwapLaws
-pub mod InstallLaws
-pub mod Swapped

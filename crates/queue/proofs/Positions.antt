@@ -71,6 +71,15 @@ position-none d (a ∷ l) h = go (known (sameId d (a .id))) (λ m. position-none
     go (holds t) more = absurd (let z : suc (length l) ≤ 0 = rw t at h in omega arith)
     go (fails t) more = rw t (more (let z : suc (length l) ≤ suc (position d l) = rw t at h in omega arith))
 
+pub position-most : (d : Id) (l : List Action) → position d l ≤ length l
+unfolding position pick
+position-most d [] = omega arith
+position-most d (a ∷ l) = go (known (sameId d (a .id))) (position-most d l)
+  where
+    go : Known (sameId d (a .id)) → position d l ≤ length l → pick (sameId d (a .id)) 0 (suc (position d l)) ≤ suc (length l)
+    go (holds t) more = rw t (omega arith)
+    go (fails t) more = rw t (omega arith)
+
 -- ---- actions read from a later slot on
 
 pub actions-drop : (g m : ℕ) (b : List ℕ) (at : ℕ) → g ≤ m → drop g (actionsAt m b at) ≡ actionsAt (m - g) b (at + slotSize * g)
@@ -84,8 +93,3 @@ actions-drop (suc g) (suc m) b at h =
     let e : suc m - suc g ≡ m - g = omega arith in
     let f : at + slotSize * suc g ≡ at + slotSize + slotSize * g = omega arith in
     actions-drop g m b (at + slotSize) (omega arith) ∙ sym (rw (e, f))
-
-pub actions-count : (m : ℕ) (b : List ℕ) (at : ℕ) → length (actionsAt m b at) ≡ m
-unfolding actionsAt
-actions-count zero b at = refl
-actions-count (suc m) b at = ap suc (actions-count m b (at + slotSize))

@@ -1,20 +1,21 @@
 -- The cut in the buffer decides whether an action is entered.
 -- Assumes nothing.
-use Prim.Native.Nat.{ℕ, zero, suc, _+_, _*_, _≤_, _<_}
-use mathlib.Core.Path.{_≡_, refl, sym, ap, _∙_}
+use Prim.Native.Nat.{ℕ, _+_, _*_, _<_}
+use mathlib.Core.Path.{_≡_, sym, ap, _∙_}
 use mathlib.Core.Bool.{true, false}
 use mathlib.Core.List.{List}
 use native.Mathlib.Omega.{arith}
 use lib.ListN.{length, getD}
-use Rattle.base.specs.Bytes.{numberAt, numbersAt}
+use Rattle.base.specs.Bytes.{numberAt}
+use Rattle.base.specs.BytesLaws.{numbers-at}
 use Rattle.base.specs.Lists.{sum}
-use Rattle.base.specs.Tests.{Known, holds, fails, known, eq-yes, eq-no}
+use Rattle.base.specs.Tests.{eq-yes, eq-no}
 use Rattle.format.specs.Types.{Action}
 use Rattle.replication.specs.Machine.Types.{Log, Server, withLog}
 use Rattle.replication.specs.Machine.Colours.{cut, nextIndex, isNext, enter, red}
-use Rattle.replication.proofs.Step.Logs.{next-index, red-entered, red-ignored}
+use Rattle.replication.proofs.Step.Logs.{red-entered, red-ignored}
 use Rattle.replication.proofs.WellFormed.RuleFacts.{Delivered}
-use Rattle.engine.specs.Layout.{headerSize, theCuts, sections, offset}
+use Rattle.engine.specs.Layout.{sections, offset}
 use Rattle.engine.specs.Image.{image}
 use Rattle.engine.specs.Decode.{decodedAs, serversIn, quotaIn, decoded}
 use Rattle.engine.proofs.InPlace.{Holds}
@@ -23,14 +24,6 @@ use Rattle.record.specs.Values.{idOf, actionOf}
 use Rattle.queue.specs.Queue.{RoomFor, RoomIfNext}
 use Rattle.queue.proofs.Holding.{numbers, holds-counts, holds-decoded}
 use Rattle.queue.proofs.Entered.{room-for}
-
-numbers-at : (w m : ℕ) (e : List ℕ) (at k : ℕ) → k < m → getD (numbersAt w m e at) k 0 ≡ numberAt w e (at + w * k)
-unfolding numbersAt
-numbers-at w zero e at k h = absurd (omega arith)
-numbers-at w (suc m) e at zero h = let f : at ≡ at + w * 0 = omega arith in ap (numberAt w e) f
-numbers-at w (suc m) e at (suc k) h =
-    let f : at + w + w * k ≡ at + w * suc k = omega arith in
-    numbers-at w m e (at + w) k (omega arith) ∙ ap (numberAt w e) f
 
 pub cut-read : (s : Server) (b : List ℕ) (c : ℕ) → Holds s b → c < s .servers → numberAt 2 b (60 + 2 * c) ≡ cut (s .log) c
 unfolding cut decoded decodedAs serversIn quotaIn offset sections sum

@@ -1,3 +1,2 @@
 pub mod Queue
 pub mod Ready
-pub mod Swaps

@@ -89,11 +89,3 @@ popped at m b = patched 29 (bytesOf 2 (m - 1)) (patched at (drop slotSize (partA
 -- The slot k from `at` on goes to the front of those before it, and the green length is g.
 unfoldable pub promoted : (at k g : ℕ) → List ℕ → List ℕ
 promoted at k g b = patched 23 (bytesOf 4 g) (patched at (partAt slotSize b (at + slotSize * k) ++ partAt (slotSize * k) b at) b)
-
--- The slots from i on and from j on change places.
-unfoldable pub exchanged : (i j : ℕ) → List ℕ → List ℕ
-exchanged i j b = patched j (partAt slotSize b i) (patched i (partAt slotSize b j) b)
-
--- The action at the place k of the queue and the lowest red one change places, and the green length is one more.
-unfoldable pub greenAt : ℕ → List ℕ → List ℕ
-greenAt k b = patched 23 (bytesOf 4 (greenCount b + 1)) (exchanged (queueAt b + slotSize * greenCount b) (queueAt b + slotSize * k) b)

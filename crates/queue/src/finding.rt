@@ -17,7 +17,7 @@ use record::bytes::num16;
 use record::bytes::num32;
 
 // Whether the slot from `at` on is that of this id.
-fn has_id(state: &[u8], at: usize, creator: u8, index: u16) -> bool
+pub fn has_id(state: &[u8], at: usize, creator: u8, index: u16) -> bool
     requires { ⌜ at + slotSize ≤ length (now state) ⌝ }
     ensures { λ r. ⌜ r ≡ sameId (idOf creator index) (idAt (now (state .entry)) at) ⌝ }
 {

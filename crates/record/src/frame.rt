@@ -66,7 +66,7 @@ pub fn mark_at(e: &[u8], at: usize) -> Mark
 }
 
 // The numbers of a State of this many servers. Those behind its cuts begin at `at`.
-fn state_head(e: &[u8], servers: u8, at: usize) -> StateHead
+pub fn state_head(e: &[u8], servers: u8, at: usize) -> StateHead
     requires { ⌜ (9 ≤ at) × (at + 31 ≤ length (now e)) ⌝ }
     ensures { λ r. ⌜ r ≡ headIn servers (now (e .entry)) at ⌝ }
 {

@@ -1,59 +1,58 @@
 -- Where the bytes hold the image of the well-formed state that they say, the code's tests hold.
 -- Assumes nothing.
-use Prim.Native.Nat.{ℕ, zero, suc, _+_, _*_, _-_, _≤_, _<_, _^_}
+use Prim.Native.Nat.{ℕ, _+_, _*_, _-_, _≤_, _<_, _^_}
 use mathlib.Core.Path.{_≡_, refl, sym, ap, subst, _∙_}
-use mathlib.Core.Bool.{Bool, true, false}
-use mathlib.Core.List.{List, [], _∷_, _++_, map}
+use mathlib.Core.Bool.{true}
+use mathlib.Core.List.{List, []}
 use mathlib.Core.Option.{Option, none, some, Option·none-ne-some}
 use native.Mathlib.Nat.{zero-add, one-le-pow}
 use native.Mathlib.Omega.{arith}
-use lib.ListN.{length, getD, take, drop, length-append, length-map, take-append-drop}
-use Rattle.base.specs.Tests.{not-both, and-holds, both-yes, le-yes, lt-yes, eq-yes, eq-holds, _=?_, _<?_}
-use Rattle.base.specs.Bytes.{Bytes, numbersAt, partAt}
+use lib.ListN.{length, getD, length-append, length-map, take-append-drop}
+use Rattle.base.specs.Tests.{not-both, both-yes, le-yes, lt-yes, eq-yes, eq-holds, _=?_, _<?_}
+use Rattle.base.specs.Bytes.{partAt}
+use Rattle.base.specs.BytesLaws.{numbers-at}
 use Rattle.base.specs.Entries.{everyAt, every-number}
-use Rattle.base.specs.Lists.{all, above, after, sum, isThere}
-use Rattle.base.specs.ListLaws.{Each, each-all, each-append, each-map, each-implied, bounded-each, above-length, there}
+use Rattle.base.specs.Lists.{all, above, sum}
+use Rattle.base.specs.ListLaws.{Each, each-all, each-append, each-implied, bounded-each, above-length, there}
 use Rattle.base.specs.Occurs.{Occurs, occurs-first}
 use Rattle.base.specs.Sets.{inSet, inside}
 use Rattle.base.specs.SetLaws.{members-inside}
 use Rattle.format.specs.Limits.{mostIndex}
 use Rattle.format.specs.Types.{Id, Action, State as Record, Context}
-use Rattle.format.specs.Range.{contextOk, lengthOk, actionOk, indexOk, setOk, statusOk, primaryOk, markOk, idsInRange, idsDiffer, idsOk}
-use Rattle.format.specs.Read.{idsAt}
-use Rattle.format.proofs.IdCount.{ids-count}
+use Rattle.format.specs.Range.{contextOk, lengthOk, actionOk, indexOk, statusOk, idsInRange, idsDiffer, idsOk}
 use Rattle.format.proofs.Ranges.{ContextRange, PayloadRange, context-range}
 use Rattle.format.proofs.Writing.{ids-number}
 use Rattle.record.specs.Context.{lastOf}
-use Rattle.record.specs.Values.{componentOf, primaryOf, markOf, idsBy}
+use Rattle.record.specs.Values.{componentOf, primaryOf, idsBy}
 use Rattle.record.specs.declared.State.{State}
-use Rattle.replication.specs.Machine.Types.{Configuration, Server}
+use Rattle.replication.specs.Machine.Types.{Configuration}
 use Rattle.replication.specs.Machine.Colours.{cut}
 use Rattle.replication.specs.Machine.Rules.{memberOf, isOf}
 use Rattle.replication.specs.Machine.Step.{plannedNow, hereSet, theSet, collected}
 use Rattle.replication.specs.Machine.WellFormed.{idsIn, queue}
-use Rattle.replication.specs.Machine.WellFormedRanges.{idCount, IdFits, PayloadFits, ActionFits}
-use Rattle.replication.specs.Machine.WellFormedFacts.{Configured, StatesIn, WellFormed}
+use Rattle.replication.specs.Machine.WellFormedRanges.{idCount, PayloadFits, ActionFits}
+use Rattle.replication.specs.Machine.WellFormedFacts.{Configured, WellFormed}
 use Rattle.replication.proofs.WellFormed.Facts.{held-index}
 use Rattle.replication.proofs.WellFormed.Ids.{each-counted, once-differ}
 use Rattle.replication.proofs.WellFormed.Ranges.{cuts-ok, sizes-ok, length-ok, set-ok, action-ok, primary-ok, mark-ok, ids-ok, state-ok, own-set-facts, ids-short}
-use Rattle.engine.specs.Layout.{slotSize, heldSize, stateSize, theCuts, theNoted, theHeld, theStates, theYellow, theOwn, theQueue, sections, sectionSize, offset, stateLength}
+use Rattle.engine.specs.Layout.{slotSize, stateSize, theCuts, theNoted, theHeld, theStates, theYellow, theOwn, theQueue, sections, sectionSize, offset}
 use Rattle.engine.specs.Image.{over, modeNumber, senders, actionSlots, heldSlots, statesOver, section, parts, image}
-use Rattle.engine.specs.Decode.{modeNamed, actionsAt, heldAt, statesAt}
-use Rattle.engine.specs.Header.{statusOf, headerOf}
+use Rattle.engine.specs.Decode.{modeNamed, actionsAt}
+use Rattle.engine.specs.Header.{headerOf}
 use Rattle.engine.proofs.InRange.{in-range}
 use Rattle.engine.proofs.Fit.{well-formed-fits}
 use Rattle.engine.proofs.Decoded.{image-part}
 use Rattle.engine.proofs.InPlace.{Holds, holds-section}
-use Rattle.engine.proofs.Slots.{senders-below}
-use Rattle.state_check.specs.Slots.{heldFit, slotFits, notedAt, notedFit, queueFits}
+use Rattle.engine.proofs.Slots.{senders-below, held-count}
+use Rattle.state_check.specs.Slots.{heldFit, slotFits, notedAt, notedFit}
 use Rattle.state_check.specs.Numbers.{regularOk, transitionalOk}
 use Rattle.state_check.specs.Collected.{plannedIn, collectedOk}
 use Rattle.state_check.specs.Checks.{placeOf, ownCut, exchangeOk, modeTest, modeOk}
 use Rattle.state_check.proofs.Rooms.{states-room}
-use Rattle.state_check.proofs.SlotLists.{held-number, held-out, actions-number, ids-by-number, ids-of-actions, actions-out}
+use Rattle.state_check.proofs.SlotLists.{held-out, ids-by-number, ids-of-actions, actions-out}
 use Rattle.state_check.proofs.HeldIds.{WithinCuts, all-as-many}
-use Rattle.state_check.proofs.IdLists.{numbers-at, queue-out, own-out, run}
-use Rattle.state_check.proofs.StateLists.{Collected, states-number, states-out}
+use Rattle.state_check.proofs.IdLists.{queue-out, own-out, run}
+use Rattle.state_check.proofs.StateLists.{Collected, states-out}
 use Rattle.state_check.proofs.Configurations.{Regular, absent, there as one-there, regular, regular-ok, regularOf, transitional-ok, transitionalIn, last-set}
 use Rattle.state_check.proofs.Modes.{mode-out, in-states, all-in-inside}
 use Rattle.state_check.proofs.Checked.{Checked}
@@ -283,8 +282,8 @@ module _ (c : Context) (h : State) (b : List ℕ) (f : WellFormed (said c h b)) 
         few-actions = actions-few;
         few-greens = greens-few;
         few-own = omega (arith, own-next, f .log .numbered);
-        few-held = omega (arith, held-number (h .«held_count») b (placeOf c theHeld), f .held-length);
-        quota = omega (arith, held-number (h .«held_count») b (placeOf c theHeld), f .quota-kept);
+        few-held = omega (arith, held-count (h .«held_count») b (placeOf c theHeld), f .held-length);
+        quota = omega (arith, held-count (h .«held_count») b (placeOf c theHeld), f .quota-kept);
         few-ids = ids-few;
         attempt = le-yes _ _ (f .votes .attempt);
         last = primary-ok c _ (f .votes .last);

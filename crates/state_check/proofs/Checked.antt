@@ -1,8 +1,8 @@
 -- The conjunction of the code's tests, test by test.
 -- Assumes nothing.
-use Prim.Native.Nat.{ℕ, _+_, _*_, _≤_, _<_}
+use Prim.Native.Nat.{ℕ, _+_, _*_, _≤_}
 use mathlib.Core.Path.{_≡_}
-use mathlib.Core.Bool.{Bool, true}
+use mathlib.Core.Bool.{true}
 use mathlib.Core.List.{List}
 use Rattle.base.specs.Tests.{and-holds, both-yes, le-yes, le-holds, eq-yes, eq-holds}
 use Rattle.base.specs.Bytes.{numbersAt}

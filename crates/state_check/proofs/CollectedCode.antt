@@ -1,10 +1,10 @@
 -- What the code on collected States answers.
 -- Assumes nothing.
-use Prim.Native.Nat.{ℕ, zero, suc, _+_, _*_, _-_, _/_, _%_, _^_, _≤_, _<_}
+use Prim.Native.Nat.{ℕ, suc, _+_, _*_, _-_, _/_, _%_, _^_, _≤_, _<_}
 use mathlib.Core.Path.{_≡_, refl, sym, ap, subst, _∙_}
 use mathlib.Core.Bool.{Bool, true, false, not}
 use mathlib.Core.List.{List}
-use native.Mathlib.Nat.{mul-le-mul, suc-mul}
+use native.Mathlib.Nat.{suc-mul}
 use native.Mathlib.Omega.{arith}
 use lib.Dec.{eqb}
 use lib.ListN.{length, take, drop}
@@ -15,7 +15,6 @@ use Rattle.base.specs.Bytes.{numberAt, partAt}
 use Rattle.base.specs.Sets.{inSet}
 use Rattle.format.specs.Range.{lengthOk}
 use Rattle.format.specs.Read.{read}
-use Rattle.format.proofs.Ranges.{length-range}
 use Rattle.record.specs.Context.{contextOf, ContextIn}
 use Rattle.record.specs.Events.{stateFrom, recordOf}
 use Rattle.record.specs.Reading.{meaning}

@@ -1,11 +1,11 @@
 -- The numbers of the configurations: the code's tests of them, and what they say of the configurations that are read of them.
 -- Assumes nothing.
-use Prim.Native.Nat.{ℕ, _≤_, _<_, _^_}
+use Prim.Native.Nat.{ℕ, _<_, _^_}
 use mathlib.Core.Path.{_≡_, refl, sym, ap, subst, _∙_}
 use mathlib.Core.Bool.{Bool, true, false}
 use mathlib.Core.Option.{Option, none, some, Option·none-ne-some, Option·some-injective}
 use native.Mathlib.Omega.{arith}
-use Rattle.base.specs.Tests.{_and_, _=?_, pick, pick-yes, pick-no, not-both, and-holds, both-yes, eq-yes, eq-no, eq-holds, eq-fails, Known, holds, fails, known}
+use Rattle.base.specs.Tests.{_and_, _=?_, pick, pick-yes, pick-no, not-both, and-holds, both-yes, eq-yes, eq-no, eq-holds, Known, holds, fails, known}
 use Rattle.base.specs.Sets.{inSet, inside}
 use Rattle.base.specs.SetLaws.{in-empty, inside-member}
 use Rattle.format.specs.Types.{Context}

@@ -1,19 +1,18 @@
 -- Slots filled up with zeros: the code's tests of them say that their entries, written again, occur where they stand.
 -- Assumes nothing.
-use Prim.Native.Nat.{ℕ, zero, suc, _+_, _*_, _-_, _≤_, _<_}
+use Prim.Native.Nat.{ℕ, zero, suc, _+_, _-_, _≤_, _<_}
 use mathlib.Core.Path.{_≡_, refl, sym, ap, subst, _∙_}
-use mathlib.Core.Bool.{Bool, true, false}
-use mathlib.Core.List.{List, [], _∷_, _++_}
+use mathlib.Core.Bool.{true}
+use mathlib.Core.List.{List, [], _∷_}
 use native.Mathlib.Nat.{add-zero}
 use native.Mathlib.Omega.{arith}
-use lib.ListN.{length, getD, take, drop, length-append, length-replicate}
+use lib.ListN.{length, getD, take, drop}
 use lib.Seq.{drop-cons, getD-take, getD-drop}
 use Rattle.base.specs.Tests.{_and_, and-holds, both-yes, le-yes, le-holds, eq-yes, eq-holds}
-use Rattle.base.specs.Bytes.{Bytes, bytesOf, numberAt, partAt, joined}
+use Rattle.base.specs.Bytes.{Bytes, numberAt, partAt}
 use Rattle.base.specs.BytesLaws.{part-length, bytes-part}
 use Rattle.base.specs.Entries.{everyAt}
-use Rattle.base.specs.ListLaws.{Each}
-use Rattle.base.specs.Occurs.{Occurs, occurs-nil, occurs-append, occurs-first, occurs-second, occurs-at}
+use Rattle.base.specs.Occurs.{Occurs, occurs-nil, occurs-append, occurs-first, occurs-second}
 use Rattle.format.specs.Limits.{mostPayload}
 use Rattle.format.specs.Types.{Action}
 use Rattle.format.specs.Write.{payloadBytes, actionBytes}

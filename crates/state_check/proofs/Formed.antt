@@ -1,48 +1,47 @@
 -- Where the code's tests hold, the bytes say a well-formed state.
 -- Assumes nothing.
-use Prim.Native.Nat.{ℕ, zero, suc, _+_, _*_, _-_, _≤_, _<_, _^_}
+use Prim.Native.Nat.{ℕ, _+_, _*_, _-_, _≤_, _<_, _^_}
 use mathlib.Core.Path.{_≡_, refl, sym, ap, subst, _∙_}
-use mathlib.Core.Bool.{Bool, true}
-use mathlib.Core.List.{List, _++_, map}
-use mathlib.Core.Option.{Option, none, some}
+use mathlib.Core.Bool.{true}
+use mathlib.Core.List.{List, _++_}
+use mathlib.Core.Option.{none, some}
 use native.Mathlib.Nat.{zero-add}
 use native.Mathlib.Omega.{arith}
-use lib.ListN.{length, getD, take, drop, take-append-drop}
+use lib.ListN.{length, getD, take-append-drop}
 use Rattle.base.specs.Tests.{and-holds, le-holds, lt-holds, eq-holds}
-use Rattle.base.specs.Bytes.{Bytes, numberAt, numbersAt}
-use Rattle.base.specs.BytesLaws.{numbers-length}
-use Rattle.base.specs.Entries.{everyAt, every-number}
-use Rattle.base.specs.Lists.{above, after, all}
+use Rattle.base.specs.Bytes.{Bytes, numbersAt}
+use Rattle.base.specs.BytesLaws.{numbers-length, numbers-at}
+use Rattle.base.specs.Entries.{every-number}
+use Rattle.base.specs.Lists.{above}
 use Rattle.base.specs.ListLaws.{Each, all-each, each-first, each-second, each-implied, each-bounded}
 use Rattle.base.specs.Sets.{inside}
 use Rattle.base.specs.Occurs.{Occurs}
-use Rattle.format.specs.Types.{Id, Action, State as Record, Context}
-use Rattle.format.specs.Range.{lengthOk, indexOk, statusOk, idsInRange, idsDiffer, idsOk, contextOk}
-use Rattle.format.specs.Read.{idsAt}
+use Rattle.format.specs.Types.{State as Record, Context}
+use Rattle.format.specs.Range.{lengthOk, indexOk, statusOk, idsInRange, idsDiffer, idsOk}
 use Rattle.format.proofs.Ranges.{ContextRange, PayloadRange, context-range}
 use Rattle.record.specs.Context.{lastOf}
 use Rattle.record.specs.Values.{componentOf, primaryOf, idsBy}
 use Rattle.record.specs.declared.State.{State}
-use Rattle.replication.specs.Machine.Types.{Log, Configuration}
 use Rattle.replication.specs.Machine.Colours.{cut}
 use Rattle.replication.specs.Machine.Step.{plannedNow, hereSet, theSet, collected}
 use Rattle.replication.specs.Machine.WellFormed.{idsIn, queue}
-use Rattle.replication.specs.Machine.WellFormedRanges.{idCount, PayloadFits, ActionFits, LogRanges, VotesRanges, CollectedFits, MembershipRanges}
-use Rattle.replication.specs.Machine.WellFormedFacts.{heldCount, HeldToCuts, OwnListFits, Configured, StatesIn, ModeFits, WellFormed}
+use Rattle.replication.specs.Machine.WellFormedRanges.{PayloadFits, ActionFits, LogRanges, VotesRanges, CollectedFits, MembershipRanges}
+use Rattle.replication.specs.Machine.WellFormedFacts.{HeldToCuts, OwnListFits, Configured, ModeFits, WellFormed}
 use Rattle.replication.proofs.WellFormed.Ids.{counted-fact, differ-once}
 use Rattle.replication.proofs.WellFormed.Ranges.{cuts-facts, sizes-facts, length-facts, set-facts, primary-facts, mark-facts, ids-facts, state-facts}
-use Rattle.engine.specs.Layout.{slotSize, theCuts, theNoted, theHeld, theStates, theYellow, theOwn, theQueue, stateLength}
+use Rattle.engine.specs.Layout.{slotSize, theCuts, theNoted, theHeld, theStates, theOwn, theQueue, stateLength}
 use Rattle.engine.specs.Image.{modeNumber, actionSlots, heldSlots}
-use Rattle.engine.specs.Decode.{modeNamed, actionsAt, heldAt, statesAt}
-use Rattle.state_check.specs.Slots.{slotFits, notedAt, notedFit}
+use Rattle.engine.specs.Decode.{modeNamed, actionsAt, heldAt}
+use Rattle.engine.proofs.Slots.{held-count}
+use Rattle.state_check.specs.Slots.{notedAt, notedFit}
 use Rattle.state_check.specs.Collected.{plannedIn}
 use Rattle.state_check.specs.Checks.{placeOf, ownCut, exchangeOk, modeOk}
 use Rattle.state_check.proofs.Rooms.{held-room, states-room, own-room, queue-room}
-use Rattle.state_check.proofs.SlotLists.{held-number, held-in, actions-number, ids-by-number, ids-of-actions, actions-in}
+use Rattle.state_check.proofs.SlotLists.{held-in, ids-by-number, ids-of-actions, actions-in}
 use Rattle.state_check.proofs.HeldIds.{WithinCuts, as-many-all}
-use Rattle.state_check.proofs.IdLists.{numbers-at, queue-slots, queue-within, own-slots, own-run, own-in-range, run}
+use Rattle.state_check.proofs.IdLists.{queue-slots, queue-within, own-slots, own-run, own-in-range, run}
 use Rattle.state_check.proofs.StateLists.{states-number, states-collected}
-use Rattle.state_check.proofs.Configurations.{Regular, absent, there, regular, regularOf, Transitional, transitional, transitionalIn, last-set, regular-fits, transitional-fits, member, of-it}
+use Rattle.state_check.proofs.Configurations.{Regular, absent, there, regular, regularOf, transitional, regular-fits, transitional-fits, member, of-it}
 use Rattle.state_check.proofs.Modes.{mode-in, inside-all-in}
 use Rattle.state_check.proofs.Checked.{Checked}
 use Rattle.state_check.proofs.Said.{logSaid, votesSaid, membershipSaid, said}
@@ -220,13 +219,13 @@ module _ (c : Context) (h : State) (b : List ℕ) (k : Checked c h b) (bytes : B
         log = log-ranges;
         votes = votes-ranges;
         membership = membership-ranges;
-        held-length = omega (arith, held-number (h .«held_count») b (placeOf c theHeld), k .few-held);
+        held-length = omega (arith, held-count (h .«held_count») b (placeOf c theHeld), k .few-held);
         held = each-implied PayloadRange PayloadFits (λ p r. record { most = r .most; bytes = r .bytes }) (heldAt (h .«held_count») b (placeOf c theHeld)) (held-requests .0);
         noted-length = numbers-length 4 (c .servers) b (placeOf c theNoted);
         noted = noted-bound;
         once = differ-once _ differ;
         held-to-cuts = held-to-cuts;
         own-list = own-list;
-        quota-kept = omega (arith, held-number (h .«held_count») b (placeOf c theHeld), k .quota);
+        quota-kept = omega (arith, held-count (h .«held_count») b (placeOf c theHeld), k .quota);
         mode = mode-is .0;
       }

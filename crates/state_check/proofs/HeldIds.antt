@@ -1,69 +1,37 @@
 -- Ids that differ and lie within the cuts are all the ids up to the cuts exactly if there are as many of them as the cuts have together.
 -- Assumes nothing.
 use Prim.Native.Nat.{ℕ, zero, suc, _+_, _-_, _≤_, _<_}
-use mathlib.Core.Path.{_≡_, refl, sym, ap, subst, _∙_}
-use mathlib.Core.Bool.{Bool, true, false, not}
-use mathlib.Core.List.{List, [], _∷_, _++_, map}
+use mathlib.Core.Path.{_≡_, refl, ap, _∙_}
+use mathlib.Core.Bool.{true, false, not}
+use mathlib.Core.List.{List, [], _∷_, map}
 use native.Mathlib.Decide.{ℕ-discrete}
 use native.Mathlib.Omega.{arith}
 use lib.ListN.{length, getD, length-append, length-map}
-use Rattle.base.specs.Tests.{_or_, pick, pick-yes, pick-no, not-both, not-holds, or-fails, and-holds, both-yes, Known, holds, fails, known}
+use Rattle.base.specs.Tests.{_or_, not-holds, and-holds, both-yes, Known, holds, fails, known}
 use Rattle.base.specs.Lists.{all, above, after, sum}
-use Rattle.base.specs.ListLaws.{Each, all-each, each-all, each-map, each-implied, after-between, above-length}
-use Rattle.base.specs.Counts.{count, count-append, count-none, one-yes, one-no}
+use Rattle.base.specs.ListLaws.{Each, each-all, each-map, each-implied, after-between, above-length}
+use Rattle.base.specs.Filters.{all-member}
+use Rattle.base.specs.Distinct.{Distinct, included-length}
+use Rattle.base.specs.Counts.{count, count-append, count-none}
 use Rattle.format.specs.Types.{Id}
 use Rattle.format.specs.Range.{sameId, hasId, idsDiffer}
 use Rattle.replication.specs.Machine.Install.{idsUpTo}
 use Rattle.replication.specs.Machine.WellFormedRanges.{idCount}
-use Rattle.replication.proofs.WellFormed.Ids.{SameId, same, other, same-id?, same-id-holds, same-id-no, has-counted, counted-has, each-counted, once-differ, up-to-each, each-up-to}
+use Rattle.replication.proofs.Agreement.Lists.Plus.{has-absent}
+use Rattle.replication.proofs.WellFormed.Ids.{SameId, same, other, same-id?, same-id-no, has-member, has-counted, counted-has, each-counted, once-differ, up-to-each, each-up-to}
 
 -- ---- a list of different ids that all stand in another is no longer than that
 
--- Without the first d.
-unfoldable without : Id → List Id → List Id
-without d [] = []
-without d (x ∷ xs) = pick (sameId d x) xs (x ∷ without d xs)
+distinct : (xs : List Id) → idsDiffer xs ≡ true → Distinct xs
+unfolding idsDiffer
+distinct [] d = tt
+distinct (x ∷ xs) d = let a = and-holds _ _ d in (has-absent x xs (not-holds _ (a .0)), distinct xs (a .1))
 
-one-less : (d : Id) (ys : List Id) → hasId d ys ≡ true → length ys ≡ suc (length (without d ys))
-unfolding hasId without pick _or_
-one-less d [] h = not-both h
-one-less d (y ∷ ys) h = go (known (sameId d y)) (λ g. one-less d ys g)
-  where
-    go : Known (sameId d y) → (hasId d ys ≡ true → length ys ≡ suc (length (without d ys))) → length (y ∷ ys) ≡ suc (length (without d (y ∷ ys)))
-    go (holds e) more = rw e
-    go (fails e) more = rw e (ap suc (more (rw e at h)))
-
-still-there : (d x : Id) (ys : List Id) → sameId d x ≡ false → hasId x ys ≡ true → hasId x (without d ys) ≡ true
-unfolding hasId without pick _or_
-still-there d x [] n h = not-both h
-still-there d x (y ∷ ys) n h = go (known (sameId d y)) (known (sameId x y)) (λ g. still-there d x ys n g)
-  where
-    go : Known (sameId d y) → Known (sameId x y) → (hasId x ys ≡ true → hasId x (without d ys) ≡ true) → hasId x (without d (y ∷ ys)) ≡ true
-    go (holds e) (holds f) more =
-        let z : sameId d x ≡ true = ap (λ (w : Id). sameId d w) (same-id-holds x y f) ∙ e in
-        not-both (sym n ∙ z)
-    go (holds e) (fails f) more = rw e (rw f at h)
-    go (fails e) (holds f) more = rw (e, f)
-    go (fails e) (fails f) more = rw (e, f) (more (rw f at h))
-
-others-there : (d : Id) (xs ys : List Id) → hasId d xs ≡ false → all (λ x. hasId x ys) xs ≡ true → all (λ x. hasId x (without d ys)) xs ≡ true
-unfolding hasId all
-others-there d [] ys n h = refl
-others-there d (x ∷ xs) ys n h =
-    let a = or-fails _ _ n in
-    let b = and-holds _ _ h in
-    both-yes _ _ (still-there d x ys (a .0) (b .0)) (others-there d xs ys (a .1) (b .1))
-
-pub no-longer : (xs ys : List Id) → idsDiffer xs ≡ true → all (λ x. hasId x ys) xs ≡ true → length xs ≤ length ys
-unfolding idsDiffer all
-no-longer [] ys d h = omega arith
-no-longer (x ∷ xs) ys d h =
-    let a = and-holds _ _ d in
-    let b = and-holds _ _ h in
-    omega (arith, one-less x ys (b .0), no-longer xs (without x ys) (a .1) (others-there x xs ys (not-holds _ (a .0)) (b .1)))
+no-longer : (xs ys : List Id) → idsDiffer xs ≡ true → all (λ x. hasId x ys) xs ≡ true → length xs ≤ length ys
+no-longer xs ys d h = included-length xs ys (distinct xs d) (λ x m. has-member x ys (all-member (λ y. hasId y ys) xs x h m))
 
 -- If it is as long, then each of the others stands in it.
-pub all-there : (xs ys : List Id) → idsDiffer xs ≡ true → all (λ x. hasId x ys) xs ≡ true → length ys ≤ length xs → Each (λ y. hasId y xs ≡ true) ys
+all-there : (xs ys : List Id) → idsDiffer xs ≡ true → all (λ x. hasId x ys) xs ≡ true → length ys ≤ length xs → Each (λ y. hasId y xs ≡ true) ys
 unfolding idsDiffer all
 all-there xs ys d h l = each-implied (λ y. 1 ≤ idCount y ys) (λ y. hasId y xs ≡ true) there ys (each-counted ys)
   where

@@ -1,14 +1,14 @@
 -- The ids of the queue and of the own list: the code's tests of them, and what they say of the cuts.
 -- Assumes nothing.
 use Prim.Native.Nat.{ℕ, zero, suc, _+_, _*_, _-_, _≤_, _<_}
-use mathlib.Core.Path.{_≡_, refl, sym, ap, ap₂, subst, _∙_}
-use mathlib.Core.Bool.{Bool, true, false}
-use mathlib.Core.List.{List, [], _∷_, map}
-use native.Mathlib.Nat.{add-zero}
+use mathlib.Core.Path.{_≡_, refl, ap, _∙_}
+use mathlib.Core.Bool.{true}
+use mathlib.Core.List.{List, _∷_, map}
 use native.Mathlib.Omega.{arith}
-use lib.ListN.{length, getD}
-use Rattle.base.specs.Tests.{_and_, _≤?_, and-holds, both-yes, le-yes, le-holds, lt-yes, eq-yes, eq-holds}
+use lib.ListN.{getD}
+use Rattle.base.specs.Tests.{_and_, and-holds, both-yes, le-yes, le-holds, lt-yes, eq-yes, eq-holds}
 use Rattle.base.specs.Bytes.{numberAt, numbersAt}
+use Rattle.base.specs.BytesLaws.{numbers-at}
 use Rattle.base.specs.Entries.{everyAt, every-implied, every-both}
 use Rattle.base.specs.Lists.{after}
 use Rattle.base.specs.ListLaws.{Each}
@@ -20,15 +20,6 @@ use Rattle.record.specs.Values.{idsBy}
 use Rattle.engine.specs.Layout.{slotSize}
 use Rattle.state_check.specs.Slots.{slotFits, withinCutAt, queueSlotFits, queueFits, ownSlotFits, ownFits}
 use Rattle.state_check.proofs.HeldIds.{WithinCuts}
-
--- The number j of those from `at` on.
-pub numbers-at : (w m : ℕ) (e : List ℕ) (at j : ℕ) → j < m → getD (numbersAt w m e at) j 0 ≡ numberAt w e (at + w * j)
-unfolding numbersAt
-numbers-at w zero e at j h = absurd (omega arith)
-numbers-at w (suc m) e at zero h = let z : at + w * 0 ≡ at = omega arith in rw z
-numbers-at w (suc m) e at (suc j) h =
-    let z : at + w + w * j ≡ at + w * suc j = omega arith in
-    numbers-at w m e (at + w) j (omega arith) ∙ rw z
 
 -- ---- the queue
 

@@ -1,18 +1,17 @@
 -- The state's number: the code's test of it, and row 8's clauses on the eight states.
 -- Assumes nothing.
 use Prim.Native.Nat.{ℕ, zero, suc, _+_, _≤_, _<_, _^_}
-use mathlib.Core.Path.{_≡_, refl, sym, ap, ap₂, _∙_}
+use mathlib.Core.Path.{_≡_, refl, sym, ap, _∙_}
 use mathlib.Core.Bool.{Bool, true, false}
-use mathlib.Core.List.{List, []}
+use mathlib.Core.List.{List}
 use mathlib.Core.Option.{Option, none, some}
 use native.Mathlib.Nat.{add-zero, zero-add}
 use native.Mathlib.Omega.{arith}
-use lib.ListN.{length, getD, drop}
-use lib.Bits.{bitAnd, and-comm}
-use Rattle.base.specs.Tests.{_and_, _or_, _≤?_, _<?_, _=?_, pick, not-both, and-holds, both-yes, eq-yes, eq-no, eq-holds, le-no}
+use lib.ListN.{getD, drop}
+use Rattle.base.specs.Tests.{_and_, _≤?_, _=?_, pick, not-both, and-holds, both-yes, eq-no, le-no}
 use Rattle.base.specs.Lists.{isThere}
 use Rattle.base.specs.Sets.{inSet, inside}
-use Rattle.base.specs.SetLaws.{inside-member, members-inside}
+use Rattle.base.specs.SetLaws.{inside-member, members-inside, same-sets}
 use Rattle.format.specs.Limits.{mostIndex}
 use Rattle.format.specs.Read.{stateAt}
 use Rattle.format.specs.Types.{State}
@@ -75,14 +74,6 @@ in-states n q here (suc m) k b at zero h = go (in-slot (inSet k here) (stateAt n
 in-states n q here (suc m) k b at (suc j) h =
     let next : k + 1 + j ≡ k + suc j = omega arith in
     in-states n q here m (k + 1) b (at + stateSize n q) j (omega arith) ∙ ap (λ (i : ℕ). inSet i here) next
-
--- Sets with the same members are the same.
-same-sets : (n s t : ℕ) → s < 2 ^ n → t < 2 ^ n → ((k : ℕ) → k < n → inSet k s ≡ inSet k t) → s ≡ t
-unfolding inside
-same-sets n s t h l f =
-    let a = eq-holds _ _ (members-inside n s t h (λ k i e. sym (f k i) ∙ e)) in
-    let b = eq-holds _ _ (members-inside n t s l (λ k i e. f k i ∙ e)) in
-    sym a ∙ and-comm s t ∙ b
 
 pub senders-are : (n q here : ℕ) (b : List ℕ) (at : ℕ) → here < 2 ^ n → senders 0 (statesAt n q here n 0 b at) ≡ here
 senders-are n q here b at h =

@@ -1,6 +1,6 @@
 -- The number that is returned for a pair of buffers.
 -- Assumes nothing.
-use Prim.Native.Nat.{ℕ, _+_, _*_, _≤_, _<_}
+use Prim.Native.Nat.{ℕ, _≤_, _<_}
 use mathlib.Core.Path.{_≡_, refl, sym, ap, subst, _∙_}
 use mathlib.Core.Bool.{Bool, true, false, not}
 use mathlib.Core.List.{List}
@@ -8,10 +8,10 @@ use native.Mathlib.Omega.{arith}
 use lib.Dec.{ltb}
 use lib.ListN.{length}
 use borrow.Author.Tests.{not-true, not-false}
-use Rattle.base.specs.Tests.{_and_, _or_, _<?_, pick, pick-yes, pick-no, and-no, lt-yes, lt-no, lt-fails, or-fails, Known, holds, fails, known}
+use Rattle.base.specs.Tests.{_and_, _or_, _<?_, pick-yes, pick-no, and-no, lt-yes, lt-no, lt-fails, or-fails, Known, holds, fails, known}
 use Rattle.base.specs.Branches.{told-lt}
 use Rattle.base.specs.Bytes.{Bytes}
-use Rattle.base.specs.Lists.{sum, same}
+use Rattle.base.specs.Lists.{sum}
 use Rattle.format.specs.Limits.{fewestServers, leastQuota}
 use Rattle.format.specs.Range.{sizesOk, contextOk}
 use Rattle.format.proofs.Ranges.{sizes-range}
@@ -21,7 +21,6 @@ use Rattle.record.specs.declared.State.{State}
 use Rattle.replication.specs.Machine.Types.{contextOf as contextOfState}
 use Rattle.replication.specs.Machine.WellFormed.{ranges, wellFormed}
 use Rattle.engine.specs.Layout.{SizesIn, sections, stateLength, outLength, leastStateLength, leastOutLength}
-use Rattle.engine.specs.Image.{image}
 use Rattle.engine.specs.Header.{headerIn}
 use Rattle.engine.specs.Decode.{serversIn, quotaIn, decodedAs, decoded, reads}
 use Rattle.engine.specs.Outcome.{tooShort, stateNumber}

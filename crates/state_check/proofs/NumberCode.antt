@@ -1,10 +1,10 @@
 -- What the code on numbers answers.
 -- Assumes nothing.
-use Prim.Native.Nat.{ℕ, _+_, _*_}
-use mathlib.Core.Path.{_≡_, refl, ap, _∙_}
+use Prim.Native.Nat.{ℕ, _*_}
+use mathlib.Core.Path.{_≡_, ap, _∙_}
 use lib.Bits.{bitAnd}
 use lib.Dec.{leb, eqb}
-use Rattle.base.specs.Tests.{_≤?_, _=?_}
+use Rattle.base.specs.Tests.{_≤?_}
 use Rattle.base.specs.Branches.{told-le, told-eq}
 use Rattle.base.specs.Sets.{inside}
 

@@ -1,13 +1,11 @@
 -- A used part over a part of the buffer leaves it as it is exactly if it occurs at its beginning.
 -- Assumes nothing.
-use Prim.Native.Nat.{ℕ, zero, suc, _+_, _*_, _≤_}
-use mathlib.Core.Path.{_≡_, refl, sym, ap, ap₂, _∙_}
+use Prim.Native.Nat.{ℕ, _+_, _≤_}
+use mathlib.Core.Path.{_≡_, refl, sym, ap, _∙_}
 use mathlib.Core.List.{List, _++_}
-use native.Mathlib.Nat.{add-assoc}
-use native.Mathlib.Omega.{arith}
-use lib.ListN.{length, getD, take, drop, take-append-drop}
-use lib.Seq.{take-at, drop-at, take-take, getD-drop}
-use Rattle.base.specs.Bytes.{numberAt, partAt}
+use lib.ListN.{length, take, drop, take-append-drop}
+use lib.Seq.{take-at, drop-at, take-take}
+use Rattle.base.specs.Bytes.{partAt}
 use Rattle.base.specs.Occurs.{Occurs}
 use Rattle.engine.specs.Image.{over}
 
@@ -28,11 +26,3 @@ first-same k x y u v h l e = sym (take-at x y k h) ∙ ap (take k) e ∙ take-at
 
 pub second-same : (k : ℕ) (x y u v : List ℕ) → length x ≡ k → length u ≡ k → x ++ y ≡ u ++ v → y ≡ v
 second-same k x y u v h l e = sym (drop-at x y k h) ∙ ap (drop k) e ∙ drop-at u v k l
-
--- A number of the bytes behind a place.
-pub number-drop : (w : ℕ) (b : List ℕ) (at k : ℕ) → numberAt w (drop at b) k ≡ numberAt w b (at + k)
-unfolding numberAt
-number-drop zero b at k = refl
-number-drop (suc w) b at k =
-    ap₂ {A = ℕ} {B = ℕ} {C = ℕ} (λ n x. n * 256 + x) (number-drop w b at k)
-    (getD-drop at b (k + w) 0 ∙ ap (λ (i : ℕ). getD b i 0) (sym (add-assoc at k w)))

@@ -1,15 +1,13 @@
 -- What the code on the plan's numbers answers.
 -- Assumes nothing.
-use Prim.Native.Nat.{ℕ, zero, suc, _+_, _*_, _-_, _/_, _%_, _^_, _≤_, _<_, min, max}
+use Prim.Native.Nat.{ℕ, suc, _+_, _*_, _-_, _/_, _%_, _^_, _≤_, _<_, min, max}
 use mathlib.Core.Path.{_≡_, refl, sym, ap, subst, _∙_}
-use mathlib.Core.Bool.{Bool, true, false, not}
-use mathlib.Core.List.{List, [], _∷_}
+use mathlib.Core.Bool.{Bool, true, false}
+use mathlib.Core.List.{List, _∷_}
 use native.Mathlib.Nat.{suc-mul}
 use native.Mathlib.Omega.{arith}
 use lib.ListN.{length}
-use mir.Syntax.{w64}
-use mir.Val.{Fits}
-use Rattle.base.specs.Tests.{_=?_, pick, pick-yes, pick-no, eq-yes, eq-no, Known, holds, fails, known}
+use Rattle.base.specs.Tests.{_=?_, pick, pick-yes, pick-no, eq-yes, eq-no}
 use Rattle.base.specs.Bytes.{numberAt}
 use Rattle.base.specs.Lists.{below, sum}
 use Rattle.base.specs.Sets.{inSet}

@@ -1,15 +1,16 @@
 -- The number of planned retransmissions is the sum of how far the numbers in the slots lie apart.
 -- Assumes nothing.
-use Prim.Native.Nat.{ℕ, zero, suc, _+_, _*_, _-_, _≤_, _<_, _^_, min, max}
+use Prim.Native.Nat.{ℕ, zero, suc, _+_, _*_, _-_, _≤_, _<_, min, max}
 use mathlib.Core.Path.{_≡_, refl, sym, ap, ap₂, subst, _∙_}
 use mathlib.Core.Bool.{Bool, true, false}
-use mathlib.Core.List.{List, [], _∷_, _++_, map}
-use mathlib.Core.Option.{Option, none, some}
+use mathlib.Core.List.{List, [], _∷_, map}
+use mathlib.Core.Option.{none, some}
 use native.Mathlib.Omega.{arith}
-use lib.ListN.{length, getD, drop, length-append}
-use Rattle.base.specs.Tests.{pick, Known, holds, fails, known}
-use Rattle.base.specs.Bytes.{Bytes, numberAt, numbersAt}
-use Rattle.base.specs.BytesLaws.{number-lt}
+use lib.ListN.{length, drop}
+use Rattle.base.specs.Tests.{pick}
+use Rattle.base.specs.Totals.{total, total-sum}
+use Rattle.base.specs.Bytes.{Bytes, numberAt}
+use Rattle.base.specs.BytesLaws.{number-lt, numbers-at, number-drop}
 use Rattle.base.specs.Lists.{present, atFront, below, sum}
 use Rattle.base.specs.ListLaws.{Each, map-each, each-implied, above-length, below-each}
 use Rattle.base.specs.Sets.{inSet}
@@ -20,8 +21,6 @@ use Rattle.engine.specs.Layout.{stateSize}
 use Rattle.engine.specs.Decode.{statesAt}
 use Rattle.state_check.specs.declared.plan.Bounds.{Bounds}
 use Rattle.state_check.specs.Collected.{valuesIn, wider, boundsOver, noBounds, spread, widthOf, spreadIn, greenSpread, cutSpreads, plannedIn}
-use Rattle.state_check.proofs.Over.{number-drop}
-use Rattle.state_check.proofs.IdLists.{numbers-at}
 
 -- ---- the lowest and the highest
 
@@ -111,18 +110,9 @@ planned-spread n q here b at y =
 
 -- ---- the loop over the creators
 
-sum-more : (xs : List ℕ) (x : ℕ) → sum (xs ++ (x ∷ [])) ≡ sum xs + x
-unfolding sum
-sum-more [] x = omega arith
-sum-more (y ∷ xs) x = omega (arith, sum-more xs x)
-
-map-more : (f : ℕ → ℕ) (xs : List ℕ) (x : ℕ) → map f (xs ++ (x ∷ [])) ≡ map f xs ++ (f x ∷ [])
-map-more f [] x = refl
-map-more f (y ∷ xs) x = ap (λ (l : List ℕ). f y ∷ l) (map-more f xs x)
-
 pub cuts-more : (n size here k : ℕ) (b : List ℕ) (at : ℕ) → cutSpreads n size here (k + 1) b at ≡ cutSpreads n size here k b at + spreadIn false (9 + 2 * k) n size here b at
-unfolding cutSpreads below
+unfolding cutSpreads total
 cuts-more n size here k b at =
     let f : ℕ → ℕ = λ c. spreadIn false (9 + 2 * c) n size here b at in
     let next : k + 1 ≡ suc k = omega arith in
-    ap (λ (m : ℕ). sum (map f (below m))) next ∙ ap sum (map-more f (below k) k) ∙ sum-more (map f (below k)) (f k)
+    ap (λ (m : ℕ). sum (map f (below m))) next ∙ total-sum (suc k) f ∙ ap (λ (m : ℕ). m + f k) (sym (total-sum k f))

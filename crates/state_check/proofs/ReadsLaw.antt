@@ -1,17 +1,17 @@
 -- The code's tests decide whether a buffer that is long enough holds the image of a well-formed state.
 -- Assumes nothing.
 use Prim.Native.Nat.{ℕ, _≤_, _<_, _^_}
-use mathlib.Core.Path.{_≡_, refl, sym, ap, subst, _∙_}
+use mathlib.Core.Path.{_≡_, refl, sym, ap, _∙_}
 use mathlib.Core.Bool.{Bool, true, false}
 use mathlib.Core.List.{List}
 use native.Mathlib.Omega.{arith}
 use lib.ListN.{length}
-use Rattle.base.specs.Tests.{not-both, and-holds, both-yes}
+use Rattle.base.specs.Tests.{and-holds, both-yes}
 use Rattle.base.specs.Bytes.{Bytes}
 use Rattle.base.specs.BytesLaws.{number-lt}
 use Rattle.base.specs.Lists.{same}
 use Rattle.base.specs.SameLaws.{same-yes, same-holds}
-use Rattle.record.specs.Context.{lastOf, contextOf, readingContext}
+use Rattle.record.specs.Context.{contextOf, readingContext}
 use Rattle.replication.specs.Machine.Types.{Server}
 use Rattle.replication.specs.Machine.WellFormed.{wellFormed}
 use Rattle.replication.proofs.WellFormed.Facts.{well-formed-facts, facts-well-formed}
@@ -23,7 +23,7 @@ use Rattle.engine.proofs.HeaderLaws.{header-kept, header-loaded}
 use Rattle.engine.proofs.InPlace.{Holds}
 use Rattle.state_check.specs.Checks.{contextIn, checks}
 use Rattle.state_check.proofs.Rooms.{header-room}
-use Rattle.state_check.proofs.Checked.{Checked, checked, check}
+use Rattle.state_check.proofs.Checked.{checked, check}
 use Rattle.state_check.proofs.Said.{said, decoded-said}
 use Rattle.state_check.proofs.Formed.{formed}
 use Rattle.state_check.proofs.Rewritten.{rewritten}

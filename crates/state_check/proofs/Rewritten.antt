@@ -1,14 +1,12 @@
 -- Where the code's tests hold, the state that the bytes say, written over them, leaves them as they are.
 -- Assumes nothing.
 use Prim.Native.Nat.{ℕ, zero, suc, _+_, _*_, _-_, _≤_, _<_, _^_}
-use mathlib.Core.Path.{_≡_, refl, sym, ap, subst, _∙_}
-use mathlib.Core.Bool.{Bool, true}
-use mathlib.Core.List.{List, [], _∷_}
-use mathlib.Core.Option.{Option, none, some}
+use mathlib.Core.Path.{_≡_, refl, sym, ap, _∙_}
+use mathlib.Core.List.{List, []}
 use native.Mathlib.Omega.{arith}
-use lib.ListN.{length, take}
+use lib.ListN.{length}
 use lib.Seq.{length-take-le}
-use Rattle.base.specs.Tests.{lt-holds, eq-holds}
+use Rattle.base.specs.Tests.{lt-holds}
 use Rattle.base.specs.Bytes.{Bytes, bytesOf, numbersAt, partAt}
 use Rattle.base.specs.BytesLaws.{numbers-length}
 use Rattle.base.specs.Lists.{sum}
@@ -28,19 +26,18 @@ use Rattle.record.specs.declared.State.{State}
 use Rattle.replication.specs.Machine.WellFormed.{queue}
 use Rattle.replication.specs.Machine.WellFormedRanges.{ActionFits}
 use Rattle.replication.proofs.WellFormed.Facts.{facts-well-formed}
-use Rattle.engine.specs.Layout.{slotSize, heldSize, stateSize, theHeader, theCuts, theNoted, theHeld, theStates, theYellow, theOwn, theQueue, sections, sectionSize, offset, stateLength}
-use Rattle.engine.specs.Image.{over, modeNumber, headerBytes, notedBytes, actionSlots, heldSlots, statesOver, section, parts, image}
-use Rattle.engine.specs.Decode.{modeNamed, actionsAt, heldAt, statesAt}
+use Rattle.engine.specs.Layout.{stateSize, theHeader, theCuts, theNoted, theHeld, theStates, theYellow, theOwn, theQueue, sections, sectionSize, offset, stateLength}
+use Rattle.engine.specs.Image.{over, headerBytes, notedBytes, actionSlots, heldSlots, statesOver, section, parts, image}
+use Rattle.engine.specs.Decode.{actionsAt, heldAt}
 use Rattle.engine.specs.Header.{statusOf, idOf, setOf, transitionalOf, lastOf as lastNumbers, markNumbers, headerOf, headerWritten}
 use Rattle.engine.proofs.Used.{action-slots-length, held-slots-length, noted-length, header-length}
 use Rattle.engine.proofs.Fit.{SectionsFit, well-formed-fits}
-use Rattle.engine.proofs.HeaderLaws.{header-written, header-kept}
+use Rattle.engine.proofs.HeaderLaws.{header-written}
 use Rattle.engine.proofs.InPlace.{image-patched, same-but}
-use Rattle.state_check.specs.Checks.{placeOf, ownCut}
+use Rattle.engine.proofs.Slots.{held-count, actions-count}
+use Rattle.state_check.specs.Checks.{placeOf}
 use Rattle.state_check.proofs.Over.{occurs-over}
-use Rattle.state_check.proofs.Rooms.{cuts-room, noted-room, held-room, states-room, ids-room, own-room, queue-room}
-use Rattle.state_check.proofs.SlotLists.{held-number, held-in, actions-number, actions-in}
-use Rattle.state_check.proofs.IdLists.{queue-slots, own-slots}
+use Rattle.state_check.proofs.Rooms.{cuts-room, noted-room, states-room, ids-room}
 use Rattle.state_check.proofs.StateLists.{states-same}
 use Rattle.state_check.proofs.Configurations.{Regular, absent, there, regular, regularOf, Transitional, transitional, transitionalIn}
 use Rattle.state_check.proofs.Modes.{senders-are}
@@ -83,9 +80,9 @@ module _ (c : Context) (h : State) (b : List ℕ) (k : Checked c h b) (bytes : B
       let r = regular-numbers c h (regular c h (k .regular)) in
       let t = transitional-numbers c h (transitional c h (k .transitional)) in
       let states = senders-are (c .servers) (c .quota) (h .states) b (placeOf c theStates) (lt-holds _ _ (k .senders)) in
-      let actions : length (queue (said c h b .log)) ≡ h .«queue_length» = ap length (whole-queue c h b k bytes long small last-is) ∙ actions-number (h .«queue_length») b (placeOf c theQueue) in
+      let actions : length (queue (said c h b .log)) ≡ h .«queue_length» = ap length (whole-queue c h b k bytes long small last-is) ∙ actions-count (h .«queue_length») b (placeOf c theQueue) in
       let greens : length (said c h b .log .green) ≡ h .«green_length» =
-      length-take-le (h .«green_length») (actionsAt (h .«queue_length») b (placeOf c theQueue)) (omega (arith, k .few-greens, actions-number (h .«queue_length») b (placeOf c theQueue))) in
+      length-take-le (h .«green_length») (actionsAt (h .«queue_length») b (placeOf c theQueue)) (omega (arith, k .few-greens, actions-count (h .«queue_length») b (placeOf c theQueue))) in
       λ i. record {
         servers = n-is i;
         quota = q-is i;
@@ -102,8 +99,8 @@ module _ (c : Context) (h : State) (b : List ℕ) (k : Checked c h b) (bytes : B
         «queue_length» = actions i;
         «green_length» = greens i;
         numbered = h .numbered;
-        «own_count» = actions-number (h .«own_count») b (placeOf c theOwn) i;
-        «held_count» = held-number (h .«held_count») b (placeOf c theHeld) i;
+        «own_count» = actions-count (h .«own_count») b (placeOf c theOwn) i;
+        «held_count» = held-count (h .«held_count») b (placeOf c theHeld) i;
         attempt = h .attempt;
         last = h .last;
         mark = h .mark;
@@ -139,7 +136,7 @@ module _ (c : Context) (h : State) (b : List ℕ) (k : Checked c h b) (bytes : B
   held-same =
       let l : List (List ℕ) = heldAt (h .«held_count») b (placeOf c theHeld) in
       let r = held-requests c h b k bytes long small last-is in
-      used (c .servers) (c .quota) theHeld (heldSlots l) b (omega (arith, held-slots-length l (r .0), held-number (h .«held_count») b (placeOf c theHeld), k .few-held)) (r .1)
+      used (c .servers) (c .quota) theHeld (heldSlots l) b (omega (arith, held-slots-length l (r .0), held-count (h .«held_count») b (placeOf c theHeld), k .few-held)) (r .1)
 
   states-kept : section (c .servers) (c .quota) theStates b
       ≡ statesOver (stateSize (c .servers) (c .quota)) (said c h b .membership .states) (section (c .servers) (c .quota) theStates b)
@@ -162,7 +159,7 @@ module _ (c : Context) (h : State) (b : List ℕ) (k : Checked c h b) (bytes : B
       let l : List Action = actionsAt (h .«own_count») b (placeOf c theOwn) in
       let r = own-in c h b k bytes long small last-is in
       used (c .servers) (c .quota) theOwn (actionSlots l) b
-      (omega (arith, action-slots-length l (payloads-fit (c .servers) (c .quota) l (r .0)), actions-number (h .«own_count») b (placeOf c theOwn), k .few-own)) (r .1)
+      (omega (arith, action-slots-length l (payloads-fit (c .servers) (c .quota) l (r .0)), actions-count (h .«own_count») b (placeOf c theOwn), k .few-own)) (r .1)
 
   queue-same : section (c .servers) (c .quota) theQueue b ≡ over (actionSlots (queue (said c h b .log))) (section (c .servers) (c .quota) theQueue b)
   unfolding sectionSize sections placeOf
@@ -170,7 +167,7 @@ module _ (c : Context) (h : State) (b : List ℕ) (k : Checked c h b) (bytes : B
       let l : List Action = actionsAt (h .«queue_length») b (placeOf c theQueue) in
       let r = queue-in c h b k bytes long small last-is in
       used (c .servers) (c .quota) theQueue (actionSlots l) b
-      (omega (arith, action-slots-length l (payloads-fit (c .servers) (c .quota) l (r .0)), actions-number (h .«queue_length») b (placeOf c theQueue), k .few-actions)) (r .1)
+      (omega (arith, action-slots-length l (payloads-fit (c .servers) (c .quota) l (r .0)), actions-count (h .«queue_length») b (placeOf c theQueue), k .few-actions)) (r .1)
       ∙ ap (λ (x : List Action). over (actionSlots x) (section (c .servers) (c .quota) theQueue b)) (sym (whole-queue c h b k bytes long small last-is))
 
   pub rewritten : Occurs (headerWritten h) b 0 → image (said c h b) b ≡ b

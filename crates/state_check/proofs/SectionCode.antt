@@ -1,25 +1,24 @@
 -- What the code on the sections of the buffer answers.
 -- Assumes nothing.
 use Prim.Native.Nat.{ℕ, zero, suc, _+_, _*_, _-_, _≤_, _<_}
-use mathlib.Core.Path.{_≡_, refl, sym, ap, subst, _∙_}
+use mathlib.Core.Path.{_≡_, sym, ap, _∙_}
 use mathlib.Core.Bool.{Bool, true, false, not}
-use mathlib.Core.List.{List, []}
+use mathlib.Core.List.{List}
 use native.Mathlib.Omega.{arith}
 use lib.Dec.{eqb}
 use lib.ListN.{length}
 use borrow.Author.Tests.{not-true, not-false}
-use Rattle.base.specs.Tests.{_and_, _=?_, and-yes, and-no, eq-yes, eq-no}
+use Rattle.base.specs.Tests.{_and_, and-yes, and-no}
 use Rattle.base.specs.Branches.{told-eq}
 use Rattle.base.specs.Bytes.{numberAt, numbersAt}
 use Rattle.base.specs.Lists.{sum}
 use Rattle.format.specs.Limits.{mostHeld}
 use Rattle.format.specs.Range.{cutsOk, idsOk}
 use Rattle.format.specs.Read.{idsAt}
-use Rattle.record.specs.Context.{contextOf, ContextIn}
+use Rattle.record.specs.Context.{contextOf}
 use Rattle.record.specs.Values.{idsBy, IdsInside}
 use Rattle.record.specs.declared.Context.{Context}
-use Rattle.record.specs.declared.State.{State}
-use Rattle.engine.specs.Layout.{SizesIn, theCuts, theNoted, theHeld, theStates, theYellow, theOwn, theQueue, sections, offset}
+use Rattle.engine.specs.Layout.{SizesIn, theNoted, theHeld, theStates, theYellow, theOwn, theQueue, sections, offset}
 use Rattle.state_check.specs.Slots.{heldFit, queueFits, ownFits, notedFit}
 use Rattle.state_check.specs.Collected.{collectedOk, StatesInside}
 use Rattle.state_check.specs.Checks.{placeOf, ownCut, queueCuts, ownNext, queueOk, Buffer}

@@ -1,9 +1,9 @@
 -- Lists of slots: the code's tests of them, and what they say of the lists that are read of them.
 -- Assumes nothing.
 use Prim.Native.Nat.{ℕ, zero, suc, _+_, _*_, _≤_}
-use mathlib.Core.Path.{_≡_, refl, sym, ap, ap₂, _∙_}
+use mathlib.Core.Path.{_≡_, refl, ap}
 use mathlib.Core.Bool.{true}
-use mathlib.Core.List.{List, [], _∷_}
+use mathlib.Core.List.{List, _∷_}
 use native.Mathlib.Omega.{arith}
 use lib.ListN.{length}
 use Rattle.base.specs.Tests.{and-holds, both-yes}
@@ -12,29 +12,24 @@ use Rattle.base.specs.Entries.{everyAt}
 use Rattle.base.specs.Lists.{all}
 use Rattle.base.specs.ListLaws.{Each}
 use Rattle.base.specs.Occurs.{Occurs, occurs-nil, occurs-append, occurs-first, occurs-second}
-use Rattle.format.specs.Types.{Id, Action, Context}
-use Rattle.format.specs.Range.{idOk, lengthOk, actionOk, idsInRange}
+use Rattle.format.specs.Types.{Id, Context}
+use Rattle.format.specs.Range.{idOk, actionOk, idsInRange}
 use Rattle.format.specs.Read.{idAt, payloadAt, actionAt}
 use Rattle.format.specs.Write.{payloadBytes, actionBytes}
 use Rattle.format.proofs.Ranges.{ContextRange, PayloadRange, action-range}
 use Rattle.format.proofs.Fields.{action-read}
 use Rattle.record.specs.Values.{idsBy}
 use Rattle.replication.specs.Machine.WellFormed.{idsIn}
-use Rattle.replication.specs.Machine.WellFormedRanges.{PayloadFits, ActionFits}
+use Rattle.replication.specs.Machine.WellFormedRanges.{ActionFits}
 use Rattle.replication.proofs.WellFormed.Ranges.{id-facts, length-facts}
 use Rattle.engine.specs.Layout.{heldSize, slotSize}
 use Rattle.engine.specs.Image.{slot, actionSlots, heldSlots}
 use Rattle.engine.specs.Decode.{actionsAt, heldAt}
 use Rattle.engine.proofs.Used.{action-slot-length, held-slot-length}
-use Rattle.state_check.specs.Slots.{payloadFits, heldFit, slotFits}
+use Rattle.state_check.specs.Slots.{heldFit, slotFits}
 use Rattle.state_check.proofs.Filled.{payload-in-range, held-occurs, action-occurs, occurring-held, occurring-action}
 
 -- ---- held requests
-
-pub held-number : (m : ℕ) (b : List ℕ) (at : ℕ) → length (heldAt m b at) ≡ m
-unfolding heldAt
-held-number zero b at = refl
-held-number (suc m) b at = ap suc (held-number m b (at + heldSize))
 
 pub held-in : (b : List ℕ) → Bytes b → (m at : ℕ) → at + heldSize * m ≤ length b → heldFit m b at ≡ true
     → Each PayloadRange (heldAt m b at) × Occurs (heldSlots (heldAt m b at)) b at
@@ -56,11 +51,6 @@ held-out b (suc m) at r o =
     (held-out b m (at + heldSize) (r .1) (occurs-second (slot heldSize (payloadBytes (payloadAt b at))) _ b at (at + heldSize) place o))
 
 -- ---- actions
-
-pub actions-number : (m : ℕ) (b : List ℕ) (at : ℕ) → length (actionsAt m b at) ≡ m
-unfolding actionsAt
-actions-number zero b at = refl
-actions-number (suc m) b at = ap suc (actions-number m b (at + slotSize))
 
 pub ids-by-number : (w m : ℕ) (b : List ℕ) (at : ℕ) → length (idsBy w m b at) ≡ m
 unfolding idsBy

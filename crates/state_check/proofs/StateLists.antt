@@ -3,7 +3,7 @@
 use Prim.Native.Nat.{ℕ, zero, suc, _+_, _*_, _≤_}
 use mathlib.Core.Path.{_≡_, refl, sym, ap, ap₂, subst, _∙_}
 use mathlib.Core.Bool.{Bool, true, false, not}
-use mathlib.Core.List.{List, [], _∷_, _++_}
+use mathlib.Core.List.{List, _∷_, _++_}
 use mathlib.Core.Option.{Option, none, some, Option·none-ne-some, Option·some-injective}
 use native.Mathlib.Nat.{add-zero, suc-mul}
 use native.Mathlib.Omega.{arith}
@@ -24,7 +24,7 @@ use Rattle.engine.specs.Decode.{statesAt}
 use Rattle.engine.proofs.Used.{state-over-length}
 use Rattle.state_check.specs.Collected.{holdsState, collectedOk}
 use Rattle.state_check.proofs.Over.{occurs-over, over-occurs, first-same, second-same}
-use Rattle.state_check.proofs.StateSlots.{Slot, slot-in, slot-out, slot-short}
+use Rattle.state_check.proofs.StateSlots.{slot-in, slot-out, slot-short}
 
 pub states-number : (n q here m k : ℕ) (b : List ℕ) (at : ℕ) → length (statesAt n q here m k b at) ≡ m
 unfolding statesAt

@@ -1,20 +1,20 @@
 -- The slots of collected States: the code reads the record in each, and that says what the slot holds.
 -- Assumes nothing.
-use Prim.Native.Nat.{ℕ, zero, suc, _+_, _*_, _≤_}
+use Prim.Native.Nat.{ℕ, _+_, _*_, _≤_}
 use mathlib.Core.Path.{_≡_, refl, sym, ap, ap₂, subst, _∙_}
-use mathlib.Core.Bool.{Bool, true, false}
-use mathlib.Core.List.{List, []}
+use mathlib.Core.Bool.{true}
+use mathlib.Core.List.{List}
 use native.Mathlib.Omega.{arith}
 use lib.ListN.{length, drop}
 use Rattle.base.specs.Tests.{not-both, and-holds, both-yes, le-yes, le-holds, eq-yes, eq-holds}
-use Rattle.base.specs.Bytes.{Bytes, bytesOf, numberAt, partAt, joined}
-use Rattle.base.specs.BytesLaws.{part-length, bytes-part, numbers-length}
+use Rattle.base.specs.Bytes.{Bytes, bytesOf, numberAt, partAt}
+use Rattle.base.specs.BytesLaws.{part-length, bytes-part, numbers-length, number-drop}
 use Rattle.base.specs.Occurs.{Occurs, occurs-at, occurs-drop, joined-parts}
 use Rattle.format.specs.Types.{State, Record, action, retransmission, state, cpc, regular, transitional, request, recovery, Context, Reading, says, refused, kindNumber, kindOf}
 use Rattle.format.specs.Range.{lengthOk, contextOk, stateOk, fieldsOk, recordOk}
 use Rattle.format.specs.Read.{stateAt, yellowAt, read}
 use Rattle.format.specs.Write.{write, framed, bodyOf, stateBytes, lengthOf}
-use Rattle.format.proofs.Ranges.{ContextRange, context-range, state-range}
+use Rattle.format.proofs.Ranges.{ContextRange, state-range}
 use Rattle.format.proofs.IdCount.{ids-count}
 use Rattle.format.proofs.Fields.{state-read}
 use Rattle.format.proofs.Lengths.{write-length}
@@ -23,7 +23,6 @@ use Rattle.format.proofs.Reading.{read-in-range}
 use Rattle.format.proofs.RoundTrip.{read-written, written-read}
 use Rattle.engine.specs.Layout.{stateSize}
 use Rattle.state_check.specs.Collected.{isState, saysState, idsInSlot, slotRecord, holdsState}
-use Rattle.state_check.proofs.Over.{number-drop}
 
 -- What is known of the State x in the slot at `at`.
 pub record Slot (c : Context) (k i : ℕ) (b : List ℕ) (at : ℕ) (x : State) : Type 0 where

@@ -50,7 +50,12 @@ fn begin(base: &mut [u8], e: &[u8]) {
     if e.len() < 4 {
         return;
     }
-    guzbytor_start(base, num8(e, 0) as u32, num16(e, 1) as u32, num8(e, 3) as u32);
+    guzbytor_start(
+        base,
+        num8(e, 0) as u32,
+        num16(e, 1) as u32,
+        num8(e, 3) as u32,
+    );
 }
 
 // The number for the first bytes of a state and of an outgoing buffer; 9 where there are fewer.

@@ -1,15 +1,12 @@
 use Rattle.engine.specs.Image.{modeNumber}
-use Rattle.engine.specs.Header.{headerOf, statusOf, idOf, setOf, transitionalOf, markNumbers}
+use Rattle.engine.specs.Header.{headerOf, statusOf, idOf, setOf, transitionalOf}
 use Rattle.lists.specs.Lists.{configurationOf}
 use Rattle.replication.specs.Machine.Step.{entering}
 use Rattle.lists.proofs.MembershipLaws.{without-senders}
 use mathlib.Core.Path.{refl}
 use Rattle.lists.proofs.membership.with_configuration.Statement.{statement}
 use Rattle.lists.proofs.membership.with_configuration.Tie as tie
-use Rattle.lists.proofs.membership.with_configuration.Reads as reads
-use Rattle.lists.proofs.membership.with_configuration.Lts as lts
 
--- src/membership.rt:33:1
 returns : tie.Need-returns
 unfolding headerOf entering statusOf idOf setOf transitionalOf modeNumber configurationOf
 returns c = λ s e. rw e (without-senders (entering (configurationOf _ _) s) (s .servers) refl)

@@ -1,18 +1,14 @@
 use mathlib.Core.Path.{refl}
 use Rattle.replication.specs.Machine.Step.{withCpc}
 use Rattle.lists.proofs.MembershipLaws.{member-shifted}
-use Rattle.engine.specs.Header.{headerOf, statusOf, idOf, setOf, transitionalOf, markNumbers}
+use Rattle.engine.specs.Header.{headerOf}
 use borrow.Author.Needs.{needs}
 use Rattle.lists.proofs.membership.with_cpc.Statement.{statement}
 use Rattle.lists.proofs.membership.with_cpc.Tie as tie
-use Rattle.lists.proofs.membership.with_cpc.Reads as reads
-use Rattle.lists.proofs.membership.with_cpc.Lts as lts
 
--- src/membership.rt:82:26
 shl-cpcs : tie.Need-shl-cpcs
 shl-cpcs c = search needs
 
--- src/membership.rt:78:1
 returns : tie.Need-returns
 unfolding headerOf withCpc
 returns c = λ s e. rw (member-shifted _ _ (c .before .pre), e) refl

@@ -2,10 +2,7 @@ use mathlib.Core.Path.{refl}
 use Rattle.engine.specs.Header.{headerOf}
 use Rattle.lists.proofs.membership.with_mode.Statement.{statement}
 use Rattle.lists.proofs.membership.with_mode.Tie as tie
-use Rattle.lists.proofs.membership.with_mode.Reads as reads
-use Rattle.lists.proofs.membership.with_mode.Lts as lts
 
--- src/membership.rt:15:1
 returns : tie.Need-returns
 unfolding headerOf
 returns c = λ s m e f. rw (e, f) refl

@@ -2,37 +2,25 @@ use Rattle.lists.proofs.Counts.{front-1, front-3, header-room, sizes-re
 use borrow.Author.Needs.{needs}
 use Rattle.lists.proofs.requests.own_place.Statement.{statement}
 use Rattle.lists.proofs.requests.own_place.Tie as tie
-use Rattle.lists.proofs.requests.own_place.Reads as reads
-use Rattle.lists.proofs.requests.own_place.Lts as lts
-use Rattle.engine.proofs.places.own_at.Reads as own-at-reads
-use Rattle.record.proofs.bytes.num16.Reads as num16-reads
-use Rattle.record.proofs.bytes.num8.Reads as num8-reads
 
--- src/requests.rt:35:12
 num8-requires : tie.Need-num8-requires
 num8-requires c κs = search (needs, front-1)
 
--- src/requests.rt:35:12
 cast-own-at : tie.Need-cast-own-at
 cast-own-at c = search needs
 
--- src/requests.rt:35:35
 num16-requires : tie.Need-num16-requires
 num16-requires c κs = search (needs, front-3)
 
--- src/requests.rt:35:35
 cast-own-at-2 : tie.Need-cast-own-at-2
 cast-own-at-2 c = search needs
 
--- src/requests.rt:35:5
 own-at-requires : tie.Need-own-at-requires
 own-at-requires c κs = search (needs, sizes-read)
 
--- src/requests.rt:35:5
 cast-result : tie.Need-cast-result
 cast-result c = search needs
 
--- src/requests.rt:31:1
 returns : tie.Need-returns
 returns c = search (needs, place-read, own-free, own-few, numbered-few, header-room)
 

@@ -1,13 +1,10 @@
 use mathlib.Core.Path.{refl}
 use Rattle.lists.specs.Lists.{withoutYellow}
 use Rattle.replication.specs.Machine.Types.{noYellow}
-use Rattle.engine.specs.Header.{headerOf, statusOf, idOf, setOf, transitionalOf, markNumbers}
+use Rattle.engine.specs.Header.{headerOf}
 use Rattle.lists.proofs.votes.with_no_yellow.Statement.{statement}
 use Rattle.lists.proofs.votes.with_no_yellow.Tie as tie
-use Rattle.lists.proofs.votes.with_no_yellow.Reads as reads
-use Rattle.lists.proofs.votes.with_no_yellow.Lts as lts
 
--- src/votes.rt:61:1
 returns : tie.Need-returns
 unfolding headerOf withoutYellow noYellow
 returns c = λ s e. rw e refl

@@ -1,12 +1,9 @@
 use mathlib.Core.Path.{refl}
 use Rattle.replication.specs.Machine.Step.{yellowValid}
-use Rattle.engine.specs.Header.{headerOf, statusOf, idOf, setOf, transitionalOf, markNumbers}
+use Rattle.engine.specs.Header.{headerOf}
 use Rattle.lists.proofs.votes.with_valid.Statement.{statement}
 use Rattle.lists.proofs.votes.with_valid.Tie as tie
-use Rattle.lists.proofs.votes.with_valid.Reads as reads
-use Rattle.lists.proofs.votes.with_valid.Lts as lts
 
--- src/votes.rt:43:1
 returns : tie.Need-returns
 unfolding headerOf yellowValid
 returns c = λ s e. rw e refl

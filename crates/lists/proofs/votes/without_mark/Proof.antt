@@ -1,13 +1,10 @@
 use mathlib.Core.Path.{refl}
 use Rattle.replication.specs.Machine.Step.{unmarked}
 use Rattle.replication.specs.Machine.Types.{clearedMark}
-use Rattle.engine.specs.Header.{headerOf, statusOf, idOf, setOf, transitionalOf, markNumbers}
+use Rattle.engine.specs.Header.{headerOf, markNumbers}
 use Rattle.lists.proofs.votes.without_mark.Statement.{statement}
 use Rattle.lists.proofs.votes.without_mark.Tie as tie
-use Rattle.lists.proofs.votes.without_mark.Reads as reads
-use Rattle.lists.proofs.votes.without_mark.Lts as lts
 
--- src/votes.rt:18:1
 returns : tie.Need-returns
 unfolding headerOf unmarked clearedMark markNumbers
 returns c = λ s e. rw e refl

@@ -2,37 +2,25 @@ use Rattle.lists.proofs.Counts.{front-1, front-3, header-room, sizes-re
 use borrow.Author.Needs.{needs}
 use Rattle.lists.proofs.yellow.yellow_place.Statement.{statement}
 use Rattle.lists.proofs.yellow.yellow_place.Tie as tie
-use Rattle.lists.proofs.yellow.yellow_place.Reads as reads
-use Rattle.lists.proofs.yellow.yellow_place.Lts as lts
-use Rattle.engine.proofs.places.yellow_at.Reads as yellow-at-reads
-use Rattle.record.proofs.bytes.num16.Reads as num16-reads
-use Rattle.record.proofs.bytes.num8.Reads as num8-reads
 
--- src/yellow.rt:55:15
 num8-requires : tie.Need-num8-requires
 num8-requires c κs = search (needs, front-1)
 
--- src/yellow.rt:55:15
 cast-yellow-at : tie.Need-cast-yellow-at
 cast-yellow-at c = search needs
 
--- src/yellow.rt:55:38
 num16-requires : tie.Need-num16-requires
 num16-requires c κs = search (needs, front-3)
 
--- src/yellow.rt:55:38
 cast-yellow-at-2 : tie.Need-cast-yellow-at-2
 cast-yellow-at-2 c = search needs
 
--- src/yellow.rt:55:5
 yellow-at-requires : tie.Need-yellow-at-requires
 yellow-at-requires c κs = search (needs, sizes-read)
 
--- src/yellow.rt:55:5
 cast-result : tie.Need-cast-result
 cast-result c = search needs
 
--- src/yellow.rt:51:1
 returns : tie.Need-returns
 returns c = search (needs, place-read, yellow-free, yellow-few, header-room)
 

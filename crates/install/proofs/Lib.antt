@@ -1,0 +1,9 @@
+pub mod SwapLaws
+pub mod Swapped
+pub mod Places
+pub mod SwapFits
+pub mod Turning
+pub mod TableLaws
+pub mod TurnLaws
+pub mod PassLaws
+pub mod InstallLaws

@@ -1,0 +1,194 @@
+-- The passes over the yellow list and over the cuts.
+-- Assumes nothing.
+use Prim.Native.Nat.{ℕ, zero, suc, _+_, _*_, _-_, _≤_, _<_}
+use mathlib.Core.Path.{_≡_, sym, ap, subst, _∙_}
+use mathlib.Core.List.{List, [], _∷_, _++_, append-assoc, append-nil, map, map-append}
+use mathlib.Core.Option.{some}
+use native.Mathlib.Nat.{add-zero}
+use native.Mathlib.Numerals.{add-one}
+use native.Mathlib.Omega.{arith}
+use lib.ListN.{length, getD, take}
+use lib.Seq.{take-all, take-suc, length-take-le}
+use Rattle.base.specs.AtLaws.{take-next}
+use Rattle.base.specs.Bytes.{numberAt}
+use Rattle.base.specs.Lists.{above, after, at}
+use Rattle.base.specs.ListLaws.{each-at, above-more}
+use Rattle.format.specs.Types.{Id}
+use Rattle.format.specs.Read.{idAt, idsAt}
+use Rattle.record.specs.Values.{idOf}
+use Rattle.replication.specs.Machine.Types.{Server}
+use Rattle.replication.specs.Machine.Colours.{cut}
+use Rattle.replication.specs.Machine.Install.{idsUpTo}
+use Rattle.replication.specs.Machine.WellFormedRanges.{IdFits}
+use Rattle.replication.proofs.WellFormed.Facts.{well-formed-facts}
+use Rattle.engine.specs.Layout.{theYellow, offset}
+use Rattle.engine.specs.Decode.{decoded}
+use Rattle.queue.proofs.Holding.{numbers}
+use Rattle.queue.proofs.RedLaws.{cut-read}
+use Rattle.lists.specs.Lists.{yellowCount, place}
+use Rattle.lists.proofs.Counts.{holds-ids, holds-place, holds-yellow-count}
+use Rattle.install.specs.Table.{Stated, logIn, yellowsIn, idsOf, InTable, Indexed, Turned}
+use Rattle.install.proofs.SwapFits.{swaps-kept}
+use Rattle.install.proofs.Turning.{turned-decoded, turned-append, turned-none}
+
+turned-as : (ds es : List Id) (b u c : List ℕ) → ds ≡ es → Turned ds b u c → Turned es b u c
+turned-as ds es b u c e h = subst (λ (x : List Id). Turned x b u c) e h
+
+-- ---- the yellow list
+
+ids-at : (m : ℕ) (e : List ℕ) (p k : ℕ) → k < m → at (idsAt m e p) k ≡ some (idAt e (p + 3 * k))
+unfolding idsAt at
+ids-at zero e p k h = absurd (omega arith)
+ids-at (suc m) e p zero h = let f : p ≡ p + 3 * 0 = omega arith in ap (λ (i : ℕ). some (idAt e i)) f
+ids-at (suc m) e p (suc k) h =
+    let f : p + 3 + 3 * k ≡ p + 3 * suc k = omega arith in
+    ids-at m e (p + 3) k (omega arith) ∙ ap (λ (i : ℕ). some (idAt e i)) f
+
+pub turned-read : (b t₁ b₁ : List ℕ) (p x y : ℕ) → x ≡ numberAt 1 b p → y ≡ numberAt 2 b (p + 1) → Turned (idOf x y ∷ []) b t₁ b₁
+    → Turned (idAt b p ∷ []) b t₁ b₁
+unfolding idAt idOf
+turned-read b t₁ b₁ p x y e f turn = turned-as (idOf x y ∷ []) (idAt b p ∷ []) b t₁ b₁ (λ i. idOf (e i) (f i) ∷ []) turn
+
+pub yellow-start : (b t : List ℕ) → Indexed t b → Turned (take 0 (yellowsIn b)) b t b
+yellow-start b t r = turned-none b t r
+
+module _ (b₀ : List ℕ) (s₀ : Stated b₀) where
+  -- The list of the changed buffer b is that of the first one.
+  yellow-kept : (ds : List Id) (t b : List ℕ) → Turned ds b₀ t b → (decoded b) .votes .yellow .ids ≡ yellowsIn b₀
+  unfolding yellowsIn
+  yellow-kept ds t b e = ap (λ (v : Server). v .votes .yellow .ids) (turned-decoded ds b₀ t b s₀ e)
+
+  yellow-place : (ds : List Id) (t b : List ℕ) → Turned ds b₀ t b → place theYellow b ≡ place theYellow b₀
+  yellow-place ds t b e =
+      holds-place (decoded b) b (e .indexed .stated .holds) theYellow
+      ∙ ap (λ (v : Server). offset (v .servers) (v .quota) theYellow) (turned-decoded ds b₀ t b s₀ e)
+      ∙ sym (holds-place (decoded b₀) b₀ (s₀ .holds) theYellow)
+
+  yellow-count : yellowCount b₀ ≡ length (yellowsIn b₀)
+  unfolding yellowsIn
+  yellow-count = holds-yellow-count (decoded b₀) b₀ (s₀ .holds)
+
+  yellow-id : (ds : List Id) (t b : List ℕ) (j n p : ℕ) → Turned ds b₀ t b → p ≡ place theYellow b₀ → n ≡ numberAt 2 b₀ 58 → j < n
+      → at (yellowsIn b₀) j ≡ some (idAt b (p + 3 * j))
+  unfolding yellowCount
+  yellow-id ds t b j n p e f g h =
+      let kept = yellow-kept ds t b e in
+      let r = e .indexed .stated .holds in
+      let many : j < numberAt 2 b 58 = omega (arith, holds-yellow-count (decoded b) b r, ap length kept, yellow-count) in
+      ap (λ (l : List Id). at l j) (sym kept ∙ sym (holds-ids (decoded b) b r))
+      ∙ ids-at (numberAt 2 b 58) b (place theYellow b) j many
+      ∙ ap (λ (q : ℕ). some (idAt b (q + 3 * j))) (yellow-place ds t b e ∙ sym f)
+
+  pub yellow-in : (ds : List Id) (t b : List ℕ) (j n p : ℕ) → Turned ds b₀ t b → p ≡ place theYellow b₀ → n ≡ numberAt 2 b₀ 58 → j < n
+      → InTable (numberAt 1 b (p + 3 * j)) (numberAt 2 b (p + 3 * j + 1))
+  unfolding yellowsIn idAt
+  yellow-in ds t b j n p e f g h =
+      let v : Server = decoded b₀ in
+      let facts = well-formed-facts v (s₀ .holds .formed) in
+      let fits = each-at (IdFits (v .servers) (v .quota)) (v .votes .yellow .ids) j (idAt b (p + 3 * j)) (facts .votes .yellow .ids) (yellow-id ds t b j n p e f g h) in
+      record { creator = omega (arith, facts .sizes .most); least = fits .least; most = omega (arith, facts .sizes .highest) }
+
+  pub yellow-again : (t b t₁ b₁ : List ℕ) (j n p : ℕ) → Turned (take j (yellowsIn b₀)) b₀ t b → p ≡ place theYellow b₀ → n ≡ numberAt 2 b₀ 58 → j < n
+      → Turned (idAt b (p + 3 * j) ∷ []) b t₁ b₁ → Turned (take (j + 1) (yellowsIn b₀)) b₀ t₁ b₁
+  yellow-again t b t₁ b₁ j n p e f g h turn =
+      let ids : List Id = yellowsIn b₀ in
+      let d : Id = idAt b (p + 3 * j) in
+      turned-as (take j ids ++ (d ∷ [])) (take (j + 1) ids) b₀ t₁ b₁
+      (sym (ap (λ (m : ℕ). take m ids) (add-one j) ∙ take-next ids j d (yellow-id (take j ids) t b j n p e f g h)))
+      (turned-append (take j ids) (d ∷ []) b₀ t b t₁ b₁ s₀ e turn)
+
+  pub yellow-end : (t b : List ℕ) (j n : ℕ) → Turned (take j (yellowsIn b₀)) b₀ t b → n ≡ numberAt 2 b₀ 58 → n ≤ j → Turned (yellowsIn b₀) b₀ t b
+  unfolding yellowCount
+  yellow-end t b j n e f h = turned-as (take j (yellowsIn b₀)) (yellowsIn b₀) b₀ t b (take-all j (yellowsIn b₀) (omega (arith, yellow-count))) e
+
+-- ---- one creator
+
+pub creator-start : (b t : List ℕ) (c : ℕ) → Indexed t b → Turned (map (idOf c) (above 0 0)) b t b
+unfolding above after
+creator-start b t c r = turned-none b t r
+
+module _ (b₀ : List ℕ) (s₀ : Stated b₀) (c : ℕ) where
+  creator-cut : c < numberAt 1 b₀ 0 → numberAt 2 b₀ (60 + 2 * c) ≡ cut (logIn b₀) c
+  unfolding logIn
+  creator-cut h = cut-read (decoded b₀) b₀ c (s₀ .holds) (omega (arith, numbers (decoded b₀) b₀ (s₀ .holds) .servers))
+
+  pub creator-in : (k i : ℕ) → c < numberAt 1 b₀ 0 → k ≡ numberAt 2 b₀ (60 + 2 * c) → i < k → InTable c (i + 1)
+  unfolding logIn
+  creator-in k i h e l =
+      let facts = well-formed-facts (decoded b₀) (s₀ .holds .formed) in
+      record {
+        creator = omega (arith, facts .sizes .most, numbers (decoded b₀) b₀ (s₀ .holds) .servers);
+        least = omega arith;
+        most = omega (arith, facts .log .cuts c, facts .sizes .highest, creator-cut h);
+      }
+
+  pub creator-again : (t b t₁ b₁ : List ℕ) (i : ℕ) → Turned (map (idOf c) (above 0 i)) b₀ t b → Turned (idOf c (i + 1) ∷ []) b t₁ b₁
+      → Turned (map (idOf c) (above 0 (i + 1))) b₀ t₁ b₁
+  unfolding after
+  creator-again t b t₁ b₁ i e turn =
+      turned-as (map (idOf c) (above 0 i) ++ (idOf c (i + 1) ∷ [])) (map (idOf c) (above 0 (i + 1))) b₀ t₁ b₁
+      (sym (ap (map (idOf c)) (above-more 0 i 1 (omega arith)) ∙ map-append (idOf c) (above 0 i) (after i 1)))
+      (turned-append (map (idOf c) (above 0 i)) (idOf c (i + 1) ∷ []) b₀ t b t₁ b₁ s₀ e turn)
+
+  pub creator-end : (t b : List ℕ) (k i : ℕ) → c < numberAt 1 b₀ 0 → k ≡ numberAt 2 b₀ (60 + 2 * c) → i ≤ k → k ≤ i
+      → Turned (map (idOf c) (above 0 i)) b₀ t b
+      → Turned (idsOf c b₀) b₀ t b
+  unfolding idsOf
+  creator-end t b k i h e l m turn =
+      let same : i ≡ cut (logIn b₀) c = omega (arith, creator-cut h) in
+      turned-as (map (idOf c) (above 0 i)) (map (idOf c) (above 0 (cut (logIn b₀) c))) b₀ t b (ap (λ (z : ℕ). map (idOf c) (above 0 z)) same) turn
+
+-- ---- all creators
+
+up-to-last : (k : ℕ) (xs : List ℕ) (x : ℕ) → idsUpTo k (xs ++ (x ∷ [])) ≡ idsUpTo k xs ++ map (idOf (k + length xs)) (above 0 x)
+unfolding idsUpTo idOf
+up-to-last k [] x = append-nil (map (idOf k) (above 0 x)) ∙ ap (λ (m : ℕ). map (idOf m) (above 0 x)) (sym (add-zero k))
+up-to-last k (y ∷ xs) x =
+    let e : k + 1 + length xs ≡ k + suc (length xs) = omega arith in
+    ap (λ (l : List Id). map (idOf k) (above 0 y) ++ l) (up-to-last (k + 1) xs x ∙ ap (λ (m : ℕ). idsUpTo (k + 1) xs ++ map (idOf m) (above 0 x)) e)
+    ∙ sym (append-assoc (map (idOf k) (above 0 y)) (idsUpTo (k + 1) xs) (map (idOf (k + suc (length xs))) (above 0 x)))
+
+pub rest-start : (b t : List ℕ) → Indexed t b → Turned (idsUpTo 0 (take 0 (logIn b .cuts))) b t b
+unfolding idsUpTo
+rest-start b t r = turned-none b t r
+
+module _ (b₀ : List ℕ) (s₀ : Stated b₀) where
+  pub cuts-kept : (ds : List Id) (t b : List ℕ) → Turned ds b₀ t b → logIn b .cuts ≡ logIn b₀ .cuts
+  unfolding logIn
+  cuts-kept ds t b e = ap (λ (v : Server). v .log .cuts) (turned-decoded ds b₀ t b s₀ e) ∙ swaps-kept ds ((decoded b₀) .log) .cuts
+
+  cuts-count : length (logIn b₀ .cuts) ≡ numberAt 1 b₀ 0
+  unfolding logIn
+  cuts-count = well-formed-facts (decoded b₀) (s₀ .holds .formed) .log .cuts-length ∙ sym (numbers (decoded b₀) b₀ (s₀ .holds) .servers)
+
+  pub rest-in : (ds : List Id) (t b : List ℕ) (n c : ℕ) → Turned ds b₀ t b → n ≡ numberAt 1 b₀ 0 → c < n → c < numberAt 1 b 0
+  rest-in ds t b n c e f h =
+      omega (
+        arith,
+        numbers (decoded b₀) b₀ (s₀ .holds) .servers,
+        numbers (decoded b) b (e .indexed .stated .holds) .servers,
+        ap (λ (v : Server). v .servers) (turned-decoded ds b₀ t b s₀ e),
+      )
+
+  pub rest-again : (t b t₁ b₁ : List ℕ) (n c : ℕ) → Turned (idsUpTo 0 (take c (logIn b₀ .cuts))) b₀ t b → n ≡ numberAt 1 b₀ 0 → c < n
+      → Turned (idsOf c b) b t₁ b₁
+      → Turned (idsUpTo 0 (take (c + 1) (logIn b₀ .cuts))) b₀ t₁ b₁
+  unfolding idsOf cut
+  rest-again t b t₁ b₁ n c e f h turn =
+      let cuts : List ℕ = logIn b₀ .cuts in
+      let low : c < length cuts = omega (arith, cuts-count) in
+      let place : 0 + length (take c cuts) ≡ c = omega (arith, length-take-le c cuts (omega arith)) in
+      let last : idsUpTo 0 (take (c + 1) cuts) ≡ idsUpTo 0 (take c cuts) ++ idsOf c b =
+      ap (λ (m : ℕ). idsUpTo 0 (take m cuts)) (add-one c)
+      ∙ ap (idsUpTo 0) (take-suc cuts c 0 low)
+      ∙ up-to-last 0 (take c cuts) (getD cuts c 0)
+      ∙ ap (λ (m : ℕ). idsUpTo 0 (take c cuts) ++ map (idOf m) (above 0 (getD cuts c 0))) place
+      ∙ ap (λ (l : List ℕ). idsUpTo 0 (take c cuts) ++ map (idOf c) (above 0 (getD l c 0))) (sym (cuts-kept (idsUpTo 0 (take c cuts)) t b e)) in
+      turned-as (idsUpTo 0 (take c cuts) ++ idsOf c b) (idsUpTo 0 (take (c + 1) cuts)) b₀ t₁ b₁ (sym last)
+      (turned-append (idsUpTo 0 (take c cuts)) (idsOf c b) b₀ t b t₁ b₁ s₀ e turn)
+
+  pub rest-end : (t b : List ℕ) (n c : ℕ) → Turned (idsUpTo 0 (take c (logIn b₀ .cuts))) b₀ t b → n ≡ numberAt 1 b₀ 0 → n ≤ c
+      → Turned (idsUpTo 0 (logIn b₀ .cuts)) b₀ t b
+  rest-end t b n c e f h =
+      turned-as (idsUpTo 0 (take c (logIn b₀ .cuts))) (idsUpTo 0 (logIn b₀ .cuts)) b₀ t b
+      (ap (idsUpTo 0) (take-all c (logIn b₀ .cuts) (omega (arith, cuts-count)))) e

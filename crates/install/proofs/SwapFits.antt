@@ -1,0 +1,149 @@
+-- Turning green by swaps keeps the facts of a well-formed log.
+-- Assumes nothing.
+use Prim.Native.Nat.{ℕ, zero, suc, _+_, _≤_, _<_}
+use mathlib.Core.Path.{_≡_, refl, ap, _∙_}
+use mathlib.Core.List.{List, [], _∷_, _++_}
+use mathlib.Core.Option.{some}
+use native.Mathlib.Omega.{arith}
+use lib.ListN.{length, length-append, length-set}
+use Rattle.base.specs.Counts.{count-append, count-single}
+use Rattle.base.specs.ListLaws.{Each, each-append, each-set}
+use Rattle.base.specs.Tests.{_≤?_, le-holds, le-fails, Known, holds, fails, known}
+use Rattle.format.specs.Types.{Id, Action}
+use Rattle.format.specs.Range.{sameId}
+use Rattle.replication.specs.Machine.Types.{Log}
+use Rattle.replication.specs.Machine.Colours.{cut}
+use Rattle.replication.specs.Machine.WellFormed.{queue}
+use Rattle.replication.specs.Machine.WellFormedRanges.{ActionFits}
+use Rattle.replication.specs.Machine.WellFormedFacts.{heldCount}
+use Rattle.replication.proofs.WellFormed.Held.{held-parts, found-fact}
+use Rattle.replication.proofs.WellFormed.Logs.{LogFits}
+use Rattle.queue.specs.Queue.{position}
+use Rattle.queue.proofs.Positions.{Stands, position-found, position-none}
+use Rattle.install.specs.Swaps.{swapOut, greenFound, greenSwap, greenSwaps}
+use Rattle.install.proofs.SwapLaws.{Once, swapped-count}
+
+-- What one swap does.
+pub data Swap (d : Id) (l : Log) : Type 0 where
+  unmoved : length (l .red) ≤ position d (l .red) → greenSwap d l ≡ l → Swap d l
+  moved : (k : Stands d (l .red) (position d (l .red))) → greenSwap d l ≡ greenFound (some (k .it)) (position d (l .red)) l → Swap d l
+
+pub swap? : (d : Id) (l : Log) → Swap d l
+unfolding greenSwap greenFound
+swap? d l = go (known (length (l .red) ≤? position d (l .red)))
+  where
+    go : Known (length (l .red) ≤? position d (l .red)) → Swap d l
+    go (holds h) = let m = le-holds _ _ h in unmoved m (rw (position-none d (l .red) m))
+    go (fails h) = let k = position-found d (l .red) (le-fails _ _ h) in moved k (rw (k .found))
+
+-- ---- the list without one
+
+swap-out-each : (P : Action → Type 0) (k : ℕ) (l : List Action) → Each P l → Each P (swapOut k l)
+unfolding swapOut
+swap-out-each P k [] h = tt
+swap-out-each P zero (y ∷ l) h = h .1
+swap-out-each P (suc k) (y ∷ l) h = each-set P l k y (h .1) (h .0)
+
+swap-out-length : (k : ℕ) (l : List Action) → k < length l → suc (length (swapOut k l)) ≡ length l
+unfolding swapOut
+swap-out-length k [] h = absurd (omega arith)
+swap-out-length zero (y ∷ l) h = refl
+swap-out-length (suc k) (y ∷ l) h = ap suc (length-set l k y)
+
+stands-low : (d : Id) (l : List Action) (k : ℕ) → Stands d l k → k < length l
+stands-low d l k r = omega (arith, r .count, ap length (r .whole), length-append (r .before) (r .it ∷ r .behind))
+
+-- ---- what stays
+
+pub record Kept (l m : Log) : Type 0 where
+  pub cuts : m .cuts ≡ l .cuts
+  pub own : m .own ≡ l .own
+  pub numbered : m .numbered ≡ l .numbered
+  pub count : length (queue m) ≡ length (queue l)
+
+found-kept : (d : Id) (l : Log) (k : Stands d (l .red) (position d (l .red))) → Kept l (greenFound (some (k .it)) (position d (l .red)) l)
+unfolding greenFound queue
+found-kept d l k = record {
+  cuts = refl;
+  own = refl;
+  numbered = refl;
+  count =
+      length-append (l .green ++ (k .it ∷ [])) (swapOut (position d (l .red)) (l .red))
+      ∙ omega (
+        arith,
+        length-append (l .green) (k .it ∷ []),
+        swap-out-length (position d (l .red)) (l .red) (stands-low d (l .red) (position d (l .red)) k),
+        length-append (l .green) (l .red),
+      );
+}
+
+swap-kept : (d : Id) (l : Log) → Kept l (greenSwap d l)
+swap-kept d l = go (swap? d l)
+  where
+    go : Swap d l → Kept l (greenSwap d l)
+    go (unmoved h e) = rw e (record { cuts = refl; own = refl; numbered = refl; count = refl })
+    go (moved k e) = rw e (found-kept d l k)
+
+pub swaps-kept : (ds : List Id) (l : Log) → Kept l (greenSwaps ds l)
+unfolding greenSwaps
+swaps-kept [] l = record { cuts = refl; own = refl; numbered = refl; count = refl }
+swaps-kept (d ∷ ds) l =
+    let a = swap-kept d l in
+    let b = swaps-kept ds (greenSwap d l) in
+    record { cuts = b .cuts ∙ a .cuts; own = b .own ∙ a .own; numbered = b .numbered ∙ a .numbered; count = b .count ∙ a .count }
+
+-- ---- row 8
+
+pub fits-once : (n q me : ℕ) (l : Log) → LogFits n q me l → Once (l .red)
+fits-once n q me l f d = omega (arith, f .once d, held-parts d l)
+
+found-held : (d : Id) (l : Log) → Once (l .red) → (k : Stands d (l .red) (position d (l .red))) → (e : Id)
+    → heldCount e (greenFound (some (k .it)) (position d (l .red)) l) ≡ heldCount e l
+unfolding greenFound
+found-held d l once k e =
+    omega (
+      arith,
+      held-parts e (greenFound (some (k .it)) (position d (l .red)) l),
+      held-parts e l,
+      swapped-count d (l .red) once k e,
+      count-append (λ (a : Action). sameId e (a .id)) (l .green) (k .it ∷ []),
+      count-single (λ (a : Action). sameId e (a .id)) (k .it),
+    )
+
+found-fits : (n q me : ℕ) (d : Id) (l : Log) (k : Stands d (l .red) (position d (l .red)))
+    → ((e : Id) → heldCount e (greenFound (some (k .it)) (position d (l .red)) l) ≡ heldCount e l)
+    → LogFits n q me l → LogFits n q me (greenFound (some (k .it)) (position d (l .red)) l)
+unfolding greenFound cut
+found-fits n q me d l k kept f = record {
+  ranges = record {
+    green = each-append (ActionFits n q) (l .green) (k .it ∷ []) (f .ranges .green) (found-fact (ActionFits n q) d (l .red) (k .it) (f .ranges .red) (k .found), tt);
+    red = swap-out-each (ActionFits n q) (position d (l .red)) (l .red) (f .ranges .red);
+    cuts-length = f .ranges .cuts-length;
+    cuts = f .ranges .cuts;
+    own = f .ranges .own;
+    numbered = f .ranges .numbered;
+  };
+  once = λ e. omega (arith, kept e, f .once e);
+  held-to-cuts = record {
+    within = λ e h. f .held-to-cuts .within e (omega (arith, kept e));
+    entered = λ e low high. omega (arith, kept e, f .held-to-cuts .entered e low high);
+  };
+  own-list = record { numbered = f .own-list .numbered; ids = f .own-list .ids };
+}
+
+swap-fits : (n q me : ℕ) (d : Id) (l : Log) → LogFits n q me l → LogFits n q me (greenSwap d l)
+swap-fits n q me d l f = go (swap? d l)
+  where
+    go : Swap d l → LogFits n q me (greenSwap d l)
+    go (unmoved h e) = rw e f
+    go (moved k e) = rw e (found-fits n q me d l k (found-held d l (fits-once n q me l f) k) f)
+
+pub swaps-fits : (n q me : ℕ) (ds : List Id) (l : Log) → LogFits n q me l → LogFits n q me (greenSwaps ds l)
+unfolding greenSwaps
+swaps-fits n q me [] l f = f
+swaps-fits n q me (d ∷ ds) l f = swaps-fits n q me ds (greenSwap d l) (swap-fits n q me d l f)
+
+pub swaps-append : (ds es : List Id) (l : Log) → greenSwaps (ds ++ es) l ≡ greenSwaps es (greenSwaps ds l)
+unfolding greenSwaps
+swaps-append [] es l = refl
+swaps-append (d ∷ ds) es l = swaps-append ds es (greenSwap d l)

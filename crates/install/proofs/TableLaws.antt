@@ -1,0 +1,154 @@
+-- The table of places: filled, looked up, kept by a swap.
+-- Assumes nothing.
+use Prim.Native.Nat.{ℕ, _+_, _*_, _-_, _≤_, _<_}
+use mathlib.Core.Path.{_≡_, refl, sym, ap, _∙_}
+use mathlib.Core.List.{List}
+use mathlib.Core.Option.{some}
+use native.Mathlib.Decide.{ℕ-discrete}
+use native.Mathlib.Omega.{arith}
+use lib.ListN.{length, getD, set, replicate, length-set, length-replicate}
+use lib.Seq.{getD-set-same, getD-set-other}
+use Rattle.base.specs.AtLaws.{some-same, at-low}
+use Rattle.base.specs.Bytes.{numberAt}
+use Rattle.base.specs.Counts.{count-map}
+use Rattle.base.specs.Lists.{at}
+use Rattle.base.specs.ListLaws.{each-at}
+use Rattle.base.specs.Tests.{Known, holds, fails, known}
+use Rattle.format.specs.Limits.{mostServers, mostQuota}
+use Rattle.format.specs.Types.{Id, Action}
+use Rattle.format.specs.Range.{sameId}
+use Rattle.format.specs.Read.{idAt, actionAt}
+use Rattle.format.proofs.Ranges.{IdRange, ActionRange}
+use Rattle.record.specs.Values.{idOf, slot}
+use Rattle.record.proofs.OnePass.{Small, slot-lt, other-slot}
+use Rattle.replication.specs.Machine.Types.{Server, contextOf}
+use Rattle.replication.specs.Machine.WellFormed.{queue, idsIn}
+use Rattle.engine.specs.Layout.{slotSize}
+use Rattle.engine.specs.Decode.{decoded}
+use Rattle.engine.proofs.InRange.{in-range}
+use Rattle.engine.proofs.InPlace.{Holds}
+use Rattle.queue.specs.Queue.{queueCount, greenCount, queueAt}
+use Rattle.queue.proofs.Holding.{numbers, log-fits, queue-parts}
+use Rattle.queue.proofs.ReadLaws.{queue-read, actions-at}
+use Rattle.install.specs.Table.{Stated, logIn, InTable, Indexed}
+use Rattle.install.proofs.Places.{same-place}
+use Rattle.install.proofs.SwapLaws.{Once}
+
+-- ---- the place of an id in the table
+
+module _ (s : Server) (b : List ℕ) (r : Holds s b) where
+  small : Small (contextOf s)
+  unfolding contextOf
+  small = let z = in-range s (r .formed) .context .sizes in record { servers = z .most; quota = z .highest }
+
+  id-in : (k : ℕ) (a : Action) → at (queue (s .log)) k ≡ some a → IdRange (contextOf s) (a .id)
+  id-in k a e = each-at (ActionRange (contextOf s)) (queue (s .log)) k a (in-range s (r .formed) .actions) e .id
+
+  pub id-low : (k : ℕ) (a : Action) → at (queue (s .log)) k ≡ some a → slot (a .id) < 2048
+  id-low k a e = slot-lt (contextOf s) (a .id) small (id-in k a e)
+
+  pub queue-once : Once (queue (s .log))
+  unfolding idsIn
+  queue-once d =
+      omega (arith, log-fits s (r .formed) .once d, count-map (sameId d) (λ (a : Action). a .id) (queue (s .log)))
+
+  -- Actions at different places have different places in the table.
+  pub slots-apart : (i j : ℕ) (x y : Action) → at (queue (s .log)) i ≡ some x → at (queue (s .log)) j ≡ some y → (i ≡ j → ⊥)
+      → slot (x .id) ≡ slot (y .id) → ⊥
+  slots-apart i j x y e f n h = go (known (sameId (x .id) (y .id)))
+    where
+      go : Known (sameId (x .id) (y .id)) → ⊥
+      go (holds t) = n (same-place (queue (s .log)) queue-once i j x y e f t)
+      go (fails t) = other-slot (contextOf s) (x .id) (y .id) small (id-in i x e) (id-in j y f) t (sym h)
+
+  -- What stands at the place k.
+  pub read-at : (k : ℕ) → k < queueCount b → at (queue (s .log)) k ≡ some (actionAt b (queueAt b + slotSize * k))
+  read-at k h = ap (λ (l : List Action). at l k) (sym (queue-read s b r)) ∙ actions-at (queueCount b) b (queueAt b) k h
+
+  pub read-id : (k : ℕ) (a : Action) → at (queue (s .log)) k ≡ some a → idAt b (queueAt b + slotSize * k) ≡ a .id
+  unfolding actionAt
+  read-id k a e =
+      let h : k < queueCount b = omega (arith, at-low (queue (s .log)) k a e, numbers s b r .queue) in
+      ap (λ (x : Action). x .id) (some-same (sym (read-at k h) ∙ e))
+
+pub entry-made : (b : List ℕ) (k p x y r : ℕ) → p ≡ queueAt b → x ≡ numberAt 1 b (p + slotSize * k) → y ≡ numberAt 2 b (p + slotSize * k + 1)
+    → r ≡ slot (idOf x y) → r ≡ slot (idAt b (queueAt b + slotSize * k))
+unfolding idAt idOf
+entry-made b k p x y r e f g m =
+    let same : idOf x y ≡ idAt b (queueAt b + slotSize * k) =
+    (λ i. idOf (f i) (g i)) ∙ (λ i. idAt b (e i + slotSize * k)) in
+    m ∙ ap slot same
+
+pub entry-in : (b : List ℕ) (k p x y : ℕ) → Stated b → k < queueCount b → p ≡ queueAt b → x ≡ numberAt 1 b (p + slotSize * k)
+    → y ≡ numberAt 2 b (p + slotSize * k + 1)
+    → InTable x y
+unfolding idAt idOf contextOf
+entry-in b k p x y s h e f g =
+    let w : Server = decoded b in
+    let a : Action = actionAt b (queueAt b + slotSize * k) in
+    let there = read-at w b (s .holds) k h in
+    let z = id-in w b (s .holds) k a there in
+    let m = small w b (s .holds) in
+    let d : idOf x y ≡ a .id = (λ i. idOf (f i) (g i)) ∙ (λ i. idAt b (e i + slotSize * k)) ∙ read-id w b (s .holds) k a there in
+    let c : x ≡ a .id .creator = ap (λ (j : Id). j .creator) d in
+    let i : y ≡ a .id .index = ap (λ (j : Id). j .index) d in
+    record { creator = omega arith; least = omega arith; most = omega arith }
+
+-- ---- filled
+
+-- The table has the places of the red actions before k.
+pub record Filled (k : ℕ) (t b : List ℕ) : Type 0 where
+  pub size : length t ≡ mostServers * mostQuota
+  pub low : greenCount b ≤ k
+  pub high : k ≤ queueCount b
+  pub right : (j : ℕ) (a : Action) → length (logIn b .green) ≤ j → j < k → at (queue (logIn b)) j ≡ some a → getD t (slot (a .id)) 0 ≡ j
+
+module _ (b : List ℕ) (s : Stated b) where
+  pub green-read : greenCount b ≡ length (logIn b .green)
+  unfolding logIn
+  green-read = numbers (decoded b) b (s .holds) .green
+
+  pub queue-count : queueCount b ≡ length (logIn b .green) + length (logIn b .red)
+  unfolding logIn
+  queue-count = numbers (decoded b) b (s .holds) .queue ∙ queue-parts ((decoded b) .log)
+
+  pub filled-start : (k : ℕ) (t : List ℕ) → k ≡ numberAt 4 b 23 → t ≡ replicate {A = ℕ} 2048 0 → Filled k t b
+  filled-start k t e f = record {
+    size = ap length f ∙ length-replicate {A = ℕ} 2048 0;
+    low = omega arith;
+    high = omega (arith, s .counts .green);
+    right = λ j a h l m. absurd (omega (arith, green-read));
+  }
+
+  pub filled-again : (k p n : ℕ) (t : List ℕ) → Filled k t b → n ≡ numberAt 4 b 19 → k < n → p ≡ slot (idAt b (queueAt b + slotSize * k)) → p < 2048
+      → Filled (k + 1) (set t p k) b
+  unfolding logIn
+  filled-again k p n t f count h e l = record {
+    size = length-set t p k ∙ f .size;
+    low = omega (arith, f .low);
+    high = omega arith;
+    right = right;
+  }
+    where
+      right : (j : ℕ) (a : Action) → length ((decoded b) .log .green) ≤ j → j < k + 1 → at (queue ((decoded b) .log)) j ≡ some a
+          → getD (set t p k) (slot (a .id)) 0 ≡ j
+      right j a low lt m = go (ℕ-discrete j k)
+        where
+          here : (i : ℕ) (x : Action) → i ≡ k → at (queue ((decoded b) .log)) i ≡ some x → p ≡ slot (x .id)
+          here i x q n = e ∙ ap (λ (z : ℕ). slot (idAt b (queueAt b + slotSize * z))) (sym q) ∙ ap slot (read-id (decoded b) b (s .holds) i x n)
+
+          go : Dec (j ≡ k) → getD (set t p k) (slot (a .id)) 0 ≡ j
+          go (yes q) = ap (λ (z : ℕ). getD (set t p k) z 0) (sym (here j a q m)) ∙ getD-set-same t p k 0 (omega (arith, f .size)) ∙ sym q
+          go (no q) =
+              let x : Action = actionAt b (queueAt b + slotSize * k) in
+              let there : at (queue ((decoded b) .log)) k ≡ some x = read-at (decoded b) b (s .holds) k (omega arith) in
+              let apart : slot (a .id) ≡ p → ⊥ = λ z. slots-apart (decoded b) b (s .holds) j k a x m there q (z ∙ here k x refl there) in
+              getD-set-other t p (slot (a .id)) k 0 apart ∙ f .right j a low (omega arith) m
+
+  pub filled-end : (k n : ℕ) (t : List ℕ) → Filled k t b → n ≡ numberAt 4 b 19 → n ≤ k → Indexed t b
+  unfolding logIn
+  filled-end k n t f m h = record {
+    stated = s;
+    size = f .size;
+    right = λ j a low z. f .right j a low (omega (arith, at-low (queue ((decoded b) .log)) j a z, numbers (decoded b) b (s .holds) .queue)) z;
+  }

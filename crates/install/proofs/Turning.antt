@@ -1,0 +1,104 @@
+-- Actions turned green one after the other, in a buffer.
+-- Assumes nothing.
+use Prim.Native.Nat.{ℕ, _+_, _*_, _≤_}
+use mathlib.Core.Path.{_≡_, refl, sym, ap, subst, _∙_}
+use mathlib.Core.Bool.{true}
+use mathlib.Core.List.{List, [], _++_}
+use mathlib.Core.Option.{some}
+use native.Mathlib.Omega.{arith}
+use lib.ListN.{length, getD}
+use Rattle.base.specs.Lists.{at}
+use Rattle.format.specs.Limits.{mostServers, mostQuota}
+use Rattle.format.specs.Types.{Id, Action}
+use Rattle.format.specs.Write.{cutsBytes}
+use Rattle.record.specs.Values.{slot}
+use Rattle.replication.specs.Machine.Types.{Log, Server, withLog}
+use Rattle.replication.specs.Machine.WellFormed.{queue, wellFormed}
+use Rattle.engine.specs.Layout.{slotSize}
+use Rattle.engine.specs.Image.{actionSlots, image}
+use Rattle.engine.specs.Decode.{decoded}
+use Rattle.engine.proofs.Used.{action-slots-length}
+use Rattle.engine.proofs.Fit.{well-formed-fits}
+use Rattle.engine.proofs.InPlace.{Holds}
+use Rattle.queue.proofs.Holding.{log-formed, log-fits, holds-counts, holds-decoded, image-holds}
+use Rattle.queue.proofs.GreenLaws.{log-image-over}
+use Rattle.lists.proofs.Counts.{holds-counts as holds-lists}
+use Rattle.install.specs.Swaps.{greenSwaps}
+use Rattle.install.specs.Table.{Stated, logIn, Indexed, Turned}
+use Rattle.install.proofs.SwapFits.{swaps-kept, swaps-fits, swaps-append}
+
+pub holds-stated : (s : Server) (b : List ℕ) → Holds s b → Stated b
+holds-stated s b r =
+    record { holds = subst (λ (t : Server). Holds t b) (sym (holds-decoded s b r)) r; counts = holds-counts s b r; lists = holds-lists s b r }
+
+-- ---- the state that is left
+
+pub swaps-formed : (s : Server) (ds : List Id) → wellFormed s ≡ true → wellFormed (withLog (greenSwaps ds (s .log)) s) ≡ true
+swaps-formed s ds ok =
+    log-formed s (greenSwaps ds (s .log)) ok (swaps-fits (s .servers) (s .quota) (s .me) ds (s .log) (log-fits s ok)) (swaps-kept ds (s .log) .numbered)
+
+module _ (s : Server) (b c : List ℕ) (r : Holds s b) (ds : List Id) (e : c ≡ image (withLog (greenSwaps ds (s .log)) s) b) where
+  pub swaps-hold : Holds (withLog (greenSwaps ds (s .log)) s) c
+  swaps-hold =
+      let t : Server = withLog (greenSwaps ds (s .log)) s in
+      subst (Holds t) (sym e) (image-holds s t b r refl refl (swaps-formed s ds (r .formed)))
+
+  pub swaps-decoded : decoded c ≡ withLog (greenSwaps ds (s .log)) s
+  swaps-decoded = holds-decoded (withLog (greenSwaps ds (s .log)) s) c swaps-hold
+
+-- What the buffer says after that.
+pub turned-decoded : (ds : List Id) (b u c : List ℕ) → Stated b → Turned ds b u c → decoded c ≡ withLog (greenSwaps ds (logIn b)) (decoded b)
+unfolding logIn
+turned-decoded ds b u c s e = swaps-decoded (decoded b) b c (s .holds) ds (e .written)
+
+-- ---- one after the other
+
+-- One image over another.
+swaps-over : (s : Server) (ds es : List Id) (b : List ℕ) → Holds s b
+    → image (withLog (greenSwaps es (greenSwaps ds (s .log))) s) (image (withLog (greenSwaps ds (s .log)) s) b) ≡ image (withLog (greenSwaps es (greenSwaps ds (s .log))) s) b
+swaps-over s ds es b r =
+    let l : Log = greenSwaps ds (s .log) in
+    let m : Log = greenSwaps es l in
+    let ok : wellFormed (withLog l s) ≡ true = swaps-formed s ds (r .formed) in
+    let f = well-formed-fits (withLog l s) ok in
+    let g = well-formed-fits (withLog m s) (swaps-formed (withLog l s) es ok) in
+    let k = swaps-kept es l in
+    let actions : length (actionSlots (queue m)) ≡ length (actionSlots (queue l)) =
+    action-slots-length (queue m) (g .actions) ∙ ap (λ (i : ℕ). slotSize * i) (k .count) ∙ sym (action-slots-length (queue l) (f .actions)) in
+    let cuts : length (cutsBytes (m .cuts)) ≡ length (cutsBytes (l .cuts)) = ap (λ (x : List ℕ). length (cutsBytes x)) (k .cuts) in
+    let own : length (actionSlots (m .own)) ≡ length (actionSlots (l .own)) = ap (λ (x : List Action). length (actionSlots x)) (k .own) in
+    log-image-over s l m b ok (r .long) (omega arith) (omega arith) (omega arith)
+
+pub turned-append : (ds es : List Id) (b t₁ b₁ t₂ b₂ : List ℕ) → Stated b → Turned ds b t₁ b₁ → Turned es b₁ t₂ b₂ → Turned (ds ++ es) b t₂ b₂
+unfolding logIn
+turned-append ds es b t₁ b₁ t₂ b₂ s e f =
+    let v : Server = decoded b in
+    let l : Log = greenSwaps ds (v .log) in
+    let d : decoded b₁ ≡ withLog l v = turned-decoded ds b t₁ b₁ s e in
+    record {
+      written =
+          f .written
+          ∙ (λ i. image (withLog (greenSwaps es ((d i) .log)) (d i)) (e .written i))
+          ∙ swaps-over v ds es b (s .holds)
+          ∙ ap (λ (m : Log). image (withLog m v) b) (sym (swaps-append ds es (v .log)));
+      indexed = f .indexed;
+    }
+
+pub turned-none : (b t : List ℕ) → Indexed t b → Turned [] b t b
+unfolding greenSwaps logIn
+turned-none b t r = record { written = sym (r .stated .holds .written); indexed = r }
+
+-- ---- a table by the state
+
+module _ (s : Server) (b t : List ℕ) (r : Holds s b) (size : length t ≡ mostServers * mostQuota)
+    (right : (k : ℕ) (a : Action) → length (s .log .green) ≤ k → at (queue (s .log)) k ≡ some a → getD t (slot (a .id)) 0 ≡ k) where
+  pub indexed-by : Indexed t b
+  unfolding logIn
+  indexed-by = record {
+    stated = holds-stated s b r;
+    size = size;
+    right =
+        subst
+        (λ (v : Server). (k : ℕ) (a : Action) → length (v .log .green) ≤ k → at (queue (v .log)) k ≡ some a → getD t (slot (a .id)) 0 ≡ k)
+        (sym (holds-decoded s b r)) right;
+  }

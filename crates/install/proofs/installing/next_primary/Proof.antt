@@ -1,0 +1,15 @@
+use Rattle.replication.specs.Machine.Install.{installVotes}
+use Rattle.engine.specs.Header.{headerOf, lastOf, markNumbers}
+use borrow.Author.Needs.{needs}
+use Rattle.install.proofs.installing.next_primary.Statement.{statement}
+use Rattle.install.proofs.installing.next_primary.Tie as tie
+
+add-t6 : tie.Need-add-t6
+add-t6 c = search needs
+
+returns : tie.Need-returns
+unfolding installVotes headerOf lastOf markNumbers
+returns c = λ s e. rw e
+
+pub next-primary-spec : {M : Type 1} → statement M
+next-primary-spec = tie.close (tie.spec add-t6 returns)

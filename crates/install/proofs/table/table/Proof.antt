@@ -1,0 +1,70 @@
+use Rattle.install.proofs.TableLaws.{Filled, filled-start, filled-again, filled-end}
+use Prim.Native.Nat.{_-_}
+use borrow.Author.Needs.{needs}
+use Rattle.install.proofs.table.table.Statement.{statement}
+use Rattle.install.proofs.table.table.Tie as tie
+
+abbrev Inv-loop : tie.InvT-loop
+Inv-loop state places₀ count k₀ places k = Filled k places state
+
+abbrev μ-loop : tie.MeasureT-loop
+μ-loop state places₀ count k₀ places k = count - k
+
+num32-requires : tie.Need-num32-requires Inv-loop μ-loop
+num32-requires c κs = search needs
+
+cast-count : tie.Need-cast-count Inv-loop μ-loop
+cast-count c = search needs
+
+num32-requires-2 : tie.Need-num32-requires-2 Inv-loop μ-loop
+num32-requires-2 c κs = search needs
+
+cast-k : tie.Need-cast-k Inv-loop μ-loop
+cast-k c = search needs
+
+loop-holds : tie.Need-loop-holds Inv-loop μ-loop
+loop-holds c = search (needs, filled-start)
+
+entry-at-requires : tie.Need-entry-at-requires Inv-loop μ-loop
+entry-at-requires c κs = search needs
+
+cast-places : tie.Need-cast-places Inv-loop μ-loop
+cast-places c = search needs
+
+mul-places : tie.Need-mul-places Inv-loop μ-loop
+mul-places c = search needs
+
+array-write-places : tie.Need-array-write-places Inv-loop μ-loop
+array-write-places c = search needs
+
+add-k : tie.Need-add-k Inv-loop μ-loop
+add-k c = search needs
+
+loop-less : tie.Need-loop-less Inv-loop μ-loop
+loop-less c = search needs
+
+loop-again : tie.Need-loop-again Inv-loop μ-loop
+loop-again c = search (needs, filled-again)
+
+returns : tie.Need-returns Inv-loop μ-loop
+returns c = search (needs, filled-end)
+
+pub table-spec : {M : Type 1} → statement M
+table-spec =
+    tie.close
+    (tie.spec
+    Inv-loop
+    μ-loop
+    num32-requires
+    cast-count
+    num32-requires-2
+    cast-k
+    loop-holds
+    entry-at-requires
+    cast-places
+    mul-places
+    array-write-places
+    add-k
+    loop-less
+    loop-again
+    returns)

@@ -1,0 +1,65 @@
+use Rattle.install.proofs.TurnLaws.{turned-passed, turned-swapped}
+use borrow.Author.Needs.{needs}
+use Rattle.install.proofs.table.turn_green.Statement.{statement}
+use Rattle.install.proofs.table.turn_green.Tie as tie
+
+red-at-requires : tie.Need-red-at-requires
+red-at-requires c κs = search needs
+
+num32-requires : tie.Need-num32-requires
+num32-requires c κs = search needs
+
+cast-if1 : tie.Need-cast-if1
+cast-if1 c = search needs
+
+same-length : tie.Need-same-length
+same-length c = search needs
+
+returns : tie.Need-returns
+returns c = search (needs, turned-passed)
+
+num32-requires-2 : tie.Need-num32-requires-2
+num32-requires-2 c κs = search needs
+
+cast-entry-at : tie.Need-cast-entry-at
+cast-entry-at c = search needs
+
+entry-at-requires : tie.Need-entry-at-requires
+entry-at-requires c κs = search needs
+
+green-at-requires : tie.Need-green-at-requires
+green-at-requires c κs = search needs
+
+cast-places : tie.Need-cast-places
+cast-places c = search needs
+
+mul-places : tie.Need-mul-places
+mul-places c = search needs
+
+element-write-places : tie.Need-element-write-places
+element-write-places c = search needs
+
+same-length-2 : tie.Need-same-length-2
+same-length-2 c = search needs
+
+returns-2 : tie.Need-returns-2
+returns-2 c = search (needs, turned-swapped)
+
+pub turn-green-spec : {M : Type 1} → statement M
+turn-green-spec =
+    tie.close
+    (tie.spec
+    red-at-requires
+    num32-requires
+    cast-if1
+    same-length
+    returns
+    num32-requires-2
+    cast-entry-at
+    entry-at-requires
+    green-at-requires
+    cast-places
+    mul-places
+    element-write-places
+    same-length-2
+    returns-2)

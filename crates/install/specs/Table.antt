@@ -1,0 +1,57 @@
+-- The table of places: where in the queue the red action of an id stands.
+-- Assumes nothing.
+use Prim.Native.Nat.{ℕ, _+_, _*_, _≤_, _<_}
+use mathlib.Core.Path.{_≡_}
+use mathlib.Core.List.{List, map}
+use mathlib.Core.Option.{some}
+use lib.ListN.{length, getD}
+use Rattle.base.specs.Lists.{above, at}
+use Rattle.format.specs.Limits.{mostServers, mostQuota}
+use Rattle.format.specs.Types.{Id, Action}
+use Rattle.record.specs.Values.{idOf, slot}
+use Rattle.replication.specs.Machine.Types.{Log, withLog}
+use Rattle.replication.specs.Machine.Colours.{cut}
+use Rattle.replication.specs.Machine.WellFormed.{queue}
+use Rattle.engine.specs.Image.{image}
+use Rattle.engine.specs.Decode.{decoded}
+use Rattle.engine.proofs.InPlace.{Holds}
+use Rattle.queue.specs.Queue.{position, CountsIn}
+use Rattle.lists.specs.Lists.{CountsIn as ListsIn}
+use Rattle.install.specs.Swaps.{greenSwaps}
+
+-- The buffer b holds a state: what it says. So its numbers are in range.
+pub record Stated (b : List ℕ) : Type 0 where
+  pub holds : Holds (decoded b) b
+  pub counts : CountsIn b
+  pub lists : ListsIn b
+
+unfoldable pub logIn : List ℕ → Log
+logIn b = (decoded b) .log
+
+unfoldable pub yellowsIn : List ℕ → List Id
+yellowsIn b = (decoded b) .votes .yellow .ids
+
+-- The ids of the creator c up to its cut.
+unfoldable pub idsOf : ℕ → List ℕ → List Id
+idsOf c b = map (idOf c) (above 0 (cut (logIn b) c))
+
+-- The place in the queue of the red action with the id d: the number of actions where there is none.
+unfoldable pub redPlace : Id → List ℕ → ℕ
+redPlace d b = length (logIn b .green) + position d (logIn b .red)
+
+-- An id that has a place in the table.
+pub record InTable (c i : ℕ) : Type 0 where
+  pub creator : c < mostServers
+  pub least : 1 ≤ i
+  pub most : i ≤ mostQuota
+
+-- The table t has each red action's place in the queue at its id; what it has at other ids does not matter.
+pub record Indexed (t b : List ℕ) : Type 0 where
+  pub stated : Stated b
+  pub size : length t ≡ mostServers * mostQuota
+  pub right : (k : ℕ) (a : Action) → length (logIn b .green) ≤ k → at (queue (logIn b)) k ≡ some a → getD t (slot (a .id)) 0 ≡ k
+
+-- The actions with the ids ds turned green one after the other: the buffer b became c, and u is a table of c.
+pub record Turned (ds : List Id) (b u c : List ℕ) : Type 0 where
+  pub written : c ≡ image (withLog (greenSwaps ds (logIn b)) (decoded b)) b
+  pub indexed : Indexed u c

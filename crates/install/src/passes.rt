@@ -1,0 +1,64 @@
+// The ids in Install's order, each turned green: a pass over the yellow list and one over the cuts.
+ghost use mathlib.Core.List.{[], _∷_};
+ghost use Prim.Native.Nat.{_+_, _≤_, _<_};
+ghost use lib.ListN.{length};
+ghost use Rattle.base.specs.Bytes.{numberAt};
+ghost use Rattle.format.specs.Read.{idAt};
+ghost use Rattle.replication.specs.Machine.Install.{idsUpTo};
+ghost use Rattle.queue.specs.Queue.{serversOf};
+ghost use Rattle.install.specs.Table.{logIn, yellowsIn, idsOf, InTable, Indexed, Turned};
+use crate::table::PLACES;
+use crate::table::turn_green;
+use lists::yellow::yellow_place;
+use record::bytes::num8;
+use record::bytes::num16;
+
+// The action with the id at `at` turns green if it is red.
+fn turn_at(state: &mut [u8], places: &mut [u16; PLACES], at: usize)
+    requires { ⌜ Indexed (now places) (now state) × (at + 3 ≤ length (now state)) × InTable (numberAt 1 (now state) at) (numberAt 2 (now state) (at + 1)) ⌝ }
+    ensures { λ _. ⌜ Turned (idAt (now (state .entry)) at ∷ []) (now (state .entry)) (now (places .exit)) (now (state .exit)) ⌝ }
+{
+    let creator = num8(state, at);
+    let index = num16(state, at + 1);
+    turn_green(state, places, creator, index);
+}
+
+// "yellow list green in order, ids not held passed over"
+pub fn turn_yellow(state: &mut [u8], places: &mut [u16; PLACES])
+    requires { ⌜ Indexed (now places) (now state) ⌝ }
+    ensures { λ _. ⌜ Turned (yellowsIn (now (state .entry))) (now (state .entry)) (now (places .exit)) (now (state .exit)) ⌝ }
+{
+    let at = yellow_place(state);
+    let count = num16(state, 58) as usize;
+    let mut j: usize = 0;
+    while j < count {
+        turn_at(state, places, at + 3 * j);
+        j += 1;
+    }
+}
+
+// One creator's actions by their indexes.
+fn turn_creator(state: &mut [u8], places: &mut [u16; PLACES], creator: u8)
+    requires { ⌜ Indexed (now places) (now state) × (creator < serversOf (now state)) ⌝ }
+    ensures { λ _. ⌜ Turned (idsOf creator (now (state .entry))) (now (state .entry)) (now (places .exit)) (now (state .exit)) ⌝ }
+{
+    let cut = num16(state, 60 + 2 * creator as usize);
+    let mut i: u16 = 0;
+    while i < cut {
+        turn_green(state, places, creator, i + 1);
+        i += 1;
+    }
+}
+
+// "all other reds green by creator, then index"
+pub fn turn_rest(state: &mut [u8], places: &mut [u16; PLACES])
+    requires { ⌜ Indexed (now places) (now state) ⌝ }
+    ensures { λ _. ⌜ Turned (idsUpTo 0 (logIn (now (state .entry)) .cuts)) (now (state .entry)) (now (places .exit)) (now (state .exit)) ⌝ }
+{
+    let n = num8(state, 0);
+    let mut c: u8 = 0;
+    while c < n {
+        turn_creator(state, places, c);
+        c += 1;
+    }
+}

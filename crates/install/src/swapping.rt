@@ -1,0 +1,34 @@
+// An action turns green: it and the lowest red one change places, so that no other slot moves.
+ghost use mathlib.Core.Path.{_≡_};
+ghost use Prim.Native.Nat.{_+_, _*_, _≤_, _<_};
+ghost use lib.ListN.{length};
+ghost use Rattle.engine.specs.Layout.{slotSize};
+ghost use Rattle.queue.specs.Queue.{queueCount, greenCount, CountsIn};
+ghost use Rattle.install.specs.Swaps.{exchanged, greenAt};
+use queue::places::queue_place;
+use queue::slots::slot_at;
+use record::blocks::copy;
+use record::bytes::num32;
+use stores::put32;
+
+// The slots from i on and from j on change places.
+fn exchange(state: &mut [u8], i: usize, j: usize)
+    requires { ⌜ (i + slotSize ≤ length (now state)) × (j + slotSize ≤ length (now state)) ⌝ }
+    ensures { λ _. ⌜ now (state .exit) ≡ exchanged i j (now (state .entry)) ⌝ }
+{
+    let x = slot_at(state, i);
+    let y = slot_at(state, j);
+    copy(state, i, &y);
+    copy(state, j, &x);
+}
+
+// The red action at the place k of the queue turns green: it and the lowest red one change places.
+pub fn green_at(state: &mut [u8], k: usize)
+    requires { ⌜ CountsIn (now state) × (greenCount (now state) ≤ k) × (k < queueCount (now state)) ⌝ }
+    ensures { λ _. ⌜ now (state .exit) ≡ greenAt k (now (state .entry)) ⌝ }
+{
+    let green = num32(state, 23);
+    let at = queue_place(state);
+    exchange(state, at + 56 * green as usize, at + 56 * k);
+    put32(state, 23, green + 1);
+}

@@ -1,0 +1,91 @@
+// The table of places: at each id, where in the queue its action stands if it is red. Any other entry is told by the place that it names: the
+// action there is not red, or has another id.
+ghost use mathlib.Core.Path.{_≡_};
+ghost use mathlib.Core.List.{[], _∷_};
+ghost use Prim.Native.Nat.{_+_, _*_, _≤_, _<_};
+ghost use Rattle.format.specs.Read.{idAt};
+ghost use Rattle.record.specs.Values.{idOf, slot};
+ghost use Rattle.engine.specs.Layout.{slotSize};
+ghost use Rattle.queue.specs.Queue.{queueCount, greenCount, queueAt};
+ghost use Rattle.install.specs.Table.{Stated, redPlace, InTable, Indexed, Turned};
+use crate::swapping::green_at;
+use queue::finding::has_id;
+use queue::places::queue_place;
+use record::State;
+use record::bytes::num8;
+use record::bytes::num16;
+use record::bytes::num32;
+
+pub const PLACES: usize = State::MOST_SERVERS as usize * State::MOST_QUOTA as usize;
+
+// The place of an id in the table.
+fn entry(creator: u8, index: u16) -> usize
+    requires { ⌜ InTable creator index ⌝ }
+    ensures { λ r. ⌜ (r ≡ slot (idOf creator index)) × (r < 2048) ⌝ }
+{
+    creator as usize * State::MOST_QUOTA as usize + (index as usize - 1)
+}
+
+// The same for the action at the place k of the queue.
+fn entry_at(state: &[u8], k: usize) -> usize
+    requires { ⌜ Stated (now state) × (k < queueCount (now state)) ⌝ }
+    ensures { λ r. ⌜ (r ≡ slot (idAt (now (state .entry)) (queueAt (now (state .entry)) + slotSize * k))) × (r < 2048) ⌝ }
+{
+    let at = queue_place(state) + 56 * k;
+    entry(num8(state, at), num16(state, at + 1))
+}
+
+// The table of the red actions.
+pub fn table(state: &[u8]) -> [u16; PLACES]
+    requires { ⌜ Stated (now state) ⌝ }
+    ensures { λ r. ⌜ Indexed r (now (state .entry)) ⌝ }
+{
+    let mut places: [u16; PLACES] = [0; PLACES];
+    let count = num32(state, 19) as usize;
+    let mut k = num32(state, 23) as usize;
+    while k < count {
+        let p = entry_at(state, k);
+        places[p] = k as u16;
+        k += 1;
+    }
+    places
+}
+
+fn wide(k: u16) -> usize
+    ensures { λ r. ⌜ r ≡ k ⌝ }
+{
+    k as usize
+}
+
+// The place in the queue of the red action with this id: the number of actions where there is none.
+fn red_at(state: &[u8], places: &[u16; PLACES], creator: u8, index: u16) -> usize
+    requires { ⌜ Indexed (now places) (now state) × InTable creator index ⌝ }
+    ensures { λ r. ⌜ (r ≡ redPlace (idOf creator index) (now (state .entry))) × (greenCount (now (state .entry)) ≤ r) ⌝ }
+{
+    let k = wide(places[entry(creator, index)]);
+    let count = num32(state, 19) as usize;
+    if k < num32(state, 23) as usize {
+        return count;
+    }
+    if count <= k {
+        return count;
+    }
+    if has_id(state, queue_place(state) + 56 * k, creator, index) {
+        return k;
+    }
+    count
+}
+
+// The action with this id turns green if it is red: the lowest red one takes its place.
+pub fn turn_green(state: &mut [u8], places: &mut [u16; PLACES], creator: u8, index: u16)
+    requires { ⌜ Indexed (now places) (now state) × InTable creator index ⌝ }
+    ensures { λ _. ⌜ Turned (idOf creator index ∷ []) (now (state .entry)) (now (places .exit)) (now (state .exit)) ⌝ }
+{
+    let k = red_at(state, places, creator, index);
+    if num32(state, 19) as usize <= k {
+        return;
+    }
+    let lowest = entry_at(state, num32(state, 23) as usize);
+    green_at(state, k);
+    places[lowest] = k as u16;
+}

@@ -1,0 +1,54 @@
+-- Buffers that hold a state, and changes of whole parts of it.
+-- Assumes nothing.
+use Prim.Native.Nat.{ℕ, _+_, _*_, _≤_}
+use mathlib.Core.List.{List, []}
+use mathlib.Core.Option.{none}
+use lib.ListN.{length}
+use Rattle.base.specs.Bytes.{numberAt}
+use Rattle.format.specs.Limits.{mostServers, mostQuota}
+use Rattle.replication.specs.Machine.Types.{Non-prim, Votes, Server, withMembership, withHeld, noStates}
+use Rattle.engine.specs.Layout.{headerSize, slotSize, theOwn}
+use Rattle.engine.specs.Decode.{serversIn, quotaIn}
+use Rattle.engine.specs.Header.{lastOf, markNumbers}
+use Rattle.engine.proofs.InPlace.{Holds}
+use Rattle.queue.specs.Queue.{queueAt}
+use Rattle.queue.specs.Queue as Queue
+use Rattle.lists.specs.Lists.{place, CountsIn}
+use Rattle.lists.specs.declared.votes.VoteNumbers.{VoteNumbers}
+
+-- The buffer holds some state.
+pub record HoldsSome (b : List ℕ) : Type 0 where
+  pub state : Server
+  pub holds : Holds state b
+
+-- The same, and a yellow list of these bytes has room in it.
+pub record HoldsWithRoom (e b : List ℕ) : Type 0 where
+  pub some : HoldsSome b
+  pub short : length e ≤ 3 * (serversIn b * quotaIn b)
+
+-- The own actions have room behind the queue.
+pub record EnterRoom (b : List ℕ) : Type 0 where
+  pub counts : CountsIn b
+  pub queue : Queue.CountsIn b
+  pub header : headerSize ≤ length b
+  pub before : place theOwn b + slotSize * numberAt 2 b 29 ≤ queueAt b
+  pub room : queueAt b + (slotSize * numberAt 4 b 19 + slotSize * numberAt 2 b 29) ≤ length b
+  pub cut : headerSize + 2 * numberAt 1 b 3 + 2 ≤ length b
+  pub few : numberAt 4 b 19 ≤ mostServers * mostQuota
+
+-- The numbers of votes: all but the yellow ids.
+unfoldable pub voteNumbers : Votes → VoteNumbers
+voteNumbers v = record {
+  last = lastOf (v .last);
+  attempt = record { 0 = v .attempt };
+  mark = markNumbers (v .mark);
+  «yellow_status» = v .yellow .status;
+  «yellow_count» = length (v .yellow .ids);
+}
+
+-- "Non_prim, no configuration, holds and States dropped"
+unfoldable pub dropped : Server → Server
+dropped s =
+    withMembership
+    (record { mode = Non-prim; configuration = none; transitional = none; states = noStates (s .servers); cpcs = s .membership .cpcs; come = s .membership .come })
+    (withHeld [] s)
