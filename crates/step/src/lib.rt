@@ -12,7 +12,6 @@ pub mod installing; // installing.rt: Install
 pub mod resending; // resending.rt: one's part of the plan
 pub mod exchanging; // exchanging.rt: States and retransmissions, and the end of an exchange
 pub mod events; // events.rt: each kind of event
-pub mod recovering; // recovering.rt: recovery
 pub mod taking; // taking.rt: an event as it comes
 
 use state_check::state_number;

@@ -1,16 +1,15 @@
-use Rattle.step.proofs.TakingLaws.{recovery-done}
-use Rattle.step.proofs.ConfigurationLaws.{such-header}
+use Rattle.step.proofs.TakingLaws.{such-some, recovery-done}
 use borrow.Author.Needs.{needs}
 use Rattle.step.proofs.taking.recovered.Statement.{statement}
 use Rattle.step.proofs.taking.recovered.Tie as tie
 use Rattle.step.proofs.taking.recovered.Reads as reads
 use Rattle.step.proofs.taking.recovered.Lts as lts
 use Rattle.step.proofs.Answer.stored.Reads as stored-reads
-use Rattle.step.proofs.recovering.recover.Reads as recover-reads
+use Rattle.lists.proofs.recovery.recover.Reads as recover-reads
 
 -- src/taking.rt:78:5
 recover-requires : tie.Need-recover-requires
-recover-requires c κs = search (needs, such-header)
+recover-requires c κs = search (needs, such-some)
 
 -- src/taking.rt:79:5
 stored-requires : tie.Need-stored-requires
