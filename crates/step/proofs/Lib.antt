@@ -1,4 +1,5 @@
 pub mod Chained
 pub mod ColoursLaws
+pub mod Installed
 pub mod InstallingLaws
 pub mod RowsLaws
