@@ -1,5 +1,6 @@
 pub mod Chained
 pub mod ColoursLaws
+pub mod Installed
 pub mod InstallingLaws
 pub mod RowsLaws
 pub mod LentLaws
