@@ -16,7 +16,7 @@ use Rattle.format.specs.Write.{cutsBytes, idsBytes}
 use Rattle.format.proofs.Lengths.{cuts-length, ids-length}
 use Rattle.replication.specs.Machine.Types.{Server, contextOf}
 use Rattle.replication.specs.Machine.WellFormed.{queue, wellFormed}
-use Rattle.engine.specs.Layout.{heldSize, slotSize, sections, sectionSize, stateSize, theCuts, theNoted, theHeld, theStates, theYellow, theOwn, theQueue, stateLength}
+use Rattle.engine.specs.Layout.{heldSize, slotSize, sections, sectionSize, stateSize, theCuts, theNoted, theHeld, theStates, theYellow, theOwn, theQueue, stateLength, outLength}
 use Rattle.engine.specs.Image.{over, headerBytes, notedBytes, statesOver, actionSlots, heldSlots, section, parts, image}
 use Rattle.engine.proofs.InRange.{InRange, in-range}
 use Rattle.engine.proofs.Used.{action-slots-length, held-slots-length, noted-length, states-over-again}
@@ -27,7 +27,7 @@ use Rattle.queue.proofs.GreenLaws.{over-over}
 use Rattle.queue.proofs.SlotLaws.{slots-append}
 use Rattle.lists.proofs.NumberLaws.{held-append}
 use Rattle.lists.proofs.YellowLaws.{ids-append}
-use Rattle.step.specs.Answers.{HoldsSuch}
+use Rattle.step.specs.Answers.{HoldsSuch, LentSuch}
 
 -- A buffer holds one state.
 pub holds-one : (s t : Server) (b : List ℕ) → Holds s b → Holds t b → s ≡ t
@@ -36,6 +36,12 @@ holds-one s t b r k = sym (holds-decoded s b r) ∙ holds-decoded t b k
 -- What is known of a state that the buffer holds is known of any.
 pub such-fact : (P : Server → Type 0) (b : List ℕ) (s : Server) → HoldsSuch P b → Holds s b → P s
 such-fact P b s h r = subst P (holds-one (h .state) s b (h .holds) r) (h .fact)
+
+pub lent-fact : (P : Server → Type 0) (b o : List ℕ) (s : Server) → LentSuch P b o → Holds s b → P s
+lent-fact P b o s h r = subst P (holds-one (h .state) s b (h .holds) r) (h .fact)
+
+pub lent-room : (P : Server → Type 0) (b o : List ℕ) (s : Server) → LentSuch P b o → Holds s b → outLength (s .servers) (s .quota) ≤ length o
+lent-room P b o s h r = subst (λ (t : Server). outLength (t .servers) (t .quota) ≤ length o) (holds-one (h .state) s b (h .holds) r) (h .room)
 
 -- ---- from s to t, then from t to u
 

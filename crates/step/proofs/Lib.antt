@@ -1,4 +1,13 @@
 pub mod Chained
 pub mod ColoursLaws
+pub mod Covering
+pub mod EndLaws
+pub mod EndOverLaws
+pub mod ExchangeLaws
+pub mod ExchangeStates
 pub mod InstallingLaws
+pub mod LentLaws
+pub mod OutcomeLaws
+pub mod RetransmissionLaws
 pub mod RowsLaws
+pub mod StatesLaws
