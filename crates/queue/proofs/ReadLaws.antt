@@ -40,7 +40,7 @@ own-read s b r = ap (λ (t : Server). t .log .own) (holds-decoded s b r)
 
 -- ---- one slot
 
-actions-at : (m : ℕ) (b : List ℕ) (p k : ℕ) → k < m → at (actionsAt m b p) k ≡ some (actionAt b (p + slotSize * k))
+pub actions-at : (m : ℕ) (b : List ℕ) (p k : ℕ) → k < m → at (actionsAt m b p) k ≡ some (actionAt b (p + slotSize * k))
 unfolding actionsAt at
 actions-at zero b p k h = absurd (omega arith)
 actions-at (suc m) b p zero h = let e : p ≡ p + slotSize * 0 = omega arith in ap (λ (i : ℕ). some (actionAt b i)) e
