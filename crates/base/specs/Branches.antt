@@ -5,7 +5,7 @@ use mathlib.Core.Path.{_≡_, refl, sym, _∙_}
 use mathlib.Core.Bool.{Bool, true, false, not}
 use lib.Dec.{eqb, leb, ltb}
 use borrow.Author.Tests.{not-true, not-false}
-use Rattle.base.specs.Tests.{_≤?_, _<?_, _=?_, _and_, pick, and-yes, and-no, pick-yes, pick-no}
+use Rattle.base.specs.Tests.{_≤?_, _<?_, _=?_, _and_, _or_, pick, not-both, and-yes, and-no, pick-yes, pick-no}
 
 pub told-le : (m n : ℕ) → leb m n ≡ (m ≤? n)
 unfolding _≤?_
@@ -28,6 +28,32 @@ pub and-false : (t : Bool) → false ≡ (t and false)
 unfolding _and_
 and-false true = refl
 and-false false = refl
+
+pub or-false : (t : Bool) → (t or false) ≡ t
+unfolding _or_
+or-false true = refl
+or-false false = refl
+
+pub or-assoc : (t u v : Bool) → (t or u or v) ≡ ((t or u) or v)
+unfolding _or_
+or-assoc true u v = refl
+or-assoc false u v = refl
+
+pub or-yes : (t u : Bool) → t ≡ true → true ≡ (t or u)
+unfolding _or_
+or-yes true u h = refl
+or-yes false u h = not-both h
+
+pub or-no : (r t u : Bool) → t ≡ false → r ≡ u → r ≡ (t or u)
+unfolding _or_
+or-no r false u h e = e
+or-no r true u h e = not-both (sym h)
+
+-- Two tests that hold together.
+pub same-truth : (t u : Bool) → (t ≡ true → u ≡ true) → (u ≡ true → t ≡ true) → t ≡ u
+same-truth true u f g = sym (f refl)
+same-truth false true f g = g refl
+same-truth false false f g = refl
 
 -- b is what a call answered to the test t.
 

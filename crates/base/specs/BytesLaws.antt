@@ -29,6 +29,21 @@ unfolding numbersAt
 numbers-length w zero e at = refl
 numbers-length w (suc m) e at = ap suc (numbers-length w m e (at + w))
 
+pub numbers-at : (w m : ℕ) (e : List ℕ) (at k : ℕ) → k < m → getD (numbersAt w m e at) k 0 ≡ numberAt w e (at + w * k)
+unfolding numbersAt
+numbers-at w zero e at k h = absurd (omega arith)
+numbers-at w (suc m) e at zero h = let f : at ≡ at + w * 0 = omega arith in ap (numberAt w e) f
+numbers-at w (suc m) e at (suc k) h =
+    let f : at + w + w * k ≡ at + w * suc k = omega arith in
+    numbers-at w m e (at + w) k (omega arith) ∙ ap (numberAt w e) f
+
+pub number-drop : (w : ℕ) (b : List ℕ) (p at : ℕ) → numberAt w (drop p b) at ≡ numberAt w b (p + at)
+unfolding numberAt
+number-drop zero b p at = refl
+number-drop (suc w) b p at =
+    let z : p + (at + w) ≡ p + at + w = omega arith in
+    rw (number-drop w b p at, getD-drop p b (at + w) 0, z)
+
 pub joined-append : {A : Type 0} (xs ys : List (List A)) → joined (xs ++ ys) ≡ joined xs ++ joined ys
 unfolding joined
 joined-append [] ys = refl

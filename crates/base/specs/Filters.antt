@@ -1,9 +1,9 @@
 -- Laws of filters, and of tests on every element.
 -- Assumes nothing.
-use mathlib.Core.Path.{_≡_, refl, ap, _∙_}
-use mathlib.Core.Bool.{Bool, true}
+use mathlib.Core.Path.{_≡_, refl, sym, ap, _∙_}
+use mathlib.Core.Bool.{Bool, true, false}
 use mathlib.Core.List.{List, [], _∷_, _++_, List·Memᴰ, List·Memᴰ·head, List·Memᴰ·tail}
-use Rattle.base.specs.Tests.{pick, and-holds, both-yes, Known, holds, fails, known}
+use Rattle.base.specs.Tests.{pick, pick-yes, pick-no, and-holds, both-yes, Known, holds, fails, known}
 use Rattle.base.specs.Lists.{all, filter}
 
 module _ {A : Type 0} where
@@ -15,6 +15,14 @@ module _ {A : Type 0} where
       go : Known (t a) → filter t (x ++ y) ≡ filter t x ++ filter t y → filter t (a ∷ (x ++ y)) ≡ filter t (a ∷ x) ++ filter t y
       go (holds e) h = rw e (ap (λ z. a ∷ z) h)
       go (fails e) h = rw e h
+
+  pub filter-yes : (t : A → Bool) (a : A) (x : List A) → t a ≡ true → filter t (a ∷ x) ≡ a ∷ filter t x
+  unfolding filter
+  filter-yes t a x h = sym (pick-yes _ _ _ _ h refl)
+
+  pub filter-no : (t : A → Bool) (a : A) (x : List A) → t a ≡ false → filter t (a ∷ x) ≡ filter t x
+  unfolding filter
+  filter-no t a x h = sym (pick-no _ _ _ _ h refl)
 
   -- Two tests that agree on every element.
   pub filter-same : (t u : A → Bool) (x : List A) → ((a : A) → List·Memᴰ a x → t a ≡ u a) → filter t x ≡ filter u x

@@ -80,6 +80,11 @@ module _ {A : Type 0} where
   each-at P (y ∷ ys) zero x h e = let f : y ≡ x = cc in rw (← f) (h .0)
   each-at P (y ∷ ys) (suc i) x h e = each-at P ys i x (h .1) e
 
+  pub each-there : (P : A → Type 0) (xs : List A) (d : A) (k : ℕ) → k < length xs → Each P xs → P (getD xs k d)
+  each-there P [] d k h e = absurd (omega arith)
+  each-there P (x ∷ xs) d zero h e = e .0
+  each-there P (x ∷ xs) d (suc k) h e = each-there P xs d k (omega arith) (e .1)
+
   front-length : (x : Option A) (xs : List A) → length (atFront x xs) ≤ suc (length xs)
   unfolding atFront
   front-length none xs = omega arith

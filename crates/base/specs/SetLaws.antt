@@ -1,13 +1,14 @@
 -- Laws of sets of servers: members of a union, of a common part and of a set with one more, inclusion by members, bounds.
 -- Assumes nothing.
 use Prim.Native.Nat.{ℕ, zero, suc, _-_, _<_, _/_, _%_, _^_, min, max}
-use mathlib.Core.Path.{_≡_, refl, sym, ap, _∙_}
-use mathlib.Core.Bool.{true, false}
+use mathlib.Core.Path.{_≡_, refl, sym, ap, ap₂, _∙_}
+use mathlib.Core.Bool.{Bool, true, false}
 use native.Mathlib.Nat.{mod-lt, div-add-mod', div-one, pow-succ', pow-zero, div-div-eq-div-mul, pow-le-pow-right, one-le-pow}
 use native.Mathlib.Omega.{arith}
 use lib.Dec.{eqb·suc-suc}
 use lib.Bits.{bitAnd, bitOr, and-step, or-step, or-lt, and-le-l, and-zero-l}
-use Rattle.base.specs.Tests.{_and_, _or_, _=?_, not-both, eq-yes, eq-no, eq-holds, and-holds}
+use Rattle.base.specs.Tests.{_and_, _or_, _=?_, pick, not-both, eq-yes, eq-no, eq-holds, and-holds}
+use Rattle.base.specs.Branches.{or-false}
 use Rattle.base.specs.Sets.{inSet, inside, withMember, common, union, everyone}
 
 -- ---- bounds
@@ -107,6 +108,17 @@ in-single (suc j) (suc k) = rw (in-set-suc j (2 ^ suc k), power-half k, in-singl
 pub in-with-member : (j k s : ℕ) → inSet j (withMember k s) ≡ (inSet j s or j =? k)
 unfolding withMember union
 in-with-member j k s = in-union j s (2 ^ k) ∙ (rw (in-single j k))
+
+-- One member more, or not.
+pub member-other : (t : Bool) (j k s : ℕ) → (j ≡ k → ⊥) → inSet j (pick t (withMember k s) s) ≡ inSet j s
+unfolding pick
+member-other true j k s h = in-with-member j k s ∙ ap (λ (u : Bool). inSet j s or u) (eq-no j k h) ∙ or-false (inSet j s)
+member-other false j k s h = refl
+
+pub member-same : (t : Bool) (k s : ℕ) → inSet k s ≡ false → inSet k (pick t (withMember k s) s) ≡ t
+unfolding pick _or_
+member-same true k s h = in-with-member k k s ∙ ap₂ {A = Bool} {B = Bool} {C = Bool} (λ u v. u or v) h (eq-yes k k refl)
+member-same false k s h = h
 
 pub in-everyone : (n k : ℕ) → k < n → inSet k (everyone n) ≡ true
 unfolding everyone

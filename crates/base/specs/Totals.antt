@@ -14,7 +14,7 @@ unfoldable pub total : ℕ → (ℕ → ℕ) → ℕ
 total zero f = 0
 total (suc n) f = total n f + f n
 
-sum-append : (x y : List ℕ) → sum (x ++ y) ≡ sum x + sum y
+pub sum-append : (x y : List ℕ) → sum (x ++ y) ≡ sum x + sum y
 unfolding sum
 sum-append [] y = omega arith
 sum-append (a ∷ x) y = omega (arith, sum-append x y)

@@ -73,7 +73,7 @@ step-refused b e o z = go (known (tooShort b o)) (known (reads b))
 
 -- ---- buffers whose number is 0
 
-formed-sizes : (s : Server) → wellFormed s ≡ true → sizesOk (s .servers) (s .quota) ≡ true
+pub formed-sizes : (s : Server) → wellFormed s ≡ true → sizesOk (s .servers) (s .quota) ≡ true
 unfolding wellFormed ranges contextOk contextOf
 formed-sizes s ok = and-holds _ _ (and-holds _ _ (and-holds _ _ ok .0) .0) .0
 

@@ -8,13 +8,13 @@ use mathlib.Core.Option.{Option, none, some}
 use native.Mathlib.Nat.{add-zero, one-le-pow}
 use native.Mathlib.Omega.{arith}
 use lib.ListN.{length, getD, take, drop}
-use Rattle.base.specs.Tests.{_or_, pick, pick-yes, pick-no, eq-yes, eq-no}
+use Rattle.base.specs.Tests.{pick, pick-yes, pick-no}
 use Rattle.base.specs.Bytes.{bytesOf, numberAt, numbersAt, joined}
 use Rattle.base.specs.Lists.{isThere}
 use Rattle.base.specs.ListLaws.{Each}
 use Rattle.base.specs.Occurs.{Occurs, occurs-first, occurs-second, occurs-at, occurs-drop, joined-parts, number-read}
 use Rattle.base.specs.Sets.{inSet, withMember}
-use Rattle.base.specs.SetLaws.{in-empty, in-with-member, with-member-below}
+use Rattle.base.specs.SetLaws.{in-empty, member-other, member-same, with-member-below}
 use Rattle.format.specs.Limits.{mostServers, mostQuota}
 use Rattle.format.specs.Types.{Action, State, Context, state, kindNumber, kindOf}
 use Rattle.format.specs.Write.{write, framed, bodyOf, stateBytes, actionBytes, payloadBytes}
@@ -55,22 +55,6 @@ noted-read (x ∷ l) e at r o =
     ap₂ {A = ℕ} {B = List ℕ} {C = List ℕ} (λ y ys. y ∷ ys) first rest
 
 -- ---- the set of those whose State is in
-
-or-false : (t : Bool) → (t or false) ≡ t
-unfolding _or_
-or-false true = refl
-or-false false = refl
-
--- One server more, or not: the others are in as before.
-member-other : (t : Bool) (j k s : ℕ) → (j ≡ k → ⊥) → inSet j (pick t (withMember k s) s) ≡ inSet j s
-unfolding pick
-member-other true j k s h = in-with-member j k s ∙ ap (λ (u : Bool). inSet j s or u) (eq-no j k h) ∙ or-false (inSet j s)
-member-other false j k s h = refl
-
-member-same : (t : Bool) (k s : ℕ) → inSet k s ≡ false → inSet k (pick t (withMember k s) s) ≡ t
-unfolding pick _or_
-member-same true k s h = in-with-member k k s ∙ ap₂ {A = Bool} {B = Bool} {C = Bool} (λ u v. u or v) h (eq-yes k k refl)
-member-same false k s h = h
 
 pub senders-from : (k : ℕ) (xs : List (Option State)) (j : ℕ) → j < k → inSet j (senders k xs) ≡ false
 unfolding senders

@@ -1,8 +1,8 @@
 -- The parts that are read of bytes, written again, occur where they were read.
 -- Assumes nothing.
-use Prim.Native.Nat.{ℕ, zero, suc, _+_, _*_, _≤_}
+use Prim.Native.Nat.{ℕ, zero, suc, _+_, _*_, _-_, _≤_, _<_}
 use mathlib.Core.Path.{_≡_, refl, sym, ap, subst, _∙_}
-use mathlib.Core.List.{List}
+use mathlib.Core.List.{List, _∷_}
 use native.Mathlib.Omega.{arith}
 use lib.ListN.{length}
 use Rattle.base.specs.Bytes.{Bytes, bytesOf, numberAt, numbersAt, partAt}
@@ -75,6 +75,14 @@ pub ids-number : (m : ℕ) (e : List ℕ) (at : ℕ) → length (idsAt m e at) �
 unfolding idsAt
 ids-number zero e at = refl
 ids-number (suc m) e at = ap suc (ids-number m e (at + 3))
+
+-- The first of those that are left.
+pub ids-more : (e : List ℕ) (at k m : ℕ) → k < m → idsAt (m - k) e (at + 3 * k) ≡ idAt e (at + 3 * k) ∷ idsAt (m - (k + 1)) e (at + 3 * (k + 1))
+unfolding idsAt
+ids-more e at k m h =
+    let a : m - k ≡ suc (m - (k + 1)) = omega arith in
+    let b : at + 3 * (k + 1) ≡ at + 3 * k + 3 = omega arith in
+    ap (λ (i : ℕ). idsAt i e (at + 3 * k)) a ∙ rw b
 
 pub yellow-written : (e : List ℕ) (at : ℕ) → Bytes e → at + 3 + 3 * numberAt 2 e (at + 1) ≤ length e → Occurs (yellowBytes (yellowAt e at)) e at
 unfolding yellowBytes yellowAt bytesOf

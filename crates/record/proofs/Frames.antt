@@ -54,7 +54,7 @@ retransmission-good e m s p a f h g i j n =
 abbrev stateIn : StateHead → ℕ → StateAt
 stateIn h at = record { head = h; «cuts_at» = 9; «yellow_at» = at + 31 }
 
-state-is : (n : ℕ) (e : List ℕ) → stateFrom (stateIn (headIn n e (9 + 2 * n)) (9 + 2 * n)) e ≡ stateAt n e
+pub state-is : (n : ℕ) (e : List ℕ) → stateFrom (stateIn (headIn n e (9 + 2 * n)) (9 + 2 * n)) e ≡ stateAt n e
 unfolding stateFrom stateOf headIn stateAt primaryOf componentOf lastIn primaryAt markOf markIn markAt yellowAt
 state-is n e =
     let a₁ : 9 + 2 * n + 4 ≡ 13 + 2 * n = omega arith in

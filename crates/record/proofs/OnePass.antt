@@ -38,7 +38,7 @@ slot-lt c x s h = omega arith
 
 -- The same id has the same place, and another in range has another.
 
-same-slot : (x y : Id) → sameId x y ≡ true → slot y ≡ slot x
+pub same-slot : (x y : Id) → sameId x y ≡ true → slot y ≡ slot x
 unfolding sameId slot
 same-slot x y h =
     let a = and-holds (x .creator =? y .creator) (x .index =? y .index) h in
@@ -46,7 +46,7 @@ same-slot x y h =
     let i : x .index ≡ y .index = eq-holds _ _ (a .1) in
     rw (d, i)
 
-other-slot : (c : Context) (x y : Id) → Small c → IdRange c x → IdRange c y → sameId x y ≡ false → slot y ≡ slot x → ⊥
+pub other-slot : (c : Context) (x y : Id) → Small c → IdRange c x → IdRange c y → sameId x y ≡ false → slot y ≡ slot x → ⊥
 unfolding slot sameId
 other-slot c x y s a b f e =
     let d : x .creator ≡ y .creator = omega arith in

@@ -66,7 +66,7 @@ ids-none : (e : List ℕ) (at k m : ℕ) → m ≤ k → idsAt (m - k) e at ≡ 
 unfolding idsAt
 ids-none e at k m h = let a : m - k ≡ 0 = omega arith in ap (λ (i : ℕ). idsAt i e at) a
 
-small : (c : Context) → ContextIn c → Small (contextOf c)
+pub small : (c : Context) → ContextIn c → Small (contextOf c)
 unfolding contextOf
 small c h = record { servers = h .most; quota = h .largest }
 
@@ -79,7 +79,7 @@ ids-start c e at m h =
 
 -- An id has a place below 2048 exactly where it is in range.
 
-place-out : (c : FormatContext) (x : Id) (p : ℕ) → Small c → Known (idOk c x) → p ≡ placeOf c x → 2048 ≤ p → idOk c x ≡ false
+pub place-out : (c : FormatContext) (x : Id) (p : ℕ) → Small c → Known (idOk c x) → p ≡ placeOf c x → 2048 ≤ p → idOk c x ≡ false
 unfolding placeOf
 place-out c x p s (holds e) f g =
     let a = slot-lt c x s (id-range c x e) in
@@ -87,7 +87,7 @@ place-out c x p s (holds e) f g =
     absurd (omega arith)
 place-out c x p s (fails e) f g = e
 
-place-in : (c : FormatContext) (x : Id) (p : ℕ) → Known (idOk c x) → p ≡ placeOf c x → p < 2048 → (idOk c x ≡ true) × (p ≡ slot x)
+pub place-in : (c : FormatContext) (x : Id) (p : ℕ) → Known (idOk c x) → p ≡ placeOf c x → p < 2048 → (idOk c x ≡ true) × (p ≡ slot x)
 unfolding placeOf
 place-in c x p (holds e) f g = (e, f ∙ sym (pick-yes (idOk c x) _ _ _ e refl))
 place-in c x p (fails e) f g =

@@ -26,7 +26,8 @@ pub enum Framed {
     Bad,
 }
 
-fn action_at(e: &[u8], at: usize) -> ActionAt
+// The action from `at` on.
+pub fn action_at(e: &[u8], at: usize) -> ActionAt
     requires { ⌜ at + 8 ≤ length (now e) ⌝ }
     ensures { λ r. ⌜ r ≡ actionIn (now (e .entry)) at ⌝ }
 {
@@ -66,7 +67,7 @@ pub fn mark_at(e: &[u8], at: usize) -> Mark
 }
 
 // The numbers of a State of this many servers. Those behind its cuts begin at `at`.
-fn state_head(e: &[u8], servers: u8, at: usize) -> StateHead
+pub fn state_head(e: &[u8], servers: u8, at: usize) -> StateHead
     requires { ⌜ (9 ≤ at) × (at + 31 ≤ length (now e)) ⌝ }
     ensures { λ r. ⌜ r ≡ headIn servers (now (e .entry)) at ⌝ }
 {

@@ -30,7 +30,7 @@ pub fn cuts_ok(e: &[u8], at: usize, n: usize, quota: u16) -> bool
 }
 
 // A place for each id that can be in range.
-const PLACES: usize = State::MOST_SERVERS as usize * State::MOST_QUOTA as usize;
+pub const PLACES: usize = State::MOST_SERVERS as usize * State::MOST_QUOTA as usize;
 
 // The place of an id in range, and PLACES for any other.
 fn place(c: Context, creator: u8, index: u16) -> usize
@@ -43,7 +43,7 @@ fn place(c: Context, creator: u8, index: u16) -> usize
     creator as usize * State::MOST_QUOTA as usize + (index as usize - 1)
 }
 
-fn place_at(c: Context, e: &[u8], at: usize) -> usize
+pub fn place_at(c: Context, e: &[u8], at: usize) -> usize
     requires { ⌜ ContextIn c × (at + 3 ≤ length (now e)) ⌝ }
     ensures { λ r. ⌜ r ≡ placeOf (contextOf c) (idAt (now (e .entry)) at) ⌝ }
 {

@@ -1,3 +1,4 @@
 pub mod Chained
 pub mod TableLaws
 pub mod ResendingLaws
+pub mod PlanLaws

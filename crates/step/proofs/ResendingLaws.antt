@@ -74,7 +74,8 @@ put-fits x o p h = sym (pick-le (p + length x) (length o) _ _ _ h refl)
 
 module _ (a : ActionAt) (b : List ℕ) (me position p : ℕ) (o o₁ : List ℕ) (w : Written) (h : a .«payload_length» ≤ 48) (l : p + 65 ≤ length o)
     (e : putOf w o₁
-    ≡ put (write (retransmission me position (actionOf (a .head) (take (a .«payload_at» + a .«payload_length» - a .«payload_at») (drop (a .«payload_at») b))))) p o) where
+    ≡ put (write (retransmission me position
+    (actionOf (a .head) (take (a .«payload_at» + a .«payload_length» - a .«payload_at») (drop (a .«payload_at») b))))) p o) where
   abbrev x : List ℕ
   x = write (retransmission me position (actionFrom a b))
 
@@ -118,7 +119,8 @@ module _ (a : ActionAt) (b : List ℕ) (me position p : ℕ) (o o₁ : List ℕ)
 
 -- ---- the slot k
 
-module _ (b : List ℕ) (k p : ℕ) (a : ActionAt) (q : QueueIn b) (h : k < queueCount b) (e : p ≡ queueAt b) (f : a ≡ actionIn b (p + slotSize * k)) where
+module _ (b : List ℕ) (k p : ℕ) (a : ActionAt) (q : QueueIn b) (h : k < queueCount b) (e : p ≡ queueAt b)
+    (f : a ≡ actionIn b (p + slotSize * k)) where
   read : a ≡ actionIn b (slotPlace b k)
   unfolding slotPlace
   read = f ∙ ap (λ (m : ℕ). actionIn b (m + slotSize * k)) e
@@ -201,7 +203,8 @@ module _ (f : ℕ → Option Record) where
   unfolding gather above after
   all-start low i o = let e : low - low ≡ 0 = omega arith in rw e (sends-none 0 i o)
 
-  pub all-again : (low high p i q r : ℕ) (o o₁ o₂ : List ℕ) → low ≤ p → i + 65 * (high - low) ≤ length o → Sends (p - low) (gather f (above low p)) i o o₁ q
+  pub all-again : (low high p i q r : ℕ) (o o₁ o₂ : List ℕ) → low ≤ p → i + 65 * (high - low) ≤ length o
+      → Sends (p - low) (gather f (above low p)) i o o₁ q
       → Sends 1 (oneOf (f (p + 1))) q o₁ o₂ r → Sends (p + 1 - low) (gather f (above low (p + 1))) i o o₂ r
   all-again low high p i q r o o₁ o₂ h l a b =
       let e : p - low + 1 ≡ p + 1 - low = omega arith in

@@ -50,7 +50,8 @@ module _ (b : List ℕ) (k p x y : ℕ) (q : QueueIn b) (h : k < queueCount b) (
   pub entry-in : InTable x y
   entry-in = subst (λ (m : ℕ). InTable m y) (sym (read .0)) (subst (InTable (numberAt 1 b (slotPlace b k))) (sym (read .1)) (q .ids k h))
 
-pub entry-made : (b : List ℕ) (k p x y r : ℕ) → QueueIn b → k < queueCount b → p ≡ queueAt b → x ≡ numberAt 1 b (p + slotSize * k) → y ≡ numberAt 2 b (p + slotSize * k + 1)
+pub entry-made : (b : List ℕ) (k p x y r : ℕ) → QueueIn b → k < queueCount b → p ≡ queueAt b → x ≡ numberAt 1 b (p + slotSize * k)
+    → y ≡ numberAt 2 b (p + slotSize * k + 1)
     → r ≡ slot (idOf x y) → r ≡ slot (idAt b (slotPlace b k))
 entry-made b k p x y r q h e f g m = m ∙ ap slot (same b k p x y q h e f g)
 
@@ -89,11 +90,13 @@ last-left (x ∷ l) zero a e = let f : x ≡ a = cc in ap (λ (y : Action). y �
 last-left (x ∷ l) (suc k) a e = last-left l k a e
 
 -- One entry more.
-module _ (l : List Action) (a : Action) (k p : ℕ) (t : List ℕ) (e : at l k ≡ some a) (r : InTable (a .id .creator) (a .id .index)) (o : p ≡ slot (a .id)) (h : p < 2048) (f : Filled (suc k) t l) where
+module _ (l : List Action) (a : Action) (k p : ℕ) (t : List ℕ) (e : at l k ≡ some a)
+    (r : InTable (a .id .creator) (a .id .index)) (o : p ≡ slot (a .id)) (h : p < 2048) (f : Filled (suc k) t l) where
   inside : p < length t
   inside = omega (arith, f .size)
 
-  more-names : (d : Id) → InTable (d .creator) (d .index) → Known (sameId d (a .id)) → named l (getD (set t p (suc k)) (slot d) 0) ≡ find d (a ∷ drop (suc k) l)
+  more-names : (d : Id) → InTable (d .creator) (d .index) → Known (sameId d (a .id))
+      → named l (getD (set t p (suc k)) (slot d) 0) ≡ find d (a ∷ drop (suc k) l)
   unfolding find pick named
   more-names d i (holds s) =
       let here : slot d ≡ p = ap slot (same-id-holds d (a .id) s) ∙ sym o in
@@ -116,7 +119,8 @@ again-at : (b : List ℕ) (k p : ℕ) (t : List ℕ) → QueueIn b → suc k ≤
     → Filled (suc k) t (queueIn b) → Filled k (set t p (suc k)) (queueIn b)
 unfolding queueIn actionAt idAt slotPlace
 again-at b k p t q h e f =
-    more (actionsAt (queueCount b) b (queueAt b)) (actionAt b (queueAt b + slotSize * k)) k p t (actions-at (queueCount b) b (queueAt b) k h) (q .ids k h) (e .0) (e .1) f
+    more (actionsAt (queueCount b) b (queueAt b)) (actionAt b (queueAt b + slotSize * k)) k p t
+    (actions-at (queueCount b) b (queueAt b) k h) (q .ids k h) (e .0) (e .1) f
     (omega (arith, actions-count (queueCount b) b (queueAt b)))
 
 pub filled-again : (b : List ℕ) (k p : ℕ) (t : List ℕ) → QueueIn b → 0 < k → k ≤ queueCount b → Filled k t (queueIn b)

@@ -2,20 +2,22 @@
 -- Assumes nothing.
 use Prim.Native.Nat.{ℕ, zero, suc, _+_, _*_, _-_, _≤_, _<_}
 use mathlib.Core.Path.{_≡_}
-use mathlib.Core.List.{List, []}
+use mathlib.Core.List.{List, [], _++_}
 use mathlib.Core.Option.{Option, none}
 use lib.ListN.{length, getD, take, drop}
 use Rattle.base.specs.Bytes.{numberAt}
-use Rattle.base.specs.Lists.{at, atFront}
+use Rattle.base.specs.Lists.{at, atFront, gatherAll, below}
 use Rattle.base.specs.Patched.{patched}
 use Rattle.format.specs.Limits.{mostServers, mostQuota, mostPayload}
 use Rattle.format.specs.Types.{Id, Action, Record}
 use Rattle.record.specs.Values.{idOf, slot}
 use Rattle.replication.specs.Machine.Colours.{find}
-use Rattle.replication.specs.Machine.Plan.{resent}
+use Rattle.replication.specs.Machine.Plan.{resent, resendGreen, resendRed}
+use Rattle.replication.specs.Machine.Step.{collected}
 use Rattle.engine.specs.Layout.{slotSize}
-use Rattle.engine.specs.Decode.{actionsAt}
-use Rattle.queue.specs.Queue.{CountsIn, queueCount, greenCount, queueAt}
+use Rattle.engine.specs.Decode.{actionsAt, decoded}
+use Rattle.engine.proofs.InPlace.{Holds}
+use Rattle.queue.specs.Queue.{CountsIn, serversOf, quotaOf, queueCount, greenCount, queueAt}
 use Rattle.step.specs.Answers.{recordBytes}
 
 -- ---- the queue of the buffer b
@@ -25,6 +27,10 @@ queueIn b = actionsAt (queueCount b) b (queueAt b)
 
 unfoldable pub greensIn : List ℕ → List Action
 greensIn b = take (greenCount b) (queueIn b)
+
+-- How many actions there can be.
+abbrev pub mostActions : List ℕ → ℕ
+mostActions b = serversOf b * quotaOf b
 
 -- Where the slot k of the queue begins.
 unfoldable pub slotPlace : List ℕ → ℕ → ℕ
@@ -55,6 +61,10 @@ pub record Filled (k : ℕ) (t : List ℕ) (l : List Action) : Type 0 where
   pub low : (i : ℕ) → getD t i 0 ≤ length l
   pub names : (d : Id) → InTable (d .creator) (d .index) → named l (getD t (slot d) 0) ≡ find d (drop k l)
 
+-- The table of the whole queue of the buffer b.
+abbrev pub TableOf : (t b : List ℕ) → Type 0
+TableOf t b = Filled 0 t (queueIn b)
+
 -- ---- what is sent
 
 -- The action at the place k.
@@ -79,3 +89,23 @@ pub record Sends (m : ℕ) (rs : List Record) (at : ℕ) (old new : List ℕ) (r
 -- One record or none.
 unfoldable pub oneOf : Option Record → List Record
 oneOf x = atFront x []
+
+-- ---- the plan's parts, of the state that the buffer b holds
+
+-- It holds what its bytes say.
+pub record Stated (b : List ℕ) : Type 0 where
+  pub holds : Holds (decoded b) b
+  pub queue : QueueIn b
+
+unfoldable pub greenPart : List ℕ → List Record
+greenPart b = resendGreen (decoded b .me) (decoded b .log) (collected (decoded b))
+
+unfoldable pub redPart : List ℕ → ℕ → List Record
+redPart b c = resendRed (decoded b .me) (decoded b .log) (collected (decoded b)) c
+
+-- Of the first n creators.
+unfoldable pub redParts : List ℕ → ℕ → List Record
+redParts b n = gatherAll (redPart b) (below n)
+
+unfoldable pub wholePart : List ℕ → List Record
+wholePart b = greenPart b ++ redParts b (serversOf b)

@@ -4,7 +4,7 @@ ghost use Prim.Native.Nat.{_<_};
 ghost use Rattle.format.specs.Read.{idAt};
 ghost use Rattle.record.specs.Values.{idOf, slot};
 ghost use Rattle.queue.specs.Queue.{queueCount};
-ghost use Rattle.step.specs.Resending.{queueIn, slotPlace, InTable, QueueIn, Filled};
+ghost use Rattle.step.specs.Resending.{slotPlace, InTable, QueueIn, TableOf};
 use queue::places::queue_place;
 use record::State;
 use record::bytes::num8;
@@ -33,7 +33,7 @@ fn entry_at(state: &[u8], k: usize) -> usize
 // One pass from the last action to the first: an entry is one more than the place of its action, and 0 where the id is not held.
 pub fn places(state: &[u8]) -> [u16; PLACES]
     requires { ⌜ QueueIn (now state) ⌝ }
-    ensures { λ r. ⌜ Filled 0 r (queueIn (now (state .entry))) ⌝ }
+    ensures { λ r. ⌜ TableOf r (now (state .entry)) ⌝ }
 {
     let mut table: [u16; PLACES] = [0; PLACES];
     let mut k = num32(state, 19) as usize;

@@ -1,46 +1,40 @@
 use borrow.Author.Needs.{needs}
 use Rattle.step.proofs.ResendingLaws.{all-start, all-again, all-end}
-use Rattle.step.specs.Resending.{queueIn, greensIn, atPosition, asRed, Sends}
+use Rattle.step.specs.Resending.{queueIn, asRed, Sends}
 use Rattle.base.specs.Lists.{gather, above}
 use Prim.Native.Nat.{_-_, _≤_}
 use native.Mathlib.Omega.{arith}
 use Rattle.step.proofs.resending.send_creator.Statement.{statement}
 use Rattle.step.proofs.resending.send_creator.Tie as tie
-use Rattle.step.proofs.resending.send_creator.Reads as reads
-use Rattle.step.proofs.resending.send_creator.Lts as lts
-use Rattle.step.proofs.resending.send_index.Reads as send-index-reads
 
 abbrev Inv-loop : tie.InvT-loop
-Inv-loop state out₀ at table me creator low high next₀ i₀ out next i = (low ≤ i) × (i - low ≤ high - low) × Sends (i - low) (gather (asRed me (queueIn state) creator) (above low i)) at out₀ out next
+Inv-loop state out₀ at table me creator low high next₀ i₀ out next i =
+    (low ≤ i) × (i - low ≤ high - low) × Sends (i - low) (gather (asRed me (queueIn state) creator) (above low i)) at out₀ out next
 
 abbrev μ-loop : tie.MeasureT-loop
 μ-loop state out₀ at table me creator low high next₀ i₀ out next i = high - i
 
--- src/resending.rt:126:5
 loop-holds : tie.Need-loop-holds Inv-loop μ-loop
 loop-holds c = (omega arith, omega arith, search (needs, all-start))
 
--- src/resending.rt:127:9
 add-i : tie.Need-add-i Inv-loop μ-loop
 add-i c = search needs
 
--- src/resending.rt:128:9
+cast-send-index : tie.Need-cast-send-index Inv-loop μ-loop
+cast-send-index c = search needs
+
 send-index-requires : tie.Need-send-index-requires Inv-loop μ-loop
 send-index-requires c κs = search needs
 
--- src/resending.rt:126:5
 loop-less : tie.Need-loop-less Inv-loop μ-loop
 loop-less c = search needs
 
--- src/resending.rt:126:5
 loop-again : tie.Need-loop-again Inv-loop μ-loop
 loop-again c = (omega arith, omega arith, search (needs, all-again))
 
--- src/resending.rt:111:1
 same-length : tie.Need-same-length Inv-loop μ-loop
 same-length c = search needs
 
--- src/resending.rt:111:1
 returns : tie.Need-returns Inv-loop μ-loop
 returns c = search (needs, all-end)
 
@@ -52,6 +46,7 @@ send-creator-spec =
     μ-loop
     loop-holds
     add-i
+    cast-send-index
     send-index-requires
     loop-less
     loop-again

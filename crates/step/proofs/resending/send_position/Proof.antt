@@ -2,32 +2,22 @@ use Rattle.step.proofs.ResendingLaws.{position-past, position-sent}
 use borrow.Author.Needs.{needs}
 use Rattle.step.proofs.resending.send_position.Statement.{statement}
 use Rattle.step.proofs.resending.send_position.Tie as tie
-use Rattle.step.proofs.resending.send_position.Reads as reads
-use Rattle.step.proofs.resending.send_position.Lts as lts
-use Rattle.record.proofs.bytes.num32.Reads as num32-reads
-use Rattle.step.proofs.resending.send_slot.Reads as send-slot-reads
 
--- src/resending.rt:63:8
 num32-requires : tie.Need-num32-requires
 num32-requires c κs = search needs
 
--- src/resending.rt:64:9
 returns : tie.Need-returns
 returns c = search (needs, position-past)
 
--- src/resending.rt:66:45
 sub-send-slot : tie.Need-sub-send-slot
 sub-send-slot c = search needs
 
--- src/resending.rt:66:5
 send-slot-requires : tie.Need-send-slot-requires
 send-slot-requires c κs = search needs
 
--- src/resending.rt:59:1
 same-length : tie.Need-same-length
 same-length c = search needs
 
--- src/resending.rt:59:1
 returns-2 : tie.Need-returns-2
 returns-2 c = search (needs, position-sent)
 

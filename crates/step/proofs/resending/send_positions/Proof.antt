@@ -6,41 +6,32 @@ use Prim.Native.Nat.{_-_, _≤_}
 use native.Mathlib.Omega.{arith}
 use Rattle.step.proofs.resending.send_positions.Statement.{statement}
 use Rattle.step.proofs.resending.send_positions.Tie as tie
-use Rattle.step.proofs.resending.send_positions.Reads as reads
-use Rattle.step.proofs.resending.send_positions.Lts as lts
-use Rattle.step.proofs.resending.send_position.Reads as send-position-reads
 
 abbrev Inv-loop : tie.InvT-loop
-Inv-loop state out₀ at me low high next₀ p₀ out next p = (low ≤ p) × (p - low ≤ high - low) × Sends (p - low) (gather (atPosition me (greensIn state)) (above low p)) at out₀ out next
+Inv-loop state out₀ at me low high next₀ p₀ out next p =
+    (low ≤ p) × (p - low ≤ high - low) × Sends (p - low) (gather (atPosition me (greensIn state)) (above low p)) at out₀ out next
 
 abbrev μ-loop : tie.MeasureT-loop
 μ-loop state out₀ at me low high next₀ p₀ out next p = high - p
 
--- src/resending.rt:76:5
 loop-holds : tie.Need-loop-holds Inv-loop μ-loop
 loop-holds c = (omega arith, omega arith, search (needs, all-start))
 
--- src/resending.rt:77:9
 add-p : tie.Need-add-p Inv-loop μ-loop
 add-p c = search needs
 
--- src/resending.rt:78:9
 send-position-requires : tie.Need-send-position-requires Inv-loop μ-loop
 send-position-requires c κs = search needs
 
--- src/resending.rt:76:5
 loop-less : tie.Need-loop-less Inv-loop μ-loop
 loop-less c = search needs
 
--- src/resending.rt:76:5
 loop-again : tie.Need-loop-again Inv-loop μ-loop
 loop-again c = (omega arith, omega arith, search (needs, all-again))
 
--- src/resending.rt:70:1
 same-length : tie.Need-same-length Inv-loop μ-loop
 same-length c = search needs
 
--- src/resending.rt:70:1
 returns : tie.Need-returns Inv-loop μ-loop
 returns c = search (needs, all-end)
 

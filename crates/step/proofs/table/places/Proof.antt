@@ -6,10 +6,6 @@ use Prim.Native.Nat.{_≤_}
 use borrow.Author.Needs.{needs}
 use Rattle.step.proofs.table.places.Statement.{statement}
 use Rattle.step.proofs.table.places.Tie as tie
-use Rattle.step.proofs.table.places.Reads as reads
-use Rattle.step.proofs.table.places.Lts as lts
-use Rattle.record.proofs.bytes.num32.Reads as num32-reads
-use Rattle.step.proofs.table.entry_at.Reads as entry-at-reads
 
 abbrev Inv-loop : tie.InvT-loop
 Inv-loop state table₀ k₀ table k = (k ≤ queueCount state) × Filled k table (queueIn state)
@@ -17,51 +13,39 @@ Inv-loop state table₀ k₀ table k = (k ≤ queueCount state) × Filled k tabl
 abbrev μ-loop : tie.MeasureT-loop
 μ-loop state table₀ k₀ table k = k
 
--- src/table.rt:32:17
 num32-requires : tie.Need-num32-requires Inv-loop μ-loop
 num32-requires c κs = search needs
 
--- src/table.rt:32:17
 cast-k : tie.Need-cast-k Inv-loop μ-loop
 cast-k c = search needs
 
--- src/table.rt:33:5
 loop-holds : tie.Need-loop-holds Inv-loop μ-loop
 loop-holds c = search (needs, filled-start)
 
--- src/table.rt:34:33
 sub-entry-at : tie.Need-sub-entry-at Inv-loop μ-loop
 sub-entry-at c = search needs
 
--- src/table.rt:34:13
 entry-at-requires : tie.Need-entry-at-requires Inv-loop μ-loop
 entry-at-requires c κs = search needs
 
--- src/table.rt:35:20
 cast-table : tie.Need-cast-table Inv-loop μ-loop
 cast-table c = search needs
 
--- src/table.rt:35:9
 mul-table : tie.Need-mul-table Inv-loop μ-loop
 mul-table c = search needs
 
--- src/table.rt:35:9
 array-write-table : tie.Need-array-write-table Inv-loop μ-loop
 array-write-table c = search needs
 
--- src/table.rt:36:9
 sub-k : tie.Need-sub-k Inv-loop μ-loop
 sub-k c = search needs
 
--- src/table.rt:33:5
 loop-less : tie.Need-loop-less Inv-loop μ-loop
 loop-less c = search needs
 
--- src/table.rt:33:5
 loop-again : tie.Need-loop-again Inv-loop μ-loop
 loop-again c = (omega arith, search (needs, filled-again))
 
--- src/table.rt:27:1
 returns : tie.Need-returns Inv-loop μ-loop
 returns c = search (needs, filled-end)
 

@@ -1,0 +1,132 @@
+-- The ids common to the yellow lists that count.
+-- Assumes nothing.
+use Prim.Native.Nat.{ℕ, zero, suc, _+_, _*_, _-_, _≤_, _<_}
+use mathlib.Core.Path.{_≡_, refl, sym, ap, subst, _∙_}
+use mathlib.Core.Bool.{Bool, true}
+use mathlib.Core.List.{List, [], _∷_}
+use native.Mathlib.Omega.{arith}
+use lib.ListN.{length, take, drop, replicate, length-replicate}
+use Rattle.base.specs.Tests.{_and_, and-holds, pick, pick-as}
+use Rattle.base.specs.Lists.{all, filter}
+use Rattle.base.specs.ListLaws.{Each, replicate-at}
+use Rattle.base.specs.Sets.{inSet}
+use Rattle.format.specs.Types.{Id, State, Yellow, Context as FormatContext}
+use Rattle.format.specs.Range.{idOk, hasId, idsInRange}
+use Rattle.format.specs.Read.{idsAt}
+use Rattle.format.specs.Write.{idsBytes}
+use Rattle.format.proofs.Ranges.{id-range}
+use Rattle.record.specs.Context.{contextOf, ContextIn}
+use Rattle.record.specs.declared.Context.{Context}
+use Rattle.replication.specs.Machine.Types.{noYellow}
+use Rattle.replication.specs.Machine.Exchange.{commonYellow, takenYellow}
+use Rattle.record.specs.Values.{slot}
+use Rattle.record.specs.declared.StateHead.{StateHead}
+use Rattle.record.proofs.OnePass.{Small}
+use Rattle.record.proofs.Turns.{small}
+use Rattle.exchange.specs.declared.slots.Slots.{Slots}
+use Rattle.exchange.specs.Slots.{First, withHere, slotAt, stateIn, statesFrom, statesOf, headOf}
+use Rattle.exchange.specs.Passing.{Voters}
+use Rattle.exchange.specs.Table.{isKept, keptIds, Listed, raisedLists, ListInside, ListsInside, ListsShort, ListsInRange}
+use Rattle.exchange.proofs.TableLaws.{table-decides}
+use Rattle.exchange.proofs.RaiseLaws.{ids-read}
+use Rattle.exchange.proofs.SlotLaws.{states-in, states-end}
+use Rattle.exchange.proofs.YellowLaws.{same-servers, voters-states}
+
+pub common-made : (c : FormatContext) (v : Slots) (b : List ℕ) (k at round r : ℕ) (t o : List ℕ) (x : StateHead)
+    → x ≡ headOf v b k → at ≡ slotAt v k
+    → round ≡ length (statesFrom v b (v .servers - (k + 1)) (k + 1))
+    → t ≡ raisedLists c 0 (replicate {A = ℕ} 2048 0) (statesFrom v b (v .servers - (k + 1)) (k + 1))
+    → Listed r o (filter (isKept c round t) (idsAt (x .«yellow_count») (take (length b - at) (drop at b)) (40 + 2 * v .servers)))
+    → Listed r o (keptIds c v b k)
+unfolding keptIds
+common-made c v b k at round r t o x h e f g i =
+    subst (Listed r o)
+    (ap (λ (l : List Id). filter (isKept c round t) l) (ids-read v b k at x h e) ∙ (λ j. filter (isKept c (f j) (g j)) (stateIn v b k .yellow .ids))) i
+
+-- ---- kept means: in every list
+
+filter-same : (t u : Id → Bool) (P : Id → Type 0) → ((d : Id) → P d → t d ≡ u d) → (ds : List Id) → Each P ds → filter t ds ≡ filter u ds
+unfolding filter
+filter-same t u P h [] e = refl
+filter-same t u P h (d ∷ ds) e =
+    let l : List Id = filter t ds in
+    ap (λ (y : Bool). pick y (d ∷ l) l) (h d (e .0)) ∙ ap (λ (m : List Id). pick (u d) (d ∷ m) m) (filter-same t u P h ds (e .1))
+
+each-in-range : (c : FormatContext) (ds : List Id) → idsInRange c ds ≡ true → Each (λ d. idOk c d ≡ true) ds
+unfolding idsInRange
+each-in-range c [] h = tt
+each-in-range c (d ∷ ds) h = let p = and-holds _ _ h in (p .0, each-in-range c ds (p .1))
+
+kept-all : (c : FormatContext) (ys : List State) (d : Id) → Small c → Each (λ y. idsInRange c (y .yellow .ids) ≡ true) ys → idOk c d ≡ true
+    → isKept c (length ys) (raisedLists c 0 (replicate {A = ℕ} 2048 0) ys) d ≡ all (λ y. hasId d (y .yellow .ids)) ys
+unfolding isKept _and_
+kept-all c ys d s e ok =
+    rw ok (table-decides c d s (id-range c d ok) (replicate {A = ℕ} 2048 0) ys (length-replicate {A = ℕ} 2048 0) (replicate-at {A = ℕ} 0 2048 (slot d)) e)
+
+-- Where the ids are in range, those kept are the ids common to all the lists.
+pub kept-common : (c : FormatContext) (v : Slots) (b : List ℕ) (k : ℕ) → Small c → idsInRange c (stateIn v b k .yellow .ids) ≡ true
+    → Each (λ y. idsInRange c (y .yellow .ids) ≡ true) (statesFrom v b (v .servers - (k + 1)) (k + 1))
+    → keptIds c v b k ≡ filter (λ d. all (λ y. hasId d (y .yellow .ids)) (statesFrom v b (v .servers - (k + 1)) (k + 1))) (stateIn v b k .yellow .ids)
+unfolding keptIds
+kept-common c v b k s e f =
+    filter-same _ _ (λ d. idOk c d ≡ true) (λ d ok. kept-all c (statesFrom v b (v .servers - (k + 1)) (k + 1)) d s f ok) (stateIn v b k .yellow .ids)
+    (each-in-range c (stateIn v b k .yellow .ids) e)
+
+-- ---- those of the updated group
+
+module _ (v w : Slots) (b : List ℕ) (set : ℕ) (g : Voters v b set) (e : w ≡ withHere set v) where
+  pub voters-inside : ListsInside v b → ListsInside w b
+  unfolding ListsInside ListInside withHere slotAt stateIn
+  voters-inside f = subst (λ (y : Slots). ListsInside y b) (sym e) (λ k l y. f k l (g .among k l y))
+
+  pub voters-short : (n : ℕ) → ListsShort v b n → ListsShort w b n
+  unfolding ListsShort withHere slotAt stateIn
+  voters-short n f = subst (λ (y : Slots). ListsShort y b n) (sym e) (λ k l y. f k l (g .among k l y))
+
+  pub voters-in-range : (c : FormatContext) → ListsInRange c v b → ListsInRange c w b
+  unfolding ListsInRange withHere slotAt stateIn
+  voters-in-range c f = subst (λ (y : Slots). ListsInRange c y b) (sym e) (λ k l y. f k l (g .among k l y))
+
+pub first-below : (v w : Slots) (set k : ℕ) → w ≡ withHere set v → k < v .servers → k < w .servers
+first-below v w set k e h = rw (same-servers v w set e) h
+
+pub first-inside : (w : Slots) (b : List ℕ) (k : ℕ) → ListsInside w b → First w k → k < w .servers → ListInside w b k
+unfolding ListsInside
+first-inside w b k f r h = f k h (r .there h)
+
+pub first-short : (w : Slots) (b : List ℕ) (k n : ℕ) → ListsShort w b n → First w k → k < w .servers → 3 * length (stateIn w b k .yellow .ids) ≤ n
+unfolding ListsShort
+first-short w b k n f r h = f k h (r .there h)
+
+each-from : (c : FormatContext) (v : Slots) (b : List ℕ) → ListsInRange c v b → (m k : ℕ) → k + m ≤ v .servers
+    → Each (λ y. idsInRange c (y .yellow .ids) ≡ true) (statesFrom v b m k)
+unfolding statesFrom ListsInRange
+each-from c v b f zero k h = tt
+each-from c v b f (suc m) k h =
+    pick-as (Each (λ y. idsInRange c (y .yellow .ids) ≡ true)) (inSet k (v .here)) _ _ (λ y. (f k (omega arith) y, each-from c v b f m (k + 1) (omega arith)))
+    (λ y. each-from c v b f m (k + 1) (omega arith))
+
+pub taken-ids-none : (c : FormatContext) (v w : Slots) (b : List ℕ) (set k : ℕ) (o : List ℕ) → Voters v b set → w ≡ withHere set v → First w k
+    → v .servers ≤ k
+    → ListsInRange c v b → Listed 0 o (takenYellow (statesOf v b) .ids)
+unfolding commonYellow noYellow idsBytes
+taken-ids-none c v w b set k o g e r h f =
+    let l : w .servers ≤ k = rw (same-servers v w set e) h in
+    let none : takenYellow (statesOf v b) .ids ≡ [] = ap (λ (y : Yellow). y .ids) (voters-states v w b set k g e r ∙ ap commonYellow (states-end w b k l)) in
+    subst (Listed 0 o) (sym none) (record { count = refl; bytes = refl })
+
+pub taken-ids-some : (c : Context) (v w : Slots) (b : List ℕ) (set k n : ℕ) (o : List ℕ) → ContextIn c → Voters v b set → w ≡ withHere set v
+    → First w k → k < v .servers
+    → Listed n o (keptIds (contextOf c) w b k) → ListsInRange (contextOf c) v b → Listed n o (takenYellow (statesOf v b) .ids)
+unfolding commonYellow ListsInRange
+taken-ids-some c v w b set k n o s g e r h i f =
+    let l : k < w .servers = first-below v w set k e h in
+    let range : ListsInRange (contextOf c) w b = voters-in-range v w b set g e (contextOf c) f in
+    subst (Listed n o)
+    (kept-common (contextOf c) w b k (small c s) (in-range-at (contextOf c) w b k range l (r .there l)) (each-from (contextOf c) w b range (w .servers - (k + 1)) (k + 1) (omega arith))
+    ∙ sym (ap (λ (y : Yellow). y .ids) (voters-states v w b set k g e r ∙ ap commonYellow (states-in w b k l (r .there l)))))
+    i
+  where
+    in-range-at : (c : FormatContext) (w : Slots) (b : List ℕ) (k : ℕ) → ListsInRange c w b → k < w .servers → inSet k (w .here) ≡ true
+        → idsInRange c (stateIn w b k .yellow .ids) ≡ true
+    in-range-at c w b k f = f k

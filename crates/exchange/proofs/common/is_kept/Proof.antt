@@ -1,0 +1,19 @@
+use Rattle.exchange.proofs.KeepLaws.{kept-out, kept-told}
+use borrow.Author.Needs.{needs}
+use Rattle.exchange.proofs.common.is_kept.Statement.{statement}
+use Rattle.exchange.proofs.common.is_kept.Tie as tie
+
+place-at-requires : tie.Need-place-at-requires
+place-at-requires c κs = search needs
+
+returns : tie.Need-returns
+returns c = search (needs, kept-out)
+
+shared-slice-read-result : tie.Need-shared-slice-read-result
+shared-slice-read-result c = search needs
+
+returns-2 : tie.Need-returns-2
+returns-2 c = search (needs, kept-told)
+
+pub is-kept-spec : {M : Type 1} → statement M
+is-kept-spec = tie.close (tie.spec place-at-requires returns shared-slice-read-result returns-2)

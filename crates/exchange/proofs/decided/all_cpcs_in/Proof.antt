@@ -1,0 +1,19 @@
+use Rattle.exchange.proofs.DecidedLaws.{cpcs-told}
+use borrow.Author.Needs.{needs}
+use Rattle.exchange.proofs.decided.all_cpcs_in.Statement.{statement}
+use Rattle.exchange.proofs.decided.all_cpcs_in.Tie as tie
+
+byte-requires : tie.Need-byte-requires
+byte-requires c κs = search needs
+
+byte-requires-2 : tie.Need-byte-requires-2
+byte-requires-2 c κs = search needs
+
+all-in-requires : tie.Need-all-in-requires
+all-in-requires c κs = search needs
+
+returns : tie.Need-returns
+returns c = search (needs, cpcs-told)
+
+pub all-cpcs-in-spec : {M : Type 1} → statement M
+all-cpcs-in-spec = tie.close (tie.spec byte-requires byte-requires-2 all-in-requires returns)

@@ -1,0 +1,41 @@
+use Rattle.exchange.proofs.RaiseLaws.{raise-out, raise-other, raise-here}
+use borrow.Author.Needs.{needs}
+use Rattle.exchange.proofs.table.raise_at.Statement.{statement}
+use Rattle.exchange.proofs.table.raise_at.Tie as tie
+
+place-at-requires : tie.Need-place-at-requires
+place-at-requires c κs = search needs
+
+returns : tie.Need-returns
+returns c = search (needs, raise-out)
+
+slice-read-if2 : tie.Need-slice-read-if2
+slice-read-if2 c = search needs
+
+returns-2 : tie.Need-returns-2
+returns-2 c = search (needs, raise-other)
+
+add-table : tie.Need-add-table
+add-table c = search needs
+
+slice-write-table : tie.Need-slice-write-table
+slice-write-table c = search needs
+
+same-length : tie.Need-same-length
+same-length c = search needs
+
+returns-3 : tie.Need-returns-3
+returns-3 c = search (needs, raise-here)
+
+pub raise-at-spec : {M : Type 1} → statement M
+raise-at-spec =
+    tie.close
+    (tie.spec
+    place-at-requires
+    returns
+    slice-read-if2
+    returns-2
+    add-table
+    slice-write-table
+    same-length
+    returns-3)

@@ -1,0 +1,25 @@
+-- Tests of marks that the code makes of two marks, or of a mark and a State.
+-- Assumes nothing.
+use Prim.Native.Nat.{ℕ}
+use mathlib.Core.Bool.{Bool, not}
+use mathlib.Core.List.{List}
+use Rattle.base.specs.Tests.{_and_, _or_, _=?_}
+use Rattle.base.specs.Sets.{inSet}
+use Rattle.format.specs.Types.{Mark, State}
+use Rattle.replication.specs.Machine.Exchange.{isMarked, sameAttempt, judgedMark}
+
+-- By the State x, rule (b) clears the mark m: `ruleB xs v` is `any (against (v .mark)) xs`.
+unfoldable pub against : Mark → State → Bool
+against m x = inSet (x .sender) (m .set) and (not (isMarked x) or not (sameAttempt m (x .mark)))
+
+-- "alike in index, attempt and set": `alike v x` is `likewise (v .mark) (x .mark)`.
+unfoldable pub likewise : Mark → Mark → Bool
+likewise m o = o .status =? 1 and sameAttempt m o and o .set =? m .set
+
+-- The mark with other bits: `keptMark xs v` is `withBits (joinedBits xs v) (v .mark)`.
+unfoldable pub withBits : ℕ → Mark → Mark
+withBits bits m = record { status = m .status; index = m .index; attempt = m .attempt; set = m .set; bits = bits }
+
+-- The mark of v is left: `markLeft xs` is `any (isLeft xs) xs`.
+unfoldable pub isLeft : List State → State → Bool
+isLeft xs v = judgedMark xs v .status =? 1

@@ -1,0 +1,89 @@
+// The table by which the ids common to several yellow lists are found: after r lists the place of an id holds r exactly if
+// each of them has it.
+ghost use mathlib.Core.Path.{_≡_};
+ghost use mathlib.Core.Bool.{true};
+ghost use Prim.Native.Nat.{ℕ, _+_, _*_, _-_, _≤_, _<_};
+ghost use lib.ListN.{length};
+ghost use Rattle.base.specs.Sets.{inSet};
+ghost use Rattle.base.specs.Tests.{pick};
+ghost use Rattle.format.specs.Read.{idAt, idsAt};
+ghost use Rattle.record.specs.Context.{contextOf, ContextIn};
+ghost use Rattle.exchange.specs.Slots.{Room, stateIn, statesFrom};
+ghost use Rattle.exchange.specs.Table.{raised, raisedAll, raisedLists, ListInside, ListsInside};
+use crate::slots::Slots;
+use crate::slots::has;
+use crate::slots::head;
+use crate::slots::place;
+use record::Context;
+use record::lists::PLACES;
+use record::lists::place_at;
+
+// An id of the list after `round` others.
+fn raise_at(c: Context, e: &[u8], at: usize, round: u8, table: &mut [u8])
+    requires { ⌜ ContextIn c × (at + 3 ≤ length (now e)) × (length (now table) ≡ 2048) × (round < 255) ⌝ }
+    ensures { λ _. ⌜ now (table .exit) ≡ raised (contextOf c) round (now (table .entry)) (idAt (now (e .entry)) at) ⌝ }
+{
+    let p = place_at(c, e, at);
+    if PLACES <= p {
+        return;
+    }
+    if table[p] != round {
+        return;
+    }
+    table[p] = round + 1;
+}
+
+// The `count` ids from `at` on.
+fn raise_list(c: Context, e: &[u8], at: usize, count: usize, round: u8, table: &mut [u8])
+    requires { ⌜ ContextIn c × (at + 3 * count ≤ length (now e)) × (length (now table) ≡ 2048) × (round < 255) ⌝ }
+    ensures { λ _. ⌜ now (table .exit) ≡ raisedAll (contextOf c) round (now (table .entry)) (idsAt count (now (e .entry)) at) ⌝ }
+{
+    let mut j = 0;
+    while j < count {
+        raise_at(c, e, at + 3 * j, round, table);
+        j += 1;
+    }
+}
+
+// The yellow list in the slot k.
+fn raise_slot(c: Context, v: Slots, state: &[u8], k: usize, round: u8, table: &mut [u8])
+    requires { ⌜ ContextIn c × Room v (now state) × (k < v .servers) × ListInside v (now state) k × (length (now table) ≡ 2048) × (round < 255) ⌝ }
+    ensures { λ _. ⌜ now (table .exit) ≡ raisedAll (contextOf c) round (now (table .entry)) (stateIn v (now (state .entry)) k .yellow .ids) ⌝ }
+{
+    let x = head(v, state, k);
+    let at = place(v, state, k);
+    raise_list(
+        c,
+        &state[at..],
+        40 + 2 * v.servers,
+        x.yellow_count as usize,
+        round,
+        table,
+    );
+}
+
+// The list in the slot k, if it is meant; how many lists there were then.
+fn raise_turn(c: Context, v: Slots, state: &[u8], k: usize, round: u8, table: &mut [u8]) -> u8
+    requires { ⌜ ContextIn c × Room v (now state) × (k < v .servers) × ListsInside v (now state) × (length (now table) ≡ 2048) × (round < 255) ⌝ }
+    ensures { λ r. ⌜ (r ≡ pick (inSet k (v .here)) (round + 1) round) × (now (table .exit) ≡ pick (inSet k (v .here)) (raisedAll (contextOf c) round (now (table .entry)) (stateIn v (now (state .entry)) k .yellow .ids)) (now (table .entry))) ⌝ }
+{
+    if !has(v.here, k) {
+        return round;
+    }
+    raise_slot(c, v, state, k, round, table);
+    round + 1
+}
+
+// The lists in the slots from `start` on, of the senders that are meant: how many there are.
+pub fn raise_lists(c: Context, v: Slots, state: &[u8], start: usize, table: &mut [u8]) -> u8
+    requires { ⌜ ContextIn c × Room v (now state) × (start ≤ v .servers) × ListsInside v (now state) × (length (now table) ≡ 2048) ⌝ }
+    ensures { λ r. ⌜ (r ≡ length (statesFrom v (now (state .entry)) (v .servers - start) start)) × (now (table .exit) ≡ raisedLists (contextOf c) 0 (now (table .entry)) (statesFrom v (now (state .entry)) (v .servers - start) start)) ⌝ }
+{
+    let mut round = 0;
+    let mut k = start;
+    while k < v.servers {
+        round = raise_turn(c, v, state, k, round, table);
+        k += 1;
+    }
+    round
+}
