@@ -23,6 +23,10 @@ guzbytor_lengths_answer guzbytor_lengths(uint32_t servers, uint32_t quota);
    range, and leaves the buffer as it was. */
 uint32_t guzbytor_start(uint8_t *state, size_t state_length, uint32_t servers, uint32_t quota, uint32_t me);
 
+/* Whether a step can begin: 7 where a buffer is too short, 8 where the state's buffer holds no well-formed state, and else 0. It changes
+   neither buffer. (crates/state_check/src/lib.rt; target/staticlib/libstate_check.a) */
+uint32_t guzbytor_state_check(const uint8_t *state, size_t state_length, const uint8_t *out, size_t out_length);
+
 #ifdef __cplusplus
 }
 #endif

@@ -17,6 +17,7 @@ pub mod Totals
 pub mod ListLaws
 pub mod SameLaws
 pub mod Sections
+pub mod Entries
 pub mod Counts
 pub mod SetLaws
 pub mod Quorums

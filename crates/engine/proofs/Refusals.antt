@@ -7,7 +7,7 @@ use mathlib.Core.List.{List}
 use mathlib.Core.Option.{Option, none, some}
 use native.Mathlib.Omega.{arith}
 use lib.ListN.{length}
-use Rattle.base.specs.Tests.{pick-yes, pick-no, and-holds, or-fails, lt-fails, Known, holds, fails, known}
+use Rattle.base.specs.Tests.{_=?_, pick, pick-yes, pick-no, and-holds, or-fails, eq-holds, eq-fails, lt-fails, Known, holds, fails, known}
 use Rattle.format.specs.Range.{sizesOk, contextOk}
 use Rattle.replication.specs.Machine.Types.{Server, contextOf}
 use Rattle.replication.specs.Machine.Step.{step}
@@ -97,3 +97,13 @@ zero-ready b o z =
       image = read-holds s b some-read (lt-fails (length b) (stateLength (serversIn b) (quotaIn b)) (long .0));
       room = lt-fails (length o) (outLength (serversIn b) (quotaIn b)) (long .1);
     }
+
+-- The step's answer by the number of its buffers: the machine's step of the state that they hold where it is 0, and else the refusal with it.
+pub step-by-number : (b e o : List ℕ) → stepOn b e o ≡ pick (stateNumber b o =? 0) (resultOf (step (decoded b) e) b o) (refusal (stateNumber b o) b o)
+step-by-number b e o = go (known (stateNumber b o =? 0))
+  where
+    go : Known (stateNumber b o =? 0) → stepOn b e o ≡ pick (stateNumber b o =? 0) (resultOf (step (decoded b) e) b o) (refusal (stateNumber b o) b o)
+    go (holds h) =
+        let z : stateNumber b o ≡ 0 = eq-holds (stateNumber b o) 0 h in
+        pick-yes (stateNumber b o =? 0) (stepOn b e o) _ _ h (step-read b e o (decoded b) (zero-read b o z .0) (zero-ready b o z .read))
+    go (fails h) = pick-no (stateNumber b o =? 0) (stepOn b e o) _ _ h (step-refused b e o (eq-fails (stateNumber b o) 0 h))

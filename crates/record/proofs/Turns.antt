@@ -1,12 +1,15 @@
 -- A turn of each loop over a list in bytes takes one entry off the front of what is left.
 -- Assumes nothing.
-use Prim.Native.Nat.{ℕ, suc, _+_, _*_, _-_, _≤_, _<_}
+use Prim.Native.Nat.{ℕ, zero, suc, _+_, _*_, _-_, _^_, _≤_, _<_}
 use mathlib.Core.Path.{_≡_, refl, sym, ap, _∙_}
 use mathlib.Core.Bool.{Bool, true, false, not}
 use mathlib.Core.List.{List, [], _∷_}
+use native.Mathlib.Nat.{mul-le-mul-left, mul-suc}
 use native.Mathlib.Omega.{arith}
-use lib.ListN.{getD, set, replicate}
+use lib.ListN.{length, getD, set, replicate}
 use borrow.Author.Tests.{not-false}
+use mir.Syntax.{w64}
+use mir.Val.{Fits}
 use Rattle.base.specs.Tests.{_≤?_, _=?_, pick-yes, pick-no, and-yes, and-no, le-yes, le-no, eq-yes, eq-no, Known, known, holds, fails}
 use Rattle.base.specs.Bytes.{numberAt, numbersAt}
 use Rattle.format.specs.Types.{Id, Context as FormatContext}
@@ -15,7 +18,7 @@ use Rattle.format.specs.Read.{idAt, idsAt}
 use Rattle.format.proofs.Ranges.{id-range}
 use Rattle.record.specs.declared.Context.{Context}
 use Rattle.record.specs.Context.{contextOf, ContextIn}
-use Rattle.record.specs.Values.{idOf, slot, placeOf}
+use Rattle.record.specs.Values.{idOf, slot, placeOf, idsBy, IdsInside}
 use Rattle.record.proofs.OnePass.{Small, met, pass, slot-lt, pass-zeros}
 
 -- the cuts
@@ -55,27 +58,46 @@ cuts-end e at k m q w h j = sym (j ∙ ap (cutsOk q) (numbers-none 2 e (at + 2 *
 
 -- the ids
 
-ids-more : (e : List ℕ) (at k m : ℕ) → k < m → idsAt (m - k) e (at + 3 * k) ≡ idAt e (at + 3 * k) ∷ idsAt (m - (k + 1)) e (at + 3 * (k + 1))
-unfolding idsAt
-ids-more e at k m h =
-    let a : m - k ≡ suc (m - (k + 1)) = omega arith in
-    let b : at + 3 * (k + 1) ≡ at + 3 * k + 3 = omega arith in
-    ap (λ (i : ℕ). idsAt i e (at + 3 * k)) a ∙ rw b
+ids-more : (w m : ℕ) (e : List ℕ) (at : ℕ) → 0 < m → idsBy w m e at ≡ idAt e at ∷ idsBy w (m - 1) e (at + w)
+unfolding idsBy
+ids-more w zero e at h = absurd (omega arith)
+ids-more w (suc m) e at h = let a : suc m - 1 ≡ m = omega arith in rw a
 
-ids-none : (e : List ℕ) (at k m : ℕ) → m ≤ k → idsAt (m - k) e at ≡ []
-unfolding idsAt
-ids-none e at k m h = let a : m - k ≡ 0 = omega arith in ap (λ (i : ℕ). idsAt i e at) a
+ids-none : (w m : ℕ) (e : List ℕ) (at : ℕ) → m ≤ 0 → idsBy w m e at ≡ []
+unfolding idsBy
+ids-none w zero e at h = refl
+ids-none w (suc m) e at h = absurd (omega arith)
+
+-- Ids next after one another.
+pub ids-by-three : (m : ℕ) (e : List ℕ) (at : ℕ) → idsBy 3 m e at ≡ idsAt m e at
+unfolding idsBy idsAt
+ids-by-three zero e at = refl
+ids-by-three (suc m) e at = ap (λ (l : List Id). idAt e at ∷ l) (ids-by-three m e (at + 3))
+
+pub ids-three : (c : FormatContext) (e : List ℕ) (at m : ℕ) (r : Bool) → r ≡ idsOk c (idsBy 3 m e at) → r ≡ idsOk c (idsAt m e at)
+ids-three c e at m r h = h ∙ ap (idsOk c) (ids-by-three m e at)
+
+-- The first of the entries that are left, and the others.
+
+pub first-inside : (w m : ℕ) (e : List ℕ) (at : ℕ) → IdsInside w m e at → 0 < m → at + 3 ≤ length e
+first-inside w m e at h l = omega (arith, mul-le-mul-left w l, h .wide, h .inside)
+
+pub step-fits : (w m : ℕ) (e : List ℕ) (at : ℕ) → IdsInside w m e at → 0 < m → length e < 2 ^ 64 → Fits w64 (at + w)
+step-fits w m e at h l k = record { fits = omega (arith, mul-le-mul-left w l, h .inside) }
+
+pub next-inside : (w m : ℕ) (e : List ℕ) (at : ℕ) → IdsInside w m e at → 0 < m → IdsInside w (m - 1) e (at + w)
+next-inside w m e at h l =
+    let a : m ≡ suc (m - 1) = omega arith in
+    let b : w * m ≡ w * (m - 1) + w = ap (λ (i : ℕ). w * i) a ∙ mul-suc w (m - 1) in
+    record { wide = h .wide; inside = omega (arith, h .inside) }
 
 pub small : (c : Context) → ContextIn c → Small (contextOf c)
 unfolding contextOf
 small c h = record { servers = h .most; quota = h .largest }
 
-pub ids-start : (c : Context) (e : List ℕ) (at m : ℕ) → ContextIn c
-    → idsOk (contextOf c) (idsAt m e at) ≡ pass (contextOf c) (replicate {A = ℕ} 2048 0) (idsAt (m - 0) e (at + 3 * 0))
-ids-start c e at m h =
-    let a : m - 0 ≡ m = omega arith in
-    let b : at + 3 * 0 ≡ at = omega arith in
-    rw (a, b) (pass-zeros (contextOf c) (idsAt m e at) (small c h))
+pub ids-start : (c : Context) (w m : ℕ) (e : List ℕ) (at : ℕ) → ContextIn c
+    → idsOk (contextOf c) (idsBy w m e at) ≡ pass (contextOf c) (replicate {A = ℕ} 2048 0) (idsBy w m e at)
+ids-start c w m e at h = pass-zeros (contextOf c) (idsBy w m e at) (small c h)
 
 -- An id has a place below 2048 exactly where it is in range.
 
@@ -94,36 +116,36 @@ place-in c x p (fails e) f g =
     let b : p ≡ 2048 = f ∙ sym (pick-no (idOk c x) _ _ _ e refl) in
     absurd (omega arith)
 
-pub ids-out : (c : Context) (e t : List ℕ) (at k m p : ℕ) (w : Bool) → ContextIn c → k < m
-    → p ≡ placeOf (contextOf c) (idAt e (at + 3 * k)) → 2048 ≤ p → w ≡ pass (contextOf c) t (idsAt (m - k) e (at + 3 * k)) → false ≡ w
+pub ids-out : (c : Context) (w m : ℕ) (e t : List ℕ) (at p : ℕ) (v : Bool) → ContextIn c → 0 < m
+    → p ≡ placeOf (contextOf c) (idAt e at) → 2048 ≤ p → v ≡ pass (contextOf c) t (idsBy w m e at) → false ≡ v
 unfolding pass
-ids-out c e t at k m p w s h f g j =
+ids-out c w m e t at p v s h f g j =
     let d : FormatContext = contextOf c in
-    let x : Id = idAt e (at + 3 * k) in
-    and-no (idOk d x) _ (place-out d x p (small c s) (known (idOk d x)) f g) ∙ sym (j ∙ ap (pass d t) (ids-more e at k m h))
+    let x : Id = idAt e at in
+    and-no (idOk d x) _ (place-out d x p (small c s) (known (idOk d x)) f g) ∙ sym (j ∙ ap (pass d t) (ids-more w m e at h))
 
-pub ids-twice : (c : FormatContext) (e t : List ℕ) (at k m p : ℕ) (w : Bool) → k < m
-    → p ≡ placeOf c (idAt e (at + 3 * k)) → p < 2048 → getD t p 0 ≡ 1 → w ≡ pass c t (idsAt (m - k) e (at + 3 * k)) → false ≡ w
+pub ids-twice : (c : FormatContext) (w m : ℕ) (e t : List ℕ) (at p : ℕ) (v : Bool) → 0 < m
+    → p ≡ placeOf c (idAt e at) → p < 2048 → getD t p 0 ≡ 1 → v ≡ pass c t (idsBy w m e at) → false ≡ v
 unfolding pass met
-ids-twice c e t at k m p w h f g y j =
-    let x : Id = idAt e (at + 3 * k) in
+ids-twice c w m e t at p v h f g y j =
+    let x : Id = idAt e at in
     let z = place-in c x p (known (idOk c x)) f g in
     let u : not (getD t (slot x) 0 =? 1) ≡ false = ap not (eq-yes _ 1 (rw (z .1) at y)) in
-    and-yes false (idOk c x) _ (z .0) (and-no (not (getD t (slot x) 0 =? 1)) _ u) ∙ sym (j ∙ ap (pass c t) (ids-more e at k m h))
+    and-yes false (idOk c x) _ (z .0) (and-no (not (getD t (slot x) 0 =? 1)) _ u) ∙ sym (j ∙ ap (pass c t) (ids-more w m e at h))
 
-pub ids-again : (c : FormatContext) (e t : List ℕ) (at k m p : ℕ) (w : Bool) → k < m
-    → p ≡ placeOf c (idAt e (at + 3 * k)) → p < 2048 → (getD t p 0 ≡ 1 → ⊥) → w ≡ pass c t (idsAt (m - k) e (at + 3 * k))
-    → w ≡ pass c (set t p 1) (idsAt (m - (k + 1)) e (at + 3 * (k + 1)))
+pub ids-again : (c : FormatContext) (w m : ℕ) (e t : List ℕ) (at p : ℕ) (v : Bool) → 0 < m
+    → p ≡ placeOf c (idAt e at) → p < 2048 → (getD t p 0 ≡ 1 → ⊥) → v ≡ pass c t (idsBy w m e at)
+    → v ≡ pass c (set t p 1) (idsBy w (m - 1) e (at + w))
 unfolding pass met
-ids-again c e t at k m p w h f g y j =
-    let x : Id = idAt e (at + 3 * k) in
+ids-again c w m e t at p v h f g y j =
+    let x : Id = idAt e at in
     let z = place-in c x p (known (idOk c x)) f g in
     let u : not (getD t (slot x) 0 =? 1) ≡ true = ap not (eq-no _ 1 (rw (z .1) at y)) in
-    j ∙ ap (pass c t) (ids-more e at k m h) ∙ sym (and-yes _ (idOk c x) _ (z .0) (and-yes _ (not (getD t (slot x) 0 =? 1)) _ u (rw (z .1))))
+    j ∙ ap (pass c t) (ids-more w m e at h) ∙ sym (and-yes _ (idOk c x) _ (z .0) (and-yes _ (not (getD t (slot x) 0 =? 1)) _ u (rw (z .1))))
 
-pub ids-end : (c : FormatContext) (e t : List ℕ) (at k m : ℕ) (w : Bool) → m ≤ k → w ≡ pass c t (idsAt (m - k) e (at + 3 * k)) → true ≡ w
+pub ids-end : (c : FormatContext) (w m : ℕ) (e t : List ℕ) (at : ℕ) (v : Bool) → m ≤ 0 → v ≡ pass c t (idsBy w m e at) → true ≡ v
 unfolding pass
-ids-end c e t at k m w h j = sym (j ∙ ap (pass c t) (ids-none e (at + 3 * k) k m h))
+ids-end c w m e t at v h j = sym (j ∙ ap (pass c t) (ids-none w m e at h))
 
 -- the place of an id
 

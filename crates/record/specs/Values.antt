@@ -1,13 +1,14 @@
 -- What the code's structs stand for.
 -- Assumes nothing.
-use Prim.Native.Nat.{ℕ, _+_, _*_, _-_}
-use mathlib.Core.List.{List}
+use Prim.Native.Nat.{ℕ, zero, suc, _+_, _*_, _-_, _≤_}
+use mathlib.Core.List.{List, [], _∷_}
+use lib.ListN.{length}
 use Rattle.base.specs.Tests.{pick}
 use Rattle.base.specs.Bytes.{numbersAt}
 use Rattle.format.specs.Limits.{mostServers, mostQuota}
 use Rattle.format.specs.Types.{Id, Action, Primary, Mark as FormatMark, State, Context}
 use Rattle.format.specs.Range.{idOk}
-use Rattle.format.specs.Read.{idsAt}
+use Rattle.format.specs.Read.{idAt, idsAt}
 use Rattle.record.specs.declared.PrimaryIndex.{PrimaryIndex}
 use Rattle.record.specs.declared.AttemptIndex.{AttemptIndex}
 use Rattle.record.specs.declared.LastPrimary.{LastPrimary}
@@ -50,3 +51,13 @@ slot d = d .creator * mostQuota + (d .index - 1)
 -- The place past the table's end stands for an id that is out of range.
 unfoldable pub placeOf : Context → Id → ℕ
 placeOf c d = pick (idOk c d) (slot d) (mostServers * mostQuota)
+
+-- m ids, each at the front of w bytes, from `at` on.
+unfoldable pub idsBy : (w m : ℕ) → List ℕ → ℕ → List Id
+idsBy w zero e at = []
+idsBy w (suc m) e at = idAt e at ∷ idsBy w m e (at + w)
+
+-- An id at the front of each of m entries of w bytes from `at` on lies inside the bytes e.
+pub record IdsInside (w m : ℕ) (e : List ℕ) (at : ℕ) : Type 0 where
+  pub wide : 3 ≤ w
+  pub inside : at + w * m ≤ length e

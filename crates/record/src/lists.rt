@@ -6,7 +6,7 @@ ghost use Rattle.base.specs.Bytes.{numbersAt};
 ghost use Rattle.format.specs.Range.{cutsOk, idsOk};
 ghost use Rattle.format.specs.Read.{idAt, idsAt};
 ghost use Rattle.record.specs.Context.{contextOf, ContextIn};
-ghost use Rattle.record.specs.Values.{idOf, placeOf};
+ghost use Rattle.record.specs.Values.{idOf, placeOf, idsBy, IdsInside};
 use crate::Context;
 use crate::State;
 use crate::bytes::num8;
@@ -50,15 +50,17 @@ pub fn place_at(c: Context, e: &[u8], at: usize) -> usize
     place(c, num8(e, at), num16(e, at + 1))
 }
 
-// Whether the `count` ids from `at` on are in range and differ: one pass, which sets the place of each id that it meets.
-pub fn ids_ok(c: Context, e: &[u8], at: usize, count: usize) -> bool
-    requires { ⌜ ContextIn c × (at + 3 * count ≤ length (now e)) ⌝ }
-    ensures { λ r. ⌜ r ≡ idsOk (contextOf c) (idsAt count (now (e .entry)) at) ⌝ }
+// Whether the `count` ids, each at the front of `step` bytes from `at` on, are in range and differ: one pass, which sets the
+// place of each id that it meets.
+pub fn ids_differ(c: Context, e: &[u8], at: usize, step: usize, count: usize) -> bool
+    requires { ⌜ ContextIn c × IdsInside step count (now e) at ⌝ }
+    ensures { λ r. ⌜ r ≡ idsOk (contextOf c) (idsBy step count (now (e .entry)) at) ⌝ }
 {
     let mut met: [u8; PLACES] = [0; PLACES];
-    let mut k = 0;
-    while k < count {
-        let p = place_at(c, e, at + 3 * k);
+    let mut here = at;
+    let mut left = count;
+    while 0 < left {
+        let p = place_at(c, e, here);
         if PLACES <= p {
             return false;
         }
@@ -66,7 +68,16 @@ pub fn ids_ok(c: Context, e: &[u8], at: usize, count: usize) -> bool
             return false;
         }
         met[p] = 1;
-        k += 1;
+        here += step;
+        left -= 1;
     }
     true
+}
+
+// Whether the `count` ids from `at` on are in range and differ.
+pub fn ids_ok(c: Context, e: &[u8], at: usize, count: usize) -> bool
+    requires { ⌜ ContextIn c × (at + 3 * count ≤ length (now e)) ⌝ }
+    ensures { λ r. ⌜ r ≡ idsOk (contextOf c) (idsAt count (now (e .entry)) at) ⌝ }
+{
+    ids_differ(c, e, at, 3, count)
 }

@@ -2,7 +2,6 @@
 // number 1, configured 1, set 1) and the event in hexadecimal, and from '#' on a label, which is written behind what was read.
 // What a line that begins with 'w' says is written again.
 mod print;
-mod text;
 mod writing;
 
 use record::Context;

@@ -1,0 +1,48 @@
+-- What the code on a whole buffer answers.
+-- Assumes nothing.
+use Prim.Native.Nat.{ℕ, _+_, _*_, _≤_, _<_}
+use mathlib.Core.Path.{_≡_, refl, sym, ap, subst, _∙_}
+use mathlib.Core.Bool.{Bool, true, false, not}
+use mathlib.Core.List.{List}
+use native.Mathlib.Omega.{arith}
+use lib.Dec.{ltb}
+use lib.ListN.{length}
+use borrow.Author.Tests.{not-true, not-false}
+use Rattle.base.specs.Tests.{_and_, _<?_, and-holds, and-yes, le-holds}
+use Rattle.base.specs.Branches.{told-lt}
+use Rattle.base.specs.Bytes.{Bytes}
+use Rattle.base.specs.Sets.{inside}
+use Rattle.format.specs.Range.{contextOk, lengthOk}
+use Rattle.record.specs.Context.{contextOf, ContextIn}
+use Rattle.record.specs.declared.Context.{Context}
+use Rattle.record.specs.declared.State.{State}
+use Rattle.record.proofs.Placing.{context-in}
+use Rattle.engine.specs.Layout.{theStates, offset, stateLength}
+use Rattle.state_check.specs.Numbers.{roomOk, quotaOk, countsOk, numbersOk, CountsIn}
+use Rattle.state_check.specs.Collected.{plannedIn}
+use Rattle.state_check.specs.Checks.{placeOf, exchangeOk, Buffer}
+
+pub exchange-told : (c : Context) (h : State) (b : List ℕ) (t : Bool) (at p : ℕ) → t ≡ inside (h .«configuration_set») (h .states) → not t ≡ false
+    → at ≡ offset (c .servers) (c .quota) theStates → p ≡ plannedIn (c .servers) (c .quota) (h .states) b at → ltb (h .come) p ≡ exchangeOk (contextOf c) h b
+unfolding exchangeOk placeOf contextOf
+exchange-told c h b t at p e f g k =
+    and-yes _ (inside (h .«configuration_set») (h .states)) _ (sym e ∙ not-false t f)
+    (told-lt (h .come) p ∙ ap (λ (m : ℕ). h .come <? m) (k ∙ ap (plannedIn (c .servers) (c .quota) (h .states) b) g))
+
+-- ---- what the callees ask for
+
+pub context-made : (c : Context) (t : Bool) → t ≡ contextOk (contextOf c) → not t ≡ false → ContextIn c
+context-made c t e f = context-in c (sym e ∙ not-false t f)
+
+pub buffer-made : (c : Context) (b : List ℕ) (t : Bool) → Bytes b → stateLength (c .servers) (c .quota) ≤ length b → t ≡ contextOk (contextOf c) → not t ≡ false → Buffer c b
+buffer-made c b t k l e f = record { context = context-made c t e f; bytes = k; long = l }
+
+pub counts-made : (c : Context) (h : State) (t : Bool) → t ≡ numbersOk (contextOf c) h → not t ≡ false → CountsIn (c .servers) (c .quota) h
+unfolding numbersOk countsOk roomOk quotaOk lengthOk contextOf
+counts-made c h t e f =
+    let a = and-holds _ _ (sym e ∙ not-false t f) in
+    let counts = and-holds _ _ (and-holds _ _ (a .1) .0) in
+    let r₁ = and-holds _ _ (counts .0) in
+    let r₂ = and-holds _ _ (r₁ .1) in
+    let r₃ = and-holds _ _ (r₂ .1) in
+    record { actions = le-holds _ _ (r₁ .0); own = le-holds _ _ (r₃ .0); held = le-holds _ _ (and-holds _ _ (counts .1) .0); ids = le-holds _ _ (r₃ .1) }

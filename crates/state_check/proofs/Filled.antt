@@ -1,0 +1,136 @@
+-- Slots filled up with zeros: the code's tests of them say that their entries, written again, occur where they stand.
+-- Assumes nothing.
+use Prim.Native.Nat.{ℕ, zero, suc, _+_, _*_, _-_, _≤_, _<_}
+use mathlib.Core.Path.{_≡_, refl, sym, ap, subst, _∙_}
+use mathlib.Core.Bool.{Bool, true, false}
+use mathlib.Core.List.{List, [], _∷_, _++_}
+use native.Mathlib.Nat.{add-zero}
+use native.Mathlib.Omega.{arith}
+use lib.ListN.{length, getD, take, drop, length-append, length-replicate}
+use lib.Seq.{drop-cons, getD-take, getD-drop}
+use Rattle.base.specs.Tests.{_and_, and-holds, both-yes, le-yes, le-holds, eq-yes, eq-holds}
+use Rattle.base.specs.Bytes.{Bytes, bytesOf, numberAt, partAt, joined}
+use Rattle.base.specs.BytesLaws.{part-length, bytes-part}
+use Rattle.base.specs.Entries.{everyAt}
+use Rattle.base.specs.ListLaws.{Each}
+use Rattle.base.specs.Occurs.{Occurs, occurs-nil, occurs-append, occurs-first, occurs-second, occurs-at}
+use Rattle.format.specs.Limits.{mostPayload}
+use Rattle.format.specs.Types.{Action}
+use Rattle.format.specs.Write.{payloadBytes, actionBytes}
+use Rattle.format.specs.Read.{payloadAt, actionAt}
+use Rattle.format.proofs.Lengths.{payload-length, action-length}
+use Rattle.format.proofs.Ranges.{PayloadRange}
+use Rattle.format.proofs.Fields.{payload-read}
+use Rattle.format.proofs.Writing.{payload-written, action-written}
+use Rattle.engine.specs.Layout.{heldSize, slotSize}
+use Rattle.engine.specs.Image.{zeros, slot}
+use Rattle.state_check.specs.Slots.{zeroAt, payloadFits}
+
+-- ---- zeros
+
+one-occurs : (b : List ℕ) (at : ℕ) → at < length b → getD b at 0 ≡ 0 → Occurs (0 ∷ []) b at
+unfolding partAt
+one-occurs b at h e = record { part = ap (λ (l : List ℕ). take 1 l) (drop-cons b at 0 h) ∙ ap (λ (x : ℕ). x ∷ []) e }
+
+pub zeros-occur : (m : ℕ) (b : List ℕ) (at : ℕ) → at + m ≤ length b → everyAt (zeroAt b) 1 m at ≡ true → Occurs (zeros m) b at
+unfolding everyAt zeroAt zeros
+zeros-occur zero b at h k = occurs-nil b at
+zeros-occur (suc m) b at h k =
+    let t = and-holds _ _ k in
+    occurs-append (0 ∷ []) (zeros m) b at (at + 1) refl (one-occurs b at (omega arith) (eq-holds _ 0 (t .0))) (zeros-occur m b (at + 1) (omega arith) (t .1))
+
+zero-read : (b l : List ℕ) (at : ℕ) → Occurs (0 ∷ l) b at → getD b at 0 ≡ 0
+unfolding partAt
+zero-read b l at o =
+    let here : getD b (at + 0) 0 ≡ 0 = sym (getD-drop at b 0 0) ∙ sym (getD-take (suc (length l)) (drop at b) 0 0 (omega arith)) ∙ ap (λ (x : List ℕ). getD x 0 0) (o .part) in
+    ap (λ (i : ℕ). getD b i 0) (sym (add-zero at)) ∙ here
+
+pub occurring-zeros : (m : ℕ) (b : List ℕ) (at : ℕ) → Occurs (zeros m) b at → everyAt (zeroAt b) 1 m at ≡ true
+unfolding everyAt zeroAt zeros
+occurring-zeros zero b at o = refl
+occurring-zeros (suc m) b at o =
+    both-yes _ _ (eq-yes _ 0 (zero-read b (zeros m) at o)) (occurring-zeros m b (at + 1) (occurs-second (0 ∷ []) (zeros m) b at (at + 1) refl o))
+
+-- ---- x filled up to the size of a slot; k bytes of it are in use
+
+filled : (size k : ℕ) (x b : List ℕ) (at : ℕ) → length x ≡ k → at + size ≤ length b → k ≤ size → Occurs x b at → everyAt (zeroAt b) 1 (size - k) (at + k) ≡ true
+    → Occurs (slot size x) b at
+unfolding slot
+filled size k x b at e h l o z =
+    let rest : Occurs (zeros (size - length x)) b (at + length x) = subst (λ (m : ℕ). Occurs (zeros (size - m)) b (at + m)) (sym e) (zeros-occur (size - k) b (at + k) (omega arith) z) in
+    occurs-append x (zeros (size - length x)) b at (at + length x) refl o rest
+
+filled-zeros : (size k : ℕ) (x b : List ℕ) (at : ℕ) → length x ≡ k → Occurs (slot size x) b at → everyAt (zeroAt b) 1 (size - k) (at + k) ≡ true
+unfolding slot
+filled-zeros size k x b at e o =
+    let rest = occurring-zeros (size - length x) b (at + length x) (occurs-second x (zeros (size - length x)) b at (at + length x) refl o) in
+    subst (λ (m : ℕ). everyAt (zeroAt b) 1 (size - m) (at + m) ≡ true) e rest
+
+-- ---- payloads
+
+-- d bytes of a slot stand before the length of the payload, m.
+moved : (d m : ℕ) (b : List ℕ) (at : ℕ) → m ≤ mostPayload
+    → everyAt (zeroAt b) 1 (mostPayload - m) (at + d + (1 + m)) ≡ everyAt (zeroAt b) 1 (d + heldSize - (d + 1 + m)) (at + (d + 1 + m))
+moved d m b at l =
+    let p : mostPayload - m ≡ d + heldSize - (d + 1 + m) = omega arith in
+    let q : at + d + (1 + m) ≡ at + (d + 1 + m) = omega arith in
+    rw (p, q)
+
+module _ (b : List ℕ) (k : Bytes b) where
+  payload-long : (at : ℕ) → numberAt 1 b at ≤ mostPayload → at + heldSize ≤ length b → length (payloadAt b at) ≡ numberAt 1 b at
+  unfolding payloadAt
+  payload-long at l h = part-length (numberAt 1 b at) b (at + 1) (omega arith)
+
+  payload-bytes : (at : ℕ) → Bytes (payloadAt b at)
+  unfolding payloadAt
+  payload-bytes at = bytes-part (numberAt 1 b at) b (at + 1) k
+
+  -- A slot's payload, of the length that it says.
+  pub payload-in-range : (at : ℕ) → at + heldSize ≤ length b → payloadFits b at ≡ true → PayloadRange (payloadAt b at)
+  unfolding payloadFits
+  payload-in-range at h t =
+      let l : numberAt 1 b at ≤ mostPayload = le-holds _ _ (and-holds _ _ t .0) in
+      record { most = omega (arith, payload-long at l h); bytes = payload-bytes at }
+
+  pub held-occurs : (at : ℕ) → at + heldSize ≤ length b → payloadFits b at ≡ true → Occurs (slot heldSize (payloadBytes (payloadAt b at))) b at
+  unfolding payloadFits
+  held-occurs at h t =
+      let m : ℕ = numberAt 1 b at in
+      let u = and-holds _ _ t in
+      let l : m ≤ mostPayload = le-holds _ _ (u .0) in
+      let long : length (payloadBytes (payloadAt b at)) ≡ 0 + 1 + m = omega (arith, payload-length (payloadAt b at), payload-long at l h) in
+      let z : everyAt (zeroAt b) 1 (mostPayload - m) (at + 0 + (1 + m)) ≡ true = rw (add-zero at) (u .1) in
+      filled heldSize (0 + 1 + m) (payloadBytes (payloadAt b at)) b at long h (omega arith) (payload-written b at k (omega arith)) (sym (moved 0 m b at l) ∙ z)
+
+  pub action-occurs : (at : ℕ) → at + slotSize ≤ length b → payloadFits b (at + 7) ≡ true → Occurs (slot slotSize (actionBytes (actionAt b at))) b at
+  unfolding payloadFits actionAt
+  action-occurs at h t =
+      let m : ℕ = numberAt 1 b (at + 7) in
+      let u = and-holds _ _ t in
+      let l : m ≤ mostPayload = le-holds _ _ (u .0) in
+      let long : length (actionBytes (actionAt b at)) ≡ 7 + 1 + m = omega (arith, action-length (actionAt b at), payload-long (at + 7) l (omega arith)) in
+      filled slotSize (7 + 1 + m) (actionBytes (actionAt b at)) b at long h (omega arith) (action-written b at k (omega arith)) (sym (moved 7 m b at l) ∙ u .1)
+
+-- ---- and back
+
+payload-fits : (b : List ℕ) (at : ℕ) (p : List ℕ) → PayloadRange p → numberAt 1 b at ≡ length p → everyAt (zeroAt b) 1 (mostPayload - length p) (at + (1 + length p)) ≡ true
+    → payloadFits b at ≡ true
+unfolding payloadFits
+payload-fits b at p r e z =
+    both-yes _ _ (le-yes _ _ (omega (arith, r .most))) (subst (λ (m : ℕ). everyAt (zeroAt b) 1 (mostPayload - m) (at + (1 + m)) ≡ true) (sym e) z)
+
+pub occurring-held : (b : List ℕ) (at : ℕ) (p : List ℕ) → PayloadRange p → Occurs (slot heldSize (payloadBytes p)) b at → payloadFits b at ≡ true
+unfolding slot
+occurring-held b at p r o =
+    let m : ℕ = length p in
+    let first = occurs-first (payloadBytes p) _ b at o in
+    let z = filled-zeros heldSize (0 + 1 + m) (payloadBytes p) b at (omega (arith, payload-length p)) o in
+    let there : everyAt (zeroAt b) 1 (mostPayload - m) (at + 0 + (1 + m)) ≡ true = moved 0 m b at (r .most) ∙ z in
+    payload-fits b at p r (payload-read p b at r first .0) (rw (add-zero at) at there)
+
+pub occurring-action : (b : List ℕ) (at : ℕ) (a : Action) → PayloadRange (a .payload) → numberAt 1 b (at + 7) ≡ length (a .payload)
+    → Occurs (slot slotSize (actionBytes a)) b at → payloadFits b (at + 7) ≡ true
+occurring-action b at a r e o =
+    let m : ℕ = length (a .payload) in
+    let z = filled-zeros slotSize (7 + 1 + m) (actionBytes a) b at (omega (arith, action-length a)) o in
+    payload-fits b (at + 7) (a .payload) r e (moved 7 m b at (r .most) ∙ z)

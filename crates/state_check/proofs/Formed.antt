@@ -1,0 +1,232 @@
+-- Where the code's tests hold, the bytes say a well-formed state.
+-- Assumes nothing.
+use Prim.Native.Nat.{ℕ, zero, suc, _+_, _*_, _-_, _≤_, _<_, _^_}
+use mathlib.Core.Path.{_≡_, refl, sym, ap, subst, _∙_}
+use mathlib.Core.Bool.{Bool, true}
+use mathlib.Core.List.{List, _++_, map}
+use mathlib.Core.Option.{Option, none, some}
+use native.Mathlib.Nat.{zero-add}
+use native.Mathlib.Omega.{arith}
+use lib.ListN.{length, getD, take, drop, take-append-drop}
+use Rattle.base.specs.Tests.{and-holds, le-holds, lt-holds, eq-holds}
+use Rattle.base.specs.Bytes.{Bytes, numberAt, numbersAt}
+use Rattle.base.specs.BytesLaws.{numbers-length}
+use Rattle.base.specs.Entries.{everyAt, every-number}
+use Rattle.base.specs.Lists.{above, after, all}
+use Rattle.base.specs.ListLaws.{Each, all-each, each-first, each-second, each-implied, each-bounded}
+use Rattle.base.specs.Sets.{inside}
+use Rattle.base.specs.Occurs.{Occurs}
+use Rattle.format.specs.Types.{Id, Action, State as Record, Context}
+use Rattle.format.specs.Range.{lengthOk, indexOk, statusOk, idsInRange, idsDiffer, idsOk, contextOk}
+use Rattle.format.specs.Read.{idsAt}
+use Rattle.format.proofs.Ranges.{ContextRange, PayloadRange, context-range}
+use Rattle.record.specs.Context.{lastOf}
+use Rattle.record.specs.Values.{componentOf, primaryOf, idsBy}
+use Rattle.record.specs.declared.State.{State}
+use Rattle.replication.specs.Machine.Types.{Log, Configuration}
+use Rattle.replication.specs.Machine.Colours.{cut}
+use Rattle.replication.specs.Machine.Step.{plannedNow, hereSet, theSet, collected}
+use Rattle.replication.specs.Machine.WellFormed.{idsIn, queue}
+use Rattle.replication.specs.Machine.WellFormedRanges.{idCount, PayloadFits, ActionFits, LogRanges, VotesRanges, CollectedFits, MembershipRanges}
+use Rattle.replication.specs.Machine.WellFormedFacts.{heldCount, HeldToCuts, OwnListFits, Configured, StatesIn, ModeFits, WellFormed}
+use Rattle.replication.proofs.WellFormed.Ids.{counted-fact, differ-once}
+use Rattle.replication.proofs.WellFormed.Ranges.{cuts-facts, sizes-facts, length-facts, set-facts, primary-facts, mark-facts, ids-facts, state-facts}
+use Rattle.engine.specs.Layout.{slotSize, theCuts, theNoted, theHeld, theStates, theYellow, theOwn, theQueue, stateLength}
+use Rattle.engine.specs.Image.{modeNumber, actionSlots, heldSlots}
+use Rattle.engine.specs.Decode.{modeNamed, actionsAt, heldAt, statesAt}
+use Rattle.state_check.specs.Slots.{slotFits, notedAt, notedFit}
+use Rattle.state_check.specs.Collected.{plannedIn}
+use Rattle.state_check.specs.Checks.{placeOf, ownCut, exchangeOk, modeOk}
+use Rattle.state_check.proofs.Rooms.{held-room, states-room, own-room, queue-room}
+use Rattle.state_check.proofs.SlotLists.{held-number, held-in, actions-number, ids-by-number, ids-of-actions, actions-in}
+use Rattle.state_check.proofs.HeldIds.{WithinCuts, as-many-all}
+use Rattle.state_check.proofs.IdLists.{numbers-at, queue-slots, queue-within, own-slots, own-run, own-in-range, run}
+use Rattle.state_check.proofs.StateLists.{states-number, states-collected}
+use Rattle.state_check.proofs.Configurations.{Regular, absent, there, regular, regularOf, Transitional, transitional, transitionalIn, last-set, regular-fits, transitional-fits, member, of-it}
+use Rattle.state_check.proofs.Modes.{mode-in, inside-all-in}
+use Rattle.state_check.proofs.Checked.{Checked}
+use Rattle.state_check.proofs.Said.{logSaid, votesSaid, membershipSaid, said}
+
+module _ (c : Context) (h : State) (b : List ℕ) (k : Checked c h b) (bytes : Bytes b) (long : stateLength (c .servers) (c .quota) ≤ length b)
+    (small : h .«configuration_id» < 2 ^ 32) (last-is : c .last ≡ lastOf (h .«configuration_status») (h .«configuration_set»)) where
+  context-in : ContextRange c
+  context-in = context-range c (k .context)
+
+  -- ---- the log
+
+  ids-in-range : idsInRange c (idsBy slotSize (h .«queue_length») b (placeOf c theQueue)) ≡ true
+  unfolding idsOk
+  ids-in-range = and-holds _ _ (k .queue-ids) .0
+
+  ids-differ : idsDiffer (idsBy slotSize (h .«queue_length») b (placeOf c theQueue)) ≡ true
+  unfolding idsOk
+  ids-differ = and-holds _ _ (k .queue-ids) .1
+
+  pub queue-in : Each (ActionFits (c .servers) (c .quota)) (actionsAt (h .«queue_length») b (placeOf c theQueue))
+      × Occurs (actionSlots (actionsAt (h .«queue_length») b (placeOf c theQueue))) b (placeOf c theQueue)
+  unfolding placeOf
+  queue-in =
+      actions-in c b bytes (h .«queue_length») (placeOf c theQueue) (queue-room (c .servers) (c .quota) b long (h .«queue_length») (k .few-actions)) ids-in-range
+      (queue-slots c b (placeOf c theCuts) (h .«queue_length») (placeOf c theQueue) (k .queue))
+
+  pub whole-queue : queue (logSaid c h b) ≡ actionsAt (h .«queue_length») b (placeOf c theQueue)
+  unfolding queue
+  whole-queue = take-append-drop (h .«green_length») (actionsAt (h .«queue_length») b (placeOf c theQueue))
+
+  queue-ids : idsIn (queue (logSaid c h b)) ≡ idsBy slotSize (h .«queue_length») b (placeOf c theQueue)
+  queue-ids = ap idsIn whole-queue ∙ ids-of-actions (h .«queue_length») b (placeOf c theQueue)
+
+  both-parts : Each (ActionFits (c .servers) (c .quota)) (logSaid c h b .green ++ logSaid c h b .red)
+  both-parts =
+      subst (Each (ActionFits (c .servers) (c .quota))) (sym (take-append-drop (h .«green_length») (actionsAt (h .«queue_length») b (placeOf c theQueue)))) (queue-in .0)
+
+  own-cut : cut (logSaid c h b) (c .self) ≡ ownCut c b
+  unfolding cut ownCut
+  own-cut = numbers-at 2 (c .servers) b (placeOf c theCuts) (c .self) (context-in .own)
+
+  pub own-ids-in-range : idsInRange c (idsBy slotSize (h .«own_count») b (placeOf c theOwn)) ≡ true
+  own-ids-in-range =
+      own-in-range c b (ownCut c b) (h .«own_count») (placeOf c theOwn) (k .own) (context-in .own) (omega (arith, k .own-next, k .quota))
+
+  pub own-in : Each (ActionFits (c .servers) (c .quota)) (actionsAt (h .«own_count») b (placeOf c theOwn))
+      × Occurs (actionSlots (actionsAt (h .«own_count») b (placeOf c theOwn))) b (placeOf c theOwn)
+  unfolding placeOf
+  own-in =
+      actions-in c b bytes (h .«own_count») (placeOf c theOwn) (own-room (c .servers) (c .quota) b long (h .«own_count») (k .few-own)) own-ids-in-range
+      (own-slots c b (ownCut c b) (h .«own_count») (placeOf c theOwn) (k .own))
+
+  log-ranges : LogRanges (c .servers) (c .quota) (logSaid c h b)
+  unfolding cut
+  log-ranges =
+      record {
+        green = each-first (ActionFits (c .servers) (c .quota)) (logSaid c h b .green) (logSaid c h b .red) both-parts;
+        red = each-second (ActionFits (c .servers) (c .quota)) (logSaid c h b .green) (logSaid c h b .red) both-parts;
+        cuts-length = numbers-length 2 (c .servers) b (placeOf c theCuts);
+        cuts = cuts-facts (c .quota) (numbersAt 2 (c .servers) b (placeOf c theCuts)) (k .cuts);
+        own = own-in .0;
+        numbered = omega (arith, k .quota);
+      }
+
+  within : Each (WithinCuts (numbersAt 2 (c .servers) b (placeOf c theCuts))) (idsIn (queue (logSaid c h b)))
+  within =
+      subst (Each (WithinCuts (numbersAt 2 (c .servers) b (placeOf c theCuts)))) (sym queue-ids)
+      (queue-within c b (placeOf c theCuts) (h .«queue_length») (placeOf c theQueue) ids-in-range (k .queue))
+
+  differ : idsDiffer (idsIn (queue (logSaid c h b))) ≡ true
+  differ = ap idsDiffer queue-ids ∙ ids-differ
+
+  id-count : length (idsIn (queue (logSaid c h b))) ≡ h .«queue_length»
+  id-count = ap length queue-ids ∙ ids-by-number slotSize (h .«queue_length») b (placeOf c theQueue)
+
+  held-to-cuts : HeldToCuts (logSaid c h b)
+  unfolding cut
+  held-to-cuts =
+      record {
+        within = λ d m. counted-fact (WithinCuts (logSaid c h b .cuts)) d (idsIn (queue (logSaid c h b))) within m .1;
+        entered = λ d low high. as-many-all (idsIn (queue (logSaid c h b))) (logSaid c h b .cuts) differ within (id-count ∙ sym (k .as-many)) d low high;
+      }
+
+  own-list : OwnListFits (c .self) (logSaid c h b)
+  unfolding above
+  own-list =
+      let next : ownCut c b + h .«own_count» ≡ h .numbered = k .own-next in
+      let count : h .numbered - cut (logSaid c h b) (c .self) ≡ h .«own_count» = omega (arith, own-cut) in
+      record {
+        numbered = omega (arith, own-cut);
+        ids =
+            ids-of-actions (h .«own_count») b (placeOf c theOwn)
+            ∙ own-run c b (ownCut c b) (h .«own_count») (placeOf c theOwn) (k .own)
+            ∙ λ i. run (c .self) (sym own-cut i) (sym count i);
+      }
+
+  -- ---- the votes
+
+  votes-ranges : VotesRanges (c .servers) (c .quota) (votesSaid c h b)
+  unfolding indexOk statusOk idsOk
+  votes-ranges =
+      let u = and-holds _ _ (k .ids) in
+      record {
+        last = primary-facts c _ (k .last);
+        attempt = le-holds _ _ (k .attempt);
+        mark = mark-facts c _ (k .mark);
+        yellow = record { status = le-holds _ _ (k .status); ids = ids-facts c _ (u .0); once = differ-once _ (u .1) };
+      }
+
+  -- ---- the membership
+
+  regular-in : Regular c h
+  regular-in = regular c h (k .regular)
+
+  collected-fits : (j : ℕ) (x : Record) → getD (membershipSaid c h b .states) j none ≡ some x → CollectedFits (c .servers) (c .quota) (regularOf h) j x
+  unfolding placeOf
+  collected-fits j x e =
+      let r = states-collected c context-in (k .context) b bytes (h .states) (h .«configuration_id») (c .servers) 0 (placeOf c theStates) (states-room (c .servers) (c .quota) b long) (k .collected) j x e in
+      let place : 0 + j ≡ j = zero-add j in
+      let m = member c h last-is regular-in (k .members) j (rw place at (r .1)) in
+      record {
+        fits = state-facts c x (r .0 .fits);
+        sender = r .0 .sender ∙ place;
+        member = m;
+        configuration = of-it c h last-is regular-in j m (x .configuration) (r .0 .configuration);
+      }
+
+  membership-ranges : MembershipRanges (c .servers) (c .quota) (c .self) (membershipSaid c h b)
+  membership-ranges =
+      record {
+        configuration = regular-fits c h last-is small regular-in;
+        transitional = transitional-fits c h last-is regular-in (transitional c h (k .transitional));
+        states-length = states-number (c .servers) (c .quota) (h .states) (c .servers) 0 b (placeOf c theStates);
+        states = collected-fits;
+        cpcs = set-facts c (h .cpcs) (k .cpcs);
+        come = k .come;
+      }
+
+  -- ---- requests and noted lengths
+
+  pub held-requests : Each PayloadRange (heldAt (h .«held_count») b (placeOf c theHeld)) × Occurs (heldSlots (heldAt (h .«held_count») b (placeOf c theHeld))) b (placeOf c theHeld)
+  unfolding placeOf
+  held-requests =
+      held-in b bytes (h .«held_count») (placeOf c theHeld) (held-room (c .servers) (c .quota) b long (h .«held_count») (k .few-held)) (k .held)
+
+  noted-bound : (j : ℕ) → getD (numbersAt 4 (c .servers) b (placeOf c theNoted)) j 0 ≤ c .servers * c .quota
+  unfolding notedFit notedAt
+  noted-bound =
+      each-bounded (c .servers * c .quota) (numbersAt 4 (c .servers) b (placeOf c theNoted))
+      (all-each (lengthOk c) (λ l. l ≤ c .servers * c .quota) (length-facts c) (numbersAt 4 (c .servers) b (placeOf c theNoted))
+      (sym (every-number (lengthOk c) 4 (c .servers) b (placeOf c theNoted)) ∙ k .noted))
+
+  -- ---- the state's name
+
+  configured : Regular c h → h .«configuration_status» ≡ 1 → Configured (said c h b)
+  configured (absent s i t e) p = absurd (omega arith)
+  configured (there s o e) p = (_, e)
+
+  here-set : Regular c h → hereSet (said c h b) ≡ h .«configuration_set»
+  unfolding hereSet theSet
+  here-set (absent s i t e) = ap theSet e ∙ sym t
+  here-set (there s o e) = ap theSet e
+
+  pub mode-is : ModeFits (modeNamed (h .mode)) (said c h b) × (modeNumber (modeNamed (h .mode)) ≡ h .mode)
+  unfolding modeOk exchangeOk plannedIn plannedNow collected primaryOf componentOf
+  mode-is =
+      mode-in (said c h b) _ _ _ (λ e. configured regular-in (eq-holds _ _ e))
+      (λ e. let a = and-holds _ _ e in (inside-all-in (said c h b) (c .quota) (h .states) b (placeOf c theStates) refl (ap (λ (x : ℕ). inside x (h .states)) (here-set regular-in) ∙ a .0), lt-holds _ _ (a .1)))
+      (λ e. lt-holds _ _ e) (h .mode) (k .mode)
+
+  pub formed : WellFormed (said c h b)
+  formed =
+      record {
+        sizes = sizes-facts c (k .context);
+        log = log-ranges;
+        votes = votes-ranges;
+        membership = membership-ranges;
+        held-length = omega (arith, held-number (h .«held_count») b (placeOf c theHeld), k .few-held);
+        held = each-implied PayloadRange PayloadFits (λ p r. record { most = r .most; bytes = r .bytes }) (heldAt (h .«held_count») b (placeOf c theHeld)) (held-requests .0);
+        noted-length = numbers-length 4 (c .servers) b (placeOf c theNoted);
+        noted = noted-bound;
+        once = differ-once _ differ;
+        held-to-cuts = held-to-cuts;
+        own-list = own-list;
+        quota-kept = omega (arith, held-number (h .«held_count») b (placeOf c theHeld), k .quota);
+        mode = mode-is .0;
+      }

@@ -1,0 +1,48 @@
+-- The used part of each section lies inside the buffer.
+-- Assumes nothing.
+use Prim.Native.Nat.{ℕ, _+_, _*_, _≤_, _<_}
+use mathlib.Core.List.{List}
+use native.Mathlib.Omega.{arith}
+use lib.ListN.{length}
+use Rattle.base.specs.Lists.{sum}
+use Rattle.base.specs.Sections.{begin-end}
+use Rattle.format.specs.Limits.{mostHeld}
+use Rattle.engine.specs.Layout.{heldSize, slotSize, stateSize, theCuts, theNoted, theHeld, theStates, theYellow, theOwn, theQueue, sections, sectionSize, offset, stateLength}
+
+module _ (n q : ℕ) (b : List ℕ) (h : stateLength n q ≤ length b) where
+  section-room : (k : ℕ) → offset n q k + sectionSize n q k ≤ length b
+  unfolding offset sectionSize stateLength
+  section-room k = omega (arith, begin-end (sections n q) k)
+
+  pub cuts-room : offset n q theCuts + 2 * n ≤ length b
+  unfolding sectionSize sections
+  cuts-room = section-room theCuts
+
+  pub noted-room : offset n q theNoted + 4 * n ≤ length b
+  unfolding sectionSize sections
+  noted-room = section-room theNoted
+
+  pub held-room : (m : ℕ) → m ≤ mostHeld → offset n q theHeld + heldSize * m ≤ length b
+  unfolding sectionSize sections
+  held-room m l = omega (arith, section-room theHeld)
+
+  pub states-room : offset n q theStates + n * stateSize n q ≤ length b
+  unfolding sectionSize sections
+  states-room = section-room theStates
+
+  pub ids-room : (m : ℕ) → m ≤ n * q → offset n q theYellow + 3 * m ≤ length b
+  unfolding sectionSize sections
+  ids-room m l = omega (arith, section-room theYellow)
+
+  pub own-room : (m : ℕ) → m ≤ q → offset n q theOwn + slotSize * m ≤ length b
+  unfolding sectionSize sections
+  own-room m l = omega (arith, section-room theOwn)
+
+  pub queue-room : (m : ℕ) → m ≤ n * q → offset n q theQueue + slotSize * m ≤ length b
+  unfolding sectionSize sections
+  queue-room m l = omega (arith, section-room theQueue)
+
+  -- Header and held requests.
+  pub header-room : 844 ≤ length b
+  unfolding stateLength sections sum
+  header-room = omega arith

@@ -1,0 +1,136 @@
+-- What the code on the sections of the buffer answers.
+-- Assumes nothing.
+use Prim.Native.Nat.{ℕ, zero, suc, _+_, _*_, _-_, _≤_, _<_}
+use mathlib.Core.Path.{_≡_, refl, sym, ap, subst, _∙_}
+use mathlib.Core.Bool.{Bool, true, false, not}
+use mathlib.Core.List.{List, []}
+use native.Mathlib.Omega.{arith}
+use lib.Dec.{eqb}
+use lib.ListN.{length}
+use borrow.Author.Tests.{not-true, not-false}
+use Rattle.base.specs.Tests.{_and_, _=?_, and-yes, and-no, eq-yes, eq-no}
+use Rattle.base.specs.Branches.{told-eq}
+use Rattle.base.specs.Bytes.{numberAt, numbersAt}
+use Rattle.base.specs.Lists.{sum}
+use Rattle.format.specs.Limits.{mostHeld}
+use Rattle.format.specs.Range.{cutsOk, idsOk}
+use Rattle.format.specs.Read.{idsAt}
+use Rattle.record.specs.Context.{contextOf, ContextIn}
+use Rattle.record.specs.Values.{idsBy, IdsInside}
+use Rattle.record.specs.declared.Context.{Context}
+use Rattle.record.specs.declared.State.{State}
+use Rattle.engine.specs.Layout.{SizesIn, theCuts, theNoted, theHeld, theStates, theYellow, theOwn, theQueue, sections, offset}
+use Rattle.state_check.specs.Slots.{heldFit, queueFits, ownFits, notedFit}
+use Rattle.state_check.specs.Collected.{collectedOk, StatesInside}
+use Rattle.state_check.specs.Checks.{placeOf, ownCut, queueCuts, ownNext, queueOk, Buffer}
+use Rattle.state_check.proofs.Rooms.{noted-room, held-room, states-room, ids-room, own-room, queue-room, header-room}
+
+-- ---- a sum
+
+sum-step : (m : ℕ) (b : List ℕ) (at : ℕ) → 0 < m → sum (numbersAt 2 m b at) ≡ numberAt 2 b at + sum (numbersAt 2 (m - 1) b (at + 2))
+unfolding numbersAt sum
+sum-step zero b at h = absurd (omega arith)
+sum-step (suc m) b at h = let e : suc m - 1 ≡ m = omega arith in rw e
+
+pub sum-start : (n : ℕ) (b : List ℕ) (at : ℕ) → 0 + sum (numbersAt 2 n b at) ≡ sum (numbersAt 2 n b at)
+sum-start n b at = omega arith
+
+pub sum-again : (v total x m : ℕ) (b : List ℕ) (at : ℕ) → total + sum (numbersAt 2 m b at) ≡ v → 0 < m → x ≡ numberAt 2 b at
+    → total + x + sum (numbersAt 2 (m - 1) b (at + 2)) ≡ v
+sum-again v total x m b at h l e = omega (arith, sum-step m b at l)
+
+pub sum-end : (v total m : ℕ) (b : List ℕ) (at : ℕ) → total + sum (numbersAt 2 m b at) ≡ v → m ≤ 0 → total ≡ v
+unfolding numbersAt sum
+sum-end v total zero b at h l = omega arith
+sum-end v total (suc m) b at h l = absurd (omega arith)
+
+-- ---- rooms, as the callees ask for them
+
+module _ (c : Context) (b : List ℕ) (k : Buffer c b) where
+  pub sizes-in : SizesIn (c .servers) (c .quota)
+  sizes-in = record { servers = k .context .most; quota = k .context .largest }
+
+  pub cut-room : 60 + 2 * c .me + 2 ≤ length b
+  cut-room = omega (arith, header-room (c .servers) (c .quota) b (k .long), k .context .own, k .context .most)
+
+  pub cuts-inside : 60 + 2 * c .servers ≤ length b
+  cuts-inside = omega (arith, header-room (c .servers) (c .quota) b (k .long), k .context .most)
+
+  pub all-cuts-inside : 60 + 512 ≤ length b
+  all-cuts-inside = omega (arith, header-room (c .servers) (c .quota) b (k .long))
+
+  pub noted-inside : (at : ℕ) → at ≡ offset (c .servers) (c .quota) theNoted → at + 4 * c .servers ≤ length b
+  noted-inside at e = rw e (noted-room (c .servers) (c .quota) b (k .long))
+
+  pub held-inside : (at m : ℕ) → at ≡ offset (c .servers) (c .quota) theHeld → m ≤ mostHeld → at + 49 * m ≤ length b
+  held-inside at m e l = rw e (held-room (c .servers) (c .quota) b (k .long) m l)
+
+  pub ids-inside : (at m : ℕ) → at ≡ offset (c .servers) (c .quota) theYellow → m ≤ c .servers * c .quota → at + 3 * m ≤ length b
+  ids-inside at m e l = rw e (ids-room (c .servers) (c .quota) b (k .long) m l)
+
+  pub own-inside : (at m : ℕ) → at ≡ offset (c .servers) (c .quota) theOwn → m ≤ c .quota → at + 56 * m ≤ length b
+  own-inside at m e l = rw e (own-room (c .servers) (c .quota) b (k .long) m l)
+
+  pub queue-inside : (at m : ℕ) → at ≡ offset (c .servers) (c .quota) theQueue → m ≤ c .servers * c .quota → at + 56 * m ≤ length b
+  queue-inside at m e l = rw e (queue-room (c .servers) (c .quota) b (k .long) m l)
+
+  pub states-inside : (at : ℕ) → at ≡ offset (c .servers) (c .quota) theStates → StatesInside c b at
+  states-inside at e =
+      record { context = k .context; bytes = k .bytes; inside = rw e (states-room (c .servers) (c .quota) b (k .long)) }
+
+-- ---- answers
+
+module _ (c : Context) (b : List ℕ) where
+  pub cut-told : (x : ℕ) → x ≡ numberAt 2 b (60 + 2 * c .me) → x ≡ ownCut (contextOf c) b
+  unfolding ownCut contextOf placeOf offset sections sum
+  cut-told x e = e
+
+  pub noted-told : (at : ℕ) (r : Bool) → at ≡ offset (c .servers) (c .quota) theNoted → r ≡ notedFit (contextOf c) b at → r ≡ notedFit (contextOf c) b (placeOf (contextOf c) theNoted)
+  unfolding placeOf contextOf
+  noted-told at r e f = f ∙ ap (notedFit (contextOf c) b) e
+
+  pub held-told : (at m : ℕ) (r : Bool) → at ≡ offset (c .servers) (c .quota) theHeld → r ≡ heldFit m b at → r ≡ heldFit m b (placeOf (contextOf c) theHeld)
+  unfolding placeOf contextOf
+  held-told at m r e f = f ∙ ap (heldFit m b) e
+
+  pub ids-told : (at m : ℕ) (r : Bool) → at ≡ offset (c .servers) (c .quota) theYellow → r ≡ idsOk (contextOf c) (idsAt m b at)
+      → r ≡ idsOk (contextOf c) (idsAt m b (placeOf (contextOf c) theYellow))
+  unfolding placeOf contextOf
+  ids-told at m r e f = f ∙ ap (λ (i : ℕ). idsOk (contextOf c) (idsAt m b i)) e
+
+  pub own-told : (at x m : ℕ) (r : Bool) → at ≡ offset (c .servers) (c .quota) theOwn → x ≡ ownCut (contextOf c) b → r ≡ ownFits (contextOf c) x m b at
+      → r ≡ ownFits (contextOf c) (ownCut (contextOf c) b) m b (placeOf (contextOf c) theOwn)
+  unfolding placeOf contextOf
+  own-told at x m r e f g = g ∙ λ i. ownFits (contextOf c) (f i) m b (e i)
+
+  pub cuts-denied : (actions : ℕ) (t : Bool) → t ≡ cutsOk (c .quota) (numbersAt 2 (c .servers) b 60) → not t ≡ true → false ≡ queueCuts (contextOf c) actions b
+  unfolding queueCuts placeOf contextOf offset sections sum
+  cuts-denied actions t e h = and-no _ _ (sym e ∙ not-true t h)
+
+  pub cuts-answered : (actions x : ℕ) (t : Bool) → t ≡ cutsOk (c .quota) (numbersAt 2 (c .servers) b 60) → not t ≡ false → x ≡ sum (numbersAt 2 (c .servers) b 60)
+      → eqb x actions ≡ queueCuts (contextOf c) actions b
+  unfolding queueCuts placeOf contextOf offset sections sum
+  cuts-answered actions x t e h f = and-yes _ _ _ (sym e ∙ not-false t h) (ap (λ (i : ℕ). eqb i actions) f ∙ told-eq _ actions)
+
+  pub next-told : (x own numbered : ℕ) → x ≡ ownCut (contextOf c) b → eqb (x + own) numbered ≡ ownNext (contextOf c) own numbered b
+  unfolding ownNext
+  next-told x own numbered e = ap (λ (i : ℕ). eqb (i + own) numbered) e ∙ told-eq (ownCut (contextOf c) b + own) numbered
+
+  pub queue-ids-inside : (at m : ℕ) → at + 56 * m ≤ length b → IdsInside 56 m b at
+  queue-ids-inside at m h = record { wide = omega arith; inside = h }
+
+  pub queue-denied : (at m : ℕ) (t : Bool) → at ≡ offset (c .servers) (c .quota) theQueue → t ≡ idsOk (contextOf c) (idsBy 56 m b at) → not t ≡ true
+      → false ≡ queueOk (contextOf c) m b
+  unfolding queueOk placeOf contextOf
+  queue-denied at m t e f h = and-no _ _ (ap (λ (i : ℕ). idsOk (contextOf c) (idsBy 56 m b i)) (sym e) ∙ sym f ∙ not-true t h)
+
+  pub queue-answered : (at m : ℕ) (t r : Bool) → at ≡ offset (c .servers) (c .quota) theQueue → t ≡ idsOk (contextOf c) (idsBy 56 m b at) → not t ≡ false
+      → r ≡ queueFits (contextOf c) 60 m b at → r ≡ queueOk (contextOf c) m b
+  unfolding queueOk placeOf contextOf offset sections sum
+  queue-answered at m t r e f h g =
+      and-yes r _ _ (ap (λ (i : ℕ). idsOk (contextOf c) (idsBy 56 m b i)) (sym e) ∙ sym f ∙ not-false t h) (g ∙ ap (λ (i : ℕ). queueFits (contextOf c) 60 m b i) e)
+
+  pub states-told : (at s i : ℕ) (r : Bool) → at ≡ offset (c .servers) (c .quota) theStates → r ≡ collectedOk (contextOf c) s i (c .servers) 0 b at
+      → r ≡ collectedOk (contextOf c) s i (c .servers) 0 b (placeOf (contextOf c) theStates)
+  unfolding placeOf contextOf
+  states-told at s i r e f = f ∙ ap (collectedOk (contextOf c) s i (c .servers) 0 b) e

@@ -1,0 +1,34 @@
+use Rattle.base.specs.Tests.{tests}
+use Rattle.base.specs.Branches.{answers, told}
+use Rattle.record.specs.Context.{contextOf}
+use Rattle.state_check.specs.Numbers.{roomOk}
+use borrow.Author.Needs.{needs}
+use Rattle.state_check.proofs.numbers.room_ok.Statement.{statement}
+use Rattle.state_check.proofs.numbers.room_ok.Tie as tie
+
+length-ok-requires : tie.Need-length-ok-requires
+length-ok-requires c κs = search needs
+
+returns : tie.Need-returns
+unfolding roomOk contextOf
+returns c = search (needs, tests, answers) depth 8
+
+returns-2 : tie.Need-returns-2
+unfolding roomOk contextOf
+returns-2 c = search (needs, tests, answers) depth 8
+
+returns-3 : tie.Need-returns-3
+unfolding roomOk contextOf
+returns-3 c = search (needs, tests, answers) depth 8
+
+length-ok-requires-2 : tie.Need-length-ok-requires-2
+length-ok-requires-2 c κs = search needs
+
+returns-4 : tie.Need-returns-4
+unfolding roomOk contextOf
+returns-4 c = search (needs, tests, answers) depth 8
+
+pub room-ok-spec : {M : Type 1} → statement M
+room-ok-spec =
+    tie.close
+    (tie.spec length-ok-requires returns returns-2 returns-3 length-ok-requires-2 returns-4)

@@ -1,0 +1,56 @@
+use Prim.Native.Nat.{_+_, _*_, _≤_}
+use mathlib.Core.Path.{_≡_}
+use native.Mathlib.Omega.{arith}
+use lib.ListN.{length}
+use borrow.Author.Needs.{needs}
+use Rattle.base.specs.Entries.{everyAt, every-again, every-denied, every-end}
+use Rattle.record.specs.Context.{contextOf}
+use Rattle.state_check.specs.Slots.{queueSlotFits, queueFits}
+use Rattle.state_check.proofs.slots.queue_fits.Statement.{statement}
+use Rattle.state_check.proofs.slots.queue_fits.Tie as tie
+
+abbrev Inv-loop : tie.InvT-loop
+Inv-loop c b cuts at count here₀ left₀ here left = (here + 56 * left ≤ length b) × (queueFits (contextOf c) cuts count b at ≡ everyAt (queueSlotFits (contextOf c) b cuts) 56 left here)
+
+abbrev μ-loop : tie.MeasureT-loop
+μ-loop c b cuts at count here₀ left₀ here left = left
+
+loop-holds : tie.Need-loop-holds Inv-loop μ-loop
+unfolding queueFits
+loop-holds c = search needs
+
+queue-slot-fits-requires : tie.Need-queue-slot-fits-requires Inv-loop μ-loop
+queue-slot-fits-requires c κs = search needs
+
+returns : tie.Need-returns Inv-loop μ-loop
+returns c = search (needs, every-denied)
+
+add-here : tie.Need-add-here Inv-loop μ-loop
+add-here c = omega arith
+
+sub-left : tie.Need-sub-left Inv-loop μ-loop
+sub-left c = omega arith
+
+loop-less : tie.Need-loop-less Inv-loop μ-loop
+loop-less c = omega arith
+
+loop-again : tie.Need-loop-again Inv-loop μ-loop
+loop-again c = search (needs, every-again)
+
+returns-2 : tie.Need-returns-2 Inv-loop μ-loop
+returns-2 c = search (needs, every-end)
+
+pub queue-fits-spec : {M : Type 1} → statement M
+queue-fits-spec =
+    tie.close
+    (tie.spec
+    Inv-loop
+    μ-loop
+    loop-holds
+    queue-slot-fits-requires
+    returns
+    add-here
+    sub-left
+    loop-less
+    loop-again
+    returns-2)

@@ -1,0 +1,97 @@
+-- What the code tests of a state's buffer: a conjunction of tests that take one pass each.
+-- Assumes nothing.
+use Prim.Native.Nat.{ℕ, _+_, _*_, _≤_}
+use mathlib.Core.Bool.{Bool, true}
+use mathlib.Core.List.{List}
+use lib.ListN.{length}
+use Rattle.base.specs.Tests.{_and_, _≤?_, _<?_, _=?_, pick}
+use Rattle.base.specs.Bytes.{Bytes, numberAt, numbersAt}
+use Rattle.base.specs.Lists.{sum}
+use Rattle.base.specs.Sets.{inside}
+use Rattle.format.specs.Limits.{mostIndex}
+use Rattle.format.specs.Types.{Context}
+use Rattle.format.specs.Range.{contextOk, cutsOk, idsOk}
+use Rattle.format.specs.Read.{idsAt}
+use Rattle.record.specs.Context.{readingContext, contextOf, ContextIn}
+use Rattle.record.specs.Values.{idsBy}
+use Rattle.record.specs.declared.Context.{Context as CodeContext}
+use Rattle.record.specs.declared.State.{State}
+use Rattle.engine.specs.Layout.{slotSize, theCuts, theNoted, theHeld, theStates, theYellow, theOwn, theQueue, offset, stateLength}
+use Rattle.engine.specs.Header.{headerIn}
+use Rattle.state_check.specs.Slots.{heldFit, queueFits, ownFits, notedFit}
+use Rattle.state_check.specs.Numbers.{numbersOk}
+use Rattle.state_check.specs.Collected.{collectedOk, plannedIn}
+
+-- Where a section begins.
+unfoldable pub placeOf : Context → ℕ → ℕ
+placeOf c k = offset (c .servers) (c .quota) k
+
+-- The server's own cut.
+unfoldable pub ownCut : Context → List ℕ → ℕ
+ownCut c b = numberAt 2 b (placeOf c theCuts + 2 * c .self)
+
+-- The cuts, with as many actions in the queue as they have together.
+unfoldable pub queueCuts : Context → (actions : ℕ) → List ℕ → Bool
+queueCuts c actions b =
+    cutsOk (c .quota) (numbersAt 2 (c .servers) b (placeOf c theCuts)) and sum (numbersAt 2 (c .servers) b (placeOf c theCuts)) =? actions
+
+-- "own cut + 1 to the last numbered": so many are on the own list.
+unfoldable pub ownNext : Context → (own numbered : ℕ) → List ℕ → Bool
+ownNext c own numbered b = ownCut c b + own =? numbered
+
+unfoldable pub cutsFit : Context → State → List ℕ → Bool
+cutsFit c h b = queueCuts c (h .«queue_length») b and ownNext c (h .«own_count») (h .numbered) b
+
+-- The queue of so many actions.
+unfoldable pub queueOk : Context → (actions : ℕ) → List ℕ → Bool
+queueOk c actions b =
+    idsOk c (idsBy slotSize actions b (placeOf c theQueue)) and queueFits c (placeOf c theCuts) actions b (placeOf c theQueue)
+
+-- Cuts, noted lengths and held requests; then so many yellow ids, own actions and actions in the queue.
+unfoldable pub firstListsOk : Context → State → List ℕ → Bool
+firstListsOk c h b = cutsFit c h b and notedFit c b (placeOf c theNoted) and heldFit (h .«held_count») b (placeOf c theHeld)
+
+unfoldable pub lastListsOk : Context → (ids own actions : ℕ) → List ℕ → Bool
+lastListsOk c ids own actions b =
+    idsOk c (idsAt ids b (placeOf c theYellow)) and ownFits c (ownCut c b) own b (placeOf c theOwn) and queueOk c actions b
+
+unfoldable pub listsOk : Context → State → List ℕ → Bool
+listsOk c h b = firstListsOk c h b and lastListsOk c (h .«yellow_count») (h .«own_count») (h .«queue_length») b
+
+-- Every member's State is in, and not all planned retransmissions have come.
+unfoldable pub exchangeOk : Context → State → List ℕ → Bool
+exchangeOk c h b =
+    inside (h .«configuration_set») (h .states)
+    and h .come <? plannedIn (c .servers) (c .quota) (h .states) b (placeOf c theStates)
+
+-- "a state other than Non_prim with no configuration, Exchange_actions without every member's State or with all planned in, or the primary index at
+-- 4,000,000,000 in Construct, No or Un" does not apply to the state of this number, and there is no state of a number above 7.
+unfoldable pub modeTest : ℕ → (configured exchange below : Bool) → Bool
+modeTest k configured exchange below =
+    pick (k =? 0) true (configured and pick (k ≤? 3) true (pick (k =? 4) exchange (k ≤? 7 and below)))
+
+unfoldable pub modeOk : Context → State → List ℕ → Bool
+modeOk c h b = modeTest (h .mode) (h .«configuration_status» =? 1) (exchangeOk c h b) (h .last .index .0 <? mostIndex)
+
+unfoldable pub checksOf : Context → State → List ℕ → Bool
+checksOf c h b =
+    contextOk c
+    and numbersOk c h
+    and listsOk c h b
+    and collectedOk c (h .states) (h .«configuration_id») (c .servers) 0 b (placeOf c theStates)
+    and modeOk c h b
+
+-- The numbers that the bytes b begin with, and what records are read against in that state.
+unfoldable pub contextIn : List ℕ → Context
+contextIn b = contextOf (readingContext (headerIn b))
+
+unfoldable pub checks : List ℕ → Bool
+checks b = checksOf (contextIn b) (headerIn b) b
+
+-- ---- what the code rests on
+
+-- A buffer that is long enough for a state of these sizes.
+pub record Buffer (c : CodeContext) (b : List ℕ) : Type 0 where
+  pub context : ContextIn c
+  pub bytes : Bytes b
+  pub long : stateLength (c .servers) (c .quota) ≤ length b

@@ -1,0 +1,54 @@
+-- What the code tests of the slots of a state's buffer b: all that is said of an entry and is not a test of its id.
+-- Assumes nothing.
+use Prim.Native.Nat.{ℕ, zero, suc, _+_, _*_, _-_}
+use mathlib.Core.Bool.{Bool, true}
+use mathlib.Core.List.{List}
+use lib.ListN.{getD}
+use Rattle.base.specs.Tests.{_and_, _≤?_, _=?_}
+use Rattle.base.specs.Bytes.{numberAt}
+use Rattle.base.specs.Entries.{everyAt}
+use Rattle.format.specs.Limits.{mostPayload}
+use Rattle.format.specs.Types.{Context}
+use Rattle.format.specs.Range.{lengthOk}
+use Rattle.engine.specs.Layout.{heldSize, slotSize}
+
+-- A byte that is zero.
+unfoldable pub zeroAt : List ℕ → ℕ → Bool
+zeroAt b at = getD b at 0 =? 0
+
+-- A payload of at most 48 bytes, and zeros behind it: its length stands at `at`.
+unfoldable pub payloadFits : List ℕ → ℕ → Bool
+payloadFits b at =
+    numberAt 1 b at ≤? mostPayload and everyAt (zeroAt b) 1 (mostPayload - numberAt 1 b at) (at + (1 + numberAt 1 b at))
+
+unfoldable pub heldFit : (m : ℕ) → List ℕ → ℕ → Bool
+heldFit m b at = everyAt (payloadFits b) heldSize m at
+
+-- An action's green length and payload.
+unfoldable pub slotFits : Context → List ℕ → ℕ → Bool
+slotFits c b at = lengthOk c (numberAt 4 b (at + 3)) and payloadFits b (at + 7)
+
+-- An action of the queue, its index at most its creator's cut; the cuts begin at `cuts`.
+unfoldable pub withinCutAt : List ℕ → (cuts at : ℕ) → Bool
+withinCutAt b cuts at = numberAt 2 b (at + 1) ≤? numberAt 2 b (cuts + 2 * numberAt 1 b at)
+
+unfoldable pub queueSlotFits : Context → List ℕ → (cuts at : ℕ) → Bool
+queueSlotFits c b cuts at = withinCutAt b cuts at and slotFits c b at
+
+unfoldable pub queueFits : Context → (cuts m : ℕ) → List ℕ → ℕ → Bool
+queueFits c cuts m b at = everyAt (queueSlotFits c b cuts) slotSize m at
+
+-- m own actions, of the indexes from k + 1 on.
+unfoldable pub ownSlotFits : Context → ℕ → List ℕ → ℕ → Bool
+ownSlotFits c k b at = numberAt 1 b at =? c .self and numberAt 2 b (at + 1) =? k + 1 and slotFits c b at
+
+unfoldable pub ownFits : Context → (k m : ℕ) → List ℕ → ℕ → Bool
+ownFits c k zero b at = true
+ownFits c k (suc m) b at = ownSlotFits c k b at and ownFits c (k + 1) m b (at + slotSize)
+
+-- n noted lengths.
+unfoldable pub notedAt : Context → List ℕ → ℕ → Bool
+notedAt c b at = lengthOk c (numberAt 4 b at)
+
+unfoldable pub notedFit : Context → List ℕ → ℕ → Bool
+notedFit c b at = everyAt (notedAt c b) 4 (c .servers) at

@@ -1,0 +1,136 @@
+// The state's own part of a step: whether the buffers are long enough, and whether the state's buffer holds a well-formed state.
+ghost use mathlib.Core.Path.{_≡_};
+ghost use Prim.Native.Nat.{_≤_};
+ghost use lib.ListN.{length};
+ghost use Rattle.base.specs.Bytes.{Bytes};
+ghost use Rattle.base.specs.Tests.{_or_, _<?_};
+ghost use Rattle.engine.specs.Layout.{SizesIn, stateLength, outLength};
+ghost use Rattle.engine.specs.Outcome.{stateNumber};
+ghost use Rattle.record.specs.Context.{contextOf};
+ghost use Rattle.state_check.specs.Checks.{exchangeOk, modeOk, checksOf, Buffer};
+
+pub mod numbers; // numbers.rt: the numbers of the state
+pub mod plan; // plan.rt: how many retransmissions are planned
+pub mod collected; // collected.rt: the collected States
+pub mod sections; // sections.rt: the sections of the buffer
+pub mod slots; // slots.rt: entries of one size
+
+use engine::header::load;
+use engine::places::states_at;
+use engine::sizes::HEADER;
+use engine::sizes::out_length;
+use engine::sizes::sizes_in;
+use engine::sizes::state_length;
+use numbers::inside;
+use numbers::numbers_ok;
+use plan::planned;
+use record::Context;
+use record::State;
+use record::range::context_ok;
+use sections::lists_ok;
+use sections::states_ok;
+
+// Every member's State is in, and not all planned retransmissions have come.
+fn exchange_ok(c: Context, h: State, b: &[u8]) -> bool
+    requires { ⌜ Buffer c (now b) ⌝ }
+    ensures { λ r. ⌜ r ≡ exchangeOk (contextOf c) h (now (b .entry)) ⌝ }
+{
+    let senders = h.states;
+    if !inside(h.configuration_set, senders) {
+        return false;
+    }
+    let at = states_at(c.servers as u32, c.quota as u32) as usize;
+    (h.come as u64) < planned(c, senders, b, at)
+}
+
+// Whether the numbers and lists are such as the state needs.
+fn mode_ok(c: Context, h: State, b: &[u8]) -> bool
+    requires { ⌜ Buffer c (now b) ⌝ }
+    ensures { λ r. ⌜ r ≡ modeOk (contextOf c) h (now (b .entry)) ⌝ }
+{
+    if h.mode == 0 {
+        return true;
+    }
+    if h.configuration_status != 1 {
+        return false;
+    }
+    if h.mode <= 3 {
+        return true;
+    }
+    if h.mode == 4 {
+        return exchange_ok(c, h, b);
+    }
+    if 7 < h.mode {
+        return false;
+    }
+    h.last.index.0 < State::MOST_INDEX
+}
+
+// Whether the buffer, long enough, holds the image of a well-formed state: h are its numbers.
+fn checks_ok(c: Context, h: State, b: &[u8]) -> bool
+    requires { ⌜ Bytes (now b) × (stateLength (c .servers) (c .quota) ≤ length (now b)) ⌝ }
+    ensures { λ r. ⌜ r ≡ checksOf (contextOf c) h (now (b .entry)) ⌝ }
+{
+    if !context_ok(c) {
+        return false;
+    }
+    if !numbers_ok(c, h) {
+        return false;
+    }
+    if !lists_ok(c, h, b) {
+        return false;
+    }
+    if !states_ok(c, h.states, h.configuration_id, b) {
+        return false;
+    }
+    mode_ok(c, h, b)
+}
+
+// Whether a buffer is shorter than its formula for n servers and the quota q.
+fn shorter(state: usize, out: usize, n: u32, q: u32) -> bool
+    requires { ⌜ SizesIn n q ⌝ }
+    ensures { λ r. ⌜ r ≡ (state <? stateLength n q or out <? outLength n q) ⌝ }
+{
+    if state < state_length(n, q) as usize {
+        return true;
+    }
+    out < out_length(n, q) as usize
+}
+
+// The state's own part of 7 and 8: 7 where a buffer is too short, 8 where the state's buffer holds no well-formed state, and else 0.
+pub fn state_number(state: &[u8], out: &[u8]) -> u32
+    ensures { λ r. ⌜ r ≡ stateNumber (now (state .entry)) (now (out .entry)) ⌝ }
+{
+    if state.len() < HEADER as usize {
+        return 7;
+    }
+    let h = load(state);
+    let n = h.servers as u32;
+    let q = h.quota as u32;
+    if !sizes_in(n, q) {
+        if shorter(
+            state.len(),
+            out.len(),
+            State::FEWEST_SERVERS as u32,
+            State::LEAST_QUOTA as u32,
+        ) {
+            return 7;
+        }
+        return 8;
+    }
+    if shorter(state.len(), out.len(), n, q) {
+        return 7;
+    }
+    if !checks_ok(h.context(), h, state) {
+        return 8;
+    }
+    0
+}
+
+// The same for C.
+#[no_mangle]
+pub extern "C" fn guzbytor_state_check(state: &[u8], out: &[u8]) -> u32
+    ensures { λ r. ⌜ r ≡ stateNumber (now (state .entry)) (now (out .entry)) ⌝ }
+{
+    state_number(state, out)
+}

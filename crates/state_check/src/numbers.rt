@@ -1,0 +1,166 @@
+// The numbers of the state: which are in range, and which belong together.
+ghost use mathlib.Core.Path.{_≡_};
+ghost use Prim.Native.Nat.{_*_};
+ghost use Rattle.base.specs.Tests.{_≤?_};
+ghost use Rattle.base.specs.Sets.{inside as isInside};
+ghost use Rattle.record.specs.Context.{contextOf, ContextIn};
+ghost use Rattle.state_check.specs.Numbers.{regularOk, transitionalOk, membershipOk, roomOk, quotaOk, countsOk, votesOk, numbersOk};
+use engine::sizes::product;
+use record::Context;
+use record::State;
+use record::range::index_ok;
+use record::range::inside_last;
+use record::range::length_ok;
+use record::range::mark_ok;
+use record::range::own_set_ok;
+use record::range::primary_ok;
+use record::range::set_ok;
+use record::range::status_ok;
+
+// None, and zeros; or one whose set holds the server itself.
+fn regular_ok(c: Context, h: State) -> bool
+    requires { ⌜ ContextIn c ⌝ }
+    ensures { λ r. ⌜ r ≡ regularOk (contextOf c) h ⌝ }
+{
+    let set = h.configuration_set;
+    if h.configuration_status == 0 {
+        if h.configuration_id != 0 {
+            return false;
+        }
+        return set == 0;
+    }
+    if h.configuration_status != 1 {
+        return false;
+    }
+    own_set_ok(c, set)
+}
+
+// None, and zeros; or one whose set holds the server itself and lies inside the regular one, if any.
+fn transitional_ok(c: Context, h: State) -> bool
+    requires { ⌜ ContextIn c ⌝ }
+    ensures { λ r. ⌜ r ≡ transitionalOk (contextOf c) h ⌝ }
+{
+    let set = h.transitional_set;
+    if h.transitional_status == 0 {
+        return set == 0;
+    }
+    if h.transitional_status != 1 {
+        return false;
+    }
+    if !own_set_ok(c, set) {
+        return false;
+    }
+    inside_last(c, set)
+}
+
+// Whether each member of s is in t.
+pub fn inside(s: u8, t: u8) -> bool
+    ensures { λ r. ⌜ r ≡ isInside s t ⌝ }
+{
+    s & t == s
+}
+
+// At most as many retransmissions as can be planned.
+fn come_ok(c: Context, come: u32) -> bool
+    requires { ⌜ ContextIn c ⌝ }
+    ensures { λ r. ⌜ r ≡ (come ≤? 2 * (c .servers * c .quota)) ⌝ }
+{
+    come <= 2 * product(c.servers as u32, c.quota as u32)
+}
+
+fn membership_ok(c: Context, h: State) -> bool
+    requires { ⌜ ContextIn c ⌝ }
+    ensures { λ r. ⌜ r ≡ membershipOk (contextOf c) h ⌝ }
+{
+    if !regular_ok(c, h) {
+        return false;
+    }
+    if !transitional_ok(c, h) {
+        return false;
+    }
+    let senders = h.states;
+    if !set_ok(c, senders) {
+        return false;
+    }
+    if !inside(senders, h.configuration_set) {
+        return false;
+    }
+    if !set_ok(c, h.cpcs) {
+        return false;
+    }
+    come_ok(c, h.come)
+}
+
+// Every list has room, and the green actions are among those of the queue.
+fn room_ok(c: Context, actions: u32, greens: u32, own: u16, ids: u16) -> bool
+    requires { ⌜ ContextIn c ⌝ }
+    ensures { λ r. ⌜ r ≡ roomOk (contextOf c) actions greens own ids ⌝ }
+{
+    if !length_ok(c, actions) {
+        return false;
+    }
+    if actions < greens {
+        return false;
+    }
+    if c.quota < own {
+        return false;
+    }
+    length_ok(c, ids as u32)
+}
+
+// Numbered and held actions together keep the quota.
+fn quota_ok(c: Context, numbered: u16, held: u16) -> bool
+    ensures { λ r. ⌜ r ≡ quotaOk (contextOf c) numbered held ⌝ }
+{
+    if (State::MOST_HELD as u16) < held {
+        return false;
+    }
+    numbered as u32 + held as u32 <= c.quota as u32
+}
+
+fn counts_ok(c: Context, h: State) -> bool
+    requires { ⌜ ContextIn c ⌝ }
+    ensures { λ r. ⌜ r ≡ countsOk (contextOf c) h ⌝ }
+{
+    if !room_ok(
+        c,
+        h.queue_length,
+        h.green_length,
+        h.own_count,
+        h.yellow_count,
+    ) {
+        return false;
+    }
+    quota_ok(c, h.numbered, h.held_count)
+}
+
+fn votes_ok(c: Context, h: State) -> bool
+    requires { ⌜ ContextIn c ⌝ }
+    ensures { λ r. ⌜ r ≡ votesOk (contextOf c) h ⌝ }
+{
+    if !index_ok(h.attempt.0) {
+        return false;
+    }
+    let last = h.last;
+    if !primary_ok(c, last) {
+        return false;
+    }
+    let mark = h.mark;
+    if !mark_ok(c, mark) {
+        return false;
+    }
+    status_ok(h.yellow_status)
+}
+
+pub fn numbers_ok(c: Context, h: State) -> bool
+    requires { ⌜ ContextIn c ⌝ }
+    ensures { λ r. ⌜ r ≡ numbersOk (contextOf c) h ⌝ }
+{
+    if !membership_ok(c, h) {
+        return false;
+    }
+    if !counts_ok(c, h) {
+        return false;
+    }
+    votes_ok(c, h)
+}

@@ -1,0 +1,178 @@
+// The sections of the state's buffer, each against the numbers that go with it.
+ghost use mathlib.Core.Path.{_≡_};
+ghost use Prim.Native.Nat.{_+_, _*_, _≤_};
+ghost use lib.ListN.{length};
+ghost use Rattle.base.specs.Bytes.{numbersAt};
+ghost use Rattle.base.specs.Lists.{sum};
+ghost use Rattle.format.specs.Limits.{mostHeld};
+ghost use Rattle.format.specs.Range.{idsOk};
+ghost use Rattle.format.specs.Read.{idsAt};
+ghost use Rattle.engine.specs.Layout.{theNoted, theHeld, theStates, theYellow, theOwn};
+ghost use Rattle.record.specs.Context.{contextOf};
+ghost use Rattle.state_check.specs.Slots.{heldFit, ownFits, notedFit};
+ghost use Rattle.state_check.specs.Numbers.{CountsIn};
+ghost use Rattle.state_check.specs.Collected.{collectedOk};
+ghost use Rattle.state_check.specs.Checks.{placeOf, ownCut, queueCuts, ownNext, cutsFit, queueOk, firstListsOk, lastListsOk, listsOk, Buffer};
+use super::collected::collected_ok;
+use super::slots::held_fit;
+use super::slots::noted_fit;
+use super::slots::own_fits;
+use super::slots::queue_fits;
+use engine::places::CUTS;
+use engine::places::held_at;
+use engine::places::noted_at;
+use engine::places::own_at;
+use engine::places::queue_at;
+use engine::places::states_at;
+use engine::places::yellow_at;
+use engine::sizes::SLOT;
+use record::Context;
+use record::State;
+use record::bytes::num16;
+use record::lists::cuts_ok;
+use record::lists::ids_differ;
+use record::lists::ids_ok;
+
+// The sum of the n numbers of two bytes from `at` on.
+fn sum_of(b: &[u8], at: usize, n: usize) -> u32
+    requires { ⌜ (n ≤ 8) × (at + 2 * n ≤ length (now b)) ⌝ }
+    ensures { λ r. ⌜ r ≡ sum (numbersAt 2 n (now (b .entry)) at) ⌝ }
+{
+    let mut total: u32 = 0;
+    let mut here = at;
+    let mut left = n;
+    while 0 < left {
+        total += num16(b, here) as u32;
+        here += 2;
+        left -= 1;
+    }
+    total
+}
+
+// The server's own cut.
+fn own_cut(c: Context, b: &[u8]) -> u16
+    requires { ⌜ Buffer c (now b) ⌝ }
+    ensures { λ r. ⌜ r ≡ ownCut (contextOf c) (now (b .entry)) ⌝ }
+{
+    num16(b, CUTS as usize + 2 * c.me as usize)
+}
+
+// The cuts, with as many actions in the queue as they have together.
+fn queue_cuts(c: Context, actions: u32, b: &[u8]) -> bool
+    requires { ⌜ Buffer c (now b) ⌝ }
+    ensures { λ r. ⌜ r ≡ queueCuts (contextOf c) actions (now (b .entry)) ⌝ }
+{
+    let n = c.servers as usize;
+    let at = CUTS as usize;
+    if !cuts_ok(b, at, n, c.quota) {
+        return false;
+    }
+    sum_of(b, at, n) == actions
+}
+
+// The own list goes from the own cut to the last numbered.
+fn own_next(c: Context, own: u16, numbered: u16, b: &[u8]) -> bool
+    requires { ⌜ Buffer c (now b) ⌝ }
+    ensures { λ r. ⌜ r ≡ ownNext (contextOf c) own numbered (now (b .entry)) ⌝ }
+{
+    own_cut(c, b) as u32 + own as u32 == numbered as u32
+}
+
+fn cuts_fit(c: Context, h: State, b: &[u8]) -> bool
+    requires { ⌜ Buffer c (now b) ⌝ }
+    ensures { λ r. ⌜ r ≡ cutsFit (contextOf c) h (now (b .entry)) ⌝ }
+{
+    if !queue_cuts(c, h.queue_length, b) {
+        return false;
+    }
+    own_next(c, h.own_count, h.numbered, b)
+}
+
+fn noted_ok(c: Context, b: &[u8]) -> bool
+    requires { ⌜ Buffer c (now b) ⌝ }
+    ensures { λ r. ⌜ r ≡ notedFit (contextOf c) (now (b .entry)) (placeOf (contextOf c) theNoted) ⌝ }
+{
+    let at = noted_at(c.servers as u32, c.quota as u32) as usize;
+    noted_fit(c, b, at)
+}
+
+fn held_ok(c: Context, b: &[u8], count: usize) -> bool
+    requires { ⌜ Buffer c (now b) × (count ≤ mostHeld) ⌝ }
+    ensures { λ r. ⌜ r ≡ heldFit count (now (b .entry)) (placeOf (contextOf c) theHeld) ⌝ }
+{
+    let at = held_at(c.servers as u32, c.quota as u32) as usize;
+    held_fit(b, at, count)
+}
+
+fn yellow_ok(c: Context, b: &[u8], count: usize) -> bool
+    requires { ⌜ Buffer c (now b) × (count ≤ c .servers * c .quota) ⌝ }
+    ensures { λ r. ⌜ r ≡ idsOk (contextOf c) (idsAt count (now (b .entry)) (placeOf (contextOf c) theYellow)) ⌝ }
+{
+    let at = yellow_at(c.servers as u32, c.quota as u32) as usize;
+    ids_ok(c, b, at, count)
+}
+
+fn own_ok(c: Context, b: &[u8], count: usize) -> bool
+    requires { ⌜ Buffer c (now b) × (count ≤ c .quota) ⌝ }
+    ensures { λ r. ⌜ r ≡ ownFits (contextOf c) (ownCut (contextOf c) (now (b .entry))) count (now (b .entry)) (placeOf (contextOf c) theOwn) ⌝ }
+{
+    let at = own_at(c.servers as u32, c.quota as u32) as usize;
+    own_fits(c, b, own_cut(c, b) as usize, at, count)
+}
+
+fn queue_ok(c: Context, b: &[u8], count: usize) -> bool
+    requires { ⌜ Buffer c (now b) × (count ≤ c .servers * c .quota) ⌝ }
+    ensures { λ r. ⌜ r ≡ queueOk (contextOf c) count (now (b .entry)) ⌝ }
+{
+    let at = queue_at(c.servers as u32, c.quota as u32) as usize;
+    if !ids_differ(c, b, at, SLOT as usize, count) {
+        return false;
+    }
+    queue_fits(c, b, CUTS as usize, at, count)
+}
+
+pub fn states_ok(c: Context, set: u8, configuration: u32, b: &[u8]) -> bool
+    requires { ⌜ Buffer c (now b) ⌝ }
+    ensures { λ r. ⌜ r ≡ collectedOk (contextOf c) set configuration (c .servers) 0 (now (b .entry)) (placeOf (contextOf c) theStates) ⌝ }
+{
+    let at = states_at(c.servers as u32, c.quota as u32) as usize;
+    collected_ok(c, set, configuration, b, at)
+}
+
+// Cuts, noted lengths and held requests.
+fn first_lists_ok(c: Context, h: State, b: &[u8]) -> bool
+    requires { ⌜ Buffer c (now b) × CountsIn (c .servers) (c .quota) h ⌝ }
+    ensures { λ r. ⌜ r ≡ firstListsOk (contextOf c) h (now (b .entry)) ⌝ }
+{
+    if !cuts_fit(c, h, b) {
+        return false;
+    }
+    if !noted_ok(c, b) {
+        return false;
+    }
+    held_ok(c, b, h.held_count as usize)
+}
+
+// Yellow ids, own list and queue.
+fn last_lists_ok(c: Context, ids: u16, own: u16, actions: u32, b: &[u8]) -> bool
+    requires { ⌜ Buffer c (now b) × (ids ≤ c .servers * c .quota) × (own ≤ c .quota) × (actions ≤ c .servers * c .quota) ⌝ }
+    ensures { λ r. ⌜ r ≡ lastListsOk (contextOf c) ids own actions (now (b .entry)) ⌝ }
+{
+    if !yellow_ok(c, b, ids as usize) {
+        return false;
+    }
+    if !own_ok(c, b, own as usize) {
+        return false;
+    }
+    queue_ok(c, b, actions as usize)
+}
+
+pub fn lists_ok(c: Context, h: State, b: &[u8]) -> bool
+    requires { ⌜ Buffer c (now b) × CountsIn (c .servers) (c .quota) h ⌝ }
+    ensures { λ r. ⌜ r ≡ listsOk (contextOf c) h (now (b .entry)) ⌝ }
+{
+    if !first_lists_ok(c, h, b) {
+        return false;
+    }
+    last_lists_ok(c, h.yellow_count, h.own_count, h.queue_length, b)
+}
