@@ -16,3 +16,6 @@ pub mod JoinLaws
 pub mod VotesLaws
 pub mod HeldLaws
 pub mod StatesLaws
+pub mod TableLaws
+pub mod ResendingLaws
+pub mod PlanLaws
