@@ -71,7 +71,8 @@ module _ (k : ℕ) (s : Server) (m : Mode) (ok : wellFormed s ≡ true) (i : Ins
   pub installed-formed : wellFormed (inMode m (install s)) ≡ true
   unfolding install
   installed-formed =
-      facts-well-formed (inMode m (install s)) (whole (inMode m (install s)) installed-body (primary-fits m k (i .from) (i .to) e (inMode m (install s)) (i .configured)))
+      facts-well-formed (inMode m (install s))
+      (whole (inMode m (install s)) installed-body (primary-fits m k (i .from) (i .to) e (inMode m (install s)) (i .configured)))
 
   pub sent-formed : wellFormed (sendHeld (inMode m (install s))) ≡ true
   unfolding install sendHeld numbered
@@ -153,7 +154,12 @@ yellow-covers m a s ok = yellow-as (Covers s t) a t entered (λ e. kept)
       states = inl refl;
       ids = inl (omega arith);
       own = inr (begins-same _ _ (sym (own-kept s ok)));
-      actions = inl (omega (arith, length-append (t .log .green) (t .log .red), length-append (t .log .green) (t .log .red ++ (a ∷ [])), length-append (t .log .red) (a ∷ [])));
+      actions = inl (omega (
+        arith,
+        length-append (t .log .green) (t .log .red),
+        length-append (t .log .green) (t .log .red ++ (a ∷ [])),
+        length-append (t .log .red) (a ∷ []),
+      ));
     }
 
     kept : Covers s t t
@@ -203,7 +209,8 @@ module _ (a : Action) (b : List ℕ) (p : HoldsSuch (λ s. Delivered s a × (s .
     late-yellow d g s r =
         let t : Server = inMode Trans-prim (install s) in
         let held : Holds t c = late-holds s r in
-        chained s t (yellow a t) b r (held .formed) (yellow-formed a t (held .formed) (still-delivered s r)) (yellow-covers Trans-prim a s (r .formed)) c d (f s Trans-prim r refl) (g t held)
+        chained s t (yellow a t) b r (held .formed) (yellow-formed a t (held .formed) (still-delivered s r))
+        (yellow-covers Trans-prim a s (r .formed)) c d (f s Trans-prim r refl) (g t held)
         ∙ ap (λ (x : Server). image x b) (yellow-in-mode Trans-prim a (install s))
 
 -- ---- held requests sent
@@ -229,8 +236,8 @@ sent-covers t ok = record {
 }
 
 -- An outcome over the bytes at the beginning.
-pub stored-over : (s t u x : Server) (rs : List Record) (b c o : List ℕ) → Holds s b → wellFormed t ≡ true → wellFormed u ≡ true → Covers s t u → c ≡ image t b
-    → outcomeOn (stored x u rs) c o ≡ outcomeOn (stored x u rs) b o
+pub stored-over : (s t u x : Server) (rs : List Record) (b c o : List ℕ) → Holds s b → wellFormed t ≡ true → wellFormed u ≡ true → Covers s t u
+    → c ≡ image t b → outcomeOn (stored x u rs) c o ≡ outcomeOn (stored x u rs) b o
 unfolding outcomeOn resultOf inBytes stored
 stored-over s t u x rs b c o r ok fine e f =
     ap (λ (w : List ℕ). record { number = 0; store = word true; sent = length (joined (map write rs)); state = w; out = over (joined (map write rs)) o })
@@ -262,4 +269,5 @@ module _ (b o : List ℕ) (p : LentSuch (λ t. Configured t × (t .votes .last .
         let v : Server = inMode Reg-prim (install t) in
         let held : Holds v c = primary-holds t r in
         g s v held
-        ∙ stored-over t v (sendHeld v) s (heldRecords v) b c o r (held .formed) (sent-formed 1 t Reg-prim (r .formed) (to-primary t r) refl) (sent-covers t (r .formed)) (f t Reg-prim r refl)
+        ∙ stored-over t v (sendHeld v) s (heldRecords v) b c o r (held .formed) (sent-formed 1 t Reg-prim (r .formed) (to-primary t r) refl)
+        (sent-covers t (r .formed)) (f t Reg-prim r refl)

@@ -94,7 +94,8 @@ module _ (k : ℕ) (b c o : List ℕ) (p : LentSuch (λ s. (k < s .servers) × (
         let z : allCpcsIn t ≡ true = sym (told t held) ∙ e in
         rw z
         (g s t held
-        ∙ stored-over s t (sendHeld v) s (heldRecords v) b c o r (held .formed) (sent-formed 1 t Reg-prim (held .formed) (installs s r) refl) (covers s) (f s r))
+        ∙ stored-over s t (sendHeld v) s (heldRecords v) b c o r (held .formed)
+        (sent-formed 1 t Reg-prim (held .formed) (installs s r) refl) (covers s) (f s r))
       where
         installs : (s : Server) → Holds s b → Installs 1 (withCpc k s)
         installs s r = record { from = omega arith; to = omega arith; configured = may-install s r .0; index = may-install s r .1 }
