@@ -1,148 +1,147 @@
--- Retransmissions: rows 5 and 6, as the code tests them.
+-- Retransmissions taken in, in place.
 -- Assumes nothing.
-use Prim.Native.Nat.{ℕ, _<_}
-use mathlib.Core.Path.{_≡_, refl, sym, ap, subst, _∙_}
-use mathlib.Core.Bool.{Bool, true, false, not}
+use Prim.Native.Nat.{ℕ, _+_, _≤_, _<_}
+use mathlib.Core.Path.{_≡_, refl, sym, ap, _∙_}
+use mathlib.Core.Bool.{false}
 use mathlib.Core.List.{List}
-use mathlib.Core.Option.{none, some}
+use native.Mathlib.Omega.{arith}
 use lib.ListN.{length}
-use borrow.Author.Tests.{not-true, not-false}
-use Rattle.base.specs.Tests.{_or_, _=?_, pick, and-holds, not-both}
-use Rattle.base.specs.Lists.{isThere}
-use Rattle.format.specs.Types.{Action, Record, retransmission}
-use Rattle.format.specs.Range.{fieldsOk}
-use Rattle.record.specs.declared.State.{State as Numbers}
+use Rattle.base.specs.Bytes.{numberAt}
+use Rattle.base.specs.Tests.{pick-no, and-yes, eq-no, le-yes, le-no}
+use Rattle.format.specs.Types.{Action}
 use Rattle.record.specs.declared.ActionHead.{ActionHead}
 use Rattle.record.specs.Values.{idOf, actionOf}
-use Rattle.replication.specs.Machine.Types.{Mode, Non-prim, Reg-prim, Trans-prim, Exchange-states, Exchange-actions, Construct, No, Un, Server, Outcome, withLog, contextOf}
-use Rattle.replication.specs.Machine.Colours.{red}
-use Rattle.replication.specs.Machine.Rules.{Rule, reddening, exchanging, onRetransmission, ruleFor, possible, fromMember, isIgnored, withinQuota, withinHeld}
-use Rattle.replication.specs.Machine.Step.{exchange, apply, answer}
-use Rattle.replication.proofs.WellFormed.RuleFacts.{Delivered, RuleFits}
+use Rattle.replication.specs.Machine.Types.{Mode, Non-prim, Exchange-actions, Log, Server, withLog, inMode}
+use Rattle.replication.specs.Machine.Colours.{red, green}
+use Rattle.replication.specs.Machine.Step.{placed, exchanged, oneMore, allCome}
+use Rattle.replication.proofs.Agreement.Lists.Placed.{placed-next, placed-below, placed-red}
+use Rattle.replication.proofs.WellFormed.RuleFacts.{Delivered}
 use Rattle.engine.specs.Image.{modeNumber, image}
-use Rattle.engine.specs.Decode.{modeNamed}
 use Rattle.engine.proofs.InPlace.{Holds}
+use Rattle.queue.specs.Queue as Queue
 use Rattle.queue.specs.Queue.{RoomIfNext}
+use Rattle.queue.proofs.Holding.{numbers}
+use Rattle.queue.proofs.Holding as holding
 use Rattle.queue.proofs.RedLaws.{room-if-next}
-use Rattle.step.specs.declared.Answer.{Answer}
-use Rattle.step.specs.Answers.{answered, outcomeOn, LentSuch, InForce, refusedWith, quietly}
-use Rattle.step.proofs.Chained.{lent-fact}
-use Rattle.step.proofs.AnswerLaws.{Passes, untaken, impossible, outside, passed, passed-fits, not-there, refused-as, quiet-as}
-use Rattle.step.proofs.ForceLaws.{numbers-mode, numbers-at, below-eight, OwnNumbered, own-numbered, Member}
+use Rattle.lists.specs.Standing.{HoldsSome}
+use Rattle.step.specs.Answers.{HoldsSuch}
+use Rattle.step.proofs.Chained.{such-fact, chained, then-holds}
+use Rattle.step.proofs.Covering.{numbers-then}
+use Rattle.step.proofs.ExchangeStates.{placed-formed, non-prim-formed, more-formed, closed-formed, last-formed}
 
--- In Exchange_actions it is part of the exchange, elsewhere red.
-resent : (l : ℕ) (m : Mode) (i : ℕ) (a : Action) → l ≡ modeNumber m → (l ≡ 4 → ⊥) → isThere (onRetransmission m i a) ≡ true → onRetransmission m i a ≡ some (reddening a)
-unfolding modeNumber onRetransmission isThere
-resent l Non-prim i a e n h = refl
-resent l Reg-prim i a e n h = not-both h
-resent l Trans-prim i a e n h = not-both h
-resent l Exchange-states i a e n h = not-both h
-resent l Exchange-actions i a e n h = absurd (n e)
-resent l Construct i a e n h = not-both h
-resent l No i a e n h = not-both h
-resent l Un i a e n h = not-both h
+-- ---- one action, by its position
 
--- None is ignored.
-heard : (m : Mode) (i : ℕ) (a : Action) → isThere (onRetransmission m i a) ≡ true → (k : Rule) × (onRetransmission m i a ≡ some k) × (isIgnored k ≡ false)
-unfolding onRetransmission isThere isIgnored
-heard Non-prim i a h = (reddening a, refl, refl)
-heard Reg-prim i a h = not-both h
-heard Trans-prim i a h = not-both h
-heard Exchange-states i a h = not-both h
-heard Exchange-actions i a h = (exchanging i a, refl, refl)
-heard Construct i a h = not-both h
-heard No i a h = not-both h
-heard Un i a h = not-both h
+-- "any other is red"
+placed-above : (k : ℕ) (a : Action) (l : Log) → (k ≡ length (l .green) + 1 → ⊥) → length (l .green) < k → placed k a l ≡ red a l
+unfolding placed
+placed-above k a l other high =
+    sym
+    (pick-no _ _ _ _ (eq-no k (length (l .green) + 1) other)
+    (pick-no _ _ _ _ (sym (and-yes _ _ _ (le-yes 1 k (omega arith)) (sym (le-no k (length (l .green)) high)))) refl))
 
-module _ (h : Numbers) (x : ActionHead) (p b o : List ℕ) (j i : ℕ) (f : LentSuch (InForce h (retransmission j i (actionOf x p))) b o) where
-  abbrev a : Action
-  a = actionOf x p
+module _ (h : ActionHead) (p b : List ℕ) (m : HoldsSuch (λ s. Delivered s (actionOf h p)) b) where
+  pub place-room : RoomIfNext (h .creator) (h .index) (length p) b
+  unfolding actionOf idOf
+  place-room = room-if-next (m .state) (actionOf h p) b (m .holds) (m .fact)
 
-  abbrev r : Record
-  r = retransmission j i a
+  delivered : (s : Server) → Holds s b → Delivered s (actionOf h p)
+  delivered s r = such-fact (λ x. Delivered x (actionOf h p)) b s m r
 
-  pub sender-below : j < 8
-  unfolding fieldsOk contextOf
-  sender-below = below-eight (f .state) b j (f .holds) (and-holds _ _ (f .fact .range) .0)
+  pub green-few : numberAt 4 b 23 ≤ 2048
+  green-few = let c = holding.holds-counts (m .state) b (m .holds) in omega (arith, c .green, c .queue, c .most)
 
-  force : (s : Server) → Holds s b → InForce h r s
-  force s y = lent-fact (InForce h r) b o s f y
+  module _ (k x : ℕ) (e : x ≡ numberAt 4 b 23) where
+    count : (s : Server) → Holds s b → x ≡ length (s .log .green)
+    count s r = e ∙ numbers s b r .green
 
-  pub resent-unnumbered : (u : Bool) (v : Answer) → OwnNumbered h x u → not u ≡ true → v ≡ refusedWith 5
-      → (s : Server) → Holds s b → answered v b o ≡ outcomeOn (answer s (retransmission j i (actionOf x p))) b o
-  unfolding possible
-  resent-unnumbered u v d n q s y =
-      refused-as (answer s r) v 5 b o q (impossible s r (sym (own-numbered h x p u s d (force s y .numbers)) ∙ not-true u n))
+    made : (s : Server) (l : Log) (c : List ℕ) → c ≡ image (withLog l s) b → placed k (actionOf h p) (s .log) ≡ l
+        → c ≡ image (withLog (placed k (actionOf h p) (s .log)) s) b
+    made s l c f g = f ∙ ap (λ (y : Log). image (withLog y s) b) (sym g)
 
-  module _ (t : Bool) (g : (m : Mode) (l : ℕ) (d : Action) → h .mode ≡ modeNumber m → t ≡ isThere (onRetransmission m l d)) where
-    table : (s : Server) → Holds s b → t ≡ isThere (onRetransmission (s .membership .mode) i a)
-    table s y = g (s .membership .mode) i a (numbers-mode h s (force s y .numbers))
+    pub place-next : (c : List ℕ) → k ≡ x + 1
+        → ((s : Server) → Holds s b → Delivered s (actionOf h p) → c ≡ image (withLog (green (actionOf h p) (s .log)) s) b)
+        → (s : Server) → Holds s b → c ≡ image (withLog (placed k (actionOf h p) (s .log)) s) b
+    place-next c f g s r =
+        made s (green (actionOf h p) (s .log)) c (g s r (delivered s r)) (placed-next k (actionOf h p) (s .log) (omega (arith, f, count s r)))
 
-    pub resent-untaken : (v : Answer) → not t ≡ true → v ≡ refusedWith 5
-        → (s : Server) → Holds s b → answered v b o ≡ outcomeOn (answer s (retransmission j i (actionOf x p))) b o
-    unfolding ruleFor
-    resent-untaken v n q s y =
-        refused-as (answer s r) v 5 b o q (untaken s r (not-there (onRetransmission (s .membership .mode) i a) (sym (table s y) ∙ not-true t n)))
+    pub place-zero : (c : List ℕ) → k ≡ 0
+        → ((s : Server) → Holds s b → Delivered s (actionOf h p) → c ≡ image (withLog (red (actionOf h p) (s .log)) s) b)
+        → (s : Server) → Holds s b → c ≡ image (withLog (placed k (actionOf h p) (s .log)) s) b
+    place-zero c f g s r = made s (red (actionOf h p) (s .log)) c (g s r (delivered s r)) (placed-red k (actionOf h p) (s .log) f)
 
-    module _ (taken : not t ≡ false) (u : Bool) (d : OwnNumbered h x u) (numbered : not u ≡ false) (w : Bool) (e : Member h j w) where
-      there : (s : Server) → Holds s b → isThere (onRetransmission (s .membership .mode) i a) ≡ true
-      there s y = sym (table s y) ∙ not-false t taken
+    pub place-above : (c : List ℕ) → (k ≡ x + 1 → ⊥) → x < k
+        → ((s : Server) → Holds s b → Delivered s (actionOf h p) → c ≡ image (withLog (red (actionOf h p) (s .log)) s) b)
+        → (s : Server) → Holds s b → c ≡ image (withLog (placed k (actionOf h p) (s .log)) s) b
+    place-above c n f g s r =
+        made s (red (actionOf h p) (s .log)) c (g s r (delivered s r))
+        (placed-above k (actionOf h p) (s .log) (λ z. n (omega (arith, z, count s r))) (omega (arith, f, count s r)))
 
-      own : (s : Server) → Holds s b → possible s r ≡ true
-      unfolding possible
-      own s y = sym (own-numbered h x p u s d (force s y .numbers)) ∙ not-false u numbered
+    pub place-below : (k ≡ 0 → ⊥) → k ≤ x → (s : Server) → Holds s b → b ≡ image (withLog (placed k (actionOf h p) (s .log)) s) b
+    place-below n f s r =
+        made s (s .log) b (sym (r .written)) (placed-below k (actionOf h p) (s .log) (omega (arith, n)) (omega (arith, f, count s r)))
 
-      member : (s : Server) → Holds s b → fromMember (s .membership) r ≡ w
-      unfolding fromMember
-      member s y = sym (e s (force s y .numbers))
+-- ---- one more has come
 
-      pub resent-outside : (v : Answer) → not w ≡ true → v ≡ refusedWith 6
-          → (s : Server) → Holds s b → answered v b o ≡ outcomeOn (answer s (retransmission j i (actionOf x p))) b o
-      unfolding ruleFor _or_
-      resent-outside v n q s y =
-          let k = heard (s .membership .mode) i a (there s y) in
-          refused-as (answer s r) v 6 b o q (outside s r (k .0) (k .1) (own s y) (rw (k .2) (member s y ∙ not-true w n)))
+module _ (h : ActionHead) (p b c : List ℕ) (k : ℕ)
+    (f : (s : Server) → Holds s b → c ≡ image (withLog (placed k (actionOf h p) (s .log)) s) b) where
+  abbrev after : Server → Server
+  after s = withLog (placed k (actionOf h p) (s .log)) s
 
-      module _ (n : not w ≡ false) where
-        passes : (s : Server) → Holds s b → (k : Rule) → onRetransmission (s .membership .mode) i a ≡ some k → isIgnored k ≡ false → Passes s r k
-        unfolding ruleFor withinQuota withinHeld _or_
-        passes s y k z l = record { rule = z; possible = own s y; member = rw l (member s y ∙ not-false w n); quota = refl; held = refl }
+  placed-holds : (s : Server) → Holds s b → Delivered s (actionOf h p) → Holds (after s) c
+  placed-holds s r d = then-holds s (after s) b c r (f s r) refl refl (placed-formed s (r .formed) k (actionOf h p) d)
 
-        -- ---- in an exchange
+  abbrev pub More : Server → Type 0
+  More s = Delivered s (actionOf h p) × (s .membership .mode ≡ Exchange-actions) × (allCome (oneMore s) ≡ false)
 
-        planned : h .mode ≡ 4 → (s : Server) → Holds s b → Passes s r (exchanging i a)
-        unfolding modeNamed pick _=?_ onRetransmission isIgnored
-        planned m s y =
-            passes s y (exchanging i a) (numbers-at (λ l. onRetransmission l i a ≡ some (exchanging i a)) h s 4 (force s y .numbers) m refl) refl
+  pub more-some : HoldsSuch More b → HoldsSome c
+  more-some m = record { state = after (m .state); holds = placed-holds (m .state) (m .holds) (m .fact .0) }
 
-        pub exchange-ready : h .mode ≡ 4 → LentSuch (λ s. Delivered s (actionOf x p) × (s .membership .mode ≡ Exchange-actions)) b o
-        exchange-ready m =
-            let s : Server = f .state in
-            record { state = s; holds = f .holds; fact = passed-fits s r (exchanging i a) (f .holds .formed) (f .fact .range) (planned m s (f .holds)); room = f .room }
+  pub more-taken : (d : List ℕ) → HoldsSuch More b → ((t : Server) → Holds t c → d ≡ image (oneMore t) c) → (s : Server) → Holds s b
+      → d ≡ image (exchanged k (actionOf h p) s) b
+  unfolding exchanged oneMore
+  more-taken d m g s r =
+      let a : Action = actionOf h p in
+      let y : More s = such-fact More b s m r in
+      chained s (after s) (exchanged k a s) b r (placed-formed s (r .formed) k a (y .0)) (more-formed s (r .formed) (y .1) k a (y .0) (y .2))
+      (numbers-then s (after s) (exchanged k a s) (refl, refl) (refl, refl) refl refl refl refl refl) c d (f s r)
+      (g (after s) (placed-holds s r (y .0)))
 
-        pub resent-exchanged : h .mode ≡ 4 → (v : Answer) (c z : List ℕ) → ((s : Server) → Holds s b → answered v c z ≡ outcomeOn (exchange i (actionOf x p) s) b o)
-            → (s : Server) → Holds s b → answered v c z ≡ outcomeOn (answer s (retransmission j i (actionOf x p))) b o
-        unfolding apply
-        resent-exchanged m v c z y s l =
-            y s l ∙ ap (λ (k : Outcome Record). outcomeOn k b o) (sym (passed s r (exchanging i a) (planned m s l)))
+  abbrev pub Last : Server → Type 0
+  Last s = Delivered s (actionOf h p) × (s .membership .mode ≡ Exchange-actions)
 
-        -- ---- elsewhere
+  pub last-such : HoldsSuch Last b → HoldsSuch (λ s. s .membership .mode ≡ Exchange-actions) c
+  last-such m = record { state = after (m .state); holds = placed-holds (m .state) (m .holds) (m .fact .0); fact = m .fact .1 }
 
-        alone : (h .mode ≡ 4 → ⊥) → (s : Server) → Holds s b → Passes s r (reddening a)
-        unfolding isIgnored
-        alone m s y = passes s y (reddening a) (resent (h .mode) (s .membership .mode) i a (numbers-mode h s (force s y .numbers)) m (there s y)) refl
+  pub last-taken : (d : List ℕ) → HoldsSuch Last b → ((t : Server) → Holds t c → d ≡ image (oneMore (inMode Non-prim t)) c) → (s : Server) → Holds s b
+      → d ≡ image (inMode Non-prim (exchanged k (actionOf h p) s)) b
+  unfolding exchanged oneMore
+  last-taken d m g s r =
+      let a : Action = actionOf h p in
+      let y : Last s = such-fact Last b s m r in
+      chained s (after s) (inMode Non-prim (exchanged k a s)) b r (placed-formed s (r .formed) k a (y .0))
+      (last-formed s (r .formed) (y .1) k a (y .0))
+      (numbers-then s (after s) (inMode Non-prim (exchanged k a s)) (refl, refl) (refl, refl) refl refl refl refl refl) c d (f s r)
+      (g (after s) (placed-holds s r (y .0)))
 
-        pub resent-room : (h .mode ≡ 4 → ⊥) → RoomIfNext (x .creator) (x .index) (length p) b
-        unfolding actionOf idOf
-        resent-room m =
-            let s : Server = f .state in
-            room-if-next s (actionOf x p) b (f .holds) (passed-fits s r (reddening a) (f .holds .formed) (f .fact .range) (alone m s (f .holds)))
+-- ---- to Non_prim, then one more
 
-        pub resent-red : (h .mode ≡ 4 → ⊥) → (v : Answer) (c : List ℕ)
-            → ((s : Server) → Holds s b → Delivered s (actionOf x p) → c ≡ image (withLog (red (actionOf x p) (s .log)) s) b) → v ≡ quietly
-            → (s : Server) → Holds s b → answered v c o ≡ outcomeOn (answer s (retransmission j i (actionOf x p))) b o
-        unfolding apply
-        resent-red m v c y q s l =
-            let k = alone m s l in
-            let d : Delivered s a = passed-fits s r (reddening a) (l .formed) (force s l .range) k in
-            quiet-as s (withLog (red a (s .log)) s) (answer s r) v b c o q (passed s r (reddening a) k) (y s l d)
+module _ (b c : List ℕ) (f : (s : Server) (o : Mode) → Holds s b → 0 ≡ modeNumber o → c ≡ image (inMode o s) b) where
+  pub left : (s : Server) → Holds s b → c ≡ image (inMode Non-prim s) b
+  unfolding modeNumber
+  left s r = f s Non-prim r refl
+
+  pub left-holds : (s : Server) → Holds s b → Holds (inMode Non-prim s) c
+  left-holds s r = then-holds s (inMode Non-prim s) b c r (left s r) refl refl (non-prim-formed s (r .formed))
+
+  module _ (m : HoldsSuch (λ s. s .membership .mode ≡ Exchange-actions) b) where
+    pub left-some : HoldsSome c
+    left-some = record { state = inMode Non-prim (m .state); holds = left-holds (m .state) (m .holds) }
+
+    pub closed : (d : List ℕ) → ((t : Server) → Holds t c → d ≡ image (oneMore t) c) → (s : Server) → Holds s b
+        → d ≡ image (oneMore (inMode Non-prim s)) b
+    unfolding oneMore
+    closed d g s r =
+        chained s (inMode Non-prim s) (oneMore (inMode Non-prim s)) b r (non-prim-formed s (r .formed))
+        (closed-formed s (r .formed) (such-fact (λ x. x .membership .mode ≡ Exchange-actions) b s m r))
+        (numbers-then s (inMode Non-prim s) (oneMore (inMode Non-prim s)) (refl, refl) (refl, refl) refl refl refl refl refl) c d (left s r)
+        (g (inMode Non-prim s) (left-holds s r))
