@@ -56,7 +56,8 @@ module _ (n : ℕ) (x : ActionHead) (p b : List ℕ) (h : HoldsSuch (Takes n (ac
   abbrev act : Action
   act = actionOf x p
 
-  rule-at : (s : Server) (l : ℕ) (j : Rule) → Takes n act s → n ≡ l → onAction (modeNamed l) act ≡ some j → onAction (s .membership .mode) act ≡ some j
+  rule-at : (s : Server) (l : ℕ) (j : Rule) → Takes n act s → n ≡ l → onAction (modeNamed l) act ≡ some j
+      → onAction (s .membership .mode) act ≡ some j
   rule-at s l j t e f = ap (λ (m : Mode). onAction m act) (in-mode (s .membership .mode) l (sym e ∙ t .number)) ∙ f
 
   fits-as : (s : Server) (j : Rule) → Takes n act s → onAction (s .membership .mode) act ≡ some j → RuleFits j s
@@ -65,57 +66,79 @@ module _ (n : ℕ) (x : ActionHead) (p b : List ℕ) (h : HoldsSuch (Takes n (ac
   pub green-taken : n ≡ 1 → HoldsSuch (λ s. Delivered s (actionOf x p)) b
   unfolding modeNamed pick _=?_ onAction
   green-taken e =
-      record { state = h .state; holds = h .holds; fact = fits-as (h .state) (greening act) (h .fact) (rule-at (h .state) 1 (greening act) (h .fact) e refl) .0 }
+      record {
+        state = h .state;
+        holds = h .holds;
+        fact = fits-as (h .state) (greening act) (h .fact)
+            (rule-at (h .state) 1 (greening act) (h .fact) e refl) .0;
+      }
 
   pub yellow-taken : n ≡ 2 → HoldsSuch (λ s. Delivered s (actionOf x p)) b
   unfolding modeNamed pick _=?_ onAction
   yellow-taken e =
-      record { state = h .state; holds = h .holds; fact = fits-as (h .state) (yellowing act) (h .fact) (rule-at (h .state) 2 (yellowing act) (h .fact) e refl) .0 }
+      record {
+        state = h .state;
+        holds = h .holds;
+        fact = fits-as (h .state) (yellowing act) (h .fact)
+            (rule-at (h .state) 2 (yellowing act) (h .fact) e refl) .0;
+      }
 
   pub late-taken : n ≡ 7 → HoldsSuch (λ s. Delivered s (actionOf x p) × (s .membership .mode ≡ Un)) b
   unfolding modeNamed pick _=?_ onAction
   late-taken e =
-      record { state = h .state; holds = h .holds; fact = fits-as (h .state) (lateInstalling act) (h .fact) (rule-at (h .state) 7 (lateInstalling act) (h .fact) e refl) }
+      record {
+        state = h .state;
+        holds = h .holds;
+        fact = fits-as (h .state) (lateInstalling act) (h .fact)
+            (rule-at (h .state) 7 (lateInstalling act) (h .fact) e refl);
+      }
 
   red-rule : (n ≡ 1 → ⊥) → (n ≡ 2 → ⊥) → (n ≡ 7 → ⊥) → (s : Server) → Takes n act s → onAction (s .membership .mode) act ≡ some (reddening act)
   red-rule u v w s t = red-else n (s .membership .mode) act (t .rule) (t .number) u v w (t .taken)
 
   pub red-taken : (n ≡ 1 → ⊥) → (n ≡ 2 → ⊥) → (n ≡ 7 → ⊥) → RoomIfNext (x .creator) (x .index) (length p) b
   unfolding actionOf idOf
-  red-taken u v w = room-if-next (h .state) (actionOf x p) b (h .holds) (fits-as (h .state) (reddening act) (h .fact) (red-rule u v w (h .state) (h .fact)))
+  red-taken u v w =
+      room-if-next (h .state) (actionOf x p) b (h .holds) (fits-as (h .state) (reddening act) (h .fact) (red-rule u v w (h .state) (h .fact)))
 
   -- ---- as the code leaves it
 
   module _ (c : List ℕ) (r : Answer) where
     pub green-done : n ≡ 1 → ((s : Server) → Holds s b → c ≡ image (greenAndNote (actionOf x p) s) b) → r ≡ quietly
-        → (s : Server) (o : List ℕ) (k : Rule) → Holds s b → onAction (s .membership .mode) (actionOf x p) ≡ some k → answered r c o ≡ outcomeOn (apply k s) b o
+        → (s : Server) (o : List ℕ) (k : Rule) → Holds s b → onAction (s .membership .mode) (actionOf x p) ≡ some k
+        → answered r c o ≡ outcomeOn (apply k s) b o
     unfolding modeNamed pick _=?_ onAction apply
     green-done e f q s o k i t =
         let j = rule-at s 1 (greening act) (such-fact _ b s h i) e refl in
         quiet-as s (greenAndNote act s) (apply k s) r b c o q (same-rule s (s .membership .mode) act (greening act) k j t) (f s i)
 
     pub yellow-done : n ≡ 2 → ((s : Server) → Holds s b → c ≡ image (yellow (actionOf x p) s) b) → r ≡ quietly
-        → (s : Server) (o : List ℕ) (k : Rule) → Holds s b → onAction (s .membership .mode) (actionOf x p) ≡ some k → answered r c o ≡ outcomeOn (apply k s) b o
+        → (s : Server) (o : List ℕ) (k : Rule) → Holds s b → onAction (s .membership .mode) (actionOf x p) ≡ some k
+        → answered r c o ≡ outcomeOn (apply k s) b o
     unfolding modeNamed pick _=?_ onAction apply
     yellow-done e f q s o k i t =
         let j = rule-at s 2 (yellowing act) (such-fact _ b s h i) e refl in
         quiet-as s (yellow act s) (apply k s) r b c o q (same-rule s (s .membership .mode) act (yellowing act) k j t) (f s i)
 
     pub late-done : n ≡ 7 → ((s : Server) → Holds s b → c ≡ image (inMode Trans-prim (yellow (actionOf x p) (install s))) b) → r ≡ storedFirst 0
-        → (s : Server) (o : List ℕ) (k : Rule) → Holds s b → onAction (s .membership .mode) (actionOf x p) ≡ some k → answered r c o ≡ outcomeOn (apply k s) b o
+        → (s : Server) (o : List ℕ) (k : Rule) → Holds s b → onAction (s .membership .mode) (actionOf x p) ≡ some k
+        → answered r c o ≡ outcomeOn (apply k s) b o
     unfolding modeNamed pick _=?_ onAction apply
     late-done e f q s o k i t =
         let j = rule-at s 7 (lateInstalling act) (such-fact _ b s h i) e refl in
-        stored-as s (inMode Trans-prim (yellow act (install s))) (apply k s) r b c o q (same-rule s (s .membership .mode) act (lateInstalling act) k j t) (f s i)
+        stored-as s (inMode Trans-prim (yellow act (install s))) (apply k s) r b c o q
+        (same-rule s (s .membership .mode) act (lateInstalling act) k j t) (f s i)
 
     pub red-done : (n ≡ 1 → ⊥) → (n ≡ 2 → ⊥) → (n ≡ 7 → ⊥)
         → ((s : Server) → Holds s b → Delivered s (actionOf x p) → c ≡ image (withLog (red (actionOf x p) (s .log)) s) b) → r ≡ quietly
-        → (s : Server) (o : List ℕ) (k : Rule) → Holds s b → onAction (s .membership .mode) (actionOf x p) ≡ some k → answered r c o ≡ outcomeOn (apply k s) b o
+        → (s : Server) (o : List ℕ) (k : Rule) → Holds s b → onAction (s .membership .mode) (actionOf x p) ≡ some k
+        → answered r c o ≡ outcomeOn (apply k s) b o
     unfolding apply
     red-done u v w f q s o k i t =
         let g : Takes n act s = such-fact _ b s h i in
         let j = red-rule u v w s g in
-        quiet-as s (withLog (red act (s .log)) s) (apply k s) r b c o q (same-rule s (s .membership .mode) act (reddening act) k j t) (f s i (fits-as s (reddening act) g j))
+        quiet-as s (withLog (red act (s .log)) s) (apply k s) r b c o q (same-rule s (s .membership .mode) act (reddening act) k j t)
+        (f s i (fits-as s (reddening act) g j))
 
 -- ---- rows 5 and 6
 
@@ -159,7 +182,8 @@ module _ (h : Numbers) (x : ActionHead) (p b : List ℕ) (f : HoldsSuch (InForce
         → (s : Server) (o : List ℕ) → Holds s b → answered r b o ≡ outcomeOn (answer s (action (actionOf x p))) b o
     unfolding ruleFor
     action-untaken r n q s o i =
-        refused-as (answer s (action a)) r 5 b o q (untaken s (action a) (not-there (onAction (s .membership .mode) a) (sym (table s i) ∙ not-true t n)))
+        refused-as (answer s (action a)) r 5 b o q
+        (untaken s (action a) (not-there (onAction (s .membership .mode) a) (sym (table s i) ∙ not-true t n)))
 
     module _ (taken : not t ≡ false) (u : Bool) (d : OwnNumbered h x u) (numbered : not u ≡ false) (w : Bool) (e : Member h (x .creator) w) where
       rule : (s : Server) → Holds s b → (k : Rule) × (onAction (s .membership .mode) a ≡ some k)
@@ -183,7 +207,15 @@ module _ (h : Numbers) (x : ActionHead) (p b : List ℕ) (f : HoldsSuch (InForce
 
       passes : not w ≡ false → (s : Server) → Holds s b → (k : Rule) → onAction (s .membership .mode) a ≡ some k → Passes s (action a) k
       unfolding ruleFor withinQuota withinHeld _or_
-      passes n s i k j = record { rule = j; possible = own s i; member = rw (heard (s .membership .mode) a k j) (member s i ∙ not-false w n); quota = refl; held = refl }
+      passes n s i k j =
+          record {
+            rule = j;
+            possible = own s i;
+            member = rw (heard (s .membership .mode) a k j)
+                (member s i ∙ not-false w n);
+            quota = refl;
+            held = refl;
+          }
 
       pub action-takes : not w ≡ false → HoldsSuch (Takes (h .mode) (actionOf x p)) b
       action-takes n =
@@ -194,7 +226,8 @@ module _ (h : Numbers) (x : ActionHead) (p b : List ℕ) (f : HoldsSuch (InForce
           record { state = s; holds = i; fact = record { number = numbers-mode h s (f .fact .numbers); rule = k .0; taken = k .1; fits = fits } }
 
       pub action-coloured : not w ≡ false → (r : Answer) (c : List ℕ)
-          → ((s : Server) (o : List ℕ) (k : Rule) → Holds s b → onAction (s .membership .mode) (actionOf x p) ≡ some k → answered r c o ≡ outcomeOn (apply k s) b o)
+          → ((s : Server) (o : List ℕ) (k : Rule) → Holds s b → onAction (s .membership .mode) (actionOf x p) ≡ some k → answered r c o
+          ≡ outcomeOn (apply k s) b o)
           → (s : Server) (o : List ℕ) → Holds s b → answered r c o ≡ outcomeOn (answer s (action (actionOf x p))) b o
       action-coloured n r c y s o i =
           let k = rule s i in

@@ -52,7 +52,8 @@ module _ (s : Server) (r : Record) where
     pub outside : (isIgnored k or fromMember (s .membership) r) ≡ false → answer s r ≡ refused 6
     unfolding applyRule
     outside m =
-        by-rule (some k) e ∙ sym (pick-yes (possible s r) (refused 6) _ _ p (pick-no (isIgnored k or fromMember (s .membership) r) (refused 6) _ _ m refl))
+        by-rule (some k) e ∙ sym
+        (pick-yes (possible s r) (refused 6) _ _ p (pick-no (isIgnored k or fromMember (s .membership) r) (refused 6) _ _ m refl))
 
     module _ (m : (isIgnored k or fromMember (s .membership) r) ≡ true) where
       within : (x : Outcome Record) → _≡_ {A = Outcome Record} x (applyRule (some k) s r) → answer s r ≡ x
@@ -90,7 +91,8 @@ module _ (s : Server) (r : Record) where
   pub passed-fits : (k : Rule) → wellFormed s ≡ true → fieldsOk (contextOf s) r ≡ true → Passes s r k → RuleFits k s
   unfolding recordOk
   passed-fits k ok range f =
-      rule-fits s k r (both-yes (contextOk (contextOf s)) (fieldsOk (contextOf s) r) (formed-context ok) range) (f .rule) (f .possible) (f .member) (f .quota) (f .held)
+      rule-fits s k r (both-yes (contextOk (contextOf s)) (fieldsOk (contextOf s) r) (formed-context ok) range) (f .rule) (f .possible) (f .member)
+      (f .quota) (f .held)
 
 pub not-there : {A : Type 0} (x : Option A) → isThere x ≡ false → x ≡ none
 unfolding isThere
@@ -103,7 +105,8 @@ pub refused-as : (x : Outcome Record) (a : Answer) (k : ℕ) (b o : List ℕ) �
 unfolding answered outcomeOn inBytes resultOf refusal
 refused-as x a k b o e f = ap (λ (y : Answer). answered y b o) e ∙ ap (λ (y : Outcome Record). outcomeOn y b o) (sym f)
 
-pub quiet-as : (s t : Server) (x : Outcome Record) (a : Answer) (b c o : List ℕ) → a ≡ quietly → x ≡ quiet s t → c ≡ image t b → answered a c o ≡ outcomeOn x b o
+pub quiet-as : (s t : Server) (x : Outcome Record) (a : Answer) (b c o : List ℕ) → a ≡ quietly → x ≡ quiet s t → c ≡ image t b
+    → answered a c o ≡ outcomeOn x b o
 quiet-as s t x a b c o e f g = quiet-outcome s t b o c a e g ∙ ap (λ (y : Outcome Record). outcomeOn y b o) (sym f)
 
 pub stored-as : (s t : Server) (x : Outcome Record) (a : Answer) (b c o : List ℕ) → a ≡ storedFirst 0 → x ≡ stored s t [] → c ≡ image t b

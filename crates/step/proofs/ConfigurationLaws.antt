@@ -45,10 +45,12 @@ module _ (h : Numbers) (id set : ℕ) (b o : List ℕ) (f : LentSuch (InForce h 
       → (s : Server) → Holds s b → answered v b o ≡ outcomeOn (answer s (regular id set)) b o
   unfolding ruleFor
   regular-untaken a₀ a₇ a₆ a₂ v q s y =
-      refused-as (answer s r) v 5 b o q (untaken s r (regular-not (h .mode) a₀ a₇ a₆ a₂ (s .membership .mode) _ (numbers-mode h s (force s y .numbers))))
+      refused-as (answer s r) v 5 b o q
+      (untaken s r (regular-not (h .mode) a₀ a₇ a₆ a₂ (s .membership .mode) _ (numbers-mode h s (force s y .numbers))))
 
   module _ (t : Bool) (g : (s : Server) → h ≡ headerOf s → t ≡ regularDue (s .membership)) where
-    pub regular-early : not t ≡ true → (v : Answer) → v ≡ refusedWith 5 → (s : Server) → Holds s b → answered v b o ≡ outcomeOn (answer s (regular id set)) b o
+    pub regular-early : not t ≡ true → (v : Answer) → v ≡ refusedWith 5 → (s : Server) → Holds s b
+        → answered v b o ≡ outcomeOn (answer s (regular id set)) b o
     unfolding possible
     regular-early n v q s y = refused-as (answer s r) v 5 b o q (impossible s r (sym (g s (force s y .numbers)) ∙ not-true t n))
 
@@ -58,15 +60,29 @@ module _ (h : Numbers) (id set : ℕ) (b o : List ℕ) (f : LentSuch (InForce h 
         passes : (s : Server) → Holds s b → Passes s r k
         unfolding ruleFor configurationOf possible fromMember withinQuota withinHeld _or_
         passes s y =
-            record { rule = numbers-at (λ m. onRegular m c ≡ some k) h s l (force s y .numbers) e i; possible = sym (g s (force s y .numbers)) ∙ not-false t n; member = rw heard refl; quota = refl; held = refl }
+            record {
+              rule = numbers-at (λ m. onRegular m c ≡ some k) h s l (force s y .numbers) e i;
+              possible = sym (g s (force s y .numbers))
+                  ∙ not-false t n;
+              member = rw heard refl;
+              quota = refl;
+              held = refl;
+            }
 
         ready : (RuleFits k (f .state) → ConfigurationFits (f .state .servers) (f .state .me) c)
             → LentSuch (λ s. ConfigurationFits (s .servers) (s .me) c) b o
         ready fits =
             let s : Server = f .state in
-            record { state = s; holds = f .holds; fact = fits (passed-fits s r k (f .holds .formed) (f .fact .range) (passes s (f .holds))); room = f .room }
+            record {
+              state = s;
+              holds = f .holds;
+              fact = fits
+                  (passed-fits s r k (f .holds .formed) (f .fact .range) (passes s (f .holds)));
+              room = f .room;
+            }
 
-        taken : (v : Answer) (x z : List ℕ) (s : Server) → Holds s b → answered v x z ≡ outcomeOn (apply k s) b o → answered v x z ≡ outcomeOn (answer s r) b o
+        taken : (v : Answer) (x z : List ℕ) (s : Server) → Holds s b → answered v x z ≡ outcomeOn (apply k s) b o
+            → answered v x z ≡ outcomeOn (answer s r) b o
         taken v x z s y w = w ∙ ap (λ (j : Outcome Record). outcomeOn j b o) (sym (passed s r k (passes s y)))
 
       pub first-ready : h .mode ≡ 0 → LentSuch (λ s. ConfigurationFits (s .servers) (s .me) (configurationOf id set)) b o
@@ -96,13 +112,15 @@ module _ (h : Numbers) (id set : ℕ) (b o : List ℕ) (f : LentSuch (InForce h 
         unfolding modeNamed pick _=?_ onRegular isIgnored apply
         un-joined e w s y = taken 7 (joining c) e refl refl v x z s y (w s s y)
 
-        pub no-joined : h .mode ≡ 6 → ((s u : Server) → Holds u b → answered v x z ≡ outcomeOn (join s (configurationOf id set) (withVotes (unmarked (u .votes)) u)) b o)
+        pub no-joined : h .mode ≡ 6
+            → ((s u : Server) → Holds u b → answered v x z ≡ outcomeOn (join s (configurationOf id set) (withVotes (unmarked (u .votes)) u)) b o)
             → (s : Server) → Holds s b → answered v x z ≡ outcomeOn (answer s (regular id set)) b o
         unfolding modeNamed pick _=?_ onRegular isIgnored apply
         no-joined e w s y = taken 6 (joiningUnmarked c) e refl refl v x z s y (w s s y)
 
         pub trans-joined : h .mode ≡ 2
-            → ((s u : Server) → Holds u b → answered v x z ≡ outcomeOn (join s (configurationOf id set) (withVotes (yellowValid (unmarked (u .votes))) u)) b o)
+            → ((s u : Server) → Holds u b → answered v x z
+            ≡ outcomeOn (join s (configurationOf id set) (withVotes (yellowValid (unmarked (u .votes))) u)) b o)
             → (s : Server) → Holds s b → answered v x z ≡ outcomeOn (answer s (regular id set)) b o
         unfolding modeNamed pick _=?_ onRegular isIgnored apply
         trans-joined e w s y = taken 2 (joiningYellow c) e refl refl v x z s y (w s s y)
@@ -119,7 +137,8 @@ module _ (h : Numbers) (set : ℕ) (b : List ℕ) (f : HoldsSuch (InForce h (tra
   force-such : (s : Server) → Holds s b → InForce h x s
   force-such s y = such-fact (InForce h x) b s f y
 
-  pub transitional-second : (t : Bool) → ((s : Server) → h ≡ headerOf s → t ≡ transitionalDue (s .membership)) → not t ≡ true → (v : Answer) → v ≡ refusedWith 5
+  pub transitional-second : (t : Bool) → ((s : Server) → h ≡ headerOf s → t ≡ transitionalDue (s .membership)) → not t ≡ true → (v : Answer)
+      → v ≡ refusedWith 5
       → (s : Server) (o : List ℕ) → Holds s b → answered v b o ≡ outcomeOn (answer s (transitional set)) b o
   unfolding possible
   transitional-second t d n v q s o y = refused-as (answer s x) v 5 b o q (impossible s x (sym (d s (force-such s y .numbers)) ∙ not-true t n))
@@ -131,7 +150,8 @@ module _ (h : Numbers) (set : ℕ) (b : List ℕ) (f : HoldsSuch (InForce h (tra
     pub transitional-untaken : l ≡ 8 → (v : Answer) → v ≡ refusedWith 5
         → (s : Server) (o : List ℕ) → Holds s b → answered v b o ≡ outcomeOn (answer s (transitional set)) b o
     unfolding ruleFor
-    transitional-untaken e v q s o y = refused-as (answer s x) v 5 b o q (untaken s x (no-transitional (s .membership .mode) set (sym (after s y) ∙ e)))
+    transitional-untaken e v q s o y =
+        refused-as (answer s x) v 5 b o q (untaken s x (no-transitional (s .membership .mode) set (sym (after s y) ∙ e)))
 
     pub transitional-left : (t : Bool) → ((s : Server) → h ≡ headerOf s → t ≡ transitionalDue (s .membership)) → (l ≡ 8 → ⊥) → not t ≡ false
         → (v : Answer) (z : List ℕ) → ((s : Server) (m : Mode) → Holds s b → l ≡ modeNumber m → z ≡ image (leave m set s) b) → v ≡ quietly
@@ -139,5 +159,12 @@ module _ (h : Numbers) (set : ℕ) (b : List ℕ) (f : HoldsSuch (InForce h (tra
     unfolding ruleFor possible isIgnored fromMember withinQuota withinHeld _or_ apply
     transitional-left t d e n v z w q s o y =
         let k = leads (s .membership .mode) set (λ i. e (after s y ∙ i)) in
-        let p : Passes s x (leaving (k .0) set) = record { rule = k .1; possible = sym (d s (force-such s y .numbers)) ∙ not-false t n; member = refl; quota = refl; held = refl } in
+        let p : Passes s x (leaving (k .0) set) = record {
+          rule = k .1;
+          possible = sym (d s (force-such s y .numbers))
+              ∙ not-false t n;
+          member = refl;
+          quota = refl;
+          held = refl;
+        } in
         quiet-as s (leave (k .0) set s) (answer s x) v b z o q (passed s x (leaving (k .0) set) p) (w s (k .0) y (after s y ∙ k .2))

@@ -35,7 +35,8 @@ late l Construct k e u v h = absurd (v e)
 late l No k e u v h = refl
 late l Un k e u v h = not-both h
 
-heard : (l : ℕ) (m : Mode) (k : ℕ) → l ≡ modeNumber m → (l ≡ 0 → ⊥) → isThere (onCpc m k) ≡ true → (j : Rule) × (onCpc m k ≡ some j) × (isIgnored j ≡ false)
+heard : (l : ℕ) (m : Mode) (k : ℕ) → l ≡ modeNumber m → (l ≡ 0 → ⊥) → isThere (onCpc m k) ≡ true
+    → (j : Rule) × (onCpc m k ≡ some j) × (isIgnored j ≡ false)
 unfolding modeNumber onCpc isThere isIgnored
 heard l Non-prim k e u h = absurd (u e)
 heard l Reg-prim k e u h = not-both h
@@ -71,13 +72,15 @@ module _ (h : Numbers) (k id : ℕ) (b o : List ℕ) (f : LentSuch (InForce h (c
   unfolding modeNamed pick _=?_ onCpc ruleFor possible isIgnored withinQuota withinHeld _or_ apply
   cpc-passed-over m v q s y =
       let z : onCpc (s .membership .mode) k ≡ some ignoring = numbers-at (λ l. onCpc l k ≡ some ignoring) h s 0 (force s y .numbers) m refl in
-      quiet-as s s (answer s r) v b b o q (passed s r ignoring (record { rule = z; possible = refl; member = refl; quota = refl; held = refl })) (sym (y .written))
+      quiet-as s s (answer s r) v b b o q (passed s r ignoring (record { rule = z; possible = refl; member = refl; quota = refl; held = refl }))
+      (sym (y .written))
 
   module _ (m : h .mode ≡ 0 → ⊥) (t : Bool) (g : (l : Mode) (i : ℕ) → h .mode ≡ modeNumber l → t ≡ isThere (onCpc l i)) where
     table : (s : Server) → Holds s b → t ≡ isThere (onCpc (s .membership .mode) k)
     table s y = g (s .membership .mode) k (numbers-mode h s (force s y .numbers))
 
-    pub cpc-untaken : not t ≡ true → (v : Answer) → v ≡ refusedWith 5 → (s : Server) → Holds s b → answered v b o ≡ outcomeOn (answer s (cpc k id)) b o
+    pub cpc-untaken : not t ≡ true → (v : Answer) → v ≡ refusedWith 5 → (s : Server) → Holds s b
+        → answered v b o ≡ outcomeOn (answer s (cpc k id)) b o
     unfolding ruleFor
     cpc-untaken n v q s y =
         refused-as (answer s r) v 5 b o q (untaken s r (not-there (onCpc (s .membership .mode) k) (sym (table s y) ∙ not-true t n)))
@@ -86,7 +89,8 @@ module _ (h : Numbers) (k id : ℕ) (b o : List ℕ) (f : LentSuch (InForce h (c
       there : (s : Server) → Holds s b → isThere (onCpc (s .membership .mode) k) ≡ true
       there s y = sym (table s y) ∙ not-false t taken
 
-      pub cpc-outside : not u ≡ true → (v : Answer) → v ≡ refusedWith 6 → (s : Server) → Holds s b → answered v b o ≡ outcomeOn (answer s (cpc k id)) b o
+      pub cpc-outside : not u ≡ true → (v : Answer) → v ≡ refusedWith 6 → (s : Server) → Holds s b
+          → answered v b o ≡ outcomeOn (answer s (cpc k id)) b o
       unfolding ruleFor possible _or_
       cpc-outside n v q s y =
           let j = heard (h .mode) (s .membership .mode) k (numbers-mode h s (force s y .numbers)) m (there s y) in
@@ -108,7 +112,13 @@ module _ (h : Numbers) (k id : ℕ) (b o : List ℕ) (f : LentSuch (InForce h (c
         pub cpc-ready : h .mode ≡ 5 → LentSuch (λ s. (k < s .servers) × (s .membership .mode ≡ Construct)) b o
         cpc-ready e =
             let s : Server = f .state in
-            record { state = s; holds = f .holds; fact = passed-fits s r (collectingCpc k) (f .holds .formed) (f .fact .range) (constructing e s (f .holds)); room = f .room }
+            record {
+              state = s;
+              holds = f .holds;
+              fact = passed-fits s r (collectingCpc k) (f .holds .formed) (f .fact .range)
+                  (constructing e s (f .holds));
+              room = f .room;
+            }
 
         pub cpc-installed : h .mode ≡ 5 → (v : Answer) (c z : List ℕ) → ((s : Server) → Holds s b → answered v c z ≡ outcomeOn (collectCpc k s) b o)
             → (s : Server) → Holds s b → answered v c z ≡ outcomeOn (answer s (cpc k id)) b o
@@ -126,7 +136,12 @@ module _ (h : Numbers) (k id : ℕ) (b o : List ℕ) (f : LentSuch (InForce h (c
         pub late-cpc-ready : (h .mode ≡ 5 → ⊥) → HoldsSuch (λ s. (k < s .servers) × (s .membership .mode ≡ No)) b
         late-cpc-ready e =
             let s : Server = f .state in
-            record { state = s; holds = f .holds; fact = passed-fits s r (collectingLateCpc k) (f .holds .formed) (f .fact .range) (waiting e s (f .holds)) }
+            record {
+              state = s;
+              holds = f .holds;
+              fact = passed-fits s r (collectingLateCpc k) (f .holds .formed) (f .fact .range)
+                  (waiting e s (f .holds));
+            }
 
         pub late-cpc-taken : (h .mode ≡ 5 → ⊥) → (v : Answer) (c : List ℕ) → ((s : Server) → Holds s b → c ≡ image (withLateCpc k s) b) → v ≡ quietly
             → (s : Server) → Holds s b → answered v c o ≡ outcomeOn (answer s (cpc k id)) b o

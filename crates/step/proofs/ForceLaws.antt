@@ -37,7 +37,8 @@ below-eight s b k r e = omega (arith, lt-holds k (s .servers) e, in-range s (r .
 abbrev pub OwnNumbered : Numbers → ActionHead → Bool → Type 0
 OwnNumbered h x t = (s : Server) (a : Action) → h ≡ headerOf s → a .id ≡ idOf (x .creator) (x .index) → t ≡ numberedOwn s a
 
-pub own-numbered : (h : Numbers) (x : ActionHead) (p : List ℕ) (t : Bool) (s : Server) → OwnNumbered h x t → h ≡ headerOf s → t ≡ numberedOwn s (actionOf x p)
+pub own-numbered : (h : Numbers) (x : ActionHead) (p : List ℕ) (t : Bool) (s : Server) → OwnNumbered h x t → h ≡ headerOf s
+    → t ≡ numberedOwn s (actionOf x p)
 unfolding actionOf
 own-numbered h x p t s f e = f s (actionOf x p) e refl
 

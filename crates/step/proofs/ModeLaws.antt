@@ -60,7 +60,8 @@ pub retransmission-planned : (k : ℕ) → k ≡ 4 → (m : Mode) (p : ℕ) (a :
 unfolding onRetransmission isThere modeNamed pick _=?_
 retransmission-planned k h m p a e = at-mode (λ n. true ≡ isThere (onRetransmission n p a)) m 4 (sym h ∙ e) refl
 
-pub retransmission-not : (k : ℕ) → (k ≡ 0 → ⊥) → (k ≡ 4 → ⊥) → (m : Mode) (p : ℕ) (a : Action) → k ≡ modeNumber m → false ≡ isThere (onRetransmission m p a)
+pub retransmission-not : (k : ℕ) → (k ≡ 0 → ⊥) → (k ≡ 4 → ⊥) → (m : Mode) (p : ℕ) (a : Action) → k ≡ modeNumber m
+    → false ≡ isThere (onRetransmission m p a)
 unfolding modeNumber onRetransmission isThere
 retransmission-not k z n Non-prim p a e = absurd (z e)
 retransmission-not k z n Reg-prim p a e = refl
@@ -98,7 +99,8 @@ cpc-not k x y z Un i e = refl
 
 -- ---- configurations
 
-pub regular-not : (k : ℕ) → (k ≡ 0 → ⊥) → (k ≡ 7 → ⊥) → (k ≡ 6 → ⊥) → (k ≡ 2 → ⊥) → (m : Mode) (c : Configuration) → k ≡ modeNumber m → onRegular m c ≡ none
+pub regular-not : (k : ℕ) → (k ≡ 0 → ⊥) → (k ≡ 7 → ⊥) → (k ≡ 6 → ⊥) → (k ≡ 2 → ⊥) → (m : Mode) (c : Configuration) → k ≡ modeNumber m
+    → onRegular m c ≡ none
 unfolding modeNumber onRegular
 regular-not k x y z w Non-prim c e = absurd (x e)
 regular-not k x y z w Reg-prim c e = refl

@@ -105,7 +105,8 @@ module _ (b e o : List ℕ) (z : stateNumber b o ≡ 0) (h : Numbers) (l : h ≡
           room = zero-ready b o z .room;
         }
 
-    pub step-taken : (a : Answer) (b₁ o₁ : List ℕ) → ((t : Server) → Holds t b → answered a b₁ o₁ ≡ outcomeOn (answer t (recordOf v e)) b o) → answered a b₁ o₁ ≡ stepOn b e o
+    pub step-taken : (a : Answer) (b₁ o₁ : List ℕ) → ((t : Server) → Holds t b → answered a b₁ o₁ ≡ outcomeOn (answer t (recordOf v e)) b o)
+        → answered a b₁ o₁ ≡ stepOn b e o
     unfolding outcomeOn onReading
     step-taken a b₁ o₁ y = y s holds ∙ sym (by-reading (says (recordOf v e)) (good-says c r v e said f))
 

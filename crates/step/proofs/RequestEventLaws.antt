@@ -20,7 +20,8 @@ use Rattle.step.specs.Answers.{answered, outcomeOn, LentSuch, InForce, r
 use Rattle.step.proofs.Chained.{lent-fact}
 use Rattle.step.proofs.AnswerLaws.{Passes, above-quota, above-held, passed, passed-fits, refused-as}
 
-module _ (h : Numbers) (p b o : List ℕ) (f : LentSuch (InForce h (request p)) b o) (t : Bool) (g : (s : Server) → h ≡ headerOf s → t ≡ quotaLeft s) where
+module _ (h : Numbers) (p b o : List ℕ) (f : LentSuch (InForce h (request p)) b o) (t : Bool)
+    (g : (s : Server) → h ≡ headerOf s → t ≡ quotaLeft s) where
   abbrev r : Record
   r = request p
 

@@ -31,7 +31,8 @@ use Rattle.step.proofs.AnswerLaws.{Passes, untaken, impossible, outside
 use Rattle.step.proofs.ForceLaws.{numbers-mode, numbers-at, below-eight, OwnNumbered, own-numbered, Member}
 
 -- In Exchange_actions it is part of the exchange, elsewhere red.
-resent : (l : ℕ) (m : Mode) (i : ℕ) (a : Action) → l ≡ modeNumber m → (l ≡ 4 → ⊥) → isThere (onRetransmission m i a) ≡ true → onRetransmission m i a ≡ some (reddening a)
+resent : (l : ℕ) (m : Mode) (i : ℕ) (a : Action) → l ≡ modeNumber m → (l ≡ 4 → ⊥) → isThere (onRetransmission m i a) ≡ true
+    → onRetransmission m i a ≡ some (reddening a)
 unfolding modeNumber onRetransmission isThere
 resent l Non-prim i a e n h = refl
 resent l Reg-prim i a e n h = not-both h
@@ -43,7 +44,8 @@ resent l No i a e n h = not-both h
 resent l Un i a e n h = not-both h
 
 -- None is ignored.
-heard : (m : Mode) (i : ℕ) (a : Action) → isThere (onRetransmission m i a) ≡ true → (k : Rule) × (onRetransmission m i a ≡ some k) × (isIgnored k ≡ false)
+heard : (m : Mode) (i : ℕ) (a : Action) → isThere (onRetransmission m i a) ≡ true
+    → (k : Rule) × (onRetransmission m i a ≡ some k) × (isIgnored k ≡ false)
 unfolding onRetransmission isThere isIgnored
 heard Non-prim i a h = (reddening a, refl, refl)
 heard Reg-prim i a h = not-both h
@@ -118,9 +120,16 @@ module _ (h : Numbers) (x : ActionHead) (p b o : List ℕ) (j i : ℕ) (f : Lent
         pub exchange-ready : h .mode ≡ 4 → LentSuch (λ s. Delivered s (actionOf x p) × (s .membership .mode ≡ Exchange-actions)) b o
         exchange-ready m =
             let s : Server = f .state in
-            record { state = s; holds = f .holds; fact = passed-fits s r (exchanging i a) (f .holds .formed) (f .fact .range) (planned m s (f .holds)); room = f .room }
+            record {
+              state = s;
+              holds = f .holds;
+              fact = passed-fits s r (exchanging i a) (f .holds .formed) (f .fact .range)
+                  (planned m s (f .holds));
+              room = f .room;
+            }
 
-        pub resent-exchanged : h .mode ≡ 4 → (v : Answer) (c z : List ℕ) → ((s : Server) → Holds s b → answered v c z ≡ outcomeOn (exchange i (actionOf x p) s) b o)
+        pub resent-exchanged : h .mode ≡ 4 → (v : Answer) (c z : List ℕ)
+            → ((s : Server) → Holds s b → answered v c z ≡ outcomeOn (exchange i (actionOf x p) s) b o)
             → (s : Server) → Holds s b → answered v c z ≡ outcomeOn (answer s (retransmission j i (actionOf x p))) b o
         unfolding apply
         resent-exchanged m v c z y s l =

@@ -34,19 +34,24 @@ module _ (t u : Bool) (x y z : Bool) (e : t ≡ x) where
     third q w g = and-yes (not w) x (y and not z) (sym e ∙ not-false t p) (and-yes (not w) y (not z) (sym f ∙ not-false u q) (ap not g))
 
 module _ (h : Numbers) (k id : ℕ) (t : Bool) (e : Member h k t) where
-  pub state-stranger : not t ≡ true → (s : Server) (x : State) → h ≡ headerOf s → x .sender ≡ k → x .configuration ≡ id → false ≡ fromMember (s .membership) (state x)
+  pub state-stranger : not t ≡ true → (s : Server) (x : State) → h ≡ headerOf s → x .sender ≡ k → x .configuration ≡ id
+      → false ≡ fromMember (s .membership) (state x)
   unfolding fromMember
-  state-stranger n s x l a c = first-no t true _ (isOf (s .membership .configuration) (x .configuration)) (stateIn (s .membership) (x .sender)) (e s l ∙ ap (memberOf (s .membership .configuration)) (sym a)) n
+  state-stranger n s x l a c =
+      first-no t true _ (isOf (s .membership .configuration) (x .configuration)) (stateIn (s .membership) (x .sender))
+      (e s l ∙ ap (memberOf (s .membership .configuration)) (sym a)) n
 
   pub cpc-stranger : not t ≡ true → (s : Server) → h ≡ headerOf s → false ≡ fromMember (s .membership) (cpc k id)
   unfolding fromMember
   cpc-stranger n s l = first-no t true _ (isOf (s .membership .configuration) id) (cpcIn (s .membership) k) (e s l) n
 
   module _ (p : not t ≡ false) (u : Bool) (f : IsOf h id u) where
-    pub state-elsewhere : not u ≡ true → (s : Server) (x : State) → h ≡ headerOf s → x .sender ≡ k → x .configuration ≡ id → false ≡ fromMember (s .membership) (state x)
+    pub state-elsewhere : not u ≡ true → (s : Server) (x : State) → h ≡ headerOf s → x .sender ≡ k → x .configuration ≡ id
+        → false ≡ fromMember (s .membership) (state x)
     unfolding fromMember
     state-elsewhere n s x l a c =
-        second-no t u _ _ (stateIn (s .membership) (x .sender)) (e s l ∙ ap (memberOf (s .membership .configuration)) (sym a)) p (f s l ∙ ap (isOf (s .membership .configuration)) (sym c)) n
+        second-no t u _ _ (stateIn (s .membership) (x .sender)) (e s l ∙ ap (memberOf (s .membership .configuration)) (sym a)) p
+        (f s l ∙ ap (isOf (s .membership .configuration)) (sym c)) n
 
     pub cpc-elsewhere : not u ≡ true → (s : Server) → h ≡ headerOf s → false ≡ fromMember (s .membership) (cpc k id)
     unfolding fromMember
@@ -56,7 +61,8 @@ module _ (h : Numbers) (k id : ℕ) (t : Bool) (e : Member h k t) where
         → (s : Server) (x : State) → h ≡ headerOf s → x .sender ≡ k → x .configuration ≡ id → not w ≡ fromMember (s .membership) (state x)
     unfolding fromMember
     state-once n w g s x l a c =
-        third t u _ _ _ (e s l ∙ ap (memberOf (s .membership .configuration)) (sym a)) p (f s l ∙ ap (isOf (s .membership .configuration)) (sym c)) n w
+        third t u _ _ _ (e s l ∙ ap (memberOf (s .membership .configuration)) (sym a)) p
+        (f s l ∙ ap (isOf (s .membership .configuration)) (sym c)) n w
         (g s l ∙ ap (stateIn (s .membership)) (sym a))
 
     pub cpc-once : not u ≡ false → (w : Bool) → CpcIn h k w → (s : Server) → h ≡ headerOf s → not w ≡ fromMember (s .membership) (cpc k id)

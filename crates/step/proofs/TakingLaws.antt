@@ -32,6 +32,9 @@ use Rattle.step.proofs.AnswerLaws.{Passes, passed, stored-as}
 
 -- ---- a part of the bytes, as the code lends it
 
+abbrev pub payloadLent : ActionAt → List ℕ → List ℕ
+payloadLent a e = take (a .«payload_at» + a .«payload_length» - a .«payload_at») (drop (a .«payload_at») e)
+
 sliced : (at m : ℕ) (e : List ℕ) → partAt m e at ≡ take (at + m - at) (drop at e)
 unfolding partAt
 sliced at m e = let n : m ≡ at + m - at = omega arith in ap (λ (k : ℕ). take k (drop at e)) n
@@ -40,10 +43,12 @@ sliced at m e = let n : m ≡ at + m - at = omega arith in ap (λ (k : ℕ). tak
 module _ (f : List ℕ → Record) (h : Numbers) (at m : ℕ) (e b : List ℕ) where
   lent-part : (o : List ℕ) → LentSuch (PartInForce h (f (partAt m e at)) at m e) b o → LentSuch (InForce h (f (take (at + m - at) (drop at e)))) b o
   lent-part o l =
-      subst (λ (p : List ℕ). LentSuch (InForce h (f p)) b o) (sliced at m e) (record { state = l .state; holds = l .holds; fact = l .fact .force; room = l .room })
+      subst (λ (p : List ℕ). LentSuch (InForce h (f p)) b o) (sliced at m e)
+      (record { state = l .state; holds = l .holds; fact = l .fact .force; room = l .room })
 
   held-part : HoldsSuch (PartInForce h (f (partAt m e at)) at m e) b → HoldsSuch (InForce h (f (take (at + m - at) (drop at e)))) b
-  held-part l = subst (λ (p : List ℕ). HoldsSuch (InForce h (f p)) b) (sliced at m e) (record { state = l .state; holds = l .holds; fact = l .fact .force })
+  held-part l =
+      subst (λ (p : List ℕ). HoldsSuch (InForce h (f p)) b) (sliced at m e) (record { state = l .state; holds = l .holds; fact = l .fact .force })
 
 answered-part : (f : List ℕ → Record) (at m : ℕ) (e : List ℕ) (v : Answer) (b o c z : List ℕ) (s : Server)
     → answered v c z ≡ outcomeOn (answer s (f (take (at + m - at) (drop at e)))) b o → answered v c z ≡ outcomeOn (answer s (f (partAt m e at))) b o
@@ -57,27 +62,29 @@ module _ (h : Numbers) (a : ActionAt) (e b : List ℕ) where
   m = a .«payload_length»
 
   pub act-ready : HoldsSuch (PartInForce h (action (actionFrom a e)) (a .«payload_at») (a .«payload_length») e) b
-      → HoldsSuch (InForce h (action (actionOf (a .head) (take (a .«payload_at» + a .«payload_length» - a .«payload_at») (drop (a .«payload_at») e))))) b
+      → HoldsSuch (InForce h (action (actionOf (a .head) (payloadLent a e)))) b
   unfolding actionFrom
   act-ready l = held-part (λ p. action (actionOf (a .head) p)) h at m e b l
 
-  pub resent-ready : (k i : ℕ) (o : List ℕ) → LentSuch (PartInForce h (retransmission k i (actionFrom a e)) (a .«payload_at») (a .«payload_length») e) b o
-      → LentSuch (InForce h (retransmission k i (actionOf (a .head) (take (a .«payload_at» + a .«payload_length» - a .«payload_at») (drop (a .«payload_at») e))))) b o
+  pub resent-ready : (k i : ℕ) (o : List ℕ)
+      → LentSuch (PartInForce h (retransmission k i (actionFrom a e)) (a .«payload_at») (a .«payload_length») e) b o
+      → LentSuch (InForce h (retransmission k i (actionOf (a .head) (payloadLent a e)))) b o
   unfolding actionFrom
   resent-ready k i o l = lent-part (λ p. retransmission k i (actionOf (a .head) p)) h at m e b o l
 
 module _ (a : ActionAt) (e b c : List ℕ) (v : Answer) where
   pub act-done : ((s : Server) (o : List ℕ) → Holds s b
-      → answered v c o ≡ outcomeOn (answer s (action (actionOf (a .head) (take (a .«payload_at» + a .«payload_length» - a .«payload_at») (drop (a .«payload_at») e))))) b o)
+      → answered v c o ≡ outcomeOn (answer s (action (actionOf (a .head) (payloadLent a e)))) b o)
       → (s : Server) (o : List ℕ) → Holds s b → answered v c o ≡ outcomeOn (answer s (action (actionFrom a e))) b o
   unfolding actionFrom
   act-done y s o i = answered-part (λ p. action (actionOf (a .head) p)) (a .«payload_at») (a .«payload_length») e v b o c o s (y s o i)
 
   pub resent-done : (k i : ℕ) (o z : List ℕ) → ((s : Server) → Holds s b
-      → answered v c z ≡ outcomeOn (answer s (retransmission k i (actionOf (a .head) (take (a .«payload_at» + a .«payload_length» - a .«payload_at») (drop (a .«payload_at») e))))) b o)
+      → answered v c z ≡ outcomeOn (answer s (retransmission k i (actionOf (a .head) (payloadLent a e)))) b o)
       → (s : Server) → Holds s b → answered v c z ≡ outcomeOn (answer s (retransmission k i (actionFrom a e))) b o
   unfolding actionFrom
-  resent-done k i o z y s l = answered-part (λ p. retransmission k i (actionOf (a .head) p)) (a .«payload_at») (a .«payload_length») e v b o c z s (y s l)
+  resent-done k i o z y s l =
+      answered-part (λ p. retransmission k i (actionOf (a .head) p)) (a .«payload_at») (a .«payload_length») e v b o c z s (y s l)
 
 pub requested-ready : (h : Numbers) (at m : ℕ) (e b o : List ℕ) → LentSuch (PartInForce h (request (partAt m e at)) at m e) b o
     → LentSuch (InForce h (request (take (at + m - at) (drop at e)))) b o
@@ -112,7 +119,15 @@ module _ (h : Numbers) (v : Event) (e b o : List ℕ) (f : LentSuch (ReadInForce
   pub arm-action : (a : ActionAt) → v ≡ Action a → HoldsSuch (PartInForce h (action (actionFrom a e)) (a .«payload_at») (a .«payload_length») e) b
   unfolding recordOf
   arm-action a q =
-      record { state = f .state; holds = f .holds; fact = record { force = force-as (Action a) q; inside = action-placed (readingContext h) v e a (f .fact .placed) q .inside } }
+      record {
+        state = f .state;
+        holds = f .holds;
+        fact = record {
+          force = force-as (Action a) q;
+          inside = action-placed (readingContext h) v e a
+              (f .fact .placed) q .inside;
+        };
+      }
 
   pub arm-retransmission : (k i : ℕ) (a : ActionAt) → v ≡ Retransmission k i a
       → LentSuch (PartInForce h (retransmission k i (actionFrom a e)) (a .«payload_at») (a .«payload_length») e) b o
@@ -147,7 +162,16 @@ module _ (h : Numbers) (v : Event) (e b o : List ℕ) (f : LentSuch (ReadInForce
   pub arm-request : (at m : ℕ) → v ≡ Request at m → LentSuch (PartInForce h (request (partAt m e at)) at m e) b o
   unfolding recordOf
   arm-request at m q =
-      record { state = f .state; holds = f .holds; fact = record { force = force-as (Request at m) q; inside = request-placed (readingContext h) v e at m (f .fact .placed) q .inside }; room = f .room }
+      record {
+        state = f .state;
+        holds = f .holds;
+        fact = record {
+          force = force-as (Request at m) q;
+          inside = request-placed
+              (readingContext h) v e at m (f .fact .placed) q .inside;
+        };
+        room = f .room;
+      }
 
   pub arm-recovery : v ≡ Recovery → HoldsSuch (InForce h recovery) b
   unfolding recordOf
@@ -192,12 +216,14 @@ module _ (v : Event) (e b o c z : List ℕ) (r : Answer) where
 
 -- Those that leave the outgoing buffer as it is.
 module _ (v : Event) (e b o c : List ℕ) (r : Answer) where
-  pub action-done : (a : ActionAt) → v ≡ Action a → ((s : Server) (z : List ℕ) → Holds s b → answered r c z ≡ outcomeOn (answer s (action (actionFrom a e))) b z)
+  pub action-done : (a : ActionAt) → v ≡ Action a
+      → ((s : Server) (z : List ℕ) → Holds s b → answered r c z ≡ outcomeOn (answer s (action (actionFrom a e))) b z)
       → (s : Server) → Holds s b → answered r c o ≡ outcomeOn (answer s (recordOf v e)) b o
   unfolding recordOf
   action-done a q y = done-as v e b o c o r (Action a) q (λ s i. y s o i)
 
-  pub transitional-done : (k : ℕ) → v ≡ Transitional k → ((s : Server) (z : List ℕ) → Holds s b → answered r c z ≡ outcomeOn (answer s (transitional k)) b z)
+  pub transitional-done : (k : ℕ) → v ≡ Transitional k
+      → ((s : Server) (z : List ℕ) → Holds s b → answered r c z ≡ outcomeOn (answer s (transitional k)) b z)
       → (s : Server) → Holds s b → answered r c o ≡ outcomeOn (answer s (recordOf v e)) b o
   unfolding recordOf
   transitional-done k q y = done-as v e b o c o r (Transitional k) q (λ s i. y s o i)
