@@ -2,12 +2,12 @@
 -- Assumes nothing.
 use Prim.Native.Nat.{ℕ, zero, suc, _+_, _*_, _-_, _≤_, _<_}
 use mathlib.Core.Path.{_≡_, refl, sym, ap, ap₂, subst, _∙_}
-use mathlib.Core.Bool.{Bool, true, false, not}
+use mathlib.Core.Bool.{true, false, not}
 use mathlib.Core.List.{List, [], _∷_, _++_, append-nil}
-use mathlib.Core.Option.{Option, none, some}
+use mathlib.Core.Option.{some}
 use native.Mathlib.Omega.{arith}
 use native.Mathlib.Nat.{mul-le-mul-right}
-use lib.ListN.{length, getD, take, drop, take-append-drop}
+use lib.ListN.{length, drop, take-append-drop}
 use borrow.Author.Tests.{not-true, not-false}
 use Rattle.base.specs.Bytes.{numberAt, joined}
 use Rattle.base.specs.Comparable.{gather-all-append}
@@ -16,17 +16,16 @@ use Rattle.base.specs.ListLaws.{Each, each-at}
 use Rattle.base.specs.Occurs.{Occurs, occurs-first, occurs-second}
 use Rattle.base.specs.Patched.{patched}
 use Rattle.base.specs.Tests.{pick, pick-yes, pick-no}
-use Rattle.format.specs.Types.{Id, Action, State, Record, Context}
+use Rattle.format.specs.Types.{Action, Record, Context}
 use Rattle.format.specs.Read.{idAt, actionAt}
 use Rattle.format.specs.Write.{actionBytes}
 use Rattle.format.proofs.Fields.{action-read}
 use Rattle.format.proofs.Ranges.{ContextRange, ActionRange}
 use Rattle.record.specs.Values.{idOf}
-use Rattle.replication.specs.Machine.Types.{Log, Server, contextOf}
-use Rattle.replication.specs.Machine.Colours.{find}
-use Rattle.replication.specs.Machine.Plan.{highest, lowest, resender, missing, cutIn, greenIn, isMe, resent, resendGreen, resendRed, ownPart}
+use Rattle.replication.specs.Machine.Types.{Server, contextOf}
+use Rattle.replication.specs.Machine.Plan.{highest, missing, cutIn, greenIn, resendGreen, resendRed, ownPart}
 use Rattle.replication.specs.Machine.Step.{collected}
-use Rattle.replication.specs.Machine.WellFormed.{queue, wellFormed}
+use Rattle.replication.specs.Machine.WellFormed.{queue}
 use Rattle.replication.proofs.WellFormed.Changes.{Body, body, collected-fit}
 use Rattle.replication.proofs.WellFormed.Decisions.{green-bound, cut-bound}
 use Rattle.replication.proofs.WellFormed.Facts.{well-formed-facts}
@@ -38,7 +37,7 @@ use Rattle.engine.proofs.Fit.{well-formed-fits}
 use Rattle.engine.proofs.InPlace.{Holds}
 use Rattle.engine.proofs.InRange.{in-range}
 use Rattle.engine.proofs.Used.{action-slot-length}
-use Rattle.queue.specs.Queue.{serversOf, quotaOf, queueCount, greenCount, queueAt}
+use Rattle.queue.specs.Queue.{serversOf, quotaOf, queueCount, queueAt}
 use Rattle.queue.proofs.Holding.{numbers, holds-counts, holds-decoded}
 use Rattle.queue.proofs.ReadLaws.{queue-read, actions-at}
 use Rattle.step.specs.Answers.{LentSuch, recordBytes}

@@ -2,7 +2,6 @@
 -- Assumes nothing.
 use Prim.Native.Nat.{ℕ, zero, suc, _+_, _*_, _-_, _≤_, _<_}
 use mathlib.Core.Path.{_≡_, refl, sym, ap, ap₂, subst, _∙_}
-use mathlib.Core.Bool.{true, false}
 use mathlib.Core.List.{List, [], _∷_, _++_, append-nil, map, map-append}
 use mathlib.Core.Option.{Option, none, some}
 use native.Mathlib.Omega.{arith}
@@ -14,8 +13,7 @@ use Rattle.base.specs.Comparable.{gather-append}
 use Rattle.base.specs.Lists.{at, atFront, gather, after, above}
 use Rattle.base.specs.ListLaws.{above-more}
 use Rattle.base.specs.Patched.{patched, patched-length, patched-next, patched-none}
-use Rattle.base.specs.Tests.{_≤?_, pick, pick-le}
-use Rattle.format.specs.Limits.{mostPayload}
+use Rattle.base.specs.Tests.{pick-le}
 use Rattle.format.specs.Types.{Action, Record, retransmission}
 use Rattle.format.specs.Write.{write, lengthOf}
 use Rattle.format.proofs.Lengths.{write-length}
@@ -24,11 +22,10 @@ use Rattle.record.specs.declared.writer.Written.{Written}
 use Rattle.record.specs.declared.writer.Written.the-variants.{Next, Full}
 use Rattle.record.specs.Events.{actionIn, actionFrom}
 use Rattle.record.specs.Values.{idOf, actionOf, slot}
-use Rattle.record.specs.Written.{Put, next, full, put, putOf}
+use Rattle.record.specs.Written.{next, full, put, putOf}
 use Rattle.replication.specs.Machine.Colours.{find}
 use Rattle.replication.specs.Machine.Plan.{resent}
 use Rattle.engine.specs.Layout.{slotSize}
-use Rattle.engine.specs.Decode.{actionsAt}
 use Rattle.queue.specs.Queue.{queueCount, greenCount, queueAt}
 use Rattle.queue.proofs.Positions.{actions-count}
 use Rattle.queue.proofs.ReadLaws.{actions-at, slot-read}

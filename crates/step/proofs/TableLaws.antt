@@ -2,9 +2,9 @@
 -- Assumes nothing.
 use Prim.Native.Nat.{ℕ, zero, suc, _+_, _*_, _-_, _≤_, _<_}
 use mathlib.Core.Path.{_≡_, refl, sym, ap, subst, _∙_}
-use mathlib.Core.Bool.{true, false}
+use mathlib.Core.Bool.{false}
 use mathlib.Core.List.{List, [], _∷_}
-use mathlib.Core.Option.{Option, none, some}
+use mathlib.Core.Option.{none, some}
 use native.Mathlib.Decide.{ℕ-discrete}
 use native.Mathlib.Omega.{arith}
 use lib.ListN.{length, getD, drop, set, replicate, length-set, length-replicate}
@@ -16,12 +16,13 @@ use Rattle.format.specs.Types.{Id, Action}
 use Rattle.format.specs.Range.{sameId}
 use Rattle.format.specs.Read.{idAt, actionAt}
 use Rattle.record.specs.Values.{idOf, slot}
+use Rattle.record.proofs.OnePass.{getD-zeros}
 use Rattle.replication.specs.Machine.Colours.{find}
 use Rattle.replication.proofs.WellFormed.Ids.{same-id-yes, same-id-holds}
 use Rattle.engine.specs.Layout.{slotSize}
 use Rattle.engine.specs.Decode.{actionsAt}
 use Rattle.queue.specs.Queue.{queueCount, queueAt}
-use Rattle.queue.proofs.Positions.{actions-drop, actions-count}
+use Rattle.queue.proofs.Positions.{actions-count}
 use Rattle.queue.proofs.ReadLaws.{actions-at}
 use Rattle.step.specs.Resending.{queueIn, slotPlace, InTable, QueueIn, named, Filled}
 
@@ -57,11 +58,6 @@ entry-made b k p x y r q h e f g m = m ∙ ap slot (same b k p x y q h e f g)
 
 -- ---- the pass, from the last action to the first
 
-zeros-at : (n i : ℕ) → getD (replicate {A = ℕ} n 0) i 0 ≡ 0
-zeros-at zero i = refl
-zeros-at (suc n) zero = refl
-zeros-at (suc n) (suc i) = zeros-at n i
-
 none-left : (d : Id) (l : List Action) (k : ℕ) → length l ≤ k → find d (drop k l) ≡ none
 unfolding find
 none-left d [] zero h = refl
@@ -75,9 +71,9 @@ filled-start b k e = (
   omega arith,
   record {
     size = length-replicate {A = ℕ} 2048 0;
-    low = λ i. omega (arith, zeros-at 2048 i);
+    low = λ i. omega (arith, getD-zeros 2048 i);
     names = λ d r.
-        ap (named (queueIn b)) (zeros-at 2048 (slot d))
+        ap (named (queueIn b)) (getD-zeros 2048 (slot d))
         ∙ sym (none-left d (queueIn b) k (omega (arith, actions-count (queueCount b) b (queueAt b))));
   },
 )
