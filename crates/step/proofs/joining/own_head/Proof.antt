@@ -1,0 +1,14 @@
+use borrow.Author.Needs.{needs}
+use Rattle.step.specs.Sending.{ownHead}
+use Rattle.step.proofs.joining.own_head.Statement.{statement}
+use Rattle.step.proofs.joining.own_head.Tie as tie
+use Rattle.step.proofs.joining.own_head.Reads as reads
+use Rattle.step.proofs.joining.own_head.Lts as lts
+
+-- src/joining.rt:26:1
+returns : tie.Need-returns
+unfolding ownHead
+returns c = search needs
+
+pub own-head-spec : {M : Type 1} → statement M
+own-head-spec = tie.close (tie.spec returns)

@@ -1,0 +1,16 @@
+use Rattle.step.proofs.RowsLaws.{outside-all, member-told}
+use borrow.Author.Needs.{needs}
+use Rattle.step.proofs.rows.is_member.Statement.{statement}
+use Rattle.step.proofs.rows.is_member.Tie as tie
+
+returns : tie.Need-returns
+returns c = search (needs, outside-all)
+
+in-set-requires : tie.Need-in-set-requires
+in-set-requires c κs = search needs
+
+returns-2 : tie.Need-returns-2
+returns-2 c = search (needs, member-told)
+
+pub is-member-spec : {M : Type 1} → statement M
+is-member-spec = tie.close (tie.spec returns in-set-requires returns-2)

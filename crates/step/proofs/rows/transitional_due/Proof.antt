@@ -1,0 +1,10 @@
+use Rattle.step.proofs.RowsLaws.{transitional-first}
+use borrow.Author.Needs.{needs}
+use Rattle.step.proofs.rows.transitional_due.Statement.{statement}
+use Rattle.step.proofs.rows.transitional_due.Tie as tie
+
+returns : tie.Need-returns
+returns c = search (needs, transitional-first)
+
+pub transitional-due-spec : {M : Type 1} → statement M
+transitional-due-spec = tie.close (tie.spec returns)

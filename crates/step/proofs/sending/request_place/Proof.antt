@@ -1,0 +1,26 @@
+use Rattle.step.proofs.HeldLaws.{place-made}
+use borrow.Author.Needs.{needs}
+use Rattle.step.proofs.sending.request_place.Statement.{statement}
+use Rattle.step.proofs.sending.request_place.Tie as tie
+use Rattle.step.proofs.sending.request_place.Reads as reads
+use Rattle.step.proofs.sending.request_place.Lts as lts
+use Rattle.lists.proofs.requests.held_place.Reads as held-place-reads
+
+-- src/sending.rt:30:5
+held-place-requires : tie.Need-held-place-requires
+held-place-requires c κs = search needs
+
+-- src/sending.rt:30:25
+mul-result : tie.Need-mul-result
+mul-result c = search needs
+
+-- src/sending.rt:30:5
+add-result : tie.Need-add-result
+add-result c = search needs
+
+-- src/sending.rt:26:1
+returns : tie.Need-returns
+returns c = place-made _ _ _ (search needs) (search needs) (search needs)
+
+pub request-place-spec : {M : Type 1} → statement M
+request-place-spec = tie.close (tie.spec held-place-requires mul-result add-result returns)

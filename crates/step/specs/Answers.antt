@@ -1,0 +1,96 @@
+-- What the code of a step answers, and what it may rely on.
+-- Assumes nothing.
+use Prim.Native.Nat.{ℕ, _≤_, _<_}
+use mathlib.Core.Path.{_≡_}
+use mathlib.Core.Bool.{true}
+use mathlib.Core.List.{List, map}
+use lib.ListN.{length}
+use Rattle.base.specs.Tests.{pick}
+use Rattle.base.specs.Bytes.{joined}
+use Rattle.format.specs.Limits.{mostIndex}
+use Rattle.format.specs.Types.{State, Record, state}
+use Rattle.format.specs.Range.{fieldsOk}
+use Rattle.format.specs.Write.{write}
+use Rattle.replication.specs.Machine.Types.{Exchange-states, Un, Server, Outcome, inMode, contextOf}
+use Rattle.replication.specs.Machine.Step.{inBytes, withCpc, allCpcsIn}
+use Rattle.replication.specs.Machine.WellFormedFacts.{Configured}
+use Rattle.replication.proofs.WellFormed.RuleFacts.{StateCame}
+use Rattle.record.specs.declared.State.{State as Numbers}
+use Rattle.engine.specs.Header.{headerOf}
+use Rattle.engine.specs.Layout.{outLength}
+use Rattle.engine.specs.Outcome.{Result, resultOf}
+use Rattle.engine.proofs.InPlace.{Holds}
+use Rattle.step.specs.declared.Answer.{Answer}
+
+-- An answer, and both buffers afterwards.
+unfoldable pub answered : Answer → List ℕ → List ℕ → Result
+answered a b o = record { number = a .number; store = a .store; sent = a .sent; state = b; out = o }
+
+-- An outcome of the machine over both buffers.
+unfoldable pub outcomeOn : Outcome Record → List ℕ → List ℕ → Result
+outcomeOn x b o = resultOf (inBytes x) b o
+
+-- The buffer b holds a state of which P is known.
+pub record HoldsSuch (P : Server → Type 0) (b : List ℕ) : Type 0 where
+  pub state : Server
+  pub holds : Holds state b
+  pub fact : P state
+
+-- The same, and o has room for all that an event puts out.
+pub record LentSuch (P : Server → Type 0) (b o : List ℕ) : Type 0 where
+  pub state : Server
+  pub holds : Holds state b
+  pub fact : P state
+  pub room : outLength (state .servers) (state .quota) ≤ length o
+
+-- A refusal leaves both buffers as they are.
+abbrev pub refusedWith : ℕ → Answer
+refusedWith k = record { number = k; store = 0; sent = 0 }
+
+-- Nothing stored, nothing sent.
+abbrev pub quietly : Answer
+quietly = record { number = 0; store = 0; sent = 0 }
+
+-- So many bytes sent, with the state stored first.
+abbrev pub storedFirst : ℕ → Answer
+storedFirst m = record { number = 0; store = 1; sent = m }
+
+-- So many bytes sent, with nothing stored.
+abbrev pub sentOnly : ℕ → Answer
+sentOnly m = record { number = 0; store = 0; sent = m }
+
+-- Records one after another, as bytes.
+unfoldable pub recordBytes : List Record → List ℕ
+recordBytes rs = joined (map write rs)
+
+-- The bytes e are those of a State that the server s collects from its sender k.
+pub record Came (k : ℕ) (e : List ℕ) (s : Server) : Type 0 where
+  pub sent : State
+  pub written : write (state sent) ≡ e
+  pub sender : sent .sender ≡ k
+  pub came : StateCame s sent
+  pub mode : s .membership .mode ≡ Exchange-states
+
+-- The CPC of k in No: "all CPCs in, to Un".
+unfoldable pub withLateCpc : ℕ → Server → Server
+withLateCpc k s = pick (allCpcsIn (withCpc k s)) (inMode Un (withCpc k s)) (withCpc k s)
+
+-- k is the number of Reg_prim or Trans_prim, in which s may be after Install: it has a configuration, and its primary index can rise.
+pub record Installs (k : ℕ) (s : Server) : Type 0 where
+  pub from : 1 ≤ k
+  pub to : k ≤ 2
+  pub configured : Configured s
+  pub index : s .votes .last .index < mostIndex
+
+-- h are the numbers of the state s, and the record r is in range in it.
+pub record InForce (h : Numbers) (r : Record) (s : Server) : Type 0 where
+  pub numbers : h ≡ headerOf s
+  pub range : fieldsOk (contextOf s) r ≡ true
+
+-- The same of a State of server k in the configuration `id` whose bytes are e.
+pub record StateInForce (h : Numbers) (k id : ℕ) (e : List ℕ) (s : Server) : Type 0 where
+  pub sent : State
+  pub written : write (state sent) ≡ e
+  pub sender : sent .sender ≡ k
+  pub configuration : sent .configuration ≡ id
+  pub force : InForce h (state sent) s

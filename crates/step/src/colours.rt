@@ -1,0 +1,47 @@
+// Actions that a state colours green or yellow.
+ghost use mathlib.Core.Path.{_≡_};
+ghost use Rattle.record.specs.Values.{actionOf};
+ghost use Rattle.replication.specs.Machine.Types.{Server};
+ghost use mathlib.Core.Bool.{true};
+ghost use Rattle.replication.specs.Machine.Colours.{isNext, yellow as yellowed};
+ghost use Rattle.replication.specs.Machine.Step.{greenAndNote};
+ghost use Rattle.replication.proofs.WellFormed.RuleFacts.{Delivered};
+ghost use Rattle.engine.specs.Image.{image};
+ghost use Rattle.engine.proofs.InPlace.{Holds};
+ghost use Rattle.step.specs.Answers.{HoldsSuch};
+use lists::notes::note;
+use lists::yellow::join_yellow;
+use queue::entering::enter;
+use queue::greening::green;
+use record::ActionHead;
+use record::bytes::num16;
+
+// "Reg_prim: action green; the creator's green length is noted"
+pub fn green_and_note(state: &mut [u8], head: ActionHead, payload: &[u8])
+    requires { ⌜ HoldsSuch (λ s. Delivered s (actionOf head (now payload))) (now state) ⌝ }
+    ensures { λ _. ⌜ ((s : Server) → Holds s (now (state .entry)) → now (state .exit) ≡ image (greenAndNote (actionOf head (now (payload .entry))) s) (now (state .entry))) ⌝ }
+{
+    green(state, head, payload);
+    note(state, head.creator, head.green_length);
+}
+
+// The action is entered, and its id joins the yellow list.
+fn enter_yellow(state: &mut [u8], head: ActionHead, payload: &[u8])
+    requires { ⌜ HoldsSuch (λ s. Delivered s (actionOf head (now payload)) × (isNext (s .log) (actionOf head (now payload)) ≡ true)) (now state) ⌝ }
+    ensures { λ _. ⌜ ((s : Server) → Holds s (now (state .entry)) → now (state .exit) ≡ image (yellowed (actionOf head (now (payload .entry))) s) (now (state .entry))) ⌝ }
+{
+    enter(state, head, payload);
+    join_yellow(state, head.creator, head.index);
+}
+
+// "as red, and its id joins the yellow list if it was entered"
+pub fn yellow(state: &mut [u8], head: ActionHead, payload: &[u8])
+    requires { ⌜ HoldsSuch (λ s. Delivered s (actionOf head (now payload))) (now state) ⌝ }
+    ensures { λ _. ⌜ ((s : Server) → Holds s (now (state .entry)) → now (state .exit) ≡ image (yellowed (actionOf head (now (payload .entry))) s) (now (state .entry))) ⌝ }
+{
+    let cut = num16(state, 60 + 2 * head.creator as usize);
+    if cut as u32 + 1 != head.index as u32 {
+        return;
+    }
+    enter_yellow(state, head, payload);
+}

@@ -1,0 +1,94 @@
+// A regular configuration: "on entry collected States and CPCs are dropped, the state is stored, a State sent."
+ghost use mathlib.Core.Path.{_≡_};
+ghost use Prim.Native.Nat.{ℕ, _≤_};
+ghost use lib.ListN.{length};
+ghost use Rattle.replication.specs.Machine.Types.{Server, withVotes};
+ghost use Rattle.replication.specs.Machine.Step.{join as joined, unmarked, yellowValid};
+ghost use Rattle.replication.specs.Machine.WellFormedRanges.{ConfigurationFits};
+ghost use Rattle.lists.specs.Lists.{configurationOf};
+ghost use Rattle.engine.specs.Header.{headerIn};
+ghost use Rattle.engine.specs.Image.{over};
+ghost use Rattle.engine.proofs.InPlace.{Holds};
+ghost use Rattle.step.specs.Answers.{answered, outcomeOn, LentSuch, recordBytes};
+ghost use Rattle.step.specs.Sending.{ownHead, ownRecord};
+use crate::Answer;
+use engine::header::load;
+use lists::membership::enter_exchange;
+use lists::votes::clear_mark;
+use lists::votes::make_yellow_valid;
+use lists::yellow::yellow_place;
+use record::State;
+use record::StateHead;
+use record::writer::Written;
+use record::writer::write_state;
+
+// The numbers of the State that a server with the numbers h sends in this configuration.
+fn own_head(h: State, id: u32) -> StateHead
+    ensures { λ r. ⌜ r ≡ ownHead h id ⌝ }
+{
+    let attempt = h.attempt;
+    let last = h.last;
+    let mark = h.mark;
+    StateHead {
+        sender: h.me,
+        configuration: id,
+        servers: h.servers,
+        green_length: h.green_length,
+        attempt,
+        last,
+        mark,
+        yellow_status: h.yellow_status,
+        yellow_count: h.yellow_count,
+    }
+}
+
+// The same, from the state's buffer.
+fn own_numbers(state: &[u8], id: u32) -> StateHead
+    requires { ⌜ 60 ≤ length (now state) ⌝ }
+    ensures { λ r. ⌜ r ≡ ownHead (headerIn (now (state .entry))) id ⌝ }
+{
+    let h = load(state);
+    own_head(h, id)
+}
+
+// The server's State, at the front of the outgoing buffer; how many bytes it has.
+fn send_state(state: &[u8], out: &mut [u8], id: u32) -> u32
+    requires { ⌜ LentSuch (λ s. 0 ≤ 0) (now state) (now out) ⌝ }
+    ensures { λ r. ⌜ ((s : Server) (set : ℕ) → Holds s (now (state .entry)) → (r ≡ length (recordBytes (ownRecord id set s))) × (now (out .exit) ≡ over (recordBytes (ownRecord id set s)) (now (out .entry)))) ⌝ }
+{
+    let head = own_numbers(state, id);
+    let at = yellow_place(state);
+    let w = write_state(out, 0, head, &state[60..], &state[at..]);
+    let Written::Next(sent) = w else {
+        return 0;
+    };
+    sent as u32
+}
+
+// With the mark kept.
+pub fn join(state: &mut [u8], out: &mut [u8], id: u32, set: u8) -> Answer
+    requires { ⌜ LentSuch (λ s. ConfigurationFits (s .servers) (s .me) (configurationOf id set)) (now state) (now out) ⌝ }
+    ensures { λ r. ⌜ ((s t : Server) → Holds t (now (state .entry)) → answered r (now (state .exit)) (now (out .exit)) ≡ outcomeOn (joined s (configurationOf id set) t) (now (state .entry)) (now (out .entry))) ⌝ }
+{
+    let sent = send_state(state, out, id);
+    enter_exchange(state, id, set);
+    Answer::stored(sent)
+}
+
+// "No: .. regular clears the mark, to Exchange_states."
+pub fn join_unmarked(state: &mut [u8], out: &mut [u8], id: u32, set: u8) -> Answer
+    requires { ⌜ LentSuch (λ s. ConfigurationFits (s .servers) (s .me) (configurationOf id set)) (now state) (now out) ⌝ }
+    ensures { λ r. ⌜ ((s t : Server) → Holds t (now (state .entry)) → answered r (now (state .exit)) (now (out .exit)) ≡ outcomeOn (joined s (configurationOf id set) (withVotes (unmarked (t .votes)) t)) (now (state .entry)) (now (out .entry))) ⌝ }
+{
+    clear_mark(state);
+    join(state, out, id, set)
+}
+
+// "Trans_prim: .. regular clears the mark, makes yellow valid, to Exchange_states."
+pub fn join_yellow(state: &mut [u8], out: &mut [u8], id: u32, set: u8) -> Answer
+    requires { ⌜ LentSuch (λ s. ConfigurationFits (s .servers) (s .me) (configurationOf id set)) (now state) (now out) ⌝ }
+    ensures { λ r. ⌜ ((s t : Server) → Holds t (now (state .entry)) → answered r (now (state .exit)) (now (out .exit)) ≡ outcomeOn (joined s (configurationOf id set) (withVotes (yellowValid (unmarked (t .votes))) t)) (now (state .entry)) (now (out .entry))) ⌝ }
+{
+    make_yellow_valid(state);
+    join_unmarked(state, out, id, set)
+}

@@ -1,0 +1,116 @@
+// The conditions of rows 5, 6, 3 and 4 of document 01's 'Returned numbers', from the state's numbers alone.
+ghost use mathlib.Core.Path.{_≡_};
+ghost use Prim.Native.Nat.{_<_};
+ghost use Rattle.base.specs.Sets.{inSet};
+ghost use Rattle.format.specs.Types.{Action};
+ghost use Rattle.record.specs.Values.{idOf};
+ghost use Rattle.replication.specs.Machine.Types.{Server};
+ghost use Rattle.replication.specs.Machine.Requests.{sendsNow, quotaLeft, roomToHold};
+ghost use Rattle.replication.specs.Machine.Rules.{numberedOwn, regularDue, transitionalDue, memberOf, isOf, stateIn, cpcIn};
+ghost use Rattle.engine.specs.Header.{headerOf};
+use record::State;
+
+// "an action or retransmission of this server's own action above those it has numbered" does not apply.
+pub fn numbered_own(h: State, creator: u8, index: u16) -> bool
+    ensures { λ r. ⌜ ((s : Server) (a : Action) → h ≡ headerOf s → a .id ≡ idOf creator index → r ≡ numberedOwn s a) ⌝ }
+{
+    if creator != h.me {
+        return true;
+    }
+    index <= h.numbered
+}
+
+// "A regular configuration needs a transitional since the last one, or none yet since start or recovery."
+pub fn regular_due(h: State) -> bool
+    ensures { λ r. ⌜ ((s : Server) → h ≡ headerOf s → r ≡ regularDue (s .membership)) ⌝ }
+{
+    if h.transitional_status == 1 {
+        return true;
+    }
+    h.configuration_status != 1
+}
+
+// "a second transitional cannot come"
+pub fn transitional_due(h: State) -> bool
+    ensures { λ r. ⌜ ((s : Server) → h ≡ headerOf s → r ≡ transitionalDue (s .membership)) ⌝ }
+{
+    h.transitional_status != 1
+}
+
+// Whether server k is in the set.
+fn in_set(k: u8, set: u8) -> bool
+    requires { ⌜ k < 8 ⌝ }
+    ensures { λ r. ⌜ r ≡ inSet k set ⌝ }
+{
+    (set >> k) % 2 == 1
+}
+
+// Whether server k is in the last regular set.
+pub fn is_member(h: State, k: u8) -> bool
+    requires { ⌜ k < 8 ⌝ }
+    ensures { λ r. ⌜ ((s : Server) → h ≡ headerOf s → r ≡ memberOf (s .membership .configuration) k) ⌝ }
+{
+    if h.configuration_status != 1 {
+        return false;
+    }
+    in_set(k, h.configuration_set)
+}
+
+// Whether the last regular configuration has this id.
+pub fn is_of(h: State, id: u32) -> bool
+    ensures { λ r. ⌜ ((s : Server) → h ≡ headerOf s → r ≡ isOf (s .membership .configuration) id) ⌝ }
+{
+    if h.configuration_status != 1 {
+        return false;
+    }
+    id == h.configuration_id
+}
+
+// Whether server k's State is in.
+pub fn state_in(h: State, k: u8) -> bool
+    requires { ⌜ k < 8 ⌝ }
+    ensures { λ r. ⌜ ((s : Server) → h ≡ headerOf s → r ≡ stateIn (s .membership) k) ⌝ }
+{
+    in_set(k, h.states)
+}
+
+// Whether server k's CPC is in.
+pub fn cpc_in(h: State, k: u8) -> bool
+    requires { ⌜ k < 8 ⌝ }
+    ensures { λ r. ⌜ ((s : Server) → h ≡ headerOf s → r ≡ cpcIn (s .membership) k) ⌝ }
+{
+    in_set(k, h.cpcs)
+}
+
+// "sent in Reg_prim, and in Non_prim if the latest configuration since start or recovery is regular"
+pub fn sends_now(h: State) -> bool
+    ensures { λ r. ⌜ ((s : Server) → h ≡ headerOf s → r ≡ sendsNow (s .membership)) ⌝ }
+{
+    if h.mode == 1 {
+        return true;
+    }
+    if h.mode != 0 {
+        return false;
+    }
+    if h.configuration_status != 1 {
+        return false;
+    }
+    h.transitional_status != 1
+}
+
+// "actions numbered so far plus held ones already q" does not apply.
+pub fn quota_left(h: State) -> bool
+    ensures { λ r. ⌜ ((s : Server) → h ≡ headerOf s → r ≡ quotaLeft s) ⌝ }
+{
+    (h.numbered as u32) + (h.held_count as u32) < h.quota as u32
+}
+
+// "request to hold, 16 held" does not apply.
+pub fn room_to_hold(h: State) -> bool
+    ensures { λ r. ⌜ ((s : Server) → h ≡ headerOf s → r ≡ roomToHold s) ⌝ }
+{
+    if sends_now(h) {
+        return true;
+    }
+    h.held_count < State::MOST_HELD as u16
+}

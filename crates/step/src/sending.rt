@@ -1,0 +1,73 @@
+// Held requests as the records of the actions that they become.
+ghost use mathlib.Core.Path.{_≡_};
+ghost use Prim.Native.Nat.{_+_, _*_, _≤_, _<_};
+ghost use lib.ListN.{length};
+ghost use Rattle.base.specs.Bytes.{numberAt};
+ghost use Rattle.base.specs.Patched.{patched};
+ghost use Rattle.format.specs.Types.{action};
+ghost use Rattle.format.specs.Write.{write};
+ghost use Rattle.replication.specs.Machine.Types.{Server};
+ghost use Rattle.replication.specs.Machine.Requests.{heldRecords};
+ghost use Rattle.engine.specs.Image.{over};
+ghost use Rattle.engine.proofs.InPlace.{Holds};
+ghost use Rattle.lists.specs.Lists.{CountsIn, heldCount};
+ghost use Rattle.step.specs.Answers.{LentSuch, recordBytes};
+ghost use Rattle.step.specs.Sending.{heldPlace, heldHead, heldAction, HeldRoom};
+use lists::requests::held_place;
+use record::ActionHead;
+use record::bytes::num8;
+use record::bytes::num16;
+use record::bytes::num32;
+use record::writer::Written;
+use record::writer::write_action;
+
+// Where the held request k lies.
+fn request_place(state: &[u8], k: u16) -> usize
+    requires { ⌜ CountsIn (now state) × (k < heldCount (now state)) ⌝ }
+    ensures { λ r. ⌜ (r ≡ heldPlace (now (state .entry)) k) × (r + 49 ≤ length (now (state .entry))) ⌝ }
+{
+    held_place(state) + 49 * k as usize
+}
+
+// The action that it becomes, but its payload.
+fn held_head(state: &[u8], k: u16) -> ActionHead
+    requires { ⌜ (numberAt 2 (now state) 27 ≤ 256) × (60 ≤ length (now state)) × (k ≤ 16) ⌝ }
+    ensures { λ r. ⌜ r ≡ heldHead (now (state .entry)) k ⌝ }
+{
+    ActionHead {
+        creator: num8(state, 3),
+        index: num16(state, 27) + k + 1,
+        green_length: num32(state, 23),
+    }
+}
+
+// The held request k as a record at `at`; the place behind it.
+fn send_held(state: &[u8], out: &mut [u8], at: usize, k: u16) -> usize
+    requires { ⌜ HeldRoom k at (now state) (now out) ⌝ }
+    ensures { λ r. ⌜ (r ≡ at + length (write (action (heldAction (now (state .entry)) k)))) × (now (out .exit) ≡ patched at (write (action (heldAction (now (state .entry)) k))) (now (out .entry))) ⌝ }
+{
+    let place = request_place(state, k);
+    let head = held_head(state, k);
+    let start = place + 1;
+    let end = start + num8(state, place) as usize;
+    let w = write_action(out, at, head, &state[start..end]);
+    let Written::Next(next) = w else {
+        return at;
+    };
+    next
+}
+
+// The held requests, numbered in order, at the front of the outgoing buffer; how many bytes they have. The state is not changed.
+pub fn send_records(state: &[u8], out: &mut [u8]) -> u32
+    requires { ⌜ LentSuch (λ s. 0 ≤ 0) (now state) (now out) ⌝ }
+    ensures { λ r. ⌜ ((s : Server) → Holds s (now (state .entry)) → (r ≡ length (recordBytes (heldRecords s))) × (now (out .exit) ≡ over (recordBytes (heldRecords s)) (now (out .entry)))) ⌝ }
+{
+    let count = num16(state, 31);
+    let mut at: usize = 0;
+    let mut k: u16 = 0;
+    while k < count {
+        at = send_held(state, out, at, k);
+        k += 1;
+    }
+    at as u32
+}
