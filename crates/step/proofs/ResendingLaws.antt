@@ -26,8 +26,8 @@ use Rattle.record.specs.Written.{next, full, put, putOf}
 use Rattle.replication.specs.Machine.Colours.{find}
 use Rattle.replication.specs.Machine.Plan.{resent}
 use Rattle.engine.specs.Layout.{slotSize}
+use Rattle.engine.proofs.Slots.{actions-count}
 use Rattle.queue.specs.Queue.{queueCount, greenCount, queueAt}
-use Rattle.queue.proofs.Positions.{actions-count}
 use Rattle.queue.proofs.ReadLaws.{actions-at, slot-read}
 use Rattle.step.specs.Answers.{recordBytes}
 use Rattle.step.specs.Resending.{queueIn, greensIn, slotPlace, InTable, QueueIn, named, Filled, fromPlace, atPosition, asRed, oneOf, Sends}

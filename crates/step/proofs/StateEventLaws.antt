@@ -46,19 +46,19 @@ module _ (h : Numbers) (k id : ℕ) (e b o : List ℕ) (f : LentSuch (StateInFor
   numbers s y = lent-fact (StateInForce h k id e) b o s f y .force .numbers
 
   pub state-ignored : h .mode ≡ 0 → (r : Answer) → r ≡ quietly
-      → (s : Server) (x : State) → Holds s b → write (state x) ≡ e → x .sender ≡ k → x .configuration ≡ id
+      → (s : Server) (x : State) → Holds s b → fieldsOk (contextOf s) (state x) ≡ true → write (state x) ≡ e → x .sender ≡ k → x .configuration ≡ id
       → answered r b o ≡ outcomeOn (answer s (state x)) b o
   unfolding modeNamed pick _=?_ onState ruleFor possible isIgnored withinQuota withinHeld _or_ apply
-  state-ignored m r q s x y w a c =
+  state-ignored m r q s x y g w a c =
       let z : onState (s .membership .mode) x ≡ some ignoring = numbers-at (λ l. onState l x ≡ some ignoring) h s 0 (numbers s y) m refl in
       quiet-as s s (answer s (state x)) r b b o q
       (passed s (state x) ignoring (record { rule = z; possible = refl; member = refl; quota = refl; held = refl })) (sym (y .written))
 
   pub state-untaken : (h .mode ≡ 0 → ⊥) → (h .mode ≡ 3 → ⊥) → (r : Answer) → r ≡ refusedWith 5
-      → (s : Server) (x : State) → Holds s b → write (state x) ≡ e → x .sender ≡ k → x .configuration ≡ id
+      → (s : Server) (x : State) → Holds s b → fieldsOk (contextOf s) (state x) ≡ true → write (state x) ≡ e → x .sender ≡ k → x .configuration ≡ id
       → answered r b o ≡ outcomeOn (answer s (state x)) b o
   unfolding ruleFor
-  state-untaken m n r q s x y w a c =
+  state-untaken m n r q s x y g w a c =
       refused-as (answer s (state x)) r 5 b o q
       (untaken s (state x) (no-state (h .mode) (s .membership .mode) x (numbers-mode h s (numbers s y)) m n))
 
@@ -69,10 +69,10 @@ module _ (h : Numbers) (k id : ℕ) (e b o : List ℕ) (f : LentSuch (StateInFor
     rule s x y = numbers-at (λ l. onState l x ≡ some (collectingState x)) h s 3 (numbers s y) m refl
 
     pub state-outside : not t ≡ true → (r : Answer) → r ≡ refusedWith 6
-        → (s : Server) (x : State) → Holds s b → write (state x) ≡ e → x .sender ≡ k → x .configuration ≡ id
+        → (s : Server) (x : State) → Holds s b → fieldsOk (contextOf s) (state x) ≡ true → write (state x) ≡ e → x .sender ≡ k → x .configuration ≡ id
         → answered r b o ≡ outcomeOn (answer s (state x)) b o
     unfolding ruleFor possible isIgnored _or_
-    state-outside n r q s x y w a c =
+    state-outside n r q s x y i w a c =
         refused-as (answer s (state x)) r 6 b o q
         (outside s (state x) (collectingState x) (rule s x y) refl (sym (g s x (numbers s y) a c) ∙ not-true t n))
 
@@ -95,9 +95,10 @@ module _ (h : Numbers) (k id : ℕ) (e b o : List ℕ) (f : LentSuch (StateInFor
         }
 
     pub state-collected : not t ≡ false → (r : Answer) (c z : List ℕ)
-        → ((s : Server) (x : State) → Holds s b → write (state x) ≡ e → answered r c z ≡ outcomeOn (collectState x s) b o)
-        → (s : Server) (x : State) → Holds s b → write (state x) ≡ e → x .sender ≡ k → x .configuration ≡ id
+        → ((s : Server) (x : State) → Holds s b → fieldsOk (contextOf s) (state x) ≡ true → write (state x) ≡ e → answered r c z
+        ≡ outcomeOn (collectState x s) b o)
+        → (s : Server) (x : State) → Holds s b → fieldsOk (contextOf s) (state x) ≡ true → write (state x) ≡ e → x .sender ≡ k → x .configuration ≡ id
         → answered r c z ≡ outcomeOn (answer s (state x)) b o
     unfolding apply
-    state-collected n r c z j s x y w a d =
-        j s x y w ∙ ap (λ (v : Outcome Record). outcomeOn v b o) (sym (passed s (state x) (collectingState x) (passes n s x y a d)))
+    state-collected n r c z j s x y i w a d =
+        j s x y i w ∙ ap (λ (v : Outcome Record). outcomeOn v b o) (sym (passed s (state x) (collectingState x) (passes n s x y a d)))

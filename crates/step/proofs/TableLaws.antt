@@ -21,8 +21,8 @@ use Rattle.replication.specs.Machine.Colours.{find}
 use Rattle.replication.proofs.WellFormed.Ids.{same-id-yes, same-id-holds}
 use Rattle.engine.specs.Layout.{slotSize}
 use Rattle.engine.specs.Decode.{actionsAt}
+use Rattle.engine.proofs.Slots.{actions-count}
 use Rattle.queue.specs.Queue.{queueCount, queueAt}
-use Rattle.queue.proofs.Positions.{actions-count}
 use Rattle.queue.proofs.ReadLaws.{actions-at}
 use Rattle.step.specs.Resending.{queueIn, slotPlace, InTable, QueueIn, named, Filled}
 

@@ -2,12 +2,14 @@
 -- Assumes nothing.
 use Prim.Native.Nat.{ℕ, _+_, _-_, _≤_}
 use mathlib.Core.Path.{_≡_, refl, sym, ap, subst, _∙_}
+use mathlib.Core.Bool.{true}
 use mathlib.Core.List.{List, []}
 use native.Mathlib.Omega.{arith}
 use lib.ListN.{length, take, drop}
 use Rattle.base.specs.Bytes.{partAt}
 use Rattle.base.specs.Tests.{_or_}
 use Rattle.format.specs.Types.{State as FormatState, Record, action, retransmission, state, cpc, regular, transitional, request, recovery}
+use Rattle.format.specs.Range.{fieldsOk}
 use Rattle.format.specs.Write.{write}
 use Rattle.record.specs.declared.State.{State as Numbers}
 use Rattle.record.specs.declared.events.ActionAt.{ActionAt}
@@ -18,7 +20,7 @@ use Rattle.record.specs.Context.{readingContext}
 use Rattle.record.specs.Values.{actionOf, stateOf}
 use Rattle.record.specs.Events.{actionFrom, stateFrom, recordOf}
 use Rattle.record.proofs.Callers.{action-placed, retransmission-placed, request-placed}
-use Rattle.replication.specs.Machine.Types.{Server, Outcome}
+use Rattle.replication.specs.Machine.Types.{Server, Outcome, contextOf}
 use Rattle.replication.specs.Machine.Requests.{recovered}
 use Rattle.replication.specs.Machine.Rules.{recovering, ruleFor, possible, fromMember, isIgnored, withinQuota, withinHeld}
 use Rattle.replication.specs.Machine.Step.{stored, apply, answer}
@@ -28,6 +30,7 @@ use Rattle.lists.specs.Standing.{HoldsSome}
 use Rattle.step.specs.declared.Answer.{Answer}
 use Rattle.step.specs.Answers.{answered, outcomeOn, HoldsSuch, LentSuch, InForce, StateInForce, storedFirst}
 use Rattle.step.specs.Events.{PartInForce, ReadInForce}
+use Rattle.step.proofs.Chained.{lent-fact}
 use Rattle.step.proofs.AnswerLaws.{Passes, passed, stored-as}
 
 -- ---- a part of the bytes, as the code lends it
@@ -191,13 +194,17 @@ module _ (v : Event) (e b o c z : List ℕ) (r : Answer) where
   retransmission-done k i a q y = done-as (Retransmission k i a) q y
 
   pub state-done : (x : StateAt) → v ≡ State x
-      → ((s : Server) (y : FormatState) → Holds s b → write (state y) ≡ e → y .sender ≡ x .head .sender → y .configuration ≡ x .head .configuration
+      → ((s : Server) (y : FormatState) → Holds s b → fieldsOk (contextOf s) (state y) ≡ true → write (state y) ≡ e → y .sender ≡ x .head .sender
+      → y .configuration ≡ x .head .configuration
       → answered r c z ≡ outcomeOn (answer s (state y)) b o)
       → (h : Numbers) → LentSuch (ReadInForce h v e) b o → (s : Server) → Holds s b → answered r c z ≡ outcomeOn (answer s (recordOf v e)) b o
   unfolding recordOf stateFrom stateOf
   state-done x q y h f =
       let written : write (state (stateFrom x e)) ≡ e = subst (λ (u : Event). write (recordOf u e) ≡ e) q (f .fact .written) in
-      done-as (State x) q (λ s i. y s (stateFrom x e) i written refl refl)
+      let range : (s : Server) → Holds s b → fieldsOk (contextOf s) (state (stateFrom x e)) ≡ true
+      = λ s i. subst (λ (u : Event). fieldsOk (contextOf s) (recordOf u e) ≡ true) q (lent-fact (ReadInForce h v e) b o s f i .force .range)
+      in
+      done-as (State x) q (λ s i. y s (stateFrom x e) i (range s i) written refl refl)
 
   pub cpc-done : (k i : ℕ) → v ≡ Cpc k i → ((s : Server) → Holds s b → answered r c z ≡ outcomeOn (answer s (cpc k i)) b o)
       → (s : Server) → Holds s b → answered r c z ≡ outcomeOn (answer s (recordOf v e)) b o

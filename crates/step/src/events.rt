@@ -1,13 +1,15 @@
 // Each kind of event: whether the state takes it, by rows 5, 6, 3 and 4, and what it does. h are the state's numbers.
 ghost use mathlib.Core.Path.{_≡_};
+ghost use mathlib.Core.Bool.{true};
 ghost use mathlib.Core.List.{List};
 ghost use mathlib.Core.Option.{some};
 ghost use Prim.Native.Nat.{ℕ, _<_};
 ghost use Rattle.base.specs.Lists.{isThere};
 ghost use Rattle.format.specs.Types.{Action, State as FormatState, action, retransmission, state as stateRecord, cpc, regular, transitional, request as requestRecord};
+ghost use Rattle.format.specs.Range.{fieldsOk};
 ghost use Rattle.format.specs.Write.{write};
 ghost use Rattle.record.specs.Values.{actionOf};
-ghost use Rattle.replication.specs.Machine.Types.{Mode, Server};
+ghost use Rattle.replication.specs.Machine.Types.{Mode, Server, contextOf};
 ghost use Rattle.replication.specs.Machine.Rules.{Rule, onAction, onRetransmission, onCpc, fromMember};
 ghost use Rattle.replication.specs.Machine.Step.{apply, answer};
 ghost use Rattle.engine.specs.Image.{modeNumber};
@@ -149,7 +151,7 @@ fn state_from_member(h: State, k: u8, id: u32) -> bool
 // The State of server k in configuration `id`: the whole event.
 pub fn on_state(state: &mut [u8], out: &mut [u8], h: State, k: u8, id: u32, event: &[u8]) -> Answer
     requires { ⌜ LentSuch (StateInForce h k id (now event)) (now state) (now out) ⌝ }
-    ensures { λ r. ⌜ ((s : Server) (x : FormatState) → Holds s (now (state .entry)) → write (stateRecord x) ≡ now (event .entry) → x .sender ≡ k → x .configuration ≡ id → answered r (now (state .exit)) (now (out .exit)) ≡ outcomeOn (answer s (stateRecord x)) (now (state .entry)) (now (out .entry))) ⌝ }
+    ensures { λ r. ⌜ ((s : Server) (x : FormatState) → Holds s (now (state .entry)) → fieldsOk (contextOf s) (stateRecord x) ≡ true → write (stateRecord x) ≡ now (event .entry) → x .sender ≡ k → x .configuration ≡ id → answered r (now (state .exit)) (now (out .exit)) ≡ outcomeOn (answer s (stateRecord x)) (now (state .entry)) (now (out .entry))) ⌝ }
 {
     if h.mode == 0 {
         return Answer::quiet();
