@@ -144,6 +144,7 @@ int main(int count, char **words) {
     uint32_t refused = set_up(input, &lengths);
     if (refused != 0) {
         printf("setup %u\n", refused);
+        free(input.bytes);
         return 0;
     }
     uint8_t servers = input.bytes[4];
