@@ -2,7 +2,7 @@
 -- Assumes nothing.
 use Prim.Native.Nat.{ℕ}
 use mathlib.Core.Path.{_≡_, refl, sym, ap, _∙_}
-use mathlib.Core.Bool.{Bool, true, false}
+use mathlib.Core.Bool.{true, false}
 use mathlib.Core.List.{List, []}
 use mathlib.Core.Option.{Option, none, some}
 use Rattle.base.specs.Tests.{_and_, _or_, pick-yes, pick-no, and-holds, both-yes, not-both}
@@ -10,7 +10,7 @@ use Rattle.base.specs.Bytes.{joined}
 use Rattle.base.specs.Lists.{isThere}
 use Rattle.format.specs.Types.{Record}
 use Rattle.format.specs.Range.{contextOk, fieldsOk, recordOk}
-use Rattle.replication.specs.Machine.Types.{Server, Outcome, refused, taken, contextOf}
+use Rattle.replication.specs.Machine.Types.{Server, Outcome, refused, contextOf}
 use Rattle.replication.specs.Machine.Rules.{Rule, ruleFor, possible, fromMember, isIgnored, withinQuota, withinHeld}
 use Rattle.replication.specs.Machine.Step.{quiet, stored, apply, applyRule, answer, inBytes}
 use Rattle.replication.specs.Machine.WellFormed.{ranges, wellFormed}

@@ -10,8 +10,8 @@ use borrow.Author.Tests.{not-true, not-false}
 use Rattle.base.specs.Tests.{_or_, _=?_, pick}
 use Rattle.format.specs.Types.{Record, regular, transitional}
 use Rattle.record.specs.declared.State.{State as Numbers}
-use Rattle.replication.specs.Machine.Types.{Mode, Non-prim, Reg-prim, Trans-prim, Exchange-states, Exchange-actions, Construct, No, Un, Configuration, Server, Outcome, withVotes}
-use Rattle.replication.specs.Machine.Rules.{Rule, joining, joiningUnmarked, joiningYellow, leaving, onRegular, onTransitional, ruleFor, regularDue, transitionalDue, possible, fromMember, isIgnored, withinQuota, withinHeld}
+use Rattle.replication.specs.Machine.Types.{Mode, Configuration, Server, Outcome, withVotes}
+use Rattle.replication.specs.Machine.Rules.{Rule, joining, joiningUnmarked, joiningYellow, leaving, onRegular, ruleFor, regularDue, transitionalDue, possible, fromMember, isIgnored, withinQuota, withinHeld}
 use Rattle.replication.specs.Machine.Step.{join, unmarked, yellowValid, leave, apply, answer}
 use Rattle.replication.specs.Machine.WellFormedRanges.{ConfigurationFits}
 use Rattle.replication.proofs.WellFormed.RuleFacts.{RuleFits}

@@ -9,7 +9,7 @@ use Rattle.base.specs.Tests.{_=?_, pick}
 use Rattle.base.specs.Lists.{isThere}
 use Rattle.format.specs.Types.{Action}
 use Rattle.replication.specs.Machine.Types.{Mode, Non-prim, Reg-prim, Trans-prim, Exchange-states, Exchange-actions, Construct, No, Un, Configuration}
-use Rattle.replication.specs.Machine.Rules.{Rule, leaving, onAction, onRetransmission, onCpc, onRegular, onTransitional}
+use Rattle.replication.specs.Machine.Rules.{leaving, onAction, onRetransmission, onCpc, onRegular, onTransitional}
 use Rattle.engine.specs.Image.{modeNumber}
 use Rattle.engine.specs.Decode.{modeNamed}
 use Rattle.engine.proofs.HeaderRead.{mode-named}

@@ -10,7 +10,6 @@ use Rattle.format.specs.Types.{Record, Context as FormatContext, Reading as For
 use Rattle.format.specs.Types as format
 use Rattle.format.specs.Range.{fieldsOk}
 use Rattle.format.specs.Read.{read}
-use Rattle.format.specs.Write.{write}
 use Rattle.format.proofs.RoundTrip.{written-read}
 use Rattle.record.specs.declared.State.{State as Numbers}
 use Rattle.record.specs.declared.Context.{Context}
@@ -22,17 +21,17 @@ use Rattle.record.specs.Context as code
 use Rattle.record.specs.Events.{recordOf}
 use Rattle.record.specs.Reading.{PlacedEvent, meaning, placed}
 use Rattle.record.proofs.Callers.{good-says, refused-says, good-placed}
-use Rattle.replication.specs.Machine.Types.{Configuration, Server, Outcome, refused, contextOf, setOf}
+use Rattle.replication.specs.Machine.Types.{Configuration, Server, refused, contextOf, setOf}
 use Rattle.replication.specs.Machine.Step.{answer, onReading, inBytes, step}
 use Rattle.engine.specs.Header.{headerOf, headerIn, statusOf}
 use Rattle.engine.specs.Header as header
 use Rattle.engine.specs.Decode.{decoded}
-use Rattle.engine.specs.Outcome.{Result, refusal, resultOf, stateNumber, stepOn}
+use Rattle.engine.specs.Outcome.{refusal, resultOf, stateNumber, stepOn}
 use Rattle.engine.proofs.HeaderLaws.{header-loaded}
 use Rattle.engine.proofs.InPlace.{Holds}
-use Rattle.engine.proofs.Refusals.{Ready, zero-read, zero-ready, step-read, step-refused}
+use Rattle.engine.proofs.Refusals.{zero-read, zero-ready, step-read, step-refused}
 use Rattle.step.specs.declared.Answer.{Answer}
-use Rattle.step.specs.Answers.{answered, outcomeOn, LentSuch, InForce, refusedWith}
+use Rattle.step.specs.Answers.{answered, outcomeOn, LentSuch, refusedWith}
 use Rattle.step.specs.Events.{ReadInForce, numberOf}
 use Rattle.step.proofs.InstallingLaws.{holds-header}
 

@@ -1,10 +1,10 @@
 -- Retransmissions: rows 5 and 6, as the code tests them.
 -- Assumes nothing.
 use Prim.Native.Nat.{ℕ, _<_}
-use mathlib.Core.Path.{_≡_, refl, sym, ap, subst, _∙_}
+use mathlib.Core.Path.{_≡_, refl, sym, ap, _∙_}
 use mathlib.Core.Bool.{Bool, true, false, not}
 use mathlib.Core.List.{List}
-use mathlib.Core.Option.{none, some}
+use mathlib.Core.Option.{some}
 use lib.ListN.{length}
 use borrow.Author.Tests.{not-true, not-false}
 use Rattle.base.specs.Tests.{_or_, _=?_, pick, and-holds, not-both}
@@ -18,7 +18,7 @@ use Rattle.replication.specs.Machine.Types.{Mode, Non-prim, Reg-prim, Trans-pri
 use Rattle.replication.specs.Machine.Colours.{red}
 use Rattle.replication.specs.Machine.Rules.{Rule, reddening, exchanging, onRetransmission, ruleFor, possible, fromMember, isIgnored, withinQuota, withinHeld}
 use Rattle.replication.specs.Machine.Step.{exchange, apply, answer}
-use Rattle.replication.proofs.WellFormed.RuleFacts.{Delivered, RuleFits}
+use Rattle.replication.proofs.WellFormed.RuleFacts.{Delivered}
 use Rattle.engine.specs.Image.{modeNumber, image}
 use Rattle.engine.specs.Decode.{modeNamed}
 use Rattle.engine.proofs.InPlace.{Holds}

@@ -1,11 +1,11 @@
 -- An event that was read, kind by kind.
 -- Assumes nothing.
-use Prim.Native.Nat.{ℕ, _+_, _-_, _≤_}
+use Prim.Native.Nat.{ℕ, _+_, _-_}
 use mathlib.Core.Path.{_≡_, refl, sym, ap, subst, _∙_}
 use mathlib.Core.Bool.{true}
-use mathlib.Core.List.{List, []}
+use mathlib.Core.List.{List}
 use native.Mathlib.Omega.{arith}
-use lib.ListN.{length, take, drop}
+use lib.ListN.{take, drop}
 use Rattle.base.specs.Bytes.{partAt}
 use Rattle.base.specs.Tests.{_or_}
 use Rattle.format.specs.Types.{State as FormatState, Record, action, retransmission, state, cpc, regular, transitional, request, recovery}
@@ -20,10 +20,10 @@ use Rattle.record.specs.Context.{readingContext}
 use Rattle.record.specs.Values.{actionOf, stateOf}
 use Rattle.record.specs.Events.{actionFrom, stateFrom, recordOf}
 use Rattle.record.proofs.Callers.{action-placed, retransmission-placed, request-placed}
-use Rattle.replication.specs.Machine.Types.{Server, Outcome, contextOf}
+use Rattle.replication.specs.Machine.Types.{Server, contextOf}
 use Rattle.replication.specs.Machine.Requests.{recovered}
 use Rattle.replication.specs.Machine.Rules.{recovering, ruleFor, possible, fromMember, isIgnored, withinQuota, withinHeld}
-use Rattle.replication.specs.Machine.Step.{stored, apply, answer}
+use Rattle.replication.specs.Machine.Step.{apply, answer}
 use Rattle.engine.specs.Image.{image}
 use Rattle.engine.proofs.InPlace.{Holds}
 use Rattle.lists.specs.Standing.{HoldsSome}
