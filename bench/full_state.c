@@ -4,14 +4,13 @@
 #include <stdlib.h>
 #include <string.h>
 
-static void put(uint8_t *b, size_t width, uint32_t v) {
+void put(uint8_t *b, size_t width, uint32_t v) {
     for (size_t i = width; i-- > 0; v >>= 8) {
         b[i] = (uint8_t)v;
     }
 }
 
-/* An action with a payload of 40 bytes: zeros stand behind it. */
-static void put_action(uint8_t *b, size_t creator, size_t index) {
+void put_action(uint8_t *b, size_t creator, size_t index) {
     b[0] = (uint8_t)creator;
     put(b + 1, 2, (uint32_t)index);
     put(b + 3, 4, 1);
@@ -50,7 +49,7 @@ static void put_state(uint8_t *b, size_t n, size_t q, size_t sender) {
 }
 
 full_state make_full_state(size_t n, size_t q, fullness what) {
-    size_t held = what == FULL_QUEUE ? 0 : q > MOST_HELD ? MOST_HELD : q / 2;
+    size_t held = what != FULL_LISTS ? 0 : q > MOST_HELD ? MOST_HELD : q / 2;
     size_t own = what == FULL_QUEUE ? 0 : q - held;
     size_t cut = q - held - own; /* of the server itself, number 0 */
     size_t actions = (n - 1) * q + cut;

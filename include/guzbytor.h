@@ -1,4 +1,5 @@
-/* The engine's exported functions (crates/engine/src/lib.rt). A buffer is a pointer and its length in bytes. */
+/* The engine's exported functions. A buffer is a pointer and its length in bytes. A daemon links target/staticlib/libengine.a (lengths and start) and
+   libstep.a (the step); README.md, 'Call it from C', says what it does with them. */
 #ifndef GUZBYTOR_H
 #define GUZBYTOR_H
 
@@ -24,7 +25,7 @@ guzbytor_lengths_answer guzbytor_lengths(uint32_t servers, uint32_t quota);
 uint32_t guzbytor_start(uint8_t *state, size_t state_length, uint32_t servers, uint32_t quota, uint32_t me);
 
 /* Whether a step can begin: 7 where a buffer is too short, 8 where the state's buffer holds no well-formed state, and else 0. It changes
-   neither buffer. (crates/state_check/src/lib.rt; target/staticlib/libstate_check.a) */
+   neither buffer, and guzbytor_step does it by itself. (libstate_check.a) */
 uint32_t guzbytor_state_check(const uint8_t *state, size_t state_length, const uint8_t *out, size_t out_length);
 
 /* The number returned, the store word (1: store the state before anything is sent), and how many bytes of records the outgoing buffer
@@ -36,7 +37,7 @@ typedef struct {
 } guzbytor_step_answer;
 
 /* One event at one server: number 0 with the new state and the records put out, or the number that the event or the buffers are refused with,
-   and then both buffers are as they were. A recovery is given the image stored last. The three buffers may not overlap. (crates/step/src/lib.rt; target/staticlib/libstep.a) */
+   and then both buffers are as they were. A recovery is given the image stored last. The three buffers may not overlap. */
 guzbytor_step_answer guzbytor_step(uint8_t *state, size_t state_length, const uint8_t *event, size_t event_length, uint8_t *out, size_t out_length);
 
 #ifdef __cplusplus

@@ -1,8 +1,18 @@
 #!/bin/sh
-# Builds the engine as a static library, and compiles and runs the C example over it.
+# Builds the two static libraries that a daemon links, compiles the C examples over them and runs them: lengths prints what it is answered, and the
+# depot's lines for each run under samples/ are compared with the file beside it.
 set -eu
 cd "$(dirname "$0")/.."
 rt staticlib engine
+rt staticlib step
 mkdir -p target/examples
-"${CC:-cc}" -std=c11 -Wall -Wextra -O2 -Iinclude examples/c/lengths.c target/staticlib/libengine.a -o target/examples/lengths
+for example in lengths depot; do
+    "${CC:-cc}" -std=c11 -Wall -Wextra -O2 -Iinclude "examples/c/$example.c" target/staticlib/libstep.a target/staticlib/libengine.a \
+        -o "target/examples/$example"
+done
 target/examples/lengths
+for run in worked partition; do
+    target/examples/depot "samples/$run.bin" >"target/examples/$run.txt"
+    diff "samples/$run.txt" "target/examples/$run.txt"
+    echo "samples/$run.bin: same"
+done

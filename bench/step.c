@@ -1,0 +1,244 @@
+/* How long a step takes for the costly events: nanoseconds per used byte of the state, against memcpy of those bytes in the same run. */
+#include "guzbytor.h"
+#include "layout.h"
+
+#include <stdio.h>
+#include <stdlib.h>
+#include <string.h>
+#include <time.h>
+
+static const struct {
+    size_t n, q;
+} SIZES[] = {{2, 16}, {4, 64}, {8, 256}};
+
+enum { SIZE_COUNT = sizeof SIZES / sizeof SIZES[0], ROUNDS = 100 };
+
+/* Where the header has its fields (docs/LAYOUT.md). */
+enum {
+    MODE_AT = 4,
+    TRANSITIONAL_AT = 11,
+    STATES_AT = 13,
+    CPCS_AT = 14,
+    COUNT_AT = 19,
+    GREEN_AT = 23,
+    OWN_AT = 29,
+    HELD_AT = 31,
+    ATTEMPT_AT = 33,
+    MARK_AT = 46,
+    YELLOW_AT = 57
+};
+
+enum { NON_PRIM, REG_PRIM, TRANS_PRIM, EXCHANGE_STATES, EXCHANGE_ACTIONS, CONSTRUCT };
+
+/* A state, the event that it gets, and what must come of it. */
+typedef struct {
+    full_state state;
+    uint8_t *event;
+    size_t event_length;
+    uint8_t mode_after;
+    size_t sent_after;
+} trial;
+
+static uint8_t everyone(size_t n) { return (uint8_t)((1u << n) - 1); }
+
+static uint32_t number(const uint8_t *b, size_t width) {
+    uint32_t v = 0;
+    for (size_t i = 0; i < width; i++) {
+        v = v << 8 | b[i];
+    }
+    return v;
+}
+
+static uint8_t *in_memory(size_t length) {
+    uint8_t *b = calloc(1, length);
+    if (b == NULL) {
+        abort();
+    }
+    return b;
+}
+
+/* How many bytes of the state are in use. */
+static size_t used_bytes(const uint8_t *b) {
+    size_t n = b[0], q = number(b + 1, 2);
+    size_t used = held_at(n) + HELD * number(b + HELD_AT, 2) + 3 * number(b + YELLOW_AT + 1, 2);
+    for (size_t k = 0; k < n; k++) {
+        used += b[STATES_AT] >> k & 1 ? 2 + number(b + states_at(n) + k * state_slot(n, q), 2) : 0;
+    }
+    return used + SLOT * (number(b + OWN_AT, 2) + number(b + COUNT_AT, 4));
+}
+
+/* An event of a kind with room for its body. */
+static trial begun(full_state s, uint8_t kind, size_t body, uint8_t mode_after, size_t sent_after) {
+    trial t = {s, in_memory(4 + body), 4 + body, mode_after, sent_after};
+    put(t.event, 2, (uint32_t)(2 + body));
+    t.event[2] = 1;
+    t.event[3] = kind;
+    return t;
+}
+
+/* The last action of all comes in Reg_prim: it goes below n q - 1 red ones. */
+static trial green(size_t n, size_t q) {
+    trial t = begun(make_full_state(n, q, FULL_QUEUE), 1, ACTION, REG_PRIM, 0);
+    uint8_t *b = t.state.bytes;
+    b[MODE_AT] = REG_PRIM;
+    put(b + COUNT_AT, 4, (uint32_t)(n * q - 1));
+    put(b + GREEN_AT, 4, 0);
+    put(b + HEADER + 2 * (n - 1), 2, (uint32_t)(q - 1));
+    put_action(t.event + 4, n - 1, q);
+    return t;
+}
+
+/* The last CPC comes: half of n q red actions are on the yellow list. */
+static trial install(size_t n, size_t q) {
+    trial t = begun(make_full_state(n, q, FULL_QUEUE), 4, 5, REG_PRIM, 0);
+    uint8_t *b = t.state.bytes;
+    b[MODE_AT] = CONSTRUCT;
+    b[CPCS_AT] = everyone(n - 1);
+    put(b + GREEN_AT, 4, 0);
+    put(b + ATTEMPT_AT, 4, 1);
+    b[MARK_AT] = 1;
+    put(b + MARK_AT + 5, 4, 1);
+    b[MARK_AT + 9] = everyone(n);
+    put(b + YELLOW_AT + 1, 2, (uint32_t)(n * q / 2));
+    t.event[4] = (uint8_t)(n - 1);
+    put(t.event + 5, 4, 1);
+    return t;
+}
+
+/* The last State comes, of a server that has nothing: n q actions are resent by position, and again as red. */
+static trial resend(size_t n, size_t q) {
+    trial t = begun(make_full_state(n, q, FULL_QUEUE), 3, state_slot(n, q) - 4, EXCHANGE_ACTIONS, 2 * n * q * (9 + ACTION));
+    uint8_t *b = t.state.bytes;
+    b[MODE_AT] = EXCHANGE_STATES;
+    b[STATES_AT] = everyone(n - 1);
+    put(b + GREEN_AT, 4, (uint32_t)(n * q));
+    uint8_t *states = b + states_at(n);
+    memcpy(t.event, states + (n - 1) * state_slot(n, q), t.event_length);
+    memset(t.event + 9, 0, 2 * n + 4);
+    put(states + 9 + 2, 2, (uint32_t)q);
+    for (size_t k = 0; k + 1 < n; k++) {
+        put(states + k * state_slot(n, q) + 9 + 2 * n, 4, (uint32_t)(n * q));
+    }
+    return t;
+}
+
+/* The last retransmission comes: the exchange ends, with n yellow lists of n q ids, all but the first one backwards. */
+static trial end(size_t n, size_t q) {
+    trial t = begun(make_full_state(n, q, FULL_QUEUE), 2, 5 + ACTION, CONSTRUCT, 9);
+    put_action(t.event + 9, 1, q);
+    for (size_t k = 1; k < n; k++) {
+        uint8_t *ids = t.state.bytes + states_at(n) + k * state_slot(n, q) + 40 + 2 * n;
+        for (size_t i = 0; i < n * q; i++) {
+            memcpy(ids + 3 * i, t.state.bytes + yellow_at(n, q) + 3 * (n * q - 1 - i), 3);
+        }
+    }
+    return t;
+}
+
+/* A regular configuration comes in Trans_prim: a State with n q yellow ids is sent. */
+static trial join(size_t n, size_t q) {
+    trial t = begun(make_full_state(n, q, FULL_QUEUE), 5, 5, EXCHANGE_STATES, state_slot(n, q));
+    uint8_t *b = t.state.bytes;
+    b[MODE_AT] = TRANS_PRIM;
+    b[TRANSITIONAL_AT] = 1;
+    b[TRANSITIONAL_AT + 1] = everyone(n);
+    put(t.event + 4, 4, 2);
+    t.event[8] = everyone(n);
+    return t;
+}
+
+/* Recovery with q actions on the own list. */
+static trial recover(size_t n, size_t q) {
+    trial t = begun(make_full_state(n, q, FULL_OWN), 8, 0, NON_PRIM, 0);
+    t.state.bytes[MODE_AT] = NON_PRIM;
+    return t;
+}
+
+static const struct {
+    const char *name;
+    trial (*make)(size_t n, size_t q);
+} EVENTS[] = {
+    {"action green", green}, {"CPC, Install", install}, {"State, resend", resend}, {"retransm., end", end}, {"regular", join}, {"recovery", recover},
+};
+
+enum { EVENT_COUNT = sizeof EVENTS / sizeof EVENTS[0] };
+
+static double seconds(void) {
+    struct timespec t;
+    clock_gettime(CLOCK_MONOTONIC, &t);
+    return (double)t.tv_sec + 1e-9 * (double)t.tv_nsec;
+}
+
+static guzbytor_step_answer stepped(const trial *t, uint8_t *state, uint8_t *out) {
+    return guzbytor_step(state, t->state.length, t->event, t->event_length, out, t->state.out_length);
+}
+
+static void try_once(const char *name, const trial *t, uint8_t *state, uint8_t *out) {
+    memcpy(state, t->state.bytes, t->state.length);
+    guzbytor_step_answer a = stepped(t, state, out);
+    if (a.number != 0 || a.sent != t->sent_after || state[MODE_AT] != t->mode_after) {
+        fprintf(stderr, "%s: number %u, %u bytes sent, state %u\n", name, a.number, a.sent, state[MODE_AT]);
+        exit(1);
+    }
+}
+
+/* Nanoseconds of laying a state out, its first `length` bytes in one piece. */
+static double laid_out(const trial *t, uint8_t *state, size_t length, size_t calls) {
+    double from = seconds();
+    for (size_t i = 0; i < calls; i++) {
+        memcpy(state, t->state.bytes, length);
+        __asm__ volatile("" : : "r"(state) : "memory");
+    }
+    return 1e9 * (seconds() - from) / (double)calls;
+}
+
+/* The same of a whole state, and one step from it: a step changes its state, so that each needs a new one. */
+static double laid_out_and_stepped(const trial *t, uint8_t *state, uint8_t *out, size_t calls) {
+    double from = seconds();
+    for (size_t i = 0; i < calls; i++) {
+        memcpy(state, t->state.bytes, t->state.length);
+        stepped(t, state, out);
+    }
+    return 1e9 * (seconds() - from) / (double)calls;
+}
+
+static void keep_best(double *best, double now) {
+    if (*best == 0 || now < *best) {
+        *best = now;
+    }
+}
+
+int main(void) {
+    static trial trials[EVENT_COUNT][SIZE_COUNT];
+    static double both[EVENT_COUNT][SIZE_COUNT], layout[EVENT_COUNT][SIZE_COUNT], copy[EVENT_COUNT][SIZE_COUNT], first[EVENT_COUNT];
+    uint8_t *state = in_memory(state_length(8, 256)), *out = in_memory(out_length(8, 256));
+    for (int e = 0; e < EVENT_COUNT; e++) {
+        for (int i = 0; i < SIZE_COUNT; i++) {
+            trials[e][i] = EVENTS[e].make(SIZES[i].n, SIZES[i].q);
+            trials[e][i].state.used = used_bytes(trials[e][i].state.bytes);
+            try_once(EVENTS[e].name, &trials[e][i], state, out);
+        }
+    }
+    /* The best of several rounds for each of the three; all events and sizes take turns, so that a busy machine slows all of them. */
+    for (int round = 0; round < ROUNDS; round++) {
+        for (int e = 0; e < EVENT_COUNT; e++) {
+            for (int i = 0; i < SIZE_COUNT; i++) {
+                const trial *t = &trials[e][i];
+                size_t calls = 1000000 / t->state.used + 1;
+                keep_best(&both[e][i], laid_out_and_stepped(t, state, out, calls));
+                keep_best(&layout[e][i], laid_out(t, state, t->state.length, calls));
+                keep_best(&copy[e][i], laid_out(t, state, t->state.used, calls));
+            }
+        }
+    }
+    printf("event           n   q   used bytes   ns a step  ns/byte  memcpy  ratio  to (2, 16)\n");
+    for (int e = 0; e < EVENT_COUNT; e++) {
+        for (int i = 0; i < SIZE_COUNT; i++) {
+            double used = (double)trials[e][i].state.used, ns = both[e][i] - layout[e][i];
+            first[e] = i == 0 ? ns / used : first[e];
+            printf("%-14s  %zu %3zu  %11zu  %10.0f  %7.3f  %6.3f  %5.1f  %10.2f\n", EVENTS[e].name, SIZES[i].n, SIZES[i].q, trials[e][i].state.used,
+                   ns, ns / used, copy[e][i] / used, ns / copy[e][i], ns / used / first[e]);
+        }
+    }
+    return 0;
+}
