@@ -1,0 +1,4 @@
+pub mod CoreLaws
+pub mod Entry
+pub mod RecoveryLaws
+pub mod TableLaws
