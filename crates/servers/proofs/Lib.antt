@@ -1,4 +1,5 @@
 pub mod CoreLaws
 pub mod Entry
+pub mod Keeping
 pub mod RecoveryLaws
 pub mod TableLaws
