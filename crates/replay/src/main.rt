@@ -1,0 +1,5 @@
+// Replays events at a table of servers.
+mod line;
+
+fn main() {
+}
