@@ -14,11 +14,12 @@ use Rattle.io.specs.Digits as io
 use Rattle.io.specs.Digits.{Fewest}
 use Rattle.base.specs.Tests.{pick-ne}
 use Rattle.replication.specs.Machine.Types.{Mode, Non-prim, Reg-prim, Trans-prim, Exchange-states, Exchange-actions, Construct, No, Un}
-use Rattle.replication.specs.Replay.{modeName}
+use Rattle.replication.specs.Replay.{modeName, line, header, inputLine, setupLine}
 use Rattle.engine.specs.Image.{modeNumber}
 use Rattle.engine.specs.Decode.{modeNamed}
 use Rattle.engine.proofs.HeaderRead.{mode-named}
-use Rattle.replay.specs.Lines.{Put}
+use Rattle.replay.specs.declared.line.Shown.{Shown}
+use Rattle.replay.specs.Lines.{Put, spaced, ended, shownLine}
 use Rattle.replay.proofs.DecimalLaws.{digits-few, decimal-digits}
 
 pub word-put : (w o o′ : List ℕ) (at : ℕ) → at + length w ≤ length o → o′ ≡ patched at w o → Put w (length w) at (at + length w) o o′
@@ -56,20 +57,21 @@ number-put d o o₁ v k at r p h f l e =
     }
 
 pub spaced-put : (v at r k : ℕ) (o o₁ o₂ : List ℕ) → Put (decimal v) 20 at r o o₁ → Put (ascii " ") (length (ascii " ")) r k o₁ o₂
-    → Put (decimal v ++ ascii " ") 21 at k o o₂
-unfolding ascii
+    → Put (spaced (decimal v)) 21 at k o o₂
+unfolding ascii spaced
 spaced-put v at r k o o₁ o₂ p q = put-then (decimal v) (ascii " ") 20 1 at r k o o₁ o₂ p q
 
 pub last-put : (v at r k : ℕ) (o o₁ o₂ : List ℕ) → Put (decimal v) 20 at r o o₁ → Put (ascii "\n") (length (ascii "\n")) r k o₁ o₂
-    → Put (decimal v ++ ascii "\n") 21 at k o o₂
-unfolding ascii
+    → Put (ended (decimal v)) 21 at k o o₂
+unfolding ascii ended
 last-put v at r k o o₁ o₂ p q = put-then (decimal v) (ascii "\n") 20 1 at r k o o₁ o₂ p q
 
 -- ---- the states' names
 
 -- The word w, a space behind it, as the name of the state m.
 named-put : (m : Mode) (mode at r : ℕ) (w o o₁ : List ℕ) → modeNamed mode ≡ m → w ≡ modeName m ++ ascii " " → length w ≤ 17
-    → Put w (length w) at r o o₁ → Put (modeName (modeNamed mode) ++ ascii " ") 17 at r o o₁
+    → Put w (length w) at r o o₁ → Put (spaced (modeName (modeNamed mode))) 17 at r o o₁
+unfolding spaced
 named-put m mode at r w o o₁ e f h p = record {
   text = p .text ∙ ap (λ (x : List ℕ). take at o ++ x) (f ∙ ap (λ (y : Mode). modeName y ++ ascii " ") (sym e));
   least = p .least;
@@ -79,7 +81,7 @@ named-put m mode at r w o o₁ e f h p = record {
 
 module _ (mode at r : ℕ) (o o₁ : List ℕ) where
   abbrev NamePut : Type 0
-  NamePut = Put (modeName (modeNamed mode) ++ ascii " ") 17 at r o o₁
+  NamePut = Put (spaced (modeName (modeNamed mode))) 17 at r o o₁
 
   abbrev WordPut : List ℕ → Type 0
   WordPut w = Put w (length w) at r o o₁
@@ -125,3 +127,57 @@ module _ (mode at r : ℕ) (o o₁ : List ℕ) where
       refl (omega arith) p
 
 pub ruleset modePuts = (reg-put, trans-put, states-put, actions-put, construct-put, no-put, un-put, non-put)
+
+-- ---- the parts of a line
+
+module _ (w v o o₁ o₂ : List ℕ) (at r k : ℕ) where
+  pub pair-put : Put w 21 at r o o₁ → Put v 21 r k o₁ o₂ → Put (w ++ v) 42 at k o o₂
+  pair-put p q = put-then w v 21 21 at r k o o₁ o₂ p q
+
+  pub front-put : Put w 42 at r o o₁ → Put v 21 r k o₁ o₂ → Put (w ++ v) 63 at k o o₂
+  front-put p q = put-then w v 42 21 at r k o o₁ o₂ p q
+
+  pub state-put : Put w 17 at r o o₁ → Put v 42 r k o₁ o₂ → Put (w ++ v) 59 at k o o₂
+  state-put p q = put-then w v 17 42 at r k o o₁ o₂ p q
+
+  pub rest-put : Put w 59 at r o o₁ → Put v 42 r k o₁ o₂ → Put (w ++ v) 101 at k o o₂
+  rest-put p q = put-then w v 59 42 at r k o o₁ o₂ p q
+
+-- The same text, which may be longer.
+put-as : (w v o o₁ : List ℕ) (m l at r : ℕ) → Put w m at r o o₁ → w ≡ v → m ≤ l → Put v l at r o o₁
+put-as w v o o₁ m l at r p e h = record {
+  text = p .text ∙ ap (λ (x : List ℕ). take at o ++ x) e;
+  least = p .least;
+  most = omega (arith, p .most);
+  same = p .same;
+}
+
+abbrev frontOf : Shown → List ℕ
+frontOf s = (spaced (decimal (s .number)) ++ spaced (decimal (s .server))) ++ spaced (decimal (s .returned))
+
+abbrev restOf : Shown → List ℕ
+restOf s =
+    (spaced (modeName (modeNamed (s .mode))) ++ (spaced (decimal (s .red)) ++ spaced (decimal (s .green))))
+    ++ (spaced (decimal (s .prim)) ++ ended (decimal (s .sent)))
+
+shown-parts : (s : Shown) → frontOf s ++ restOf s ≡ shownLine s
+unfolding shownLine line spaced ended
+shown-parts s = simp append-assoc
+
+pub line-put : (s : Shown) (o o₁ o₂ : List ℕ) (r k : ℕ) → Put (frontOf s) 63 0 r o o₁ → Put (restOf s) 101 r k o₁ o₂ → Put (shownLine s) 164 0 k o o₂
+line-put s o o₁ o₂ r k p q =
+    put-as (frontOf s ++ restOf s) (shownLine s) o o₂ 164 164 0 k (put-then (frontOf s) (restOf s) 63 101 0 r k o o₁ o₂ p q) (shown-parts s) (omega arith)
+
+pub header-put : (o o₁ : List ℕ) (r : ℕ) → Put header (length header) 0 r o o₁ → Put header 64 0 r o o₁
+unfolding header ascii
+header-put o o₁ r p = put-as header header o o₁ 48 64 0 r p refl (omega arith)
+
+pub input-put : (k r l : ℕ) (o o₁ o₂ : List ℕ) → Put (ascii "input ") (length (ascii "input ")) 0 r o o₁ → Put (ended (decimal k)) 21 r l o₁ o₂ → Put (inputLine k) 64 0 l o o₂
+unfolding ascii inputLine line ended
+input-put k r l o o₁ o₂ p q =
+    put-as (ascii "input " ++ ended (decimal k)) (inputLine k) o o₂ 27 64 0 l (put-then (ascii "input ") (ended (decimal k)) 6 21 0 r l o o₁ o₂ p q) refl (omega arith)
+
+pub setup-put : (k r l : ℕ) (o o₁ o₂ : List ℕ) → Put (ascii "setup ") (length (ascii "setup ")) 0 r o o₁ → Put (ended (decimal k)) 21 r l o₁ o₂ → Put (setupLine k) 64 0 l o o₂
+unfolding ascii setupLine line ended
+setup-put k r l o o₁ o₂ p q =
+    put-as (ascii "setup " ++ ended (decimal k)) (setupLine k) o o₂ 27 64 0 l (put-then (ascii "setup ") (ended (decimal k)) 6 21 0 r l o o₁ o₂ p q) refl (omega arith)
