@@ -1,4 +1,5 @@
 // Replays events at a table of servers.
+mod input;
 mod line;
 
 fn main() {
