@@ -4,6 +4,7 @@ ghost use mathlib.Core.Path.{_≡_};
 ghost use Rattle.servers.specs.Core.{coreOf};
 ghost use Rattle.servers.specs.Table.{altered, replied};
 
+pub mod starting; // starting.rt: the table at the start
 pub mod stepping; // stepping.rt: what a step takes and leaves
 
 use step::guzbytor_step;
