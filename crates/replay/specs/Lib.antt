@@ -1,2 +1,3 @@
 pub mod Input
 pub mod Lines
+pub mod Session

@@ -1,0 +1,73 @@
+// One event of the input at the table of servers, and its line.
+ghost use mathlib.Core.Path.{_≡_};
+ghost use Prim.Native.Nat.{_-_, _≤_, _<_};
+ghost use mathlib.Core.List.{[], _∷_};
+ghost use lib.ListN.{length, getD};
+ghost use Rattle.base.specs.Bytes.{numberAt};
+ghost use Rattle.servers.specs.Table.{none, altered, replied};
+ghost use Rattle.replay.specs.Lines.{Put, shownLine};
+ghost use Rattle.replay.specs.Session.{shownOf, lineAt};
+use crate::input::Next;
+use crate::input::next_in;
+use crate::line::Shown;
+use crate::line::event_line;
+use crate::line::input_line;
+use record::bytes::num32;
+use servers::Reply;
+use servers::Server;
+use servers::run_one;
+
+fn difference(m: u32, n: u32) -> u32
+    ensures { λ r. ⌜ r ≡ m - n ⌝ }
+{
+    if m < n {
+        return 0;
+    }
+    m - n
+}
+
+// A number in four bytes.
+fn number(a: u8, b: u8, c: u8, d: u8) -> u32
+    ensures { λ r. ⌜ r ≡ numberAt 4 (a ∷ b ∷ c ∷ d ∷ []) 0 ⌝ }
+{
+    let bytes = [a, b, c, d];
+    num32(&bytes, 0)
+}
+
+// "Red counts held actions not green; prim is the primary index; sent counts records put out."
+fn shown(event: u64, server: u8, reply: Reply, s: Server) -> Shown
+    ensures { λ r. ⌜ r ≡ shownOf event server reply (s .state) ⌝ }
+{
+    let b = s.state;
+    let held = number(b[19], b[20], b[21], b[22]);
+    let green = number(b[23], b[24], b[25], b[26]);
+    let prim = number(b[37], b[38], b[39], b[40]);
+    Shown {
+        number: event,
+        server: server as u64,
+        returned: reply.number as u64,
+        mode: b[4],
+        red: difference(held, green) as u64,
+        green: green as u64,
+        prim: prim as u64,
+        sent: reply.sent as u64,
+    }
+}
+
+// The table after an event, and the length of its line.
+struct Answered {
+    table: [Server; 4],
+    length: usize,
+}
+
+// The event e at the server k.
+fn answer(t: [Server; 4], event: u64, k: u8, e: &[u8], out: &mut [u8]) -> Answered
+    requires { ⌜ (k < 4) × (164 ≤ length (now out)) ⌝ }
+    ensures { λ r. ⌜ (r .table ≡ altered t k (now (e .entry))) × Put (lineAt t event k (now (e .entry))) 164 0 (r .length) (now (out .entry)) (now (out .exit)) ⌝ }
+{
+    let at = k as usize;
+    let r = run_one(t, at, e);
+    let table = r.table;
+    let length = event_line(out, shown(event, k, r.reply, table[at]));
+    Answered { table, length }
+}
