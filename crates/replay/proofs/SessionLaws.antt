@@ -2,17 +2,25 @@
 -- Assumes nothing.
 use Prim.Native.Nat.{ℕ, _+_, _-_, _≤_, _<_}
 use mathlib.Core.Path.{_≡_, refl, sym, ap, _∙_}
+use mathlib.Core.Bool.{Bool, true, false}
 use mathlib.Core.List.{List, [], _∷_}
 use native.Mathlib.Omega.{arith}
-use lib.ListN.{length, getD, take}
-use Rattle.base.specs.Bytes.{numberAt}
+use lib.ListN.{length, getD, take, drop}
+use Rattle.base.specs.Tests.{_<?_, pick, pick-as, lt-holds, lt-fails}
+use Rattle.base.specs.Bytes.{numberAt, partAt}
 use Rattle.base.specs.BytesLaws.{number1, number4}
+use Rattle.replication.specs.Replay.{inputLine}
 use Rattle.servers.specs.declared.Server.{Server}
 use Rattle.servers.specs.declared.Reply.{Reply}
 use Rattle.servers.specs.Table.{none, altered, replied}
 use Rattle.replay.specs.declared.line.Shown.{Shown}
+use Rattle.replay.specs.declared.input.Next.{Next}
+use Rattle.replay.specs.declared.input.Next.the-variants.{Event, Wrong, More, Done}
+use Rattle.replay.specs.declared.session.Going.the-variants.{On, Read, Stop}
+use Rattle.replay.specs.declared.session.Turn.{Turn}
+use Rattle.replay.specs.Input.{cutShort, nextOf}
 use Rattle.replay.specs.Lines.{Put, shownLine}
-use Rattle.replay.specs.Session.{shownOf, lineAt}
+use Rattle.replay.specs.Session.{shownOf, lineAt, Turned, turned, turnBy, turnOf}
 
 four-at : (b : List ℕ) (at : ℕ) → numberAt 4 (getD b at 0 ∷ getD b (at + 1) 0 ∷ getD b (at + 2) 0 ∷ getD b (at + 3) 0 ∷ []) 0 ≡ numberAt 4 b at
 four-at b at =
@@ -52,3 +60,84 @@ answer-made t t₁ event k r e o o₁ reply s f g h p = record {
   most = p .most;
   same = p .same;
 }
+
+-- ---- one turn
+
+pub event-made : (t t₁ : List Server) (event size r : ℕ) (input o o₁ : List ℕ) → t₁ ≡ altered t (getD input 0 0) (take (size + 1 - 1) (drop 1 input))
+    → Put (lineAt t event (getD input 0 0) (take (size + 1 - 1) (drop 1 input))) 164 0 r o o₁
+    → turned (record { table = t₁; taken = size + 1; length = r; going = On }) o₁ ≡ turnBy (Event size) t event input
+unfolding turned turnBy partAt
+event-made t t₁ event size r input o o₁ f p =
+    let count : size + 1 - 1 ≡ size = omega arith in
+    let part : take (size + 1 - 1) (drop 1 input) ≡ take size (drop 1 input) = ap (λ (m : ℕ). take m (drop 1 input)) count in
+    let table-is : t₁ ≡ altered t (getD input 0 0) (take size (drop 1 input)) = f ∙ ap (altered t (getD input 0 0)) part in
+    let text-is : take r o₁ ≡ lineAt t event (getD input 0 0) (take size (drop 1 input)) = p .text ∙ ap (lineAt t event (getD input 0 0)) part in
+    λ i. record { table = table-is i; taken = size + 1; text = text-is i; going = On }
+
+-- What an event that comes next has.
+pub record Whole (n size : ℕ) (input : List ℕ) : Type 0 where
+  pub server : getD input 0 0 < n
+  pub inside : size + 1 ≤ length input
+  pub size-is : size ≡ numberAt 2 input 1 + 2
+
+module _ {X : Type 0} (m : ℕ) where
+  not-done : Done ≡ Event m → X
+  not-done e = let z : _≡_ {A = ℕ} 0 1 = cc in absurd (omega arith)
+
+  not-more : More ≡ Event m → X
+  not-more e = let z : _≡_ {A = ℕ} 0 1 = cc in absurd (omega arith)
+
+  not-wrong : (k : ℕ) → Wrong k ≡ Event m → X
+  not-wrong k e = let z : _≡_ {A = ℕ} 0 1 = cc in absurd (omega arith)
+
+pub whole-event : (n : ℕ) (input : List ℕ) (ended : Bool) (m : ℕ) → nextOf n input ended ≡ Event m → Whole n m input
+unfolding nextOf cutShort
+whole-event n input ended =
+    pick-as P (length input <? 1) _ _
+    (λ h. pick-as P ended Done More (λ e m. not-done m) (λ e m. not-more m))
+    (λ some. pick-as P (getD input 0 0 <? n) _ _
+    (λ server. pick-as P (length input <? 3) _ _ (λ h. cut)
+    (λ long. pick-as P (length input - 1 <? numberAt 2 input 1 + 2) _ _ (λ h. cut) (λ h m e. whole server h some m e)))
+    (λ h m. not-wrong m 2))
+  where
+    P : Next → Type 0
+    P x = (m : ℕ) → x ≡ Event m → Whole n m input
+
+    cut : (m : ℕ) → pick ended (Wrong 1) More ≡ Event m → Whole n m input
+    cut = pick-as P ended (Wrong 1) More (λ e m. not-wrong m 1) (λ e m. not-more m)
+
+    whole : (getD input 0 0 <? n) ≡ true → (length input - 1 <? numberAt 2 input 1 + 2) ≡ false → (length input <? 1) ≡ false
+        → (m : ℕ) → Event (numberAt 2 input 1 + 2) ≡ Event m → Whole n m input
+    whole server h some m e =
+        let size : numberAt 2 input 1 + 2 ≡ m = cc in
+        let fits = lt-fails (length input - 1) (numberAt 2 input 1 + 2) h in
+        let there = lt-fails (length input) 1 some in
+        record { server = lt-holds (getD input 0 0) n server; inside = omega arith; size-is = sym size }
+
+module _ (n size : ℕ) (input : List ℕ) (ended : Bool) (x : Next) (is-x : x ≡ nextOf n input ended) (is-event : x ≡ Event size) where
+  pub event-server : n ≤ 4 → getD input 0 0 < 4
+  event-server h = omega (arith, whole-event n input ended size (sym is-x ∙ is-event) .server)
+
+  pub event-inside : size + 1 ≤ length input
+  event-inside = whole-event n input ended size (sym is-x ∙ is-event) .inside
+
+module _ (t : List Server) (n event : ℕ) (input o o₁ : List ℕ) (ended : Bool) (x : Next) (is-x : x ≡ nextOf n input ended) where
+  pub event-turn : (size : ℕ) (r : Turn) → x ≡ Event size → turned r o₁ ≡ turnBy (Event size) t event input → turned r o₁ ≡ turnOf t n event input ended
+  unfolding turnOf
+  event-turn size r e h = h ∙ ap (λ (y : Next). turnBy y t event input) (sym e ∙ is-x)
+
+  pub wrong-turn : (k r : ℕ) → x ≡ Wrong k → Put (inputLine k) 64 0 r o o₁
+      → turned (record { table = t; taken = 0; length = r; going = Stop }) o₁ ≡ turnOf t n event input ended
+  unfolding turnOf turned turnBy
+  wrong-turn k r e p =
+      let left : _≡_ {A = Turned} (record { table = t; taken = 0; text = take r o₁; going = Stop }) (turnBy (Wrong k) t event input)
+          = λ i. record { table = t; taken = 0; text = p .text i; going = Stop } in
+      left ∙ ap (λ (y : Next). turnBy y t event input) (sym e ∙ is-x)
+
+  pub more-turn : x ≡ More → turned (record { table = t; taken = 0; length = 0; going = Read }) o ≡ turnOf t n event input ended
+  unfolding turnOf turned turnBy
+  more-turn e = ap (λ (y : Next). turnBy y t event input) (sym e ∙ is-x)
+
+  pub done-turn : x ≡ Done → turned (record { table = t; taken = 0; length = 0; going = Stop }) o ≡ turnOf t n event input ended
+  unfolding turnOf turned turnBy
+  done-turn e = ap (λ (y : Next). turnBy y t event input) (sym e ∙ is-x)

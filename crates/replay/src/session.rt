@@ -1,12 +1,13 @@
 // One event of the input at the table of servers, and its line.
 ghost use mathlib.Core.Path.{_≡_};
-ghost use Prim.Native.Nat.{_-_, _≤_, _<_};
+ghost use Prim.Native.Nat.{_+_, _-_, _≤_, _<_};
 ghost use mathlib.Core.List.{[], _∷_};
 ghost use lib.ListN.{length, getD};
 ghost use Rattle.base.specs.Bytes.{numberAt};
 ghost use Rattle.servers.specs.Table.{none, altered, replied};
 ghost use Rattle.replay.specs.Lines.{Put, shownLine};
-ghost use Rattle.replay.specs.Session.{shownOf, lineAt};
+ghost use Rattle.replay.specs.declared.input.Next.the-variants.{Event};
+ghost use Rattle.replay.specs.Session.{shownOf, lineAt, turned, turnBy, turnOf};
 use crate::input::Next;
 use crate::input::next_in;
 use crate::line::Shown;
@@ -70,4 +71,64 @@ fn answer(t: [Server; 4], event: u64, k: u8, e: &[u8], out: &mut [u8]) -> Answer
     let table = r.table;
     let length = event_line(out, shown(event, k, r.reply, table[at]));
     Answered { table, length }
+}
+
+// What comes after a turn: the next one, more input, or nothing.
+pub enum Going {
+    On,
+    Read,
+    Stop,
+}
+
+// The table after a turn, how many bytes of the input it took, the length of its line, and what comes after it.
+pub struct Turn {
+    pub table: [Server; 4],
+    pub taken: usize,
+    pub length: usize,
+    pub going: Going,
+}
+
+// The event of `size` bytes behind its server byte.
+fn take_event(t: [Server; 4], event: u64, input: &[u8], size: usize, out: &mut [u8]) -> Turn
+    requires { ⌜ (getD (now input) 0 0 < 4) × (size + 1 ≤ length (now input)) × (164 ≤ length (now out)) ⌝ }
+    ensures { λ r. ⌜ turned r (now (out .exit)) ≡ turnBy (Event size) t event (now (input .entry)) ⌝ }
+    ensures { λ r. ⌜ r .length ≤ 164 ⌝ }
+{
+    let a = answer(t, event, input[0], &input[1..size + 1], out);
+    let table = a.table;
+    Turn {
+        table,
+        taken: size + 1,
+        length: a.length,
+        going: Going::On,
+    }
+}
+
+// One event of the input, or what else comes next: the line is put into `out`.
+pub fn take_turn(t: [Server; 4], servers: u8, event: u64, input: &[u8], ended: bool, out: &mut [u8]) -> Turn
+    requires { ⌜ (servers ≤ 4) × (164 ≤ length (now out)) ⌝ }
+    ensures { λ r. ⌜ turned r (now (out .exit)) ≡ turnOf t servers event (now (input .entry)) ended ⌝ }
+    ensures { λ r. ⌜ r .length ≤ 164 ⌝ }
+{
+    match next_in(servers, input, ended) {
+        Next::Event(size) => take_event(t, event, input, size, out),
+        Next::Wrong(number) => Turn {
+            table: t,
+            taken: 0,
+            length: input_line(out, number),
+            going: Going::Stop,
+        },
+        Next::More => Turn {
+            table: t,
+            taken: 0,
+            length: 0,
+            going: Going::Read,
+        },
+        Next::Done => Turn {
+            table: t,
+            taken: 0,
+            length: 0,
+            going: Going::Stop,
+        },
+    }
 }
