@@ -1,13 +1,13 @@
 -- What the code finds in the input.
 -- Assumes nothing.
 use Prim.Native.Nat.{ℕ, _+_, _-_, _≤_, _<_}
-use mathlib.Core.Path.{_≡_, refl, sym, ap, _∙_}
+use mathlib.Core.Path.{_≡_, refl, sym, ap, subst, _∙_}
 use mathlib.Core.Bool.{Bool, true, false, not}
 use mathlib.Core.List.{List}
 use native.Mathlib.Omega.{arith}
 use lib.ListN.{length, getD}
 use borrow.Author.Tests.{not-true, not-false}
-use Rattle.base.specs.Tests.{_and_, _≤?_, _=?_, pick, pick-yes, pick-no, pick-lt, pick-ge, and-holds, both-yes, eq-holds, eq-yes, le-holds, le-yes, not-both, Known, holds, fails, known}
+use Rattle.base.specs.Tests.{_and_, _≤?_, _=?_, pick, pick-as, pick-yes, pick-no, pick-lt, pick-ge, and-holds, both-yes, eq-holds, eq-yes, le-holds, le-yes, not-both, Known, holds, fails, known}
 use Rattle.base.specs.Bytes.{numberAt}
 use Rattle.format.specs.Limits.{version}
 use Rattle.format.specs.Types.{Reading, says, refused}
@@ -114,3 +114,21 @@ module _ (n : ℕ) (input : List ℕ) (ended : Bool) (k : ℕ) (some : 1 ≤ len
       (pick-lt (getD input 0 0) n (Event (k + 2)) _ _ server
       (pick-ge (length input) 3 (Event (k + 2)) _ _ long
       (pick-ge (length input - 1) (numberAt 2 input 1 + 2) (Event (k + 2)) _ _ (omega arith) (ap (λ (m : ℕ). Event (m + 2)) is-k))))
+
+-- ---- how many servers
+
+pub few-servers : (e : List ℕ) (s : Setup) → s ≡ setupOf e → s .servers ≤ 4
+unfolding setupOf readSetup setupNumbers setupOk
+few-servers e s h =
+    subst (λ (x : Setup). x .servers ≤ 4) (sym h)
+    (pick-as P (setupFrameOk e) _ _
+    (λ f. pick-as P (setupOk 4 16 (setupIn e)) _ _ (λ ok. inside ok) (λ n. outside 2)) (λ n. outside 1))
+  where
+    P : Reading format.Setup → Type 0
+    P x = setupNumbers x .servers ≤ 4
+
+    outside : (k : ℕ) → P (refused k)
+    outside k = omega arith
+
+    inside : setupOk 4 16 (setupIn e) ≡ true → P (says (setupIn e))
+    inside ok = le-holds (setupIn e .servers) 4 (and-holds _ _ (and-holds _ _ ok .1) .0)

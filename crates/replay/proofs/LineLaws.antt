@@ -10,8 +10,10 @@ use Rattle.base.specs.Patched.{patched, patched-length}
 use Rattle.base.specs.Text.{ascii, decimal}
 use mir.Syntax.{w64}
 use mir.Val.{Fits}
+use Rattle.io.specs.Counts.{Counts}
 use Rattle.io.specs.Digits as io
 use Rattle.io.specs.Digits.{Fewest}
+use Rattle.io.proofs.Counting.{counts}
 use Rattle.base.specs.Tests.{pick-ne}
 use Rattle.replication.specs.Machine.Types.{Mode, Non-prim, Reg-prim, Trans-prim, Exchange-states, Exchange-actions, Construct, No, Un}
 use Rattle.replication.specs.Replay.{modeName, line, header, inputLine, setupLine}
@@ -65,6 +67,10 @@ pub last-put : (v at r k : ℕ) (o o₁ o₂ : List ℕ) → Put (decimal v) 20 
     → Put (ended (decimal v)) 21 at k o o₂
 unfolding ascii ended
 last-put v at r k o o₁ o₂ p q = put-then (decimal v) (ascii "\n") 20 1 at r k o o₁ o₂ p q
+
+-- A line can be lent.
+pub put-counts : (w o o₁ : List ℕ) (m l r : ℕ) → Put w m 0 r o o₁ → l ≤ length o → m ≤ l → Counts r o₁
+put-counts w o o₁ m l r p h k = counts r o₁ (omega (arith, p .most, p .same))
 
 -- ---- the states' names
 

@@ -4,8 +4,9 @@ ghost use Prim.Native.Nat.{_+_, _-_, _≤_, _<_};
 ghost use mathlib.Core.List.{[], _∷_};
 ghost use lib.ListN.{length, getD};
 ghost use Rattle.base.specs.Bytes.{numberAt};
-ghost use Rattle.servers.specs.Table.{none, altered, replied};
-ghost use Rattle.replay.specs.Lines.{Put, shownLine};
+ghost use Rattle.io.specs.Counts.{Counts};
+ghost use Rattle.servers.specs.Table.{altered};
+ghost use Rattle.replay.specs.Lines.{Put};
 ghost use Rattle.replay.specs.declared.input.Next.the-variants.{Event};
 ghost use Rattle.replay.specs.Session.{shownOf, lineAt, turned, turnBy, turnOf};
 use crate::input::Next;
@@ -92,7 +93,7 @@ pub struct Turn {
 fn take_event(t: [Server; 4], event: u64, input: &[u8], size: usize, out: &mut [u8]) -> Turn
     requires { ⌜ (getD (now input) 0 0 < 4) × (size + 1 ≤ length (now input)) × (164 ≤ length (now out)) ⌝ }
     ensures { λ r. ⌜ turned r (now (out .exit)) ≡ turnBy (Event size) t event (now (input .entry)) ⌝ }
-    ensures { λ r. ⌜ r .length ≤ 164 ⌝ }
+    ensures { λ r. ⌜ Counts (r .length) (now (out .exit)) ⌝ }
 {
     let a = answer(t, event, input[0], &input[1..size + 1], out);
     let table = a.table;
@@ -108,7 +109,7 @@ fn take_event(t: [Server; 4], event: u64, input: &[u8], size: usize, out: &mut [
 pub fn take_turn(t: [Server; 4], servers: u8, event: u64, input: &[u8], ended: bool, out: &mut [u8]) -> Turn
     requires { ⌜ (servers ≤ 4) × (164 ≤ length (now out)) ⌝ }
     ensures { λ r. ⌜ turned r (now (out .exit)) ≡ turnOf t servers event (now (input .entry)) ended ⌝ }
-    ensures { λ r. ⌜ r .length ≤ 164 ⌝ }
+    ensures { λ r. ⌜ Counts (r .length) (now (out .exit)) ⌝ }
 {
     match next_in(servers, input, ended) {
         Next::Event(size) => take_event(t, event, input, size, out),

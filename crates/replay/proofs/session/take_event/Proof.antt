@@ -1,3 +1,4 @@
+use Rattle.replay.proofs.LineLaws.{put-counts}
 use Rattle.replay.proofs.SessionLaws.{event-made}
 use borrow.Author.Needs.{needs}
 use Rattle.replay.proofs.session.take_event.Statement.{statement}
@@ -40,7 +41,7 @@ same-length c = search needs
 
 -- src/session.rt:92:1
 returns : tie.Need-returns
-returns c = search (needs, event-made)
+returns c = search (needs, event-made, put-counts)
 
 pub take-event-spec : {M : Type 1} → statement M
 take-event-spec =

@@ -1,3 +1,4 @@
+use Rattle.replay.proofs.LineLaws.{put-counts}
 use Rattle.replay.proofs.SessionLaws.{event-server, event-inside, event-turn, wrong-turn, more-turn, done-turn}
 use borrow.Author.Needs.{needs}
 use Rattle.replay.proofs.session.take_turn.Statement.{statement}
@@ -50,7 +51,7 @@ same-length-2 c = search needs
 
 -- src/session.rt:108:1
 returns-2 : tie.Need-returns-2
-returns-2 c = search (needs, wrong-turn)
+returns-2 c = search (needs, wrong-turn, put-counts)
 
 -- src/session.rt:108:1
 returns-3 : tie.Need-returns-3
