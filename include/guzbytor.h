@@ -27,6 +27,18 @@ uint32_t guzbytor_start(uint8_t *state, size_t state_length, uint32_t servers, u
    neither buffer. (crates/state_check/src/lib.rt; target/staticlib/libstate_check.a) */
 uint32_t guzbytor_state_check(const uint8_t *state, size_t state_length, const uint8_t *out, size_t out_length);
 
+/* The number returned, the store word (1: store the state before anything is sent), and how many bytes of records the outgoing buffer
+   begins with. */
+typedef struct {
+    uint32_t number;
+    uint32_t store;
+    uint32_t sent;
+} guzbytor_step_answer;
+
+/* One event at one server: number 0 with the new state and the records put out, or the number that the event or the buffers are refused with,
+   and then both buffers are as they were. A recovery is given the image stored last. The three buffers may not overlap. (crates/step/src/lib.rt; target/staticlib/libstep.a) */
+guzbytor_step_answer guzbytor_step(uint8_t *state, size_t state_length, const uint8_t *event, size_t event_length, uint8_t *out, size_t out_length);
+
 #ifdef __cplusplus
 }
 #endif

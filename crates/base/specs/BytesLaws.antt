@@ -37,13 +37,6 @@ numbers-at w (suc m) e at (suc k) h =
     let f : at + w + w * k ≡ at + w * suc k = omega arith in
     numbers-at w m e (at + w) k (omega arith) ∙ ap (numberAt w e) f
 
-pub number-drop : (w : ℕ) (b : List ℕ) (p at : ℕ) → numberAt w (drop p b) at ≡ numberAt w b (p + at)
-unfolding numberAt
-number-drop zero b p at = refl
-number-drop (suc w) b p at =
-    let z : p + (at + w) ≡ p + at + w = omega arith in
-    rw (number-drop w b p at, getD-drop p b (at + w) 0, z)
-
 pub joined-append : {A : Type 0} (xs ys : List (List A)) → joined (xs ++ ys) ≡ joined xs ++ joined ys
 unfolding joined
 joined-append [] ys = refl
@@ -81,6 +74,13 @@ number-behind zero p e at = refl
 number-behind (suc w) p e at =
     ap₂ {A = ℕ} {B = ℕ} {C = ℕ} (λ n b. n * 256 + b) (number-behind w p e at)
     (ap (λ (k : ℕ). getD (p ++ e) k 0) (add-assoc (length p) at w) ∙ getD-append-add p e (at + w) 0)
+
+pub number-drop : (w : ℕ) (e : List ℕ) (p at : ℕ) → numberAt w (drop p e) at ≡ numberAt w e (p + at)
+unfolding numberAt
+number-drop zero e p at = refl
+number-drop (suc w) e p at =
+    ap₂ {A = ℕ} {B = ℕ} {C = ℕ} (λ n b. n * 256 + b) (number-drop w e p at)
+    (getD-drop p e (at + w) 0 ∙ ap (λ (k : ℕ). getD e k 0) (sym (add-assoc p at w)))
 
 pub part-behind : (m : ℕ) (p e : List ℕ) (at : ℕ) → partAt m (p ++ e) (length p + at) ≡ partAt m e at
 unfolding partAt

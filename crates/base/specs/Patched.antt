@@ -2,10 +2,11 @@
 -- Assumes nothing.
 use Prim.Native.Nat.{ℕ, zero, suc, _+_, _≤_, _<_, zero-le}
 use mathlib.Core.Path.{_≡_, refl, sym, ap, _∙_}
-use mathlib.Core.List.{List, [], _∷_, _++_, append-assoc}
+use mathlib.Core.List.{List, [], _∷_, _++_, append-assoc, append-nil}
+use native.Mathlib.Nat.{zero-add}
 use native.Mathlib.Omega.{arith}
-use lib.ListN.{length, getD, take, drop, set, length-append, length-take, length-drop}
-use lib.Seq.{length-take-le, take-at, drop-at, drop-drop, take-append-seam, take-set-le, sets, sets-eq, paste, paste-zero, paste-suc}
+use lib.ListN.{length, getD, take, drop, set, length-append, length-take, length-drop, List·getD-append, take-append-drop}
+use lib.Seq.{take-append-le, drop-append-le, length-take-le, take-at, drop-at, drop-length, getD-take, drop-drop, take-append-seam, take-set-le, sets, sets-eq, paste, paste-zero, paste-suc}
 use Rattle.base.specs.Bytes.{partAt}
 
 -- s with b for its elements from `at` on
@@ -64,6 +65,16 @@ module _ {A : Type 0} where
   pub patched-none : (at : ℕ) (s : List A) → patched at [] s ≡ s
   patched-none at s = sym (paste-zero s at [] ∙ paste-patched at zero [] s zero-le)
 
+  pub patched-whole : (b s : List A) → length b ≡ length s → patched zero b s ≡ b
+  unfolding patched
+  patched-whole b s e = rw (zero-add (length b), e, drop-length s) (append-nil b)
+
+  -- An element in front of the part.
+  pub patched-element : (at : ℕ) (b s : List A) (i : ℕ) (d : A) → i < at → at ≤ length s → getD (patched at b s) i d ≡ getD s i d
+  unfolding patched
+  patched-element at b s i d h l =
+      List·getD-append (take at s) (b ++ drop (at + length b) s) d i (simp length-take (omega arith)) ∙ getD-take at s i d h
+
   -- a turn of a loop that copies
   pub patched-more : (at n : ℕ) (b s : List A) (d : A) → at + n < length s → n < length b
       → set (patched at (take n b) s) (at + n) (getD b n d) ≡ patched at (take (suc n) b) s
@@ -91,3 +102,20 @@ pub patched-part : (at : ℕ) (b s : List ℕ) → at ≤ length s → partAt (l
 unfolding partAt
 patched-part at b s h =
     ap (λ (l : List ℕ). take (length b) l) (patched-from at b s h) ∙ take-append-seam b (drop (at + length b) s)
+
+-- A part in front of it is as it was.
+part-within : (m at to : ℕ) (s : List ℕ) → at + m ≤ to → to ≤ length s → partAt m s at ≡ partAt m (take to s) at
+unfolding partAt
+part-within m at to s h l =
+    let front : at ≤ length (take to s) = omega (arith, length-take to s) in
+    let inside : m ≤ length (drop at (take to s)) = omega (arith, length-take to s, length-drop at (take to s)) in
+    ap (λ (z : List ℕ). take m (drop at z)) (sym (take-append-drop to s))
+    ∙ ap (take m) (drop-append-le at (take to s) (drop to s) front)
+    ∙ take-append-le m (drop at (take to s)) (drop to s) inside
+
+pub patched-in-front : (m at to : ℕ) (b s : List ℕ) → at + m ≤ to → to + length b ≤ length s → partAt m (patched to b s) at ≡ partAt m s at
+patched-in-front m at to b s h k =
+    let l : to ≤ length s = omega arith in
+    part-within m at to (patched to b s) h (omega (arith, patched-length to b s k))
+    ∙ ap (λ (z : List ℕ). partAt m z at) (patched-before to b s l)
+    ∙ sym (part-within m at to s h l)

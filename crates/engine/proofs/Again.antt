@@ -1,52 +1,109 @@
--- A state written over its own image leaves it as it is.
+-- A state written over the image of another: where no list has become shorter, nothing of the other one is left.
 -- Assumes nothing.
-use Prim.Native.Nat.{ℕ, _*_, _≤_}
-use mathlib.Core.Path.{_≡_, ap, ap₂, _∙_}
+use Prim.Native.Nat.{ℕ, _+_, _*_, _-_, _≤_, _<_}
+use mathlib.Core.Path.{_≡_, refl, sym, ap, ap₂, _∙_}
 use mathlib.Core.List.{List, [], _∷_, _++_}
+use mathlib.Core.Logic.{_⊎_, inl, inr}
+use mathlib.Core.Option.{Option}
 use native.Mathlib.Nat.{mul-le-mul-right}
 use native.Mathlib.Omega.{arith}
-use lib.ListN.{length}
+use lib.ListN.{length, getD, drop}
+use lib.Seq.{drop-at, drop-drop}
 use Rattle.base.specs.Bytes.{joined}
+use Rattle.format.specs.Types.{State}
 use Rattle.format.specs.Write.{cutsBytes, idsBytes}
 use Rattle.replication.specs.Machine.Types.{Server}
 use Rattle.replication.specs.Machine.WellFormed.{queue}
 use Rattle.engine.specs.Layout.{stateSize, theCuts, theNoted, theHeld, theStates, theYellow, theOwn, theQueue, sections, sectionSize, stateLength}
 use Rattle.engine.specs.Image.{over, headerBytes, notedBytes, statesOver, actionSlots, heldSlots, section, parts, image}
-use Rattle.engine.proofs.Used.{over-again, states-over-again}
+use Rattle.engine.proofs.Used.{states-over-again}
 use Rattle.engine.proofs.Fit.{SectionsFit, section-length, image-rest, image-section}
 
--- A used part y over the section k, which holds y already.
-over-same : (n q k : ℕ) (y b c : List ℕ) → section n q k c ≡ over y (section n q k b) → over y (section n q k c) ≡ over y (section n q k b)
-over-same n q k y b c e = ap (over y) e ∙ over-again y (section n q k b)
+-- ---- one section
+
+pub over-over : (y z l : List ℕ) → length y ≤ length z → over z (over y l) ≡ over z l
+unfolding over
+over-over y z l h =
+    let m : length y + (length z - length y) ≡ length z = omega arith in
+    ap (λ (r : List ℕ). z ++ r)
+    (ap (λ (k : ℕ). drop k (y ++ drop (length y) l)) (sym m)
+    ∙ sym (drop-drop (length z - length y) (length y) (y ++ drop (length y) l))
+    ∙ ap (drop (length z - length y)) (drop-at y (drop (length y) l) (length y) refl)
+    ∙ drop-drop (length z - length y) (length y) l
+    ∙ ap (λ (k : ℕ). drop k l) m)
+
+-- z over y over l leaves nothing of y: l holds y anyway, or y is no longer than z.
+abbrev pub Covers : List ℕ → List ℕ → List ℕ → Type 0
+Covers z y l = (l ≡ over y l) ⊎ (length y ≤ length z)
+
+covered : (z y l c : List ℕ) → c ≡ over y l → Covers z y l → over z c ≡ over z l
+covered z y l c e (inl h) = ap (over z) (e ∙ sym h)
+covered z y l c e (inr h) = ap (over z) e ∙ over-over y z l h
+
+states-covered : (size : ℕ) (zs ys : List (Option State)) (l c : List ℕ) → c ≡ statesOver size ys l
+    → statesOver size ys (statesOver size ys l) ≡ statesOver size ys l → (l ≡ statesOver size ys l) ⊎ (zs ≡ ys) → statesOver size zs c ≡ statesOver size zs l
+states-covered size zs ys l c e a (inl h) = ap (statesOver size zs) (e ∙ sym h)
+states-covered size zs ys l c e a (inr h) =
+    ap (statesOver size zs) e
+    ∙ ap (λ (w : List (Option State)). statesOver size w (statesOver size ys l)) h
+    ∙ a
+    ∙ ap (λ (w : List (Option State)). statesOver size w l) (sym h)
+
+-- ---- all of them
+
+-- t with the sizes and the number of s.
+abbrev pub alike : Server → Server → Server
+alike s t = record { servers = s .servers; quota = s .quota; me = s .me; log = t .log; votes = t .votes; membership = t .membership; held = t .held; noted = t .noted }
+
+-- The lists of t over those of s over the bytes b.
+pub record Covering (s t : Server) (b : List ℕ) : Type 0 where
+  pub cuts : Covers (cutsBytes (t .log .cuts)) (cutsBytes (s .log .cuts)) (section (s .servers) (s .quota) theCuts b)
+  pub noted : Covers (notedBytes (t .noted)) (notedBytes (s .noted)) (section (s .servers) (s .quota) theNoted b)
+  pub held : Covers (heldSlots (t .held)) (heldSlots (s .held)) (section (s .servers) (s .quota) theHeld b)
+  pub states : (section (s .servers) (s .quota) theStates b ≡ statesOver (stateSize (s .servers) (s .quota)) (s .membership .states) (section (s .servers) (s .quota) theStates b)) ⊎ (t .membership .states ≡ s .membership .states)
+  pub ids : Covers (idsBytes (t .votes .yellow .ids)) (idsBytes (s .votes .yellow .ids)) (section (s .servers) (s .quota) theYellow b)
+  pub own : Covers (actionSlots (t .log .own)) (actionSlots (s .log .own)) (section (s .servers) (s .quota) theOwn b)
+  pub actions : Covers (actionSlots (queue (t .log))) (actionSlots (queue (s .log))) (section (s .servers) (s .quota) theQueue b)
 
 module _ (s : Server) (f : SectionsFit s) (b : List ℕ) (h : stateLength (s .servers) (s .quota) ≤ length b) where
-  states-same : (c : List ℕ)
-      → section (s .servers) (s .quota) theStates c ≡ statesOver (stateSize (s .servers) (s .quota)) (s .membership .states) (section (s .servers) (s .quota) theStates b)
-      → statesOver (stateSize (s .servers) (s .quota)) (s .membership .states) (section (s .servers) (s .quota) theStates c)
-      ≡ statesOver (stateSize (s .servers) (s .quota)) (s .membership .states) (section (s .servers) (s .quota) theStates b)
-  unfolding sectionSize sections
-  states-same c e =
-      let size : ℕ = stateSize (s .servers) (s .quota) in
-      let l : List ℕ = section (s .servers) (s .quota) theStates b in
-      let room : length (s .membership .states) * size ≤ s .servers * size = mul-le-mul-right size (f .statesCount) in
-      ap (statesOver size (s .membership .states)) e
-      ∙ states-over-again size (s .membership .states) l (f .states) (omega (arith, section-length (s .servers) (s .quota) theStates b h))
+  module _ (t : Server) (c : Covering s t b) where
+    part : (k : ℕ) → k < 8 → (z y : List ℕ) → getD (parts (s .servers) (s .quota) s b) k [] ≡ over y (section (s .servers) (s .quota) k b)
+        → Covers z y (section (s .servers) (s .quota) k b) → over z (section (s .servers) (s .quota) k (image s b)) ≡ over z (section (s .servers) (s .quota) k b)
+    part k l z y e g = covered z y (section (s .servers) (s .quota) k b) (section (s .servers) (s .quota) k (image s b)) (image-section s f b h k l ∙ e) g
+
+    states : statesOver (stateSize (s .servers) (s .quota)) (t .membership .states) (section (s .servers) (s .quota) theStates (image s b))
+        ≡ statesOver (stateSize (s .servers) (s .quota)) (t .membership .states) (section (s .servers) (s .quota) theStates b)
+    unfolding parts sectionSize sections
+    states =
+        let size : ℕ = stateSize (s .servers) (s .quota) in
+        let l : List ℕ = section (s .servers) (s .quota) theStates b in
+        let room : length (s .membership .states) * size ≤ s .servers * size = mul-le-mul-right size (f .statesCount) in
+        let again = states-over-again size (s .membership .states) l (f .states) (omega (arith, section-length (s .servers) (s .quota) theStates b h)) in
+        states-covered size (t .membership .states) (s .membership .states) l _ (image-section s f b h theStates (omega arith)) again (c .states)
+
+    parts-over : parts (s .servers) (s .quota) (alike s t) (image s b) ≡ parts (s .servers) (s .quota) (alike s t) b
+    unfolding parts
+    parts-over =
+        let cuts = part theCuts (omega arith) (cutsBytes (t .log .cuts)) (cutsBytes (s .log .cuts)) refl (c .cuts) in
+        let noted = part theNoted (omega arith) (notedBytes (t .noted)) (notedBytes (s .noted)) refl (c .noted) in
+        let held = part theHeld (omega arith) (heldSlots (t .held)) (heldSlots (s .held)) refl (c .held) in
+        let collected = states in
+        let ids = part theYellow (omega arith) (idsBytes (t .votes .yellow .ids)) (idsBytes (s .votes .yellow .ids)) refl (c .ids) in
+        let own = part theOwn (omega arith) (actionSlots (t .log .own)) (actionSlots (s .log .own)) refl (c .own) in
+        let actions = part theQueue (omega arith) (actionSlots (queue (t .log))) (actionSlots (queue (s .log))) refl (c .actions) in
+        λ i. headerBytes (alike s t) ∷ cuts i ∷ noted i ∷ held i ∷ collected i ∷ ids i ∷ own i ∷ actions i ∷ []
+
+    pub image-over : image (alike s t) (image s b) ≡ image (alike s t) b
+    unfolding image
+    image-over = ap₂ {A = List (List ℕ)} {B = List ℕ} {C = List ℕ} (λ ps r. joined ps ++ r) parts-over (image-rest s f b h)
+
+  -- The state itself.
+  itself : Covering s s b
+  itself =
+      record { cuts = inr (omega arith); noted = inr (omega arith); held = inr (omega arith); states = inr refl; ids = inr (omega arith); own = inr (omega arith); actions = inr (omega arith) }
 
   pub parts-again : parts (s .servers) (s .quota) s (image s b) ≡ parts (s .servers) (s .quota) s b
-  unfolding parts
-  parts-again =
-      let n : ℕ = s .servers in
-      let q : ℕ = s .quota in
-      let c : List ℕ = image s b in
-      let cuts = over-same n q theCuts (cutsBytes (s .log .cuts)) b c (image-section s f b h theCuts (omega arith)) in
-      let noted = over-same n q theNoted (notedBytes (s .noted)) b c (image-section s f b h theNoted (omega arith)) in
-      let held = over-same n q theHeld (heldSlots (s .held)) b c (image-section s f b h theHeld (omega arith)) in
-      let states = states-same c (image-section s f b h theStates (omega arith)) in
-      let ids = over-same n q theYellow (idsBytes (s .votes .yellow .ids)) b c (image-section s f b h theYellow (omega arith)) in
-      let own = over-same n q theOwn (actionSlots (s .log .own)) b c (image-section s f b h theOwn (omega arith)) in
-      let actions = over-same n q theQueue (actionSlots (queue (s .log))) b c (image-section s f b h theQueue (omega arith)) in
-      λ i. headerBytes s ∷ cuts i ∷ noted i ∷ held i ∷ states i ∷ ids i ∷ own i ∷ actions i ∷ []
+  parts-again = parts-over s itself
 
   pub image-twice : image s (image s b) ≡ image s b
-  unfolding image
-  image-twice = ap₂ {A = List (List ℕ)} {B = List ℕ} {C = List ℕ} (λ ps r. joined ps ++ r) parts-again (image-rest s f b h)
+  image-twice = image-over s itself

@@ -49,4 +49,5 @@ states-there s b h =
 pub collected-slots : (s : Server) (b : List ℕ) → Holds s b → statesOf (slotsIn s) b ≡ collected s
 unfolding collected statesOf slotsIn slotsOf slotAt
 collected-slots s b h =
-    sym (present-states (s .servers) (s .quota) (senders 0 (s .membership .states)) b (s .servers) 0 _ (omega arith)) ∙ ap present (states-there s b h)
+    sym (present-states (s .servers) (s .quota) (senders 0 (s .membership .states)) b (s .servers) 0 _ (omega arith))
+    ∙ ap present (states-there s b h)

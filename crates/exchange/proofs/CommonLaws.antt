@@ -22,12 +22,13 @@ use Rattle.replication.specs.Machine.Exchange.{commonYellow, takenYellow}
 use Rattle.record.specs.Values.{slot}
 use Rattle.record.specs.declared.StateHead.{StateHead}
 use Rattle.record.proofs.OnePass.{Small}
+use Rattle.record.proofs.Turns.{small}
 use Rattle.exchange.specs.declared.slots.Slots.{Slots}
 use Rattle.exchange.specs.Slots.{First, withHere, slotAt, stateIn, statesFrom, statesOf, headOf}
 use Rattle.exchange.specs.Passing.{Voters}
 use Rattle.exchange.specs.Table.{isKept, keptIds, Listed, raisedLists, ListInside, ListsInside, ListsShort, ListsInRange}
 use Rattle.exchange.proofs.TableLaws.{table-decides}
-use Rattle.exchange.proofs.RaiseLaws.{ids-read, small}
+use Rattle.exchange.proofs.RaiseLaws.{ids-read}
 use Rattle.exchange.proofs.SlotLaws.{states-in, states-end}
 use Rattle.exchange.proofs.YellowLaws.{same-servers, voters-states}
 
@@ -105,7 +106,8 @@ each-from c v b f (suc m) k h =
     pick-as (Each (λ y. idsInRange c (y .yellow .ids) ≡ true)) (inSet k (v .here)) _ _ (λ y. (f k (omega arith) y, each-from c v b f m (k + 1) (omega arith)))
     (λ y. each-from c v b f m (k + 1) (omega arith))
 
-pub taken-ids-none : (c : FormatContext) (v w : Slots) (b : List ℕ) (set k : ℕ) (o : List ℕ) → Voters v b set → w ≡ withHere set v → First w k → v .servers ≤ k
+pub taken-ids-none : (c : FormatContext) (v w : Slots) (b : List ℕ) (set k : ℕ) (o : List ℕ) → Voters v b set → w ≡ withHere set v → First w k
+    → v .servers ≤ k
     → ListsInRange c v b → Listed 0 o (takenYellow (statesOf v b) .ids)
 unfolding commonYellow noYellow idsBytes
 taken-ids-none c v w b set k o g e r h f =
@@ -113,7 +115,8 @@ taken-ids-none c v w b set k o g e r h f =
     let none : takenYellow (statesOf v b) .ids ≡ [] = ap (λ (y : Yellow). y .ids) (voters-states v w b set k g e r ∙ ap commonYellow (states-end w b k l)) in
     subst (Listed 0 o) (sym none) (record { count = refl; bytes = refl })
 
-pub taken-ids-some : (c : Context) (v w : Slots) (b : List ℕ) (set k n : ℕ) (o : List ℕ) → ContextIn c → Voters v b set → w ≡ withHere set v → First w k → k < v .servers
+pub taken-ids-some : (c : Context) (v w : Slots) (b : List ℕ) (set k n : ℕ) (o : List ℕ) → ContextIn c → Voters v b set → w ≡ withHere set v
+    → First w k → k < v .servers
     → Listed n o (keptIds (contextOf c) w b k) → ListsInRange (contextOf c) v b → Listed n o (takenYellow (statesOf v b) .ids)
 unfolding commonYellow ListsInRange
 taken-ids-some c v w b set k n o s g e r h i f =
@@ -124,5 +127,6 @@ taken-ids-some c v w b set k n o s g e r h i f =
     ∙ sym (ap (λ (y : Yellow). y .ids) (voters-states v w b set k g e r ∙ ap commonYellow (states-in w b k l (r .there l)))))
     i
   where
-    in-range-at : (c : FormatContext) (w : Slots) (b : List ℕ) (k : ℕ) → ListsInRange c w b → k < w .servers → inSet k (w .here) ≡ true → idsInRange c (stateIn w b k .yellow .ids) ≡ true
+    in-range-at : (c : FormatContext) (w : Slots) (b : List ℕ) (k : ℕ) → ListsInRange c w b → k < w .servers → inSet k (w .here) ≡ true
+        → idsInRange c (stateIn w b k .yellow .ids) ≡ true
     in-range-at c w b k f = f k

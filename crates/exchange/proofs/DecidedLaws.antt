@@ -54,14 +54,16 @@ module _ (s : Server) (b : List ℕ) (h : Holds s b) where
   unfolding headerIn headerOf hereSet
   here-read = ap (λ (x : Numbers). x .«configuration_set») (header-loaded s b h) ∙ set-same (s .membership .configuration)
 
-pub states-told : (b : List ℕ) (x y : ℕ) (r : Bool) → x ≡ numberAt 1 b 10 → y ≡ numberAt 1 b 13 → r ≡ inside x y → (s : Server) → Holds s b → r ≡ allStatesIn s
+pub states-told : (b : List ℕ) (x y : ℕ) (r : Bool) → x ≡ numberAt 1 b 10 → y ≡ numberAt 1 b 13 → r ≡ inside x y → (s : Server) → Holds s b
+    → r ≡ allStatesIn s
 unfolding headerIn headerOf
 states-told b x y r e f g s h =
     g
     ∙ ap₂ {A = ℕ} {B = ℕ} {C = Bool} (λ u v. inside u v) (e ∙ here-read s b h) (f ∙ ap (λ (z : Numbers). z .states) (header-loaded s b h))
     ∙ sym (all-states-in s (h .formed))
 
-pub cpcs-told : (b : List ℕ) (x y : ℕ) (r : Bool) → x ≡ numberAt 1 b 10 → y ≡ numberAt 1 b 14 → r ≡ inside x y → (s : Server) → Holds s b → r ≡ allCpcsIn s
+pub cpcs-told : (b : List ℕ) (x y : ℕ) (r : Bool) → x ≡ numberAt 1 b 10 → y ≡ numberAt 1 b 14 → r ≡ inside x y → (s : Server) → Holds s b
+    → r ≡ allCpcsIn s
 unfolding headerIn headerOf allCpcsIn
 cpcs-told b x y r e f g s h =
     g ∙ ap₂ {A = ℕ} {B = ℕ} {C = Bool} (λ u v. inside u v) (e ∙ here-read s b h) (f ∙ ap (λ (z : Numbers). z .cpcs) (header-loaded s b h))
@@ -80,7 +82,8 @@ module _ (b : List ℕ) (v : Slots) (seen : Seen v b) where
   unfolding plannedNow
   planned-told r e s h = e ∙ ap₂ {A = ℕ} {B = List State} {C = ℕ} (λ n xs. planned n xs) (servers-seen s h) (states-seen s h)
 
-  pub quorum-told : (here : ℕ) (r : Bool) → here ≡ numberAt 1 b 10 → r ≡ quorum (statesOf v b) here → (s : Server) → Holds s b → r ≡ quorum (collected s) (hereSet s)
+  pub quorum-told : (here : ℕ) (r : Bool) → here ≡ numberAt 1 b 10 → r ≡ quorum (statesOf v b) here → (s : Server) → Holds s b
+      → r ≡ quorum (collected s) (hereSet s)
   quorum-told here r e g s h =
       g ∙ ap₂ {A = List State} {B = ℕ} {C = Bool} (λ xs m. quorum xs m) (states-seen s h) (e ∙ here-read s b h)
 
@@ -93,7 +96,8 @@ module _ (b : List ℕ) (v : Slots) (seen : Seen v b) where
   unfolding numberIn
   green-told me r e i = part-told greenIn me r e i
 
-  pub red-told : (me c : ℕ) (r : Part) → me ≡ numberAt 1 b 3 → r ≡ partOf (numberIn (Cut c)) me (statesOf v b) → (s : Server) → Holds s b → c < s .servers
+  pub red-told : (me c : ℕ) (r : Part) → me ≡ numberAt 1 b 3 → r ≡ partOf (numberIn (Cut c)) me (statesOf v b) → (s : Server) → Holds s b
+      → c < s .servers
       → r ≡ partOf (cutIn c) (s .me) (collected s)
   unfolding numberIn
   red-told me c r e i s h l = part-told (cutIn c) me r e i s h
@@ -101,7 +105,8 @@ module _ (b : List ℕ) (v : Slots) (seen : Seen v b) where
   pub red-none : (c : ℕ) (r : Part) → v .servers ≤ c → (s : Server) → Holds s b → c < s .servers → r ≡ partOf (cutIn c) (s .me) (collected s)
   red-none c r l s h k = absurd (omega (arith, servers-seen s h))
 
-  pub votes-none : (me : ℕ) (r : TakenVotes) → me ≡ numberAt 1 b 3 → v .servers ≤ me → (s : Server) → Holds s b → r ≡ votesNumbers (takenVotes (s .me) (collected s))
+  pub votes-none : (me : ℕ) (r : TakenVotes) → me ≡ numberAt 1 b 3 → v .servers ≤ me → (s : Server) → Holds s b
+      → r ≡ votesNumbers (takenVotes (s .me) (collected s))
   unfolding contextOf
   votes-none me r e l s h = absurd (omega (arith, servers-seen s h, own-read s b h, in-range s (h .formed) .context .own))
 
@@ -121,14 +126,16 @@ module _ (b : List ℕ) (v : Slots) (seen : Seen v b) where
       absurd (omega (arith, servers-seen s h, ap (λ (y : Slots). y .size) (seen .held s h)))
 
   pub yellow-told : (c : Context) (n r : ℕ) (o : List ℕ) → SeenContext c b
-      → (ListsInRange (formatContext c) v b → Listed r o (takenYellow (statesOf v b) .ids)) → (s : Server) → Holds s b → 3 * (s .servers * s .quota) ≤ n
+      → (ListsInRange (formatContext c) v b → Listed r o (takenYellow (statesOf v b) .ids)) → (s : Server) → Holds s b
+      → 3 * (s .servers * s .quota) ≤ n
       → Listed r o (takenYellow (collected s) .ids)
   yellow-told c n r o g i s h k =
       let same : contextOf s ≡ formatContext c = sym (ap formatContext (g .held s h) ∙ context-same s) in
       subst (λ (xs : List State). Listed r o (takenYellow xs .ids)) (states-seen s h)
       (i (subst (λ (y : Slots). ListsInRange (formatContext c) y b) (sym (seen .held s h)) (subst (λ (y : FormatContext). ListsInRange y (slotsIn s) b) same (holds-in-range s b h))))
 
-pub part-made : (g : State → ℕ) (me : ℕ) (xs : List State) (t : Bool) (low high : ℕ) → t ≡ isMe me (resender g xs) → low ≡ lowest g xs → high ≡ highest g xs
+pub part-made : (g : State → ℕ) (me : ℕ) (xs : List State) (t : Bool) (low high : ℕ) → t ≡ isMe me (resender g xs) → low ≡ lowest g xs
+    → high ≡ highest g xs
     → _≡_ {A = Part} (record { mine = t; low = low; high = high }) (partOf g me xs)
 unfolding partOf
 part-made g me xs t low high e f h = λ i. record { mine = e i; low = f i; high = h i }

@@ -19,12 +19,12 @@ use Rattle.record.specs.declared.LastPrimary.{LastPrimary}
 use Rattle.record.specs.declared.Mark.{Mark}
 use Rattle.record.specs.declared.StateHead.{StateHead}
 use Rattle.replication.specs.Machine.Types.{clearedMark}
-use Rattle.replication.specs.Machine.Exchange.{isMarked, ruleA, ruleB, ruleC, joinedBits, keptMark, judgedMark, markLeft, ownMark, majority, takenPrimary, takenAttempt, quorum}
+use Rattle.replication.specs.Machine.Exchange.{ruleA, ruleB, ruleC, joinedBits, keptMark, judgedMark, markLeft, ownMark, majority, takenPrimary, takenAttempt, quorum}
 use Rattle.exchange.specs.declared.slots.Slots.{Slots}
 use Rattle.exchange.specs.Slots.{Room, stateIn, statesFrom, statesOf, headOf}
 use Rattle.exchange.specs.Marks.{withBits, isLeft}
 use Rattle.exchange.proofs.AnyLaws.{any-end, found-now}
-use Rattle.exchange.proofs.MarkLaws.{mark-read, sender-read}
+use Rattle.exchange.proofs.MarkLaws.{mark-read, sender-read, status-read}
 
 -- ---- conjunctions
 
@@ -58,11 +58,8 @@ unfolding markOf withBits
 kept-made m bits = refl
 
 module _ (v : Slots) (b : List ℕ) (k : ℕ) (x : StateHead) (r : Mark) (h : x ≡ headOf v b k) where
-  marked : isMarked (stateIn v b k) ≡ (x .mark .status =? 1)
-  unfolding isMarked markOf
-  marked = ap (λ (o : FormatMark). o .status =? 1) (mark-read v b k x h)
-
-  covers : (bits : ℕ) → bits ≡ joinedBits (statesOf v b) (stateIn v b k) → ruleC (statesOf v b) (stateIn v b k) ≡ (bitAnd (x .mark .set) bits =? x .mark .set)
+  covers : (bits : ℕ) → bits ≡ joinedBits (statesOf v b) (stateIn v b k)
+      → ruleC (statesOf v b) (stateIn v b k) ≡ (bitAnd (x .mark .set) bits =? x .mark .set)
   unfolding ruleC inside markOf
   covers bits e =
       let s : stateIn v b k .mark .set ≡ x .mark .set = ap (λ (o : FormatMark). o .set) (mark-read v b k x h) in
@@ -70,7 +67,7 @@ module _ (v : Slots) (b : List ℕ) (k : ℕ) (x : StateHead) (r : Mark) (h : x 
 
   pub judged-unmarked : (x .mark .status ≡ 1 → ⊥) → markOf r ≡ clearedMark → markOf r ≡ judgedMark (statesOf v b) (stateIn v b k)
   unfolding judgedMark
-  judged-unmarked n c = pick-no _ _ _ _ (sym (and-no _ _ (marked ∙ eq-no _ _ n))) c
+  judged-unmarked n c = pick-no _ _ _ _ (sym (and-no _ _ (status-read v b k x h ∙ eq-no _ _ n))) c
 
   pub judged-a : (p : LastPrimary) (u : Bool) → primaryOf p ≡ takenPrimary (statesOf v b)
       → ((s : State) → s .sender ≡ x .sender → s .mark ≡ markOf (x .mark) → u ≡ ruleA (primaryOf p) s) → u ≡ true → markOf r ≡ clearedMark
@@ -88,7 +85,8 @@ module _ (v : Slots) (b : List ℕ) (k : ℕ) (x : StateHead) (r : Mark) (h : x 
       let z : ruleB (statesOf v b) (stateIn v b k) ≡ true = sym (f (stateIn v b k) (mark-read v b k x h)) ∙ t in
       pick-no _ _ _ _ (third-no _ _ _ _ (ap not z)) c
 
-  pub judged-c : (bits : ℕ) → ((s : State) → s .mark ≡ markOf (x .mark) → bits ≡ joinedBits (statesOf v b) s) → bitAnd (x .mark .set) bits ≡ x .mark .set
+  pub judged-c : (bits : ℕ) → ((s : State) → s .mark ≡ markOf (x .mark) → bits ≡ joinedBits (statesOf v b) s)
+      → bitAnd (x .mark .set) bits ≡ x .mark .set
       → markOf r ≡ clearedMark → markOf r ≡ judgedMark (statesOf v b) (stateIn v b k)
   unfolding judgedMark
   judged-c bits f t c =
@@ -107,7 +105,7 @@ module _ (v : Slots) (b : List ℕ) (k : ℕ) (x : StateHead) (r : Mark) (h : x 
       let zb : ruleB (statesOf v b) (stateIn v b k) ≡ false = sym (g (stateIn v b k) m) ∙ i in
       let zc : ruleC (statesOf v b) (stateIn v b k) ≡ false = covers bits (j (stateIn v b k) m) ∙ eq-no _ _ n in
       let joined : bits ≡ joinedBits (statesOf v b) (stateIn v b k) = j (stateIn v b k) m in
-      pick-yes _ _ _ _ (all-four _ _ _ _ (marked ∙ eq-yes _ _ s) (ap not za) (ap not zb) (ap not zc)) (c ∙ (λ i. withBits (joined i) (sym m i)))
+      pick-yes _ _ _ _ (all-four _ _ _ _ (status-read v b k x h ∙ eq-yes _ _ s) (ap not za) (ap not zb) (ap not zc)) (c ∙ (λ i. withBits (joined i) (sym m i)))
 
 -- ---- some mark left
 
@@ -117,7 +115,8 @@ unfolding isLeft markOf
 left-now t u found m xs s e h i j = found-now t u found _ _ e h i (told-eq (m .status) 1 ∙ ap (λ (o : FormatMark). o .status =? 1) j)
 
 pub left-end : (v : Slots) (b : List ℕ) (k : ℕ) (found : Bool) → v .servers ≤ k
-    → any (isLeft (statesOf v b)) (statesOf v b) ≡ (found or any (isLeft (statesOf v b)) (statesFrom v b (v .servers - k) k)) → found ≡ markLeft (statesOf v b)
+    → any (isLeft (statesOf v b)) (statesOf v b) ≡ (found or any (isLeft (statesOf v b)) (statesFrom v b (v .servers - k) k))
+    → found ≡ markLeft (statesOf v b)
 unfolding markLeft isLeft
 left-end v b k found h i = sym (any-end (isLeft (statesOf v b)) v b k found _ h i)
 
@@ -135,7 +134,8 @@ unfolding ownMark
 own-other me xs ys s n = sym (pick-no _ _ _ _ (eq-no _ _ n) refl)
 
 module _ (v : Slots) (b : List ℕ) (xs : List State) (me : ℕ) (room : Room v b) where
-  own-from : (m k : ℕ) → k + m ≤ v .servers → k ≤ me → me < k + m → inSet me (v .here) ≡ true → ownMark me xs (statesFrom v b m k) ≡ judgedMark xs (stateIn v b me)
+  own-from : (m k : ℕ) → k + m ≤ v .servers → k ≤ me → me < k + m → inSet me (v .here) ≡ true
+      → ownMark me xs (statesFrom v b m k) ≡ judgedMark xs (stateIn v b me)
   unfolding statesFrom
   own-from zero k l i j t = absurd (omega arith)
   own-from (suc m) k l i j t = go (known (inSet k (v .here))) (known (k =? me)) (λ z. own-from m (k + 1) (omega arith) z (omega arith) t)

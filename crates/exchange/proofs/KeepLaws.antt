@@ -22,13 +22,15 @@ use Rattle.record.specs.Context.{contextOf, ContextIn}
 use Rattle.record.specs.Values.{idOf, placeOf}
 use Rattle.record.specs.declared.Context.{Context}
 use Rattle.exchange.specs.Table.{isKept, Listed}
-use Rattle.exchange.proofs.RaiseLaws.{place-out, place-in, small}
+use Rattle.record.proofs.Turns.{small, place-out, place-in}
 
-pub kept-out : (c : Context) (r p : ℕ) (t : List ℕ) (d : Id) → ContextIn c → p ≡ placeOf (contextOf c) d → 2048 ≤ p → false ≡ isKept (contextOf c) r t d
+pub kept-out : (c : Context) (r p : ℕ) (t : List ℕ) (d : Id) → ContextIn c → p ≡ placeOf (contextOf c) d → 2048 ≤ p
+    → false ≡ isKept (contextOf c) r t d
 unfolding isKept
 kept-out c r p t d s e h = and-no _ _ (place-out (contextOf c) d p (small c s) (known _) e h)
 
-pub kept-told : (c : Context) (r p : ℕ) (t : List ℕ) (d : Id) → p ≡ placeOf (contextOf c) d → p < 2048 → eqb (getD t p 0) r ≡ isKept (contextOf c) r t d
+pub kept-told : (c : Context) (r p : ℕ) (t : List ℕ) (d : Id) → p ≡ placeOf (contextOf c) d → p < 2048
+    → eqb (getD t p 0) r ≡ isKept (contextOf c) r t d
 unfolding isKept
 kept-told c r p t d e h =
     let z = place-in (contextOf c) d p (known _) e h in
@@ -106,7 +108,8 @@ pub kept-again : (t : Id → Bool) (e : List ℕ) (at count j w q n : ℕ) (o u 
     → Kept t e at count (j + 1) q n u
 kept-again t e at count j w q n o u m h f g = kept-by t e at count j w q n o u (known (t (idAt e (at + 3 * j)))) m h f g
 
-pub kept-end : (t : Id → Bool) (e : List ℕ) (at count j w n : ℕ) (o : List ℕ) → Kept t e at count j w n o → count ≤ j → Listed w o (filter t (idsAt count e at))
+pub kept-end : (t : Id → Bool) (e : List ℕ) (at count j w n : ℕ) (o : List ℕ) → Kept t e at count j w n o → count ≤ j
+    → Listed w o (filter t (idsAt count e at))
 unfolding idsAt filter idsBytes
 kept-end t e at count j w n o m h =
     let a : count - j ≡ 0 = omega arith in

@@ -30,7 +30,8 @@ module _ (s : Server) (b : List ℕ) (h : Holds s b) where
       subst (CollectedRange (contextOf s)) (state-there s b h k l t)
       (each-there (CollectedRange (contextOf s)) (s .membership .states) none k (omega (arith, r .statesCount)) (r .states))
 
-  few : (k : ℕ) → k < s .servers → inSet k (senders 0 (s .membership .states)) ≡ true → length (stateIn (slotsIn s) b k .yellow .ids) ≤ s .servers * s .quota
+  few : (k : ℕ) → k < s .servers → inSet k (senders 0 (s .membership .states)) ≡ true
+      → length (stateIn (slotsIn s) b k .yellow .ids) ≤ s .servers * s .quota
   unfolding contextOf
   few k l t = let y = in-slot k l t .yellow in ids-count (contextOf s) _ (y .ids) (y .differ)
 

@@ -7,8 +7,8 @@ use mathlib.Core.List.{List, _∷_}
 use lib.Bits.{bitOr}
 use lib.Dec.{eqb}
 use borrow.Author.Tests.{not-true, not-false}
-use Rattle.base.specs.Tests.{_or_, _=?_, pick, pick-yes, pick-no, and-no, and-yes, lt-yes, lt-no, eq-yes, eq-no, not-both}
-use Rattle.base.specs.Branches.{told-eq, and-answered, and-denied}
+use Rattle.base.specs.Tests.{_or_, _=?_, pick, pick-yes, pick-no, and-no, and-yes, lt-yes, lt-no, eq-yes, eq-no}
+use Rattle.base.specs.Branches.{told-eq, or-yes, or-no, and-answered, and-denied}
 use Rattle.base.specs.Lists.{any, filter}
 use Rattle.base.specs.Sets.{inSet, withMember, union}
 use Rattle.format.specs.Types.{State, Mark as FormatMark}
@@ -39,6 +39,10 @@ pub bits-read : (v : Slots) (b : List ℕ) (k : ℕ) (x : StateHead) → x ≡ h
 unfolding markOf
 bits-read v b k x h = ap (λ (o : FormatMark). o .bits) (mark-read v b k x h)
 
+pub status-read : (v : Slots) (b : List ℕ) (k : ℕ) (x : StateHead) → x ≡ headOf v b k → isMarked (stateIn v b k) ≡ (x .mark .status =? 1)
+unfolding isMarked markOf
+status-read v b k x h = ap (λ (o : FormatMark). o .status =? 1) (mark-read v b k x h)
+
 pub cleared-made : markOf (record { status = 0; index = record { 0 = 0 }; attempt = record { 0 = 0 }; set = 0; bits = 0 }) ≡ clearedMark
 unfolding markOf clearedMark
 cleared-made = refl
@@ -57,7 +61,8 @@ pub like-unmarked : (m o : Mark) → (o .status ≡ 1 → ⊥) → false ≡ lik
 unfolding likewise markOf
 like-unmarked m o n = and-no _ _ (eq-no _ _ n)
 
-pub like-other : (m o : Mark) (u : Bool) → o .status ≡ 1 → u ≡ sameAttempt (markOf m) (markOf o) → not u ≡ true → false ≡ likewise (markOf m) (markOf o)
+pub like-other : (m o : Mark) (u : Bool) → o .status ≡ 1 → u ≡ sameAttempt (markOf m) (markOf o) → not u ≡ true
+    → false ≡ likewise (markOf m) (markOf o)
 unfolding likewise markOf
 like-other m o u s e h = and-yes _ _ _ (eq-yes _ _ s) (and-denied u _ _ e h)
 
@@ -68,7 +73,8 @@ like-told m o u s e h = and-yes _ _ _ (eq-yes _ _ s) (and-answered u _ _ _ e h (
 
 -- ---- rule (a)
 
-pub rule-a-low : (p : LastPrimary) (m : Mark) (sender : ℕ) → p .index .0 ≤ m .index .0 → (s : State) → s .sender ≡ sender → s .mark ≡ markOf m → false ≡ ruleA (primaryOf p) s
+pub rule-a-low : (p : LastPrimary) (m : Mark) (sender : ℕ) → p .index .0 ≤ m .index .0 → (s : State) → s .sender ≡ sender → s .mark ≡ markOf m
+    → false ≡ ruleA (primaryOf p) s
 unfolding ruleA primaryOf componentOf markOf
 rule-a-low p m sender h s e i = rw i (and-no _ _ (lt-no (m .index .0) (p .index .0) h))
 
@@ -79,24 +85,10 @@ rule-a-told p m sender u h j s e i = rw (i, e, j) (and-yes _ _ _ (lt-yes (m .ind
 
 -- ---- rule (b)
 
-or-true : (t u : Bool) → t ≡ true → true ≡ (t or u)
-unfolding _or_
-or-true true u h = refl
-or-true false u h = not-both h
-
-or-else : (t u r : Bool) → t ≡ false → r ≡ u → r ≡ (t or u)
-unfolding _or_
-or-else false u r h e = e
-or-else true u r h e = not-both (sym h)
-
 module _ (v : Slots) (b : List ℕ) (k : ℕ) (m : Mark) (x : StateHead) (u : Bool) (h : x ≡ headOf v b k) (e : u ≡ inSet (x .sender) (m .set)) where
   there : u ≡ inSet (stateIn v b k .sender) (markOf m .set)
   unfolding markOf
   there = e ∙ ap (λ (j : ℕ). inSet j (m .set)) (sym (sender-read v b k x h))
-
-  status : isMarked (stateIn v b k) ≡ (x .mark .status =? 1)
-  unfolding isMarked markOf
-  status = ap (λ (o : FormatMark). o .status =? 1) (mark-read v b k x h)
 
   pub against-out : not u ≡ true → false ≡ against (markOf m) (stateIn v b k)
   unfolding against
@@ -104,12 +96,13 @@ module _ (v : Slots) (b : List ℕ) (k : ℕ) (m : Mark) (x : StateHead) (u : Bo
 
   pub against-unmarked : not u ≡ false → (x .mark .status ≡ 1 → ⊥) → true ≡ against (markOf m) (stateIn v b k)
   unfolding against
-  against-unmarked n z = and-answered u _ _ _ there n (or-true _ _ (ap not (status ∙ eq-no _ _ z)))
+  against-unmarked n z = and-answered u _ _ _ there n (or-yes _ _ (ap not (status-read v b k x h ∙ eq-no _ _ z)))
 
-  pub against-told : (w : Bool) → not u ≡ false → x .mark .status ≡ 1 → w ≡ sameAttempt (markOf m) (markOf (x .mark)) → not w ≡ against (markOf m) (stateIn v b k)
+  pub against-told : (w : Bool) → not u ≡ false → x .mark .status ≡ 1 → w ≡ sameAttempt (markOf m) (markOf (x .mark))
+      → not w ≡ against (markOf m) (stateIn v b k)
   unfolding against
   against-told w n z i =
-      and-answered u _ _ _ there n (or-else _ _ _ (ap not (status ∙ eq-yes _ _ z)) (ap not (i ∙ ap (sameAttempt (markOf m)) (sym (mark-read v b k x h)))))
+      and-answered u _ _ _ there n (or-no _ _ _ (ap not (status-read v b k x h ∙ eq-yes _ _ z)) (ap not (i ∙ ap (sameAttempt (markOf m)) (sym (mark-read v b k x h)))))
 
 pub rule-b-end : (v : Slots) (b : List ℕ) (k : ℕ) (m : Mark) (found : Bool) → v .servers ≤ k
     → any (against (markOf m)) (statesOf v b) ≡ (found or any (against (markOf m)) (statesFrom v b (v .servers - k) k))
@@ -122,7 +115,8 @@ rule-b-end v b k m found h i s e = sym (any-end (against (markOf m)) v b k found
 unfoldable pub joinLike : FormatMark → ℕ → List State → ℕ
 joinLike m bits xs = joinBits (filter (λ x. likewise m (x .mark)) xs) bits
 
-join-pick : (t : Bool) (x : State) (xs : List State) (y bits : ℕ) → joinBits (x ∷ xs) bits ≡ joinBits xs y → joinBits (pick t (x ∷ xs) xs) bits ≡ joinBits xs (pick t y bits)
+join-pick : (t : Bool) (x : State) (xs : List State) (y bits : ℕ) → joinBits (x ∷ xs) bits ≡ joinBits xs y
+    → joinBits (pick t (x ∷ xs) xs) bits ≡ joinBits xs (pick t y bits)
 unfolding pick
 join-pick true x xs y bits e = e
 join-pick false x xs y bits e = refl
@@ -132,7 +126,8 @@ join-step : (m : FormatMark) (bits : ℕ) (x : State) (xs : List State)
 unfolding joinLike filter joinBits
 join-step m bits x xs = join-pick (likewise m (x .mark)) x (filter (λ y. likewise m (y .mark)) xs) (withMember (x .sender) (union bits (x .mark .bits))) bits refl
 
-pub join-start : (v : Slots) (b : List ℕ) (m : Mark) → joinLike (markOf m) (m .bits) (statesOf v b) ≡ joinLike (markOf m) (m .bits) (statesFrom v b (v .servers - 0) 0)
+pub join-start : (v : Slots) (b : List ℕ) (m : Mark)
+    → joinLike (markOf m) (m .bits) (statesOf v b) ≡ joinLike (markOf m) (m .bits) (statesFrom v b (v .servers - 0) 0)
 join-start v b m = ap (joinLike (markOf m) (m .bits)) (states-start v b)
 
 pub join-again : (v : Slots) (b : List ℕ) (k : ℕ) (m : Mark) (bits r w : ℕ) → k < v .servers

@@ -24,7 +24,8 @@ unfoldable pub passingTo : (State → Bool) → Slots → List ℕ → ℕ → �
 passingTo t v b zero = 0
 passingTo t v b (suc k) = pick (inSet k (v .here) and t (stateIn v b k)) (withMember k (passingTo t v b k)) (passingTo t v b k)
 
-filter-pick : (t : State → Bool) (a : Bool) (x : State) (xs : List State) → filter t (pick a (x ∷ xs) xs) ≡ pick (a and t x) (x ∷ filter t xs) (filter t xs)
+filter-pick : (t : State → Bool) (a : Bool) (x : State) (xs : List State)
+    → filter t (pick a (x ∷ xs) xs) ≡ pick (a and t x) (x ∷ filter t xs) (filter t xs)
 unfolding pick filter _and_
 filter-pick t true x xs = refl
 filter-pick t false x xs = refl
@@ -52,7 +53,8 @@ module _ (t : State → Bool) (v : Slots) (b : List ℕ) where
   those-below zero j h = absurd (omega arith)
   those-below (suc k) j h = go (known (j =? k)) (λ l. those-below k j l)
     where
-      go : Known (j =? k) → (j < k → inSet j (passingTo t v b k) ≡ (inSet j (v .here) and t (stateIn v b j))) → inSet j (passingTo t v b (suc k)) ≡ (inSet j (v .here) and t (stateIn v b j))
+      go : Known (j =? k) → (j < k → inSet j (passingTo t v b k) ≡ (inSet j (v .here) and t (stateIn v b j)))
+          → inSet j (passingTo t v b (suc k)) ≡ (inSet j (v .here) and t (stateIn v b j))
       go (holds e) more =
           let z : j ≡ k = eq-holds j k e in
           rw z (member-same _ k (passingTo t v b k) (none-above k k (omega arith)))

@@ -45,7 +45,8 @@ pub later-not : (p r : LastPrimary) → r .index .0 ≤ p .index .0 → (p .inde
 unfolding later primaryOf componentOf
 later-not p r h n = or-no false _ _ (lt-no (p .index .0) (r .index .0) h) (and-no _ _ (eq-no (p .index .0) (r .index .0) n))
 
-pub later-attempt : (p r : LastPrimary) → r .index .0 ≤ p .index .0 → p .index .0 ≡ r .index .0 → ltb (p .attempt .0) (r .attempt .0) ≡ later (primaryOf p) (primaryOf r)
+pub later-attempt : (p r : LastPrimary) → r .index .0 ≤ p .index .0 → p .index .0 ≡ r .index .0
+    → ltb (p .attempt .0) (r .attempt .0) ≡ later (primaryOf p) (primaryOf r)
 unfolding later primaryOf componentOf
 later-attempt p r h e =
     or-no _ _ _ (lt-no (p .index .0) (r .index .0) h) (and-yes _ _ _ (eq-yes (p .index .0) (r .index .0) e) (told-lt (p .attempt .0) (r .attempt .0)))
@@ -90,7 +91,8 @@ pub pair-not : (p x : LastPrimary) (s : State) → primaryOf x ≡ s .last → (
 unfolding samePair primaryOf componentOf
 pair-not p x s e n = and-no _ _ (eq-no _ _ (λ z. n (ap (λ (y : Primary). y .index) e ∙ z)))
 
-pub pair-told : (p x : LastPrimary) (s : State) → primaryOf x ≡ s .last → x .index .0 ≡ p .index .0 → eqb (x .attempt .0) (p .attempt .0) ≡ samePair (primaryOf p) s
+pub pair-told : (p x : LastPrimary) (s : State) → primaryOf x ≡ s .last → x .index .0 ≡ p .index .0
+    → eqb (x .attempt .0) (p .attempt .0) ≡ samePair (primaryOf p) s
 unfolding samePair primaryOf componentOf
 pair-told p x s e i =
     and-yes _ _ _ (eq-yes _ _ (sym (ap (λ (y : Primary). y .index) e) ∙ i)) (told-eq (x .attempt .0) (p .attempt .0) ∙ ap (λ (m : ℕ). m =? p .attempt .0) (ap (λ (y : Primary). y .attempt) e))

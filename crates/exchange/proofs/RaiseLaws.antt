@@ -14,13 +14,12 @@ use Rattle.base.specs.Sets.{inSet}
 use Rattle.format.specs.Types.{Id, State, Context as FormatContext}
 use Rattle.format.specs.Range.{idOk}
 use Rattle.format.specs.Read.{idAt, idsAt}
-use Rattle.format.proofs.Ranges.{id-range}
 use Rattle.format.proofs.Writing.{ids-number, ids-more}
 use Rattle.record.specs.Context.{contextOf, ContextIn}
 use Rattle.record.specs.Values.{slot, placeOf, stateOf}
 use Rattle.record.specs.declared.Context.{Context}
 use Rattle.record.specs.declared.StateHead.{StateHead}
-use Rattle.record.proofs.OnePass.{Small, slot-lt}
+use Rattle.record.proofs.Turns.{small, place-out, place-in}
 use Rattle.exchange.specs.declared.slots.Slots.{Slots}
 use Rattle.exchange.specs.Slots.{slotAt, stateIn, statesFrom, headOf}
 use Rattle.exchange.specs.Table.{raised, raisedAll, raisedLists, ListInside, ListsInside}
@@ -28,39 +27,22 @@ use Rattle.exchange.proofs.SlotLaws.{states-in, states-out, states-end}
 use Rattle.exchange.proofs.ReadLaws.{state-stands}
 use Rattle.exchange.proofs.TableLaws.{raised-length, raised-all-length}
 
-pub small : (c : Context) → ContextIn c → Small (contextOf c)
-unfolding contextOf
-small c h = record { servers = h .most; quota = h .largest }
-
-pub place-out : (c : FormatContext) (x : Id) (p : ℕ) → Small c → Known (idOk c x) → p ≡ placeOf c x → 2048 ≤ p → idOk c x ≡ false
-unfolding placeOf
-place-out c x p s (holds e) f g =
-    let a = slot-lt c x s (id-range c x e) in
-    let b : p ≡ slot x = f ∙ sym (pick-yes (idOk c x) _ _ _ e refl) in
-    absurd (omega arith)
-place-out c x p s (fails e) f g = e
-
-pub place-in : (c : FormatContext) (x : Id) (p : ℕ) → Known (idOk c x) → p ≡ placeOf c x → p < 2048 → (idOk c x ≡ true) × (p ≡ slot x)
-unfolding placeOf
-place-in c x p (holds e) f g = (e, f ∙ sym (pick-yes (idOk c x) _ _ _ e refl))
-place-in c x p (fails e) f g =
-    let b : p ≡ 2048 = f ∙ sym (pick-no (idOk c x) _ _ _ e refl) in
-    absurd (omega arith)
-
 -- ---- one id
 
 pub raise-out : (c : Context) (r p : ℕ) (t : List ℕ) (d : Id) → ContextIn c → p ≡ placeOf (contextOf c) d → 2048 ≤ p → t ≡ raised (contextOf c) r t d
 unfolding raised
 raise-out c r p t d s e h = pick-no _ _ _ _ (sym (and-no _ _ (place-out (contextOf c) d p (small c s) (known _) e h))) refl
 
-pub raise-other : (c : Context) (r p : ℕ) (t : List ℕ) (d : Id) → p ≡ placeOf (contextOf c) d → p < 2048 → (getD t p 0 ≡ r → ⊥) → t ≡ raised (contextOf c) r t d
+pub raise-other : (c : Context) (r p : ℕ) (t : List ℕ) (d : Id) → p ≡ placeOf (contextOf c) d → p < 2048 → (getD t p 0 ≡ r → ⊥)
+    → t ≡ raised (contextOf c) r t d
 unfolding raised
 raise-other c r p t d e h n =
     let z = place-in (contextOf c) d p (known _) e h in
     let m : getD t (slot d) 0 ≡ r → ⊥ = λ y. n (ap (λ (i : ℕ). getD t i 0) (z .1) ∙ y) in
     pick-no _ _ _ _ (ap (λ (u : Bool). idOk (contextOf c) d and u) (eq-no _ _ m) ∙ sym (and-false (idOk (contextOf c) d))) refl
 
-pub raise-here : (c : Context) (r p : ℕ) (t : List ℕ) (d : Id) → p ≡ placeOf (contextOf c) d → p < 2048 → getD t p 0 ≡ r → set t p (r + 1) ≡ raised (contextOf c) r t d
+pub raise-here : (c : Context) (r p : ℕ) (t : List ℕ) (d : Id) → p ≡ placeOf (contextOf c) d → p < 2048 → getD t p 0 ≡ r
+    → set t p (r + 1) ≡ raised (contextOf c) r t d
 unfolding raised
 raise-here c r p t d e h n =
     let z = place-in (contextOf c) d p (known _) e h in
@@ -68,7 +50,8 @@ raise-here c r p t d e h n =
 
 -- ---- one list
 
-pub list-start : (c : FormatContext) (r : ℕ) (t e : List ℕ) (at m : ℕ) → raisedAll c r t (idsAt m e at) ≡ raisedAll c r t (idsAt (m - 0) e (at + 3 * 0))
+pub list-start : (c : FormatContext) (r : ℕ) (t e : List ℕ) (at m : ℕ)
+    → raisedAll c r t (idsAt m e at) ≡ raisedAll c r t (idsAt (m - 0) e (at + 3 * 0))
 list-start c r t e at m =
     let a : m - 0 ≡ m = omega arith in
     let b : at + 3 * 0 ≡ at = omega arith in
@@ -94,11 +77,13 @@ pub ids-read : (v : Slots) (b : List ℕ) (k at : ℕ) (x : StateHead) → x ≡
 unfolding stateOf
 ids-read v b k at x h e =
     let z : 40 + 2 * v .servers ≡ 9 + 2 * v .servers + 31 = omega arith in
-    (λ i. idsAt (x .«yellow_count») ((rest-whole b at ∙ ap (λ (p : ℕ). drop p b) e) i) (z i)) ∙ ap (λ (s : State). s .yellow .ids) (state-stands v b k x h)
+    (λ i. idsAt (x .«yellow_count») ((rest-whole b at ∙ ap (λ (p : ℕ). drop p b) e) i) (z i))
+    ∙ ap (λ (s : State). s .yellow .ids) (state-stands v b k x h)
 
 pub slot-raised : (c : FormatContext) (r : ℕ) (t u : List ℕ) (v : Slots) (b : List ℕ) (k at : ℕ) (x : StateHead)
     → x ≡ headOf v b k → at ≡ slotAt v k
-    → u ≡ raisedAll c r t (idsAt (x .«yellow_count») (take (length b - at) (drop at b)) (40 + 2 * v .servers)) → u ≡ raisedAll c r t (stateIn v b k .yellow .ids)
+    → u ≡ raisedAll c r t (idsAt (x .«yellow_count») (take (length b - at) (drop at b)) (40 + 2 * v .servers))
+    → u ≡ raisedAll c r t (stateIn v b k .yellow .ids)
 slot-raised c r t u v b k at x h e i = i ∙ ap (raisedAll c r t) (ids-read v b k at x h e)
 
 pub slot-list-inside : (v : Slots) (b : List ℕ) (k at : ℕ) (x : StateHead) → x ≡ headOf v b k → at ≡ slotAt v k → ListInside v b k
@@ -113,7 +98,8 @@ raised-still c r t u d h e = ap length e ∙ raised-length c r t d ∙ h
 
 -- ---- the lists of several slots
 
-pub list-of : (v : Slots) (b : List ℕ) (k : ℕ) (u : Bool) → ListsInside v b → k < v .servers → u ≡ inSet k (v .here) → not u ≡ false → ListInside v b k
+pub list-of : (v : Slots) (b : List ℕ) (k : ℕ) (u : Bool) → ListsInside v b → k < v .servers → u ≡ inSet k (v .here) → not u ≡ false
+    → ListInside v b k
 unfolding ListsInside
 list-of v b k u f h e n = f k h (sym e ∙ not-false u n)
 
@@ -122,7 +108,8 @@ unfolding pick
 turn-most true r q k e h = omega arith
 turn-most false r q k e h = omega arith
 
-turn-length : (t : Bool) (c : FormatContext) (r : ℕ) (x u : List ℕ) (ds : List Id) → length x ≡ 2048 → u ≡ pick t (raisedAll c r x ds) x → length u ≡ 2048
+turn-length : (t : Bool) (c : FormatContext) (r : ℕ) (x u : List ℕ) (ds : List Id) → length x ≡ 2048 → u ≡ pick t (raisedAll c r x ds) x
+    → length u ≡ 2048
 unfolding pick
 turn-length true c r x u ds h e = ap length e ∙ raised-all-length c r x ds ∙ h
 turn-length false c r x u ds h e = ap length e ∙ h
@@ -137,7 +124,8 @@ count-by v b k r q m h (fails s) e i =
     let a : q ≡ r = e ∙ sym (pick-no _ _ _ _ s refl) in
     omega (arith, i, a, ap length (states-out v b k h s))
 
-lists-by : (c : FormatContext) (v : Slots) (b : List ℕ) (k r q : ℕ) (t u w : List ℕ) → k < v .servers → Known (inSet k (v .here)) → q ≡ pick (inSet k (v .here)) (r + 1) r
+lists-by : (c : FormatContext) (v : Slots) (b : List ℕ) (k r q : ℕ) (t u w : List ℕ) → k < v .servers → Known (inSet k (v .here))
+    → q ≡ pick (inSet k (v .here)) (r + 1) r
     → u ≡ pick (inSet k (v .here)) (raisedAll c r t (stateIn v b k .yellow .ids)) t
     → w ≡ raisedLists c r t (statesFrom v b (v .servers - k) k) → w ≡ raisedLists c q u (statesFrom v b (v .servers - (k + 1)) (k + 1))
 unfolding raisedLists
@@ -158,11 +146,13 @@ pub record Met (c : FormatContext) (v : Slots) (b : List ℕ) (start k r : ℕ) 
   pub count : length (statesFrom v b (v .servers - start) start) ≡ r + length (statesFrom v b (v .servers - k) k)
   pub lists : raisedLists c 0 u (statesFrom v b (v .servers - start) start) ≡ raisedLists c r t (statesFrom v b (v .servers - k) k)
 
-pub met-start : (c : FormatContext) (v : Slots) (b : List ℕ) (start : ℕ) (u : List ℕ) → start ≤ v .servers → length u ≡ 2048 → Met c v b start start 0 u u
+pub met-start : (c : FormatContext) (v : Slots) (b : List ℕ) (start : ℕ) (u : List ℕ) → start ≤ v .servers → length u ≡ 2048
+    → Met c v b start start 0 u u
 met-start c v b start u h l = record { low = h; most = omega arith; size = l; count = omega arith; lists = refl }
 
 pub met-again : (c : FormatContext) (v : Slots) (b : List ℕ) (start k r q : ℕ) (u t s : List ℕ) → Met c v b start k r u t → k < v .servers
-    → q ≡ pick (inSet k (v .here)) (r + 1) r → s ≡ pick (inSet k (v .here)) (raisedAll c r t (stateIn v b k .yellow .ids)) t → Met c v b start (k + 1) q u s
+    → q ≡ pick (inSet k (v .here)) (r + 1) r → s ≡ pick (inSet k (v .here)) (raisedAll c r t (stateIn v b k .yellow .ids)) t
+    → Met c v b start (k + 1) q u s
 met-again c v b start k r q u t s m h e f =
     record {
       low = omega arith;

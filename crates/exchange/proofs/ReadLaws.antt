@@ -27,7 +27,8 @@ pub place-made : (v : Slots) (b : List ℕ) (k : ℕ) → Space v b → k < v .s
 unfolding slotAt
 place-made v b k r h = (refl, slot-inside v b k r h)
 
-pub head-made : (v : Slots) (b : List ℕ) (k at : ℕ) (x : StateHead) → at ≡ slotAt v k → x ≡ headIn (v .servers) (take (length b - at) (drop at b)) (9 + 2 * v .servers)
+pub head-made : (v : Slots) (b : List ℕ) (k at : ℕ) (x : StateHead) → at ≡ slotAt v k
+    → x ≡ headIn (v .servers) (take (length b - at) (drop at b)) (9 + 2 * v .servers)
     → x ≡ headOf v b k
 unfolding headOf
 head-made v b k at x e h =
@@ -42,7 +43,8 @@ state-stands v b k x h = rw h (state-is (v .servers) (drop (slotAt v k) b))
 
 -- ---- numbers
 
-pub cut-read : (v : Slots) (b : List ℕ) (k c at x : ℕ) → c < v .servers → at ≡ slotAt v k → x ≡ numberAt 2 b (at + 9 + 2 * c) → x ≡ cutIn c (stateIn v b k)
+pub cut-read : (v : Slots) (b : List ℕ) (k c at x : ℕ) → c < v .servers → at ≡ slotAt v k → x ≡ numberAt 2 b (at + 9 + 2 * c)
+    → x ≡ cutIn c (stateIn v b k)
 unfolding cutIn stateIn stateAt
 cut-read v b k c at x h e i =
     let z : at + 9 + 2 * c ≡ at + (9 + 2 * c) = omega arith in

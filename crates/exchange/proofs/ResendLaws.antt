@@ -76,7 +76,8 @@ pub missing-none : (f : State → ℕ) (xs : List State) (low high : ℕ) → lo
 unfolding missing
 missing-none f xs low high e i h = omega (arith, above-length (lowest f xs) (highest f xs))
 
-pub missing-some : (f : State → ℕ) (xs : List State) (low high : ℕ) → low ≡ lowest f xs → high ≡ highest f xs → low < high → high - low ≡ length (missing f xs)
+pub missing-some : (f : State → ℕ) (xs : List State) (low high : ℕ) → low ≡ lowest f xs → high ≡ highest f xs → low < high
+    → high - low ≡ length (missing f xs)
 unfolding missing
 missing-some f xs low high e i h = omega (arith, above-length (lowest f xs) (highest f xs))
 
@@ -84,7 +85,8 @@ pub planned-start : (xs : List State) (x : ℕ) → x ≡ length (missing (numbe
 unfolding planned numberIn greenIn below sum
 planned-start xs x e = e ∙ omega arith
 
-pub planned-again : (xs : List State) (c total x : ℕ) → x ≡ length (missing (numberIn (Cut c)) xs) → total ≡ planned c xs → total + x ≡ planned (c + 1) xs
+pub planned-again : (xs : List State) (c total x : ℕ) → x ≡ length (missing (numberIn (Cut c)) xs) → total ≡ planned c xs
+    → total + x ≡ planned (c + 1) xs
 unfolding planned numberIn below sum
 planned-again xs c total x e i =
     let g : ℕ → ℕ = λ d. length (missing (cutIn d) xs) in

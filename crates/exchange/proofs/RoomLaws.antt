@@ -2,15 +2,15 @@
 -- Assumes nothing.
 use Prim.Native.Nat.{ℕ, zero, suc, _+_, _*_, _^_, _<_}
 use mathlib.Core.Path.{_≡_, refl, sym, ap, _∙_}
-use mathlib.Core.Bool.{Bool, true, false, not}
-use mathlib.Core.List.{List, [], _∷_}
+use mathlib.Core.Bool.{true, not}
+use mathlib.Core.List.{List}
 use mathlib.Core.Option.{Option, none, some}
-use native.Mathlib.Nat.{zero-add, add-zero, one-le-pow}
+use native.Mathlib.Nat.{zero-add, one-le-pow}
 use native.Mathlib.Omega.{arith}
 use lib.Bits.{bitAnd}
 use lib.Dec.{eqb}
 use lib.ListN.{length, getD, drop}
-use Rattle.base.specs.Tests.{_or_, pick, pick-yes, and-holds, both-yes, not-both, holds}
+use Rattle.base.specs.Tests.{pick, pick-yes, holds}
 use Rattle.base.specs.Branches.{told-eq, same-truth}
 use Rattle.base.specs.Lists.{isThere, sum}
 use Rattle.base.specs.Sets.{inSet, inside}
@@ -21,6 +21,7 @@ use Rattle.replication.specs.Machine.Types.{Configuration, Server, contextOf}
 use Rattle.replication.specs.Machine.Step.{theSet, allFrom, allStatesIn, hereSet}
 use Rattle.replication.specs.Machine.WellFormed.{wellFormed}
 use Rattle.replication.proofs.WellFormed.Facts.{well-formed-facts}
+use Rattle.replication.proofs.WellFormed.Modes.{from-facts, from-ok}
 use Rattle.engine.specs.Layout.{stateSize, sections, stateLength, theStates, offset}
 use Rattle.engine.specs.Image.{senders}
 use Rattle.engine.specs.Decode.{statesAt}
@@ -77,39 +78,14 @@ inside-told s t = told-eq (bitAnd s t) s
 
 -- ---- every member's State is in
 
-or-holds : (a c : Bool) → (not a or c) ≡ true → a ≡ true → c ≡ true
-unfolding _or_
-or-holds true c h e = h
-or-holds false c h e = not-both e
-
-or-made : (a c : Bool) → (a ≡ true → c ≡ true) → (not a or c) ≡ true
-unfolding _or_
-or-made true c h = h refl
-or-made false c h = refl
-
-all-there : (here k : ℕ) (xs : List (Option State)) → ((j : ℕ) → j < length xs → inSet (k + j) here ≡ true → isThere (getD xs j none) ≡ true) → allFrom here k xs ≡ true
-unfolding allFrom
-all-there here k [] f = refl
-all-there here k (x ∷ xs) f =
-    both-yes _ _ (or-made _ _ (λ e. f 0 (omega arith) (ap (λ (m : ℕ). inSet m here) (add-zero k) ∙ e)))
-    (all-there here (k + 1) xs (λ j l e. let z : k + suc j ≡ k + 1 + j = omega arith in f (suc j) (omega arith) (ap (λ (m : ℕ). inSet m here) z ∙ e)))
-
-there-all : (here k : ℕ) (xs : List (Option State)) → allFrom here k xs ≡ true → (j : ℕ) → j < length xs → inSet (k + j) here ≡ true → isThere (getD xs j none) ≡ true
-unfolding allFrom
-there-all here k [] h j l e = absurd (omega arith)
-there-all here k (x ∷ xs) h zero l e = or-holds _ _ (and-holds _ _ h .0) (ap (λ (m : ℕ). inSet m here) (sym (add-zero k)) ∙ e)
-there-all here k (x ∷ xs) h (suc j) l e =
-    let z : k + 1 + j ≡ k + suc j = omega arith in
-    there-all here (k + 1) xs (and-holds _ _ h .1) j (omega arith) (ap (λ (m : ℕ). inSet m here) z ∙ e)
-
 in-senders-at : (xs : List (Option State)) (j : ℕ) → inSet j (senders 0 xs) ≡ isThere (getD xs j none)
 in-senders-at xs j = ap (λ (m : ℕ). inSet m (senders 0 xs)) (sym (zero-add j)) ∙ in-senders 0 xs j
 
 pub all-from-inside : (here : ℕ) (xs : List (Option State)) → here < 2 ^ length xs → allFrom here 0 xs ≡ inside here (senders 0 xs)
 all-from-inside here xs h =
     same-truth _ _ (λ t. members-inside (length xs) here (senders 0 xs) h
-    (λ j l e. in-senders-at xs j ∙ there-all here 0 xs t j l (ap (λ (m : ℕ). inSet m here) (zero-add j) ∙ e)))
-    (λ t. all-there here 0 xs (λ j l e. sym (in-senders-at xs j) ∙ inside-member here (senders 0 xs) j t (ap (λ (m : ℕ). inSet m here) (sym (zero-add j)) ∙ e)))
+    (λ j l e. in-senders-at xs j ∙ from-facts here 0 xs t j l (ap (λ (m : ℕ). inSet m here) (zero-add j) ∙ e)))
+    (λ t. from-ok here 0 xs (λ j l e. sym (in-senders-at xs j) ∙ inside-member here (senders 0 xs) j t (ap (λ (m : ℕ). inSet m here) (sym (zero-add j)) ∙ e)))
 
 here-below : (s : Server) → wellFormed s ≡ true → (d : Option Configuration) → s .membership .configuration ≡ d → theSet d < 2 ^ s .servers
 unfolding theSet

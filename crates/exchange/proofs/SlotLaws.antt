@@ -55,7 +55,8 @@ states-start v b =
     ap (λ (m : ℕ). statesFrom v b m 0) a
 
 -- A fold from the front: g of what is left after a turn.
-pub fold-again : {X Y : Type 0} (g : X → List State → Y) (step : X → State → X) → ((a : X) (x : State) (xs : List State) → g a (x ∷ xs) ≡ g (step a x) xs)
+pub fold-again : {X Y : Type 0} (g : X → List State → Y) (step : X → State → X)
+    → ((a : X) (x : State) (xs : List State) → g a (x ∷ xs) ≡ g (step a x) xs)
     → (v : Slots) (b : List ℕ) (k : ℕ) (a r : X) (w : Y) → k < v .servers → r ≡ pick (inSet k (v .here)) (step a (stateIn v b k)) a
     → w ≡ g a (statesFrom v b (v .servers - k) k) → w ≡ g r (statesFrom v b (v .servers - (k + 1)) (k + 1))
 fold-again {X} {Y} g step law v b k a r w h e i = go (known (inSet k (v .here)))

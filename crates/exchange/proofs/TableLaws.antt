@@ -8,7 +8,7 @@ use native.Mathlib.Omega.{arith}
 use native.Mathlib.Nat.{zero-add}
 use lib.ListN.{length, getD, set, length-set}
 use lib.Seq.{getD-set-same, getD-set-other}
-use Rattle.base.specs.Tests.{_=?_, _and_, _or_, pick, pick-yes, pick-no, not-both, and-holds, both-yes, and-no, pick-either, eq-holds, eq-yes, eq-no, Known, known, holds, fails}
+use Rattle.base.specs.Tests.{_=?_, _and_, _or_, pick, pick-yes, pick-no, and-holds, both-yes, and-no, pick-either, eq-yes, eq-no, Known, known, holds, fails}
 use Rattle.base.specs.Branches.{and-true, and-false}
 use Rattle.base.specs.Lists.{all}
 use Rattle.base.specs.ListLaws.{Each}
@@ -16,25 +16,8 @@ use Rattle.format.specs.Types.{Id, State, Context}
 use Rattle.format.specs.Range.{idOk, sameId, hasId, idsInRange}
 use Rattle.format.proofs.Ranges.{IdRange, id-range}
 use Rattle.record.specs.Values.{slot}
-use Rattle.record.proofs.OnePass.{Small, slot-lt}
+use Rattle.record.proofs.OnePass.{Small, slot-lt, same-slot, other-slot}
 use Rattle.exchange.specs.Table.{raised, raisedAll, raisedLists}
-
--- ---- places
-
-same-place : (x y : Id) → sameId x y ≡ true → slot y ≡ slot x
-unfolding sameId slot
-same-place x y h =
-    let a = and-holds (x .creator =? y .creator) (x .index =? y .index) h in
-    let d : x .creator ≡ y .creator = eq-holds _ _ (a .0) in
-    let i : x .index ≡ y .index = eq-holds _ _ (a .1) in
-    rw (d, i)
-
-other-place : (c : Context) (x y : Id) → Small c → IdRange c x → IdRange c y → sameId x y ≡ false → slot x ≡ slot y → ⊥
-unfolding slot sameId
-other-place c x y s a b f e =
-    let d : x .creator ≡ y .creator = omega arith in
-    let i : x .index ≡ y .index = omega arith in
-    not-both (sym f ∙ both-yes (x .creator =? y .creator) (x .index =? y .index) (eq-yes _ _ d) (eq-yes _ _ i))
 
 -- ---- one id
 
@@ -70,18 +53,18 @@ module _ (c : Context) (r : ℕ) (x : Id) (s : Small c) (a : IdRange c x) where
       read e = ap (λ (w : List ℕ). getD w (slot x) 0) e
 
       moved : {u : Bool} → sameId x d ≡ true → (getD t (slot d) 0 =? r) ≡ u → (getD t (slot x) 0 =? r) ≡ u
-      moved e f = ap (λ (p : ℕ). getD t p 0 =? r) (sym (same-place x d e)) ∙ f
+      moved e f = ap (λ (p : ℕ). getD t p 0 =? r) (sym (same-slot x d e)) ∙ f
 
       go : Known (sameId x d) → Known (getD t (slot d) 0 =? r) → getD (raised c r t d) (slot x) 0 ≡ lifted (sameId x d) r (getD t (slot x) 0)
       go (holds e) (holds f) =
           read (raised-now c r t d ok f)
-          ∙ ap (λ (p : ℕ). getD (set t p (r + 1)) (slot x) 0) (same-place x d e)
+          ∙ ap (λ (p : ℕ). getD (set t p (r + 1)) (slot x) 0) (same-slot x d e)
           ∙ getD-set-same t (slot x) (r + 1) 0 (omega (arith, l, slot-lt c x s a))
           ∙ sym (lifted-yes (sameId x d) r _ e (moved e f))
       go (holds e) (fails f) = read (raised-not c r t d f) ∙ sym (lifted-not (sameId x d) r _ (moved e f))
       go (fails e) (holds f) =
           read (raised-now c r t d ok f)
-          ∙ getD-set-other t (slot d) (slot x) (r + 1) 0 (other-place c x d s a (id-range c d ok) e)
+          ∙ getD-set-other t (slot d) (slot x) (r + 1) 0 (λ z. other-slot c x d s a (id-range c d ok) e (sym z))
           ∙ sym (lifted-no (sameId x d) r _ e)
       go (fails e) (fails f) = read (raised-not c r t d f) ∙ sym (lifted-no (sameId x d) r _ e)
 
@@ -134,7 +117,8 @@ shuffle false true q = refl
 shuffle false false q = refl
 
 module _ (c : Context) (x : Id) (s : Small c) (a : IdRange c x) where
-  raised-lists-at : (r : ℕ) (t : List ℕ) (ys : List State) → length t ≡ 2048 → getD t (slot x) 0 ≤ r → Each (λ y. idsInRange c (y .yellow .ids) ≡ true) ys
+  raised-lists-at : (r : ℕ) (t : List ℕ) (ys : List State) → length t ≡ 2048 → getD t (slot x) 0 ≤ r
+      → Each (λ y. idsInRange c (y .yellow .ids) ≡ true) ys
       → (getD (raisedLists c r t ys) (slot x) 0 =? (r + length ys)) ≡ (all (λ y. hasId x (y .yellow .ids)) ys and getD t (slot x) 0 =? r)
   unfolding raisedLists all _and_
   raised-lists-at r t [] l h e = let z : r + 0 ≡ r = omega arith in rw z

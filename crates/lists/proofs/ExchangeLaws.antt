@@ -1,13 +1,12 @@
 -- Exchanges in place.
 -- Assumes nothing.
-use Prim.Native.Nat.{ℕ, _+_, _*_, _≤_}
+use Prim.Native.Nat.{ℕ, _*_, _≤_}
 use mathlib.Core.Path.{_≡_, refl, sym, ap, _∙_}
 use mathlib.Core.List.{List, []}
 use mathlib.Core.Logic.{inl, inr}
 use mathlib.Core.Option.{Option, none, some}
 use native.Mathlib.Nat.{mul-le-mul}
 use native.Mathlib.Omega.{arith}
-use lib.ListN.{length}
 use Rattle.base.specs.Prefixes.{begins-refl, begins-append}
 use Rattle.format.specs.Limits.{mostIndex, mostServers, mostQuota}
 use Rattle.format.specs.Write.{idsBytes}
@@ -22,7 +21,7 @@ use Rattle.engine.proofs.HeaderLaws.{header-loaded}
 use Rattle.engine.proofs.InRange.{in-range}
 use Rattle.engine.proofs.InPlace.{Holds}
 use Rattle.lists.specs.declared.votes.VoteNumbers.{VoteNumbers}
-use Rattle.lists.specs.Lists.{changedTo, Shortened, YellowRoom}
+use Rattle.lists.specs.Lists.{YellowRoom}
 use Rattle.lists.specs.Standing.{HoldsSome, HoldsWithRoom, voteNumbers, dropped}
 use Rattle.lists.proofs.Composed.{Composes, made-holds, made-over}
 use Rattle.lists.proofs.Counts.{holds-servers, holds-quota, holds-counts}

@@ -10,12 +10,12 @@ use native.Mathlib.Nat.{zero-add, suc-mul}
 use native.Mathlib.Numerals.{add-one}
 use native.Mathlib.Omega.{arith}
 use lib.Dec.{eqb}
-use lib.ListN.{length, getD, take, drop, take-append-drop}
-use lib.Seq.{length-take-le, take-length}
+use lib.ListN.{length, getD, take, drop}
+use lib.Seq.{take-length}
 use borrow.Author.Tests.{not-true, not-false}
 use Rattle.base.specs.Bytes.{numberAt}
-use Rattle.base.specs.BytesLaws.{number-behind}
-use Rattle.base.specs.Lists.{present, atFront, isThere}
+use Rattle.base.specs.BytesLaws.{number-drop}
+use Rattle.base.specs.Lists.{present, atFront}
 use Rattle.base.specs.ListLaws.{Each}
 use Rattle.base.specs.Sets.{inSet}
 use Rattle.base.specs.Tests.{_=?_, pick, pick-yes, pick-no}
@@ -31,7 +31,7 @@ use Rattle.replication.proofs.WellFormed.Facts.{well-formed-facts, facts-well-f
 use Rattle.replication.proofs.WellFormed.Changes.{body, whole, noted-changed, collected-fit}
 use Rattle.replication.proofs.WellFormed.Decisions.{note-all-length, note-all-bound}
 use Rattle.replication.proofs.WellFormed.Kept.{mode-kept}
-use Rattle.engine.specs.Layout.{stateSize, theStates, offset}
+use Rattle.engine.specs.Layout.{stateSize, theStates}
 use Rattle.engine.specs.Image.{image}
 use Rattle.engine.specs.Decode.{serversIn, quotaIn, statesAt, decoded, decodedAs}
 use Rattle.engine.proofs.InPlace.{Holds}
@@ -41,7 +41,6 @@ use Rattle.lists.specs.Noting.{noteSlot, noteFirst}
 use Rattle.lists.specs.Standing.{HoldsSome}
 use Rattle.lists.proofs.Counts.{holds-servers, holds-counts, header-room}
 use Rattle.lists.proofs.Composed.{Composes, made-holds, made-over}
-use Rattle.lists.proofs.StateLaws.{slots-end}
 
 -- ---- slot by slot
 
@@ -165,11 +164,6 @@ slot-read s b k r h =
     ∙ states-at (serversIn b) (quotaIn b) (numberAt 1 b 13) (serversIn b) 0 k b (place theStates b) h
     ∙ ap (λ (j : ℕ). pick (inSet j (numberAt 1 b 13)) (some (stateAt (serversIn b) (drop (place theStates b + k * stateSize (serversIn b) (quotaIn b)) b))) none) (zero-add k)
 
-number-drop : (w : ℕ) (b : List ℕ) (p at : ℕ) → p ≤ length b → numberAt w (drop p b) at ≡ numberAt w b (p + at)
-number-drop w b p at h =
-    sym (number-behind w (take p b) (drop p b) at)
-    ∙ ap₂ {A = List ℕ} {B = ℕ} {C = ℕ} (λ l m. numberAt w l (m + at)) (take-append-drop p b) (length-take-le p b h)
-
 pub slot-empty : (b : List ℕ) (k : ℕ) (x : Bool) → NumberIn k b → x ≡ inSet k (numberAt 1 b 13) → not x ≡ true
     → (s : Server) → Holds s b → b ≡ image (withNoted (noteSlot (getD (s .membership .states) k none) (s .noted)) s) b
 unfolding noteSlot
@@ -185,10 +179,9 @@ unfolding noteSlot stateAt
 slot-noted b c k l x h e f g i s r =
     let at : ℕ = place theStates b + k * stateSize (serversIn b) (quotaIn b) in
     let y : State = stateAt (serversIn b) (drop at b) in
-    let within : at ≤ length b = omega (arith, slots-end b k h) in
     let in-slot : getD (s .membership .states) k none ≡ some y = slot-read s b k r (h .below) ∙ sym (pick-yes (inSet k (numberAt 1 b 13)) (some y) _ none (sym e ∙ not-false x f) refl) in
     let sender : y .sender ≡ k = body s (well-formed-facts s (r .formed)) .membership .states k y in-slot .sender in
-    let sent : l ≡ y .greenLength = g ∙ sym (number-drop 4 b at (9 + 2 * serversIn b) within) in
+    let sent : l ≡ y .greenLength = g ∙ sym (number-drop 4 b at (9 + 2 * serversIn b)) in
     i s r
     ∙ ap₂ {A = ℕ} {B = ℕ} {C = List ℕ} (λ u v. image (withNoted (note u v (s .noted)) s) b) (sym sender) sent
     ∙ ap (λ (z : Option State). image (withNoted (noteSlot z (s .noted)) s) b) (sym in-slot)

@@ -2,16 +2,14 @@
 -- Assumes nothing.
 use Prim.Native.Nat.{ℕ, zero, suc, _<_}
 use mathlib.Core.Path.{_≡_, refl, sym, ap, _∙_}
-use mathlib.Core.List.{List, [], _∷_, _++_, append-assoc, append-nil}
+use mathlib.Core.List.{List, [], _∷_, _++_, append-assoc}
 use mathlib.Core.Logic.{⊎-elim}
 use mathlib.Core.Option.{Option}
 use native.Mathlib.Omega.{arith}
-use native.Mathlib.Nat.{zero-add}
 use lib.ListN.{length, getD, take, drop, set, take-append-drop}
-use lib.Seq.{drop-length}
 use Rattle.base.specs.Bytes.{joined}
 use Rattle.base.specs.Lists.{Begins, sum}
-use Rattle.base.specs.Patched.{patched}
+use Rattle.base.specs.Patched.{patched, patched-whole}
 use Rattle.format.specs.Types.{Action, State as Collected}
 use Rattle.format.specs.Write.{idsBytes, payloadBytes, cutsBytes}
 use Rattle.record.specs.declared.State.{State}
@@ -84,11 +82,6 @@ module _ (s : Server) (b : List ℕ) (r : Holds s b) where
       ∷ own i
       ∷ actions i
       ∷ []
-
--- All of it written anew.
-pub patched-whole : (x y : List ℕ) → length x ≡ length y → patched 0 x y ≡ x
-unfolding patched
-patched-whole x y e = rw (zero-add (length x), e, drop-length y) (append-nil x)
 
 -- The numbers of the changed state, saved.
 pub numbers-saved : (h : State) (b b₁ : List ℕ) → b₁ ≡ patched 0 (headerWritten h) b

@@ -1,9 +1,9 @@
 -- Recovery in place: the own list behind the queue, then the numbers.
 -- Assumes nothing.
 use Prim.Native.Nat.{ℕ, zero, suc, _+_, _*_, _-_, _≤_, _<_}
-use mathlib.Core.Path.{_≡_, refl, sym, ap, ap₂, subst, _∙_}
+use mathlib.Core.Path.{_≡_, refl, sym, ap, ap₂, _∙_}
 use mathlib.Core.Bool.{true}
-use mathlib.Core.List.{List, [], _∷_, _++_, append-assoc, map}
+use mathlib.Core.List.{List, [], _∷_, _++_, append-assoc, map, head-eq-of-cons-eq, tail-eq-of-cons-eq}
 use mathlib.Core.Logic.{inl, inr}
 use native.Mathlib.Nat.{mul-le-mul}
 use native.Mathlib.Omega.{arith}
@@ -11,7 +11,7 @@ use lib.ListN.{length, getD, set, length-append, length-map}
 use Rattle.base.specs.Bytes.{bytesOf, numberAt, partAt}
 use Rattle.base.specs.BytesLaws.{bytes-length}
 use Rattle.base.specs.Lists.{sum, after, above}
-use Rattle.base.specs.ListLaws.{Each, above-length}
+use Rattle.base.specs.ListLaws.{above-length}
 use Rattle.base.specs.Occurs.{Occurs, occurs-first}
 use Rattle.base.specs.Patched.{patched}
 use Rattle.base.specs.Sections.{begin}
@@ -28,16 +28,16 @@ use Rattle.replication.proofs.WellFormed.Changes.{body}
 use Rattle.replication.proofs.WellFormed.Effects.{recovered-body}
 use Rattle.replication.proofs.WellFormed.Facts.{well-formed-facts}
 use Rattle.replication.proofs.WellFormed.Logs.{LogFits, ownId}
-use Rattle.engine.specs.Layout.{slotSize, theHeader, theCuts, theOwn, theQueue, sections, offset, stateLength}
+use Rattle.engine.specs.Layout.{theHeader, theCuts, theOwn, theQueue, sections, offset, stateLength}
 use Rattle.engine.specs.Image.{over, headerBytes, actionSlots, section, parts, image}
-use Rattle.engine.specs.Decode.{serversIn, quotaIn, decoded, decodedAs}
+use Rattle.engine.specs.Decode.{serversIn, quotaIn}
 use Rattle.engine.proofs.InRange.{in-range}
 use Rattle.engine.proofs.Fit.{well-formed-fits}
 use Rattle.engine.proofs.Used.{action-slots-length}
 use Rattle.engine.proofs.InPlace.{Holds, holds-section}
 use Rattle.queue.specs.Queue.{queueAt}
 use Rattle.queue.proofs.Fields.{fields, theQueueCount, theOwnCount}
-use Rattle.queue.proofs.Holding.{Numbers, numbers, log-fits, log-formed, holds-counts, holds-changed, holds-decoded}
+use Rattle.queue.proofs.Holding.{numbers, log-fits, log-formed, holds-counts, holds-changed}
 use Rattle.queue.proofs.Inside.{changed-at, over-extended, over-changed}
 use Rattle.queue.proofs.SlotLaws.{slots-append, cut-set}
 use Rattle.lists.specs.Lists.{place, numberedIn}
@@ -52,17 +52,11 @@ use Rattle.lists.proofs.RecoveryLaws.{Following, log, all-entered}
 
 -- ---- the own list
 
-heads : {A : Type 0} {x y : A} {xs ys : List A} → x ∷ xs ≡ y ∷ ys → x ≡ y
-heads e = cc
-
-tails : {A : Type 0} {x y : A} {xs ys : List A} → x ∷ xs ≡ y ∷ ys → xs ≡ ys
-tails e = cc
-
 following : (me c m : ℕ) (own : List Action) → idsIn own ≡ map (ownId me) (after c m) → Following me c own
 unfolding idsIn after
 following me c m [] e = tt
 following me c zero (a ∷ own) e = absurd (omega (arith, ap length e))
-following me c (suc m) (a ∷ own) e = (heads e, following me (c + 1) m own (tails e))
+following me c (suc m) (a ∷ own) e = (head-eq-of-cons-eq e, following me (c + 1) m own (tail-eq-of-cons-eq e))
 
 abbrev entered : Server → Log
 entered s =

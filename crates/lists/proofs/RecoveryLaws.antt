@@ -1,43 +1,17 @@
 -- Recovery: the own list is entered red by one copy.
 -- Assumes nothing.
-use Prim.Native.Nat.{ℕ, zero, suc, _+_, _≤_, _<_}
-use mathlib.Core.Path.{_≡_, refl, sym, ap, ap₂, subst, _∙_}
+use Prim.Native.Nat.{ℕ, zero, suc, _+_, _<_}
+use mathlib.Core.Path.{_≡_, refl, sym, ap, subst, _∙_}
 use mathlib.Core.Bool.{true}
 use mathlib.Core.List.{List, [], _∷_, _++_, append-assoc, append-nil}
 use native.Mathlib.Omega.{arith}
-use native.Mathlib.Numerals.{add-one}
-use lib.ListN.{length, getD, take, drop, set, length-set, length-take, length-drop, List·getD-append}
-use lib.Seq.{set-getD, getD-set-same, getD-take, getD-drop}
-use Rattle.base.specs.Bytes.{partAt}
-use Rattle.base.specs.Patched.{patched, patched-more}
+use lib.ListN.{length, getD, set, length-set}
+use lib.Seq.{set-getD, getD-set-same}
 use Rattle.base.specs.Tests.{pick-yes, eq-yes}
 use Rattle.format.specs.Types.{Id, Action}
 use Rattle.replication.specs.Machine.Types.{Log}
 use Rattle.replication.specs.Machine.Colours.{cut, nextIndex, isNext, enter, red, reds}
 use Rattle.queue.proofs.EnterLaws.{first-leaves}
-
--- ---- a copy to a place behind
-
-copied-before : (s x : List ℕ) (to i : ℕ) → i < to → to ≤ length s → getD (patched to x s) i 0 ≡ getD s i 0
-unfolding patched
-copied-before s x to i h l =
-    List·getD-append (take to s) (x ++ drop (to + length x) s) 0 i (simp length-take (omega arith)) ∙ getD-take to s i 0 h
-
-pub copy-turn : (s t : List ℕ) (from to m j : ℕ) → from + m ≤ to → to + m ≤ length s → j < m → t ≡ patched to (take j (drop from s)) s
-    → set t (to + j) (getD t (from + j) 0) ≡ patched to (take (j + 1) (drop from s)) s
-copy-turn s t from to m j h l k e =
-    let b : List ℕ = drop from s in
-    let same : getD t (from + j) 0 ≡ getD b j 0 =
-    ap (λ (z : List ℕ). getD z (from + j) 0) e ∙ copied-before s (take j b) to (from + j) (omega arith) (omega arith) ∙ sym (getD-drop from s j 0) in
-    ap₂ {A = List ℕ} {B = ℕ} {C = List ℕ} (λ z v. set z (to + j) v) e same
-    ∙ patched-more to j b s 0 (omega arith) (simp length-drop (omega arith))
-    ∙ ap (λ (i : ℕ). patched to (take i b) s) (sym (add-one j))
-
-pub copy-end : (s t : List ℕ) (from to m j : ℕ) → j ≤ m → m ≤ j → t ≡ patched to (take j (drop from s)) s → t ≡ patched to (partAt m s from) s
-unfolding partAt
-copy-end s t from to m j h l e = let k : j ≡ m = omega arith in e ∙ ap (λ (i : ℕ). patched to (take i (drop from s)) s) k
-
--- ---- the own list
 
 -- The actions of one creator, with the indexes from c + 1 on.
 abbrev pub Following : ℕ → ℕ → List Action → Type 0

@@ -1,14 +1,14 @@
 -- A collected State in place.
 -- Assumes nothing.
 use Prim.Native.Nat.{ℕ, zero, suc, _+_, _*_, _%_, _^_, _≤_, _<_}
-use mathlib.Core.Path.{_≡_, refl, sym, ap, ap₂, subst, _∙_}
+use mathlib.Core.Path.{_≡_, refl, sym, ap, ap₂, _∙_}
 use mathlib.Core.Bool.{Bool, true, false}
 use mathlib.Core.List.{List, [], _∷_, _++_, append-assoc}
 use mathlib.Core.Option.{Option, none, some}
 use native.Mathlib.Decide.{ℕ-discrete}
 use native.Mathlib.Nat.{zero-add, suc-mul, mul-le-mul-right}
 use native.Mathlib.Omega.{arith}
-use lib.Bits.{bitOr}
+use lib.Bits.{bitOr, bitAnd, and-comm}
 use lib.ListN.{length, getD, take, drop, set, length-append, length-take, length-drop, length-set, take-append-drop}
 use lib.Seq.{take-at, drop-at, getD-set-same, getD-set-other, take-append-add, drop-append-add, drop-append-le}
 use Rattle.base.specs.Bytes.{bytesOf, numberAt}
@@ -17,14 +17,14 @@ use Rattle.base.specs.Lists.{isThere, sum}
 use Rattle.base.specs.ListLaws.{Each}
 use Rattle.base.specs.Patched.{patched}
 use Rattle.base.specs.Sections.{begin, begin-end}
-use Rattle.base.specs.Sets.{inSet, withMember}
-use Rattle.base.specs.SetLaws.{in-with-member, with-member-below, same-sets}
-use Rattle.base.specs.Tests.{_or_, eq-yes, eq-no}
+use Rattle.base.specs.Sets.{inSet, withMember, inside}
+use Rattle.base.specs.SetLaws.{in-with-member, with-member-below, same-sets, members-inside}
+use Rattle.base.specs.Tests.{_or_, eq-yes, eq-no, eq-holds}
 use Rattle.format.specs.Types.{State, state}
 use Rattle.format.specs.Write.{write}
 use Rattle.replication.specs.Machine.Types.{Server, contextOf}
 use Rattle.replication.specs.Machine.Step.{withState}
-use Rattle.engine.specs.Layout.{SizesIn, stateSize, theHeader, theStates, sections, sectionSize, offset, stateLength}
+use Rattle.engine.specs.Layout.{stateSize, theHeader, theStates, sections, sectionSize, offset, stateLength}
 use Rattle.engine.specs.Image.{over, headerBytes, senders, stateOver, statesOver, section, parts, image}
 use Rattle.record.specs.declared.State.{State as Numbers}
 use Rattle.engine.specs.Header.{headerOf, headerIn}
@@ -38,7 +38,7 @@ use Rattle.engine.proofs.InPlace.{Holds, holds-section}
 use Rattle.queue.proofs.Fields.{fields}
 use Rattle.queue.proofs.Holding.{holds-changed}
 use Rattle.queue.proofs.Inside.{changed-at}
-use Rattle.lists.specs.Lists.{place, CountsIn, NumberIn, CollectRoom}
+use Rattle.lists.specs.Lists.{place, NumberIn, CollectRoom}
 use Rattle.lists.proofs.Changes.{changed-image}
 use Rattle.lists.proofs.Counts.{holds-servers, holds-quota, holds-place, place-read, header-room}
 use Rattle.lists.proofs.MembershipLaws.{member-shifted}
@@ -171,7 +171,7 @@ state-collected k e b b₁ at m room e₁ e₂ e₃ s x r w from =
 
 -- ---- the code's numbers
 
-pub slots-end : (b : List ℕ) (k : ℕ) → NumberIn k b → place theStates b + k * stateSize (serversIn b) (quotaIn b) + stateSize (serversIn b) (quotaIn b) ≤ length b
+slots-end : (b : List ℕ) (k : ℕ) → NumberIn k b → place theStates b + k * stateSize (serversIn b) (quotaIn b) + stateSize (serversIn b) (quotaIn b) ≤ length b
 unfolding place offset stateLength sections sum
 slots-end b k h =
     let size : ℕ = stateSize (serversIn b) (quotaIn b) in

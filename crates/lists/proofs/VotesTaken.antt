@@ -7,7 +7,7 @@ use native.Mathlib.Nat.{add-zero}
 use native.Mathlib.Omega.{arith}
 use lib.ListN.{length, set}
 use Rattle.base.specs.Lists.{sum}
-use Rattle.base.specs.Patched.{patched}
+use Rattle.base.specs.Patched.{patched, patched-whole}
 use Rattle.base.specs.Sections.{begin}
 use Rattle.format.specs.Write.{idsBytes}
 use Rattle.record.specs.declared.State.{State}
@@ -26,7 +26,6 @@ use Rattle.lists.specs.Lists.{place, YellowRoom}
 use Rattle.lists.specs.Standing.{voteNumbers}
 use Rattle.lists.proofs.Changes.{changed-image}
 use Rattle.lists.proofs.Counts.{holds-servers, holds-quota, holds-place}
-use Rattle.lists.proofs.NumberLaws.{patched-whole}
 
 pub votes-taken : (e b b₁ b₂ : List ℕ) (at : ℕ) (h t : State) (x : VoteNumbers) → YellowRoom e b → h ≡ headerIn b
     → ((s : Server) (w : Votes) → h ≡ headerOf s → x ≡ voteNumbers w → t ≡ headerOf (withVotes w s)) → at ≡ place theYellow b → b₁ ≡ patched at e b

@@ -1,15 +1,14 @@
 -- The yellow list in place.
 -- Assumes nothing.
-use Prim.Native.Nat.{ℕ, zero, suc, _+_, _*_, _-_, _≤_, _<_}
+use Prim.Native.Nat.{ℕ, suc, _+_, _*_, _-_, _≤_, _<_}
 use mathlib.Core.Path.{_≡_, refl, sym, ap, ap₂, _∙_}
 use mathlib.Core.Bool.{Bool, true, false, not}
 use mathlib.Core.List.{List, [], _∷_, _++_, append-assoc, append-nil}
 use native.Mathlib.Decide.{ℕ-discrete}
 use native.Mathlib.Omega.{arith}
-use native.Mathlib.Nat.{add-zero}
 use lib.Dec.{eqb}
-use lib.ListN.{length, getD, set, length-append}
-use Rattle.base.specs.Tests.{_and_, _or_, _=?_, pick, pick-yes, pick-no, both-yes, and-holds, and-eq, and-ne, or-fails, not-holds, eq-yes, eq-no}
+use lib.ListN.{length, set, length-append}
+use Rattle.base.specs.Tests.{_and_, _or_, _=?_, pick-yes, pick-no, both-yes, and-holds, and-eq, and-ne, or-fails, not-holds, eq-yes, eq-no}
 use Rattle.base.specs.Branches.{told-eq}
 use Rattle.base.specs.Bytes.{bytesOf, numberAt, joined}
 use Rattle.base.specs.BytesLaws.{bytes-length}
@@ -33,9 +32,9 @@ use Rattle.lists.specs.Lists.{yellowCount, place}
 use Rattle.lists.proofs.Changes.{changed-image}
 use Rattle.queue.proofs.Inside.{changed-at, over-extended}
 use Rattle.queue.proofs.Holding.{holds-changed}
-use Rattle.queue.proofs.Fields.{fields, fieldSizes}
+use Rattle.queue.proofs.Fields.{fields}
 use Rattle.lists.proofs.Fields.{theYellowCount, one-field}
-use Rattle.lists.proofs.Counts.{holds-servers, holds-quota, holds-yellow-count, holds-place, holds-ids}
+use Rattle.lists.proofs.Counts.{holds-yellow-count, holds-place, holds-ids}
 
 -- ---- ids as bytes
 

@@ -1,6 +1,6 @@
 // The state that a server is in, its configurations, and what is collected in them.
 ghost use mathlib.Core.Path.{_≡_};
-ghost use Prim.Native.Nat.{ℕ, _≤_, _<_};
+ghost use Prim.Native.Nat.{_≤_, _<_};
 ghost use lib.ListN.{length};
 ghost use Rattle.replication.specs.Machine.Types.{Mode, Server, inMode};
 ghost use Rattle.replication.specs.Machine.Step.{entering, leave as left, withCpc};

@@ -13,7 +13,7 @@ ghost use Rattle.engine.specs.Layout.{stateSize, theNoted, theStates};
 ghost use Rattle.engine.specs.Image.{image};
 ghost use Rattle.engine.specs.Decode.{serversIn, quotaIn};
 ghost use Rattle.engine.proofs.InPlace.{Holds};
-ghost use Rattle.lists.specs.Lists.{CountsIn, NumberIn, place};
+ghost use Rattle.lists.specs.Lists.{NumberIn, place};
 ghost use Rattle.lists.specs.Noting.{noteSlot};
 ghost use Rattle.lists.specs.Standing.{HoldsSome};
 use crate::states::state_place;

@@ -7,7 +7,6 @@ ghost use lib.ListN.{length};
 ghost use Rattle.base.specs.Bytes.{bytesOf, numberAt};
 ghost use Rattle.base.specs.Patched.{patched};
 ghost use Rattle.format.specs.Limits.{mostHeld};
-ghost use Rattle.format.specs.Range.{payloadOk};
 ghost use Rattle.format.specs.Write.{actionBytes, payloadBytes};
 ghost use Rattle.record.specs.Values.{actionOf};
 ghost use Rattle.replication.specs.Machine.Types.{Server};

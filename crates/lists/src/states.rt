@@ -2,7 +2,6 @@
 ghost use mathlib.Core.Path.{_≡_};
 ghost use Prim.Native.Nat.{_+_, _*_, _≤_, _<_};
 ghost use lib.ListN.{length};
-ghost use lib.Bits.{bitOr};
 ghost use Rattle.base.specs.Bytes.{bytesOf, numberAt};
 ghost use Rattle.base.specs.Patched.{patched};
 ghost use Rattle.base.specs.Sets.{withMember};

@@ -1,72 +1,45 @@
 -- Entered and then green: one image over another.
 -- Assumes nothing.
-use Prim.Native.Nat.{ℕ, suc, _+_, _*_, _-_, _≤_, _<_}
-use mathlib.Core.Path.{_≡_, refl, sym, ap, ap₂, subst, _∙_}
+use Prim.Native.Nat.{ℕ, suc, _+_, _*_, _-_, _≤_}
+use mathlib.Core.Path.{_≡_, refl, sym, ap, subst, _∙_}
 use mathlib.Core.Bool.{true}
 use mathlib.Core.List.{List, [], _∷_, _++_}
-use mathlib.Core.Option.{Option, none, some, Option·none-ne-some}
+use mathlib.Core.Logic.{inr}
+use mathlib.Core.Option.{some, Option·none-ne-some}
 use native.Mathlib.Omega.{arith}
-use lib.ListN.{length, getD, drop, length-append}
-use lib.Seq.{drop-at, drop-drop}
+use lib.ListN.{length, length-append}
 use Rattle.base.specs.AtLaws.{some-same}
 use Rattle.base.specs.Tests.{_≤?_, Known, holds, fails, known, le-holds, le-fails}
-use Rattle.base.specs.Bytes.{joined}
-use Rattle.base.specs.Lists.{sum}
 use Rattle.format.specs.Types.{Id, Action}
-use Rattle.format.specs.Write.{cutsBytes, idsBytes}
+use Rattle.format.specs.Write.{cutsBytes}
 use Rattle.replication.specs.Machine.Types.{Log, Server, withLog}
 use Rattle.replication.specs.Machine.Colours.{find, remove, red, promote, greenId, green}
 use Rattle.replication.specs.Machine.WellFormed.{queue, wellFormed}
 use Rattle.replication.proofs.Step.Numbered.{numbered-red}
 use Rattle.replication.proofs.WellFormed.Held.{Greened, unmoved, moved, greened?}
-use Rattle.replication.proofs.WellFormed.Logs.{LogFits, red-fits, green-id-fits}
+use Rattle.replication.proofs.WellFormed.Logs.{red-fits, green-id-fits}
 use Rattle.replication.proofs.WellFormed.RuleFacts.{Delivered}
-use Rattle.engine.specs.Layout.{slotSize, stateSize, theCuts, theNoted, theHeld, theStates, theYellow, theOwn, theQueue, stateLength}
-use Rattle.engine.specs.Image.{over, headerBytes, notedBytes, statesOver, actionSlots, heldSlots, section, parts, image}
-use Rattle.engine.proofs.Used.{over-again, action-slots-length, states-over-again}
-use Rattle.engine.proofs.Fit.{SectionsFit, well-formed-fits, image-section, image-rest}
-use Rattle.engine.proofs.Again.{parts-again, image-twice}
+use Rattle.engine.specs.Layout.{slotSize, stateLength}
+use Rattle.engine.specs.Image.{over, actionSlots, image}
+use Rattle.engine.proofs.Used.{action-slots-length}
+use Rattle.engine.proofs.Fit.{well-formed-fits}
+use Rattle.engine.proofs.Again.{image-over, image-twice}
 use Rattle.engine.proofs.InPlace.{Holds}
 use Rattle.record.specs.declared.ActionHead.{ActionHead}
 use Rattle.record.specs.Values.{idOf, actionOf}
 use Rattle.queue.specs.Queue.{position, CountsIn, RoomIfNext}
 use Rattle.queue.specs.Ready.{Ready}
-use Rattle.queue.proofs.Positions.{Stands, position-found, position-none}
+use Rattle.queue.proofs.Positions.{position-found, position-none}
 use Rattle.queue.proofs.Holding.{log-formed, log-fits, holds-counts, image-holds}
 use Rattle.queue.proofs.RedLaws.{room-if-next}
 
--- What is no longer does not show.
-pub over-over : (y z l : List ℕ) → length y ≤ length z → over z (over y l) ≡ over z l
-unfolding over
-over-over y z l h =
-    let m : length y + (length z - length y) ≡ length z = omega arith in
-    ap (λ (r : List ℕ). z ++ r)
-    (ap (λ (k : ℕ). drop k (y ++ drop (length y) l)) (sym m)
-    ∙ sym (drop-drop (length z - length y) (length y) (y ++ drop (length y) l))
-    ∙ ap (drop (length z - length y)) (drop-at y (drop (length y) l) (length y) refl)
-    ∙ drop-drop (length z - length y) (length y) l
-    ∙ ap (λ (k : ℕ). drop k l) m)
-
-module _ (s : Server) (l m : Log) (b : List ℕ) (ok : wellFormed (withLog l s) ≡ true) (h : stateLength (s .servers) (s .quota) ≤ length b)
-    (cuts : length (cutsBytes (l .cuts)) ≤ length (cutsBytes (m .cuts))) (own : length (actionSlots (l .own)) ≤ length (actionSlots (m .own)))
-    (actions : length (actionSlots (queue l)) ≤ length (actionSlots (queue m))) where
-  part-of : (k : ℕ) (y z : List ℕ) → section (s .servers) (s .quota) k (image (withLog l s) b) ≡ over y (section (s .servers) (s .quota) k b) → length y ≤ length z
-      → over z (section (s .servers) (s .quota) k (image (withLog l s) b)) ≡ over z (section (s .servers) (s .quota) k b)
-  part-of k y z e f = ap (over z) e ∙ over-over y z (section (s .servers) (s .quota) k b) f
-
-  -- The image of a state with longer lists over that of another.
-  pub log-image-over : image (withLog m s) (image (withLog l s) b) ≡ image (withLog m s) b
-  unfolding image parts
-  log-image-over =
-      let u : Server = withLog l s in
-      let f = well-formed-fits u ok in
-      let same = parts-again u f b h in
-      let x = part-of theCuts (cutsBytes (l .cuts)) (cutsBytes (m .cuts)) (image-section u f b h theCuts (omega arith)) cuts in
-      let y = part-of theOwn (actionSlots (l .own)) (actionSlots (m .own)) (image-section u f b h theOwn (omega arith)) own in
-      let z = part-of theQueue (actionSlots (queue l)) (actionSlots (queue m)) (image-section u f b h theQueue (omega arith)) actions in
-      ap₂ {A = List (List ℕ)} {B = List ℕ} {C = List ℕ} (λ ps r. joined ps ++ r)
-      (λ i. headerBytes (withLog m s) ∷ x i ∷ getD (same i) theNoted [] ∷ getD (same i) theHeld [] ∷ getD (same i) theStates [] ∷ getD (same i) theYellow [] ∷ y i ∷ z i ∷ [])
-      (image-rest u f b h)
+-- The image of a state with longer lists over that of another.
+pub log-image-over : (s : Server) (l m : Log) (b : List ℕ) → wellFormed (withLog l s) ≡ true → stateLength (s .servers) (s .quota) ≤ length b
+    → length (cutsBytes (l .cuts)) ≤ length (cutsBytes (m .cuts)) → length (actionSlots (l .own)) ≤ length (actionSlots (m .own))
+    → length (actionSlots (queue l)) ≤ length (actionSlots (queue m)) → image (withLog m s) (image (withLog l s) b) ≡ image (withLog m s) b
+log-image-over s l m b ok h cuts own actions =
+    image-over (withLog l s) (well-formed-fits (withLog l s) ok) b h (withLog m s)
+    (record { cuts = inr cuts; noted = inr (omega arith); held = inr (omega arith); states = inr refl; ids = inr (omega arith); own = inr own; actions = inr actions })
 
 promote-over : (s : Server) (x : Action) (l : Log) (b : List ℕ) → wellFormed (withLog l s) ≡ true → stateLength (s .servers) (s .quota) ≤ length b
     → length (actionSlots (queue l)) ≤ length (actionSlots (queue (promote x l))) → image (withLog (promote x l) s) (image (withLog l s) b) ≡ image (withLog (promote x l) s) b

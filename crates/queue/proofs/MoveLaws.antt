@@ -1,15 +1,15 @@
 -- Slots written and moved: the turns of the loops and what they come to.
 -- Assumes nothing.
-use Prim.Native.Nat.{ℕ, suc, _+_, _*_, _-_, _≤_, _<_}
-use mathlib.Core.Path.{_≡_, refl, sym, ap, ap₂, _∙_}
-use mathlib.Core.List.{List, [], _∷_, _++_, append-nil}
+use Prim.Native.Nat.{ℕ, suc, _+_, _-_, _≤_, _<_}
+use mathlib.Core.Path.{_≡_, sym, ap, ap₂, _∙_}
+use mathlib.Core.List.{List, _∷_, _++_, append-nil}
 use native.Mathlib.Omega.{arith}
 use native.Mathlib.Numerals.{add-one}
 use native.Mathlib.Nat.{add-suc, add-zero, zero-add}
-use lib.ListN.{length, getD, take, drop, set, replicate, length-append, length-take, length-drop, length-replicate, List·getD-append, drop-of-length-le}
-use lib.Seq.{drop-at, drop-drop, take-length, take-suc, drop-cons, set-at, getD-take, getD-drop, getD-append-add, append-snoc, length-take-le, take-all, drop-length}
+use lib.ListN.{length, getD, take, drop, set, length-take, length-drop, List·getD-append, drop-of-length-le}
+use lib.Seq.{drop-at, take-length, take-suc, drop-cons, set-at, getD-take, getD-drop, getD-append-add, append-snoc, length-take-le, take-all}
 use Rattle.base.specs.Bytes.{partAt}
-use Rattle.base.specs.Patched.{patched, patched-none, patched-more, patched-next}
+use Rattle.base.specs.Patched.{patched, patched-more, patched-next}
 use Rattle.format.specs.Write.{actionBytes}
 use Rattle.format.proofs.Lengths.{action-length}
 use Rattle.record.specs.declared.ActionHead.{ActionHead}
@@ -79,30 +79,7 @@ up-start s w h =
 pub up-end : (s : List ℕ) (w : ℕ) → shifted s w 0 ≡ take w s ++ take (length s - w) s
 up-end s w = rw add-zero
 
--- ---- a slot read
-
-pub read-turn : (s x : List ℕ) (at j : ℕ) → at + slotSize ≤ length s → j < slotSize → x ≡ patched 0 (take j (drop at s)) (replicate {A = ℕ} slotSize 0)
-    → set x j (getD s (at + j) 0) ≡ patched 0 (take (j + 1) (drop at s)) (replicate {A = ℕ} slotSize 0)
-read-turn s x at j h l e =
-    let z : List ℕ = replicate {A = ℕ} slotSize 0 in
-    let b : List ℕ = drop at s in
-    let size : length z ≡ slotSize = length-replicate {A = ℕ} slotSize 0 in
-    ap₂ {A = List ℕ} {B = ℕ} {C = List ℕ} (λ y v. set y j v) e (sym (getD-drop at s j 0))
-    ∙ ap (λ (k : ℕ). set (patched 0 (take j b) z) k (getD b j 0)) (sym (zero-add j))
-    ∙ patched-more 0 j b z 0 (omega arith) (simp length-drop (omega arith))
-    ∙ ap (λ (k : ℕ). patched 0 (take k b) z) (sym (add-one j))
-
-pub read-end : (s x : List ℕ) (at j : ℕ) → at + slotSize ≤ length s → j ≤ slotSize → slotSize ≤ j
-    → x ≡ patched 0 (take j (drop at s)) (replicate {A = ℕ} slotSize 0) → x ≡ partAt slotSize s at
-unfolding partAt
-read-end s x at j h l m e =
-    let z : List ℕ = replicate {A = ℕ} slotSize 0 in
-    let k : j ≡ slotSize = omega arith in
-    let y : List ℕ = take slotSize (drop at s) in
-    let size : length y ≡ slotSize = length-take-le slotSize (drop at s) (simp length-drop (omega arith)) in
-    e ∙ ap (λ (i : ℕ). patched 0 (take i (drop at s)) z) k ∙ patched-front-part y z
-    ∙ ap (λ (i : ℕ). y ++ drop i z) (size ∙ sym (length-replicate {A = ℕ} slotSize 0))
-    ∙ ap (λ (r : List ℕ). y ++ r) (drop-length z) ∙ append-nil y
+-- ---- the last slot to the front
 
 pub to-front : (s x s₁ s₂ : List ℕ) → slotSize ≤ length s → x ≡ partAt slotSize s (length s - slotSize)
     → s₁ ≡ take slotSize s ++ take (length s - slotSize) s → s₂ ≡ patched 0 x s₁

@@ -38,7 +38,7 @@ slot-lt c x s h = omega arith
 
 -- The same id has the same place, and another in range has another.
 
-same-slot : (x y : Id) → sameId x y ≡ true → slot y ≡ slot x
+pub same-slot : (x y : Id) → sameId x y ≡ true → slot y ≡ slot x
 unfolding sameId slot
 same-slot x y h =
     let a = and-holds (x .creator =? y .creator) (x .index =? y .index) h in
@@ -119,7 +119,7 @@ pass-law c t (x ∷ xs) s l =
 
 -- A table of zeros: nothing was met.
 
-getD-zeros : (n i : ℕ) → getD (replicate {A = ℕ} n 0) i 0 ≡ 0
+pub getD-zeros : (n i : ℕ) → getD (replicate {A = ℕ} n 0) i 0 ≡ 0
 getD-zeros zero i = refl
 getD-zeros (suc n) zero = refl
 getD-zeros (suc n) (suc i) = getD-zeros n i

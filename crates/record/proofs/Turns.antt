@@ -91,7 +91,7 @@ next-inside w m e at h l =
     let b : w * m ≡ w * (m - 1) + w = ap (λ (i : ℕ). w * i) a ∙ mul-suc w (m - 1) in
     record { wide = h .wide; inside = omega (arith, h .inside) }
 
-small : (c : Context) → ContextIn c → Small (contextOf c)
+pub small : (c : Context) → ContextIn c → Small (contextOf c)
 unfolding contextOf
 small c h = record { servers = h .most; quota = h .largest }
 
@@ -101,7 +101,7 @@ ids-start c w m e at h = pass-zeros (contextOf c) (idsBy w m e at) (small c h)
 
 -- An id has a place below 2048 exactly where it is in range.
 
-place-out : (c : FormatContext) (x : Id) (p : ℕ) → Small c → Known (idOk c x) → p ≡ placeOf c x → 2048 ≤ p → idOk c x ≡ false
+pub place-out : (c : FormatContext) (x : Id) (p : ℕ) → Small c → Known (idOk c x) → p ≡ placeOf c x → 2048 ≤ p → idOk c x ≡ false
 unfolding placeOf
 place-out c x p s (holds e) f g =
     let a = slot-lt c x s (id-range c x e) in
@@ -109,7 +109,7 @@ place-out c x p s (holds e) f g =
     absurd (omega arith)
 place-out c x p s (fails e) f g = e
 
-place-in : (c : FormatContext) (x : Id) (p : ℕ) → Known (idOk c x) → p ≡ placeOf c x → p < 2048 → (idOk c x ≡ true) × (p ≡ slot x)
+pub place-in : (c : FormatContext) (x : Id) (p : ℕ) → Known (idOk c x) → p ≡ placeOf c x → p < 2048 → (idOk c x ≡ true) × (p ≡ slot x)
 unfolding placeOf
 place-in c x p (holds e) f g = (e, f ∙ sym (pick-yes (idOk c x) _ _ _ e refl))
 place-in c x p (fails e) f g =

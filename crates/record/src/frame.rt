@@ -26,7 +26,8 @@ pub enum Framed {
     Bad,
 }
 
-fn action_at(e: &[u8], at: usize) -> ActionAt
+// The action from `at` on.
+pub fn action_at(e: &[u8], at: usize) -> ActionAt
     requires { ⌜ at + 8 ≤ length (now e) ⌝ }
     ensures { λ r. ⌜ r ≡ actionIn (now (e .entry)) at ⌝ }
 {

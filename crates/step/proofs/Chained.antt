@@ -23,7 +23,7 @@ use Rattle.engine.proofs.Used.{action-slots-length, held-slots-length, noted-le
 use Rattle.engine.proofs.Fit.{SectionsFit, well-formed-fits, section-length, image-section, image-rest}
 use Rattle.engine.proofs.InPlace.{Holds, holds-section, over-less}
 use Rattle.queue.proofs.Holding.{holds-decoded, image-holds}
-use Rattle.queue.proofs.GreenLaws.{over-over}
+use Rattle.engine.proofs.Again.{over-over}
 use Rattle.queue.proofs.SlotLaws.{slots-append}
 use Rattle.lists.proofs.NumberLaws.{held-append}
 use Rattle.lists.proofs.YellowLaws.{ids-append}

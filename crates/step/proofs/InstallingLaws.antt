@@ -4,46 +4,31 @@ use Prim.Native.Nat.{ℕ, _≤_, _<_}
 use mathlib.Core.Path.{_≡_, refl, sym, subst, _∙_}
 use mathlib.Core.Bool.{Bool, true, false}
 use mathlib.Core.List.{List}
-use mathlib.Core.Logic.{inl}
-use mathlib.Core.Option.{Option, none, some}
+use mathlib.Core.Logic.{inl, inr}
 use native.Mathlib.Omega.{arith}
-use lib.Bits.{bitAnd}
-use lib.Dec.{eqb}
 use lib.ListN.{length}
-use Rattle.base.specs.Sets.{inside}
-use Rattle.base.specs.Tests.{_=?_, pick}
+use Rattle.base.specs.Bytes.{joined}
+use Rattle.base.specs.Prefixes.{begins-refl}
+use Rattle.base.specs.Tests.{pick}
 use Rattle.format.specs.Limits.{mostIndex}
-use Rattle.record.specs.declared.State.{State}
-use Rattle.replication.specs.Machine.Types.{Mode, Non-prim, Reg-prim, Trans-prim, Exchange-states, Exchange-actions, Construct, No, Un, Configuration, Server, contextOf, inMode}
-use Rattle.replication.specs.Machine.Step.{collected, theSet, hereSet, plannedNow, withCpc, allCpcsIn}
+use Rattle.replication.specs.Machine.Types.{Mode, Non-prim, Reg-prim, Trans-prim, Exchange-states, Exchange-actions, Construct, No, Un, Server, contextOf, inMode}
+use Rattle.replication.specs.Machine.Install.{install}
+use Rattle.replication.specs.Machine.Requests.{numbered, sendHeld, heldRecords}
+use Rattle.replication.specs.Machine.Step.{quiet, inBytes, collected, hereSet, plannedNow, withCpc, allCpcsIn, installing, collectCpc}
 use Rattle.replication.specs.Machine.WellFormed.{wellFormed}
 use Rattle.replication.specs.Machine.WellFormedFacts.{Configured, ModeFits}
 use Rattle.replication.proofs.WellFormed.Facts.{well-formed-facts, facts-well-formed}
 use Rattle.replication.proofs.WellFormed.Changes.{body, whole, in-mode}
 use Rattle.replication.proofs.WellFormed.Exchanges.{with-cpc-body}
-use Rattle.engine.specs.Image.{modeNumber, image}
-use Rattle.engine.specs.Header.{setOf, headerOf, headerIn}
+use Rattle.engine.specs.Image.{modeNumber, over, image}
+use Rattle.engine.specs.Outcome.{word, resultOf}
 use Rattle.engine.proofs.InRange.{in-range}
-use Rattle.engine.proofs.HeaderLaws.{header-loaded}
 use Rattle.engine.proofs.InPlace.{Holds}
 use Rattle.lists.proofs.Counts.{holds-counts, header-room}
-use Rattle.step.specs.Answers.{HoldsSuch, withLateCpc}
-use Rattle.step.proofs.Chained.{such-fact, Covers, chained, then-holds}
-
--- ---- whether all CPCs are in
-
-set-alike : (x : Option Configuration) → setOf x ≡ theSet x
-unfolding setOf theSet
-set-alike none = refl
-set-alike (some c) = refl
-
-pub all-in-told : (h : State) (b : List ℕ) → h ≡ headerIn b → (s : Server) → Holds s b
-    → eqb (bitAnd (h .«configuration_set») (h .cpcs)) (h .«configuration_set») ≡ allCpcsIn s
-unfolding headerOf allCpcsIn hereSet inside _=?_
-all-in-told h b e s r =
-    let f : h ≡ headerOf s = e ∙ header-loaded s b r in
-    let g : h .«configuration_set» ≡ theSet (s .membership .configuration) = (λ j. f j .«configuration_set») ∙ set-alike (s .membership .configuration) in
-    λ j. eqb (bitAnd (g j) (f j .cpcs)) (g j)
+use Rattle.step.specs.declared.Answer.{Answer}
+use Rattle.step.specs.Answers.{answered, outcomeOn, HoldsSuch, LentSuch, Installs, quietly, withLateCpc}
+use Rattle.step.proofs.Chained.{such-fact, lent-fact, Covers, chained, then-holds}
+use Rattle.step.proofs.Installed.{sent-formed, stored-over}
 
 -- ---- one CPC more
 
@@ -74,6 +59,57 @@ holds-header s b r = header-room b (holds-counts s b r)
 pub cpc-room : (k : ℕ) (s : Server) (b : List ℕ) → Holds s b → k < s .servers → (60 ≤ length b) × (k < 8)
 unfolding contextOf
 cpc-room k s b r h = (holds-header s b r, omega (arith, in-range s (r .formed) .context .sizes .most))
+
+-- ---- in Construct
+
+module _ (k : ℕ) (b c o : List ℕ) (p : LentSuch (λ s. (k < s .servers) × (s .membership .mode ≡ Construct)) b o)
+    (f : (s : Server) → Holds s b → c ≡ image (withCpc k s) b) where
+  known : (s : Server) → Holds s b → (k < s .servers) × (s .membership .mode ≡ Construct)
+  known s r = lent-fact (λ x. (k < x .servers) × (x .membership .mode ≡ Construct)) b o s p r
+
+  collected-holds : (s : Server) → Holds s b → Holds (withCpc k s) c
+  collected-holds s r = cpc-holds k s b c r (known s r .0) (f s r)
+
+  may-install : (s : Server) → Holds s b → Configured s × (s .votes .last .index < mostIndex)
+  may-install s r = subst (λ m. ModeFits m s) (known s r .1) (well-formed-facts s (r .formed) .mode)
+
+  pub cpc-lent : LentSuch (λ t. Configured t × (t .votes .last .index < mostIndex)) c o
+  unfolding withCpc
+  cpc-lent = record { state = withCpc k (p .state); holds = collected-holds (p .state) (p .holds); fact = may-install (p .state) (p .holds); room = p .room }
+
+  module _ (all : Bool) (told : (t : Server) → Holds t c → all ≡ allCpcsIn t) where
+    pub cpc-waiting : all ≡ false → (a : Answer) → a ≡ quietly → (s : Server) → Holds s b → answered a c o ≡ outcomeOn (collectCpc k s) b o
+    unfolding collectCpc pick answered outcomeOn resultOf inBytes quiet word over joined
+    cpc-waiting e a g s r =
+        let z : allCpcsIn (withCpc k s) ≡ false = sym (told (withCpc k s) (collected-holds s r)) ∙ e in
+        rw (z, g, f s r)
+
+    pub cpc-complete : all ≡ true → (a : Answer) (d u : List ℕ) → ((s t : Server) → Holds t c → answered a d u ≡ outcomeOn (installing s t) c o)
+        → (s : Server) → Holds s b → answered a d u ≡ outcomeOn (collectCpc k s) b o
+    unfolding collectCpc installing pick withCpc install sendHeld numbered modeNumber
+    cpc-complete e a d u g s r =
+        let t : Server = withCpc k s in
+        let v : Server = inMode Reg-prim (install t) in
+        let held : Holds t c = collected-holds s r in
+        let z : allCpcsIn t ≡ true = sym (told t held) ∙ e in
+        rw z
+        (g s t held
+        ∙ stored-over s t (sendHeld v) s (heldRecords v) b c o r (held .formed)
+        (sent-formed 1 t Reg-prim (held .formed) (installs s r) refl) (covers s) (f s r))
+      where
+        installs : (s : Server) → Holds s b → Installs 1 (withCpc k s)
+        installs s r = record { from = omega arith; to = omega arith; configured = may-install s r .0; index = may-install s r .1 }
+
+        covers : (s : Server) → Covers s (withCpc k s) (sendHeld (inMode Reg-prim (install (withCpc k s))))
+        covers s = record {
+          servers = (refl, refl);
+          quota = (refl, refl);
+          held = inr (begins-refl _);
+          states = inr refl;
+          ids = inr (begins-refl _);
+          own = inr (begins-refl _);
+          actions = inr (begins-refl _);
+        }
 
 -- ---- in No
 

@@ -1,17 +1,19 @@
 -- What the code of a step answers, and what it may rely on.
 -- Assumes nothing.
-use Prim.Native.Nat.{ℕ, _≤_}
+use Prim.Native.Nat.{ℕ, _≤_, _<_}
 use mathlib.Core.Path.{_≡_}
 use mathlib.Core.Bool.{true}
 use mathlib.Core.List.{List, map}
 use lib.ListN.{length}
 use Rattle.base.specs.Tests.{pick}
 use Rattle.base.specs.Bytes.{joined}
+use Rattle.format.specs.Limits.{mostIndex}
 use Rattle.format.specs.Types.{State, Record, state}
 use Rattle.format.specs.Range.{fieldsOk}
 use Rattle.format.specs.Write.{write}
 use Rattle.replication.specs.Machine.Types.{Exchange-states, Un, Server, Outcome, inMode, contextOf}
 use Rattle.replication.specs.Machine.Step.{inBytes, withCpc, allCpcsIn}
+use Rattle.replication.specs.Machine.WellFormedFacts.{Configured}
 use Rattle.replication.proofs.WellFormed.RuleFacts.{StateCame}
 use Rattle.record.specs.declared.State.{State as Numbers}
 use Rattle.engine.specs.Header.{headerOf}
@@ -72,6 +74,13 @@ pub record Came (k : ℕ) (e : List ℕ) (s : Server) : Type 0 where
 -- The CPC of k in No: "all CPCs in, to Un".
 unfoldable pub withLateCpc : ℕ → Server → Server
 withLateCpc k s = pick (allCpcsIn (withCpc k s)) (inMode Un (withCpc k s)) (withCpc k s)
+
+-- k is the number of Reg_prim or Trans_prim, in which s may be after Install: it has a configuration, and its primary index can rise.
+pub record Installs (k : ℕ) (s : Server) : Type 0 where
+  pub from : 1 ≤ k
+  pub to : k ≤ 2
+  pub configured : Configured s
+  pub index : s .votes .last .index < mostIndex
 
 -- h are the numbers of the state s, and the record r is in range in it.
 pub record InForce (h : Numbers) (r : Record) (s : Server) : Type 0 where

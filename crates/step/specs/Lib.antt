@@ -1,2 +1,4 @@
 pub mod Answers
+pub mod Events
 pub mod Sending
+pub mod Resending

@@ -2,16 +2,21 @@
 ghost use mathlib.Core.Path.{_≡_};
 ghost use mathlib.Core.Bool.{true};
 ghost use mathlib.Core.List.{List};
+ghost use mathlib.Core.Option.{some};
 ghost use Prim.Native.Nat.{ℕ, _<_};
-ghost use Rattle.format.specs.Types.{State as FormatState, action, retransmission, state as stateRecord, cpc, regular, transitional, request as requestRecord, recovery};
+ghost use Rattle.base.specs.Lists.{isThere};
+ghost use Rattle.format.specs.Types.{Action, State as FormatState, action, retransmission, state as stateRecord, cpc, regular, transitional, request as requestRecord};
 ghost use Rattle.format.specs.Range.{fieldsOk};
 ghost use Rattle.format.specs.Write.{write};
 ghost use Rattle.record.specs.Values.{actionOf};
-ghost use Rattle.replication.specs.Machine.Types.{Server, contextOf};
-ghost use Rattle.replication.specs.Machine.Step.{answer};
+ghost use Rattle.replication.specs.Machine.Types.{Mode, Server, contextOf};
+ghost use Rattle.replication.specs.Machine.Rules.{Rule, onAction, onRetransmission, onCpc, fromMember};
+ghost use Rattle.replication.specs.Machine.Step.{apply, answer};
+ghost use Rattle.engine.specs.Image.{modeNumber};
 ghost use Rattle.engine.specs.Header.{headerOf};
 ghost use Rattle.engine.proofs.InPlace.{Holds};
 ghost use Rattle.step.specs.Answers.{answered, outcomeOn, HoldsSuch, LentSuch, InForce, StateInForce};
+ghost use Rattle.step.specs.Events.{Takes, modeAfter};
 use crate::Answer;
 use crate::colours::green_and_note;
 use crate::colours::yellow;
@@ -38,8 +43,11 @@ use queue::entering::red;
 use record::ActionHead;
 use record::State;
 
-// An action that rows 5 and 6 let pass.
-fn colour(state: &mut [u8], mode: u8, head: ActionHead, payload: &[u8]) -> Answer {
+// An action that rows 5 and 6 let pass; `mode` is the state's number.
+fn colour(state: &mut [u8], mode: u8, head: ActionHead, payload: &[u8]) -> Answer
+    requires { ⌜ HoldsSuch (Takes mode (actionOf head (now payload))) (now state) ⌝ }
+    ensures { λ r. ⌜ ((s : Server) (o : List ℕ) (k : Rule) → Holds s (now (state .entry)) → onAction (s .membership .mode) (actionOf head (now (payload .entry))) ≡ some k → answered r (now (state .exit)) o ≡ outcomeOn (apply k s) (now (state .entry)) o) ⌝ }
+{
     match mode {
         1 => {
             green_and_note(state, head, payload);
@@ -61,8 +69,14 @@ fn colour(state: &mut [u8], mode: u8, head: ActionHead, payload: &[u8]) -> Answe
 }
 
 // Whether a state takes an action.
-fn takes_action(mode: u8) -> bool {
-    mode <= 3 || mode == 7
+fn takes_action(mode: u8) -> bool
+    ensures { λ r. ⌜ ((m : Mode) (a : Action) → mode ≡ modeNumber m → r ≡ isThere (onAction m a)) ⌝ }
+{
+    match mode {
+        0..=3 => true,
+        7 => true,
+        _ => false,
+    }
 }
 
 pub fn on_action(state: &mut [u8], h: State, head: ActionHead, payload: &[u8]) -> Answer
@@ -81,6 +95,17 @@ pub fn on_action(state: &mut [u8], h: State, head: ActionHead, payload: &[u8]) -
     colour(state, h.mode, head, payload)
 }
 
+// Whether a state takes a retransmission.
+fn takes_retransmission(mode: u8) -> bool
+    ensures { λ r. ⌜ ((m : Mode) (p : ℕ) (a : Action) → mode ≡ modeNumber m → r ≡ isThere (onRetransmission m p a)) ⌝ }
+{
+    match mode {
+        0 => true,
+        4 => true,
+        _ => false,
+    }
+}
+
 pub fn on_retransmission(
     state: &mut [u8],
     out: &mut [u8],
@@ -93,7 +118,7 @@ pub fn on_retransmission(
     requires { ⌜ LentSuch (InForce h (retransmission sender position (actionOf head (now payload)))) (now state) (now out) ⌝ }
     ensures { λ r. ⌜ ((s : Server) → Holds s (now (state .entry)) → answered r (now (state .exit)) (now (out .exit)) ≡ outcomeOn (answer s (retransmission sender position (actionOf head (now (payload .entry))))) (now (state .entry)) (now (out .entry))) ⌝ }
 {
-    if h.mode != 0 && h.mode != 4 {
+    if !takes_retransmission(h.mode) {
         return Answer::refused(5);
     }
     if !numbered_own(h, head.creator, head.index) {
@@ -109,10 +134,24 @@ pub fn on_retransmission(
     Answer::quiet()
 }
 
+// Row 6 does not apply to the State of server k in configuration `id`.
+fn state_from_member(h: State, k: u8, id: u32) -> bool
+    requires { ⌜ k < 8 ⌝ }
+    ensures { λ r. ⌜ ((s : Server) (x : FormatState) → h ≡ headerOf s → x .sender ≡ k → x .configuration ≡ id → r ≡ fromMember (s .membership) (stateRecord x)) ⌝ }
+{
+    if !is_member(h, k) {
+        return false;
+    }
+    if !is_of(h, id) {
+        return false;
+    }
+    !state_in(h, k)
+}
+
 // The State of server k in configuration `id`: the whole event.
 pub fn on_state(state: &mut [u8], out: &mut [u8], h: State, k: u8, id: u32, event: &[u8]) -> Answer
     requires { ⌜ LentSuch (StateInForce h k id (now event)) (now state) (now out) ⌝ }
-    ensures { λ r. ⌜ ((s : Server) (x : FormatState) → Holds s (now (state .entry)) → write (stateRecord x) ≡ now (event .entry) → x .sender ≡ k → x .configuration ≡ id → answered r (now (state .exit)) (now (out .exit)) ≡ outcomeOn (answer s (stateRecord x)) (now (state .entry)) (now (out .entry))) ⌝ }
+    ensures { λ r. ⌜ ((s : Server) (x : FormatState) → Holds s (now (state .entry)) → fieldsOk (contextOf s) (stateRecord x) ≡ true → write (stateRecord x) ≡ now (event .entry) → x .sender ≡ k → x .configuration ≡ id → answered r (now (state .exit)) (now (out .exit)) ≡ outcomeOn (answer s (stateRecord x)) (now (state .entry)) (now (out .entry))) ⌝ }
 {
     if h.mode == 0 {
         return Answer::quiet();
@@ -120,16 +159,36 @@ pub fn on_state(state: &mut [u8], out: &mut [u8], h: State, k: u8, id: u32, even
     if h.mode != 3 {
         return Answer::refused(5);
     }
-    if !is_member(h, k) {
-        return Answer::refused(6);
-    }
-    if !is_of(h, id) {
-        return Answer::refused(6);
-    }
-    if state_in(h, k) {
+    if !state_from_member(h, k, id) {
         return Answer::refused(6);
     }
     collect(state, out, k, event)
+}
+
+// Whether a state takes a CPC.
+fn takes_cpc(mode: u8) -> bool
+    ensures { λ r. ⌜ ((m : Mode) (k : ℕ) → mode ≡ modeNumber m → r ≡ isThere (onCpc m k)) ⌝ }
+{
+    match mode {
+        0 => true,
+        5 => true,
+        6 => true,
+        _ => false,
+    }
+}
+
+// Row 6 does not apply to the CPC of server k in configuration `id`.
+fn cpc_from_member(h: State, k: u8, id: u32) -> bool
+    requires { ⌜ k < 8 ⌝ }
+    ensures { λ r. ⌜ ((s : Server) → h ≡ headerOf s → r ≡ fromMember (s .membership) (cpc k id)) ⌝ }
+{
+    if !is_member(h, k) {
+        return false;
+    }
+    if !is_of(h, id) {
+        return false;
+    }
+    !cpc_in(h, k)
 }
 
 pub fn on_cpc(state: &mut [u8], out: &mut [u8], h: State, k: u8, id: u32) -> Answer
@@ -139,16 +198,10 @@ pub fn on_cpc(state: &mut [u8], out: &mut [u8], h: State, k: u8, id: u32) -> Ans
     if h.mode == 0 {
         return Answer::quiet();
     }
-    if h.mode != 5 && h.mode != 6 {
+    if !takes_cpc(h.mode) {
         return Answer::refused(5);
     }
-    if !is_member(h, k) {
-        return Answer::refused(6);
-    }
-    if !is_of(h, id) {
-        return Answer::refused(6);
-    }
-    if cpc_in(h, k) {
+    if !cpc_from_member(h, k, id) {
         return Answer::refused(6);
     }
     if h.mode == 5 {
@@ -165,7 +218,8 @@ pub fn on_regular(state: &mut [u8], out: &mut [u8], h: State, id: u32, set: u8) 
     if !regular_due(h) {
         return Answer::refused(5);
     }
-    match h.mode {
+    let mode = h.mode;
+    match mode {
         0 => join(state, out, id, set),
         7 => join(state, out, id, set),
         6 => join_unmarked(state, out, id, set),
@@ -175,7 +229,9 @@ pub fn on_regular(state: &mut [u8], out: &mut [u8], h: State, id: u32, set: u8) 
 }
 
 // The state that a transitional configuration leads to; 8 where it cannot come.
-fn after_transitional(mode: u8) -> u8 {
+fn after_transitional(mode: u8) -> u8
+    ensures { λ r. ⌜ ((m : Mode) → mode ≡ modeNumber m → r ≡ modeAfter m) ⌝ }
+{
     match mode {
         0 => 0,
         1 => 2,

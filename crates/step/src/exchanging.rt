@@ -1,34 +1,200 @@
 // An exchange: States collected, retransmissions taken in, and its end.
 ghost use mathlib.Core.Path.{_≡_};
+ghost use mathlib.Core.Bool.{true, false};
+ghost use lib.ListN.{length};
+ghost use Rattle.base.specs.Tests.{_=?_};
 ghost use Rattle.format.specs.Types.{State, state as stateRecord};
+ghost use Rattle.format.specs.Range.{fieldsOk};
 ghost use Rattle.format.specs.Write.{write};
 ghost use Rattle.record.specs.Values.{actionOf};
-ghost use Rattle.replication.specs.Machine.Types.{Non-prim, Exchange-actions, Server};
-ghost use Rattle.replication.specs.Machine.Step.{endExchange, collectState, exchange as exchangedBy};
-ghost use Rattle.replication.specs.Machine.WellFormedFacts.{StatesIn};
+ghost use Rattle.replication.specs.Machine.Types.{Non-prim, Exchange-states, Exchange-actions, Votes, Server, withLog, inMode, contextOf};
+ghost use Rattle.replication.specs.Machine.Exchange.{quorum};
+ghost use Rattle.replication.specs.Machine.Step.{stored, collected, hereSet, placed, exchanged, oneMore, allCome, plannedNow, decided, endExchange, allStatesIn, afterStates, collectState, exchange as exchangedBy};
+ghost use Rattle.replication.specs.Machine.WellFormedFacts.{Configured};
 ghost use Rattle.replication.proofs.WellFormed.RuleFacts.{Delivered};
+ghost use Rattle.engine.specs.Image.{image};
 ghost use Rattle.engine.proofs.InPlace.{Holds};
-ghost use Rattle.step.specs.Answers.{answered, outcomeOn, LentSuch, Came};
+ghost use Rattle.lists.specs.Standing.{voteNumbers};
+ghost use Rattle.exchange.specs.Decided.{votesNumbers};
+ghost use Rattle.step.specs.Answers.{answered, outcomeOn, HoldsSuch, LentSuch, Came};
 use crate::Answer;
+use crate::resending::send_part;
+use crate::sending::send_records;
+use engine::header::load;
+use exchange::decided::TakenVotes;
+use exchange::decided::all_states_in;
+use exchange::decided::planned_now;
+use exchange::decided::quorum_here;
+use exchange::decided::taken_votes;
+use exchange::decided::taken_yellow;
+use lists::exchanges::attempt;
+use lists::exchanges::decide;
+use lists::exchanges::one_more;
+use lists::exchanges::resend;
+use lists::membership::set_mode;
+use lists::sending::send_held;
+use lists::states::collect_state;
+use lists::votes::VoteNumbers;
+use queue::entering::red;
+use queue::greening::green;
 use record::ActionHead;
+use record::bytes::num32;
+use record::writer::Written;
+use record::writer::write_cpc;
+
+// ---- the end
+
+// The votes that the States decide, with the count of their yellow ids.
+fn with_count(v: TakenVotes, count: u16) -> VoteNumbers
+    ensures { λ r. ⌜ ((w : Votes) → v ≡ votesNumbers w → count ≡ length (w .yellow .ids) → r ≡ voteNumbers w) ⌝ }
+{
+    let last = v.last;
+    let attempt = v.attempt;
+    let mark = v.mark;
+    VoteNumbers {
+        last,
+        attempt,
+        mark,
+        yellow_status: v.yellow_status,
+        yellow_count: count,
+    }
+}
+
+// What the States decide, written into the state.
+fn decide_all(state: &mut [u8])
+    requires { ⌜ HoldsSuch (λ t. t .membership .mode ≡ Non-prim) (now state) ⌝ }
+    ensures { λ _. ⌜ ((t : Server) → Holds t (now (state .entry)) → now (state .exit) ≡ image (decided t) (now (state .entry))) ⌝ }
+{
+    let mut ids: [u8; 6144] = [0; 6144];
+    let v = taken_votes(state);
+    let count = taken_yellow(state, &mut ids);
+    let end = 3 * count;
+    let votes = with_count(v, count as u16);
+    decide(state, votes, &ids[..end]);
+}
+
+// "attempt + 1, mark .., store, send CPC, Construct"
+fn attempt_primary(state: &mut [u8], out: &mut [u8]) -> Answer
+    requires { ⌜ LentSuch (λ t. Configured t × (t .membership .mode ≡ Non-prim) × (quorum (collected t) (hereSet t) ≡ true)) (now state) (now out) ⌝ }
+    ensures { λ r. ⌜ ((s t : Server) → Holds t (now (state .entry)) → answered r (now (state .exit)) (now (out .exit)) ≡ outcomeOn (endExchange s t) (now (state .entry)) (now (out .entry))) ⌝ }
+{
+    let h = load(state);
+    let w = write_cpc(out, 0, h.me, h.configuration_id);
+    let Written::Next(sent) = w else {
+        return Answer::quiet();
+    };
+    decide_all(state);
+    attempt(state);
+    Answer::stored(sent as u32)
+}
+
+// "else store, Non_prim": held requests are sent.
+fn stay(state: &mut [u8], out: &mut [u8]) -> Answer
+    requires { ⌜ LentSuch (λ t. Configured t × (t .membership .mode ≡ Non-prim) × (quorum (collected t) (hereSet t) ≡ false)) (now state) (now out) ⌝ }
+    ensures { λ r. ⌜ ((s t : Server) → Holds t (now (state .entry)) → answered r (now (state .exit)) (now (out .exit)) ≡ outcomeOn (endExchange s t) (now (state .entry)) (now (out .entry))) ⌝ }
+{
+    let sent = send_records(state, out);
+    decide_all(state);
+    send_held(state);
+    Answer::stored(sent)
+}
 
 // "the exchange ends": every State is in, and the state has become Non_prim already, in which every number and list may change alone.
 fn end_exchange(state: &mut [u8], out: &mut [u8]) -> Answer
-    requires { ⌜ LentSuch (λ t. StatesIn t × (t .membership .mode ≡ Non-prim)) (now state) (now out) ⌝ }
+    requires { ⌜ LentSuch (λ t. Configured t × (t .membership .mode ≡ Non-prim)) (now state) (now out) ⌝ }
     ensures { λ r. ⌜ ((s t : Server) → Holds t (now (state .entry)) → answered r (now (state .exit)) (now (out .exit)) ≡ outcomeOn (endExchange s t) (now (state .entry)) (now (out .entry))) ⌝ }
 {
-    Answer::quiet()
+    if quorum_here(state) {
+        return attempt_primary(state, out);
+    }
+    stay(state, out)
+}
+
+// ---- States
+
+// One's part of the plan is sent, and the retransmissions are awaited.
+fn await_actions(state: &mut [u8], out: &mut [u8]) -> Answer
+    requires { ⌜ LentSuch (λ t. (allStatesIn t ≡ true) × (t .membership .mode ≡ Exchange-states)) (now state) (now out) ⌝ }
+    ensures { λ r. ⌜ ((s t : Server) → Holds t (now (state .entry)) → (plannedNow t =? 0) ≡ false → answered r (now (state .exit)) (now (out .exit)) ≡ outcomeOn (afterStates s t) (now (state .entry)) (now (out .entry))) ⌝ }
+{
+    let sent = send_part(state, out);
+    resend(state);
+    Answer::sent(sent)
+}
+
+// All States are in.
+fn after_states(state: &mut [u8], out: &mut [u8]) -> Answer
+    requires { ⌜ LentSuch (λ t. (allStatesIn t ≡ true) × (t .membership .mode ≡ Exchange-states)) (now state) (now out) ⌝ }
+    ensures { λ r. ⌜ ((s t : Server) → Holds t (now (state .entry)) → answered r (now (state .exit)) (now (out .exit)) ≡ outcomeOn (afterStates s t) (now (state .entry)) (now (out .entry))) ⌝ }
+{
+    if planned_now(state) != 0 {
+        return await_actions(state, out);
+    }
+    set_mode(state, 0);
+    end_exchange(state, out)
 }
 
 // "When every member's State is in: send one's part of the plan, to Exchange_actions." The State of server k is the whole event.
 pub fn collect(state: &mut [u8], out: &mut [u8], k: u8, event: &[u8]) -> Answer
     requires { ⌜ LentSuch (Came k (now event)) (now state) (now out) ⌝ }
-    ensures { λ r. ⌜ ((s : Server) (x : State) → Holds s (now (state .entry)) → write (stateRecord x) ≡ now (event .entry) → answered r (now (state .exit)) (now (out .exit)) ≡ outcomeOn (collectState x s) (now (state .entry)) (now (out .entry))) ⌝ }
+    ensures { λ r. ⌜ ((s : Server) (x : State) → Holds s (now (state .entry)) → fieldsOk (contextOf s) (stateRecord x) ≡ true → write (stateRecord x) ≡ now (event .entry) → answered r (now (state .exit)) (now (out .exit)) ≡ outcomeOn (collectState x s) (now (state .entry)) (now (out .entry))) ⌝ }
 {
-    Answer::quiet()
+    collect_state(state, k, event);
+    if !all_states_in(state) {
+        return Answer::quiet();
+    }
+    after_states(state, out)
 }
 
+// ---- retransmissions
+
 // "a retransmission at position green length + 1 is green; one at a lower nonzero position is ignored; any other is red."
+fn place_action(state: &mut [u8], position: u32, head: ActionHead, payload: &[u8])
+    requires { ⌜ HoldsSuch (λ s. Delivered s (actionOf head (now payload))) (now state) ⌝ }
+    ensures { λ _. ⌜ ((s : Server) → Holds s (now (state .entry)) → now (state .exit) ≡ image (withLog (placed position (actionOf head (now (payload .entry))) (s .log)) s) (now (state .entry))) ⌝ }
+{
+    let length = num32(state, 23);
+    if position == length + 1 {
+        green(state, head, payload);
+        return;
+    }
+    if position == 0 {
+        red(state, head, payload);
+        return;
+    }
+    if length < position {
+        red(state, head, payload);
+    }
+}
+
+// One that is not the last.
+fn take_in(state: &mut [u8], position: u32, head: ActionHead, payload: &[u8])
+    requires { ⌜ HoldsSuch (λ s. Delivered s (actionOf head (now payload)) × (s .membership .mode ≡ Exchange-actions) × (allCome (oneMore s) ≡ false)) (now state) ⌝ }
+    ensures { λ _. ⌜ ((s : Server) → Holds s (now (state .entry)) → now (state .exit) ≡ image (exchanged position (actionOf head (now (payload .entry))) s) (now (state .entry))) ⌝ }
+{
+    place_action(state, position, head, payload);
+    one_more(state);
+}
+
+// The number of retransmissions rises, and the state is Non_prim.
+fn close(state: &mut [u8])
+    requires { ⌜ HoldsSuch (λ s. s .membership .mode ≡ Exchange-actions) (now state) ⌝ }
+    ensures { λ _. ⌜ ((s : Server) → Holds s (now (state .entry)) → now (state .exit) ≡ image (oneMore (inMode Non-prim s)) (now (state .entry))) ⌝ }
+{
+    set_mode(state, 0);
+    one_more(state);
+}
+
+// The last one, after which the exchange ends.
+fn take_last(state: &mut [u8], position: u32, head: ActionHead, payload: &[u8])
+    requires { ⌜ HoldsSuch (λ s. Delivered s (actionOf head (now payload)) × (s .membership .mode ≡ Exchange-actions)) (now state) ⌝ }
+    ensures { λ _. ⌜ ((s : Server) → Holds s (now (state .entry)) → now (state .exit) ≡ image (inMode Non-prim (exchanged position (actionOf head (now (payload .entry))) s)) (now (state .entry))) ⌝ }
+{
+    place_action(state, position, head, payload);
+    close(state);
+}
+
+// "When as many have come as planned, possibly none, the exchange ends."
 pub fn exchange(
     state: &mut [u8],
     out: &mut [u8],
@@ -39,5 +205,12 @@ pub fn exchange(
     requires { ⌜ LentSuch (λ s. Delivered s (actionOf head (now payload)) × (s .membership .mode ≡ Exchange-actions)) (now state) (now out) ⌝ }
     ensures { λ r. ⌜ ((s : Server) → Holds s (now (state .entry)) → answered r (now (state .exit)) (now (out .exit)) ≡ outcomeOn (exchangedBy position (actionOf head (now (payload .entry))) s) (now (state .entry)) (now (out .entry))) ⌝ }
 {
+    let planned = planned_now(state);
+    let come = num32(state, 15);
+    if planned <= come as u64 + 1 {
+        take_last(state, position, head, payload);
+        return end_exchange(state, out);
+    }
+    take_in(state, position, head, payload);
     Answer::quiet()
 }

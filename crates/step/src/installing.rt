@@ -1,44 +1,75 @@
 // Install, where the last CPC comes and where an action comes in Un.
 ghost use mathlib.Core.Path.{_≡_};
-ghost use mathlib.Core.List.{List};
-ghost use Prim.Native.Nat.{ℕ, _≤_, _<_};
-ghost use lib.ListN.{length};
+ghost use Prim.Native.Nat.{_≤_, _<_};
+ghost use Rattle.format.specs.Limits.{mostIndex};
 ghost use Rattle.record.specs.Values.{actionOf};
-ghost use Rattle.replication.specs.Machine.Types.{Trans-prim, Construct, No, Un, Server, inMode};
+ghost use Rattle.replication.specs.Machine.Types.{Mode, Trans-prim, Construct, No, Un, Server, inMode};
 ghost use Rattle.replication.specs.Machine.Colours.{yellow as yellowed};
 ghost use Rattle.replication.specs.Machine.Install.{install as installed};
-ghost use Rattle.replication.specs.Machine.Step.{allCpcsIn, installing, collectCpc};
+ghost use Rattle.replication.specs.Machine.Requests.{sendHeld, heldRecords};
+ghost use Rattle.replication.specs.Machine.Step.{stored, installing, collectCpc};
+ghost use Rattle.replication.specs.Machine.WellFormedFacts.{Configured};
 ghost use Rattle.replication.proofs.WellFormed.RuleFacts.{Delivered};
-ghost use Rattle.engine.specs.Image.{image};
+ghost use Rattle.engine.specs.Image.{modeNumber, image};
 ghost use Rattle.engine.proofs.InPlace.{Holds};
-ghost use Rattle.step.specs.Answers.{answered, outcomeOn, HoldsSuch, LentSuch, withLateCpc};
+ghost use Rattle.step.specs.Answers.{answered, outcomeOn, HoldsSuch, LentSuch, Installs, withLateCpc};
 use crate::Answer;
-use engine::header::load;
+use crate::colours::yellow;
+use crate::sending::send_records;
+use exchange::decided::all_cpcs_in;
+use install::installing::install;
 use lists::membership::add_cpc;
 use lists::membership::set_mode;
+use lists::sending::send_held;
 use record::ActionHead;
 
-// Whether every member's CPC is in.
-fn all_cpcs_in(state: &[u8]) -> bool
-    requires { ⌜ 60 ≤ length (now state) ⌝ }
-    ensures { λ r. ⌜ ((s : Server) → Holds s (now (state .entry)) → r ≡ allCpcsIn s) ⌝ }
+// Install, and the state that it leads to; that one first, since row 8 bounds the primary index in Construct and Un.
+fn install_in(state: &mut [u8], mode: u8)
+    requires { ⌜ HoldsSuch (Installs mode) (now state) ⌝ }
+    ensures { λ _. ⌜ ((s : Server) (m : Mode) → Holds s (now (state .entry)) → mode ≡ modeNumber m → now (state .exit) ≡ image (inMode m (installed s)) (now (state .entry))) ⌝ }
 {
-    let h = load(state);
-    h.configuration_set & h.cpcs == h.configuration_set
+    set_mode(state, mode);
+    install(state);
 }
 
 // "Un: action does Install, then yellow"
 pub fn late_install(state: &mut [u8], head: ActionHead, payload: &[u8])
     requires { ⌜ HoldsSuch (λ s. Delivered s (actionOf head (now payload)) × (s .membership .mode ≡ Un)) (now state) ⌝ }
     ensures { λ _. ⌜ ((s : Server) → Holds s (now (state .entry)) → now (state .exit) ≡ image (inMode Trans-prim (yellowed (actionOf head (now (payload .entry))) (installed s))) (now (state .entry))) ⌝ }
-{}
+{
+    install_in(state, 2);
+    yellow(state, head, payload);
+}
+
+// "and sent in order on reaching those states"
+fn send_all(state: &mut [u8], out: &mut [u8]) -> Answer
+    requires { ⌜ LentSuch (λ s. 0 ≤ 0) (now state) (now out) ⌝ }
+    ensures { λ r. ⌜ ((s t : Server) → Holds t (now (state .entry)) → answered r (now (state .exit)) (now (out .exit)) ≡ outcomeOn (stored s (sendHeld t) (heldRecords t)) (now (state .entry)) (now (out .entry))) ⌝ }
+{
+    let sent = send_records(state, out);
+    send_held(state);
+    Answer::stored(sent)
+}
+
+// "Install, to Reg_prim"
+fn install_all(state: &mut [u8], out: &mut [u8]) -> Answer
+    requires { ⌜ LentSuch (λ t. Configured t × (t .votes .last .index < mostIndex)) (now state) (now out) ⌝ }
+    ensures { λ r. ⌜ ((s t : Server) → Holds t (now (state .entry)) → answered r (now (state .exit)) (now (out .exit)) ≡ outcomeOn (installing s t) (now (state .entry)) (now (out .entry))) ⌝ }
+{
+    install_in(state, 1);
+    send_all(state, out)
+}
 
 // "Construct: when every member's CPC is in: Install, to Reg_prim"
 pub fn collect_cpc(state: &mut [u8], out: &mut [u8], k: u8) -> Answer
     requires { ⌜ LentSuch (λ s. (k < s .servers) × (s .membership .mode ≡ Construct)) (now state) (now out) ⌝ }
     ensures { λ r. ⌜ ((s : Server) → Holds s (now (state .entry)) → answered r (now (state .exit)) (now (out .exit)) ≡ outcomeOn (collectCpc k s) (now (state .entry)) (now (out .entry))) ⌝ }
 {
-    Answer::quiet()
+    add_cpc(state, k);
+    if !all_cpcs_in(state) {
+        return Answer::quiet();
+    }
+    install_all(state, out)
 }
 
 // "No: all CPCs in, to Un"

@@ -1,7 +1,7 @@
 // One event at one server, over the lent buffers.
 ghost use mathlib.Core.Path.{_≡_};
-ghost use Prim.Native.Nat.{_<_};
-ghost use Rattle.step.specs.Answers.{refusedWith, quietly, storedFirst, sentOnly};
+ghost use Rattle.engine.specs.Outcome.{stepOn};
+ghost use Rattle.step.specs.Answers.{answered, refusedWith, quietly, storedFirst, sentOnly};
 
 pub mod rows; // rows.rt: the conditions of rows 5, 6, 3 and 4
 pub mod colours; // colours.rt: actions that a state colours
@@ -9,9 +9,14 @@ pub mod requests; // requests.rt: requests numbered and sent, or held
 pub mod joining; // joining.rt: regular configurations
 pub mod sending; // sending.rt: held requests as records
 pub mod installing; // installing.rt: Install
+pub mod table; // table.rt: where in the queue each id stands
 pub mod resending; // resending.rt: one's part of the plan
 pub mod exchanging; // exchanging.rt: States and retransmissions, and the end of an exchange
 pub mod events; // events.rt: each kind of event
+pub mod taking; // taking.rt: an event as it comes
+
+use state_check::state_number;
+use taking::step;
 
 // The number returned, the store word (1: store first), and how many bytes of records the outgoing buffer begins with.
 #[repr(C)]
@@ -65,4 +70,16 @@ impl Answer {
             sent,
         }
     }
+}
+
+// One event at one server: the state's own number first, then the event.
+#[no_mangle]
+pub extern "C" fn guzbytor_step(state: &mut [u8], event: &[u8], out: &mut [u8]) -> Answer
+    ensures { λ r. ⌜ answered r (now (state .exit)) (now (out .exit)) ≡ stepOn (now (state .entry)) (now (event .entry)) (now (out .entry)) ⌝ }
+{
+    let number = state_number(state, out);
+    if number != 0 {
+        return Answer::refused(number);
+    }
+    step(state, event, out)
 }

@@ -1,18 +1,195 @@
 // One's part of the retransmission plan, as records.
 ghost use mathlib.Core.Path.{_≡_};
 ghost use mathlib.Core.Bool.{true};
+ghost use mathlib.Core.List.{[], _∷_};
+ghost use Prim.Native.Nat.{_+_, _*_, _-_, _≤_, _<_};
 ghost use lib.ListN.{length};
+ghost use Rattle.base.specs.Bytes.{numberAt};
+ghost use Rattle.base.specs.Lists.{gather, above};
+ghost use Rattle.format.specs.Types.{retransmission};
+ghost use Rattle.record.specs.Events.{actionFrom};
 ghost use Rattle.replication.specs.Machine.Types.{Server};
 ghost use Rattle.replication.specs.Machine.Plan.{ownPart};
 ghost use Rattle.replication.specs.Machine.Step.{collected, allStatesIn};
 ghost use Rattle.engine.specs.Image.{over};
 ghost use Rattle.engine.proofs.InPlace.{Holds};
+ghost use Rattle.queue.specs.Queue.{serversOf, quotaOf, queueCount};
 ghost use Rattle.step.specs.Answers.{LentSuch, recordBytes};
+ghost use Rattle.step.specs.Resending.{queueIn, greensIn, mostActions, InTable, QueueIn, TableOf};
+ghost use Rattle.step.specs.Resending.{fromPlace, atPosition, asRed, oneOf, Sends, Stated, greenPart, redPart, redParts, wholePart};
+use crate::table::PLACES;
+use crate::table::entry;
+use crate::table::places;
+use exchange::decided::resends_green;
+use exchange::decided::resends_red;
+use queue::places::queue_place;
+use record::bytes::num8;
+use record::bytes::num32;
+use record::events::ActionAt;
+use record::frame::action_at;
+use record::writer::Written;
+use record::writer::write_retransmission;
+
+// Writes an action that lies in the state: the place behind its record.
+fn send_action(state: &[u8], out: &mut [u8], at: usize, me: u8, position: u32, a: ActionAt) -> usize
+    requires { ⌜ (a .«payload_length» ≤ 48) × (a .«payload_at» + a .«payload_length» ≤ length (now state)) × (at + 65 ≤ length (now out)) ⌝ }
+    ensures { λ r. ⌜ Sends 1 (retransmission me position (actionFrom a (now (state .entry))) ∷ []) at (now (out .entry)) (now (out .exit)) r ⌝ }
+{
+    let head = a.head;
+    let start = a.payload_at;
+    let end = start + a.payload_length;
+    let w = write_retransmission(out, at, me, position, head, &state[start..end]);
+    let Written::Next(next) = w else {
+        return at;
+    };
+    next
+}
+
+// The action at the place k of the queue.
+fn send_slot(state: &[u8], out: &mut [u8], at: usize, me: u8, position: u32, k: usize) -> usize
+    requires { ⌜ QueueIn (now state) × (k < queueCount (now state)) × (at + 65 ≤ length (now out)) ⌝ }
+    ensures { λ r. ⌜ Sends 1 (oneOf (fromPlace me position (queueIn (now (state .entry))) k)) at (now (out .entry)) (now (out .exit)) r ⌝ }
+{
+    let a = action_at(state, queue_place(state) + 56 * k);
+    send_action(state, out, at, me, position, a)
+}
+
+// A green position; one past the green list is left out.
+fn send_position(state: &[u8], out: &mut [u8], at: usize, me: u8, position: u32) -> usize
+    requires { ⌜ QueueIn (now state) × (1 ≤ position) × (at + 65 ≤ length (now out)) ⌝ }
+    ensures { λ r. ⌜ Sends 1 (oneOf (atPosition me (greensIn (now (state .entry))) position)) at (now (out .entry)) (now (out .exit)) r ⌝ }
+{
+    if num32(state, 23) < position {
+        return at;
+    }
+    send_slot(state, out, at, me, position, position as usize - 1)
+}
+
+// "resends positions from the shortest length + 1 to its own": those above `low` up to `high`.
+fn send_positions(state: &[u8], out: &mut [u8], at: usize, me: u8, low: u32, high: u32) -> usize
+    requires { ⌜ QueueIn (now state) × (at + 65 * (high - low) ≤ length (now out)) ⌝ }
+    ensures { λ r. ⌜ Sends (high - low) (gather (atPosition me (greensIn (now (state .entry)))) (above low high)) at (now (out .entry)) (now (out .exit)) r ⌝ }
+{
+    let mut next = at;
+    let mut p = low;
+    while p < high {
+        p += 1;
+        next = send_position(state, out, next, me, p);
+    }
+    next
+}
+
+fn wide(k: u16) -> usize
+    ensures { λ r. ⌜ r ≡ k ⌝ }
+{
+    k as usize
+}
+
+// The action of an id; one that is not held is left out.
+fn send_index(
+    state: &[u8],
+    out: &mut [u8],
+    at: usize,
+    table: &[u16; PLACES],
+    me: u8,
+    creator: u8,
+    index: u16,
+) -> usize
+    requires { ⌜ QueueIn (now state) × TableOf (now table) (now state) × InTable creator index × (at + 65 ≤ length (now out)) ⌝ }
+    ensures { λ r. ⌜ Sends 1 (oneOf (asRed me (queueIn (now (state .entry))) creator index)) at (now (out .entry)) (now (out .exit)) r ⌝ }
+{
+    let p = entry(creator, index);
+    let k = wide(table[p]);
+    if k == 0 {
+        return at;
+    }
+    send_slot(state, out, at, me, 0, k - 1)
+}
+
+// "resends from the lowest cut + 1 to it, as red": the indexes above `low` up to `high`.
+fn send_creator(
+    state: &[u8],
+    out: &mut [u8],
+    at: usize,
+    table: &[u16; PLACES],
+    me: u8,
+    creator: u8,
+    low: u32,
+    high: u32,
+) -> usize
+    requires { ⌜ QueueIn (now state) × TableOf (now table) (now state) × (creator < 8) × (high ≤ 256) × (at + 65 * (high - low) ≤ length (now out)) ⌝ }
+    ensures { λ r. ⌜ Sends (high - low) (gather (asRed me (queueIn (now (state .entry))) creator) (above low high)) at (now (out .entry)) (now (out .exit)) r ⌝ }
+{
+    let mut next = at;
+    let mut i = low;
+    while i < high {
+        i += 1;
+        next = send_index(state, out, next, table, me, creator, i as u16);
+    }
+    next
+}
+
+// "the server with the longest green list resends positions from the shortest length + 1 to its own."
+fn send_green(state: &[u8], out: &mut [u8], me: u8) -> usize
+    requires { ⌜ Stated (now state) × (me ≡ numberAt 1 (now state) 3) × (65 * mostActions (now state) ≤ length (now out)) ⌝ }
+    ensures { λ r. ⌜ Sends (mostActions (now (state .entry))) (greenPart (now (state .entry))) 0 (now (out .entry)) (now (out .exit)) r ⌝ }
+{
+    let part = resends_green(state);
+    if !part.mine {
+        return 0;
+    }
+    send_positions(state, out, 0, me, part.low, part.high)
+}
+
+// "for each creator the server with the highest cut resends from the lowest cut + 1 to it, as red."
+fn send_red(
+    state: &[u8],
+    out: &mut [u8],
+    at: usize,
+    table: &[u16; PLACES],
+    me: u8,
+    creator: u8,
+) -> usize
+    requires { ⌜ Stated (now state) × TableOf (now table) (now state) × (me ≡ numberAt 1 (now state) 3) × (creator < serversOf (now state)) × (at + 65 * quotaOf (now state) ≤ length (now out)) ⌝ }
+    ensures { λ r. ⌜ Sends (quotaOf (now (state .entry))) (redPart (now (state .entry)) creator) at (now (out .entry)) (now (out .exit)) r ⌝ }
+{
+    let part = resends_red(state, creator as usize);
+    if !part.mine {
+        return at;
+    }
+    send_creator(state, out, at, table, me, creator, part.low, part.high)
+}
+
+// The same for every creator.
+fn send_reds(state: &[u8], out: &mut [u8], at: usize, table: &[u16; PLACES], me: u8) -> usize
+    requires { ⌜ Stated (now state) × TableOf (now table) (now state) × (me ≡ numberAt 1 (now state) 3) × (at + 65 * mostActions (now state) ≤ length (now out)) ⌝ }
+    ensures { λ r. ⌜ Sends (mostActions (now (state .entry))) (redParts (now (state .entry)) (serversOf (now (state .entry)))) at (now (out .entry)) (now (out .exit)) r ⌝ }
+{
+    let servers = num8(state, 0);
+    let mut next = at;
+    let mut c = 0;
+    while c < servers {
+        next = send_red(state, out, next, table, me, c);
+        c += 1;
+    }
+    next
+}
+
+// All of them: the place behind the last.
+fn send_plan(state: &[u8], out: &mut [u8]) -> usize
+    requires { ⌜ Stated (now state) × (130 * mostActions (now state) ≤ length (now out)) ⌝ }
+    ensures { λ r. ⌜ Sends (2 * mostActions (now (state .entry))) (wholePart (now (state .entry))) 0 (now (out .entry)) (now (out .exit)) r ⌝ }
+{
+    let me = num8(state, 3);
+    let next = send_green(state, out, me);
+    let table = places(state);
+    send_reds(state, out, next, &table, me)
+}
 
 // "send one's part of the plan": at the front of the outgoing buffer; how many bytes it has.
 pub fn send_part(state: &[u8], out: &mut [u8]) -> u32
     requires { ⌜ LentSuch (λ s. allStatesIn s ≡ true) (now state) (now out) ⌝ }
     ensures { λ r. ⌜ ((s : Server) → Holds s (now (state .entry)) → (r ≡ length (recordBytes (ownPart (s .servers) (s .me) (s .log) (collected s)))) × (now (out .exit) ≡ over (recordBytes (ownPart (s .servers) (s .me) (s .log) (collected s))) (now (out .entry)))) ⌝ }
 {
-    0
+    send_plan(state, out) as u32
 }

@@ -3,10 +3,8 @@ use Rattle.lists.specs.Noting.{noteFirst}
 use Rattle.engine.proofs.InPlace.{Holds}
 use Rattle.engine.specs.Image.{image}
 use Rattle.replication.specs.Machine.Types.{Server, withNoted}
-use Rattle.base.specs.Bytes.{numberAt}
 use lib.ListN.{length}
 use Prim.Native.Nat.{_≤_, _-_}
-use mathlib.Core.List.{List}
 use mathlib.Core.Path.{_≡_, refl}
 use native.Mathlib.Omega.{arith}
 use borrow.Author.Needs.{needs}

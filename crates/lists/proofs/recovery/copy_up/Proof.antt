@@ -1,4 +1,4 @@
-use Rattle.lists.proofs.RecoveryLaws.{copy-turn, copy-end}
+use Rattle.base.specs.Stores.{up-more, up-all}
 use Rattle.base.specs.Patched.{patched, patched-none}
 use lib.ListN.{length, take, drop, length-set}
 use Prim.Native.Nat.{_≤_, _-_}
@@ -36,13 +36,13 @@ loop-less : tie.Need-loop-less Inv-loop μ-loop
 loop-less c = omega arith
 
 loop-again : tie.Need-loop-again Inv-loop μ-loop
-loop-again c = (omega arith, simp length-set (omega arith), search (needs, copy-turn))
+loop-again c = (omega arith, simp length-set (omega arith), search (needs, up-more))
 
 same-length : tie.Need-same-length Inv-loop μ-loop
 same-length c = search needs
 
 returns : tie.Need-returns Inv-loop μ-loop
-returns c = search (needs, copy-end)
+returns c = search (needs, up-all)
 
 pub copy-up-spec : {M : Type 1} → statement M
 copy-up-spec =

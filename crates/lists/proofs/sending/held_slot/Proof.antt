@@ -4,7 +4,7 @@ use mathlib.Core.Path.{_≡_, sym}
 use Prim.Native.Nat.{ℕ, _≤_, _-_}
 use lib.ListN.{take, drop, replicate}
 use Rattle.base.specs.Patched.{patched, patched-none}
-use Rattle.lists.proofs.SendLaws.{part-turn, part-end}
+use Rattle.base.specs.Stores.{read-more, read-all}
 use Rattle.lists.proofs.sending.held_slot.Statement.{statement}
 use Rattle.lists.proofs.sending.held_slot.Tie as tie
 
@@ -33,10 +33,10 @@ loop-less : tie.Need-loop-less Inv-loop μ-loop
 loop-less c = omega arith
 
 loop-again : tie.Need-loop-again Inv-loop μ-loop
-loop-again c = (omega arith, search (needs, part-turn))
+loop-again c = (omega arith, search (needs, read-more))
 
 returns : tie.Need-returns Inv-loop μ-loop
-returns c = search (needs, part-end)
+returns c = search (needs, read-all)
 
 pub held-slot-spec : {M : Type 1} → statement M
 held-slot-spec =

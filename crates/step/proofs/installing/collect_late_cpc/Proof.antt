@@ -8,7 +8,7 @@ add-cpc-requires : tie.Need-add-cpc-requires
 add-cpc-requires c κs = cpc-room _ _ _ (c .before .before .pre .holds) (c .before .before .pre .fact .0)
 
 all-cpcs-in-requires : tie.Need-all-cpcs-in-requires
-all-cpcs-in-requires c κs = late-header _ _ _ (c .before .before .before .before .before .before .pre) (c .before .before .before .add-cpc .ensures)
+all-cpcs-in-requires c κs = search needs
 
 same-length : tie.Need-same-length
 same-length c = search needs

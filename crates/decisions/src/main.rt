@@ -1,0 +1,122 @@
+// Runs vectors through the exchange's decisions. A line of the input is a vector in hexadecimal, and from '#' on a label: servers
+// (1 byte), quota (2), the configuration's set (1), the set of those whose CPC is in (1), and the collected States as records.
+// Written are whether all States and CPCs are in, how many retransmissions are planned, the quorum, the taken primary, the
+// attempt, the yellow list, who resends what, and each member's mark as judged.
+mod building;
+mod print;
+
+use building::build;
+use building::number_of;
+use building::put;
+use exchange::decided::Part;
+use exchange::decided::all_cpcs_in;
+use exchange::decided::all_states_in;
+use exchange::decided::planned_now;
+use exchange::decided::quorum_here;
+use exchange::decided::resends_green;
+use exchange::decided::resends_red;
+use exchange::decided::taken_votes;
+use exchange::decided::taken_yellow;
+use exchange::slots::has;
+
+// As long as a state can be: eight servers, quota 256.
+const ROOM: usize = 185660;
+
+fn answers(state: &[u8]) {
+    print::flag(b"states", all_states_in(state));
+    print::flag(b" cpcs", all_cpcs_in(state));
+    print::labelled(b" planned", planned_now(state));
+    print::flag(b" quorum", quorum_here(state));
+    let v = taken_votes(state);
+    let last = v.last;
+    print::primary(last);
+    print::labelled(b" attempt", v.attempt.0 as u64);
+    print::labelled(b" yellow", v.yellow_status as u64);
+    let mut ids: [u8; 6144] = [0; 6144];
+    let n = taken_yellow(state, &mut ids);
+    print::ids(&ids, n);
+}
+
+// Who resends of those that the server c made, or by position where there is no such server.
+fn part(state: &[u8], c: usize) -> Part {
+    if number_of(state) <= c {
+        return resends_green(state);
+    }
+    resends_red(state, c)
+}
+
+// Of each server's part, the one that is its own.
+fn resender(state: &mut [u8], c: usize) {
+    let n = number_of(state);
+    let mut k = 0;
+    while k < n {
+        put(state, 3, k as u8);
+        let p = part(state, c);
+        if p.mine {
+            print::part(k as u64, p);
+        }
+        k += 1;
+    }
+}
+
+fn plan(state: &mut [u8]) {
+    io::write_all(1, b" green");
+    resender(state, 8);
+    io::write_all(1, b" red");
+    let n = number_of(state);
+    let mut c = 0;
+    while c < n {
+        resender(state, c);
+        c += 1;
+    }
+}
+
+fn marks(state: &mut [u8], set: u8) {
+    io::write_all(1, b" marks");
+    let n = number_of(state);
+    let mut k = 0;
+    while k < n {
+        put(state, 3, k as u8);
+        if has(set, k) {
+            let m = taken_votes(state).mark;
+            print::mark(k as u64, m);
+        }
+        k += 1;
+    }
+}
+
+fn vector(e: &[u8]) {
+    let mut state: [u8; ROOM] = [0; ROOM];
+    if !build(&mut state, e) {
+        return;
+    }
+    answers(&state);
+    plan(&mut state);
+    let set = building::senders(&state);
+    marks(&mut state, set);
+    io::write_all(1, b" ");
+}
+
+fn line(s: &[u8]) {
+    let m = text::find(s, 0, b'#');
+    let mut e = io::large_buffer();
+    let n = text::decode(&s[0..m], &mut e);
+    vector(&e[..n]);
+    io::write_all(1, &s[m..]);
+    io::write_all(1, b"\n");
+}
+
+fn lines(s: &[u8]) {
+    let mut at = 0;
+    while at < s.len() {
+        let end = text::find(s, at, b'\n');
+        line(&s[at..end]);
+        at = end + 1;
+    }
+}
+
+fn main() {
+    let mut buffer = io::large_buffer();
+    let n = io::read_full(0, &mut buffer);
+    lines(&buffer[..n]);
+}

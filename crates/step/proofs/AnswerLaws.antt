@@ -1,0 +1,115 @@
+-- The machine's answer by its tests, and the code's answer for each way it ends.
+-- Assumes nothing.
+use Prim.Native.Nat.{ℕ}
+use mathlib.Core.Path.{_≡_, refl, sym, ap, _∙_}
+use mathlib.Core.Bool.{true, false}
+use mathlib.Core.List.{List, []}
+use mathlib.Core.Option.{Option, none, some}
+use Rattle.base.specs.Tests.{_and_, _or_, pick-yes, pick-no, and-holds, both-yes, not-both}
+use Rattle.base.specs.Bytes.{joined}
+use Rattle.base.specs.Lists.{isThere}
+use Rattle.format.specs.Types.{Record}
+use Rattle.format.specs.Range.{contextOk, fieldsOk, recordOk}
+use Rattle.replication.specs.Machine.Types.{Server, Outcome, refused, contextOf}
+use Rattle.replication.specs.Machine.Rules.{Rule, ruleFor, possible, fromMember, isIgnored, withinQuota, withinHeld}
+use Rattle.replication.specs.Machine.Step.{quiet, stored, apply, applyRule, answer, inBytes}
+use Rattle.replication.specs.Machine.WellFormed.{ranges, wellFormed}
+use Rattle.replication.proofs.WellFormed.RuleFacts.{RuleFits, rule-fits}
+use Rattle.engine.specs.Image.{over, image}
+use Rattle.engine.specs.Outcome.{refusal, resultOf}
+use Rattle.step.specs.declared.Answer.{Answer}
+use Rattle.step.specs.Answers.{answered, outcomeOn, refusedWith, quietly, storedFirst, recordBytes}
+use Rattle.step.proofs.OutcomeLaws.{quiet-outcome, stored-outcome}
+
+-- ---- rows 5, 6, 3 and 4
+
+-- The state takes the record by the rule k, and no row applies.
+pub record Passes (s : Server) (r : Record) (k : Rule) : Type 0 where
+  pub rule : ruleFor (s .membership .mode) r ≡ some k
+  pub possible : possible s r ≡ true
+  pub member : (isIgnored k or fromMember (s .membership) r) ≡ true
+  pub quota : withinQuota s r ≡ true
+  pub held : withinHeld s r ≡ true
+
+module _ (s : Server) (r : Record) where
+  by-rule : (x : Option Rule) → ruleFor (s .membership .mode) r ≡ x → answer s r ≡ applyRule x s r
+  unfolding answer
+  by-rule x e = ap (λ (y : Option Rule). applyRule y s r) e
+
+  pub untaken : ruleFor (s .membership .mode) r ≡ none → answer s r ≡ refused 5
+  unfolding applyRule
+  untaken e = by-rule none e
+
+  pub impossible : possible s r ≡ false → answer s r ≡ refused 5
+  unfolding applyRule
+  impossible p = go (ruleFor (s .membership .mode) r) refl
+    where
+      go : (x : Option Rule) → ruleFor (s .membership .mode) r ≡ x → answer s r ≡ refused 5
+      go none e = untaken e
+      go (some k) e = by-rule (some k) e ∙ sym (pick-no (possible s r) (refused 5) _ _ p refl)
+
+  module _ (k : Rule) (e : ruleFor (s .membership .mode) r ≡ some k) (p : possible s r ≡ true) where
+    pub outside : (isIgnored k or fromMember (s .membership) r) ≡ false → answer s r ≡ refused 6
+    unfolding applyRule
+    outside m =
+        by-rule (some k) e ∙ sym
+        (pick-yes (possible s r) (refused 6) _ _ p (pick-no (isIgnored k or fromMember (s .membership) r) (refused 6) _ _ m refl))
+
+    module _ (m : (isIgnored k or fromMember (s .membership) r) ≡ true) where
+      within : (x : Outcome Record) → _≡_ {A = Outcome Record} x (applyRule (some k) s r) → answer s r ≡ x
+      within x f = by-rule (some k) e ∙ sym f
+
+      pub above-quota : withinQuota s r ≡ false → answer s r ≡ refused 3
+      unfolding applyRule
+      above-quota q =
+          within (refused 3)
+          (pick-yes (possible s r) (refused 3) _ _ p
+          (pick-yes (isIgnored k or fromMember (s .membership) r) (refused 3) _ _ m (pick-no (withinQuota s r) (refused 3) _ _ q refl)))
+
+      pub above-held : withinQuota s r ≡ true → withinHeld s r ≡ false → answer s r ≡ refused 4
+      unfolding applyRule
+      above-held q w =
+          within (refused 4)
+          (pick-yes (possible s r) (refused 4) _ _ p
+          (pick-yes (isIgnored k or fromMember (s .membership) r) (refused 4) _ _ m
+          (pick-yes (withinQuota s r) (refused 4) _ _ q (pick-no (withinHeld s r) (refused 4) _ _ w refl))))
+
+  pub passed : (k : Rule) → Passes s r k → answer s r ≡ apply k s
+  unfolding applyRule
+  passed k f =
+      by-rule (some k) (f .rule)
+      ∙ sym
+      (pick-yes (possible s r) (apply k s) _ _ (f .possible)
+      (pick-yes (isIgnored k or fromMember (s .membership) r) (apply k s) _ _ (f .member)
+      (pick-yes (withinQuota s r) (apply k s) _ _ (f .quota) (pick-yes (withinHeld s r) (apply k s) _ _ (f .held) refl))))
+
+  formed-context : wellFormed s ≡ true → contextOk (contextOf s) ≡ true
+  unfolding wellFormed ranges
+  formed-context ok = and-holds _ _ (and-holds _ _ ok .0) .0
+
+  -- What the rule relies on.
+  pub passed-fits : (k : Rule) → wellFormed s ≡ true → fieldsOk (contextOf s) r ≡ true → Passes s r k → RuleFits k s
+  unfolding recordOk
+  passed-fits k ok range f =
+      rule-fits s k r (both-yes (contextOk (contextOf s)) (fieldsOk (contextOf s) r) (formed-context ok) range) (f .rule) (f .possible) (f .member)
+      (f .quota) (f .held)
+
+pub not-there : {A : Type 0} (x : Option A) → isThere x ≡ false → x ≡ none
+unfolding isThere
+not-there none e = refl
+not-there (some y) e = not-both (sym e)
+
+-- ---- the code's answers
+
+pub refused-as : (x : Outcome Record) (a : Answer) (k : ℕ) (b o : List ℕ) → a ≡ refusedWith k → x ≡ refused k → answered a b o ≡ outcomeOn x b o
+unfolding answered outcomeOn inBytes resultOf refusal
+refused-as x a k b o e f = ap (λ (y : Answer). answered y b o) e ∙ ap (λ (y : Outcome Record). outcomeOn y b o) (sym f)
+
+pub quiet-as : (s t : Server) (x : Outcome Record) (a : Answer) (b c o : List ℕ) → a ≡ quietly → x ≡ quiet s t → c ≡ image t b
+    → answered a c o ≡ outcomeOn x b o
+quiet-as s t x a b c o e f g = quiet-outcome s t b o c a e g ∙ ap (λ (y : Outcome Record). outcomeOn y b o) (sym f)
+
+pub stored-as : (s t : Server) (x : Outcome Record) (a : Answer) (b c o : List ℕ) → a ≡ storedFirst 0 → x ≡ stored s t [] → c ≡ image t b
+    → answered a c o ≡ outcomeOn x b o
+unfolding recordBytes joined over
+stored-as s t x a b c o e f g = stored-outcome s t [] b o c o 0 a e g refl refl ∙ ap (λ (y : Outcome Record). outcomeOn y b o) (sym f)

@@ -1,0 +1,234 @@
+-- The end of an exchange in place: what the States decide, then an attempt or held requests.
+-- Assumes nothing.
+use Prim.Native.Nat.{ℕ, _+_, _*_, _≤_}
+use mathlib.Core.Path.{_≡_, refl, sym, ap, _∙_}
+use mathlib.Core.Bool.{Bool, true, false}
+use mathlib.Core.List.{List, [], _∷_}
+use mathlib.Core.Logic.{inl, inr}
+use mathlib.Core.Option.{Option, none, some}
+use native.Mathlib.Nat.{mul-le-mul}
+use native.Mathlib.Omega.{arith}
+use lib.ListN.{length, take, length-take}
+use Rattle.base.specs.Prefixes.{begins-refl}
+use Rattle.base.specs.Tests.{pick-yes, pick-no}
+use Rattle.format.specs.Types.{cpc}
+use Rattle.format.specs.Write.{write, idsBytes, lengthOf}
+use Rattle.format.proofs.IdCount.{ids-count}
+use Rattle.format.proofs.Lengths.{write-length}
+use Rattle.record.specs.declared.State.{State}
+use Rattle.record.specs.declared.writer.Written.{Written}
+use Rattle.record.specs.declared.writer.Written.the-variants.{Next, Full}
+use Rattle.record.specs.Written.{put, putOf}
+use Rattle.replication.specs.Machine.Types.{Non-prim, Votes, Configuration, Server, withMembership, withMode, inMode, contextOf}
+use Rattle.replication.specs.Machine.Exchange.{quorum, takenVotes, takenYellow, attempted}
+use Rattle.replication.specs.Machine.Requests.{madeOf, numbered, sendHeld, heldRecords}
+use Rattle.replication.specs.Machine.Step.{theId, hereSet, hereId, collected, decided, attempting, stored, endExchange}
+use Rattle.replication.specs.Machine.WellFormed.{queue, wellFormed}
+use Rattle.replication.specs.Machine.WellFormedFacts.{Configured}
+use Rattle.engine.specs.Layout.{outLength}
+use Rattle.engine.specs.Image.{over, image}
+use Rattle.engine.specs.Decode.{serversIn, quotaIn}
+use Rattle.engine.specs.Header.{idOf, headerOf, headerIn}
+use Rattle.engine.proofs.HeaderLaws.{header-loaded}
+use Rattle.engine.proofs.InRange.{in-range}
+use Rattle.engine.proofs.InPlace.{Holds}
+use Rattle.queue.proofs.Inside.{over-front}
+use Rattle.lists.specs.declared.votes.VoteNumbers.{VoteNumbers}
+use Rattle.lists.specs.Sending.{SendReady}
+use Rattle.lists.specs.Standing.{HoldsSome, HoldsWithRoom, voteNumbers}
+use Rattle.lists.proofs.Counts.{holds-servers, holds-quota}
+use Rattle.lists.proofs.Sent.{holds-ready}
+use Rattle.exchange.specs.declared.decided.TakenVotes.{TakenVotes}
+use Rattle.exchange.specs.Decided.{votesNumbers}
+use Rattle.exchange.specs.Table.{Listed}
+use Rattle.step.specs.declared.Answer.{Answer}
+use Rattle.step.specs.Answers.{answered, outcomeOn, HoldsSuch, LentSuch, storedFirst, recordBytes}
+use Rattle.step.proofs.Chained.{such-fact, lent-fact, lent-room, Covers, chained, then-holds}
+use Rattle.step.proofs.Covering.{numbers-then}
+use Rattle.step.proofs.ExchangeStates.{decided-formed, attempting-formed, staying-formed}
+use Rattle.step.proofs.LentLaws.{holds-products, put-room, put-done, one-record}
+use Rattle.step.proofs.OutcomeLaws.{stored-outcome}
+
+-- ---- what the States decide
+
+abbrev pub Idle : Server → Type 0
+Idle t = t .membership .mode ≡ Non-prim
+
+-- The yellow ids that are taken are no more than there are ids.
+taken-few : (t : Server) (b : List ℕ) → Holds t b → Idle t → length (takenYellow (collected t) .ids) ≤ t .servers * t .quota
+unfolding decided takenVotes contextOf
+taken-few t b r e =
+    let y = in-range (decided t) (decided-formed t (r .formed) e) .yellow in
+    ids-count (contextOf (decided t)) (takenYellow (collected t) .ids) (y .ids) (y .differ)
+
+module _ (b o₁ : List ℕ) (count room : ℕ) (m : HoldsSuch Idle b)
+    (f : (s : Server) → Holds s b → 3 * (s .servers * s .quota) ≤ room → Listed count o₁ (takenYellow (collected s) .ids)) (size : room ≡ 6144) where
+  listed : (t : Server) → Holds t b → Listed count o₁ (takenYellow (collected t) .ids)
+  unfolding contextOf
+  listed t r =
+      let z = in-range t (r .formed) .context .sizes in
+      let all : t .servers * t .quota ≤ 8 * 256 = mul-le-mul {n₁ = t .servers} {m₁ = t .quota} {n₂ = 8} {m₂ = 256} (z .most) (z .highest) in
+      f t r (omega arith)
+
+  idle : (t : Server) → Holds t b → Idle t
+  idle t r = such-fact Idle b t m r
+
+  pub taken-count : count ≤ 2048
+  unfolding contextOf
+  taken-count =
+      let t = m .state in
+      let z = in-range t (m .holds .formed) .context .sizes in
+      let all : t .servers * t .quota ≤ 8 * 256 = mul-le-mul {n₁ = t .servers} {m₁ = t .quota} {n₂ = 8} {m₂ = 256} (z .most) (z .highest) in
+      omega (arith, taken-few t b (m .holds) (idle t (m .holds)), listed t (m .holds) .count)
+
+  pub taken-room : HoldsWithRoom (take (3 * count) o₁) b
+  taken-room =
+      let t = m .state in
+      let r = m .holds in
+      let few : count ≤ serversIn b * quotaIn b = rw (holds-servers t b r, holds-quota t b r)
+      (omega (arith, taken-few t b r (idle t r), listed t r .count)) in
+      record { some = record { state = t; holds = r }; short = omega (arith, length-take (3 * count) o₁) }
+
+  pub all-decided : (c : List ℕ) (v : TakenVotes) (x : VoteNumbers) → ((t : Server) → Holds t b → v ≡ votesNumbers (takenVotes (t .me) (collected t)))
+      → ((w : Votes) → v ≡ votesNumbers w → count ≡ length (w .yellow .ids) → x ≡ voteNumbers w)
+      → ((t : Server) → Holds t b → x ≡ voteNumbers (takenVotes (t .me) (collected t)) → idsBytes (takenVotes (t .me) (collected t) .yellow .ids) ≡ take (3 * count) o₁
+      → c ≡ image (decided t) b)
+      → (t : Server) → Holds t b → c ≡ image (decided t) b
+  unfolding takenVotes
+  all-decided c v x g h k t r =
+      let l = listed t r in
+      k t r (h (takenVotes (t .me) (collected t)) (g t r) (l .count)) (sym (l .bytes))
+
+-- ---- the two ends
+
+end-attempting : (s t : Server) → quorum (collected t) (hereSet t) ≡ true
+    → endExchange s t ≡ stored s (attempting (decided t)) (cpc (t .me) (hereId t) ∷ [])
+unfolding endExchange
+end-attempting s t q = sym (pick-yes _ _ _ _ q refl)
+
+end-staying : (s t : Server) → quorum (collected t) (hereSet t) ≡ false
+    → endExchange s t ≡ stored s (sendHeld (inMode Non-prim (decided t))) (heldRecords (inMode Non-prim (decided t)))
+unfolding endExchange
+end-staying s t q = sym (pick-no _ _ _ _ q refl)
+
+abbrev pub Decided : List ℕ → List ℕ → Type 0
+Decided b c = (t : Server) → Holds t b → c ≡ image (decided t) b
+
+decided-holds : (t : Server) (b c : List ℕ) → Holds t b → Idle t → Decided b c → Holds (decided t) c
+unfolding decided
+decided-holds t b c r e f = then-holds t (decided t) b c r (f t r) refl refl (decided-formed t (r .formed) e)
+
+-- ---- "attempt + 1, mark .., store, send CPC, Construct"
+
+abbrev pub Attempts : Server → Type 0
+Attempts t = Configured t × (t .membership .mode ≡ Non-prim) × (quorum (collected t) (hereSet t) ≡ true)
+
+attempt-covers : (t : Server) → Covers t (decided t) (attempting (decided t))
+unfolding attempting attempted decided
+attempt-covers t = numbers-then t (decided t) (attempting (decided t)) (refl, refl) (refl, refl) refl refl refl refl refl
+
+id-here : (d : Option Configuration) → idOf d ≡ theId d
+unfolding idOf theId
+id-here none = refl
+id-here (some c) = refl
+
+module _ (b o : List ℕ) (m : LentSuch Attempts b o) where
+  pub attempt-some : (c : List ℕ) → Decided b c → HoldsSome c
+  attempt-some c f = record { state = decided (m .state); holds = decided-holds (m .state) b c (m .holds) (m .fact .1) f }
+
+  module _ (h : State) (e : h ≡ headerIn b) (w : Written) (o₁ : List ℕ) (p : putOf w o₁ ≡ put (write (cpc (h .me) (h .«configuration_id»))) 0 o) where
+    own-cpc : (t : Server) → Holds t b → cpc (h .me) (h .«configuration_id») ≡ cpc (t .me) (hereId t)
+    unfolding headerOf hereId
+    own-cpc t r =
+        let f : h ≡ headerOf t = e ∙ header-loaded t b r in
+        (λ i. cpc (f i .me) (f i .«configuration_id»)) ∙ ap (cpc (t .me)) (id-here (t .membership .configuration))
+
+    pub attempt-full : w ≡ Full → (r : Answer) (b₁ : List ℕ) (s t : Server) → Holds t b → answered r b₁ o₁ ≡ outcomeOn (endExchange s t) b o
+    unfolding outLength lengthOf
+    attempt-full f r b₁ s t k =
+        put-room (write (cpc (h .me) (h .«configuration_id»))) o o₁ 0 w p
+        (omega (arith, write-length (cpc (h .me) (h .«configuration_id»)), holds-products t b k .two, lent-room Attempts b o t m k)) f
+
+    pub attempt-short : (n : ℕ) → w ≡ Next n → n ≡ 9
+    unfolding lengthOf
+    attempt-short n f =
+        omega (arith, write-length (cpc (h .me) (h .«configuration_id»)), put-done (write (cpc (h .me) (h .«configuration_id»))) o o₁ 0 w p n f .placed)
+
+    pub attempt-made : (n : ℕ) → w ≡ Next n → (c d : List ℕ) → Decided b c → ((t : Server) → Holds t c → d ≡ image (attempting t) c) → (r : Answer)
+        → r ≡ storedFirst n
+        → (s t : Server) → Holds t b → answered r d o₁ ≡ outcomeOn (endExchange s t) b o
+    attempt-made n f c d g k r a s t y =
+        let z : Attempts t = lent-fact Attempts b o t m y in
+        let x : List ℕ = write (cpc (h .me) (h .«configuration_id»)) in
+        let done = put-done x o o₁ 0 w p n f in
+        let bytes : x ≡ recordBytes (cpc (t .me) (hereId t) ∷ []) = ap write (own-cpc t y) ∙ sym (one-record (cpc (t .me) (hereId t))) in
+        stored-outcome s (attempting (decided t)) (cpc (t .me) (hereId t) ∷ []) b o d o₁ n r a (over-decided t y z c d g k)
+        (omega (arith, done .placed, ap length bytes))
+        (done .filled ∙ over-front x o ∙ ap (λ (l : List ℕ). over l o) bytes)
+        ∙ ap (λ v. outcomeOn v b o) (sym (end-attempting s t (z .2)))
+      where
+        over-decided : (t : Server) → Holds t b → Attempts t → (c d : List ℕ) → Decided b c → ((t : Server) → Holds t c → d ≡ image (attempting t) c)
+            → d ≡ image (attempting (decided t)) b
+        over-decided t y z c d g k =
+            chained t (decided t) (attempting (decided t)) b y (decided-formed t (y .formed) (z .1)) (attempting-formed t (y .formed) (z .0) (z .2))
+            (attempt-covers t) c d (g t y) (k (decided t) (decided-holds t b c y (z .1) g))
+
+-- ---- "else store, Non_prim."
+
+abbrev pub Stays : Server → Type 0
+Stays t = Configured t × (t .membership .mode ≡ Non-prim) × (quorum (collected t) (hereSet t) ≡ false)
+
+stay-covers : (t : Server) → Covers t (decided t) (sendHeld (decided t))
+unfolding decided sendHeld numbered queue
+stay-covers t = record {
+  servers = (refl, refl);
+  quota = (refl, refl);
+  held = inr (begins-refl _);
+  states = inl refl;
+  ids = inl (omega arith);
+  own = inr (begins-refl _);
+  actions = inl (omega arith);
+}
+
+-- It is Non_prim already.
+idle-same : (t : Server) → Idle t → decided t ≡ inMode Non-prim (decided t)
+unfolding decided
+idle-same t e = λ i. withMembership (withMode (e i) (t .membership)) (decided t)
+
+-- The votes and noted lengths do not matter to held requests.
+same-records : (t : Server) → heldRecords t ≡ heldRecords (decided t)
+unfolding heldRecords madeOf decided
+same-records t = refl
+
+module _ (b o : List ℕ) (m : LentSuch Stays b o) where
+  pub stay-ready : (c : List ℕ) → Decided b c → SendReady c
+  stay-ready c f = holds-ready (decided (m .state)) c (decided-holds (m .state) b c (m .holds) (m .fact .1) f)
+
+  pub stay-made : (n : ℕ) (o₁ c d : List ℕ)
+      → ((t : Server) → Holds t b → (n ≡ length (recordBytes (heldRecords t))) × (o₁ ≡ over (recordBytes (heldRecords t)) o))
+      → Decided b c → ((t : Server) → Holds t c → d ≡ image (sendHeld t) c) → (r : Answer) → r ≡ storedFirst n
+      → (s t : Server) → Holds t b → answered r d o₁ ≡ outcomeOn (endExchange s t) b o
+  stay-made n o₁ c d f g k r a s t y =
+      let z : Stays t = lent-fact Stays b o t m y in
+      let u : Server = decided t in
+      let formed : wellFormed (sendHeld u) ≡ true = rw (idle-same t (z .1)) (staying-formed t (y .formed)) in
+      let made : d ≡ image (sendHeld u) b =
+      chained t u (sendHeld u) b y (decided-formed t (y .formed) (z .1)) formed (stay-covers t) c d (g t y) (k u (decided-holds t b c y (z .1) g)) in
+      stored-outcome s (sendHeld u) (heldRecords u) b o d o₁ n r a made (f t y .0 ∙ ap (λ v. length (recordBytes v)) (same-records t))
+      (f t y .1 ∙ ap (λ v. over (recordBytes v) o) (same-records t))
+      ∙ (λ i. outcomeOn (stored s (sendHeld (idle-same t (z .1) i)) (heldRecords (idle-same t (z .1) i))) b o)
+      ∙ ap (λ v. outcomeOn v b o) (sym (end-staying s t (z .2)))
+
+-- ---- which of both
+
+abbrev pub Ends : Server → Type 0
+Ends t = Configured t × (t .membership .mode ≡ Non-prim)
+
+module _ (b o : List ℕ) (m : LentSuch Ends b o) (q : Bool) (f : (s : Server) → Holds s b → q ≡ quorum (collected s) (hereSet s)) where
+  pub end-attempts : q ≡ true → LentSuch Attempts b o
+  end-attempts e =
+      record { state = m .state; holds = m .holds; fact = (m .fact .0, m .fact .1, sym (f (m .state) (m .holds)) ∙ e); room = m .room }
+
+  pub end-stays : q ≡ false → LentSuch Stays b o
+  end-stays e =
+      record { state = m .state; holds = m .holds; fact = (m .fact .0, m .fact .1, sym (f (m .state) (m .holds)) ∙ e); room = m .room }

@@ -1,0 +1,92 @@
+-- The end of an exchange after another change: its outcome over the bytes at the beginning.
+-- Assumes nothing.
+use Prim.Native.Nat.{ℕ}
+use mathlib.Core.Path.{_≡_, refl, ap, _∙_}
+use mathlib.Core.Bool.{true}
+use mathlib.Core.List.{List, [], _∷_, map}
+use mathlib.Core.Logic.{inl}
+use native.Mathlib.Omega.{arith}
+use lib.ListN.{length, length-append}
+use Rattle.base.specs.Bytes.{joined}
+use Rattle.base.specs.Tests.{pick-as}
+use Rattle.format.specs.Types.{Record, cpc}
+use Rattle.format.specs.Write.{write}
+use Rattle.replication.specs.Machine.Types.{Non-prim, Server, inMode}
+use Rattle.replication.specs.Machine.Exchange.{quorum, attempted}
+use Rattle.replication.specs.Machine.Requests.{madeOf, numbered, sendHeld, heldRecords}
+use Rattle.replication.specs.Machine.Step.{hereSet, hereId, collected, decided, attempting, stored, sent, inBytes, endExchange}
+use Rattle.replication.specs.Machine.WellFormed.{queue, wellFormed}
+use Rattle.replication.specs.Machine.WellFormedFacts.{Configured}
+use Rattle.engine.specs.Image.{over, image}
+use Rattle.engine.specs.Outcome.{resultOf, word}
+use Rattle.engine.proofs.InPlace.{Holds}
+use Rattle.step.specs.Answers.{outcomeOn}
+use Rattle.step.proofs.Chained.{Covers, image-over}
+use Rattle.step.proofs.Covering.{same-begins}
+use Rattle.step.proofs.ExchangeStates.{attempting-formed, staying-formed}
+
+-- ---- outcomes over other bytes
+
+module _ (w u : Server) (rs : List Record) (b c o : List ℕ) (e : image u c ≡ image u b) where
+  pub stored-over : outcomeOn (stored w u rs) c o ≡ outcomeOn (stored w u rs) b o
+  unfolding outcomeOn stored inBytes resultOf word
+  stored-over = ap (λ (x : List ℕ). record { number = 0; store = 1; sent = length (joined (map write rs)); state = x; out = over (joined (map write rs)) o }) e
+
+  pub sent-over : outcomeOn (sent w u rs) c o ≡ outcomeOn (sent w u rs) b o
+  unfolding outcomeOn sent inBytes resultOf word
+  sent-over = ap (λ (x : List ℕ). record { number = 0; store = 0; sent = length (joined (map write rs)); state = x; out = over (joined (map write rs)) o }) e
+
+-- Where the state was does not matter to the end.
+pub end-mode : (w t : Server) → endExchange w (inMode Non-prim t) ≡ endExchange w t
+unfolding endExchange decided attempting collected hereSet hereId
+end-mode w t = refl
+
+-- ---- from s to t, then to the end
+
+-- The exchange has not changed what is held back, nor the yellow list.
+pub record Before (s t : Server) : Type 0 where
+  pub servers : t .servers ≡ s .servers
+  pub quota : t .quota ≡ s .quota
+  pub held : t .held ≡ s .held
+  pub ids : t .votes .yellow .ids ≡ s .votes .yellow .ids
+
+module _ (s t : Server) (p : Before s t) where
+  attempt-covers : Covers s t (attempting (decided t))
+  unfolding attempting attempted decided
+  attempt-covers = record {
+    servers = (p .servers, p .servers);
+    quota = (p .quota, p .quota);
+    held = inl (omega arith);
+    states = inl refl;
+    ids = same-begins (s .votes .yellow .ids) (t .votes .yellow .ids) (attempting (decided t) .votes .yellow .ids) (p .ids);
+    own = inl (omega arith);
+    actions = inl (omega arith);
+  }
+
+  stay-covers : Covers s t (sendHeld (inMode Non-prim (decided t)))
+  unfolding sendHeld numbered decided queue
+  stay-covers = record {
+    servers = (p .servers, p .servers);
+    quota = (p .quota, p .quota);
+    held = same-begins (s .held) (t .held) [] (p .held);
+    states = inl refl;
+    ids = same-begins (s .votes .yellow .ids) (t .votes .yellow .ids) (decided t .votes .yellow .ids) (p .ids);
+    own = inl (omega (arith, length-append (t .log .own) (madeOf (t .held) (inMode Non-prim (decided t)))));
+    actions = inl (omega arith);
+  }
+
+  pub end-over : (b c o : List ℕ) → Holds s b → wellFormed t ≡ true → Configured t → c ≡ image t b → (w : Server)
+      → outcomeOn (endExchange w t) c o ≡ outcomeOn (endExchange w t) b o
+  unfolding endExchange
+  end-over b c o r ok d e w =
+      pick-as (λ v. outcomeOn v c o ≡ outcomeOn v b o) (quorum (collected t) (hereSet t))
+      (stored w (attempting (decided t)) (cpc (t .me) (hereId t) ∷ []))
+      (stored w (sendHeld (inMode Non-prim (decided t))) (heldRecords (inMode Non-prim (decided t))))
+      (λ q. stored-over w (attempting (decided t)) (cpc (t .me) (hereId t) ∷ []) b c o
+      (over-first (attempting (decided t)) (attempting-formed t ok d q) attempt-covers))
+      (λ q.
+      stored-over w (sendHeld (inMode Non-prim (decided t))) (heldRecords (inMode Non-prim (decided t))) b c o
+      (over-first (sendHeld (inMode Non-prim (decided t))) (staying-formed t ok) stay-covers))
+    where
+      over-first : (u : Server) → wellFormed u ≡ true → Covers s t u → image u c ≡ image u b
+      over-first u fine covers = ap (image u) e ∙ image-over s t u b r ok fine covers

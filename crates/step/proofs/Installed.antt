@@ -1,0 +1,273 @@
+-- Install in place: in the state that it leads to, then an action coloured yellow, or the held requests sent.
+-- Assumes nothing.
+use Prim.Native.Nat.{ℕ, zero, suc, _≤_, _<_}
+use mathlib.Core.Path.{_≡_, refl, sym, ap, subst, _∙_}
+use mathlib.Core.Bool.{Bool, true, false}
+use mathlib.Core.List.{List, [], _∷_, _++_, map}
+use mathlib.Core.Logic.{inl, inr}
+use native.Mathlib.Omega.{arith}
+use lib.ListN.{length, length-append}
+use Rattle.base.specs.Bytes.{joined}
+use Rattle.base.specs.Prefixes.{begins-same, begins-refl}
+use Rattle.base.specs.Tests.{pick}
+use Rattle.format.specs.Limits.{mostIndex}
+use Rattle.format.specs.Types.{Action, Record}
+use Rattle.format.specs.Write.{write}
+use Rattle.replication.specs.Machine.Types.{Mode, Non-prim, Reg-prim, Trans-prim, Exchange-states, Exchange-actions, Construct, No, Un, Log, Server, withLog, withVotes, inMode, noYellow}
+use Rattle.replication.specs.Machine.Colours.{isNext, enter, joinYellow, yellow}
+use Rattle.replication.specs.Machine.Install.{idsUpTo, installVotes, install}
+use Rattle.replication.specs.Machine.Requests.{numbered, sendHeld, heldRecords}
+use Rattle.replication.specs.Machine.Step.{stored, inBytes, installing}
+use Rattle.replication.specs.Machine.WellFormed.{queue, wellFormed}
+use Rattle.replication.specs.Machine.WellFormedFacts.{Configured, ModeFits}
+use Rattle.replication.proofs.Step.Logs.{yellow-as}
+use Rattle.replication.proofs.Step.Numbered.{numbered-install}
+use Rattle.replication.proofs.WellFormed.Facts.{well-formed-facts, facts-well-formed}
+use Rattle.replication.proofs.WellFormed.Changes.{Body, body, whole, in-mode}
+use Rattle.replication.proofs.WellFormed.Effects.{install-body, send-held-body}
+use Rattle.replication.proofs.WellFormed.RuleFacts.{Delivered}
+use Rattle.engine.specs.Image.{modeNumber, over, image}
+use Rattle.engine.specs.Outcome.{word, resultOf}
+use Rattle.engine.proofs.InPlace.{Holds}
+use Rattle.install.specs.Table.{Stated}
+use Rattle.install.proofs.SwapFits.{swaps-kept}
+use Rattle.install.proofs.Turning.{holds-stated}
+use Rattle.install.proofs.InstallLaws.{install-swaps}
+use Rattle.step.specs.declared.Answer.{Answer}
+use Rattle.step.specs.Answers.{answered, outcomeOn, HoldsSuch, LentSuch, Installs, storedFirst, recordBytes}
+use Rattle.step.proofs.Chained.{such-fact, lent-fact, Covers, chained, then-holds}
+use Rattle.step.proofs.ColoursLaws.{joined-formed}
+
+-- ---- well-formed states on the way
+
+-- In Reg_prim and Trans_prim row 8 asks for a configuration only.
+primary-fits : (m : Mode) (k : ℕ) → 1 ≤ k → k ≤ 2 → k ≡ modeNumber m → (s : Server) → Configured s → ModeFits m s
+unfolding modeNumber
+primary-fits Non-prim k h l e s c = tt
+primary-fits Reg-prim k h l e s c = c
+primary-fits Trans-prim k h l e s c = c
+primary-fits Exchange-states k h l e s c = c
+primary-fits Exchange-actions k h l e s c = absurd (omega arith)
+primary-fits Construct k h l e s c = absurd (omega arith)
+primary-fits No k h l e s c = absurd (omega arith)
+primary-fits Un k h l e s c = absurd (omega arith)
+
+primary-mode : (k : ℕ) → 1 ≤ k → k ≤ 2 → (m : Mode) × (k ≡ modeNumber m)
+unfolding modeNumber
+primary-mode zero h l = absurd (omega arith)
+primary-mode (suc zero) h l = (Reg-prim, refl)
+primary-mode (suc (suc zero)) h l = (Trans-prim, refl)
+primary-mode (suc (suc (suc k))) h l = absurd (omega arith)
+
+module _ (k : ℕ) (s : Server) (m : Mode) (ok : wellFormed s ≡ true) (i : Installs k s) (e : k ≡ modeNumber m) where
+  mode-formed : wellFormed (inMode m s) ≡ true
+  mode-formed =
+      facts-well-formed (inMode m s)
+      (whole (inMode m s) (in-mode s (body s (well-formed-facts s ok)) m) (primary-fits m k (i .from) (i .to) e (inMode m s) (i .configured)))
+
+  installed-body : Body (inMode m (install s))
+  installed-body = in-mode (install s) (install-body s (body s (well-formed-facts s ok)) (i .index)) m
+
+  pub installed-formed : wellFormed (inMode m (install s)) ≡ true
+  unfolding install
+  installed-formed =
+      facts-well-formed (inMode m (install s))
+      (whole (inMode m (install s)) installed-body (primary-fits m k (i .from) (i .to) e (inMode m (install s)) (i .configured)))
+
+  pub sent-formed : wellFormed (sendHeld (inMode m (install s))) ≡ true
+  unfolding install sendHeld numbered
+  sent-formed =
+      facts-well-formed (sendHeld (inMode m (install s)))
+      (whole (sendHeld (inMode m (install s))) (send-held-body (inMode m (install s)) installed-body)
+      (primary-fits m k (i .from) (i .to) e (sendHeld (inMode m (install s))) (i .configured)))
+
+yellow-formed : (a : Action) (s : Server) → wellFormed s ≡ true → Delivered s a → wellFormed (yellow a s) ≡ true
+yellow-formed a s ok d = yellow-as (λ u. wellFormed u ≡ true) a s (λ e. joined-formed s a ok d e) (λ e. ok)
+
+own-kept : (s : Server) → wellFormed s ≡ true → (install s) .log .own ≡ s .log .own
+unfolding install
+own-kept s ok =
+    ap (λ (l : Log). l .own) (sym (install-swaps s ok))
+    ∙ swaps-kept (idsUpTo 0 (s .log .cuts)) _ .own
+    ∙ swaps-kept (s .votes .yellow .ids) (s .log) .own
+
+-- ---- Install in a state of a primary component
+
+module _ (k : ℕ) (b c : List ℕ) (p : HoldsSuch (Installs k) b) (f : (s : Server) (m : Mode) → Holds s b → k ≡ modeNumber m → c ≡ image (inMode m s) b) where
+  mode-holds : (s : Server) (m : Mode) → Holds s b → k ≡ modeNumber m → Holds (inMode m s) c
+  mode-holds s m r e = then-holds s (inMode m s) b c r (f s m r e) refl refl (mode-formed k s m (r .formed) (such-fact (Installs k) b s p r) e)
+
+  pub mode-stated : Stated c
+  mode-stated =
+      let o = primary-mode k (p .fact .from) (p .fact .to) in
+      holds-stated (inMode (o .0) (p .state)) c (mode-holds (p .state) (o .0) (p .holds) (o .1))
+
+  pub mode-installed : (d : List ℕ) → ((t : Server) → Holds t c → d ≡ image (install t) c) → (s : Server) (m : Mode) → Holds s b → k ≡ modeNumber m
+      → d ≡ image (inMode m (install s)) b
+  unfolding install
+  mode-installed d g s m r e =
+      let i : Installs k s = such-fact (Installs k) b s p r in
+      chained s (inMode m s) (inMode m (install s)) b r (mode-formed k s m (r .formed) i e) (installed-formed k s m (r .formed) i e) covers c d (f s m r e)
+      (g (inMode m s) (mode-holds s m r e))
+    where
+      covers : Covers s (inMode m s) (inMode m (install s))
+      covers = record {
+        servers = (refl, refl);
+        quota = (refl, refl);
+        held = inl (omega arith);
+        states = inr refl;
+        ids = inr (begins-refl _);
+        own = inr (begins-refl _);
+        actions = inr (begins-refl _);
+      }
+
+-- The buffer that it left.
+installed-holds : (k : ℕ) (b c : List ℕ) → ((s : Server) (m : Mode) → Holds s b → k ≡ modeNumber m → c ≡ image (inMode m (install s)) b)
+    → (s : Server) (m : Mode) → Holds s b → Installs k s → k ≡ modeNumber m → Holds (inMode m (install s)) c
+unfolding install
+installed-holds k b c f s m r i e = then-holds s (inMode m (install s)) b c r (f s m r e) refl refl (installed-formed k s m (r .formed) i e)
+
+-- ---- in Un, with an action yellow after it
+
+yellow-in-mode : (m : Mode) (a : Action) (s : Server) → yellow a (inMode m s) ≡ inMode m (yellow a s)
+unfolding yellow pick
+yellow-in-mode m a s = go (isNext (s .log) a)
+  where
+    go : (t : Bool)
+        → pick t (withVotes (joinYellow (a .id) (s .votes)) (withLog (enter a (s .log)) (inMode m s))) (inMode m s)
+        ≡ inMode m (pick t (withVotes (joinYellow (a .id) (s .votes)) (withLog (enter a (s .log)) s)) s)
+    go true = refl
+    go false = refl
+
+yellow-covers : (m : Mode) (a : Action) (s : Server) → wellFormed s ≡ true → Covers s (inMode m (install s)) (yellow a (inMode m (install s)))
+unfolding install installVotes noYellow enter queue
+yellow-covers m a s ok = yellow-as (Covers s t) a t entered (λ e. kept)
+  where
+    t : Server
+    t = inMode m (install s)
+
+    entered : isNext (t .log) a ≡ true → Covers s t (withVotes (joinYellow (a .id) (t .votes)) (withLog (enter a (t .log)) t))
+    entered e = record {
+      servers = (refl, refl);
+      quota = (refl, refl);
+      held = inl (omega arith);
+      states = inl refl;
+      ids = inl (omega arith);
+      own = inr (begins-same _ _ (sym (own-kept s ok)));
+      actions = inl (omega (
+        arith,
+        length-append (t .log .green) (t .log .red),
+        length-append (t .log .green) (t .log .red ++ (a ∷ [])),
+        length-append (t .log .red) (a ∷ []),
+      ));
+    }
+
+    kept : Covers s t t
+    kept = record {
+      servers = (refl, refl);
+      quota = (refl, refl);
+      held = inl (omega arith);
+      states = inl refl;
+      ids = inl (omega arith);
+      own = inl (omega arith);
+      actions = inl (omega arith);
+    }
+
+module _ (a : Action) (b : List ℕ) (p : HoldsSuch (λ s. Delivered s a × (s .membership .mode ≡ Un)) b) where
+  such : (s : Server) → Holds s b → Delivered s a × (s .membership .mode ≡ Un)
+  such s r = such-fact (λ x. Delivered x a × (x .membership .mode ≡ Un)) b s p r
+
+  late : (s : Server) → Holds s b → Installs 2 s
+  late s r =
+      let f : Configured s × (s .votes .last .index < mostIndex) = subst (λ o. ModeFits o s) (such s r .1) (well-formed-facts s (r .formed) .mode) in
+      record { from = omega arith; to = omega arith; configured = f .0; index = f .1 }
+
+  pub late-installs : HoldsSuch (Installs 2) b
+  late-installs = record { state = p .state; holds = p .holds; fact = late (p .state) (p .holds) }
+
+  module _ (c : List ℕ) (f : (s : Server) (m : Mode) → Holds s b → 2 ≡ modeNumber m → c ≡ image (inMode m (install s)) b) where
+    late-holds : (s : Server) → Holds s b → Holds (inMode Trans-prim (install s)) c
+    unfolding modeNumber
+    late-holds s r = installed-holds 2 b c f s Trans-prim r (late s r) refl
+
+    still-delivered : (s : Server) → Holds s b → Delivered (inMode Trans-prim (install s)) a
+    unfolding install
+    still-delivered s r =
+        let d : Delivered s a = such s r .0 in
+        record { fits = d .fits; own = λ e. omega (arith, d .own e, numbered-install (s .votes .yellow .ids) (s .log)) }
+
+    pub late-delivered : HoldsSuch (λ s. Delivered s a) c
+    late-delivered = record {
+      state = inMode Trans-prim (install (p .state));
+      holds = late-holds (p .state) (p .holds);
+      fact = still-delivered (p .state) (p .holds);
+    }
+
+    pub late-yellow : (d : List ℕ) → ((t : Server) → Holds t c → d ≡ image (yellow a t) c) → (s : Server) → Holds s b
+        → d ≡ image (inMode Trans-prim (yellow a (install s))) b
+    unfolding modeNumber
+    late-yellow d g s r =
+        let t : Server = inMode Trans-prim (install s) in
+        let held : Holds t c = late-holds s r in
+        chained s t (yellow a t) b r (held .formed) (yellow-formed a t (held .formed) (still-delivered s r))
+        (yellow-covers Trans-prim a s (r .formed)) c d (f s Trans-prim r refl) (g t held)
+        ∙ ap (λ (x : Server). image x b) (yellow-in-mode Trans-prim a (install s))
+
+-- ---- held requests sent
+
+pub requests-sent : (b d o u : List ℕ) (n : ℕ) (a : Answer) → a ≡ storedFirst n
+    → ((s : Server) → Holds s b → (n ≡ length (recordBytes (heldRecords s))) × (u ≡ over (recordBytes (heldRecords s)) o))
+    → ((s : Server) → Holds s b → d ≡ image (sendHeld s) b)
+    → (s t : Server) → Holds t b → answered a d u ≡ outcomeOn (stored s (sendHeld t) (heldRecords t)) b o
+unfolding answered outcomeOn resultOf inBytes stored recordBytes word
+requests-sent b d o u n a e f g s t r =
+    λ i. record { number = e i .number; store = e i .store; sent = (ap (λ (x : Answer). x .sent) e ∙ f t r .0) i; state = g t r i; out = f t r .1 i }
+
+sent-covers : (t : Server) → wellFormed t ≡ true → Covers t (inMode Reg-prim (install t)) (sendHeld (inMode Reg-prim (install t)))
+unfolding install installVotes noYellow sendHeld numbered queue
+sent-covers t ok = record {
+  servers = (refl, refl);
+  quota = (refl, refl);
+  held = inr (begins-refl _);
+  states = inl refl;
+  ids = inl (omega arith);
+  own = inr (begins-same _ _ (sym (own-kept t ok)));
+  actions = inl (omega arith);
+}
+
+-- An outcome over the bytes at the beginning.
+pub stored-over : (s t u x : Server) (rs : List Record) (b c o : List ℕ) → Holds s b → wellFormed t ≡ true → wellFormed u ≡ true → Covers s t u
+    → c ≡ image t b → outcomeOn (stored x u rs) c o ≡ outcomeOn (stored x u rs) b o
+unfolding outcomeOn resultOf inBytes stored
+stored-over s t u x rs b c o r ok fine e f =
+    ap (λ (w : List ℕ). record { number = 0; store = word true; sent = length (joined (map write rs)); state = w; out = over (joined (map write rs)) o })
+    (chained s t u b r ok fine e c (image u c) f refl)
+
+module _ (b o : List ℕ) (p : LentSuch (λ t. Configured t × (t .votes .last .index < mostIndex)) b o) where
+  to-primary : (t : Server) → Holds t b → Installs 1 t
+  to-primary t r =
+      let f = lent-fact (λ x. Configured x × (x .votes .last .index < mostIndex)) b o t p r in
+      record { from = omega arith; to = omega arith; configured = f .0; index = f .1 }
+
+  pub primary-installs : HoldsSuch (Installs 1) b
+  primary-installs = record { state = p .state; holds = p .holds; fact = to-primary (p .state) (p .holds) }
+
+  module _ (c : List ℕ) (f : (s : Server) (m : Mode) → Holds s b → 1 ≡ modeNumber m → c ≡ image (inMode m (install s)) b) where
+    primary-holds : (t : Server) → Holds t b → Holds (inMode Reg-prim (install t)) c
+    unfolding modeNumber
+    primary-holds t r = installed-holds 1 b c f t Reg-prim r (to-primary t r) refl
+
+    pub primary-lent : LentSuch (λ s. 0 ≤ 0) c o
+    unfolding install
+    primary-lent = record { state = inMode Reg-prim (install (p .state)); holds = primary-holds (p .state) (p .holds); fact = omega arith; room = p .room }
+
+    pub primary-sent : (a : Answer) (d u : List ℕ)
+        → ((s t : Server) → Holds t c → answered a d u ≡ outcomeOn (stored s (sendHeld t) (heldRecords t)) c o)
+        → (s t : Server) → Holds t b → answered a d u ≡ outcomeOn (installing s t) b o
+    unfolding installing modeNumber
+    primary-sent a d u g s t r =
+        let v : Server = inMode Reg-prim (install t) in
+        let held : Holds v c = primary-holds t r in
+        g s v held
+        ∙ stored-over t v (sendHeld v) s (heldRecords v) b c o r (held .formed) (sent-formed 1 t Reg-prim (r .formed) (to-primary t r) refl)
+        (sent-covers t (r .formed)) (f t Reg-prim r refl)

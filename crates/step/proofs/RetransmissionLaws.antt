@@ -1,0 +1,147 @@
+-- Retransmissions taken in, in place.
+-- Assumes nothing.
+use Prim.Native.Nat.{ℕ, _+_, _≤_, _<_}
+use mathlib.Core.Path.{_≡_, refl, sym, ap, _∙_}
+use mathlib.Core.Bool.{false}
+use mathlib.Core.List.{List}
+use native.Mathlib.Omega.{arith}
+use lib.ListN.{length}
+use Rattle.base.specs.Bytes.{numberAt}
+use Rattle.base.specs.Tests.{pick-no, and-yes, eq-no, le-yes, le-no}
+use Rattle.format.specs.Types.{Action}
+use Rattle.record.specs.declared.ActionHead.{ActionHead}
+use Rattle.record.specs.Values.{idOf, actionOf}
+use Rattle.replication.specs.Machine.Types.{Mode, Non-prim, Exchange-actions, Log, Server, withLog, inMode}
+use Rattle.replication.specs.Machine.Colours.{red, green}
+use Rattle.replication.specs.Machine.Step.{placed, exchanged, oneMore, allCome}
+use Rattle.replication.proofs.Agreement.Lists.Placed.{placed-next, placed-below, placed-red}
+use Rattle.replication.proofs.WellFormed.RuleFacts.{Delivered}
+use Rattle.engine.specs.Image.{modeNumber, image}
+use Rattle.engine.proofs.InPlace.{Holds}
+use Rattle.queue.specs.Queue as Queue
+use Rattle.queue.specs.Queue.{RoomIfNext}
+use Rattle.queue.proofs.Holding.{numbers}
+use Rattle.queue.proofs.Holding as holding
+use Rattle.queue.proofs.RedLaws.{room-if-next}
+use Rattle.lists.specs.Standing.{HoldsSome}
+use Rattle.step.specs.Answers.{HoldsSuch}
+use Rattle.step.proofs.Chained.{such-fact, chained, then-holds}
+use Rattle.step.proofs.Covering.{numbers-then}
+use Rattle.step.proofs.ExchangeStates.{placed-formed, non-prim-formed, more-formed, closed-formed, last-formed}
+
+-- ---- one action, by its position
+
+-- "any other is red"
+placed-above : (k : ℕ) (a : Action) (l : Log) → (k ≡ length (l .green) + 1 → ⊥) → length (l .green) < k → placed k a l ≡ red a l
+unfolding placed
+placed-above k a l other high =
+    sym
+    (pick-no _ _ _ _ (eq-no k (length (l .green) + 1) other)
+    (pick-no _ _ _ _ (sym (and-yes _ _ _ (le-yes 1 k (omega arith)) (sym (le-no k (length (l .green)) high)))) refl))
+
+module _ (h : ActionHead) (p b : List ℕ) (m : HoldsSuch (λ s. Delivered s (actionOf h p)) b) where
+  pub place-room : RoomIfNext (h .creator) (h .index) (length p) b
+  unfolding actionOf idOf
+  place-room = room-if-next (m .state) (actionOf h p) b (m .holds) (m .fact)
+
+  delivered : (s : Server) → Holds s b → Delivered s (actionOf h p)
+  delivered s r = such-fact (λ x. Delivered x (actionOf h p)) b s m r
+
+  pub green-few : numberAt 4 b 23 ≤ 2048
+  green-few = let c = holding.holds-counts (m .state) b (m .holds) in omega (arith, c .green, c .queue, c .most)
+
+  module _ (k x : ℕ) (e : x ≡ numberAt 4 b 23) where
+    count : (s : Server) → Holds s b → x ≡ length (s .log .green)
+    count s r = e ∙ numbers s b r .green
+
+    made : (s : Server) (l : Log) (c : List ℕ) → c ≡ image (withLog l s) b → placed k (actionOf h p) (s .log) ≡ l
+        → c ≡ image (withLog (placed k (actionOf h p) (s .log)) s) b
+    made s l c f g = f ∙ ap (λ (y : Log). image (withLog y s) b) (sym g)
+
+    pub place-next : (c : List ℕ) → k ≡ x + 1
+        → ((s : Server) → Holds s b → Delivered s (actionOf h p) → c ≡ image (withLog (green (actionOf h p) (s .log)) s) b)
+        → (s : Server) → Holds s b → c ≡ image (withLog (placed k (actionOf h p) (s .log)) s) b
+    place-next c f g s r =
+        made s (green (actionOf h p) (s .log)) c (g s r (delivered s r)) (placed-next k (actionOf h p) (s .log) (omega (arith, f, count s r)))
+
+    pub place-zero : (c : List ℕ) → k ≡ 0
+        → ((s : Server) → Holds s b → Delivered s (actionOf h p) → c ≡ image (withLog (red (actionOf h p) (s .log)) s) b)
+        → (s : Server) → Holds s b → c ≡ image (withLog (placed k (actionOf h p) (s .log)) s) b
+    place-zero c f g s r = made s (red (actionOf h p) (s .log)) c (g s r (delivered s r)) (placed-red k (actionOf h p) (s .log) f)
+
+    pub place-above : (c : List ℕ) → (k ≡ x + 1 → ⊥) → x < k
+        → ((s : Server) → Holds s b → Delivered s (actionOf h p) → c ≡ image (withLog (red (actionOf h p) (s .log)) s) b)
+        → (s : Server) → Holds s b → c ≡ image (withLog (placed k (actionOf h p) (s .log)) s) b
+    place-above c n f g s r =
+        made s (red (actionOf h p) (s .log)) c (g s r (delivered s r))
+        (placed-above k (actionOf h p) (s .log) (λ z. n (omega (arith, z, count s r))) (omega (arith, f, count s r)))
+
+    pub place-below : (k ≡ 0 → ⊥) → k ≤ x → (s : Server) → Holds s b → b ≡ image (withLog (placed k (actionOf h p) (s .log)) s) b
+    place-below n f s r =
+        made s (s .log) b (sym (r .written)) (placed-below k (actionOf h p) (s .log) (omega (arith, n)) (omega (arith, f, count s r)))
+
+-- ---- one more has come
+
+module _ (h : ActionHead) (p b c : List ℕ) (k : ℕ)
+    (f : (s : Server) → Holds s b → c ≡ image (withLog (placed k (actionOf h p) (s .log)) s) b) where
+  abbrev after : Server → Server
+  after s = withLog (placed k (actionOf h p) (s .log)) s
+
+  placed-holds : (s : Server) → Holds s b → Delivered s (actionOf h p) → Holds (after s) c
+  placed-holds s r d = then-holds s (after s) b c r (f s r) refl refl (placed-formed s (r .formed) k (actionOf h p) d)
+
+  abbrev pub More : Server → Type 0
+  More s = Delivered s (actionOf h p) × (s .membership .mode ≡ Exchange-actions) × (allCome (oneMore s) ≡ false)
+
+  pub more-some : HoldsSuch More b → HoldsSome c
+  more-some m = record { state = after (m .state); holds = placed-holds (m .state) (m .holds) (m .fact .0) }
+
+  pub more-taken : (d : List ℕ) → HoldsSuch More b → ((t : Server) → Holds t c → d ≡ image (oneMore t) c) → (s : Server) → Holds s b
+      → d ≡ image (exchanged k (actionOf h p) s) b
+  unfolding exchanged oneMore
+  more-taken d m g s r =
+      let a : Action = actionOf h p in
+      let y : More s = such-fact More b s m r in
+      chained s (after s) (exchanged k a s) b r (placed-formed s (r .formed) k a (y .0)) (more-formed s (r .formed) (y .1) k a (y .0) (y .2))
+      (numbers-then s (after s) (exchanged k a s) (refl, refl) (refl, refl) refl refl refl refl refl) c d (f s r)
+      (g (after s) (placed-holds s r (y .0)))
+
+  abbrev pub Last : Server → Type 0
+  Last s = Delivered s (actionOf h p) × (s .membership .mode ≡ Exchange-actions)
+
+  pub last-such : HoldsSuch Last b → HoldsSuch (λ s. s .membership .mode ≡ Exchange-actions) c
+  last-such m = record { state = after (m .state); holds = placed-holds (m .state) (m .holds) (m .fact .0); fact = m .fact .1 }
+
+  pub last-taken : (d : List ℕ) → HoldsSuch Last b → ((t : Server) → Holds t c → d ≡ image (oneMore (inMode Non-prim t)) c) → (s : Server) → Holds s b
+      → d ≡ image (inMode Non-prim (exchanged k (actionOf h p) s)) b
+  unfolding exchanged oneMore
+  last-taken d m g s r =
+      let a : Action = actionOf h p in
+      let y : Last s = such-fact Last b s m r in
+      chained s (after s) (inMode Non-prim (exchanged k a s)) b r (placed-formed s (r .formed) k a (y .0))
+      (last-formed s (r .formed) (y .1) k a (y .0))
+      (numbers-then s (after s) (inMode Non-prim (exchanged k a s)) (refl, refl) (refl, refl) refl refl refl refl refl) c d (f s r)
+      (g (after s) (placed-holds s r (y .0)))
+
+-- ---- to Non_prim, then one more
+
+module _ (b c : List ℕ) (f : (s : Server) (o : Mode) → Holds s b → 0 ≡ modeNumber o → c ≡ image (inMode o s) b) where
+  pub left : (s : Server) → Holds s b → c ≡ image (inMode Non-prim s) b
+  unfolding modeNumber
+  left s r = f s Non-prim r refl
+
+  pub left-holds : (s : Server) → Holds s b → Holds (inMode Non-prim s) c
+  left-holds s r = then-holds s (inMode Non-prim s) b c r (left s r) refl refl (non-prim-formed s (r .formed))
+
+  module _ (m : HoldsSuch (λ s. s .membership .mode ≡ Exchange-actions) b) where
+    pub left-some : HoldsSome c
+    left-some = record { state = inMode Non-prim (m .state); holds = left-holds (m .state) (m .holds) }
+
+    pub closed : (d : List ℕ) → ((t : Server) → Holds t c → d ≡ image (oneMore t) c) → (s : Server) → Holds s b
+        → d ≡ image (oneMore (inMode Non-prim s)) b
+    unfolding oneMore
+    closed d g s r =
+        chained s (inMode Non-prim s) (oneMore (inMode Non-prim s)) b r (non-prim-formed s (r .formed))
+        (closed-formed s (r .formed) (such-fact (λ x. x .membership .mode ≡ Exchange-actions) b s m r))
+        (numbers-then s (inMode Non-prim s) (oneMore (inMode Non-prim s)) (refl, refl) (refl, refl) refl refl refl refl refl) c d (left s r)
+        (g (inMode Non-prim s) (left-holds s r))

@@ -1,0 +1,80 @@
+use Rattle.step.proofs.ExchangeLaws.{last-ends, last-ended, more-such, more-quiet}
+use Rattle.step.proofs.LentLaws.{lent-header}
+use native.Mathlib.Omega.{arith}
+use borrow.Author.Needs.{needs}
+use Rattle.step.proofs.exchanging.exchange.Statement.{statement}
+use Rattle.step.proofs.exchanging.exchange.Tie as tie
+
+planned-now-requires : tie.Need-planned-now-requires
+planned-now-requires c κs = search needs
+
+num32-requires : tie.Need-num32-requires
+num32-requires c κs = omega (arith, lent-header _ _ _ (c .before .before .before .before .before .before .pre))
+
+cast-if1 : tie.Need-cast-if1
+cast-if1 c = search needs
+
+add-if1 : tie.Need-add-if1
+add-if1 c = search needs
+
+take-last-requires : tie.Need-take-last-requires
+take-last-requires c κs = search needs
+
+end-exchange-requires : tie.Need-end-exchange-requires
+end-exchange-requires c κs =
+    last-ends _ _ _ _ _ _
+    (c .before .before .before .before .before .before .before .before .before .before .before .before .before .before .pre)
+    (c .before .before .before .before .before .before .before .before .before .planned-now .ensures)
+    (c .before .before .before .before .before .before .before .num32 .ensures) _ _ (c .before .before .before .before .take-last .ensures)
+
+same-length : tie.Need-same-length
+same-length c = search needs
+
+same-length-2 : tie.Need-same-length-2
+same-length-2 c = search needs
+
+returns : tie.Need-returns
+returns c =
+    last-ended _ _ _ _ _ _
+    (c .before .before .before .before .before .before .before .before .before .before .before .before .before .before .before .before .before .before .before .pre)
+    (c .before .before .before .before .before .before .before .before .before .before .before .before .before .before .planned-now .ensures)
+    (c .before .before .before .before .before .before .before .before .before .before .before .before .num32 .ensures) _ _
+    (c .before .before .before .before .before .before .before .before .before .take-last .ensures)
+    (c .before .before .before .before .before .before .before .before .before .before .before .if1 .taken) _ _ _
+    (c .before .before .before .before .end-exchange .ensures)
+
+take-in-requires : tie.Need-take-in-requires
+take-in-requires c κs =
+    more-such _ _ _ _ _ _ (c .before .before .before .before .before .before .before .before .before .pre)
+    (c .before .before .before .before .planned-now .ensures) (c .before .before .num32 .ensures) (c .before .if1 .left)
+
+quiet-requires : tie.Need-quiet-requires
+quiet-requires c κs = search needs
+
+same-length-3 : tie.Need-same-length-3
+same-length-3 c = search needs
+
+returns-2 : tie.Need-returns-2
+returns-2 c =
+    more-quiet _ _ _ _ _ _ (c .before .before .before .before .before .before .before .before .before .before .before .before .before .pre)
+    (c .before .before .before .before .before .before .before .before .planned-now .ensures)
+    (c .before .before .before .before .before .before .num32 .ensures) (c .before .before .before .before .before .if1 .left) _ _
+    (c .before .before .before .take-in .ensures) _ (c .quiet .ensures)
+
+pub exchange-spec : {M : Type 1} → statement M
+exchange-spec =
+    tie.close
+    (tie.spec
+    planned-now-requires
+    num32-requires
+    cast-if1
+    add-if1
+    take-last-requires
+    end-exchange-requires
+    same-length
+    same-length-2
+    returns
+    take-in-requires
+    quiet-requires
+    same-length-3
+    returns-2)

@@ -1,0 +1,74 @@
+use Rattle.step.proofs.RetransmissionLaws.{place-room, green-few, place-next, place-zero, place-above, place-below}
+use Rattle.step.proofs.Covering.{such-header}
+use native.Mathlib.Omega.{arith}
+use borrow.Author.Needs.{needs}
+use Rattle.step.proofs.exchanging.place_action.Statement.{statement}
+use Rattle.step.proofs.exchanging.place_action.Tie as tie
+
+num32-requires : tie.Need-num32-requires
+num32-requires c κs = omega (arith, such-header _ _ (c .before .before .before .pre))
+
+add-if1 : tie.Need-add-if1
+add-if1 c = search (needs, green-few _ _ _ (c .before .before .before .before .pre))
+
+green-requires : tie.Need-green-requires
+green-requires c κs = search needs
+
+same-length : tie.Need-same-length
+same-length c = search needs
+
+returns : tie.Need-returns
+returns c =
+    place-next _ _ _ (c .before .before .before .before .before .before .before .before .before .pre) _ _
+    (c .before .before .before .before .before .num32 .ensures) _ (c .before .before .before .before .if1 .taken)
+    (c .before .before .green .ensures)
+
+red-requires : tie.Need-red-requires
+red-requires c κs = place-room _ _ _ (c .before .before .before .before .before .before .before .pre)
+
+same-length-2 : tie.Need-same-length-2
+same-length-2 c = search needs
+
+returns-2 : tie.Need-returns-2
+returns-2 c =
+    place-zero _ _ _ (c .before .before .before .before .before .before .before .before .before .before .pre) _ _
+    (c .before .before .before .before .before .before .num32 .ensures) _ (c .before .before .before .before .if2 .taken)
+    (c .before .before .red .ensures)
+
+red-requires-2 : tie.Need-red-requires-2
+red-requires-2 c κs = place-room _ _ _ (c .before .before .before .before .before .before .before .before .pre)
+
+same-length-3 : tie.Need-same-length-3
+same-length-3 c = search needs
+
+returns-3 : tie.Need-returns-3
+returns-3 c =
+    place-above _ _ _ (c .before .before .before .before .before .before .before .before .before .before .before .pre) _ _
+    (c .before .before .before .before .before .before .before .num32 .ensures) _ (c .before .before .before .before .before .before .if1 .left)
+    (c .before .before .before .before .if3 .taken) (c .before .before .red2 .ensures)
+
+same-length-4 : tie.Need-same-length-4
+same-length-4 c = search needs
+
+returns-4 : tie.Need-returns-4
+returns-4 c =
+    place-below _ _ _ (c .before .before .before .before .before .before .before .pre) _ _ (c .before .before .before .num32 .ensures)
+    (c .before .if2 .left) (c .if3 .left)
+
+pub place-action-spec : {M : Type 1} → statement M
+place-action-spec =
+    tie.close
+    (tie.spec
+    num32-requires
+    add-if1
+    green-requires
+    same-length
+    returns
+    red-requires
+    same-length-2
+    returns-2
+    red-requires-2
+    same-length-3
+    returns-3
+    same-length-4
+    returns-4)

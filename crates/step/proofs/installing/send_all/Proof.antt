@@ -1,0 +1,34 @@
+use Rattle.lists.proofs.Sent.{holds-ready}
+use Rattle.step.proofs.Installed.{requests-sent}
+use borrow.Author.Needs.{needs}
+use Rattle.step.proofs.installing.send_all.Statement.{statement}
+use Rattle.step.proofs.installing.send_all.Tie as tie
+
+send-records-requires : tie.Need-send-records-requires
+send-records-requires c κs = search needs
+
+send-held-requires : tie.Need-send-held-requires
+send-held-requires c κs = search (needs, holds-ready)
+
+stored-requires : tie.Need-stored-requires
+stored-requires c κs = search needs
+
+same-length : tie.Need-same-length
+same-length c = search needs
+
+same-length-2 : tie.Need-same-length-2
+same-length-2 c = search needs
+
+returns : tie.Need-returns
+returns c = search (needs, requests-sent)
+
+pub send-all-spec : {M : Type 1} → statement M
+send-all-spec =
+    tie.close
+    (tie.spec
+    send-records-requires
+    send-held-requires
+    stored-requires
+    same-length
+    same-length-2
+    returns)

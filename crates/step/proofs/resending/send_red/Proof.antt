@@ -1,0 +1,23 @@
+use Rattle.step.proofs.PlanLaws.{red-none, red-room, red-high, red-sent}
+use borrow.Author.Needs.{needs}
+use Rattle.step.proofs.resending.send_red.Statement.{statement}
+use Rattle.step.proofs.resending.send_red.Tie as tie
+
+resends-red-requires : tie.Need-resends-red-requires
+resends-red-requires c κs = search needs
+
+returns : tie.Need-returns
+returns c = search (needs, red-none)
+
+send-creator-requires : tie.Need-send-creator-requires
+send-creator-requires c κs = search (needs, red-room, red-high)
+
+same-length : tie.Need-same-length
+same-length c = search needs
+
+returns-2 : tie.Need-returns-2
+returns-2 c = search (needs, red-sent)
+
+pub send-red-spec : {M : Type 1} → statement M
+send-red-spec =
+    tie.close (tie.spec resends-red-requires returns send-creator-requires same-length returns-2)

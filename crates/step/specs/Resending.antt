@@ -1,0 +1,111 @@
+-- One's part of the retransmission plan, over the buffers.
+-- Assumes nothing.
+use Prim.Native.Nat.{ℕ, zero, suc, _+_, _*_, _-_, _≤_, _<_}
+use mathlib.Core.Path.{_≡_}
+use mathlib.Core.List.{List, [], _++_}
+use mathlib.Core.Option.{Option, none}
+use lib.ListN.{length, getD, take, drop}
+use Rattle.base.specs.Bytes.{numberAt}
+use Rattle.base.specs.Lists.{at, atFront, gatherAll, below}
+use Rattle.base.specs.Patched.{patched}
+use Rattle.format.specs.Limits.{mostServers, mostQuota, mostPayload}
+use Rattle.format.specs.Types.{Id, Action, Record}
+use Rattle.record.specs.Values.{idOf, slot}
+use Rattle.replication.specs.Machine.Colours.{find}
+use Rattle.replication.specs.Machine.Plan.{resent, resendGreen, resendRed}
+use Rattle.replication.specs.Machine.Step.{collected}
+use Rattle.engine.specs.Layout.{slotSize}
+use Rattle.engine.specs.Decode.{actionsAt, decoded}
+use Rattle.engine.proofs.InPlace.{Holds}
+use Rattle.queue.specs.Queue.{CountsIn, serversOf, quotaOf, queueCount, greenCount, queueAt}
+use Rattle.step.specs.Answers.{recordBytes}
+
+-- ---- the queue of the buffer b
+
+unfoldable pub queueIn : List ℕ → List Action
+queueIn b = actionsAt (queueCount b) b (queueAt b)
+
+unfoldable pub greensIn : List ℕ → List Action
+greensIn b = take (greenCount b) (queueIn b)
+
+-- How many actions there can be.
+abbrev pub mostActions : List ℕ → ℕ
+mostActions b = serversOf b * quotaOf b
+
+-- Where the slot k of the queue begins.
+unfoldable pub slotPlace : List ℕ → ℕ → ℕ
+slotPlace b k = queueAt b + slotSize * k
+
+-- An id that has an entry in the table of places.
+pub record InTable (c i : ℕ) : Type 0 where
+  pub creator : c < mostServers
+  pub least : 1 ≤ i
+  pub most : i ≤ mostQuota
+
+-- The numbers of the buffer are in range, and so is each action of its queue.
+pub record QueueIn (b : List ℕ) : Type 0 where
+  pub counts : CountsIn b
+  pub ids : (k : ℕ) → k < queueCount b → InTable (numberAt 1 b (slotPlace b k)) (numberAt 2 b (slotPlace b k + 1))
+  pub payloads : (k : ℕ) → k < queueCount b → numberAt 1 b (slotPlace b k + 7) ≤ mostPayload
+
+-- ---- the table of places
+
+-- The action that an entry names: none by 0, and else one place less.
+unfoldable pub named : List Action → ℕ → Option Action
+named l zero = none
+named l (suc k) = at l k
+
+-- The table t names at each id the first of the actions from the place k on that has it.
+pub record Filled (k : ℕ) (t : List ℕ) (l : List Action) : Type 0 where
+  pub size : length t ≡ mostServers * mostQuota
+  pub low : (i : ℕ) → getD t i 0 ≤ length l
+  pub names : (d : Id) → InTable (d .creator) (d .index) → named l (getD t (slot d) 0) ≡ find d (drop k l)
+
+-- The table of the whole queue of the buffer b.
+abbrev pub TableOf : (t b : List ℕ) → Type 0
+TableOf t b = Filled 0 t (queueIn b)
+
+-- ---- what is sent
+
+-- The action at the place k.
+unfoldable pub fromPlace : (me position : ℕ) → List Action → ℕ → Option Record
+fromPlace me p l k = resent me p (at l k)
+
+-- "resends positions .."
+unfoldable pub atPosition : ℕ → List Action → ℕ → Option Record
+atPosition me l p = resent me p (at l (p - 1))
+
+-- ".. as red"
+unfoldable pub asRed : ℕ → List Action → ℕ → ℕ → Option Record
+asRed me l c i = resent me 0 (find (idOf c i) l)
+
+-- The records rs from `at` on, of at most 65 bytes for each of m that were asked for; the place behind them is r.
+pub record Sends (m : ℕ) (rs : List Record) (at : ℕ) (old new : List ℕ) (r : ℕ) : Type 0 where
+  pub place : r ≡ at + length (recordBytes rs)
+  pub most : r ≤ at + 65 * m
+  pub size : length new ≡ length old
+  pub bytes : new ≡ patched at (recordBytes rs) old
+
+-- One record or none.
+unfoldable pub oneOf : Option Record → List Record
+oneOf x = atFront x []
+
+-- ---- the plan's parts, of the state that the buffer b holds
+
+-- It holds what its bytes say.
+pub record Stated (b : List ℕ) : Type 0 where
+  pub holds : Holds (decoded b) b
+  pub queue : QueueIn b
+
+unfoldable pub greenPart : List ℕ → List Record
+greenPart b = resendGreen (decoded b .me) (decoded b .log) (collected (decoded b))
+
+unfoldable pub redPart : List ℕ → ℕ → List Record
+redPart b c = resendRed (decoded b .me) (decoded b .log) (collected (decoded b)) c
+
+-- Of the first n creators.
+unfoldable pub redParts : List ℕ → ℕ → List Record
+redParts b n = gatherAll (redPart b) (below n)
+
+unfoldable pub wholePart : List ℕ → List Record
+wholePart b = greenPart b ++ redParts b (serversOf b)
