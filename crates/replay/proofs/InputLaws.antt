@@ -7,7 +7,7 @@ use mathlib.Core.List.{List}
 use native.Mathlib.Omega.{arith}
 use lib.ListN.{length, getD}
 use borrow.Author.Tests.{not-true, not-false}
-use Rattle.base.specs.Tests.{_and_, _≤?_, _=?_, pick, pick-as, pick-yes, pick-no, pick-lt, pick-ge, and-holds, both-yes, eq-holds, eq-yes, le-holds, le-yes, not-both, Known, holds, fails, known}
+use Rattle.base.specs.Tests.{_and_, _≤?_, _<?_, _=?_, pick, pick-as, pick-yes, pick-no, pick-lt, pick-ge, and-holds, both-yes, eq-holds, eq-yes, le-holds, le-yes, lt-holds, lt-fails, not-both, Known, holds, fails, known}
 use Rattle.base.specs.Bytes.{numberAt}
 use Rattle.format.specs.Limits.{version}
 use Rattle.format.specs.Types.{Reading, says, refused}
@@ -114,6 +114,46 @@ module _ (n : ℕ) (input : List ℕ) (ended : Bool) (k : ℕ) (some : 1 ≤ len
       (pick-lt (getD input 0 0) n (Event (k + 2)) _ _ server
       (pick-ge (length input) 3 (Event (k + 2)) _ _ long
       (pick-ge (length input - 1) (numberAt 2 input 1 + 2) (Event (k + 2)) _ _ (omega arith) (ap (λ (m : ℕ). Event (m + 2)) is-k))))
+
+-- What an event that comes next has.
+pub record Whole (n size : ℕ) (input : List ℕ) : Type 0 where
+  pub server : getD input 0 0 < n
+  pub inside : size + 1 ≤ length input
+  pub size-is : size ≡ numberAt 2 input 1 + 2
+
+-- Why which comes next.
+pub data Comes (n : ℕ) (input : List ℕ) (ended : Bool) : Next → Type 0 where
+  whole : (m : ℕ) → Whole n m input → Comes n input ended (Event m)
+  wrong : (k : ℕ) → k ≡ 2 → 1 ≤ length input → n ≤ getD input 0 0 → Comes n input ended (Wrong k)
+  cut : (k : ℕ) → k ≡ 1 → ended ≡ true → 1 ≤ length input → getD input 0 0 < n → length input < numberAt 2 input 1 + 3 → Comes n input ended (Wrong k)
+  more : ended ≡ false → Comes n input ended More
+  done : ended ≡ true → length input < 1 → Comes n input ended Done
+
+pub comes : (n : ℕ) (input : List ℕ) (ended : Bool) → Comes n input ended (nextOf n input ended)
+unfolding nextOf cutShort
+comes n input ended =
+    pick-as P (length input <? 1) _ _ (λ h. pick-as P ended Done More (λ e. done e (lt-holds (length input) 1 h)) (λ e. more e))
+    (λ none. let some = lt-fails (length input) 1 none in
+    pick-as P (getD input 0 0 <? n) _ _
+    (λ h. let server = lt-holds (getD input 0 0) n h in
+    pick-as P (length input <? 3) _ _ (λ l. short some server (omega (arith, lt-holds (length input) 3 l)))
+    (λ l. pick-as P (length input - 1 <? numberAt 2 input 1 + 2) _ _
+    (λ q. short some server (omega (arith, lt-holds (length input - 1) (numberAt 2 input 1 + 2) q)))
+    (λ q. whole (numberAt 2 input 1 + 2)
+    (record { server = server; inside = omega (arith, lt-fails (length input - 1) (numberAt 2 input 1 + 2) q); size-is = refl }))))
+    (λ h. wrong 2 refl some (lt-fails (getD input 0 0) n h)))
+  where
+    P : Next → Type 0
+    P x = Comes n input ended x
+
+    short : 1 ≤ length input → getD input 0 0 < n → length input < numberAt 2 input 1 + 3 → P (pick ended (Wrong 1) More)
+    short some server l = pick-as P ended (Wrong 1) More (λ e. cut 1 refl e some server l) (λ e. more e)
+
+pub whole-event : (n : ℕ) (input : List ℕ) (ended : Bool) (m : ℕ) → nextOf n input ended ≡ Event m → Whole n m input
+whole-event n input ended m e = go (subst (Comes n input ended) e (comes n input ended))
+  where
+    go : Comes n input ended (Event m) → Whole n m input
+    go (whole m w) = w
 
 -- ---- how many servers
 

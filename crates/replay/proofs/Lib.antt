@@ -3,3 +3,4 @@ pub mod InputLaws
 pub mod LineLaws
 pub mod PrintsLaws
 pub mod SessionLaws
+pub mod ShownLaws

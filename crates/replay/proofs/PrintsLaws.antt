@@ -1,108 +1,33 @@
 -- What the turns print is what `replay` says.
 -- Assumes nothing.
-use Prim.Native.Nat.{ℕ, zero, suc, _+_, _-_, _≤_, _<_}
+use Prim.Native.Nat.{ℕ, suc, _+_, _-_, _≤_, _<_}
 use mathlib.Core.Path.{_≡_, refl, sym, ap, subst, _∙_}
 use mathlib.Core.Bool.{Bool, true, false}
-use mathlib.Core.List.{List, [], _∷_, _++_, append-nil}
-use mathlib.Core.Option.{Option, none, some}
+use mathlib.Core.List.{List, [], _∷_, _++_, append-nil, map}
+use mathlib.Core.Option.{some}
 use native.Mathlib.Omega.{arith}
 use lib.ListN.{length, getD, take, drop, length-append}
 use lib.Seq.{take-append-le, drop-append-le}
-use Rattle.base.specs.Tests.{_<?_, _≤?_, lt-yes, lt-no, le-yes, le-no, lt-holds, lt-fails, pick, pick-as}
+use Rattle.base.specs.Tests.{_<?_, _≤?_, lt-yes, lt-no, le-yes, le-no, le-holds, and-holds, pick-as}
 use Rattle.base.specs.Bytes.{numberAt, partAt}
 use Rattle.base.specs.BytesLaws.{number-drop, number-front}
-use Rattle.base.specs.Lists.{at}
-use Rattle.base.specs.AtLaws.{at-there}
-use Rattle.base.specs.Text.{decimal}
-use Rattle.replication.specs.Machine.Types.{Server, Outcome}
-use Rattle.replication.specs.Machine.WellFormed.{queue}
-use Rattle.replication.specs.Images.{Images, arrive, leftBy}
-use Rattle.replication.specs.Replay.{modeName, line, returned, sentCount, eventLine, inputLine, recordLength, tableAfter, lineFor, events}
-use Rattle.record.specs.declared.State as numbers
-use Rattle.engine.specs.Header.{lastOf, headerOf, headerIn}
-use Rattle.engine.specs.Image.{modeNumber}
-use Rattle.engine.specs.Decode.{modeNamed}
-use Rattle.engine.proofs.HeaderLaws.{header-loaded}
-use Rattle.engine.proofs.HeaderRead.{mode-named}
-use Rattle.engine.proofs.InPlace.{Holds}
-use Rattle.record.specs.Events.{lastIn}
+use Rattle.base.specs.Lists.{at, below}
+use Rattle.format.specs.Types.{Reading, says, refused}
+use Rattle.format.specs.Setup.{Setup, setupIn, setupFrameOk, setupOk, readSetup}
+use Rattle.replication.specs.Machine.Types.{Server, start}
+use Rattle.replication.specs.Images.{Images, started}
+use Rattle.replication.specs.Replay.{line, header, inputLine, setupLine, recordLength, tableAfter, lineFor, events, afterSetup, replay}
 use Rattle.servers.specs.declared.Server as declared
-use Rattle.servers.specs.declared.Reply.{Reply}
-use Rattle.servers.specs.declared.Stepped.{Stepped}
-use Rattle.servers.specs.Core.{coreOf}
-use Rattle.servers.specs.Table as table
-use Rattle.servers.specs.Table.{altered, replied}
-use Rattle.servers.proofs.Keeping.{Keeps, Arrives}
-use Rattle.servers.proofs.Tabled.{Law, Tabled, entry-after, entry-arrives, reply-is, tabled-after}
-use Rattle.replay.specs.declared.line.Shown.{Shown}
+use Rattle.servers.specs.Starting.{freshTable}
+use Rattle.servers.specs.Table.{altered}
+use Rattle.servers.proofs.Tabled.{Tabled, fresh-tabled}
 use Rattle.replay.specs.declared.input.Next.{Next}
 use Rattle.replay.specs.declared.input.Next.the-variants.{Event, Wrong, More, Done}
-use Rattle.replay.specs.Input.{cutShort, nextOf}
-use Rattle.replay.specs.Lines.{shownLine}
-use Rattle.replay.specs.Session.{shownOf, lineAt, Turned, turnBy, turnOf}
-use Rattle.replay.proofs.SessionLaws.{Whole, whole-event}
-
--- ---- a line
-
-module _ (b : List ℕ) (s : Server) (h : headerIn b ≡ headerOf s) where
-  mode-read : modeNamed (numberAt 1 b 4) ≡ s .membership .mode
-  unfolding headerIn headerOf
-  mode-read = ap (λ (x : numbers.State). modeNamed (x .mode)) h ∙ mode-named (s .membership .mode)
-
-  held-read : numberAt 4 b 19 ≡ length (queue (s .log))
-  unfolding headerIn headerOf
-  held-read = ap (λ (x : numbers.State). x .«queue_length») h
-
-  green-read : numberAt 4 b 23 ≡ length (s .log .green)
-  unfolding headerIn headerOf
-  green-read = ap (λ (x : numbers.State). x .«green_length») h
-
-  red-read : numberAt 4 b 19 - numberAt 4 b 23 ≡ length (s .log .red)
-  unfolding queue
-  red-read = omega (arith, held-read, green-read, length-append (s .log .green) (s .log .red))
-
-  prim-read : numberAt 4 b 37 ≡ s .votes .last .index
-  unfolding headerIn headerOf lastIn lastOf
-  prim-read = ap (λ (x : numbers.State). x .last .index .0) h
-
--- The line shows the outcome and the state whose image the bytes hold.
-shows : (event server : ℕ) (reply : Reply) (o : Outcome (List ℕ)) (s : Server) (b : List ℕ) → reply .number ≡ returned o → reply .sent ≡ sentCount o
-    → Holds s b → shownLine (shownOf event server reply b) ≡ eventLine event server o s
-unfolding shownLine shownOf eventLine
-shows event server reply o s b number sent h =
-    let loaded : headerIn b ≡ headerOf s = header-loaded s b h in
-    λ i. line
-    (decimal event
-    ∷ decimal server
-    ∷ decimal (number i)
-    ∷ modeName (mode-read b s loaded i)
-    ∷ decimal (red-read b s loaded i)
-    ∷ decimal (green-read b s loaded i)
-    ∷ decimal (prim-read b s loaded i)
-    ∷ decimal (sent i)
-    ∷ [])
-
--- ---- one event
-
-module _ (arrives : Law) (t : List Images) (s : List declared.Server) (r : Tabled t s) where
-  line-shown : (event k : ℕ) (e : List ℕ) → k < length t → lineAt s event k e ≡ lineFor event k e (at t k)
-  unfolding lineAt lineFor
-  line-shown event k e h = go (at-there t k h)
-    where
-      go : (i : Images) × (at t k ≡ some i) → lineAt s event k e ≡ lineFor event k e (at t k)
-      go (i, here) =
-          let after : Stepped = coreOf (getD s k table.none) e in
-          let a = entry-arrives arrives t s k i e r here in
-          ap (λ (x : Reply). shownLine (shownOf event k x (getD (altered s k e) k table.none .state))) (reply-is arrives t s k i e r here)
-          ∙ ap (λ (x : declared.Server). shownLine (shownOf event k (after .reply) (x .state))) (entry-after arrives t s k i e r here)
-          ∙ shows event k (after .reply) (arrive i e) (leftBy (arrive i e) i .memory) (after .server .state) (a .number) (a .sent) (a .entry .memory)
-          ∙ sym (ap (lineFor event k e) here)
-
-  table-shown : (k : ℕ) (e : List ℕ) → k < length t → Tabled (tableAfter k e (at t k) t) (altered s k e)
-  table-shown k e h = go (at-there t k h)
-    where
-      go : (i : Images) × (at t k ≡ some i) → Tabled (tableAfter k e (at t k) t) (altered s k e)
-      go (i, here) = tabled-after arrives t s k i e r here
+use Rattle.replay.specs.declared.session.Going.the-variants.{On, Read, Stop}
+use Rattle.replay.specs.Input.{setupNumbers, setupOf, nextOf}
+use Rattle.replay.specs.Session.{lineAt, Turned, turnBy, turnOf}
+use Rattle.replay.proofs.InputLaws.{Whole, whole-event, Comes, wrong, cut, done, comes}
+use Rattle.replay.proofs.ShownLaws.{line-shown, table-shown}
 
 -- ---- the input
 
@@ -138,20 +63,13 @@ size-read n m k rest more w =
 
 -- ---- turns
 
-module _ {X : Type 0} (k : ℕ) where
-  done-wrong : Done ≡ Wrong k → X
-  done-wrong e = let z : _≡_ {A = ℕ} 0 1 = cc in absurd (omega arith)
+on-stop : {X : Type 0} → On ≡ Stop → X
+on-stop e = let z : _≡_ {A = ℕ} 0 1 = cc in absurd (omega arith)
 
-  more-wrong : More ≡ Wrong k → X
-  more-wrong e = let z : _≡_ {A = ℕ} 0 1 = cc in absurd (omega arith)
+read-stop : {X : Type 0} → Read ≡ Stop → X
+read-stop e = let z : _≡_ {A = ℕ} 0 1 = cc in absurd (omega arith)
 
-event-wrong : {X : Type 0} (m k : ℕ) → Event m ≡ Wrong k → X
-event-wrong m k e = let z : _≡_ {A = ℕ} 0 1 = cc in absurd (omega arith)
-
-wrong-same : (j k : ℕ) → Wrong j ≡ Wrong k → j ≡ k
-wrong-same j k e = cc
-
-module _ (arrives : Law) (t : List Images) (s : List declared.Server) (r : Tabled t s) (event : ℕ) (ended : Bool) where
+module _ (t : List Images) (s : List declared.Server) (r : Tabled t s) (event : ℕ) (ended : Bool) where
   abbrev next : List ℕ → Next
   next p = nextOf (length t) p ended
 
@@ -186,14 +104,14 @@ module _ (arrives : Law) (t : List Images) (s : List declared.Server) (r : Table
       events-whole d event t k (rest ++ f) (w .server) long
       ∙ (λ i. lineFor event k (front i) (at t k) ++ events d (event + 1) (tableAfter k (front i) (at t k) t) (behind i))
       ∙ ap (λ (x : List ℕ). x ++ events d (event + 1) (tableAfter k (take m rest) (at t k) t) (drop m rest ++ f))
-      (sym (text-on m (k ∷ rest) e ∙ line-shown arrives t s r event k (take m rest) (w .server)))
+      (sym (text-on m (k ∷ rest) e ∙ line-shown t s r event k (take m rest) (w .server)))
       ∙ ap (λ (x : ℕ). turn (k ∷ rest) .text ++ events d (event + 1) (after m (k ∷ rest)) (drop x (k ∷ rest) ++ f)) (sym place)
 
   -- .. and leaves a table that keeps what the servers then have.
   pub keeps-event : (m : ℕ) (p : List ℕ) → next p ≡ Event m → Tabled (after m p) (turn p .table)
   keeps-event m p e =
       subst (Tabled (after m p)) (sym (table-on m p e))
-      (table-shown arrives t s r (getD p 0 0) (partAt m p 1) (whole-event (length t) p ended m e .server))
+      (table-shown t s r (getD p 0 0) (partAt m p 1) (whole-event (length t) p ended m e .server))
 
   module _ (d : ℕ) (f : List ℕ) (last : ended ≡ true → f ≡ []) where
     -- The input is cut short by its end.
@@ -203,27 +121,67 @@ module _ (arrives : Law) (t : List Images) (s : List declared.Server) (r : Table
         ∙ ap (λ (y : List ℕ). events (suc d) event t (q ∷ y)) (append-nil rest)
         ∙ events-cut d event t q rest h l
 
-    wrong-prints : (p : List ℕ) (k : ℕ) → next p ≡ Wrong k → events (suc d) event t (p ++ f) ≡ inputLine k
-    unfolding nextOf cutShort recordLength
-    wrong-prints [] =
-        pick-as P (length {A = ℕ} [] <? 1) _ _ (λ h. pick-as P ended Done More (λ e k. done-wrong k) (λ e k. more-wrong k))
-        (λ h. absurd (omega (arith, lt-fails (length {A = ℕ} []) 1 h)))
-      where
-        P : Next → Type 0
-        P x = (k : ℕ) → x ≡ Wrong k → events (suc d) event t f ≡ inputLine k
-    wrong-prints (q ∷ rest) =
-        pick-as P (length (q ∷ rest) <? 1) _ _ (λ h. pick-as P ended Done More (λ e k. done-wrong k) (λ e k. more-wrong k))
-        (λ some. pick-as P (q <? length t) _ _
-        (λ server. pick-as P (length (q ∷ rest) <? 3) _ _ (λ h. cut server (omega (arith, lt-holds (length (q ∷ rest)) 3 h)))
-        (λ long. pick-as P (length (q ∷ rest) - 1 <? numberAt 2 (q ∷ rest) 1 + 2) _ _
-        (λ h. cut server (omega (arith, lt-holds (length (q ∷ rest) - 1) (numberAt 2 (q ∷ rest) 1 + 2) h, number-behind-one q rest)))
-        (λ h k. event-wrong (numberAt 2 (q ∷ rest) 1 + 2) k)))
-        (λ h k e. events-wrong d event t q (rest ++ f) (lt-fails q (length t) h) ∙ ap inputLine (wrong-same 2 k e)))
-      where
-        P : Next → Type 0
-        P x = (k : ℕ) → x ≡ Wrong k → events (suc d) event t ((q ∷ rest) ++ f) ≡ inputLine k
+    wrong-prints : (p : List ℕ) (k : ℕ) → Comes (length t) p ended (Wrong k) → events (suc d) event t (p ++ f) ≡ inputLine k
+    unfolding recordLength
+    wrong-prints [] k (wrong k e some h) = absurd (omega arith)
+    wrong-prints [] k (cut k e last some h l) = absurd (omega arith)
+    wrong-prints (q ∷ rest) k (wrong k e some h) = events-wrong d event t q (rest ++ f) h ∙ ap inputLine (sym e)
+    wrong-prints (q ∷ rest) k (cut k e last some h l) =
+        cut-prints q rest h (omega (arith, number-behind-one q rest)) last ∙ ap inputLine (sym e)
 
-        cut : (q <? length t) ≡ true → length rest < numberAt 2 rest 0 + 2 → P (pick ended (Wrong 1) More)
-        cut server l =
-            pick-as P ended (Wrong 1) More
-            (λ e k w. cut-prints q rest (lt-holds q (length t) server) l e ∙ ap inputLine (wrong-same 1 k w)) (λ e k. more-wrong k)
+    none-prints : (p : List ℕ) → Comes (length t) p ended Done → events (suc d) event t (p ++ f) ≡ []
+    unfolding events
+    none-prints [] (done e h) = ap (events (suc d) event t) (last e)
+    none-prints (q ∷ rest) (done e h) = absurd (omega arith)
+
+    -- A turn after which the program stops prints all that is left to print.
+    pub prints-stop : (p : List ℕ) → turn p .going ≡ Stop → events (suc d) event t (p ++ f) ≡ turn p .text
+    unfolding turnOf turnBy
+    prints-stop p g = go (next p) refl g
+      where
+        go : (x : Next) → next p ≡ x → turnBy x s event p .going ≡ Stop → events (suc d) event t (p ++ f) ≡ turnBy (next p) s event p .text
+        go (Event m) e h = on-stop h
+        go (Wrong k) e h = wrong-prints p k (subst (Comes (length t) p ended) e (comes (length t) p ended)) ∙ sym (ap (λ (x : Next). turnBy x s event p .text) e)
+        go More e h = read-stop h
+        go Done e h = none-prints p (subst (Comes (length t) p ended) e (comes (length t) p ended)) ∙ sym (ap (λ (x : Next). turnBy x s event p .text) e)
+
+-- ---- the set-up
+
+pub prints-setup : (k : ℕ) (input : List ℕ) → setupOf (take 7 input) .number ≡ k → (k ≡ 0 → ⊥) → replay 4 16 input ≡ setupLine k
+unfolding setupOf setupNumbers replay afterSetup
+prints-setup k input e h = go (readSetup 4 16 (take 7 input)) e
+  where
+    go : (x : Reading Setup) → setupNumbers x .number ≡ k → afterSetup x (drop 7 input) ≡ setupLine k
+    go (says y) e = absurd (h (sym e))
+    go (refused j) e = ap setupLine e
+
+-- The table at the start, of n servers with the quota q.
+abbrev fresh : (n q : ℕ) → List Images
+fresh n q = map (λ k. started (start n q k)) (below n)
+
+starts : (e rest : List ℕ) → setupOf e .number ≡ 0
+    → (afterSetup (readSetup 4 16 e) rest ≡ header ++ events (length rest) 1 (fresh (setupOf e .servers) (setupOf e .quota)) rest)
+    × Tabled (fresh (setupOf e .servers) (setupOf e .quota)) (freshTable (setupOf e .servers) (setupOf e .quota))
+unfolding setupOf setupNumbers readSetup setupOk afterSetup
+starts e rest =
+    pick-as P (setupFrameOk e) _ _ (λ f. pick-as P (setupOk 4 16 (setupIn e)) _ _ (λ ok z. (refl, tabled ok)) (λ n z. absurd (omega arith))) (λ n z. absurd (omega arith))
+  where
+    P : Reading Setup → Type 0
+    P x =
+        setupNumbers x .number ≡ 0
+        → (afterSetup x rest ≡ header ++ events (length rest) 1 (fresh (setupNumbers x .servers) (setupNumbers x .quota)) rest)
+        × Tabled (fresh (setupNumbers x .servers) (setupNumbers x .quota)) (freshTable (setupNumbers x .servers) (setupNumbers x .quota))
+
+    tabled : setupOk 4 16 (setupIn e) ≡ true → Tabled (fresh (setupIn e .servers) (setupIn e .quota)) (freshTable (setupIn e .servers) (setupIn e .quota))
+    tabled ok =
+        let sizes = and-holds _ _ ok in
+        let limits = and-holds _ _ (sizes .1) in
+        fresh-tabled (setupIn e .servers) (setupIn e .quota) (sizes .0) (le-holds (setupIn e .servers) 4 (limits .0)) (le-holds (setupIn e .quota) 16 (limits .1))
+
+-- After a good set-up the header follows, then the events at servers at their start; the table that the program makes keeps these.
+pub prints-start : (input : List ℕ) → setupOf (take 7 input) .number ≡ 0
+    → (replay 4 16 input
+    ≡ header ++ events (length (drop 7 input)) 1 (fresh (setupOf (take 7 input) .servers) (setupOf (take 7 input) .quota)) (drop 7 input))
+    × Tabled (fresh (setupOf (take 7 input) .servers) (setupOf (take 7 input) .quota)) (freshTable (setupOf (take 7 input) .servers) (setupOf (take 7 input) .quota))
+unfolding replay
+prints-start input e = starts (take 7 input) (drop 7 input) e

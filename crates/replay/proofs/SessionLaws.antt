@@ -2,12 +2,11 @@
 -- Assumes nothing.
 use Prim.Native.Nat.{ℕ, _+_, _-_, _≤_, _<_}
 use mathlib.Core.Path.{_≡_, refl, sym, ap, _∙_}
-use mathlib.Core.Bool.{Bool, true, false}
+use mathlib.Core.Bool.{Bool}
 use mathlib.Core.List.{List, [], _∷_, _++_}
 use native.Mathlib.Omega.{arith}
 use lib.ListN.{length, getD, take, drop, length-append, length-take, length-drop}
 use lib.Seq.{take-at}
-use Rattle.base.specs.Tests.{_<?_, pick, pick-as, lt-holds, lt-fails}
 use Rattle.base.specs.Bytes.{numberAt, partAt}
 use Rattle.base.specs.BytesLaws.{number1, number4}
 use Rattle.base.specs.Patched.{patched}
@@ -21,10 +20,11 @@ use Rattle.replay.specs.declared.input.Next.{Next}
 use Rattle.replay.specs.declared.input.Next.the-variants.{Event, Wrong, More, Done}
 use Rattle.replay.specs.declared.session.Going.the-variants.{On, Read, Stop}
 use Rattle.replay.specs.declared.session.Turn.{Turn}
-use Rattle.replay.specs.Input.{cutShort, nextOf}
+use Rattle.replay.specs.Input.{nextOf}
 use Rattle.replay.specs.Lines.{Put, shownLine}
 use Rattle.replay.specs.Reading.{Fed, Kept}
 use Rattle.replay.specs.Session.{shownOf, lineAt, Turned, turned, turnBy, turnOf}
+use Rattle.replay.proofs.InputLaws.{whole-event}
 
 four-at : (b : List ℕ) (at : ℕ) → numberAt 4 (getD b at 0 ∷ getD b (at + 1) 0 ∷ getD b (at + 2) 0 ∷ getD b (at + 3) 0 ∷ []) 0 ≡ numberAt 4 b at
 four-at b at =
@@ -78,52 +78,6 @@ event-made t t₁ event size r input o o₁ f p =
     let text-is : take r o₁ ≡ lineAt t event (getD input 0 0) (take size (drop 1 input)) = p .text ∙ ap (lineAt t event (getD input 0 0)) part in
     λ i. record { table = table-is i; taken = size + 1; text = text-is i; going = On }
 
--- What an event that comes next has.
-pub record Whole (n size : ℕ) (input : List ℕ) : Type 0 where
-  pub server : getD input 0 0 < n
-  pub inside : size + 1 ≤ length input
-  pub size-is : size ≡ numberAt 2 input 1 + 2
-
-not-stop : {X : Type 0} → Stop ≡ On → X
-not-stop e = let z : _≡_ {A = ℕ} 0 1 = cc in absurd (omega arith)
-
-not-read : {X : Type 0} → Read ≡ On → X
-not-read e = let z : _≡_ {A = ℕ} 0 1 = cc in absurd (omega arith)
-
-module _ {X : Type 0} (m : ℕ) where
-  not-done : Done ≡ Event m → X
-  not-done e = let z : _≡_ {A = ℕ} 0 1 = cc in absurd (omega arith)
-
-  not-more : More ≡ Event m → X
-  not-more e = let z : _≡_ {A = ℕ} 0 1 = cc in absurd (omega arith)
-
-  not-wrong : (k : ℕ) → Wrong k ≡ Event m → X
-  not-wrong k e = let z : _≡_ {A = ℕ} 0 1 = cc in absurd (omega arith)
-
-pub whole-event : (n : ℕ) (input : List ℕ) (ended : Bool) (m : ℕ) → nextOf n input ended ≡ Event m → Whole n m input
-unfolding nextOf cutShort
-whole-event n input ended =
-    pick-as P (length input <? 1) _ _
-    (λ h. pick-as P ended Done More (λ e m. not-done m) (λ e m. not-more m))
-    (λ some. pick-as P (getD input 0 0 <? n) _ _
-    (λ server. pick-as P (length input <? 3) _ _ (λ h. cut)
-    (λ long. pick-as P (length input - 1 <? numberAt 2 input 1 + 2) _ _ (λ h. cut) (λ h m e. whole server h some m e)))
-    (λ h m. not-wrong m 2))
-  where
-    P : Next → Type 0
-    P x = (m : ℕ) → x ≡ Event m → Whole n m input
-
-    cut : (m : ℕ) → pick ended (Wrong 1) More ≡ Event m → Whole n m input
-    cut = pick-as P ended (Wrong 1) More (λ e m. not-wrong m 1) (λ e m. not-more m)
-
-    whole : (getD input 0 0 <? n) ≡ true → (length input - 1 <? numberAt 2 input 1 + 2) ≡ false → (length input <? 1) ≡ false
-        → (m : ℕ) → Event (numberAt 2 input 1 + 2) ≡ Event m → Whole n m input
-    whole server h some m e =
-        let size : numberAt 2 input 1 + 2 ≡ m = cc in
-        let fits = lt-fails (length input - 1) (numberAt 2 input 1 + 2) h in
-        let there = lt-fails (length input) 1 some in
-        record { server = lt-holds (getD input 0 0) n server; inside = omega arith; size-is = sym size }
-
 module _ (n size : ℕ) (input : List ℕ) (ended : Bool) (x : Next) (is-x : x ≡ nextOf n input ended) (is-event : x ≡ Event size) where
   pub event-server : n ≤ 4 → getD input 0 0 < 4
   event-server h = omega (arith, whole-event n input ended size (sym is-x ∙ is-event) .server)
@@ -153,6 +107,12 @@ module _ (t : List Server) (n event : ℕ) (input o o₁ : List ℕ) (ended : Bo
   done-turn e = ap (λ (y : Next). turnBy y t event input) (sym e ∙ is-x)
 
 -- ---- what a turn takes
+
+not-stop : {X : Type 0} → Stop ≡ On → X
+not-stop e = let z : _≡_ {A = ℕ} 0 1 = cc in absurd (omega arith)
+
+not-read : {X : Type 0} → Read ≡ On → X
+not-read e = let z : _≡_ {A = ℕ} 0 1 = cc in absurd (omega arith)
 
 fed-by : (t : List Server) (n event : ℕ) (input : List ℕ) (ended : Bool) (x : Next) → nextOf n input ended ≡ x
     → (turnBy x t event input .taken ≤ length input) × (turnBy x t event input .going ≡ On → 1 ≤ turnBy x t event input .taken)

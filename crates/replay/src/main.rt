@@ -80,7 +80,7 @@ fn pass(t: [Server; 4], servers: u8, first: u64, input: &[u8], ended: bool) -> P
 
 // Bytes that are read and not yet taken; whether the input has ended with them.
 struct Filled {
-    bytes: [u8; 131072],
+    bytes: [u8; ROOM],
     count: usize,
     ended: bool,
 }
@@ -97,7 +97,7 @@ fn read_some(room: &mut [u8]) -> usize
 fn refill(old: &[u8]) -> Filled
     ensures { λ r. ⌜ Kept (now (old .entry)) r ⌝ }
 {
-    let mut bytes: [u8; 131072] = [0; 131072];
+    let mut bytes: [u8; ROOM] = [0; ROOM];
     let m = old.len();
     if ROOM <= m {
         return Filled {

@@ -8,16 +8,16 @@ use native.Mathlib.Omega.{arith}
 use native.Mathlib.Decide.{decLt}
 use lib.ListN.{length, take, drop, length-drop, drop-of-length-le}
 use lib.Seq.{take-all, drop-length, drop-drop}
-use Rattle.base.specs.Tests.{pick, pick-yes, pick-no, pick-lt, pick-ge, pick-eq, pick-ne}
+use Rattle.base.specs.Tests.{pick-yes, pick-no, pick-lt, pick-ge, pick-eq, pick-ne}
 use Rattle.base.specs.Bytes.{numberAt}
 use Rattle.base.specs.BytesLaws.{number-drop}
 use Rattle.engine.specs.Image.{zeros}
-use Rattle.engine.specs.Outcome.{Result}
+use Rattle.engine.specs.Outcome.{Result, stepOn}
 use Rattle.step.specs.declared.Answer.{Answer}
-use Rattle.step.specs.Answers.{answered, stepOn}
+use Rattle.step.specs.Answers.{answered}
 use Rattle.servers.specs.declared.Server.{Server}
 use Rattle.servers.specs.declared.Stepped.{Stepped}
-use Rattle.servers.specs.Core.{isRecovery, sourceIn, entryAfter, recordsFrom, recordsIn, afterStep, coreOf}
+use Rattle.servers.specs.Core.{outRoom, isRecovery, sourceIn, entryAfter, recordsFrom, recordsIn, afterStep, coreOf}
 
 -- ---- records counted by their length bytes
 
@@ -115,7 +115,7 @@ module _ (s : Server) (number store : ℕ) (b : List ℕ) where
 
 -- ---- the core
 
-pub core-made : (s v : Server) (e b b₁ o o₁ : List ℕ) (a : Answer) (n : ℕ) → b ≡ sourceIn s e → o ≡ zeros 8320
+pub core-made : (s v : Server) (e b b₁ o o₁ : List ℕ) (a : Answer) (n : ℕ) → b ≡ sourceIn s e → o ≡ zeros outRoom
     → answered a b₁ o₁ ≡ stepOn b e o → v ≡ entryAfter s (a .number) (a .store) b₁ → n ≡ recordsIn (take (a .sent) o₁)
     → record { server = v; reply = record { number = a .number; sent = n } } ≡ coreOf s e
 unfolding coreOf afterStep answered

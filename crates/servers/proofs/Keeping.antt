@@ -20,8 +20,6 @@ use Rattle.format.specs.Write.{write}
 use Rattle.format.proofs.Reading.{says-read}
 use Rattle.format.proofs.RoundTrip.{read-written}
 use Rattle.replication.specs.Laws.Order.{SameServer}
-use Rattle.replication.specs.Laws.Rows as R
-use Rattle.replication.specs.Laws.Rows.{Refuses}
 use Rattle.replication.specs.Machine.Types.{Server, Outcome, refused, taken, contextOf}
 use Rattle.replication.specs.Machine.Step.{step}
 use Rattle.replication.specs.Machine.WellFormed.{ranges, wellFormed}
@@ -31,7 +29,7 @@ use Rattle.replication.proofs.Step.Identity.{identity-kept}
 use Rattle.replication.proofs.Step.Inversion.{taken-by}
 use Rattle.replication.proofs.Step.Lifts.{source-of}
 use Rattle.replication.proofs.Step.Moves.{moved}
-use Rattle.replication.proofs.Step.Table.{table}
+use Rattle.replication.proofs.Step.Table.{refused-some}
 use Rattle.replication.proofs.WellFormed.Reads.{Peer, put-out-in-range, step-put-out}
 use Rattle.engine.specs.Layout.{stateLength, outLength, leastStateLength, leastOutLength}
 use Rattle.engine.specs.Image.{over, zeros, image}
@@ -44,27 +42,16 @@ use Rattle.engine.proofs.StartLaws.{zeros-length}
 use Rattle.engine.proofs.Taken.{taken-holds}
 use Rattle.servers.specs.declared.Server as declared
 use Rattle.servers.specs.declared.Stepped.{Stepped}
-use Rattle.servers.specs.Core.{isRecovery, sourceIn, entryAfter, recordsFrom, recordsIn, afterStep, coreOf}
+use Rattle.servers.specs.Core.{outRoom, isRecovery, sourceIn, entryAfter, recordsFrom, recordsIn, afterStep, coreOf}
 use Rattle.servers.proofs.CoreLaws.{records-next, kept-refused, kept-stored, kept-unstored}
 use Rattle.servers.proofs.RecoveryLaws.{recovery-read}
-
-refuses-some : {s : Server} {e : List ℕ} {k : ℕ} → Refuses s e k → 1 ≤ k
-refuses-some (R.by-row1 a) = omega arith
-refuses-some (R.by-row2 a b) = omega arith
-refuses-some (R.by-row5 a b c) = omega arith
-refuses-some (R.by-row6 a b c d) = omega arith
-refuses-some (R.by-row3 a b c d f) = omega arith
-refuses-some (R.by-row4 a b c d f g) = omega arith
-
-refused-some : (s : Server) (e : List ℕ) (m : ℕ) → step s e ≡ refused m → 1 ≤ m
-refused-some s e m h = refuses-some (table s e m .0 h)
 
 -- Both buffers of the entry hold the images of the server's states, and the outgoing buffer has room for what an event puts out.
 pub record Keeps (i : Images) (s : declared.Server) : Type 0 where
   pub memory : Holds (i .memory) (s .state)
   pub store : Holds (i .store) (s .store)
   pub same : SameServer (i .memory) (i .store)
-  pub room : outLength (i .memory .servers) (i .memory .quota) ≤ 8320
+  pub room : outLength (i .memory .servers) (i .memory .quota) ≤ outRoom
 
 -- ---- the step over buffers that hold a state
 
@@ -118,9 +105,9 @@ module _ (i : Images) (s : declared.Server) (e : List ℕ) (k : Keeps i s) where
   source-same : SameServer (i .memory) (sourceOf i e)
   source-same = source-of (SameServer (i .memory)) i e (k .same) (record { servers = refl; quota = refl; me = refl })
 
-  source-room : outLength (sourceOf i e .servers) (sourceOf i e .quota) ≤ 8320
+  source-room : outLength (sourceOf i e .servers) (sourceOf i e .quota) ≤ outRoom
   source-room =
-      subst (λ (m : ℕ). m ≤ 8320) (λ j. outLength (sym (source-same .servers) j) (sym (source-same .quota) j)) (k .room)
+      subst (λ (m : ℕ). m ≤ outRoom) (λ j. outLength (sym (source-same .servers) j) (sym (source-same .quota) j)) (k .room)
 
 -- ---- records counted
 
@@ -206,8 +193,8 @@ module _ (i : Images) (s : declared.Server) (e : List ℕ) (k : Keeps i s) where
       same : SameServer (i .memory) t
       same = same-then (i .memory) (sourceOf i e) t (source-same i s e k) (identity-kept (sourceOf i e) (moved (taken-by (sourceOf i e) e t rs w g h) .0))
 
-      room : outLength (t .servers) (t .quota) ≤ 8320
-      room = subst (λ (m : ℕ). m ≤ 8320) (λ j. outLength (sym (same .servers) j) (sym (same .quota) j)) (k .room)
+      room : outLength (t .servers) (t .quota) ≤ outRoom
+      room = subst (λ (m : ℕ). m ≤ outRoom) (λ j. outLength (sym (same .servers) j) (sym (same .quota) j)) (k .room)
 
       stored : (w : Bool) → Keeps (record { memory = t; store = pick w t (i .store) }) (entryAfter s 0 (word w) (image t before))
       stored true =
@@ -217,14 +204,14 @@ module _ (i : Images) (s : declared.Server) (e : List ℕ) (k : Keeps i s) where
           subst (Keeps (record { memory = t; store = i .store })) (kept-unstored s 0 0 (image t before) refl (λ q. absurd (omega arith)))
           (record { memory = here; store = k .store; same = same-twice (i .memory) t (i .store) same (k .same); room = room })
 
-  pub arrives : Arrives i (arrive i e) (afterStep s (stepOn (sourceIn s e) e (zeros 8320)))
-  unfolding arrive
+  pub arrives : Arrives i (arrive i e) (coreOf s e)
+  unfolding arrive coreOf
   arrives =
       subst (λ (r : Result). Arrives i (step (sourceOf i e) e) (afterStep s r)) (sym over-buffers) (go (step (sourceOf i e) e) refl)
     where
-      over-buffers : stepOn before e (zeros 8320) ≡ resultOf (step (sourceOf i e) e) before (zeros 8320)
-      over-buffers = holds-step (sourceOf i e) before (source-holds i s e k) e (zeros 8320) (omega (arith, source-room i s e k, zeros-length 8320))
+      over-buffers : stepOn before e (zeros outRoom) ≡ resultOf (step (sourceOf i e) e) before (zeros outRoom)
+      over-buffers = holds-step (sourceOf i e) before (source-holds i s e k) e (zeros outRoom) (omega (arith, source-room i s e k, zeros-length outRoom))
 
-      go : (o : Outcome (List ℕ)) → step (sourceOf i e) e ≡ o → Arrives i o (afterStep s (resultOf o before (zeros 8320)))
-      go (refused m) h = refused-arrives m (zeros 8320) h
-      go (taken t rs w g) h = taken-arrives t rs w g (zeros 8320) h
+      go : (o : Outcome (List ℕ)) → step (sourceOf i e) e ≡ o → Arrives i o (afterStep s (resultOf o before (zeros outRoom)))
+      go (refused m) h = refused-arrives m (zeros outRoom) h
+      go (taken t rs w g) h = taken-arrives t rs w g (zeros outRoom) h

@@ -1,8 +1,8 @@
 -- Which bytes read as a recovery.
 -- Assumes nothing.
-use Prim.Native.Nat.{ℕ, _+_, _*_}
+use Prim.Native.Nat.{ℕ, _+_}
 use mathlib.Core.Path.{_≡_, refl, sym, ap, subst, _∙_}
-use mathlib.Core.Bool.{Bool, true, false}
+use mathlib.Core.Bool.{true, false}
 use mathlib.Core.List.{List}
 use native.Mathlib.Omega.{arith}
 use lib.ListN.{length, getD}
@@ -10,10 +10,10 @@ use Rattle.base.specs.Tests.{_and_, _=?_, and-holds, both-yes, eq-holds, eq-yes
 use Rattle.base.specs.Bytes.{numberAt}
 use Rattle.base.specs.BytesLaws.{number1, number2}
 use Rattle.format.specs.Limits.{version}
-use Rattle.format.specs.Types.{Record, action, retransmission, state, cpc, regular, transitional, request, recovery, Kind, ofRecovery, kindNumber, kindOf, Context, Reading, says, refused}
+use Rattle.format.specs.Types.{Record, action, retransmission, state, cpc, regular, transitional, request, recovery, ofRecovery, kindNumber, kindOf, Context, Reading, says, refused}
 use Rattle.format.specs.Range.{contextOk, fieldsOk, recordOk}
 use Rattle.format.specs.Read.{kindNamed, lengthFor, frameOk, recordIn, read}
-use Rattle.format.proofs.Reading.{kind-named, kind-number, record-kind, Read, read-says, says-read}
+use Rattle.format.proofs.Reading.{kind-named, kind-number, record-kind, read-says, says-read}
 use Rattle.replication.specs.Images as images
 use Rattle.servers.specs.Core.{isRecovery}
 

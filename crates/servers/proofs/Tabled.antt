@@ -1,10 +1,9 @@
 -- A table keeps what each server has.
 -- Assumes nothing.
-use Prim.Native.Nat.{ℕ, zero, suc, _+_, _≤_, _<_}
+use Prim.Native.Nat.{ℕ, zero, suc, _≤_, _<_}
 use mathlib.Core.Path.{_≡_, refl, sym, ap, subst, _∙_}
 use mathlib.Core.Bool.{true}
-use mathlib.Core.List.{List, [], _∷_, _++_, map}
-use mathlib.Core.Logic.{_⊎_, inl, inr}
+use mathlib.Core.List.{List, map}
 use mathlib.Core.Option.{Option, none, some}
 use native.Mathlib.Omega.{arith}
 use native.Mathlib.Decide.{ℕ-discrete}
@@ -12,8 +11,8 @@ use lib.ListN.{length, getD, set, length-set, length-map}
 use lib.Seq.{getD-set-same, getD-set-other}
 use Rattle.base.specs.Tests.{_<?_, lt-yes}
 use Rattle.base.specs.Lists.{at, below}
-use Rattle.base.specs.AtLaws.{none-some, some-same, at-low, at-single, at-set-same, at-set-other, at-map}
-use Rattle.base.specs.Gathered.{at-either}
+use Rattle.base.specs.AtLaws.{some-same, at-low, at-set-same, at-set-other, at-map}
+use Rattle.base.specs.Gathered.{at-below}
 use Rattle.base.specs.ListLaws.{below-length}
 use Rattle.format.specs.Range.{sizesOk}
 use Rattle.replication.specs.Machine.Types.{start}
@@ -24,7 +23,7 @@ use Rattle.servers.specs.Starting.{freshOf, freshTable}
 use Rattle.servers.specs.Table as table
 use Rattle.servers.specs.Core.{coreOf}
 use Rattle.servers.specs.Table.{altered, replied}
-use Rattle.servers.proofs.Keeping.{Keeps, Arrives}
+use Rattle.servers.proofs.Keeping.{Keeps, Arrives, arrives}
 use Rattle.servers.proofs.StartingLaws.{fresh-keeps}
 
 pub record Tabled (t : List Images) (s : List declared.Server) : Type 0 where
@@ -35,11 +34,7 @@ pub altered-length : (s : List declared.Server) (k : ℕ) (e : List ℕ) → len
 unfolding altered
 altered-length s k e = length-set s k (coreOf (getD s k table.none) e .server)
 
--- DEV
-abbrev pub Law : Type 0
-Law = (i : Images) (s : declared.Server) (e : List ℕ) → Keeps i s → Arrives i (arrive i e) (coreOf s e)
-
-module _ (arrives : Law) (t : List Images) (s : List declared.Server) (k : ℕ) (i : Images) (e : List ℕ) (r : Tabled t s) (here : at t k ≡ some i) where
+module _ (t : List Images) (s : List declared.Server) (k : ℕ) (i : Images) (e : List ℕ) (r : Tabled t s) (here : at t k ≡ some i) where
   inside : k < length s
   inside = omega (arith, at-low t k i here, r .long)
 
@@ -78,15 +73,6 @@ module _ (arrives : Law) (t : List Images) (s : List declared.Server) (k : ℕ) 
       sizes = omega (arith, r .long, length-set t k new, altered-length s k e)
 
 -- ---- the table at the start
-
-at-below : (n k x : ℕ) → at (below n) k ≡ some x → (k < n) × (x ≡ k)
-unfolding below at
-at-below zero k x e = none-some e
-at-below (suc n) k x e = go (at-either (below n) (n ∷ []) k x e) (at-below n k x)
-  where
-    go : (at (below n) k ≡ some x) ⊎ ((j : ℕ) × (k ≡ length (below n) + j) × (at (n ∷ []) j ≡ some x)) → (at (below n) k ≡ some x → (k < n) × (x ≡ k)) → (k < suc n) × (x ≡ k)
-    go (inl h) rest = let r = rest h in (omega (arith, r .0), r .1)
-    go (inr h) rest = let r = at-single n (h .0) x (h .2) in (omega (arith, r .0, below-length n, h .1), omega (arith, r .0, r .1, below-length n, h .1))
 
 fresh-at : (n q k : ℕ) → k < 4 → getD (freshTable n q) k table.none ≡ freshOf n q k
 unfolding freshTable

@@ -7,11 +7,17 @@ use lib.ListN.{length, take, drop, getD}
 use Rattle.base.specs.Tests.{_and_, _<?_, _=?_, pick}
 use Rattle.base.specs.Bytes.{numberAt}
 use Rattle.engine.specs.Image.{zeros}
-use Rattle.engine.specs.Outcome.{Result}
-use Rattle.step.specs.Answers.{stepOn}
+use Rattle.engine.specs.Outcome.{Result, stepOn}
 use Rattle.servers.specs.declared.Server.{Server}
 use Rattle.servers.specs.declared.Reply.{Reply}
 use Rattle.servers.specs.declared.Stepped.{Stepped}
+
+-- The lengths of both buffers for four servers and the quota 16.
+abbrev pub stateRoom : ℕ
+stateRoom = 6500
+
+abbrev pub outRoom : ℕ
+outRoom = 8320
 
 -- The recovery's record: no other bytes read as one.
 unfoldable pub isRecovery : List ℕ → Bool
@@ -42,4 +48,4 @@ afterStep s r = record {
 }
 
 unfoldable pub coreOf : Server → List ℕ → Stepped
-coreOf s e = afterStep s (stepOn (sourceIn s e) e (zeros 8320))
+coreOf s e = afterStep s (stepOn (sourceIn s e) e (zeros outRoom))

@@ -12,10 +12,15 @@ use stepping::kept;
 use stepping::records;
 use stepping::source;
 
-// A server's state in memory and its stored state: room for four servers and the quota 16.
+// Both buffers for four servers and the quota 16, by the formulas of docs/LAYOUT.md.
+pub const STATE_ROOM: usize = 6500;
+
+pub const OUT_ROOM: usize = 8320;
+
+// A server's state in memory and its stored state.
 pub struct Server {
-    pub state: [u8; 6500],
-    pub store: [u8; 6500],
+    pub state: [u8; STATE_ROOM],
+    pub store: [u8; STATE_ROOM],
 }
 
 // The number returned, and how many records were put out.
@@ -34,7 +39,7 @@ pub fn core(s: Server, e: &[u8]) -> Stepped
     ensures { λ r. ⌜ r ≡ coreOf s (now (e .entry)) ⌝ }
 {
     let mut state = source(s, e);
-    let mut out: [u8; 8320] = [0; 8320];
+    let mut out: [u8; OUT_ROOM] = [0; OUT_ROOM];
     let a = guzbytor_step(&mut state, e, &mut out);
     let server = kept(s, state, a.number, a.store);
     let reply = Reply {

@@ -1,6 +1,7 @@
 // The table at the start.
 ghost use mathlib.Core.Path.{_≡_};
 ghost use Rattle.servers.specs.Starting.{freshOf, freshTable};
+use crate::STATE_ROOM;
 use crate::Server;
 use engine::guzbytor_start;
 
@@ -8,7 +9,7 @@ use engine::guzbytor_start;
 fn fresh(servers: u8, quota: u16, me: u32) -> Server
     ensures { λ r. ⌜ r ≡ freshOf servers quota me ⌝ }
 {
-    let mut state: [u8; 6500] = [0; 6500];
+    let mut state: [u8; STATE_ROOM] = [0; STATE_ROOM];
     guzbytor_start(&mut state, servers as u32, quota as u32, me);
     Server {
         state,

@@ -4,6 +4,7 @@ ghost use Prim.Native.Nat.{_+_, _≤_};
 ghost use lib.ListN.{length, take, drop};
 ghost use Rattle.base.specs.Bytes.{numberAt};
 ghost use Rattle.servers.specs.Core.{isRecovery, sourceIn, entryAfter, recordsIn};
+use crate::STATE_ROOM;
 use crate::Server;
 use record::bytes::num16;
 
@@ -27,7 +28,7 @@ fn is_recovery(e: &[u8]) -> bool
 }
 
 // The state that the event comes to.
-pub fn source(s: Server, e: &[u8]) -> [u8; 6500]
+pub fn source(s: Server, e: &[u8]) -> [u8; STATE_ROOM]
     ensures { λ r. ⌜ r ≡ sourceIn s (now (e .entry)) ⌝ }
 {
     if is_recovery(e) {
@@ -37,7 +38,7 @@ pub fn source(s: Server, e: &[u8]) -> [u8; 6500]
 }
 
 // The entry with the new state, stored too where the store word is 1; as before where the event was refused.
-pub fn kept(s: Server, state: [u8; 6500], number: u32, store: u32) -> Server
+pub fn kept(s: Server, state: [u8; STATE_ROOM], number: u32, store: u32) -> Server
     ensures { λ r. ⌜ r ≡ entryAfter s number store state ⌝ }
 {
     if number != 0 {
