@@ -8,8 +8,9 @@ use mathlib.Core.Option.{Option, none, some}
 use native.Mathlib.Omega.{arith}
 use native.Mathlib.Decide.{ℕ-discrete}
 use lib.ListN.{length}
-use Rattle.base.specs.Lists.{at, atFront, gather, gatherAll, after, above}
-use Rattle.base.specs.AtLaws.{none-some, some-same}
+use Rattle.base.specs.Lists.{at, atFront, gather, gatherAll, after, above, below}
+use Rattle.base.specs.AtLaws.{none-some, some-same, at-single}
+use Rattle.base.specs.ListLaws.{below-length}
 
 module _ {A : Type 0} where
   -- ---- one list behind another
@@ -154,3 +155,17 @@ module _ {A B : Type 0} (f : A → List B) where
   part-gathered (z ∷ xs) x y (List·Memᴰ·tail m) i h =
       let r = part-gathered xs x y m i h in
       (length (f z) + r .0, at-second (f z) (gatherAll f xs) (r .0) ∙ r .1)
+
+-- ---- runs of numbers
+
+pub at-below : (n k x : ℕ) → at (below n) k ≡ some x → (k < n) × (x ≡ k)
+unfolding below at
+at-below zero k x e = none-some e
+at-below (suc n) k x e = go (at-either (below n) (n ∷ []) k x e) (at-below n k x)
+  where
+    go : (at (below n) k ≡ some x) ⊎ ((j : ℕ) × (k ≡ length (below n) + j) × (at (n ∷ []) j ≡ some x)) → (at (below n) k ≡ some x → (k < n) × (x ≡ k))
+        → (k < suc n) × (x ≡ k)
+    go (inl h) rest = let r = rest h in (omega (arith, r .0), r .1)
+    go (inr h) rest =
+        let r = at-single n (h .0) x (h .2) in
+        (omega (arith, r .0, below-length n, h .1), omega (arith, r .0, r .1, below-length n, h .1))

@@ -114,6 +114,10 @@ module _ (s : Server) (e : List ℕ) where
       go (refused j) y x = ap (λ n. refused n) (sym (refuses-first y) ∙ refuses-first x)
       go (taken t bs b g) n x = absurd (omega (arith, none-first n, refuses-first x, refuses-some x))
 
+  -- A refusal's number is not 0.
+  pub refused-some : (k : ℕ) → step s e ≡ refused k → 1 ≤ k
+  refused-some k h = refuses-some (table k .0 h)
+
   -- An event is taken exactly when no row applies.
   pub table-taken : ((t : Server) × (bs : List (List ℕ)) × (b : Bool) × (g : List Action) × (step s e ≡ taken t bs b g)) ↔ NoRow s e
   table-taken = (λ x. subst (Answers s e) (x .4) (answered s e), λ n. go (step s e) refl (answered s e) n)

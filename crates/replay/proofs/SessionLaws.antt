@@ -1,0 +1,158 @@
+-- One event of the input, as the code makes it.
+-- Assumes nothing.
+use Prim.Native.Nat.{ℕ, _+_, _-_, _≤_, _<_}
+use mathlib.Core.Path.{_≡_, refl, sym, ap, _∙_}
+use mathlib.Core.Bool.{Bool}
+use mathlib.Core.List.{List, [], _∷_, _++_}
+use native.Mathlib.Omega.{arith}
+use lib.ListN.{length, getD, take, drop, length-append, length-take, length-drop}
+use lib.Seq.{take-at}
+use Rattle.base.specs.Bytes.{numberAt, partAt}
+use Rattle.base.specs.BytesLaws.{number1, number4}
+use Rattle.base.specs.Patched.{patched}
+use Rattle.replication.specs.Replay.{inputLine}
+use Rattle.io.proofs.Counting.{counts}
+use Rattle.servers.specs.declared.Server.{Server}
+use Rattle.servers.specs.declared.Reply.{Reply}
+use Rattle.servers.specs.Table.{none, altered, replied}
+use Rattle.replay.specs.declared.line.Shown.{Shown}
+use Rattle.replay.specs.declared.input.Next.{Next}
+use Rattle.replay.specs.declared.input.Next.the-variants.{Event, Wrong, More, Done}
+use Rattle.replay.specs.declared.session.Going.the-variants.{On, Read, Stop}
+use Rattle.replay.specs.declared.session.Turn.{Turn}
+use Rattle.replay.specs.Input.{nextOf}
+use Rattle.replay.specs.Lines.{Put, shownLine}
+use Rattle.replay.specs.Reading.{Fed, Kept}
+use Rattle.replay.specs.Session.{shownOf, lineAt, Turned, turned, turnBy, turnOf}
+use Rattle.replay.proofs.InputLaws.{whole-event}
+
+four-at : (b : List ℕ) (at : ℕ) → numberAt 4 (getD b at 0 ∷ getD b (at + 1) 0 ∷ getD b (at + 2) 0 ∷ getD b (at + 3) 0 ∷ []) 0 ≡ numberAt 4 b at
+four-at b at =
+    number4 (getD b at 0 ∷ getD b (at + 1) 0 ∷ getD b (at + 2) 0 ∷ getD b (at + 3) 0 ∷ []) 0 ∙ sym (number4 b at)
+
+pub shown-made : (event server : ℕ) (reply : Reply) (b : List ℕ) (held green prim red : ℕ)
+    → held ≡ numberAt 4 (getD b 19 0 ∷ getD b 20 0 ∷ getD b 21 0 ∷ getD b 22 0 ∷ []) 0
+    → green ≡ numberAt 4 (getD b 23 0 ∷ getD b 24 0 ∷ getD b 25 0 ∷ getD b 26 0 ∷ []) 0
+    → prim ≡ numberAt 4 (getD b 37 0 ∷ getD b 38 0 ∷ getD b 39 0 ∷ getD b 40 0 ∷ []) 0
+    → red ≡ held - green
+    → record { number = event; server = server; returned = reply .number; mode = getD b 4 0; red = red; green = green; prim = prim; sent = reply .sent }
+    ≡ shownOf event server reply b
+unfolding shownOf
+shown-made event server reply b held green prim red h g p r =
+    let held-is : held ≡ numberAt 4 b 19 = h ∙ four-at b 19 in
+    let green-is : green ≡ numberAt 4 b 23 = g ∙ four-at b 23 in
+    let prim-is : prim ≡ numberAt 4 b 37 = p ∙ four-at b 37 in
+    let red-is : red ≡ numberAt 4 b 19 - numberAt 4 b 23 = omega arith in
+    let mode-is : getD b 4 0 ≡ numberAt 1 b 4 = sym (number1 b 4) in
+    λ i. record {
+      number = event;
+      server = server;
+      returned = reply .number;
+      mode = mode-is i;
+      red = red-is i;
+      green = green-is i;
+      prim = prim-is i;
+      sent = reply .sent;
+    }
+
+pub answer-made : (t t₁ : List Server) (event k r : ℕ) (e o o₁ : List ℕ) (reply : Reply) (s : Shown) → reply ≡ replied t k e → t₁ ≡ altered t k e
+    → s ≡ shownOf event k reply (getD t₁ k none .state) → Put (shownLine s) 164 0 r o o₁ → Put (lineAt t event k e) 164 0 r o o₁
+unfolding lineAt
+answer-made t t₁ event k r e o o₁ reply s f g h p = record {
+  text = p .text ∙ ap shownLine (h ∙ (λ i. shownOf event k (f i) (getD (g i) k none .state)));
+  least = p .least;
+  most = p .most;
+  same = p .same;
+}
+
+-- ---- one turn
+
+pub event-made : (t t₁ : List Server) (event size r : ℕ) (input o o₁ : List ℕ) → t₁ ≡ altered t (getD input 0 0) (take (size + 1 - 1) (drop 1 input))
+    → Put (lineAt t event (getD input 0 0) (take (size + 1 - 1) (drop 1 input))) 164 0 r o o₁
+    → turned (record { table = t₁; taken = size + 1; length = r; going = On }) o₁ ≡ turnBy (Event size) t event input
+unfolding turned turnBy partAt
+event-made t t₁ event size r input o o₁ f p =
+    let count : size + 1 - 1 ≡ size = omega arith in
+    let part : take (size + 1 - 1) (drop 1 input) ≡ take size (drop 1 input) = ap (λ (m : ℕ). take m (drop 1 input)) count in
+    let table-is : t₁ ≡ altered t (getD input 0 0) (take size (drop 1 input)) = f ∙ ap (altered t (getD input 0 0)) part in
+    let text-is : take r o₁ ≡ lineAt t event (getD input 0 0) (take size (drop 1 input)) = p .text ∙ ap (lineAt t event (getD input 0 0)) part in
+    λ i. record { table = table-is i; taken = size + 1; text = text-is i; going = On }
+
+module _ (n size : ℕ) (input : List ℕ) (ended : Bool) (x : Next) (is-x : x ≡ nextOf n input ended) (is-event : x ≡ Event size) where
+  pub event-server : n ≤ 4 → getD input 0 0 < 4
+  event-server h = omega (arith, whole-event n input ended size (sym is-x ∙ is-event) .server)
+
+  pub event-inside : size + 1 ≤ length input
+  event-inside = whole-event n input ended size (sym is-x ∙ is-event) .inside
+
+module _ (t : List Server) (n event : ℕ) (input o o₁ : List ℕ) (ended : Bool) (x : Next) (is-x : x ≡ nextOf n input ended) where
+  pub event-turn : (size : ℕ) (r : Turn) → x ≡ Event size → turned r o₁ ≡ turnBy (Event size) t event input → turned r o₁ ≡ turnOf t n event input ended
+  unfolding turnOf
+  event-turn size r e h = h ∙ ap (λ (y : Next). turnBy y t event input) (sym e ∙ is-x)
+
+  pub wrong-turn : (k r : ℕ) → x ≡ Wrong k → Put (inputLine k) 64 0 r o o₁
+      → turned (record { table = t; taken = 0; length = r; going = Stop }) o₁ ≡ turnOf t n event input ended
+  unfolding turnOf turned turnBy
+  wrong-turn k r e p =
+      let left : _≡_ {A = Turned} (record { table = t; taken = 0; text = take r o₁; going = Stop }) (turnBy (Wrong k) t event input)
+          = λ i. record { table = t; taken = 0; text = p .text i; going = Stop } in
+      left ∙ ap (λ (y : Next). turnBy y t event input) (sym e ∙ is-x)
+
+  pub more-turn : x ≡ More → turned (record { table = t; taken = 0; length = 0; going = Read }) o ≡ turnOf t n event input ended
+  unfolding turnOf turned turnBy
+  more-turn e = ap (λ (y : Next). turnBy y t event input) (sym e ∙ is-x)
+
+  pub done-turn : x ≡ Done → turned (record { table = t; taken = 0; length = 0; going = Stop }) o ≡ turnOf t n event input ended
+  unfolding turnOf turned turnBy
+  done-turn e = ap (λ (y : Next). turnBy y t event input) (sym e ∙ is-x)
+
+-- ---- what a turn takes
+
+not-stop : {X : Type 0} → Stop ≡ On → X
+not-stop e = let z : _≡_ {A = ℕ} 0 1 = cc in absurd (omega arith)
+
+not-read : {X : Type 0} → Read ≡ On → X
+not-read e = let z : _≡_ {A = ℕ} 0 1 = cc in absurd (omega arith)
+
+fed-by : (t : List Server) (n event : ℕ) (input : List ℕ) (ended : Bool) (x : Next) → nextOf n input ended ≡ x
+    → (turnBy x t event input .taken ≤ length input) × (turnBy x t event input .going ≡ On → 1 ≤ turnBy x t event input .taken)
+unfolding turnBy
+fed-by t n event input ended (Event m) e = (whole-event n input ended m e .inside, λ g. omega arith)
+fed-by t n event input ended (Wrong k) e = (omega arith, λ g. not-stop g)
+fed-by t n event input ended More e = (omega arith, λ g. not-read g)
+fed-by t n event input ended Done e = (omega arith, λ g. not-stop g)
+
+pub turn-fed : (t : List Server) (n event : ℕ) (input o : List ℕ) (ended : Bool) (r : Turn) → turned r o ≡ turnOf t n event input ended → Fed r input
+unfolding turned turnOf
+turn-fed t n event input o ended r h =
+    let f = fed-by t n event input ended (nextOf n input ended) refl in
+    let taken-is : r .taken ≡ turnBy (nextOf n input ended) t event input .taken = ap (λ (y : Turned). y .taken) h in
+    let going-is : r .going ≡ turnBy (nextOf n input ended) t event input .going = ap (λ (y : Turned). y .going) h in
+    record { there = omega (arith, f .0); some = λ g. omega (arith, f .1 (sym going-is ∙ g)) }
+
+pub pass-less : (r : Turn) (input : List ℕ) (at : ℕ) → Fed r (take (length input - at) (drop at input)) → at ≤ length input → r .going ≡ On
+    → length input - (at + r .taken) < length input - at
+pass-less r input at f h g =
+    let some = f .some g in
+    let part = length-take (length input - at) (drop at input) in
+    let rest = length-drop at input in
+    omega (arith, f .there)
+
+-- ---- what is read
+
+pub kept-none : (old bytes : List ℕ) (ended : Bool) → 131072 ≤ length old → Kept old (record { bytes = bytes; count = 0; ended = ended })
+kept-none old bytes ended h = record { counts = counts 0 bytes (omega arith); front = λ l. absurd (omega arith) }
+
+-- y is read behind the old bytes, of which n count.
+pub kept-front : (old z b y : List ℕ) (k n : ℕ) (ended : Bool) → b ≡ patched 0 old z → n ≤ length y
+    → Kept old (record { bytes = take (length old) b ++ (y ++ drop k (drop (length old) b)); count = length old + n; ended = ended })
+unfolding patched
+kept-front old z b y k n ended e h =
+    let front : take (length old) b ≡ old = ap (take (length old)) e ∙ take-at old (drop (0 + length old) z) (length old) refl in
+    let rest : List ℕ = drop k (drop (length old) b) in
+    let long : length old + length y ≤ length (take (length old) b ++ (y ++ rest))
+        = omega (arith, length-append (take (length old) b) (y ++ rest), length-append y rest, ap length front) in
+    record {
+      counts = counts (length old + n) (take (length old) b ++ (y ++ rest)) (omega arith);
+      front = λ l. ap (λ (x : List ℕ). take (length old) (x ++ (y ++ rest))) front ∙ take-at old (y ++ rest) (length old) refl;
+    }

@@ -1,0 +1,14 @@
+use borrow.Author.Needs.{needs}
+use Rattle.replay.specs.Input.{setupNumbers}
+use Rattle.replay.proofs.input.Setup.refused.Statement.{statement}
+use Rattle.replay.proofs.input.Setup.refused.Tie as tie
+use Rattle.replay.proofs.input.Setup.refused.Reads as reads
+use Rattle.replay.proofs.input.Setup.refused.Lts as lts
+
+-- src/input.rt:17:5
+returns : tie.Need-returns
+unfolding setupNumbers
+returns c = search needs
+
+pub refused-spec : {M : Type 1} → statement M
+refused-spec = tie.close (tie.spec returns)

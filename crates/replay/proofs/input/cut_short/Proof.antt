@@ -1,0 +1,20 @@
+use borrow.Author.Needs.{needs}
+use Rattle.replay.specs.Input.{cutShort}
+use Rattle.base.specs.Tests.{pick-yes, pick-no}
+use Rattle.replay.proofs.input.cut_short.Statement.{statement}
+use Rattle.replay.proofs.input.cut_short.Tie as tie
+use Rattle.replay.proofs.input.cut_short.Reads as reads
+use Rattle.replay.proofs.input.cut_short.Lts as lts
+
+-- src/input.rt:73:1
+returns : tie.Need-returns
+unfolding cutShort
+returns c = search (needs, pick-yes, pick-no)
+
+-- src/input.rt:73:1
+returns-2 : tie.Need-returns-2
+unfolding cutShort
+returns-2 c = search (needs, pick-yes, pick-no)
+
+pub cut-short-spec : {M : Type 1} → statement M
+cut-short-spec = tie.close (tie.spec returns returns-2)

@@ -1,0 +1,27 @@
+use Rattle.replay.proofs.LineLaws.{state-put}
+use borrow.Author.Needs.{needs}
+use Rattle.replay.proofs.line.put_state.Statement.{statement}
+use Rattle.replay.proofs.line.put_state.Tie as tie
+use Rattle.replay.proofs.line.put_state.Reads as reads
+use Rattle.replay.proofs.line.put_state.Lts as lts
+use Rattle.replay.proofs.line.put_mode.Reads as put-mode-reads
+use Rattle.replay.proofs.line.put_pair.Reads as put-pair-reads
+
+-- src/line.rt:84:9
+put-mode-requires : tie.Need-put-mode-requires
+put-mode-requires c κs = search needs
+
+-- src/line.rt:85:5
+put-pair-requires : tie.Need-put-pair-requires
+put-pair-requires c κs = search needs
+
+-- src/line.rt:80:1
+same-length : tie.Need-same-length
+same-length c = search needs
+
+-- src/line.rt:80:1
+returns : tie.Need-returns
+returns c = search (needs, state-put)
+
+pub put-state-spec : {M : Type 1} → statement M
+put-state-spec = tie.close (tie.spec put-mode-requires put-pair-requires same-length returns)

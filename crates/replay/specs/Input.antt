@@ -1,0 +1,34 @@
+-- What the bytes of the input say.
+-- Assumes nothing.
+use Prim.Native.Nat.{ℕ, _+_, _-_}
+use mathlib.Core.Bool.{Bool}
+use mathlib.Core.List.{List}
+use lib.ListN.{length, getD}
+use Rattle.base.specs.Tests.{_<?_, pick}
+use Rattle.base.specs.Bytes.{numberAt}
+use Rattle.format.specs.Types.{Reading, says, refused}
+use Rattle.format.specs.Setup as format
+use Rattle.format.specs.Setup.{readSetup}
+use Rattle.replay.specs.declared.input.Setup.{Setup}
+use Rattle.replay.specs.declared.input.Next.{Next}
+use Rattle.replay.specs.declared.input.Next.the-variants.{Event, Wrong, More, Done}
+
+-- What the set-up reads as: its number, or 0.
+unfoldable pub setupNumbers : Reading format.Setup → Setup
+setupNumbers (says s) = record { number = 0; servers = s .servers; quota = s .quota }
+setupNumbers (refused k) = record { number = k; servers = 0; quota = 0 }
+
+unfoldable pub setupOf : List ℕ → Setup
+setupOf e = setupNumbers (readSetup 4 16 e)
+
+unfoldable pub cutShort : Bool → Next
+cutShort ended = pick ended (Wrong 1) More
+
+-- What comes next of n servers; whether the input has ended with these bytes. "A server byte from n up, or an event cut short by the input's end".
+unfoldable pub nextOf : (n : ℕ) → List ℕ → Bool → Next
+nextOf n input ended =
+    pick (length input <? 1) (pick ended Done More)
+    (pick (getD input 0 0 <? n)
+    (pick (length input <? 3) (cutShort ended)
+    (pick (length input - 1 <? numberAt 2 input 1 + 2) (cutShort ended) (Event (numberAt 2 input 1 + 2))))
+    (Wrong 2))

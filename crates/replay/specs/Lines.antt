@@ -1,0 +1,38 @@
+-- Lines in a buffer.
+-- Assumes nothing.
+use Prim.Native.Nat.{ℕ, _+_, _≤_}
+use mathlib.Core.Path.{_≡_}
+use mathlib.Core.List.{List, [], _∷_, _++_}
+use lib.ListN.{length, take}
+use Rattle.base.specs.Text.{ascii, decimal}
+use Rattle.replication.specs.Replay.{modeName, line}
+use Rattle.engine.specs.Decode.{modeNamed}
+use Rattle.replay.specs.declared.line.Shown.{Shown}
+
+-- The text that ends at `at` in o is followed by w, of at most so many bytes, and then ends at r.
+pub record Put (w : List ℕ) (size at r : ℕ) (o o′ : List ℕ) : Type 0 where
+  pub text : take r o′ ≡ take at o ++ w
+  pub least : at ≤ r
+  pub most : r ≤ at + size
+  pub same : length o′ ≡ length o
+
+-- A word and a space; a word and the line's end.
+unfoldable pub spaced : List ℕ → List ℕ
+spaced w = w ++ ascii " "
+
+unfoldable pub ended : List ℕ → List ℕ
+ended w = w ++ ascii "\n"
+
+-- An event's line.
+unfoldable pub shownLine : Shown → List ℕ
+shownLine s =
+    line
+    (decimal (s .number)
+    ∷ decimal (s .server)
+    ∷ decimal (s .returned)
+    ∷ modeName (modeNamed (s .mode))
+    ∷ decimal (s .red)
+    ∷ decimal (s .green)
+    ∷ decimal (s .prim)
+    ∷ decimal (s .sent)
+    ∷ [])

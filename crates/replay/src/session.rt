@@ -1,0 +1,135 @@
+// One event of the input at the table of servers, and its line.
+ghost use mathlib.Core.Path.{_≡_};
+ghost use Prim.Native.Nat.{_+_, _-_, _≤_, _<_};
+ghost use mathlib.Core.List.{[], _∷_};
+ghost use lib.ListN.{length, getD};
+ghost use Rattle.base.specs.Bytes.{numberAt};
+ghost use Rattle.io.specs.Counts.{Counts};
+ghost use Rattle.servers.specs.Table.{altered};
+ghost use Rattle.replay.specs.Lines.{Put};
+ghost use Rattle.replay.specs.declared.input.Next.the-variants.{Event};
+ghost use Rattle.replay.specs.Session.{shownOf, lineAt, turned, turnBy, turnOf};
+use crate::input::Next;
+use crate::input::next_in;
+use crate::line::Shown;
+use crate::line::event_line;
+use crate::line::input_line;
+use record::bytes::num32;
+use servers::Reply;
+use servers::Server;
+use servers::run_one;
+
+fn difference(m: u32, n: u32) -> u32
+    ensures { λ r. ⌜ r ≡ m - n ⌝ }
+{
+    if m < n {
+        return 0;
+    }
+    m - n
+}
+
+// A number in four bytes.
+fn number(a: u8, b: u8, c: u8, d: u8) -> u32
+    ensures { λ r. ⌜ r ≡ numberAt 4 (a ∷ b ∷ c ∷ d ∷ []) 0 ⌝ }
+{
+    let bytes = [a, b, c, d];
+    num32(&bytes, 0)
+}
+
+// "Red counts held actions not green; prim is the primary index; sent counts records put out."
+fn shown(event: u64, server: u8, reply: Reply, s: Server) -> Shown
+    ensures { λ r. ⌜ r ≡ shownOf event server reply (s .state) ⌝ }
+{
+    let b = s.state;
+    let held = number(b[19], b[20], b[21], b[22]);
+    let green = number(b[23], b[24], b[25], b[26]);
+    let prim = number(b[37], b[38], b[39], b[40]);
+    Shown {
+        number: event,
+        server: server as u64,
+        returned: reply.number as u64,
+        mode: b[4],
+        red: difference(held, green) as u64,
+        green: green as u64,
+        prim: prim as u64,
+        sent: reply.sent as u64,
+    }
+}
+
+// The table after an event, and the length of its line.
+struct Answered {
+    table: [Server; 4],
+    length: usize,
+}
+
+// The event e at the server k.
+fn answer(t: [Server; 4], event: u64, k: u8, e: &[u8], out: &mut [u8]) -> Answered
+    requires { ⌜ (k < 4) × (164 ≤ length (now out)) ⌝ }
+    ensures { λ r. ⌜ (r .table ≡ altered t k (now (e .entry))) × Put (lineAt t event k (now (e .entry))) 164 0 (r .length) (now (out .entry)) (now (out .exit)) ⌝ }
+{
+    let at = k as usize;
+    let r = run_one(t, at, e);
+    let table = r.table;
+    let length = event_line(out, shown(event, k, r.reply, table[at]));
+    Answered { table, length }
+}
+
+// What comes after a turn: the next one, more input, or nothing.
+pub enum Going {
+    On,
+    Read,
+    Stop,
+}
+
+// The table after a turn, how many bytes of the input it took, the length of its line, and what comes after it.
+pub struct Turn {
+    pub table: [Server; 4],
+    pub taken: usize,
+    pub length: usize,
+    pub going: Going,
+}
+
+// The event of `size` bytes behind its server byte.
+fn take_event(t: [Server; 4], event: u64, input: &[u8], size: usize, out: &mut [u8]) -> Turn
+    requires { ⌜ (getD (now input) 0 0 < 4) × (size + 1 ≤ length (now input)) × (164 ≤ length (now out)) ⌝ }
+    ensures { λ r. ⌜ turned r (now (out .exit)) ≡ turnBy (Event size) t event (now (input .entry)) ⌝ }
+    ensures { λ r. ⌜ Counts (r .length) (now (out .exit)) ⌝ }
+{
+    let a = answer(t, event, input[0], &input[1..size + 1], out);
+    let table = a.table;
+    Turn {
+        table,
+        taken: size + 1,
+        length: a.length,
+        going: Going::On,
+    }
+}
+
+// One event of the input, or what else comes next: the line is put into `out`.
+pub fn take_turn(t: [Server; 4], servers: u8, event: u64, input: &[u8], ended: bool, out: &mut [u8]) -> Turn
+    requires { ⌜ (servers ≤ 4) × (164 ≤ length (now out)) ⌝ }
+    ensures { λ r. ⌜ turned r (now (out .exit)) ≡ turnOf t servers event (now (input .entry)) ended ⌝ }
+    ensures { λ r. ⌜ Counts (r .length) (now (out .exit)) ⌝ }
+{
+    match next_in(servers, input, ended) {
+        Next::Event(size) => take_event(t, event, input, size, out),
+        Next::Wrong(number) => Turn {
+            table: t,
+            taken: 0,
+            length: input_line(out, number),
+            going: Going::Stop,
+        },
+        Next::More => Turn {
+            table: t,
+            taken: 0,
+            length: 0,
+            going: Going::Read,
+        },
+        Next::Done => Turn {
+            table: t,
+            taken: 0,
+            length: 0,
+            going: Going::Stop,
+        },
+    }
+}

@@ -1,0 +1,7 @@
+pub mod CoreLaws
+pub mod Entry
+pub mod Keeping
+pub mod RecoveryLaws
+pub mod StartingLaws
+pub mod Tabled
+pub mod TableLaws

@@ -1,0 +1,87 @@
+-- The start in an entry.
+-- Assumes nothing.
+use Prim.Native.Nat.{ℕ, zero, suc, _≤_, _<_}
+use mathlib.Core.Path.{_≡_, refl, sym, ap, subst, _∙_}
+use mathlib.Core.Bool.{true}
+use mathlib.Core.List.{List, [], _∷_}
+use native.Mathlib.Omega.{arith}
+use lib.ListN.{length}
+use Rattle.base.specs.Tests.{pick-yes, pick-lt, pick-ge}
+use Rattle.base.specs.Lists.{sum}
+use Rattle.format.specs.Range.{sizesOk}
+use Rattle.replication.specs.Machine.Types.{start}
+use Rattle.replication.specs.Images.{started}
+use Rattle.replication.proofs.WellFormed.Runs.{start-well-formed}
+use Rattle.engine.specs.Layout.{stateSize, sections, stateLength, outLength}
+use Rattle.engine.specs.Image.{zeros, image}
+use Rattle.engine.specs.Outcome as outcome
+use Rattle.engine.specs.Outcome.{startOn}
+use Rattle.engine.proofs.ImageLaws.{image-length, image-again}
+use Rattle.engine.proofs.InPlace.{Holds}
+use Rattle.engine.proofs.StartLaws.{zeros-length}
+use Rattle.servers.specs.declared.Server.{Server}
+use Rattle.servers.specs.Starting.{alike, freshOf, freshTable}
+use Rattle.servers.proofs.Keeping.{Keeps}
+use Rattle.servers.specs.Core.{stateRoom, outRoom}
+
+-- ---- as the code makes it
+
+pub fresh-made : (n q k r : ℕ) (b z : List ℕ) → z ≡ zeros stateRoom → outcome.started r b ≡ startOn n q k z → record { state = b; store = b } ≡ freshOf n q k
+unfolding freshOf alike outcome.started
+fresh-made n q k r b z e h = ap (λ (x : outcome.Started). alike (x .state)) (h ∙ ap (startOn n q k) e)
+
+pub table-made : (n q : ℕ) (a b c d : Server) → a ≡ freshOf n q 0 → b ≡ freshOf n q 1 → c ≡ freshOf n q 2 → d ≡ freshOf n q 3
+    → a ∷ b ∷ c ∷ d ∷ [] ≡ freshTable n q
+unfolding freshTable
+table-made n q a b c d e f g h = λ i. e i ∷ f i ∷ g i ∷ h i ∷ []
+
+-- ---- there is room
+
+state-room : (n q : ℕ) → n ≤ 4 → q ≤ 16 → stateLength n q ≤ stateRoom
+unfolding stateLength sections stateSize sum
+state-room zero q h k = omega arith
+state-room (suc zero) q h k = omega arith
+state-room (suc (suc zero)) q h k = omega arith
+state-room (suc (suc (suc zero))) q h k = omega arith
+state-room (suc (suc (suc (suc zero)))) q h k = omega arith
+state-room (suc (suc (suc (suc (suc n))))) q h k = absurd (omega arith)
+
+out-room : (n q : ℕ) → n ≤ 4 → q ≤ 16 → outLength n q ≤ outRoom
+unfolding outLength
+out-room zero q h k = omega arith
+out-room (suc zero) q h k = omega arith
+out-room (suc (suc zero)) q h k = omega arith
+out-room (suc (suc (suc zero))) q h k = omega arith
+out-room (suc (suc (suc (suc zero)))) q h k = omega arith
+out-room (suc (suc (suc (suc (suc n))))) q h k = absurd (omega arith)
+
+-- ---- the entry keeps the start
+
+module _ (n q k : ℕ) (sizes : sizesOk n q ≡ true) (few : n ≤ 4) (small : q ≤ 16) (own : k < n) where
+  long : stateLength n q ≤ length (zeros stateRoom)
+  long = omega (arith, state-room n q few small, zeros-length stateRoom)
+
+  start-holds : Holds (start n q k) (image (start n q k) (zeros stateRoom))
+  unfolding start
+  start-holds =
+      let ok = start-well-formed n q k sizes own in
+      record { formed = ok; written = image-again (start n q k) (zeros stateRoom) ok long; long = omega (arith, long, image-length (start n q k) (zeros stateRoom) ok long) }
+
+  fresh-is : freshOf n q k ≡ alike (image (start n q k) (zeros stateRoom))
+  unfolding freshOf startOn outcome.started
+  fresh-is =
+      ap (λ (x : outcome.Started). alike (x .state))
+      (sym
+      (pick-yes (sizesOk n q) (outcome.started 0 (image (start n q k) (zeros stateRoom))) _ _ sizes
+      (pick-ge (length (zeros stateRoom)) (stateLength n q) _ _ _ long (pick-lt k n _ _ _ own refl))))
+
+  pub fresh-keeps : Keeps (started (start n q k)) (freshOf n q k)
+  unfolding started alike start
+  fresh-keeps =
+      subst (Keeps (started (start n q k))) (sym fresh-is)
+      (record {
+        memory = start-holds;
+        store = start-holds;
+        same = record { servers = refl; quota = refl; me = refl };
+        room = out-room n q few small;
+      })

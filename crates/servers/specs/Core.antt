@@ -1,0 +1,51 @@
+-- What an event makes of a server, and the reply.
+-- Assumes nothing.
+use Prim.Native.Nat.{ℕ, zero, suc, _+_}
+use mathlib.Core.Bool.{Bool}
+use mathlib.Core.List.{List}
+use lib.ListN.{length, take, drop, getD}
+use Rattle.base.specs.Tests.{_and_, _<?_, _=?_, pick}
+use Rattle.base.specs.Bytes.{numberAt}
+use Rattle.engine.specs.Image.{zeros}
+use Rattle.engine.specs.Outcome.{Result, stepOn}
+use Rattle.servers.specs.declared.Server.{Server}
+use Rattle.servers.specs.declared.Reply.{Reply}
+use Rattle.servers.specs.declared.Stepped.{Stepped}
+
+-- The lengths of both buffers for four servers and the quota 16.
+abbrev pub stateRoom : ℕ
+stateRoom = 6500
+
+abbrev pub outRoom : ℕ
+outRoom = 8320
+
+-- The recovery's record: no other bytes read as one.
+unfoldable pub isRecovery : List ℕ → Bool
+isRecovery e = length e =? 4 and getD e 0 0 =? 0 and getD e 1 0 =? 2 and getD e 2 0 =? 1 and getD e 3 0 =? 8
+
+-- "Recovery starts from that server's last stored image."
+unfoldable pub sourceIn : Server → List ℕ → List ℕ
+sourceIn s e = pick (isRecovery e) (s .store) (s .state)
+
+-- "What is stored is the event's whole new state"; a refused event leaves all as before.
+unfoldable pub entryAfter : Server → (number store : ℕ) → List ℕ → Server
+entryAfter s number store state =
+    pick (number =? 0) (record { state = state; store = pick (store =? 1) state (s .store) }) s
+
+-- How many records there are, by their length bytes; the first argument bounds how many.
+unfoldable pub recordsFrom : ℕ → List ℕ → ℕ
+recordsFrom zero e = 0
+recordsFrom (suc d) e = pick (length e <? 2) 0 (suc (recordsFrom d (drop (numberAt 2 e 0 + 2) e)))
+
+unfoldable pub recordsIn : List ℕ → ℕ
+recordsIn e = recordsFrom (length e) e
+
+-- The entry and the reply after a step with this result.
+unfoldable pub afterStep : Server → Result → Stepped
+afterStep s r = record {
+  server = entryAfter s (r .number) (r .store) (r .state);
+  reply = record { number = r .number; sent = recordsIn (take (r .sent) (r .out)) };
+}
+
+unfoldable pub coreOf : Server → List ℕ → Stepped
+coreOf s e = afterStep s (stepOn (sourceIn s e) e (zeros outRoom))

@@ -1,0 +1,3 @@
+pub mod Core
+pub mod Starting
+pub mod Table

@@ -1,0 +1,90 @@
+// What a step takes of a server, and what it leaves there.
+ghost use mathlib.Core.Path.{_≡_};
+ghost use Prim.Native.Nat.{_+_, _≤_};
+ghost use lib.ListN.{length, take, drop};
+ghost use Rattle.base.specs.Bytes.{numberAt};
+ghost use Rattle.servers.specs.Core.{isRecovery, sourceIn, entryAfter, recordsIn};
+use crate::STATE_ROOM;
+use crate::Server;
+use record::bytes::num16;
+
+// The event is the recovery's record.
+fn is_recovery(e: &[u8]) -> bool
+    ensures { λ r. ⌜ r ≡ isRecovery (now (e .entry)) ⌝ }
+{
+    if e.len() != 4 {
+        return false;
+    }
+    if e[0] != 0 {
+        return false;
+    }
+    if e[1] != 2 {
+        return false;
+    }
+    if e[2] != 1 {
+        return false;
+    }
+    e[3] == 8
+}
+
+// The state that the event comes to.
+pub fn source(s: Server, e: &[u8]) -> [u8; STATE_ROOM]
+    ensures { λ r. ⌜ r ≡ sourceIn s (now (e .entry)) ⌝ }
+{
+    if is_recovery(e) {
+        return s.store;
+    }
+    s.state
+}
+
+// The entry with the new state, stored too where the store word is 1; as before where the event was refused.
+pub fn kept(s: Server, state: [u8; STATE_ROOM], number: u32, store: u32) -> Server
+    ensures { λ r. ⌜ r ≡ entryAfter s number store state ⌝ }
+{
+    if number != 0 {
+        return s;
+    }
+    if store == 1 {
+        return Server {
+            state,
+            store: state,
+        };
+    }
+    let old = s.store;
+    Server { state, store: old }
+}
+
+// The place behind the record at `at`, by its length bytes; the end where it would lie beyond.
+fn behind(out: &[u8], at: usize) -> usize
+    requires { ⌜ at + 2 ≤ length (now out) ⌝ }
+    ensures { λ r. ⌜ (at + 2 ≤ r) × (r ≤ length (now (out .entry))) × (drop r (now (out .entry)) ≡ drop (at + (numberAt 2 (now (out .entry)) at + 2)) (now (out .entry))) ⌝ }
+{
+    let size = num16(out, at) as usize;
+    if out.len() - at - 2 < size {
+        return out.len();
+    }
+    at + 2 + size
+}
+
+// How many records the first `sent` bytes are.
+pub fn records(out: &[u8], sent: u32) -> usize
+    ensures { λ r. ⌜ r ≡ recordsIn (take sent (now (out .entry))) ⌝ }
+{
+    let end = sent as usize;
+    if end < out.len() {
+        return count(&out[..end]);
+    }
+    count(out)
+}
+
+fn count(out: &[u8]) -> usize
+    ensures { λ r. ⌜ r ≡ recordsIn (now (out .entry)) ⌝ }
+{
+    let mut at = 0;
+    let mut n = 0;
+    while 2 <= out.len() - at {
+        at = behind(out, at);
+        n += 1;
+    }
+    n
+}
