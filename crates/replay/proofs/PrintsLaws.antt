@@ -4,7 +4,6 @@ use Prim.Native.Nat.{ℕ, suc, _+_, _-_, _≤_, _<_}
 use mathlib.Core.Path.{_≡_, refl, sym, ap, subst, _∙_}
 use mathlib.Core.Bool.{Bool, true, false}
 use mathlib.Core.List.{List, [], _∷_, _++_, append-nil, map}
-use mathlib.Core.Option.{some}
 use native.Mathlib.Omega.{arith}
 use lib.ListN.{length, getD, take, drop, length-append}
 use lib.Seq.{take-append-le, drop-append-le}
@@ -123,11 +122,11 @@ module _ (t : List Images) (s : List declared.Server) (r : Tabled t s) (event : 
 
     wrong-prints : (p : List ℕ) (k : ℕ) → Comes (length t) p ended (Wrong k) → events (suc d) event t (p ++ f) ≡ inputLine k
     unfolding recordLength
-    wrong-prints [] k (wrong k e some h) = absurd (omega arith)
-    wrong-prints [] k (cut k e last some h l) = absurd (omega arith)
-    wrong-prints (q ∷ rest) k (wrong k e some h) = events-wrong d event t q (rest ++ f) h ∙ ap inputLine (sym e)
-    wrong-prints (q ∷ rest) k (cut k e last some h l) =
-        cut-prints q rest h (omega (arith, number-behind-one q rest)) last ∙ ap inputLine (sym e)
+    wrong-prints [] k (wrong j e there h) = absurd (omega arith)
+    wrong-prints [] k (cut j e end there h l) = absurd (omega arith)
+    wrong-prints (q ∷ rest) k (wrong j e there h) = events-wrong d event t q (rest ++ f) h ∙ ap inputLine (sym e)
+    wrong-prints (q ∷ rest) k (cut j e end there h l) =
+        cut-prints q rest h (omega (arith, number-behind-one q rest)) end ∙ ap inputLine (sym e)
 
     none-prints : (p : List ℕ) → Comes (length t) p ended Done → events (suc d) event t (p ++ f) ≡ []
     unfolding events
