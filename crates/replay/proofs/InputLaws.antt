@@ -72,8 +72,12 @@ module _ (e : List ℕ) where
             let p = and-holds (sizesOk (numberAt 1 e 4) (numberAt 2 e 5)) _ h in
             let p₁ = and-holds (numberAt 1 e 4 ≤? 4) (numberAt 2 e 5 ≤? 16) (p .1) in
             absurd
-            (no-way
-            ((λ i. sizesOk (is-n i) (is-q i)) ∙ p .0, omega (arith, le-holds (numberAt 1 e 4) 4 (p₁ .0)), omega (arith, le-holds (numberAt 2 e 5) 16 (p₁ .1))))
+            (no-way (
+              (λ i. sizesOk (is-n i) (is-q i))
+                  ∙ p .0,
+              omega (arith, le-holds (numberAt 1 e 4) 4 (p₁ .0)),
+              omega (arith, le-holds (numberAt 2 e 5) 16 (p₁ .1)),
+            ))
         go (fails h) =
             two ∙ ap setupNumbers (pick-yes (setupFrameOk e) (refused 2) _ _ framed (pick-no (setupOk 4 16 (setupIn e)) (refused 2) _ _ h refl))
 
@@ -92,8 +96,9 @@ module _ (e : List ℕ) where
         let s : format.Setup = record { servers = numberAt 1 e 4; quota = numberAt 2 e 5 } in
         let sizes : sizesOk (numberAt 1 e 4) (numberAt 2 e 5) ≡ true = (λ i. sizesOk (sym is-n i) (sym is-q i)) ∙ sym is-t ∙ not-false t h in
         let ok : (sizesOk (numberAt 1 e 4) (numberAt 2 e 5) and numberAt 1 e 4 ≤? 4 and numberAt 2 e 5 ≤? 16) ≡ true
-            = both-yes _ _ sizes (both-yes _ _ (le-yes _ _ (omega arith)) (le-yes _ _ (omega arith))) in
-        let left : _≡_ {A = Setup} (record { number = 0; servers = n; quota = q }) (setupNumbers (says s)) = λ i. record { number = 0; servers = is-n i; quota = is-q i } in
+        = both-yes _ _ sizes (both-yes _ _ (le-yes _ _ (omega arith)) (le-yes _ _ (omega arith))) in
+        let left : _≡_ {A = Setup} (record { number = 0; servers = n; quota = q }) (setupNumbers (says s)) = λ i. record
+        { number = 0; servers = is-n i; quota = is-q i } in
         left ∙ ap setupNumbers (pick-yes (setupFrameOk e) (says s) _ _ framed (pick-yes _ (says s) _ _ ok refl))
 
 -- ---- what comes next

@@ -21,14 +21,15 @@ use Rattle.engine.specs.Image.{modeNumber}
 use Rattle.engine.specs.Decode.{modeNamed}
 use Rattle.engine.proofs.HeaderRead.{mode-named}
 use Rattle.replay.specs.declared.line.Shown.{Shown}
-use Rattle.replay.specs.Lines.{Put, spaced, ended, shownLine}
+use Rattle.replay.specs.Lines.{Put, spaced, ended, frontText, stateText, backText, shownLine}
 use Rattle.replay.proofs.DecimalLaws.{digits-few, decimal-digits}
 
 pub word-put : (w o o′ : List ℕ) (at : ℕ) → at + length w ≤ length o → o′ ≡ patched at w o → Put w (length w) at (at + length w) o o′
 unfolding patched
 word-put w o o′ at h e =
     let tail : List ℕ = drop (at + length w) o in
-    let head : length (take at o ++ w) ≡ at + length w = length-append (take at o) w ∙ ap (λ (m : ℕ). m + length w) (length-take-le at o (omega arith)) in
+    let head : length (take at o ++ w) ≡ at + length w = length-append (take at o) w
+    ∙ ap (λ (m : ℕ). m + length w) (length-take-le at o (omega arith)) in
     record {
       text = ap (take (at + length w)) (e ∙ sym (append-assoc (take at o) w tail)) ∙ take-at (take at o ++ w) tail (at + length w) head;
       least = omega arith;
@@ -45,7 +46,8 @@ put-then w v m l at r k o o₁ o₂ p q = record {
   same = q .same ∙ p .same;
 }
 
-pub number-room : (d o : List ℕ) (v k at : ℕ) → Fits w64 v → Fewest 10 1 v k → k ≡ length (take k d) → at + 20 ≤ length o → at + length (take k d) ≤ length o
+pub number-room : (d o : List ℕ) (v k at : ℕ) → Fits w64 v → Fewest 10 1 v k → k ≡ length (take k d) → at + 20 ≤ length o
+    → at + length (take k d) ≤ length o
 number-room d o v k at h f e l = omega (arith, digits-few v k h f)
 
 pub number-put : (d o o₁ : List ℕ) (v k at r : ℕ) → Put (take k d) (length (take k d)) at r o o₁ → Fits w64 v → Fewest 10 1 v k
@@ -102,11 +104,13 @@ module _ (mode at r : ℕ) (o o₁ : List ℕ) where
 
   pub states-put : mode ≡ 3 → WordPut (ascii "Exchange_states ") → NamePut
   unfolding ascii modeName modeNumber
-  states-put e p = named-put Exchange-states mode at r (ascii "Exchange_states ") o o₁ (ap modeNamed e ∙ mode-named Exchange-states) refl (omega arith) p
+  states-put e p = named-put Exchange-states mode at r (ascii "Exchange_states ") o o₁ (ap modeNamed e ∙ mode-named Exchange-states) refl
+      (omega arith) p
 
   pub actions-put : mode ≡ 4 → WordPut (ascii "Exchange_actions ") → NamePut
   unfolding ascii modeName modeNumber
-  actions-put e p = named-put Exchange-actions mode at r (ascii "Exchange_actions ") o o₁ (ap modeNamed e ∙ mode-named Exchange-actions) refl (omega arith) p
+  actions-put e p = named-put Exchange-actions mode at r (ascii "Exchange_actions ") o o₁ (ap modeNamed e ∙ mode-named Exchange-actions) refl
+      (omega arith) p
 
   pub construct-put : mode ≡ 5 → WordPut (ascii "Construct ") → NamePut
   unfolding ascii modeName modeNumber
@@ -159,12 +163,10 @@ put-as w v o o₁ m l at r p e h = record {
 }
 
 abbrev frontOf : Shown → List ℕ
-frontOf s = (spaced (decimal (s .number)) ++ spaced (decimal (s .server))) ++ spaced (decimal (s .returned))
+frontOf s = frontText (s .number) (s .server) (s .returned)
 
 abbrev restOf : Shown → List ℕ
-restOf s =
-    (spaced (modeName (modeNamed (s .mode))) ++ (spaced (decimal (s .red)) ++ spaced (decimal (s .green))))
-    ++ (spaced (decimal (s .prim)) ++ ended (decimal (s .sent)))
+restOf s = stateText (s .mode) (s .red) (s .green) ++ backText (s .prim) (s .sent)
 
 shown-parts : (s : Shown) → frontOf s ++ restOf s ≡ shownLine s
 unfolding shownLine line spaced ended
@@ -172,18 +174,23 @@ shown-parts s = simp append-assoc
 
 pub line-put : (s : Shown) (o o₁ o₂ : List ℕ) (r k : ℕ) → Put (frontOf s) 63 0 r o o₁ → Put (restOf s) 101 r k o₁ o₂ → Put (shownLine s) 164 0 k o o₂
 line-put s o o₁ o₂ r k p q =
-    put-as (frontOf s ++ restOf s) (shownLine s) o o₂ 164 164 0 k (put-then (frontOf s) (restOf s) 63 101 0 r k o o₁ o₂ p q) (shown-parts s) (omega arith)
+    put-as (frontOf s ++ restOf s) (shownLine s) o o₂ 164 164 0 k (put-then (frontOf s) (restOf s) 63 101 0 r k o o₁ o₂ p q) (shown-parts s)
+    (omega arith)
 
 pub header-put : (o o₁ : List ℕ) (r : ℕ) → Put header (length header) 0 r o o₁ → Put header 64 0 r o o₁
 unfolding header ascii
 header-put o o₁ r p = put-as header header o o₁ 48 64 0 r p refl (omega arith)
 
-pub input-put : (k r l : ℕ) (o o₁ o₂ : List ℕ) → Put (ascii "input ") (length (ascii "input ")) 0 r o o₁ → Put (ended (decimal k)) 21 r l o₁ o₂ → Put (inputLine k) 64 0 l o o₂
+pub input-put : (k r l : ℕ) (o o₁ o₂ : List ℕ) → Put (ascii "input ") (length (ascii "input ")) 0 r o o₁ → Put (ended (decimal k)) 21 r l o₁ o₂
+    → Put (inputLine k) 64 0 l o o₂
 unfolding ascii inputLine line ended
 input-put k r l o o₁ o₂ p q =
-    put-as (ascii "input " ++ ended (decimal k)) (inputLine k) o o₂ 27 64 0 l (put-then (ascii "input ") (ended (decimal k)) 6 21 0 r l o o₁ o₂ p q) refl (omega arith)
+    put-as (ascii "input " ++ ended (decimal k)) (inputLine k) o o₂ 27 64 0 l
+    (put-then (ascii "input ") (ended (decimal k)) 6 21 0 r l o o₁ o₂ p q) refl (omega arith)
 
-pub setup-put : (k r l : ℕ) (o o₁ o₂ : List ℕ) → Put (ascii "setup ") (length (ascii "setup ")) 0 r o o₁ → Put (ended (decimal k)) 21 r l o₁ o₂ → Put (setupLine k) 64 0 l o o₂
+pub setup-put : (k r l : ℕ) (o o₁ o₂ : List ℕ) → Put (ascii "setup ") (length (ascii "setup ")) 0 r o o₁ → Put (ended (decimal k)) 21 r l o₁ o₂
+    → Put (setupLine k) 64 0 l o o₂
 unfolding ascii setupLine line ended
 setup-put k r l o o₁ o₂ p q =
-    put-as (ascii "setup " ++ ended (decimal k)) (setupLine k) o o₂ 27 64 0 l (put-then (ascii "setup ") (ended (decimal k)) 6 21 0 r l o o₁ o₂ p q) refl (omega arith)
+    put-as (ascii "setup " ++ ended (decimal k)) (setupLine k) o o₂ 27 64 0 l
+    (put-then (ascii "setup ") (ended (decimal k)) 6 21 0 r l o o₁ o₂ p q) refl (omega arith)

@@ -4,7 +4,6 @@ use Prim.Native.Nat.{ℕ, suc, _+_, _-_, _≤_, _<_}
 use mathlib.Core.Path.{_≡_, refl, sym, ap, subst, _∙_}
 use mathlib.Core.Bool.{Bool, true, false}
 use mathlib.Core.List.{List, [], _∷_, _++_, append-nil, map}
-use mathlib.Core.Option.{some}
 use native.Mathlib.Omega.{arith}
 use lib.ListN.{length, getD, take, drop, length-append}
 use lib.Seq.{take-append-le, drop-append-le}
@@ -37,7 +36,8 @@ chosen server whole y = elim server [ false ↦ inputLine 2 | true ↦ elim whol
 module _ (d event : ℕ) (t : List Images) (k : ℕ) (x : List ℕ) where
   -- The line of the event in front, and the lines of those behind it.
   abbrev lines : List ℕ
-  lines = lineFor event k (take (recordLength x) x) (at t k) ++ events d (event + 1) (tableAfter k (take (recordLength x) x) (at t k) t) (drop (recordLength x) x)
+  lines = lineFor event k (take (recordLength x) x) (at t k) ++ events d (event + 1) (tableAfter k (take (recordLength x) x) (at t k) t)
+      (drop (recordLength x) x)
 
   opened : events (suc d) event t (k ∷ x) ≡ chosen (k <? length t) (recordLength x ≤? length x) lines
   unfolding events
@@ -98,8 +98,10 @@ module _ (t : List Images) (s : List declared.Server) (r : Tabled t s) (event : 
       let size : recordLength (rest ++ f) ≡ m = size-read (length t) m k rest f w in
       let inside : m ≤ length rest = omega (arith, w .inside) in
       let long : recordLength (rest ++ f) ≤ length (rest ++ f) = omega (arith, length-append rest f) in
-      let front : take (recordLength (rest ++ f)) (rest ++ f) ≡ take m rest = ap (λ (x : ℕ). take x (rest ++ f)) size ∙ take-append-le m rest f inside in
-      let behind : drop (recordLength (rest ++ f)) (rest ++ f) ≡ drop m rest ++ f = ap (λ (x : ℕ). drop x (rest ++ f)) size ∙ drop-append-le m rest f inside in
+      let front : take (recordLength (rest ++ f)) (rest ++ f) ≡ take m rest = ap (λ (x : ℕ). take x (rest ++ f)) size
+      ∙ take-append-le m rest f inside in
+      let behind : drop (recordLength (rest ++ f)) (rest ++ f) ≡ drop m rest ++ f = ap (λ (x : ℕ). drop x (rest ++ f)) size
+      ∙ drop-append-le m rest f inside in
       let place : m + 1 ≡ suc m = omega arith in
       events-whole d event t k (rest ++ f) (w .server) long
       ∙ (λ i. lineFor event k (front i) (at t k) ++ events d (event + 1) (tableAfter k (front i) (at t k) t) (behind i))
@@ -115,7 +117,8 @@ module _ (t : List Images) (s : List declared.Server) (r : Tabled t s) (event : 
 
   module _ (d : ℕ) (f : List ℕ) (last : ended ≡ true → f ≡ []) where
     -- The input is cut short by its end.
-    cut-prints : (q : ℕ) (rest : List ℕ) → q < length t → length rest < recordLength rest → ended ≡ true → events (suc d) event t ((q ∷ rest) ++ f) ≡ inputLine 1
+    cut-prints : (q : ℕ) (rest : List ℕ) → q < length t → length rest < recordLength rest → ended ≡ true
+        → events (suc d) event t ((q ∷ rest) ++ f) ≡ inputLine 1
     cut-prints q rest h l e =
         ap (λ (y : List ℕ). events (suc d) event t (q ∷ (rest ++ y))) (last e)
         ∙ ap (λ (y : List ℕ). events (suc d) event t (q ∷ y)) (append-nil rest)
@@ -123,11 +126,11 @@ module _ (t : List Images) (s : List declared.Server) (r : Tabled t s) (event : 
 
     wrong-prints : (p : List ℕ) (k : ℕ) → Comes (length t) p ended (Wrong k) → events (suc d) event t (p ++ f) ≡ inputLine k
     unfolding recordLength
-    wrong-prints [] k (wrong k e some h) = absurd (omega arith)
-    wrong-prints [] k (cut k e last some h l) = absurd (omega arith)
-    wrong-prints (q ∷ rest) k (wrong k e some h) = events-wrong d event t q (rest ++ f) h ∙ ap inputLine (sym e)
-    wrong-prints (q ∷ rest) k (cut k e last some h l) =
-        cut-prints q rest h (omega (arith, number-behind-one q rest)) last ∙ ap inputLine (sym e)
+    wrong-prints [] k (wrong j e there h) = absurd (omega arith)
+    wrong-prints [] k (cut j e end there h l) = absurd (omega arith)
+    wrong-prints (q ∷ rest) k (wrong j e there h) = events-wrong d event t q (rest ++ f) h ∙ ap inputLine (sym e)
+    wrong-prints (q ∷ rest) k (cut j e end there h l) =
+        cut-prints q rest h (omega (arith, number-behind-one q rest)) end ∙ ap inputLine (sym e)
 
     none-prints : (p : List ℕ) → Comes (length t) p ended Done → events (suc d) event t (p ++ f) ≡ []
     unfolding events
@@ -141,9 +144,11 @@ module _ (t : List Images) (s : List declared.Server) (r : Tabled t s) (event : 
       where
         go : (x : Next) → next p ≡ x → turnBy x s event p .going ≡ Stop → events (suc d) event t (p ++ f) ≡ turnBy (next p) s event p .text
         go (Event m) e h = on-stop h
-        go (Wrong k) e h = wrong-prints p k (subst (Comes (length t) p ended) e (comes (length t) p ended)) ∙ sym (ap (λ (x : Next). turnBy x s event p .text) e)
+        go (Wrong k) e h = wrong-prints p k (subst (Comes (length t) p ended) e (comes (length t) p ended))
+            ∙ sym (ap (λ (x : Next). turnBy x s event p .text) e)
         go More e h = read-stop h
-        go Done e h = none-prints p (subst (Comes (length t) p ended) e (comes (length t) p ended)) ∙ sym (ap (λ (x : Next). turnBy x s event p .text) e)
+        go Done e h = none-prints p (subst (Comes (length t) p ended) e (comes (length t) p ended))
+            ∙ sym (ap (λ (x : Next). turnBy x s event p .text) e)
 
 -- ---- the set-up
 
@@ -164,7 +169,8 @@ starts : (e rest : List ℕ) → setupOf e .number ≡ 0
     × Tabled (fresh (setupOf e .servers) (setupOf e .quota)) (freshTable (setupOf e .servers) (setupOf e .quota))
 unfolding setupOf setupNumbers readSetup setupOk afterSetup
 starts e rest =
-    pick-as P (setupFrameOk e) _ _ (λ f. pick-as P (setupOk 4 16 (setupIn e)) _ _ (λ ok z. (refl, tabled ok)) (λ n z. absurd (omega arith))) (λ n z. absurd (omega arith))
+    pick-as P (setupFrameOk e) _ _ (λ f. pick-as P (setupOk 4 16 (setupIn e)) _ _ (λ ok z. (refl, tabled ok)) (λ n z. absurd (omega arith)))
+    (λ n z. absurd (omega arith))
   where
     P : Reading Setup → Type 0
     P x =
@@ -172,16 +178,19 @@ starts e rest =
         → (afterSetup x rest ≡ header ++ events (length rest) 1 (fresh (setupNumbers x .servers) (setupNumbers x .quota)) rest)
         × Tabled (fresh (setupNumbers x .servers) (setupNumbers x .quota)) (freshTable (setupNumbers x .servers) (setupNumbers x .quota))
 
-    tabled : setupOk 4 16 (setupIn e) ≡ true → Tabled (fresh (setupIn e .servers) (setupIn e .quota)) (freshTable (setupIn e .servers) (setupIn e .quota))
+    tabled : setupOk 4 16 (setupIn e) ≡ true
+        → Tabled (fresh (setupIn e .servers) (setupIn e .quota)) (freshTable (setupIn e .servers) (setupIn e .quota))
     tabled ok =
         let sizes = and-holds _ _ ok in
         let limits = and-holds _ _ (sizes .1) in
-        fresh-tabled (setupIn e .servers) (setupIn e .quota) (sizes .0) (le-holds (setupIn e .servers) 4 (limits .0)) (le-holds (setupIn e .quota) 16 (limits .1))
+        fresh-tabled (setupIn e .servers) (setupIn e .quota) (sizes .0) (le-holds (setupIn e .servers) 4 (limits .0))
+        (le-holds (setupIn e .quota) 16 (limits .1))
 
 -- After a good set-up the header follows, then the events at servers at their start; the table that the program makes keeps these.
 pub prints-start : (input : List ℕ) → setupOf (take 7 input) .number ≡ 0
     → (replay 4 16 input
     ≡ header ++ events (length (drop 7 input)) 1 (fresh (setupOf (take 7 input) .servers) (setupOf (take 7 input) .quota)) (drop 7 input))
-    × Tabled (fresh (setupOf (take 7 input) .servers) (setupOf (take 7 input) .quota)) (freshTable (setupOf (take 7 input) .servers) (setupOf (take 7 input) .quota))
+    × Tabled (fresh (setupOf (take 7 input) .servers) (setupOf (take 7 input) .quota))
+    (freshTable (setupOf (take 7 input) .servers) (setupOf (take 7 input) .quota))
 unfolding replay
 prints-start input e = starts (take 7 input) (drop 7 input) e

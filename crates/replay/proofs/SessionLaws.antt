@@ -35,7 +35,17 @@ pub shown-made : (event server : ℕ) (reply : Reply) (b : List ℕ) (held green
     → green ≡ numberAt 4 (getD b 23 0 ∷ getD b 24 0 ∷ getD b 25 0 ∷ getD b 26 0 ∷ []) 0
     → prim ≡ numberAt 4 (getD b 37 0 ∷ getD b 38 0 ∷ getD b 39 0 ∷ getD b 40 0 ∷ []) 0
     → red ≡ held - green
-    → record { number = event; server = server; returned = reply .number; mode = getD b 4 0; red = red; green = green; prim = prim; sent = reply .sent }
+    → record {
+      number = event;
+      server = server;
+      returned = reply .number;
+      mode = getD b 4 0;
+      red = red;
+      green = green;
+      prim = prim;
+      sent = reply
+          .sent;
+    }
     ≡ shownOf event server reply b
 unfolding shownOf
 shown-made event server reply b held green prim red h g p r =
@@ -86,7 +96,8 @@ module _ (n size : ℕ) (input : List ℕ) (ended : Bool) (x : Next) (is-x : x �
   event-inside = whole-event n input ended size (sym is-x ∙ is-event) .inside
 
 module _ (t : List Server) (n event : ℕ) (input o o₁ : List ℕ) (ended : Bool) (x : Next) (is-x : x ≡ nextOf n input ended) where
-  pub event-turn : (size : ℕ) (r : Turn) → x ≡ Event size → turned r o₁ ≡ turnBy (Event size) t event input → turned r o₁ ≡ turnOf t n event input ended
+  pub event-turn : (size : ℕ) (r : Turn) → x ≡ Event size → turned r o₁ ≡ turnBy (Event size) t event input
+      → turned r o₁ ≡ turnOf t n event input ended
   unfolding turnOf
   event-turn size r e h = h ∙ ap (λ (y : Next). turnBy y t event input) (sym e ∙ is-x)
 
@@ -95,7 +106,7 @@ module _ (t : List Server) (n event : ℕ) (input o o₁ : List ℕ) (ended : Bo
   unfolding turnOf turned turnBy
   wrong-turn k r e p =
       let left : _≡_ {A = Turned} (record { table = t; taken = 0; text = take r o₁; going = Stop }) (turnBy (Wrong k) t event input)
-          = λ i. record { table = t; taken = 0; text = p .text i; going = Stop } in
+      = λ i. record { table = t; taken = 0; text = p .text i; going = Stop } in
       left ∙ ap (λ (y : Next). turnBy y t event input) (sym e ∙ is-x)
 
   pub more-turn : x ≡ More → turned (record { table = t; taken = 0; length = 0; going = Read }) o ≡ turnOf t n event input ended
@@ -151,7 +162,7 @@ kept-front old z b y k n ended e h =
     let front : take (length old) b ≡ old = ap (take (length old)) e ∙ take-at old (drop (0 + length old) z) (length old) refl in
     let rest : List ℕ = drop k (drop (length old) b) in
     let long : length old + length y ≤ length (take (length old) b ++ (y ++ rest))
-        = omega (arith, length-append (take (length old) b) (y ++ rest), length-append y rest, ap length front) in
+    = omega (arith, length-append (take (length old) b) (y ++ rest), length-append y rest, ap length front) in
     record {
       counts = counts (length old + n) (take (length old) b ++ (y ++ rest)) (omega arith);
       front = λ l. ap (λ (x : List ℕ). take (length old) (x ++ (y ++ rest))) front ∙ take-at old (y ++ rest) (length old) refl;

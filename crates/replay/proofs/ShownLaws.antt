@@ -30,8 +30,6 @@ use Rattle.servers.specs.Table.{altered}
 use Rattle.servers.proofs.Tabled.{Tabled, entry-after, entry-arrives, reply-is, tabled-after}
 use Rattle.replay.specs.Lines.{shownLine}
 use Rattle.replay.specs.Session.{shownOf, lineAt}
-use Rattle.replay.proofs.InputLaws.{event}
-use Rattle.replay.proofs.ShownLaws.{line-shown, table-shown}
 
 -- ---- a line
 

@@ -23,6 +23,19 @@ spaced w = w ++ ascii " "
 unfoldable pub ended : List ℕ → List ℕ
 ended w = w ++ ascii "\n"
 
+-- The parts of an event's line.
+abbrev pub pairText : (v w : ℕ) → List ℕ
+pairText v w = spaced (decimal v) ++ spaced (decimal w)
+
+abbrev pub frontText : (number server returned : ℕ) → List ℕ
+frontText number server returned = pairText number server ++ spaced (decimal returned)
+
+abbrev pub stateText : (mode red green : ℕ) → List ℕ
+stateText mode red green = spaced (modeName (modeNamed mode)) ++ pairText red green
+
+abbrev pub backText : (prim sent : ℕ) → List ℕ
+backText prim sent = spaced (decimal prim) ++ ended (decimal sent)
+
 -- An event's line.
 unfoldable pub shownLine : Shown → List ℕ
 shownLine s =

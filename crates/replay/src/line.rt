@@ -6,7 +6,7 @@ ghost use lib.ListN.{length};
 ghost use Rattle.base.specs.Text.{decimal as decimalOf};
 ghost use Rattle.replication.specs.Replay.{modeName, header, inputLine, setupLine};
 ghost use Rattle.engine.specs.Decode.{modeNamed};
-ghost use Rattle.replay.specs.Lines.{Put, spaced, ended, shownLine};
+ghost use Rattle.replay.specs.Lines.{Put, spaced, ended, pairText, frontText, stateText, backText, shownLine};
 use record::blocks::copy;
 
 fn put_word(out: &mut [u8], at: usize, w: &[u8]) -> usize
@@ -63,7 +63,7 @@ fn put_mode(out: &mut [u8], at: usize, mode: u8) -> usize
 
 fn put_pair(out: &mut [u8], at: usize, v: u64, w: u64) -> usize
     requires { ⌜ at + 42 ≤ length (now out) ⌝ }
-    ensures { λ r. ⌜ Put (spaced (decimalOf v) ++ spaced (decimalOf w)) 42 at r (now (out .entry)) (now (out .exit)) ⌝ }
+    ensures { λ r. ⌜ Put (pairText v w) 42 at r (now (out .entry)) (now (out .exit)) ⌝ }
 {
     let next = put_spaced(out, at, v);
     put_spaced(out, next, w)
@@ -71,7 +71,7 @@ fn put_pair(out: &mut [u8], at: usize, v: u64, w: u64) -> usize
 
 fn put_front(out: &mut [u8], at: usize, number: u64, server: u64, returned: u64) -> usize
     requires { ⌜ at + 63 ≤ length (now out) ⌝ }
-    ensures { λ r. ⌜ Put ((spaced (decimalOf number) ++ spaced (decimalOf server)) ++ spaced (decimalOf returned)) 63 at r (now (out .entry)) (now (out .exit)) ⌝ }
+    ensures { λ r. ⌜ Put (frontText number server returned) 63 at r (now (out .entry)) (now (out .exit)) ⌝ }
 {
     let next = put_pair(out, at, number, server);
     put_spaced(out, next, returned)
@@ -79,7 +79,7 @@ fn put_front(out: &mut [u8], at: usize, number: u64, server: u64, returned: u64)
 
 fn put_state(out: &mut [u8], at: usize, mode: u8, red: u64, green: u64) -> usize
     requires { ⌜ at + 59 ≤ length (now out) ⌝ }
-    ensures { λ r. ⌜ Put (spaced (modeName (modeNamed mode)) ++ (spaced (decimalOf red) ++ spaced (decimalOf green))) 59 at r (now (out .entry)) (now (out .exit)) ⌝ }
+    ensures { λ r. ⌜ Put (stateText mode red green) 59 at r (now (out .entry)) (now (out .exit)) ⌝ }
 {
     let next = put_mode(out, at, mode);
     put_pair(out, next, red, green)
@@ -87,15 +87,23 @@ fn put_state(out: &mut [u8], at: usize, mode: u8, red: u64, green: u64) -> usize
 
 fn put_back(out: &mut [u8], at: usize, prim: u64, sent: u64) -> usize
     requires { ⌜ at + 42 ≤ length (now out) ⌝ }
-    ensures { λ r. ⌜ Put (spaced (decimalOf prim) ++ ended (decimalOf sent)) 42 at r (now (out .entry)) (now (out .exit)) ⌝ }
+    ensures { λ r. ⌜ Put (backText prim sent) 42 at r (now (out .entry)) (now (out .exit)) ⌝ }
 {
     let next = put_spaced(out, at, prim);
     put_last(out, next, sent)
 }
 
-fn put_rest(out: &mut [u8], at: usize, mode: u8, red: u64, green: u64, prim: u64, sent: u64) -> usize
+fn put_rest(
+    out: &mut [u8],
+    at: usize,
+    mode: u8,
+    red: u64,
+    green: u64,
+    prim: u64,
+    sent: u64,
+) -> usize
     requires { ⌜ at + 101 ≤ length (now out) ⌝ }
-    ensures { λ r. ⌜ Put ((spaced (modeName (modeNamed mode)) ++ (spaced (decimalOf red) ++ spaced (decimalOf green))) ++ (spaced (decimalOf prim) ++ ended (decimalOf sent))) 101 at r (now (out .entry)) (now (out .exit)) ⌝ }
+    ensures { λ r. ⌜ Put (stateText mode red green ++ backText prim sent) 101 at r (now (out .entry)) (now (out .exit)) ⌝ }
 {
     let next = put_state(out, at, mode, red, green);
     put_back(out, next, prim, sent)
@@ -126,11 +134,7 @@ pub fn header_line(out: &mut [u8]) -> usize
     requires { ⌜ 64 ≤ length (now out) ⌝ }
     ensures { λ r. ⌜ Put header 64 0 r (now (out .entry)) (now (out .exit)) ⌝ }
 {
-    put_word(
-        out,
-        0,
-        b"event server returned state red green prim sent\n",
-    )
+    put_word(out, 0, b"event server returned state red green prim sent\n")
 }
 
 // "prints `input` and 2 or 1"

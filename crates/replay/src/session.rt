@@ -106,7 +106,14 @@ fn take_event(t: [Server; 4], event: u64, input: &[u8], size: usize, out: &mut [
 }
 
 // One event of the input, or what else comes next: the line is put into `out`.
-pub fn take_turn(t: [Server; 4], servers: u8, event: u64, input: &[u8], ended: bool, out: &mut [u8]) -> Turn
+pub fn take_turn(
+    t: [Server; 4],
+    servers: u8,
+    event: u64,
+    input: &[u8],
+    ended: bool,
+    out: &mut [u8],
+) -> Turn
     requires { ⌜ (servers ≤ 4) × (164 ≤ length (now out)) ⌝ }
     ensures { λ r. ⌜ turned r (now (out .exit)) ≡ turnOf t servers event (now (input .entry)) ended ⌝ }
     ensures { λ r. ⌜ Counts (r .length) (now (out .exit)) ⌝ }

@@ -63,7 +63,7 @@ count-again e at r n i h d g =
     let here : at + 0 ≡ at = omega arith in
     let number : numberAt 2 (drop at e) 0 ≡ numberAt 2 e at = number-drop 2 e at 0 ∙ ap (numberAt 2 e) here in
     let behind : drop (numberAt 2 (drop at e) 0 + 2) (drop at e) ≡ drop r e
-        = ap (λ (m : ℕ). drop (m + 2) (drop at e)) number ∙ drop-drop (numberAt 2 e at + 2) at e ∙ sym d in
+    = ap (λ (m : ℕ). drop (m + 2) (drop at e)) number ∙ drop-drop (numberAt 2 e at + 2) at e ∙ sym d in
     omega (arith, records-next (drop at e) (omega arith), ap recordsIn behind)
 
 pub count-end : (e : List ℕ) (at n : ℕ) → length e - at < 2 → n + recordsIn (drop at e) ≡ recordsIn e → n ≡ recordsIn e
@@ -88,7 +88,8 @@ module _ (s : Server) (e : List ℕ) (t : Bool) (answer : t ≡ isRecovery e) wh
 
 -- ---- the place behind a record
 
-pub behind-end : (e : List ℕ) (at size : ℕ) → length e - at - 2 < size → size ≡ numberAt 2 e at → drop (length e) e ≡ drop (at + (numberAt 2 e at + 2)) e
+pub behind-end : (e : List ℕ) (at size : ℕ) → length e - at - 2 < size → size ≡ numberAt 2 e at
+    → drop (length e) e ≡ drop (at + (numberAt 2 e at + 2)) e
 behind-end e at size h g = drop-length e ∙ sym (drop-of-length-le e {i = at + (numberAt 2 e at + 2)} (omega arith))
 
 pub behind-inside : (e : List ℕ) (at size : ℕ) → size ≡ numberAt 2 e at → drop (at + 2 + size) e ≡ drop (at + (numberAt 2 e at + 2)) e
@@ -121,5 +122,5 @@ pub core-made : (s v : Server) (e b b₁ o o₁ : List ℕ) (a : Answer) (n : �
 unfolding coreOf afterStep answered
 core-made s v e b b₁ o o₁ a n f z h g r =
     let left : _≡_ {A = Stepped} (record { server = v; reply = record { number = a .number; sent = n } }) (afterStep s (answered a b₁ o₁))
-        = λ i. record { server = g i; reply = record { number = a .number; sent = r i } } in
+    = λ i. record { server = g i; reply = record { number = a .number; sent = r i } } in
     left ∙ ap (afterStep s) (h ∙ ap₂ {A = List ℕ} {B = List ℕ} {C = Result} (λ x y. stepOn x e y) f z)

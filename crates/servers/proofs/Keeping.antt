@@ -75,7 +75,8 @@ module _ (s : Server) (b : List ℕ) (h : Holds s b) where
   holds-step e o room = step-read b e o s (long (serversIn b) (quotaIn b) holds-servers holds-quota) holds-read
     where
       long : (n q : ℕ) → n ≡ s .servers → q ≡ s .quota
-          → pick (sizesOk n q) (length b <? stateLength n q or length o <? outLength n q) (length b <? leastStateLength or length o <? leastOutLength) ≡ false
+          → pick (sizesOk n q) (length b <? stateLength n q or length o <? outLength n q)
+          (length b <? leastStateLength or length o <? leastOutLength) ≡ false
       long n q k l =
           let sizes : sizesOk n q ≡ true = (λ i. sizesOk (k i) (l i)) ∙ formed-sizes s (h .formed) in
           let state : stateLength n q ≡ stateLength (s .servers) (s .quota) = λ i. stateLength (k i) (l i) in
@@ -127,8 +128,10 @@ written-counted c [] h = none-counted
 written-counted c (r ∷ rs) h =
     let rest : List ℕ = joined (map write rs) in
     let long : numberAt 2 (write r) 0 + 2 ≡ length (write r) = frame-long c r (h .0) in
-    let front : numberAt 2 (write r ++ rest) 0 + 2 ≡ length (write r) = ap (λ (m : ℕ). m + 2) (number-front 2 (write r) rest 0 (omega arith)) ∙ long in
-    let behind : drop (numberAt 2 (write r ++ rest) 0 + 2) (write r ++ rest) ≡ rest = drop-at (write r) rest (numberAt 2 (write r ++ rest) 0 + 2) (sym front) in
+    let front : numberAt 2 (write r ++ rest) 0 + 2 ≡ length (write r) = ap (λ (m : ℕ). m + 2) (number-front 2 (write r) rest 0 (omega arith))
+    ∙ long in
+    let behind : drop (numberAt 2 (write r ++ rest) 0 + 2) (write r ++ rest) ≡ rest = drop-at (write r) rest (numberAt 2 (write r ++ rest) 0 + 2)
+    (sym front) in
     records-next (write r ++ rest) (omega (arith, length-append (write r) rest))
     ∙ ap (λ (l : List ℕ). suc (recordsIn l)) behind
     ∙ ap suc (written-counted c rs (h .1))
@@ -144,7 +147,7 @@ unfolding over
 sent-counted s e t bs w g o ok h =
     let p = step-put-out s e t bs w g ok h in
     let all : recordsIn (joined (map write (p .0))) ≡ length (p .0)
-        = written-counted (contextOf s) (p .0) (put-out-in-range s ok (contextOf s) (own-peer s ok) (p .0) (p .2)) in
+    = written-counted (contextOf s) (p .0) (put-out-in-range s ok (contextOf s) (own-peer s ok) (p .0) (p .2)) in
     ap recordsIn (take-at (joined bs) (drop (length (joined bs)) o) (length (joined bs)) refl)
     ∙ ap (λ (l : List (List ℕ)). recordsIn (joined l)) (p .1)
     ∙ all
@@ -191,7 +194,8 @@ module _ (i : Images) (s : declared.Server) (e : List ℕ) (k : Keeps i s) where
       here = taken-holds (sourceOf i e) e t rs w g h before (source-holds i s e k)
 
       same : SameServer (i .memory) t
-      same = same-then (i .memory) (sourceOf i e) t (source-same i s e k) (identity-kept (sourceOf i e) (moved (taken-by (sourceOf i e) e t rs w g h) .0))
+      same = same-then (i .memory) (sourceOf i e) t (source-same i s e k)
+          (identity-kept (sourceOf i e) (moved (taken-by (sourceOf i e) e t rs w g h) .0))
 
       room : outLength (t .servers) (t .quota) ≤ outRoom
       room = subst (λ (m : ℕ). m ≤ outRoom) (λ j. outLength (sym (same .servers) j) (sym (same .quota) j)) (k .room)
@@ -210,7 +214,8 @@ module _ (i : Images) (s : declared.Server) (e : List ℕ) (k : Keeps i s) where
       subst (λ (r : Result). Arrives i (step (sourceOf i e) e) (afterStep s r)) (sym over-buffers) (go (step (sourceOf i e) e) refl)
     where
       over-buffers : stepOn before e (zeros outRoom) ≡ resultOf (step (sourceOf i e) e) before (zeros outRoom)
-      over-buffers = holds-step (sourceOf i e) before (source-holds i s e k) e (zeros outRoom) (omega (arith, source-room i s e k, zeros-length outRoom))
+      over-buffers = holds-step (sourceOf i e) before (source-holds i s e k) e (zeros outRoom)
+          (omega (arith, source-room i s e k, zeros-length outRoom))
 
       go : (o : Outcome (List ℕ)) → step (sourceOf i e) e ≡ o → Arrives i o (afterStep s (resultOf o before (zeros outRoom)))
       go (refused m) h = refused-arrives m (zeros outRoom) h

@@ -35,8 +35,8 @@ module _ (c : Context) (e : List ℕ) where
         kind = ofRecovery;
         named = ap kindNamed (number1 e 3 ∙ e₃) ∙ kind-named ofRecovery;
         frame =
-          both-yes _ _ (eq-yes _ _ (omega (arith, number2 e 0)))
-          (both-yes _ _ (eq-yes _ _ (number1 e 2 ∙ e₂)) (eq-yes _ _ (sym size)));
+            both-yes _ _ (eq-yes _ _ (omega (arith, number2 e 0)))
+            (both-yes _ _ (eq-yes _ _ (number1 e 2 ∙ e₂)) (eq-yes _ _ (sym size)));
         same = refl;
         range = both-yes _ _ ok refl;
       })

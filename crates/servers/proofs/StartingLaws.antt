@@ -26,7 +26,8 @@ use Rattle.servers.specs.Core.{stateRoom, outRoom}
 
 -- ---- as the code makes it
 
-pub fresh-made : (n q k r : ℕ) (b z : List ℕ) → z ≡ zeros stateRoom → outcome.started r b ≡ startOn n q k z → record { state = b; store = b } ≡ freshOf n q k
+pub fresh-made : (n q k r : ℕ) (b z : List ℕ) → z ≡ zeros stateRoom → outcome.started r b ≡ startOn n q k z
+    → record { state = b; store = b } ≡ freshOf n q k
 unfolding freshOf alike outcome.started
 fresh-made n q k r b z e h = ap (λ (x : outcome.Started). alike (x .state)) (h ∙ ap (startOn n q k) e)
 
@@ -65,7 +66,12 @@ module _ (n q k : ℕ) (sizes : sizesOk n q ≡ true) (few : n ≤ 4) (small : q
   unfolding start
   start-holds =
       let ok = start-well-formed n q k sizes own in
-      record { formed = ok; written = image-again (start n q k) (zeros stateRoom) ok long; long = omega (arith, long, image-length (start n q k) (zeros stateRoom) ok long) }
+      record {
+        formed = ok;
+        written = image-again (start n q k) (zeros stateRoom) ok long;
+        long = omega
+            (arith, long, image-length (start n q k) (zeros stateRoom) ok long);
+      }
 
   fresh-is : freshOf n q k ≡ alike (image (start n q k) (zeros stateRoom))
   unfolding freshOf startOn outcome.started

@@ -37,7 +37,8 @@ fails false a b z = refl
 abbrev pub refused : Reply
 refused = record { number = 2; sent = 0 }
 
-pub replied-is : (ys : List Server) (k : ℕ) (e : List ℕ) (r : Reply) → Holds (ltb k (length ys)) → r ≡ coreOf (getD ys k none) e .reply → r ≡ replied ys k e
+pub replied-is : (ys : List Server) (k : ℕ) (e : List ℕ) (r : Reply) → Holds (ltb k (length ys)) → r ≡ coreOf (getD ys k none) e .reply
+    → r ≡ replied ys k e
 unfolding replied
 replied-is ys k e r t p = p ∙ holds (ltb k (length ys)) (coreOf (getD ys k none) e .reply) refused t
 

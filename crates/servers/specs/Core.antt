@@ -1,6 +1,7 @@
 -- What an event makes of a server, and the reply.
 -- Assumes nothing.
-use Prim.Native.Nat.{ℕ, zero, suc, _+_}
+use Prim.Native.Nat.{ℕ, zero, suc, _+_, _≤_}
+use mathlib.Core.Path.{_≡_}
 use mathlib.Core.Bool.{Bool}
 use mathlib.Core.List.{List}
 use lib.ListN.{length, take, drop, getD}
@@ -31,6 +32,12 @@ sourceIn s e = pick (isRecovery e) (s .store) (s .state)
 unfoldable pub entryAfter : Server → (number store : ℕ) → List ℕ → Server
 entryAfter s number store state =
     pick (number =? 0) (record { state = state; store = pick (store =? 1) state (s .store) }) s
+
+-- r is the place behind the record at `at`, by its length bytes, or the end where it would lie beyond.
+pub record Behind (e : List ℕ) (at r : ℕ) : Type 0 where
+  pub least : at + 2 ≤ r
+  pub most : r ≤ length e
+  pub rest : drop r e ≡ drop (at + (numberAt 2 e at + 2)) e
 
 -- How many records there are, by their length bytes; the first argument bounds how many.
 unfoldable pub recordsFrom : ℕ → List ℕ → ℕ

@@ -1,9 +1,8 @@
 // What a step takes of a server, and what it leaves there.
 ghost use mathlib.Core.Path.{_≡_};
 ghost use Prim.Native.Nat.{_+_, _≤_};
-ghost use lib.ListN.{length, take, drop};
-ghost use Rattle.base.specs.Bytes.{numberAt};
-ghost use Rattle.servers.specs.Core.{isRecovery, sourceIn, entryAfter, recordsIn};
+ghost use lib.ListN.{length, take};
+ghost use Rattle.servers.specs.Core.{isRecovery, sourceIn, entryAfter, Behind, recordsIn};
 use crate::STATE_ROOM;
 use crate::Server;
 use record::bytes::num16;
@@ -57,7 +56,7 @@ pub fn kept(s: Server, state: [u8; STATE_ROOM], number: u32, store: u32) -> Serv
 // The place behind the record at `at`, by its length bytes; the end where it would lie beyond.
 fn behind(out: &[u8], at: usize) -> usize
     requires { ⌜ at + 2 ≤ length (now out) ⌝ }
-    ensures { λ r. ⌜ (at + 2 ≤ r) × (r ≤ length (now (out .entry))) × (drop r (now (out .entry)) ≡ drop (at + (numberAt 2 (now (out .entry)) at + 2)) (now (out .entry))) ⌝ }
+    ensures { λ r. ⌜ Behind (now (out .entry)) at r ⌝ }
 {
     let size = num16(out, at) as usize;
     if out.len() - at - 2 < size {

@@ -1,5 +1,7 @@
--- `servers::alter` meets its contract: a walk of its MIR, by hand. The borrow is opened, the entry is copied and passed to `core` beside the event, the new entry is stored, and the borrow is closed at it. The answer is copied to the result.
--- All that the proof knows of `core` is that it meets its contract. The event's borrow is Copy: what it owns is had twice, one goes to the callee, and one is kept for the exit.
+-- `servers::alter` meets its contract: a walk of its MIR, by hand. The borrow is opened, the entry is copied and passed to `core` beside
+-- the event, the new entry is stored, and the borrow is closed at it. The answer is copied to the result.
+-- All that the proof knows of `core` is that it meets its contract. The event's borrow is Copy: what it owns is had twice, one goes to the
+-- callee, and one is kept for the exit.
 -- Assumes nothing.
 use mathlib.Core.Path.{_≡_, refl, ap}
 use Prim.Native.Nat.{ℕ}
@@ -76,7 +78,8 @@ server = LL.val T.the-type T′.the-laws
 abbrev answer : Reply → Val
 answer = LL.val N.the-type N′.the-laws
 
-module _ {M : Type 1} (𝓤 : URA M) (H : Heap 𝓤) (A : Atoms 𝓤) (W : Given 𝓤 H A) (at-mem : Memory → SProp 𝓤) (run : Routine → Fun 𝓤) (κ κ′ : Lft) (q q′ : Share) (b o : ℕ) (γ : GName) (h : Server) (b′ o′ : ℕ) (γ′ : GName) (es : List ℕ) where
+module _ {M : Type 1} (𝓤 : URA M) (H : Heap 𝓤) (A : Atoms 𝓤) (W : Given 𝓤 H A) (at-mem : Memory → SProp 𝓤) (run : Routine → Fun 𝓤) (κ κ′ : Lft)
+    (q q′ : Share) (b o : ℕ) (γ : GName) (h : Server) (b′ o′ : ℕ) (γ′ : GName) (es : List ℕ) where
   abbrev Arg : Type 0
   Arg = RefT Server × (RefT (List ℕ) × Unit {0})
 
@@ -101,16 +104,21 @@ module _ {M : Type 1} (𝓤 : URA M) (H : Heap 𝓤) (A : Atoms 𝓤) (W : Given
   abbrev to-core : Core 𝓤 H A at-mem run .Ghost
   to-core = (((κ′, tt), (q′, tt), tt, (h, (ev, tt)), (server h ∷ [], (s ∷ [], tt))), tt)
 
-  goes-core : ent 𝓤 (sep 𝓤 (sep 𝓤 (A .lft κ′ q′) (sem 𝓤 H A ftrue)) (sep 𝓤 (sem 𝓤 H A (R .own h (server h ∷ []))) (sem 𝓤 H A (ShrSlice (named 0) κ′ u8 .own ev (s ∷ []))))) (Core 𝓤 H A at-mem run .pre to-core)
+  goes-core : ent 𝓤 (sep 𝓤 (sep 𝓤 (A .lft κ′ q′) (sem 𝓤 H A ftrue))
+      (sep 𝓤 (sem 𝓤 H A (R .own h (server h ∷ []))) (sem 𝓤 H A (ShrSlice (named 0) κ′ u8 .own ev (s ∷ []))))) (Core 𝓤 H A at-mem run .pre to-core)
   goes-core =
       qed W ((‵ (flft κ′ q′) ⊛ ‵ ftrue) ∷ ‵ (R .own h (server h ∷ [])) ∷ ‵ (ShrSlice (named 0) κ′ u8 .own ev (s ∷ [])) ∷ []) ∵
-      nothing ! $ move ! (3 ∷ 0 ∷ []) $ fjoin ! $ move ! (2 ∷ 0 ∷ []) $ fjoin ! $ move ! (1 ∷ 0 ∷ []) $ join ! $ nothing ! $ move ! (1 ∷ 0 ∷ []) $ join ! $ done !
+      nothing ! $ move ! (3 ∷ 0 ∷ []) $ fjoin ! $ move ! (2 ∷ 0 ∷ []) $ fjoin ! $ move ! (1 ∷ 0 ∷ []) $ join ! $ nothing ! $
+      move ! (1 ∷ 0 ∷ []) $ join ! $ done !
 
   exits : (r : Stepped) → r ≡ coreOf h es → Is N.the-row (r .reply) (answer (r .reply) ∷ [])
-      → ent 𝓤 (⋆ 𝓤 H A (‵ (fobs γ (R .coded .code (r .server))) ∷ ‵ (fbor κ (Body (mem R) b o γ)) ∷ ‵ (flft κ q) ∷ (‵ (flft κ′ q′) ⊛ ‵ ftrue) ∷ ‵ (ShrSlice (named 1) κ′ u8 .own ev (s ∷ [])) ∷ [])) (Post (answer (r .reply)))
+      → ent 𝓤 (⋆ 𝓤 H A (‵ (fobs γ (R .coded .code (r .server))) ∷ ‵ (fbor κ (Body (mem R) b o γ)) ∷ ‵ (flft κ q) ∷ (‵ (flft κ′ q′) ⊛ ‵ ftrue) ∷ ‵
+      (ShrSlice (named 1) κ′ u8 .own ev (s ∷ [])) ∷ [])) (Post (answer (r .reply)))
   exits r e is =
-      qed W (‵ (fobs γ (R .coded .code (r .server))) ∷ ‵ (fbor κ (Body (mem R) b o γ)) ∷ ‵ (flft κ q) ∷ (‵ (flft κ′ q′) ⊛ ‵ ftrue) ∷ ‵ (ShrSlice (named 1) κ′ u8 .own ev (s ∷ [])) ∷ []) ∵
-      suffices ! _ (ends-at 𝓤 H A self.ended stayed (self.clauses 𝓤 H A at-mem run) W (((κ, (κ′, tt)), (q, (q′, tt)), tt, a, vals), tt) (answer (r .reply)) (r .reply) (r .server, (tt, tt)) (tt, (tt, tt))) $
+      qed W (‵ (fobs γ (R .coded .code (r .server))) ∷ ‵ (fbor κ (Body (mem R) b o γ)) ∷ ‵ (flft κ q) ∷ (‵ (flft κ′ q′) ⊛ ‵ ftrue) ∷ ‵
+      (ShrSlice (named 1) κ′ u8 .own ev (s ∷ [])) ∷ []) ∵
+      suffices ! _ (ends-at 𝓤 H A self.ended stayed (self.clauses 𝓤 H A at-mem run) W (((κ, (κ′, tt)), (q, (q′, tt)), tt, a, vals), tt)
+      (answer (r .reply)) (r .reply) (r .server, (tt, tt)) (tt, (tt, tt))) $
       says ! (ap (λ (z : Stepped). z .reply) e, ap (λ (z : Stepped). z .server) e) $
       move ! (2 ∷ 3 ∷ []) $ join ! $ frame ! $
       -- [obs; the borrow; the event's borrow]
@@ -118,22 +126,31 @@ module _ {M : Type 1} (𝓤 : URA M) (H : Heap 𝓤) (A : Atoms 𝓤) (W : Given
       owned ! N.the-row (Is N.the-row) (LL.makes N.the-type N′.the-plain 𝓤 H A) (r .reply) _ is $ move ! (1 ∷ 0 ∷ []) $ done !
 
   module _ (C : Calls 𝓤 H) (Λ : Loops 𝓤 H) (fm : FmC 𝓤 H (W .laws) C) (known : Triple 𝓤 (C #servers·core) (Core 𝓤 H A at-mem run)) where
-    walk : Room u8 (length es) → ent 𝓤 (onEntry 𝓤 H A self.signature (κ, (κ′, tt)) (q, (q′, tt)) a vals) (WpFn 𝓤 H C Λ code.function (vptr b o ∷ s ∷ []) Post)
+    walk : Room u8 (length es)
+        → ent 𝓤 (onEntry 𝓤 H A self.signature (κ, (κ′, tt)) (q, (q′, tt)) a vals) (WpFn 𝓤 H C Λ code.function (vptr b o ∷ s ∷ []) Post)
     walk room =
-        qed W ((‵ (flft κ q) ⊛ ‵ (flft κ′ q′) ⊛ ‵ ftrue) ∷ ‵ (owns (MutRef (named 0) κ R ∷ ShrSlice (named 1) κ′ u8 ∷ []) a vals) ∷ []) ∵ enter ! C Λ code.function (vptr b o ∷ s ∷ []) _ $
-        alloc1 ! (λ l₀. alloc1 ! (λ l₁. alloc1 ! (λ l₂. alloc1 ! (λ l₃. alloc1 ! (λ l₄. alloc0 ! $ params1 ! $ pass1 ! (init ! 6 refl (tt, tt)) $ pass1 ! (init ! 4 refl (tt, (tt, (record { fits = room .0 }, tt)))) $ pass0 ! $
+        qed W ((‵ (flft κ q) ⊛ ‵ (flft κ′ q′) ⊛ ‵ ftrue) ∷ ‵ (owns (MutRef (named 0) κ R ∷ ShrSlice (named 1) κ′ u8 ∷ []) a vals) ∷ []) ∵ enter !
+        C Λ code.function (vptr b o ∷ s ∷ []) _ $
+        alloc1 ! (λ l₀. alloc1 ! (λ l₁. alloc1 ! (λ l₂. alloc1 ! (λ l₃. alloc1 ! (λ l₄. alloc0 ! $ params1 ! $ pass1 ! (init ! 6 refl (tt, tt)) $
+        pass1 ! (init ! 4 refl (tt, (tt, (record { fits = room .0 }, tt)))) $ pass0 ! $
         -- the borrow is opened
         move ! (11 ∷ []) $ fsplit ! $ fsplit3 ! $ drop ! $ move ! (13 ∷ []) $ split ! $ move ! (2 ∷ 3 ∷ 0 ∷ []) $
-        opens ! tt R {h = h} b o (λ vs. spelt ! R (Is R) (shows 𝓤 H A R) (LL.vals T.the-type T′.the-laws) (LL.tells T.the-type T′.the-laws) fullShare h vs b o $
+        opens ! tt R {h = h} b o (λ vs. spelt ! R (Is R) (shows 𝓤 H A R) (LL.vals T.the-type T′.the-laws) (LL.tells T.the-type T′.the-laws)
+        fullShare h vs b o $
         use1 W (‵ (fat fullShare T′.mir b o (server h))) (W .laws .raw-at fullShare T′.mir b o (server h)) $
         move ! (1 ∷ []) $ peeks ! R (Is R) (shows 𝓤 H A R) h (server h ∷ []) (λ g. move ! (1 ∷ 0 ∷ []) $
-        -- [the entry's cell; what a Server owns; the open borrow; obs; auth; the event's token; what e owns; _4; …; _3; …; _2; …; _1; …; room for _0; …]
-        assigns ! (of-opd ! (load ! (from ! (hop ! (look ! 13 refl) (stop !))) (look ! 0 refl))) (from ! (stop !)) (init ! 7 refl (LL.lawful T.the-type T′.the-laws 𝓤 H A W .typed h _ g .0)) $
-        move ! (6 ∷ []) $ fsplit ! $ use1 W (‵ (ShrSlice (named 1) κ′ u8 .own ev (s ∷ [])) ⊛ ‵ (ShrSlice (named 1) κ′ u8 .own ev (s ∷ []))) (shr-slice-copy 𝓤 H A W (named 1) κ′ u8 .twice ev (s ∷ [])) $ split ! $
+        -- [the entry's cell; what a Server owns; the open borrow; obs; auth; the event's token; what e owns; _4; …; _3; …; _2; …; _1; …;
+        -- room for _0; …]
+        assigns ! (of-opd ! (load ! (from ! (hop ! (look ! 13 refl) (stop !))) (look ! 0 refl))) (from ! (stop !))
+        (init ! 7 refl (LL.lawful T.the-type T′.the-laws 𝓤 H A W .typed h _ g .0)) $
+        move ! (6 ∷ []) $ fsplit ! $ use1 W (‵ (ShrSlice (named 1) κ′ u8 .own ev (s ∷ [])) ⊛ ‵ (ShrSlice (named 1) κ′ u8 .own ev (s ∷ [])))
+        (shr-slice-copy 𝓤 H A W (named 1) κ′ u8 .twice ev (s ∷ [])) $ split ! $
         move ! (8 ∷ 4 ∷ 0 ∷ []) $ use3 W (raw (Core 𝓤 H A at-mem run .pre to-core)) goes-core $
         -- [what `core` asks; what e owns; true; the entry's cell; the open borrow; obs; auth; _4; …]
-        calls-at ! fm (Core 𝓤 H A at-mem run) known to-core (and-then ! (load ! (from ! (stop !)) (look ! 7 refl)) (and-then ! (load ! (from ! (stop !)) (look ! 11 refl)) (no-more !))) (λ v.
-        use1 W (later (some (λ (r : Stepped). ((‵ (flft κ′ q′) ⊛ ‵ ftrue) ⊛ ‵ (S.the-row .own r (v ∷ []))) ⊛ raw (ensured 𝓤 H A core.ended (core.clauses 𝓤 H A at-mem run) (κ′, tt) (h, (ev, tt)) tt r)))) (id⊢ 𝓤 _) $ await ! tt $ pick ! (λ r.
+        calls-at ! fm (Core 𝓤 H A at-mem run) known to-core
+        (and-then ! (load ! (from ! (stop !)) (look ! 7 refl)) (and-then ! (load ! (from ! (stop !)) (look ! 11 refl)) (no-more !))) (λ v.
+        use1 W (later (some (λ (r : Stepped). ((‵ (flft κ′ q′) ⊛ ‵ ftrue) ⊛ ‵ (S.the-row .own r (v ∷ []))) ⊛ raw
+        (ensured 𝓤 H A core.ended (core.clauses 𝓤 H A at-mem run) (κ′, tt) (h, (ev, tt)) tt r)))) (id⊢ 𝓤 _) $ await ! tt $ pick ! (λ r.
         split ! $ move ! (1 ∷ []) $ use1 W (raw (fact 𝓤 (r ≡ coreOf h es))) (core-of r) $ heard ! (r ≡ coreOf h es) (λ e. split ! $ move ! (1 ∷ []) $
         peeks ! S.the-row (Is S.the-row) (shows 𝓤 H A S.the-row) r (v ∷ []) (λ is.
         -- [what the result owns; the event's token; what e owns; true; the entry's cell; the open borrow; obs; auth; _4; …]
@@ -142,27 +159,40 @@ module _ {M : Type 1} (𝓤 : URA M) (H : Heap 𝓤) (A : Atoms 𝓤) (W : Given
         let new : Is R (r .server) (server (r .server) ∷ []) = LL.owed S.the-type S′.the-laws r _ is .0 in
         let said : Is N.the-row (r .reply) (answer (r .reply) ∷ []) = LL.owed S.the-type S′.the-laws r _ is .1 .0 in
         -- the new entry is stored, and the answer is copied
-        assigns ! (of-opd ! (load ! (from ! (fld ! refl (stop !))) (look-in ! 9 (sub ! 0 refl (whole !))))) (from ! (hop ! (look ! 13 refl) (stop !))) (store-in ! 3 (whole !) (LL.lawful T.the-type T′.the-laws 𝓤 H A W .typed (r .server) _ new .0)) $
-        assigns ! (of-opd ! (load ! (from ! (fld ! refl (stop !))) (look-in ! 9 (sub ! 1 refl (whole !))))) (from ! (stop !)) (init ! 15 refl (LL.lawful N.the-type N′.the-laws 𝓤 H A W .typed (r .reply) _ said .0)) $
+        assigns ! (of-opd ! (load ! (from ! (fld ! refl (stop !))) (look-in ! 9 (sub ! 0 refl (whole !)))))
+        (from ! (hop ! (look ! 13 refl) (stop !))) (store-in ! 3 (whole !) (LL.lawful T.the-type T′.the-laws 𝓤 H A W .typed (r .server) _ new .0)) $
+        assigns ! (of-opd ! (load ! (from ! (fld ! refl (stop !))) (look-in ! 9 (sub ! 1 refl (whole !))))) (from ! (stop !))
+        (init ! 15 refl (LL.lawful N.the-type N′.the-laws 𝓤 H A W .typed (r .reply) _ said .0)) $
         -- the borrow is closed at the new entry
-        move ! (3 ∷ []) $ use1 W (‵ (cellAt fullShare (R .mir) (server (r .server) ∷ []) b o)) (W .laws .at-raw fullShare T′.mir b o (server (r .server))) $
-        owned ! R (Is R) (LL.makes T.the-type T′.the-plain 𝓤 H A) (r .server) _ new $ move ! (1 ∷ 0 ∷ 5 ∷ 6 ∷ 7 ∷ []) $ closes ! tt R (r .server) (server (r .server) ∷ []) b o $
+        move ! (3 ∷ []) $ use1 W (‵ (cellAt fullShare (R .mir) (server (r .server) ∷ []) b o))
+        (W .laws .at-raw fullShare T′.mir b o (server (r .server))) $
+        owned ! R (Is R) (LL.makes T.the-type T′.the-plain 𝓤 H A) (r .server) _ new $ move ! (1 ∷ 0 ∷ 5 ∷ 6 ∷ 7 ∷ []) $
+        closes ! tt R (r .server) (server (r .server) ∷ []) b o $
         -- [obs; the borrow; the token; the event's token; what e owns; true; _4; …]
         returns ! (look ! 14 refl) $ forget ! 6 refl $ forget ! 8 refl $ forget ! 10 refl $ forget ! 12 refl $ forget ! 14 refl $
-        move ! (14 ∷ 15 ∷ []) $ free1 ! $ move ! (12 ∷ 13 ∷ []) $ free1 ! $ move ! (10 ∷ 11 ∷ []) $ free1 ! $ move ! (8 ∷ 9 ∷ []) $ free1 ! $ move ! (6 ∷ 7 ∷ []) $ free1 ! $ free0 ! $
+        move ! (14 ∷ 15 ∷ []) $ free1 ! $ move ! (12 ∷ 13 ∷ []) $ free1 ! $ move ! (10 ∷ 11 ∷ []) $ free1 ! $ move ! (8 ∷ 9 ∷ []) $ free1 ! $
+        move ! (6 ∷ 7 ∷ []) $ free1 ! $ free0 ! $
         keep ! (0 ∷ 1 ∷ 2 ∷ 3 ∷ 4 ∷ []) $ by ! (exits r e said))))))))))))
 
 module _ {M : Type 1} (𝓤 : URA M) (H : Heap 𝓤) (A : Atoms 𝓤) (W : Given 𝓤 H A) (mem : Memory → SProp 𝓤) (run : Routine → Fun 𝓤) where
-  alter-walks : (C : Calls 𝓤 H) (Λ : Loops 𝓤 H) → FmC 𝓤 H (W .laws) C → Triple 𝓤 (C #servers·core) (Core 𝓤 H A mem run) → Walks 𝓤 H A self.ended stayed (WpFn 𝓤 H C Λ code.function) (self.clauses 𝓤 H A mem run)
-  alter-walks C Λ fm known = walked 𝓤 H A self.ended stayed (self.clauses 𝓤 H A mem run) (WpFn 𝓤 H C Λ code.function) (λ κs. (ptr-vals, (slice-vals, tt))) (λ κs. (mut-tells (named 0) (κs .0) R, (shr-slice-tells (named 1) (κs .1 .0) u8, tt)))
+  alter-walks : (C : Calls 𝓤 H) (Λ : Loops 𝓤 H) → FmC 𝓤 H (W .laws) C → Triple 𝓤 (C #servers·core) (Core 𝓤 H A mem run)
+      → Walks 𝓤 H A self.ended stayed (WpFn 𝓤 H C Λ code.function) (self.clauses 𝓤 H A mem run)
+  alter-walks C Λ fm known = walked 𝓤 H A self.ended stayed (self.clauses 𝓤 H A mem run) (WpFn 𝓤 H C Λ code.function)
+      (λ κs. (ptr-vals, (slice-vals, tt))) (λ κs. (mut-tells (named 0) (κs .0) R, (shr-slice-tells (named 1) (κs .1 .0) u8, tt)))
       (λ κs qs bounds a g are. via 𝓤 _ (fst∗ 𝓤 _ (emp 𝓤))
-      (walk 𝓤 H A W mem run (κs .0) (κs .1 .0) (qs .0) (qs .1 .0) (a .0 .ptr .0) (a .0 .ptr .1) (a .0 .name) (a .0 .now) (a .1 .0 .ptr .0) (a .1 .0 .ptr .1) (a .1 .0 .name) (a .1 .0 .now) C Λ fm known (are .1 .0 .0 .1)))
+      (walk 𝓤 H A W mem run (κs .0) (κs .1 .0) (qs .0) (qs .1 .0) (a .0 .ptr .0) (a .0 .ptr .1) (a .0 .name) (a .0 .now) (a .1 .0 .ptr .0)
+      (a .1 .0 .ptr .1) (a .1 .0 .name) (a .1 .0 .now) C Λ fm known (are .1 .0 .0 .1)))
 
-alter-meets : {M : Type 1} (𝓤 : URA M) (H : Heap 𝓤) (A : Atoms 𝓤) → Given 𝓤 H A → (mem : Memory → SProp 𝓤) (run : Routine → Fun 𝓤) (𝓣 : Tables 𝓤 H) → Triple 𝓤 (𝓣 .C #servers·core) (Core 𝓤 H A mem run)
+alter-meets : {M : Type 1} (𝓤 : URA M) (H : Heap 𝓤) (A : Atoms 𝓤) → Given 𝓤 H A
+    → (mem : Memory → SProp 𝓤) (run : Routine → Fun 𝓤) (𝓣 : Tables 𝓤 H) → Triple 𝓤 (𝓣 .C #servers·core) (Core 𝓤 H A mem run)
     → Meets 𝓤 H A self.signature (WpFn 𝓤 H (𝓣 .C) (𝓣 .Λ) code.function) (self.spec 𝓤 H A mem run)
 alter-meets 𝓤 H A W mem run 𝓣 known =
-    walk-meets 𝓤 H A self.ended stayed W (goes-ref 𝓤 H A W 2 0 tt (plain (λ _. R)), (goes-none-slice 𝓤 H A W 2 (1 ∷ []) tt (plain (λ _. u8)) yes, tt)) (self.clauses 𝓤 H A mem run)
-    (WpFn 𝓤 H (𝓣 .C) (𝓣 .Λ) code.function) (WpFn-mono 𝓤 H (W .laws) 𝓣 code.function) (alter-walks 𝓤 H A W mem run (𝓣 .C) (𝓣 .Λ) (fmOf 𝓤 H (W .laws) 𝓣) known)
+    walk-meets 𝓤 H A self.ended stayed W (
+      goes-ref 𝓤 H A W 2 0 tt (plain (λ _. R)),
+      (goes-none-slice 𝓤 H A W 2 (1 ∷ []) tt (plain (λ _. u8)) yes, tt),
+    ) (self.clauses 𝓤 H A mem run)
+    (WpFn 𝓤 H (𝓣 .C) (𝓣 .Λ) code.function) (WpFn-mono 𝓤 H (W .laws) 𝓣 code.function)
+    (alter-walks 𝓤 H A W mem run (𝓣 .C) (𝓣 .Λ) (fmOf 𝓤 H (W .laws) 𝓣) known)
 
 pub alter-spec : {M : Type 1} → stated.statement M
 unfolding code.routine tablesOf

@@ -93,7 +93,8 @@ cast-t44 c = search needs
 
 -- src/session.rt:38:1
 returns : tie.Need-returns
-returns c = shown-made _ _ _ _ _ _ _ _ (c .before .before .before .before .number .ensures) (c .before .before .before .number2 .ensures) (c .before .before .number3 .ensures) (c .difference .ensures)
+returns c = shown-made _ _ _ _ _ _ _ _ (c .before .before .before .before .number .ensures) (c .before .before .before .number2 .ensures)
+    (c .before .before .number3 .ensures) (c .difference .ensures)
 
 pub shown-spec : {M : Type 1} → statement M
 shown-spec =
