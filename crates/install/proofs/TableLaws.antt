@@ -98,8 +98,11 @@ entry-in b k p x y s h e f g =
 pub some-counts : (b : List ℕ) → HoldsSome b → CountsIn b
 some-counts b s = holds-counts (s .state) b (s .holds)
 
-pub some-numbers : (b : List ℕ) → HoldsSome b → (19 + 4 ≤ length b) × (23 + 4 ≤ length b)
-some-numbers b s = let h = such-header _ b s in (omega arith, omega arith)
+pub count-inside : (b : List ℕ) → HoldsSome b → 19 + 4 ≤ length b
+count-inside b s = omega (arith, such-header _ b s)
+
+pub green-inside : (b : List ℕ) → HoldsSome b → 23 + 4 ≤ length b
+green-inside b s = omega (arith, such-header _ b s)
 
 -- ---- filled
 
