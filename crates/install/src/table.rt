@@ -20,7 +20,7 @@ use record::bytes::num32;
 pub const PLACES: usize = State::MOST_SERVERS as usize * State::MOST_QUOTA as usize;
 
 // The place of an id in the table.
-fn entry(creator: u8, index: u16) -> usize
+pub fn entry(creator: u8, index: u16) -> usize
     requires { ⌜ InTable creator index ⌝ }
     ensures { λ r. ⌜ (r ≡ slot (idOf creator index)) × (r < 2048) ⌝ }
 {
@@ -28,7 +28,7 @@ fn entry(creator: u8, index: u16) -> usize
 }
 
 // The same for the action at the place k of the queue.
-fn entry_at(state: &[u8], k: usize) -> usize
+pub fn entry_at(state: &[u8], k: usize) -> usize
     requires { ⌜ HoldsSome (now state) × CountsIn (now state) × (k < queueCount (now state)) ⌝ }
     ensures { λ r. ⌜ (r ≡ slot (idAt (now (state .entry)) (queueAt (now (state .entry)) + slotSize * k))) × (r < 2048) ⌝ }
 {

@@ -43,7 +43,8 @@ use Rattle.queue.proofs.ReadLaws.{queue-read, actions-at}
 use Rattle.step.specs.Answers.{LentSuch, recordBytes}
 use Rattle.exchange.specs.Decided.{partOf}
 use Rattle.exchange.specs.declared.decided.Part.{Part}
-use Rattle.step.specs.Resending.{queueIn, greensIn, mostActions, slotPlace, InTable, QueueIn, atPosition, asRed, Sends, Stated, greenPart}
+use Rattle.install.specs.Table.{InTable}
+use Rattle.step.specs.Resending.{queueIn, greensIn, mostActions, slotPlace, QueueIn, atPosition, asRed, Sends, Stated, greenPart}
 use Rattle.step.specs.Resending.{redPart, redParts, wholePart}
 use Rattle.step.proofs.ResendingLaws.{sends-none, sends-next}
 
