@@ -33,10 +33,10 @@ over-over y z l h =
     ∙ ap (λ (k : ℕ). drop k l) m)
 
 -- z over y over l leaves nothing of y: l holds y anyway, or y is no longer than z.
-abbrev pub Covers : List ℕ → List ℕ → List ℕ → Type 0
-Covers z y l = (l ≡ over y l) ⊎ (length y ≤ length z)
+abbrev pub CoversBytes : List ℕ → List ℕ → List ℕ → Type 0
+CoversBytes z y l = (l ≡ over y l) ⊎ (length y ≤ length z)
 
-covered : (z y l c : List ℕ) → c ≡ over y l → Covers z y l → over z c ≡ over z l
+covered : (z y l c : List ℕ) → c ≡ over y l → CoversBytes z y l → over z c ≡ over z l
 covered z y l c e (inl h) = ap (over z) (e ∙ sym h)
 covered z y l c e (inr h) = ap (over z) e ∙ over-over y z l h
 
@@ -51,24 +51,24 @@ states-covered size zs ys l c e a (inr h) =
 
 -- ---- all of them
 
--- t with the sizes and the number of s.
+-- t with the sizes of s.
 abbrev pub alike : Server → Server → Server
-alike s t = record { servers = s .servers; quota = s .quota; me = s .me; log = t .log; votes = t .votes; membership = t .membership; held = t .held; noted = t .noted }
+alike s t = record { servers = s .servers; quota = s .quota; me = t .me; log = t .log; votes = t .votes; membership = t .membership; held = t .held; noted = t .noted }
 
 -- The lists of t over those of s over the bytes b.
 pub record Covering (s t : Server) (b : List ℕ) : Type 0 where
-  pub cuts : Covers (cutsBytes (t .log .cuts)) (cutsBytes (s .log .cuts)) (section (s .servers) (s .quota) theCuts b)
-  pub noted : Covers (notedBytes (t .noted)) (notedBytes (s .noted)) (section (s .servers) (s .quota) theNoted b)
-  pub held : Covers (heldSlots (t .held)) (heldSlots (s .held)) (section (s .servers) (s .quota) theHeld b)
+  pub cuts : CoversBytes (cutsBytes (t .log .cuts)) (cutsBytes (s .log .cuts)) (section (s .servers) (s .quota) theCuts b)
+  pub noted : CoversBytes (notedBytes (t .noted)) (notedBytes (s .noted)) (section (s .servers) (s .quota) theNoted b)
+  pub held : CoversBytes (heldSlots (t .held)) (heldSlots (s .held)) (section (s .servers) (s .quota) theHeld b)
   pub states : (section (s .servers) (s .quota) theStates b ≡ statesOver (stateSize (s .servers) (s .quota)) (s .membership .states) (section (s .servers) (s .quota) theStates b)) ⊎ (t .membership .states ≡ s .membership .states)
-  pub ids : Covers (idsBytes (t .votes .yellow .ids)) (idsBytes (s .votes .yellow .ids)) (section (s .servers) (s .quota) theYellow b)
-  pub own : Covers (actionSlots (t .log .own)) (actionSlots (s .log .own)) (section (s .servers) (s .quota) theOwn b)
-  pub actions : Covers (actionSlots (queue (t .log))) (actionSlots (queue (s .log))) (section (s .servers) (s .quota) theQueue b)
+  pub ids : CoversBytes (idsBytes (t .votes .yellow .ids)) (idsBytes (s .votes .yellow .ids)) (section (s .servers) (s .quota) theYellow b)
+  pub own : CoversBytes (actionSlots (t .log .own)) (actionSlots (s .log .own)) (section (s .servers) (s .quota) theOwn b)
+  pub actions : CoversBytes (actionSlots (queue (t .log))) (actionSlots (queue (s .log))) (section (s .servers) (s .quota) theQueue b)
 
 module _ (s : Server) (f : SectionsFit s) (b : List ℕ) (h : stateLength (s .servers) (s .quota) ≤ length b) where
   module _ (t : Server) (c : Covering s t b) where
     part : (k : ℕ) → k < 8 → (z y : List ℕ) → getD (parts (s .servers) (s .quota) s b) k [] ≡ over y (section (s .servers) (s .quota) k b)
-        → Covers z y (section (s .servers) (s .quota) k b) → over z (section (s .servers) (s .quota) k (image s b)) ≡ over z (section (s .servers) (s .quota) k b)
+        → CoversBytes z y (section (s .servers) (s .quota) k b) → over z (section (s .servers) (s .quota) k (image s b)) ≡ over z (section (s .servers) (s .quota) k b)
     part k l z y e g = covered z y (section (s .servers) (s .quota) k b) (section (s .servers) (s .quota) k (image s b)) (image-section s f b h k l ∙ e) g
 
     states : statesOver (stateSize (s .servers) (s .quota)) (t .membership .states) (section (s .servers) (s .quota) theStates (image s b))
@@ -93,9 +93,9 @@ module _ (s : Server) (f : SectionsFit s) (b : List ℕ) (h : stateLength (s .se
         let actions = part theQueue (omega arith) (actionSlots (queue (t .log))) (actionSlots (queue (s .log))) refl (c .actions) in
         λ i. headerBytes (alike s t) ∷ cuts i ∷ noted i ∷ held i ∷ collected i ∷ ids i ∷ own i ∷ actions i ∷ []
 
-    pub image-over : image (alike s t) (image s b) ≡ image (alike s t) b
+    pub covering-over : image (alike s t) (image s b) ≡ image (alike s t) b
     unfolding image
-    image-over = ap₂ {A = List (List ℕ)} {B = List ℕ} {C = List ℕ} (λ ps r. joined ps ++ r) parts-over (image-rest s f b h)
+    covering-over = ap₂ {A = List (List ℕ)} {B = List ℕ} {C = List ℕ} (λ ps r. joined ps ++ r) parts-over (image-rest s f b h)
 
   -- The state itself.
   itself : Covering s s b
@@ -106,4 +106,4 @@ module _ (s : Server) (f : SectionsFit s) (b : List ℕ) (h : stateLength (s .se
   parts-again = parts-over s itself
 
   pub image-twice : image s (image s b) ≡ image s b
-  image-twice = image-over s itself
+  image-twice = covering-over s itself

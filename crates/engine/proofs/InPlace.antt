@@ -19,9 +19,9 @@ use Rattle.replication.specs.Machine.Types.{Server}
 use Rattle.replication.specs.Machine.WellFormed.{queue, wellFormed}
 use Rattle.engine.specs.Layout.{stateSize, theHeader, theCuts, theNoted, theHeld, theStates, theYellow, theOwn, theQueue, sections, sectionSize, offset, stateLength}
 use Rattle.engine.specs.Image.{over, headerBytes, notedBytes, statesOver, actionSlots, heldSlots, section, parts, image}
-use Rattle.engine.specs.Decode.{readImage}
+use Rattle.engine.specs.Decode.{decoded, readImage}
 use Rattle.engine.proofs.Fit.{SectionsFit, well-formed-fits, parts-sized, image-section}
-use Rattle.engine.proofs.ImageLaws.{image-read}
+use Rattle.engine.proofs.ImageLaws.{image-length, image-again, decoded-image, image-read}
 
 -- The buffer b, long enough, holds the image of s.
 pub record Holds (s : Server) (b : List ℕ) : Type 0 where
@@ -31,6 +31,54 @@ pub record Holds (s : Server) (b : List ℕ) : Type 0 where
 
 pub read-holds : (s : Server) (b : List ℕ) → readImage b ≡ some s → stateLength (s .servers) (s .quota) ≤ length b → Holds s b
 read-holds s b h l = let r = image-read b s h in record { formed = r .1; written = r .0; long = l }
+
+pub holds-decoded : (s : Server) (b : List ℕ) → Holds s b → decoded b ≡ s
+holds-decoded s b r = ap decoded (sym (r .written)) ∙ decoded-image s b (r .formed) (r .long)
+
+-- A buffer holds one state.
+pub holds-one : (s t : Server) (b : List ℕ) → Holds s b → Holds t b → s ≡ t
+holds-one s t b r k = sym (holds-decoded s b r) ∙ holds-decoded t b k
+
+pub holds-header : (s : Server) (b : List ℕ) → Holds s b → 60 ≤ length b
+unfolding stateLength sections sum
+holds-header s b r = omega (arith, r .long)
+
+-- The image of a well-formed state is held.
+pub image-holds : (s t : Server) (b : List ℕ) → Holds s b → t .servers ≡ s .servers → t .quota ≡ s .quota → wellFormed t ≡ true → Holds t (image t b)
+image-holds s t b r e f ok =
+    let room : stateLength (t .servers) (t .quota) ≤ length b = subst (λ (m : ℕ). m ≤ length b) (λ i. stateLength (sym e i) (sym f i)) (r .long) in
+    record { formed = ok; written = image-again t b ok room; long = omega (arith, image-length t b ok room) }
+
+-- ---- a state of which something is known
+
+-- The buffer b holds a state of which P is known.
+pub record HoldsSuch (P : Server → Type 0) (b : List ℕ) : Type 0 where
+  pub state : Server
+  pub holds : Holds state b
+  pub fact : P state
+
+-- The buffer holds some state.
+abbrev pub HoldsSome : List ℕ → Type 0
+HoldsSome b = HoldsSuch (λ s. Unit {0}) b
+
+pub holds-some : (s : Server) (b : List ℕ) → Holds s b → HoldsSome b
+holds-some s b r = record { state = s; holds = r; fact = tt }
+
+pub such-some : (P : Server → Type 0) (b : List ℕ) → HoldsSuch P b → HoldsSome b
+such-some P b h = holds-some (h .state) b (h .holds)
+
+-- What is known of a state that the buffer holds is known of any.
+pub such-fact : (P : Server → Type 0) (b : List ℕ) (s : Server) → HoldsSuch P b → Holds s b → P s
+such-fact P b s h r = subst P (holds-one (h .state) s b (h .holds) r) (h .fact)
+
+-- It is what the buffer says.
+pub such-decoded : (P : Server → Type 0) (b : List ℕ) → HoldsSuch P b → Holds (decoded b) b
+such-decoded P b h = subst (λ (s : Server). Holds s b) (sym (holds-decoded (h .state) b (h .holds))) (h .holds)
+
+pub such-header : (P : Server → Type 0) (b : List ℕ) → HoldsSuch P b → 60 ≤ length b
+such-header P b h = holds-header (h .state) b (h .holds)
+
+-- ---- sections
 
 -- Each section of a buffer that holds s: the used part, and behind it the rest.
 pub holds-section : (s : Server) (b : List ℕ) → Holds s b → (k : ℕ) → k < 8

@@ -11,6 +11,7 @@ pub mod Saved
 pub mod Decoded
 pub mod ImageLaws
 pub mod InPlace
+pub mod Chained
 pub mod Refusals
 pub mod HeaderLaws
 pub mod StartLaws

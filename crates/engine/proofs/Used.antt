@@ -1,18 +1,18 @@
 -- The used parts of an image: how long they are, that they are bytes, and what writing them twice gives.
 -- Assumes nothing.
 use Prim.Native.Nat.{ℕ, suc, _*_, _-_, _≤_}
-use mathlib.Core.Path.{_≡_, refl, ap, ap₂, _∙_}
-use mathlib.Core.List.{List, [], _∷_, _++_}
+use mathlib.Core.Path.{_≡_, refl, sym, ap, ap₂, _∙_}
+use mathlib.Core.List.{List, [], _∷_, _++_, append-assoc, append-nil, map-append}
 use mathlib.Core.Option.{Option, none, some}
 use native.Mathlib.Nat.{suc-mul}
 use native.Mathlib.Omega.{arith}
 use lib.ListN.{length, take, drop, length-append, length-take, length-drop, length-replicate}
 use lib.Seq.{drop-at, take-at}
 use Rattle.base.specs.Bytes.{Bytes, bytesOf, joined}
-use Rattle.base.specs.BytesLaws.{bytes-nil, bytes-small, bytes-append, bytes-cons, bytes-take, bytes-drop, bytes-joined}
+use Rattle.base.specs.BytesLaws.{joined-append, bytes-nil, bytes-small, bytes-append, bytes-cons, bytes-take, bytes-drop, bytes-joined}
 use Rattle.base.specs.ListLaws.{Each}
-use Rattle.format.specs.Types.{Action, State, state}
-use Rattle.format.specs.Write.{write, actionBytes, payloadBytes, primaryBytes, markBytes}
+use Rattle.format.specs.Types.{Id, Action, State, state}
+use Rattle.format.specs.Write.{write, idBytes, idsBytes, actionBytes, payloadBytes, primaryBytes, markBytes}
 use Rattle.format.proofs.Lengths.{action-length, payload-length}
 use Rattle.format.proofs.Ranges.{PayloadRange}
 use Rattle.format.proofs.WriteBytes.{action-bytes, payload-bytes, primary-bytes, mark-bytes, state-record-bytes}
@@ -87,6 +87,21 @@ unfolding heldSlots joined
 held-slots-bytes [] h = bytes-nil
 held-slots-bytes (p ∷ l) h =
     bytes-append (slot heldSize (payloadBytes p)) (heldSlots l) (slot-bytes heldSize (payloadBytes p) (payload-bytes p (h .0 .bytes))) (held-slots-bytes l (h .1))
+
+-- ---- lists one behind the other
+
+pub slots-append : (x y : List Action) → actionSlots (x ++ y) ≡ actionSlots x ++ actionSlots y
+unfolding actionSlots
+slots-append x y = ap joined (map-append _ x y) ∙ joined-append _ _
+
+pub held-append : (x y : List (List ℕ)) → heldSlots (x ++ y) ≡ heldSlots x ++ heldSlots y
+unfolding heldSlots
+held-append x y = ap joined (map-append _ x y) ∙ joined-append _ _
+
+pub ids-append : (xs ys : List Id) → idsBytes (xs ++ ys) ≡ idsBytes xs ++ idsBytes ys
+unfolding idsBytes joined
+ids-append [] ys = refl
+ids-append (x ∷ xs) ys = simp append-nil (ap (λ (l : List ℕ). idBytes x ++ l) (ids-append xs ys) ∙ sym (append-assoc (idBytes x) (idsBytes xs) (idsBytes ys)))
 
 -- ---- noted lengths
 

@@ -27,13 +27,13 @@ use Rattle.engine.proofs.HeaderLaws.{header-loaded}
 use Rattle.engine.specs.Decode.{decoded}
 use Rattle.engine.proofs.Fit.{well-formed-fits, image-section, image-rest}
 use Rattle.engine.proofs.Again.{parts-again}
-use Rattle.engine.proofs.InPlace.{Holds, holds-section}
-use Rattle.queue.proofs.Holding.{log-formed, log-fits, holds-decoded, image-holds}
+use Rattle.engine.proofs.InPlace.{Holds, holds-section, HoldsSome, such-decoded, holds-decoded, image-holds, holds-some}
+use Rattle.queue.proofs.Holding.{log-formed, log-fits}
 use Rattle.lists.proofs.MembershipLaws.{Saved}
 use Rattle.install.specs.Swaps.{greenSwaps}
-use Rattle.install.specs.Table.{Stated, logIn, yellowsIn, Turned}
+use Rattle.install.specs.Table.{logIn, yellowsIn, Turned}
 use Rattle.install.proofs.SwapFits.{swaps-kept, swaps-append}
-use Rattle.install.proofs.Turning.{holds-stated, turned-append}
+use Rattle.install.proofs.Turning.{turned-append}
 use Rattle.install.proofs.PassLaws.{cuts-kept}
 use Rattle.install.proofs.SwapLaws.{alike-greens, alike-itself, alike-same}
 
@@ -62,7 +62,7 @@ log-holds b b₁ s r e =
 
 -- ---- as the code makes it
 
-pub log-installed : (b t₁ b₁ t₂ b₂ : List ℕ) → Stated b → Turned (yellowsIn b) b t₁ b₁ → Turned (idsUpTo 0 (logIn b₁ .cuts)) b₁ t₂ b₂
+pub log-installed : (b t₁ b₁ t₂ b₂ : List ℕ) → HoldsSome b → Turned (yellowsIn b) b t₁ b₁ → Turned (idsUpTo 0 (logIn b₁ .cuts)) b₁ t₂ b₂
     → (s : Server) → Holds s b → b₂ ≡ image (withLog (installLog (s .votes .yellow .ids) (s .log)) s) b
 unfolding logIn yellowsIn
 log-installed b t₁ b₁ t₂ b₂ w e f s r =
@@ -70,24 +70,24 @@ log-installed b t₁ b₁ t₂ b₂ w e f s r =
     let ys : List Id = v .votes .yellow .ids in
     let rest : Turned (idsUpTo 0 (v .log .cuts)) b₁ t₂ b₂ = subst (λ (x : List ℕ). Turned (idsUpTo 0 x) b₁ t₂ b₂) (cuts-kept b w ys t₁ b₁ e) f in
     turned-append ys (idsUpTo 0 (v .log .cuts)) b t₁ b₁ t₂ b₂ w e rest .written
-    ∙ ap (λ (l : Log). image (withLog l v) b) (swaps-append ys (idsUpTo 0 (v .log .cuts)) (v .log) ∙ install-swaps v (w .holds .formed))
+    ∙ ap (λ (l : Log). image (withLog l v) b) (swaps-append ys (idsUpTo 0 (v .log .cuts)) (v .log) ∙ install-swaps v (such-decoded _ b w .formed))
     ∙ ap (λ (x : Server). image (withLog (installLog (x .votes .yellow .ids) (x .log)) x) b) (holds-decoded s b r)
 
 -- ---- the votes
 
 -- The state is there after the log's part.
-pub log-stated : (b b₁ : List ℕ) → Stated b → ((s : Server) → Holds s b → b₁ ≡ image (withLog (installLog (s .votes .yellow .ids) (s .log)) s) b)
-    → Stated b₁
-log-stated b b₁ w f =
+pub log-some : (b b₁ : List ℕ) → HoldsSome b → ((s : Server) → Holds s b → b₁ ≡ image (withLog (installLog (s .votes .yellow .ids) (s .log)) s) b)
+    → HoldsSome b₁
+log-some b b₁ w f =
     let v : Server = decoded b in
-    holds-stated (withLog (installLog (v .votes .yellow .ids) (v .log)) v) b₁ (log-holds b b₁ v (w .holds) (f v (w .holds)))
+    holds-some (withLog (installLog (v .votes .yellow .ids) (v .log)) v) b₁ (log-holds b b₁ v (such-decoded _ b w) (f v (such-decoded _ b w)))
 
-pub votes-low : (b : List ℕ) (h : State) → Stated b → h ≡ headerIn b → h .last .index .0 ≤ mostIndex
+pub votes-low : (b : List ℕ) (h : State) → HoldsSome b → h ≡ headerIn b → h .last .index .0 ≤ mostIndex
 unfolding headerOf lastOf
 votes-low b h w e =
     let v : Server = decoded b in
-    let same : h .last .index .0 ≡ v .votes .last .index = ap (λ (x : State). x .last .index .0) (e ∙ header-loaded v b (w .holds)) in
-    omega (arith, in-range v (w .holds .formed) .last .index)
+    let same : h .last .index .0 ≡ v .votes .last .index = ap (λ (x : State). x .last .index .0) (e ∙ header-loaded v b (such-decoded _ b w)) in
+    omega (arith, in-range v (such-decoded _ b w .formed) .last .index)
 
 pub votes-installed : (h t : State) (b b₁ : List ℕ) → h ≡ headerIn b
     → ((s : Server) → h ≡ headerOf s → t ≡ headerOf (withVotes (installVotes (s .votes)) s))

@@ -27,7 +27,8 @@ use Rattle.queue.proofs.Holding.{numbers}
 use Rattle.queue.proofs.RedLaws.{cut-read}
 use Rattle.lists.specs.Lists.{yellowCount, place}
 use Rattle.lists.proofs.Counts.{holds-ids, holds-place, holds-yellow-count}
-use Rattle.install.specs.Table.{Stated, logIn, yellowsIn, idsOf, InTable, Indexed, Turned}
+use Rattle.engine.proofs.InPlace.{HoldsSome, such-decoded}
+use Rattle.install.specs.Table.{logIn, yellowsIn, idsOf, InTable, Indexed, Turned}
 use Rattle.install.proofs.SwapFits.{swaps-kept}
 use Rattle.install.proofs.Turning.{turned-decoded, turned-append, turned-none}
 
@@ -52,7 +53,7 @@ turned-read b t₁ b₁ p x y e f turn = turned-as (idOf x y ∷ []) (idAt b p �
 pub yellow-start : (b t : List ℕ) → Indexed t b → Turned (take 0 (yellowsIn b)) b t b
 yellow-start b t r = turned-none b t r
 
-module _ (b₀ : List ℕ) (s₀ : Stated b₀) where
+module _ (b₀ : List ℕ) (s₀ : HoldsSome b₀) where
   -- The list of the changed buffer b is that of the first one.
   yellow-kept : (ds : List Id) (t b : List ℕ) → Turned ds b₀ t b → (decoded b) .votes .yellow .ids ≡ yellowsIn b₀
   unfolding yellowsIn
@@ -60,20 +61,20 @@ module _ (b₀ : List ℕ) (s₀ : Stated b₀) where
 
   yellow-place : (ds : List Id) (t b : List ℕ) → Turned ds b₀ t b → place theYellow b ≡ place theYellow b₀
   yellow-place ds t b e =
-      holds-place (decoded b) b (e .indexed .stated .holds) theYellow
+      holds-place (decoded b) b (such-decoded _ b (e .indexed .holds)) theYellow
       ∙ ap (λ (v : Server). offset (v .servers) (v .quota) theYellow) (turned-decoded ds b₀ t b s₀ e)
-      ∙ sym (holds-place (decoded b₀) b₀ (s₀ .holds) theYellow)
+      ∙ sym (holds-place (decoded b₀) b₀ (such-decoded _ b₀ s₀) theYellow)
 
   yellow-count : yellowCount b₀ ≡ length (yellowsIn b₀)
   unfolding yellowsIn
-  yellow-count = holds-yellow-count (decoded b₀) b₀ (s₀ .holds)
+  yellow-count = holds-yellow-count (decoded b₀) b₀ (such-decoded _ b₀ s₀)
 
   yellow-id : (ds : List Id) (t b : List ℕ) (j n p : ℕ) → Turned ds b₀ t b → p ≡ place theYellow b₀ → n ≡ numberAt 2 b₀ 58 → j < n
       → at (yellowsIn b₀) j ≡ some (idAt b (p + 3 * j))
   unfolding yellowCount
   yellow-id ds t b j n p e f g h =
       let kept = yellow-kept ds t b e in
-      let r = e .indexed .stated .holds in
+      let r = such-decoded _ b (e .indexed .holds) in
       let many : j < numberAt 2 b 58 = omega (arith, holds-yellow-count (decoded b) b r, ap length kept, yellow-count) in
       ap (λ (l : List Id). at l j) (sym kept ∙ sym (holds-ids (decoded b) b r))
       ∙ ids-at (numberAt 2 b 58) b (place theYellow b) j many
@@ -84,7 +85,7 @@ module _ (b₀ : List ℕ) (s₀ : Stated b₀) where
   unfolding yellowsIn idAt
   yellow-in ds t b j n p e f g h =
       let v : Server = decoded b₀ in
-      let facts = well-formed-facts v (s₀ .holds .formed) in
+      let facts = well-formed-facts v (such-decoded _ b₀ s₀ .formed) in
       let fits = each-at (IdFits (v .servers) (v .quota)) (v .votes .yellow .ids) j (idAt b (p + 3 * j)) (facts .votes .yellow .ids) (yellow-id ds t b j n p e f g h) in
       record { creator = omega (arith, facts .sizes .most); least = fits .least; most = omega (arith, facts .sizes .highest) }
 
@@ -107,17 +108,17 @@ pub creator-start : (b t : List ℕ) (c : ℕ) → Indexed t b → Turned (map (
 unfolding above after
 creator-start b t c r = turned-none b t r
 
-module _ (b₀ : List ℕ) (s₀ : Stated b₀) (c : ℕ) where
+module _ (b₀ : List ℕ) (s₀ : HoldsSome b₀) (c : ℕ) where
   creator-cut : c < numberAt 1 b₀ 0 → numberAt 2 b₀ (60 + 2 * c) ≡ cut (logIn b₀) c
   unfolding logIn
-  creator-cut h = cut-read (decoded b₀) b₀ c (s₀ .holds) (omega (arith, numbers (decoded b₀) b₀ (s₀ .holds) .servers))
+  creator-cut h = cut-read (decoded b₀) b₀ c (such-decoded _ b₀ s₀) (omega (arith, numbers (decoded b₀) b₀ (such-decoded _ b₀ s₀) .servers))
 
   pub creator-in : (k i : ℕ) → c < numberAt 1 b₀ 0 → k ≡ numberAt 2 b₀ (60 + 2 * c) → i < k → InTable c (i + 1)
   unfolding logIn
   creator-in k i h e l =
-      let facts = well-formed-facts (decoded b₀) (s₀ .holds .formed) in
+      let facts = well-formed-facts (decoded b₀) (such-decoded _ b₀ s₀ .formed) in
       record {
-        creator = omega (arith, facts .sizes .most, numbers (decoded b₀) b₀ (s₀ .holds) .servers);
+        creator = omega (arith, facts .sizes .most, numbers (decoded b₀) b₀ (such-decoded _ b₀ s₀) .servers);
         least = omega arith;
         most = omega (arith, facts .log .cuts c, facts .sizes .highest, creator-cut h);
       }
@@ -152,21 +153,21 @@ pub rest-start : (b t : List ℕ) → Indexed t b → Turned (idsUpTo 0 (take 0 
 unfolding idsUpTo
 rest-start b t r = turned-none b t r
 
-module _ (b₀ : List ℕ) (s₀ : Stated b₀) where
+module _ (b₀ : List ℕ) (s₀ : HoldsSome b₀) where
   pub cuts-kept : (ds : List Id) (t b : List ℕ) → Turned ds b₀ t b → logIn b .cuts ≡ logIn b₀ .cuts
   unfolding logIn
   cuts-kept ds t b e = ap (λ (v : Server). v .log .cuts) (turned-decoded ds b₀ t b s₀ e) ∙ swaps-kept ds ((decoded b₀) .log) .cuts
 
   cuts-count : length (logIn b₀ .cuts) ≡ numberAt 1 b₀ 0
   unfolding logIn
-  cuts-count = well-formed-facts (decoded b₀) (s₀ .holds .formed) .log .cuts-length ∙ sym (numbers (decoded b₀) b₀ (s₀ .holds) .servers)
+  cuts-count = well-formed-facts (decoded b₀) (such-decoded _ b₀ s₀ .formed) .log .cuts-length ∙ sym (numbers (decoded b₀) b₀ (such-decoded _ b₀ s₀) .servers)
 
   pub rest-in : (ds : List Id) (t b : List ℕ) (n c : ℕ) → Turned ds b₀ t b → n ≡ numberAt 1 b₀ 0 → c < n → c < numberAt 1 b 0
   rest-in ds t b n c e f h =
       omega (
         arith,
-        numbers (decoded b₀) b₀ (s₀ .holds) .servers,
-        numbers (decoded b) b (e .indexed .stated .holds) .servers,
+        numbers (decoded b₀) b₀ (such-decoded _ b₀ s₀) .servers,
+        numbers (decoded b) b (such-decoded _ b (e .indexed .holds)) .servers,
         ap (λ (v : Server). v .servers) (turned-decoded ds b₀ t b s₀ e),
       )
 

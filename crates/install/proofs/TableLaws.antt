@@ -26,11 +26,12 @@ use Rattle.replication.specs.Machine.WellFormed.{queue, idsIn}
 use Rattle.engine.specs.Layout.{slotSize}
 use Rattle.engine.specs.Decode.{decoded}
 use Rattle.engine.proofs.InRange.{in-range}
-use Rattle.engine.proofs.InPlace.{Holds}
-use Rattle.queue.specs.Queue.{queueCount, greenCount, queueAt}
-use Rattle.queue.proofs.Holding.{numbers, log-fits, queue-parts}
+use Rattle.engine.proofs.InPlace.{Holds, HoldsSome, such-decoded, such-header}
+use Rattle.queue.specs.Queue.{queueCount, greenCount, queueAt, CountsIn}
+use Rattle.queue.proofs.Holding.{numbers, log-fits, queue-parts, holds-counts}
+use Rattle.lists.proofs.Counts.{holds-counts as holds-lists}
 use Rattle.queue.proofs.ReadLaws.{queue-read, actions-at}
-use Rattle.install.specs.Table.{Stated, logIn, InTable, Indexed}
+use Rattle.install.specs.Table.{logIn, InTable, Indexed}
 use Rattle.install.proofs.Places.{same-place}
 use Rattle.install.proofs.SwapLaws.{Once}
 
@@ -79,44 +80,55 @@ entry-made b k p x y r e f g m =
     (λ i. idOf (f i) (g i)) ∙ (λ i. idAt b (e i + slotSize * k)) in
     m ∙ ap slot same
 
-pub entry-in : (b : List ℕ) (k p x y : ℕ) → Stated b → k < queueCount b → p ≡ queueAt b → x ≡ numberAt 1 b (p + slotSize * k)
+pub entry-in : (b : List ℕ) (k p x y : ℕ) → HoldsSome b → k < queueCount b → p ≡ queueAt b → x ≡ numberAt 1 b (p + slotSize * k)
     → y ≡ numberAt 2 b (p + slotSize * k + 1)
     → InTable x y
 unfolding idAt idOf contextOf
 entry-in b k p x y s h e f g =
     let w : Server = decoded b in
     let a : Action = actionAt b (queueAt b + slotSize * k) in
-    let there = read-at w b (s .holds) k h in
-    let z = id-in w b (s .holds) k a there in
-    let m = small w b (s .holds) in
-    let d : idOf x y ≡ a .id = (λ i. idOf (f i) (g i)) ∙ (λ i. idAt b (e i + slotSize * k)) ∙ read-id w b (s .holds) k a there in
+    let there = read-at w b (such-decoded _ b s) k h in
+    let z = id-in w b (such-decoded _ b s) k a there in
+    let m = small w b (such-decoded _ b s) in
+    let d : idOf x y ≡ a .id = (λ i. idOf (f i) (g i)) ∙ (λ i. idAt b (e i + slotSize * k)) ∙ read-id w b (such-decoded _ b s) k a there in
     let c : x ≡ a .id .creator = ap (λ (j : Id). j .creator) d in
     let i : y ≡ a .id .index = ap (λ (j : Id). j .index) d in
     record { creator = omega arith; least = omega arith; most = omega arith }
+
+pub some-counts : (b : List ℕ) → HoldsSome b → CountsIn b
+some-counts b s = holds-counts (s .state) b (s .holds)
+
+pub count-inside : (b : List ℕ) → HoldsSome b → 19 + 4 ≤ length b
+count-inside b s = omega (arith, such-header _ b s)
+
+pub green-inside : (b : List ℕ) → HoldsSome b → 23 + 4 ≤ length b
+green-inside b s = omega (arith, such-header _ b s)
 
 -- ---- filled
 
 -- The table has the places of the red actions before k.
 pub record Filled (k : ℕ) (t b : List ℕ) : Type 0 where
+  pub counts : CountsIn b
   pub size : length t ≡ mostServers * mostQuota
   pub low : greenCount b ≤ k
   pub high : k ≤ queueCount b
   pub right : (j : ℕ) (a : Action) → length (logIn b .green) ≤ j → j < k → at (queue (logIn b)) j ≡ some a → getD t (slot (a .id)) 0 ≡ j
 
-module _ (b : List ℕ) (s : Stated b) where
+module _ (b : List ℕ) (s : HoldsSome b) where
   pub green-read : greenCount b ≡ length (logIn b .green)
   unfolding logIn
-  green-read = numbers (decoded b) b (s .holds) .green
+  green-read = numbers (decoded b) b (such-decoded _ b s) .green
 
   pub queue-count : queueCount b ≡ length (logIn b .green) + length (logIn b .red)
   unfolding logIn
-  queue-count = numbers (decoded b) b (s .holds) .queue ∙ queue-parts ((decoded b) .log)
+  queue-count = numbers (decoded b) b (such-decoded _ b s) .queue ∙ queue-parts ((decoded b) .log)
 
   pub filled-start : (k : ℕ) (t : List ℕ) → k ≡ numberAt 4 b 23 → t ≡ replicate {A = ℕ} 2048 0 → Filled k t b
   filled-start k t e f = record {
+    counts = some-counts b s;
     size = ap length f ∙ length-replicate {A = ℕ} 2048 0;
     low = omega arith;
-    high = omega (arith, s .counts .green);
+    high = omega (arith, some-counts b s .green);
     right = λ j a h l m. absurd (omega (arith, green-read));
   }
 
@@ -124,6 +136,7 @@ module _ (b : List ℕ) (s : Stated b) where
       → Filled (k + 1) (set t p k) b
   unfolding logIn
   filled-again k p n t f count h e l = record {
+    counts = f .counts;
     size = length-set t p k ∙ f .size;
     low = omega (arith, f .low);
     high = omega arith;
@@ -135,20 +148,22 @@ module _ (b : List ℕ) (s : Stated b) where
       right j a low lt m = go (ℕ-discrete j k)
         where
           here : (i : ℕ) (x : Action) → i ≡ k → at (queue ((decoded b) .log)) i ≡ some x → p ≡ slot (x .id)
-          here i x q n = e ∙ ap (λ (z : ℕ). slot (idAt b (queueAt b + slotSize * z))) (sym q) ∙ ap slot (read-id (decoded b) b (s .holds) i x n)
+          here i x q n = e ∙ ap (λ (z : ℕ). slot (idAt b (queueAt b + slotSize * z))) (sym q) ∙ ap slot (read-id (decoded b) b (such-decoded _ b s) i x n)
 
           go : Dec (j ≡ k) → getD (set t p k) (slot (a .id)) 0 ≡ j
           go (yes q) = ap (λ (z : ℕ). getD (set t p k) z 0) (sym (here j a q m)) ∙ getD-set-same t p k 0 (omega (arith, f .size)) ∙ sym q
           go (no q) =
               let x : Action = actionAt b (queueAt b + slotSize * k) in
-              let there : at (queue ((decoded b) .log)) k ≡ some x = read-at (decoded b) b (s .holds) k (omega arith) in
-              let apart : slot (a .id) ≡ p → ⊥ = λ z. slots-apart (decoded b) b (s .holds) j k a x m there q (z ∙ here k x refl there) in
+              let there : at (queue ((decoded b) .log)) k ≡ some x = read-at (decoded b) b (such-decoded _ b s) k (omega arith) in
+              let apart : slot (a .id) ≡ p → ⊥ = λ z. slots-apart (decoded b) b (such-decoded _ b s) j k a x m there q (z ∙ here k x refl there) in
               getD-set-other t p (slot (a .id)) k 0 apart ∙ f .right j a low (omega arith) m
 
   pub filled-end : (k n : ℕ) (t : List ℕ) → Filled k t b → n ≡ numberAt 4 b 19 → n ≤ k → Indexed t b
   unfolding logIn
   filled-end k n t f m h = record {
-    stated = s;
+    holds = s;
+    counts = f .counts;
+    lists = holds-lists (s .state) b (s .holds);
     size = f .size;
-    right = λ j a low z. f .right j a low (omega (arith, at-low (queue ((decoded b) .log)) j a z, numbers (decoded b) b (s .holds) .queue)) z;
+    right = λ j a low z. f .right j a low (omega (arith, at-low (queue ((decoded b) .log)) j a z, numbers (decoded b) b (such-decoded _ b s) .queue)) z;
   }

@@ -25,7 +25,7 @@ use Rattle.replication.proofs.WellFormed.Ids.{same-id-yes, same-id-holds}
 use Rattle.engine.specs.Layout.{slotSize}
 use Rattle.engine.specs.Image.{image}
 use Rattle.engine.specs.Decode.{decoded}
-use Rattle.engine.proofs.InPlace.{Holds}
+use Rattle.engine.proofs.InPlace.{Holds, such-decoded}
 use Rattle.queue.specs.Queue.{position, queueCount, greenCount, queueAt}
 use Rattle.queue.proofs.Holding.{log-fits}
 use Rattle.queue.proofs.Positions.{Stands, position-found, position-most}
@@ -54,9 +54,9 @@ module _ (t b : List ℕ) (x : Indexed t b) (d : Id) where
       let there : at (queue ((decoded b) .log)) (redPlace d b) ≡ some (k .it) =
       red-at (position d ((decoded b) .log .red)) ∙ sym (find-at d ((decoded b) .log .red)) ∙ k .found in
       let named : idAt b (queueAt b + slotSize * redPlace d b) ≡ d =
-      read-id (decoded b) b (x .stated .holds) (redPlace d b) (k .it) there ∙ sym (k .named) in (
+      read-id (decoded b) b (such-decoded _ b (x .holds)) (redPlace d b) (k .it) there ∙ sym (k .named) in (
         ap (λ (e : Id). getD t (slot e) 0) (k .named) ∙ x .right (redPlace d b) (k .it) (omega arith) there,
-        omega (arith, queue-count b (x .stated)),
+        omega (arith, queue-count b (x .holds)),
         same-id-yes d _ (ap (λ (e : Id). e .creator) (sym named)) (ap (λ (e : Id). e .index) (sym named)),
       )
 
@@ -66,7 +66,7 @@ module _ (t b : List ℕ) (x : Indexed t b) (d : Id) where
   red-absent n =
       let most = position-most d (logIn b .red) in
       let least : length (logIn b .red) ≤ position d (logIn b .red) = go (known (length (logIn b .red) ≤? position d (logIn b .red))) in
-      omega (arith, queue-count b (x .stated))
+      omega (arith, queue-count b (x .holds))
     where
       go : Known (length (logIn b .red) ≤? position d (logIn b .red)) → length (logIn b .red) ≤ position d (logIn b .red)
       go (holds h) = le-holds _ _ h
@@ -74,7 +74,7 @@ module _ (t b : List ℕ) (x : Indexed t b) (d : Id) where
 
   green-low : greenCount b ≤ redPlace d b
   unfolding redPlace
-  green-low = omega (arith, green-read b (x .stated))
+  green-low = omega (arith, green-read b (x .holds))
 
   pub entry-green : (p k g n : ℕ) → p ≡ slot d → k ≡ getD t p 0 → g ≡ numberAt 4 b 23 → n ≡ numberAt 4 b 19 → k < g → n ≡ redPlace d b
   entry-green p k g n e f i j h =
@@ -98,13 +98,13 @@ module _ (t b : List ℕ) (x : Indexed t b) (d : Id) where
   entry-found k g n a has i low j high q e h =
       let w : Server = decoded b in
       let y : Action = actionAt b (queueAt b + slotSize * k) in
-      let there : at (queue ((decoded b) .log)) k ≡ some y = read-at w b (x .stated .holds) k (omega arith) in
-      let at-k : length ((decoded b) .log .green) + (k - length ((decoded b) .log .green)) ≡ k = omega (arith, green-read b (x .stated)) in
+      let there : at (queue ((decoded b) .log)) k ≡ some y = read-at w b (such-decoded _ b (x .holds)) k (omega arith) in
+      let at-k : length ((decoded b) .log .green) + (k - length ((decoded b) .log .green)) ≡ k = omega (arith, green-read b (x .holds)) in
       let red-there : at ((decoded b) .log .red) (k - length ((decoded b) .log .green)) ≡ some y =
       sym (red-at (k - length ((decoded b) .log .green))) ∙ ap (at (queue ((decoded b) .log))) at-k ∙ there in
       let named : d ≡ y .id =
-      same-id-holds d _ (sym e ∙ h) ∙ ap (λ (z : ℕ). idAt b (z + slotSize * k)) q ∙ read-id w b (x .stated .holds) k y there in
-      let once = fits-once (w .servers) (w .quota) (w .me) (w .log) (log-fits w (x .stated .holds .formed)) in
+      same-id-holds d _ (sym e ∙ h) ∙ ap (λ (z : ℕ). idAt b (z + slotSize * k)) q ∙ read-id w b (such-decoded _ b (x .holds)) k y there in
+      let once = fits-once (w .servers) (w .quota) (w .me) (w .log) (log-fits w (such-decoded _ b (x .holds) .formed)) in
       let place : position d ((decoded b) .log .red) ≡ k - length ((decoded b) .log .green) =
       ap (λ (z : Id). position z ((decoded b) .log .red)) named
       ∙ position-at ((decoded b) .log .red) once (k - length ((decoded b) .log .green)) y red-there in
@@ -117,8 +117,8 @@ unfolding redPlace logIn greenSwaps
 turned-passed t b d k n x e f h = go (swap? d ((decoded b) .log))
   where
     go : Swap d ((decoded b) .log) → Turned (d ∷ []) b t b
-    go (unmoved m p) = record { written = sym (ap (λ (l : Log). image (withLog l (decoded b)) b) p ∙ x .stated .holds .written); indexed = x }
-    go (moved s p) = absurd (omega (arith, queue-count b (x .stated), s .count, ap length (s .whole), length-append (s .before) (s .it ∷ s .behind)))
+    go (unmoved m p) = record { written = sym (ap (λ (l : Log). image (withLog l (decoded b)) b) p ∙ such-decoded _ b (x .holds) .written); indexed = x }
+    go (moved s p) = absurd (omega (arith, queue-count b (x .holds), s .count, ap length (s .whole), length-append (s .before) (s .it ∷ s .behind)))
 
 -- The swap leaves a table of the new queue: only the action that was the lowest red one has another place.
 module _ (s : Server) (b : List ℕ) (r : Holds s b) (d : Id) (k : Stands d (s .log .red) (position d (s .log .red))) (t : List ℕ)
@@ -174,15 +174,15 @@ unfolding redPlace logIn greenSwaps
 turned-swapped t b t₁ b₁ d k n g p x e f h i j made stored = go (swap? d ((decoded b) .log))
   where
     go : Swap d ((decoded b) .log) → Turned (d ∷ []) b t₁ b₁
-    go (unmoved m q) = absurd (omega (arith, queue-count b (x .stated)))
+    go (unmoved m q) = absurd (omega (arith, queue-count b (x .holds)))
     go (moved s q) =
         let w : Server = decoded b in
-        let r : Holds w b = x .stated .holds in
+        let r : Holds w b = such-decoded _ b (x .holds) in
         let l : Log = (decoded b) .log in
         let written : b₁ ≡ image (withLog (greenSwap d l) w) b = made ∙ ap (λ (z : ℕ). greenAt z b) e ∙ swap-image w b r d s in
         let held : Holds (withLog (greenSwap d l) w) b₁ = swaps-hold w b b₁ r (d ∷ []) written in
         let place : p ≡ slot (lowest (s .before) (s .it) .id) =
-        j ∙ ap (λ (z : ℕ). slot (idAt b (queueAt b + slotSize * z))) (i ∙ green-read b (x .stated))
+        j ∙ ap (λ (z : ℕ). slot (idAt b (queueAt b + slotSize * z))) (i ∙ green-read b (x .holds))
         ∙ ap slot (read-id w b r (length (l .green)) (lowest (s .before) (s .it)) (y-at w b r d s)) in
         let same : t₁ ≡ set t (slot (lowest (s .before) (s .it) .id)) (length (l .green) + position d (l .red)) =
         stored ∙ (λ z. set t (place z) (e z)) in

@@ -19,17 +19,13 @@ use Rattle.engine.specs.Image.{actionSlots, image}
 use Rattle.engine.specs.Decode.{decoded}
 use Rattle.engine.proofs.Used.{action-slots-length}
 use Rattle.engine.proofs.Fit.{well-formed-fits}
-use Rattle.engine.proofs.InPlace.{Holds}
-use Rattle.queue.proofs.Holding.{log-formed, log-fits, holds-counts, holds-decoded, image-holds}
+use Rattle.engine.proofs.InPlace.{Holds, such-decoded, holds-decoded, image-holds, holds-some, HoldsSome}
+use Rattle.queue.proofs.Holding.{log-formed, log-fits, holds-counts}
 use Rattle.queue.proofs.GreenLaws.{log-image-over}
 use Rattle.lists.proofs.Counts.{holds-counts as holds-lists}
 use Rattle.install.specs.Swaps.{greenSwaps}
-use Rattle.install.specs.Table.{Stated, logIn, Indexed, Turned}
+use Rattle.install.specs.Table.{logIn, Indexed, Turned}
 use Rattle.install.proofs.SwapFits.{swaps-kept, swaps-fits, swaps-append}
-
-pub holds-stated : (s : Server) (b : List ℕ) → Holds s b → Stated b
-holds-stated s b r =
-    record { holds = subst (λ (t : Server). Holds t b) (sym (holds-decoded s b r)) r; counts = holds-counts s b r; lists = holds-lists s b r }
 
 -- ---- the state that is left
 
@@ -47,9 +43,9 @@ module _ (s : Server) (b c : List ℕ) (r : Holds s b) (ds : List Id) (e : c ≡
   swaps-decoded = holds-decoded (withLog (greenSwaps ds (s .log)) s) c swaps-hold
 
 -- What the buffer says after that.
-pub turned-decoded : (ds : List Id) (b u c : List ℕ) → Stated b → Turned ds b u c → decoded c ≡ withLog (greenSwaps ds (logIn b)) (decoded b)
+pub turned-decoded : (ds : List Id) (b u c : List ℕ) → HoldsSome b → Turned ds b u c → decoded c ≡ withLog (greenSwaps ds (logIn b)) (decoded b)
 unfolding logIn
-turned-decoded ds b u c s e = swaps-decoded (decoded b) b c (s .holds) ds (e .written)
+turned-decoded ds b u c s e = swaps-decoded (decoded b) b c (such-decoded _ b s) ds (e .written)
 
 -- ---- one after the other
 
@@ -69,7 +65,7 @@ swaps-over s ds es b r =
     let own : length (actionSlots (m .own)) ≡ length (actionSlots (l .own)) = ap (λ (x : List Action). length (actionSlots x)) (k .own) in
     log-image-over s l m b ok (r .long) (omega arith) (omega arith) (omega arith)
 
-pub turned-append : (ds es : List Id) (b t₁ b₁ t₂ b₂ : List ℕ) → Stated b → Turned ds b t₁ b₁ → Turned es b₁ t₂ b₂ → Turned (ds ++ es) b t₂ b₂
+pub turned-append : (ds es : List Id) (b t₁ b₁ t₂ b₂ : List ℕ) → HoldsSome b → Turned ds b t₁ b₁ → Turned es b₁ t₂ b₂ → Turned (ds ++ es) b t₂ b₂
 unfolding logIn
 turned-append ds es b t₁ b₁ t₂ b₂ s e f =
     let v : Server = decoded b in
@@ -79,14 +75,14 @@ turned-append ds es b t₁ b₁ t₂ b₂ s e f =
       written =
           f .written
           ∙ (λ i. image (withLog (greenSwaps es ((d i) .log)) (d i)) (e .written i))
-          ∙ swaps-over v ds es b (s .holds)
+          ∙ swaps-over v ds es b (such-decoded _ b s)
           ∙ ap (λ (m : Log). image (withLog m v) b) (sym (swaps-append ds es (v .log)));
       indexed = f .indexed;
     }
 
 pub turned-none : (b t : List ℕ) → Indexed t b → Turned [] b t b
 unfolding greenSwaps logIn
-turned-none b t r = record { written = sym (r .stated .holds .written); indexed = r }
+turned-none b t r = record { written = sym (such-decoded _ b (r .holds) .written); indexed = r }
 
 -- ---- a table by the state
 
@@ -95,7 +91,9 @@ module _ (s : Server) (b t : List ℕ) (r : Holds s b) (size : length t ≡ most
   pub indexed-by : Indexed t b
   unfolding logIn
   indexed-by = record {
-    stated = holds-stated s b r;
+    holds = holds-some s b r;
+    counts = holds-counts s b r;
+    lists = holds-lists s b r;
     size = size;
     right =
         subst

@@ -14,16 +14,10 @@ use Rattle.replication.specs.Machine.Colours.{cut}
 use Rattle.replication.specs.Machine.WellFormed.{queue}
 use Rattle.engine.specs.Image.{image}
 use Rattle.engine.specs.Decode.{decoded}
-use Rattle.engine.proofs.InPlace.{Holds}
+use Rattle.engine.proofs.InPlace.{HoldsSome}
 use Rattle.queue.specs.Queue.{position, CountsIn}
 use Rattle.lists.specs.Lists.{CountsIn as ListsIn}
 use Rattle.install.specs.Swaps.{greenSwaps}
-
--- The buffer b holds a state: what it says. So its numbers are in range.
-pub record Stated (b : List ℕ) : Type 0 where
-  pub holds : Holds (decoded b) b
-  pub counts : CountsIn b
-  pub lists : ListsIn b
 
 unfoldable pub logIn : List ℕ → Log
 logIn b = (decoded b) .log
@@ -47,7 +41,9 @@ pub record InTable (c i : ℕ) : Type 0 where
 
 -- The table t has each red action's place in the queue at its id; what it has at other ids does not matter.
 pub record Indexed (t b : List ℕ) : Type 0 where
-  pub stated : Stated b
+  pub holds : HoldsSome b
+  pub counts : CountsIn b
+  pub lists : ListsIn b
   pub size : length t ≡ mostServers * mostQuota
   pub right : (k : ℕ) (a : Action) → length (logIn b .green) ≤ k → at (queue (logIn b)) k ≡ some a → getD t (slot (a .id)) 0 ≡ k
 

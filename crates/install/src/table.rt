@@ -6,8 +6,9 @@ ghost use Prim.Native.Nat.{_+_, _*_, _≤_, _<_};
 ghost use Rattle.format.specs.Read.{idAt};
 ghost use Rattle.record.specs.Values.{idOf, slot};
 ghost use Rattle.engine.specs.Layout.{slotSize};
-ghost use Rattle.queue.specs.Queue.{queueCount, greenCount, queueAt};
-ghost use Rattle.install.specs.Table.{Stated, redPlace, InTable, Indexed, Turned};
+ghost use Rattle.queue.specs.Queue.{queueCount, greenCount, queueAt, CountsIn};
+ghost use Rattle.engine.proofs.InPlace.{HoldsSome};
+ghost use Rattle.install.specs.Table.{redPlace, InTable, Indexed, Turned};
 use crate::swapping::green_at;
 use queue::finding::has_id;
 use queue::places::queue_place;
@@ -19,7 +20,7 @@ use record::bytes::num32;
 pub const PLACES: usize = State::MOST_SERVERS as usize * State::MOST_QUOTA as usize;
 
 // The place of an id in the table.
-fn entry(creator: u8, index: u16) -> usize
+pub fn entry(creator: u8, index: u16) -> usize
     requires { ⌜ InTable creator index ⌝ }
     ensures { λ r. ⌜ (r ≡ slot (idOf creator index)) × (r < 2048) ⌝ }
 {
@@ -27,8 +28,8 @@ fn entry(creator: u8, index: u16) -> usize
 }
 
 // The same for the action at the place k of the queue.
-fn entry_at(state: &[u8], k: usize) -> usize
-    requires { ⌜ Stated (now state) × (k < queueCount (now state)) ⌝ }
+pub fn entry_at(state: &[u8], k: usize) -> usize
+    requires { ⌜ HoldsSome (now state) × CountsIn (now state) × (k < queueCount (now state)) ⌝ }
     ensures { λ r. ⌜ (r ≡ slot (idAt (now (state .entry)) (queueAt (now (state .entry)) + slotSize * k))) × (r < 2048) ⌝ }
 {
     let at = queue_place(state) + 56 * k;
@@ -37,7 +38,7 @@ fn entry_at(state: &[u8], k: usize) -> usize
 
 // The table of the red actions.
 pub fn table(state: &[u8]) -> [u16; PLACES]
-    requires { ⌜ Stated (now state) ⌝ }
+    requires { ⌜ HoldsSome (now state) ⌝ }
     ensures { λ r. ⌜ Indexed r (now (state .entry)) ⌝ }
 {
     let mut places: [u16; PLACES] = [0; PLACES];

@@ -1,12 +1,13 @@
 -- Exchanges in place.
 -- Assumes nothing.
 use Prim.Native.Nat.{ℕ, _*_, _≤_}
-use mathlib.Core.Path.{_≡_, refl, sym, ap, _∙_}
+use mathlib.Core.Path.{_≡_, refl, ap, _∙_}
 use mathlib.Core.List.{List, []}
 use mathlib.Core.Logic.{inl, inr}
 use mathlib.Core.Option.{Option, none, some}
 use native.Mathlib.Nat.{mul-le-mul}
 use native.Mathlib.Omega.{arith}
+use lib.ListN.{length}
 use Rattle.base.specs.Prefixes.{begins-refl, begins-append}
 use Rattle.format.specs.Limits.{mostIndex, mostServers, mostQuota}
 use Rattle.format.specs.Write.{idsBytes}
@@ -19,11 +20,11 @@ use Rattle.engine.specs.Decode.{serversIn, quotaIn}
 use Rattle.engine.specs.Header.{headerOf, headerIn, setOf}
 use Rattle.engine.proofs.HeaderLaws.{header-loaded}
 use Rattle.engine.proofs.InRange.{in-range}
-use Rattle.engine.proofs.InPlace.{Holds}
+use Rattle.engine.proofs.InPlace.{Holds, HoldsSome, HoldsSuch}
 use Rattle.lists.specs.declared.votes.VoteNumbers.{VoteNumbers}
 use Rattle.lists.specs.Lists.{YellowRoom}
-use Rattle.lists.specs.Standing.{HoldsSome, HoldsWithRoom, voteNumbers, dropped}
-use Rattle.lists.proofs.Composed.{Composes, made-holds, made-over}
+use Rattle.lists.specs.Standing.{voteNumbers, dropped}
+use Rattle.engine.proofs.Chained.{then-holds, Covers, numbers-first, lists-chained}
 use Rattle.lists.proofs.Counts.{holds-servers, holds-quota, holds-counts}
 use Rattle.lists.proofs.MembershipLaws.{Saved, membership-kept}
 use Rattle.lists.proofs.NoteAllLaws.{all-formed}
@@ -83,25 +84,23 @@ attempt-low b h w e =
 
 -- ---- decided
 
-noted-then-votes : (s : Server) (l : List ℕ) (v : Votes) → Composes s (withNoted l s) (withVotes v (withNoted l s))
-noted-then-votes s l v =
-    record { cuts = inl refl; noted = inr (omega arith); held = inl refl; states = inl refl; ids = inl refl; own = inl refl; actions = inl refl }
+noted-then-votes : (s : Server) (l : List ℕ) (v : Votes) → Covers s (withNoted l s) (withVotes v (withNoted l s))
+noted-then-votes s l v = numbers-first s (withNoted l s) (withVotes v (withNoted l s)) (refl, refl) (refl, refl) refl refl refl refl refl
 
 abbrev AllNoted : List ℕ → List ℕ → Type 0
 AllNoted b c = (s : Server) → Holds s b → c ≡ image (withNoted (noteAll (collected s) (s .noted)) s) b
 
 noted-holds : (b c : List ℕ) → AllNoted b c → (s : Server) → Holds s b → Holds (withNoted (noteAll (collected s) (s .noted)) s) c
-noted-holds b c f s r = made-holds s (withNoted (noteAll (collected s) (s .noted)) s) b c r (all-formed s (r .formed)) (f s r)
+noted-holds b c f s r = then-holds s (withNoted (noteAll (collected s) (s .noted)) s) b c r (f s r) refl refl (all-formed s (r .formed))
 
-pub decided-room : (e b c : List ℕ) → HoldsWithRoom e b → AllNoted b c → YellowRoom e c
+pub decided-room : (e b c : List ℕ) → HoldsSuch (λ s. length e ≤ 3 * (s .servers * s .quota)) b → AllNoted b c → YellowRoom e c
 decided-room e b c h f =
-    let s : Server = h .some .state in
-    let r : Holds s b = h .some .holds in
+    let s : Server = h .state in
+    let r : Holds s b = h .holds in
     let t : Server = withNoted (noteAll (collected s) (s .noted)) s in
     let q = noted-holds b c f s r in
-    let same : serversIn b * quotaIn b ≡ serversIn c * quotaIn c =
-    (λ i. holds-servers s b r i * holds-quota s b r i) ∙ sym (λ i. holds-servers t c q i * holds-quota t c q i) in
-    record { counts = holds-counts t c q; short = omega (arith, h .short) }
+    let same : serversIn c * quotaIn c ≡ s .servers * s .quota = λ i. holds-servers t c q i * holds-quota t c q i in
+    record { counts = holds-counts t c q; short = omega (arith, h .fact) }
 
 pub decided-made : (e b c d : List ℕ) (x : VoteNumbers) → AllNoted b c
     → ((t : Server) (v : Votes) → Holds t c → x ≡ voteNumbers v → idsBytes (v .yellow .ids) ≡ e → d ≡ image (withVotes v t) c)
@@ -111,4 +110,4 @@ decided-made e b c d x f g s r h i =
     let l : List ℕ = noteAll (collected s) (s .noted) in
     let v : Votes = takenVotes (s .me) (collected s) in
     let t : Server = withNoted l s in
-    made-over s t (withVotes v t) b r (all-formed s (r .formed)) (noted-then-votes s l v) c d (f s r) (g t v (noted-holds b c f s r) h i)
+    lists-chained s t (withVotes v t) b r (all-formed s (r .formed)) (noted-then-votes s l v) (omega arith) (omega arith) c d (f s r) (g t v (noted-holds b c f s r) h i)

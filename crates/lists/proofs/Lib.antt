@@ -4,7 +4,6 @@ pub mod Counts
 pub mod YellowLaws
 pub mod NumberLaws
 pub mod MembershipLaws
-pub mod Composed
 pub mod VotesTaken
 pub mod RequestLaws
 pub mod NoteLaws

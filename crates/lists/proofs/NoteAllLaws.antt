@@ -4,7 +4,6 @@ use Prim.Native.Nat.{ℕ, zero, suc, _+_, _*_, _/_, _%_, _^_, _≤_, _<_}
 use mathlib.Core.Path.{_≡_, refl, sym, ap, ap₂, subst, _∙_}
 use mathlib.Core.Bool.{Bool, true, false, not}
 use mathlib.Core.List.{List, [], _∷_}
-use mathlib.Core.Logic.{inl, inr}
 use mathlib.Core.Option.{Option, none, some}
 use native.Mathlib.Nat.{zero-add, suc-mul}
 use native.Mathlib.Numerals.{add-one}
@@ -34,13 +33,11 @@ use Rattle.replication.proofs.WellFormed.Kept.{mode-kept}
 use Rattle.engine.specs.Layout.{stateSize, theStates}
 use Rattle.engine.specs.Image.{image}
 use Rattle.engine.specs.Decode.{serversIn, quotaIn, statesAt, decoded, decodedAs}
-use Rattle.engine.proofs.InPlace.{Holds}
-use Rattle.queue.proofs.Holding.{holds-decoded}
+use Rattle.engine.proofs.InPlace.{Holds, holds-decoded, HoldsSome, holds-header}
 use Rattle.lists.specs.Lists.{place, NumberIn}
 use Rattle.lists.specs.Noting.{noteSlot, noteFirst}
-use Rattle.lists.specs.Standing.{HoldsSome}
-use Rattle.lists.proofs.Counts.{holds-servers, holds-counts, header-room}
-use Rattle.lists.proofs.Composed.{Composes, made-holds, made-over}
+use Rattle.lists.proofs.Counts.{holds-servers, holds-counts}
+use Rattle.engine.proofs.Chained.{then-holds, Covers, numbers-first, lists-chained}
 
 -- ---- slot by slot
 
@@ -97,9 +94,8 @@ all-formed s ok =
     subst (λ (l : List ℕ). wellFormed (withNoted l s) ≡ true) (first-all (length (s .membership .states)) (s .membership .states) (s .noted) refl)
     (first-formed (length (s .membership .states)) s ok)
 
-noted-composes : (s : Server) (l m : List ℕ) → length l ≤ length m → Composes s (withNoted l s) (withNoted m s)
-noted-composes s l m h =
-    record { cuts = inl refl; noted = inr h; held = inl refl; states = inl refl; ids = inl refl; own = inl refl; actions = inl refl }
+noted-covers : (s : Server) (l m : List ℕ) → Covers s (withNoted l s) (withNoted m s)
+noted-covers s l m = numbers-first s (withNoted l s) (withNoted m s) (refl, refl) (refl, refl) refl refl refl refl refl
 
 -- ---- the turns of the loop
 
@@ -111,7 +107,7 @@ unfolding serversIn
 note-room b c k n h e l f =
     let s : Server = h .state in
     let r : Holds s b = h .holds in
-    let t : Holds (firstNoted k s) c = made-holds s (firstNoted k s) b c r (first-formed k s (r .formed)) (f s r) in
+    let t : Holds (firstNoted k s) c = then-holds s (firstNoted k s) b c r (f s r) refl refl (first-formed k s (r .formed)) in
     record { counts = holds-counts (firstNoted k s) c t; below = omega (arith, holds-servers s b r, holds-servers (firstNoted k s) c t) }
 
 pub note-turn : (b c d : List ℕ) (k n : ℕ) → n ≡ numberAt 1 b 0 → k < n → ((s : Server) → Holds s b → c ≡ image (firstNoted k s) b)
@@ -122,12 +118,12 @@ note-turn b c d k n e l f g s r =
     let t : Server = firstNoted k s in
     let m : List ℕ = noteSlot (getD (s .membership .states) k none) (t .noted) in
     let ok = first-formed k s (r .formed) in
-    let held : Holds t c = made-holds s t b c r ok (f s r) in
+    let held : Holds t c = then-holds s t b c r (f s r) refl refl ok in
     let count : length (s .membership .states) ≡ s .servers = body s (well-formed-facts s (r .formed)) .membership .states-length in
     let same : m ≡ noteFirst (k + 1) (s .membership .states) (s .noted) =
     sym (first-more k (s .membership .states) (s .noted) (omega (arith, holds-servers s b r))) ∙ ap (λ (j : ℕ). noteFirst j (s .membership .states) (s .noted)) (sym (add-one k)) in
     let long : length (t .noted) ≤ length m = omega (arith, ap length same, first-length k s, first-length (k + 1) s) in
-    made-over s t (withNoted m s) b r ok (noted-composes s (t .noted) m long) c d (f s r) (g t held)
+    lists-chained s t (withNoted m s) b r ok (noted-covers s (t .noted) m) (omega arith) long c d (f s r) (g t held)
     ∙ ap (λ (j : List ℕ). image (withNoted j s) b) same
 
 pub note-end : (b c : List ℕ) (k n : ℕ) → n ≡ numberAt 1 b 0 → k ≤ n → n ≤ k → ((s : Server) → Holds s b → c ≡ image (firstNoted k s) b)
@@ -188,11 +184,8 @@ slot-noted b c k l x h e f g i s r =
 
 -- ---- the code's numbers
 
-pub header-some : (b : List ℕ) → HoldsSome b → 60 ≤ length b
-header-some b h = header-room b (holds-counts (h .state) b (h .holds))
-
 pub front-some : (b : List ℕ) → HoldsSome b → 0 < length b
-front-some b h = omega (arith, header-some b h)
+front-some b h = omega (arith, holds-header (h .state) b (h .holds))
 
 pub member-told : (b : List ℕ) (x k : ℕ) → x ≡ numberAt 1 b 13 → eqb (x / 2 ^ k % 2) 1 ≡ inSet k (numberAt 1 b 13)
 unfolding inSet _=?_

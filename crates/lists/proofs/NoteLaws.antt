@@ -6,7 +6,7 @@ use mathlib.Core.List.{List, [], _∷_, _++_}
 use native.Mathlib.Omega.{arith}
 use lib.ListN.{length, getD, set}
 use lib.Seq.{set-getD}
-use Rattle.base.specs.Bytes.{bytesOf, numberAt, numbersAt}
+use Rattle.base.specs.Bytes.{bytesOf, numberAt}
 use Rattle.base.specs.BytesLaws.{bytes-length, numbers-at}
 use Rattle.base.specs.Lists.{sum}
 use Rattle.base.specs.Patched.{patched}
@@ -18,9 +18,9 @@ use Rattle.engine.specs.Image.{over, headerBytes, notedBytes, section, parts, i
 use Rattle.engine.specs.Decode.{serversIn, quotaIn, decoded, decodedAs}
 use Rattle.engine.proofs.InRange.{in-range}
 use Rattle.engine.proofs.Used.{noted-length}
-use Rattle.engine.proofs.InPlace.{Holds}
+use Rattle.engine.proofs.InPlace.{Holds, holds-decoded}
 use Rattle.queue.proofs.Inside.{changed-at, over-changed}
-use Rattle.queue.proofs.Holding.{holds-changed, holds-decoded}
+use Rattle.queue.proofs.Holding.{holds-changed}
 use Rattle.lists.specs.Lists.{place, NumberIn}
 use Rattle.lists.proofs.Changes.{changed-image}
 use Rattle.lists.proofs.Counts.{holds-servers, holds-place, place-read, header-room}

@@ -2,40 +2,28 @@
 -- Assumes nothing.
 use Prim.Native.Nat.{ℕ, zero, suc, _<_}
 use mathlib.Core.Path.{_≡_, refl, sym, ap, _∙_}
-use mathlib.Core.List.{List, [], _∷_, _++_, append-assoc}
+use mathlib.Core.List.{List, [], _∷_, _++_}
 use mathlib.Core.Logic.{⊎-elim}
 use mathlib.Core.Option.{Option}
 use native.Mathlib.Omega.{arith}
 use lib.ListN.{length, getD, take, drop, set, take-append-drop}
-use Rattle.base.specs.Bytes.{joined}
 use Rattle.base.specs.Lists.{Begins, sum}
 use Rattle.base.specs.Patched.{patched, patched-whole}
 use Rattle.format.specs.Types.{Action, State as Collected}
-use Rattle.format.specs.Write.{idsBytes, payloadBytes, cutsBytes}
+use Rattle.format.specs.Write.{idsBytes, cutsBytes}
 use Rattle.record.specs.declared.State.{State}
 use Rattle.replication.specs.Machine.Types.{Log, Votes, Membership, Server, noStates}
 use Rattle.replication.specs.Machine.WellFormed.{queue}
-use Rattle.engine.specs.Layout.{heldSize, stateSize, theHeader, theCuts, theNoted, theHeld, theStates, theYellow, theOwn, theQueue, sections}
-use Rattle.engine.specs.Image.{over, slot, headerBytes, notedBytes, stateOver, statesOver, actionSlots, heldSlots, section, parts, image}
+use Rattle.engine.specs.Layout.{stateSize, theHeader, theCuts, theNoted, theHeld, theStates, theYellow, theOwn, theQueue, sections}
+use Rattle.engine.specs.Image.{over, headerBytes, notedBytes, stateOver, statesOver, actionSlots, heldSlots, section, parts, image}
 use Rattle.engine.specs.Header.{headerOf, headerWritten}
-use Rattle.engine.proofs.Used.{header-length}
+use Rattle.engine.proofs.Used.{header-length, slots-append, ids-append, held-append}
 use Rattle.engine.proofs.HeaderLaws.{header-written, written-length}
 use Rattle.engine.proofs.InPlace.{Holds, holds-section, over-less}
 use Rattle.lists.specs.Lists.{changedTo, Shortened}
 use Rattle.lists.proofs.Changes.{changed-image}
 use Rattle.queue.proofs.Inside.{changed-at}
 use Rattle.queue.proofs.Holding.{holds-changed}
-use Rattle.queue.proofs.SlotLaws.{slots-append}
-use Rattle.lists.proofs.YellowLaws.{ids-append}
-
--- ---- slots as bytes
-
-pub held-append : (x y : List (List ℕ)) → heldSlots (x ++ y) ≡ heldSlots x ++ heldSlots y
-unfolding heldSlots joined
-held-append [] y = refl
-held-append (p ∷ x) y =
-    ap (λ (l : List ℕ). slot heldSize (payloadBytes p) ++ l) (held-append x y)
-    ∙ sym (append-assoc (slot heldSize (payloadBytes p)) (heldSlots x) (heldSlots y))
 
 -- ---- a beginning of a used part, dropped States
 

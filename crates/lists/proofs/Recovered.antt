@@ -33,19 +33,19 @@ use Rattle.engine.specs.Image.{over, headerBytes, actionSlots, section, parts, 
 use Rattle.engine.specs.Decode.{serversIn, quotaIn}
 use Rattle.engine.proofs.InRange.{in-range}
 use Rattle.engine.proofs.Fit.{well-formed-fits}
-use Rattle.engine.proofs.Used.{action-slots-length}
-use Rattle.engine.proofs.InPlace.{Holds, holds-section}
+use Rattle.engine.proofs.Used.{action-slots-length, slots-append}
+use Rattle.engine.proofs.InPlace.{Holds, holds-section, HoldsSome}
 use Rattle.queue.specs.Queue.{queueAt}
 use Rattle.queue.proofs.Fields.{fields, theQueueCount, theOwnCount}
 use Rattle.queue.proofs.Holding.{numbers, log-fits, log-formed, holds-counts, holds-changed}
 use Rattle.queue.proofs.Inside.{changed-at, over-extended, over-changed}
-use Rattle.queue.proofs.SlotLaws.{slots-append, cut-set}
+use Rattle.queue.proofs.SlotLaws.{cut-set}
 use Rattle.lists.specs.Lists.{place, numberedIn}
-use Rattle.lists.specs.Standing.{HoldsSome, EnterRoom, dropped}
+use Rattle.lists.specs.Standing.{EnterRoom, dropped}
 use Rattle.lists.proofs.Changes.{changed-image, part-here}
 use Rattle.lists.proofs.Counts.{holds-place, holds-numbered, header-room}
 use Rattle.lists.proofs.Counts as Lists
-use Rattle.lists.proofs.Composed.{Composes, made-holds, made-over}
+use Rattle.engine.proofs.Chained.{then-holds, Covers, same-begins, lists-chained}
 use Rattle.lists.proofs.Fields.{two-fields}
 use Rattle.lists.proofs.NumberLaws.{begun}
 use Rattle.lists.proofs.RecoveryLaws.{Following, log, all-entered}
@@ -183,10 +183,17 @@ own-entered b b₁ b₂ own count from to me c e₁ e₂ e₃ e₄ e₅ e₆ e�
 
 -- ---- the whole
 
-entered-composes : (s : Server) (l : Log) → Composes s (withLog l s) (dropped (withLog l s))
+entered-covers : (s : Server) (l : Log) → Covers s (withLog l s) (dropped (withLog l s))
 unfolding dropped
-entered-composes s l =
-    record { cuts = inr (omega arith); noted = inl refl; held = inl refl; states = inl refl; ids = inl refl; own = inr (omega arith); actions = inr (omega arith) }
+entered-covers s l = record {
+  servers = (refl, refl);
+  quota = (refl, refl);
+  held = same-begins (s .held) (s .held) [] refl;
+  states = inr refl;
+  ids = inl (omega arith);
+  own = inl (omega arith);
+  actions = inl (omega arith);
+}
 
 pub recovery-made : (b c d : List ℕ) → ((s : Server) → Holds s b → c ≡ image (withLog (reds (s .log .own) (s .log)) s) b)
     → ((t : Server) → Holds t c → d ≡ image (dropped t) c) → (s : Server) → Holds s b → d ≡ image (recovered s) b
@@ -194,4 +201,4 @@ unfolding recovered dropped
 recovery-made b c d f g s r =
     let t : Server = withLog (reds (s .log .own) (s .log)) s in
     let ok = entered-formed s (r .formed) in
-    made-over s t (dropped t) b r ok (entered-composes s (t .log)) c d (f s r) (g t (made-holds s t b c r ok (f s r)))
+    lists-chained s t (dropped t) b r ok (entered-covers s (t .log)) (omega arith) (omega arith) c d (f s r) (g t (then-holds s t b c r (f s r) refl refl ok))

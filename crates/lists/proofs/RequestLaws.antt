@@ -29,17 +29,16 @@ use Rattle.engine.specs.Header.{headerOf, headerIn}
 use Rattle.engine.specs.Image.{over, zeros, slot, headerBytes, actionSlots, heldSlots, section, parts, image}
 use Rattle.engine.proofs.Fit.{well-formed-fits}
 use Rattle.engine.proofs.HeaderLaws.{header-loaded}
-use Rattle.engine.proofs.Used.{slot-length, action-slots-length, held-slots-length}
+use Rattle.engine.proofs.Used.{slot-length, action-slots-length, held-slots-length, slots-append, held-append}
 use Rattle.engine.proofs.InPlace.{Holds}
 use Rattle.queue.proofs.Fields.{fields, theOwnCount}
 use Rattle.queue.proofs.Holding.{holds-changed}
 use Rattle.queue.proofs.Inside.{changed-at, over-extended}
-use Rattle.queue.proofs.SlotLaws.{slots-append, slots-one}
+use Rattle.queue.proofs.SlotLaws.{slots-one}
 use Rattle.lists.specs.Lists.{ownCount, heldCount, numberedIn, place, nextHead, PayloadRoom}
 use Rattle.lists.proofs.Changes.{changed-image}
 use Rattle.lists.proofs.Counts.{holds-place, holds-own-count, holds-held-count, holds-numbered}
 use Rattle.lists.proofs.Fields.{theNumbered, theHeldCount, one-field, two-fields}
-use Rattle.lists.proofs.NumberLaws.{held-append}
 
 -- The own list is no longer than what was numbered.
 pub own-short : (s : Server) (b : List ℕ) → Holds s b → length (s .log .own) ≤ s .log .numbered

@@ -28,12 +28,11 @@ use Rattle.engine.specs.Header.{headerOf, headerIn}
 use Rattle.engine.specs.Image.{over, zeros, slot, headerBytes, actionSlots, heldSlots, section, parts, image}
 use Rattle.engine.proofs.Fit.{well-formed-fits}
 use Rattle.engine.proofs.HeaderLaws.{header-loaded}
-use Rattle.engine.proofs.Used.{held-slot-length, action-slots-length}
+use Rattle.engine.proofs.Used.{held-slot-length, action-slots-length, slots-append}
 use Rattle.engine.proofs.InPlace.{Holds, holds-section}
 use Rattle.queue.proofs.Fields.{fields, theOwnCount}
 use Rattle.queue.proofs.Holding.{holds-changed}
 use Rattle.queue.proofs.Inside.{changed-at, over-extended}
-use Rattle.queue.proofs.SlotLaws.{slots-append}
 use Rattle.lists.specs.Lists.{place, ownCount, heldCount, numberedIn, nextHead}
 use Rattle.lists.specs.Sending.{laterHead, movedSlots, SendRoom, SendReady}
 use Rattle.lists.proofs.Changes.{changed-image, part-here}

@@ -3,7 +3,7 @@
 use Prim.Native.Nat.{ℕ, suc, _+_, _*_, _-_, _≤_, _<_}
 use mathlib.Core.Path.{_≡_, refl, sym, ap, ap₂, _∙_}
 use mathlib.Core.Bool.{Bool, true, false, not}
-use mathlib.Core.List.{List, [], _∷_, _++_, append-assoc, append-nil}
+use mathlib.Core.List.{List, [], _∷_, _++_, append-nil}
 use native.Mathlib.Decide.{ℕ-discrete}
 use native.Mathlib.Omega.{arith}
 use lib.Dec.{eqb}
@@ -27,6 +27,7 @@ use Rattle.replication.specs.Machine.Colours.{addId, joinYellow}
 use Rattle.engine.specs.Layout.{theHeader, theYellow, sections, offset}
 use Rattle.engine.specs.Image.{over, headerBytes, section, parts, image}
 use Rattle.engine.proofs.InRange.{in-range}
+use Rattle.engine.proofs.Used.{ids-append}
 use Rattle.engine.proofs.InPlace.{Holds}
 use Rattle.lists.specs.Lists.{yellowCount, place}
 use Rattle.lists.proofs.Changes.{changed-image}
@@ -37,11 +38,6 @@ use Rattle.lists.proofs.Fields.{theYellowCount, one-field}
 use Rattle.lists.proofs.Counts.{holds-yellow-count, holds-place, holds-ids}
 
 -- ---- ids as bytes
-
-pub ids-append : (xs ys : List Id) → idsBytes (xs ++ ys) ≡ idsBytes xs ++ idsBytes ys
-unfolding idsBytes joined
-ids-append [] ys = refl
-ids-append (x ∷ xs) ys = simp append-nil (ap (λ (l : List ℕ). idBytes x ++ l) (ids-append xs ys) ∙ sym (append-assoc (idBytes x) (idsBytes xs) (idsBytes ys)))
 
 pub ids-one : (d : Id) → idsBytes (d ∷ []) ≡ idBytes d
 unfolding idsBytes joined

@@ -1,4 +1,4 @@
--- Buffers that hold a state, and changes of whole parts of it.
+-- Room in a buffer, and changes of whole parts of a state.
 -- Assumes nothing.
 use Prim.Native.Nat.{ℕ, _+_, _*_, _≤_}
 use mathlib.Core.List.{List, []}
@@ -8,23 +8,11 @@ use Rattle.base.specs.Bytes.{numberAt}
 use Rattle.format.specs.Limits.{mostServers, mostQuota}
 use Rattle.replication.specs.Machine.Types.{Non-prim, Votes, Server, withMembership, withHeld, noStates}
 use Rattle.engine.specs.Layout.{headerSize, slotSize, theOwn}
-use Rattle.engine.specs.Decode.{serversIn, quotaIn}
 use Rattle.engine.specs.Header.{lastOf, markNumbers}
-use Rattle.engine.proofs.InPlace.{Holds}
 use Rattle.queue.specs.Queue.{queueAt}
 use Rattle.queue.specs.Queue as Queue
 use Rattle.lists.specs.Lists.{place, CountsIn}
 use Rattle.lists.specs.declared.votes.VoteNumbers.{VoteNumbers}
-
--- The buffer holds some state.
-pub record HoldsSome (b : List ℕ) : Type 0 where
-  pub state : Server
-  pub holds : Holds state b
-
--- The same, and a yellow list of these bytes has room in it.
-pub record HoldsWithRoom (e b : List ℕ) : Type 0 where
-  pub some : HoldsSome b
-  pub short : length e ≤ 3 * (serversIn b * quotaIn b)
 
 -- The own actions have room behind the queue.
 pub record EnterRoom (b : List ℕ) : Type 0 where

@@ -9,8 +9,8 @@ ghost use Rattle.replication.specs.Machine.Exchange.{takenVotes};
 ghost use Rattle.replication.specs.Machine.Step.{oneMore, resending, attempting, collected, decided};
 ghost use Rattle.engine.specs.Image.{image};
 ghost use Rattle.engine.specs.Header.{headerOf};
-ghost use Rattle.engine.proofs.InPlace.{Holds};
-ghost use Rattle.lists.specs.Standing.{HoldsSome, HoldsWithRoom, voteNumbers};
+ghost use Rattle.engine.proofs.InPlace.{Holds, HoldsSome, HoldsSuch};
+ghost use Rattle.lists.specs.Standing.{voteNumbers};
 use crate::notes::note_all;
 use crate::numbers::save_numbers;
 use crate::votes::VoteNumbers;
@@ -93,7 +93,7 @@ pub fn attempt(state: &mut [u8])
 
 // Noted lengths and votes as the States decide; v and ids are the votes that they decide.
 pub fn decide(state: &mut [u8], v: VoteNumbers, ids: &[u8])
-    requires { ⌜ HoldsWithRoom (now ids) (now state) ⌝ }
+    requires { ⌜ HoldsSuch (λ s. length (now ids) ≤ 3 * (s .servers * s .quota)) (now state) ⌝ }
     ensures { λ _. ⌜ ((s : Server) → Holds s (now (state .entry)) → v ≡ voteNumbers (takenVotes (s .me) (collected s)) → idsBytes (takenVotes (s .me) (collected s) .yellow .ids) ≡ now (ids .entry) → now (state .exit) ≡ image (decided s) (now (state .entry))) ⌝ }
 {
     note_all(state);

@@ -23,14 +23,13 @@ use Rattle.engine.specs.Layout.{slotSize, stateLength}
 use Rattle.engine.specs.Image.{over, actionSlots, image}
 use Rattle.engine.proofs.Used.{action-slots-length}
 use Rattle.engine.proofs.Fit.{well-formed-fits}
-use Rattle.engine.proofs.Again.{image-over, image-twice}
-use Rattle.engine.proofs.InPlace.{Holds}
+use Rattle.engine.proofs.Again.{covering-over, image-twice}
+use Rattle.engine.proofs.InPlace.{Holds, image-holds, HoldsSuch}
 use Rattle.record.specs.declared.ActionHead.{ActionHead}
 use Rattle.record.specs.Values.{idOf, actionOf}
 use Rattle.queue.specs.Queue.{position, CountsIn, RoomIfNext}
-use Rattle.queue.specs.Ready.{Ready}
 use Rattle.queue.proofs.Positions.{position-found, position-none}
-use Rattle.queue.proofs.Holding.{log-formed, log-fits, holds-counts, image-holds}
+use Rattle.queue.proofs.Holding.{log-formed, log-fits, holds-counts}
 use Rattle.queue.proofs.RedLaws.{room-if-next}
 
 -- The image of a state with longer lists over that of another.
@@ -38,7 +37,7 @@ pub log-image-over : (s : Server) (l m : Log) (b : List ℕ) → wellFormed (wit
     → length (cutsBytes (l .cuts)) ≤ length (cutsBytes (m .cuts)) → length (actionSlots (l .own)) ≤ length (actionSlots (m .own))
     → length (actionSlots (queue l)) ≤ length (actionSlots (queue m)) → image (withLog m s) (image (withLog l s) b) ≡ image (withLog m s) b
 log-image-over s l m b ok h cuts own actions =
-    image-over (withLog l s) (well-formed-fits (withLog l s) ok) b h (withLog m s)
+    covering-over (withLog l s) (well-formed-fits (withLog l s) ok) b h (withLog m s)
     (record { cuts = inr cuts; noted = inr (omega arith); held = inr (omega arith); states = inr refl; ids = inr (omega arith); own = inr own; actions = inr actions })
 
 promote-over : (s : Server) (x : Action) (l : Log) (b : List ℕ) → wellFormed (withLog l s) ≡ true → stateLength (s .servers) (s .quota) ≤ length b
@@ -102,15 +101,15 @@ red-holds s a b c r d e =
     subst (Holds (withLog (red a (s .log)) s)) (sym e) (image-holds s (withLog (red a (s .log)) s) b r refl refl (reddened s a b r d))
 
 module _ (h : ActionHead) (p b : List ℕ) where
-  pub ready-room : Ready (actionOf h p) b → RoomIfNext (h .creator) (h .index) (length p) b
+  pub ready-room : HoldsSuch (λ s. Delivered s (actionOf h p)) b → RoomIfNext (h .creator) (h .index) (length p) b
   unfolding actionOf idOf
-  ready-room r = room-if-next (r .state) (actionOf h p) b (r .holds) (r .delivered)
+  ready-room r = room-if-next (r .state) (actionOf h p) b (r .holds) (r .fact)
 
-  pub ready-counts : (c : List ℕ) → Ready (actionOf h p) b
+  pub ready-counts : (c : List ℕ) → HoldsSuch (λ s. Delivered s (actionOf h p)) b
       → ((s : Server) → Holds s b → Delivered s (actionOf h p) → c ≡ image (withLog (red (actionOf h p) (s .log)) s) b) → CountsIn c
   ready-counts c r f =
       holds-counts (withLog (red (actionOf h p) (r .state .log)) (r .state)) c
-      (red-holds (r .state) (actionOf h p) b c (r .holds) (r .delivered) (f (r .state) (r .holds) (r .delivered)))
+      (red-holds (r .state) (actionOf h p) b c (r .holds) (r .fact) (f (r .state) (r .holds) (r .fact)))
 
   pub green-made : (c e : List ℕ) → ((s : Server) → Holds s b → Delivered s (actionOf h p) → c ≡ image (withLog (red (actionOf h p) (s .log)) s) b)
       → ((t : Server) → Holds t c → e ≡ image (withLog (greenId (idOf (h .creator) (h .index)) (t .log)) t) c)

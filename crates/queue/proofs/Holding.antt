@@ -22,10 +22,8 @@ use Rattle.replication.proofs.WellFormed.Logs.{LogFits}
 use Rattle.engine.specs.Layout.{SizesIn, slotSize, stateSize, theCuts, theNoted, theHeld, theStates, theYellow, theOwn, theQueue, sections, offset, stateLength}
 use Rattle.engine.specs.Image.{over, headerBytes, notedBytes, statesOver, actionSlots, heldSlots, section, parts, image}
 use Rattle.engine.specs.Header.{headerOf, headerIn}
-use Rattle.engine.specs.Decode.{actionsAt, decodedAs, serversIn, quotaIn, decoded}
 use Rattle.engine.proofs.InRange.{InRange, in-range}
 use Rattle.engine.proofs.Fit.{well-formed-fits, image-laid}
-use Rattle.engine.proofs.ImageLaws.{image-length, image-again, decoded-image}
 use Rattle.engine.proofs.HeaderLaws.{header-loaded}
 use Rattle.engine.proofs.InPlace.{Holds}
 use Rattle.queue.specs.Queue.{CountsIn}
@@ -109,11 +107,6 @@ counts-of s b n q r e f g h m =
 pub holds-counts : (s : Server) (b : List ℕ) → Holds s b → CountsIn b
 holds-counts s b r = let m = numbers s b r in counts-of s b (s .servers) (s .quota) r refl refl (m .servers) (m .quota) m
 
--- ---- lists
-
-pub holds-decoded : (s : Server) (b : List ℕ) → Holds s b → decoded b ≡ s
-holds-decoded s b r = ap decoded (sym (r .written)) ∙ decoded-image s b (r .formed) (r .long)
-
 -- ---- sections
 
 pub holds-changed : (s : Server) (b : List ℕ) → Holds s b → Changed (sections (s .servers) (s .quota)) (parts (s .servers) (s .quota) s b) b b
@@ -152,9 +145,3 @@ log-image s l b c h x y z m eh ex ey ez =
     ∷ ez i
     ∷ [])
     (m .rest)
-
--- The image of a well-formed state is held.
-pub image-holds : (s t : Server) (b : List ℕ) → Holds s b → t .servers ≡ s .servers → t .quota ≡ s .quota → wellFormed t ≡ true → Holds t (image t b)
-image-holds s t b r e f ok =
-    let room : stateLength (t .servers) (t .quota) ≤ length b = subst (λ (m : ℕ). m ≤ length b) (λ i. stateLength (sym e i) (sym f i)) (r .long) in
-    record { formed = ok; written = image-again t b ok room; long = omega (arith, image-length t b ok room) }

@@ -25,18 +25,18 @@ use Rattle.engine.specs.Layout.{slotSize, theHeader, theQueue, sections, offset
 use Rattle.engine.specs.Image.{over, slot, headerBytes, actionSlots, section, parts, image}
 use Rattle.engine.specs.Decode.{actionsAt, decodedAs, serversIn, quotaIn, decoded}
 use Rattle.engine.proofs.InRange.{in-range}
-use Rattle.engine.proofs.Used.{ActionFits, action-slot-length, action-slots-length}
+use Rattle.engine.proofs.Used.{ActionFits, action-slot-length, action-slots-length, slots-append}
 use Rattle.engine.proofs.Fit.{well-formed-fits, section-length}
 use Rattle.engine.proofs.Slots.{actions-count}
 use Rattle.engine.proofs.Decoded.{image-part}
-use Rattle.engine.proofs.InPlace.{Holds, holds-section}
+use Rattle.engine.proofs.InPlace.{Holds, holds-section, holds-decoded}
 use Rattle.record.specs.Values.{idOf}
 use Rattle.queue.specs.Queue.{position, queueAt, redsIn, promoted}
 use Rattle.queue.proofs.Inside.{Changed, changed-at, over-changed}
 use Rattle.queue.proofs.Fields.{fieldSizes, fields, header-fields, fields-sized, field-changed, theGreenCount}
-use Rattle.queue.proofs.SlotLaws.{slots-append, slots-one, slots-cons}
+use Rattle.queue.proofs.SlotLaws.{slots-one, slots-cons}
 use Rattle.queue.proofs.Positions.{Stands, position-found, position-none, actions-drop}
-use Rattle.queue.proofs.Holding.{log-formed, log-fits, Numbers, numbers, holds-counts, holds-decoded, holds-changed, log-image}
+use Rattle.queue.proofs.Holding.{log-formed, log-fits, Numbers, numbers, holds-counts, holds-changed, log-image}
 
 -- ---- lists
 

@@ -21,9 +21,8 @@ use Rattle.replication.specs.Machine.Colours.{find}
 use Rattle.replication.specs.Machine.WellFormed.{queue}
 use Rattle.engine.specs.Layout.{slotSize}
 use Rattle.engine.specs.Decode.{actionsAt, decodedAs, serversIn, quotaIn, decoded}
-use Rattle.engine.proofs.InPlace.{Holds}
+use Rattle.engine.proofs.InPlace.{Holds, holds-decoded}
 use Rattle.queue.specs.Queue.{position, queueCount, queueAt, ownCount, ownAt}
-use Rattle.queue.proofs.Holding.{holds-decoded}
 
 -- ---- the lists
 

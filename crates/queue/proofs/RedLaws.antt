@@ -18,11 +18,11 @@ use Rattle.replication.proofs.WellFormed.RuleFacts.{Delivered}
 use Rattle.engine.specs.Layout.{sections, offset}
 use Rattle.engine.specs.Image.{image}
 use Rattle.engine.specs.Decode.{decodedAs, serversIn, quotaIn, decoded}
-use Rattle.engine.proofs.InPlace.{Holds}
+use Rattle.engine.proofs.InPlace.{Holds, holds-decoded}
 use Rattle.record.specs.declared.ActionHead.{ActionHead}
 use Rattle.record.specs.Values.{idOf, actionOf}
 use Rattle.queue.specs.Queue.{RoomFor, RoomIfNext}
-use Rattle.queue.proofs.Holding.{numbers, holds-counts, holds-decoded}
+use Rattle.queue.proofs.Holding.{numbers, holds-counts}
 use Rattle.queue.proofs.Entered.{room-for}
 
 pub cut-read : (s : Server) (b : List ℕ) (c : ℕ) → Holds s b → c < s .servers → numberAt 2 b (60 + 2 * c) ≡ cut (s .log) c

@@ -2,7 +2,7 @@
 -- Assumes nothing.
 use Prim.Native.Nat.{ℕ, zero, suc, _+_, _*_, _-_, _/_, _%_, _≤_, _<_}
 use mathlib.Core.Path.{_≡_, refl, sym, ap, ap₂, _∙_}
-use mathlib.Core.List.{List, [], _∷_, _++_, append-assoc, append-nil, map}
+use mathlib.Core.List.{List, [], _∷_, _++_, append-nil, map}
 use native.Mathlib.Omega.{arith}
 use lib.ListN.{length, getD, take, drop, set}
 use Rattle.base.specs.Bytes.{bytesOf, joined}
@@ -11,13 +11,6 @@ use Rattle.format.specs.Types.{Action}
 use Rattle.format.specs.Write.{cutsBytes, actionBytes}
 use Rattle.engine.specs.Layout.{slotSize}
 use Rattle.engine.specs.Image.{slot, actionSlots}
-
-pub slots-append : (x y : List Action) → actionSlots (x ++ y) ≡ actionSlots x ++ actionSlots y
-unfolding actionSlots joined
-slots-append [] y = refl
-slots-append (a ∷ x) y =
-    ap (λ (l : List ℕ). slot slotSize (actionBytes a) ++ l) (slots-append x y)
-    ∙ sym (append-assoc (slot slotSize (actionBytes a)) (actionSlots x) (actionSlots y))
 
 pub slots-one : (a : Action) → actionSlots (a ∷ []) ≡ slot slotSize (actionBytes a)
 unfolding actionSlots joined

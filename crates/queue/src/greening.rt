@@ -8,9 +8,8 @@ ghost use Rattle.replication.specs.Machine.Colours.{greenId, green as greened};
 ghost use Rattle.replication.proofs.WellFormed.RuleFacts.{Delivered};
 ghost use Rattle.engine.specs.Layout.{slotSize};
 ghost use Rattle.engine.specs.Image.{image};
-ghost use Rattle.engine.proofs.InPlace.{Holds};
+ghost use Rattle.engine.proofs.InPlace.{Holds, HoldsSuch};
 ghost use Rattle.queue.specs.Queue.{position, queueCount, greenCount, redsIn, CountsIn, promoted};
-ghost use Rattle.queue.specs.Ready.{Ready};
 use crate::entering::red;
 use crate::finding::find;
 use crate::places::queue_place;
@@ -68,7 +67,7 @@ pub fn green_id(state: &mut [u8], creator: u8, index: u16)
 
 // "As red, then" green.
 pub fn green(state: &mut [u8], head: ActionHead, payload: &[u8])
-    requires { ⌜ Ready (actionOf head (now payload)) (now state) ⌝ }
+    requires { ⌜ HoldsSuch (λ s. Delivered s (actionOf head (now payload))) (now state) ⌝ }
     ensures { λ _. ⌜ ((s : Server) → Holds s (now (state .entry)) → Delivered s (actionOf head (now (payload .entry))) → now (state .exit) ≡ image (withLog (greened (actionOf head (now (payload .entry))) (s .log)) s) (now (state .entry))) ⌝ }
 {
     red(state, head, payload);

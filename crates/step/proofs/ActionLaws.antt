@@ -22,14 +22,13 @@ use Rattle.replication.specs.Machine.Colours.{red, yellow}
 use Rattle.replication.specs.Machine.Install.{install}
 use Rattle.replication.proofs.WellFormed.RuleFacts.{Delivered, RuleFits}
 use Rattle.engine.specs.Image.{modeNumber, image}
-use Rattle.engine.proofs.InPlace.{Holds}
+use Rattle.engine.proofs.InPlace.{Holds, HoldsSuch, such-fact}
 use Rattle.engine.specs.Decode.{modeNamed}
 use Rattle.queue.specs.Queue.{RoomIfNext}
 use Rattle.queue.proofs.RedLaws.{room-if-next}
 use Rattle.step.specs.declared.Answer.{Answer}
-use Rattle.step.specs.Answers.{answered, outcomeOn, HoldsSuch, InForce, refusedWith, quietly, storedFirst}
+use Rattle.step.specs.Answers.{answered, outcomeOn, InForce, refusedWith, quietly, storedFirst}
 use Rattle.step.specs.Events.{Takes}
-use Rattle.step.proofs.Chained.{such-fact}
 use Rattle.step.proofs.AnswerLaws.{Passes, untaken, impossible, outside, passed, passed-fits, not-there, refused-as, quiet-as, stored-as}
 use Rattle.step.proofs.ForceLaws.{numbers-mode, below-eight, OwnNumbered, own-numbered, Member}
 use Rattle.step.proofs.ModeLaws.{in-mode}

@@ -27,15 +27,14 @@ use Rattle.replication.proofs.WellFormed.RuleFacts.{Delivered}
 use Rattle.record.specs.declared.ActionHead.{ActionHead}
 use Rattle.record.specs.Values.{idOf, actionOf}
 use Rattle.engine.specs.Image.{image}
-use Rattle.engine.proofs.InPlace.{Holds}
+use Rattle.engine.proofs.InPlace.{Holds, HoldsSuch, such-fact}
 use Rattle.queue.specs.Queue.{RoomFor}
 use Rattle.queue.proofs.Holding.{log-formed, log-fits}
 use Rattle.queue.proofs.Entered.{entered-formed, room-for}
 use Rattle.queue.proofs.RedLaws.{cut-read, room-if-next}
 use Rattle.lists.specs.Lists.{CountsIn, NumberIn}
 use Rattle.lists.proofs.Counts.{holds-servers, holds-counts}
-use Rattle.step.specs.Answers.{HoldsSuch}
-use Rattle.step.proofs.Chained.{such-fact, Covers, chained, then-holds}
+use Rattle.engine.proofs.Chained.{Covers, chained, then-holds}
 
 -- ---- well-formed states on the way
 

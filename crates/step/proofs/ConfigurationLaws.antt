@@ -1,11 +1,10 @@
 -- Configurations: whether one can come, and where it leads.
 -- Assumes nothing.
-use Prim.Native.Nat.{ℕ, _≤_}
+use Prim.Native.Nat.{ℕ}
 use mathlib.Core.Path.{_≡_, refl, sym, ap, _∙_}
 use mathlib.Core.Bool.{Bool, true, false, not}
 use mathlib.Core.List.{List}
 use mathlib.Core.Option.{some}
-use lib.ListN.{length}
 use borrow.Author.Tests.{not-true, not-false}
 use Rattle.base.specs.Tests.{_or_, _=?_, pick}
 use Rattle.format.specs.Types.{Record, regular, transitional}
@@ -18,13 +17,12 @@ use Rattle.replication.proofs.WellFormed.RuleFacts.{RuleFits}
 use Rattle.engine.specs.Image.{modeNumber, image}
 use Rattle.engine.specs.Header.{headerOf}
 use Rattle.engine.specs.Decode.{modeNamed}
-use Rattle.engine.proofs.InPlace.{Holds}
+use Rattle.engine.proofs.InPlace.{Holds, HoldsSuch, such-fact}
 use Rattle.lists.specs.Lists.{configurationOf}
 use Rattle.step.specs.declared.Answer.{Answer}
-use Rattle.step.specs.Answers.{answered, outcomeOn, HoldsSuch, LentSuch, InForce, refusedWith, quietly}
+use Rattle.step.specs.Answers.{answered, outcomeOn, LentSuch, InForce, refusedWith, quietly}
 use Rattle.step.specs.Events.{modeAfter}
-use Rattle.step.proofs.Chained.{such-fact, lent-fact}
-use Rattle.step.proofs.InstallingLaws.{holds-header}
+use Rattle.step.proofs.LentFacts.{lent-fact}
 use Rattle.step.proofs.AnswerLaws.{Passes, untaken, impossible, passed, passed-fits, refused-as, quiet-as}
 use Rattle.step.proofs.ModeLaws.{regular-not, no-transitional, leads}
 use Rattle.step.proofs.ForceLaws.{numbers-mode, numbers-at}
@@ -126,9 +124,6 @@ module _ (h : Numbers) (id set : ℕ) (b o : List ℕ) (f : LentSuch (InForce h 
         trans-joined e w s y = taken 2 (joiningYellow c) e refl refl v x z s y (w s s y)
 
 -- ---- transitional ones
-
-pub such-header : (P : Server → Type 0) (b : List ℕ) → HoldsSuch P b → 60 ≤ length b
-such-header P b f = holds-header (f .state) b (f .holds)
 
 module _ (h : Numbers) (set : ℕ) (b : List ℕ) (f : HoldsSuch (InForce h (transitional set)) b) where
   abbrev x : Record

@@ -17,10 +17,10 @@ use Rattle.replication.specs.Machine.Step.{quiet, collectCpc, collectLateCpc, a
 use Rattle.engine.specs.Image.{modeNumber, image}
 use Rattle.engine.specs.Header.{headerOf}
 use Rattle.engine.specs.Decode.{modeNamed}
-use Rattle.engine.proofs.InPlace.{Holds}
+use Rattle.engine.proofs.InPlace.{Holds, HoldsSuch}
 use Rattle.step.specs.declared.Answer.{Answer}
-use Rattle.step.specs.Answers.{answered, outcomeOn, HoldsSuch, LentSuch, InForce, withLateCpc, refusedWith, quietly}
-use Rattle.step.proofs.Chained.{lent-fact}
+use Rattle.step.specs.Answers.{answered, outcomeOn, LentSuch, InForce, withLateCpc, refusedWith, quietly}
+use Rattle.step.proofs.LentFacts.{lent-fact}
 use Rattle.step.proofs.AnswerLaws.{Passes, untaken, outside, passed, passed-fits, not-there, refused-as, quiet-as}
 use Rattle.step.proofs.ForceLaws.{numbers-mode, numbers-at, below-eight}
 

@@ -27,24 +27,22 @@ use Rattle.replication.specs.Machine.WellFormed.{queue, wellFormed}
 use Rattle.replication.specs.Machine.WellFormedFacts.{Configured}
 use Rattle.engine.specs.Layout.{outLength}
 use Rattle.engine.specs.Image.{over, image}
-use Rattle.engine.specs.Decode.{serversIn, quotaIn}
 use Rattle.engine.specs.Header.{idOf, headerOf, headerIn}
 use Rattle.engine.proofs.HeaderLaws.{header-loaded}
 use Rattle.engine.proofs.InRange.{in-range}
-use Rattle.engine.proofs.InPlace.{Holds}
+use Rattle.engine.proofs.InPlace.{Holds, HoldsSuch, such-fact, HoldsSome, holds-some}
 use Rattle.queue.proofs.Inside.{over-front}
 use Rattle.lists.specs.declared.votes.VoteNumbers.{VoteNumbers}
 use Rattle.lists.specs.Sending.{SendReady}
-use Rattle.lists.specs.Standing.{HoldsSome, HoldsWithRoom, voteNumbers}
-use Rattle.lists.proofs.Counts.{holds-servers, holds-quota}
+use Rattle.lists.specs.Standing.{voteNumbers}
 use Rattle.lists.proofs.Sent.{holds-ready}
 use Rattle.exchange.specs.declared.decided.TakenVotes.{TakenVotes}
 use Rattle.exchange.specs.Decided.{votesNumbers}
 use Rattle.exchange.specs.Table.{Listed}
 use Rattle.step.specs.declared.Answer.{Answer}
-use Rattle.step.specs.Answers.{answered, outcomeOn, HoldsSuch, LentSuch, storedFirst, recordBytes}
-use Rattle.step.proofs.Chained.{such-fact, lent-fact, lent-room, Covers, chained, then-holds}
-use Rattle.step.proofs.Covering.{numbers-then}
+use Rattle.step.specs.Answers.{answered, outcomeOn, LentSuch, storedFirst, recordBytes}
+use Rattle.step.proofs.LentFacts.{lent-fact, lent-room}
+use Rattle.engine.proofs.Chained.{Covers, chained, then-holds, numbers-then}
 use Rattle.step.proofs.ExchangeStates.{decided-formed, attempting-formed, staying-formed}
 use Rattle.step.proofs.LentLaws.{holds-products, put-room, put-done, one-record}
 use Rattle.step.proofs.OutcomeLaws.{stored-outcome}
@@ -81,13 +79,12 @@ module _ (b o₁ : List ℕ) (count room : ℕ) (m : HoldsSuch Idle b)
       let all : t .servers * t .quota ≤ 8 * 256 = mul-le-mul {n₁ = t .servers} {m₁ = t .quota} {n₂ = 8} {m₂ = 256} (z .most) (z .highest) in
       omega (arith, taken-few t b (m .holds) (idle t (m .holds)), listed t (m .holds) .count)
 
-  pub taken-room : HoldsWithRoom (take (3 * count) o₁) b
+  pub taken-room : HoldsSuch (λ s. length (take (3 * count) o₁) ≤ 3 * (s .servers * s .quota)) b
   taken-room =
       let t = m .state in
       let r = m .holds in
-      let few : count ≤ serversIn b * quotaIn b = rw (holds-servers t b r, holds-quota t b r)
-      (omega (arith, taken-few t b r (idle t r), listed t r .count)) in
-      record { some = record { state = t; holds = r }; short = omega (arith, length-take (3 * count) o₁) }
+      let few : count ≤ t .servers * t .quota = omega (arith, taken-few t b r (idle t r), listed t r .count) in
+      record { state = t; holds = r; fact = omega (arith, length-take (3 * count) o₁) }
 
   pub all-decided : (c : List ℕ) (v : TakenVotes) (x : VoteNumbers) → ((t : Server) → Holds t b → v ≡ votesNumbers (takenVotes (t .me) (collected t)))
       → ((w : Votes) → v ≡ votesNumbers w → count ≡ length (w .yellow .ids) → x ≡ voteNumbers w)
@@ -134,7 +131,7 @@ id-here (some c) = refl
 
 module _ (b o : List ℕ) (m : LentSuch Attempts b o) where
   pub attempt-some : (c : List ℕ) → Decided b c → HoldsSome c
-  attempt-some c f = record { state = decided (m .state); holds = decided-holds (m .state) b c (m .holds) (m .fact .1) f }
+  attempt-some c f = holds-some (decided (m .state)) c (decided-holds (m .state) b c (m .holds) (m .fact .1) f)
 
   module _ (h : State) (e : h ≡ headerIn b) (w : Written) (o₁ : List ℕ) (p : putOf w o₁ ≡ put (write (cpc (h .me) (h .«configuration_id»))) 0 o) where
     own-cpc : (t : Server) → Holds t b → cpc (h .me) (h .«configuration_id») ≡ cpc (t .me) (hereId t)

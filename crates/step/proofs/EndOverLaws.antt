@@ -21,8 +21,7 @@ use Rattle.engine.specs.Image.{over, image}
 use Rattle.engine.specs.Outcome.{resultOf, word}
 use Rattle.engine.proofs.InPlace.{Holds}
 use Rattle.step.specs.Answers.{outcomeOn}
-use Rattle.step.proofs.Chained.{Covers, image-over}
-use Rattle.step.proofs.Covering.{same-begins}
+use Rattle.engine.proofs.Chained.{Covers, image-over, same-begins}
 use Rattle.step.proofs.ExchangeStates.{attempting-formed, staying-formed}
 
 -- ---- outcomes over other bytes

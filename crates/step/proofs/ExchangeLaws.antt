@@ -18,10 +18,11 @@ use Rattle.replication.proofs.WellFormed.RuleFacts.{Delivered}
 use Rattle.engine.specs.Image.{image}
 use Rattle.engine.specs.Header.{headerOf, headerIn}
 use Rattle.engine.proofs.HeaderLaws.{header-loaded}
-use Rattle.engine.proofs.InPlace.{Holds}
+use Rattle.engine.proofs.InPlace.{Holds, HoldsSuch}
 use Rattle.step.specs.declared.Answer.{Answer}
-use Rattle.step.specs.Answers.{answered, outcomeOn, HoldsSuch, LentSuch, quietly}
-use Rattle.step.proofs.Chained.{lent-fact, then-holds}
+use Rattle.step.specs.Answers.{answered, outcomeOn, LentSuch, quietly}
+use Rattle.step.proofs.LentFacts.{lent-fact}
+use Rattle.engine.proofs.Chained.{then-holds}
 use Rattle.step.proofs.EndLaws.{Ends}
 use Rattle.step.proofs.EndOverLaws.{end-mode, Before, end-over}
 use Rattle.step.proofs.ExchangeStates.{awaiting, last-formed}

@@ -33,9 +33,8 @@ use Rattle.engine.specs.Image.{over, slot, heldSlots, parts}
 use Rattle.engine.specs.Decode.{heldAt, decodedAs, decoded}
 use Rattle.engine.proofs.Fit.{well-formed-fits}
 use Rattle.engine.proofs.HeaderLaws.{header-loaded}
-use Rattle.engine.proofs.InPlace.{Holds}
+use Rattle.engine.proofs.InPlace.{Holds, holds-decoded}
 use Rattle.engine.proofs.Used.{held-slot-length, over-length}
-use Rattle.queue.proofs.Holding.{holds-decoded}
 use Rattle.queue.proofs.Inside.{over-extended}
 use Rattle.lists.specs.Lists.{heldCount, place}
 use Rattle.lists.proofs.Counts.{header-room, numbered-few, held-few, holds-place, holds-held-count}

@@ -28,14 +28,13 @@ use Rattle.replication.proofs.WellFormed.Effects.{install-body, send-held-body}
 use Rattle.replication.proofs.WellFormed.RuleFacts.{Delivered}
 use Rattle.engine.specs.Image.{modeNumber, over, image}
 use Rattle.engine.specs.Outcome.{word, resultOf}
-use Rattle.engine.proofs.InPlace.{Holds}
-use Rattle.install.specs.Table.{Stated}
+use Rattle.engine.proofs.InPlace.{Holds, HoldsSuch, such-fact, HoldsSome, holds-some}
 use Rattle.install.proofs.SwapFits.{swaps-kept}
-use Rattle.install.proofs.Turning.{holds-stated}
 use Rattle.install.proofs.InstallLaws.{install-swaps}
 use Rattle.step.specs.declared.Answer.{Answer}
-use Rattle.step.specs.Answers.{answered, outcomeOn, HoldsSuch, LentSuch, Installs, storedFirst, recordBytes}
-use Rattle.step.proofs.Chained.{such-fact, lent-fact, Covers, chained, then-holds}
+use Rattle.step.specs.Answers.{answered, outcomeOn, LentSuch, Installs, storedFirst, recordBytes}
+use Rattle.step.proofs.LentFacts.{lent-fact}
+use Rattle.engine.proofs.Chained.{Covers, chained, then-holds}
 use Rattle.step.proofs.ColoursLaws.{joined-formed}
 
 -- ---- well-formed states on the way
@@ -97,10 +96,10 @@ module _ (k : ℕ) (b c : List ℕ) (p : HoldsSuch (Installs k) b) (f : (s : Ser
   mode-holds : (s : Server) (m : Mode) → Holds s b → k ≡ modeNumber m → Holds (inMode m s) c
   mode-holds s m r e = then-holds s (inMode m s) b c r (f s m r e) refl refl (mode-formed k s m (r .formed) (such-fact (Installs k) b s p r) e)
 
-  pub mode-stated : Stated c
-  mode-stated =
+  pub mode-some : HoldsSome c
+  mode-some =
       let o = primary-mode k (p .fact .from) (p .fact .to) in
-      holds-stated (inMode (o .0) (p .state)) c (mode-holds (p .state) (o .0) (p .holds) (o .1))
+      holds-some (inMode (o .0) (p .state)) c (mode-holds (p .state) (o .0) (p .holds) (o .1))
 
   pub mode-installed : (d : List ℕ) → ((t : Server) → Holds t c → d ≡ image (install t) c) → (s : Server) (m : Mode) → Holds s b → k ≡ modeNumber m
       → d ≡ image (inMode m (install s)) b

@@ -23,11 +23,11 @@ use Rattle.replication.proofs.WellFormed.Exchanges.{with-cpc-body}
 use Rattle.engine.specs.Image.{modeNumber, over, image}
 use Rattle.engine.specs.Outcome.{word, resultOf}
 use Rattle.engine.proofs.InRange.{in-range}
-use Rattle.engine.proofs.InPlace.{Holds}
-use Rattle.lists.proofs.Counts.{holds-counts, header-room}
+use Rattle.engine.proofs.InPlace.{Holds, HoldsSuch, such-fact, holds-header}
 use Rattle.step.specs.declared.Answer.{Answer}
-use Rattle.step.specs.Answers.{answered, outcomeOn, HoldsSuch, LentSuch, Installs, quietly, withLateCpc}
-use Rattle.step.proofs.Chained.{such-fact, lent-fact, Covers, chained, then-holds}
+use Rattle.step.specs.Answers.{answered, outcomeOn, LentSuch, Installs, quietly, withLateCpc}
+use Rattle.step.proofs.LentFacts.{lent-fact}
+use Rattle.engine.proofs.Chained.{Covers, chained, then-holds}
 use Rattle.step.proofs.Installed.{sent-formed, stored-over}
 
 -- ---- one CPC more
@@ -52,9 +52,6 @@ cpc-formed k s ok h =
 pub cpc-holds : (k : ℕ) (s : Server) (b c : List ℕ) → Holds s b → k < s .servers → c ≡ image (withCpc k s) b → Holds (withCpc k s) c
 unfolding withCpc
 cpc-holds k s b c r h e = then-holds s (withCpc k s) b c r e refl refl (cpc-formed k s (r .formed) h)
-
-pub holds-header : (s : Server) (b : List ℕ) → Holds s b → 60 ≤ length b
-holds-header s b r = header-room b (holds-counts s b r)
 
 pub cpc-room : (k : ℕ) (s : Server) (b : List ℕ) → Holds s b → k < s .servers → (60 ≤ length b) × (k < 8)
 unfolding contextOf

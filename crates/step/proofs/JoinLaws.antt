@@ -40,7 +40,7 @@ use Rattle.lists.proofs.Counts.{holds-place}
 use Rattle.step.specs.declared.Answer.{Answer}
 use Rattle.step.specs.Answers.{answered, outcomeOn, LentSuch, storedFirst, recordBytes}
 use Rattle.step.specs.Sending.{ownHead, ownRecord}
-use Rattle.step.proofs.Chained.{lent-room}
+use Rattle.step.proofs.LentFacts.{lent-room}
 use Rattle.step.proofs.LentLaws.{holds-products, holds-part, put-room, put-done, one-record}
 use Rattle.step.proofs.OutcomeLaws.{stored-outcome}
 

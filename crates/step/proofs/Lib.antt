@@ -1,4 +1,4 @@
-pub mod Chained
+pub mod LentFacts
 pub mod AnswerLaws
 pub mod ModeLaws
 pub mod ForceLaws
@@ -13,7 +13,6 @@ pub mod TakingLaws
 pub mod ReadingLaws
 pub mod ColoursLaws
 pub mod Installed
-pub mod Covering
 pub mod EndLaws
 pub mod EndOverLaws
 pub mod ExchangeLaws

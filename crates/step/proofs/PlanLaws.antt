@@ -34,16 +34,17 @@ use Rattle.engine.specs.Image.{over, slot, actionSlots, image, parts}
 use Rattle.engine.specs.Decode.{actionsAt, decodedAs, serversIn, quotaIn, decoded}
 use Rattle.engine.proofs.Decoded.{image-part}
 use Rattle.engine.proofs.Fit.{well-formed-fits}
-use Rattle.engine.proofs.InPlace.{Holds}
+use Rattle.engine.proofs.InPlace.{Holds, holds-decoded}
 use Rattle.engine.proofs.InRange.{in-range}
 use Rattle.engine.proofs.Used.{action-slot-length}
 use Rattle.queue.specs.Queue.{serversOf, quotaOf, queueCount, queueAt}
-use Rattle.queue.proofs.Holding.{numbers, holds-counts, holds-decoded}
+use Rattle.queue.proofs.Holding.{numbers, holds-counts}
 use Rattle.queue.proofs.ReadLaws.{queue-read, actions-at}
 use Rattle.step.specs.Answers.{LentSuch, recordBytes}
 use Rattle.exchange.specs.Decided.{partOf}
 use Rattle.exchange.specs.declared.decided.Part.{Part}
-use Rattle.step.specs.Resending.{queueIn, greensIn, mostActions, slotPlace, InTable, QueueIn, atPosition, asRed, Sends, Stated, greenPart}
+use Rattle.install.specs.Table.{InTable}
+use Rattle.step.specs.Resending.{queueIn, greensIn, mostActions, slotPlace, QueueIn, atPosition, asRed, Sends, Stated, greenPart}
 use Rattle.step.specs.Resending.{redPart, redParts, wholePart}
 use Rattle.step.proofs.ResendingLaws.{sends-none, sends-next}
 

@@ -17,7 +17,7 @@ use Rattle.engine.specs.Header.{headerOf}
 use Rattle.engine.proofs.InPlace.{Holds}
 use Rattle.step.specs.declared.Answer.{Answer}
 use Rattle.step.specs.Answers.{answered, outcomeOn, LentSuch, InForce, refusedWith}
-use Rattle.step.proofs.Chained.{lent-fact}
+use Rattle.step.proofs.LentFacts.{lent-fact}
 use Rattle.step.proofs.AnswerLaws.{Passes, above-quota, above-held, passed, passed-fits, refused-as}
 
 module _ (h : Numbers) (p b o : List ℕ) (f : LentSuch (InForce h (request p)) b o) (t : Bool)

@@ -34,7 +34,7 @@ use Rattle.lists.proofs.Counts.{numbered-few}
 use Rattle.lists.proofs.RequestLaws.{head-made}
 use Rattle.step.specs.declared.Answer.{Answer}
 use Rattle.step.specs.Answers.{answered, outcomeOn, LentSuch, quietly, storedFirst, recordBytes}
-use Rattle.step.proofs.Chained.{lent-fact}
+use Rattle.step.proofs.LentFacts.{lent-fact}
 use Rattle.step.proofs.LentLaws.{lent-counts, lent-header, holds-products, put-room, put-done, one-record}
 use Rattle.step.proofs.OutcomeLaws.{stored-outcome, quiet-outcome}
 

@@ -30,7 +30,8 @@ use Rattle.engine.proofs.Slots.{actions-count}
 use Rattle.queue.specs.Queue.{queueCount, greenCount, queueAt}
 use Rattle.queue.proofs.ReadLaws.{actions-at, slot-read}
 use Rattle.step.specs.Answers.{recordBytes}
-use Rattle.step.specs.Resending.{queueIn, greensIn, slotPlace, InTable, QueueIn, named, Filled, fromPlace, atPosition, asRed, oneOf, Sends}
+use Rattle.install.specs.Table.{InTable}
+use Rattle.step.specs.Resending.{queueIn, greensIn, slotPlace, QueueIn, named, Filled, fromPlace, atPosition, asRed, oneOf, Sends}
 
 -- ---- none, one, and more
 

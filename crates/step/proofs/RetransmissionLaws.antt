@@ -17,16 +17,13 @@ use Rattle.replication.specs.Machine.Step.{placed, exchanged, oneMore, allCome}
 use Rattle.replication.proofs.Agreement.Lists.Placed.{placed-next, placed-below, placed-red}
 use Rattle.replication.proofs.WellFormed.RuleFacts.{Delivered}
 use Rattle.engine.specs.Image.{modeNumber, image}
-use Rattle.engine.proofs.InPlace.{Holds}
+use Rattle.engine.proofs.InPlace.{Holds, HoldsSuch, such-fact, HoldsSome, holds-some}
 use Rattle.queue.specs.Queue as Queue
 use Rattle.queue.specs.Queue.{RoomIfNext}
 use Rattle.queue.proofs.Holding.{numbers}
 use Rattle.queue.proofs.Holding as holding
 use Rattle.queue.proofs.RedLaws.{room-if-next}
-use Rattle.lists.specs.Standing.{HoldsSome}
-use Rattle.step.specs.Answers.{HoldsSuch}
-use Rattle.step.proofs.Chained.{such-fact, chained, then-holds}
-use Rattle.step.proofs.Covering.{numbers-then}
+use Rattle.engine.proofs.Chained.{chained, then-holds, numbers-then}
 use Rattle.step.proofs.ExchangeStates.{placed-formed, non-prim-formed, more-formed, closed-formed, last-formed}
 
 -- ---- one action, by its position
@@ -94,7 +91,7 @@ module _ (h : ActionHead) (p b c : List ℕ) (k : ℕ)
   More s = Delivered s (actionOf h p) × (s .membership .mode ≡ Exchange-actions) × (allCome (oneMore s) ≡ false)
 
   pub more-some : HoldsSuch More b → HoldsSome c
-  more-some m = record { state = after (m .state); holds = placed-holds (m .state) (m .holds) (m .fact .0) }
+  more-some m = holds-some (after (m .state)) c (placed-holds (m .state) (m .holds) (m .fact .0))
 
   pub more-taken : (d : List ℕ) → HoldsSuch More b → ((t : Server) → Holds t c → d ≡ image (oneMore t) c) → (s : Server) → Holds s b
       → d ≡ image (exchanged k (actionOf h p) s) b
@@ -135,7 +132,7 @@ module _ (b c : List ℕ) (f : (s : Server) (o : Mode) → Holds s b → 0 ≡ m
 
   module _ (m : HoldsSuch (λ s. s .membership .mode ≡ Exchange-actions) b) where
     pub left-some : HoldsSome c
-    left-some = record { state = inMode Non-prim (m .state); holds = left-holds (m .state) (m .holds) }
+    left-some = holds-some (inMode Non-prim (m .state)) c (left-holds (m .state) (m .holds))
 
     pub closed : (d : List ℕ) → ((t : Server) → Holds t c → d ≡ image (oneMore t) c) → (s : Server) → Holds s b
         → d ≡ image (oneMore (inMode Non-prim s)) b

@@ -20,7 +20,7 @@ use Rattle.engine.specs.Decode.{modeNamed}
 use Rattle.engine.proofs.InPlace.{Holds}
 use Rattle.step.specs.declared.Answer.{Answer}
 use Rattle.step.specs.Answers.{answered, outcomeOn, LentSuch, StateInForce, Came, refusedWith, quietly}
-use Rattle.step.proofs.Chained.{lent-fact}
+use Rattle.step.proofs.LentFacts.{lent-fact}
 use Rattle.step.proofs.AnswerLaws.{Passes, untaken, outside, passed, passed-fits, refused-as, quiet-as}
 use Rattle.step.proofs.ForceLaws.{numbers-mode, numbers-at, below-eight}
 

@@ -28,8 +28,8 @@ use Rattle.lists.specs.Lists.{CollectRoom}
 use Rattle.lists.proofs.Counts.{holds-servers, holds-quota, holds-counts}
 use Rattle.step.specs.declared.Answer.{Answer}
 use Rattle.step.specs.Answers.{answered, outcomeOn, LentSuch, Came, quietly, sentOnly, recordBytes}
-use Rattle.step.proofs.Chained.{lent-fact, Covers, image-over, then-holds}
-use Rattle.step.proofs.Covering.{numbers-then}
+use Rattle.step.proofs.LentFacts.{lent-fact}
+use Rattle.engine.proofs.Chained.{Covers, image-over, then-holds, numbers-then}
 use Rattle.step.proofs.ExchangeStates.{non-prim-formed, exchange-configured, came-formed, resending-formed}
 use Rattle.step.proofs.EndLaws.{Ends}
 use Rattle.step.proofs.EndOverLaws.{sent-over, end-mode, Before, end-over}

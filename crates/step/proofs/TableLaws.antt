@@ -1,4 +1,4 @@
--- The table of places: an entry, and the pass that fills it.
+-- The table of places: the pass that fills it.
 -- Assumes nothing.
 use Prim.Native.Nat.{ℕ, zero, suc, _+_, _*_, _-_, _≤_, _<_}
 use mathlib.Core.Path.{_≡_, refl, sym, ap, subst, _∙_}
@@ -15,7 +15,7 @@ use Rattle.base.specs.Tests.{pick, Known, holds, fails, known, not-both}
 use Rattle.format.specs.Types.{Id, Action}
 use Rattle.format.specs.Range.{sameId}
 use Rattle.format.specs.Read.{idAt, actionAt}
-use Rattle.record.specs.Values.{idOf, slot}
+use Rattle.record.specs.Values.{slot}
 use Rattle.record.proofs.OnePass.{getD-zeros}
 use Rattle.replication.specs.Machine.Colours.{find}
 use Rattle.replication.proofs.WellFormed.Ids.{same-id-yes, same-id-holds}
@@ -24,7 +24,8 @@ use Rattle.engine.specs.Decode.{actionsAt}
 use Rattle.engine.proofs.Slots.{actions-count}
 use Rattle.queue.specs.Queue.{queueCount, queueAt}
 use Rattle.queue.proofs.ReadLaws.{actions-at}
-use Rattle.step.specs.Resending.{queueIn, slotPlace, InTable, QueueIn, named, Filled}
+use Rattle.install.specs.Table.{InTable}
+use Rattle.step.specs.Resending.{queueIn, slotPlace, QueueIn, named, Filled}
 
 -- ---- an entry
 
@@ -33,28 +34,6 @@ apart : (x y : Id) → InTable (x .creator) (x .index) → InTable (y .creator) 
 unfolding slot
 apart x y a b f e =
     not-both (sym f ∙ same-id-yes x y (omega (arith, a .most, a .least, b .most, b .least)) (omega (arith, a .most, a .least, b .most, b .least)))
-
-pub entry-slot : (c i : ℕ) → InTable c i → (c * 256 + (i - 1) ≡ slot (idOf c i)) × (c * 256 + (i - 1) < 2048)
-unfolding slot idOf
-entry-slot c i r = (refl, omega (arith, r .creator, r .least, r .most))
-
-module _ (b : List ℕ) (k p x y : ℕ) (q : QueueIn b) (h : k < queueCount b) (e : p ≡ queueAt b) (f : x ≡ numberAt 1 b (p + slotSize * k))
-    (g : y ≡ numberAt 2 b (p + slotSize * k + 1)) where
-  read : (x ≡ numberAt 1 b (slotPlace b k)) × (y ≡ numberAt 2 b (slotPlace b k + 1))
-  unfolding slotPlace
-  read = (f ∙ ap (λ (m : ℕ). numberAt 1 b (m + slotSize * k)) e, g ∙ ap (λ (m : ℕ). numberAt 2 b (m + slotSize * k + 1)) e)
-
-  same : idOf x y ≡ idAt b (slotPlace b k)
-  unfolding idOf idAt
-  same = λ i. record { creator = read .0 i; index = read .1 i }
-
-  pub entry-in : InTable x y
-  entry-in = subst (λ (m : ℕ). InTable m y) (sym (read .0)) (subst (InTable (numberAt 1 b (slotPlace b k))) (sym (read .1)) (q .ids k h))
-
-pub entry-made : (b : List ℕ) (k p x y r : ℕ) → QueueIn b → k < queueCount b → p ≡ queueAt b → x ≡ numberAt 1 b (p + slotSize * k)
-    → y ≡ numberAt 2 b (p + slotSize * k + 1)
-    → r ≡ slot (idOf x y) → r ≡ slot (idAt b (slotPlace b k))
-entry-made b k p x y r q h e f g m = m ∙ ap slot (same b k p x y q h e f g)
 
 -- ---- the pass, from the last action to the first
 
@@ -111,7 +90,7 @@ module _ (l : List Action) (a : Action) (k p : ℕ) (t : List ℕ) (e : at l k �
     names = λ d i. more-names d i (known (sameId d (a .id))) ∙ ap (find d) (sym (last-left l k a e));
   }
 
-again-at : (b : List ℕ) (k p : ℕ) (t : List ℕ) → QueueIn b → suc k ≤ queueCount b → (p ≡ slot (idAt b (slotPlace b k))) × (p < 2048)
+again-at : (b : List ℕ) (k p : ℕ) (t : List ℕ) → QueueIn b → suc k ≤ queueCount b → (p ≡ slot (idAt b (queueAt b + slotSize * k))) × (p < 2048)
     → Filled (suc k) t (queueIn b) → Filled k (set t p (suc k)) (queueIn b)
 unfolding queueIn actionAt idAt slotPlace
 again-at b k p t q h e f =
@@ -120,12 +99,12 @@ again-at b k p t q h e f =
     (omega (arith, actions-count (queueCount b) b (queueAt b)))
 
 pub filled-again : (b : List ℕ) (k p : ℕ) (t : List ℕ) → QueueIn b → 0 < k → k ≤ queueCount b → Filled k t (queueIn b)
-    → (p ≡ slot (idAt b (slotPlace b (k - 1)))) × (p < 2048) → Filled (k - 1) (set t p k) (queueIn b)
+    → (p ≡ slot (idAt b (queueAt b + slotSize * (k - 1)))) × (p < 2048) → Filled (k - 1) (set t p k) (queueIn b)
 filled-again b zero p t q h l f e = absurd (omega arith)
 filled-again b (suc k) p t q h l f e =
     let m : suc k - 1 ≡ k = omega arith in
     subst (λ (j : ℕ). Filled j (set t p (suc k)) (queueIn b)) (sym m)
-    (again-at b k p t q l (e .0 ∙ ap (λ (j : ℕ). slot (idAt b (slotPlace b j))) m, e .1) f)
+    (again-at b k p t q l (e .0 ∙ ap (λ (j : ℕ). slot (idAt b (queueAt b + slotSize * j))) m, e .1) f)
 
 pub filled-end : (b : List ℕ) (k : ℕ) (t : List ℕ) → k ≤ 0 → Filled k t (queueIn b) → Filled 0 t (queueIn b)
 filled-end b zero t h f = f

@@ -25,12 +25,11 @@ use Rattle.replication.specs.Machine.Requests.{recovered}
 use Rattle.replication.specs.Machine.Rules.{recovering, ruleFor, possible, fromMember, isIgnored, withinQuota, withinHeld}
 use Rattle.replication.specs.Machine.Step.{apply, answer}
 use Rattle.engine.specs.Image.{image}
-use Rattle.engine.proofs.InPlace.{Holds}
-use Rattle.lists.specs.Standing.{HoldsSome}
+use Rattle.engine.proofs.InPlace.{Holds, HoldsSuch}
 use Rattle.step.specs.declared.Answer.{Answer}
-use Rattle.step.specs.Answers.{answered, outcomeOn, HoldsSuch, LentSuch, InForce, StateInForce, storedFirst}
+use Rattle.step.specs.Answers.{answered, outcomeOn, LentSuch, InForce, StateInForce, storedFirst}
 use Rattle.step.specs.Events.{PartInForce, ReadInForce}
-use Rattle.step.proofs.Chained.{lent-fact}
+use Rattle.step.proofs.LentFacts.{lent-fact}
 use Rattle.step.proofs.AnswerLaws.{Passes, passed, stored-as}
 
 -- ---- a part of the bytes, as the code lends it
@@ -99,9 +98,6 @@ pub requested-done : (at m : ℕ) (e b o c z : List ℕ) (v : Answer)
 requested-done at m e b o c z v y s l = answered-part (λ p. request p) at m e v b o c z s (y s l)
 
 -- ---- recovery
-
-pub such-some : (P : Server → Type 0) (b : List ℕ) → HoldsSuch P b → HoldsSome b
-such-some P b f = record { state = f .state; holds = f .holds }
 
 pub recovery-done : (b c : List ℕ) (v : Answer) → ((s : Server) → Holds s b → c ≡ image (recovered s) b) → v ≡ storedFirst 0
     → (s : Server) (o : List ℕ) → Holds s b → answered v c o ≡ outcomeOn (answer s recovery) b o

@@ -26,7 +26,8 @@ use Rattle.engine.proofs.InPlace.{Holds}
 use Rattle.lists.specs.Lists.{configurationOf}
 use Rattle.step.specs.declared.Answer.{Answer}
 use Rattle.step.specs.Answers.{answered, outcomeOn, LentSuch}
-use Rattle.step.proofs.Chained.{Covers, image-over, lent-fact, then-holds}
+use Rattle.engine.proofs.Chained.{Covers, image-over, then-holds}
+use Rattle.step.proofs.LentFacts.{lent-fact}
 
 -- ---- well-formed states on the way
 

@@ -30,13 +30,7 @@ answered a b o = record { number = a .number; store = a .store; sent = a .sent; 
 unfoldable pub outcomeOn : Outcome Record → List ℕ → List ℕ → Result
 outcomeOn x b o = resultOf (inBytes x) b o
 
--- The buffer b holds a state of which P is known.
-pub record HoldsSuch (P : Server → Type 0) (b : List ℕ) : Type 0 where
-  pub state : Server
-  pub holds : Holds state b
-  pub fact : P state
-
--- The same, and o has room for all that an event puts out.
+-- The buffer b holds a state of which P is known, and o has room for all that an event puts out.
 pub record LentSuch (P : Server → Type 0) (b o : List ℕ) : Type 0 where
   pub state : Server
   pub holds : Holds state b

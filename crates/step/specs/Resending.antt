@@ -18,6 +18,7 @@ use Rattle.engine.specs.Layout.{slotSize}
 use Rattle.engine.specs.Decode.{actionsAt, decoded}
 use Rattle.engine.proofs.InPlace.{Holds}
 use Rattle.queue.specs.Queue.{CountsIn, serversOf, quotaOf, queueCount, greenCount, queueAt}
+use Rattle.install.specs.Table.{InTable}
 use Rattle.step.specs.Answers.{recordBytes}
 
 -- ---- the queue of the buffer b
@@ -35,12 +36,6 @@ mostActions b = serversOf b * quotaOf b
 -- Where the slot k of the queue begins.
 unfoldable pub slotPlace : List ℕ → ℕ → ℕ
 slotPlace b k = queueAt b + slotSize * k
-
--- An id that has an entry in the table of places.
-pub record InTable (c i : ℕ) : Type 0 where
-  pub creator : c < mostServers
-  pub least : 1 ≤ i
-  pub most : i ≤ mostQuota
 
 -- The numbers of the buffer are in range, and so is each action of its queue.
 pub record QueueIn (b : List ℕ) : Type 0 where

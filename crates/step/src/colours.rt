@@ -7,8 +7,7 @@ ghost use Rattle.replication.specs.Machine.Colours.{isNext, yellow as yellowed}
 ghost use Rattle.replication.specs.Machine.Step.{greenAndNote};
 ghost use Rattle.replication.proofs.WellFormed.RuleFacts.{Delivered};
 ghost use Rattle.engine.specs.Image.{image};
-ghost use Rattle.engine.proofs.InPlace.{Holds};
-ghost use Rattle.step.specs.Answers.{HoldsSuch};
+ghost use Rattle.engine.proofs.InPlace.{Holds, HoldsSuch};
 use lists::notes::note;
 use lists::yellow::join_yellow;
 use queue::entering::enter;

@@ -14,8 +14,8 @@ ghost use Rattle.replication.specs.Machine.Rules.{Rule, onAction, onRetransmiss
 ghost use Rattle.replication.specs.Machine.Step.{apply, answer};
 ghost use Rattle.engine.specs.Image.{modeNumber};
 ghost use Rattle.engine.specs.Header.{headerOf};
-ghost use Rattle.engine.proofs.InPlace.{Holds};
-ghost use Rattle.step.specs.Answers.{answered, outcomeOn, HoldsSuch, LentSuch, InForce, StateInForce};
+ghost use Rattle.engine.proofs.InPlace.{Holds, HoldsSuch};
+ghost use Rattle.step.specs.Answers.{answered, outcomeOn, LentSuch, InForce, StateInForce};
 ghost use Rattle.step.specs.Events.{Takes, modeAfter};
 use crate::Answer;
 use crate::colours::green_and_note;

@@ -13,10 +13,10 @@ ghost use Rattle.replication.specs.Machine.Step.{stored, collected, hereSet, pl
 ghost use Rattle.replication.specs.Machine.WellFormedFacts.{Configured};
 ghost use Rattle.replication.proofs.WellFormed.RuleFacts.{Delivered};
 ghost use Rattle.engine.specs.Image.{image};
-ghost use Rattle.engine.proofs.InPlace.{Holds};
+ghost use Rattle.engine.proofs.InPlace.{Holds, HoldsSuch};
 ghost use Rattle.lists.specs.Standing.{voteNumbers};
 ghost use Rattle.exchange.specs.Decided.{votesNumbers};
-ghost use Rattle.step.specs.Answers.{answered, outcomeOn, HoldsSuch, LentSuch, Came};
+ghost use Rattle.step.specs.Answers.{answered, outcomeOn, LentSuch, Came};
 use crate::Answer;
 use crate::resending::send_part;
 use crate::sending::send_records;

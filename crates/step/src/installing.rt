@@ -11,8 +11,8 @@ ghost use Rattle.replication.specs.Machine.Step.{stored, installing, collectCpc
 ghost use Rattle.replication.specs.Machine.WellFormedFacts.{Configured};
 ghost use Rattle.replication.proofs.WellFormed.RuleFacts.{Delivered};
 ghost use Rattle.engine.specs.Image.{modeNumber, image};
-ghost use Rattle.engine.proofs.InPlace.{Holds};
-ghost use Rattle.step.specs.Answers.{answered, outcomeOn, HoldsSuch, LentSuch, Installs, withLateCpc};
+ghost use Rattle.engine.proofs.InPlace.{Holds, HoldsSuch};
+ghost use Rattle.step.specs.Answers.{answered, outcomeOn, LentSuch, Installs, withLateCpc};
 use crate::Answer;
 use crate::colours::yellow;
 use crate::sending::send_records;

@@ -1,4 +1,4 @@
-use Rattle.install.proofs.InstallLaws.{log-stated, installed}
+use Rattle.install.proofs.InstallLaws.{log-some, installed}
 use borrow.Author.Needs.{needs}
 use Rattle.install.proofs.installing.install.Statement.{statement}
 use Rattle.install.proofs.installing.install.Tie as tie
@@ -7,7 +7,7 @@ install-log-requires : tie.Need-install-log-requires
 install-log-requires c κs = search needs
 
 install-votes-requires : tie.Need-install-votes-requires
-install-votes-requires c κs = search (needs, log-stated)
+install-votes-requires c κs = search (needs, log-some)
 
 same-length : tie.Need-same-length
 same-length c = search needs

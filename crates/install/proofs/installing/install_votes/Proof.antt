@@ -1,16 +1,17 @@
+use Rattle.engine.proofs.InPlace.{such-header}
 use Rattle.install.proofs.InstallLaws.{votes-low, votes-installed}
 use borrow.Author.Needs.{needs}
 use Rattle.install.proofs.installing.install_votes.Statement.{statement}
 use Rattle.install.proofs.installing.install_votes.Tie as tie
 
 load-requires : tie.Need-load-requires
-load-requires c κs = search needs
+load-requires c κs = search (needs, such-header)
 
 with-votes-requires : tie.Need-with-votes-requires
 with-votes-requires c κs = search (needs, votes-low)
 
 save-numbers-requires : tie.Need-save-numbers-requires
-save-numbers-requires c κs = search needs
+save-numbers-requires c κs = search (needs, such-header)
 
 same-length : tie.Need-same-length
 same-length c = search needs

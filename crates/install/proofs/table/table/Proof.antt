@@ -1,4 +1,4 @@
-use Rattle.install.proofs.TableLaws.{Filled, filled-start, filled-again, filled-end}
+use Rattle.install.proofs.TableLaws.{count-inside, green-inside, Filled, filled-start, filled-again, filled-end}
 use Prim.Native.Nat.{_-_}
 use borrow.Author.Needs.{needs}
 use Rattle.install.proofs.table.table.Statement.{statement}
@@ -11,13 +11,13 @@ abbrev μ-loop : tie.MeasureT-loop
 μ-loop state places₀ count k₀ places k = count - k
 
 num32-requires : tie.Need-num32-requires Inv-loop μ-loop
-num32-requires c κs = search needs
+num32-requires c κs = search (needs, count-inside)
 
 cast-count : tie.Need-cast-count Inv-loop μ-loop
 cast-count c = search needs
 
 num32-requires-2 : tie.Need-num32-requires-2 Inv-loop μ-loop
-num32-requires-2 c κs = search needs
+num32-requires-2 c κs = search (needs, green-inside)
 
 cast-k : tie.Need-cast-k Inv-loop μ-loop
 cast-k c = search needs

@@ -1,13 +1,14 @@
+use Rattle.engine.proofs.InPlace.{such-some}
 use Rattle.lists.proofs.ExchangeLaws.{decided-room, decided-made}
 use borrow.Author.Needs.{needs}
 use Rattle.lists.proofs.exchanges.decide.Statement.{statement}
 use Rattle.lists.proofs.exchanges.decide.Tie as tie
 
 note-all-requires : tie.Need-note-all-requires
-note-all-requires c κs = search needs
+note-all-requires c κs = search (needs, such-some)
 
 take-votes-requires : tie.Need-take-votes-requires
-take-votes-requires c κs = search (needs, decided-room, c .before .before .before .note-all .ensures)
+take-votes-requires c κs = decided-room _ _ _ (c .before .before .before .before .before .before .before .pre) (c .before .before .before .note-all .ensures)
 
 same-length : tie.Need-same-length
 same-length c = search needs

@@ -1,5 +1,5 @@
 use Rattle.lists.proofs.Recovered.{enter-room, recovery-made}
-use Rattle.lists.proofs.NoteAllLaws.{header-some}
+use Rattle.engine.proofs.InPlace.{such-header}
 use native.Mathlib.Omega.{arith}
 use borrow.Author.Needs.{needs}
 use Rattle.lists.proofs.recovery.recover.Statement.{statement}
@@ -9,7 +9,7 @@ enter-own-requires : tie.Need-enter-own-requires
 enter-own-requires c κs = search (needs, enter-room)
 
 drop-membership-requires : tie.Need-drop-membership-requires
-drop-membership-requires c κs = omega (arith, header-some _ (c .before .before .before .before .before .before .pre))
+drop-membership-requires c κs = omega (arith, such-header _ _ (c .before .before .before .before .before .before .pre))
 
 same-length : tie.Need-same-length
 same-length c = search needs

@@ -13,7 +13,10 @@ red-requires c κs = search (needs, ready-room)
 
 -- src/greening.rt:62:5
 green-id-requires : tie.Need-green-id-requires
-green-id-requires c κs = search (needs, ready-counts)
+green-id-requires c κs =
+    ready-counts _ _ _ _
+    (c .before .before .before .before .before .before .before .pre)
+    (c .before .before .before .red .ensures)
 
 -- src/greening.rt:57:1
 same-length : tie.Need-same-length

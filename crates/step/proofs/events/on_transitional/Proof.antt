@@ -1,4 +1,5 @@
-use Rattle.step.proofs.ConfigurationLaws.{such-header, transitional-untaken, transitional-second, transitional-left}
+use Rattle.engine.proofs.InPlace.{such-header}
+use Rattle.step.proofs.ConfigurationLaws.{transitional-untaken, transitional-second, transitional-left}
 use borrow.Author.Needs.{needs}
 use Rattle.step.proofs.events.on_transitional.Statement.{statement}
 use Rattle.step.proofs.events.on_transitional.Tie as tie

@@ -1,5 +1,5 @@
-use Rattle.step.proofs.Installed.{mode-stated, mode-installed}
-use Rattle.step.proofs.InstallingLaws.{holds-header}
+use Rattle.step.proofs.Installed.{mode-some, mode-installed}
+use Rattle.engine.proofs.InPlace.{holds-header}
 use borrow.Author.Needs.{needs}
 use Rattle.step.proofs.installing.install_in.Statement.{statement}
 use Rattle.step.proofs.installing.install_in.Tie as tie
@@ -8,7 +8,7 @@ set-mode-requires : tie.Need-set-mode-requires
 set-mode-requires c κs = holds-header _ _ (c .before .before .pre .holds)
 
 install-requires : tie.Need-install-requires
-install-requires c κs = mode-stated _ _ _ (c .before .before .before .before .before .before .pre) (c .before .before .before .set-mode .ensures)
+install-requires c κs = mode-some _ _ _ (c .before .before .before .before .before .before .pre) (c .before .before .before .set-mode .ensures)
 
 same-length : tie.Need-same-length
 same-length c = search needs

@@ -1,4 +1,5 @@
 use native.Mathlib.Omega.{arith}
+use Rattle.engine.proofs.InPlace.{holds-some}
 use Rattle.step.proofs.TableLaws.{filled-start, filled-again, filled-end}
 use Rattle.step.specs.Resending.{queueIn, Filled}
 use Rattle.queue.specs.Queue.{queueCount}
@@ -26,7 +27,7 @@ sub-entry-at : tie.Need-sub-entry-at Inv-loop μ-loop
 sub-entry-at c = search needs
 
 entry-at-requires : tie.Need-entry-at-requires Inv-loop μ-loop
-entry-at-requires c κs = search needs
+entry-at-requires c κs = search (needs, holds-some)
 
 cast-table : tie.Need-cast-table Inv-loop μ-loop
 cast-table c = search needs

@@ -1,4 +1,5 @@
-use Rattle.step.proofs.TakingLaws.{such-some, recovery-done}
+use Rattle.engine.proofs.InPlace.{such-some}
+use Rattle.step.proofs.TakingLaws.{recovery-done}
 use borrow.Author.Needs.{needs}
 use Rattle.step.proofs.taking.recovered.Statement.{statement}
 use Rattle.step.proofs.taking.recovered.Tie as tie
