@@ -2,5 +2,5 @@ pub mod DecimalLaws
 pub mod InputLaws
 pub mod LineLaws
 pub mod PrintsLaws
-pub mod SessionLaws
+pub mod TurnLaws
 pub mod ShownLaws

@@ -22,9 +22,9 @@ use Rattle.servers.specs.Table.{altered}
 use Rattle.servers.proofs.Tabled.{Tabled, fresh-tabled}
 use Rattle.replay.specs.declared.input.Next.{Next}
 use Rattle.replay.specs.declared.input.Next.the-variants.{Event, Wrong, More, Done}
-use Rattle.replay.specs.declared.session.Going.the-variants.{On, Read, Stop}
+use Rattle.replay.specs.declared.turns.Going.the-variants.{On, Read, Stop}
 use Rattle.replay.specs.Input.{setupNumbers, setupOf, nextOf}
-use Rattle.replay.specs.Session.{lineAt, Turned, turnBy, turnOf}
+use Rattle.replay.specs.Turns.{lineAt, Turned, turnBy, turnOf}
 use Rattle.replay.proofs.InputLaws.{Whole, whole-event, Comes, wrong, cut, done, comes}
 use Rattle.replay.proofs.ShownLaws.{line-shown, table-shown}
 

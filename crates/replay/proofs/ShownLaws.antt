@@ -29,7 +29,7 @@ use Rattle.servers.specs.Table as table
 use Rattle.servers.specs.Table.{altered}
 use Rattle.servers.proofs.Tabled.{Tabled, entry-after, entry-arrives, reply-is, tabled-after}
 use Rattle.replay.specs.Lines.{shownLine}
-use Rattle.replay.specs.Session.{shownOf, lineAt}
+use Rattle.replay.specs.Turns.{shownOf, lineAt}
 
 -- ---- a line
 

@@ -1,4 +1,4 @@
 pub mod Input
 pub mod Lines
 pub mod Reading
-pub mod Session
+pub mod Turns

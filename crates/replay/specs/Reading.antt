@@ -6,8 +6,8 @@ use mathlib.Core.List.{List}
 use lib.ListN.{length, take}
 use Rattle.io.specs.Counts.{Counts}
 use Rattle.replay.specs.declared.Filled.{Filled}
-use Rattle.replay.specs.declared.session.Going.the-variants.{On}
-use Rattle.replay.specs.declared.session.Turn.{Turn}
+use Rattle.replay.specs.declared.turns.Going.the-variants.{On}
+use Rattle.replay.specs.declared.turns.Turn.{Turn}
 
 -- A turn takes bytes that are there, and some where the next one follows at once.
 pub record Fed (r : Turn) (input : List ℕ) : Type 0 where

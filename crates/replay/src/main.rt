@@ -6,7 +6,7 @@ ghost use Rattle.replay.specs.Reading.{Fed, Kept};
 
 mod input;
 mod line;
-mod session;
+mod turns;
 
 use input::read_setup;
 use line::header_line;
@@ -14,9 +14,9 @@ use line::setup_line;
 use record::blocks::copy;
 use servers::Server;
 use servers::starting::begin;
-use session::Going;
-use session::Turn;
-use session::take_turn;
+use turns::Going;
+use turns::Turn;
+use turns::take_turn;
 
 // More than a server byte and an event, which are at most 65,538 bytes.
 const ROOM: usize = 131072;

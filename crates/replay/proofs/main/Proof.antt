@@ -13,75 +13,57 @@ use Rattle.replay.proofs.line.header_line.Reads as header-line-reads
 use Rattle.replay.proofs.line.setup_line.Reads as setup-line-reads
 use Rattle.replay.proofs.serve.Reads as serve-reads
 
--- src/main.rt:144:30
 slice-aggregate-read-full : tie.Need-slice-aggregate-read-full
 slice-aggregate-read-full c = search needs
 
--- src/main.rt:144:9
 read-full-requires : tie.Need-read-full-requires
 read-full-requires c κs = search needs
 
--- src/main.rt:145:24
 array-share-prefix-head : tie.Need-array-share-prefix-head
 array-share-prefix-head c = search needs
 
--- src/main.rt:145:24
 slice-aggregate-read-setup : tie.Need-slice-aggregate-read-setup
 slice-aggregate-read-setup c = search needs
 
--- src/main.rt:145:9
 read-setup-requires : tie.Need-read-setup-requires
 read-setup-requires c κs = search needs
 
--- src/main.rt:148:28
 slice-aggregate-setup-line : tie.Need-slice-aggregate-setup-line
 slice-aggregate-setup-line c = search needs
 
--- src/main.rt:148:13
 setup-line-requires : tie.Need-setup-line-requires
 setup-line-requires c κs = search needs
 
--- src/main.rt:149:26
 array-share-prefix-out : tie.Need-array-share-prefix-out
 array-share-prefix-out c = search needs
 
--- src/main.rt:149:26
 slice-aggregate-write-all : tie.Need-slice-aggregate-write-all
 slice-aggregate-write-all c = simp length-take (omega arith)
 
--- src/main.rt:149:9
 write-all-requires : tie.Need-write-all-requires
 write-all-requires c κs = search needs
 
--- src/main.rt:150:9
 returns : tie.Need-returns
 returns c = search needs
 
--- src/main.rt:152:25
 slice-aggregate-header-line : tie.Need-slice-aggregate-header-line
 slice-aggregate-header-line c = search needs
 
--- src/main.rt:152:9
 header-line-requires : tie.Need-header-line-requires
 header-line-requires c κs = search needs
 
--- src/main.rt:153:22
 array-share-prefix-out-2 : tie.Need-array-share-prefix-out-2
 array-share-prefix-out-2 c = search needs
 
--- src/main.rt:153:22
 slice-aggregate-write-all-2 : tie.Need-slice-aggregate-write-all-2
 slice-aggregate-write-all-2 c = simp length-take (omega arith)
 
--- src/main.rt:153:5
 write-all-requires-2 : tie.Need-write-all-requires-2
 write-all-requires-2 c κs = search needs
 
--- src/main.rt:154:5
 serve-requires : tie.Need-serve-requires
 serve-requires c κs = search (needs, few-servers)
 
--- src/main.rt:142:1
 returns-2 : tie.Need-returns-2
 returns-2 c = search needs
 

@@ -1,4 +1,4 @@
-use Rattle.replay.proofs.SessionLaws.{pass-less}
+use Rattle.replay.proofs.TurnLaws.{pass-less}
 use lib.ListN.{length, length-drop}
 use Prim.Native.Nat.{_-_, _≤_}
 use native.Mathlib.Omega.{arith}
@@ -16,59 +16,45 @@ Inv-loop servers first input ended table₀ event₀ at₀ table event at = at �
 abbrev μ-loop : tie.MeasureT-loop
 μ-loop servers first input ended table₀ event₀ at₀ table event at = length input - at
 
--- src/main.rt:53:5
 loop-holds : tie.Need-loop-holds Inv-loop μ-loop
 loop-holds c = search needs
 
--- src/main.rt:54:51
 sub-print-turn : tie.Need-sub-print-turn Inv-loop μ-loop
 sub-print-turn c = search needs
 
--- src/main.rt:54:51
 part-print-turn-start : tie.Need-part-print-turn-start Inv-loop μ-loop
 part-print-turn-start c = search needs
 
--- src/main.rt:54:51
 part-print-turn-end : tie.Need-part-print-turn-end Inv-loop μ-loop
 part-print-turn-end c = search needs
 
--- src/main.rt:54:13
 print-turn-requires : tie.Need-print-turn-requires Inv-loop μ-loop
 print-turn-requires c κs = search needs
 
--- src/main.rt:60:17
 enum-told : tie.Need-enum-told Inv-loop μ-loop
 enum-told c = search needs
 
--- src/main.rt:60:17
 wrapping-add-u64-requires : tie.Need-wrapping-add-u64-requires Inv-loop μ-loop
 wrapping-add-u64-requires c κs = search needs
 
--- src/main.rt:61:17
 add-at : tie.Need-add-at Inv-loop μ-loop
 add-at c = search needs
 
--- src/main.rt:53:5
 loop-less : tie.Need-loop-less Inv-loop μ-loop
 loop-less c = search (needs, pass-less)
 
--- src/main.rt:53:5
 loop-again : tie.Need-loop-again Inv-loop μ-loop
 loop-again c = search needs
 
--- src/main.rt:64:17
 enum-told-2 : tie.Need-enum-told-2 Inv-loop μ-loop
 enum-told-2 c = search needs
 
--- src/main.rt:64:17
 returns : tie.Need-returns Inv-loop μ-loop
 returns c = search needs
 
--- src/main.rt:72:17
 enum-told-3 : tie.Need-enum-told-3 Inv-loop μ-loop
 enum-told-3 c = search needs
 
--- src/main.rt:72:17
 returns-2 : tie.Need-returns-2 Inv-loop μ-loop
 returns-2 c = search needs
 

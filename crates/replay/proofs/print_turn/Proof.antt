@@ -1,33 +1,27 @@
-use Rattle.replay.proofs.SessionLaws.{turn-fed}
+use Rattle.replay.proofs.TurnLaws.{turn-fed}
 use borrow.Author.Needs.{needs}
 use Rattle.replay.proofs.print_turn.Statement.{statement}
 use Rattle.replay.proofs.print_turn.Tie as tie
 use Rattle.replay.proofs.print_turn.Reads as reads
 use Rattle.replay.proofs.print_turn.Lts as lts
 use Rattle.io.proofs.write_all.Reads as write-all-reads
-use Rattle.replay.proofs.session.take_turn.Reads as take-turn-reads
+use Rattle.replay.proofs.turns.take_turn.Reads as take-turn-reads
 
--- src/main.rt:32:56
 slice-aggregate-take-turn : tie.Need-slice-aggregate-take-turn
 slice-aggregate-take-turn c = search needs
 
--- src/main.rt:32:9
 take-turn-requires : tie.Need-take-turn-requires
 take-turn-requires c κs = search needs
 
--- src/main.rt:33:22
 array-share-prefix-out : tie.Need-array-share-prefix-out
 array-share-prefix-out c = search needs
 
--- src/main.rt:33:22
 slice-aggregate-write-all : tie.Need-slice-aggregate-write-all
 slice-aggregate-write-all c = search needs
 
--- src/main.rt:33:5
 write-all-requires : tie.Need-write-all-requires
 write-all-requires c κs = search needs
 
--- src/main.rt:27:1
 returns : tie.Need-returns
 returns c = search (needs, turn-fed)
 

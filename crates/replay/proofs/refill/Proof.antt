@@ -1,4 +1,4 @@
-use Rattle.replay.proofs.SessionLaws.{kept-none, kept-front}
+use Rattle.replay.proofs.TurnLaws.{kept-none, kept-front}
 use borrow.Author.Needs.{needs}
 use Rattle.replay.proofs.refill.Statement.{statement}
 use Rattle.replay.proofs.refill.Tie as tie
@@ -7,39 +7,30 @@ use Rattle.replay.proofs.refill.Lts as lts
 use Rattle.record.proofs.blocks.copy.Reads as copy-reads
 use Rattle.replay.proofs.read_some.Reads as read-some-reads
 
--- src/main.rt:103:9
 returns : tie.Need-returns
 returns c = search (needs, kept-none)
 
--- src/main.rt:109:10
 slice-aggregate-copy : tie.Need-slice-aggregate-copy
 slice-aggregate-copy c = search needs
 
--- src/main.rt:109:5
 copy-requires : tie.Need-copy-requires
 copy-requires c κs = search needs
 
--- src/main.rt:110:23
 sub-read-some : tie.Need-sub-read-some
 sub-read-some c = search needs
 
--- src/main.rt:110:23
 part-bytes-start : tie.Need-part-bytes-start
 part-bytes-start c = search needs
 
--- src/main.rt:110:23
 part-bytes-end : tie.Need-part-bytes-end
 part-bytes-end c = search needs
 
--- src/main.rt:110:9
 read-some-requires : tie.Need-read-some-requires
 read-some-requires c κs = search needs
 
--- src/main.rt:113:16
 add-t12 : tie.Need-add-t12
 add-t12 c = search needs
 
--- src/main.rt:97:1
 returns-2 : tie.Need-returns-2
 returns-2 c = search (needs, kept-front)
 

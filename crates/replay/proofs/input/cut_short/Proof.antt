@@ -6,12 +6,10 @@ use Rattle.replay.proofs.input.cut_short.Tie as tie
 use Rattle.replay.proofs.input.cut_short.Reads as reads
 use Rattle.replay.proofs.input.cut_short.Lts as lts
 
--- src/input.rt:73:1
 returns : tie.Need-returns
 unfolding cutShort
 returns c = search (needs, pick-yes, pick-no)
 
--- src/input.rt:73:1
 returns-2 : tie.Need-returns-2
 unfolding cutShort
 returns-2 c = search (needs, pick-yes, pick-no)

@@ -9,59 +9,46 @@ use Rattle.replay.proofs.input.next_in.Lts as lts
 use Rattle.record.proofs.bytes.num16.Reads as num16-reads
 use Rattle.replay.proofs.input.cut_short.Reads as cut-short-reads
 
--- src/input.rt:85:13
 returns : tie.Need-returns
 unfolding nextOf
 returns c = search (needs, choices, pick-yes, pick-no)
 
--- src/input.rt:87:9
 returns-2 : tie.Need-returns-2
 unfolding nextOf
 returns-2 c = search (needs, choices, pick-yes, pick-no)
 
--- src/input.rt:89:19
 shared-slice-read-if3 : tie.Need-shared-slice-read-if3
 shared-slice-read-if3 c = search needs
 
--- src/input.rt:90:9
 returns-3 : tie.Need-returns-3
 unfolding nextOf
 returns-3 c = search (needs, choices, pick-yes, pick-no)
 
--- src/input.rt:93:9
 cut-short-requires : tie.Need-cut-short-requires
 cut-short-requires c κs = search needs
 
--- src/input.rt:93:9
 returns-4 : tie.Need-returns-4
 unfolding nextOf
 returns-4 c = search (needs, choices, pick-yes, pick-no)
 
--- src/input.rt:95:16
 num16-requires : tie.Need-num16-requires
 num16-requires c κs = search needs
 
--- src/input.rt:95:16
 cast-size : tie.Need-cast-size
 cast-size c = search needs
 
--- src/input.rt:95:16
 add-size : tie.Need-add-size
 add-size c = search needs
 
--- src/input.rt:96:8
 sub-if5 : tie.Need-sub-if5
 sub-if5 c = search needs
 
--- src/input.rt:97:9
 cut-short-requires-2 : tie.Need-cut-short-requires-2
 cut-short-requires-2 c κs = search needs
 
--- src/input.rt:97:9
 returns-5 : tie.Need-returns-5
 returns-5 c = search (needs, next-cut)
 
--- src/input.rt:80:1
 returns-6 : tie.Need-returns-6
 returns-6 c = search (needs, next-event)
 

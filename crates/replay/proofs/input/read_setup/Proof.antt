@@ -9,95 +9,72 @@ use Rattle.record.proofs.bytes.num16.Reads as num16-reads
 use Rattle.record.proofs.bytes.num8.Reads as num8-reads
 use Rattle.replay.proofs.input.Setup.refused.Reads as refused-reads
 
--- src/input.rt:34:9
 refused-requires : tie.Need-refused-requires
 refused-requires c κs = search needs
 
--- src/input.rt:34:9
 returns : tie.Need-returns
 returns c = search (needs, length-wrong)
 
--- src/input.rt:36:8
 num16-requires : tie.Need-num16-requires
 num16-requires c κs = search needs
 
--- src/input.rt:37:9
 refused-requires-2 : tie.Need-refused-requires-2
 refused-requires-2 c κs = search needs
 
--- src/input.rt:37:9
 returns-2 : tie.Need-returns-2
 returns-2 c = search (needs, size-wrong)
 
--- src/input.rt:39:8
 num8-requires : tie.Need-num8-requires
 num8-requires c κs = search needs
 
--- src/input.rt:40:9
 refused-requires-3 : tie.Need-refused-requires-3
 refused-requires-3 c κs = search needs
 
--- src/input.rt:40:9
 returns-3 : tie.Need-returns-3
 returns-3 c = search (needs, version-wrong)
 
--- src/input.rt:42:8
 num8-requires-2 : tie.Need-num8-requires-2
 num8-requires-2 c κs = search needs
 
--- src/input.rt:43:9
 refused-requires-4 : tie.Need-refused-requires-4
 refused-requires-4 c κs = search needs
 
--- src/input.rt:43:9
 returns-4 : tie.Need-returns-4
 returns-4 c = search (needs, kind-wrong)
 
--- src/input.rt:45:9
 num8-requires-3 : tie.Need-num8-requires-3
 num8-requires-3 c κs = search needs
 
--- src/input.rt:46:9
 num16-requires-2 : tie.Need-num16-requires-2
 num16-requires-2 c κs = search needs
 
--- src/input.rt:47:18
 cast-sizes-in : tie.Need-cast-sizes-in
 cast-sizes-in c = search needs
 
--- src/input.rt:47:34
 cast-sizes-in-2 : tie.Need-cast-sizes-in-2
 cast-sizes-in-2 c = search needs
 
--- src/input.rt:47:9
 sizes-in-requires : tie.Need-sizes-in-requires
 sizes-in-requires c κs = search needs
 
--- src/input.rt:48:9
 refused-requires-5 : tie.Need-refused-requires-5
 refused-requires-5 c κs = search needs
 
--- src/input.rt:48:9
 returns-5 : tie.Need-returns-5
 returns-5 c = search (needs, sizes-wrong)
 
--- src/input.rt:51:9
 refused-requires-6 : tie.Need-refused-requires-6
 refused-requires-6 c κs = search needs
 
--- src/input.rt:51:9
 returns-6 : tie.Need-returns-6
 returns-6 c = search (needs, servers-wrong)
 
--- src/input.rt:54:9
 refused-requires-7 : tie.Need-refused-requires-7
 refused-requires-7 c κs = search needs
 
--- src/input.rt:54:9
 returns-7 : tie.Need-returns-7
 returns-7 c = search (needs, quota-wrong)
 
--- src/input.rt:30:1
 returns-8 : tie.Need-returns-8
 returns-8 c = search (needs, setup-good)
 

@@ -7,19 +7,15 @@ use Rattle.replay.proofs.line.event_line.Lts as lts
 use Rattle.replay.proofs.line.put_front.Reads as put-front-reads
 use Rattle.replay.proofs.line.put_rest.Reads as put-rest-reads
 
--- src/line.rt:121:9
 put-front-requires : tie.Need-put-front-requires
 put-front-requires c κs = search needs
 
--- src/line.rt:122:5
 put-rest-requires : tie.Need-put-rest-requires
 put-rest-requires c κs = search needs
 
--- src/line.rt:117:1
 same-length : tie.Need-same-length
 same-length c = search needs
 
--- src/line.rt:117:1
 returns : tie.Need-returns
 returns c = search (needs, line-put)
 

@@ -8,19 +8,15 @@ use Rattle.replay.proofs.line.header_line.Reads as reads
 use Rattle.replay.proofs.line.header_line.Lts as lts
 use Rattle.replay.proofs.line.put_word.Reads as put-word-reads
 
--- src/line.rt:132:9
 slice-aggregate-put-word : tie.Need-slice-aggregate-put-word
 slice-aggregate-put-word c = search needs
 
--- src/line.rt:129:5
 put-word-requires : tie.Need-put-word-requires
 put-word-requires c κs = search needs
 
--- src/line.rt:125:1
 same-length : tie.Need-same-length
 same-length c = search needs
 
--- src/line.rt:125:1
 returns : tie.Need-returns
 unfolding ascii header
 returns c = search (needs, header-put)

@@ -8,23 +8,18 @@ use Rattle.replay.proofs.line.input_line.Lts as lts
 use Rattle.replay.proofs.line.put_last.Reads as put-last-reads
 use Rattle.replay.proofs.line.put_word.Reads as put-word-reads
 
--- src/line.rt:141:33
 slice-aggregate-put-word : tie.Need-slice-aggregate-put-word
 slice-aggregate-put-word c = search needs
 
--- src/line.rt:141:9
 put-word-requires : tie.Need-put-word-requires
 put-word-requires c κs = search needs
 
--- src/line.rt:142:5
 put-last-requires : tie.Need-put-last-requires
 put-last-requires c κs = search needs
 
--- src/line.rt:137:1
 same-length : tie.Need-same-length
 same-length c = search needs
 
--- src/line.rt:137:1
 returns : tie.Need-returns
 unfolding ascii
 returns c = search (needs, input-put)

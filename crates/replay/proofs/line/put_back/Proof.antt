@@ -7,19 +7,15 @@ use Rattle.replay.proofs.line.put_back.Lts as lts
 use Rattle.replay.proofs.line.put_last.Reads as put-last-reads
 use Rattle.replay.proofs.line.put_spaced.Reads as put-spaced-reads
 
--- src/line.rt:92:9
 put-spaced-requires : tie.Need-put-spaced-requires
 put-spaced-requires c κs = search needs
 
--- src/line.rt:93:5
 put-last-requires : tie.Need-put-last-requires
 put-last-requires c κs = search needs
 
--- src/line.rt:88:1
 same-length : tie.Need-same-length
 same-length c = search needs
 
--- src/line.rt:88:1
 returns : tie.Need-returns
 returns c = search (needs, pair-put)
 

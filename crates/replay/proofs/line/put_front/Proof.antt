@@ -7,19 +7,15 @@ use Rattle.replay.proofs.line.put_front.Lts as lts
 use Rattle.replay.proofs.line.put_pair.Reads as put-pair-reads
 use Rattle.replay.proofs.line.put_spaced.Reads as put-spaced-reads
 
--- src/line.rt:76:9
 put-pair-requires : tie.Need-put-pair-requires
 put-pair-requires c κs = search needs
 
--- src/line.rt:77:5
 put-spaced-requires : tie.Need-put-spaced-requires
 put-spaced-requires c κs = search needs
 
--- src/line.rt:72:1
 same-length : tie.Need-same-length
 same-length c = search needs
 
--- src/line.rt:72:1
 returns : tie.Need-returns
 returns c = search (needs, front-put)
 

@@ -7,138 +7,106 @@ use Rattle.replay.proofs.line.put_mode.Reads as reads
 use Rattle.replay.proofs.line.put_mode.Lts as lts
 use Rattle.replay.proofs.line.put_word.Reads as put-word-reads
 
--- src/line.rt:53:32
 slice-aggregate-put-word : tie.Need-slice-aggregate-put-word
 slice-aggregate-put-word c = search needs
 
--- src/line.rt:53:14
 put-word-requires : tie.Need-put-word-requires
 put-word-requires c κs = search needs
 
--- src/line.rt:54:32
 slice-aggregate-put-word-2 : tie.Need-slice-aggregate-put-word-2
 slice-aggregate-put-word-2 c = search needs
 
--- src/line.rt:54:14
 put-word-requires-2 : tie.Need-put-word-requires-2
 put-word-requires-2 c κs = search needs
 
--- src/line.rt:55:32
 slice-aggregate-put-word-3 : tie.Need-slice-aggregate-put-word-3
 slice-aggregate-put-word-3 c = search needs
 
--- src/line.rt:55:14
 put-word-requires-3 : tie.Need-put-word-requires-3
 put-word-requires-3 c κs = search needs
 
--- src/line.rt:56:32
 slice-aggregate-put-word-4 : tie.Need-slice-aggregate-put-word-4
 slice-aggregate-put-word-4 c = search needs
 
--- src/line.rt:56:14
 put-word-requires-4 : tie.Need-put-word-requires-4
 put-word-requires-4 c κs = search needs
 
--- src/line.rt:57:32
 slice-aggregate-put-word-5 : tie.Need-slice-aggregate-put-word-5
 slice-aggregate-put-word-5 c = search needs
 
--- src/line.rt:57:14
 put-word-requires-5 : tie.Need-put-word-requires-5
 put-word-requires-5 c κs = search needs
 
--- src/line.rt:58:32
 slice-aggregate-put-word-6 : tie.Need-slice-aggregate-put-word-6
 slice-aggregate-put-word-6 c = search needs
 
--- src/line.rt:58:14
 put-word-requires-6 : tie.Need-put-word-requires-6
 put-word-requires-6 c κs = search needs
 
--- src/line.rt:59:32
 slice-aggregate-put-word-7 : tie.Need-slice-aggregate-put-word-7
 slice-aggregate-put-word-7 c = search needs
 
--- src/line.rt:59:14
 put-word-requires-7 : tie.Need-put-word-requires-7
 put-word-requires-7 c κs = search needs
 
--- src/line.rt:60:32
 slice-aggregate-put-word-8 : tie.Need-slice-aggregate-put-word-8
 slice-aggregate-put-word-8 c = search needs
 
--- src/line.rt:60:14
 put-word-requires-8 : tie.Need-put-word-requires-8
 put-word-requires-8 c κs = search needs
 
--- src/line.rt:48:1
 same-length : tie.Need-same-length
 same-length c = search needs
 
--- src/line.rt:48:1
 returns : tie.Need-returns
 unfolding ascii
 returns c = search (needs, modePuts)
 
--- src/line.rt:48:1
 same-length-2 : tie.Need-same-length-2
 same-length-2 c = search needs
 
--- src/line.rt:48:1
 returns-2 : tie.Need-returns-2
 unfolding ascii
 returns-2 c = search (needs, modePuts)
 
--- src/line.rt:48:1
 same-length-3 : tie.Need-same-length-3
 same-length-3 c = search needs
 
--- src/line.rt:48:1
 returns-3 : tie.Need-returns-3
 unfolding ascii
 returns-3 c = search (needs, modePuts)
 
--- src/line.rt:48:1
 same-length-4 : tie.Need-same-length-4
 same-length-4 c = search needs
 
--- src/line.rt:48:1
 returns-4 : tie.Need-returns-4
 unfolding ascii
 returns-4 c = search (needs, modePuts)
 
--- src/line.rt:48:1
 same-length-5 : tie.Need-same-length-5
 same-length-5 c = search needs
 
--- src/line.rt:48:1
 returns-5 : tie.Need-returns-5
 unfolding ascii
 returns-5 c = search (needs, modePuts)
 
--- src/line.rt:48:1
 same-length-6 : tie.Need-same-length-6
 same-length-6 c = search needs
 
--- src/line.rt:48:1
 returns-6 : tie.Need-returns-6
 unfolding ascii
 returns-6 c = search (needs, modePuts)
 
--- src/line.rt:48:1
 same-length-7 : tie.Need-same-length-7
 same-length-7 c = search needs
 
--- src/line.rt:48:1
 returns-7 : tie.Need-returns-7
 unfolding ascii
 returns-7 c = search (needs, modePuts)
 
--- src/line.rt:48:1
 same-length-8 : tie.Need-same-length-8
 same-length-8 c = search needs
 
--- src/line.rt:48:1
 returns-8 : tie.Need-returns-8
 unfolding ascii
 returns-8 c = search (needs, modePuts)

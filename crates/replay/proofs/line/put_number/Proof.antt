@@ -7,27 +7,21 @@ use Rattle.replay.proofs.line.put_number.Lts as lts
 use Rattle.io.proofs.decimal.Reads as decimal-reads
 use Rattle.replay.proofs.line.put_word.Reads as put-word-reads
 
--- src/line.rt:25:9
 decimal-requires : tie.Need-decimal-requires
 decimal-requires c κs = search needs
 
--- src/line.rt:26:23
 array-share-prefix-digits : tie.Need-array-share-prefix-digits
 array-share-prefix-digits c = search needs
 
--- src/line.rt:26:23
 slice-aggregate-put-word : tie.Need-slice-aggregate-put-word
 slice-aggregate-put-word c = search needs
 
--- src/line.rt:26:5
 put-word-requires : tie.Need-put-word-requires
 put-word-requires c κs = search (needs, number-room)
 
--- src/line.rt:20:1
 same-length : tie.Need-same-length
 same-length c = search needs
 
--- src/line.rt:20:1
 returns : tie.Need-returns
 returns c = search (needs, number-put)
 

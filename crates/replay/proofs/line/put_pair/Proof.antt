@@ -6,19 +6,15 @@ use Rattle.replay.proofs.line.put_pair.Reads as reads
 use Rattle.replay.proofs.line.put_pair.Lts as lts
 use Rattle.replay.proofs.line.put_spaced.Reads as put-spaced-reads
 
--- src/line.rt:68:9
 put-spaced-requires : tie.Need-put-spaced-requires
 put-spaced-requires c κs = search needs
 
--- src/line.rt:69:5
 put-spaced-requires-2 : tie.Need-put-spaced-requires-2
 put-spaced-requires-2 c κs = search needs
 
--- src/line.rt:64:1
 same-length : tie.Need-same-length
 same-length c = search needs
 
--- src/line.rt:64:1
 returns : tie.Need-returns
 returns c = search (needs, pair-put)
 

@@ -7,19 +7,15 @@ use Rattle.replay.proofs.line.put_rest.Lts as lts
 use Rattle.replay.proofs.line.put_back.Reads as put-back-reads
 use Rattle.replay.proofs.line.put_state.Reads as put-state-reads
 
--- src/line.rt:100:9
 put-state-requires : tie.Need-put-state-requires
 put-state-requires c κs = search needs
 
--- src/line.rt:101:5
 put-back-requires : tie.Need-put-back-requires
 put-back-requires c κs = search needs
 
--- src/line.rt:96:1
 same-length : tie.Need-same-length
 same-length c = search needs
 
--- src/line.rt:96:1
 returns : tie.Need-returns
 returns c = search (needs, rest-put)
 

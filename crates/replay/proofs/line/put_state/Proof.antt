@@ -7,19 +7,15 @@ use Rattle.replay.proofs.line.put_state.Lts as lts
 use Rattle.replay.proofs.line.put_mode.Reads as put-mode-reads
 use Rattle.replay.proofs.line.put_pair.Reads as put-pair-reads
 
--- src/line.rt:84:9
 put-mode-requires : tie.Need-put-mode-requires
 put-mode-requires c κs = search needs
 
--- src/line.rt:85:5
 put-pair-requires : tie.Need-put-pair-requires
 put-pair-requires c κs = search needs
 
--- src/line.rt:80:1
 same-length : tie.Need-same-length
 same-length c = search needs
 
--- src/line.rt:80:1
 returns : tie.Need-returns
 returns c = search (needs, state-put)
 

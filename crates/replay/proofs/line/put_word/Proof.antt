@@ -6,19 +6,15 @@ use Rattle.replay.proofs.line.put_word.Reads as reads
 use Rattle.replay.proofs.line.put_word.Lts as lts
 use Rattle.record.proofs.blocks.copy.Reads as copy-reads
 
--- src/line.rt:16:5
 copy-requires : tie.Need-copy-requires
 copy-requires c κs = search needs
 
--- src/line.rt:17:5
 add-result : tie.Need-add-result
 add-result c = search needs
 
--- src/line.rt:12:1
 same-length : tie.Need-same-length
 same-length c = search needs
 
--- src/line.rt:12:1
 returns : tie.Need-returns
 returns c = search (needs, word-put)
 

@@ -5,7 +5,6 @@ use Rattle.replay.proofs.input.Setup.refused.Tie as tie
 use Rattle.replay.proofs.input.Setup.refused.Reads as reads
 use Rattle.replay.proofs.input.Setup.refused.Lts as lts
 
--- src/input.rt:17:5
 returns : tie.Need-returns
 unfolding setupNumbers
 returns c = search needs

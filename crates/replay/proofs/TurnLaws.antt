@@ -18,12 +18,12 @@ use Rattle.servers.specs.Table.{none, altered, replied}
 use Rattle.replay.specs.declared.line.Shown.{Shown}
 use Rattle.replay.specs.declared.input.Next.{Next}
 use Rattle.replay.specs.declared.input.Next.the-variants.{Event, Wrong, More, Done}
-use Rattle.replay.specs.declared.session.Going.the-variants.{On, Read, Stop}
-use Rattle.replay.specs.declared.session.Turn.{Turn}
+use Rattle.replay.specs.declared.turns.Going.the-variants.{On, Read, Stop}
+use Rattle.replay.specs.declared.turns.Turn.{Turn}
 use Rattle.replay.specs.Input.{nextOf}
 use Rattle.replay.specs.Lines.{Put, shownLine}
 use Rattle.replay.specs.Reading.{Fed, Kept}
-use Rattle.replay.specs.Session.{shownOf, lineAt, Turned, turned, turnBy, turnOf}
+use Rattle.replay.specs.Turns.{shownOf, lineAt, Turned, turned, turnBy, turnOf}
 use Rattle.replay.proofs.InputLaws.{whole-event}
 
 four-at : (b : List ℕ) (at : ℕ) → numberAt 4 (getD b at 0 ∷ getD b (at + 1) 0 ∷ getD b (at + 2) 0 ∷ getD b (at + 3) 0 ∷ []) 0 ≡ numberAt 4 b at

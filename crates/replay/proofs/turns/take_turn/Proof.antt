@@ -1,63 +1,50 @@
 use Rattle.replay.proofs.LineLaws.{put-counts}
-use Rattle.replay.proofs.SessionLaws.{event-server, event-inside, event-turn, wrong-turn, more-turn, done-turn}
+use Rattle.replay.proofs.TurnLaws.{event-server, event-inside, event-turn, wrong-turn, more-turn, done-turn}
 use borrow.Author.Needs.{needs}
-use Rattle.replay.proofs.session.take_turn.Statement.{statement}
-use Rattle.replay.proofs.session.take_turn.Tie as tie
-use Rattle.replay.proofs.session.take_turn.Reads as reads
-use Rattle.replay.proofs.session.take_turn.Lts as lts
+use Rattle.replay.proofs.turns.take_turn.Statement.{statement}
+use Rattle.replay.proofs.turns.take_turn.Tie as tie
+use Rattle.replay.proofs.turns.take_turn.Reads as reads
+use Rattle.replay.proofs.turns.take_turn.Lts as lts
 use Rattle.replay.proofs.input.next_in.Reads as next-in-reads
 use Rattle.replay.proofs.line.input_line.Reads as input-line-reads
-use Rattle.replay.proofs.session.take_event.Reads as take-event-reads
+use Rattle.replay.proofs.turns.take_event.Reads as take-event-reads
 
--- src/session.rt:113:11
 next-in-requires : tie.Need-next-in-requires
 next-in-requires c κs = search needs
 
--- src/session.rt:114:21
 enum-known-size : tie.Need-enum-known-size
 enum-known-size c = search needs
 
--- src/session.rt:114:30
 take-event-requires : tie.Need-take-event-requires
 take-event-requires c κs = search (needs, event-server, event-inside)
 
--- src/session.rt:115:21
 enum-known-number : tie.Need-enum-known-number
 enum-known-number c = search needs
 
--- src/session.rt:118:21
 input-line-requires : tie.Need-input-line-requires
 input-line-requires c κs = search needs
 
--- src/session.rt:125:20
 enum-told : tie.Need-enum-told
 enum-told c = search needs
 
--- src/session.rt:131:20
 enum-told-2 : tie.Need-enum-told-2
 enum-told-2 c = search needs
 
--- src/session.rt:108:1
 same-length : tie.Need-same-length
 same-length c = search needs
 
--- src/session.rt:108:1
 returns : tie.Need-returns
 returns c = search (needs, event-turn)
 
--- src/session.rt:108:1
 same-length-2 : tie.Need-same-length-2
 same-length-2 c = search needs
 
--- src/session.rt:108:1
 returns-2 : tie.Need-returns-2
 returns-2 c = search (needs, wrong-turn, put-counts)
 
--- src/session.rt:108:1
 returns-3 : tie.Need-returns-3
 returns-3 c = search (needs, more-turn)
 
--- src/session.rt:108:1
 returns-4 : tie.Need-returns-4
 returns-4 c = search (needs, done-turn)
 

@@ -8,7 +8,7 @@ ghost use Rattle.io.specs.Counts.{Counts};
 ghost use Rattle.servers.specs.Table.{altered};
 ghost use Rattle.replay.specs.Lines.{Put};
 ghost use Rattle.replay.specs.declared.input.Next.the-variants.{Event};
-ghost use Rattle.replay.specs.Session.{shownOf, lineAt, turned, turnBy, turnOf};
+ghost use Rattle.replay.specs.Turns.{shownOf, lineAt, turned, turnBy, turnOf};
 use crate::input::Next;
 use crate::input::next_in;
 use crate::line::Shown;

@@ -12,9 +12,9 @@ use Rattle.replication.specs.Replay.{inputLine}
 use Rattle.replay.specs.declared.line.Shown.{Shown}
 use Rattle.replay.specs.declared.input.Next.{Next}
 use Rattle.replay.specs.declared.input.Next.the-variants.{Event, Wrong, More, Done}
-use Rattle.replay.specs.declared.session.Going.{Going}
-use Rattle.replay.specs.declared.session.Going.the-variants.{On, Read, Stop}
-use Rattle.replay.specs.declared.session.Turn.{Turn}
+use Rattle.replay.specs.declared.turns.Going.{Going}
+use Rattle.replay.specs.declared.turns.Going.the-variants.{On, Read, Stop}
+use Rattle.replay.specs.declared.turns.Turn.{Turn}
 use Rattle.replay.specs.Input.{nextOf}
 use Rattle.replay.specs.Lines.{shownLine}
 
