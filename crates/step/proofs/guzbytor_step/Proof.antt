@@ -8,39 +8,30 @@ use Rattle.state_check.proofs.state_number.Reads as state-number-reads
 use Rattle.step.proofs.Answer.refused.Reads as refused-reads
 use Rattle.step.proofs.taking.step.Reads as step-reads
 
--- src/lib.rt:80:9
 state-number-requires : tie.Need-state-number-requires
 state-number-requires c κs = search needs
 
--- src/lib.rt:82:9
 refused-requires : tie.Need-refused-requires
 refused-requires c κs = search needs
 
--- src/lib.rt:82:9
 same-length : tie.Need-same-length
 same-length c = search needs
 
--- src/lib.rt:82:9
 same-length-2 : tie.Need-same-length-2
 same-length-2 c = search needs
 
--- src/lib.rt:82:9
 returns : tie.Need-returns
 returns c = search (needs, step-numbered)
 
--- src/lib.rt:84:5
 step-requires : tie.Need-step-requires
 step-requires c κs = search needs
 
--- src/lib.rt:76:1
 same-length-3 : tie.Need-same-length-3
 same-length-3 c = search needs
 
--- src/lib.rt:76:1
 same-length-4 : tie.Need-same-length-4
 same-length-4 c = search needs
 
--- src/lib.rt:76:1
 returns-2 : tie.Need-returns-2
 returns-2 c = search needs
 

@@ -9,43 +9,33 @@ use Rattle.queue.proofs.slots.put_slot.Reads as put-slot-reads
 use Rattle.stores.proofs.put32.Reads as put32-reads
 use Rattle.record.proofs.bytes.num32.Reads as num32-reads
 
--- src/entering.rt:30:9
 num32-requires : tie.Need-num32-requires
 num32-requires c κs = search needs
 
--- src/entering.rt:31:14
 queue-place-requires : tie.Need-queue-place-requires
 queue-place-requires c κs = search needs
 
--- src/entering.rt:31:40
 cast-at : tie.Need-cast-at
 cast-at c = search needs
 
--- src/entering.rt:31:35
 mul-at : tie.Need-mul-at
 mul-at c = search needs
 
--- src/entering.rt:31:14
 add-at : tie.Need-add-at
 add-at c = search needs
 
--- src/entering.rt:32:5
 put-slot-requires : tie.Need-put-slot-requires
 put-slot-requires c κs = search needs
 
--- src/entering.rt:33:22
 add-put32 : tie.Need-add-put32
 add-put32 c = search needs
 
--- src/entering.rt:33:5
 put32-requires : tie.Need-put32-requires
 put32-requires c κs = search needs
 
--- src/entering.rt:26:1
 same-length : tie.Need-same-length
 same-length c = search needs
 
--- src/entering.rt:26:1
 returns : tie.Need-returns
 returns c = search (needs, appended-made)
 

@@ -7,31 +7,24 @@ use Rattle.queue.proofs.entering.enqueue.Lts as lts
 use Rattle.queue.proofs.entering.append.Reads as append-reads
 use Rattle.stores.proofs.put16.Reads as put16-reads
 
--- src/entering.rt:41:5
 append-requires : tie.Need-append-requires
 append-requires c κs = search needs
 
--- src/entering.rt:42:27
 cast-put16 : tie.Need-cast-put16
 cast-put16 c = search needs
 
--- src/entering.rt:42:23
 mul-put16 : tie.Need-mul-put16
 mul-put16 c = search needs
 
--- src/entering.rt:42:18
 add-put16 : tie.Need-add-put16
 add-put16 c = search needs
 
--- src/entering.rt:42:5
 put16-requires : tie.Need-put16-requires
 put16-requires c κs = search needs
 
--- src/entering.rt:37:1
 same-length : tie.Need-same-length
 same-length c = search needs
 
--- src/entering.rt:37:1
 returns : tie.Need-returns
 returns c = search (needs, queued-made)
 

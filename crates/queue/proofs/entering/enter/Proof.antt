@@ -10,47 +10,36 @@ use Rattle.queue.proofs.places.own_place.Reads as own-place-reads
 use Rattle.record.proofs.bytes.num16.Reads as num16-reads
 use Rattle.record.proofs.bytes.num8.Reads as num8-reads
 
--- src/entering.rt:61:9
 num8-requires : tie.Need-num8-requires
 num8-requires c κs = search needs
 
--- src/entering.rt:62:9
 num16-requires : tie.Need-num16-requires
 num16-requires c κs = search needs
 
--- src/entering.rt:63:9
 own-place-requires : tie.Need-own-place-requires
 own-place-requires c κs = search needs
 
--- src/entering.rt:65:5
 enqueue-requires : tie.Need-enqueue-requires
 enqueue-requires c κs = search needs
 
--- src/entering.rt:67:9
 same-length : tie.Need-same-length
 same-length c = search needs
 
--- src/entering.rt:67:9
 returns : tie.Need-returns
 returns c = search (needs, enter-other)
 
--- src/entering.rt:70:9
 same-length-2 : tie.Need-same-length-2
 same-length-2 c = search needs
 
--- src/entering.rt:70:9
 returns-2 : tie.Need-returns-2
 returns-2 c = search (needs, enter-none)
 
--- src/entering.rt:72:5
 pop-own-requires : tie.Need-pop-own-requires
 pop-own-requires c κs = search needs
 
--- src/entering.rt:57:1
 same-length-3 : tie.Need-same-length-3
 same-length-3 c = search needs
 
--- src/entering.rt:57:1
 returns-3 : tie.Need-returns-3
 returns-3 c = search (needs, enter-own)
 

@@ -7,43 +7,33 @@ use Rattle.queue.proofs.entering.pop_own.Lts as lts
 use Rattle.queue.proofs.slots.shift_down.Reads as shift-down-reads
 use Rattle.stores.proofs.put16.Reads as put16-reads
 
--- src/entering.rt:50:20
 mul-end : tie.Need-mul-end
 mul-end c = search needs
 
--- src/entering.rt:50:15
 add-end : tie.Need-add-end
 add-end c = search needs
 
--- src/entering.rt:51:16
 sub-shift-down : tie.Need-sub-shift-down
 sub-shift-down c = search needs
 
--- src/entering.rt:51:16
 part-shift-down-start : tie.Need-part-shift-down-start
 part-shift-down-start c = search needs
 
--- src/entering.rt:51:16
 part-shift-down-end : tie.Need-part-shift-down-end
 part-shift-down-end c = search needs
 
--- src/entering.rt:51:5
 shift-down-requires : tie.Need-shift-down-requires
 shift-down-requires c κs = search needs
 
--- src/entering.rt:52:22
 sub-put16 : tie.Need-sub-put16
 sub-put16 c = search needs
 
--- src/entering.rt:52:5
 put16-requires : tie.Need-put16-requires
 put16-requires c κs = search needs
 
--- src/entering.rt:46:1
 same-length : tie.Need-same-length
 same-length c = search needs
 
--- src/entering.rt:46:1
 returns : tie.Need-returns
 returns c = search (needs, popped-made)
 

@@ -7,51 +7,39 @@ use Rattle.queue.proofs.entering.red.Lts as lts
 use Rattle.queue.proofs.entering.enter.Reads as enter-reads
 use Rattle.record.proofs.bytes.num16.Reads as num16-reads
 
--- src/entering.rt:80:37
 cast-num16 : tie.Need-cast-num16
 cast-num16 c = search needs
 
--- src/entering.rt:80:33
 mul-num16 : tie.Need-mul-num16
 mul-num16 c = search needs
 
--- src/entering.rt:80:28
 add-num16 : tie.Need-add-num16
 add-num16 c = search needs
 
--- src/entering.rt:80:9
 num16-requires : tie.Need-num16-requires
 num16-requires c κs = search needs
 
--- src/entering.rt:81:8
 cast-if1 : tie.Need-cast-if1
 cast-if1 c = search needs
 
--- src/entering.rt:81:8
 add-if1 : tie.Need-add-if1
 add-if1 c = search needs
 
--- src/entering.rt:81:26
 cast-if1-2 : tie.Need-cast-if1-2
 cast-if1-2 c = search needs
 
--- src/entering.rt:82:9
 same-length : tie.Need-same-length
 same-length c = search needs
 
--- src/entering.rt:82:9
 returns : tie.Need-returns
 returns c = search (needs, red-passed)
 
--- src/entering.rt:84:5
 enter-requires : tie.Need-enter-requires
 enter-requires c κs = search (needs, next-room)
 
--- src/entering.rt:76:1
 same-length-2 : tie.Need-same-length-2
 same-length-2 c = search needs
 
--- src/entering.rt:76:1
 returns-2 : tie.Need-returns-2
 returns-2 c = search (needs, red-taken)
 

@@ -18,39 +18,30 @@ Inv-loop state at count creator index k₀ k = (k ≤ count) × (position (idOf 
 abbrev μ-loop : tie.MeasureT-loop
 μ-loop state at count creator index k₀ k = count - k
 
--- src/finding.rt:31:5
 loop-holds : tie.Need-loop-holds Inv-loop μ-loop
 loop-holds c = search (needs, find-start)
 
--- src/finding.rt:32:31
 mul-has-id : tie.Need-mul-has-id Inv-loop μ-loop
 mul-has-id c = omega arith
 
--- src/finding.rt:32:26
 add-has-id : tie.Need-add-has-id Inv-loop μ-loop
 add-has-id c = omega arith
 
--- src/finding.rt:32:12
 has-id-requires : tie.Need-has-id-requires Inv-loop μ-loop
 has-id-requires c κs = omega arith
 
--- src/finding.rt:33:13
 returns : tie.Need-returns Inv-loop μ-loop
 returns c = search (needs, find-found)
 
--- src/finding.rt:35:9
 add-k : tie.Need-add-k Inv-loop μ-loop
 add-k c = omega arith
 
--- src/finding.rt:31:5
 loop-less : tie.Need-loop-less Inv-loop μ-loop
 loop-less c = omega arith
 
--- src/finding.rt:31:5
 loop-again : tie.Need-loop-again Inv-loop μ-loop
 loop-again c = search (needs, find-again)
 
--- src/finding.rt:26:1
 returns-2 : tie.Need-returns-2 Inv-loop μ-loop
 returns-2 c = search (needs, find-end)
 

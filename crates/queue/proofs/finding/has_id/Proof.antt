@@ -7,23 +7,18 @@ use Rattle.queue.proofs.finding.has_id.Lts as lts
 use Rattle.record.proofs.bytes.num16.Reads as num16-reads
 use Rattle.record.proofs.bytes.num8.Reads as num8-reads
 
--- src/finding.rt:19:19
 num8-requires : tie.Need-num8-requires
 num8-requires c κs = search needs
 
--- src/finding.rt:20:9
 returns : tie.Need-returns
 returns c = search (needs, other-creator)
 
--- src/finding.rt:22:27
 add-num16 : tie.Need-add-num16
 add-num16 c = search needs
 
--- src/finding.rt:22:14
 num16-requires : tie.Need-num16-requires
 num16-requires c κs = search needs
 
--- src/finding.rt:15:1
 returns-2 : tie.Need-returns-2
 returns-2 c = search (needs, same-creator)
 

@@ -8,23 +8,18 @@ use Rattle.queue.proofs.finding.find.Reads as find-reads
 use Rattle.queue.proofs.places.queue_place.Reads as queue-place-reads
 use Rattle.record.proofs.bytes.num32.Reads as num32-reads
 
--- src/finding.rt:50:17
 num32-requires : tie.Need-num32-requires
 num32-requires c κs = search needs
 
--- src/finding.rt:50:17
 cast-count : tie.Need-cast-count
 cast-count c = search needs
 
--- src/finding.rt:51:17
 queue-place-requires : tie.Need-queue-place-requires
 queue-place-requires c κs = search needs
 
--- src/finding.rt:51:5
 find-requires : tie.Need-find-requires
 find-requires c κs = search needs
 
--- src/finding.rt:46:1
 returns : tie.Need-returns
 returns c = search (needs, queue-found)
 

@@ -7,22 +7,18 @@ use Rattle.queue.proofs.greening.green.Lts as lts
 use Rattle.queue.proofs.entering.red.Reads as red-reads
 use Rattle.queue.proofs.greening.green_id.Reads as green-id-reads
 
--- src/greening.rt:61:5
 red-requires : tie.Need-red-requires
 red-requires c κs = search (needs, ready-room)
 
--- src/greening.rt:62:5
 green-id-requires : tie.Need-green-id-requires
 green-id-requires c κs =
     ready-counts _ _ _ _
     (c .before .before .before .before .before .before .before .pre)
     (c .before .before .before .red .ensures)
 
--- src/greening.rt:57:1
 same-length : tie.Need-same-length
 same-length c = search needs
 
--- src/greening.rt:57:1
 returns : tie.Need-returns
 returns c = green-made _ _ _ _ _ (c .before .before .before .before .before .before .red .ensures) (c .before .before .green-id .ensures)
 

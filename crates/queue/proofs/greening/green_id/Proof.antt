@@ -10,51 +10,39 @@ use Rattle.queue.proofs.greening.red_place.Reads as red-place-reads
 use Rattle.queue.proofs.places.queue_place.Reads as queue-place-reads
 use Rattle.record.proofs.bytes.num32.Reads as num32-reads
 
--- src/greening.rt:55:9
 red-place-requires : tie.Need-red-place-requires
 red-place-requires c κs = search needs
 
--- src/greening.rt:56:8
 red-count-requires : tie.Need-red-count-requires
 red-count-requires c κs = search needs
 
--- src/greening.rt:57:9
 same-length : tie.Need-same-length
 same-length c = search needs
 
--- src/greening.rt:57:9
 returns : tie.Need-returns
 returns c = search (needs, green-passed)
 
--- src/greening.rt:59:9
 num32-requires : tie.Need-num32-requires
 num32-requires c κs = search needs
 
--- src/greening.rt:60:20
 queue-place-requires : tie.Need-queue-place-requires
 queue-place-requires c κs = search needs
 
--- src/greening.rt:60:46
 cast-promote : tie.Need-cast-promote
 cast-promote c = search needs
 
--- src/greening.rt:60:41
 mul-promote : tie.Need-mul-promote
 mul-promote c = search needs
 
--- src/greening.rt:60:20
 add-promote : tie.Need-add-promote
 add-promote c = search needs
 
--- src/greening.rt:60:5
 promote-requires : tie.Need-promote-requires
 promote-requires c κs = search needs
 
--- src/greening.rt:51:1
 same-length-2 : tie.Need-same-length-2
 same-length-2 c = search needs
 
--- src/greening.rt:51:1
 returns-2 : tie.Need-returns-2
 returns-2 c = search (needs, green-taken)
 

@@ -7,47 +7,36 @@ use Rattle.queue.proofs.greening.promote.Lts as lts
 use Rattle.queue.proofs.slots.last_to_front.Reads as last-to-front-reads
 use Rattle.stores.proofs.put32.Reads as put32-reads
 
--- src/greening.rt:15:21
 mul-end : tie.Need-mul-end
 mul-end c = search needs
 
--- src/greening.rt:15:21
 add-end : tie.Need-add-end
 add-end c = search needs
 
--- src/greening.rt:15:15
 add-end-2 : tie.Need-add-end-2
 add-end-2 c = search needs
 
--- src/greening.rt:16:19
 sub-last-to-front : tie.Need-sub-last-to-front
 sub-last-to-front c = search needs
 
--- src/greening.rt:16:19
 part-last-to-front-start : tie.Need-part-last-to-front-start
 part-last-to-front-start c = search needs
 
--- src/greening.rt:16:19
 part-last-to-front-end : tie.Need-part-last-to-front-end
 part-last-to-front-end c = search needs
 
--- src/greening.rt:16:5
 last-to-front-requires : tie.Need-last-to-front-requires
 last-to-front-requires c κs = search needs
 
--- src/greening.rt:17:22
 add-put32 : tie.Need-add-put32
 add-put32 c = search needs
 
--- src/greening.rt:17:5
 put32-requires : tie.Need-put32-requires
 put32-requires c κs = search needs
 
--- src/greening.rt:11:1
 same-length : tie.Need-same-length
 same-length c = search needs
 
--- src/greening.rt:11:1
 returns : tie.Need-returns
 returns c = search (needs, promoted-made)
 

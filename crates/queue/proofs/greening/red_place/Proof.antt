@@ -9,35 +9,27 @@ use Rattle.queue.proofs.greening.red_count.Reads as red-count-reads
 use Rattle.queue.proofs.places.queue_place.Reads as queue-place-reads
 use Rattle.record.proofs.bytes.num32.Reads as num32-reads
 
--- src/greening.rt:45:9
 red-count-requires : tie.Need-red-count-requires
 red-count-requires c κs = search needs
 
--- src/greening.rt:46:9
 num32-requires : tie.Need-num32-requires
 num32-requires c κs = search needs
 
--- src/greening.rt:47:17
 queue-place-requires : tie.Need-queue-place-requires
 queue-place-requires c κs = search needs
 
--- src/greening.rt:47:43
 cast-find : tie.Need-cast-find
 cast-find c = search needs
 
--- src/greening.rt:47:38
 mul-find : tie.Need-mul-find
 mul-find c = search needs
 
--- src/greening.rt:47:17
 add-find : tie.Need-add-find
 add-find c = search needs
 
--- src/greening.rt:47:5
 find-requires : tie.Need-find-requires
 find-requires c κs = search needs
 
--- src/greening.rt:41:1
 returns : tie.Need-returns
 returns c = search (needs, reds-made)
 

@@ -8,31 +8,24 @@ use Rattle.queue.proofs.slots.shift_up.Reads as shift-up-reads
 use Rattle.queue.proofs.slots.slot_at.Reads as slot-at-reads
 use Rattle.record.proofs.blocks.copy.Reads as copy-reads
 
--- src/slots.rt:71:27
 sub-slot-at : tie.Need-sub-slot-at
 sub-slot-at c = search needs
 
--- src/slots.rt:71:16
 slot-at-requires : tie.Need-slot-at-requires
 slot-at-requires c κs = search needs
 
--- src/slots.rt:72:5
 shift-up-requires : tie.Need-shift-up-requires
 shift-up-requires c κs = search needs
 
--- src/slots.rt:73:16
 slice-aggregate-copy : tie.Need-slice-aggregate-copy
 slice-aggregate-copy c = search needs
 
--- src/slots.rt:73:5
 copy-requires : tie.Need-copy-requires
 copy-requires c κs = search needs
 
--- src/slots.rt:67:1
 same-length : tie.Need-same-length
 same-length c = search needs
 
--- src/slots.rt:67:1
 returns : tie.Need-returns
 returns c = search (needs, to-front)
 

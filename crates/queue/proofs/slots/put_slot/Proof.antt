@@ -7,31 +7,24 @@ use Rattle.queue.proofs.slots.put_slot.Lts as lts
 use Rattle.engine.proofs.starting.clear.Reads as clear-reads
 use Rattle.stores.proofs.put_body.Reads as put-body-reads
 
--- src/slots.rt:23:5
 put-body-requires : tie.Need-put-body-requires
 put-body-requires c κs = search needs
 
--- src/slots.rt:24:24
 add-clear : tie.Need-add-clear
 add-clear c = search needs
 
--- src/slots.rt:24:18
 add-clear-2 : tie.Need-add-clear-2
 add-clear-2 c = search needs
 
--- src/slots.rt:24:44
 sub-clear : tie.Need-sub-clear
 sub-clear c = search needs
 
--- src/slots.rt:24:5
 clear-requires : tie.Need-clear-requires
 clear-requires c κs = search needs
 
--- src/slots.rt:19:1
 same-length : tie.Need-same-length
 same-length c = search needs
 
--- src/slots.rt:19:1
 returns : tie.Need-returns
 returns c = search (needs, slot-put)
 

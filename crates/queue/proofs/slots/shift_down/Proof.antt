@@ -16,43 +16,33 @@ Inv-loop s₀ w n i₀ s i = (i ≤ n) × (n ≡ length s₀ - w) × (length s �
 abbrev μ-loop : tie.MeasureT-loop
 μ-loop s₀ w n i₀ s i = n - i
 
--- src/slots.rt:32:13
 sub-n : tie.Need-sub-n Inv-loop μ-loop
 sub-n c = search needs
 
--- src/slots.rt:34:5
 loop-holds : tie.Need-loop-holds Inv-loop μ-loop
 loop-holds c = (omega arith, search needs, search needs, sym (patched-none _ _))
 
--- src/slots.rt:35:18
 add-s : tie.Need-add-s Inv-loop μ-loop
 add-s c = omega arith
 
--- src/slots.rt:35:16
 slice-read-s : tie.Need-slice-read-s Inv-loop μ-loop
 slice-read-s c = omega arith
 
--- src/slots.rt:35:9
 slice-write-s : tie.Need-slice-write-s Inv-loop μ-loop
 slice-write-s c = omega arith
 
--- src/slots.rt:36:9
 add-i : tie.Need-add-i Inv-loop μ-loop
 add-i c = omega arith
 
--- src/slots.rt:34:5
 loop-less : tie.Need-loop-less Inv-loop μ-loop
 loop-less c = omega arith
 
--- src/slots.rt:34:5
 loop-again : tie.Need-loop-again Inv-loop μ-loop
 loop-again c = (omega arith, search needs, simp length-set (omega arith), search (needs, down-turn))
 
--- src/slots.rt:28:1
 same-length : tie.Need-same-length Inv-loop μ-loop
 same-length c = search needs
 
--- src/slots.rt:28:1
 returns : tie.Need-returns Inv-loop μ-loop
 returns c = search (needs, down-end)
 

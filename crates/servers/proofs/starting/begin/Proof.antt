@@ -6,23 +6,18 @@ use Rattle.servers.proofs.starting.begin.Reads as reads
 use Rattle.servers.proofs.starting.begin.Lts as lts
 use Rattle.servers.proofs.starting.fresh.Reads as fresh-reads
 
--- src/starting.rt:23:9
 fresh-requires : tie.Need-fresh-requires
 fresh-requires c κs = search needs
 
--- src/starting.rt:24:9
 fresh-requires-2 : tie.Need-fresh-requires-2
 fresh-requires-2 c κs = search needs
 
--- src/starting.rt:25:9
 fresh-requires-3 : tie.Need-fresh-requires-3
 fresh-requires-3 c κs = search needs
 
--- src/starting.rt:26:9
 fresh-requires-4 : tie.Need-fresh-requires-4
 fresh-requires-4 c κs = search needs
 
--- src/starting.rt:20:1
 returns : tie.Need-returns
 returns c = search (needs, table-made)
 

@@ -7,15 +7,12 @@ use Rattle.servers.proofs.starting.fresh.Reads as reads
 use Rattle.servers.proofs.starting.fresh.Lts as lts
 use Rattle.engine.proofs.guzbytor_start.Reads as guzbytor-start-reads
 
--- src/starting.rt:12:20
 slice-aggregate-guzbytor-start : tie.Need-slice-aggregate-guzbytor-start
 slice-aggregate-guzbytor-start c = search needs
 
--- src/starting.rt:12:5
 guzbytor-start-requires : tie.Need-guzbytor-start-requires
 guzbytor-start-requires c κs = search needs
 
--- src/starting.rt:8:1
 returns : tie.Need-returns
 unfolding zeros
 returns c = search (needs, fresh-made)

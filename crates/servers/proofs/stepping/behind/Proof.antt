@@ -6,35 +6,27 @@ use Rattle.servers.proofs.stepping.behind.Reads as reads
 use Rattle.servers.proofs.stepping.behind.Lts as lts
 use Rattle.record.proofs.bytes.num16.Reads as num16-reads
 
--- src/stepping.rt:61:16
 num16-requires : tie.Need-num16-requires
 num16-requires c κs = search needs
 
--- src/stepping.rt:61:16
 cast-size : tie.Need-cast-size
 cast-size c = search needs
 
--- src/stepping.rt:62:8
 sub-if1 : tie.Need-sub-if1
 sub-if1 c = search needs
 
--- src/stepping.rt:62:8
 sub-if1-2 : tie.Need-sub-if1-2
 sub-if1-2 c = search needs
 
--- src/stepping.rt:63:9
 returns : tie.Need-returns
 returns c = search (needs, behind-end)
 
--- src/stepping.rt:65:5
 add-result : tie.Need-add-result
 add-result c = search needs
 
--- src/stepping.rt:65:5
 add-result-2 : tie.Need-add-result-2
 add-result-2 c = search needs
 
--- src/stepping.rt:57:1
 returns-2 : tie.Need-returns-2
 returns-2 c = search (needs, behind-inside)
 

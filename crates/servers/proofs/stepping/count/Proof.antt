@@ -16,31 +16,24 @@ Inv-loop out at₀ n₀ at n = (at ≤ length out) × (n ≤ at) × (n + records
 abbrev μ-loop : tie.MeasureT-loop
 μ-loop out at₀ n₀ at n = length out - at
 
--- src/stepping.rt:84:5
 loop-holds : tie.Need-loop-holds Inv-loop μ-loop
 loop-holds c = search needs
 
--- src/stepping.rt:84:16
 sub-loop : tie.Need-sub-loop Inv-loop μ-loop
 sub-loop c = search needs
 
--- src/stepping.rt:85:9
 behind-requires : tie.Need-behind-requires Inv-loop μ-loop
 behind-requires c κs = search needs
 
--- src/stepping.rt:86:9
 add-n : tie.Need-add-n Inv-loop μ-loop
 add-n c = search needs
 
--- src/stepping.rt:84:5
 loop-less : tie.Need-loop-less Inv-loop μ-loop
 loop-less c = search needs
 
--- src/stepping.rt:84:5
 loop-again : tie.Need-loop-again Inv-loop μ-loop
 loop-again c = search (needs, count-again)
 
--- src/stepping.rt:79:1
 returns : tie.Need-returns Inv-loop μ-loop
 returns c = search (needs, count-end)
 

@@ -7,43 +7,34 @@ use Rattle.servers.proofs.stepping.is_recovery.Tie as tie
 use Rattle.servers.proofs.stepping.is_recovery.Reads as reads
 use Rattle.servers.proofs.stepping.is_recovery.Lts as lts
 
--- src/stepping.rt:15:9
 returns : tie.Need-returns
 unfolding isRecovery
 returns c = search (needs, tests, told) depth 12
 
--- src/stepping.rt:17:8
 shared-slice-read-if2 : tie.Need-shared-slice-read-if2
 shared-slice-read-if2 c = search needs
 
--- src/stepping.rt:18:9
 returns-2 : tie.Need-returns-2
 unfolding isRecovery
 returns-2 c = search (needs, tests, told) depth 12
 
--- src/stepping.rt:20:8
 shared-slice-read-if3 : tie.Need-shared-slice-read-if3
 shared-slice-read-if3 c = search needs
 
--- src/stepping.rt:21:9
 returns-3 : tie.Need-returns-3
 unfolding isRecovery
 returns-3 c = search (needs, tests, told) depth 12
 
--- src/stepping.rt:23:8
 shared-slice-read-if4 : tie.Need-shared-slice-read-if4
 shared-slice-read-if4 c = search needs
 
--- src/stepping.rt:24:9
 returns-4 : tie.Need-returns-4
 unfolding isRecovery
 returns-4 c = search (needs, tests, told) depth 12
 
--- src/stepping.rt:26:5
 shared-slice-read-result : tie.Need-shared-slice-read-result
 shared-slice-read-result c = search needs
 
--- src/stepping.rt:11:1
 returns-5 : tie.Need-returns-5
 unfolding isRecovery
 returns-5 c = search (needs, tests, told) depth 12

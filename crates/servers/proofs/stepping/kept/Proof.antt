@@ -5,15 +5,12 @@ use Rattle.servers.proofs.stepping.kept.Tie as tie
 use Rattle.servers.proofs.stepping.kept.Reads as reads
 use Rattle.servers.proofs.stepping.kept.Lts as lts
 
--- src/stepping.rt:44:9
 returns : tie.Need-returns
 returns c = search (needs, kept-refused)
 
--- src/stepping.rt:47:9
 returns-2 : tie.Need-returns-2
 returns-2 c = search (needs, kept-stored)
 
--- src/stepping.rt:40:1
 returns-3 : tie.Need-returns-3
 returns-3 c = search (needs, kept-unstored)
 

@@ -8,23 +8,18 @@ use Rattle.servers.proofs.stepping.records.Reads as reads
 use Rattle.servers.proofs.stepping.records.Lts as lts
 use Rattle.servers.proofs.stepping.count.Reads as count-reads
 
--- src/stepping.rt:74:22
 slice-aggregate-count : tie.Need-slice-aggregate-count
 slice-aggregate-count c = simp length-take (omega arith)
 
--- src/stepping.rt:74:9
 count-requires : tie.Need-count-requires
 count-requires c κs = search needs
 
--- src/stepping.rt:74:9
 returns : tie.Need-returns
 returns c = search needs
 
--- src/stepping.rt:76:5
 count-requires-2 : tie.Need-count-requires-2
 count-requires-2 c κs = search needs
 
--- src/stepping.rt:69:1
 returns-2 : tie.Need-returns-2
 returns-2 c = search (needs, count-whole)
 

@@ -6,15 +6,12 @@ use Rattle.servers.proofs.stepping.source.Reads as reads
 use Rattle.servers.proofs.stepping.source.Lts as lts
 use Rattle.servers.proofs.stepping.is_recovery.Reads as is-recovery-reads
 
--- src/stepping.rt:33:8
 is-recovery-requires : tie.Need-is-recovery-requires
 is-recovery-requires c κs = search needs
 
--- src/stepping.rt:34:9
 returns : tie.Need-returns
 returns c = search (needs, source-stored)
 
--- src/stepping.rt:30:1
 returns-2 : tie.Need-returns-2
 returns-2 c = search (needs, source-running)
 

@@ -10,32 +10,26 @@ use Rattle.step.proofs.events.after_transitional.Tie as tie
 use Rattle.step.proofs.events.after_transitional.Reads as reads
 use Rattle.step.proofs.events.after_transitional.Lts as lts
 
--- src/events.rt:230:1
 returns : tie.Need-returns
 unfolding modeAfter modeNamed modeNumber pick _=?_
 returns c = after-as _ _ 0 (c .match .keys1) refl
 
--- src/events.rt:230:1
 returns-2 : tie.Need-returns-2
 unfolding modeAfter modeNamed modeNumber pick _=?_
 returns-2 c = after-as _ _ 1 (c .match .keys2) refl
 
--- src/events.rt:230:1
 returns-3 : tie.Need-returns-3
 unfolding modeAfter modeNamed modeNumber pick _=?_
 returns-3 c = after-as _ _ 3 (c .match .keys3) refl
 
--- src/events.rt:230:1
 returns-4 : tie.Need-returns-4
 unfolding modeAfter modeNamed modeNumber pick _=?_
 returns-4 c = after-as _ _ 4 (c .match .keys4) refl
 
--- src/events.rt:230:1
 returns-5 : tie.Need-returns-5
 unfolding modeAfter modeNamed modeNumber pick _=?_
 returns-5 c = after-as _ _ 5 (c .match .keys5) refl
 
--- src/events.rt:230:1
 returns-6 : tie.Need-returns-6
 returns-6 c = search (needs, after-none)
 

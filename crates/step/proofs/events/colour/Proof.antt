@@ -11,67 +11,51 @@ use Rattle.step.proofs.colours.green_and_note.Reads as green-and-note-r
 use Rattle.step.proofs.colours.yellow.Reads as yellow-reads
 use Rattle.step.proofs.installing.late_install.Reads as late-install-reads
 
--- src/events.rt:51:13
 green-and-note-requires : tie.Need-green-and-note-requires
 green-and-note-requires c κs = green-taken _ _ _ _ (c .before .before .before .before .pre) (c .before .match .keys1)
 
--- src/events.rt:52:13
 quiet-requires : tie.Need-quiet-requires
 quiet-requires c κs = search needs
 
--- src/events.rt:55:13
 yellow-requires : tie.Need-yellow-requires
 yellow-requires c κs = yellow-taken _ _ _ _ (c .before .before .before .before .pre) (c .before .match .keys2)
 
--- src/events.rt:56:13
 quiet-requires-2 : tie.Need-quiet-requires-2
 quiet-requires-2 c κs = search needs
 
--- src/events.rt:59:13
 late-install-requires : tie.Need-late-install-requires
 late-install-requires c κs = late-taken _ _ _ _ (c .before .before .before .before .pre) (c .before .match .keys3)
 
--- src/events.rt:60:13
 stored-requires : tie.Need-stored-requires
 stored-requires c κs = search needs
 
--- src/events.rt:63:13
 red-requires : tie.Need-red-requires
 red-requires c κs = search (needs, red-taken)
 
--- src/events.rt:64:13
 quiet-requires-3 : tie.Need-quiet-requires-3
 quiet-requires-3 c κs = search needs
 
--- src/events.rt:45:1
 same-length : tie.Need-same-length
 same-length c = search needs
 
--- src/events.rt:45:1
 returns : tie.Need-returns
 returns c = search (needs, green-done)
 
--- src/events.rt:45:1
 same-length-2 : tie.Need-same-length-2
 same-length-2 c = search needs
 
--- src/events.rt:45:1
 returns-2 : tie.Need-returns-2
 returns-2 c = search (needs, yellow-done)
 
--- src/events.rt:45:1
 same-length-3 : tie.Need-same-length-3
 same-length-3 c = search needs
 
--- src/events.rt:45:1
 returns-3 : tie.Need-returns-3
 returns-3 c = search (needs, late-done)
 
--- src/events.rt:45:1
 same-length-4 : tie.Need-same-length-4
 same-length-4 c = search needs
 
--- src/events.rt:45:1
 returns-4 : tie.Need-returns-4
 returns-4 c = search (needs, red-done)
 

@@ -8,27 +8,21 @@ use Rattle.step.proofs.rows.cpc_in.Reads as cpc-in-reads
 use Rattle.step.proofs.rows.is_member.Reads as is-member-reads
 use Rattle.step.proofs.rows.is_of.Reads as is-of-reads
 
--- src/events.rt:183:9
 is-member-requires : tie.Need-is-member-requires
 is-member-requires c κs = search needs
 
--- src/events.rt:184:9
 returns : tie.Need-returns
 returns c = search (needs, cpc-stranger)
 
--- src/events.rt:186:9
 is-of-requires : tie.Need-is-of-requires
 is-of-requires c κs = search needs
 
--- src/events.rt:187:9
 returns-2 : tie.Need-returns-2
 returns-2 c = search (needs, cpc-elsewhere)
 
--- src/events.rt:189:6
 cpc-in-requires : tie.Need-cpc-in-requires
 cpc-in-requires c κs = search needs
 
--- src/events.rt:179:1
 returns-3 : tie.Need-returns-3
 returns-3 c = search (needs, cpc-once)
 

@@ -10,51 +10,39 @@ use Rattle.step.proofs.events.takes_action.Reads as takes-action-reads
 use Rattle.step.proofs.rows.is_member.Reads as is-member-reads
 use Rattle.step.proofs.rows.numbered_own.Reads as numbered-own-reads
 
--- src/events.rt:84:9
 takes-action-requires : tie.Need-takes-action-requires
 takes-action-requires c κs = search needs
 
--- src/events.rt:85:9
 refused-requires : tie.Need-refused-requires
 refused-requires c κs = search needs
 
--- src/events.rt:85:9
 returns : tie.Need-returns
 returns c = search (needs, action-untaken)
 
--- src/events.rt:87:9
 numbered-own-requires : tie.Need-numbered-own-requires
 numbered-own-requires c κs = search needs
 
--- src/events.rt:88:9
 refused-requires-2 : tie.Need-refused-requires-2
 refused-requires-2 c κs = search needs
 
--- src/events.rt:88:9
 returns-2 : tie.Need-returns-2
 returns-2 c = search (needs, action-unnumbered)
 
--- src/events.rt:90:9
 is-member-requires : tie.Need-is-member-requires
 is-member-requires c κs = search (needs, creator-below)
 
--- src/events.rt:91:9
 refused-requires-3 : tie.Need-refused-requires-3
 refused-requires-3 c κs = search needs
 
--- src/events.rt:91:9
 returns-3 : tie.Need-returns-3
 returns-3 c = search (needs, action-outside)
 
--- src/events.rt:93:5
 colour-requires : tie.Need-colour-requires
 colour-requires c κs = search (needs, action-takes)
 
--- src/events.rt:80:1
 same-length : tie.Need-same-length
 same-length c = search needs
 
--- src/events.rt:80:1
 returns-4 : tie.Need-returns-4
 returns-4 c = search (needs, action-coloured)
 

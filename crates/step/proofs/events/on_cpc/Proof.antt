@@ -11,67 +11,51 @@ use Rattle.step.proofs.events.takes_cpc.Reads as takes-cpc-reads
 use Rattle.step.proofs.installing.collect_cpc.Reads as collect-cpc-reads
 use Rattle.step.proofs.installing.collect_late_cpc.Reads as collect-late-cpc-reads
 
--- src/events.rt:197:9
 quiet-requires : tie.Need-quiet-requires
 quiet-requires c κs = search needs
 
--- src/events.rt:197:9
 returns : tie.Need-returns
 returns c = search (needs, cpc-passed-over)
 
--- src/events.rt:199:9
 takes-cpc-requires : tie.Need-takes-cpc-requires
 takes-cpc-requires c κs = search needs
 
--- src/events.rt:200:9
 refused-requires : tie.Need-refused-requires
 refused-requires c κs = search needs
 
--- src/events.rt:200:9
 returns-2 : tie.Need-returns-2
 returns-2 c = search (needs, cpc-untaken)
 
--- src/events.rt:202:9
 cpc-from-member-requires : tie.Need-cpc-from-member-requires
 cpc-from-member-requires c κs = search (needs, cpc-sender-below)
 
--- src/events.rt:203:9
 refused-requires-2 : tie.Need-refused-requires-2
 refused-requires-2 c κs = search needs
 
--- src/events.rt:203:9
 returns-3 : tie.Need-returns-3
 returns-3 c = search (needs, cpc-outside)
 
--- src/events.rt:206:9
 collect-cpc-requires : tie.Need-collect-cpc-requires
 collect-cpc-requires c κs = cpc-ready _ _ _ _ _ (c .before .before .before .before .before .before .before .before .before .before .before .before .pre) (c .before .before .before .before .before .before .before .before .if1 .left) _ (c .before .before .before .before .before .before .before .takes-cpc .ensures) (c .before .before .before .before .before .before .if2 .left) _ (c .before .before .before .before .before .cpc-from-member .ensures) (c .before .before .before .before .if3 .left) (c .before .before .if4 .taken)
 
--- src/events.rt:206:9
 same-length : tie.Need-same-length
 same-length c = search needs
 
--- src/events.rt:206:9
 same-length-2 : tie.Need-same-length-2
 same-length-2 c = search needs
 
--- src/events.rt:206:9
 returns-4 : tie.Need-returns-4
 returns-4 c = search (needs, cpc-installed)
 
--- src/events.rt:208:5
 collect-late-cpc-requires : tie.Need-collect-late-cpc-requires
 collect-late-cpc-requires c κs = late-cpc-ready _ _ _ _ _ (c .before .before .before .before .before .before .before .before .before .before .before .pre) (c .before .before .before .before .before .before .before .if1 .left) _ (c .before .before .before .before .before .before .takes-cpc .ensures) (c .before .before .before .before .before .if2 .left) _ (c .before .before .before .before .cpc-from-member .ensures) (c .before .before .before .if3 .left) (c .before .if4 .left)
 
--- src/events.rt:209:5
 quiet-requires-2 : tie.Need-quiet-requires-2
 quiet-requires-2 c κs = search needs
 
--- src/events.rt:192:1
 same-length-3 : tie.Need-same-length-3
 same-length-3 c = search needs
 
--- src/events.rt:192:1
 returns-5 : tie.Need-returns-5
 returns-5 c = search (needs, late-cpc-taken)
 

@@ -10,87 +10,66 @@ use Rattle.step.proofs.joining.join_unmarked.Reads as join-unmarked-rea
 use Rattle.step.proofs.joining.join_yellow.Reads as join-yellow-reads
 use Rattle.step.proofs.rows.regular_due.Reads as regular-due-reads
 
--- src/events.rt:216:9
 regular-due-requires : tie.Need-regular-due-requires
 regular-due-requires c κs = search needs
 
--- src/events.rt:217:9
 refused-requires : tie.Need-refused-requires
 refused-requires c κs = search needs
 
--- src/events.rt:217:9
 returns : tie.Need-returns
 returns c = search (needs, regular-early)
 
--- src/events.rt:221:14
 join-requires : tie.Need-join-requires
 join-requires c κs = first-ready _ _ _ _ _ (c .before .before .before .before .before .before .before .pre) _ (c .before .before .before .before .regular-due .ensures) (c .before .before .before .if1 .left) (c .before .before .match .keys1)
 
--- src/events.rt:222:14
 join-requires-2 : tie.Need-join-requires-2
 join-requires-2 c κs = un-ready _ _ _ _ _ (c .before .before .before .before .before .before .before .pre) _ (c .before .before .before .before .regular-due .ensures) (c .before .before .before .if1 .left) (c .before .before .match .keys2)
 
--- src/events.rt:223:14
 join-unmarked-requires : tie.Need-join-unmarked-requires
 join-unmarked-requires c κs = no-ready _ _ _ _ _ (c .before .before .before .before .before .before .before .pre) _ (c .before .before .before .before .regular-due .ensures) (c .before .before .before .if1 .left) (c .before .before .match .keys3)
 
--- src/events.rt:224:14
 join-yellow-requires : tie.Need-join-yellow-requires
 join-yellow-requires c κs = trans-ready _ _ _ _ _ (c .before .before .before .before .before .before .before .pre) _ (c .before .before .before .before .regular-due .ensures) (c .before .before .before .if1 .left) (c .before .before .match .keys4)
 
--- src/events.rt:225:14
 refused-requires-2 : tie.Need-refused-requires-2
 refused-requires-2 c κs = search needs
 
--- src/events.rt:212:1
 same-length : tie.Need-same-length
 same-length c = search needs
 
--- src/events.rt:212:1
 same-length-2 : tie.Need-same-length-2
 same-length-2 c = search needs
 
--- src/events.rt:212:1
 returns-2 : tie.Need-returns-2
 returns-2 c = search (needs, first-joined)
 
--- src/events.rt:212:1
 same-length-3 : tie.Need-same-length-3
 same-length-3 c = search needs
 
--- src/events.rt:212:1
 same-length-4 : tie.Need-same-length-4
 same-length-4 c = search needs
 
--- src/events.rt:212:1
 returns-3 : tie.Need-returns-3
 returns-3 c = search (needs, un-joined)
 
--- src/events.rt:212:1
 same-length-5 : tie.Need-same-length-5
 same-length-5 c = search needs
 
--- src/events.rt:212:1
 same-length-6 : tie.Need-same-length-6
 same-length-6 c = search needs
 
--- src/events.rt:212:1
 returns-4 : tie.Need-returns-4
 returns-4 c = search (needs, no-joined)
 
--- src/events.rt:212:1
 same-length-7 : tie.Need-same-length-7
 same-length-7 c = search needs
 
--- src/events.rt:212:1
 same-length-8 : tie.Need-same-length-8
 same-length-8 c = search needs
 
--- src/events.rt:212:1
 returns-5 : tie.Need-returns-5
 returns-5 c = search (needs, trans-joined)
 
--- src/events.rt:212:1
 returns-6 : tie.Need-returns-6
 returns-6 c = search (needs, regular-untaken)
 

@@ -9,43 +9,33 @@ use Rattle.step.proofs.requests.request.Reads as request-reads
 use Rattle.step.proofs.rows.quota_left.Reads as quota-left-reads
 use Rattle.step.proofs.rows.room_to_hold.Reads as room-to-hold-reads
 
--- src/events.rt:262:9
 quota-left-requires : tie.Need-quota-left-requires
 quota-left-requires c κs = search needs
 
--- src/events.rt:263:9
 refused-requires : tie.Need-refused-requires
 refused-requires c κs = search needs
 
--- src/events.rt:263:9
 returns : tie.Need-returns
 returns c = search (needs, quota-used)
 
--- src/events.rt:265:9
 room-to-hold-requires : tie.Need-room-to-hold-requires
 room-to-hold-requires c κs = search needs
 
--- src/events.rt:266:9
 refused-requires-2 : tie.Need-refused-requires-2
 refused-requires-2 c κs = search needs
 
--- src/events.rt:266:9
 returns-2 : tie.Need-returns-2
 returns-2 c = search (needs, held-full)
 
--- src/events.rt:268:5
 request-requires : tie.Need-request-requires
 request-requires c κs = request-ready _ _ _ _ (c .before .before .before .before .before .before .before .before .before .pre) _ (c .before .before .before .before .before .quota-left .ensures) (c .before .before .before .before .if1 .left) _ (c .before .before .before .room-to-hold .ensures) (c .before .before .if2 .left)
 
--- src/events.rt:258:1
 same-length : tie.Need-same-length
 same-length c = search needs
 
--- src/events.rt:258:1
 same-length-2 : tie.Need-same-length-2
 same-length-2 c = search needs
 
--- src/events.rt:258:1
 returns-3 : tie.Need-returns-3
 returns-3 c = search (needs, request-taken)
 

@@ -12,71 +12,54 @@ use Rattle.step.proofs.exchanging.exchange.Reads as exchange-reads
 use Rattle.step.proofs.rows.is_member.Reads as is-member-reads
 use Rattle.step.proofs.rows.numbered_own.Reads as numbered-own-reads
 
--- src/events.rt:119:9
 takes-retransmission-requires : tie.Need-takes-retransmission-requires
 takes-retransmission-requires c κs = search needs
 
--- src/events.rt:120:9
 refused-requires : tie.Need-refused-requires
 refused-requires c κs = search needs
 
--- src/events.rt:120:9
 returns : tie.Need-returns
 returns c = search (needs, resent-untaken)
 
--- src/events.rt:122:9
 numbered-own-requires : tie.Need-numbered-own-requires
 numbered-own-requires c κs = search needs
 
--- src/events.rt:123:9
 refused-requires-2 : tie.Need-refused-requires-2
 refused-requires-2 c κs = search needs
 
--- src/events.rt:123:9
 returns-2 : tie.Need-returns-2
 returns-2 c = search (needs, resent-unnumbered)
 
--- src/events.rt:125:9
 is-member-requires : tie.Need-is-member-requires
 is-member-requires c κs = search (needs, sender-below)
 
--- src/events.rt:126:9
 refused-requires-3 : tie.Need-refused-requires-3
 refused-requires-3 c κs = search needs
 
--- src/events.rt:126:9
 returns-3 : tie.Need-returns-3
 returns-3 c = search (needs, resent-outside)
 
--- src/events.rt:129:9
 exchange-requires : tie.Need-exchange-requires
 exchange-requires c κs = exchange-ready _ _ _ _ _ _ _ (c .before .before .before .before .before .before .before .before .before .before .before .before .before .pre) _ (c .before .before .before .before .before .before .before .before .before .takes-retransmission .ensures) (c .before .before .before .before .before .before .before .before .if1 .left) _ (c .before .before .before .before .before .before .before .numbered-own .ensures) (c .before .before .before .before .before .before .if2 .left) _ (c .before .before .before .before .before .is-member .ensures) (c .before .before .before .before .if3 .left) (c .before .before .if4 .taken)
 
--- src/events.rt:129:9
 same-length : tie.Need-same-length
 same-length c = search needs
 
--- src/events.rt:129:9
 same-length-2 : tie.Need-same-length-2
 same-length-2 c = search needs
 
--- src/events.rt:129:9
 returns-4 : tie.Need-returns-4
 returns-4 c = search (needs, resent-exchanged)
 
--- src/events.rt:131:5
 red-requires : tie.Need-red-requires
 red-requires c κs = search (needs, resent-room)
 
--- src/events.rt:132:5
 quiet-requires : tie.Need-quiet-requires
 quiet-requires c κs = search needs
 
--- src/events.rt:107:1
 same-length-3 : tie.Need-same-length-3
 same-length-3 c = search needs
 
--- src/events.rt:107:1
 returns-5 : tie.Need-returns-5
 returns-5 c = search (needs, resent-red)
 

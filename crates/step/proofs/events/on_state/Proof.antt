@@ -9,47 +9,36 @@ use Rattle.step.proofs.Answer.refused.Reads as refused-reads
 use Rattle.step.proofs.events.state_from_member.Reads as state-from-member-reads
 use Rattle.step.proofs.exchanging.collect.Reads as collect-reads
 
--- src/events.rt:155:9
 quiet-requires : tie.Need-quiet-requires
 quiet-requires c κs = search needs
 
--- src/events.rt:155:9
 returns : tie.Need-returns
 returns c = search (needs, state-ignored)
 
--- src/events.rt:158:9
 refused-requires : tie.Need-refused-requires
 refused-requires c κs = search needs
 
--- src/events.rt:158:9
 returns-2 : tie.Need-returns-2
 returns-2 c = search (needs, state-untaken)
 
--- src/events.rt:160:9
 state-from-member-requires : tie.Need-state-from-member-requires
 state-from-member-requires c κs = search (needs, state-sender-below)
 
--- src/events.rt:161:9
 refused-requires-2 : tie.Need-refused-requires-2
 refused-requires-2 c κs = search needs
 
--- src/events.rt:161:9
 returns-3 : tie.Need-returns-3
 returns-3 c = search (needs, state-outside)
 
--- src/events.rt:163:5
 collect-requires : tie.Need-collect-requires
 collect-requires c κs = search (needs, state-came)
 
--- src/events.rt:150:1
 same-length : tie.Need-same-length
 same-length c = search needs
 
--- src/events.rt:150:1
 same-length-2 : tie.Need-same-length-2
 same-length-2 c = search needs
 
--- src/events.rt:150:1
 returns-4 : tie.Need-returns-4
 returns-4 c = search (needs, state-collected)
 

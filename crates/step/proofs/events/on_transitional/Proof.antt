@@ -11,43 +11,33 @@ use Rattle.step.proofs.Answer.refused.Reads as refused-reads
 use Rattle.step.proofs.events.after_transitional.Reads as after-transitional-reads
 use Rattle.step.proofs.rows.transitional_due.Reads as transitional-due-reads
 
--- src/events.rt:247:9
 after-transitional-requires : tie.Need-after-transitional-requires
 after-transitional-requires c κs = search needs
 
--- src/events.rt:249:9
 refused-requires : tie.Need-refused-requires
 refused-requires c κs = search needs
 
--- src/events.rt:249:9
 returns : tie.Need-returns
 returns c = search (needs, transitional-untaken)
 
--- src/events.rt:251:9
 transitional-due-requires : tie.Need-transitional-due-requires
 transitional-due-requires c κs = search needs
 
--- src/events.rt:252:9
 refused-requires-2 : tie.Need-refused-requires-2
 refused-requires-2 c κs = search needs
 
--- src/events.rt:252:9
 returns-2 : tie.Need-returns-2
 returns-2 c = search (needs, transitional-second)
 
--- src/events.rt:254:5
 leave-requires : tie.Need-leave-requires
 leave-requires c κs = search (needs, such-header)
 
--- src/events.rt:255:5
 quiet-requires : tie.Need-quiet-requires
 quiet-requires c κs = search needs
 
--- src/events.rt:243:1
 same-length : tie.Need-same-length
 same-length c = search needs
 
--- src/events.rt:243:1
 returns-3 : tie.Need-returns-3
 returns-3 c = transitional-left _ _ _ (c .before .before .before .before .before .before .before .before .before .before .pre) _ (c .before .before .before .before .before .before .before .before .after-transitional .ensures) _ (c .before .before .before .before .before .before .transitional-due .ensures) (c .before .before .before .before .before .before .before .if1 .left) (c .before .before .before .before .before .if2 .left) _ _ (c .before .before .before .leave .ensures) (c .quiet .ensures)
 

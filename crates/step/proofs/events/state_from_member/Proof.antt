@@ -8,27 +8,21 @@ use Rattle.step.proofs.rows.is_member.Reads as is-member-reads
 use Rattle.step.proofs.rows.is_of.Reads as is-of-reads
 use Rattle.step.proofs.rows.state_in.Reads as state-in-reads
 
--- src/events.rt:140:9
 is-member-requires : tie.Need-is-member-requires
 is-member-requires c κs = search needs
 
--- src/events.rt:141:9
 returns : tie.Need-returns
 returns c = search (needs, state-stranger)
 
--- src/events.rt:143:9
 is-of-requires : tie.Need-is-of-requires
 is-of-requires c κs = search needs
 
--- src/events.rt:144:9
 returns-2 : tie.Need-returns-2
 returns-2 c = search (needs, state-elsewhere)
 
--- src/events.rt:146:6
 state-in-requires : tie.Need-state-in-requires
 state-in-requires c κs = search needs
 
--- src/events.rt:136:1
 returns-3 : tie.Need-returns-3
 returns-3 c = search (needs, state-once)
 

@@ -5,15 +5,12 @@ use Rattle.step.proofs.events.takes_action.Tie as tie
 use Rattle.step.proofs.events.takes_action.Reads as reads
 use Rattle.step.proofs.events.takes_action.Lts as lts
 
--- src/events.rt:70:1
 returns : tie.Need-returns
 returns c = search (needs, action-late)
 
--- src/events.rt:70:1
 returns-2 : tie.Need-returns-2
 returns-2 c = search (needs, action-low)
 
--- src/events.rt:70:1
 returns-3 : tie.Need-returns-3
 returns-3 c = search (needs, action-not)
 

@@ -5,19 +5,15 @@ use Rattle.step.proofs.events.takes_cpc.Tie as tie
 use Rattle.step.proofs.events.takes_cpc.Reads as reads
 use Rattle.step.proofs.events.takes_cpc.Lts as lts
 
--- src/events.rt:167:1
 returns : tie.Need-returns
 returns c = search (needs, cpc-ignored)
 
--- src/events.rt:167:1
 returns-2 : tie.Need-returns-2
 returns-2 c = search (needs, cpc-collected)
 
--- src/events.rt:167:1
 returns-3 : tie.Need-returns-3
 returns-3 c = search (needs, cpc-late)
 
--- src/events.rt:167:1
 returns-4 : tie.Need-returns-4
 returns-4 c = search (needs, cpc-not)
 

@@ -5,15 +5,12 @@ use Rattle.step.proofs.events.takes_retransmission.Tie as tie
 use Rattle.step.proofs.events.takes_retransmission.Reads as reads
 use Rattle.step.proofs.events.takes_retransmission.Lts as lts
 
--- src/events.rt:97:1
 returns : tie.Need-returns
 returns c = search (needs, retransmission-alone)
 
--- src/events.rt:97:1
 returns-2 : tie.Need-returns-2
 returns-2 c = search (needs, retransmission-planned)
 
--- src/events.rt:97:1
 returns-3 : tie.Need-returns-3
 returns-3 c = search (needs, retransmission-not)
 

@@ -9,27 +9,21 @@ use Rattle.lists.proofs.membership.enter_exchange.Reads as enter-exchange-reads
 use Rattle.step.proofs.Answer.stored.Reads as stored-reads
 use Rattle.step.proofs.joining.send_state.Reads as send-state-reads
 
--- src/joining.rt:73:9
 send-state-requires : tie.Need-send-state-requires
 send-state-requires c κs = search needs
 
--- src/joining.rt:74:5
 enter-exchange-requires : tie.Need-enter-exchange-requires
 enter-exchange-requires c κs = search (needs, lent-header)
 
--- src/joining.rt:75:5
 stored-requires : tie.Need-stored-requires
 stored-requires c κs = search needs
 
--- src/joining.rt:69:1
 same-length : tie.Need-same-length
 same-length c = search needs
 
--- src/joining.rt:69:1
 same-length-2 : tie.Need-same-length-2
 same-length-2 c = search needs
 
--- src/joining.rt:69:1
 returns : tie.Need-returns
 returns c = search (needs, join-done)
 

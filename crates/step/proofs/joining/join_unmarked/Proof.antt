@@ -8,23 +8,18 @@ use Rattle.step.proofs.joining.join_unmarked.Lts as lts
 use Rattle.lists.proofs.votes.clear_mark.Reads as clear-mark-reads
 use Rattle.step.proofs.joining.join.Reads as join-reads
 
--- src/joining.rt:83:5
 clear-mark-requires : tie.Need-clear-mark-requires
 clear-mark-requires c κs = search (needs, lent-header)
 
--- src/joining.rt:84:5
 join-requires : tie.Need-join-requires
 join-requires c κs = unmarked-lent _ _ _ _ _ (c .before .before .before .before .before .before .before .before .pre) (c .before .before .before .before .clear-mark .ensures)
 
--- src/joining.rt:79:1
 same-length : tie.Need-same-length
 same-length c = search needs
 
--- src/joining.rt:79:1
 same-length-2 : tie.Need-same-length-2
 same-length-2 c = search needs
 
--- src/joining.rt:79:1
 returns : tie.Need-returns
 returns c = unmarked-joined _ _ _ _ _ (c .before .before .before .before .before .before .before .before .before .before .before .before .before .pre) (c .before .before .before .before .before .before .before .before .before .clear-mark .ensures) _ _ _ (c .before .before .before .before .join .ensures)
 

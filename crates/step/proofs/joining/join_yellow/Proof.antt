@@ -8,23 +8,18 @@ use Rattle.step.proofs.joining.join_yellow.Lts as lts
 use Rattle.lists.proofs.votes.make_yellow_valid.Reads as make-yellow-valid-reads
 use Rattle.step.proofs.joining.join_unmarked.Reads as join-unmarked-reads
 
--- src/joining.rt:92:5
 make-yellow-valid-requires : tie.Need-make-yellow-valid-requires
 make-yellow-valid-requires c κs = search (needs, lent-header)
 
--- src/joining.rt:93:5
 join-unmarked-requires : tie.Need-join-unmarked-requires
 join-unmarked-requires c κs = valid-lent _ _ _ _ _ (c .before .before .before .before .before .before .before .before .pre) (c .before .before .before .before .make-yellow-valid .ensures)
 
--- src/joining.rt:88:1
 same-length : tie.Need-same-length
 same-length c = search needs
 
--- src/joining.rt:88:1
 same-length-2 : tie.Need-same-length-2
 same-length-2 c = search needs
 
--- src/joining.rt:88:1
 returns : tie.Need-returns
 returns c = valid-joined _ _ _ _ _ (c .before .before .before .before .before .before .before .before .before .before .before .before .before .pre) (c .before .before .before .before .before .before .before .before .before .make-yellow-valid .ensures) _ _ _ (c .before .before .before .before .join-unmarked .ensures)
 

@@ -5,7 +5,6 @@ use Rattle.step.proofs.joining.own_head.Tie as tie
 use Rattle.step.proofs.joining.own_head.Reads as reads
 use Rattle.step.proofs.joining.own_head.Lts as lts
 
--- src/joining.rt:26:1
 returns : tie.Need-returns
 unfolding ownHead
 returns c = search needs

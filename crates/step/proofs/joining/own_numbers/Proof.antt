@@ -7,15 +7,12 @@ use Rattle.step.proofs.joining.own_numbers.Lts as lts
 use Rattle.engine.proofs.header.load.Reads as load-reads
 use Rattle.step.proofs.joining.own_head.Reads as own-head-reads
 
--- src/joining.rt:50:9
 load-requires : tie.Need-load-requires
 load-requires c κs = search needs
 
--- src/joining.rt:51:5
 own-head-requires : tie.Need-own-head-requires
 own-head-requires c κs = search needs
 
--- src/joining.rt:46:1
 returns : tie.Need-returns
 returns c = search (needs, numbers-taken)
 

@@ -9,67 +9,51 @@ use Rattle.lists.proofs.yellow.yellow_place.Reads as yellow-place-reads
 use Rattle.record.proofs.writer.write_state.Reads as write-state-reads
 use Rattle.step.proofs.joining.own_numbers.Reads as own-numbers-reads
 
--- src/joining.rt:59:9
 own-numbers-requires : tie.Need-own-numbers-requires
 own-numbers-requires c κs = search (needs, lent-header)
 
--- src/joining.rt:60:9
 yellow-place-requires : tie.Need-yellow-place-requires
 yellow-place-requires c κs = search (needs, lent-counts)
 
--- src/joining.rt:61:39
 sub-write-state : tie.Need-sub-write-state
 sub-write-state c = search needs
 
--- src/joining.rt:61:39
 part-write-state-start : tie.Need-part-write-state-start
 part-write-state-start c = search needs
 
--- src/joining.rt:61:39
 part-write-state-end : tie.Need-part-write-state-end
 part-write-state-end c = search needs
 
--- src/joining.rt:61:53
 sub-write-state-2 : tie.Need-sub-write-state-2
 sub-write-state-2 c = search needs
 
--- src/joining.rt:61:53
 part-write-state-start-2 : tie.Need-part-write-state-start-2
 part-write-state-start-2 c = search needs
 
--- src/joining.rt:61:53
 part-write-state-end-2 : tie.Need-part-write-state-end-2
 part-write-state-end-2 c = search needs
 
--- src/joining.rt:61:9
 write-state-requires : tie.Need-write-state-requires
 write-state-requires c κs = search needs
 
--- src/joining.rt:62:23
 enum-known-w : tie.Need-enum-known-w
 enum-known-w c = search needs
 
--- src/joining.rt:63:9
 enum-told : tie.Need-enum-told
 enum-told c = search needs
 
--- src/joining.rt:63:9
 same-length : tie.Need-same-length
 same-length c = search needs
 
--- src/joining.rt:63:9
 returns : tie.Need-returns
 returns c = state-full _ _ _ _ _ _ _ (c .before .before .before .before .before .before .before .before .before .before .before .before .pre) (c .before .before .before .before .before .before .before .before .before .own-numbers .ensures) (c .before .before .before .before .before .before .before .before .yellow-place .ensures .0) (c .before .before .before .before .write-state .ensures) (search needs) _
 
--- src/joining.rt:65:5
 cast-result : tie.Need-cast-result
 cast-result c = search (needs, state-small)
 
--- src/joining.rt:55:1
 same-length-2 : tie.Need-same-length-2
 same-length-2 c = search needs
 
--- src/joining.rt:55:1
 returns-2 : tie.Need-returns-2
 returns-2 c = state-done _ _ _ _ _ _ _ (c .before .before .before .before .before .before .before .before .before .before .before .before .before .pre) (c .before .before .before .before .before .before .before .before .before .before .own-numbers .ensures) (c .before .before .before .before .before .before .before .before .before .yellow-place .ensures .0) (c .before .before .before .before .before .write-state .ensures) _ (search needs)
 

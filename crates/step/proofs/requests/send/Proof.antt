@@ -10,59 +10,45 @@ use Rattle.record.proofs.writer.write_action.Reads as write-action-reads
 use Rattle.step.proofs.Answer.quiet.Reads as quiet-reads
 use Rattle.step.proofs.Answer.stored.Reads as stored-reads
 
--- src/requests.rt:32:9
 next-head-requires : tie.Need-next-head-requires
 next-head-requires c κs = search (needs, next-ready)
 
--- src/requests.rt:33:9
 write-action-requires : tie.Need-write-action-requires
 write-action-requires c κs = search needs
 
--- src/requests.rt:34:23
 enum-known-w : tie.Need-enum-known-w
 enum-known-w c = search needs
 
--- src/requests.rt:35:9
 enum-told : tie.Need-enum-told
 enum-told c = search needs
 
--- src/requests.rt:35:9
 quiet-requires : tie.Need-quiet-requires
 quiet-requires c κs = search needs
 
--- src/requests.rt:35:9
 same-length : tie.Need-same-length
 same-length c = search needs
 
--- src/requests.rt:35:9
 same-length-2 : tie.Need-same-length-2
 same-length-2 c = search needs
 
--- src/requests.rt:35:9
 returns : tie.Need-returns
 returns c = search (needs, send-full)
 
--- src/requests.rt:37:5
 number-requires : tie.Need-number-requires
 number-requires c κs = search (needs, sent-payload)
 
--- src/requests.rt:38:20
 cast-stored : tie.Need-cast-stored
 cast-stored c = search (needs, send-small)
 
--- src/requests.rt:38:5
 stored-requires : tie.Need-stored-requires
 stored-requires c κs = search needs
 
--- src/requests.rt:28:1
 same-length-3 : tie.Need-same-length-3
 same-length-3 c = search needs
 
--- src/requests.rt:28:1
 same-length-4 : tie.Need-same-length-4
 same-length-4 c = search needs
 
--- src/requests.rt:28:1
 returns-2 : tie.Need-returns-2
 returns-2 c = search (needs, send-done)
 

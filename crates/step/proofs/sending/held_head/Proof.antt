@@ -8,27 +8,21 @@ use Rattle.record.proofs.bytes.num16.Reads as num16-reads
 use Rattle.record.proofs.bytes.num32.Reads as num32-reads
 use Rattle.record.proofs.bytes.num8.Reads as num8-reads
 
--- src/sending.rt:39:18
 num8-requires : tie.Need-num8-requires
 num8-requires c κs = search needs
 
--- src/sending.rt:40:16
 num16-requires : tie.Need-num16-requires
 num16-requires c κs = search needs
 
--- src/sending.rt:40:16
 add-t5 : tie.Need-add-t5
 add-t5 c = search needs
 
--- src/sending.rt:40:16
 add-t6 : tie.Need-add-t6
 add-t6 c = search needs
 
--- src/sending.rt:41:23
 num32-requires : tie.Need-num32-requires
 num32-requires c κs = search needs
 
--- src/sending.rt:34:1
 returns : tie.Need-returns
 returns c = search (needs, head-made)
 

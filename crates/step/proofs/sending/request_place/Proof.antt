@@ -6,19 +6,15 @@ use Rattle.step.proofs.sending.request_place.Reads as reads
 use Rattle.step.proofs.sending.request_place.Lts as lts
 use Rattle.lists.proofs.requests.held_place.Reads as held-place-reads
 
--- src/sending.rt:30:5
 held-place-requires : tie.Need-held-place-requires
 held-place-requires c κs = search needs
 
--- src/sending.rt:30:25
 mul-result : tie.Need-mul-result
 mul-result c = search needs
 
--- src/sending.rt:30:5
 add-result : tie.Need-add-result
 add-result c = search needs
 
--- src/sending.rt:26:1
 returns : tie.Need-returns
 returns c = place-made _ _ _ (search needs) (search needs) (search needs)
 

@@ -15,39 +15,30 @@ Inv-loop state out₀ count at₀ k₀ out at k = HeldSent state out₀ count ou
 abbrev μ-loop : tie.MeasureT-loop
 μ-loop state out₀ count at₀ k₀ out at k = count - k
 
--- src/sending.rt:66:9
 num16-requires : tie.Need-num16-requires Inv-loop μ-loop
 num16-requires c κs = search (needs, count-ready)
 
--- src/sending.rt:69:5
 loop-holds : tie.Need-loop-holds Inv-loop μ-loop
 loop-holds c = search (needs, sent-none)
 
--- src/sending.rt:70:9
 send-held-requires : tie.Need-send-held-requires Inv-loop μ-loop
 send-held-requires c κs = search (needs, turn-ready)
 
--- src/sending.rt:71:9
 add-k : tie.Need-add-k Inv-loop μ-loop
 add-k c = omega arith
 
--- src/sending.rt:69:5
 loop-less : tie.Need-loop-less Inv-loop μ-loop
 loop-less c = omega arith
 
--- src/sending.rt:69:5
 loop-again : tie.Need-loop-again Inv-loop μ-loop
 loop-again c = search (needs, sent-more)
 
--- src/sending.rt:73:5
 cast-result : tie.Need-cast-result Inv-loop μ-loop
 cast-result c = search (needs, sent-small)
 
--- src/sending.rt:62:1
 same-length : tie.Need-same-length Inv-loop μ-loop
 same-length c = search needs
 
--- src/sending.rt:62:1
 returns : tie.Need-returns Inv-loop μ-loop
 returns c = sent-all _ _ _ _ _ _ (search needs) (c .before .loop .inv) (search needs)
 

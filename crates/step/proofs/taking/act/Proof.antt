@@ -6,31 +6,24 @@ use Rattle.step.proofs.taking.act.Reads as reads
 use Rattle.step.proofs.taking.act.Lts as lts
 use Rattle.step.proofs.events.on_action.Reads as on-action-reads
 
--- src/taking.rt:35:15
 add-end : tie.Need-add-end
 add-end c = search needs
 
--- src/taking.rt:37:31
 sub-on-action : tie.Need-sub-on-action
 sub-on-action c = search needs
 
--- src/taking.rt:37:31
 part-on-action-start : tie.Need-part-on-action-start
 part-on-action-start c = search needs
 
--- src/taking.rt:37:31
 part-on-action-end : tie.Need-part-on-action-end
 part-on-action-end c = search needs
 
--- src/taking.rt:37:5
 on-action-requires : tie.Need-on-action-requires
 on-action-requires c κs = search (needs, act-ready)
 
--- src/taking.rt:30:1
 same-length : tie.Need-same-length
 same-length c = search needs
 
--- src/taking.rt:30:1
 returns : tie.Need-returns
 returns c = search (needs, act-done)
 

@@ -5,23 +5,18 @@ use Rattle.step.proofs.taking.number_of.Tie as tie
 use Rattle.step.proofs.taking.number_of.Reads as reads
 use Rattle.step.proofs.taking.number_of.Lts as lts
 
--- src/taking.rt:114:29
 enum-told : tie.Need-enum-told
 enum-told c = search needs
 
--- src/taking.rt:115:26
 enum-known-r : tie.Need-enum-known-r
 enum-known-r c = search needs
 
--- src/taking.rt:115:32
 cast-result : tie.Need-cast-result
 cast-result c = search needs
 
--- src/taking.rt:110:1
 returns : tie.Need-returns
 returns c = search (needs, good-number)
 
--- src/taking.rt:110:1
 returns-2 : tie.Need-returns-2
 returns-2 c = search (needs, refused-number)
 

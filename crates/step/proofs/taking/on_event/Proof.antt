@@ -13,151 +13,114 @@ use Rattle.step.proofs.taking.recovered.Reads as recovered-reads
 use Rattle.step.proofs.taking.requested.Reads as requested-reads
 use Rattle.step.proofs.taking.resent.Reads as resent-reads
 
--- src/taking.rt:88:23
 enum-known-v : tie.Need-enum-known-v
 enum-known-v c = search needs
 
--- src/taking.rt:88:34
 act-requires : tie.Need-act-requires
 act-requires c κs = search (needs, arm-action)
 
--- src/taking.rt:90:13
 enum-known-v-2 : tie.Need-enum-known-v-2
 enum-known-v-2 c = search needs
 
--- src/taking.rt:93:14
 resent-requires : tie.Need-resent-requires
 resent-requires c κs = search (needs, arm-retransmission)
 
--- src/taking.rt:94:22
 enum-known-v-3 : tie.Need-enum-known-v-3
 enum-known-v-3 c = search needs
 
--- src/taking.rt:94:28
 on-state-requires : tie.Need-on-state-requires
 on-state-requires c κs = search (needs, arm-state)
 
--- src/taking.rt:96:13
 enum-known-v-4 : tie.Need-enum-known-v-4
 enum-known-v-4 c = search needs
 
--- src/taking.rt:98:14
 on-cpc-requires : tie.Need-on-cpc-requires
 on-cpc-requires c κs = search (needs, arm-cpc)
 
--- src/taking.rt:99:26
 enum-known-v-5 : tie.Need-enum-known-v-5
 enum-known-v-5 c = search needs
 
--- src/taking.rt:99:50
 on-regular-requires : tie.Need-on-regular-requires
 on-regular-requires c κs = search (needs, arm-regular)
 
--- src/taking.rt:100:31
 enum-known-v-6 : tie.Need-enum-known-v-6
 enum-known-v-6 c = search needs
 
--- src/taking.rt:100:40
 on-transitional-requires : tie.Need-on-transitional-requires
 on-transitional-requires c κs = search (needs, arm-transitional)
 
--- src/taking.rt:102:13
 enum-known-v-7 : tie.Need-enum-known-v-7
 enum-known-v-7 c = search needs
 
--- src/taking.rt:104:14
 requested-requires : tie.Need-requested-requires
 requested-requires c κs = search (needs, arm-request)
 
--- src/taking.rt:105:38
 enum-told : tie.Need-enum-told
 enum-told c = search needs
 
--- src/taking.rt:105:28
 recovered-requires : tie.Need-recovered-requires
 recovered-requires c κs = search (needs, arm-recovery)
 
--- src/taking.rt:83:1
 same-length : tie.Need-same-length
 same-length c = search needs
 
--- src/taking.rt:83:1
 returns : tie.Need-returns
 returns c = search (needs, action-done)
 
--- src/taking.rt:83:1
 same-length-2 : tie.Need-same-length-2
 same-length-2 c = search needs
 
--- src/taking.rt:83:1
 same-length-3 : tie.Need-same-length-3
 same-length-3 c = search needs
 
--- src/taking.rt:83:1
 returns-2 : tie.Need-returns-2
 returns-2 c = search (needs, retransmission-done)
 
--- src/taking.rt:83:1
 same-length-4 : tie.Need-same-length-4
 same-length-4 c = search needs
 
--- src/taking.rt:83:1
 same-length-5 : tie.Need-same-length-5
 same-length-5 c = search needs
 
--- src/taking.rt:83:1
 returns-3 : tie.Need-returns-3
 returns-3 c = search (needs, state-done)
 
--- src/taking.rt:83:1
 same-length-6 : tie.Need-same-length-6
 same-length-6 c = search needs
 
--- src/taking.rt:83:1
 same-length-7 : tie.Need-same-length-7
 same-length-7 c = search needs
 
--- src/taking.rt:83:1
 returns-4 : tie.Need-returns-4
 returns-4 c = search (needs, cpc-done)
 
--- src/taking.rt:83:1
 same-length-8 : tie.Need-same-length-8
 same-length-8 c = search needs
 
--- src/taking.rt:83:1
 same-length-9 : tie.Need-same-length-9
 same-length-9 c = search needs
 
--- src/taking.rt:83:1
 returns-5 : tie.Need-returns-5
 returns-5 c = search (needs, regular-done)
 
--- src/taking.rt:83:1
 same-length-10 : tie.Need-same-length-10
 same-length-10 c = search needs
 
--- src/taking.rt:83:1
 returns-6 : tie.Need-returns-6
 returns-6 c = search (needs, transitional-done)
 
--- src/taking.rt:83:1
 same-length-11 : tie.Need-same-length-11
 same-length-11 c = search needs
 
--- src/taking.rt:83:1
 same-length-12 : tie.Need-same-length-12
 same-length-12 c = search needs
 
--- src/taking.rt:83:1
 returns-7 : tie.Need-returns-7
 returns-7 c = search (needs, request-done)
 
--- src/taking.rt:83:1
 same-length-13 : tie.Need-same-length-13
 same-length-13 c = search needs
 
--- src/taking.rt:83:1
 returns-8 : tie.Need-returns-8
 returns-8 c = search (needs, recovered-done)
 

@@ -8,19 +8,15 @@ use Rattle.step.proofs.taking.recovered.Lts as lts
 use Rattle.step.proofs.Answer.stored.Reads as stored-reads
 use Rattle.lists.proofs.recovery.recover.Reads as recover-reads
 
--- src/taking.rt:78:5
 recover-requires : tie.Need-recover-requires
 recover-requires c κs = search (needs, such-some)
 
--- src/taking.rt:79:5
 stored-requires : tie.Need-stored-requires
 stored-requires c κs = search needs
 
--- src/taking.rt:74:1
 same-length : tie.Need-same-length
 same-length c = search needs
 
--- src/taking.rt:74:1
 returns : tie.Need-returns
 returns c = search (needs, recovery-done)
 

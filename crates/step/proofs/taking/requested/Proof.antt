@@ -6,35 +6,27 @@ use Rattle.step.proofs.taking.requested.Reads as reads
 use Rattle.step.proofs.taking.requested.Lts as lts
 use Rattle.step.proofs.events.on_request.Reads as on-request-reads
 
--- src/taking.rt:69:15
 add-end : tie.Need-add-end
 add-end c = search needs
 
--- src/taking.rt:70:31
 sub-on-request : tie.Need-sub-on-request
 sub-on-request c = search needs
 
--- src/taking.rt:70:31
 part-on-request-start : tie.Need-part-on-request-start
 part-on-request-start c = search needs
 
--- src/taking.rt:70:31
 part-on-request-end : tie.Need-part-on-request-end
 part-on-request-end c = search needs
 
--- src/taking.rt:70:5
 on-request-requires : tie.Need-on-request-requires
 on-request-requires c κs = search (needs, requested-ready)
 
--- src/taking.rt:58:1
 same-length : tie.Need-same-length
 same-length c = search needs
 
--- src/taking.rt:58:1
 same-length-2 : tie.Need-same-length-2
 same-length-2 c = search needs
 
--- src/taking.rt:58:1
 returns : tie.Need-returns
 returns c = search (needs, requested-done)
 

@@ -6,35 +6,27 @@ use Rattle.step.proofs.taking.resent.Reads as reads
 use Rattle.step.proofs.taking.resent.Lts as lts
 use Rattle.step.proofs.events.on_retransmission.Reads as on-retransmission-reads
 
--- src/taking.rt:53:15
 add-end : tie.Need-add-end
 add-end c = search needs
 
--- src/taking.rt:55:62
 sub-on-retransmission : tie.Need-sub-on-retransmission
 sub-on-retransmission c = search needs
 
--- src/taking.rt:55:62
 part-on-retransmission-start : tie.Need-part-on-retransmission-start
 part-on-retransmission-start c = search needs
 
--- src/taking.rt:55:62
 part-on-retransmission-end : tie.Need-part-on-retransmission-end
 part-on-retransmission-end c = search needs
 
--- src/taking.rt:55:5
 on-retransmission-requires : tie.Need-on-retransmission-requires
 on-retransmission-requires c κs = search (needs, resent-ready)
 
--- src/taking.rt:40:1
 same-length : tie.Need-same-length
 same-length c = search needs
 
--- src/taking.rt:40:1
 same-length-2 : tie.Need-same-length-2
 same-length-2 c = search needs
 
--- src/taking.rt:40:1
 returns : tie.Need-returns
 returns c = search (needs, resent-done)
 
