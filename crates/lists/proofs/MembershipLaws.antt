@@ -4,7 +4,7 @@ use Prim.Native.Nat.{ℕ, zero, suc, _+_, _*_, _%_, _^_, _<_}
 use mathlib.Core.Path.{_≡_, refl, sym, ap, _∙_}
 use mathlib.Core.List.{List, []}
 use mathlib.Core.Logic.{inl, inr}
-use Rattle.base.specs.Prefixes.{begins-refl, begins-append}
+use Rattle.base.specs.Prefixes.{begins-refl}
 use native.Mathlib.Omega.{arith}
 use lib.Bits.{bitOr}
 use Rattle.base.specs.Sets.{withMember}
@@ -12,13 +12,13 @@ use Rattle.base.specs.SetLaws.{power-below}
 use Rattle.base.specs.Tests.{pick}
 use Rattle.base.specs.Lists.{isThere, Begins}
 use Rattle.record.specs.declared.State.{State}
-use Rattle.replication.specs.Machine.Types.{Log, Votes, Mode, Membership, Server, withVotes, inMode, noYellow, noStates}
+use Rattle.replication.specs.Machine.Types.{Log, Votes, Mode, Membership, Server, withVotes, inMode, noStates}
 use Rattle.replication.specs.Machine.Step.{entering, leave, withCpc, unmarked, yellowValid}
 use Rattle.engine.specs.Image.{modeNumber, senders, image}
 use Rattle.engine.specs.Header.{headerOf, headerIn}
 use Rattle.engine.proofs.HeaderLaws.{header-loaded}
 use Rattle.engine.proofs.InPlace.{Holds}
-use Rattle.lists.specs.Lists.{changedTo, Shortened, configurationOf, withoutYellow}
+use Rattle.lists.specs.Lists.{changedTo, Shortened, configurationOf}
 
 -- No State is in.
 pub senders-none : (k n : ℕ) → senders k (noStates n) ≡ 0
@@ -87,12 +87,6 @@ pub made-valid : (h t : State) (b b₁ : List ℕ) → h ≡ headerIn b → ((s 
 unfolding yellowValid
 made-valid h t b b₁ e f g s r =
     g s (s .log) (yellowValid (s .votes)) (s .membership) (s .held) r (votes-kept s (yellowValid (s .votes)) (begins-refl _)) (f s (e ∙ header-loaded s b r))
-
-pub yellow-cleared : (h t : State) (b b₁ : List ℕ) → h ≡ headerIn b → ((s : Server) → h ≡ headerOf s → t ≡ headerOf (withVotes (withoutYellow (s .votes)) s))
-    → Saved t b b₁ → (s : Server) → Holds s b → b₁ ≡ image (withVotes (withoutYellow (s .votes)) s) b
-unfolding withoutYellow noYellow
-yellow-cleared h t b b₁ e f g s r =
-    g s (s .log) (withoutYellow (s .votes)) (s .membership) (s .held) r (votes-kept s (withoutYellow (s .votes)) (begins-append [] (s .votes .yellow .ids))) (f s (e ∙ header-loaded s b r))
 
 -- ---- the header of a state without States
 

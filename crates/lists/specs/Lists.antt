@@ -9,7 +9,7 @@ use Rattle.base.specs.Bytes.{numberAt}
 use Rattle.base.specs.Lists.{Begins}
 use Rattle.format.specs.Limits.{mostPayload, mostHeld}
 use Rattle.record.specs.declared.ActionHead.{ActionHead}
-use Rattle.replication.specs.Machine.Types.{Log, Votes, Configuration, Membership, Server, noYellow, noStates}
+use Rattle.replication.specs.Machine.Types.{Log, Votes, Configuration, Membership, Server, noStates}
 use Rattle.replication.specs.Machine.WellFormed.{queue}
 use Rattle.engine.specs.Layout.{SizesIn, headerSize, stateSize, offset, stateLength}
 use Rattle.engine.specs.Decode.{serversIn, quotaIn}
@@ -74,10 +74,6 @@ pub record SlotRoom (size at : ℕ) (p b : List ℕ) : Type 0 where
   pub short : length p ≤ mostPayload
   pub room : at + size ≤ length b
   pub header : headerSize ≤ length b
-
--- "invalid and empty"
-unfoldable pub withoutYellow : Votes → Votes
-withoutYellow v = record { last = v .last; attempt = v .attempt; mark = v .mark; yellow = noYellow }
 
 -- ---- other numbers and shorter lists
 

@@ -8,7 +8,7 @@ ghost use Rattle.replication.specs.Machine.Step.{unmarked, yellowValid};
 ghost use Rattle.engine.specs.Image.{image};
 ghost use Rattle.engine.specs.Header.{headerOf};
 ghost use Rattle.engine.proofs.InPlace.{Holds};
-ghost use Rattle.lists.specs.Lists.{YellowRoom, withoutYellow};
+ghost use Rattle.lists.specs.Lists.{YellowRoom};
 ghost use Rattle.lists.specs.Standing.{voteNumbers};
 use crate::numbers::save_numbers;
 use crate::yellow::yellow_place;
@@ -70,25 +70,6 @@ pub fn make_yellow_valid(state: &mut [u8])
 {
     let h = load(state);
     let t = with_valid(h);
-    save_numbers(state, t);
-}
-
-fn with_no_yellow(h: State) -> State
-    ensures { λ r. ⌜ ((s : Server) → h ≡ headerOf s → r ≡ headerOf (withVotes (withoutYellow (s .votes)) s)) ⌝ }
-{
-    let mut t = h;
-    t.yellow_status = 0;
-    t.yellow_count = 0;
-    t
-}
-
-// An invalid and empty yellow list.
-pub fn clear_yellow(state: &mut [u8])
-    requires { ⌜ 60 ≤ length (now state) ⌝ }
-    ensures { λ _. ⌜ ((s : Server) → Holds s (now (state .entry)) → now (state .exit) ≡ image (withVotes (withoutYellow (s .votes)) s) (now (state .entry))) ⌝ }
-{
-    let h = load(state);
-    let t = with_no_yellow(h);
     save_numbers(state, t);
 }
 

@@ -75,7 +75,3 @@ find-at d (a ∷ l) = go (known (sameId d (a .id))) (find-at d l)
     go : Known (sameId d (a .id)) → find d l ≡ at l (position d l) → pick (sameId d (a .id)) (some a) (find d l) ≡ at (a ∷ l) (pick (sameId d (a .id)) 0 (suc (position d l)))
     go (holds t) e = rw t
     go (fails t) e = rw t e
-
-pub queue-found : (b : List ℕ) (d : Id) (count p k : ℕ) → count ≡ numberAt 4 b 19 → p ≡ queueAt b → k ≡ position d (actionsAt count b p)
-    → (s : Server) → Holds s b → k ≡ position d (queue (s .log))
-queue-found b d count p k e f g s r = g ∙ (λ i. position d (actionsAt (e i) b (f i))) ∙ ap (position d) (queue-read s b r)

@@ -7,14 +7,9 @@ ghost use Rattle.format.specs.Read.{idAt};
 ghost use Rattle.record.specs.Values.{idOf};
 ghost use Rattle.engine.specs.Layout.{slotSize};
 ghost use Rattle.engine.specs.Decode.{actionsAt};
-ghost use Rattle.engine.proofs.InPlace.{Holds};
-ghost use Rattle.replication.specs.Machine.Types.{Server};
-ghost use Rattle.replication.specs.Machine.WellFormed.{queue};
-ghost use Rattle.queue.specs.Queue.{position, CountsIn};
-use crate::places::queue_place;
+ghost use Rattle.queue.specs.Queue.{position};
 use record::bytes::num8;
 use record::bytes::num16;
-use record::bytes::num32;
 
 // Whether the slot from `at` on is that of this id.
 pub fn has_id(state: &[u8], at: usize, creator: u8, index: u16) -> bool
@@ -40,13 +35,4 @@ pub fn find(state: &[u8], at: usize, count: usize, creator: u8, index: u16) -> u
         k += 1;
     }
     count
-}
-
-// The place of an id in the queue: how many actions come before it, all where it is not held.
-pub fn queue_find(state: &[u8], creator: u8, index: u16) -> usize
-    requires { ⌜ CountsIn (now state) ⌝ }
-    ensures { λ r. ⌜ ((s : Server) → Holds s (now (state .entry)) → r ≡ position (idOf creator index) (queue (s .log))) ⌝ }
-{
-    let count = num32(state, 19) as usize;
-    find(state, queue_place(state), count, creator, index)
 }
