@@ -18,9 +18,9 @@ use Rattle.replication.specs.Images.{isRecovery, sourceOf, arrive}
 use Rattle.replication.specs.Runs.Run.{event, Run, worldAt, heardAt}
 use Rattle.replication.specs.Runs.Allowed.{Allowed}
 use Rattle.replication.specs.Runs.Claim.{IsPrimary, of-start, of-install, PrimariesAgree, KnownPrimaries}
-use Rattle.replication.proofs.Runs.Places.{of-event, event-entry, event-not-crash}
+use Rattle.replication.proofs.Runs.Places.{event-not-store, of-event, event-entry, event-not-crash}
 use Rattle.replication.proofs.Runs.Coupling.{Source, from-store, from-memory, source}
-use Rattle.replication.proofs.Runs.AllowedTurns.{memoryAt, storeAt, Acts, Refuses, AllowedTurn, rests, crashes, refuses, recovers, acts, allowed-turn}
+use Rattle.replication.proofs.Runs.AllowedTurns.{memoryAt, storeAt, Acts, Refuses, AllowedTurn, rests, crashes, saves, refuses, recovers, acts, allowed-turn}
 use Rattle.replication.proofs.Agreement.Terms.{Image, in-store, InstallsAt, installed, ExchangeFacts}
 use Rattle.replication.proofs.Agreement.Votes.Events.{installer-configured}
 use Rattle.replication.proofs.Agreement.Votes.Known as K
@@ -76,6 +76,7 @@ module _ {n q : ℕ} {l : Run} (A : Allowed n q l) where
       go : AllowedTurn n q l p i → Installed (t .votes .last)
       go (rests o m c d) = absurd (o (of-event h))
       go (crashes x m c d) = event-not-crash (some-same (sym h ∙ x))
+      go (saves x m c d u) = event-not-store (some-same (sym h ∙ x))
       go (refuses x) =
           let f = event-entry (some-same (sym h ∙ x .here)) .1 in
           absurd (not-refused p i k e t r b g h a x f (source A p i (x .sent) (x .bytes) (x .here)))
