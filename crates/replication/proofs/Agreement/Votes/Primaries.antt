@@ -1,5 +1,5 @@
 -- The primary half of demand 3: two primary components are equal exactly when their indexes are; every last primary known anywhere is one of them.
-use Prim.Native.Nat.{ℕ}
+use Prim.Native.Nat.{ℕ, _<_}
 use mathlib.Core.Path.{_≡_, refl, sym, ap, subst, _∙_}
 use mathlib.Core.Bool.{Bool, true}
 use mathlib.Core.List.{List}
@@ -17,7 +17,7 @@ use Rattle.replication.specs.Machine.Step as S
 use Rattle.replication.specs.Images.{isRecovery, sourceOf, arrive}
 use Rattle.replication.specs.Runs.Run.{event, Run, worldAt, heardAt}
 use Rattle.replication.specs.Runs.Allowed.{Allowed}
-use Rattle.replication.specs.Runs.Claim.{IsPrimary, of-start, of-install, PrimariesAgree, KnownPrimaries}
+use Rattle.replication.specs.Runs.Claim.{IsPrimary, of-start, of-install, PrimariesAgree}
 use Rattle.replication.proofs.Runs.Places.{event-not-store, of-event, event-entry, event-not-crash}
 use Rattle.replication.proofs.Runs.Coupling.{Source, from-store, from-memory, source}
 use Rattle.replication.proofs.Runs.AllowedTurns.{memoryAt, storeAt, Acts, Refuses, AllowedTurn, rests, crashes, saves, refuses, recovers, acts, allowed-turn}
@@ -118,7 +118,7 @@ module _ {n q : ℕ} {l : Run} (A : Allowed n q l) where
     known-is (K.of-start e) = subst (λ z. IsPrimary n q l z) (sym e) of-start
     known-is (K.of-install r j w e c d x h g t u o z) = subst (λ z. IsPrimary n q l z) g (installed-is x)
 
-    pub known-primaries : KnownPrimaries n q l
+    pub known-primaries : (p i : ℕ) → i < n → IsPrimary n q l (memoryAt n q l p i .votes .last) × IsPrimary n q l (storeAt n q l p i .votes .last)
     known-primaries p i h =
         let s : Image n q l p i (storeAt n q l p i) = in-store in
         (known-is (known-primary A X p i), known-is (image-known A X s))
