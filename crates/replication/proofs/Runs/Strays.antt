@@ -16,7 +16,7 @@ use Rattle.replication.specs.Machine.Step.{installs}
 use Rattle.replication.specs.Images.{sourceOf, arrive, leftBy}
 use Rattle.replication.specs.Runs.Run.{Entry, event, Run, World, beginning, downAfter, worldAfter, worldThrough, worldAt}
 use Rattle.replication.specs.Runs.Allowed.{Allowed}
-use Rattle.replication.specs.Runs.Strays.{IsStray, without, AllowedWithStrays}
+use Rattle.replication.specs.Runs.Strays.{IsStray, unless, without, AllowedWithStrays}
 use Rattle.replication.specs.Runs.Claim.{ListsAgree, storedGreen, memoryGreen, greenAt, IsPrimary, of-start, of-install, Agreement, Consequences}
 use Rattle.replication.proofs.Runs.Places.{event-entry}
 
@@ -64,11 +64,11 @@ unfolding kept pick
 kept-other s p h = rw h
 
 without-stray : (s : ℕ → Bool) (x : Entry) (l : Run) → s 0 ≡ true → without s (x ∷ l) ≡ without (next s) l
-unfolding without pick
+unfolding without unless
 without-stray s x l h = rw h
 
 without-other : (s : ℕ → Bool) (x : Entry) (l : Run) → s 0 ≡ false → without s (x ∷ l) ≡ x ∷ without (next s) l
-unfolding without pick
+unfolding without unless
 without-other s x l h = rw h
 
 pub kept-rises : (s : ℕ → Bool) (p r : ℕ) → p ≤ r → kept s p ≤ kept s r
@@ -219,7 +219,7 @@ module _ {n q : ℕ} {l : Run} (S : AllowedWithStrays n q l) where
 -- ---- with no strays
 
 without-none : (l : Run) → without (λ p. false) l ≡ l
-unfolding without pick
+unfolding without unless
 without-none [] = refl
 without-none (x ∷ l) = ap (λ m. x ∷ m) (without-none l)
 
