@@ -1,5 +1,5 @@
 -- In a taken event no noted length falls.
-use Prim.Native.Nat.{ℕ, max, _≤_}
+use Prim.Native.Nat.{ℕ, _≤_}
 use mathlib.Core.Path.{_≡_, refl, ap}
 use mathlib.Core.Bool.{Bool}
 use mathlib.Core.List.{List, [], _∷_}
@@ -31,7 +31,7 @@ noted-chain s t u f g = λ c. omega (arith, f c, g c)
 -- "a noted length never falls"
 note-rises : (k l : ℕ) (noted : List ℕ) (c : ℕ) → getD noted c 0 ≤ getD (note k l noted) c 0
 unfolding note
-note-rises k l noted c = set-rises noted k (max (getD noted k 0) l) c (omega arith)
+note-rises k l noted c = set-rises noted k _ c (omega arith)
 
 note-all-rises : (xs : List State) (noted : List ℕ) (c : ℕ) → getD noted c 0 ≤ getD (noteAll xs noted) c 0
 unfolding noteAll
