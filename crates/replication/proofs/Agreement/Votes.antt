@@ -3,6 +3,7 @@ pub mod Turns
 pub mod Events
 pub mod Phases
 pub mod Judging
+pub mod Quorums
 pub mod Collected
 pub mod Rising
 pub mod Known

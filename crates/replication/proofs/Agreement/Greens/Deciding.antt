@@ -1,6 +1,6 @@
 -- At the end of an exchange: whoever answers for the taken primary component has all that can still be known of it.
 use Prim.Native.Nat.{ℕ, suc, _^_, _≤_, _<_}
-use mathlib.Core.Path.{_≡_, sym, ap, subst, subst₂, _∙_}
+use mathlib.Core.Path.{_≡_, refl, sym, ap, subst, subst₂, _∙_}
 use mathlib.Core.Bool.{true}
 use mathlib.Core.List.{List, [], _∷_, List·Memᴰ, List·Memᴰ·not-nil}
 use mathlib.Core.Logic.{_⊎_, inl, inr}
@@ -8,7 +8,6 @@ use native.Mathlib.Omega.{arith}
 use lib.ListN.{take}
 use Rattle.base.specs.Lists.{filter}
 use Rattle.base.specs.Members.{filter-has}
-use Rattle.base.specs.Quorums.{majorities-meet}
 use Rattle.base.specs.Sets.{inSet}
 use Rattle.base.specs.SetLaws.{inside-member}
 use Rattle.base.specs.Tests.{_=?_, not-both, and-holds, both-yes, eq-yes, not-holds, Known, holds, fails, known}
@@ -32,7 +31,8 @@ use Rattle.replication.proofs.Agreement.Votes.Events.{ends-exchange, do
 use Rattle.replication.proofs.Agreement.Votes.Known.{KnownEarlier, at-start, installed-earlier, state-known}
 use Rattle.replication.proofs.Agreement.Votes.Phases.{installs-attempt}
 use Rattle.replication.proofs.Agreement.Votes.Attempts.{installed-index, marking-taken}
-use Rattle.replication.proofs.Agreement.Votes.Judging.{Alike, mark-kept, taken-from, no-quorum, quorum-majority}
+use Rattle.replication.proofs.Agreement.Votes.Judging.{Alike, mark-kept, taken-from, no-quorum}
+use Rattle.replication.proofs.Agreement.Votes.Quorums.{quorums-meet}
 use Rattle.replication.proofs.Agreement.Votes.Collected.{taken-below, own-state, own-mark-judged, state-of}
 use Rattle.replication.proofs.Agreement.Votes.Marks.{taken-mark}
 use Rattle.replication.proofs.Agreement.Votes.Present.{AfterAttempt, later-primary, waits, covered-index}
@@ -283,8 +283,7 @@ module _ {n q : ℕ} {l : Run} (A : Allowed n q l) (X : ExchangeFacts n q l) (P 
         let o = had n q l p i c (x .here) in
         let b : takenPrimary ws .set ≡ c .set = ap (λ a. a .set) taken-installed ∙ installed-set in
         let w : takenPrimary ws .set < 2 ^ n = subst (λ a. a < 2 ^ n) (sym b) (taken-below (o .took)) in
-        let j = quorum-majority ws (e .set) k in
-        let z = majorities-meet n (takenPrimary ws .set) (e .set) (e .set) w j j in
+        let z = quorums-meet n ws ws (e .set) (e .set) refl w k k in
         let v = state-of A X y (z .0) (z .2) in
         by-cleared none (v .0) (v .1) (subst (λ a. inSet a (c .set) ≡ true) (sym (v .2 .sender)) (ap (inSet (z .0)) (sym b) ∙ z .1))
         (λ f. no-quorum ws (e .set) (v .0) (v .1) (f .status) k)

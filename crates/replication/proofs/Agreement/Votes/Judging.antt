@@ -1,13 +1,13 @@
 -- What judging the marks of collected States comes to: which mark is kept, with which bits, and that a kept mark leaves no quorum.
-use Prim.Native.Nat.{ℕ, _*_, _≤_, _<_}
+use Prim.Native.Nat.{ℕ, _≤_, _<_}
 use mathlib.Core.Path.{_≡_, refl, sym, ap, _∙_}
 use mathlib.Core.Bool.{true, false, not}
 use mathlib.Core.List.{List, [], _∷_, List·Memᴰ, List·Memᴰ·head, List·Memᴰ·tail, List·Memᴰ·not-nil}
 use mathlib.Core.Logic.{_⊎_, inl, inr}
-use Rattle.base.specs.Tests.{_and_, _or_, _=?_, pick, not-both, eq-yes, eq-no, eq-holds, eq-fails, lt-holds, lt-no, and-holds, not-holds, Known, holds, fails, known}
+use Rattle.base.specs.Tests.{_and_, _or_, _=?_, pick, not-both, eq-yes, eq-no, eq-holds, eq-fails, lt-no, and-holds, not-holds, Known, holds, fails, known}
 use Rattle.base.specs.Lists.{filter}
 use Rattle.base.specs.Members.{filter-from, any-yes, any-no}
-use Rattle.base.specs.Sets.{inSet, inside, size, common, union}
+use Rattle.base.specs.Sets.{inSet, inside, union}
 use Rattle.base.specs.SetLaws.{in-union, in-with-member, inside-member}
 use Rattle.format.specs.Types.{Primary, Mark, State}
 use Rattle.replication.specs.Machine.Types.{clearedMark}
@@ -139,7 +139,3 @@ module _ (xs : List State) (v : State) where
 pub no-quorum : (xs : List State) (here : ℕ) (v : State) → List·Memᴰ v xs → judgedMark xs v .status ≡ 1 → quorum xs here ≡ true → ⊥
 unfolding quorum markLeft
 no-quorum xs here v m h k = not-both (sym (not-holds _ (and-holds _ _ k .0)) ∙ any-yes _ v xs m (eq-yes _ _ h))
-
-pub quorum-majority : (xs : List State) (here : ℕ) → quorum xs here ≡ true → size (takenPrimary xs .set) < 2 * size (common (takenPrimary xs .set) here)
-unfolding quorum majority
-quorum-majority xs here k = lt-holds _ _ (and-holds _ _ (and-holds _ _ k .1) .0)

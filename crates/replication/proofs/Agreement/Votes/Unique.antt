@@ -1,11 +1,10 @@
 -- Primary components are unique: Installs of one index are in one configuration and of one primary, and whoever knows a primary of that index knows that one.
-use Prim.Native.Nat.{ℕ, zero, suc, _*_, _<_, _^_}
+use Prim.Native.Nat.{ℕ, zero, suc, _<_, _^_}
 use mathlib.Core.Path.{_≡_, refl, sym, ap, subst, subst₂, _∙_}
 use mathlib.Core.Bool.{true}
 use mathlib.Core.List.{List, List·Memᴰ}
 use native.Mathlib.Omega.{arith}
-use Rattle.base.specs.Quorums.{majorities-meet}
-use Rattle.base.specs.Sets.{inSet, size, common}
+use Rattle.base.specs.Sets.{inSet}
 use Rattle.format.specs.Types.{Primary, Mark, State}
 use Rattle.replication.specs.Machine.Types.{Configuration, Server}
 use Rattle.replication.specs.Machine.Exchange.{takenPrimary}
@@ -19,7 +18,8 @@ use Rattle.replication.proofs.Agreement.Terms.{Image, MarksAt, Installs
 use Rattle.replication.proofs.Agreement.Votes.Turns.{votesAt, lastAt}
 use Rattle.replication.proofs.Agreement.Votes.Events.{InOrder, first, same, second, in-order}
 use Rattle.replication.proofs.Agreement.Votes.Phases.{AttemptsIn, installs-attempt}
-use Rattle.replication.proofs.Agreement.Votes.Judging.{Alike, no-quorum, quorum-majority}
+use Rattle.replication.proofs.Agreement.Votes.Judging.{Alike, no-quorum}
+use Rattle.replication.proofs.Agreement.Votes.Quorums.{quorums-meet}
 use Rattle.replication.proofs.Agreement.Votes.Collected.{StateOf, state-of}
 use Rattle.replication.proofs.Agreement.Votes.Rising.{image-votes}
 use Rattle.replication.proofs.Agreement.Votes.Marks.{marking-last, installed-attempted}
@@ -92,9 +92,7 @@ module _ {n q : ℕ} {l : Run} (A : Allowed n q l) (X : ExchangeFacts n q l) whe
       common-member : (t : ℕ) × (inSet t (takenPrimary xs .set) ≡ true) × (inSet t (c .set) ≡ true) × (inSet t (d .set) ≡ true)
       common-member =
           let below = last-below (suc (mark-c .marked-at)) i (A .servers p i (of-event (x .acts .here))) in
-          majorities-meet n (takenPrimary xs .set) (c .set) (d .set) (subst (λ z. z .set < 2 ^ n) last-c below)
-          (quorum-majority xs (c .set) (mark-c .marking .has-quorum))
-          (subst (λ z. size (z .set) < 2 * size (common (z .set) (d .set))) (sym one-taken) (quorum-majority ys (d .set) (mark-d .marking .has-quorum)))
+          quorums-meet n xs ys (c .set) (d .set) one-taken (subst (λ z. z .set < 2 ^ n) last-c below) (mark-c .marking .has-quorum) (mark-d .marking .has-quorum)
 
       at-c : (s : State) × List·Memᴰ s xs × StateOf n q l (mark-c .marked-at) (common-member .0) c s
       at-c = state-of A X (mark-c .marking .ending) (common-member .0) (common-member .2)
