@@ -8,16 +8,18 @@ use native.Mathlib.Omega.{arith}
 use native.Mathlib.Decide.{decLt}
 use lib.ListN.{length, take, drop, length-drop, drop-of-length-le}
 use lib.Seq.{take-all, drop-length, drop-drop}
-use Rattle.base.specs.Tests.{pick-yes, pick-no, pick-lt, pick-ge, pick-eq, pick-ne}
+use Rattle.base.specs.Tests.{pick-lt, pick-ge, pick-eq, pick-ne}
 use Rattle.base.specs.Bytes.{numberAt}
 use Rattle.base.specs.BytesLaws.{number-drop}
 use Rattle.engine.specs.Image.{zeros}
 use Rattle.engine.specs.Outcome.{Result, stepOn}
+use Rattle.buffers.specs.Buffers.{isRecovery, sourceIn, stepIn}
+use Rattle.buffers.proofs.BufferLaws as laws
 use Rattle.step.specs.declared.Answer.{Answer}
 use Rattle.step.specs.Answers.{answered}
 use Rattle.servers.specs.declared.Server.{Server}
 use Rattle.servers.specs.declared.Stepped.{Stepped}
-use Rattle.servers.specs.Core.{outRoom, isRecovery, sourceIn, entryAfter, recordsFrom, recordsIn, afterStep, coreOf}
+use Rattle.servers.specs.Core.{outRoom, buffersOf, entryAfter, recordsFrom, recordsIn, afterStep, coreOf}
 
 -- ---- records counted by their length bytes
 
@@ -78,13 +80,11 @@ count-whole e sent r h g = g ∙ ap recordsIn (sym (take-all sent e h))
 -- ---- the state that the event comes to
 
 module _ (s : Server) (e : List ℕ) (t : Bool) (answer : t ≡ isRecovery e) where
-  pub source-stored : t ≡ true → s .store ≡ sourceIn s e
-  unfolding sourceIn
-  source-stored h = pick-yes (isRecovery e) (s .store) _ _ (sym answer ∙ h) refl
+  pub source-stored : t ≡ true → s .store ≡ sourceIn (buffersOf s) e
+  source-stored h = laws.source-stored (buffersOf s) e (sym answer ∙ h)
 
-  pub source-running : t ≡ false → s .state ≡ sourceIn s e
-  unfolding sourceIn
-  source-running h = pick-no (isRecovery e) (s .state) _ _ (sym answer ∙ h) refl
+  pub source-running : t ≡ false → s .state ≡ sourceIn (buffersOf s) e
+  source-running h = laws.source-running (buffersOf s) e (sym answer ∙ h)
 
 -- ---- the place behind a record
 
@@ -116,10 +116,10 @@ module _ (s : Server) (number store : ℕ) (b : List ℕ) where
 
 -- ---- the core
 
-pub core-made : (s v : Server) (e b b₁ o o₁ : List ℕ) (a : Answer) (n : ℕ) → b ≡ sourceIn s e → o ≡ zeros outRoom
+pub core-made : (s v : Server) (e b b₁ o o₁ : List ℕ) (a : Answer) (n : ℕ) → b ≡ sourceIn (buffersOf s) e → o ≡ zeros outRoom
     → answered a b₁ o₁ ≡ stepOn b e o → v ≡ entryAfter s (a .number) (a .store) b₁ → n ≡ recordsIn (take (a .sent) o₁)
     → record { server = v; reply = record { number = a .number; sent = n } } ≡ coreOf s e
-unfolding coreOf afterStep answered
+unfolding coreOf stepIn afterStep answered
 core-made s v e b b₁ o o₁ a n f z h g r =
     let left : _≡_ {A = Stepped} (record { server = v; reply = record { number = a .number; sent = n } }) (afterStep s (answered a b₁ o₁))
     = λ i. record { server = g i; reply = record { number = a .number; sent = r i } } in

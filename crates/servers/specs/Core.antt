@@ -2,13 +2,13 @@
 -- Assumes nothing.
 use Prim.Native.Nat.{ℕ, zero, suc, _+_, _≤_}
 use mathlib.Core.Path.{_≡_}
-use mathlib.Core.Bool.{Bool}
 use mathlib.Core.List.{List}
-use lib.ListN.{length, take, drop, getD}
-use Rattle.base.specs.Tests.{_and_, _<?_, _=?_, pick}
+use lib.ListN.{length, take, drop}
+use Rattle.base.specs.Tests.{_<?_, _=?_, pick}
 use Rattle.base.specs.Bytes.{numberAt}
 use Rattle.engine.specs.Image.{zeros}
-use Rattle.engine.specs.Outcome.{Result, stepOn}
+use Rattle.engine.specs.Outcome.{Result}
+use Rattle.buffers.specs.Buffers.{Buffers, stepIn}
 use Rattle.servers.specs.declared.Server.{Server}
 use Rattle.servers.specs.declared.Reply.{Reply}
 use Rattle.servers.specs.declared.Stepped.{Stepped}
@@ -20,13 +20,9 @@ stateRoom = 6500
 abbrev pub outRoom : ℕ
 outRoom = 8320
 
--- The recovery's record: no other bytes read as one.
-unfoldable pub isRecovery : List ℕ → Bool
-isRecovery e = length e =? 4 and getD e 0 0 =? 0 and getD e 1 0 =? 2 and getD e 2 0 =? 1 and getD e 3 0 =? 8
-
--- "Recovery starts from that server's last stored image."
-unfoldable pub sourceIn : Server → List ℕ → List ℕ
-sourceIn s e = pick (isRecovery e) (s .store) (s .state)
+-- An entry as a daemon's buffers.
+abbrev pub buffersOf : Server → Buffers
+buffersOf s = record { state = s .state; store = s .store }
 
 -- "What is stored is the event's whole new state"; a refused event leaves all as before.
 unfoldable pub entryAfter : Server → (number store : ℕ) → List ℕ → Server
@@ -55,4 +51,4 @@ afterStep s r = record {
 }
 
 unfoldable pub coreOf : Server → List ℕ → Stepped
-coreOf s e = afterStep s (stepOn (sourceIn s e) e (zeros outRoom))
+coreOf s e = afterStep s (stepIn (buffersOf s) e (zeros outRoom))

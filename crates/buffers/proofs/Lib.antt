@@ -1,0 +1,4 @@
+pub mod RecoveryLaws
+pub mod BufferLaws
+pub mod Keeping
+pub mod Arriving

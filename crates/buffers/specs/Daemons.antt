@@ -1,0 +1,48 @@
+-- The daemons of a run's servers: their buffers before each place.
+-- Assumes nothing.
+use Prim.Native.Nat.{ℕ, zero, suc, _≤_, _<_}
+use mathlib.Core.Path.{_≡_}
+use mathlib.Core.Bool.{Bool, true, false}
+use mathlib.Core.List.{List}
+use mathlib.Core.Option.{Option, none, some}
+use lib.ListN.{length}
+use Rattle.base.specs.Tests.{_=?_, pick}
+use Rattle.base.specs.Lists.{at, upd}
+use Rattle.replication.specs.Runs.Run.{Entry, event, crash, Run}
+use Rattle.engine.specs.Layout.{outLength}
+use Rattle.buffers.specs.Buffers.{Buffers, Lent, begun, stepIn, keptAfter}
+
+-- Every server's buffers, and which servers are down.
+pub record Daemons : Type 0 where
+  pub buffers : ℕ → Buffers
+  pub down : ℕ → Bool
+
+-- The bytes that a run leaves open: each server's buffers at first, the outgoing buffer of the event at each place, and what the state's buffer
+-- holds after the crash at each place (memory is lost).
+pub record Memory : Type 0 where
+  pub first : ℕ → Buffers
+  pub out : ℕ → List ℕ
+  pub crashed : ℕ → List ℕ
+
+-- They are as long as they must be.
+pub record LongEnough (n q : ℕ) (l : Run) (m : Memory) : Type 0 where
+  pub first : (i : ℕ) → i < n → Lent n q (m .first i)
+  pub out : (p : ℕ) → outLength n q ≤ length (m .out p)
+  pub crashed : (p i : ℕ) → at l p ≡ some (crash i) → length (m .crashed p) ≡ length (m .first i .state)
+
+-- What an entry makes of them, with the outgoing buffer o, and c in the state's buffer after a crash. A server that is down stays down until an event is
+-- taken.
+unfoldable pub daemonsAfter : Daemons → (o c : List ℕ) → Option Entry → Daemons
+daemonsAfter d o c none = d
+daemonsAfter d o c (some (event i e k)) = record {
+  buffers = upd (d .buffers) i (keptAfter (d .buffers i) (stepIn (d .buffers i) e o));
+  down = upd (d .down) i (pick (stepIn (d .buffers i) e o .number =? 0) false (d .down i));
+}
+daemonsAfter d o c (some (crash i)) =
+    record { buffers = upd (d .buffers) i (record { state = c; store = d .buffers i .store }); down = upd (d .down) i true }
+
+module _ (n q : ℕ) (l : Run) (m : Memory) where
+  -- Before the entry p.
+  unfoldable pub daemonsAt : ℕ → Daemons
+  daemonsAt zero = record { buffers = λ i. begun n q i (m .first i); down = λ i. false }
+  daemonsAt (suc p) = daemonsAfter (daemonsAt p) (m .out p) (m .crashed p) (at l p)

@@ -1,0 +1,1 @@
+// The buffers of daemons: definitions and laws, no running code.
