@@ -29,3 +29,4 @@ pub mod OwnStates
 pub mod Made
 pub mod DeliveryLists
 pub mod Agreement
+pub mod Strays

@@ -3,6 +3,7 @@
 use Prim.Native.Nat.{ℕ}
 use mathlib.Core.Bool.{Bool, true, false}
 use mathlib.Core.List.{List, [], _∷_}
+use mathlib.Core.Option.{Option, none, some}
 use Rattle.base.specs.Tests.{pick}
 use Rattle.format.specs.Types.{Record, action, retransmission, state, cpc, regular, transitional, request, recovery, Reading, says, refused}
 use Rattle.format.specs.Read.{read}
@@ -40,7 +41,12 @@ unfoldable pub leftBy : Outcome (List ℕ) → Images → Images
 leftBy (Outcome.refused k) i = i
 leftBy (taken t r b g) i = record { memory = t; store = pick b t (i .store) }
 
--- What a server has after these events, whatever they are.
-unfoldable pub lived : Images → List (List ℕ) → Images
+-- The store is written with what is in memory.
+abbrev pub savedIn : Images → Images
+savedIn i = record { memory = i .memory; store = i .memory }
+
+-- What a server has after these events, whatever they are; `none` is a store between two of them.
+unfoldable pub lived : Images → List (Option (List ℕ)) → Images
 lived i [] = i
-lived i (e ∷ es) = lived (leftBy (arrive i e) i) es
+lived i (none ∷ es) = lived (savedIn i) es
+lived i (some e ∷ es) = lived (leftBy (arrive i e) i) es

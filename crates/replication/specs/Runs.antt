@@ -1,5 +1,6 @@
 pub mod Run
 pub mod Happenings
 pub mod Allowed
+pub mod Strays
 pub mod Claim
 pub mod DeliveryFacts

@@ -14,9 +14,9 @@ use Rattle.replication.specs.Machine.Types.{Server, Outcome, taken, cont
 use Rattle.replication.specs.Machine.Requests.{recovered}
 use Rattle.replication.specs.Machine.Rules.{recovering, ruleFor}
 use Rattle.replication.specs.Machine.Step.{apply, stored, step}
-use Rattle.replication.specs.Images.{isRecovery, arrive}
+use Rattle.replication.specs.Images.{savedIn, isRecovery, arrive}
 use Rattle.replication.specs.Laws.Transitions.{TakenBy, Transition}
-use Rattle.replication.specs.Runs.Run.{event, Run, nowhere, moved, recordsOf, worldAt, placeAt, heardAt, putOut}
+use Rattle.replication.specs.Runs.Run.{event, store, Run, nowhere, moved, recordsOf, worldAt, placeAt, heardAt, putOut}
 use Rattle.replication.specs.Runs.Happenings.{Of, Crashes, Comes}
 use Rattle.replication.specs.Runs.Allowed.{Allowed}
 use Rattle.replication.proofs.Step.Inversion.{taken-by}
@@ -85,6 +85,8 @@ module _ (n q : ℕ) (l : Run) where
         → worldAt n q l (suc p) .down i ≡ worldAt n q l p .down i → AllowedTurn p i
     crashes : Crashes l p i → worldAt n q l (suc p) .images i ≡ worldAt n q l p .images i → placeAt n q l i (suc p) ≡ nowhere
         → worldAt n q l (suc p) .down i ≡ true → AllowedTurn p i
+    saves : at l p ≡ some (store i) → worldAt n q l (suc p) .images i ≡ savedIn (worldAt n q l p .images i) → placeAt n q l i (suc p) ≡ placeAt n q l i p
+        → worldAt n q l (suc p) .down i ≡ worldAt n q l p .down i → worldAt n q l p .down i ≡ false → AllowedTurn p i
     refuses : Refuses p i → AllowedTurn p i
     recovers : Recovers p i → AllowedTurn p i
     acts : Acts p i → AllowedTurn p i
@@ -153,7 +155,7 @@ module _ {n q : ℕ} {l : Run} (A : Allowed n q l) (p i : ℕ) where
 
   refusing : (e : List ℕ) (k z : ℕ) → at l p ≡ some (event i e k) → arrive (worldAt n q l p .images i) e ≡ Outcome.refused z
       → worldAt n q l (suc p) .images i ≡ worldAt n q l p .images i → placeAt n q l i (suc p) ≡ moved (heardAt n q l p i e) (placeAt n q l i p)
-      → worldAt n q l (suc p) .down i ≡ false → Source n q l p i e → AllowedTurn n q l p i
+      → worldAt n q l (suc p) .down i ≡ worldAt n q l p .down i → Source n q l p i e → AllowedTurn n q l p i
   unfolding arrive recordsOf
   refusing e k z h a m c d (from-store s o r) =
       absurd (recovery-taken _ z (answer-refused (storeAt n q l p i) e recovery z (ap (λ y. step y e) (sym o) ∙ a) r))
@@ -170,7 +172,7 @@ module _ {n q : ℕ} {l : Run} (A : Allowed n q l) (p i : ℕ) where
         reads = x;
         refusal = y;
         images-next = m;
-        down-next = d;
+        down-next = d ∙ u;
         place-next = c ∙ refusal-stays A p i k z e h u r y;
         put = put-out-at n q l p i k e h ∙ ap recordsOf a;
       })
@@ -181,5 +183,6 @@ module _ {n q : ℕ} {l : Run} (A : Allowed n q l) (p i : ℕ) where
       go : T.Turn n q l p i → AllowedTurn n q l p i
       go (T.rests o m c d) = rests o m c d
       go (T.crashes x m c d) = crashes x m c d
+      go (T.saves x m c d) = saves x m c d (A .stores-up p i x)
       go (T.refuses e k z h a m c d) = refusing e k z h a m c d (source A p i k e h)
       go (T.acts e k t bs b g h a m c d) = acting e k t bs b g h a m c d (source A p i k e h)

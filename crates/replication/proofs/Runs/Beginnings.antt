@@ -12,7 +12,7 @@ use Rattle.base.specs.AtLaws.{at-take, at-in-take, at-past-take}
 use Rattle.format.specs.Types.{Record}
 use Rattle.replication.specs.Machine.Types.{Configuration}
 use Rattle.replication.specs.Images.{arrive}
-use Rattle.replication.specs.Runs.Run.{Entry, event, crash, Run, beginning, worldThrough, nowhere, heard, placeThrough, recordsOf, worldAt, placeAt, heardAt, putOutBy, putOut, sentBy, sentAt}
+use Rattle.replication.specs.Runs.Run.{Entry, event, crash, store, Run, beginning, worldThrough, nowhere, heard, placeThrough, recordsOf, worldAt, placeAt, heardAt, putOutBy, putOut, sentBy, sentAt}
 use Rattle.replication.specs.Runs.Happenings.{Message, Configured, Happening, Of, Crashes, Comes, Falls, by-crash, by-recovery, Left, Sends, Delivers, Configures, to-regular, to-transitional, Passes, Causes, in-turn, sends, in-order, before-next, carries, through, Precedes, causes, after-all, before-all, along}
 use Rattle.replication.proofs.Runs.Places.{sent-past}
 
@@ -33,6 +33,7 @@ module _ (n q : ℕ) (l : Run) (k : ℕ) where
   unfolding putOutBy
   put-out-by-in p none h = refl
   put-out-by-in p (some (crash i)) h = refl
+  put-out-by-in p (some (store i)) h = refl
   put-out-by-in p (some (event i e m)) h = ap (λ w. recordsOf (arrive (w .images i) e)) (world-in p h)
 
   pub put-out-in : (p : ℕ) → p < k → putOut n q (take k l) p ≡ putOut n q l p
@@ -43,6 +44,7 @@ module _ (n q : ℕ) (l : Run) (k : ℕ) where
   unfolding sentBy
   sent-by-in p none h = refl
   sent-by-in p (some (crash i)) h = refl
+  sent-by-in p (some (store i)) h = refl
   sent-by-in p (some (event i e m)) h = ap (take m) (put-out-in p h)
 
   pub sent-in : (p : ℕ) → p < k → sentAt n q (take k l) p ≡ sentAt n q l p

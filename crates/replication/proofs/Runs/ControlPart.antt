@@ -19,7 +19,7 @@ use Rattle.replication.proofs.Step.Growth.{grows-refl, grows-trans, tra
 use Rattle.replication.proofs.Step.Numbered.{numbered-reds}
 use Rattle.replication.proofs.Runs.Lived.{images-lived, at-place}
 use Rattle.replication.proofs.Runs.Turns as T
-use Rattle.replication.proofs.Runs.AllowedTurns.{memoryAt, storeAt, Acts, AllowedTurn, rests, crashes, refuses, recovers, acts, allowed-turn}
+use Rattle.replication.proofs.Runs.AllowedTurns.{memoryAt, storeAt, Acts, AllowedTurn, rests, crashes, saves, refuses, recovers, acts, allowed-turn}
 
 pub control-sym : {s t : Server} → SameControl s t → SameControl t s
 control-sym h = record { last = sym (h .last); attempt = sym (h .attempt); mark = sym (h .mark); numbered = sym (h .numbered) }
@@ -58,6 +58,7 @@ module _ (n q : ℕ) (l : Run) where
       go : T.Turn n q l p i → Grows (storeAt n q l p i .log) (storeAt n q l (suc p) i .log)
       go (T.rests o m c d) = same m
       go (T.crashes x m c d) = same m
+      go (T.saves x m c d) = subst (λ y. Grows (storeAt n q l p i .log) (y .store .log)) (sym m) (store-below i p)
       go (T.refuses e k z h a m c d) = one e _ a m
       go (T.acts e k t bs b g h a m c d) = one e _ a m
 
@@ -81,6 +82,7 @@ module _ {n q : ℕ} {l : Run} (A : Allowed n q l) where
       go : AllowedTurn n q l p i → SameControl (memoryAt n q l p i) (memoryAt n q l (suc p) i) ⊎ ((x : Acts n q l p i) × (x .stores ≡ true))
       go (rests o m c d) = inl (control-same _ _ (ap (λ y. y .memory) m))
       go (crashes x m c d) = inl (control-same _ _ (ap (λ y. y .memory) m))
+      go (saves x m c d u) = inl (control-same _ _ (ap (λ y. y .memory) m))
       go (refuses x) = inl (control-same _ _ (ap (λ y. y .memory) (x .images-next)))
       go (recovers x) =
           inl

@@ -17,7 +17,7 @@ use Rattle.replication.specs.Runs.Allowed.{Allowed}
 use Rattle.replication.proofs.Step.Inversion.{taken-by}
 use Rattle.replication.proofs.Step.Moves as M
 use Rattle.replication.proofs.Runs.Places.{world-at-start, place-at-start, event-entry}
-use Rattle.replication.proofs.Runs.Turns.{Turn, rests, crashes, refuses, acts, turn}
+use Rattle.replication.proofs.Runs.Turns.{Turn, rests, crashes, saves, refuses, acts, turn}
 use Rattle.replication.proofs.Runs.Numbers.{Numbered, numbers}
 use Rattle.replication.proofs.Runs.Modes.{Standing, standing}
 use Rattle.replication.proofs.Runs.Refusals.{recovery-taken, regular-taken, transitional-taken}
@@ -129,6 +129,7 @@ module _ {n q : ℕ} {l : Run} (A : Allowed n q l) where
           → placeOf (worldAt n q l (suc p) .images i .memory) ≡ placeAt n q l i (suc p)
       go (rests o m c d) f = ap (λ x. placeOf (x .memory)) m ∙ f (sym d ∙ h) ∙ sym c
       go (crashes x m c d) f = not-both (sym h ∙ d)
+      go (saves x m c d) f = ap (λ y. placeOf (y .memory)) m ∙ f (sym d ∙ h) ∙ sym c
       go (refuses e k z x a m c d) f =
           ap (λ y. placeOf (y .memory)) m ∙ refusal e k z x a f (source-of-event n q l p i e A k x f) ∙ sym c
       go (acts e k t bs b g x a m c d) f =

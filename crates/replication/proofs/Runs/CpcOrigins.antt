@@ -84,7 +84,7 @@ module _ {n q : ℕ} {l : Run} (A : Allowed n q l) where
 
       go : (p : ℕ) → placeAt n q l i p .regular ≡ some c → ((j : ℕ) → inSet j (membershipAt n q l p i .cpcs) ≡ true → CpcCame p i c j) → (j : ℕ)
           → inSet j (membershipAt n q l (suc p) i .cpcs) ≡ true → StayStep A p i → CpcCame (suc p) i c j
-      go p a h j e (rested o m) = same p h j e (ap (λ z. z .cpcs) m)
+      go p a h j e (rested m) = same p h j e (ap (λ z. z .cpcs) m)
       go p a h j e (refused y m) = same p h j e (ap (λ z. z .cpcs) m)
       go p a h j e (took y z m) = taking p a h j e _ z (cpcs-change m)
 

@@ -12,7 +12,7 @@ use Rattle.base.specs.Lists.{at, isThere}
 use Rattle.base.specs.Rising.{Rises, rises-more}
 use Rattle.format.specs.Types.{Record, Reading, says, refused}
 use Rattle.replication.specs.Machine.Types.{Configuration}
-use Rattle.replication.specs.Runs.Run.{Entry, event, crash, Run, Place, placeAt}
+use Rattle.replication.specs.Runs.Run.{Entry, event, crash, store, Run, Place, placeAt}
 use Rattle.replication.specs.Runs.Happenings.{Message, isMessage}
 use Rattle.replication.specs.Runs.Allowed.{Allowed}
 use Rattle.replication.specs.Runs.DeliveryFacts.{isConfiguration, within, withinRegular, saysMessage, deliversBy, deliversAt, deliveryPlaces, delivered}
@@ -81,6 +81,7 @@ module _ {n q : ℕ} {l : Run} (A : Allowed n q l) (t : Place → Bool) (i : ℕ
       go : (x : Option Entry) → at l p ≡ x → deliversBy n q l t i p x ≡ true → Delivery A p i (A .source p) × (t (placeAt n q l i p) ≡ true)
       go none e h = not-both h
       go (some (crash j)) e h = not-both h
+      go (some (store j)) e h = not-both h
       go (some (event j f k)) e h =
           let x = and-holds _ _ h in
           let y = and-holds _ _ (x .1) in

@@ -28,7 +28,7 @@ use Rattle.replication.proofs.WellFormed.Held.{found-fact}
 use Rattle.replication.proofs.Runs.Places.{world-at-start, of-event}
 use Rattle.replication.proofs.Runs.Numbers.{numbers, invariant-at}
 use Rattle.replication.proofs.Runs.Deliveries.{Delivery}
-use Rattle.replication.proofs.Runs.AllowedTurns.{memoryAt, storeAt, Acts, AllowedTurn, rests, crashes, refuses, recovers, acts, allowed-turn}
+use Rattle.replication.proofs.Runs.AllowedTurns.{memoryAt, storeAt, Acts, AllowedTurn, rests, crashes, saves, refuses, recovers, acts, allowed-turn}
 use Rattle.replication.proofs.Runs.ControlPart.{numbered-between}
 use Rattle.replication.proofs.Runs.Sending.{Puts}
 use Rattle.replication.proofs.Runs.Origins.{origin}
@@ -183,6 +183,7 @@ module _ {n q : ℕ} {l : Run} (A : Allowed n q l) where
       go : AllowedTurn n q l p i → OfBoth (λ s. EachIn (Made (suc p)) (s .log)) (worldAt n q l (suc p) .images i)
       go (rests o m c d) = same m
       go (crashes x m c d) = same m
+      go (saves x m c d u) = subst (OfBoth (λ s. EachIn (Made (suc p)) (s .log))) (sym m) (record { memory = before .memory; store = before .memory })
       go (refuses x) = same (x .images-next)
       go (recovers x) =
           let r = each-recovered (Made (suc p)) _ (before .store) in

@@ -26,7 +26,7 @@ use Rattle.replication.proofs.Runs.Places.{of-event}
 use Rattle.replication.proofs.Runs.Numbers.{numbers, invariant-at, well-formed-at}
 use Rattle.replication.proofs.Runs.Modes.{standing, Stands}
 use Rattle.replication.proofs.Runs.Coupling.{coupled}
-use Rattle.replication.proofs.Runs.AllowedTurns.{memoryAt, Acts, AllowedTurn, rests, crashes, refuses, recovers, acts, allowed-turn}
+use Rattle.replication.proofs.Runs.AllowedTurns.{memoryAt, Acts, AllowedTurn, rests, crashes, saves, refuses, recovers, acts, allowed-turn}
 use Rattle.replication.proofs.Runs.ControlPart.{control-next}
 use Rattle.replication.proofs.Runs.Hearing.{exchange-votes, hearing-states, HeardSame, hearing-same, heard-length, exchange-kept}
 use Rattle.replication.proofs.Runs.StateOrigins.{Entered, states-entered}
@@ -57,19 +57,20 @@ module _ {n q : ℕ} {l : Run} (A : Allowed n q l) where
       in-stay n q l i c (λ p. SinceEntry p i c) (λ t h. record { took-at = t; earlier = omega arith; took = h; votes = λ e. refl })
       (λ p a b f g h. go p f g h (allowed-turn A p i))
     where
-      same : (p : ℕ) → SinceEntry p i c → worldAt n q l (suc p) .images i ≡ worldAt n q l p .images i → SinceEntry (suc p) i c
+      same : (p : ℕ) → SinceEntry p i c → memoryAt n q l (suc p) i ≡ memoryAt n q l p i → SinceEntry (suc p) i c
       same p h m = record {
         took-at = h .took-at;
         earlier = omega (arith, h .earlier);
         took = h .took;
-        votes = λ e. ap (λ x. x .memory .votes) m ∙ h .votes (ap (λ x. inExchange (x .memory .membership .mode)) (sym m) ∙ e);
+        votes = λ e. ap (λ x. x .votes) m ∙ h .votes (ap (λ x. inExchange (x .membership .mode)) (sym m) ∙ e);
       }
 
       go : (p : ℕ) → (Falls n q l p i → ⊥) → ((d : Configuration) → Takes n q l p i d → ⊥) → SinceEntry p i c → AllowedTurn n q l p i
           → SinceEntry (suc p) i c
-      go p f g h (rests o m u d) = same p h m
+      go p f g h (rests o m u d) = same p h (ap (λ x. x .memory) m)
+      go p f g h (saves x m u d v) = same p h (ap (λ y. y .memory) m)
       go p f g h (crashes x m u d) = absurd (f (by-crash x))
-      go p f g h (refuses x) = same p h (x .images-next)
+      go p f g h (refuses x) = same p h (ap (λ y. y .memory) (x .images-next))
       go p f g h (recovers x) = absurd (f (by-recovery (x .comes)))
       go p f g h (acts x) = record { took-at = h .took-at; earlier = omega (arith, h .earlier); took = h .took; votes = votes }
         where

@@ -8,7 +8,7 @@ use lib.ListN.{take}
 use Rattle.base.specs.Lists.{at}
 use Rattle.base.specs.AtLaws.{some-same, take-past, take-next}
 use Rattle.replication.specs.Images.{arrive}
-use Rattle.replication.specs.Runs.Run.{Entry, event, crash, Run, serverOf, World, beginning, worldAfter, worldThrough, Place, nowhere, placeAfter, placeThrough, recordsOf, worldAt, placeAt, putOutBy, putOut, sentBy, sentAt}
+use Rattle.replication.specs.Runs.Run.{Entry, event, crash, store, Run, serverOf, World, beginning, worldAfter, worldThrough, Place, nowhere, placeAfter, placeThrough, recordsOf, worldAt, placeAt, putOutBy, putOut, sentBy, sentAt}
 use Rattle.replication.specs.Runs.Happenings.{Of}
 
 world-through-one-more : (w : World) (l : Run) (x : Entry) → worldThrough w (l ++ (x ∷ [])) ≡ worldAfter (worldThrough w l) x
@@ -63,6 +63,10 @@ module _ (n q : ℕ) (l : Run) where
   unfolding sentAt sentBy
   sent-by-crash p i h = ap (sentBy n q l p) h
 
+  pub sent-by-store : (p i : ℕ) → at l p ≡ some (store i) → sentAt n q l p ≡ []
+  unfolding sentAt sentBy
+  sent-by-store p i h = ap (sentBy n q l p) h
+
 -- ---- whose a place is
 
 pub event-entry : {i j : ℕ} {e f : List ℕ} {k m : ℕ} → event i e k ≡ event j f m → (i ≡ j) × (e ≡ f) × (k ≡ m)
@@ -81,6 +85,16 @@ of-one x y = sym (x .its) ∙ ap serverOf (some-same (sym (x .here) ∙ y .here)
 pub of-event : {l : Run} {p i : ℕ} {e : List ℕ} {k : ℕ} → at l p ≡ some (event i e k) → Of l p i
 unfolding serverOf
 of-event h = record { entry = _; here = h; its = refl }
+
+pub of-store : {l : Run} {p i : ℕ} → at l p ≡ some (store i) → Of l p i
+unfolding serverOf
+of-store h = record { entry = _; here = h; its = refl }
+
+pub event-not-store : {X : Type 0} {i j : ℕ} {e : List ℕ} {k : ℕ} → event i e k ≡ store j → X
+event-not-store h = let z : _≡_ {A = ℕ} 0 1 = cc in absurd (omega arith)
+
+pub crash-not-store : {X : Type 0} {i j : ℕ} → crash i ≡ store j → X
+crash-not-store h = let z : _≡_ {A = ℕ} 0 1 = cc in absurd (omega arith)
 
 pub of-crash : {l : Run} {p i : ℕ} → at l p ≡ some (crash i) → Of l p i
 unfolding serverOf

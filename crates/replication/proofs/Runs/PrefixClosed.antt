@@ -1,7 +1,7 @@
 -- Each beginning of an allowed run is allowed.
 use Prim.Native.Nat.{ℕ, _≤_, _<_}
 use mathlib.Core.Path.{_≡_, sym, ap, subst, _∙_}
-use mathlib.Core.Bool.{true}
+use mathlib.Core.Bool.{true, false}
 use mathlib.Core.List.{List}
 use mathlib.Core.Option.{Option, some}
 use native.Mathlib.Omega.{arith}
@@ -11,7 +11,7 @@ use Rattle.base.specs.AtLaws.{at-in-take, some-same}
 use Rattle.base.specs.Sets.{inSet}
 use Rattle.format.specs.Types.{Record, transitional, recovery, regular}
 use Rattle.replication.specs.Machine.Types.{Configuration}
-use Rattle.replication.specs.Runs.Run.{event, Run, members, worldAt, placeAt, putOut, sentAt}
+use Rattle.replication.specs.Runs.Run.{event, store, Run, members, worldAt, placeAt, putOut, sentAt}
 use Rattle.replication.specs.Runs.Happenings.{Message, isMessage, Configured, entry-at, sending-of, Of, Crashes, Comes, Falls, Takes, Left, Sends, Delivers, Delivered, Passes, Causes}
 use Rattle.replication.specs.Runs.Allowed.{Allowed}
 use Rattle.replication.proofs.Runs.Beginnings as B
@@ -30,19 +30,23 @@ module _ (n q : ℕ) (l : Run) (A : Allowed n q l) (k : ℕ) where
       let g = A .genuine p i x e r (at-in-take k l p _ h .1) (B.comes-whole n q l k c) m in
       (g .0, ap (λ s. at s (A .source p .number)) (B.sent-in n q l k (A .source p .sending) (omega (arith, g .0, B.comes-low n q l k c))) ∙ g .1)
 
-  cut-by-crash : (p r i x : ℕ) (e : List ℕ) → at (take k l) p ≡ some (event i e x) → x < length (putOut n q (take k l) p) → p < r → Of (take k l) r i
-      → ((y : ℕ) → p < y → y < r → Of (take k l) y i → ⊥) → Crashes (take k l) r i
-  cut-by-crash p r i x e h o a y f =
+  cut-by-crash : (p r i x m : ℕ) (e f : List ℕ) → at (take k l) p ≡ some (event i e x) → x < length (putOut n q (take k l) p) → p < r
+      → at (take k l) r ≡ some (event i f m) → (y : ℕ) × Crashes (take k l) y i × (p < y) × (y < r)
+  cut-by-crash p r i x m e f h o a g =
       let z = at-in-take k l p _ h in
-      let b = B.of-low n q l k y in
-      B.crash-in n q l k r i b
-      (A .cut-by-crash p r i x e (z .1) (subst (λ s. x < length s) (B.put-out-in n q l k p (z .0)) o) a (B.of-whole n q l k y)
-      (λ w c d o′. f w c d (B.of-in n q l k (omega arith) o′)))
+      let w = at-in-take k l r _ g in
+      let y = A .cut-by-crash p r i x m e f (z .1) (subst (λ s. x < length s) (B.put-out-in n q l k p (z .0)) o) a (w .1) in
+      (y .0, B.crash-in n q l k (y .0) i (omega (arith, w .0, y .3)) (y .1), y .2, y .3)
 
   recovers : (p i x : ℕ) (e : List ℕ) → at (take k l) p ≡ some (event i e x) → worldAt n q (take k l) p .down i ≡ true → Comes n q (take k l) p i recovery
   recovers p i x e h d =
       let z = at-in-take k l p _ h in
       B.comes-in n q l k (z .0) (A .recovers p i x e (z .1) (sym (ap (λ w. w .down i) (B.world-in n q l k p (omega (arith, z .0)))) ∙ d))
+
+  stores-up : (p i : ℕ) → at (take k l) p ≡ some (store i) → worldAt n q (take k l) p .down i ≡ false
+  stores-up p i h =
+      let z = at-in-take k l p _ h in
+      ap (λ w. w .down i) (B.world-in n q l k p (omega (arith, z .0))) ∙ A .stores-up p i (z .1)
 
   same-configuration : (p i : ℕ) (m : Message) → Delivers n q (take k l) (A .source) (A .name) p i m
       → (j : ℕ) × (c : Configuration) × Sends n q (take k l) j m c × (placeAt n q (take k l) i p .regular ≡ some c)
@@ -140,6 +144,7 @@ module _ (n q : ℕ) (l : Run) (A : Allowed n q l) (k : ℕ) where
         genuine = genuine;
         cut-by-crash = cut-by-crash;
         recovers = recovers;
+        stores-up = stores-up;
         same-configuration = same-configuration;
         one-delivery = one-delivery;
         one-name = one-name;

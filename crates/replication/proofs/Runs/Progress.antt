@@ -171,7 +171,7 @@ module _ {n q : ℕ} {l : Run} (A : Allowed n q l) where
     where
       go : (p : ℕ) → placeAt n q l i (suc p) .regular ≡ some c → Progress n (membershipAt n q l p i) → StayStep A p i
           → Progress n (membershipAt n q l (suc p) i)
-      go p b h (rested o m) = subst (Progress n) (sym m) h
+      go p b h (rested m) = subst (Progress n) (sym m) h
       go p b h (refused x m) = subst (Progress n) (sym m) h
       go p b h (took x y m) =
           let z = stay-member i (suc p) c b in

@@ -18,17 +18,17 @@ use Rattle.replication.specs.Images.{isRecovery}
 use Rattle.replication.specs.Laws.Modes.{InRegular}
 use Rattle.replication.specs.Laws.Transitions as L
 use Rattle.replication.specs.Laws.Transitions.{Ends, Transition}
-use Rattle.replication.specs.Runs.Run.{Entry, event, crash, Run, placeAt, heardAt, putOut, sentAt}
+use Rattle.replication.specs.Runs.Run.{Entry, event, crash, store, Run, placeAt, heardAt, putOut, sentAt}
 use Rattle.replication.specs.Runs.Happenings.{Comes, Takes}
 use Rattle.replication.specs.Runs.Allowed.{Allowed}
-use Rattle.replication.proofs.Runs.Places.{event-entry, event-not-crash, of-event, sent-at, sent-past, sent-by-crash}
+use Rattle.replication.proofs.Runs.Places.{event-not-store, sent-by-store, event-entry, event-not-crash, of-event, sent-at, sent-past, sent-by-crash}
 use Rattle.replication.proofs.Runs.Shifts.{says-same, comes-once, comes-of, crash-says-nothing}
 use Rattle.replication.proofs.Runs.Modes.{Standing, standing-in, standing}
 use Rattle.replication.proofs.Runs.Readings.{answer-refused}
 use Rattle.replication.proofs.Runs.Refusals.{regular-taken, transitional-taken}
 use Rattle.replication.proofs.Runs.PlaceMoves.{placeOf}
 use Rattle.replication.proofs.Runs.Coupling.{coupled}
-use Rattle.replication.proofs.Runs.AllowedTurns.{Acts, Refuses, AllowedTurn, rests, crashes, refuses, recovers, acts, allowed-turn}
+use Rattle.replication.proofs.Runs.AllowedTurns.{Acts, Refuses, AllowedTurn, rests, crashes, saves, refuses, recovers, acts, allowed-turn}
 
 -- ---- one step: what sends leaves the server in a regular configuration
 
@@ -105,6 +105,7 @@ module _ {n q : ℕ} {l : Run} (A : Allowed n q l) where
       go : AllowedTurn n q l p i → (x : Acts n q l p i) × (x .by .event ≡ r)
       go (rests o m s d) = absurd (o (comes-of c))
       go (crashes x m s d) = crash-says-nothing x c
+      go (saves x m s d u) = event-not-store (some-same (sym (c .here) ∙ x))
       go (refuses x) = absurd (f x)
       go (recovers x) = not-both (sym e ∙ ap (λ z. isRecovery (says z)) (comes-once c (x .comes)))
       go (acts x) = (x, acted p i r c x)
@@ -158,6 +159,7 @@ module _ {n q : ℕ} {l : Run} (A : Allowed n q l) where
       from : (i : ℕ) → at (putOut n q l p) k ≡ some e → AllowedTurn n q l p i → (f : List ℕ) (j : ℕ) → at l p ≡ some (event i f j)
           → (i : ℕ) × (c : Configuration) × (r : Record) × Puts p i k c r × (e ≡ write r)
       from i x (rests o m s d) f j y = absurd (o (of-event y))
+      from i x (saves o m s d u) f j y = event-not-store (some-same (sym y ∙ o))
       from i x (crashes o m s d) f j y = event-not-crash (some-same (sym y ∙ o))
       from i x (refuses z) f j y = none-some (ap (λ w. at w k) (sym (z .put)) ∙ x)
       from i x (recovers z) f j y = none-some (ap (λ w. at w k) (sym (z .put)) ∙ x)
@@ -169,6 +171,7 @@ module _ {n q : ℕ} {l : Run} (A : Allowed n q l) where
       go : (x : Option Entry) → at l p ≡ x → (i : ℕ) × (c : Configuration) × (r : Record) × Puts p i k c r × (e ≡ write r)
       go none x = none-some (ap (λ w. at w k) (sym (sent-past n q l p x)) ∙ h)
       go (some (crash i)) x = none-some (ap (λ w. at w k) (sym (sent-by-crash n q l p i x)) ∙ h)
+      go (some (store i)) x = none-some (ap (λ w. at w k) (sym (sent-by-store n q l p i x)) ∙ h)
       go (some (event i f m)) x =
           let z = at-in-take m (putOut n q l p) k e (ap (λ w. at w k) (sym (sent-at n q l p i m f x)) ∙ h) in
           from i (z .1) (allowed-turn A p i) f m x

@@ -12,8 +12,8 @@ use Rattle.format.specs.Types.{Record, action, retransmission, state, cpc, regu
 use Rattle.replication.specs.Machine.Types.{Configuration}
 use Rattle.replication.specs.Runs.Run.{event, Run, nowhere, moved, placeAt, heardAt}
 use Rattle.replication.specs.Runs.Happenings.{isMessage, Of, Crashes, Comes, Falls, by-crash, by-recovery, Takes}
-use Rattle.replication.proofs.Runs.Places.{event-entry, event-not-crash, of-event, of-crash}
-use Rattle.replication.proofs.Runs.Turns.{Turn, rests, crashes, refuses, acts, turn}
+use Rattle.replication.proofs.Runs.Places.{event-not-store, crash-not-store, event-entry, event-not-crash, of-event, of-crash}
+use Rattle.replication.proofs.Runs.Turns.{Turn, rests, crashes, saves, refuses, acts, turn}
 
 pub says-same : {x y : Record} → says x ≡ says y → x ≡ y
 says-same e = cc
@@ -138,5 +138,6 @@ module _ (n q : ℕ) (l : Run) where
       go : Turn n q l p i → Shift p i
       go (rests o m c d) = stays (λ r x. absurd (o (comes-of x))) (λ x. o (of-crash x)) c
       go (crashes x m c d) = to-nowhere (by-crash x) c
+      go (saves x m c d) = stays (λ r y. event-not-store (some-same (sym (y .here) ∙ x))) (λ y. crash-not-store (some-same (sym y ∙ x))) c
       go (refuses e k z h a m c d) = by-reading p i e k h _ refl c
       go (acts e k t r b g h a m c d) = by-reading p i e k h _ refl c

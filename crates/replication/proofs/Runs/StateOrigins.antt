@@ -192,7 +192,7 @@ module _ {n q : ℕ} {l : Run} (A : Allowed n q l) where
       go : (p : ℕ) → placeAt n q l i p .regular ≡ some c → ((d : Configuration) → Takes n q l p i d → ⊥)
           → ((k : ℕ) (x : State) → getD (membershipAt n q l p i .states) k none ≡ some x → StateCame p i k c x) → (k : ℕ) (x : State)
           → getD (membershipAt n q l (suc p) i .states) k none ≡ some x → StayStep A p i → StateCame (suc p) i k c x
-      go p a g h k x e (rested o m) = same p h k x e (ap (λ z. z .states) m)
+      go p a g h k x e (rested m) = same p h k x e (ap (λ z. z .states) m)
       go p a g h k x e (refused y m) = same p h k x e (ap (λ z. z .states) m)
       go p a g h k x e (took y z m) = taking p a g h k x e _ z (states-change m)
 

@@ -15,7 +15,7 @@ use Rattle.replication.proofs.Runs.Turns as T
 use Rattle.replication.proofs.Runs.Shifts as S
 use Rattle.replication.proofs.Runs.Numbers.{numbers}
 use Rattle.replication.proofs.Runs.Coupling.{coupled}
-use Rattle.replication.proofs.Runs.AllowedTurns.{memoryAt, Acts, Refuses, AllowedTurn, rests, crashes, refuses, recovers, acts, allowed-turn}
+use Rattle.replication.proofs.Runs.AllowedTurns.{memoryAt, Acts, Refuses, AllowedTurn, rests, crashes, saves, refuses, recovers, acts, allowed-turn}
 use Rattle.replication.proofs.Runs.Sending.{regular-acts}
 use Rattle.replication.proofs.Runs.Memberships as M
 use Rattle.replication.proofs.Runs.Memberships.{enteredIn, MembershipStep, membership-step}
@@ -29,27 +29,6 @@ regular-enters (M.joins c o e j) = refl
 module _ (n q : ℕ) (l : Run) where
   abbrev pub membershipAt : ℕ → ℕ → Membership
   membershipAt p i = memoryAt n q l p i .membership
-
-  -- A server that is down has no configuration.
-  pub down-nowhere : (p i : ℕ) → worldAt n q l p .down i ≡ true → placeAt n q l i p ≡ nowhere
-  unfolding beginning
-  down-nowhere zero i h = place-at-start n q l i
-  down-nowhere (suc p) i h = go (T.turn n q l p i) (down-nowhere p i)
-    where
-      go : T.Turn n q l p i → (worldAt n q l p .down i ≡ true → placeAt n q l i p ≡ nowhere) → placeAt n q l i (suc p) ≡ nowhere
-      go (T.rests o m c d) k = c ∙ k (sym d ∙ h)
-      go (T.crashes x m c d) k = c
-      go (T.refuses e j z x a m c d) k = not-both (sym d ∙ h)
-      go (T.acts e j t r b g x a m c d) k = not-both (sym d ∙ h)
-
-  -- A server that has a configuration is up.
-  pub placed-up : (p i : ℕ) (c : Configuration) → placeAt n q l i p .regular ≡ some c → worldAt n q l p .down i ≡ false
-  unfolding nowhere
-  placed-up p i c e = go (worldAt n q l p .down i) refl
-    where
-      go : (b : Bool) → worldAt n q l p .down i ≡ b → worldAt n q l p .down i ≡ false
-      go false h = h
-      go true h = none-some (sym (ap (λ x. x .regular) (down-nowhere p i h)) ∙ e)
 
   -- What holds after taking c, and from each place of the stay to the next, holds throughout the stay.
   pub in-stay : (i : ℕ) (c : Configuration) (P : ℕ → Type 0) → ((t : ℕ) → Takes n q l t i c → P (suc t))
@@ -73,13 +52,35 @@ module _ (n q : ℕ) (l : Run) where
           step p z e (λ f. S.stays-no-fall u v f) (λ d y. S.stays-no-regular u y) (k z)
 
 module _ {n q : ℕ} {l : Run} (A : Allowed n q l) where
+  -- A server that is down has no configuration.
+  down-nowhere : (p i : ℕ) → worldAt n q l p .down i ≡ true → placeAt n q l i p ≡ nowhere
+  down-nowhere zero i h = place-at-start n q l i
+  down-nowhere (suc p) i h = go (allowed-turn A p i) (down-nowhere p i)
+    where
+      go : AllowedTurn n q l p i → (worldAt n q l p .down i ≡ true → placeAt n q l i p ≡ nowhere) → placeAt n q l i (suc p) ≡ nowhere
+      go (rests o m c d) k = c ∙ k (sym d ∙ h)
+      go (crashes x m c d) k = c
+      go (saves x m c d u) k = c ∙ k (sym d ∙ h)
+      go (refuses x) k = not-both (sym (x .down-next) ∙ h)
+      go (recovers x) k = x .place-next
+      go (acts x) k = not-both (sym (x .down-next) ∙ h)
+
+  -- A server that has a configuration is up.
+  pub placed-up : (p i : ℕ) (c : Configuration) → placeAt n q l i p .regular ≡ some c → worldAt n q l p .down i ≡ false
+  unfolding nowhere
+  placed-up p i c e = go (worldAt n q l p .down i) refl
+    where
+      go : (b : Bool) → worldAt n q l p .down i ≡ b → worldAt n q l p .down i ≡ false
+      go false h = h
+      go true h = none-some (sym (ap (λ x. x .regular) (down-nowhere p i h)) ∙ e)
+
   -- The machine has the configuration that the run has given it.
   pub stay-configuration : (p i : ℕ) (c : Configuration) → placeAt n q l i p .regular ≡ some c → membershipAt n q l p i .configuration ≡ some c
-  stay-configuration p i c e = ap (λ x. x .regular) (coupled A p i (placed-up n q l p i c e)) ∙ e
+  stay-configuration p i c e = ap (λ x. x .regular) (coupled A p i (placed-up p i c e)) ∙ e
 
   pub stay-transitional : (p i : ℕ) (c : Configuration) → placeAt n q l i p .regular ≡ some c
       → membershipAt n q l p i .transitional ≡ placeAt n q l i p .transitional
-  stay-transitional p i c e = ap (λ x. x .transitional) (coupled A p i (placed-up n q l p i c e))
+  stay-transitional p i c e = ap (λ x. x .transitional) (coupled A p i (placed-up p i c e))
 
   -- What an event that a server takes does to its membership part.
   pub acts-membership : (p i : ℕ) (x : Acts n q l p i) → MembershipStep n (membershipAt n q l p i) (x .by .event) (membershipAt n q l (suc p) i)
@@ -96,7 +97,7 @@ module _ {n q : ℕ} {l : Run} (A : Allowed n q l) where
 
   -- A place of a stay: nothing for this server's membership part; an event refused; an event taken that is no regular configuration and no recovery.
   pub data StayStep (p i : ℕ) : Type 0 where
-    rested : (Of l p i → ⊥) → membershipAt n q l (suc p) i ≡ membershipAt n q l p i → StayStep p i
+    rested : membershipAt n q l (suc p) i ≡ membershipAt n q l p i → StayStep p i
     refused : Refuses n q l p i → membershipAt n q l (suc p) i ≡ membershipAt n q l p i → StayStep p i
     took : (x : Acts n q l p i) → Comes n q l p i (x .by .event) → MembershipStep n (membershipAt n q l p i) (x .by .event) (membershipAt n q l (suc p) i)
         → StayStep p i
@@ -105,7 +106,8 @@ module _ {n q : ℕ} {l : Run} (A : Allowed n q l) where
   stay-step p i f = go (allowed-turn A p i)
     where
       go : AllowedTurn n q l p i → StayStep p i
-      go (rests o m c d) = rested o (ap (λ x. x .memory .membership) m)
+      go (saves x m c d u) = rested (ap (λ y. y .memory .membership) m)
+      go (rests o m c d) = rested (ap (λ x. x .memory .membership) m)
       go (crashes x m c d) = absurd (f (by-crash x))
       go (refuses x) = refused x (ap (λ y. y .memory .membership) (x .images-next))
       go (recovers x) = absurd (f (by-recovery (x .comes)))

@@ -3,6 +3,7 @@ use Prim.Native.Nat.{ℕ}
 use mathlib.Core.Path.{_≡_, refl, ap, _∙_}
 use mathlib.Core.Bool.{false}
 use mathlib.Core.List.{List}
+use mathlib.Core.Option.{Option, none, some}
 use Rattle.format.specs.Types.{Action, Record}
 use Rattle.replication.specs.Machine.Types.{Server, taken}
 use Rattle.replication.specs.Machine.Colours.{enter, joinYellow, yellow}
@@ -60,6 +61,6 @@ unstored-control s e t bs g h = unstored-keeps (moved (taken-by s e t bs false g
 
 -- ---- over a run
 
-pub control-stored : (s : Server) (es : List (List ℕ)) → SameControl ((lived (started s) es) .store) ((lived (started s) es) .memory)
+pub control-stored : (s : Server) (es : List (Option (List ℕ))) → SameControl ((lived (started s) es) .store) ((lived (started s) es) .memory)
 unfolding started
 control-stored s es = lived-pair SameControl control-refl (λ u v e t bs g h p. control-trans p (unstored-control v e t bs g h)) (started s) es (control-refl s)

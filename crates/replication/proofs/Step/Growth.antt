@@ -3,7 +3,7 @@ use Prim.Native.Nat.{ℕ}
 use mathlib.Core.Path.{_≡_}
 use mathlib.Core.Bool.{Bool, true}
 use mathlib.Core.List.{List, [], _∷_, _++_}
-use mathlib.Core.Option.{some}
+use mathlib.Core.Option.{Option, some}
 use native.Mathlib.Omega.{arith}
 use Rattle.base.specs.Prefixes.{begins-refl, begins-trans, begins-more, begins-gained, set-rises}
 use Rattle.format.specs.Types.{Id, Action, Record}
@@ -65,9 +65,9 @@ green-gained s e t bs b g h =
 -- ---- over a run
 
 -- The store's log is one that the memory's has grown from.
-pub store-begins : (s : Server) (es : List (List ℕ)) → Grows ((lived (started s) es) .store .log) ((lived (started s) es) .memory .log)
+pub store-begins : (s : Server) (es : List (Option (List ℕ))) → Grows ((lived (started s) es) .store .log) ((lived (started s) es) .memory .log)
 store-begins = Lift.lived-rises (λ s t. Grows (s .log) (t .log)) (λ s. grows-refl (s .log)) (λ s t u p q. grows-trans p q) taken-grows
 
 -- From one event to the next the store's log only grows.
-pub store-grows : (s : Server) (es : List (List ℕ)) (e : List ℕ) → Grows ((lived (started s) es) .store .log) ((next (lived (started s) es) e) .store .log)
+pub store-grows : (s : Server) (es : List (Option (List ℕ))) (e : List ℕ) → Grows ((lived (started s) es) .store .log) ((next (lived (started s) es) e) .store .log)
 store-grows = Lift.store-rises (λ s t. Grows (s .log) (t .log)) (λ s. grows-refl (s .log)) (λ s t u p q. grows-trans p q) taken-grows

@@ -3,6 +3,7 @@ use Prim.Native.Nat.{ℕ}
 use mathlib.Core.Path.{_≡_, refl, _∙_}
 use mathlib.Core.Bool.{Bool}
 use mathlib.Core.List.{List}
+use mathlib.Core.Option.{Option, none, some}
 use Rattle.format.specs.Types.{Action, Record}
 use Rattle.replication.specs.Machine.Types.{Server}
 use Rattle.replication.specs.Machine.Colours.{yellow}
@@ -60,7 +61,7 @@ module _ (s : Server) where
   identity-kept L.recovers = same refl refl refl
 
 -- Every image of a server has the start's n, q and number.
-pub identity : (s : Server) (es : List (List ℕ)) → OfBoth (SameServer s) (lived (started s) es)
+pub identity : (s : Server) (es : List (Option (List ℕ))) → OfBoth (SameServer s) (lived (started s) es)
 unfolding started
 identity s es =
     lived-each (SameServer s)

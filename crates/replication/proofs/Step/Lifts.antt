@@ -3,12 +3,13 @@ use Prim.Native.Nat.{ℕ}
 use mathlib.Core.Path.{_≡_, refl}
 use mathlib.Core.Bool.{Bool, true, false}
 use mathlib.Core.List.{List, [], _∷_}
+use mathlib.Core.Option.{Option, none, some}
 use Rattle.base.specs.Tests.{pick}
 use Rattle.format.specs.Types.{Action}
 use Rattle.format.specs.Read.{read}
 use Rattle.replication.specs.Machine.Types.{Server, Outcome, refused, taken, contextOf}
 use Rattle.replication.specs.Machine.Step.{step}
-use Rattle.replication.specs.Images.{Images, started, isRecovery, sourceOf, arrive, leftBy, lived}
+use Rattle.replication.specs.Images.{Images, started, isRecovery, sourceOf, arrive, leftBy, savedIn, lived}
 use Rattle.replication.specs.Laws.Images.{OfBoth, next}
 
 -- The state that an event gets is one of the images.
@@ -43,10 +44,11 @@ module _ (P : Server → Type 0)
     unfolding next
     next-each i e p = left-each i e (arrive i e) refl p
 
-    pub lived-each : (i : Images) (es : List (List ℕ)) → OfBoth P i → OfBoth P (lived i es)
+    pub lived-each : (i : Images) (es : List (Option (List ℕ))) → OfBoth P i → OfBoth P (lived i es)
     unfolding lived next
     lived-each i [] p = p
-    lived-each i (e ∷ es) p = lived-each (next i e) es (next-each i e p)
+    lived-each i (none ∷ es) p = lived-each (savedIn i) es (record { memory = p .memory; store = p .memory })
+    lived-each i (some e ∷ es) p = lived-each (next i e) es (next-each i e p)
 
 -- ---- a relation of the store to the memory that every event without a store keeps
 
@@ -64,10 +66,11 @@ module _ (Q : Server → Server → Type 0) (same : (s : Server) → Q s s)
     unfolding next
     next-pair i e p = left-pair i e (arrive i e) refl p
 
-    pub lived-pair : (i : Images) (es : List (List ℕ)) → Q (i .store) (i .memory) → Q ((lived i es) .store) ((lived i es) .memory)
+    pub lived-pair : (i : Images) (es : List (Option (List ℕ))) → Q (i .store) (i .memory) → Q ((lived i es) .store) ((lived i es) .memory)
     unfolding lived next
     lived-pair i [] p = p
-    lived-pair i (e ∷ es) p = lived-pair (next i e) es (next-pair i e p)
+    lived-pair i (none ∷ es) p = lived-pair (savedIn i) es (same (i .memory))
+    lived-pair i (some e ∷ es) p = lived-pair (next i e) es (next-pair i e p)
 
 -- ---- an order that no taken event falls in
 
@@ -75,7 +78,7 @@ module _ (R : Server → Server → Type 0) (same : (s : Server) → R s s) (cha
     (rises : (s : Server) (e : List ℕ) (t : Server) (bs : List (List ℕ)) (b : Bool) (g : List Action) → step s e ≡ taken t bs b g → R s t)
   where
     -- The store is at most the memory.
-    pub lived-rises : (s : Server) (es : List (List ℕ)) → R ((lived (started s) es) .store) ((lived (started s) es) .memory)
+    pub lived-rises : (s : Server) (es : List (Option (List ℕ))) → R ((lived (started s) es) .store) ((lived (started s) es) .memory)
     unfolding started
     lived-rises s es = lived-pair R same (λ u v e t bs g h p. chain u v t p (rises v e t bs false g h)) (started s) es (same s)
 
@@ -87,6 +90,6 @@ module _ (R : Server → Server → Type 0) (same : (s : Server) → R s s) (cha
     left-store i e (taken t bs false g) h p = same (i .store)
 
     -- From one event to the next the store never falls.
-    pub store-rises : (s : Server) (es : List (List ℕ)) (e : List ℕ) → R ((lived (started s) es) .store) ((next (lived (started s) es) e) .store)
+    pub store-rises : (s : Server) (es : List (Option (List ℕ))) (e : List ℕ) → R ((lived (started s) es) .store) ((next (lived (started s) es) e) .store)
     unfolding next
     store-rises s es e = left-store (lived (started s) es) e (arrive (lived (started s) es) e) refl (lived-rises s es)

@@ -12,10 +12,10 @@ use Rattle.base.specs.AtLaws.{none-some}
 use Rattle.base.specs.QuantifierLaws.{Among, among-gather, gather-among, among-gather-all, among-map, among-below}
 use Rattle.format.specs.Types.{Record, action, retransmission, state, cpc, regular, transitional, request, recovery, says}
 use Rattle.replication.specs.Machine.Types.{Configuration}
-use Rattle.replication.specs.Runs.Run.{Entry, event, crash, Run, serverOf, placeAt, sentAt}
+use Rattle.replication.specs.Runs.Run.{Entry, event, crash, store, Run, serverOf, placeAt, sentAt}
 use Rattle.replication.specs.Runs.Happenings.{Message, isMessage, Configured, entry-at, sending-of, Comes, Takes, Sends, Delivers, Configures, to-regular, to-transitional}
 use Rattle.replication.specs.Audit.Witness.{Witness, sourceIn, nameIn, entryOrd, sendingOrdsAt, ordIn}
-use Rattle.replication.specs.Audit.Table.{Role, delivers, takes, transits, goes-down, comes-back, neither, roleIn, Row, rowOf, table}
+use Rattle.replication.specs.Audit.Table.{Role, delivers, takes, transits, goes-down, comes-back, saves, neither, roleIn, Row, rowOf, table}
 use Rattle.replication.specs.Audit.Clocks.{Stamps, numberOf, clockAt, stamps}
 use Rattle.replication.specs.Audit.Journal.{Sending, sendingIn, sendingsOf, Delivery, deliveryOf, deliveryBy, takingBy, transitionBy, changeBy, takingsIn, transitionsIn, changesIn, sendingsIn, deliveriesIn}
 use Rattle.replication.proofs.Verdicts.Rows.{rowAt, row-among, table-holds, table-is, row-place, row-server, row-after, row-sent, meaning, Meaning, role-of}
@@ -44,6 +44,7 @@ delivery-by (takes c) rs s x d h = none-some h
 delivery-by (transits t) rs s x d h = none-some h
 delivery-by goes-down rs s x d h = none-some h
 delivery-by comes-back rs s x d h = none-some h
+delivery-by saves rs s x d h = none-some h
 delivery-by neither rs s x d h = none-some h
 
 module _ (n q : ℕ) (l : Run) (w : Witness) where
@@ -54,11 +55,13 @@ module _ (n q : ℕ) (l : Run) (w : Witness) where
   unfolding rowAt rowOf
   row-ords p (event i e k) = refl
   row-ords p (crash i) = refl
+  row-ords p (store i) = refl
 
   pub row-source : (p : ℕ) (y : Entry) → rowAt n q l w p y .source ≡ sourceIn w p
   unfolding rowAt rowOf
   row-source p (event i e k) = refl
   row-source p (crash i) = refl
+  row-source p (store i) = refl
 
   -- ---- configurations
 

@@ -11,12 +11,13 @@ use Rattle.base.specs.Tests.{_=?_, pick, Known, holds, fails, known, eq-holds, 
 use Rattle.base.specs.Lists.{at}
 use Rattle.base.specs.AtLaws.{none-some, some-same}
 use Rattle.base.specs.QuantifierLaws.{Among, at-drop, among-filter, among-gather}
+use Rattle.format.specs.Types.{Record, action, retransmission, state, cpc, regular, transitional, request, recovery, Reading, says, refused}
 use Rattle.replication.specs.Machine.Types.{Configuration}
-use Rattle.replication.specs.Runs.Run.{Entry, event, Run, serverOf, placeAt}
-use Rattle.replication.specs.Runs.Happenings.{Configured, regularly, transitionally, Of, Crashes, Falls, by-crash, by-recovery, Takes, Left, Configures, to-regular, to-transitional, Passes}
+use Rattle.replication.specs.Runs.Run.{Entry, event, Run, serverOf, heard, placeAt}
+use Rattle.replication.specs.Runs.Happenings.{Configured, regularly, transitionally, Crashes, Falls, by-crash, by-recovery, Takes, Left, Configures, to-regular, to-transitional, Passes}
 use Rattle.replication.specs.Audit.Witness.{Witness, sourceIn, nameIn, entryOrd}
-use Rattle.replication.specs.Audit.Table.{Role, delivers, takes, transits, goes-down, comes-back, neither, roleIn, Row, rowOf, table}
-use Rattle.replication.specs.Audit.Journal.{Change, changeBy, settlesBy, settles, nextBy, nextChange, isCrash, crashesNext, hasLeft, passageTo, passageFrom, leavingsIn, passagesIn}
+use Rattle.replication.specs.Audit.Table.{Role, delivers, takes, transits, goes-down, comes-back, saves, neither, roleIn, Row, rowOf, table}
+use Rattle.replication.specs.Audit.Journal.{Change, changeBy, settlesBy, settles, nextBy, nextChange, crashesBy, crashesNext, hasLeft, passageTo, passageFrom, leavingsIn, passagesIn}
 use Rattle.replication.proofs.Verdicts.Rows.{rowAt, table-holds, table-is, row-server, Meaning, meaning, role-of}
 use Rattle.replication.proofs.Verdicts.Entries.{taking-among, change-row, change-among}
 
@@ -29,6 +30,7 @@ Steady (takes c) = Unit {0}
 Steady (transits s) = Unit {0}
 Steady goes-down = ⊥
 Steady comes-back = ⊥
+Steady saves = Unit {0}
 Steady neither = Unit {0}
 
 -- Nor does its configuration change.
@@ -38,6 +40,7 @@ Quiet (takes c) = ⊥
 Quiet (transits s) = ⊥
 Quiet goes-down = ⊥
 Quiet comes-back = ⊥
+Quiet saves = Unit {0}
 Quiet neither = Unit {0}
 
 -- P holds of each row of the server i before the place k.
@@ -49,6 +52,7 @@ unfolding settlesBy
 settles-by delivers b s h = h
 settles-by (takes c) b s h = refl
 settles-by (transits t) b s h = h
+settles-by saves b s h = h
 settles-by neither b s h = h
 
 settles-yes : (i : ℕ) (rs : List Row) (k : ℕ) (r : Row) (c : Configuration) → at rs k ≡ some r → r .server ≡ i → r .role ≡ takes c → Until Steady i rs k
@@ -68,6 +72,7 @@ settles-yes i (y ∷ rs) (suc k) r c e h t u = go (known (y .server =? i)) (sett
 next-by : (o : Role) (y : Row) (b : Option Change) → Quiet o → nextBy o y b ≡ b
 unfolding nextBy
 next-by delivers y b s = refl
+next-by saves y b s = refl
 next-by neither y b s = refl
 
 next-change-by : (o : Role) (y : Row) (b : Option Change) (d : Change) → changeBy o y ≡ some d → nextBy o y b ≡ some d
@@ -77,6 +82,7 @@ next-change-by (takes c) y b d h = h
 next-change-by (transits t) y b d h = h
 next-change-by goes-down y b d h = none-some h
 next-change-by comes-back y b d h = none-some h
+next-change-by saves y b d h = none-some h
 next-change-by neither y b d h = none-some h
 
 next-yes : (i : ℕ) (rs : List Row) (k : ℕ) (r : Row) (d : Change) → at rs k ≡ some r → r .server ≡ i → changeBy (r .role) r ≡ some d → Until Quiet i rs k
@@ -93,31 +99,79 @@ next-yes i (y ∷ rs) (suc k) r d e h t u = go (known (y .server =? i)) (next-ye
     go (holds f) s = rw f (next-by (y .role) y (nextChange i rs) (u 0 y (omega arith) refl (eq-holds (y .server) i f)) ∙ s)
     go (fails f) s = rw f s
 
-abbrev Never : Role → Type 0
-Never o = ⊥
+-- An event, no crash and no store.
+abbrev Eventful : Role → Type 0
+Eventful delivers = Unit {0}
+Eventful (takes c) = Unit {0}
+Eventful (transits s) = Unit {0}
+Eventful goes-down = ⊥
+Eventful comes-back = Unit {0}
+Eventful saves = ⊥
+Eventful neither = Unit {0}
 
-crash-says : (i : ℕ) (rs : List Row) (k : ℕ) (r : Row) → at rs k ≡ some r → r .server ≡ i → Until Never i rs k → crashesNext i rs ≡ true
-    → isCrash (r .role) ≡ true
-unfolding crashesNext at pick
-crash-says i [] k r e h u c = none-some e
-crash-says i (y ∷ rs) zero r e h u c =
+no-crash : {X : Type 0} (o : Role) (b : Bool) → Eventful o → crashesBy o b ≡ true → X
+unfolding crashesBy
+no-crash delivers b v h = not-both h
+no-crash (takes c) b v h = not-both h
+no-crash (transits t) b v h = not-both h
+no-crash comes-back b v h = not-both h
+no-crash neither b v h = not-both h
+
+-- In these rows a crash of the server i stands before the place k.
+record CrashBefore (i : ℕ) (rs : List Row) (k : ℕ) : Type 0 where
+  place : ℕ
+  row : Row
+  before : place < k
+  here : at rs place ≡ some row
+  its : row .server ≡ i
+  role : row .role ≡ goes-down
+
+one-later : (i : ℕ) (y : Row) (rs : List Row) (k : ℕ) → CrashBefore i rs k → CrashBefore i (y ∷ rs) (suc k)
+unfolding at
+one-later i y rs k c = record {
+  place = suc (c .place);
+  row = c .row;
+  before = omega (arith, c .before);
+  here = c .here;
+  its = c .its;
+  role = c .role;
+}
+
+crash-before : (i : ℕ) (rs : List Row) (k : ℕ) (r : Row) → at rs k ≡ some r → r .server ≡ i → Eventful (r .role) → crashesNext i rs ≡ true
+    → CrashBefore i rs k
+unfolding crashesNext crashesBy at pick
+crash-before i [] k r e h v c = none-some e
+crash-before i (y ∷ rs) zero r e h v c =
     let f : y ≡ r = some-same e in
     let same : (y .server =? i) ≡ true = eq-yes (y .server) i (ap (λ z. z .server) f ∙ h) in
-    subst (λ z. isCrash (z .role) ≡ true) f (rw same at c)
-crash-says i (y ∷ rs) (suc k) r e h u c = go (known (y .server =? i)) (λ d. crash-says i rs k r e h (λ x z l f g. u (suc x) z (omega arith) f g) d)
+    no-crash (r .role) (crashesNext i rs) v (subst (λ z. crashesBy (z .role) (crashesNext i rs) ≡ true) f (rw same at c))
+crash-before i (y ∷ rs) (suc k) r e h v c = go (known (y .server =? i)) (λ d. one-later i y rs k (crash-before i rs k r e h v d))
   where
-    go : Known (y .server =? i) → (crashesNext i rs ≡ true → isCrash (r .role) ≡ true) → isCrash (r .role) ≡ true
-    go (holds f) s = absurd (u 0 y (omega arith) refl (eq-holds (y .server) i f))
+    by-role : (o : Role) → y .role ≡ o → y .server ≡ i → crashesBy o (crashesNext i rs) ≡ true
+        → (crashesNext i rs ≡ true → CrashBefore i (y ∷ rs) (suc k)) → CrashBefore i (y ∷ rs) (suc k)
+    by-role goes-down g f d s = record { place = 0; row = y; before = omega arith; here = refl; its = f; role = g }
+    by-role saves g f d s = s d
+    by-role delivers g f d s = not-both d
+    by-role (takes x) g f d s = not-both d
+    by-role (transits x) g f d s = not-both d
+    by-role comes-back g f d s = not-both d
+    by-role neither g f d s = not-both d
+
+    go : Known (y .server =? i) → (crashesNext i rs ≡ true → CrashBefore i (y ∷ rs) (suc k)) → CrashBefore i (y ∷ rs) (suc k)
+    go (holds f) s = by-role (y .role) refl (eq-holds (y .server) i f) (rw f at c) s
     go (fails f) s = s (rw f at c)
 
-is-crash : (o : Role) → isCrash o ≡ true → o ≡ goes-down
-unfolding isCrash
-is-crash delivers h = not-both h
-is-crash (takes c) h = not-both h
-is-crash (transits t) h = not-both h
-is-crash goes-down h = refl
-is-crash comes-back h = not-both h
-is-crash neither h = not-both h
+eventful-role : (o : Reading Record) → Eventful (roleIn o)
+unfolding roleIn
+eventful-role (says (action a)) = tt
+eventful-role (says (retransmission k p a)) = tt
+eventful-role (says (state x)) = tt
+eventful-role (says (cpc k i)) = tt
+eventful-role (says (regular i s)) = tt
+eventful-role (says (transitional s)) = tt
+eventful-role (says (request p)) = tt
+eventful-role (says recovery) = tt
+eventful-role (refused k) = tt
 
 -- ---- the table
 
@@ -131,6 +185,7 @@ module _ (n q : ℕ) (l : Run) (w : Witness) where
   steady-role p i (transits s) m f = tt
   steady-role p i goes-down m f = f (by-crash m)
   steady-role p i comes-back m f = f (by-recovery m)
+  steady-role p i saves m f = tt
   steady-role p i neither m f = tt
 
   quiet-role : (p i : ℕ) (o : Role) → Meaning n q l w p i o → (Falls n q l p i → ⊥)
@@ -140,6 +195,7 @@ module _ (n q : ℕ) (l : Run) (w : Witness) where
   quiet-role p i (transits s) m f g = g (transitionally (nameIn w p)) (to-transitional s m)
   quiet-role p i goes-down m f g = f (by-crash m)
   quiet-role p i comes-back m f g = f (by-recovery m)
+  quiet-role p i saves m f g = tt
   quiet-role p i neither m f g = tt
 
   -- What holds of a server's entries between p and r holds of its rows.
@@ -188,12 +244,16 @@ module _ (n q : ℕ) (l : Run) (w : Witness) where
       quiet-role x i (rowAt n q l w x z .role) (subst (λ j. Meaning n q l w x j (rowAt n q l w x z .role)) s (meaning n q l w x z e)) (f .steady x u v)
       (λ k. f .direct x k u v)))))
 
-  -- The next entry of a server whose last event was cut is a crash.
-  pub crash-next : (i p r : ℕ) → p < r → Of l r i → ((x : ℕ) → p < x → x < r → Of l x i → ⊥) → crashesNext i (drop (suc p) rows) ≡ true → Crashes l r i
-  crash-next i p r less o none-between h =
-      let y : Entry = o .entry in
-      let role : rowAt n q l w r y .role ≡ goes-down =
-      is-crash (rowAt n q l w r y .role)
-      (crash-says i (drop (suc p) rows) (r - suc p) (rowAt n q l w r y) (later-row p r y less (o .here)) (row-server n q l w r y ∙ o .its)
-      (until-next Never i p r (λ x z a b e s. none-between x a b (record { entry = z; here = e; its = s }))) h) in
-      subst (λ j. Crashes l r j) (o .its) (subst (Meaning n q l w r (serverOf y)) role (meaning n q l w r y (o .here)))
+  -- Before the next event of a server whose last one was cut lies a crash.
+  pub crash-between : (i p r m : ℕ) (f : List ℕ) → p < r → at l r ≡ some (event i f m) → crashesNext i (drop (suc p) rows) ≡ true
+      → (x : ℕ) × Crashes l x i × (p < x) × (x < r)
+  unfolding rowAt rowOf serverOf
+  crash-between i p r m f less h c =
+      let y : Entry = event i f m in
+      let b = crash-before i (drop (suc p) rows) (r - suc p) (rowAt n q l w r y) (later-row p r y less h) refl (eventful-role (heard n q i (placeAt n q l i r) f)) c in
+      let x : ℕ = suc p + b .place in
+      let t = table-is n q l w x (b .row) (sym (at-drop (suc p) rows (b .place)) ∙ b .here) in
+      let role : rowAt n q l w x (t .0) .role ≡ goes-down = ap (λ z. z .role) (sym (t .2)) ∙ b .role in
+      let its : serverOf (t .0) ≡ i = sym (row-server n q l w x (t .0)) ∙ ap (λ z. z .server) (sym (t .2)) ∙ b .its in
+      let crash : Crashes l x i = subst (λ j. Crashes l x j) its (subst (Meaning n q l w x (serverOf (t .0))) role (meaning n q l w x (t .0) (t .1))) in
+      (x, crash, omega arith, omega (arith, b .before))

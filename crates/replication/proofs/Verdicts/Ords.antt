@@ -12,7 +12,7 @@ use Rattle.base.specs.Tests.{_=?_, _<?_, and-holds, eq-yes, eq-holds, lt-holds}
 use Rattle.base.specs.Lists.{all, at}
 use Rattle.base.specs.Quantifiers.{pairs}
 use Rattle.base.specs.QuantifierLaws.{implied, all-at, all-among, pairs-at}
-use Rattle.replication.specs.Runs.Run.{Entry, event, crash, Run, sentBy, sentAt}
+use Rattle.replication.specs.Runs.Run.{Entry, event, crash, store, Run, sentBy, sentAt}
 use Rattle.replication.specs.Runs.Happenings.{Message, Configured, Happening, entry-at, sending-of, Of, Delivers, Configures, Causes, in-turn, sends, in-order, before-next, carries, through, Precedes, causes, after-all, before-all, along}
 use Rattle.replication.specs.Audit.Witness.{Witness, sourceIn, nameIn, entryOrd, sendingOrdsAt, ordIn}
 use Rattle.replication.specs.Audit.Table.{Row, rowOf, table}
@@ -66,6 +66,7 @@ module _ (n q : ℕ) (l : Run) (w : Witness) where
   unfolding rowAt rowOf
   row-ord p (event i e k) = refl
   row-ord p (crash i) = refl
+  row-ord p (store i) = refl
 
   module _ (real : (p i : ℕ) (m : Message) → Delivers n q l (sourceIn w) (nameIn w) p i m → m .number < length (sentAt n q l (m .sending)))
       (own : all ownSendings rows ≡ true) (turns : pairs inTurn rows ≡ true) (ends : all (λ d. d .sending .ord <? d .ord) (deliveriesIn rows (stamps rows)) ≡ true) where

@@ -13,11 +13,11 @@ use Rattle.base.specs.Lists.{at, upd}
 use Rattle.base.specs.AtLaws.{none-some, some-same}
 use Rattle.base.specs.QuantifierLaws.{Among}
 use Rattle.format.specs.Types.{Record, action, retransmission, state, cpc, regular, transitional, request, recovery, Reading, says, refused}
-use Rattle.replication.specs.Runs.Run.{Entry, event, crash, Run, serverOf, World, beginning, worldAfter, worldThrough, Place, nowhere, heard, placeAfter, placeThrough, worldAt, placeAt, heardAt, putOut, sentAt}
+use Rattle.replication.specs.Runs.Run.{Entry, event, crash, store, Run, serverOf, World, beginning, worldAfter, worldThrough, Place, nowhere, heard, placeAfter, placeThrough, worldAt, placeAt, heardAt, putOut, sentAt}
 use Rattle.replication.specs.Runs.Happenings.{isMessage, Crashes, Comes, Takes}
 use Rattle.replication.specs.Audit.Witness.{Witness}
-use Rattle.replication.proofs.Runs.Places.{place-next, put-out-at, sent-at, sent-by-crash}
-use Rattle.replication.specs.Audit.Table.{Role, delivers, takes, transits, goes-down, comes-back, neither, roleIn, Row, rowOf, rowsFrom, table}
+use Rattle.replication.proofs.Runs.Places.{sent-by-store, place-next, put-out-at, sent-at, sent-by-crash}
+use Rattle.replication.specs.Audit.Table.{Role, delivers, takes, transits, goes-down, comes-back, saves, neither, roleIn, Row, rowOf, rowsFrom, table}
 
 -- ---- the walk
 
@@ -26,6 +26,7 @@ place-kept : (n q i : ℕ) (c : Place) (y : Entry) → (i ≡ serverOf y → ⊥
 unfolding placeAfter serverOf pick
 place-kept n q i c (event j e k) h = rw (eq-no j i (λ f. h (sym f)))
 place-kept n q i c (crash j) h = rw (eq-no j i (λ f. h (sym f)))
+place-kept n q i c (store j) h = refl
 
 places-next : (n q : ℕ) (c : ℕ → Place) (y : Entry) (i : ℕ)
     → upd c (serverOf y) (placeAfter n q (serverOf y) (c (serverOf y)) y) i ≡ placeAfter n q i (c i) y
@@ -83,26 +84,31 @@ module _ (n q : ℕ) (l : Run) (w : Witness) where
   unfolding rowAt rowOf
   row-place p (event i e k) = refl
   row-place p (crash i) = refl
+  row-place p (store i) = refl
 
   pub row-server : (p : ℕ) (y : Entry) → rowAt p y .server ≡ serverOf y
   unfolding rowAt rowOf serverOf
   row-server p (event i e k) = refl
   row-server p (crash i) = refl
+  row-server p (store i) = refl
 
   pub row-before : (p : ℕ) (y : Entry) → rowAt p y .before ≡ placeAt n q l (serverOf y) p
   unfolding rowAt rowOf serverOf
   row-before p (event i e k) = refl
   row-before p (crash i) = refl
+  row-before p (store i) = refl
 
   pub row-after : (p : ℕ) (y : Entry) → at l p ≡ some y → rowAt p y .after ≡ placeAt n q l (serverOf y) (suc p)
   unfolding rowAt rowOf serverOf
   row-after p (event i e k) h = sym (place-next n q l i p (event i e k) h)
   row-after p (crash i) h = sym (place-next n q l i p (crash i) h)
+  row-after p (store i) h = sym (place-next n q l i p (store i) h)
 
   pub row-sent : (p : ℕ) (y : Entry) → at l p ≡ some y → rowAt p y .sent ≡ sentAt n q l p
   unfolding rowAt rowOf
   row-sent p (event i e k) h = sym (sent-at n q l p i k e h ∙ ap (take k) (put-out-at n q l p i k e h))
   row-sent p (crash i) h = sym (sent-by-crash n q l p i h)
+  row-sent p (store i) h = sym (sent-by-store n q l p i h)
 
   -- A row whose records were not all sent.
   pub row-cut : (p i k : ℕ) (e : List ℕ) → at l p ≡ some (event i e k) → k < length (putOut n q l p) → rowAt p (event i e k) .cut ≡ true
@@ -118,11 +124,13 @@ module _ (n q : ℕ) (l : Run) (w : Witness) where
   Meaning p i (transits s) = Comes n q l p i (transitional s)
   Meaning p i goes-down = Crashes l p i
   Meaning p i comes-back = Comes n q l p i recovery
+  Meaning p i saves = at l p ≡ some (store i)
   Meaning p i neither = Unit {0}
 
   pub meaning : (p : ℕ) (y : Entry) → at l p ≡ some y → Meaning p (serverOf y) (rowAt p y .role)
   unfolding rowAt rowOf serverOf heardAt roleIn isMessage
   meaning p (crash i) h = h
+  meaning p (store i) h = h
   meaning p (event i e k) h = go (heard n q i (placeAt n q l i p) e) refl
     where
       comes : (r : Record) → heard n q i (placeAt n q l i p) e ≡ says r → Comes n q l p i r

@@ -2,7 +2,7 @@
 -- Assumes nothing.
 use Prim.Native.Nat.{ℕ, suc, _<_}
 use mathlib.Core.Path.{_≡_, refl, sym, ap, subst, subst₂, _∙_}
-use mathlib.Core.Bool.{true, false, not}
+use mathlib.Core.Bool.{true, false, not, Bool}
 use mathlib.Core.List.{List}
 use mathlib.Core.Option.{Option, none, some}
 use native.Mathlib.Omega.{arith}
@@ -16,17 +16,17 @@ use Rattle.base.specs.QuantifierLaws.{implied, all-among, each-two}
 use Rattle.base.specs.Deciding.{decided, lists-decided, options-decided}
 use Rattle.format.specs.Types.{Record, transitional, recovery}
 use Rattle.replication.specs.Machine.Types.{Configuration}
-use Rattle.replication.specs.Runs.Run.{Entry, event, crash, Run, serverOf, worldAt, placeAt, putOut, sentAt}
+use Rattle.replication.specs.Runs.Run.{Entry, event, crash, store, Run, serverOf, worldAt, placeAt, putOut, sentAt}
 use Rattle.replication.specs.Runs.Happenings.{Message, isMessage, Of, Crashes, Comes, Takes, Delivers}
 use Rattle.replication.specs.Audit.Witness.{Witness, sourceIn, nameIn}
-use Rattle.replication.specs.Audit.Table.{Role, delivers, takes, transits, goes-down, comes-back, neither, Row, rowOf, table}
+use Rattle.replication.specs.Audit.Table.{Role, delivers, takes, transits, goes-down, comes-back, saves, neither, Row, rowOf, table}
 use Rattle.replication.specs.Audit.Clocks.{stamps}
 use Rattle.replication.specs.Audit.Journal.{Delivery, Taking, Transition, Journal, crashesNext, sendingIn, sorted, journalOf}
-use Rattle.replication.specs.Audit.Rules.{servers, one-set, once, between, one-transitional, genuine, cut-by-crash, bringsBack, recovers}
+use Rattle.replication.specs.Audit.Rules.{servers, one-set, once, between, one-transitional, genuine, cut-by-crash, bringsBack, recovers, isStore, stores-up}
 use Rattle.replication.proofs.Verdicts.Sameness.{configurations-decided}
 use Rattle.replication.proofs.Verdicts.Rows.{rowAt, row-among, table-is, row-server, row-cut, Meaning, meaning}
 use Rattle.replication.proofs.Verdicts.Entries.{taking-among, transition-among, sendingAt, Delivering, delivering, delivered-message, delivered-sending}
-use Rattle.replication.proofs.Verdicts.Later.{crash-next}
+use Rattle.replication.proofs.Verdicts.Later.{crash-between}
 
 there-is : {A : Type 0} (o : Option A) → isThere o ≡ true → o ≡ none → ⊥
 unfolding isThere
@@ -127,12 +127,12 @@ module _ (n q : ℕ) (l : Run) (w : Witness) where
       let bytes : c .bytes ≡ e = cc in
       (g .earlier, g .sent ∙ ap some bytes)
 
-  pub cut-by-crash-holds : cut-by-crash J ≡ true → (p r i k : ℕ) (e : List ℕ) → at l p ≡ some (event i e k) → k < length (putOut n q l p) → p < r → Of l r i
-      → ((x : ℕ) → p < x → x < r → Of l x i → ⊥) → Crashes l r i
+  pub cut-by-crash-holds : cut-by-crash J ≡ true → (p r i k m : ℕ) (e f : List ℕ) → at l p ≡ some (event i e k) → k < length (putOut n q l p) → p < r
+      → at l r ≡ some (event i f m) → (x : ℕ) × Crashes l x i × (p < x) × (x < r)
   unfolding cut-by-crash journalOf sorted rowAt rowOf
-  cut-by-crash-holds h p r i k e here cut less o between =
+  cut-by-crash-holds h p r i k m e f here cut less next =
       let test = all-among (λ (z : Row). z .cut implies crashesNext (z .server) (drop (suc (z .place)) (table n q l w))) (row-among n q l w p (event i e k) here) h in
-      crash-next n q l w i p r less o between (implied _ _ test (row-cut n q l w p i k e here cut))
+      crash-between n q l w i p r m f less next (implied _ _ test (row-cut n q l w p i k e here cut))
 
   pub recovers-holds : recovers J ≡ true → (p i k : ℕ) (e : List ℕ) → at l p ≡ some (event i e k) → worldAt n q l p .down i ≡ true → Comes n q l p i recovery
   unfolding recovers journalOf sorted rowAt rowOf serverOf bringsBack
@@ -149,4 +149,14 @@ module _ (n q : ℕ) (l : Run) (w : Witness) where
           let z : _≡_ {A = ℕ} 0 1 = cc in
           absurd (omega arith)
       go comes-back m b = m
+      go saves m b =
+          let same : _≡_ {A = Option Entry} (some (event i e k)) (some (store i)) = sym here ∙ m in
+          let z : _≡_ {A = ℕ} 0 1 = cc in
+          absurd (omega arith)
       go neither m b = not-both b
+
+  pub stores-up-holds : stores-up J ≡ true → (p i : ℕ) → at l p ≡ some (store i) → worldAt n q l p .down i ≡ false
+  unfolding stores-up journalOf sorted rowAt rowOf serverOf isStore
+  stores-up-holds h p i here =
+      let test = all-among (λ (z : Row). isStore (z .role) implies not (z .down)) (row-among n q l w p (store i) here) h in
+      not-holds _ (implied _ _ test refl)

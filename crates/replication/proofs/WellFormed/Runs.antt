@@ -4,7 +4,7 @@ use Prim.Native.Nat.{ℕ, _<_}
 use mathlib.Core.Path.{_≡_, sym, ap}
 use mathlib.Core.Bool.{true}
 use mathlib.Core.List.{List, map}
-use mathlib.Core.Option.{none, Option·none-ne-some}
+use mathlib.Core.Option.{Option, none, Option·none-ne-some}
 use native.Mathlib.Omega.{arith}
 use lib.ListN.{length-replicate}
 use Rattle.base.specs.Tests.{both-yes, lt-yes}
@@ -85,18 +85,18 @@ module _ (n q i : ℕ) (sizes : sizesOk n q ≡ true) (own : i < n) where
 
   -- ---- after any events
 
-  pub lived-invariant : (es : List (List ℕ)) → OfBoth Invariant (lived (started (start n q i)) es)
+  pub lived-invariant : (es : List (Option (List ℕ))) → OfBoth Invariant (lived (started (start n q i)) es)
   unfolding started
   lived-invariant es =
       lived-each Invariant (λ s e t bs b g h v. step-invariant s e t bs b g v h) (started (start n q i)) es
       (record { memory = start-invariant; store = start-invariant })
 
-  pub lived-well-formed : (es : List (List ℕ)) → OfBoth (λ s. wellFormed s ≡ true) (lived (started (start n q i)) es)
+  pub lived-well-formed : (es : List (Option (List ℕ))) → OfBoth (λ s. wellFormed s ≡ true) (lived (started (start n q i)) es)
   lived-well-formed es =
       let v = lived-invariant es in
       record { memory = facts-well-formed _ (v .memory .well-formed); store = facts-well-formed _ (v .store .well-formed) }
 
-  pub colour-facts : (es : List (List ℕ)) → OfBoth ColourFactsOf (lived (started (start n q i)) es)
+  pub colour-facts : (es : List (Option (List ℕ))) → OfBoth ColourFactsOf (lived (started (start n q i)) es)
   unfolding start started
   colour-facts es =
       let both = lived-each (λ s. (wellFormed s ≡ true) × ColourFactsOf s)
@@ -105,7 +105,7 @@ module _ (n q i : ℕ) (sizes : sizesOk n q ≡ true) (own : i < n) where
       record { memory = both .memory .1; store = both .store .1 }
 
   -- With one more event no vote falls, in memory or in the store, if the own State that the event brings is true.
-  pub lived-votes-rise : (es : List (List ℕ)) (e : List ℕ) → OwnStateTrueAt (sourceOf (lived (started (start n q i)) es) e) e
+  pub lived-votes-rise : (es : List (Option (List ℕ))) (e : List ℕ) → OwnStateTrueAt (sourceOf (lived (started (start n q i)) es) e) e
       → AtMost ((lived (started (start n q i)) es) .memory .votes) ((next (lived (started (start n q i)) es) e) .memory .votes)
       × AtMost ((lived (started (start n q i)) es) .store .votes) ((next (lived (started (start n q i)) es) e) .store .votes)
   lived-votes-rise es e own =

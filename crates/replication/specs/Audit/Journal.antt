@@ -12,7 +12,7 @@ use Rattle.replication.specs.Machine.Types.{Configuration}
 use Rattle.replication.specs.Machine.Step.{theId}
 use Rattle.replication.specs.Runs.Run.{Place}
 use Rattle.replication.specs.Runs.Happenings.{Message, Configured, regularly, transitionally}
-use Rattle.replication.specs.Audit.Table.{Role, delivers, takes, transits, goes-down, comes-back, neither, Row}
+use Rattle.replication.specs.Audit.Table.{Role, delivers, takes, transits, goes-down, comes-back, saves, neither, Row}
 use Rattle.replication.specs.Audit.Clocks.{Stamps, numberOf, clockAt, stamps}
 
 -- ---- messages
@@ -67,6 +67,7 @@ deliveryBy (takes c) rs s r = none
 deliveryBy (transits t) rs s r = none
 deliveryBy goes-down rs s r = none
 deliveryBy comes-back rs s r = none
+deliveryBy saves rs s r = none
 deliveryBy neither rs s r = none
 
 -- ---- configurations
@@ -83,6 +84,7 @@ takingBy (takes c) r = some (record { place = r .place; server = r .server; befo
 takingBy (transits t) r = none
 takingBy goes-down r = none
 takingBy comes-back r = none
+takingBy saves r = none
 takingBy neither r = none
 
 -- A transitional configuration that comes.
@@ -99,6 +101,7 @@ transitionBy (takes c) r = none
 transitionBy (transits t) r = some (record { place = r .place; server = r .server; before = r .before; set = t; name = r .name })
 transitionBy goes-down r = none
 transitionBy comes-back r = none
+transitionBy saves r = none
 transitionBy neither r = none
 
 -- A configuration that comes, regular or transitional.
@@ -114,6 +117,7 @@ changeBy (takes c) r = some (record { place = r .place; server = r .server; ord 
 changeBy (transits t) r = some (record { place = r .place; server = r .server; ord = r .ord; to = transitionally (r .name) })
 changeBy goes-down r = none
 changeBy comes-back r = none
+changeBy saves r = none
 changeBy neither r = none
 
 -- ---- what comes later at the same server
@@ -125,6 +129,7 @@ settlesBy (takes c) later = true
 settlesBy (transits t) later = later
 settlesBy goes-down later = false
 settlesBy comes-back later = false
+settlesBy saves later = later
 settlesBy neither later = later
 
 unfoldable pub settles : ℕ → List Row → Bool
@@ -138,24 +143,26 @@ nextBy (takes c) r later = changeBy (takes c) r
 nextBy (transits t) r later = changeBy (transits t) r
 nextBy goes-down r later = none
 nextBy comes-back r later = none
+nextBy saves r later = later
 nextBy neither r later = later
 
 unfoldable pub nextChange : ℕ → List Row → Option Change
 nextChange i [] = none
 nextChange i (r ∷ rs) = pick (r .server =? i) (nextBy (r .role) r (nextChange i rs)) (nextChange i rs)
 
--- The first row of the server i, if any, is a crash.
-unfoldable pub isCrash : Role → Bool
-isCrash delivers = false
-isCrash (takes c) = false
-isCrash (transits t) = false
-isCrash goes-down = true
-isCrash comes-back = false
-isCrash neither = false
+-- In these rows the server i's next event or crash, if any, is a crash.
+unfoldable pub crashesBy : Role → Bool → Bool
+crashesBy delivers later = false
+crashesBy (takes c) later = false
+crashesBy (transits t) later = false
+crashesBy goes-down later = true
+crashesBy comes-back later = false
+crashesBy saves later = later
+crashesBy neither later = false
 
 unfoldable pub crashesNext : ℕ → List Row → Bool
 crashesNext i [] = true
-crashesNext i (r ∷ rs) = pick (r .server =? i) (isCrash (r .role)) (crashesNext i rs)
+crashesNext i (r ∷ rs) = pick (r .server =? i) (crashesBy (r .role) (crashesNext i rs)) (crashesNext i rs)
 
 unfoldable pub hasLeft : List Row → Taking → Bool
 hasLeft rs t = settles (t .server) (drop (suc (t .place)) rs)

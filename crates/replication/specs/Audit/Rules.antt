@@ -9,7 +9,7 @@ use Rattle.base.specs.Lists.{all, isThere, same}
 use Rattle.base.specs.Quantifiers.{_implies_, pairs, sameOption}
 use Rattle.format.specs.Range.{sizesOk}
 use Rattle.replication.specs.Audit.Same.{sameConfiguration}
-use Rattle.replication.specs.Audit.Table.{Role, delivers, takes, transits, goes-down, comes-back, neither}
+use Rattle.replication.specs.Audit.Table.{Role, delivers, takes, transits, goes-down, comes-back, saves, neither}
 use Rattle.replication.specs.Audit.Journal.{Journal, crashesNext}
 
 -- "All servers begin at the start, with one n and one q, each under its own number"
@@ -43,15 +43,29 @@ genuine j = all (λ d. d .sending .message .sending <? d .place and sameOption s
 unfoldable pub cut-by-crash : Journal → Bool
 cut-by-crash j = all (λ r. r .cut implies crashesNext (r .server) (drop (suc (r .place)) (j .rows))) (j .rows)
 
--- A recovery, or one more crash.
+-- A recovery, or one more crash; of a store `stores-up` judges.
 unfoldable pub bringsBack : Role → Bool
 bringsBack delivers = false
 bringsBack (takes c) = false
 bringsBack (transits t) = false
 bringsBack goes-down = true
 bringsBack comes-back = true
+bringsBack saves = true
 bringsBack neither = false
 
 -- "that server's next event is then recovery, from its store."
 unfoldable pub recovers : Journal → Bool
 recovers j = all (λ r. r .down implies bringsBack (r .role)) (j .rows)
+
+unfoldable pub isStore : Role → Bool
+isStore delivers = false
+isStore (takes c) = false
+isStore (transits t) = false
+isStore goes-down = false
+isStore comes-back = false
+isStore saves = true
+isStore neither = false
+
+-- A store comes to a server that is up.
+unfoldable pub stores-up : Journal → Bool
+stores-up j = all (λ r. isStore (r .role) implies not (r .down)) (j .rows)

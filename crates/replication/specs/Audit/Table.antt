@@ -9,18 +9,19 @@ use Rattle.base.specs.Lists.{upd}
 use Rattle.format.specs.Types.{Record, action, retransmission, state, cpc, regular, transitional, request, recovery, Reading, says, refused}
 use Rattle.replication.specs.Machine.Types.{Configuration}
 use Rattle.replication.specs.Images.{arrive}
-use Rattle.replication.specs.Runs.Run.{Entry, event, crash, Run, serverOf, World, beginning, worldAfter, Place, nowhere, heard, placeAfter, recordsOf}
+use Rattle.replication.specs.Runs.Run.{Entry, event, crash, store, Run, serverOf, World, beginning, worldAfter, Place, nowhere, heard, placeAfter, recordsOf}
 use Rattle.replication.specs.Runs.Happenings.{Message}
 use Rattle.replication.specs.Audit.Witness.{Witness, sourceIn, nameIn, entryOrd, sendingOrdsAt}
 
 -- What an entry is, in the thesis's terms: the delivery of a message, or of a configuration (regular; transitional, with its set), a crash, a
--- recovery, or none of these (a request, or bytes that do not read).
+-- recovery, a store between events, or none of these (a request, or bytes that do not read).
 pub data Role : Type 0 where
   delivers : Role
   takes : Configuration → Role
   transits : (set : ℕ) → Role
   goes-down : Role
   comes-back : Role
+  saves : Role
   neither : Role
 
 unfoldable pub roleIn : Reading Record → Role
@@ -51,6 +52,24 @@ pub record Row : Type 0 where
   pub ord : ℕ
   pub sendingOrds : List ℕ
 
+-- The row of an entry at p that brings no bytes and sends nothing.
+abbrev pub bareRow : Witness → (p i : ℕ) → Role → World → (before after : Place) → Row
+bareRow w p i o x c d = record {
+  place = p;
+  server = i;
+  role = o;
+  bytes = [];
+  before = c;
+  after = d;
+  down = x .down i;
+  cut = false;
+  sent = [];
+  source = sourceIn w p;
+  name = nameIn w p;
+  ord = entryOrd w p;
+  sendingOrds = sendingOrdsAt w p;
+}
+
 -- The row of an entry at p, in the world there, its server being in c.
 unfoldable pub rowOf : (n q : ℕ) → Witness → (p : ℕ) → World → Place → Entry → Row
 rowOf n q w p x c (event i e k) = record {
@@ -68,21 +87,8 @@ rowOf n q w p x c (event i e k) = record {
   ord = entryOrd w p;
   sendingOrds = sendingOrdsAt w p;
 }
-rowOf n q w p x c (crash i) = record {
-  place = p;
-  server = i;
-  role = goes-down;
-  bytes = [];
-  before = c;
-  after = placeAfter n q i c (crash i);
-  down = x .down i;
-  cut = false;
-  sent = [];
-  source = sourceIn w p;
-  name = nameIn w p;
-  ord = entryOrd w p;
-  sendingOrds = sendingOrdsAt w p;
-}
+rowOf n q w p x c (crash i) = bareRow w p i goes-down x c (placeAfter n q i c (crash i))
+rowOf n q w p x c (store i) = bareRow w p i saves x c (placeAfter n q i c (store i))
 
 -- The rows from the place p on, from the world and the servers' configurations there.
 unfoldable pub rowsFrom : (n q : ℕ) → Witness → (p : ℕ) → World → (ℕ → Place) → Run → List Row

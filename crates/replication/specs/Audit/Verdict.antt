@@ -1,4 +1,4 @@
--- An audit of recorded runs: whether a run is allowed, with what it chose given as a witness. `audit-sound` (proofs/Audit/Sound) says that a run
+-- An audit of recorded runs: whether a run is allowed, with what it chose given as a witness. `audit-sound` (proofs/Verdicts/Sound) says that a run
 -- that passes is allowed.
 -- Assumes nothing.
 use Prim.Native.Nat.{ℕ}
@@ -10,7 +10,7 @@ use Rattle.replication.specs.Runs.Run.{Run}
 use Rattle.replication.specs.Audit.Witness.{Witness}
 use Rattle.replication.specs.Audit.Table.{table}
 use Rattle.replication.specs.Audit.Journal.{Journal, journalOf}
-use Rattle.replication.specs.Audit.Rules.{sizes, servers, one-set, once, between, one-transitional, genuine, cut-by-crash, recovers}
+use Rattle.replication.specs.Audit.Rules.{sizes, servers, one-set, once, between, one-transitional, genuine, cut-by-crash, recovers, stores-up}
 use Rattle.replication.specs.Audit.Specifications.{same-configuration, one-delivery, one-name, self-delivery, atomic, causal, rises, same-moment, same-message, one-order, agreed, safe}
 
 pub record Test : Type 0 where
@@ -32,6 +32,7 @@ testsOf n q j =
     ∷ test "genuine" (genuine j)
     ∷ test "cut-by-crash" (cut-by-crash j)
     ∷ test "recovers" (recovers j)
+    ∷ test "stores-up" (stores-up j)
     ∷ test "same-configuration" (same-configuration j)
     ∷ test "one-delivery" (one-delivery j)
     ∷ test "one-name" (one-name j)

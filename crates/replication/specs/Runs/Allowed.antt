@@ -12,7 +12,7 @@ use Rattle.base.specs.Sets.{inSet}
 use Rattle.format.specs.Range.{sizesOk}
 use Rattle.format.specs.Types.{Record, transitional, recovery}
 use Rattle.replication.specs.Machine.Types.{Configuration}
-use Rattle.replication.specs.Runs.Run.{Entry, event, Run, worldAt, placeAt, members, putOut, sentAt}
+use Rattle.replication.specs.Runs.Run.{Entry, event, store, Run, worldAt, placeAt, members, putOut, sentAt}
 use Rattle.replication.specs.Runs.Happenings.{Message, isMessage, Configured, Happening, entry-at, sending-of, Of, Crashes, Comes, Falls, Takes, Left, Sends, Delivers, Delivered, Configures, Passes, Causes, Precedes}
 
 pub record Allowed (n q : ℕ) (l : Run) : Type 0 where
@@ -39,11 +39,14 @@ pub record Allowed (n q : ℕ) (l : Run) : Type 0 where
   -- "every record delivered was written by a server's engine and sent by that server"
   pub genuine : (p i k : ℕ) (e : List ℕ) (r : Record) → at l p ≡ some (event i e k) → Comes n q l p i r → isMessage r ≡ true
       → (source p .sending < p) × (at (sentAt n q l (source p .sending)) (source p .number) ≡ some e)
-  -- "A crash may fall before an event, or after it and its store, if any, with none or only the first few of its records sent"
-  pub cut-by-crash : (p r i k : ℕ) (e : List ℕ) → at l p ≡ some (event i e k) → k < length (putOut n q l p) → p < r → Of l r i
-      → ((x : ℕ) → p < x → x < r → Of l x i → ⊥) → Crashes l r i
+  -- "A crash may fall before an event, or after it and its store, if any, with none or only the first few of its records sent": the crash comes
+  -- before the server's next event.
+  pub cut-by-crash : (p r i k m : ℕ) (e f : List ℕ) → at l p ≡ some (event i e k) → k < length (putOut n q l p) → p < r → at l r ≡ some (event i f m)
+      → (x : ℕ) × Crashes l x i × (p < x) × (x < r)
   -- "that server's next event is then recovery, from its store."
   pub recovers : (p i k : ℕ) (e : List ℕ) → at l p ≡ some (event i e k) → worldAt n q l p .down i ≡ true → Comes n q l p i recovery
+  -- A store comes to a server that is up.
+  pub stores-up : (p i : ℕ) → at l p ≡ some (store i) → worldAt n q l p .down i ≡ false
   -- ---- Specification 1: 1.1 follows from 6.1; 1.2 is `Causes`; that sendings are in regular configurations (1.4) is proved
 
   -- "1.3 If there exists deliver_p(m, c), then there exists send_q(m, reg(c))": which precedes it by `genuine` and `Causes`. With 2.2: a delivery

@@ -1,6 +1,6 @@
--- Demand 3: what is claimed of every allowed run, at the beginning and after each event or crash.
+-- Demand 3: what is claimed of every allowed run, stray events included, at the beginning and after each event, crash or store.
 -- Assumes nothing.
-use Prim.Native.Nat.{ℕ, suc, _<_}
+use Prim.Native.Nat.{ℕ, _≤_, _<_}
 use mathlib.Core.Path.{_≡_}
 use mathlib.Core.Bool.{Bool, true, false}
 use mathlib.Core.List.{List}
@@ -16,7 +16,7 @@ use Rattle.replication.specs.Machine.Rules.{ruleFor}
 use Rattle.replication.specs.Machine.Step.{installs}
 use Rattle.replication.specs.Images.{Images, arrive, sourceOf}
 use Rattle.replication.specs.Runs.Run.{Entry, event, Run, worldAt}
-use Rattle.replication.specs.Runs.Allowed.{Allowed}
+use Rattle.replication.specs.Runs.Strays.{AllowedWithStrays}
 
 -- "equal exactly when equally long, else the shorter begins the longer"
 pub record ListsAgree (x y : List Action) : Type 0 where
@@ -29,9 +29,16 @@ abbrev pub PrimariesAgree : Primary → Primary → Type 0
 PrimariesAgree a b = a ≡ b ↔ a .index ≡ b .index
 
 module _ (n q : ℕ) (l : Run) where
-  -- The green list of the server i at the moment p: from memory, or from the store while it is down.
+  -- The green list in the store of the server i at the moment p, and in its memory.
+  unfoldable pub storedGreen : ℕ → ℕ → List Action
+  storedGreen p i = worldAt n q l p .images i .store .log .green
+
+  unfoldable pub memoryGreen : ℕ → ℕ → List Action
+  memoryGreen p i = worldAt n q l p .images i .memory .log .green
+
+  -- The green list of a server: from memory, or from the store while it is down.
   unfoldable pub greenAt : ℕ → ℕ → List Action
-  greenAt p i = pick (worldAt n q l p .down i) (worldAt n q l p .images i .store .log .green) (worldAt n q l p .images i .memory .log .green)
+  greenAt p i = pick (worldAt n q l p .down i) (storedGreen p i) (memoryGreen p i)
 
   -- "Primary components are the start's and each Install's (index, attempt, set)."
   pub data IsPrimary : Primary → Type 0 where
@@ -44,21 +51,20 @@ module _ (n q : ℕ) (l : Run) where
     pub green : (p i j : ℕ) → i < n → j < n → ListsAgree (greenAt p i) (greenAt p j)
     pub primary : (a b : Primary) → IsPrimary a → IsPrimary b → PrimariesAgree a b
 
-  -- "Stored green lists agree likewise at different moments"
-  abbrev pub StoredAgree : Type 0
-  StoredAgree =
-      (p r i j : ℕ) → i < n → j < n
-      → ListsAgree (worldAt n q l p .images i .store .log .green) (worldAt n q l r .images j .store .log .green)
+  pub record Consequences : Type 0 where
+    -- "Stored green lists agree likewise at different moments"
+    pub stored : (p r i j : ℕ) → i < n → j < n → ListsAgree (storedGreen p i) (storedGreen r j)
+    -- What is green in a store keeps its place: it agrees with what is green later in the memory of any server that is up ..
+    pub later : (p r i j : ℕ) → p ≤ r → i < n → j < n → worldAt n q l r .down j ≡ false → ListsAgree (storedGreen p i) (memoryGreen r j)
+    -- .. and the store never loses it.
+    pub kept : (p r i : ℕ) → p ≤ r → i < n → Begins (storedGreen p i) (storedGreen r i)
+    -- Every last primary known anywhere, in memory or store, is one of the primary components.
+    pub known : (p i : ℕ) → i < n → IsPrimary (worldAt n q l p .images i .memory .votes .last) × IsPrimary (worldAt n q l p .images i .store .votes .last)
 
-  -- Every last primary known anywhere, in memory or store, is one of the primary components.
-  abbrev pub KnownPrimaries : Type 0
-  KnownPrimaries =
-      (p i : ℕ) → i < n → IsPrimary (worldAt n q l p .images i .memory .votes .last) × IsPrimary (worldAt n q l p .images i .store .votes .last)
-
--- Demand 3.
+-- Demand 3: "Over every allowed run of all servers, refused events included, crashes wherever they fall".
 unfoldable pub Demand3 : Type 0
-Demand3 = (n q : ℕ) (l : Run) → Allowed n q l → Agreement n q l
+Demand3 = (n q : ℕ) (l : Run) → AllowedWithStrays n q l → Agreement n q l
 
 -- What follows beside it.
 unfoldable pub Corollaries : Type 0
-Corollaries = (n q : ℕ) (l : Run) → Allowed n q l → StoredAgree n q l × KnownPrimaries n q l
+Corollaries = (n q : ℕ) (l : Run) → AllowedWithStrays n q l → Consequences n q l

@@ -8,7 +8,7 @@ use Rattle.base.specs.Tests.{_and_, _=?_, pick}
 use Rattle.base.specs.Lists.{at, isThere, gather}
 use Rattle.format.specs.Types.{Action, Record, action, retransmission, state, cpc, regular, transitional, request, recovery, Reading, says, refused}
 use Rattle.replication.specs.Machine.Types.{Configuration}
-use Rattle.replication.specs.Runs.Run.{Entry, event, crash, Run, Place, nowhere, heard, placeAt, heardAt, sentAt}
+use Rattle.replication.specs.Runs.Run.{Entry, event, crash, store, Run, Place, nowhere, heard, placeAt, heardAt, sentAt}
 use Rattle.replication.specs.Runs.Happenings.{Message, isMessage}
 
 unfoldable pub isConfiguration : Configuration → Option Configuration → Bool
@@ -47,6 +47,7 @@ module _ (n q : ℕ) (l : Run) where
   unfoldable pub deliversBy : (Place → Bool) → ℕ → ℕ → Option Entry → Bool
   deliversBy t i p none = false
   deliversBy t i p (some (crash j)) = false
+  deliversBy t i p (some (store j)) = false
   deliversBy t i p (some (event j e k)) = j =? i and saysMessage (heardAt n q l p i e) and t (placeAt n q l i p)
 
   unfoldable pub deliversAt : (Place → Bool) → ℕ → ℕ → Bool

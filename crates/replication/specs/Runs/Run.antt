@@ -10,14 +10,16 @@ use Rattle.base.specs.Lists.{at, upd}
 use Rattle.format.specs.Types.{Action, Record, action, retransmission, state, cpc, regular, transitional, request, recovery, Reading, says, refused}
 use Rattle.format.specs.Read.{read}
 use Rattle.replication.specs.Machine.Types.{Configuration, Server, Outcome, taken, start, setOf}
-use Rattle.replication.specs.Images.{Images, started, arrive, leftBy}
+use Rattle.replication.specs.Images.{Images, started, arrive, leftBy, savedIn}
 
 -- "A run is a list of crashes and events (kinds 1 to 8, each at one server)". An event comes with how many of its records were sent; where that
 -- is not all of them, a crash of that server follows, and the moment between the two is a moment of the run. An event that ends in 7, or is cut
--- before its store is whole, has not come: it is no entry.
+-- before its store is whole, has not come: it is no entry. Beyond document 01 a server may store between two events what its last one left: a daemon
+-- that stores more often than the store word says.
 pub data Entry : Type 0 where
   event : (server : ℕ) (bytes : List ℕ) (sent : ℕ) → Entry
   crash : (server : ℕ) → Entry
+  store : (server : ℕ) → Entry
 
 abbrev pub Run : Type 0
 Run = List Entry
@@ -25,8 +27,10 @@ Run = List Entry
 unfoldable pub serverOf : Entry → ℕ
 serverOf (event i e k) = i
 serverOf (crash i) = i
+serverOf (store i) = i
 
--- ---- the states: "Each event but recovery gets the state its server's last one left; nobody else writes state or store."
+-- ---- the states: "Each event but recovery gets the state its server's last one left; nobody else writes state or store." A refused event leaves
+-- everything as it was: a server that is down stays down.
 
 -- What every server has, and which are down.
 pub record World : Type 0 where
@@ -37,9 +41,17 @@ pub record World : Type 0 where
 unfoldable pub beginning : (n q : ℕ) → World
 beginning n q = record { images = λ i. started (start n q i); down = λ i. false }
 
+unfoldable pub downAfter : Outcome (List ℕ) → Bool → Bool
+downAfter (Outcome.refused k) d = d
+downAfter (taken t r b g) d = false
+
 unfoldable pub worldAfter : World → Entry → World
-worldAfter w (event i e k) = record { images = upd (w .images) i (leftBy (arrive (w .images i) e) (w .images i)); down = upd (w .down) i false }
+worldAfter w (event i e k) = record {
+  images = upd (w .images) i (leftBy (arrive (w .images i) e) (w .images i));
+  down = upd (w .down) i (downAfter (arrive (w .images i) e) (w .down i));
+}
 worldAfter w (crash i) = record { images = w .images; down = upd (w .down) i true }
+worldAfter w (store i) = record { images = upd (w .images) i (savedIn (w .images i)); down = w .down }
 
 unfoldable pub worldThrough : World → Run → World
 worldThrough w [] = w
@@ -74,6 +86,7 @@ moved (refused k) c = c
 unfoldable pub placeAfter : (n q i : ℕ) → Place → Entry → Place
 placeAfter n q i c (event j e k) = pick (j =? i) (moved (heard n q i c e) c) c
 placeAfter n q i c (crash j) = pick (j =? i) nowhere c
+placeAfter n q i c (store j) = c
 
 unfoldable pub placeThrough : (n q i : ℕ) → Place → Run → Place
 placeThrough n q i c [] = c
@@ -110,6 +123,7 @@ module _ (n q : ℕ) (l : Run) where
   unfoldable pub putOutBy : ℕ → Option Entry → List (List ℕ)
   putOutBy p none = []
   putOutBy p (some (crash i)) = []
+  putOutBy p (some (store i)) = []
   putOutBy p (some (event i e k)) = recordsOf (arrive (worldAt p .images i) e)
 
   unfoldable pub putOut : ℕ → List (List ℕ)
@@ -119,6 +133,7 @@ module _ (n q : ℕ) (l : Run) where
   unfoldable pub sentBy : ℕ → Option Entry → List (List ℕ)
   sentBy p none = []
   sentBy p (some (crash i)) = []
+  sentBy p (some (store i)) = []
   sentBy p (some (event i e k)) = take k (putOut p)
 
   unfoldable pub sentAt : ℕ → List (List ℕ)

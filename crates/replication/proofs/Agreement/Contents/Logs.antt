@@ -16,9 +16,9 @@ use Rattle.replication.specs.Laws.Transitions.{Ends, Leads, Transition}
 use Rattle.replication.specs.Runs.Run.{Run, heardAt}
 use Rattle.replication.specs.Runs.Happenings.{isMessage, Comes, Falls, by-crash, by-recovery, Takes}
 use Rattle.replication.specs.Runs.Allowed.{Allowed}
-use Rattle.replication.proofs.Runs.Places.{event-entry}
+use Rattle.replication.proofs.Runs.Places.{event-not-store, event-entry}
 use Rattle.replication.proofs.Runs.Shifts.{comes-of, comes-once}
-use Rattle.replication.proofs.Runs.AllowedTurns.{memoryAt, Acts, Refuses, AllowedTurn, rests, crashes, refuses, recovers, acts, allowed-turn}
+use Rattle.replication.proofs.Runs.AllowedTurns.{memoryAt, Acts, Refuses, AllowedTurn, rests, crashes, saves, refuses, recovers, acts, allowed-turn}
 use Rattle.replication.proofs.Runs.Stays.{membershipAt, in-stay}
 use Rattle.replication.proofs.Agreement.Exchange.Stages.{remains, stage, modeNumber, other-mode, InCom, remaining, stage-rises}
 use Rattle.replication.proofs.Agreement.Exchange.Retransmissions.{saysResent}
@@ -101,6 +101,7 @@ module _ {n q : ℕ} {l : Run} (A : Allowed n q l) where
       go : AllowedTurn n q l p i → MemoryStep p i
       go (rests o m c d) = still (ap (λ x. x .memory) m) (λ r y z. o (comes-of y))
       go (crashes x m c d) = absurd (f (by-crash x))
+      go (saves x m c d u) = still (ap (λ y. y .memory) m) (λ r y z. event-not-store (some-same (sym (y .here) ∙ x)))
       go (refuses x) =
           still (ap (λ y. y .memory) (x .images-next))
           (λ r y z.

@@ -157,6 +157,6 @@ module _ {n q : ℕ} {l : Run} (A : Allowed n q l) (i : ℕ) (c : Configuration)
 
       go : (p : ℕ) → InCom n q l p i c → StayStep A p i → ((d : Configuration) → Takes n q l p i d → ⊥) → (Falls n q l p i → ⊥) → Phase n q l p i c
           → Phase n q l (suc p) i c
-      go p a (rested o m) g f h = same p m h
+      go p a (rested m) g f h = same p m h
       go p a (refused y m) g f h = same p m h
       go p a (took x z m) g f h = going p a x (remaining g f _ z) m h

@@ -16,7 +16,7 @@ use Rattle.replication.specs.Machine.Plan.{ownPart}
 use Rattle.replication.specs.Machine.Rules.{exchanging, onRetransmission, ruleFor, numberedOwn, possible, fromMember, isIgnored}
 use Rattle.replication.specs.Machine.Step.{hereSet, collected, allStatesIn}
 use Rattle.replication.specs.Machine.WellFormedSent.{senderOf}
-use Rattle.replication.specs.Runs.Run.{Entry, event, crash, Run, placeAt, heardAt}
+use Rattle.replication.specs.Runs.Run.{Entry, event, crash, store, Run, placeAt, heardAt}
 use Rattle.replication.specs.Runs.Happenings.{Message, isMessage, Comes, Sends}
 use Rattle.replication.specs.Runs.Allowed.{Allowed}
 use Rattle.replication.specs.Runs.DeliveryFacts.{within}
@@ -65,6 +65,7 @@ module _ (n q : ℕ) (l : Run) (c : Configuration) (i : ℕ) where
   unfoldable pub resentBy : ℕ → Option Entry → Bool
   resentBy p none = false
   resentBy p (some (crash j)) = false
+  resentBy p (some (store j)) = false
   resentBy p (some (event j e k)) = j =? i and saysResent (heardAt n q l p i e) and within c (placeAt n q l i p)
 
   -- At p a retransmission comes to the server i in com(c).
@@ -83,6 +84,7 @@ module _ (n q : ℕ) (l : Run) (c : Configuration) (i : ℕ) where
       go : (x : Option Entry) → at l p ≡ x → resentBy p x ≡ true → (k x : ℕ) × (a : Action) × Comes n q l p i (retransmission k x a) × InCom n q l p i c
       go none e h = not-both h
       go (some (crash j)) e h = not-both h
+      go (some (store j)) e h = not-both h
       go (some (event j f k)) e h =
           let x = and-holds _ _ h in
           let y = and-holds _ _ (x .1) in

@@ -135,7 +135,7 @@ module _ {n q : ℕ} {l : Run} (A : Allowed n q l) (i : ℕ) (c : Configuration)
   kept-at P f x a b h = go (stay-step A x i a)
     where
       go : StayStep A x i → P (membershipAt n q l (suc x) i)
-      go (rested o m) = subst P (sym m) h
+      go (rested m) = subst P (sym m) h
       go (refused y m) = subst P (sym m) h
       go (took y z m) = f _ _ _ m (remaining b a _ z) h
 

@@ -178,7 +178,7 @@ module _ {n q : ℕ} {l : Run} (A : Allowed n q l) (i : ℕ) (c : Configuration)
         go (fails e) s = back (as-before (ap length (passing-same (resentAt n q l c i) p e)) s)
 
     next : StayStep A p i → TallyOf n (membershipAt n q l p i) (resentCount p) → TallyOf n (membershipAt n q l (suc p) i) (resentCount (suc p))
-    next (rested o m) s = unchanged m s
+    next (rested m) s = unchanged m s
     next (refused y m) s = unchanged m s
     next (took x z m) s = by-event x s
 

@@ -1,6 +1,7 @@
 -- Demand 3 from the invariant: an id is of one action, so green lists with comparable ids agree.
-use Prim.Native.Nat.{ℕ, max, _<_}
+use Prim.Native.Nat.{ℕ, max, _≤_, _<_}
 use mathlib.Core.Path.{_≡_, sym, ap, subst₂}
+use mathlib.Core.Bool.{false}
 use mathlib.Core.List.{List, [], _∷_}
 use native.Mathlib.Omega.{arith}
 use lib.ListN.{length}
@@ -11,13 +12,14 @@ use Rattle.replication.specs.Machine.Types.{Server}
 use Rattle.replication.specs.Machine.WellFormed.{idsIn}
 use Rattle.replication.specs.Runs.Run.{Run, worldAt}
 use Rattle.replication.specs.Runs.Allowed.{Allowed}
-use Rattle.replication.specs.Runs.Claim.{ListsAgree, greenAt, Agreement, StoredAgree}
+use Rattle.replication.specs.Runs.Claim.{ListsAgree, storedGreen, memoryGreen, greenAt, Agreement}
 use Rattle.replication.proofs.Runs.AllowedTurns.{memoryAt, storeAt}
 use Rattle.replication.proofs.Runs.ControlPart.{store-grows-between}
 use Rattle.replication.proofs.Runs.Made.{Made, made-one, all-made}
 use Rattle.replication.proofs.Agreement.Terms.{Image, in-memory, in-store, ExchangeFacts}
 use Rattle.replication.proofs.Agreement.Votes.Primaries.{primaries-agree}
-use Rattle.replication.proofs.Agreement.Greens.Beginnings.{Prefix, Comparable, shorter, longer, prefix-nil, prefix-cons, prefix-head, prefix-tail, prefix-length, comparable-beginnings, shorter-begins, equal-lengths, comparable-sym}
+use Rattle.replication.proofs.Agreement.Greens.Beginnings.{Prefix, Comparable, shorter, longer, prefix-nil, prefix-cons, prefix-head, prefix-tail, prefix-length, prefix-refl, comparable-beginnings, shorter-begins, equal-lengths, comparable-sym}
+use Rattle.replication.proofs.Agreement.Greens.Terms.{greens}
 use Rattle.replication.proofs.Agreement.Greens.Parts.{Parts}
 use Rattle.replication.proofs.Agreement.Greens.Invariant.{Invariant}
 use Rattle.replication.proofs.Agreement.Greens.Comparing.{agree}
@@ -53,7 +55,7 @@ module _ {n q : ℕ} {l : Run} (A : Allowed n q l) where
 
     -- What Demand 3 reads: the memory while up, the store while down.
     read-image : (p i : ℕ) → (u : Server) × Image n q l p i u × (greenAt n q l p i ≡ u .log .green)
-    unfolding greenAt pick
+    unfolding greenAt storedGreen memoryGreen pick
     read-image p i = go (known (worldAt n q l p .down i))
       where
         go : Known (worldAt n q l p .down i) → (u : Server) × Image n q l p i u × (greenAt n q l p i ≡ u .log .green)
@@ -66,16 +68,29 @@ module _ {n q : ℕ} {l : Run} (A : Allowed n q l) where
         let b = read-image p j in
         subst₂ (λ x y. ListsAgree x y) (sym (a .2)) (sym (b .2)) (images-agree (a .1) (b .1))
 
-    pub stored-agree : StoredAgree n q l
+    -- A store's green list at p, and a list of actions made before r that begins an image's green list at t.
+    later-agrees : (p r t i j : ℕ) (v : Server) (x : List Action) → p ≤ t → Image n q l t j v → Each (Made A r) x → Prefix (idsIn x) (greens v)
+        → ListsAgree (storedGreen n q l p i) x
+    unfolding storedGreen
+    later-agrees p r t i j v x h y f e =
+        let a : Image n q l t i (storeAt n q l t i) = in-store in
+        comparable-agree _ _
+        (same-ids p r (storeAt n q l p i .log .green) x (all-made A p i .store .green) f
+        (comparable-beginnings (grows-greens (storeAt n q l p i) (storeAt n q l t i) (store-grows-between n q l i p t h)) e (agree A X P (I t) a y)))
+
+    pub stored-agree : (p r i j : ℕ) → i < n → j < n → ListsAgree (storedGreen n q l p i) (storedGreen n q l r j)
+    unfolding storedGreen
     stored-agree p r i j h k =
         let t = max p r in
-        let a : Image n q l t i (storeAt n q l t i) = in-store in
         let b : Image n q l t j (storeAt n q l t j) = in-store in
-        comparable-agree _ _
-        (same-ids p r (storeAt n q l p i .log .green) (storeAt n q l r j .log .green) (all-made A p i .store .green) (all-made A r j .store .green)
-        (comparable-beginnings (grows-greens (storeAt n q l p i) (storeAt n q l t i) (store-grows-between n q l i p t (omega arith)))
+        later-agrees p r t i j (storeAt n q l t j) (storeAt n q l r j .log .green) (omega arith) b (all-made A r j .store .green)
         (grows-greens (storeAt n q l r j) (storeAt n q l t j) (store-grows-between n q l j r t (omega arith)))
-        (agree A X P (I t) a b)))
+
+    pub later-agree : (p r i j : ℕ) → p ≤ r → i < n → j < n → worldAt n q l r .down j ≡ false → ListsAgree (storedGreen n q l p i) (memoryGreen n q l r j)
+    unfolding memoryGreen
+    later-agree p r i j h x y d =
+        let b : Image n q l r j (memoryAt n q l r j) = in-memory d in
+        later-agrees p r r i j (memoryAt n q l r j) (memoryAt n q l r j .log .green) h b (all-made A r j .memory .green) prefix-refl
 
     pub agreement : Agreement n q l
     agreement = record { green = green-agree; primary = primaries-agree A X }

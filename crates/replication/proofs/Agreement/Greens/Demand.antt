@@ -1,10 +1,10 @@
--- Demand 3: in every allowed run all green lists agree, and all primary components.
+-- Demand 3: in every allowed run all green lists agree, and all primary components; so they do with stray events.
 use Prim.Native.Nat.{ℕ}
 use Rattle.replication.specs.Runs.Run.{Run}
 use Rattle.replication.specs.Runs.Allowed.{Allowed}
-use Rattle.replication.specs.Runs.Claim.{StoredAgree, KnownPrimaries, Demand3}
+use Rattle.replication.specs.Runs.Claim.{Agreement, Consequences, Demand3, Corollaries}
+use Rattle.replication.proofs.Runs.Strays.{strays-agree, strays-follow}
 use Rattle.replication.proofs.Agreement.Exchange.Facts.{exchange-facts}
-use Rattle.replication.proofs.Agreement.Votes.Primaries as Q
 use Rattle.replication.proofs.Agreement.Greens.Parts.{Parts}
 use Rattle.replication.proofs.Agreement.Greens.OfLists.{list-parts}
 use Rattle.replication.proofs.Agreement.Greens.OfContents.{content-parts}
@@ -14,14 +14,17 @@ use Rattle.replication.proofs.Agreement.Greens.Induction as I
 parts : {n q : ℕ} {l : Run} (A : Allowed n q l) → Parts A
 parts A = record { lists = list-parts; contents = content-parts A; primaries = primary-parts A }
 
+-- With no strays.
+pub agreement : {n q : ℕ} {l : Run} → Allowed n q l → Agreement n q l
+agreement A = I.agreement A (exchange-facts A) (parts A)
+
+pub consequences : {n q : ℕ} {l : Run} → Allowed n q l → Consequences n q l
+consequences A = I.consequences A (exchange-facts A) (parts A)
+
 pub demand3 : Demand3
 unfolding Demand3
-demand3 n q l A = I.agreement A (exchange-facts A) (parts A)
+demand3 n q l S = strays-agree S (agreement (S .rest))
 
--- Stored green lists agree at different moments too.
-pub stored-agree : {n q : ℕ} {l : Run} → Allowed n q l → StoredAgree n q l
-stored-agree A = I.stored-agree A (exchange-facts A) (parts A)
-
--- Every last primary known anywhere is one of the primary components.
-pub known-primaries : {n q : ℕ} {l : Run} → Allowed n q l → KnownPrimaries n q l
-known-primaries A = Q.known-primaries A (exchange-facts A)
+pub corollaries : Corollaries
+unfolding Corollaries
+corollaries n q l S = strays-follow S (consequences (S .rest))

@@ -4,16 +4,17 @@ use mathlib.Core.Path.{_≡_, sym, ap, subst, _∙_}
 use mathlib.Core.Bool.{true, false}
 use mathlib.Core.Option.{some}
 use Rattle.base.specs.Tests.{pick, not-both, Known, holds, fails, known}
+use Rattle.base.specs.Lists.{at}
 use Rattle.base.specs.AtLaws.{some-same}
 use Rattle.replication.specs.Machine.Types.{Server, Configuration}
 use Rattle.replication.specs.Machine.Requests.{recovered}
-use Rattle.replication.specs.Images.{isRecovery}
-use Rattle.replication.specs.Runs.Run.{Run, worldAt, heardAt}
+use Rattle.replication.specs.Images.{isRecovery, savedIn}
+use Rattle.replication.specs.Runs.Run.{store, Run, worldAt, heardAt}
 use Rattle.replication.specs.Runs.Happenings.{Falls, by-crash, by-recovery}
 use Rattle.replication.specs.Runs.Allowed.{Allowed}
-use Rattle.replication.proofs.Runs.AllowedTurns.{memoryAt, storeAt, Acts, Refuses, Recovers, AllowedTurn, rests, crashes, refuses, recovers, acts, allowed-turn}
+use Rattle.replication.proofs.Runs.AllowedTurns.{memoryAt, storeAt, Acts, Refuses, Recovers, AllowedTurn, rests, crashes, saves, refuses, recovers, acts, allowed-turn}
 use Rattle.replication.proofs.Runs.Coupling.{coupled}
-use Rattle.replication.proofs.Runs.Places.{event-entry, event-not-crash}
+use Rattle.replication.proofs.Runs.Places.{event-not-store, crash-not-store, event-entry, event-not-crash}
 use Rattle.replication.proofs.Runs.Shifts.{falls-of}
 use Rattle.replication.proofs.Agreement.Terms.{Image, in-memory, in-store, Within}
 
@@ -65,6 +66,20 @@ module _ {n q : ℕ} {l : Run} where
   image-crashed f m d (in-memory h) = not-both (sym h ∙ d)
   image-crashed f m d in-store = fallen f (ap (λ x. x .store) m)
 
+  -- A store stores what is in memory, of a server that is up.
+  image-saved : {t s : ℕ} {u : Server} → worldAt n q l (suc t) .images s ≡ savedIn (worldAt n q l t .images s) → worldAt n q l t .down s ≡ false
+      → Image n q l (suc t) s u → Image n q l t s u
+  image-saved {t} {s} m d (in-memory h) =
+      let f : Image n q l t s (memoryAt n q l t s) = in-memory d in
+      subst (λ v. Image n q l t s v) (ap (λ x. x .memory) (sym m)) f
+  image-saved {t} {s} m d in-store =
+      let f : Image n q l t s (memoryAt n q l t s) = in-memory d in
+      subst (λ v. Image n q l t s v) (ap (λ x. x .store) (sym m)) f
+
+  store-no-fall : {t s : ℕ} → at l t ≡ some (store s) → Falls n q l t s → ⊥
+  store-no-fall x (by-crash c) = crash-not-store (some-same (sym c ∙ x))
+  store-no-fall x (by-recovery c) = event-not-store (some-same (sym (c .here) ∙ x))
+
   image-restored : {t s : ℕ} {u : Server} → Recovers n q l t s → Image n q l (suc t) s u → ImageStep n q l t s u
   image-restored x (in-memory h) = restored (by-recovery (x .comes)) (x .memory-next)
   image-restored x in-store = restored (by-recovery (x .comes)) (x .store-next)
@@ -76,6 +91,7 @@ module _ {n q : ℕ} {l : Run} (A : Allowed n q l) where
       go : AllowedTurn n q l t s → ImageStep n q l t s u
       go (rests o m c d) = kept (as-before m d y) (λ f. o (falls-of f))
       go (crashes x m c d) = image-crashed (by-crash x) m d y
+      go (saves x m c d v) = kept (image-saved m v y) (store-no-fall x)
       go (refuses x) = kept (as-before (x .images-next) (x .down-next ∙ sym (x .up)) y) (refused-no-fall x)
       go (recovers x) = image-restored x y
       go (acts x) = image-acted x y

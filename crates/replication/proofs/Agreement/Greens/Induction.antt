@@ -11,10 +11,12 @@ use Rattle.replication.specs.Machine.WellFormed.{idsIn}
 use Rattle.replication.specs.Images.{started}
 use Rattle.replication.specs.Runs.Run.{Run, beginning}
 use Rattle.replication.specs.Runs.Allowed.{Allowed}
-use Rattle.replication.specs.Runs.Claim.{Agreement, StoredAgree}
+use Rattle.replication.specs.Runs.Claim.{storedGreen, Agreement, Consequences}
 use Rattle.replication.proofs.Runs.Places.{world-at-start}
+use Rattle.replication.proofs.Runs.ControlPart.{store-grows-between}
 use Rattle.replication.proofs.Agreement.Terms.{Image, in-memory, in-store, ExchangeFacts}
 use Rattle.replication.proofs.Agreement.Votes.Turns.{ended-last}
+use Rattle.replication.proofs.Agreement.Votes.Primaries.{known-primaries}
 use Rattle.replication.proofs.Agreement.Lists.Plus.{plus-nil}
 use Rattle.replication.proofs.Agreement.Greens.Terms.{greens, plus, Fifo, settled, nothing}
 use Rattle.replication.proofs.Agreement.Greens.Parts.{Parts}
@@ -83,5 +85,11 @@ module _ {n q : ℕ} {l : Run} (A : Allowed n q l) where
     pub agreement : Agreement n q l
     agreement = C.agreement A X P invariant
 
-    pub stored-agree : StoredAgree n q l
-    stored-agree = C.stored-agree A X P invariant
+    pub consequences : Consequences n q l
+    unfolding storedGreen
+    consequences = record {
+      stored = C.stored-agree A X P invariant;
+      later = C.later-agree A X P invariant;
+      kept = λ p r i h x. store-grows-between n q l i p r h .greens;
+      known = known-primaries A X;
+    }

@@ -31,7 +31,7 @@ module _ {n q : ℕ} {l : Run} (A : Allowed n q l) where
   -- ---- the test for a fall
 
   pub within-place : {p i : ℕ} {c : Configuration} → placeAt n q l i p .regular ≡ some c → Within n q l p i c
-  within-place {p} {i} {c} h = record { up = placed-up n q l p i c h; here = h }
+  within-place {p} {i} {c} h = record { up = placed-up A p i c h; here = h }
 
   fall-true : {t d : ℕ} (x : Shift n q l t d) → Falls n q l t d → isFall A x ≡ true
   unfolding isFall

@@ -106,7 +106,7 @@ module _ {n q : ℕ} {l : Run} (A : Allowed n q l) where
       from m e M.fromNonPrim = absurd (none-settled A x r j here e)
       from m e M.fromTransPrim = absurd (f e)
       from m e M.fromNo =
-          absurd (none-leaves-late A u r i j c d x (stay-member A j r c here .1) (record { up = placed-up n q l r j c here; here = here }) t e)
+          absurd (none-leaves-late A u r i j c d x (stay-member A j r c here .1) (record { up = placed-up A r j c here; here = here }) t e)
       from m e M.fromUn = e
 
       un : membershipAt n q l r j .mode ≡ Un

@@ -20,12 +20,12 @@ use Rattle.replication.specs.Runs.Happenings.{isMessage, Comes, Falls, b
 use Rattle.replication.specs.Runs.Allowed.{Allowed}
 use Rattle.replication.specs.Runs.DeliveryFacts.{within, withinRegular}
 use Rattle.replication.proofs.Step.Primary.{regular-step, transitional-step}
-use Rattle.replication.proofs.Runs.AllowedTurns.{memoryAt, Acts, Refuses, AllowedTurn, rests, crashes, refuses, recovers, acts, allowed-turn}
+use Rattle.replication.proofs.Runs.AllowedTurns.{memoryAt, Acts, Refuses, AllowedTurn, rests, crashes, saves, refuses, recovers, acts, allowed-turn}
 use Rattle.replication.proofs.Runs.DeliveryLists.{within-holds, within-yes, within-regular-yes}
 use Rattle.replication.proofs.Runs.Entries.{had}
 use Rattle.replication.proofs.Runs.Modes.{standing, standing-in}
 use Rattle.replication.proofs.Runs.Numbers.{invariant-at, well-formed-at}
-use Rattle.replication.proofs.Runs.Places.{event-entry}
+use Rattle.replication.proofs.Runs.Places.{event-not-store, event-entry}
 use Rattle.replication.proofs.Runs.Progress.{stay-member}
 use Rattle.replication.proofs.Runs.Shifts.{comes-once, comes-of}
 use Rattle.replication.proofs.Runs.Stays.{membershipAt, in-stay, entering-membership, acts-membership}
@@ -190,6 +190,7 @@ module _ {n q : ℕ} {l : Run} (A : Allowed n q l) (i : ℕ) (c : Configuration)
       go : (p : ℕ) → InCom n q l p i c → (Falls n q l p i → ⊥) → ((d : Configuration) → Takes n q l p i d → ⊥) → PrimaryPhase A p i c → AllowedTurn n q l p i
           → PrimaryPhase A (suc p) i c
       go p a f g h (rests o m k d) = unchanged p (ap (λ x. x .memory) m) (λ b y. o (comes-of y)) h
+      go p a f g h (saves x m k d u) = unchanged p (ap (λ y. y .memory) m) (λ b y. event-not-store (some-same (sym (y .here) ∙ x))) h
       go p a f g h (crashes x m k d) = absurd (f (by-crash x))
       go p a f g h (refuses x) = unchanged p (ap (λ y. y .memory) (x .images-next)) (refused-other p x) h
       go p a f g h (recovers x) = absurd (f (by-recovery (x .comes)))

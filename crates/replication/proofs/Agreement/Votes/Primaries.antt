@@ -1,5 +1,5 @@
 -- The primary half of demand 3: two primary components are equal exactly when their indexes are; every last primary known anywhere is one of them.
-use Prim.Native.Nat.{ℕ}
+use Prim.Native.Nat.{ℕ, _<_}
 use mathlib.Core.Path.{_≡_, refl, sym, ap, subst, _∙_}
 use mathlib.Core.Bool.{Bool, true}
 use mathlib.Core.List.{List}
@@ -17,10 +17,10 @@ use Rattle.replication.specs.Machine.Step as S
 use Rattle.replication.specs.Images.{isRecovery, sourceOf, arrive}
 use Rattle.replication.specs.Runs.Run.{event, Run, worldAt, heardAt}
 use Rattle.replication.specs.Runs.Allowed.{Allowed}
-use Rattle.replication.specs.Runs.Claim.{IsPrimary, of-start, of-install, PrimariesAgree, KnownPrimaries}
-use Rattle.replication.proofs.Runs.Places.{of-event, event-entry, event-not-crash}
+use Rattle.replication.specs.Runs.Claim.{IsPrimary, of-start, of-install, PrimariesAgree}
+use Rattle.replication.proofs.Runs.Places.{event-not-store, of-event, event-entry, event-not-crash}
 use Rattle.replication.proofs.Runs.Coupling.{Source, from-store, from-memory, source}
-use Rattle.replication.proofs.Runs.AllowedTurns.{memoryAt, storeAt, Acts, Refuses, AllowedTurn, rests, crashes, refuses, recovers, acts, allowed-turn}
+use Rattle.replication.proofs.Runs.AllowedTurns.{memoryAt, storeAt, Acts, Refuses, AllowedTurn, rests, crashes, saves, refuses, recovers, acts, allowed-turn}
 use Rattle.replication.proofs.Agreement.Terms.{Image, in-store, InstallsAt, installed, ExchangeFacts}
 use Rattle.replication.proofs.Agreement.Votes.Events.{installer-configured}
 use Rattle.replication.proofs.Agreement.Votes.Known as K
@@ -76,6 +76,7 @@ module _ {n q : ℕ} {l : Run} (A : Allowed n q l) where
       go : AllowedTurn n q l p i → Installed (t .votes .last)
       go (rests o m c d) = absurd (o (of-event h))
       go (crashes x m c d) = event-not-crash (some-same (sym h ∙ x))
+      go (saves x m c d u) = event-not-store (some-same (sym h ∙ x))
       go (refuses x) =
           let f = event-entry (some-same (sym h ∙ x .here)) .1 in
           absurd (not-refused p i k e t r b g h a x f (source A p i (x .sent) (x .bytes) (x .here)))
@@ -117,7 +118,7 @@ module _ {n q : ℕ} {l : Run} (A : Allowed n q l) where
     known-is (K.of-start e) = subst (λ z. IsPrimary n q l z) (sym e) of-start
     known-is (K.of-install r j w e c d x h g t u o z) = subst (λ z. IsPrimary n q l z) g (installed-is x)
 
-    pub known-primaries : KnownPrimaries n q l
+    pub known-primaries : (p i : ℕ) → i < n → IsPrimary n q l (memoryAt n q l p i .votes .last) × IsPrimary n q l (storeAt n q l p i .votes .last)
     known-primaries p i h =
         let s : Image n q l p i (storeAt n q l p i) = in-store in
         (known-is (known-primary A X p i), known-is (image-known A X s))

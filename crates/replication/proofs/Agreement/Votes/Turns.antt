@@ -24,7 +24,7 @@ use Rattle.replication.proofs.Runs.Numbers.{numbers, invariant-at}
 use Rattle.replication.proofs.Runs.Modes.{Standing, standing, standing-in}
 use Rattle.replication.proofs.Runs.Coupling.{coupled}
 use Rattle.replication.proofs.Runs.ControlPart.{control-at}
-use Rattle.replication.proofs.Runs.AllowedTurns.{memoryAt, Acts, Recovers, AllowedTurn, rests, crashes, refuses, recovers, acts, allowed-turn}
+use Rattle.replication.proofs.Runs.AllowedTurns.{memoryAt, Acts, Recovers, AllowedTurn, rests, crashes, saves, refuses, recovers, acts, allowed-turn}
 use Rattle.replication.proofs.Runs.OwnStates.{exchange-regular}
 use Rattle.replication.proofs.Agreement.Terms.{EndsAt, InstallsAt}
 use Rattle.replication.proofs.Agreement.Votes.Changes as C
@@ -127,15 +127,15 @@ module _ {n q : ℕ} {l : Run} (A : Allowed n q l) where
   pub votes-turn : (p i : ℕ) → VotesTurn n q l p i
   votes-turn p i = go (allowed-turn A p i)
     where
-      same : worldAt n q l (suc p) .images i ≡ worldAt n q l p .images i → VotesTurn n q l p i
-      same m =
-          let e : memoryAt n q l (suc p) i ≡ memoryAt n q l p i = ap (λ x. x .memory) m in
+      same : memoryAt n q l (suc p) i ≡ memoryAt n q l p i → VotesTurn n q l p i
+      same e =
           keeps (record { last = ap (λ s. s .votes .last) e; attempt = ap (λ s. s .votes .attempt) e; mark = ap (λ s. s .votes .mark) e })
           (same-membership _ _ (ap (λ s. s .membership) e))
 
       go : AllowedTurn n q l p i → VotesTurn n q l p i
-      go (rests o m c d) = same m
-      go (crashes x m c d) = same m
-      go (refuses x) = same (x .images-next)
+      go (rests o m c d) = same (ap (λ y. y .memory) m)
+      go (crashes x m c d) = same (ap (λ y. y .memory) m)
+      go (saves x m c d u) = same (ap (λ y. y .memory) m)
+      go (refuses x) = same (ap (λ y. y .memory) (x .images-next))
       go (recovers x) = recovering p i x
       go (acts x) = acting p i x (votes-step (memoryAt n q l p i) (x .moves))

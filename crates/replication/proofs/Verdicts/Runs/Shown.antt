@@ -15,7 +15,7 @@ use Rattle.replication.specs.Machine.Types.{Mode, Server, Outcome, taken
 use Rattle.replication.specs.Machine.Exchange.{takenPrimary, isMarked, ruleA, ruleB, ruleC, ownMark}
 use Rattle.replication.specs.Machine.Step.{collected, installsBy, installsOn, installs}
 use Rattle.replication.specs.Images.{arrive, sourceOf}
-use Rattle.replication.specs.Runs.Run.{Entry, event, crash, Run, serverOf, World, beginning, worldAfter, worldAt}
+use Rattle.replication.specs.Runs.Run.{Entry, event, crash, store, Run, serverOf, World, beginning, worldAfter, worldAt}
 use Rattle.replication.specs.Runs.Claim.{IsPrimary, of-install}
 use Rattle.replication.specs.Audit.Witness.{Witness}
 use Rattle.replication.specs.Audit.Verdict.{audit, report}
@@ -50,6 +50,7 @@ lastOfOutcome (taken t r b g) = some (t .votes .last)
 unfoldable pub installedBy : World → Entry → Option Primary
 installedBy w (event i e k) = pick (installs (sourceOf (w .images i) e) e) (lastOfOutcome (arrive (w .images i) e)) none
 installedBy w (crash i) = none
+installedBy w (store i) = none
 
 unfoldable pub installedFrom : World → Run → List Primary
 installedFrom w [] = []
@@ -62,6 +63,7 @@ installed n q l = installedFrom (beginning n q) l
 pub installed-primary : (n q : ℕ) (l : Run) (p : ℕ) (y : Entry) (a : Primary) → at l p ≡ some y → installedBy (worldAt n q l p) y ≡ some a → IsPrimary n q l a
 unfolding installedBy lastOfOutcome pick
 installed-primary n q l p (crash i) a h f = none-some f
+installed-primary n q l p (store i) a h f = none-some f
 installed-primary n q l p (event i e k) a h f = go (known (installs (sourceOf (worldAt n q l p .images i) e) e)) (arrive (worldAt n q l p .images i) e) refl
   where
     go : Known (installs (sourceOf (worldAt n q l p .images i) e) e) → (o : Outcome (List ℕ)) → arrive (worldAt n q l p .images i) e ≡ o → IsPrimary n q l a

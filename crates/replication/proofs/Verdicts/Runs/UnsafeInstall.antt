@@ -15,7 +15,7 @@ use Rattle.base.specs.Deciding.{decided, numbers-decided, lists-decided}
 use Rattle.format.specs.Types.{Primary, state, cpc, regular, transitional, recovery}
 use Rattle.format.specs.Write.{write}
 use Rattle.replication.specs.Machine.Types.{Configuration}
-use Rattle.replication.specs.Runs.Run.{Entry, event, crash, Run, heardAt, sentAt}
+use Rattle.replication.specs.Runs.Run.{Entry, event, crash, store, Run, heardAt, sentAt}
 use Rattle.replication.specs.Runs.Happenings.{Message, isMessage, Falls, by-crash, by-recovery, Comes, Takes, Left, Delivers}
 use Rattle.replication.specs.Runs.Allowed.{Allowed}
 use Rattle.replication.specs.Runs.Claim.{IsPrimary, Agreement}
@@ -128,6 +128,7 @@ left = record { p = 1; r = 10; next = record { id = 2; set = 6 }; took = took; t
 isOther : Entry → Bool
 isOther (event i e k) = not (i =? 1 and same e (write (cpc 0 1)))
 isOther (crash i) = true
+isOther (store i) = true
 
 all-other : all isOther run ≡ true
 unfolding opened run isOther
