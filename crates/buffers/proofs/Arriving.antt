@@ -165,17 +165,20 @@ module _ (i : Images) (b : Buffers) (e : List ℕ) (k : KeepsWhere (isRecovery e
           (λ q. subst (λ (x : Server). Holds x (image t before)) (sym (picked-true w t (i .store) q)) here)
           (λ q. subst (λ (x : Server). Holds x (b .store)) (sym (picked-false w t (i .store) q)) (k .store))
 
-  -- The answer of the engine's step is the machine's.
-  pub arrives : (o : List ℕ) → outLength (i .memory .servers) (i .memory .quota) ≤ length o → Arrives i (arrive i e) b (stepIn b e o)
-  unfolding arrive stepIn
-  arrives o room = subst (λ (r : Result). Arrives i (step s e) b r) (sym over-buffers) (go (step s e) refl)
-    where
-      room-here : outLength (s .servers) (s .quota) ≤ length o
-      room-here = subst (λ (m : ℕ). m ≤ length o) (λ j. outLength (sym (source-same .servers) j) (sym (source-same .quota) j)) room
+  -- ---- the answer
 
-      over-buffers : stepIn b e o ≡ resultOf (step s e) before o
-      over-buffers = holds-step s before source-holds e o room-here
+  module _ (o : List ℕ) (room : outLength (i .memory .servers) (i .memory .quota) ≤ length o) where
+    room-here : outLength (s .servers) (s .quota) ≤ length o
+    room-here = subst (λ (m : ℕ). m ≤ length o) (λ j. outLength (sym (source-same .servers) j) (sym (source-same .quota) j)) room
 
-      go : (x : Outcome (List ℕ)) → step s e ≡ x → Arrives i x b (resultOf x before o)
-      go (refused m) h = refused-arrives m o h
-      go (taken t rs w g) h = taken-arrives t rs w g o h
+    pub answered : stepIn b e o ≡ resultOf (arrive i e) (sourceIn b e) o
+    unfolding arrive stepIn
+    answered = holds-step s before source-holds e o room-here
+
+    pub arrives : Arrives i (arrive i e) b (stepIn b e o)
+    unfolding arrive
+    arrives = subst (λ (r : Result). Arrives i (step s e) b r) (sym answered) (go (step s e) refl)
+      where
+        go : (x : Outcome (List ℕ)) → step s e ≡ x → Arrives i x b (resultOf x before o)
+        go (refused m) h = refused-arrives m o h
+        go (taken t rs w g) h = taken-arrives t rs w g o h

@@ -14,7 +14,7 @@ use Rattle.replication.specs.Laws.Order.{SameServer}
 use Rattle.replication.specs.Machine.Types.{Server, contextOf, start}
 use Rattle.replication.specs.Machine.Step.{step}
 use Rattle.replication.specs.Machine.WellFormed.{ranges, wellFormed}
-use Rattle.replication.specs.Images.{Images, started}
+use Rattle.replication.specs.Images.{Images, started, savedIn}
 use Rattle.replication.proofs.WellFormed.Runs.{start-well-formed}
 use Rattle.engine.specs.Layout.{stateLength, outLength, leastStateLength, leastOutLength}
 use Rattle.engine.specs.Image.{image}
@@ -23,7 +23,7 @@ use Rattle.engine.specs.Outcome.{tooShort, resultOf, stepOn, startOn}
 use Rattle.engine.proofs.ImageLaws.{image-length, image-again, read-image}
 use Rattle.engine.proofs.InPlace.{Holds, holds-decoded}
 use Rattle.engine.proofs.Refusals.{step-read, formed-sizes}
-use Rattle.buffers.specs.Buffers.{Buffers, Lent, begun}
+use Rattle.buffers.specs.Buffers.{Buffers, Lent, begun, saved}
 use Rattle.buffers.proofs.BufferLaws.{start-left}
 
 -- The stored image is the stored state's; where U, the state's buffer holds the state in memory.
@@ -111,3 +111,13 @@ module _ (n q i : ℕ) (sizes : sizesOk n q ≡ true) (own : i < n) where
       state = start-length (b .state) (lent .long);
       store = start-length (b .store) (omega (arith, lent .long, lent .alike)) ∙ lent .alike;
     }
+
+-- ---- a store
+
+pub saved-keeps : (i : Images) (b : Buffers) → Keeps i b → Keeps (savedIn i) (saved b)
+unfolding saved
+saved-keeps i b k = record { formed = k .formed; memory = k .memory; store = k .memory tt; same = same-itself (i .memory) }
+
+pub saved-sized : (m : ℕ) (b : Buffers) → Sized m b → Sized m (saved b)
+unfolding saved
+saved-sized m b z = record { state = z .state; store = z .state }

@@ -2,3 +2,6 @@ pub mod RecoveryLaws
 pub mod BufferLaws
 pub mod Keeping
 pub mod Arriving
+pub mod Entries
+pub mod Runs
+pub mod Agreement

@@ -38,3 +38,7 @@ stepIn b e o = stepOn (sourceIn b e) e o
 -- What a step leaves: the state's buffer, stored where the store word is 1.
 unfoldable pub keptAfter : Buffers → Result → Buffers
 keptAfter b r = record { state = r .state; store = pick (r .store =? 1) (r .state) (b .store) }
+
+-- A store between two events.
+unfoldable pub saved : Buffers → Buffers
+saved b = record { state = b .state; store = b .state }

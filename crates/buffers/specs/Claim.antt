@@ -1,6 +1,6 @@
--- Demand 3 on the buffers of daemons: what is claimed of them in every allowed run.
+-- Demand 3 on the buffers of daemons: what is claimed of them in every allowed run, refused events included.
 -- Assumes nothing.
-use Prim.Native.Nat.{ℕ, _<_}
+use Prim.Native.Nat.{ℕ, _≤_, _<_}
 use mathlib.Core.Path.{_≡_}
 use mathlib.Core.Bool.{false}
 use mathlib.Core.List.{List}
@@ -8,22 +8,16 @@ use mathlib.Core.Option.{some}
 use lib.ListN.{length, take}
 use Rattle.base.specs.Tests.{pick}
 use Rattle.base.specs.Bytes.{joined}
-use Rattle.base.specs.Lists.{at}
+use Rattle.base.specs.Lists.{at, Begins}
 use Rattle.format.specs.Types.{Action, Primary}
-use Rattle.replication.specs.Machine.Types.{Server}
 use Rattle.replication.specs.Images.{arrive}
-use Rattle.replication.specs.Replay.{returned}
 use Rattle.replication.specs.Runs.Run.{event, Run, worldAt, putOut}
-use Rattle.replication.specs.Runs.Allowed.{Allowed}
+use Rattle.replication.specs.Runs.Strays.{AllowedWithStrays}
 use Rattle.replication.specs.Runs.Claim.{ListsAgree, PrimariesAgree}
 use Rattle.engine.specs.Decode.{decoded, readImage}
-use Rattle.engine.specs.Outcome.{Result}
-use Rattle.buffers.specs.Buffers.{Buffers, stepIn}
-use Rattle.buffers.specs.Daemons.{Daemons, Memory, LongEnough, daemonsAt}
-
--- The buffer that a server's green list is read from: the stored image while it is down, else the state's buffer.
-unfoldable pub shown : Daemons → ℕ → List ℕ
-shown d i = pick (d .down i) (d .buffers i .store) (d .buffers i .state)
+use Rattle.engine.specs.Outcome.{Result, resultOf}
+use Rattle.buffers.specs.Buffers.{Buffers, sourceIn, stepIn}
+use Rattle.buffers.specs.Daemons.{Daemons, Lending, LongEnough, daemonsAt}
 
 unfoldable pub greenIn : List ℕ → List Action
 greenIn b = decoded b .log .green
@@ -31,34 +25,48 @@ greenIn b = decoded b .log .green
 unfoldable pub primaryIn : List ℕ → Primary
 primaryIn b = decoded b .votes .last
 
--- A buffer from which a last primary may be read: the state's buffer of a server that is up, and any stored image.
-pub data Readable (d : Daemons) (i : ℕ) : List ℕ → Type 0 where
-  running : d .down i ≡ false → Readable d i (d .buffers i .state)
-  stored : Readable d i (d .buffers i .store)
+-- The buffer that a server's green list is read from: the stored image while it is down, else the state's buffer.
+unfoldable pub shown : Daemons → ℕ → List ℕ
+shown d i = pick (d .down i) (d .buffers i .store) (d .buffers i .state)
 
-module _ (n q : ℕ) (l : Run) (m : Memory) where
-  abbrev now : ℕ → Daemons
-  now p = daemonsAt n q l m p
+-- The buffers of the server i that hold a state: the state's while it is up, the stored image always.
+pub data HeldBy (d : Daemons) (i : ℕ) : List ℕ → Type 0 where
+  running : d .down i ≡ false → HeldBy d i (d .buffers i .state)
+  stored : HeldBy d i (d .buffers i .store)
+
+module _ (n q : ℕ) (l : Run) (x : Lending) where
+  abbrev daemons : ℕ → Daemons
+  daemons p = daemonsAt n q l x p
+
+  -- The daemons do what the machine does.
+  pub record BuffersFollow : Type 0 where
+    pub down : (p i : ℕ) → i < n → daemons p .down i ≡ worldAt n q l p .down i
+    pub state : (p i : ℕ) → i < n → daemons p .down i ≡ false → readImage (daemons p .buffers i .state) ≡ some (worldAt n q l p .images i .memory)
+    pub store : (p i : ℕ) → i < n → readImage (daemons p .buffers i .store) ≡ some (worldAt n q l p .images i .store)
+    -- Number, store word and buffers are the machine's answer; no event gets 7 or 8.
+    pub answer : (p i k : ℕ) (e : List ℕ) → at l p ≡ some (event i e k)
+        → stepIn (daemons p .buffers i) e (x .out p)
+        ≡ resultOf (arrive (worldAt n q l p .images i) e) (sourceIn (daemons p .buffers i) e) (x .out p)
+    -- The outgoing buffer begins with the records that the event puts out.
+    pub records : (p i k : ℕ) (e : List ℕ) (r : Result) → at l p ≡ some (event i e k) → stepIn (daemons p .buffers i) e (x .out p) ≡ r
+        → take (r .sent) (r .out) ≡ joined (putOut n q l p)
+    -- No buffer's length changes: each copy fits.
+    pub state-length : (p i : ℕ) → i < n → length (daemons p .buffers i .state) ≡ length (x .first i .state)
+    pub store-length : (p i : ℕ) → i < n → length (daemons p .buffers i .store) ≡ length (x .first i .state)
 
   pub record BuffersAgree : Type 0 where
-    -- The daemon knows which servers are down, and its buffers read as the machine's states.
-    pub down : (p i : ℕ) → i < n → now p .down i ≡ worldAt n q l p .down i
-    pub state : (p i : ℕ) → i < n → now p .down i ≡ false → readImage (now p .buffers i .state) ≡ some (worldAt n q l p .images i .memory)
-    pub store : (p i : ℕ) → i < n → readImage (now p .buffers i .store) ≡ some (worldAt n q l p .images i .store)
     -- "equal exactly when equally long, else the shorter begins the longer"
-    pub green : (p i j : ℕ) → i < n → j < n → ListsAgree (greenIn (shown (now p) i)) (greenIn (shown (now p) j))
-    -- "Stored green lists agree likewise at different moments"
-    pub stored-green : (p r i j : ℕ) → i < n → j < n → ListsAgree (greenIn (now p .buffers i .store)) (greenIn (now r .buffers j .store))
+    pub green : (p i j : ℕ) → i < n → j < n → ListsAgree (greenIn (shown (daemons p) i)) (greenIn (shown (daemons p) j))
     -- "two primary components are equal, members and all, exactly when their indexes are"
-    pub primary : (p r i j : ℕ) (b c : List ℕ) → i < n → j < n → Readable (now p) i b → Readable (now r) j c → PrimariesAgree (primaryIn b) (primaryIn c)
-    -- Each event's answer: the machine's number, and the records that the event puts out in the run, at the front of the outgoing buffer.
-    pub number : (p i k : ℕ) (e : List ℕ) → at l p ≡ some (event i e k)
-        → stepIn (now p .buffers i) e (m .out p) .number ≡ returned (arrive (worldAt n q l p .images i) e)
-    pub records : (p i k : ℕ) (e : List ℕ) → at l p ≡ some (event i e k)
-        → take (stepIn (now p .buffers i) e (m .out p) .sent) (stepIn (now p .buffers i) e (m .out p) .out) ≡ joined (putOut n q l p)
-    -- No buffer's length changes: each copy fits.
-    pub lengths : (p i : ℕ) → i < n → (length (now p .buffers i .state) ≡ length (m .first i .state)) × (length (now p .buffers i .store) ≡ length (m .first i .state))
+    pub primary : (p r i j : ℕ) (b c : List ℕ) → i < n → j < n → HeldBy (daemons p) i b → HeldBy (daemons r) j c
+        → PrimariesAgree (primaryIn b) (primaryIn c)
+    -- "Stored green lists agree likewise at different moments"
+    pub stored : (p r i j : ℕ) → i < n → j < n → ListsAgree (greenIn (daemons p .buffers i .store)) (greenIn (daemons r .buffers j .store))
+    -- What is green in a stored image keeps its place: later it agrees with the buffer of any server that is up, and no stored image loses it.
+    pub later : (p r i j : ℕ) → p ≤ r → i < n → j < n → daemons r .down j ≡ false
+        → ListsAgree (greenIn (daemons p .buffers i .store)) (greenIn (daemons r .buffers j .state))
+    pub kept : (p r i : ℕ) → p ≤ r → i < n → Begins (greenIn (daemons p .buffers i .store)) (greenIn (daemons r .buffers i .store))
 
--- Demand 3 on buffers.
+-- Demand 3 on buffers: for any bytes in the lent buffers, if they are long enough.
 unfoldable pub BuffersDemand : Type 0
-BuffersDemand = (n q : ℕ) (l : Run) → Allowed n q l → (m : Memory) → LongEnough n q l m → BuffersAgree n q l m
+BuffersDemand = (n q : ℕ) (l : Run) → AllowedWithStrays n q l → (x : Lending) → LongEnough n q l x → BuffersFollow n q l x × BuffersAgree n q l x

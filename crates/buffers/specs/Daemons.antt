@@ -1,4 +1,4 @@
--- The daemons of a run's servers: their buffers before each place.
+-- The daemons of a run's servers: what they keep at each of its places.
 -- Assumes nothing.
 use Prim.Native.Nat.{ℕ, zero, suc, _≤_, _<_}
 use mathlib.Core.Path.{_≡_}
@@ -8,30 +8,30 @@ use mathlib.Core.Option.{Option, none, some}
 use lib.ListN.{length}
 use Rattle.base.specs.Tests.{_=?_, pick}
 use Rattle.base.specs.Lists.{at, upd}
-use Rattle.replication.specs.Runs.Run.{Entry, event, crash, Run}
+use Rattle.replication.specs.Runs.Run.{Entry, event, crash, store, Run}
 use Rattle.engine.specs.Layout.{outLength}
-use Rattle.buffers.specs.Buffers.{Buffers, Lent, begun, stepIn, keptAfter}
+use Rattle.buffers.specs.Buffers.{Buffers, Lent, begun, stepIn, keptAfter, saved}
 
 -- Every server's buffers, and which servers are down.
 pub record Daemons : Type 0 where
   pub buffers : ℕ → Buffers
   pub down : ℕ → Bool
 
--- The bytes that a run leaves open: each server's buffers at first, the outgoing buffer of the event at each place, and what the state's buffer
--- holds after the crash at each place (memory is lost).
-pub record Memory : Type 0 where
+-- The bytes that a run leaves open: each server's buffers at first, the outgoing buffer at each place, and what the state's buffer holds after the crash
+-- at each place: memory is lost.
+pub record Lending : Type 0 where
   pub first : ℕ → Buffers
   pub out : ℕ → List ℕ
   pub crashed : ℕ → List ℕ
 
--- They are as long as they must be.
-pub record LongEnough (n q : ℕ) (l : Run) (m : Memory) : Type 0 where
-  pub first : (i : ℕ) → i < n → Lent n q (m .first i)
-  pub out : (p : ℕ) → outLength n q ≤ length (m .out p)
-  pub crashed : (p i : ℕ) → at l p ≡ some (crash i) → length (m .crashed p) ≡ length (m .first i .state)
+-- Any bytes, as long as they must be.
+pub record LongEnough (n q : ℕ) (l : Run) (x : Lending) : Type 0 where
+  pub first : (i : ℕ) → i < n → Lent n q (x .first i)
+  pub out : (p : ℕ) → outLength n q ≤ length (x .out p)
+  pub crashed : (p i : ℕ) → at l p ≡ some (crash i) → length (x .crashed p) ≡ length (x .first i .state)
 
--- What an entry makes of them, with the outgoing buffer o, and c in the state's buffer after a crash. A server that is down stays down until an event is
--- taken.
+-- What an entry makes of the daemons, with the outgoing buffer o, or c in the state's buffer after a crash. A server that is down is up again when
+-- an event returns 0.
 unfoldable pub daemonsAfter : Daemons → (o c : List ℕ) → Option Entry → Daemons
 daemonsAfter d o c none = d
 daemonsAfter d o c (some (event i e k)) = record {
@@ -40,9 +40,9 @@ daemonsAfter d o c (some (event i e k)) = record {
 }
 daemonsAfter d o c (some (crash i)) =
     record { buffers = upd (d .buffers) i (record { state = c; store = d .buffers i .store }); down = upd (d .down) i true }
+daemonsAfter d o c (some (store i)) = record { buffers = upd (d .buffers) i (saved (d .buffers i)); down = d .down }
 
-module _ (n q : ℕ) (l : Run) (m : Memory) where
-  -- Before the entry p.
-  unfoldable pub daemonsAt : ℕ → Daemons
-  daemonsAt zero = record { buffers = λ i. begun n q i (m .first i); down = λ i. false }
-  daemonsAt (suc p) = daemonsAfter (daemonsAt p) (m .out p) (m .crashed p) (at l p)
+-- Before the place p.
+unfoldable pub daemonsAt : (n q : ℕ) → Run → Lending → ℕ → Daemons
+daemonsAt n q l x zero = record { buffers = λ i. begun n q i (x .first i); down = λ i. false }
+daemonsAt n q l x (suc p) = daemonsAfter (daemonsAt n q l x p) (x .out p) (x .crashed p) (at l p)
