@@ -211,10 +211,9 @@ module _ {n q : ℕ} {l : Run} (S : AllowedWithStrays n q l) where
         (a .later (place p) (place r) i j (kept-rises (S .stray) p r o) h k (ap (λ w. w .down j) (sym (world-kept r)) ∙ d));
     kept = λ p r i o h. subst₂ (λ x y. Begins x y) (stored-kept p i) (stored-kept r i) (a .kept (place p) (place r) i (kept-rises (S .stray) p r o) h);
     known = λ p i h.
-        let k = a .known (place p) i h in (
-          primary-within _ (subst (λ w. IsPrimary n q m (w .images i .memory .votes .last)) (sym (world-kept p)) (k .0)),
-          primary-within _ (subst (λ w. IsPrimary n q m (w .images i .store .votes .last)) (sym (world-kept p)) (k .1)),
-        );
+        let k = a .known (place p) i h in
+        (primary-within _ (subst (λ w. IsPrimary n q m (w .images i .memory .votes .last)) (sym (world-kept p)) (k .0)),
+        primary-within _ (subst (λ w. IsPrimary n q m (w .images i .store .votes .last)) (sym (world-kept p)) (k .1)));
   }
 
 -- ---- with no strays
