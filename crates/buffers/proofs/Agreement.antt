@@ -12,15 +12,16 @@ use Rattle.base.specs.Lists.{at, Begins}
 use Rattle.format.specs.Types.{Action, Primary}
 use Rattle.replication.specs.Machine.Types.{Server}
 use Rattle.replication.specs.Images.{Images, arrive}
-use Rattle.replication.specs.Runs.Run.{event, Run, worldAt, putOut}
+use Rattle.replication.specs.Runs.Run.{event, Run, worldAt, putOut, sentAt}
 use Rattle.replication.specs.Runs.Strays.{AllowedWithStrays}
 use Rattle.replication.specs.Runs.Claim.{ListsAgree, PrimariesAgree, storedGreen, memoryGreen, greenAt, IsPrimary, Agreement, Consequences, Demand3, Corollaries}
 use Rattle.replication.proofs.Agreement.Greens.Demand.{demand3, corollaries}
-use Rattle.replication.proofs.Runs.Places.{put-out-at}
+use Rattle.replication.proofs.Runs.Places.{put-out-at, sent-at}
 use Rattle.engine.specs.Decode.{decoded}
 use Rattle.engine.specs.Outcome.{Result}
 use Rattle.engine.proofs.InPlace.{Holds, holds-decoded}
 use Rattle.buffers.specs.Buffers.{Buffers, isRecovery, stepIn}
+use Rattle.buffers.specs.Sending.{cutRecords}
 use Rattle.buffers.specs.Daemons.{Daemons, Lending, LongEnough, daemonsAt}
 use Rattle.buffers.specs.Claim.{greenIn, primaryIn, shown, HeldBy, running, stored, BuffersFollow, BuffersAgree, BuffersDemand}
 use Rattle.buffers.proofs.Keeping.{KeepsWhere, keeps-where, holds-read}
@@ -54,12 +55,20 @@ module _ {n q : ℕ} {l : Run} (S : AllowedWithStrays n q l) (x : Lending) (long
 
   -- ---- the daemons do what the machine does
 
-  records-are : (p i k : ℕ) (e : List ℕ) (r : Result) → at l p ≡ some (event i e k) → stepIn (daemons p .buffers i) e (x .out p) ≡ r
-      → take (r .sent) (r .out) ≡ joined (putOut n q l p)
-  records-are p i k e r h f =
-      let a : Arrives (images p i) (arrive (images p i) e) (daemons p .buffers i) (stepIn (daemons p .buffers i) e (x .out p))
-      = arrives (images p i) (daemons p .buffers i) e (event-keeps S x long p i k e h) (x .out p) (out-room S x long p i) in
-      ap (λ (y : Result). take (y .sent) (y .out)) (sym f) ∙ a .records ∙ ap joined (sym (put-out-at n q l p i k e h))
+  module _ (p i k : ℕ) (e : List ℕ) (r : Result) (h : at l p ≡ some (event i e k)) (f : stepIn (daemons p .buffers i) e (x .out p) ≡ r) where
+    arrived : Arrives (images p i) (arrive (images p i) e) (daemons p .buffers i) r
+    arrived =
+        subst (Arrives (images p i) (arrive (images p i) e) (daemons p .buffers i)) f
+        (arrives (images p i) (daemons p .buffers i) e (event-keeps S x long p i k e h) (x .out p) (out-room S x long p i))
+
+    bytes-are : take (r .sent) (r .out) ≡ joined (putOut n q l p)
+    bytes-are = arrived .bytes ∙ ap joined (sym (put-out-at n q l p i k e h))
+
+    records-are : cutRecords (take (r .sent) (r .out)) ≡ putOut n q l p
+    records-are = arrived .records ∙ sym (put-out-at n q l p i k e h)
+
+    sent-are : take k (cutRecords (take (r .sent) (r .out))) ≡ sentAt n q l p
+    sent-are = ap (take k) records-are ∙ sym (sent-at n q l p i k e h)
 
   pub buffers-follow : BuffersFollow n q l x
   buffers-follow = record {
@@ -67,7 +76,9 @@ module _ {n q : ℕ} {l : Run} (S : AllowedWithStrays n q l) (x : Lending) (long
     state = λ p i b d. holds-read _ _ (state-holds p i b d);
     store = λ p i b. holds-read _ _ (store-holds p i b);
     answer = λ p i k e h. answered (images p i) (daemons p .buffers i) e (event-keeps S x long p i k e h) (x .out p) (out-room S x long p i);
+    bytes = bytes-are;
     records = records-are;
+    sent = sent-are;
     state-length = λ p i b. at-server p i b .sized .state;
     store-length = λ p i b. at-server p i b .sized .store;
   }

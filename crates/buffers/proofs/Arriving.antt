@@ -3,7 +3,7 @@
 use Prim.Native.Nat.{ℕ, _≤_}
 use mathlib.Core.Path.{_≡_, refl, sym, ap, subst, _∙_}
 use mathlib.Core.Bool.{Bool, true, false}
-use mathlib.Core.List.{List}
+use mathlib.Core.List.{List, []}
 use native.Mathlib.Omega.{arith}
 use lib.ListN.{length, take, drop}
 use lib.Seq.{take-at}
@@ -30,8 +30,10 @@ use Rattle.engine.proofs.ImageLaws.{image-length}
 use Rattle.engine.proofs.InPlace.{Holds}
 use Rattle.engine.proofs.Taken.{taken-holds}
 use Rattle.buffers.specs.Buffers.{Buffers, isRecovery, sourceIn, stepIn, keptAfter}
+use Rattle.buffers.specs.Sending.{cutRecords}
 use Rattle.buffers.proofs.RecoveryLaws.{recovery-says, recovery-read}
 use Rattle.buffers.proofs.BufferLaws.{source-stored, source-running, kept-state, kept-stored, kept-unstored}
+use Rattle.buffers.proofs.SendingLaws.{cut-short, put-out-cut}
 use Rattle.buffers.proofs.Keeping.{KeepsWhere, Keeps, Sized, same-itself, formed-context, holds-step}
 
 -- The answer r to an event with the outcome o.
@@ -39,7 +41,8 @@ pub record Arrives (i : Images) (o : Outcome (List ℕ)) (b : Buffers) (r : Resu
   pub kept : Keeps (leftBy o i) (keptAfter b r)
   pub same : SameServer (i .memory) (leftBy o i .memory)
   pub number : r .number ≡ returned o
-  pub records : take (r .sent) (r .out) ≡ joined (recordsOf o)
+  pub bytes : take (r .sent) (r .out) ≡ joined (recordsOf o)
+  pub records : cutRecords (take (r .sent) (r .out)) ≡ recordsOf o
   pub lengths : (m : ℕ) → Sized m b → Sized m (keptAfter b r)
 
 same-twice : (s t u : Server) → SameServer s t → SameServer s u → SameServer t u
@@ -108,7 +111,8 @@ module _ (i : Images) (b : Buffers) (e : List ℕ) (k : KeepsWhere (isRecovery e
     kept = record { formed = k .formed; memory = λ u. subst (Holds (i .memory)) state (k .memory running); store = subst (Holds (i .store)) store (k .store); same = k .same };
     same = same-itself (i .memory);
     number = refl;
-    records = refl;
+    bytes = refl;
+    records = cut-short [] (omega arith);
     lengths = λ x y. record { state = ap length (sym state) ∙ y .state; store = ap length (sym store) ∙ y .store };
   }
     where
@@ -128,7 +132,8 @@ module _ (i : Images) (b : Buffers) (e : List ℕ) (k : KeepsWhere (isRecovery e
     kept = record { formed = here .formed; memory = λ u. subst (Holds t) state here; store = stored; same = same-stored };
     same = same-memory;
     number = refl;
-    records = take-at (joined rs) (drop (length (joined rs)) z) (length (joined rs)) refl;
+    bytes = front;
+    records = ap cutRecords front ∙ put-out-cut s e t rs w g (source-holds .formed) h;
     lengths = λ m y. record {
       state = ap length (sym state) ∙ size m y;
       store = word-stored (λ x. length x ≡ m) b r w refl (λ q. size m y) (λ q. y .store);
@@ -137,6 +142,9 @@ module _ (i : Images) (b : Buffers) (e : List ℕ) (k : KeepsWhere (isRecovery e
     where
       r : Result
       r = resultOf (taken t rs w g) before z
+
+      front : take (r .sent) (r .out) ≡ joined rs
+      front = take-at (joined rs) (drop (length (joined rs)) z) (length (joined rs)) refl
 
       here : Holds t (image t before)
       here = taken-holds s e t rs w g h before source-holds

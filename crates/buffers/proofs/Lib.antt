@@ -1,6 +1,7 @@
 pub mod RecoveryLaws
 pub mod BufferLaws
 pub mod Keeping
+pub mod SendingLaws
 pub mod Arriving
 pub mod Entries
 pub mod Runs

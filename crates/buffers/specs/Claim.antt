@@ -11,12 +11,13 @@ use Rattle.base.specs.Bytes.{joined}
 use Rattle.base.specs.Lists.{at, Begins}
 use Rattle.format.specs.Types.{Action, Primary}
 use Rattle.replication.specs.Images.{arrive}
-use Rattle.replication.specs.Runs.Run.{event, Run, worldAt, putOut}
+use Rattle.replication.specs.Runs.Run.{event, Run, worldAt, putOut, sentAt}
 use Rattle.replication.specs.Runs.Strays.{AllowedWithStrays}
 use Rattle.replication.specs.Runs.Claim.{ListsAgree, PrimariesAgree}
 use Rattle.engine.specs.Decode.{decoded, readImage}
 use Rattle.engine.specs.Outcome.{Result, resultOf}
 use Rattle.buffers.specs.Buffers.{Buffers, sourceIn, stepIn}
+use Rattle.buffers.specs.Sending.{cutRecords}
 use Rattle.buffers.specs.Daemons.{Daemons, Lending, LongEnough, daemonsAt}
 
 unfoldable pub greenIn : List ℕ → List Action
@@ -47,9 +48,14 @@ module _ (n q : ℕ) (l : Run) (x : Lending) where
     pub answer : (p i k : ℕ) (e : List ℕ) → at l p ≡ some (event i e k)
         → stepIn (daemons p .buffers i) e (x .out p)
         ≡ resultOf (arrive (worldAt n q l p .images i) e) (sourceIn (daemons p .buffers i) e) (x .out p)
-    -- The outgoing buffer begins with the records that the event puts out.
-    pub records : (p i k : ℕ) (e : List ℕ) (r : Result) → at l p ≡ some (event i e k) → stepIn (daemons p .buffers i) e (x .out p) ≡ r
+    -- The outgoing buffer begins with the records that the event puts out, one behind the other; cut by their length bytes they are these records,
+    -- and the first k of them are those that the run says were sent.
+    pub bytes : (p i k : ℕ) (e : List ℕ) (r : Result) → at l p ≡ some (event i e k) → stepIn (daemons p .buffers i) e (x .out p) ≡ r
         → take (r .sent) (r .out) ≡ joined (putOut n q l p)
+    pub records : (p i k : ℕ) (e : List ℕ) (r : Result) → at l p ≡ some (event i e k) → stepIn (daemons p .buffers i) e (x .out p) ≡ r
+        → cutRecords (take (r .sent) (r .out)) ≡ putOut n q l p
+    pub sent : (p i k : ℕ) (e : List ℕ) (r : Result) → at l p ≡ some (event i e k) → stepIn (daemons p .buffers i) e (x .out p) ≡ r
+        → take k (cutRecords (take (r .sent) (r .out))) ≡ sentAt n q l p
     -- No buffer's length changes: each copy fits.
     pub state-length : (p i : ℕ) → i < n → length (daemons p .buffers i .state) ≡ length (x .first i .state)
     pub store-length : (p i : ℕ) → i < n → length (daemons p .buffers i .store) ≡ length (x .first i .state)
