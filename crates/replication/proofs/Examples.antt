@@ -1,4 +1,5 @@
 pub mod Pairs
 pub mod Rows
 pub mod Worked
+pub mod PartitionWitness
 pub mod Partition

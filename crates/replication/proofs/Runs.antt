@@ -14,6 +14,7 @@ pub mod Readings
 pub mod Coupling
 pub mod AllowedTurns
 pub mod Sending
+pub mod Rising
 pub mod ControlPart
 pub mod Order
 pub mod Origins
@@ -30,3 +31,4 @@ pub mod Made
 pub mod DeliveryLists
 pub mod Agreement
 pub mod Strays
+pub mod Noted

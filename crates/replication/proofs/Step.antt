@@ -28,3 +28,4 @@ pub mod Rising
 pub mod Primary
 pub mod Configurations
 pub mod Kinds
+pub mod Noted

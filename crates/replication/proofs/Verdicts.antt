@@ -10,4 +10,5 @@ pub mod PerConfiguration
 pub mod SpecificationFields
 pub mod OrderFields
 pub mod Sound
+pub mod Strays
 pub mod Runs

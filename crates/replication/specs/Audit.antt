@@ -6,4 +6,5 @@ pub mod Journal
 pub mod Rules
 pub mod Specifications
 pub mod Verdict
+pub mod Strays
 pub mod Opened

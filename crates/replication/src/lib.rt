@@ -2,18 +2,25 @@
 // A function here does nothing: its contract is a theorem.
 ghost use Rattle.replication.specs.Pairs.{Pairs};
 ghost use Rattle.replication.specs.Runs.Claim.{Demand3, Corollaries};
+ghost use Rattle.replication.specs.Runs.Noted.{NotedNeverFall};
 
 // Document 01's pairs P1 to P8.
 pub fn pairs()
     ensures { λ _. ⌜ Pairs ⌝ }
 {}
 
-// Demand 3: in every allowed run, at every moment, green lists agree and primary components agree.
+// Demand 3: in every allowed run, stray events included, at every moment, green lists agree and primary components agree.
 pub fn runs_agree()
     ensures { λ _. ⌜ Demand3 ⌝ }
 {}
 
-// Stored green lists agree at different moments too; every last primary known anywhere is one of the primary components.
+// Stored green lists agree at different moments too; what is green in a store keeps its place; every last primary known anywhere is one of the
+// primary components.
 pub fn corollaries()
     ensures { λ _. ⌜ Corollaries ⌝ }
+{}
+
+// "a noted length never falls", in every run.
+pub fn noted_never_fall()
+    ensures { λ _. ⌜ NotedNeverFall ⌝ }
 {}

@@ -1,13 +1,21 @@
--- A run of 274 events at three servers with a quota of 16 that reaches all eight states: an allowed run with refused events in between.
+-- A run of 274 events at three servers with a quota of 16 that reaches all eight states: allowed with strays, which are its events refused 5 or 6.
 -- Primary components are installed from event 20, 55, 121 and 140 on, one of them from Un at 129; No is first reached at 81, Un at 83.
 -- Refused 5 first at 7, 2 at 41, 1 at 114, 6 at 136, and 3 at 193, where a server has used its quota.
--- samples/partition.bin is its input, samples/partition.txt its output.
+-- samples/partition.bin is its input, samples/partition.txt its output; the rows are written from them by scripts/partition.py.
 -- Assumes nothing.
 use mathlib.Core.Path.{_≡_, refl}
+use mathlib.Core.Bool.{true}
 use mathlib.Core.List.{List, [], _∷_}
 use Rattle.replication.specs.Replay.{replay}
-use Rattle.replication.specs.Opened.{opened}
-use Rattle.replication.proofs.Examples.Rows.{Row, row, digit, pairsOf, hex, eventsIn, linesIn, inputOf, outputOf}
+use Rattle.replication.specs.Runs.Run.{Run}
+use Rattle.replication.specs.Runs.Strays.{AllowedWithStrays}
+use Rattle.replication.specs.Runs.Claim.{Agreement, Demand3}
+use Rattle.replication.specs.Audit.Opened.{opened}
+use Rattle.replication.specs.Audit.Strays.{auditWithStrays}
+use Rattle.replication.proofs.Verdicts.Strays.{strays-sound}
+use Rattle.replication.proofs.Agreement.Greens.Demand.{demand3}
+use Rattle.replication.proofs.Examples.Rows.{Row, row, digit, pairsOf, hex, eventsIn, linesIn, inputOf, outputOf, runOf}
+use Rattle.replication.proofs.Examples.PartitionWitness.{strays, witness}
 
 unfoldable pub rows : List Row
 rows =
@@ -290,3 +298,19 @@ rows =
 pub partition : replay 4 16 (inputOf (record { servers = 3; quota = 16 }) rows) ≡ outputOf rows
 unfolding opened rows digit pairsOf hex eventsIn linesIn inputOf outputOf
 partition = refl
+
+unfoldable pub run : Run
+run = runOf rows
+
+passes : auditWithStrays 3 16 run strays witness ≡ true
+unfolding opened rows digit pairsOf hex runOf run strays witness
+passes = refl
+
+-- Allowed without its strays ..
+pub allowed : AllowedWithStrays 3 16 run
+allowed = strays-sound 3 16 run strays witness passes
+
+-- .. and with them all agree.
+pub agrees : Agreement 3 16 run
+unfolding Demand3
+agrees = demand3 3 16 run allowed

@@ -1,4 +1,4 @@
--- A run as rows: each event in hexadecimal at a server, and the line that it prints.
+-- A run as rows: each event in hexadecimal at a server, all of whose records are sent, and the line that it prints.
 -- Assumes nothing.
 use Prim.Native.Nat.{ℕ, _+_, _-_, _*_}
 use Prim.Native.String.{String}
@@ -6,6 +6,7 @@ use mathlib.Core.List.{List, [], _∷_, _++_}
 use Rattle.base.specs.Tests.{_<?_, pick}
 use Rattle.base.specs.Text.{ascii}
 use Rattle.format.specs.Setup.{Setup, writeSetup}
+use Rattle.replication.specs.Runs.Run.{event, Run}
 
 -- The value of a digit 0 to 9 or a to f, by its code.
 unfoldable pub digit : ℕ → ℕ
@@ -37,3 +38,11 @@ inputOf s rows = writeSetup s ++ eventsIn rows
 
 unfoldable pub outputOf : List Row → List ℕ
 outputOf rows = ascii "event server returned state red green prim sent\n" ++ linesIn rows
+
+-- More records than one event of these runs sends.
+abbrev everyRecord : ℕ
+everyRecord = 256
+
+unfoldable pub runOf : List Row → Run
+runOf [] = []
+runOf (row k e t ∷ rows) = event k (hex e) everyRecord ∷ runOf rows

@@ -6,19 +6,17 @@ use mathlib.Core.List.{List}
 use mathlib.Core.Logic.{_⊎_, inl, inr}
 use native.Mathlib.Omega.{arith}
 use Rattle.base.specs.Chains.{chain}
-use Rattle.replication.specs.Machine.Types.{Server, Outcome, start}
+use Rattle.replication.specs.Machine.Types.{Server, start}
 use Rattle.replication.specs.Machine.Requests.{recovered}
-use Rattle.replication.specs.Images.{arrive, leftBy}
-use Rattle.replication.specs.Laws.Images.{next}
 use Rattle.replication.specs.Laws.Order.{SameControl, Grows}
 use Rattle.replication.specs.Laws.Transitions.{Transition}
 use Rattle.replication.specs.Runs.Run.{Run, worldAt}
 use Rattle.replication.specs.Runs.Allowed.{Allowed}
 use Rattle.replication.proofs.Step.Control.{control-refl, control-trans, unstored-keeps, control-stored}
-use Rattle.replication.proofs.Step.Growth.{grows-refl, grows-trans, transition-grows, store-begins, store-grows}
+use Rattle.replication.proofs.Step.Growth.{grows-refl, grows-trans, transition-grows, taken-grows}
 use Rattle.replication.proofs.Step.Numbered.{numbered-reds}
-use Rattle.replication.proofs.Runs.Lived.{images-lived, at-place}
-use Rattle.replication.proofs.Runs.Turns as T
+use Rattle.replication.proofs.Runs.Lived.{at-place}
+use Rattle.replication.proofs.Runs.Rising.{store-below-memory, store-rises-between}
 use Rattle.replication.proofs.Runs.AllowedTurns.{memoryAt, storeAt, Acts, AllowedTurn, rests, crashes, saves, refuses, recovers, acts, allowed-turn}
 
 pub control-sym : {s t : Server} → SameControl s t → SameControl t s
@@ -31,6 +29,9 @@ pub recovered-control : (s : Server) → SameControl s (recovered s)
 unfolding recovered
 recovered-control s = record { last = refl; attempt = refl; mark = refl; numbered = numbered-reds (s .log .own) (s .log) }
 
+abbrev logGrows : Server → Server → Type 0
+logGrows s t = Grows (s .log) (t .log)
+
 module _ (n q : ℕ) (l : Run) where
   -- Memory and store agree on the control part, for every server at every place.
   pub control-at : (i p : ℕ) → SameControl (storeAt n q l p i) (memoryAt n q l p i)
@@ -38,33 +39,12 @@ module _ (n q : ℕ) (l : Run) where
 
   -- The store's log is one that the memory's has grown from.
   pub store-below : (i p : ℕ) → Grows (storeAt n q l p i .log) (memoryAt n q l p i .log)
-  store-below i p = at-place n q l (λ x. Grows (x .store .log) (x .memory .log)) i (store-begins (start n q i)) p
+  store-below i p = store-below-memory logGrows (λ s. grows-refl (s .log)) (λ s t u x y. grows-trans x y) taken-grows n q l i p
 
-  -- From one place to the next the store's log only grows.
-  pub store-grows-at : (i p : ℕ) → Grows (storeAt n q l p i .log) (storeAt n q l (suc p) i .log)
-  unfolding next leftBy
-  store-grows-at i p = go (T.turn n q l p i)
-    where
-      one : (e : List ℕ) (o : Outcome (List ℕ)) → arrive (worldAt n q l p .images i) e ≡ o
-          → worldAt n q l (suc p) .images i ≡ leftBy o (worldAt n q l p .images i) → Grows (storeAt n q l p i .log) (storeAt n q l (suc p) i .log)
-      one e o a m =
-          let x = images-lived n q l p i in
-          subst (λ y. Grows (storeAt n q l p i .log) (y .store .log)) (sym (m ∙ ap (λ y. leftBy y (worldAt n q l p .images i)) (sym a)))
-          (subst (λ y. Grows (y .store .log) ((leftBy (arrive y e) y) .store .log)) (sym (x .1)) (store-grows (start n q i) (x .0) e))
-
-      same : worldAt n q l (suc p) .images i ≡ worldAt n q l p .images i → Grows (storeAt n q l p i .log) (storeAt n q l (suc p) i .log)
-      same m = subst (λ y. Grows (storeAt n q l p i .log) (y .store .log)) (sym m) (grows-refl _)
-
-      go : T.Turn n q l p i → Grows (storeAt n q l p i .log) (storeAt n q l (suc p) i .log)
-      go (T.rests o m c d) = same m
-      go (T.crashes x m c d) = same m
-      go (T.saves x m c d) = subst (λ y. Grows (storeAt n q l p i .log) (y .store .log)) (sym m) (store-below i p)
-      go (T.refuses e k z h a m c d) = one e _ a m
-      go (T.acts e k t bs b g h a m c d) = one e _ a m
-
+  -- The store's log only grows.
   pub store-grows-between : (i p r : ℕ) → p ≤ r → Grows (storeAt n q l p i .log) (storeAt n q l r i .log)
   store-grows-between i p r h =
-      chain (λ x y. Grows x y) grows-refl (λ a b c. grows-trans) (λ x. storeAt n q l x i .log) p r h (λ x a b. store-grows-at i x)
+      store-rises-between logGrows (λ s. grows-refl (s .log)) (λ s t u x y. grows-trans x y) taken-grows n q l i p r h
 
 module _ {n q : ℕ} {l : Run} (A : Allowed n q l) where
   -- A place changes the control part of a server only by an event that it takes and stores.

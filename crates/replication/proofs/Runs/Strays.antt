@@ -9,16 +9,18 @@ use native.Mathlib.Omega.{arith}
 use lib.ListN.{take}
 use Rattle.base.specs.Tests.{pick, not-both, Known, holds, fails, known}
 use Rattle.base.specs.Lists.{at, upd, Begins}
-use Rattle.base.specs.AtLaws.{none-some, some-same, Upd, here, elsewhere, upd?}
+use Rattle.base.specs.AtLaws.{none-some, at-in-take, Upd, here, elsewhere, upd?}
 use Rattle.format.specs.Types.{Action, Primary}
 use Rattle.replication.specs.Machine.Types.{Server, Outcome, taken}
 use Rattle.replication.specs.Machine.Step.{installs}
 use Rattle.replication.specs.Images.{sourceOf, arrive, leftBy}
 use Rattle.replication.specs.Runs.Run.{Entry, event, Run, World, beginning, downAfter, worldAfter, worldThrough, worldAt}
 use Rattle.replication.specs.Runs.Allowed.{Allowed}
-use Rattle.replication.specs.Runs.Strays.{IsStray, without, AllowedWithStrays}
+use Rattle.replication.specs.Runs.Strays.{IsStray, unless, without, AllowedWithStrays}
 use Rattle.replication.specs.Runs.Claim.{ListsAgree, storedGreen, memoryGreen, greenAt, IsPrimary, of-start, of-install, Agreement, Consequences}
 use Rattle.replication.proofs.Runs.Places.{event-entry}
+use Rattle.replication.proofs.Runs.Beginnings.{world-in}
+use Rattle.replication.proofs.Runs.PrefixClosed.{prefix-closed}
 
 -- ---- a refused event changes nothing
 
@@ -64,11 +66,11 @@ unfolding kept pick
 kept-other s p h = rw h
 
 without-stray : (s : ℕ → Bool) (x : Entry) (l : Run) → s 0 ≡ true → without s (x ∷ l) ≡ without (next s) l
-unfolding without pick
+unfolding without unless
 without-stray s x l h = rw h
 
 without-other : (s : ℕ → Bool) (x : Entry) (l : Run) → s 0 ≡ false → without s (x ∷ l) ≡ x ∷ without (next s) l
-unfolding without pick
+unfolding without unless
 without-other s x l h = rw h
 
 pub kept-rises : (s : ℕ → Bool) (p r : ℕ) → p ≤ r → kept s p ≤ kept s r
@@ -211,18 +213,47 @@ module _ {n q : ℕ} {l : Run} (S : AllowedWithStrays n q l) where
         (a .later (place p) (place r) i j (kept-rises (S .stray) p r o) h k (ap (λ w. w .down j) (sym (world-kept r)) ∙ d));
     kept = λ p r i o h. subst₂ (λ x y. Begins x y) (stored-kept p i) (stored-kept r i) (a .kept (place p) (place r) i (kept-rises (S .stray) p r o) h);
     known = λ p i h.
-        let k = a .known (place p) i h in
-        (primary-within _ (subst (λ w. IsPrimary n q m (w .images i .memory .votes .last)) (sym (world-kept p)) (k .0)),
-        primary-within _ (subst (λ w. IsPrimary n q m (w .images i .store .votes .last)) (sym (world-kept p)) (k .1)));
+        let k = a .known (place p) i h in (
+          primary-within _ (subst (λ w. IsPrimary n q m (w .images i .memory .votes .last)) (sym (world-kept p)) (k .0)),
+          primary-within _ (subst (λ w. IsPrimary n q m (w .images i .store .votes .last)) (sym (world-kept p)) (k .1)),
+        );
   }
 
 -- ---- with no strays
 
 without-none : (l : Run) → without (λ p. false) l ≡ l
-unfolding without pick
+unfolding without unless
 without-none [] = refl
 without-none (x ∷ l) = ap (λ m. x ∷ m) (without-none l)
 
 -- An allowed run is one with no strays.
 pub no-strays : {n q : ℕ} {l : Run} → Allowed n q l → AllowedWithStrays n q l
 no-strays {n} {q} {l} A = record { stray = λ p. false; refused = λ p x e h. not-both h; rest = subst (Allowed n q) (sym (without-none l)) A }
+
+-- ---- a beginning
+
+without-take : (s : ℕ → Bool) (l : Run) (k : ℕ) → without s (take k l) ≡ take (kept s k) (without s l)
+unfolding without kept
+without-take s l zero = refl
+without-take s [] (suc k) = nothing (kept s (suc k))
+  where
+    nothing : (j : ℕ) → [] ≡ take j (without s [])
+    nothing zero = refl
+    nothing (suc j) = refl
+without-take s (x ∷ l) (suc k) = go (known (s 0)) (without-take (next s) l k)
+  where
+    go : Known (s 0) → without (next s) (take k l) ≡ take (kept (next s) k) (without (next s) l) → without s (x ∷ take k l) ≡ take (kept s (suc k)) (without s (x ∷ l))
+    go (holds e) h =
+        without-stray s x (take k l) e ∙ h ∙ (λ j. take (sym (kept-stray s k e) j) (sym (without-stray s x l e) j))
+    go (fails e) h =
+        without-other s x (take k l) e ∙ ap (λ m. x ∷ m) h ∙ (λ j. take (sym (kept-other s k e) j) (sym (without-other s x l e) j))
+
+-- Each beginning of an allowed run with strays is one.
+pub strays-prefix-closed : (n q : ℕ) (l : Run) → AllowedWithStrays n q l → (k : ℕ) → AllowedWithStrays n q (take k l)
+strays-prefix-closed n q l S k = record {
+  stray = S .stray;
+  refused = λ p x e h.
+      let z = at-in-take k l p x e in
+      subst (λ w. IsStray n w x) (sym (world-in n q l k p (omega (arith, z .0)))) (S .refused p x (z .1) h);
+  rest = subst (Allowed n q) (sym (without-take (S .stray) l k)) (prefix-closed n q (without (S .stray) l) (S .rest) (kept (S .stray) k));
+}

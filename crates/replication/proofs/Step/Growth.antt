@@ -3,12 +3,11 @@ use Prim.Native.Nat.{ℕ}
 use mathlib.Core.Path.{_≡_}
 use mathlib.Core.Bool.{Bool, true}
 use mathlib.Core.List.{List, [], _∷_, _++_}
-use mathlib.Core.Option.{Option, some}
+use mathlib.Core.Option.{some}
 use native.Mathlib.Omega.{arith}
 use Rattle.base.specs.Prefixes.{begins-refl, begins-trans, begins-more, begins-gained, set-rises}
 use Rattle.format.specs.Types.{Id, Action, Record}
 use Rattle.replication.specs.Machine.Types.{Log, Server, taken}
-use Rattle.replication.specs.Images.{started, lived}
 use Rattle.replication.specs.Machine.Colours.{find, cut, isNext, enter, red, promote, green}
 use Rattle.replication.specs.Machine.Step.{greened, step}
 use Rattle.replication.specs.Laws.Transitions.{Transition}
@@ -16,8 +15,6 @@ use Rattle.replication.specs.Laws.Order.{Grows}
 use Rattle.replication.proofs.Step.Inversion.{taken-by}
 use Rattle.replication.proofs.Step.Moves.{moved}
 use Rattle.replication.proofs.Step.Logs.{next-index, withOwn, on-red, on-green, on-transition}
-use Rattle.replication.proofs.Step.Lifts as Lift
-use Rattle.replication.specs.Laws.Images.{next}
 
 pub grows-refl : (l : Log) → Grows l l
 grows-refl l = record { greens = begins-refl (l .green); cuts = λ c. omega arith; numbers = omega arith }
@@ -61,13 +58,3 @@ unfolding greened
 green-gained s e t bs b g h =
     let m = moved (taken-by s e t bs b g h) in
     rw (m .1) (begins-gained _ _ (transition-grows (m .0) .greens))
-
--- ---- over a run
-
--- The store's log is one that the memory's has grown from.
-pub store-begins : (s : Server) (es : List (Option (List ℕ))) → Grows ((lived (started s) es) .store .log) ((lived (started s) es) .memory .log)
-store-begins = Lift.lived-rises (λ s t. Grows (s .log) (t .log)) (λ s. grows-refl (s .log)) (λ s t u p q. grows-trans p q) taken-grows
-
--- From one event to the next the store's log only grows.
-pub store-grows : (s : Server) (es : List (Option (List ℕ))) (e : List ℕ) → Grows ((lived (started s) es) .store .log) ((next (lived (started s) es) e) .store .log)
-store-grows = Lift.store-rises (λ s t. Grows (s .log) (t .log)) (λ s. grows-refl (s .log)) (λ s t u p q. grows-trans p q) taken-grows

@@ -2,6 +2,7 @@ pub mod Records
 pub mod Shown
 pub mod Merge
 pub mod LateInstall
+pub mod Stores
 pub mod OutsidersMark
 pub mod CommonMark
 pub mod RefusedRules

@@ -1,6 +1,6 @@
 -- What States in range decide is in range: votes, marks, yellow list, noted lengths, plan.
 -- Assumes nothing.
-use Prim.Native.Nat.{ℕ, _*_, _^_, max, _≤_, _<_}
+use Prim.Native.Nat.{ℕ, _*_, _^_, _≤_, _<_}
 use mathlib.Core.Path.{_≡_, refl, ap, _∙_}
 use mathlib.Core.Bool.{Bool, true, false, not}
 use mathlib.Core.List.{List, [], _∷_, map}
@@ -164,11 +164,11 @@ module _ (n q : ℕ) where
 
 pub note-length : (c l : ℕ) (noted : List ℕ) → length (note c l noted) ≡ length noted
 unfolding note
-note-length c l noted = length-set noted c (max (getD noted c 0) l)
+note-length c l noted = length-set noted c _
 
 pub note-bound : (b c l : ℕ) (noted : List ℕ) → ((k : ℕ) → getD noted k 0 ≤ b) → l ≤ b → (k : ℕ) → getD (note c l noted) k 0 ≤ b
 unfolding note
-note-bound b c l noted h m k = bounded-set noted c (max (getD noted c 0) l) b h (omega (arith, h c)) k
+note-bound b c l noted h m k = bounded-set noted c _ b h (omega (arith, h c)) k
 
 pub note-all-length : (xs : List State) (noted : List ℕ) → length (noteAll xs noted) ≡ length noted
 unfolding noteAll

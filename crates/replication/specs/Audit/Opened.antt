@@ -4,6 +4,7 @@ use Prim.Native.Nat.{ℕ}
 use Rattle.base.specs.Quantifiers.{_implies_, pairs, addNew, eachOnce, withNumber, sameOption}
 use Rattle.replication.specs.Opened.{opened as opened-machine}
 use Rattle.replication.specs.Runs.Run.{serverOf, beginning, downAfter, worldAfter, worldThrough, nowhere, heard, moved, placeAfter, placeThrough, membersIn, members, recordsOf, worldAt, placeAt}
+use Rattle.replication.specs.Runs.Strays.{unless, without}
 use Rattle.replication.specs.Audit.Witness.{sourceIn, nameIn, entryOrd, sendingOrdsAt, ordIn}
 use Rattle.replication.specs.Audit.Same.{sameMessage, sameConfiguration, sameRegular, samePlace, sameConfigured}
 use Rattle.replication.specs.Audit.Table.{roleIn, rowOf, rowsFrom, table}
@@ -12,7 +13,8 @@ use Rattle.replication.specs.Audit.Journal.{sendingIn, sendingsOf, deliv
 use Rattle.replication.specs.Audit.Rules.{sizes, servers, one-set, once, between, one-transitional, genuine, cut-by-crash, bringsBack, recovers, isStore, stores-up}
 use Rattle.replication.specs.Audit.Specifications.{isDelivered, earlier, hasMessage, eachWithEarlier, same-configuration, isAgain, one-delivery, one-name, hasLeftSince, self-delivery, during, isRegular, isOver, sameWay, allAmong, atomic, isCause, causal, isRising, lastOf, ownSendings, inTurn, rises, same-moment, same-message, isTogether, one-order, isOwed, agreed, isSharedWith, safe}
 use Rattle.replication.specs.Audit.Verdict.{testsOf, tests, audit, report}
+use Rattle.replication.specs.Audit.Strays.{isRefused, isStray, straysFrom, isOneOf, auditWithStrays}
 
 unfoldable pub opened : ℕ
-unfolding opened-machine _implies_ pairs addNew eachOnce withNumber sameOption serverOf beginning downAfter worldAfter worldThrough nowhere heard moved placeAfter placeThrough membersIn members recordsOf worldAt placeAt sourceIn nameIn entryOrd sendingOrdsAt ordIn sameMessage sameConfiguration sameRegular samePlace sameConfigured roleIn rowOf rowsFrom table joinClocks raise numberOf clockAt clockWith learnt stampFor withStamp stampsThrough noStamps stamps knows sendingIn sendingsOf deliveryOf deliveryBy takingBy transitionBy changeBy settlesBy settles nextBy nextChange crashesBy crashesNext hasLeft passageTo passageFrom perConfiguration configurationsOf sendingsIn deliveriesIn takingsIn leavingsIn transitionsIn changesIn passagesIn sorted journalOf sizes servers one-set once between one-transitional genuine cut-by-crash bringsBack recovers isStore stores-up isDelivered earlier hasMessage eachWithEarlier same-configuration isAgain one-delivery one-name hasLeftSince self-delivery during isRegular isOver sameWay allAmong atomic isCause causal isRising lastOf ownSendings inTurn rises same-moment same-message isTogether one-order isOwed agreed isSharedWith safe testsOf tests audit report
+unfolding opened-machine _implies_ pairs addNew eachOnce withNumber sameOption serverOf beginning downAfter worldAfter worldThrough nowhere heard moved placeAfter placeThrough membersIn members recordsOf worldAt placeAt sourceIn nameIn entryOrd sendingOrdsAt ordIn sameMessage sameConfiguration sameRegular samePlace sameConfigured roleIn rowOf rowsFrom table joinClocks raise numberOf clockAt clockWith learnt stampFor withStamp stampsThrough noStamps stamps knows sendingIn sendingsOf deliveryOf deliveryBy takingBy transitionBy changeBy settlesBy settles nextBy nextChange crashesBy crashesNext hasLeft passageTo passageFrom perConfiguration configurationsOf sendingsIn deliveriesIn takingsIn leavingsIn transitionsIn changesIn passagesIn sorted journalOf sizes servers one-set once between one-transitional genuine cut-by-crash bringsBack recovers isStore stores-up isDelivered earlier hasMessage eachWithEarlier same-configuration isAgain one-delivery one-name hasLeftSince self-delivery during isRegular isOver sameWay allAmong atomic isCause causal isRising lastOf ownSendings inTurn rises same-moment same-message isTogether one-order isOwed agreed isSharedWith safe testsOf tests audit report unless without isRefused isStray straysFrom isOneOf auditWithStrays
 opened = 0

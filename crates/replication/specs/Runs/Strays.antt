@@ -6,7 +6,6 @@ use mathlib.Core.Path.{_≡_}
 use mathlib.Core.Bool.{Bool, true, false}
 use mathlib.Core.List.{List, [], _∷_}
 use mathlib.Core.Option.{some}
-use Rattle.base.specs.Tests.{pick}
 use Rattle.base.specs.Lists.{at}
 use Rattle.replication.specs.Machine.Types.{Outcome}
 use Rattle.replication.specs.Images.{arrive}
@@ -25,9 +24,13 @@ pub record IsStray (n : ℕ) (w : World) (x : Entry) : Type 0 where
   pub refusal : arrive (w .images server) bytes ≡ Outcome.refused number
 
 -- The run without the entries at the places that are named.
+unfoldable pub unless : Bool → Entry → Run → Run
+unless true x l = l
+unless false x l = x ∷ l
+
 unfoldable pub without : (ℕ → Bool) → Run → Run
 without stray [] = []
-without stray (x ∷ l) = pick (stray 0) (without (λ p. stray (suc p)) l) (x ∷ without (λ p. stray (suc p)) l)
+without stray (x ∷ l) = unless (stray 0) x (without (λ p. stray (suc p)) l)
 
 -- Some events of the run, each refused by the machine at a server that is up, are named as strays; without them the run is allowed.
 pub record AllowedWithStrays (n q : ℕ) (l : Run) : Type 0 where

@@ -4,7 +4,7 @@ use mathlib.Core.Path.{refl}
 use mathlib.Core.List.{[], _∷_}
 use Rattle.format.specs.Types.{action, state, regular, transitional, request, recovery}
 use Rattle.format.specs.Write.{write}
-use Rattle.replication.specs.Runs.Run.{event, crash, Run}
+use Rattle.replication.specs.Runs.Run.{event, crash, store, Run}
 use Rattle.replication.specs.Audit.Witness.{Witness}
 use Rattle.replication.proofs.Verdicts.Runs.Records.{made, primary, unmarked, no-yellow, told}
 use Rattle.replication.proofs.Verdicts.Runs.Shown.{Refused, opened}
@@ -155,3 +155,42 @@ recovers-witness = record {
 recovers-refused : Refused 2 2 recovers-run recovers-witness ("recovers" ∷ [])
 unfolding opened
 recovers-refused = (refl, refl)
+
+-- A store comes to a server that is up: this one is down.
+abbrev stores-up-run : Run
+stores-up-run =
+    crash 0
+    ∷ store 0
+    ∷ []
+
+abbrev stores-up-witness : Witness
+stores-up-witness = record {
+  sources = [];
+  names = [];
+  ords = 0 ∷ 1 ∷ [];
+  sendingOrds = [];
+}
+
+stores-up-refused : Refused 2 2 stores-up-run stores-up-witness ("stores-up" ∷ [])
+unfolding opened
+stores-up-refused = (refl, refl)
+
+-- A store between a cut event and the next one is no crash.
+abbrev stored-cut-run : Run
+stored-cut-run =
+    event 0 (write (regular 1 1)) 0
+    ∷ store 0
+    ∷ event 0 (write (request (65 ∷ []))) 0
+    ∷ []
+
+abbrev stored-cut-witness : Witness
+stored-cut-witness = record {
+  sources = [];
+  names = [];
+  ords = 0 ∷ 1 ∷ 2 ∷ [];
+  sendingOrds = [];
+}
+
+stored-cut-refused : Refused 2 2 stored-cut-run stored-cut-witness ("cut-by-crash" ∷ [])
+unfolding opened
+stored-cut-refused = (refl, refl)

@@ -1,0 +1,10 @@
+-- `replication::noted_never_fall` meets its contract: the theorem.
+use Rattle.replication.proofs.Runs.Noted.{never-fall}
+use Rattle.replication.proofs.noted_never_fall.Statement.{statement}
+use Rattle.replication.proofs.noted_never_fall.Tie as tie
+
+returns : tie.Need-returns
+returns c = never-fall
+
+pub noted-never-fall-spec : {M : Type 1} → statement M
+noted-never-fall-spec = tie.close (tie.spec returns)
