@@ -1,6 +1,6 @@
 -- Demand 3 on buffers, from demand 3 on the machine's states.
 -- Assumes nothing.
-use Prim.Native.Nat.{ℕ, _≤_, _<_}
+use Prim.Native.Nat.{ℕ, _<_}
 use mathlib.Core.Path.{_≡_, refl, sym, ap, subst, subst₂, _∙_}
 use mathlib.Core.Bool.{Bool, true, false}
 use mathlib.Core.List.{List}
@@ -9,25 +9,23 @@ use lib.ListN.{length, take}
 use Rattle.base.specs.Tests.{pick, not-both}
 use Rattle.base.specs.Bytes.{joined}
 use Rattle.base.specs.Lists.{at, Begins}
-use Rattle.format.specs.Types.{Action, Primary}
 use Rattle.replication.specs.Machine.Types.{Server}
 use Rattle.replication.specs.Images.{Images, arrive}
 use Rattle.replication.specs.Runs.Run.{event, Run, worldAt, putOut, sentAt}
 use Rattle.replication.specs.Runs.Strays.{AllowedWithStrays}
-use Rattle.replication.specs.Runs.Claim.{ListsAgree, PrimariesAgree, storedGreen, memoryGreen, greenAt, IsPrimary, Agreement, Consequences, Demand3, Corollaries}
+use Rattle.replication.specs.Runs.Claim.{ListsAgree, storedGreen, memoryGreen, greenAt, IsPrimary, Agreement, Consequences, Demand3, Corollaries}
 use Rattle.replication.proofs.Agreement.Greens.Demand.{demand3, corollaries}
 use Rattle.replication.proofs.Runs.Places.{put-out-at, sent-at}
-use Rattle.engine.specs.Decode.{decoded}
 use Rattle.engine.specs.Outcome.{Result}
 use Rattle.engine.proofs.InPlace.{Holds, holds-decoded}
-use Rattle.buffers.specs.Buffers.{Buffers, isRecovery, stepIn}
+use Rattle.buffers.specs.Buffers.{stepIn}
 use Rattle.buffers.specs.Sending.{cutRecords}
 use Rattle.buffers.specs.Daemons.{Daemons, Lending, LongEnough, daemonsAt}
 use Rattle.buffers.specs.Claim.{greenIn, primaryIn, shown, HeldBy, running, stored, BuffersFollow, BuffersAgree, BuffersDemand}
-use Rattle.buffers.proofs.Keeping.{KeepsWhere, keeps-where, holds-read}
+use Rattle.buffers.proofs.Keeping.{holds-read}
 use Rattle.buffers.proofs.Arriving.{Arrives, answered, arrives}
-use Rattle.buffers.proofs.Entries.{KeptAs, Kept}
-use Rattle.buffers.proofs.Runs.{event-below, out-room, event-keeps, kept-at}
+use Rattle.buffers.proofs.Entries.{Kept}
+use Rattle.buffers.proofs.Runs.{out-room, event-keeps, kept-at}
 
 green-held : (s : Server) (b : List ℕ) → Holds s b → s .log .green ≡ greenIn b
 unfolding greenIn
@@ -80,7 +78,7 @@ module _ {n q : ℕ} {l : Run} (S : AllowedWithStrays n q l) (x : Lending) (long
     records = records-are;
     sent = sent-are;
     state-length = λ p i b. at-server p i b .sized .state;
-    store-length = λ p i b. at-server p i b .sized .store;
+    store-length = λ p i b. at-server p i b .sized .store ∙ sym (long .first i b .alike);
   }
 
   -- ---- agreement

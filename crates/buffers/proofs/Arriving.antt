@@ -13,7 +13,6 @@ use Rattle.format.specs.Types.{Action, recovery}
 use Rattle.replication.specs.Laws.Order.{SameServer}
 use Rattle.replication.specs.Machine.Types.{Server, Outcome, refused, taken, contextOf}
 use Rattle.replication.specs.Machine.Step.{step}
-use Rattle.replication.specs.Machine.WellFormed.{wellFormed}
 use Rattle.replication.specs.Images.{Images, sourceOf, arrive, leftBy}
 use Rattle.replication.specs.Replay.{returned}
 use Rattle.replication.specs.Runs.Run.{recordsOf}

@@ -1,6 +1,6 @@
 -- One entry of a run over the daemons' buffers: what they kept of the world before it they keep of the world after it.
 -- Assumes nothing.
-use Prim.Native.Nat.{ℕ, _≤_, _<_}
+use Prim.Native.Nat.{ℕ, _≤_}
 use mathlib.Core.Path.{_≡_, refl, sym, ap, subst, _∙_}
 use mathlib.Core.Bool.{Bool, true, false}
 use mathlib.Core.List.{List}
@@ -16,9 +16,9 @@ use Rattle.replication.specs.Replay.{returned}
 use Rattle.replication.specs.Runs.Run.{Entry, event, crash, store, World, downAfter, worldAfter}
 use Rattle.replication.proofs.Step.Table.{refused-some}
 use Rattle.engine.specs.Layout.{outLength}
-use Rattle.engine.specs.Outcome.{Result}
 use Rattle.buffers.specs.Buffers.{Buffers, isRecovery, stepIn, keptAfter, saved}
 use Rattle.buffers.specs.Daemons.{Daemons, daemonsAfter}
+use Rattle.buffers.proofs.BufferLaws.{event-buffers, event-down, crash-buffers, crash-down, store-buffers}
 use Rattle.buffers.proofs.Keeping.{KeepsWhere, Sized, keeps-where, saved-keeps, saved-sized}
 use Rattle.buffers.proofs.Arriving.{Arrives, arrives}
 
@@ -93,7 +93,7 @@ module _ (z : ℕ) (w : World) (d : Daemons) (o c : List ℕ) (i : ℕ) (k : Kep
       (sym (upd-elsewhere (d .buffers) j _ i h)) k
   by-event j e m (yes h) f =
       subst (λ (y : ℕ). Kept z (worldAfter w (event y e m)) (daemonsAfter d o c (some (event y e m))) i) h
-      (kept-as (sym (upd-here (w .down) i _)) (sym (upd-here (w .images) i _)) (sym (upd-here (d .down) i _)) (sym (upd-here (d .buffers) i _))
+      (kept-as (sym (upd-here (w .down) i _)) (sym (upd-here (w .images) i _)) (sym (event-down d o c i e m)) (sym (event-buffers d o c i e m))
       (event-kept z _ _ _ _ k e o (f .recovers e m (ap (λ (y : ℕ). event y e m) (sym h))) (f .room)))
 
   by-crash : (j : ℕ) → Dec (i ≡ j) → Fits z w o c i (crash j) → Kept z (worldAfter w (crash j)) (daemonsAfter d o c (some (crash j))) i
@@ -102,7 +102,7 @@ module _ (z : ℕ) (w : World) (d : Daemons) (o c : List ℕ) (i : ℕ) (k : Kep
       kept-as (sym (upd-elsewhere (w .down) j _ i h)) refl (sym (upd-elsewhere (d .down) j _ i h)) (sym (upd-elsewhere (d .buffers) j _ i h)) k
   by-crash j (yes h) f =
       subst (λ (y : ℕ). Kept z (worldAfter w (crash y)) (daemonsAfter d o c (some (crash y))) i) h
-      (kept-as (sym (upd-here (w .down) i _)) refl (sym (upd-here (d .down) i _)) (sym (upd-here (d .buffers) i _))
+      (kept-as (sym (upd-here (w .down) i _)) refl (sym (crash-down d o c i)) (sym (crash-buffers d o c i))
       (crash-kept z _ _ _ _ k c (f .crashed (ap crash (sym h)))))
 
   by-store : (j : ℕ) → Dec (i ≡ j) → Fits z w o c i (store j) → Kept z (worldAfter w (store j)) (daemonsAfter d o c (some (store j))) i
@@ -110,7 +110,7 @@ module _ (z : ℕ) (w : World) (d : Daemons) (o c : List ℕ) (i : ℕ) (k : Kep
   by-store j (no h) f = kept-as refl (sym (upd-elsewhere (w .images) j _ i h)) refl (sym (upd-elsewhere (d .buffers) j _ i h)) k
   by-store j (yes h) f =
       subst (λ (y : ℕ). Kept z (worldAfter w (store y)) (daemonsAfter d o c (some (store y))) i) h
-      (kept-as refl (sym (upd-here (w .images) i _)) refl (sym (upd-here (d .buffers) i _)) (store-kept z _ _ _ _ k (f .up (ap store (sym h)))))
+      (kept-as refl (sym (upd-here (w .images) i _)) refl (sym (store-buffers d o c i)) (store-kept z _ _ _ _ k (f .up (ap store (sym h)))))
 
   pub entry-kept : (x : Entry) → Fits z w o c i x → Kept z (worldAfter w x) (daemonsAfter d o c (some x)) i
   entry-kept (event j e m) f = by-event j e m (ℕ-discrete i j) f

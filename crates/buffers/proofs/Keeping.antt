@@ -2,7 +2,7 @@
 -- Assumes nothing.
 use Prim.Native.Nat.{ℕ, _≤_, _<_}
 use mathlib.Core.Path.{_≡_, refl, sym, ap, subst, _∙_}
-use mathlib.Core.Bool.{Bool, true, false}
+use mathlib.Core.Bool.{true, false}
 use mathlib.Core.List.{List}
 use mathlib.Core.Option.{some}
 use native.Mathlib.Omega.{arith}
@@ -17,14 +17,13 @@ use Rattle.replication.specs.Machine.WellFormed.{ranges, wellFormed}
 use Rattle.replication.specs.Images.{Images, started, savedIn}
 use Rattle.replication.proofs.WellFormed.Runs.{start-well-formed}
 use Rattle.engine.specs.Layout.{stateLength, outLength, leastStateLength, leastOutLength}
-use Rattle.engine.specs.Image.{image}
 use Rattle.engine.specs.Decode.{decodedAs, decoded, serversIn, quotaIn, readImage}
 use Rattle.engine.specs.Outcome.{tooShort, resultOf, stepOn, startOn}
 use Rattle.engine.proofs.ImageLaws.{image-length, image-again, read-image}
 use Rattle.engine.proofs.InPlace.{Holds, holds-decoded}
 use Rattle.engine.proofs.Refusals.{step-read, formed-sizes}
 use Rattle.buffers.specs.Buffers.{Buffers, Lent, begun, saved}
-use Rattle.buffers.proofs.BufferLaws.{start-left}
+use Rattle.buffers.proofs.BufferLaws.{start-left, saved-state, saved-store}
 
 -- The stored image is the stored state's; where U, the state's buffer holds the state in memory.
 pub record KeepsWhere (U : Type 0) (i : Images) (b : Buffers) : Type 0 where
@@ -96,28 +95,37 @@ module _ (n q i : ℕ) (sizes : sizesOk n q ≡ true) (own : i < n) where
     start-length = ap length (start-left n q i b sizes long own) ∙ image-length (start n q i) b (start-well-formed n q i sizes own) long
 
   module _ (b : Buffers) (lent : Lent n q b) where
+    long : stateLength n q ≤ length (b .state)
+    long = omega (arith, lent .long)
+
+    abbrev made : Buffers
+    made = record { state = startOn n q i (b .state) .state; store = b .store }
+
     pub begun-keeps : Keeps (started (start n q i)) (begun n q i b)
     unfolding started begun
     begun-keeps = record {
       formed = start-well-formed n q i sizes own;
-      memory = λ u. start-holds (b .state) (lent .long);
-      store = start-holds (b .store) (omega (arith, lent .long, lent .alike));
+      memory = λ u. subst (Holds (start n q i)) (saved-state made) (start-holds (b .state) long);
+      store = subst (Holds (start n q i)) (saved-store made) (start-holds (b .state) long);
       same = same-itself (start n q i);
     }
 
     pub begun-sized : Sized (length (b .state)) (begun n q i b)
     unfolding begun
     begun-sized = record {
-      state = start-length (b .state) (lent .long);
-      store = start-length (b .store) (omega (arith, lent .long, lent .alike)) ∙ lent .alike;
+      state = ap length (sym (saved-state made)) ∙ start-length (b .state) long;
+      store = ap length (sym (saved-store made)) ∙ start-length (b .state) long;
     }
 
 -- ---- a store
 
 pub saved-keeps : (i : Images) (b : Buffers) → Keeps i b → Keeps (savedIn i) (saved b)
-unfolding saved
-saved-keeps i b k = record { formed = k .formed; memory = k .memory; store = k .memory tt; same = same-itself (i .memory) }
+saved-keeps i b k = record {
+  formed = k .formed;
+  memory = λ u. subst (Holds (i .memory)) (saved-state b) (k .memory u);
+  store = subst (Holds (i .memory)) (saved-store b) (k .memory tt);
+  same = same-itself (i .memory);
+}
 
 pub saved-sized : (m : ℕ) (b : Buffers) → Sized m b → Sized m (saved b)
-unfolding saved
-saved-sized m b z = record { state = z .state; store = z .state }
+saved-sized m b z = record { state = ap length (sym (saved-state b)) ∙ z .state; store = ap length (sym (saved-store b)) ∙ z .state }

@@ -6,7 +6,7 @@ use mathlib.Core.Bool.{true, false}
 use mathlib.Core.List.{List}
 use native.Mathlib.Omega.{arith}
 use lib.ListN.{length, getD}
-use Rattle.base.specs.Tests.{_and_, _=?_, and-holds, both-yes, eq-holds, eq-yes, not-both, Known, holds, fails, known}
+use Rattle.base.specs.Tests.{_=?_, and-holds, both-yes, eq-holds, eq-yes, not-both, Known, holds, fails, known}
 use Rattle.base.specs.Bytes.{numberAt}
 use Rattle.base.specs.BytesLaws.{number1, number2}
 use Rattle.format.specs.Limits.{version}

@@ -2,17 +2,15 @@
 -- Assumes nothing.
 use Prim.Native.Nat.{ℕ, zero, suc, _≤_, _<_}
 use mathlib.Core.Path.{_≡_, refl, sym, ap, subst, _∙_}
-use mathlib.Core.Bool.{Bool, true, false}
+use mathlib.Core.Bool.{true, false}
 use mathlib.Core.List.{List}
 use mathlib.Core.Option.{Option, none, some}
-use native.Mathlib.Omega.{arith}
 use lib.ListN.{length}
 use Rattle.base.specs.Tests.{not-both, Known, holds, fails, known}
 use Rattle.base.specs.Lists.{at}
 use Rattle.base.specs.AtLaws.{some-same}
-use Rattle.format.specs.Range.{sizesOk}
-use Rattle.replication.specs.Runs.Run.{Entry, event, crash, store, Run, World, beginning, worldAfter, heard, worldAt, heardAt}
-use Rattle.replication.specs.Runs.Strays.{IsStray, AllowedWithStrays}
+use Rattle.replication.specs.Runs.Run.{Entry, event, store, Run, World, beginning, worldAfter, heard, worldAt, heardAt}
+use Rattle.replication.specs.Runs.Strays.{AllowedWithStrays}
 use Rattle.replication.proofs.Runs.Numbers.{numbers}
 use Rattle.replication.proofs.Runs.Places.{world-at-start, world-next, world-past, event-entry, event-not-store, of-event}
 use Rattle.replication.proofs.Runs.Strays.{kept, at-kept, world-kept}
@@ -21,7 +19,7 @@ use Rattle.buffers.specs.Buffers.{isRecovery}
 use Rattle.buffers.specs.Daemons.{Daemons, Lending, LongEnough, daemonsAfter, daemonsAt}
 use Rattle.buffers.proofs.RecoveryLaws.{recovery-bytes}
 use Rattle.buffers.proofs.Keeping.{KeepsWhere, keeps-where, begun-keeps, begun-sized}
-use Rattle.buffers.proofs.Entries.{KeptAs, Kept, Fits, entry-kept}
+use Rattle.buffers.proofs.Entries.{Kept, Fits, entry-kept}
 
 module _ {n q : ℕ} {l : Run} (S : AllowedWithStrays n q l) where
   -- ---- what the run says of its entries, strays included

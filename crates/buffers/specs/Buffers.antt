@@ -1,4 +1,4 @@
--- What a daemon keeps for one server, and what it makes of it: at the start, by an event, by a store.
+-- What a daemon keeps for one server, and what it makes of it: by a store, at the start, by an event.
 -- Assumes nothing.
 use Prim.Native.Nat.{ℕ, _≤_}
 use mathlib.Core.Path.{_≡_}
@@ -14,14 +14,18 @@ pub record Buffers : Type 0 where
   pub state : List ℕ
   pub store : List ℕ
 
--- Any bytes: both of one length, at least the formula's.
+-- Any bytes, as long as they must be: both of one length, at least the formula's.
 pub record Lent (n q : ℕ) (b : Buffers) : Type 0 where
   pub long : stateLength n q ≤ length (b .state)
   pub alike : length (b .store) ≡ length (b .state)
 
--- "a store never written holds the start."
+-- What is in the state's buffer is stored.
+unfoldable pub saved : Buffers → Buffers
+saved b = record { state = b .state; store = b .state }
+
+-- The start is made in the state's buffer, and stored: "a store never written holds the start."
 unfoldable pub begun : (n q me : ℕ) → Buffers → Buffers
-begun n q i b = record { state = startOn n q i (b .state) .state; store = startOn n q i (b .store) .state }
+begun n q i b = saved (record { state = startOn n q i (b .state) .state; store = b .store })
 
 -- The recovery's record: no other bytes read as one.
 unfoldable pub isRecovery : List ℕ → Bool
@@ -38,7 +42,3 @@ stepIn b e o = stepOn (sourceIn b e) e o
 -- What a step leaves: the state's buffer, stored where the store word is 1.
 unfoldable pub keptAfter : Buffers → Result → Buffers
 keptAfter b r = record { state = r .state; store = pick (r .store =? 1) (r .state) (b .store) }
-
--- A store between two events.
-unfoldable pub saved : Buffers → Buffers
-saved b = record { state = b .state; store = b .state }

@@ -16,7 +16,7 @@ use Rattle.replication.specs.Runs.Strays.{AllowedWithStrays}
 use Rattle.replication.specs.Runs.Claim.{ListsAgree, PrimariesAgree}
 use Rattle.engine.specs.Decode.{decoded, readImage}
 use Rattle.engine.specs.Outcome.{Result, resultOf}
-use Rattle.buffers.specs.Buffers.{Buffers, sourceIn, stepIn}
+use Rattle.buffers.specs.Buffers.{sourceIn, stepIn}
 use Rattle.buffers.specs.Sending.{cutRecords}
 use Rattle.buffers.specs.Daemons.{Daemons, Lending, LongEnough, daemonsAt}
 
@@ -58,7 +58,7 @@ module _ (n q : ℕ) (l : Run) (x : Lending) where
         → take k (cutRecords (take (r .sent) (r .out))) ≡ sentAt n q l p
     -- No buffer's length changes: each copy fits.
     pub state-length : (p i : ℕ) → i < n → length (daemons p .buffers i .state) ≡ length (x .first i .state)
-    pub store-length : (p i : ℕ) → i < n → length (daemons p .buffers i .store) ≡ length (x .first i .state)
+    pub store-length : (p i : ℕ) → i < n → length (daemons p .buffers i .store) ≡ length (x .first i .store)
 
   pub record BuffersAgree : Type 0 where
     -- "equal exactly when equally long, else the shorter begins the longer"

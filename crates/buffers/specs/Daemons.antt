@@ -10,7 +10,7 @@ use Rattle.base.specs.Tests.{_=?_, pick}
 use Rattle.base.specs.Lists.{at, upd}
 use Rattle.replication.specs.Runs.Run.{Entry, event, crash, store, Run}
 use Rattle.engine.specs.Layout.{outLength}
-use Rattle.buffers.specs.Buffers.{Buffers, Lent, begun, stepIn, keptAfter, saved}
+use Rattle.buffers.specs.Buffers.{Buffers, Lent, saved, begun, stepIn, keptAfter}
 
 -- Every server's buffers, and which servers are down.
 pub record Daemons : Type 0 where

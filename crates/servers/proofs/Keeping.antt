@@ -1,86 +1,42 @@
 -- An entry keeps a server's state and stored state: what an event makes of the entry is what it makes of them.
 -- Assumes nothing.
-use Prim.Native.Nat.{ℕ, suc, _+_, _≤_, _<_}
+use Prim.Native.Nat.{ℕ, _≤_}
 use mathlib.Core.Path.{_≡_, refl, sym, ap, subst, _∙_}
-use mathlib.Core.Bool.{Bool, true, false}
-use mathlib.Core.List.{List, [], _∷_, _++_, map}
+use mathlib.Core.List.{List}
 use native.Mathlib.Omega.{arith}
-use lib.ListN.{length, drop, length-append, length-map}
-use lib.Seq.{drop-at}
-use Rattle.base.specs.Tests.{_=?_, pick, pick-eq, and-holds, lt-holds, eq-holds, eq-fails, Known, holds, fails, known}
-use Rattle.base.specs.Bytes.{numberAt, joined}
-use Rattle.base.specs.BytesLaws.{number-front}
-use Rattle.base.specs.ListLaws.{Each}
-use Rattle.format.specs.Types.{Action, Record, Context}
-use Rattle.format.specs.Range.{contextOk, recordOk}
-use Rattle.format.specs.Read.{frameOk}
-use Rattle.format.specs.Write.{write}
-use Rattle.format.proofs.Reading.{says-read}
-use Rattle.format.proofs.RoundTrip.{read-written}
+use lib.ListN.{length}
+use Rattle.base.specs.Tests.{_=?_, pick, pick-eq, eq-holds, eq-fails, Known, holds, fails, known}
 use Rattle.replication.specs.Laws.Order.{SameServer}
-use Rattle.replication.specs.Machine.Types.{Server, Outcome, refused, taken, contextOf}
-use Rattle.replication.specs.Machine.Step.{step}
-use Rattle.replication.specs.Machine.WellFormed.{wellFormed}
-use Rattle.replication.specs.Images.{Images, sourceOf, arrive, leftBy}
+use Rattle.replication.specs.Machine.Types.{Outcome, refused, taken}
+use Rattle.replication.specs.Images.{Images, arrive, leftBy}
 use Rattle.replication.specs.Replay.{returned, sentCount}
 use Rattle.replication.specs.Runs.Run.{recordsOf}
-use Rattle.replication.proofs.Step.Lifts.{source-of}
-use Rattle.replication.proofs.WellFormed.Reads.{Peer, put-out-in-range, step-put-out}
 use Rattle.engine.specs.Layout.{outLength}
 use Rattle.engine.specs.Image.{zeros}
 use Rattle.engine.specs.Outcome.{Result}
+use Rattle.engine.proofs.InPlace.{Holds}
 use Rattle.engine.proofs.StartLaws.{zeros-length}
 use Rattle.buffers.specs.Buffers.{stepIn, keptAfter}
 use Rattle.buffers.proofs.Keeping as keeping
 use Rattle.buffers.proofs.Arriving as arriving
 use Rattle.servers.specs.declared.Server as declared
 use Rattle.servers.specs.declared.Stepped.{Stepped}
-use Rattle.servers.specs.Core.{outRoom, buffersOf, entryAfter, recordsFrom, recordsIn, afterStep, coreOf}
-use Rattle.servers.proofs.CoreLaws.{records-next, kept-refused}
+use Rattle.servers.specs.Core.{outRoom, buffersOf, entryAfter, recordsIn, afterStep, coreOf}
+use Rattle.servers.proofs.CoreLaws.{kept-refused}
 
--- The entry's buffers keep the server's states, and the outgoing buffer has room for what an event puts out.
+-- Both buffers of the entry hold the images of the server's states, and the outgoing buffer has room for what an event puts out.
 pub record Keeps (i : Images) (s : declared.Server) : Type 0 where
-  pub buffers : keeping.Keeps i (buffersOf s)
+  pub memory : Holds (i .memory) (s .state)
+  pub store : Holds (i .store) (s .store)
+  pub same : SameServer (i .memory) (i .store)
   pub room : outLength (i .memory .servers) (i .memory .quota) ≤ outRoom
 
--- ---- records counted
+-- The same of the entry as a daemon's buffers.
+as-buffers : (i : Images) (s : declared.Server) → Keeps i s → keeping.Keeps i (buffersOf s)
+as-buffers i s k = record { formed = k .memory .formed; memory = λ u. k .memory; store = k .store; same = k .same }
 
-frame-long : (c : Context) (r : Record) → recordOk c r ≡ true → numberAt 2 (write r) 0 + 2 ≡ length (write r)
-unfolding frameOk
-frame-long c r ok =
-    let x = says-read c (write r) r (read-written c r ok) in
-    eq-holds (numberAt 2 (write r) 0 + 2) (length (write r)) (and-holds _ _ (x .frame) .0)
-
-none-counted : recordsIn [] ≡ 0
-unfolding recordsIn recordsFrom
-none-counted = refl
-
-written-counted : (c : Context) (rs : List Record) → Each (λ r. recordOk c r ≡ true) rs → recordsIn (joined (map write rs)) ≡ length rs
-unfolding joined
-written-counted c [] h = none-counted
-written-counted c (r ∷ rs) h =
-    let rest : List ℕ = joined (map write rs) in
-    let long : numberAt 2 (write r) 0 + 2 ≡ length (write r) = frame-long c r (h .0) in
-    let front : numberAt 2 (write r ++ rest) 0 + 2 ≡ length (write r) = ap (λ (m : ℕ). m + 2) (number-front 2 (write r) rest 0 (omega arith))
-    ∙ long in
-    let behind : drop (numberAt 2 (write r ++ rest) 0 + 2) (write r ++ rest) ≡ rest = drop-at (write r) rest (numberAt 2 (write r ++ rest) 0 + 2)
-    (sym front) in
-    records-next (write r ++ rest) (omega (arith, length-append (write r) rest))
-    ∙ ap (λ (l : List ℕ). suc (recordsIn l)) behind
-    ∙ ap suc (written-counted c rs (h .1))
-
-own-peer : (s : Server) → wellFormed s ≡ true → Peer s (contextOf s)
-unfolding contextOk contextOf
-own-peer s ok = record { servers = refl; quota = refl; self = lt-holds (s .me) (s .servers) (and-holds _ _ (keeping.formed-context s ok) .1) }
-
--- What an event puts out, counted.
-sent-counted : (s : Server) (e : List ℕ) (t : Server) (bs : List (List ℕ)) (w : Bool) (g : List Action) → wellFormed s ≡ true
-    → step s e ≡ taken t bs w g → recordsIn (joined bs) ≡ length bs
-sent-counted s e t bs w g ok h =
-    let p = step-put-out s e t bs w g ok h in
-    let all : recordsIn (joined (map write (p .0))) ≡ length (p .0)
-    = written-counted (contextOf s) (p .0) (put-out-in-range s ok (contextOf s) (own-peer s ok) (p .0) (p .2)) in
-    ap (λ (l : List (List ℕ)). recordsIn (joined l)) (p .1) ∙ all ∙ sym (length-map (p .0) write) ∙ ap length (sym (p .1))
+pub as-entry : (i : Images) (s : declared.Server) → keeping.Keeps i (buffersOf s) → outLength (i .memory .servers) (i .memory .quota) ≤ outRoom → Keeps i s
+as-entry i s k room = record { memory = k .memory tt; store = k .store; same = k .same; room = room }
 
 -- ---- one event
 
@@ -100,11 +56,10 @@ unfolding returned leftBy
 refused-left (refused m) i h = refl
 refused-left (taken t rs w g) i h = absurd (h refl)
 
--- The records of an event, counted.
-put-counted : (s : Server) (e : List ℕ) (o : Outcome (List ℕ)) → wellFormed s ≡ true → step s e ≡ o → recordsIn (joined (recordsOf o)) ≡ sentCount o
-unfolding recordsOf sentCount joined
-put-counted s e (refused m) ok h = none-counted
-put-counted s e (taken t bs w g) ok h = sent-counted s e t bs w g ok h
+count-put : (o : Outcome (List ℕ)) → length (recordsOf o) ≡ sentCount o
+unfolding recordsOf sentCount
+count-put (refused m) = refl
+count-put (taken t rs w g) = refl
 
 module _ (i : Images) (s : declared.Server) (e : List ℕ) (k : Keeps i s) where
   abbrev answer : Result
@@ -112,7 +67,7 @@ module _ (i : Images) (s : declared.Server) (e : List ℕ) (k : Keeps i s) where
 
   over-buffers : arriving.Arrives i (arrive i e) (buffersOf s) answer
   over-buffers =
-      arriving.arrives i (buffersOf s) e (keeping.keeps-where (λ h. tt) (k .buffers)) (zeros outRoom) (omega (arith, k .room, zeros-length outRoom))
+      arriving.arrives i (buffersOf s) e (keeping.keeps-where (λ h. tt) (as-buffers i s k)) (zeros outRoom) (omega (arith, k .room, zeros-length outRoom))
 
   entry-keeps : keeping.Keeps (leftBy (arrive i e) i) (buffersOf (entryAfter s (answer .number) (answer .store) (answer .state)))
   entry-keeps = go (known (answer .number =? 0))
@@ -125,20 +80,17 @@ module _ (i : Images) (s : declared.Server) (e : List ℕ) (k : Keeps i s) where
           let left : i ≡ leftBy (arrive i e) i = refused-left (arrive i e) i (λ z. some (over-buffers .number ∙ z)) in
           let entry : s ≡ entryAfter s (answer .number) (answer .store) (answer .state) = kept-refused s (answer .number) (answer .store) (answer .state) some in
           subst (λ (x : Images). keeping.Keeps x (buffersOf (entryAfter s (answer .number) (answer .store) (answer .state)))) left
-          (subst (λ (t : declared.Server). keeping.Keeps i (buffersOf t)) entry (k .buffers))
+          (subst (λ (t : declared.Server). keeping.Keeps i (buffersOf t)) entry (as-buffers i s k))
 
   entry-room : outLength (leftBy (arrive i e) i .memory .servers) (leftBy (arrive i e) i .memory .quota) ≤ outRoom
   entry-room =
       let same : SameServer (i .memory) (leftBy (arrive i e) i .memory) = over-buffers .same in
       subst (λ (m : ℕ). m ≤ outRoom) (λ j. outLength (sym (same .servers) j) (sym (same .quota) j)) (k .room)
 
-  source-formed : wellFormed (sourceOf i e) ≡ true
-  source-formed = source-of (λ t. wellFormed t ≡ true) i e (k .buffers .store .formed) (k .buffers .formed)
-
   pub arrives : Arrives i (arrive i e) (coreOf s e)
-  unfolding coreOf afterStep arrive
+  unfolding coreOf afterStep recordsIn
   arrives = record {
-    entry = record { buffers = entry-keeps; room = entry-room };
+    entry = as-entry _ _ entry-keeps entry-room;
     number = over-buffers .number;
-    sent = ap recordsIn (over-buffers .records) ∙ put-counted (sourceOf i e) e (step (sourceOf i e) e) source-formed refl;
+    sent = ap length (over-buffers .records) ∙ count-put (arrive i e);
   }

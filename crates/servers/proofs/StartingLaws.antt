@@ -1,7 +1,7 @@
 -- The start in an entry.
 -- Assumes nothing.
 use Prim.Native.Nat.{ℕ, zero, suc, _≤_, _<_}
-use mathlib.Core.Path.{_≡_, refl, sym, ap, subst, _∙_}
+use mathlib.Core.Path.{_≡_, refl, ap, _∙_}
 use mathlib.Core.Bool.{true}
 use mathlib.Core.List.{List, [], _∷_}
 use native.Mathlib.Omega.{arith}
@@ -15,11 +15,11 @@ use Rattle.engine.specs.Image.{zeros}
 use Rattle.engine.specs.Outcome as outcome
 use Rattle.engine.specs.Outcome.{startOn}
 use Rattle.engine.proofs.StartLaws.{zeros-length}
-use Rattle.buffers.specs.Buffers.{begun}
+use Rattle.buffers.specs.Buffers.{saved, begun}
 use Rattle.buffers.proofs.Keeping.{begun-keeps}
 use Rattle.servers.specs.declared.Server.{Server}
 use Rattle.servers.specs.Starting.{alike, freshOf, freshTable}
-use Rattle.servers.proofs.Keeping.{Keeps}
+use Rattle.servers.proofs.Keeping.{Keeps, as-entry}
 use Rattle.servers.specs.Core.{stateRoom, outRoom, buffersOf}
 
 -- ---- as the code makes it
@@ -61,8 +61,6 @@ module _ (n q k : ℕ) (sizes : sizesOk n q ≡ true) (few : n ≤ 4) (small : q
   long = omega (arith, state-room n q few small, zeros-length stateRoom)
 
   pub fresh-keeps : Keeps (started (start n q k)) (freshOf n q k)
-  unfolding started freshOf alike begun start
-  fresh-keeps = record {
-    buffers = begun-keeps n q k sizes own (buffersOf (alike (zeros stateRoom))) (record { long = long; alike = refl });
-    room = out-room n q few small;
-  }
+  unfolding started freshOf alike begun saved start
+  fresh-keeps =
+      as-entry _ _ (begun-keeps n q k sizes own (buffersOf (alike (zeros stateRoom))) (record { long = long; alike = refl })) (out-room n q few small)
