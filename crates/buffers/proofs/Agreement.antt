@@ -119,6 +119,7 @@ module _ {n q : ℕ} {l : Run} (S : AllowedWithStrays n q l) (x : Lending) (long
   buffers-agree = record {
     green = λ p i j h k. subst₂ (λ u v. ListsAgree u v) (shown-green p i h) (shown-green p j k) (agree .green p i j h k);
     primary = λ p r i j b c h k u v. agree .primary _ _ (held-primary p i b h u) (held-primary r j c k v);
+    known = held-primary;
     stored = λ p r i j h k. subst₂ (λ u v. ListsAgree u v) (stored-green p i h) (stored-green r j k) (follow .stored p r i j h k);
     later = λ p r i j o h k d.
         subst₂ (λ u v. ListsAgree u v) (stored-green p i h) (memory-green r j k d)

@@ -13,7 +13,7 @@ use Rattle.format.specs.Types.{Action, Primary}
 use Rattle.replication.specs.Images.{arrive}
 use Rattle.replication.specs.Runs.Run.{event, Run, worldAt, putOut, sentAt}
 use Rattle.replication.specs.Runs.Strays.{AllowedWithStrays}
-use Rattle.replication.specs.Runs.Claim.{ListsAgree, PrimariesAgree}
+use Rattle.replication.specs.Runs.Claim.{ListsAgree, PrimariesAgree, IsPrimary}
 use Rattle.engine.specs.Decode.{decoded, readImage}
 use Rattle.engine.specs.Outcome.{Result, resultOf}
 use Rattle.buffers.specs.Buffers.{sourceIn, stepIn}
@@ -66,6 +66,8 @@ module _ (n q : ℕ) (l : Run) (x : Lending) where
     -- "two primary components are equal, members and all, exactly when their indexes are"
     pub primary : (p r i j : ℕ) (b c : List ℕ) → i < n → j < n → HeldBy (daemons p) i b → HeldBy (daemons r) j c
         → PrimariesAgree (primaryIn b) (primaryIn c)
+    -- Each of them is one of the run's primary components: "the start's and each Install's".
+    pub known : (p i : ℕ) (b : List ℕ) → i < n → HeldBy (daemons p) i b → IsPrimary n q l (primaryIn b)
     -- "Stored green lists agree likewise at different moments"
     pub stored : (p r i j : ℕ) → i < n → j < n → ListsAgree (greenIn (daemons p .buffers i .store)) (greenIn (daemons r .buffers j .store))
     -- What is green in a stored image keeps its place: later it agrees with the buffer of any server that is up, and no stored image loses it.
