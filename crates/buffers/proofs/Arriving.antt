@@ -107,7 +107,12 @@ module _ (i : Images) (b : Buffers) (e : List ℕ) (k : KeepsWhere (isRecovery e
   refused-arrives : (m : ℕ) (z : List ℕ) → step s e ≡ refused m → Arrives i (refused m) b (resultOf (refused m) before z)
   unfolding resultOf refusal leftBy returned recordsOf joined
   refused-arrives m z h = record {
-    kept = record { formed = k .formed; memory = λ u. subst (Holds (i .memory)) state (k .memory running); store = subst (Holds (i .store)) store (k .store); same = k .same };
+    kept = record {
+      formed = k .formed;
+      memory = λ u. subst (Holds (i .memory)) state (k .memory running);
+      store = subst (Holds (i .store)) store (k .store);
+      same = k .same;
+    };
     same = same-itself (i .memory);
     number = refl;
     bytes = refl;

@@ -39,7 +39,8 @@ kept-as {z} {u} {u′} {v} {v′} {i} {i′} {b} {b′} e f g h k =
 -- ---- at the entry's own server
 
 -- The number 0 says that the event is taken.
-down-by : (o : Outcome (List ℕ)) (u v : Bool) (m : ℕ) → v ≡ u → m ≡ returned o → ((k : ℕ) → o ≡ refused k → 1 ≤ k) → pick (m =? 0) false v ≡ downAfter o u
+down-by : (o : Outcome (List ℕ)) (u v : Bool) (m : ℕ) → v ≡ u → m ≡ returned o → ((k : ℕ) → o ≡ refused k → 1 ≤ k)
+    → pick (m =? 0) false v ≡ downAfter o u
 unfolding returned downAfter
 down-by (refused k) u v m h g s = sym (pick-ne m 0 u false v (λ q. absurd (omega (arith, s k refl))) (sym h))
 down-by (taken t rs w a) u v m h g s = sym (pick-eq m 0 false false v g refl)
@@ -51,8 +52,11 @@ down-number u v i e m h g = down-by (arrive i e) u v m h g (λ k f. refused-some
 module _ (z : ℕ) (u : Bool) (i : Images) (v : Bool) (b : Buffers) (k : KeptAs z u i v b) where
   event-kept : (e o : List ℕ) → (u ≡ true → isRecovery e ≡ true) → outLength (i .memory .servers) (i .memory .quota) ≤ length o
       → KeptAs z (downAfter (arrive i e) u) (leftBy (arrive i e) i) (pick (stepIn b e o .number =? 0) false v) (keptAfter b (stepIn b e o))
-  event-kept e o recovers room =
-      record { down = down-number u v i e (stepIn b e o .number) (k .down) (a .number); keeps = keeps-where (λ h. tt) (a .kept); sized = a .lengths z (k .sized) }
+  event-kept e o recovers room = record {
+    down = down-number u v i e (stepIn b e o .number) (k .down) (a .number);
+    keeps = keeps-where (λ h. tt) (a .kept);
+    sized = a .lengths z (k .sized);
+  }
     where
       up : (u : Bool) → (u ≡ true → isRecovery e ≡ true) → isRecovery e ≡ false → u ≡ false
       up true f h = not-both (sym h ∙ f refl)

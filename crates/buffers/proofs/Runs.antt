@@ -45,7 +45,8 @@ module _ {n q : ℕ} {l : Run} (S : AllowedWithStrays n q l) where
       go (fails s) =
           let there = at-kept (S .stray) l p _ h s in
           let x = S .rest .recovers (kept (S .stray) p) i k e there (ap (λ (w : World). w .down i) (sym (world-kept S p)) ∙ d) in
-          subst (λ (b : List ℕ). isRecovery b ≡ true) (sym (event-entry (some-same (sym there ∙ x .here)) .1)) (recovery-bytes _ (x .bytes) (x .heard))
+          subst (λ (b : List ℕ). isRecovery b ≡ true) (sym (event-entry (some-same (sym there ∙ x .here)) .1))
+          (recovery-bytes _ (x .bytes) (x .heard))
 
   store-up : (p i : ℕ) → at l p ≡ some (store i) → worldAt n q l p .down i ≡ false
   store-up p i h = go (known (S .stray p))

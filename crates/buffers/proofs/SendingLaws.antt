@@ -50,7 +50,9 @@ from-any (suc d) (suc m) b h k = go (decLt (length b) 2) (λ p q. from-any d m (
     go (yes p) rest = from-short (suc d) b p ∙ sym (from-short (suc m) b p)
     go (no p) rest =
         let l = length-drop (size b) b in
-        from-next d b (omega arith) ∙ ap (λ (r : List (List ℕ)). take (size b) b ∷ r) (rest (omega arith) (omega arith)) ∙ sym (from-next m b (omega arith))
+        from-next d b (omega arith)
+        ∙ ap (λ (r : List (List ℕ)). take (size b) b ∷ r) (rest (omega arith) (omega arith))
+        ∙ sym (from-next m b (omega arith))
 
 pub cut-short : (b : List ℕ) → length b < 2 → cutRecords b ≡ []
 unfolding cutRecords

@@ -35,7 +35,8 @@ pub record Keeps (i : Images) (s : declared.Server) : Type 0 where
 as-buffers : (i : Images) (s : declared.Server) → Keeps i s → keeping.Keeps i (buffersOf s)
 as-buffers i s k = record { formed = k .memory .formed; memory = λ u. k .memory; store = k .store; same = k .same }
 
-pub as-entry : (i : Images) (s : declared.Server) → keeping.Keeps i (buffersOf s) → outLength (i .memory .servers) (i .memory .quota) ≤ outRoom → Keeps i s
+pub as-entry : (i : Images) (s : declared.Server) → keeping.Keeps i (buffersOf s)
+    → outLength (i .memory .servers) (i .memory .quota) ≤ outRoom → Keeps i s
 as-entry i s k room = record { memory = k .memory tt; store = k .store; same = k .same; room = room }
 
 -- ---- one event
@@ -47,9 +48,11 @@ pub record Arrives (i : Images) (o : Outcome (List ℕ)) (r : Stepped) : Type 0 
   pub sent : r .reply .sent ≡ sentCount o
 
 -- The entry after a taken event, as the daemon's buffers.
-entry-taken : (s : declared.Server) (r : Result) → r .number ≡ 0 → keptAfter (buffersOf s) r ≡ buffersOf (entryAfter s (r .number) (r .store) (r .state))
+entry-taken : (s : declared.Server) (r : Result) → r .number ≡ 0
+    → keptAfter (buffersOf s) r ≡ buffersOf (entryAfter s (r .number) (r .store) (r .state))
 unfolding keptAfter entryAfter
-entry-taken s r h = ap buffersOf (pick-eq (r .number) 0 (record { state = r .state; store = pick (r .store =? 1) (r .state) (s .store) }) _ _ h refl)
+entry-taken s r h =
+    ap buffersOf (pick-eq (r .number) 0 (record { state = r .state; store = pick (r .store =? 1) (r .state) (s .store) }) _ _ h refl)
 
 refused-left : (o : Outcome (List ℕ)) (i : Images) → (returned o ≡ 0 → ⊥) → i ≡ leftBy o i
 unfolding returned leftBy
@@ -69,17 +72,20 @@ module _ (i : Images) (s : declared.Server) (e : List ℕ) (k : Keeps i s) where
   over-buffers =
       arriving.arrives i (buffersOf s) e (keeping.keeps-where (λ h. tt) (as-buffers i s k)) (zeros outRoom) (omega (arith, k .room, zeros-length outRoom))
 
-  entry-keeps : keeping.Keeps (leftBy (arrive i e) i) (buffersOf (entryAfter s (answer .number) (answer .store) (answer .state)))
+  abbrev after : declared.Server
+  after = entryAfter s (answer .number) (answer .store) (answer .state)
+
+  entry-keeps : keeping.Keeps (leftBy (arrive i e) i) (buffersOf after)
   entry-keeps = go (known (answer .number =? 0))
     where
-      go : Known (answer .number =? 0) → keeping.Keeps (leftBy (arrive i e) i) (buffersOf (entryAfter s (answer .number) (answer .store) (answer .state)))
+      go : Known (answer .number =? 0) → keeping.Keeps (leftBy (arrive i e) i) (buffersOf after)
       go (holds h) =
           subst (keeping.Keeps (leftBy (arrive i e) i)) (entry-taken s answer (eq-holds (answer .number) 0 h)) (over-buffers .kept)
       go (fails h) =
           let some : answer .number ≡ 0 → ⊥ = eq-fails (answer .number) 0 h in
           let left : i ≡ leftBy (arrive i e) i = refused-left (arrive i e) i (λ z. some (over-buffers .number ∙ z)) in
-          let entry : s ≡ entryAfter s (answer .number) (answer .store) (answer .state) = kept-refused s (answer .number) (answer .store) (answer .state) some in
-          subst (λ (x : Images). keeping.Keeps x (buffersOf (entryAfter s (answer .number) (answer .store) (answer .state)))) left
+          let entry : s ≡ after = kept-refused s (answer .number) (answer .store) (answer .state) some in
+          subst (λ (x : Images). keeping.Keeps x (buffersOf after)) left
           (subst (λ (t : declared.Server). keeping.Keeps i (buffersOf t)) entry (as-buffers i s k))
 
   entry-room : outLength (leftBy (arrive i e) i .memory .servers) (leftBy (arrive i e) i .memory .quota) ≤ outRoom
