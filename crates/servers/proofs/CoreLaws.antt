@@ -1,60 +1,36 @@
 -- One event at one server, as the code makes it.
 -- Assumes nothing.
-use Prim.Native.Nat.{ℕ, zero, suc, _+_, _-_, _≤_, _<_}
+use Prim.Native.Nat.{ℕ, suc, _+_, _-_, _≤_, _<_}
 use mathlib.Core.Path.{_≡_, refl, sym, ap, ap₂, _∙_}
 use mathlib.Core.Bool.{Bool, true, false}
 use mathlib.Core.List.{List}
 use native.Mathlib.Omega.{arith}
-use native.Mathlib.Decide.{decLt}
 use lib.ListN.{length, take, drop, length-drop, drop-of-length-le}
 use lib.Seq.{take-all, drop-length, drop-drop}
-use Rattle.base.specs.Tests.{pick-yes, pick-no, pick-lt, pick-ge, pick-eq, pick-ne}
+use Rattle.base.specs.Tests.{pick-eq, pick-ne}
 use Rattle.base.specs.Bytes.{numberAt}
 use Rattle.base.specs.BytesLaws.{number-drop}
 use Rattle.engine.specs.Image.{zeros}
 use Rattle.engine.specs.Outcome.{Result, stepOn}
+use Rattle.buffers.specs.Buffers.{isRecovery, sourceIn, stepIn}
+use Rattle.buffers.proofs.BufferLaws as laws
+use Rattle.buffers.proofs.SendingLaws.{cut-short, cut-next}
 use Rattle.step.specs.declared.Answer.{Answer}
 use Rattle.step.specs.Answers.{answered}
 use Rattle.servers.specs.declared.Server.{Server}
 use Rattle.servers.specs.declared.Stepped.{Stepped}
-use Rattle.servers.specs.Core.{outRoom, isRecovery, sourceIn, entryAfter, recordsFrom, recordsIn, afterStep, coreOf}
+use Rattle.servers.specs.Core.{outRoom, buffersOf, entryAfter, recordsIn, afterStep, coreOf}
 
 -- ---- records counted by their length bytes
 
-short-none : (d : ℕ) (e : List ℕ) → length e < 2 → recordsFrom d e ≡ 0
-unfolding recordsFrom
-short-none zero e h = refl
-short-none (suc d) e h = sym (pick-lt (length e) 2 0 _ _ h refl)
-
-one-more : (d : ℕ) (e : List ℕ) → 2 ≤ length e → recordsFrom (suc d) e ≡ suc (recordsFrom d (drop (numberAt 2 e 0 + 2) e))
-unfolding recordsFrom
-one-more d e h = sym (pick-ge (length e) 2 (suc (recordsFrom d (drop (numberAt 2 e 0 + 2) e))) _ _ h refl)
-
--- The bound does not matter.
-pub records-any : (d m : ℕ) (e : List ℕ) → length e ≤ d → length e ≤ m → recordsFrom d e ≡ recordsFrom m e
-records-any zero m e h k = short-none zero e (omega arith) ∙ sym (short-none m e (omega arith))
-records-any (suc d) zero e h k = short-none (suc d) e (omega arith) ∙ sym (short-none zero e (omega arith))
-records-any (suc d) (suc m) e h k = go (decLt (length e) 2) (λ p q. records-any d m (drop (numberAt 2 e 0 + 2) e) p q)
-  where
-    go : Dec (length e < 2)
-        → (length (drop (numberAt 2 e 0 + 2) e) ≤ d → length (drop (numberAt 2 e 0 + 2) e) ≤ m
-        → recordsFrom d (drop (numberAt 2 e 0 + 2) e) ≡ recordsFrom m (drop (numberAt 2 e 0 + 2) e))
-        → recordsFrom (suc d) e ≡ recordsFrom (suc m) e
-    go (yes p) rest = short-none (suc d) e p ∙ sym (short-none (suc m) e p)
-    go (no p) rest =
-        let l = length-drop (numberAt 2 e 0 + 2) e in
-        one-more d e (omega arith) ∙ ap suc (rest (omega arith) (omega arith)) ∙ sym (one-more m e (omega arith))
-
 -- One record, and those behind it.
-pub records-next : (e : List ℕ) → 2 ≤ length e → recordsIn e ≡ suc (recordsIn (drop (numberAt 2 e 0 + 2) e))
+records-next : (e : List ℕ) → 2 ≤ length e → recordsIn e ≡ suc (recordsIn (drop (numberAt 2 e 0 + 2) e))
 unfolding recordsIn
-records-next e h = go (length e) refl
-  where
-    go : (m : ℕ) → length e ≡ m → recordsFrom m e ≡ suc (recordsFrom (length (drop (numberAt 2 e 0 + 2) e)) (drop (numberAt 2 e 0 + 2) e))
-    go zero l = absurd (omega arith)
-    go (suc m) l =
-        let r = length-drop (numberAt 2 e 0 + 2) e in
-        one-more m e h ∙ ap suc (records-any m (length (drop (numberAt 2 e 0 + 2) e)) (drop (numberAt 2 e 0 + 2) e) (omega arith) (omega arith))
+records-next e h = ap length (cut-next e h)
+
+records-none : (e : List ℕ) → length e < 2 → recordsIn e ≡ 0
+unfolding recordsIn
+records-none e h = ap length (cut-short e h)
 
 pub count-again : (e : List ℕ) (at r n : ℕ) → at ≤ length e → 2 ≤ length e - at → drop r e ≡ drop (at + (numberAt 2 e at + 2)) e
     → n + recordsIn (drop at e) ≡ recordsIn e → n + 1 + recordsIn (drop r e) ≡ recordsIn e
@@ -67,10 +43,9 @@ count-again e at r n i h d g =
     omega (arith, records-next (drop at e) (omega arith), ap recordsIn behind)
 
 pub count-end : (e : List ℕ) (at n : ℕ) → length e - at < 2 → n + recordsIn (drop at e) ≡ recordsIn e → n ≡ recordsIn e
-unfolding recordsIn
 count-end e at n h g =
     let l = length-drop at e in
-    omega (arith, short-none (length (drop at e)) (drop at e) (omega arith))
+    omega (arith, records-none (drop at e) (omega arith))
 
 pub count-whole : (e : List ℕ) (sent r : ℕ) → length e ≤ sent → r ≡ recordsIn e → r ≡ recordsIn (take sent e)
 count-whole e sent r h g = g ∙ ap recordsIn (sym (take-all sent e h))
@@ -78,13 +53,11 @@ count-whole e sent r h g = g ∙ ap recordsIn (sym (take-all sent e h))
 -- ---- the state that the event comes to
 
 module _ (s : Server) (e : List ℕ) (t : Bool) (answer : t ≡ isRecovery e) where
-  pub source-stored : t ≡ true → s .store ≡ sourceIn s e
-  unfolding sourceIn
-  source-stored h = pick-yes (isRecovery e) (s .store) _ _ (sym answer ∙ h) refl
+  pub source-stored : t ≡ true → s .store ≡ sourceIn (buffersOf s) e
+  source-stored h = laws.source-stored (buffersOf s) e (sym answer ∙ h)
 
-  pub source-running : t ≡ false → s .state ≡ sourceIn s e
-  unfolding sourceIn
-  source-running h = pick-no (isRecovery e) (s .state) _ _ (sym answer ∙ h) refl
+  pub source-running : t ≡ false → s .state ≡ sourceIn (buffersOf s) e
+  source-running h = laws.source-running (buffersOf s) e (sym answer ∙ h)
 
 -- ---- the place behind a record
 
@@ -116,10 +89,10 @@ module _ (s : Server) (number store : ℕ) (b : List ℕ) where
 
 -- ---- the core
 
-pub core-made : (s v : Server) (e b b₁ o o₁ : List ℕ) (a : Answer) (n : ℕ) → b ≡ sourceIn s e → o ≡ zeros outRoom
+pub core-made : (s v : Server) (e b b₁ o o₁ : List ℕ) (a : Answer) (n : ℕ) → b ≡ sourceIn (buffersOf s) e → o ≡ zeros outRoom
     → answered a b₁ o₁ ≡ stepOn b e o → v ≡ entryAfter s (a .number) (a .store) b₁ → n ≡ recordsIn (take (a .sent) o₁)
     → record { server = v; reply = record { number = a .number; sent = n } } ≡ coreOf s e
-unfolding coreOf afterStep answered
+unfolding coreOf stepIn afterStep answered
 core-made s v e b b₁ o o₁ a n f z h g r =
     let left : _≡_ {A = Stepped} (record { server = v; reply = record { number = a .number; sent = n } }) (afterStep s (answered a b₁ o₁))
     = λ i. record { server = g i; reply = record { number = a .number; sent = r i } } in

@@ -1,7 +1,6 @@
 pub mod CoreLaws
 pub mod Entry
 pub mod Keeping
-pub mod RecoveryLaws
 pub mod StartingLaws
 pub mod Tabled
 pub mod TableLaws

@@ -1,28 +1,26 @@
 -- The start in an entry.
 -- Assumes nothing.
 use Prim.Native.Nat.{ℕ, zero, suc, _≤_, _<_}
-use mathlib.Core.Path.{_≡_, refl, sym, ap, subst, _∙_}
+use mathlib.Core.Path.{_≡_, refl, ap, _∙_}
 use mathlib.Core.Bool.{true}
 use mathlib.Core.List.{List, [], _∷_}
 use native.Mathlib.Omega.{arith}
 use lib.ListN.{length}
-use Rattle.base.specs.Tests.{pick-yes, pick-lt, pick-ge}
 use Rattle.base.specs.Lists.{sum}
 use Rattle.format.specs.Range.{sizesOk}
 use Rattle.replication.specs.Machine.Types.{start}
 use Rattle.replication.specs.Images.{started}
-use Rattle.replication.proofs.WellFormed.Runs.{start-well-formed}
 use Rattle.engine.specs.Layout.{stateSize, sections, stateLength, outLength}
-use Rattle.engine.specs.Image.{zeros, image}
+use Rattle.engine.specs.Image.{zeros}
 use Rattle.engine.specs.Outcome as outcome
 use Rattle.engine.specs.Outcome.{startOn}
-use Rattle.engine.proofs.ImageLaws.{image-length, image-again}
-use Rattle.engine.proofs.InPlace.{Holds}
 use Rattle.engine.proofs.StartLaws.{zeros-length}
+use Rattle.buffers.specs.Buffers.{saved, begun}
+use Rattle.buffers.proofs.Keeping.{begun-keeps}
 use Rattle.servers.specs.declared.Server.{Server}
 use Rattle.servers.specs.Starting.{alike, freshOf, freshTable}
-use Rattle.servers.proofs.Keeping.{Keeps}
-use Rattle.servers.specs.Core.{stateRoom, outRoom}
+use Rattle.servers.proofs.Keeping.{Keeps, as-entry}
+use Rattle.servers.specs.Core.{stateRoom, outRoom, buffersOf}
 
 -- ---- as the code makes it
 
@@ -62,32 +60,7 @@ module _ (n q k : ℕ) (sizes : sizesOk n q ≡ true) (few : n ≤ 4) (small : q
   long : stateLength n q ≤ length (zeros stateRoom)
   long = omega (arith, state-room n q few small, zeros-length stateRoom)
 
-  start-holds : Holds (start n q k) (image (start n q k) (zeros stateRoom))
-  unfolding start
-  start-holds =
-      let ok = start-well-formed n q k sizes own in
-      record {
-        formed = ok;
-        written = image-again (start n q k) (zeros stateRoom) ok long;
-        long = omega
-            (arith, long, image-length (start n q k) (zeros stateRoom) ok long);
-      }
-
-  fresh-is : freshOf n q k ≡ alike (image (start n q k) (zeros stateRoom))
-  unfolding freshOf startOn outcome.started
-  fresh-is =
-      ap (λ (x : outcome.Started). alike (x .state))
-      (sym
-      (pick-yes (sizesOk n q) (outcome.started 0 (image (start n q k) (zeros stateRoom))) _ _ sizes
-      (pick-ge (length (zeros stateRoom)) (stateLength n q) _ _ _ long (pick-lt k n _ _ _ own refl))))
-
   pub fresh-keeps : Keeps (started (start n q k)) (freshOf n q k)
-  unfolding started alike start
+  unfolding started freshOf alike begun saved start
   fresh-keeps =
-      subst (Keeps (started (start n q k))) (sym fresh-is)
-      (record {
-        memory = start-holds;
-        store = start-holds;
-        same = record { servers = refl; quota = refl; me = refl };
-        room = out-room n q few small;
-      })
+      as-entry _ _ (begun-keeps n q k sizes own (buffersOf (alike (zeros stateRoom))) (record { long = long; alike = refl })) (out-room n q few small)

@@ -1,14 +1,15 @@
 -- What an event makes of a server, and the reply.
 -- Assumes nothing.
-use Prim.Native.Nat.{ℕ, zero, suc, _+_, _≤_}
+use Prim.Native.Nat.{ℕ, _+_, _≤_}
 use mathlib.Core.Path.{_≡_}
-use mathlib.Core.Bool.{Bool}
 use mathlib.Core.List.{List}
-use lib.ListN.{length, take, drop, getD}
-use Rattle.base.specs.Tests.{_and_, _<?_, _=?_, pick}
+use lib.ListN.{length, take, drop}
+use Rattle.base.specs.Tests.{_=?_, pick}
 use Rattle.base.specs.Bytes.{numberAt}
 use Rattle.engine.specs.Image.{zeros}
-use Rattle.engine.specs.Outcome.{Result, stepOn}
+use Rattle.engine.specs.Outcome.{Result}
+use Rattle.buffers.specs.Buffers.{Buffers, stepIn}
+use Rattle.buffers.specs.Sending.{cutRecords}
 use Rattle.servers.specs.declared.Server.{Server}
 use Rattle.servers.specs.declared.Reply.{Reply}
 use Rattle.servers.specs.declared.Stepped.{Stepped}
@@ -20,13 +21,9 @@ stateRoom = 6500
 abbrev pub outRoom : ℕ
 outRoom = 8320
 
--- The recovery's record: no other bytes read as one.
-unfoldable pub isRecovery : List ℕ → Bool
-isRecovery e = length e =? 4 and getD e 0 0 =? 0 and getD e 1 0 =? 2 and getD e 2 0 =? 1 and getD e 3 0 =? 8
-
--- "Recovery starts from that server's last stored image."
-unfoldable pub sourceIn : Server → List ℕ → List ℕ
-sourceIn s e = pick (isRecovery e) (s .store) (s .state)
+-- An entry as a daemon's buffers.
+abbrev pub buffersOf : Server → Buffers
+buffersOf s = record { state = s .state; store = s .store }
 
 -- "What is stored is the event's whole new state"; a refused event leaves all as before.
 unfoldable pub entryAfter : Server → (number store : ℕ) → List ℕ → Server
@@ -39,13 +36,9 @@ pub record Behind (e : List ℕ) (at r : ℕ) : Type 0 where
   pub most : r ≤ length e
   pub rest : drop r e ≡ drop (at + (numberAt 2 e at + 2)) e
 
--- How many records there are, by their length bytes; the first argument bounds how many.
-unfoldable pub recordsFrom : ℕ → List ℕ → ℕ
-recordsFrom zero e = 0
-recordsFrom (suc d) e = pick (length e <? 2) 0 (suc (recordsFrom d (drop (numberAt 2 e 0 + 2) e)))
-
+-- How many records there are, by their length bytes.
 unfoldable pub recordsIn : List ℕ → ℕ
-recordsIn e = recordsFrom (length e) e
+recordsIn e = length (cutRecords e)
 
 -- The entry and the reply after a step with this result.
 unfoldable pub afterStep : Server → Result → Stepped
@@ -55,4 +48,4 @@ afterStep s r = record {
 }
 
 unfoldable pub coreOf : Server → List ℕ → Stepped
-coreOf s e = afterStep s (stepOn (sourceIn s e) e (zeros outRoom))
+coreOf s e = afterStep s (stepIn (buffersOf s) e (zeros outRoom))

@@ -2,7 +2,8 @@
 ghost use mathlib.Core.Path.{_≡_};
 ghost use Prim.Native.Nat.{_+_, _≤_};
 ghost use lib.ListN.{length, take};
-ghost use Rattle.servers.specs.Core.{isRecovery, sourceIn, entryAfter, Behind, recordsIn};
+ghost use Rattle.buffers.specs.Buffers.{isRecovery, sourceIn};
+ghost use Rattle.servers.specs.Core.{buffersOf, entryAfter, Behind, recordsIn};
 use crate::STATE_ROOM;
 use crate::Server;
 use record::bytes::num16;
@@ -28,7 +29,7 @@ fn is_recovery(e: &[u8]) -> bool
 
 // The state that the event comes to.
 pub fn source(s: Server, e: &[u8]) -> [u8; STATE_ROOM]
-    ensures { λ r. ⌜ r ≡ sourceIn s (now (e .entry)) ⌝ }
+    ensures { λ r. ⌜ r ≡ sourceIn (buffersOf s) (now (e .entry)) ⌝ }
 {
     if is_recovery(e) {
         return s.store;

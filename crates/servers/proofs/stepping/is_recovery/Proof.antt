@@ -1,5 +1,5 @@
 use Rattle.base.specs.Branches.{told}
-use Rattle.servers.specs.Core.{isRecovery}
+use Rattle.buffers.specs.Buffers.{isRecovery}
 use Rattle.base.specs.Tests.{tests}
 use borrow.Author.Needs.{needs}
 use Rattle.servers.proofs.stepping.is_recovery.Statement.{statement}

@@ -6,7 +6,7 @@ use mathlib.Core.Bool.{true, false}
 use mathlib.Core.List.{List}
 use native.Mathlib.Omega.{arith}
 use lib.ListN.{length, getD}
-use Rattle.base.specs.Tests.{_and_, _=?_, and-holds, both-yes, eq-holds, eq-yes, not-both, Known, holds, fails, known}
+use Rattle.base.specs.Tests.{_=?_, and-holds, both-yes, eq-holds, eq-yes, not-both, Known, holds, fails, known}
 use Rattle.base.specs.Bytes.{numberAt}
 use Rattle.base.specs.BytesLaws.{number1, number2}
 use Rattle.format.specs.Limits.{version}
@@ -15,10 +15,11 @@ use Rattle.format.specs.Range.{contextOk, fieldsOk, recordOk}
 use Rattle.format.specs.Read.{kindNamed, lengthFor, frameOk, recordIn, read}
 use Rattle.format.proofs.Reading.{kind-named, kind-number, record-kind, read-says, says-read}
 use Rattle.replication.specs.Images as images
-use Rattle.servers.specs.Core.{isRecovery}
+use Rattle.buffers.specs.Buffers.{isRecovery}
 
 module _ (c : Context) (e : List ℕ) where
-  recovery-says : contextOk c ≡ true → isRecovery e ≡ true → read c e ≡ says recovery
+  -- Its bytes read as a recovery, at every server.
+  pub recovery-says : contextOk c ≡ true → isRecovery e ≡ true → read c e ≡ says recovery
   unfolding isRecovery frameOk lengthFor recordOk fieldsOk recordIn kindNumber
   recovery-says ok h =
       let p = and-holds (length e =? 4) _ h in
@@ -54,7 +55,8 @@ module _ (c : Context) (e : List ℕ) where
       (both-yes _ _ (eq-yes _ _ (omega (arith, number2 e 0)))
       (both-yes _ _ (eq-yes _ _ (sym (number1 e 2) ∙ e₂)) (eq-yes _ _ (sym (number1 e 3) ∙ n)))))
 
-  recovery-bytes : read c e ≡ says recovery → isRecovery e ≡ true
+  -- No other bytes read as a recovery.
+  pub recovery-bytes : read c e ≡ says recovery → isRecovery e ≡ true
   unfolding kindOf kindNumber
   recovery-bytes h =
       let r = says-read c e recovery h in
@@ -62,7 +64,7 @@ module _ (c : Context) (e : List ℕ) where
       recovery-framed (sym (kind-number (numberAt 1 e 3) (r .kind) (r .named)) ∙ ap kindNumber kind)
       (subst (λ k. frameOk k (c .servers) e ≡ true) kind (r .frame))
 
-  -- The record that is a recovery is the only one.
+  -- The test of the bytes is the test of what they say.
   pub recovery-read : contextOk c ≡ true → images.isRecovery (read c e) ≡ isRecovery e
   unfolding images.isRecovery
   recovery-read ok = go (known (isRecovery e))

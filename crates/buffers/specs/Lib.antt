@@ -1,0 +1,4 @@
+pub mod Buffers
+pub mod Sending
+pub mod Daemons
+pub mod Claim
