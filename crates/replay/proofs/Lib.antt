@@ -1,6 +1,13 @@
 pub mod DecimalLaws
+pub mod Goings
 pub mod InputLaws
 pub mod LineLaws
+pub mod PartCode
+pub mod PartLaws
+pub mod PassCode
+pub mod PassLaws
 pub mod PrintsLaws
+pub mod PrintsParts
+pub mod ReadingLaws
 pub mod TurnLaws
 pub mod ShownLaws

@@ -1,4 +1,5 @@
 pub mod Input
 pub mod Lines
+pub mod Passes
 pub mod Reading
 pub mod Turns

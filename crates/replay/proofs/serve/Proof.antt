@@ -1,12 +1,11 @@
+use Rattle.replay.proofs.ReadingLaws.{left-room}
 use Rattle.io.specs.Counts.{Counts}
-use lib.ListN.{length}
-use Prim.Native.Nat.{_≤_}
 use borrow.Author.Needs.{needs}
 use Rattle.replay.proofs.serve.Statement.{statement}
 use Rattle.replay.proofs.serve.Tie as tie
 use Rattle.replay.proofs.serve.Reads as reads
 use Rattle.replay.proofs.serve.Lts as lts
-use Rattle.replay.proofs.pass.Reads as pass-reads
+use Rattle.replay.proofs.print_part.Reads as print-part-reads
 use Rattle.replay.proofs.refill.Reads as refill-reads
 use Rattle.servers.proofs.starting.begin.Reads as begin-reads
 
@@ -34,11 +33,11 @@ sub-left c = search needs
 array-share-prefix-bytes : tie.Need-array-share-prefix-bytes Inv-loop μ-loop
 array-share-prefix-bytes c = search needs
 
-slice-aggregate-pass : tie.Need-slice-aggregate-pass Inv-loop μ-loop
-slice-aggregate-pass c = search needs
+slice-aggregate-print-part : tie.Need-slice-aggregate-print-part Inv-loop μ-loop
+slice-aggregate-print-part c = search needs
 
-pass-requires : tie.Need-pass-requires Inv-loop μ-loop
-pass-requires c κs = search needs
+print-part-requires : tie.Need-print-part-requires Inv-loop μ-loop
+print-part-requires c κs = search needs
 
 returns : tie.Need-returns Inv-loop μ-loop
 returns c = search needs
@@ -53,7 +52,7 @@ part-refill-end : tie.Need-part-refill-end Inv-loop μ-loop
 part-refill-end c = search needs
 
 refill-requires-2 : tie.Need-refill-requires-2 Inv-loop μ-loop
-refill-requires-2 c κs = search needs
+refill-requires-2 c κs = search (needs, left-room)
 
 loop-less : tie.Need-loop-less Inv-loop μ-loop
 loop-less c = search needs
@@ -76,8 +75,8 @@ serve-spec =
     loop-holds
     sub-left
     array-share-prefix-bytes
-    slice-aggregate-pass
-    pass-requires
+    slice-aggregate-print-part
+    print-part-requires
     returns
     sub-refill
     part-refill-start
