@@ -1,13 +1,13 @@
 -- The passes of a part of the input, as the code makes them.
 -- Assumes nothing.
-use Prim.Native.Nat.{ℕ, _+_, _-_, _≤_, _<_}
+use Prim.Native.Nat.{ℕ, _+_, _-_, _^_, _≤_, _<_}
 use mathlib.Core.Path.{_≡_, refl, sym, ap, _∙_}
 use mathlib.Core.Bool.{Bool, true, false}
 use mathlib.Core.List.{List, []}
 use native.Mathlib.Omega.{arith}
 use lib.ListN.{length, getD, take, drop, length-drop}
 use lib.Seq.{take-all, drop-drop}
-use mir.Syntax.{w8}
+use mir.Syntax.{w8, w64}
 use mir.Val.{Fits}
 use Rattle.base.specs.BytesLaws.{given-bytes}
 use Rattle.servers.specs.declared.Server.{Server}
@@ -71,9 +71,12 @@ module _ (t : List Server) (n first : ℕ) (input : List ℕ) (ended : Bool) (ta
   unfolding passed
   going-is = sym (ap (λ (x : Progress). x .going) is-next)
 
-  pub printing-taken : taken + r .taken ≤ length input
+  printing-taken : taken + r .taken ≤ length input
   printing-taken =
       omega (arith, taken-is, a .there, pass-fed table n event (drop taken input) ended linesRoom .there, length-drop taken input)
+
+  pub printing-fits : length input < 2 ^ 64 → Fits w64 (taken + r .taken)
+  printing-fits l = record { fits = omega (arith, printing-taken) }
 
   pub printing-less : r .going ≡ On → length input - (taken + r .taken) < length input - taken
   printing-less g =

@@ -7,6 +7,8 @@ use mathlib.Core.List.{List, [], _++_, append-nil}
 use native.Mathlib.Omega.{arith}
 use lib.ListN.{length, take, drop, length-append, length-drop}
 use lib.Seq.{take-all, take-append-le, take-append-add, length-take-le, drop-drop}
+use mir.Syntax.{w64}
+use mir.Val.{Fits}
 use Rattle.io.specs.Counts.{Counts}
 use Rattle.io.proofs.Counting.{counts}
 use Rattle.servers.specs.declared.Server.{Server}
@@ -83,9 +85,12 @@ module _ (t : List Server) (n first : ℕ) (input : List ℕ) (ended : Bool) (o 
     unfolding turned
     going-is = sym (ap (λ (x : Turned). x .going) is-next)
 
-    pub along-taken : taken + r .taken ≤ length input
+    along-taken : taken + r .taken ≤ length input
     along-taken =
         omega (arith, taken-is, a .there, turn-feeds table n event (drop taken input) ended .there, length-drop taken input)
+
+    pub along-fits : length input < 2 ^ 64 → Fits w64 (taken + r .taken)
+    along-fits l = record { fits = omega (arith, along-taken) }
 
     pub along-less : r .going ≡ On → length input - (taken + r .taken) < length input - taken
     along-less g =

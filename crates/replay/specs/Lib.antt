@@ -1,3 +1,4 @@
+pub mod Advancing
 pub mod Input
 pub mod Lines
 pub mod Passes

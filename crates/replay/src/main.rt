@@ -4,7 +4,9 @@ ghost use mathlib.Core.Path.{_≡_};
 ghost use Prim.Native.Nat.{_≤_, _<_};
 ghost use lib.ListN.{length};
 ghost use Rattle.replay.specs.Passes.{partOf, printed, PrintsReplay};
+ghost use Rattle.io.specs.Counts.{Counts};
 ghost use Rattle.replay.specs.Reading.{inputRoom, linesRoom, Fed, Refilled};
+ghost use Rattle.replay.specs.Advancing.{Advanced, Reached};
 
 mod input;
 mod line;
@@ -105,28 +107,67 @@ fn refill(old: &[u8]) -> Filled
     }
 }
 
-// Events from the input's start on, until it ends or is wrong.
-fn serve(servers: u8, quota: u16)
-    requires { ⌜ servers ≤ 4 ⌝ }
+// Where the program stands between two reads: the table, the number of the next event, what is there of the input, and whether there
+// may be more.
+struct Standing {
+    table: [Server; 4],
+    event: u64,
+    filled: Filled,
+    more: bool,
+}
+
+// The events that are there, and then what is read at once.
+fn advance(servers: u8, s: Standing) -> Standing
+    requires { ⌜ (servers ≤ 4) × Counts (s .filled .count) (s .filled .bytes) ⌝ }
+    ensures { λ r. ⌜ Advanced servers s r ⌝ }
 {
-    let mut table = begin(servers, quota);
-    let mut event: u64 = 1;
-    let mut filled = refill(b"");
+    let filled = s.filled;
+    let bytes = filled.bytes;
+    let count = filled.count;
+    let table = s.table;
+    let r = print_part(table, servers, s.event, &bytes[..count], filled.ended);
+    let a = r.table;
+    if !r.more {
+        return Standing {
+            table: a,
+            event: r.event,
+            filled,
+            more: false,
+        };
+    }
+    let taken = r.taken;
+    let next = refill(&bytes[taken..count]);
+    Standing {
+        table: a,
+        event: r.event,
+        filled: next,
+        more: true,
+    }
+}
+
+// Events from the input's start on, until it ends or is wrong.
+fn serve(servers: u8, quota: u16) -> Standing
+    requires { ⌜ servers ≤ 4 ⌝ }
+    ensures { λ r. ⌜ Reached servers quota r ⌝ }
+{
+    let table = begin(servers, quota);
+    let filled = refill(b"");
+    let mut s = Standing {
+        table,
+        event: 1,
+        filled,
+        more: true,
+    };
     let mut left: u64 = 18446744073709551615;
     while 0 < left {
         left -= 1;
-        let bytes = filled.bytes;
-        let count = filled.count;
-        let r = print_part(table, servers, event, &bytes[..count], filled.ended);
+        let r = advance(servers, s);
         if !r.more {
-            return;
+            return r;
         }
-        let a = r.table;
-        table = a;
-        event = r.event;
-        let taken = r.taken;
-        filled = refill(&bytes[taken..count]);
+        s = r;
     }
+    s
 }
 
 // The lines of all parts of the input together are what document 01 says that `replay` prints.

@@ -1,4 +1,4 @@
-use Rattle.replay.proofs.PartCode.{Printing, printing-starts, printing-on, printing-taken, printing-less, part-reads, part-stops}
+use Rattle.replay.proofs.PartCode.{Printing, printing-starts, printing-on, printing-fits, printing-less, part-reads, part-stops}
 use lib.ListN.{length}
 use Prim.Native.Nat.{_-_}
 use borrow.Author.Needs.{needs}
@@ -44,10 +44,7 @@ write-all-requires : tie.Need-write-all-requires Inv-loop μ-loop
 write-all-requires c κs = search needs
 
 add-taken : tie.Need-add-taken Inv-loop μ-loop
-add-taken c =
-    let inside = printing-taken _ _ _ _ _ _ _ _ _ (c .before .before .before .before .before .before .before .before .loop .inv) _ _
-    (c .before .before .before .before .before .pass .ensures .0) in
-    search needs
+add-taken c = search (needs, printing-fits)
 
 enum-told : tie.Need-enum-told Inv-loop μ-loop
 enum-told c = search needs

@@ -1,4 +1,4 @@
-use Rattle.replay.proofs.PassCode.{Along, along-starts, along-on, along-taken, along-less, pass-full, full-counts, pass-reads, pass-stops, ends-counts}
+use Rattle.replay.proofs.PassCode.{Along, along-starts, along-on, along-fits, along-less, pass-full, full-counts, pass-reads, pass-stops, ends-counts}
 use lib.ListN.{length as count}
 use Prim.Native.Nat.{_-_}
 use borrow.Author.Needs.{needs}
@@ -44,10 +44,7 @@ take-turn-requires : tie.Need-take-turn-requires Inv-loop μ-loop
 take-turn-requires c κs = search needs
 
 add-taken : tie.Need-add-taken Inv-loop μ-loop
-add-taken c =
-    let inside = along-taken _ _ _ _ _ _ _ _ _ _ _ (c .before .before .before .before .before .before .before .before .loop .inv) _ _
-    (c .before .before .before .before .take-turn .ensures .0) in
-    search needs
+add-taken c = search (needs, along-fits)
 
 add-length : tie.Need-add-length Inv-loop μ-loop
 add-length c = search needs
