@@ -8,6 +8,8 @@ pub mod PassCode
 pub mod PassLaws
 pub mod PrintsLaws
 pub mod PrintsParts
+pub mod PrintsTurns
+pub mod ReachedLaws
 pub mod ReadingLaws
 pub mod TurnLaws
 pub mod ShownLaws

@@ -1,25 +1,23 @@
 -- All passes of one part of the input: what they take, and how the code makes them.
 -- Assumes nothing.
-use Prim.Native.Nat.{ℕ, zero, suc, _+_, _-_, _≤_, _<_}
+use Prim.Native.Nat.{ℕ, zero, suc, _-_, _≤_, _<_}
 use mathlib.Core.Path.{_≡_, refl, sym, ap, subst, _∙_}
-use mathlib.Core.Bool.{Bool, true, false}
-use mathlib.Core.List.{List, [], _++_}
+use mathlib.Core.Bool.{Bool, true}
+use mathlib.Core.List.{List}
 use native.Mathlib.Omega.{arith}
 use lib.ListN.{length, take, drop, length-drop}
-use lib.Seq.{take-all, drop-drop}
 use Rattle.base.specs.Tests.{_<?_, not-both, Known, holds, fails, known, lt-holds, lt-fails}
 use Rattle.base.specs.Bytes.{Bytes}
 use Rattle.servers.specs.declared.Server.{Server}
 use Rattle.replay.specs.declared.turns.Going.{Going}
 use Rattle.replay.specs.declared.turns.Going.the-variants.{On, Read, Stop}
-use Rattle.replay.specs.declared.passes.Passed.{Passed}
 use Rattle.replay.specs.declared.Printed.{Printed}
 use Rattle.replay.specs.Lines.{lineRoom}
 use Rattle.replay.specs.Reading.{linesRoom, Fed}
 use Rattle.replay.specs.Turns.{Turned, turnOf}
-use Rattle.replay.specs.Passes.{Progress, none, behind, nextEvent, passFrom, passOf, passed, partFrom, partOf, asksMore, printed}
+use Rattle.replay.specs.Passes.{Progress, none, behind, nextEvent, passFrom, passOf, partFrom, partOf, asksMore, printed}
 use Rattle.replay.proofs.Goings.{on-read, on-stop, Goes, on, read, stop, goes, if-on, if-off}
-use Rattle.replay.proofs.PassLaws.{Feeds, feeds-behind, turn-feeds, turn-some, behind-behind, behind-none, from-full, from-on, from-end}
+use Rattle.replay.proofs.PassLaws.{Feeds, feeds-behind, turn-feeds, turn-some, from-full, from-on, from-end}
 
 -- ---- what a pass takes
 

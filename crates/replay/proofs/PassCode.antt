@@ -15,10 +15,9 @@ use Rattle.servers.specs.declared.Server.{Server}
 use Rattle.replay.specs.declared.turns.Going.{Going}
 use Rattle.replay.specs.declared.turns.Going.the-variants.{On, Read, Stop}
 use Rattle.replay.specs.declared.turns.Turn.{Turn}
-use Rattle.replay.specs.declared.passes.Passed.{Passed}
 use Rattle.replay.specs.Lines.{lineRoom}
 use Rattle.replay.specs.Turns.{Turned, turned, turnOf}
-use Rattle.replay.specs.Passes.{Progress, none, behind, nextEvent, passFrom, passOf, passed}
+use Rattle.replay.specs.Passes.{Progress, none, behind, nextEvent, passOf, passed}
 use Rattle.replay.proofs.Goings.{on-read, on-stop}
 use Rattle.replay.proofs.PassLaws.{turn-feeds, turn-some, behind-behind, behind-none, from-full, from-end, pass-on}
 

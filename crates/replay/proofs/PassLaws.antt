@@ -1,32 +1,27 @@
 -- Passes: what they take, and how the code makes them.
 -- Assumes nothing.
-use Prim.Native.Nat.{ℕ, zero, suc, _+_, _-_, _%_, _^_, _≤_, _<_}
+use Prim.Native.Nat.{ℕ, zero, suc, _+_, _-_, _≤_, _<_}
 use mathlib.Core.Path.{_≡_, refl, sym, ap, _∙_}
 use mathlib.Core.Bool.{Bool, false}
 use mathlib.Core.List.{List, [], _++_, append-assoc}
-use native.Mathlib.Nat.{zero-add, add-assoc}
+use native.Mathlib.Nat.{zero-add}
 use native.Mathlib.Omega.{arith}
-use lib.ListN.{length, take, drop, length-append, length-take, length-drop}
-use lib.Seq.{take-all, take-at, take-append-le, take-append-add, length-take-le, drop-drop}
+use lib.ListN.{length, take, drop, length-drop}
 use Rattle.base.specs.Tests.{_<?_, pick-lt, pick-ge, Known, holds, fails, known, lt-holds, lt-fails}
-use Rattle.base.specs.Bytes.{Bytes, numberAt}
+use Rattle.base.specs.Bytes.{Bytes}
 use Rattle.base.specs.BytesLaws.{number-lt, bytes-drop}
-use Rattle.io.specs.Counts.{Counts}
-use Rattle.io.proofs.Counting.{counts}
 use Rattle.servers.specs.declared.Server.{Server}
 use Rattle.replay.specs.declared.input.Next.{Next}
 use Rattle.replay.specs.declared.input.Next.the-variants.{Event, Wrong, More, Done}
 use Rattle.replay.specs.declared.turns.Going.{Going}
 use Rattle.replay.specs.declared.turns.Going.the-variants.{On, Read, Stop}
-use Rattle.replay.specs.declared.turns.Turn.{Turn}
-use Rattle.replay.specs.declared.passes.Passed.{Passed}
 use Rattle.replay.specs.Input.{nextOf}
 use Rattle.replay.specs.Lines.{lineRoom}
 use Rattle.replay.specs.Reading.{eventRoom}
-use Rattle.replay.specs.Turns.{Turned, turned, turnBy, turnOf}
-use Rattle.replay.specs.Passes.{Progress, none, behind, ifOn, afterTurn, nextEvent, passFrom, passOf, passed}
+use Rattle.replay.specs.Turns.{Turned, turnBy, turnOf}
+use Rattle.replay.specs.Passes.{Progress, none, behind, afterTurn, nextEvent, passFrom, passOf}
 use Rattle.replay.proofs.Goings.{on-read, on-stop, read-stop, Goes, on, read, stop, goes, if-on, if-off}
-use Rattle.replay.proofs.InputLaws.{Whole, Comes, whole, wrong, cut, more, done, comes}
+use Rattle.replay.proofs.InputLaws.{Comes, whole, more, comes}
 
 -- ---- what turns take
 

@@ -3,7 +3,7 @@
 use Prim.Native.Nat.{ℕ, _+_, _-_, _≤_, _<_}
 use mathlib.Core.Path.{_≡_, refl, sym, ap, subst, _∙_}
 use mathlib.Core.Bool.{not, true, false}
-use mathlib.Core.List.{List, [], _++_}
+use mathlib.Core.List.{List, [], _∷_, _++_}
 use native.Mathlib.Omega.{arith}
 use lib.Dec.{eqb}
 use lib.ListN.{length, take, drop, length-append, length-take, length-drop}
@@ -20,7 +20,7 @@ use Rattle.replay.specs.declared.Printed.{Printed}
 use Rattle.replay.specs.declared.Standing.{Standing}
 use Rattle.replay.specs.Passes.{partOf, printed}
 use Rattle.replay.specs.Reading.{inputRoom, linesRoom, Fed, Refilled}
-use Rattle.replay.specs.Advancing.{there, partAt, Advanced, Reached, starts, follows}
+use Rattle.replay.specs.Advancing.{there, passesAt, Advanced, starts, goesOn, ends, Served}
 
 -- y is what the buffer has behind the old bytes afterwards, of which n were read.
 pub refilled : (old z b y : List ℕ) (k n : ℕ) → b ≡ patched 0 old z → n ≤ length y
@@ -64,7 +64,7 @@ module _ (n : ℕ) (s : Standing) (c : Counts (s .filled .count) (s .filled .byt
     (e : r ≡ printed (partOf linesRoom (s .table) n (s .event) (take (s .filled .count) (s .filled .bytes)) (s .filled .ended))) where
   pub advanced-last : not (r .more) ≡ true
       → Advanced n s (record { table = r .table; event = r .event; filled = s .filled; more = false })
-  unfolding printed partAt there
+  unfolding printed passesAt there
   advanced-last m =
       let none : r .more ≡ false = not-true (r .more) m in
       record {
@@ -77,7 +77,7 @@ module _ (n : ℕ) (s : Standing) (c : Counts (s .filled .count) (s .filled .byt
   pub advanced : (x : Filled) → not (r .more) ≡ false → Fed r (take (s .filled .count) (s .filled .bytes))
       → Refilled (take (s .filled .count - r .taken) (drop (r .taken) (s .filled .bytes))) x
       → Advanced n s (record { table = r .table; event = r .event; filled = x; more = true })
-  unfolding printed partAt there
+  unfolding printed passesAt there
   advanced x m f g =
       let taken-is : r .taken ≡ partOf linesRoom (s .table) n (s .event) (take (s .filled .count) (s .filled .bytes)) (s .filled .ended) .taken
       = ap (λ (y : Printed). y .taken) e in
@@ -93,26 +93,38 @@ module _ (n : ℕ) (s : Standing) (c : Counts (s .filled .count) (s .filled .byt
 
 -- Where the loop is: it has got there, and may go on.
 pub record Serving (servers quota : ℕ) (s : Standing) : Type 0 where
-  pub reached : Reached servers quota s
+  pub served : Served servers quota s
   pub more : s .more ≡ true
   pub counts : Counts (s .filled .count) (s .filled .bytes)
 
 pub serving-starts : (servers quota : ℕ) (t : List Server) (x : Filled) → t ≡ freshTable servers quota → Refilled [] x
     → Serving servers quota (record { table = t; event = 1; filled = x; more = true })
 serving-starts servers quota t x e f = record {
-  reached = starts (record { table = t; event = 1; filled = x; more = true }) e refl f;
+  served = record { parts = f .read ∷ []; text = []; reached = starts (record { table = t; event = 1; filled = x; more = true }) e refl refl f };
   more = refl;
   counts = f .counts;
 }
 
 module _ (servers quota : ℕ) (s r : Standing) (h : Serving servers quota s) (a : Advanced servers s r) where
-  pub serving-ends : Reached servers quota r
-  serving-ends = follows s r (h .reached) (h .more) a
+  pub serving-ends : not (r .more) ≡ true → Served servers quota r
+  serving-ends m = record {
+    parts = h .served .parts;
+    text = h .served .text ++ passesAt servers s .text;
+    reached = ends (h .served .parts) (h .served .text) s r (h .served .reached) (h .more) a (not-true (r .more) m);
+  }
 
   pub serving-on : not (r .more) ≡ false → Serving servers quota r
   serving-on m =
       let more-is : r .more ≡ true = not-false (r .more) m in
-      record { reached = serving-ends; more = more-is; counts = a .refilled more-is .counts }
+      record {
+        served = record {
+          parts = h .served .parts ++ (a .refilled more-is .read ∷ []);
+          text = h .served .text ++ passesAt servers s .text;
+          reached = goesOn (h .served .parts) (h .served .text) s r (h .served .reached) (h .more) a more-is;
+        };
+        more = more-is;
+        counts = a .refilled more-is .counts;
+      }
 
-pub serving-reached : (servers quota : ℕ) (s : Standing) → Serving servers quota s → Reached servers quota s
-serving-reached servers quota s h = h .reached
+pub serving-served : (servers quota : ℕ) (s : Standing) → Serving servers quota s → Served servers quota s
+serving-served servers quota s h = h .served

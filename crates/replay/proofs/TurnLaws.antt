@@ -1,17 +1,14 @@
 -- One event of the input, as the code makes it.
 -- Assumes nothing.
 use Prim.Native.Nat.{ℕ, _+_, _-_, _≤_, _<_}
-use mathlib.Core.Path.{_≡_, refl, sym, ap, _∙_}
+use mathlib.Core.Path.{_≡_, sym, ap, _∙_}
 use mathlib.Core.Bool.{Bool}
-use mathlib.Core.List.{List, [], _∷_, _++_}
+use mathlib.Core.List.{List, [], _∷_}
 use native.Mathlib.Omega.{arith}
-use lib.ListN.{length, getD, take, drop, length-append, length-take, length-drop}
-use lib.Seq.{take-at}
+use lib.ListN.{length, getD, take, drop}
 use Rattle.base.specs.Bytes.{numberAt, partAt}
 use Rattle.base.specs.BytesLaws.{number1, number4}
-use Rattle.base.specs.Patched.{patched}
 use Rattle.replication.specs.Replay.{inputLine}
-use Rattle.io.proofs.Counting.{counts}
 use Rattle.servers.specs.declared.Server.{Server}
 use Rattle.servers.specs.declared.Reply.{Reply}
 use Rattle.servers.specs.Table.{none, altered, replied}

@@ -6,7 +6,7 @@ ghost use lib.ListN.{length};
 ghost use Rattle.replay.specs.Passes.{partOf, printed, PrintsReplay};
 ghost use Rattle.io.specs.Counts.{Counts};
 ghost use Rattle.replay.specs.Reading.{inputRoom, linesRoom, Fed, Refilled};
-ghost use Rattle.replay.specs.Advancing.{Advanced, Reached};
+ghost use Rattle.replay.specs.Advancing.{Advanced, Served, ServesReplay};
 
 mod input;
 mod line;
@@ -148,7 +148,7 @@ fn advance(servers: u8, s: Standing) -> Standing
 // Events from the input's start on, until it ends or is wrong.
 fn serve(servers: u8, quota: u16) -> Standing
     requires { ⌜ servers ≤ 4 ⌝ }
-    ensures { λ r. ⌜ Reached servers quota r ⌝ }
+    ensures { λ r. ⌜ Served servers quota r ⌝ }
 {
     let table = begin(servers, quota);
     let filled = refill(b"");
@@ -170,13 +170,19 @@ fn serve(servers: u8, quota: u16) -> Standing
     s
 }
 
-// The lines of all parts of the input together are what document 01 says that `replay` prints.
+// However the input is cut into parts, what is printed of them is what document 01 says.
 fn prints_replay()
     ensures { λ _. ⌜ PrintsReplay ⌝ }
 {}
 
+// So is what `serve` has printed where it ends, behind the header.
+fn serves_replay()
+    ensures { λ _. ⌜ ServesReplay ⌝ }
+{}
+
 fn main() {
     prints_replay();
+    serves_replay();
     let mut head: [u8; 7] = [0; 7];
     let n = io::read_full(0, &mut head);
     let s = read_setup(&head[..n]);

@@ -1,4 +1,4 @@
-use Rattle.replay.proofs.ReadingLaws.{Serving, serving-starts, serving-on, serving-ends, serving-reached}
+use Rattle.replay.proofs.ReadingLaws.{Serving, serving-starts, serving-on, serving-ends, serving-served}
 use borrow.Author.Needs.{needs}
 use Rattle.replay.proofs.serve.Statement.{statement}
 use Rattle.replay.proofs.serve.Tie as tie
@@ -42,7 +42,7 @@ loop-again : tie.Need-loop-again Inv-loop μ-loop
 loop-again c = search (needs, serving-on)
 
 returns-2 : tie.Need-returns-2 Inv-loop μ-loop
-returns-2 c = search (needs, serving-reached)
+returns-2 c = search (needs, serving-served)
 
 pub serve-spec : {M : Type 1} → statement M
 serve-spec =
