@@ -65,7 +65,8 @@ struct Answered {
 // The event e at the server k.
 fn answer(t: [Server; 4], event: u64, k: u8, e: &[u8], out: &mut [u8]) -> Answered
     requires { ⌜ (k < 4) × (lineRoom ≤ length (now out)) ⌝ }
-    ensures { λ r. ⌜ (r .table ≡ altered t k (now (e .entry))) × Put (lineAt t event k (now (e .entry))) lineRoom 0 (r .length) (now (out .entry)) (now (out .exit)) ⌝ }
+    ensures { λ r. ⌜ r .table ≡ altered t k (now (e .entry)) ⌝ }
+    ensures { λ r. ⌜ Put (lineAt t event k (now (e .entry))) lineRoom 0 (r .length) (now (out .entry)) (now (out .exit)) ⌝ }
 {
     let at = k as usize;
     let r = run_one(t, at, e);
