@@ -134,17 +134,25 @@ module _ (n : ℕ) (f : List ℕ) (ended : Bool) (last : ended ≡ true → f �
 
 -- ---- all parts
 
+pub text-more : (w rest : List ℕ) (t : Bool) → t ≡ true → w ++ pick t rest [] ≡ w ++ rest
+unfolding pick
+text-more w rest t e = ap (λ (x : Bool). w ++ pick x rest []) e
+
+pub text-last : (w rest : List ℕ) (t : Bool) → t ≡ false → w ++ pick t rest [] ≡ w
+unfolding pick
+text-last w rest t e = ap (λ (x : Bool). w ++ pick x rest []) e ∙ append-nil w
+
 -- What a part prints, and the parts behind it where more is asked for.
 abbrev and-more : Progress → List ℕ → List ℕ
 and-more r rest = r .text ++ pick (asksMore (r .going)) rest []
 
 stopped : (r : Progress) (rest : List ℕ) → r .going ≡ Stop → and-more r rest ≡ r .text
-unfolding pick asksMore
-stopped r rest g = ap (λ (x : Going). r .text ++ pick (asksMore x) rest []) g ∙ append-nil (r .text)
+unfolding asksMore
+stopped r rest g = text-last (r .text) rest (asksMore (r .going)) (ap asksMore g)
 
 asked : (r : Progress) (rest : List ℕ) → r .going ≡ Read → and-more r rest ≡ r .text ++ rest
-unfolding pick asksMore
-asked r rest g = ap (λ (x : Going). r .text ++ pick (asksMore x) rest []) g
+unfolding asksMore
+asked r rest g = text-more (r .text) rest (asksMore (r .going)) (ap asksMore g)
 
 module _ (n room : ℕ) (line : lineRoom ≤ room) where
   -- A part that is right, and after which the others are.

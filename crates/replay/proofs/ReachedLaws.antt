@@ -3,7 +3,7 @@
 use Prim.Native.Nat.{ℕ}
 use mathlib.Core.Path.{_≡_, refl, sym, ap, _∙_}
 use mathlib.Core.Bool.{Bool, true, false}
-use mathlib.Core.List.{List, [], _∷_, _++_, append-assoc, append-nil}
+use mathlib.Core.List.{List, [], _∷_, _++_, append-assoc}
 use native.Mathlib.Omega.{arith}
 use lib.ListN.{take, drop}
 use Rattle.base.specs.Tests.{not-both, pick, pick-eq}
@@ -16,7 +16,7 @@ use Rattle.replay.specs.Input.{setupOf}
 use Rattle.replay.specs.Passes.{partOf, asksMore, partsFrom, printedOf, PrintsReplay}
 use Rattle.replay.specs.Reading.{linesRoom, Refilled}
 use Rattle.replay.specs.Advancing.{there, passesAt, Reached, starts, goesOn, ends, ServesReplay}
-use Rattle.replay.proofs.PrintsParts.{prints-replay}
+use Rattle.replay.proofs.PrintsParts.{text-more, text-last, prints-replay}
 
 module _ (n : ℕ) (ys : List (List ℕ)) where
   -- What is printed of these bytes, and of the parts behind them.
@@ -39,14 +39,6 @@ module _ (n : ℕ) (ys : List (List ℕ)) where
       → partsFrom linesRoom t n event left (f .read ∷ ys) ≡ linesAt s
   unfolding partsFrom passesAt there
   next-part t event left s a b f = λ i. lines (sym a i) (sym b i) (sym (f .bytes) i) (sym (f .ended) i)
-
-text-more : (w rest : List ℕ) (t : Bool) → t ≡ true → w ++ pick t rest [] ≡ w ++ rest
-unfolding pick
-text-more w rest t e = ap (λ (x : Bool). w ++ pick x rest []) e
-
-text-last : (w rest : List ℕ) (t : Bool) → t ≡ false → w ++ pick t rest [] ≡ w
-unfolding pick
-text-last w rest t e = ap (λ (x : Bool). w ++ pick x rest []) e ∙ append-nil w
 
 module _ (n q : ℕ) where
   abbrev whole : List (List ℕ) → List ℕ

@@ -3,8 +3,8 @@
 ghost use mathlib.Core.Path.{_≡_};
 ghost use Prim.Native.Nat.{_≤_, _<_};
 ghost use lib.ListN.{length};
-ghost use Rattle.replay.specs.Passes.{partOf, printed, PrintsReplay};
 ghost use Rattle.io.specs.Counts.{Counts};
+ghost use Rattle.replay.specs.Passes.{partOf, printed, PrintsReplay};
 ghost use Rattle.replay.specs.Reading.{inputRoom, linesRoom, Fed, Refilled};
 ghost use Rattle.replay.specs.Advancing.{Advanced, Served, ServesReplay};
 
@@ -158,6 +158,7 @@ fn serve(servers: u8, quota: u16) -> Standing
         filled,
         more: true,
     };
+    // Bounds how often is read: every input ends before that.
     let mut left: u64 = 18446744073709551615;
     while 0 < left {
         left -= 1;
