@@ -131,13 +131,14 @@ pub data Comes (n : ℕ) (input : List ℕ) (ended : Bool) : Next → Type 0 whe
   whole : (m : ℕ) → Whole n m input → Comes n input ended (Event m)
   wrong : (k : ℕ) → k ≡ 2 → 1 ≤ length input → n ≤ getD input 0 0 → Comes n input ended (Wrong k)
   cut : (k : ℕ) → k ≡ 1 → ended ≡ true → 1 ≤ length input → getD input 0 0 < n → length input < numberAt 2 input 1 + 3 → Comes n input ended (Wrong k)
-  more : ended ≡ false → Comes n input ended More
+  more : ended ≡ false → length input < numberAt 2 input 1 + 3 → Comes n input ended More
   done : ended ≡ true → length input < 1 → Comes n input ended Done
 
 pub comes : (n : ℕ) (input : List ℕ) (ended : Bool) → Comes n input ended (nextOf n input ended)
 unfolding nextOf cutShort
 comes n input ended =
-    pick-as P (length input <? 1) _ _ (λ h. pick-as P ended Done More (λ e. done e (lt-holds (length input) 1 h)) (λ e. more e))
+    pick-as P (length input <? 1) _ _ (λ h. pick-as P ended Done More (λ e. done e (lt-holds (length input) 1 h))
+    (λ e. more e (omega (arith, lt-holds (length input) 1 h))))
     (λ none. let some = lt-fails (length input) 1 none in
     pick-as P (getD input 0 0 <? n) _ _
     (λ h. let server = lt-holds (getD input 0 0) n h in
@@ -152,7 +153,7 @@ comes n input ended =
     P x = Comes n input ended x
 
     short : 1 ≤ length input → getD input 0 0 < n → length input < numberAt 2 input 1 + 3 → P (pick ended (Wrong 1) More)
-    short some server l = pick-as P ended (Wrong 1) More (λ e. cut 1 refl e some server l) (λ e. more e)
+    short some server l = pick-as P ended (Wrong 1) More (λ e. cut 1 refl e some server l) (λ e. more e l)
 
 pub whole-event : (n : ℕ) (input : List ℕ) (ended : Bool) (m : ℕ) → nextOf n input ended ≡ Event m → Whole n m input
 whole-event n input ended m e = go (subst (Comes n input ended) e (comes n input ended))

@@ -21,7 +21,7 @@ use Rattle.engine.specs.Image.{modeNumber}
 use Rattle.engine.specs.Decode.{modeNamed}
 use Rattle.engine.proofs.HeaderRead.{mode-named}
 use Rattle.replay.specs.declared.line.Shown.{Shown}
-use Rattle.replay.specs.Lines.{Put, spaced, ended, frontText, stateText, backText, shownLine}
+use Rattle.replay.specs.Lines.{Put, lineRoom, spaced, ended, frontText, stateText, backText, shownLine}
 use Rattle.replay.proofs.DecimalLaws.{digits-few, decimal-digits}
 
 pub word-put : (w o o′ : List ℕ) (at : ℕ) → at + length w ≤ length o → o′ ≡ patched at w o → Put w (length w) at (at + length w) o o′
@@ -172,9 +172,9 @@ shown-parts : (s : Shown) → frontOf s ++ restOf s ≡ shownLine s
 unfolding shownLine line spaced ended
 shown-parts s = simp append-assoc
 
-pub line-put : (s : Shown) (o o₁ o₂ : List ℕ) (r k : ℕ) → Put (frontOf s) 63 0 r o o₁ → Put (restOf s) 101 r k o₁ o₂ → Put (shownLine s) 164 0 k o o₂
+pub line-put : (s : Shown) (o o₁ o₂ : List ℕ) (r k : ℕ) → Put (frontOf s) 63 0 r o o₁ → Put (restOf s) 101 r k o₁ o₂ → Put (shownLine s) lineRoom 0 k o o₂
 line-put s o o₁ o₂ r k p q =
-    put-as (frontOf s ++ restOf s) (shownLine s) o o₂ 164 164 0 k (put-then (frontOf s) (restOf s) 63 101 0 r k o o₁ o₂ p q) (shown-parts s)
+    put-as (frontOf s ++ restOf s) (shownLine s) o o₂ lineRoom lineRoom 0 k (put-then (frontOf s) (restOf s) 63 101 0 r k o o₁ o₂ p q) (shown-parts s)
     (omega arith)
 
 pub header-put : (o o₁ : List ℕ) (r : ℕ) → Put header (length header) 0 r o o₁ → Put header 64 0 r o o₁

@@ -1,6 +1,6 @@
 -- What the turns print is what `replay` says.
 -- Assumes nothing.
-use Prim.Native.Nat.{ℕ, suc, _+_, _-_, _≤_, _<_}
+use Prim.Native.Nat.{ℕ, suc, _+_, _≤_, _<_}
 use mathlib.Core.Path.{_≡_, refl, sym, ap, subst, _∙_}
 use mathlib.Core.Bool.{Bool, true, false}
 use mathlib.Core.List.{List, [], _∷_, _++_, append-nil, map}
@@ -25,6 +25,7 @@ use Rattle.replay.specs.declared.input.Next.the-variants.{Event, Wrong, 
 use Rattle.replay.specs.declared.turns.Going.the-variants.{On, Read, Stop}
 use Rattle.replay.specs.Input.{setupNumbers, setupOf, nextOf}
 use Rattle.replay.specs.Turns.{lineAt, Turned, turnBy, turnOf}
+use Rattle.replay.proofs.Goings.{on-stop, read-stop}
 use Rattle.replay.proofs.InputLaws.{Whole, whole-event, Comes, wrong, cut, done, comes}
 use Rattle.replay.proofs.ShownLaws.{line-shown, table-shown}
 
@@ -62,12 +63,6 @@ size-read n m k rest more w =
     omega (arith, w .size-is, w .inside, number-behind-one k rest, number-front 2 rest more 0 (omega (arith, w .size-is, w .inside)))
 
 -- ---- turns
-
-on-stop : {X : Type 0} → On ≡ Stop → X
-on-stop e = let z : _≡_ {A = ℕ} 0 1 = cc in absurd (omega arith)
-
-read-stop : {X : Type 0} → Read ≡ Stop → X
-read-stop e = let z : _≡_ {A = ℕ} 0 1 = cc in absurd (omega arith)
 
 module _ (t : List Images) (s : List declared.Server) (r : Tabled t s) (event : ℕ) (ended : Bool) where
   abbrev next : List ℕ → Next
@@ -143,10 +138,10 @@ module _ (t : List Images) (s : List declared.Server) (r : Tabled t s) (event : 
     prints-stop p g = go (next p) refl g
       where
         go : (x : Next) → next p ≡ x → turnBy x s event p .going ≡ Stop → events (suc d) event t (p ++ f) ≡ turnBy (next p) s event p .text
-        go (Event m) e h = on-stop h
+        go (Event m) e h = on-stop On refl h
         go (Wrong k) e h = wrong-prints p k (subst (Comes (length t) p ended) e (comes (length t) p ended))
             ∙ sym (ap (λ (x : Next). turnBy x s event p .text) e)
-        go More e h = read-stop h
+        go More e h = read-stop Read refl h
         go Done e h = none-prints p (subst (Comes (length t) p ended) e (comes (length t) p ended))
             ∙ sym (ap (λ (x : Next). turnBy x s event p .text) e)
 
@@ -161,7 +156,7 @@ prints-setup k input e h = go (readSetup 4 16 (take 7 input)) e
     go (refused j) e = ap setupLine e
 
 -- The table at the start, of n servers with the quota q.
-abbrev fresh : (n q : ℕ) → List Images
+abbrev pub fresh : (n q : ℕ) → List Images
 fresh n q = map (λ k. started (start n q k)) (below n)
 
 starts : (e rest : List ℕ) → setupOf e .number ≡ 0

@@ -1,17 +1,14 @@
 -- One event of the input, as the code makes it.
 -- Assumes nothing.
 use Prim.Native.Nat.{ℕ, _+_, _-_, _≤_, _<_}
-use mathlib.Core.Path.{_≡_, refl, sym, ap, _∙_}
+use mathlib.Core.Path.{_≡_, sym, ap, _∙_}
 use mathlib.Core.Bool.{Bool}
-use mathlib.Core.List.{List, [], _∷_, _++_}
+use mathlib.Core.List.{List, [], _∷_}
 use native.Mathlib.Omega.{arith}
-use lib.ListN.{length, getD, take, drop, length-append, length-take, length-drop}
-use lib.Seq.{take-at}
+use lib.ListN.{length, getD, take, drop}
 use Rattle.base.specs.Bytes.{numberAt, partAt}
 use Rattle.base.specs.BytesLaws.{number1, number4}
-use Rattle.base.specs.Patched.{patched}
 use Rattle.replication.specs.Replay.{inputLine}
-use Rattle.io.proofs.Counting.{counts}
 use Rattle.servers.specs.declared.Server.{Server}
 use Rattle.servers.specs.declared.Reply.{Reply}
 use Rattle.servers.specs.Table.{none, altered, replied}
@@ -21,8 +18,7 @@ use Rattle.replay.specs.declared.input.Next.the-variants.{Event, Wrong, 
 use Rattle.replay.specs.declared.turns.Going.the-variants.{On, Read, Stop}
 use Rattle.replay.specs.declared.turns.Turn.{Turn}
 use Rattle.replay.specs.Input.{nextOf}
-use Rattle.replay.specs.Lines.{Put, shownLine}
-use Rattle.replay.specs.Reading.{Fed, Kept}
+use Rattle.replay.specs.Lines.{Put, lineRoom, shownLine}
 use Rattle.replay.specs.Turns.{shownOf, lineAt, Turned, turned, turnBy, turnOf}
 use Rattle.replay.proofs.InputLaws.{whole-event}
 
@@ -66,7 +62,7 @@ shown-made event server reply b held green prim red h g p r =
     }
 
 pub answer-made : (t t₁ : List Server) (event k r : ℕ) (e o o₁ : List ℕ) (reply : Reply) (s : Shown) → reply ≡ replied t k e → t₁ ≡ altered t k e
-    → s ≡ shownOf event k reply (getD t₁ k none .state) → Put (shownLine s) 164 0 r o o₁ → Put (lineAt t event k e) 164 0 r o o₁
+    → s ≡ shownOf event k reply (getD t₁ k none .state) → Put (shownLine s) lineRoom 0 r o o₁ → Put (lineAt t event k e) lineRoom 0 r o o₁
 unfolding lineAt
 answer-made t t₁ event k r e o o₁ reply s f g h p = record {
   text = p .text ∙ ap shownLine (h ∙ (λ i. shownOf event k (f i) (getD (g i) k none .state)));
@@ -78,7 +74,7 @@ answer-made t t₁ event k r e o o₁ reply s f g h p = record {
 -- ---- one turn
 
 pub event-made : (t t₁ : List Server) (event size r : ℕ) (input o o₁ : List ℕ) → t₁ ≡ altered t (getD input 0 0) (take (size + 1 - 1) (drop 1 input))
-    → Put (lineAt t event (getD input 0 0) (take (size + 1 - 1) (drop 1 input))) 164 0 r o o₁
+    → Put (lineAt t event (getD input 0 0) (take (size + 1 - 1) (drop 1 input))) lineRoom 0 r o o₁
     → turned (record { table = t₁; taken = size + 1; length = r; going = On }) o₁ ≡ turnBy (Event size) t event input
 unfolding turned turnBy partAt
 event-made t t₁ event size r input o o₁ f p =
@@ -116,54 +112,3 @@ module _ (t : List Server) (n event : ℕ) (input o o₁ : List ℕ) (ended : Bo
   pub done-turn : x ≡ Done → turned (record { table = t; taken = 0; length = 0; going = Stop }) o ≡ turnOf t n event input ended
   unfolding turnOf turned turnBy
   done-turn e = ap (λ (y : Next). turnBy y t event input) (sym e ∙ is-x)
-
--- ---- what a turn takes
-
-not-stop : {X : Type 0} → Stop ≡ On → X
-not-stop e = let z : _≡_ {A = ℕ} 0 1 = cc in absurd (omega arith)
-
-not-read : {X : Type 0} → Read ≡ On → X
-not-read e = let z : _≡_ {A = ℕ} 0 1 = cc in absurd (omega arith)
-
-fed-by : (t : List Server) (n event : ℕ) (input : List ℕ) (ended : Bool) (x : Next) → nextOf n input ended ≡ x
-    → (turnBy x t event input .taken ≤ length input) × (turnBy x t event input .going ≡ On → 1 ≤ turnBy x t event input .taken)
-unfolding turnBy
-fed-by t n event input ended (Event m) e = (whole-event n input ended m e .inside, λ g. omega arith)
-fed-by t n event input ended (Wrong k) e = (omega arith, λ g. not-stop g)
-fed-by t n event input ended More e = (omega arith, λ g. not-read g)
-fed-by t n event input ended Done e = (omega arith, λ g. not-stop g)
-
-pub turn-fed : (t : List Server) (n event : ℕ) (input o : List ℕ) (ended : Bool) (r : Turn) → turned r o ≡ turnOf t n event input ended → Fed r input
-unfolding turned turnOf
-turn-fed t n event input o ended r h =
-    let f = fed-by t n event input ended (nextOf n input ended) refl in
-    let taken-is : r .taken ≡ turnBy (nextOf n input ended) t event input .taken = ap (λ (y : Turned). y .taken) h in
-    let going-is : r .going ≡ turnBy (nextOf n input ended) t event input .going = ap (λ (y : Turned). y .going) h in
-    record { there = omega (arith, f .0); some = λ g. omega (arith, f .1 (sym going-is ∙ g)) }
-
-pub pass-less : (r : Turn) (input : List ℕ) (at : ℕ) → Fed r (take (length input - at) (drop at input)) → at ≤ length input → r .going ≡ On
-    → length input - (at + r .taken) < length input - at
-pass-less r input at f h g =
-    let some = f .some g in
-    let part = length-take (length input - at) (drop at input) in
-    let rest = length-drop at input in
-    omega (arith, f .there)
-
--- ---- what is read
-
-pub kept-none : (old bytes : List ℕ) (ended : Bool) → 131072 ≤ length old → Kept old (record { bytes = bytes; count = 0; ended = ended })
-kept-none old bytes ended h = record { counts = counts 0 bytes (omega arith); front = λ l. absurd (omega arith) }
-
--- y is read behind the old bytes, of which n count.
-pub kept-front : (old z b y : List ℕ) (k n : ℕ) (ended : Bool) → b ≡ patched 0 old z → n ≤ length y
-    → Kept old (record { bytes = take (length old) b ++ (y ++ drop k (drop (length old) b)); count = length old + n; ended = ended })
-unfolding patched
-kept-front old z b y k n ended e h =
-    let front : take (length old) b ≡ old = ap (take (length old)) e ∙ take-at old (drop (0 + length old) z) (length old) refl in
-    let rest : List ℕ = drop k (drop (length old) b) in
-    let long : length old + length y ≤ length (take (length old) b ++ (y ++ rest))
-    = omega (arith, length-append (take (length old) b) (y ++ rest), length-append y rest, ap length front) in
-    record {
-      counts = counts (length old + n) (take (length old) b ++ (y ++ rest)) (omega arith);
-      front = λ l. ap (λ (x : List ℕ). take (length old) (x ++ (y ++ rest))) front ∙ take-at old (y ++ rest) (length old) refl;
-    }

@@ -16,6 +16,10 @@ pub record Put (w : List ℕ) (size at r : ℕ) (o o′ : List ℕ) : Type 0 whe
   pub most : r ≤ at + size
   pub same : length o′ ≡ length o
 
+-- The most bytes that a line takes.
+abbrev pub lineRoom : ℕ
+lineRoom = 164
+
 -- A word and a space; a word and the line's end.
 unfoldable pub spaced : List ℕ → List ℕ
 spaced w = w ++ ascii " "

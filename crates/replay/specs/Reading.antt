@@ -1,20 +1,34 @@
 -- What the program keeps of its input.
 -- Assumes nothing.
-use Prim.Native.Nat.{ℕ, _≤_, _<_}
+use Prim.Native.Nat.{ℕ, _+_, _≤_, _<_}
 use mathlib.Core.Path.{_≡_}
-use mathlib.Core.List.{List}
+use mathlib.Core.Bool.{true}
+use mathlib.Core.List.{List, _++_}
 use lib.ListN.{length, take}
+use Rattle.base.specs.Tests.{_=?_}
 use Rattle.io.specs.Counts.{Counts}
 use Rattle.replay.specs.declared.Filled.{Filled}
-use Rattle.replay.specs.declared.turns.Going.the-variants.{On}
-use Rattle.replay.specs.declared.turns.Turn.{Turn}
+use Rattle.replay.specs.declared.Printed.{Printed}
 
--- A turn takes bytes that are there, and some where the next one follows at once.
-pub record Fed (r : Turn) (input : List ℕ) : Type 0 where
+-- The most bytes of the input, and of lines, that are kept.
+abbrev pub inputRoom : ℕ
+inputRoom = 131072
+
+abbrev pub linesRoom : ℕ
+linesRoom = 16384
+
+-- A server byte and the longest event: 2 bytes that say a length, and as many as these can say.
+abbrev pub eventRoom : ℕ
+eventRoom = 65538
+
+-- The bytes taken are there; where more is asked for, what is left is less than a whole event.
+pub record Fed (r : Printed) (input : List ℕ) : Type 0 where
   pub there : r .taken ≤ length input
-  pub some : r .going ≡ On → 1 ≤ r .taken
+  pub less : r .more ≡ true → length input < r .taken + eventRoom
 
--- The bytes that were there stay in front, where there is room for them.
-pub record Kept (old : List ℕ) (r : Filled) : Type 0 where
+-- What was read stands behind the old bytes; the input has ended where nothing was read.
+pub record Refilled (old : List ℕ) (r : Filled) : Type 0 where
   pub counts : Counts (r .count) (r .bytes)
-  pub front : length old < 131072 → take (length old) (r .bytes) ≡ old
+  pub read : List ℕ
+  pub bytes : take (r .count) (r .bytes) ≡ old ++ read
+  pub ended : r .ended ≡ (length read =? 0)

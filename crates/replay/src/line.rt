@@ -6,8 +6,11 @@ ghost use lib.ListN.{length};
 ghost use Rattle.base.specs.Text.{decimal as decimalOf};
 ghost use Rattle.replication.specs.Replay.{modeName, header, inputLine, setupLine};
 ghost use Rattle.engine.specs.Decode.{modeNamed};
-ghost use Rattle.replay.specs.Lines.{Put, spaced, ended, pairText, frontText, stateText, backText, shownLine};
+ghost use Rattle.replay.specs.Lines.{Put, lineRoom, spaced, ended, pairText, frontText, stateText, backText, shownLine};
 use record::blocks::copy;
+
+// The most bytes that a line takes.
+pub const LINE_ROOM: usize = 164;
 
 fn put_word(out: &mut [u8], at: usize, w: &[u8]) -> usize
     requires { ⌜ at + length (now w) ≤ length (now out) ⌝ }
@@ -123,8 +126,8 @@ pub struct Shown {
 
 // An event's line.
 pub fn event_line(out: &mut [u8], s: Shown) -> usize
-    requires { ⌜ 164 ≤ length (now out) ⌝ }
-    ensures { λ r. ⌜ Put (shownLine s) 164 0 r (now (out .entry)) (now (out .exit)) ⌝ }
+    requires { ⌜ lineRoom ≤ length (now out) ⌝ }
+    ensures { λ r. ⌜ Put (shownLine s) lineRoom 0 r (now (out .entry)) (now (out .exit)) ⌝ }
 {
     let next = put_front(out, 0, s.number, s.server, s.returned);
     put_rest(out, next, s.mode, s.red, s.green, s.prim, s.sent)

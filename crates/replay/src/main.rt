@@ -1,76 +1,74 @@
 // Replays events at a table of servers: the set-up record and the events come on standard input, a line for each event goes to
 // standard output.
-ghost use Prim.Native.Nat.{_≤_};
+ghost use mathlib.Core.Path.{_≡_};
+ghost use Prim.Native.Nat.{_≤_, _<_};
 ghost use lib.ListN.{length};
-ghost use Rattle.replay.specs.Reading.{Fed, Kept};
+ghost use Rattle.io.specs.Counts.{Counts};
+ghost use Rattle.replay.specs.Passes.{partOf, printed, PrintsReplay};
+ghost use Rattle.replay.specs.Reading.{inputRoom, linesRoom, Fed, Refilled};
+ghost use Rattle.replay.specs.Advancing.{Advanced, Served, ServesReplay};
 
 mod input;
 mod line;
+mod passes;
 mod turns;
 
 use input::read_setup;
 use line::header_line;
 use line::setup_line;
+use passes::pass;
 use record::blocks::copy;
 use servers::Server;
 use servers::starting::begin;
 use turns::Going;
-use turns::Turn;
-use turns::take_turn;
 
 // More than a server byte and an event, which are at most 65,538 bytes.
-const ROOM: usize = 131072;
+const INPUT_ROOM: usize = 131072;
 
-// Takes one turn and writes its line.
-fn print_turn(t: [Server; 4], servers: u8, event: u64, input: &[u8], ended: bool) -> Turn
-    requires { ⌜ servers ≤ 4 ⌝ }
-    ensures { λ r. ⌜ Fed r (now (input .entry)) ⌝ }
-{
-    let mut out: [u8; 192] = [0; 192];
-    let r = take_turn(t, servers, event, input, ended, &mut out);
-    io::write_all(1, &out[..r.length]);
-    r
-}
+// Lines that are written at once.
+const LINES_ROOM: usize = 16384;
 
-// The table after the events of a part of the input, the number of the next event, how many bytes they are, and whether there may be more.
-struct Passed {
+// The table after a part of the input, the number of the next event, how many bytes were taken, and whether there may be more.
+struct Printed {
     table: [Server; 4],
     event: u64,
     taken: usize,
     more: bool,
 }
 
-// Every whole event of the input.
-fn pass(t: [Server; 4], servers: u8, first: u64, input: &[u8], ended: bool) -> Passed
+// Every whole event of the input: one write for each pass.
+fn print_part(t: [Server; 4], servers: u8, first: u64, input: &[u8], ended: bool) -> Printed
     requires { ⌜ servers ≤ 4 ⌝ }
-    ensures { λ r. ⌜ r .taken ≤ length (now (input .entry)) ⌝ }
+    ensures { λ r. ⌜ r ≡ printed (partOf linesRoom t servers first (now (input .entry)) ended) ⌝ }
+    ensures { λ r. ⌜ Fed r (now (input .entry)) ⌝ }
 {
+    let mut lines: [u8; LINES_ROOM] = [0; LINES_ROOM];
     let mut table = t;
     let mut event = first;
-    let mut at = 0;
+    let mut taken = 0;
     loop {
-        let r = print_turn(table, servers, event, &input[at..], ended);
+        let r = pass(table, servers, event, &input[taken..], ended, &mut lines);
+        io::write_all(1, &lines[..r.length]);
         let a = r.table;
         table = a;
+        event = r.event;
+        taken += r.taken;
         let going = r.going;
         match going {
-            Going::On => {
-                event = std::num::wrapping_add_u64(event, 1);
-                at += r.taken;
-            }
+            Going::On => {}
             Going::Read => {
-                return Passed {
+                return Printed {
                     table,
                     event,
-                    taken: at,
+                    taken,
                     more: true,
                 };
             }
             Going::Stop => {
-                return Passed {
+                return Printed {
                     table,
                     event,
-                    taken: at,
+                    taken,
                     more: false,
                 };
             }
@@ -80,7 +78,7 @@ fn pass(t: [Server; 4], servers: u8, first: u64, input: &[u8], ended: bool) -> P
 
 // Bytes that are read and not yet taken; whether the input has ended with them.
 struct Filled {
-    bytes: [u8; ROOM],
+    bytes: [u8; INPUT_ROOM],
     count: usize,
     ended: bool,
 }
@@ -95,17 +93,11 @@ fn read_some(room: &mut [u8]) -> usize
 
 // These bytes, and behind them what is read at once.
 fn refill(old: &[u8]) -> Filled
-    ensures { λ r. ⌜ Kept (now (old .entry)) r ⌝ }
+    requires { ⌜ length (now old) < inputRoom ⌝ }
+    ensures { λ r. ⌜ Refilled (now (old .entry)) r ⌝ }
 {
-    let mut bytes: [u8; ROOM] = [0; ROOM];
+    let mut bytes: [u8; INPUT_ROOM] = [0; INPUT_ROOM];
     let m = old.len();
-    if ROOM <= m {
-        return Filled {
-            bytes,
-            count: 0,
-            ended: true,
-        };
-    }
     copy(&mut bytes, 0, old);
     let n = read_some(&mut bytes[m..]);
     Filled {
@@ -115,31 +107,83 @@ fn refill(old: &[u8]) -> Filled
     }
 }
 
-// Events from the input's start on, until it ends or is wrong.
-fn serve(servers: u8, quota: u16)
-    requires { ⌜ servers ≤ 4 ⌝ }
+// Where the program stands between two reads: the table, the number of the next event, what is there of the input, and whether there
+// may be more.
+struct Standing {
+    table: [Server; 4],
+    event: u64,
+    filled: Filled,
+    more: bool,
+}
+
+// The events that are there, and then what is read at once.
+fn advance(servers: u8, s: Standing) -> Standing
+    requires { ⌜ (servers ≤ 4) × Counts (s .filled .count) (s .filled .bytes) ⌝ }
+    ensures { λ r. ⌜ Advanced servers s r ⌝ }
 {
-    let mut table = begin(servers, quota);
-    let mut event: u64 = 1;
-    let mut filled = refill(b"");
-    let mut left: u64 = 18446744073709551615;
-    while 0 < left {
-        left -= 1;
-        let bytes = filled.bytes;
-        let count = filled.count;
-        let r = pass(table, servers, event, &bytes[..count], filled.ended);
-        if !r.more {
-            return;
-        }
-        let a = r.table;
-        table = a;
-        event = r.event;
-        let taken = r.taken;
-        filled = refill(&bytes[taken..count]);
+    let filled = s.filled;
+    let bytes = filled.bytes;
+    let count = filled.count;
+    let table = s.table;
+    let r = print_part(table, servers, s.event, &bytes[..count], filled.ended);
+    let a = r.table;
+    if !r.more {
+        return Standing {
+            table: a,
+            event: r.event,
+            filled,
+            more: false,
+        };
+    }
+    let taken = r.taken;
+    let next = refill(&bytes[taken..count]);
+    Standing {
+        table: a,
+        event: r.event,
+        filled: next,
+        more: true,
     }
 }
 
+// Events from the input's start on, until it ends or is wrong.
+fn serve(servers: u8, quota: u16) -> Standing
+    requires { ⌜ servers ≤ 4 ⌝ }
+    ensures { λ r. ⌜ Served servers quota r ⌝ }
+{
+    let table = begin(servers, quota);
+    let filled = refill(b"");
+    let mut s = Standing {
+        table,
+        event: 1,
+        filled,
+        more: true,
+    };
+    // Bounds how often is read: every input ends before that.
+    let mut left: u64 = 18446744073709551615;
+    while 0 < left {
+        left -= 1;
+        let r = advance(servers, s);
+        if !r.more {
+            return r;
+        }
+        s = r;
+    }
+    s
+}
+
+// However the input is cut into parts, what is printed of them is what document 01 says.
+fn prints_replay()
+    ensures { λ _. ⌜ PrintsReplay ⌝ }
+{}
+
+// So is what `serve` has printed where it ends, behind the header.
+fn serves_replay()
+    ensures { λ _. ⌜ ServesReplay ⌝ }
+{}
+
 fn main() {
+    prints_replay();
+    serves_replay();
     let mut head: [u8; 7] = [0; 7];
     let n = io::read_full(0, &mut head);
     let s = read_setup(&head[..n]);

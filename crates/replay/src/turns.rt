@@ -6,7 +6,7 @@ ghost use lib.ListN.{length, getD};
 ghost use Rattle.base.specs.Bytes.{numberAt};
 ghost use Rattle.io.specs.Counts.{Counts};
 ghost use Rattle.servers.specs.Table.{altered};
-ghost use Rattle.replay.specs.Lines.{Put};
+ghost use Rattle.replay.specs.Lines.{Put, lineRoom};
 ghost use Rattle.replay.specs.declared.input.Next.the-variants.{Event};
 ghost use Rattle.replay.specs.Turns.{shownOf, lineAt, turned, turnBy, turnOf};
 use crate::input::Next;
@@ -64,8 +64,9 @@ struct Answered {
 
 // The event e at the server k.
 fn answer(t: [Server; 4], event: u64, k: u8, e: &[u8], out: &mut [u8]) -> Answered
-    requires { ⌜ (k < 4) × (164 ≤ length (now out)) ⌝ }
-    ensures { λ r. ⌜ (r .table ≡ altered t k (now (e .entry))) × Put (lineAt t event k (now (e .entry))) 164 0 (r .length) (now (out .entry)) (now (out .exit)) ⌝ }
+    requires { ⌜ (k < 4) × (lineRoom ≤ length (now out)) ⌝ }
+    ensures { λ r. ⌜ r .table ≡ altered t k (now (e .entry)) ⌝ }
+    ensures { λ r. ⌜ Put (lineAt t event k (now (e .entry))) lineRoom 0 (r .length) (now (out .entry)) (now (out .exit)) ⌝ }
 {
     let at = k as usize;
     let r = run_one(t, at, e);
@@ -91,7 +92,7 @@ pub struct Turn {
 
 // The event of `size` bytes behind its server byte.
 fn take_event(t: [Server; 4], event: u64, input: &[u8], size: usize, out: &mut [u8]) -> Turn
-    requires { ⌜ (getD (now input) 0 0 < 4) × (size + 1 ≤ length (now input)) × (164 ≤ length (now out)) ⌝ }
+    requires { ⌜ (getD (now input) 0 0 < 4) × (size + 1 ≤ length (now input)) × (lineRoom ≤ length (now out)) ⌝ }
     ensures { λ r. ⌜ turned r (now (out .exit)) ≡ turnBy (Event size) t event (now (input .entry)) ⌝ }
     ensures { λ r. ⌜ Counts (r .length) (now (out .exit)) ⌝ }
 {
@@ -114,7 +115,7 @@ pub fn take_turn(
     ended: bool,
     out: &mut [u8],
 ) -> Turn
-    requires { ⌜ (servers ≤ 4) × (164 ≤ length (now out)) ⌝ }
+    requires { ⌜ (servers ≤ 4) × (lineRoom ≤ length (now out)) ⌝ }
     ensures { λ r. ⌜ turned r (now (out .exit)) ≡ turnOf t servers event (now (input .entry)) ended ⌝ }
     ensures { λ r. ⌜ Counts (r .length) (now (out .exit)) ⌝ }
 {

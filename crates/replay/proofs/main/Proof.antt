@@ -11,7 +11,15 @@ use Rattle.io.proofs.write_all.Reads as write-all-reads
 use Rattle.replay.proofs.input.read_setup.Reads as read-setup-reads
 use Rattle.replay.proofs.line.header_line.Reads as header-line-reads
 use Rattle.replay.proofs.line.setup_line.Reads as setup-line-reads
+use Rattle.replay.proofs.prints_replay.Reads as prints-replay-reads
 use Rattle.replay.proofs.serve.Reads as serve-reads
+use Rattle.replay.proofs.serves_replay.Reads as serves-replay-reads
+
+prints-replay-requires : tie.Need-prints-replay-requires
+prints-replay-requires c κs = search needs
+
+serves-replay-requires : tie.Need-serves-replay-requires
+serves-replay-requires c κs = search needs
 
 slice-aggregate-read-full : tie.Need-slice-aggregate-read-full
 slice-aggregate-read-full c = search needs
@@ -71,6 +79,8 @@ pub main-spec : {M : Type 1} → statement M
 main-spec =
     tie.close
     (tie.spec
+    prints-replay-requires
+    serves-replay-requires
     slice-aggregate-read-full
     read-full-requires
     array-share-prefix-head

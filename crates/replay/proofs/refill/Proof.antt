@@ -1,4 +1,4 @@
-use Rattle.replay.proofs.TurnLaws.{kept-none, kept-front}
+use Rattle.replay.proofs.ReadingLaws.{refilled}
 use borrow.Author.Needs.{needs}
 use Rattle.replay.proofs.refill.Statement.{statement}
 use Rattle.replay.proofs.refill.Tie as tie
@@ -6,9 +6,6 @@ use Rattle.replay.proofs.refill.Reads as reads
 use Rattle.replay.proofs.refill.Lts as lts
 use Rattle.record.proofs.blocks.copy.Reads as copy-reads
 use Rattle.replay.proofs.read_some.Reads as read-some-reads
-
-returns : tie.Need-returns
-returns c = search (needs, kept-none)
 
 slice-aggregate-copy : tie.Need-slice-aggregate-copy
 slice-aggregate-copy c = search needs
@@ -28,22 +25,21 @@ part-bytes-end c = search needs
 read-some-requires : tie.Need-read-some-requires
 read-some-requires c κs = search needs
 
-add-t12 : tie.Need-add-t12
-add-t12 c = search needs
+add-t10 : tie.Need-add-t10
+add-t10 c = search needs
 
-returns-2 : tie.Need-returns-2
-returns-2 c = search (needs, kept-front)
+returns : tie.Need-returns
+returns c = search (needs, refilled)
 
 pub refill-spec : {M : Type 1} → statement M
 refill-spec =
     tie.close
     (tie.spec
-    returns
     slice-aggregate-copy
     copy-requires
     sub-read-some
     part-bytes-start
     part-bytes-end
     read-some-requires
-    add-t12
-    returns-2)
+    add-t10
+    returns)

@@ -1,20 +1,18 @@
-use Rattle.io.specs.Counts.{Counts}
-use lib.ListN.{length}
-use Prim.Native.Nat.{_≤_}
+use Rattle.replay.proofs.ReadingLaws.{Serving, serving-starts, serving-on, serving-ends, serving-served}
 use borrow.Author.Needs.{needs}
 use Rattle.replay.proofs.serve.Statement.{statement}
 use Rattle.replay.proofs.serve.Tie as tie
 use Rattle.replay.proofs.serve.Reads as reads
 use Rattle.replay.proofs.serve.Lts as lts
-use Rattle.replay.proofs.pass.Reads as pass-reads
+use Rattle.replay.proofs.advance.Reads as advance-reads
 use Rattle.replay.proofs.refill.Reads as refill-reads
 use Rattle.servers.proofs.starting.begin.Reads as begin-reads
 
 abbrev Inv-loop : tie.InvT-loop
-Inv-loop servers quota table₀ event₀ filled₀ left₀ table event filled left = Counts (filled .count) (filled .bytes)
+Inv-loop servers quota s₀ left₀ s left = Serving servers quota s
 
 abbrev μ-loop : tie.MeasureT-loop
-μ-loop servers quota table₀ event₀ filled₀ left₀ table event filled left = left
+μ-loop servers quota s₀ left₀ s left = left
 
 begin-requires : tie.Need-begin-requires Inv-loop μ-loop
 begin-requires c κs = search needs
@@ -26,43 +24,25 @@ refill-requires : tie.Need-refill-requires Inv-loop μ-loop
 refill-requires c κs = search needs
 
 loop-holds : tie.Need-loop-holds Inv-loop μ-loop
-loop-holds c = search needs
+loop-holds c = search (needs, serving-starts)
 
 sub-left : tie.Need-sub-left Inv-loop μ-loop
 sub-left c = search needs
 
-array-share-prefix-bytes : tie.Need-array-share-prefix-bytes Inv-loop μ-loop
-array-share-prefix-bytes c = search needs
-
-slice-aggregate-pass : tie.Need-slice-aggregate-pass Inv-loop μ-loop
-slice-aggregate-pass c = search needs
-
-pass-requires : tie.Need-pass-requires Inv-loop μ-loop
-pass-requires c κs = search needs
+advance-requires : tie.Need-advance-requires Inv-loop μ-loop
+advance-requires c κs = search needs
 
 returns : tie.Need-returns Inv-loop μ-loop
-returns c = search needs
-
-sub-refill : tie.Need-sub-refill Inv-loop μ-loop
-sub-refill c = search needs
-
-part-refill-start : tie.Need-part-refill-start Inv-loop μ-loop
-part-refill-start c = search needs
-
-part-refill-end : tie.Need-part-refill-end Inv-loop μ-loop
-part-refill-end c = search needs
-
-refill-requires-2 : tie.Need-refill-requires-2 Inv-loop μ-loop
-refill-requires-2 c κs = search needs
+returns c = search (needs, serving-ends)
 
 loop-less : tie.Need-loop-less Inv-loop μ-loop
 loop-less c = search needs
 
 loop-again : tie.Need-loop-again Inv-loop μ-loop
-loop-again c = search needs
+loop-again c = search (needs, serving-on)
 
 returns-2 : tie.Need-returns-2 Inv-loop μ-loop
-returns-2 c = search needs
+returns-2 c = search (needs, serving-served)
 
 pub serve-spec : {M : Type 1} → statement M
 serve-spec =
@@ -75,14 +55,8 @@ serve-spec =
     refill-requires
     loop-holds
     sub-left
-    array-share-prefix-bytes
-    slice-aggregate-pass
-    pass-requires
+    advance-requires
     returns
-    sub-refill
-    part-refill-start
-    part-refill-end
-    refill-requires-2
     loop-less
     loop-again
     returns-2)
