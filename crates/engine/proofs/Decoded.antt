@@ -18,7 +18,7 @@ use Rattle.format.specs.Read.{idsAt}
 use Rattle.format.proofs.Fields.{cuts-read, ids-read}
 use Rattle.replication.specs.Machine.Types.{Server, contextOf}
 use Rattle.replication.specs.Machine.WellFormed.{queue}
-use Rattle.engine.specs.Layout.{stateSize, theHeader, theCuts, theNoted, theHeld, theStates, theYellow, theOwn, theQueue, sections, sectionSize, offset, stateLength}
+use Rattle.engine.specs.Layout.{stateSize, theHeader, theCuts, theNoted, theHeld, theStates, theYellow, theOwn, theQueue, sections, sectionSize, offset, stateLength, atStates, atQueueLength, atGreenLength, atOwnCount, atHeldCount, atYellowCount}
 use Rattle.engine.specs.Image.{over, senders, section, parts, image}
 use Rattle.engine.specs.Decode.{modeNamed, actionsAt, heldAt, statesAt, decodedAs, serversIn, quotaIn, decoded}
 use Rattle.engine.proofs.InRange.{InRange}
@@ -62,14 +62,14 @@ module _ (s : Server) (r : InRange s) (b : List ℕ) (h : stateLength (s .server
       let at : ℕ = offset (s .servers) (s .quota) theNoted in
       ap (λ (m : ℕ). numbersAt 4 m e at) (sym (r .notedCount)) ∙ noted-read (s .noted) e at (r .noted) (used-part _ _ e at (at-section theNoted (omega arith)))
 
-  held-back : heldAt (numberAt 2 (image s b) 31) (image s b) (offset (s .servers) (s .quota) theHeld) ≡ s .held
+  held-back : heldAt (numberAt 2 (image s b) atHeldCount) (image s b) (offset (s .servers) (s .quota) theHeld) ≡ s .held
   unfolding parts
   held-back =
       let e : List ℕ = image s b in
       let at : ℕ = offset (s .servers) (s .quota) theHeld in
       ap (λ (m : ℕ). heldAt m e at) (header-back .heldCount) ∙ held-read (s .held) e at (r .held) (used-part _ _ e at (at-section theHeld (omega arith)))
 
-  ids-back : idsAt (numberAt 2 (image s b) 58) (image s b) (offset (s .servers) (s .quota) theYellow) ≡ s .votes .yellow .ids
+  ids-back : idsAt (numberAt 2 (image s b) atYellowCount) (image s b) (offset (s .servers) (s .quota) theYellow) ≡ s .votes .yellow .ids
   unfolding parts
   ids-back =
       let e : List ℕ = image s b in
@@ -77,7 +77,7 @@ module _ (s : Server) (r : InRange s) (b : List ℕ) (h : stateLength (s .server
       ap (λ (m : ℕ). idsAt m e at) (header-back .idCount)
       ∙ ids-read (contextOf s) (s .votes .yellow .ids) e at (r .context) (r .yellow .ids) (used-part _ _ e at (at-section theYellow (omega arith)))
 
-  own-back : actionsAt (numberAt 2 (image s b) 29) (image s b) (offset (s .servers) (s .quota) theOwn) ≡ s .log .own
+  own-back : actionsAt (numberAt 2 (image s b) atOwnCount) (image s b) (offset (s .servers) (s .quota) theOwn) ≡ s .log .own
   unfolding parts
   own-back =
       let e : List ℕ = image s b in
@@ -85,7 +85,7 @@ module _ (s : Server) (r : InRange s) (b : List ℕ) (h : stateLength (s .server
       ap (λ (m : ℕ). actionsAt m e at) (header-back .ownCount)
       ∙ actions-read (contextOf s) (s .log .own) e at (r .context) (r .own) (used-part _ _ e at (at-section theOwn (omega arith)))
 
-  queue-back : actionsAt (numberAt 4 (image s b) 19) (image s b) (offset (s .servers) (s .quota) theQueue) ≡ queue (s .log)
+  queue-back : actionsAt (numberAt 4 (image s b) atQueueLength) (image s b) (offset (s .servers) (s .quota) theQueue) ≡ queue (s .log)
   unfolding parts
   queue-back =
       let e : List ℕ = image s b in
@@ -93,17 +93,17 @@ module _ (s : Server) (r : InRange s) (b : List ℕ) (h : stateLength (s .server
       ap (λ (m : ℕ). actionsAt m e at) (header-back .queueCount)
       ∙ actions-read (contextOf s) (queue (s .log)) e at (r .context) (r .actions) (used-part _ _ e at (at-section theQueue (omega arith)))
 
-  green-back : take (numberAt 4 (image s b) 23) (actionsAt (numberAt 4 (image s b) 19) (image s b) (offset (s .servers) (s .quota) theQueue)) ≡ s .log .green
+  green-back : take (numberAt 4 (image s b) atGreenLength) (actionsAt (numberAt 4 (image s b) atQueueLength) (image s b) (offset (s .servers) (s .quota) theQueue)) ≡ s .log .green
   unfolding queue
   green-back =
       ap₂ {A = ℕ} {B = List Action} {C = List Action} (λ m l. take m l) (header-back .greenCount) queue-back ∙ take-append-seam (s .log .green) (s .log .red)
 
-  red-back : drop (numberAt 4 (image s b) 23) (actionsAt (numberAt 4 (image s b) 19) (image s b) (offset (s .servers) (s .quota) theQueue)) ≡ s .log .red
+  red-back : drop (numberAt 4 (image s b) atGreenLength) (actionsAt (numberAt 4 (image s b) atQueueLength) (image s b) (offset (s .servers) (s .quota) theQueue)) ≡ s .log .red
   unfolding queue
   red-back =
       ap₂ {A = ℕ} {B = List Action} {C = List Action} (λ m l. drop m l) (header-back .greenCount) queue-back ∙ drop-append-seam (s .log .green) (s .log .red)
 
-  states-back : statesAt (s .servers) (s .quota) (numberAt 1 (image s b) 13) (s .servers) 0 (image s b) (offset (s .servers) (s .quota) theStates)
+  states-back : statesAt (s .servers) (s .quota) (numberAt 1 (image s b) atStates) (s .servers) 0 (image s b) (offset (s .servers) (s .quota) theStates)
       ≡ s .membership .states
   unfolding parts contextOf sectionSize sections
   states-back =

@@ -19,7 +19,7 @@ use Rattle.record.specs.Blocks.{yellowHeadBytes}
 use Rattle.record.specs.Events.{lastIn, markIn}
 use Rattle.record.specs.Values.{componentOf, markOf}
 use Rattle.replication.specs.Machine.Types.{Configuration, Server}
-use Rattle.engine.specs.Layout.{theHeader, sections, offset}
+use Rattle.engine.specs.Layout.{theHeader, sections, offset, headerSize, atLast, atYellow, atYellowCount, atAttempt, atCome, atConfiguration, atConfigurationId, atConfigurationSet, atCpcs, atGreenLength, atHeldCount, atMark, atMe, atMode, atNumbered, atOwnCount, atQueueLength, atQuota, atServers, atStates, atTransitional, atTransitionalSet}
 use Rattle.engine.specs.Image.{configurationBytes, transitionalBytes, headerBytes, parts}
 use Rattle.engine.specs.Header.{statusOf, idOf, setOf, transitionalOf, lastOf, markNumbers, headerOf, headerIn, membershipBytes, countsBytes, standingBytes, votesBytes, firstBytes, headerWritten}
 use Rattle.engine.proofs.InRange.{in-range}
@@ -45,7 +45,7 @@ unfolding headerWritten headerOf firstBytes membershipBytes countsBytes votesByt
 header-written s =
     sym (rw (configuration-written (s .membership .configuration), transitional-written (s .membership .transitional)) refl)
 
-pub written-length : (h : State) → length (headerWritten h) ≡ 60
+pub written-length : (h : State) → length (headerWritten h) ≡ headerSize
 unfolding headerWritten firstBytes membershipBytes countsBytes votesBytes standingBytes yellowHeadBytes componentOf markOf bytesOf joined primaryBytes markBytes
 written-length h = refl
 
@@ -89,26 +89,26 @@ header-loaded s b r =
 
 -- ---- loaded and saved
 
-membership-kept : (b : List ℕ) → Bytes b → 60 ≤ length b → Occurs (membershipBytes (headerIn b)) b 0
+membership-kept : (b : List ℕ) → Bytes b → headerSize ≤ length b → Occurs (membershipBytes (headerIn b)) b 0
 unfolding membershipBytes headerIn bytesOf
 membership-kept b k h =
     parts-joined _ b 0 (
-      number-occurs 1 b 0 refl k (omega arith),
+      number-occurs 1 b atServers refl k (omega arith),
       (
-        number-occurs 2 b 1 refl k (omega arith),
+        number-occurs 2 b atQuota refl k (omega arith),
         (
-          number-occurs 1 b 3 refl k (omega arith),
+          number-occurs 1 b atMe refl k (omega arith),
           (
-            number-occurs 1 b 4 refl k (omega arith),
+            number-occurs 1 b atMode refl k (omega arith),
             (
-              number-occurs 1 b 5 refl k (omega arith),
+              number-occurs 1 b atConfiguration refl k (omega arith),
               (
-                number-occurs 4 b 6 refl k (omega arith),
+                number-occurs 4 b atConfigurationId refl k (omega arith),
                 (
-                  number-occurs 1 b 10 refl k (omega arith),
+                  number-occurs 1 b atConfigurationSet refl k (omega arith),
                   (
-                    number-occurs 1 b 11 refl k (omega arith),
-                    (number-occurs 1 b 12 refl k (omega arith), (number-occurs 1 b 13 refl k (omega arith), (number-occurs 1 b 14 refl k (omega arith), (number-occurs 4 b 15 refl k (omega arith), tt)))),
+                    number-occurs 1 b atTransitional refl k (omega arith),
+                    (number-occurs 1 b atTransitionalSet refl k (omega arith), (number-occurs 1 b atStates refl k (omega arith), (number-occurs 1 b atCpcs refl k (omega arith), (number-occurs 4 b atCome refl k (omega arith), tt)))),
                   ),
                 ),
               ),
@@ -118,41 +118,41 @@ membership-kept b k h =
       ),
     )
 
-counts-kept : (b : List ℕ) → Bytes b → 60 ≤ length b → Occurs (countsBytes (headerIn b)) b 19
+counts-kept : (b : List ℕ) → Bytes b → headerSize ≤ length b → Occurs (countsBytes (headerIn b)) b atQueueLength
 unfolding countsBytes headerIn bytesOf
 counts-kept b k h =
-    parts-joined _ b 19 (
-      number-occurs 4 b 19 refl k (omega arith),
+    parts-joined _ b atQueueLength (
+      number-occurs 4 b atQueueLength refl k (omega arith),
       (
-        number-occurs 4 b 23 refl k (omega arith),
+        number-occurs 4 b atGreenLength refl k (omega arith),
         (
-          number-occurs 2 b 27 refl k (omega arith),
-          (number-occurs 2 b 29 refl k (omega arith), (number-occurs 2 b 31 refl k (omega arith), (number-occurs 4 b 33 refl k (omega arith), tt))),
+          number-occurs 2 b atNumbered refl k (omega arith),
+          (number-occurs 2 b atOwnCount refl k (omega arith), (number-occurs 2 b atHeldCount refl k (omega arith), (number-occurs 4 b atAttempt refl k (omega arith), tt))),
         ),
       ),
     )
 
-standing-kept : (b : List ℕ) → Bytes b → 60 ≤ length b → Occurs (standingBytes (headerIn b)) b 37
+standing-kept : (b : List ℕ) → Bytes b → headerSize ≤ length b → Occurs (standingBytes (headerIn b)) b atLast
 unfolding standingBytes headerIn lastIn markIn componentOf markOf primaryAt markAt
 standing-kept b k h =
-    parts-joined _ b 37
-    (primary-written b 37 k (omega arith), (occurs-at (mark-written b 46 k (omega arith)) (omega (arith, primary-length (primaryAt b 37))), tt))
+    parts-joined _ b atLast
+    (primary-written b atLast k (omega arith), (occurs-at (mark-written b atMark k (omega arith)) (omega (arith, primary-length (primaryAt b atLast))), tt))
 
-yellow-kept : (b : List ℕ) → Bytes b → 60 ≤ length b → Occurs (yellowHeadBytes (numberAt 1 b 57) (numberAt 2 b 58)) b 57
+yellow-kept : (b : List ℕ) → Bytes b → headerSize ≤ length b → Occurs (yellowHeadBytes (numberAt 1 b atYellow) (numberAt 2 b atYellowCount)) b 57
 unfolding yellowHeadBytes bytesOf
-yellow-kept b k h = parts-joined _ b 57 (number-occurs 1 b 57 refl k (omega arith), (number-occurs 2 b 58 refl k (omega arith), tt))
+yellow-kept b k h = parts-joined _ b atYellow (number-occurs 1 b atYellow refl k (omega arith), (number-occurs 2 b atYellowCount refl k (omega arith), tt))
 
-first-kept : (b : List ℕ) → Bytes b → 60 ≤ length b → Occurs (firstBytes (headerIn b)) b 0
+first-kept : (b : List ℕ) → Bytes b → headerSize ≤ length b → Occurs (firstBytes (headerIn b)) b 0
 unfolding firstBytes
 first-kept b k h =
     parts-joined _ b 0 (membership-kept b k h, (occurs-at (counts-kept b k h) (omega (arith, membership-length (headerIn b))), tt))
 
-votes-kept : (b : List ℕ) → Bytes b → 60 ≤ length b → Occurs (votesBytes (headerIn b)) b 37
+votes-kept : (b : List ℕ) → Bytes b → headerSize ≤ length b → Occurs (votesBytes (headerIn b)) b atLast
 unfolding votesBytes headerIn
 votes-kept b k h =
-    parts-joined _ b 37 (standing-kept b k h, (occurs-at (yellow-kept b k h) (omega (arith, standing-length (headerIn b))), tt))
+    parts-joined _ b atLast (standing-kept b k h, (occurs-at (yellow-kept b k h) (omega (arith, standing-length (headerIn b))), tt))
 
 -- What is loaded, written again, occurs where it was.
-pub header-kept : (b : List ℕ) → Bytes b → 60 ≤ length b → Occurs (headerWritten (headerIn b)) b 0
+pub header-kept : (b : List ℕ) → Bytes b → headerSize ≤ length b → Occurs (headerWritten (headerIn b)) b 0
 unfolding headerWritten
 header-kept b k h = parts-joined _ b 0 (first-kept b k h, (occurs-at (votes-kept b k h) (omega (arith, first-length (headerIn b))), tt))

@@ -24,6 +24,7 @@ use Rattle.engine.specs.Decode.{modeNamed, configurationAt, transitional
 use Rattle.engine.proofs.InRange.{ConfigurationRange, TransitionalRange, InRange}
 use Rattle.engine.proofs.Used.{configuration-length, transitional-length}
 use Rattle.engine.proofs.Slots.{senders-below}
+use Rattle.engine.specs.Layout.{atServers, atQuota, atMe, atMode, atConfiguration, atConfigurationId, atConfigurationSet, atTransitional, atTransitionalSet, atStates, atCpcs, atCome, atQueueLength, atGreenLength, atNumbered, atOwnCount, atHeldCount, atAttempt, atLast, atMark, atYellow, atYellowCount}
 
 pub mode-named : (m : Mode) → modeNamed (modeNumber m) ≡ m
 unfolding modeNamed modeNumber pick _=?_
@@ -93,30 +94,30 @@ transitional-read (some t) e at status set =
 
 -- What the header of e says is what s has.
 pub record HeaderRead (s : Server) (e : List ℕ) : Type 0 where
-  pub servers : numberAt 1 e 0 ≡ s .servers
-  pub quota : numberAt 2 e 1 ≡ s .quota
-  pub me : numberAt 1 e 3 ≡ s .me
-  pub mode : numberAt 1 e 4 ≡ modeNumber (s .membership .mode)
-  pub configurationStatus : numberAt 1 e 5 ≡ statusOf (s .membership .configuration)
-  pub configurationId : numberAt 4 e 6 ≡ idOf (s .membership .configuration)
-  pub configurationSet : numberAt 1 e 10 ≡ setOf (s .membership .configuration)
+  pub servers : numberAt 1 e atServers ≡ s .servers
+  pub quota : numberAt 2 e atQuota ≡ s .quota
+  pub me : numberAt 1 e atMe ≡ s .me
+  pub mode : numberAt 1 e atMode ≡ modeNumber (s .membership .mode)
+  pub configurationStatus : numberAt 1 e atConfiguration ≡ statusOf (s .membership .configuration)
+  pub configurationId : numberAt 4 e atConfigurationId ≡ idOf (s .membership .configuration)
+  pub configurationSet : numberAt 1 e atConfigurationSet ≡ setOf (s .membership .configuration)
   pub configuration : configurationAt e 5 ≡ s .membership .configuration
-  pub transitionalStatus : numberAt 1 e 11 ≡ statusOf (s .membership .transitional)
-  pub transitionalSet : numberAt 1 e 12 ≡ transitionalOf (s .membership .transitional)
+  pub transitionalStatus : numberAt 1 e atTransitional ≡ statusOf (s .membership .transitional)
+  pub transitionalSet : numberAt 1 e atTransitionalSet ≡ transitionalOf (s .membership .transitional)
   pub transitional : transitionalAt e 11 ≡ s .membership .transitional
-  pub states : numberAt 1 e 13 ≡ senders 0 (s .membership .states)
-  pub cpcs : numberAt 1 e 14 ≡ s .membership .cpcs
-  pub come : numberAt 4 e 15 ≡ s .membership .come
-  pub queueCount : numberAt 4 e 19 ≡ length (queue (s .log))
-  pub greenCount : numberAt 4 e 23 ≡ length (s .log .green)
-  pub numbered : numberAt 2 e 27 ≡ s .log .numbered
-  pub ownCount : numberAt 2 e 29 ≡ length (s .log .own)
-  pub heldCount : numberAt 2 e 31 ≡ length (s .held)
-  pub attempt : numberAt 4 e 33 ≡ s .votes .attempt
-  pub last : primaryAt e 37 ≡ s .votes .last
-  pub mark : markAt e 46 ≡ s .votes .mark
-  pub yellow : numberAt 1 e 57 ≡ s .votes .yellow .status
-  pub idCount : numberAt 2 e 58 ≡ length (s .votes .yellow .ids)
+  pub states : numberAt 1 e atStates ≡ senders 0 (s .membership .states)
+  pub cpcs : numberAt 1 e atCpcs ≡ s .membership .cpcs
+  pub come : numberAt 4 e atCome ≡ s .membership .come
+  pub queueCount : numberAt 4 e atQueueLength ≡ length (queue (s .log))
+  pub greenCount : numberAt 4 e atGreenLength ≡ length (s .log .green)
+  pub numbered : numberAt 2 e atNumbered ≡ s .log .numbered
+  pub ownCount : numberAt 2 e atOwnCount ≡ length (s .log .own)
+  pub heldCount : numberAt 2 e atHeldCount ≡ length (s .held)
+  pub attempt : numberAt 4 e atAttempt ≡ s .votes .attempt
+  pub last : primaryAt e atLast ≡ s .votes .last
+  pub mark : markAt e atMark ≡ s .votes .mark
+  pub yellow : numberAt 1 e atYellow ≡ s .votes .yellow .status
+  pub idCount : numberAt 2 e atYellowCount ≡ length (s .votes .yellow .ids)
 
 pub header-read : (s : Server) (e : List ℕ) → InRange s → Occurs (headerBytes s) e 0 → HeaderRead s e
 unfolding headerBytes bytesOf contextOf queue
@@ -151,10 +152,10 @@ header-read s e r o =
     let d = configuration-numbers (s .membership .configuration) e 5 (r .configuration) (occurs-at (f₄ .0) refl) in
     let u = transitional-numbers (s .membership .transitional) e 11 (r .transitional) (occurs-at (f₅ .0) (omega arith)) in
     record {
-      servers = number-read 1 0 (f₀ .0) (refl) (omega arith);
-      quota = number-read 2 1 (f₁ .0) (refl) (omega arith);
-      me = number-read 1 3 (f₂ .0) (refl) (omega arith);
-      mode = number-read 1 4 (f₃ .0) (refl) (mode-small (s .membership .mode));
+      servers = number-read 1 atServers (f₀ .0) (refl) (omega arith);
+      quota = number-read 2 atQuota (f₁ .0) (refl) (omega arith);
+      me = number-read 1 atMe (f₂ .0) (refl) (omega arith);
+      mode = number-read 1 atMode (f₃ .0) (refl) (mode-small (s .membership .mode));
       configurationStatus = d .0;
       configurationId = d .1;
       configurationSet = d .2;
@@ -162,17 +163,17 @@ header-read s e r o =
       transitionalStatus = u .0;
       transitionalSet = u .1;
       transitional = transitional-read (s .membership .transitional) e 11 (u .0) (u .1);
-      states = number-read 1 13 (f₆ .0) (omega arith) (senders-below mostServers 0 (s .membership .states) (omega (arith, r .statesCount)));
-      cpcs = number-read 1 14 (f₇ .0) (omega arith) (r .cpcs);
-      come = number-read 4 15 (f₈ .0) (omega arith) (omega (arith, r .come));
-      queueCount = number-read 4 19 (f₉ .0) (omega arith) (omega (arith, r .queueCount));
-      greenCount = number-read 4 23 (f₁₀ .0) (omega arith) (omega (arith, r .queueCount, length-append (s .log .green) (s .log .red)));
-      numbered = number-read 2 27 (f₁₁ .0) (omega arith) (omega (arith, r .numbered));
-      ownCount = number-read 2 29 (f₁₂ .0) (omega arith) (omega (arith, r .ownCount));
-      heldCount = number-read 2 31 (f₁₃ .0) (omega arith) (omega (arith, r .heldCount));
-      attempt = number-read 4 33 (f₁₄ .0) (omega arith) (omega (arith, r .attempt));
-      last = primary-read (s .votes .last) e 37 (r .last) (occurs-at (f₁₅ .0) (omega arith));
-      mark = mark-read (s .votes .mark) e 46 (r .mark) (occurs-at (f₁₆ .0) (omega arith));
-      yellow = number-read 1 57 (f₁₇ .0) (omega arith) (omega (arith, r .yellow .status));
-      idCount = number-read 2 58 (f₁₈ .0) (omega arith) (omega (arith, few));
+      states = number-read 1 atStates (f₆ .0) (omega arith) (senders-below mostServers 0 (s .membership .states) (omega (arith, r .statesCount)));
+      cpcs = number-read 1 atCpcs (f₇ .0) (omega arith) (r .cpcs);
+      come = number-read 4 atCome (f₈ .0) (omega arith) (omega (arith, r .come));
+      queueCount = number-read 4 atQueueLength (f₉ .0) (omega arith) (omega (arith, r .queueCount));
+      greenCount = number-read 4 atGreenLength (f₁₀ .0) (omega arith) (omega (arith, r .queueCount, length-append (s .log .green) (s .log .red)));
+      numbered = number-read 2 atNumbered (f₁₁ .0) (omega arith) (omega (arith, r .numbered));
+      ownCount = number-read 2 atOwnCount (f₁₂ .0) (omega arith) (omega (arith, r .ownCount));
+      heldCount = number-read 2 atHeldCount (f₁₃ .0) (omega arith) (omega (arith, r .heldCount));
+      attempt = number-read 4 atAttempt (f₁₄ .0) (omega arith) (omega (arith, r .attempt));
+      last = primary-read (s .votes .last) e atLast (r .last) (occurs-at (f₁₅ .0) (omega arith));
+      mark = mark-read (s .votes .mark) e atMark (r .mark) (occurs-at (f₁₆ .0) (omega arith));
+      yellow = number-read 1 atYellow (f₁₇ .0) (omega arith) (omega (arith, r .yellow .status));
+      idCount = number-read 2 atYellowCount (f₁₈ .0) (omega arith) (omega (arith, few));
     }

@@ -17,7 +17,7 @@ use Rattle.base.specs.Sections.{cutBy, cut-at, laid-cut, begin-end, patched-fro
 use Rattle.format.specs.Write.{cutsBytes, idsBytes}
 use Rattle.replication.specs.Machine.Types.{Server}
 use Rattle.replication.specs.Machine.WellFormed.{queue, wellFormed}
-use Rattle.engine.specs.Layout.{stateSize, theHeader, theCuts, theNoted, theHeld, theStates, theYellow, theOwn, theQueue, sections, sectionSize, offset, stateLength}
+use Rattle.engine.specs.Layout.{stateSize, theHeader, theCuts, theNoted, theHeld, theStates, theYellow, theOwn, theQueue, sections, sectionSize, offset, stateLength, headerSize}
 use Rattle.engine.specs.Image.{over, headerBytes, notedBytes, statesOver, actionSlots, heldSlots, section, parts, image}
 use Rattle.engine.specs.Decode.{decoded, readImage}
 use Rattle.engine.proofs.Fit.{SectionsFit, well-formed-fits, parts-sized, image-section}
@@ -39,7 +39,7 @@ holds-decoded s b r = ap decoded (sym (r .written)) ∙ decoded-image s b (r .fo
 pub holds-one : (s t : Server) (b : List ℕ) → Holds s b → Holds t b → s ≡ t
 holds-one s t b r k = sym (holds-decoded s b r) ∙ holds-decoded t b k
 
-pub holds-header : (s : Server) (b : List ℕ) → Holds s b → 60 ≤ length b
+pub holds-header : (s : Server) (b : List ℕ) → Holds s b → headerSize ≤ length b
 unfolding stateLength sections sum
 holds-header s b r = omega (arith, r .long)
 
@@ -75,7 +75,7 @@ such-fact P b s h r = subst P (holds-one (h .state) s b (h .holds) r) (h .fact)
 pub such-decoded : (P : Server → Type 0) (b : List ℕ) → HoldsSuch P b → Holds (decoded b) b
 such-decoded P b h = subst (λ (s : Server). Holds s b) (sym (holds-decoded (h .state) b (h .holds))) (h .holds)
 
-pub such-header : (P : Server → Type 0) (b : List ℕ) → HoldsSuch P b → 60 ≤ length b
+pub such-header : (P : Server → Type 0) (b : List ℕ) → HoldsSuch P b → headerSize ≤ length b
 such-header P b h = holds-header (h .state) b (h .holds)
 
 -- ---- sections

@@ -10,6 +10,7 @@ use Rattle.record.specs.declared.State.{State}
 use Rattle.record.specs.Events.{lastIn, markIn}
 use Rattle.engine.specs.declared.header.Membership.{Membership}
 use Rattle.engine.specs.Header.{headerIn, membershipIn}
+use Rattle.engine.specs.Layout.{atServers, atQuota, atMe, atMode, atConfiguration, atConfigurationId, atConfigurationSet, atTransitional, atTransitionalSet, atStates, atCpcs, atCome, atQueueLength, atGreenLength, atNumbered, atOwnCount, atHeldCount, atAttempt, atLast, atMark, atYellow, atYellowCount}
 
 abbrev pub madeMembership : (servers quota me mode status id set transitional inside states cpcs come : ℕ) → Membership
 madeMembership servers quota me mode status id set transitional inside states cpcs come = record {
@@ -27,9 +28,9 @@ madeMembership servers quota me mode status id set transitional inside states cp
   come = come;
 }
 
-pub membership-loaded : (b : List ℕ) (servers quota me mode status id set transitional inside states cpcs come : ℕ) → servers ≡ numberAt 1 b 0
-    → quota ≡ numberAt 2 b 1 → me ≡ numberAt 1 b 3 → mode ≡ numberAt 1 b 4 → status ≡ numberAt 1 b 5 → id ≡ numberAt 4 b 6 → set ≡ numberAt 1 b 10
-    → transitional ≡ numberAt 1 b 11 → inside ≡ numberAt 1 b 12 → states ≡ numberAt 1 b 13 → cpcs ≡ numberAt 1 b 14 → come ≡ numberAt 4 b 15
+pub membership-loaded : (b : List ℕ) (servers quota me mode status id set transitional inside states cpcs come : ℕ) → servers ≡ numberAt 1 b atServers
+    → quota ≡ numberAt 2 b atQuota → me ≡ numberAt 1 b atMe → mode ≡ numberAt 1 b atMode → status ≡ numberAt 1 b atConfiguration → id ≡ numberAt 4 b atConfigurationId → set ≡ numberAt 1 b atConfigurationSet
+    → transitional ≡ numberAt 1 b atTransitional → inside ≡ numberAt 1 b atTransitionalSet → states ≡ numberAt 1 b atStates → cpcs ≡ numberAt 1 b atCpcs → come ≡ numberAt 4 b atCome
     → madeMembership servers quota me mode status id set transitional inside states cpcs come ≡ membershipIn b
 unfolding membershipIn
 membership-loaded b servers quota me mode status id set transitional inside states cpcs come e₀ e₁ e₂ e₃ e₄ e₅ e₆ e₇ e₈ e₉ f₀ f₁ =
@@ -62,9 +63,9 @@ madeState m queue green numbered own held attempt last mark yellow count = recor
 }
 
 pub state-loaded : (b : List ℕ) (m : Membership) (queue green numbered own held attempt : ℕ) (last : LastPrimary) (mark : Mark) (yellow count : ℕ)
-    → m ≡ membershipIn b → queue ≡ numberAt 4 b 19 → green ≡ numberAt 4 b 23 → numbered ≡ numberAt 2 b 27 → own ≡ numberAt 2 b 29
-    → held ≡ numberAt 2 b 31 → attempt ≡ numberAt 4 b 33 → last ≡ lastIn b 37 → mark ≡ markIn b 46 → yellow ≡ numberAt 1 b 57
-    → count ≡ numberAt 2 b 58 → madeState m queue green numbered own held attempt last mark yellow count ≡ headerIn b
+    → m ≡ membershipIn b → queue ≡ numberAt 4 b atQueueLength → green ≡ numberAt 4 b atGreenLength → numbered ≡ numberAt 2 b atNumbered → own ≡ numberAt 2 b atOwnCount
+    → held ≡ numberAt 2 b atHeldCount → attempt ≡ numberAt 4 b atAttempt → last ≡ lastIn b atLast → mark ≡ markIn b atMark → yellow ≡ numberAt 1 b atYellow
+    → count ≡ numberAt 2 b atYellowCount → madeState m queue green numbered own held attempt last mark yellow count ≡ headerIn b
 unfolding headerIn membershipIn
 state-loaded b m queue green numbered own held attempt last mark yellow count e₀ e₁ e₂ e₃ e₄ e₅ e₆ e₇ e₈ e₉ f₀ =
     λ i. madeState (e₀ i) (e₁ i) (e₂ i) (e₃ i) (e₄ i) (e₅ i) (e₆ i) (e₇ i) (e₈ i) (e₉ i) (f₀ i)

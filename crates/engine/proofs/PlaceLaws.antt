@@ -5,21 +5,23 @@ use mathlib.Core.Path.{_≡_, refl}
 use native.Mathlib.Omega.{arith}
 use lib.ListN.{take}
 use Rattle.base.specs.Lists.{sum}
-use Rattle.engine.specs.Layout.{stateSize, theNoted, theHeld, theStates, theYellow, theOwn, theQueue, sections, offset}
+use Rattle.engine.specs.Layout.{stateSize, theNoted, theHeld, theStates, theYellow, theOwn, theQueue, sections, offset, headerSize, slotSize, heldSize}
+use Rattle.format.specs.Places.{stateHeadSize}
+use Rattle.format.specs.Limits.{mostHeld}
 
-pub noted-place : (n q : ℕ) → 60 + 2 * n ≡ offset n q theNoted
+pub noted-place : (n q : ℕ) → headerSize + 2 * n ≡ offset n q theNoted
 unfolding offset sections sum
 noted-place n q = omega arith
 
-pub held-place : (n q : ℕ) → 60 + 6 * n ≡ offset n q theHeld
+pub held-place : (n q : ℕ) → headerSize + 6 * n ≡ offset n q theHeld
 unfolding offset sections sum
 held-place n q = omega arith
 
-pub states-place : (n q : ℕ) → 60 + 6 * n + 784 ≡ offset n q theStates
+pub states-place : (n q : ℕ) → headerSize + 6 * n + heldSize * mostHeld ≡ offset n q theStates
 unfolding offset sections sum
 states-place n q = omega arith
 
-pub size-made : (n q all : ℕ) → all ≡ n * q → 40 + 2 * n + 3 * all ≡ stateSize n q
+pub size-made : (n q all : ℕ) → all ≡ n * q → stateHeadSize + 2 * n + 3 * all ≡ stateSize n q
 unfolding stateSize
 size-made n q all e = rw e
 
@@ -31,6 +33,6 @@ pub own-place : (n q at all : ℕ) → at ≡ offset n q theYellow → all ≡ n
 unfolding offset sections sum
 own-place n q at all e f = rw (e, f) (omega arith)
 
-pub queue-place : (n q at : ℕ) → at ≡ offset n q theOwn → at + 56 * q ≡ offset n q theQueue
+pub queue-place : (n q at : ℕ) → at ≡ offset n q theOwn → at + slotSize * q ≡ offset n q theQueue
 unfolding offset sections sum
 queue-place n q at e = rw e (omega arith)

@@ -1,6 +1,6 @@
 -- The state's numbers as the code stores them.
 -- Assumes nothing.
-use Prim.Native.Nat.{ℕ, _/_, _%_, _≤_}
+use Prim.Native.Nat.{ℕ, _/_, _%_, _≤_, _-_}
 use mathlib.Core.Path.{_≡_, refl, ap, _∙_}
 use mathlib.Core.List.{List, [], _∷_}
 use native.Mathlib.Omega.{arith}
@@ -18,6 +18,8 @@ use Rattle.record.specs.Blocks.{yellowHeadBytes}
 use Rattle.record.specs.Values.{componentOf, markOf}
 use Rattle.record.specs.declared.State.{State}
 use Rattle.engine.specs.Header.{membershipBytes, countsBytes, standingBytes, votesBytes, firstBytes, headerWritten}
+use Rattle.format.specs.Places.{primarySize}
+use Rattle.engine.specs.Layout.{headerSize, atQueueLength, atLast, atMark, atYellow}
 
 -- A number that fits a byte is that byte.
 one-byte : (v : ℕ) → Fits w8 v → bytesOf 1 v ≡ v ∷ []
@@ -76,18 +78,18 @@ pub counts-saved : (h : State) (s t : List ℕ)
     ∷ h .attempt .0 % 256
     ∷ [])
     s
-    → t ≡ patched 19 (countsBytes h) s
+    → t ≡ patched atQueueLength (countsBytes h) s
 unfolding countsBytes joined
 counts-saved h s t e =
     rw (bytes4 (h .«queue_length»), bytes4 (h .«green_length»), bytes2 (h .numbered), bytes2 (h .«own_count»), bytes2 (h .«held_count»), bytes4 (h .attempt .0)) e
 
 -- ---- one block after another
 
-pub membership-length : (h : State) → length (membershipBytes h) ≡ 19
+pub membership-length : (h : State) → length (membershipBytes h) ≡ atQueueLength
 unfolding membershipBytes joined bytesOf
 membership-length h = refl
 
-pub first-length : (h : State) → length (firstBytes h) ≡ 37
+pub first-length : (h : State) → length (firstBytes h) ≡ atLast
 unfolding firstBytes membershipBytes countsBytes joined bytesOf
 first-length h = refl
 
@@ -95,22 +97,22 @@ pub standing-length : (h : State) → length (standingBytes h) ≡ 20
 unfolding standingBytes primaryBytes markBytes joined bytesOf
 standing-length h = refl
 
-pub first-saved : (h : State) (s s₁ s₂ : List ℕ) → 60 ≤ length s → s₁ ≡ patched 0 (membershipBytes h) s → s₂ ≡ patched 19 (countsBytes h) s₁ → s₂ ≡ patched 0 (firstBytes h) s
+pub first-saved : (h : State) (s s₁ s₂ : List ℕ) → headerSize ≤ length s → s₁ ≡ patched 0 (membershipBytes h) s → s₂ ≡ patched atQueueLength (countsBytes h) s₁ → s₂ ≡ patched 0 (firstBytes h) s
 unfolding firstBytes
-first-saved h s s₁ s₂ l e f = two-blocks 0 19 60 (membershipBytes h) (countsBytes h) s s₁ s₂ l e f (membership-length h)
+first-saved h s s₁ s₂ l e f = two-blocks 0 atQueueLength headerSize (membershipBytes h) (countsBytes h) s s₁ s₂ l e f (membership-length h)
 
-pub standing-saved : (h : State) (s s₁ s₂ : List ℕ) → 60 ≤ length s
-    → s₁ ≡ patched 37 (primaryBytes (componentOf (h .last .index) (h .last .attempt) (h .last .set))) s → s₂ ≡ patched 46 (markBytes (markOf (h .mark))) s₁
-    → s₂ ≡ patched 37 (standingBytes h) s
+pub standing-saved : (h : State) (s s₁ s₂ : List ℕ) → headerSize ≤ length s
+    → s₁ ≡ patched atLast (primaryBytes (componentOf (h .last .index) (h .last .attempt) (h .last .set))) s → s₂ ≡ patched atMark (markBytes (markOf (h .mark))) s₁
+    → s₂ ≡ patched atLast (standingBytes h) s
 unfolding standingBytes
-standing-saved h s s₁ s₂ l e f = two-blocks 37 9 23 _ _ s s₁ s₂ l e f (primary-length (componentOf (h .last .index) (h .last .attempt) (h .last .set)))
+standing-saved h s s₁ s₂ l e f = two-blocks atLast primarySize (headerSize - atLast) _ _ s s₁ s₂ l e f (primary-length (componentOf (h .last .index) (h .last .attempt) (h .last .set)))
 
-pub votes-saved : (h : State) (s s₁ s₂ : List ℕ) → 60 ≤ length s → s₁ ≡ patched 37 (standingBytes h) s
-    → s₂ ≡ patched 57 (yellowHeadBytes (h .«yellow_status») (h .«yellow_count»)) s₁ → s₂ ≡ patched 37 (votesBytes h) s
+pub votes-saved : (h : State) (s s₁ s₂ : List ℕ) → headerSize ≤ length s → s₁ ≡ patched atLast (standingBytes h) s
+    → s₂ ≡ patched atYellow (yellowHeadBytes (h .«yellow_status») (h .«yellow_count»)) s₁ → s₂ ≡ patched atLast (votesBytes h) s
 unfolding votesBytes
-votes-saved h s s₁ s₂ l e f = two-blocks 37 20 23 _ _ s s₁ s₂ l e f (standing-length h)
+votes-saved h s s₁ s₂ l e f = two-blocks atLast (atYellow - atLast) (headerSize - atLast) _ _ s s₁ s₂ l e f (standing-length h)
 
-pub header-saved : (h : State) (s s₁ s₂ : List ℕ) → 60 ≤ length s → s₁ ≡ patched 0 (firstBytes h) s → s₂ ≡ patched 37 (votesBytes h) s₁
+pub header-saved : (h : State) (s s₁ s₂ : List ℕ) → headerSize ≤ length s → s₁ ≡ patched 0 (firstBytes h) s → s₂ ≡ patched atLast (votesBytes h) s₁
     → s₂ ≡ patched 0 (headerWritten h) s
 unfolding headerWritten
-header-saved h s s₁ s₂ l e f = two-blocks 0 37 60 _ _ s s₁ s₂ l e f (first-length h)
+header-saved h s s₁ s₂ l e f = two-blocks 0 atLast headerSize _ _ s s₁ s₂ l e f (first-length h)

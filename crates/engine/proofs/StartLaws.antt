@@ -26,7 +26,7 @@ use Rattle.record.specs.Start.{startOf}
 use Rattle.replication.specs.Machine.Types.{Server, clearedMark, noYellow, noStates, start}
 use Rattle.replication.specs.Machine.WellFormed.{queue}
 use Rattle.replication.proofs.WellFormed.Runs.{start-well-formed}
-use Rattle.engine.specs.Layout.{StartRoom, stateSize, theHeader, theCuts, theNoted, theStates, sections, sectionSize, stateLength, leastStateLength}
+use Rattle.engine.specs.Layout.{StartRoom, stateSize, theHeader, theCuts, theNoted, theStates, sections, sectionSize, stateLength, leastStateLength, headerSize}
 use Rattle.engine.specs.Image.{modeNumber, over, zeros, senders, headerBytes, notedBytes, stateOver, statesOver, actionSlots, heldSlots, section, parts, image}
 use Rattle.engine.specs.Header.{statusOf, idOf, setOf, transitionalOf, lastOf, markNumbers, headerOf, headerWritten}
 use Rattle.engine.specs.Decode.{readImage}
@@ -143,20 +143,20 @@ fills n q k m y b e size h =
     ∙ over-whole (zeros m) (section n q k b) (section-length n q k b h ∙ size ∙ sym (zeros-length m))
 
 -- Two runs of zeros next to each other.
-zeros-next : (n : ℕ) (d : List ℕ) → 60 ≤ length d → patched (60 + (2 * n + 0)) (zeros (4 * n)) (patched 60 (zeros (2 * n)) d) ≡ patched 60 (zeros (6 * n)) d
+zeros-next : (n : ℕ) (d : List ℕ) → headerSize ≤ length d → patched (headerSize + (2 * n + 0)) (zeros (4 * n)) (patched headerSize (zeros (2 * n)) d) ≡ patched headerSize (zeros (6 * n)) d
 zeros-next n d h =
-    let place : 60 + (2 * n + 0) ≡ 60 + length (zeros (2 * n)) = omega (arith, zeros-length (2 * n)) in
+    let place : headerSize + (2 * n + 0) ≡ headerSize + length (zeros (2 * n)) = omega (arith, zeros-length (2 * n)) in
     let count : 2 * n + 4 * n ≡ 6 * n = omega arith in
-    ap (λ (m : ℕ). patched m (zeros (4 * n)) (patched 60 (zeros (2 * n)) d)) place
-    ∙ patched-next 60 (zeros (2 * n)) (zeros (4 * n)) d h
-    ∙ ap (λ (x : List ℕ). patched 60 x d) (zeros-append (2 * n) (4 * n) ∙ ap zeros count)
+    ap (λ (m : ℕ). patched m (zeros (4 * n)) (patched headerSize (zeros (2 * n)) d)) place
+    ∙ patched-next headerSize (zeros (2 * n)) (zeros (4 * n)) d h
+    ∙ ap (λ (x : List ℕ). patched headerSize x d) (zeros-append (2 * n) (4 * n) ∙ ap zeros count)
 
-header-room : (n q : ℕ) → 60 ≤ stateLength n q
+header-room : (n q : ℕ) → headerSize ≤ stateLength n q
 unfolding stateLength sections sum
 header-room n q = omega arith
 
 pub start-image : (n q i : ℕ) (b : List ℕ) → stateLength n q ≤ length b
-    → image (start n q i) b ≡ patched 60 (zeros (6 * n)) (patched 0 (headerBytes (start n q i)) b)
+    → image (start n q i) b ≡ patched headerSize (zeros (6 * n)) (patched 0 (headerBytes (start n q i)) b)
 unfolding start patchedAll parts sections sectionSize sum
 start-image n q i b h =
     let s : Server = start n q i in
@@ -165,7 +165,7 @@ start-image n q i b h =
     let d : List ℕ = patched 0 (headerBytes s) b in
     let long : length d ≡ length b = patched-length 0 (headerBytes s) b (omega (arith, header-length s, header-room n q)) in
     image-patched s (start-fits n q i) b h (theHeader ∷ theCuts ∷ theNoted ∷ []) (omega arith, (omega arith, (omega arith, tt))) (start-same n q i b)
-    ∙ ap₂ {A = List ℕ} {B = List ℕ} {C = List ℕ} (λ x y. patched (60 + (2 * n + 0)) y (patched 60 x d)) cuts noted
+    ∙ ap₂ {A = List ℕ} {B = List ℕ} {C = List ℕ} (λ x y. patched (headerSize + (2 * n + 0)) y (patched headerSize x d)) cuts noted
     ∙ zeros-next n d (omega (arith, header-room n q))
 
 header-start : (n q i : ℕ) → headerOf (start n q i) ≡ startOf n q i
@@ -173,10 +173,10 @@ unfolding headerOf start startOf statusOf idOf setOf transitionalOf lastOf markN
 header-start n q i = rw (senders-none 0 n)
 
 pub start-made : (n q i : ℕ) (h : declared.State) (s s₁ s₂ : List ℕ) → StartRoom n q s → h ≡ startOf n q i → s₁ ≡ patched 0 (headerWritten h) s
-    → s₂ ≡ patched 60 (zeros (6 * n)) s₁ → s₂ ≡ image (start n q i) s
+    → s₂ ≡ patched headerSize (zeros (6 * n)) s₁ → s₂ ≡ image (start n q i) s
 start-made n q i h s s₁ s₂ l e f g =
     let written : headerWritten h ≡ headerBytes (start n q i) = ap headerWritten (e ∙ sym (header-start n q i)) ∙ header-written (start n q i) in
-    g ∙ ap (patched 60 (zeros (6 * n))) (f ∙ ap (λ (x : List ℕ). patched 0 x s) written) ∙ sym (start-image n q i s (l .long))
+    g ∙ ap (patched headerSize (zeros (6 * n))) (f ∙ ap (λ (x : List ℕ). patched 0 x s) written) ∙ sym (start-image n q i s (l .long))
 
 -- ---- the start reads back
 
@@ -186,10 +186,10 @@ start-read n q i b ok own h = read-image (start n q i) b (start-well-formed n q 
 
 -- ---- as the code makes it
 
-pub save-room : (n q : ℕ) (s : List ℕ) → StartRoom n q s → 60 ≤ length s
+pub save-room : (n q : ℕ) (s : List ℕ) → StartRoom n q s → headerSize ≤ length s
 save-room n q s h = omega (arith, header-room n q)
 
-pub clear-room : (n q : ℕ) (s s₁ : List ℕ) → StartRoom n q s → length s₁ ≡ length s → 60 + 6 * n ≤ length s₁
+pub clear-room : (n q : ℕ) (s s₁ : List ℕ) → StartRoom n q s → length s₁ ≡ length s → headerSize + 6 * n ≤ length s₁
 unfolding stateLength sections sum
 clear-room n q s s₁ h e = omega arith
 

@@ -17,7 +17,7 @@ use Rattle.format.proofs.Lengths.{action-length, payload-length}
 use Rattle.format.proofs.Ranges.{PayloadRange}
 use Rattle.format.proofs.WriteBytes.{action-bytes, payload-bytes, primary-bytes, mark-bytes, state-record-bytes}
 use Rattle.replication.specs.Machine.Types.{Configuration, Server}
-use Rattle.engine.specs.Layout.{heldSize, slotSize}
+use Rattle.engine.specs.Layout.{heldSize, slotSize, headerSize}
 use Rattle.engine.specs.Image.{over, zeros, slot, configurationBytes, transitionalBytes, headerBytes, notedBytes, stateOver, statesOver, actionSlots, heldSlots}
 
 -- ---- over what was there
@@ -137,7 +137,7 @@ unfolding transitionalBytes
 transitional-bytes none = bytes-joined _ (bytes-small 1 0, (bytes-small 1 0, tt))
 transitional-bytes (some t) = bytes-joined _ (bytes-small 1 1, (bytes-small 1 t, tt))
 
-pub header-length : (s : Server) → length (headerBytes s) ≡ 60
+pub header-length : (s : Server) → length (headerBytes s) ≡ headerSize
 unfolding headerBytes joined bytesOf primaryBytes markBytes
 header-length s = simp (length-append, configuration-length, transitional-length) (omega arith)
 

@@ -13,19 +13,19 @@ use Rattle.format.specs.Types.{Action, State}
 use Rattle.format.specs.Read.{payloadAt, actionAt, primaryAt, markAt, idsAt, stateAt}
 use Rattle.replication.specs.Machine.Types.{Mode, Non-prim, Reg-prim, Trans-prim, Exchange-states, Exchange-actions, Construct, No, Un, Configuration, Server}
 use Rattle.replication.specs.Machine.WellFormed.{wellFormed}
-use Rattle.engine.specs.Layout.{heldSize, slotSize, stateSize, theCuts, theNoted, theHeld, theStates, theYellow, theOwn, theQueue, offset}
-use Rattle.engine.specs.Image.{image}
+use Rattle.engine.specs.Layout.{heldSize, slotSize, stateSize, theCuts, theNoted, theHeld, theStates, theYellow, theOwn, theQueue, offset, atServers, atQuota, atMe, atMode, atStates, atCpcs, atCome, atQueueLength, atGreenLength, atNumbered, atOwnCount, atHeldCount, atAttempt, atLast, atMark, atYellow, atYellowCount}
+use Rattle.engine.specs.Image.{modeNumber, image}
 
--- Another number than 0 to 7 names no state: it is no image's.
+-- Another number names no state: it is no image's.
 unfoldable pub modeNamed : ℕ → Mode
 modeNamed k =
-    pick (k =? 1) Reg-prim
-    (pick (k =? 2) Trans-prim
-    (pick (k =? 3) Exchange-states
-    (pick (k =? 4) Exchange-actions
-    (pick (k =? 5) Construct
-    (pick (k =? 6) No
-    (pick (k =? 7) Un Non-prim))))))
+    pick (k =? modeNumber Reg-prim) Reg-prim
+    (pick (k =? modeNumber Trans-prim) Trans-prim
+    (pick (k =? modeNumber Exchange-states) Exchange-states
+    (pick (k =? modeNumber Exchange-actions) Exchange-actions
+    (pick (k =? modeNumber Construct) Construct
+    (pick (k =? modeNumber No) No
+    (pick (k =? modeNumber Un) Un Non-prim))))))
 
 unfoldable pub configurationAt : List ℕ → ℕ → Option Configuration
 configurationAt b at = pick (numberAt 1 b at =? 1) (some (record { id = numberAt 4 b (at + 1); set = numberAt 1 b (at + 5) })) none
@@ -54,37 +54,37 @@ unfoldable pub decodedAs : (n q : ℕ) → List ℕ → Server
 decodedAs n q b = record {
   servers = n;
   quota = q;
-  me = numberAt 1 b 3;
+  me = numberAt 1 b atMe;
   log = record {
-    green = take (numberAt 4 b 23) (actionsAt (numberAt 4 b 19) b (offset n q theQueue));
-    red = drop (numberAt 4 b 23) (actionsAt (numberAt 4 b 19) b (offset n q theQueue));
+    green = take (numberAt 4 b atGreenLength) (actionsAt (numberAt 4 b atQueueLength) b (offset n q theQueue));
+    red = drop (numberAt 4 b atGreenLength) (actionsAt (numberAt 4 b atQueueLength) b (offset n q theQueue));
     cuts = numbersAt 2 n b (offset n q theCuts);
-    own = actionsAt (numberAt 2 b 29) b (offset n q theOwn);
-    numbered = numberAt 2 b 27;
+    own = actionsAt (numberAt 2 b atOwnCount) b (offset n q theOwn);
+    numbered = numberAt 2 b atNumbered;
   };
   votes = record {
-    last = primaryAt b 37;
-    attempt = numberAt 4 b 33;
-    mark = markAt b 46;
-    yellow = record { status = numberAt 1 b 57; ids = idsAt (numberAt 2 b 58) b (offset n q theYellow) };
+    last = primaryAt b atLast;
+    attempt = numberAt 4 b atAttempt;
+    mark = markAt b atMark;
+    yellow = record { status = numberAt 1 b atYellow; ids = idsAt (numberAt 2 b atYellowCount) b (offset n q theYellow) };
   };
   membership = record {
-    mode = modeNamed (numberAt 1 b 4);
+    mode = modeNamed (numberAt 1 b atMode);
     configuration = configurationAt b 5;
     transitional = transitionalAt b 11;
-    states = statesAt n q (numberAt 1 b 13) n 0 b (offset n q theStates);
-    cpcs = numberAt 1 b 14;
-    come = numberAt 4 b 15;
+    states = statesAt n q (numberAt 1 b atStates) n 0 b (offset n q theStates);
+    cpcs = numberAt 1 b atCpcs;
+    come = numberAt 4 b atCome;
   };
-  held = heldAt (numberAt 2 b 31) b (offset n q theHeld);
+  held = heldAt (numberAt 2 b atHeldCount) b (offset n q theHeld);
   noted = numbersAt 4 n b (offset n q theNoted);
 }
 
 unfoldable pub serversIn : List ℕ → ℕ
-serversIn b = numberAt 1 b 0
+serversIn b = numberAt 1 b atServers
 
 unfoldable pub quotaIn : List ℕ → ℕ
-quotaIn b = numberAt 2 b 1
+quotaIn b = numberAt 2 b atQuota
 
 unfoldable pub decoded : List ℕ → Server
 decoded b = decodedAs (serversIn b) (quotaIn b) b

@@ -17,6 +17,7 @@ use Rattle.replication.specs.Machine.Types.{Configuration, Server}
 use Rattle.replication.specs.Machine.WellFormed.{queue}
 use Rattle.engine.specs.declared.header.Membership.{Membership}
 use Rattle.engine.specs.Image.{modeNumber, senders}
+use Rattle.engine.specs.Layout.{atServers, atQuota, atMe, atMode, atConfiguration, atConfigurationId, atConfigurationSet, atTransitional, atTransitionalSet, atStates, atCpcs, atCome, atQueueLength, atGreenLength, atNumbered, atOwnCount, atHeldCount, atAttempt, atLast, atMark, atYellow, atYellowCount}
 
 -- ---- of a state
 
@@ -74,45 +75,45 @@ headerOf s = record {
 -- What the first section says.
 unfoldable pub headerIn : List ℕ → State
 headerIn b = record {
-  servers = numberAt 1 b 0;
-  quota = numberAt 2 b 1;
-  me = numberAt 1 b 3;
-  mode = numberAt 1 b 4;
-  «configuration_status» = numberAt 1 b 5;
-  «configuration_id» = numberAt 4 b 6;
-  «configuration_set» = numberAt 1 b 10;
-  «transitional_status» = numberAt 1 b 11;
-  «transitional_set» = numberAt 1 b 12;
-  states = numberAt 1 b 13;
-  cpcs = numberAt 1 b 14;
-  come = numberAt 4 b 15;
-  «queue_length» = numberAt 4 b 19;
-  «green_length» = numberAt 4 b 23;
-  numbered = numberAt 2 b 27;
-  «own_count» = numberAt 2 b 29;
-  «held_count» = numberAt 2 b 31;
-  attempt = record { 0 = numberAt 4 b 33 };
-  last = lastIn b 37;
-  mark = markIn b 46;
-  «yellow_status» = numberAt 1 b 57;
-  «yellow_count» = numberAt 2 b 58;
+  servers = numberAt 1 b atServers;
+  quota = numberAt 2 b atQuota;
+  me = numberAt 1 b atMe;
+  mode = numberAt 1 b atMode;
+  «configuration_status» = numberAt 1 b atConfiguration;
+  «configuration_id» = numberAt 4 b atConfigurationId;
+  «configuration_set» = numberAt 1 b atConfigurationSet;
+  «transitional_status» = numberAt 1 b atTransitional;
+  «transitional_set» = numberAt 1 b atTransitionalSet;
+  states = numberAt 1 b atStates;
+  cpcs = numberAt 1 b atCpcs;
+  come = numberAt 4 b atCome;
+  «queue_length» = numberAt 4 b atQueueLength;
+  «green_length» = numberAt 4 b atGreenLength;
+  numbered = numberAt 2 b atNumbered;
+  «own_count» = numberAt 2 b atOwnCount;
+  «held_count» = numberAt 2 b atHeldCount;
+  attempt = record { 0 = numberAt 4 b atAttempt };
+  last = lastIn b atLast;
+  mark = markIn b atMark;
+  «yellow_status» = numberAt 1 b atYellow;
+  «yellow_count» = numberAt 2 b atYellowCount;
 }
 
--- Its first 19 bytes: sizes, state and configurations.
+-- The first ones: sizes, state and configurations.
 unfoldable pub membershipIn : List ℕ → Membership
 membershipIn b = record {
-  servers = numberAt 1 b 0;
-  quota = numberAt 2 b 1;
-  me = numberAt 1 b 3;
-  mode = numberAt 1 b 4;
-  «configuration_status» = numberAt 1 b 5;
-  «configuration_id» = numberAt 4 b 6;
-  «configuration_set» = numberAt 1 b 10;
-  «transitional_status» = numberAt 1 b 11;
-  «transitional_set» = numberAt 1 b 12;
-  states = numberAt 1 b 13;
-  cpcs = numberAt 1 b 14;
-  come = numberAt 4 b 15;
+  servers = numberAt 1 b atServers;
+  quota = numberAt 2 b atQuota;
+  me = numberAt 1 b atMe;
+  mode = numberAt 1 b atMode;
+  «configuration_status» = numberAt 1 b atConfiguration;
+  «configuration_id» = numberAt 4 b atConfigurationId;
+  «configuration_set» = numberAt 1 b atConfigurationSet;
+  «transitional_status» = numberAt 1 b atTransitional;
+  «transitional_set» = numberAt 1 b atTransitionalSet;
+  states = numberAt 1 b atStates;
+  cpcs = numberAt 1 b atCpcs;
+  come = numberAt 4 b atCome;
 }
 
 unfoldable pub membershipBytes : State → List ℕ
@@ -132,7 +133,7 @@ membershipBytes h =
     ∷ bytesOf 4 (h .come)
     ∷ [])
 
--- The next 18: counts, and the attempt.
+-- The next ones: counts, and the attempt.
 unfoldable pub countsBytes : State → List ℕ
 countsBytes h =
     joined
@@ -144,7 +145,7 @@ countsBytes h =
     ∷ bytesOf 4 (h .attempt .0)
     ∷ [])
 
--- The last 23: last primary and mark, and the yellow list's status and count.
+-- The last ones: last primary and mark, and the yellow list's status and count.
 unfoldable pub standingBytes : State → List ℕ
 standingBytes h = joined (primaryBytes (componentOf (h .last .index) (h .last .attempt) (h .last .set)) ∷ markBytes (markOf (h .mark)) ∷ [])
 

@@ -4,11 +4,78 @@ use Prim.Native.Nat.{ℕ, _+_, _*_, _≤_}
 use mathlib.Core.List.{List, [], _∷_}
 use lib.ListN.{length, take, getD}
 use Rattle.base.specs.Lists.{sum}
+use Rattle.format.specs.Places.{primarySize, markSize, idSize, actionHeadSize, stateHeadSize, mostRetransmission}
 use Rattle.format.specs.Limits.{fewestServers, mostServers, leastQuota, mostQuota, mostPayload, mostHeld}
 
--- The fixed-size fields.
+-- The fixed-size fields: where each begins, behind the one before it. A field that may be absent begins with its status.
+abbrev pub atServers : ℕ
+atServers = 0
+
+abbrev pub atQuota : ℕ
+atQuota = atServers + 1
+
+abbrev pub atMe : ℕ
+atMe = atQuota + 2
+
+abbrev pub atMode : ℕ
+atMode = atMe + 1
+
+abbrev pub atConfiguration : ℕ
+atConfiguration = atMode + 1
+
+abbrev pub atConfigurationId : ℕ
+atConfigurationId = atConfiguration + 1
+
+abbrev pub atConfigurationSet : ℕ
+atConfigurationSet = atConfigurationId + 4
+
+abbrev pub atTransitional : ℕ
+atTransitional = atConfigurationSet + 1
+
+abbrev pub atTransitionalSet : ℕ
+atTransitionalSet = atTransitional + 1
+
+abbrev pub atStates : ℕ
+atStates = atTransitionalSet + 1
+
+abbrev pub atCpcs : ℕ
+atCpcs = atStates + 1
+
+abbrev pub atCome : ℕ
+atCome = atCpcs + 1
+
+abbrev pub atQueueLength : ℕ
+atQueueLength = atCome + 4
+
+abbrev pub atGreenLength : ℕ
+atGreenLength = atQueueLength + 4
+
+abbrev pub atNumbered : ℕ
+atNumbered = atGreenLength + 4
+
+abbrev pub atOwnCount : ℕ
+atOwnCount = atNumbered + 2
+
+abbrev pub atHeldCount : ℕ
+atHeldCount = atOwnCount + 2
+
+abbrev pub atAttempt : ℕ
+atAttempt = atHeldCount + 2
+
+abbrev pub atLast : ℕ
+atLast = atAttempt + 4
+
+abbrev pub atMark : ℕ
+atMark = atLast + primarySize
+
+abbrev pub atYellow : ℕ
+atYellow = atMark + markSize
+
+abbrev pub atYellowCount : ℕ
+atYellowCount = atYellow + 1
+
 abbrev pub headerSize : ℕ
-headerSize = 60
+headerSize = atYellowCount + 2
 
 -- A held request: payload length and payload, filled up with zeros.
 abbrev pub heldSize : ℕ
@@ -16,11 +83,11 @@ heldSize = 1 + mostPayload
 
 -- An action: creator, index, green length, payload length and payload, filled up with zeros.
 abbrev pub slotSize : ℕ
-slotSize = 8 + mostPayload
+slotSize = actionHeadSize + mostPayload
 
 -- A collected State: its record, as it came; what lies behind it is unused.
 unfoldable pub stateSize : (n q : ℕ) → ℕ
-stateSize n q = 40 + 2 * n + 3 * (n * q)
+stateSize n q = stateHeadSize + 2 * n + idSize * (n * q)
 
 -- The sections in their order, and their numbers.
 abbrev pub theHeader : ℕ
@@ -49,10 +116,23 @@ theQueue = 7
 
 unfoldable pub sections : (n q : ℕ) → List ℕ
 sections n q =
-    headerSize ∷ (2 * n) ∷ (4 * n) ∷ (heldSize * mostHeld) ∷ (n * stateSize n q) ∷ (3 * (n * q)) ∷ (slotSize * q) ∷ (slotSize * (n * q)) ∷ []
+    headerSize ∷ (2 * n) ∷ (4 * n) ∷ (heldSize * mostHeld) ∷ (n * stateSize n q) ∷ (idSize * (n * q)) ∷ (slotSize * q) ∷ (slotSize * (n * q)) ∷ []
 
 unfoldable pub sectionSize : (n q k : ℕ) → ℕ
 sectionSize n q k = getD (sections n q) k 0
+
+-- For the most servers and the highest quota: where the States, the yellow ids and the own list begin, and a State's slot.
+abbrev pub mostStatesAt : ℕ
+mostStatesAt = headerSize + 6 * mostServers + heldSize * mostHeld
+
+abbrev pub mostStateSize : ℕ
+mostStateSize = stateHeadSize + 2 * mostServers + idSize * (mostServers * mostQuota)
+
+abbrev pub mostYellowAt : ℕ
+mostYellowAt = mostStatesAt + mostServers * mostStateSize
+
+abbrev pub mostOwnAt : ℕ
+mostOwnAt = mostYellowAt + idSize * (mostServers * mostQuota)
 
 -- Where the section k begins.
 unfoldable pub offset : (n q k : ℕ) → ℕ
@@ -72,10 +152,10 @@ pub record StartRoom (n q : ℕ) (b : List ℕ) : Type 0 where
   pub sizes : SizesIn n q
   pub long : stateLength n q ≤ length b
 
--- The required length of the outgoing buffer: an event puts out at most n × q retransmissions by position and n × q as red, of 65 bytes each at
+-- The required length of the outgoing buffer: an event puts out at most n × q retransmissions by position and n × q as red, of the longest's length at
 -- most; whatever else an event puts out is shorter.
 unfoldable pub outLength : (n q : ℕ) → ℕ
-outLength n q = 130 * (n * q)
+outLength n q = 2 * mostRetransmission * (n * q)
 
 -- "with n or q in the state out of range, shorter than the formula for n 2 and q 1"
 unfoldable pub leastStateLength : ℕ

@@ -4,6 +4,7 @@ ghost use Prim.Native.Nat.{_≤_};
 ghost use lib.ListN.{length};
 ghost use Rattle.base.specs.Patched.{patched};
 ghost use Rattle.engine.specs.Header.{headerIn, membershipIn, membershipBytes, countsBytes, standingBytes, votesBytes, firstBytes, headerWritten};
+ghost use Rattle.engine.specs.Layout.{headerSize, atQueueLength, atLast};
 use record::AttemptIndex;
 use record::State;
 use record::blocks::copy;
@@ -16,7 +17,7 @@ use record::bytes::num32;
 use record::frame::last_at;
 use record::frame::mark_at;
 
-// Bytes 0 to 19: sizes, state and configurations.
+// The first ones: sizes, state and configurations.
 pub struct Membership {
     pub servers: u8,
     pub quota: u16,
@@ -33,28 +34,28 @@ pub struct Membership {
 }
 
 fn load_membership(state: &[u8]) -> Membership
-    requires { ⌜ 60 ≤ length (now state) ⌝ }
+    requires { ⌜ headerSize ≤ length (now state) ⌝ }
     ensures { λ r. ⌜ r ≡ membershipIn (now (state .entry)) ⌝ }
 {
     Membership {
-        servers: num8(state, 0),
-        quota: num16(state, 1),
-        me: num8(state, 3),
-        mode: num8(state, 4),
-        configuration_status: num8(state, 5),
-        configuration_id: num32(state, 6),
-        configuration_set: num8(state, 10),
-        transitional_status: num8(state, 11),
-        transitional_set: num8(state, 12),
-        states: num8(state, 13),
-        cpcs: num8(state, 14),
-        come: num32(state, 15),
+        servers: num8(state, State::AT_SERVERS),
+        quota: num16(state, State::AT_QUOTA),
+        me: num8(state, State::AT_ME),
+        mode: num8(state, State::AT_MODE),
+        configuration_status: num8(state, State::AT_CONFIGURATION),
+        configuration_id: num32(state, State::AT_CONFIGURATION_ID),
+        configuration_set: num8(state, State::AT_CONFIGURATION_SET),
+        transitional_status: num8(state, State::AT_TRANSITIONAL),
+        transitional_set: num8(state, State::AT_TRANSITIONAL_SET),
+        states: num8(state, State::AT_STATES),
+        cpcs: num8(state, State::AT_CPCS),
+        come: num32(state, State::AT_COME),
     }
 }
 
 // The state's numbers at the front of its buffer.
 pub fn load(state: &[u8]) -> State
-    requires { ⌜ 60 ≤ length (now state) ⌝ }
+    requires { ⌜ headerSize ≤ length (now state) ⌝ }
     ensures { λ r. ⌜ r ≡ headerIn (now (state .entry)) ⌝ }
 {
     let m = load_membership(state);
@@ -71,27 +72,27 @@ pub fn load(state: &[u8]) -> State
         states: m.states,
         cpcs: m.cpcs,
         come: m.come,
-        queue_length: num32(state, 19),
-        green_length: num32(state, 23),
-        numbered: num16(state, 27),
-        own_count: num16(state, 29),
-        held_count: num16(state, 31),
-        attempt: AttemptIndex(num32(state, 33)),
-        last: last_at(state, 37),
-        mark: mark_at(state, 46),
-        yellow_status: num8(state, 57),
-        yellow_count: num16(state, 58),
+        queue_length: num32(state, State::AT_QUEUE_LENGTH),
+        green_length: num32(state, State::AT_GREEN_LENGTH),
+        numbered: num16(state, State::AT_NUMBERED),
+        own_count: num16(state, State::AT_OWN_COUNT),
+        held_count: num16(state, State::AT_HELD_COUNT),
+        attempt: AttemptIndex(num32(state, State::AT_ATTEMPT)),
+        last: last_at(state, State::AT_LAST),
+        mark: mark_at(state, State::AT_MARK),
+        yellow_status: num8(state, State::AT_YELLOW),
+        yellow_count: num16(state, State::AT_YELLOW_COUNT),
     }
 }
 
 fn save_membership(state: &mut [u8], h: State)
-    requires { ⌜ 60 ≤ length (now state) ⌝ }
+    requires { ⌜ headerSize ≤ length (now state) ⌝ }
     ensures { λ _. ⌜ now (state .exit) ≡ patched 0 (membershipBytes h) (now (state .entry)) ⌝ }
 {
     let quota = h.quota;
     let id = h.configuration_id;
     let come = h.come;
-    let b: [u8; 19] = [
+    let b: [u8; State::AT_QUEUE_LENGTH] = [
         h.servers,
         (quota / 256 % 256) as u8,
         (quota % 256) as u8,
@@ -115,10 +116,10 @@ fn save_membership(state: &mut [u8], h: State)
     copy(state, 0, &b);
 }
 
-// Bytes 19 to 37.
+// Counts, and the attempt.
 fn save_counts(state: &mut [u8], h: State)
-    requires { ⌜ 60 ≤ length (now state) ⌝ }
-    ensures { λ _. ⌜ now (state .exit) ≡ patched 19 (countsBytes h) (now (state .entry)) ⌝ }
+    requires { ⌜ headerSize ≤ length (now state) ⌝ }
+    ensures { λ _. ⌜ now (state .exit) ≡ patched atQueueLength (countsBytes h) (now (state .entry)) ⌝ }
 {
     let queue = h.queue_length;
     let green = h.green_length;
@@ -126,7 +127,7 @@ fn save_counts(state: &mut [u8], h: State)
     let own = h.own_count;
     let held = h.held_count;
     let attempt = h.attempt.0;
-    let b: [u8; 18] = [
+    let b: [u8; State::AT_LAST - State::AT_QUEUE_LENGTH] = [
         (queue / 16777216 % 256) as u8,
         (queue / 65536 % 256) as u8,
         (queue / 256 % 256) as u8,
@@ -146,30 +147,36 @@ fn save_counts(state: &mut [u8], h: State)
         (attempt / 256 % 256) as u8,
         (attempt % 256) as u8,
     ];
-    copy(state, 19, &b);
+    copy(state, State::AT_QUEUE_LENGTH, &b);
 }
 
-// Bytes 37 to 57.
+// The last primary and the mark.
 fn save_standing(state: &mut [u8], h: State)
-    requires { ⌜ 60 ≤ length (now state) ⌝ }
-    ensures { λ _. ⌜ now (state .exit) ≡ patched 37 (standingBytes h) (now (state .entry)) ⌝ }
+    requires { ⌜ headerSize ≤ length (now state) ⌝ }
+    ensures { λ _. ⌜ now (state .exit) ≡ patched atLast (standingBytes h) (now (state .entry)) ⌝ }
 {
-    put_primary(state, 37, h.last.index, h.last.attempt, h.last.set);
-    put_mark(state, 46, h.mark);
+    put_primary(
+        state,
+        State::AT_LAST,
+        h.last.index,
+        h.last.attempt,
+        h.last.set,
+    );
+    put_mark(state, State::AT_MARK, h.mark);
 }
 
-// Bytes 37 to 60.
+// From the last primary on.
 fn save_votes(state: &mut [u8], h: State)
-    requires { ⌜ 60 ≤ length (now state) ⌝ }
-    ensures { λ _. ⌜ now (state .exit) ≡ patched 37 (votesBytes h) (now (state .entry)) ⌝ }
+    requires { ⌜ headerSize ≤ length (now state) ⌝ }
+    ensures { λ _. ⌜ now (state .exit) ≡ patched atLast (votesBytes h) (now (state .entry)) ⌝ }
 {
     save_standing(state, h);
-    put_yellow_head(state, 57, h.yellow_status, h.yellow_count);
+    put_yellow_head(state, State::AT_YELLOW, h.yellow_status, h.yellow_count);
 }
 
-// Bytes 0 to 37.
+// Up to the last primary.
 fn save_first(state: &mut [u8], h: State)
-    requires { ⌜ 60 ≤ length (now state) ⌝ }
+    requires { ⌜ headerSize ≤ length (now state) ⌝ }
     ensures { λ _. ⌜ now (state .exit) ≡ patched 0 (firstBytes h) (now (state .entry)) ⌝ }
 {
     save_membership(state, h);
@@ -178,7 +185,7 @@ fn save_first(state: &mut [u8], h: State)
 
 // Writes the state's numbers at the front of its buffer.
 pub fn save(state: &mut [u8], h: State)
-    requires { ⌜ 60 ≤ length (now state) ⌝ }
+    requires { ⌜ headerSize ≤ length (now state) ⌝ }
     ensures { λ _. ⌜ now (state .exit) ≡ patched 0 (headerWritten h) (now (state .entry)) ⌝ }
 {
     save_first(state, h);

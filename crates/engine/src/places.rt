@@ -1,10 +1,12 @@
 // Where the sections of the state's buffer begin, by the numbers of servers and the quota.
 ghost use mathlib.Core.Path.{_≡_};
 ghost use Prim.Native.Nat.{_≤_};
-ghost use Rattle.engine.specs.Layout.{SizesIn, stateSize, theNoted, theHeld, theStates, theYellow, theOwn, theQueue, offset};
+ghost use Rattle.engine.specs.Layout.{SizesIn, stateSize, theNoted, theHeld, theStates, theYellow, theOwn, theQueue, offset, mostStatesAt, mostStateSize, mostYellowAt, mostOwnAt};
 use super::sizes::HEADER;
 use super::sizes::HELD;
+use super::sizes::ID;
 use super::sizes::SLOT;
+use super::sizes::STATE_HEAD;
 use super::sizes::product;
 use record::State;
 
@@ -27,7 +29,7 @@ pub fn held_at(n: u32, q: u32) -> u32
 
 pub fn states_at(n: u32, q: u32) -> u32
     requires { ⌜ SizesIn n q ⌝ }
-    ensures { λ r. ⌜ (r ≡ offset n q theStates) × (r ≤ 892) ⌝ }
+    ensures { λ r. ⌜ (r ≡ offset n q theStates) × (r ≤ mostStatesAt) ⌝ }
 {
     CUTS + 6 * n + HELD * State::MOST_HELD as u32
 }
@@ -35,23 +37,23 @@ pub fn states_at(n: u32, q: u32) -> u32
 // A collected State's slot.
 pub fn state_size(n: u32, q: u32) -> u32
     requires { ⌜ SizesIn n q ⌝ }
-    ensures { λ r. ⌜ (r ≡ stateSize n q) × (r ≤ 6200) ⌝ }
+    ensures { λ r. ⌜ (r ≡ stateSize n q) × (r ≤ mostStateSize) ⌝ }
 {
-    40 + 2 * n + 3 * product(n, q)
+    STATE_HEAD + 2 * n + ID * product(n, q)
 }
 
 pub fn yellow_at(n: u32, q: u32) -> u32
     requires { ⌜ SizesIn n q ⌝ }
-    ensures { λ r. ⌜ (r ≡ offset n q theYellow) × (r ≤ 50492) ⌝ }
+    ensures { λ r. ⌜ (r ≡ offset n q theYellow) × (r ≤ mostYellowAt) ⌝ }
 {
     states_at(n, q) + product(n, state_size(n, q))
 }
 
 pub fn own_at(n: u32, q: u32) -> u32
     requires { ⌜ SizesIn n q ⌝ }
-    ensures { λ r. ⌜ (r ≡ offset n q theOwn) × (r ≤ 56636) ⌝ }
+    ensures { λ r. ⌜ (r ≡ offset n q theOwn) × (r ≤ mostOwnAt) ⌝ }
 {
-    yellow_at(n, q) + 3 * product(n, q)
+    yellow_at(n, q) + ID * product(n, q)
 }
 
 pub fn queue_at(n: u32, q: u32) -> u32

@@ -5,13 +5,21 @@ ghost use Rattle.format.specs.Limits.{mostServers};
 ghost use Rattle.format.specs.Range.{sizesOk};
 ghost use Rattle.engine.specs.Layout.{SizesIn, stateLength, outLength};
 use record::State;
+use record::StateHead;
 
-// The fixed-size fields; a held request; an action on the own list or in the queue.
-pub const HEADER: u32 = 60;
+// The fixed-size fields; a held request; an action on the own list or in the queue; an id; a State with no cuts and no ids.
+pub const HEADER: u32 = State::SIZE as u32;
 
-pub const HELD: u32 = 1 + State::MOST_PAYLOAD as u32;
+pub const HELD: u32 = State::HELD as u32;
 
-pub const SLOT: u32 = 8 + State::MOST_PAYLOAD as u32;
+pub const SLOT: u32 = State::SLOT as u32;
+
+pub const ID: u32 = State::ID as u32;
+
+pub const STATE_HEAD: u32 = StateHead::SIZE as u32;
+
+// The longest retransmission of an action by its position, and that of it as red.
+const RESENT: u32 = 2 * State::RETRANSMISSION as u32;
 
 // "Servers: 2 to 8 .. Quota q: 1 to 256"
 pub fn sizes_in(servers: u32, quota: u32) -> bool
@@ -42,8 +50,8 @@ pub fn state_length(n: u32, q: u32) -> u32
     ensures { λ r. ⌜ r ≡ stateLength n q ⌝ }
 {
     let all = product(n, q);
-    let states = product(n, 40 + 2 * n + 3 * all);
-    HEADER + 6 * n + HELD * State::MOST_HELD as u32 + states + 3 * all + SLOT * q + SLOT * all
+    let states = product(n, STATE_HEAD + 2 * n + ID * all);
+    HEADER + 6 * n + HELD * State::MOST_HELD as u32 + states + ID * all + SLOT * q + SLOT * all
 }
 
 // The required length of the outgoing buffer.
@@ -51,5 +59,5 @@ pub fn out_length(n: u32, q: u32) -> u32
     requires { ⌜ SizesIn n q ⌝ }
     ensures { λ r. ⌜ r ≡ outLength n q ⌝ }
 {
-    130 * product(n, q)
+    RESENT * product(n, q)
 }

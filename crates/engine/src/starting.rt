@@ -28,5 +28,5 @@ pub fn begin(state: &mut [u8], servers: u8, quota: u16, me: u8)
 {
     let h = State::start(servers, quota, me);
     save(state, h);
-    clear(state, 60, 6 * servers as usize);
+    clear(state, State::SIZE, 6 * servers as usize);
 }

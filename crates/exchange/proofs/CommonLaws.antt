@@ -31,12 +31,13 @@ use Rattle.exchange.proofs.TableLaws.{table-decides}
 use Rattle.exchange.proofs.RaiseLaws.{ids-read}
 use Rattle.exchange.proofs.SlotLaws.{states-in, states-end}
 use Rattle.exchange.proofs.YellowLaws.{same-servers, voters-states}
+use Rattle.format.specs.Places.{stateHeadSize}
 
 pub common-made : (c : FormatContext) (v : Slots) (b : List ℕ) (k at round r : ℕ) (t o : List ℕ) (x : StateHead)
     → x ≡ headOf v b k → at ≡ slotAt v k
     → round ≡ length (statesFrom v b (v .servers - (k + 1)) (k + 1))
     → t ≡ raisedLists c 0 (replicate {A = ℕ} 2048 0) (statesFrom v b (v .servers - (k + 1)) (k + 1))
-    → Listed r o (filter (isKept c round t) (idsAt (x .«yellow_count») (take (length b - at) (drop at b)) (40 + 2 * v .servers)))
+    → Listed r o (filter (isKept c round t) (idsAt (x .«yellow_count») (take (length b - at) (drop at b)) (stateHeadSize + 2 * v .servers)))
     → Listed r o (keptIds c v b k)
 unfolding keptIds
 common-made c v b k at round r t o x h e f g i =

@@ -19,7 +19,7 @@ use Rattle.replication.specs.Machine.Types.{Configuration, Server, contextOf}
 use Rattle.replication.specs.Machine.Plan.{highest, lowest, resender, planned, isMe, cutIn, greenIn}
 use Rattle.replication.specs.Machine.Exchange.{takenPrimary, takenAttempt, takenYellow, ownMark, quorum, takenVotes}
 use Rattle.replication.specs.Machine.Step.{theSet, hereSet, collected, allStatesIn, allCpcsIn, plannedNow}
-use Rattle.engine.specs.Layout.{stateSize}
+use Rattle.engine.specs.Layout.{stateSize, atMe, atConfigurationSet, atStates, atCpcs}
 use Rattle.engine.specs.Header.{headerOf, headerIn, lastOf, markNumbers, setOf}
 use Rattle.engine.proofs.HeaderLaws.{header-loaded}
 use Rattle.engine.proofs.InPlace.{Holds}
@@ -37,6 +37,7 @@ use Rattle.exchange.proofs.Collected.{collected-slots}
 use Rattle.exchange.proofs.RoomLaws.{all-states-in}
 use Rattle.exchange.proofs.ListLaws.{holds-in-range}
 use Rattle.exchange.proofs.ViewLaws.{context-same}
+use Rattle.format.specs.Places.{stateHeadSize}
 
 -- ---- the header's numbers
 
@@ -46,15 +47,15 @@ set-same none = refl
 set-same (some d) = refl
 
 module _ (s : Server) (b : List ℕ) (h : Holds s b) where
-  own-read : numberAt 1 b 3 ≡ s .me
+  own-read : numberAt 1 b atMe ≡ s .me
   unfolding headerIn headerOf
   own-read = ap (λ (x : Numbers). x .me) (header-loaded s b h)
 
-  here-read : numberAt 1 b 10 ≡ hereSet s
+  here-read : numberAt 1 b atConfigurationSet ≡ hereSet s
   unfolding headerIn headerOf hereSet
   here-read = ap (λ (x : Numbers). x .«configuration_set») (header-loaded s b h) ∙ set-same (s .membership .configuration)
 
-pub states-told : (b : List ℕ) (x y : ℕ) (r : Bool) → x ≡ numberAt 1 b 10 → y ≡ numberAt 1 b 13 → r ≡ inside x y → (s : Server) → Holds s b
+pub states-told : (b : List ℕ) (x y : ℕ) (r : Bool) → x ≡ numberAt 1 b atConfigurationSet → y ≡ numberAt 1 b atStates → r ≡ inside x y → (s : Server) → Holds s b
     → r ≡ allStatesIn s
 unfolding headerIn headerOf
 states-told b x y r e f g s h =
@@ -62,7 +63,7 @@ states-told b x y r e f g s h =
     ∙ ap₂ {A = ℕ} {B = ℕ} {C = Bool} (λ u v. inside u v) (e ∙ here-read s b h) (f ∙ ap (λ (z : Numbers). z .states) (header-loaded s b h))
     ∙ sym (all-states-in s (h .formed))
 
-pub cpcs-told : (b : List ℕ) (x y : ℕ) (r : Bool) → x ≡ numberAt 1 b 10 → y ≡ numberAt 1 b 14 → r ≡ inside x y → (s : Server) → Holds s b
+pub cpcs-told : (b : List ℕ) (x y : ℕ) (r : Bool) → x ≡ numberAt 1 b atConfigurationSet → y ≡ numberAt 1 b atCpcs → r ≡ inside x y → (s : Server) → Holds s b
     → r ≡ allCpcsIn s
 unfolding headerIn headerOf allCpcsIn
 cpcs-told b x y r e f g s h =
@@ -82,21 +83,21 @@ module _ (b : List ℕ) (v : Slots) (seen : Seen v b) where
   unfolding plannedNow
   planned-told r e s h = e ∙ ap₂ {A = ℕ} {B = List State} {C = ℕ} (λ n xs. planned n xs) (servers-seen s h) (states-seen s h)
 
-  pub quorum-told : (here : ℕ) (r : Bool) → here ≡ numberAt 1 b 10 → r ≡ quorum (statesOf v b) here → (s : Server) → Holds s b
+  pub quorum-told : (here : ℕ) (r : Bool) → here ≡ numberAt 1 b atConfigurationSet → r ≡ quorum (statesOf v b) here → (s : Server) → Holds s b
       → r ≡ quorum (collected s) (hereSet s)
   quorum-told here r e g s h =
       g ∙ ap₂ {A = List State} {B = ℕ} {C = Bool} (λ xs m. quorum xs m) (states-seen s h) (e ∙ here-read s b h)
 
-  part-told : (g : State → ℕ) (me : ℕ) (r : Part) → me ≡ numberAt 1 b 3 → r ≡ partOf g me (statesOf v b) → (s : Server) → Holds s b
+  part-told : (g : State → ℕ) (me : ℕ) (r : Part) → me ≡ numberAt 1 b atMe → r ≡ partOf g me (statesOf v b) → (s : Server) → Holds s b
       → r ≡ partOf g (s .me) (collected s)
   part-told g me r e i s h = i ∙ ap₂ {A = ℕ} {B = List State} {C = Part} (λ m xs. partOf g m xs) (e ∙ own-read s b h) (states-seen s h)
 
-  pub green-told : (me : ℕ) (r : Part) → me ≡ numberAt 1 b 3 → r ≡ partOf (numberIn Green) me (statesOf v b) → (s : Server) → Holds s b
+  pub green-told : (me : ℕ) (r : Part) → me ≡ numberAt 1 b atMe → r ≡ partOf (numberIn Green) me (statesOf v b) → (s : Server) → Holds s b
       → r ≡ partOf greenIn (s .me) (collected s)
   unfolding numberIn
   green-told me r e i = part-told greenIn me r e i
 
-  pub red-told : (me c : ℕ) (r : Part) → me ≡ numberAt 1 b 3 → r ≡ partOf (numberIn (Cut c)) me (statesOf v b) → (s : Server) → Holds s b
+  pub red-told : (me c : ℕ) (r : Part) → me ≡ numberAt 1 b atMe → r ≡ partOf (numberIn (Cut c)) me (statesOf v b) → (s : Server) → Holds s b
       → c < s .servers
       → r ≡ partOf (cutIn c) (s .me) (collected s)
   unfolding numberIn
@@ -105,12 +106,12 @@ module _ (b : List ℕ) (v : Slots) (seen : Seen v b) where
   pub red-none : (c : ℕ) (r : Part) → v .servers ≤ c → (s : Server) → Holds s b → c < s .servers → r ≡ partOf (cutIn c) (s .me) (collected s)
   red-none c r l s h k = absurd (omega (arith, servers-seen s h))
 
-  pub votes-none : (me : ℕ) (r : TakenVotes) → me ≡ numberAt 1 b 3 → v .servers ≤ me → (s : Server) → Holds s b
+  pub votes-none : (me : ℕ) (r : TakenVotes) → me ≡ numberAt 1 b atMe → v .servers ≤ me → (s : Server) → Holds s b
       → r ≡ votesNumbers (takenVotes (s .me) (collected s))
   unfolding contextOf
   votes-none me r e l s h = absurd (omega (arith, servers-seen s h, own-read s b h, in-range s (h .formed) .context .own))
 
-  pub votes-told : (me a y : ℕ) (p : LastPrimary) (m : Mark) → me ≡ numberAt 1 b 3 → primaryOf p ≡ takenPrimary (statesOf v b)
+  pub votes-told : (me a y : ℕ) (p : LastPrimary) (m : Mark) → me ≡ numberAt 1 b atMe → primaryOf p ≡ takenPrimary (statesOf v b)
       → markOf m ≡ ownMark me (statesOf v b) (statesOf v b) → a ≡ takenAttempt (statesOf v b) → y ≡ takenYellow (statesOf v b) .status
       → (s : Server) → Holds s b
       → _≡_ {A = TakenVotes} (record { last = p; attempt = record { 0 = a }; mark = m; «yellow_status» = y }) (votesNumbers (takenVotes (s .me) (collected s)))
@@ -119,7 +120,7 @@ module _ (b : List ℕ) (v : Slots) (seen : Seen v b) where
       (λ z. record { last = lastOf (i z); attempt = record { 0 = k z }; mark = markNumbers (j z); «yellow_status» = l z })
       ∙ ap₂ {A = ℕ} {B = List State} {C = TakenVotes} (λ n xs. votesNumbers (takenVotes n xs)) (e ∙ own-read s b h) (states-seen s h)
 
-  pub yellow-none : (n r : ℕ) (o : List ℕ) → n < v .size - (40 + 2 * v .servers) → (s : Server) → Holds s b → 3 * (s .servers * s .quota) ≤ n
+  pub yellow-none : (n r : ℕ) (o : List ℕ) → n < v .size - (stateHeadSize + 2 * v .servers) → (s : Server) → Holds s b → 3 * (s .servers * s .quota) ≤ n
       → Listed r o (takenYellow (collected s) .ids)
   unfolding slotsIn slotsOf stateSize
   yellow-none n r o l s h k =

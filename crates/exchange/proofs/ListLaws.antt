@@ -22,6 +22,7 @@ use Rattle.exchange.specs.Slots.{Space, slotsOf, slotAt, stateIn}
 use Rattle.exchange.specs.Table.{ListInside, ListsInside, ListsShort, ListsInRange}
 use Rattle.exchange.proofs.SlotLaws.{slot-inside}
 use Rattle.exchange.proofs.RoomLaws.{state-there, holds-room}
+use Rattle.format.specs.Places.{stateHeadSize}
 
 module _ (s : Server) (b : List ℕ) (h : Holds s b) where
   in-slot : (k : ℕ) → k < s .servers → inSet k (senders 0 (s .membership .states)) ≡ true → StateRange (contextOf s) (stateIn (slotsIn s) b k)
@@ -49,6 +50,6 @@ pub own-inside : (v : Slots) (b : List ℕ) → Space v b → AllOwn v b → Lis
 unfolding ListsInside ListInside AllOwn OwnIfMeant slotAt
 own-inside v b r f k l t = omega (arith, f k l t .fits, slot-inside v b k r l)
 
-pub own-short : (v : Slots) (b : List ℕ) (n : ℕ) → AllOwn v b → v .size - (40 + 2 * v .servers) ≤ n → ListsShort v b n
+pub own-short : (v : Slots) (b : List ℕ) (n : ℕ) → AllOwn v b → v .size - (stateHeadSize + 2 * v .servers) ≤ n → ListsShort v b n
 unfolding ListsShort AllOwn OwnIfMeant
 own-short v b n f h k l t = omega (arith, f k l t .fits)

@@ -26,6 +26,7 @@ use Rattle.exchange.specs.Table.{raised, raisedAll, raisedLists, ListIns
 use Rattle.exchange.proofs.SlotLaws.{states-in, states-out, states-end}
 use Rattle.exchange.proofs.ReadLaws.{state-stands}
 use Rattle.exchange.proofs.TableLaws.{raised-length, raised-all-length}
+use Rattle.format.specs.Places.{stateHeadSize, stateCutsAt, standingSize}
 
 -- ---- one id
 
@@ -73,24 +74,24 @@ rest-whole : (b : List ℕ) (at : ℕ) → take (length b - at) (drop at b) ≡ 
 rest-whole b at = take-all (length b - at) (drop at b) (omega (arith, length-drop at b))
 
 pub ids-read : (v : Slots) (b : List ℕ) (k at : ℕ) (x : StateHead) → x ≡ headOf v b k → at ≡ slotAt v k
-    → idsAt (x .«yellow_count») (take (length b - at) (drop at b)) (40 + 2 * v .servers) ≡ stateIn v b k .yellow .ids
+    → idsAt (x .«yellow_count») (take (length b - at) (drop at b)) (stateHeadSize + 2 * v .servers) ≡ stateIn v b k .yellow .ids
 unfolding stateOf
 ids-read v b k at x h e =
-    let z : 40 + 2 * v .servers ≡ 9 + 2 * v .servers + 31 = omega arith in
+    let z : stateHeadSize + 2 * v .servers ≡ stateCutsAt + 2 * v .servers + standingSize = omega arith in
     (λ i. idsAt (x .«yellow_count») ((rest-whole b at ∙ ap (λ (p : ℕ). drop p b) e) i) (z i))
     ∙ ap (λ (s : State). s .yellow .ids) (state-stands v b k x h)
 
 pub slot-raised : (c : FormatContext) (r : ℕ) (t u : List ℕ) (v : Slots) (b : List ℕ) (k at : ℕ) (x : StateHead)
     → x ≡ headOf v b k → at ≡ slotAt v k
-    → u ≡ raisedAll c r t (idsAt (x .«yellow_count») (take (length b - at) (drop at b)) (40 + 2 * v .servers))
+    → u ≡ raisedAll c r t (idsAt (x .«yellow_count») (take (length b - at) (drop at b)) (stateHeadSize + 2 * v .servers))
     → u ≡ raisedAll c r t (stateIn v b k .yellow .ids)
 slot-raised c r t u v b k at x h e i = i ∙ ap (raisedAll c r t) (ids-read v b k at x h e)
 
 pub slot-list-inside : (v : Slots) (b : List ℕ) (k at : ℕ) (x : StateHead) → x ≡ headOf v b k → at ≡ slotAt v k → ListInside v b k
-    → 40 + 2 * v .servers + 3 * x .«yellow_count» ≤ length (take (length b - at) (drop at b))
+    → stateHeadSize + 2 * v .servers + 3 * x .«yellow_count» ≤ length (take (length b - at) (drop at b))
 unfolding ListInside
 slot-list-inside v b k at x h e i =
-    let n : length (stateIn v b k .yellow .ids) ≡ x .«yellow_count» = ap length (sym (ids-read v b k at x h e)) ∙ ids-number (x .«yellow_count») _ (40 + 2 * v .servers) in
+    let n : length (stateIn v b k .yellow .ids) ≡ x .«yellow_count» = ap length (sym (ids-read v b k at x h e)) ∙ ids-number (x .«yellow_count») _ (stateHeadSize + 2 * v .servers) in
     omega (arith, i, n, e, ap length (rest-whole b at), length-drop at b)
 
 pub raised-still : (c : FormatContext) (r : ℕ) (t u : List ℕ) (d : Id) → length t ≡ 2048 → u ≡ raised c r t d → length u ≡ 2048
@@ -182,5 +183,5 @@ table-still c t u ys h e = ap length e ∙ raised-lists-length c 0 t ys ∙ h
 pub list-short : (v : Slots) (b : List ℕ) (k n : ℕ) (x : StateHead) → x ≡ headOf v b k → 3 * length (stateIn v b k .yellow .ids) ≤ n
     → 3 * x .«yellow_count» ≤ n
 list-short v b k n x h l =
-    let m : length (stateIn v b k .yellow .ids) ≡ x .«yellow_count» = ap length (sym (ids-read v b k (slotAt v k) x h refl)) ∙ ids-number (x .«yellow_count») _ (40 + 2 * v .servers) in
+    let m : length (stateIn v b k .yellow .ids) ≡ x .«yellow_count» = ap length (sym (ids-read v b k (slotAt v k) x h refl)) ∙ ids-number (x .«yellow_count») _ (stateHeadSize + 2 * v .servers) in
     omega arith

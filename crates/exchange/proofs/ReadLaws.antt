@@ -21,6 +21,7 @@ use Rattle.exchange.specs.declared.plan.Number.the-variants.{Green, Atte
 use Rattle.exchange.specs.Slots.{Space, slotAt, stateIn, headOf}
 use Rattle.exchange.specs.Numbers.{numberIn, Within}
 use Rattle.exchange.proofs.SlotLaws.{slot-inside}
+use Rattle.format.specs.Places.{stateCutsAt, standingSize}
 
 pub place-made : (v : Slots) (b : List ℕ) (k : ℕ) → Space v b → k < v .servers
     → (v .at + k * v .size ≡ slotAt v k) × (v .at + k * v .size + v .size ≤ length b)
@@ -28,27 +29,27 @@ unfolding slotAt
 place-made v b k r h = (refl, slot-inside v b k r h)
 
 pub head-made : (v : Slots) (b : List ℕ) (k at : ℕ) (x : StateHead) → at ≡ slotAt v k
-    → x ≡ headIn (v .servers) (take (length b - at) (drop at b)) (9 + 2 * v .servers)
+    → x ≡ headIn (v .servers) (take (length b - at) (drop at b)) (stateCutsAt + 2 * v .servers)
     → x ≡ headOf v b k
 unfolding headOf
 head-made v b k at x e h =
     let whole : take (length b - at) (drop at b) ≡ drop at b = take-all (length b - at) (drop at b) (omega (arith, length-drop at b)) in
-    h ∙ ap (λ (l : List ℕ). headIn (v .servers) l (9 + 2 * v .servers)) (whole ∙ ap (λ (i : ℕ). drop i b) e)
+    h ∙ ap (λ (l : List ℕ). headIn (v .servers) l (stateCutsAt + 2 * v .servers)) (whole ∙ ap (λ (i : ℕ). drop i b) e)
 
 -- The numbers and lists in the slot k stand for its State.
 pub state-stands : (v : Slots) (b : List ℕ) (k : ℕ) (x : StateHead) → x ≡ headOf v b k
-    → stateOf x (drop (slotAt v k) b) 9 (drop (slotAt v k) b) (9 + 2 * v .servers + 31) ≡ stateIn v b k
+    → stateOf x (drop (slotAt v k) b) 9 (drop (slotAt v k) b) (stateCutsAt + 2 * v .servers + standingSize) ≡ stateIn v b k
 unfolding headOf stateIn stateFrom
 state-stands v b k x h = rw h (state-is (v .servers) (drop (slotAt v k) b))
 
 -- ---- numbers
 
-pub cut-read : (v : Slots) (b : List ℕ) (k c at x : ℕ) → c < v .servers → at ≡ slotAt v k → x ≡ numberAt 2 b (at + 9 + 2 * c)
+pub cut-read : (v : Slots) (b : List ℕ) (k c at x : ℕ) → c < v .servers → at ≡ slotAt v k → x ≡ numberAt 2 b (at + stateCutsAt + 2 * c)
     → x ≡ cutIn c (stateIn v b k)
 unfolding cutIn stateIn stateAt
 cut-read v b k c at x h e i =
-    let z : at + 9 + 2 * c ≡ at + (9 + 2 * c) = omega arith in
-    i ∙ ap (numberAt 2 b) z ∙ sym (number-drop 2 b at (9 + 2 * c)) ∙ ap (λ (p : ℕ). numberAt 2 (drop p b) (9 + 2 * c)) e
+    let z : at + stateCutsAt + 2 * c ≡ at + (stateCutsAt + 2 * c) = omega arith in
+    i ∙ ap (numberAt 2 b) z ∙ sym (number-drop 2 b at (stateCutsAt + 2 * c)) ∙ ap (λ (p : ℕ). numberAt 2 (drop p b) (stateCutsAt + 2 * c)) e
     ∙ sym (numbers-at 2 (v .servers) (drop (slotAt v k) b) 9 c h)
 
 pub green-read : (v : Slots) (b : List ℕ) (k : ℕ) (x : StateHead) (f : Number) → f ≡ Green → x ≡ headOf v b k

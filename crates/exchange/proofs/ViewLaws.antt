@@ -24,7 +24,7 @@ use Rattle.record.specs.declared.Context.{Context}
 use Rattle.record.specs.declared.State.{State as Numbers}
 use Rattle.record.specs.declared.StateHead.{StateHead}
 use Rattle.replication.specs.Machine.Types.{Configuration, Server, contextOf, setOf}
-use Rattle.engine.specs.Layout.{stateSize, sections, offset, stateLength}
+use Rattle.engine.specs.Layout.{stateSize, sections, offset, stateLength, headerSize}
 use Rattle.engine.specs.Header.{headerOf, headerIn, statusOf, setOf as setNumber}
 use Rattle.engine.proofs.HeaderLaws.{header-loaded}
 use Rattle.engine.proofs.InPlace.{Holds}
@@ -36,6 +36,7 @@ use Rattle.exchange.specs.View.{noSlots, slotsIn, Own, OwnIfMeant, AllOw
 use Rattle.exchange.proofs.MarkLaws.{sender-read}
 use Rattle.exchange.proofs.RaiseLaws.{ids-read}
 use Rattle.exchange.proofs.ListLaws.{holds-own}
+use Rattle.format.specs.Places.{stateHeadSize}
 
 pub byte-past : (b : List ℕ) (at : ℕ) → length b ≤ at → 0 ≡ numberAt 1 b at
 byte-past b at h = sym (number1 b at ∙ List·getD-eq-default b 0 h)
@@ -52,12 +53,12 @@ module _ (v : Slots) (b : List ℕ) (k : ℕ) (t : Bool) (x : StateHead) (e : t 
   own-other n =
       record { yes = λ z. not-both z; no = λ f. absurd (n (sym (sender-read v b k x i) ∙ f (sym e ∙ not-false t h) .sender)) }
 
-  pub own-told : x .sender ≡ k → Tells (leb (40 + 2 * v .servers + 3 * x .«yellow_count») (v .size)) (OwnIfMeant v b k)
+  pub own-told : x .sender ≡ k → Tells (leb (stateHeadSize + 2 * v .servers + 3 * x .«yellow_count») (v .size)) (OwnIfMeant v b k)
   unfolding OwnIfMeant
   own-told same =
       let many : length (stateIn v b k .yellow .ids) ≡ x .«yellow_count» =
-      ap length (sym (ids-read v b k (slotAt v k) x i refl)) ∙ ids-number (x .«yellow_count») _ (40 + 2 * v .servers) in
-      let told = told-le (40 + 2 * v .servers + 3 * x .«yellow_count») (v .size) in
+      ap length (sym (ids-read v b k (slotAt v k) x i refl)) ∙ ids-number (x .«yellow_count») _ (stateHeadSize + 2 * v .servers) in
+      let told = told-le (stateHeadSize + 2 * v .servers + 3 * x .«yellow_count») (v .size) in
       record {
         yes = λ z m. record { sender = sender-read v b k x i ∙ same; fits = omega (arith, many, le-holds _ _ (sym told ∙ z)) };
         no = λ f. told ∙ le-yes _ _ (omega (arith, many, f (sym e ∙ not-false t h) .fits));
@@ -103,7 +104,7 @@ none-seen b f =
 unseen : (r : Slots) (b : List ℕ) → r ≡ noSlots → ((s : Server) → Holds s b → ⊥) → Seen r b
 unseen r b e f = subst (λ (v : Slots). Seen v b) (sym e) (none-seen b f)
 
-pub unseen-short : (r : Slots) (b : List ℕ) → length b < 60 → r ≡ noSlots → Seen r b
+pub unseen-short : (r : Slots) (b : List ℕ) → length b < headerSize → r ≡ noSlots → Seen r b
 unfolding stateLength sections sum
 unseen-short r b h e = unseen r b e (λ s i. omega (arith, i .long))
 
@@ -159,7 +160,7 @@ context-same s = λ i. record { servers = s .servers; quota = s .quota; self = s
 unread : (c : Context) (b : List ℕ) → ContextIn c → ((s : Server) → Holds s b → ⊥) → SeenContext c b
 unread c b i f = record { range = i; held = λ s h. absurd (f s h) }
 
-pub unread-short : (c : Context) (b : List ℕ) → length b < 60 → ContextIn c → SeenContext c b
+pub unread-short : (c : Context) (b : List ℕ) → length b < headerSize → ContextIn c → SeenContext c b
 unfolding stateLength sections sum
 unread-short c b h i = unread c b i (λ s k. omega (arith, k .long))
 

@@ -14,6 +14,7 @@ use Rattle.record.specs.Events.{headIn}
 use Rattle.record.specs.declared.StateHead.{StateHead}
 use Rattle.engine.specs.Layout.{stateSize, theStates, offset}
 use Rattle.exchange.specs.declared.slots.Slots.{Slots}
+use Rattle.format.specs.Places.{stateHeadSize, stateCutsAt}
 
 -- The slots of a state with n servers and the quota q; `here` is the set of the senders whose State is in.
 unfoldable pub slotsOf : (n q here : ℕ) → Slots
@@ -33,7 +34,7 @@ stateIn v b k = stateAt (v .servers) (drop (slotAt v k) b)
 
 -- Its numbers, as the code reads them.
 unfoldable pub headOf : Slots → List ℕ → ℕ → StateHead
-headOf v b k = headIn (v .servers) (drop (slotAt v k) b) (9 + 2 * v .servers)
+headOf v b k = headIn (v .servers) (drop (slotAt v k) b) (stateCutsAt + 2 * v .servers)
 
 -- The States of the m slots from k on, of the senders that are meant.
 unfoldable pub statesFrom : Slots → List ℕ → (m k : ℕ) → List State
@@ -46,7 +47,7 @@ statesOf v b = statesFrom v b (v .servers) 0
 -- The slots lie in the buffer, and a State's fixed parts fit in one.
 pub record Space (v : Slots) (b : List ℕ) : Type 0 where
   pub servers : v .servers ≤ mostServers
-  pub long : 40 + 2 * v .servers ≤ v .size
+  pub long : stateHeadSize + 2 * v .servers ≤ v .size
   pub inside : v .at + v .servers * v .size ≤ length b
 
 -- And each State that is meant is its server's.

@@ -14,6 +14,7 @@ use Rattle.format.specs.Write.{idsBytes}
 use Rattle.record.specs.Values.{slot}
 use Rattle.exchange.specs.declared.slots.Slots.{Slots}
 use Rattle.exchange.specs.Slots.{slotAt, stateIn, statesFrom}
+use Rattle.format.specs.Places.{stateHeadSize}
 
 -- An id of the list after r others: its place is raised to r + 1 if it is at r.
 unfoldable pub raised : Context → ℕ → List ℕ → Id → List ℕ
@@ -30,7 +31,7 @@ raisedLists c r t (y ∷ ys) = raisedLists c (r + 1) (raisedAll c r t (y .yellow
 
 -- The yellow list in the slot k lies in the buffer.
 unfoldable pub ListInside : Slots → List ℕ → ℕ → Type 0
-ListInside v b k = slotAt v k + (40 + 2 * v .servers + 3 * length (stateIn v b k .yellow .ids)) ≤ length b
+ListInside v b k = slotAt v k + (stateHeadSize + 2 * v .servers + 3 * length (stateIn v b k .yellow .ids)) ≤ length b
 
 -- Those of the senders that are meant lie in it.
 unfoldable pub ListsInside : Slots → List ℕ → Type 0

@@ -14,10 +14,11 @@ use Rattle.engine.specs.Header.{headerOf}
 use Rattle.engine.proofs.InPlace.{Holds}
 use Rattle.exchange.specs.declared.slots.Slots.{Slots}
 use Rattle.exchange.specs.Slots.{Room, slotsOf, stateIn}
+use Rattle.format.specs.Places.{stateHeadSize}
 
 -- Slots of no server.
 unfoldable pub noSlots : Slots
-noSlots = record { servers = 0; size = 40; at = 0; here = 0 }
+noSlots = record { servers = 0; size = stateHeadSize; at = 0; here = 0 }
 
 -- The slots of a buffer that holds s.
 unfoldable pub slotsIn : Server → Slots
@@ -26,7 +27,7 @@ slotsIn s = slotsOf (s .servers) (s .quota) (senders 0 (s .membership .states))
 -- The State in the slot k is its server's, and its yellow list fits in the slot.
 pub record Own (v : Slots) (b : List ℕ) (k : ℕ) : Type 0 where
   pub sender : stateIn v b k .sender ≡ k
-  pub fits : 40 + 2 * v .servers + 3 * length (stateIn v b k .yellow .ids) ≤ v .size
+  pub fits : stateHeadSize + 2 * v .servers + 3 * length (stateIn v b k .yellow .ids) ≤ v .size
 
 unfoldable pub OwnIfMeant : Slots → List ℕ → ℕ → Type 0
 OwnIfMeant v b k = inSet k (v .here) ≡ true → Own v b k

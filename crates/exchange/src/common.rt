@@ -18,6 +18,7 @@ use crate::slots::place;
 use crate::table::raise_lists;
 use crate::yellow::yellow_voters;
 use record::Context;
+use record::StateHead;
 use record::bytes::num8;
 use record::bytes::num16;
 use record::lists::PLACES;
@@ -98,7 +99,7 @@ fn common(c: Context, v: Slots, state: &[u8], start: usize, out: &mut [u8]) -> u
     keep(
         c,
         &state[at..],
-        40 + 2 * v.servers,
+        StateHead::SIZE + 2 * v.servers,
         x.yellow_count as usize,
         round,
         &table,

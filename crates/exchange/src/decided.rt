@@ -31,6 +31,7 @@ use record::AttemptIndex;
 use record::LastPrimary;
 use record::Mark;
 use record::PrimaryIndex;
+use record::StateHead;
 
 // The votes that the States decide, but the yellow ids.
 pub struct TakenVotes {
@@ -156,7 +157,7 @@ pub fn taken_yellow(state: &[u8], out: &mut [u8]) -> usize
     ensures { λ r. ⌜ ((s : Server) → Holds s (now (state .entry)) → 3 * (s .servers * s .quota) ≤ length (now (out .entry)) → Listed r (now (out .exit)) (takenYellow (collected s) .ids)) ⌝ }
 {
     let v = view(state);
-    if out.len() < v.size - (40 + 2 * v.servers) {
+    if out.len() < v.size - (StateHead::SIZE + 2 * v.servers) {
         return 0;
     }
     let c = context(state);

@@ -12,6 +12,7 @@ use crate::slots::first;
 use crate::slots::has;
 use crate::slots::head;
 use crate::slots::place;
+use record::StateHead;
 use record::bytes::num16;
 
 // A number of a State: green length, attempt, or the cut of one creator.
@@ -27,7 +28,7 @@ pub fn cut(v: Slots, state: &[u8], k: usize, c: usize) -> u16
     ensures { λ r. ⌜ r ≡ cutIn c (stateIn v (now (state .entry)) k) ⌝ }
 {
     let at = place(v, state, k);
-    num16(state, at + 9 + 2 * c)
+    num16(state, at + StateHead::CUTS + 2 * c)
 }
 
 // A number of the State in the slot k.

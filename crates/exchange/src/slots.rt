@@ -67,7 +67,11 @@ pub fn head(v: Slots, state: &[u8], k: usize) -> StateHead
     ensures { λ r. ⌜ r ≡ headOf v (now (state .entry)) k ⌝ }
 {
     let at = place(v, state, k);
-    state_head(&state[at..], v.servers as u8, 9 + 2 * v.servers)
+    state_head(
+        &state[at..],
+        v.servers as u8,
+        StateHead::CUTS + 2 * v.servers,
+    )
 }
 
 // The first slot that is meant.

@@ -15,6 +15,7 @@ use crate::slots::has;
 use crate::slots::head;
 use crate::slots::place;
 use record::Context;
+use record::StateHead;
 use record::lists::PLACES;
 use record::lists::place_at;
 
@@ -55,7 +56,7 @@ fn raise_slot(c: Context, v: Slots, state: &[u8], k: usize, round: u8, table: &m
     raise_list(
         c,
         &state[at..],
-        40 + 2 * v.servers,
+        StateHead::SIZE + 2 * v.servers,
         x.yellow_count as usize,
         round,
         table,

@@ -13,6 +13,8 @@ use engine::header::load;
 use engine::sizes::sizes_in;
 use engine::sizes::state_length;
 use record::Context;
+use record::State;
+use record::StateHead;
 use record::bytes::num8;
 
 // The byte at `at`, and 0 past the end.
@@ -30,7 +32,7 @@ fn none() -> Slots
 {
     Slots {
         servers: 0,
-        size: 40,
+        size: StateHead::SIZE,
         at: 0,
         here: 0,
     }
@@ -48,7 +50,7 @@ fn own(v: Slots, state: &[u8], k: usize) -> bool
     if x.sender as usize != k {
         return false;
     }
-    40 + 2 * v.servers + 3 * (x.yellow_count as usize) <= v.size
+    StateHead::SIZE + 2 * v.servers + 3 * (x.yellow_count as usize) <= v.size
 }
 
 fn all_own(v: Slots, state: &[u8]) -> bool
@@ -69,7 +71,7 @@ fn all_own(v: Slots, state: &[u8]) -> bool
 pub fn view(state: &[u8]) -> Slots
     ensures { λ r. ⌜ Seen r (now (state .entry)) ⌝ }
 {
-    if state.len() < 60 {
+    if state.len() < State::SIZE {
         return none();
     }
     let h = load(state);
@@ -104,7 +106,7 @@ fn least_context() -> Context
 pub fn context(state: &[u8]) -> Context
     ensures { λ r. ⌜ SeenContext r (now (state .entry)) ⌝ }
 {
-    if state.len() < 60 {
+    if state.len() < State::SIZE {
         return least_context();
     }
     let h = load(state);

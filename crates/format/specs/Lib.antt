@@ -1,4 +1,5 @@
 pub mod Limits
+pub mod Places
 pub mod Types
 pub mod Range
 pub mod Write

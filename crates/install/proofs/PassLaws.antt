@@ -21,7 +21,7 @@ use Rattle.replication.specs.Machine.Colours.{cut}
 use Rattle.replication.specs.Machine.Install.{idsUpTo}
 use Rattle.replication.specs.Machine.WellFormedRanges.{IdFits}
 use Rattle.replication.proofs.WellFormed.Facts.{well-formed-facts}
-use Rattle.engine.specs.Layout.{theYellow, offset}
+use Rattle.engine.specs.Layout.{theYellow, offset, headerSize, atServers, atYellowCount}
 use Rattle.engine.specs.Decode.{decoded}
 use Rattle.queue.proofs.Holding.{numbers}
 use Rattle.queue.proofs.RedLaws.{cut-read}
@@ -69,18 +69,18 @@ module _ (b₀ : List ℕ) (s₀ : HoldsSome b₀) where
   unfolding yellowsIn
   yellow-count = holds-yellow-count (decoded b₀) b₀ (such-decoded _ b₀ s₀)
 
-  yellow-id : (ds : List Id) (t b : List ℕ) (j n p : ℕ) → Turned ds b₀ t b → p ≡ place theYellow b₀ → n ≡ numberAt 2 b₀ 58 → j < n
+  yellow-id : (ds : List Id) (t b : List ℕ) (j n p : ℕ) → Turned ds b₀ t b → p ≡ place theYellow b₀ → n ≡ numberAt 2 b₀ atYellowCount → j < n
       → at (yellowsIn b₀) j ≡ some (idAt b (p + 3 * j))
   unfolding yellowCount
   yellow-id ds t b j n p e f g h =
       let kept = yellow-kept ds t b e in
       let r = such-decoded _ b (e .indexed .holds) in
-      let many : j < numberAt 2 b 58 = omega (arith, holds-yellow-count (decoded b) b r, ap length kept, yellow-count) in
+      let many : j < numberAt 2 b atYellowCount = omega (arith, holds-yellow-count (decoded b) b r, ap length kept, yellow-count) in
       ap (λ (l : List Id). at l j) (sym kept ∙ sym (holds-ids (decoded b) b r))
-      ∙ ids-at (numberAt 2 b 58) b (place theYellow b) j many
+      ∙ ids-at (numberAt 2 b atYellowCount) b (place theYellow b) j many
       ∙ ap (λ (q : ℕ). some (idAt b (q + 3 * j))) (yellow-place ds t b e ∙ sym f)
 
-  pub yellow-in : (ds : List Id) (t b : List ℕ) (j n p : ℕ) → Turned ds b₀ t b → p ≡ place theYellow b₀ → n ≡ numberAt 2 b₀ 58 → j < n
+  pub yellow-in : (ds : List Id) (t b : List ℕ) (j n p : ℕ) → Turned ds b₀ t b → p ≡ place theYellow b₀ → n ≡ numberAt 2 b₀ atYellowCount → j < n
       → InTable (numberAt 1 b (p + 3 * j)) (numberAt 2 b (p + 3 * j + 1))
   unfolding yellowsIn idAt
   yellow-in ds t b j n p e f g h =
@@ -89,7 +89,7 @@ module _ (b₀ : List ℕ) (s₀ : HoldsSome b₀) where
       let fits = each-at (IdFits (v .servers) (v .quota)) (v .votes .yellow .ids) j (idAt b (p + 3 * j)) (facts .votes .yellow .ids) (yellow-id ds t b j n p e f g h) in
       record { creator = omega (arith, facts .sizes .most); least = fits .least; most = omega (arith, facts .sizes .highest) }
 
-  pub yellow-again : (t b t₁ b₁ : List ℕ) (j n p : ℕ) → Turned (take j (yellowsIn b₀)) b₀ t b → p ≡ place theYellow b₀ → n ≡ numberAt 2 b₀ 58 → j < n
+  pub yellow-again : (t b t₁ b₁ : List ℕ) (j n p : ℕ) → Turned (take j (yellowsIn b₀)) b₀ t b → p ≡ place theYellow b₀ → n ≡ numberAt 2 b₀ atYellowCount → j < n
       → Turned (idAt b (p + 3 * j) ∷ []) b t₁ b₁ → Turned (take (j + 1) (yellowsIn b₀)) b₀ t₁ b₁
   yellow-again t b t₁ b₁ j n p e f g h turn =
       let ids : List Id = yellowsIn b₀ in
@@ -98,7 +98,7 @@ module _ (b₀ : List ℕ) (s₀ : HoldsSome b₀) where
       (sym (ap (λ (m : ℕ). take m ids) (add-one j) ∙ take-next ids j d (yellow-id (take j ids) t b j n p e f g h)))
       (turned-append (take j ids) (d ∷ []) b₀ t b t₁ b₁ s₀ e turn)
 
-  pub yellow-end : (t b : List ℕ) (j n : ℕ) → Turned (take j (yellowsIn b₀)) b₀ t b → n ≡ numberAt 2 b₀ 58 → n ≤ j → Turned (yellowsIn b₀) b₀ t b
+  pub yellow-end : (t b : List ℕ) (j n : ℕ) → Turned (take j (yellowsIn b₀)) b₀ t b → n ≡ numberAt 2 b₀ atYellowCount → n ≤ j → Turned (yellowsIn b₀) b₀ t b
   unfolding yellowCount
   yellow-end t b j n e f h = turned-as (take j (yellowsIn b₀)) (yellowsIn b₀) b₀ t b (take-all j (yellowsIn b₀) (omega (arith, yellow-count))) e
 
@@ -109,11 +109,11 @@ unfolding above after
 creator-start b t c r = turned-none b t r
 
 module _ (b₀ : List ℕ) (s₀ : HoldsSome b₀) (c : ℕ) where
-  creator-cut : c < numberAt 1 b₀ 0 → numberAt 2 b₀ (60 + 2 * c) ≡ cut (logIn b₀) c
+  creator-cut : c < numberAt 1 b₀ atServers → numberAt 2 b₀ (headerSize + 2 * c) ≡ cut (logIn b₀) c
   unfolding logIn
   creator-cut h = cut-read (decoded b₀) b₀ c (such-decoded _ b₀ s₀) (omega (arith, numbers (decoded b₀) b₀ (such-decoded _ b₀ s₀) .servers))
 
-  pub creator-in : (k i : ℕ) → c < numberAt 1 b₀ 0 → k ≡ numberAt 2 b₀ (60 + 2 * c) → i < k → InTable c (i + 1)
+  pub creator-in : (k i : ℕ) → c < numberAt 1 b₀ atServers → k ≡ numberAt 2 b₀ (headerSize + 2 * c) → i < k → InTable c (i + 1)
   unfolding logIn
   creator-in k i h e l =
       let facts = well-formed-facts (decoded b₀) (such-decoded _ b₀ s₀ .formed) in
@@ -131,7 +131,7 @@ module _ (b₀ : List ℕ) (s₀ : HoldsSome b₀) (c : ℕ) where
       (sym (ap (map (idOf c)) (above-more 0 i 1 (omega arith)) ∙ map-append (idOf c) (above 0 i) (after i 1)))
       (turned-append (map (idOf c) (above 0 i)) (idOf c (i + 1) ∷ []) b₀ t b t₁ b₁ s₀ e turn)
 
-  pub creator-end : (t b : List ℕ) (k i : ℕ) → c < numberAt 1 b₀ 0 → k ≡ numberAt 2 b₀ (60 + 2 * c) → i ≤ k → k ≤ i
+  pub creator-end : (t b : List ℕ) (k i : ℕ) → c < numberAt 1 b₀ atServers → k ≡ numberAt 2 b₀ (headerSize + 2 * c) → i ≤ k → k ≤ i
       → Turned (map (idOf c) (above 0 i)) b₀ t b
       → Turned (idsOf c b₀) b₀ t b
   unfolding idsOf
@@ -158,11 +158,11 @@ module _ (b₀ : List ℕ) (s₀ : HoldsSome b₀) where
   unfolding logIn
   cuts-kept ds t b e = ap (λ (v : Server). v .log .cuts) (turned-decoded ds b₀ t b s₀ e) ∙ swaps-kept ds ((decoded b₀) .log) .cuts
 
-  cuts-count : length (logIn b₀ .cuts) ≡ numberAt 1 b₀ 0
+  cuts-count : length (logIn b₀ .cuts) ≡ numberAt 1 b₀ atServers
   unfolding logIn
   cuts-count = well-formed-facts (decoded b₀) (such-decoded _ b₀ s₀ .formed) .log .cuts-length ∙ sym (numbers (decoded b₀) b₀ (such-decoded _ b₀ s₀) .servers)
 
-  pub rest-in : (ds : List Id) (t b : List ℕ) (n c : ℕ) → Turned ds b₀ t b → n ≡ numberAt 1 b₀ 0 → c < n → c < numberAt 1 b 0
+  pub rest-in : (ds : List Id) (t b : List ℕ) (n c : ℕ) → Turned ds b₀ t b → n ≡ numberAt 1 b₀ atServers → c < n → c < numberAt 1 b atServers
   rest-in ds t b n c e f h =
       omega (
         arith,
@@ -171,7 +171,7 @@ module _ (b₀ : List ℕ) (s₀ : HoldsSome b₀) where
         ap (λ (v : Server). v .servers) (turned-decoded ds b₀ t b s₀ e),
       )
 
-  pub rest-again : (t b t₁ b₁ : List ℕ) (n c : ℕ) → Turned (idsUpTo 0 (take c (logIn b₀ .cuts))) b₀ t b → n ≡ numberAt 1 b₀ 0 → c < n
+  pub rest-again : (t b t₁ b₁ : List ℕ) (n c : ℕ) → Turned (idsUpTo 0 (take c (logIn b₀ .cuts))) b₀ t b → n ≡ numberAt 1 b₀ atServers → c < n
       → Turned (idsOf c b) b t₁ b₁
       → Turned (idsUpTo 0 (take (c + 1) (logIn b₀ .cuts))) b₀ t₁ b₁
   unfolding idsOf cut
@@ -188,7 +188,7 @@ module _ (b₀ : List ℕ) (s₀ : HoldsSome b₀) where
       turned-as (idsUpTo 0 (take c cuts) ++ idsOf c b) (idsUpTo 0 (take (c + 1) cuts)) b₀ t₁ b₁ (sym last)
       (turned-append (idsUpTo 0 (take c cuts)) (idsOf c b) b₀ t b t₁ b₁ s₀ e turn)
 
-  pub rest-end : (t b : List ℕ) (n c : ℕ) → Turned (idsUpTo 0 (take c (logIn b₀ .cuts))) b₀ t b → n ≡ numberAt 1 b₀ 0 → n ≤ c
+  pub rest-end : (t b : List ℕ) (n c : ℕ) → Turned (idsUpTo 0 (take c (logIn b₀ .cuts))) b₀ t b → n ≡ numberAt 1 b₀ atServers → n ≤ c
       → Turned (idsUpTo 0 (logIn b₀ .cuts)) b₀ t b
   rest-end t b n c e f h =
       turned-as (idsUpTo 0 (take c (logIn b₀ .cuts))) (idsUpTo 0 (logIn b₀ .cuts)) b₀ t b

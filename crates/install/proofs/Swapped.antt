@@ -20,7 +20,7 @@ use Rattle.format.specs.Types.{Id, Action}
 use Rattle.format.specs.Write.{actionBytes}
 use Rattle.replication.specs.Machine.Types.{Log, Server, withLog}
 use Rattle.replication.specs.Machine.WellFormed.{queue}
-use Rattle.engine.specs.Layout.{slotSize, theHeader, theQueue, sections, offset}
+use Rattle.engine.specs.Layout.{slotSize, theHeader, theQueue, sections, offset, atGreenLength}
 use Rattle.engine.specs.Image.{over, slot, headerBytes, actionSlots, section, parts, image}
 use Rattle.engine.proofs.InRange.{in-range}
 use Rattle.engine.proofs.Used.{ActionFits, action-slot-length, action-slots-length}
@@ -153,12 +153,12 @@ module _ (s : Server) (b : List ℕ) (r : Holds s b) (d : Id) (k : Stands d (s .
   same-length : length (queue swappedLog) ≡ length (queue (s .log))
   same-length = ap length queue-after ∙ length-set (set (queue (s .log)) (length (s .log .green)) x) place y ∙ length-set (queue (s .log)) (length (s .log .green)) x
 
-  header-after : patched 23 (bytesOf 4 (length (s .log .green) + 1)) (headerBytes s) ≡ headerBytes (withLog swappedLog s)
+  header-after : patched atGreenLength (bytesOf 4 (length (s .log .green) + 1)) (headerBytes s) ≡ headerBytes (withLog swappedLog s)
   unfolding greenFound sum
   header-after =
       let t : Server = withLog swappedLog s in
       let m : length (s .log .green) + 1 ≡ length (t .log .green) = sym (length-append (s .log .green) (x ∷ [])) in
-      ap (patched 23 (bytesOf 4 (length (s .log .green) + 1))) (header-fields s)
+      ap (patched atGreenLength (bytesOf 4 (length (s .log .green) + 1))) (header-fields s)
       ∙ field-changed (fields s) theGreenCount (bytesOf 4 (length (s .log .green) + 1)) (fields-sized s) (omega arith) (bytes-length 4 _)
       ∙ ap₂ {A = ℕ} {B = ℕ} {C = List ℕ} (λ i j. joined (set (set (fields s) theGreenCount (bytesOf 4 i)) theQueueCount (bytesOf 4 j))) m (sym same-length)
       ∙ sym (header-fields t)
@@ -227,9 +227,9 @@ module _ (s : Server) (b : List ℕ) (r : Holds s b) (d : Id) (k : Stands d (s .
       let room : length (queue (s .log)) ≤ s .servers * s .quota = in-range s (r .formed) .queueCount in
       let c₁ = changed-at ws _ b b (holds-changed s b r) theQueue (slotSize * g) (p + slotSize * g) a refl (omega arith) (omega (arith, action-slot-length x x-fits, y-low)) in
       let c₂ = changed-at ws _ b (patched (p + slotSize * g) a b) c₁ theQueue (slotSize * place) (p + slotSize * place) c refl (omega arith) (omega (arith, action-slot-length y y-fits, x-low)) in
-      let c₃ = changed-at ws _ b (patched (p + slotSize * place) c (patched (p + slotSize * g) a b)) c₂ theHeader 23 23 (bytesOf 4 (g + 1)) refl (omega arith) (omega (arith, bytes-length 4 (g + 1))) in
-      (λ i. patched 23 (bytesOf 4 (n .green i + 1)) (exchanged (offset (n .servers i) (n .quota i) theQueue + slotSize * n .green i) (offset (n .servers i) (n .quota i) theQueue + slotSize * place) b))
-      ∙ ap₂ {A = List ℕ} {B = List ℕ} {C = List ℕ} (λ u v. patched 23 (bytesOf 4 (g + 1)) (patched (p + slotSize * place) u (patched (p + slotSize * g) v b))) (slot-part g y y-fits y-at)
+      let c₃ = changed-at ws _ b (patched (p + slotSize * place) c (patched (p + slotSize * g) a b)) c₂ theHeader atGreenLength atGreenLength (bytesOf 4 (g + 1)) refl (omega arith) (omega (arith, bytes-length 4 (g + 1))) in
+      (λ i. patched atGreenLength (bytesOf 4 (n .green i + 1)) (exchanged (offset (n .servers i) (n .quota i) theQueue + slotSize * n .green i) (offset (n .servers i) (n .quota i) theQueue + slotSize * place) b))
+      ∙ ap₂ {A = List ℕ} {B = List ℕ} {C = List ℕ} (λ u v. patched atGreenLength (bytesOf 4 (g + 1)) (patched (p + slotSize * place) u (patched (p + slotSize * g) v b))) (slot-part g y y-fits y-at)
       (slot-part place x x-fits x-at)
       ∙ log-image s swappedLog b _ _ _ _ _ c₃ header-after refl refl (section-after (section (s .servers) (s .quota) theQueue b))
       ∙ ap (λ (l : Log). image (withLog l s) b) (sym swap-as)
@@ -240,8 +240,8 @@ pub exchange-made : (s x y s₁ s₂ : List ℕ) (i j : ℕ) → x ≡ partAt sl
 unfolding exchanged
 exchange-made s x y s₁ s₂ i j e f g h = h ∙ (λ t. patched j (e t) (g t)) ∙ (λ t. patched j (partAt slotSize s i) (patched i (f t) s))
 
-pub green-at-made : (s s₁ s₂ : List ℕ) (green p k : ℕ) → green ≡ numberAt 4 s 23 → p ≡ queueAt s → s₁ ≡ exchanged (p + slotSize * green) (p + slotSize * k) s
-    → s₂ ≡ patched 23 (bytesOf 4 (green + 1)) s₁ → s₂ ≡ greenAt k s
+pub green-at-made : (s s₁ s₂ : List ℕ) (green p k : ℕ) → green ≡ numberAt 4 s atGreenLength → p ≡ queueAt s → s₁ ≡ exchanged (p + slotSize * green) (p + slotSize * k) s
+    → s₂ ≡ patched atGreenLength (bytesOf 4 (green + 1)) s₁ → s₂ ≡ greenAt k s
 unfolding greenAt
 green-at-made s s₁ s₂ green p k e f g h =
-    h ∙ ap (patched 23 (bytesOf 4 (green + 1))) g ∙ (λ t. patched 23 (bytesOf 4 (e t + 1)) (exchanged (f t + slotSize * e t) (f t + slotSize * k) s))
+    h ∙ ap (patched atGreenLength (bytesOf 4 (green + 1))) g ∙ (λ t. patched atGreenLength (bytesOf 4 (e t + 1)) (exchanged (f t + slotSize * e t) (f t + slotSize * k) s))

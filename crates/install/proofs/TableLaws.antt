@@ -23,7 +23,7 @@ use Rattle.record.specs.Values.{idOf, slot}
 use Rattle.record.proofs.OnePass.{Small, slot-lt, other-slot}
 use Rattle.replication.specs.Machine.Types.{Server, contextOf}
 use Rattle.replication.specs.Machine.WellFormed.{queue, idsIn}
-use Rattle.engine.specs.Layout.{slotSize}
+use Rattle.engine.specs.Layout.{slotSize, atQueueLength, atGreenLength}
 use Rattle.engine.specs.Decode.{decoded}
 use Rattle.engine.proofs.InRange.{in-range}
 use Rattle.engine.proofs.InPlace.{Holds, HoldsSome, such-decoded, such-header}
@@ -98,10 +98,10 @@ entry-in b k p x y s h e f g =
 pub some-counts : (b : List ℕ) → HoldsSome b → CountsIn b
 some-counts b s = holds-counts (s .state) b (s .holds)
 
-pub count-inside : (b : List ℕ) → HoldsSome b → 19 + 4 ≤ length b
+pub count-inside : (b : List ℕ) → HoldsSome b → atQueueLength + 4 ≤ length b
 count-inside b s = omega (arith, such-header _ b s)
 
-pub green-inside : (b : List ℕ) → HoldsSome b → 23 + 4 ≤ length b
+pub green-inside : (b : List ℕ) → HoldsSome b → atGreenLength + 4 ≤ length b
 green-inside b s = omega (arith, such-header _ b s)
 
 -- ---- filled
@@ -123,7 +123,7 @@ module _ (b : List ℕ) (s : HoldsSome b) where
   unfolding logIn
   queue-count = numbers (decoded b) b (such-decoded _ b s) .queue ∙ queue-parts ((decoded b) .log)
 
-  pub filled-start : (k : ℕ) (t : List ℕ) → k ≡ numberAt 4 b 23 → t ≡ replicate {A = ℕ} 2048 0 → Filled k t b
+  pub filled-start : (k : ℕ) (t : List ℕ) → k ≡ numberAt 4 b atGreenLength → t ≡ replicate {A = ℕ} 2048 0 → Filled k t b
   filled-start k t e f = record {
     counts = some-counts b s;
     size = ap length f ∙ length-replicate {A = ℕ} 2048 0;
@@ -132,7 +132,7 @@ module _ (b : List ℕ) (s : HoldsSome b) where
     right = λ j a h l m. absurd (omega (arith, green-read));
   }
 
-  pub filled-again : (k p n : ℕ) (t : List ℕ) → Filled k t b → n ≡ numberAt 4 b 19 → k < n → p ≡ slot (idAt b (queueAt b + slotSize * k)) → p < 2048
+  pub filled-again : (k p n : ℕ) (t : List ℕ) → Filled k t b → n ≡ numberAt 4 b atQueueLength → k < n → p ≡ slot (idAt b (queueAt b + slotSize * k)) → p < 2048
       → Filled (k + 1) (set t p k) b
   unfolding logIn
   filled-again k p n t f count h e l = record {
@@ -158,7 +158,7 @@ module _ (b : List ℕ) (s : HoldsSome b) where
               let apart : slot (a .id) ≡ p → ⊥ = λ z. slots-apart (decoded b) b (such-decoded _ b s) j k a x m there q (z ∙ here k x refl there) in
               getD-set-other t p (slot (a .id)) k 0 apart ∙ f .right j a low (omega arith) m
 
-  pub filled-end : (k n : ℕ) (t : List ℕ) → Filled k t b → n ≡ numberAt 4 b 19 → n ≤ k → Indexed t b
+  pub filled-end : (k n : ℕ) (t : List ℕ) → Filled k t b → n ≡ numberAt 4 b atQueueLength → n ≤ k → Indexed t b
   unfolding logIn
   filled-end k n t f m h = record {
     holds = s;

@@ -22,7 +22,7 @@ use Rattle.record.specs.Values.{slot}
 use Rattle.replication.specs.Machine.Types.{Log, Server, withLog}
 use Rattle.replication.specs.Machine.WellFormed.{queue}
 use Rattle.replication.proofs.WellFormed.Ids.{same-id-yes, same-id-holds}
-use Rattle.engine.specs.Layout.{slotSize}
+use Rattle.engine.specs.Layout.{slotSize, atQueueLength, atGreenLength}
 use Rattle.engine.specs.Image.{image}
 use Rattle.engine.specs.Decode.{decoded}
 use Rattle.engine.proofs.InPlace.{Holds, such-decoded}
@@ -76,15 +76,15 @@ module _ (t b : List ℕ) (x : Indexed t b) (d : Id) where
   unfolding redPlace
   green-low = omega (arith, green-read b (x .holds))
 
-  pub entry-green : (p k g n : ℕ) → p ≡ slot d → k ≡ getD t p 0 → g ≡ numberAt 4 b 23 → n ≡ numberAt 4 b 19 → k < g → n ≡ redPlace d b
+  pub entry-green : (p k g n : ℕ) → p ≡ slot d → k ≡ getD t p 0 → g ≡ numberAt 4 b atGreenLength → n ≡ numberAt 4 b atQueueLength → k < g → n ≡ redPlace d b
   entry-green p k g n e f i j h =
       j ∙ red-absent (λ m. let z = red-entry m in let w : k ≡ redPlace d b = f ∙ ap (λ (q : ℕ). getD t q 0) e ∙ z .0 in omega (arith, green-low))
 
-  pub entry-past : (p k n : ℕ) → p ≡ slot d → k ≡ getD t p 0 → n ≡ numberAt 4 b 19 → n ≤ k → n ≡ redPlace d b
+  pub entry-past : (p k n : ℕ) → p ≡ slot d → k ≡ getD t p 0 → n ≡ numberAt 4 b atQueueLength → n ≤ k → n ≡ redPlace d b
   entry-past p k n e f j h =
       j ∙ red-absent (λ m. let z = red-entry m in let w : k ≡ redPlace d b = f ∙ ap (λ (q : ℕ). getD t q 0) e ∙ z .0 in omega (arith, z .1))
 
-  pub entry-other : (p k n a : ℕ) (has : Bool) → p ≡ slot d → k ≡ getD t p 0 → n ≡ numberAt 4 b 19 → a ≡ queueAt b
+  pub entry-other : (p k n a : ℕ) (has : Bool) → p ≡ slot d → k ≡ getD t p 0 → n ≡ numberAt 4 b atQueueLength → a ≡ queueAt b
       → has ≡ sameId d (idAt b (a + slotSize * k)) → has ≡ false → n ≡ redPlace d b
   entry-other p k n a has e f j q g h =
       j ∙ red-absent (λ m. let z = red-entry m in
@@ -92,7 +92,7 @@ module _ (t b : List ℕ) (x : Indexed t b) (d : Id) where
       let same : idAt b (a + slotSize * k) ≡ idAt b (queueAt b + slotSize * redPlace d b) = λ i. idAt b (q i + slotSize * w i) in
       not-both (sym h ∙ g ∙ ap (sameId d) same ∙ z .2))
 
-  pub entry-found : (k g n a : ℕ) (has : Bool) → g ≡ numberAt 4 b 23 → g ≤ k → n ≡ numberAt 4 b 19 → k < n → a ≡ queueAt b
+  pub entry-found : (k g n a : ℕ) (has : Bool) → g ≡ numberAt 4 b atGreenLength → g ≤ k → n ≡ numberAt 4 b atQueueLength → k < n → a ≡ queueAt b
       → has ≡ sameId d (idAt b (a + slotSize * k)) → has ≡ true → k ≡ redPlace d b
   unfolding redPlace logIn
   entry-found k g n a has i low j high q e h =
@@ -112,7 +112,7 @@ module _ (t b : List ℕ) (x : Indexed t b) (d : Id) where
 
 -- ---- turned green
 
-pub turned-passed : (t b : List ℕ) (d : Id) (k n : ℕ) → Indexed t b → k ≡ redPlace d b → n ≡ numberAt 4 b 19 → n ≤ k → Turned (d ∷ []) b t b
+pub turned-passed : (t b : List ℕ) (d : Id) (k n : ℕ) → Indexed t b → k ≡ redPlace d b → n ≡ numberAt 4 b atQueueLength → n ≤ k → Turned (d ∷ []) b t b
 unfolding redPlace logIn greenSwaps
 turned-passed t b d k n x e f h = go (swap? d ((decoded b) .log))
   where
@@ -168,8 +168,8 @@ module _ (s : Server) (b : List ℕ) (r : Holds s b) (d : Id) (k : Stands d (s .
       (λ i a h e.
       right-after i a (omega (arith, ap (λ (l : Log). length (l .green)) q, length-append (s .log .green) (k .it ∷ []))) (ap (λ (l : Log). at (queue l) i) (sym q) ∙ e))
 
-pub turned-swapped : (t b t₁ b₁ : List ℕ) (d : Id) (k n g p : ℕ) → Indexed t b → k ≡ redPlace d b → n ≡ numberAt 4 b 19 → k < n
-    → g ≡ numberAt 4 b 23 → p ≡ slot (idAt b (queueAt b + slotSize * g)) → b₁ ≡ greenAt k b → t₁ ≡ set t p k → Turned (d ∷ []) b t₁ b₁
+pub turned-swapped : (t b t₁ b₁ : List ℕ) (d : Id) (k n g p : ℕ) → Indexed t b → k ≡ redPlace d b → n ≡ numberAt 4 b atQueueLength → k < n
+    → g ≡ numberAt 4 b atGreenLength → p ≡ slot (idAt b (queueAt b + slotSize * g)) → b₁ ≡ greenAt k b → t₁ ≡ set t p k → Turned (d ∷ []) b t₁ b₁
 unfolding redPlace logIn greenSwaps
 turned-swapped t b t₁ b₁ d k n g p x e f h i j made stored = go (swap? d ((decoded b) .log))
   where

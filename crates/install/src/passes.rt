@@ -10,6 +10,7 @@ ghost use Rattle.install.specs.Table.{logIn, yellowsIn, idsOf, InTable, 
 use crate::table::PLACES;
 use crate::table::turn_green;
 use lists::yellow::yellow_place;
+use record::State;
 use record::bytes::num8;
 use record::bytes::num16;
 
@@ -29,7 +30,7 @@ pub fn turn_yellow(state: &mut [u8], places: &mut [u16; PLACES])
     ensures { λ _. ⌜ Turned (yellowsIn (now (state .entry))) (now (state .entry)) (now (places .exit)) (now (state .exit)) ⌝ }
 {
     let at = yellow_place(state);
-    let count = num16(state, 58) as usize;
+    let count = num16(state, State::AT_YELLOW_COUNT) as usize;
     let mut j: usize = 0;
     while j < count {
         turn_at(state, places, at + 3 * j);
@@ -42,7 +43,7 @@ fn turn_creator(state: &mut [u8], places: &mut [u16; PLACES], creator: u8)
     requires { ⌜ Indexed (now places) (now state) × (creator < serversOf (now state)) ⌝ }
     ensures { λ _. ⌜ Turned (idsOf creator (now (state .entry))) (now (state .entry)) (now (places .exit)) (now (state .exit)) ⌝ }
 {
-    let cut = num16(state, 60 + 2 * creator as usize);
+    let cut = num16(state, State::SIZE + 2 * creator as usize);
     let mut i: u16 = 0;
     while i < cut {
         turn_green(state, places, creator, i + 1);
@@ -55,7 +56,7 @@ pub fn turn_rest(state: &mut [u8], places: &mut [u16; PLACES])
     requires { ⌜ Indexed (now places) (now state) ⌝ }
     ensures { λ _. ⌜ Turned (idsUpTo 0 (logIn (now (state .entry)) .cuts)) (now (state .entry)) (now (places .exit)) (now (state .exit)) ⌝ }
 {
-    let n = num8(state, 0);
+    let n = num8(state, State::AT_SERVERS);
     let mut c: u8 = 0;
     while c < n {
         turn_creator(state, places, c);

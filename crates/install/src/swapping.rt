@@ -7,6 +7,7 @@ ghost use Rattle.queue.specs.Queue.{queueCount, greenCount, CountsIn};
 ghost use Rattle.install.specs.Swaps.{exchanged, greenAt};
 use queue::places::queue_place;
 use queue::slots::slot_at;
+use record::State;
 use record::blocks::copy;
 use record::bytes::num32;
 use stores::put32;
@@ -27,8 +28,12 @@ pub fn green_at(state: &mut [u8], k: usize)
     requires { ⌜ CountsIn (now state) × (greenCount (now state) ≤ k) × (k < queueCount (now state)) ⌝ }
     ensures { λ _. ⌜ now (state .exit) ≡ greenAt k (now (state .entry)) ⌝ }
 {
-    let green = num32(state, 23);
+    let green = num32(state, State::AT_GREEN_LENGTH);
     let at = queue_place(state);
-    exchange(state, at + 56 * green as usize, at + 56 * k);
-    put32(state, 23, green + 1);
+    exchange(
+        state,
+        at + State::SLOT * green as usize,
+        at + State::SLOT * k,
+    );
+    put32(state, State::AT_GREEN_LENGTH, green + 1);
 }

@@ -32,7 +32,7 @@ pub fn entry_at(state: &[u8], k: usize) -> usize
     requires { ⌜ HoldsSome (now state) × CountsIn (now state) × (k < queueCount (now state)) ⌝ }
     ensures { λ r. ⌜ (r ≡ slot (idAt (now (state .entry)) (queueAt (now (state .entry)) + slotSize * k))) × (r < 2048) ⌝ }
 {
-    let at = queue_place(state) + 56 * k;
+    let at = queue_place(state) + State::SLOT * k;
     entry(num8(state, at), num16(state, at + 1))
 }
 
@@ -42,8 +42,8 @@ pub fn table(state: &[u8]) -> [u16; PLACES]
     ensures { λ r. ⌜ Indexed r (now (state .entry)) ⌝ }
 {
     let mut places: [u16; PLACES] = [0; PLACES];
-    let count = num32(state, 19) as usize;
-    let mut k = num32(state, 23) as usize;
+    let count = num32(state, State::AT_QUEUE_LENGTH) as usize;
+    let mut k = num32(state, State::AT_GREEN_LENGTH) as usize;
     while k < count {
         let p = entry_at(state, k);
         places[p] = k as u16;
@@ -64,14 +64,14 @@ fn red_at(state: &[u8], places: &[u16; PLACES], creator: u8, index: u16) -> usiz
     ensures { λ r. ⌜ (r ≡ redPlace (idOf creator index) (now (state .entry))) × (greenCount (now (state .entry)) ≤ r) ⌝ }
 {
     let k = wide(places[entry(creator, index)]);
-    let count = num32(state, 19) as usize;
-    if k < num32(state, 23) as usize {
+    let count = num32(state, State::AT_QUEUE_LENGTH) as usize;
+    if k < num32(state, State::AT_GREEN_LENGTH) as usize {
         return count;
     }
     if count <= k {
         return count;
     }
-    if has_id(state, queue_place(state) + 56 * k, creator, index) {
+    if has_id(state, queue_place(state) + State::SLOT * k, creator, index) {
         return k;
     }
     count
@@ -83,10 +83,10 @@ pub fn turn_green(state: &mut [u8], places: &mut [u16; PLACES], creator: u8, ind
     ensures { λ _. ⌜ Turned (idOf creator index ∷ []) (now (state .entry)) (now (places .exit)) (now (state .exit)) ⌝ }
 {
     let k = red_at(state, places, creator, index);
-    if num32(state, 19) as usize <= k {
+    if num32(state, State::AT_QUEUE_LENGTH) as usize <= k {
         return;
     }
-    let lowest = entry_at(state, num32(state, 23) as usize);
+    let lowest = entry_at(state, num32(state, State::AT_GREEN_LENGTH) as usize);
     green_at(state, k);
     places[lowest] = k as u16;
 }

@@ -12,7 +12,7 @@ use Rattle.format.specs.Read.{idsAt}
 use Rattle.format.proofs.IdCount.{ids-count}
 use Rattle.record.specs.declared.State.{State}
 use Rattle.replication.specs.Machine.Types.{Server, contextOf}
-use Rattle.engine.specs.Layout.{SizesIn, theHeld, theYellow, theOwn, sections, offset, stateLength}
+use Rattle.engine.specs.Layout.{SizesIn, theHeld, theYellow, theOwn, sections, offset, stateLength, headerSize, atServers, atQuota, atNumbered, atOwnCount, atHeldCount, atYellowCount, slotSize, heldSize}
 use Rattle.engine.specs.Header.{headerOf, headerIn}
 use Rattle.engine.specs.Decode.{serversIn, quotaIn, decoded, decodedAs}
 use Rattle.engine.proofs.InRange.{InRange, in-range}
@@ -76,7 +76,7 @@ module _ (s : Server) (b : List ℕ) (r : Holds s b) where
 -- ---- room behind the last one
 
 module _ (b : List ℕ) (c : CountsIn b) where
-  pub header-room : 60 ≤ length b
+  pub header-room : headerSize ≤ length b
   unfolding stateLength sections sum
   header-room = omega (arith, c .long)
 
@@ -84,11 +84,11 @@ module _ (b : List ℕ) (c : CountsIn b) where
   unfolding place offset stateLength sections sum
   yellow-room = omega (arith, c .long, c .yellow, c .some)
 
-  pub own-room : place theOwn b + (56 * ownCount b + 56) ≤ length b
+  pub own-room : place theOwn b + (slotSize * ownCount b + slotSize) ≤ length b
   unfolding place offset stateLength sections sum
   own-room = omega (arith, c .long, c .own, c .some)
 
-  pub held-room : place theHeld b + (49 * heldCount b + 49) ≤ length b
+  pub held-room : place theHeld b + (heldSize * heldCount b + heldSize) ≤ length b
   unfolding place offset stateLength sections sum
   held-room = omega (arith, c .long, c .held, c .some)
 
@@ -96,11 +96,11 @@ module _ (b : List ℕ) (c : CountsIn b) where
   yellow-inside = omega (arith, yellow-room)
 
 -- The numbers that the code read and computed.
-pub sizes-read : (b : List ℕ) (n q : ℕ) → CountsIn b → n ≡ numberAt 1 b 0 → q ≡ numberAt 2 b 1 → SizesIn n q
+pub sizes-read : (b : List ℕ) (n q : ℕ) → CountsIn b → n ≡ numberAt 1 b atServers → q ≡ numberAt 2 b atQuota → SizesIn n q
 unfolding serversIn quotaIn
 sizes-read b n q c e f = rw (e, f) (c .sizes)
 
-pub place-read : (k : ℕ) (b : List ℕ) (n q at : ℕ) → n ≡ numberAt 1 b 0 → q ≡ numberAt 2 b 1 → at ≡ offset n q k → at ≡ place k b
+pub place-read : (k : ℕ) (b : List ℕ) (n q at : ℕ) → n ≡ numberAt 1 b atServers → q ≡ numberAt 2 b atQuota → at ≡ offset n q k → at ≡ place k b
 unfolding place serversIn quotaIn
 place-read k b n q at e f g = rw (g, e, f)
 
@@ -110,35 +110,35 @@ front-1 b c = omega (arith, header-room b c)
 pub front-3 : (b : List ℕ) → CountsIn b → 1 + 2 ≤ length b
 front-3 b c = omega (arith, header-room b c)
 
-pub yellow-few : (b : List ℕ) → CountsIn b → numberAt 2 b 58 ≤ 2048
+pub yellow-few : (b : List ℕ) → CountsIn b → numberAt 2 b atYellowCount ≤ 2048
 unfolding yellowCount
 yellow-few b c =
     let all : serversIn b * quotaIn b ≤ 8 * 256 = mul-le-mul {n₁ = serversIn b} {m₁ = quotaIn b} {n₂ = 8} {m₂ = 256} (c .sizes .servers) (c .sizes .quota) in
     omega (arith, c .yellow)
 
-pub yellow-free : (b : List ℕ) (n q at : ℕ) → CountsIn b → n ≡ numberAt 1 b 0 → q ≡ numberAt 2 b 1 → at ≡ offset n q theYellow
-    → at + (3 * numberAt 2 b 58 + 3) ≤ length b
+pub yellow-free : (b : List ℕ) (n q at : ℕ) → CountsIn b → n ≡ numberAt 1 b atServers → q ≡ numberAt 2 b atQuota → at ≡ offset n q theYellow
+    → at + (3 * numberAt 2 b atYellowCount + 3) ≤ length b
 unfolding yellowCount
 yellow-free b n q at c e f g = rw (place-read theYellow b n q at e f g) (yellow-room b c)
 
-pub own-free : (b : List ℕ) (n q at : ℕ) → CountsIn b → n ≡ numberAt 1 b 0 → q ≡ numberAt 2 b 1 → at ≡ offset n q theOwn
-    → at + (56 * numberAt 2 b 29 + 56) ≤ length b
+pub own-free : (b : List ℕ) (n q at : ℕ) → CountsIn b → n ≡ numberAt 1 b atServers → q ≡ numberAt 2 b atQuota → at ≡ offset n q theOwn
+    → at + (slotSize * numberAt 2 b atOwnCount + slotSize) ≤ length b
 unfolding ownCount
 own-free b n q at c e f g = rw (place-read theOwn b n q at e f g) (own-room b c)
 
-pub own-few : (b : List ℕ) → CountsIn b → numberAt 2 b 29 ≤ 256
+pub own-few : (b : List ℕ) → CountsIn b → numberAt 2 b atOwnCount ≤ 256
 unfolding ownCount
 own-few b c = omega (arith, c .own, c .sizes .quota)
 
-pub numbered-few : (b : List ℕ) → CountsIn b → numberAt 2 b 27 ≤ 256
+pub numbered-few : (b : List ℕ) → CountsIn b → numberAt 2 b atNumbered ≤ 256
 unfolding numberedIn
 numbered-few b c = omega (arith, c .numbered, c .sizes .quota)
 
-pub held-free : (b : List ℕ) (n q at : ℕ) → CountsIn b → n ≡ numberAt 1 b 0 → q ≡ numberAt 2 b 1 → at ≡ offset n q theHeld
-    → at + (49 * numberAt 2 b 31 + 49) ≤ length b
+pub held-free : (b : List ℕ) (n q at : ℕ) → CountsIn b → n ≡ numberAt 1 b atServers → q ≡ numberAt 2 b atQuota → at ≡ offset n q theHeld
+    → at + (heldSize * numberAt 2 b atHeldCount + heldSize) ≤ length b
 unfolding heldCount
 held-free b n q at c e f g = rw (place-read theHeld b n q at e f g) (held-room b c)
 
-pub held-few : (b : List ℕ) → CountsIn b → numberAt 2 b 31 ≤ 16
+pub held-few : (b : List ℕ) → CountsIn b → numberAt 2 b atHeldCount ≤ 16
 unfolding heldCount
 held-few b c = omega (arith, c .held)

@@ -30,7 +30,7 @@ use Rattle.replication.proofs.WellFormed.Facts.{well-formed-facts, facts-well-f
 use Rattle.replication.proofs.WellFormed.Changes.{body, whole, noted-changed, collected-fit}
 use Rattle.replication.proofs.WellFormed.Decisions.{note-all-length, note-all-bound}
 use Rattle.replication.proofs.WellFormed.Kept.{mode-kept}
-use Rattle.engine.specs.Layout.{stateSize, theStates}
+use Rattle.engine.specs.Layout.{stateSize, theStates, atServers, atStates}
 use Rattle.engine.specs.Image.{image}
 use Rattle.engine.specs.Decode.{serversIn, quotaIn, statesAt, decoded, decodedAs}
 use Rattle.engine.proofs.InPlace.{Holds, holds-decoded, HoldsSome, holds-header}
@@ -38,6 +38,7 @@ use Rattle.lists.specs.Lists.{place, NumberIn}
 use Rattle.lists.specs.Noting.{noteSlot, noteFirst}
 use Rattle.lists.proofs.Counts.{holds-servers, holds-counts}
 use Rattle.engine.proofs.Chained.{then-holds, Covers, numbers-first, lists-chained}
+use Rattle.format.specs.Places.{stateCutsAt}
 
 -- ---- slot by slot
 
@@ -102,7 +103,7 @@ noted-covers s l m = numbers-first s (withNoted l s) (withNoted m s) (refl, refl
 pub note-start : (b : List ℕ) (s : Server) → Holds s b → b ≡ image (firstNoted 0 s) b
 note-start b s r = sym (r .written) ∙ ap (λ (l : List ℕ). image (withNoted l s) b) (sym (first-none (s .membership .states) (s .noted)))
 
-pub note-room : (b c : List ℕ) (k n : ℕ) → HoldsSome b → n ≡ numberAt 1 b 0 → k < n → ((s : Server) → Holds s b → c ≡ image (firstNoted k s) b) → NumberIn k c
+pub note-room : (b c : List ℕ) (k n : ℕ) → HoldsSome b → n ≡ numberAt 1 b atServers → k < n → ((s : Server) → Holds s b → c ≡ image (firstNoted k s) b) → NumberIn k c
 unfolding serversIn
 note-room b c k n h e l f =
     let s : Server = h .state in
@@ -110,7 +111,7 @@ note-room b c k n h e l f =
     let t : Holds (firstNoted k s) c = then-holds s (firstNoted k s) b c r (f s r) refl refl (first-formed k s (r .formed)) in
     record { counts = holds-counts (firstNoted k s) c t; below = omega (arith, holds-servers s b r, holds-servers (firstNoted k s) c t) }
 
-pub note-turn : (b c d : List ℕ) (k n : ℕ) → n ≡ numberAt 1 b 0 → k < n → ((s : Server) → Holds s b → c ≡ image (firstNoted k s) b)
+pub note-turn : (b c d : List ℕ) (k n : ℕ) → n ≡ numberAt 1 b atServers → k < n → ((s : Server) → Holds s b → c ≡ image (firstNoted k s) b)
     → ((t : Server) → Holds t c → d ≡ image (withNoted (noteSlot (getD (t .membership .states) k none) (t .noted)) t) c)
     → (s : Server) → Holds s b → d ≡ image (firstNoted (k + 1) s) b
 unfolding serversIn
@@ -126,7 +127,7 @@ note-turn b c d k n e l f g s r =
     lists-chained s t (withNoted m s) b r ok (noted-covers s (t .noted) m) (omega arith) long c d (f s r) (g t held)
     ∙ ap (λ (j : List ℕ). image (withNoted j s) b) same
 
-pub note-end : (b c : List ℕ) (k n : ℕ) → n ≡ numberAt 1 b 0 → k ≤ n → n ≤ k → ((s : Server) → Holds s b → c ≡ image (firstNoted k s) b)
+pub note-end : (b c : List ℕ) (k n : ℕ) → n ≡ numberAt 1 b atServers → k ≤ n → n ≤ k → ((s : Server) → Holds s b → c ≡ image (firstNoted k s) b)
     → (s : Server) → Holds s b → c ≡ image (withNoted (noteAll (collected s) (s .noted)) s) b
 unfolding serversIn collected
 note-end b c k n e l m f s r =
@@ -153,31 +154,31 @@ states-at n q here (suc m) j (suc k) b at h =
 -- The slot of server k, in a buffer that holds s.
 slot-read : (s : Server) (b : List ℕ) (k : ℕ) → Holds s b → k < serversIn b
     → getD (s .membership .states) k none
-    ≡ pick (inSet k (numberAt 1 b 13)) (some (stateAt (serversIn b) (drop (place theStates b + k * stateSize (serversIn b) (quotaIn b)) b))) none
+    ≡ pick (inSet k (numberAt 1 b atStates)) (some (stateAt (serversIn b) (drop (place theStates b + k * stateSize (serversIn b) (quotaIn b)) b))) none
 unfolding decoded decodedAs place
 slot-read s b k r h =
     ap (λ (t : Server). getD (t .membership .states) k none) (sym (holds-decoded s b r))
-    ∙ states-at (serversIn b) (quotaIn b) (numberAt 1 b 13) (serversIn b) 0 k b (place theStates b) h
-    ∙ ap (λ (j : ℕ). pick (inSet j (numberAt 1 b 13)) (some (stateAt (serversIn b) (drop (place theStates b + k * stateSize (serversIn b) (quotaIn b)) b))) none) (zero-add k)
+    ∙ states-at (serversIn b) (quotaIn b) (numberAt 1 b atStates) (serversIn b) 0 k b (place theStates b) h
+    ∙ ap (λ (j : ℕ). pick (inSet j (numberAt 1 b atStates)) (some (stateAt (serversIn b) (drop (place theStates b + k * stateSize (serversIn b) (quotaIn b)) b))) none) (zero-add k)
 
-pub slot-empty : (b : List ℕ) (k : ℕ) (x : Bool) → NumberIn k b → x ≡ inSet k (numberAt 1 b 13) → not x ≡ true
+pub slot-empty : (b : List ℕ) (k : ℕ) (x : Bool) → NumberIn k b → x ≡ inSet k (numberAt 1 b atStates) → not x ≡ true
     → (s : Server) → Holds s b → b ≡ image (withNoted (noteSlot (getD (s .membership .states) k none) (s .noted)) s) b
 unfolding noteSlot
 slot-empty b k x h e f s r =
-    let out : getD (s .membership .states) k none ≡ none = slot-read s b k r (h .below) ∙ sym (pick-no (inSet k (numberAt 1 b 13)) none _ none (sym e ∙ not-true x f) refl) in
+    let out : getD (s .membership .states) k none ≡ none = slot-read s b k r (h .below) ∙ sym (pick-no (inSet k (numberAt 1 b atStates)) none _ none (sym e ∙ not-true x f) refl) in
     sym (r .written) ∙ ap (λ (y : Option State). image (withNoted (noteSlot y (s .noted)) s) b) (sym out)
 
-pub slot-noted : (b c : List ℕ) (k l : ℕ) (x : Bool) → NumberIn k b → x ≡ inSet k (numberAt 1 b 13) → not x ≡ false
-    → l ≡ numberAt 4 b (place theStates b + k * stateSize (serversIn b) (quotaIn b) + (9 + 2 * serversIn b))
+pub slot-noted : (b c : List ℕ) (k l : ℕ) (x : Bool) → NumberIn k b → x ≡ inSet k (numberAt 1 b atStates) → not x ≡ false
+    → l ≡ numberAt 4 b (place theStates b + k * stateSize (serversIn b) (quotaIn b) + (stateCutsAt + 2 * serversIn b))
     → ((s : Server) → Holds s b → c ≡ image (withNoted (note k l (s .noted)) s) b)
     → (s : Server) → Holds s b → c ≡ image (withNoted (noteSlot (getD (s .membership .states) k none) (s .noted)) s) b
 unfolding noteSlot stateAt
 slot-noted b c k l x h e f g i s r =
     let at : ℕ = place theStates b + k * stateSize (serversIn b) (quotaIn b) in
     let y : State = stateAt (serversIn b) (drop at b) in
-    let in-slot : getD (s .membership .states) k none ≡ some y = slot-read s b k r (h .below) ∙ sym (pick-yes (inSet k (numberAt 1 b 13)) (some y) _ none (sym e ∙ not-false x f) refl) in
+    let in-slot : getD (s .membership .states) k none ≡ some y = slot-read s b k r (h .below) ∙ sym (pick-yes (inSet k (numberAt 1 b atStates)) (some y) _ none (sym e ∙ not-false x f) refl) in
     let sender : y .sender ≡ k = body s (well-formed-facts s (r .formed)) .membership .states k y in-slot .sender in
-    let sent : l ≡ y .greenLength = g ∙ sym (number-drop 4 b at (9 + 2 * serversIn b)) in
+    let sent : l ≡ y .greenLength = g ∙ sym (number-drop 4 b at (stateCutsAt + 2 * serversIn b)) in
     i s r
     ∙ ap₂ {A = ℕ} {B = ℕ} {C = List ℕ} (λ u v. image (withNoted (note u v (s .noted)) s) b) (sym sender) sent
     ∙ ap (λ (z : Option State). image (withNoted (noteSlot z (s .noted)) s) b) (sym in-slot)
@@ -187,16 +188,16 @@ slot-noted b c k l x h e f g i s r =
 pub front-some : (b : List ℕ) → HoldsSome b → 0 < length b
 front-some b h = omega (arith, holds-header (h .state) b (h .holds))
 
-pub member-told : (b : List ℕ) (x k : ℕ) → x ≡ numberAt 1 b 13 → eqb (x / 2 ^ k % 2) 1 ≡ inSet k (numberAt 1 b 13)
+pub member-told : (b : List ℕ) (x k : ℕ) → x ≡ numberAt 1 b atStates → eqb (x / 2 ^ k % 2) 1 ≡ inSet k (numberAt 1 b atStates)
 unfolding inSet _=?_
 member-told b x k e = ap (λ (y : ℕ). eqb (y / 2 ^ k % 2) 1) e
 
 pub sent-place : (b : List ℕ) (k n at : ℕ) → NumberIn k b → at ≡ place theStates b + k * stateSize (serversIn b) (quotaIn b)
-    → at + stateSize (serversIn b) (quotaIn b) ≤ length b → n ≡ numberAt 1 b 0 → at + (9 + 2 * n) + 4 ≤ length b
+    → at + stateSize (serversIn b) (quotaIn b) ≤ length b → n ≡ numberAt 1 b atServers → at + (stateCutsAt + 2 * n) + 4 ≤ length b
 unfolding serversIn stateSize
 sent-place b k n at h e f g = omega arith
 
-pub sent-read : (b : List ℕ) (k n at l : ℕ) → at ≡ place theStates b + k * stateSize (serversIn b) (quotaIn b) → n ≡ numberAt 1 b 0 → l ≡ numberAt 4 b (at + (9 + 2 * n))
-    → l ≡ numberAt 4 b (place theStates b + k * stateSize (serversIn b) (quotaIn b) + (9 + 2 * serversIn b))
+pub sent-read : (b : List ℕ) (k n at l : ℕ) → at ≡ place theStates b + k * stateSize (serversIn b) (quotaIn b) → n ≡ numberAt 1 b atServers → l ≡ numberAt 4 b (at + (stateCutsAt + 2 * n))
+    → l ≡ numberAt 4 b (place theStates b + k * stateSize (serversIn b) (quotaIn b) + (stateCutsAt + 2 * serversIn b))
 unfolding serversIn
-sent-read b k n at l e f g = g ∙ ap₂ {A = ℕ} {B = ℕ} {C = ℕ} (λ u v. numberAt 4 b (u + (9 + 2 * v))) e f
+sent-read b k n at l e f g = g ∙ ap₂ {A = ℕ} {B = ℕ} {C = ℕ} (λ u v. numberAt 4 b (u + (stateCutsAt + 2 * v))) e f

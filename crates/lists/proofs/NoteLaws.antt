@@ -13,7 +13,7 @@ use Rattle.base.specs.Patched.{patched}
 use Rattle.base.specs.Sections.{begin}
 use Rattle.replication.specs.Machine.Types.{Server, withNoted}
 use Rattle.replication.specs.Machine.Colours.{note}
-use Rattle.engine.specs.Layout.{SizesIn, theNoted, sections, offset, stateLength}
+use Rattle.engine.specs.Layout.{SizesIn, theNoted, sections, offset, stateLength, atServers, atQuota}
 use Rattle.engine.specs.Image.{over, headerBytes, notedBytes, section, parts, image}
 use Rattle.engine.specs.Decode.{serversIn, quotaIn, decoded, decodedAs}
 use Rattle.engine.proofs.InRange.{in-range}
@@ -53,17 +53,17 @@ noted-set (x ∷ l) (suc c) v h =
 
 -- ---- as the code does it
 
-pub noted-place-read : (b : List ℕ) (n q at c : ℕ) → n ≡ numberAt 1 b 0 → q ≡ numberAt 2 b 1 → at ≡ offset n q theNoted → at + 4 * c ≡ place theNoted b + 4 * c
+pub noted-place-read : (b : List ℕ) (n q at c : ℕ) → n ≡ numberAt 1 b atServers → q ≡ numberAt 2 b atQuota → at ≡ offset n q theNoted → at + 4 * c ≡ place theNoted b + 4 * c
 noted-place-read b n q at c e f g = ap (λ (m : ℕ). m + 4 * c) (place-read theNoted b n q at e f g)
 
 noted-room : (b : List ℕ) (c : ℕ) → NumberIn c b → place theNoted b + 4 * c + 4 ≤ length b
 unfolding place offset stateLength sections sum
 noted-room b c h = omega (arith, h .counts .long, h .below)
 
-pub noted-free : (b : List ℕ) (n q at c : ℕ) → NumberIn c b → n ≡ numberAt 1 b 0 → q ≡ numberAt 2 b 1 → at ≡ offset n q theNoted → at + 4 * c + 4 ≤ length b
+pub noted-free : (b : List ℕ) (n q at c : ℕ) → NumberIn c b → n ≡ numberAt 1 b atServers → q ≡ numberAt 2 b atQuota → at ≡ offset n q theNoted → at + 4 * c + 4 ≤ length b
 noted-free b n q at c h e f g = rw (place-read theNoted b n q at e f g) (noted-room b c h)
 
-pub noted-sizes : (b : List ℕ) (n q c : ℕ) → NumberIn c b → n ≡ numberAt 1 b 0 → q ≡ numberAt 2 b 1 → SizesIn n q
+pub noted-sizes : (b : List ℕ) (n q c : ℕ) → NumberIn c b → n ≡ numberAt 1 b atServers → q ≡ numberAt 2 b atQuota → SizesIn n q
 unfolding serversIn quotaIn
 noted-sizes b n q c h e f = rw (e, f) (h .counts .sizes)
 

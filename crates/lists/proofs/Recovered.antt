@@ -28,7 +28,7 @@ use Rattle.replication.proofs.WellFormed.Changes.{body}
 use Rattle.replication.proofs.WellFormed.Effects.{recovered-body}
 use Rattle.replication.proofs.WellFormed.Facts.{well-formed-facts}
 use Rattle.replication.proofs.WellFormed.Logs.{LogFits, ownId}
-use Rattle.engine.specs.Layout.{theHeader, theCuts, theOwn, theQueue, sections, offset, stateLength}
+use Rattle.engine.specs.Layout.{theHeader, theCuts, theOwn, theQueue, sections, offset, stateLength, headerSize, atServers, atQuota, atMe, atQueueLength, atNumbered, atOwnCount, slotSize}
 use Rattle.engine.specs.Image.{over, headerBytes, actionSlots, section, parts, image}
 use Rattle.engine.specs.Decode.{serversIn, quotaIn}
 use Rattle.engine.proofs.InRange.{in-range}
@@ -117,7 +117,7 @@ enter-room b h =
     let c = holds-counts s b r in
     let d = Lists.holds-counts s b r in
     let all : s .servers * s .quota ≤ mostServers * mostQuota = mul-le-mul (g .context .sizes .most) (g .context .sizes .highest) in
-    let sized : numberAt 1 b 0 * numberAt 2 b 1 ≡ s .servers * s .quota = λ j. i .servers j * i .quota j in
+    let sized : numberAt 1 b atServers * numberAt 2 b atQuota ≡ s .servers * s .quota = λ j. i .servers j * i .quota j in
     record {
       counts = d;
       queue = c;
@@ -128,9 +128,9 @@ enter-room b h =
       few = omega (arith, i .queue, g .queueCount);
     }
 
-pub own-entered : (b b₁ b₂ : List ℕ) (own count from to me c : ℕ) → own ≡ numberAt 2 b 29 → count ≡ numberAt 4 b 19 → from ≡ place theOwn b → to ≡ queueAt b → me ≡ numberAt 1 b 3
-    → c ≡ numberAt 2 b 27 → b₁ ≡ patched (to + 56 * count) (partAt (56 * own) b from) b
-    → b₂ ≡ patched (60 + 2 * me) (bytesOf 2 c) (patched 29 (bytesOf 2 0) (patched 19 (bytesOf 4 (count + own)) b₁))
+pub own-entered : (b b₁ b₂ : List ℕ) (own count from to me c : ℕ) → own ≡ numberAt 2 b atOwnCount → count ≡ numberAt 4 b atQueueLength → from ≡ place theOwn b → to ≡ queueAt b → me ≡ numberAt 1 b atMe
+    → c ≡ numberAt 2 b atNumbered → b₁ ≡ patched (to + slotSize * count) (partAt (slotSize * own) b from) b
+    → b₂ ≡ patched (headerSize + 2 * me) (bytesOf 2 c) (patched atOwnCount (bytesOf 2 0) (patched atQueueLength (bytesOf 4 (count + own)) b₁))
     → (s : Server) → Holds s b → b₂ ≡ image (withLog (reds (s .log .own) (s .log)) s) b
 unfolding sections parts sum offset cut contextOf numberedIn
 own-entered b b₁ b₂ own count from to me c e₁ e₂ e₃ e₄ e₅ e₆ e₇ e₈ s r =
@@ -147,23 +147,23 @@ own-entered b b₁ b₂ own count from to me c e₁ e₂ e₃ e₄ e₅ e₆ e�
     let mine : me ≡ s .me = e₅ ∙ i .me in
     let low : me < length (s .log .cuts) = omega (arith, g .cutsCount, g .context .own) in
     let last : c ≡ getD (s .log .cuts) (s .me) 0 + length list = e₆ ∙ holds-numbered s b r ∙ sym (own-count s (r .formed)) in
-    let at : ℕ = to + 56 * count in
-    let x : List ℕ = partAt (56 * own) b from in
-    let own-size : length (actionSlots list) ≡ 56 * length list = action-slots-length list (f .own) in
-    let size : length (actionSlots all) ≡ 56 * length all = action-slots-length all (f .actions) in
+    let at : ℕ = to + slotSize * count in
+    let x : List ℕ = partAt (slotSize * own) b from in
+    let own-size : length (actionSlots list) ≡ slotSize * length list = action-slots-length list (f .own) in
+    let size : length (actionSlots all) ≡ slotSize * length all = action-slots-length all (f .actions) in
     let slots : x ≡ actionSlots list =
-    ap₂ {A = ℕ} {B = ℕ} {C = List ℕ} (λ m j. partAt m b j) (ap (λ (m : ℕ). 56 * m) owns ∙ sym own-size) (e₃ ∙ holds-place s b r theOwn) ∙ own-here s b r .part in
-    let long : length x ≡ 56 * length list = ap length slots ∙ own-size in
+    ap₂ {A = ℕ} {B = ℕ} {C = List ℕ} (λ m j. partAt m b j) (ap (λ (m : ℕ). slotSize * m) owns ∙ sym own-size) (e₃ ∙ holds-place s b r theOwn) ∙ own-here s b r .part in
+    let long : length x ≡ slotSize * length list = ap length slots ∙ own-size in
     let there : at ≡ begin (sections n q) theQueue + length (actionSlots all) =
-    ap₂ {A = ℕ} {B = ℕ} {C = ℕ} (λ u v. u + v) (e₄ ∙ λ j. offset (i .servers j) (i .quota j) theQueue) (ap (λ (m : ℕ). 56 * m) counts ∙ sym size) in
-    let fits : length (actionSlots all) + length x ≤ 56 * (n * q) = omega (arith, entered-room s (r .formed)) in
+    ap₂ {A = ℕ} {B = ℕ} {C = ℕ} (λ u v. u + v) (e₄ ∙ λ j. offset (i .servers j) (i .quota j) theQueue) (ap (λ (m : ℕ). slotSize * m) counts ∙ sym size) in
+    let fits : length (actionSlots all) + length x ≤ slotSize * (n * q) = omega (arith, entered-room s (r .formed)) in
     let y : List ℕ = bytesOf 4 (count + own) in
     let z : List ℕ = bytesOf 2 0 in
     let w : List ℕ = bytesOf 2 c in
     let c₁ = changed-at (sections n q) (parts n q s b) b b (holds-changed s b r) theQueue (length (actionSlots all)) at x there (omega arith) fits in
-    let c₂ = changed-at (sections n q) _ b _ c₁ theHeader 19 19 y refl (omega arith) (omega (arith, bytes-length 4 (count + own))) in
-    let c₃ = changed-at (sections n q) _ b _ c₂ theHeader 29 29 z refl (omega arith) (omega (arith, bytes-length 2 0)) in
-    let c₄ = changed-at (sections n q) _ b _ c₃ theCuts (2 * me) (60 + 2 * me) w refl (omega arith) (omega (arith, bytes-length 2 c, g .cutsCount)) in
+    let c₂ = changed-at (sections n q) _ b _ c₁ theHeader atQueueLength atQueueLength y refl (omega arith) (omega (arith, bytes-length 4 (count + own))) in
+    let c₃ = changed-at (sections n q) _ b _ c₂ theHeader atOwnCount atOwnCount z refl (omega arith) (omega (arith, bytes-length 2 0)) in
+    let c₄ = changed-at (sections n q) _ b _ c₃ theCuts (2 * me) (headerSize + 2 * me) w refl (omega arith) (omega (arith, bytes-length 2 c, g .cutsCount)) in
     let more : patched (length (actionSlots all)) x (over (actionSlots all) (section n q theQueue b)) ≡ over (actionSlots (queue (entered s))) (section n q theQueue b) =
     over-extended (actionSlots all) x (section n q theQueue b)
     ∙ ap (λ (v : List ℕ). over v (section n q theQueue b)) (ap (λ (v : List ℕ). actionSlots all ++ v) slots ∙ sym (slots-append all list) ∙ ap actionSlots (entered-queue s)) in
@@ -174,10 +174,10 @@ own-entered b b₁ b₂ own count from to me c e₁ e₂ e₃ e₄ e₅ e₆ e�
     over-changed (cutsBytes (s .log .cuts)) w (section n q theCuts b) (2 * me) (omega (arith, cuts-length (s .log .cuts), bytes-length 2 c))
     ∙ ap (λ (v : List ℕ). over v (section n q theCuts b)) (cut-set (s .log .cuts) me c low ∙ raised) in
     let total : count + own ≡ length (queue (entered s)) = omega (arith, entered-count s) in
-    let header : patched 29 z (patched 19 y (headerBytes s)) ≡ headerBytes t =
+    let header : patched atOwnCount z (patched atQueueLength y (headerBytes s)) ≡ headerBytes t =
     two-fields s t theQueueCount theOwnCount y z (omega arith) (omega arith) (bytes-length 4 _) (bytes-length 2 0) (counts-entered s (count + own) total) in
     e₈
-    ∙ ap (λ (v : List ℕ). patched (60 + 2 * me) w (patched 29 z (patched 19 y v))) e₇
+    ∙ ap (λ (v : List ℕ). patched (headerSize + 2 * me) w (patched atOwnCount z (patched atQueueLength y v))) e₇
     ∙ changed-image t _ b _ c₄ (λ j. set (set (set (set (parts n q s b) theQueue (more j)) theHeader (header j)) theCuts (cuts j)) theOwn (none j))
     ∙ ap (λ (l : Log). image (withLog l s) b) (sym (own-in s (r .formed)))
 

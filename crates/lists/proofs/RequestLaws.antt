@@ -24,7 +24,7 @@ use Rattle.replication.specs.Machine.Colours.{cut}
 use Rattle.replication.specs.Machine.Requests.{quotaLeft, numberedFrom, madeOf, numbered, hold}
 use Rattle.replication.specs.Machine.WellFormed.{idsIn, queue}
 use Rattle.replication.proofs.WellFormed.Facts.{well-formed-facts}
-use Rattle.engine.specs.Layout.{heldSize, slotSize, theHeader, theHeld, theOwn, sections, offset}
+use Rattle.engine.specs.Layout.{heldSize, slotSize, theHeader, theHeld, theOwn, sections, offset, atMe, atGreenLength, atNumbered, atOwnCount, atHeldCount}
 use Rattle.engine.specs.Header.{headerOf, headerIn}
 use Rattle.engine.specs.Image.{over, zeros, slot, headerBytes, actionSlots, heldSlots, section, parts, image}
 use Rattle.engine.proofs.Fit.{well-formed-fits}
@@ -52,7 +52,7 @@ quota-left : (s : Server) → quotaLeft s ≡ true → s .log .numbered + length
 unfolding quotaLeft
 quota-left s h = lt-holds (s .log .numbered + length (s .held)) (s .quota) h
 
-pub head-read : (b : List ℕ) (x y z : ℕ) → x ≡ numberAt 1 b 3 → y ≡ numberAt 2 b 27 → z ≡ numberAt 4 b 23
+pub head-read : (b : List ℕ) (x y z : ℕ) → x ≡ numberAt 1 b atMe → y ≡ numberAt 2 b atNumbered → z ≡ numberAt 4 b atGreenLength
     → record { creator = x; index = y + 1; «green_length» = z } ≡ nextHead b
 unfolding nextHead
 head-read b x y z e f g = λ i. record { creator = e i; index = f i + 1; «green_length» = g i }
@@ -69,12 +69,12 @@ counts-written : (s : Server) (p : List ℕ) (x y : ℕ) → x ≡ s .log .numbe
 unfolding numbered queue
 counts-written s p x y e f = ap₂ {A = ℕ} {B = ℕ} {C = List (List ℕ)} (λ u v. set (set (fields s) theNumbered (bytesOf 2 u)) theOwnCount (bytesOf 2 v)) e f
 
-action-short : (h : ActionHead) (p : List ℕ) → length p ≤ 48 → length (actionBytes (actionOf h p)) ≤ 56
+action-short : (h : ActionHead) (p : List ℕ) → length p ≤ 48 → length (actionBytes (actionOf h p)) ≤ slotSize
 unfolding actionOf
 action-short h p l = omega (arith, action-length (actionOf h p))
 
-pub request-numbered : (p b b₁ : List ℕ) (at own num : ℕ) (h : ActionHead) → PayloadRoom p b → at ≡ place theOwn b → own ≡ numberAt 2 b 29 → num ≡ numberAt 2 b 27 → h ≡ nextHead b
-    → b₁ ≡ patched 29 (bytesOf 2 (own + 1)) (patched 27 (bytesOf 2 (num + 1)) (patched (at + 56 * own) (slot slotSize (actionBytes (actionOf h p))) b))
+pub request-numbered : (p b b₁ : List ℕ) (at own num : ℕ) (h : ActionHead) → PayloadRoom p b → at ≡ place theOwn b → own ≡ numberAt 2 b atOwnCount → num ≡ numberAt 2 b atNumbered → h ≡ nextHead b
+    → b₁ ≡ patched atOwnCount (bytesOf 2 (own + 1)) (patched atNumbered (bytesOf 2 (num + 1)) (patched (at + slotSize * own) (slot slotSize (actionBytes (actionOf h p))) b))
     → (s : Server) → Holds s b → quotaLeft s ≡ true → b₁ ≡ image (numbered (p ∷ []) s) b
 unfolding sections parts sum offset numbered ownCount numberedIn queue
 request-numbered p b b₁ at own num h room e₁ e₂ e₃ e₄ e₅ s r left =
@@ -84,23 +84,23 @@ request-numbered p b b₁ at own num h room e₁ e₂ e₃ e₄ e₅ s r left =
     let list : List Action = s .log .own in
     let x : List ℕ = slot slotSize (actionBytes (actionOf h p)) in
     let f = well-formed-fits s (r .formed) in
-    let size : length (actionSlots list) ≡ 56 * length list = action-slots-length list (f .own) in
+    let size : length (actionSlots list) ≡ slotSize * length list = action-slots-length list (f .own) in
     let count : own ≡ length list = e₂ ∙ holds-own-count s b r in
     let nums : num ≡ s .log .numbered = e₃ ∙ holds-numbered s b r in
-    let long : length x ≡ 56 = slot-length slotSize (actionBytes (actionOf h p)) (action-short h p (room .short)) in
-    let there : at + 56 * own ≡ begin (sections n q) theOwn + length (actionSlots list) =
-    ap₂ {A = ℕ} {B = ℕ} {C = ℕ} (λ u v. u + v) (e₁ ∙ holds-place s b r theOwn) (ap (λ (m : ℕ). 56 * m) count ∙ sym size) in
-    let fits : length (actionSlots list) + length x ≤ 56 * q = omega (arith, own-short s b r, quota-left s left) in
-    let one = changed-at (sections n q) (parts n q s b) b b (holds-changed s b r) theOwn (length (actionSlots list)) (at + 56 * own) x there (omega arith) fits in
-    let two = changed-at (sections n q) _ b _ one theHeader 27 27 (bytesOf 2 (num + 1)) refl (omega arith) (omega (arith, bytes-length 2 (num + 1))) in
-    let three = changed-at (sections n q) _ b _ two theHeader 29 29 (bytesOf 2 (own + 1)) refl (omega arith) (omega (arith, bytes-length 2 (own + 1))) in
+    let long : length x ≡ slotSize = slot-length slotSize (actionBytes (actionOf h p)) (action-short h p (room .short)) in
+    let there : at + slotSize * own ≡ begin (sections n q) theOwn + length (actionSlots list) =
+    ap₂ {A = ℕ} {B = ℕ} {C = ℕ} (λ u v. u + v) (e₁ ∙ holds-place s b r theOwn) (ap (λ (m : ℕ). slotSize * m) count ∙ sym size) in
+    let fits : length (actionSlots list) + length x ≤ slotSize * q = omega (arith, own-short s b r, quota-left s left) in
+    let one = changed-at (sections n q) (parts n q s b) b b (holds-changed s b r) theOwn (length (actionSlots list)) (at + slotSize * own) x there (omega arith) fits in
+    let two = changed-at (sections n q) _ b _ one theHeader atNumbered atNumbered (bytesOf 2 (num + 1)) refl (omega arith) (omega (arith, bytes-length 2 (num + 1))) in
+    let three = changed-at (sections n q) _ b _ two theHeader atOwnCount atOwnCount (bytesOf 2 (own + 1)) refl (omega arith) (omega (arith, bytes-length 2 (own + 1))) in
     let made : actionOf h p ∷ [] ≡ madeOf (p ∷ []) s = ap (λ (g : ActionHead). actionOf g p ∷ []) e₄ ∙ head-made s b p r in
     let slots : patched (length (actionSlots list)) x (over (actionSlots list) (section n q theOwn b)) ≡ over (actionSlots (list ++ madeOf (p ∷ []) s)) (section n q theOwn b) =
     over-extended (actionSlots list) x (section n q theOwn b)
     ∙ ap (λ (y : List ℕ). over y (section n q theOwn b)) (ap (λ (y : List ℕ). actionSlots list ++ y) (sym (slots-one (actionOf h p)) ∙ ap actionSlots made) ∙ sym (slots-append list (madeOf (p ∷ []) s))) in
     let more : own + 1 ≡ length (list ++ madeOf (p ∷ []) s) = omega (arith, count, length-append list (madeOf (p ∷ []) s), ap length made) in
     let less : num + 1 ≡ s .log .numbered + 1 = omega (arith, nums) in
-    let header : patched 29 (bytesOf 2 (own + 1)) (patched 27 (bytesOf 2 (num + 1)) (headerBytes s)) ≡ headerBytes t =
+    let header : patched atOwnCount (bytesOf 2 (own + 1)) (patched atNumbered (bytesOf 2 (num + 1)) (headerBytes s)) ≡ headerBytes t =
     two-fields s t theNumbered theOwnCount (bytesOf 2 (num + 1)) (bytesOf 2 (own + 1)) (omega arith) (omega arith) (bytes-length 2 _) (bytes-length 2 _) (counts-written s p (num + 1) (own + 1) less more) in
     e₅
     ∙ changed-image t _ b _ three (ap₂ {A = List ℕ} {B = List ℕ} {C = List (List ℕ)} (λ u v. set (set (parts n q s b) theOwn v) theHeader u) header slots)
@@ -125,8 +125,8 @@ held-one p = append-nil (slot heldSize (payloadBytes p))
 count-held : (s : Server) (l : List (List ℕ)) (m : ℕ) → m ≡ length l → set (fields s) theHeldCount (bytesOf 2 m) ≡ fields (withHeld l s)
 count-held s l m e = ap (λ (k : ℕ). set (fields s) theHeldCount (bytesOf 2 k)) e
 
-pub request-held : (p b b₁ : List ℕ) (at m : ℕ) → PayloadRoom p b → at ≡ place theHeld b → m ≡ numberAt 2 b 31
-    → b₁ ≡ patched 31 (bytesOf 2 (m + 1)) (patched (at + 49 * m) (slot heldSize (payloadBytes p)) b)
+pub request-held : (p b b₁ : List ℕ) (at m : ℕ) → PayloadRoom p b → at ≡ place theHeld b → m ≡ numberAt 2 b atHeldCount
+    → b₁ ≡ patched atHeldCount (bytesOf 2 (m + 1)) (patched (at + heldSize * m) (slot heldSize (payloadBytes p)) b)
     → (s : Server) → Holds s b → length (s .held) < mostHeld → b₁ ≡ image (hold p s) b
 unfolding sections parts sum offset hold heldCount
 request-held p b b₁ at m room e₁ e₂ e₃ s r few =
@@ -136,19 +136,19 @@ request-held p b b₁ at m room e₁ e₂ e₃ s r few =
     let t : Server = hold p s in
     let x : List ℕ = slot heldSize (payloadBytes p) in
     let f = well-formed-fits s (r .formed) in
-    let size : length (heldSlots list) ≡ 49 * length list = held-slots-length list (f .held) in
+    let size : length (heldSlots list) ≡ heldSize * length list = held-slots-length list (f .held) in
     let count : m ≡ length list = e₂ ∙ holds-held-count s b r in
-    let long : length x ≡ 49 = slot-length heldSize (payloadBytes p) (omega (arith, payload-length p, room .short)) in
-    let there : at + 49 * m ≡ begin (sections n q) theHeld + length (heldSlots list) =
-    ap₂ {A = ℕ} {B = ℕ} {C = ℕ} (λ u v. u + v) (e₁ ∙ holds-place s b r theHeld) (ap (λ (k : ℕ). 49 * k) count ∙ sym size) in
+    let long : length x ≡ heldSize = slot-length heldSize (payloadBytes p) (omega (arith, payload-length p, room .short)) in
+    let there : at + heldSize * m ≡ begin (sections n q) theHeld + length (heldSlots list) =
+    ap₂ {A = ℕ} {B = ℕ} {C = ℕ} (λ u v. u + v) (e₁ ∙ holds-place s b r theHeld) (ap (λ (k : ℕ). heldSize * k) count ∙ sym size) in
     let fits : length (heldSlots list) + length x ≤ 784 = omega (arith, few) in
-    let one = changed-at (sections n q) (parts n q s b) b b (holds-changed s b r) theHeld (length (heldSlots list)) (at + 49 * m) x there (omega arith) fits in
-    let two = changed-at (sections n q) _ b _ one theHeader 31 31 (bytesOf 2 (m + 1)) refl (omega arith) (omega (arith, bytes-length 2 (m + 1))) in
+    let one = changed-at (sections n q) (parts n q s b) b b (holds-changed s b r) theHeld (length (heldSlots list)) (at + heldSize * m) x there (omega arith) fits in
+    let two = changed-at (sections n q) _ b _ one theHeader atHeldCount atHeldCount (bytesOf 2 (m + 1)) refl (omega arith) (omega (arith, bytes-length 2 (m + 1))) in
     let slots : patched (length (heldSlots list)) x (over (heldSlots list) (section n q theHeld b)) ≡ over (heldSlots (list ++ (p ∷ []))) (section n q theHeld b) =
     over-extended (heldSlots list) x (section n q theHeld b)
     ∙ ap (λ (y : List ℕ). over y (section n q theHeld b)) (ap (λ (y : List ℕ). heldSlots list ++ y) (sym (held-one p)) ∙ sym (held-append list (p ∷ []))) in
     let more : m + 1 ≡ length (list ++ (p ∷ [])) = omega (arith, count, length-append list (p ∷ [])) in
-    let header : patched 31 (bytesOf 2 (m + 1)) (headerBytes s) ≡ headerBytes t =
+    let header : patched atHeldCount (bytesOf 2 (m + 1)) (headerBytes s) ≡ headerBytes t =
     one-field s t theHeldCount (bytesOf 2 (m + 1)) (omega arith) (bytes-length 2 _) (count-held s (list ++ (p ∷ [])) (m + 1) more) in
     e₃
     ∙ changed-image t _ b _ two (ap₂ {A = List ℕ} {B = List ℕ} {C = List (List ℕ)} (λ u v. set (set (parts n q s b) theHeld v) theHeader u) header slots)

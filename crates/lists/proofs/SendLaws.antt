@@ -58,17 +58,17 @@ unfolding movedSlots
 send-start h from to b = sym (patched-none to b)
 
 pub send-more : (h : ActionHead) (from to j m i : ℕ) (b b₁ b₂ : List ℕ) → SendRoom from to m i b → j < m → b₁ ≡ patched to (movedSlots h j from b) b
-    → b₂ ≡ patched (to + 56 * j) (headBytes (record { creator = h .creator; index = h .index + j; «green_length» = h .«green_length» }) ++ partAt heldSize b₁ (from + 49 * j)) b₁
+    → b₂ ≡ patched (to + slotSize * j) (headBytes (record { creator = h .creator; index = h .index + j; «green_length» = h .«green_length» }) ++ partAt heldSize b₁ (from + heldSize * j)) b₁
     → b₂ ≡ patched to (movedSlots h (j + 1) from b) b
 unfolding movedSlots laterHead
 send-more h from to j m i b b₁ b₂ r l e f =
-    let size : length (movedSlots h j from b) ≡ 56 * j = moved-length h j from b (omega (arith, r .before, r .room)) in
-    let part : partAt heldSize b₁ (from + 49 * j) ≡ partAt heldSize b (from + 49 * j) =
-    ap (λ (z : List ℕ). partAt heldSize z (from + 49 * j)) e ∙ patched-in-front heldSize (from + 49 * j) to (movedSlots h j from b) b (omega (arith, r .before)) (omega (arith, r .room)) in
-    let x : List ℕ = headBytes (laterHead h j) ++ partAt heldSize b (from + 49 * j) in
+    let size : length (movedSlots h j from b) ≡ slotSize * j = moved-length h j from b (omega (arith, r .before, r .room)) in
+    let part : partAt heldSize b₁ (from + heldSize * j) ≡ partAt heldSize b (from + heldSize * j) =
+    ap (λ (z : List ℕ). partAt heldSize z (from + heldSize * j)) e ∙ patched-in-front heldSize (from + heldSize * j) to (movedSlots h j from b) b (omega (arith, r .before)) (omega (arith, r .room)) in
+    let x : List ℕ = headBytes (laterHead h j) ++ partAt heldSize b (from + heldSize * j) in
     let same : movedSlots h (suc j) from b ≡ movedSlots h (j + 1) from b = ap (λ (k : ℕ). movedSlots h k from b) (sym (add-one j)) in
-    f ∙ ap (λ (z : List ℕ). patched (to + 56 * j) (headBytes (laterHead h j) ++ z) b₁) part
-    ∙ ap (patched (to + 56 * j) x) e
+    f ∙ ap (λ (z : List ℕ). patched (to + slotSize * j) (headBytes (laterHead h j) ++ z) b₁) part
+    ∙ ap (patched (to + slotSize * j) x) e
     ∙ ap (λ (k : ℕ). patched (to + k) x (patched to (movedSlots h j from b) b)) (sym size)
     ∙ patched-next to (movedSlots h j from b) x b (omega (arith, r .room))
     ∙ ap (λ (z : List ℕ). patched to z b) same

@@ -23,7 +23,7 @@ use Rattle.replication.specs.Machine.Types.{Server}
 use Rattle.replication.specs.Machine.Requests.{numberedFrom, madeOf, numbered, sendHeld}
 use Rattle.replication.specs.Machine.WellFormed.{queue}
 use Rattle.replication.proofs.WellFormed.Facts.{well-formed-facts}
-use Rattle.engine.specs.Layout.{heldSize, slotSize, theHeader, theHeld, theOwn, sections, offset, stateLength}
+use Rattle.engine.specs.Layout.{heldSize, slotSize, theHeader, theHeld, theOwn, sections, offset, stateLength, atNumbered, atOwnCount, atHeldCount}
 use Rattle.engine.specs.Header.{headerOf, headerIn}
 use Rattle.engine.specs.Image.{over, zeros, slot, headerBytes, actionSlots, heldSlots, section, parts, image}
 use Rattle.engine.proofs.Fit.{well-formed-fits}
@@ -126,8 +126,8 @@ holds-ready s b r =
       quota = omega (arith, holds-own-count s b r, holds-held-count s b r, holds-quota s b r, own-short s b r, f .quota-kept);
     }
 
-pub send-room : (b : List ℕ) (from to own held : ℕ) (h : ActionHead) → SendReady b → from ≡ place theHeld b → to ≡ place theOwn b → own ≡ numberAt 2 b 29 → held ≡ numberAt 2 b 31
-    → h ≡ nextHead b → SendRoom from (to + 56 * own) held (h .index) b
+pub send-room : (b : List ℕ) (from to own held : ℕ) (h : ActionHead) → SendReady b → from ≡ place theHeld b → to ≡ place theOwn b → own ≡ numberAt 2 b atOwnCount → held ≡ numberAt 2 b atHeldCount
+    → h ≡ nextHead b → SendRoom from (to + slotSize * own) held (h .index) b
 unfolding place offset stateLength sections sum ownCount heldCount numberedIn nextHead
 send-room b from to own held h r e₁ e₂ e₃ e₄ e₅ =
     let c = r .counts in
@@ -145,9 +145,9 @@ no-slots : (l : List (List ℕ)) → heldSlots l ≡ heldSlots [] ++ heldSlots l
 unfolding heldSlots joined
 no-slots l = refl
 
-pub held-sent : (b b₁ b₂ : List ℕ) (from to own held num : ℕ) (h : ActionHead) → SendReady b → from ≡ place theHeld b → to ≡ place theOwn b → own ≡ numberAt 2 b 29
-    → held ≡ numberAt 2 b 31 → num ≡ numberAt 2 b 27 → h ≡ nextHead b → b₁ ≡ patched (to + 56 * own) (movedSlots h held from b) b
-    → b₂ ≡ patched 31 (bytesOf 2 0) (patched 29 (bytesOf 2 (own + held)) (patched 27 (bytesOf 2 (num + held)) b₁))
+pub held-sent : (b b₁ b₂ : List ℕ) (from to own held num : ℕ) (h : ActionHead) → SendReady b → from ≡ place theHeld b → to ≡ place theOwn b → own ≡ numberAt 2 b atOwnCount
+    → held ≡ numberAt 2 b atHeldCount → num ≡ numberAt 2 b atNumbered → h ≡ nextHead b → b₁ ≡ patched (to + slotSize * own) (movedSlots h held from b) b
+    → b₂ ≡ patched atHeldCount (bytesOf 2 0) (patched atOwnCount (bytesOf 2 (own + held)) (patched atNumbered (bytesOf 2 (num + held)) b₁))
     → (s : Server) → Holds s b → b₂ ≡ image (sendHeld s) b
 unfolding sections parts sum offset sendHeld numbered ownCount heldCount numberedIn queue
 held-sent b b₁ b₂ from to own held num h ready e₁ e₂ e₃ e₄ e₅ e₆ e₇ e₈ s r =
@@ -163,15 +163,15 @@ held-sent b b₁ b₂ from to own held num h ready e₁ e₂ e₃ e₄ e₅ e₆
     let nums : num ≡ s .log .numbered = e₅ ∙ holds-numbered s b r in
     let x : List ℕ = movedSlots h held from b in
     let slots : x ≡ actionSlots made = (λ i. movedSlots (e₆ i) (helds i) (e₁ i) b) ∙ all-made s b r in
-    let size : length (actionSlots list) ≡ 56 * length list = action-slots-length list (f .own) in
-    let long : length x ≡ 56 * held = moved-length h held from b (room-before (send-room b from to own held h ready e₁ e₂ e₃ e₄ e₆)) in
-    let there : to + 56 * own ≡ begin (sections n q) theOwn + length (actionSlots list) =
-    ap₂ {A = ℕ} {B = ℕ} {C = ℕ} (λ u v. u + v) (e₂ ∙ holds-place s b r theOwn) (ap (λ (m : ℕ). 56 * m) count ∙ sym size) in
-    let fits : length (actionSlots list) + length x ≤ 56 * q = omega (arith, own-short s b r, facts .quota-kept) in
-    let one = changed-at (sections n q) (parts n q s b) b b (holds-changed s b r) theOwn (length (actionSlots list)) (to + 56 * own) x there (omega arith) fits in
-    let two = changed-at (sections n q) _ b _ one theHeader 27 27 (bytesOf 2 (num + held)) refl (omega arith) (omega (arith, bytes-length 2 (num + held))) in
-    let three = changed-at (sections n q) _ b _ two theHeader 29 29 (bytesOf 2 (own + held)) refl (omega arith) (omega (arith, bytes-length 2 (own + held))) in
-    let four = changed-at (sections n q) _ b _ three theHeader 31 31 (bytesOf 2 0) refl (omega arith) (omega (arith, bytes-length 2 0)) in
+    let size : length (actionSlots list) ≡ slotSize * length list = action-slots-length list (f .own) in
+    let long : length x ≡ slotSize * held = moved-length h held from b (room-before (send-room b from to own held h ready e₁ e₂ e₃ e₄ e₆)) in
+    let there : to + slotSize * own ≡ begin (sections n q) theOwn + length (actionSlots list) =
+    ap₂ {A = ℕ} {B = ℕ} {C = ℕ} (λ u v. u + v) (e₂ ∙ holds-place s b r theOwn) (ap (λ (m : ℕ). slotSize * m) count ∙ sym size) in
+    let fits : length (actionSlots list) + length x ≤ slotSize * q = omega (arith, own-short s b r, facts .quota-kept) in
+    let one = changed-at (sections n q) (parts n q s b) b b (holds-changed s b r) theOwn (length (actionSlots list)) (to + slotSize * own) x there (omega arith) fits in
+    let two = changed-at (sections n q) _ b _ one theHeader atNumbered atNumbered (bytesOf 2 (num + held)) refl (omega arith) (omega (arith, bytes-length 2 (num + held))) in
+    let three = changed-at (sections n q) _ b _ two theHeader atOwnCount atOwnCount (bytesOf 2 (own + held)) refl (omega arith) (omega (arith, bytes-length 2 (own + held))) in
+    let four = changed-at (sections n q) _ b _ three theHeader atHeldCount atHeldCount (bytesOf 2 0) refl (omega arith) (omega (arith, bytes-length 2 0)) in
     let owns : patched (length (actionSlots list)) x (over (actionSlots list) (section n q theOwn b)) ≡ over (actionSlots (list ++ made)) (section n q theOwn b) =
     over-extended (actionSlots list) x (section n q theOwn b)
     ∙ ap (λ (y : List ℕ). over y (section n q theOwn b)) (ap (λ (y : List ℕ). actionSlots list ++ y) slots ∙ sym (slots-append list made)) in
@@ -179,8 +179,8 @@ held-sent b b₁ b₂ from to own held num h ready e₁ e₂ e₃ e₄ e₅ e₆
     begun (heldSlots (s .held)) (heldSlots []) (heldSlots (s .held)) (section n q theHeld b) (no-slots (s .held)) (holds-section s b r theHeld (omega arith)) in
     let more : own + held ≡ length (list ++ made) = omega (arith, count, helds, length-append list made, made-length s) in
     let less : num + held ≡ s .log .numbered + length (s .held) = omega (arith, nums, helds) in
-    let header : patched 31 (bytesOf 2 0) (patched 29 (bytesOf 2 (own + held)) (patched 27 (bytesOf 2 (num + held)) (headerBytes s))) ≡ headerBytes t =
+    let header : patched atHeldCount (bytesOf 2 0) (patched atOwnCount (bytesOf 2 (own + held)) (patched atNumbered (bytesOf 2 (num + held)) (headerBytes s))) ≡ headerBytes t =
     three-fields s t theNumbered theOwnCount theHeldCount (bytesOf 2 (num + held)) (bytesOf 2 (own + held)) (bytesOf 2 0) (omega arith) (omega arith) (omega arith) (bytes-length 2 _) (bytes-length 2 _) (bytes-length 2 0) (sent-written s (num + held) (own + held) less more) in
     e₈
-    ∙ ap (λ (c : List ℕ). patched 31 (bytesOf 2 0) (patched 29 (bytesOf 2 (own + held)) (patched 27 (bytesOf 2 (num + held)) c))) e₇
+    ∙ ap (λ (c : List ℕ). patched atHeldCount (bytesOf 2 0) (patched atOwnCount (bytesOf 2 (own + held)) (patched atNumbered (bytesOf 2 (num + held)) c))) e₇
     ∙ changed-image t _ b _ four (λ i. set (set (set (parts n q s b) theOwn (owns i)) theHeader (header i)) theHeld (none i))

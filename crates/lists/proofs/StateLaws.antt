@@ -24,7 +24,7 @@ use Rattle.format.specs.Types.{State, state}
 use Rattle.format.specs.Write.{write}
 use Rattle.replication.specs.Machine.Types.{Server, contextOf}
 use Rattle.replication.specs.Machine.Step.{withState}
-use Rattle.engine.specs.Layout.{stateSize, theHeader, theStates, sections, sectionSize, offset, stateLength}
+use Rattle.engine.specs.Layout.{stateSize, theHeader, theStates, sections, sectionSize, offset, stateLength, headerSize, atServers, atQuota, atStates}
 use Rattle.engine.specs.Image.{over, headerBytes, senders, stateOver, statesOver, section, parts, image}
 use Rattle.record.specs.declared.State.{State as Numbers}
 use Rattle.engine.specs.Header.{headerOf, headerIn}
@@ -123,7 +123,7 @@ state-put size (y ∷ ys) (suc k) x l f h i w e =
 
 -- ---- as the code does it
 
-senders-read : (s : Server) (b : List ℕ) → Holds s b → numberAt 1 b 13 ≡ senders 0 (s .membership .states)
+senders-read : (s : Server) (b : List ℕ) → Holds s b → numberAt 1 b atStates ≡ senders 0 (s .membership .states)
 unfolding headerIn headerOf
 senders-read s b r = ap (λ (h : Numbers). h .states) (header-loaded s b r)
 
@@ -133,7 +133,7 @@ unfolding withState
 senders-written s x m e = ap (λ (k : ℕ). set (fields s) theSenders (bytesOf 1 k)) e
 
 pub state-collected : (k : ℕ) (e b b₁ : List ℕ) (at m : ℕ) → CollectRoom k e b → at ≡ place theStates b + k * stateSize (serversIn b) (quotaIn b)
-    → m ≡ withMember k (numberAt 1 b 13) → b₁ ≡ patched 13 (bytesOf 1 m) (patched at e b)
+    → m ≡ withMember k (numberAt 1 b atStates) → b₁ ≡ patched atStates (bytesOf 1 m) (patched at e b)
     → (s : Server) (x : State) → Holds s b → write (state x) ≡ e → x .sender ≡ k → b₁ ≡ image (withState x s) b
 unfolding sections sectionSize parts sum offset withState contextOf
 state-collected k e b b₁ at m room e₁ e₂ e₃ s x r w from =
@@ -155,7 +155,7 @@ state-collected k e b b₁ at m room e₁ e₂ e₃ s x r w from =
     let there : at ≡ begin (sections n q) theStates + k * size =
     e₁ ∙ ap₂ {A = ℕ} {B = ℕ} {C = ℕ} (λ u v. u + v) (holds-place s b r theStates) (ap (λ (z : ℕ). k * z) sizes) in
     let one = changed-at (sections n q) (parts n q s b) b b (holds-changed s b r) theStates (k * size) at e there (omega arith) (omega arith) in
-    let two = changed-at (sections n q) _ b _ one theHeader 13 13 (bytesOf 1 m) refl (omega arith) (omega (arith, bytes-length 1 m)) in
+    let two = changed-at (sections n q) _ b _ one theHeader atStates atStates (bytesOf 1 m) refl (omega arith) (omega (arith, bytes-length 1 m)) in
     let sec : List ℕ = section n q theStates b in
     let holds : sec ≡ statesOver size xs sec = holds-section s b r theStates (omega arith) in
     let long : length sec ≡ n * size = section-length n q theStates b (r .long) in
@@ -165,7 +165,7 @@ state-collected k e b b₁ at m room e₁ e₂ e₃ s x r w from =
     ∙ state-put size xs (x .sender) x sec (f .states) (omega (arith, long, ap (λ (z : ℕ). z * size) count)) sender record-short holds in
     let more : m ≡ senders 0 (set xs (x .sender) (some x)) =
     e₂ ∙ ap₂ {A = ℕ} {B = ℕ} {C = ℕ} (λ i z. withMember i z) (sym from) (senders-read s b r) ∙ sender-more xs (x .sender) x sender few in
-    let header : patched 13 (bytesOf 1 m) (headerBytes s) ≡ headerBytes t =
+    let header : patched atStates (bytesOf 1 m) (headerBytes s) ≡ headerBytes t =
     one-field s t theSenders (bytesOf 1 m) (omega arith) (bytes-length 1 _) (senders-written s x m more) in
     e₃ ∙ changed-image t _ b _ two (ap₂ {A = List ℕ} {B = List ℕ} {C = List (List ℕ)} (λ u v. set (set (parts n q s b) theStates v) theHeader u) header put)
 
@@ -177,13 +177,13 @@ slots-end b k h =
     let size : ℕ = stateSize (serversIn b) (quotaIn b) in
     omega (arith, h .counts .long, mul-le-mul-right {m = suc k} {n = serversIn b} size (h .below), suc-mul k size)
 
-pub state-place-read : (b : List ℕ) (n q k at size all : ℕ) → n ≡ numberAt 1 b 0 → q ≡ numberAt 2 b 1 → at ≡ offset n q theStates → size ≡ stateSize n q → all ≡ k * size
+pub state-place-read : (b : List ℕ) (n q k at size all : ℕ) → n ≡ numberAt 1 b atServers → q ≡ numberAt 2 b atQuota → at ≡ offset n q theStates → size ≡ stateSize n q → all ≡ k * size
     → at + all ≡ place theStates b + k * stateSize (serversIn b) (quotaIn b)
 unfolding serversIn quotaIn
 state-place-read b n q k at size all e f g h i =
     ap₂ {A = ℕ} {B = ℕ} {C = ℕ} (λ u v. u + v) (place-read theStates b n q at e f g) (i ∙ ap (λ (z : ℕ). k * z) (h ∙ λ j. stateSize (e j) (f j)))
 
-pub state-free : (b : List ℕ) (n q k at size all : ℕ) → NumberIn k b → n ≡ numberAt 1 b 0 → q ≡ numberAt 2 b 1 → at ≡ offset n q theStates → size ≡ stateSize n q → all ≡ k * size
+pub state-free : (b : List ℕ) (n q k at size all : ℕ) → NumberIn k b → n ≡ numberAt 1 b atServers → q ≡ numberAt 2 b atQuota → at ≡ offset n q theStates → size ≡ stateSize n q → all ≡ k * size
     → at + all + stateSize (serversIn b) (quotaIn b) ≤ length b
 state-free b n q k at size all r e f g h i = rw (state-place-read b n q k at size all e f g h i) (slots-end b k r)
 
@@ -193,8 +193,8 @@ few-numbers b k h = omega (arith, h .below, h .counts .sizes .servers)
 pub few-servers : (b : List ℕ) (k : ℕ) → NumberIn k b → k ≤ 8
 few-servers b k h = omega (arith, few-numbers b k h)
 
-pub number-header : (b : List ℕ) (k : ℕ) → NumberIn k b → 60 ≤ length b
+pub number-header : (b : List ℕ) (k : ℕ) → NumberIn k b → headerSize ≤ length b
 number-header b k h = header-room b (h .counts)
 
-pub sender-shifted : (b : List ℕ) (x k : ℕ) → x ≡ numberAt 1 b 13 → k < 8 → bitOr x (1 * 2 ^ k % 256) ≡ withMember k (numberAt 1 b 13)
+pub sender-shifted : (b : List ℕ) (x k : ℕ) → x ≡ numberAt 1 b atStates → k < 8 → bitOr x (1 * 2 ^ k % 256) ≡ withMember k (numberAt 1 b atStates)
 sender-shifted b x k e h = member-shifted x k h ∙ ap (withMember k) e

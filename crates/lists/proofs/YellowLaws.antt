@@ -24,7 +24,7 @@ use Rattle.format.proofs.IdCount.{ids-count}
 use Rattle.record.specs.Values.{idOf}
 use Rattle.replication.specs.Machine.Types.{Server, Votes, contextOf, withVotes}
 use Rattle.replication.specs.Machine.Colours.{addId, joinYellow}
-use Rattle.engine.specs.Layout.{theHeader, theYellow, sections, offset}
+use Rattle.engine.specs.Layout.{theHeader, theYellow, sections, offset, atYellowCount}
 use Rattle.engine.specs.Image.{over, headerBytes, section, parts, image}
 use Rattle.engine.proofs.InRange.{in-range}
 use Rattle.engine.proofs.Used.{ids-append}
@@ -104,7 +104,7 @@ count-written s l m e = ap (λ (k : ℕ). set (fields s) theYellowCount (bytesOf
 
 -- An id behind the last one, and the count.
 pub id-added : (s : Server) (b b₁ b₂ : List ℕ) (d : Id) → Holds s b → length (s .votes .yellow .ids) + 1 ≤ s .servers * s .quota
-    → b₁ ≡ patched (place theYellow b + 3 * yellowCount b) (idBytes d) b → b₂ ≡ patched 58 (bytesOf 2 (yellowCount b + 1)) b₁
+    → b₁ ≡ patched (place theYellow b + 3 * yellowCount b) (idBytes d) b → b₂ ≡ patched atYellowCount (bytesOf 2 (yellowCount b + 1)) b₁
     → b₂ ≡ image (withVotes (withIds (s .votes .yellow .ids ++ (d ∷ [])) (s .votes)) s) b
 unfolding sections parts sum offset
 id-added s b b₁ b₂ d r room e₁ e₂ =
@@ -117,21 +117,21 @@ id-added s b b₁ b₂ d r room e₁ e₂ =
     ap₂ {A = ℕ} {B = ℕ} {C = ℕ} (λ x y. x + y) (holds-place s b r theYellow) (ap (λ (m : ℕ). 3 * m) count ∙ sym (ids-length ids)) in
     let fits : length (idsBytes ids) + length (idBytes d) ≤ 3 * (n * q) = omega (arith, ids-length ids, id-length d) in
     let one = changed-at (sections n q) (parts n q s b) b b (holds-changed s b r) theYellow (length (idsBytes ids)) (place theYellow b + 3 * yellowCount b) (idBytes d) at (omega arith) fits in
-    let two = changed-at (sections n q) _ b _ one theHeader 58 58 (bytesOf 2 (yellowCount b + 1)) refl (omega arith) (omega (arith, bytes-length 2 (yellowCount b + 1))) in
+    let two = changed-at (sections n q) _ b _ one theHeader atYellowCount atYellowCount (bytesOf 2 (yellowCount b + 1)) refl (omega arith) (omega (arith, bytes-length 2 (yellowCount b + 1))) in
     let list : patched (length (idsBytes ids)) (idBytes d) (over (idsBytes ids) (section n q theYellow b)) ≡ over (idsBytes (ids ++ (d ∷ []))) (section n q theYellow b) =
     over-extended (idsBytes ids) (idBytes d) (section n q theYellow b)
     ∙ ap (λ (y : List ℕ). over y (section n q theYellow b)) (ap (λ (y : List ℕ). idsBytes ids ++ y) (sym (ids-one d)) ∙ sym (ids-append ids (d ∷ []))) in
     let more : yellowCount b + 1 ≡ length (ids ++ (d ∷ [])) = omega (arith, count, length-append ids (d ∷ [])) in
-    let header : patched 58 (bytesOf 2 (yellowCount b + 1)) (headerBytes s) ≡ headerBytes t =
+    let header : patched atYellowCount (bytesOf 2 (yellowCount b + 1)) (headerBytes s) ≡ headerBytes t =
     one-field s t theYellowCount (bytesOf 2 (yellowCount b + 1)) (omega arith) (bytes-length 2 _) (count-written s (ids ++ (d ∷ [])) (yellowCount b + 1) more) in
     e₂
-    ∙ ap (patched 58 (bytesOf 2 (yellowCount b + 1))) e₁
+    ∙ ap (patched atYellowCount (bytesOf 2 (yellowCount b + 1))) e₁
     ∙ changed-image t _ b _ two (ap₂ {A = List ℕ} {B = List ℕ} {C = List (List ℕ)} (λ x y. set (set (parts n q s b) theYellow y) theHeader x) header list)
 
 -- ---- the operation
 
 -- The id is there already.
-pub id-there : (d : Id) (b : List ℕ) (at m : ℕ) (t : Bool) → at ≡ place theYellow b → m ≡ numberAt 2 b 58 → t ≡ hasId d (idsAt m b at) → t ≡ true
+pub id-there : (d : Id) (b : List ℕ) (at m : ℕ) (t : Bool) → at ≡ place theYellow b → m ≡ numberAt 2 b atYellowCount → t ≡ hasId d (idsAt m b at) → t ≡ true
     → (s : Server) → Holds s b → idOk (contextOf s) d ≡ true → b ≡ image (withVotes (joinYellow d (s .votes)) s) b
 unfolding joinYellow addId yellowCount
 id-there d b at m t e₁ e₂ e₃ here s r ok =
@@ -140,14 +140,14 @@ id-there d b at m t e₁ e₂ e₃ here s r ok =
     sym (r .written) ∙ ap (λ (l : List Id). image (withVotes (withIds l (s .votes)) s) b) (pick-yes (hasId d ids) ids ids (ids ++ (d ∷ [])) has refl)
 
 -- It is not.
-pub id-new : (d : Id) (b b₂ : List ℕ) (at m : ℕ) (t : Bool) → at ≡ place theYellow b → m ≡ numberAt 2 b 58 → t ≡ hasId d (idsAt m b at) → t ≡ false
-    → b₂ ≡ patched 58 (bytesOf 2 (m + 1)) (patched (at + 3 * m) (idBytes d) b)
+pub id-new : (d : Id) (b b₂ : List ℕ) (at m : ℕ) (t : Bool) → at ≡ place theYellow b → m ≡ numberAt 2 b atYellowCount → t ≡ hasId d (idsAt m b at) → t ≡ false
+    → b₂ ≡ patched atYellowCount (bytesOf 2 (m + 1)) (patched (at + 3 * m) (idBytes d) b)
     → (s : Server) → Holds s b → idOk (contextOf s) d ≡ true → b₂ ≡ image (withVotes (joinYellow d (s .votes)) s) b
 unfolding joinYellow addId yellowCount
 id-new d b b₂ at m t e₁ e₂ e₃ away f s r ok =
     let ids : List Id = s .votes .yellow .ids in
     let new : hasId d ids ≡ false = ap (hasId d) (sym (holds-ids s b r)) ∙ rw (← e₁, ← e₂) (sym e₃ ∙ away) in
-    let made : b₂ ≡ patched 58 (bytesOf 2 (yellowCount b + 1)) (patched (place theYellow b + 3 * yellowCount b) (idBytes d) b) = rw (← e₁, ← e₂) f in
+    let made : b₂ ≡ patched atYellowCount (bytesOf 2 (yellowCount b + 1)) (patched (place theYellow b + 3 * yellowCount b) (idBytes d) b) = rw (← e₁, ← e₂) f in
     id-added s b _ b₂ d r (yellow-more s b d r ok new) refl made
     ∙ ap (λ (l : List Id). image (withVotes (withIds l (s .votes)) s) b) (pick-no (hasId d ids) (ids ++ (d ∷ [])) ids (ids ++ (d ∷ [])) new refl)
 

@@ -11,22 +11,22 @@ use Rattle.format.specs.Limits.{mostPayload, mostHeld}
 use Rattle.record.specs.declared.ActionHead.{ActionHead}
 use Rattle.replication.specs.Machine.Types.{Log, Votes, Configuration, Membership, Server, noStates}
 use Rattle.replication.specs.Machine.WellFormed.{queue}
-use Rattle.engine.specs.Layout.{SizesIn, headerSize, stateSize, offset, stateLength}
+use Rattle.engine.specs.Layout.{SizesIn, headerSize, stateSize, offset, stateLength, atMe, atGreenLength, atNumbered, atOwnCount, atHeldCount, atYellowCount}
 use Rattle.engine.specs.Decode.{serversIn, quotaIn}
 
 -- ---- the numbers of the buffer b
 
 unfoldable pub numberedIn : List ℕ → ℕ
-numberedIn b = numberAt 2 b 27
+numberedIn b = numberAt 2 b atNumbered
 
 unfoldable pub ownCount : List ℕ → ℕ
-ownCount b = numberAt 2 b 29
+ownCount b = numberAt 2 b atOwnCount
 
 unfoldable pub heldCount : List ℕ → ℕ
-heldCount b = numberAt 2 b 31
+heldCount b = numberAt 2 b atHeldCount
 
 unfoldable pub yellowCount : List ℕ → ℕ
-yellowCount b = numberAt 2 b 58
+yellowCount b = numberAt 2 b atYellowCount
 
 unfoldable pub configurationOf : (id set : ℕ) → Configuration
 configurationOf id set = record { id = id; set = set }
@@ -47,7 +47,7 @@ pub record CountsIn (b : List ℕ) : Type 0 where
 
 -- The next own action but its payload: the server's number, the next index, the green length.
 unfoldable pub nextHead : List ℕ → ActionHead
-nextHead b = record { creator = numberAt 1 b 3; index = numberAt 2 b 27 + 1; «green_length» = numberAt 4 b 23 }
+nextHead b = record { creator = numberAt 1 b atMe; index = numberAt 2 b atNumbered + 1; «green_length» = numberAt 4 b atGreenLength }
 
 -- Room for a yellow list of these bytes.
 pub record YellowRoom (e b : List ℕ) : Type 0 where

@@ -11,6 +11,7 @@ ghost use Rattle.engine.specs.Image.{image};
 ghost use Rattle.engine.specs.Header.{headerOf};
 ghost use Rattle.engine.proofs.InPlace.{Holds, HoldsSome, HoldsSuch};
 ghost use Rattle.lists.specs.Standing.{voteNumbers};
+ghost use Rattle.engine.specs.Layout.{headerSize};
 use crate::notes::note_all;
 use crate::numbers::save_numbers;
 use crate::votes::VoteNumbers;
@@ -44,14 +45,14 @@ fn with_none_come(h: State) -> State
     ensures { λ r. ⌜ ((s : Server) → h ≡ headerOf s → r ≡ headerOf (resending s)) ⌝ }
 {
     let mut t = h;
-    t.mode = 4;
+    t.mode = State::EXCHANGE_ACTIONS;
     t.come = 0;
     t
 }
 
 // To Exchange_actions.
 pub fn resend(state: &mut [u8])
-    requires { ⌜ 60 ≤ length (now state) ⌝ }
+    requires { ⌜ headerSize ≤ length (now state) ⌝ }
     ensures { λ _. ⌜ ((s : Server) → Holds s (now (state .entry)) → now (state .exit) ≡ image (resending s) (now (state .entry))) ⌝ }
 {
     let h = load(state);
@@ -75,7 +76,7 @@ fn with_attempt(h: State) -> State
         bits: 0,
     };
     let mut t = h;
-    t.mode = 5;
+    t.mode = State::CONSTRUCT;
     t.attempt = attempt;
     t.mark = mark;
     t

@@ -8,6 +8,7 @@ ghost use Rattle.engine.specs.Image.{modeNumber, image};
 ghost use Rattle.engine.specs.Header.{headerOf};
 ghost use Rattle.engine.proofs.InPlace.{Holds};
 ghost use Rattle.lists.specs.Lists.{configurationOf};
+ghost use Rattle.engine.specs.Layout.{headerSize};
 use crate::numbers::save_numbers;
 use engine::header::load;
 use record::State;
@@ -22,7 +23,7 @@ fn with_mode(h: State, mode: u8) -> State
 
 // Another of the eight states.
 pub fn set_mode(state: &mut [u8], mode: u8)
-    requires { ⌜ 60 ≤ length (now state) ⌝ }
+    requires { ⌜ headerSize ≤ length (now state) ⌝ }
     ensures { λ _. ⌜ ((s : Server) (m : Mode) → Holds s (now (state .entry)) → mode ≡ modeNumber m → now (state .exit) ≡ image (inMode m s) (now (state .entry))) ⌝ }
 {
     let h = load(state);
@@ -34,7 +35,7 @@ fn with_configuration(h: State, id: u32, set: u8) -> State
     ensures { λ r. ⌜ ((s : Server) → h ≡ headerOf s → r ≡ headerOf (entering (configurationOf id set) s)) ⌝ }
 {
     let mut t = h;
-    t.mode = 3;
+    t.mode = State::EXCHANGE_STATES;
     t.configuration_status = 1;
     t.configuration_id = id;
     t.configuration_set = set;
@@ -47,7 +48,7 @@ fn with_configuration(h: State, id: u32, set: u8) -> State
 
 // Entering Exchange_states with this configuration.
 pub fn enter_exchange(state: &mut [u8], id: u32, set: u8)
-    requires { ⌜ 60 ≤ length (now state) ⌝ }
+    requires { ⌜ headerSize ≤ length (now state) ⌝ }
     ensures { λ _. ⌜ ((s : Server) → Holds s (now (state .entry)) → now (state .exit) ≡ image (entering (configurationOf id set) s) (now (state .entry))) ⌝ }
 {
     let h = load(state);
@@ -67,7 +68,7 @@ fn with_transitional(h: State, mode: u8, set: u8) -> State
 
 // A transitional configuration of this set, and the state that it leads to.
 pub fn leave(state: &mut [u8], mode: u8, set: u8)
-    requires { ⌜ 60 ≤ length (now state) ⌝ }
+    requires { ⌜ headerSize ≤ length (now state) ⌝ }
     ensures { λ _. ⌜ ((s : Server) (m : Mode) → Holds s (now (state .entry)) → mode ≡ modeNumber m → now (state .exit) ≡ image (left m set s) (now (state .entry))) ⌝ }
 {
     let h = load(state);
@@ -87,7 +88,7 @@ fn with_cpc(h: State, k: u8) -> State
 
 // The CPC of server k is in.
 pub fn add_cpc(state: &mut [u8], k: u8)
-    requires { ⌜ (60 ≤ length (now state)) × (k < 8) ⌝ }
+    requires { ⌜ (headerSize ≤ length (now state)) × (k < 8) ⌝ }
     ensures { λ _. ⌜ ((s : Server) → Holds s (now (state .entry)) → now (state .exit) ≡ image (withCpc k s) (now (state .entry))) ⌝ }
 {
     let h = load(state);

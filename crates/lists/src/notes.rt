@@ -9,14 +9,17 @@ ghost use Rattle.replication.specs.Machine.Types.{Server, withNoted};
 ghost use Rattle.replication.specs.Machine.Colours.{note as noted};
 ghost use Rattle.replication.specs.Machine.Exchange.{noteAll};
 ghost use Rattle.replication.specs.Machine.Step.{collected};
-ghost use Rattle.engine.specs.Layout.{stateSize, theNoted, theStates};
+ghost use Rattle.engine.specs.Layout.{stateSize, theNoted, theStates, headerSize, atStates};
 ghost use Rattle.engine.specs.Image.{image};
 ghost use Rattle.engine.specs.Decode.{serversIn, quotaIn};
 ghost use Rattle.engine.proofs.InPlace.{Holds, HoldsSome};
 ghost use Rattle.lists.specs.Lists.{NumberIn, place};
 ghost use Rattle.lists.specs.Noting.{noteSlot};
+ghost use Rattle.format.specs.Places.{stateCutsAt};
 use crate::states::state_place;
 use engine::places::noted_at;
+use record::State;
+use record::StateHead;
 use record::bytes::num8;
 use record::bytes::num16;
 use record::bytes::num32;
@@ -27,7 +30,11 @@ fn noted_place(state: &[u8], c: u8) -> usize
     requires { ⌜ NumberIn c (now state) ⌝ }
     ensures { λ r. ⌜ (r ≡ place theNoted (now (state .entry)) + 4 * c) × (r + 4 ≤ length (now (state .entry))) ⌝ }
 {
-    noted_at(num8(state, 0) as u32, num16(state, 1) as u32) as usize + 4 * c as usize
+    noted_at(
+        num8(state, State::AT_SERVERS) as u32,
+        num16(state, State::AT_QUOTA) as u32,
+    ) as usize
+        + 4 * c as usize
 }
 
 // "a noted length never falls"
@@ -45,20 +52,20 @@ pub fn note(state: &mut [u8], c: u8, l: u32)
 
 // Whether the State of server k is in.
 fn is_in(state: &[u8], k: u8) -> bool
-    requires { ⌜ (60 ≤ length (now state)) × (k < 8) ⌝ }
-    ensures { λ r. ⌜ r ≡ inSet k (numberAt 1 (now (state .entry)) 13) ⌝ }
+    requires { ⌜ (headerSize ≤ length (now state)) × (k < 8) ⌝ }
+    ensures { λ r. ⌜ r ≡ inSet k (numberAt 1 (now (state .entry)) atStates) ⌝ }
 {
-    (num8(state, 13) >> k) % 2 == 1
+    (num8(state, State::AT_STATES) >> k) % 2 == 1
 }
 
 // The green length in the State of server k: behind the cuts.
 fn sent_length(state: &[u8], k: u8) -> u32
     requires { ⌜ NumberIn k (now state) ⌝ }
-    ensures { λ r. ⌜ r ≡ numberAt 4 (now (state .entry)) (place theStates (now (state .entry)) + k * stateSize (serversIn (now (state .entry))) (quotaIn (now (state .entry))) + (9 + 2 * serversIn (now (state .entry)))) ⌝ }
+    ensures { λ r. ⌜ r ≡ numberAt 4 (now (state .entry)) (place theStates (now (state .entry)) + k * stateSize (serversIn (now (state .entry))) (quotaIn (now (state .entry))) + (stateCutsAt + 2 * serversIn (now (state .entry)))) ⌝ }
 {
     let at = state_place(state, k);
-    let n = num8(state, 0) as usize;
-    num32(state, at + (9 + 2 * n))
+    let n = num8(state, State::AT_SERVERS) as usize;
+    num32(state, at + (StateHead::CUTS + 2 * n))
 }
 
 // The green length of server k, if its State is in.
@@ -78,7 +85,7 @@ pub fn note_all(state: &mut [u8])
     requires { ⌜ HoldsSome (now state) ⌝ }
     ensures { λ _. ⌜ ((s : Server) → Holds s (now (state .entry)) → now (state .exit) ≡ image (withNoted (noteAll (collected s) (s .noted)) s) (now (state .entry))) ⌝ }
 {
-    let n = num8(state, 0);
+    let n = num8(state, State::AT_SERVERS);
     let mut k: u8 = 0;
     while k < n {
         note_state(state, k);

@@ -8,12 +8,13 @@ ghost use Rattle.engine.specs.Image.{image};
 ghost use Rattle.engine.specs.Header.{headerOf};
 ghost use Rattle.engine.proofs.InPlace.{Holds};
 ghost use Rattle.lists.specs.Lists.{changedTo, Shortened};
+ghost use Rattle.engine.specs.Layout.{headerSize};
 use engine::header::save;
 use record::State;
 
 // Saves the numbers of the changed state.
 pub fn save_numbers(state: &mut [u8], h: State)
-    requires { ⌜ 60 ≤ length (now state) ⌝ }
+    requires { ⌜ headerSize ≤ length (now state) ⌝ }
     ensures { λ _. ⌜ ((s : Server) (l : Log) (v : Votes) (m : Membership) (w : List (List ℕ)) → Holds s (now (state .entry)) → Shortened s l v m w → h ≡ headerOf (changedTo s l v m w) → now (state .exit) ≡ image (changedTo s l v m w) (now (state .entry))) ⌝ }
 {
     save(state, h);

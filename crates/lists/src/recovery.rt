@@ -11,6 +11,7 @@ ghost use Rattle.engine.specs.Image.{image};
 ghost use Rattle.engine.specs.Header.{headerOf};
 ghost use Rattle.engine.proofs.InPlace.{Holds, HoldsSome};
 ghost use Rattle.lists.specs.Standing.{EnterRoom, dropped};
+ghost use Rattle.engine.specs.Layout.{headerSize, atQueueLength, atOwnCount};
 use crate::numbers::save_numbers;
 use crate::requests::own_place;
 use engine::header::load;
@@ -35,17 +36,17 @@ fn copy_up(state: &mut [u8], from: usize, to: usize, count: usize)
 }
 
 fn put_queue(state: &mut [u8], queue: u32)
-    requires { ⌜ 60 ≤ length (now state) ⌝ }
-    ensures { λ _. ⌜ now (state .exit) ≡ patched 29 (bytesOf 2 0) (patched 19 (bytesOf 4 queue) (now (state .entry))) ⌝ }
+    requires { ⌜ headerSize ≤ length (now state) ⌝ }
+    ensures { λ _. ⌜ now (state .exit) ≡ patched atOwnCount (bytesOf 2 0) (patched atQueueLength (bytesOf 4 queue) (now (state .entry))) ⌝ }
 {
-    put32(state, 19, queue);
-    put16(state, 29, 0);
+    put32(state, State::AT_QUEUE_LENGTH, queue);
+    put16(state, State::AT_OWN_COUNT, 0);
 }
 
 // The counts of the queue and of the own list, which is empty, and the cut at `at`.
 fn put_entered(state: &mut [u8], queue: u32, at: usize, cut: u16)
-    requires { ⌜ (60 ≤ length (now state)) × (at + 2 ≤ length (now state)) ⌝ }
-    ensures { λ _. ⌜ now (state .exit) ≡ patched at (bytesOf 2 cut) (patched 29 (bytesOf 2 0) (patched 19 (bytesOf 4 queue) (now (state .entry)))) ⌝ }
+    requires { ⌜ (headerSize ≤ length (now state)) × (at + 2 ≤ length (now state)) ⌝ }
+    ensures { λ _. ⌜ now (state .exit) ≡ patched at (bytesOf 2 cut) (patched atOwnCount (bytesOf 2 0) (patched atQueueLength (bytesOf 4 queue) (now (state .entry)))) ⌝ }
 {
     put_queue(state, queue);
     put16(state, at, cut);
@@ -56,13 +57,18 @@ fn enter_own(state: &mut [u8])
     requires { ⌜ EnterRoom (now state) ⌝ }
     ensures { λ _. ⌜ ((s : Server) → Holds s (now (state .entry)) → now (state .exit) ≡ image (withLog (reds (s .log .own) (s .log)) s) (now (state .entry))) ⌝ }
 {
-    let own = num16(state, 29);
-    let queue = num32(state, 19);
+    let own = num16(state, State::AT_OWN_COUNT);
+    let queue = num32(state, State::AT_QUEUE_LENGTH);
     let from = own_place(state);
     let to = queue_place(state);
-    let at = 60 + 2 * num8(state, 3) as usize;
-    let numbered = num16(state, 27);
-    copy_up(state, from, to + 56 * queue as usize, 56 * own as usize);
+    let at = State::SIZE + 2 * num8(state, State::AT_ME) as usize;
+    let numbered = num16(state, State::AT_NUMBERED);
+    copy_up(
+        state,
+        from,
+        to + State::SLOT * queue as usize,
+        State::SLOT * own as usize,
+    );
     put_entered(state, queue + own as u32, at, numbered);
 }
 
@@ -70,7 +76,7 @@ fn without_membership(h: State) -> State
     ensures { λ r. ⌜ ((s : Server) → h ≡ headerOf s → r ≡ headerOf (dropped s)) ⌝ }
 {
     let mut t = h;
-    t.mode = 0;
+    t.mode = State::NON_PRIM;
     t.configuration_status = 0;
     t.configuration_id = 0;
     t.configuration_set = 0;
@@ -83,7 +89,7 @@ fn without_membership(h: State) -> State
 
 // "Non_prim, no configuration, holds and States dropped"
 fn drop_membership(state: &mut [u8])
-    requires { ⌜ 60 ≤ length (now state) ⌝ }
+    requires { ⌜ headerSize ≤ length (now state) ⌝ }
     ensures { λ _. ⌜ ((s : Server) → Holds s (now (state .entry)) → now (state .exit) ≡ image (dropped s) (now (state .entry))) ⌝ }
 {
     let h = load(state);

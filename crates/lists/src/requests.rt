@@ -11,7 +11,7 @@ ghost use Rattle.format.specs.Write.{actionBytes, payloadBytes};
 ghost use Rattle.record.specs.Values.{actionOf};
 ghost use Rattle.replication.specs.Machine.Types.{Server};
 ghost use Rattle.replication.specs.Machine.Requests.{quotaLeft, numbered as withNumbered, hold as withHeld};
-ghost use Rattle.engine.specs.Layout.{heldSize, slotSize, theHeld, theOwn};
+ghost use Rattle.engine.specs.Layout.{heldSize, slotSize, theHeld, theOwn, headerSize, atNumbered, atOwnCount, atHeldCount};
 ghost use Rattle.engine.specs.Image.{slot, image};
 ghost use Rattle.engine.proofs.InPlace.{Holds};
 ghost use Rattle.lists.specs.Lists.{CountsIn, PayloadRoom, SlotRoom, nextHead, place};
@@ -20,6 +20,7 @@ use engine::places::own_at;
 use engine::starting::clear;
 use queue::slots::put_slot;
 use record::ActionHead;
+use record::State;
 use record::bytes::num8;
 use record::bytes::num16;
 use record::bytes::num32;
@@ -29,35 +30,38 @@ use stores::put16;
 // Where the own list begins: there is room for one action more.
 pub fn own_place(state: &[u8]) -> usize
     requires { ⌜ CountsIn (now state) ⌝ }
-    ensures { λ r. ⌜ (r ≡ place theOwn (now (state .entry))) × (r + (56 * numberAt 2 (now (state .entry)) 29 + 56) ≤ length (now (state .entry))) × (numberAt 2 (now (state .entry)) 29 ≤ 256) × (numberAt 2 (now (state .entry)) 27 ≤ 256) × (60 ≤ length (now (state .entry))) ⌝ }
+    ensures { λ r. ⌜ (r ≡ place theOwn (now (state .entry))) × (r + (slotSize * numberAt 2 (now (state .entry)) atOwnCount + slotSize) ≤ length (now (state .entry))) × (numberAt 2 (now (state .entry)) atOwnCount ≤ 256) × (numberAt 2 (now (state .entry)) atNumbered ≤ 256) × (headerSize ≤ length (now (state .entry))) ⌝ }
 {
-    own_at(num8(state, 0) as u32, num16(state, 1) as u32) as usize
+    own_at(
+        num8(state, State::AT_SERVERS) as u32,
+        num16(state, State::AT_QUOTA) as u32,
+    ) as usize
 }
 
 // The next own action but its payload.
 pub fn next_head(state: &[u8]) -> ActionHead
-    requires { ⌜ (numberAt 2 (now state) 27 ≤ 256) × (60 ≤ length (now state)) ⌝ }
+    requires { ⌜ (numberAt 2 (now state) atNumbered ≤ 256) × (headerSize ≤ length (now state)) ⌝ }
     ensures { λ r. ⌜ r ≡ nextHead (now (state .entry)) ⌝ }
 {
     ActionHead {
-        creator: num8(state, 3),
-        index: num16(state, 27) + 1,
-        green_length: num32(state, 23),
+        creator: num8(state, State::AT_ME),
+        index: num16(state, State::AT_NUMBERED) + 1,
+        green_length: num32(state, State::AT_GREEN_LENGTH),
     }
 }
 
 pub fn put_counts(state: &mut [u8], numbered: u16, own: u16)
-    requires { ⌜ 60 ≤ length (now state) ⌝ }
-    ensures { λ _. ⌜ now (state .exit) ≡ patched 29 (bytesOf 2 own) (patched 27 (bytesOf 2 numbered) (now (state .entry))) ⌝ }
+    requires { ⌜ headerSize ≤ length (now state) ⌝ }
+    ensures { λ _. ⌜ now (state .exit) ≡ patched atOwnCount (bytesOf 2 own) (patched atNumbered (bytesOf 2 numbered) (now (state .entry))) ⌝ }
 {
-    put16(state, 27, numbered);
-    put16(state, 29, own);
+    put16(state, State::AT_NUMBERED, numbered);
+    put16(state, State::AT_OWN_COUNT, own);
 }
 
 // An action's slot at `at`, and the counts.
 fn push_own(state: &mut [u8], at: usize, head: ActionHead, payload: &[u8], numbered: u16, own: u16)
     requires { ⌜ SlotRoom slotSize at (now payload) (now state) ⌝ }
-    ensures { λ _. ⌜ now (state .exit) ≡ patched 29 (bytesOf 2 own) (patched 27 (bytesOf 2 numbered) (patched at (slot slotSize (actionBytes (actionOf head (now (payload .entry))))) (now (state .entry)))) ⌝ }
+    ensures { λ _. ⌜ now (state .exit) ≡ patched atOwnCount (bytesOf 2 own) (patched atNumbered (bytesOf 2 numbered) (patched at (slot slotSize (actionBytes (actionOf head (now (payload .entry))))) (now (state .entry)))) ⌝ }
 {
     put_slot(state, at, head, payload);
     put_counts(state, numbered, own);
@@ -69,12 +73,12 @@ pub fn number(state: &mut [u8], payload: &[u8])
     ensures { λ _. ⌜ ((s : Server) → Holds s (now (state .entry)) → quotaLeft s ≡ true → now (state .exit) ≡ image (withNumbered (now (payload .entry) ∷ []) s) (now (state .entry))) ⌝ }
 {
     let at = own_place(state);
-    let own = num16(state, 29);
-    let numbered = num16(state, 27);
+    let own = num16(state, State::AT_OWN_COUNT);
+    let numbered = num16(state, State::AT_NUMBERED);
     let head = next_head(state);
     push_own(
         state,
-        at + 56 * own as usize,
+        at + State::SLOT * own as usize,
         head,
         payload,
         numbered + 1,
@@ -85,9 +89,12 @@ pub fn number(state: &mut [u8], payload: &[u8])
 // Where the held requests begin: there is room for one more.
 pub fn held_place(state: &[u8]) -> usize
     requires { ⌜ CountsIn (now state) ⌝ }
-    ensures { λ r. ⌜ (r ≡ place theHeld (now (state .entry))) × (r + (49 * numberAt 2 (now (state .entry)) 31 + 49) ≤ length (now (state .entry))) × (numberAt 2 (now (state .entry)) 31 ≤ 16) × (60 ≤ length (now (state .entry))) ⌝ }
+    ensures { λ r. ⌜ (r ≡ place theHeld (now (state .entry))) × (r + (heldSize * numberAt 2 (now (state .entry)) atHeldCount + heldSize) ≤ length (now (state .entry))) × (numberAt 2 (now (state .entry)) atHeldCount ≤ 16) × (headerSize ≤ length (now (state .entry))) ⌝ }
 {
-    held_at(num8(state, 0) as u32, num16(state, 1) as u32) as usize
+    held_at(
+        num8(state, State::AT_SERVERS) as u32,
+        num16(state, State::AT_QUOTA) as u32,
+    ) as usize
 }
 
 // A held request's slot from `at` on: its payload, filled up with zeros.
@@ -96,16 +103,20 @@ fn put_held(state: &mut [u8], at: usize, payload: &[u8])
     ensures { λ _. ⌜ now (state .exit) ≡ patched at (slot heldSize (payloadBytes (now (payload .entry)))) (now (state .entry)) ⌝ }
 {
     put_payload(state, at, payload);
-    clear(state, at + (1 + payload.len()), 48 - payload.len());
+    clear(
+        state,
+        at + (1 + payload.len()),
+        State::MOST_PAYLOAD - payload.len(),
+    );
 }
 
 // The same, and the count.
 fn push_held(state: &mut [u8], at: usize, payload: &[u8], count: u16)
     requires { ⌜ SlotRoom heldSize at (now payload) (now state) ⌝ }
-    ensures { λ _. ⌜ now (state .exit) ≡ patched 31 (bytesOf 2 count) (patched at (slot heldSize (payloadBytes (now (payload .entry)))) (now (state .entry))) ⌝ }
+    ensures { λ _. ⌜ now (state .exit) ≡ patched atHeldCount (bytesOf 2 count) (patched at (slot heldSize (payloadBytes (now (payload .entry)))) (now (state .entry))) ⌝ }
 {
     put_held(state, at, payload);
-    put16(state, 31, count);
+    put16(state, State::AT_HELD_COUNT, count);
 }
 
 // "Elsewhere held"
@@ -114,6 +125,6 @@ pub fn hold(state: &mut [u8], payload: &[u8])
     ensures { λ _. ⌜ ((s : Server) → Holds s (now (state .entry)) → length (s .held) < mostHeld → now (state .exit) ≡ image (withHeld (now (payload .entry)) s) (now (state .entry))) ⌝ }
 {
     let at = held_place(state);
-    let count = num16(state, 31);
-    push_held(state, at + 49 * count as usize, payload, count + 1);
+    let count = num16(state, State::AT_HELD_COUNT);
+    push_held(state, at + State::HELD * count as usize, payload, count + 1);
 }

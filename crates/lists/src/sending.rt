@@ -9,7 +9,7 @@ ghost use Rattle.replication.specs.Machine.Types.{Server};
 ghost use Rattle.replication.specs.Machine.Requests.{sendHeld};
 ghost use Rattle.engine.specs.Image.{image};
 ghost use Rattle.engine.proofs.InPlace.{Holds};
-ghost use Rattle.engine.specs.Layout.{heldSize, slotSize};
+ghost use Rattle.engine.specs.Layout.{heldSize, slotSize, headerSize, atNumbered, atOwnCount, atHeldCount};
 ghost use Rattle.stores.specs.Blocks.{headBytes};
 ghost use Rattle.lists.specs.Sending.{SendRoom, SendReady, movedSlots};
 use crate::requests::held_place;
@@ -17,18 +17,19 @@ use crate::requests::next_head;
 use crate::requests::own_place;
 use crate::requests::put_counts;
 use record::ActionHead;
+use record::State;
 use record::blocks::copy;
 use record::bytes::num16;
 use stores::put16;
 
 // The held request's slot at `from`.
-fn held_slot(state: &[u8], from: usize) -> [u8; 49]
+fn held_slot(state: &[u8], from: usize) -> [u8; State::HELD]
     requires { ⌜ from + heldSize ≤ length (now state) ⌝ }
     ensures { λ r. ⌜ r ≡ partAt heldSize (now (state .entry)) from ⌝ }
 {
-    let mut x: [u8; 49] = [0; 49];
+    let mut x: [u8; State::HELD] = [0; State::HELD];
     let mut j: usize = 0;
-    while j < 49 {
+    while j < State::HELD {
         x[j] = state[from + j];
         j += 1;
     }
@@ -74,17 +75,22 @@ fn send_all(state: &mut [u8], from: usize, to: usize, count: u16, head: ActionHe
             index: head.index + j,
             green_length: head.green_length,
         };
-        send_one(state, from + 49 * j as usize, to + 56 * j as usize, next);
+        send_one(
+            state,
+            from + State::HELD * j as usize,
+            to + State::SLOT * j as usize,
+            next,
+        );
         j += 1;
     }
 }
 
 fn put_sent(state: &mut [u8], numbered: u16, own: u16)
-    requires { ⌜ 60 ≤ length (now state) ⌝ }
-    ensures { λ _. ⌜ now (state .exit) ≡ patched 31 (bytesOf 2 0) (patched 29 (bytesOf 2 own) (patched 27 (bytesOf 2 numbered) (now (state .entry)))) ⌝ }
+    requires { ⌜ headerSize ≤ length (now state) ⌝ }
+    ensures { λ _. ⌜ now (state .exit) ≡ patched atHeldCount (bytesOf 2 0) (patched atOwnCount (bytesOf 2 own) (patched atNumbered (bytesOf 2 numbered) (now (state .entry)))) ⌝ }
 {
     put_counts(state, numbered, own);
-    put16(state, 31, 0);
+    put16(state, State::AT_HELD_COUNT, 0);
 }
 
 // "and sent in order on reaching those states"
@@ -94,10 +100,10 @@ pub fn send_held(state: &mut [u8])
 {
     let from = held_place(state);
     let at = own_place(state);
-    let own = num16(state, 29);
-    let held = num16(state, 31);
-    let numbered = num16(state, 27);
+    let own = num16(state, State::AT_OWN_COUNT);
+    let held = num16(state, State::AT_HELD_COUNT);
+    let numbered = num16(state, State::AT_NUMBERED);
     let head = next_head(state);
-    send_all(state, from, at + 56 * own as usize, held, head);
+    send_all(state, from, at + State::SLOT * own as usize, held, head);
     put_sent(state, numbered + held, own + held);
 }

@@ -9,7 +9,7 @@ ghost use Rattle.format.specs.Types.{State, state as stateRecord};
 ghost use Rattle.format.specs.Write.{write};
 ghost use Rattle.replication.specs.Machine.Types.{Server};
 ghost use Rattle.replication.specs.Machine.Step.{withState};
-ghost use Rattle.engine.specs.Layout.{stateSize, theStates};
+ghost use Rattle.engine.specs.Layout.{stateSize, theStates, headerSize, atStates};
 ghost use Rattle.engine.specs.Image.{image};
 ghost use Rattle.engine.specs.Decode.{serversIn, quotaIn};
 ghost use Rattle.engine.proofs.InPlace.{Holds};
@@ -25,28 +25,28 @@ use stores::put8;
 // Where the slot of server k begins.
 pub fn state_place(state: &[u8], k: u8) -> usize
     requires { ⌜ NumberIn k (now state) ⌝ }
-    ensures { λ r. ⌜ (r ≡ place theStates (now (state .entry)) + k * stateSize (serversIn (now (state .entry))) (quotaIn (now (state .entry)))) × (r + stateSize (serversIn (now (state .entry))) (quotaIn (now (state .entry))) ≤ length (now (state .entry))) × (60 ≤ length (now (state .entry))) ⌝ }
+    ensures { λ r. ⌜ (r ≡ place theStates (now (state .entry)) + k * stateSize (serversIn (now (state .entry))) (quotaIn (now (state .entry)))) × (r + stateSize (serversIn (now (state .entry))) (quotaIn (now (state .entry))) ≤ length (now (state .entry))) × (headerSize ≤ length (now (state .entry))) ⌝ }
 {
-    let n = num8(state, 0) as u32;
-    let q = num16(state, 1) as u32;
+    let n = num8(state, record::State::AT_SERVERS) as u32;
+    let q = num16(state, record::State::AT_QUOTA) as u32;
     (states_at(n, q) + product(k as u32, state_size(n, q))) as usize
 }
 
 // The set of senders, with server k.
 fn with_sender(state: &[u8], k: u8) -> u8
-    requires { ⌜ (60 ≤ length (now state)) × (k < 8) ⌝ }
-    ensures { λ r. ⌜ r ≡ withMember k (numberAt 1 (now (state .entry)) 13) ⌝ }
+    requires { ⌜ (headerSize ≤ length (now state)) × (k < 8) ⌝ }
+    ensures { λ r. ⌜ r ≡ withMember k (numberAt 1 (now (state .entry)) atStates) ⌝ }
 {
-    num8(state, 13) | (1 << k)
+    num8(state, record::State::AT_STATES) | (1 << k)
 }
 
 // A record at `at`, and the set of senders.
 fn put_state(state: &mut [u8], at: usize, event: &[u8], senders: u8)
-    requires { ⌜ (at + length (now event) ≤ length (now state)) × (60 ≤ length (now state)) ⌝ }
-    ensures { λ _. ⌜ now (state .exit) ≡ patched 13 (bytesOf 1 senders) (patched at (now (event .entry)) (now (state .entry))) ⌝ }
+    requires { ⌜ (at + length (now event) ≤ length (now state)) × (headerSize ≤ length (now state)) ⌝ }
+    ensures { λ _. ⌜ now (state .exit) ≡ patched atStates (bytesOf 1 senders) (patched at (now (event .entry)) (now (state .entry))) ⌝ }
 {
     copy(state, at, event);
-    put8(state, 13, senders);
+    put8(state, record::State::AT_STATES, senders);
 }
 
 // The State of server k is in: its record, as it came.

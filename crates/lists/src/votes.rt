@@ -10,6 +10,7 @@ ghost use Rattle.engine.specs.Header.{headerOf};
 ghost use Rattle.engine.proofs.InPlace.{Holds};
 ghost use Rattle.lists.specs.Lists.{YellowRoom};
 ghost use Rattle.lists.specs.Standing.{voteNumbers};
+ghost use Rattle.engine.specs.Layout.{headerSize};
 use crate::numbers::save_numbers;
 use crate::yellow::yellow_place;
 use engine::header::load;
@@ -47,7 +48,7 @@ fn without_mark(h: State) -> State
 
 // "clears the mark"
 pub fn clear_mark(state: &mut [u8])
-    requires { ⌜ 60 ≤ length (now state) ⌝ }
+    requires { ⌜ headerSize ≤ length (now state) ⌝ }
     ensures { λ _. ⌜ ((s : Server) → Holds s (now (state .entry)) → now (state .exit) ≡ image (withVotes (unmarked (s .votes)) s) (now (state .entry))) ⌝ }
 {
     let h = load(state);
@@ -65,7 +66,7 @@ fn with_valid(h: State) -> State
 
 // "makes yellow valid"
 pub fn make_yellow_valid(state: &mut [u8])
-    requires { ⌜ 60 ≤ length (now state) ⌝ }
+    requires { ⌜ headerSize ≤ length (now state) ⌝ }
     ensures { λ _. ⌜ ((s : Server) → Holds s (now (state .entry)) → now (state .exit) ≡ image (withVotes (yellowValid (s .votes)) s) (now (state .entry))) ⌝ }
 {
     let h = load(state);

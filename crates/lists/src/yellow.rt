@@ -11,11 +11,12 @@ ghost use Rattle.format.specs.Write.{idBytes};
 ghost use Rattle.record.specs.Values.{idOf};
 ghost use Rattle.replication.specs.Machine.Types.{Server, contextOf, withVotes};
 ghost use Rattle.replication.specs.Machine.Colours.{joinYellow};
-ghost use Rattle.engine.specs.Layout.{theYellow};
+ghost use Rattle.engine.specs.Layout.{theYellow, headerSize, atYellowCount};
 ghost use Rattle.engine.specs.Image.{image};
 ghost use Rattle.engine.proofs.InPlace.{Holds};
 ghost use Rattle.lists.specs.Lists.{CountsIn, place};
 use engine::places::yellow_at;
+use record::State;
 use record::bytes::num8;
 use record::bytes::num16;
 use stores::put_id;
@@ -50,18 +51,21 @@ fn has_id(e: &[u8], at: usize, count: usize, creator: u8, index: u16) -> bool
 // Where the yellow list begins: there is room for one id more.
 pub fn yellow_place(state: &[u8]) -> usize
     requires { ⌜ CountsIn (now state) ⌝ }
-    ensures { λ r. ⌜ (r ≡ place theYellow (now (state .entry))) × (r + (3 * numberAt 2 (now (state .entry)) 58 + 3) ≤ length (now (state .entry))) × (numberAt 2 (now (state .entry)) 58 ≤ 2048) × (60 ≤ length (now (state .entry))) ⌝ }
+    ensures { λ r. ⌜ (r ≡ place theYellow (now (state .entry))) × (r + (3 * numberAt 2 (now (state .entry)) atYellowCount + 3) ≤ length (now (state .entry))) × (numberAt 2 (now (state .entry)) atYellowCount ≤ 2048) × (headerSize ≤ length (now (state .entry))) ⌝ }
 {
-    yellow_at(num8(state, 0) as u32, num16(state, 1) as u32) as usize
+    yellow_at(
+        num8(state, State::AT_SERVERS) as u32,
+        num16(state, State::AT_QUOTA) as u32,
+    ) as usize
 }
 
 // An id at `at`, and the count.
 fn add_id(state: &mut [u8], at: usize, count: u16, creator: u8, index: u16)
-    requires { ⌜ (60 ≤ length (now state)) × (at + 3 ≤ length (now state)) × (count ≤ 2048) ⌝ }
-    ensures { λ _. ⌜ now (state .exit) ≡ patched 58 (bytesOf 2 (count + 1)) (patched at (idBytes (idOf creator index)) (now (state .entry))) ⌝ }
+    requires { ⌜ (headerSize ≤ length (now state)) × (at + 3 ≤ length (now state)) × (count ≤ 2048) ⌝ }
+    ensures { λ _. ⌜ now (state .exit) ≡ patched atYellowCount (bytesOf 2 (count + 1)) (patched at (idBytes (idOf creator index)) (now (state .entry))) ⌝ }
 {
     put_id(state, at, creator, index);
-    put16(state, 58, count + 1);
+    put16(state, State::AT_YELLOW_COUNT, count + 1);
 }
 
 // "its id joins the yellow list": one that is already there has joined.
@@ -70,7 +74,7 @@ pub fn join_yellow(state: &mut [u8], creator: u8, index: u16)
     ensures { λ _. ⌜ ((s : Server) → Holds s (now (state .entry)) → idOk (contextOf s) (idOf creator index) ≡ true → now (state .exit) ≡ image (withVotes (joinYellow (idOf creator index) (s .votes)) s) (now (state .entry))) ⌝ }
 {
     let at = yellow_place(state);
-    let count = num16(state, 58);
+    let count = num16(state, State::AT_YELLOW_COUNT);
     if has_id(state, at, count as usize, creator, index) {
         return;
     }

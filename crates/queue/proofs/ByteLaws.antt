@@ -14,23 +14,23 @@ use Rattle.base.specs.Sections.{patched-inside}
 use Rattle.format.specs.Write.{actionBytes}
 use Rattle.record.specs.declared.ActionHead.{ActionHead}
 use Rattle.record.specs.Values.{idOf, actionOf}
-use Rattle.engine.specs.Layout.{slotSize}
+use Rattle.engine.specs.Layout.{slotSize, headerSize, atQueueLength, atGreenLength, atOwnCount}
 use Rattle.engine.specs.Image.{slot}
 use Rattle.queue.specs.Queue.{queueAt, appended, queued, popped, promoted}
 
-pub appended-made : (h : ActionHead) (p s s₁ s₂ : List ℕ) (count r : ℕ) → count ≡ numberAt 4 s 19 → r ≡ queueAt s
-    → s₁ ≡ patched (r + slotSize * count) (slot slotSize (actionBytes (actionOf h p))) s → s₂ ≡ patched 19 (bytesOf 4 (count + 1)) s₁
+pub appended-made : (h : ActionHead) (p s s₁ s₂ : List ℕ) (count r : ℕ) → count ≡ numberAt 4 s atQueueLength → r ≡ queueAt s
+    → s₁ ≡ patched (r + slotSize * count) (slot slotSize (actionBytes (actionOf h p))) s → s₂ ≡ patched atQueueLength (bytesOf 4 (count + 1)) s₁
     → s₂ ≡ appended (actionOf h p) s
 unfolding appended
 appended-made h p s s₁ s₂ count r e f g k =
     let x : List ℕ = slot slotSize (actionBytes (actionOf h p)) in
-    k ∙ ap (patched 19 (bytesOf 4 (count + 1))) g
-    ∙ ap₂ {A = ℕ} {B = ℕ} {C = List ℕ} (λ m i. patched 19 (bytesOf 4 (m + 1)) (patched (i + slotSize * m) x s)) e f
+    k ∙ ap (patched atQueueLength (bytesOf 4 (count + 1))) g
+    ∙ ap₂ {A = ℕ} {B = ℕ} {C = List ℕ} (λ m i. patched atQueueLength (bytesOf 4 (m + 1)) (patched (i + slotSize * m) x s)) e f
 
-pub queued-made : (h : ActionHead) (p s s₁ s₂ : List ℕ) → s₁ ≡ appended (actionOf h p) s → s₂ ≡ patched (60 + 2 * h .creator) (bytesOf 2 (h .index)) s₁
+pub queued-made : (h : ActionHead) (p s s₁ s₂ : List ℕ) → s₁ ≡ appended (actionOf h p) s → s₂ ≡ patched (headerSize + 2 * h .creator) (bytesOf 2 (h .index)) s₁
     → s₂ ≡ queued (actionOf h p) s
 unfolding queued actionOf idOf
-queued-made h p s s₁ s₂ e f = f ∙ ap (patched (60 + 2 * h .creator) (bytesOf 2 (h .index))) e
+queued-made h p s s₁ s₂ e f = f ∙ ap (patched (headerSize + 2 * h .creator) (bytesOf 2 (h .index))) e
 
 made-of : (s y : List ℕ) (a v w : ℕ) → v ≡ w → y ≡ patched 0 (drop slotSize (take v (drop a s))) (take v (drop a s))
     → y ≡ patched 0 (drop slotSize (partAt w s a)) (partAt w s a)
@@ -39,7 +39,7 @@ made-of s y a v w m n = n ∙ ap (λ (i : ℕ). patched 0 (drop slotSize (take i
 
 pub popped-made : (s y s₂ : List ℕ) (a e own : ℕ) → 1 ≤ own → a + slotSize * own ≤ length s → e ≡ a + slotSize * own
     → y ≡ patched 0 (drop slotSize (take (e - a) (drop a s))) (take (e - a) (drop a s))
-    → s₂ ≡ patched 29 (bytesOf 2 (own - 1)) (take a s ++ (y ++ drop (e - a) (drop a s))) → s₂ ≡ popped a own s
+    → s₂ ≡ patched atOwnCount (bytesOf 2 (own - 1)) (take a s ++ (y ++ drop (e - a) (drop a s))) → s₂ ≡ popped a own s
 unfolding popped
 popped-made s y s₂ a e own l h f g k =
     let w : ℕ = slotSize * own in
@@ -56,7 +56,7 @@ popped-made s y s₂ a e own l h f g k =
     ∙ ap (λ (z : List ℕ). patched a z s) made
     ∙ sym (patched-inside a 0 w x s (omega arith) h)
     ∙ ap (λ (m : ℕ). patched m x s) (add-zero a) in
-    k ∙ ap (patched 29 (bytesOf 2 (own - 1))) whole
+    k ∙ ap (patched atOwnCount (bytesOf 2 (own - 1))) whole
 
 drop-take : (m n : ℕ) (l : List ℕ) → m ≤ length l → drop m (take (m + n) l) ≡ take n (drop m l)
 drop-take m n l h = ap (drop m) (take-add m n l) ∙ drop-at (take m l) (take n (drop m l)) m (length-take-le m l h)
@@ -76,7 +76,7 @@ front-made s y a k w h f g =
 
 pub promoted-made : (s y s₂ : List ℕ) (a e k g : ℕ) → a + (slotSize * k + slotSize) ≤ length s → e ≡ a + (slotSize * k + slotSize)
     → y ≡ drop (length (take (e - a) (drop a s)) - slotSize) (take (e - a) (drop a s)) ++ take (length (take (e - a) (drop a s)) - slotSize) (take (e - a) (drop a s))
-    → s₂ ≡ patched 23 (bytesOf 4 g) (take a s ++ (y ++ drop (e - a) (drop a s))) → s₂ ≡ promoted a k g s
+    → s₂ ≡ patched atGreenLength (bytesOf 4 g) (take a s ++ (y ++ drop (e - a) (drop a s))) → s₂ ≡ promoted a k g s
 unfolding promoted
 promoted-made s y s₂ a e k g h f made j =
     let w : ℕ = slotSize * k + slotSize in
@@ -86,5 +86,5 @@ promoted-made s y s₂ a e k g h f made j =
     let long : length x ≡ w =
     length-append (partAt slotSize s (a + slotSize * k)) (partAt (slotSize * k) s a)
     ∙ omega (arith, part-length slotSize s (a + slotSize * k) (omega arith), part-length (slotSize * k) s a (omega arith)) in
-    j ∙ ap (patched 23 (bytesOf 4 g))
+    j ∙ ap (patched atGreenLength (bytesOf 4 g))
     (ap₂ {A = List ℕ} {B = ℕ} {C = List ℕ} (λ z m. take a s ++ (z ++ drop m (drop a s))) same size ∙ lent-patched a w x s long)

@@ -27,7 +27,7 @@ use Rattle.replication.proofs.WellFormed.Ids.{same-id-yes, same-id-no}
 use Rattle.replication.proofs.WellFormed.Held.{remove-absent}
 use Rattle.replication.proofs.WellFormed.Logs.{ownId, enter-fits}
 use Rattle.replication.proofs.WellFormed.RuleFacts.{Delivered}
-use Rattle.engine.specs.Layout.{slotSize, theHeader, theCuts, theOwn, theQueue, sections, offset}
+use Rattle.engine.specs.Layout.{slotSize, theHeader, theCuts, theOwn, theQueue, sections, offset, atQueueLength, atOwnCount}
 use Rattle.engine.specs.Image.{over, slot, headerBytes, actionSlots, section, parts, image}
 use Rattle.engine.proofs.InRange.{in-range}
 use Rattle.engine.proofs.Used.{ActionFits, action-slot-length, action-slots-length, slots-append}
@@ -50,16 +50,16 @@ one-more a l =
 
 -- The counts of the queue and of the own list.
 header-counts : (s : Server) (u v : List ℕ) → length u ≡ 4 → length v ≡ 2
-    → (patched 19 u (headerBytes s) ≡ joined (set (fields s) theQueueCount u))
-    × (patched 29 v (joined (set (fields s) theQueueCount u)) ≡ joined (set (set (fields s) theQueueCount u) theOwnCount v))
+    → (patched atQueueLength u (headerBytes s) ≡ joined (set (fields s) theQueueCount u))
+    × (patched atOwnCount v (joined (set (fields s) theQueueCount u)) ≡ joined (set (set (fields s) theQueueCount u) theOwnCount v))
 unfolding sum
 header-counts s u v e f = (
-  ap (patched 19 u) (header-fields s) ∙ field-changed (fields s) theQueueCount u (fields-sized s) (omega arith) e,
+  ap (patched atQueueLength u) (header-fields s) ∙ field-changed (fields s) theQueueCount u (fields-sized s) (omega arith) e,
   field-changed (set (fields s) theQueueCount u) theOwnCount v (sized-set fieldSizes (fields s) theQueueCount u (fields-sized s) e) (omega arith) f,
 )
 
 pub header-entered : (s : Server) (a : Action) → length (remove (a .id) (s .log .own)) ≡ length (s .log .own)
-    → patched 19 (bytesOf 4 (length (queue (s .log)) + 1)) (headerBytes s) ≡ headerBytes (withLog (enter a (s .log)) s)
+    → patched atQueueLength (bytesOf 4 (length (queue (s .log)) + 1)) (headerBytes s) ≡ headerBytes (withLog (enter a (s .log)) s)
 unfolding enter
 header-entered s a e =
     let t : Server = withLog (enter a (s .log)) s in
@@ -70,14 +70,14 @@ header-entered s a e =
     ∙ sym (header-fields t)
 
 pub header-left : (s : Server) (a : Action) (k : ℕ) → k ≡ length (remove (a .id) (s .log .own))
-    → patched 29 (bytesOf 2 k) (patched 19 (bytesOf 4 (length (queue (s .log)) + 1)) (headerBytes s)) ≡ headerBytes (withLog (enter a (s .log)) s)
+    → patched atOwnCount (bytesOf 2 k) (patched atQueueLength (bytesOf 4 (length (queue (s .log)) + 1)) (headerBytes s)) ≡ headerBytes (withLog (enter a (s .log)) s)
 unfolding enter
 header-left s a k e =
     let t : Server = withLog (enter a (s .log)) s in
     let u : List ℕ = bytesOf 4 (length (queue (s .log)) + 1) in
     let m : length (queue (s .log)) + 1 ≡ length (queue (t .log)) = sym (one-more a (s .log)) in
     let x = header-counts s u (bytesOf 2 k) (bytes-length 4 _) (bytes-length 2 _) in
-    ap (patched 29 (bytesOf 2 k)) (x .0)
+    ap (patched atOwnCount (bytesOf 2 k)) (x .0)
     ∙ x .1
     ∙ ap₂ {A = ℕ} {B = ℕ} {C = List ℕ} (λ i j. joined (set (set (fields s) theQueueCount (bytesOf 4 i)) theOwnCount (bytesOf 2 j))) m e
     ∙ sym (header-fields t)

@@ -22,7 +22,7 @@ use Rattle.replication.specs.Machine.WellFormed.{idsIn, queue, wellFormed}
 use Rattle.replication.proofs.Step.Logs.{next-index}
 use Rattle.replication.proofs.WellFormed.Logs.{LogFits, ownId, enter-fits}
 use Rattle.replication.proofs.WellFormed.RuleFacts.{Delivered}
-use Rattle.engine.specs.Layout.{slotSize, stateSize, theHeader, theCuts, theNoted, theHeld, theStates, theYellow, theOwn, theQueue, sections, offset}
+use Rattle.engine.specs.Layout.{slotSize, stateSize, theHeader, theCuts, theNoted, theHeld, theStates, theYellow, theOwn, theQueue, sections, offset, headerSize, atMe, atQueueLength, atOwnCount}
 use Rattle.engine.specs.Image.{over, slot, headerBytes, notedBytes, statesOver, actionSlots, heldSlots, section, parts, image}
 use Rattle.engine.proofs.InRange.{in-range}
 use Rattle.engine.proofs.Used.{ActionFits, action-slot-length, action-slots-length}
@@ -80,19 +80,19 @@ module _ (s : Server) (a : Action) (b : List ℕ) (r : Holds s b) (d : Delivered
   slotted = patched (offset (s .servers) (s .quota) theQueue + slotSize * length (queue (s .log))) (slot slotSize (actionBytes a)) b
 
   abbrev counted : List ℕ
-  counted = patched 19 (bytesOf 4 (length (queue (s .log)) + 1)) slotted
+  counted = patched atQueueLength (bytesOf 4 (length (queue (s .log)) + 1)) slotted
 
-  all-but-own : queued a b ≡ patched (60 + 2 * a .id .creator) (bytesOf 2 (a .id .index)) counted
+  all-but-own : queued a b ≡ patched (headerSize + 2 * a .id .creator) (bytesOf 2 (a .id .index)) counted
   unfolding queued appended
   all-but-own =
       let m = numbers s b r in
       λ i.
-      patched (60 + 2 * a .id .creator) (bytesOf 2 (a .id .index))
-      (patched 19 (bytesOf 4 (m .queue i + 1))
+      patched (headerSize + 2 * a .id .creator) (bytesOf 2 (a .id .index))
+      (patched atQueueLength (bytesOf 4 (m .queue i + 1))
       (patched (offset (m .servers i) (m .quota i) theQueue + slotSize * m .queue i) (slot slotSize (actionBytes a)) b))
 
   queued-changed : Changed (sections (s .servers) (s .quota))
-      (patched 19 (bytesOf 4 (length (queue (s .log)) + 1)) (headerBytes s)
+      (patched atQueueLength (bytesOf 4 (length (queue (s .log)) + 1)) (headerBytes s)
       ∷ patched (2 * a .id .creator) (bytesOf 2 (a .id .index)) (over (cutsBytes (s .log .cuts)) (section (s .servers) (s .quota) theCuts b))
       ∷ over (notedBytes (s .noted)) (section (s .servers) (s .quota) theNoted b)
       ∷ over (heldSlots (s .held)) (section (s .servers) (s .quota) theHeld b)
@@ -107,8 +107,8 @@ module _ (s : Server) (a : Action) (b : List ℕ) (r : Holds s b) (d : Delivered
       let ws : List ℕ = sections (s .servers) (s .quota) in
       let size : length (slot slotSize (actionBytes a)) ≡ slotSize = action-slot-length a (record { most = d .fits .payload .most; bytes = d .fits .payload .bytes }) in
       let c₁ = changed-at ws _ b b (holds-changed s b r) theQueue (slotSize * length (queue (s .log))) _ (slot slotSize (actionBytes a)) refl (omega arith) (omega (arith, entered-room)) in
-      let c₂ = changed-at ws _ b slotted c₁ theHeader 19 19 (bytesOf 4 (length (queue (s .log)) + 1)) refl (omega arith) (omega (arith, bytes-length 4 (length (queue (s .log)) + 1))) in
-      let c₃ = changed-at ws _ b counted c₂ theCuts (2 * a .id .creator) (60 + 2 * a .id .creator) (bytesOf 2 (a .id .index)) refl (omega arith) (omega (arith, bytes-length 2 (a .id .index), d .fits .id .creator)) in
+      let c₂ = changed-at ws _ b slotted c₁ theHeader atQueueLength atQueueLength (bytesOf 4 (length (queue (s .log)) + 1)) refl (omega arith) (omega (arith, bytes-length 4 (length (queue (s .log)) + 1))) in
+      let c₃ = changed-at ws _ b counted c₂ theCuts (2 * a .id .creator) (headerSize + 2 * a .id .creator) (bytesOf 2 (a .id .index)) refl (omega arith) (omega (arith, bytes-length 2 (a .id .index), d .fits .id .creator)) in
       rw all-but-own c₃
 
   cuts-room : a .id .creator < length (s .log .cuts)
@@ -149,7 +149,7 @@ module _ (s : Server) (a : Action) (b : List ℕ) (r : Holds s b) (d : Delivered
       let less : suc (length rest) ≡ m = ap length (sym e) in
       let short : length z ≡ slotSize * length rest = ap length left ∙ action-slots-length rest (fits .1) in
       let c₁ = changed-at ws _ b (queued a b) queued-changed theOwn 0 at z (omega arith) (omega arith) (omega (arith, f .ownCount)) in
-      let c₂ = changed-at ws _ b (patched at z (queued a b)) c₁ theHeader 29 29 (bytesOf 2 (m - 1)) refl (omega arith) (omega (arith, bytes-length 2 (m - 1))) in
+      let c₂ = changed-at ws _ b (patched at z (queued a b)) c₁ theHeader atOwnCount atOwnCount (bytesOf 2 (m - 1)) refl (omega arith) (omega (arith, bytes-length 2 (m - 1))) in
       let over-own : over (actionSlots (s .log .own)) (section (s .servers) (s .quota) theOwn b) ≡ section (s .servers) (s .quota) theOwn b = sym (own-here s b r) in
       log-image s (enter a (s .log)) b _ _ _ _ _ c₂ (header-left s a (m - 1) (omega (arith, ap length g))) (cuts-entered a (s .log) _ cuts-room)
       (ap₂ {A = List ℕ} {B = List ℕ} {C = List ℕ} (λ u v. patched 0 u v) (left ∙ ap actionSlots (sym g)) over-own
@@ -172,14 +172,14 @@ module _ (s : Server) (a : Action) (b : List ℕ) (r : Holds s b) (d : Delivered
 -- ---- as the code makes it
 
 module _ (h : ActionHead) (p b : List ℕ) where
-  pub enter-other : (me : ℕ) (c : List ℕ) → me ≡ numberAt 1 b 3 → (h .creator ≡ me → ⊥) → c ≡ queued (actionOf h p) b
+  pub enter-other : (me : ℕ) (c : List ℕ) → me ≡ numberAt 1 b atMe → (h .creator ≡ me → ⊥) → c ≡ queued (actionOf h p) b
       → (s : Server) → Holds s b → Delivered s (actionOf h p) → isNext (s .log) (actionOf h p) ≡ true → c ≡ image (withLog (enter (actionOf h p) (s .log)) s) b
   unfolding actionOf idOf
   enter-other me c e n f s r d next =
       f ∙ entered-other s (actionOf h p) b r d next
       (others-stay (s .me) (actionOf h p) (s .log) (log-fits s (r .formed) .own-list) (λ g. n (g ∙ sym (numbers s b r .me) ∙ sym e)))
 
-  pub enter-none : (own : ℕ) (c : List ℕ) → own ≡ numberAt 2 b 29 → own ≡ 0 → c ≡ queued (actionOf h p) b
+  pub enter-none : (own : ℕ) (c : List ℕ) → own ≡ numberAt 2 b atOwnCount → own ≡ 0 → c ≡ queued (actionOf h p) b
       → (s : Server) → Holds s b → Delivered s (actionOf h p) → isNext (s .log) (actionOf h p) ≡ true → c ≡ image (withLog (enter (actionOf h p) (s .log)) s) b
   enter-none own c e n f s r d next = f ∙ go (s .log .own) refl
     where
@@ -187,7 +187,7 @@ module _ (h : ActionHead) (p b : List ℕ) where
       go [] g = entered-other s (actionOf h p) b r d next (ap (remove (actionOf h p .id)) g ∙ nothing-leaves (actionOf h p .id) ∙ sym g)
       go (x ∷ rest) g = absurd (omega (arith, numbers s b r .own, ap length g))
 
-  pub enter-own : (me own at : ℕ) (c₁ c₂ : List ℕ) → me ≡ numberAt 1 b 3 → own ≡ numberAt 2 b 29 → at ≡ ownAt b → (h .creator ≡ me) → (own ≡ 0 → ⊥)
+  pub enter-own : (me own at : ℕ) (c₁ c₂ : List ℕ) → me ≡ numberAt 1 b atMe → own ≡ numberAt 2 b atOwnCount → at ≡ ownAt b → (h .creator ≡ me) → (own ≡ 0 → ⊥)
       → c₁ ≡ queued (actionOf h p) b → c₂ ≡ popped at own c₁
       → (s : Server) → Holds s b → Delivered s (actionOf h p) → isNext (s .log) (actionOf h p) ≡ true → c₂ ≡ image (withLog (enter (actionOf h p) (s .log)) s) b
   unfolding actionOf idOf

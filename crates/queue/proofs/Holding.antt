@@ -19,7 +19,7 @@ use Rattle.replication.proofs.WellFormed.Facts.{well-formed-facts, facts-well-f
 use Rattle.replication.proofs.WellFormed.Changes.{Body, body, whole, log-changed-alike}
 use Rattle.replication.proofs.WellFormed.Kept.{mode-kept}
 use Rattle.replication.proofs.WellFormed.Logs.{LogFits}
-use Rattle.engine.specs.Layout.{SizesIn, slotSize, stateSize, theCuts, theNoted, theHeld, theStates, theYellow, theOwn, theQueue, sections, offset, stateLength}
+use Rattle.engine.specs.Layout.{SizesIn, slotSize, stateSize, theCuts, theNoted, theHeld, theStates, theYellow, theOwn, theQueue, sections, offset, stateLength, headerSize, atServers, atQuota, atMe, atQueueLength, atGreenLength, atOwnCount}
 use Rattle.engine.specs.Image.{over, headerBytes, notedBytes, statesOver, actionSlots, heldSlots, section, parts, image}
 use Rattle.engine.specs.Header.{headerOf, headerIn}
 use Rattle.engine.proofs.InRange.{InRange, in-range}
@@ -43,12 +43,12 @@ log-fits s ok = body s (well-formed-facts s ok) .log
 -- ---- numbers
 
 pub record Numbers (s : Server) (b : List ℕ) : Type 0 where
-  pub servers : numberAt 1 b 0 ≡ s .servers
-  pub quota : numberAt 2 b 1 ≡ s .quota
-  pub me : numberAt 1 b 3 ≡ s .me
-  pub queue : numberAt 4 b 19 ≡ length (queue (s .log))
-  pub green : numberAt 4 b 23 ≡ length (s .log .green)
-  pub own : numberAt 2 b 29 ≡ length (s .log .own)
+  pub servers : numberAt 1 b atServers ≡ s .servers
+  pub quota : numberAt 2 b atQuota ≡ s .quota
+  pub me : numberAt 1 b atMe ≡ s .me
+  pub queue : numberAt 4 b atQueueLength ≡ length (queue (s .log))
+  pub green : numberAt 4 b atGreenLength ≡ length (s .log .green)
+  pub own : numberAt 2 b atOwnCount ≡ length (s .log .own)
 
 pub numbers : (s : Server) (b : List ℕ) → Holds s b → Numbers s b
 unfolding headerIn headerOf
@@ -67,7 +67,7 @@ sections-end : (n q k : ℕ) → offset n q k + getD (sections n q) k 0 ≤ stat
 unfolding offset stateLength
 sections-end n q k = begin-end (sections n q) k
 
-cuts-end : (n q : ℕ) → 60 + 2 * n ≤ stateLength n q
+cuts-end : (n q : ℕ) → headerSize + 2 * n ≤ stateLength n q
 unfolding stateLength sections sum
 cuts-end n q = omega arith
 
@@ -83,7 +83,7 @@ pub queue-parts : (l : Log) → length (queue l) ≡ length (l .green) + length 
 unfolding queue
 queue-parts l = length-append (l .green) (l .red)
 
-counts-of : (s : Server) (b : List ℕ) (n q : ℕ) → Holds s b → n ≡ s .servers → q ≡ s .quota → numberAt 1 b 0 ≡ n → numberAt 2 b 1 ≡ q → Numbers s b → CountsIn b
+counts-of : (s : Server) (b : List ℕ) (n q : ℕ) → Holds s b → n ≡ s .servers → q ≡ s .quota → numberAt 1 b atServers ≡ n → numberAt 2 b atQuota ≡ q → Numbers s b → CountsIn b
 unfolding contextOf
 counts-of s b n q r e f g h m =
     let i = in-range s (r .formed) in

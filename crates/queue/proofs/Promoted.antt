@@ -21,7 +21,7 @@ use Rattle.replication.specs.Machine.Types.{Log, Server, withLog}
 use Rattle.replication.specs.Machine.Colours.{find, remove, promote, promoteFound, greenId}
 use Rattle.replication.specs.Machine.WellFormed.{queue, wellFormed}
 use Rattle.replication.proofs.WellFormed.Logs.{LogFits, green-id-fits}
-use Rattle.engine.specs.Layout.{slotSize, theHeader, theQueue, sections, offset}
+use Rattle.engine.specs.Layout.{slotSize, theHeader, theQueue, sections, offset, atQueueLength, atGreenLength}
 use Rattle.engine.specs.Image.{over, slot, headerBytes, actionSlots, section, parts, image}
 use Rattle.engine.specs.Decode.{actionsAt, decodedAs, serversIn, quotaIn, decoded}
 use Rattle.engine.proofs.InRange.{in-range}
@@ -54,12 +54,12 @@ used-part y l e at o = occurs-first y (drop (length y) l) e at o
 -- ---- the header
 
 header-promoted : (s : Server) (x : Action) → length (queue (promote x (s .log))) ≡ length (queue (s .log))
-    → patched 23 (bytesOf 4 (length (s .log .green) + 1)) (headerBytes s) ≡ headerBytes (withLog (promote x (s .log)) s)
+    → patched atGreenLength (bytesOf 4 (length (s .log .green) + 1)) (headerBytes s) ≡ headerBytes (withLog (promote x (s .log)) s)
 unfolding promote sum
 header-promoted s x e =
     let t : Server = withLog (promote x (s .log)) s in
     let m : length (s .log .green) + 1 ≡ length (t .log .green) = sym (length-append (s .log .green) (x ∷ [])) in
-    ap (patched 23 (bytesOf 4 (length (s .log .green) + 1))) (header-fields s)
+    ap (patched atGreenLength (bytesOf 4 (length (s .log .green) + 1))) (header-fields s)
     ∙ field-changed (fields s) theGreenCount (bytesOf 4 (length (s .log .green) + 1)) (fields-sized s) (omega arith) (bytes-length 4 _)
     ∙ ap₂ {A = ℕ} {B = ℕ} {C = List ℕ} (λ i j. joined (set (set (fields s) theGreenCount (bytesOf 4 i)) 9 (bytesOf 4 j))) m (sym e)
     ∙ sym (header-fields t)
@@ -179,13 +179,13 @@ module _ (s : Server) (b : List ℕ) (r : Holds s b) (d : Id) (k : ℕ) (k-th : 
       let y : List ℕ = it ++ before in
       let room : length (queue (s .log)) ≤ s .servers * s .quota = in-range s (r .formed) .queueCount in
       let c₁ = changed-at ws _ b b (holds-changed s b r) theQueue (slotSize * length (s .log .green)) greenEnd y refl (omega arith) (omega (arith, moved-size, moved-room)) in
-      let c₂ = changed-at ws _ b (patched greenEnd y b) c₁ theHeader 23 23 (bytesOf 4 (length (s .log .green) + 1)) refl (omega arith) (omega (arith, bytes-length 4 (length (s .log .green) + 1))) in
-      ap₂ {A = List ℕ} {B = List ℕ} {C = List ℕ} (λ u v. patched 23 (bytesOf 4 (length (s .log .green) + 1)) (patched greenEnd (u ++ v) b)) it-part before-part
+      let c₂ = changed-at ws _ b (patched greenEnd y b) c₁ theHeader atGreenLength atGreenLength (bytesOf 4 (length (s .log .green) + 1)) refl (omega arith) (omega (arith, bytes-length 4 (length (s .log .green) + 1))) in
+      ap₂ {A = List ℕ} {B = List ℕ} {C = List ℕ} (λ u v. patched atGreenLength (bytesOf 4 (length (s .log .green) + 1)) (patched greenEnd (u ++ v) b)) it-part before-part
       ∙ log-image s (promote (k-th .it) (s .log)) b _ _ _ _ _ c₂ (header-promoted s (k-th .it) same-count) refl refl (queue-promoted (section (s .servers) (s .quota) theQueue b))
 
 -- ---- as the code makes it
 
-pub reds-made : (b : List ℕ) (d : Id) (count green at k : ℕ) → count ≡ numberAt 4 b 19 - numberAt 4 b 23 → green ≡ numberAt 4 b 23 → at ≡ queueAt b
+pub reds-made : (b : List ℕ) (d : Id) (count green at k : ℕ) → count ≡ numberAt 4 b atQueueLength - numberAt 4 b atGreenLength → green ≡ numberAt 4 b atGreenLength → at ≡ queueAt b
     → k ≡ position d (actionsAt count b (at + slotSize * green)) → k ≡ position d (redsIn b)
 unfolding redsIn
 reds-made b d count green at k e f g j = j ∙ (λ i. position d (actionsAt (e i) b (g i + slotSize * f i)))
@@ -194,13 +194,13 @@ reds-made b d count green at k e f g j = j ∙ (λ i. position d (actionsAt (e i
 pub reds-read : (s : Server) (b : List ℕ) → Holds s b → redsIn b ≡ s .log .red
 unfolding redsIn decoded decodedAs serversIn quotaIn
 reds-read s b r =
-    sym (actions-drop (numberAt 4 b 23) (numberAt 4 b 19) b (queueAt b) (holds-counts s b r .green)) ∙ ap (λ (t : Server). t .log .red) (holds-decoded s b r)
+    sym (actions-drop (numberAt 4 b atGreenLength) (numberAt 4 b atQueueLength) b (queueAt b) (holds-counts s b r .green)) ∙ ap (λ (t : Server). t .log .red) (holds-decoded s b r)
 
-reds-counted : (s : Server) (b : List ℕ) → Holds s b → length (s .log .red) ≡ numberAt 4 b 19 - numberAt 4 b 23
+reds-counted : (s : Server) (b : List ℕ) → Holds s b → length (s .log .red) ≡ numberAt 4 b atQueueLength - numberAt 4 b atGreenLength
 unfolding redsIn
-reds-counted s b r = ap length (sym (reds-read s b r)) ∙ actions-count (numberAt 4 b 19 - numberAt 4 b 23) b (queueAt b + slotSize * numberAt 4 b 23)
+reds-counted s b r = ap length (sym (reds-read s b r)) ∙ actions-count (numberAt 4 b atQueueLength - numberAt 4 b atGreenLength) b (queueAt b + slotSize * numberAt 4 b atGreenLength)
 
-module _ (b : List ℕ) (d : Id) (k count : ℕ) (j : k ≡ position d (redsIn b)) (e : count ≡ numberAt 4 b 19 - numberAt 4 b 23) where
+module _ (b : List ℕ) (d : Id) (k count : ℕ) (j : k ≡ position d (redsIn b)) (e : count ≡ numberAt 4 b atQueueLength - numberAt 4 b atGreenLength) where
   position-known : (s : Server) → Holds s b → k ≡ position d (s .log .red)
   position-known s r = j ∙ ap (position d) (reds-read s b r)
 
@@ -213,7 +213,7 @@ module _ (b : List ℕ) (d : Id) (k count : ℕ) (j : k ≡ position d (redsIn b
       let absent : find d (s .log .red) ≡ none = position-none d (s .log .red) (omega (arith, position-known s r, counted s r)) in
       sym (rw absent (r .written))
 
-  pub green-taken : (green at : ℕ) (c : List ℕ) → green ≡ numberAt 4 b 23 → at ≡ queueAt b → k < count → c ≡ promoted (at + slotSize * green) k (green + 1) b
+  pub green-taken : (green at : ℕ) (c : List ℕ) → green ≡ numberAt 4 b atGreenLength → at ≡ queueAt b → k < count → c ≡ promoted (at + slotSize * green) k (green + 1) b
       → (s : Server) → Holds s b → c ≡ image (withLog (greenId d (s .log)) s) b
   unfolding greenId promoteFound
   green-taken green at c f g h n s r =

@@ -19,7 +19,7 @@ use Rattle.record.specs.Values.{idOf, actionOf}
 use Rattle.replication.specs.Machine.Types.{Server}
 use Rattle.replication.specs.Machine.Colours.{find}
 use Rattle.replication.specs.Machine.WellFormed.{queue}
-use Rattle.engine.specs.Layout.{slotSize}
+use Rattle.engine.specs.Layout.{slotSize, atGreenLength}
 use Rattle.engine.specs.Decode.{actionsAt, decodedAs, serversIn, quotaIn, decoded}
 use Rattle.engine.proofs.InPlace.{Holds, holds-decoded}
 use Rattle.queue.specs.Queue.{position, queueCount, queueAt, ownCount, ownAt}
@@ -30,7 +30,7 @@ pub queue-read : (s : Server) (b : List ℕ) → Holds s b → actionsAt (queueC
 unfolding queue decoded decodedAs serversIn quotaIn
 queue-read s b r =
     let e = holds-decoded s b r in
-    sym (take-append-drop (numberAt 4 b 23) (actionsAt (queueCount b) b (queueAt b)))
+    sym (take-append-drop (numberAt 4 b atGreenLength) (actionsAt (queueCount b) b (queueAt b)))
     ∙ ap₂ {A = List Action} {B = List Action} {C = List Action} (λ x y. x ++ y) (ap (λ (t : Server). t .log .green) e) (ap (λ (t : Server). t .log .red) e)
 
 pub own-read : (s : Server) (b : List ℕ) → Holds s b → actionsAt (ownCount b) b (ownAt b) ≡ s .log .own

@@ -15,7 +15,7 @@ use Rattle.replication.specs.Machine.Types.{Log, Server, withLog}
 use Rattle.replication.specs.Machine.Colours.{cut, nextIndex, isNext, enter, red}
 use Rattle.replication.proofs.Step.Logs.{red-entered, red-ignored}
 use Rattle.replication.proofs.WellFormed.RuleFacts.{Delivered}
-use Rattle.engine.specs.Layout.{sections, offset}
+use Rattle.engine.specs.Layout.{sections, offset, headerSize, atServers}
 use Rattle.engine.specs.Image.{image}
 use Rattle.engine.specs.Decode.{decodedAs, serversIn, quotaIn, decoded}
 use Rattle.engine.proofs.InPlace.{Holds, holds-decoded}
@@ -25,18 +25,18 @@ use Rattle.queue.specs.Queue.{RoomFor, RoomIfNext}
 use Rattle.queue.proofs.Holding.{numbers, holds-counts}
 use Rattle.queue.proofs.Entered.{room-for}
 
-pub cut-read : (s : Server) (b : List ℕ) (c : ℕ) → Holds s b → c < s .servers → numberAt 2 b (60 + 2 * c) ≡ cut (s .log) c
+pub cut-read : (s : Server) (b : List ℕ) (c : ℕ) → Holds s b → c < s .servers → numberAt 2 b (headerSize + 2 * c) ≡ cut (s .log) c
 unfolding cut decoded decodedAs serversIn quotaIn offset sections sum
 cut-read s b c r h =
-    sym (numbers-at 2 (numberAt 1 b 0) b 60 c (omega (arith, numbers s b r .servers)))
+    sym (numbers-at 2 (numberAt 1 b atServers) b headerSize c (omega (arith, numbers s b r .servers)))
     ∙ ap (λ (t : Server). getD (t .log .cuts) c 0) (holds-decoded s b r)
 
 -- ---- as the code tests it
 
-pub next-room : (c i m k : ℕ) (b : List ℕ) → RoomIfNext c i m b → k ≡ numberAt 2 b (60 + 2 * c) → k + 1 ≡ i → RoomFor c m b
+pub next-room : (c i m k : ℕ) (b : List ℕ) → RoomIfNext c i m b → k ≡ numberAt 2 b (headerSize + 2 * c) → k + 1 ≡ i → RoomFor c m b
 next-room c i m k b r e f = record { counts = r .counts; creator = r .creator; short = r .short; room = r .room (ap (λ (x : ℕ). x + 1) (sym e) ∙ f) }
 
-module _ (h : ActionHead) (p b : List ℕ) (k : ℕ) (e : k ≡ numberAt 2 b (60 + 2 * h .creator)) where
+module _ (h : ActionHead) (p b : List ℕ) (k : ℕ) (e : k ≡ numberAt 2 b (headerSize + 2 * h .creator)) where
   cut-known : (s : Server) → Holds s b → Delivered s (actionOf h p) → k ≡ cut (s .log) (h .creator)
   unfolding actionOf idOf
   cut-known s r d = e ∙ cut-read s b (h .creator) r (d .fits .id .creator)

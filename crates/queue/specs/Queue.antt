@@ -11,7 +11,7 @@ use Rattle.format.specs.Limits.{mostServers, mostQuota, mostPayload}
 use Rattle.format.specs.Types.{Id, Action}
 use Rattle.format.specs.Range.{sameId}
 use Rattle.format.specs.Write.{actionBytes}
-use Rattle.engine.specs.Layout.{SizesIn, headerSize, slotSize, theOwn, theQueue, offset}
+use Rattle.engine.specs.Layout.{SizesIn, headerSize, slotSize, theOwn, theQueue, offset, atServers, atQuota, atQueueLength, atGreenLength, atOwnCount}
 use Rattle.engine.specs.Image.{slot}
 use Rattle.engine.specs.Decode.{actionsAt}
 
@@ -23,19 +23,19 @@ position d (a ∷ l) = pick (sameId d (a .id)) 0 (suc (position d l))
 -- ---- the numbers of the buffer b
 
 abbrev pub serversOf : List ℕ → ℕ
-serversOf b = numberAt 1 b 0
+serversOf b = numberAt 1 b atServers
 
 abbrev pub quotaOf : List ℕ → ℕ
-quotaOf b = numberAt 2 b 1
+quotaOf b = numberAt 2 b atQuota
 
 abbrev pub queueCount : List ℕ → ℕ
-queueCount b = numberAt 4 b 19
+queueCount b = numberAt 4 b atQueueLength
 
 abbrev pub greenCount : List ℕ → ℕ
-greenCount b = numberAt 4 b 23
+greenCount b = numberAt 4 b atGreenLength
 
 abbrev pub ownCount : List ℕ → ℕ
-ownCount b = numberAt 2 b 29
+ownCount b = numberAt 2 b atOwnCount
 
 abbrev pub queueAt : List ℕ → ℕ
 queueAt b = offset (serversOf b) (quotaOf b) theQueue
@@ -76,7 +76,7 @@ pub record RoomIfNext (c i m : ℕ) (b : List ℕ) : Type 0 where
 
 -- The action a behind the last one of the queue.
 unfoldable pub appended : Action → List ℕ → List ℕ
-appended a b = patched 19 (bytesOf 4 (queueCount b + 1)) (patched (queueAt b + slotSize * queueCount b) (slot slotSize (actionBytes a)) b)
+appended a b = patched atQueueLength (bytesOf 4 (queueCount b + 1)) (patched (queueAt b + slotSize * queueCount b) (slot slotSize (actionBytes a)) b)
 
 -- The same, and its creator's cut.
 unfoldable pub queued : Action → List ℕ → List ℕ
@@ -84,8 +84,8 @@ queued a b = patched (headerSize + 2 * a .id .creator) (bytesOf 2 (a .id .index)
 
 -- The first of the m own actions from `at` on is left out.
 unfoldable pub popped : (at m : ℕ) → List ℕ → List ℕ
-popped at m b = patched 29 (bytesOf 2 (m - 1)) (patched at (drop slotSize (partAt (slotSize * m) b at)) b)
+popped at m b = patched atOwnCount (bytesOf 2 (m - 1)) (patched at (drop slotSize (partAt (slotSize * m) b at)) b)
 
 -- The slot k from `at` on goes to the front of those before it, and the green length is g.
 unfoldable pub promoted : (at k g : ℕ) → List ℕ → List ℕ
-promoted at k g b = patched 23 (bytesOf 4 g) (patched at (partAt slotSize b (at + slotSize * k) ++ partAt (slotSize * k) b at) b)
+promoted at k g b = patched atGreenLength (bytesOf 4 g) (patched at (partAt slotSize b (at + slotSize * k) ++ partAt (slotSize * k) b at) b)

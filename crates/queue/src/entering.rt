@@ -7,7 +7,7 @@ ghost use Rattle.record.specs.Values.{actionOf};
 ghost use Rattle.replication.specs.Machine.Types.{Server, withLog};
 ghost use Rattle.replication.specs.Machine.Colours.{isNext, enter as entered, red as reddened};
 ghost use Rattle.replication.proofs.WellFormed.RuleFacts.{Delivered};
-ghost use Rattle.engine.specs.Layout.{slotSize};
+ghost use Rattle.engine.specs.Layout.{slotSize, headerSize};
 ghost use Rattle.engine.specs.Image.{image};
 ghost use Rattle.engine.proofs.InPlace.{Holds};
 ghost use Rattle.queue.specs.Queue.{RoomFor, RoomIfNext, appended, queued, popped};
@@ -16,6 +16,7 @@ use crate::places::queue_place;
 use crate::slots::put_slot;
 use crate::slots::shift_down;
 use record::ActionHead;
+use record::State;
 use record::bytes::num8;
 use record::bytes::num16;
 use record::bytes::num32;
@@ -27,10 +28,10 @@ fn append(state: &mut [u8], head: ActionHead, payload: &[u8])
     requires { ⌜ RoomFor (head .creator) (length (now payload)) (now state) ⌝ }
     ensures { λ _. ⌜ now (state .exit) ≡ appended (actionOf head (now (payload .entry))) (now (state .entry)) ⌝ }
 {
-    let count = num32(state, 19);
-    let at = queue_place(state) + 56 * count as usize;
+    let count = num32(state, State::AT_QUEUE_LENGTH);
+    let at = queue_place(state) + State::SLOT * count as usize;
     put_slot(state, at, head, payload);
-    put32(state, 19, count + 1);
+    put32(state, State::AT_QUEUE_LENGTH, count + 1);
 }
 
 // The same, and its creator's cut.
@@ -39,17 +40,17 @@ fn enqueue(state: &mut [u8], head: ActionHead, payload: &[u8])
     ensures { λ _. ⌜ now (state .exit) ≡ queued (actionOf head (now (payload .entry))) (now (state .entry)) ⌝ }
 {
     append(state, head, payload);
-    put16(state, 60 + 2 * head.creator as usize, head.index);
+    put16(state, State::SIZE + 2 * head.creator as usize, head.index);
 }
 
 // The first of the own actions is left out.
 fn pop_own(state: &mut [u8], at: usize, own: u16)
-    requires { ⌜ (1 ≤ own) × (60 ≤ length (now state)) × (at + slotSize * own ≤ length (now state)) ⌝ }
+    requires { ⌜ (1 ≤ own) × (headerSize ≤ length (now state)) × (at + slotSize * own ≤ length (now state)) ⌝ }
     ensures { λ _. ⌜ now (state .exit) ≡ popped at own (now (state .entry)) ⌝ }
 {
-    let end = at + 56 * own as usize;
-    shift_down(&mut state[at..end], 56);
-    put16(state, 29, own - 1);
+    let end = at + State::SLOT * own as usize;
+    shift_down(&mut state[at..end], State::SLOT);
+    put16(state, State::AT_OWN_COUNT, own - 1);
 }
 
 // "An action is entered only if its index is its creator's cut plus one; the cut rises." "An own action leaves the own list when
@@ -58,8 +59,8 @@ pub fn enter(state: &mut [u8], head: ActionHead, payload: &[u8])
     requires { ⌜ RoomFor (head .creator) (length (now payload)) (now state) ⌝ }
     ensures { λ _. ⌜ ((s : Server) → Holds s (now (state .entry)) → Delivered s (actionOf head (now (payload .entry))) → isNext (s .log) (actionOf head (now (payload .entry))) ≡ true → now (state .exit) ≡ image (withLog (entered (actionOf head (now (payload .entry))) (s .log)) s) (now (state .entry))) ⌝ }
 {
-    let me = num8(state, 3);
-    let own = num16(state, 29);
+    let me = num8(state, State::AT_ME);
+    let own = num16(state, State::AT_OWN_COUNT);
     let at = own_place(state);
     let creator = head.creator;
     enqueue(state, head, payload);
@@ -77,7 +78,7 @@ pub fn red(state: &mut [u8], head: ActionHead, payload: &[u8])
     requires { ⌜ RoomIfNext (head .creator) (head .index) (length (now payload)) (now state) ⌝ }
     ensures { λ _. ⌜ ((s : Server) → Holds s (now (state .entry)) → Delivered s (actionOf head (now (payload .entry))) → now (state .exit) ≡ image (withLog (reddened (actionOf head (now (payload .entry))) (s .log)) s) (now (state .entry))) ⌝ }
 {
-    let cut = num16(state, 60 + 2 * head.creator as usize);
+    let cut = num16(state, State::SIZE + 2 * head.creator as usize);
     if cut as u32 + 1 != head.index as u32 {
         return;
     }

@@ -8,6 +8,7 @@ ghost use Rattle.record.specs.Values.{idOf};
 ghost use Rattle.engine.specs.Layout.{slotSize};
 ghost use Rattle.engine.specs.Decode.{actionsAt};
 ghost use Rattle.queue.specs.Queue.{position};
+use record::State;
 use record::bytes::num8;
 use record::bytes::num16;
 
@@ -29,7 +30,7 @@ pub fn find(state: &[u8], at: usize, count: usize, creator: u8, index: u16) -> u
 {
     let mut k: usize = 0;
     while k < count {
-        if has_id(state, at + 56 * k, creator, index) {
+        if has_id(state, at + State::SLOT * k, creator, index) {
             return k;
         }
         k += 1;

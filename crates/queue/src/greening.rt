@@ -6,7 +6,7 @@ ghost use Rattle.record.specs.Values.{idOf, actionOf};
 ghost use Rattle.replication.specs.Machine.Types.{Server, withLog};
 ghost use Rattle.replication.specs.Machine.Colours.{greenId, green as greened};
 ghost use Rattle.replication.proofs.WellFormed.RuleFacts.{Delivered};
-ghost use Rattle.engine.specs.Layout.{slotSize};
+ghost use Rattle.engine.specs.Layout.{slotSize, headerSize};
 ghost use Rattle.engine.specs.Image.{image};
 ghost use Rattle.engine.proofs.InPlace.{Holds, HoldsSuch};
 ghost use Rattle.queue.specs.Queue.{position, queueCount, greenCount, redsIn, CountsIn, promoted};
@@ -15,17 +15,18 @@ use crate::finding::find;
 use crate::places::queue_place;
 use crate::slots::last_to_front;
 use record::ActionHead;
+use record::State;
 use record::bytes::num32;
 use stores::put32;
 
 // The slot k from `at` on goes to the front of those before it.
 fn promote(state: &mut [u8], at: usize, k: usize, green: u32)
-    requires { ⌜ (60 ≤ length (now state)) × (at + (slotSize * k + slotSize) ≤ length (now state)) × (green ≤ 4096) ⌝ }
+    requires { ⌜ (headerSize ≤ length (now state)) × (at + (slotSize * k + slotSize) ≤ length (now state)) × (green ≤ 4096) ⌝ }
     ensures { λ _. ⌜ now (state .exit) ≡ promoted at k (green + 1) (now (state .entry)) ⌝ }
 {
-    let end = at + (56 * k + 56);
+    let end = at + (State::SLOT * k + State::SLOT);
     last_to_front(&mut state[at..end]);
-    put32(state, 23, green + 1);
+    put32(state, State::AT_GREEN_LENGTH, green + 1);
 }
 
 // How many red actions there are.
@@ -33,7 +34,7 @@ fn red_count(state: &[u8]) -> usize
     requires { ⌜ CountsIn (now state) ⌝ }
     ensures { λ r. ⌜ r ≡ queueCount (now (state .entry)) - greenCount (now (state .entry)) ⌝ }
 {
-    (num32(state, 19) - num32(state, 23)) as usize
+    (num32(state, State::AT_QUEUE_LENGTH) - num32(state, State::AT_GREEN_LENGTH)) as usize
 }
 
 // How many red actions come before the first with this id: all where there is none.
@@ -42,10 +43,10 @@ fn red_place(state: &[u8], creator: u8, index: u16) -> usize
     ensures { λ r. ⌜ r ≡ position (idOf creator index) (redsIn (now (state .entry))) ⌝ }
 {
     let reds = red_count(state);
-    let green = num32(state, 23);
+    let green = num32(state, State::AT_GREEN_LENGTH);
     find(
         state,
-        queue_place(state) + 56 * green as usize,
+        queue_place(state) + State::SLOT * green as usize,
         reds,
         creator,
         index,
@@ -61,8 +62,13 @@ pub fn green_id(state: &mut [u8], creator: u8, index: u16)
     if red_count(state) <= k {
         return;
     }
-    let green = num32(state, 23);
-    promote(state, queue_place(state) + 56 * green as usize, k, green);
+    let green = num32(state, State::AT_GREEN_LENGTH);
+    promote(
+        state,
+        queue_place(state) + State::SLOT * green as usize,
+        k,
+        green,
+    );
 }
 
 // "As red, then" green.

@@ -12,6 +12,7 @@ ghost use Rattle.engine.specs.Layout.{slotSize};
 ghost use Rattle.engine.specs.Image.{slot};
 use engine::starting::clear;
 use record::ActionHead;
+use record::State;
 use record::blocks::copy;
 use stores::put_body;
 
@@ -21,7 +22,11 @@ pub fn put_slot(state: &mut [u8], at: usize, head: ActionHead, payload: &[u8])
     ensures { λ _. ⌜ now (state .exit) ≡ patched at (slot slotSize (actionBytes (actionOf head (now (payload .entry))))) (now (state .entry)) ⌝ }
 {
     put_body(state, at, head, payload);
-    clear(state, at + (8 + payload.len()), 48 - payload.len());
+    clear(
+        state,
+        at + (8 + payload.len()),
+        State::MOST_PAYLOAD - payload.len(),
+    );
 }
 
 // Moves s down by w bytes; the last w stay as they were.
@@ -50,13 +55,13 @@ pub fn shift_up(s: &mut [u8], w: usize)
 }
 
 // The slot from `at` on.
-pub fn slot_at(s: &[u8], at: usize) -> [u8; 56]
+pub fn slot_at(s: &[u8], at: usize) -> [u8; State::SLOT]
     requires { ⌜ at + slotSize ≤ length (now s) ⌝ }
     ensures { λ r. ⌜ r ≡ partAt slotSize (now (s .entry)) at ⌝ }
 {
-    let mut x: [u8; 56] = [0; 56];
+    let mut x: [u8; State::SLOT] = [0; State::SLOT];
     let mut j: usize = 0;
-    while j < 56 {
+    while j < State::SLOT {
         x[j] = s[at + j];
         j += 1;
     }
@@ -68,7 +73,7 @@ pub fn last_to_front(s: &mut [u8])
     requires { ⌜ slotSize ≤ length (now s) ⌝ }
     ensures { λ _. ⌜ now (s .exit) ≡ drop (length (now (s .entry)) - slotSize) (now (s .entry)) ++ take (length (now (s .entry)) - slotSize) (now (s .entry)) ⌝ }
 {
-    let last = slot_at(s, s.len() - 56);
-    shift_up(s, 56);
+    let last = slot_at(s, s.len() - State::SLOT);
+    shift_up(s, State::SLOT);
     copy(s, 0, &last);
 }

@@ -17,4 +17,3 @@ pub mod WriterReturns
 pub mod WriterState
 pub mod WriterRoundTrip
 pub mod Callers
-pub mod Modes

@@ -7,4 +7,3 @@ pub mod Reading
 pub mod Written
 pub mod Blocks
 pub mod Limits
-pub mod Modes

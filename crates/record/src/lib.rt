@@ -6,7 +6,6 @@ ghost use Rattle.format.specs.Limits.{mostServers};
 ghost use Rattle.record.specs.Context.{readingContext};
 ghost use Rattle.record.specs.Start.{startOf};
 
-pub mod mode; // mode.rt: the eight states
 pub mod bytes; // bytes.rt: numbers in bytes
 pub mod range; // range.rt: which numbers and sets are in range
 pub mod lists; // lists.rt: lists in bytes
@@ -28,6 +27,11 @@ pub struct LastPrimary {
     pub set: u8,
 }
 
+impl LastPrimary {
+    // How many bytes it is written in.
+    pub const SIZE: usize = 9;
+}
+
 // What a server stores of the primary component that it attempts to create.
 pub struct Mark {
     pub status: u8,
@@ -37,11 +41,20 @@ pub struct Mark {
     pub bits: u8,
 }
 
+impl Mark {
+    pub const SIZE: usize = 11;
+}
+
 // An action but its payload.
 pub struct ActionHead {
     pub creator: u8,
     pub index: u16,
     pub green_length: u32,
+}
+
+impl ActionHead {
+    // With the payload's length.
+    pub const SIZE: usize = 8;
 }
 
 // A State but its cuts and its yellow ids; how many there are of each.
@@ -55,6 +68,19 @@ pub struct StateHead {
     pub mark: Mark,
     pub yellow_status: u8,
     pub yellow_count: u16,
+}
+
+impl StateHead {
+    // Where a State's cuts begin in its record, and where the yellow list's count is in one with no cuts.
+    pub const CUTS: usize = 9;
+
+    pub const COUNT: usize = StateHead::SIZE - 2;
+
+    // A State with no cuts and no ids.
+    pub const SIZE: usize = StateHead::CUTS + StateHead::STANDING;
+
+    // What stands behind the cuts: green length, attempt, last primary, mark, and the yellow list's status and count.
+    pub const STANDING: usize = 4 + 4 + LastPrimary::SIZE + Mark::SIZE + 3;
 }
 
 // What a record is read against. `configured` is 0 where there was no regular configuration since the start or the last
@@ -109,6 +135,84 @@ impl State {
 
     pub const MOST_INDEX: u32 = 4_000_000_000;
 
+    // The numbers of the eight states.
+    pub const NON_PRIM: u8 = 0;
+
+    pub const REG_PRIM: u8 = 1;
+
+    pub const TRANS_PRIM: u8 = 2;
+
+    pub const EXCHANGE_STATES: u8 = 3;
+
+    pub const EXCHANGE_ACTIONS: u8 = 4;
+
+    pub const CONSTRUCT: u8 = 5;
+
+    pub const NO: u8 = 6;
+
+    pub const UN: u8 = 7;
+
+    // Where each number begins in the state's buffer, behind the one before it (docs/LAYOUT.md).
+    pub const AT_SERVERS: usize = 0;
+
+    pub const AT_QUOTA: usize = State::AT_SERVERS + 1;
+
+    pub const AT_ME: usize = State::AT_QUOTA + 2;
+
+    pub const AT_MODE: usize = State::AT_ME + 1;
+
+    pub const AT_CONFIGURATION: usize = State::AT_MODE + 1;
+
+    pub const AT_CONFIGURATION_ID: usize = State::AT_CONFIGURATION + 1;
+
+    pub const AT_CONFIGURATION_SET: usize = State::AT_CONFIGURATION_ID + 4;
+
+    pub const AT_TRANSITIONAL: usize = State::AT_CONFIGURATION_SET + 1;
+
+    pub const AT_TRANSITIONAL_SET: usize = State::AT_TRANSITIONAL + 1;
+
+    pub const AT_STATES: usize = State::AT_TRANSITIONAL_SET + 1;
+
+    pub const AT_CPCS: usize = State::AT_STATES + 1;
+
+    pub const AT_COME: usize = State::AT_CPCS + 1;
+
+    pub const AT_QUEUE_LENGTH: usize = State::AT_COME + 4;
+
+    pub const AT_GREEN_LENGTH: usize = State::AT_QUEUE_LENGTH + 4;
+
+    pub const AT_NUMBERED: usize = State::AT_GREEN_LENGTH + 4;
+
+    pub const AT_OWN_COUNT: usize = State::AT_NUMBERED + 2;
+
+    pub const AT_HELD_COUNT: usize = State::AT_OWN_COUNT + 2;
+
+    pub const AT_ATTEMPT: usize = State::AT_HELD_COUNT + 2;
+
+    pub const AT_LAST: usize = State::AT_ATTEMPT + 4;
+
+    pub const AT_MARK: usize = State::AT_LAST + LastPrimary::SIZE;
+
+    pub const AT_YELLOW: usize = State::AT_MARK + Mark::SIZE;
+
+    pub const AT_YELLOW_COUNT: usize = State::AT_YELLOW + 1;
+
+    // All of them together.
+    pub const SIZE: usize = State::AT_YELLOW_COUNT + 2;
+
+    // An action on the own list or in the queue; a held request: payload length and payload. Both are filled up with zeros.
+    pub const SLOT: usize = ActionHead::SIZE + State::MOST_PAYLOAD;
+
+    pub const HELD: usize = 1 + State::MOST_PAYLOAD;
+
+    // The longest retransmission: its frame, sender and position, and an action.
+    pub const RETRANSMISSION: usize = 4 + 1 + 4 + State::SLOT;
+
+    // An id, and the most ids of a list.
+    pub const ID: usize = 3;
+
+    pub const IDS: usize = State::ID * (State::MOST_SERVERS as usize * State::MOST_QUOTA as usize);
+
     // "At the start: Non_prim, no configuration, nothing held or marked, yellow invalid, attempt 0, last primary (index 0,
     // attempt 0, all servers)."
     pub fn start(servers: u8, quota: u16, me: u8) -> State
@@ -131,7 +235,7 @@ impl State {
             servers,
             quota,
             me,
-            mode: 0,
+            mode: State::NON_PRIM,
             configuration_status: 0,
             configuration_id: 0,
             configuration_set: 0,

@@ -126,7 +126,7 @@ module _ (mode at r : ℕ) (o o₁ : List ℕ) where
 
   pub non-put : (mode ≡ 1 → ⊥) → (mode ≡ 2 → ⊥) → (mode ≡ 3 → ⊥) → (mode ≡ 4 → ⊥) → (mode ≡ 5 → ⊥) → (mode ≡ 6 → ⊥) → (mode ≡ 7 → ⊥)
       → WordPut (ascii "Non_prim ") → NamePut
-  unfolding ascii modeName modeNamed
+  unfolding ascii modeName modeNamed modeNumber
   non-put e₁ e₂ e₃ e₄ e₅ e₆ e₇ p =
       named-put Non-prim mode at r (ascii "Non_prim ") o o₁
       (sym

@@ -22,6 +22,7 @@ use Rattle.engine.proofs.HeaderRead.{mode-named}
 use Rattle.engine.proofs.InPlace.{Holds}
 use Rattle.record.specs.Events.{lastIn}
 use Rattle.servers.specs.declared.Server as declared
+use Rattle.engine.specs.Layout.{atMode, atQueueLength, atGreenLength, atLast}
 use Rattle.servers.specs.declared.Reply.{Reply}
 use Rattle.servers.specs.declared.Stepped.{Stepped}
 use Rattle.servers.specs.Core.{coreOf}
@@ -34,23 +35,23 @@ use Rattle.replay.specs.Turns.{shownOf, lineAt}
 -- ---- a line
 
 module _ (b : List ℕ) (s : Server) (h : headerIn b ≡ headerOf s) where
-  mode-read : modeNamed (numberAt 1 b 4) ≡ s .membership .mode
+  mode-read : modeNamed (numberAt 1 b atMode) ≡ s .membership .mode
   unfolding headerIn headerOf
   mode-read = ap (λ (x : numbers.State). modeNamed (x .mode)) h ∙ mode-named (s .membership .mode)
 
-  held-read : numberAt 4 b 19 ≡ length (queue (s .log))
+  held-read : numberAt 4 b atQueueLength ≡ length (queue (s .log))
   unfolding headerIn headerOf
   held-read = ap (λ (x : numbers.State). x .«queue_length») h
 
-  green-read : numberAt 4 b 23 ≡ length (s .log .green)
+  green-read : numberAt 4 b atGreenLength ≡ length (s .log .green)
   unfolding headerIn headerOf
   green-read = ap (λ (x : numbers.State). x .«green_length») h
 
-  red-read : numberAt 4 b 19 - numberAt 4 b 23 ≡ length (s .log .red)
+  red-read : numberAt 4 b atQueueLength - numberAt 4 b atGreenLength ≡ length (s .log .red)
   unfolding queue
   red-read = omega (arith, held-read, green-read, length-append (s .log .green) (s .log .red))
 
-  prim-read : numberAt 4 b 37 ≡ s .votes .last .index
+  prim-read : numberAt 4 b atLast ≡ s .votes .last .index
   unfolding headerIn headerOf lastIn lastOf
   prim-read = ap (λ (x : numbers.State). x .last .index .0) h
 

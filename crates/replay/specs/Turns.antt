@@ -5,6 +5,7 @@ use mathlib.Core.Bool.{Bool}
 use mathlib.Core.List.{List, []}
 use lib.ListN.{length, getD, take, drop}
 use Rattle.base.specs.Bytes.{numberAt, partAt}
+use Rattle.engine.specs.Layout.{atMode, atQueueLength, atGreenLength, atLast}
 use Rattle.servers.specs.declared.Server.{Server}
 use Rattle.servers.specs.declared.Reply.{Reply}
 use Rattle.servers.specs.Table.{none, altered, replied}
@@ -24,10 +25,10 @@ shownOf event server reply b = record {
   number = event;
   server = server;
   returned = reply .number;
-  mode = numberAt 1 b 4;
-  red = numberAt 4 b 19 - numberAt 4 b 23;
-  green = numberAt 4 b 23;
-  prim = numberAt 4 b 37;
+  mode = numberAt 1 b atMode;
+  red = numberAt 4 b atQueueLength - numberAt 4 b atGreenLength;
+  green = numberAt 4 b atGreenLength;
+  prim = numberAt 4 b atLast;
   sent = reply .sent;
 }
 

@@ -5,6 +5,9 @@ ghost use Rattle.replay.specs.Input.{setupNumbers, setupOf, cutShort, ne
 use engine::sizes::sizes_in;
 use record::bytes::num8;
 use record::bytes::num16;
+use record::events::VERSION;
+use servers::QUOTA;
+use servers::SERVERS;
 
 // The number that the set-up is refused with, or 0; how many servers, and the quota.
 pub struct Setup {
@@ -25,9 +28,9 @@ impl Setup {
     }
 }
 
-pub const MOST_SERVERS: u8 = 4;
+pub const MOST_SERVERS: u8 = SERVERS as u8;
 
-pub const MOST_QUOTA: u16 = 16;
+pub const MOST_QUOTA: u16 = QUOTA as u16;
 
 // "It takes n to 4 and q to 16".
 pub fn read_setup(e: &[u8]) -> Setup
@@ -39,7 +42,7 @@ pub fn read_setup(e: &[u8]) -> Setup
     if num16(e, 0) != 5 {
         return Setup::refused(1);
     }
-    if num8(e, 2) != 1 {
+    if num8(e, 2) != VERSION {
         return Setup::refused(1);
     }
     if num8(e, 3) != 9 {

@@ -7,6 +7,7 @@ ghost use Rattle.base.specs.Text.{decimal as decimalOf};
 ghost use Rattle.replication.specs.Replay.{modeName, header, inputLine, setupLine};
 ghost use Rattle.engine.specs.Decode.{modeNamed};
 ghost use Rattle.replay.specs.Lines.{Put, lineRoom, spaced, ended, pairText, frontText, stateText, backText, shownLine};
+use record::State;
 use record::blocks::copy;
 
 // The most bytes that a line takes.
@@ -53,13 +54,13 @@ fn put_mode(out: &mut [u8], at: usize, mode: u8) -> usize
     ensures { λ r. ⌜ Put (spaced (modeName (modeNamed mode))) 17 at r (now (out .entry)) (now (out .exit)) ⌝ }
 {
     match mode {
-        1 => put_word(out, at, b"Reg_prim "),
-        2 => put_word(out, at, b"Trans_prim "),
-        3 => put_word(out, at, b"Exchange_states "),
-        4 => put_word(out, at, b"Exchange_actions "),
-        5 => put_word(out, at, b"Construct "),
-        6 => put_word(out, at, b"No "),
-        7 => put_word(out, at, b"Un "),
+        State::REG_PRIM => put_word(out, at, b"Reg_prim "),
+        State::TRANS_PRIM => put_word(out, at, b"Trans_prim "),
+        State::EXCHANGE_STATES => put_word(out, at, b"Exchange_states "),
+        State::EXCHANGE_ACTIONS => put_word(out, at, b"Exchange_actions "),
+        State::CONSTRUCT => put_word(out, at, b"Construct "),
+        State::NO => put_word(out, at, b"No "),
+        State::UN => put_word(out, at, b"Un "),
         _ => put_word(out, at, b"Non_prim "),
     }
 }

@@ -18,6 +18,7 @@ use line::header_line;
 use line::setup_line;
 use passes::pass;
 use record::blocks::copy;
+use servers::SERVERS;
 use servers::Server;
 use servers::starting::begin;
 use turns::Going;
@@ -30,14 +31,14 @@ const LINES_ROOM: usize = 16384;
 
 // The table after a part of the input, the number of the next event, how many bytes were taken, and whether there may be more.
 struct Printed {
-    table: [Server; 4],
+    table: [Server; SERVERS],
     event: u64,
     taken: usize,
     more: bool,
 }
 
 // Every whole event of the input: one write for each pass.
-fn print_part(t: [Server; 4], servers: u8, first: u64, input: &[u8], ended: bool) -> Printed
+fn print_part(t: [Server; SERVERS], servers: u8, first: u64, input: &[u8], ended: bool) -> Printed
     requires { ⌜ servers ≤ 4 ⌝ }
     ensures { λ r. ⌜ r ≡ printed (partOf linesRoom t servers first (now (input .entry)) ended) ⌝ }
     ensures { λ r. ⌜ Fed r (now (input .entry)) ⌝ }
@@ -110,7 +111,7 @@ fn refill(old: &[u8]) -> Filled
 // Where the program stands between two reads: the table, the number of the next event, what is there of the input, and whether there
 // may be more.
 struct Standing {
-    table: [Server; 4],
+    table: [Server; SERVERS],
     event: u64,
     filled: Filled,
     more: bool,

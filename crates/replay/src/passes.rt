@@ -7,12 +7,13 @@ ghost use Rattle.replay.specs.Passes.{passed, passOf};
 use crate::line::LINE_ROOM;
 use crate::turns::Going;
 use crate::turns::take_turn;
+use servers::SERVERS;
 use servers::Server;
 
 // The table after some turns, the number of the next event, how many bytes of the input they took, the length of their lines, and
 // what comes after them: `On` where there is no room for another line.
 pub struct Passed {
-    pub table: [Server; 4],
+    pub table: [Server; SERVERS],
     pub event: u64,
     pub taken: usize,
     pub length: usize,
@@ -21,7 +22,7 @@ pub struct Passed {
 
 // The lines are put into `out`.
 pub fn pass(
-    t: [Server; 4],
+    t: [Server; SERVERS],
     servers: u8,
     first: u64,
     input: &[u8],

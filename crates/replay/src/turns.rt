@@ -1,9 +1,7 @@
 // One event of the input at the table of servers, and its line.
 ghost use mathlib.Core.Path.{_≡_};
 ghost use Prim.Native.Nat.{_+_, _-_, _≤_, _<_};
-ghost use mathlib.Core.List.{[], _∷_};
 ghost use lib.ListN.{length, getD};
-ghost use Rattle.base.specs.Bytes.{numberAt};
 ghost use Rattle.io.specs.Counts.{Counts};
 ghost use Rattle.servers.specs.Table.{altered};
 ghost use Rattle.replay.specs.Lines.{Put, lineRoom};
@@ -14,8 +12,12 @@ use crate::input::next_in;
 use crate::line::Shown;
 use crate::line::event_line;
 use crate::line::input_line;
+use record::State;
+use record::bytes::num8;
 use record::bytes::num32;
 use servers::Reply;
+use servers::SERVERS;
+use servers::STATE_ROOM;
 use servers::Server;
 use servers::run_one;
 
@@ -28,27 +30,18 @@ fn difference(m: u32, n: u32) -> u32
     m - n
 }
 
-// A number in four bytes.
-fn number(a: u8, b: u8, c: u8, d: u8) -> u32
-    ensures { λ r. ⌜ r ≡ numberAt 4 (a ∷ b ∷ c ∷ d ∷ []) 0 ⌝ }
-{
-    let bytes = [a, b, c, d];
-    num32(&bytes, 0)
-}
-
 // "Red counts held actions not green; prim is the primary index; sent counts records put out."
-fn shown(event: u64, server: u8, reply: Reply, s: Server) -> Shown
-    ensures { λ r. ⌜ r ≡ shownOf event server reply (s .state) ⌝ }
+fn shown_in(event: u64, server: u8, reply: Reply, b: &[u8; STATE_ROOM]) -> Shown
+    ensures { λ r. ⌜ r ≡ shownOf event server reply (now (b .entry)) ⌝ }
 {
-    let b = s.state;
-    let held = number(b[19], b[20], b[21], b[22]);
-    let green = number(b[23], b[24], b[25], b[26]);
-    let prim = number(b[37], b[38], b[39], b[40]);
+    let held = num32(b, State::AT_QUEUE_LENGTH);
+    let green = num32(b, State::AT_GREEN_LENGTH);
+    let prim = num32(b, State::AT_LAST);
     Shown {
         number: event,
         server: server as u64,
         returned: reply.number as u64,
-        mode: b[4],
+        mode: num8(b, State::AT_MODE),
         red: difference(held, green) as u64,
         green: green as u64,
         prim: prim as u64,
@@ -56,14 +49,21 @@ fn shown(event: u64, server: u8, reply: Reply, s: Server) -> Shown
     }
 }
 
+fn shown(event: u64, server: u8, reply: Reply, s: Server) -> Shown
+    ensures { λ r. ⌜ r ≡ shownOf event server reply (s .state) ⌝ }
+{
+    let b = s.state;
+    shown_in(event, server, reply, &b)
+}
+
 // The table after an event, and the length of its line.
 struct Answered {
-    table: [Server; 4],
+    table: [Server; SERVERS],
     length: usize,
 }
 
 // The event e at the server k.
-fn answer(t: [Server; 4], event: u64, k: u8, e: &[u8], out: &mut [u8]) -> Answered
+fn answer(t: [Server; SERVERS], event: u64, k: u8, e: &[u8], out: &mut [u8]) -> Answered
     requires { ⌜ (k < 4) × (lineRoom ≤ length (now out)) ⌝ }
     ensures { λ r. ⌜ r .table ≡ altered t k (now (e .entry)) ⌝ }
     ensures { λ r. ⌜ Put (lineAt t event k (now (e .entry))) lineRoom 0 (r .length) (now (out .entry)) (now (out .exit)) ⌝ }
@@ -84,14 +84,14 @@ pub enum Going {
 
 // The table after a turn, how many bytes of the input it took, the length of its line, and what comes after it.
 pub struct Turn {
-    pub table: [Server; 4],
+    pub table: [Server; SERVERS],
     pub taken: usize,
     pub length: usize,
     pub going: Going,
 }
 
 // The event of `size` bytes behind its server byte.
-fn take_event(t: [Server; 4], event: u64, input: &[u8], size: usize, out: &mut [u8]) -> Turn
+fn take_event(t: [Server; SERVERS], event: u64, input: &[u8], size: usize, out: &mut [u8]) -> Turn
     requires { ⌜ (getD (now input) 0 0 < 4) × (size + 1 ≤ length (now input)) × (lineRoom ≤ length (now out)) ⌝ }
     ensures { λ r. ⌜ turned r (now (out .exit)) ≡ turnBy (Event size) t event (now (input .entry)) ⌝ }
     ensures { λ r. ⌜ Counts (r .length) (now (out .exit)) ⌝ }
@@ -108,7 +108,7 @@ fn take_event(t: [Server; 4], event: u64, input: &[u8], size: usize, out: &mut [
 
 // One event of the input, or what else comes next: the line is put into `out`.
 pub fn take_turn(
-    t: [Server; 4],
+    t: [Server; SERVERS],
     servers: u8,
     event: u64,
     input: &[u8],

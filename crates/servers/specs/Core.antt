@@ -1,11 +1,14 @@
 -- What an event makes of a server, and the reply.
 -- Assumes nothing.
-use Prim.Native.Nat.{ℕ, _+_, _≤_}
+use Prim.Native.Nat.{ℕ, _+_, _*_, _≤_}
 use mathlib.Core.Path.{_≡_}
 use mathlib.Core.List.{List}
 use lib.ListN.{length, take, drop}
 use Rattle.base.specs.Tests.{_=?_, pick}
 use Rattle.base.specs.Bytes.{numberAt}
+use Rattle.format.specs.Limits.{mostHeld}
+use Rattle.format.specs.Places.{idSize, stateHeadSize, mostRetransmission}
+use Rattle.engine.specs.Layout.{headerSize, heldSize, slotSize}
 use Rattle.engine.specs.Image.{zeros}
 use Rattle.engine.specs.Outcome.{Result}
 use Rattle.buffers.specs.Buffers.{Buffers, stepIn}
@@ -14,12 +17,24 @@ use Rattle.servers.specs.declared.Server.{Server}
 use Rattle.servers.specs.declared.Reply.{Reply}
 use Rattle.servers.specs.declared.Stepped.{Stepped}
 
--- The lengths of both buffers for four servers and the quota 16.
+-- The table's servers at most, and their highest quota.
+abbrev pub tableServers : ℕ
+tableServers = 4
+
+abbrev pub tableQuota : ℕ
+tableQuota = 16
+
+abbrev tableActions : ℕ
+tableActions = tableServers * tableQuota
+
+-- The lengths of both buffers for them.
 abbrev pub stateRoom : ℕ
-stateRoom = 6500
+stateRoom =
+    headerSize + 6 * tableServers + heldSize * mostHeld + tableServers * (stateHeadSize + 2 * tableServers + idSize * tableActions)
+    + idSize * tableActions + (slotSize * tableQuota + slotSize * tableActions)
 
 abbrev pub outRoom : ℕ
-outRoom = 8320
+outRoom = 2 * mostRetransmission * tableActions
 
 -- An entry as a daemon's buffers.
 abbrev pub buffersOf : Server → Buffers

@@ -7,15 +7,33 @@ ghost use Rattle.servers.specs.Table.{altered, replied};
 pub mod starting; // starting.rt: the table at the start
 pub mod stepping; // stepping.rt: what a step takes and leaves
 
+use record::State;
+use record::StateHead;
 use step::guzbytor_step;
 use stepping::kept;
 use stepping::records;
 use stepping::source;
 
-// Both buffers for four servers and the quota 16, by the formulas of docs/LAYOUT.md.
-pub const STATE_ROOM: usize = 6500;
+// How many servers there are at most, and their highest quota.
+pub const SERVERS: usize = 4;
 
-pub const OUT_ROOM: usize = 8320;
+pub const QUOTA: usize = 16;
+
+const ACTIONS: usize = SERVERS * QUOTA;
+
+const STATES: usize = SERVERS * (StateHead::SIZE + 2 * SERVERS + State::ID * ACTIONS);
+
+const SLOTS: usize = State::SLOT * QUOTA + State::SLOT * ACTIONS;
+
+// Both buffers for them, by the formulas of docs/LAYOUT.md.
+pub const STATE_ROOM: usize = State::SIZE
+    + 6 * SERVERS
+    + State::HELD * State::MOST_HELD as usize
+    + STATES
+    + State::ID * ACTIONS
+    + SLOTS;
+
+pub const OUT_ROOM: usize = 2 * State::RETRANSMISSION * ACTIONS;
 
 // A server's state in memory and its stored state.
 pub struct Server {
@@ -70,12 +88,12 @@ pub fn dispatch(t: &mut [Server], k: usize, e: &[u8]) -> Reply
 }
 
 pub struct Ran {
-    pub table: [Server; 4],
+    pub table: [Server; SERVERS],
     pub reply: Reply,
 }
 
 // From a table by value to a table by value.
-pub fn run_one(t: [Server; 4], k: usize, e: &[u8]) -> Ran
+pub fn run_one(t: [Server; SERVERS], k: usize, e: &[u8]) -> Ran
     ensures { λ r. ⌜ (r .reply ≡ replied t k (now (e .entry))) × (r .table ≡ altered t k (now (e .entry))) ⌝ }
 {
     let mut a = t;

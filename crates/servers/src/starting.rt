@@ -1,6 +1,7 @@
 // The table at the start.
 ghost use mathlib.Core.Path.{_≡_};
 ghost use Rattle.servers.specs.Starting.{freshOf, freshTable};
+use crate::SERVERS;
 use crate::STATE_ROOM;
 use crate::Server;
 use engine::guzbytor_start;
@@ -18,7 +19,7 @@ fn fresh(servers: u8, quota: u16, me: u32) -> Server
 }
 
 // Every server at its start.
-pub fn begin(servers: u8, quota: u16) -> [Server; 4]
+pub fn begin(servers: u8, quota: u16) -> [Server; SERVERS]
     ensures { λ r. ⌜ r ≡ freshTable servers quota ⌝ }
 {
     let a = fresh(servers, quota, 0);

@@ -7,6 +7,8 @@ ghost use Rattle.servers.specs.Core.{buffersOf, entryAfter, Behind, reco
 use crate::STATE_ROOM;
 use crate::Server;
 use record::bytes::num16;
+use record::events::Event;
+use record::events::VERSION;
 
 // The event is the recovery's record.
 fn is_recovery(e: &[u8]) -> bool
@@ -21,10 +23,10 @@ fn is_recovery(e: &[u8]) -> bool
     if e[1] != 2 {
         return false;
     }
-    if e[2] != 1 {
+    if e[2] != VERSION {
         return false;
     }
-    e[3] == 8
+    e[3] == Event::RECOVERY
 }
 
 // The state that the event comes to.

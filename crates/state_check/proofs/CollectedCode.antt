@@ -28,6 +28,7 @@ use Rattle.record.specs.declared.reader.Reading.{Reading}
 use Rattle.record.specs.declared.reader.Reading.the-variants.{Good, Refused}
 use Rattle.engine.specs.Layout.{stateSize}
 use Rattle.state_check.specs.Collected.{isState, saysState, idsInSlot, slotRecord, holdsState, collectedOk, StatesInside}
+use Rattle.format.specs.Places.{stateHeadSize, stateCountAt}
 
 -- ---- by the kind of the event
 
@@ -86,7 +87,7 @@ good-state k i r v t e f h = rw f (h e)
 
 module _ (c : Context) (b : List ℕ) (at : ℕ) where
   -- The number of ids is read inside the slot, and the record ends inside it.
-  pub count-inside : at + stateSize (c .servers) (c .quota) ≤ length b → at + (38 + 2 * c .servers) + 2 ≤ length b
+  pub count-inside : at + stateSize (c .servers) (c .quota) ≤ length b → at + (stateCountAt + 2 * c .servers) + 2 ≤ length b
   unfolding stateSize
   count-inside h = omega arith
 
@@ -95,24 +96,24 @@ module _ (c : Context) (b : List ℕ) (at : ℕ) where
   few x t e h = le-holds x (c .servers * c .quota) (sym e ∙ not-false t h)
 
   pub record-inside : (x : ℕ) (t : Bool) → at + stateSize (c .servers) (c .quota) ≤ length b → t ≡ lengthOk (contextOf c) x → not t ≡ false
-      → at + (40 + 2 * c .servers + 3 * x) ≤ length b
+      → at + (stateHeadSize + 2 * c .servers + 3 * x) ≤ length b
   unfolding stateSize
   record-inside x t h e l = omega (arith, few x t e l)
 
-  pub slot-denied : (k i x : ℕ) (t : Bool) → x ≡ numberAt 2 b (at + (38 + 2 * c .servers)) → t ≡ lengthOk (contextOf c) x → not t ≡ true → false ≡ holdsState (contextOf c) k i b at
+  pub slot-denied : (k i x : ℕ) (t : Bool) → x ≡ numberAt 2 b (at + (stateCountAt + 2 * c .servers)) → t ≡ lengthOk (contextOf c) x → not t ≡ true → false ≡ holdsState (contextOf c) k i b at
   unfolding holdsState idsInSlot contextOf
-  slot-denied k i x t e f h = and-no (lengthOk (contextOf c) (numberAt 2 b (at + (38 + 2 * c .servers)))) _ (ap (lengthOk (contextOf c)) (sym e) ∙ sym f ∙ not-true t h)
+  slot-denied k i x t e f h = and-no (lengthOk (contextOf c) (numberAt 2 b (at + (stateCountAt + 2 * c .servers)))) _ (ap (lengthOk (contextOf c)) (sym e) ∙ sym f ∙ not-true t h)
 
-  pub slot-answered : (k i x : ℕ) (t u : Bool) (r : Reading) → x ≡ numberAt 2 b (at + (38 + 2 * c .servers)) → t ≡ lengthOk (contextOf c) x → not t ≡ false
-      → meaning r (take (at + (40 + 2 * c .servers + 3 * x) - at) (drop at b)) ≡ read (contextOf c) (take (at + (40 + 2 * c .servers + 3 * x) - at) (drop at b))
+  pub slot-answered : (k i x : ℕ) (t u : Bool) (r : Reading) → x ≡ numberAt 2 b (at + (stateCountAt + 2 * c .servers)) → t ≡ lengthOk (contextOf c) x → not t ≡ false
+      → meaning r (take (at + (stateHeadSize + 2 * c .servers + 3 * x) - at) (drop at b)) ≡ read (contextOf c) (take (at + (stateHeadSize + 2 * c .servers + 3 * x) - at) (drop at b))
       → ((e : List ℕ) → u ≡ saysState k i (meaning r e)) → u ≡ holdsState (contextOf c) k i b at
   unfolding holdsState idsInSlot slotRecord partAt contextOf
   slot-answered k i x t u r e f h g s =
-      let m : ℕ = 40 + 2 * c .servers + 3 * x in
+      let m : ℕ = stateHeadSize + 2 * c .servers + 3 * x in
       let long : at + m - at ≡ m = omega arith in
-      let part : take (at + m - at) (drop at b) ≡ take (40 + 2 * c .servers + 3 * numberAt 2 b (at + (38 + 2 * c .servers))) (drop at b) =
-      ap (λ (j : ℕ). take j (drop at b)) long ∙ ap (λ (j : ℕ). take (40 + 2 * c .servers + 3 * j) (drop at b)) e in
-      and-yes u (lengthOk (contextOf c) (numberAt 2 b (at + (38 + 2 * c .servers)))) _ (ap (lengthOk (contextOf c)) (sym e) ∙ sym f ∙ not-false t h)
+      let part : take (at + m - at) (drop at b) ≡ take (stateHeadSize + 2 * c .servers + 3 * numberAt 2 b (at + (stateCountAt + 2 * c .servers))) (drop at b) =
+      ap (λ (j : ℕ). take j (drop at b)) long ∙ ap (λ (j : ℕ). take (stateHeadSize + 2 * c .servers + 3 * j) (drop at b)) e in
+      and-yes u (lengthOk (contextOf c) (numberAt 2 b (at + (stateCountAt + 2 * c .servers)))) _ (ap (lengthOk (contextOf c)) (sym e) ∙ sym f ∙ not-false t h)
       (s (take (at + m - at) (drop at b)) ∙ ap (saysState k i) (g ∙ ap (read (contextOf c)) part))
 
 -- ---- by the senders

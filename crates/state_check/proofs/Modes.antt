@@ -28,7 +28,7 @@ use Rattle.state_check.proofs.StateLists.{InSlot, there, absent, in-slo
 -- ---- by the number
 
 none-above : {X : Type 0} (k : ℕ) (configured exchange below : Bool) → 7 < k → modeTest k configured exchange below ≡ true → X
-unfolding modeTest pick
+unfolding modeTest pick modeNumber
 none-above k configured exchange below h t =
     let u : (configured and (false and below)) ≡ true = rw (eq-no k 0 (λ e. omega arith), le-no k 3 (omega arith), eq-no k 4 (λ e. omega arith), le-no k 7 h) at t in
     not-both (and-holds false below (and-holds configured _ u .1) .0)

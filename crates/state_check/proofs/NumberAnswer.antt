@@ -20,7 +20,7 @@ use Rattle.record.specs.declared.Context.{Context}
 use Rattle.record.specs.declared.State.{State}
 use Rattle.replication.specs.Machine.Types.{contextOf as contextOfState}
 use Rattle.replication.specs.Machine.WellFormed.{ranges, wellFormed}
-use Rattle.engine.specs.Layout.{SizesIn, sections, stateLength, outLength, leastStateLength, leastOutLength}
+use Rattle.engine.specs.Layout.{SizesIn, sections, stateLength, outLength, leastStateLength, leastOutLength, headerSize}
 use Rattle.engine.specs.Header.{headerIn}
 use Rattle.engine.specs.Decode.{serversIn, quotaIn, decodedAs, decoded, reads}
 use Rattle.engine.specs.Outcome.{tooShort, stateNumber}
@@ -56,14 +56,14 @@ read-zero b o h k = pick-no (tooShort b o) 0 7 _ h (pick-yes (reads b) 0 0 8 k r
 
 -- ---- a buffer without a header
 
-long-state : (n q : ℕ) → 60 ≤ stateLength n q
+long-state : (n q : ℕ) → headerSize ≤ stateLength n q
 unfolding stateLength sections sum
 long-state n q = omega arith
 
-shorter-by-state : (l o n q : ℕ) → l < 60 → (l <? stateLength n q or o <? outLength n q) ≡ true
+shorter-by-state : (l o n q : ℕ) → l < headerSize → (l <? stateLength n q or o <? outLength n q) ≡ true
 shorter-by-state l o n q h = sym (state-shorter l o n q (stateLength n q) refl (omega (arith, long-state n q)))
 
-pub brief-seven : (b o : List ℕ) → length b < 60 → 7 ≡ stateNumber b o
+pub brief-seven : (b o : List ℕ) → length b < headerSize → 7 ≡ stateNumber b o
 unfolding tooShort leastStateLength leastOutLength
 brief-seven b o h = short-seven b o (go (known (sizesOk (serversIn b) (quotaIn b))))
   where

@@ -17,6 +17,7 @@ use Rattle.engine.specs.Layout.{SizesIn, stateSize}
 use Rattle.state_check.specs.declared.plan.Bounds.{Bounds}
 use Rattle.state_check.specs.Collected.{valuesIn, wider, boundsOver, noBounds, spread, widthOf, spreadIn, greenSpread, cutSpreads, plannedIn, SlotsInside, StatesInside}
 use Rattle.state_check.proofs.Planned.{planned-spread, cuts-more}
+use Rattle.format.specs.Places.{stateCutsAt}
 
 pub number-wide : (t : Bool) (x : ℕ) (b : List ℕ) (at : ℕ) → t ≡ true → x ≡ numberAt 4 b at → x ≡ numberAt (widthOf t) b at
 unfolding widthOf
@@ -86,25 +87,25 @@ module _ (c : Context) (b : List ℕ) (at size : ℕ) where
   pub context-sizes : ContextIn c → SizesIn (c .servers) (c .quota)
   context-sizes h = record { servers = h .most; quota = h .largest }
 
-  slots-inside : StatesInside c b at → size ≡ stateSize (c .servers) (c .quota) → size ≤ 6200 → (place : ℕ) → place ≤ 9 + 2 * c .servers
+  slots-inside : StatesInside c b at → size ≡ stateSize (c .servers) (c .quota) → size ≤ 6200 → (place : ℕ) → place ≤ stateCutsAt + 2 * c .servers
       → SlotsInside (c .servers) size place b at
   unfolding stateSize
   slots-inside h e l place p =
       record { few = h .context .most; short = l; wide = omega (arith, e); inside = subst (λ (m : ℕ). at + c .servers * m ≤ length b) (sym e) (h .inside) }
 
-  pub green-inside : StatesInside c b at → size ≡ stateSize (c .servers) (c .quota) → size ≤ 6200 → SlotsInside (c .servers) size (9 + 2 * c .servers) b at
-  green-inside h e l = slots-inside h e l (9 + 2 * c .servers) (omega arith)
+  pub green-inside : StatesInside c b at → size ≡ stateSize (c .servers) (c .quota) → size ≤ 6200 → SlotsInside (c .servers) size (stateCutsAt + 2 * c .servers) b at
+  green-inside h e l = slots-inside h e l (stateCutsAt + 2 * c .servers) (omega arith)
 
-  pub cut-inside : (k : ℕ) → k < c .servers → StatesInside c b at → size ≡ stateSize (c .servers) (c .quota) → size ≤ 6200 → SlotsInside (c .servers) size (9 + 2 * k) b at
-  cut-inside k m h e l = slots-inside h e l (9 + 2 * k) (omega arith)
+  pub cut-inside : (k : ℕ) → k < c .servers → StatesInside c b at → size ≡ stateSize (c .servers) (c .quota) → size ≤ 6200 → SlotsInside (c .servers) size (stateCutsAt + 2 * k) b at
+  cut-inside k m h e l = slots-inside h e l (stateCutsAt + 2 * k) (omega arith)
 
-pub planned-start : (n size s x : ℕ) (b : List ℕ) (at : ℕ) → x ≡ spread (valuesIn (widthOf true) (9 + 2 * n) size s n 0 b at)
+pub planned-start : (n size s x : ℕ) (b : List ℕ) (at : ℕ) → x ≡ spread (valuesIn (widthOf true) (stateCutsAt + 2 * n) size s n 0 b at)
     → x ≡ greenSpread n size s b at + cutSpreads n size s 0 b at
 unfolding greenSpread cutSpreads below sum spreadIn
 planned-start n size s x b at e = omega (arith, e)
 
 pub planned-again : (n size s k x total : ℕ) (b : List ℕ) (at : ℕ) → total ≡ greenSpread n size s b at + cutSpreads n size s k b at
-    → x ≡ spread (valuesIn (widthOf false) (9 + 2 * k) size s n 0 b at) → total + x ≡ greenSpread n size s b at + cutSpreads n size s (k + 1) b at
+    → x ≡ spread (valuesIn (widthOf false) (stateCutsAt + 2 * k) size s n 0 b at) → total + x ≡ greenSpread n size s b at + cutSpreads n size s (k + 1) b at
 unfolding spreadIn
 planned-again n size s k x total b at h e = omega (arith, e, h, cuts-more n size s k b at)
 

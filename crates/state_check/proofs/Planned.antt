@@ -21,6 +21,7 @@ use Rattle.engine.specs.Layout.{stateSize}
 use Rattle.engine.specs.Decode.{statesAt}
 use Rattle.state_check.specs.declared.plan.Bounds.{Bounds}
 use Rattle.state_check.specs.Collected.{valuesIn, wider, boundsOver, noBounds, spread, widthOf, spreadIn, greenSpread, cutSpreads, plannedIn}
+use Rattle.format.specs.Places.{stateCutsAt}
 
 -- ---- the lowest and the highest
 
@@ -87,13 +88,13 @@ module _ (n q here : ℕ) (b : List ℕ) (t : Bool) (place : ℕ) (f : State →
 
 -- ---- the plan
 
-green-there : (n : ℕ) (b : List ℕ) (at : ℕ) → greenIn (stateAt n (drop at b)) ≡ numberAt (widthOf true) b (at + (9 + 2 * n))
+green-there : (n : ℕ) (b : List ℕ) (at : ℕ) → greenIn (stateAt n (drop at b)) ≡ numberAt (widthOf true) b (at + (stateCutsAt + 2 * n))
 unfolding greenIn stateAt widthOf
-green-there n b at = number-drop 4 b at (9 + 2 * n)
+green-there n b at = number-drop 4 b at (stateCutsAt + 2 * n)
 
-cut-there : (n : ℕ) (b : List ℕ) (c : ℕ) → c < n → (at : ℕ) → cutIn c (stateAt n (drop at b)) ≡ numberAt (widthOf false) b (at + (9 + 2 * c))
+cut-there : (n : ℕ) (b : List ℕ) (c : ℕ) → c < n → (at : ℕ) → cutIn c (stateAt n (drop at b)) ≡ numberAt (widthOf false) b (at + (stateCutsAt + 2 * c))
 unfolding cutIn stateAt widthOf
-cut-there n b c h at = numbers-at 2 n (drop at b) 9 c h ∙ number-drop 2 b at (9 + 2 * c)
+cut-there n b c h at = numbers-at 2 n (drop at b) 9 c h ∙ number-drop 2 b at (stateCutsAt + 2 * c)
 
 maps-same : (f g : ℕ → ℕ) (xs : List ℕ) → Each (λ x. f x ≡ g x) xs → map f xs ≡ map g xs
 maps-same f g [] h = refl
@@ -103,16 +104,16 @@ pub planned-spread : (n q here : ℕ) (b : List ℕ) (at : ℕ) → Bytes b → 
 unfolding plannedIn planned greenSpread cutSpreads
 planned-spread n q here b at y =
     let xs : List State = present (statesAt n q here n 0 b at) in
-    let cuts = maps-same (λ c. length (missing (cutIn c) xs)) (λ c. spreadIn false (9 + 2 * c) n (stateSize n q) here b at) (below n)
-    (each-implied (λ c. c < n) (λ c. length (missing (cutIn c) xs) ≡ spreadIn false (9 + 2 * c) n (stateSize n q) here b at)
-    (λ c h. sym (spread-in n q here b false (9 + 2 * c) (cutIn c) (cut-there n b c h) y at)) (below n) (below-each n)) in
-    ap₂ {A = ℕ} {B = List ℕ} {C = ℕ} (λ g l. g + sum l) (sym (spread-in n q here b true (9 + 2 * n) greenIn (green-there n b) y at)) cuts
+    let cuts = maps-same (λ c. length (missing (cutIn c) xs)) (λ c. spreadIn false (stateCutsAt + 2 * c) n (stateSize n q) here b at) (below n)
+    (each-implied (λ c. c < n) (λ c. length (missing (cutIn c) xs) ≡ spreadIn false (stateCutsAt + 2 * c) n (stateSize n q) here b at)
+    (λ c h. sym (spread-in n q here b false (stateCutsAt + 2 * c) (cutIn c) (cut-there n b c h) y at)) (below n) (below-each n)) in
+    ap₂ {A = ℕ} {B = List ℕ} {C = ℕ} (λ g l. g + sum l) (sym (spread-in n q here b true (stateCutsAt + 2 * n) greenIn (green-there n b) y at)) cuts
 
 -- ---- the loop over the creators
 
-pub cuts-more : (n size here k : ℕ) (b : List ℕ) (at : ℕ) → cutSpreads n size here (k + 1) b at ≡ cutSpreads n size here k b at + spreadIn false (9 + 2 * k) n size here b at
+pub cuts-more : (n size here k : ℕ) (b : List ℕ) (at : ℕ) → cutSpreads n size here (k + 1) b at ≡ cutSpreads n size here k b at + spreadIn false (stateCutsAt + 2 * k) n size here b at
 unfolding cutSpreads total
 cuts-more n size here k b at =
-    let f : ℕ → ℕ = λ c. spreadIn false (9 + 2 * c) n size here b at in
+    let f : ℕ → ℕ = λ c. spreadIn false (stateCutsAt + 2 * c) n size here b at in
     let next : k + 1 ≡ suc k = omega arith in
     ap (λ (m : ℕ). sum (map f (below m))) next ∙ total-sum (suc k) f ∙ ap (λ (m : ℕ). m + f k) (sym (total-sum k f))

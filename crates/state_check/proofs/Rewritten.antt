@@ -26,7 +26,7 @@ use Rattle.record.specs.declared.State.{State}
 use Rattle.replication.specs.Machine.WellFormed.{queue}
 use Rattle.replication.specs.Machine.WellFormedRanges.{ActionFits}
 use Rattle.replication.proofs.WellFormed.Facts.{facts-well-formed}
-use Rattle.engine.specs.Layout.{stateSize, theHeader, theCuts, theNoted, theHeld, theStates, theYellow, theOwn, theQueue, sections, sectionSize, offset, stateLength}
+use Rattle.engine.specs.Layout.{stateSize, theHeader, theCuts, theNoted, theHeld, theStates, theYellow, theOwn, theQueue, sections, sectionSize, offset, stateLength, headerSize}
 use Rattle.engine.specs.Image.{over, headerBytes, notedBytes, actionSlots, heldSlots, statesOver, section, parts, image}
 use Rattle.engine.specs.Decode.{actionsAt, heldAt}
 use Rattle.engine.specs.Header.{statusOf, idOf, setOf, transitionalOf, lastOf as lastNumbers, markNumbers, headerOf, headerWritten}
@@ -114,7 +114,7 @@ module _ (c : Context) (h : State) (b : List ℕ) (k : Checked c h b) (bytes : B
   unfolding section sectionSize offset sections sum
   header-same kept =
       let written : headerBytes (said c h b) ≡ headerWritten h = sym (header-written (said c h b)) ∙ ap headerWritten numbers-same in
-      let size : length (headerWritten h) ≡ 60 = ap length (sym written) ∙ header-length (said c h b) in
+      let size : length (headerWritten h) ≡ headerSize = ap length (sym written) ∙ header-length (said c h b) in
       ap (λ (m : ℕ). partAt m b 0) (sym size) ∙ kept .part ∙ sym written
 
   cuts-same : section (c .servers) (c .quota) theCuts b ≡ over (cutsBytes (said c h b .log .cuts)) (section (c .servers) (c .quota) theCuts b)

@@ -18,7 +18,7 @@ use Rattle.format.specs.Read.{idsAt}
 use Rattle.record.specs.Context.{contextOf}
 use Rattle.record.specs.Values.{idsBy, IdsInside}
 use Rattle.record.specs.declared.Context.{Context}
-use Rattle.engine.specs.Layout.{SizesIn, theNoted, theHeld, theStates, theYellow, theOwn, theQueue, sections, offset}
+use Rattle.engine.specs.Layout.{SizesIn, theNoted, theHeld, theStates, theYellow, theOwn, theQueue, sections, offset, headerSize, slotSize, heldSize}
 use Rattle.state_check.specs.Slots.{heldFit, queueFits, ownFits, notedFit}
 use Rattle.state_check.specs.Collected.{collectedOk, StatesInside}
 use Rattle.state_check.specs.Checks.{placeOf, ownCut, queueCuts, ownNext, queueOk, Buffer}
@@ -49,28 +49,28 @@ module _ (c : Context) (b : List ℕ) (k : Buffer c b) where
   pub sizes-in : SizesIn (c .servers) (c .quota)
   sizes-in = record { servers = k .context .most; quota = k .context .largest }
 
-  pub cut-room : 60 + 2 * c .me + 2 ≤ length b
+  pub cut-room : headerSize + 2 * c .me + 2 ≤ length b
   cut-room = omega (arith, header-room (c .servers) (c .quota) b (k .long), k .context .own, k .context .most)
 
-  pub cuts-inside : 60 + 2 * c .servers ≤ length b
+  pub cuts-inside : headerSize + 2 * c .servers ≤ length b
   cuts-inside = omega (arith, header-room (c .servers) (c .quota) b (k .long), k .context .most)
 
-  pub all-cuts-inside : 60 + 512 ≤ length b
+  pub all-cuts-inside : headerSize + 512 ≤ length b
   all-cuts-inside = omega (arith, header-room (c .servers) (c .quota) b (k .long))
 
   pub noted-inside : (at : ℕ) → at ≡ offset (c .servers) (c .quota) theNoted → at + 4 * c .servers ≤ length b
   noted-inside at e = rw e (noted-room (c .servers) (c .quota) b (k .long))
 
-  pub held-inside : (at m : ℕ) → at ≡ offset (c .servers) (c .quota) theHeld → m ≤ mostHeld → at + 49 * m ≤ length b
+  pub held-inside : (at m : ℕ) → at ≡ offset (c .servers) (c .quota) theHeld → m ≤ mostHeld → at + heldSize * m ≤ length b
   held-inside at m e l = rw e (held-room (c .servers) (c .quota) b (k .long) m l)
 
   pub ids-inside : (at m : ℕ) → at ≡ offset (c .servers) (c .quota) theYellow → m ≤ c .servers * c .quota → at + 3 * m ≤ length b
   ids-inside at m e l = rw e (ids-room (c .servers) (c .quota) b (k .long) m l)
 
-  pub own-inside : (at m : ℕ) → at ≡ offset (c .servers) (c .quota) theOwn → m ≤ c .quota → at + 56 * m ≤ length b
+  pub own-inside : (at m : ℕ) → at ≡ offset (c .servers) (c .quota) theOwn → m ≤ c .quota → at + slotSize * m ≤ length b
   own-inside at m e l = rw e (own-room (c .servers) (c .quota) b (k .long) m l)
 
-  pub queue-inside : (at m : ℕ) → at ≡ offset (c .servers) (c .quota) theQueue → m ≤ c .servers * c .quota → at + 56 * m ≤ length b
+  pub queue-inside : (at m : ℕ) → at ≡ offset (c .servers) (c .quota) theQueue → m ≤ c .servers * c .quota → at + slotSize * m ≤ length b
   queue-inside at m e l = rw e (queue-room (c .servers) (c .quota) b (k .long) m l)
 
   pub states-inside : (at : ℕ) → at ≡ offset (c .servers) (c .quota) theStates → StatesInside c b at
@@ -80,7 +80,7 @@ module _ (c : Context) (b : List ℕ) (k : Buffer c b) where
 -- ---- answers
 
 module _ (c : Context) (b : List ℕ) where
-  pub cut-told : (x : ℕ) → x ≡ numberAt 2 b (60 + 2 * c .me) → x ≡ ownCut (contextOf c) b
+  pub cut-told : (x : ℕ) → x ≡ numberAt 2 b (headerSize + 2 * c .me) → x ≡ ownCut (contextOf c) b
   unfolding ownCut contextOf placeOf offset sections sum
   cut-told x e = e
 
@@ -102,11 +102,11 @@ module _ (c : Context) (b : List ℕ) where
   unfolding placeOf contextOf
   own-told at x m r e f g = g ∙ λ i. ownFits (contextOf c) (f i) m b (e i)
 
-  pub cuts-denied : (actions : ℕ) (t : Bool) → t ≡ cutsOk (c .quota) (numbersAt 2 (c .servers) b 60) → not t ≡ true → false ≡ queueCuts (contextOf c) actions b
+  pub cuts-denied : (actions : ℕ) (t : Bool) → t ≡ cutsOk (c .quota) (numbersAt 2 (c .servers) b headerSize) → not t ≡ true → false ≡ queueCuts (contextOf c) actions b
   unfolding queueCuts placeOf contextOf offset sections sum
   cuts-denied actions t e h = and-no _ _ (sym e ∙ not-true t h)
 
-  pub cuts-answered : (actions x : ℕ) (t : Bool) → t ≡ cutsOk (c .quota) (numbersAt 2 (c .servers) b 60) → not t ≡ false → x ≡ sum (numbersAt 2 (c .servers) b 60)
+  pub cuts-answered : (actions x : ℕ) (t : Bool) → t ≡ cutsOk (c .quota) (numbersAt 2 (c .servers) b headerSize) → not t ≡ false → x ≡ sum (numbersAt 2 (c .servers) b headerSize)
       → eqb x actions ≡ queueCuts (contextOf c) actions b
   unfolding queueCuts placeOf contextOf offset sections sum
   cuts-answered actions x t e h f = and-yes _ _ _ (sym e ∙ not-false t h) (ap (λ (i : ℕ). eqb i actions) f ∙ told-eq _ actions)
@@ -115,19 +115,19 @@ module _ (c : Context) (b : List ℕ) where
   unfolding ownNext
   next-told x own numbered e = ap (λ (i : ℕ). eqb (i + own) numbered) e ∙ told-eq (ownCut (contextOf c) b + own) numbered
 
-  pub queue-ids-inside : (at m : ℕ) → at + 56 * m ≤ length b → IdsInside 56 m b at
+  pub queue-ids-inside : (at m : ℕ) → at + slotSize * m ≤ length b → IdsInside slotSize m b at
   queue-ids-inside at m h = record { wide = omega arith; inside = h }
 
-  pub queue-denied : (at m : ℕ) (t : Bool) → at ≡ offset (c .servers) (c .quota) theQueue → t ≡ idsOk (contextOf c) (idsBy 56 m b at) → not t ≡ true
+  pub queue-denied : (at m : ℕ) (t : Bool) → at ≡ offset (c .servers) (c .quota) theQueue → t ≡ idsOk (contextOf c) (idsBy slotSize m b at) → not t ≡ true
       → false ≡ queueOk (contextOf c) m b
   unfolding queueOk placeOf contextOf
-  queue-denied at m t e f h = and-no _ _ (ap (λ (i : ℕ). idsOk (contextOf c) (idsBy 56 m b i)) (sym e) ∙ sym f ∙ not-true t h)
+  queue-denied at m t e f h = and-no _ _ (ap (λ (i : ℕ). idsOk (contextOf c) (idsBy slotSize m b i)) (sym e) ∙ sym f ∙ not-true t h)
 
-  pub queue-answered : (at m : ℕ) (t r : Bool) → at ≡ offset (c .servers) (c .quota) theQueue → t ≡ idsOk (contextOf c) (idsBy 56 m b at) → not t ≡ false
-      → r ≡ queueFits (contextOf c) 60 m b at → r ≡ queueOk (contextOf c) m b
+  pub queue-answered : (at m : ℕ) (t r : Bool) → at ≡ offset (c .servers) (c .quota) theQueue → t ≡ idsOk (contextOf c) (idsBy slotSize m b at) → not t ≡ false
+      → r ≡ queueFits (contextOf c) headerSize m b at → r ≡ queueOk (contextOf c) m b
   unfolding queueOk placeOf contextOf offset sections sum
   queue-answered at m t r e f h g =
-      and-yes r _ _ (ap (λ (i : ℕ). idsOk (contextOf c) (idsBy 56 m b i)) (sym e) ∙ sym f ∙ not-false t h) (g ∙ ap (λ (i : ℕ). queueFits (contextOf c) 60 m b i) e)
+      and-yes r _ _ (ap (λ (i : ℕ). idsOk (contextOf c) (idsBy slotSize m b i)) (sym e) ∙ sym f ∙ not-false t h) (g ∙ ap (λ (i : ℕ). queueFits (contextOf c) headerSize m b i) e)
 
   pub states-told : (at s i : ℕ) (r : Bool) → at ≡ offset (c .servers) (c .quota) theStates → r ≡ collectedOk (contextOf c) s i (c .servers) 0 b at
       → r ≡ collectedOk (contextOf c) s i (c .servers) 0 b (placeOf (contextOf c) theStates)

@@ -82,7 +82,7 @@ own-more c k zero b at h = absurd (omega arith)
 own-more c k (suc m) b at h = let e : suc m - 1 ≡ m = omega arith in rw e
 
 pub own-again : (c : Context) (k m : ℕ) (b : List ℕ) (at : ℕ) (v t : Bool) → v ≡ ownFits c k m b at → 0 < m → t ≡ ownSlotFits c k b at → not t ≡ false
-    → v ≡ ownFits c (k + 1) (m - 1) b (at + 56)
+    → v ≡ ownFits c (k + 1) (m - 1) b (at + slotSize)
 own-again c k m b at v t h l e f = h ∙ own-more c k m b at l ∙ sym (and-yes _ (ownSlotFits c k b at) _ (sym e ∙ not-false t f) refl)
 
 pub own-denied : (c : Context) (k m : ℕ) (b : List ℕ) (at : ℕ) (v t : Bool) → v ≡ ownFits c k m b at → 0 < m → t ≡ ownSlotFits c k b at → not t ≡ true → false ≡ v

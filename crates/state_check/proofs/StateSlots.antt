@@ -23,6 +23,7 @@ use Rattle.format.proofs.Reading.{read-in-range}
 use Rattle.format.proofs.RoundTrip.{read-written, written-read}
 use Rattle.engine.specs.Layout.{stateSize}
 use Rattle.state_check.specs.Collected.{isState, saysState, idsInSlot, slotRecord, holdsState}
+use Rattle.format.specs.Places.{stateHeadSize, stateCountAt, stateYellowAt}
 
 -- What is known of the State x in the slot at `at`.
 pub record Slot (c : Context) (k i : ℕ) (b : List ℕ) (at : ℕ) (x : State) : Type 0 where
@@ -72,7 +73,7 @@ module _ (c : Context) (s : ContextRange c) (ok : contextOk c ≡ true) (b : Lis
       let n : ℕ = c .servers in
       let u = and-holds _ _ t in
       let count : idsInSlot n b at ≤ n * c .quota = le-holds _ _ (u .0) in
-      let m : ℕ = 40 + 2 * n + 3 * idsInSlot n b at in
+      let m : ℕ = stateHeadSize + 2 * n + 3 * idsInSlot n b at in
       let e : List ℕ = partAt m b at in
       let d = said k i (read c e) (u .1) in
       let x : State = d .what in
@@ -89,8 +90,8 @@ module _ (c : Context) (s : ContextRange c) (ok : contextOk c ≡ true) (b : Lis
   unfolding stateAt yellowAt idsInSlot
   ids-of-state =
       let n : ℕ = c .servers in
-      let place : 37 + 2 * n + 1 ≡ 38 + 2 * n = omega arith in
-      ids-number _ (drop at b) _ ∙ ap (numberAt 2 (drop at b)) place ∙ number-drop 2 b at (38 + 2 * n)
+      let place : stateYellowAt + 2 * n + 1 ≡ stateCountAt + 2 * n = omega arith in
+      ids-number _ (drop at b) _ ∙ ap (numberAt 2 (drop at b)) place ∙ number-drop 2 b at (stateCountAt + 2 * n)
 
   cuts-of-state : length (stateAt (c .servers) (drop at b) .cuts) ≡ c .servers
   unfolding stateAt
@@ -102,9 +103,9 @@ module _ (c : Context) (s : ContextRange c) (ok : contextOk c ≡ true) (b : Lis
       let r = state-range c x s f in
       omega (arith, ids-of-state, ids-count c (x .yellow .ids) (r .yellow .ids) (r .yellow .differ))
 
-  record-length : length (write (state (stateAt (c .servers) (drop at b)))) ≡ 40 + 2 * c .servers + 3 * idsInSlot (c .servers) b at
+  record-length : length (write (state (stateAt (c .servers) (drop at b)))) ≡ stateHeadSize + 2 * c .servers + 3 * idsInSlot (c .servers) b at
   unfolding lengthOf
-  record-length = write-length (state (stateAt (c .servers) (drop at b))) ∙ ap₂ {A = ℕ} {B = ℕ} {C = ℕ} (λ m j. 40 + 2 * m + 3 * j) cuts-of-state ids-of-state
+  record-length = write-length (state (stateAt (c .servers) (drop at b))) ∙ ap₂ {A = ℕ} {B = ℕ} {C = ℕ} (λ m j. stateHeadSize + 2 * m + 3 * j) cuts-of-state ids-of-state
 
   pub slot-short : stateOk c (stateAt (c .servers) (drop at b)) ≡ true → length (write (state (stateAt (c .servers) (drop at b)))) ≤ stateSize (c .servers) (c .quota)
   unfolding stateSize

@@ -12,11 +12,13 @@ use Rattle.format.specs.Limits.{mostIndex}
 use Rattle.format.specs.Types.{Context}
 use Rattle.format.specs.Range.{contextOk, cutsOk, idsOk}
 use Rattle.format.specs.Read.{idsAt}
+use Rattle.replication.specs.Machine.Types.{Non-prim, Exchange-states, Exchange-actions, Un}
 use Rattle.record.specs.Context.{readingContext, contextOf, ContextIn}
 use Rattle.record.specs.Values.{idsBy}
 use Rattle.record.specs.declared.Context.{Context as CodeContext}
 use Rattle.record.specs.declared.State.{State}
 use Rattle.engine.specs.Layout.{slotSize, theCuts, theNoted, theHeld, theStates, theYellow, theOwn, theQueue, offset, stateLength}
+use Rattle.engine.specs.Image.{modeNumber}
 use Rattle.engine.specs.Header.{headerIn}
 use Rattle.state_check.specs.Slots.{heldFit, queueFits, ownFits, notedFit}
 use Rattle.state_check.specs.Numbers.{numbersOk}
@@ -68,7 +70,9 @@ exchangeOk c h b =
 -- 4,000,000,000 in Construct, No or Un" does not apply to the state of this number, and there is no state of a number above 7.
 unfoldable pub modeTest : ℕ → (configured exchange below : Bool) → Bool
 modeTest k configured exchange below =
-    pick (k =? 0) true (configured and pick (k ≤? 3) true (pick (k =? 4) exchange (k ≤? 7 and below)))
+    pick (k =? modeNumber Non-prim) true
+    (configured
+    and pick (k ≤? modeNumber Exchange-states) true (pick (k =? modeNumber Exchange-actions) exchange (k ≤? modeNumber Un and below)))
 
 unfoldable pub modeOk : Context → State → List ℕ → Bool
 modeOk c h b = modeTest (h .mode) (h .«configuration_status» =? 1) (exchangeOk c h b) (h .last .index .0 <? mostIndex)

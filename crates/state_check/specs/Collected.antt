@@ -18,6 +18,7 @@ use Rattle.replication.specs.Machine.Plan.{planned}
 use Rattle.engine.specs.Layout.{stateSize}
 use Rattle.engine.specs.Decode.{statesAt}
 use Rattle.state_check.specs.declared.plan.Bounds.{Bounds}
+use Rattle.format.specs.Places.{stateHeadSize, stateCutsAt, stateCountAt}
 
 -- ---- a slot
 
@@ -38,11 +39,11 @@ saysState k i (refused m) = false
 
 -- How many yellow ids the record in the slot at `at` has.
 unfoldable pub idsInSlot : ℕ → List ℕ → ℕ → ℕ
-idsInSlot n b at = numberAt 2 b (at + (38 + 2 * n))
+idsInSlot n b at = numberAt 2 b (at + (stateCountAt + 2 * n))
 
 -- The record in the slot at `at`.
 unfoldable pub slotRecord : ℕ → List ℕ → ℕ → List ℕ
-slotRecord n b at = partAt (40 + 2 * n + 3 * idsInSlot n b at) b at
+slotRecord n b at = partAt (stateHeadSize + 2 * n + 3 * idsInSlot n b at) b at
 
 -- The slot at `at` holds the record of a State of this sender in this configuration.
 unfoldable pub holdsState : Context → (sender configuration : ℕ) → List ℕ → ℕ → Bool
@@ -90,10 +91,10 @@ spreadIn wide place n size here b at = spread (valuesIn (widthOf wide) place siz
 
 -- Of their green lengths, and of their cuts of the first m creators.
 unfoldable pub greenSpread : (n size here : ℕ) → List ℕ → ℕ → ℕ
-greenSpread n size here b at = spreadIn true (9 + 2 * n) n size here b at
+greenSpread n size here b at = spreadIn true (stateCutsAt + 2 * n) n size here b at
 
 unfoldable pub cutSpreads : (n size here m : ℕ) → List ℕ → ℕ → ℕ
-cutSpreads n size here m b at = sum (map (λ c. spreadIn false (9 + 2 * c) n size here b at) (below m))
+cutSpreads n size here m b at = sum (map (λ c. spreadIn false (stateCutsAt + 2 * c) n size here b at) (below m))
 
 -- Of n servers with the quota q.
 unfoldable pub plannedIn : (n q here : ℕ) → List ℕ → ℕ → ℕ

@@ -13,6 +13,7 @@ ghost use Rattle.record.specs.Reading.{meaning};
 ghost use Rattle.state_check.specs.Collected.{isState, saysState, holdsState, collectedOk, StatesInside};
 use engine::places::state_size;
 use record::Context;
+use record::StateHead;
 use record::bytes::num16;
 use record::events::Event;
 use record::range::length_ok;
@@ -68,11 +69,11 @@ fn holds_state(c: Context, sender: u8, configuration: u32, b: &[u8], at: usize) 
     ensures { λ r. ⌜ r ≡ holdsState (contextOf c) sender configuration (now (b .entry)) at ⌝ }
 {
     let n = c.servers as usize;
-    let count = num16(b, at + (38 + 2 * n));
+    let count = num16(b, at + (StateHead::COUNT + 2 * n));
     if !length_ok(c, count as u32) {
         return false;
     }
-    let end = at + (40 + 2 * n + 3 * count as usize);
+    let end = at + (StateHead::SIZE + 2 * n + 3 * count as usize);
     let reading = read(c, &b[at..end]);
     says_state(reading, sender, configuration)
 }

@@ -48,19 +48,19 @@ fn mode_ok(c: Context, h: State, b: &[u8]) -> bool
     requires { ⌜ Buffer c (now b) ⌝ }
     ensures { λ r. ⌜ r ≡ modeOk (contextOf c) h (now (b .entry)) ⌝ }
 {
-    if h.mode == 0 {
+    if h.mode == State::NON_PRIM {
         return true;
     }
     if h.configuration_status != 1 {
         return false;
     }
-    if h.mode <= 3 {
+    if h.mode <= State::EXCHANGE_STATES {
         return true;
     }
-    if h.mode == 4 {
+    if h.mode == State::EXCHANGE_ACTIONS {
         return exchange_ok(c, h, b);
     }
-    if 7 < h.mode {
+    if State::UN < h.mode {
         return false;
     }
     h.last.index.0 < State::MOST_INDEX

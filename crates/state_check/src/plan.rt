@@ -8,6 +8,7 @@ ghost use Rattle.base.specs.Tests.{pick};
 ghost use Rattle.state_check.specs.Collected.{valuesIn, wider, spread as spreadOf, widthOf, plannedIn, SlotsInside, StatesInside};
 use engine::places::state_size;
 use record::Context;
+use record::StateHead;
 use record::bytes::num16;
 use record::bytes::num32;
 
@@ -102,10 +103,10 @@ pub fn planned(c: Context, set: u8, b: &[u8], at: usize) -> u64
     let n = c.servers;
     let size = state_size(n as u32, c.quota as u32) as usize;
     let creators = n as usize;
-    let mut total = spread(b, set, n, at, size, 9 + 2 * creators, true) as u64;
+    let mut total = spread(b, set, n, at, size, StateHead::CUTS + 2 * creators, true) as u64;
     let mut k: usize = 0;
     while k < creators {
-        total += spread(b, set, n, at, size, 9 + 2 * k, false) as u64;
+        total += spread(b, set, n, at, size, StateHead::CUTS + 2 * k, false) as u64;
         k += 1;
     }
     total

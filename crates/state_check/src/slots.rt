@@ -5,17 +5,13 @@ ghost use lib.ListN.{length};
 ghost use Rattle.base.specs.Entries.{everyAt};
 ghost use Rattle.record.specs.Context.{contextOf, ContextIn};
 ghost use Rattle.state_check.specs.Slots.{zeroAt, payloadFits, heldFit, slotFits, queueSlotFits, queueFits, ownSlotFits, ownFits, notedAt, notedFit};
+ghost use Rattle.engine.specs.Layout.{slotSize, heldSize};
 use record::Context;
 use record::State;
 use record::bytes::num8;
 use record::bytes::num16;
 use record::bytes::num32;
 use record::range::length_ok;
-
-// A held request; an action on the own list or in the queue.
-const HELD: usize = 1 + State::MOST_PAYLOAD;
-
-const SLOT: usize = 8 + State::MOST_PAYLOAD;
 
 // Whether the `count` bytes from `at` on are zeros.
 fn zeros(b: &[u8], at: usize, count: usize) -> bool
@@ -36,7 +32,7 @@ fn zeros(b: &[u8], at: usize, count: usize) -> bool
 
 // A payload of at most 48 bytes, and zeros behind it.
 fn payload_fits(b: &[u8], at: usize) -> bool
-    requires { ⌜ at + 49 ≤ length (now b) ⌝ }
+    requires { ⌜ at + heldSize ≤ length (now b) ⌝ }
     ensures { λ r. ⌜ r ≡ payloadFits (now (b .entry)) at ⌝ }
 {
     let m = num8(b, at) as usize;
@@ -48,7 +44,7 @@ fn payload_fits(b: &[u8], at: usize) -> bool
 
 // The held requests.
 pub fn held_fit(b: &[u8], at: usize, count: usize) -> bool
-    requires { ⌜ at + 49 * count ≤ length (now b) ⌝ }
+    requires { ⌜ at + heldSize * count ≤ length (now b) ⌝ }
     ensures { λ r. ⌜ r ≡ heldFit count (now (b .entry)) at ⌝ }
 {
     let mut here = at;
@@ -57,7 +53,7 @@ pub fn held_fit(b: &[u8], at: usize, count: usize) -> bool
         if !payload_fits(b, here) {
             return false;
         }
-        here += HELD;
+        here += State::HELD;
         left -= 1;
     }
     true
@@ -65,7 +61,7 @@ pub fn held_fit(b: &[u8], at: usize, count: usize) -> bool
 
 // An action's green length and payload.
 fn slot_fits(c: Context, b: &[u8], at: usize) -> bool
-    requires { ⌜ ContextIn c × (at + 56 ≤ length (now b)) ⌝ }
+    requires { ⌜ ContextIn c × (at + slotSize ≤ length (now b)) ⌝ }
     ensures { λ r. ⌜ r ≡ slotFits (contextOf c) (now (b .entry)) at ⌝ }
 {
     if !length_ok(c, num32(b, at + 3)) {
@@ -76,7 +72,7 @@ fn slot_fits(c: Context, b: &[u8], at: usize) -> bool
 
 // An action of the queue: the cuts begin at `cuts`.
 fn queue_slot_fits(c: Context, b: &[u8], cuts: usize, at: usize) -> bool
-    requires { ⌜ ContextIn c × (cuts + 512 ≤ length (now b)) × (at + 56 ≤ length (now b)) ⌝ }
+    requires { ⌜ ContextIn c × (cuts + 512 ≤ length (now b)) × (at + slotSize ≤ length (now b)) ⌝ }
     ensures { λ r. ⌜ r ≡ queueSlotFits (contextOf c) (now (b .entry)) cuts at ⌝ }
 {
     let creator = num8(b, at) as usize;
@@ -87,7 +83,7 @@ fn queue_slot_fits(c: Context, b: &[u8], cuts: usize, at: usize) -> bool
 }
 
 pub fn queue_fits(c: Context, b: &[u8], cuts: usize, at: usize, count: usize) -> bool
-    requires { ⌜ ContextIn c × (cuts + 512 ≤ length (now b)) × (at + 56 * count ≤ length (now b)) ⌝ }
+    requires { ⌜ ContextIn c × (cuts + 512 ≤ length (now b)) × (at + slotSize * count ≤ length (now b)) ⌝ }
     ensures { λ r. ⌜ r ≡ queueFits (contextOf c) cuts count (now (b .entry)) at ⌝ }
 {
     let mut here = at;
@@ -96,7 +92,7 @@ pub fn queue_fits(c: Context, b: &[u8], cuts: usize, at: usize, count: usize) ->
         if !queue_slot_fits(c, b, cuts, here) {
             return false;
         }
-        here += SLOT;
+        here += State::SLOT;
         left -= 1;
     }
     true
@@ -104,7 +100,7 @@ pub fn queue_fits(c: Context, b: &[u8], cuts: usize, at: usize, count: usize) ->
 
 // An own action of the index k + 1.
 fn own_slot_fits(c: Context, b: &[u8], k: usize, at: usize) -> bool
-    requires { ⌜ ContextIn c × (k ≤ 131070) × (at + 56 ≤ length (now b)) ⌝ }
+    requires { ⌜ ContextIn c × (k ≤ 131070) × (at + slotSize ≤ length (now b)) ⌝ }
     ensures { λ r. ⌜ r ≡ ownSlotFits (contextOf c) k (now (b .entry)) at ⌝ }
 {
     if num8(b, at) != c.me {
@@ -118,7 +114,7 @@ fn own_slot_fits(c: Context, b: &[u8], k: usize, at: usize) -> bool
 
 // Own actions of the indexes from k + 1 on.
 pub fn own_fits(c: Context, b: &[u8], k: usize, at: usize, count: usize) -> bool
-    requires { ⌜ ContextIn c × (k + count ≤ 131070) × (at + 56 * count ≤ length (now b)) ⌝ }
+    requires { ⌜ ContextIn c × (k + count ≤ 131070) × (at + slotSize * count ≤ length (now b)) ⌝ }
     ensures { λ r. ⌜ r ≡ ownFits (contextOf c) k count (now (b .entry)) at ⌝ }
 {
     let mut here = at;
@@ -128,7 +124,7 @@ pub fn own_fits(c: Context, b: &[u8], k: usize, at: usize, count: usize) -> bool
         if !own_slot_fits(c, b, i, here) {
             return false;
         }
-        here += SLOT;
+        here += State::SLOT;
         i += 1;
         left -= 1;
     }

@@ -63,7 +63,7 @@ module _ (n : ℕ) (x : ActionHead) (p b : List ℕ) (h : HoldsSuch (Takes n (ac
   fits-as s j t f = subst (λ (i : Rule). RuleFits i s) (Option·some-injective (t .rule) j (sym (t .taken) ∙ f)) (t .fits)
 
   pub green-taken : n ≡ 1 → HoldsSuch (λ s. Delivered s (actionOf x p)) b
-  unfolding modeNamed pick _=?_ onAction
+  unfolding modeNamed pick _=?_ onAction modeNumber
   green-taken e =
       record {
         state = h .state;
@@ -73,7 +73,7 @@ module _ (n : ℕ) (x : ActionHead) (p b : List ℕ) (h : HoldsSuch (Takes n (ac
       }
 
   pub yellow-taken : n ≡ 2 → HoldsSuch (λ s. Delivered s (actionOf x p)) b
-  unfolding modeNamed pick _=?_ onAction
+  unfolding modeNamed pick _=?_ onAction modeNumber
   yellow-taken e =
       record {
         state = h .state;
@@ -83,7 +83,7 @@ module _ (n : ℕ) (x : ActionHead) (p b : List ℕ) (h : HoldsSuch (Takes n (ac
       }
 
   pub late-taken : n ≡ 7 → HoldsSuch (λ s. Delivered s (actionOf x p) × (s .membership .mode ≡ Un)) b
-  unfolding modeNamed pick _=?_ onAction
+  unfolding modeNamed pick _=?_ onAction modeNumber
   late-taken e =
       record {
         state = h .state;
@@ -106,7 +106,7 @@ module _ (n : ℕ) (x : ActionHead) (p b : List ℕ) (h : HoldsSuch (Takes n (ac
     pub green-done : n ≡ 1 → ((s : Server) → Holds s b → c ≡ image (greenAndNote (actionOf x p) s) b) → r ≡ quietly
         → (s : Server) (o : List ℕ) (k : Rule) → Holds s b → onAction (s .membership .mode) (actionOf x p) ≡ some k
         → answered r c o ≡ outcomeOn (apply k s) b o
-    unfolding modeNamed pick _=?_ onAction apply
+    unfolding modeNamed pick _=?_ onAction apply modeNumber
     green-done e f q s o k i t =
         let j = rule-at s 1 (greening act) (such-fact _ b s h i) e refl in
         quiet-as s (greenAndNote act s) (apply k s) r b c o q (same-rule s (s .membership .mode) act (greening act) k j t) (f s i)
@@ -114,7 +114,7 @@ module _ (n : ℕ) (x : ActionHead) (p b : List ℕ) (h : HoldsSuch (Takes n (ac
     pub yellow-done : n ≡ 2 → ((s : Server) → Holds s b → c ≡ image (yellow (actionOf x p) s) b) → r ≡ quietly
         → (s : Server) (o : List ℕ) (k : Rule) → Holds s b → onAction (s .membership .mode) (actionOf x p) ≡ some k
         → answered r c o ≡ outcomeOn (apply k s) b o
-    unfolding modeNamed pick _=?_ onAction apply
+    unfolding modeNamed pick _=?_ onAction apply modeNumber
     yellow-done e f q s o k i t =
         let j = rule-at s 2 (yellowing act) (such-fact _ b s h i) e refl in
         quiet-as s (yellow act s) (apply k s) r b c o q (same-rule s (s .membership .mode) act (yellowing act) k j t) (f s i)
@@ -122,7 +122,7 @@ module _ (n : ℕ) (x : ActionHead) (p b : List ℕ) (h : HoldsSuch (Takes n (ac
     pub late-done : n ≡ 7 → ((s : Server) → Holds s b → c ≡ image (inMode Trans-prim (yellow (actionOf x p) (install s))) b) → r ≡ storedFirst 0
         → (s : Server) (o : List ℕ) (k : Rule) → Holds s b → onAction (s .membership .mode) (actionOf x p) ≡ some k
         → answered r c o ≡ outcomeOn (apply k s) b o
-    unfolding modeNamed pick _=?_ onAction apply
+    unfolding modeNamed pick _=?_ onAction apply modeNumber
     late-done e f q s o k i t =
         let j = rule-at s 7 (lateInstalling act) (such-fact _ b s h i) e refl in
         stored-as s (inMode Trans-prim (yellow act (install s))) (apply k s) r b c o q

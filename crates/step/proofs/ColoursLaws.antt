@@ -35,6 +35,7 @@ use Rattle.queue.proofs.RedLaws.{cut-read, room-if-next}
 use Rattle.lists.specs.Lists.{CountsIn, NumberIn}
 use Rattle.lists.proofs.Counts.{holds-servers, holds-counts}
 use Rattle.engine.proofs.Chained.{Covers, chained, then-holds}
+use Rattle.engine.specs.Layout.{headerSize}
 
 -- ---- well-formed states on the way
 
@@ -153,11 +154,11 @@ module _ (h : ActionHead) (p b : List ℕ) where
         actions = inl (omega arith);
       }
 
-  pub cut-inside : HoldsSuch (λ s. Delivered s (actionOf h p)) b → 60 + 2 * h .creator + 2 ≤ length b
+  pub cut-inside : HoldsSuch (λ s. Delivered s (actionOf h p)) b → headerSize + 2 * h .creator + 2 ≤ length b
   unfolding actionOf idOf
   cut-inside m = let r = room-if-next (m .state) (actionOf h p) b (m .holds) (m .fact) in omega (arith, r .counts .cuts, r .creator)
 
-  module _ (k : ℕ) (e : k ≡ numberAt 2 b (60 + 2 * h .creator)) (m : HoldsSuch (λ s. Delivered s (actionOf h p)) b) where
+  module _ (k : ℕ) (e : k ≡ numberAt 2 b (headerSize + 2 * h .creator)) (m : HoldsSuch (λ s. Delivered s (actionOf h p)) b) where
     cut-known : (s : Server) → Holds s b → Delivered s (actionOf h p) → k ≡ cut (s .log) (h .creator)
     unfolding actionOf idOf
     cut-known s r d = e ∙ cut-read s b (h .creator) r (d .fits .id .creator)

@@ -84,43 +84,43 @@ module _ (h : Numbers) (id set : ℕ) (b o : List ℕ) (f : LentSuch (InForce h 
         taken v x z s y w = w ∙ ap (λ (j : Outcome Record). outcomeOn j b o) (sym (passed s r k (passes s y)))
 
       pub first-ready : h .mode ≡ 0 → LentSuch (λ s. ConfigurationFits (s .servers) (s .me) (configurationOf id set)) b o
-      unfolding modeNamed pick _=?_ onRegular isIgnored
+      unfolding modeNamed pick _=?_ onRegular isIgnored modeNumber
       first-ready e = ready 0 (joining c) e refl refl (λ x. x)
 
       pub un-ready : h .mode ≡ 7 → LentSuch (λ s. ConfigurationFits (s .servers) (s .me) (configurationOf id set)) b o
-      unfolding modeNamed pick _=?_ onRegular isIgnored
+      unfolding modeNamed pick _=?_ onRegular isIgnored modeNumber
       un-ready e = ready 7 (joining c) e refl refl (λ x. x)
 
       pub no-ready : h .mode ≡ 6 → LentSuch (λ s. ConfigurationFits (s .servers) (s .me) (configurationOf id set)) b o
-      unfolding modeNamed pick _=?_ onRegular isIgnored
+      unfolding modeNamed pick _=?_ onRegular isIgnored modeNumber
       no-ready e = ready 6 (joiningUnmarked c) e refl refl (λ x. x)
 
       pub trans-ready : h .mode ≡ 2 → LentSuch (λ s. ConfigurationFits (s .servers) (s .me) (configurationOf id set)) b o
-      unfolding modeNamed pick _=?_ onRegular isIgnored
+      unfolding modeNamed pick _=?_ onRegular isIgnored modeNumber
       trans-ready e = ready 2 (joiningYellow c) e refl refl (λ x. x)
 
       module _ (v : Answer) (x z : List ℕ) where
         pub first-joined : h .mode ≡ 0 → ((s u : Server) → Holds u b → answered v x z ≡ outcomeOn (join s (configurationOf id set) u) b o)
             → (s : Server) → Holds s b → answered v x z ≡ outcomeOn (answer s (regular id set)) b o
-        unfolding modeNamed pick _=?_ onRegular isIgnored apply
+        unfolding modeNamed pick _=?_ onRegular isIgnored apply modeNumber
         first-joined e w s y = taken 0 (joining c) e refl refl v x z s y (w s s y)
 
         pub un-joined : h .mode ≡ 7 → ((s u : Server) → Holds u b → answered v x z ≡ outcomeOn (join s (configurationOf id set) u) b o)
             → (s : Server) → Holds s b → answered v x z ≡ outcomeOn (answer s (regular id set)) b o
-        unfolding modeNamed pick _=?_ onRegular isIgnored apply
+        unfolding modeNamed pick _=?_ onRegular isIgnored apply modeNumber
         un-joined e w s y = taken 7 (joining c) e refl refl v x z s y (w s s y)
 
         pub no-joined : h .mode ≡ 6
             → ((s u : Server) → Holds u b → answered v x z ≡ outcomeOn (join s (configurationOf id set) (withVotes (unmarked (u .votes)) u)) b o)
             → (s : Server) → Holds s b → answered v x z ≡ outcomeOn (answer s (regular id set)) b o
-        unfolding modeNamed pick _=?_ onRegular isIgnored apply
+        unfolding modeNamed pick _=?_ onRegular isIgnored apply modeNumber
         no-joined e w s y = taken 6 (joiningUnmarked c) e refl refl v x z s y (w s s y)
 
         pub trans-joined : h .mode ≡ 2
             → ((s u : Server) → Holds u b → answered v x z
             ≡ outcomeOn (join s (configurationOf id set) (withVotes (yellowValid (unmarked (u .votes))) u)) b o)
             → (s : Server) → Holds s b → answered v x z ≡ outcomeOn (answer s (regular id set)) b o
-        unfolding modeNamed pick _=?_ onRegular isIgnored apply
+        unfolding modeNamed pick _=?_ onRegular isIgnored apply modeNumber
         trans-joined e w s y = taken 2 (joiningYellow c) e refl refl v x z s y (w s s y)
 
 -- ---- transitional ones

@@ -69,7 +69,7 @@ module _ (h : Numbers) (k id : ℕ) (b o : List ℕ) (f : LentSuch (InForce h (c
   force s y = lent-fact (InForce h r) b o s f y
 
   pub cpc-passed-over : h .mode ≡ 0 → (v : Answer) → v ≡ quietly → (s : Server) → Holds s b → answered v b o ≡ outcomeOn (answer s (cpc k id)) b o
-  unfolding modeNamed pick _=?_ onCpc ruleFor possible isIgnored withinQuota withinHeld _or_ apply
+  unfolding modeNamed pick _=?_ onCpc ruleFor possible isIgnored withinQuota withinHeld _or_ apply modeNumber
   cpc-passed-over m v q s y =
       let z : onCpc (s .membership .mode) k ≡ some ignoring = numbers-at (λ l. onCpc l k ≡ some ignoring) h s 0 (force s y .numbers) m refl in
       quiet-as s s (answer s r) v b b o q (passed s r ignoring (record { rule = z; possible = refl; member = refl; quota = refl; held = refl }))
@@ -105,7 +105,7 @@ module _ (h : Numbers) (k id : ℕ) (b o : List ℕ) (f : LentSuch (InForce h (c
         -- ---- in Construct
 
         constructing : h .mode ≡ 5 → (s : Server) → Holds s b → Passes s r (collectingCpc k)
-        unfolding modeNamed pick _=?_ onCpc isIgnored
+        unfolding modeNamed pick _=?_ onCpc isIgnored modeNumber
         constructing e s y =
             passes s y (collectingCpc k) (numbers-at (λ l. onCpc l k ≡ some (collectingCpc k)) h s 5 (force s y .numbers) e refl) refl
 

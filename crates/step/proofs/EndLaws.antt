@@ -46,6 +46,8 @@ use Rattle.engine.proofs.Chained.{Covers, chained, then-holds, numbers-then}
 use Rattle.step.proofs.ExchangeStates.{decided-formed, attempting-formed, staying-formed}
 use Rattle.step.proofs.LentLaws.{holds-products, put-room, put-done, one-record}
 use Rattle.step.proofs.OutcomeLaws.{stored-outcome}
+use Rattle.format.specs.Places.{idSize}
+use Rattle.format.specs.Limits.{mostServers, mostQuota}
 
 -- ---- what the States decide
 
@@ -60,7 +62,7 @@ taken-few t b r e =
     ids-count (contextOf (decided t)) (takenYellow (collected t) .ids) (y .ids) (y .differ)
 
 module _ (b o₁ : List ℕ) (count room : ℕ) (m : HoldsSuch Idle b)
-    (f : (s : Server) → Holds s b → 3 * (s .servers * s .quota) ≤ room → Listed count o₁ (takenYellow (collected s) .ids)) (size : room ≡ 6144) where
+    (f : (s : Server) → Holds s b → 3 * (s .servers * s .quota) ≤ room → Listed count o₁ (takenYellow (collected s) .ids)) (size : room ≡ idSize * (mostServers * mostQuota)) where
   listed : (t : Server) → Holds t b → Listed count o₁ (takenYellow (collected t) .ids)
   unfolding contextOf
   listed t r =

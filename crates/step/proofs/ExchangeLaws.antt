@@ -27,8 +27,9 @@ use Rattle.step.proofs.EndLaws.{Ends}
 use Rattle.step.proofs.EndOverLaws.{end-mode, Before, end-over}
 use Rattle.step.proofs.ExchangeStates.{awaiting, last-formed}
 use Rattle.step.proofs.OutcomeLaws.{quiet-outcome}
+use Rattle.engine.specs.Layout.{atCome}
 
-come-read : (s : Server) (b : List ℕ) → Holds s b → numberAt 4 b 15 ≡ s .membership .come
+come-read : (s : Server) (b : List ℕ) → Holds s b → numberAt 4 b atCome ≡ s .membership .come
 unfolding headerIn headerOf
 come-read s b r = ap (λ (h : State). h .come) (header-loaded s b r)
 
@@ -38,7 +39,7 @@ last-before k a s = record { servers = refl; quota = refl; held = refl; ids = re
 
 module _ (h : ActionHead) (p b o : List ℕ) (planned come : ℕ)
     (m : LentSuch (λ s. Delivered s (actionOf h p) × (s .membership .mode ≡ Exchange-actions)) b o)
-    (told : (s : Server) → Holds s b → planned ≡ plannedNow s) (e : come ≡ numberAt 4 b 15) where
+    (told : (s : Server) → Holds s b → planned ≡ plannedNow s) (e : come ≡ numberAt 4 b atCome) where
   taken : (s : Server) → Holds s b → Delivered s (actionOf h p) × (s .membership .mode ≡ Exchange-actions)
   taken s r = lent-fact (λ t. Delivered t (actionOf h p) × (t .membership .mode ≡ Exchange-actions)) b o s m r
 

@@ -27,7 +27,7 @@ use Rattle.replication.specs.Machine.Types.{Server}
 use Rattle.replication.specs.Machine.Requests.{numberedFrom, madeOf, heldRecords}
 use Rattle.replication.proofs.WellFormed.Changes.{body}
 use Rattle.replication.proofs.WellFormed.Facts.{well-formed-facts}
-use Rattle.engine.specs.Layout.{heldSize, theHeld, outLength}
+use Rattle.engine.specs.Layout.{heldSize, theHeld, outLength, headerSize, atMe, atGreenLength, atNumbered, atHeldCount}
 use Rattle.engine.specs.Header.{headerOf, headerIn}
 use Rattle.engine.specs.Image.{over, slot, heldSlots, parts}
 use Rattle.engine.specs.Decode.{heldAt, decodedAs, decoded}
@@ -41,20 +41,21 @@ use Rattle.lists.proofs.Counts.{header-room, numbered-few, held-few, holds-plac
 use Rattle.step.specs.Answers.{LentSuch, recordBytes}
 use Rattle.step.specs.Sending.{heldPlace, heldHead, heldAction, heldBytes, HeldRoom}
 use Rattle.step.proofs.LentLaws.{lent-counts, lent-header, holds-products, holds-part, put-room, put-done, one-record}
+use Rattle.format.specs.Places.{mostAction}
 
 -- ---- the request k
 
-pub place-made : (b : List ℕ) (at k : ℕ) → at ≡ place theHeld b → at + (49 * numberAt 2 b 31 + 49) ≤ length b → k < heldCount b
-    → (at + 49 * k ≡ heldPlace b k) × (at + 49 * k + 49 ≤ length b)
+pub place-made : (b : List ℕ) (at k : ℕ) → at ≡ place theHeld b → at + (heldSize * numberAt 2 b atHeldCount + heldSize) ≤ length b → k < heldCount b
+    → (at + heldSize * k ≡ heldPlace b k) × (at + heldSize * k + heldSize ≤ length b)
 unfolding heldPlace heldCount
-place-made b at k e h l = (ap (λ (m : ℕ). m + 49 * k) e, omega arith)
+place-made b at k e h l = (ap (λ (m : ℕ). m + heldSize * k) e, omega arith)
 
-pub head-made : (b : List ℕ) (k x y z : ℕ) → x ≡ numberAt 1 b 3 → y ≡ numberAt 2 b 27 → z ≡ numberAt 4 b 23
+pub head-made : (b : List ℕ) (k x y z : ℕ) → x ≡ numberAt 1 b atMe → y ≡ numberAt 2 b atNumbered → z ≡ numberAt 4 b atGreenLength
     → record { creator = x; index = y + k + 1; «green_length» = z } ≡ heldHead b k
 unfolding heldHead
 head-made b k x y z e f g = λ i. record { creator = e i; index = f i + k + 1; «green_length» = g i }
 
-pub head-ready : (k at : ℕ) (b o : List ℕ) → HeldRoom k at b o → (numberAt 2 b 27 ≤ 256) × (60 ≤ length b) × (k ≤ 16)
+pub head-ready : (k at : ℕ) (b o : List ℕ) → HeldRoom k at b o → (numberAt 2 b atNumbered ≤ 256) × (headerSize ≤ length b) × (k ≤ 16)
 unfolding heldCount
 head-ready k at b o h = (numbered-few b (h .counts), header-room b (h .counts), omega (arith, h .below, held-few b (h .counts)))
 
@@ -62,7 +63,7 @@ module _ (k at i n : ℕ) (b o : List ℕ) (h : HeldRoom k at b o) (e : i ≡ he
   few : n ≤ 48
   few = let s : numberAt 1 b i ≤ 48 = rw e (h .short) in omega arith
 
-  pub payload-ends : i + 49 ≤ length b → i + 1 + n ≤ length b
+  pub payload-ends : i + heldSize ≤ length b → i + 1 + n ≤ length b
   payload-ends l = omega (arith, few)
 
   payload-taken : take (i + 1 + n - (i + 1)) (drop (i + 1) b) ≡ payloadAt b (heldPlace b k)
@@ -128,9 +129,9 @@ records-append x y =
 bytes-more : (b : List ℕ) (k : ℕ) → heldBytes b (suc k) ≡ heldBytes b k ++ write (action (heldAction b k))
 unfolding heldBytes heldAction heldHead heldPlace actionOf idOf
 bytes-more b k =
-    let me : ℕ = numberAt 1 b 3 in
-    let g : ℕ = numberAt 4 b 23 in
-    let j : ℕ = numberAt 2 b 27 in
+    let me : ℕ = numberAt 1 b atMe in
+    let g : ℕ = numberAt 4 b atGreenLength in
+    let j : ℕ = numberAt 2 b atNumbered in
     let ps : List (List ℕ) = heldAt k b (place theHeld b) in
     let p : List ℕ = payloadAt b (place theHeld b + heldSize * k) in
     ap (λ (l : List (List ℕ)). recordBytes (map action (numberedFrom me g j l))) (held-more k b (place theHeld b))
@@ -166,12 +167,12 @@ module _ (s : Server) (b : List ℕ) (r : Holds s b) where
       (slots-short (s .held) b _ k (well-formed-fits s (r .formed) .held)
       (occurs-first (heldSlots (s .held)) _ b _ (holds-part s b r theHeld (omega arith))) (omega (arith, holds-held-count s b r)))
 
-  action-most : (k : ℕ) → k < heldCount b → length (write (action (heldAction b k))) ≤ 60
+  action-most : (k : ℕ) → k < heldCount b → length (write (action (heldAction b k))) ≤ mostAction
   unfolding heldAction lengthOf actionOf payloadAt partAt
   action-most k h =
       omega (arith, write-length (action (heldAction b k)), length-take (numberAt 1 b (heldPlace b k)) (drop (heldPlace b k + 1) b), held-short k h)
 
-  bytes-most : (k : ℕ) → k ≤ heldCount b → length (heldBytes b k) ≤ 60 * k
+  bytes-most : (k : ℕ) → k ≤ heldCount b → length (heldBytes b k) ≤ mostAction * k
   unfolding heldBytes recordBytes numberedFrom heldAt joined
   bytes-most zero h = omega arith
   bytes-most (suc k) h =
@@ -183,7 +184,7 @@ module _ (s : Server) (b : List ℕ) (r : Holds s b) where
         action-most k (omega arith),
       )
 
-  held-quota : 60 * heldCount b ≤ outLength (s .servers) (s .quota)
+  held-quota : mostAction * heldCount b ≤ outLength (s .servers) (s .quota)
   unfolding outLength
   held-quota = omega (arith, holds-held-count s b r, body s (well-formed-facts s (r .formed)) .quota-kept, holds-products s b r .quota)
 
@@ -204,10 +205,10 @@ pub record HeldSent (b o₀ : List ℕ) (count : ℕ) (o : List ℕ) (at k : ℕ
   pub filled : o ≡ over (heldBytes b k) o₀
   pub long : length o ≡ length o₀
 
-pub count-ready : (P : Server → Type 0) (b o : List ℕ) → LentSuch P b o → 31 + 2 ≤ length b
+pub count-ready : (P : Server → Type 0) (b o : List ℕ) → LentSuch P b o → atHeldCount + 2 ≤ length b
 count-ready P b o h = omega (arith, lent-header P b o h)
 
-pub sent-none : (b o : List ℕ) (count : ℕ) → count ≡ numberAt 2 b 31 → HeldSent b o count o 0 0
+pub sent-none : (b o : List ℕ) (count : ℕ) → count ≡ numberAt 2 b atHeldCount → HeldSent b o count o 0 0
 unfolding heldCount heldBytes recordBytes numberedFrom heldAt joined over
 sent-none b o count e = record { counted = e; below = omega arith; placed = refl; filled = refl; long = refl }
 

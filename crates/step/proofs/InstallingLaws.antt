@@ -29,6 +29,7 @@ use Rattle.step.specs.Answers.{answered, outcomeOn, LentSuch, Installs, 
 use Rattle.step.proofs.LentFacts.{lent-fact}
 use Rattle.engine.proofs.Chained.{Covers, chained, then-holds}
 use Rattle.step.proofs.Installed.{sent-formed, stored-over}
+use Rattle.engine.specs.Layout.{headerSize}
 
 -- ---- one CPC more
 
@@ -53,7 +54,7 @@ pub cpc-holds : (k : ℕ) (s : Server) (b c : List ℕ) → Holds s b → k < s 
 unfolding withCpc
 cpc-holds k s b c r h e = then-holds s (withCpc k s) b c r e refl refl (cpc-formed k s (r .formed) h)
 
-pub cpc-room : (k : ℕ) (s : Server) (b : List ℕ) → Holds s b → k < s .servers → (60 ≤ length b) × (k < 8)
+pub cpc-room : (k : ℕ) (s : Server) (b : List ℕ) → Holds s b → k < s .servers → (headerSize ≤ length b) × (k < 8)
 unfolding contextOf
 cpc-room k s b r h = (holds-header s b r, omega (arith, in-range s (r .formed) .context .sizes .most))
 
@@ -112,7 +113,7 @@ module _ (k : ℕ) (b c o : List ℕ) (p : LentSuch (λ s. (k < s .servers) × (
 
 module _ (k : ℕ) (b c : List ℕ) (m : HoldsSuch (λ s. (k < s .servers) × (s .membership .mode ≡ No)) b)
     (f : (s : Server) → Holds s b → c ≡ image (withCpc k s) b) where
-  pub late-header : 60 ≤ length c
+  pub late-header : headerSize ≤ length c
   late-header = holds-header (withCpc k (m .state)) c (cpc-holds k (m .state) b c (m .holds) (m .fact .0) (f (m .state) (m .holds)))
 
   such : (s : Server) → Holds s b → (k < s .servers) × (s .membership .mode ≡ No)

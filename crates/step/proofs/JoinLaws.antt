@@ -27,7 +27,7 @@ use Rattle.record.specs.Values.{componentOf, primaryOf, markOf, stateOf}
 use Rattle.record.specs.Written.{put, putOf, putState}
 use Rattle.replication.specs.Machine.Types.{Server, contextOf}
 use Rattle.replication.specs.Machine.Step.{entering, ownState, join}
-use Rattle.engine.specs.Layout.{theCuts, theYellow, sections, offset, stateLength, outLength}
+use Rattle.engine.specs.Layout.{theCuts, theYellow, sections, offset, stateLength, outLength, headerSize}
 use Rattle.engine.specs.Header.{lastOf, markNumbers, headerOf, headerIn}
 use Rattle.engine.specs.Image.{over, parts, image}
 use Rattle.engine.proofs.Fit.{well-formed-fits}
@@ -57,13 +57,13 @@ module _ (s : Server) (b : List ℕ) (r : Holds s b) where
   range : InRange s
   range = in-range s (r .formed)
 
-  own-cuts : numbersAt 2 (s .servers) (drop 60 b) 0 ≡ s .log .cuts
+  own-cuts : numbersAt 2 (s .servers) (drop headerSize b) 0 ≡ s .log .cuts
   unfolding parts contextOf offset sections sum over
   own-cuts =
-      let there : Occurs (cutsBytes (s .log .cuts)) b (60 + 0) =
-      occurs-first (cutsBytes (s .log .cuts)) _ b 60 (holds-part s b r theCuts (omega arith)) in
-      ap (λ (m : ℕ). numbersAt 2 m (drop 60 b) 0) (sym (range .cutsCount))
-      ∙ cuts-read (s .quota) (s .log .cuts) (drop 60 b) 0 (range .context .sizes .highest) (range .cuts) (occurs-drop 60 0 there)
+      let there : Occurs (cutsBytes (s .log .cuts)) b (headerSize + 0) =
+      occurs-first (cutsBytes (s .log .cuts)) _ b headerSize (holds-part s b r theCuts (omega arith)) in
+      ap (λ (m : ℕ). numbersAt 2 m (drop headerSize b) 0) (sym (range .cutsCount))
+      ∙ cuts-read (s .quota) (s .log .cuts) (drop headerSize b) 0 (range .context .sizes .highest) (range .cuts) (occurs-drop headerSize 0 there)
 
   own-ids : idsAt (length (s .votes .yellow .ids)) (drop (offset (s .servers) (s .quota) theYellow) b) 0 ≡ s .votes .yellow .ids
   unfolding parts over
@@ -74,7 +74,7 @@ module _ (s : Server) (b : List ℕ) (r : Holds s b) where
       occurs-at (occurs-first (idsBytes ids) _ b at (holds-part s b r theYellow (omega arith))) (omega arith) in
       ids-read (contextOf s) ids (drop at b) 0 (range .context) (range .yellow .ids) (occurs-drop at 0 there)
 
-  own-made : (id set : ℕ) → stateOf (ownHead (headerOf s) id) (drop 60 b) 0 (drop (offset (s .servers) (s .quota) theYellow) b) 0
+  own-made : (id set : ℕ) → stateOf (ownHead (headerOf s) id) (drop headerSize b) 0 (drop (offset (s .servers) (s .quota) theYellow) b) 0
       ≡ ownState (configurationOf id set) s
   unfolding stateOf ownHead headerOf lastOf markNumbers primaryOf componentOf markOf ownState configurationOf
   own-made id set =
@@ -115,13 +115,13 @@ module _ (s : Server) (b : List ℕ) (r : Holds s b) where
         well-formed-fits s (r .formed) .ids,
       )
 
-  own-end : (60 + 2 * s .servers ≤ length b) × (offset (s .servers) (s .quota) theYellow + 3 * length (s .votes .yellow .ids) ≤ length b)
+  own-end : (headerSize + 2 * s .servers ≤ length b) × (offset (s .servers) (s .quota) theYellow + 3 * length (s .votes .yellow .ids) ≤ length b)
   unfolding offset stateLength sections sum
   own-end = (omega (arith, r .long), omega (arith, r .long, well-formed-fits s (r .formed) .ids))
 
   -- What the writer leaves.
   own-put : (o : List ℕ) (id set at : ℕ) (g : StateHead) → g ≡ ownHead (headerIn b) id → at ≡ place theYellow b
-      → putState g (take (length b - 60) (drop 60 b)) (take (length b - at) (drop at b)) 0 o
+      → putState g (take (length b - headerSize) (drop headerSize b)) (take (length b - at) (drop at b)) 0 o
       ≡ put (write (state (ownState (configurationOf id set) s))) 0 o
   unfolding putState ownHead headerOf
   own-put o id set at g e f =
@@ -130,11 +130,11 @@ module _ (s : Server) (b : List ℕ) (r : Holds s b) where
       let y : ℕ = offset (s .servers) (s .quota) theYellow in
       let head : g ≡ ownHead (headerOf s) id = e ∙ ap (λ (h : declared.State). ownHead h id) (header-loaded s b r) in
       let there : at ≡ y = f ∙ holds-place s b r theYellow in
-      let fits : (2 * n ≤? length (drop 60 b) and 3 * m ≤? length (drop y b)) ≡ true =
-      both-yes _ _ (le-yes (2 * n) (length (drop 60 b)) (omega (arith, length-drop 60 b, own-end .0)))
+      let fits : (2 * n ≤? length (drop headerSize b) and 3 * m ≤? length (drop y b)) ≡ true =
+      both-yes _ _ (le-yes (2 * n) (length (drop headerSize b)) (omega (arith, length-drop headerSize b, own-end .0)))
       (le-yes (3 * m) (length (drop y b)) (omega (arith, length-drop y b, own-end .1))) in
-      (λ i. putState (head i) (rest b 60 i) (rest b (there i) i) 0 o)
-      ∙ sym (pick-yes (2 * n ≤? length (drop 60 b) and 3 * m ≤? length (drop y b)) (put (write (state (ownState (configurationOf id set) s))) 0 o)
+      (λ i. putState (head i) (rest b headerSize i) (rest b (there i) i) 0 o)
+      ∙ sym (pick-yes (2 * n ≤? length (drop headerSize b) and 3 * m ≤? length (drop y b)) (put (write (state (ownState (configurationOf id set) s))) 0 o)
       _ _ fits
       (ap (λ (x : State). put (write (state x)) 0 o) (sym (own-made id set))))
 
@@ -142,7 +142,7 @@ module _ (s : Server) (b : List ℕ) (r : Holds s b) where
 
 module _ (b o o₁ : List ℕ) (id at : ℕ) (g : StateHead) (w : Written) (h : LentSuch (λ s. 0 ≤ 0) b o)
     (i : g ≡ ownHead (headerIn b) id) (j : at ≡ place theYellow b)
-    (e : putOf w o₁ ≡ putState g (take (length b - 60) (drop 60 b)) (take (length b - at) (drop at b)) 0 o) where
+    (e : putOf w o₁ ≡ putState g (take (length b - headerSize) (drop headerSize b)) (take (length b - at) (drop at b)) 0 o) where
   pub state-full : w ≡ Full → (m : ℕ) (s : Server) (set : ℕ) → Holds s b
       → (m ≡ length (recordBytes (ownRecord id set s))) × (o₁ ≡ over (recordBytes (ownRecord id set s)) o)
   state-full f m s set r =

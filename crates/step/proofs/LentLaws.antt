@@ -19,7 +19,7 @@ use Rattle.replication.specs.Machine.Types.{Server}
 use Rattle.replication.proofs.WellFormed.Changes.{body}
 use Rattle.replication.proofs.WellFormed.Facts.{well-formed-facts}
 use Rattle.replication.proofs.WellFormed.Records.{Products, products}
-use Rattle.engine.specs.Layout.{offset}
+use Rattle.engine.specs.Layout.{offset, headerSize}
 use Rattle.engine.specs.Image.{parts}
 use Rattle.engine.proofs.Decoded.{image-part}
 use Rattle.engine.proofs.Fit.{well-formed-fits}
@@ -32,7 +32,7 @@ module _ (P : Server → Type 0) (b o : List ℕ) (h : LentSuch P b o) where
   pub lent-counts : CountsIn b
   lent-counts = holds-counts (h .state) b (h .holds)
 
-  pub lent-header : 60 ≤ length b
+  pub lent-header : headerSize ≤ length b
   lent-header = header-room b lent-counts
 
 pub holds-products : (s : Server) (b : List ℕ) → Holds s b → Products (s .servers) (s .quota)

@@ -36,7 +36,7 @@ action-low k h No a e = absurd (omega arith)
 action-low k h Un a e = absurd (omega arith)
 
 pub action-late : (k : ℕ) → k ≡ 7 → (m : Mode) (a : Action) → k ≡ modeNumber m → true ≡ isThere (onAction m a)
-unfolding onAction isThere modeNamed pick _=?_
+unfolding onAction isThere modeNamed pick _=?_ modeNumber
 action-late k h m a e = at-mode (λ n. true ≡ isThere (onAction n a)) m 7 (sym h ∙ e) refl
 
 pub action-not : (k : ℕ) → 4 ≤ k → (k ≡ 7 → ⊥) → (m : Mode) (a : Action) → k ≡ modeNumber m → false ≡ isThere (onAction m a)
@@ -53,11 +53,11 @@ action-not k h n Un a e = absurd (n e)
 -- ---- retransmissions
 
 pub retransmission-alone : (k : ℕ) → k ≡ 0 → (m : Mode) (p : ℕ) (a : Action) → k ≡ modeNumber m → true ≡ isThere (onRetransmission m p a)
-unfolding onRetransmission isThere modeNamed pick _=?_
+unfolding onRetransmission isThere modeNamed pick _=?_ modeNumber
 retransmission-alone k h m p a e = at-mode (λ n. true ≡ isThere (onRetransmission n p a)) m 0 (sym h ∙ e) refl
 
 pub retransmission-planned : (k : ℕ) → k ≡ 4 → (m : Mode) (p : ℕ) (a : Action) → k ≡ modeNumber m → true ≡ isThere (onRetransmission m p a)
-unfolding onRetransmission isThere modeNamed pick _=?_
+unfolding onRetransmission isThere modeNamed pick _=?_ modeNumber
 retransmission-planned k h m p a e = at-mode (λ n. true ≡ isThere (onRetransmission n p a)) m 4 (sym h ∙ e) refl
 
 pub retransmission-not : (k : ℕ) → (k ≡ 0 → ⊥) → (k ≡ 4 → ⊥) → (m : Mode) (p : ℕ) (a : Action) → k ≡ modeNumber m
@@ -75,15 +75,15 @@ retransmission-not k z n Un p a e = refl
 -- ---- CPCs
 
 pub cpc-ignored : (k : ℕ) → k ≡ 0 → (m : Mode) (i : ℕ) → k ≡ modeNumber m → true ≡ isThere (onCpc m i)
-unfolding onCpc isThere modeNamed pick _=?_
+unfolding onCpc isThere modeNamed pick _=?_ modeNumber
 cpc-ignored k h m i e = at-mode (λ n. true ≡ isThere (onCpc n i)) m 0 (sym h ∙ e) refl
 
 pub cpc-collected : (k : ℕ) → k ≡ 5 → (m : Mode) (i : ℕ) → k ≡ modeNumber m → true ≡ isThere (onCpc m i)
-unfolding onCpc isThere modeNamed pick _=?_
+unfolding onCpc isThere modeNamed pick _=?_ modeNumber
 cpc-collected k h m i e = at-mode (λ n. true ≡ isThere (onCpc n i)) m 5 (sym h ∙ e) refl
 
 pub cpc-late : (k : ℕ) → k ≡ 6 → (m : Mode) (i : ℕ) → k ≡ modeNumber m → true ≡ isThere (onCpc m i)
-unfolding onCpc isThere modeNamed pick _=?_
+unfolding onCpc isThere modeNamed pick _=?_ modeNumber
 cpc-late k h m i e = at-mode (λ n. true ≡ isThere (onCpc n i)) m 6 (sym h ∙ e) refl
 
 pub cpc-not : (k : ℕ) → (k ≡ 0 → ⊥) → (k ≡ 5 → ⊥) → (k ≡ 6 → ⊥) → (m : Mode) (i : ℕ) → k ≡ modeNumber m → false ≡ isThere (onCpc m i)

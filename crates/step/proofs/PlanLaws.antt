@@ -29,7 +29,7 @@ use Rattle.replication.specs.Machine.WellFormed.{queue}
 use Rattle.replication.proofs.WellFormed.Changes.{Body, body, collected-fit}
 use Rattle.replication.proofs.WellFormed.Decisions.{green-bound, cut-bound}
 use Rattle.replication.proofs.WellFormed.Facts.{well-formed-facts}
-use Rattle.engine.specs.Layout.{slotSize, theQueue, offset, outLength}
+use Rattle.engine.specs.Layout.{slotSize, theQueue, offset, outLength, atServers, atMe, atGreenLength}
 use Rattle.engine.specs.Image.{over, slot, actionSlots, image, parts}
 use Rattle.engine.specs.Decode.{actionsAt, decodedAs, serversIn, quotaIn, decoded}
 use Rattle.engine.proofs.Decoded.{image-part}
@@ -47,6 +47,7 @@ use Rattle.install.specs.Table.{InTable}
 use Rattle.step.specs.Resending.{queueIn, greensIn, mostActions, slotPlace, QueueIn, atPosition, asRed, Sends, Stated, greenPart}
 use Rattle.step.specs.Resending.{redPart, redParts, wholePart}
 use Rattle.step.proofs.ResendingLaws.{sends-none, sends-next}
+use Rattle.format.specs.Places.{mostRetransmission}
 
 -- ---- a buffer that holds a state
 
@@ -134,21 +135,21 @@ module _ (b : List ℕ) (x : Part) (s : Stated b) (e : (t : Server) → Holds t 
   unfolding partOf
   greens-most = omega (arith, ap (λ (y : Part). y .high) greens, green-high b s)
 
-  green-is : (me : ℕ) → me ≡ numberAt 1 b 3 → pick (x .mine) (gather (atPosition me (greensIn b)) (above (x .low) (x .high))) [] ≡ greenPart b
+  green-is : (me : ℕ) → me ≡ numberAt 1 b atMe → pick (x .mine) (gather (atPosition me (greensIn b)) (above (x .low) (x .high))) [] ≡ greenPart b
   unfolding greenPart resendGreen missing partOf atPosition greensIn queueIn decoded decodedAs serversIn quotaIn
   green-is me m =
       ap₂ {A = ℕ} {B = Part} {C = List Record} (λ k y. pick (y .mine) (gather (atPosition k (greensIn b)) (above (y .low) (y .high))) []) m greens
 
-  pub green-none : (me : ℕ) (o : List ℕ) → me ≡ numberAt 1 b 3 → not (x .mine) ≡ true → Sends (mostActions b) (greenPart b) 0 o o 0
+  pub green-none : (me : ℕ) (o : List ℕ) → me ≡ numberAt 1 b atMe → not (x .mine) ≡ true → Sends (mostActions b) (greenPart b) 0 o o 0
   green-none me o m t =
       same-sent (mostActions b) 0 0 [] (greenPart b) o o
       (pick-no (x .mine) [] (gather (atPosition me (greensIn b)) (above (x .low) (x .high))) [] (not-true (x .mine) t) refl ∙ green-is me m)
       (sends-none _ 0 o)
 
-  pub green-room : (o : List ℕ) → 65 * mostActions b ≤ length o → 0 + 65 * (x .high - x .low) ≤ length o
+  pub green-room : (o : List ℕ) → mostRetransmission * mostActions b ≤ length o → 0 + mostRetransmission * (x .high - x .low) ≤ length o
   green-room o h = omega (arith, greens-most)
 
-  pub green-sent : (me r : ℕ) (o o₁ : List ℕ) → me ≡ numberAt 1 b 3 → not (x .mine) ≡ false
+  pub green-sent : (me r : ℕ) (o o₁ : List ℕ) → me ≡ numberAt 1 b atMe → not (x .mine) ≡ false
       → Sends (x .high - x .low) (gather (atPosition me (greensIn b)) (above (x .low) (x .high))) 0 o o₁ r
       → Sends (mostActions b) (greenPart b) 0 o o₁ r
   green-sent me r o o₁ m t a =
@@ -168,26 +169,26 @@ module _ (b : List ℕ) (c : ℕ) (x : Part) (s : Stated b)
 
   held : decoded b .log .green ++ decoded b .log .red ≡ queueIn b
   unfolding queueIn decoded decodedAs serversIn quotaIn
-  held = take-append-drop (numberAt 4 b 23) (actionsAt (queueCount b) b (queueAt b))
+  held = take-append-drop (numberAt 4 b atGreenLength) (actionsAt (queueCount b) b (queueAt b))
 
-  red-is : (me : ℕ) → me ≡ numberAt 1 b 3 → pick (x .mine) (gather (asRed me (queueIn b) c) (above (x .low) (x .high))) [] ≡ redPart b c
+  red-is : (me : ℕ) → me ≡ numberAt 1 b atMe → pick (x .mine) (gather (asRed me (queueIn b) c) (above (x .low) (x .high))) [] ≡ redPart b c
   unfolding redPart resendRed missing partOf asRed idOf decoded decodedAs serversIn quotaIn
   red-is me m =
       (λ i. pick (reds i .mine) (gather (asRed (m i) (sym held i) c) (above (reds i .low) (reds i .high))) [])
 
-  pub red-none : (me i : ℕ) (o : List ℕ) → me ≡ numberAt 1 b 3 → not (x .mine) ≡ true → Sends (quotaOf b) (redPart b c) i o o i
+  pub red-none : (me i : ℕ) (o : List ℕ) → me ≡ numberAt 1 b atMe → not (x .mine) ≡ true → Sends (quotaOf b) (redPart b c) i o o i
   red-none me i o m t =
       same-sent (quotaOf b) i i [] (redPart b c) o o
       (pick-no (x .mine) [] (gather (asRed me (queueIn b) c) (above (x .low) (x .high))) [] (not-true (x .mine) t) refl ∙ red-is me m)
       (sends-none _ i o)
 
-  pub red-room : (i : ℕ) (o : List ℕ) → i + 65 * quotaOf b ≤ length o → i + 65 * (x .high - x .low) ≤ length o
+  pub red-room : (i : ℕ) (o : List ℕ) → i + mostRetransmission * quotaOf b ≤ length o → i + mostRetransmission * (x .high - x .low) ≤ length o
   red-room i o l = omega (arith, reds-most)
 
   pub red-high : x .high ≤ 256
   red-high = omega (arith, reds-most, s .queue .counts .sizes .quota)
 
-  pub red-sent : (me i r : ℕ) (o o₁ : List ℕ) → me ≡ numberAt 1 b 3 → not (x .mine) ≡ false
+  pub red-sent : (me i r : ℕ) (o o₁ : List ℕ) → me ≡ numberAt 1 b atMe → not (x .mine) ≡ false
       → Sends (x .high - x .low) (gather (asRed me (queueIn b) c) (above (x .low) (x .high))) i o o₁ r
       → Sends (quotaOf b) (redPart b c) i o o₁ r
   red-sent me i r o o₁ m t a =
@@ -204,8 +205,8 @@ reds-start b q i o = sends-none (0 * q) i o
 rows : (c n q : ℕ) → c < n → (c + 1) * q ≤ n * q
 rows c n q h = mul-le-mul-right q (omega arith)
 
-pub reds-room : (b : List ℕ) (c n q i j : ℕ) (o o₁ : List ℕ) → n ≡ numberAt 1 b 0 → c < n → i + 65 * mostActions b ≤ length o
-    → Sends (c * quotaOf b) (redParts b c) i o o₁ j → j + 65 * quotaOf b ≤ length o₁
+pub reds-room : (b : List ℕ) (c n q i j : ℕ) (o o₁ : List ℕ) → n ≡ numberAt 1 b atServers → c < n → i + mostRetransmission * mostActions b ≤ length o
+    → Sends (c * quotaOf b) (redParts b c) i o o₁ j → j + mostRetransmission * quotaOf b ≤ length o₁
 reds-room b c n q i j o o₁ e h l a =
     let m : (c + 1) * quotaOf b ≤ mostActions b = rows c (serversOf b) (quotaOf b) (omega arith) in
     let k : (c + 1) * quotaOf b ≡ c * quotaOf b + quotaOf b = omega arith in
@@ -215,7 +216,7 @@ below-more : (m : ℕ) → below m ++ (m ∷ []) ≡ below (m + 1)
 unfolding below
 below-more m = let e : m + 1 ≡ suc m = omega arith in ap below (sym e)
 
-pub reds-again : (b : List ℕ) (c i j r : ℕ) (o o₁ o₂ : List ℕ) → i + 65 * mostActions b ≤ length o
+pub reds-again : (b : List ℕ) (c i j r : ℕ) (o o₁ o₂ : List ℕ) → i + mostRetransmission * mostActions b ≤ length o
     → Sends (c * quotaOf b) (redParts b c) i o o₁ j → Sends (quotaOf b) (redPart b c) j o₁ o₂ r → Sends ((c + 1) * quotaOf b) (redParts b (c + 1)) i o o₂ r
 unfolding redParts gatherAll
 reds-again b c i j r o o₁ o₂ l a d =
@@ -228,7 +229,7 @@ reds-again b c i j r o o₁ o₂ l a d =
     (same-sent (c * quotaOf b + quotaOf b) i r (redParts b c ++ redPart b c) (redParts b (c + 1)) o o₂ f
     (sends-next (c * quotaOf b) (quotaOf b) i j r (redParts b c) (redPart b c) o o₁ o₂ (omega arith) a d))
 
-pub reds-end : (b : List ℕ) (c n i r : ℕ) (o o₁ : List ℕ) → n ≡ numberAt 1 b 0 → c ≤ n → n ≤ c → Sends (c * quotaOf b) (redParts b c) i o o₁ r
+pub reds-end : (b : List ℕ) (c n i r : ℕ) (o o₁ : List ℕ) → n ≡ numberAt 1 b atServers → c ≤ n → n ≤ c → Sends (c * quotaOf b) (redParts b c) i o o₁ r
     → Sends (mostActions b) (redParts b (serversOf b)) i o o₁ r
 reds-end b c n i r o o₁ e h l a = subst (λ (m : ℕ). Sends (m * quotaOf b) (redParts b m) i o o₁ r) (omega arith) a
 
@@ -246,11 +247,11 @@ plan-sent b i r o o₁ o₂ a d =
 pub lent-stated : (P : Server → Type 0) (b o : List ℕ) → LentSuch P b o → Stated b
 lent-stated P b o l = holds-stated (l .state) b (l .holds)
 
-pub lent-room : (P : Server → Type 0) (b o : List ℕ) → LentSuch P b o → 130 * mostActions b ≤ length o
+pub lent-room : (P : Server → Type 0) (b o : List ℕ) → LentSuch P b o → 2 * mostRetransmission * mostActions b ≤ length o
 unfolding outLength
 lent-room P b o l =
     let m = numbers (l .state) b (l .holds) in
-    subst (λ (k : ℕ). 130 * k ≤ length o) (λ i. sym (m .servers) i * sym (m .quota) i) (l .room)
+    subst (λ (k : ℕ). 2 * mostRetransmission * k ≤ length o) (λ i. sym (m .servers) i * sym (m .quota) i) (l .room)
 
 pub part-fits : (P : Server → Type 0) (b : List ℕ) (xs : List Record) (r : ℕ) (o o₁ : List ℕ) → LentSuch P b o
     → Sends (2 * mostActions b) xs 0 o o₁ r → r < 4294967296

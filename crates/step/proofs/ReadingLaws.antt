@@ -33,6 +33,7 @@ use Rattle.engine.proofs.Refusals.{zero-read, zero-ready, step-read, step-refus
 use Rattle.step.specs.declared.Answer.{Answer}
 use Rattle.step.specs.Answers.{answered, outcomeOn, LentSuch, refusedWith}
 use Rattle.step.specs.Events.{ReadInForce, numberOf}
+use Rattle.engine.specs.Layout.{headerSize}
 
 -- ---- the context
 
@@ -58,7 +59,7 @@ refused-number r k e = ap numberOf (sym e)
 
 -- ---- the step
 
-pub ready-header : (b o : List ℕ) → stateNumber b o ≡ 0 → 60 ≤ length b
+pub ready-header : (b o : List ℕ) → stateNumber b o ≡ 0 → headerSize ≤ length b
 ready-header b o z = holds-header (decoded b) b (zero-ready b o z .image)
 
 module _ (b e o : List ℕ) (z : stateNumber b o ≡ 0) (h : Numbers) (l : h ≡ headerIn b) (c : Context) (q : c ≡ readingContext h) (r : Reading)

@@ -24,7 +24,7 @@ use Rattle.replication.specs.Machine.Types.{Server}
 use Rattle.replication.specs.Machine.Requests.{sendsNow, quotaLeft, roomToHold, madeOf, numbered, hold}
 use Rattle.replication.specs.Machine.Step.{stored, quiet, requested}
 use Rattle.replication.specs.Machine.WellFormedRanges.{PayloadFits}
-use Rattle.engine.specs.Layout.{outLength}
+use Rattle.engine.specs.Layout.{outLength, headerSize, atNumbered}
 use Rattle.engine.specs.Header.{headerOf}
 use Rattle.engine.specs.Image.{over, image}
 use Rattle.engine.proofs.InPlace.{Holds}
@@ -48,7 +48,7 @@ Asked p h s = PayloadFits p × (quotaLeft s ≡ true) × (roomToHold s ≡ true)
 
 -- ---- what is asked for before each call
 
-pub next-ready : (P : Server → Type 0) (b o : List ℕ) → LentSuch P b o → (numberAt 2 b 27 ≤ 256) × (60 ≤ length b)
+pub next-ready : (P : Server → Type 0) (b o : List ℕ) → LentSuch P b o → (numberAt 2 b atNumbered ≤ 256) × (headerSize ≤ length b)
 next-ready P b o h = (numbered-few b (lent-counts P b o h), lent-header P b o h)
 
 pub sent-payload : (p b o : List ℕ) → LentSuch (λ s. Sent p s) b o → PayloadRoom p b

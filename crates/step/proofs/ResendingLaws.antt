@@ -25,13 +25,14 @@ use Rattle.record.specs.Values.{idOf, actionOf, slot}
 use Rattle.record.specs.Written.{next, full, put, putOf}
 use Rattle.replication.specs.Machine.Colours.{find}
 use Rattle.replication.specs.Machine.Plan.{resent}
-use Rattle.engine.specs.Layout.{slotSize}
+use Rattle.engine.specs.Layout.{slotSize, atGreenLength}
 use Rattle.engine.proofs.Slots.{actions-count}
 use Rattle.queue.specs.Queue.{queueCount, greenCount, queueAt}
 use Rattle.queue.proofs.ReadLaws.{actions-at, slot-read}
 use Rattle.step.specs.Answers.{recordBytes}
 use Rattle.install.specs.Table.{InTable}
 use Rattle.step.specs.Resending.{queueIn, greensIn, slotPlace, QueueIn, named, Filled, fromPlace, atPosition, asRed, oneOf, Sends}
+use Rattle.format.specs.Places.{mostRetransmission}
 
 -- ---- none, one, and more
 
@@ -70,14 +71,14 @@ put-fits : (x o : List ℕ) (p : ℕ) → p + length x ≤ length o → put x p 
 unfolding put
 put-fits x o p h = sym (pick-le (p + length x) (length o) _ _ _ h refl)
 
-module _ (a : ActionAt) (b : List ℕ) (me position p : ℕ) (o o₁ : List ℕ) (w : Written) (h : a .«payload_length» ≤ 48) (l : p + 65 ≤ length o)
+module _ (a : ActionAt) (b : List ℕ) (me position p : ℕ) (o o₁ : List ℕ) (w : Written) (h : a .«payload_length» ≤ 48) (l : p + mostRetransmission ≤ length o)
     (e : putOf w o₁
     ≡ put (write (retransmission me position
     (actionOf (a .head) (take (a .«payload_at» + a .«payload_length» - a .«payload_at») (drop (a .«payload_at») b))))) p o) where
   abbrev x : List ℕ
   x = write (retransmission me position (actionFrom a b))
 
-  short : length x ≤ 65
+  short : length x ≤ mostRetransmission
   unfolding lengthOf actionFrom actionOf partAt
   short =
       let m : length (take (a .«payload_length») (drop (a .«payload_at») b)) ≤ a .«payload_length» = simp length-take (omega arith) in
@@ -144,13 +145,13 @@ module _ (b : List ℕ) (k p : ℕ) (a : ActionAt) (q : QueueIn b) (h : k < queu
 
 -- ---- a position
 
-pub position-past : (b : List ℕ) (me g p i : ℕ) (o : List ℕ) → g ≡ numberAt 4 b 23 → g < p → Sends 1 (oneOf (atPosition me (greensIn b) p)) i o o i
+pub position-past : (b : List ℕ) (me g p i : ℕ) (o : List ℕ) → g ≡ numberAt 4 b atGreenLength → g < p → Sends 1 (oneOf (atPosition me (greensIn b) p)) i o o i
 unfolding atPosition greensIn oneOf resent atFront
 position-past b me g p i o e h =
     let past : at (take (greenCount b) (queueIn b)) (p - 1) ≡ none = at-past-take (greenCount b) (queueIn b) (p - 1) (omega arith) in
     subst (λ (x : Option Action). Sends 1 (oneOf (resent me p x)) i o o i) (sym past) (sends-none 1 i o)
 
-pub position-sent : (b : List ℕ) (me g p i r : ℕ) (o o₁ : List ℕ) → g ≡ numberAt 4 b 23 → p ≤ g → 1 ≤ p
+pub position-sent : (b : List ℕ) (me g p i r : ℕ) (o o₁ : List ℕ) → g ≡ numberAt 4 b atGreenLength → p ≤ g → 1 ≤ p
     → Sends 1 (oneOf (fromPlace me p (queueIn b) (p - 1))) i o o₁ r → Sends 1 (oneOf (atPosition me (greensIn b) p)) i o o₁ r
 unfolding atPosition greensIn fromPlace
 position-sent b me g p i r o o₁ e h l s =
@@ -201,7 +202,7 @@ module _ (f : ℕ → Option Record) where
   unfolding gather above after
   all-start low i o = let e : low - low ≡ 0 = omega arith in rw e (sends-none 0 i o)
 
-  pub all-again : (low high p i q r : ℕ) (o o₁ o₂ : List ℕ) → low ≤ p → i + 65 * (high - low) ≤ length o
+  pub all-again : (low high p i q r : ℕ) (o o₁ o₂ : List ℕ) → low ≤ p → i + mostRetransmission * (high - low) ≤ length o
       → Sends (p - low) (gather f (above low p)) i o o₁ q
       → Sends 1 (oneOf (f (p + 1))) q o₁ o₂ r → Sends (p + 1 - low) (gather f (above low (p + 1))) i o o₂ r
   all-again low high p i q r o o₁ o₂ h l a b =

@@ -113,7 +113,7 @@ module _ (h : Numbers) (x : ActionHead) (p b o : List ℕ) (j i : ℕ) (f : Lent
         -- ---- in an exchange
 
         planned : h .mode ≡ 4 → (s : Server) → Holds s b → Passes s r (exchanging i a)
-        unfolding modeNamed pick _=?_ onRetransmission isIgnored
+        unfolding modeNamed pick _=?_ onRetransmission isIgnored modeNumber
         planned m s y =
             passes s y (exchanging i a) (numbers-at (λ l. onRetransmission l i a ≡ some (exchanging i a)) h s 4 (force s y .numbers) m refl) refl
 

@@ -25,6 +25,7 @@ use Rattle.queue.proofs.Holding as holding
 use Rattle.queue.proofs.RedLaws.{room-if-next}
 use Rattle.engine.proofs.Chained.{chained, then-holds, numbers-then}
 use Rattle.step.proofs.ExchangeStates.{placed-formed, non-prim-formed, more-formed, closed-formed, last-formed}
+use Rattle.engine.specs.Layout.{atGreenLength}
 
 -- ---- one action, by its position
 
@@ -44,10 +45,10 @@ module _ (h : ActionHead) (p b : List ℕ) (m : HoldsSuch (λ s. Delivered s (ac
   delivered : (s : Server) → Holds s b → Delivered s (actionOf h p)
   delivered s r = such-fact (λ x. Delivered x (actionOf h p)) b s m r
 
-  pub green-few : numberAt 4 b 23 ≤ 2048
+  pub green-few : numberAt 4 b atGreenLength ≤ 2048
   green-few = let c = holding.holds-counts (m .state) b (m .holds) in omega (arith, c .green, c .queue, c .most)
 
-  module _ (k x : ℕ) (e : x ≡ numberAt 4 b 23) where
+  module _ (k x : ℕ) (e : x ≡ numberAt 4 b atGreenLength) where
     count : (s : Server) → Holds s b → x ≡ length (s .log .green)
     count s r = e ∙ numbers s b r .green
 

@@ -131,11 +131,11 @@ cpc-told h k r f s e = f ∙ (λ j. inSet k (e j .cpcs))
 
 -- By the mode's number.
 sends-one : (m : Mode) (r : Bool) → modeNumber m ≡ 1 → true ≡ sendsIn m r
-unfolding sendsIn modeNamed pick _=?_
+unfolding sendsIn modeNamed pick _=?_ modeNumber
 sends-one m r e = ap (λ (x : Mode). sendsIn x r) (ap modeNamed (sym e) ∙ mode-named m)
 
 sends-zero : (m : Mode) (r : Bool) → modeNumber m ≡ 0 → r ≡ sendsIn m r
-unfolding sendsIn modeNamed pick _=?_
+unfolding sendsIn modeNamed pick _=?_ modeNumber
 sends-zero m r e = ap (λ (x : Mode). sendsIn x r) (ap modeNamed (sym e) ∙ mode-named m)
 
 sends-other : (m : Mode) (r : Bool) → (modeNumber m ≡ 1 → ⊥) → (modeNumber m ≡ 0 → ⊥) → false ≡ sendsIn m r

@@ -48,7 +48,7 @@ module _ (h : Numbers) (k id : ℕ) (e b o : List ℕ) (f : LentSuch (StateInFor
   pub state-ignored : h .mode ≡ 0 → (r : Answer) → r ≡ quietly
       → (s : Server) (x : State) → Holds s b → fieldsOk (contextOf s) (state x) ≡ true → write (state x) ≡ e → x .sender ≡ k → x .configuration ≡ id
       → answered r b o ≡ outcomeOn (answer s (state x)) b o
-  unfolding modeNamed pick _=?_ onState ruleFor possible isIgnored withinQuota withinHeld _or_ apply
+  unfolding modeNamed pick _=?_ onState ruleFor possible isIgnored withinQuota withinHeld _or_ apply modeNumber
   state-ignored m r q s x y g w a c =
       let z : onState (s .membership .mode) x ≡ some ignoring = numbers-at (λ l. onState l x ≡ some ignoring) h s 0 (numbers s y) m refl in
       quiet-as s s (answer s (state x)) r b b o q
@@ -65,7 +65,7 @@ module _ (h : Numbers) (k id : ℕ) (e b o : List ℕ) (f : LentSuch (StateInFor
   module _ (m : h .mode ≡ 3) (t : Bool)
       (g : (s : Server) (x : State) → h ≡ headerOf s → x .sender ≡ k → x .configuration ≡ id → t ≡ fromMember (s .membership) (state x)) where
     rule : (s : Server) (x : State) → Holds s b → onState (s .membership .mode) x ≡ some (collectingState x)
-    unfolding modeNamed pick _=?_ onState
+    unfolding modeNamed pick _=?_ onState modeNumber
     rule s x y = numbers-at (λ l. onState l x ≡ some (collectingState x)) h s 3 (numbers s y) m refl
 
     pub state-outside : not t ≡ true → (r : Answer) → r ≡ refusedWith 6

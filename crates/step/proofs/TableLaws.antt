@@ -19,7 +19,7 @@ use Rattle.record.specs.Values.{slot}
 use Rattle.record.proofs.OnePass.{getD-zeros}
 use Rattle.replication.specs.Machine.Colours.{find}
 use Rattle.replication.proofs.WellFormed.Ids.{same-id-yes, same-id-holds}
-use Rattle.engine.specs.Layout.{slotSize}
+use Rattle.engine.specs.Layout.{slotSize, atQueueLength}
 use Rattle.engine.specs.Decode.{actionsAt}
 use Rattle.engine.proofs.Slots.{actions-count}
 use Rattle.queue.specs.Queue.{queueCount, queueAt}
@@ -44,7 +44,7 @@ none-left d [] (suc k) h = refl
 none-left d (a ∷ l) zero h = absurd (omega arith)
 none-left d (a ∷ l) (suc k) h = none-left d l k (omega arith)
 
-pub filled-start : (b : List ℕ) (k : ℕ) → k ≡ numberAt 4 b 19 → (k ≤ queueCount b) × Filled k (replicate {A = ℕ} 2048 0) (queueIn b)
+pub filled-start : (b : List ℕ) (k : ℕ) → k ≡ numberAt 4 b atQueueLength → (k ≤ queueCount b) × Filled k (replicate {A = ℕ} 2048 0) (queueIn b)
 unfolding named queueIn
 filled-start b k e = (
   omega arith,

@@ -27,16 +27,20 @@ pub record Takes (mode : ℕ) (a : Action) (s : Server) : Type 0 where
   pub taken : onAction (s .membership .mode) a ≡ some rule
   pub fits : RuleFits rule s
 
--- The number of the state that a transitional configuration leads to; 8 where it cannot come.
+-- No state's number.
+abbrev pub noMode : ℕ
+noMode = 8
+
+-- The number of the state that a transitional configuration leads to, if it can come.
 unfoldable pub modeAfter : Mode → ℕ
 modeAfter Non-prim = modeNumber Non-prim
 modeAfter Reg-prim = modeNumber Trans-prim
-modeAfter Trans-prim = 8
+modeAfter Trans-prim = noMode
 modeAfter Exchange-states = modeNumber Non-prim
 modeAfter Exchange-actions = modeNumber Non-prim
 modeAfter Construct = modeNumber No
-modeAfter No = 8
-modeAfter Un = 8
+modeAfter No = noMode
+modeAfter Un = noMode
 
 -- ---- records in the bytes e of an event
 

@@ -20,6 +20,7 @@ use Rattle.engine.proofs.InPlace.{Holds}
 use Rattle.queue.specs.Queue.{CountsIn, serversOf, quotaOf, queueCount, greenCount, queueAt}
 use Rattle.install.specs.Table.{InTable}
 use Rattle.step.specs.Answers.{recordBytes}
+use Rattle.format.specs.Places.{mostRetransmission}
 
 -- ---- the queue of the buffer b
 
@@ -77,7 +78,7 @@ asRed me l c i = resent me 0 (find (idOf c i) l)
 -- The records rs from `at` on, of at most 65 bytes for each of m that were asked for; the place behind them is r.
 pub record Sends (m : ℕ) (rs : List Record) (at : ℕ) (old new : List ℕ) (r : ℕ) : Type 0 where
   pub place : r ≡ at + length (recordBytes rs)
-  pub most : r ≤ at + 65 * m
+  pub most : r ≤ at + mostRetransmission * m
   pub size : length new ≡ length old
   pub bytes : new ≡ patched at (recordBytes rs) old
 

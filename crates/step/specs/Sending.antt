@@ -14,7 +14,7 @@ use Rattle.record.specs.Values.{actionOf}
 use Rattle.replication.specs.Machine.Types.{Server}
 use Rattle.replication.specs.Machine.Requests.{numberedFrom}
 use Rattle.replication.specs.Machine.Step.{ownState}
-use Rattle.engine.specs.Layout.{heldSize, theHeld}
+use Rattle.engine.specs.Layout.{heldSize, theHeld, atMe, atGreenLength, atNumbered}
 use Rattle.engine.specs.Decode.{heldAt}
 use Rattle.lists.specs.Lists.{CountsIn, configurationOf, heldCount, place}
 use Rattle.step.specs.Answers.{recordBytes}
@@ -45,14 +45,14 @@ heldPlace b k = place theHeld b + heldSize * k
 
 -- The action that it becomes, but its payload.
 unfoldable pub heldHead : List ℕ → (k : ℕ) → ActionHead
-heldHead b k = record { creator = numberAt 1 b 3; index = numberAt 2 b 27 + k + 1; «green_length» = numberAt 4 b 23 }
+heldHead b k = record { creator = numberAt 1 b atMe; index = numberAt 2 b atNumbered + k + 1; «green_length» = numberAt 4 b atGreenLength }
 
 unfoldable pub heldAction : List ℕ → (k : ℕ) → Action
 heldAction b k = actionOf (heldHead b k) (payloadAt b (heldPlace b k))
 
 -- The first k of them as the records of the actions that they become.
 unfoldable pub heldBytes : List ℕ → (k : ℕ) → List ℕ
-heldBytes b k = recordBytes (map action (numberedFrom (numberAt 1 b 3) (numberAt 4 b 23) (numberAt 2 b 27) (heldAt k b (place theHeld b))))
+heldBytes b k = recordBytes (map action (numberedFrom (numberAt 1 b atMe) (numberAt 4 b atGreenLength) (numberAt 2 b atNumbered) (heldAt k b (place theHeld b))))
 
 -- There is a request k, and room for its record at `at` in o.
 pub record HeldRoom (k at : ℕ) (b o : List ℕ) : Type 0 where

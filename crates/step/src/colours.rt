@@ -13,6 +13,7 @@ use lists::yellow::join_yellow;
 use queue::entering::enter;
 use queue::greening::green;
 use record::ActionHead;
+use record::State;
 use record::bytes::num16;
 
 // "Reg_prim: action green; the creator's green length is noted"
@@ -38,7 +39,7 @@ pub fn yellow(state: &mut [u8], head: ActionHead, payload: &[u8])
     requires { ⌜ HoldsSuch (λ s. Delivered s (actionOf head (now payload))) (now state) ⌝ }
     ensures { λ _. ⌜ ((s : Server) → Holds s (now (state .entry)) → now (state .exit) ≡ image (yellowed (actionOf head (now (payload .entry))) s) (now (state .entry))) ⌝ }
 {
-    let cut = num16(state, 60 + 2 * head.creator as usize);
+    let cut = num16(state, State::SIZE + 2 * head.creator as usize);
     if cut as u32 + 1 != head.index as u32 {
         return;
     }

@@ -49,15 +49,15 @@ fn colour(state: &mut [u8], mode: u8, head: ActionHead, payload: &[u8]) -> Answe
     ensures { λ r. ⌜ ((s : Server) (o : List ℕ) (k : Rule) → Holds s (now (state .entry)) → onAction (s .membership .mode) (actionOf head (now (payload .entry))) ≡ some k → answered r (now (state .exit)) o ≡ outcomeOn (apply k s) (now (state .entry)) o) ⌝ }
 {
     match mode {
-        1 => {
+        State::REG_PRIM => {
             green_and_note(state, head, payload);
             Answer::quiet()
         }
-        2 => {
+        State::TRANS_PRIM => {
             yellow(state, head, payload);
             Answer::quiet()
         }
-        7 => {
+        State::UN => {
             late_install(state, head, payload);
             Answer::stored(0)
         }
@@ -73,8 +73,8 @@ fn takes_action(mode: u8) -> bool
     ensures { λ r. ⌜ ((m : Mode) (a : Action) → mode ≡ modeNumber m → r ≡ isThere (onAction m a)) ⌝ }
 {
     match mode {
-        0..=3 => true,
-        7 => true,
+        State::NON_PRIM..=State::EXCHANGE_STATES => true,
+        State::UN => true,
         _ => false,
     }
 }
@@ -100,8 +100,8 @@ fn takes_retransmission(mode: u8) -> bool
     ensures { λ r. ⌜ ((m : Mode) (p : ℕ) (a : Action) → mode ≡ modeNumber m → r ≡ isThere (onRetransmission m p a)) ⌝ }
 {
     match mode {
-        0 => true,
-        4 => true,
+        State::NON_PRIM => true,
+        State::EXCHANGE_ACTIONS => true,
         _ => false,
     }
 }
@@ -127,7 +127,7 @@ pub fn on_retransmission(
     if !is_member(h, sender) {
         return Answer::refused(6);
     }
-    if h.mode == 4 {
+    if h.mode == State::EXCHANGE_ACTIONS {
         return exchange(state, out, position, head, payload);
     }
     red(state, head, payload);
@@ -153,10 +153,10 @@ pub fn on_state(state: &mut [u8], out: &mut [u8], h: State, k: u8, id: u32, even
     requires { ⌜ LentSuch (StateInForce h k id (now event)) (now state) (now out) ⌝ }
     ensures { λ r. ⌜ ((s : Server) (x : FormatState) → Holds s (now (state .entry)) → fieldsOk (contextOf s) (stateRecord x) ≡ true → write (stateRecord x) ≡ now (event .entry) → x .sender ≡ k → x .configuration ≡ id → answered r (now (state .exit)) (now (out .exit)) ≡ outcomeOn (answer s (stateRecord x)) (now (state .entry)) (now (out .entry))) ⌝ }
 {
-    if h.mode == 0 {
+    if h.mode == State::NON_PRIM {
         return Answer::quiet();
     }
-    if h.mode != 3 {
+    if h.mode != State::EXCHANGE_STATES {
         return Answer::refused(5);
     }
     if !state_from_member(h, k, id) {
@@ -170,9 +170,9 @@ fn takes_cpc(mode: u8) -> bool
     ensures { λ r. ⌜ ((m : Mode) (k : ℕ) → mode ≡ modeNumber m → r ≡ isThere (onCpc m k)) ⌝ }
 {
     match mode {
-        0 => true,
-        5 => true,
-        6 => true,
+        State::NON_PRIM => true,
+        State::CONSTRUCT => true,
+        State::NO => true,
         _ => false,
     }
 }
@@ -195,7 +195,7 @@ pub fn on_cpc(state: &mut [u8], out: &mut [u8], h: State, k: u8, id: u32) -> Ans
     requires { ⌜ LentSuch (InForce h (cpc k id)) (now state) (now out) ⌝ }
     ensures { λ r. ⌜ ((s : Server) → Holds s (now (state .entry)) → answered r (now (state .exit)) (now (out .exit)) ≡ outcomeOn (answer s (cpc k id)) (now (state .entry)) (now (out .entry))) ⌝ }
 {
-    if h.mode == 0 {
+    if h.mode == State::NON_PRIM {
         return Answer::quiet();
     }
     if !takes_cpc(h.mode) {
@@ -204,7 +204,7 @@ pub fn on_cpc(state: &mut [u8], out: &mut [u8], h: State, k: u8, id: u32) -> Ans
     if !cpc_from_member(h, k, id) {
         return Answer::refused(6);
     }
-    if h.mode == 5 {
+    if h.mode == State::CONSTRUCT {
         return collect_cpc(state, out, k);
     }
     collect_late_cpc(state, k);
@@ -220,25 +220,28 @@ pub fn on_regular(state: &mut [u8], out: &mut [u8], h: State, id: u32, set: u8) 
     }
     let mode = h.mode;
     match mode {
-        0 => join(state, out, id, set),
-        7 => join(state, out, id, set),
-        6 => join_unmarked(state, out, id, set),
-        2 => join_yellow(state, out, id, set),
+        State::NON_PRIM => join(state, out, id, set),
+        State::UN => join(state, out, id, set),
+        State::NO => join_unmarked(state, out, id, set),
+        State::TRANS_PRIM => join_yellow(state, out, id, set),
         _ => Answer::refused(5),
     }
 }
 
-// The state that a transitional configuration leads to; 8 where it cannot come.
+// No state's number.
+const NO_MODE: u8 = 8;
+
+// The state that a transitional configuration leads to, if it can come.
 fn after_transitional(mode: u8) -> u8
     ensures { λ r. ⌜ ((m : Mode) → mode ≡ modeNumber m → r ≡ modeAfter m) ⌝ }
 {
     match mode {
-        0 => 0,
-        1 => 2,
-        3 => 0,
-        4 => 0,
-        5 => 6,
-        _ => 8,
+        State::NON_PRIM => State::NON_PRIM,
+        State::REG_PRIM => State::TRANS_PRIM,
+        State::EXCHANGE_STATES => State::NON_PRIM,
+        State::EXCHANGE_ACTIONS => State::NON_PRIM,
+        State::CONSTRUCT => State::NO,
+        _ => NO_MODE,
     }
 }
 
@@ -247,7 +250,7 @@ pub fn on_transitional(state: &mut [u8], h: State, set: u8) -> Answer
     ensures { λ r. ⌜ ((s : Server) (o : List ℕ) → Holds s (now (state .entry)) → answered r (now (state .exit)) o ≡ outcomeOn (answer s (transitional set)) (now (state .entry)) o) ⌝ }
 {
     let mode = after_transitional(h.mode);
-    if mode == 8 {
+    if mode == NO_MODE {
         return Answer::refused(5);
     }
     if !transitional_due(h) {

@@ -65,7 +65,7 @@ fn decide_all(state: &mut [u8])
     requires { ⌜ HoldsSuch (λ t. t .membership .mode ≡ Non-prim) (now state) ⌝ }
     ensures { λ _. ⌜ ((t : Server) → Holds t (now (state .entry)) → now (state .exit) ≡ image (decided t) (now (state .entry))) ⌝ }
 {
-    let mut ids: [u8; 6144] = [0; 6144];
+    let mut ids: [u8; record::State::IDS] = [0; record::State::IDS];
     let v = taken_votes(state);
     let count = taken_yellow(state, &mut ids);
     let end = 3 * count;
@@ -130,7 +130,7 @@ fn after_states(state: &mut [u8], out: &mut [u8]) -> Answer
     if planned_now(state) != 0 {
         return await_actions(state, out);
     }
-    set_mode(state, 0);
+    set_mode(state, record::State::NON_PRIM);
     end_exchange(state, out)
 }
 
@@ -153,7 +153,7 @@ fn place_action(state: &mut [u8], position: u32, head: ActionHead, payload: &[u8
     requires { ⌜ HoldsSuch (λ s. Delivered s (actionOf head (now payload))) (now state) ⌝ }
     ensures { λ _. ⌜ ((s : Server) → Holds s (now (state .entry)) → now (state .exit) ≡ image (withLog (placed position (actionOf head (now (payload .entry))) (s .log)) s) (now (state .entry))) ⌝ }
 {
-    let length = num32(state, 23);
+    let length = num32(state, record::State::AT_GREEN_LENGTH);
     if position == length + 1 {
         green(state, head, payload);
         return;
@@ -181,7 +181,7 @@ fn close(state: &mut [u8])
     requires { ⌜ HoldsSuch (λ s. s .membership .mode ≡ Exchange-actions) (now state) ⌝ }
     ensures { λ _. ⌜ ((s : Server) → Holds s (now (state .entry)) → now (state .exit) ≡ image (oneMore (inMode Non-prim s)) (now (state .entry))) ⌝ }
 {
-    set_mode(state, 0);
+    set_mode(state, record::State::NON_PRIM);
     one_more(state);
 }
 
@@ -206,7 +206,7 @@ pub fn exchange(
     ensures { λ r. ⌜ ((s : Server) → Holds s (now (state .entry)) → answered r (now (state .exit)) (now (out .exit)) ≡ outcomeOn (exchangedBy position (actionOf head (now (payload .entry))) s) (now (state .entry)) (now (out .entry))) ⌝ }
 {
     let planned = planned_now(state);
-    let come = num32(state, 15);
+    let come = num32(state, record::State::AT_COME);
     if planned <= come as u64 + 1 {
         take_last(state, position, head, payload);
         return end_exchange(state, out);

@@ -22,6 +22,7 @@ use lists::membership::add_cpc;
 use lists::membership::set_mode;
 use lists::sending::send_held;
 use record::ActionHead;
+use record::State;
 
 // Install, and the state that it leads to; that one first, since row 8 bounds the primary index in Construct and Un.
 fn install_in(state: &mut [u8], mode: u8)
@@ -37,7 +38,7 @@ pub fn late_install(state: &mut [u8], head: ActionHead, payload: &[u8])
     requires { ⌜ HoldsSuch (λ s. Delivered s (actionOf head (now payload)) × (s .membership .mode ≡ Un)) (now state) ⌝ }
     ensures { λ _. ⌜ ((s : Server) → Holds s (now (state .entry)) → now (state .exit) ≡ image (inMode Trans-prim (yellowed (actionOf head (now (payload .entry))) (installed s))) (now (state .entry))) ⌝ }
 {
-    install_in(state, 2);
+    install_in(state, State::TRANS_PRIM);
     yellow(state, head, payload);
 }
 
@@ -56,7 +57,7 @@ fn install_all(state: &mut [u8], out: &mut [u8]) -> Answer
     requires { ⌜ LentSuch (λ t. Configured t × (t .votes .last .index < mostIndex)) (now state) (now out) ⌝ }
     ensures { λ r. ⌜ ((s t : Server) → Holds t (now (state .entry)) → answered r (now (state .exit)) (now (out .exit)) ≡ outcomeOn (installing s t) (now (state .entry)) (now (out .entry))) ⌝ }
 {
-    install_in(state, 1);
+    install_in(state, State::REG_PRIM);
     send_all(state, out)
 }
 
@@ -81,5 +82,5 @@ pub fn collect_late_cpc(state: &mut [u8], k: u8)
     if !all_cpcs_in(state) {
         return;
     }
-    set_mode(state, 7);
+    set_mode(state, State::UN);
 }

@@ -11,6 +11,7 @@ ghost use Rattle.engine.specs.Image.{over};
 ghost use Rattle.engine.proofs.InPlace.{Holds};
 ghost use Rattle.step.specs.Answers.{answered, outcomeOn, LentSuch, recordBytes};
 ghost use Rattle.step.specs.Sending.{ownHead, ownRecord};
+ghost use Rattle.engine.specs.Layout.{headerSize};
 use crate::Answer;
 use engine::header::load;
 use lists::membership::enter_exchange;
@@ -44,7 +45,7 @@ fn own_head(h: State, id: u32) -> StateHead
 
 // The same, from the state's buffer.
 fn own_numbers(state: &[u8], id: u32) -> StateHead
-    requires { ⌜ 60 ≤ length (now state) ⌝ }
+    requires { ⌜ headerSize ≤ length (now state) ⌝ }
     ensures { λ r. ⌜ r ≡ ownHead (headerIn (now (state .entry))) id ⌝ }
 {
     let h = load(state);
@@ -58,7 +59,7 @@ fn send_state(state: &[u8], out: &mut [u8], id: u32) -> u32
 {
     let head = own_numbers(state, id);
     let at = yellow_place(state);
-    let w = write_state(out, 0, head, &state[60..], &state[at..]);
+    let w = write_state(out, 0, head, &state[State::SIZE..], &state[at..]);
     let Written::Next(sent) = w else {
         return 0;
     };

@@ -18,12 +18,15 @@ ghost use Rattle.step.specs.Answers.{LentSuch, recordBytes};
 ghost use Rattle.install.specs.Table.{InTable};
 ghost use Rattle.step.specs.Resending.{queueIn, greensIn, mostActions, QueueIn, TableOf};
 ghost use Rattle.step.specs.Resending.{fromPlace, atPosition, asRed, oneOf, Sends, Stated, greenPart, redPart, redParts, wholePart};
+ghost use Rattle.engine.specs.Layout.{atMe};
+ghost use Rattle.format.specs.Places.{mostRetransmission};
 use crate::table::places;
 use exchange::decided::resends_green;
 use exchange::decided::resends_red;
 use install::table::PLACES;
 use install::table::entry;
 use queue::places::queue_place;
+use record::State;
 use record::bytes::num8;
 use record::bytes::num32;
 use record::events::ActionAt;
@@ -33,7 +36,7 @@ use record::writer::write_retransmission;
 
 // Writes an action that lies in the state: the place behind its record.
 fn send_action(state: &[u8], out: &mut [u8], at: usize, me: u8, position: u32, a: ActionAt) -> usize
-    requires { ⌜ (a .«payload_length» ≤ 48) × (a .«payload_at» + a .«payload_length» ≤ length (now state)) × (at + 65 ≤ length (now out)) ⌝ }
+    requires { ⌜ (a .«payload_length» ≤ 48) × (a .«payload_at» + a .«payload_length» ≤ length (now state)) × (at + mostRetransmission ≤ length (now out)) ⌝ }
     ensures { λ r. ⌜ Sends 1 (retransmission me position (actionFrom a (now (state .entry))) ∷ []) at (now (out .entry)) (now (out .exit)) r ⌝ }
 {
     let head = a.head;
@@ -48,19 +51,19 @@ fn send_action(state: &[u8], out: &mut [u8], at: usize, me: u8, position: u32, a
 
 // The action at the place k of the queue.
 fn send_slot(state: &[u8], out: &mut [u8], at: usize, me: u8, position: u32, k: usize) -> usize
-    requires { ⌜ QueueIn (now state) × (k < queueCount (now state)) × (at + 65 ≤ length (now out)) ⌝ }
+    requires { ⌜ QueueIn (now state) × (k < queueCount (now state)) × (at + mostRetransmission ≤ length (now out)) ⌝ }
     ensures { λ r. ⌜ Sends 1 (oneOf (fromPlace me position (queueIn (now (state .entry))) k)) at (now (out .entry)) (now (out .exit)) r ⌝ }
 {
-    let a = action_at(state, queue_place(state) + 56 * k);
+    let a = action_at(state, queue_place(state) + State::SLOT * k);
     send_action(state, out, at, me, position, a)
 }
 
 // A green position; one past the green list is left out.
 fn send_position(state: &[u8], out: &mut [u8], at: usize, me: u8, position: u32) -> usize
-    requires { ⌜ QueueIn (now state) × (1 ≤ position) × (at + 65 ≤ length (now out)) ⌝ }
+    requires { ⌜ QueueIn (now state) × (1 ≤ position) × (at + mostRetransmission ≤ length (now out)) ⌝ }
     ensures { λ r. ⌜ Sends 1 (oneOf (atPosition me (greensIn (now (state .entry))) position)) at (now (out .entry)) (now (out .exit)) r ⌝ }
 {
-    if num32(state, 23) < position {
+    if num32(state, State::AT_GREEN_LENGTH) < position {
         return at;
     }
     send_slot(state, out, at, me, position, position as usize - 1)
@@ -68,7 +71,7 @@ fn send_position(state: &[u8], out: &mut [u8], at: usize, me: u8, position: u32)
 
 // "resends positions from the shortest length + 1 to its own": those above `low` up to `high`.
 fn send_positions(state: &[u8], out: &mut [u8], at: usize, me: u8, low: u32, high: u32) -> usize
-    requires { ⌜ QueueIn (now state) × (at + 65 * (high - low) ≤ length (now out)) ⌝ }
+    requires { ⌜ QueueIn (now state) × (at + mostRetransmission * (high - low) ≤ length (now out)) ⌝ }
     ensures { λ r. ⌜ Sends (high - low) (gather (atPosition me (greensIn (now (state .entry)))) (above low high)) at (now (out .entry)) (now (out .exit)) r ⌝ }
 {
     let mut next = at;
@@ -96,7 +99,7 @@ fn send_index(
     creator: u8,
     index: u16,
 ) -> usize
-    requires { ⌜ QueueIn (now state) × TableOf (now table) (now state) × InTable creator index × (at + 65 ≤ length (now out)) ⌝ }
+    requires { ⌜ QueueIn (now state) × TableOf (now table) (now state) × InTable creator index × (at + mostRetransmission ≤ length (now out)) ⌝ }
     ensures { λ r. ⌜ Sends 1 (oneOf (asRed me (queueIn (now (state .entry))) creator index)) at (now (out .entry)) (now (out .exit)) r ⌝ }
 {
     let p = entry(creator, index);
@@ -118,7 +121,7 @@ fn send_creator(
     low: u32,
     high: u32,
 ) -> usize
-    requires { ⌜ QueueIn (now state) × TableOf (now table) (now state) × (creator < 8) × (high ≤ 256) × (at + 65 * (high - low) ≤ length (now out)) ⌝ }
+    requires { ⌜ QueueIn (now state) × TableOf (now table) (now state) × (creator < 8) × (high ≤ 256) × (at + mostRetransmission * (high - low) ≤ length (now out)) ⌝ }
     ensures { λ r. ⌜ Sends (high - low) (gather (asRed me (queueIn (now (state .entry))) creator) (above low high)) at (now (out .entry)) (now (out .exit)) r ⌝ }
 {
     let mut next = at;
@@ -132,7 +135,7 @@ fn send_creator(
 
 // "the server with the longest green list resends positions from the shortest length + 1 to its own."
 fn send_green(state: &[u8], out: &mut [u8], me: u8) -> usize
-    requires { ⌜ Stated (now state) × (me ≡ numberAt 1 (now state) 3) × (65 * mostActions (now state) ≤ length (now out)) ⌝ }
+    requires { ⌜ Stated (now state) × (me ≡ numberAt 1 (now state) atMe) × (mostRetransmission * mostActions (now state) ≤ length (now out)) ⌝ }
     ensures { λ r. ⌜ Sends (mostActions (now (state .entry))) (greenPart (now (state .entry))) 0 (now (out .entry)) (now (out .exit)) r ⌝ }
 {
     let part = resends_green(state);
@@ -151,7 +154,7 @@ fn send_red(
     me: u8,
     creator: u8,
 ) -> usize
-    requires { ⌜ Stated (now state) × TableOf (now table) (now state) × (me ≡ numberAt 1 (now state) 3) × (creator < serversOf (now state)) × (at + 65 * quotaOf (now state) ≤ length (now out)) ⌝ }
+    requires { ⌜ Stated (now state) × TableOf (now table) (now state) × (me ≡ numberAt 1 (now state) atMe) × (creator < serversOf (now state)) × (at + mostRetransmission * quotaOf (now state) ≤ length (now out)) ⌝ }
     ensures { λ r. ⌜ Sends (quotaOf (now (state .entry))) (redPart (now (state .entry)) creator) at (now (out .entry)) (now (out .exit)) r ⌝ }
 {
     let part = resends_red(state, creator as usize);
@@ -163,10 +166,10 @@ fn send_red(
 
 // The same for every creator.
 fn send_reds(state: &[u8], out: &mut [u8], at: usize, table: &[u16; PLACES], me: u8) -> usize
-    requires { ⌜ Stated (now state) × TableOf (now table) (now state) × (me ≡ numberAt 1 (now state) 3) × (at + 65 * mostActions (now state) ≤ length (now out)) ⌝ }
+    requires { ⌜ Stated (now state) × TableOf (now table) (now state) × (me ≡ numberAt 1 (now state) atMe) × (at + mostRetransmission * mostActions (now state) ≤ length (now out)) ⌝ }
     ensures { λ r. ⌜ Sends (mostActions (now (state .entry))) (redParts (now (state .entry)) (serversOf (now (state .entry)))) at (now (out .entry)) (now (out .exit)) r ⌝ }
 {
-    let servers = num8(state, 0);
+    let servers = num8(state, State::AT_SERVERS);
     let mut next = at;
     let mut c = 0;
     while c < servers {
@@ -178,10 +181,10 @@ fn send_reds(state: &[u8], out: &mut [u8], at: usize, table: &[u16; PLACES], me:
 
 // All of them: the place behind the last.
 fn send_plan(state: &[u8], out: &mut [u8]) -> usize
-    requires { ⌜ Stated (now state) × (130 * mostActions (now state) ≤ length (now out)) ⌝ }
+    requires { ⌜ Stated (now state) × (2 * mostRetransmission * mostActions (now state) ≤ length (now out)) ⌝ }
     ensures { λ r. ⌜ Sends (2 * mostActions (now (state .entry))) (wholePart (now (state .entry))) 0 (now (out .entry)) (now (out .exit)) r ⌝ }
 {
-    let me = num8(state, 3);
+    let me = num8(state, State::AT_ME);
     let next = send_green(state, out, me);
     let table = places(state);
     send_reds(state, out, next, &table, me)

@@ -86,10 +86,10 @@ pub fn cpc_in(h: State, k: u8) -> bool
 pub fn sends_now(h: State) -> bool
     ensures { λ r. ⌜ ((s : Server) → h ≡ headerOf s → r ≡ sendsNow (s .membership)) ⌝ }
 {
-    if h.mode == 1 {
+    if h.mode == State::REG_PRIM {
         return true;
     }
-    if h.mode != 0 {
+    if h.mode != State::NON_PRIM {
         return false;
     }
     if h.configuration_status != 1 {

@@ -13,8 +13,10 @@ ghost use Rattle.engine.proofs.InPlace.{Holds};
 ghost use Rattle.lists.specs.Lists.{CountsIn, heldCount};
 ghost use Rattle.step.specs.Answers.{LentSuch, recordBytes};
 ghost use Rattle.step.specs.Sending.{heldPlace, heldHead, heldAction, HeldRoom};
+ghost use Rattle.engine.specs.Layout.{headerSize, atNumbered, heldSize};
 use lists::requests::held_place;
 use record::ActionHead;
+use record::State;
 use record::bytes::num8;
 use record::bytes::num16;
 use record::bytes::num32;
@@ -24,20 +26,20 @@ use record::writer::write_action;
 // Where the held request k lies.
 fn request_place(state: &[u8], k: u16) -> usize
     requires { ⌜ CountsIn (now state) × (k < heldCount (now state)) ⌝ }
-    ensures { λ r. ⌜ (r ≡ heldPlace (now (state .entry)) k) × (r + 49 ≤ length (now (state .entry))) ⌝ }
+    ensures { λ r. ⌜ (r ≡ heldPlace (now (state .entry)) k) × (r + heldSize ≤ length (now (state .entry))) ⌝ }
 {
-    held_place(state) + 49 * k as usize
+    held_place(state) + State::HELD * k as usize
 }
 
 // The action that it becomes, but its payload.
 fn held_head(state: &[u8], k: u16) -> ActionHead
-    requires { ⌜ (numberAt 2 (now state) 27 ≤ 256) × (60 ≤ length (now state)) × (k ≤ 16) ⌝ }
+    requires { ⌜ (numberAt 2 (now state) atNumbered ≤ 256) × (headerSize ≤ length (now state)) × (k ≤ 16) ⌝ }
     ensures { λ r. ⌜ r ≡ heldHead (now (state .entry)) k ⌝ }
 {
     ActionHead {
-        creator: num8(state, 3),
-        index: num16(state, 27) + k + 1,
-        green_length: num32(state, 23),
+        creator: num8(state, State::AT_ME),
+        index: num16(state, State::AT_NUMBERED) + k + 1,
+        green_length: num32(state, State::AT_GREEN_LENGTH),
     }
 }
 
@@ -62,7 +64,7 @@ pub fn send_records(state: &[u8], out: &mut [u8]) -> u32
     requires { ⌜ LentSuch (λ s. 0 ≤ 0) (now state) (now out) ⌝ }
     ensures { λ r. ⌜ ((s : Server) → Holds s (now (state .entry)) → (r ≡ length (recordBytes (heldRecords s))) × (now (out .exit) ≡ over (recordBytes (heldRecords s)) (now (out .entry)))) ⌝ }
 {
-    let count = num16(state, 31);
+    let count = num16(state, State::AT_HELD_COUNT);
     let mut at: usize = 0;
     let mut k: u16 = 0;
     while k < count {

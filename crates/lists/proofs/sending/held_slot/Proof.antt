@@ -7,12 +7,13 @@ use Rattle.base.specs.Patched.{patched, patched-none}
 use Rattle.base.specs.Stores.{read-more, read-all}
 use Rattle.lists.proofs.sending.held_slot.Statement.{statement}
 use Rattle.lists.proofs.sending.held_slot.Tie as tie
+use Rattle.engine.specs.Layout.{heldSize}
 
 abbrev Inv-loop : tie.InvT-loop
-Inv-loop state from x₀ j₀ x j = (j ≤ 49) × (x ≡ patched 0 (take j (drop from state)) (replicate {A = ℕ} 49 0))
+Inv-loop state from x₀ j₀ x j = (j ≤ heldSize) × (x ≡ patched 0 (take j (drop from state)) (replicate {A = ℕ} heldSize 0))
 
 abbrev μ-loop : tie.MeasureT-loop
-μ-loop state from x₀ j₀ x j = 49 - j
+μ-loop state from x₀ j₀ x j = heldSize - j
 
 loop-holds : tie.Need-loop-holds Inv-loop μ-loop
 loop-holds c = (omega arith, sym (patched-none _ _))

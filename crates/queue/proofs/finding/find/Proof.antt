@@ -11,9 +11,10 @@ use Rattle.queue.proofs.finding.find.Tie as tie
 use Rattle.queue.proofs.finding.find.Reads as reads
 use Rattle.queue.proofs.finding.find.Lts as lts
 use Rattle.queue.proofs.finding.has_id.Reads as has-id-reads
+use Rattle.engine.specs.Layout.{slotSize}
 
 abbrev Inv-loop : tie.InvT-loop
-Inv-loop state at count creator index k₀ k = (k ≤ count) × (position (idOf creator index) (actionsAt count state at) ≡ k + position (idOf creator index) (actionsAt (count - k) state (at + 56 * k)))
+Inv-loop state at count creator index k₀ k = (k ≤ count) × (position (idOf creator index) (actionsAt count state at) ≡ k + position (idOf creator index) (actionsAt (count - k) state (at + slotSize * k)))
 
 abbrev μ-loop : tie.MeasureT-loop
 μ-loop state at count creator index k₀ k = count - k

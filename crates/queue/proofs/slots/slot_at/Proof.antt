@@ -7,12 +7,13 @@ use native.Mathlib.Omega.{arith}
 use borrow.Author.Needs.{needs}
 use Rattle.queue.proofs.slots.slot_at.Statement.{statement}
 use Rattle.queue.proofs.slots.slot_at.Tie as tie
+use Rattle.engine.specs.Layout.{slotSize}
 
 abbrev Inv-loop : tie.InvT-loop
-Inv-loop s at x₀ j₀ x j = (j ≤ 56) × (x ≡ patched 0 (take j (drop at s)) (replicate {A = ℕ} 56 0))
+Inv-loop s at x₀ j₀ x j = (j ≤ slotSize) × (x ≡ patched 0 (take j (drop at s)) (replicate {A = ℕ} slotSize 0))
 
 abbrev μ-loop : tie.MeasureT-loop
-μ-loop s at x₀ j₀ x j = 56 - j
+μ-loop s at x₀ j₀ x j = slotSize - j
 
 loop-holds : tie.Need-loop-holds Inv-loop μ-loop
 loop-holds c = (omega arith, sym (patched-none _ _))
