@@ -1,5 +1,5 @@
 #!/usr/bin/env python3
-"""Writes crates/replication/proofs/Examples/Partition.antt and PartitionWitness.antt from samples/partition.bin and what replay prints of it.
+"""Writes crates/examples/proofs/Partition.antt and PartitionWitness.antt from samples/partition.bin and what replay prints of it.
 
 usage: partition.py   (in the repository's top folder; samples/partition.txt is what `replay` printed of samples/partition.bin)
 
@@ -12,7 +12,7 @@ import heapq
 import sys
 from collections import defaultdict
 
-FOLDER = 'crates/replication/proofs/Examples/'
+FOLDER = 'crates/examples/proofs/'
 ACTION, RETRANSMISSION, STATE, CPC, REGULAR, TRANSITIONAL, RECOVERY = 1, 2, 3, 4, 5, 6, 8
 
 
@@ -121,8 +121,8 @@ def main():
 -- Assumes nothing.
 use Prim.Native.Nat.{{ℕ}}
 use mathlib.Core.List.{{List, [], _∷_}}
 use Rattle.replication.specs.Audit.Witness.{{Witness}}
-use Rattle.replication.proofs.Verdicts.Runs.Records.{{sent}}
+use Rattle.examples.proofs.Records.{{sent}}
 
 -- The places of the events refused 5 or 6, of {servers} servers with the quota {quota}.
 unfoldable pub strays : List ℕ

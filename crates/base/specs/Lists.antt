@@ -84,3 +84,13 @@ upd f i v j = pick (j =? i) v (f j)
 -- x begins y.
 unfoldable pub Begins : {A : Type 0} → List A → List A → Type 0
 Begins {A} x y = (t : List A) × (y ≡ x ++ t)
+
+-- A fact of every element.
+abbrev pub Each : {A : Type 0} → (A → Type 0) → List A → Type 0
+Each P [] = Unit {0}
+Each P (x ∷ xs) = P x × Each P xs
+
+-- The test holds at the place of each of the m entries of w bytes from `at` on.
+unfoldable pub everyAt : (ℕ → Bool) → (w m at : ℕ) → Bool
+everyAt t w zero at = true
+everyAt t w (suc m) at = t at and everyAt t w m (at + w)

@@ -6,7 +6,8 @@ use mathlib.Core.Bool.{Bool, true, false}
 use mathlib.Core.List.{List}
 use mathlib.Core.Option.{some}
 use lib.ListN.{length, take}
-use Rattle.base.specs.Tests.{pick, not-both}
+use Rattle.base.specs.Tests.{pick}
+use Rattle.base.proofs.TestLaws.{not-both}
 use Rattle.base.specs.Bytes.{joined}
 use Rattle.base.specs.Lists.{at, Begins}
 use Rattle.replication.specs.Machine.Types.{Server}
@@ -17,7 +18,8 @@ use Rattle.replication.specs.Runs.Claim.{ListsAgree, storedGreen, memoryGreen, 
 use Rattle.replication.proofs.Agreement.Greens.Demand.{demand3, corollaries}
 use Rattle.replication.proofs.Runs.Places.{put-out-at, sent-at}
 use Rattle.engine.specs.Outcome.{Result}
-use Rattle.engine.proofs.InPlace.{Holds, holds-decoded}
+use Rattle.engine.specs.Holding.{Holds}
+use Rattle.engine.proofs.InPlace.{holds-decoded}
 use Rattle.buffers.specs.Buffers.{stepIn}
 use Rattle.buffers.specs.Sending.{cutRecords}
 use Rattle.buffers.specs.Daemons.{Daemons, Lending, LongEnough, daemonsAt}

@@ -7,7 +7,8 @@ use mathlib.Core.List.{List, []}
 use native.Mathlib.Omega.{arith}
 use lib.ListN.{length, take, drop}
 use lib.Seq.{take-at}
-use Rattle.base.specs.Tests.{pick, pick-either, Known, holds, fails, known}
+use Rattle.base.specs.Tests.{pick}
+use Rattle.base.proofs.TestLaws.{pick-either, Known, holds, fails, known}
 use Rattle.base.specs.Bytes.{joined}
 use Rattle.format.specs.Types.{Action, recovery}
 use Rattle.replication.specs.Laws.Order.{SameServer}
@@ -26,7 +27,7 @@ use Rattle.engine.specs.Layout.{stateLength, outLength}
 use Rattle.engine.specs.Image.{over, image}
 use Rattle.engine.specs.Outcome.{Result, refusal, word, resultOf}
 use Rattle.engine.proofs.ImageLaws.{image-length}
-use Rattle.engine.proofs.InPlace.{Holds}
+use Rattle.engine.specs.Holding.{Holds}
 use Rattle.engine.proofs.Taken.{taken-holds}
 use Rattle.buffers.specs.Buffers.{Buffers, isRecovery, sourceIn, stepIn, keptAfter}
 use Rattle.buffers.specs.Sending.{cutRecords}

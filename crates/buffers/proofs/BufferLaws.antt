@@ -6,8 +6,9 @@ use mathlib.Core.Bool.{true, false}
 use mathlib.Core.List.{List}
 use mathlib.Core.Option.{some}
 use lib.ListN.{length}
-use Rattle.base.specs.Tests.{_=?_, pick, pick-yes, pick-no, pick-lt, pick-ge, choices}
-use Rattle.base.specs.AtLaws.{upd-here}
+use Rattle.base.specs.Tests.{_=?_, pick}
+use Rattle.base.proofs.TestLaws.{pick-yes, pick-no, pick-lt, pick-ge, choices}
+use Rattle.base.proofs.AtLaws.{upd-here}
 use Rattle.format.specs.Range.{sizesOk}
 use Rattle.replication.specs.Machine.Types.{start}
 use Rattle.replication.specs.Runs.Run.{event, crash, store}

@@ -8,8 +8,9 @@ use mathlib.Core.Option.{some}
 use native.Mathlib.Omega.{arith}
 use native.Mathlib.Decide.{ℕ-discrete}
 use lib.ListN.{length}
-use Rattle.base.specs.Tests.{_=?_, pick, pick-eq, pick-ne, not-both}
-use Rattle.base.specs.AtLaws.{upd-here, upd-elsewhere}
+use Rattle.base.specs.Tests.{_=?_, pick}
+use Rattle.base.proofs.TestLaws.{pick-eq, pick-ne, not-both}
+use Rattle.base.proofs.AtLaws.{upd-here, upd-elsewhere}
 use Rattle.replication.specs.Machine.Types.{Outcome, refused, taken}
 use Rattle.replication.specs.Images.{Images, sourceOf, arrive, leftBy, savedIn}
 use Rattle.replication.specs.Replay.{returned}

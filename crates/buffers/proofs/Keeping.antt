@@ -7,8 +7,9 @@ use mathlib.Core.List.{List}
 use mathlib.Core.Option.{some}
 use native.Mathlib.Omega.{arith}
 use lib.ListN.{length}
-use Rattle.base.specs.Tests.{_<?_, _or_, pick, pick-yes, and-holds, lt-no}
-use Rattle.base.specs.Branches.{or-no}
+use Rattle.base.specs.Tests.{_<?_, _or_, pick}
+use Rattle.base.proofs.TestLaws.{pick-yes, and-holds, lt-no}
+use Rattle.base.proofs.Branches.{or-no}
 use Rattle.format.specs.Range.{sizesOk, contextOk}
 use Rattle.replication.specs.Laws.Order.{SameServer}
 use Rattle.replication.specs.Machine.Types.{Server, contextOf, start}
@@ -20,7 +21,8 @@ use Rattle.engine.specs.Layout.{stateLength, outLength, leastStateLength, least
 use Rattle.engine.specs.Decode.{decodedAs, decoded, serversIn, quotaIn, readImage}
 use Rattle.engine.specs.Outcome.{tooShort, resultOf, stepOn, startOn}
 use Rattle.engine.proofs.ImageLaws.{image-length, image-again, read-image}
-use Rattle.engine.proofs.InPlace.{Holds, holds-decoded}
+use Rattle.engine.specs.Holding.{Holds}
+use Rattle.engine.proofs.InPlace.{holds-decoded}
 use Rattle.engine.proofs.Refusals.{step-read, formed-sizes}
 use Rattle.buffers.specs.Buffers.{Buffers, Lent, begun, saved}
 use Rattle.buffers.proofs.BufferLaws.{start-left, saved-state, saved-store}

@@ -6,9 +6,10 @@ use mathlib.Core.Bool.{true, false}
 use mathlib.Core.List.{List}
 use native.Mathlib.Omega.{arith}
 use lib.ListN.{length, getD}
-use Rattle.base.specs.Tests.{_=?_, and-holds, both-yes, eq-holds, eq-yes, not-both, Known, holds, fails, known}
+use Rattle.base.specs.Tests.{_=?_}
+use Rattle.base.proofs.TestLaws.{and-holds, both-yes, eq-holds, eq-yes, not-both, Known, holds, fails, known}
 use Rattle.base.specs.Bytes.{numberAt}
-use Rattle.base.specs.BytesLaws.{number1, number2}
+use Rattle.base.proofs.BytesLaws.{number1, number2}
 use Rattle.format.specs.Limits.{version}
 use Rattle.format.specs.Types.{Record, action, retransmission, state, cpc, regular, transitional, request, recovery, ofRecovery, kindNumber, kindOf, Context, Reading, says, refused}
 use Rattle.format.specs.Range.{contextOk, fieldsOk, recordOk}

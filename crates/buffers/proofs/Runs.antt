@@ -6,9 +6,9 @@ use mathlib.Core.Bool.{true, false}
 use mathlib.Core.List.{List}
 use mathlib.Core.Option.{Option, none, some}
 use lib.ListN.{length}
-use Rattle.base.specs.Tests.{not-both, Known, holds, fails, known}
+use Rattle.base.proofs.TestLaws.{not-both, Known, holds, fails, known}
 use Rattle.base.specs.Lists.{at}
-use Rattle.base.specs.AtLaws.{some-same}
+use Rattle.base.proofs.AtLaws.{some-same}
 use Rattle.replication.specs.Runs.Run.{Entry, event, store, Run, World, beginning, worldAfter, heard, worldAt, heardAt}
 use Rattle.replication.specs.Runs.Strays.{AllowedWithStrays}
 use Rattle.replication.proofs.Runs.Numbers.{numbers}

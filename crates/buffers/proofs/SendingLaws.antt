@@ -8,10 +8,10 @@ use native.Mathlib.Omega.{arith}
 use native.Mathlib.Decide.{decLt}
 use lib.ListN.{length, take, drop, length-append, length-drop}
 use lib.Seq.{take-at, drop-at}
-use Rattle.base.specs.Tests.{and-holds, lt-holds, eq-holds, pick-lt, pick-ge}
+use Rattle.base.proofs.TestLaws.{and-holds, lt-holds, eq-holds, pick-lt, pick-ge}
 use Rattle.base.specs.Bytes.{numberAt, joined}
-use Rattle.base.specs.BytesLaws.{number-front}
-use Rattle.base.specs.ListLaws.{Each}
+use Rattle.base.proofs.BytesLaws.{number-front}
+use Rattle.base.specs.Lists.{Each}
 use Rattle.format.specs.Types.{Action, Record, Context}
 use Rattle.format.specs.Range.{contextOk, recordOk}
 use Rattle.format.specs.Read.{frameOk}

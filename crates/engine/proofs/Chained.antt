@@ -10,7 +10,7 @@ use native.Mathlib.Omega.{arith}
 use lib.ListN.{length, getD, length-append, length-replicate}
 use Rattle.base.specs.Bytes.{joined}
 use Rattle.base.specs.Lists.{Begins}
-use Rattle.base.specs.Prefixes.{begins-refl}
+use Rattle.base.proofs.Prefixes.{begins-refl}
 use Rattle.format.specs.Types.{Action, State}
 use Rattle.format.specs.Write.{actionBytes, payloadBytes, cutsBytes, idsBytes}
 use Rattle.format.proofs.Lengths.{cuts-length, ids-length}
@@ -22,7 +22,8 @@ use Rattle.engine.proofs.InRange.{InRange, in-range}
 use Rattle.engine.proofs.Used.{action-slots-length, held-slots-length, noted-length, slots-append, held-append, ids-append}
 use Rattle.engine.proofs.Fit.{SectionsFit, well-formed-fits}
 use Rattle.engine.proofs.Again.{CoversBytes, alike, Covering, covering-over}
-use Rattle.engine.proofs.InPlace.{Holds, image-holds, holds-section, over-less}
+use Rattle.engine.specs.Holding.{Holds}
+use Rattle.engine.proofs.InPlace.{image-holds, holds-section, over-less}
 
 -- The buffer that a change left.
 pub then-holds : (s t : Server) (b c : List ℕ) → Holds s b → c ≡ image t b → t .servers ≡ s .servers → t .quota ≡ s .quota → wellFormed t ≡ true → Holds t c

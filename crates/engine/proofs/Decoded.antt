@@ -10,8 +10,8 @@ use lib.ListN.{length, getD, take, drop}
 use lib.Seq.{take-append-seam, drop-append-seam}
 use Rattle.base.specs.Bytes.{numberAt, numbersAt, partAt}
 use Rattle.base.specs.Lists.{isThere, sum}
-use Rattle.base.specs.Occurs.{Occurs, occurs-first}
-use Rattle.base.specs.Sections.{sized-at}
+use Rattle.base.proofs.Occurs.{Occurs, occurs-first}
+use Rattle.base.proofs.Sections.{sized-at}
 use Rattle.base.specs.Sets.{inSet}
 use Rattle.format.specs.Types.{Action, State}
 use Rattle.format.specs.Read.{idsAt}

@@ -9,9 +9,10 @@ use native.Mathlib.Nat.{mul-le-mul-right}
 use native.Mathlib.Omega.{arith}
 use lib.ListN.{length, getD, drop, length-append, length-drop}
 use Rattle.base.specs.Bytes.{Bytes, joined}
-use Rattle.base.specs.BytesLaws.{part-length, bytes-append, bytes-joined, bytes-part, bytes-drop}
-use Rattle.base.specs.ListLaws.{Each, each-implied}
-use Rattle.base.specs.Sections.{Sized, Laid, begin-end, sized-rest, sized-length, laid-part}
+use Rattle.base.proofs.BytesLaws.{part-length, bytes-append, bytes-joined, bytes-part, bytes-drop}
+use Rattle.base.specs.Lists.{Each}
+use Rattle.base.proofs.ListLaws.{each-implied}
+use Rattle.base.proofs.Sections.{Sized, Laid, begin-end, sized-rest, sized-length, laid-part}
 use Rattle.format.specs.Limits.{mostHeld}
 use Rattle.format.specs.Types.{State, Context, state}
 use Rattle.format.specs.Write.{lengthOf}

@@ -8,7 +8,7 @@ use native.Mathlib.Omega.{arith}
 use lib.ListN.{length}
 use Rattle.base.specs.Bytes.{Bytes, bytesOf, numberAt, joined}
 use Rattle.base.specs.Lists.{sum}
-use Rattle.base.specs.Occurs.{Occurs, occurs-at, parts-joined, number-occurs}
+use Rattle.base.proofs.Occurs.{Occurs, occurs-at, parts-joined, number-occurs}
 use Rattle.format.specs.Write.{primaryBytes, markBytes}
 use Rattle.format.specs.Read.{primaryAt, markAt}
 use Rattle.format.proofs.Lengths.{primary-length}
@@ -27,7 +27,7 @@ use Rattle.engine.proofs.HeaderRead.{HeaderRead, header-read}
 use Rattle.engine.proofs.Fit.{well-formed-fits}
 use Rattle.engine.proofs.Decoded.{image-part}
 use Rattle.engine.proofs.Saved.{membership-length, first-length, standing-length}
-use Rattle.engine.proofs.InPlace.{Holds}
+use Rattle.engine.specs.Holding.{Holds}
 
 configuration-written : (d : Option Configuration) → configurationBytes d ≡ joined (bytesOf 1 (statusOf d) ∷ bytesOf 4 (idOf d) ∷ bytesOf 1 (setOf d) ∷ [])
 unfolding configurationBytes statusOf idOf setOf

@@ -7,9 +7,10 @@ use mathlib.Core.Option.{Option, none, some}
 use native.Mathlib.Nat.{mul-le-mul}
 use native.Mathlib.Omega.{arith}
 use lib.ListN.{length, length-append}
-use Rattle.base.specs.Tests.{_=?_, pick, pick-yes, pick-no, eq-yes, eq-no}
+use Rattle.base.specs.Tests.{_=?_, pick}
+use Rattle.base.proofs.TestLaws.{pick-yes, pick-no, eq-yes, eq-no}
 use Rattle.base.specs.Bytes.{bytesOf, numberAt}
-use Rattle.base.specs.Occurs.{Occurs, occurs-at, joined-parts, number-read}
+use Rattle.base.proofs.Occurs.{Occurs, occurs-at, joined-parts, number-read}
 use Rattle.format.specs.Limits.{mostServers, mostQuota}
 use Rattle.format.specs.Write.{primaryBytes, markBytes}
 use Rattle.format.specs.Read.{primaryAt, markAt}

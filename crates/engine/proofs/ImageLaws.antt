@@ -7,10 +7,11 @@ use mathlib.Core.List.{List}
 use mathlib.Core.Option.{none, some}
 use native.Mathlib.Omega.{arith}
 use lib.ListN.{length, drop}
-use Rattle.base.specs.Tests.{pick, pick-yes, both-yes, and-holds}
+use Rattle.base.specs.Tests.{pick}
+use Rattle.base.proofs.TestLaws.{pick-yes, both-yes, and-holds}
 use Rattle.base.specs.Bytes.{Bytes}
 use Rattle.base.specs.Lists.{same}
-use Rattle.base.specs.SameLaws.{same-yes, same-holds}
+use Rattle.base.proofs.SameLaws.{same-yes, same-holds}
 use Rattle.replication.specs.Machine.Types.{Server}
 use Rattle.replication.specs.Machine.WellFormed.{wellFormed}
 use Rattle.engine.specs.Layout.{stateLength}

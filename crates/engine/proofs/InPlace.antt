@@ -10,24 +10,19 @@ use native.Mathlib.Nat.{zero-add}
 use lib.ListN.{length, getD, take, drop, length-append}
 use lib.Seq.{take-at, drop-at}
 use Rattle.base.specs.Bytes.{partAt}
-use Rattle.base.specs.Lists.{sum}
-use Rattle.base.specs.ListLaws.{Each}
-use Rattle.base.specs.Patched.{patched, patched-length}
-use Rattle.base.specs.Sections.{cutBy, cut-at, laid-cut, begin-end, patched-front, patched-inside, NoneOf, patchedAll, all-patched}
+use Rattle.base.specs.Lists.{sum, Each}
+use Rattle.base.specs.Patched.{patched}
+use Rattle.base.proofs.PatchedLaws.{patched-length}
+use Rattle.base.proofs.Sections.{cutBy, cut-at, laid-cut, begin-end, patched-front, patched-inside, NoneOf, patchedAll, all-patched}
 use Rattle.format.specs.Write.{cutsBytes, idsBytes}
 use Rattle.replication.specs.Machine.Types.{Server}
 use Rattle.replication.specs.Machine.WellFormed.{queue, wellFormed}
 use Rattle.engine.specs.Layout.{stateSize, theHeader, theCuts, theNoted, theHeld, theStates, theYellow, theOwn, theQueue, sections, sectionSize, offset, stateLength, headerSize}
 use Rattle.engine.specs.Image.{over, headerBytes, notedBytes, statesOver, actionSlots, heldSlots, section, parts, image}
 use Rattle.engine.specs.Decode.{decoded, readImage}
+use Rattle.engine.specs.Holding.{Holds, HoldsSuch, HoldsSome}
 use Rattle.engine.proofs.Fit.{SectionsFit, well-formed-fits, parts-sized, image-section}
 use Rattle.engine.proofs.ImageLaws.{image-length, image-again, decoded-image, image-read}
-
--- The buffer b, long enough, holds the image of s.
-pub record Holds (s : Server) (b : List ℕ) : Type 0 where
-  pub formed : wellFormed s ≡ true
-  pub written : image s b ≡ b
-  pub long : stateLength (s .servers) (s .quota) ≤ length b
 
 pub read-holds : (s : Server) (b : List ℕ) → readImage b ≡ some s → stateLength (s .servers) (s .quota) ≤ length b → Holds s b
 read-holds s b h l = let r = image-read b s h in record { formed = r .1; written = r .0; long = l }
@@ -50,16 +45,6 @@ image-holds s t b r e f ok =
     record { formed = ok; written = image-again t b ok room; long = omega (arith, image-length t b ok room) }
 
 -- ---- a state of which something is known
-
--- The buffer b holds a state of which P is known.
-pub record HoldsSuch (P : Server → Type 0) (b : List ℕ) : Type 0 where
-  pub state : Server
-  pub holds : Holds state b
-  pub fact : P state
-
--- The buffer holds some state.
-abbrev pub HoldsSome : List ℕ → Type 0
-HoldsSome b = HoldsSuch (λ s. Unit {0}) b
 
 pub holds-some : (s : Server) (b : List ℕ) → Holds s b → HoldsSome b
 holds-some s b r = record { state = s; holds = r; fact = tt }

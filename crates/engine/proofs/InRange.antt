@@ -7,9 +7,9 @@ use mathlib.Core.List.{List, [], _∷_, _++_}
 use mathlib.Core.Option.{Option, none, some}
 use native.Mathlib.Omega.{arith}
 use lib.ListN.{length, length-map}
-use Rattle.base.specs.Tests.{and-holds, both-yes, le-holds, eq-holds, not-both}
-use Rattle.base.specs.Lists.{all, above}
-use Rattle.base.specs.ListLaws.{Each, all-each, above-length}
+use Rattle.base.proofs.TestLaws.{and-holds, both-yes, le-holds, eq-holds, not-both}
+use Rattle.base.specs.Lists.{all, above, Each}
+use Rattle.base.proofs.ListLaws.{all-each, above-length}
 use Rattle.format.specs.Limits.{mostServers, mostQuota, mostHeld, mostIndex}
 use Rattle.format.specs.Types.{Id, Action, State, Context}
 use Rattle.format.specs.Range.{actionOk, lengthOk, payloadOk, cutsOk, ownSetOk, idsInRange}

@@ -7,7 +7,8 @@ use mathlib.Core.List.{List}
 use mathlib.Core.Option.{Option, none, some}
 use native.Mathlib.Omega.{arith}
 use lib.ListN.{length}
-use Rattle.base.specs.Tests.{_=?_, pick, pick-yes, pick-no, and-holds, or-fails, eq-holds, eq-fails, lt-fails, Known, holds, fails, known}
+use Rattle.base.specs.Tests.{_=?_, pick}
+use Rattle.base.proofs.TestLaws.{pick-yes, pick-no, and-holds, or-fails, eq-holds, eq-fails, lt-fails, Known, holds, fails, known}
 use Rattle.format.specs.Range.{sizesOk, contextOk}
 use Rattle.replication.specs.Machine.Types.{Server, contextOf}
 use Rattle.replication.specs.Machine.Step.{step}
@@ -17,7 +18,8 @@ use Rattle.engine.specs.Image.{image}
 use Rattle.engine.specs.Decode.{decodedAs, decoded, serversIn, quotaIn, reads, readImage}
 use Rattle.engine.specs.Outcome.{refusal, tooShort, resultOf, stepFrom, stepOn, stateNumber}
 use Rattle.engine.proofs.ImageLaws.{image-read}
-use Rattle.engine.proofs.InPlace.{Holds, read-holds}
+use Rattle.engine.specs.Holding.{Holds}
+use Rattle.engine.proofs.InPlace.{read-holds}
 
 -- Both buffers are as before.
 pub short-refused : (b e o : List ℕ) → tooShort b o ≡ true → stepOn b e o ≡ refusal 7 b o

@@ -9,9 +9,9 @@ use lib.ListN.{length}
 use mir.Syntax.{w8}
 use mir.Val.{Fits}
 use Rattle.base.specs.Bytes.{bytesOf, joined}
-use Rattle.base.specs.BytesLaws.{bytes1, bytes2, bytes4}
+use Rattle.base.proofs.BytesLaws.{bytes1, bytes2, bytes4}
 use Rattle.base.specs.Patched.{patched}
-use Rattle.base.specs.Stores.{two-blocks}
+use Rattle.base.proofs.Stores.{two-blocks}
 use Rattle.format.specs.Write.{primaryBytes, markBytes}
 use Rattle.format.proofs.Lengths.{primary-length}
 use Rattle.record.specs.Blocks.{yellowHeadBytes}

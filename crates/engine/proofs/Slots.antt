@@ -8,13 +8,13 @@ use mathlib.Core.Option.{Option, none, some}
 use native.Mathlib.Nat.{add-zero, one-le-pow}
 use native.Mathlib.Omega.{arith}
 use lib.ListN.{length, getD, take, drop}
-use Rattle.base.specs.Tests.{pick, pick-yes, pick-no}
+use Rattle.base.specs.Tests.{pick}
+use Rattle.base.proofs.TestLaws.{pick-yes, pick-no}
 use Rattle.base.specs.Bytes.{bytesOf, numberAt, numbersAt, joined}
-use Rattle.base.specs.Lists.{isThere}
-use Rattle.base.specs.ListLaws.{Each}
-use Rattle.base.specs.Occurs.{Occurs, occurs-first, occurs-second, occurs-at, occurs-drop, joined-parts, number-read}
+use Rattle.base.specs.Lists.{isThere, Each}
+use Rattle.base.proofs.Occurs.{Occurs, occurs-first, occurs-second, occurs-at, occurs-drop, joined-parts, number-read}
 use Rattle.base.specs.Sets.{inSet, withMember}
-use Rattle.base.specs.SetLaws.{in-empty, member-other, member-same, with-member-below}
+use Rattle.base.proofs.SetLaws.{in-empty, member-other, member-same, with-member-below}
 use Rattle.format.specs.Limits.{mostServers, mostQuota}
 use Rattle.format.specs.Types.{Action, State, Context, state, kindNumber, kindOf}
 use Rattle.format.specs.Write.{write, framed, bodyOf, stateBytes, actionBytes, payloadBytes}

@@ -11,12 +11,13 @@ use mir.Syntax.{w8, w16}
 use mir.Val.{Fits}
 use lib.Seq.{take-all, take-append-seam, drop-length}
 use Rattle.base.specs.Bytes.{bytesOf, joined}
-use Rattle.base.specs.Lists.{sum, isThere}
-use Rattle.base.specs.ListLaws.{Each}
-use Rattle.base.specs.Patched.{patched, patched-more, patched-length, patched-none, patched-next}
-use Rattle.base.specs.Sections.{patchedAll}
-use Rattle.base.specs.Tests.{pick, pick-lt, pick-ge}
-use Rattle.base.specs.Branches.{pick-answered, pick-denied}
+use Rattle.base.specs.Lists.{sum, isThere, Each}
+use Rattle.base.specs.Patched.{patched}
+use Rattle.base.proofs.PatchedLaws.{patched-more, patched-length, patched-none, patched-next}
+use Rattle.base.proofs.Sections.{patchedAll}
+use Rattle.base.specs.Tests.{pick}
+use Rattle.base.proofs.TestLaws.{pick-lt, pick-ge}
+use Rattle.base.proofs.Branches.{pick-answered, pick-denied}
 use Rattle.format.specs.Limits.{fewestServers, leastQuota}
 use Rattle.format.specs.Range.{sizesOk}
 use Rattle.format.specs.Types.{State}

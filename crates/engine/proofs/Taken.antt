@@ -21,7 +21,7 @@ use Rattle.engine.specs.Layout.{stateLength, outLength}
 use Rattle.engine.specs.Image.{over, image}
 use Rattle.engine.proofs.Used.{over-length}
 use Rattle.engine.proofs.ImageLaws.{image-length, image-again, read-image}
-use Rattle.engine.proofs.InPlace.{Holds}
+use Rattle.engine.specs.Holding.{Holds}
 use Rattle.engine.proofs.Refusals.{Ready}
 
 module _ (s : Server) (e : List ℕ) (t : Server) (rs : List (List ℕ)) (w : Bool) (g : List Action) (h : step s e ≡ taken t rs w g) where

@@ -9,8 +9,8 @@ use native.Mathlib.Omega.{arith}
 use lib.ListN.{length, take, drop, length-append, length-take, length-drop, length-replicate}
 use lib.Seq.{drop-at, take-at}
 use Rattle.base.specs.Bytes.{Bytes, bytesOf, joined}
-use Rattle.base.specs.BytesLaws.{joined-append, bytes-nil, bytes-small, bytes-append, bytes-cons, bytes-take, bytes-drop, bytes-joined}
-use Rattle.base.specs.ListLaws.{Each}
+use Rattle.base.proofs.BytesLaws.{joined-append, bytes-nil, bytes-small, bytes-append, bytes-cons, bytes-take, bytes-drop, bytes-joined}
+use Rattle.base.specs.Lists.{Each}
 use Rattle.format.specs.Types.{Id, Action, State, state}
 use Rattle.format.specs.Write.{write, idBytes, idsBytes, actionBytes, payloadBytes, primaryBytes, markBytes}
 use Rattle.format.proofs.Lengths.{action-length, payload-length}

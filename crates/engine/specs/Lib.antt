@@ -3,3 +3,4 @@ pub mod Image
 pub mod Header
 pub mod Decode
 pub mod Outcome
+pub mod Holding

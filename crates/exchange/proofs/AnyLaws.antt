@@ -5,8 +5,9 @@ use mathlib.Core.Path.{_≡_, sym, ap, _∙_}
 use mathlib.Core.Bool.{Bool, true, false, not}
 use mathlib.Core.List.{List}
 use borrow.Author.Tests.{not-false}
-use Rattle.base.specs.Tests.{_or_, pick, pick-yes}
-use Rattle.base.specs.Branches.{or-assoc, or-false}
+use Rattle.base.specs.Tests.{_or_, pick}
+use Rattle.base.proofs.TestLaws.{pick-yes}
+use Rattle.base.proofs.Branches.{or-assoc, or-false}
 use Rattle.base.specs.Lists.{any}
 use Rattle.base.specs.Sets.{inSet}
 use Rattle.format.specs.Types.{State}

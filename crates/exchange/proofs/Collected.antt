@@ -19,7 +19,7 @@ use Rattle.engine.specs.Decode.{statesAt, decoded, decodedAs, serversIn, quotaI
 use Rattle.engine.specs.Header.{headerOf, headerIn}
 use Rattle.engine.proofs.HeaderLaws.{header-loaded}
 use Rattle.engine.proofs.ImageLaws.{decoded-image}
-use Rattle.engine.proofs.InPlace.{Holds}
+use Rattle.engine.specs.Holding.{Holds}
 use Rattle.exchange.specs.View.{slotsIn}
 use Rattle.exchange.specs.Slots.{slotsOf, slotAt, stateIn, statesFrom, statesOf}
 

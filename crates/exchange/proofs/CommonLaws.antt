@@ -6,9 +6,10 @@ use mathlib.Core.Bool.{Bool, true}
 use mathlib.Core.List.{List, [], _∷_}
 use native.Mathlib.Omega.{arith}
 use lib.ListN.{length, take, drop, replicate, length-replicate}
-use Rattle.base.specs.Tests.{_and_, and-holds, pick, pick-as}
-use Rattle.base.specs.Lists.{all, filter}
-use Rattle.base.specs.ListLaws.{Each, replicate-at}
+use Rattle.base.specs.Tests.{_and_, pick}
+use Rattle.base.proofs.TestLaws.{and-holds, pick-as}
+use Rattle.base.specs.Lists.{all, filter, Each}
+use Rattle.base.proofs.ListLaws.{replicate-at}
 use Rattle.base.specs.Sets.{inSet}
 use Rattle.format.specs.Types.{Id, State, Yellow, Context as FormatContext}
 use Rattle.format.specs.Range.{idOk, hasId, idsInRange}

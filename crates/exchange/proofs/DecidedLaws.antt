@@ -22,7 +22,7 @@ use Rattle.replication.specs.Machine.Step.{theSet, hereSet, collected, allState
 use Rattle.engine.specs.Layout.{stateSize, atMe, atConfigurationSet, atStates, atCpcs}
 use Rattle.engine.specs.Header.{headerOf, headerIn, lastOf, markNumbers, setOf}
 use Rattle.engine.proofs.HeaderLaws.{header-loaded}
-use Rattle.engine.proofs.InPlace.{Holds}
+use Rattle.engine.specs.Holding.{Holds}
 use Rattle.engine.proofs.InRange.{in-range}
 use Rattle.exchange.specs.declared.slots.Slots.{Slots}
 use Rattle.exchange.specs.declared.plan.Number.the-variants.{Green, Cut}

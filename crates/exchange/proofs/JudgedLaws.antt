@@ -8,8 +8,9 @@ use native.Mathlib.Omega.{arith}
 use lib.Bits.{bitAnd}
 use lib.Dec.{eqb, ltb}
 use borrow.Author.Tests.{not-true, not-false}
-use Rattle.base.specs.Tests.{_and_, _or_, _=?_, _<?_, pick, pick-yes, pick-no, and-no, and-yes, both-yes, lt-yes, lt-no, eq-yes, eq-no, eq-holds, eq-fails, not-both, Known, known, holds, fails}
-use Rattle.base.specs.Branches.{told-eq, told-lt, and-answered, and-denied}
+use Rattle.base.specs.Tests.{_and_, _or_, _=?_, _<?_, pick}
+use Rattle.base.proofs.TestLaws.{pick-yes, pick-no, and-no, and-yes, both-yes, lt-yes, lt-no, eq-yes, eq-no, eq-holds, eq-fails, not-both, Known, known, holds, fails}
+use Rattle.base.proofs.Branches.{told-eq, told-lt, and-answered, and-denied}
 use Rattle.base.specs.Lists.{any}
 use Rattle.base.specs.Sets.{inSet, inside}
 use Rattle.format.specs.Limits.{mostIndex}

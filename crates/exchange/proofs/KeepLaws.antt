@@ -7,12 +7,14 @@ use mathlib.Core.List.{List, _∷_, _++_, append-assoc, append-nil}
 use native.Mathlib.Omega.{arith}
 use lib.Dec.{eqb}
 use lib.ListN.{length, getD, take, length-take}
-use Rattle.base.specs.Tests.{_=?_, _and_, pick, pick-yes, pick-no, and-no, and-yes, Known, known, holds, fails}
-use Rattle.base.specs.Branches.{told-eq}
+use Rattle.base.specs.Tests.{_=?_, _and_, pick}
+use Rattle.base.proofs.TestLaws.{pick-yes, pick-no, and-no, and-yes, Known, known, holds, fails}
+use Rattle.base.proofs.Branches.{told-eq}
 use Rattle.base.specs.Bytes.{joined, numberAt}
 use Rattle.base.specs.Lists.{filter}
-use Rattle.base.specs.Filters.{filter-yes, filter-no}
-use Rattle.base.specs.Patched.{patched, patched-until, patched-length}
+use Rattle.base.proofs.Filters.{filter-yes, filter-no}
+use Rattle.base.specs.Patched.{patched}
+use Rattle.base.proofs.PatchedLaws.{patched-until, patched-length}
 use Rattle.format.specs.Types.{Id}
 use Rattle.format.specs.Read.{idAt, idsAt}
 use Rattle.format.specs.Write.{idBytes, idsBytes}

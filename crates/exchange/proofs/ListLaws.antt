@@ -7,7 +7,7 @@ use mathlib.Core.List.{List}
 use mathlib.Core.Option.{none}
 use native.Mathlib.Omega.{arith}
 use lib.ListN.{length}
-use Rattle.base.specs.ListLaws.{each-there}
+use Rattle.base.proofs.ListLaws.{each-there}
 use Rattle.base.specs.Sets.{inSet}
 use Rattle.format.proofs.Ranges.{StateRange}
 use Rattle.format.proofs.IdCount.{ids-count}
@@ -15,7 +15,7 @@ use Rattle.replication.specs.Machine.Types.{Server, contextOf}
 use Rattle.engine.specs.Layout.{stateSize}
 use Rattle.engine.specs.Image.{senders}
 use Rattle.engine.proofs.InRange.{CollectedRange, in-range}
-use Rattle.engine.proofs.InPlace.{Holds}
+use Rattle.engine.specs.Holding.{Holds}
 use Rattle.exchange.specs.View.{slotsIn, OwnIfMeant, AllOwn}
 use Rattle.exchange.specs.declared.slots.Slots.{Slots}
 use Rattle.exchange.specs.Slots.{Space, slotsOf, slotAt, stateIn}

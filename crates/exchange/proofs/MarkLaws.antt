@@ -7,8 +7,9 @@ use mathlib.Core.List.{List, _∷_}
 use lib.Bits.{bitOr}
 use lib.Dec.{eqb}
 use borrow.Author.Tests.{not-true, not-false}
-use Rattle.base.specs.Tests.{_or_, _=?_, pick, pick-yes, pick-no, and-no, and-yes, lt-yes, lt-no, eq-yes, eq-no}
-use Rattle.base.specs.Branches.{told-eq, or-yes, or-no, and-answered, and-denied}
+use Rattle.base.specs.Tests.{_or_, _=?_, pick}
+use Rattle.base.proofs.TestLaws.{pick-yes, pick-no, and-no, and-yes, lt-yes, lt-no, eq-yes, eq-no}
+use Rattle.base.proofs.Branches.{told-eq, or-yes, or-no, and-answered, and-denied}
 use Rattle.base.specs.Lists.{any, filter}
 use Rattle.base.specs.Sets.{inSet, withMember, union}
 use Rattle.format.specs.Types.{State, Mark as FormatMark}

@@ -6,12 +6,13 @@ use mathlib.Core.Bool.{Bool, true, false, not}
 use mathlib.Core.List.{List, _∷_}
 use native.Mathlib.Omega.{arith}
 use native.Mathlib.Numerals.{add-one}
-use Rattle.base.specs.Tests.{_and_, _=?_, pick, pick-yes, pick-no, Known, known, holds, fails, and-holds, eq-holds, eq-fails}
+use Rattle.base.specs.Tests.{_and_, _=?_, pick}
+use Rattle.base.proofs.TestLaws.{pick-yes, pick-no, Known, known, holds, fails, and-holds, eq-holds, eq-fails}
 use borrow.Author.Tests.{not-true, not-false}
-use Rattle.base.specs.Branches.{and-answered, and-denied}
+use Rattle.base.proofs.Branches.{and-answered, and-denied}
 use Rattle.base.specs.Lists.{filter}
 use Rattle.base.specs.Sets.{inSet, withMember}
-use Rattle.base.specs.SetLaws.{in-empty, member-other, member-same}
+use Rattle.base.proofs.SetLaws.{in-empty, member-other, member-same}
 use Rattle.format.specs.Types.{State}
 use Rattle.exchange.specs.declared.slots.Slots.{Slots}
 use Rattle.exchange.specs.Slots.{Room, withHere, slotAt, stateIn, statesFrom, statesOf}

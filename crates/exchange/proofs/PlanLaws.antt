@@ -6,7 +6,8 @@ use mathlib.Core.Bool.{Bool, true, false, not}
 use mathlib.Core.List.{List}
 use native.Mathlib.Omega.{arith}
 use borrow.Author.Tests.{not-true, not-false}
-use Rattle.base.specs.Tests.{pick, pick-yes, pick-no}
+use Rattle.base.specs.Tests.{pick}
+use Rattle.base.proofs.TestLaws.{pick-yes, pick-no}
 use Rattle.base.specs.Sets.{inSet}
 use Rattle.format.specs.Types.{State}
 use Rattle.replication.specs.Machine.Plan.{highest, lowestFrom, lowest}

@@ -9,8 +9,9 @@ use lib.Bits.{bitAnd, and-le-l}
 use lib.Count.{ones, ones-le}
 use lib.Dec.{eqb, ltb}
 use borrow.Author.Tests.{not-false}
-use Rattle.base.specs.Tests.{_<?_, _and_, _=?_, pick, pick-yes, pick-no, and-no, and-yes, lt-yes, lt-no, eq-yes, eq-no}
-use Rattle.base.specs.Branches.{told-eq, told-lt, or-yes, or-no}
+use Rattle.base.specs.Tests.{_<?_, _and_, _=?_, pick}
+use Rattle.base.proofs.TestLaws.{pick-yes, pick-no, and-no, and-yes, lt-yes, lt-no, eq-yes, eq-no}
+use Rattle.base.proofs.Branches.{told-eq, told-lt, or-yes, or-no}
 use Rattle.base.specs.Lists.{filter}
 use Rattle.base.specs.Sets.{inSet, size, common}
 use Rattle.format.specs.Types.{State, Primary}

@@ -7,9 +7,10 @@ use mathlib.Core.List.{List, [], _∷_}
 use native.Mathlib.Omega.{arith}
 use lib.ListN.{length, getD, take, drop, set, length-drop}
 use lib.Seq.{take-all}
-use Rattle.base.specs.Tests.{_and_, pick, pick-yes, pick-no, both-yes, and-no, eq-yes, eq-no, Known, known, holds, fails}
+use Rattle.base.specs.Tests.{_and_, pick}
+use Rattle.base.proofs.TestLaws.{pick-yes, pick-no, both-yes, and-no, eq-yes, eq-no, Known, known, holds, fails}
 use borrow.Author.Tests.{not-false}
-use Rattle.base.specs.Branches.{and-false}
+use Rattle.base.proofs.Branches.{and-false}
 use Rattle.base.specs.Sets.{inSet}
 use Rattle.format.specs.Types.{Id, State, Context as FormatContext}
 use Rattle.format.specs.Range.{idOk}

@@ -7,7 +7,7 @@ use native.Mathlib.Omega.{arith}
 use lib.ListN.{length, take, drop, length-drop}
 use lib.Seq.{take-all}
 use Rattle.base.specs.Bytes.{numberAt}
-use Rattle.base.specs.BytesLaws.{numbers-at, number-drop}
+use Rattle.base.proofs.BytesLaws.{numbers-at, number-drop}
 use Rattle.format.specs.Types.{State}
 use Rattle.format.specs.Read.{stateAt}
 use Rattle.record.specs.Events.{headIn, stateFrom}

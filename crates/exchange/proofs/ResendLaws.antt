@@ -9,12 +9,13 @@ use native.Mathlib.Omega.{arith}
 use native.Mathlib.Numerals.{add-one}
 use lib.Dec.{eqb}
 use lib.ListN.{length}
-use Rattle.base.specs.Tests.{_and_, _=?_, pick-yes, pick-no, and-holds, not-both, Known, known, holds, fails}
-use Rattle.base.specs.Branches.{told-eq, and-answered}
+use Rattle.base.specs.Tests.{_and_, _=?_}
+use Rattle.base.proofs.TestLaws.{pick-yes, pick-no, and-holds, not-both, Known, known, holds, fails}
+use Rattle.base.proofs.Branches.{told-eq, and-answered}
 use Rattle.base.specs.Sets.{inSet}
 use Rattle.base.specs.Lists.{sum, below}
-use Rattle.base.specs.ListLaws.{above-length}
-use Rattle.base.specs.Totals.{sum-append}
+use Rattle.base.proofs.ListLaws.{above-length}
+use Rattle.base.proofs.Totals.{sum-append}
 use Rattle.format.specs.Types.{State}
 use Rattle.replication.specs.Machine.Plan.{highest, lowest, firstWith, resender, missing, planned, isMe, greenIn, cutIn}
 use Rattle.exchange.specs.declared.slots.Slots.{Slots}

@@ -10,11 +10,12 @@ use native.Mathlib.Omega.{arith}
 use lib.Bits.{bitAnd}
 use lib.Dec.{eqb}
 use lib.ListN.{length, getD, drop}
-use Rattle.base.specs.Tests.{pick, pick-yes, holds}
-use Rattle.base.specs.Branches.{told-eq, same-truth}
+use Rattle.base.specs.Tests.{pick}
+use Rattle.base.proofs.TestLaws.{pick-yes, holds}
+use Rattle.base.proofs.Branches.{told-eq, same-truth}
 use Rattle.base.specs.Lists.{isThere, sum}
 use Rattle.base.specs.Sets.{inSet, inside}
-use Rattle.base.specs.SetLaws.{members-inside, inside-member}
+use Rattle.base.proofs.SetLaws.{members-inside, inside-member}
 use Rattle.format.specs.Types.{State}
 use Rattle.format.specs.Read.{stateAt}
 use Rattle.replication.specs.Machine.Types.{Configuration, Server, contextOf}
@@ -27,7 +28,7 @@ use Rattle.engine.specs.Image.{senders}
 use Rattle.engine.specs.Decode.{statesAt}
 use Rattle.engine.proofs.InRange.{in-range}
 use Rattle.engine.proofs.Slots.{in-senders}
-use Rattle.engine.proofs.InPlace.{Holds}
+use Rattle.engine.specs.Holding.{Holds}
 use Rattle.exchange.specs.declared.slots.Slots.{Slots}
 use Rattle.exchange.specs.View.{slotsIn}
 use Rattle.exchange.specs.Slots.{Room, slotsOf, slotAt, stateIn}

@@ -7,10 +7,11 @@ use mathlib.Core.List.{List, [], _∷_}
 use native.Mathlib.Nat.{mul-le-mul-right}
 use native.Mathlib.Omega.{arith}
 use lib.ListN.{length}
-use Rattle.base.specs.Tests.{pick, pick-yes, pick-no, Known, known, holds, fails}
+use Rattle.base.specs.Tests.{pick}
+use Rattle.base.proofs.TestLaws.{pick-yes, pick-no, Known, known, holds, fails}
 use lib.Bits.{bitOr}
 use Rattle.base.specs.Sets.{inSet, withMember}
-use Rattle.base.specs.SetLaws.{power-below, member-below}
+use Rattle.base.proofs.SetLaws.{power-below, member-below}
 use mir.Syntax.{w8}
 use mir.Val.{Fits}
 use Rattle.format.specs.Types.{State}

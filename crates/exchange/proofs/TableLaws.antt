@@ -8,10 +8,10 @@ use native.Mathlib.Omega.{arith}
 use native.Mathlib.Nat.{zero-add}
 use lib.ListN.{length, getD, set, length-set}
 use lib.Seq.{getD-set-same, getD-set-other}
-use Rattle.base.specs.Tests.{_=?_, _and_, _or_, pick, pick-yes, pick-no, and-holds, both-yes, and-no, pick-either, eq-yes, eq-no, Known, known, holds, fails}
-use Rattle.base.specs.Branches.{and-true, and-false}
-use Rattle.base.specs.Lists.{all}
-use Rattle.base.specs.ListLaws.{Each}
+use Rattle.base.specs.Tests.{_=?_, _and_, _or_, pick}
+use Rattle.base.proofs.TestLaws.{pick-yes, pick-no, and-holds, both-yes, and-no, pick-either, eq-yes, eq-no, Known, known, holds, fails}
+use Rattle.base.proofs.Branches.{and-true, and-false}
+use Rattle.base.specs.Lists.{all, Each}
 use Rattle.format.specs.Types.{Id, State, Context}
 use Rattle.format.specs.Range.{idOk, sameId, hasId, idsInRange}
 use Rattle.format.proofs.Ranges.{IdRange, id-range}

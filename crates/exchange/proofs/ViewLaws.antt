@@ -10,10 +10,10 @@ use native.Mathlib.Omega.{arith}
 use lib.Dec.{leb}
 use lib.ListN.{length, getD, List·getD-eq-default}
 use borrow.Author.Tests.{not-true, not-false}
-use Rattle.base.specs.Tests.{not-both, le-holds, le-yes}
-use Rattle.base.specs.Branches.{told-le}
+use Rattle.base.proofs.TestLaws.{not-both, le-holds, le-yes}
+use Rattle.base.proofs.Branches.{told-le}
 use Rattle.base.specs.Bytes.{numberAt}
-use Rattle.base.specs.BytesLaws.{number1}
+use Rattle.base.proofs.BytesLaws.{number1}
 use Rattle.base.specs.Lists.{sum}
 use Rattle.base.specs.Sets.{inSet}
 use Rattle.format.specs.Range.{sizesOk}
@@ -27,7 +27,7 @@ use Rattle.replication.specs.Machine.Types.{Configuration, Server, contextOf, s
 use Rattle.engine.specs.Layout.{stateSize, sections, offset, stateLength, headerSize}
 use Rattle.engine.specs.Header.{headerOf, headerIn, statusOf, setOf as setNumber}
 use Rattle.engine.proofs.HeaderLaws.{header-loaded}
-use Rattle.engine.proofs.InPlace.{Holds}
+use Rattle.engine.specs.Holding.{Holds}
 use Rattle.engine.proofs.InRange.{in-range}
 use Rattle.engine.proofs.Refusals.{formed-sizes}
 use Rattle.exchange.specs.declared.slots.Slots.{Slots}

@@ -6,7 +6,7 @@ use mathlib.Core.Bool.{true}
 use mathlib.Core.List.{List}
 use lib.Dec.{eqb}
 use Rattle.base.specs.Tests.{_=?_}
-use Rattle.base.specs.Branches.{told-eq}
+use Rattle.base.proofs.Branches.{told-eq}
 use Rattle.base.specs.Lists.{filter}
 use Rattle.base.specs.Sets.{inSet}
 use Rattle.format.specs.Types.{State, Primary, Yellow}

@@ -11,7 +11,7 @@ use Rattle.record.specs.Context.{readingContext, ContextIn}
 use Rattle.record.specs.declared.Context.{Context}
 use Rattle.engine.specs.Image.{senders}
 use Rattle.engine.specs.Header.{headerOf}
-use Rattle.engine.proofs.InPlace.{Holds}
+use Rattle.engine.specs.Holding.{Holds}
 use Rattle.exchange.specs.declared.slots.Slots.{Slots}
 use Rattle.exchange.specs.Slots.{Room, slotsOf, stateIn}
 use Rattle.format.specs.Places.{stateHeadSize}

@@ -6,7 +6,7 @@ ghost use Rattle.replication.specs.Machine.Types.{Server};
 ghost use Rattle.replication.specs.Machine.Plan.{greenIn, cutIn};
 ghost use Rattle.replication.specs.Machine.Exchange.{takenVotes, takenYellow, quorum as hasQuorum};
 ghost use Rattle.replication.specs.Machine.Step.{hereSet, collected, allStatesIn, allCpcsIn, plannedNow};
-ghost use Rattle.engine.proofs.InPlace.{Holds};
+ghost use Rattle.engine.specs.Holding.{Holds};
 ghost use Rattle.exchange.specs.Slots.{Room, statesOf};
 ghost use Rattle.exchange.specs.Numbers.{numberIn, Within};
 ghost use Rattle.exchange.specs.Table.{Listed};

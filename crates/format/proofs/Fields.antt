@@ -7,10 +7,10 @@ use mathlib.Core.List.{List, [], _∷_}
 use native.Mathlib.Nat.{mul-le-mul}
 use native.Mathlib.Omega.{arith}
 use lib.ListN.{length}
-use Rattle.base.specs.Tests.{and-holds, le-holds}
+use Rattle.base.proofs.TestLaws.{and-holds, le-holds}
 use Rattle.base.specs.Bytes.{bytesOf, numberAt, numbersAt, partAt}
-use Rattle.base.specs.BytesLaws.{bytes-length}
-use Rattle.base.specs.Occurs.{Occurs, joined-parts, occurs-at, number-read}
+use Rattle.base.proofs.BytesLaws.{bytes-length}
+use Rattle.base.proofs.Occurs.{Occurs, joined-parts, occurs-at, number-read}
 use Rattle.format.specs.Limits.{mostServers, mostQuota}
 use Rattle.format.specs.Types.{Id, Action, Primary, Mark, Yellow, State, Context}
 use Rattle.format.specs.Range.{cutsOk, idsInRange}

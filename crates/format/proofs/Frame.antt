@@ -6,7 +6,7 @@ use mathlib.Core.List.{List}
 use native.Mathlib.Omega.{arith}
 use lib.ListN.{length}
 use Rattle.base.specs.Bytes.{Bytes, bytesOf, numberAt}
-use Rattle.base.specs.Occurs.{Occurs, joined-parts, parts-joined, occurs-whole, occurs-all, number-read, number-occurs}
+use Rattle.base.proofs.Occurs.{Occurs, joined-parts, parts-joined, occurs-whole, occurs-all, number-read, number-occurs}
 use Rattle.format.specs.Limits.{version}
 use Rattle.format.specs.Write.{framed}
 use Rattle.format.proofs.Lengths.{framed-length}

@@ -6,8 +6,8 @@ use mathlib.Core.Bool.{true, false}
 use mathlib.Core.List.{List, [], _∷_}
 use native.Mathlib.Omega.{arith}
 use lib.ListN.{length, getD}
-use Rattle.base.specs.Tests.{not-both, and-holds, both-yes, not-holds, or-fails, eq-yes}
-use Rattle.base.specs.Pigeonhole.{pigeonhole, pair-below, pair-first, pair-second}
+use Rattle.base.proofs.TestLaws.{not-both, and-holds, both-yes, not-holds, or-fails, eq-yes}
+use Rattle.base.proofs.Pigeonhole.{pigeonhole, pair-below, pair-first, pair-second}
 use Rattle.format.specs.Types.{Id, Context}
 use Rattle.format.specs.Range.{sameId, hasId, idsDiffer, idsInRange}
 use Rattle.format.proofs.Ranges.{IdRange, id-range}

@@ -7,7 +7,7 @@ use mathlib.Core.List.{List, [], _∷_}
 use native.Mathlib.Omega.{arith}
 use native.Mathlib.Nat.{mul-le-mul}
 use lib.ListN.{length, length-append}
-use Rattle.base.specs.Tests.{and-holds}
+use Rattle.base.proofs.TestLaws.{and-holds}
 use Rattle.base.specs.Bytes.{bytesOf, joined}
 use Rattle.format.specs.Limits.{mostServers, mostQuota}
 use Rattle.format.specs.Types.{Id, Action, Primary, Mark, State, Record, action, retransmission, state, cpc, regular, transitional, request, recovery, kindNumber, kindOf, Context}

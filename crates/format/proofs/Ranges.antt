@@ -7,9 +7,9 @@ use mathlib.Core.List.{List}
 use native.Mathlib.Nat.{mul-le-mul, pow-le-pow-right}
 use native.Mathlib.Omega.{arith}
 use lib.ListN.{length}
-use Rattle.base.specs.Tests.{and-holds, le-holds, lt-holds, eq-holds}
+use Rattle.base.proofs.TestLaws.{and-holds, le-holds, lt-holds, eq-holds}
 use Rattle.base.specs.Bytes.{Bytes}
-use Rattle.base.specs.BytesLaws.{are-bytes}
+use Rattle.base.proofs.BytesLaws.{are-bytes}
 use Rattle.format.specs.Limits.{fewestServers, mostServers, leastQuota, mostQuota, mostPayload, mostIndex}
 use Rattle.format.specs.Types.{Id, Action, Primary, Mark, Yellow, State, Context}
 use Rattle.format.specs.Range.{sizesOk, contextOk, idOk, lengthOk, payloadOk, actionOk, cutsOk, indexOk, setOk, statusOk, primaryOk, markOk, idsInRange, idsDiffer, idsOk, yellowOk, configurationOk, stateOk}

@@ -7,7 +7,8 @@ use mathlib.Core.List.{List}
 use mathlib.Core.Logic.{_⊎_, inl, inr}
 use mathlib.Core.Option.{Option, none, some}
 use native.Mathlib.Omega.{arith}
-use Rattle.base.specs.Tests.{_=?_, pick, pick-yes, eq-holds}
+use Rattle.base.specs.Tests.{_=?_, pick}
+use Rattle.base.proofs.TestLaws.{pick-yes, eq-holds}
 use Rattle.base.specs.Bytes.{numberAt}
 use Rattle.format.specs.Types.{Record, Kind, ofAction, ofRetransmission, ofState, ofCpc, ofRegular, ofTransitional, ofRequest, ofRecovery, kindNumber, kindOf, Context, Reading, says, refused}
 use Rattle.format.specs.Range.{recordOk}

@@ -6,10 +6,10 @@ use mathlib.Core.Bool.{true}
 use mathlib.Core.List.{List}
 use native.Mathlib.Omega.{arith}
 use lib.ListN.{length}
-use Rattle.base.specs.Tests.{and-holds, both-yes, eq-yes, eq-holds, lt-holds}
+use Rattle.base.proofs.TestLaws.{and-holds, both-yes, eq-yes, eq-holds, lt-holds}
 use Rattle.base.specs.Bytes.{Bytes, bytesOf, numberAt}
-use Rattle.base.specs.BytesLaws.{part-length, numbers-length}
-use Rattle.base.specs.Occurs.{Occurs, joined-parts, parts-joined, occurs-nil, number-read, number-occurs}
+use Rattle.base.proofs.BytesLaws.{part-length, numbers-length}
+use Rattle.base.proofs.Occurs.{Occurs, joined-parts, parts-joined, occurs-nil, number-read, number-occurs}
 use Rattle.format.specs.Types.{Record, action, retransmission, state, cpc, regular, transitional, request, recovery, Kind, ofAction, ofRetransmission, ofState, ofCpc, ofRegular, ofTransitional, ofRequest, ofRecovery, kindNumber, kindOf, Context, says}
 use Rattle.format.specs.Range.{fieldsOk, recordOk, ownSetOk}
 use Rattle.format.specs.Write.{bodyOf, write, lengthOf}

@@ -7,10 +7,10 @@ use mathlib.Core.List.{List, [], _∷_}
 use mathlib.Core.Logic.{_⊎_, inl, inr}
 use native.Mathlib.Omega.{arith}
 use lib.ListN.{length}
-use Rattle.base.specs.Tests.{pick-yes, and-holds, both-yes, eq-yes, eq-holds}
+use Rattle.base.proofs.TestLaws.{pick-yes, and-holds, both-yes, eq-yes, eq-holds}
 use Rattle.base.specs.Bytes.{Bytes, bytesOf, numberAt, joined}
-use Rattle.base.specs.BytesLaws.{bytes-small, bytes-joined}
-use Rattle.base.specs.Occurs.{Occurs, joined-parts, parts-joined, number-read, number-occurs}
+use Rattle.base.proofs.BytesLaws.{bytes-small, bytes-joined}
+use Rattle.base.proofs.Occurs.{Occurs, joined-parts, parts-joined, number-read, number-occurs}
 use Rattle.format.specs.Types.{says, refused}
 use Rattle.format.specs.Write.{framed}
 use Rattle.format.specs.Setup.{Setup, writeSetup, setupIn, setupFrameOk, setupOk, readSetup}

@@ -4,9 +4,9 @@ use Prim.Native.Nat.{ℕ}
 use mathlib.Core.Path.{_≡_}
 use mathlib.Core.Bool.{true}
 use mathlib.Core.List.{List, [], _∷_}
-use Rattle.base.specs.Tests.{and-holds}
+use Rattle.base.proofs.TestLaws.{and-holds}
 use Rattle.base.specs.Bytes.{Bytes}
-use Rattle.base.specs.BytesLaws.{bytes-nil, bytes-small, bytes-joined}
+use Rattle.base.proofs.BytesLaws.{bytes-nil, bytes-small, bytes-joined}
 use Rattle.format.specs.Types.{Id, Action, Primary, Mark, Yellow, State, Record, action, retransmission, state, cpc, regular, transitional, request, recovery, Context}
 use Rattle.format.specs.Range.{actionOk, fieldsOk, recordOk}
 use Rattle.format.specs.Write.{framed, payloadBytes, idBytes, actionBytes, cutsBytes, primaryBytes, markBytes, idsBytes, yellowBytes, stateBytes, bodyOf, write}

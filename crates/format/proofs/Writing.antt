@@ -6,8 +6,8 @@ use mathlib.Core.List.{List, _∷_}
 use native.Mathlib.Omega.{arith}
 use lib.ListN.{length}
 use Rattle.base.specs.Bytes.{Bytes, bytesOf, numberAt, numbersAt, partAt}
-use Rattle.base.specs.BytesLaws.{part-length, numbers-length}
-use Rattle.base.specs.Occurs.{Occurs, parts-joined, occurs-nil, occurs-at, number-occurs, part-occurs}
+use Rattle.base.proofs.BytesLaws.{part-length, numbers-length}
+use Rattle.base.proofs.Occurs.{Occurs, parts-joined, occurs-nil, occurs-at, number-occurs, part-occurs}
 use Rattle.format.specs.Write.{payloadBytes, idBytes, actionBytes, cutsBytes, primaryBytes, markBytes, idsBytes, yellowBytes, stateBytes}
 use Rattle.format.specs.Read.{payloadAt, idAt, actionAt, primaryAt, markAt, idsAt, yellowAt, stateAt}
 use Rattle.format.proofs.Lengths.{id-length, primary-length, mark-length, cuts-length}

@@ -8,7 +8,7 @@ use mathlib.Core.Logic.{inl}
 use native.Mathlib.Omega.{arith}
 use lib.ListN.{length, getD}
 use Rattle.base.specs.Bytes.{joined}
-use Rattle.base.specs.Prefixes.{begins-refl, begins-append}
+use Rattle.base.proofs.Prefixes.{begins-refl, begins-append}
 use Rattle.format.specs.Limits.{mostIndex}
 use Rattle.format.specs.Types.{Id}
 use Rattle.replication.specs.Machine.Types.{Log, Server, withLog, withVotes, noYellow}
@@ -27,7 +27,8 @@ use Rattle.engine.proofs.HeaderLaws.{header-loaded}
 use Rattle.engine.specs.Decode.{decoded}
 use Rattle.engine.proofs.Fit.{well-formed-fits, image-section, image-rest}
 use Rattle.engine.proofs.Again.{parts-again}
-use Rattle.engine.proofs.InPlace.{Holds, holds-section, HoldsSome, such-decoded, holds-decoded, image-holds, holds-some}
+use Rattle.engine.specs.Holding.{Holds, HoldsSome}
+use Rattle.engine.proofs.InPlace.{holds-section, such-decoded, holds-decoded, image-holds, holds-some}
 use Rattle.queue.proofs.Holding.{log-formed, log-fits}
 use Rattle.lists.proofs.MembershipLaws.{Saved}
 use Rattle.install.specs.Swaps.{greenSwaps}

@@ -9,10 +9,10 @@ use native.Mathlib.Numerals.{add-one}
 use native.Mathlib.Omega.{arith}
 use lib.ListN.{length, getD, take}
 use lib.Seq.{take-all, take-suc, length-take-le}
-use Rattle.base.specs.AtLaws.{take-next}
+use Rattle.base.proofs.AtLaws.{take-next}
 use Rattle.base.specs.Bytes.{numberAt}
 use Rattle.base.specs.Lists.{above, after, at}
-use Rattle.base.specs.ListLaws.{each-at, above-more}
+use Rattle.base.proofs.ListLaws.{each-at, above-more}
 use Rattle.format.specs.Types.{Id}
 use Rattle.format.specs.Read.{idAt, idsAt}
 use Rattle.record.specs.Values.{idOf}
@@ -27,7 +27,8 @@ use Rattle.queue.proofs.Holding.{numbers}
 use Rattle.queue.proofs.RedLaws.{cut-read}
 use Rattle.lists.specs.Lists.{yellowCount, place}
 use Rattle.lists.proofs.Counts.{holds-ids, holds-place, holds-yellow-count}
-use Rattle.engine.proofs.InPlace.{HoldsSome, such-decoded}
+use Rattle.engine.specs.Holding.{HoldsSome}
+use Rattle.engine.proofs.InPlace.{such-decoded}
 use Rattle.install.specs.Table.{logIn, yellowsIn, idsOf, InTable, Indexed, Turned}
 use Rattle.install.proofs.SwapFits.{swaps-kept}
 use Rattle.install.proofs.Turning.{turned-decoded, turned-append, turned-none}

@@ -6,10 +6,12 @@ use mathlib.Core.Bool.{true}
 use mathlib.Core.List.{List, [], _∷_}
 use mathlib.Core.Option.{some}
 use native.Mathlib.Omega.{arith}
-use Rattle.base.specs.AtLaws.{none-some, some-same}
-use Rattle.base.specs.Counts.{one, one-yes}
+use Rattle.base.proofs.AtLaws.{none-some, some-same}
+use Rattle.base.specs.Counts.{one}
+use Rattle.base.proofs.CountLaws.{one-yes}
 use Rattle.base.specs.Lists.{at}
-use Rattle.base.specs.Tests.{pick, Known, holds, fails, known}
+use Rattle.base.specs.Tests.{pick}
+use Rattle.base.proofs.TestLaws.{Known, holds, fails, known}
 use Rattle.format.specs.Types.{Id, Action}
 use Rattle.format.specs.Range.{sameId}
 use Rattle.replication.proofs.WellFormed.Ids.{same-id-yes, same-id-holds}

@@ -6,9 +6,11 @@ use mathlib.Core.List.{List, [], _∷_, _++_}
 use mathlib.Core.Option.{some}
 use native.Mathlib.Omega.{arith}
 use lib.ListN.{length, length-append, length-set}
-use Rattle.base.specs.Counts.{count-append, count-single}
-use Rattle.base.specs.ListLaws.{Each, each-append, each-set}
-use Rattle.base.specs.Tests.{_≤?_, le-holds, le-fails, Known, holds, fails, known}
+use Rattle.base.proofs.CountLaws.{count-append, count-single}
+use Rattle.base.specs.Lists.{Each}
+use Rattle.base.proofs.ListLaws.{each-append, each-set}
+use Rattle.base.specs.Tests.{_≤?_}
+use Rattle.base.proofs.TestLaws.{le-holds, le-fails, Known, holds, fails, known}
 use Rattle.format.specs.Types.{Id, Action}
 use Rattle.format.specs.Range.{sameId}
 use Rattle.replication.specs.Machine.Types.{Log}

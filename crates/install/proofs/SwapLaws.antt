@@ -8,8 +8,10 @@ use mathlib.Core.Option.{none, some, Option·none-ne-some}
 use native.Mathlib.Omega.{arith}
 use lib.ListN.{length}
 use lib.Seq.{set-append-seam}
-use Rattle.base.specs.Counts.{count, one, one-yes, count-append}
-use Rattle.base.specs.Tests.{_≤?_, le-holds, le-fails, pick, Known, holds, fails, known}
+use Rattle.base.specs.Counts.{count, one}
+use Rattle.base.proofs.CountLaws.{one-yes, count-append}
+use Rattle.base.specs.Tests.{_≤?_, pick}
+use Rattle.base.proofs.TestLaws.{le-holds, le-fails, Known, holds, fails, known}
 use Rattle.format.specs.Types.{Id, Action}
 use Rattle.format.specs.Range.{sameId}
 use Rattle.replication.specs.Machine.Types.{Log}

@@ -8,13 +8,13 @@ use native.Mathlib.Omega.{arith}
 use native.Mathlib.Nat.{add-zero}
 use lib.ListN.{length, take, drop, set, length-append, length-set}
 use lib.Seq.{set-append-seam, take-append-add, drop-append-add}
-use Rattle.base.specs.AtLaws.{none-some, some-same, at-low}
+use Rattle.base.proofs.AtLaws.{none-some, some-same, at-low}
 use Rattle.base.specs.Bytes.{bytesOf, numberAt, partAt, joined}
-use Rattle.base.specs.BytesLaws.{bytes-length}
-use Rattle.base.specs.Lists.{sum, at}
-use Rattle.base.specs.Gathered.{at-second}
-use Rattle.base.specs.ListLaws.{Each, each-at, each-set}
-use Rattle.base.specs.Occurs.{Occurs, occurs-first, occurs-second}
+use Rattle.base.proofs.BytesLaws.{bytes-length}
+use Rattle.base.specs.Lists.{sum, at, Each}
+use Rattle.base.proofs.Gathered.{at-second}
+use Rattle.base.proofs.ListLaws.{each-at, each-set}
+use Rattle.base.proofs.Occurs.{Occurs, occurs-first, occurs-second}
 use Rattle.base.specs.Patched.{patched}
 use Rattle.format.specs.Types.{Id, Action}
 use Rattle.format.specs.Write.{actionBytes}
@@ -26,7 +26,7 @@ use Rattle.engine.proofs.InRange.{in-range}
 use Rattle.engine.proofs.Used.{ActionFits, action-slot-length, action-slots-length}
 use Rattle.engine.proofs.Fit.{well-formed-fits}
 use Rattle.engine.proofs.Decoded.{image-part}
-use Rattle.engine.proofs.InPlace.{Holds}
+use Rattle.engine.specs.Holding.{Holds}
 use Rattle.queue.specs.Queue.{position, queueAt}
 use Rattle.install.specs.Swaps.{swapOut, greenFound, greenSwap, exchanged, greenAt}
 use Rattle.queue.proofs.Inside.{changed-at, over-changed}

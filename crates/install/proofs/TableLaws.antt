@@ -8,12 +8,12 @@ use native.Mathlib.Decide.{ℕ-discrete}
 use native.Mathlib.Omega.{arith}
 use lib.ListN.{length, getD, set, replicate, length-set, length-replicate}
 use lib.Seq.{getD-set-same, getD-set-other}
-use Rattle.base.specs.AtLaws.{some-same, at-low}
+use Rattle.base.proofs.AtLaws.{some-same, at-low}
 use Rattle.base.specs.Bytes.{numberAt}
-use Rattle.base.specs.Counts.{count-map}
+use Rattle.base.proofs.CountLaws.{count-map}
 use Rattle.base.specs.Lists.{at}
-use Rattle.base.specs.ListLaws.{each-at}
-use Rattle.base.specs.Tests.{Known, holds, fails, known}
+use Rattle.base.proofs.ListLaws.{each-at}
+use Rattle.base.proofs.TestLaws.{Known, holds, fails, known}
 use Rattle.format.specs.Limits.{mostServers, mostQuota}
 use Rattle.format.specs.Types.{Id, Action}
 use Rattle.format.specs.Range.{sameId}
@@ -26,7 +26,8 @@ use Rattle.replication.specs.Machine.WellFormed.{queue, idsIn}
 use Rattle.engine.specs.Layout.{slotSize, atQueueLength, atGreenLength}
 use Rattle.engine.specs.Decode.{decoded}
 use Rattle.engine.proofs.InRange.{in-range}
-use Rattle.engine.proofs.InPlace.{Holds, HoldsSome, such-decoded, such-header}
+use Rattle.engine.specs.Holding.{Holds, HoldsSome}
+use Rattle.engine.proofs.InPlace.{such-decoded, such-header}
 use Rattle.queue.specs.Queue.{queueCount, greenCount, queueAt, CountsIn}
 use Rattle.queue.proofs.Holding.{numbers, log-fits, queue-parts, holds-counts}
 use Rattle.lists.proofs.Counts.{holds-counts as holds-lists}

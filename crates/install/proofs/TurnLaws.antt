@@ -9,11 +9,12 @@ use native.Mathlib.Decide.{ℕ-discrete}
 use native.Mathlib.Omega.{arith}
 use lib.ListN.{length, getD, set, length-append, length-set}
 use lib.Seq.{getD-set-same, getD-set-other}
-use Rattle.base.specs.AtLaws.{some-same, at-set-same, at-set-other}
+use Rattle.base.proofs.AtLaws.{some-same, at-set-same, at-set-other}
 use Rattle.base.specs.Bytes.{numberAt}
-use Rattle.base.specs.Gathered.{at-second}
+use Rattle.base.proofs.Gathered.{at-second}
 use Rattle.base.specs.Lists.{at}
-use Rattle.base.specs.Tests.{_≤?_, not-both, le-holds, le-fails, Known, holds, fails, known}
+use Rattle.base.specs.Tests.{_≤?_}
+use Rattle.base.proofs.TestLaws.{not-both, le-holds, le-fails, Known, holds, fails, known}
 use Rattle.format.specs.Limits.{mostServers, mostQuota}
 use Rattle.format.specs.Types.{Id, Action}
 use Rattle.format.specs.Range.{sameId}
@@ -25,7 +26,8 @@ use Rattle.replication.proofs.WellFormed.Ids.{same-id-yes, same-id-holds}
 use Rattle.engine.specs.Layout.{slotSize, atQueueLength, atGreenLength}
 use Rattle.engine.specs.Image.{image}
 use Rattle.engine.specs.Decode.{decoded}
-use Rattle.engine.proofs.InPlace.{Holds, such-decoded}
+use Rattle.engine.specs.Holding.{Holds}
+use Rattle.engine.proofs.InPlace.{such-decoded}
 use Rattle.queue.specs.Queue.{position, queueCount, greenCount, queueAt}
 use Rattle.queue.proofs.Holding.{log-fits}
 use Rattle.queue.proofs.Positions.{Stands, position-found, position-most}

@@ -19,7 +19,8 @@ use Rattle.engine.specs.Image.{actionSlots, image}
 use Rattle.engine.specs.Decode.{decoded}
 use Rattle.engine.proofs.Used.{action-slots-length}
 use Rattle.engine.proofs.Fit.{well-formed-fits}
-use Rattle.engine.proofs.InPlace.{Holds, such-decoded, holds-decoded, image-holds, holds-some, HoldsSome}
+use Rattle.engine.specs.Holding.{Holds, HoldsSome}
+use Rattle.engine.proofs.InPlace.{such-decoded, holds-decoded, image-holds, holds-some}
 use Rattle.queue.proofs.Holding.{log-formed, log-fits, holds-counts}
 use Rattle.queue.proofs.GreenLaws.{log-image-over}
 use Rattle.lists.proofs.Counts.{holds-counts as holds-lists}

@@ -14,7 +14,7 @@ use Rattle.replication.specs.Machine.Colours.{cut}
 use Rattle.replication.specs.Machine.WellFormed.{queue}
 use Rattle.engine.specs.Image.{image}
 use Rattle.engine.specs.Decode.{decoded}
-use Rattle.engine.proofs.InPlace.{HoldsSome}
+use Rattle.engine.specs.Holding.{HoldsSome}
 use Rattle.queue.specs.Queue.{position, CountsIn}
 use Rattle.lists.specs.Lists.{CountsIn as ListsIn}
 use Rattle.install.specs.Swaps.{greenSwaps}

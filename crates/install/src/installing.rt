@@ -4,9 +4,8 @@ ghost use Prim.Native.Nat.{_≤_};
 ghost use Rattle.format.specs.Limits.{mostIndex};
 ghost use Rattle.replication.specs.Machine.Types.{Server, withLog, withVotes};
 ghost use Rattle.replication.specs.Machine.Install.{installLog, installVotes, install as installed};
-ghost use Rattle.engine.specs.Image.{image};
 ghost use Rattle.engine.specs.Header.{lastOf, headerOf};
-ghost use Rattle.engine.proofs.InPlace.{Holds, HoldsSome};
+ghost use Rattle.engine.specs.Holding.{HoldsSome, Becomes};
 use crate::passes::turn_rest;
 use crate::passes::turn_yellow;
 use crate::table::table;
@@ -20,7 +19,7 @@ use record::State;
 // "yellow list green in order, ids not held passed over" .. "all other reds green by creator, then index"
 pub fn install_log(state: &mut [u8])
     requires { ⌜ HoldsSome (now state) ⌝ }
-    ensures { λ _. ⌜ ((s : Server) → Holds s (now (state .entry)) → now (state .exit) ≡ image (withLog (installLog (s .votes .yellow .ids) (s .log)) s) (now (state .entry))) ⌝ }
+    ensures { λ _. ⌜ Becomes (λ s. withLog (installLog (s .votes .yellow .ids) (s .log)) s) (now (state .entry)) (now (state .exit)) ⌝ }
 {
     let mut places = table(state);
     turn_yellow(state, &mut places);
@@ -60,7 +59,7 @@ fn with_votes(h: State) -> State
 // The votes' part: the new primary component, "attempt 0", "yellow empty and invalid".
 fn install_votes(state: &mut [u8])
     requires { ⌜ HoldsSome (now state) ⌝ }
-    ensures { λ _. ⌜ ((s : Server) → Holds s (now (state .entry)) → now (state .exit) ≡ image (withVotes (installVotes (s .votes)) s) (now (state .entry))) ⌝ }
+    ensures { λ _. ⌜ Becomes (λ s. withVotes (installVotes (s .votes)) s) (now (state .entry)) (now (state .exit)) ⌝ }
 {
     let h = load(state);
     let t = with_votes(h);
@@ -70,7 +69,7 @@ fn install_votes(state: &mut [u8])
 // Install.
 pub fn install(state: &mut [u8])
     requires { ⌜ HoldsSome (now state) ⌝ }
-    ensures { λ _. ⌜ ((s : Server) → Holds s (now (state .entry)) → now (state .exit) ≡ image (installed s) (now (state .entry))) ⌝ }
+    ensures { λ _. ⌜ Becomes installed (now (state .entry)) (now (state .exit)) ⌝ }
 {
     install_log(state);
     install_votes(state);

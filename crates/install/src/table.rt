@@ -7,7 +7,7 @@ ghost use Rattle.format.specs.Read.{idAt};
 ghost use Rattle.record.specs.Values.{idOf, slot};
 ghost use Rattle.engine.specs.Layout.{slotSize};
 ghost use Rattle.queue.specs.Queue.{queueCount, greenCount, queueAt, CountsIn};
-ghost use Rattle.engine.proofs.InPlace.{HoldsSome};
+ghost use Rattle.engine.specs.Holding.{HoldsSome};
 ghost use Rattle.install.specs.Table.{redPlace, InTable, Indexed, Turned};
 use crate::swapping::green_at;
 use queue::finding::has_id;

@@ -5,14 +5,14 @@ use mathlib.Core.Path.{_≡_, ap, ap₂, subst, _∙_}
 use mathlib.Core.List.{List, [], _++_}
 use lib.ListN.{getD}
 use Rattle.base.specs.Bytes.{joined}
-use Rattle.base.specs.Occurs.{Occurs}
+use Rattle.base.proofs.Occurs.{Occurs}
 use Rattle.base.specs.Patched.{patched}
 use Rattle.replication.specs.Machine.Types.{Server}
 use Rattle.engine.specs.Layout.{sections, offset, stateLength}
 use Rattle.engine.specs.Image.{parts, image}
 use Rattle.engine.proofs.Decoded.{image-part}
 use Rattle.engine.proofs.Fit.{well-formed-fits}
-use Rattle.engine.proofs.InPlace.{Holds}
+use Rattle.engine.specs.Holding.{Holds}
 use Rattle.queue.proofs.Inside.{Changed}
 
 -- Where the parts have become those of t.

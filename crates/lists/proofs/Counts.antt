@@ -17,7 +17,8 @@ use Rattle.engine.specs.Header.{headerOf, headerIn}
 use Rattle.engine.specs.Decode.{serversIn, quotaIn, decoded, decodedAs}
 use Rattle.engine.proofs.InRange.{InRange, in-range}
 use Rattle.engine.proofs.HeaderLaws.{header-loaded}
-use Rattle.engine.proofs.InPlace.{Holds, holds-decoded}
+use Rattle.engine.specs.Holding.{Holds}
+use Rattle.engine.proofs.InPlace.{holds-decoded}
 use Rattle.lists.specs.Lists.{numberedIn, ownCount, heldCount, yellowCount, place, CountsIn}
 
 module _ (s : Server) (b : List ℕ) (r : Holds s b) where

@@ -17,7 +17,7 @@ use Rattle.replication.proofs.WellFormed.Runs.{start-well-formed}
 use Rattle.engine.specs.Layout.{stateLength}
 use Rattle.engine.specs.Image.{image}
 use Rattle.engine.proofs.ImageLaws.{image-again, image-length}
-use Rattle.engine.proofs.InPlace.{Holds}
+use Rattle.engine.specs.Holding.{Holds}
 use Rattle.lists.specs.Lists.{CountsIn}
 use Rattle.lists.proofs.Counts.{holds-counts}
 

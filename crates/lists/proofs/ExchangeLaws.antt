@@ -8,7 +8,7 @@ use mathlib.Core.Option.{Option, none, some}
 use native.Mathlib.Nat.{mul-le-mul}
 use native.Mathlib.Omega.{arith}
 use lib.ListN.{length}
-use Rattle.base.specs.Prefixes.{begins-refl, begins-append}
+use Rattle.base.proofs.Prefixes.{begins-refl, begins-append}
 use Rattle.format.specs.Limits.{mostIndex, mostServers, mostQuota}
 use Rattle.format.specs.Write.{idsBytes}
 use Rattle.record.specs.declared.State.{State}
@@ -20,7 +20,7 @@ use Rattle.engine.specs.Decode.{serversIn, quotaIn}
 use Rattle.engine.specs.Header.{headerOf, headerIn, setOf}
 use Rattle.engine.proofs.HeaderLaws.{header-loaded}
 use Rattle.engine.proofs.InRange.{in-range}
-use Rattle.engine.proofs.InPlace.{Holds, HoldsSome, HoldsSuch}
+use Rattle.engine.specs.Holding.{Holds, HoldsSome, HoldsSuch}
 use Rattle.lists.specs.declared.votes.VoteNumbers.{VoteNumbers}
 use Rattle.lists.specs.Lists.{YellowRoom}
 use Rattle.lists.specs.Standing.{voteNumbers, dropped}

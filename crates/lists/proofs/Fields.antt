@@ -6,7 +6,7 @@ use mathlib.Core.List.{List}
 use lib.ListN.{length, getD, set}
 use Rattle.base.specs.Bytes.{joined}
 use Rattle.base.specs.Patched.{patched}
-use Rattle.base.specs.Sections.{begin, sized-set}
+use Rattle.base.proofs.Sections.{begin, sized-set}
 use Rattle.replication.specs.Machine.Types.{Server}
 use Rattle.engine.specs.Image.{headerBytes}
 use Rattle.queue.proofs.Fields.{fieldSizes, fields, header-fields, fields-sized, field-changed}

@@ -4,11 +4,11 @@ use Prim.Native.Nat.{ℕ, zero, suc, _+_, _*_, _%_, _^_, _<_}
 use mathlib.Core.Path.{_≡_, refl, sym, ap, _∙_}
 use mathlib.Core.List.{List, []}
 use mathlib.Core.Logic.{inl, inr}
-use Rattle.base.specs.Prefixes.{begins-refl}
+use Rattle.base.proofs.Prefixes.{begins-refl}
 use native.Mathlib.Omega.{arith}
 use lib.Bits.{bitOr}
 use Rattle.base.specs.Sets.{withMember}
-use Rattle.base.specs.SetLaws.{power-below}
+use Rattle.base.proofs.SetLaws.{power-below}
 use Rattle.base.specs.Tests.{pick}
 use Rattle.base.specs.Lists.{isThere, Begins}
 use Rattle.record.specs.declared.State.{State}
@@ -17,7 +17,7 @@ use Rattle.replication.specs.Machine.Step.{entering, leave, withCpc, unmarked, 
 use Rattle.engine.specs.Image.{modeNumber, senders, image}
 use Rattle.engine.specs.Header.{headerOf, headerIn}
 use Rattle.engine.proofs.HeaderLaws.{header-loaded}
-use Rattle.engine.proofs.InPlace.{Holds}
+use Rattle.engine.specs.Holding.{Holds}
 use Rattle.lists.specs.Lists.{changedTo, Shortened, configurationOf}
 
 -- No State is in.

@@ -13,11 +13,11 @@ use lib.ListN.{length, getD, take, drop}
 use lib.Seq.{take-length}
 use borrow.Author.Tests.{not-true, not-false}
 use Rattle.base.specs.Bytes.{numberAt}
-use Rattle.base.specs.BytesLaws.{number-drop}
-use Rattle.base.specs.Lists.{present, atFront}
-use Rattle.base.specs.ListLaws.{Each}
+use Rattle.base.proofs.BytesLaws.{number-drop}
+use Rattle.base.specs.Lists.{present, atFront, Each}
 use Rattle.base.specs.Sets.{inSet}
-use Rattle.base.specs.Tests.{_=?_, pick, pick-yes, pick-no}
+use Rattle.base.specs.Tests.{_=?_, pick}
+use Rattle.base.proofs.TestLaws.{pick-yes, pick-no}
 use Rattle.format.specs.Types.{State}
 use Rattle.format.specs.Read.{stateAt}
 use Rattle.replication.specs.Machine.Types.{Server, withNoted}
@@ -33,7 +33,8 @@ use Rattle.replication.proofs.WellFormed.Kept.{mode-kept}
 use Rattle.engine.specs.Layout.{stateSize, theStates, atServers, atStates}
 use Rattle.engine.specs.Image.{image}
 use Rattle.engine.specs.Decode.{serversIn, quotaIn, statesAt, decoded, decodedAs}
-use Rattle.engine.proofs.InPlace.{Holds, holds-decoded, HoldsSome, holds-header}
+use Rattle.engine.specs.Holding.{Holds, HoldsSome}
+use Rattle.engine.proofs.InPlace.{holds-decoded, holds-header}
 use Rattle.lists.specs.Lists.{place, NumberIn}
 use Rattle.lists.specs.Noting.{noteSlot, noteFirst}
 use Rattle.lists.proofs.Counts.{holds-servers, holds-counts}

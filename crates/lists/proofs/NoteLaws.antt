@@ -7,10 +7,10 @@ use native.Mathlib.Omega.{arith}
 use lib.ListN.{length, getD, set}
 use lib.Seq.{set-getD}
 use Rattle.base.specs.Bytes.{bytesOf, numberAt}
-use Rattle.base.specs.BytesLaws.{bytes-length, numbers-at}
+use Rattle.base.proofs.BytesLaws.{bytes-length, numbers-at}
 use Rattle.base.specs.Lists.{sum}
 use Rattle.base.specs.Patched.{patched}
-use Rattle.base.specs.Sections.{begin}
+use Rattle.base.proofs.Sections.{begin}
 use Rattle.replication.specs.Machine.Types.{Server, withNoted}
 use Rattle.replication.specs.Machine.Colours.{note}
 use Rattle.engine.specs.Layout.{SizesIn, theNoted, sections, offset, stateLength, atServers, atQuota}
@@ -18,7 +18,8 @@ use Rattle.engine.specs.Image.{over, headerBytes, notedBytes, section, parts, i
 use Rattle.engine.specs.Decode.{serversIn, quotaIn, decoded, decodedAs}
 use Rattle.engine.proofs.InRange.{in-range}
 use Rattle.engine.proofs.Used.{noted-length}
-use Rattle.engine.proofs.InPlace.{Holds, holds-decoded}
+use Rattle.engine.specs.Holding.{Holds}
+use Rattle.engine.proofs.InPlace.{holds-decoded}
 use Rattle.queue.proofs.Inside.{changed-at, over-changed}
 use Rattle.queue.proofs.Holding.{holds-changed}
 use Rattle.lists.specs.Lists.{place, NumberIn}

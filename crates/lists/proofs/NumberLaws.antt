@@ -8,7 +8,8 @@ use mathlib.Core.Option.{Option}
 use native.Mathlib.Omega.{arith}
 use lib.ListN.{length, getD, take, drop, set, take-append-drop}
 use Rattle.base.specs.Lists.{Begins, sum}
-use Rattle.base.specs.Patched.{patched, patched-whole}
+use Rattle.base.specs.Patched.{patched}
+use Rattle.base.proofs.PatchedLaws.{patched-whole}
 use Rattle.format.specs.Types.{Action, State as Collected}
 use Rattle.format.specs.Write.{idsBytes, cutsBytes}
 use Rattle.record.specs.declared.State.{State}
@@ -19,7 +20,8 @@ use Rattle.engine.specs.Image.{over, headerBytes, notedBytes, stateOver, states
 use Rattle.engine.specs.Header.{headerOf, headerWritten}
 use Rattle.engine.proofs.Used.{header-length, slots-append, ids-append, held-append}
 use Rattle.engine.proofs.HeaderLaws.{header-written, written-length}
-use Rattle.engine.proofs.InPlace.{Holds, holds-section, over-less}
+use Rattle.engine.specs.Holding.{Holds}
+use Rattle.engine.proofs.InPlace.{holds-section, over-less}
 use Rattle.lists.specs.Lists.{changedTo, Shortened}
 use Rattle.lists.proofs.Changes.{changed-image}
 use Rattle.queue.proofs.Inside.{changed-at}

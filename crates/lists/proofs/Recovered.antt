@@ -9,12 +9,12 @@ use native.Mathlib.Nat.{mul-le-mul}
 use native.Mathlib.Omega.{arith}
 use lib.ListN.{length, getD, set, length-append, length-map}
 use Rattle.base.specs.Bytes.{bytesOf, numberAt, partAt}
-use Rattle.base.specs.BytesLaws.{bytes-length}
+use Rattle.base.proofs.BytesLaws.{bytes-length}
 use Rattle.base.specs.Lists.{sum, after, above}
-use Rattle.base.specs.ListLaws.{above-length}
-use Rattle.base.specs.Occurs.{Occurs, occurs-first}
+use Rattle.base.proofs.ListLaws.{above-length}
+use Rattle.base.proofs.Occurs.{Occurs, occurs-first}
 use Rattle.base.specs.Patched.{patched}
-use Rattle.base.specs.Sections.{begin}
+use Rattle.base.proofs.Sections.{begin}
 use Rattle.format.specs.Limits.{mostServers, mostQuota}
 use Rattle.format.specs.Types.{Id, Action}
 use Rattle.format.specs.Write.{cutsBytes}
@@ -34,7 +34,8 @@ use Rattle.engine.specs.Decode.{serversIn, quotaIn}
 use Rattle.engine.proofs.InRange.{in-range}
 use Rattle.engine.proofs.Fit.{well-formed-fits}
 use Rattle.engine.proofs.Used.{action-slots-length, slots-append}
-use Rattle.engine.proofs.InPlace.{Holds, holds-section, HoldsSome}
+use Rattle.engine.specs.Holding.{Holds, HoldsSome}
+use Rattle.engine.proofs.InPlace.{holds-section}
 use Rattle.queue.specs.Queue.{queueAt}
 use Rattle.queue.proofs.Fields.{fields, theQueueCount, theOwnCount}
 use Rattle.queue.proofs.Holding.{numbers, log-fits, log-formed, holds-counts, holds-changed}

@@ -7,7 +7,7 @@ use mathlib.Core.List.{List, [], _∷_, _++_, append-assoc, append-nil}
 use native.Mathlib.Omega.{arith}
 use lib.ListN.{length, getD, set, length-set}
 use lib.Seq.{set-getD, getD-set-same}
-use Rattle.base.specs.Tests.{pick-yes, eq-yes}
+use Rattle.base.proofs.TestLaws.{pick-yes, eq-yes}
 use Rattle.format.specs.Types.{Id, Action}
 use Rattle.replication.specs.Machine.Types.{Log}
 use Rattle.replication.specs.Machine.Colours.{cut, nextIndex, isNext, enter, red, reds}

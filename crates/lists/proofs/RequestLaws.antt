@@ -7,12 +7,13 @@ use mathlib.Core.List.{List, [], _∷_, _++_, append-nil, map}
 use native.Mathlib.Omega.{arith}
 use lib.ListN.{length, set, length-append, length-map}
 use Rattle.base.specs.Bytes.{bytesOf, numberAt, joined}
-use Rattle.base.specs.BytesLaws.{bytes-length}
+use Rattle.base.proofs.BytesLaws.{bytes-length}
 use Rattle.base.specs.Lists.{above, sum}
-use Rattle.base.specs.ListLaws.{above-length}
-use Rattle.base.specs.Patched.{patched, patched-next}
-use Rattle.base.specs.Sections.{begin}
-use Rattle.base.specs.Tests.{lt-holds}
+use Rattle.base.proofs.ListLaws.{above-length}
+use Rattle.base.specs.Patched.{patched}
+use Rattle.base.proofs.PatchedLaws.{patched-next}
+use Rattle.base.proofs.Sections.{begin}
+use Rattle.base.proofs.TestLaws.{lt-holds}
 use Rattle.format.specs.Limits.{mostHeld}
 use Rattle.format.specs.Types.{Id, Action}
 use Rattle.format.specs.Write.{actionBytes, payloadBytes}
@@ -30,7 +31,7 @@ use Rattle.engine.specs.Image.{over, zeros, slot, headerBytes, actionSlots, hel
 use Rattle.engine.proofs.Fit.{well-formed-fits}
 use Rattle.engine.proofs.HeaderLaws.{header-loaded}
 use Rattle.engine.proofs.Used.{slot-length, action-slots-length, held-slots-length, slots-append, held-append}
-use Rattle.engine.proofs.InPlace.{Holds}
+use Rattle.engine.specs.Holding.{Holds}
 use Rattle.queue.proofs.Fields.{fields, theOwnCount}
 use Rattle.queue.proofs.Holding.{holds-changed}
 use Rattle.queue.proofs.Inside.{changed-at, over-extended}

@@ -10,8 +10,9 @@ use lib.ListN.{length, length-append}
 use mir.Syntax.{w8}
 use mir.Val.{Fits}
 use Rattle.base.specs.Bytes.{bytesOf, partAt, joined}
-use Rattle.base.specs.BytesLaws.{part-length, bytes1, bytes2, bytes4}
-use Rattle.base.specs.Patched.{patched, patched-next, patched-none, patched-in-front}
+use Rattle.base.proofs.BytesLaws.{part-length, bytes1, bytes2, bytes4}
+use Rattle.base.specs.Patched.{patched}
+use Rattle.base.proofs.PatchedLaws.{patched-next, patched-none, patched-in-front}
 use Rattle.format.specs.Write.{idBytes}
 use Rattle.stores.specs.Blocks.{headBytes}
 use Rattle.record.specs.Values.{idOf}

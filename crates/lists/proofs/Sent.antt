@@ -6,12 +6,11 @@ use mathlib.Core.List.{List, [], _∷_, _++_, append-assoc, append-nil}
 use native.Mathlib.Omega.{arith}
 use lib.ListN.{length, set, length-append}
 use Rattle.base.specs.Bytes.{bytesOf, numberAt, partAt, joined}
-use Rattle.base.specs.BytesLaws.{bytes-length}
-use Rattle.base.specs.Lists.{sum}
-use Rattle.base.specs.ListLaws.{Each}
-use Rattle.base.specs.Occurs.{Occurs, occurs-first, occurs-second}
+use Rattle.base.proofs.BytesLaws.{bytes-length}
+use Rattle.base.specs.Lists.{sum, Each}
+use Rattle.base.proofs.Occurs.{Occurs, occurs-first, occurs-second}
 use Rattle.base.specs.Patched.{patched}
-use Rattle.base.specs.Sections.{begin}
+use Rattle.base.proofs.Sections.{begin}
 use Rattle.format.specs.Types.{Action}
 use Rattle.format.specs.Write.{payloadBytes, actionBytes}
 use Rattle.format.proofs.Lengths.{payload-length, action-length}
@@ -29,7 +28,8 @@ use Rattle.engine.specs.Image.{over, zeros, slot, headerBytes, actionSlots, hel
 use Rattle.engine.proofs.Fit.{well-formed-fits}
 use Rattle.engine.proofs.HeaderLaws.{header-loaded}
 use Rattle.engine.proofs.Used.{held-slot-length, action-slots-length, slots-append}
-use Rattle.engine.proofs.InPlace.{Holds, holds-section}
+use Rattle.engine.specs.Holding.{Holds}
+use Rattle.engine.proofs.InPlace.{holds-section}
 use Rattle.queue.proofs.Fields.{fields, theOwnCount}
 use Rattle.queue.proofs.Holding.{holds-changed}
 use Rattle.queue.proofs.Inside.{changed-at, over-extended}

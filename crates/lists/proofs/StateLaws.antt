@@ -12,14 +12,14 @@ use lib.Bits.{bitOr, bitAnd, and-comm}
 use lib.ListN.{length, getD, take, drop, set, length-append, length-take, length-drop, length-set, take-append-drop}
 use lib.Seq.{take-at, drop-at, getD-set-same, getD-set-other, take-append-add, drop-append-add, drop-append-le}
 use Rattle.base.specs.Bytes.{bytesOf, numberAt}
-use Rattle.base.specs.BytesLaws.{bytes-length}
-use Rattle.base.specs.Lists.{isThere, sum}
-use Rattle.base.specs.ListLaws.{Each}
+use Rattle.base.proofs.BytesLaws.{bytes-length}
+use Rattle.base.specs.Lists.{isThere, sum, Each}
 use Rattle.base.specs.Patched.{patched}
-use Rattle.base.specs.Sections.{begin, begin-end}
+use Rattle.base.proofs.Sections.{begin, begin-end}
 use Rattle.base.specs.Sets.{inSet, withMember, inside}
-use Rattle.base.specs.SetLaws.{in-with-member, with-member-below, same-sets, members-inside}
-use Rattle.base.specs.Tests.{_or_, eq-yes, eq-no, eq-holds}
+use Rattle.base.proofs.SetLaws.{in-with-member, with-member-below, same-sets, members-inside}
+use Rattle.base.specs.Tests.{_or_}
+use Rattle.base.proofs.TestLaws.{eq-yes, eq-no, eq-holds}
 use Rattle.format.specs.Types.{State, state}
 use Rattle.format.specs.Write.{write}
 use Rattle.replication.specs.Machine.Types.{Server, contextOf}
@@ -34,7 +34,8 @@ use Rattle.engine.proofs.Fit.{well-formed-fits, section-length}
 use Rattle.engine.proofs.InRange.{in-range}
 use Rattle.engine.proofs.Used.{StateFits, state-over-length, first-slot, more-slots}
 use Rattle.engine.proofs.Slots.{in-senders, senders-below}
-use Rattle.engine.proofs.InPlace.{Holds, holds-section}
+use Rattle.engine.specs.Holding.{Holds}
+use Rattle.engine.proofs.InPlace.{holds-section}
 use Rattle.queue.proofs.Fields.{fields}
 use Rattle.queue.proofs.Holding.{holds-changed}
 use Rattle.queue.proofs.Inside.{changed-at}

@@ -7,8 +7,9 @@ use native.Mathlib.Nat.{add-zero}
 use native.Mathlib.Omega.{arith}
 use lib.ListN.{length, set}
 use Rattle.base.specs.Lists.{sum}
-use Rattle.base.specs.Patched.{patched, patched-whole}
-use Rattle.base.specs.Sections.{begin}
+use Rattle.base.specs.Patched.{patched}
+use Rattle.base.proofs.PatchedLaws.{patched-whole}
+use Rattle.base.proofs.Sections.{begin}
 use Rattle.format.specs.Write.{idsBytes}
 use Rattle.record.specs.declared.State.{State}
 use Rattle.replication.specs.Machine.Types.{Votes, Server, withVotes}
@@ -18,7 +19,8 @@ use Rattle.engine.specs.Decode.{serversIn, quotaIn}
 use Rattle.engine.specs.Header.{headerOf, headerIn, headerWritten}
 use Rattle.engine.proofs.HeaderLaws.{header-loaded, header-written, written-length}
 use Rattle.engine.proofs.Used.{header-length}
-use Rattle.engine.proofs.InPlace.{Holds, holds-section}
+use Rattle.engine.specs.Holding.{Holds}
+use Rattle.engine.proofs.InPlace.{holds-section}
 use Rattle.queue.proofs.Holding.{holds-changed}
 use Rattle.queue.proofs.Inside.{changed-at, over-front}
 use Rattle.lists.specs.declared.votes.VoteNumbers.{VoteNumbers}

@@ -8,13 +8,14 @@ use native.Mathlib.Decide.{ℕ-discrete}
 use native.Mathlib.Omega.{arith}
 use lib.Dec.{eqb}
 use lib.ListN.{length, set, length-append}
-use Rattle.base.specs.Tests.{_and_, _or_, _=?_, pick-yes, pick-no, both-yes, and-holds, and-eq, and-ne, or-fails, not-holds, eq-yes, eq-no}
-use Rattle.base.specs.Branches.{told-eq}
+use Rattle.base.specs.Tests.{_and_, _or_, _=?_}
+use Rattle.base.proofs.TestLaws.{pick-yes, pick-no, both-yes, and-holds, and-eq, and-ne, or-fails, not-holds, eq-yes, eq-no}
+use Rattle.base.proofs.Branches.{told-eq}
 use Rattle.base.specs.Bytes.{bytesOf, numberAt, joined}
-use Rattle.base.specs.BytesLaws.{bytes-length}
+use Rattle.base.proofs.BytesLaws.{bytes-length}
 use Rattle.base.specs.Lists.{sum}
 use Rattle.base.specs.Patched.{patched}
-use Rattle.base.specs.Sections.{begin}
+use Rattle.base.proofs.Sections.{begin}
 use Rattle.format.specs.Types.{Id, Context}
 use Rattle.format.specs.Range.{idOk, sameId, hasId, idsDiffer, idsInRange}
 use Rattle.format.specs.Read.{idAt, idsAt}
@@ -28,7 +29,7 @@ use Rattle.engine.specs.Layout.{theHeader, theYellow, sections, offset, atYello
 use Rattle.engine.specs.Image.{over, headerBytes, section, parts, image}
 use Rattle.engine.proofs.InRange.{in-range}
 use Rattle.engine.proofs.Used.{ids-append}
-use Rattle.engine.proofs.InPlace.{Holds}
+use Rattle.engine.specs.Holding.{Holds}
 use Rattle.lists.specs.Lists.{yellowCount, place}
 use Rattle.lists.proofs.Changes.{changed-image}
 use Rattle.queue.proofs.Inside.{changed-at, over-extended}

@@ -9,7 +9,7 @@ ghost use Rattle.replication.specs.Machine.Exchange.{takenVotes};
 ghost use Rattle.replication.specs.Machine.Step.{oneMore, resending, attempting, collected, decided};
 ghost use Rattle.engine.specs.Image.{image};
 ghost use Rattle.engine.specs.Header.{headerOf};
-ghost use Rattle.engine.proofs.InPlace.{Holds, HoldsSome, HoldsSuch};
+ghost use Rattle.engine.specs.Holding.{Holds, HoldsSome, HoldsSuch, Becomes};
 ghost use Rattle.lists.specs.Standing.{voteNumbers};
 ghost use Rattle.engine.specs.Layout.{headerSize};
 use crate::notes::note_all;
@@ -34,7 +34,7 @@ fn with_one_more(h: State) -> State
 // A retransmission has come.
 pub fn one_more(state: &mut [u8])
     requires { ⌜ HoldsSome (now state) ⌝ }
-    ensures { λ _. ⌜ ((s : Server) → Holds s (now (state .entry)) → now (state .exit) ≡ image (oneMore s) (now (state .entry))) ⌝ }
+    ensures { λ _. ⌜ Becomes oneMore (now (state .entry)) (now (state .exit)) ⌝ }
 {
     let h = load(state);
     let t = with_one_more(h);
@@ -53,7 +53,7 @@ fn with_none_come(h: State) -> State
 // To Exchange_actions.
 pub fn resend(state: &mut [u8])
     requires { ⌜ headerSize ≤ length (now state) ⌝ }
-    ensures { λ _. ⌜ ((s : Server) → Holds s (now (state .entry)) → now (state .exit) ≡ image (resending s) (now (state .entry))) ⌝ }
+    ensures { λ _. ⌜ Becomes resending (now (state .entry)) (now (state .exit)) ⌝ }
 {
     let h = load(state);
     let t = with_none_come(h);
@@ -85,7 +85,7 @@ fn with_attempt(h: State) -> State
 // A primary component is attempted.
 pub fn attempt(state: &mut [u8])
     requires { ⌜ HoldsSome (now state) ⌝ }
-    ensures { λ _. ⌜ ((s : Server) → Holds s (now (state .entry)) → now (state .exit) ≡ image (attempting s) (now (state .entry))) ⌝ }
+    ensures { λ _. ⌜ Becomes attempting (now (state .entry)) (now (state .exit)) ⌝ }
 {
     let h = load(state);
     let t = with_attempt(h);

@@ -6,7 +6,7 @@ ghost use Rattle.replication.specs.Machine.Types.{Mode, Server, inMode};
 ghost use Rattle.replication.specs.Machine.Step.{entering, leave as left, withCpc};
 ghost use Rattle.engine.specs.Image.{modeNumber, image};
 ghost use Rattle.engine.specs.Header.{headerOf};
-ghost use Rattle.engine.proofs.InPlace.{Holds};
+ghost use Rattle.engine.specs.Holding.{Holds, Becomes};
 ghost use Rattle.lists.specs.Lists.{configurationOf};
 ghost use Rattle.engine.specs.Layout.{headerSize};
 use crate::numbers::save_numbers;
@@ -49,7 +49,7 @@ fn with_configuration(h: State, id: u32, set: u8) -> State
 // Entering Exchange_states with this configuration.
 pub fn enter_exchange(state: &mut [u8], id: u32, set: u8)
     requires { ⌜ headerSize ≤ length (now state) ⌝ }
-    ensures { λ _. ⌜ ((s : Server) → Holds s (now (state .entry)) → now (state .exit) ≡ image (entering (configurationOf id set) s) (now (state .entry))) ⌝ }
+    ensures { λ _. ⌜ Becomes (entering (configurationOf id set)) (now (state .entry)) (now (state .exit)) ⌝ }
 {
     let h = load(state);
     let t = with_configuration(h, id, set);
@@ -89,7 +89,7 @@ fn with_cpc(h: State, k: u8) -> State
 // The CPC of server k is in.
 pub fn add_cpc(state: &mut [u8], k: u8)
     requires { ⌜ (headerSize ≤ length (now state)) × (k < 8) ⌝ }
-    ensures { λ _. ⌜ ((s : Server) → Holds s (now (state .entry)) → now (state .exit) ≡ image (withCpc k s) (now (state .entry))) ⌝ }
+    ensures { λ _. ⌜ Becomes (withCpc k) (now (state .entry)) (now (state .exit)) ⌝ }
 {
     let h = load(state);
     let t = with_cpc(h, k);

@@ -5,14 +5,13 @@ ghost use Prim.Native.Nat.{_+_, _*_, _≤_, _<_};
 ghost use lib.ListN.{length, getD};
 ghost use Rattle.base.specs.Bytes.{numberAt};
 ghost use Rattle.base.specs.Sets.{inSet};
-ghost use Rattle.replication.specs.Machine.Types.{Server, withNoted};
+ghost use Rattle.replication.specs.Machine.Types.{withNoted};
 ghost use Rattle.replication.specs.Machine.Colours.{note as noted};
 ghost use Rattle.replication.specs.Machine.Exchange.{noteAll};
 ghost use Rattle.replication.specs.Machine.Step.{collected};
 ghost use Rattle.engine.specs.Layout.{stateSize, theNoted, theStates, headerSize, atStates};
-ghost use Rattle.engine.specs.Image.{image};
 ghost use Rattle.engine.specs.Decode.{serversIn, quotaIn};
-ghost use Rattle.engine.proofs.InPlace.{Holds, HoldsSome};
+ghost use Rattle.engine.specs.Holding.{HoldsSome, Becomes};
 ghost use Rattle.lists.specs.Lists.{NumberIn, place};
 ghost use Rattle.lists.specs.Noting.{noteSlot};
 ghost use Rattle.format.specs.Places.{stateCutsAt};
@@ -40,7 +39,7 @@ fn noted_place(state: &[u8], c: u8) -> usize
 // "a noted length never falls"
 pub fn note(state: &mut [u8], c: u8, l: u32)
     requires { ⌜ NumberIn c (now state) ⌝ }
-    ensures { λ _. ⌜ ((s : Server) → Holds s (now (state .entry)) → now (state .exit) ≡ image (withNoted (noted c l (s .noted)) s) (now (state .entry))) ⌝ }
+    ensures { λ _. ⌜ Becomes (λ s. withNoted (noted c l (s .noted)) s) (now (state .entry)) (now (state .exit)) ⌝ }
 {
     let at = noted_place(state, c);
     let old = num32(state, at);
@@ -71,7 +70,7 @@ fn sent_length(state: &[u8], k: u8) -> u32
 // The green length of server k, if its State is in.
 fn note_state(state: &mut [u8], k: u8)
     requires { ⌜ NumberIn k (now state) ⌝ }
-    ensures { λ _. ⌜ ((s : Server) → Holds s (now (state .entry)) → now (state .exit) ≡ image (withNoted (noteSlot (getD (s .membership .states) k none) (s .noted)) s) (now (state .entry))) ⌝ }
+    ensures { λ _. ⌜ Becomes (λ s. withNoted (noteSlot (getD (s .membership .states) k none) (s .noted)) s) (now (state .entry)) (now (state .exit)) ⌝ }
 {
     if !is_in(state, k) {
         return;
@@ -83,7 +82,7 @@ fn note_state(state: &mut [u8], k: u8)
 // "note each State's green length"
 pub fn note_all(state: &mut [u8])
     requires { ⌜ HoldsSome (now state) ⌝ }
-    ensures { λ _. ⌜ ((s : Server) → Holds s (now (state .entry)) → now (state .exit) ≡ image (withNoted (noteAll (collected s) (s .noted)) s) (now (state .entry))) ⌝ }
+    ensures { λ _. ⌜ Becomes (λ s. withNoted (noteAll (collected s) (s .noted)) s) (now (state .entry)) (now (state .exit)) ⌝ }
 {
     let n = num8(state, State::AT_SERVERS);
     let mut k: u8 = 0;

@@ -6,7 +6,7 @@ ghost use lib.ListN.{length};
 ghost use Rattle.replication.specs.Machine.Types.{Log, Votes, Membership, Server};
 ghost use Rattle.engine.specs.Image.{image};
 ghost use Rattle.engine.specs.Header.{headerOf};
-ghost use Rattle.engine.proofs.InPlace.{Holds};
+ghost use Rattle.engine.specs.Holding.{Holds};
 ghost use Rattle.lists.specs.Lists.{changedTo, Shortened};
 ghost use Rattle.engine.specs.Layout.{headerSize};
 use engine::header::save;

@@ -9,7 +9,7 @@ ghost use Rattle.replication.specs.Machine.Colours.{reds};
 ghost use Rattle.replication.specs.Machine.Requests.{recovered};
 ghost use Rattle.engine.specs.Image.{image};
 ghost use Rattle.engine.specs.Header.{headerOf};
-ghost use Rattle.engine.proofs.InPlace.{Holds, HoldsSome};
+ghost use Rattle.engine.specs.Holding.{HoldsSome, Becomes};
 ghost use Rattle.lists.specs.Standing.{EnterRoom, dropped};
 ghost use Rattle.engine.specs.Layout.{headerSize, atQueueLength, atOwnCount};
 use crate::numbers::save_numbers;
@@ -55,7 +55,7 @@ fn put_entered(state: &mut [u8], queue: u32, at: usize, cut: u16)
 // "own-list actions above the own cut entered red": all of them, behind the queue. The own cut is then the last numbered one.
 fn enter_own(state: &mut [u8])
     requires { ⌜ EnterRoom (now state) ⌝ }
-    ensures { λ _. ⌜ ((s : Server) → Holds s (now (state .entry)) → now (state .exit) ≡ image (withLog (reds (s .log .own) (s .log)) s) (now (state .entry))) ⌝ }
+    ensures { λ _. ⌜ Becomes (λ s. withLog (reds (s .log .own) (s .log)) s) (now (state .entry)) (now (state .exit)) ⌝ }
 {
     let own = num16(state, State::AT_OWN_COUNT);
     let queue = num32(state, State::AT_QUEUE_LENGTH);
@@ -90,7 +90,7 @@ fn without_membership(h: State) -> State
 // "Non_prim, no configuration, holds and States dropped"
 fn drop_membership(state: &mut [u8])
     requires { ⌜ headerSize ≤ length (now state) ⌝ }
-    ensures { λ _. ⌜ ((s : Server) → Holds s (now (state .entry)) → now (state .exit) ≡ image (dropped s) (now (state .entry))) ⌝ }
+    ensures { λ _. ⌜ Becomes dropped (now (state .entry)) (now (state .exit)) ⌝ }
 {
     let h = load(state);
     let t = without_membership(h);
@@ -100,7 +100,7 @@ fn drop_membership(state: &mut [u8])
 // "Recovery, from the stored image"
 pub fn recover(state: &mut [u8])
     requires { ⌜ HoldsSome (now state) ⌝ }
-    ensures { λ _. ⌜ ((s : Server) → Holds s (now (state .entry)) → now (state .exit) ≡ image (recovered s) (now (state .entry))) ⌝ }
+    ensures { λ _. ⌜ Becomes recovered (now (state .entry)) (now (state .exit)) ⌝ }
 {
     enter_own(state);
     drop_membership(state);

@@ -9,11 +9,10 @@ ghost use Rattle.base.specs.Patched.{patched};
 ghost use Rattle.format.specs.Limits.{mostHeld};
 ghost use Rattle.format.specs.Write.{actionBytes, payloadBytes};
 ghost use Rattle.record.specs.Values.{actionOf};
-ghost use Rattle.replication.specs.Machine.Types.{Server};
 ghost use Rattle.replication.specs.Machine.Requests.{quotaLeft, numbered as withNumbered, hold as withHeld};
 ghost use Rattle.engine.specs.Layout.{heldSize, slotSize, theHeld, theOwn, headerSize, atNumbered, atOwnCount, atHeldCount};
-ghost use Rattle.engine.specs.Image.{slot, image};
-ghost use Rattle.engine.proofs.InPlace.{Holds};
+ghost use Rattle.engine.specs.Image.{slot};
+ghost use Rattle.engine.specs.Holding.{BecomesWhere};
 ghost use Rattle.lists.specs.Lists.{CountsIn, PayloadRoom, SlotRoom, nextHead, place};
 use engine::places::held_at;
 use engine::places::own_at;
@@ -70,7 +69,7 @@ fn push_own(state: &mut [u8], at: usize, head: ActionHead, payload: &[u8], numbe
 // "numbered, put on the own list"
 pub fn number(state: &mut [u8], payload: &[u8])
     requires { ⌜ PayloadRoom (now payload) (now state) ⌝ }
-    ensures { λ _. ⌜ ((s : Server) → Holds s (now (state .entry)) → quotaLeft s ≡ true → now (state .exit) ≡ image (withNumbered (now (payload .entry) ∷ []) s) (now (state .entry))) ⌝ }
+    ensures { λ _. ⌜ BecomesWhere (λ s. quotaLeft s ≡ true) (withNumbered (now (payload .entry) ∷ [])) (now (state .entry)) (now (state .exit)) ⌝ }
 {
     let at = own_place(state);
     let own = num16(state, State::AT_OWN_COUNT);
@@ -122,7 +121,7 @@ fn push_held(state: &mut [u8], at: usize, payload: &[u8], count: u16)
 // "Elsewhere held"
 pub fn hold(state: &mut [u8], payload: &[u8])
     requires { ⌜ PayloadRoom (now payload) (now state) ⌝ }
-    ensures { λ _. ⌜ ((s : Server) → Holds s (now (state .entry)) → length (s .held) < mostHeld → now (state .exit) ≡ image (withHeld (now (payload .entry)) s) (now (state .entry))) ⌝ }
+    ensures { λ _. ⌜ BecomesWhere (λ s. length (s .held) < mostHeld) (withHeld (now (payload .entry))) (now (state .entry)) (now (state .exit)) ⌝ }
 {
     let at = held_place(state);
     let count = num16(state, State::AT_HELD_COUNT);

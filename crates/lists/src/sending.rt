@@ -5,10 +5,8 @@ ghost use Prim.Native.Nat.{_+_, _*_, _≤_};
 ghost use lib.ListN.{length};
 ghost use Rattle.base.specs.Bytes.{bytesOf, partAt};
 ghost use Rattle.base.specs.Patched.{patched};
-ghost use Rattle.replication.specs.Machine.Types.{Server};
 ghost use Rattle.replication.specs.Machine.Requests.{sendHeld};
-ghost use Rattle.engine.specs.Image.{image};
-ghost use Rattle.engine.proofs.InPlace.{Holds};
+ghost use Rattle.engine.specs.Holding.{Becomes};
 ghost use Rattle.engine.specs.Layout.{heldSize, slotSize, headerSize, atNumbered, atOwnCount, atHeldCount};
 ghost use Rattle.stores.specs.Blocks.{headBytes};
 ghost use Rattle.lists.specs.Sending.{SendRoom, SendReady, movedSlots};
@@ -96,7 +94,7 @@ fn put_sent(state: &mut [u8], numbered: u16, own: u16)
 // "and sent in order on reaching those states"
 pub fn send_held(state: &mut [u8])
     requires { ⌜ SendReady (now state) ⌝ }
-    ensures { λ _. ⌜ ((s : Server) → Holds s (now (state .entry)) → now (state .exit) ≡ image (sendHeld s) (now (state .entry))) ⌝ }
+    ensures { λ _. ⌜ Becomes sendHeld (now (state .entry)) (now (state .exit)) ⌝ }
 {
     let from = held_place(state);
     let at = own_place(state);

@@ -12,7 +12,7 @@ ghost use Rattle.replication.specs.Machine.Step.{withState};
 ghost use Rattle.engine.specs.Layout.{stateSize, theStates, headerSize, atStates};
 ghost use Rattle.engine.specs.Image.{image};
 ghost use Rattle.engine.specs.Decode.{serversIn, quotaIn};
-ghost use Rattle.engine.proofs.InPlace.{Holds};
+ghost use Rattle.engine.specs.Holding.{Holds};
 ghost use Rattle.lists.specs.Lists.{NumberIn, CollectRoom, place};
 use engine::places::state_size;
 use engine::places::states_at;

@@ -7,7 +7,7 @@ ghost use Rattle.replication.specs.Machine.Types.{Votes, Server, withVotes};
 ghost use Rattle.replication.specs.Machine.Step.{unmarked, yellowValid};
 ghost use Rattle.engine.specs.Image.{image};
 ghost use Rattle.engine.specs.Header.{headerOf};
-ghost use Rattle.engine.proofs.InPlace.{Holds};
+ghost use Rattle.engine.specs.Holding.{Holds, Becomes};
 ghost use Rattle.lists.specs.Lists.{YellowRoom};
 ghost use Rattle.lists.specs.Standing.{voteNumbers};
 ghost use Rattle.engine.specs.Layout.{headerSize};
@@ -49,7 +49,7 @@ fn without_mark(h: State) -> State
 // "clears the mark"
 pub fn clear_mark(state: &mut [u8])
     requires { ⌜ headerSize ≤ length (now state) ⌝ }
-    ensures { λ _. ⌜ ((s : Server) → Holds s (now (state .entry)) → now (state .exit) ≡ image (withVotes (unmarked (s .votes)) s) (now (state .entry))) ⌝ }
+    ensures { λ _. ⌜ Becomes (λ s. withVotes (unmarked (s .votes)) s) (now (state .entry)) (now (state .exit)) ⌝ }
 {
     let h = load(state);
     let t = without_mark(h);
@@ -67,7 +67,7 @@ fn with_valid(h: State) -> State
 // "makes yellow valid"
 pub fn make_yellow_valid(state: &mut [u8])
     requires { ⌜ headerSize ≤ length (now state) ⌝ }
-    ensures { λ _. ⌜ ((s : Server) → Holds s (now (state .entry)) → now (state .exit) ≡ image (withVotes (yellowValid (s .votes)) s) (now (state .entry))) ⌝ }
+    ensures { λ _. ⌜ Becomes (λ s. withVotes (yellowValid (s .votes)) s) (now (state .entry)) (now (state .exit)) ⌝ }
 {
     let h = load(state);
     let t = with_valid(h);

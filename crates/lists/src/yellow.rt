@@ -9,11 +9,10 @@ ghost use Rattle.format.specs.Range.{idOk, sameId, hasId};
 ghost use Rattle.format.specs.Read.{idAt, idsAt};
 ghost use Rattle.format.specs.Write.{idBytes};
 ghost use Rattle.record.specs.Values.{idOf};
-ghost use Rattle.replication.specs.Machine.Types.{Server, contextOf, withVotes};
+ghost use Rattle.replication.specs.Machine.Types.{contextOf, withVotes};
 ghost use Rattle.replication.specs.Machine.Colours.{joinYellow};
 ghost use Rattle.engine.specs.Layout.{theYellow, headerSize, atYellowCount};
-ghost use Rattle.engine.specs.Image.{image};
-ghost use Rattle.engine.proofs.InPlace.{Holds};
+ghost use Rattle.engine.specs.Holding.{BecomesWhere};
 ghost use Rattle.lists.specs.Lists.{CountsIn, place};
 use engine::places::yellow_at;
 use record::State;
@@ -71,7 +70,7 @@ fn add_id(state: &mut [u8], at: usize, count: u16, creator: u8, index: u16)
 // "its id joins the yellow list": one that is already there has joined.
 pub fn join_yellow(state: &mut [u8], creator: u8, index: u16)
     requires { ⌜ CountsIn (now state) ⌝ }
-    ensures { λ _. ⌜ ((s : Server) → Holds s (now (state .entry)) → idOk (contextOf s) (idOf creator index) ≡ true → now (state .exit) ≡ image (withVotes (joinYellow (idOf creator index) (s .votes)) s) (now (state .entry))) ⌝ }
+    ensures { λ _. ⌜ BecomesWhere (λ s. idOk (contextOf s) (idOf creator index) ≡ true) (λ s. withVotes (joinYellow (idOf creator index) (s .votes)) s) (now (state .entry)) (now (state .exit)) ⌝ }
 {
     let at = yellow_place(state);
     let count = num16(state, State::AT_YELLOW_COUNT);

@@ -8,9 +8,10 @@ use native.Mathlib.Nat.{add-zero}
 use lib.ListN.{length, take, drop, length-append, length-take, length-drop}
 use lib.Seq.{drop-at, drop-drop, length-take-le, take-add, take-take}
 use Rattle.base.specs.Bytes.{bytesOf, numberAt, partAt}
-use Rattle.base.specs.BytesLaws.{part-length}
-use Rattle.base.specs.Patched.{patched, patched-length, lent-patched}
-use Rattle.base.specs.Sections.{patched-inside}
+use Rattle.base.proofs.BytesLaws.{part-length}
+use Rattle.base.specs.Patched.{patched}
+use Rattle.base.proofs.PatchedLaws.{patched-length, lent-patched}
+use Rattle.base.proofs.Sections.{patched-inside}
 use Rattle.format.specs.Write.{actionBytes}
 use Rattle.record.specs.declared.ActionHead.{ActionHead}
 use Rattle.record.specs.Values.{idOf, actionOf}

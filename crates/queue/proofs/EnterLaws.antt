@@ -8,12 +8,12 @@ use native.Mathlib.Omega.{arith}
 use lib.ListN.{length, getD, take, drop, set, length-append}
 use lib.Seq.{take-at, drop-at, take-take}
 use Rattle.base.specs.Bytes.{bytesOf, numberAt, partAt, joined}
-use Rattle.base.specs.BytesLaws.{bytes-length}
-use Rattle.base.specs.Lists.{sum, above}
-use Rattle.base.specs.ListLaws.{Each, each-always, each-map, above-next}
+use Rattle.base.proofs.BytesLaws.{bytes-length}
+use Rattle.base.specs.Lists.{sum, above, Each}
+use Rattle.base.proofs.ListLaws.{each-always, each-map, above-next}
 use Rattle.base.specs.Patched.{patched}
 use Rattle.base.specs.Tests.{pick}
-use Rattle.base.specs.Sections.{Sized, Laid, sized-set, laid-part}
+use Rattle.base.proofs.Sections.{Sized, Laid, sized-set, laid-part}
 use Rattle.format.specs.Types.{Id, Action}
 use Rattle.format.specs.Range.{sameId}
 use Rattle.format.specs.Write.{cutsBytes, actionBytes}
@@ -26,13 +26,14 @@ use Rattle.replication.proofs.Step.Logs.{next-index}
 use Rattle.replication.proofs.WellFormed.Ids.{same-id-yes, same-id-no}
 use Rattle.replication.proofs.WellFormed.Held.{remove-absent}
 use Rattle.replication.proofs.WellFormed.Logs.{ownId, enter-fits}
-use Rattle.replication.proofs.WellFormed.RuleFacts.{Delivered}
+use Rattle.replication.specs.Laws.RuleFits.{Delivered}
 use Rattle.engine.specs.Layout.{slotSize, theHeader, theCuts, theOwn, theQueue, sections, offset, atQueueLength, atOwnCount}
 use Rattle.engine.specs.Image.{over, slot, headerBytes, actionSlots, section, parts, image}
 use Rattle.engine.proofs.InRange.{in-range}
 use Rattle.engine.proofs.Used.{ActionFits, action-slot-length, action-slots-length, slots-append}
 use Rattle.engine.proofs.Fit.{SectionsFit, well-formed-fits}
-use Rattle.engine.proofs.InPlace.{Holds, holds-section}
+use Rattle.engine.specs.Holding.{Holds}
+use Rattle.engine.proofs.InPlace.{holds-section}
 use Rattle.record.specs.declared.ActionHead.{ActionHead}
 use Rattle.record.specs.Values.{idOf, actionOf}
 use Rattle.queue.specs.Queue.{appended, queued, popped, CountsIn, RoomFor}

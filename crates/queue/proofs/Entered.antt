@@ -8,11 +8,11 @@ use native.Mathlib.Omega.{arith}
 use lib.ListN.{length, getD, take, drop, set}
 use lib.Seq.{take-at, drop-at, take-take}
 use Rattle.base.specs.Bytes.{bytesOf, numberAt, partAt}
-use Rattle.base.specs.BytesLaws.{bytes-length}
-use Rattle.base.specs.Lists.{sum, above}
-use Rattle.base.specs.ListLaws.{Each, above-next}
+use Rattle.base.proofs.BytesLaws.{bytes-length}
+use Rattle.base.specs.Lists.{sum, above, Each}
+use Rattle.base.proofs.ListLaws.{above-next}
 use Rattle.base.specs.Patched.{patched}
-use Rattle.base.specs.Sections.{laid-part}
+use Rattle.base.proofs.Sections.{laid-part}
 use Rattle.format.specs.Types.{Id, Action}
 use Rattle.format.specs.Write.{cutsBytes, idsBytes, actionBytes}
 use Rattle.format.proofs.Ranges.{PayloadRange}
@@ -21,13 +21,14 @@ use Rattle.replication.specs.Machine.Colours.{cut, remove, isNext, enter}
 use Rattle.replication.specs.Machine.WellFormed.{idsIn, queue, wellFormed}
 use Rattle.replication.proofs.Step.Logs.{next-index}
 use Rattle.replication.proofs.WellFormed.Logs.{LogFits, ownId, enter-fits}
-use Rattle.replication.proofs.WellFormed.RuleFacts.{Delivered}
+use Rattle.replication.specs.Laws.RuleFits.{Delivered}
 use Rattle.engine.specs.Layout.{slotSize, stateSize, theHeader, theCuts, theNoted, theHeld, theStates, theYellow, theOwn, theQueue, sections, offset, headerSize, atMe, atQueueLength, atOwnCount}
 use Rattle.engine.specs.Image.{over, slot, headerBytes, notedBytes, statesOver, actionSlots, heldSlots, section, parts, image}
 use Rattle.engine.proofs.InRange.{in-range}
 use Rattle.engine.proofs.Used.{ActionFits, action-slot-length, action-slots-length}
 use Rattle.engine.proofs.Fit.{well-formed-fits}
-use Rattle.engine.proofs.InPlace.{Holds, holds-section}
+use Rattle.engine.specs.Holding.{Holds}
+use Rattle.engine.proofs.InPlace.{holds-section}
 use Rattle.record.specs.declared.ActionHead.{ActionHead}
 use Rattle.record.specs.Values.{idOf, actionOf}
 use Rattle.queue.specs.Queue.{ownAt, appended, queued, popped, RoomFor}

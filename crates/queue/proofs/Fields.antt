@@ -8,10 +8,10 @@ use native.Mathlib.Omega.{arith}
 use lib.ListN.{length, getD, set}
 use Rattle.base.specs.Bytes.{bytesOf, joined}
 use Rattle.base.specs.Patched.{patched}
-use Rattle.base.specs.Sections.{Sized, begin, sized-patched}
+use Rattle.base.proofs.Sections.{Sized, begin, sized-patched}
 use Rattle.format.specs.Write.{primaryBytes, markBytes}
 use Rattle.format.proofs.Lengths.{primary-length, mark-length}
-use Rattle.base.specs.BytesLaws.{bytes-length}
+use Rattle.base.proofs.BytesLaws.{bytes-length}
 use Rattle.replication.specs.Machine.Types.{Server}
 use Rattle.replication.specs.Machine.WellFormed.{queue}
 use Rattle.engine.specs.Image.{modeNumber, configurationBytes, transitionalBytes, senders, headerBytes}

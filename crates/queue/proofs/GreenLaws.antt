@@ -8,8 +8,9 @@ use mathlib.Core.Logic.{inr}
 use mathlib.Core.Option.{some, Option·none-ne-some}
 use native.Mathlib.Omega.{arith}
 use lib.ListN.{length, length-append}
-use Rattle.base.specs.AtLaws.{some-same}
-use Rattle.base.specs.Tests.{_≤?_, Known, holds, fails, known, le-holds, le-fails}
+use Rattle.base.proofs.AtLaws.{some-same}
+use Rattle.base.specs.Tests.{_≤?_}
+use Rattle.base.proofs.TestLaws.{Known, holds, fails, known, le-holds, le-fails}
 use Rattle.format.specs.Types.{Id, Action}
 use Rattle.format.specs.Write.{cutsBytes}
 use Rattle.replication.specs.Machine.Types.{Log, Server, withLog}
@@ -18,13 +19,14 @@ use Rattle.replication.specs.Machine.WellFormed.{queue, wellFormed}
 use Rattle.replication.proofs.Step.Numbered.{numbered-red}
 use Rattle.replication.proofs.WellFormed.Held.{Greened, unmoved, moved, greened?}
 use Rattle.replication.proofs.WellFormed.Logs.{red-fits, green-id-fits}
-use Rattle.replication.proofs.WellFormed.RuleFacts.{Delivered}
+use Rattle.replication.specs.Laws.RuleFits.{Delivered}
 use Rattle.engine.specs.Layout.{slotSize, stateLength}
 use Rattle.engine.specs.Image.{over, actionSlots, image}
 use Rattle.engine.proofs.Used.{action-slots-length}
 use Rattle.engine.proofs.Fit.{well-formed-fits}
 use Rattle.engine.proofs.Again.{covering-over, image-twice}
-use Rattle.engine.proofs.InPlace.{Holds, image-holds, HoldsSuch}
+use Rattle.engine.specs.Holding.{Holds, HoldsSuch}
+use Rattle.engine.proofs.InPlace.{image-holds}
 use Rattle.record.specs.declared.ActionHead.{ActionHead}
 use Rattle.record.specs.Values.{idOf, actionOf}
 use Rattle.queue.specs.Queue.{position, CountsIn, RoomIfNext}

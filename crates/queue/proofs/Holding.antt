@@ -9,7 +9,7 @@ use native.Mathlib.Omega.{arith}
 use lib.ListN.{length, getD, take, drop, length-append}
 use Rattle.base.specs.Bytes.{numberAt, numbersAt, joined}
 use Rattle.base.specs.Lists.{sum}
-use Rattle.base.specs.Sections.{Laid, begin-end}
+use Rattle.base.proofs.Sections.{Laid, begin-end}
 use Rattle.format.specs.Types.{Action}
 use Rattle.format.specs.Write.{cutsBytes, idsBytes}
 use Rattle.replication.specs.Machine.Types.{Log, Server, withLog, contextOf}
@@ -25,7 +25,7 @@ use Rattle.engine.specs.Header.{headerOf, headerIn}
 use Rattle.engine.proofs.InRange.{InRange, in-range}
 use Rattle.engine.proofs.Fit.{well-formed-fits, image-laid}
 use Rattle.engine.proofs.HeaderLaws.{header-loaded}
-use Rattle.engine.proofs.InPlace.{Holds}
+use Rattle.engine.specs.Holding.{Holds}
 use Rattle.queue.specs.Queue.{CountsIn}
 use Rattle.queue.proofs.Inside.{Changed}
 

@@ -9,8 +9,9 @@ use lib.ListN.{length, getD, take, drop, set, length-append, length-drop}
 use lib.Seq.{take-at, drop-at, drop-drop}
 use Rattle.base.specs.Bytes.{partAt, joined}
 use Rattle.base.specs.Lists.{sum}
-use Rattle.base.specs.Patched.{patched, patched-length}
-use Rattle.base.specs.Sections.{Sized, Laid, begin, begin-end, sized-at, sized-length, sized-patched, laid-part, laid-set, laid-rest, patched-front, patched-inside}
+use Rattle.base.specs.Patched.{patched}
+use Rattle.base.proofs.PatchedLaws.{patched-length}
+use Rattle.base.proofs.Sections.{Sized, Laid, begin, begin-end, sized-at, sized-length, sized-patched, laid-part, laid-set, laid-rest, patched-front, patched-inside}
 use Rattle.engine.specs.Image.{over}
 
 -- b is laid out in these parts, and behind them it is what `old` is.

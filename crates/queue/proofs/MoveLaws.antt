@@ -9,7 +9,8 @@ use native.Mathlib.Nat.{add-suc, add-zero, zero-add}
 use lib.ListN.{length, getD, take, drop, set, length-take, length-drop, List·getD-append, drop-of-length-le}
 use lib.Seq.{drop-at, take-length, take-suc, drop-cons, set-at, getD-take, getD-drop, getD-append-add, append-snoc, length-take-le, take-all}
 use Rattle.base.specs.Bytes.{partAt}
-use Rattle.base.specs.Patched.{patched, patched-more, patched-next}
+use Rattle.base.specs.Patched.{patched}
+use Rattle.base.proofs.PatchedLaws.{patched-more, patched-next}
 use Rattle.format.specs.Write.{actionBytes}
 use Rattle.format.proofs.Lengths.{action-length}
 use Rattle.record.specs.declared.ActionHead.{ActionHead}

@@ -9,12 +9,12 @@ use native.Mathlib.Omega.{arith}
 use lib.ListN.{length, getD, take, drop, set, length-append}
 use lib.Seq.{take-at, drop-at}
 use Rattle.base.specs.Bytes.{bytesOf, numberAt, partAt, joined}
-use Rattle.base.specs.BytesLaws.{bytes-length}
-use Rattle.base.specs.Lists.{sum}
-use Rattle.base.specs.ListLaws.{Each, each-first, each-second}
-use Rattle.base.specs.Occurs.{Occurs, occurs-first, occurs-second}
+use Rattle.base.proofs.BytesLaws.{bytes-length}
+use Rattle.base.specs.Lists.{sum, Each}
+use Rattle.base.proofs.ListLaws.{each-first, each-second}
+use Rattle.base.proofs.Occurs.{Occurs, occurs-first, occurs-second}
 use Rattle.base.specs.Patched.{patched}
-use Rattle.base.specs.Sections.{laid-part}
+use Rattle.base.proofs.Sections.{laid-part}
 use Rattle.format.specs.Types.{Id, Action}
 use Rattle.format.specs.Write.{actionBytes}
 use Rattle.replication.specs.Machine.Types.{Log, Server, withLog}
@@ -29,7 +29,8 @@ use Rattle.engine.proofs.Used.{ActionFits, action-slot-length, action-slots-len
 use Rattle.engine.proofs.Fit.{well-formed-fits, section-length}
 use Rattle.engine.proofs.Slots.{actions-count}
 use Rattle.engine.proofs.Decoded.{image-part}
-use Rattle.engine.proofs.InPlace.{Holds, holds-section, holds-decoded}
+use Rattle.engine.specs.Holding.{Holds}
+use Rattle.engine.proofs.InPlace.{holds-section, holds-decoded}
 use Rattle.record.specs.Values.{idOf}
 use Rattle.queue.specs.Queue.{position, queueAt, redsIn, promoted}
 use Rattle.queue.proofs.Inside.{Changed, changed-at, over-changed}

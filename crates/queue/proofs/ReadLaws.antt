@@ -10,7 +10,8 @@ use native.Mathlib.Nat.{add-assoc}
 use lib.ListN.{take, drop, take-append-drop}
 use Rattle.base.specs.Bytes.{numberAt}
 use Rattle.base.specs.Lists.{at}
-use Rattle.base.specs.Tests.{pick, Known, holds, fails, known}
+use Rattle.base.specs.Tests.{pick}
+use Rattle.base.proofs.TestLaws.{Known, holds, fails, known}
 use Rattle.format.specs.Types.{Id, Action}
 use Rattle.format.specs.Range.{sameId}
 use Rattle.format.specs.Read.{idAt, payloadAt, actionAt}
@@ -21,7 +22,8 @@ use Rattle.replication.specs.Machine.Colours.{find}
 use Rattle.replication.specs.Machine.WellFormed.{queue}
 use Rattle.engine.specs.Layout.{slotSize, atGreenLength}
 use Rattle.engine.specs.Decode.{actionsAt, decodedAs, serversIn, quotaIn, decoded}
-use Rattle.engine.proofs.InPlace.{Holds, holds-decoded}
+use Rattle.engine.specs.Holding.{Holds}
+use Rattle.engine.proofs.InPlace.{holds-decoded}
 use Rattle.queue.specs.Queue.{position, queueCount, queueAt, ownCount, ownAt}
 
 -- ---- the lists

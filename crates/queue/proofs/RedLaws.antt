@@ -7,18 +7,19 @@ use mathlib.Core.List.{List}
 use native.Mathlib.Omega.{arith}
 use lib.ListN.{length, getD}
 use Rattle.base.specs.Bytes.{numberAt}
-use Rattle.base.specs.BytesLaws.{numbers-at}
+use Rattle.base.proofs.BytesLaws.{numbers-at}
 use Rattle.base.specs.Lists.{sum}
-use Rattle.base.specs.Tests.{eq-yes, eq-no}
+use Rattle.base.proofs.TestLaws.{eq-yes, eq-no}
 use Rattle.format.specs.Types.{Action}
 use Rattle.replication.specs.Machine.Types.{Log, Server, withLog}
 use Rattle.replication.specs.Machine.Colours.{cut, nextIndex, isNext, enter, red}
 use Rattle.replication.proofs.Step.Logs.{red-entered, red-ignored}
-use Rattle.replication.proofs.WellFormed.RuleFacts.{Delivered}
+use Rattle.replication.specs.Laws.RuleFits.{Delivered}
 use Rattle.engine.specs.Layout.{sections, offset, headerSize, atServers}
 use Rattle.engine.specs.Image.{image}
 use Rattle.engine.specs.Decode.{decodedAs, serversIn, quotaIn, decoded}
-use Rattle.engine.proofs.InPlace.{Holds, holds-decoded}
+use Rattle.engine.specs.Holding.{Holds}
+use Rattle.engine.proofs.InPlace.{holds-decoded}
 use Rattle.record.specs.declared.ActionHead.{ActionHead}
 use Rattle.record.specs.Values.{idOf, actionOf}
 use Rattle.queue.specs.Queue.{RoomFor, RoomIfNext}

@@ -6,10 +6,10 @@ ghost use lib.ListN.{length};
 ghost use Rattle.record.specs.Values.{actionOf};
 ghost use Rattle.replication.specs.Machine.Types.{Server, withLog};
 ghost use Rattle.replication.specs.Machine.Colours.{isNext, enter as entered, red as reddened};
-ghost use Rattle.replication.proofs.WellFormed.RuleFacts.{Delivered};
+ghost use Rattle.replication.specs.Laws.RuleFits.{Delivered};
 ghost use Rattle.engine.specs.Layout.{slotSize, headerSize};
 ghost use Rattle.engine.specs.Image.{image};
-ghost use Rattle.engine.proofs.InPlace.{Holds};
+ghost use Rattle.engine.specs.Holding.{Holds, BecomesWhere};
 ghost use Rattle.queue.specs.Queue.{RoomFor, RoomIfNext, appended, queued, popped};
 use crate::places::own_place;
 use crate::places::queue_place;
@@ -76,7 +76,7 @@ pub fn enter(state: &mut [u8], head: ActionHead, payload: &[u8])
 // The action is entered if it is its creator's next one; "any other is ignored".
 pub fn red(state: &mut [u8], head: ActionHead, payload: &[u8])
     requires { ⌜ RoomIfNext (head .creator) (head .index) (length (now payload)) (now state) ⌝ }
-    ensures { λ _. ⌜ ((s : Server) → Holds s (now (state .entry)) → Delivered s (actionOf head (now (payload .entry))) → now (state .exit) ≡ image (withLog (reddened (actionOf head (now (payload .entry))) (s .log)) s) (now (state .entry))) ⌝ }
+    ensures { λ _. ⌜ BecomesWhere (λ s. Delivered s (actionOf head (now (payload .entry)))) (λ s. withLog (reddened (actionOf head (now (payload .entry))) (s .log)) s) (now (state .entry)) (now (state .exit)) ⌝ }
 {
     let cut = num16(state, State::SIZE + 2 * head.creator as usize);
     if cut as u32 + 1 != head.index as u32 {

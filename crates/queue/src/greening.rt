@@ -3,12 +3,11 @@ ghost use mathlib.Core.Path.{_≡_};
 ghost use Prim.Native.Nat.{_+_, _*_, _-_, _≤_, _<_};
 ghost use lib.ListN.{length};
 ghost use Rattle.record.specs.Values.{idOf, actionOf};
-ghost use Rattle.replication.specs.Machine.Types.{Server, withLog};
+ghost use Rattle.replication.specs.Machine.Types.{withLog};
 ghost use Rattle.replication.specs.Machine.Colours.{greenId, green as greened};
-ghost use Rattle.replication.proofs.WellFormed.RuleFacts.{Delivered};
+ghost use Rattle.replication.specs.Laws.RuleFits.{Delivered};
 ghost use Rattle.engine.specs.Layout.{slotSize, headerSize};
-ghost use Rattle.engine.specs.Image.{image};
-ghost use Rattle.engine.proofs.InPlace.{Holds, HoldsSuch};
+ghost use Rattle.engine.specs.Holding.{HoldsSuch, Becomes, BecomesWhere};
 ghost use Rattle.queue.specs.Queue.{position, queueCount, greenCount, redsIn, CountsIn, promoted};
 use crate::entering::red;
 use crate::finding::find;
@@ -56,7 +55,7 @@ fn red_place(state: &[u8], creator: u8, index: u16) -> usize
 // "A newly green action goes directly above the last green one, and reds above it move up. One already green stays."
 pub fn green_id(state: &mut [u8], creator: u8, index: u16)
     requires { ⌜ CountsIn (now state) ⌝ }
-    ensures { λ _. ⌜ ((s : Server) → Holds s (now (state .entry)) → now (state .exit) ≡ image (withLog (greenId (idOf creator index) (s .log)) s) (now (state .entry))) ⌝ }
+    ensures { λ _. ⌜ Becomes (λ s. withLog (greenId (idOf creator index) (s .log)) s) (now (state .entry)) (now (state .exit)) ⌝ }
 {
     let k = red_place(state, creator, index);
     if red_count(state) <= k {
@@ -74,7 +73,7 @@ pub fn green_id(state: &mut [u8], creator: u8, index: u16)
 // "As red, then" green.
 pub fn green(state: &mut [u8], head: ActionHead, payload: &[u8])
     requires { ⌜ HoldsSuch (λ s. Delivered s (actionOf head (now payload))) (now state) ⌝ }
-    ensures { λ _. ⌜ ((s : Server) → Holds s (now (state .entry)) → Delivered s (actionOf head (now (payload .entry))) → now (state .exit) ≡ image (withLog (greened (actionOf head (now (payload .entry))) (s .log)) s) (now (state .entry))) ⌝ }
+    ensures { λ _. ⌜ BecomesWhere (λ s. Delivered s (actionOf head (now (payload .entry)))) (λ s. withLog (greened (actionOf head (now (payload .entry))) (s .log)) s) (now (state .entry)) (now (state .exit)) ⌝ }
 {
     red(state, head, payload);
     green_id(state, head.creator, head.index);

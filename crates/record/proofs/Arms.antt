@@ -7,8 +7,9 @@ use mathlib.Core.List.{List}
 use lib.Dec.{leb, ltb}
 use mir.Syntax.{w32}
 use mir.Val.{Fits}
-use Rattle.base.specs.Tests.{_<?_, and-yes, and-lt}
-use Rattle.base.specs.Branches.{told-lt, and-true, and-answered}
+use Rattle.base.specs.Tests.{_<?_}
+use Rattle.base.proofs.TestLaws.{and-yes, and-lt}
+use Rattle.base.proofs.Branches.{told-lt, and-true, and-answered}
 use Rattle.base.specs.Bytes.{Bytes}
 use Rattle.format.specs.Types.{retransmission, transitional}
 use Rattle.format.specs.Range.{lengthOk, actionOk, stateOk, configurationOk, ownSetOk, fieldsOk}

@@ -8,10 +8,11 @@ use lib.ListN.{length}
 use lib.Dec.{leb}
 use mir.Syntax.{w32}
 use mir.Val.{Fits}
-use Rattle.base.specs.Tests.{_≤?_, _<?_, _and_, lt-yes, eq-yes}
-use Rattle.base.specs.Branches.{told-le, and-true, and-false, and-answered, and-denied}
+use Rattle.base.specs.Tests.{_≤?_, _<?_, _and_}
+use Rattle.base.proofs.TestLaws.{lt-yes, eq-yes}
+use Rattle.base.proofs.Branches.{told-le, and-true, and-false, and-answered, and-denied}
 use Rattle.base.specs.Bytes.{Bytes, partAt}
-use Rattle.base.specs.BytesLaws.{part-length, part-are-bytes, numbers-length}
+use Rattle.base.proofs.BytesLaws.{part-length, part-are-bytes, numbers-length}
 use Rattle.format.specs.Types.{Context as FormatContext, State as FormatState}
 use Rattle.format.specs.Range.{payloadOk, lengthOk, cutsOk, indexOk, primaryOk, markOk, statusOk, idsOk, yellowOk, configurationOk, stateOk}
 use Rattle.record.specs.Context.{contextOf}

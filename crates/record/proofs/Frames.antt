@@ -6,7 +6,8 @@ use mathlib.Core.List.{List}
 use mathlib.Core.Option.{some}
 use native.Mathlib.Omega.{arith}
 use lib.ListN.{length}
-use Rattle.base.specs.Tests.{_=?_, pick-yes, pick-no, eq-yes, eq-no}
+use Rattle.base.specs.Tests.{_=?_}
+use Rattle.base.proofs.TestLaws.{pick-yes, pick-no, eq-yes, eq-no}
 use Rattle.base.specs.Bytes.{numberAt}
 use Rattle.format.specs.Types.{action, retransmission, state, Kind, ofAction, ofRetransmission, ofState, ofCpc, ofRegular, ofTransitional, ofRequest, ofRecovery}
 use Rattle.format.specs.Read.{payloadAt, idAt, actionAt, primaryAt, markAt, yellowAt, stateAt, lengthFor, recordIn}

@@ -9,8 +9,9 @@ use native.Mathlib.Omega.{arith}
 use lib.ListN.{length}
 use lib.Dec.{eqb}
 use borrow.Author.Tests.{not-true, not-false}
-use Rattle.base.specs.Tests.{_≤?_, pick-yes, pick-no, pick-ne, and-holds, and-le, and-gt, and-eq, and-ne, le-holds}
-use Rattle.base.specs.Branches.{told-eq}
+use Rattle.base.specs.Tests.{_≤?_}
+use Rattle.base.proofs.TestLaws.{pick-yes, pick-no, pick-ne, and-holds, and-le, and-gt, and-eq, and-ne, le-holds}
+use Rattle.base.proofs.Branches.{told-eq}
 use Rattle.base.specs.Bytes.{numberAt}
 use Rattle.format.specs.Types.{Kind, kindNumber}
 use Rattle.format.specs.Read.{kindNamed}

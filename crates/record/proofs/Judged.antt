@@ -7,9 +7,10 @@ use mathlib.Core.List.{List}
 use mathlib.Core.Option.{Option, none, some}
 use native.Mathlib.Omega.{arith}
 use lib.ListN.{length, List·getD-eq-default}
-use Rattle.base.specs.Tests.{_≤?_, _=?_, _and_, pick, le-fails, Known, known, holds, fails}
+use Rattle.base.specs.Tests.{_≤?_, _=?_, _and_, pick}
+use Rattle.base.proofs.TestLaws.{le-fails, Known, known, holds, fails}
 use Rattle.base.specs.Bytes.{numberAt}
-use Rattle.base.specs.BytesLaws.{number1}
+use Rattle.base.proofs.BytesLaws.{number1}
 use Rattle.format.specs.Limits.{version}
 use Rattle.format.specs.Types.{Record, Kind, kindNumber, Context as FormatContext, Reading as FormatReading, says, refused}
 use Rattle.format.specs.Range.{recordOk}

@@ -6,7 +6,7 @@ use mathlib.Core.List.{List}
 use native.Mathlib.Omega.{arith}
 use lib.ListN.{getD}
 use Rattle.base.specs.Bytes.{numberAt}
-use Rattle.base.specs.BytesLaws.{number1, number2, number4}
+use Rattle.base.proofs.BytesLaws.{number1, number2, number4}
 
 pub byte-read : (e : List ℕ) (at x : ℕ) → x ≡ getD e at 0 → x ≡ numberAt 1 e at
 byte-read e at x h = h ∙ sym (number1 e at)

@@ -7,8 +7,9 @@ use mathlib.Core.List.{List, [], _∷_}
 use native.Mathlib.Omega.{arith}
 use lib.ListN.{length, getD, set, length-set, length-replicate, replicate}
 use lib.Seq.{getD-set-same, getD-set-other}
-use Rattle.base.specs.Tests.{_=?_, _and_, _or_, not-both, and-holds, both-yes, eq-holds, eq-yes}
-use Rattle.base.specs.Branches.{and-false}
+use Rattle.base.specs.Tests.{_=?_, _and_, _or_}
+use Rattle.base.proofs.TestLaws.{not-both, and-holds, both-yes, eq-holds, eq-yes}
+use Rattle.base.proofs.Branches.{and-false}
 use Rattle.format.specs.Types.{Id, Context}
 use Rattle.format.specs.Range.{idOk, sameId, hasId, idsDiffer, idsInRange, idsOk}
 use Rattle.format.proofs.Ranges.{IdRange, id-range}

@@ -6,9 +6,9 @@ use mathlib.Core.Bool.{true}
 use mathlib.Core.List.{List}
 use native.Mathlib.Omega.{arith}
 use lib.ListN.{length}
-use Rattle.base.specs.Tests.{and-holds, lt-holds, le-holds}
+use Rattle.base.proofs.TestLaws.{and-holds, lt-holds, le-holds}
 use Rattle.base.specs.Bytes.{Bytes, partAt}
-use Rattle.base.specs.BytesLaws.{part-length}
+use Rattle.base.proofs.BytesLaws.{part-length}
 use Rattle.format.specs.Range.{contextOk, lengthOk, payloadOk, actionOk, stateOk, fieldsOk}
 use Rattle.format.specs.Read.{idsAt}
 use Rattle.format.proofs.Ranges.{context-range, id-range, payload-range, state-range}

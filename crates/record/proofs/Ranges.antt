@@ -11,7 +11,7 @@ use mir.Syntax.{w32}
 use mir.Val.{Fits}
 use Rattle.base.specs.Tests.{_≤?_, _<?_, _=?_}
 use Rattle.base.specs.Sets.{inside}
-use Rattle.base.specs.Branches.{told-le, told-lt}
+use Rattle.base.proofs.Branches.{told-le, told-lt}
 use Rattle.format.specs.Limits.{mostServers, mostQuota}
 use Rattle.format.specs.Range.{insideLast}
 use Rattle.record.specs.Context.{lastOf}

@@ -7,8 +7,9 @@ use mathlib.Core.List.{List}
 use mathlib.Core.Option.{some}
 use native.Mathlib.Omega.{arith}
 use borrow.Author.Tests.{not-true, not-false}
-use Rattle.base.specs.Tests.{_and_, pick-yes, pick-no, and-no, both-yes}
-use Rattle.base.specs.Branches.{and-false}
+use Rattle.base.specs.Tests.{_and_}
+use Rattle.base.proofs.TestLaws.{pick-yes, pick-no, and-no, both-yes}
+use Rattle.base.proofs.Branches.{and-false}
 use Rattle.base.specs.Bytes.{Bytes}
 use Rattle.format.specs.Types.{says, refused}
 use Rattle.format.specs.Range.{contextOk, fieldsOk, recordOk}

@@ -10,7 +10,8 @@ use lib.ListN.{length, getD, set, replicate}
 use borrow.Author.Tests.{not-false}
 use mir.Syntax.{w64}
 use mir.Val.{Fits}
-use Rattle.base.specs.Tests.{_≤?_, _=?_, pick-yes, pick-no, and-yes, and-no, le-yes, le-no, eq-yes, eq-no, Known, known, holds, fails}
+use Rattle.base.specs.Tests.{_≤?_, _=?_}
+use Rattle.base.proofs.TestLaws.{pick-yes, pick-no, and-yes, and-no, le-yes, le-no, eq-yes, eq-no, Known, known, holds, fails}
 use Rattle.base.specs.Bytes.{numberAt, numbersAt}
 use Rattle.format.specs.Types.{Id, Context as FormatContext}
 use Rattle.format.specs.Range.{cutsOk, idOk, idsOk}

@@ -6,7 +6,7 @@ use mathlib.Core.List.{List, [], _∷_, _++_, append-assoc, append-nil}
 use native.Mathlib.Omega.{arith}
 use lib.ListN.{length, take, length-append}
 use Rattle.base.specs.Bytes.{bytesOf, bytesOfAll, numbersAt, partAt, joined}
-use Rattle.base.specs.BytesLaws.{bytes-length, bytes1, bytes2, numbers-length}
+use Rattle.base.proofs.BytesLaws.{bytes-length, bytes1, bytes2, numbers-length}
 use Rattle.base.specs.Patched.{patched}
 use Rattle.format.specs.Limits.{version}
 use Rattle.format.specs.Types.{action, retransmission, state, cpc, kindNumber, kindOf, ofState}

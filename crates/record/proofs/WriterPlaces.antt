@@ -6,7 +6,8 @@ use mathlib.Core.Bool.{Bool, true, false}
 use mathlib.Core.List.{List}
 use native.Mathlib.Omega.{arith}
 use lib.ListN.{length}
-use Rattle.base.specs.Tests.{_≤?_, _and_, pick, le-yes, le-no, le-holds, pick-yes, pick-no, pick-le, pick-gt, and-holds, and-yes, and-no, both-yes, Known, known, holds, fails}
+use Rattle.base.specs.Tests.{_≤?_, _and_, pick}
+use Rattle.base.proofs.TestLaws.{le-yes, le-no, le-holds, pick-yes, pick-no, pick-le, pick-gt, and-holds, and-yes, and-no, both-yes, Known, known, holds, fails}
 use Rattle.base.specs.Patched.{patched}
 use Rattle.format.specs.Types.{state}
 use Rattle.format.specs.Write.{write}

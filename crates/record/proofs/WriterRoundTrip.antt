@@ -6,9 +6,11 @@ use mathlib.Core.Bool.{Bool, true, false}
 use mathlib.Core.List.{List}
 use native.Mathlib.Omega.{arith}
 use lib.ListN.{length, take, drop}
-use Rattle.base.specs.Tests.{_≤?_, pick, le-holds}
+use Rattle.base.specs.Tests.{_≤?_, pick}
+use Rattle.base.proofs.TestLaws.{le-holds}
 use Rattle.base.specs.Bytes.{partAt}
-use Rattle.base.specs.Patched.{patched, patched-length, patched-before, patched-behind, patched-part}
+use Rattle.base.specs.Patched.{patched}
+use Rattle.base.proofs.PatchedLaws.{patched-length, patched-before, patched-behind, patched-part}
 use Rattle.format.specs.Types.{Record, state, Context, says}
 use Rattle.format.specs.Range.{recordOk}
 use Rattle.format.specs.Read.{read}

@@ -9,12 +9,14 @@ use mir.Val.{Fits}
 use mir.Syntax.{w8}
 use lib.ListN.{length, getD, take, length-append}
 use lib.Seq.{length-take-le}
-use Rattle.base.specs.Tests.{_≤?_, _and_, pick, pick-yes, pick-no, le-yes, le-no, le-holds, both-yes, and-holds, and-yes, and-no, Known, known, holds, fails}
+use Rattle.base.specs.Tests.{_≤?_, _and_, pick}
+use Rattle.base.proofs.TestLaws.{pick-yes, pick-no, le-yes, le-no, le-holds, both-yes, and-holds, and-yes, and-no, Known, known, holds, fails}
 use Rattle.base.specs.Bytes.{Bytes, bytesOfAll, numbersAt, partAt}
-use Rattle.base.specs.BytesLaws.{numbers-length}
-use Rattle.base.specs.NumberStores.{bytes-all-length}
+use Rattle.base.proofs.BytesLaws.{numbers-length}
+use Rattle.base.proofs.NumberStores.{bytes-all-length}
 use Rattle.base.specs.Lists.{sum}
-use Rattle.base.specs.Patched.{patched, patched-next}
+use Rattle.base.specs.Patched.{patched}
+use Rattle.base.proofs.PatchedLaws.{patched-next}
 use Rattle.format.specs.Types.{state, kindNumber, ofState}
 use Rattle.format.specs.Read.{idsAt}
 use Rattle.format.specs.Write.{cutsBytes, idsBytes, write, lengthOf}

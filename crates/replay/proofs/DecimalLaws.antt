@@ -8,7 +8,8 @@ use native.Mathlib.Decide.{decLt}
 use native.Mathlib.Nat.{pow-suc, pow-le-pow-right}
 use mir.Syntax.{w64}
 use mir.Val.{Fits}
-use Rattle.base.specs.Tests.{_<?_, lt-yes}
+use Rattle.base.specs.Tests.{_<?_}
+use Rattle.base.proofs.TestLaws.{lt-yes}
 use Rattle.base.specs.Text.{digits, decimal}
 use Rattle.io.specs.Digits as io
 use Rattle.io.specs.Digits.{Fewest}

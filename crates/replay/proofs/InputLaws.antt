@@ -7,7 +7,8 @@ use mathlib.Core.List.{List}
 use native.Mathlib.Omega.{arith}
 use lib.ListN.{length, getD}
 use borrow.Author.Tests.{not-true, not-false}
-use Rattle.base.specs.Tests.{_and_, _≤?_, _<?_, _=?_, pick, pick-as, pick-yes, pick-no, pick-lt, pick-ge, and-holds, both-yes, eq-holds, eq-yes, le-holds, le-yes, lt-holds, lt-fails, not-both, Known, holds, fails, known}
+use Rattle.base.specs.Tests.{_and_, _≤?_, _<?_, _=?_, pick}
+use Rattle.base.proofs.TestLaws.{pick-as, pick-yes, pick-no, pick-lt, pick-ge, and-holds, both-yes, eq-holds, eq-yes, le-holds, le-yes, lt-holds, lt-fails, not-both, Known, holds, fails, known}
 use Rattle.base.specs.Bytes.{numberAt}
 use Rattle.format.specs.Limits.{version}
 use Rattle.format.specs.Types.{Reading, says, refused}

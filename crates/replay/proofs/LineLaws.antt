@@ -6,7 +6,8 @@ use mathlib.Core.List.{List, _++_, append-assoc}
 use native.Mathlib.Omega.{arith}
 use lib.ListN.{length, take, drop, length-append}
 use lib.Seq.{take-at, length-take-le}
-use Rattle.base.specs.Patched.{patched, patched-length}
+use Rattle.base.specs.Patched.{patched}
+use Rattle.base.proofs.PatchedLaws.{patched-length}
 use Rattle.base.specs.Text.{ascii, decimal}
 use mir.Syntax.{w64}
 use mir.Val.{Fits}
@@ -14,7 +15,7 @@ use Rattle.io.specs.Counts.{Counts}
 use Rattle.io.specs.Digits as io
 use Rattle.io.specs.Digits.{Fewest}
 use Rattle.io.proofs.Counting.{counts}
-use Rattle.base.specs.Tests.{pick-ne}
+use Rattle.base.proofs.TestLaws.{pick-ne}
 use Rattle.replication.specs.Machine.Types.{Mode, Non-prim, Reg-prim, Trans-prim, Exchange-states, Exchange-actions, Construct, No, Un}
 use Rattle.replication.specs.Replay.{modeName, line, header, inputLine, setupLine}
 use Rattle.engine.specs.Image.{modeNumber}

@@ -9,7 +9,7 @@ use lib.ListN.{length, getD, take, drop, length-drop}
 use lib.Seq.{take-all, drop-drop}
 use mir.Syntax.{w8, w64}
 use mir.Val.{Fits}
-use Rattle.base.specs.BytesLaws.{given-bytes}
+use Rattle.base.proofs.BytesLaws.{given-bytes}
 use Rattle.servers.specs.declared.Server.{Server}
 use Rattle.replay.specs.declared.turns.Going.{Going}
 use Rattle.replay.specs.declared.turns.Going.the-variants.{On, Read, Stop}

@@ -6,7 +6,8 @@ use mathlib.Core.Bool.{Bool, true}
 use mathlib.Core.List.{List}
 use native.Mathlib.Omega.{arith}
 use lib.ListN.{length, take, drop, length-drop}
-use Rattle.base.specs.Tests.{_<?_, not-both, Known, holds, fails, known, lt-holds, lt-fails}
+use Rattle.base.specs.Tests.{_<?_}
+use Rattle.base.proofs.TestLaws.{not-both, Known, holds, fails, known, lt-holds, lt-fails}
 use Rattle.base.specs.Bytes.{Bytes}
 use Rattle.servers.specs.declared.Server.{Server}
 use Rattle.replay.specs.declared.turns.Going.{Going}

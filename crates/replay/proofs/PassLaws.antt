@@ -7,9 +7,10 @@ use mathlib.Core.List.{List, [], _++_, append-assoc}
 use native.Mathlib.Nat.{zero-add}
 use native.Mathlib.Omega.{arith}
 use lib.ListN.{length, take, drop, length-drop}
-use Rattle.base.specs.Tests.{_<?_, pick-lt, pick-ge, Known, holds, fails, known, lt-holds, lt-fails}
+use Rattle.base.specs.Tests.{_<?_}
+use Rattle.base.proofs.TestLaws.{pick-lt, pick-ge, Known, holds, fails, known, lt-holds, lt-fails}
 use Rattle.base.specs.Bytes.{Bytes}
-use Rattle.base.specs.BytesLaws.{number-lt, bytes-drop}
+use Rattle.base.proofs.BytesLaws.{number-lt, bytes-drop}
 use Rattle.servers.specs.declared.Server.{Server}
 use Rattle.replay.specs.declared.input.Next.{Next}
 use Rattle.replay.specs.declared.input.Next.the-variants.{Event, Wrong, More, Done}

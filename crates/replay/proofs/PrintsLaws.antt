@@ -7,9 +7,10 @@ use mathlib.Core.List.{List, [], _∷_, _++_, append-nil, map}
 use native.Mathlib.Omega.{arith}
 use lib.ListN.{length, getD, take, drop, length-append}
 use lib.Seq.{take-append-le, drop-append-le}
-use Rattle.base.specs.Tests.{_<?_, _≤?_, lt-yes, lt-no, le-yes, le-no, le-holds, and-holds, pick-as}
+use Rattle.base.specs.Tests.{_<?_, _≤?_}
+use Rattle.base.proofs.TestLaws.{lt-yes, lt-no, le-yes, le-no, le-holds, and-holds, pick-as}
 use Rattle.base.specs.Bytes.{numberAt, partAt}
-use Rattle.base.specs.BytesLaws.{number-drop, number-front}
+use Rattle.base.proofs.BytesLaws.{number-drop, number-front}
 use Rattle.base.specs.Lists.{at, below}
 use Rattle.format.specs.Types.{Reading, says, refused}
 use Rattle.format.specs.Setup.{Setup, setupIn, setupFrameOk, setupOk, readSetup}

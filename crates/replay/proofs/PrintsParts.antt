@@ -7,10 +7,11 @@ use mathlib.Core.List.{List, [], _∷_, _++_, append-assoc, append-nil}
 use mathlib.Core.Option.{some}
 use native.Mathlib.Omega.{arith}
 use lib.ListN.{length, take, drop, length-drop, length-map}
-use Rattle.base.specs.Tests.{_<?_, _=?_, pick, pick-yes, pick-no, not-both, Known, holds, fails, known, lt-holds, lt-fails, eq-no, eq-holds, eq-fails}
+use Rattle.base.specs.Tests.{_<?_, _=?_, pick}
+use Rattle.base.proofs.TestLaws.{pick-yes, pick-no, not-both, Known, holds, fails, known, lt-holds, lt-fails, eq-no, eq-holds, eq-fails}
 use Rattle.base.specs.Bytes.{joined}
-use Rattle.base.specs.ListLaws.{Each, below-length}
-use Rattle.base.specs.Lists.{below}
+use Rattle.base.specs.Lists.{Each, below}
+use Rattle.base.proofs.ListLaws.{below-length}
 use Rattle.replication.specs.Images.{Images}
 use Rattle.replication.specs.Replay.{header, setupLine, events, replay}
 use Rattle.servers.specs.declared.Server.{Server}

@@ -6,7 +6,8 @@ use mathlib.Core.Bool.{Bool, true, false}
 use mathlib.Core.List.{List, [], _∷_, _++_, append-assoc}
 use native.Mathlib.Omega.{arith}
 use lib.ListN.{take, drop}
-use Rattle.base.specs.Tests.{not-both, pick, pick-eq}
+use Rattle.base.proofs.TestLaws.{not-both, pick-eq}
+use Rattle.base.specs.Tests.{pick}
 use Rattle.replication.specs.Replay.{header, setupLine}
 use Rattle.servers.specs.declared.Server.{Server}
 use Rattle.servers.specs.Starting.{freshTable}

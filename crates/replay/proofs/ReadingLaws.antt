@@ -9,7 +9,8 @@ use lib.Dec.{eqb}
 use lib.ListN.{length, take, drop, length-append, length-take, length-drop}
 use lib.Seq.{take-at, drop-at, take-add, take-append-le, take-append-add, length-take-le}
 use borrow.Author.Tests.{not-true, not-false}
-use Rattle.base.specs.Tests.{_=?_, not-both}
+use Rattle.base.specs.Tests.{_=?_}
+use Rattle.base.proofs.TestLaws.{not-both}
 use Rattle.base.specs.Patched.{patched}
 use Rattle.io.specs.Counts.{Counts}
 use Rattle.io.proofs.Counting.{counts}

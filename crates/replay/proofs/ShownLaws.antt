@@ -8,7 +8,7 @@ use native.Mathlib.Omega.{arith}
 use lib.ListN.{length, getD, length-append}
 use Rattle.base.specs.Bytes.{numberAt}
 use Rattle.base.specs.Lists.{at}
-use Rattle.base.specs.AtLaws.{at-there}
+use Rattle.base.proofs.AtLaws.{at-there}
 use Rattle.base.specs.Text.{decimal}
 use Rattle.replication.specs.Machine.Types.{Server, Outcome}
 use Rattle.replication.specs.Machine.WellFormed.{queue}
@@ -19,7 +19,7 @@ use Rattle.engine.specs.Header.{lastOf, headerOf, headerIn}
 use Rattle.engine.specs.Decode.{modeNamed}
 use Rattle.engine.proofs.HeaderLaws.{header-loaded}
 use Rattle.engine.proofs.HeaderRead.{mode-named}
-use Rattle.engine.proofs.InPlace.{Holds}
+use Rattle.engine.specs.Holding.{Holds}
 use Rattle.record.specs.Events.{lastIn}
 use Rattle.servers.specs.declared.Server as declared
 use Rattle.engine.specs.Layout.{atMode, atQueueLength, atGreenLength, atLast}

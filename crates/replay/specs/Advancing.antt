@@ -6,7 +6,7 @@ use mathlib.Core.Bool.{true, false}
 use mathlib.Core.List.{List, [], _∷_, _++_}
 use lib.ListN.{length, take, drop}
 use Rattle.base.specs.Bytes.{joined}
-use Rattle.base.specs.ListLaws.{Each}
+use Rattle.base.specs.Lists.{Each}
 use Rattle.replication.specs.Replay.{header, replay}
 use Rattle.servers.specs.Starting.{freshTable}
 use Rattle.replay.specs.declared.Standing.{Standing}

@@ -7,7 +7,7 @@ use mathlib.Core.List.{List, [], _∷_, _++_}
 use lib.ListN.{length, take, drop}
 use Rattle.base.specs.Tests.{_<?_, _=?_, pick}
 use Rattle.base.specs.Bytes.{joined}
-use Rattle.base.specs.ListLaws.{Each}
+use Rattle.base.specs.Lists.{Each}
 use Rattle.replication.specs.Replay.{header, setupLine, replay}
 use Rattle.servers.specs.declared.Server.{Server}
 use Rattle.servers.specs.Starting.{freshTable}

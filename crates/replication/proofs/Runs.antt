@@ -1,4 +1,5 @@
 pub mod Places
+pub mod DeliveryFacts
 pub mod Turns
 pub mod Shifts
 pub mod Entries

@@ -11,4 +11,3 @@ pub mod SpecificationFields
 pub mod OrderFields
 pub mod Sound
 pub mod Strays
-pub mod Runs

@@ -1,3 +1,4 @@
+pub mod SentFacts
 pub mod Ids
 pub mod Ranges
 pub mod Parts

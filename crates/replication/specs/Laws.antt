@@ -9,3 +9,4 @@ pub mod Folds
 pub mod Sending
 pub mod Primary
 pub mod Kinds
+pub mod RuleFits

@@ -9,4 +9,3 @@ pub mod Step
 pub mod WellFormed
 pub mod WellFormedRanges
 pub mod WellFormedFacts
-pub mod WellFormedSent

@@ -3,5 +3,4 @@ pub mod Happenings
 pub mod Allowed
 pub mod Strays
 pub mod Claim
-pub mod DeliveryFacts
 pub mod Noted

@@ -7,9 +7,9 @@ use mathlib.Core.List.{List}
 use native.Mathlib.Omega.{arith}
 use lib.ListN.{length, take, drop, length-drop, drop-of-length-le}
 use lib.Seq.{take-all, drop-length, drop-drop}
-use Rattle.base.specs.Tests.{pick-eq, pick-ne}
+use Rattle.base.proofs.TestLaws.{pick-eq, pick-ne}
 use Rattle.base.specs.Bytes.{numberAt}
-use Rattle.base.specs.BytesLaws.{number-drop}
+use Rattle.base.proofs.BytesLaws.{number-drop}
 use Rattle.engine.specs.Image.{zeros}
 use Rattle.engine.specs.Outcome.{Result, stepOn}
 use Rattle.buffers.specs.Buffers.{isRecovery, sourceIn, stepIn}

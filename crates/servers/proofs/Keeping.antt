@@ -5,7 +5,8 @@ use mathlib.Core.Path.{_≡_, refl, sym, ap, subst, _∙_}
 use mathlib.Core.List.{List}
 use native.Mathlib.Omega.{arith}
 use lib.ListN.{length}
-use Rattle.base.specs.Tests.{_=?_, pick, pick-eq, eq-holds, eq-fails, Known, holds, fails, known}
+use Rattle.base.specs.Tests.{_=?_, pick}
+use Rattle.base.proofs.TestLaws.{pick-eq, eq-holds, eq-fails, Known, holds, fails, known}
 use Rattle.replication.specs.Laws.Order.{SameServer}
 use Rattle.replication.specs.Machine.Types.{Outcome, refused, taken}
 use Rattle.replication.specs.Images.{Images, arrive, leftBy}
@@ -14,7 +15,7 @@ use Rattle.replication.specs.Runs.Run.{recordsOf}
 use Rattle.engine.specs.Layout.{outLength}
 use Rattle.engine.specs.Image.{zeros}
 use Rattle.engine.specs.Outcome.{Result}
-use Rattle.engine.proofs.InPlace.{Holds}
+use Rattle.engine.specs.Holding.{Holds}
 use Rattle.engine.proofs.StartLaws.{zeros-length}
 use Rattle.buffers.specs.Buffers.{stepIn, keptAfter}
 use Rattle.buffers.proofs.Keeping as keeping

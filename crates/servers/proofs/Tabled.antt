@@ -9,11 +9,12 @@ use native.Mathlib.Omega.{arith}
 use native.Mathlib.Decide.{ℕ-discrete}
 use lib.ListN.{length, getD, set, length-set, length-map}
 use lib.Seq.{getD-set-same, getD-set-other}
-use Rattle.base.specs.Tests.{_<?_, lt-yes}
+use Rattle.base.specs.Tests.{_<?_}
+use Rattle.base.proofs.TestLaws.{lt-yes}
 use Rattle.base.specs.Lists.{at, below}
-use Rattle.base.specs.AtLaws.{some-same, at-low, at-set-same, at-set-other, at-map}
-use Rattle.base.specs.Gathered.{at-below}
-use Rattle.base.specs.ListLaws.{below-length}
+use Rattle.base.proofs.AtLaws.{some-same, at-low, at-set-same, at-set-other, at-map}
+use Rattle.base.proofs.Gathered.{at-below}
+use Rattle.base.proofs.ListLaws.{below-length}
 use Rattle.format.specs.Range.{sizesOk}
 use Rattle.replication.specs.Machine.Types.{start}
 use Rattle.replication.specs.Images.{Images, started, arrive, leftBy}

@@ -8,15 +8,16 @@ use mathlib.Core.Option.{Option, none, some, Option·none-ne-some}
 use native.Mathlib.Nat.{zero-add, one-le-pow}
 use native.Mathlib.Omega.{arith}
 use lib.ListN.{length, getD, length-append, length-map, take-append-drop}
-use Rattle.base.specs.Tests.{not-both, both-yes, le-yes, lt-yes, eq-yes, eq-holds, _=?_, _<?_}
+use Rattle.base.proofs.TestLaws.{not-both, both-yes, le-yes, lt-yes, eq-yes, eq-holds}
+use Rattle.base.specs.Tests.{_=?_, _<?_}
 use Rattle.base.specs.Bytes.{partAt}
-use Rattle.base.specs.BytesLaws.{numbers-at}
-use Rattle.base.specs.Entries.{everyAt, every-number}
-use Rattle.base.specs.Lists.{all, above, sum}
-use Rattle.base.specs.ListLaws.{Each, each-all, each-append, each-implied, bounded-each, above-length, there}
-use Rattle.base.specs.Occurs.{Occurs, occurs-first}
+use Rattle.base.proofs.BytesLaws.{numbers-at}
+use Rattle.base.specs.Lists.{everyAt, all, above, sum, Each}
+use Rattle.base.proofs.Entries.{every-number}
+use Rattle.base.proofs.ListLaws.{each-all, each-append, each-implied, bounded-each, above-length, there}
+use Rattle.base.proofs.Occurs.{Occurs, occurs-first}
 use Rattle.base.specs.Sets.{inSet, inside}
-use Rattle.base.specs.SetLaws.{members-inside}
+use Rattle.base.proofs.SetLaws.{members-inside}
 use Rattle.format.specs.Limits.{mostIndex}
 use Rattle.format.specs.Types.{Id, Action, State as Record, Context}
 use Rattle.format.specs.Range.{contextOk, lengthOk, actionOk, indexOk, statusOk, idsInRange, idsDiffer, idsOk}
@@ -42,7 +43,8 @@ use Rattle.engine.specs.Header.{headerOf}
 use Rattle.engine.proofs.InRange.{in-range}
 use Rattle.engine.proofs.Fit.{well-formed-fits}
 use Rattle.engine.proofs.Decoded.{image-part}
-use Rattle.engine.proofs.InPlace.{Holds, holds-section}
+use Rattle.engine.specs.Holding.{Holds}
+use Rattle.engine.proofs.InPlace.{holds-section}
 use Rattle.engine.proofs.Slots.{senders-below, held-count}
 use Rattle.state_check.specs.Slots.{heldFit, slotFits, notedAt, notedFit}
 use Rattle.state_check.specs.Numbers.{regularOk, transitionalOk}

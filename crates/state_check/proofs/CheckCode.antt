@@ -7,8 +7,9 @@ use mathlib.Core.List.{List}
 use lib.Dec.{ltb}
 use lib.ListN.{length}
 use borrow.Author.Tests.{not-false}
-use Rattle.base.specs.Tests.{_and_, _<?_, and-holds, and-yes, le-holds}
-use Rattle.base.specs.Branches.{told-lt}
+use Rattle.base.specs.Tests.{_and_, _<?_}
+use Rattle.base.proofs.TestLaws.{and-holds, and-yes, le-holds}
+use Rattle.base.proofs.Branches.{told-lt}
 use Rattle.base.specs.Bytes.{Bytes}
 use Rattle.base.specs.Sets.{inside}
 use Rattle.format.specs.Range.{contextOk, lengthOk}

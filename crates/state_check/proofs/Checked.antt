@@ -4,7 +4,7 @@ use Prim.Native.Nat.{ℕ, _+_, _*_, _≤_}
 use mathlib.Core.Path.{_≡_}
 use mathlib.Core.Bool.{true}
 use mathlib.Core.List.{List}
-use Rattle.base.specs.Tests.{and-holds, both-yes, le-yes, le-holds, eq-yes, eq-holds}
+use Rattle.base.proofs.TestLaws.{and-holds, both-yes, le-yes, le-holds, eq-yes, eq-holds}
 use Rattle.base.specs.Bytes.{numbersAt}
 use Rattle.base.specs.Lists.{sum}
 use Rattle.base.specs.Sets.{inside}

@@ -9,8 +9,9 @@ use native.Mathlib.Omega.{arith}
 use lib.Dec.{eqb}
 use lib.ListN.{length, take, drop}
 use borrow.Author.Tests.{not-true, not-false}
-use Rattle.base.specs.Tests.{_and_, _or_, _=?_, and-yes, and-no, eq-yes, eq-no, le-holds}
-use Rattle.base.specs.Branches.{told-eq}
+use Rattle.base.specs.Tests.{_and_, _or_, _=?_}
+use Rattle.base.proofs.TestLaws.{and-yes, and-no, eq-yes, eq-no, le-holds}
+use Rattle.base.proofs.Branches.{told-eq}
 use Rattle.base.specs.Bytes.{numberAt, partAt}
 use Rattle.base.specs.Sets.{inSet}
 use Rattle.format.specs.Range.{lengthOk}

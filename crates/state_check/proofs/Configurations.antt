@@ -5,9 +5,10 @@ use mathlib.Core.Path.{_≡_, refl, sym, ap, subst, _∙_}
 use mathlib.Core.Bool.{Bool, true, false}
 use mathlib.Core.Option.{Option, none, some, Option·none-ne-some, Option·some-injective}
 use native.Mathlib.Omega.{arith}
-use Rattle.base.specs.Tests.{_and_, _=?_, pick, pick-yes, pick-no, not-both, and-holds, both-yes, eq-yes, eq-no, eq-holds, Known, holds, fails, known}
+use Rattle.base.specs.Tests.{_and_, _=?_, pick}
+use Rattle.base.proofs.TestLaws.{pick-yes, pick-no, not-both, and-holds, both-yes, eq-yes, eq-no, eq-holds, Known, holds, fails, known}
 use Rattle.base.specs.Sets.{inSet, inside}
-use Rattle.base.specs.SetLaws.{in-empty, inside-member}
+use Rattle.base.proofs.SetLaws.{in-empty, inside-member}
 use Rattle.format.specs.Types.{Context}
 use Rattle.format.specs.Range.{ownSetOk, insideLast}
 use Rattle.record.specs.Context.{lastOf}

@@ -8,11 +8,12 @@ use native.Mathlib.Nat.{add-zero}
 use native.Mathlib.Omega.{arith}
 use lib.ListN.{length, getD, take, drop}
 use lib.Seq.{drop-cons, getD-take, getD-drop}
-use Rattle.base.specs.Tests.{_and_, and-holds, both-yes, le-yes, le-holds, eq-yes, eq-holds}
+use Rattle.base.specs.Tests.{_and_}
+use Rattle.base.proofs.TestLaws.{and-holds, both-yes, le-yes, le-holds, eq-yes, eq-holds}
 use Rattle.base.specs.Bytes.{Bytes, numberAt, partAt}
-use Rattle.base.specs.BytesLaws.{part-length, bytes-part}
-use Rattle.base.specs.Entries.{everyAt}
-use Rattle.base.specs.Occurs.{Occurs, occurs-nil, occurs-append, occurs-first, occurs-second}
+use Rattle.base.proofs.BytesLaws.{part-length, bytes-part}
+use Rattle.base.specs.Lists.{everyAt}
+use Rattle.base.proofs.Occurs.{Occurs, occurs-nil, occurs-append, occurs-first, occurs-second}
 use Rattle.format.specs.Limits.{mostPayload}
 use Rattle.format.specs.Types.{Action}
 use Rattle.format.specs.Write.{payloadBytes, actionBytes}

@@ -8,14 +8,14 @@ use mathlib.Core.Option.{none, some}
 use native.Mathlib.Nat.{zero-add}
 use native.Mathlib.Omega.{arith}
 use lib.ListN.{length, getD, take-append-drop}
-use Rattle.base.specs.Tests.{and-holds, le-holds, lt-holds, eq-holds}
+use Rattle.base.proofs.TestLaws.{and-holds, le-holds, lt-holds, eq-holds}
 use Rattle.base.specs.Bytes.{Bytes, numbersAt}
-use Rattle.base.specs.BytesLaws.{numbers-length, numbers-at}
-use Rattle.base.specs.Entries.{every-number}
-use Rattle.base.specs.Lists.{above}
-use Rattle.base.specs.ListLaws.{Each, all-each, each-first, each-second, each-implied, each-bounded}
+use Rattle.base.proofs.BytesLaws.{numbers-length, numbers-at}
+use Rattle.base.proofs.Entries.{every-number}
+use Rattle.base.specs.Lists.{above, Each}
+use Rattle.base.proofs.ListLaws.{all-each, each-first, each-second, each-implied, each-bounded}
 use Rattle.base.specs.Sets.{inside}
-use Rattle.base.specs.Occurs.{Occurs}
+use Rattle.base.proofs.Occurs.{Occurs}
 use Rattle.format.specs.Types.{State as Record, Context}
 use Rattle.format.specs.Range.{lengthOk, indexOk, statusOk, idsInRange, idsDiffer, idsOk}
 use Rattle.format.proofs.Ranges.{ContextRange, PayloadRange, context-range}

@@ -7,12 +7,14 @@ use mathlib.Core.List.{List, [], _∷_, map}
 use native.Mathlib.Decide.{ℕ-discrete}
 use native.Mathlib.Omega.{arith}
 use lib.ListN.{length, getD, length-append, length-map}
-use Rattle.base.specs.Tests.{_or_, not-holds, and-holds, both-yes, Known, holds, fails, known}
-use Rattle.base.specs.Lists.{all, above, after, sum}
-use Rattle.base.specs.ListLaws.{Each, each-all, each-map, each-implied, after-between, above-length}
-use Rattle.base.specs.Filters.{all-member}
-use Rattle.base.specs.Distinct.{Distinct, included-length}
-use Rattle.base.specs.Counts.{count, count-append, count-none}
+use Rattle.base.specs.Tests.{_or_}
+use Rattle.base.proofs.TestLaws.{not-holds, and-holds, both-yes, Known, holds, fails, known}
+use Rattle.base.specs.Lists.{all, above, after, sum, Each}
+use Rattle.base.proofs.ListLaws.{each-all, each-map, each-implied, after-between, above-length}
+use Rattle.base.proofs.Filters.{all-member}
+use Rattle.base.proofs.Distinct.{Distinct, included-length}
+use Rattle.base.specs.Counts.{count}
+use Rattle.base.proofs.CountLaws.{count-append, count-none}
 use Rattle.format.specs.Types.{Id}
 use Rattle.format.specs.Range.{sameId, hasId, idsDiffer}
 use Rattle.replication.specs.Machine.Install.{idsUpTo}

@@ -6,12 +6,12 @@ use mathlib.Core.Bool.{true}
 use mathlib.Core.List.{List, _∷_, map}
 use native.Mathlib.Omega.{arith}
 use lib.ListN.{getD}
-use Rattle.base.specs.Tests.{_and_, and-holds, both-yes, le-yes, le-holds, lt-yes, eq-yes, eq-holds}
+use Rattle.base.specs.Tests.{_and_}
+use Rattle.base.proofs.TestLaws.{and-holds, both-yes, le-yes, le-holds, lt-yes, eq-yes, eq-holds}
 use Rattle.base.specs.Bytes.{numberAt, numbersAt}
-use Rattle.base.specs.BytesLaws.{numbers-at}
-use Rattle.base.specs.Entries.{everyAt, every-implied, every-both}
-use Rattle.base.specs.Lists.{after}
-use Rattle.base.specs.ListLaws.{Each}
+use Rattle.base.proofs.BytesLaws.{numbers-at}
+use Rattle.base.specs.Lists.{everyAt, after, Each}
+use Rattle.base.proofs.Entries.{every-implied, every-both}
 use Rattle.format.specs.Types.{Id, Context}
 use Rattle.format.specs.Range.{idOk, idsInRange}
 use Rattle.format.specs.Read.{idAt}

@@ -8,10 +8,11 @@ use mathlib.Core.Option.{Option, none, some}
 use native.Mathlib.Nat.{add-zero, zero-add}
 use native.Mathlib.Omega.{arith}
 use lib.ListN.{getD, drop}
-use Rattle.base.specs.Tests.{_and_, _≤?_, _=?_, pick, not-both, and-holds, both-yes, eq-no, le-no}
+use Rattle.base.specs.Tests.{_and_, _≤?_, _=?_, pick}
+use Rattle.base.proofs.TestLaws.{not-both, and-holds, both-yes, eq-no, le-no}
 use Rattle.base.specs.Lists.{isThere}
 use Rattle.base.specs.Sets.{inSet, inside}
-use Rattle.base.specs.SetLaws.{inside-member, members-inside, same-sets}
+use Rattle.base.proofs.SetLaws.{inside-member, members-inside, same-sets}
 use Rattle.format.specs.Limits.{mostIndex}
 use Rattle.format.specs.Read.{stateAt}
 use Rattle.format.specs.Types.{State}

@@ -8,8 +8,9 @@ use native.Mathlib.Omega.{arith}
 use lib.Dec.{ltb}
 use lib.ListN.{length}
 use borrow.Author.Tests.{not-true, not-false}
-use Rattle.base.specs.Tests.{_and_, _or_, _<?_, pick-yes, pick-no, and-no, lt-yes, lt-no, lt-fails, or-fails, Known, holds, fails, known}
-use Rattle.base.specs.Branches.{told-lt}
+use Rattle.base.specs.Tests.{_and_, _or_, _<?_}
+use Rattle.base.proofs.TestLaws.{pick-yes, pick-no, and-no, lt-yes, lt-no, lt-fails, or-fails, Known, holds, fails, known}
+use Rattle.base.proofs.Branches.{told-lt}
 use Rattle.base.specs.Bytes.{Bytes}
 use Rattle.base.specs.Lists.{sum}
 use Rattle.format.specs.Limits.{fewestServers, leastQuota}

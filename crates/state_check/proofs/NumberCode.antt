@@ -5,7 +5,7 @@ use mathlib.Core.Path.{_≡_, ap, _∙_}
 use lib.Bits.{bitAnd}
 use lib.Dec.{leb, eqb}
 use Rattle.base.specs.Tests.{_≤?_}
-use Rattle.base.specs.Branches.{told-le, told-eq}
+use Rattle.base.proofs.Branches.{told-le, told-eq}
 use Rattle.base.specs.Sets.{inside}
 
 pub inside-told : (s t : ℕ) → eqb (bitAnd s t) s ≡ inside s t

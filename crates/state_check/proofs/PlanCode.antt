@@ -7,7 +7,8 @@ use mathlib.Core.List.{List, _∷_}
 use native.Mathlib.Nat.{suc-mul}
 use native.Mathlib.Omega.{arith}
 use lib.ListN.{length}
-use Rattle.base.specs.Tests.{_=?_, pick, pick-yes, pick-no, eq-yes, eq-no}
+use Rattle.base.specs.Tests.{_=?_, pick}
+use Rattle.base.proofs.TestLaws.{pick-yes, pick-no, eq-yes, eq-no}
 use Rattle.base.specs.Bytes.{numberAt}
 use Rattle.base.specs.Lists.{below, sum}
 use Rattle.base.specs.Sets.{inSet}

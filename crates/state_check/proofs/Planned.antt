@@ -8,11 +8,11 @@ use mathlib.Core.Option.{none, some}
 use native.Mathlib.Omega.{arith}
 use lib.ListN.{length, drop}
 use Rattle.base.specs.Tests.{pick}
-use Rattle.base.specs.Totals.{total, total-sum}
+use Rattle.base.proofs.Totals.{total, total-sum}
 use Rattle.base.specs.Bytes.{Bytes, numberAt}
-use Rattle.base.specs.BytesLaws.{number-lt, numbers-at, number-drop}
-use Rattle.base.specs.Lists.{present, atFront, below, sum}
-use Rattle.base.specs.ListLaws.{Each, map-each, each-implied, above-length, below-each}
+use Rattle.base.proofs.BytesLaws.{number-lt, numbers-at, number-drop}
+use Rattle.base.specs.Lists.{present, atFront, below, sum, Each}
+use Rattle.base.proofs.ListLaws.{map-each, each-implied, above-length, below-each}
 use Rattle.base.specs.Sets.{inSet}
 use Rattle.format.specs.Read.{stateAt}
 use Rattle.format.specs.Types.{State}

@@ -6,11 +6,11 @@ use mathlib.Core.Bool.{Bool, true, false}
 use mathlib.Core.List.{List}
 use native.Mathlib.Omega.{arith}
 use lib.ListN.{length}
-use Rattle.base.specs.Tests.{and-holds, both-yes}
+use Rattle.base.proofs.TestLaws.{and-holds, both-yes}
 use Rattle.base.specs.Bytes.{Bytes}
-use Rattle.base.specs.BytesLaws.{number-lt}
+use Rattle.base.proofs.BytesLaws.{number-lt}
 use Rattle.base.specs.Lists.{same}
-use Rattle.base.specs.SameLaws.{same-yes, same-holds}
+use Rattle.base.proofs.SameLaws.{same-yes, same-holds}
 use Rattle.record.specs.Context.{contextOf, readingContext}
 use Rattle.replication.specs.Machine.Types.{Server}
 use Rattle.replication.specs.Machine.WellFormed.{wellFormed}
@@ -20,7 +20,7 @@ use Rattle.engine.specs.Image.{image}
 use Rattle.engine.specs.Header.{headerIn}
 use Rattle.engine.specs.Decode.{serversIn, quotaIn, decoded, reads}
 use Rattle.engine.proofs.HeaderLaws.{header-kept, header-loaded}
-use Rattle.engine.proofs.InPlace.{Holds}
+use Rattle.engine.specs.Holding.{Holds}
 use Rattle.state_check.specs.Checks.{contextIn, checks}
 use Rattle.state_check.proofs.Rooms.{header-room}
 use Rattle.state_check.proofs.Checked.{checked, check}

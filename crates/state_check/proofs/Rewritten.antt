@@ -6,13 +6,13 @@ use mathlib.Core.List.{List, []}
 use native.Mathlib.Omega.{arith}
 use lib.ListN.{length}
 use lib.Seq.{length-take-le}
-use Rattle.base.specs.Tests.{lt-holds}
+use Rattle.base.proofs.TestLaws.{lt-holds}
 use Rattle.base.specs.Bytes.{Bytes, bytesOf, numbersAt, partAt}
-use Rattle.base.specs.BytesLaws.{numbers-length}
-use Rattle.base.specs.Lists.{sum}
-use Rattle.base.specs.ListLaws.{Each, each-implied}
-use Rattle.base.specs.Occurs.{Occurs, occurs-nil, occurs-append, number-occurs}
-use Rattle.base.specs.Sections.{patchedAll}
+use Rattle.base.proofs.BytesLaws.{numbers-length}
+use Rattle.base.specs.Lists.{sum, Each}
+use Rattle.base.proofs.ListLaws.{each-implied}
+use Rattle.base.proofs.Occurs.{Occurs, occurs-nil, occurs-append, number-occurs}
+use Rattle.base.proofs.Sections.{patchedAll}
 use Rattle.format.specs.Types.{Action, Context}
 use Rattle.format.specs.Range.{setOk}
 use Rattle.format.specs.Read.{idsAt}

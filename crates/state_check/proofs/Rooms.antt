@@ -5,7 +5,7 @@ use mathlib.Core.List.{List}
 use native.Mathlib.Omega.{arith}
 use lib.ListN.{length}
 use Rattle.base.specs.Lists.{sum}
-use Rattle.base.specs.Sections.{begin-end}
+use Rattle.base.proofs.Sections.{begin-end}
 use Rattle.format.specs.Limits.{mostHeld}
 use Rattle.engine.specs.Layout.{heldSize, slotSize, stateSize, theCuts, theNoted, theHeld, theStates, theYellow, theOwn, theQueue, sections, sectionSize, offset, stateLength}
 

@@ -8,8 +8,9 @@ use native.Mathlib.Omega.{arith}
 use lib.Dec.{eqb}
 use lib.ListN.{length}
 use borrow.Author.Tests.{not-true, not-false}
-use Rattle.base.specs.Tests.{_and_, and-yes, and-no}
-use Rattle.base.specs.Branches.{told-eq}
+use Rattle.base.specs.Tests.{_and_}
+use Rattle.base.proofs.TestLaws.{and-yes, and-no}
+use Rattle.base.proofs.Branches.{told-eq}
 use Rattle.base.specs.Bytes.{numberAt, numbersAt}
 use Rattle.base.specs.Lists.{sum}
 use Rattle.format.specs.Limits.{mostHeld}

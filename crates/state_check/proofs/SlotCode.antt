@@ -7,9 +7,11 @@ use mathlib.Core.List.{List}
 use native.Mathlib.Omega.{arith}
 use lib.ListN.{getD}
 use borrow.Author.Tests.{not-true, not-false}
-use Rattle.base.specs.Tests.{_and_, _≤?_, _=?_, and-yes, and-no, le-yes, le-no, eq-yes, eq-no}
+use Rattle.base.specs.Tests.{_and_, _≤?_, _=?_}
+use Rattle.base.proofs.TestLaws.{and-yes, and-no, le-yes, le-no, eq-yes, eq-no}
 use Rattle.base.specs.Bytes.{numberAt}
-use Rattle.base.specs.Entries.{everyAt, every-more}
+use Rattle.base.specs.Lists.{everyAt}
+use Rattle.base.proofs.Entries.{every-more}
 use Rattle.format.specs.Types.{Context}
 use Rattle.format.specs.Range.{lengthOk}
 use Rattle.engine.specs.Layout.{slotSize}

@@ -6,12 +6,10 @@ use mathlib.Core.Bool.{true}
 use mathlib.Core.List.{List, _∷_}
 use native.Mathlib.Omega.{arith}
 use lib.ListN.{length}
-use Rattle.base.specs.Tests.{and-holds, both-yes}
+use Rattle.base.proofs.TestLaws.{and-holds, both-yes}
 use Rattle.base.specs.Bytes.{Bytes, numberAt, joined}
-use Rattle.base.specs.Entries.{everyAt}
-use Rattle.base.specs.Lists.{all}
-use Rattle.base.specs.ListLaws.{Each}
-use Rattle.base.specs.Occurs.{Occurs, occurs-nil, occurs-append, occurs-first, occurs-second}
+use Rattle.base.specs.Lists.{everyAt, all, Each}
+use Rattle.base.proofs.Occurs.{Occurs, occurs-nil, occurs-append, occurs-first, occurs-second}
 use Rattle.format.specs.Types.{Id, Context}
 use Rattle.format.specs.Range.{idOk, actionOk, idsInRange}
 use Rattle.format.specs.Read.{idAt, payloadAt, actionAt}

@@ -9,9 +9,10 @@ use native.Mathlib.Nat.{add-zero, suc-mul}
 use native.Mathlib.Omega.{arith}
 use lib.ListN.{length, getD, take, drop}
 use lib.Seq.{take-at, drop-at}
-use Rattle.base.specs.Tests.{_and_, _or_, pick, pick-yes, pick-no, not-both, and-holds, both-yes, Known, holds, fails, known}
+use Rattle.base.specs.Tests.{_and_, _or_, pick}
+use Rattle.base.proofs.TestLaws.{pick-yes, pick-no, not-both, and-holds, both-yes, Known, holds, fails, known}
 use Rattle.base.specs.Bytes.{Bytes, partAt}
-use Rattle.base.specs.BytesLaws.{part-length, part-append}
+use Rattle.base.proofs.BytesLaws.{part-length, part-append}
 use Rattle.base.specs.Sets.{inSet}
 use Rattle.format.specs.Types.{State, Context, state}
 use Rattle.format.specs.Range.{contextOk, stateOk}

@@ -6,10 +6,10 @@ use mathlib.Core.Bool.{true}
 use mathlib.Core.List.{List}
 use native.Mathlib.Omega.{arith}
 use lib.ListN.{length, drop}
-use Rattle.base.specs.Tests.{not-both, and-holds, both-yes, le-yes, le-holds, eq-yes, eq-holds}
+use Rattle.base.proofs.TestLaws.{not-both, and-holds, both-yes, le-yes, le-holds, eq-yes, eq-holds}
 use Rattle.base.specs.Bytes.{Bytes, bytesOf, numberAt, partAt}
-use Rattle.base.specs.BytesLaws.{part-length, bytes-part, numbers-length, number-drop}
-use Rattle.base.specs.Occurs.{Occurs, occurs-at, occurs-drop, joined-parts}
+use Rattle.base.proofs.BytesLaws.{part-length, bytes-part, numbers-length, number-drop}
+use Rattle.base.proofs.Occurs.{Occurs, occurs-at, occurs-drop, joined-parts}
 use Rattle.format.specs.Types.{State, Record, action, retransmission, state, cpc, regular, transitional, request, recovery, Context, Reading, says, refused, kindNumber, kindOf}
 use Rattle.format.specs.Range.{lengthOk, contextOk, stateOk, fieldsOk, recordOk}
 use Rattle.format.specs.Read.{stateAt, yellowAt, read}

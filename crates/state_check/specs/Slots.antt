@@ -6,7 +6,7 @@ use mathlib.Core.List.{List}
 use lib.ListN.{getD}
 use Rattle.base.specs.Tests.{_and_, _≤?_, _=?_}
 use Rattle.base.specs.Bytes.{numberAt}
-use Rattle.base.specs.Entries.{everyAt}
+use Rattle.base.specs.Lists.{everyAt}
 use Rattle.format.specs.Limits.{mostPayload}
 use Rattle.format.specs.Types.{Context}
 use Rattle.format.specs.Range.{lengthOk}

@@ -2,7 +2,7 @@
 ghost use mathlib.Core.Path.{_≡_};
 ghost use Prim.Native.Nat.{_+_, _*_, _≤_};
 ghost use lib.ListN.{length};
-ghost use Rattle.base.specs.Entries.{everyAt};
+ghost use Rattle.base.specs.Lists.{everyAt};
 ghost use Rattle.record.specs.Context.{contextOf, ContextIn};
 ghost use Rattle.state_check.specs.Slots.{zeroAt, payloadFits, heldFit, slotFits, queueSlotFits, queueFits, ownSlotFits, ownFits, notedAt, notedFit};
 ghost use Rattle.engine.specs.Layout.{slotSize, heldSize};

@@ -7,9 +7,10 @@ use mathlib.Core.List.{List}
 use mathlib.Core.Option.{some, Option·some-injective, Option·none-ne-some}
 use lib.ListN.{length}
 use borrow.Author.Tests.{not-true, not-false}
-use Rattle.base.specs.Tests.{_or_, and-holds, _=?_, pick}
+use Rattle.base.specs.Tests.{_or_, _=?_, pick}
+use Rattle.base.proofs.TestLaws.{and-holds}
 use Rattle.base.specs.Lists.{isThere}
-use Rattle.base.specs.ListLaws.{there}
+use Rattle.base.proofs.ListLaws.{there}
 use Rattle.format.specs.Types.{Action, Record, action}
 use Rattle.format.specs.Range.{fieldsOk, actionOk, idOk}
 use Rattle.record.specs.declared.State.{State as Numbers}
@@ -20,9 +21,10 @@ use Rattle.replication.specs.Machine.Rules.{Rule, reddening, greening, yellowin
 use Rattle.replication.specs.Machine.Step.{apply, answer, greenAndNote}
 use Rattle.replication.specs.Machine.Colours.{red, yellow}
 use Rattle.replication.specs.Machine.Install.{install}
-use Rattle.replication.proofs.WellFormed.RuleFacts.{Delivered, RuleFits}
+use Rattle.replication.specs.Laws.RuleFits.{Delivered, RuleFits}
 use Rattle.engine.specs.Image.{modeNumber, image}
-use Rattle.engine.proofs.InPlace.{Holds, HoldsSuch, such-fact}
+use Rattle.engine.specs.Holding.{Holds, HoldsSuch}
+use Rattle.engine.proofs.InPlace.{such-fact}
 use Rattle.engine.specs.Decode.{modeNamed}
 use Rattle.queue.specs.Queue.{RoomIfNext}
 use Rattle.queue.proofs.RedLaws.{room-if-next}

@@ -5,7 +5,8 @@ use mathlib.Core.Path.{_≡_, refl, sym, ap, _∙_}
 use mathlib.Core.Bool.{true, false}
 use mathlib.Core.List.{List, []}
 use mathlib.Core.Option.{Option, none, some}
-use Rattle.base.specs.Tests.{_and_, _or_, pick-yes, pick-no, and-holds, both-yes, not-both}
+use Rattle.base.specs.Tests.{_and_, _or_}
+use Rattle.base.proofs.TestLaws.{pick-yes, pick-no, and-holds, both-yes, not-both}
 use Rattle.base.specs.Bytes.{joined}
 use Rattle.base.specs.Lists.{isThere}
 use Rattle.format.specs.Types.{Record}
@@ -14,7 +15,8 @@ use Rattle.replication.specs.Machine.Types.{Server, Outcome, refused, contextOf
 use Rattle.replication.specs.Machine.Rules.{Rule, ruleFor, possible, fromMember, isIgnored, withinQuota, withinHeld}
 use Rattle.replication.specs.Machine.Step.{quiet, stored, apply, applyRule, answer, inBytes}
 use Rattle.replication.specs.Machine.WellFormed.{ranges, wellFormed}
-use Rattle.replication.proofs.WellFormed.RuleFacts.{RuleFits, rule-fits}
+use Rattle.replication.specs.Laws.RuleFits.{RuleFits}
+use Rattle.replication.proofs.WellFormed.RuleFacts.{rule-fits}
 use Rattle.engine.specs.Image.{over, image}
 use Rattle.engine.specs.Outcome.{refusal, resultOf}
 use Rattle.step.specs.declared.Answer.{Answer}

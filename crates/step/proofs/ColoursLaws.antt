@@ -8,8 +8,9 @@ use mathlib.Core.Logic.{inl, inr}
 use native.Mathlib.Omega.{arith}
 use lib.ListN.{length}
 use Rattle.base.specs.Bytes.{numberAt}
-use Rattle.base.specs.Prefixes.{begins-refl}
-use Rattle.base.specs.Tests.{pick, eq-yes, eq-no}
+use Rattle.base.proofs.Prefixes.{begins-refl}
+use Rattle.base.specs.Tests.{pick}
+use Rattle.base.proofs.TestLaws.{eq-yes, eq-no}
 use Rattle.format.specs.Types.{Action}
 use Rattle.format.specs.Range.{idOk}
 use Rattle.replication.specs.Machine.Types.{Log, Votes, Server, withLog, withVotes, withNoted, contextOf}
@@ -23,11 +24,12 @@ use Rattle.replication.proofs.WellFormed.Logs.{green-fits}
 use Rattle.replication.proofs.WellFormed.Changes.{Body, body, whole}
 use Rattle.replication.proofs.WellFormed.Effects.{green-and-note-body, yellow-body}
 use Rattle.replication.proofs.WellFormed.Kept.{mode-kept}
-use Rattle.replication.proofs.WellFormed.RuleFacts.{Delivered}
+use Rattle.replication.specs.Laws.RuleFits.{Delivered}
 use Rattle.record.specs.declared.ActionHead.{ActionHead}
 use Rattle.record.specs.Values.{idOf, actionOf}
 use Rattle.engine.specs.Image.{image}
-use Rattle.engine.proofs.InPlace.{Holds, HoldsSuch, such-fact}
+use Rattle.engine.specs.Holding.{Holds, HoldsSuch}
+use Rattle.engine.proofs.InPlace.{such-fact}
 use Rattle.queue.specs.Queue.{RoomFor}
 use Rattle.queue.proofs.Holding.{log-formed, log-fits}
 use Rattle.queue.proofs.Entered.{entered-formed, room-for}

@@ -13,11 +13,12 @@ use Rattle.replication.specs.Machine.Types.{Mode, Configuration, Server, Outcom
 use Rattle.replication.specs.Machine.Rules.{Rule, joining, joiningUnmarked, joiningYellow, leaving, onRegular, ruleFor, regularDue, transitionalDue, possible, fromMember, isIgnored, withinQuota, withinHeld}
 use Rattle.replication.specs.Machine.Step.{join, unmarked, yellowValid, leave, apply, answer}
 use Rattle.replication.specs.Machine.WellFormedRanges.{ConfigurationFits}
-use Rattle.replication.proofs.WellFormed.RuleFacts.{RuleFits}
+use Rattle.replication.specs.Laws.RuleFits.{RuleFits}
 use Rattle.engine.specs.Image.{modeNumber, image}
 use Rattle.engine.specs.Header.{headerOf}
 use Rattle.engine.specs.Decode.{modeNamed}
-use Rattle.engine.proofs.InPlace.{Holds, HoldsSuch, such-fact}
+use Rattle.engine.specs.Holding.{Holds, HoldsSuch}
+use Rattle.engine.proofs.InPlace.{such-fact}
 use Rattle.lists.specs.Lists.{configurationOf}
 use Rattle.step.specs.declared.Answer.{Answer}
 use Rattle.step.specs.Answers.{answered, outcomeOn, LentSuch, InForce, refusedWith, quietly}

@@ -6,7 +6,8 @@ use mathlib.Core.Bool.{Bool, true, false, not}
 use mathlib.Core.List.{List}
 use mathlib.Core.Option.{some}
 use borrow.Author.Tests.{not-true, not-false}
-use Rattle.base.specs.Tests.{_or_, _=?_, pick, and-holds, not-both}
+use Rattle.base.specs.Tests.{_or_, _=?_, pick}
+use Rattle.base.proofs.TestLaws.{and-holds, not-both}
 use Rattle.base.specs.Lists.{isThere}
 use Rattle.format.specs.Types.{Record, cpc}
 use Rattle.format.specs.Range.{fieldsOk}
@@ -17,7 +18,7 @@ use Rattle.replication.specs.Machine.Step.{quiet, collectCpc, collectLateCpc, a
 use Rattle.engine.specs.Image.{modeNumber, image}
 use Rattle.engine.specs.Header.{headerOf}
 use Rattle.engine.specs.Decode.{modeNamed}
-use Rattle.engine.proofs.InPlace.{Holds, HoldsSuch}
+use Rattle.engine.specs.Holding.{Holds, HoldsSuch}
 use Rattle.step.specs.declared.Answer.{Answer}
 use Rattle.step.specs.Answers.{answered, outcomeOn, LentSuch, InForce, withLateCpc, refusedWith, quietly}
 use Rattle.step.proofs.LentFacts.{lent-fact}

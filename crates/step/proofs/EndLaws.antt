@@ -9,8 +9,8 @@ use mathlib.Core.Option.{Option, none, some}
 use native.Mathlib.Nat.{mul-le-mul}
 use native.Mathlib.Omega.{arith}
 use lib.ListN.{length, take, length-take}
-use Rattle.base.specs.Prefixes.{begins-refl}
-use Rattle.base.specs.Tests.{pick-yes, pick-no}
+use Rattle.base.proofs.Prefixes.{begins-refl}
+use Rattle.base.proofs.TestLaws.{pick-yes, pick-no}
 use Rattle.format.specs.Types.{cpc}
 use Rattle.format.specs.Write.{write, idsBytes, lengthOf}
 use Rattle.format.proofs.IdCount.{ids-count}
@@ -30,7 +30,8 @@ use Rattle.engine.specs.Image.{over, image}
 use Rattle.engine.specs.Header.{idOf, headerOf, headerIn}
 use Rattle.engine.proofs.HeaderLaws.{header-loaded}
 use Rattle.engine.proofs.InRange.{in-range}
-use Rattle.engine.proofs.InPlace.{Holds, HoldsSuch, such-fact, HoldsSome, holds-some}
+use Rattle.engine.specs.Holding.{Holds, HoldsSuch, HoldsSome}
+use Rattle.engine.proofs.InPlace.{such-fact, holds-some}
 use Rattle.queue.proofs.Inside.{over-front}
 use Rattle.lists.specs.declared.votes.VoteNumbers.{VoteNumbers}
 use Rattle.lists.specs.Sending.{SendReady}

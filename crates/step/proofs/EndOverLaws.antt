@@ -8,7 +8,7 @@ use mathlib.Core.Logic.{inl}
 use native.Mathlib.Omega.{arith}
 use lib.ListN.{length, length-append}
 use Rattle.base.specs.Bytes.{joined}
-use Rattle.base.specs.Tests.{pick-as}
+use Rattle.base.proofs.TestLaws.{pick-as}
 use Rattle.format.specs.Types.{Record, cpc}
 use Rattle.format.specs.Write.{write}
 use Rattle.replication.specs.Machine.Types.{Non-prim, Server, inMode}
@@ -19,7 +19,7 @@ use Rattle.replication.specs.Machine.WellFormed.{queue, wellFormed}
 use Rattle.replication.specs.Machine.WellFormedFacts.{Configured}
 use Rattle.engine.specs.Image.{over, image}
 use Rattle.engine.specs.Outcome.{resultOf, word}
-use Rattle.engine.proofs.InPlace.{Holds}
+use Rattle.engine.specs.Holding.{Holds}
 use Rattle.step.specs.Answers.{outcomeOn}
 use Rattle.engine.proofs.Chained.{Covers, image-over, same-begins}
 use Rattle.step.proofs.ExchangeStates.{attempting-formed, staying-formed}

@@ -6,7 +6,7 @@ use mathlib.Core.Bool.{true, false}
 use mathlib.Core.List.{List}
 use native.Mathlib.Omega.{arith}
 use Rattle.base.specs.Bytes.{numberAt}
-use Rattle.base.specs.Tests.{pick-yes, pick-no, le-yes, le-no}
+use Rattle.base.proofs.TestLaws.{pick-yes, pick-no, le-yes, le-no}
 use Rattle.format.specs.Types.{Action}
 use Rattle.record.specs.declared.ActionHead.{ActionHead}
 use Rattle.record.specs.declared.State.{State}
@@ -14,11 +14,11 @@ use Rattle.record.specs.Values.{actionOf}
 use Rattle.replication.specs.Machine.Types.{Non-prim, Exchange-actions, Server, inMode}
 use Rattle.replication.specs.Machine.Step.{collected, plannedNow, oneMore, exchanged, allCome, endExchange, exchange}
 use Rattle.replication.specs.Machine.WellFormedFacts.{Configured}
-use Rattle.replication.proofs.WellFormed.RuleFacts.{Delivered}
+use Rattle.replication.specs.Laws.RuleFits.{Delivered}
 use Rattle.engine.specs.Image.{image}
 use Rattle.engine.specs.Header.{headerOf, headerIn}
 use Rattle.engine.proofs.HeaderLaws.{header-loaded}
-use Rattle.engine.proofs.InPlace.{Holds, HoldsSuch}
+use Rattle.engine.specs.Holding.{Holds, HoldsSuch}
 use Rattle.step.specs.declared.Answer.{Answer}
 use Rattle.step.specs.Answers.{answered, outcomeOn, LentSuch, quietly}
 use Rattle.step.proofs.LentFacts.{lent-fact}

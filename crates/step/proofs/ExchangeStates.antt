@@ -4,7 +4,8 @@ use Prim.Native.Nat.{ℕ, _+_, _<_}
 use mathlib.Core.Path.{_≡_, sym, subst}
 use mathlib.Core.Bool.{true, false}
 use native.Mathlib.Omega.{arith}
-use Rattle.base.specs.Tests.{_=?_, and-holds, lt-holds, le-fails, eq-fails}
+use Rattle.base.specs.Tests.{_=?_}
+use Rattle.base.proofs.TestLaws.{and-holds, lt-holds, le-fails, eq-fails}
 use Rattle.format.specs.Types.{Action, State}
 use Rattle.replication.specs.Machine.Types.{Mode, Non-prim, Exchange-states, Exchange-actions, Server, withLog, inMode}
 use Rattle.replication.specs.Machine.Exchange.{quorum, takenVotes, attempted}
@@ -17,7 +18,7 @@ use Rattle.replication.proofs.WellFormed.Facts.{well-formed-facts, facts-well-f
 use Rattle.replication.proofs.WellFormed.Numbering.{placed-fits}
 use Rattle.replication.proofs.WellFormed.Decisions.{planned-bound}
 use Rattle.replication.proofs.WellFormed.Changes.{Body, body, whole, mode-changed, in-mode, collected-fit, here-below}
-use Rattle.replication.proofs.WellFormed.RuleFacts.{Delivered, StateCame}
+use Rattle.replication.specs.Laws.RuleFits.{Delivered, StateCame}
 use Rattle.replication.proofs.WellFormed.Effects.{exchanged-body, send-held-body}
 use Rattle.replication.proofs.WellFormed.Exchanges.{decided-body, attempting-body, with-state-body}
 use Rattle.replication.proofs.WellFormed.Modes.{all-in-facts}

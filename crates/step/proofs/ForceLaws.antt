@@ -5,7 +5,8 @@ use mathlib.Core.Path.{_≡_, refl, sym, ap, _∙_}
 use mathlib.Core.Bool.{Bool, true}
 use mathlib.Core.List.{List}
 use native.Mathlib.Omega.{arith}
-use Rattle.base.specs.Tests.{_<?_, lt-holds}
+use Rattle.base.specs.Tests.{_<?_}
+use Rattle.base.proofs.TestLaws.{lt-holds}
 use Rattle.format.specs.Types.{Action}
 use Rattle.record.specs.declared.State.{State as Numbers}
 use Rattle.record.specs.declared.ActionHead.{ActionHead}
@@ -15,7 +16,7 @@ use Rattle.replication.specs.Machine.Rules.{numberedOwn, memberOf}
 use Rattle.engine.specs.Image.{modeNumber}
 use Rattle.engine.specs.Header.{headerOf}
 use Rattle.engine.proofs.InRange.{in-range}
-use Rattle.engine.proofs.InPlace.{Holds}
+use Rattle.engine.specs.Holding.{Holds}
 use Rattle.step.proofs.ModeLaws.{at-mode}
 use Rattle.engine.specs.Decode.{modeNamed}
 

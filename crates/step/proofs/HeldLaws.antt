@@ -8,9 +8,9 @@ use mir.Syntax.{w32}
 use mir.Val.{Fits}
 use lib.ListN.{length, take, drop, length-append, length-take}
 use Rattle.base.specs.Bytes.{numberAt, partAt, joined}
-use Rattle.base.specs.BytesLaws.{joined-append}
-use Rattle.base.specs.ListLaws.{Each}
-use Rattle.base.specs.Occurs.{Occurs, occurs-first, occurs-second}
+use Rattle.base.proofs.BytesLaws.{joined-append}
+use Rattle.base.specs.Lists.{Each}
+use Rattle.base.proofs.Occurs.{Occurs, occurs-first, occurs-second}
 use Rattle.base.specs.Patched.{patched}
 use Rattle.format.specs.Types.{Action, Record, action}
 use Rattle.format.specs.Read.{payloadAt}
@@ -33,7 +33,8 @@ use Rattle.engine.specs.Image.{over, slot, heldSlots, parts}
 use Rattle.engine.specs.Decode.{heldAt, decodedAs, decoded}
 use Rattle.engine.proofs.Fit.{well-formed-fits}
 use Rattle.engine.proofs.HeaderLaws.{header-loaded}
-use Rattle.engine.proofs.InPlace.{Holds, holds-decoded}
+use Rattle.engine.specs.Holding.{Holds}
+use Rattle.engine.proofs.InPlace.{holds-decoded}
 use Rattle.engine.proofs.Used.{held-slot-length, over-length}
 use Rattle.queue.proofs.Inside.{over-extended}
 use Rattle.lists.specs.Lists.{heldCount, place}

@@ -8,7 +8,7 @@ use mathlib.Core.Logic.{inl, inr}
 use native.Mathlib.Omega.{arith}
 use lib.ListN.{length, length-append}
 use Rattle.base.specs.Bytes.{joined}
-use Rattle.base.specs.Prefixes.{begins-same, begins-refl}
+use Rattle.base.proofs.Prefixes.{begins-same, begins-refl}
 use Rattle.base.specs.Tests.{pick}
 use Rattle.format.specs.Limits.{mostIndex}
 use Rattle.format.specs.Types.{Action, Record}
@@ -25,10 +25,11 @@ use Rattle.replication.proofs.Step.Numbered.{numbered-install}
 use Rattle.replication.proofs.WellFormed.Facts.{well-formed-facts, facts-well-formed}
 use Rattle.replication.proofs.WellFormed.Changes.{Body, body, whole, in-mode}
 use Rattle.replication.proofs.WellFormed.Effects.{install-body, send-held-body}
-use Rattle.replication.proofs.WellFormed.RuleFacts.{Delivered}
+use Rattle.replication.specs.Laws.RuleFits.{Delivered}
 use Rattle.engine.specs.Image.{modeNumber, over, image}
 use Rattle.engine.specs.Outcome.{word, resultOf}
-use Rattle.engine.proofs.InPlace.{Holds, HoldsSuch, such-fact, HoldsSome, holds-some}
+use Rattle.engine.specs.Holding.{Holds, HoldsSuch, HoldsSome}
+use Rattle.engine.proofs.InPlace.{such-fact, holds-some}
 use Rattle.install.proofs.SwapFits.{swaps-kept}
 use Rattle.install.proofs.InstallLaws.{install-swaps}
 use Rattle.step.specs.declared.Answer.{Answer}

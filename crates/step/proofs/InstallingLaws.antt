@@ -8,7 +8,7 @@ use mathlib.Core.Logic.{inl, inr}
 use native.Mathlib.Omega.{arith}
 use lib.ListN.{length}
 use Rattle.base.specs.Bytes.{joined}
-use Rattle.base.specs.Prefixes.{begins-refl}
+use Rattle.base.proofs.Prefixes.{begins-refl}
 use Rattle.base.specs.Tests.{pick}
 use Rattle.format.specs.Limits.{mostIndex}
 use Rattle.replication.specs.Machine.Types.{Mode, Non-prim, Reg-prim, Trans-prim, Exchange-states, Exchange-actions, Construct, No, Un, Server, contextOf, inMode}
@@ -23,7 +23,8 @@ use Rattle.replication.proofs.WellFormed.Exchanges.{with-cpc-body}
 use Rattle.engine.specs.Image.{modeNumber, over, image}
 use Rattle.engine.specs.Outcome.{word, resultOf}
 use Rattle.engine.proofs.InRange.{in-range}
-use Rattle.engine.proofs.InPlace.{Holds, HoldsSuch, such-fact, holds-header}
+use Rattle.engine.specs.Holding.{Holds, HoldsSuch}
+use Rattle.engine.proofs.InPlace.{such-fact, holds-header}
 use Rattle.step.specs.declared.Answer.{Answer}
 use Rattle.step.specs.Answers.{answered, outcomeOn, LentSuch, Installs, quietly, withLateCpc}
 use Rattle.step.proofs.LentFacts.{lent-fact}

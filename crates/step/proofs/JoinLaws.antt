@@ -12,8 +12,9 @@ use lib.ListN.{length, take, drop, length-drop}
 use lib.Seq.{take-all}
 use Rattle.base.specs.Bytes.{numbersAt}
 use Rattle.base.specs.Lists.{sum}
-use Rattle.base.specs.Occurs.{Occurs, occurs-first, occurs-drop, occurs-at}
-use Rattle.base.specs.Tests.{_≤?_, _and_, pick-yes, both-yes, le-yes}
+use Rattle.base.proofs.Occurs.{Occurs, occurs-first, occurs-drop, occurs-at}
+use Rattle.base.specs.Tests.{_≤?_, _and_}
+use Rattle.base.proofs.TestLaws.{pick-yes, both-yes, le-yes}
 use Rattle.format.specs.Types.{Id, State, state}
 use Rattle.format.specs.Read.{idsAt}
 use Rattle.format.specs.Write.{write, lengthOf, cutsBytes, idsBytes}
@@ -33,7 +34,7 @@ use Rattle.engine.specs.Image.{over, parts, image}
 use Rattle.engine.proofs.Fit.{well-formed-fits}
 use Rattle.engine.proofs.HeaderLaws.{header-loaded}
 use Rattle.engine.proofs.InRange.{InRange, in-range}
-use Rattle.engine.proofs.InPlace.{Holds}
+use Rattle.engine.specs.Holding.{Holds}
 use Rattle.queue.proofs.Inside.{over-front}
 use Rattle.lists.specs.Lists.{configurationOf, place}
 use Rattle.lists.proofs.Counts.{holds-place}

@@ -6,7 +6,8 @@ use mathlib.Core.List.{List}
 use lib.ListN.{length}
 use Rattle.replication.specs.Machine.Types.{Server}
 use Rattle.engine.specs.Layout.{outLength}
-use Rattle.engine.proofs.InPlace.{Holds, holds-one}
+use Rattle.engine.specs.Holding.{Holds}
+use Rattle.engine.proofs.InPlace.{holds-one}
 use Rattle.step.specs.Answers.{LentSuch}
 
 pub lent-fact : (P : Server → Type 0) (b o : List ℕ) (s : Server) → LentSuch P b o → Holds s b → P s

@@ -6,9 +6,9 @@ use mathlib.Core.List.{List, [], _∷_, append-nil}
 use native.Mathlib.Omega.{arith}
 use lib.ListN.{length, getD}
 use Rattle.base.specs.Bytes.{joined}
-use Rattle.base.specs.Occurs.{Occurs}
+use Rattle.base.proofs.Occurs.{Occurs}
 use Rattle.base.specs.Patched.{patched}
-use Rattle.base.specs.Tests.{pick-le}
+use Rattle.base.proofs.TestLaws.{pick-le}
 use Rattle.format.specs.Types.{Record}
 use Rattle.format.specs.Write.{write}
 use Rattle.record.specs.declared.writer.Written.{Written}
@@ -23,7 +23,7 @@ use Rattle.engine.specs.Layout.{offset, headerSize}
 use Rattle.engine.specs.Image.{parts}
 use Rattle.engine.proofs.Decoded.{image-part}
 use Rattle.engine.proofs.Fit.{well-formed-fits}
-use Rattle.engine.proofs.InPlace.{Holds}
+use Rattle.engine.specs.Holding.{Holds}
 use Rattle.lists.specs.Lists.{CountsIn}
 use Rattle.lists.proofs.Counts.{holds-counts, header-room}
 use Rattle.step.specs.Answers.{LentSuch, recordBytes}

@@ -10,12 +10,13 @@ use native.Mathlib.Nat.{mul-le-mul-right}
 use lib.ListN.{length, drop, take-append-drop}
 use borrow.Author.Tests.{not-true, not-false}
 use Rattle.base.specs.Bytes.{numberAt, joined}
-use Rattle.base.specs.Comparable.{gather-all-append}
-use Rattle.base.specs.Lists.{at, gather, gatherAll, above, below}
-use Rattle.base.specs.ListLaws.{Each, each-at}
-use Rattle.base.specs.Occurs.{Occurs, occurs-first, occurs-second}
+use Rattle.base.proofs.Comparable.{gather-all-append}
+use Rattle.base.specs.Lists.{at, gather, gatherAll, above, below, Each}
+use Rattle.base.proofs.ListLaws.{each-at}
+use Rattle.base.proofs.Occurs.{Occurs, occurs-first, occurs-second}
 use Rattle.base.specs.Patched.{patched}
-use Rattle.base.specs.Tests.{pick, pick-yes, pick-no}
+use Rattle.base.specs.Tests.{pick}
+use Rattle.base.proofs.TestLaws.{pick-yes, pick-no}
 use Rattle.format.specs.Types.{Action, Record, Context}
 use Rattle.format.specs.Read.{idAt, actionAt}
 use Rattle.format.specs.Write.{actionBytes}
@@ -34,7 +35,8 @@ use Rattle.engine.specs.Image.{over, slot, actionSlots, image, parts}
 use Rattle.engine.specs.Decode.{actionsAt, decodedAs, serversIn, quotaIn, decoded}
 use Rattle.engine.proofs.Decoded.{image-part}
 use Rattle.engine.proofs.Fit.{well-formed-fits}
-use Rattle.engine.proofs.InPlace.{Holds, holds-decoded}
+use Rattle.engine.specs.Holding.{Holds}
+use Rattle.engine.proofs.InPlace.{holds-decoded}
 use Rattle.engine.proofs.InRange.{in-range}
 use Rattle.engine.proofs.Used.{action-slot-length}
 use Rattle.queue.specs.Queue.{serversOf, quotaOf, queueCount, queueAt}

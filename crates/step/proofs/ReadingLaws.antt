@@ -28,7 +28,8 @@ use Rattle.engine.specs.Header as header
 use Rattle.engine.specs.Decode.{decoded}
 use Rattle.engine.specs.Outcome.{refusal, resultOf, stateNumber, stepOn}
 use Rattle.engine.proofs.HeaderLaws.{header-loaded}
-use Rattle.engine.proofs.InPlace.{Holds, holds-header}
+use Rattle.engine.specs.Holding.{Holds}
+use Rattle.engine.proofs.InPlace.{holds-header}
 use Rattle.engine.proofs.Refusals.{zero-read, zero-ready, step-read, step-refused}
 use Rattle.step.specs.declared.Answer.{Answer}
 use Rattle.step.specs.Answers.{answered, outcomeOn, LentSuch, refusedWith}

@@ -14,7 +14,7 @@ use Rattle.replication.specs.Machine.Rules.{requesting, ruleFor, possible, from
 use Rattle.replication.specs.Machine.Step.{requested, apply, answer}
 use Rattle.replication.specs.Machine.WellFormedRanges.{PayloadFits}
 use Rattle.engine.specs.Header.{headerOf}
-use Rattle.engine.proofs.InPlace.{Holds}
+use Rattle.engine.specs.Holding.{Holds}
 use Rattle.step.specs.declared.Answer.{Answer}
 use Rattle.step.specs.Answers.{answered, outcomeOn, LentSuch, InForce, refusedWith}
 use Rattle.step.proofs.LentFacts.{lent-fact}

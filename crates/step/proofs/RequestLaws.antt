@@ -9,7 +9,8 @@ use mir.Syntax.{w32}
 use mir.Val.{Fits}
 use lib.ListN.{length}
 use Rattle.base.specs.Bytes.{numberAt}
-use Rattle.base.specs.Tests.{_or_, pick-yes, pick-no, lt-holds, not-both}
+use Rattle.base.specs.Tests.{_or_}
+use Rattle.base.proofs.TestLaws.{pick-yes, pick-no, lt-holds, not-both}
 use Rattle.format.specs.Limits.{mostHeld}
 use Rattle.format.specs.Types.{Action, action}
 use Rattle.format.specs.Write.{write, lengthOf}
@@ -27,7 +28,7 @@ use Rattle.replication.specs.Machine.WellFormedRanges.{PayloadFits}
 use Rattle.engine.specs.Layout.{outLength, headerSize, atNumbered}
 use Rattle.engine.specs.Header.{headerOf}
 use Rattle.engine.specs.Image.{over, image}
-use Rattle.engine.proofs.InPlace.{Holds}
+use Rattle.engine.specs.Holding.{Holds}
 use Rattle.queue.proofs.Inside.{over-front}
 use Rattle.lists.specs.Lists.{PayloadRoom, nextHead}
 use Rattle.lists.proofs.Counts.{numbered-few}

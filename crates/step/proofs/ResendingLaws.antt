@@ -6,14 +6,15 @@ use mathlib.Core.List.{List, [], _∷_, _++_, append-nil, map, map-append}
 use mathlib.Core.Option.{Option, none, some}
 use native.Mathlib.Omega.{arith}
 use lib.ListN.{length, getD, take, drop, length-append, length-take}
-use Rattle.base.specs.AtLaws.{at-take, at-past-take}
+use Rattle.base.proofs.AtLaws.{at-take, at-past-take}
 use Rattle.base.specs.Bytes.{numberAt, partAt, joined}
-use Rattle.base.specs.BytesLaws.{joined-append}
-use Rattle.base.specs.Comparable.{gather-append}
+use Rattle.base.proofs.BytesLaws.{joined-append}
+use Rattle.base.proofs.Comparable.{gather-append}
 use Rattle.base.specs.Lists.{at, atFront, gather, after, above}
-use Rattle.base.specs.ListLaws.{above-more}
-use Rattle.base.specs.Patched.{patched, patched-length, patched-next, patched-none}
-use Rattle.base.specs.Tests.{pick-le}
+use Rattle.base.proofs.ListLaws.{above-more}
+use Rattle.base.specs.Patched.{patched}
+use Rattle.base.proofs.PatchedLaws.{patched-length, patched-next, patched-none}
+use Rattle.base.proofs.TestLaws.{pick-le}
 use Rattle.format.specs.Types.{Action, Record, retransmission}
 use Rattle.format.specs.Write.{write, lengthOf}
 use Rattle.format.proofs.Lengths.{write-length}

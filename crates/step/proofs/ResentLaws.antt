@@ -7,7 +7,8 @@ use mathlib.Core.List.{List}
 use mathlib.Core.Option.{some}
 use lib.ListN.{length}
 use borrow.Author.Tests.{not-true, not-false}
-use Rattle.base.specs.Tests.{_or_, _=?_, pick, and-holds, not-both}
+use Rattle.base.specs.Tests.{_or_, _=?_, pick}
+use Rattle.base.proofs.TestLaws.{and-holds, not-both}
 use Rattle.base.specs.Lists.{isThere}
 use Rattle.format.specs.Types.{Action, Record, retransmission}
 use Rattle.format.specs.Range.{fieldsOk}
@@ -18,10 +19,10 @@ use Rattle.replication.specs.Machine.Types.{Mode, Non-prim, Reg-prim, Trans-pri
 use Rattle.replication.specs.Machine.Colours.{red}
 use Rattle.replication.specs.Machine.Rules.{Rule, reddening, exchanging, onRetransmission, ruleFor, possible, fromMember, isIgnored, withinQuota, withinHeld}
 use Rattle.replication.specs.Machine.Step.{exchange, apply, answer}
-use Rattle.replication.proofs.WellFormed.RuleFacts.{Delivered}
+use Rattle.replication.specs.Laws.RuleFits.{Delivered}
 use Rattle.engine.specs.Image.{modeNumber, image}
 use Rattle.engine.specs.Decode.{modeNamed}
-use Rattle.engine.proofs.InPlace.{Holds}
+use Rattle.engine.specs.Holding.{Holds}
 use Rattle.queue.specs.Queue.{RoomIfNext}
 use Rattle.queue.proofs.RedLaws.{room-if-next}
 use Rattle.step.specs.declared.Answer.{Answer}

@@ -7,7 +7,7 @@ use mathlib.Core.List.{List}
 use native.Mathlib.Omega.{arith}
 use lib.ListN.{length}
 use Rattle.base.specs.Bytes.{numberAt}
-use Rattle.base.specs.Tests.{pick-no, and-yes, eq-no, le-yes, le-no}
+use Rattle.base.proofs.TestLaws.{pick-no, and-yes, eq-no, le-yes, le-no}
 use Rattle.format.specs.Types.{Action}
 use Rattle.record.specs.declared.ActionHead.{ActionHead}
 use Rattle.record.specs.Values.{idOf, actionOf}
@@ -15,9 +15,10 @@ use Rattle.replication.specs.Machine.Types.{Mode, Non-prim, Exchange-actions, L
 use Rattle.replication.specs.Machine.Colours.{red, green}
 use Rattle.replication.specs.Machine.Step.{placed, exchanged, oneMore, allCome}
 use Rattle.replication.proofs.Agreement.Lists.Placed.{placed-next, placed-below, placed-red}
-use Rattle.replication.proofs.WellFormed.RuleFacts.{Delivered}
+use Rattle.replication.specs.Laws.RuleFits.{Delivered}
 use Rattle.engine.specs.Image.{modeNumber, image}
-use Rattle.engine.proofs.InPlace.{Holds, HoldsSuch, such-fact, HoldsSome, holds-some}
+use Rattle.engine.specs.Holding.{Holds, HoldsSuch, HoldsSome}
+use Rattle.engine.proofs.InPlace.{such-fact, holds-some}
 use Rattle.queue.specs.Queue as Queue
 use Rattle.queue.specs.Queue.{RoomIfNext}
 use Rattle.queue.proofs.Holding.{numbers}

@@ -6,7 +6,8 @@ use mathlib.Core.Bool.{Bool, true, false, not}
 use mathlib.Core.Option.{Option, none, some}
 use native.Mathlib.Omega.{arith}
 use lib.Dec.{eqb, leb, ltb}
-use Rattle.base.specs.Tests.{_or_, _and_, _=?_, _≤?_, _<?_, pick, eq-yes, eq-no}
+use Rattle.base.specs.Tests.{_or_, _and_, _=?_, _≤?_, _<?_, pick}
+use Rattle.base.proofs.TestLaws.{eq-yes, eq-no}
 use Rattle.base.specs.Lists.{isThere}
 use Rattle.base.specs.Sets.{inSet}
 use Rattle.format.specs.Types.{Id, Action}

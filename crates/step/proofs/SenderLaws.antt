@@ -4,7 +4,8 @@ use Prim.Native.Nat.{ℕ}
 use mathlib.Core.Path.{_≡_, sym, ap, _∙_}
 use mathlib.Core.Bool.{Bool, true, false, not}
 use borrow.Author.Tests.{not-true, not-false}
-use Rattle.base.specs.Tests.{_and_, and-yes, and-no}
+use Rattle.base.specs.Tests.{_and_}
+use Rattle.base.proofs.TestLaws.{and-yes, and-no}
 use Rattle.format.specs.Types.{State, state, cpc}
 use Rattle.record.specs.declared.State.{State as Numbers}
 use Rattle.replication.specs.Machine.Types.{Server}

@@ -6,7 +6,8 @@ use mathlib.Core.Bool.{Bool, true, false, not}
 use mathlib.Core.List.{List}
 use mathlib.Core.Option.{none, some}
 use borrow.Author.Tests.{not-true, not-false}
-use Rattle.base.specs.Tests.{_or_, _=?_, _<?_, pick, and-holds}
+use Rattle.base.specs.Tests.{_or_, _=?_, _<?_, pick}
+use Rattle.base.proofs.TestLaws.{and-holds}
 use Rattle.format.specs.Types.{State, Record, state}
 use Rattle.format.specs.Range.{fieldsOk, stateOk}
 use Rattle.format.specs.Write.{write}
@@ -17,7 +18,7 @@ use Rattle.replication.specs.Machine.Step.{collectState, apply, answer}
 use Rattle.engine.specs.Image.{modeNumber}
 use Rattle.engine.specs.Header.{headerOf}
 use Rattle.engine.specs.Decode.{modeNamed}
-use Rattle.engine.proofs.InPlace.{Holds}
+use Rattle.engine.specs.Holding.{Holds}
 use Rattle.step.specs.declared.Answer.{Answer}
 use Rattle.step.specs.Answers.{answered, outcomeOn, LentSuch, StateInForce, Came, refusedWith, quietly}
 use Rattle.step.proofs.LentFacts.{lent-fact}

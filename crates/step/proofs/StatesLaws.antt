@@ -6,7 +6,8 @@ use mathlib.Core.Bool.{Bool, true, false}
 use mathlib.Core.List.{List}
 use native.Mathlib.Omega.{arith}
 use lib.ListN.{length}
-use Rattle.base.specs.Tests.{_=?_, pick-yes, pick-no, pick-as, both-yes, eq-yes, eq-no}
+use Rattle.base.specs.Tests.{_=?_}
+use Rattle.base.proofs.TestLaws.{pick-yes, pick-no, pick-as, both-yes, eq-yes, eq-no}
 use Rattle.format.specs.Types.{State, Context, state}
 use Rattle.format.specs.Range.{fieldsOk, recordOk, contextOk}
 use Rattle.format.specs.Read.{read}
@@ -20,10 +21,10 @@ use Rattle.replication.specs.Machine.Step.{collected, sent, withState, allState
 use Rattle.replication.specs.Machine.WellFormed.{wellFormed}
 use Rattle.replication.proofs.WellFormed.Facts.{well-formed-facts}
 use Rattle.replication.proofs.WellFormed.Ranges.{sizes-ok, state-ok, ids-short}
-use Rattle.replication.proofs.WellFormed.RuleFacts.{StateCame}
+use Rattle.replication.specs.Laws.RuleFits.{StateCame}
 use Rattle.engine.specs.Layout.{stateSize}
 use Rattle.engine.specs.Image.{modeNumber, over, image}
-use Rattle.engine.proofs.InPlace.{Holds}
+use Rattle.engine.specs.Holding.{Holds}
 use Rattle.lists.specs.Lists.{CollectRoom}
 use Rattle.lists.proofs.Counts.{holds-servers, holds-quota, holds-counts}
 use Rattle.step.specs.declared.Answer.{Answer}

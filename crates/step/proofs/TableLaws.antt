@@ -11,7 +11,8 @@ use lib.ListN.{length, getD, drop, set, replicate, length-set, length-replicate}
 use lib.Seq.{getD-set-same, getD-set-other}
 use Rattle.base.specs.Bytes.{numberAt}
 use Rattle.base.specs.Lists.{at}
-use Rattle.base.specs.Tests.{pick, Known, holds, fails, known, not-both}
+use Rattle.base.specs.Tests.{pick}
+use Rattle.base.proofs.TestLaws.{Known, holds, fails, known, not-both}
 use Rattle.format.specs.Types.{Id, Action}
 use Rattle.format.specs.Range.{sameId}
 use Rattle.format.specs.Read.{idAt, actionAt}

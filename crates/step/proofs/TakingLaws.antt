@@ -25,7 +25,7 @@ use Rattle.replication.specs.Machine.Requests.{recovered}
 use Rattle.replication.specs.Machine.Rules.{recovering, ruleFor, possible, fromMember, isIgnored, withinQuota, withinHeld}
 use Rattle.replication.specs.Machine.Step.{apply, answer}
 use Rattle.engine.specs.Image.{image}
-use Rattle.engine.proofs.InPlace.{Holds, HoldsSuch}
+use Rattle.engine.specs.Holding.{Holds, HoldsSuch}
 use Rattle.step.specs.declared.Answer.{Answer}
 use Rattle.step.specs.Answers.{answered, outcomeOn, LentSuch, InForce, StateInForce, storedFirst}
 use Rattle.step.specs.Events.{PartInForce, ReadInForce}

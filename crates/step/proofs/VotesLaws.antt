@@ -9,7 +9,7 @@ use native.Mathlib.Omega.{arith}
 use lib.ListN.{length}
 use Rattle.base.specs.Bytes.{joined}
 use Rattle.base.specs.Lists.{Begins}
-use Rattle.base.specs.Prefixes.{begins-refl}
+use Rattle.base.proofs.Prefixes.{begins-refl}
 use Rattle.format.specs.Types.{Id, Record, state}
 use Rattle.format.specs.Write.{write}
 use Rattle.replication.specs.Machine.Types.{Votes, Configuration, Server, withVotes}
@@ -22,7 +22,7 @@ use Rattle.replication.proofs.WellFormed.Facts.{well-formed-facts, facts-well-f
 use Rattle.replication.proofs.WellFormed.Kept.{mode-kept}
 use Rattle.engine.specs.Image.{over, image}
 use Rattle.engine.specs.Outcome.{resultOf, word}
-use Rattle.engine.proofs.InPlace.{Holds}
+use Rattle.engine.specs.Holding.{Holds}
 use Rattle.lists.specs.Lists.{configurationOf}
 use Rattle.step.specs.declared.Answer.{Answer}
 use Rattle.step.specs.Answers.{answered, outcomeOn, LentSuch}

@@ -14,12 +14,12 @@ use Rattle.format.specs.Write.{write}
 use Rattle.replication.specs.Machine.Types.{Exchange-states, Un, Server, Outcome, inMode, contextOf}
 use Rattle.replication.specs.Machine.Step.{inBytes, withCpc, allCpcsIn}
 use Rattle.replication.specs.Machine.WellFormedFacts.{Configured}
-use Rattle.replication.proofs.WellFormed.RuleFacts.{StateCame}
+use Rattle.replication.specs.Laws.RuleFits.{StateCame}
 use Rattle.record.specs.declared.State.{State as Numbers}
 use Rattle.engine.specs.Header.{headerOf}
 use Rattle.engine.specs.Layout.{outLength}
 use Rattle.engine.specs.Outcome.{Result, resultOf}
-use Rattle.engine.proofs.InPlace.{Holds}
+use Rattle.engine.specs.Holding.{Holds}
 use Rattle.step.specs.declared.Answer.{Answer}
 
 -- An answer, and both buffers afterwards.
@@ -29,6 +29,14 @@ answered a b o = record { number = a .number; store = a .store; sent = a .sent; 
 -- An outcome of the machine over both buffers.
 unfoldable pub outcomeOn : Outcome Record → List ℕ → List ℕ → Result
 outcomeOn x b o = resultOf (inBytes x) b o
+
+-- From buffers b and o, the first of which holds s, the answer and both buffers afterwards are what the outcome of s makes of them ..
+abbrev pub AnswersAs : (Server → Outcome Record) → Answer → (b b′ o o′ : List ℕ) → Type 0
+AnswersAs f r b b′ o o′ = (s : Server) → Holds s b → answered r b′ o′ ≡ outcomeOn (f s) b o
+
+-- .. and where the outgoing buffer is not lent, whatever that holds.
+abbrev pub AnswersAlone : (Server → Outcome Record) → Answer → (b b′ : List ℕ) → Type 0
+AnswersAlone f r b b′ = (s : Server) (o : List ℕ) → Holds s b → answered r b′ o ≡ outcomeOn (f s) b o
 
 -- The buffer b holds a state of which P is known, and o has room for all that an event puts out.
 pub record LentSuch (P : Server → Type 0) (b o : List ℕ) : Type 0 where

@@ -16,7 +16,7 @@ use Rattle.record.specs.Events.{recordOf}
 use Rattle.record.specs.Reading.{PlacedEvent}
 use Rattle.replication.specs.Machine.Types.{Mode, Non-prim, Reg-prim, Trans-prim, Exchange-states, Exchange-actions, Construct, No, Un, Server}
 use Rattle.replication.specs.Machine.Rules.{Rule, onAction}
-use Rattle.replication.proofs.WellFormed.RuleFacts.{RuleFits}
+use Rattle.replication.specs.Laws.RuleFits.{RuleFits}
 use Rattle.engine.specs.Image.{modeNumber}
 use Rattle.step.specs.Answers.{InForce}
 

@@ -16,7 +16,7 @@ use Rattle.replication.specs.Machine.Plan.{resent, resendGreen, resendRed}
 use Rattle.replication.specs.Machine.Step.{collected}
 use Rattle.engine.specs.Layout.{slotSize}
 use Rattle.engine.specs.Decode.{actionsAt, decoded}
-use Rattle.engine.proofs.InPlace.{Holds}
+use Rattle.engine.specs.Holding.{Holds}
 use Rattle.queue.specs.Queue.{CountsIn, serversOf, quotaOf, queueCount, greenCount, queueAt}
 use Rattle.install.specs.Table.{InTable}
 use Rattle.step.specs.Answers.{recordBytes}

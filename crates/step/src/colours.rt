@@ -1,13 +1,11 @@
 // Actions that a state colours green or yellow.
 ghost use mathlib.Core.Path.{_≡_};
 ghost use Rattle.record.specs.Values.{actionOf};
-ghost use Rattle.replication.specs.Machine.Types.{Server};
 ghost use mathlib.Core.Bool.{true};
 ghost use Rattle.replication.specs.Machine.Colours.{isNext, yellow as yellowed};
 ghost use Rattle.replication.specs.Machine.Step.{greenAndNote};
-ghost use Rattle.replication.proofs.WellFormed.RuleFacts.{Delivered};
-ghost use Rattle.engine.specs.Image.{image};
-ghost use Rattle.engine.proofs.InPlace.{Holds, HoldsSuch};
+ghost use Rattle.replication.specs.Laws.RuleFits.{Delivered};
+ghost use Rattle.engine.specs.Holding.{HoldsSuch, Becomes};
 use lists::notes::note;
 use lists::yellow::join_yellow;
 use queue::entering::enter;
@@ -19,7 +17,7 @@ use record::bytes::num16;
 // "Reg_prim: action green; the creator's green length is noted"
 pub fn green_and_note(state: &mut [u8], head: ActionHead, payload: &[u8])
     requires { ⌜ HoldsSuch (λ s. Delivered s (actionOf head (now payload))) (now state) ⌝ }
-    ensures { λ _. ⌜ ((s : Server) → Holds s (now (state .entry)) → now (state .exit) ≡ image (greenAndNote (actionOf head (now (payload .entry))) s) (now (state .entry))) ⌝ }
+    ensures { λ _. ⌜ Becomes (greenAndNote (actionOf head (now (payload .entry)))) (now (state .entry)) (now (state .exit)) ⌝ }
 {
     green(state, head, payload);
     note(state, head.creator, head.green_length);
@@ -28,7 +26,7 @@ pub fn green_and_note(state: &mut [u8], head: ActionHead, payload: &[u8])
 // The action is entered, and its id joins the yellow list.
 fn enter_yellow(state: &mut [u8], head: ActionHead, payload: &[u8])
     requires { ⌜ HoldsSuch (λ s. Delivered s (actionOf head (now payload)) × (isNext (s .log) (actionOf head (now payload)) ≡ true)) (now state) ⌝ }
-    ensures { λ _. ⌜ ((s : Server) → Holds s (now (state .entry)) → now (state .exit) ≡ image (yellowed (actionOf head (now (payload .entry))) s) (now (state .entry))) ⌝ }
+    ensures { λ _. ⌜ Becomes (yellowed (actionOf head (now (payload .entry)))) (now (state .entry)) (now (state .exit)) ⌝ }
 {
     enter(state, head, payload);
     join_yellow(state, head.creator, head.index);
@@ -37,7 +35,7 @@ fn enter_yellow(state: &mut [u8], head: ActionHead, payload: &[u8])
 // "as red, and its id joins the yellow list if it was entered"
 pub fn yellow(state: &mut [u8], head: ActionHead, payload: &[u8])
     requires { ⌜ HoldsSuch (λ s. Delivered s (actionOf head (now payload))) (now state) ⌝ }
-    ensures { λ _. ⌜ ((s : Server) → Holds s (now (state .entry)) → now (state .exit) ≡ image (yellowed (actionOf head (now (payload .entry))) s) (now (state .entry))) ⌝ }
+    ensures { λ _. ⌜ Becomes (yellowed (actionOf head (now (payload .entry)))) (now (state .entry)) (now (state .exit)) ⌝ }
 {
     let cut = num16(state, State::SIZE + 2 * head.creator as usize);
     if cut as u32 + 1 != head.index as u32 {

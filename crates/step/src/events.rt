@@ -14,8 +14,8 @@ ghost use Rattle.replication.specs.Machine.Rules.{Rule, onAction, onRetransmiss
 ghost use Rattle.replication.specs.Machine.Step.{apply, answer};
 ghost use Rattle.engine.specs.Image.{modeNumber};
 ghost use Rattle.engine.specs.Header.{headerOf};
-ghost use Rattle.engine.proofs.InPlace.{Holds, HoldsSuch};
-ghost use Rattle.step.specs.Answers.{answered, outcomeOn, LentSuch, InForce, StateInForce};
+ghost use Rattle.engine.specs.Holding.{Holds, HoldsSuch};
+ghost use Rattle.step.specs.Answers.{answered, outcomeOn, LentSuch, InForce, StateInForce, AnswersAlone, AnswersAs};
 ghost use Rattle.step.specs.Events.{Takes, modeAfter};
 use crate::Answer;
 use crate::colours::green_and_note;
@@ -81,7 +81,7 @@ fn takes_action(mode: u8) -> bool
 
 pub fn on_action(state: &mut [u8], h: State, head: ActionHead, payload: &[u8]) -> Answer
     requires { ⌜ HoldsSuch (InForce h (action (actionOf head (now payload)))) (now state) ⌝ }
-    ensures { λ r. ⌜ ((s : Server) (o : List ℕ) → Holds s (now (state .entry)) → answered r (now (state .exit)) o ≡ outcomeOn (answer s (action (actionOf head (now (payload .entry))))) (now (state .entry)) o) ⌝ }
+    ensures { λ r. ⌜ AnswersAlone (λ s. answer s (action (actionOf head (now (payload .entry))))) r (now (state .entry)) (now (state .exit)) ⌝ }
 {
     if !takes_action(h.mode) {
         return Answer::refused(5);
@@ -116,7 +116,7 @@ pub fn on_retransmission(
     payload: &[u8],
 ) -> Answer
     requires { ⌜ LentSuch (InForce h (retransmission sender position (actionOf head (now payload)))) (now state) (now out) ⌝ }
-    ensures { λ r. ⌜ ((s : Server) → Holds s (now (state .entry)) → answered r (now (state .exit)) (now (out .exit)) ≡ outcomeOn (answer s (retransmission sender position (actionOf head (now (payload .entry))))) (now (state .entry)) (now (out .entry))) ⌝ }
+    ensures { λ r. ⌜ AnswersAs (λ s. answer s (retransmission sender position (actionOf head (now (payload .entry))))) r (now (state .entry)) (now (state .exit)) (now (out .entry)) (now (out .exit)) ⌝ }
 {
     if !takes_retransmission(h.mode) {
         return Answer::refused(5);
@@ -193,7 +193,7 @@ fn cpc_from_member(h: State, k: u8, id: u32) -> bool
 
 pub fn on_cpc(state: &mut [u8], out: &mut [u8], h: State, k: u8, id: u32) -> Answer
     requires { ⌜ LentSuch (InForce h (cpc k id)) (now state) (now out) ⌝ }
-    ensures { λ r. ⌜ ((s : Server) → Holds s (now (state .entry)) → answered r (now (state .exit)) (now (out .exit)) ≡ outcomeOn (answer s (cpc k id)) (now (state .entry)) (now (out .entry))) ⌝ }
+    ensures { λ r. ⌜ AnswersAs (λ s. answer s (cpc k id)) r (now (state .entry)) (now (state .exit)) (now (out .entry)) (now (out .exit)) ⌝ }
 {
     if h.mode == State::NON_PRIM {
         return Answer::quiet();
@@ -213,7 +213,7 @@ pub fn on_cpc(state: &mut [u8], out: &mut [u8], h: State, k: u8, id: u32) -> Ans
 
 pub fn on_regular(state: &mut [u8], out: &mut [u8], h: State, id: u32, set: u8) -> Answer
     requires { ⌜ LentSuch (InForce h (regular id set)) (now state) (now out) ⌝ }
-    ensures { λ r. ⌜ ((s : Server) → Holds s (now (state .entry)) → answered r (now (state .exit)) (now (out .exit)) ≡ outcomeOn (answer s (regular id set)) (now (state .entry)) (now (out .entry))) ⌝ }
+    ensures { λ r. ⌜ AnswersAs (λ s. answer s (regular id set)) r (now (state .entry)) (now (state .exit)) (now (out .entry)) (now (out .exit)) ⌝ }
 {
     if !regular_due(h) {
         return Answer::refused(5);
@@ -247,7 +247,7 @@ fn after_transitional(mode: u8) -> u8
 
 pub fn on_transitional(state: &mut [u8], h: State, set: u8) -> Answer
     requires { ⌜ HoldsSuch (InForce h (transitional set)) (now state) ⌝ }
-    ensures { λ r. ⌜ ((s : Server) (o : List ℕ) → Holds s (now (state .entry)) → answered r (now (state .exit)) o ≡ outcomeOn (answer s (transitional set)) (now (state .entry)) o) ⌝ }
+    ensures { λ r. ⌜ AnswersAlone (λ s. answer s (transitional set)) r (now (state .entry)) (now (state .exit)) ⌝ }
 {
     let mode = after_transitional(h.mode);
     if mode == NO_MODE {
@@ -262,7 +262,7 @@ pub fn on_transitional(state: &mut [u8], h: State, set: u8) -> Answer
 
 pub fn on_request(state: &mut [u8], out: &mut [u8], h: State, payload: &[u8]) -> Answer
     requires { ⌜ LentSuch (InForce h (requestRecord (now payload))) (now state) (now out) ⌝ }
-    ensures { λ r. ⌜ ((s : Server) → Holds s (now (state .entry)) → answered r (now (state .exit)) (now (out .exit)) ≡ outcomeOn (answer s (requestRecord (now (payload .entry)))) (now (state .entry)) (now (out .entry))) ⌝ }
+    ensures { λ r. ⌜ AnswersAs (λ s. answer s (requestRecord (now (payload .entry)))) r (now (state .entry)) (now (state .exit)) (now (out .entry)) (now (out .exit)) ⌝ }
 {
     if !quota_left(h) {
         return Answer::refused(3);

@@ -11,12 +11,12 @@ ghost use Rattle.replication.specs.Machine.Types.{Non-prim, Exchange-states, Ex
 ghost use Rattle.replication.specs.Machine.Exchange.{quorum};
 ghost use Rattle.replication.specs.Machine.Step.{stored, collected, hereSet, placed, exchanged, oneMore, allCome, plannedNow, decided, endExchange, allStatesIn, afterStates, collectState, exchange as exchangedBy};
 ghost use Rattle.replication.specs.Machine.WellFormedFacts.{Configured};
-ghost use Rattle.replication.proofs.WellFormed.RuleFacts.{Delivered};
+ghost use Rattle.replication.specs.Laws.RuleFits.{Delivered};
 ghost use Rattle.engine.specs.Image.{image};
-ghost use Rattle.engine.proofs.InPlace.{Holds, HoldsSuch};
+ghost use Rattle.engine.specs.Holding.{Holds, HoldsSuch, Becomes};
 ghost use Rattle.lists.specs.Standing.{voteNumbers};
 ghost use Rattle.exchange.specs.Decided.{votesNumbers};
-ghost use Rattle.step.specs.Answers.{answered, outcomeOn, LentSuch, Came};
+ghost use Rattle.step.specs.Answers.{answered, outcomeOn, LentSuch, Came, AnswersAs};
 use crate::Answer;
 use crate::resending::send_part;
 use crate::sending::send_records;
@@ -151,7 +151,7 @@ pub fn collect(state: &mut [u8], out: &mut [u8], k: u8, event: &[u8]) -> Answer
 // "a retransmission at position green length + 1 is green; one at a lower nonzero position is ignored; any other is red."
 fn place_action(state: &mut [u8], position: u32, head: ActionHead, payload: &[u8])
     requires { ⌜ HoldsSuch (λ s. Delivered s (actionOf head (now payload))) (now state) ⌝ }
-    ensures { λ _. ⌜ ((s : Server) → Holds s (now (state .entry)) → now (state .exit) ≡ image (withLog (placed position (actionOf head (now (payload .entry))) (s .log)) s) (now (state .entry))) ⌝ }
+    ensures { λ _. ⌜ Becomes (λ s. withLog (placed position (actionOf head (now (payload .entry))) (s .log)) s) (now (state .entry)) (now (state .exit)) ⌝ }
 {
     let length = num32(state, record::State::AT_GREEN_LENGTH);
     if position == length + 1 {
@@ -170,7 +170,7 @@ fn place_action(state: &mut [u8], position: u32, head: ActionHead, payload: &[u8
 // One that is not the last.
 fn take_in(state: &mut [u8], position: u32, head: ActionHead, payload: &[u8])
     requires { ⌜ HoldsSuch (λ s. Delivered s (actionOf head (now payload)) × (s .membership .mode ≡ Exchange-actions) × (allCome (oneMore s) ≡ false)) (now state) ⌝ }
-    ensures { λ _. ⌜ ((s : Server) → Holds s (now (state .entry)) → now (state .exit) ≡ image (exchanged position (actionOf head (now (payload .entry))) s) (now (state .entry))) ⌝ }
+    ensures { λ _. ⌜ Becomes (exchanged position (actionOf head (now (payload .entry)))) (now (state .entry)) (now (state .exit)) ⌝ }
 {
     place_action(state, position, head, payload);
     one_more(state);
@@ -179,7 +179,7 @@ fn take_in(state: &mut [u8], position: u32, head: ActionHead, payload: &[u8])
 // The number of retransmissions rises, and the state is Non_prim.
 fn close(state: &mut [u8])
     requires { ⌜ HoldsSuch (λ s. s .membership .mode ≡ Exchange-actions) (now state) ⌝ }
-    ensures { λ _. ⌜ ((s : Server) → Holds s (now (state .entry)) → now (state .exit) ≡ image (oneMore (inMode Non-prim s)) (now (state .entry))) ⌝ }
+    ensures { λ _. ⌜ Becomes (λ s. oneMore (inMode Non-prim s)) (now (state .entry)) (now (state .exit)) ⌝ }
 {
     set_mode(state, record::State::NON_PRIM);
     one_more(state);
@@ -188,7 +188,7 @@ fn close(state: &mut [u8])
 // The last one, after which the exchange ends.
 fn take_last(state: &mut [u8], position: u32, head: ActionHead, payload: &[u8])
     requires { ⌜ HoldsSuch (λ s. Delivered s (actionOf head (now payload)) × (s .membership .mode ≡ Exchange-actions)) (now state) ⌝ }
-    ensures { λ _. ⌜ ((s : Server) → Holds s (now (state .entry)) → now (state .exit) ≡ image (inMode Non-prim (exchanged position (actionOf head (now (payload .entry))) s)) (now (state .entry))) ⌝ }
+    ensures { λ _. ⌜ Becomes (λ s. inMode Non-prim (exchanged position (actionOf head (now (payload .entry))) s)) (now (state .entry)) (now (state .exit)) ⌝ }
 {
     place_action(state, position, head, payload);
     close(state);
@@ -203,7 +203,7 @@ pub fn exchange(
     payload: &[u8],
 ) -> Answer
     requires { ⌜ LentSuch (λ s. Delivered s (actionOf head (now payload)) × (s .membership .mode ≡ Exchange-actions)) (now state) (now out) ⌝ }
-    ensures { λ r. ⌜ ((s : Server) → Holds s (now (state .entry)) → answered r (now (state .exit)) (now (out .exit)) ≡ outcomeOn (exchangedBy position (actionOf head (now (payload .entry))) s) (now (state .entry)) (now (out .entry))) ⌝ }
+    ensures { λ r. ⌜ AnswersAs (exchangedBy position (actionOf head (now (payload .entry)))) r (now (state .entry)) (now (state .exit)) (now (out .entry)) (now (out .exit)) ⌝ }
 {
     let planned = planned_now(state);
     let come = num32(state, record::State::AT_COME);

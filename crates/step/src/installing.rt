@@ -9,10 +9,10 @@ ghost use Rattle.replication.specs.Machine.Install.{install as installed};
 ghost use Rattle.replication.specs.Machine.Requests.{sendHeld, heldRecords};
 ghost use Rattle.replication.specs.Machine.Step.{stored, installing, collectCpc};
 ghost use Rattle.replication.specs.Machine.WellFormedFacts.{Configured};
-ghost use Rattle.replication.proofs.WellFormed.RuleFacts.{Delivered};
+ghost use Rattle.replication.specs.Laws.RuleFits.{Delivered};
 ghost use Rattle.engine.specs.Image.{modeNumber, image};
-ghost use Rattle.engine.proofs.InPlace.{Holds, HoldsSuch};
-ghost use Rattle.step.specs.Answers.{answered, outcomeOn, LentSuch, Installs, withLateCpc};
+ghost use Rattle.engine.specs.Holding.{Holds, HoldsSuch, Becomes};
+ghost use Rattle.step.specs.Answers.{answered, outcomeOn, LentSuch, Installs, withLateCpc, AnswersAs};
 use crate::Answer;
 use crate::colours::yellow;
 use crate::sending::send_records;
@@ -36,7 +36,7 @@ fn install_in(state: &mut [u8], mode: u8)
 // "Un: action does Install, then yellow"
 pub fn late_install(state: &mut [u8], head: ActionHead, payload: &[u8])
     requires { ⌜ HoldsSuch (λ s. Delivered s (actionOf head (now payload)) × (s .membership .mode ≡ Un)) (now state) ⌝ }
-    ensures { λ _. ⌜ ((s : Server) → Holds s (now (state .entry)) → now (state .exit) ≡ image (inMode Trans-prim (yellowed (actionOf head (now (payload .entry))) (installed s))) (now (state .entry))) ⌝ }
+    ensures { λ _. ⌜ Becomes (λ s. inMode Trans-prim (yellowed (actionOf head (now (payload .entry))) (installed s))) (now (state .entry)) (now (state .exit)) ⌝ }
 {
     install_in(state, State::TRANS_PRIM);
     yellow(state, head, payload);
@@ -64,7 +64,7 @@ fn install_all(state: &mut [u8], out: &mut [u8]) -> Answer
 // "Construct: when every member's CPC is in: Install, to Reg_prim"
 pub fn collect_cpc(state: &mut [u8], out: &mut [u8], k: u8) -> Answer
     requires { ⌜ LentSuch (λ s. (k < s .servers) × (s .membership .mode ≡ Construct)) (now state) (now out) ⌝ }
-    ensures { λ r. ⌜ ((s : Server) → Holds s (now (state .entry)) → answered r (now (state .exit)) (now (out .exit)) ≡ outcomeOn (collectCpc k s) (now (state .entry)) (now (out .entry))) ⌝ }
+    ensures { λ r. ⌜ AnswersAs (collectCpc k) r (now (state .entry)) (now (state .exit)) (now (out .entry)) (now (out .exit)) ⌝ }
 {
     add_cpc(state, k);
     if !all_cpcs_in(state) {
@@ -76,7 +76,7 @@ pub fn collect_cpc(state: &mut [u8], out: &mut [u8], k: u8) -> Answer
 // "No: all CPCs in, to Un"
 pub fn collect_late_cpc(state: &mut [u8], k: u8)
     requires { ⌜ HoldsSuch (λ s. (k < s .servers) × (s .membership .mode ≡ No)) (now state) ⌝ }
-    ensures { λ _. ⌜ ((s : Server) → Holds s (now (state .entry)) → now (state .exit) ≡ image (withLateCpc k s) (now (state .entry))) ⌝ }
+    ensures { λ _. ⌜ Becomes (withLateCpc k) (now (state .entry)) (now (state .exit)) ⌝ }
 {
     add_cpc(state, k);
     if !all_cpcs_in(state) {

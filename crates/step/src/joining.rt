@@ -8,7 +8,7 @@ ghost use Rattle.replication.specs.Machine.WellFormedRanges.{ConfigurationFits}
 ghost use Rattle.lists.specs.Lists.{configurationOf};
 ghost use Rattle.engine.specs.Header.{headerIn};
 ghost use Rattle.engine.specs.Image.{over};
-ghost use Rattle.engine.proofs.InPlace.{Holds};
+ghost use Rattle.engine.specs.Holding.{Holds};
 ghost use Rattle.step.specs.Answers.{answered, outcomeOn, LentSuch, recordBytes};
 ghost use Rattle.step.specs.Sending.{ownHead, ownRecord};
 ghost use Rattle.engine.specs.Layout.{headerSize};

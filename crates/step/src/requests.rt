@@ -1,13 +1,11 @@
 // A request: numbered, put on the own list and sent, or held.
 ghost use mathlib.Core.Path.{_≡_};
 ghost use mathlib.Core.Bool.{true};
-ghost use Rattle.replication.specs.Machine.Types.{Server};
 ghost use Rattle.replication.specs.Machine.Requests.{sendsNow, quotaLeft, roomToHold};
 ghost use Rattle.replication.specs.Machine.Step.{requested};
 ghost use Rattle.replication.specs.Machine.WellFormedRanges.{PayloadFits};
 ghost use Rattle.engine.specs.Header.{headerOf};
-ghost use Rattle.engine.proofs.InPlace.{Holds};
-ghost use Rattle.step.specs.Answers.{answered, outcomeOn, LentSuch};
+ghost use Rattle.step.specs.Answers.{LentSuch, AnswersAs};
 use crate::Answer;
 use crate::rows::sends_now;
 use lists::requests::hold;
@@ -20,7 +18,7 @@ use record::writer::write_action;
 // The request as an action: "numbered, put on the own list and stored first", then sent.
 fn send(state: &mut [u8], out: &mut [u8], payload: &[u8]) -> Answer
     requires { ⌜ LentSuch (λ s. PayloadFits (now payload) × (quotaLeft s ≡ true) × (sendsNow (s .membership) ≡ true)) (now state) (now out) ⌝ }
-    ensures { λ r. ⌜ ((s : Server) → Holds s (now (state .entry)) → answered r (now (state .exit)) (now (out .exit)) ≡ outcomeOn (requested (now (payload .entry)) s) (now (state .entry)) (now (out .entry))) ⌝ }
+    ensures { λ r. ⌜ AnswersAs (requested (now (payload .entry))) r (now (state .entry)) (now (state .exit)) (now (out .entry)) (now (out .exit)) ⌝ }
 {
     let head = next_head(state);
     let w = write_action(out, 0, head, payload);
@@ -34,7 +32,7 @@ fn send(state: &mut [u8], out: &mut [u8], payload: &[u8]) -> Answer
 // "Elsewhere held"; h are the state's numbers.
 pub fn request(state: &mut [u8], out: &mut [u8], h: State, payload: &[u8]) -> Answer
     requires { ⌜ LentSuch (λ s. PayloadFits (now payload) × (quotaLeft s ≡ true) × (roomToHold s ≡ true) × (h ≡ headerOf s)) (now state) (now out) ⌝ }
-    ensures { λ r. ⌜ ((s : Server) → Holds s (now (state .entry)) → answered r (now (state .exit)) (now (out .exit)) ≡ outcomeOn (requested (now (payload .entry)) s) (now (state .entry)) (now (out .entry))) ⌝ }
+    ensures { λ r. ⌜ AnswersAs (requested (now (payload .entry))) r (now (state .entry)) (now (state .exit)) (now (out .entry)) (now (out .exit)) ⌝ }
 {
     if sends_now(h) {
         return send(state, out, payload);

@@ -12,7 +12,7 @@ ghost use Rattle.replication.specs.Machine.Types.{Server};
 ghost use Rattle.replication.specs.Machine.Plan.{ownPart};
 ghost use Rattle.replication.specs.Machine.Step.{collected, allStatesIn};
 ghost use Rattle.engine.specs.Image.{over};
-ghost use Rattle.engine.proofs.InPlace.{Holds};
+ghost use Rattle.engine.specs.Holding.{Holds};
 ghost use Rattle.queue.specs.Queue.{serversOf, quotaOf, queueCount};
 ghost use Rattle.step.specs.Answers.{LentSuch, recordBytes};
 ghost use Rattle.install.specs.Table.{InTable};

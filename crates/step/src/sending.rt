@@ -9,7 +9,7 @@ ghost use Rattle.format.specs.Write.{write};
 ghost use Rattle.replication.specs.Machine.Types.{Server};
 ghost use Rattle.replication.specs.Machine.Requests.{heldRecords};
 ghost use Rattle.engine.specs.Image.{over};
-ghost use Rattle.engine.proofs.InPlace.{Holds};
+ghost use Rattle.engine.specs.Holding.{Holds};
 ghost use Rattle.lists.specs.Lists.{CountsIn, heldCount};
 ghost use Rattle.step.specs.Answers.{LentSuch, recordBytes};
 ghost use Rattle.step.specs.Sending.{heldPlace, heldHead, heldAction, HeldRoom};

@@ -1,15 +1,12 @@
 // An event as it comes: read against the state, and taken by its kind. h are the state's numbers.
 ghost use mathlib.Core.Path.{_≡_};
-ghost use mathlib.Core.List.{List};
-ghost use Prim.Native.Nat.{ℕ};
 ghost use Rattle.base.specs.Bytes.{partAt};
 ghost use Rattle.format.specs.Types.{action as actionRecord, retransmission, request, recovery};
 ghost use Rattle.record.specs.Events.{actionFrom, recordOf};
-ghost use Rattle.replication.specs.Machine.Types.{Server};
 ghost use Rattle.replication.specs.Machine.Step.{answer};
 ghost use Rattle.engine.specs.Outcome.{stateNumber, stepOn};
-ghost use Rattle.engine.proofs.InPlace.{Holds, HoldsSuch};
-ghost use Rattle.step.specs.Answers.{answered, outcomeOn, LentSuch, InForce};
+ghost use Rattle.engine.specs.Holding.{HoldsSuch};
+ghost use Rattle.step.specs.Answers.{answered, LentSuch, InForce, AnswersAlone, AnswersAs};
 ghost use Rattle.step.specs.Events.{PartInForce, ReadInForce, numberOf};
 use crate::Answer;
 use crate::events::on_action;
@@ -29,7 +26,7 @@ use record::reader::read;
 
 fn act(state: &mut [u8], h: State, a: ActionAt, event: &[u8]) -> Answer
     requires { ⌜ HoldsSuch (PartInForce h (actionRecord (actionFrom a (now event))) (a .«payload_at») (a .«payload_length») (now event)) (now state) ⌝ }
-    ensures { λ r. ⌜ ((s : Server) (o : List ℕ) → Holds s (now (state .entry)) → answered r (now (state .exit)) o ≡ outcomeOn (answer s (actionRecord (actionFrom a (now (event .entry))))) (now (state .entry)) o) ⌝ }
+    ensures { λ r. ⌜ AnswersAlone (λ s. answer s (actionRecord (actionFrom a (now (event .entry))))) r (now (state .entry)) (now (state .exit)) ⌝ }
 {
     let at = a.payload_at;
     let end = at + a.payload_length;
@@ -47,7 +44,7 @@ fn resent(
     event: &[u8],
 ) -> Answer
     requires { ⌜ LentSuch (PartInForce h (retransmission sender position (actionFrom a (now event))) (a .«payload_at») (a .«payload_length») (now event)) (now state) (now out) ⌝ }
-    ensures { λ r. ⌜ ((s : Server) → Holds s (now (state .entry)) → answered r (now (state .exit)) (now (out .exit)) ≡ outcomeOn (answer s (retransmission sender position (actionFrom a (now (event .entry))))) (now (state .entry)) (now (out .entry))) ⌝ }
+    ensures { λ r. ⌜ AnswersAs (λ s. answer s (retransmission sender position (actionFrom a (now (event .entry))))) r (now (state .entry)) (now (state .exit)) (now (out .entry)) (now (out .exit)) ⌝ }
 {
     let at = a.payload_at;
     let end = at + a.payload_length;
@@ -64,7 +61,7 @@ fn requested(
     event: &[u8],
 ) -> Answer
     requires { ⌜ LentSuch (PartInForce h (request (partAt count (now event) at)) at count (now event)) (now state) (now out) ⌝ }
-    ensures { λ r. ⌜ ((s : Server) → Holds s (now (state .entry)) → answered r (now (state .exit)) (now (out .exit)) ≡ outcomeOn (answer s (request (partAt count (now (event .entry)) at))) (now (state .entry)) (now (out .entry))) ⌝ }
+    ensures { λ r. ⌜ AnswersAs (λ s. answer s (request (partAt count (now (event .entry)) at))) r (now (state .entry)) (now (state .exit)) (now (out .entry)) (now (out .exit)) ⌝ }
 {
     let end = at + count;
     on_request(state, out, h, &event[at..end])
@@ -73,7 +70,7 @@ fn requested(
 // "Non_prim, no configuration, .. stored."
 fn recovered(state: &mut [u8], h: State) -> Answer
     requires { ⌜ HoldsSuch (InForce h recovery) (now state) ⌝ }
-    ensures { λ r. ⌜ ((s : Server) (o : List ℕ) → Holds s (now (state .entry)) → answered r (now (state .exit)) o ≡ outcomeOn (answer s recovery) (now (state .entry)) o) ⌝ }
+    ensures { λ r. ⌜ AnswersAlone (λ s. answer s recovery) r (now (state .entry)) (now (state .exit)) ⌝ }
 {
     recover(state);
     Answer::stored(0)
@@ -82,7 +79,7 @@ fn recovered(state: &mut [u8], h: State) -> Answer
 // The event v, which was read from the bytes `event`.
 fn on_event(state: &mut [u8], out: &mut [u8], h: State, v: Event, event: &[u8]) -> Answer
     requires { ⌜ LentSuch (ReadInForce h v (now event)) (now state) (now out) ⌝ }
-    ensures { λ r. ⌜ ((s : Server) → Holds s (now (state .entry)) → answered r (now (state .exit)) (now (out .exit)) ≡ outcomeOn (answer s (recordOf v (now (event .entry)))) (now (state .entry)) (now (out .entry))) ⌝ }
+    ensures { λ r. ⌜ AnswersAs (λ s. answer s (recordOf v (now (event .entry)))) r (now (state .entry)) (now (state .exit)) (now (out .entry)) (now (out .exit)) ⌝ }
 {
     match v {
         Event::Action(action) => act(state, h, action, event),

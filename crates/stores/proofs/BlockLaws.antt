@@ -6,9 +6,9 @@ use mathlib.Core.List.{List, [], _∷_, append-assoc, append-nil}
 use native.Mathlib.Omega.{arith}
 use lib.ListN.{length}
 use Rattle.base.specs.Bytes.{bytesOf, joined}
-use Rattle.base.specs.BytesLaws.{bytes-length, bytes1}
+use Rattle.base.proofs.BytesLaws.{bytes-length, bytes1}
 use Rattle.base.specs.Patched.{patched}
-use Rattle.base.specs.Stores.{two-blocks}
+use Rattle.base.proofs.Stores.{two-blocks}
 use Rattle.format.specs.Types.{Id}
 use Rattle.format.specs.Write.{idBytes, payloadBytes}
 use Rattle.format.proofs.Lengths.{id-length}

@@ -1,5 +1,5 @@
 use Rattle.engine.specs.Outcome.{lengthsOf}
-use Rattle.base.specs.Branches.{pick-answered, pick-denied}
+use Rattle.base.proofs.Branches.{pick-answered, pick-denied}
 use Rattle.engine.proofs.SizeLaws.{sizes-answered, lengths-made}
 use borrow.Author.Needs.{needs}
 use Rattle.engine.proofs.guzbytor_lengths.Statement.{statement}

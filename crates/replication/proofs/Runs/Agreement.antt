@@ -6,12 +6,12 @@ use mathlib.Core.Logic.{_⊎_}
 use mathlib.Core.Option.{some}
 use native.Mathlib.Omega.{arith}
 use Rattle.base.specs.Lists.{Begins}
-use Rattle.base.specs.Rising.{Alike, Initial, included-begins, comparable}
+use Rattle.base.proofs.Rising.{Alike, Initial, included-begins, comparable}
 use Rattle.replication.specs.Machine.Types.{Configuration}
 use Rattle.replication.specs.Runs.Run.{Run, Place}
 use Rattle.replication.specs.Runs.Happenings.{Left}
 use Rattle.replication.specs.Runs.Allowed.{Allowed}
-use Rattle.replication.specs.Runs.DeliveryFacts.{within, withinRegular, deliveryPlaces, delivered}
+use Rattle.replication.proofs.Runs.DeliveryFacts.{within, withinRegular, deliveryPlaces, delivered}
 use Rattle.replication.proofs.Runs.Deliveries.{Delivery}
 use Rattle.replication.proofs.Runs.Order.{time, lower-delivered, left-delivered}
 use Rattle.replication.proofs.Runs.DeliveryLists.{within-holds, within-yes, within-regular-holds, within-regular-yes, listed, in-list, places-rise}

@@ -6,7 +6,7 @@ use mathlib.Core.List.{List, [], map}
 use mathlib.Core.Option.{some}
 use Rattle.base.specs.Tests.{pick}
 use Rattle.base.specs.Lists.{at}
-use Rattle.base.specs.AtLaws.{some-same}
+use Rattle.base.proofs.AtLaws.{some-same}
 use Rattle.format.specs.Types.{Action, Record, recovery, says, refused}
 use Rattle.format.specs.Read.{read}
 use Rattle.format.specs.Write.{write}

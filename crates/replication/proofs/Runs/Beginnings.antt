@@ -8,7 +8,7 @@ use native.Mathlib.Decide.{decLt}
 use lib.ListN.{length, take}
 use lib.Seq.{take-take}
 use Rattle.base.specs.Lists.{at}
-use Rattle.base.specs.AtLaws.{at-take, at-in-take, at-past-take}
+use Rattle.base.proofs.AtLaws.{at-take, at-in-take, at-past-take}
 use Rattle.format.specs.Types.{Record}
 use Rattle.replication.specs.Machine.Types.{Configuration}
 use Rattle.replication.specs.Images.{arrive}

@@ -5,7 +5,7 @@ use mathlib.Core.Bool.{Bool, true, false}
 use mathlib.Core.List.{List}
 use mathlib.Core.Logic.{_⊎_, inl, inr}
 use native.Mathlib.Omega.{arith}
-use Rattle.base.specs.Chains.{chain}
+use Rattle.base.proofs.Chains.{chain}
 use Rattle.replication.specs.Machine.Types.{Server, start}
 use Rattle.replication.specs.Machine.Requests.{recovered}
 use Rattle.replication.specs.Laws.Order.{SameControl, Grows}

@@ -4,14 +4,15 @@ use mathlib.Core.Path.{_≡_, refl, sym, ap, subst, _∙_}
 use mathlib.Core.Bool.{true, false}
 use mathlib.Core.Option.{some}
 use native.Mathlib.Omega.{arith}
-use Rattle.base.specs.Tests.{_or_, _=?_, not-both, eq-holds, Known, holds, fails, known}
-use Rattle.base.specs.AtLaws.{some-same}
+use Rattle.base.specs.Tests.{_or_, _=?_}
+use Rattle.base.proofs.TestLaws.{not-both, eq-holds, Known, holds, fails, known}
+use Rattle.base.proofs.AtLaws.{some-same}
 use Rattle.base.specs.Sets.{inSet, withMember}
-use Rattle.base.specs.SetLaws.{in-empty, in-with-member}
+use Rattle.base.proofs.SetLaws.{in-empty, in-with-member}
 use Rattle.format.specs.Types.{Record, cpc, regular}
 use Rattle.replication.specs.Machine.Types.{Construct, Configuration, Membership}
 use Rattle.replication.specs.Machine.Step.{theId, hereId}
-use Rattle.replication.specs.Machine.WellFormedSent.{senderOf}
+use Rattle.replication.proofs.WellFormed.SentFacts.{senderOf}
 use Rattle.replication.specs.Laws.Votes.{EndsExchange}
 use Rattle.replication.specs.Runs.Run.{Run, placeAt}
 use Rattle.replication.specs.Runs.Happenings.{isMessage, Comes}

@@ -7,15 +7,16 @@ use mathlib.Core.Logic.{_⊎_, inl, inr}
 use mathlib.Core.Option.{Option, none, some}
 use native.Mathlib.Omega.{arith}
 use native.Mathlib.Decide.{decLt}
-use Rattle.base.specs.Tests.{pick, not-both, not-holds, and-holds, both-yes, eq-yes, eq-holds, Known, holds, fails, known}
+use Rattle.base.specs.Tests.{pick}
+use Rattle.base.proofs.TestLaws.{not-both, not-holds, and-holds, both-yes, eq-yes, eq-holds, Known, holds, fails, known}
 use Rattle.base.specs.Lists.{at, isThere}
-use Rattle.base.specs.Rising.{Rises, rises-more}
+use Rattle.base.proofs.Rising.{Rises, rises-more}
 use Rattle.format.specs.Types.{Record, Reading, says, refused}
 use Rattle.replication.specs.Machine.Types.{Configuration}
 use Rattle.replication.specs.Runs.Run.{Entry, event, crash, store, Run, Place, placeAt}
 use Rattle.replication.specs.Runs.Happenings.{Message, isMessage}
 use Rattle.replication.specs.Runs.Allowed.{Allowed}
-use Rattle.replication.specs.Runs.DeliveryFacts.{isConfiguration, within, withinRegular, saysMessage, deliversBy, deliversAt, deliveryPlaces, delivered}
+use Rattle.replication.proofs.Runs.DeliveryFacts.{isConfiguration, within, withinRegular, saysMessage, deliversBy, deliversAt, deliveryPlaces, delivered}
 use Rattle.replication.proofs.Runs.Shifts.{comes-of}
 use Rattle.replication.proofs.Runs.Deliveries.{Delivery}
 use Rattle.replication.proofs.Runs.Order.{inRegularOf, time, time-rises}

@@ -6,7 +6,7 @@ use mathlib.Core.List.{List}
 use mathlib.Core.Logic.{_⊎_, inl, inr}
 use mathlib.Core.Option.{Option, some}
 use lib.ListN.{length, set, length-set}
-use Rattle.base.specs.Tests.{not-both}
+use Rattle.base.proofs.TestLaws.{not-both}
 use Rattle.format.specs.Types.{State, Record, action, retransmission, state, cpc, regular, transitional, request, recovery, says}
 use Rattle.replication.specs.Machine.Types.{Mode, Configuration, Membership, Server}
 use Rattle.replication.specs.Machine.Requests.{numbered, hold, sendHeld, recovered}

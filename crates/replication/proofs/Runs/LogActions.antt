@@ -5,8 +5,10 @@ use mathlib.Core.Bool.{Bool}
 use mathlib.Core.List.{List, [], _∷_, map, List·Memᴰ, List·Memᴰ·head, List·Memᴰ·tail, Memᴰ·map}
 use mathlib.Core.Option.{Option, none, some}
 use lib.ListN.{length}
-use Rattle.base.specs.Tests.{_=?_, _≤?_, _and_, pick-either, Known, holds, fails, known}
-use Rattle.base.specs.ListLaws.{Each, each-append, each-implied}
+use Rattle.base.specs.Tests.{_=?_, _≤?_, _and_}
+use Rattle.base.proofs.TestLaws.{pick-either, Known, holds, fails, known}
+use Rattle.base.specs.Lists.{Each}
+use Rattle.base.proofs.ListLaws.{each-append, each-implied}
 use Rattle.format.specs.Types.{Id, Action, Record, action, retransmission, state, cpc, regular, transitional, request, recovery}
 use Rattle.replication.specs.Machine.Types.{Non-prim, Reg-prim, Log, Server, inMode}
 use Rattle.replication.specs.Machine.Colours.{find, isNext, enter, red, reds, promote, promoteFound, greenId, greenIds, green, yellow}

@@ -5,11 +5,11 @@ use mathlib.Core.List.{List, [], _∷_, _++_, map, List·Memᴰ, List·Memᴰ·h
 use mathlib.Core.Option.{some}
 use native.Mathlib.Omega.{arith}
 use native.Mathlib.Decide.{decLt}
-use Rattle.base.specs.Tests.{pick-either}
-use Rattle.base.specs.Lists.{above, after}
-use Rattle.base.specs.AtLaws.{at-among}
-use Rattle.base.specs.Chains.{strong}
-use Rattle.base.specs.ListLaws.{Each, each-append, each-implied}
+use Rattle.base.proofs.TestLaws.{pick-either}
+use Rattle.base.specs.Lists.{above, after, Each}
+use Rattle.base.proofs.AtLaws.{at-among}
+use Rattle.base.proofs.Chains.{strong}
+use Rattle.base.proofs.ListLaws.{each-append, each-implied}
 use Rattle.format.specs.Types.{Id, Action, State, Record, action, retransmission, state, cpc, regular, transitional, request, recovery}
 use Rattle.replication.specs.Machine.Types.{Configuration, Log, start}
 use Rattle.replication.specs.Machine.Colours.{find}

@@ -5,8 +5,8 @@ use mathlib.Core.Bool.{true}
 use mathlib.Core.Option.{none, some}
 use native.Mathlib.Omega.{arith}
 use native.Mathlib.Decide.{decLt}
-use Rattle.base.specs.Tests.{and-holds}
-use Rattle.base.specs.AtLaws.{some-same}
+use Rattle.base.proofs.TestLaws.{and-holds}
+use Rattle.base.proofs.AtLaws.{some-same}
 use Rattle.base.specs.Sets.{inSet}
 use Rattle.format.specs.Types.{regular, transitional}
 use Rattle.format.specs.Range.{recordOk, fieldsOk, ownSetOk}

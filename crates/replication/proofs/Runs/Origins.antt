@@ -6,19 +6,19 @@ use mathlib.Core.List.{List}
 use mathlib.Core.Option.{some}
 use native.Mathlib.Omega.{arith}
 use Rattle.base.specs.Lists.{at}
-use Rattle.base.specs.AtLaws.{some-same}
-use Rattle.base.specs.ListLaws.{each-at}
+use Rattle.base.proofs.AtLaws.{some-same}
+use Rattle.base.proofs.ListLaws.{each-at}
 use Rattle.base.specs.Sets.{inSet}
 use Rattle.format.specs.Types.{Record, Context, says}
 use Rattle.format.specs.Read.{read}
 use Rattle.format.specs.Write.{write}
 use Rattle.format.proofs.Ranges.{sizes-range}
 use Rattle.replication.specs.Machine.Types.{Configuration, setOf}
-use Rattle.replication.specs.Machine.WellFormedSent.{senderOf}
+use Rattle.replication.proofs.WellFormed.SentFacts.{senderOf}
 use Rattle.replication.specs.Runs.Run.{Run, Place, nowhere, heard, placeAt, heardAt, sentAt}
 use Rattle.replication.specs.Runs.Happenings.{Message, Sends}
 use Rattle.replication.specs.Runs.Allowed.{Allowed}
-use Rattle.replication.specs.Runs.DeliveryFacts.{recordFrom, recordIn, recordOf}
+use Rattle.replication.proofs.Runs.DeliveryFacts.{recordFrom, recordIn, recordOf}
 use Rattle.replication.proofs.WellFormed.Reads.{Peer, put-out-reads, taken-put-out}
 use Rattle.replication.proofs.Runs.Places.{of-one, of-event}
 use Rattle.replication.proofs.Runs.Shifts.{says-same, comes-of}

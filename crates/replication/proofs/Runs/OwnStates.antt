@@ -6,9 +6,9 @@ use mathlib.Core.Logic.{_⊎_, inl, inr}
 use mathlib.Core.Option.{Option, none, some}
 use native.Mathlib.Omega.{arith}
 use lib.ListN.{length, getD}
-use Rattle.base.specs.Tests.{not-both}
-use Rattle.base.specs.ListLaws.{there}
-use Rattle.base.specs.Chains.{chain}
+use Rattle.base.proofs.TestLaws.{not-both}
+use Rattle.base.proofs.ListLaws.{there}
+use Rattle.base.proofs.Chains.{chain}
 use Rattle.base.specs.Sets.{inSet}
 use Rattle.format.specs.Types.{State, regular}
 use Rattle.replication.specs.Machine.Types.{Mode, Non-prim, Reg-prim, Trans-prim, Exchange-states, Exchange-actions, Construct, No, Un, Configuration}

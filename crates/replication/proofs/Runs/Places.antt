@@ -6,7 +6,7 @@ use mathlib.Core.Option.{none, some}
 use native.Mathlib.Omega.{arith}
 use lib.ListN.{take}
 use Rattle.base.specs.Lists.{at}
-use Rattle.base.specs.AtLaws.{some-same, take-past, take-next}
+use Rattle.base.proofs.AtLaws.{some-same, take-past, take-next}
 use Rattle.replication.specs.Images.{arrive}
 use Rattle.replication.specs.Runs.Run.{Entry, event, crash, store, Run, serverOf, World, beginning, worldAfter, worldThrough, Place, nowhere, placeAfter, placeThrough, recordsOf, worldAt, placeAt, putOutBy, putOut, sentBy, sentAt}
 use Rattle.replication.specs.Runs.Happenings.{Of}

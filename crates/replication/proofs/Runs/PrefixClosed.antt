@@ -7,7 +7,7 @@ use mathlib.Core.Option.{Option, some}
 use native.Mathlib.Omega.{arith}
 use lib.ListN.{length, take}
 use Rattle.base.specs.Lists.{at}
-use Rattle.base.specs.AtLaws.{at-in-take, some-same}
+use Rattle.base.proofs.AtLaws.{at-in-take, some-same}
 use Rattle.base.specs.Sets.{inSet}
 use Rattle.format.specs.Types.{Record, transitional, recovery, regular}
 use Rattle.replication.specs.Machine.Types.{Configuration}

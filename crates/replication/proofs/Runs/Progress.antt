@@ -5,11 +5,11 @@ use mathlib.Core.Bool.{true, false}
 use mathlib.Core.Option.{Option, none, some}
 use native.Mathlib.Omega.{arith}
 use lib.ListN.{length-replicate}
-use Rattle.base.specs.Tests.{not-both, eq-holds, eq-fails, le-holds, le-fails, Known, holds, fails, known}
-use Rattle.base.specs.AtLaws.{none-some}
+use Rattle.base.proofs.TestLaws.{not-both, eq-holds, eq-fails, le-holds, le-fails, Known, holds, fails, known}
+use Rattle.base.proofs.AtLaws.{none-some}
 use Rattle.base.specs.Lists.{isThere}
 use Rattle.base.specs.Sets.{inSet, inside}
-use Rattle.base.specs.SetLaws.{in-empty, inside-member}
+use Rattle.base.proofs.SetLaws.{in-empty, inside-member}
 use Rattle.format.specs.Types.{State, Record}
 use Rattle.replication.specs.Machine.Types.{Mode, Non-prim, Reg-prim, Trans-prim, Exchange-states, Exchange-actions, Construct, No, Un, Configuration, Membership, noStates}
 use Rattle.replication.specs.Machine.Step.{theSet, allFrom}

@@ -3,7 +3,7 @@ use Prim.Native.Nat.{ℕ}
 use mathlib.Core.Path.{_≡_, refl, sym, ap, subst, _∙_}
 use mathlib.Core.Bool.{true}
 use mathlib.Core.List.{List}
-use Rattle.base.specs.Tests.{not-both, and-holds, both-yes}
+use Rattle.base.proofs.TestLaws.{not-both, and-holds, both-yes}
 use Rattle.format.specs.Types.{Record, action, retransmission, state, cpc, regular, transitional, request, recovery, Context, Reading, says, refused}
 use Rattle.format.specs.Range.{contextOk, fieldsOk, recordOk}
 use Rattle.format.specs.Read.{frameOk, recordIn, read}

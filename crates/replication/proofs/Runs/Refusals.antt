@@ -3,9 +3,10 @@ use Prim.Native.Nat.{ℕ}
 use mathlib.Core.Path.{_≡_, refl, sym, ap, subst, _∙_}
 use mathlib.Core.Bool.{Bool, true, false, not}
 use mathlib.Core.Option.{Option, none, some}
-use Rattle.base.specs.Tests.{_or_, pick, not-both}
+use Rattle.base.specs.Tests.{_or_, pick}
+use Rattle.base.proofs.TestLaws.{not-both}
 use Rattle.base.specs.Lists.{isThere}
-use Rattle.base.specs.AtLaws.{none-some}
+use Rattle.base.proofs.AtLaws.{none-some}
 use Rattle.format.specs.Types.{Record, regular, transitional, recovery}
 use Rattle.replication.specs.Machine.Types.{Mode, Non-prim, Reg-prim, Trans-prim, Exchange-states, Exchange-actions, Construct, No, Un, Configuration, Server, Outcome, refused}
 use Rattle.replication.specs.Machine.Rules.{Rule, onRegular, onTransitional, ruleFor, regularDue, transitionalDue, possible, isIgnored, fromMember, withinQuota, withinHeld}

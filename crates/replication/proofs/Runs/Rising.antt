@@ -4,8 +4,9 @@ use mathlib.Core.Path.{_≡_, refl, sym, ap, subst, _∙_}
 use mathlib.Core.Bool.{Bool, true, false}
 use mathlib.Core.List.{List}
 use mathlib.Core.Logic.{_⊎_, inl, inr}
-use Rattle.base.specs.Chains.{chain}
-use Rattle.base.specs.Tests.{pick, Known, holds, fails, known}
+use Rattle.base.proofs.Chains.{chain}
+use Rattle.base.specs.Tests.{pick}
+use Rattle.base.proofs.TestLaws.{Known, holds, fails, known}
 use Rattle.format.specs.Types.{Action}
 use Rattle.format.specs.Read.{read}
 use Rattle.replication.specs.Machine.Types.{Server, Outcome, taken, start, contextOf}

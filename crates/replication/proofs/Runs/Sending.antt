@@ -5,9 +5,10 @@ use mathlib.Core.Bool.{Bool, true, false}
 use mathlib.Core.List.{List, []}
 use mathlib.Core.Logic.{_⊎_, inl, inr}
 use mathlib.Core.Option.{Option, none, some}
-use Rattle.base.specs.Tests.{_and_, not-both}
+use Rattle.base.specs.Tests.{_and_}
+use Rattle.base.proofs.TestLaws.{not-both}
 use Rattle.base.specs.Lists.{at, isThere}
-use Rattle.base.specs.AtLaws.{none-some, some-same, at-in-take, at-map}
+use Rattle.base.proofs.AtLaws.{none-some, some-same, at-in-take, at-map}
 use Rattle.format.specs.Types.{Record, regular, transitional, says}
 use Rattle.format.specs.Write.{write}
 use Rattle.replication.specs.Machine.Types.{Mode, Non-prim, Reg-prim, Trans-prim, Exchange-states, Exchange-actions, Construct, No, Un, Configuration, Server}

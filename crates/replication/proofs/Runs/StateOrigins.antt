@@ -10,12 +10,12 @@ use native.Mathlib.Decide.{decLt, ℕ-discrete}
 use lib.ListN.{length, getD, set}
 use lib.Seq.{getD-set-same, getD-set-other, set-out}
 use Rattle.base.specs.Lists.{at}
-use Rattle.base.specs.AtLaws.{none-some, some-same, at-among}
+use Rattle.base.proofs.AtLaws.{none-some, some-same, at-among}
 use Rattle.base.specs.Sets.{inSet}
 use Rattle.format.specs.Types.{State, Record, state, regular}
 use Rattle.replication.specs.Machine.Types.{Configuration, Membership, noStates}
 use Rattle.replication.specs.Machine.Step.{ownState}
-use Rattle.replication.specs.Machine.WellFormedSent.{senderOf}
+use Rattle.replication.proofs.WellFormed.SentFacts.{senderOf}
 use Rattle.replication.specs.Laws.Sending.{PutsOut}
 use Rattle.replication.specs.Runs.Run.{Run, placeAt}
 use Rattle.replication.specs.Runs.Happenings.{isMessage, Comes, Takes}

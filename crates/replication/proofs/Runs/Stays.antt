@@ -3,8 +3,8 @@ use Prim.Native.Nat.{ℕ, zero, suc}
 use mathlib.Core.Path.{_≡_, refl, sym, ap, subst, _∙_}
 use mathlib.Core.Bool.{Bool, true, false}
 use mathlib.Core.Option.{some}
-use Rattle.base.specs.Tests.{not-both}
-use Rattle.base.specs.AtLaws.{none-some, some-same}
+use Rattle.base.proofs.TestLaws.{not-both}
+use Rattle.base.proofs.AtLaws.{none-some, some-same}
 use Rattle.format.specs.Types.{regular}
 use Rattle.replication.specs.Machine.Types.{Configuration, Membership}
 use Rattle.replication.specs.Runs.Run.{Run, beginning, nowhere, worldAt, placeAt}

@@ -7,9 +7,10 @@ use mathlib.Core.List.{List, [], _∷_}
 use mathlib.Core.Option.{Option, none, some}
 use native.Mathlib.Omega.{arith}
 use lib.ListN.{take}
-use Rattle.base.specs.Tests.{pick, not-both, Known, holds, fails, known}
+use Rattle.base.specs.Tests.{pick}
+use Rattle.base.proofs.TestLaws.{not-both, Known, holds, fails, known}
 use Rattle.base.specs.Lists.{at, upd, Begins}
-use Rattle.base.specs.AtLaws.{none-some, at-in-take, Upd, here, elsewhere, upd?}
+use Rattle.base.proofs.AtLaws.{none-some, at-in-take, Upd, here, elsewhere, upd?}
 use Rattle.format.specs.Types.{Action, Primary}
 use Rattle.replication.specs.Machine.Types.{Server, Outcome, taken}
 use Rattle.replication.specs.Machine.Step.{installs}

@@ -4,9 +4,10 @@ use mathlib.Core.Path.{_≡_, refl, sym, ap, subst, _∙_}
 use mathlib.Core.Bool.{Bool, true, false}
 use mathlib.Core.List.{List}
 use mathlib.Core.Option.{Option, none, some}
-use Rattle.base.specs.Tests.{_=?_, pick, Known, holds, fails, known, eq-holds, eq-fails}
+use Rattle.base.specs.Tests.{_=?_, pick}
+use Rattle.base.proofs.TestLaws.{Known, holds, fails, known, eq-holds, eq-fails}
 use Rattle.base.specs.Lists.{at, upd}
-use Rattle.base.specs.AtLaws.{none-some, upd-here, upd-elsewhere}
+use Rattle.base.proofs.AtLaws.{none-some, upd-here, upd-elsewhere}
 use Rattle.format.specs.Types.{Action}
 use Rattle.replication.specs.Machine.Types.{Server, Outcome, taken}
 use Rattle.replication.specs.Images.{arrive, leftBy, savedIn}

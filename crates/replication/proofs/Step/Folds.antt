@@ -4,8 +4,9 @@ use mathlib.Core.Path.{_≡_, refl, sym, ap, _∙_}
 use mathlib.Core.Bool.{true, false}
 use mathlib.Core.List.{List, [], _∷_, _++_, map, map-append, append-nil}
 use mathlib.Core.Option.{some}
-use Rattle.base.specs.Tests.{pick, pick-yes, pick-no, Known, holds, fails, known}
-use Rattle.base.specs.Prefixes.{gained-then}
+use Rattle.base.specs.Tests.{pick}
+use Rattle.base.proofs.TestLaws.{pick-yes, pick-no, Known, holds, fails, known}
+use Rattle.base.proofs.Prefixes.{gained-then}
 use Rattle.format.specs.Types.{Id, Action}
 use Rattle.replication.specs.Machine.Types.{Log, Server}
 use Rattle.replication.specs.Machine.Colours.{find, remove, cut, nextIndex, isNext, enter, red, promote, promoteFound, greenId, green, addId, joinYellow, yellow}

@@ -4,7 +4,8 @@ use mathlib.Core.Path.{_≡_, refl, ap, _∙_}
 use mathlib.Core.Bool.{Bool}
 use mathlib.Core.List.{List, [], _∷_}
 use lib.ListN.{length}
-use Rattle.base.specs.Tests.{_=?_, _≤?_, _and_, pick, eq-holds, Known, holds, fails, known}
+use Rattle.base.specs.Tests.{_=?_, _≤?_, _and_, pick}
+use Rattle.base.proofs.TestLaws.{eq-holds, Known, holds, fails, known}
 use Rattle.format.specs.Types.{Action, Record, retransmission}
 use Rattle.replication.specs.Machine.Types.{Exchange-actions, Log, Server, taken}
 use Rattle.replication.specs.Machine.Colours.{isNext, enter, red, reds, green, yellow}

@@ -5,7 +5,7 @@ use mathlib.Core.Bool.{Bool, true}
 use mathlib.Core.List.{List, [], _∷_, _++_}
 use mathlib.Core.Option.{some}
 use native.Mathlib.Omega.{arith}
-use Rattle.base.specs.Prefixes.{begins-refl, begins-trans, begins-more, begins-gained, set-rises}
+use Rattle.base.proofs.Prefixes.{begins-refl, begins-trans, begins-more, begins-gained, set-rises}
 use Rattle.format.specs.Types.{Id, Action, Record}
 use Rattle.replication.specs.Machine.Types.{Log, Server, taken}
 use Rattle.replication.specs.Machine.Colours.{find, cut, isNext, enter, red, promote, green}

@@ -5,7 +5,8 @@ use mathlib.Core.Bool.{Bool, true, false}
 use mathlib.Core.List.{List, [], _∷_, _++_}
 use mathlib.Core.Option.{Option, none, some}
 use lib.ListN.{length}
-use Rattle.base.specs.Tests.{_and_, _=?_, _≤?_, pick, pick-as, eq-holds, Known, holds, fails, known}
+use Rattle.base.specs.Tests.{_and_, _=?_, _≤?_, pick}
+use Rattle.base.proofs.TestLaws.{pick-as, eq-holds, Known, holds, fails, known}
 use Rattle.format.specs.Types.{Id, Action, Record}
 use Rattle.replication.specs.Machine.Types.{Log, Server, withLog, withVotes}
 use Rattle.replication.specs.Machine.Colours.{find, cut, nextIndex, isNext, enter, red, reds, promote, promoteFound, greenId, greenIds, green, joinYellow, yellow}

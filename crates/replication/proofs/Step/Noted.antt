@@ -5,7 +5,7 @@ use mathlib.Core.Bool.{Bool}
 use mathlib.Core.List.{List, [], _∷_}
 use native.Mathlib.Omega.{arith}
 use lib.ListN.{getD}
-use Rattle.base.specs.Prefixes.{set-rises}
+use Rattle.base.proofs.Prefixes.{set-rises}
 use Rattle.format.specs.Types.{Action, State, Record}
 use Rattle.replication.specs.Machine.Types.{Server, taken}
 use Rattle.replication.specs.Machine.Colours.{yellow, note}

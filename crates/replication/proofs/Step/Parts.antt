@@ -7,7 +7,7 @@ use mathlib.Core.Logic.{⊎-elim}
 use mathlib.Core.Option.{Option, none, some, Option·none-ne-some, Option·some-injective}
 use Rattle.base.specs.Tests.{pick}
 use Rattle.base.specs.Lists.{below, at}
-use Rattle.base.specs.Members.{gathered-from, gathered-all-from}
+use Rattle.base.proofs.Members.{gathered-from, gathered-all-from}
 use Rattle.format.specs.Types.{Action, State, Record, retransmission}
 use Rattle.replication.specs.Machine.Types.{Log}
 use Rattle.replication.specs.Machine.Colours.{find}

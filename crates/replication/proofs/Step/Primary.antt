@@ -3,7 +3,8 @@ use Prim.Native.Nat.{ℕ}
 use mathlib.Core.Path.{_≡_, refl, sym, ap, subst, _∙_}
 use mathlib.Core.Bool.{Bool, true, false}
 use mathlib.Core.List.{List, [], append-nil}
-use Rattle.base.specs.Tests.{_=?_, eq-fails, not-both}
+use Rattle.base.specs.Tests.{_=?_}
+use Rattle.base.proofs.TestLaws.{eq-fails, not-both}
 use Rattle.format.specs.Types.{Record}
 use Rattle.replication.specs.Machine.Types.{Mode, Non-prim, Reg-prim, Trans-prim, Exchange-states, Exchange-actions, Construct, No, Un, Server}
 use Rattle.replication.specs.Machine.Requests.{sendsIn, sendsNow, numbered, hold}

@@ -4,8 +4,10 @@ use mathlib.Core.Path.{_≡_, refl, ap, subst}
 use mathlib.Core.Bool.{true, false}
 use mathlib.Core.List.{List, [], _∷_}
 use native.Mathlib.Omega.{arith}
-use Rattle.base.specs.Tests.{_or_, not-both, Known, holds, fails, known}
-use Rattle.base.specs.Counts.{count, one-yes}
+use Rattle.base.specs.Tests.{_or_}
+use Rattle.base.proofs.TestLaws.{not-both, Known, holds, fails, known}
+use Rattle.base.specs.Counts.{count}
+use Rattle.base.proofs.CountLaws.{one-yes}
 use Rattle.format.specs.Types.{Id, Action}
 use Rattle.format.specs.Range.{sameId, hasId}
 use Rattle.replication.specs.Machine.Types.{Log}

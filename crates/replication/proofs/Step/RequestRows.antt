@@ -7,7 +7,8 @@ use mathlib.Core.Logic.{_↔_}
 use mathlib.Core.Option.{Option, none, some}
 use lib.ListN.{length}
 use borrow.Author.Tests.{not-false}
-use Rattle.base.specs.Tests.{_or_, pick, not-both, lt-no, lt-fails, not-holds, or-fails}
+use Rattle.base.specs.Tests.{_or_, pick}
+use Rattle.base.proofs.TestLaws.{not-both, lt-no, lt-fails, not-holds, or-fails}
 use Rattle.format.specs.Limits.{mostHeld}
 use Rattle.format.specs.Types.{Record, action, retransmission, state, cpc, regular, transitional, request, recovery, Kind, says}
 use Rattle.format.specs.Range.{recordOk}

@@ -3,7 +3,8 @@ use Prim.Native.Nat.{ℕ}
 use mathlib.Core.Path.{_≡_, refl, sym, ap, _∙_}
 use mathlib.Core.Bool.{Bool, true, false}
 use mathlib.Core.List.{List}
-use Rattle.base.specs.Tests.{pick, not-both}
+use Rattle.base.specs.Tests.{pick}
+use Rattle.base.proofs.TestLaws.{not-both}
 use Rattle.format.specs.Types.{Action, Record}
 use Rattle.replication.specs.Machine.Types.{Server, Outcome, refused, taken}
 use Rattle.replication.specs.Machine.Step.{step}

@@ -6,7 +6,8 @@ use mathlib.Core.List.{List}
 use mathlib.Core.Logic.{_↔_}
 use mathlib.Core.Option.{Option, none, some}
 use native.Mathlib.Omega.{arith}
-use Rattle.base.specs.Tests.{_and_, _or_, pick, Known, holds, fails, known}
+use Rattle.base.specs.Tests.{_and_, _or_, pick}
+use Rattle.base.proofs.TestLaws.{Known, holds, fails, known}
 use Rattle.base.specs.Lists.{isThere}
 use Rattle.format.specs.Types.{Action, Record, Kind}
 use Rattle.format.specs.Range.{recordOk}

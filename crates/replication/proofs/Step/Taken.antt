@@ -4,9 +4,10 @@ use mathlib.Core.Path.{_≡_, refl, sym, ap}
 use mathlib.Core.Bool.{true, false}
 use mathlib.Core.List.{List, [], _∷_, List·Memᴰ, List·Memᴰ·head, List·Memᴰ·tail}
 use native.Mathlib.Omega.{arith}
-use Rattle.base.specs.Tests.{_and_, _or_, _=?_, _<?_, pick, not-both, eq-yes, eq-holds, eq-fails, lt-holds, lt-fails, both-yes, Known, holds, fails, known}
+use Rattle.base.specs.Tests.{_and_, _or_, _=?_, _<?_, pick}
+use Rattle.base.proofs.TestLaws.{not-both, eq-yes, eq-holds, eq-fails, lt-holds, lt-fails, both-yes, Known, holds, fails, known}
 use Rattle.base.specs.Lists.{filter}
-use Rattle.base.specs.Members.{filter-has}
+use Rattle.base.proofs.Members.{filter-has}
 use Rattle.format.specs.Types.{Primary, State}
 use Rattle.replication.specs.Machine.Plan.{highest}
 use Rattle.replication.specs.Machine.Exchange.{later, latest, takenPrimary, samePair, updatedGroup, takenAttempt}

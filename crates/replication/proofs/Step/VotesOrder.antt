@@ -4,8 +4,9 @@ use mathlib.Core.Path.{_≡_, refl, sym, ap, _∙_}
 use mathlib.Core.Bool.{Bool, true}
 use mathlib.Core.List.{List, List·Memᴰ}
 use native.Mathlib.Omega.{arith}
-use Rattle.base.specs.Tests.{_<?_, lt-holds, lt-fails, Known, holds, fails, known}
-use Rattle.base.specs.Members.{present-has}
+use Rattle.base.specs.Tests.{_<?_}
+use Rattle.base.proofs.TestLaws.{lt-holds, lt-fails, Known, holds, fails, known}
+use Rattle.base.proofs.Members.{present-has}
 use Rattle.format.specs.Types.{State, Record, action, retransmission, state, cpc, regular, transitional, request, recovery}
 use Rattle.replication.specs.Machine.Types.{Exchange-actions, Votes, Server}
 use Rattle.replication.specs.Machine.Exchange.{takenPrimary, takenAttempt}

@@ -7,9 +7,11 @@ use mathlib.Core.List.{List, [], _∷_, _++_, map, append-nil, append-assoc, Lis
 use native.Mathlib.Omega.{arith}
 use lib.ListN.{length, getD, set, length-set}
 use lib.Seq.{getD-set-same}
-use Rattle.base.specs.Tests.{pick, pick-as, eq-holds, Known, holds, fails, known}
-use Rattle.base.specs.ListLaws.{Each, each-append, each-implied}
-use Rattle.base.specs.Prefixes.{set-rises}
+use Rattle.base.specs.Tests.{pick}
+use Rattle.base.proofs.TestLaws.{pick-as, eq-holds, Known, holds, fails, known}
+use Rattle.base.specs.Lists.{Each}
+use Rattle.base.proofs.ListLaws.{each-append, each-implied}
+use Rattle.base.proofs.Prefixes.{set-rises}
 use Rattle.format.specs.Types.{Id, Action}
 use Rattle.format.specs.Range.{hasId}
 use Rattle.replication.specs.Machine.Types.{Server}

@@ -6,10 +6,10 @@ use mathlib.Core.Bool.{true}
 use mathlib.Core.List.{List, map}
 use mathlib.Core.Option.{Option, none, some}
 use lib.ListN.{length, getD}
-use Rattle.base.specs.Tests.{not-both}
+use Rattle.base.proofs.TestLaws.{not-both}
 use Rattle.base.specs.Lists.{below, at}
-use Rattle.base.specs.AtLaws.{none-some}
-use Rattle.base.specs.QuantifierLaws.{Among, among-gather, gather-among, among-gather-all, among-map, among-below}
+use Rattle.base.proofs.AtLaws.{none-some}
+use Rattle.base.proofs.QuantifierLaws.{Among, among-gather, gather-among, among-gather-all, among-map, among-below}
 use Rattle.format.specs.Types.{Record, action, retransmission, state, cpc, regular, transitional, request, recovery, says}
 use Rattle.replication.specs.Machine.Types.{Configuration}
 use Rattle.replication.specs.Runs.Run.{Entry, event, crash, store, Run, serverOf, placeAt, sentAt}

@@ -7,10 +7,11 @@ use mathlib.Core.List.{List, [], _∷_}
 use mathlib.Core.Option.{Option, some}
 use native.Mathlib.Omega.{arith}
 use lib.ListN.{drop}
-use Rattle.base.specs.Tests.{_=?_, pick, Known, holds, fails, known, eq-holds, eq-yes, not-both}
+use Rattle.base.specs.Tests.{_=?_, pick}
+use Rattle.base.proofs.TestLaws.{Known, holds, fails, known, eq-holds, eq-yes, not-both}
 use Rattle.base.specs.Lists.{at}
-use Rattle.base.specs.AtLaws.{none-some, some-same}
-use Rattle.base.specs.QuantifierLaws.{Among, at-drop, among-filter, among-gather}
+use Rattle.base.proofs.AtLaws.{none-some, some-same}
+use Rattle.base.proofs.QuantifierLaws.{Among, at-drop, among-filter, among-gather}
 use Rattle.format.specs.Types.{Record, action, retransmission, state, cpc, regular, transitional, request, recovery, Reading, says, refused}
 use Rattle.replication.specs.Machine.Types.{Configuration}
 use Rattle.replication.specs.Runs.Run.{Entry, event, Run, serverOf, heard, placeAt}

@@ -6,11 +6,11 @@ use mathlib.Core.Bool.{true}
 use mathlib.Core.Option.{some}
 use native.Mathlib.Omega.{arith}
 use lib.ListN.{getD}
-use Rattle.base.specs.Tests.{and-holds, eq-yes, eq-holds, both-yes, lt-yes}
+use Rattle.base.proofs.TestLaws.{and-holds, eq-yes, eq-holds, both-yes, lt-yes}
 use Rattle.base.specs.Quantifiers.{_implies_}
-use Rattle.base.specs.AtLaws.{some-same, at-low}
-use Rattle.base.specs.QuantifierLaws.{Among, implied, all-among, each-two}
-use Rattle.base.specs.Deciding.{decided}
+use Rattle.base.proofs.AtLaws.{some-same, at-low}
+use Rattle.base.proofs.QuantifierLaws.{Among, implied, all-among, each-two}
+use Rattle.base.proofs.Deciding.{decided}
 use Rattle.base.specs.Sets.{inSet}
 use Rattle.replication.specs.Machine.Types.{Configuration}
 use Rattle.replication.specs.Runs.Run.{Entry, Run, Place, placeAt, members, sentAt}

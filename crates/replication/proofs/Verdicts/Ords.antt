@@ -8,10 +8,11 @@ use mathlib.Core.List.{List, [], _∷_}
 use mathlib.Core.Option.{Option, none, some}
 use native.Mathlib.Omega.{arith}
 use lib.ListN.{length, getD}
-use Rattle.base.specs.Tests.{_=?_, _<?_, and-holds, eq-yes, eq-holds, lt-holds}
+use Rattle.base.specs.Tests.{_=?_, _<?_}
+use Rattle.base.proofs.TestLaws.{and-holds, eq-yes, eq-holds, lt-holds}
 use Rattle.base.specs.Lists.{all, at}
 use Rattle.base.specs.Quantifiers.{pairs}
-use Rattle.base.specs.QuantifierLaws.{implied, all-at, all-among, pairs-at}
+use Rattle.base.proofs.QuantifierLaws.{implied, all-at, all-among, pairs-at}
 use Rattle.replication.specs.Runs.Run.{Entry, event, crash, store, Run, sentBy, sentAt}
 use Rattle.replication.specs.Runs.Happenings.{Message, Configured, Happening, entry-at, sending-of, Of, Delivers, Configures, Causes, in-turn, sends, in-order, before-next, carries, through, Precedes, causes, after-all, before-all, along}
 use Rattle.replication.specs.Audit.Witness.{Witness, sourceIn, nameIn, entryOrd, sendingOrdsAt, ordIn}

@@ -5,9 +5,10 @@ use mathlib.Core.Path.{_≡_, refl, ap, subst, subst₂, _∙_, sym}
 use mathlib.Core.Bool.{true}
 use mathlib.Core.List.{List, map}
 use mathlib.Core.Option.{some}
-use Rattle.base.specs.Tests.{_=?_, _<?_, and-holds, eq-holds, lt-holds}
-use Rattle.base.specs.AtLaws.{at-map}
-use Rattle.base.specs.QuantifierLaws.{Among, any-among, filter-among, among-map, among-once, among-number, number-among}
+use Rattle.base.specs.Tests.{_=?_, _<?_}
+use Rattle.base.proofs.TestLaws.{and-holds, eq-holds, lt-holds}
+use Rattle.base.proofs.AtLaws.{at-map}
+use Rattle.base.proofs.QuantifierLaws.{Among, any-among, filter-among, among-map, among-once, among-number, number-among}
 use Rattle.replication.specs.Machine.Types.{Configuration}
 use Rattle.replication.specs.Machine.Step.{theId}
 use Rattle.replication.specs.Runs.Run.{Run, Place, placeAt}

@@ -8,10 +8,11 @@ use mathlib.Core.Option.{Option, some}
 use native.Mathlib.Nat.{add-zero, zero-add}
 use native.Mathlib.Omega.{arith}
 use lib.ListN.{length, take}
-use Rattle.base.specs.Tests.{_=?_, pick, Known, holds, fails, known, eq-holds, eq-fails, eq-no, lt-yes}
+use Rattle.base.specs.Tests.{_=?_, pick}
+use Rattle.base.proofs.TestLaws.{Known, holds, fails, known, eq-holds, eq-fails, eq-no, lt-yes}
 use Rattle.base.specs.Lists.{at, upd}
-use Rattle.base.specs.AtLaws.{none-some, some-same}
-use Rattle.base.specs.QuantifierLaws.{Among}
+use Rattle.base.proofs.AtLaws.{none-some, some-same}
+use Rattle.base.proofs.QuantifierLaws.{Among}
 use Rattle.format.specs.Types.{Record, action, retransmission, state, cpc, regular, transitional, request, recovery, Reading, says, refused}
 use Rattle.replication.specs.Runs.Run.{Entry, event, crash, store, Run, serverOf, World, beginning, worldAfter, worldThrough, Place, nowhere, heard, placeAfter, placeThrough, worldAt, placeAt, heardAt, putOut, sentAt}
 use Rattle.replication.specs.Runs.Happenings.{isMessage, Crashes, Comes, Takes}

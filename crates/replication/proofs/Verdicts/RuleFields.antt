@@ -7,13 +7,14 @@ use mathlib.Core.List.{List}
 use mathlib.Core.Option.{Option, none, some}
 use native.Mathlib.Omega.{arith}
 use lib.ListN.{length, drop}
-use Rattle.base.specs.Tests.{_<?_, _and_, and-holds, not-both, not-holds, eq-yes, both-yes, lt-holds}
+use Rattle.base.specs.Tests.{_<?_, _and_}
+use Rattle.base.proofs.TestLaws.{and-holds, not-both, not-holds, eq-yes, both-yes, lt-holds}
 use Rattle.base.specs.Lists.{isThere, same, at}
-use Rattle.base.specs.ListLaws.{is-there}
+use Rattle.base.proofs.ListLaws.{is-there}
 use Rattle.base.specs.Quantifiers.{_implies_, sameOption}
-use Rattle.base.specs.AtLaws.{none-some}
-use Rattle.base.specs.QuantifierLaws.{implied, all-among, each-two}
-use Rattle.base.specs.Deciding.{decided, lists-decided, options-decided}
+use Rattle.base.proofs.AtLaws.{none-some}
+use Rattle.base.proofs.QuantifierLaws.{implied, all-among, each-two}
+use Rattle.base.proofs.Deciding.{decided, lists-decided, options-decided}
 use Rattle.format.specs.Types.{Record, transitional, recovery}
 use Rattle.replication.specs.Machine.Types.{Configuration}
 use Rattle.replication.specs.Runs.Run.{Entry, event, crash, store, Run, serverOf, worldAt, placeAt, putOut, sentAt}

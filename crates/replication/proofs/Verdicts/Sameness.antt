@@ -2,8 +2,8 @@
 -- Assumes nothing.
 use mathlib.Core.Path.{_≡_, ap}
 use mathlib.Core.Bool.{true}
-use Rattle.base.specs.Tests.{not-both}
-use Rattle.base.specs.Deciding.{Decides, numbers-decided, options-decided, parts-decided}
+use Rattle.base.proofs.TestLaws.{not-both}
+use Rattle.base.proofs.Deciding.{Decides, numbers-decided, options-decided, parts-decided}
 use Rattle.replication.specs.Machine.Types.{Configuration}
 use Rattle.replication.specs.Runs.Run.{Place}
 use Rattle.replication.specs.Runs.Happenings.{Message, Configured, regularly, transitionally}

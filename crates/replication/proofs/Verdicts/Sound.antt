@@ -5,7 +5,7 @@ use mathlib.Core.Path.{_≡_, refl}
 use mathlib.Core.Bool.{true}
 use mathlib.Core.Option.{some}
 use Rattle.base.specs.Lists.{at}
-use Rattle.base.specs.QuantifierLaws.{all-at}
+use Rattle.base.proofs.QuantifierLaws.{all-at}
 use Rattle.replication.specs.Runs.Run.{Run}
 use Rattle.replication.specs.Runs.Allowed.{Allowed}
 use Rattle.replication.specs.Audit.Witness.{Witness, sourceIn, nameIn, ordIn}

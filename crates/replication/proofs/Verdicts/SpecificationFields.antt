@@ -6,13 +6,14 @@ use mathlib.Core.Bool.{true}
 use mathlib.Core.Option.{Option, some}
 use native.Mathlib.Omega.{arith}
 use lib.ListN.{drop}
-use Rattle.base.specs.Tests.{_=?_, _<?_, _and_, _or_, and-holds, eq-yes, eq-holds, both-yes, lt-yes, lt-holds}
+use Rattle.base.specs.Tests.{_=?_, _<?_, _and_, _or_}
+use Rattle.base.proofs.TestLaws.{and-holds, eq-yes, eq-holds, both-yes, lt-yes, lt-holds}
 use Rattle.base.specs.Lists.{isThere}
-use Rattle.base.specs.ListLaws.{there}
+use Rattle.base.proofs.ListLaws.{there}
 use Rattle.base.specs.Quantifiers.{_implies_}
-use Rattle.base.specs.AtLaws.{at-low}
-use Rattle.base.specs.QuantifierLaws.{Among, implied, all-among, any-among, among-any, each-two, among-filter, filter-among}
-use Rattle.base.specs.Deciding.{decided}
+use Rattle.base.proofs.AtLaws.{at-low}
+use Rattle.base.proofs.QuantifierLaws.{Among, implied, all-among, any-among, among-any, each-two, among-filter, filter-among}
+use Rattle.base.proofs.Deciding.{decided}
 use Rattle.format.specs.Types.{Record, regular, transitional, Reading, says}
 use Rattle.replication.specs.Machine.Types.{Configuration}
 use Rattle.replication.specs.Runs.Run.{Entry, event, Run, serverOf, Place, placeAt, heardAt, sentAt}

@@ -6,10 +6,11 @@ use mathlib.Core.List.{List, [], _∷_}
 use mathlib.Core.Option.{Option, none, some}
 use native.Mathlib.Omega.{arith}
 use lib.ListN.{length, take, drop, getD}
-use Rattle.base.specs.Tests.{_=?_, Known, holds, fails, known, eq-holds, eq-fails}
+use Rattle.base.specs.Tests.{_=?_}
+use Rattle.base.proofs.TestLaws.{Known, holds, fails, known, eq-holds, eq-fails}
 use Rattle.base.specs.Lists.{at, upd}
-use Rattle.base.specs.AtLaws.{upd-here, upd-elsewhere, none-some, some-same}
-use Rattle.base.specs.QuantifierLaws.{at-drop}
+use Rattle.base.proofs.AtLaws.{upd-here, upd-elsewhere, none-some, some-same}
+use Rattle.base.proofs.QuantifierLaws.{at-drop}
 use Rattle.replication.specs.Audit.Table.{delivers, Row}
 use Rattle.replication.specs.Audit.Clocks.{joinClocks, raise, Stamp, Stamps, numberOf, clockWith, learnt, stampFor, withStamp, stampsThrough, noStamps, stamps}
 

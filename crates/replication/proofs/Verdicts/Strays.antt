@@ -6,10 +6,10 @@ use mathlib.Core.Bool.{Bool, true, false}
 use mathlib.Core.List.{List, [], _∷_}
 use mathlib.Core.Option.{some}
 use lib.ListN.{take}
-use Rattle.base.specs.Tests.{and-holds, not-holds, not-both, lt-holds}
+use Rattle.base.proofs.TestLaws.{and-holds, not-holds, not-both, lt-holds}
 use Rattle.base.specs.Lists.{at}
-use Rattle.base.specs.AtLaws.{none-some, some-same}
-use Rattle.base.specs.QuantifierLaws.{implied}
+use Rattle.base.proofs.AtLaws.{none-some, some-same}
+use Rattle.base.proofs.QuantifierLaws.{implied}
 use Rattle.replication.specs.Machine.Types.{Outcome, taken}
 use Rattle.replication.specs.Images.{arrive}
 use Rattle.replication.specs.Runs.Run.{Entry, event, crash, store, Run, World, beginning, worldAfter, worldThrough, worldAt}

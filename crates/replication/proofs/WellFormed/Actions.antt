@@ -20,7 +20,7 @@ use Rattle.replication.proofs.Step.Control.{yellow-membership}
 use Rattle.replication.proofs.Step.Folds.{yellow-one}
 use Rattle.replication.proofs.Step.Yellows.{yellow-gained}
 use Rattle.replication.proofs.WellFormed.Changes.{Body, body, in-mode}
-use Rattle.replication.proofs.WellFormed.RuleFacts.{Delivered}
+use Rattle.replication.specs.Laws.RuleFits.{Delivered}
 use Rattle.replication.proofs.WellFormed.Effects.{red-body, green-and-note-body, yellow-body, install-body}
 use Rattle.replication.proofs.WellFormed.Kept.{Keeps, mode-kept, yellow-kept}
 

@@ -5,7 +5,8 @@ use mathlib.Core.Path.{_≡_, refl}
 use mathlib.Core.Bool.{true}
 use mathlib.Core.List.{List, [], _∷_, _++_, map}
 use native.Mathlib.Omega.{arith}
-use Rattle.base.specs.Tests.{_or_, lt-holds, pick-as}
+use Rattle.base.specs.Tests.{_or_}
+use Rattle.base.proofs.TestLaws.{lt-holds, pick-as}
 use Rattle.format.specs.Types.{action}
 use Rattle.replication.specs.Machine.Types.{Mode, Configuration, Server, withVotes}
 use Rattle.replication.specs.Machine.Colours.{cut, yellow}
@@ -16,7 +17,7 @@ use Rattle.replication.specs.Laws.Transitions.{Leads, stays, parts, inte
 use Rattle.replication.specs.Machine.WellFormedRanges.{PayloadFits, TransitionalFits}
 use Rattle.replication.specs.Machine.WellFormedFacts.{YellowEntered, ModeFits, WellFormed}
 use Rattle.replication.proofs.WellFormed.Changes.{Body, body}
-use Rattle.replication.proofs.WellFormed.RuleFacts.{RuleFits}
+use Rattle.replication.specs.Laws.RuleFits.{RuleFits}
 use Rattle.replication.proofs.WellFormed.Effects.{number-body, hold-body, recovered-body}
 use Rattle.replication.proofs.WellFormed.Exchanges.{entering-body, unmarked-body, yellow-valid-body, leave-body}
 use Rattle.replication.proofs.WellFormed.Kept.{Keeps, mode-kept, yellow-kept}

@@ -5,7 +5,8 @@ use mathlib.Core.Path.{_≡_, subst}
 use mathlib.Core.Bool.{true, false}
 use mathlib.Core.List.{[], _∷_}
 use native.Mathlib.Omega.{arith}
-use Rattle.base.specs.Tests.{_=?_, and-holds, lt-holds, le-fails, eq-fails, pick-as}
+use Rattle.base.specs.Tests.{_=?_}
+use Rattle.base.proofs.TestLaws.{and-holds, lt-holds, le-fails, eq-fails, pick-as}
 use Rattle.format.specs.Limits.{mostIndex}
 use Rattle.format.specs.Types.{Action, State, cpc}
 use Rattle.replication.specs.Machine.Types.{Non-prim, Reg-prim, Exchange-states, Exchange-actions, Construct, No, Un, Server, inMode, noYellow}
@@ -17,7 +18,7 @@ use Rattle.replication.specs.Machine.Requests.{numbered, sendHeld, heldR
 use Rattle.replication.specs.Machine.Step.{quiet, stored, sent, hereSet, hereId, collected, decided, attempting, endExchange, withState, allStatesIn, plannedNow, resending, afterStates, collectState, oneMore, exchanged, allCome, exchange, withCpc, allCpcsIn, installing, collectCpc, collectLateCpc}
 use Rattle.replication.specs.Machine.WellFormedFacts.{Configured, StatesIn, ModeFits, WellFormed}
 use Rattle.replication.proofs.WellFormed.Changes.{Body, body, in-mode, mode-changed, here-below}
-use Rattle.replication.proofs.WellFormed.RuleFacts.{Delivered, StateCame}
+use Rattle.replication.specs.Laws.RuleFits.{Delivered, StateCame}
 use Rattle.replication.proofs.WellFormed.Effects.{exchanged-body, install-body, send-held-body}
 use Rattle.replication.proofs.WellFormed.Exchanges.{decided-body, attempting-body, with-state-body, with-cpc-body}
 use Rattle.replication.proofs.WellFormed.Modes.{all-in-facts}

@@ -6,7 +6,8 @@ use mathlib.Core.List.{List}
 use mathlib.Core.Option.{none, some, Option·none-ne-some}
 use native.Mathlib.Omega.{arith}
 use lib.ListN.{length, getD}
-use Rattle.base.specs.ListLaws.{Each, each-present, replicate-at}
+use Rattle.base.specs.Lists.{Each}
+use Rattle.base.proofs.ListLaws.{each-present, replicate-at}
 use Rattle.format.specs.Limits.{mostHeld}
 use Rattle.format.specs.Types.{State}
 use Rattle.replication.specs.Machine.Types.{Mode, Log, Votes, Configuration, Membership, Server, withLog, withVotes, withMembership, withHeld, withNoted, withMode, withCome, inMode, noStates}

@@ -8,11 +8,12 @@ use native.Mathlib.Omega.{arith}
 use native.Mathlib.Nat.{one-le-pow}
 use lib.ListN.{length, getD, set, length-set, length-map}
 use Rattle.base.specs.Tests.{_and_, _=?_, pick}
-use Rattle.base.specs.Lists.{all, filter, below}
-use Rattle.base.specs.ListLaws.{Each, each-implied, each-filter, each-map, each-always, above-length, below-length, sum-bound, bounded-set}
-use Rattle.base.specs.Counts.{count, count-filter}
+use Rattle.base.specs.Lists.{all, filter, below, Each}
+use Rattle.base.proofs.ListLaws.{each-implied, each-filter, each-map, each-always, above-length, below-length, sum-bound, bounded-set}
+use Rattle.base.specs.Counts.{count}
+use Rattle.base.proofs.CountLaws.{count-filter}
 use Rattle.base.specs.Sets.{union, withMember}
-use Rattle.base.specs.SetLaws.{union-below, with-member-below}
+use Rattle.base.proofs.SetLaws.{union-below, with-member-below}
 use Rattle.format.specs.Limits.{mostIndex}
 use Rattle.format.specs.Types.{Primary, State}
 use Rattle.format.specs.Range.{sameId, hasId}

@@ -7,10 +7,10 @@ use mathlib.Core.List.{List, [], _∷_, _++_}
 use mathlib.Core.Option.{none, Option·none-ne-some}
 use native.Mathlib.Omega.{arith}
 use lib.ListN.{length, set, length-append, length-replicate}
-use Rattle.base.specs.Tests.{lt-holds}
-use Rattle.base.specs.Lists.{above}
-use Rattle.base.specs.ListLaws.{Each, each-append, each-implied, each-map, map-each, above-between}
-use Rattle.base.specs.Counts.{count-append, count-single}
+use Rattle.base.proofs.TestLaws.{lt-holds}
+use Rattle.base.specs.Lists.{above, Each}
+use Rattle.base.proofs.ListLaws.{each-append, each-implied, each-map, map-each, above-between}
+use Rattle.base.proofs.CountLaws.{count-append, count-single}
 use Rattle.format.specs.Limits.{mostHeld, mostIndex}
 use Rattle.format.specs.Types.{Id, Action}
 use Rattle.format.specs.Range.{sameId, hasId}
@@ -25,11 +25,12 @@ use Rattle.replication.proofs.Step.Logs.{red-entered, yellow-as}
 use Rattle.replication.proofs.Step.Numbered.{numbered-red, numbered-reds, numbered-green, numbered-placed, numbered-install}
 use Rattle.replication.proofs.Step.Yellows.{add-as}
 use Rattle.replication.proofs.WellFormed.Ids.{SameId, same, other, same-id?, not-had-counted}
-use Rattle.replication.proofs.WellFormed.Logs.{Numbered, ownId, red-fits, reds-fits, green-fits, install-log-fits}
+use Rattle.replication.specs.Laws.RuleFits.{Numbered}
+use Rattle.replication.proofs.WellFormed.Logs.{ownId, red-fits, reds-fits, green-fits, install-log-fits}
 use Rattle.replication.proofs.WellFormed.Numbering.{placed-fits, numberedLog, numbering-fits}
 use Rattle.replication.proofs.WellFormed.Decisions.{no-yellow-fits, planned-bound, note-length, note-bound}
 use Rattle.replication.proofs.WellFormed.Changes.{Body, log-changed, log-changed-alike, votes-changed, membership-changed, held-changed, noted-changed, mode-changed, collected-fit, no-states}
-use Rattle.replication.proofs.WellFormed.RuleFacts.{Delivered}
+use Rattle.replication.specs.Laws.RuleFits.{Delivered}
 
 -- ---- parts of votes and memberships
 

@@ -8,7 +8,7 @@ use native.Mathlib.Decide.{ℕ-discrete}
 use lib.ListN.{getD, set, length-set, length-replicate}
 use lib.Seq.{getD-set-same, getD-set-other}
 use Rattle.base.specs.Sets.{withMember}
-use Rattle.base.specs.SetLaws.{with-member-below}
+use Rattle.base.proofs.SetLaws.{with-member-below}
 use Rattle.format.specs.Limits.{mostIndex}
 use Rattle.format.specs.Types.{State}
 use Rattle.replication.specs.Machine.Types.{Mode, Exchange-states, Construct, Configuration, Server, withVotes, noStates}
@@ -19,7 +19,7 @@ use Rattle.replication.specs.Machine.WellFormedRanges.{ConfigurationFits
 use Rattle.replication.proofs.WellFormed.Ids.{same}
 use Rattle.replication.proofs.WellFormed.Decisions.{empty-below, cleared-mark-fits, taken-votes-fits, attempted-fits, note-all-length, note-all-bound}
 use Rattle.replication.proofs.WellFormed.Changes.{Body, votes-changed, membership-changed, noted-changed, in-mode, collected-fit, no-states}
-use Rattle.replication.proofs.WellFormed.RuleFacts.{StateCame}
+use Rattle.replication.specs.Laws.RuleFits.{StateCame}
 
 module _ (s : Server) (b : Body s) where
   -- ---- exchanges

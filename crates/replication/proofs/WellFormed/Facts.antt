@@ -4,8 +4,8 @@ use Prim.Native.Nat.{_*_, _≤_}
 use mathlib.Core.Path.{_≡_}
 use mathlib.Core.Bool.{true}
 use native.Mathlib.Omega.{arith}
-use Rattle.base.specs.Tests.{and-holds, both-yes, le-yes, le-holds, eq-yes, eq-holds}
-use Rattle.base.specs.ListLaws.{all-each, each-all, each-append, each-map, each-implied, each-bounded, bounded-each}
+use Rattle.base.proofs.TestLaws.{and-holds, both-yes, le-yes, le-holds, eq-yes, eq-holds}
+use Rattle.base.proofs.ListLaws.{all-each, each-all, each-append, each-map, each-implied, each-bounded, bounded-each}
 use Rattle.format.specs.Types.{Id}
 use Rattle.format.specs.Range.{lengthOk, payloadOk}
 use Rattle.replication.specs.Machine.Types.{Server, contextOf}

@@ -9,9 +9,11 @@ use native.Mathlib.Omega.{arith}
 use native.Mathlib.Decide.{ℕ-discrete}
 use lib.ListN.{length}
 use lib.Seq.{getD-set-same, getD-set-other}
-use Rattle.base.specs.Tests.{pick, Known, holds, fails, known}
-use Rattle.base.specs.ListLaws.{Each}
-use Rattle.base.specs.Counts.{one, count, count-append, count-single, count-map}
+use Rattle.base.specs.Tests.{pick}
+use Rattle.base.proofs.TestLaws.{Known, holds, fails, known}
+use Rattle.base.specs.Lists.{Each}
+use Rattle.base.specs.Counts.{one, count}
+use Rattle.base.proofs.CountLaws.{count-append, count-single, count-map}
 use Rattle.format.specs.Types.{Id, Action}
 use Rattle.format.specs.Range.{sameId}
 use Rattle.replication.specs.Machine.Types.{Log}

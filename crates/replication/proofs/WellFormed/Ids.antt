@@ -6,10 +6,12 @@ use mathlib.Core.Bool.{true, false, not}
 use mathlib.Core.List.{List, [], _∷_, map, List·Memᴰ, List·Memᴰ·head, List·Memᴰ·tail}
 use native.Mathlib.Omega.{arith}
 use lib.ListN.{getD}
-use Rattle.base.specs.Tests.{_or_, not-both, not-holds, or-fails, and-holds, both-yes, and-no, eq-yes, eq-no, eq-holds, Known, holds, fails, known}
-use Rattle.base.specs.Lists.{above}
-use Rattle.base.specs.ListLaws.{Each, each-append, each-first, each-second, each-map, map-each, each-implied, above-between, above-each}
-use Rattle.base.specs.Counts.{one, count, one-yes, one-no, counted-element}
+use Rattle.base.specs.Tests.{_or_}
+use Rattle.base.proofs.TestLaws.{not-both, not-holds, or-fails, and-holds, both-yes, and-no, eq-yes, eq-no, eq-holds, Known, holds, fails, known}
+use Rattle.base.specs.Lists.{above, Each}
+use Rattle.base.proofs.ListLaws.{each-append, each-first, each-second, each-map, map-each, each-implied, above-between, above-each}
+use Rattle.base.specs.Counts.{one, count}
+use Rattle.base.proofs.CountLaws.{one-yes, one-no, counted-element}
 use Rattle.format.specs.Types.{Id}
 use Rattle.format.specs.Range.{sameId, hasId, idsDiffer}
 use Rattle.replication.specs.Machine.Install.{idsUpTo}

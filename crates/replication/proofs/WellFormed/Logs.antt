@@ -6,8 +6,8 @@ use mathlib.Core.Bool.{false}
 use mathlib.Core.List.{List, [], _∷_, map}
 use native.Mathlib.Omega.{arith}
 use lib.ListN.{length, length-set}
-use Rattle.base.specs.Lists.{above}
-use Rattle.base.specs.ListLaws.{Each, each-append, each-always, each-map, above-next, bounded-set}
+use Rattle.base.specs.Lists.{above, Each}
+use Rattle.base.proofs.ListLaws.{each-append, each-always, each-map, above-next, bounded-set}
 use Rattle.format.specs.Types.{Id, Action}
 use Rattle.format.specs.Range.{sameId}
 use Rattle.replication.specs.Machine.Types.{Log}
@@ -19,6 +19,7 @@ use Rattle.replication.specs.Machine.WellFormedFacts.{heldCount, HeldToC
 use Rattle.replication.proofs.Step.Numbered.{numbered-red}
 use Rattle.replication.proofs.WellFormed.Ids.{SameId, same, other, same-id?, same-id-no}
 use Rattle.replication.proofs.WellFormed.Held.{found-fact, each-remove, remove-first, remove-absent, Entered, entered, ignored, entered?, held-enter, CutAfter, risen, left, cut-after?, Greened, unmoved, moved, greened?}
+use Rattle.replication.specs.Laws.RuleFits.{Numbered}
 
 -- The clauses of row 8 on the log.
 pub record LogFits (n q me : ℕ) (l : Log) : Type 0 where
@@ -26,10 +27,6 @@ pub record LogFits (n q me : ℕ) (l : Log) : Type 0 where
   pub once : (d : Id) → heldCount d l ≤ 1
   pub held-to-cuts : HeldToCuts l
   pub own-list : OwnListFits me l
-
--- An own action is among those numbered.
-abbrev pub Numbered : ℕ → ℕ → Action → Type 0
-Numbered me k a = a .id .creator ≡ me → a .id .index ≤ k
 
 pub beyond-none : (l : Log) → HeldToCuts l → (d : Id) → cut l (d .creator) < d .index → heldCount d l ≡ 0
 beyond-none l f d h = go (heldCount d l) refl

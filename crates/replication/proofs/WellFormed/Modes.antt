@@ -7,9 +7,10 @@ use mathlib.Core.List.{List, [], _∷_}
 use mathlib.Core.Option.{Option, none}
 use native.Mathlib.Omega.{arith}
 use lib.ListN.{length, getD}
-use Rattle.base.specs.Tests.{_or_, not-both, not-holds, and-holds, both-yes, le-no, le-fails, lt-yes, lt-holds}
+use Rattle.base.specs.Tests.{_or_}
+use Rattle.base.proofs.TestLaws.{not-both, not-holds, and-holds, both-yes, le-no, le-fails, lt-yes, lt-holds}
 use Rattle.base.specs.Lists.{isThere}
-use Rattle.base.specs.ListLaws.{there, is-there}
+use Rattle.base.proofs.ListLaws.{there, is-there}
 use Rattle.base.specs.Sets.{inSet}
 use Rattle.format.specs.Types.{State}
 use Rattle.replication.specs.Machine.Types.{Mode, Non-prim, Reg-prim, Trans-prim, Exchange-states, Exchange-actions, Construct, No, Un, Server}

@@ -5,8 +5,8 @@ use mathlib.Core.Path.{_≡_, refl, sym, ap, _∙_}
 use mathlib.Core.List.{List, [], _∷_, _++_, map, map-append}
 use native.Mathlib.Omega.{arith}
 use lib.ListN.{length, length-append, length-map}
-use Rattle.base.specs.Lists.{after, above}
-use Rattle.base.specs.ListLaws.{Each, each-append, each-map, each-implied, above-more}
+use Rattle.base.specs.Lists.{after, above, Each}
+use Rattle.base.proofs.ListLaws.{each-append, each-map, each-implied, above-more}
 use Rattle.format.specs.Types.{Action}
 use Rattle.replication.specs.Machine.Types.{Log}
 use Rattle.replication.specs.Machine.Colours.{cut}
@@ -16,7 +16,8 @@ use Rattle.replication.specs.Machine.WellFormed.{idsIn, queue}
 use Rattle.replication.specs.Machine.WellFormedRanges.{IdFits, PayloadFits, ActionFits}
 use Rattle.replication.proofs.Step.Logs.{placed-as}
 use Rattle.replication.proofs.WellFormed.Ranges.{ids-short}
-use Rattle.replication.proofs.WellFormed.Logs.{LogFits, Numbered, ownId, red-fits, green-fits}
+use Rattle.replication.specs.Laws.RuleFits.{Numbered}
+use Rattle.replication.proofs.WellFormed.Logs.{LogFits, ownId, red-fits, green-fits}
 
 -- ---- a retransmission's action
 

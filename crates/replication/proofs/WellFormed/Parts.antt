@@ -7,8 +7,8 @@ use mathlib.Core.List.{List, [], _∷_}
 use mathlib.Core.Option.{Option, none, some}
 use native.Mathlib.Omega.{arith}
 use lib.ListN.{getD}
-use Rattle.base.specs.Tests.{not-both, and-holds, both-yes, le-yes, le-holds, lt-yes, lt-holds, eq-yes, eq-holds}
-use Rattle.base.specs.ListLaws.{all-each, each-all, each-map, map-each}
+use Rattle.base.proofs.TestLaws.{not-both, and-holds, both-yes, le-yes, le-holds, lt-yes, lt-holds, eq-yes, eq-holds}
+use Rattle.base.proofs.ListLaws.{all-each, each-all, each-map, map-each}
 use Rattle.base.specs.Sets.{inside}
 use Rattle.format.specs.Types.{Id, State, Context}
 use Rattle.format.specs.Range.{actionOk, indexOk, configurationOk, insideLast, hasId}

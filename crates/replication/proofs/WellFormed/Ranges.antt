@@ -7,9 +7,9 @@ use mathlib.Core.List.{List, [], _∷_}
 use mathlib.Core.Option.{none}
 use native.Mathlib.Omega.{arith}
 use lib.ListN.{length, getD}
-use Rattle.base.specs.Tests.{and-holds, both-yes, le-yes, le-holds, lt-yes, lt-holds, eq-yes, eq-holds}
-use Rattle.base.specs.BytesLaws.{are-bytes, bytes-are}
-use Rattle.base.specs.ListLaws.{Each}
+use Rattle.base.proofs.TestLaws.{and-holds, both-yes, le-yes, le-holds, lt-yes, lt-holds, eq-yes, eq-holds}
+use Rattle.base.proofs.BytesLaws.{are-bytes, bytes-are}
+use Rattle.base.specs.Lists.{Each}
 use Rattle.format.specs.Limits.{fewestServers, mostServers, leastQuota, mostQuota, mostPayload, mostIndex}
 use Rattle.format.specs.Types.{Id, Action, Primary, Mark, Yellow, State, Context}
 use Rattle.format.specs.Range.{sizesOk, contextOk, idOk, lengthOk, payloadOk, actionOk, cutsOk, indexOk, setOk, statusOk, primaryOk, markOk, idsInRange, idsOk, yellowOk, configurationOk, stateOk, ownSetOk}

@@ -7,9 +7,10 @@ use mathlib.Core.Bool.{Bool, true}
 use mathlib.Core.List.{List, map}
 use lib.ListN.{length, length-map}
 use native.Mathlib.Omega.{arith}
-use Rattle.base.specs.Tests.{both-yes, lt-yes}
+use Rattle.base.proofs.TestLaws.{both-yes, lt-yes}
 use Rattle.base.specs.Bytes.{joined}
-use Rattle.base.specs.ListLaws.{Each, each-implied}
+use Rattle.base.specs.Lists.{Each}
+use Rattle.base.proofs.ListLaws.{each-implied}
 use Rattle.format.specs.Types.{Action, Record, action, retransmission, state, cpc, regular, transitional, request, recovery, Context, says}
 use Rattle.format.specs.Range.{configurationOk, fieldsOk, recordOk}
 use Rattle.format.specs.Read.{read}
@@ -20,7 +21,7 @@ use Rattle.replication.specs.Machine.Types.{Server, taken}
 use Rattle.replication.specs.Machine.Step.{apply, step}
 use Rattle.replication.specs.Machine.WellFormed.{wellFormed}
 use Rattle.replication.specs.Machine.WellFormedRanges.{SizesFit}
-use Rattle.replication.specs.Machine.WellFormedSent.{RecordFits, PutOut}
+use Rattle.replication.proofs.WellFormed.SentFacts.{RecordFits, PutOut}
 use Rattle.replication.specs.Laws.Transitions.{TakenBy}
 use Rattle.replication.proofs.Step.Inversion.{taken-by}
 use Rattle.replication.proofs.WellFormed.Ranges.{sizes-ok, length-ok, action-ok, state-ok, ids-short}

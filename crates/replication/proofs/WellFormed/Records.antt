@@ -10,8 +10,8 @@ use native.Mathlib.Nat.{mul-le-mul, mul-le-mul-right}
 use lib.ListN.{length, length-append, length-map}
 use Rattle.base.specs.Tests.{pick}
 use Rattle.base.specs.Bytes.{joined}
-use Rattle.base.specs.Lists.{gather, gatherAll, below, at}
-use Rattle.base.specs.ListLaws.{Each, each-append, each-always, each-implied, each-map, each-both, each-at, each-gather, each-gather-all, gather-length, gather-all-length, above-between}
+use Rattle.base.specs.Lists.{gather, gatherAll, below, at, Each}
+use Rattle.base.proofs.ListLaws.{each-append, each-always, each-implied, each-map, each-both, each-at, each-gather, each-gather-all, gather-length, gather-all-length, above-between}
 use Rattle.format.specs.Types.{Action, State, Record, action, retransmission, state, cpc}
 use Rattle.format.specs.Write.{write, lengthOf}
 use Rattle.format.proofs.Lengths.{write-length}
@@ -21,7 +21,7 @@ use Rattle.replication.specs.Machine.Plan.{highest, lowest, missing, cut
 use Rattle.replication.specs.Machine.Requests.{numberedFrom, madeOf, heldRecords}
 use Rattle.replication.specs.Machine.Step.{ownState}
 use Rattle.replication.specs.Machine.WellFormedRanges.{SizesFit, PayloadFits, ActionFits, StateFits, ConfigurationFits}
-use Rattle.replication.specs.Machine.WellFormedSent.{senderOf, RecordFits, PutOut}
+use Rattle.replication.proofs.WellFormed.SentFacts.{senderOf, RecordFits, PutOut}
 use Rattle.replication.proofs.WellFormed.Held.{found-fact}
 use Rattle.replication.proofs.WellFormed.Logs.{LogFits}
 use Rattle.replication.proofs.WellFormed.Numbering.{queue-short, numbered-each, numbered-own, numbered-length}

@@ -4,7 +4,8 @@ use Prim.Native.Nat.{ℕ, _<_}
 use mathlib.Core.Path.{_≡_, refl, subst}
 use mathlib.Core.Bool.{true}
 use mathlib.Core.Option.{none, some, Option·some-injective, Option·none-ne-some}
-use Rattle.base.specs.Tests.{_or_, and-holds, eq-yes, le-holds, lt-holds}
+use Rattle.base.specs.Tests.{_or_}
+use Rattle.base.proofs.TestLaws.{and-holds, eq-yes, le-holds, lt-holds}
 use Rattle.format.specs.Types.{Action, State, Record, action, retransmission, state, cpc, regular, transitional, request, recovery}
 use Rattle.format.specs.Range.{actionOk, configurationOk, fieldsOk, recordOk}
 use Rattle.replication.specs.Machine.Types.{Mode, Non-prim, Reg-prim, Trans-prim, Exchange-states, Exchange-actions, Construct, No, Un, Configuration, Server, contextOf}
@@ -13,35 +14,7 @@ use Rattle.replication.specs.Machine.Rules.{Rule, ignoring, reddening, g
 use Rattle.replication.specs.Laws.Transitions.{Leads, stays, parts, interruptsStates, interruptsActions, interruptsConstruct}
 use Rattle.replication.specs.Machine.WellFormedRanges.{PayloadFits, ActionFits, StateFits, ConfigurationFits, TransitionalFits}
 use Rattle.replication.proofs.WellFormed.Ranges.{payload-facts, action-facts, state-facts, own-set-facts}
-use Rattle.replication.proofs.WellFormed.Logs.{Numbered}
-
--- An action that was delivered, or resent: in range, and numbered already if it is the server's own.
-pub record Delivered (s : Server) (a : Action) : Type 0 where
-  pub fits : ActionFits (s .servers) (s .quota) a
-  pub own : Numbered (s .me) (s .log .numbered) a
-
--- A State that row 6 does not refuse.
-pub record StateCame (s : Server) (x : State) : Type 0 where
-  pub fits : StateFits (s .servers) (s .quota) x
-  pub member : memberOf (s .membership .configuration) (x .sender) ≡ true
-  pub configuration : isOf (s .membership .configuration) (x .configuration) ≡ true
-
-abbrev pub RuleFits : Rule → Server → Type 0
-RuleFits ignoring s = Unit {0}
-RuleFits (reddening a) s = Delivered s a
-RuleFits (greening a) s = Delivered s a × (s .membership .mode ≡ Reg-prim)
-RuleFits (yellowing a) s = Delivered s a × (s .membership .mode ≡ Trans-prim)
-RuleFits (lateInstalling a) s = Delivered s a × (s .membership .mode ≡ Un)
-RuleFits (exchanging p a) s = Delivered s a × (s .membership .mode ≡ Exchange-actions)
-RuleFits (collectingState x) s = StateCame s x × (s .membership .mode ≡ Exchange-states)
-RuleFits (collectingCpc k) s = (k < s .servers) × (s .membership .mode ≡ Construct)
-RuleFits (collectingLateCpc k) s = (k < s .servers) × (s .membership .mode ≡ No)
-RuleFits (joining c) s = ConfigurationFits (s .servers) (s .me) c
-RuleFits (joiningUnmarked c) s = ConfigurationFits (s .servers) (s .me) c
-RuleFits (joiningYellow c) s = ConfigurationFits (s .servers) (s .me) c
-RuleFits (leaving m t) s = TransitionalFits (s .servers) (s .me) (s .membership .configuration) t × Leads (s .membership .mode) m
-RuleFits (requesting p) s = PayloadFits p × (quotaLeft s ≡ true) × (roomToHold s ≡ true)
-RuleFits recovering s = Unit {0}
+use Rattle.replication.specs.Laws.RuleFits.{Delivered, StateCame, RuleFits}
 
 delivered : (s : Server) (a : Action) → actionOk (contextOf s) a ≡ true → numberedOwn s a ≡ true → Delivered s a
 unfolding contextOf numberedOwn _or_

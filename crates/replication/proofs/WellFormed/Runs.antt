@@ -7,11 +7,11 @@ use mathlib.Core.List.{List, map}
 use mathlib.Core.Option.{Option, none, Option·none-ne-some}
 use native.Mathlib.Omega.{arith}
 use lib.ListN.{length-replicate}
-use Rattle.base.specs.Tests.{both-yes, lt-yes}
-use Rattle.base.specs.ListLaws.{replicate-at}
+use Rattle.base.proofs.TestLaws.{both-yes, lt-yes}
+use Rattle.base.proofs.ListLaws.{replicate-at}
 use Rattle.base.specs.Lists.{after, above}
 use Rattle.base.specs.Counts.{count}
-use Rattle.base.specs.SetLaws.{everyone-below}
+use Rattle.base.proofs.SetLaws.{everyone-below}
 use Rattle.format.specs.Range.{sizesOk, contextOk}
 use Rattle.replication.specs.Machine.Types.{start, noStates}
 use Rattle.replication.specs.Machine.Colours.{cut}

@@ -5,7 +5,8 @@ use mathlib.Core.Path.{_≡_, subst}
 use mathlib.Core.Bool.{true}
 use mathlib.Core.List.{List, [], _∷_, map}
 use native.Mathlib.Omega.{arith}
-use Rattle.base.specs.Tests.{_=?_, lt-holds, pick-as}
+use Rattle.base.specs.Tests.{_=?_}
+use Rattle.base.proofs.TestLaws.{lt-holds, pick-as}
 use Rattle.format.specs.Types.{Action, State, Record, action, cpc}
 use Rattle.replication.specs.Machine.Types.{Non-prim, Reg-prim, Exchange-states, Exchange-actions, Construct, Un, Server, Outcome, withVotes, inMode}
 use Rattle.replication.specs.Machine.Exchange.{quorum}
@@ -16,9 +17,9 @@ use Rattle.replication.specs.Machine.Rules.{Rule, ignoring, reddening, g
 use Rattle.replication.specs.Machine.Step.{quiet, stored, sent, unmarked, yellowValid, join, hereSet, hereId, collected, decided, attempting, endExchange, withState, allStatesIn, plannedNow, resending, afterStates, collectState, oneMore, exchanged, allCome, exchange, withCpc, allCpcsIn, installing, collectCpc, collectLateCpc, requested, apply}
 use Rattle.replication.specs.Machine.WellFormedRanges.{PayloadFits}
 use Rattle.replication.specs.Machine.WellFormedFacts.{Configured, StatesIn, ModeFits, WellFormed}
-use Rattle.replication.specs.Machine.WellFormedSent.{PutOut}
+use Rattle.replication.proofs.WellFormed.SentFacts.{PutOut}
 use Rattle.replication.proofs.WellFormed.Changes.{Body, body, in-mode, collected-fit, here-id-below}
-use Rattle.replication.proofs.WellFormed.RuleFacts.{Delivered, StateCame, RuleFits}
+use Rattle.replication.specs.Laws.RuleFits.{Delivered, StateCame, RuleFits}
 use Rattle.replication.proofs.WellFormed.Effects.{exchanged-body, install-body}
 use Rattle.replication.proofs.WellFormed.Exchanges.{decided-body, with-state-body, with-cpc-body, unmarked-body, yellow-valid-body}
 use Rattle.replication.proofs.WellFormed.Kept.{After}

@@ -6,7 +6,7 @@ use mathlib.Core.Bool.{Bool, true}
 use mathlib.Core.List.{List, [], _∷_}
 use native.Mathlib.Omega.{arith}
 use lib.ListN.{length}
-use Rattle.base.specs.Tests.{and-holds}
+use Rattle.base.proofs.TestLaws.{and-holds}
 use Rattle.format.specs.Types.{Action, action, says}
 use Rattle.format.specs.Range.{fieldsOk, recordOk}
 use Rattle.format.specs.Read.{read}
@@ -22,7 +22,8 @@ use Rattle.replication.proofs.Step.Yellows.{yellow-gained}
 use Rattle.replication.proofs.WellFormed.Ranges.{action-facts}
 use Rattle.replication.proofs.WellFormed.Facts.{well-formed-facts, facts-well-formed}
 use Rattle.replication.proofs.WellFormed.Changes.{whole}
-use Rattle.replication.proofs.WellFormed.RuleFacts.{RuleFits, rule-fits}
+use Rattle.replication.specs.Laws.RuleFits.{RuleFits}
+use Rattle.replication.proofs.WellFormed.RuleFacts.{rule-fits}
 use Rattle.replication.proofs.WellFormed.Kept.{after-taken, Kept, kept-invariant}
 use Rattle.replication.proofs.WellFormed.Apply.{apply-keeps}
 

@@ -6,8 +6,7 @@ use mathlib.Core.Bool.{true}
 use mathlib.Core.List.{map}
 use mathlib.Core.Option.{none, some}
 use lib.ListN.{length, getD}
-use Rattle.base.specs.ListLaws.{Each}
-use Rattle.base.specs.Lists.{above, isThere}
+use Rattle.base.specs.Lists.{Each, above, isThere}
 use Rattle.base.specs.Sets.{inSet}
 use Rattle.format.specs.Limits.{mostHeld, mostIndex}
 use Rattle.format.specs.Types.{Id}

@@ -7,7 +7,7 @@ use mathlib.Core.List.{List}
 use mathlib.Core.Option.{Option, none, some}
 use lib.ListN.{length, getD}
 use Rattle.base.specs.Bytes.{Bytes}
-use Rattle.base.specs.ListLaws.{Each}
+use Rattle.base.specs.Lists.{Each}
 use Rattle.base.specs.Counts.{count}
 use Rattle.base.specs.Sets.{inSet}
 use Rattle.format.specs.Limits.{fewestServers, mostServers, leastQuota, mostQuota, mostPayload, mostIndex}

@@ -1,4 +1,4 @@
-use Rattle.base.specs.Branches.{answers}
+use Rattle.base.proofs.Branches.{answers}
 use Rattle.state_check.specs.Checks.{checksOf}
 use Rattle.state_check.proofs.CheckCode.{context-made, buffer-made, counts-made}
 use Rattle.record.specs.Context.{contextOf}

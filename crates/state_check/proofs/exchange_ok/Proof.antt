@@ -1,4 +1,4 @@
-use Rattle.base.specs.Branches.{answers}
+use Rattle.base.proofs.Branches.{answers}
 use Rattle.state_check.specs.Checks.{exchangeOk}
 use Rattle.state_check.proofs.CheckCode.{exchange-told}
 use Rattle.state_check.proofs.SectionCode.{states-inside}

@@ -1,5 +1,5 @@
-use Rattle.base.specs.Branches.{answers, told}
-use Rattle.base.specs.Tests.{tests, choices}
+use Rattle.base.proofs.Branches.{answers, told}
+use Rattle.base.proofs.TestLaws.{tests, choices}
 use Rattle.state_check.specs.Checks.{modeTest, modeOk}
 use borrow.Author.Needs.{needs}
 use Rattle.state_check.proofs.mode_ok.Statement.{statement}

@@ -1,5 +1,5 @@
 use Rattle.state_check.proofs.NumberAnswer.{brief-seven, least-short, least-long, sizes-made, formula-short, context-long, checked-eight, checked-zero}
-use Rattle.base.specs.BytesLaws.{given-bytes}
+use Rattle.base.proofs.BytesLaws.{given-bytes}
 use borrow.Author.Needs.{needs}
 use Rattle.state_check.proofs.state_number.Statement.{statement}
 use Rattle.state_check.proofs.state_number.Tie as tie

@@ -1,5 +1,5 @@
-use Rattle.base.specs.Tests.{tests}
-use Rattle.base.specs.Branches.{told}
+use Rattle.base.proofs.TestLaws.{tests}
+use Rattle.base.proofs.Branches.{told}
 use Rattle.format.specs.Range.{sizesOk}
 use borrow.Author.Needs.{needs}
 use Rattle.engine.proofs.sizes.sizes_in.Statement.{statement}

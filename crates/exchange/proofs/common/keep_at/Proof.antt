@@ -1,4 +1,4 @@
-use Rattle.base.specs.Branches.{pick-answered, pick-denied}
+use Rattle.base.proofs.Branches.{pick-answered, pick-denied}
 use borrow.Author.Needs.{needs}
 use Rattle.exchange.proofs.common.keep_at.Statement.{statement}
 use Rattle.exchange.proofs.common.keep_at.Tie as tie

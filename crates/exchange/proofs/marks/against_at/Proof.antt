@@ -1,4 +1,4 @@
-use Rattle.base.specs.Branches.{pick-denied}
+use Rattle.base.proofs.Branches.{pick-denied}
 use Rattle.exchange.proofs.AnyLaws.{found-already, found-now}
 use borrow.Author.Needs.{needs}
 use Rattle.exchange.proofs.marks.against_at.Statement.{statement}

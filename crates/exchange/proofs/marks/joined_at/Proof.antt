@@ -1,4 +1,4 @@
-use Rattle.base.specs.Branches.{pick-denied}
+use Rattle.base.proofs.Branches.{pick-denied}
 use Rattle.exchange.proofs.MarkLaws.{join-not, join-yes}
 use borrow.Author.Needs.{needs}
 use Rattle.exchange.proofs.marks.joined_at.Statement.{statement}

@@ -1,5 +1,5 @@
 use Rattle.exchange.proofs.ResendLaws.{value-told}
-use Rattle.base.specs.Branches.{answers}
+use Rattle.base.proofs.Branches.{answers}
 use borrow.Author.Needs.{needs}
 use Rattle.exchange.proofs.plan.is_value.Statement.{statement}
 use Rattle.exchange.proofs.plan.is_value.Tie as tie

@@ -1,4 +1,4 @@
-use Rattle.base.specs.Branches.{pick-denied}
+use Rattle.base.proofs.Branches.{pick-denied}
 use Rattle.exchange.proofs.PrimaryLaws.{later-in}
 use borrow.Author.Needs.{needs}
 use Rattle.exchange.proofs.primary.later_at.Statement.{statement}

@@ -1,4 +1,4 @@
-use Rattle.base.specs.Branches.{told}
+use Rattle.base.proofs.Branches.{told}
 use Rattle.base.specs.Sets.{inSet}
 use Rattle.exchange.proofs.SlotLaws.{no-member-of}
 use borrow.Author.Needs.{needs}

@@ -1,4 +1,4 @@
-use Rattle.base.specs.Branches.{pick-answered, pick-denied}
+use Rattle.base.proofs.Branches.{pick-answered, pick-denied}
 use Rattle.exchange.proofs.RaiseLaws.{list-of}
 use borrow.Author.Needs.{needs}
 use Rattle.exchange.proofs.table.raise_turn.Statement.{statement}

@@ -1,6 +1,6 @@
 use Rattle.lists.proofs.NoteAllLaws.{front-some, note-start, note-room, note-turn, note-end}
 use Rattle.lists.specs.Noting.{noteFirst}
-use Rattle.engine.proofs.InPlace.{Holds}
+use Rattle.engine.specs.Holding.{Holds}
 use Rattle.engine.specs.Image.{image}
 use Rattle.replication.specs.Machine.Types.{Server, withNoted}
 use lib.ListN.{length}

@@ -1,5 +1,6 @@
-use Rattle.base.specs.Stores.{up-more, up-all}
-use Rattle.base.specs.Patched.{patched, patched-none}
+use Rattle.base.proofs.Stores.{up-more, up-all}
+use Rattle.base.specs.Patched.{patched}
+use Rattle.base.proofs.PatchedLaws.{patched-none}
 use lib.ListN.{length, take, drop, length-set}
 use Prim.Native.Nat.{_≤_, _-_}
 use mathlib.Core.Path.{_≡_, refl, sym}

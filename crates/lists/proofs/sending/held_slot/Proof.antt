@@ -3,8 +3,9 @@ use native.Mathlib.Omega.{arith}
 use mathlib.Core.Path.{_≡_, sym}
 use Prim.Native.Nat.{ℕ, _≤_, _-_}
 use lib.ListN.{take, drop, replicate}
-use Rattle.base.specs.Patched.{patched, patched-none}
-use Rattle.base.specs.Stores.{read-more, read-all}
+use Rattle.base.specs.Patched.{patched}
+use Rattle.base.proofs.PatchedLaws.{patched-none}
+use Rattle.base.proofs.Stores.{read-more, read-all}
 use Rattle.lists.proofs.sending.held_slot.Statement.{statement}
 use Rattle.lists.proofs.sending.held_slot.Tie as tie
 use Rattle.engine.specs.Layout.{heldSize}

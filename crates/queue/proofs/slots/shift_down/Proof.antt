@@ -1,5 +1,6 @@
 use Rattle.queue.proofs.MoveLaws.{down-turn, down-end}
-use Rattle.base.specs.Patched.{patched, patched-none}
+use Rattle.base.specs.Patched.{patched}
+use Rattle.base.proofs.PatchedLaws.{patched-none}
 use lib.ListN.{length, take, drop, length-set}
 use Prim.Native.Nat.{_≤_, _-_}
 use mathlib.Core.Path.{_≡_, sym}

@@ -1,5 +1,6 @@
-use Rattle.base.specs.Stores.{read-more, read-all}
-use Rattle.base.specs.Patched.{patched, patched-none}
+use Rattle.base.proofs.Stores.{read-more, read-all}
+use Rattle.base.specs.Patched.{patched}
+use Rattle.base.proofs.PatchedLaws.{patched-none}
 use lib.ListN.{take, drop, replicate}
 use Prim.Native.Nat.{ℕ, _≤_, _-_}
 use mathlib.Core.Path.{_≡_, sym}

@@ -3,8 +3,9 @@ use native.Mathlib.Omega.{arith}
 use mathlib.Core.Path.{_≡_, sym}
 use Prim.Native.Nat.{_≤_, _-_}
 use lib.ListN.{length, take, length-set}
-use Rattle.base.specs.Stores.{copy-more, copy-all}
-use Rattle.base.specs.Patched.{patched, patched-none}
+use Rattle.base.proofs.Stores.{copy-more, copy-all}
+use Rattle.base.specs.Patched.{patched}
+use Rattle.base.proofs.PatchedLaws.{patched-none}
 use Rattle.record.proofs.blocks.copy.Statement.{statement}
 use Rattle.record.proofs.blocks.copy.Tie as tie
 

@@ -1,5 +1,5 @@
 use borrow.Author.Needs.{needs}
-use Rattle.base.specs.NumberStores.{numbers-then}
+use Rattle.base.proofs.NumberStores.{numbers-then}
 use Rattle.record.proofs.blocks.put_block.Statement.{statement}
 use Rattle.record.proofs.blocks.put_block.Tie as tie
 

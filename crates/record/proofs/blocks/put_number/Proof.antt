@@ -5,7 +5,7 @@ use Prim.Native.Nat.{_+_, _≤_}
 use lib.ListN.{length, length-set}
 use Rattle.base.specs.Bytes.{bytesOf}
 use Rattle.base.specs.Patched.{patched}
-use Rattle.base.specs.NumberStores.{number-more, number-all}
+use Rattle.base.proofs.NumberStores.{number-more, number-all}
 use Rattle.record.proofs.blocks.put_number.Statement.{statement}
 use Rattle.record.proofs.blocks.put_number.Tie as tie
 

@@ -6,7 +6,7 @@ use lib.ListN.{length, drop}
 use Rattle.base.specs.Bytes.{bytesOfAll}
 use Rattle.base.specs.Lists.{sum}
 use Rattle.base.specs.Patched.{patched}
-use Rattle.base.specs.NumberStores.{numbers-room, numbers-fits, numbers-place, numbers-more, numbers-behind, numbers-all}
+use Rattle.base.proofs.NumberStores.{numbers-room, numbers-fits, numbers-place, numbers-more, numbers-behind, numbers-all}
 use Rattle.record.proofs.blocks.put_numbers.Statement.{statement}
 use Rattle.record.proofs.blocks.put_numbers.Tie as tie
 

@@ -1,4 +1,4 @@
-use Rattle.base.specs.BytesLaws.{given-bytes}
+use Rattle.base.proofs.BytesLaws.{given-bytes}
 use Rattle.record.proofs.Heads.{head-short, head-length, head-version}
 use borrow.Author.Needs.{needs}
 use Rattle.record.proofs.frame.head_ok.Statement.{statement}

@@ -1,6 +1,6 @@
 use Rattle.record.proofs.Turns.{place-low}
 use Rattle.record.specs.Values.{idOf, slot, placeOf}
-use Rattle.base.specs.Branches.{answers}
+use Rattle.base.proofs.Branches.{answers}
 use borrow.Author.Needs.{needs}
 use Rattle.record.proofs.lists.place.Statement.{statement}
 use Rattle.record.proofs.lists.place.Tie as tie

@@ -1,7 +1,6 @@
 use Rattle.record.specs.Context.{contextOf}
 use Rattle.format.specs.Range.{contextOk}
-use Rattle.base.specs.Branches.{told}
-use Rattle.base.specs.Branches.{answers}
+use Rattle.base.proofs.Branches.{told, answers}
 use borrow.Author.Needs.{needs}
 use Rattle.record.proofs.range.context_ok.Statement.{statement}
 use Rattle.record.proofs.range.context_ok.Tie as tie

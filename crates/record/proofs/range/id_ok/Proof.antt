@@ -1,8 +1,8 @@
 use Rattle.record.specs.Values.{idOf}
 use Rattle.record.specs.Context.{contextOf}
 use Rattle.format.specs.Range.{idOk}
-use Rattle.base.specs.Branches.{told}
-use Rattle.base.specs.Tests.{tests}
+use Rattle.base.proofs.Branches.{told}
+use Rattle.base.proofs.TestLaws.{tests}
 use borrow.Author.Needs.{needs}
 use Rattle.record.proofs.range.id_ok.Statement.{statement}
 use Rattle.record.proofs.range.id_ok.Tie as tie

@@ -1,5 +1,5 @@
 use Rattle.format.specs.Range.{indexOk}
-use Rattle.base.specs.Branches.{told}
+use Rattle.base.proofs.Branches.{told}
 use borrow.Author.Needs.{needs}
 use Rattle.record.proofs.range.index_ok.Statement.{statement}
 use Rattle.record.proofs.range.index_ok.Tie as tie

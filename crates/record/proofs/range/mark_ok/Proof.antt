@@ -1,6 +1,6 @@
 use Rattle.format.specs.Range.{markOk}
 use Rattle.record.specs.Values.{markOf}
-use Rattle.base.specs.Branches.{answers}
+use Rattle.base.proofs.Branches.{answers}
 use borrow.Author.Needs.{needs}
 use Rattle.record.proofs.range.mark_ok.Statement.{statement}
 use Rattle.record.proofs.range.mark_ok.Tie as tie

@@ -1,8 +1,7 @@
 use Rattle.format.specs.Range.{ownSetOk}
 use Rattle.base.specs.Sets.{inSet}
 use Rattle.record.specs.Context.{contextOf}
-use Rattle.base.specs.Branches.{told}
-use Rattle.base.specs.Branches.{answers}
+use Rattle.base.proofs.Branches.{told, answers}
 use borrow.Author.Needs.{needs}
 use Rattle.record.proofs.range.own_set_ok.Statement.{statement}
 use Rattle.record.proofs.range.own_set_ok.Tie as tie

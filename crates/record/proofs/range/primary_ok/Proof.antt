@@ -1,6 +1,6 @@
 use Rattle.format.specs.Range.{primaryOk}
 use Rattle.record.specs.Values.{primaryOf, componentOf}
-use Rattle.base.specs.Branches.{answers}
+use Rattle.base.proofs.Branches.{answers}
 use borrow.Author.Needs.{needs}
 use Rattle.record.proofs.range.primary_ok.Statement.{statement}
 use Rattle.record.proofs.range.primary_ok.Tie as tie

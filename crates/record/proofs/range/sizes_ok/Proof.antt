@@ -1,6 +1,6 @@
 use Rattle.format.specs.Range.{sizesOk}
-use Rattle.base.specs.Branches.{told}
-use Rattle.base.specs.Tests.{tests}
+use Rattle.base.proofs.Branches.{told}
+use Rattle.base.proofs.TestLaws.{tests}
 use borrow.Author.Needs.{needs}
 use Rattle.record.proofs.range.sizes_ok.Statement.{statement}
 use Rattle.record.proofs.range.sizes_ok.Tie as tie

@@ -2,7 +2,7 @@ use Rattle.record.proofs.Fields.{payload-law}
 use Rattle.record.specs.Values.{actionOf}
 use Rattle.record.specs.Events.{actionFrom, PayloadInside}
 use Rattle.format.specs.Range.{actionOk}
-use Rattle.base.specs.Branches.{answers}
+use Rattle.base.proofs.Branches.{answers}
 use borrow.Author.Needs.{needs}
 use Rattle.record.proofs.reader.action_ok.Statement.{statement}
 use Rattle.record.proofs.reader.action_ok.Tie as tie

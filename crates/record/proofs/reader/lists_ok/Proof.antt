@@ -2,7 +2,7 @@ use Rattle.record.specs.Reading.{listsOk}
 use Rattle.record.specs.Values.{stateOf}
 use Rattle.record.specs.Events.{stateFrom}
 use Rattle.record.specs.Context.{contextOf}
-use Rattle.base.specs.Branches.{answers}
+use Rattle.base.proofs.Branches.{answers}
 use borrow.Author.Needs.{needs}
 use Rattle.record.proofs.reader.lists_ok.Statement.{statement}
 use Rattle.record.proofs.reader.lists_ok.Tie as tie

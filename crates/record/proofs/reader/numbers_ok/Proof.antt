@@ -1,8 +1,8 @@
 use Rattle.record.specs.Reading.{numbersOk}
 use Rattle.record.specs.Values.{stateOf}
 use Rattle.record.specs.Context.{contextOf}
-use Rattle.base.specs.Tests.{tests}
-use Rattle.base.specs.Branches.{answers}
+use Rattle.base.proofs.TestLaws.{tests}
+use Rattle.base.proofs.Branches.{answers}
 use borrow.Author.Needs.{needs}
 use Rattle.record.proofs.reader.numbers_ok.Statement.{statement}
 use Rattle.record.proofs.reader.numbers_ok.Tie as tie

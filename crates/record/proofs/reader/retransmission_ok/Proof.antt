@@ -1,8 +1,8 @@
 use Rattle.record.proofs.Arms.{retransmission-answered}
 use Rattle.format.specs.Range.{fieldsOk}
 use Rattle.record.specs.Context.{contextOf}
-use Rattle.base.specs.Tests.{tests}
-use Rattle.base.specs.Branches.{answers}
+use Rattle.base.proofs.TestLaws.{tests}
+use Rattle.base.proofs.Branches.{answers}
 use borrow.Author.Needs.{needs}
 use Rattle.record.proofs.reader.retransmission_ok.Statement.{statement}
 use Rattle.record.proofs.reader.retransmission_ok.Tie as tie

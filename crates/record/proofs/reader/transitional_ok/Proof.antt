@@ -1,6 +1,6 @@
 use Rattle.format.specs.Range.{fieldsOk}
 use Rattle.record.specs.Context.{contextOf}
-use Rattle.base.specs.Branches.{answers}
+use Rattle.base.proofs.Branches.{answers}
 use borrow.Author.Needs.{needs}
 use Rattle.record.proofs.reader.transitional_ok.Statement.{statement}
 use Rattle.record.proofs.reader.transitional_ok.Tie as tie

@@ -1,6 +1,6 @@
 use borrow.Author.Needs.{needs}
 use Rattle.replay.specs.Input.{cutShort}
-use Rattle.base.specs.Tests.{pick-yes, pick-no}
+use Rattle.base.proofs.TestLaws.{pick-yes, pick-no}
 use Rattle.replay.proofs.input.cut_short.Statement.{statement}
 use Rattle.replay.proofs.input.cut_short.Tie as tie
 use Rattle.replay.proofs.input.cut_short.Reads as reads

@@ -1,6 +1,6 @@
 use Rattle.replay.proofs.InputLaws.{next-cut, next-event}
 use Rattle.replay.specs.Input.{nextOf}
-use Rattle.base.specs.Tests.{choices, pick-yes, pick-no}
+use Rattle.base.proofs.TestLaws.{choices, pick-yes, pick-no}
 use borrow.Author.Needs.{needs}
 use Rattle.replay.proofs.input.next_in.Statement.{statement}
 use Rattle.replay.proofs.input.next_in.Tie as tie

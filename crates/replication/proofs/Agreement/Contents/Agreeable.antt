@@ -2,7 +2,7 @@
 use Prim.Native.Nat.{ℕ, suc, _≤_, _<_}
 use mathlib.Core.List.{List}
 use native.Mathlib.Omega.{arith}
-use Rattle.base.specs.Comparable.{Comparable}
+use Rattle.base.proofs.Comparable.{Comparable}
 use Rattle.format.specs.Types.{Id}
 use Rattle.replication.specs.Machine.Types.{Configuration}
 use Rattle.replication.specs.Machine.WellFormed.{idsIn}

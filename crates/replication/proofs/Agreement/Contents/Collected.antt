@@ -7,8 +7,8 @@ use mathlib.Core.Option.{Option, none, some}
 use native.Mathlib.Omega.{arith}
 use lib.ListN.{length, getD}
 use Rattle.base.specs.Lists.{at, present}
-use Rattle.base.specs.AtLaws.{some-same}
-use Rattle.base.specs.Members.{present-has, present-from}
+use Rattle.base.proofs.AtLaws.{some-same}
+use Rattle.base.proofs.Members.{present-has, present-from}
 use Rattle.base.specs.Sets.{inSet}
 use Rattle.format.specs.Types.{State, Record}
 use Rattle.replication.specs.Machine.Types.{Configuration, Log}

@@ -7,10 +7,10 @@ use mathlib.Core.Option.{Option, none, some}
 use native.Mathlib.Omega.{arith}
 use lib.ListN.{length}
 use Rattle.base.specs.Lists.{at}
-use Rattle.base.specs.AtLaws.{some-same, at-low}
-use Rattle.base.specs.Distinct.{numbered-onto}
-use Rattle.base.specs.Passing.{passing, passing-in, passing-distinct}
-use Rattle.base.specs.Totals.{total, slot-below, slot-same}
+use Rattle.base.proofs.AtLaws.{some-same, at-low}
+use Rattle.base.proofs.Distinct.{numbered-onto}
+use Rattle.base.proofs.Passing.{passing, passing-in, passing-distinct}
+use Rattle.base.proofs.Totals.{total, slot-below, slot-same}
 use Rattle.format.specs.Types.{Action, Record, retransmission}
 use Rattle.replication.specs.Machine.Types.{Configuration}
 use Rattle.replication.specs.Machine.Plan.{ownPart}

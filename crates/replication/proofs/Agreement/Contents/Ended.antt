@@ -8,9 +8,9 @@ use native.Mathlib.Omega.{arith}
 use native.Mathlib.Decide.{decLt}
 use lib.ListN.{length}
 use Rattle.base.specs.Lists.{at, Begins}
-use Rattle.base.specs.AtLaws.{at-there}
-use Rattle.base.specs.Comparable.{begins-same-length}
-use Rattle.base.specs.Prefixes.{begins-length}
+use Rattle.base.proofs.AtLaws.{at-there}
+use Rattle.base.proofs.Comparable.{begins-same-length}
+use Rattle.base.proofs.Prefixes.{begins-length}
 use Rattle.format.specs.Types.{Id, Action, State, retransmission}
 use Rattle.replication.specs.Machine.Types.{Non-prim, Configuration}
 use Rattle.replication.specs.Machine.Colours.{cut}

@@ -7,10 +7,10 @@ use mathlib.Core.Option.{Option, none, some}
 use native.Mathlib.Omega.{arith}
 use native.Mathlib.Decide.{decLt}
 use lib.ListN.{length}
-use Rattle.base.specs.Tests.{not-both}
-use Rattle.base.specs.Comparable.{begins-same-length}
-use Rattle.base.specs.AtLaws.{at-there}
-use Rattle.base.specs.Prefixes.{begins-length}
+use Rattle.base.proofs.TestLaws.{not-both}
+use Rattle.base.proofs.Comparable.{begins-same-length}
+use Rattle.base.proofs.AtLaws.{at-there}
+use Rattle.base.proofs.Prefixes.{begins-length}
 use Rattle.format.specs.Types.{Id, Action, retransmission, says}
 use Rattle.replication.specs.Machine.Types.{Mode, Non-prim, Reg-prim, Trans-prim, Exchange-states, Exchange-actions, Construct, No, Un, Configuration, Log}
 use Rattle.replication.specs.Machine.Colours.{cut}

@@ -10,9 +10,9 @@ use native.Mathlib.Omega.{arith}
 use native.Mathlib.Decide.{decLt, ℕ-discrete}
 use lib.ListN.{length, getD, length-map}
 use Rattle.base.specs.Lists.{at, Begins}
-use Rattle.base.specs.AtLaws.{none-some, some-same, at-low, at-there, at-among}
-use Rattle.base.specs.Comparable.{comparable-shorter}
-use Rattle.base.specs.Counts.{count-map}
+use Rattle.base.proofs.AtLaws.{none-some, some-same, at-low, at-there, at-among}
+use Rattle.base.proofs.Comparable.{comparable-shorter}
+use Rattle.base.proofs.CountLaws.{count-map}
 use Rattle.base.specs.Sets.{inSet}
 use Rattle.format.specs.Range.{sameId}
 use Rattle.format.specs.Types.{Id, Action, State, Record, retransmission}

@@ -5,8 +5,8 @@ use mathlib.Core.Bool.{Bool, true, false}
 use mathlib.Core.List.{List}
 use mathlib.Core.Option.{Option, none, some}
 use native.Mathlib.Omega.{arith}
-use Rattle.base.specs.Tests.{not-both}
-use Rattle.base.specs.AtLaws.{some-same}
+use Rattle.base.proofs.TestLaws.{not-both}
+use Rattle.base.proofs.AtLaws.{some-same}
 use Rattle.format.specs.Types.{Action, Record, action, retransmission, says}
 use Rattle.replication.specs.Machine.Types.{Mode, Non-prim, Reg-prim, Trans-prim, Exchange-states, Exchange-actions, Construct, No, Un, Configuration, Log, Server}
 use Rattle.replication.specs.Machine.Requests.{sendsIn, sendsNow, numbered, hold, sendHeld}

@@ -7,8 +7,8 @@ use mathlib.Core.Logic.{_⊎_, inl, inr}
 use mathlib.Core.Option.{Option, none, some}
 use native.Mathlib.Omega.{arith}
 use native.Mathlib.Decide.{decLe}
-use Rattle.base.specs.Tests.{not-both}
-use Rattle.base.specs.AtLaws.{none-some}
+use Rattle.base.proofs.TestLaws.{not-both}
+use Rattle.base.proofs.AtLaws.{none-some}
 use Rattle.format.specs.Types.{Record}
 use Rattle.replication.specs.Machine.Types.{Mode, Non-prim, Reg-prim, Trans-prim, Exchange-states, Exchange-actions, Construct, No, Un, Configuration, Membership, Server}
 use Rattle.replication.specs.Machine.Colours.{cut}

@@ -7,11 +7,12 @@ use mathlib.Core.Option.{Option, none, some}
 use native.Mathlib.Omega.{arith}
 use native.Mathlib.Decide.{ℕ-discrete}
 use lib.ListN.{length, getD, length-map, length-append}
-use Rattle.base.specs.Tests.{_=?_, _≤?_, _and_, pick, eq-yes, eq-no, le-yes, le-no, both-yes}
+use Rattle.base.specs.Tests.{_=?_, _≤?_, _and_, pick}
+use Rattle.base.proofs.TestLaws.{eq-yes, eq-no, le-yes, le-no, both-yes}
 use Rattle.base.specs.Lists.{at, Begins}
-use Rattle.base.specs.AtLaws.{none-some, some-same}
-use Rattle.base.specs.Gathered.{at-second}
-use Rattle.base.specs.Prefixes.{set-most, begins-append}
+use Rattle.base.proofs.AtLaws.{none-some, some-same}
+use Rattle.base.proofs.Gathered.{at-second}
+use Rattle.base.proofs.Prefixes.{set-most, begins-append}
 use Rattle.format.specs.Types.{Id, Action}
 use Rattle.replication.specs.Machine.Types.{Log}
 use Rattle.replication.specs.Machine.Colours.{cut, enter, red, green}

@@ -8,12 +8,13 @@ use mathlib.Core.Option.{Option, none, some}
 use native.Mathlib.Omega.{arith}
 use native.Mathlib.Decide.{decLe}
 use lib.ListN.{length}
-use Rattle.base.specs.Tests.{_=?_, pick, not-both, eq-holds, eq-yes, Known, holds, fails, known}
+use Rattle.base.specs.Tests.{_=?_, pick}
+use Rattle.base.proofs.TestLaws.{not-both, eq-holds, eq-yes, Known, holds, fails, known}
 use Rattle.base.specs.Lists.{at, gather, gatherAll, below}
-use Rattle.base.specs.AtLaws.{none-some, some-same}
-use Rattle.base.specs.Distinct.{below-has}
-use Rattle.base.specs.ListLaws.{below-each}
-use Rattle.base.specs.Gathered.{at-first, at-second, at-either, GatheredAt, gathered-above, above-gathered, PartAt, gathered-part, part-gathered}
+use Rattle.base.proofs.AtLaws.{none-some, some-same}
+use Rattle.base.proofs.Distinct.{below-has}
+use Rattle.base.proofs.ListLaws.{below-each}
+use Rattle.base.proofs.Gathered.{at-first, at-second, at-either, GatheredAt, gathered-above, above-gathered, PartAt, gathered-part, part-gathered}
 use Rattle.format.specs.Types.{Action, State, Record, retransmission}
 use Rattle.replication.specs.Machine.Types.{Log}
 use Rattle.replication.specs.Machine.Colours.{find}

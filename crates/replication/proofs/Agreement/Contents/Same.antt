@@ -7,10 +7,11 @@ use mathlib.Core.Option.{Option, none, some}
 use native.Mathlib.Omega.{arith}
 use lib.ListN.{length, getD}
 use lib.Seq.{ext-getD}
-use Rattle.base.specs.Tests.{pick, Known, holds, fails, known}
-use Rattle.base.specs.Lists.{present}
-use Rattle.base.specs.AtLaws.{none-some, some-same}
-use Rattle.base.specs.ListLaws.{Each, each-append}
+use Rattle.base.specs.Tests.{pick}
+use Rattle.base.proofs.TestLaws.{Known, holds, fails, known}
+use Rattle.base.specs.Lists.{present, Each}
+use Rattle.base.proofs.AtLaws.{none-some, some-same}
+use Rattle.base.proofs.ListLaws.{each-append}
 use Rattle.format.specs.Types.{Id, Action, State}
 use Rattle.format.specs.Range.{sameId}
 use Rattle.replication.specs.Machine.Types.{Configuration, Log}

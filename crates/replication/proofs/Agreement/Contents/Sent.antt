@@ -6,7 +6,7 @@ use mathlib.Core.List.{List}
 use mathlib.Core.Option.{Option, none, some}
 use native.Mathlib.Omega.{arith}
 use lib.ListN.{length}
-use Rattle.base.specs.Tests.{not-both}
+use Rattle.base.proofs.TestLaws.{not-both}
 use Rattle.base.specs.Lists.{at}
 use Rattle.format.specs.Types.{Action, Record, retransmission}
 use Rattle.replication.specs.Machine.Types.{Mode, Non-prim, Exchange-states, Exchange-actions, Configuration, Server}

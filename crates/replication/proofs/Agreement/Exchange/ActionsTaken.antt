@@ -5,16 +5,17 @@ use mathlib.Core.Bool.{true}
 use mathlib.Core.Logic.{_⊎_, inl, inr}
 use mathlib.Core.Option.{none}
 use native.Mathlib.Omega.{arith}
-use Rattle.base.specs.Tests.{_or_, not-both}
+use Rattle.base.specs.Tests.{_or_}
+use Rattle.base.proofs.TestLaws.{not-both}
 use Rattle.base.specs.Lists.{present}
 use Rattle.base.specs.Sets.{inSet, inside}
-use Rattle.base.specs.SetLaws.{members-inside}
+use Rattle.base.proofs.SetLaws.{members-inside}
 use Rattle.format.specs.Types.{Action, action}
 use Rattle.replication.specs.Machine.Types.{Mode, Non-prim, Reg-prim, Trans-prim, Exchange-states, Exchange-actions, Construct, No, Un, Configuration}
 use Rattle.replication.specs.Machine.Exchange.{quorum}
 use Rattle.replication.specs.Machine.Rules.{reddening, greening, yellowing, lateInstalling, onAction, ruleFor, possible, fromMember, isIgnored}
 use Rattle.replication.specs.Machine.Step.{theSet}
-use Rattle.replication.specs.Machine.WellFormedSent.{senderOf}
+use Rattle.replication.proofs.WellFormed.SentFacts.{senderOf}
 use Rattle.replication.specs.Runs.Run.{Run, placeAt}
 use Rattle.replication.specs.Runs.Happenings.{Message, isMessage, Comes, Sends}
 use Rattle.replication.specs.Runs.Allowed.{Allowed}

@@ -3,8 +3,9 @@ use Prim.Native.Nat.{ℕ}
 use mathlib.Core.Path.{_≡_, refl, sym, ap, _∙_}
 use mathlib.Core.Bool.{true, false}
 use mathlib.Core.Option.{some}
-use Rattle.base.specs.Tests.{_or_, not-both, eq-yes}
-use Rattle.base.specs.AtLaws.{some-same}
+use Rattle.base.specs.Tests.{_or_}
+use Rattle.base.proofs.TestLaws.{not-both, eq-yes}
+use Rattle.base.proofs.AtLaws.{some-same}
 use Rattle.base.specs.Sets.{inSet}
 use Rattle.format.specs.Types.{Record, action, retransmission, state, cpc, regular, transitional, request, recovery, says}
 use Rattle.replication.specs.Machine.Types.{Configuration, Server}

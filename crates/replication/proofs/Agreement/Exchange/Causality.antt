@@ -6,8 +6,8 @@ use mathlib.Core.Option.{none}
 use native.Mathlib.Omega.{arith}
 use native.Mathlib.Decide.{decLt}
 use lib.ListN.{getD}
-use Rattle.base.specs.Tests.{not-both}
-use Rattle.base.specs.AtLaws.{some-same}
+use Rattle.base.proofs.TestLaws.{not-both}
+use Rattle.base.proofs.AtLaws.{some-same}
 use Rattle.base.specs.Lists.{isThere}
 use Rattle.base.specs.Sets.{inSet}
 use Rattle.format.specs.Types.{Record}

@@ -8,9 +8,9 @@ use native.Mathlib.Omega.{arith}
 use native.Mathlib.Decide.{decLt, ℕ-discrete}
 use lib.ListN.{length, getD, set}
 use lib.Seq.{getD-set-same, getD-set-other, set-out}
-use Rattle.base.specs.Tests.{not-both}
+use Rattle.base.proofs.TestLaws.{not-both}
 use Rattle.base.specs.Lists.{isThere}
-use Rattle.base.specs.ListLaws.{there}
+use Rattle.base.proofs.ListLaws.{there}
 use Rattle.base.specs.Sets.{inSet}
 use Rattle.format.specs.Types.{State, Record, state}
 use Rattle.replication.specs.Machine.Types.{Mode, Non-prim, Reg-prim, Trans-prim, Exchange-states, Exchange-actions, Construct, No, Un, Configuration, Membership}

@@ -4,11 +4,11 @@ use mathlib.Core.Path.{_≡_, refl, sym, ap, subst, _∙_}
 use mathlib.Core.Bool.{true}
 use native.Mathlib.Omega.{arith}
 use Rattle.base.specs.Sets.{inSet}
-use Rattle.base.specs.SetLaws.{inside-member}
+use Rattle.base.proofs.SetLaws.{inside-member}
 use Rattle.format.specs.Types.{Record, cpc}
 use Rattle.replication.specs.Machine.Types.{Configuration, Server}
 use Rattle.replication.specs.Machine.Step.{theSet}
-use Rattle.replication.specs.Machine.WellFormedSent.{senderOf}
+use Rattle.replication.proofs.WellFormed.SentFacts.{senderOf}
 use Rattle.replication.specs.Laws.Votes as E
 use Rattle.replication.specs.Laws.Votes.{EndsExchange}
 use Rattle.replication.specs.Runs.Run.{Run}

@@ -4,9 +4,10 @@ use mathlib.Core.Path.{_≡_, refl, sym, ap, subst, _∙_}
 use mathlib.Core.Bool.{Bool, true, false, not}
 use mathlib.Core.Logic.{_⊎_, inl, inr}
 use native.Mathlib.Omega.{arith}
-use Rattle.base.specs.Tests.{_or_, not-both, eq-yes, both-yes, Known, holds, fails, known}
+use Rattle.base.specs.Tests.{_or_}
+use Rattle.base.proofs.TestLaws.{not-both, eq-yes, both-yes, Known, holds, fails, known}
 use Rattle.base.specs.Sets.{inSet, withMember}
-use Rattle.base.specs.SetLaws.{in-with-member, inside-member}
+use Rattle.base.proofs.SetLaws.{in-with-member, inside-member}
 use Rattle.format.specs.Types.{Record, cpc, kindNumber, kindOf}
 use Rattle.replication.specs.Machine.Types.{Mode, Non-prim, Reg-prim, Trans-prim, Exchange-states, Exchange-actions, Construct, No, Un, Configuration, Membership}
 use Rattle.replication.specs.Machine.Rules.{ignoring, collectingCpc, collectingLateCpc, onCpc, ruleFor, possible, cpcIn, fromMember, isIgnored}

@@ -4,8 +4,8 @@ use mathlib.Core.Path.{_≡_, refl, sym, ap, subst, _∙_}
 use mathlib.Core.Bool.{true}
 use mathlib.Core.Logic.{inl, inr}
 use native.Mathlib.Omega.{arith}
-use Rattle.base.specs.Tests.{not-both}
-use Rattle.base.specs.AtLaws.{some-same}
+use Rattle.base.proofs.TestLaws.{not-both}
+use Rattle.base.proofs.AtLaws.{some-same}
 use Rattle.base.specs.Sets.{inSet}
 use Rattle.format.specs.Types.{Action, Record, action, says}
 use Rattle.replication.specs.Machine.Types.{Non-prim, Reg-prim, Un, No, Configuration}

@@ -5,10 +5,10 @@ use mathlib.Core.List.{map, List·Memᴰ, Memᴰ·map, Memᴰ·of-map, Memᴰ·c
 use mathlib.Core.Option.{none}
 use native.Mathlib.Omega.{arith}
 use lib.ListN.{length-map}
-use Rattle.base.specs.AtLaws.{none-some}
+use Rattle.base.proofs.AtLaws.{none-some}
 use Rattle.base.specs.Lists.{present}
-use Rattle.base.specs.Distinct.{included-length, distinct-map}
-use Rattle.base.specs.Passing.{passing, passing-has, passing-in, passing-distinct}
+use Rattle.base.proofs.Distinct.{included-length, distinct-map}
+use Rattle.base.proofs.Passing.{passing, passing-has, passing-in, passing-distinct}
 use Rattle.format.specs.Types.{retransmission}
 use Rattle.replication.specs.Machine.Types.{Mode, Non-prim, Reg-prim, Trans-prim, Exchange-states, Exchange-actions, Construct, No, Un, Configuration}
 use Rattle.replication.specs.Machine.Plan.{planned}

@@ -8,9 +8,9 @@ use native.Mathlib.Omega.{arith}
 use lib.ListN.{length}
 use Rattle.base.specs.Tests.{_or_}
 use Rattle.base.specs.Lists.{at, present}
-use Rattle.base.specs.Distinct.{numbered-length}
-use Rattle.base.specs.Passing.{passing, passing-in, passing-more, passing-distinct}
-use Rattle.base.specs.Totals.{total, slot-below, slot-same}
+use Rattle.base.proofs.Distinct.{numbered-length}
+use Rattle.base.proofs.Passing.{passing, passing-in, passing-more, passing-distinct}
+use Rattle.base.proofs.Totals.{total, slot-below, slot-same}
 use Rattle.format.specs.Types.{Action, State, retransmission}
 use Rattle.replication.specs.Machine.Types.{Mode, Non-prim, Reg-prim, Trans-prim, Exchange-states, Exchange-actions, Construct, No, Un, Configuration}
 use Rattle.replication.specs.Machine.Rules.{reddening, onRetransmission, ruleFor, fromMember, isIgnored}

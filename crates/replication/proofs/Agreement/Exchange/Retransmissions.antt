@@ -6,8 +6,9 @@ use mathlib.Core.List.{List}
 use mathlib.Core.Option.{Option, none, some}
 use native.Mathlib.Omega.{arith}
 use lib.ListN.{length}
-use Rattle.base.specs.Tests.{_and_, _or_, _=?_, not-both, eq-holds, eq-yes, le-yes, and-holds, both-yes}
-use Rattle.base.specs.AtLaws.{at-low}
+use Rattle.base.specs.Tests.{_and_, _or_, _=?_}
+use Rattle.base.proofs.TestLaws.{not-both, eq-holds, eq-yes, le-yes, and-holds, both-yes}
+use Rattle.base.proofs.AtLaws.{at-low}
 use Rattle.base.specs.Lists.{at}
 use Rattle.base.specs.Sets.{inSet}
 use Rattle.format.specs.Types.{Action, Record, action, retransmission, state, cpc, regular, transitional, request, recovery, Reading, says, refused}
@@ -15,11 +16,11 @@ use Rattle.replication.specs.Machine.Types.{Exchange-states, Exchange-ac
 use Rattle.replication.specs.Machine.Plan.{ownPart}
 use Rattle.replication.specs.Machine.Rules.{exchanging, onRetransmission, ruleFor, numberedOwn, possible, fromMember, isIgnored}
 use Rattle.replication.specs.Machine.Step.{hereSet, collected, allStatesIn}
-use Rattle.replication.specs.Machine.WellFormedSent.{senderOf}
+use Rattle.replication.proofs.WellFormed.SentFacts.{senderOf}
 use Rattle.replication.specs.Runs.Run.{Entry, event, crash, store, Run, placeAt, heardAt}
 use Rattle.replication.specs.Runs.Happenings.{Message, isMessage, Comes, Sends}
 use Rattle.replication.specs.Runs.Allowed.{Allowed}
-use Rattle.replication.specs.Runs.DeliveryFacts.{within}
+use Rattle.replication.proofs.Runs.DeliveryFacts.{within}
 use Rattle.replication.proofs.Step.Kinds.{part-sent}
 use Rattle.replication.proofs.Runs.Deliveries.{Delivery}
 use Rattle.replication.proofs.Runs.DeliveryLists.{within-holds, within-yes}

@@ -1,7 +1,7 @@
 -- All who end the exchange in one configuration take the same primary, attempt and yellow list, decide alike, and with a quorum make the same mark.
 use Prim.Native.Nat.{ℕ, suc, _+_}
 use mathlib.Core.Path.{_≡_, sym, ap, _∙_}
-use Rattle.base.specs.Tests.{not-both}
+use Rattle.base.proofs.TestLaws.{not-both}
 use Rattle.replication.specs.Machine.Types.{Configuration}
 use Rattle.replication.specs.Machine.Exchange.{takenPrimary, takenYellow, takenAttempt, quorum, takenVotes, attempted}
 use Rattle.replication.specs.Machine.Step.{collected}

@@ -6,7 +6,7 @@ use mathlib.Core.Option.{Option, none, some}
 use native.Mathlib.Omega.{arith}
 use lib.ListN.{getD}
 use lib.Seq.{ext-getD}
-use Rattle.base.specs.Tests.{not-both, Known, holds, fails, known}
+use Rattle.base.proofs.TestLaws.{not-both, Known, holds, fails, known}
 use Rattle.base.specs.Lists.{present}
 use Rattle.base.specs.Sets.{inSet}
 use Rattle.format.specs.Types.{State}

@@ -7,8 +7,8 @@ use native.Mathlib.Omega.{arith}
 use lib.ListN.{length, length-append}
 use Rattle.base.specs.Tests.{pick}
 use Rattle.base.specs.Lists.{below, gatherAll, at}
-use Rattle.base.specs.ListLaws.{gather-length, gather-all-length}
-use Rattle.base.specs.Totals.{total, total-sum, total-add, total-most, total-none, total-swap, total-one}
+use Rattle.base.proofs.ListLaws.{gather-length, gather-all-length}
+use Rattle.base.proofs.Totals.{total, total-sum, total-add, total-most, total-none, total-swap, total-one}
 use Rattle.format.specs.Types.{State}
 use Rattle.replication.specs.Machine.Types.{Log}
 use Rattle.replication.specs.Machine.Colours.{find}

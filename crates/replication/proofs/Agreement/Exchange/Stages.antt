@@ -5,9 +5,9 @@ use mathlib.Core.Bool.{Bool, true, false}
 use mathlib.Core.Option.{some}
 use native.Mathlib.Omega.{arith}
 use native.Mathlib.Decide.{decLt}
-use Rattle.base.specs.Tests.{not-both}
-use Rattle.base.specs.AtLaws.{none-some}
-use Rattle.base.specs.Chains.{chain}
+use Rattle.base.proofs.TestLaws.{not-both}
+use Rattle.base.proofs.AtLaws.{none-some}
+use Rattle.base.proofs.Chains.{chain}
 use Rattle.format.specs.Types.{Record, action, retransmission, state, cpc, regular, transitional, request, recovery}
 use Rattle.replication.specs.Machine.Types.{Mode, Non-prim, Reg-prim, Trans-prim, Exchange-states, Exchange-actions, Construct, No, Un, Configuration, Membership}
 use Rattle.replication.specs.Laws.Transitions as L

@@ -6,15 +6,16 @@ use mathlib.Core.Option.{none, some}
 use native.Mathlib.Omega.{arith}
 use lib.ListN.{getD}
 use lib.Seq.{getD-set-same}
-use Rattle.base.specs.Tests.{_or_, not-both, both-yes, Known, holds, fails, known}
+use Rattle.base.specs.Tests.{_or_}
+use Rattle.base.proofs.TestLaws.{not-both, both-yes, Known, holds, fails, known}
 use Rattle.base.specs.Lists.{isThere}
-use Rattle.base.specs.ListLaws.{there}
+use Rattle.base.proofs.ListLaws.{there}
 use Rattle.base.specs.Sets.{inSet}
 use Rattle.format.specs.Types.{State, state}
 use Rattle.replication.specs.Machine.Types.{Mode, Non-prim, Reg-prim, Trans-prim, Exchange-states, Exchange-actions, Construct, No, Un, Configuration}
 use Rattle.replication.specs.Machine.Rules.{ignoring, collectingState, onState, ruleFor, possible, stateIn, fromMember, isIgnored}
 use Rattle.replication.specs.Machine.Step.{ownState}
-use Rattle.replication.specs.Machine.WellFormedSent.{senderOf}
+use Rattle.replication.proofs.WellFormed.SentFacts.{senderOf}
 use Rattle.replication.specs.Runs.Run.{Run}
 use Rattle.replication.specs.Runs.Happenings.{Message, isMessage, Comes, Sends}
 use Rattle.replication.specs.Runs.Allowed.{Allowed}

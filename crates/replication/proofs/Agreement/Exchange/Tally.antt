@@ -7,9 +7,9 @@ use mathlib.Core.List.{List}
 use mathlib.Core.Option.{Option, some}
 use native.Mathlib.Omega.{arith}
 use lib.ListN.{length}
-use Rattle.base.specs.Tests.{not-both, eq-holds, le-holds, Known, holds, fails, known}
+use Rattle.base.proofs.TestLaws.{not-both, eq-holds, le-holds, Known, holds, fails, known}
 use Rattle.base.specs.Lists.{present}
-use Rattle.base.specs.Passing.{passing, passing-more, passing-same, passing-none, passing-longer}
+use Rattle.base.proofs.Passing.{passing, passing-more, passing-same, passing-none, passing-longer}
 use Rattle.format.specs.Types.{State, Record, transitional, says}
 use Rattle.replication.specs.Machine.Types.{Mode, Non-prim, Reg-prim, Exchange-states, Exchange-actions, Construct, No, Un, Configuration, Membership}
 use Rattle.replication.specs.Machine.Plan.{planned}

@@ -5,7 +5,8 @@ use mathlib.Core.Bool.{true, false}
 use mathlib.Core.List.{List, []}
 use mathlib.Core.Logic.{inr}
 use native.Mathlib.Omega.{arith}
-use Rattle.base.specs.Tests.{_=?_, pick, not-both, eq-yes}
+use Rattle.base.specs.Tests.{_=?_, pick}
+use Rattle.base.proofs.TestLaws.{not-both, eq-yes}
 use Rattle.base.specs.Sets.{inSet}
 use Rattle.format.specs.Types.{Id, regular, says}
 use Rattle.replication.specs.Machine.Types.{Mode, Trans-prim, Exchange-actions, No, Configuration, Server}

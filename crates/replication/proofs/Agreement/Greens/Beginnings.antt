@@ -5,10 +5,10 @@ use mathlib.Core.List.{List, [], _∷_, _++_}
 use mathlib.Core.Logic.{inl, inr}
 use native.Mathlib.Omega.{arith}
 use lib.ListN.{length, take}
-use Rattle.base.specs.Comparable as B
-use Rattle.base.specs.Comparable.{begins-cons, begins-heads, begins-tails, beginnings-comparable, comparable-shorter, comparable-same-length, begins-within-take, begins-is-take}
+use Rattle.base.proofs.Comparable as B
+use Rattle.base.proofs.Comparable.{begins-cons, begins-heads, begins-tails, beginnings-comparable, comparable-shorter, comparable-same-length, begins-within-take, begins-is-take}
 use Rattle.base.specs.Lists.{Begins}
-use Rattle.base.specs.Prefixes.{begins-same, begins-trans, begins-length}
+use Rattle.base.proofs.Prefixes.{begins-same, begins-trans, begins-length}
 
 -- x begins y: `Begins`, as a record, so that the lists are read off it.
 pub record Prefix {A : Type 0} (x y : List A) : Type 0 where

@@ -5,8 +5,9 @@ use mathlib.Core.Bool.{false}
 use mathlib.Core.List.{List, [], _∷_}
 use native.Mathlib.Omega.{arith}
 use lib.ListN.{length}
-use Rattle.base.specs.ListLaws.{Each}
-use Rattle.base.specs.Tests.{pick, Known, holds, fails, known}
+use Rattle.base.specs.Lists.{Each}
+use Rattle.base.specs.Tests.{pick}
+use Rattle.base.proofs.TestLaws.{Known, holds, fails, known}
 use Rattle.format.specs.Types.{Action}
 use Rattle.replication.specs.Machine.Types.{Server}
 use Rattle.replication.specs.Machine.WellFormed.{idsIn}

@@ -5,8 +5,9 @@ use mathlib.Core.Bool.{true}
 use mathlib.Core.Logic.{_⊎_, inl, inr}
 use native.Mathlib.Omega.{arith}
 use native.Mathlib.Decide.{decLt}
-use Rattle.base.specs.ListLaws.{Each}
-use Rattle.base.specs.Tests.{_=?_, pick, eq-fails, Known, holds, fails, known}
+use Rattle.base.specs.Lists.{Each}
+use Rattle.base.specs.Tests.{_=?_, pick}
+use Rattle.base.proofs.TestLaws.{eq-fails, Known, holds, fails, known}
 use Rattle.base.specs.Sets.{inSet}
 use Rattle.replication.specs.Machine.Types.{Construct, Un, Configuration, Server}
 use Rattle.replication.specs.Machine.Colours.{cut}

@@ -7,10 +7,11 @@ use mathlib.Core.Logic.{_⊎_, inl, inr}
 use native.Mathlib.Omega.{arith}
 use lib.ListN.{take}
 use Rattle.base.specs.Lists.{filter}
-use Rattle.base.specs.Members.{filter-has}
+use Rattle.base.proofs.Members.{filter-has}
 use Rattle.base.specs.Sets.{inSet}
-use Rattle.base.specs.SetLaws.{inside-member}
-use Rattle.base.specs.Tests.{_=?_, not-both, and-holds, both-yes, eq-yes, not-holds, Known, holds, fails, known}
+use Rattle.base.proofs.SetLaws.{inside-member}
+use Rattle.base.specs.Tests.{_=?_}
+use Rattle.base.proofs.TestLaws.{not-both, and-holds, both-yes, eq-yes, not-holds, Known, holds, fails, known}
 use Rattle.format.specs.Types.{Id, State}
 use Rattle.replication.specs.Machine.Types.{Configuration, Server}
 use Rattle.replication.specs.Machine.Exchange.{takenPrimary, updatedGroup, samePair, isValid, ruleA, ruleB, ruleC, commonYellow, judgedMark, keptMark, quorum}

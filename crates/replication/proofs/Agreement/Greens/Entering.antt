@@ -4,8 +4,8 @@ use mathlib.Core.Path.{_≡_, refl, sym, ap, subst, subst₂, _∙_}
 use mathlib.Core.Bool.{true}
 use mathlib.Core.List.{List, [], List·Memᴰ·head}
 use native.Mathlib.Omega.{arith}
-use Rattle.base.specs.ListLaws.{Each, each-implied, each-filter}
-use Rattle.base.specs.Lists.{all}
+use Rattle.base.specs.Lists.{Each, all}
+use Rattle.base.proofs.ListLaws.{each-implied, each-filter}
 use Rattle.base.specs.Tests.{_=?_, pick}
 use Rattle.format.specs.Types.{Id}
 use Rattle.format.specs.Range.{hasId}

@@ -6,9 +6,10 @@ use mathlib.Core.List.{List, [], _∷_, List·Memᴰ}
 use native.Mathlib.Omega.{arith}
 use lib.ListN.{length, take, length-map}
 use Rattle.base.specs.Lists.{filter}
-use Rattle.base.specs.Members.{filter-from}
+use Rattle.base.proofs.Members.{filter-from}
 use Rattle.base.specs.Sets.{inSet}
-use Rattle.base.specs.Tests.{pick, and-holds, eq-holds, eq-yes}
+use Rattle.base.specs.Tests.{pick}
+use Rattle.base.proofs.TestLaws.{and-holds, eq-holds, eq-yes}
 use Rattle.format.specs.Types.{Id, State}
 use Rattle.replication.specs.Machine.Types.{Configuration, Server, noYellow}
 use Rattle.replication.specs.Machine.Exchange.{takenPrimary, updatedGroup, samePair, isValid, commonYellow, takenYellow}

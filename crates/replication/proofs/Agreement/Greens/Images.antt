@@ -3,9 +3,10 @@ use Prim.Native.Nat.{ℕ, suc}
 use mathlib.Core.Path.{_≡_, sym, ap, subst, _∙_}
 use mathlib.Core.Bool.{true, false}
 use mathlib.Core.Option.{some}
-use Rattle.base.specs.Tests.{pick, not-both, Known, holds, fails, known}
+use Rattle.base.specs.Tests.{pick}
+use Rattle.base.proofs.TestLaws.{not-both, Known, holds, fails, known}
 use Rattle.base.specs.Lists.{at}
-use Rattle.base.specs.AtLaws.{some-same}
+use Rattle.base.proofs.AtLaws.{some-same}
 use Rattle.replication.specs.Machine.Types.{Server, Configuration}
 use Rattle.replication.specs.Machine.Requests.{recovered}
 use Rattle.replication.specs.Images.{isRecovery, savedIn}

@@ -3,8 +3,8 @@ use Prim.Native.Nat.{ℕ, zero, suc, _≤_, _<_}
 use mathlib.Core.Path.{_≡_, sym, ap, subst, _∙_}
 use mathlib.Core.List.{[]}
 use native.Mathlib.Omega.{arith}
-use Rattle.base.specs.Chains.{strong}
-use Rattle.base.specs.ListLaws.{Each}
+use Rattle.base.proofs.Chains.{strong}
+use Rattle.base.specs.Lists.{Each}
 use Rattle.replication.specs.Machine.Types.{Server, start, noYellow, clearedMark}
 use Rattle.replication.specs.Machine.Colours.{cut}
 use Rattle.replication.specs.Machine.WellFormed.{idsIn}

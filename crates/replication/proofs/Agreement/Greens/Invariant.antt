@@ -2,7 +2,7 @@
 use Prim.Native.Nat.{ℕ, suc, _≤_, _<_}
 use mathlib.Core.Path.{_≡_}
 use mathlib.Core.Bool.{true}
-use Rattle.base.specs.ListLaws.{Each}
+use Rattle.base.specs.Lists.{Each}
 use Rattle.base.specs.Sets.{inSet}
 use Rattle.replication.specs.Machine.Types.{Configuration, Server}
 use Rattle.replication.specs.Machine.Colours.{cut}

@@ -6,11 +6,12 @@ use mathlib.Core.List.{List, [], _∷_, List·Memᴰ, List·Memᴰ·head, List·
 use mathlib.Core.Logic.{_⊎_, inl, inr}
 use native.Mathlib.Omega.{arith}
 use Rattle.base.specs.Lists.{filter}
-use Rattle.base.specs.Members.{filter-from}
+use Rattle.base.proofs.Members.{filter-from}
 use Rattle.base.specs.Sets.{inSet, union, withMember}
-use Rattle.base.specs.SetLaws.{in-empty, in-union, in-with-member}
-use Rattle.base.specs.Tests.{_or_, _=?_, and-holds, eq-holds, not-both, Known, holds, fails}
-use Rattle.base.specs.Tests as T
+use Rattle.base.proofs.SetLaws.{in-empty, in-union, in-with-member}
+use Rattle.base.specs.Tests.{_or_, _=?_}
+use Rattle.base.proofs.TestLaws.{and-holds, eq-holds, not-both, Known, holds, fails}
+use Rattle.base.proofs.TestLaws as T
 use Rattle.format.specs.Types.{Mark, State}
 use Rattle.replication.specs.Machine.Types.{Configuration, Server, clearedMark}
 use Rattle.replication.specs.Machine.Exchange.{alike, isMarked, sameAttempt, joinBits, joinedBits, judgedMark, keptMark}

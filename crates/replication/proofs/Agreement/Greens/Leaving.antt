@@ -5,9 +5,9 @@ use mathlib.Core.Bool.{true}
 use mathlib.Core.List.{List, List·Memᴰ}
 use mathlib.Core.Option.{some}
 use native.Mathlib.Omega.{arith}
-use Rattle.base.specs.Chains.{strong}
-use Rattle.base.specs.AtLaws.{some-same}
-use Rattle.base.specs.Tests.{not-both, Known, holds, fails, known}
+use Rattle.base.proofs.Chains.{strong}
+use Rattle.base.proofs.AtLaws.{some-same}
+use Rattle.base.proofs.TestLaws.{not-both, Known, holds, fails, known}
 use Rattle.base.specs.Sets.{inSet}
 use Rattle.format.specs.Types.{Mark, Action, action, regular, request, recovery, State}
 use Rattle.replication.specs.Machine.Types.{Trans-prim, Configuration, Server, clearedMark, start}
@@ -17,7 +17,7 @@ use Rattle.replication.specs.Images.{started}
 use Rattle.replication.specs.Laws.Primary as Q
 use Rattle.replication.specs.Laws.Primary.{TransitionalStep}
 use Rattle.replication.specs.Runs.Run.{Run, placeAt, beginning}
-use Rattle.replication.specs.Runs.DeliveryFacts.{within}
+use Rattle.replication.proofs.Runs.DeliveryFacts.{within}
 use Rattle.replication.specs.Runs.Happenings.{Takes, Falls}
 use Rattle.replication.specs.Runs.Allowed.{Allowed}
 use Rattle.replication.proofs.Step.Primary.{transitional-step}

@@ -7,8 +7,8 @@ use mathlib.Core.Option.{some}
 use native.Mathlib.Omega.{arith}
 use native.Mathlib.Decide.{decLt}
 use lib.ListN.{length, getD}
-use Rattle.base.specs.AtLaws.{none-some}
-use Rattle.base.specs.Tests.{not-both}
+use Rattle.base.proofs.AtLaws.{none-some}
+use Rattle.base.proofs.TestLaws.{not-both}
 use Rattle.base.specs.Sets.{inSet}
 use Rattle.format.specs.Types.{Record, action, retransmission, state, cpc, regular, transitional, request, recovery, says}
 use Rattle.replication.specs.Machine.Types.{Mode, Non-prim, Reg-prim, Trans-prim, Exchange-states, Exchange-actions, Construct, No, Un, Configuration}

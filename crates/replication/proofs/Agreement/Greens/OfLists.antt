@@ -2,8 +2,8 @@
 use Prim.Native.Nat.{_≤_}
 use mathlib.Core.Path.{refl}
 use mathlib.Core.List.{List, _∷_, List·Memᴰ·head}
-use Rattle.base.specs.Comparable.{begins-member}
-use Rattle.base.specs.ListLaws.{Each}
+use Rattle.base.proofs.Comparable.{begins-member}
+use Rattle.base.specs.Lists.{Each}
 use Rattle.format.specs.Types.{Id}
 use Rattle.replication.specs.Machine.Types.{Server}
 use Rattle.replication.specs.Machine.Colours.{cut}

@@ -8,18 +8,18 @@ use mathlib.Core.Option.{some}
 use native.Mathlib.Omega.{arith}
 use native.Mathlib.Decide.{decLt}
 use lib.ListN.{length}
-use Rattle.base.specs.AtLaws.{some-same}
-use Rattle.base.specs.Comparable.{begins-map, comparable-map}
+use Rattle.base.proofs.AtLaws.{some-same}
+use Rattle.base.proofs.Comparable.{begins-map, comparable-map}
 use Rattle.base.specs.Lists.{Begins}
 use Rattle.base.specs.Sets.{inSet}
-use Rattle.base.specs.Tests.{not-both}
+use Rattle.base.proofs.TestLaws.{not-both}
 use Rattle.format.specs.Types.{Action}
 use Rattle.replication.specs.Machine.Types.{Mode, Reg-prim, Trans-prim, Un, Configuration}
 use Rattle.replication.specs.Machine.WellFormed.{idsIn}
 use Rattle.replication.specs.Laws.Folds.{entered}
 use Rattle.replication.specs.Laws.Order.{inExchange}
 use Rattle.replication.specs.Runs.Run.{Run, placeAt}
-use Rattle.replication.specs.Runs.DeliveryFacts.{withinRegular}
+use Rattle.replication.proofs.Runs.DeliveryFacts.{withinRegular}
 use Rattle.replication.specs.Runs.Happenings.{Takes}
 use Rattle.replication.specs.Runs.Allowed.{Allowed}
 use Rattle.replication.proofs.Runs.AllowedTurns.{memoryAt}

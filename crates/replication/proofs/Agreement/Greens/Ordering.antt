@@ -6,7 +6,8 @@ use mathlib.Core.List.{List, [], _∷_, List·Memᴰ}
 use mathlib.Core.Logic.{inr}
 use native.Mathlib.Omega.{arith}
 use lib.ListN.{take}
-use Rattle.base.specs.Tests.{_=?_, pick, eq-no}
+use Rattle.base.specs.Tests.{_=?_, pick}
+use Rattle.base.proofs.TestLaws.{eq-no}
 use Rattle.format.specs.Types.{Id, State}
 use Rattle.replication.specs.Machine.Types.{Trans-prim, Configuration, Server}
 use Rattle.replication.specs.Machine.Requests.{recovered}

@@ -7,14 +7,15 @@ use mathlib.Core.Option.{some}
 use native.Mathlib.Omega.{arith}
 use native.Mathlib.Decide.{decLt}
 use lib.ListN.{length, take}
-use Rattle.base.specs.Chains.{chain}
-use Rattle.base.specs.Tests.{pick, not-both, and-holds, both-yes, Known, holds, fails, known}
+use Rattle.base.proofs.Chains.{chain}
+use Rattle.base.specs.Tests.{pick}
+use Rattle.base.proofs.TestLaws.{not-both, and-holds, both-yes, Known, holds, fails, known}
 use Rattle.format.specs.Types.{Id}
 use Rattle.replication.specs.Machine.Types.{Configuration}
 use Rattle.replication.specs.Machine.WellFormed.{idsIn}
 use Rattle.replication.specs.Laws.Folds.{entered}
 use Rattle.replication.specs.Runs.Run.{Run, nowhere, placeAt}
-use Rattle.replication.specs.Runs.DeliveryFacts.{withinRegular}
+use Rattle.replication.proofs.Runs.DeliveryFacts.{withinRegular}
 use Rattle.replication.specs.Runs.Happenings.{Falls}
 use Rattle.replication.specs.Runs.Allowed.{Allowed}
 use Rattle.replication.proofs.Runs.AllowedTurns.{storeAt}

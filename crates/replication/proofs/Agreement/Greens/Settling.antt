@@ -6,8 +6,8 @@ use mathlib.Core.List.{List, [], _∷_}
 use native.Mathlib.Omega.{arith}
 use native.Mathlib.Decide.{decLt}
 use lib.ListN.{length}
-use Rattle.base.specs.Tests.{Known, holds, fails, known}
-use Rattle.base.specs.Chains.{chain}
+use Rattle.base.proofs.TestLaws.{Known, holds, fails, known}
+use Rattle.base.proofs.Chains.{chain}
 use Rattle.format.specs.Types.{Id}
 use Rattle.replication.specs.Machine.Types.{Configuration}
 use Rattle.replication.specs.Runs.Run.{Run}

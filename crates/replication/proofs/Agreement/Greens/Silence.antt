@@ -4,7 +4,7 @@ use mathlib.Core.Path.{_≡_, sym, ap, subst, _∙_}
 use mathlib.Core.Bool.{false}
 use mathlib.Core.Logic.{inl, inr}
 use native.Mathlib.Omega.{arith}
-use Rattle.base.specs.Tests.{not-both}
+use Rattle.base.proofs.TestLaws.{not-both}
 use Rattle.replication.specs.Machine.Types.{Configuration, Server, noYellow}
 use Rattle.replication.specs.Laws.Modes as M
 use Rattle.replication.specs.Laws.Modes.{Attained, ModeFacts, ModeFactsOf, ColourFactsOf, ColourFacts}

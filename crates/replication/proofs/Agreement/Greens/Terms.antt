@@ -13,7 +13,7 @@ use Rattle.replication.specs.Machine.WellFormed.{idsIn}
 use Rattle.replication.specs.Laws.Folds.{entered}
 use Rattle.replication.specs.Laws.Modes.{attempting}
 use Rattle.replication.specs.Runs.Run.{Run, placeAt}
-use Rattle.replication.specs.Runs.DeliveryFacts.{within, withinRegular}
+use Rattle.replication.proofs.Runs.DeliveryFacts.{within, withinRegular}
 use Rattle.replication.specs.Runs.Happenings.{Falls, Takes}
 use Rattle.replication.specs.Runs.Allowed.{Allowed}
 use Rattle.replication.proofs.Runs.Shifts.{Shift, to-regular, to-transitional, to-nowhere, stays, shift}

@@ -3,9 +3,10 @@ use mathlib.Core.Path.{_≡_, sym, ap, _∙_}
 use mathlib.Core.Bool.{true, false, not}
 use mathlib.Core.List.{List, [], List·Memᴰ}
 use mathlib.Core.Logic.{_⊎_, inl, inr}
-use Rattle.base.specs.Members.{any-from}
+use Rattle.base.proofs.Members.{any-from}
 use Rattle.base.specs.Sets.{inSet}
-use Rattle.base.specs.Tests.{_and_, _or_, _=?_, pick, not-both, and-holds, both-yes, eq-holds, eq-fails, eq-yes, Known, holds, fails, known}
+use Rattle.base.specs.Tests.{_and_, _or_, _=?_, pick}
+use Rattle.base.proofs.TestLaws.{not-both, and-holds, both-yes, eq-holds, eq-fails, eq-yes, Known, holds, fails, known}
 use Rattle.format.specs.Types.{Mark, State}
 use Rattle.replication.specs.Machine.Types.{Server}
 use Rattle.replication.specs.Machine.Exchange.{isMarked, sameAttempt, ruleB}

@@ -4,8 +4,8 @@ use mathlib.Core.Bool.{true}
 use mathlib.Core.List.{List, [], _∷_, List·Memᴰ, List·Memᴰ·head, List·Memᴰ·tail, List·Memᴰ·not-nil}
 use mathlib.Core.Logic.{_⊎_, inl, inr, ⊎-elim}
 use Rattle.base.specs.Lists.{all, filter, Begins}
-use Rattle.base.specs.Filters.{all-yes}
-use Rattle.base.specs.Comparable.{Comparable, begins-member}
+use Rattle.base.proofs.Filters.{all-yes}
+use Rattle.base.proofs.Comparable.{Comparable, begins-member}
 use Rattle.format.specs.Types.{Id, State}
 use Rattle.format.specs.Range.{hasId}
 use Rattle.replication.specs.Machine.Exchange.{commonYellow}

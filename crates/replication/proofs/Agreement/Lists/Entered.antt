@@ -6,9 +6,12 @@ use mathlib.Core.List.{List, [], _∷_, _++_}
 use native.Mathlib.Omega.{arith}
 use lib.ListN.{length, getD, set, replicate, length-set}
 use lib.Seq.{getD-set-same, getD-set-other}
-use Rattle.base.specs.Tests.{_=?_, pick, eq-yes, eq-holds, eq-fails, Known, holds, fails, known}
-use Rattle.base.specs.ListLaws.{Each, each-map, replicate-at}
-use Rattle.base.specs.Counts.{one, count, one-yes, one-no}
+use Rattle.base.specs.Tests.{_=?_, pick}
+use Rattle.base.proofs.TestLaws.{eq-yes, eq-holds, eq-fails, Known, holds, fails, known}
+use Rattle.base.specs.Lists.{Each}
+use Rattle.base.proofs.ListLaws.{each-map, replicate-at}
+use Rattle.base.specs.Counts.{one, count}
+use Rattle.base.proofs.CountLaws.{one-yes, one-no}
 use Rattle.format.specs.Types.{Id, Action}
 use Rattle.replication.specs.Machine.WellFormed.{idsIn}
 use Rattle.replication.specs.Laws.Folds.{follows, cutsWith, cutsAfter, entered}

@@ -4,10 +4,11 @@ use mathlib.Core.Path.{_≡_, refl, sym, ap, subst}
 use mathlib.Core.List.{List, [], _∷_, _++_, List·Memᴰ, List·Memᴰ·head, List·Memᴰ·tail}
 use native.Mathlib.Omega.{arith}
 use native.Mathlib.Decide.{ℕ-discrete, decLe}
-use Rattle.base.specs.Tests.{_=?_, eq-yes, eq-holds, Known, holds, fails, known}
-use Rattle.base.specs.Lists.{Begins}
-use Rattle.base.specs.ListLaws.{Each}
-use Rattle.base.specs.Counts.{one, count, one-yes, one-no}
+use Rattle.base.specs.Tests.{_=?_}
+use Rattle.base.proofs.TestLaws.{eq-yes, eq-holds, Known, holds, fails, known}
+use Rattle.base.specs.Lists.{Begins, Each}
+use Rattle.base.specs.Counts.{one, count}
+use Rattle.base.proofs.CountLaws.{one-yes, one-no}
 use Rattle.format.specs.Types.{Id}
 use Rattle.format.specs.Range.{sameId}
 use Rattle.replication.specs.Machine.WellFormedRanges.{idCount}

@@ -6,10 +6,11 @@ use mathlib.Core.Bool.{Bool, true}
 use mathlib.Core.List.{List, [], _∷_, List·Memᴰ, List·Memᴰ·head, List·Memᴰ·tail}
 use mathlib.Core.Logic.{_⊎_, inl, inr, ⊎-elim}
 use native.Mathlib.Omega.{arith}
-use Rattle.base.specs.Tests.{pick, not-both, Known, holds, fails, known}
+use Rattle.base.specs.Tests.{pick}
+use Rattle.base.proofs.TestLaws.{not-both, Known, holds, fails, known}
 use Rattle.base.specs.Lists.{all, filter, Begins}
-use Rattle.base.specs.Filters.{filter-all, all-yes, all-member}
-use Rattle.base.specs.Comparable.{begins-member}
+use Rattle.base.proofs.Filters.{filter-all, all-yes, all-member}
+use Rattle.base.proofs.Comparable.{begins-member}
 use Rattle.format.specs.Types.{Id, State}
 use Rattle.format.specs.Range.{hasId}
 use Rattle.replication.specs.Machine.Types.{noYellow}

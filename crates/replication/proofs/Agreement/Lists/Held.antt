@@ -6,10 +6,11 @@ use mathlib.Core.List.{List, [], _∷_, _++_, map-append, List·Memᴰ}
 use native.Mathlib.Omega.{arith}
 use native.Mathlib.Decide.{decLe}
 use lib.ListN.{getD}
-use Rattle.base.specs.Tests.{_and_, _≤?_, pick, not-both, and-holds, both-yes, le-yes, le-holds, Known, holds, fails, known}
-use Rattle.base.specs.Lists.{filter}
-use Rattle.base.specs.ListLaws.{Each, each-append, each-map, each-implied}
-use Rattle.base.specs.Counts.{count-map, one-yes}
+use Rattle.base.specs.Tests.{_and_, _≤?_, pick}
+use Rattle.base.proofs.TestLaws.{not-both, and-holds, both-yes, le-yes, le-holds, Known, holds, fails, known}
+use Rattle.base.specs.Lists.{filter, Each}
+use Rattle.base.proofs.ListLaws.{each-append, each-map, each-implied}
+use Rattle.base.proofs.CountLaws.{count-map, one-yes}
 use Rattle.format.specs.Types.{Id, Action}
 use Rattle.format.specs.Range.{sameId}
 use Rattle.replication.specs.Machine.Types.{Log, Server}

@@ -9,8 +9,8 @@ use native.Mathlib.Decide.{ℕ-discrete, decLe}
 use lib.ListN.{getD}
 use Rattle.base.specs.Lists.{filter, after, above, Begins}
 use Rattle.base.specs.Counts.{count}
-use Rattle.base.specs.Filters.{filter-all}
-use Rattle.base.specs.Comparable.{begins-member}
+use Rattle.base.proofs.Filters.{filter-all}
+use Rattle.base.proofs.Comparable.{begins-member}
 use Rattle.format.specs.Types.{Id, Action}
 use Rattle.format.specs.Range.{hasId}
 use Rattle.replication.specs.Machine.Types.{Log}

@@ -7,8 +7,9 @@ use native.Mathlib.Omega.{arith}
 use native.Mathlib.Decide.{decLe}
 use lib.ListN.{length, getD}
 use lib.Seq.{getD-set-other}
-use Rattle.base.specs.Tests.{pick, pick-yes, pick-no, both-yes, and-no, eq-yes, eq-no, eq-fails, le-yes, le-no}
-use Rattle.base.specs.Counts.{one-yes}
+use Rattle.base.specs.Tests.{pick}
+use Rattle.base.proofs.TestLaws.{pick-yes, pick-no, both-yes, and-no, eq-yes, eq-no, eq-fails, le-yes, le-no}
+use Rattle.base.proofs.CountLaws.{one-yes}
 use Rattle.format.specs.Types.{Id, Action}
 use Rattle.replication.specs.Machine.Types.{Log}
 use Rattle.replication.specs.Machine.Colours.{cut, nextIndex, isNext, enter, red, green, addId}

@@ -5,12 +5,14 @@ use mathlib.Core.Bool.{Bool, true, false, not}
 use mathlib.Core.List.{List, [], _∷_, _++_, append-nil, append-assoc, List·Memᴰ, List·Memᴰ·head, List·Memᴰ·tail, List·Memᴰ·append-cases, List·Memᴰ·eq-of-singleton, Memᴰ·append-left, Memᴰ·append-right}
 use mathlib.Core.Logic.{_⊎_, inl, inr, ⊎-elim}
 use native.Mathlib.Omega.{arith}
-use Rattle.base.specs.Tests.{_or_, pick, not-both, Known, holds, fails, known}
+use Rattle.base.specs.Tests.{_or_, pick}
+use Rattle.base.proofs.TestLaws.{not-both, Known, holds, fails, known}
 use Rattle.base.specs.Lists.{filter, Begins}
-use Rattle.base.specs.Counts.{one, count, count-append, count-single, one-yes}
-use Rattle.base.specs.Filters.{filter-same, filter-all}
-use Rattle.base.specs.Prefixes.{begins-refl, begins-append, begins-trans}
-use Rattle.base.specs.Comparable.{Comparable, begins-antisym, begins-member, beginnings-comparable, comparable-next, next-member}
+use Rattle.base.specs.Counts.{one, count}
+use Rattle.base.proofs.CountLaws.{count-append, count-single, one-yes}
+use Rattle.base.proofs.Filters.{filter-same, filter-all}
+use Rattle.base.proofs.Prefixes.{begins-refl, begins-append, begins-trans}
+use Rattle.base.proofs.Comparable.{Comparable, begins-antisym, begins-member, beginnings-comparable, comparable-next, next-member}
 use Rattle.format.specs.Types.{Id}
 use Rattle.format.specs.Range.{sameId, hasId}
 use Rattle.replication.specs.Machine.Colours.{addId}

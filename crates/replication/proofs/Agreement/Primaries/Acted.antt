@@ -8,19 +8,20 @@ use mathlib.Core.Option.{Option, none, some}
 use native.Mathlib.Omega.{arith}
 use native.Mathlib.Decide.{decLt}
 use lib.ListN.{length}
-use Rattle.base.specs.AtLaws.{at-low}
-use Rattle.base.specs.Chains.{chain}
-use Rattle.base.specs.Comparable.{Comparable, begins-map, gather-append, begins-gather}
-use Rattle.base.specs.ListLaws.{Each, each-append}
-use Rattle.base.specs.Lists.{atFront, gather, Begins}
-use Rattle.base.specs.Prefixes.{begins-refl, begins-same, begins-append, begins-trans}
-use Rattle.base.specs.Tests.{pick, not-both, Known, holds, fails, known}
+use Rattle.base.proofs.AtLaws.{at-low}
+use Rattle.base.proofs.Chains.{chain}
+use Rattle.base.proofs.Comparable.{Comparable, begins-map, gather-append, begins-gather}
+use Rattle.base.specs.Lists.{Each, atFront, gather, Begins}
+use Rattle.base.proofs.ListLaws.{each-append}
+use Rattle.base.proofs.Prefixes.{begins-refl, begins-same, begins-append, begins-trans}
+use Rattle.base.specs.Tests.{pick}
+use Rattle.base.proofs.TestLaws.{not-both, Known, holds, fails, known}
 use Rattle.format.specs.Types.{Action, Record, action, retransmission, state, cpc, regular, transitional, request, recovery}
 use Rattle.replication.specs.Machine.Types.{Configuration}
 use Rattle.replication.specs.Runs.Run.{Run, Place, placeAt}
 use Rattle.replication.specs.Runs.Happenings.{isMessage, Comes, Left}
 use Rattle.replication.specs.Runs.Allowed.{Allowed}
-use Rattle.replication.specs.Runs.DeliveryFacts.{within, withinRegular, actionIn, recordOf, deliversAt, deliveryPlaces, delivered, deliveredRecords, deliveredActions}
+use Rattle.replication.proofs.Runs.DeliveryFacts.{within, withinRegular, actionIn, recordOf, deliversAt, deliveryPlaces, delivered, deliveredRecords, deliveredActions}
 use Rattle.replication.proofs.Runs.Agreement.{regular-agreement, left-agreement, regular-begins-com}
 use Rattle.replication.proofs.Runs.Deliveries.{Delivery}
 use Rattle.replication.proofs.Runs.DeliveryLists.{delivers-holds, delivers-yes, delivered-more, delivered-same}

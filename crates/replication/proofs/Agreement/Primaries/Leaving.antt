@@ -8,9 +8,10 @@ use mathlib.Core.Logic.{_⊎_, inl, inr}
 use native.Mathlib.Omega.{arith}
 use native.Mathlib.Decide.{decLt}
 use lib.ListN.{length}
-use Rattle.base.specs.Comparable.{Comparable, begins-behind, begins-map}
+use Rattle.base.proofs.Comparable.{Comparable, begins-behind, begins-map}
 use Rattle.base.specs.Lists.{Begins}
-use Rattle.base.specs.Tests.{pick, not-both}
+use Rattle.base.specs.Tests.{pick}
+use Rattle.base.proofs.TestLaws.{not-both}
 use Rattle.format.specs.Types.{Action, action, regular}
 use Rattle.replication.specs.Machine.Types.{Mode, Trans-prim, Un, Configuration, Membership}
 use Rattle.replication.specs.Machine.WellFormed.{idsIn}
@@ -19,7 +20,7 @@ use Rattle.replication.specs.Laws.Order.{SameControl}
 use Rattle.replication.specs.Runs.Run.{Run, placeAt}
 use Rattle.replication.specs.Runs.Happenings.{isMessage, Comes, Falls, Takes, Left}
 use Rattle.replication.specs.Runs.Allowed.{Allowed}
-use Rattle.replication.specs.Runs.DeliveryFacts.{within, withinRegular}
+use Rattle.replication.proofs.Runs.DeliveryFacts.{within, withinRegular}
 use Rattle.replication.proofs.Step.Folds.{entered-append}
 use Rattle.replication.proofs.Runs.AllowedTurns.{memoryAt, storeAt, Acts}
 use Rattle.replication.proofs.Runs.ControlPart.{control-next, store-below, store-grows-between}

@@ -6,7 +6,8 @@ use mathlib.Core.Bool.{Bool, true}
 use mathlib.Core.List.{List, _++_}
 use native.Mathlib.Omega.{arith}
 use lib.ListN.{length, getD}
-use Rattle.base.specs.Counts.{count, count-append}
+use Rattle.base.specs.Counts.{count}
+use Rattle.base.proofs.CountLaws.{count-append}
 use Rattle.format.specs.Types.{Id}
 use Rattle.format.specs.Range.{sameId}
 use Rattle.replication.specs.Machine.Types.{Trans-prim, Configuration}
@@ -17,7 +18,7 @@ use Rattle.replication.specs.Machine.WellFormedFacts.{WellFormed}
 use Rattle.replication.specs.Laws.Folds.{entered}
 use Rattle.replication.specs.Runs.Run.{Run, Place, placeAt}
 use Rattle.replication.specs.Runs.Allowed.{Allowed}
-use Rattle.replication.specs.Runs.DeliveryFacts.{within, withinRegular}
+use Rattle.replication.proofs.Runs.DeliveryFacts.{within, withinRegular}
 use Rattle.replication.proofs.Step.ModeColours.{install-no-red}
 use Rattle.replication.proofs.WellFormed.Ids.{has-counted}
 use Rattle.replication.proofs.Runs.AllowedTurns.{memoryAt}

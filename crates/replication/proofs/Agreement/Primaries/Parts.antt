@@ -3,7 +3,7 @@ use Prim.Native.Nat.{ℕ, _<_}
 use mathlib.Core.Path.{_≡_, sym, ap, subst, _∙_}
 use mathlib.Core.List.{List, [], _++_, map-append, append-nil, append-assoc}
 use lib.ListN.{length}
-use Rattle.base.specs.ListLaws.{Each}
+use Rattle.base.specs.Lists.{Each}
 use Rattle.format.specs.Types.{Action}
 use Rattle.replication.specs.Machine.Types.{Reg-prim, Trans-prim, Server, noYellow}
 use Rattle.replication.specs.Machine.WellFormed.{idsIn}

@@ -5,9 +5,9 @@ use mathlib.Core.Bool.{Bool, true}
 use mathlib.Core.List.{[], _∷_, _++_, append-nil}
 use mathlib.Core.Option.{none, some}
 use native.Mathlib.Omega.{arith}
-use Rattle.base.specs.AtLaws.{some-same}
+use Rattle.base.proofs.AtLaws.{some-same}
 use Rattle.base.specs.Lists.{Begins}
-use Rattle.base.specs.Tests.{not-both}
+use Rattle.base.proofs.TestLaws.{not-both}
 use Rattle.format.specs.Types.{Action, action, cpc}
 use Rattle.replication.specs.Machine.Types.{Trans-prim, Un, Configuration, Server}
 use Rattle.replication.specs.Machine.Rules.{ruleFor, onAction, onCpc}
@@ -18,7 +18,7 @@ use Rattle.replication.specs.Laws.Primary.{RegularStep, TransitionalStep
 use Rattle.replication.specs.Runs.Run.{Run, Place, placeAt, heardAt}
 use Rattle.replication.specs.Runs.Happenings.{isMessage, Comes, Falls, by-crash, by-recovery, Takes}
 use Rattle.replication.specs.Runs.Allowed.{Allowed}
-use Rattle.replication.specs.Runs.DeliveryFacts.{within, withinRegular}
+use Rattle.replication.proofs.Runs.DeliveryFacts.{within, withinRegular}
 use Rattle.replication.proofs.Step.Primary.{regular-step, transitional-step}
 use Rattle.replication.proofs.Runs.AllowedTurns.{memoryAt, Acts, Refuses, AllowedTurn, rests, crashes, saves, refuses, recovers, acts, allowed-turn}
 use Rattle.replication.proofs.Runs.DeliveryLists.{within-holds, within-yes, within-regular-yes}

@@ -7,8 +7,8 @@ use mathlib.Core.Logic.{inl, inr}
 use mathlib.Core.Option.{some}
 use native.Mathlib.Omega.{arith}
 use lib.ListN.{length}
-use Rattle.base.specs.AtLaws.{none-some}
-use Rattle.base.specs.Comparable.{begins-empty}
+use Rattle.base.proofs.AtLaws.{none-some}
+use Rattle.base.proofs.Comparable.{begins-empty}
 use Rattle.base.specs.Lists.{Begins}
 use Rattle.format.specs.Types.{Action, action}
 use Rattle.replication.specs.Machine.Types.{Non-prim, Reg-prim, Exchange-states, Configuration}
@@ -17,7 +17,7 @@ use Rattle.replication.specs.Laws.Modes.{ColourFactsOf}
 use Rattle.replication.specs.Runs.Run.{Run, worldAt, placeAt}
 use Rattle.replication.specs.Runs.Happenings.{isMessage, Comes}
 use Rattle.replication.specs.Runs.Allowed.{Allowed}
-use Rattle.replication.specs.Runs.DeliveryFacts.{within, withinRegular}
+use Rattle.replication.proofs.Runs.DeliveryFacts.{within, withinRegular}
 use Rattle.replication.proofs.WellFormed.Runs.{colour-facts}
 use Rattle.replication.proofs.Runs.AllowedTurns.{memoryAt}
 use Rattle.replication.proofs.Runs.DeliveryLists.{within-regular-holds}

@@ -5,11 +5,11 @@ use mathlib.Core.Bool.{true}
 use mathlib.Core.List.{List·Memᴰ}
 use mathlib.Core.Option.{none, some}
 use lib.ListN.{getD}
-use Rattle.base.specs.Tests.{lt-holds, and-holds, Known, holds, fails, known}
-use Rattle.base.specs.AtLaws.{none-some, some-same}
-use Rattle.base.specs.Members.{present-has, present-from}
+use Rattle.base.proofs.TestLaws.{lt-holds, and-holds, Known, holds, fails, known}
+use Rattle.base.proofs.AtLaws.{none-some, some-same}
+use Rattle.base.proofs.Members.{present-has, present-from}
 use Rattle.base.specs.Sets.{inSet}
-use Rattle.base.specs.SetLaws.{member-below}
+use Rattle.base.proofs.SetLaws.{member-below}
 use Rattle.format.specs.Types.{State}
 use Rattle.format.specs.Range.{recordOk, fieldsOk, ownSetOk, setOk}
 use Rattle.format.proofs.Reading.{read-in-range}

@@ -6,7 +6,7 @@ use mathlib.Core.Logic.{_⊎_, inl, inr}
 use mathlib.Core.Option.{some}
 use native.Mathlib.Omega.{arith}
 use native.Mathlib.Decide.{decLt}
-use Rattle.base.specs.Tests.{not-both}
+use Rattle.base.proofs.TestLaws.{not-both}
 use Rattle.format.specs.Types.{regular}
 use Rattle.replication.specs.Machine.Types.{Reg-prim, Trans-prim, Configuration}
 use Rattle.replication.specs.Machine.Step.{collected, installsBy}

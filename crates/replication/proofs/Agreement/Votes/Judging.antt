@@ -4,11 +4,12 @@ use mathlib.Core.Path.{_≡_, refl, sym, ap, _∙_}
 use mathlib.Core.Bool.{true, false, not}
 use mathlib.Core.List.{List, [], _∷_, List·Memᴰ, List·Memᴰ·head, List·Memᴰ·tail, List·Memᴰ·not-nil}
 use mathlib.Core.Logic.{_⊎_, inl, inr}
-use Rattle.base.specs.Tests.{_and_, _or_, _=?_, pick, not-both, eq-yes, eq-no, eq-holds, eq-fails, lt-no, and-holds, not-holds, Known, holds, fails, known}
+use Rattle.base.specs.Tests.{_and_, _or_, _=?_, pick}
+use Rattle.base.proofs.TestLaws.{not-both, eq-yes, eq-no, eq-holds, eq-fails, lt-no, and-holds, not-holds, Known, holds, fails, known}
 use Rattle.base.specs.Lists.{filter}
-use Rattle.base.specs.Members.{filter-from, any-yes, any-no}
+use Rattle.base.proofs.Members.{filter-from, any-yes, any-no}
 use Rattle.base.specs.Sets.{inSet, inside, union}
-use Rattle.base.specs.SetLaws.{in-union, in-with-member, inside-member}
+use Rattle.base.proofs.SetLaws.{in-union, in-with-member, inside-member}
 use Rattle.format.specs.Types.{Primary, Mark, State}
 use Rattle.replication.specs.Machine.Types.{clearedMark}
 use Rattle.replication.specs.Machine.Exchange.{later, latest, takenPrimary, isMarked, sameAttempt, ruleA, ruleB, alike, joinBits, joinedBits, ruleC, keptMark, judgedMark, markLeft, ownMark, majority, quorum}

@@ -7,10 +7,10 @@ use mathlib.Core.Logic.{_⊎_, inl, inr}
 use mathlib.Core.Option.{some}
 use native.Mathlib.Omega.{arith}
 use native.Mathlib.Decide.{decLt}
-use Rattle.base.specs.Chains.{strong}
-use Rattle.base.specs.Tests.{not-both}
+use Rattle.base.proofs.Chains.{strong}
+use Rattle.base.proofs.TestLaws.{not-both}
 use Rattle.base.specs.Sets.{inSet}
-use Rattle.base.specs.SetLaws.{in-empty}
+use Rattle.base.proofs.SetLaws.{in-empty}
 use Rattle.format.specs.Types.{State}
 use Rattle.replication.specs.Machine.Types.{Trans-prim, No, Configuration, Server}
 use Rattle.replication.specs.Machine.Exchange.{takenPrimary, takenAttempt, judgedMark, keptMark}

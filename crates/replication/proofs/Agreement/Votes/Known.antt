@@ -3,7 +3,7 @@ use Prim.Native.Nat.{ℕ, zero, suc, _≤_, _<_}
 use mathlib.Core.Path.{_≡_, sym, ap, subst, _∙_}
 use native.Mathlib.Omega.{arith}
 use native.Mathlib.Decide.{decLt}
-use Rattle.base.specs.Chains.{strong}
+use Rattle.base.proofs.Chains.{strong}
 use Rattle.base.specs.Sets.{everyone}
 use Rattle.format.specs.Types.{Primary, State}
 use Rattle.replication.specs.Machine.Types.{Configuration, Server, start}

@@ -3,8 +3,8 @@ use Prim.Native.Nat.{ℕ, zero, suc, _+_, _≤_, _<_}
 use mathlib.Core.Path.{_≡_, refl, sym, ap, _∙_}
 use mathlib.Core.List.{List}
 use native.Mathlib.Omega.{arith}
-use Rattle.base.specs.Chains.{strong}
-use Rattle.base.specs.Tests.{not-both}
+use Rattle.base.proofs.Chains.{strong}
+use Rattle.base.proofs.TestLaws.{not-both}
 use Rattle.format.specs.Types.{Primary, Mark, State}
 use Rattle.replication.specs.Machine.Types.{Votes, Configuration, start, clearedMark}
 use Rattle.replication.specs.Machine.Exchange.{takenPrimary, takenAttempt, takenVotes, attempted, ownMark, judgedMark, keptMark}

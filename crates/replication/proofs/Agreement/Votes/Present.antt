@@ -6,7 +6,7 @@ use mathlib.Core.Bool.{true, false}
 use mathlib.Core.List.{List, List·Memᴰ}
 use native.Mathlib.Omega.{arith}
 use Rattle.base.specs.Sets.{inSet}
-use Rattle.base.specs.SetLaws.{member-below}
+use Rattle.base.proofs.SetLaws.{member-below}
 use Rattle.format.specs.Types.{Primary, Mark, State}
 use Rattle.replication.specs.Machine.Types.{Configuration}
 use Rattle.replication.specs.Machine.Exchange.{takenPrimary, judgedMark, keptMark, joinedBits}

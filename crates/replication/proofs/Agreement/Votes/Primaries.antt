@@ -6,9 +6,9 @@ use mathlib.Core.List.{List}
 use mathlib.Core.Logic.{_⊎_, inl, inr}
 use mathlib.Core.Option.{some}
 use native.Mathlib.Omega.{arith}
-use Rattle.base.specs.Tests.{not-both}
+use Rattle.base.proofs.TestLaws.{not-both}
 use Rattle.base.specs.Lists.{at}
-use Rattle.base.specs.AtLaws.{some-same}
+use Rattle.base.proofs.AtLaws.{some-same}
 use Rattle.format.specs.Types.{Action, Primary, recovery, says}
 use Rattle.replication.specs.Machine.Types.{Configuration, Server, Outcome, taken}
 use Rattle.replication.specs.Machine.Rules.{ruleFor}

@@ -3,9 +3,9 @@ use Prim.Native.Nat.{ℕ, _^_, _*_, _<_}
 use mathlib.Core.Path.{_≡_, sym, subst}
 use mathlib.Core.Bool.{true}
 use mathlib.Core.List.{List}
-use Rattle.base.specs.Tests.{and-holds, lt-holds}
+use Rattle.base.proofs.TestLaws.{and-holds, lt-holds}
 use Rattle.base.specs.Sets.{inSet, size, common}
-use Rattle.base.specs.Quorums.{majorities-meet}
+use Rattle.base.proofs.Quorums.{majorities-meet}
 use Rattle.format.specs.Types.{State}
 use Rattle.replication.specs.Machine.Exchange.{takenPrimary, majority, quorum}
 

@@ -1,6 +1,6 @@
-use Rattle.base.specs.Branches.{told}
+use Rattle.base.proofs.Branches.{told}
 use Rattle.buffers.specs.Buffers.{isRecovery}
-use Rattle.base.specs.Tests.{tests}
+use Rattle.base.proofs.TestLaws.{tests}
 use borrow.Author.Needs.{needs}
 use Rattle.servers.proofs.stepping.is_recovery.Statement.{statement}
 use Rattle.servers.proofs.stepping.is_recovery.Tie as tie

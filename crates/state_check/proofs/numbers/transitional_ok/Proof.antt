@@ -1,5 +1,5 @@
-use Rattle.base.specs.Tests.{tests, choices}
-use Rattle.base.specs.Branches.{answers, told}
+use Rattle.base.proofs.TestLaws.{tests, choices}
+use Rattle.base.proofs.Branches.{answers, told}
 use Rattle.record.specs.Context.{contextOf}
 use Rattle.state_check.specs.Numbers.{transitionalOk}
 use borrow.Author.Needs.{needs}

@@ -3,7 +3,8 @@ use mathlib.Core.Path.{_≡_}
 use native.Mathlib.Omega.{arith}
 use lib.ListN.{length}
 use borrow.Author.Needs.{needs}
-use Rattle.base.specs.Entries.{everyAt, every-again, every-denied, every-end}
+use Rattle.base.specs.Lists.{everyAt}
+use Rattle.base.proofs.Entries.{every-again, every-denied, every-end}
 use Rattle.record.specs.Context.{contextOf}
 use Rattle.state_check.specs.Slots.{notedAt, notedFit}
 use Rattle.state_check.proofs.slots.noted_fit.Statement.{statement}

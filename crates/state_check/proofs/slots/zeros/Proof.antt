@@ -3,7 +3,8 @@ use mathlib.Core.Path.{_≡_}
 use native.Mathlib.Omega.{arith}
 use lib.ListN.{length}
 use borrow.Author.Needs.{needs}
-use Rattle.base.specs.Entries.{everyAt, every-end}
+use Rattle.base.specs.Lists.{everyAt}
+use Rattle.base.proofs.Entries.{every-end}
 use Rattle.state_check.specs.Slots.{zeroAt}
 use Rattle.state_check.proofs.SlotCode.{zeros-again, zeros-denied}
 use Rattle.state_check.proofs.slots.zeros.Statement.{statement}

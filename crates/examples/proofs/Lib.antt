@@ -1,0 +1,16 @@
+pub mod Rows
+pub mod Worked
+pub mod Records
+pub mod Shown
+pub mod Merge
+pub mod LateInstall
+pub mod Stores
+pub mod OutsidersMark
+pub mod CommonMark
+pub mod RefusedRules
+pub mod RefusedDeliveries
+pub mod RefusedOrders
+pub mod CrossedConfigurations
+pub mod UnsafeInstall
+pub mod PartitionWitness
+pub mod Partition

@@ -1,0 +1,1 @@
+// Recorded runs: the worked example, a run through all eight states, runs that the audit accepts and refuses. No code.

@@ -1,0 +1,43 @@
+-- What each rule may rely on: the record was in range, the state takes it by this rule, and rows 5, 6, 3 and 4 do not apply.
+-- Assumes nothing.
+use Prim.Native.Nat.{ℕ, _≤_, _<_}
+use mathlib.Core.Path.{_≡_}
+use mathlib.Core.Bool.{true}
+use Rattle.format.specs.Types.{Action, State}
+use Rattle.replication.specs.Machine.Types.{Reg-prim, Trans-prim, Exchange-states, Exchange-actions, Construct, No, Un, Server}
+use Rattle.replication.specs.Machine.Requests.{quotaLeft, roomToHold}
+use Rattle.replication.specs.Machine.Rules.{Rule, ignoring, reddening, greening, yellowing, lateInstalling, exchanging, collectingState, collectingCpc, collectingLateCpc, joining, joiningUnmarked, joiningYellow, leaving, requesting, recovering, memberOf, isOf}
+use Rattle.replication.specs.Machine.WellFormedRanges.{PayloadFits, ActionFits, StateFits, ConfigurationFits, TransitionalFits}
+use Rattle.replication.specs.Laws.Transitions.{Leads}
+
+-- An own action is among those numbered.
+abbrev pub Numbered : (me k : ℕ) → Action → Type 0
+Numbered me k a = a .id .creator ≡ me → a .id .index ≤ k
+
+-- An action that was delivered, or resent: in range, and numbered already if it is the server's own.
+pub record Delivered (s : Server) (a : Action) : Type 0 where
+  pub fits : ActionFits (s .servers) (s .quota) a
+  pub own : Numbered (s .me) (s .log .numbered) a
+
+-- A State that row 6 does not refuse.
+pub record StateCame (s : Server) (x : State) : Type 0 where
+  pub fits : StateFits (s .servers) (s .quota) x
+  pub member : memberOf (s .membership .configuration) (x .sender) ≡ true
+  pub configuration : isOf (s .membership .configuration) (x .configuration) ≡ true
+
+abbrev pub RuleFits : Rule → Server → Type 0
+RuleFits ignoring s = Unit {0}
+RuleFits (reddening a) s = Delivered s a
+RuleFits (greening a) s = Delivered s a × (s .membership .mode ≡ Reg-prim)
+RuleFits (yellowing a) s = Delivered s a × (s .membership .mode ≡ Trans-prim)
+RuleFits (lateInstalling a) s = Delivered s a × (s .membership .mode ≡ Un)
+RuleFits (exchanging p a) s = Delivered s a × (s .membership .mode ≡ Exchange-actions)
+RuleFits (collectingState x) s = StateCame s x × (s .membership .mode ≡ Exchange-states)
+RuleFits (collectingCpc k) s = (k < s .servers) × (s .membership .mode ≡ Construct)
+RuleFits (collectingLateCpc k) s = (k < s .servers) × (s .membership .mode ≡ No)
+RuleFits (joining c) s = ConfigurationFits (s .servers) (s .me) c
+RuleFits (joiningUnmarked c) s = ConfigurationFits (s .servers) (s .me) c
+RuleFits (joiningYellow c) s = ConfigurationFits (s .servers) (s .me) c
+RuleFits (leaving m t) s = TransitionalFits (s .servers) (s .me) (s .membership .configuration) t × Leads (s .membership .mode) m
+RuleFits (requesting p) s = PayloadFits p × (quotaLeft s ≡ true) × (roomToHold s ≡ true)
+RuleFits recovering s = Unit {0}
