@@ -30,7 +30,7 @@ use Rattle.engine.proofs.Again.{parts-again}
 use Rattle.engine.specs.Holding.{Holds, HoldsSome}
 use Rattle.engine.proofs.InPlace.{holds-section, such-decoded, holds-decoded, image-holds, holds-some}
 use Rattle.queue.proofs.Holding.{log-formed, log-fits}
-use Rattle.lists.proofs.MembershipLaws.{Saved}
+use Rattle.updates.proofs.MembershipLaws.{Saved}
 use Rattle.install.specs.Swaps.{greenSwaps}
 use Rattle.install.specs.Table.{logIn, yellowsIn, Turned}
 use Rattle.install.proofs.SwapFits.{swaps-kept, swaps-append}

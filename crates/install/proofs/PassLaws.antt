@@ -25,8 +25,8 @@ use Rattle.engine.specs.Layout.{theYellow, offset, headerSize, atServers, atYel
 use Rattle.engine.specs.Decode.{decoded}
 use Rattle.queue.proofs.Holding.{numbers}
 use Rattle.queue.proofs.RedLaws.{cut-read}
-use Rattle.lists.specs.Lists.{yellowCount, place}
-use Rattle.lists.proofs.Counts.{holds-ids, holds-place, holds-yellow-count}
+use Rattle.updates.specs.Lists.{yellowCount, place}
+use Rattle.updates.proofs.Counts.{holds-ids, holds-place, holds-yellow-count}
 use Rattle.engine.specs.Holding.{HoldsSome}
 use Rattle.engine.proofs.InPlace.{such-decoded}
 use Rattle.install.specs.Table.{logIn, yellowsIn, idsOf, InTable, Indexed, Turned}

@@ -30,7 +30,7 @@ use Rattle.engine.specs.Holding.{Holds, HoldsSome}
 use Rattle.engine.proofs.InPlace.{such-decoded, such-header}
 use Rattle.queue.specs.Queue.{queueCount, greenCount, queueAt, CountsIn}
 use Rattle.queue.proofs.Holding.{numbers, log-fits, queue-parts, holds-counts}
-use Rattle.lists.proofs.Counts.{holds-counts as holds-lists}
+use Rattle.updates.proofs.Counts.{holds-counts as holds-lists}
 use Rattle.queue.proofs.ReadLaws.{queue-read, actions-at}
 use Rattle.install.specs.Table.{logIn, InTable, Indexed}
 use Rattle.install.proofs.Places.{same-place}

@@ -23,7 +23,7 @@ use Rattle.engine.specs.Holding.{Holds, HoldsSome}
 use Rattle.engine.proofs.InPlace.{such-decoded, holds-decoded, image-holds, holds-some}
 use Rattle.queue.proofs.Holding.{log-formed, log-fits, holds-counts}
 use Rattle.queue.proofs.GreenLaws.{log-image-over}
-use Rattle.lists.proofs.Counts.{holds-counts as holds-lists}
+use Rattle.updates.proofs.Counts.{holds-counts as holds-lists}
 use Rattle.install.specs.Swaps.{greenSwaps}
 use Rattle.install.specs.Table.{logIn, Indexed, Turned}
 use Rattle.install.proofs.SwapFits.{swaps-kept, swaps-fits, swaps-append}

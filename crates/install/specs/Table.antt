@@ -16,7 +16,7 @@ use Rattle.engine.specs.Image.{image}
 use Rattle.engine.specs.Decode.{decoded}
 use Rattle.engine.specs.Holding.{HoldsSome}
 use Rattle.queue.specs.Queue.{position, CountsIn}
-use Rattle.lists.specs.Lists.{CountsIn as ListsIn}
+use Rattle.updates.specs.Lists.{CountsIn as ListsIn}
 use Rattle.install.specs.Swaps.{greenSwaps}
 
 unfoldable pub logIn : List ℕ → Log

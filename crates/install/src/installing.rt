@@ -10,11 +10,11 @@ use crate::passes::turn_rest;
 use crate::passes::turn_yellow;
 use crate::table::table;
 use engine::header::load;
-use lists::numbers::save_numbers;
 use record::AttemptIndex;
 use record::LastPrimary;
 use record::PrimaryIndex;
 use record::State;
+use updates::numbers::save_numbers;
 
 // "yellow list green in order, ids not held passed over" .. "all other reds green by creator, then index"
 pub fn install_log(state: &mut [u8])

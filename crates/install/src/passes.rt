@@ -9,10 +9,10 @@ ghost use Rattle.queue.specs.Queue.{serversOf};
 ghost use Rattle.install.specs.Table.{logIn, yellowsIn, idsOf, InTable, Indexed, Turned};
 use crate::table::PLACES;
 use crate::table::turn_green;
-use lists::yellow::yellow_place;
 use record::State;
 use record::bytes::num8;
 use record::bytes::num16;
+use updates::yellow::yellow_place;
 
 // The action with the id at `at` turns green if it is red.
 fn turn_at(state: &mut [u8], places: &mut [u16; PLACES], at: usize)

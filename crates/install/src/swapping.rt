@@ -10,7 +10,7 @@ use queue::slots::slot_at;
 use record::State;
 use record::blocks::copy;
 use record::bytes::num32;
-use stores::put32;
+use record::parts::put32;
 
 // The slots from i on and from j on change places.
 fn exchange(state: &mut [u8], i: usize, j: usize)

@@ -20,8 +20,8 @@ use record::State;
 use record::bytes::num8;
 use record::bytes::num16;
 use record::bytes::num32;
-use stores::put16;
-use stores::put32;
+use record::parts::put16;
+use record::parts::put32;
 
 // An action behind the last one of the queue.
 fn append(state: &mut [u8], head: ActionHead, payload: &[u8])

@@ -16,7 +16,7 @@ use crate::slots::last_to_front;
 use record::ActionHead;
 use record::State;
 use record::bytes::num32;
-use stores::put32;
+use record::parts::put32;
 
 // The slot k from `at` on goes to the front of those before it.
 fn promote(state: &mut [u8], at: usize, k: usize, green: u32)

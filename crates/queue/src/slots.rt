@@ -14,7 +14,7 @@ use engine::starting::clear;
 use record::ActionHead;
 use record::State;
 use record::blocks::copy;
-use stores::put_body;
+use record::parts::put_body;
 
 // An action's slot from `at` on: its bytes, filled up with zeros.
 pub fn put_slot(state: &mut [u8], at: usize, head: ActionHead, payload: &[u8])

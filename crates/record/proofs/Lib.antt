@@ -17,3 +17,5 @@ pub mod WriterReturns
 pub mod WriterState
 pub mod WriterRoundTrip
 pub mod Callers
+pub mod PartLaws
+pub mod SetCode

@@ -2,14 +2,13 @@
 -- Assumes nothing.
 use Prim.Native.Nat.{ℕ, zero, suc, _*_, _^_, _%_, _≤_}
 use mathlib.Core.Path.{_≡_, refl, ap, _∙_}
-use mathlib.Core.Bool.{true}
+use mathlib.Core.Bool.{Bool, true}
 use native.Mathlib.Omega.{arith}
 use native.Mathlib.Nat.{mul-le-mul, pow-le-pow-right, mod-eq-of-lt}
-use lib.Bits.{bitAnd}
-use lib.Dec.{leb, ltb, eqb}
+use lib.Dec.{leb, ltb}
 use mir.Syntax.{w32}
 use mir.Val.{Fits}
-use Rattle.base.specs.Tests.{_≤?_, _<?_, _=?_}
+use Rattle.base.specs.Tests.{_≤?_, _<?_}
 use Rattle.base.specs.Sets.{inside}
 use Rattle.base.proofs.Branches.{told-le, told-lt}
 use Rattle.format.specs.Limits.{mostServers, mostQuota}
@@ -37,7 +36,7 @@ pub inside-none : (k l s : ℕ) → k ≡ 0 → true ≡ insideLast (lastOf k l)
 unfolding insideLast lastOf
 inside-none k l s h = rw h refl
 
-pub inside-some : (k l s : ℕ) → (k ≡ 0 → ⊥) → eqb (bitAnd s l) s ≡ insideLast (lastOf k l) s
-unfolding insideLast lastOf inside _=?_
-inside-some zero l s h = absurd (h refl)
-inside-some (suc k) l s h = refl
+pub inside-some : (k l s : ℕ) (r : Bool) → (k ≡ 0 → ⊥) → r ≡ inside s l → r ≡ insideLast (lastOf k l) s
+unfolding insideLast lastOf
+inside-some zero l s r h e = absurd (h refl)
+inside-some (suc k) l s r h e = e

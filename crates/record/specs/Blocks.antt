@@ -1,4 +1,4 @@
--- The numbers that the writers make records of, filled up with zeros to twelve.
+-- Parts of records as bytes, and the numbers that the writers make records of, filled up with zeros to twelve.
 -- Assumes nothing.
 use Prim.Native.Nat.{ℕ, _+_, _*_, _≤_}
 use mathlib.Core.List.{List, [], _∷_}
@@ -6,8 +6,10 @@ use lib.ListN.{length}
 use Rattle.base.specs.Bytes.{bytesOf, joined}
 use Rattle.format.specs.Limits.{version}
 use Rattle.format.specs.Types.{kindNumber, ofAction, ofRetransmission}
+use Rattle.format.specs.Write.{idBytes}
 use Rattle.record.specs.declared.ActionHead.{ActionHead}
 use Rattle.record.specs.declared.StateHead.{StateHead}
+use Rattle.record.specs.Values.{idOf}
 
 -- what follows the length bytes, version, kind, sender, and a number: all of a CPC, and what a State begins with
 unfoldable pub openingNumbers : (follows kind sender number : ℕ) → List ℕ
@@ -39,6 +41,10 @@ standingNumbers h =
     ∷ h .«yellow_status»
     ∷ h .«yellow_count»
     ∷ []
+
+-- "creator (1 byte), index (2), creator's green length (4)"
+unfoldable pub headBytes : ActionHead → List ℕ
+headBytes h = joined (idBytes (idOf (h .creator) (h .index)) ∷ bytesOf 4 (h .«green_length») ∷ [])
 
 -- "yellow status (1), count (2)"
 unfoldable pub yellowHeadBytes : (status count : ℕ) → List ℕ

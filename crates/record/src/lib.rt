@@ -1,19 +1,22 @@
 // Records: the types that the reader, the writers and the engine share, and document 01's limits.
 ghost use mathlib.Core.Path.{_≡_};
 ghost use Prim.Native.Nat.{_≤_};
-ghost use Rattle.base.specs.Sets.{everyone as setOfAll};
 ghost use Rattle.format.specs.Limits.{mostServers};
 ghost use Rattle.record.specs.Context.{readingContext};
 ghost use Rattle.record.specs.Start.{startOf};
 
 pub mod bytes; // bytes.rt: numbers in bytes
+pub mod sets; // sets.rt: sets of servers
 pub mod range; // range.rt: which numbers and sets are in range
 pub mod lists; // lists.rt: lists in bytes
 pub mod events; // events.rt: an event that was read
 pub mod frame; // frame.rt: its frame
 pub mod reader; // reader.rt: what an event says
 pub mod blocks; // blocks.rt: parts of records, written
+pub mod parts; // parts.rt: numbers, ids and actions, written
 pub mod writer; // writer.rt: writers of what the engine sends
+
+use sets::everyone;
 
 // The index of a primary component, and that of an attempt to create one: neither stands for the other.
 pub struct PrimaryIndex(pub u32);
@@ -269,13 +272,4 @@ impl State {
             set: self.configuration_set,
         }
     }
-}
-
-// The set of all servers.
-fn everyone(servers: u8) -> u8
-    requires { ⌜ servers ≤ mostServers ⌝ }
-    ensures { λ r. ⌜ r ≡ setOfAll servers ⌝ }
-{
-    let all: u32 = 1 << servers;
-    (all - 1) as u8
 }

@@ -10,6 +10,8 @@ use crate::Context;
 use crate::LastPrimary;
 use crate::Mark;
 use crate::State;
+use crate::sets::has;
+use crate::sets::inside;
 
 // The limits as one value.
 pub struct Limits {
@@ -154,8 +156,7 @@ pub fn own_set_ok(c: Context, s: u8) -> bool
     if !set_ok(c, s) {
         return false;
     }
-    let me = c.me;
-    (s >> me) % 2 == 1
+    has(s, c.me as usize)
 }
 
 // "lies inside the last regular one, if any"
@@ -165,5 +166,5 @@ pub fn inside_last(c: Context, s: u8) -> bool
     if c.configured == 0 {
         return true;
     }
-    s & c.set == s
+    inside(s, c.set)
 }

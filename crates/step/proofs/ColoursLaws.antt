@@ -34,8 +34,8 @@ use Rattle.queue.specs.Queue.{RoomFor}
 use Rattle.queue.proofs.Holding.{log-formed, log-fits}
 use Rattle.queue.proofs.Entered.{entered-formed, room-for}
 use Rattle.queue.proofs.RedLaws.{cut-read, room-if-next}
-use Rattle.lists.specs.Lists.{CountsIn, NumberIn}
-use Rattle.lists.proofs.Counts.{holds-servers, holds-counts}
+use Rattle.updates.specs.Lists.{CountsIn, NumberIn}
+use Rattle.updates.proofs.Counts.{holds-servers, holds-counts}
 use Rattle.engine.proofs.Chained.{Covers, chained, then-holds}
 use Rattle.engine.specs.Layout.{headerSize}
 

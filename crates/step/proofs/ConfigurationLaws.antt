@@ -19,7 +19,7 @@ use Rattle.engine.specs.Header.{headerOf}
 use Rattle.engine.specs.Decode.{modeNamed}
 use Rattle.engine.specs.Holding.{Holds, HoldsSuch}
 use Rattle.engine.proofs.InPlace.{such-fact}
-use Rattle.lists.specs.Lists.{configurationOf}
+use Rattle.updates.specs.Lists.{configurationOf}
 use Rattle.step.specs.declared.Answer.{Answer}
 use Rattle.step.specs.Answers.{answered, outcomeOn, LentSuch, InForce, refusedWith, quietly}
 use Rattle.step.specs.Events.{modeAfter}

@@ -33,10 +33,10 @@ use Rattle.engine.proofs.InRange.{in-range}
 use Rattle.engine.specs.Holding.{Holds, HoldsSuch, HoldsSome}
 use Rattle.engine.proofs.InPlace.{such-fact, holds-some}
 use Rattle.queue.proofs.Inside.{over-front}
-use Rattle.lists.specs.declared.votes.VoteNumbers.{VoteNumbers}
-use Rattle.lists.specs.Sending.{SendReady}
-use Rattle.lists.specs.Standing.{voteNumbers}
-use Rattle.lists.proofs.Sent.{holds-ready}
+use Rattle.updates.specs.declared.votes.VoteNumbers.{VoteNumbers}
+use Rattle.updates.specs.Sending.{SendReady}
+use Rattle.updates.specs.Standing.{voteNumbers}
+use Rattle.updates.proofs.Sent.{holds-ready}
 use Rattle.exchange.specs.declared.decided.TakenVotes.{TakenVotes}
 use Rattle.exchange.specs.Decided.{votesNumbers}
 use Rattle.exchange.specs.Table.{Listed}

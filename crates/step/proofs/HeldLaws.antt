@@ -37,8 +37,8 @@ use Rattle.engine.specs.Holding.{Holds}
 use Rattle.engine.proofs.InPlace.{holds-decoded}
 use Rattle.engine.proofs.Used.{held-slot-length, over-length}
 use Rattle.queue.proofs.Inside.{over-extended}
-use Rattle.lists.specs.Lists.{heldCount, place}
-use Rattle.lists.proofs.Counts.{header-room, numbered-few, held-few, holds-place, holds-held-count}
+use Rattle.updates.specs.Lists.{heldCount, place}
+use Rattle.updates.proofs.Counts.{header-room, numbered-few, held-few, holds-place, holds-held-count}
 use Rattle.step.specs.Answers.{LentSuch, recordBytes}
 use Rattle.step.specs.Sending.{heldPlace, heldHead, heldAction, heldBytes, HeldRoom}
 use Rattle.step.proofs.LentLaws.{lent-counts, lent-header, holds-products, holds-part, put-room, put-done, one-record}

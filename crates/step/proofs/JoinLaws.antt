@@ -36,8 +36,8 @@ use Rattle.engine.proofs.HeaderLaws.{header-loaded}
 use Rattle.engine.proofs.InRange.{InRange, in-range}
 use Rattle.engine.specs.Holding.{Holds}
 use Rattle.queue.proofs.Inside.{over-front}
-use Rattle.lists.specs.Lists.{configurationOf, place}
-use Rattle.lists.proofs.Counts.{holds-place}
+use Rattle.updates.specs.Lists.{configurationOf, place}
+use Rattle.updates.proofs.Counts.{holds-place}
 use Rattle.step.specs.declared.Answer.{Answer}
 use Rattle.step.specs.Answers.{answered, outcomeOn, LentSuch, storedFirst, recordBytes}
 use Rattle.step.specs.Sending.{ownHead, ownRecord}

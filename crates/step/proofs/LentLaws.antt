@@ -24,8 +24,8 @@ use Rattle.engine.specs.Image.{parts}
 use Rattle.engine.proofs.Decoded.{image-part}
 use Rattle.engine.proofs.Fit.{well-formed-fits}
 use Rattle.engine.specs.Holding.{Holds}
-use Rattle.lists.specs.Lists.{CountsIn}
-use Rattle.lists.proofs.Counts.{holds-counts, header-room}
+use Rattle.updates.specs.Lists.{CountsIn}
+use Rattle.updates.proofs.Counts.{holds-counts, header-room}
 use Rattle.step.specs.Answers.{LentSuch, recordBytes}
 
 module _ (P : Server → Type 0) (b o : List ℕ) (h : LentSuch P b o) where

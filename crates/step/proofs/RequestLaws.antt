@@ -30,9 +30,9 @@ use Rattle.engine.specs.Header.{headerOf}
 use Rattle.engine.specs.Image.{over, image}
 use Rattle.engine.specs.Holding.{Holds}
 use Rattle.queue.proofs.Inside.{over-front}
-use Rattle.lists.specs.Lists.{PayloadRoom, nextHead}
-use Rattle.lists.proofs.Counts.{numbered-few}
-use Rattle.lists.proofs.RequestLaws.{head-made}
+use Rattle.updates.specs.Lists.{PayloadRoom, nextHead}
+use Rattle.updates.proofs.Counts.{numbered-few}
+use Rattle.updates.proofs.RequestLaws.{head-made}
 use Rattle.step.specs.declared.Answer.{Answer}
 use Rattle.step.specs.Answers.{answered, outcomeOn, LentSuch, quietly, storedFirst, recordBytes}
 use Rattle.step.proofs.LentFacts.{lent-fact}

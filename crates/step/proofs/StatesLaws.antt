@@ -25,8 +25,8 @@ use Rattle.replication.specs.Laws.RuleFits.{StateCame}
 use Rattle.engine.specs.Layout.{stateSize}
 use Rattle.engine.specs.Image.{modeNumber, over, image}
 use Rattle.engine.specs.Holding.{Holds}
-use Rattle.lists.specs.Lists.{CollectRoom}
-use Rattle.lists.proofs.Counts.{holds-servers, holds-quota, holds-counts}
+use Rattle.updates.specs.Lists.{CollectRoom}
+use Rattle.updates.proofs.Counts.{holds-servers, holds-quota, holds-counts}
 use Rattle.step.specs.declared.Answer.{Answer}
 use Rattle.step.specs.Answers.{answered, outcomeOn, LentSuch, Came, quietly, sentOnly, recordBytes}
 use Rattle.step.proofs.LentFacts.{lent-fact}

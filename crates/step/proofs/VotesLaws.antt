@@ -23,7 +23,7 @@ use Rattle.replication.proofs.WellFormed.Kept.{mode-kept}
 use Rattle.engine.specs.Image.{over, image}
 use Rattle.engine.specs.Outcome.{resultOf, word}
 use Rattle.engine.specs.Holding.{Holds}
-use Rattle.lists.specs.Lists.{configurationOf}
+use Rattle.updates.specs.Lists.{configurationOf}
 use Rattle.step.specs.declared.Answer.{Answer}
 use Rattle.step.specs.Answers.{answered, outcomeOn, LentSuch}
 use Rattle.engine.proofs.Chained.{Covers, image-over, then-holds}

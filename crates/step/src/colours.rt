@@ -6,13 +6,13 @@ ghost use Rattle.replication.specs.Machine.Colours.{isNext, yellow as yellowed}
 ghost use Rattle.replication.specs.Machine.Step.{greenAndNote};
 ghost use Rattle.replication.specs.Laws.RuleFits.{Delivered};
 ghost use Rattle.engine.specs.Holding.{HoldsSuch, Becomes};
-use lists::notes::note;
-use lists::yellow::join_yellow;
 use queue::entering::enter;
 use queue::greening::green;
 use record::ActionHead;
 use record::State;
 use record::bytes::num16;
+use updates::notes::note;
+use updates::yellow::join_yellow;
 
 // "Reg_prim: action green; the creator's green length is noted"
 pub fn green_and_note(state: &mut [u8], head: ActionHead, payload: &[u8])

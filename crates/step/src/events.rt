@@ -38,10 +38,10 @@ use crate::rows::regular_due;
 use crate::rows::room_to_hold;
 use crate::rows::state_in;
 use crate::rows::transitional_due;
-use lists::membership::leave;
 use queue::entering::red;
 use record::ActionHead;
 use record::State;
+use updates::membership::leave;
 
 // An action that rows 5 and 6 let pass; `mode` is the state's number.
 fn colour(state: &mut [u8], mode: u8, head: ActionHead, payload: &[u8]) -> Answer

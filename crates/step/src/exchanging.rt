@@ -14,7 +14,7 @@ ghost use Rattle.replication.specs.Machine.WellFormedFacts.{Configured};
 ghost use Rattle.replication.specs.Laws.RuleFits.{Delivered};
 ghost use Rattle.engine.specs.Image.{image};
 ghost use Rattle.engine.specs.Holding.{Holds, HoldsSuch, Becomes};
-ghost use Rattle.lists.specs.Standing.{voteNumbers};
+ghost use Rattle.updates.specs.Standing.{voteNumbers};
 ghost use Rattle.exchange.specs.Decided.{votesNumbers};
 ghost use Rattle.step.specs.Answers.{answered, outcomeOn, LentSuch, Came, AnswersAs};
 use crate::Answer;
@@ -27,20 +27,20 @@ use exchange::decided::planned_now;
 use exchange::decided::quorum_here;
 use exchange::decided::taken_votes;
 use exchange::decided::taken_yellow;
-use lists::exchanges::attempt;
-use lists::exchanges::decide;
-use lists::exchanges::one_more;
-use lists::exchanges::resend;
-use lists::membership::set_mode;
-use lists::sending::send_held;
-use lists::states::collect_state;
-use lists::votes::VoteNumbers;
 use queue::entering::red;
 use queue::greening::green;
 use record::ActionHead;
 use record::bytes::num32;
 use record::writer::Written;
 use record::writer::write_cpc;
+use updates::exchanges::attempt;
+use updates::exchanges::decide;
+use updates::exchanges::one_more;
+use updates::exchanges::resend;
+use updates::membership::set_mode;
+use updates::sending::send_held;
+use updates::states::collect_state;
+use updates::votes::VoteNumbers;
 
 // ---- the end
 

@@ -18,11 +18,11 @@ use crate::colours::yellow;
 use crate::sending::send_records;
 use exchange::decided::all_cpcs_in;
 use install::installing::install;
-use lists::membership::add_cpc;
-use lists::membership::set_mode;
-use lists::sending::send_held;
 use record::ActionHead;
 use record::State;
+use updates::membership::add_cpc;
+use updates::membership::set_mode;
+use updates::sending::send_held;
 
 // Install, and the state that it leads to; that one first, since row 8 bounds the primary index in Construct and Un.
 fn install_in(state: &mut [u8], mode: u8)

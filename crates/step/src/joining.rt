@@ -5,7 +5,7 @@ ghost use lib.ListN.{length};
 ghost use Rattle.replication.specs.Machine.Types.{Server, withVotes};
 ghost use Rattle.replication.specs.Machine.Step.{join as joined, unmarked, yellowValid};
 ghost use Rattle.replication.specs.Machine.WellFormedRanges.{ConfigurationFits};
-ghost use Rattle.lists.specs.Lists.{configurationOf};
+ghost use Rattle.updates.specs.Lists.{configurationOf};
 ghost use Rattle.engine.specs.Header.{headerIn};
 ghost use Rattle.engine.specs.Image.{over};
 ghost use Rattle.engine.specs.Holding.{Holds};
@@ -14,14 +14,14 @@ ghost use Rattle.step.specs.Sending.{ownHead, ownRecord};
 ghost use Rattle.engine.specs.Layout.{headerSize};
 use crate::Answer;
 use engine::header::load;
-use lists::membership::enter_exchange;
-use lists::votes::clear_mark;
-use lists::votes::make_yellow_valid;
-use lists::yellow::yellow_place;
 use record::State;
 use record::StateHead;
 use record::writer::Written;
 use record::writer::write_state;
+use updates::membership::enter_exchange;
+use updates::votes::clear_mark;
+use updates::votes::make_yellow_valid;
+use updates::yellow::yellow_place;
 
 // The numbers of the State that a server with the numbers h sends in this configuration.
 fn own_head(h: State, id: u32) -> StateHead

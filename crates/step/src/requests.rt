@@ -8,12 +8,12 @@ ghost use Rattle.engine.specs.Header.{headerOf};
 ghost use Rattle.step.specs.Answers.{LentSuch, AnswersAs};
 use crate::Answer;
 use crate::rows::sends_now;
-use lists::requests::hold;
-use lists::requests::next_head;
-use lists::requests::number;
 use record::State;
 use record::writer::Written;
 use record::writer::write_action;
+use updates::requests::hold;
+use updates::requests::next_head;
+use updates::requests::number;
 
 // The request as an action: "numbered, put on the own list and stored first", then sent.
 fn send(state: &mut [u8], out: &mut [u8], payload: &[u8]) -> Answer

@@ -17,12 +17,12 @@ use crate::events::on_retransmission;
 use crate::events::on_state;
 use crate::events::on_transitional;
 use engine::header::load;
-use lists::recovery::recover;
 use record::State;
 use record::events::ActionAt;
 use record::events::Event;
 use record::reader::Reading;
 use record::reader::read;
+use updates::recovery::recover;
 
 fn act(state: &mut [u8], h: State, a: ActionAt, event: &[u8]) -> Answer
     requires { ⌜ HoldsSuch (PartInForce h (actionRecord (actionFrom a (now event))) (a .«payload_at») (a .«payload_length») (now event)) (now state) ⌝ }

@@ -5,7 +5,7 @@ use Rattle.step.proofs.events.on_transitional.Statement.{statement}
 use Rattle.step.proofs.events.on_transitional.Tie as tie
 use Rattle.step.proofs.events.on_transitional.Reads as reads
 use Rattle.step.proofs.events.on_transitional.Lts as lts
-use Rattle.lists.proofs.membership.leave.Reads as leave-reads
+use Rattle.updates.proofs.membership.leave.Reads as leave-reads
 use Rattle.step.proofs.Answer.quiet.Reads as quiet-reads
 use Rattle.step.proofs.Answer.refused.Reads as refused-reads
 use Rattle.step.proofs.events.after_transitional.Reads as after-transitional-reads

@@ -1,5 +1,5 @@
 use Rattle.exchange.specs.Decided.{votesNumbers}
-use Rattle.lists.specs.Standing.{voteNumbers}
+use Rattle.updates.specs.Standing.{voteNumbers}
 use mathlib.Core.Path.{refl}
 use Rattle.step.proofs.exchanging.with_count.Statement.{statement}
 use Rattle.step.proofs.exchanging.with_count.Tie as tie

@@ -1,4 +1,4 @@
-use Rattle.lists.proofs.Sent.{holds-ready}
+use Rattle.updates.proofs.Sent.{holds-ready}
 use Rattle.step.proofs.Installed.{requests-sent}
 use borrow.Author.Needs.{needs}
 use Rattle.step.proofs.installing.send_all.Statement.{statement}

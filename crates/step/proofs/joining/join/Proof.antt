@@ -5,7 +5,7 @@ use Rattle.step.proofs.joining.join.Statement.{statement}
 use Rattle.step.proofs.joining.join.Tie as tie
 use Rattle.step.proofs.joining.join.Reads as reads
 use Rattle.step.proofs.joining.join.Lts as lts
-use Rattle.lists.proofs.membership.enter_exchange.Reads as enter-exchange-reads
+use Rattle.updates.proofs.membership.enter_exchange.Reads as enter-exchange-reads
 use Rattle.step.proofs.Answer.stored.Reads as stored-reads
 use Rattle.step.proofs.joining.send_state.Reads as send-state-reads
 

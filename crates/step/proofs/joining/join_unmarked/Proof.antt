@@ -5,7 +5,7 @@ use Rattle.step.proofs.joining.join_unmarked.Statement.{statement}
 use Rattle.step.proofs.joining.join_unmarked.Tie as tie
 use Rattle.step.proofs.joining.join_unmarked.Reads as reads
 use Rattle.step.proofs.joining.join_unmarked.Lts as lts
-use Rattle.lists.proofs.votes.clear_mark.Reads as clear-mark-reads
+use Rattle.updates.proofs.votes.clear_mark.Reads as clear-mark-reads
 use Rattle.step.proofs.joining.join.Reads as join-reads
 
 clear-mark-requires : tie.Need-clear-mark-requires

@@ -5,7 +5,7 @@ use Rattle.step.proofs.joining.join_yellow.Statement.{statement}
 use Rattle.step.proofs.joining.join_yellow.Tie as tie
 use Rattle.step.proofs.joining.join_yellow.Reads as reads
 use Rattle.step.proofs.joining.join_yellow.Lts as lts
-use Rattle.lists.proofs.votes.make_yellow_valid.Reads as make-yellow-valid-reads
+use Rattle.updates.proofs.votes.make_yellow_valid.Reads as make-yellow-valid-reads
 use Rattle.step.proofs.joining.join_unmarked.Reads as join-unmarked-reads
 
 make-yellow-valid-requires : tie.Need-make-yellow-valid-requires

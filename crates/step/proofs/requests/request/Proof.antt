@@ -4,7 +4,7 @@ use Rattle.step.proofs.requests.request.Statement.{statement}
 use Rattle.step.proofs.requests.request.Tie as tie
 use Rattle.step.proofs.requests.request.Reads as reads
 use Rattle.step.proofs.requests.request.Lts as lts
-use Rattle.lists.proofs.requests.hold.Reads as hold-reads
+use Rattle.updates.proofs.requests.hold.Reads as hold-reads
 use Rattle.step.proofs.Answer.quiet.Reads as quiet-reads
 use Rattle.step.proofs.requests.send.Reads as send-reads
 use Rattle.step.proofs.rows.sends_now.Reads as sends-now-reads

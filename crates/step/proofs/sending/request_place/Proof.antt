@@ -4,7 +4,7 @@ use Rattle.step.proofs.sending.request_place.Statement.{statement}
 use Rattle.step.proofs.sending.request_place.Tie as tie
 use Rattle.step.proofs.sending.request_place.Reads as reads
 use Rattle.step.proofs.sending.request_place.Lts as lts
-use Rattle.lists.proofs.requests.held_place.Reads as held-place-reads
+use Rattle.updates.proofs.requests.held_place.Reads as held-place-reads
 
 held-place-requires : tie.Need-held-place-requires
 held-place-requires c κs = search needs

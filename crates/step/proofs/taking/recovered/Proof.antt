@@ -6,7 +6,7 @@ use Rattle.step.proofs.taking.recovered.Tie as tie
 use Rattle.step.proofs.taking.recovered.Reads as reads
 use Rattle.step.proofs.taking.recovered.Lts as lts
 use Rattle.step.proofs.Answer.stored.Reads as stored-reads
-use Rattle.lists.proofs.recovery.recover.Reads as recover-reads
+use Rattle.updates.proofs.recovery.recover.Reads as recover-reads
 
 recover-requires : tie.Need-recover-requires
 recover-requires c κs = search (needs, such-some)

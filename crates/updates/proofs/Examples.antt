@@ -1,0 +1,50 @@
+-- The premises of the operations can be met: a start of two servers with the quota 1, in any buffer that is long enough.
+-- Assumes nothing.
+use Prim.Native.Nat.{ℕ, _≤_, _<_}
+use mathlib.Core.Path.{_≡_, refl}
+use mathlib.Core.Bool.{true}
+use mathlib.Core.List.{List}
+use native.Mathlib.Omega.{arith}
+use lib.ListN.{length}
+use Rattle.format.specs.Limits.{mostHeld}
+use Rattle.base.specs.Tests.{_and_, _≤?_, _<?_}
+use Rattle.format.specs.Range.{sizesOk, idOk}
+use Rattle.record.specs.Values.{idOf}
+use Rattle.replication.specs.Machine.Types.{Server, start, contextOf}
+use Rattle.replication.specs.Machine.Requests.{quotaLeft}
+use Rattle.replication.specs.Machine.WellFormed.{wellFormed}
+use Rattle.replication.proofs.WellFormed.Runs.{start-well-formed}
+use Rattle.engine.specs.Layout.{stateLength}
+use Rattle.engine.specs.Image.{image}
+use Rattle.engine.proofs.ImageLaws.{image-again, image-length}
+use Rattle.engine.specs.Holding.{Holds}
+use Rattle.updates.specs.Lists.{CountsIn}
+use Rattle.updates.proofs.Counts.{holds-counts}
+
+abbrev first : Server
+first = start 2 1 0
+
+module _ (b : List ℕ) (long : stateLength 2 1 ≤ length b) where
+  formed : wellFormed first ≡ true
+  unfolding sizesOk _and_ _≤?_ _<?_
+  formed = start-well-formed 2 1 0 refl (omega arith)
+
+  holds : Holds first (image first b)
+  unfolding start
+  holds = record { formed = formed; written = image-again first b formed long; long = omega (arith, long, image-length first b formed long) }
+
+  counts : CountsIn (image first b)
+  counts = holds-counts first (image first b) holds
+
+  -- A request may be numbered, or held; an id may join the yellow list.
+  quota : quotaLeft first ≡ true
+  unfolding quotaLeft start _<?_
+  quota = refl
+
+  room : length (first .held) < mostHeld
+  unfolding start
+  room = omega arith
+
+  id : idOk (contextOf first) (idOf 1 1) ≡ true
+  unfolding idOk contextOf idOf start _and_ _≤?_ _<?_
+  id = refl

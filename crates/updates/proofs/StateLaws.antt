@@ -1,0 +1,201 @@
+-- A collected State in place.
+-- Assumes nothing.
+use Prim.Native.Nat.{ℕ, zero, suc, _+_, _*_, _%_, _^_, _≤_, _<_}
+use mathlib.Core.Path.{_≡_, refl, sym, ap, ap₂, _∙_}
+use mathlib.Core.Bool.{Bool, true, false}
+use mathlib.Core.List.{List, [], _∷_, _++_, append-assoc}
+use mathlib.Core.Option.{Option, none, some}
+use native.Mathlib.Decide.{ℕ-discrete}
+use native.Mathlib.Nat.{zero-add, suc-mul, mul-le-mul-right}
+use native.Mathlib.Omega.{arith}
+use lib.Bits.{bitOr, bitAnd, and-comm}
+use lib.ListN.{length, getD, take, drop, set, length-append, length-take, length-drop, length-set, take-append-drop}
+use lib.Seq.{take-at, drop-at, getD-set-same, getD-set-other, take-append-add, drop-append-add, drop-append-le}
+use Rattle.base.specs.Bytes.{bytesOf, numberAt}
+use Rattle.base.proofs.BytesLaws.{bytes-length}
+use Rattle.base.specs.Lists.{isThere, sum, Each}
+use Rattle.base.specs.Patched.{patched}
+use Rattle.base.proofs.Sections.{begin, begin-end}
+use Rattle.base.specs.Sets.{inSet, withMember, inside}
+use Rattle.base.proofs.SetLaws.{in-with-member, with-member-below, same-sets, members-inside}
+use Rattle.base.specs.Tests.{_or_}
+use Rattle.base.proofs.TestLaws.{eq-yes, eq-no, eq-holds}
+use Rattle.format.specs.Types.{State, state}
+use Rattle.format.specs.Write.{write}
+use Rattle.replication.specs.Machine.Types.{Server, contextOf}
+use Rattle.replication.specs.Machine.Step.{withState}
+use Rattle.engine.specs.Layout.{stateSize, theHeader, theStates, sections, sectionSize, offset, stateLength, headerSize, atServers, atQuota, atStates}
+use Rattle.engine.specs.Image.{over, headerBytes, senders, stateOver, statesOver, section, parts, image}
+use Rattle.record.specs.declared.State.{State as Numbers}
+use Rattle.engine.specs.Header.{headerOf, headerIn}
+use Rattle.engine.proofs.HeaderLaws.{header-loaded}
+use Rattle.engine.specs.Decode.{serversIn, quotaIn}
+use Rattle.engine.proofs.Fit.{well-formed-fits, section-length}
+use Rattle.engine.proofs.InRange.{in-range}
+use Rattle.engine.proofs.Used.{StateFits, state-over-length, first-slot, more-slots}
+use Rattle.engine.proofs.Slots.{in-senders, senders-below}
+use Rattle.engine.specs.Holding.{Holds}
+use Rattle.engine.proofs.InPlace.{holds-section}
+use Rattle.queue.proofs.Fields.{fields}
+use Rattle.queue.proofs.Holding.{holds-changed}
+use Rattle.queue.proofs.Inside.{changed-at}
+use Rattle.updates.specs.Lists.{place, NumberIn, CollectRoom}
+use Rattle.updates.proofs.Changes.{changed-image}
+use Rattle.updates.proofs.Counts.{holds-servers, holds-quota, holds-place, place-read, header-room}
+use Rattle.updates.proofs.MembershipLaws.{member-shifted}
+use Rattle.updates.proofs.Fields.{theSenders, one-field}
+
+-- ---- the set of senders
+
+or-no : (t : Bool) → (t or false) ≡ t
+unfolding _or_
+or-no true = refl
+or-no false = refl
+
+or-yes : (t : Bool) → (t or true) ≡ true
+unfolding _or_
+or-yes true = refl
+or-yes false = refl
+
+pub sender-more : (xs : List (Option State)) (k : ℕ) (x : State) → k < length xs → length xs ≤ 8
+    → withMember k (senders 0 xs) ≡ senders 0 (set xs k (some x))
+unfolding isThere
+sender-more xs k x h few =
+    same-sets 8 _ _ (with-member-below 8 k (senders 0 xs) (omega arith) (senders-below 8 0 xs (omega arith)))
+    (senders-below 8 0 (set xs k (some x)) (omega (arith, length-set xs k (some x)))) (λ j l. go j (ℕ-discrete j k))
+  where
+    in-set : (j : ℕ) (ys : List (Option State)) → inSet j (senders 0 ys) ≡ isThere (getD ys j none)
+    in-set j ys = ap (λ (i : ℕ). inSet i (senders 0 ys)) (sym (zero-add j)) ∙ in-senders 0 ys j
+
+    go : (j : ℕ) → Dec (j ≡ k) → inSet j (withMember k (senders 0 xs)) ≡ inSet j (senders 0 (set xs k (some x)))
+    go j (yes e) =
+        in-with-member j k (senders 0 xs)
+        ∙ ap (λ (t : Bool). inSet j (senders 0 xs) or t) (eq-yes j k e)
+        ∙ or-yes (inSet j (senders 0 xs))
+        ∙ sym (in-set j (set xs k (some x)) ∙ ap (λ (i : ℕ). isThere (getD (set xs k (some x)) i none)) e ∙ ap isThere (getD-set-same xs k (some x) none h))
+    go j (no e) =
+        in-with-member j k (senders 0 xs)
+        ∙ ap (λ (t : Bool). inSet j (senders 0 xs) or t) (eq-no j k e)
+        ∙ or-no (inSet j (senders 0 xs))
+        ∙ in-set j xs
+        ∙ sym (in-set j (set xs k (some x)) ∙ ap isThere (getD-set-other xs k j (some x) none e))
+
+-- ---- the slot
+
+-- Behind a first part of the size w.
+behind : (w m : ℕ) (x y t : List ℕ) → length x ≡ w → patched (w + m) y (x ++ t) ≡ x ++ patched m y t
+unfolding patched
+behind w m x y t e =
+    let low : take (w + m) (x ++ t) ≡ x ++ take m t = ap (λ (k : ℕ). take (k + m) (x ++ t)) (sym e) ∙ take-append-add x t m in
+    let k : w + m + length y ≡ length x + (m + length y) = omega arith in
+    let high : drop (w + m + length y) (x ++ t) ≡ drop (m + length y) t = ap (λ (j : ℕ). drop j (x ++ t)) k ∙ drop-append-add x t (m + length y) in
+    ap₂ (λ (a b : List ℕ). a ++ (y ++ b)) low high ∙ append-assoc x (take m t) (y ++ drop (m + length y) t)
+
+-- At the front of the first slot.
+first : (size : ℕ) (y l : List ℕ) → length y ≤ length (take size l) → patched 0 y l ≡ over y (take size l) ++ drop size l
+unfolding patched over
+first size y l h =
+    let split : drop (length y) l ≡ drop (length y) (take size l) ++ drop size l =
+    ap (λ (m : List ℕ). drop (length y) m) (sym (take-append-drop size l)) ∙ drop-append-le (length y) (take size l) (drop size l) h in
+    ap (λ (k : ℕ). y ++ drop k l) (zero-add (length y)) ∙ ap (λ (m : List ℕ). y ++ m) split ∙ sym (append-assoc y (drop (length y) (take size l)) (drop size l))
+
+-- Where bytes hold the States xs, a record written into the slot k.
+pub state-put : (size : ℕ) (xs : List (Option State)) (k : ℕ) (x : State) (l : List ℕ) → Each (StateFits size) xs → length xs * size ≤ length l → k < length xs
+    → length (write (state x)) ≤ size → l ≡ statesOver size xs l → patched (k * size) (write (state x)) l ≡ statesOver size (set xs k (some x)) l
+unfolding statesOver stateOver
+state-put size [] k x l f h i w e = absurd (omega arith)
+state-put size (y ∷ ys) zero x l f h i w e =
+    let one : length (take size l) ≡ size = first-slot size (length ys) l h in
+    let here : length (stateOver y (take size l)) ≡ size = state-over-length size y (take size l) (f .0) one in
+    let rest : drop size l ≡ statesOver size ys (drop size l) = ap (λ (m : List ℕ). drop size m) e ∙ drop-at (stateOver y (take size l)) (statesOver size ys (drop size l)) size here in
+    let at : 0 * size ≡ 0 = omega arith in
+    ap (λ (m : ℕ). patched m (write (state x)) l) at ∙ first size (write (state x)) l (omega arith) ∙ ap (λ (m : List ℕ). over (write (state x)) (take size l) ++ m) rest
+state-put size (y ∷ ys) (suc k) x l f h i w e =
+    let one : length (take size l) ≡ size = first-slot size (length ys) l h in
+    let more : length ys * size ≤ length (drop size l) = more-slots size (length ys) l h in
+    let here : length (stateOver y (take size l)) ≡ size = state-over-length size y (take size l) (f .0) one in
+    let rest : drop size l ≡ statesOver size ys (drop size l) = ap (λ (m : List ℕ). drop size m) e ∙ drop-at (stateOver y (take size l)) (statesOver size ys (drop size l)) size here in
+    let front : take size l ≡ stateOver y (take size l) = ap (λ (m : List ℕ). take size m) e ∙ take-at (stateOver y (take size l)) (statesOver size ys (drop size l)) size here in
+    let at : suc k * size ≡ size + k * size = omega (arith, suc-mul k size) in
+    ap (λ (m : ℕ). patched m (write (state x)) l) at
+    ∙ ap (patched (size + k * size) (write (state x))) (sym (take-append-drop size l))
+    ∙ behind size (k * size) (take size l) (write (state x)) (drop size l) one
+    ∙ ap₂ {A = List ℕ} {B = List ℕ} {C = List ℕ} (λ u v. u ++ v) front (state-put size ys k x (drop size l) (f .1) more (omega arith) w rest)
+
+-- ---- as the code does it
+
+senders-read : (s : Server) (b : List ℕ) → Holds s b → numberAt 1 b atStates ≡ senders 0 (s .membership .states)
+unfolding headerIn headerOf
+senders-read s b r = ap (λ (h : Numbers). h .states) (header-loaded s b r)
+
+senders-written : (s : Server) (x : State) (m : ℕ) → m ≡ senders 0 (set (s .membership .states) (x .sender) (some x))
+    → set (fields s) theSenders (bytesOf 1 m) ≡ fields (withState x s)
+unfolding withState
+senders-written s x m e = ap (λ (k : ℕ). set (fields s) theSenders (bytesOf 1 k)) e
+
+pub state-collected : (k : ℕ) (e b b₁ : List ℕ) (at m : ℕ) → CollectRoom k e b → at ≡ place theStates b + k * stateSize (serversIn b) (quotaIn b)
+    → m ≡ withMember k (numberAt 1 b atStates) → b₁ ≡ patched atStates (bytesOf 1 m) (patched at e b)
+    → (s : Server) (x : State) → Holds s b → write (state x) ≡ e → x .sender ≡ k → b₁ ≡ image (withState x s) b
+unfolding sections sectionSize parts sum offset withState contextOf
+state-collected k e b b₁ at m room e₁ e₂ e₃ s x r w from =
+    let n : ℕ = s .servers in
+    let q : ℕ = s .quota in
+    let size : ℕ = stateSize n q in
+    let xs : List (Option State) = s .membership .states in
+    let t : Server = withState x s in
+    let f = well-formed-fits s (r .formed) in
+    let g = in-range s (r .formed) in
+    let count : length xs ≡ n = g .statesCount in
+    let sizes : stateSize (serversIn b) (quotaIn b) ≡ size = λ i. stateSize (holds-servers s b r i) (holds-quota s b r i) in
+    let below : k < length xs = omega (arith, room .number .below, holds-servers s b r) in
+    let sender : x .sender < length xs = omega arith in
+    let few : length xs ≤ 8 = omega (arith, g .context .sizes .most) in
+    let short : length e ≤ size = omega (arith, room .short) in
+    let record-short : length (write (state x)) ≤ size = omega (arith, ap length w) in
+    let slots : k * size + size ≤ n * size = omega (arith, mul-le-mul-right {m = suc k} {n = n} size (omega arith), suc-mul k size) in
+    let there : at ≡ begin (sections n q) theStates + k * size =
+    e₁ ∙ ap₂ {A = ℕ} {B = ℕ} {C = ℕ} (λ u v. u + v) (holds-place s b r theStates) (ap (λ (z : ℕ). k * z) sizes) in
+    let one = changed-at (sections n q) (parts n q s b) b b (holds-changed s b r) theStates (k * size) at e there (omega arith) (omega arith) in
+    let two = changed-at (sections n q) _ b _ one theHeader atStates atStates (bytesOf 1 m) refl (omega arith) (omega (arith, bytes-length 1 m)) in
+    let sec : List ℕ = section n q theStates b in
+    let holds : sec ≡ statesOver size xs sec = holds-section s b r theStates (omega arith) in
+    let long : length sec ≡ n * size = section-length n q theStates b (r .long) in
+    let put : patched (k * size) e (statesOver size xs sec) ≡ statesOver size (set xs (x .sender) (some x)) sec =
+    ap (patched (k * size) e) (sym holds)
+    ∙ ap₂ {A = ℕ} {B = List ℕ} {C = List ℕ} (λ i y. patched (i * size) y sec) (sym from) (sym w)
+    ∙ state-put size xs (x .sender) x sec (f .states) (omega (arith, long, ap (λ (z : ℕ). z * size) count)) sender record-short holds in
+    let more : m ≡ senders 0 (set xs (x .sender) (some x)) =
+    e₂ ∙ ap₂ {A = ℕ} {B = ℕ} {C = ℕ} (λ i z. withMember i z) (sym from) (senders-read s b r) ∙ sender-more xs (x .sender) x sender few in
+    let header : patched atStates (bytesOf 1 m) (headerBytes s) ≡ headerBytes t =
+    one-field s t theSenders (bytesOf 1 m) (omega arith) (bytes-length 1 _) (senders-written s x m more) in
+    e₃ ∙ changed-image t _ b _ two (ap₂ {A = List ℕ} {B = List ℕ} {C = List (List ℕ)} (λ u v. set (set (parts n q s b) theStates v) theHeader u) header put)
+
+-- ---- the code's numbers
+
+slots-end : (b : List ℕ) (k : ℕ) → NumberIn k b → place theStates b + k * stateSize (serversIn b) (quotaIn b) + stateSize (serversIn b) (quotaIn b) ≤ length b
+unfolding place offset stateLength sections sum
+slots-end b k h =
+    let size : ℕ = stateSize (serversIn b) (quotaIn b) in
+    omega (arith, h .counts .long, mul-le-mul-right {m = suc k} {n = serversIn b} size (h .below), suc-mul k size)
+
+pub state-place-read : (b : List ℕ) (n q k at size all : ℕ) → n ≡ numberAt 1 b atServers → q ≡ numberAt 2 b atQuota → at ≡ offset n q theStates → size ≡ stateSize n q → all ≡ k * size
+    → at + all ≡ place theStates b + k * stateSize (serversIn b) (quotaIn b)
+unfolding serversIn quotaIn
+state-place-read b n q k at size all e f g h i =
+    ap₂ {A = ℕ} {B = ℕ} {C = ℕ} (λ u v. u + v) (place-read theStates b n q at e f g) (i ∙ ap (λ (z : ℕ). k * z) (h ∙ λ j. stateSize (e j) (f j)))
+
+pub state-free : (b : List ℕ) (n q k at size all : ℕ) → NumberIn k b → n ≡ numberAt 1 b atServers → q ≡ numberAt 2 b atQuota → at ≡ offset n q theStates → size ≡ stateSize n q → all ≡ k * size
+    → at + all + stateSize (serversIn b) (quotaIn b) ≤ length b
+state-free b n q k at size all r e f g h i = rw (state-place-read b n q k at size all e f g h i) (slots-end b k r)
+
+pub few-numbers : (b : List ℕ) (k : ℕ) → NumberIn k b → k < 8
+few-numbers b k h = omega (arith, h .below, h .counts .sizes .servers)
+
+pub few-servers : (b : List ℕ) (k : ℕ) → NumberIn k b → k ≤ 8
+few-servers b k h = omega (arith, few-numbers b k h)
+
+pub number-header : (b : List ℕ) (k : ℕ) → NumberIn k b → headerSize ≤ length b
+number-header b k h = header-room b (h .counts)
+
+pub sender-shifted : (b : List ℕ) (x k : ℕ) → x ≡ numberAt 1 b atStates → k < 8 → bitOr x (1 * 2 ^ k % 256) ≡ withMember k (numberAt 1 b atStates)
+sender-shifted b x k e h = member-shifted x k h ∙ ap (withMember k) e

@@ -1,0 +1,190 @@
+-- The yellow list in place.
+-- Assumes nothing.
+use Prim.Native.Nat.{ℕ, suc, _+_, _*_, _-_, _≤_, _<_}
+use mathlib.Core.Path.{_≡_, refl, sym, ap, ap₂, _∙_}
+use mathlib.Core.Bool.{Bool, true, false, not}
+use mathlib.Core.List.{List, [], _∷_, _++_, append-nil}
+use native.Mathlib.Decide.{ℕ-discrete}
+use native.Mathlib.Omega.{arith}
+use lib.Dec.{eqb}
+use lib.ListN.{length, set, length-append}
+use Rattle.base.specs.Tests.{_and_, _or_, _=?_}
+use Rattle.base.proofs.TestLaws.{pick-yes, pick-no, both-yes, and-holds, and-eq, and-ne, or-fails, not-holds, eq-yes, eq-no}
+use Rattle.base.proofs.Branches.{told-eq}
+use Rattle.base.specs.Bytes.{bytesOf, numberAt, joined}
+use Rattle.base.proofs.BytesLaws.{bytes-length}
+use Rattle.base.specs.Lists.{sum}
+use Rattle.base.specs.Patched.{patched}
+use Rattle.base.proofs.Sections.{begin}
+use Rattle.format.specs.Types.{Id, Context}
+use Rattle.format.specs.Range.{idOk, sameId, hasId, idsDiffer, idsInRange}
+use Rattle.format.specs.Read.{idAt, idsAt}
+use Rattle.format.specs.Write.{idBytes, idsBytes}
+use Rattle.format.proofs.Lengths.{id-length, ids-length}
+use Rattle.format.proofs.IdCount.{ids-count}
+use Rattle.record.specs.Values.{idOf}
+use Rattle.replication.specs.Machine.Types.{Server, Votes, contextOf, withVotes}
+use Rattle.replication.specs.Machine.Colours.{addId, joinYellow}
+use Rattle.engine.specs.Layout.{theHeader, theYellow, sections, offset, atYellowCount}
+use Rattle.engine.specs.Image.{over, headerBytes, section, parts, image}
+use Rattle.engine.proofs.InRange.{in-range}
+use Rattle.engine.proofs.Used.{ids-append}
+use Rattle.engine.specs.Holding.{Holds}
+use Rattle.updates.specs.Lists.{yellowCount, place}
+use Rattle.updates.proofs.Changes.{changed-image}
+use Rattle.queue.proofs.Inside.{changed-at, over-extended}
+use Rattle.queue.proofs.Holding.{holds-changed}
+use Rattle.queue.proofs.Fields.{fields}
+use Rattle.updates.proofs.Fields.{theYellowCount, one-field}
+use Rattle.updates.proofs.Counts.{holds-yellow-count, holds-place, holds-ids}
+
+-- ---- ids as bytes
+
+pub ids-one : (d : Id) → idsBytes (d ∷ []) ≡ idBytes d
+unfolding idsBytes joined
+ids-one d = simp append-nil
+
+-- ---- one id more
+
+in-range-more : (c : Context) (xs : List Id) (d : Id) → idsInRange c xs ≡ true → idOk c d ≡ true → idsInRange c (xs ++ (d ∷ [])) ≡ true
+unfolding idsInRange
+in-range-more c [] d h k = both-yes _ _ k refl
+in-range-more c (x ∷ xs) d h k = let t = and-holds _ _ h in both-yes _ _ (t .0) (in-range-more c xs d (t .1) k)
+
+-- Equality either way.
+equal-swapped : (a b : ℕ) → (a =? b) ≡ (b =? a)
+equal-swapped a b = go (ℕ-discrete a b)
+  where
+    go : Dec (a ≡ b) → (a =? b) ≡ (b =? a)
+    go (yes e) = eq-yes a b e ∙ sym (eq-yes b a (sym e))
+    go (no e) = eq-no a b e ∙ sym (eq-no b a (λ f. e (sym f)))
+
+swapped : (a b i j : ℕ) → (b =? a and j =? i) ≡ false → (a =? b and i =? j) ≡ false
+swapped a b i j h = rw (equal-swapped a b, equal-swapped i j) h
+
+other-way : (x d : Id) → sameId d x ≡ false → sameId x d ≡ false
+unfolding sameId
+other-way x d h = swapped (x .creator) (d .creator) (x .index) (d .index) h
+
+or-both : (t u : Bool) → t ≡ false → u ≡ false → (t or u) ≡ false
+unfolding _or_
+or-both true u h k = h
+or-both false u h k = k
+
+has-more : (x d : Id) (xs : List Id) → hasId x xs ≡ false → sameId x d ≡ false → hasId x (xs ++ (d ∷ [])) ≡ false
+unfolding hasId
+has-more x d [] h k = or-both (sameId x d) false k refl
+has-more x d (y ∷ xs) h k = let t = or-fails (sameId x y) (hasId x xs) h in or-both (sameId x y) _ (t .0) (has-more x d xs (t .1) k)
+
+differ-more : (xs : List Id) (d : Id) → idsDiffer xs ≡ true → hasId d xs ≡ false → idsDiffer (xs ++ (d ∷ [])) ≡ true
+unfolding idsDiffer hasId
+differ-more [] d h k = both-yes _ _ refl refl
+differ-more (x ∷ xs) d h k =
+    let t = and-holds (not (hasId x xs)) (idsDiffer xs) h in
+    let u = or-fails (sameId d x) (hasId d xs) k in
+    both-yes (not (hasId x (xs ++ (d ∷ [])))) (idsDiffer (xs ++ (d ∷ []))) (ap not (has-more x d xs (not-holds (hasId x xs) (t .0)) (other-way x d (u .0)))) (differ-more xs d (t .1) (u .1))
+
+-- There is room for an id that is not there yet.
+yellow-more : (s : Server) (b : List ℕ) (d : Id) → Holds s b → idOk (contextOf s) d ≡ true → hasId d (s .votes .yellow .ids) ≡ false
+    → length (s .votes .yellow .ids) + 1 ≤ s .servers * s .quota
+unfolding contextOf
+yellow-more s b d r ok new =
+    let f = in-range s (r .formed) in
+    let ids : List Id = s .votes .yellow .ids in
+    let all = ids-count (contextOf s) (ids ++ (d ∷ [])) (in-range-more (contextOf s) ids d (f .yellow .ids) ok) (differ-more ids d (f .yellow .differ) new) in
+    omega (arith, all, length-append ids (d ∷ []))
+
+-- ---- a yellow list of other ids
+
+-- The votes with these yellow ids.
+abbrev pub withIds : List Id → Votes → Votes
+withIds l v = record { last = v .last; attempt = v .attempt; mark = v .mark; yellow = record { status = v .yellow .status; ids = l } }
+
+count-written : (s : Server) (l : List Id) (m : ℕ) → m ≡ length l → set (fields s) theYellowCount (bytesOf 2 m) ≡ fields (withVotes (withIds l (s .votes)) s)
+count-written s l m e = ap (λ (k : ℕ). set (fields s) theYellowCount (bytesOf 2 k)) e
+
+-- An id behind the last one, and the count.
+pub id-added : (s : Server) (b b₁ b₂ : List ℕ) (d : Id) → Holds s b → length (s .votes .yellow .ids) + 1 ≤ s .servers * s .quota
+    → b₁ ≡ patched (place theYellow b + 3 * yellowCount b) (idBytes d) b → b₂ ≡ patched atYellowCount (bytesOf 2 (yellowCount b + 1)) b₁
+    → b₂ ≡ image (withVotes (withIds (s .votes .yellow .ids ++ (d ∷ [])) (s .votes)) s) b
+unfolding sections parts sum offset
+id-added s b b₁ b₂ d r room e₁ e₂ =
+    let n : ℕ = s .servers in
+    let q : ℕ = s .quota in
+    let ids : List Id = s .votes .yellow .ids in
+    let t : Server = withVotes (withIds (ids ++ (d ∷ [])) (s .votes)) s in
+    let count : yellowCount b ≡ length ids = holds-yellow-count s b r in
+    let at : place theYellow b + 3 * yellowCount b ≡ begin (sections n q) theYellow + length (idsBytes ids) =
+    ap₂ {A = ℕ} {B = ℕ} {C = ℕ} (λ x y. x + y) (holds-place s b r theYellow) (ap (λ (m : ℕ). 3 * m) count ∙ sym (ids-length ids)) in
+    let fits : length (idsBytes ids) + length (idBytes d) ≤ 3 * (n * q) = omega (arith, ids-length ids, id-length d) in
+    let one = changed-at (sections n q) (parts n q s b) b b (holds-changed s b r) theYellow (length (idsBytes ids)) (place theYellow b + 3 * yellowCount b) (idBytes d) at (omega arith) fits in
+    let two = changed-at (sections n q) _ b _ one theHeader atYellowCount atYellowCount (bytesOf 2 (yellowCount b + 1)) refl (omega arith) (omega (arith, bytes-length 2 (yellowCount b + 1))) in
+    let list : patched (length (idsBytes ids)) (idBytes d) (over (idsBytes ids) (section n q theYellow b)) ≡ over (idsBytes (ids ++ (d ∷ []))) (section n q theYellow b) =
+    over-extended (idsBytes ids) (idBytes d) (section n q theYellow b)
+    ∙ ap (λ (y : List ℕ). over y (section n q theYellow b)) (ap (λ (y : List ℕ). idsBytes ids ++ y) (sym (ids-one d)) ∙ sym (ids-append ids (d ∷ []))) in
+    let more : yellowCount b + 1 ≡ length (ids ++ (d ∷ [])) = omega (arith, count, length-append ids (d ∷ [])) in
+    let header : patched atYellowCount (bytesOf 2 (yellowCount b + 1)) (headerBytes s) ≡ headerBytes t =
+    one-field s t theYellowCount (bytesOf 2 (yellowCount b + 1)) (omega arith) (bytes-length 2 _) (count-written s (ids ++ (d ∷ [])) (yellowCount b + 1) more) in
+    e₂
+    ∙ ap (patched atYellowCount (bytesOf 2 (yellowCount b + 1))) e₁
+    ∙ changed-image t _ b _ two (ap₂ {A = List ℕ} {B = List ℕ} {C = List (List ℕ)} (λ x y. set (set (parts n q s b) theYellow y) theHeader x) header list)
+
+-- ---- the operation
+
+-- The id is there already.
+pub id-there : (d : Id) (b : List ℕ) (at m : ℕ) (t : Bool) → at ≡ place theYellow b → m ≡ numberAt 2 b atYellowCount → t ≡ hasId d (idsAt m b at) → t ≡ true
+    → (s : Server) → Holds s b → idOk (contextOf s) d ≡ true → b ≡ image (withVotes (joinYellow d (s .votes)) s) b
+unfolding joinYellow addId yellowCount
+id-there d b at m t e₁ e₂ e₃ here s r ok =
+    let ids : List Id = s .votes .yellow .ids in
+    let has : hasId d ids ≡ true = ap (hasId d) (sym (holds-ids s b r)) ∙ rw (← e₁, ← e₂) (sym e₃ ∙ here) in
+    sym (r .written) ∙ ap (λ (l : List Id). image (withVotes (withIds l (s .votes)) s) b) (pick-yes (hasId d ids) ids ids (ids ++ (d ∷ [])) has refl)
+
+-- It is not.
+pub id-new : (d : Id) (b b₂ : List ℕ) (at m : ℕ) (t : Bool) → at ≡ place theYellow b → m ≡ numberAt 2 b atYellowCount → t ≡ hasId d (idsAt m b at) → t ≡ false
+    → b₂ ≡ patched atYellowCount (bytesOf 2 (m + 1)) (patched (at + 3 * m) (idBytes d) b)
+    → (s : Server) → Holds s b → idOk (contextOf s) d ≡ true → b₂ ≡ image (withVotes (joinYellow d (s .votes)) s) b
+unfolding joinYellow addId yellowCount
+id-new d b b₂ at m t e₁ e₂ e₃ away f s r ok =
+    let ids : List Id = s .votes .yellow .ids in
+    let new : hasId d ids ≡ false = ap (hasId d) (sym (holds-ids s b r)) ∙ rw (← e₁, ← e₂) (sym e₃ ∙ away) in
+    let made : b₂ ≡ patched atYellowCount (bytesOf 2 (yellowCount b + 1)) (patched (place theYellow b + 3 * yellowCount b) (idBytes d) b) = rw (← e₁, ← e₂) f in
+    id-added s b _ b₂ d r (yellow-more s b d r ok new) refl made
+    ∙ ap (λ (l : List Id). image (withVotes (withIds l (s .votes)) s) b) (pick-no (hasId d ids) (ids ++ (d ∷ [])) ids (ids ++ (d ∷ [])) new refl)
+
+-- ---- ids in bytes, one by one
+
+ids-more : (e : List ℕ) (at k m : ℕ) → k < m → idsAt (m - k) e (at + 3 * k) ≡ idAt e (at + 3 * k) ∷ idsAt (m - (k + 1)) e (at + 3 * (k + 1))
+unfolding idsAt
+ids-more e at k m h =
+    let a : m - k ≡ suc (m - (k + 1)) = omega arith in
+    let b : at + 3 * (k + 1) ≡ at + 3 * k + 3 = omega arith in
+    ap (λ (i : ℕ). idsAt i e (at + 3 * k)) a ∙ rw b
+
+pub has-start : (e : List ℕ) (at m : ℕ) (d : Id) → hasId d (idsAt m e at) ≡ hasId d (idsAt (m - 0) e (at + 3 * 0))
+has-start e at m d =
+    let a : m - 0 ≡ m = omega arith in
+    let b : at + 3 * 0 ≡ at = omega arith in
+    rw (a, b)
+
+pub has-found : (e : List ℕ) (at k m : ℕ) (d : Id) (t w : Bool) → k < m → t ≡ sameId d (idAt e (at + 3 * k)) → t ≡ true
+    → w ≡ hasId d (idsAt (m - k) e (at + 3 * k)) → true ≡ w
+unfolding hasId _or_
+has-found e at k m d t w h f g j = sym (j ∙ ap (hasId d) (ids-more e at k m h) ∙ rw (sym f ∙ g))
+
+pub has-again : (e : List ℕ) (at k m : ℕ) (d : Id) (t w : Bool) → k < m → t ≡ sameId d (idAt e (at + 3 * k)) → t ≡ false
+    → w ≡ hasId d (idsAt (m - k) e (at + 3 * k)) → w ≡ hasId d (idsAt (m - (k + 1)) e (at + 3 * (k + 1)))
+unfolding hasId _or_
+has-again e at k m d t w h f g j = j ∙ ap (hasId d) (ids-more e at k m h) ∙ rw (sym f ∙ g)
+
+pub has-end : (e : List ℕ) (at k m : ℕ) (d : Id) (w : Bool) → m ≤ k → w ≡ hasId d (idsAt (m - k) e (at + 3 * k)) → false ≡ w
+unfolding hasId idsAt
+has-end e at k m d w h j = let a : m - k ≡ 0 = omega arith in sym (j ∙ ap (λ (i : ℕ). hasId d (idsAt i e (at + 3 * k))) a)
+
+pub id-other : (e : List ℕ) (at c i x : ℕ) → x ≡ numberAt 1 e at → (c ≡ x → ⊥) → false ≡ sameId (idOf c i) (idAt e at)
+unfolding sameId idOf idAt
+id-other e at c i x f h = and-ne c (numberAt 1 e at) _ (λ g. h (g ∙ sym f))
+
+pub id-same : (e : List ℕ) (at c i x y : ℕ) → x ≡ numberAt 1 e at → c ≡ x → y ≡ numberAt 2 e (at + 1) → eqb i y ≡ sameId (idOf c i) (idAt e at)
+unfolding sameId idOf idAt
+id-same e at c i x y f h g = and-eq c (numberAt 1 e at) _ _ (h ∙ f) (told-eq i y ∙ ap (λ (m : ℕ). i =? m) g)

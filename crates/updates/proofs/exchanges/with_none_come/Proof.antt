@@ -1,0 +1,13 @@
+use Rattle.engine.specs.Image.{modeNumber}
+use Rattle.replication.specs.Machine.Step.{resending}
+use Rattle.engine.specs.Header.{headerOf}
+use mathlib.Core.Path.{refl}
+use Rattle.updates.proofs.exchanges.with_none_come.Statement.{statement}
+use Rattle.updates.proofs.exchanges.with_none_come.Tie as tie
+
+returns : tie.Need-returns
+unfolding headerOf resending modeNumber
+returns c = λ s e. rw e refl
+
+pub with-none-come-spec : {M : Type 1} → statement M
+with-none-come-spec = tie.close (tie.spec returns)

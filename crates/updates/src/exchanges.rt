@@ -1,0 +1,102 @@
+// Exchanges: how many retransmissions have come, and the end.
+ghost use mathlib.Core.Path.{_≡_};
+ghost use Prim.Native.Nat.{_*_, _≤_};
+ghost use lib.ListN.{length};
+ghost use Rattle.format.specs.Limits.{mostIndex, mostServers, mostQuota};
+ghost use Rattle.format.specs.Write.{idsBytes};
+ghost use Rattle.replication.specs.Machine.Types.{Server};
+ghost use Rattle.replication.specs.Machine.Exchange.{takenVotes};
+ghost use Rattle.replication.specs.Machine.Step.{oneMore, resending, attempting, collected, decided};
+ghost use Rattle.engine.specs.Image.{image};
+ghost use Rattle.engine.specs.Header.{headerOf};
+ghost use Rattle.engine.specs.Holding.{Holds, HoldsSome, HoldsSuch, Becomes};
+ghost use Rattle.updates.specs.Standing.{voteNumbers};
+ghost use Rattle.engine.specs.Layout.{headerSize};
+use crate::notes::note_all;
+use crate::numbers::save_numbers;
+use crate::votes::VoteNumbers;
+use crate::votes::take_votes;
+use engine::header::load;
+use record::AttemptIndex;
+use record::Mark;
+use record::State;
+
+fn with_one_more(h: State) -> State
+    requires { ⌜ h .come ≤ 2 * (mostServers * mostQuota) ⌝ }
+    ensures { λ r. ⌜ ((s : Server) → h ≡ headerOf s → r ≡ headerOf (oneMore s)) ⌝ }
+{
+    let come = h.come + 1;
+    let mut t = h;
+    t.come = come;
+    t
+}
+
+// A retransmission has come.
+pub fn one_more(state: &mut [u8])
+    requires { ⌜ HoldsSome (now state) ⌝ }
+    ensures { λ _. ⌜ Becomes oneMore (now (state .entry)) (now (state .exit)) ⌝ }
+{
+    let h = load(state);
+    let t = with_one_more(h);
+    save_numbers(state, t);
+}
+
+fn with_none_come(h: State) -> State
+    ensures { λ r. ⌜ ((s : Server) → h ≡ headerOf s → r ≡ headerOf (resending s)) ⌝ }
+{
+    let mut t = h;
+    t.mode = State::EXCHANGE_ACTIONS;
+    t.come = 0;
+    t
+}
+
+// To Exchange_actions.
+pub fn resend(state: &mut [u8])
+    requires { ⌜ headerSize ≤ length (now state) ⌝ }
+    ensures { λ _. ⌜ Becomes resending (now (state .entry)) (now (state .exit)) ⌝ }
+{
+    let h = load(state);
+    let t = with_none_come(h);
+    save_numbers(state, t);
+}
+
+// "attempt + 1, mark (primary index, attempt, this set, no bits) .., Construct"
+fn with_attempt(h: State) -> State
+    requires { ⌜ h .attempt .0 ≤ mostIndex ⌝ }
+    ensures { λ r. ⌜ ((s : Server) → h ≡ headerOf s → r ≡ headerOf (attempting s)) ⌝ }
+{
+    let last = h.last;
+    let index = last.index;
+    let attempt = AttemptIndex(h.attempt.0 + 1);
+    let mark = Mark {
+        status: 1,
+        index,
+        attempt,
+        set: h.configuration_set,
+        bits: 0,
+    };
+    let mut t = h;
+    t.mode = State::CONSTRUCT;
+    t.attempt = attempt;
+    t.mark = mark;
+    t
+}
+
+// A primary component is attempted.
+pub fn attempt(state: &mut [u8])
+    requires { ⌜ HoldsSome (now state) ⌝ }
+    ensures { λ _. ⌜ Becomes attempting (now (state .entry)) (now (state .exit)) ⌝ }
+{
+    let h = load(state);
+    let t = with_attempt(h);
+    save_numbers(state, t);
+}
+
+// Noted lengths and votes as the States decide; v and ids are the votes that they decide.
+pub fn decide(state: &mut [u8], v: VoteNumbers, ids: &[u8])
+    requires { ⌜ HoldsSuch (λ s. length (now ids) ≤ 3 * (s .servers * s .quota)) (now state) ⌝ }
+    ensures { λ _. ⌜ ((s : Server) → Holds s (now (state .entry)) → v ≡ voteNumbers (takenVotes (s .me) (collected s)) → idsBytes (takenVotes (s .me) (collected s) .yellow .ids) ≡ now (ids .entry) → now (state .exit) ≡ image (decided s) (now (state .entry))) ⌝ }
+{
+    note_all(state);
+    take_votes(state, v, ids);
+}

@@ -1,0 +1,93 @@
+// Noted lengths in a state's buffer.
+ghost use mathlib.Core.Path.{_≡_};
+ghost use mathlib.Core.Option.{none};
+ghost use Prim.Native.Nat.{_+_, _*_, _≤_, _<_};
+ghost use lib.ListN.{length, getD};
+ghost use Rattle.base.specs.Bytes.{numberAt};
+ghost use Rattle.base.specs.Sets.{inSet};
+ghost use Rattle.replication.specs.Machine.Types.{withNoted};
+ghost use Rattle.replication.specs.Machine.Colours.{note as noted};
+ghost use Rattle.replication.specs.Machine.Exchange.{noteAll};
+ghost use Rattle.replication.specs.Machine.Step.{collected};
+ghost use Rattle.engine.specs.Layout.{stateSize, theNoted, theStates, headerSize, atStates};
+ghost use Rattle.engine.specs.Decode.{serversIn, quotaIn};
+ghost use Rattle.engine.specs.Holding.{HoldsSome, Becomes};
+ghost use Rattle.updates.specs.Lists.{NumberIn, place};
+ghost use Rattle.updates.specs.Noting.{noteSlot};
+ghost use Rattle.format.specs.Places.{stateCutsAt};
+use crate::states::state_place;
+use engine::places::noted_at;
+use record::State;
+use record::StateHead;
+use record::bytes::num8;
+use record::bytes::num16;
+use record::bytes::num32;
+use record::parts::put32;
+
+// Where the noted length of server c lies.
+fn noted_place(state: &[u8], c: u8) -> usize
+    requires { ⌜ NumberIn c (now state) ⌝ }
+    ensures { λ r. ⌜ (r ≡ place theNoted (now (state .entry)) + 4 * c) × (r + 4 ≤ length (now (state .entry))) ⌝ }
+{
+    noted_at(
+        num8(state, State::AT_SERVERS) as u32,
+        num16(state, State::AT_QUOTA) as u32,
+    ) as usize
+        + 4 * c as usize
+}
+
+// "a noted length never falls"
+pub fn note(state: &mut [u8], c: u8, l: u32)
+    requires { ⌜ NumberIn c (now state) ⌝ }
+    ensures { λ _. ⌜ Becomes (λ s. withNoted (noted c l (s .noted)) s) (now (state .entry)) (now (state .exit)) ⌝ }
+{
+    let at = noted_place(state, c);
+    let old = num32(state, at);
+    if l <= old {
+        return;
+    }
+    put32(state, at, l);
+}
+
+// Whether the State of server k is in.
+fn is_in(state: &[u8], k: u8) -> bool
+    requires { ⌜ (headerSize ≤ length (now state)) × (k < 8) ⌝ }
+    ensures { λ r. ⌜ r ≡ inSet k (numberAt 1 (now (state .entry)) atStates) ⌝ }
+{
+    (num8(state, State::AT_STATES) >> k) % 2 == 1
+}
+
+// The green length in the State of server k: behind the cuts.
+fn sent_length(state: &[u8], k: u8) -> u32
+    requires { ⌜ NumberIn k (now state) ⌝ }
+    ensures { λ r. ⌜ r ≡ numberAt 4 (now (state .entry)) (place theStates (now (state .entry)) + k * stateSize (serversIn (now (state .entry))) (quotaIn (now (state .entry))) + (stateCutsAt + 2 * serversIn (now (state .entry)))) ⌝ }
+{
+    let at = state_place(state, k);
+    let n = num8(state, State::AT_SERVERS) as usize;
+    num32(state, at + (StateHead::CUTS + 2 * n))
+}
+
+// The green length of server k, if its State is in.
+fn note_state(state: &mut [u8], k: u8)
+    requires { ⌜ NumberIn k (now state) ⌝ }
+    ensures { λ _. ⌜ Becomes (λ s. withNoted (noteSlot (getD (s .membership .states) k none) (s .noted)) s) (now (state .entry)) (now (state .exit)) ⌝ }
+{
+    if !is_in(state, k) {
+        return;
+    }
+    let l = sent_length(state, k);
+    note(state, k, l);
+}
+
+// "note each State's green length"
+pub fn note_all(state: &mut [u8])
+    requires { ⌜ HoldsSome (now state) ⌝ }
+    ensures { λ _. ⌜ Becomes (λ s. withNoted (noteAll (collected s) (s .noted)) s) (now (state .entry)) (now (state .exit)) ⌝ }
+{
+    let n = num8(state, State::AT_SERVERS);
+    let mut k: u8 = 0;
+    while k < n {
+        note_state(state, k);
+        k += 1;
+    }
+}

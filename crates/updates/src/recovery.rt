@@ -1,0 +1,107 @@
+// Recovery: the own list entered red, and what was held and collected dropped.
+ghost use mathlib.Core.Path.{_≡_};
+ghost use Prim.Native.Nat.{_+_, _≤_};
+ghost use lib.ListN.{length};
+ghost use Rattle.base.specs.Bytes.{bytesOf, partAt};
+ghost use Rattle.base.specs.Patched.{patched};
+ghost use Rattle.replication.specs.Machine.Types.{Server, withLog};
+ghost use Rattle.replication.specs.Machine.Colours.{reds};
+ghost use Rattle.replication.specs.Machine.Requests.{recovered};
+ghost use Rattle.engine.specs.Image.{image};
+ghost use Rattle.engine.specs.Header.{headerOf};
+ghost use Rattle.engine.specs.Holding.{HoldsSome, Becomes};
+ghost use Rattle.updates.specs.Standing.{EnterRoom, dropped};
+ghost use Rattle.engine.specs.Layout.{headerSize, atQueueLength, atOwnCount};
+use crate::numbers::save_numbers;
+use crate::requests::own_place;
+use engine::header::load;
+use queue::places::queue_place;
+use record::State;
+use record::bytes::num8;
+use record::bytes::num16;
+use record::bytes::num32;
+use record::parts::put16;
+use record::parts::put32;
+
+// Copies the `count` bytes from `from` on, which lie in front of `to`, to `to`.
+fn copy_up(state: &mut [u8], from: usize, to: usize, count: usize)
+    requires { ⌜ (from + count ≤ to) × (to + count ≤ length (now state)) ⌝ }
+    ensures { λ _. ⌜ now (state .exit) ≡ patched to (partAt count (now (state .entry)) from) (now (state .entry)) ⌝ }
+{
+    let mut j: usize = 0;
+    while j < count {
+        state[to + j] = state[from + j];
+        j += 1;
+    }
+}
+
+fn put_queue(state: &mut [u8], queue: u32)
+    requires { ⌜ headerSize ≤ length (now state) ⌝ }
+    ensures { λ _. ⌜ now (state .exit) ≡ patched atOwnCount (bytesOf 2 0) (patched atQueueLength (bytesOf 4 queue) (now (state .entry))) ⌝ }
+{
+    put32(state, State::AT_QUEUE_LENGTH, queue);
+    put16(state, State::AT_OWN_COUNT, 0);
+}
+
+// The counts of the queue and of the own list, which is empty, and the cut at `at`.
+fn put_entered(state: &mut [u8], queue: u32, at: usize, cut: u16)
+    requires { ⌜ (headerSize ≤ length (now state)) × (at + 2 ≤ length (now state)) ⌝ }
+    ensures { λ _. ⌜ now (state .exit) ≡ patched at (bytesOf 2 cut) (patched atOwnCount (bytesOf 2 0) (patched atQueueLength (bytesOf 4 queue) (now (state .entry)))) ⌝ }
+{
+    put_queue(state, queue);
+    put16(state, at, cut);
+}
+
+// "own-list actions above the own cut entered red": all of them, behind the queue. The own cut is then the last numbered one.
+fn enter_own(state: &mut [u8])
+    requires { ⌜ EnterRoom (now state) ⌝ }
+    ensures { λ _. ⌜ Becomes (λ s. withLog (reds (s .log .own) (s .log)) s) (now (state .entry)) (now (state .exit)) ⌝ }
+{
+    let own = num16(state, State::AT_OWN_COUNT);
+    let queue = num32(state, State::AT_QUEUE_LENGTH);
+    let from = own_place(state);
+    let to = queue_place(state);
+    let at = State::SIZE + 2 * num8(state, State::AT_ME) as usize;
+    let numbered = num16(state, State::AT_NUMBERED);
+    copy_up(
+        state,
+        from,
+        to + State::SLOT * queue as usize,
+        State::SLOT * own as usize,
+    );
+    put_entered(state, queue + own as u32, at, numbered);
+}
+
+fn without_membership(h: State) -> State
+    ensures { λ r. ⌜ ((s : Server) → h ≡ headerOf s → r ≡ headerOf (dropped s)) ⌝ }
+{
+    let mut t = h;
+    t.mode = State::NON_PRIM;
+    t.configuration_status = 0;
+    t.configuration_id = 0;
+    t.configuration_set = 0;
+    t.transitional_status = 0;
+    t.transitional_set = 0;
+    t.states = 0;
+    t.held_count = 0;
+    t
+}
+
+// "Non_prim, no configuration, holds and States dropped"
+fn drop_membership(state: &mut [u8])
+    requires { ⌜ headerSize ≤ length (now state) ⌝ }
+    ensures { λ _. ⌜ Becomes dropped (now (state .entry)) (now (state .exit)) ⌝ }
+{
+    let h = load(state);
+    let t = without_membership(h);
+    save_numbers(state, t);
+}
+
+// "Recovery, from the stored image"
+pub fn recover(state: &mut [u8])
+    requires { ⌜ HoldsSome (now state) ⌝ }
+    ensures { λ _. ⌜ Becomes recovered (now (state .entry)) (now (state .exit)) ⌝ }
+{
+    enter_own(state);
+    drop_membership(state);
+}
