@@ -1,6 +1,6 @@
 -- How long the bytes of a record are.
 -- Assumes nothing.
-use Prim.Native.Nat.{ℕ, _+_, _*_, _≤_}
+use Prim.Native.Nat.{ℕ, _+_, _*_, _-_, _≤_}
 use mathlib.Core.Path.{_≡_, refl, _∙_}
 use mathlib.Core.Bool.{true}
 use mathlib.Core.List.{List, [], _∷_}
@@ -10,13 +10,14 @@ use lib.ListN.{length, length-append}
 use Rattle.base.proofs.TestLaws.{and-holds}
 use Rattle.base.specs.Bytes.{bytesOf, joined}
 use Rattle.format.specs.Limits.{mostServers, mostQuota}
+use Rattle.format.specs.Places.{atBody, idSize, actionHeadSize, primarySize, markSize, stateHeadSize}
 use Rattle.format.specs.Types.{Id, Action, Primary, Mark, State, Record, action, retransmission, state, cpc, regular, transitional, request, recovery, kindNumber, kindOf, Context}
 use Rattle.format.specs.Range.{fieldsOk, recordOk}
 use Rattle.format.specs.Write.{framed, payloadBytes, idBytes, actionBytes, cutsBytes, primaryBytes, markBytes, idsBytes, yellowBytes, stateBytes, bodyOf, write, lengthOf}
 use Rattle.format.proofs.Ranges.{ContextRange, context-range, payload-range, action-range, state-range}
 use Rattle.format.proofs.IdCount.{ids-count}
 
-pub framed-length : (kind : ℕ) (body : List ℕ) → length (framed kind body) ≡ 4 + length body
+pub framed-length : (kind : ℕ) (body : List ℕ) → length (framed kind body) ≡ atBody + length body
 unfolding framed joined bytesOf
 framed-length kind body = simp length-append (omega arith)
 
@@ -24,19 +25,19 @@ pub payload-length : (p : List ℕ) → length (payloadBytes p) ≡ 1 + length p
 unfolding payloadBytes joined bytesOf
 payload-length p = simp length-append (omega arith)
 
-pub id-length : (d : Id) → length (idBytes d) ≡ 3
+pub id-length : (d : Id) → length (idBytes d) ≡ idSize
 unfolding idBytes joined bytesOf
 id-length d = refl
 
-pub primary-length : (p : Primary) → length (primaryBytes p) ≡ 9
+pub primary-length : (p : Primary) → length (primaryBytes p) ≡ primarySize
 unfolding primaryBytes joined bytesOf
 primary-length p = refl
 
-pub mark-length : (m : Mark) → length (markBytes m) ≡ 11
+pub mark-length : (m : Mark) → length (markBytes m) ≡ markSize
 unfolding markBytes joined bytesOf
 mark-length m = refl
 
-pub action-length : (a : Action) → length (actionBytes a) ≡ 8 + length (a .payload)
+pub action-length : (a : Action) → length (actionBytes a) ≡ actionHeadSize + length (a .payload)
 unfolding actionBytes idBytes joined bytesOf
 action-length a = simp (length-append, payload-length) (omega arith)
 
@@ -45,16 +46,16 @@ unfolding cutsBytes joined bytesOf
 cuts-length [] = refl
 cuts-length (x ∷ xs) = simp (length-append, cuts-length xs) (omega arith)
 
-pub ids-length : (xs : List Id) → length (idsBytes xs) ≡ 3 * length xs
+pub ids-length : (xs : List Id) → length (idsBytes xs) ≡ idSize * length xs
 unfolding idsBytes idBytes joined bytesOf
 ids-length [] = refl
 ids-length (x ∷ xs) = simp (length-append, ids-length xs) (omega arith)
 
-pub state-length : (s : State) → length (stateBytes s) ≡ 36 + 2 * length (s .cuts) + 3 * length (s .yellow .ids)
+pub state-length : (s : State) → length (stateBytes s) ≡ stateHeadSize - atBody + 2 * length (s .cuts) + idSize * length (s .yellow .ids)
 unfolding stateBytes primaryBytes markBytes yellowBytes joined bytesOf
 state-length s = simp (length-append, cuts-length, ids-length) (omega arith)
 
-pub body-length : (r : Record) → 4 + length (bodyOf r) ≡ lengthOf r
+pub body-length : (r : Record) → atBody + length (bodyOf r) ≡ lengthOf r
 unfolding bodyOf lengthOf joined bytesOf
 body-length (action a) = rw action-length (omega arith)
 body-length (retransmission s p a) = simp (length-append, action-length) (omega arith)
@@ -71,6 +72,10 @@ write-length r = framed-length (kindNumber (kindOf r)) (bodyOf r) ∙ body-lengt
 
 -- ---- a record in range is short
 
+-- The longest one is a State.
+abbrev pub mostState : ℕ
+mostState = stateHeadSize + 2 * mostServers + idSize * (mostServers * mostQuota)
+
 ids-short : (c : Context) (s : State) → ContextRange c → fieldsOk c (state s) ≡ true → length (s .yellow .ids) ≤ mostServers * mostQuota
 unfolding fieldsOk
 ids-short c s r ok =
@@ -78,7 +83,7 @@ ids-short c s r ok =
     let product : c .servers * c .quota ≤ mostServers * mostQuota = mul-le-mul (r .sizes .most) (r .sizes .highest) in
     omega (arith, ids-count c (s .yellow .ids) (y .ids) (y .differ))
 
-length-short : (c : Context) (r : Record) → ContextRange c → fieldsOk c r ≡ true → lengthOf r ≤ 40 + 2 * 8 + 3 * 2048
+length-short : (c : Context) (r : Record) → ContextRange c → fieldsOk c r ≡ true → lengthOf r ≤ mostState
 unfolding lengthOf fieldsOk
 length-short c (action a) s ok = omega (arith, action-range c a s ok .payload .most)
 length-short c (retransmission i p a) s ok = omega (arith, action-range c a s (and-holds _ _ (and-holds _ _ ok .1) .1) .payload .most)
@@ -89,7 +94,7 @@ length-short c (transitional x) s ok = omega arith
 length-short c (request p) s ok = omega (arith, payload-range p ok .most)
 length-short c recovery s ok = omega arith
 
-pub write-short : (c : Context) (r : Record) → recordOk c r ≡ true → length (write r) ≤ 40 + 2 * 8 + 3 * 2048
+pub write-short : (c : Context) (r : Record) → recordOk c r ≡ true → length (write r) ≤ mostState
 unfolding recordOk
 write-short c r ok =
     let a = and-holds _ _ ok in

@@ -10,6 +10,7 @@ use native.Mathlib.Omega.{arith}
 use Rattle.base.specs.Tests.{_=?_, pick}
 use Rattle.base.proofs.TestLaws.{pick-yes, eq-holds}
 use Rattle.base.specs.Bytes.{numberAt}
+use Rattle.format.specs.Places.{atKind}
 use Rattle.format.specs.Types.{Record, Kind, ofAction, ofRetransmission, ofState, ofCpc, ofRegular, ofTransitional, ofRequest, ofRecovery, kindNumber, kindOf, Context, Reading, says, refused}
 use Rattle.format.specs.Range.{recordOk}
 use Rattle.format.specs.Read.{kindNamed, frameOk, recordIn, readAs, read}
@@ -84,7 +85,7 @@ record-kind ofRecovery n e = refl
 -- What it says that e is read as r.
 pub record Read (c : Context) (e : List ℕ) (r : Record) : Type 0 where
   pub kind : Kind
-  pub named : kindNamed (numberAt 1 e 3) ≡ some kind
+  pub named : kindNamed (numberAt 1 e atKind) ≡ some kind
   pub frame : frameOk kind (c .servers) e ≡ true
   pub same : recordIn kind (c .servers) e ≡ r
   pub range : recordOk c r ≡ true
@@ -99,9 +100,9 @@ read-says c e r x =
 
 pub says-read : (c : Context) (e : List ℕ) (r : Record) → read c e ≡ says r → Read c e r
 unfolding read readAs
-says-read c e r h = go (kindNamed (numberAt 1 e 3)) refl h
+says-read c e r h = go (kindNamed (numberAt 1 e atKind)) refl h
   where
-    go : (k : Option Kind) → kindNamed (numberAt 1 e 3) ≡ k → readAs k c e ≡ says r → Read c e r
+    go : (k : Option Kind) → kindNamed (numberAt 1 e atKind) ≡ k → readAs k c e ≡ says r → Read c e r
     go none p h = says-refused r 1 (sym h)
     go (some k) p h =
         let framed = says-checked (frameOk k (c .servers) e) _ 1 r h in
@@ -114,7 +115,7 @@ read-in-range c e r h = says-read c e r h .range
 
 pub refusal-number : (c : Context) (e : List ℕ) (k : ℕ) → read c e ≡ refused k → (k ≡ 1) ⊎ (k ≡ 2)
 unfolding read readAs
-refusal-number c e m h = go (kindNamed (numberAt 1 e 3)) h
+refusal-number c e m h = go (kindNamed (numberAt 1 e atKind)) h
   where
     go : (k : Option Kind) → readAs k c e ≡ refused m → (m ≡ 1) ⊎ (m ≡ 2)
     go none h = let one : m ≡ 1 = cc in inl one

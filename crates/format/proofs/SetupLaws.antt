@@ -1,6 +1,6 @@
 -- The two laws of the set-up record.
 -- Assumes nothing.
-use Prim.Native.Nat.{ℕ, _+_, _≤_}
+use Prim.Native.Nat.{ℕ, _+_, _≤_, _-_}
 use mathlib.Core.Path.{_≡_, refl, sym, ap, _∙_}
 use mathlib.Core.Bool.{true}
 use mathlib.Core.List.{List, [], _∷_}
@@ -11,48 +11,49 @@ use Rattle.base.proofs.TestLaws.{pick-yes, and-holds, both-yes, eq-yes, eq-hold
 use Rattle.base.specs.Bytes.{Bytes, bytesOf, numberAt, joined}
 use Rattle.base.proofs.BytesLaws.{bytes-small, bytes-joined}
 use Rattle.base.proofs.Occurs.{Occurs, joined-parts, parts-joined, number-read, number-occurs}
+use Rattle.format.specs.Places.{lengthSize, atBody, setupQuotaAt, setupSize}
 use Rattle.format.specs.Types.{says, refused}
 use Rattle.format.specs.Write.{framed}
-use Rattle.format.specs.Setup.{Setup, writeSetup, setupIn, setupFrameOk, setupOk, readSetup}
+use Rattle.format.specs.Setup.{setupKind, Setup, writeSetup, setupIn, setupFrameOk, setupOk, readSetup}
 use Rattle.format.proofs.Ranges.{SizesRange, sizes-range}
 use Rattle.format.proofs.WriteBytes.{framed-bytes}
 use Rattle.format.proofs.Frame.{Frame, frame-read, frame-written}
 use Rattle.format.proofs.Reading.{says-refused, says-same, says-checked, refused-checked}
 
-pub setup-length : (s : Setup) → length (writeSetup s) ≡ 7
+pub setup-length : (s : Setup) → length (writeSetup s) ≡ setupSize
 unfolding writeSetup framed joined bytesOf
 setup-length s = refl
 
 pub setup-bytes : (s : Setup) → Bytes (writeSetup s)
 unfolding writeSetup
-setup-bytes s = framed-bytes 9 _ (bytes-joined _ (bytes-small 1 (s .servers), (bytes-small 2 (s .quota), tt)))
+setup-bytes s = framed-bytes setupKind _ (bytes-joined _ (bytes-small 1 (s .servers), (bytes-small 2 (s .quota), tt)))
 
 setup-body : Setup → List ℕ
 setup-body s = joined (bytesOf 1 (s .servers) ∷ bytesOf 2 (s .quota) ∷ [])
 
-body-size : (s : Setup) → length (setup-body s) ≡ 3
+body-size : (s : Setup) → length (setup-body s) ≡ setupSize - atBody
 unfolding setup-body joined bytesOf
 body-size s = refl
 
-setup-frame : (s : Setup) → Frame 9 (setup-body s) (writeSetup s)
+setup-frame : (s : Setup) → Frame setupKind (setup-body s) (writeSetup s)
 unfolding writeSetup setup-body
-setup-frame s = frame-read 9 (setup-body s) (omega arith) (omega (arith, body-size s))
+setup-frame s = frame-read setupKind (setup-body s) (omega arith) (omega (arith, body-size s))
 
 setup-framed : (s : Setup) → setupFrameOk (writeSetup s) ≡ true
 unfolding setupFrameOk
 setup-framed s =
     let f = setup-frame s in
-    let size : length (writeSetup s) ≡ 7 = setup-length s in
-    let body : length (setup-body s) ≡ 3 = body-size s in
+    let size : length (writeSetup s) ≡ setupSize = setup-length s in
+    let body : length (setup-body s) ≡ setupSize - atBody = body-size s in
     both-yes _ _ (eq-yes _ _ (omega (arith, f .long)))
     (both-yes _ _ (eq-yes _ _ (f .versionByte)) (both-yes _ _ (eq-yes _ _ (f .kindByte)) (eq-yes _ _ size)))
 
 setup-back : (s : Setup) → SizesRange (s .servers) (s .quota) → setupIn (writeSetup s) ≡ s
 unfolding setupIn setup-body bytesOf
 setup-back s r =
-    let parts = joined-parts _ (writeSetup s) 4 (setup-frame s .body) in
-    let servers : numberAt 1 (writeSetup s) 4 ≡ s .servers = number-read 1 4 (parts .0) refl (omega arith) in
-    let quota : numberAt 2 (writeSetup s) 5 ≡ s .quota = number-read 2 5 (parts .1 .0) refl (omega arith) in
+    let parts = joined-parts _ (writeSetup s) atBody (setup-frame s .body) in
+    let servers : numberAt 1 (writeSetup s) atBody ≡ s .servers = number-read 1 atBody (parts .0) refl (omega arith) in
+    let quota : numberAt 2 (writeSetup s) setupQuotaAt ≡ s .quota = number-read 2 setupQuotaAt (parts .1 .0) refl (omega arith) in
     λ i. record { servers = servers i; quota = quota i }
 
 pub setup-read-written : (servers quota : ℕ) (s : Setup) → setupOk servers quota s ≡ true → readSetup servers quota (writeSetup s) ≡ says s
@@ -63,9 +64,9 @@ setup-read-written servers quota s ok =
     (pick-yes _ (says s) _ _ (setup-framed s)
     (pick-yes _ (says s) _ _ (ap (setupOk servers quota) same ∙ ok) (ap says (sym same))))
 
-setup-written : (e : List ℕ) → Bytes e → 7 ≤ length e → Occurs (setup-body (setupIn e)) e 4
+setup-written : (e : List ℕ) → Bytes e → setupSize ≤ length e → Occurs (setup-body (setupIn e)) e atBody
 unfolding setup-body setupIn bytesOf
-setup-written e b h = parts-joined _ e 4 (number-occurs 1 e 4 refl b (omega arith), (number-occurs 2 e 5 refl b (omega arith), tt))
+setup-written e b h = parts-joined _ e atBody (number-occurs 1 e atBody refl b (omega arith), (number-occurs 2 e setupQuotaAt refl b (omega arith), tt))
 
 setup-whole : (e : List ℕ) → Bytes e → setupFrameOk e ≡ true → writeSetup (setupIn e) ≡ e
 unfolding setupFrameOk writeSetup setup-body
@@ -73,10 +74,10 @@ setup-whole e b ok =
     let t = and-holds _ _ ok in
     let u = and-holds _ _ (t .1) in
     let v = and-holds _ _ (u .1) in
-    let long : numberAt 2 e 0 + 2 ≡ length e = eq-holds _ _ (t .0) in
-    let size : length e ≡ 7 = eq-holds _ _ (v .1) in
+    let long : numberAt 2 e 0 + lengthSize ≡ length e = eq-holds _ _ (t .0) in
+    let size : length e ≡ setupSize = eq-holds _ _ (v .1) in
     let body = body-size (setupIn e) in
-    frame-written 9 (setup-body (setupIn e)) e b
+    frame-written setupKind (setup-body (setupIn e)) e b
     (record {
       long = omega arith;
       versionByte = eq-holds _ _ (u .0);

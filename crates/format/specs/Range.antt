@@ -9,7 +9,8 @@ use Rattle.base.specs.Tests.{_and_, _or_, _≤?_, _<?_, _=?_}
 use Rattle.base.specs.Bytes.{areBytes}
 use Rattle.base.specs.Sets.{inSet, inside}
 use Rattle.format.specs.Limits.{fewestServers, mostServers, leastQuota, mostQuota, mostPayload, mostIndex}
-use Rattle.format.specs.Types.{Id, Action, Primary, Mark, Yellow, State, Record, action, retransmission, state, cpc, regular, transitional, request, recovery, Context}
+use Rattle.format.specs.Types.{Id, Action, Primary, Mark, Yellow, State, Record, action, retransmission, state, cpc, regular, transitional}
+use Rattle.format.specs.Types.{request, recovery, Context}
 
 -- "Servers: 2 to 8 .. Quota q: 1 to 256"
 unfoldable pub sizesOk : ℕ → ℕ → Bool

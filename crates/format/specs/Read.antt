@@ -1,5 +1,5 @@
 -- Document 01, 'Records' and 'Returned numbers': what an event's bytes say, or its refusal number, 1 before 2.
--- Offsets are those of the whole event: 0 length, 2 version, 3 kind, 4 body.
+-- Places are those of the whole event.
 -- Assumes nothing.
 use Prim.Native.Nat.{ℕ, zero, suc, _+_, _*_}
 use mathlib.Core.Bool.{Bool, true, false}
@@ -9,49 +9,57 @@ use lib.ListN.{length}
 use Rattle.base.specs.Tests.{_and_, _=?_, pick}
 use Rattle.base.specs.Bytes.{numberAt, numbersAt, partAt}
 use Rattle.format.specs.Limits.{version}
-use Rattle.format.specs.Types.{Id, Action, Primary, Mark, Yellow, State, Record, action, retransmission, state, cpc, regular, transitional, request, recovery, Kind, ofAction, ofRetransmission, ofState, ofCpc, ofRegular, ofTransitional, ofRequest, ofRecovery, kindNumber, Context, Reading, says, refused}
+use Rattle.format.specs.Places.{lengthSize, atVersion, atKind, atBody, idIndexAt, idSize, actionGreenAt, actionPayloadAt, actionSize}
+use Rattle.format.specs.Places.{primaryAttemptAt, primarySetAt, markIndexAt, markAttemptAt, markSetAt, markBitsAt}
+use Rattle.format.specs.Places.{yellowCountAt, yellowHeadSize, senderAt, positionAt, resentAt, retransmissionSize, configurationIdAt, cpcSize}
+use Rattle.format.specs.Places.{stateCutsAt, stateGreenAt, stateAttemptAt, stateLastAt, stateMarkAt, stateYellowAt, stateCountAt}
+use Rattle.format.specs.Places.{stateHeadSize}
+use Rattle.format.specs.Places.{regularSetAt, regularSize, transitionalSize, requestSize, recoverySize}
+use Rattle.format.specs.Types.{Id, Action, Primary, Mark, Yellow, State, Context, Reading, says, refused}
+use Rattle.format.specs.Types.{Record, action, retransmission, state, cpc, regular, transitional, request, recovery, Kind, kindNumber}
+use Rattle.format.specs.Types.{ofAction, ofRetransmission, ofState, ofCpc, ofRegular, ofTransitional, ofRequest, ofRecovery}
 use Rattle.format.specs.Range.{recordOk}
 
 unfoldable pub payloadAt : List ℕ → ℕ → List ℕ
 payloadAt e at = partAt (numberAt 1 e at) e (at + 1)
 
 unfoldable pub idAt : List ℕ → ℕ → Id
-idAt e at = record { creator = numberAt 1 e at; index = numberAt 2 e (at + 1) }
+idAt e at = record { creator = numberAt 1 e at; index = numberAt 2 e (at + idIndexAt) }
 
 unfoldable pub actionAt : List ℕ → ℕ → Action
-actionAt e at = record { id = idAt e at; greenLength = numberAt 4 e (at + 3); payload = payloadAt e (at + 7) }
+actionAt e at = record { id = idAt e at; greenLength = numberAt 4 e (at + actionGreenAt); payload = payloadAt e (at + actionPayloadAt) }
 
 unfoldable pub primaryAt : List ℕ → ℕ → Primary
-primaryAt e at = record { index = numberAt 4 e at; attempt = numberAt 4 e (at + 4); set = numberAt 1 e (at + 8) }
+primaryAt e at = record { index = numberAt 4 e at; attempt = numberAt 4 e (at + primaryAttemptAt); set = numberAt 1 e (at + primarySetAt) }
 
 unfoldable pub markAt : List ℕ → ℕ → Mark
 markAt e at = record {
   status = numberAt 1 e at;
-  index = numberAt 4 e (at + 1);
-  attempt = numberAt 4 e (at + 5);
-  set = numberAt 1 e (at + 9);
-  bits = numberAt 1 e (at + 10);
+  index = numberAt 4 e (at + markIndexAt);
+  attempt = numberAt 4 e (at + markAttemptAt);
+  set = numberAt 1 e (at + markSetAt);
+  bits = numberAt 1 e (at + markBitsAt);
 }
 
 -- m ids from `at` on
 unfoldable pub idsAt : ℕ → List ℕ → ℕ → List Id
 idsAt zero e at = []
-idsAt (suc m) e at = idAt e at ∷ idsAt m e (at + 3)
+idsAt (suc m) e at = idAt e at ∷ idsAt m e (at + idSize)
 
 unfoldable pub yellowAt : List ℕ → ℕ → Yellow
-yellowAt e at = record { status = numberAt 1 e at; ids = idsAt (numberAt 2 e (at + 1)) e (at + 3) }
+yellowAt e at = record { status = numberAt 1 e at; ids = idsAt (numberAt 2 e (at + yellowCountAt)) e (at + yellowHeadSize) }
 
--- A State's body from 4 on: the part after the n cuts begins at 9 + 2 n.
+-- A State with n cuts, of two bytes each.
 unfoldable pub stateAt : ℕ → List ℕ → State
 stateAt n e = record {
-  sender = numberAt 1 e 4;
-  configuration = numberAt 4 e 5;
-  cuts = numbersAt 2 n e 9;
-  greenLength = numberAt 4 e (9 + 2 * n);
-  attempt = numberAt 4 e (13 + 2 * n);
-  last = primaryAt e (17 + 2 * n);
-  mark = markAt e (26 + 2 * n);
-  yellow = yellowAt e (37 + 2 * n);
+  sender = numberAt 1 e senderAt;
+  configuration = numberAt 4 e configurationIdAt;
+  cuts = numbersAt 2 n e stateCutsAt;
+  greenLength = numberAt 4 e (stateGreenAt + 2 * n);
+  attempt = numberAt 4 e (stateAttemptAt + 2 * n);
+  last = primaryAt e (stateLastAt + 2 * n);
+  mark = markAt e (stateMarkAt + 2 * n);
+  yellow = yellowAt e (stateYellowAt + 2 * n);
 }
 
 -- The kind that a kind byte names, if any.
@@ -68,28 +76,28 @@ kindNamed k =
 
 -- How long an event of this kind is, by the lengths and counts in it; "Nothing may follow."
 unfoldable pub lengthFor : Kind → ℕ → List ℕ → ℕ
-lengthFor ofAction n e = 12 + numberAt 1 e 11
-lengthFor ofRetransmission n e = 17 + numberAt 1 e 16
-lengthFor ofState n e = 40 + 2 * n + 3 * numberAt 2 e (38 + 2 * n)
-lengthFor ofCpc n e = 9
-lengthFor ofRegular n e = 9
-lengthFor ofTransitional n e = 5
-lengthFor ofRequest n e = 5 + numberAt 1 e 4
-lengthFor ofRecovery n e = 4
+lengthFor ofAction n e = actionSize + numberAt 1 e (atBody + actionPayloadAt)
+lengthFor ofRetransmission n e = retransmissionSize + numberAt 1 e (resentAt + actionPayloadAt)
+lengthFor ofState n e = stateHeadSize + 2 * n + idSize * numberAt 2 e (stateCountAt + 2 * n)
+lengthFor ofCpc n e = cpcSize
+lengthFor ofRegular n e = regularSize
+lengthFor ofTransitional n e = transitionalSize
+lengthFor ofRequest n e = requestSize + numberAt 1 e atBody
+lengthFor ofRecovery n e = recoverySize
 
 -- "bad length, version or kind" does not apply.
 unfoldable pub frameOk : Kind → ℕ → List ℕ → Bool
-frameOk k n e = numberAt 2 e 0 + 2 =? length e and numberAt 1 e 2 =? version and lengthFor k n e =? length e
+frameOk k n e = numberAt 2 e 0 + lengthSize =? length e and numberAt 1 e atVersion =? version and lengthFor k n e =? length e
 
 -- What an event with a good frame says.
 unfoldable pub recordIn : Kind → ℕ → List ℕ → Record
-recordIn ofAction n e = action (actionAt e 4)
-recordIn ofRetransmission n e = retransmission (numberAt 1 e 4) (numberAt 4 e 5) (actionAt e 9)
+recordIn ofAction n e = action (actionAt e atBody)
+recordIn ofRetransmission n e = retransmission (numberAt 1 e senderAt) (numberAt 4 e positionAt) (actionAt e resentAt)
 recordIn ofState n e = state (stateAt n e)
-recordIn ofCpc n e = cpc (numberAt 1 e 4) (numberAt 4 e 5)
-recordIn ofRegular n e = regular (numberAt 4 e 4) (numberAt 1 e 8)
-recordIn ofTransitional n e = transitional (numberAt 1 e 4)
-recordIn ofRequest n e = request (payloadAt e 4)
+recordIn ofCpc n e = cpc (numberAt 1 e senderAt) (numberAt 4 e configurationIdAt)
+recordIn ofRegular n e = regular (numberAt 4 e atBody) (numberAt 1 e regularSetAt)
+recordIn ofTransitional n e = transitional (numberAt 1 e atBody)
+recordIn ofRequest n e = request (payloadAt e atBody)
 recordIn ofRecovery n e = recovery
 
 -- "Checked in this order": 1, then 2.
@@ -101,4 +109,4 @@ readAs (some k) c e =
     (refused 1)
 
 unfoldable pub read : Context → List ℕ → Reading Record
-read c e = readAs (kindNamed (numberAt 1 e 3)) c e
+read c e = readAs (kindNamed (numberAt 1 e atKind)) c e

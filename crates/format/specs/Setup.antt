@@ -7,6 +7,7 @@ use lib.ListN.{length}
 use Rattle.base.specs.Tests.{_and_, _≤?_, _=?_, pick}
 use Rattle.base.specs.Bytes.{bytesOf, numberAt, joined}
 use Rattle.format.specs.Limits.{version}
+use Rattle.format.specs.Places.{lengthSize, atVersion, atKind, atBody, setupQuotaAt, setupSize}
 use Rattle.format.specs.Types.{Reading, says, refused}
 use Rattle.format.specs.Range.{sizesOk}
 use Rattle.format.specs.Write.{framed}
@@ -15,14 +16,19 @@ pub record Setup : Type 0 where
   pub servers : ℕ
   pub quota : ℕ
 
+-- Its kind byte; no event's.
+abbrev pub setupKind : ℕ
+setupKind = 9
+
 unfoldable pub writeSetup : Setup → List ℕ
-writeSetup s = framed 9 (joined (bytesOf 1 (s .servers) ∷ bytesOf 2 (s .quota) ∷ []))
+writeSetup s = framed setupKind (joined (bytesOf 1 (s .servers) ∷ bytesOf 2 (s .quota) ∷ []))
 
 unfoldable pub setupIn : List ℕ → Setup
-setupIn e = record { servers = numberAt 1 e 4; quota = numberAt 2 e 5 }
+setupIn e = record { servers = numberAt 1 e atBody; quota = numberAt 2 e setupQuotaAt }
 
 unfoldable pub setupFrameOk : List ℕ → Bool
-setupFrameOk e = numberAt 2 e 0 + 2 =? length e and numberAt 1 e 2 =? version and numberAt 1 e 3 =? 9 and length e =? 7
+setupFrameOk e =
+    numberAt 2 e 0 + lengthSize =? length e and numberAt 1 e atVersion =? version and numberAt 1 e atKind =? setupKind and length e =? setupSize
 
 -- In range for a reader that takes n to `servers` and q to `quota`, which lie inside the format's own limits.
 unfoldable pub setupOk : (servers quota : ℕ) → Setup → Bool

@@ -1,15 +1,18 @@
 -- Document 01, 'Records': the bytes of a record.
 -- Assumes nothing.
-use Prim.Native.Nat.{ℕ, _+_, _*_}
+use Prim.Native.Nat.{ℕ, _+_, _*_, _-_}
 use mathlib.Core.List.{List, [], _∷_}
 use lib.ListN.{length}
 use Rattle.base.specs.Bytes.{bytesOf, joined}
 use Rattle.format.specs.Limits.{version}
-use Rattle.format.specs.Types.{Id, Action, Primary, Mark, Yellow, State, Record, action, retransmission, state, cpc, regular, transitional, request, recovery, kindNumber, kindOf}
+use Rattle.format.specs.Places.{lengthSize, atBody, idSize, actionSize, retransmissionSize, stateHeadSize}
+use Rattle.format.specs.Places.{cpcSize, regularSize, transitionalSize, requestSize, recoverySize}
+use Rattle.format.specs.Types.{Id, Action, Primary, Mark, Yellow, State, kindNumber, kindOf}
+use Rattle.format.specs.Types.{Record, action, retransmission, state, cpc, regular, transitional, request, recovery}
 
 -- "Two length bytes (counting what follows them), version byte 1, kind byte, body; all big-endian."
 unfoldable pub framed : ℕ → List ℕ → List ℕ
-framed kind body = joined (bytesOf 2 (2 + length body) ∷ bytesOf 1 version ∷ bytesOf 1 kind ∷ body ∷ [])
+framed kind body = joined (bytesOf lengthSize (atBody - lengthSize + length body) ∷ bytesOf 1 version ∷ bytesOf 1 kind ∷ body ∷ [])
 
 -- "payload length (1), payload"
 unfoldable pub payloadBytes : List ℕ → List ℕ
@@ -67,11 +70,11 @@ write r = framed (kindNumber (kindOf r)) (bodyOf r)
 
 -- How long the bytes of a record are, the two length bytes among them.
 unfoldable pub lengthOf : Record → ℕ
-lengthOf (action a) = 12 + length (a .payload)
-lengthOf (retransmission s p a) = 17 + length (a .payload)
-lengthOf (state s) = 40 + 2 * length (s .cuts) + 3 * length (s .yellow .ids)
-lengthOf (cpc s i) = 9
-lengthOf (regular i s) = 9
-lengthOf (transitional s) = 5
-lengthOf (request p) = 5 + length p
-lengthOf recovery = 4
+lengthOf (action a) = actionSize + length (a .payload)
+lengthOf (retransmission s p a) = retransmissionSize + length (a .payload)
+lengthOf (state s) = stateHeadSize + 2 * length (s .cuts) + idSize * length (s .yellow .ids)
+lengthOf (cpc s i) = cpcSize
+lengthOf (regular i s) = regularSize
+lengthOf (transitional s) = transitionalSize
+lengthOf (request p) = requestSize + length p
+lengthOf recovery = recoverySize

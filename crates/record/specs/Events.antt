@@ -1,11 +1,15 @@
 -- What an event that was read stands for, together with its bytes.
 -- Assumes nothing.
-use Prim.Native.Nat.{ℕ, _+_, _*_, _≤_}
+use Prim.Native.Nat.{ℕ, _+_, _*_, _-_, _≤_}
 use mathlib.Core.Path.{_≡_}
 use mathlib.Core.List.{List}
 use lib.ListN.{length}
 use Rattle.base.specs.Bytes.{numberAt, partAt}
-use Rattle.format.specs.Types.{Action as FormatAction, State as FormatState, Record, action, retransmission, state, cpc, regular, transitional, request, recovery}
+use Rattle.format.specs.Places.{idIndexAt, idSize, actionGreenAt, actionPayloadAt, actionHeadSize, primaryAttemptAt, primarySetAt}
+use Rattle.format.specs.Places.{markIndexAt, markAttemptAt, markSetAt, markBitsAt, senderAt, configurationIdAt}
+use Rattle.format.specs.Places.{stateCutsAt, stateAttemptAt, stateLastAt, stateMarkAt, stateYellowAt, stateCountAt}
+use Rattle.format.specs.Types.{Action as FormatAction, State as FormatState, Record, action, retransmission, state, cpc, regular, transitional}
+use Rattle.format.specs.Types.{request, recovery}
 use Rattle.record.specs.Values.{actionOf, stateOf}
 use Rattle.record.specs.declared.LastPrimary.{LastPrimary}
 use Rattle.record.specs.declared.Mark.{Mark}
@@ -39,7 +43,7 @@ PayloadInside a e = a .«payload_at» + a .«payload_length» ≤ length e
 pub record ListsInside (n : ℕ) (s : StateAt) (e : List ℕ) : Type 0 where
   pub servers : s .head .servers ≡ n
   pub cuts : s .«cuts_at» + 2 * s .head .servers ≤ length e
-  pub ids : s .«yellow_at» + 3 * s .head .«yellow_count» ≤ length e
+  pub ids : s .«yellow_at» + idSize * s .head .«yellow_count» ≤ length e
 
 unfoldable pub Inside : ℕ → Event → List ℕ → Type 0
 Inside n (Action a) e = PayloadInside a e
@@ -55,37 +59,37 @@ Inside n Recovery e = Unit {0}
 
 unfoldable pub actionIn : List ℕ → ℕ → ActionAt
 actionIn e at = record {
-  head = record { creator = numberAt 1 e at; index = numberAt 2 e (at + 1); «green_length» = numberAt 4 e (at + 3) };
-  «payload_at» = at + 8;
-  «payload_length» = numberAt 1 e (at + 7);
+  head = record { creator = numberAt 1 e at; index = numberAt 2 e (at + idIndexAt); «green_length» = numberAt 4 e (at + actionGreenAt) };
+  «payload_at» = at + actionHeadSize;
+  «payload_length» = numberAt 1 e (at + actionPayloadAt);
 }
 
 unfoldable pub lastIn : List ℕ → ℕ → LastPrimary
 lastIn e at = record {
   index = record { 0 = numberAt 4 e at };
-  attempt = record { 0 = numberAt 4 e (at + 4) };
-  set = numberAt 1 e (at + 8);
+  attempt = record { 0 = numberAt 4 e (at + primaryAttemptAt) };
+  set = numberAt 1 e (at + primarySetAt);
 }
 
 unfoldable pub markIn : List ℕ → ℕ → Mark
 markIn e at = record {
   status = numberAt 1 e at;
-  index = record { 0 = numberAt 4 e (at + 1) };
-  attempt = record { 0 = numberAt 4 e (at + 5) };
-  set = numberAt 1 e (at + 9);
-  bits = numberAt 1 e (at + 10);
+  index = record { 0 = numberAt 4 e (at + markIndexAt) };
+  attempt = record { 0 = numberAt 4 e (at + markAttemptAt) };
+  set = numberAt 1 e (at + markSetAt);
+  bits = numberAt 1 e (at + markBitsAt);
 }
 
 -- Those behind the cuts begin at `at`.
 unfoldable pub headIn : (servers : ℕ) → List ℕ → ℕ → StateHead
 headIn n e at = record {
-  sender = numberAt 1 e 4;
-  configuration = numberAt 4 e 5;
+  sender = numberAt 1 e senderAt;
+  configuration = numberAt 4 e configurationIdAt;
   servers = n;
   «green_length» = numberAt 4 e at;
-  attempt = record { 0 = numberAt 4 e (at + 4) };
-  last = lastIn e (at + 8);
-  mark = markIn e (at + 17);
-  «yellow_status» = numberAt 1 e (at + 28);
-  «yellow_count» = numberAt 2 e (at + 29);
+  attempt = record { 0 = numberAt 4 e (at + (stateAttemptAt - stateCutsAt)) };
+  last = lastIn e (at + (stateLastAt - stateCutsAt));
+  mark = markIn e (at + (stateMarkAt - stateCutsAt));
+  «yellow_status» = numberAt 1 e (at + (stateYellowAt - stateCutsAt));
+  «yellow_count» = numberAt 2 e (at + (stateCountAt - stateCutsAt));
 }

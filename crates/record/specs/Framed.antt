@@ -9,6 +9,7 @@ use lib.ListN.{length}
 use Rattle.base.specs.Tests.{_and_, _≤?_, _=?_, pick}
 use Rattle.base.specs.Bytes.{numberAt}
 use Rattle.format.specs.Limits.{version}
+use Rattle.format.specs.Places.{lengthSize, atVersion, atKind, atBody}
 use Rattle.format.specs.Types.{Record, Kind}
 use Rattle.format.specs.Read.{kindNamed, lengthFor, recordIn}
 use Rattle.record.specs.Events.{recordOf, Inside}
@@ -17,7 +18,7 @@ use Rattle.record.specs.declared.frame.Framed.the-variants.{Good, Bad}
 
 -- Length bytes, version, and a kind byte.
 unfoldable pub headOk : List ℕ → Bool
-headOk e = 4 ≤? length e and numberAt 2 e 0 + 2 =? length e and numberAt 1 e 2 =? version
+headOk e = atBody ≤? length e and numberAt 2 e 0 + lengthSize =? length e and numberAt 1 e atVersion =? version
 
 -- The record of kind k in bytes with a good head, if they are as long as it.
 unfoldable pub bodyIn : Kind → ℕ → List ℕ → Option Record
@@ -28,7 +29,7 @@ bodyAs none n e = none
 bodyAs (some k) n e = bodyIn k n e
 
 unfoldable pub framedIn : ℕ → List ℕ → Option Record
-framedIn n e = pick (headOk e) (bodyAs (kindNamed (numberAt 1 e 3)) n e) none
+framedIn n e = pick (headOk e) (bodyAs (kindNamed (numberAt 1 e atKind)) n e) none
 
 -- What the code's answer stands for.
 unfoldable pub found : Framed → List ℕ → Option Record

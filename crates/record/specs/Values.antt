@@ -6,6 +6,7 @@ use lib.ListN.{length}
 use Rattle.base.specs.Tests.{pick}
 use Rattle.base.specs.Bytes.{numbersAt}
 use Rattle.format.specs.Limits.{mostServers, mostQuota}
+use Rattle.format.specs.Places.{idSize}
 use Rattle.format.specs.Types.{Id, Action, Primary, Mark as FormatMark, State, Context}
 use Rattle.format.specs.Range.{idOk}
 use Rattle.format.specs.Read.{idAt, idsAt}
@@ -59,5 +60,5 @@ idsBy w (suc m) e at = idAt e at ∷ idsBy w m e (at + w)
 
 -- An id at the front of each of m entries of w bytes from `at` on lies inside the bytes e.
 pub record IdsInside (w m : ℕ) (e : List ℕ) (at : ℕ) : Type 0 where
-  pub wide : 3 ≤ w
+  pub wide : idSize ≤ w
   pub inside : at + w * m ≤ length e

@@ -1,16 +1,19 @@
 -- What a writer leaves in the outgoing buffer: a record's bytes next after the last record's.
 -- Assumes nothing.
 use Prim.Native.Nat.{ℕ, _+_, _*_}
+use mathlib.Core.Bool.{Bool}
 use mathlib.Core.List.{List}
 use lib.ListN.{length}
 use Rattle.base.specs.Tests.{_and_, _≤?_, pick}
 use Rattle.base.specs.Patched.{patched}
+use Rattle.format.specs.Places.{idSize, stateHeadSize}
 use Rattle.format.specs.Types.{state}
 use Rattle.format.specs.Write.{write}
 use Rattle.record.specs.declared.StateHead.{StateHead}
 use Rattle.record.specs.declared.writer.Written.{Written}
 use Rattle.record.specs.declared.writer.Written.the-variants.{Next, Full}
 use Rattle.record.specs.Values.{stateOf}
+use Rattle.record.specs.Blocks.{listsSize}
 
 -- A buffer after a writer: the place where the next record goes, or no room.
 pub data Put : Type 0 where
@@ -26,10 +29,14 @@ unfoldable pub putOf : Written → List ℕ → Put
 putOf (Next n) s = next n s
 putOf Full s = full s
 
--- A State is written only if the bytes given hold all its cuts and ids.
+-- The bytes given, so many for cuts and so many for ids, hold all of a State's.
+abbrev pub enough : StateHead → (cuts ids : ℕ) → Bool
+enough h cuts ids = 2 * h .servers ≤? cuts and idSize * h .«yellow_count» ≤? ids
+
+-- A State is written only then.
 unfoldable pub putState : StateHead → (cuts ids : List ℕ) → ℕ → List ℕ → Put
 putState h cuts ids at old =
-    pick (2 * h .servers ≤? length cuts and 3 * h .«yellow_count» ≤? length ids) (put (write (state (stateOf h cuts 0 ids 0))) at old) (full old)
+    pick (enough h (length cuts) (length ids)) (put (write (state (stateOf h cuts 0 ids 0))) at old) (full old)
 
 -- ---- before anything is written
 
@@ -40,4 +47,4 @@ placeAfter l at size = pick (at + size ≤? l) (Next (at + size)) Full
 -- The same for a State, of which `cuts` and `ids` bytes are given.
 unfoldable pub statePlace : StateHead → (cuts ids length at : ℕ) → Written
 statePlace h cuts ids l at =
-    pick (2 * h .servers ≤? cuts and 3 * h .«yellow_count» ≤? ids) (placeAfter l at (40 + (2 * h .servers + 3 * h .«yellow_count»))) Full
+    pick (enough h cuts ids) (placeAfter l at (stateHeadSize + listsSize h)) Full

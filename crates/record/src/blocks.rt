@@ -6,6 +6,7 @@ ghost use lib.ListN.{length};
 ghost use Rattle.base.specs.Bytes.{bytesOf, bytesOfAll};
 ghost use Rattle.base.specs.Lists.{sum};
 ghost use Rattle.base.specs.Patched.{patched};
+ghost use Rattle.format.specs.Places.{primarySize, markSize, yellowHeadSize};
 ghost use Rattle.format.specs.Write.{primaryBytes, markBytes};
 ghost use Rattle.record.specs.Values.{componentOf, markOf};
 ghost use Rattle.record.specs.Blocks.{yellowHeadBytes};
@@ -65,7 +66,7 @@ pub fn put_block(out: &mut [u8], at: usize, widths: [u8; 12], numbers: [u32; 12]
 }
 
 pub fn put_primary(out: &mut [u8], at: usize, index: PrimaryIndex, attempt: AttemptIndex, set: u8)
-    requires { ⌜ at + 9 ≤ length (now out) ⌝ }
+    requires { ⌜ at + primarySize ≤ length (now out) ⌝ }
     ensures { λ _. ⌜ now (out .exit) ≡ patched at (primaryBytes (componentOf index attempt set)) (now (out .entry)) ⌝ }
 {
     let numbers = [index.0, attempt.0, set as u32, 0, 0, 0, 0, 0, 0, 0, 0, 0];
@@ -73,7 +74,7 @@ pub fn put_primary(out: &mut [u8], at: usize, index: PrimaryIndex, attempt: Atte
 }
 
 pub fn put_mark(out: &mut [u8], at: usize, mark: Mark)
-    requires { ⌜ at + 11 ≤ length (now out) ⌝ }
+    requires { ⌜ at + markSize ≤ length (now out) ⌝ }
     ensures { λ _. ⌜ now (out .exit) ≡ patched at (markBytes (markOf mark)) (now (out .entry)) ⌝ }
 {
     let numbers = [
@@ -95,7 +96,7 @@ pub fn put_mark(out: &mut [u8], at: usize, mark: Mark)
 
 // The status and the count of a yellow list.
 pub fn put_yellow_head(out: &mut [u8], at: usize, status: u8, count: u16)
-    requires { ⌜ at + 3 ≤ length (now out) ⌝ }
+    requires { ⌜ at + yellowHeadSize ≤ length (now out) ⌝ }
     ensures { λ _. ⌜ now (out .exit) ≡ patched at (yellowHeadBytes status count) (now (out .entry)) ⌝ }
 {
     let numbers = [status as u32, count as u32, 0, 0, 0, 0, 0, 0, 0, 0, 0, 0];

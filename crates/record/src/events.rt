@@ -45,6 +45,47 @@ pub enum Event {
     Recovery,
 }
 
+// Where the parts of a record lie: two length bytes, the version, the kind, the body. A body of a retransmission, a State or a CPC begins with the
+// sender and a number; a retransmission's action stands behind them.
+impl Event {
+    pub const LENGTH_SIZE: usize = 2;
+
+    pub const VERSION_AT: usize = Event::LENGTH_SIZE;
+
+    pub const KIND_AT: usize = Event::VERSION_AT + 1;
+
+    pub const BODY: usize = Event::KIND_AT + 1;
+
+    pub const SENDER: usize = Event::BODY;
+
+    pub const NUMBER: usize = Event::SENDER + 1;
+
+    pub const RESENT: usize = Event::NUMBER + 4;
+
+    // Where the set lies in a regular configuration: behind its id.
+    pub const REGULAR_SET: usize = Event::BODY + 4;
+
+    // Where the payload's length lies in an action, and in a retransmission.
+    pub const PAYLOAD: usize = Event::BODY + ActionHead::PAYLOAD;
+
+    pub const RESENT_PAYLOAD: usize = Event::RESENT + ActionHead::PAYLOAD;
+
+    // How many bytes a record of each kind has, but payload, cuts and ids.
+    pub const ACTION_SIZE: usize = Event::BODY + ActionHead::SIZE;
+
+    pub const RETRANSMISSION_SIZE: usize = Event::RESENT + ActionHead::SIZE;
+
+    pub const CPC_SIZE: usize = Event::NUMBER + 4;
+
+    pub const REGULAR_SIZE: usize = Event::REGULAR_SET + 1;
+
+    pub const TRANSITIONAL_SIZE: usize = Event::BODY + 1;
+
+    pub const REQUEST_SIZE: usize = Event::BODY + 1;
+
+    pub const RECOVERY_SIZE: usize = Event::BODY;
+}
+
 // The kind bytes.
 impl Event {
     pub const ACTION: u8 = 1;

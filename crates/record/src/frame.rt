@@ -3,6 +3,7 @@ ghost use mathlib.Core.Path.{_≡_};
 ghost use Prim.Native.Nat.{ℕ, _+_, _*_, _≤_};
 ghost use lib.ListN.{length};
 ghost use Rattle.base.specs.Bytes.{Bytes};
+ghost use Rattle.format.specs.Places.{actionHeadSize, primarySize, markSize, stateCutsAt, standingSize};
 ghost use Rattle.format.specs.Types.{ofAction, ofRetransmission, ofState, ofCpc, ofRegular, ofTransitional, ofRequest, ofRecovery};
 ghost use Rattle.record.specs.Events.{actionIn, lastIn, markIn, headIn};
 ghost use Rattle.record.specs.Framed.{headOk, bodyIn, framedIn, Answers};
@@ -11,6 +12,7 @@ use crate::AttemptIndex;
 use crate::LastPrimary;
 use crate::Mark;
 use crate::PrimaryIndex;
+use crate::State;
 use crate::StateHead;
 use crate::bytes::num8;
 use crate::bytes::num16;
@@ -28,89 +30,89 @@ pub enum Framed {
 
 // The action from `at` on.
 pub fn action_at(e: &[u8], at: usize) -> ActionAt
-    requires { ⌜ at + 8 ≤ length (now e) ⌝ }
+    requires { ⌜ at + actionHeadSize ≤ length (now e) ⌝ }
     ensures { λ r. ⌜ r ≡ actionIn (now (e .entry)) at ⌝ }
 {
     ActionAt {
         head: ActionHead {
             creator: num8(e, at),
-            index: num16(e, at + 1),
-            green_length: num32(e, at + 3),
+            index: num16(e, at + ActionHead::INDEX),
+            green_length: num32(e, at + ActionHead::GREEN_LENGTH),
         },
-        payload_at: at + 8,
-        payload_length: num8(e, at + 7) as usize,
+        payload_at: at + ActionHead::SIZE,
+        payload_length: num8(e, at + ActionHead::PAYLOAD) as usize,
     }
 }
 
 pub fn last_at(e: &[u8], at: usize) -> LastPrimary
-    requires { ⌜ at + 9 ≤ length (now e) ⌝ }
+    requires { ⌜ at + primarySize ≤ length (now e) ⌝ }
     ensures { λ r. ⌜ r ≡ lastIn (now (e .entry)) at ⌝ }
 {
     LastPrimary {
         index: PrimaryIndex(num32(e, at)),
-        attempt: AttemptIndex(num32(e, at + 4)),
-        set: num8(e, at + 8),
+        attempt: AttemptIndex(num32(e, at + LastPrimary::ATTEMPT)),
+        set: num8(e, at + LastPrimary::SET),
     }
 }
 
 pub fn mark_at(e: &[u8], at: usize) -> Mark
-    requires { ⌜ at + 11 ≤ length (now e) ⌝ }
+    requires { ⌜ at + markSize ≤ length (now e) ⌝ }
     ensures { λ r. ⌜ r ≡ markIn (now (e .entry)) at ⌝ }
 {
     Mark {
         status: num8(e, at),
-        index: PrimaryIndex(num32(e, at + 1)),
-        attempt: AttemptIndex(num32(e, at + 5)),
-        set: num8(e, at + 9),
-        bits: num8(e, at + 10),
+        index: PrimaryIndex(num32(e, at + Mark::INDEX)),
+        attempt: AttemptIndex(num32(e, at + Mark::ATTEMPT)),
+        set: num8(e, at + Mark::SET),
+        bits: num8(e, at + Mark::BITS),
     }
 }
 
 // The numbers of a State of this many servers. Those behind its cuts begin at `at`.
 pub fn state_head(e: &[u8], servers: u8, at: usize) -> StateHead
-    requires { ⌜ (9 ≤ at) × (at + 31 ≤ length (now e)) ⌝ }
+    requires { ⌜ (stateCutsAt ≤ at) × (at + standingSize ≤ length (now e)) ⌝ }
     ensures { λ r. ⌜ r ≡ headIn servers (now (e .entry)) at ⌝ }
 {
     StateHead {
-        sender: num8(e, 4),
-        configuration: num32(e, 5),
+        sender: num8(e, Event::SENDER),
+        configuration: num32(e, Event::NUMBER),
         servers,
         green_length: num32(e, at),
-        attempt: AttemptIndex(num32(e, at + 4)),
-        last: last_at(e, at + 8),
-        mark: mark_at(e, at + 17),
-        yellow_status: num8(e, at + 28),
-        yellow_count: num16(e, at + 29),
+        attempt: AttemptIndex(num32(e, at + StateHead::ATTEMPT)),
+        last: last_at(e, at + StateHead::LAST),
+        mark: mark_at(e, at + StateHead::MARK),
+        yellow_status: num8(e, at + StateHead::YELLOW),
+        yellow_count: num16(e, at + StateHead::YELLOW_COUNT),
     }
 }
 
 fn frame_action(e: &[u8]) -> Framed
     ensures { λ r. ⌜ ((n : ℕ) → Answers (bodyIn ofAction n (now (e .entry))) n r (now (e .entry))) ⌝ }
 {
-    if e.len() < 12 {
+    if e.len() < Event::ACTION_SIZE {
         return Framed::Bad;
     }
-    let m = num8(e, 11) as usize;
-    if 12 + m != e.len() {
+    let m = num8(e, Event::PAYLOAD) as usize;
+    if Event::ACTION_SIZE + m != e.len() {
         return Framed::Bad;
     }
-    Framed::Good(Event::Action(action_at(e, 4)))
+    Framed::Good(Event::Action(action_at(e, Event::BODY)))
 }
 
 fn frame_retransmission(e: &[u8]) -> Framed
     ensures { λ r. ⌜ ((n : ℕ) → Answers (bodyIn ofRetransmission n (now (e .entry))) n r (now (e .entry))) ⌝ }
 {
-    if e.len() < 17 {
+    if e.len() < Event::RETRANSMISSION_SIZE {
         return Framed::Bad;
     }
-    let m = num8(e, 16) as usize;
-    if 17 + m != e.len() {
+    let m = num8(e, Event::RESENT_PAYLOAD) as usize;
+    if Event::RETRANSMISSION_SIZE + m != e.len() {
         return Framed::Bad;
     }
-    let action = action_at(e, 9);
+    let action = action_at(e, Event::RESENT);
     Framed::Good(Event::Retransmission {
-        sender: num8(e, 4),
-        position: num32(e, 5),
+        sender: num8(e, Event::SENDER),
+        position: num32(e, Event::NUMBER),
         action,
     })
 }
@@ -118,66 +120,68 @@ fn frame_retransmission(e: &[u8]) -> Framed
 fn frame_state(e: &[u8], servers: u8) -> Framed
     ensures { λ r. ⌜ Answers (bodyIn ofState servers (now (e .entry))) servers r (now (e .entry)) ⌝ }
 {
-    let at = 9 + 2 * (servers as usize);
-    if e.len() < at + 31 {
+    let at = StateHead::CUTS + 2 * (servers as usize);
+    if e.len() < at + StateHead::STANDING {
         return Framed::Bad;
     }
     let head = state_head(e, servers, at);
-    if at + 31 + 3 * (head.yellow_count as usize) != e.len() {
+    if at + StateHead::STANDING + State::ID * (head.yellow_count as usize) != e.len() {
         return Framed::Bad;
     }
     Framed::Good(Event::State(StateAt {
         head,
-        cuts_at: 9,
-        yellow_at: at + 31,
+        cuts_at: StateHead::CUTS,
+        yellow_at: at + StateHead::STANDING,
     }))
 }
 
 fn frame_cpc(e: &[u8]) -> Framed
     ensures { λ r. ⌜ ((n : ℕ) → Answers (bodyIn ofCpc n (now (e .entry))) n r (now (e .entry))) ⌝ }
 {
-    if e.len() != 9 {
+    if e.len() != Event::CPC_SIZE {
         return Framed::Bad;
     }
     Framed::Good(Event::Cpc {
-        sender: num8(e, 4),
-        configuration: num32(e, 5),
+        sender: num8(e, Event::SENDER),
+        configuration: num32(e, Event::NUMBER),
     })
 }
 
 fn frame_regular(e: &[u8]) -> Framed
     ensures { λ r. ⌜ ((n : ℕ) → Answers (bodyIn ofRegular n (now (e .entry))) n r (now (e .entry))) ⌝ }
 {
-    if e.len() != 9 {
+    if e.len() != Event::REGULAR_SIZE {
         return Framed::Bad;
     }
     Framed::Good(Event::Regular {
-        configuration: num32(e, 4),
-        set: num8(e, 8),
+        configuration: num32(e, Event::BODY),
+        set: num8(e, Event::REGULAR_SET),
     })
 }
 
 fn frame_transitional(e: &[u8]) -> Framed
     ensures { λ r. ⌜ ((n : ℕ) → Answers (bodyIn ofTransitional n (now (e .entry))) n r (now (e .entry))) ⌝ }
 {
-    if e.len() != 5 {
+    if e.len() != Event::TRANSITIONAL_SIZE {
         return Framed::Bad;
     }
-    Framed::Good(Event::Transitional { set: num8(e, 4) })
+    Framed::Good(Event::Transitional {
+        set: num8(e, Event::BODY),
+    })
 }
 
 fn frame_request(e: &[u8]) -> Framed
     ensures { λ r. ⌜ ((n : ℕ) → Answers (bodyIn ofRequest n (now (e .entry))) n r (now (e .entry))) ⌝ }
 {
-    if e.len() < 5 {
+    if e.len() < Event::REQUEST_SIZE {
         return Framed::Bad;
     }
-    let m = num8(e, 4) as usize;
-    if 5 + m != e.len() {
+    let m = num8(e, Event::BODY) as usize;
+    if Event::REQUEST_SIZE + m != e.len() {
         return Framed::Bad;
     }
     Framed::Good(Event::Request {
-        payload_at: 5,
+        payload_at: Event::REQUEST_SIZE,
         payload_length: m,
     })
 }
@@ -185,7 +189,7 @@ fn frame_request(e: &[u8]) -> Framed
 fn frame_recovery(e: &[u8]) -> Framed
     ensures { λ r. ⌜ ((n : ℕ) → Answers (bodyIn ofRecovery n (now (e .entry))) n r (now (e .entry))) ⌝ }
 {
-    if e.len() != 4 {
+    if e.len() != Event::RECOVERY_SIZE {
         return Framed::Bad;
     }
     Framed::Good(Event::Recovery)
@@ -196,13 +200,13 @@ fn head_ok(e: &[u8]) -> bool
     ensures { λ r. ⌜ r ≡ headOk (now (e .entry)) ⌝ }
     ensures { λ _. ⌜ Bytes (now (e .entry)) ⌝ }
 {
-    if e.len() < 4 {
+    if e.len() < Event::BODY {
         return false;
     }
-    if num16(e, 0) as usize + 2 != e.len() {
+    if num16(e, 0) as usize + Event::LENGTH_SIZE != e.len() {
         return false;
     }
-    num8(e, 2) == VERSION
+    num8(e, Event::VERSION_AT) == VERSION
 }
 
 // The event that the bytes frame for a server of this many.
@@ -213,7 +217,7 @@ pub fn framed_event(e: &[u8], servers: u8) -> Framed
     if !head_ok(e) {
         return Framed::Bad;
     }
-    match num8(e, 3) {
+    match num8(e, Event::KIND_AT) {
         Event::ACTION => frame_action(e),
         Event::RETRANSMISSION => frame_retransmission(e),
         Event::STATE => frame_state(e, servers),

@@ -16,6 +16,7 @@ pub mod blocks; // blocks.rt: parts of records, written
 pub mod parts; // parts.rt: numbers, ids and actions, written
 pub mod writer; // writer.rt: writers of what the engine sends
 
+use events::Event;
 use sets::everyone;
 
 // The index of a primary component, and that of an attempt to create one: neither stands for the other.
@@ -30,9 +31,13 @@ pub struct LastPrimary {
     pub set: u8,
 }
 
+// Where its parts lie from its beginning on, and how many bytes it is written in.
 impl LastPrimary {
-    // How many bytes it is written in.
-    pub const SIZE: usize = 9;
+    pub const ATTEMPT: usize = 4;
+
+    pub const SET: usize = LastPrimary::ATTEMPT + 4;
+
+    pub const SIZE: usize = LastPrimary::SET + 1;
 }
 
 // What a server stores of the primary component that it attempts to create.
@@ -45,7 +50,15 @@ pub struct Mark {
 }
 
 impl Mark {
-    pub const SIZE: usize = 11;
+    pub const INDEX: usize = 1;
+
+    pub const ATTEMPT: usize = Mark::INDEX + 4;
+
+    pub const SET: usize = Mark::ATTEMPT + 4;
+
+    pub const BITS: usize = Mark::SET + 1;
+
+    pub const SIZE: usize = Mark::BITS + 1;
 }
 
 // An action but its payload.
@@ -56,8 +69,15 @@ pub struct ActionHead {
 }
 
 impl ActionHead {
+    // Where the index lies in an id; then the green length and the payload's length in an action.
+    pub const INDEX: usize = 1;
+
+    pub const GREEN_LENGTH: usize = State::ID;
+
+    pub const PAYLOAD: usize = ActionHead::GREEN_LENGTH + 4;
+
     // With the payload's length.
-    pub const SIZE: usize = 8;
+    pub const SIZE: usize = ActionHead::PAYLOAD + 1;
 }
 
 // A State but its cuts and its yellow ids; how many there are of each.
@@ -74,16 +94,26 @@ pub struct StateHead {
 }
 
 impl StateHead {
-    // Where a State's cuts begin in its record, and where the yellow list's count is in one with no cuts.
-    pub const CUTS: usize = 9;
+    // Where a State's cuts begin in its record: sender and configuration id stand before them.
+    pub const CUTS: usize = Event::SENDER + 1 + 4;
 
-    pub const COUNT: usize = StateHead::SIZE - 2;
+    // What stands behind the cuts, each from their end on: green length, attempt, last primary, mark, and the yellow list's status and count.
+    pub const ATTEMPT: usize = 4;
 
-    // A State with no cuts and no ids.
+    pub const LAST: usize = StateHead::ATTEMPT + 4;
+
+    pub const MARK: usize = StateHead::LAST + LastPrimary::SIZE;
+
+    pub const YELLOW: usize = StateHead::MARK + Mark::SIZE;
+
+    pub const YELLOW_COUNT: usize = StateHead::YELLOW + 1;
+
+    pub const STANDING: usize = StateHead::YELLOW_COUNT + 2;
+
+    // A State with no cuts and no ids, and where the yellow list's count is in it.
     pub const SIZE: usize = StateHead::CUTS + StateHead::STANDING;
 
-    // What stands behind the cuts: green length, attempt, last primary, mark, and the yellow list's status and count.
-    pub const STANDING: usize = 4 + 4 + LastPrimary::SIZE + Mark::SIZE + 3;
+    pub const COUNT: usize = StateHead::CUTS + StateHead::YELLOW_COUNT;
 }
 
 // What a record is read against. `configured` is 0 where there was no regular configuration since the start or the last
@@ -208,11 +238,11 @@ impl State {
 
     pub const HELD: usize = 1 + State::MOST_PAYLOAD;
 
-    // The longest retransmission: its frame, sender and position, and an action.
-    pub const RETRANSMISSION: usize = 4 + 1 + 4 + State::SLOT;
+    // The longest retransmission.
+    pub const RETRANSMISSION: usize = Event::RESENT + State::SLOT;
 
     // An id, and the most ids of a list.
-    pub const ID: usize = 3;
+    pub const ID: usize = ActionHead::INDEX + 2;
 
     pub const IDS: usize = State::ID * (State::MOST_SERVERS as usize * State::MOST_QUOTA as usize);
 

@@ -3,10 +3,12 @@ ghost use mathlib.Core.Path.{_≡_};
 ghost use Prim.Native.Nat.{_+_, _*_, _≤_};
 ghost use lib.ListN.{length};
 ghost use Rattle.base.specs.Bytes.{numbersAt};
+ghost use Rattle.format.specs.Places.{idSize};
 ghost use Rattle.format.specs.Range.{cutsOk, idsOk};
 ghost use Rattle.format.specs.Read.{idAt, idsAt};
 ghost use Rattle.record.specs.Context.{contextOf, ContextIn};
 ghost use Rattle.record.specs.Values.{idOf, placeOf, idsBy, IdsInside};
+use crate::ActionHead;
 use crate::Context;
 use crate::State;
 use crate::bytes::num8;
@@ -44,10 +46,10 @@ fn place(c: Context, creator: u8, index: u16) -> usize
 }
 
 pub fn place_at(c: Context, e: &[u8], at: usize) -> usize
-    requires { ⌜ ContextIn c × (at + 3 ≤ length (now e)) ⌝ }
+    requires { ⌜ ContextIn c × (at + idSize ≤ length (now e)) ⌝ }
     ensures { λ r. ⌜ r ≡ placeOf (contextOf c) (idAt (now (e .entry)) at) ⌝ }
 {
-    place(c, num8(e, at), num16(e, at + 1))
+    place(c, num8(e, at), num16(e, at + ActionHead::INDEX))
 }
 
 // Whether the `count` ids, each at the front of `step` bytes from `at` on, are in range and differ: one pass, which sets the
@@ -76,8 +78,8 @@ pub fn ids_differ(c: Context, e: &[u8], at: usize, step: usize, count: usize) ->
 
 // Whether the `count` ids from `at` on are in range and differ.
 pub fn ids_ok(c: Context, e: &[u8], at: usize, count: usize) -> bool
-    requires { ⌜ ContextIn c × (at + 3 * count ≤ length (now e)) ⌝ }
+    requires { ⌜ ContextIn c × (at + idSize * count ≤ length (now e)) ⌝ }
     ensures { λ r. ⌜ r ≡ idsOk (contextOf c) (idsAt count (now (e .entry)) at) ⌝ }
 {
-    ids_differ(c, e, at, 3, count)
+    ids_differ(c, e, at, State::ID, count)
 }

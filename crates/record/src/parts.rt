@@ -4,6 +4,7 @@ ghost use Prim.Native.Nat.{_+_, _≤_};
 ghost use lib.ListN.{length};
 ghost use Rattle.base.specs.Bytes.{bytesOf};
 ghost use Rattle.base.specs.Patched.{patched};
+ghost use Rattle.format.specs.Places.{idSize, actionPayloadAt, actionHeadSize};
 ghost use Rattle.format.specs.Write.{idBytes, payloadBytes, actionBytes};
 ghost use Rattle.record.specs.Values.{idOf, actionOf};
 ghost use Rattle.record.specs.Blocks.{headBytes};
@@ -34,11 +35,11 @@ pub fn put32(out: &mut [u8], at: usize, v: u32)
 }
 
 pub fn put_id(out: &mut [u8], at: usize, creator: u8, index: u16)
-    requires { ⌜ at + 3 ≤ length (now out) ⌝ }
+    requires { ⌜ at + idSize ≤ length (now out) ⌝ }
     ensures { λ _. ⌜ now (out .exit) ≡ patched at (idBytes (idOf creator index)) (now (out .entry)) ⌝ }
 {
     put8(out, at, creator);
-    put16(out, at + 1, index);
+    put16(out, at + ActionHead::INDEX, index);
 }
 
 pub fn put_payload(out: &mut [u8], at: usize, payload: &[u8])
@@ -51,18 +52,18 @@ pub fn put_payload(out: &mut [u8], at: usize, payload: &[u8])
 
 // An action's id and its creator's green length.
 pub fn put_head(out: &mut [u8], at: usize, head: ActionHead)
-    requires { ⌜ at + 7 ≤ length (now out) ⌝ }
+    requires { ⌜ at + actionPayloadAt ≤ length (now out) ⌝ }
     ensures { λ _. ⌜ now (out .exit) ≡ patched at (headBytes head) (now (out .entry)) ⌝ }
 {
     put_id(out, at, head.creator, head.index);
-    put32(out, at + 3, head.green_length);
+    put32(out, at + ActionHead::GREEN_LENGTH, head.green_length);
 }
 
 // An action, as actions and retransmissions have it.
 pub fn put_body(out: &mut [u8], at: usize, head: ActionHead, payload: &[u8])
-    requires { ⌜ at + (8 + length (now payload)) ≤ length (now out) ⌝ }
+    requires { ⌜ at + (actionHeadSize + length (now payload)) ≤ length (now out) ⌝ }
     ensures { λ _. ⌜ now (out .exit) ≡ patched at (actionBytes (actionOf head (now (payload .entry)))) (now (out .entry)) ⌝ }
 {
     put_head(out, at, head);
-    put_payload(out, at + 7, payload);
+    put_payload(out, at + ActionHead::PAYLOAD, payload);
 }

@@ -2,12 +2,13 @@
 ghost use mathlib.Core.Path.{_≡_};
 ghost use Prim.Native.Nat.{_+_, _*_, _%_};
 ghost use Rattle.base.specs.Patched.{patched};
-ghost use Rattle.format.specs.Types.{action, retransmission, state, cpc, kindNumber, ofState};
+ghost use Rattle.format.specs.Types.{action, retransmission, state, cpc};
 ghost use Rattle.format.specs.Write.{write};
 ghost use Rattle.record.specs.Values.{actionOf, stateOf};
 ghost use Rattle.record.specs.Written.{put, putOf, putState, placeAfter, statePlace};
-ghost use Rattle.record.specs.Blocks.{openingNumbers, actionNumbers, retransmissionNumbers, standingNumbers, StateRoom};
+ghost use Rattle.record.specs.Blocks.{openingNumbers, stateOpening, actionNumbers, retransmissionNumbers, standingNumbers, StateRoom};
 use crate::ActionHead;
+use crate::State;
 use crate::StateHead;
 use crate::blocks::put_block;
 use crate::blocks::put_numbers;
@@ -35,6 +36,17 @@ fn place_after(length: usize, at: usize, size: usize, more: usize) -> Written
     }
     Written::Next(at + size + more)
 }
+
+const ID: u32 = State::ID as u32;
+
+// What the length bytes count of a record of each kind, but payload, cuts and ids.
+const ACTION_FOLLOWS: u32 = (Event::ACTION_SIZE - Event::LENGTH_SIZE) as u32;
+
+const RETRANSMISSION_FOLLOWS: u32 = (Event::RETRANSMISSION_SIZE - Event::LENGTH_SIZE) as u32;
+
+const STATE_FOLLOWS: u32 = (StateHead::SIZE - Event::LENGTH_SIZE) as u32;
+
+const CPC_FOLLOWS: u32 = (Event::CPC_SIZE - Event::LENGTH_SIZE) as u32;
 
 // Each record's numbers up to its bytes, filled up with zeros, and their widths.
 
@@ -70,7 +82,7 @@ fn action_numbers(head: ActionHead, payload: usize) -> [u32; 12]
 {
     let size = (payload % 65536) as u32;
     [
-        10 + size,
+        ACTION_FOLLOWS + size,
         VERSION as u32,
         Event::ACTION as u32,
         head.creator as u32,
@@ -92,7 +104,7 @@ fn retransmission_numbers(sender: u8, position: u32, head: ActionHead, payload: 
 {
     let size = (payload % 65536) as u32;
     [
-        15 + size,
+        RETRANSMISSION_FOLLOWS + size,
         VERSION as u32,
         Event::RETRANSMISSION as u32,
         sender as u32,
@@ -134,11 +146,11 @@ fn standing(head: StateHead) -> [u32; 12]
 pub fn write_cpc(out: &mut [u8], at: usize, sender: u8, configuration: u32) -> Written
     ensures { λ r. ⌜ putOf r (now (out .exit)) ≡ put (write (cpc sender configuration)) at (now (out .entry)) ⌝ }
 {
-    let w = place_after(out.len(), at, 9, 0);
+    let w = place_after(out.len(), at, Event::CPC_SIZE, 0);
     let Written::Next(_) = w else {
         return Written::Full;
     };
-    let numbers = opening(7, Event::CPC, sender, configuration);
+    let numbers = opening(CPC_FOLLOWS, Event::CPC, sender, configuration);
     put_numbers(out, at, OPENING_WIDTHS, numbers);
     w
 }
@@ -148,7 +160,7 @@ pub fn write_action(out: &mut [u8], at: usize, head: ActionHead, payload: &[u8])
     ensures { λ r. ⌜ putOf r (now (out .exit)) ≡ put (write (action (actionOf head (now (payload .entry))))) at (now (out .entry)) ⌝ }
 {
     let size = payload.len();
-    let w = place_after(out.len(), at, 12, size);
+    let w = place_after(out.len(), at, Event::ACTION_SIZE, size);
     let Written::Next(_) = w else {
         return Written::Full;
     };
@@ -169,7 +181,7 @@ pub fn write_retransmission(
     ensures { λ r. ⌜ putOf r (now (out .exit)) ≡ put (write (retransmission sender position (actionOf head (now (payload .entry))))) at (now (out .entry)) ⌝ }
 {
     let size = payload.len();
-    let w = place_after(out.len(), at, 17, size);
+    let w = place_after(out.len(), at, Event::RETRANSMISSION_SIZE, size);
     let Written::Next(_) = w else {
         return Written::Full;
     };
@@ -186,18 +198,18 @@ fn state_place(head: StateHead, cuts: usize, ids: usize, length: usize, at: usiz
     if cuts < n {
         return Written::Full;
     }
-    let m = 3 * (head.yellow_count as usize);
+    let m = State::ID * (head.yellow_count as usize);
     if ids < m {
         return Written::Full;
     }
-    place_after(length, at, 40, n + m)
+    place_after(length, at, StateHead::SIZE, n + m)
 }
 
 // A State's first numbers.
 fn state_opening(head: StateHead) -> [u32; 12]
-    ensures { λ r. ⌜ r ≡ openingNumbers (38 + (2 * head .servers + 3 * head .«yellow_count»)) (kindNumber ofState) (head .sender) (head .configuration) ⌝ }
+    ensures { λ r. ⌜ r ≡ stateOpening head ⌝ }
 {
-    let follows = 38 + (2 * (head.servers as u32) + 3 * (head.yellow_count as u32));
+    let follows = STATE_FOLLOWS + (2 * (head.servers as u32) + ID * (head.yellow_count as u32));
     opening(follows, Event::STATE, head.sender, head.configuration)
 }
 
@@ -207,11 +219,17 @@ fn put_state(out: &mut [u8], at: usize, head: StateHead, cuts: &[u8], ids: &[u8]
     ensures { λ _. ⌜ now (out .exit) ≡ patched at (write (state (stateOf head (now (cuts .entry)) 0 (now (ids .entry)) 0))) (now (out .entry)) ⌝ }
 {
     let n = 2 * (head.servers as usize);
-    let m = 3 * (head.yellow_count as usize);
+    let m = State::ID * (head.yellow_count as usize);
     let first = state_opening(head);
     let second = standing(head);
     put_block(out, at, OPENING_WIDTHS, first, &cuts[..n]);
-    put_block(out, at + (9 + n), STANDING_WIDTHS, second, &ids[..m]);
+    put_block(
+        out,
+        at + (StateHead::CUTS + n),
+        STANDING_WIDTHS,
+        second,
+        &ids[..m],
+    );
 }
 
 // Writes a State at `at`: `cuts` begins with its cuts, two bytes each, and `ids` with its yellow ids, three bytes each. Full too where

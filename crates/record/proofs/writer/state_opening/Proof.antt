@@ -1,4 +1,5 @@
 use Rattle.format.specs.Types.{kindNumber}
+use Rattle.record.specs.Blocks.{stateOpening}
 use borrow.Author.Needs.{needs}
 use Rattle.record.proofs.writer.state_opening.Statement.{statement}
 use Rattle.record.proofs.writer.state_opening.Tie as tie
@@ -25,7 +26,7 @@ opening-requires : tie.Need-opening-requires
 opening-requires c κs = search needs
 
 returns : tie.Need-returns
-unfolding kindNumber
+unfolding kindNumber stateOpening
 returns c = search needs
 
 pub state-opening-spec : {M : Type 1} → statement M
