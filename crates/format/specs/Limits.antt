@@ -1,6 +1,6 @@
 -- Document 01, 'The engine and its edges' and 'Records': the limits, each named once.
 -- Assumes nothing.
-use Prim.Native.Nat.{ℕ}
+use Prim.Native.Nat.{ℕ, _*_}
 
 -- "Servers: 2 to 8, numbered from 0"
 abbrev pub fewestServers : ℕ
@@ -31,3 +31,7 @@ mostIndex = 4_000_000_000
 -- "version byte 1"
 abbrev pub version : ℕ
 version = 1
+
+-- How many ids there can be.
+abbrev pub mostIds : ℕ
+mostIds = mostServers * mostQuota

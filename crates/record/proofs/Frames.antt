@@ -1,11 +1,12 @@
 -- What the functions that frame a kind answer.
 -- Assumes nothing.
-use Prim.Native.Nat.{ℕ, _+_, _*_, _<_}
+use Prim.Native.Nat.{ℕ, _+_, _*_, _-_, _<_}
 use mathlib.Core.Path.{_≡_, refl, sym, ap, _∙_}
 use mathlib.Core.List.{List}
 use mathlib.Core.Option.{some}
 use native.Mathlib.Omega.{arith}
 use lib.ListN.{length}
+use Rattle.format.specs.Places.{atBody, actionPayloadAt, actionHeadSize, actionSize, senderAt, positionAt, resentAt, retransmissionSize, configurationIdAt, cpcSize, stateCutsAt, stateAttemptAt, stateLastAt, stateMarkAt, stateYellowAt, stateCountAt, standingSize, idSize, yellowCountAt, yellowHeadSize, regularSetAt, regularSize, transitionalSize, requestSize, recoverySize}
 use Rattle.base.specs.Tests.{_=?_}
 use Rattle.base.proofs.TestLaws.{pick-yes, pick-no, eq-yes, eq-no}
 use Rattle.base.specs.Bytes.{numberAt}
@@ -36,77 +37,82 @@ good k n e v h f i = record { is = pick-yes (lengthFor k n e =? length e) _ _ _ 
 
 action-is : (e : List ℕ) (at : ℕ) → actionFrom (actionIn e at) e ≡ actionAt e at
 unfolding actionFrom actionOf actionIn actionAt idOf idAt payloadAt
-action-is e at = let a : at + 7 + 1 ≡ at + 8 = omega arith in rw a
+action-is e at = let a : at + actionPayloadAt + 1 ≡ at + actionHeadSize = omega arith in rw a
 
-pub action-good : (e : List ℕ) (m : ℕ) (a : ActionAt) → m ≡ numberAt 1 e 11 → 12 + m ≡ length e → a ≡ actionIn e 4 → (n : ℕ)
+pub action-good : (e : List ℕ) (m : ℕ) (a : ActionAt) → m ≡ numberAt 1 e (atBody + actionPayloadAt) → actionSize + m ≡ length e → a ≡ actionIn e atBody → (n : ℕ)
     → Answers (bodyIn ofAction n e) n (Good (Action a)) e
 unfolding lengthFor recordOf recordIn Inside PayloadInside actionIn
-action-good e m a f h g n = good ofAction n e (Action a) (omega arith) (ap action (rw g (action-is e 4))) (rw g (omega arith))
+action-good e m a f h g n = good ofAction n e (Action a) (omega arith) (ap action (rw g (action-is e atBody))) (rw g (omega arith))
 
-pub retransmission-good : (e : List ℕ) (m s p : ℕ) (a : ActionAt) → m ≡ numberAt 1 e 16 → 17 + m ≡ length e → a ≡ actionIn e 9 → s ≡ numberAt 1 e 4 → p ≡ numberAt 4 e 5
+pub retransmission-good : (e : List ℕ) (m s p : ℕ) (a : ActionAt) → m ≡ numberAt 1 e (resentAt + actionPayloadAt) → retransmissionSize + m ≡ length e → a ≡ actionIn e resentAt
+    → s ≡ numberAt 1 e senderAt → p ≡ numberAt 4 e positionAt
     → (n : ℕ) → Answers (bodyIn ofRetransmission n e) n (Good (Retransmission s p a)) e
 unfolding lengthFor recordOf recordIn Inside PayloadInside actionIn
 retransmission-good e m s p a f h g i j n =
-    good ofRetransmission n e (Retransmission s p a) (omega arith) (rw (g, i, j) (ap (retransmission (numberAt 1 e 4) (numberAt 4 e 5)) (action-is e 9))) (rw g (omega arith))
+    good ofRetransmission n e (Retransmission s p a) (omega arith) (rw (g, i, j) (ap (retransmission (numberAt 1 e senderAt) (numberAt 4 e positionAt)) (action-is e resentAt))) (rw g (omega arith))
 
 -- a State
 
+-- where its n cuts end
+abbrev behind : ℕ → ℕ
+behind n = stateCutsAt + 2 * n
+
 -- its numbers behind the cuts begin at `at`
 abbrev stateIn : StateHead → ℕ → StateAt
-stateIn h at = record { head = h; «cuts_at» = 9; «yellow_at» = at + 31 }
+stateIn h at = record { head = h; «cuts_at» = stateCutsAt; «yellow_at» = at + standingSize }
 
-pub state-is : (n : ℕ) (e : List ℕ) → stateFrom (stateIn (headIn n e (9 + 2 * n)) (9 + 2 * n)) e ≡ stateAt n e
+pub state-is : (n : ℕ) (e : List ℕ) → stateFrom (stateIn (headIn n e (behind n)) (behind n)) e ≡ stateAt n e
 unfolding stateFrom stateOf headIn stateAt primaryOf componentOf lastIn primaryAt markOf markIn markAt yellowAt
 state-is n e =
-    let a₁ : 9 + 2 * n + 4 ≡ 13 + 2 * n = omega arith in
-    let a₂ : 9 + 2 * n + 8 ≡ 17 + 2 * n = omega arith in
-    let a₃ : 9 + 2 * n + 17 ≡ 26 + 2 * n = omega arith in
-    let a₄ : 9 + 2 * n + 28 ≡ 37 + 2 * n = omega arith in
-    let a₅ : 9 + 2 * n + 29 ≡ 37 + 2 * n + 1 = omega arith in
-    let a₆ : 9 + 2 * n + 31 ≡ 37 + 2 * n + 3 = omega arith in
+    let a₁ : behind n + (stateAttemptAt - stateCutsAt) ≡ stateAttemptAt + 2 * n = omega arith in
+    let a₂ : behind n + (stateLastAt - stateCutsAt) ≡ stateLastAt + 2 * n = omega arith in
+    let a₃ : behind n + (stateMarkAt - stateCutsAt) ≡ stateMarkAt + 2 * n = omega arith in
+    let a₄ : behind n + (stateYellowAt - stateCutsAt) ≡ stateYellowAt + 2 * n = omega arith in
+    let a₅ : behind n + (stateCountAt - stateCutsAt) ≡ stateYellowAt + 2 * n + yellowCountAt = omega arith in
+    let a₆ : behind n + standingSize ≡ stateYellowAt + 2 * n + yellowHeadSize = omega arith in
     rw (a₁, a₂, a₃, a₄, a₅, a₆)
 
 -- how long the bytes say that it is
-state-length : (n : ℕ) (e : List ℕ) (h : StateHead) → h ≡ headIn n e (9 + 2 * n) → lengthFor ofState n e ≡ 9 + 2 * n + 31 + 3 * h .«yellow_count»
+state-length : (n : ℕ) (e : List ℕ) (h : StateHead) → h ≡ headIn n e (behind n) → lengthFor ofState n e ≡ behind n + standingSize + idSize * h .«yellow_count»
 unfolding lengthFor headIn
 state-length n e h g =
-    let a : 9 + 2 * n + 29 ≡ 38 + 2 * n = omega arith in
+    let a : behind n + (stateCountAt - stateCutsAt) ≡ stateCountAt + 2 * n = omega arith in
     rw (g, a) (omega arith)
 
-pub state-short : (n : ℕ) (e : List ℕ) → length e < 9 + 2 * n + 31 → Answers (bodyIn ofState n e) n Bad e
+pub state-short : (n : ℕ) (e : List ℕ) → length e < behind n + standingSize → Answers (bodyIn ofState n e) n Bad e
 unfolding lengthFor
 state-short n e h = bad ofState n e (λ z. omega arith)
 
-pub state-bad : (n : ℕ) (e : List ℕ) (h : StateHead) → h ≡ headIn n e (9 + 2 * n) → (9 + 2 * n + 31 + 3 * h .«yellow_count» ≡ length e → ⊥)
+pub state-bad : (n : ℕ) (e : List ℕ) (h : StateHead) → h ≡ headIn n e (behind n) → (behind n + standingSize + idSize * h .«yellow_count» ≡ length e → ⊥)
     → Answers (bodyIn ofState n e) n Bad e
 state-bad n e h g k = bad ofState n e (λ z. k (sym (state-length n e h g) ∙ z))
 
-pub state-good : (n : ℕ) (e : List ℕ) (h : StateHead) → h ≡ headIn n e (9 + 2 * n) → 9 + 2 * n + 31 + 3 * h .«yellow_count» ≡ length e
-    → Answers (bodyIn ofState n e) n (Good (State (stateIn h (9 + 2 * n)))) e
+pub state-good : (n : ℕ) (e : List ℕ) (h : StateHead) → h ≡ headIn n e (behind n) → behind n + standingSize + idSize * h .«yellow_count» ≡ length e
+    → Answers (bodyIn ofState n e) n (Good (State (stateIn h (behind n)))) e
 unfolding recordOf recordIn Inside headIn
 state-good n e h g k =
     let s : h .servers ≡ n = ap (λ (x : StateHead). x .servers) g in
-    let i : ListsInside n (stateIn h (9 + 2 * n)) e = record { servers = s; cuts = omega arith; ids = omega arith } in
-    good ofState n e (State (stateIn h (9 + 2 * n))) (state-length n e h g ∙ k) (ap state (rw g (state-is n e))) i
+    let i : ListsInside n (stateIn h (behind n)) e = record { servers = s; cuts = omega arith; ids = omega arith } in
+    good ofState n e (State (stateIn h (behind n))) (state-length n e h g ∙ k) (ap state (rw g (state-is n e))) i
 
 -- the rest
 
-pub cpc-good : (e : List ℕ) (s i : ℕ) → length e ≡ 9 → s ≡ numberAt 1 e 4 → i ≡ numberAt 4 e 5 → (n : ℕ) → Answers (bodyIn ofCpc n e) n (Good (Cpc s i)) e
+pub cpc-good : (e : List ℕ) (s i : ℕ) → length e ≡ cpcSize → s ≡ numberAt 1 e senderAt → i ≡ numberAt 4 e configurationIdAt → (n : ℕ) → Answers (bodyIn ofCpc n e) n (Good (Cpc s i)) e
 unfolding lengthFor recordOf recordIn Inside
 cpc-good e s i h f g n = good ofCpc n e (Cpc s i) (omega arith) (rw (f, g)) tt
 
-pub regular-good : (e : List ℕ) (i s : ℕ) → length e ≡ 9 → i ≡ numberAt 4 e 4 → s ≡ numberAt 1 e 8 → (n : ℕ) → Answers (bodyIn ofRegular n e) n (Good (Regular i s)) e
+pub regular-good : (e : List ℕ) (i s : ℕ) → length e ≡ regularSize → i ≡ numberAt 4 e atBody → s ≡ numberAt 1 e regularSetAt → (n : ℕ) → Answers (bodyIn ofRegular n e) n (Good (Regular i s)) e
 unfolding lengthFor recordOf recordIn Inside
 regular-good e i s h f g n = good ofRegular n e (Regular i s) (omega arith) (rw (f, g)) tt
 
-pub transitional-good : (e : List ℕ) (s : ℕ) → length e ≡ 5 → s ≡ numberAt 1 e 4 → (n : ℕ) → Answers (bodyIn ofTransitional n e) n (Good (Transitional s)) e
+pub transitional-good : (e : List ℕ) (s : ℕ) → length e ≡ transitionalSize → s ≡ numberAt 1 e atBody → (n : ℕ) → Answers (bodyIn ofTransitional n e) n (Good (Transitional s)) e
 unfolding lengthFor recordOf recordIn Inside
 transitional-good e s h f n = good ofTransitional n e (Transitional s) (omega arith) (rw f) tt
 
-pub request-good : (e : List ℕ) (m : ℕ) → m ≡ numberAt 1 e 4 → 5 + m ≡ length e → (n : ℕ) → Answers (bodyIn ofRequest n e) n (Good (Request 5 m)) e
+pub request-good : (e : List ℕ) (m : ℕ) → m ≡ numberAt 1 e atBody → requestSize + m ≡ length e → (n : ℕ) → Answers (bodyIn ofRequest n e) n (Good (Request requestSize m)) e
 unfolding lengthFor recordOf recordIn Inside payloadAt
-request-good e m f h n = good ofRequest n e (Request 5 m) (omega arith) (rw f) (omega arith)
+request-good e m f h n = good ofRequest n e (Request requestSize m) (omega arith) (rw f) (omega arith)
 
-pub recovery-good : (e : List ℕ) → length e ≡ 4 → (n : ℕ) → Answers (bodyIn ofRecovery n e) n (Good Recovery) e
+pub recovery-good : (e : List ℕ) → length e ≡ recoverySize → (n : ℕ) → Answers (bodyIn ofRecovery n e) n (Good Recovery) e
 unfolding lengthFor recordOf recordIn Inside
 recovery-good e h n = good ofRecovery n e Recovery (omega arith) refl tt

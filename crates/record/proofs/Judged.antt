@@ -7,6 +7,7 @@ use mathlib.Core.List.{List}
 use mathlib.Core.Option.{Option, none, some}
 use native.Mathlib.Omega.{arith}
 use lib.ListN.{length, List·getD-eq-default}
+use Rattle.format.specs.Places.{atKind, atBody}
 use Rattle.base.specs.Tests.{_≤?_, _=?_, _and_, pick}
 use Rattle.base.proofs.TestLaws.{le-fails, Known, known, holds, fails}
 use Rattle.base.specs.Bytes.{numberAt}
@@ -28,11 +29,11 @@ zero-unnamed : kindNamed 0 ≡ none
 unfolding kindNamed kindNumber pick _=?_
 zero-unnamed = refl
 
-named-long : (e : List ℕ) (k : Kind) → kindNamed (numberAt 1 e 3) ≡ some k → Known (4 ≤? length e) → (4 ≤? length e) ≡ true
+named-long : (e : List ℕ) (k : Kind) → kindNamed (numberAt 1 e atKind) ≡ some k → Known (atBody ≤? length e) → (atBody ≤? length e) ≡ true
 named-long e k h (holds f) = f
 named-long e k h (fails f) =
-    let short : length e ≤ 3 = let z = le-fails 4 (length e) f in omega arith in
-    let zero : numberAt 1 e 3 ≡ 0 = number1 e 3 ∙ List·getD-eq-default e 0 short in
+    let short : length e ≤ atKind = let z = le-fails atBody (length e) f in omega arith in
+    let zero : numberAt 1 e atKind ≡ 0 = number1 e atKind ∙ List·getD-eq-default e 0 short in
     let clash : none ≡ some k = sym zero-unnamed ∙ ap kindNamed (sym zero) ∙ h in
     let z : _≡_ {A = ℕ} 0 1 = cc in
     absurd (omega arith)
@@ -50,13 +51,13 @@ unfolding pick
 pick-same true a = refl
 pick-same false a = refl
 
-read-split : (c : FormatContext) (e : List ℕ) (o : Option Kind) → kindNamed (numberAt 1 e 3) ≡ o → readAs o c e ≡ judged c (pick (headOk e) (bodyAs o (c .servers) e) none)
+read-split : (c : FormatContext) (e : List ℕ) (o : Option Kind) → kindNamed (numberAt 1 e atKind) ≡ o → readAs o c e ≡ judged c (pick (headOk e) (bodyAs o (c .servers) e) none)
 unfolding readAs bodyAs bodyIn headOk frameOk judged _and_
 read-split c e none h = ap (judged c) (sym (pick-same (headOk e) none))
 read-split c e (some k) h =
     split c (recordIn k (c .servers) e) (numberAt 2 e 0 + 2 =? length e) (numberAt 1 e 2 =? version) (lengthFor k (c .servers) e =? length e)
-    ∙ rw (named-long e k h (known (4 ≤? length e)))
+    ∙ rw (named-long e k h (known (atBody ≤? length e)))
 
 pub read-judged : (c : FormatContext) (e : List ℕ) → read c e ≡ judged c (framedIn (c .servers) e)
 unfolding read framedIn
-read-judged c e = read-split c e (kindNamed (numberAt 1 e 3)) refl
+read-judged c e = read-split c e (kindNamed (numberAt 1 e atKind)) refl

@@ -1,8 +1,9 @@
 -- A struct that the code makes of numbers that it read is the one that the definition names.
 -- Assumes nothing.
-use Prim.Native.Nat.{ℕ, _+_}
+use Prim.Native.Nat.{ℕ, _+_, _-_}
 use mathlib.Core.Path.{_≡_}
 use mathlib.Core.List.{List}
+use Rattle.format.specs.Places.{idIndexAt, actionGreenAt, actionPayloadAt, actionHeadSize, primaryAttemptAt, primarySetAt, markIndexAt, markAttemptAt, markSetAt, markBitsAt, senderAt, configurationIdAt, stateCutsAt, stateAttemptAt, stateLastAt, stateMarkAt, stateYellowAt, stateCountAt}
 use Rattle.base.specs.Bytes.{numberAt}
 use Rattle.record.specs.Events.{actionIn, lastIn, markIn, headIn}
 use Rattle.record.specs.declared.LastPrimary.{LastPrimary}
@@ -10,23 +11,24 @@ use Rattle.record.specs.declared.Mark.{Mark}
 use Rattle.record.specs.declared.StateHead.{StateHead}
 use Rattle.record.specs.declared.events.ActionAt.{ActionAt}
 
-pub action-made : (e : List ℕ) (at x i g m : ℕ) → x ≡ numberAt 1 e at → i ≡ numberAt 2 e (at + 1) → g ≡ numberAt 4 e (at + 3) → m ≡ numberAt 1 e (at + 7)
-    → _≡_ {A = ActionAt} (record { head = record { creator = x; index = i; «green_length» = g }; «payload_at» = at + 8; «payload_length» = m }) (actionIn e at)
+pub action-made : (e : List ℕ) (at x i g m : ℕ) → x ≡ numberAt 1 e at → i ≡ numberAt 2 e (at + idIndexAt) → g ≡ numberAt 4 e (at + actionGreenAt) → m ≡ numberAt 1 e (at + actionPayloadAt)
+    → _≡_ {A = ActionAt} (record { head = record { creator = x; index = i; «green_length» = g }; «payload_at» = at + actionHeadSize; «payload_length» = m }) (actionIn e at)
 unfolding actionIn
 action-made e at x i g m a b c d = rw (a, b, c, d)
 
-pub last-made : (e : List ℕ) (at i a s : ℕ) → i ≡ numberAt 4 e at → a ≡ numberAt 4 e (at + 4) → s ≡ numberAt 1 e (at + 8)
+pub last-made : (e : List ℕ) (at i a s : ℕ) → i ≡ numberAt 4 e at → a ≡ numberAt 4 e (at + primaryAttemptAt) → s ≡ numberAt 1 e (at + primarySetAt)
     → _≡_ {A = LastPrimary} (record { index = record { 0 = i }; attempt = record { 0 = a }; set = s }) (lastIn e at)
 unfolding lastIn
 last-made e at i a s f g h = rw (f, g, h)
 
-pub mark-made : (e : List ℕ) (at t i a s b : ℕ) → t ≡ numberAt 1 e at → i ≡ numberAt 4 e (at + 1) → a ≡ numberAt 4 e (at + 5) → s ≡ numberAt 1 e (at + 9)
-    → b ≡ numberAt 1 e (at + 10) → _≡_ {A = Mark} (record { status = t; index = record { 0 = i }; attempt = record { 0 = a }; set = s; bits = b }) (markIn e at)
+pub mark-made : (e : List ℕ) (at t i a s b : ℕ) → t ≡ numberAt 1 e at → i ≡ numberAt 4 e (at + markIndexAt) → a ≡ numberAt 4 e (at + markAttemptAt) → s ≡ numberAt 1 e (at + markSetAt)
+    → b ≡ numberAt 1 e (at + markBitsAt) → _≡_ {A = Mark} (record { status = t; index = record { 0 = i }; attempt = record { 0 = a }; set = s; bits = b }) (markIn e at)
 unfolding markIn
 mark-made e at t i a s b f g h k l = rw (f, g, h, k, l)
 
-pub head-made : (e : List ℕ) (n at s i g a y m : ℕ) (p : LastPrimary) (k : Mark) → s ≡ numberAt 1 e 4 → i ≡ numberAt 4 e 5 → g ≡ numberAt 4 e at
-    → a ≡ numberAt 4 e (at + 4) → p ≡ lastIn e (at + 8) → k ≡ markIn e (at + 17) → y ≡ numberAt 1 e (at + 28) → m ≡ numberAt 2 e (at + 29)
+pub head-made : (e : List ℕ) (n at s i g a y m : ℕ) (p : LastPrimary) (k : Mark) → s ≡ numberAt 1 e senderAt → i ≡ numberAt 4 e configurationIdAt → g ≡ numberAt 4 e at
+    → a ≡ numberAt 4 e (at + (stateAttemptAt - stateCutsAt)) → p ≡ lastIn e (at + (stateLastAt - stateCutsAt))
+    → k ≡ markIn e (at + (stateMarkAt - stateCutsAt)) → y ≡ numberAt 1 e (at + (stateYellowAt - stateCutsAt)) → m ≡ numberAt 2 e (at + (stateCountAt - stateCutsAt))
     → _≡_ {A = StateHead}
     (record {
       sender = s;

@@ -7,6 +7,7 @@ use mathlib.Core.List.{List, [], _∷_}
 use native.Mathlib.Omega.{arith}
 use lib.ListN.{length, getD, set, length-set, length-replicate, replicate}
 use lib.Seq.{getD-set-same, getD-set-other}
+use Rattle.format.specs.Limits.{mostServers, mostQuota, mostIds}
 use Rattle.base.specs.Tests.{_=?_, _and_, _or_}
 use Rattle.base.proofs.TestLaws.{not-both, and-holds, both-yes, eq-holds, eq-yes}
 use Rattle.base.proofs.Branches.{and-false}
@@ -30,10 +31,10 @@ pass c t (x ∷ xs) = idOk c x and not (met t x) and pass c (set t (slot x) 1) x
 
 -- The context's numbers that a place rests on.
 pub record Small (c : Context) : Type 0 where
-  pub servers : c .servers ≤ 8
-  pub quota : c .quota ≤ 256
+  pub servers : c .servers ≤ mostServers
+  pub quota : c .quota ≤ mostQuota
 
-pub slot-lt : (c : Context) (x : Id) → Small c → IdRange c x → slot x < 2048
+pub slot-lt : (c : Context) (x : Id) → Small c → IdRange c x → slot x < mostIds
 unfolding slot
 slot-lt c x s h = omega arith
 
@@ -71,7 +72,7 @@ met-there : (t : List ℕ) (x y : Id) → (slot y ≡ slot x → ⊥) → met (s
 unfolding met
 met-there t x y n = rw (getD-set-other t (slot x) (slot y) 1 0 n)
 
-any-set-at : (c : Context) (t : List ℕ) (x y : Id) (ys : List Id) (b : Bool) → Small c → length t ≡ 2048 → IdRange c x → IdRange c y
+any-set-at : (c : Context) (t : List ℕ) (x y : Id) (ys : List Id) (b : Bool) → Small c → length t ≡ mostIds → IdRange c x → IdRange c y
     → anyMet (set t (slot x) 1) ys ≡ (hasId x ys or anyMet t ys) → sameId x y ≡ b
     → anyMet (set t (slot x) 1) (y ∷ ys) ≡ (hasId x (y ∷ ys) or anyMet t (y ∷ ys))
 unfolding anyMet hasId _or_
@@ -80,7 +81,7 @@ any-set-at c t x y ys true s l a b i e =
 any-set-at c t x y ys false s l a b i e =
     rw (e, met-there t x y (other-slot c x y s a b e), i) (swap (met t y) (hasId x ys) (anyMet t ys))
 
-any-set : (c : Context) (t : List ℕ) (x : Id) (ys : List Id) → Small c → length t ≡ 2048 → IdRange c x → idsInRange c ys ≡ true
+any-set : (c : Context) (t : List ℕ) (x : Id) (ys : List Id) → Small c → length t ≡ mostIds → IdRange c x → idsInRange c ys ≡ true
     → anyMet (set t (slot x) 1) ys ≡ (hasId x ys or anyMet t ys)
 unfolding anyMet hasId idsInRange _or_
 any-set c t x [] s l a b = refl
@@ -100,7 +101,7 @@ shuffle false true true d = refl
 shuffle false true false d = refl
 shuffle false false v d = refl
 
-pass-at : (c : Context) (t : List ℕ) (x : Id) (xs : List Id) (a b : Bool) → Small c → length t ≡ 2048
+pass-at : (c : Context) (t : List ℕ) (x : Id) (xs : List Id) (a b : Bool) → Small c → length t ≡ mostIds
     → idOk c x ≡ a → idsInRange c xs ≡ b → pass c (set t (slot x) 1) xs ≡ clear c (set t (slot x) 1) xs
     → pass c t (x ∷ xs) ≡ clear c t (x ∷ xs)
 unfolding pass clear anyMet idsInRange idsDiffer _and_
@@ -113,7 +114,7 @@ pass-nil : (c : Context) (t : List ℕ) → pass c t [] ≡ clear c t []
 unfolding pass clear anyMet idsInRange idsDiffer _and_
 pass-nil c t = refl
 
-pub pass-law : (c : Context) (t : List ℕ) (xs : List Id) → Small c → length t ≡ 2048 → pass c t xs ≡ clear c t xs
+pub pass-law : (c : Context) (t : List ℕ) (xs : List Id) → Small c → length t ≡ mostIds → pass c t xs ≡ clear c t xs
 pass-law c t [] s l = pass-nil c t
 pass-law c t (x ∷ xs) s l =
     pass-at c t x xs (idOk c x) (idsInRange c xs) s l refl refl (pass-law c (set t (slot x) 1) xs s (length-set t (slot x) 1 ∙ l))
@@ -130,6 +131,6 @@ unfolding anyMet met _=?_ _or_
 none-met m [] = refl
 none-met m (x ∷ xs) = rw (getD-zeros m (slot x)) (none-met m xs)
 
-pub pass-zeros : (c : Context) (xs : List Id) → Small c → idsOk c xs ≡ pass c (replicate {A = ℕ} 2048 0) xs
+pub pass-zeros : (c : Context) (xs : List Id) → Small c → idsOk c xs ≡ pass c (replicate {A = ℕ} mostIds 0) xs
 unfolding idsOk clear _and_
-pass-zeros c xs s = sym (pass-law c (replicate {A = ℕ} 2048 0) xs s (length-replicate {A = ℕ} 2048 0) ∙ rw (none-met 2048 xs))
+pass-zeros c xs s = sym (pass-law c (replicate {A = ℕ} mostIds 0) xs s (length-replicate {A = ℕ} mostIds 0) ∙ rw (none-met mostIds xs))

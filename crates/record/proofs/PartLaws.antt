@@ -5,6 +5,7 @@ use mathlib.Core.Path.{_≡_, refl, sym, ap, _∙_}
 use mathlib.Core.List.{List, [], _∷_, append-assoc, append-nil}
 use native.Mathlib.Omega.{arith}
 use lib.ListN.{length}
+use Rattle.format.specs.Places.{actionPayloadAt}
 use Rattle.base.specs.Bytes.{bytesOf, joined}
 use Rattle.base.proofs.BytesLaws.{bytes-length, bytes1}
 use Rattle.base.specs.Patched.{patched}
@@ -13,7 +14,7 @@ use Rattle.format.specs.Types.{Id}
 use Rattle.format.specs.Write.{idBytes, payloadBytes}
 use Rattle.format.proofs.Lengths.{id-length}
 
-pub head-length : (d : Id) (v : ℕ) → length (joined (idBytes d ∷ bytesOf 4 v ∷ [])) ≡ 7
+pub head-length : (d : Id) (v : ℕ) → length (joined (idBytes d ∷ bytesOf 4 v ∷ [])) ≡ actionPayloadAt
 unfolding idBytes joined bytesOf
 head-length d v = refl
 

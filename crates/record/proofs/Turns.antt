@@ -10,6 +10,8 @@ use lib.ListN.{length, getD, set, replicate}
 use borrow.Author.Tests.{not-false}
 use mir.Syntax.{w64}
 use mir.Val.{Fits}
+use Rattle.format.specs.Limits.{mostIds}
+use Rattle.format.specs.Places.{idSize}
 use Rattle.base.specs.Tests.{_≤?_, _=?_}
 use Rattle.base.proofs.TestLaws.{pick-yes, pick-no, and-yes, and-no, le-yes, le-no, eq-yes, eq-no, Known, known, holds, fails}
 use Rattle.base.specs.Bytes.{numberAt, numbersAt}
@@ -70,17 +72,17 @@ ids-none w zero e at h = refl
 ids-none w (suc m) e at h = absurd (omega arith)
 
 -- Ids next after one another.
-pub ids-by-three : (m : ℕ) (e : List ℕ) (at : ℕ) → idsBy 3 m e at ≡ idsAt m e at
+pub ids-by-id : (m : ℕ) (e : List ℕ) (at : ℕ) → idsBy idSize m e at ≡ idsAt m e at
 unfolding idsBy idsAt
-ids-by-three zero e at = refl
-ids-by-three (suc m) e at = ap (λ (l : List Id). idAt e at ∷ l) (ids-by-three m e (at + 3))
+ids-by-id zero e at = refl
+ids-by-id (suc m) e at = ap (λ (l : List Id). idAt e at ∷ l) (ids-by-id m e (at + idSize))
 
-pub ids-three : (c : FormatContext) (e : List ℕ) (at m : ℕ) (r : Bool) → r ≡ idsOk c (idsBy 3 m e at) → r ≡ idsOk c (idsAt m e at)
-ids-three c e at m r h = h ∙ ap (idsOk c) (ids-by-three m e at)
+pub ids-each : (c : FormatContext) (e : List ℕ) (at m : ℕ) (r : Bool) → r ≡ idsOk c (idsBy idSize m e at) → r ≡ idsOk c (idsAt m e at)
+ids-each c e at m r h = h ∙ ap (idsOk c) (ids-by-id m e at)
 
 -- The first of the entries that are left, and the others.
 
-pub first-inside : (w m : ℕ) (e : List ℕ) (at : ℕ) → IdsInside w m e at → 0 < m → at + 3 ≤ length e
+pub first-inside : (w m : ℕ) (e : List ℕ) (at : ℕ) → IdsInside w m e at → 0 < m → at + idSize ≤ length e
 first-inside w m e at h l = omega (arith, mul-le-mul-left w l, h .wide, h .inside)
 
 pub step-fits : (w m : ℕ) (e : List ℕ) (at : ℕ) → IdsInside w m e at → 0 < m → length e < 2 ^ 64 → Fits w64 (at + w)
@@ -97,12 +99,12 @@ unfolding contextOf
 small c h = record { servers = h .most; quota = h .largest }
 
 pub ids-start : (c : Context) (w m : ℕ) (e : List ℕ) (at : ℕ) → ContextIn c
-    → idsOk (contextOf c) (idsBy w m e at) ≡ pass (contextOf c) (replicate {A = ℕ} 2048 0) (idsBy w m e at)
+    → idsOk (contextOf c) (idsBy w m e at) ≡ pass (contextOf c) (replicate {A = ℕ} mostIds 0) (idsBy w m e at)
 ids-start c w m e at h = pass-zeros (contextOf c) (idsBy w m e at) (small c h)
 
 -- An id has a place below 2048 exactly where it is in range.
 
-pub place-out : (c : FormatContext) (x : Id) (p : ℕ) → Small c → Known (idOk c x) → p ≡ placeOf c x → 2048 ≤ p → idOk c x ≡ false
+pub place-out : (c : FormatContext) (x : Id) (p : ℕ) → Small c → Known (idOk c x) → p ≡ placeOf c x → mostIds ≤ p → idOk c x ≡ false
 unfolding placeOf
 place-out c x p s (holds e) f g =
     let a = slot-lt c x s (id-range c x e) in
@@ -110,15 +112,15 @@ place-out c x p s (holds e) f g =
     absurd (omega arith)
 place-out c x p s (fails e) f g = e
 
-pub place-in : (c : FormatContext) (x : Id) (p : ℕ) → Known (idOk c x) → p ≡ placeOf c x → p < 2048 → (idOk c x ≡ true) × (p ≡ slot x)
+pub place-in : (c : FormatContext) (x : Id) (p : ℕ) → Known (idOk c x) → p ≡ placeOf c x → p < mostIds → (idOk c x ≡ true) × (p ≡ slot x)
 unfolding placeOf
 place-in c x p (holds e) f g = (e, f ∙ sym (pick-yes (idOk c x) _ _ _ e refl))
 place-in c x p (fails e) f g =
-    let b : p ≡ 2048 = f ∙ sym (pick-no (idOk c x) _ _ _ e refl) in
+    let b : p ≡ mostIds = f ∙ sym (pick-no (idOk c x) _ _ _ e refl) in
     absurd (omega arith)
 
 pub ids-out : (c : Context) (w m : ℕ) (e t : List ℕ) (at p : ℕ) (v : Bool) → ContextIn c → 0 < m
-    → p ≡ placeOf (contextOf c) (idAt e at) → 2048 ≤ p → v ≡ pass (contextOf c) t (idsBy w m e at) → false ≡ v
+    → p ≡ placeOf (contextOf c) (idAt e at) → mostIds ≤ p → v ≡ pass (contextOf c) t (idsBy w m e at) → false ≡ v
 unfolding pass
 ids-out c w m e t at p v s h f g j =
     let d : FormatContext = contextOf c in
@@ -126,7 +128,7 @@ ids-out c w m e t at p v s h f g j =
     and-no (idOk d x) _ (place-out d x p (small c s) (known (idOk d x)) f g) ∙ sym (j ∙ ap (pass d t) (ids-more w m e at h))
 
 pub ids-twice : (c : FormatContext) (w m : ℕ) (e t : List ℕ) (at p : ℕ) (v : Bool) → 0 < m
-    → p ≡ placeOf c (idAt e at) → p < 2048 → getD t p 0 ≡ 1 → v ≡ pass c t (idsBy w m e at) → false ≡ v
+    → p ≡ placeOf c (idAt e at) → p < mostIds → getD t p 0 ≡ 1 → v ≡ pass c t (idsBy w m e at) → false ≡ v
 unfolding pass met
 ids-twice c w m e t at p v h f g y j =
     let x : Id = idAt e at in
@@ -135,7 +137,7 @@ ids-twice c w m e t at p v h f g y j =
     and-yes false (idOk c x) _ (z .0) (and-no (not (getD t (slot x) 0 =? 1)) _ u) ∙ sym (j ∙ ap (pass c t) (ids-more w m e at h))
 
 pub ids-again : (c : FormatContext) (w m : ℕ) (e t : List ℕ) (at p : ℕ) (v : Bool) → 0 < m
-    → p ≡ placeOf c (idAt e at) → p < 2048 → (getD t p 0 ≡ 1 → ⊥) → v ≡ pass c t (idsBy w m e at)
+    → p ≡ placeOf c (idAt e at) → p < mostIds → (getD t p 0 ≡ 1 → ⊥) → v ≡ pass c t (idsBy w m e at)
     → v ≡ pass c (set t p 1) (idsBy w (m - 1) e (at + w))
 unfolding pass met
 ids-again c w m e t at p v h f g y j =

@@ -1,15 +1,16 @@
 -- A record's bytes are its numbers in their widths, and the bytes behind them.
 -- Assumes nothing.
-use Prim.Native.Nat.{ℕ, _+_, _*_, _/_, _%_, _≤_}
+use Prim.Native.Nat.{ℕ, _+_, _-_, _*_, _/_, _%_, _≤_}
 use mathlib.Core.Path.{_≡_, refl, sym, ap, _∙_}
 use mathlib.Core.List.{List, [], _∷_, _++_, append-assoc, append-nil}
 use native.Mathlib.Omega.{arith}
 use lib.ListN.{length, take, length-append}
+use Rattle.format.specs.Places.{lengthSize, atBody, actionSize, retransmissionSize, cpcSize, stateHeadSize}
 use Rattle.base.specs.Bytes.{bytesOf, bytesOfAll, numbersAt, partAt, joined}
 use Rattle.base.proofs.BytesLaws.{bytes-length, bytes1, bytes2, numbers-length}
 use Rattle.base.specs.Patched.{patched}
 use Rattle.format.specs.Limits.{version}
-use Rattle.format.specs.Types.{action, retransmission, state, cpc, kindNumber, kindOf, ofState}
+use Rattle.format.specs.Types.{action, retransmission, state, cpc, kindNumber, kindOf, ofState, ofCpc}
 use Rattle.format.specs.Read.{idsAt}
 use Rattle.format.specs.Write.{framed, payloadBytes, idBytes, actionBytes, cutsBytes, primaryBytes, markBytes, idsBytes, yellowBytes, stateBytes, bodyOf, write}
 use Rattle.format.proofs.Lengths.{action-length, primary-length, mark-length}
@@ -58,7 +59,7 @@ module _ (s s₁ : List ℕ) (at : ℕ) where
 
 -- ---- whole records
 
-pub cpc-bytes : (s i : ℕ) → bytesOfAll openingWidths (openingNumbers 7 4 s i) ≡ write (cpc s i)
+pub cpc-bytes : (s i : ℕ) → bytesOfAll openingWidths (openingNumbers (cpcSize - lengthSize) (kindNumber ofCpc) s i) ≡ write (cpc s i)
 unfolding bytesOfAll openingNumbers write bodyOf kindOf kindNumber framed joined bytesOf
 cpc-bytes s i = refl
 
@@ -77,17 +78,17 @@ no-bytes : (v : ℕ) → bytesOf 0 v ≡ []
 unfolding bytesOf
 no-bytes v = refl
 
-action-body : (h : ActionHead) (p : List ℕ) → 2 + length (actionBytes (actionOf h p)) ≡ 10 + length p
+action-body : (h : ActionHead) (p : List ℕ) → atBody - lengthSize + length (actionBytes (actionOf h p)) ≡ actionSize - lengthSize + length p
 unfolding actionOf
 action-body h p = omega (arith, action-length (actionOf h p))
 
 pub action-bytes : (h : ActionHead) (p : List ℕ) → bytesOfAll actionWidths (actionNumbers h (length p % 65536)) ++ p ≡ write (action (actionOf h p))
 unfolding bytesOfAll actionNumbers write bodyOf kindOf kindNumber framed actionBytes idBytes payloadBytes actionOf idOf joined
 action-bytes h p =
-    rw (low-two 10 (length p), low-one (length p), action-body h p)
+    rw (low-two (actionSize - lengthSize) (length p), low-one (length p), action-body h p)
     (simp (no-bytes, append-nil, append-assoc))
 
-retransmission-body : (s i : ℕ) (h : ActionHead) (p : List ℕ) → 2 + length (joined (bytesOf 1 s ∷ bytesOf 4 i ∷ actionBytes (actionOf h p) ∷ [])) ≡ 15 + length p
+retransmission-body : (s i : ℕ) (h : ActionHead) (p : List ℕ) → atBody - lengthSize + length (joined (bytesOf 1 s ∷ bytesOf 4 i ∷ actionBytes (actionOf h p) ∷ [])) ≡ retransmissionSize - lengthSize + length p
 unfolding joined
 retransmission-body s i h p = let z = action-body h p in simp (append-nil, length-append, bytes-length) (omega arith)
 
@@ -95,7 +96,7 @@ pub retransmission-bytes : (s i : ℕ) (h : ActionHead) (p : List ℕ)
     → bytesOfAll retransmissionWidths (retransmissionNumbers s i h (length p % 65536)) ++ p ≡ write (retransmission s i (actionOf h p))
 unfolding bytesOfAll retransmissionNumbers write bodyOf kindOf kindNumber framed actionBytes idBytes payloadBytes actionOf idOf joined
 retransmission-bytes s i h p =
-    rw (low-two 15 (length p), low-one (length p), retransmission-body s i h p)
+    rw (low-two (retransmissionSize - lengthSize) (length p), low-one (length p), retransmission-body s i h p)
     (simp (no-bytes, append-nil, append-assoc))
 
 -- ---- a State: the bytes of its cuts are x, and those of its ids y
@@ -107,8 +108,8 @@ unfolding bytesOfAll standingNumbers primaryBytes markBytes primaryOf componentO
 standing-bytes h y = simp (append-nil, append-assoc)
 
 state-body : (h : StateHead) (x y : List ℕ)
-    → 2 + length (joined (bytesOf 1 (h .sender) ∷ bytesOf 4 (h .configuration) ∷ x ∷ bytesOf 4 (h .«green_length») ∷ bytesOf 4 (h .attempt .0) ∷ primaryBytes (primaryOf (h .last)) ∷ markBytes (markOf (h .mark)) ∷ joined (bytesOf 1 (h .«yellow_status») ∷ bytesOf 2 (h .«yellow_count») ∷ y ∷ []) ∷ []))
-    ≡ 38 + (length x + length y)
+    → atBody - lengthSize + length (joined (bytesOf 1 (h .sender) ∷ bytesOf 4 (h .configuration) ∷ x ∷ bytesOf 4 (h .«green_length») ∷ bytesOf 4 (h .attempt .0) ∷ primaryBytes (primaryOf (h .last)) ∷ markBytes (markOf (h .mark)) ∷ joined (bytesOf 1 (h .«yellow_status») ∷ bytesOf 2 (h .«yellow_count») ∷ y ∷ []) ∷ []))
+    ≡ stateHeadSize - lengthSize + (length x + length y)
 unfolding joined
 state-body h x y = simp (append-nil, length-append, bytes-length, primary-length, mark-length) (omega arith)
 
@@ -123,7 +124,7 @@ blocks-flat n v k a b x r = simp (append-nil, append-assoc)
 pub state-bytes : (h : StateHead) (cuts ids x y : List ℕ) → cutsBytes (numbersAt 2 (h .servers) cuts 0) ≡ x → idsBytes (idsAt (h .«yellow_count») ids 0) ≡ y
     → length (idsAt (h .«yellow_count») ids 0) ≡ h .«yellow_count»
     → write (state (stateOf h cuts 0 ids 0))
-    ≡ (bytesOfAll openingWidths (openingNumbers (38 + (length x + length y)) (kindNumber ofState) (h .sender) (h .configuration)) ++ x)
+    ≡ (bytesOfAll openingWidths (openingNumbers (stateHeadSize - lengthSize + (length x + length y)) (kindNumber ofState) (h .sender) (h .configuration)) ++ x)
     ++ (bytesOfAll standingWidths (standingNumbers h) ++ y)
 unfolding write bodyOf kindOf stateBytes stateOf yellowBytes framed
 state-bytes h cuts ids x y e f g =

@@ -27,7 +27,19 @@ stateOpening h = openingNumbers (stateHeadSize - lengthSize + listsSize h) (kind
 -- an action with m bytes of payload, up to the payload
 unfoldable pub actionNumbers : ActionHead → (m : ℕ) → List ℕ
 actionNumbers h m =
-    (actionSize - lengthSize + m) ∷ version ∷ kindNumber ofAction ∷ h .creator ∷ h .index ∷ h .«green_length» ∷ m ∷ 0 ∷ 0 ∷ 0 ∷ 0 ∷ 0 ∷ []
+    (actionSize - lengthSize + m)
+    ∷ version
+    ∷ kindNumber ofAction
+    ∷ h .creator
+    ∷ h .index
+    ∷ h .«green_length»
+    ∷ m
+    ∷ 0
+    ∷ 0
+    ∷ 0
+    ∷ 0
+    ∷ 0
+    ∷ []
 
 -- a retransmission of it, up to the payload
 unfoldable pub retransmissionNumbers : (sender position : ℕ) → ActionHead → (m : ℕ) → List ℕ

@@ -8,10 +8,11 @@ use lib.ListN.{length}
 use Rattle.base.specs.Tests.{_and_, _<?_}
 use Rattle.base.specs.Bytes.{Bytes}
 use Rattle.format.specs.Limits.{mostPayload}
-use Rattle.format.specs.Types.{Context as FormatContext, State as FormatState, Record, Reading as FormatReading, says, refused}
+use Rattle.format.specs.Types.{Context as FormatContext, Action as FormatAction, State as FormatState, Record, Reading as FormatReading, says}
+use Rattle.format.specs.Types.{refused}
 use Rattle.format.specs.Range.{fieldsOk, lengthOk, indexOk, primaryOk, markOk, statusOk, cutsOk, idsOk}
 use Rattle.record.specs.Context.{contextOf, ContextIn}
-use Rattle.record.specs.Events.{recordOf, Inside}
+use Rattle.record.specs.Events.{recordOf, actionFrom, PayloadInside, Inside}
 use Rattle.record.specs.declared.Context.{Context}
 use Rattle.record.specs.declared.events.ActionAt.{ActionAt}
 use Rattle.record.specs.declared.events.StateAt.{StateAt}
@@ -25,6 +26,10 @@ pub record Readable (c : Context) (v : Event) (e : List ℕ) : Type 0 where
   pub context : ContextIn c
   pub inside : Inside (c .servers) v e
   pub bytes : Bytes e
+
+-- What is told of an action is what the test says of it, in whatever bytes its payload lies.
+abbrev pub JudgesAction : ActionAt → Bool → (FormatAction → Bool) → Type 0
+JudgesAction a r test = (e : List ℕ) → Bytes e → PayloadInside a e → r ≡ test (actionFrom a e)
 
 -- A State's ranges: those of its numbers, and those of its lists.
 

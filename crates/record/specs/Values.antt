@@ -5,9 +5,9 @@ use mathlib.Core.List.{List, [], _∷_}
 use lib.ListN.{length}
 use Rattle.base.specs.Tests.{pick}
 use Rattle.base.specs.Bytes.{numbersAt}
-use Rattle.format.specs.Limits.{mostServers, mostQuota}
+use Rattle.format.specs.Limits.{mostQuota, mostIds}
 use Rattle.format.specs.Places.{idSize}
-use Rattle.format.specs.Types.{Id, Action, Primary, Mark as FormatMark, State, Context}
+use Rattle.format.specs.Types.{Id, Action, Primary, Mark as FormatMark, State, Record, retransmission, Context}
 use Rattle.format.specs.Range.{idOk}
 use Rattle.format.specs.Read.{idAt, idsAt}
 use Rattle.record.specs.declared.PrimaryIndex.{PrimaryIndex}
@@ -32,6 +32,10 @@ markOf m = record { status = m .status; index = m .index .0; attempt = m .attemp
 unfoldable pub actionOf : ActionHead → (payload : List ℕ) → Action
 actionOf h p = record { id = idOf (h .creator) (h .index); greenLength = h .«green_length»; payload = p }
 
+-- A retransmission of an action.
+abbrev pub resent : (sender position : ℕ) → ActionHead → (payload : List ℕ) → Record
+resent sender position h p = retransmission sender position (actionOf h p)
+
 -- A State: its cuts lie in the bytes `cuts` from `at` on, and its yellow ids in the bytes `ids` from `start` on.
 unfoldable pub stateOf : StateHead → (cuts : List ℕ) → (at : ℕ) → (ids : List ℕ) → (start : ℕ) → State
 stateOf h cuts at ids start = record {
@@ -51,7 +55,7 @@ slot d = d .creator * mostQuota + (d .index - 1)
 
 -- The place past the table's end stands for an id that is out of range.
 unfoldable pub placeOf : Context → Id → ℕ
-placeOf c d = pick (idOk c d) (slot d) (mostServers * mostQuota)
+placeOf c d = pick (idOk c d) (slot d) mostIds
 
 -- m ids, each at the front of w bytes, from `at` on.
 unfoldable pub idsBy : (w m : ℕ) → List ℕ → ℕ → List Id

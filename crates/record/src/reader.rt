@@ -2,14 +2,13 @@
 ghost use mathlib.Core.Path.{_≡_};
 ghost use mathlib.Core.List.{List};
 ghost use Prim.Native.Nat.{ℕ};
-ghost use Rattle.base.specs.Bytes.{Bytes};
 ghost use Rattle.format.specs.Read.{read as readOf};
 ghost use Rattle.format.specs.Range.{actionOk, stateOk, fieldsOk};
 ghost use Rattle.format.specs.Types.{retransmission, transitional};
 ghost use Rattle.record.specs.Context.{contextOf, ContextIn};
 ghost use Rattle.record.specs.Values.{stateOf};
-ghost use Rattle.record.specs.Events.{actionFrom, stateFrom, recordOf, PayloadInside, ListsInside};
-ghost use Rattle.record.specs.Reading.{Readable, numbersOk, listsOk, meaning, placed};
+ghost use Rattle.record.specs.Events.{stateFrom, recordOf, ListsInside};
+ghost use Rattle.record.specs.Reading.{Readable, JudgesAction, numbersOk, listsOk, meaning, placed};
 use crate::Context;
 use crate::State;
 use crate::StateHead;
@@ -38,7 +37,7 @@ pub enum Reading {
 
 fn action_ok(c: Context, a: ActionAt) -> bool
     requires { ⌜ ContextIn c ⌝ }
-    ensures { λ r. ⌜ ((e : List ℕ) → Bytes e → PayloadInside a e → r ≡ actionOk (contextOf c) (actionFrom a e)) ⌝ }
+    ensures { λ r. ⌜ JudgesAction a r (actionOk (contextOf c)) ⌝ }
 {
     if !id_ok(c, a.head.creator, a.head.index) {
         return false;
@@ -51,7 +50,7 @@ fn action_ok(c: Context, a: ActionAt) -> bool
 
 fn retransmission_ok(c: Context, sender: u8, position: u32, action: ActionAt) -> bool
     requires { ⌜ ContextIn c ⌝ }
-    ensures { λ r. ⌜ ((e : List ℕ) → Bytes e → PayloadInside action e → r ≡ fieldsOk (contextOf c) (retransmission sender position (actionFrom action e))) ⌝ }
+    ensures { λ r. ⌜ JudgesAction action r (λ a. fieldsOk (contextOf c) (retransmission sender position a)) ⌝ }
 {
     if c.servers <= sender {
         return false;

@@ -2,10 +2,10 @@
 ghost use mathlib.Core.Path.{_≡_};
 ghost use Prim.Native.Nat.{_+_, _*_, _%_};
 ghost use Rattle.base.specs.Patched.{patched};
-ghost use Rattle.format.specs.Types.{action, retransmission, state, cpc};
+ghost use Rattle.format.specs.Types.{action, cpc};
 ghost use Rattle.format.specs.Write.{write};
-ghost use Rattle.record.specs.Values.{actionOf, stateOf};
-ghost use Rattle.record.specs.Written.{put, putOf, putState, placeAfter, statePlace};
+ghost use Rattle.record.specs.Values.{actionOf, resent};
+ghost use Rattle.record.specs.Written.{Puts, givenBytes, putOf, putState, placeAfter, statePlace};
 ghost use Rattle.record.specs.Blocks.{openingNumbers, stateOpening, actionNumbers, retransmissionNumbers, standingNumbers, StateRoom};
 use crate::ActionHead;
 use crate::State;
@@ -144,7 +144,7 @@ fn standing(head: StateHead) -> [u32; 12]
 
 // Writes a CPC at `at`.
 pub fn write_cpc(out: &mut [u8], at: usize, sender: u8, configuration: u32) -> Written
-    ensures { λ r. ⌜ putOf r (now (out .exit)) ≡ put (write (cpc sender configuration)) at (now (out .entry)) ⌝ }
+    ensures { λ r. ⌜ Puts (write (cpc sender configuration)) at r (now (out .entry)) (now (out .exit)) ⌝ }
 {
     let w = place_after(out.len(), at, Event::CPC_SIZE, 0);
     let Written::Next(_) = w else {
@@ -157,7 +157,7 @@ pub fn write_cpc(out: &mut [u8], at: usize, sender: u8, configuration: u32) -> W
 
 // Writes an action at `at`.
 pub fn write_action(out: &mut [u8], at: usize, head: ActionHead, payload: &[u8]) -> Written
-    ensures { λ r. ⌜ putOf r (now (out .exit)) ≡ put (write (action (actionOf head (now (payload .entry))))) at (now (out .entry)) ⌝ }
+    ensures { λ r. ⌜ Puts (write (action (actionOf head (now (payload .entry))))) at r (now (out .entry)) (now (out .exit)) ⌝ }
 {
     let size = payload.len();
     let w = place_after(out.len(), at, Event::ACTION_SIZE, size);
@@ -178,7 +178,7 @@ pub fn write_retransmission(
     head: ActionHead,
     payload: &[u8],
 ) -> Written
-    ensures { λ r. ⌜ putOf r (now (out .exit)) ≡ put (write (retransmission sender position (actionOf head (now (payload .entry))))) at (now (out .entry)) ⌝ }
+    ensures { λ r. ⌜ Puts (write (resent sender position head (now (payload .entry)))) at r (now (out .entry)) (now (out .exit)) ⌝ }
 {
     let size = payload.len();
     let w = place_after(out.len(), at, Event::RETRANSMISSION_SIZE, size);
@@ -216,7 +216,7 @@ fn state_opening(head: StateHead) -> [u32; 12]
 // The whole record of a State, of the first bytes given.
 fn put_state(out: &mut [u8], at: usize, head: StateHead, cuts: &[u8], ids: &[u8])
     requires { ⌜ StateRoom head (now cuts) (now ids) at (now out) ⌝ }
-    ensures { λ _. ⌜ now (out .exit) ≡ patched at (write (state (stateOf head (now (cuts .entry)) 0 (now (ids .entry)) 0))) (now (out .entry)) ⌝ }
+    ensures { λ _. ⌜ now (out .exit) ≡ patched at (givenBytes head (now (cuts .entry)) (now (ids .entry))) (now (out .entry)) ⌝ }
 {
     let n = 2 * (head.servers as usize);
     let m = State::ID * (head.yellow_count as usize);

@@ -1,3 +1,4 @@
+use Rattle.format.specs.Types.{kindNumber}
 use Rattle.base.specs.Lists.{sum}
 use Rattle.record.proofs.WriterReturns.{numbers-fit, cpc-full, cpc-next}
 use borrow.Author.Needs.{needs}
@@ -27,6 +28,7 @@ same-length : tie.Need-same-length
 same-length c = search needs
 
 returns-2 : tie.Need-returns-2
+unfolding kindNumber
 returns-2 c = search (needs, cpc-next)
 
 pub write-cpc-spec : {M : Type 1} → statement M
