@@ -19,7 +19,7 @@ use Rattle.record.specs.Blocks.{yellowHeadBytes}
 use Rattle.record.specs.Events.{lastIn, markIn}
 use Rattle.record.specs.Values.{componentOf, markOf}
 use Rattle.replication.specs.Machine.Types.{Configuration, Server}
-use Rattle.engine.specs.Layout.{theHeader, sections, offset, headerSize, atLast, atYellow, atYellowCount, atAttempt, atCome, atConfiguration, atConfigurationId, atConfigurationSet, atCpcs, atGreenLength, atHeldCount, atMark, atMe, atMode, atNumbered, atOwnCount, atQueueLength, atQuota, atServers, atStates, atTransitional, atTransitionalSet}
+use Rattle.engine.specs.Layout.{theHeader, sections, offset, headerSize, atLast, atYellow, atYellowCount, atAttempt, atCome, atConfiguration, atConfigurationId, atConfigurationSet, atCpcs, atGreenLength, atHeldCount, atMark, atMe, atMode, atNumbered, atOwnCount, atQueueLength, atQuota, atLayout, atServers, atStates, atTransitional, atTransitionalSet}
 use Rattle.engine.specs.Image.{configurationBytes, transitionalBytes, headerBytes, parts}
 use Rattle.engine.specs.Header.{statusOf, idOf, setOf, transitionalOf, lastOf, markNumbers, headerOf, headerIn, membershipBytes, countsBytes, standingBytes, votesBytes, firstBytes, headerWritten}
 use Rattle.engine.proofs.InRange.{in-range}
@@ -63,6 +63,7 @@ unfolding headerIn headerOf lastIn lastOf markIn markNumbers primaryAt markAt
 header-loaded s b r =
     let x = header-here s b r in
     λ i. record {
+      layout = x .layout i;
       servers = x .servers i;
       quota = x .quota i;
       me = x .me i;
@@ -93,22 +94,25 @@ membership-kept : (b : List ℕ) → Bytes b → headerSize ≤ length b → Occ
 unfolding membershipBytes headerIn bytesOf
 membership-kept b k h =
     parts-joined _ b 0 (
-      number-occurs 1 b atServers refl k (omega arith),
+      number-occurs 1 b atLayout refl k (omega arith),
       (
-        number-occurs 2 b atQuota refl k (omega arith),
+        number-occurs 1 b atServers refl k (omega arith),
         (
-          number-occurs 1 b atMe refl k (omega arith),
+          number-occurs 2 b atQuota refl k (omega arith),
           (
-            number-occurs 1 b atMode refl k (omega arith),
+            number-occurs 1 b atMe refl k (omega arith),
             (
-              number-occurs 1 b atConfiguration refl k (omega arith),
+              number-occurs 1 b atMode refl k (omega arith),
               (
-                number-occurs 4 b atConfigurationId refl k (omega arith),
+                number-occurs 1 b atConfiguration refl k (omega arith),
                 (
-                  number-occurs 1 b atConfigurationSet refl k (omega arith),
+                  number-occurs 4 b atConfigurationId refl k (omega arith),
                   (
-                    number-occurs 1 b atTransitional refl k (omega arith),
-                    (number-occurs 1 b atTransitionalSet refl k (omega arith), (number-occurs 1 b atStates refl k (omega arith), (number-occurs 1 b atCpcs refl k (omega arith), (number-occurs 4 b atCome refl k (omega arith), tt)))),
+                    number-occurs 1 b atConfigurationSet refl k (omega arith),
+                    (
+                      number-occurs 1 b atTransitional refl k (omega arith),
+                      (number-occurs 1 b atTransitionalSet refl k (omega arith), (number-occurs 1 b atStates refl k (omega arith), (number-occurs 1 b atCpcs refl k (omega arith), (number-occurs 4 b atCome refl k (omega arith), tt)))),
+                    ),
                   ),
                 ),
               ),
@@ -138,7 +142,7 @@ standing-kept b k h =
     parts-joined _ b atLast
     (primary-written b atLast k (omega arith), (occurs-at (mark-written b atMark k (omega arith)) (omega (arith, primary-length (primaryAt b atLast))), tt))
 
-yellow-kept : (b : List ℕ) → Bytes b → headerSize ≤ length b → Occurs (yellowHeadBytes (numberAt 1 b atYellow) (numberAt 2 b atYellowCount)) b 57
+yellow-kept : (b : List ℕ) → Bytes b → headerSize ≤ length b → Occurs (yellowHeadBytes (numberAt 1 b atYellow) (numberAt 2 b atYellowCount)) b atYellow
 unfolding yellowHeadBytes bytesOf
 yellow-kept b k h = parts-joined _ b atYellow (number-occurs 1 b atYellow refl k (omega arith), (number-occurs 2 b atYellowCount refl k (omega arith), tt))
 

@@ -11,7 +11,8 @@ use Rattle.base.specs.Tests.{_=?_, pick}
 use Rattle.base.proofs.TestLaws.{pick-yes, pick-no, eq-yes, eq-no}
 use Rattle.base.specs.Bytes.{bytesOf, numberAt}
 use Rattle.base.proofs.Occurs.{Occurs, occurs-at, joined-parts, number-read}
-use Rattle.format.specs.Limits.{mostServers, mostQuota}
+use Rattle.format.specs.Limits.{mostServers, mostQuota, layoutNumber}
+use Rattle.format.specs.Places.{primarySize, markSize}
 use Rattle.format.specs.Write.{primaryBytes, markBytes}
 use Rattle.format.specs.Read.{primaryAt, markAt}
 use Rattle.format.proofs.IdCount.{ids-count}
@@ -25,7 +26,7 @@ use Rattle.engine.specs.Decode.{modeNamed, configurationAt, transitional
 use Rattle.engine.proofs.InRange.{ConfigurationRange, TransitionalRange, InRange}
 use Rattle.engine.proofs.Used.{configuration-length, transitional-length}
 use Rattle.engine.proofs.Slots.{senders-below}
-use Rattle.engine.specs.Layout.{atServers, atQuota, atMe, atMode, atConfiguration, atConfigurationId, atConfigurationSet, atTransitional, atTransitionalSet, atStates, atCpcs, atCome, atQueueLength, atGreenLength, atNumbered, atOwnCount, atHeldCount, atAttempt, atLast, atMark, atYellow, atYellowCount}
+use Rattle.engine.specs.Layout.{atLayout, atServers, atQuota, atMe, atMode, atConfiguration, atConfigurationId, atConfigurationSet, atTransitional, atTransitionalSet, atStates, atCpcs, atCome, atQueueLength, atGreenLength, atNumbered, atOwnCount, atHeldCount, atAttempt, atLast, atMark, atYellow, atYellowCount}
 
 pub mode-named : (m : Mode) → modeNamed (modeNumber m) ≡ m
 unfolding modeNamed modeNumber pick _=?_
@@ -95,6 +96,7 @@ transitional-read (some t) e at status set =
 
 -- What the header of e says is what s has.
 pub record HeaderRead (s : Server) (e : List ℕ) : Type 0 where
+  pub layout : numberAt 1 e atLayout ≡ layoutNumber
   pub servers : numberAt 1 e atServers ≡ s .servers
   pub quota : numberAt 2 e atQuota ≡ s .quota
   pub me : numberAt 1 e atMe ≡ s .me
@@ -102,10 +104,10 @@ pub record HeaderRead (s : Server) (e : List ℕ) : Type 0 where
   pub configurationStatus : numberAt 1 e atConfiguration ≡ statusOf (s .membership .configuration)
   pub configurationId : numberAt 4 e atConfigurationId ≡ idOf (s .membership .configuration)
   pub configurationSet : numberAt 1 e atConfigurationSet ≡ setOf (s .membership .configuration)
-  pub configuration : configurationAt e 5 ≡ s .membership .configuration
+  pub configuration : configurationAt e atConfiguration ≡ s .membership .configuration
   pub transitionalStatus : numberAt 1 e atTransitional ≡ statusOf (s .membership .transitional)
   pub transitionalSet : numberAt 1 e atTransitionalSet ≡ transitionalOf (s .membership .transitional)
-  pub transitional : transitionalAt e 11 ≡ s .membership .transitional
+  pub transitional : transitionalAt e atTransitional ≡ s .membership .transitional
   pub states : numberAt 1 e atStates ≡ senders 0 (s .membership .states)
   pub cpcs : numberAt 1 e atCpcs ≡ s .membership .cpcs
   pub come : numberAt 4 e atCome ≡ s .membership .come
@@ -129,9 +131,10 @@ header-read s e r o =
     let few = ids-count (contextOf s) (s .votes .yellow .ids) (r .yellow .ids) (r .yellow .differ) in
     let c : length (configurationBytes (s .membership .configuration)) ≡ 6 = configuration-length (s .membership .configuration) in
     let t : length (transitionalBytes (s .membership .transitional)) ≡ 2 = transitional-length (s .membership .transitional) in
-    let p : length (primaryBytes (s .votes .last)) ≡ 9 = primary-length (s .votes .last) in
-    let m : length (markBytes (s .votes .mark)) ≡ 11 = mark-length (s .votes .mark) in
-    let f₀ = joined-parts _ e 0 o in
+    let p : length (primaryBytes (s .votes .last)) ≡ primarySize = primary-length (s .votes .last) in
+    let m : length (markBytes (s .votes .mark)) ≡ markSize = mark-length (s .votes .mark) in
+    let f = joined-parts _ e 0 o in
+    let f₀ = f .1 in
     let f₁ = f₀ .1 in
     let f₂ = f₁ .1 in
     let f₃ = f₂ .1 in
@@ -150,9 +153,10 @@ header-read s e r o =
     let f₁₆ = f₁₅ .1 in
     let f₁₇ = f₁₆ .1 in
     let f₁₈ = f₁₇ .1 in
-    let d = configuration-numbers (s .membership .configuration) e 5 (r .configuration) (occurs-at (f₄ .0) refl) in
-    let u = transitional-numbers (s .membership .transitional) e 11 (r .transitional) (occurs-at (f₅ .0) (omega arith)) in
+    let d = configuration-numbers (s .membership .configuration) e atConfiguration (r .configuration) (occurs-at (f₄ .0) refl) in
+    let u = transitional-numbers (s .membership .transitional) e atTransitional (r .transitional) (occurs-at (f₅ .0) (omega arith)) in
     record {
+      layout = number-read 1 atLayout (f .0) (refl) (omega arith);
       servers = number-read 1 atServers (f₀ .0) (refl) (omega arith);
       quota = number-read 2 atQuota (f₁ .0) (refl) (omega arith);
       me = number-read 1 atMe (f₂ .0) (refl) (omega arith);
@@ -160,10 +164,10 @@ header-read s e r o =
       configurationStatus = d .0;
       configurationId = d .1;
       configurationSet = d .2;
-      configuration = configuration-read (s .membership .configuration) e 5 (d .0) (d .1) (d .2);
+      configuration = configuration-read (s .membership .configuration) e atConfiguration (d .0) (d .1) (d .2);
       transitionalStatus = u .0;
       transitionalSet = u .1;
-      transitional = transitional-read (s .membership .transitional) e 11 (u .0) (u .1);
+      transitional = transitional-read (s .membership .transitional) e atTransitional (u .0) (u .1);
       states = number-read 1 atStates (f₆ .0) (omega arith) (senders-below mostServers 0 (s .membership .states) (omega (arith, r .statesCount)));
       cpcs = number-read 1 atCpcs (f₇ .0) (omega arith) (r .cpcs);
       come = number-read 4 atCome (f₈ .0) (omega arith) (omega (arith, r .come));

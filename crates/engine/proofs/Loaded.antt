@@ -10,10 +10,11 @@ use Rattle.record.specs.declared.State.{State}
 use Rattle.record.specs.Events.{lastIn, markIn}
 use Rattle.engine.specs.declared.header.Membership.{Membership}
 use Rattle.engine.specs.Header.{headerIn, membershipIn}
-use Rattle.engine.specs.Layout.{atServers, atQuota, atMe, atMode, atConfiguration, atConfigurationId, atConfigurationSet, atTransitional, atTransitionalSet, atStates, atCpcs, atCome, atQueueLength, atGreenLength, atNumbered, atOwnCount, atHeldCount, atAttempt, atLast, atMark, atYellow, atYellowCount}
+use Rattle.engine.specs.Layout.{atLayout, atServers, atQuota, atMe, atMode, atConfiguration, atConfigurationId, atConfigurationSet, atTransitional, atTransitionalSet, atStates, atCpcs, atCome, atQueueLength, atGreenLength, atNumbered, atOwnCount, atHeldCount, atAttempt, atLast, atMark, atYellow, atYellowCount}
 
-abbrev pub madeMembership : (servers quota me mode status id set transitional inside states cpcs come : ℕ) → Membership
-madeMembership servers quota me mode status id set transitional inside states cpcs come = record {
+abbrev pub madeMembership : (layout servers quota me mode status id set transitional inside states cpcs come : ℕ) → Membership
+madeMembership layout servers quota me mode status id set transitional inside states cpcs come = record {
+  layout = layout;
   servers = servers;
   quota = quota;
   me = me;
@@ -28,16 +29,17 @@ madeMembership servers quota me mode status id set transitional inside states cp
   come = come;
 }
 
-pub membership-loaded : (b : List ℕ) (servers quota me mode status id set transitional inside states cpcs come : ℕ) → servers ≡ numberAt 1 b atServers
+pub membership-loaded : (b : List ℕ) (layout servers quota me mode status id set transitional inside states cpcs come : ℕ) → layout ≡ numberAt 1 b atLayout → servers ≡ numberAt 1 b atServers
     → quota ≡ numberAt 2 b atQuota → me ≡ numberAt 1 b atMe → mode ≡ numberAt 1 b atMode → status ≡ numberAt 1 b atConfiguration → id ≡ numberAt 4 b atConfigurationId → set ≡ numberAt 1 b atConfigurationSet
     → transitional ≡ numberAt 1 b atTransitional → inside ≡ numberAt 1 b atTransitionalSet → states ≡ numberAt 1 b atStates → cpcs ≡ numberAt 1 b atCpcs → come ≡ numberAt 4 b atCome
-    → madeMembership servers quota me mode status id set transitional inside states cpcs come ≡ membershipIn b
+    → madeMembership layout servers quota me mode status id set transitional inside states cpcs come ≡ membershipIn b
 unfolding membershipIn
-membership-loaded b servers quota me mode status id set transitional inside states cpcs come e₀ e₁ e₂ e₃ e₄ e₅ e₆ e₇ e₈ e₉ f₀ f₁ =
-    λ i. madeMembership (e₀ i) (e₁ i) (e₂ i) (e₃ i) (e₄ i) (e₅ i) (e₆ i) (e₇ i) (e₈ i) (e₉ i) (f₀ i) (f₁ i)
+membership-loaded b layout servers quota me mode status id set transitional inside states cpcs come e₀ e₁ e₂ e₃ e₄ e₅ e₆ e₇ e₈ e₉ f₀ f₁ f₂ =
+    λ i. madeMembership (e₀ i) (e₁ i) (e₂ i) (e₃ i) (e₄ i) (e₅ i) (e₆ i) (e₇ i) (e₈ i) (e₉ i) (f₀ i) (f₁ i) (f₂ i)
 
 abbrev pub madeState : Membership → (queue green numbered own held attempt : ℕ) → LastPrimary → Mark → (yellow count : ℕ) → State
 madeState m queue green numbered own held attempt last mark yellow count = record {
+  layout = m .layout;
   servers = m .servers;
   quota = m .quota;
   me = m .me;

@@ -25,11 +25,12 @@ use Rattle.engine.specs.Layout.{headerSize, atQueueLength, atLast, atMar
 one-byte : (v : ℕ) → Fits w8 v → bytesOf 1 v ≡ v ∷ []
 one-byte v h = bytes1 v ∙ ap (λ (x : ℕ). x ∷ []) (mod-eq-of-lt (omega arith))
 
-pub membership-saved : (h : State) (s t : List ℕ) → Fits w8 (h .servers) → Fits w8 (h .me) → Fits w8 (h .mode) → Fits w8 (h .«configuration_status»)
+pub membership-saved : (h : State) (s t : List ℕ) → Fits w8 (h .layout) → Fits w8 (h .servers) → Fits w8 (h .me) → Fits w8 (h .mode) → Fits w8 (h .«configuration_status»)
     → Fits w8 (h .«configuration_set») → Fits w8 (h .«transitional_status») → Fits w8 (h .«transitional_set») → Fits w8 (h .states) → Fits w8 (h .cpcs)
     → t
     ≡ patched 0
-    (h .servers
+    (h .layout
+    ∷ h .servers
     ∷ h .quota / 256 % 256
     ∷ h .quota % 256
     ∷ h .me
@@ -52,12 +53,12 @@ pub membership-saved : (h : State) (s t : List ℕ) → Fits w8 (h .servers) →
     s
     → t ≡ patched 0 (membershipBytes h) s
 unfolding membershipBytes joined
-membership-saved h s t a₀ a₁ a₂ a₃ a₄ a₅ a₆ a₇ a₈ e =
-    rw (one-byte (h .servers) a₀, one-byte (h .me) a₁, one-byte (h .mode) a₂, one-byte (h .«configuration_status») a₃, one-byte (h .«configuration_set») a₄, one-byte (h .«transitional_status») a₅, one-byte (h .«transitional_set») a₆, one-byte (h .states) a₇, one-byte (h .cpcs) a₈, bytes2 (h .quota), bytes4 (h .«configuration_id»), bytes4 (h .come)) e
+membership-saved h s t a a₀ a₁ a₂ a₃ a₄ a₅ a₆ a₇ a₈ e =
+    rw (one-byte (h .layout) a, one-byte (h .servers) a₀, one-byte (h .me) a₁, one-byte (h .mode) a₂, one-byte (h .«configuration_status») a₃, one-byte (h .«configuration_set») a₄, one-byte (h .«transitional_status») a₅, one-byte (h .«transitional_set») a₆, one-byte (h .states) a₇, one-byte (h .cpcs) a₈, bytes2 (h .quota), bytes4 (h .«configuration_id»), bytes4 (h .come)) e
 
 pub counts-saved : (h : State) (s t : List ℕ)
     → t
-    ≡ patched 19
+    ≡ patched atQueueLength
     (h .«queue_length» / 16777216 % 256
     ∷ h .«queue_length» / 65536 % 256
     ∷ h .«queue_length» / 256 % 256

@@ -147,32 +147,35 @@ header-bytes s =
     bytes-joined _ (
       bytes-small 1 _,
       (
-        bytes-small 2 _,
+        bytes-small 1 _,
         (
-          bytes-small 1 _,
+          bytes-small 2 _,
           (
             bytes-small 1 _,
             (
-              configuration-bytes _,
+              bytes-small 1 _,
               (
-                transitional-bytes _,
+                configuration-bytes _,
                 (
-                  bytes-small 1 _,
+                  transitional-bytes _,
                   (
                     bytes-small 1 _,
                     (
-                      bytes-small 4 _,
+                      bytes-small 1 _,
                       (
                         bytes-small 4 _,
                         (
                           bytes-small 4 _,
                           (
-                            bytes-small 2 _,
+                            bytes-small 4 _,
                             (
                               bytes-small 2 _,
                               (
                                 bytes-small 2 _,
-                                (bytes-small 4 _, (primary-bytes _, (mark-bytes _, (bytes-small 1 _, (bytes-small 2 _, tt))))),
+                                (
+                                  bytes-small 2 _,
+                                  (bytes-small 4 _, (primary-bytes _, (mark-bytes _, (bytes-small 1 _, (bytes-small 2 _, tt))))),
+                                ),
                               ),
                             ),
                           ),

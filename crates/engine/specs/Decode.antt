@@ -11,9 +11,12 @@ use Rattle.base.specs.Lists.{same}
 use Rattle.base.specs.Sets.{inSet}
 use Rattle.format.specs.Types.{Action, State}
 use Rattle.format.specs.Read.{payloadAt, actionAt, primaryAt, markAt, idsAt, stateAt}
-use Rattle.replication.specs.Machine.Types.{Mode, Non-prim, Reg-prim, Trans-prim, Exchange-states, Exchange-actions, Construct, No, Un, Configuration, Server}
+use Rattle.replication.specs.Machine.Types.{Mode, Non-prim, Reg-prim, Trans-prim, Exchange-states, Exchange-actions, Construct, No, Un}
+use Rattle.replication.specs.Machine.Types.{Configuration, Server}
 use Rattle.replication.specs.Machine.WellFormed.{wellFormed}
-use Rattle.engine.specs.Layout.{heldSize, slotSize, stateSize, theCuts, theNoted, theHeld, theStates, theYellow, theOwn, theQueue, offset, atServers, atQuota, atMe, atMode, atStates, atCpcs, atCome, atQueueLength, atGreenLength, atNumbered, atOwnCount, atHeldCount, atAttempt, atLast, atMark, atYellow, atYellowCount}
+use Rattle.engine.specs.Layout.{heldSize, slotSize, stateSize, theCuts, theNoted, theHeld, theStates, theYellow, theOwn, theQueue, offset}
+use Rattle.engine.specs.Layout.{atServers, atQuota, atMe, atMode, atConfiguration, atTransitional, atStates, atCpcs, atCome, atQueueLength}
+use Rattle.engine.specs.Layout.{atGreenLength, atNumbered, atOwnCount, atHeldCount, atAttempt, atLast, atMark, atYellow, atYellowCount}
 use Rattle.engine.specs.Image.{modeNumber, image}
 
 -- Another number names no state: it is no image's.
@@ -70,8 +73,8 @@ decodedAs n q b = record {
   };
   membership = record {
     mode = modeNamed (numberAt 1 b atMode);
-    configuration = configurationAt b 5;
-    transitional = transitionalAt b 11;
+    configuration = configurationAt b atConfiguration;
+    transitional = transitionalAt b atTransitional;
     states = statesAt n q (numberAt 1 b atStates) n 0 b (offset n q theStates);
     cpcs = numberAt 1 b atCpcs;
     come = numberAt 4 b atCome;

@@ -5,6 +5,7 @@ use mathlib.Core.List.{List, [], _∷_}
 use mathlib.Core.Option.{Option, none, some}
 use lib.ListN.{length}
 use Rattle.base.specs.Bytes.{bytesOf, numberAt, joined}
+use Rattle.format.specs.Limits.{layoutNumber}
 use Rattle.format.specs.Types.{Primary, Mark}
 use Rattle.format.specs.Write.{primaryBytes, markBytes}
 use Rattle.record.specs.declared.State.{State}
@@ -17,7 +18,9 @@ use Rattle.replication.specs.Machine.Types.{Configuration, Server}
 use Rattle.replication.specs.Machine.WellFormed.{queue}
 use Rattle.engine.specs.declared.header.Membership.{Membership}
 use Rattle.engine.specs.Image.{modeNumber, senders}
-use Rattle.engine.specs.Layout.{atServers, atQuota, atMe, atMode, atConfiguration, atConfigurationId, atConfigurationSet, atTransitional, atTransitionalSet, atStates, atCpcs, atCome, atQueueLength, atGreenLength, atNumbered, atOwnCount, atHeldCount, atAttempt, atLast, atMark, atYellow, atYellowCount}
+use Rattle.engine.specs.Layout.{atLayout, atServers, atQuota, atMe, atMode, atConfiguration, atConfigurationId}
+use Rattle.engine.specs.Layout.{atConfigurationSet, atTransitional, atTransitionalSet, atStates, atCpcs, atCome, atQueueLength, atGreenLength}
+use Rattle.engine.specs.Layout.{atNumbered, atOwnCount, atHeldCount, atAttempt, atLast, atMark, atYellow, atYellowCount}
 
 -- ---- of a state
 
@@ -46,6 +49,7 @@ markNumbers m = record { status = m .status; index = record { 0 = m .index }; at
 
 unfoldable pub headerOf : Server → State
 headerOf s = record {
+  layout = layoutNumber;
   servers = s .servers;
   quota = s .quota;
   me = s .me;
@@ -75,6 +79,7 @@ headerOf s = record {
 -- What the first section says.
 unfoldable pub headerIn : List ℕ → State
 headerIn b = record {
+  layout = numberAt 1 b atLayout;
   servers = numberAt 1 b atServers;
   quota = numberAt 2 b atQuota;
   me = numberAt 1 b atMe;
@@ -99,9 +104,10 @@ headerIn b = record {
   «yellow_count» = numberAt 2 b atYellowCount;
 }
 
--- The first ones: sizes, state and configurations.
+-- The first ones: layout, sizes, state and configurations.
 unfoldable pub membershipIn : List ℕ → Membership
 membershipIn b = record {
+  layout = numberAt 1 b atLayout;
   servers = numberAt 1 b atServers;
   quota = numberAt 2 b atQuota;
   me = numberAt 1 b atMe;
@@ -119,7 +125,8 @@ membershipIn b = record {
 unfoldable pub membershipBytes : State → List ℕ
 membershipBytes h =
     joined
-    (bytesOf 1 (h .servers)
+    (bytesOf 1 (h .layout)
+    ∷ bytesOf 1 (h .servers)
     ∷ bytesOf 2 (h .quota)
     ∷ bytesOf 1 (h .me)
     ∷ bytesOf 1 (h .mode)

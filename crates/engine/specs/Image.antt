@@ -8,11 +8,14 @@ use Rattle.base.specs.Tests.{pick}
 use Rattle.base.specs.Bytes.{bytesOf, partAt, joined}
 use Rattle.base.specs.Lists.{isThere}
 use Rattle.base.specs.Sets.{withMember}
+use Rattle.format.specs.Limits.{layoutNumber}
 use Rattle.format.specs.Types.{Action, State, state}
 use Rattle.format.specs.Write.{write, actionBytes, cutsBytes, primaryBytes, markBytes, idsBytes, payloadBytes}
-use Rattle.replication.specs.Machine.Types.{Mode, Non-prim, Reg-prim, Trans-prim, Exchange-states, Exchange-actions, Construct, No, Un, Configuration, Server}
+use Rattle.replication.specs.Machine.Types.{Mode, Non-prim, Reg-prim, Trans-prim, Exchange-states, Exchange-actions, Construct, No, Un}
+use Rattle.replication.specs.Machine.Types.{Configuration, Server}
 use Rattle.replication.specs.Machine.WellFormed.{queue}
-use Rattle.engine.specs.Layout.{heldSize, slotSize, stateSize, theCuts, theNoted, theHeld, theStates, theYellow, theOwn, theQueue, sectionSize, offset, stateLength}
+use Rattle.engine.specs.Layout.{heldSize, slotSize, stateSize, theCuts, theNoted, theHeld, theStates, theYellow, theOwn}
+use Rattle.engine.specs.Layout.{theQueue, sectionSize, offset, stateLength}
 
 -- ---- the parts as bytes
 
@@ -55,7 +58,8 @@ senders k (x ∷ xs) = pick (isThere x) (withMember k (senders (k + 1) xs)) (sen
 unfoldable pub headerBytes : Server → List ℕ
 headerBytes s =
     joined
-    (bytesOf 1 (s .servers)
+    (bytesOf 1 layoutNumber
+    ∷ bytesOf 1 (s .servers)
     ∷ bytesOf 2 (s .quota)
     ∷ bytesOf 1 (s .me)
     ∷ bytesOf 1 (modeNumber (s .membership .mode))

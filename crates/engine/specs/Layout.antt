@@ -8,8 +8,11 @@ use Rattle.format.specs.Places.{primarySize, markSize, idSize, actionHeadSize, 
 use Rattle.format.specs.Limits.{fewestServers, mostServers, leastQuota, mostQuota, mostPayload, mostHeld}
 
 -- The fixed-size fields: where each begins, behind the one before it. A field that may be absent begins with its status.
+abbrev pub atLayout : ℕ
+atLayout = 0
+
 abbrev pub atServers : ℕ
-atServers = 0
+atServers = atLayout + 1
 
 abbrev pub atQuota : ℕ
 atQuota = atServers + 1
@@ -116,7 +119,15 @@ theQueue = 7
 
 unfoldable pub sections : (n q : ℕ) → List ℕ
 sections n q =
-    headerSize ∷ (2 * n) ∷ (4 * n) ∷ (heldSize * mostHeld) ∷ (n * stateSize n q) ∷ (idSize * (n * q)) ∷ (slotSize * q) ∷ (slotSize * (n * q)) ∷ []
+    headerSize
+    ∷ (2 * n)
+    ∷ (4 * n)
+    ∷ (heldSize * mostHeld)
+    ∷ (n * stateSize n q)
+    ∷ (idSize * (n * q))
+    ∷ (slotSize * q)
+    ∷ (slotSize * (n * q))
+    ∷ []
 
 unfoldable pub sectionSize : (n q k : ℕ) → ℕ
 sectionSize n q k = getD (sections n q) k 0
@@ -152,8 +163,8 @@ pub record StartRoom (n q : ℕ) (b : List ℕ) : Type 0 where
   pub sizes : SizesIn n q
   pub long : stateLength n q ≤ length b
 
--- The required length of the outgoing buffer: an event puts out at most n × q retransmissions by position and n × q as red, of the longest's length at
--- most; whatever else an event puts out is shorter.
+-- The required length of the outgoing buffer: an event puts out at most n × q retransmissions by position and n × q as red, none longer than the
+-- longest; whatever else an event puts out is shorter.
 unfoldable pub outLength : (n q : ℕ) → ℕ
 outLength n q = 2 * mostRetransmission * (n * q)
 

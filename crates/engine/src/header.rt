@@ -3,7 +3,8 @@ ghost use mathlib.Core.Path.{_≡_};
 ghost use Prim.Native.Nat.{_≤_};
 ghost use lib.ListN.{length};
 ghost use Rattle.base.specs.Patched.{patched};
-ghost use Rattle.engine.specs.Header.{headerIn, membershipIn, membershipBytes, countsBytes, standingBytes, votesBytes, firstBytes, headerWritten};
+ghost use Rattle.engine.specs.Header.{headerIn, membershipIn, membershipBytes, countsBytes, standingBytes, votesBytes, firstBytes};
+ghost use Rattle.engine.specs.Header.{headerWritten};
 ghost use Rattle.engine.specs.Layout.{headerSize, atQueueLength, atLast};
 use record::AttemptIndex;
 use record::State;
@@ -17,8 +18,9 @@ use record::bytes::num32;
 use record::frame::last_at;
 use record::frame::mark_at;
 
-// The first ones: sizes, state and configurations.
+// The first ones: layout, sizes, state and configurations.
 pub struct Membership {
+    pub layout: u8,
     pub servers: u8,
     pub quota: u16,
     pub me: u8,
@@ -38,6 +40,7 @@ fn load_membership(state: &[u8]) -> Membership
     ensures { λ r. ⌜ r ≡ membershipIn (now (state .entry)) ⌝ }
 {
     Membership {
+        layout: num8(state, State::AT_LAYOUT),
         servers: num8(state, State::AT_SERVERS),
         quota: num16(state, State::AT_QUOTA),
         me: num8(state, State::AT_ME),
@@ -60,6 +63,7 @@ pub fn load(state: &[u8]) -> State
 {
     let m = load_membership(state);
     State {
+        layout: m.layout,
         servers: m.servers,
         quota: m.quota,
         me: m.me,
@@ -93,6 +97,7 @@ fn save_membership(state: &mut [u8], h: State)
     let id = h.configuration_id;
     let come = h.come;
     let b: [u8; State::AT_QUEUE_LENGTH] = [
+        h.layout,
         h.servers,
         (quota / 256 % 256) as u8,
         (quota % 256) as u8,

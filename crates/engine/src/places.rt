@@ -1,7 +1,8 @@
 // Where the sections of the state's buffer begin, by the numbers of servers and the quota.
 ghost use mathlib.Core.Path.{_≡_};
 ghost use Prim.Native.Nat.{_≤_};
-ghost use Rattle.engine.specs.Layout.{SizesIn, stateSize, theNoted, theHeld, theStates, theYellow, theOwn, theQueue, offset, mostStatesAt, mostStateSize, mostYellowAt, mostOwnAt};
+ghost use Rattle.engine.specs.Layout.{SizesIn, stateSize, theNoted, theHeld, theStates, theYellow, theOwn, theQueue, offset, mostStatesAt};
+ghost use Rattle.engine.specs.Layout.{mostStateSize, mostYellowAt, mostOwnAt};
 use super::sizes::HEADER;
 use super::sizes::HELD;
 use super::sizes::ID;

@@ -1,6 +1,6 @@
 -- Document 01, 'The engine and its edges' and 'Records': the limits, each named once.
 -- Assumes nothing.
-use Prim.Native.Nat.{ℕ, _*_}
+use Prim.Native.Nat.{ℕ, _+_, _*_}
 
 -- "Servers: 2 to 8, numbered from 0"
 abbrev pub fewestServers : ℕ
@@ -31,6 +31,11 @@ mostIndex = 4_000_000_000
 -- "version byte 1"
 abbrev pub version : ℕ
 version = 1
+
+-- The number of the layout of a state's image, which begins with it, so that none of another layout is misread. The first layout had no number and
+-- began with the number of servers: no layout takes a number of servers (docs/LAYOUT.md).
+abbrev pub layoutNumber : ℕ
+layoutNumber = mostServers + 1
 
 -- How many ids there can be.
 abbrev pub mostIds : ℕ

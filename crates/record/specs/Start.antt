@@ -2,11 +2,13 @@
 -- Assumes nothing.
 use Prim.Native.Nat.{ℕ}
 use Rattle.base.specs.Sets.{everyone}
+use Rattle.format.specs.Limits.{layoutNumber}
 use Rattle.record.specs.declared.State.{State}
 
 -- "At the start: Non_prim, no configuration, nothing held or marked, yellow invalid, attempt 0, last primary (index 0, attempt 0, all servers)."
 unfoldable pub startOf : (servers quota me : ℕ) → State
 startOf n q i = record {
+  layout = layoutNumber;
   servers = n;
   quota = q;
   me = i;

@@ -128,6 +128,7 @@ pub struct Context {
 
 // The numbers of a server's state, in the order of its buffer. Its lists lie beside them.
 pub struct State {
+    pub layout: u8,
     pub servers: u8,
     pub quota: u16,
     pub me: u8,
@@ -185,8 +186,13 @@ impl State {
 
     pub const UN: u8 = 7;
 
+    // The number of this layout, with which every image begins: no number of servers, with which those of the first layout began.
+    pub const LAYOUT: u8 = State::MOST_SERVERS + 1;
+
     // Where each number begins in the state's buffer, behind the one before it (docs/LAYOUT.md).
-    pub const AT_SERVERS: usize = 0;
+    pub const AT_LAYOUT: usize = 0;
+
+    pub const AT_SERVERS: usize = State::AT_LAYOUT + 1;
 
     pub const AT_QUOTA: usize = State::AT_SERVERS + 1;
 
@@ -265,6 +271,7 @@ impl State {
             bits: 0,
         };
         State {
+            layout: State::LAYOUT,
             servers,
             quota,
             me,

@@ -6,11 +6,11 @@ use Rattle.engine.proofs.header.load_membership.Tie as tie
 num8-requires : tie.Need-num8-requires
 num8-requires c κs = search needs
 
-num16-requires : tie.Need-num16-requires
-num16-requires c κs = search needs
-
 num8-requires-2 : tie.Need-num8-requires-2
 num8-requires-2 c κs = search needs
+
+num16-requires : tie.Need-num16-requires
+num16-requires c κs = search needs
 
 num8-requires-3 : tie.Need-num8-requires-3
 num8-requires-3 c κs = search needs
@@ -18,11 +18,11 @@ num8-requires-3 c κs = search needs
 num8-requires-4 : tie.Need-num8-requires-4
 num8-requires-4 c κs = search needs
 
-num32-requires : tie.Need-num32-requires
-num32-requires c κs = search needs
-
 num8-requires-5 : tie.Need-num8-requires-5
 num8-requires-5 c κs = search needs
+
+num32-requires : tie.Need-num32-requires
+num32-requires c κs = search needs
 
 num8-requires-6 : tie.Need-num8-requires-6
 num8-requires-6 c κs = search needs
@@ -36,6 +36,9 @@ num8-requires-8 c κs = search needs
 num8-requires-9 : tie.Need-num8-requires-9
 num8-requires-9 c κs = search needs
 
+num8-requires-10 : tie.Need-num8-requires-10
+num8-requires-10 c κs = search needs
+
 num32-requires-2 : tie.Need-num32-requires-2
 num32-requires-2 c κs = search needs
 
@@ -47,15 +50,16 @@ load-membership-spec =
     tie.close
     (tie.spec
     num8-requires
-    num16-requires
     num8-requires-2
+    num16-requires
     num8-requires-3
     num8-requires-4
-    num32-requires
     num8-requires-5
+    num32-requires
     num8-requires-6
     num8-requires-7
     num8-requires-8
     num8-requires-9
+    num8-requires-10
     num32-requires-2
     returns)
