@@ -16,3 +16,4 @@ pub mod Refusals
 pub mod HeaderLaws
 pub mod StartLaws
 pub mod Taken
+pub mod Fields

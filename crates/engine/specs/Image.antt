@@ -55,10 +55,10 @@ unfoldable pub senders : ℕ → List (Option State) → ℕ
 senders k [] = 0
 senders k (x ∷ xs) = pick (isThere x) (withMember k (senders (k + 1) xs)) (senders (k + 1) xs)
 
-unfoldable pub headerBytes : Server → List ℕ
-headerBytes s =
-    joined
-    (bytesOf 1 layoutNumber
+-- The fixed-size fields, in their order.
+abbrev pub fields : Server → List (List ℕ)
+fields s =
+    bytesOf 1 layoutNumber
     ∷ bytesOf 1 (s .servers)
     ∷ bytesOf 2 (s .quota)
     ∷ bytesOf 1 (s .me)
@@ -78,7 +78,10 @@ headerBytes s =
     ∷ markBytes (s .votes .mark)
     ∷ bytesOf 1 (s .votes .yellow .status)
     ∷ bytesOf 2 (length (s .votes .yellow .ids))
-    ∷ [])
+    ∷ []
+
+unfoldable pub headerBytes : Server → List ℕ
+headerBytes s = joined (fields s)
 
 unfoldable pub notedBytes : List ℕ → List ℕ
 notedBytes [] = []

@@ -21,7 +21,7 @@ use Rattle.format.specs.Write.{actionBytes}
 use Rattle.replication.specs.Machine.Types.{Log, Server, withLog}
 use Rattle.replication.specs.Machine.WellFormed.{queue}
 use Rattle.engine.specs.Layout.{slotSize, theHeader, theQueue, sections, offset, atGreenLength}
-use Rattle.engine.specs.Image.{over, slot, headerBytes, actionSlots, section, parts, image}
+use Rattle.engine.specs.Image.{over, slot, headerBytes, actionSlots, section, parts, image, fields}
 use Rattle.engine.proofs.InRange.{in-range}
 use Rattle.engine.proofs.Used.{ActionFits, action-slot-length, action-slots-length}
 use Rattle.engine.proofs.Fit.{well-formed-fits}
@@ -30,7 +30,7 @@ use Rattle.engine.specs.Holding.{Holds}
 use Rattle.queue.specs.Queue.{position, queueAt}
 use Rattle.install.specs.Swaps.{swapOut, greenFound, greenSwap, exchanged, greenAt}
 use Rattle.queue.proofs.Inside.{changed-at, over-changed}
-use Rattle.queue.proofs.Fields.{fields, header-fields, fields-sized, field-changed, theGreenCount, theQueueCount}
+use Rattle.engine.proofs.Fields.{header-fields, fields-sized, field-changed, theGreenCount, theQueueCount}
 use Rattle.queue.proofs.SlotLaws.{slots-cons}
 use Rattle.queue.proofs.Positions.{Stands}
 use Rattle.queue.proofs.Promoted.{used-part, patched-middle}

@@ -28,7 +28,7 @@ use Rattle.replication.proofs.WellFormed.Held.{remove-absent}
 use Rattle.replication.proofs.WellFormed.Logs.{ownId, enter-fits}
 use Rattle.replication.specs.Laws.RuleFits.{Delivered}
 use Rattle.engine.specs.Layout.{slotSize, theHeader, theCuts, theOwn, theQueue, sections, offset, atQueueLength, atOwnCount}
-use Rattle.engine.specs.Image.{over, slot, headerBytes, actionSlots, section, parts, image}
+use Rattle.engine.specs.Image.{over, slot, headerBytes, actionSlots, section, parts, image, fields}
 use Rattle.engine.proofs.InRange.{in-range}
 use Rattle.engine.proofs.Used.{ActionFits, action-slot-length, action-slots-length, slots-append}
 use Rattle.engine.proofs.Fit.{SectionsFit, well-formed-fits}
@@ -38,7 +38,7 @@ use Rattle.record.specs.declared.ActionHead.{ActionHead}
 use Rattle.record.specs.Values.{idOf, actionOf}
 use Rattle.queue.specs.Queue.{appended, queued, popped, CountsIn, RoomFor}
 use Rattle.queue.proofs.Inside.{Changed, changed-at, over-extended, over-changed, over-front}
-use Rattle.queue.proofs.Fields.{fieldSizes, fields, header-fields, fields-sized, field-changed, theQueueCount, theOwnCount}
+use Rattle.engine.proofs.Fields.{fieldSizes, header-fields, fields-sized, field-changed, theQueueCount, theOwnCount}
 use Rattle.queue.proofs.SlotLaws.{slots-one, slots-cons, cut-set}
 use Rattle.queue.proofs.Holding.{log-formed, log-fits, Numbers, numbers, holds-counts, holds-changed, log-image}
 

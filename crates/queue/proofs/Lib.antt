@@ -1,5 +1,4 @@
 pub mod Inside
-pub mod Fields
 pub mod SlotLaws
 pub mod PlaceLaws
 pub mod MoveLaws

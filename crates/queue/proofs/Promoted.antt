@@ -22,7 +22,7 @@ use Rattle.replication.specs.Machine.Colours.{find, remove, promote, promoteFou
 use Rattle.replication.specs.Machine.WellFormed.{queue, wellFormed}
 use Rattle.replication.proofs.WellFormed.Logs.{LogFits, green-id-fits}
 use Rattle.engine.specs.Layout.{slotSize, theHeader, theQueue, sections, offset, atQueueLength, atGreenLength}
-use Rattle.engine.specs.Image.{over, slot, headerBytes, actionSlots, section, parts, image}
+use Rattle.engine.specs.Image.{over, slot, headerBytes, actionSlots, section, parts, image, fields}
 use Rattle.engine.specs.Decode.{actionsAt, decodedAs, serversIn, quotaIn, decoded}
 use Rattle.engine.proofs.InRange.{in-range}
 use Rattle.engine.proofs.Used.{ActionFits, action-slot-length, action-slots-length, slots-append}
@@ -34,7 +34,7 @@ use Rattle.engine.proofs.InPlace.{holds-section, holds-decoded}
 use Rattle.record.specs.Values.{idOf}
 use Rattle.queue.specs.Queue.{position, queueAt, redsIn, promoted}
 use Rattle.queue.proofs.Inside.{Changed, changed-at, over-changed}
-use Rattle.queue.proofs.Fields.{fieldSizes, fields, header-fields, fields-sized, field-changed, theGreenCount}
+use Rattle.engine.proofs.Fields.{fieldSizes, header-fields, fields-sized, field-changed, theGreenCount, theQueueCount}
 use Rattle.queue.proofs.SlotLaws.{slots-one, slots-cons}
 use Rattle.queue.proofs.Positions.{Stands, position-found, position-none, actions-drop}
 use Rattle.queue.proofs.Holding.{log-formed, log-fits, Numbers, numbers, holds-counts, holds-changed, log-image}
@@ -62,7 +62,7 @@ header-promoted s x e =
     let m : length (s .log .green) + 1 ≡ length (t .log .green) = sym (length-append (s .log .green) (x ∷ [])) in
     ap (patched atGreenLength (bytesOf 4 (length (s .log .green) + 1))) (header-fields s)
     ∙ field-changed (fields s) theGreenCount (bytesOf 4 (length (s .log .green) + 1)) (fields-sized s) (omega arith) (bytes-length 4 _)
-    ∙ ap₂ {A = ℕ} {B = ℕ} {C = List ℕ} (λ i j. joined (set (set (fields s) theGreenCount (bytesOf 4 i)) 9 (bytesOf 4 j))) m (sym e)
+    ∙ ap₂ {A = ℕ} {B = ℕ} {C = List ℕ} (λ i j. joined (set (set (fields s) theGreenCount (bytesOf 4 i)) theQueueCount (bytesOf 4 j))) m (sym e)
     ∙ sym (header-fields t)
 
 -- ---- the queue's section

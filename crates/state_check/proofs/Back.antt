@@ -275,6 +275,7 @@ module _ (c : Context) (h : State) (b : List ℕ) (f : WellFormed (said c h b)) 
   all-checked =
       record {
         context = context-ok;
+        layout = ap (λ (x : State). x .layout) same;
         regular = regular-test;
         transitional = transitional-test;
         senders = set-ok c (h .states) senders-small;

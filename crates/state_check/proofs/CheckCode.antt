@@ -41,7 +41,7 @@ pub counts-made : (c : Context) (h : State) (t : Bool) → t ≡ numbersOk (cont
 unfolding numbersOk countsOk roomOk quotaOk lengthOk contextOf
 counts-made c h t e f =
     let a = and-holds _ _ (sym e ∙ not-false t f) in
-    let counts = and-holds _ _ (and-holds _ _ (a .1) .0) in
+    let counts = and-holds _ _ (and-holds _ _ (and-holds _ _ (a .1) .1) .0) in
     let r₁ = and-holds _ _ (counts .0) in
     let r₂ = and-holds _ _ (r₁ .1) in
     let r₃ = and-holds _ _ (r₂ .1) in

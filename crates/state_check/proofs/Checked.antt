@@ -8,7 +8,7 @@ use Rattle.base.proofs.TestLaws.{and-holds, both-yes, le-yes, le-holds, eq-yes,
 use Rattle.base.specs.Bytes.{numbersAt}
 use Rattle.base.specs.Lists.{sum}
 use Rattle.base.specs.Sets.{inside}
-use Rattle.format.specs.Limits.{mostHeld}
+use Rattle.format.specs.Limits.{mostHeld, layoutNumber}
 use Rattle.format.specs.Types.{Context}
 use Rattle.format.specs.Range.{contextOk, lengthOk, cutsOk, indexOk, setOk, statusOk, primaryOk, markOk, idsOk}
 use Rattle.format.specs.Read.{idsAt}
@@ -22,6 +22,7 @@ use Rattle.state_check.specs.Checks.{placeOf, ownCut, queueCuts, ownNext
 
 pub record Checked (c : Context) (h : State) (b : List ℕ) : Type 0 where
   pub context : contextOk c ≡ true
+  pub layout : h .layout ≡ layoutNumber
   pub regular : regularOk c h ≡ true
   pub transitional : transitionalOk c h ≡ true
   pub senders : setOk c (h .states) ≡ true
@@ -57,7 +58,8 @@ checked c h b t =
     let a₂ = and-holds _ _ (a₁ .1) in
     let a₃ = and-holds _ _ (a₂ .1) in
     let a₄ = and-holds _ _ (a₃ .1) in
-    let n₁ = and-holds _ _ (a₂ .0) in
+    let n₀ = and-holds _ _ (a₂ .0) in
+    let n₁ = and-holds _ _ (n₀ .1) in
     let n₂ = and-holds _ _ (n₁ .1) in
     let m₁ = and-holds _ _ (n₁ .0) in
     let m₂ = and-holds _ _ (m₁ .1) in
@@ -82,6 +84,7 @@ checked c h b t =
     let q₁ = and-holds _ _ (l₅ .1) in
     record {
       context = a₁ .0;
+      layout = eq-holds _ _ (n₀ .0);
       regular = m₁ .0;
       transitional = m₂ .0;
       senders = m₃ .0;
@@ -120,4 +123,4 @@ check c h b k =
     let votes = both-yes _ _ (k .attempt) (both-yes _ _ (k .last) (both-yes _ _ (k .mark) (k .status))) in
     let cuts = both-yes _ _ (both-yes _ _ (k .cuts) (eq-yes _ _ (k .as-many))) (eq-yes _ _ (k .own-next)) in
     let lists = both-yes _ _ (both-yes _ _ cuts (both-yes _ _ (k .noted) (k .held))) (both-yes _ _ (k .ids) (both-yes _ _ (k .own) (both-yes _ _ (k .queue-ids) (k .queue)))) in
-    both-yes _ _ (k .context) (both-yes _ _ (both-yes _ _ membership (both-yes _ _ counts votes)) (both-yes _ _ lists (both-yes _ _ (k .collected) (k .mode))))
+    both-yes _ _ (k .context) (both-yes _ _ (both-yes _ _ (eq-yes _ _ (k .layout)) (both-yes _ _ membership (both-yes _ _ counts votes))) (both-yes _ _ lists (both-yes _ _ (k .collected) (k .mode))))

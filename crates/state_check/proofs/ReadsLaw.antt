@@ -15,7 +15,7 @@ use Rattle.record.specs.Context.{contextOf, readingContext}
 use Rattle.replication.specs.Machine.Types.{Server}
 use Rattle.replication.specs.Machine.WellFormed.{wellFormed}
 use Rattle.replication.proofs.WellFormed.Facts.{well-formed-facts, facts-well-formed}
-use Rattle.engine.specs.Layout.{stateLength}
+use Rattle.engine.specs.Layout.{stateLength, atConfigurationId}
 use Rattle.engine.specs.Image.{image}
 use Rattle.engine.specs.Header.{headerIn}
 use Rattle.engine.specs.Decode.{serversIn, quotaIn, decoded, reads}
@@ -38,7 +38,7 @@ same-answer false false f g = refl
 module _ (b : List ℕ) (bytes : Bytes b) (long : stateLength (serversIn b) (quotaIn b) ≤ length b) where
   id-small : headerIn b .«configuration_id» < 2 ^ 32
   unfolding headerIn
-  id-small = number-lt 4 b 6 bytes
+  id-small = number-lt 4 b atConfigurationId bytes
 
   checks-read : checks b ≡ true → reads b ≡ true
   unfolding checks reads contextIn contextOf readingContext headerIn serversIn quotaIn

@@ -84,6 +84,7 @@ module _ (c : Context) (h : State) (b : List ℕ) (k : Checked c h b) (bytes : B
       let greens : length (said c h b .log .green) ≡ h .«green_length» =
       length-take-le (h .«green_length») (actionsAt (h .«queue_length») b (placeOf c theQueue)) (omega (arith, k .few-greens, actions-count (h .«queue_length») b (placeOf c theQueue))) in
       λ i. record {
+        layout = sym (k .layout) i;
         servers = n-is i;
         quota = q-is i;
         me = me-is i;

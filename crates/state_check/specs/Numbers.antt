@@ -4,7 +4,7 @@ use Prim.Native.Nat.{ℕ, _+_, _*_, _≤_}
 use mathlib.Core.Bool.{Bool}
 use Rattle.base.specs.Tests.{_and_, _≤?_, _=?_, pick}
 use Rattle.base.specs.Sets.{inside}
-use Rattle.format.specs.Limits.{mostHeld}
+use Rattle.format.specs.Limits.{mostHeld, layoutNumber}
 use Rattle.format.specs.Types.{Context}
 use Rattle.format.specs.Range.{lengthOk, indexOk, setOk, statusOk, primaryOk, markOk, ownSetOk, insideLast}
 use Rattle.record.specs.declared.State.{State}
@@ -49,7 +49,7 @@ votesOk c h =
     indexOk (h .attempt .0) and primaryOk c (primaryOf (h .last)) and markOk c (markOf (h .mark)) and statusOk (h .«yellow_status»)
 
 unfoldable pub numbersOk : Context → State → Bool
-numbersOk c h = membershipOk c h and countsOk c h and votesOk c h
+numbersOk c h = h .layout =? layoutNumber and membershipOk c h and countsOk c h and votesOk c h
 
 -- What the counts are, for the code that goes through the lists.
 pub record CountsIn (n q : ℕ) (h : State) : Type 0 where

@@ -152,10 +152,14 @@ fn votes_ok(c: Context, h: State) -> bool
     status_ok(h.yellow_status)
 }
 
+// An image of another layout is none of this one.
 pub fn numbers_ok(c: Context, h: State) -> bool
     requires { ⌜ ContextIn c ⌝ }
     ensures { λ r. ⌜ r ≡ numbersOk (contextOf c) h ⌝ }
 {
+    if h.layout != State::LAYOUT {
+        return false;
+    }
     if !membership_ok(c, h) {
         return false;
     }

@@ -1,5 +1,4 @@
 pub mod Changes
-pub mod Fields
 pub mod Counts
 pub mod YellowLaws
 pub mod NumberLaws

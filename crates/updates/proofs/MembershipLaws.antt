@@ -93,6 +93,7 @@ made-valid h t b b₁ e f g s r =
 -- The numbers h with this set of senders.
 abbrev withSenders : State → ℕ → State
 withSenders h k = record {
+  layout = h .layout;
   servers = h .servers;
   quota = h .quota;
   me = h .me;

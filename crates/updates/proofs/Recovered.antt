@@ -29,7 +29,7 @@ use Rattle.replication.proofs.WellFormed.Effects.{recovered-body}
 use Rattle.replication.proofs.WellFormed.Facts.{well-formed-facts}
 use Rattle.replication.proofs.WellFormed.Logs.{LogFits, ownId}
 use Rattle.engine.specs.Layout.{theHeader, theCuts, theOwn, theQueue, sections, offset, stateLength, headerSize, atServers, atQuota, atMe, atQueueLength, atNumbered, atOwnCount, slotSize}
-use Rattle.engine.specs.Image.{over, headerBytes, actionSlots, section, parts, image}
+use Rattle.engine.specs.Image.{over, headerBytes, actionSlots, section, parts, image, fields}
 use Rattle.engine.specs.Decode.{serversIn, quotaIn}
 use Rattle.engine.proofs.InRange.{in-range}
 use Rattle.engine.proofs.Fit.{well-formed-fits}
@@ -37,7 +37,7 @@ use Rattle.engine.proofs.Used.{action-slots-length, slots-append}
 use Rattle.engine.specs.Holding.{Holds, HoldsSome}
 use Rattle.engine.proofs.InPlace.{holds-section}
 use Rattle.queue.specs.Queue.{queueAt}
-use Rattle.queue.proofs.Fields.{fields, theQueueCount, theOwnCount}
+use Rattle.engine.proofs.Fields.{theQueueCount, theOwnCount, two-fields}
 use Rattle.queue.proofs.Holding.{numbers, log-fits, log-formed, holds-counts, holds-changed}
 use Rattle.queue.proofs.Inside.{changed-at, over-extended, over-changed}
 use Rattle.queue.proofs.SlotLaws.{cut-set}
@@ -47,7 +47,6 @@ use Rattle.updates.proofs.Changes.{changed-image, part-here}
 use Rattle.updates.proofs.Counts.{holds-place, holds-numbered, header-room}
 use Rattle.updates.proofs.Counts as Lists
 use Rattle.engine.proofs.Chained.{then-holds, Covers, same-begins, lists-chained}
-use Rattle.updates.proofs.Fields.{two-fields}
 use Rattle.updates.proofs.NumberLaws.{begun}
 use Rattle.updates.proofs.RecoveryLaws.{Following, log, all-entered}
 

@@ -27,19 +27,18 @@ use Rattle.replication.specs.Machine.WellFormed.{idsIn, queue}
 use Rattle.replication.proofs.WellFormed.Facts.{well-formed-facts}
 use Rattle.engine.specs.Layout.{heldSize, slotSize, theHeader, theHeld, theOwn, sections, offset, atMe, atGreenLength, atNumbered, atOwnCount, atHeldCount}
 use Rattle.engine.specs.Header.{headerOf, headerIn}
-use Rattle.engine.specs.Image.{over, zeros, slot, headerBytes, actionSlots, heldSlots, section, parts, image}
+use Rattle.engine.specs.Image.{over, zeros, slot, headerBytes, actionSlots, heldSlots, section, parts, image, fields}
 use Rattle.engine.proofs.Fit.{well-formed-fits}
 use Rattle.engine.proofs.HeaderLaws.{header-loaded}
 use Rattle.engine.proofs.Used.{slot-length, action-slots-length, held-slots-length, slots-append, held-append}
 use Rattle.engine.specs.Holding.{Holds}
-use Rattle.queue.proofs.Fields.{fields, theOwnCount}
+use Rattle.engine.proofs.Fields.{theOwnCount, theNumbered, theHeldCount, one-field, two-fields}
 use Rattle.queue.proofs.Holding.{holds-changed}
 use Rattle.queue.proofs.Inside.{changed-at, over-extended}
 use Rattle.queue.proofs.SlotLaws.{slots-one}
 use Rattle.updates.specs.Lists.{ownCount, heldCount, numberedIn, place, nextHead, PayloadRoom}
 use Rattle.updates.proofs.Changes.{changed-image}
 use Rattle.updates.proofs.Counts.{holds-place, holds-own-count, holds-held-count, holds-numbered}
-use Rattle.updates.proofs.Fields.{theNumbered, theHeldCount, one-field, two-fields}
 
 -- The own list is no longer than what was numbered.
 pub own-short : (s : Server) (b : List ℕ) → Holds s b → length (s .log .own) ≤ s .log .numbered

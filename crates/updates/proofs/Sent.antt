@@ -24,20 +24,19 @@ use Rattle.replication.specs.Machine.WellFormed.{queue}
 use Rattle.replication.proofs.WellFormed.Facts.{well-formed-facts}
 use Rattle.engine.specs.Layout.{heldSize, slotSize, theHeader, theHeld, theOwn, sections, offset, stateLength, atNumbered, atOwnCount, atHeldCount}
 use Rattle.engine.specs.Header.{headerOf, headerIn}
-use Rattle.engine.specs.Image.{over, zeros, slot, headerBytes, actionSlots, heldSlots, section, parts, image}
+use Rattle.engine.specs.Image.{over, zeros, slot, headerBytes, actionSlots, heldSlots, section, parts, image, fields}
 use Rattle.engine.proofs.Fit.{well-formed-fits}
 use Rattle.engine.proofs.HeaderLaws.{header-loaded}
 use Rattle.engine.proofs.Used.{held-slot-length, action-slots-length, slots-append}
 use Rattle.engine.specs.Holding.{Holds}
 use Rattle.engine.proofs.InPlace.{holds-section}
-use Rattle.queue.proofs.Fields.{fields, theOwnCount}
+use Rattle.engine.proofs.Fields.{theOwnCount, theNumbered, theHeldCount, three-fields}
 use Rattle.queue.proofs.Holding.{holds-changed}
 use Rattle.queue.proofs.Inside.{changed-at, over-extended}
 use Rattle.updates.specs.Lists.{place, ownCount, heldCount, numberedIn, nextHead}
 use Rattle.updates.specs.Sending.{laterHead, movedSlots, SendRoom, SendReady}
 use Rattle.updates.proofs.Changes.{changed-image, part-here}
 use Rattle.updates.proofs.Counts.{holds-counts, holds-place, holds-quota, holds-own-count, holds-held-count, holds-numbered}
-use Rattle.updates.proofs.Fields.{theNumbered, theHeldCount, three-fields}
 use Rattle.updates.proofs.NumberLaws.{begun}
 use Rattle.updates.proofs.RequestLaws.{own-short}
 use Rattle.updates.proofs.SendLaws.{moved-length}

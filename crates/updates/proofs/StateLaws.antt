@@ -25,7 +25,7 @@ use Rattle.format.specs.Write.{write}
 use Rattle.replication.specs.Machine.Types.{Server, contextOf}
 use Rattle.replication.specs.Machine.Step.{withState}
 use Rattle.engine.specs.Layout.{stateSize, theHeader, theStates, sections, sectionSize, offset, stateLength, headerSize, atServers, atQuota, atStates}
-use Rattle.engine.specs.Image.{over, headerBytes, senders, stateOver, statesOver, section, parts, image}
+use Rattle.engine.specs.Image.{over, headerBytes, senders, stateOver, statesOver, section, parts, image, fields}
 use Rattle.record.specs.declared.State.{State as Numbers}
 use Rattle.engine.specs.Header.{headerOf, headerIn}
 use Rattle.engine.proofs.HeaderLaws.{header-loaded}
@@ -36,14 +36,13 @@ use Rattle.engine.proofs.Used.{StateFits, state-over-length, first-slot, more-s
 use Rattle.engine.proofs.Slots.{in-senders, senders-below}
 use Rattle.engine.specs.Holding.{Holds}
 use Rattle.engine.proofs.InPlace.{holds-section}
-use Rattle.queue.proofs.Fields.{fields}
+use Rattle.engine.proofs.Fields.{theSenders, one-field}
 use Rattle.queue.proofs.Holding.{holds-changed}
 use Rattle.queue.proofs.Inside.{changed-at}
 use Rattle.updates.specs.Lists.{place, NumberIn, CollectRoom}
 use Rattle.updates.proofs.Changes.{changed-image}
 use Rattle.updates.proofs.Counts.{holds-servers, holds-quota, holds-place, place-read, header-room}
 use Rattle.updates.proofs.MembershipLaws.{member-shifted}
-use Rattle.updates.proofs.Fields.{theSenders, one-field}
 
 -- ---- the set of senders
 

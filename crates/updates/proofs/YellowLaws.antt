@@ -26,7 +26,7 @@ use Rattle.record.specs.Values.{idOf}
 use Rattle.replication.specs.Machine.Types.{Server, Votes, contextOf, withVotes}
 use Rattle.replication.specs.Machine.Colours.{addId, joinYellow}
 use Rattle.engine.specs.Layout.{theHeader, theYellow, sections, offset, atYellowCount}
-use Rattle.engine.specs.Image.{over, headerBytes, section, parts, image}
+use Rattle.engine.specs.Image.{over, headerBytes, section, parts, image, fields}
 use Rattle.engine.proofs.InRange.{in-range}
 use Rattle.engine.proofs.Used.{ids-append}
 use Rattle.engine.specs.Holding.{Holds}
@@ -34,8 +34,7 @@ use Rattle.updates.specs.Lists.{yellowCount, place}
 use Rattle.updates.proofs.Changes.{changed-image}
 use Rattle.queue.proofs.Inside.{changed-at, over-extended}
 use Rattle.queue.proofs.Holding.{holds-changed}
-use Rattle.queue.proofs.Fields.{fields}
-use Rattle.updates.proofs.Fields.{theYellowCount, one-field}
+use Rattle.engine.proofs.Fields.{theYellowCount, one-field}
 use Rattle.updates.proofs.Counts.{holds-yellow-count, holds-place, holds-ids}
 
 -- ---- ids as bytes
