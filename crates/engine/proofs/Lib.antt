@@ -14,5 +14,6 @@ pub mod InPlace
 pub mod Chained
 pub mod Refusals
 pub mod HeaderLaws
+pub mod Counts
 pub mod StartLaws
 pub mod Taken

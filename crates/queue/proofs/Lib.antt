@@ -1,7 +1,6 @@
 pub mod Inside
 pub mod Fields
 pub mod SlotLaws
-pub mod PlaceLaws
 pub mod MoveLaws
 pub mod FindLaws
 pub mod ByteLaws

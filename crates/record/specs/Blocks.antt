@@ -5,6 +5,7 @@ use mathlib.Core.List.{List, [], _∷_}
 use lib.ListN.{length}
 use Rattle.base.specs.Bytes.{bytesOf, joined}
 use Rattle.format.specs.Limits.{version}
+use Rattle.format.specs.Places.{idSize}
 use Rattle.format.specs.Types.{kindNumber, ofAction, ofRetransmission}
 use Rattle.format.specs.Write.{idBytes}
 use Rattle.record.specs.declared.ActionHead.{ActionHead}
@@ -41,6 +42,10 @@ standingNumbers h =
     ∷ h .«yellow_status»
     ∷ h .«yellow_count»
     ∷ []
+
+-- An action but its payload length and its payload.
+abbrev pub headSize : ℕ
+headSize = idSize + 4
 
 -- "creator (1 byte), index (2), creator's green length (4)"
 unfoldable pub headBytes : ActionHead → List ℕ

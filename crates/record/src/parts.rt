@@ -1,15 +1,24 @@
-// Numbers, ids, payloads and actions, each written from a place on.
+// Numbers, ids, payloads and actions at a place: written, and an id compared.
 ghost use mathlib.Core.Path.{_≡_};
 ghost use Prim.Native.Nat.{_+_, _≤_};
 ghost use lib.ListN.{length};
 ghost use Rattle.base.specs.Bytes.{bytesOf};
 ghost use Rattle.base.specs.Patched.{patched};
+ghost use Rattle.format.specs.Places.{idSize, actionHeadSize};
+ghost use Rattle.format.specs.Range.{sameId};
+ghost use Rattle.format.specs.Read.{idAt};
 ghost use Rattle.format.specs.Write.{idBytes, payloadBytes, actionBytes};
 ghost use Rattle.record.specs.Values.{idOf, actionOf};
-ghost use Rattle.record.specs.Blocks.{headBytes};
+ghost use Rattle.record.specs.Blocks.{headSize, headBytes};
 use crate::ActionHead;
+use crate::State;
 use crate::blocks::copy;
 use crate::blocks::put_number;
+use crate::bytes::num8;
+use crate::bytes::num16;
+
+// An action but its payload length and its payload.
+pub const HEAD: usize = State::ID + 4;
 
 // A number of one byte; put16 and put32: of two and of four.
 pub fn put8(out: &mut [u8], at: usize, v: u8)
@@ -34,11 +43,22 @@ pub fn put32(out: &mut [u8], at: usize, v: u32)
 }
 
 pub fn put_id(out: &mut [u8], at: usize, creator: u8, index: u16)
-    requires { ⌜ at + 3 ≤ length (now out) ⌝ }
+    requires { ⌜ at + idSize ≤ length (now out) ⌝ }
     ensures { λ _. ⌜ now (out .exit) ≡ patched at (idBytes (idOf creator index)) (now (out .entry)) ⌝ }
 {
     put8(out, at, creator);
     put16(out, at + 1, index);
+}
+
+// Whether the id at `at` is this one.
+pub fn is_id(e: &[u8], at: usize, creator: u8, index: u16) -> bool
+    requires { ⌜ at + idSize ≤ length (now e) ⌝ }
+    ensures { λ r. ⌜ r ≡ sameId (idOf creator index) (idAt (now (e .entry)) at) ⌝ }
+{
+    if creator != num8(e, at) {
+        return false;
+    }
+    index == num16(e, at + 1)
 }
 
 pub fn put_payload(out: &mut [u8], at: usize, payload: &[u8])
@@ -51,18 +71,18 @@ pub fn put_payload(out: &mut [u8], at: usize, payload: &[u8])
 
 // An action's id and its creator's green length.
 pub fn put_head(out: &mut [u8], at: usize, head: ActionHead)
-    requires { ⌜ at + 7 ≤ length (now out) ⌝ }
+    requires { ⌜ at + headSize ≤ length (now out) ⌝ }
     ensures { λ _. ⌜ now (out .exit) ≡ patched at (headBytes head) (now (out .entry)) ⌝ }
 {
     put_id(out, at, head.creator, head.index);
-    put32(out, at + 3, head.green_length);
+    put32(out, at + State::ID, head.green_length);
 }
 
 // An action, as actions and retransmissions have it.
 pub fn put_body(out: &mut [u8], at: usize, head: ActionHead, payload: &[u8])
-    requires { ⌜ at + (8 + length (now payload)) ≤ length (now out) ⌝ }
+    requires { ⌜ at + (actionHeadSize + length (now payload)) ≤ length (now out) ⌝ }
     ensures { λ _. ⌜ now (out .exit) ≡ patched at (actionBytes (actionOf head (now (payload .entry)))) (now (out .entry)) ⌝ }
 {
     put_head(out, at, head);
-    put_payload(out, at + 7, payload);
+    put_payload(out, at + HEAD, payload);
 }

@@ -1,6 +1,5 @@
 pub mod Changes
 pub mod Fields
-pub mod Counts
 pub mod YellowLaws
 pub mod NumberLaws
 pub mod MembershipLaws
