@@ -14,6 +14,7 @@ pub mod InPlace
 pub mod Chained
 pub mod Refusals
 pub mod HeaderLaws
+pub mod Counts
 pub mod StartLaws
 pub mod Taken
 pub mod Fields

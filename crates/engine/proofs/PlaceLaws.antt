@@ -36,3 +36,11 @@ own-place n q at all e f = rw (e, f) (omega arith)
 pub queue-place : (n q at : ℕ) → at ≡ offset n q theOwn → at + slotSize * q ≡ offset n q theQueue
 unfolding offset sections sum
 queue-place n q at e = rw e (omega arith)
+
+-- The code tests the number k of a section.
+pub section-found : (n q j k r : ℕ) → k ≡ j → r ≡ offset n q j → r ≡ offset n q k
+section-found n q j k r e f = rw e f
+
+pub section-last : (n q k r : ℕ) → theNoted ≤ k → k ≤ theQueue → (k ≡ theNoted → ⊥) → (k ≡ theHeld → ⊥) → (k ≡ theStates → ⊥) → (k ≡ theYellow → ⊥)
+    → (k ≡ theOwn → ⊥) → r ≡ offset n q theQueue → r ≡ offset n q k
+section-last n q k r l h a b c d e f = section-found n q theQueue k r (omega arith) f

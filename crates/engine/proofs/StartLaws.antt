@@ -50,32 +50,6 @@ unfolding zeros
 zeros-append zero k = let e : 0 + k ≡ k = omega arith in rw e
 zeros-append (suc m) k = let e : suc m + k ≡ suc (m + k) = omega arith in rw e (ap (λ (l : List ℕ). 0 ∷ l) (zeros-append m k))
 
-zeros-at : (m k : ℕ) → getD (zeros m) k 0 ≡ 0
-unfolding zeros
-zeros-at zero k = refl
-zeros-at (suc m) zero = refl
-zeros-at (suc m) (suc k) = zeros-at m k
-
--- ---- zeros stored one by one
-
-pub clear-none : (at : ℕ) (s : List ℕ) → s ≡ patched at (zeros 0) s
-unfolding zeros
-clear-none at s = sym (patched-none at s)
-
-pub clear-more : (at j count : ℕ) (s t : List ℕ) → at + count ≤ length s → j < count → t ≡ patched at (zeros j) s
-    → set t (at + j) 0 ≡ patched at (zeros (j + 1)) s
-clear-more at j count s t h k e =
-    let b : List ℕ = zeros (j + 1) in
-    let size : length b ≡ j + 1 = zeros-length (j + 1) in
-    let first : take j b ≡ zeros j = ap (take j) (sym (zeros-append j 1)) ∙ ap (λ (m : ℕ). take m (zeros j ++ zeros 1)) (sym (zeros-length j)) ∙ take-append-seam (zeros j) (zeros 1) in
-    let all : take (suc j) b ≡ b = take-all (suc j) b (omega arith) in
-    ap₂ {A = List ℕ} {B = ℕ} {C = List ℕ} (λ l v. set l (at + j) v) (e ∙ ap (λ (l : List ℕ). patched at l s) (sym first)) (sym (zeros-at (j + 1) j))
-    ∙ patched-more at j b s 0 (omega arith) (omega arith)
-    ∙ ap (λ (l : List ℕ). patched at l s) all
-
-pub clear-all : (at j count : ℕ) (s t : List ℕ) → j ≤ count → count ≤ j → t ≡ patched at (zeros j) s → t ≡ patched at (zeros count) s
-clear-all at j count s t h k e = let same : j ≡ count = omega arith in e ∙ ap (λ (m : ℕ). patched at (zeros m) s) same
-
 -- ---- the start's sections
 
 cuts-zero : (n : ℕ) → cutsBytes (replicate {A = ℕ} n 0) ≡ zeros (2 * n)
@@ -174,7 +148,8 @@ unfolding headerOf start startOf statusOf idOf setOf transitionalOf lastOf markN
 header-start n q i = rw (senders-none 0 n)
 
 pub start-made : (n q i : ℕ) (h : declared.State) (s s₁ s₂ : List ℕ) → StartRoom n q s → h ≡ startOf n q i → s₁ ≡ patched 0 (headerWritten h) s
-    → s₂ ≡ patched headerSize (zeros (6 * n)) s₁ → s₂ ≡ image (start n q i) s
+    → s₂ ≡ patched headerSize (replicate {A = ℕ} (6 * n) 0) s₁ → s₂ ≡ image (start n q i) s
+unfolding zeros
 start-made n q i h s s₁ s₂ l e f g =
     let written : headerWritten h ≡ headerBytes (start n q i) = ap headerWritten (e ∙ sym (header-start n q i)) ∙ header-written (start n q i) in
     g ∙ ap (patched headerSize (zeros (6 * n))) (f ∙ ap (λ (x : List ℕ). patched 0 x s) written) ∙ sym (start-image n q i s (l .long))

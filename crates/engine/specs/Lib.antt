@@ -4,3 +4,4 @@ pub mod Header
 pub mod Decode
 pub mod Outcome
 pub mod Holding
+pub mod Counts

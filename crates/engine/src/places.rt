@@ -1,8 +1,9 @@
-// Where the sections of the state's buffer begin, by the numbers of servers and the quota.
+// Where the sections of the state's buffer begin.
 ghost use mathlib.Core.Path.{_≡_};
 ghost use Prim.Native.Nat.{_≤_};
 ghost use Rattle.engine.specs.Layout.{SizesIn, stateSize, theNoted, theHeld, theStates, theYellow, theOwn, theQueue, offset, mostStatesAt};
 ghost use Rattle.engine.specs.Layout.{mostStateSize, mostYellowAt, mostOwnAt};
+ghost use Rattle.engine.specs.Counts.{place, CountsIn};
 use super::sizes::HEADER;
 use super::sizes::HELD;
 use super::sizes::ID;
@@ -10,6 +11,21 @@ use super::sizes::SLOT;
 use super::sizes::STATE_HEAD;
 use super::sizes::product;
 use record::State;
+use record::bytes::num8;
+use record::bytes::num16;
+
+// The sections that lists lie in, by their numbers.
+pub const THE_NOTED: u8 = 2;
+
+pub const THE_HELD: u8 = 3;
+
+pub const THE_STATES: u8 = 4;
+
+pub const THE_YELLOW: u8 = 5;
+
+pub const THE_OWN: u8 = 6;
+
+pub const THE_QUEUE: u8 = 7;
 
 // The cuts begin behind the header.
 pub const CUTS: u32 = HEADER;
@@ -62,4 +78,39 @@ pub fn queue_at(n: u32, q: u32) -> u32
     ensures { λ r. ⌜ r ≡ offset n q theQueue ⌝ }
 {
     own_at(n, q) + SLOT * q
+}
+
+// The section of this number, for n servers and the quota q.
+fn section_at(n: u32, q: u32, section: u8) -> u32
+    requires { ⌜ SizesIn n q × (theNoted ≤ section) × (section ≤ theQueue) ⌝ }
+    ensures { λ r. ⌜ r ≡ offset n q section ⌝ }
+{
+    if section == THE_NOTED {
+        return noted_at(n, q);
+    }
+    if section == THE_HELD {
+        return held_at(n, q);
+    }
+    if section == THE_STATES {
+        return states_at(n, q);
+    }
+    if section == THE_YELLOW {
+        return yellow_at(n, q);
+    }
+    if section == THE_OWN {
+        return own_at(n, q);
+    }
+    queue_at(n, q)
+}
+
+// Where the section of this number begins in the state.
+pub fn place_of(state: &[u8], section: u8) -> usize
+    requires { ⌜ CountsIn (now state) × (theNoted ≤ section) × (section ≤ theQueue) ⌝ }
+    ensures { λ r. ⌜ r ≡ place section (now (state .entry)) ⌝ }
+{
+    section_at(
+        num8(state, State::AT_SERVERS) as u32,
+        num16(state, State::AT_QUOTA) as u32,
+        section,
+    ) as usize
 }

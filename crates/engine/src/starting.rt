@@ -8,18 +8,7 @@ ghost use Rattle.engine.specs.Layout.{StartRoom};
 ghost use Rattle.engine.specs.Image.{zeros, image};
 use crate::header::save;
 use record::State;
-
-// Zeros for `count` bytes from `at` on.
-pub fn clear(state: &mut [u8], at: usize, count: usize)
-    requires { ⌜ at + count ≤ length (now state) ⌝ }
-    ensures { λ _. ⌜ now (state .exit) ≡ patched at (zeros count) (now (state .entry)) ⌝ }
-{
-    let mut j: usize = 0;
-    while j < count {
-        state[at + j] = 0;
-        j += 1;
-    }
-}
+use record::blocks::clear;
 
 // Makes the start: its numbers, and zeros for the cuts and noted lengths.
 pub fn begin(state: &mut [u8], servers: u8, quota: u16, me: u8)

@@ -23,15 +23,15 @@ use Rattle.replication.specs.Machine.WellFormedRanges.{IdFits}
 use Rattle.replication.proofs.WellFormed.Facts.{well-formed-facts}
 use Rattle.engine.specs.Layout.{theYellow, offset, headerSize, atServers, atYellowCount}
 use Rattle.engine.specs.Decode.{decoded}
-use Rattle.queue.proofs.Holding.{numbers}
 use Rattle.queue.proofs.RedLaws.{cut-read}
-use Rattle.updates.specs.Lists.{yellowCount, place}
-use Rattle.updates.proofs.Counts.{holds-ids, holds-place, holds-yellow-count}
 use Rattle.engine.specs.Holding.{HoldsSome}
 use Rattle.engine.proofs.InPlace.{such-decoded}
 use Rattle.install.specs.Table.{logIn, yellowsIn, idsOf, InTable, Indexed, Turned}
 use Rattle.install.proofs.SwapFits.{swaps-kept}
 use Rattle.install.proofs.Turning.{turned-decoded, turned-append, turned-none}
+use Rattle.engine.proofs.Counts.{numbers, holds-place}
+use Rattle.engine.specs.Counts.{yellowCount, place}
+use Rattle.updates.proofs.YellowLaws.{holds-ids}
 
 turned-as : (ds es : List Id) (b u c : List ℕ) → ds ≡ es → Turned ds b u c → Turned es b u c
 turned-as ds es b u c e h = subst (λ (x : List Id). Turned x b u c) e h
@@ -68,15 +68,14 @@ module _ (b₀ : List ℕ) (s₀ : HoldsSome b₀) where
 
   yellow-count : yellowCount b₀ ≡ length (yellowsIn b₀)
   unfolding yellowsIn
-  yellow-count = holds-yellow-count (decoded b₀) b₀ (such-decoded _ b₀ s₀)
+  yellow-count = numbers (decoded b₀) b₀ (such-decoded _ b₀ s₀) .yellow
 
   yellow-id : (ds : List Id) (t b : List ℕ) (j n p : ℕ) → Turned ds b₀ t b → p ≡ place theYellow b₀ → n ≡ numberAt 2 b₀ atYellowCount → j < n
       → at (yellowsIn b₀) j ≡ some (idAt b (p + 3 * j))
-  unfolding yellowCount
   yellow-id ds t b j n p e f g h =
       let kept = yellow-kept ds t b e in
       let r = such-decoded _ b (e .indexed .holds) in
-      let many : j < numberAt 2 b atYellowCount = omega (arith, holds-yellow-count (decoded b) b r, ap length kept, yellow-count) in
+      let many : j < numberAt 2 b atYellowCount = omega (arith, numbers (decoded b) b r .yellow, ap length kept, yellow-count) in
       ap (λ (l : List Id). at l j) (sym kept ∙ sym (holds-ids (decoded b) b r))
       ∙ ids-at (numberAt 2 b atYellowCount) b (place theYellow b) j many
       ∙ ap (λ (q : ℕ). some (idAt b (q + 3 * j))) (yellow-place ds t b e ∙ sym f)
@@ -100,7 +99,6 @@ module _ (b₀ : List ℕ) (s₀ : HoldsSome b₀) where
       (turned-append (take j ids) (d ∷ []) b₀ t b t₁ b₁ s₀ e turn)
 
   pub yellow-end : (t b : List ℕ) (j n : ℕ) → Turned (take j (yellowsIn b₀)) b₀ t b → n ≡ numberAt 2 b₀ atYellowCount → n ≤ j → Turned (yellowsIn b₀) b₀ t b
-  unfolding yellowCount
   yellow-end t b j n e f h = turned-as (take j (yellowsIn b₀)) (yellowsIn b₀) b₀ t b (take-all j (yellowsIn b₀) (omega (arith, yellow-count))) e
 
 -- ---- one creator

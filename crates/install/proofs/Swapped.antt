@@ -27,14 +27,16 @@ use Rattle.engine.proofs.Used.{ActionFits, action-slot-length, action-slots-len
 use Rattle.engine.proofs.Fit.{well-formed-fits}
 use Rattle.engine.proofs.Decoded.{image-part}
 use Rattle.engine.specs.Holding.{Holds}
-use Rattle.queue.specs.Queue.{position, queueAt}
+use Rattle.queue.specs.Queue.{position}
 use Rattle.install.specs.Swaps.{swapOut, greenFound, greenSwap, exchanged, greenAt}
 use Rattle.queue.proofs.Inside.{changed-at, over-changed}
 use Rattle.engine.proofs.Fields.{header-fields, fields-sized, field-changed, theGreenCount, theQueueCount}
 use Rattle.queue.proofs.SlotLaws.{slots-cons}
 use Rattle.queue.proofs.Positions.{Stands}
 use Rattle.queue.proofs.Promoted.{used-part, patched-middle}
-use Rattle.queue.proofs.Holding.{numbers, holds-changed, log-image}
+use Rattle.queue.proofs.Holding.{holds-changed, log-image}
+use Rattle.engine.specs.Counts.{place}
+use Rattle.engine.proofs.Counts.{numbers}
 
 -- ---- lists
 
@@ -240,7 +242,7 @@ pub exchange-made : (s x y s₁ s₂ : List ℕ) (i j : ℕ) → x ≡ partAt sl
 unfolding exchanged
 exchange-made s x y s₁ s₂ i j e f g h = h ∙ (λ t. patched j (e t) (g t)) ∙ (λ t. patched j (partAt slotSize s i) (patched i (f t) s))
 
-pub green-at-made : (s s₁ s₂ : List ℕ) (green p k : ℕ) → green ≡ numberAt 4 s atGreenLength → p ≡ queueAt s → s₁ ≡ exchanged (p + slotSize * green) (p + slotSize * k) s
+pub green-at-made : (s s₁ s₂ : List ℕ) (green p k : ℕ) → green ≡ numberAt 4 s atGreenLength → p ≡ place theQueue s → s₁ ≡ exchanged (p + slotSize * green) (p + slotSize * k) s
     → s₂ ≡ patched atGreenLength (bytesOf 4 (green + 1)) s₁ → s₂ ≡ greenAt k s
 unfolding greenAt
 green-at-made s s₁ s₂ green p k e f g h =

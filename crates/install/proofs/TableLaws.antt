@@ -23,18 +23,18 @@ use Rattle.record.specs.Values.{idOf, slot}
 use Rattle.record.proofs.OnePass.{Small, slot-lt, other-slot}
 use Rattle.replication.specs.Machine.Types.{Server, contextOf}
 use Rattle.replication.specs.Machine.WellFormed.{queue, idsIn}
-use Rattle.engine.specs.Layout.{slotSize, atQueueLength, atGreenLength}
+use Rattle.engine.specs.Layout.{slotSize, atQueueLength, atGreenLength, theQueue}
 use Rattle.engine.specs.Decode.{decoded}
 use Rattle.engine.proofs.InRange.{in-range}
 use Rattle.engine.specs.Holding.{Holds, HoldsSome}
 use Rattle.engine.proofs.InPlace.{such-decoded, such-header}
-use Rattle.queue.specs.Queue.{queueCount, greenCount, queueAt, CountsIn}
-use Rattle.queue.proofs.Holding.{numbers, log-fits, queue-parts, holds-counts}
-use Rattle.updates.proofs.Counts.{holds-counts as holds-lists}
+use Rattle.queue.proofs.Holding.{log-fits}
 use Rattle.queue.proofs.ReadLaws.{queue-read, actions-at}
 use Rattle.install.specs.Table.{logIn, InTable, Indexed}
 use Rattle.install.proofs.Places.{same-place}
 use Rattle.install.proofs.SwapLaws.{Once}
+use Rattle.engine.specs.Counts.{queueCount, greenCount, place, CountsIn}
+use Rattle.engine.proofs.Counts.{numbers, queue-parts, holds-counts}
 
 -- ---- the place of an id in the table
 
@@ -64,30 +64,30 @@ module _ (s : Server) (b : List ℕ) (r : Holds s b) where
       go (fails t) = other-slot (contextOf s) (x .id) (y .id) small (id-in i x e) (id-in j y f) t (sym h)
 
   -- What stands at the place k.
-  pub read-at : (k : ℕ) → k < queueCount b → at (queue (s .log)) k ≡ some (actionAt b (queueAt b + slotSize * k))
-  read-at k h = ap (λ (l : List Action). at l k) (sym (queue-read s b r)) ∙ actions-at (queueCount b) b (queueAt b) k h
+  pub read-at : (k : ℕ) → k < queueCount b → at (queue (s .log)) k ≡ some (actionAt b (place theQueue b + slotSize * k))
+  read-at k h = ap (λ (l : List Action). at l k) (sym (queue-read s b r)) ∙ actions-at (queueCount b) b (place theQueue b) k h
 
-  pub read-id : (k : ℕ) (a : Action) → at (queue (s .log)) k ≡ some a → idAt b (queueAt b + slotSize * k) ≡ a .id
+  pub read-id : (k : ℕ) (a : Action) → at (queue (s .log)) k ≡ some a → idAt b (place theQueue b + slotSize * k) ≡ a .id
   unfolding actionAt
   read-id k a e =
       let h : k < queueCount b = omega (arith, at-low (queue (s .log)) k a e, numbers s b r .queue) in
       ap (λ (x : Action). x .id) (some-same (sym (read-at k h) ∙ e))
 
-pub entry-made : (b : List ℕ) (k p x y r : ℕ) → p ≡ queueAt b → x ≡ numberAt 1 b (p + slotSize * k) → y ≡ numberAt 2 b (p + slotSize * k + 1)
-    → r ≡ slot (idOf x y) → r ≡ slot (idAt b (queueAt b + slotSize * k))
+pub entry-made : (b : List ℕ) (k p x y r : ℕ) → p ≡ place theQueue b → x ≡ numberAt 1 b (p + slotSize * k) → y ≡ numberAt 2 b (p + slotSize * k + 1)
+    → r ≡ slot (idOf x y) → r ≡ slot (idAt b (place theQueue b + slotSize * k))
 unfolding idAt idOf
 entry-made b k p x y r e f g m =
-    let same : idOf x y ≡ idAt b (queueAt b + slotSize * k) =
+    let same : idOf x y ≡ idAt b (place theQueue b + slotSize * k) =
     (λ i. idOf (f i) (g i)) ∙ (λ i. idAt b (e i + slotSize * k)) in
     m ∙ ap slot same
 
-pub entry-in : (b : List ℕ) (k p x y : ℕ) → HoldsSome b → k < queueCount b → p ≡ queueAt b → x ≡ numberAt 1 b (p + slotSize * k)
+pub entry-in : (b : List ℕ) (k p x y : ℕ) → HoldsSome b → k < queueCount b → p ≡ place theQueue b → x ≡ numberAt 1 b (p + slotSize * k)
     → y ≡ numberAt 2 b (p + slotSize * k + 1)
     → InTable x y
 unfolding idAt idOf contextOf
 entry-in b k p x y s h e f g =
     let w : Server = decoded b in
-    let a : Action = actionAt b (queueAt b + slotSize * k) in
+    let a : Action = actionAt b (place theQueue b + slotSize * k) in
     let there = read-at w b (such-decoded _ b s) k h in
     let z = id-in w b (such-decoded _ b s) k a there in
     let m = small w b (such-decoded _ b s) in
@@ -133,7 +133,7 @@ module _ (b : List ℕ) (s : HoldsSome b) where
     right = λ j a h l m. absurd (omega (arith, green-read));
   }
 
-  pub filled-again : (k p n : ℕ) (t : List ℕ) → Filled k t b → n ≡ numberAt 4 b atQueueLength → k < n → p ≡ slot (idAt b (queueAt b + slotSize * k)) → p < 2048
+  pub filled-again : (k p n : ℕ) (t : List ℕ) → Filled k t b → n ≡ numberAt 4 b atQueueLength → k < n → p ≡ slot (idAt b (place theQueue b + slotSize * k)) → p < 2048
       → Filled (k + 1) (set t p k) b
   unfolding logIn
   filled-again k p n t f count h e l = record {
@@ -149,12 +149,12 @@ module _ (b : List ℕ) (s : HoldsSome b) where
       right j a low lt m = go (ℕ-discrete j k)
         where
           here : (i : ℕ) (x : Action) → i ≡ k → at (queue ((decoded b) .log)) i ≡ some x → p ≡ slot (x .id)
-          here i x q n = e ∙ ap (λ (z : ℕ). slot (idAt b (queueAt b + slotSize * z))) (sym q) ∙ ap slot (read-id (decoded b) b (such-decoded _ b s) i x n)
+          here i x q n = e ∙ ap (λ (z : ℕ). slot (idAt b (place theQueue b + slotSize * z))) (sym q) ∙ ap slot (read-id (decoded b) b (such-decoded _ b s) i x n)
 
           go : Dec (j ≡ k) → getD (set t p k) (slot (a .id)) 0 ≡ j
           go (yes q) = ap (λ (z : ℕ). getD (set t p k) z 0) (sym (here j a q m)) ∙ getD-set-same t p k 0 (omega (arith, f .size)) ∙ sym q
           go (no q) =
-              let x : Action = actionAt b (queueAt b + slotSize * k) in
+              let x : Action = actionAt b (place theQueue b + slotSize * k) in
               let there : at (queue ((decoded b) .log)) k ≡ some x = read-at (decoded b) b (such-decoded _ b s) k (omega arith) in
               let apart : slot (a .id) ≡ p → ⊥ = λ z. slots-apart (decoded b) b (such-decoded _ b s) j k a x m there q (z ∙ here k x refl there) in
               getD-set-other t p (slot (a .id)) k 0 apart ∙ f .right j a low (omega arith) m
@@ -164,7 +164,6 @@ module _ (b : List ℕ) (s : HoldsSome b) where
   filled-end k n t f m h = record {
     holds = s;
     counts = f .counts;
-    lists = holds-lists (s .state) b (s .holds);
     size = f .size;
     right = λ j a low z. f .right j a low (omega (arith, at-low (queue ((decoded b) .log)) j a z, numbers (decoded b) b (such-decoded _ b s) .queue)) z;
   }

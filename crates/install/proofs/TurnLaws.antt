@@ -23,12 +23,12 @@ use Rattle.record.specs.Values.{slot}
 use Rattle.replication.specs.Machine.Types.{Log, Server, withLog}
 use Rattle.replication.specs.Machine.WellFormed.{queue}
 use Rattle.replication.proofs.WellFormed.Ids.{same-id-yes, same-id-holds}
-use Rattle.engine.specs.Layout.{slotSize, atQueueLength, atGreenLength}
+use Rattle.engine.specs.Layout.{slotSize, atQueueLength, atGreenLength, theQueue}
 use Rattle.engine.specs.Image.{image}
 use Rattle.engine.specs.Decode.{decoded}
 use Rattle.engine.specs.Holding.{Holds}
 use Rattle.engine.proofs.InPlace.{such-decoded}
-use Rattle.queue.specs.Queue.{position, queueCount, greenCount, queueAt}
+use Rattle.queue.specs.Queue.{position}
 use Rattle.queue.proofs.Holding.{log-fits}
 use Rattle.queue.proofs.Positions.{Stands, position-found, position-most}
 use Rattle.queue.proofs.ReadLaws.{find-at}
@@ -39,6 +39,7 @@ use Rattle.install.proofs.SwapFits.{Swap, unmoved, moved, swap?, fits-o
 use Rattle.install.proofs.Swapped.{lowest, queue-after, y-at, x-low, swap-image}
 use Rattle.install.proofs.TableLaws.{id-low, slots-apart, read-at, read-id, green-read, queue-count}
 use Rattle.install.proofs.Turning.{swaps-hold, indexed-by}
+use Rattle.engine.specs.Counts.{queueCount, greenCount, place}
 
 -- ---- looked up
 
@@ -49,13 +50,13 @@ module _ (t b : List ℕ) (x : Indexed t b) (d : Id) where
 
   -- A red action is found.
   red-entry : position d (logIn b .red) < length (logIn b .red)
-      → (getD t (slot d) 0 ≡ redPlace d b) × (redPlace d b < queueCount b) × (sameId d (idAt b (queueAt b + slotSize * redPlace d b)) ≡ true)
+      → (getD t (slot d) 0 ≡ redPlace d b) × (redPlace d b < queueCount b) × (sameId d (idAt b (place theQueue b + slotSize * redPlace d b)) ≡ true)
   unfolding redPlace logIn
   red-entry h =
       let k = position-found d ((decoded b) .log .red) h in
       let there : at (queue ((decoded b) .log)) (redPlace d b) ≡ some (k .it) =
       red-at (position d ((decoded b) .log .red)) ∙ sym (find-at d ((decoded b) .log .red)) ∙ k .found in
-      let named : idAt b (queueAt b + slotSize * redPlace d b) ≡ d =
+      let named : idAt b (place theQueue b + slotSize * redPlace d b) ≡ d =
       read-id (decoded b) b (such-decoded _ b (x .holds)) (redPlace d b) (k .it) there ∙ sym (k .named) in (
         ap (λ (e : Id). getD t (slot e) 0) (k .named) ∙ x .right (redPlace d b) (k .it) (omega arith) there,
         omega (arith, queue-count b (x .holds)),
@@ -86,20 +87,20 @@ module _ (t b : List ℕ) (x : Indexed t b) (d : Id) where
   entry-past p k n e f j h =
       j ∙ red-absent (λ m. let z = red-entry m in let w : k ≡ redPlace d b = f ∙ ap (λ (q : ℕ). getD t q 0) e ∙ z .0 in omega (arith, z .1))
 
-  pub entry-other : (p k n a : ℕ) (has : Bool) → p ≡ slot d → k ≡ getD t p 0 → n ≡ numberAt 4 b atQueueLength → a ≡ queueAt b
+  pub entry-other : (p k n a : ℕ) (has : Bool) → p ≡ slot d → k ≡ getD t p 0 → n ≡ numberAt 4 b atQueueLength → a ≡ place theQueue b
       → has ≡ sameId d (idAt b (a + slotSize * k)) → has ≡ false → n ≡ redPlace d b
   entry-other p k n a has e f j q g h =
       j ∙ red-absent (λ m. let z = red-entry m in
       let w : k ≡ redPlace d b = f ∙ ap (λ (i : ℕ). getD t i 0) e ∙ z .0 in
-      let same : idAt b (a + slotSize * k) ≡ idAt b (queueAt b + slotSize * redPlace d b) = λ i. idAt b (q i + slotSize * w i) in
+      let same : idAt b (a + slotSize * k) ≡ idAt b (place theQueue b + slotSize * redPlace d b) = λ i. idAt b (q i + slotSize * w i) in
       not-both (sym h ∙ g ∙ ap (sameId d) same ∙ z .2))
 
-  pub entry-found : (k g n a : ℕ) (has : Bool) → g ≡ numberAt 4 b atGreenLength → g ≤ k → n ≡ numberAt 4 b atQueueLength → k < n → a ≡ queueAt b
+  pub entry-found : (k g n a : ℕ) (has : Bool) → g ≡ numberAt 4 b atGreenLength → g ≤ k → n ≡ numberAt 4 b atQueueLength → k < n → a ≡ place theQueue b
       → has ≡ sameId d (idAt b (a + slotSize * k)) → has ≡ true → k ≡ redPlace d b
   unfolding redPlace logIn
   entry-found k g n a has i low j high q e h =
       let w : Server = decoded b in
-      let y : Action = actionAt b (queueAt b + slotSize * k) in
+      let y : Action = actionAt b (place theQueue b + slotSize * k) in
       let there : at (queue ((decoded b) .log)) k ≡ some y = read-at w b (such-decoded _ b (x .holds)) k (omega arith) in
       let at-k : length ((decoded b) .log .green) + (k - length ((decoded b) .log .green)) ≡ k = omega (arith, green-read b (x .holds)) in
       let red-there : at ((decoded b) .log .red) (k - length ((decoded b) .log .green)) ≡ some y =
@@ -171,7 +172,7 @@ module _ (s : Server) (b : List ℕ) (r : Holds s b) (d : Id) (k : Stands d (s .
       right-after i a (omega (arith, ap (λ (l : Log). length (l .green)) q, length-append (s .log .green) (k .it ∷ []))) (ap (λ (l : Log). at (queue l) i) (sym q) ∙ e))
 
 pub turned-swapped : (t b t₁ b₁ : List ℕ) (d : Id) (k n g p : ℕ) → Indexed t b → k ≡ redPlace d b → n ≡ numberAt 4 b atQueueLength → k < n
-    → g ≡ numberAt 4 b atGreenLength → p ≡ slot (idAt b (queueAt b + slotSize * g)) → b₁ ≡ greenAt k b → t₁ ≡ set t p k → Turned (d ∷ []) b t₁ b₁
+    → g ≡ numberAt 4 b atGreenLength → p ≡ slot (idAt b (place theQueue b + slotSize * g)) → b₁ ≡ greenAt k b → t₁ ≡ set t p k → Turned (d ∷ []) b t₁ b₁
 unfolding redPlace logIn greenSwaps
 turned-swapped t b t₁ b₁ d k n g p x e f h i j made stored = go (swap? d ((decoded b) .log))
   where
@@ -184,7 +185,7 @@ turned-swapped t b t₁ b₁ d k n g p x e f h i j made stored = go (swap? d ((d
         let written : b₁ ≡ image (withLog (greenSwap d l) w) b = made ∙ ap (λ (z : ℕ). greenAt z b) e ∙ swap-image w b r d s in
         let held : Holds (withLog (greenSwap d l) w) b₁ = swaps-hold w b b₁ r (d ∷ []) written in
         let place : p ≡ slot (lowest (s .before) (s .it) .id) =
-        j ∙ ap (λ (z : ℕ). slot (idAt b (queueAt b + slotSize * z))) (i ∙ green-read b (x .holds))
+        j ∙ ap (λ (z : ℕ). slot (idAt b (place theQueue b + slotSize * z))) (i ∙ green-read b (x .holds))
         ∙ ap slot (read-id w b r (length (l .green)) (lowest (s .before) (s .it)) (y-at w b r d s)) in
         let same : t₁ ≡ set t (slot (lowest (s .before) (s .it) .id)) (length (l .green) + position d (l .red)) =
         stored ∙ (λ z. set t (place z) (e z)) in

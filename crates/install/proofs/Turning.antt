@@ -21,12 +21,12 @@ use Rattle.engine.proofs.Used.{action-slots-length}
 use Rattle.engine.proofs.Fit.{well-formed-fits}
 use Rattle.engine.specs.Holding.{Holds, HoldsSome}
 use Rattle.engine.proofs.InPlace.{such-decoded, holds-decoded, image-holds, holds-some}
-use Rattle.queue.proofs.Holding.{log-formed, log-fits, holds-counts}
+use Rattle.queue.proofs.Holding.{log-formed, log-fits}
 use Rattle.queue.proofs.GreenLaws.{log-image-over}
-use Rattle.updates.proofs.Counts.{holds-counts as holds-lists}
 use Rattle.install.specs.Swaps.{greenSwaps}
 use Rattle.install.specs.Table.{logIn, Indexed, Turned}
 use Rattle.install.proofs.SwapFits.{swaps-kept, swaps-fits, swaps-append}
+use Rattle.engine.proofs.Counts.{holds-counts}
 
 -- ---- the state that is left
 
@@ -94,7 +94,6 @@ module _ (s : Server) (b t : List ℕ) (r : Holds s b) (size : length t ≡ most
   indexed-by = record {
     holds = holds-some s b r;
     counts = holds-counts s b r;
-    lists = holds-lists s b r;
     size = size;
     right =
         subst

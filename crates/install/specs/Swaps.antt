@@ -10,8 +10,9 @@ use Rattle.base.specs.Patched.{patched}
 use Rattle.format.specs.Types.{Id, Action}
 use Rattle.replication.specs.Machine.Types.{Log}
 use Rattle.replication.specs.Machine.Colours.{find}
-use Rattle.engine.specs.Layout.{slotSize, atGreenLength}
-use Rattle.queue.specs.Queue.{position, queueAt, greenCount}
+use Rattle.engine.specs.Layout.{slotSize, atGreenLength, theQueue}
+use Rattle.queue.specs.Queue.{position}
+use Rattle.engine.specs.Counts.{place, greenCount}
 
 -- The list without its element at k, whose place the first one takes.
 unfoldable pub swapOut : ℕ → List Action → List Action
@@ -39,4 +40,4 @@ exchanged i j b = patched j (partAt slotSize b i) (patched i (partAt slotSize b 
 
 -- The action at the place k of the queue and the lowest red one change places, and the green length is one more.
 unfoldable pub greenAt : ℕ → List ℕ → List ℕ
-greenAt k b = patched atGreenLength (bytesOf 4 (greenCount b + 1)) (exchanged (queueAt b + slotSize * greenCount b) (queueAt b + slotSize * k) b)
+greenAt k b = patched atGreenLength (bytesOf 4 (greenCount b + 1)) (exchanged (place theQueue b + slotSize * greenCount b) (place theQueue b + slotSize * k) b)

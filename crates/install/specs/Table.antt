@@ -15,9 +15,9 @@ use Rattle.replication.specs.Machine.WellFormed.{queue}
 use Rattle.engine.specs.Image.{image}
 use Rattle.engine.specs.Decode.{decoded}
 use Rattle.engine.specs.Holding.{HoldsSome}
-use Rattle.queue.specs.Queue.{position, CountsIn}
-use Rattle.updates.specs.Lists.{CountsIn as ListsIn}
+use Rattle.queue.specs.Queue.{position}
 use Rattle.install.specs.Swaps.{greenSwaps}
+use Rattle.engine.specs.Counts.{CountsIn}
 
 unfoldable pub logIn : List ℕ → Log
 logIn b = (decoded b) .log
@@ -43,7 +43,6 @@ pub record InTable (c i : ℕ) : Type 0 where
 pub record Indexed (t b : List ℕ) : Type 0 where
   pub holds : HoldsSome b
   pub counts : CountsIn b
-  pub lists : ListsIn b
   pub size : length t ≡ mostServers * mostQuota
   pub right : (k : ℕ) (a : Action) → length (logIn b .green) ≤ k → at (queue (logIn b)) k ≡ some a → getD t (slot (a .id)) 0 ≡ k
 

@@ -3,20 +3,22 @@ ghost use mathlib.Core.List.{[], _∷_};
 ghost use Prim.Native.Nat.{_+_, _≤_, _<_};
 ghost use lib.ListN.{length};
 ghost use Rattle.base.specs.Bytes.{numberAt};
+ghost use Rattle.format.specs.Places.{idSize};
 ghost use Rattle.format.specs.Read.{idAt};
 ghost use Rattle.replication.specs.Machine.Install.{idsUpTo};
-ghost use Rattle.queue.specs.Queue.{serversOf};
 ghost use Rattle.install.specs.Table.{logIn, yellowsIn, idsOf, InTable, Indexed, Turned};
+ghost use Rattle.engine.specs.Decode.{serversIn};
 use crate::table::PLACES;
 use crate::table::turn_green;
+use engine::places::THE_YELLOW;
+use engine::places::place_of;
 use record::State;
 use record::bytes::num8;
 use record::bytes::num16;
-use updates::yellow::yellow_place;
 
 // The action with the id at `at` turns green if it is red.
 fn turn_at(state: &mut [u8], places: &mut [u16; PLACES], at: usize)
-    requires { ⌜ Indexed (now places) (now state) × (at + 3 ≤ length (now state)) × InTable (numberAt 1 (now state) at) (numberAt 2 (now state) (at + 1)) ⌝ }
+    requires { ⌜ Indexed (now places) (now state) × (at + idSize ≤ length (now state)) × InTable (numberAt 1 (now state) at) (numberAt 2 (now state) (at + 1)) ⌝ }
     ensures { λ _. ⌜ Turned (idAt (now (state .entry)) at ∷ []) (now (state .entry)) (now (places .exit)) (now (state .exit)) ⌝ }
 {
     let creator = num8(state, at);
@@ -29,18 +31,18 @@ pub fn turn_yellow(state: &mut [u8], places: &mut [u16; PLACES])
     requires { ⌜ Indexed (now places) (now state) ⌝ }
     ensures { λ _. ⌜ Turned (yellowsIn (now (state .entry))) (now (state .entry)) (now (places .exit)) (now (state .exit)) ⌝ }
 {
-    let at = yellow_place(state);
+    let at = place_of(state, THE_YELLOW);
     let count = num16(state, State::AT_YELLOW_COUNT) as usize;
     let mut j: usize = 0;
     while j < count {
-        turn_at(state, places, at + 3 * j);
+        turn_at(state, places, at + State::ID * j);
         j += 1;
     }
 }
 
 // One creator's actions by their indexes.
 fn turn_creator(state: &mut [u8], places: &mut [u16; PLACES], creator: u8)
-    requires { ⌜ Indexed (now places) (now state) × (creator < serversOf (now state)) ⌝ }
+    requires { ⌜ Indexed (now places) (now state) × (creator < serversIn (now state)) ⌝ }
     ensures { λ _. ⌜ Turned (idsOf creator (now (state .entry))) (now (state .entry)) (now (places .exit)) (now (state .exit)) ⌝ }
 {
     let cut = num16(state, State::SIZE + 2 * creator as usize);

@@ -3,9 +3,10 @@ ghost use mathlib.Core.Path.{_≡_};
 ghost use Prim.Native.Nat.{_+_, _*_, _≤_, _<_};
 ghost use lib.ListN.{length};
 ghost use Rattle.engine.specs.Layout.{slotSize};
-ghost use Rattle.queue.specs.Queue.{queueCount, greenCount, CountsIn};
 ghost use Rattle.install.specs.Swaps.{exchanged, greenAt};
-use queue::places::queue_place;
+ghost use Rattle.engine.specs.Counts.{queueCount, greenCount, CountsIn};
+use engine::places::THE_QUEUE;
+use engine::places::place_of;
 use queue::slots::slot_at;
 use record::State;
 use record::blocks::copy;
@@ -29,7 +30,7 @@ pub fn green_at(state: &mut [u8], k: usize)
     ensures { λ _. ⌜ now (state .exit) ≡ greenAt k (now (state .entry)) ⌝ }
 {
     let green = num32(state, State::AT_GREEN_LENGTH);
-    let at = queue_place(state);
+    let at = place_of(state, THE_QUEUE);
     exchange(
         state,
         at + State::SLOT * green as usize,

@@ -5,10 +5,10 @@ ghost use mathlib.Core.List.{[], _∷_};
 ghost use Prim.Native.Nat.{_+_, _*_, _≤_, _<_};
 ghost use Rattle.format.specs.Read.{idAt};
 ghost use Rattle.record.specs.Values.{idOf, slot};
-ghost use Rattle.engine.specs.Layout.{slotSize};
-ghost use Rattle.queue.specs.Queue.{queueCount, greenCount, queueAt, CountsIn};
+ghost use Rattle.engine.specs.Layout.{slotSize, theQueue};
 ghost use Rattle.engine.specs.Holding.{HoldsSome};
 ghost use Rattle.install.specs.Table.{redPlace, InTable, Indexed, Turned};
+ghost use Rattle.engine.specs.Counts.{queueCount, greenCount, place, CountsIn};
 use crate::swapping::green_at;
 use queue::finding::has_id;
 use queue::places::queue_place;
@@ -30,7 +30,7 @@ pub fn entry(creator: u8, index: u16) -> usize
 // The same for the action at the place k of the queue.
 pub fn entry_at(state: &[u8], k: usize) -> usize
     requires { ⌜ HoldsSome (now state) × CountsIn (now state) × (k < queueCount (now state)) ⌝ }
-    ensures { λ r. ⌜ (r ≡ slot (idAt (now (state .entry)) (queueAt (now (state .entry)) + slotSize * k))) × (r < 2048) ⌝ }
+    ensures { λ r. ⌜ (r ≡ slot (idAt (now (state .entry)) (place theQueue (now (state .entry)) + slotSize * k))) × (r < 2048) ⌝ }
 {
     let at = queue_place(state) + State::SLOT * k;
     entry(num8(state, at), num16(state, at + 1))

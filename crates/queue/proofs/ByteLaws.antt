@@ -1,11 +1,11 @@
 -- The changes of the bytes, as the code makes them.
 -- Assumes nothing.
-use Prim.Native.Nat.{ℕ, _+_, _*_, _-_, _≤_, _<_}
-use mathlib.Core.Path.{_≡_, refl, sym, ap, ap₂, _∙_}
+use Prim.Native.Nat.{ℕ, _+_, _*_, _-_, _≤_}
+use mathlib.Core.Path.{_≡_, sym, ap, ap₂, _∙_}
 use mathlib.Core.List.{List, _++_}
 use native.Mathlib.Omega.{arith}
 use native.Mathlib.Nat.{add-zero}
-use lib.ListN.{length, take, drop, length-append, length-take, length-drop}
+use lib.ListN.{length, take, drop, length-append, length-drop}
 use lib.Seq.{drop-at, drop-drop, length-take-le, take-add, take-take}
 use Rattle.base.specs.Bytes.{bytesOf, numberAt, partAt}
 use Rattle.base.proofs.BytesLaws.{part-length}
@@ -15,11 +15,12 @@ use Rattle.base.proofs.Sections.{patched-inside}
 use Rattle.format.specs.Write.{actionBytes}
 use Rattle.record.specs.declared.ActionHead.{ActionHead}
 use Rattle.record.specs.Values.{idOf, actionOf}
-use Rattle.engine.specs.Layout.{slotSize, headerSize, atQueueLength, atGreenLength, atOwnCount}
+use Rattle.engine.specs.Layout.{slotSize, headerSize, atQueueLength, atGreenLength, atOwnCount, theQueue}
 use Rattle.engine.specs.Image.{slot}
-use Rattle.queue.specs.Queue.{queueAt, appended, queued, popped, promoted}
+use Rattle.queue.specs.Queue.{appended, queued, popped, promoted}
+use Rattle.engine.specs.Counts.{place}
 
-pub appended-made : (h : ActionHead) (p s s₁ s₂ : List ℕ) (count r : ℕ) → count ≡ numberAt 4 s atQueueLength → r ≡ queueAt s
+pub appended-made : (h : ActionHead) (p s s₁ s₂ : List ℕ) (count r : ℕ) → count ≡ numberAt 4 s atQueueLength → r ≡ place theQueue s
     → s₁ ≡ patched (r + slotSize * count) (slot slotSize (actionBytes (actionOf h p))) s → s₂ ≡ patched atQueueLength (bytesOf 4 (count + 1)) s₁
     → s₂ ≡ appended (actionOf h p) s
 unfolding appended

@@ -1,46 +1,35 @@
 -- An action is entered in the buffer.
 -- Assumes nothing.
-use Prim.Native.Nat.{ℕ, zero, suc, _+_, _*_, _-_, _≤_, _<_}
-use mathlib.Core.Path.{_≡_, refl, sym, ap, ap₂, subst, _∙_}
+use Prim.Native.Nat.{ℕ, _+_, _*_, _-_, _<_}
+use mathlib.Core.Path.{_≡_, sym, ap, ap₂, _∙_}
 use mathlib.Core.Bool.{true, false}
-use mathlib.Core.List.{List, [], _∷_, _++_, append-assoc, map}
+use mathlib.Core.List.{List, [], _∷_, _++_, append-assoc}
 use native.Mathlib.Omega.{arith}
-use lib.ListN.{length, getD, take, drop, set, length-append}
-use lib.Seq.{take-at, drop-at, take-take}
-use Rattle.base.specs.Bytes.{bytesOf, numberAt, partAt, joined}
+use lib.ListN.{length, set, length-append}
+use Rattle.base.specs.Bytes.{bytesOf, joined}
 use Rattle.base.proofs.BytesLaws.{bytes-length}
 use Rattle.base.specs.Lists.{sum, above, Each}
-use Rattle.base.proofs.ListLaws.{each-always, each-map, above-next}
+use Rattle.base.proofs.ListLaws.{each-always, each-map}
 use Rattle.base.specs.Patched.{patched}
 use Rattle.base.specs.Tests.{pick}
-use Rattle.base.proofs.Sections.{Sized, Laid, sized-set, laid-part}
+use Rattle.base.proofs.Sections.{sized-set}
 use Rattle.format.specs.Types.{Id, Action}
 use Rattle.format.specs.Range.{sameId}
 use Rattle.format.specs.Write.{cutsBytes, actionBytes}
 use Rattle.format.proofs.Lengths.{cuts-length}
 use Rattle.replication.specs.Machine.Types.{Log, Server, withLog}
-use Rattle.replication.specs.Machine.Colours.{cut, remove, isNext, enter}
-use Rattle.replication.specs.Machine.WellFormed.{idsIn, queue}
+use Rattle.replication.specs.Machine.Colours.{cut, remove, enter}
+use Rattle.replication.specs.Machine.WellFormed.{queue}
 use Rattle.replication.specs.Machine.WellFormedFacts.{OwnListFits}
-use Rattle.replication.proofs.Step.Logs.{next-index}
 use Rattle.replication.proofs.WellFormed.Ids.{same-id-yes, same-id-no}
 use Rattle.replication.proofs.WellFormed.Held.{remove-absent}
-use Rattle.replication.proofs.WellFormed.Logs.{ownId, enter-fits}
-use Rattle.replication.specs.Laws.RuleFits.{Delivered}
-use Rattle.engine.specs.Layout.{slotSize, theHeader, theCuts, theOwn, theQueue, sections, offset, atQueueLength, atOwnCount}
-use Rattle.engine.specs.Image.{over, slot, headerBytes, actionSlots, section, parts, image, fields}
-use Rattle.engine.proofs.InRange.{in-range}
-use Rattle.engine.proofs.Used.{ActionFits, action-slot-length, action-slots-length, slots-append}
-use Rattle.engine.proofs.Fit.{SectionsFit, well-formed-fits}
-use Rattle.engine.specs.Holding.{Holds}
-use Rattle.engine.proofs.InPlace.{holds-section}
-use Rattle.record.specs.declared.ActionHead.{ActionHead}
-use Rattle.record.specs.Values.{idOf, actionOf}
-use Rattle.queue.specs.Queue.{appended, queued, popped, CountsIn, RoomFor}
-use Rattle.queue.proofs.Inside.{Changed, changed-at, over-extended, over-changed, over-front}
+use Rattle.replication.proofs.WellFormed.Logs.{ownId}
+use Rattle.engine.specs.Layout.{slotSize, atQueueLength, atOwnCount}
+use Rattle.engine.specs.Image.{over, slot, headerBytes, actionSlots, fields}
+use Rattle.engine.proofs.Used.{ActionFits, action-slots-length, slots-append}
+use Rattle.queue.proofs.Inside.{over-extended, over-changed}
 use Rattle.engine.proofs.Fields.{fieldSizes, header-fields, fields-sized, field-changed, theQueueCount, theOwnCount}
-use Rattle.queue.proofs.SlotLaws.{slots-one, slots-cons, cut-set}
-use Rattle.queue.proofs.Holding.{log-formed, log-fits, Numbers, numbers, holds-counts, holds-changed, log-image}
+use Rattle.queue.proofs.SlotLaws.{slots-one, cut-set}
 
 -- ---- the header
 

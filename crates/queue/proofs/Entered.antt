@@ -1,11 +1,11 @@
 -- The buffer after an action was entered is the image of the new state.
 -- Assumes nothing.
-use Prim.Native.Nat.{ℕ, zero, suc, _+_, _*_, _-_, _≤_, _<_}
+use Prim.Native.Nat.{ℕ, suc, _+_, _*_, _-_, _≤_, _<_}
 use mathlib.Core.Path.{_≡_, refl, sym, ap, ap₂, subst, _∙_}
-use mathlib.Core.Bool.{true, false}
-use mathlib.Core.List.{List, [], _∷_, _++_, map}
+use mathlib.Core.Bool.{true}
+use mathlib.Core.List.{List, [], _∷_, map}
 use native.Mathlib.Omega.{arith}
-use lib.ListN.{length, getD, take, drop, set}
+use lib.ListN.{length, take, drop}
 use lib.Seq.{take-at, drop-at, take-take}
 use Rattle.base.specs.Bytes.{bytesOf, numberAt, partAt}
 use Rattle.base.proofs.BytesLaws.{bytes-length}
@@ -15,8 +15,7 @@ use Rattle.base.specs.Patched.{patched}
 use Rattle.base.proofs.Sections.{laid-part}
 use Rattle.format.specs.Types.{Id, Action}
 use Rattle.format.specs.Write.{cutsBytes, idsBytes, actionBytes}
-use Rattle.format.proofs.Ranges.{PayloadRange}
-use Rattle.replication.specs.Machine.Types.{Log, Server, withLog}
+use Rattle.replication.specs.Machine.Types.{Server, withLog}
 use Rattle.replication.specs.Machine.Colours.{cut, remove, isNext, enter}
 use Rattle.replication.specs.Machine.WellFormed.{idsIn, queue, wellFormed}
 use Rattle.replication.proofs.Step.Logs.{next-index}
@@ -31,11 +30,13 @@ use Rattle.engine.specs.Holding.{Holds}
 use Rattle.engine.proofs.InPlace.{holds-section}
 use Rattle.record.specs.declared.ActionHead.{ActionHead}
 use Rattle.record.specs.Values.{idOf, actionOf}
-use Rattle.queue.specs.Queue.{ownAt, appended, queued, popped, RoomFor}
+use Rattle.queue.specs.Queue.{appended, queued, popped, RoomFor}
 use Rattle.queue.proofs.Inside.{Changed, changed-at, over-front}
 use Rattle.queue.proofs.SlotLaws.{slots-cons}
-use Rattle.queue.proofs.Holding.{log-formed, log-fits, Numbers, numbers, holds-counts, holds-changed, log-image}
+use Rattle.queue.proofs.Holding.{log-formed, log-fits, holds-changed, log-image}
 use Rattle.queue.proofs.EnterLaws.{one-more, header-entered, header-left, queue-entered, cuts-entered, others-stay, first-leaves}
+use Rattle.engine.specs.Counts.{place}
+use Rattle.engine.proofs.Counts.{numbers, holds-counts, holds-place}
 
 -- The used part in front.
 over-take : (y l : List ℕ) (m : ℕ) → length y ≡ m → take m (over y l) ≡ y
@@ -90,7 +91,7 @@ module _ (s : Server) (a : Action) (b : List ℕ) (r : Holds s b) (d : Delivered
       λ i.
       patched (headerSize + 2 * a .id .creator) (bytesOf 2 (a .id .index))
       (patched atQueueLength (bytesOf 4 (m .queue i + 1))
-      (patched (offset (m .servers i) (m .quota i) theQueue + slotSize * m .queue i) (slot slotSize (actionBytes a)) b))
+      (patched (holds-place s b r theQueue i + slotSize * m .queue i) (slot slotSize (actionBytes a)) b))
 
   queued-changed : Changed (sections (s .servers) (s .quota))
       (patched atQueueLength (bytesOf 4 (length (queue (s .log)) + 1)) (headerBytes s)
@@ -188,7 +189,7 @@ module _ (h : ActionHead) (p b : List ℕ) where
       go [] g = entered-other s (actionOf h p) b r d next (ap (remove (actionOf h p .id)) g ∙ nothing-leaves (actionOf h p .id) ∙ sym g)
       go (x ∷ rest) g = absurd (omega (arith, numbers s b r .own, ap length g))
 
-  pub enter-own : (me own at : ℕ) (c₁ c₂ : List ℕ) → me ≡ numberAt 1 b atMe → own ≡ numberAt 2 b atOwnCount → at ≡ ownAt b → (h .creator ≡ me) → (own ≡ 0 → ⊥)
+  pub enter-own : (me own at : ℕ) (c₁ c₂ : List ℕ) → me ≡ numberAt 1 b atMe → own ≡ numberAt 2 b atOwnCount → at ≡ place theOwn b → (h .creator ≡ me) → (own ≡ 0 → ⊥)
       → c₁ ≡ queued (actionOf h p) b → c₂ ≡ popped at own c₁
       → (s : Server) → Holds s b → Delivered s (actionOf h p) → isNext (s .log) (actionOf h p) ≡ true → c₂ ≡ image (withLog (enter (actionOf h p) (s .log)) s) b
   unfolding actionOf idOf
@@ -201,5 +202,5 @@ module _ (h : ActionHead) (p b : List ℕ) where
           let first : x .id ≡ actionOf h p .id = first-own s (actionOf h p) b r d next x rest q (m ∙ e ∙ i .me) in
           g
           ∙ ap (popped at own) f
-          ∙ (λ j. popped ((k ∙ ap₂ {A = ℕ} {B = ℕ} {C = ℕ} (λ u v. offset u v theOwn) (i .servers) (i .quota)) j) ((o ∙ i .own) j) (queued (actionOf h p) b))
+          ∙ (λ j. popped ((k ∙ holds-place s b r theOwn) j) ((o ∙ i .own) j) (queued (actionOf h p) b))
           ∙ entered-own s (actionOf h p) b r d next x rest q (ap (remove (actionOf h p .id)) q ∙ first-leaves (actionOf h p .id) x rest first)

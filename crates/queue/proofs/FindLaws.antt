@@ -3,32 +3,15 @@
 use Prim.Native.Nat.{ℕ, suc, _+_, _*_, _-_, _≤_, _<_}
 use mathlib.Core.Path.{_≡_, refl, sym, ap, _∙_}
 use mathlib.Core.Bool.{Bool, true, false}
-use mathlib.Core.List.{List, [], _∷_}
+use mathlib.Core.List.{List, _∷_}
 use native.Mathlib.Omega.{arith}
-use lib.Dec.{eqb}
-use Rattle.base.specs.Tests.{_=?_}
-use Rattle.base.proofs.TestLaws.{pick-yes, pick-no, and-eq, and-ne}
-use Rattle.base.proofs.Branches.{told-eq}
-use Rattle.base.specs.Bytes.{numberAt}
-use Rattle.format.specs.Types.{Id, Action}
+use Rattle.base.proofs.TestLaws.{pick-yes, pick-no}
+use Rattle.format.specs.Types.{Id}
 use Rattle.format.specs.Range.{sameId}
 use Rattle.format.specs.Read.{idAt, actionAt}
-use Rattle.record.specs.Values.{idOf}
 use Rattle.engine.specs.Layout.{slotSize}
 use Rattle.engine.specs.Decode.{actionsAt}
 use Rattle.queue.specs.Queue.{position}
-
--- ---- one slot
-
-pub other-creator : (c i x at : ℕ) (e : List ℕ) → x ≡ numberAt 1 e at → (c ≡ x → ⊥) → false ≡ sameId (idOf c i) (idAt e at)
-unfolding sameId idOf idAt
-other-creator c i x at e f n = and-ne c (numberAt 1 e at) _ (λ g. n (g ∙ sym f))
-
-pub same-creator : (c i x y at : ℕ) (e : List ℕ) → x ≡ numberAt 1 e at → c ≡ x → y ≡ numberAt 2 e (at + 1) → eqb i y ≡ sameId (idOf c i) (idAt e at)
-unfolding sameId idOf idAt
-same-creator c i x y at e f g h = and-eq c (numberAt 1 e at) _ _ (g ∙ f) (told-eq i y ∙ ap (λ (m : ℕ). i =? m) h)
-
--- ---- all slots
 
 more : (d : Id) (e : List ℕ) (at k m : ℕ) → k < m
     → actionsAt (m - k) e (at + slotSize * k) ≡ actionAt e (at + slotSize * k) ∷ actionsAt (m - (k + 1)) e (at + slotSize * (k + 1))

@@ -21,7 +21,7 @@ use Rattle.replication.proofs.WellFormed.Held.{Greened, unmoved, moved, greened
 use Rattle.replication.proofs.WellFormed.Logs.{red-fits, green-id-fits}
 use Rattle.replication.specs.Laws.RuleFits.{Delivered}
 use Rattle.engine.specs.Layout.{slotSize, stateLength}
-use Rattle.engine.specs.Image.{over, actionSlots, image}
+use Rattle.engine.specs.Image.{actionSlots, image}
 use Rattle.engine.proofs.Used.{action-slots-length}
 use Rattle.engine.proofs.Fit.{well-formed-fits}
 use Rattle.engine.proofs.Again.{covering-over, image-twice}
@@ -29,10 +29,12 @@ use Rattle.engine.specs.Holding.{Holds, HoldsSuch}
 use Rattle.engine.proofs.InPlace.{image-holds}
 use Rattle.record.specs.declared.ActionHead.{ActionHead}
 use Rattle.record.specs.Values.{idOf, actionOf}
-use Rattle.queue.specs.Queue.{position, CountsIn, RoomIfNext}
+use Rattle.queue.specs.Queue.{position, RoomIfNext}
 use Rattle.queue.proofs.Positions.{position-found, position-none}
-use Rattle.queue.proofs.Holding.{log-formed, log-fits, holds-counts}
+use Rattle.queue.proofs.Holding.{log-formed, log-fits}
 use Rattle.queue.proofs.RedLaws.{room-if-next}
+use Rattle.engine.specs.Counts.{CountsIn}
+use Rattle.engine.proofs.Counts.{holds-counts}
 
 -- The image of a state with longer lists over that of another.
 pub log-image-over : (s : Server) (l m : Log) (b : List ℕ) → wellFormed (withLog l s) ≡ true → stateLength (s .servers) (s .quota) ≤ length b

@@ -2,16 +2,16 @@
 -- Assumes nothing.
 use Prim.Native.Nat.{ℕ, _+_, _-_, _≤_, _<_}
 use mathlib.Core.Path.{_≡_, refl, sym, ap, _∙_}
-use mathlib.Core.List.{List, [], _∷_, _++_, append-assoc}
+use mathlib.Core.List.{List, [], _++_, append-assoc}
 use native.Mathlib.Omega.{arith}
 use native.Mathlib.Nat.{zero-add}
-use lib.ListN.{length, getD, take, drop, set, length-append, length-drop}
+use lib.ListN.{length, getD, take, drop, set, length-append}
 use lib.Seq.{take-at, drop-at, drop-drop}
-use Rattle.base.specs.Bytes.{partAt, joined}
+use Rattle.base.specs.Bytes.{joined}
 use Rattle.base.specs.Lists.{sum}
 use Rattle.base.specs.Patched.{patched}
 use Rattle.base.proofs.PatchedLaws.{patched-length}
-use Rattle.base.proofs.Sections.{Sized, Laid, begin, begin-end, sized-at, sized-length, sized-patched, laid-part, laid-set, laid-rest, patched-front, patched-inside}
+use Rattle.base.proofs.Sections.{Laid, begin, begin-end, sized-at, sized-length, laid-part, laid-set, laid-rest, patched-front, patched-inside}
 use Rattle.engine.specs.Image.{over}
 
 -- b is laid out in these parts, and behind them it is what `old` is.

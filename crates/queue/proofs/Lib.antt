@@ -1,6 +1,5 @@
 pub mod Inside
 pub mod SlotLaws
-pub mod PlaceLaws
 pub mod MoveLaws
 pub mod FindLaws
 pub mod ByteLaws

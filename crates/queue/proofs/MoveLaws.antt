@@ -6,7 +6,7 @@ use mathlib.Core.List.{List, _∷_, _++_, append-nil}
 use native.Mathlib.Omega.{arith}
 use native.Mathlib.Numerals.{add-one}
 use native.Mathlib.Nat.{add-suc, add-zero, zero-add}
-use lib.ListN.{length, getD, take, drop, set, length-take, length-drop, List·getD-append, drop-of-length-le}
+use lib.ListN.{length, getD, take, drop, set, length-take, length-drop, List·getD-append, drop-of-length-le, replicate}
 use lib.Seq.{drop-at, take-length, take-suc, drop-cons, set-at, getD-take, getD-drop, getD-append-add, append-snoc, length-take-le, take-all}
 use Rattle.base.specs.Bytes.{partAt}
 use Rattle.base.specs.Patched.{patched}
@@ -17,6 +17,8 @@ use Rattle.record.specs.declared.ActionHead.{ActionHead}
 use Rattle.record.specs.Values.{actionOf}
 use Rattle.engine.specs.Layout.{slotSize}
 use Rattle.engine.specs.Image.{zeros, slot}
+use Rattle.format.specs.Limits.{mostPayload}
+use Rattle.format.specs.Places.{actionHeadSize}
 
 -- ---- down
 
@@ -97,13 +99,13 @@ to-front s x s₁ s₂ h e f g =
 
 -- ---- a slot written
 
-pub slot-put : (h : ActionHead) (p s s₁ s₂ : List ℕ) (at : ℕ) → length p ≤ 48 → at + slotSize ≤ length s → s₁ ≡ patched at (actionBytes (actionOf h p)) s
-    → s₂ ≡ patched (at + (8 + length p)) (zeros (48 - length p)) s₁ → s₂ ≡ patched at (slot slotSize (actionBytes (actionOf h p))) s
-unfolding slot actionOf
+pub slot-put : (h : ActionHead) (p s s₁ s₂ : List ℕ) (at : ℕ) → length p ≤ mostPayload → at + slotSize ≤ length s → s₁ ≡ patched at (actionBytes (actionOf h p)) s
+    → s₂ ≡ patched (at + (actionHeadSize + length p)) (replicate {A = ℕ} (mostPayload - length p) 0) s₁ → s₂ ≡ patched at (slot slotSize (actionBytes (actionOf h p))) s
+unfolding slot zeros actionOf
 slot-put h p s s₁ s₂ at l r e f =
     let y : List ℕ = actionBytes (actionOf h p) in
-    let size : length y ≡ 8 + length p = action-length (actionOf h p) in
-    let left : 48 - length p ≡ slotSize - length y = omega arith in
+    let size : length y ≡ actionHeadSize + length p = action-length (actionOf h p) in
+    let left : mostPayload - length p ≡ slotSize - length y = omega arith in
     f ∙ ap₂ {A = ℕ} {B = ℕ} {C = List ℕ} (λ k m. patched (at + k) (zeros m) s₁) (sym size) left
     ∙ ap (patched (at + length y) (zeros (slotSize - length y))) e
     ∙ patched-next at y (zeros (slotSize - length y)) s (omega arith)

@@ -11,7 +11,6 @@ use Rattle.base.specs.Tests.{pick}
 use Rattle.base.proofs.TestLaws.{pick-yes, pick-no, Known, holds, fails, known}
 use Rattle.format.specs.Types.{Id, Action}
 use Rattle.format.specs.Range.{sameId}
-use Rattle.format.specs.Read.{actionAt}
 use Rattle.replication.specs.Machine.Colours.{find, remove}
 use Rattle.replication.proofs.WellFormed.Ids.{same-id-holds}
 use Rattle.engine.specs.Layout.{slotSize}

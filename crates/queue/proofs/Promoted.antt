@@ -1,12 +1,11 @@
 -- The buffer after an action turned green is the image of the new state.
 -- Assumes nothing.
-use Prim.Native.Nat.{ℕ, zero, suc, _+_, _*_, _-_, _≤_, _<_}
+use Prim.Native.Nat.{ℕ, _+_, _*_, _-_, _≤_, _<_}
 use mathlib.Core.Path.{_≡_, refl, sym, ap, ap₂, subst, _∙_}
-use mathlib.Core.Bool.{true}
 use mathlib.Core.List.{List, [], _∷_, _++_, append-assoc}
-use mathlib.Core.Option.{Option, none, some}
+use mathlib.Core.Option.{Option, none}
 use native.Mathlib.Omega.{arith}
-use lib.ListN.{length, getD, take, drop, set, length-append}
+use lib.ListN.{length, drop, set, length-append}
 use lib.Seq.{take-at, drop-at}
 use Rattle.base.specs.Bytes.{bytesOf, numberAt, partAt, joined}
 use Rattle.base.proofs.BytesLaws.{bytes-length}
@@ -14,30 +13,29 @@ use Rattle.base.specs.Lists.{sum, Each}
 use Rattle.base.proofs.ListLaws.{each-first, each-second}
 use Rattle.base.proofs.Occurs.{Occurs, occurs-first, occurs-second}
 use Rattle.base.specs.Patched.{patched}
-use Rattle.base.proofs.Sections.{laid-part}
 use Rattle.format.specs.Types.{Id, Action}
 use Rattle.format.specs.Write.{actionBytes}
-use Rattle.replication.specs.Machine.Types.{Log, Server, withLog}
+use Rattle.replication.specs.Machine.Types.{Server, withLog}
 use Rattle.replication.specs.Machine.Colours.{find, remove, promote, promoteFound, greenId}
-use Rattle.replication.specs.Machine.WellFormed.{queue, wellFormed}
-use Rattle.replication.proofs.WellFormed.Logs.{LogFits, green-id-fits}
+use Rattle.replication.specs.Machine.WellFormed.{queue}
 use Rattle.engine.specs.Layout.{slotSize, theHeader, theQueue, sections, offset, atQueueLength, atGreenLength}
 use Rattle.engine.specs.Image.{over, slot, headerBytes, actionSlots, section, parts, image, fields}
-use Rattle.engine.specs.Decode.{actionsAt, decodedAs, serversIn, quotaIn, decoded}
+use Rattle.engine.specs.Decode.{actionsAt, decodedAs, decoded}
 use Rattle.engine.proofs.InRange.{in-range}
 use Rattle.engine.proofs.Used.{ActionFits, action-slot-length, action-slots-length, slots-append}
-use Rattle.engine.proofs.Fit.{well-formed-fits, section-length}
+use Rattle.engine.proofs.Fit.{well-formed-fits}
 use Rattle.engine.proofs.Slots.{actions-count}
 use Rattle.engine.proofs.Decoded.{image-part}
 use Rattle.engine.specs.Holding.{Holds}
-use Rattle.engine.proofs.InPlace.{holds-section, holds-decoded}
-use Rattle.record.specs.Values.{idOf}
-use Rattle.queue.specs.Queue.{position, queueAt, redsIn, promoted}
-use Rattle.queue.proofs.Inside.{Changed, changed-at, over-changed}
-use Rattle.engine.proofs.Fields.{fieldSizes, header-fields, fields-sized, field-changed, theGreenCount, theQueueCount}
+use Rattle.engine.proofs.InPlace.{holds-decoded}
+use Rattle.queue.specs.Queue.{position, redsIn, promoted}
+use Rattle.queue.proofs.Inside.{changed-at, over-changed}
+use Rattle.engine.proofs.Fields.{header-fields, fields-sized, field-changed, theGreenCount, theQueueCount}
 use Rattle.queue.proofs.SlotLaws.{slots-one, slots-cons}
 use Rattle.queue.proofs.Positions.{Stands, position-found, position-none, actions-drop}
-use Rattle.queue.proofs.Holding.{log-formed, log-fits, Numbers, numbers, holds-counts, holds-changed, log-image}
+use Rattle.queue.proofs.Holding.{holds-changed, log-image}
+use Rattle.engine.specs.Counts.{place}
+use Rattle.engine.proofs.Counts.{numbers, holds-counts, holds-place}
 
 -- ---- lists
 
@@ -186,20 +184,20 @@ module _ (s : Server) (b : List ℕ) (r : Holds s b) (d : Id) (k : ℕ) (k-th : 
 
 -- ---- as the code makes it
 
-pub reds-made : (b : List ℕ) (d : Id) (count green at k : ℕ) → count ≡ numberAt 4 b atQueueLength - numberAt 4 b atGreenLength → green ≡ numberAt 4 b atGreenLength → at ≡ queueAt b
+pub reds-made : (b : List ℕ) (d : Id) (count green at k : ℕ) → count ≡ numberAt 4 b atQueueLength - numberAt 4 b atGreenLength → green ≡ numberAt 4 b atGreenLength → at ≡ place theQueue b
     → k ≡ position d (actionsAt count b (at + slotSize * green)) → k ≡ position d (redsIn b)
 unfolding redsIn
 reds-made b d count green at k e f g j = j ∙ (λ i. position d (actionsAt (e i) b (g i + slotSize * f i)))
 
 -- The red actions, as they are read from the buffer.
 pub reds-read : (s : Server) (b : List ℕ) → Holds s b → redsIn b ≡ s .log .red
-unfolding redsIn decoded decodedAs serversIn quotaIn
+unfolding redsIn decoded decodedAs place
 reds-read s b r =
-    sym (actions-drop (numberAt 4 b atGreenLength) (numberAt 4 b atQueueLength) b (queueAt b) (holds-counts s b r .green)) ∙ ap (λ (t : Server). t .log .red) (holds-decoded s b r)
+    sym (actions-drop (numberAt 4 b atGreenLength) (numberAt 4 b atQueueLength) b (place theQueue b) (holds-counts s b r .green)) ∙ ap (λ (t : Server). t .log .red) (holds-decoded s b r)
 
 reds-counted : (s : Server) (b : List ℕ) → Holds s b → length (s .log .red) ≡ numberAt 4 b atQueueLength - numberAt 4 b atGreenLength
 unfolding redsIn
-reds-counted s b r = ap length (sym (reds-read s b r)) ∙ actions-count (numberAt 4 b atQueueLength - numberAt 4 b atGreenLength) b (queueAt b + slotSize * numberAt 4 b atGreenLength)
+reds-counted s b r = ap length (sym (reds-read s b r)) ∙ actions-count (numberAt 4 b atQueueLength - numberAt 4 b atGreenLength) b (place theQueue b + slotSize * numberAt 4 b atGreenLength)
 
 module _ (b : List ℕ) (d : Id) (k count : ℕ) (j : k ≡ position d (redsIn b)) (e : count ≡ numberAt 4 b atQueueLength - numberAt 4 b atGreenLength) where
   position-known : (s : Server) → Holds s b → k ≡ position d (s .log .red)
@@ -214,14 +212,14 @@ module _ (b : List ℕ) (d : Id) (k count : ℕ) (j : k ≡ position d (redsIn b
       let absent : find d (s .log .red) ≡ none = position-none d (s .log .red) (omega (arith, position-known s r, counted s r)) in
       sym (rw absent (r .written))
 
-  pub green-taken : (green at : ℕ) (c : List ℕ) → green ≡ numberAt 4 b atGreenLength → at ≡ queueAt b → k < count → c ≡ promoted (at + slotSize * green) k (green + 1) b
+  pub green-taken : (green at : ℕ) (c : List ℕ) → green ≡ numberAt 4 b atGreenLength → at ≡ place theQueue b → k < count → c ≡ promoted (at + slotSize * green) k (green + 1) b
       → (s : Server) → Holds s b → c ≡ image (withLog (greenId d (s .log)) s) b
   unfolding greenId promoteFound
   green-taken green at c f g h n s r =
       let p = position-known s r in
       let x = position-found d (s .log .red) (omega (arith, counted s r)) in
       let i = numbers s b r in
-      let there : at ≡ offset (s .servers) (s .quota) theQueue = g ∙ ap₂ {A = ℕ} {B = ℕ} {C = ℕ} (λ u v. offset u v theQueue) (i .servers) (i .quota) in
+      let there : at ≡ offset (s .servers) (s .quota) theQueue = g ∙ holds-place s b r theQueue in
       let greens : green ≡ length (s .log .green) = f ∙ i .green in
       n
       ∙ (λ t. promoted (there t + slotSize * greens t) (p t) (greens t + 1) b)

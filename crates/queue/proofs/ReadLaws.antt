@@ -2,12 +2,11 @@
 -- Assumes nothing.
 use Prim.Native.Nat.{ℕ, zero, suc, _+_, _*_, _<_}
 use mathlib.Core.Path.{_≡_, refl, sym, ap, ap₂, _∙_}
-use mathlib.Core.Bool.{true, false}
 use mathlib.Core.List.{List, [], _∷_, _++_}
-use mathlib.Core.Option.{Option, none, some}
+use mathlib.Core.Option.{some}
 use native.Mathlib.Omega.{arith}
 use native.Mathlib.Nat.{add-assoc}
-use lib.ListN.{take, drop, take-append-drop}
+use lib.ListN.{take-append-drop}
 use Rattle.base.specs.Bytes.{numberAt}
 use Rattle.base.specs.Lists.{at}
 use Rattle.base.specs.Tests.{pick}
@@ -20,23 +19,24 @@ use Rattle.record.specs.Values.{idOf, actionOf}
 use Rattle.replication.specs.Machine.Types.{Server}
 use Rattle.replication.specs.Machine.Colours.{find}
 use Rattle.replication.specs.Machine.WellFormed.{queue}
-use Rattle.engine.specs.Layout.{slotSize, atGreenLength}
-use Rattle.engine.specs.Decode.{actionsAt, decodedAs, serversIn, quotaIn, decoded}
+use Rattle.engine.specs.Layout.{slotSize, atGreenLength, theQueue, theOwn}
+use Rattle.engine.specs.Decode.{actionsAt, decodedAs, decoded}
 use Rattle.engine.specs.Holding.{Holds}
 use Rattle.engine.proofs.InPlace.{holds-decoded}
-use Rattle.queue.specs.Queue.{position, queueCount, queueAt, ownCount, ownAt}
+use Rattle.queue.specs.Queue.{position}
+use Rattle.engine.specs.Counts.{queueCount, place, ownCount}
 
 -- ---- the lists
 
-pub queue-read : (s : Server) (b : List ℕ) → Holds s b → actionsAt (queueCount b) b (queueAt b) ≡ queue (s .log)
-unfolding queue decoded decodedAs serversIn quotaIn
+pub queue-read : (s : Server) (b : List ℕ) → Holds s b → actionsAt (queueCount b) b (place theQueue b) ≡ queue (s .log)
+unfolding queue decoded decodedAs place
 queue-read s b r =
     let e = holds-decoded s b r in
-    sym (take-append-drop (numberAt 4 b atGreenLength) (actionsAt (queueCount b) b (queueAt b)))
+    sym (take-append-drop (numberAt 4 b atGreenLength) (actionsAt (queueCount b) b (place theQueue b)))
     ∙ ap₂ {A = List Action} {B = List Action} {C = List Action} (λ x y. x ++ y) (ap (λ (t : Server). t .log .green) e) (ap (λ (t : Server). t .log .red) e)
 
-pub own-read : (s : Server) (b : List ℕ) → Holds s b → actionsAt (ownCount b) b (ownAt b) ≡ s .log .own
-unfolding decoded decodedAs serversIn quotaIn
+pub own-read : (s : Server) (b : List ℕ) → Holds s b → actionsAt (ownCount b) b (place theOwn b) ≡ s .log .own
+unfolding decoded decodedAs place
 own-read s b r = ap (λ (t : Server). t .log .own) (holds-decoded s b r)
 
 -- ---- one slot
@@ -54,17 +54,17 @@ pub slot-read : (b : List ℕ) (p : ℕ) → actionFrom (actionIn b p) b ≡ act
 unfolding actionFrom actionOf actionIn actionAt idAt payloadAt idOf
 slot-read b p = rw (add-assoc p 7 1)
 
-pub queue-slot : (s : Server) (b : List ℕ) (k : ℕ) → Holds s b → k < queueCount b → at (queue (s .log)) k ≡ some (actionFrom (actionIn b (queueAt b + slotSize * k)) b)
+pub queue-slot : (s : Server) (b : List ℕ) (k : ℕ) → Holds s b → k < queueCount b → at (queue (s .log)) k ≡ some (actionFrom (actionIn b (place theQueue b + slotSize * k)) b)
 queue-slot s b k r h =
     ap (λ (l : List Action). at l k) (sym (queue-read s b r))
-    ∙ actions-at (queueCount b) b (queueAt b) k h
-    ∙ ap some (sym (slot-read b (queueAt b + slotSize * k)))
+    ∙ actions-at (queueCount b) b (place theQueue b) k h
+    ∙ ap some (sym (slot-read b (place theQueue b + slotSize * k)))
 
-pub own-slot : (s : Server) (b : List ℕ) (k : ℕ) → Holds s b → k < ownCount b → at (s .log .own) k ≡ some (actionFrom (actionIn b (ownAt b + slotSize * k)) b)
+pub own-slot : (s : Server) (b : List ℕ) (k : ℕ) → Holds s b → k < ownCount b → at (s .log .own) k ≡ some (actionFrom (actionIn b (place theOwn b + slotSize * k)) b)
 own-slot s b k r h =
     ap (λ (l : List Action). at l k) (sym (own-read s b r))
-    ∙ actions-at (ownCount b) b (ownAt b) k h
-    ∙ ap some (sym (slot-read b (ownAt b + slotSize * k)))
+    ∙ actions-at (ownCount b) b (place theOwn b) k h
+    ∙ ap some (sym (slot-read b (place theOwn b + slotSize * k)))
 
 -- ---- by id
 

@@ -23,8 +23,8 @@ use Rattle.engine.proofs.InPlace.{holds-decoded}
 use Rattle.record.specs.declared.ActionHead.{ActionHead}
 use Rattle.record.specs.Values.{idOf, actionOf}
 use Rattle.queue.specs.Queue.{RoomFor, RoomIfNext}
-use Rattle.queue.proofs.Holding.{numbers, holds-counts}
 use Rattle.queue.proofs.Entered.{room-for}
+use Rattle.engine.proofs.Counts.{numbers, holds-counts}
 
 pub cut-read : (s : Server) (b : List ℕ) (c : ℕ) → Holds s b → c < s .servers → numberAt 2 b (headerSize + 2 * c) ≡ cut (s .log) c
 unfolding cut decoded decodedAs serversIn quotaIn offset sections sum

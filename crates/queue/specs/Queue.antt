@@ -3,80 +3,47 @@
 use Prim.Native.Nat.{ℕ, suc, _+_, _*_, _-_, _≤_, _<_}
 use mathlib.Core.Path.{_≡_}
 use mathlib.Core.List.{List, [], _∷_, _++_}
-use lib.ListN.{length, drop}
+use lib.ListN.{drop}
 use Rattle.base.specs.Tests.{pick}
 use Rattle.base.specs.Bytes.{bytesOf, numberAt, partAt}
 use Rattle.base.specs.Patched.{patched}
-use Rattle.format.specs.Limits.{mostServers, mostQuota, mostPayload}
+use Rattle.format.specs.Limits.{mostPayload}
 use Rattle.format.specs.Types.{Id, Action}
 use Rattle.format.specs.Range.{sameId}
 use Rattle.format.specs.Write.{actionBytes}
-use Rattle.engine.specs.Layout.{SizesIn, headerSize, slotSize, theOwn, theQueue, offset, atServers, atQuota, atQueueLength, atGreenLength, atOwnCount}
+use Rattle.engine.specs.Layout.{headerSize, slotSize, theQueue, atQueueLength, atGreenLength, atOwnCount}
 use Rattle.engine.specs.Image.{slot}
-use Rattle.engine.specs.Decode.{actionsAt}
+use Rattle.engine.specs.Decode.{actionsAt, serversIn}
+use Rattle.engine.specs.Counts.{queueCount, greenCount, place, mostActions, CountsIn}
 
 -- How many actions stand before the first with the id d: all where there is none.
 unfoldable pub position : Id → List Action → ℕ
 position d [] = 0
 position d (a ∷ l) = pick (sameId d (a .id)) 0 (suc (position d l))
 
--- ---- the numbers of the buffer b
-
-abbrev pub serversOf : List ℕ → ℕ
-serversOf b = numberAt 1 b atServers
-
-abbrev pub quotaOf : List ℕ → ℕ
-quotaOf b = numberAt 2 b atQuota
-
-abbrev pub queueCount : List ℕ → ℕ
-queueCount b = numberAt 4 b atQueueLength
-
-abbrev pub greenCount : List ℕ → ℕ
-greenCount b = numberAt 4 b atGreenLength
-
-abbrev pub ownCount : List ℕ → ℕ
-ownCount b = numberAt 2 b atOwnCount
-
-abbrev pub queueAt : List ℕ → ℕ
-queueAt b = offset (serversOf b) (quotaOf b) theQueue
-
-abbrev pub ownAt : List ℕ → ℕ
-ownAt b = offset (serversOf b) (quotaOf b) theOwn
-
 -- The red actions: those behind the green ones.
 unfoldable pub redsIn : List ℕ → List Action
-redsIn b = actionsAt (queueCount b - greenCount b) b (queueAt b + slotSize * greenCount b)
-
--- The numbers are in range, and the sections lie inside the buffer.
-pub record CountsIn (b : List ℕ) : Type 0 where
-  pub sizes : SizesIn (serversOf b) (quotaOf b)
-  pub cuts : headerSize + 2 * serversOf b ≤ length b
-  pub ownEnd : ownAt b + slotSize * quotaOf b ≤ length b
-  pub queueEnd : queueAt b + slotSize * (serversOf b * quotaOf b) ≤ length b
-  pub most : serversOf b * quotaOf b ≤ mostServers * mostQuota
-  pub queue : queueCount b ≤ serversOf b * quotaOf b
-  pub green : greenCount b ≤ queueCount b
-  pub own : ownCount b ≤ quotaOf b
+redsIn b = actionsAt (queueCount b - greenCount b) b (place theQueue b + slotSize * greenCount b)
 
 -- Room for one action more, of the creator c and with m bytes of payload.
 pub record RoomFor (c m : ℕ) (b : List ℕ) : Type 0 where
   pub counts : CountsIn b
-  pub creator : c < serversOf b
+  pub creator : c < serversIn b
   pub short : m ≤ mostPayload
-  pub room : queueCount b < serversOf b * quotaOf b
+  pub room : queueCount b < mostActions b
 
 -- The same, as far as the action's index i is the next of its creator.
 pub record RoomIfNext (c i m : ℕ) (b : List ℕ) : Type 0 where
   pub counts : CountsIn b
-  pub creator : c < serversOf b
+  pub creator : c < serversIn b
   pub short : m ≤ mostPayload
-  pub room : numberAt 2 b (headerSize + 2 * c) + 1 ≡ i → queueCount b < serversOf b * quotaOf b
+  pub room : numberAt 2 b (headerSize + 2 * c) + 1 ≡ i → queueCount b < mostActions b
 
 -- ---- changes of the bytes b
 
 -- The action a behind the last one of the queue.
 unfoldable pub appended : Action → List ℕ → List ℕ
-appended a b = patched atQueueLength (bytesOf 4 (queueCount b + 1)) (patched (queueAt b + slotSize * queueCount b) (slot slotSize (actionBytes a)) b)
+appended a b = patched atQueueLength (bytesOf 4 (queueCount b + 1)) (patched (place theQueue b + slotSize * queueCount b) (slot slotSize (actionBytes a)) b)
 
 -- The same, and its creator's cut.
 unfoldable pub queued : Action → List ℕ → List ℕ

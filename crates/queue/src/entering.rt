@@ -1,7 +1,7 @@
 // An action is entered: it joins the queue's red part, its creator's cut rises, and an own action leaves the own list.
 ghost use mathlib.Core.Path.{_≡_};
 ghost use mathlib.Core.Bool.{true};
-ghost use Prim.Native.Nat.{_+_, _*_, _≤_, _<_};
+ghost use Prim.Native.Nat.{_+_, _*_, _≤_};
 ghost use lib.ListN.{length};
 ghost use Rattle.record.specs.Values.{actionOf};
 ghost use Rattle.replication.specs.Machine.Types.{Server, withLog};
@@ -11,10 +11,11 @@ ghost use Rattle.engine.specs.Layout.{slotSize, headerSize};
 ghost use Rattle.engine.specs.Image.{image};
 ghost use Rattle.engine.specs.Holding.{Holds, BecomesWhere};
 ghost use Rattle.queue.specs.Queue.{RoomFor, RoomIfNext, appended, queued, popped};
-use crate::places::own_place;
-use crate::places::queue_place;
 use crate::slots::put_slot;
 use crate::slots::shift_down;
+use engine::places::THE_OWN;
+use engine::places::THE_QUEUE;
+use engine::places::place_of;
 use record::ActionHead;
 use record::State;
 use record::bytes::num8;
@@ -29,7 +30,7 @@ fn append(state: &mut [u8], head: ActionHead, payload: &[u8])
     ensures { λ _. ⌜ now (state .exit) ≡ appended (actionOf head (now (payload .entry))) (now (state .entry)) ⌝ }
 {
     let count = num32(state, State::AT_QUEUE_LENGTH);
-    let at = queue_place(state) + State::SLOT * count as usize;
+    let at = place_of(state, THE_QUEUE) + State::SLOT * count as usize;
     put_slot(state, at, head, payload);
     put32(state, State::AT_QUEUE_LENGTH, count + 1);
 }
@@ -61,7 +62,7 @@ pub fn enter(state: &mut [u8], head: ActionHead, payload: &[u8])
 {
     let me = num8(state, State::AT_ME);
     let own = num16(state, State::AT_OWN_COUNT);
-    let at = own_place(state);
+    let at = place_of(state, THE_OWN);
     let creator = head.creator;
     enqueue(state, head, payload);
     if creator != me {

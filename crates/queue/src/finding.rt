@@ -2,26 +2,12 @@
 ghost use mathlib.Core.Path.{_≡_};
 ghost use Prim.Native.Nat.{_+_, _*_, _≤_};
 ghost use lib.ListN.{length};
-ghost use Rattle.format.specs.Range.{sameId};
-ghost use Rattle.format.specs.Read.{idAt};
 ghost use Rattle.record.specs.Values.{idOf};
 ghost use Rattle.engine.specs.Layout.{slotSize};
 ghost use Rattle.engine.specs.Decode.{actionsAt};
 ghost use Rattle.queue.specs.Queue.{position};
 use record::State;
-use record::bytes::num8;
-use record::bytes::num16;
-
-// Whether the slot from `at` on is that of this id.
-pub fn has_id(state: &[u8], at: usize, creator: u8, index: u16) -> bool
-    requires { ⌜ at + slotSize ≤ length (now state) ⌝ }
-    ensures { λ r. ⌜ r ≡ sameId (idOf creator index) (idAt (now (state .entry)) at) ⌝ }
-{
-    if creator != num8(state, at) {
-        return false;
-    }
-    index == num16(state, at + 1)
-}
+use record::parts::is_id;
 
 // How many of the `count` slots from `at` on come before the first with this id: all where there is none.
 pub fn find(state: &[u8], at: usize, count: usize, creator: u8, index: u16) -> usize
@@ -30,7 +16,7 @@ pub fn find(state: &[u8], at: usize, count: usize, creator: u8, index: u16) -> u
 {
     let mut k: usize = 0;
     while k < count {
-        if has_id(state, at + State::SLOT * k, creator, index) {
+        if is_id(state, at + State::SLOT * k, creator, index) {
             return k;
         }
         k += 1;

@@ -8,11 +8,13 @@ ghost use Rattle.replication.specs.Machine.Colours.{greenId, green as greened};
 ghost use Rattle.replication.specs.Laws.RuleFits.{Delivered};
 ghost use Rattle.engine.specs.Layout.{slotSize, headerSize};
 ghost use Rattle.engine.specs.Holding.{HoldsSuch, Becomes, BecomesWhere};
-ghost use Rattle.queue.specs.Queue.{position, queueCount, greenCount, redsIn, CountsIn, promoted};
+ghost use Rattle.queue.specs.Queue.{position, redsIn, promoted};
+ghost use Rattle.engine.specs.Counts.{queueCount, greenCount, CountsIn};
 use crate::entering::red;
 use crate::finding::find;
-use crate::places::queue_place;
 use crate::slots::last_to_front;
+use engine::places::THE_QUEUE;
+use engine::places::place_of;
 use record::ActionHead;
 use record::State;
 use record::bytes::num32;
@@ -45,7 +47,7 @@ fn red_place(state: &[u8], creator: u8, index: u16) -> usize
     let green = num32(state, State::AT_GREEN_LENGTH);
     find(
         state,
-        queue_place(state) + State::SLOT * green as usize,
+        place_of(state, THE_QUEUE) + State::SLOT * green as usize,
         reds,
         creator,
         index,
@@ -64,7 +66,7 @@ pub fn green_id(state: &mut [u8], creator: u8, index: u16)
     let green = num32(state, State::AT_GREEN_LENGTH);
     promote(
         state,
-        queue_place(state) + State::SLOT * green as usize,
+        place_of(state, THE_QUEUE) + State::SLOT * green as usize,
         k,
         green,
     );

@@ -1,6 +1,5 @@
 // Actions in a state's buffer: the queue and the own list, changed in place.
 
-pub mod places; // places.rt: where the sections of actions begin
 pub mod slots; // slots.rt: one slot written, and slots moved
 pub mod finding; // finding.rt: an action by its id
 pub mod entering; // entering.rt: an action is entered

@@ -10,9 +10,9 @@ ghost use Rattle.format.specs.Write.{actionBytes};
 ghost use Rattle.record.specs.Values.{actionOf};
 ghost use Rattle.engine.specs.Layout.{slotSize};
 ghost use Rattle.engine.specs.Image.{slot};
-use engine::starting::clear;
 use record::ActionHead;
 use record::State;
+use record::blocks::clear;
 use record::blocks::copy;
 use record::parts::put_body;
 
@@ -24,7 +24,7 @@ pub fn put_slot(state: &mut [u8], at: usize, head: ActionHead, payload: &[u8])
     put_body(state, at, head, payload);
     clear(
         state,
-        at + (8 + payload.len()),
+        at + (ActionHead::SIZE + payload.len()),
         State::MOST_PAYLOAD - payload.len(),
     );
 }

@@ -19,3 +19,5 @@ pub mod WriterRoundTrip
 pub mod Callers
 pub mod PartLaws
 pub mod SetCode
+pub mod IdLaws
+pub mod Zeros

@@ -1,9 +1,9 @@
 // The blocks of bytes that records are made of, each stored from a place on.
 ghost use mathlib.Core.Path.{_≡_};
 ghost use mathlib.Core.List.{_++_};
-ghost use Prim.Native.Nat.{_+_, _≤_};
-ghost use lib.ListN.{length};
-ghost use Rattle.base.specs.Bytes.{bytesOf, bytesOfAll};
+ghost use Prim.Native.Nat.{ℕ, _+_, _≤_};
+ghost use lib.ListN.{length, replicate};
+ghost use Rattle.base.specs.Bytes.{bytesOf, bytesOfAll, partAt};
 ghost use Rattle.base.specs.Lists.{sum};
 ghost use Rattle.base.specs.Patched.{patched};
 ghost use Rattle.format.specs.Places.{primarySize, markSize, yellowHeadSize};
@@ -45,6 +45,7 @@ pub fn put_numbers(out: &mut [u8], at: usize, widths: [u8; 12], numbers: [u32; 1
     place
 }
 
+// The bytes `src` from `at` on.
 pub fn copy(out: &mut [u8], at: usize, src: &[u8])
     requires { ⌜ at + length (now src) ≤ length (now out) ⌝ }
     ensures { λ _. ⌜ now (out .exit) ≡ patched at (now (src .entry)) (now (out .entry)) ⌝ }
@@ -52,6 +53,30 @@ pub fn copy(out: &mut [u8], at: usize, src: &[u8])
     let mut j: usize = 0;
     while j < src.len() {
         out[at + j] = src[j];
+        j += 1;
+    }
+}
+
+// Copies the `count` bytes from `from` on, which lie in front of `to`, to `to`.
+pub fn copy_up(out: &mut [u8], from: usize, to: usize, count: usize)
+    requires { ⌜ (from + count ≤ to) × (to + count ≤ length (now out)) ⌝ }
+    ensures { λ _. ⌜ now (out .exit) ≡ patched to (partAt count (now (out .entry)) from) (now (out .entry)) ⌝ }
+{
+    let mut j: usize = 0;
+    while j < count {
+        out[to + j] = out[from + j];
+        j += 1;
+    }
+}
+
+// Zeros for `count` bytes from `at` on.
+pub fn clear(out: &mut [u8], at: usize, count: usize)
+    requires { ⌜ at + count ≤ length (now out) ⌝ }
+    ensures { λ _. ⌜ now (out .exit) ≡ patched at (replicate {A = ℕ} count 0) (now (out .entry)) ⌝ }
+{
+    let mut j: usize = 0;
+    while j < count {
+        out[at + j] = 0;
         j += 1;
     }
 }

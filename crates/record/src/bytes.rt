@@ -28,7 +28,7 @@ pub fn num16(e: &[u8], at: usize) -> u16
     wide(high) * 256 + wide(low)
 }
 
-fn wider(b: u16) -> u32
+pub fn wider(b: u16) -> u32
     ensures { λ r. ⌜ (r ≡ b) × (r < 65536) ⌝ }
 {
     b as u32

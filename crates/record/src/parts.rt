@@ -1,16 +1,20 @@
-// Numbers, ids, payloads and actions, each written from a place on.
+// Numbers, ids, payloads and actions at a place: written, and an id compared.
 ghost use mathlib.Core.Path.{_≡_};
 ghost use Prim.Native.Nat.{_+_, _≤_};
 ghost use lib.ListN.{length};
 ghost use Rattle.base.specs.Bytes.{bytesOf};
 ghost use Rattle.base.specs.Patched.{patched};
 ghost use Rattle.format.specs.Places.{idSize, actionPayloadAt, actionHeadSize};
+ghost use Rattle.format.specs.Range.{sameId};
+ghost use Rattle.format.specs.Read.{idAt};
 ghost use Rattle.format.specs.Write.{idBytes, payloadBytes, actionBytes};
 ghost use Rattle.record.specs.Values.{idOf, actionOf};
 ghost use Rattle.record.specs.Blocks.{headBytes};
 use crate::ActionHead;
 use crate::blocks::copy;
 use crate::blocks::put_number;
+use crate::bytes::num8;
+use crate::bytes::num16;
 
 // A number of one byte; put16 and put32: of two and of four.
 pub fn put8(out: &mut [u8], at: usize, v: u8)
@@ -40,6 +44,17 @@ pub fn put_id(out: &mut [u8], at: usize, creator: u8, index: u16)
 {
     put8(out, at, creator);
     put16(out, at + ActionHead::INDEX, index);
+}
+
+// Whether the id at `at` is this one.
+pub fn is_id(e: &[u8], at: usize, creator: u8, index: u16) -> bool
+    requires { ⌜ at + idSize ≤ length (now e) ⌝ }
+    ensures { λ r. ⌜ r ≡ sameId (idOf creator index) (idAt (now (e .entry)) at) ⌝ }
+{
+    if creator != num8(e, at) {
+        return false;
+    }
+    index == num16(e, at + ActionHead::INDEX)
 }
 
 pub fn put_payload(out: &mut [u8], at: usize, payload: &[u8])

@@ -34,10 +34,11 @@ use Rattle.queue.specs.Queue.{RoomFor}
 use Rattle.queue.proofs.Holding.{log-formed, log-fits}
 use Rattle.queue.proofs.Entered.{entered-formed, room-for}
 use Rattle.queue.proofs.RedLaws.{cut-read, room-if-next}
-use Rattle.updates.specs.Lists.{CountsIn, NumberIn}
-use Rattle.updates.proofs.Counts.{holds-servers, holds-counts}
+use Rattle.updates.specs.Lists.{NumberIn}
 use Rattle.engine.proofs.Chained.{Covers, chained, then-holds}
 use Rattle.engine.specs.Layout.{headerSize}
+use Rattle.engine.specs.Counts.{CountsIn}
+use Rattle.engine.proofs.Counts.{numbers, holds-counts}
 
 -- ---- well-formed states on the way
 
@@ -87,7 +88,7 @@ module _ (h : ActionHead) (p b : List ℕ) where
   note-room c m f =
       let t : Server = withLog (green (actionOf h p) (m .state .log)) (m .state) in
       let r : Holds t c = green-holds c f (m .state) (m .holds) (m .fact) in
-      record { counts = holds-counts t c r; below = rw (holds-servers t c r) (m .fact .fits .id .creator) }
+      record { counts = holds-counts t c r; below = rw (numbers t c r .servers) (m .fact .fits .id .creator) }
 
   pub green-noted : (c e : List ℕ) → HoldsSuch (λ s. Delivered s (actionOf h p)) b
       → ((s : Server) → Holds s b → Delivered s (actionOf h p) → c ≡ image (withLog (green (actionOf h p) (s .log)) s) b)

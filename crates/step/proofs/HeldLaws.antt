@@ -37,18 +37,19 @@ use Rattle.engine.specs.Holding.{Holds}
 use Rattle.engine.proofs.InPlace.{holds-decoded}
 use Rattle.engine.proofs.Used.{held-slot-length, over-length}
 use Rattle.queue.proofs.Inside.{over-extended}
-use Rattle.updates.specs.Lists.{heldCount, place}
-use Rattle.updates.proofs.Counts.{header-room, numbered-few, held-few, holds-place, holds-held-count}
+use Rattle.updates.proofs.Counts.{header-room, numbered-few, held-few}
 use Rattle.step.specs.Answers.{LentSuch, recordBytes}
 use Rattle.step.specs.Sending.{heldPlace, heldHead, heldAction, heldBytes, HeldRoom}
 use Rattle.step.proofs.LentLaws.{lent-counts, lent-header, holds-products, holds-part, put-room, put-done, one-record}
 use Rattle.format.specs.Places.{mostAction}
+use Rattle.engine.specs.Counts.{heldCount, place}
+use Rattle.engine.proofs.Counts.{holds-place, numbers}
 
 -- ---- the request k
 
 pub place-made : (b : List ℕ) (at k : ℕ) → at ≡ place theHeld b → at + (heldSize * numberAt 2 b atHeldCount + heldSize) ≤ length b → k < heldCount b
     → (at + heldSize * k ≡ heldPlace b k) × (at + heldSize * k + heldSize ≤ length b)
-unfolding heldPlace heldCount
+unfolding heldPlace
 place-made b at k e h l = (ap (λ (m : ℕ). m + heldSize * k) e, omega arith)
 
 pub head-made : (b : List ℕ) (k x y z : ℕ) → x ≡ numberAt 1 b atMe → y ≡ numberAt 2 b atNumbered → z ≡ numberAt 4 b atGreenLength
@@ -57,7 +58,6 @@ unfolding heldHead
 head-made b k x y z e f g = λ i. record { creator = e i; index = f i + k + 1; «green_length» = g i }
 
 pub head-ready : (k at : ℕ) (b o : List ℕ) → HeldRoom k at b o → (numberAt 2 b atNumbered ≤ 256) × (headerSize ≤ length b) × (k ≤ 16)
-unfolding heldCount
 head-ready k at b o h = (numbered-few b (h .counts), header-room b (h .counts), omega (arith, h .below, held-few b (h .counts)))
 
 module _ (k at i n : ℕ) (b o : List ℕ) (h : HeldRoom k at b o) (e : i ≡ heldPlace b k) (d : n ≡ numberAt 1 b i) where
@@ -166,7 +166,7 @@ module _ (s : Server) (b : List ℕ) (r : Holds s b) where
   held-short k h =
       rw (holds-place s b r theHeld)
       (slots-short (s .held) b _ k (well-formed-fits s (r .formed) .held)
-      (occurs-first (heldSlots (s .held)) _ b _ (holds-part s b r theHeld (omega arith))) (omega (arith, holds-held-count s b r)))
+      (occurs-first (heldSlots (s .held)) _ b _ (holds-part s b r theHeld (omega arith))) (omega (arith, numbers s b r .held)))
 
   action-most : (k : ℕ) → k < heldCount b → length (write (action (heldAction b k))) ≤ mostAction
   unfolding heldAction lengthOf actionOf payloadAt partAt
@@ -187,10 +187,10 @@ module _ (s : Server) (b : List ℕ) (r : Holds s b) where
 
   held-quota : mostAction * heldCount b ≤ outLength (s .servers) (s .quota)
   unfolding outLength
-  held-quota = omega (arith, holds-held-count s b r, body s (well-formed-facts s (r .formed)) .quota-kept, holds-products s b r .quota)
+  held-quota = omega (arith, numbers s b r .held, body s (well-formed-facts s (r .formed)) .quota-kept, holds-products s b r .quota)
 
   bytes-sent : heldBytes b (heldCount b) ≡ recordBytes (heldRecords s)
-  unfolding heldBytes heldRecords madeOf decoded decodedAs heldCount place headerIn headerOf
+  unfolding heldBytes heldRecords madeOf decoded decodedAs place headerIn headerOf
   bytes-sent =
       let h : headerIn b ≡ headerOf s = header-loaded s b r in
       let l : heldAt (heldCount b) b (place theHeld b) ≡ s .held = ap (λ (x : Server). x .held) (holds-decoded s b r) in
@@ -210,7 +210,7 @@ pub count-ready : (P : Server → Type 0) (b o : List ℕ) → LentSuch P b o �
 count-ready P b o h = omega (arith, lent-header P b o h)
 
 pub sent-none : (b o : List ℕ) (count : ℕ) → count ≡ numberAt 2 b atHeldCount → HeldSent b o count o 0 0
-unfolding heldCount heldBytes recordBytes numberedFrom heldAt joined over
+unfolding heldBytes recordBytes numberedFrom heldAt joined over
 sent-none b o count e = record { counted = e; below = omega arith; placed = refl; filled = refl; long = refl }
 
 module _ (b o₀ : List ℕ) (count : ℕ) (o : List ℕ) (at k : ℕ) (h : LentSuch (λ s. 0 ≤ 0) b o₀) (v : HeldSent b o₀ count o at k) where
@@ -252,7 +252,7 @@ module _ (b o₀ : List ℕ) (count : ℕ) (o : List ℕ) (at k : ℕ) (h : Lent
         v .counted,
         bytes-most (h .state) b (h .holds) k (omega (arith, v .below, v .counted)),
         well-formed-fits (h .state) (h .holds .formed) .heldCount,
-        holds-held-count (h .state) b (h .holds),
+        numbers (h .state) b (h .holds) .held,
       )
 
   pub sent-all : count ≤ k → (s : Server) → Holds s b → (at ≡ length (recordBytes (heldRecords s))) × (o ≡ over (recordBytes (heldRecords s)) o₀)

@@ -36,14 +36,15 @@ use Rattle.engine.proofs.HeaderLaws.{header-loaded}
 use Rattle.engine.proofs.InRange.{InRange, in-range}
 use Rattle.engine.specs.Holding.{Holds}
 use Rattle.queue.proofs.Inside.{over-front}
-use Rattle.updates.specs.Lists.{configurationOf, place}
-use Rattle.updates.proofs.Counts.{holds-place}
+use Rattle.updates.specs.Lists.{configurationOf}
 use Rattle.step.specs.declared.Answer.{Answer}
 use Rattle.step.specs.Answers.{answered, outcomeOn, LentSuch, storedFirst, recordBytes}
 use Rattle.step.specs.Sending.{ownHead, ownRecord}
 use Rattle.step.proofs.LentFacts.{lent-room}
 use Rattle.step.proofs.LentLaws.{holds-products, holds-part, put-room, put-done, one-record}
 use Rattle.step.proofs.OutcomeLaws.{stored-outcome}
+use Rattle.engine.specs.Counts.{place}
+use Rattle.engine.proofs.Counts.{holds-place}
 
 pub numbers-taken : (b : List ℕ) (id : ℕ) (h : declared.State) (g : StateHead) → h ≡ headerIn b → g ≡ ownHead h id → g ≡ ownHead (headerIn b) id
 numbers-taken b id h g e f = f ∙ ap (λ (x : declared.State). ownHead x id) e

@@ -24,9 +24,10 @@ use Rattle.engine.specs.Image.{parts}
 use Rattle.engine.proofs.Decoded.{image-part}
 use Rattle.engine.proofs.Fit.{well-formed-fits}
 use Rattle.engine.specs.Holding.{Holds}
-use Rattle.updates.specs.Lists.{CountsIn}
-use Rattle.updates.proofs.Counts.{holds-counts, header-room}
+use Rattle.updates.proofs.Counts.{header-room}
 use Rattle.step.specs.Answers.{LentSuch, recordBytes}
+use Rattle.engine.specs.Counts.{CountsIn}
+use Rattle.engine.proofs.Counts.{holds-counts}
 
 module _ (P : Server → Type 0) (b o : List ℕ) (h : LentSuch P b o) where
   pub lent-counts : CountsIn b

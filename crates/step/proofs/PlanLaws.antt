@@ -39,17 +39,17 @@ use Rattle.engine.specs.Holding.{Holds}
 use Rattle.engine.proofs.InPlace.{holds-decoded}
 use Rattle.engine.proofs.InRange.{in-range}
 use Rattle.engine.proofs.Used.{action-slot-length}
-use Rattle.queue.specs.Queue.{serversOf, quotaOf, queueCount, queueAt}
-use Rattle.queue.proofs.Holding.{numbers, holds-counts}
 use Rattle.queue.proofs.ReadLaws.{queue-read, actions-at}
 use Rattle.step.specs.Answers.{LentSuch, recordBytes}
 use Rattle.exchange.specs.Decided.{partOf}
 use Rattle.exchange.specs.declared.decided.Part.{Part}
 use Rattle.install.specs.Table.{InTable}
-use Rattle.step.specs.Resending.{queueIn, greensIn, mostActions, slotPlace, QueueIn, atPosition, asRed, Sends, Stated, greenPart}
+use Rattle.step.specs.Resending.{queueIn, greensIn, slotPlace, QueueIn, atPosition, asRed, Sends, Stated, greenPart}
 use Rattle.step.specs.Resending.{redPart, redParts, wholePart}
 use Rattle.step.proofs.ResendingLaws.{sends-none, sends-next}
 use Rattle.format.specs.Places.{mostRetransmission}
+use Rattle.engine.specs.Counts.{queueCount, place, mostActions}
+use Rattle.engine.proofs.Counts.{numbers, holds-counts}
 
 -- ---- a buffer that holds a state
 
@@ -71,22 +71,22 @@ slot-payload c (a ∷ l) e p (suc k) s r o h =
     subst (λ (m : ℕ). numberAt 1 e m ≤ 48) there rest
 
 module _ (s : Server) (b : List ℕ) (r : Holds s b) where
-  slots-there : Occurs (actionSlots (queue (s .log))) b (queueAt b)
+  slots-there : Occurs (actionSlots (queue (s .log))) b (place theQueue b)
   unfolding parts over
   slots-there =
       let m = numbers s b r in
       let o = image-part s (well-formed-fits s (r .formed)) b (r .long) theQueue (omega arith) in
       let u = occurs-first (actionSlots (queue (s .log))) _ (image s b) (offset (s .servers) (s .quota) theQueue) o in
-      subst (λ (c : List ℕ). Occurs (actionSlots (queue (s .log))) c (queueAt b)) (r .written)
+      subst (λ (c : List ℕ). Occurs (actionSlots (queue (s .log))) c (place theQueue b)) (r .written)
       (subst (Occurs (actionSlots (queue (s .log))) (image s b)) (λ i. offset (sym (m .servers) i) (sym (m .quota) i) theQueue) u)
 
   ids-in : (k : ℕ) → k < queueCount b → InTable (numberAt 1 b (slotPlace b k)) (numberAt 2 b (slotPlace b k + 1))
   unfolding slotPlace actionAt idAt contextOf
   ids-in k h =
-      let there : at (queue (s .log)) k ≡ some (actionAt b (queueAt b + slotSize * k)) =
-      ap (λ (l : List Action). at l k) (sym (queue-read s b r)) ∙ actions-at (queueCount b) b (queueAt b) k h in
+      let there : at (queue (s .log)) k ≡ some (actionAt b (place theQueue b + slotSize * k)) =
+      ap (λ (l : List Action). at l k) (sym (queue-read s b r)) ∙ actions-at (queueCount b) b (place theQueue b) k h in
       let i = in-range s (r .formed) in
-      let z = each-at (ActionRange (contextOf s)) (queue (s .log)) k (actionAt b (queueAt b + slotSize * k)) (i .actions) there .id in
+      let z = each-at (ActionRange (contextOf s)) (queue (s .log)) k (actionAt b (place theQueue b + slotSize * k)) (i .actions) there .id in
       record {
         creator = omega (arith, z .creator, i .context .sizes .most);
         least = omega (arith, z .least);
@@ -101,7 +101,7 @@ module _ (s : Server) (b : List ℕ) (r : Holds s b) where
         counts = holds-counts s b r;
         ids = ids-in;
         payloads = λ k h.
-            slot-payload (contextOf s) (queue (s .log)) b (queueAt b) k (i .context) (i .actions) slots-there
+            slot-payload (contextOf s) (queue (s .log)) b (place theQueue b) k (i .context) (i .actions) slots-there
             (omega (arith, numbers s b r .queue));
       }
 
@@ -123,11 +123,11 @@ module _ (b : List ℕ) (s : Stated b) where
 
   green-high : highest greenIn (collected (decoded b)) ≤ mostActions b
   unfolding decoded decodedAs serversIn quotaIn
-  green-high = green-bound (serversOf b) (quotaOf b) (collected (decoded b)) (collected-fit (decoded b) facts)
+  green-high = green-bound (serversIn b) (quotaIn b) (collected (decoded b)) (collected-fit (decoded b) facts)
 
-  cut-high : (c : ℕ) → highest (cutIn c) (collected (decoded b)) ≤ quotaOf b
+  cut-high : (c : ℕ) → highest (cutIn c) (collected (decoded b)) ≤ quotaIn b
   unfolding decoded decodedAs serversIn quotaIn
-  cut-high c = cut-bound (serversOf b) (quotaOf b) c (collected (decoded b)) (collected-fit (decoded b) facts)
+  cut-high c = cut-bound (serversIn b) (quotaIn b) c (collected (decoded b)) (collected-fit (decoded b) facts)
 
 module _ (b : List ℕ) (x : Part) (s : Stated b) (e : (t : Server) → Holds t b → x ≡ partOf greenIn (t .me) (collected t)) where
   greens : x ≡ partOf greenIn (decoded b .me) (collected (decoded b))
@@ -160,31 +160,31 @@ module _ (b : List ℕ) (x : Part) (s : Stated b) (e : (t : Server) → Holds t 
       (more-asked (x .high - x .low) (mostActions b) 0 r _ o o₁ (omega (arith, greens-most)) a)
 
 module _ (b : List ℕ) (c : ℕ) (x : Part) (s : Stated b)
-    (e : (t : Server) → Holds t b → c < t .servers → x ≡ partOf (cutIn c) (t .me) (collected t)) (h : c < serversOf b) where
+    (e : (t : Server) → Holds t b → c < t .servers → x ≡ partOf (cutIn c) (t .me) (collected t)) (h : c < serversIn b) where
   reds : x ≡ partOf (cutIn c) (decoded b .me) (collected (decoded b))
   unfolding decoded decodedAs serversIn quotaIn
   reds = e (decoded b) (s .holds) h
 
-  reds-most : x .high ≤ quotaOf b
+  reds-most : x .high ≤ quotaIn b
   unfolding partOf
   reds-most = omega (arith, ap (λ (y : Part). y .high) reds, cut-high b s c)
 
   held : decoded b .log .green ++ decoded b .log .red ≡ queueIn b
   unfolding queueIn decoded decodedAs serversIn quotaIn
-  held = take-append-drop (numberAt 4 b atGreenLength) (actionsAt (queueCount b) b (queueAt b))
+  held = take-append-drop (numberAt 4 b atGreenLength) (actionsAt (queueCount b) b (place theQueue b))
 
   red-is : (me : ℕ) → me ≡ numberAt 1 b atMe → pick (x .mine) (gather (asRed me (queueIn b) c) (above (x .low) (x .high))) [] ≡ redPart b c
   unfolding redPart resendRed missing partOf asRed idOf decoded decodedAs serversIn quotaIn
   red-is me m =
       (λ i. pick (reds i .mine) (gather (asRed (m i) (sym held i) c) (above (reds i .low) (reds i .high))) [])
 
-  pub red-none : (me i : ℕ) (o : List ℕ) → me ≡ numberAt 1 b atMe → not (x .mine) ≡ true → Sends (quotaOf b) (redPart b c) i o o i
+  pub red-none : (me i : ℕ) (o : List ℕ) → me ≡ numberAt 1 b atMe → not (x .mine) ≡ true → Sends (quotaIn b) (redPart b c) i o o i
   red-none me i o m t =
-      same-sent (quotaOf b) i i [] (redPart b c) o o
+      same-sent (quotaIn b) i i [] (redPart b c) o o
       (pick-no (x .mine) [] (gather (asRed me (queueIn b) c) (above (x .low) (x .high))) [] (not-true (x .mine) t) refl ∙ red-is me m)
       (sends-none _ i o)
 
-  pub red-room : (i : ℕ) (o : List ℕ) → i + mostRetransmission * quotaOf b ≤ length o → i + mostRetransmission * (x .high - x .low) ≤ length o
+  pub red-room : (i : ℕ) (o : List ℕ) → i + mostRetransmission * quotaIn b ≤ length o → i + mostRetransmission * (x .high - x .low) ≤ length o
   red-room i o l = omega (arith, reds-most)
 
   pub red-high : x .high ≤ 256
@@ -192,11 +192,11 @@ module _ (b : List ℕ) (c : ℕ) (x : Part) (s : Stated b)
 
   pub red-sent : (me i r : ℕ) (o o₁ : List ℕ) → me ≡ numberAt 1 b atMe → not (x .mine) ≡ false
       → Sends (x .high - x .low) (gather (asRed me (queueIn b) c) (above (x .low) (x .high))) i o o₁ r
-      → Sends (quotaOf b) (redPart b c) i o o₁ r
+      → Sends (quotaIn b) (redPart b c) i o o₁ r
   red-sent me i r o o₁ m t a =
-      same-sent (quotaOf b) i r _ (redPart b c) o o₁
+      same-sent (quotaIn b) i r _ (redPart b c) o o₁
       (pick-yes (x .mine) _ (gather (asRed me (queueIn b) c) (above (x .low) (x .high))) [] (not-false (x .mine) t) refl ∙ red-is me m)
-      (more-asked (x .high - x .low) (quotaOf b) i r _ o o₁ (omega (arith, reds-most)) a)
+      (more-asked (x .high - x .low) (quotaIn b) i r _ o o₁ (omega (arith, reds-most)) a)
 
 -- ---- every creator
 
@@ -208,10 +208,10 @@ rows : (c n q : ℕ) → c < n → (c + 1) * q ≤ n * q
 rows c n q h = mul-le-mul-right q (omega arith)
 
 pub reds-room : (b : List ℕ) (c n q i j : ℕ) (o o₁ : List ℕ) → n ≡ numberAt 1 b atServers → c < n → i + mostRetransmission * mostActions b ≤ length o
-    → Sends (c * quotaOf b) (redParts b c) i o o₁ j → j + mostRetransmission * quotaOf b ≤ length o₁
+    → Sends (c * quotaIn b) (redParts b c) i o o₁ j → j + mostRetransmission * quotaIn b ≤ length o₁
 reds-room b c n q i j o o₁ e h l a =
-    let m : (c + 1) * quotaOf b ≤ mostActions b = rows c (serversOf b) (quotaOf b) (omega arith) in
-    let k : (c + 1) * quotaOf b ≡ c * quotaOf b + quotaOf b = omega arith in
+    let m : (c + 1) * quotaIn b ≤ mostActions b = rows c (serversIn b) (quotaIn b) (omega arith) in
+    let k : (c + 1) * quotaIn b ≡ c * quotaIn b + quotaIn b = omega arith in
     omega (arith, a .most, a .size)
 
 below-more : (m : ℕ) → below m ++ (m ∷ []) ≡ below (m + 1)
@@ -219,32 +219,32 @@ unfolding below
 below-more m = let e : m + 1 ≡ suc m = omega arith in ap below (sym e)
 
 pub reds-again : (b : List ℕ) (c i j r : ℕ) (o o₁ o₂ : List ℕ) → i + mostRetransmission * mostActions b ≤ length o
-    → Sends (c * quotaOf b) (redParts b c) i o o₁ j → Sends (quotaOf b) (redPart b c) j o₁ o₂ r → Sends ((c + 1) * quotaOf b) (redParts b (c + 1)) i o o₂ r
+    → Sends (c * quotaIn b) (redParts b c) i o o₁ j → Sends (quotaIn b) (redPart b c) j o₁ o₂ r → Sends ((c + 1) * quotaIn b) (redParts b (c + 1)) i o o₂ r
 unfolding redParts gatherAll
 reds-again b c i j r o o₁ o₂ l a d =
-    let k : c * quotaOf b + quotaOf b ≡ (c + 1) * quotaOf b = omega arith in
+    let k : c * quotaIn b + quotaIn b ≡ (c + 1) * quotaIn b = omega arith in
     let f : redParts b c ++ redPart b c ≡ redParts b (c + 1) =
     ap (λ (y : List Record). redParts b c ++ y) (sym (append-nil (redPart b c)))
     ∙ sym (gather-all-append (redPart b) (below c) (c ∷ []))
     ∙ ap (λ (y : List ℕ). gatherAll (redPart b) y) (below-more c) in
     subst (λ (m : ℕ). Sends m (redParts b (c + 1)) i o o₂ r) k
-    (same-sent (c * quotaOf b + quotaOf b) i r (redParts b c ++ redPart b c) (redParts b (c + 1)) o o₂ f
-    (sends-next (c * quotaOf b) (quotaOf b) i j r (redParts b c) (redPart b c) o o₁ o₂ (omega arith) a d))
+    (same-sent (c * quotaIn b + quotaIn b) i r (redParts b c ++ redPart b c) (redParts b (c + 1)) o o₂ f
+    (sends-next (c * quotaIn b) (quotaIn b) i j r (redParts b c) (redPart b c) o o₁ o₂ (omega arith) a d))
 
-pub reds-end : (b : List ℕ) (c n i r : ℕ) (o o₁ : List ℕ) → n ≡ numberAt 1 b atServers → c ≤ n → n ≤ c → Sends (c * quotaOf b) (redParts b c) i o o₁ r
-    → Sends (mostActions b) (redParts b (serversOf b)) i o o₁ r
-reds-end b c n i r o o₁ e h l a = subst (λ (m : ℕ). Sends (m * quotaOf b) (redParts b m) i o o₁ r) (omega arith) a
+pub reds-end : (b : List ℕ) (c n i r : ℕ) (o o₁ : List ℕ) → n ≡ numberAt 1 b atServers → c ≤ n → n ≤ c → Sends (c * quotaIn b) (redParts b c) i o o₁ r
+    → Sends (mostActions b) (redParts b (serversIn b)) i o o₁ r
+reds-end b c n i r o o₁ e h l a = subst (λ (m : ℕ). Sends (m * quotaIn b) (redParts b m) i o o₁ r) (omega arith) a
 
 -- ---- the whole
 
 pub plan-sent : (b : List ℕ) (i r : ℕ) (o o₁ o₂ : List ℕ) → Sends (mostActions b) (greenPart b) 0 o o₁ i
-    → Sends (mostActions b) (redParts b (serversOf b)) i o₁ o₂ r
+    → Sends (mostActions b) (redParts b (serversIn b)) i o₁ o₂ r
     → Sends (2 * mostActions b) (wholePart b) 0 o o₂ r
 unfolding wholePart
 plan-sent b i r o o₁ o₂ a d =
     let k : mostActions b + mostActions b ≡ 2 * mostActions b = omega arith in
     subst (λ (m : ℕ). Sends m (wholePart b) 0 o o₂ r) k
-    (sends-next (mostActions b) (mostActions b) 0 i r (greenPart b) (redParts b (serversOf b)) o o₁ o₂ (omega arith) a d)
+    (sends-next (mostActions b) (mostActions b) 0 i r (greenPart b) (redParts b (serversIn b)) o o₁ o₂ (omega arith) a d)
 
 pub lent-stated : (P : Server → Type 0) (b o : List ℕ) → LentSuch P b o → Stated b
 lent-stated P b o l = holds-stated (l .state) b (l .holds)

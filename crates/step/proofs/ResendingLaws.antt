@@ -26,14 +26,14 @@ use Rattle.record.specs.Values.{idOf, actionOf, slot}
 use Rattle.record.specs.Written.{next, full, put, putOf}
 use Rattle.replication.specs.Machine.Colours.{find}
 use Rattle.replication.specs.Machine.Plan.{resent}
-use Rattle.engine.specs.Layout.{slotSize, atGreenLength}
+use Rattle.engine.specs.Layout.{slotSize, atGreenLength, theQueue}
 use Rattle.engine.proofs.Slots.{actions-count}
-use Rattle.queue.specs.Queue.{queueCount, greenCount, queueAt}
 use Rattle.queue.proofs.ReadLaws.{actions-at, slot-read}
 use Rattle.step.specs.Answers.{recordBytes}
 use Rattle.install.specs.Table.{InTable}
 use Rattle.step.specs.Resending.{queueIn, greensIn, slotPlace, QueueIn, named, Filled, fromPlace, atPosition, asRed, oneOf, Sends}
 use Rattle.format.specs.Places.{mostRetransmission}
+use Rattle.engine.specs.Counts.{queueCount, greenCount, place}
 
 -- ---- none, one, and more
 
@@ -119,7 +119,7 @@ module _ (a : ActionAt) (b : List ℕ) (me position p : ℕ) (o o₁ : List ℕ)
 
 -- ---- the slot k
 
-module _ (b : List ℕ) (k p : ℕ) (a : ActionAt) (q : QueueIn b) (h : k < queueCount b) (e : p ≡ queueAt b)
+module _ (b : List ℕ) (k p : ℕ) (a : ActionAt) (q : QueueIn b) (h : k < queueCount b) (e : p ≡ place theQueue b)
     (f : a ≡ actionIn b (p + slotSize * k)) where
   read : a ≡ actionIn b (slotPlace b k)
   unfolding slotPlace
@@ -136,8 +136,8 @@ module _ (b : List ℕ) (k p : ℕ) (a : ActionAt) (q : QueueIn b) (h : k < queu
   slot-action : at (queueIn b) k ≡ some (actionFrom a b)
   unfolding queueIn slotPlace
   slot-action =
-      actions-at (queueCount b) b (queueAt b) k h
-      ∙ ap some (sym (slot-read b (queueAt b + slotSize * k)) ∙ ap (λ (x : ActionAt). actionFrom x b) (sym read))
+      actions-at (queueCount b) b (place theQueue b) k h
+      ∙ ap some (sym (slot-read b (place theQueue b + slotSize * k)) ∙ ap (λ (x : ActionAt). actionFrom x b) (sym read))
 
   pub slot-sent : (me position i r : ℕ) (o o₁ : List ℕ) → Sends 1 (retransmission me position (actionFrom a b) ∷ []) i o o₁ r
       → Sends 1 (oneOf (fromPlace me position (queueIn b) k)) i o o₁ r
@@ -173,7 +173,7 @@ module _ (b t : List ℕ) (c i p k : ℕ) (f : Filled 0 t (queueIn b)) (n : InTa
 
   pub index-low : (k ≡ 0 → ⊥) → k - 1 < queueCount b
   unfolding queueIn
-  index-low z = omega (arith, f .low p, actions-count (queueCount b) b (queueAt b), pos)
+  index-low z = omega (arith, f .low p, actions-count (queueCount b) b (place theQueue b), pos)
     where
       pos : 1 ≤ k
       pos = go k z

@@ -21,12 +21,12 @@ use Rattle.engine.specs.Holding.{Holds, HoldsSuch, HoldsSome}
 use Rattle.engine.proofs.InPlace.{such-fact, holds-some}
 use Rattle.queue.specs.Queue as Queue
 use Rattle.queue.specs.Queue.{RoomIfNext}
-use Rattle.queue.proofs.Holding.{numbers}
 use Rattle.queue.proofs.Holding as holding
 use Rattle.queue.proofs.RedLaws.{room-if-next}
 use Rattle.engine.proofs.Chained.{chained, then-holds, numbers-then}
 use Rattle.step.proofs.ExchangeStates.{placed-formed, non-prim-formed, more-formed, closed-formed, last-formed}
 use Rattle.engine.specs.Layout.{atGreenLength}
+use Rattle.engine.proofs.Counts.{numbers}
 
 -- ---- one action, by its position
 

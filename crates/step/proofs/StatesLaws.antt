@@ -26,7 +26,6 @@ use Rattle.engine.specs.Layout.{stateSize}
 use Rattle.engine.specs.Image.{modeNumber, over, image}
 use Rattle.engine.specs.Holding.{Holds}
 use Rattle.updates.specs.Lists.{CollectRoom}
-use Rattle.updates.proofs.Counts.{holds-servers, holds-quota, holds-counts}
 use Rattle.step.specs.declared.Answer.{Answer}
 use Rattle.step.specs.Answers.{answered, outcomeOn, LentSuch, Came, quietly, sentOnly, recordBytes}
 use Rattle.step.proofs.LentFacts.{lent-fact}
@@ -36,6 +35,7 @@ use Rattle.step.proofs.EndLaws.{Ends}
 use Rattle.step.proofs.EndOverLaws.{sent-over, end-mode, Before, end-over}
 use Rattle.step.proofs.OutcomeLaws.{sent-outcome, quiet-outcome}
 use Rattle.step.proofs.RetransmissionLaws.{left, left-holds}
+use Rattle.engine.proofs.Counts.{numbers, holds-counts}
 
 -- Every member's State is in.
 abbrev pub Complete : Server → Type 0
@@ -137,8 +137,8 @@ module _ (k : ℕ) (e b o : List ℕ) (m : LentSuch (Came k e) b o) where
       let r = m .holds in
       let x = m .fact .sent in
       let f = m .fact .came .fits in
-      let n = holds-servers s b r in
-      let q = holds-quota s b r in
+      let n = numbers s b r .servers in
+      let q = numbers s b r .quota in
       let ids : length (x .yellow .ids) ≤ s .servers * s .quota = ids-short (s .servers) (s .quota) (x .yellow .ids) (f .yellow .ids)
       (f .yellow .once) in
       let size : length (write (state x)) ≡ length e = ap length (m .fact .written) in

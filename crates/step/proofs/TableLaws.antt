@@ -20,13 +20,13 @@ use Rattle.record.specs.Values.{slot}
 use Rattle.record.proofs.OnePass.{getD-zeros}
 use Rattle.replication.specs.Machine.Colours.{find}
 use Rattle.replication.proofs.WellFormed.Ids.{same-id-yes, same-id-holds}
-use Rattle.engine.specs.Layout.{slotSize, atQueueLength}
+use Rattle.engine.specs.Layout.{slotSize, atQueueLength, theQueue}
 use Rattle.engine.specs.Decode.{actionsAt}
 use Rattle.engine.proofs.Slots.{actions-count}
-use Rattle.queue.specs.Queue.{queueCount, queueAt}
 use Rattle.queue.proofs.ReadLaws.{actions-at}
 use Rattle.install.specs.Table.{InTable}
 use Rattle.step.specs.Resending.{queueIn, slotPlace, QueueIn, named, Filled}
+use Rattle.engine.specs.Counts.{queueCount, place}
 
 -- ---- an entry
 
@@ -54,7 +54,7 @@ filled-start b k e = (
     low = λ i. omega (arith, getD-zeros 2048 i);
     names = λ d r.
         ap (named (queueIn b)) (getD-zeros 2048 (slot d))
-        ∙ sym (none-left d (queueIn b) k (omega (arith, actions-count (queueCount b) b (queueAt b))));
+        ∙ sym (none-left d (queueIn b) k (omega (arith, actions-count (queueCount b) b (place theQueue b))));
   },
 )
 
@@ -91,21 +91,21 @@ module _ (l : List Action) (a : Action) (k p : ℕ) (t : List ℕ) (e : at l k �
     names = λ d i. more-names d i (known (sameId d (a .id))) ∙ ap (find d) (sym (last-left l k a e));
   }
 
-again-at : (b : List ℕ) (k p : ℕ) (t : List ℕ) → QueueIn b → suc k ≤ queueCount b → (p ≡ slot (idAt b (queueAt b + slotSize * k))) × (p < 2048)
+again-at : (b : List ℕ) (k p : ℕ) (t : List ℕ) → QueueIn b → suc k ≤ queueCount b → (p ≡ slot (idAt b (place theQueue b + slotSize * k))) × (p < 2048)
     → Filled (suc k) t (queueIn b) → Filled k (set t p (suc k)) (queueIn b)
 unfolding queueIn actionAt idAt slotPlace
 again-at b k p t q h e f =
-    more (actionsAt (queueCount b) b (queueAt b)) (actionAt b (queueAt b + slotSize * k)) k p t
-    (actions-at (queueCount b) b (queueAt b) k h) (q .ids k h) (e .0) (e .1) f
-    (omega (arith, actions-count (queueCount b) b (queueAt b)))
+    more (actionsAt (queueCount b) b (place theQueue b)) (actionAt b (place theQueue b + slotSize * k)) k p t
+    (actions-at (queueCount b) b (place theQueue b) k h) (q .ids k h) (e .0) (e .1) f
+    (omega (arith, actions-count (queueCount b) b (place theQueue b)))
 
 pub filled-again : (b : List ℕ) (k p : ℕ) (t : List ℕ) → QueueIn b → 0 < k → k ≤ queueCount b → Filled k t (queueIn b)
-    → (p ≡ slot (idAt b (queueAt b + slotSize * (k - 1)))) × (p < 2048) → Filled (k - 1) (set t p k) (queueIn b)
+    → (p ≡ slot (idAt b (place theQueue b + slotSize * (k - 1)))) × (p < 2048) → Filled (k - 1) (set t p k) (queueIn b)
 filled-again b zero p t q h l f e = absurd (omega arith)
 filled-again b (suc k) p t q h l f e =
     let m : suc k - 1 ≡ k = omega arith in
     subst (λ (j : ℕ). Filled j (set t p (suc k)) (queueIn b)) (sym m)
-    (again-at b k p t q l (e .0 ∙ ap (λ (j : ℕ). slot (idAt b (queueAt b + slotSize * j))) m, e .1) f)
+    (again-at b k p t q l (e .0 ∙ ap (λ (j : ℕ). slot (idAt b (place theQueue b + slotSize * j))) m, e .1) f)
 
 pub filled-end : (b : List ℕ) (k : ℕ) (t : List ℕ) → k ≤ 0 → Filled k t (queueIn b) → Filled 0 t (queueIn b)
 filled-end b zero t h f = f

@@ -14,29 +14,29 @@ use Rattle.record.specs.Values.{idOf, slot}
 use Rattle.replication.specs.Machine.Colours.{find}
 use Rattle.replication.specs.Machine.Plan.{resent, resendGreen, resendRed}
 use Rattle.replication.specs.Machine.Step.{collected}
-use Rattle.engine.specs.Layout.{slotSize}
-use Rattle.engine.specs.Decode.{actionsAt, decoded}
+use Rattle.engine.specs.Layout.{slotSize, theQueue}
+use Rattle.engine.specs.Decode.{actionsAt, decoded, serversIn, quotaIn}
 use Rattle.engine.specs.Holding.{Holds}
-use Rattle.queue.specs.Queue.{CountsIn, serversOf, quotaOf, queueCount, greenCount, queueAt}
 use Rattle.install.specs.Table.{InTable}
 use Rattle.step.specs.Answers.{recordBytes}
 use Rattle.format.specs.Places.{mostRetransmission}
+use Rattle.engine.specs.Counts.{CountsIn, queueCount, greenCount, place}
 
 -- ---- the queue of the buffer b
 
 unfoldable pub queueIn : List ℕ → List Action
-queueIn b = actionsAt (queueCount b) b (queueAt b)
+queueIn b = actionsAt (queueCount b) b (place theQueue b)
 
 unfoldable pub greensIn : List ℕ → List Action
 greensIn b = take (greenCount b) (queueIn b)
 
 -- How many actions there can be.
 abbrev pub mostActions : List ℕ → ℕ
-mostActions b = serversOf b * quotaOf b
+mostActions b = serversIn b * quotaIn b
 
 -- Where the slot k of the queue begins.
 unfoldable pub slotPlace : List ℕ → ℕ → ℕ
-slotPlace b k = queueAt b + slotSize * k
+slotPlace b k = place theQueue b + slotSize * k
 
 -- The numbers of the buffer are in range, and so is each action of its queue.
 pub record QueueIn (b : List ℕ) : Type 0 where
@@ -104,4 +104,4 @@ unfoldable pub redParts : List ℕ → ℕ → List Record
 redParts b n = gatherAll (redPart b) (below n)
 
 unfoldable pub wholePart : List ℕ → List Record
-wholePart b = greenPart b ++ redParts b (serversOf b)
+wholePart b = greenPart b ++ redParts b (serversIn b)

@@ -16,8 +16,9 @@ use Rattle.replication.specs.Machine.Requests.{numberedFrom}
 use Rattle.replication.specs.Machine.Step.{ownState}
 use Rattle.engine.specs.Layout.{heldSize, theHeld, atMe, atGreenLength, atNumbered}
 use Rattle.engine.specs.Decode.{heldAt}
-use Rattle.updates.specs.Lists.{CountsIn, configurationOf, heldCount, place}
+use Rattle.updates.specs.Lists.{configurationOf}
 use Rattle.step.specs.Answers.{recordBytes}
+use Rattle.engine.specs.Counts.{CountsIn, heldCount, place}
 
 -- The numbers of the State that a server with the numbers h sends in the configuration of this id.
 unfoldable pub ownHead : Numbers → (id : ℕ) → StateHead

@@ -21,7 +21,6 @@ use record::writer::write_state;
 use updates::membership::enter_exchange;
 use updates::votes::clear_mark;
 use updates::votes::make_yellow_valid;
-use updates::yellow::yellow_place;
 
 // The numbers of the State that a server with the numbers h sends in this configuration.
 fn own_head(h: State, id: u32) -> StateHead
@@ -58,7 +57,7 @@ fn send_state(state: &[u8], out: &mut [u8], id: u32) -> u32
     ensures { λ r. ⌜ ((s : Server) (set : ℕ) → Holds s (now (state .entry)) → (r ≡ length (recordBytes (ownRecord id set s))) × (now (out .exit) ≡ over (recordBytes (ownRecord id set s)) (now (out .entry)))) ⌝ }
 {
     let head = own_numbers(state, id);
-    let at = yellow_place(state);
+    let at = place_of(state, THE_YELLOW);
     let w = write_state(out, 0, head, &state[State::SIZE..], &state[at..]);
     let Written::Next(sent) = w else {
         return 0;

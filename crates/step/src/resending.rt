@@ -13,13 +13,14 @@ ghost use Rattle.replication.specs.Machine.Plan.{ownPart};
 ghost use Rattle.replication.specs.Machine.Step.{collected, allStatesIn};
 ghost use Rattle.engine.specs.Image.{over};
 ghost use Rattle.engine.specs.Holding.{Holds};
-ghost use Rattle.queue.specs.Queue.{serversOf, quotaOf, queueCount};
 ghost use Rattle.step.specs.Answers.{LentSuch, recordBytes};
 ghost use Rattle.install.specs.Table.{InTable};
-ghost use Rattle.step.specs.Resending.{queueIn, greensIn, mostActions, QueueIn, TableOf};
+ghost use Rattle.step.specs.Resending.{queueIn, greensIn, QueueIn, TableOf};
 ghost use Rattle.step.specs.Resending.{fromPlace, atPosition, asRed, oneOf, Sends, Stated, greenPart, redPart, redParts, wholePart};
 ghost use Rattle.engine.specs.Layout.{atMe};
 ghost use Rattle.format.specs.Places.{mostRetransmission};
+ghost use Rattle.engine.specs.Decode.{serversIn, quotaIn};
+ghost use Rattle.engine.specs.Counts.{queueCount, mostActions};
 use crate::table::places;
 use exchange::decided::resends_green;
 use exchange::decided::resends_red;
@@ -154,8 +155,8 @@ fn send_red(
     me: u8,
     creator: u8,
 ) -> usize
-    requires { ⌜ Stated (now state) × TableOf (now table) (now state) × (me ≡ numberAt 1 (now state) atMe) × (creator < serversOf (now state)) × (at + mostRetransmission * quotaOf (now state) ≤ length (now out)) ⌝ }
-    ensures { λ r. ⌜ Sends (quotaOf (now (state .entry))) (redPart (now (state .entry)) creator) at (now (out .entry)) (now (out .exit)) r ⌝ }
+    requires { ⌜ Stated (now state) × TableOf (now table) (now state) × (me ≡ numberAt 1 (now state) atMe) × (creator < serversIn (now state)) × (at + mostRetransmission * quotaIn (now state) ≤ length (now out)) ⌝ }
+    ensures { λ r. ⌜ Sends (quotaIn (now (state .entry))) (redPart (now (state .entry)) creator) at (now (out .entry)) (now (out .exit)) r ⌝ }
 {
     let part = resends_red(state, creator as usize);
     if !part.mine {
@@ -167,7 +168,7 @@ fn send_red(
 // The same for every creator.
 fn send_reds(state: &[u8], out: &mut [u8], at: usize, table: &[u16; PLACES], me: u8) -> usize
     requires { ⌜ Stated (now state) × TableOf (now table) (now state) × (me ≡ numberAt 1 (now state) atMe) × (at + mostRetransmission * mostActions (now state) ≤ length (now out)) ⌝ }
-    ensures { λ r. ⌜ Sends (mostActions (now (state .entry))) (redParts (now (state .entry)) (serversOf (now (state .entry)))) at (now (out .entry)) (now (out .exit)) r ⌝ }
+    ensures { λ r. ⌜ Sends (mostActions (now (state .entry))) (redParts (now (state .entry)) (serversIn (now (state .entry)))) at (now (out .entry)) (now (out .exit)) r ⌝ }
 {
     let servers = num8(state, State::AT_SERVERS);
     let mut next = at;

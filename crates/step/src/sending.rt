@@ -10,10 +10,10 @@ ghost use Rattle.replication.specs.Machine.Types.{Server};
 ghost use Rattle.replication.specs.Machine.Requests.{heldRecords};
 ghost use Rattle.engine.specs.Image.{over};
 ghost use Rattle.engine.specs.Holding.{Holds};
-ghost use Rattle.updates.specs.Lists.{CountsIn, heldCount};
 ghost use Rattle.step.specs.Answers.{LentSuch, recordBytes};
 ghost use Rattle.step.specs.Sending.{heldPlace, heldHead, heldAction, HeldRoom};
 ghost use Rattle.engine.specs.Layout.{headerSize, atNumbered, heldSize};
+ghost use Rattle.engine.specs.Counts.{CountsIn, heldCount};
 use record::ActionHead;
 use record::State;
 use record::bytes::num8;
@@ -21,14 +21,13 @@ use record::bytes::num16;
 use record::bytes::num32;
 use record::writer::Written;
 use record::writer::write_action;
-use updates::requests::held_place;
 
 // Where the held request k lies.
 fn request_place(state: &[u8], k: u16) -> usize
     requires { ⌜ CountsIn (now state) × (k < heldCount (now state)) ⌝ }
     ensures { λ r. ⌜ (r ≡ heldPlace (now (state .entry)) k) × (r + heldSize ≤ length (now (state .entry))) ⌝ }
 {
-    held_place(state) + State::HELD * k as usize
+    place_of(state, THE_HELD) + State::HELD * k as usize
 }
 
 // The action that it becomes, but its payload.

@@ -18,8 +18,8 @@ use Rattle.engine.specs.Layout.{stateLength}
 use Rattle.engine.specs.Image.{image}
 use Rattle.engine.proofs.ImageLaws.{image-again, image-length}
 use Rattle.engine.specs.Holding.{Holds}
-use Rattle.updates.specs.Lists.{CountsIn}
-use Rattle.updates.proofs.Counts.{holds-counts}
+use Rattle.engine.specs.Counts.{CountsIn}
+use Rattle.engine.proofs.Counts.{holds-counts}
 
 abbrev first : Server
 first = start 2 1 0

@@ -25,9 +25,9 @@ use Rattle.updates.specs.declared.votes.VoteNumbers.{VoteNumbers}
 use Rattle.updates.specs.Lists.{YellowRoom}
 use Rattle.updates.specs.Standing.{voteNumbers, dropped}
 use Rattle.engine.proofs.Chained.{then-holds, Covers, numbers-first, lists-chained}
-use Rattle.updates.proofs.Counts.{holds-servers, holds-quota, holds-counts}
 use Rattle.updates.proofs.MembershipLaws.{Saved, membership-kept}
 use Rattle.updates.proofs.NoteAllLaws.{all-formed}
+use Rattle.engine.proofs.Counts.{numbers, holds-counts}
 
 -- ---- numbers only
 
@@ -99,7 +99,7 @@ decided-room e b c h f =
     let r : Holds s b = h .holds in
     let t : Server = withNoted (noteAll (collected s) (s .noted)) s in
     let q = noted-holds b c f s r in
-    let same : serversIn c * quotaIn c ≡ s .servers * s .quota = λ i. holds-servers t c q i * holds-quota t c q i in
+    let same : serversIn c * quotaIn c ≡ s .servers * s .quota = λ i. numbers t c q .servers i * numbers t c q .quota i in
     record { counts = holds-counts t c q; short = omega (arith, h .fact) }
 
 pub decided-made : (e b c d : List ℕ) (x : VoteNumbers) → AllNoted b c

@@ -1,5 +1,4 @@
 pub mod Changes
-pub mod Counts
 pub mod YellowLaws
 pub mod NumberLaws
 pub mod MembershipLaws

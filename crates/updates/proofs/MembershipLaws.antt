@@ -1,14 +1,10 @@
 -- Changes of a state's membership in place.
 -- Assumes nothing.
-use Prim.Native.Nat.{ℕ, zero, suc, _+_, _*_, _%_, _^_, _<_}
+use Prim.Native.Nat.{ℕ, zero, suc, _+_}
 use mathlib.Core.Path.{_≡_, refl, sym, ap, _∙_}
-use mathlib.Core.List.{List, []}
+use mathlib.Core.List.{List}
 use mathlib.Core.Logic.{inl, inr}
 use Rattle.base.proofs.Prefixes.{begins-refl}
-use native.Mathlib.Omega.{arith}
-use lib.Bits.{bitOr}
-use Rattle.base.specs.Sets.{withMember}
-use Rattle.base.proofs.SetLaws.{power-below}
 use Rattle.base.specs.Tests.{pick}
 use Rattle.base.specs.Lists.{isThere, Begins}
 use Rattle.record.specs.declared.State.{State}
@@ -123,11 +119,3 @@ unfolding headerOf
 without-senders t n e = ap (λ (k : ℕ). withSenders (headerOf t) k) (sym (ap (senders 0) e ∙ senders-none 0 n))
 
 -- ---- one member more
-
--- As the code shifts it.
-pub member-shifted : (x k : ℕ) → k < 8 → bitOr x (1 * 2 ^ k % 256) ≡ withMember k x
-unfolding withMember
-member-shifted x k h =
-    let small : 2 ^ k < 256 = power-below k 8 h in
-    let e : 1 * 2 ^ k % 256 ≡ 2 ^ k = omega arith in
-    ap (bitOr x) e

@@ -1,6 +1,6 @@
 -- The green lengths of all collected States noted, in place.
 -- Assumes nothing.
-use Prim.Native.Nat.{ℕ, zero, suc, _+_, _*_, _/_, _%_, _^_, _≤_, _<_}
+use Prim.Native.Nat.{ℕ, zero, suc, _+_, _*_, _≤_, _<_}
 use mathlib.Core.Path.{_≡_, refl, sym, ap, ap₂, subst, _∙_}
 use mathlib.Core.Bool.{Bool, true, false, not}
 use mathlib.Core.List.{List, [], _∷_}
@@ -8,7 +8,6 @@ use mathlib.Core.Option.{Option, none, some}
 use native.Mathlib.Nat.{zero-add, suc-mul}
 use native.Mathlib.Numerals.{add-one}
 use native.Mathlib.Omega.{arith}
-use lib.Dec.{eqb}
 use lib.ListN.{length, getD, take, drop}
 use lib.Seq.{take-length}
 use borrow.Author.Tests.{not-true, not-false}
@@ -16,7 +15,7 @@ use Rattle.base.specs.Bytes.{numberAt}
 use Rattle.base.proofs.BytesLaws.{number-drop}
 use Rattle.base.specs.Lists.{present, atFront, Each}
 use Rattle.base.specs.Sets.{inSet}
-use Rattle.base.specs.Tests.{_=?_, pick}
+use Rattle.base.specs.Tests.{pick}
 use Rattle.base.proofs.TestLaws.{pick-yes, pick-no}
 use Rattle.format.specs.Types.{State}
 use Rattle.format.specs.Read.{stateAt}
@@ -35,11 +34,13 @@ use Rattle.engine.specs.Image.{image}
 use Rattle.engine.specs.Decode.{serversIn, quotaIn, statesAt, decoded, decodedAs}
 use Rattle.engine.specs.Holding.{Holds, HoldsSome}
 use Rattle.engine.proofs.InPlace.{holds-decoded, holds-header}
-use Rattle.updates.specs.Lists.{place, NumberIn}
-use Rattle.updates.specs.Noting.{noteSlot, noteFirst}
-use Rattle.updates.proofs.Counts.{holds-servers, holds-counts}
+use Rattle.updates.specs.Lists.{NumberIn, statePlace}
+use Rattle.updates.specs.Noting.{noteSlot, noteFirst, sentLength}
 use Rattle.engine.proofs.Chained.{then-holds, Covers, numbers-first, lists-chained}
 use Rattle.format.specs.Places.{stateCutsAt}
+use Rattle.engine.specs.Counts.{place}
+use Rattle.engine.proofs.Counts.{numbers, holds-counts}
+use Rattle.updates.proofs.StateLaws.{state-room}
 
 -- ---- slot by slot
 
@@ -110,7 +111,7 @@ note-room b c k n h e l f =
     let s : Server = h .state in
     let r : Holds s b = h .holds in
     let t : Holds (firstNoted k s) c = then-holds s (firstNoted k s) b c r (f s r) refl refl (first-formed k s (r .formed)) in
-    record { counts = holds-counts (firstNoted k s) c t; below = omega (arith, holds-servers s b r, holds-servers (firstNoted k s) c t) }
+    record { counts = holds-counts (firstNoted k s) c t; below = omega (arith, numbers s b r .servers, numbers (firstNoted k s) c t .servers) }
 
 pub note-turn : (b c d : List ℕ) (k n : ℕ) → n ≡ numberAt 1 b atServers → k < n → ((s : Server) → Holds s b → c ≡ image (firstNoted k s) b)
     → ((t : Server) → Holds t c → d ≡ image (withNoted (noteSlot (getD (t .membership .states) k none) (t .noted)) t) c)
@@ -123,7 +124,7 @@ note-turn b c d k n e l f g s r =
     let held : Holds t c = then-holds s t b c r (f s r) refl refl ok in
     let count : length (s .membership .states) ≡ s .servers = body s (well-formed-facts s (r .formed)) .membership .states-length in
     let same : m ≡ noteFirst (k + 1) (s .membership .states) (s .noted) =
-    sym (first-more k (s .membership .states) (s .noted) (omega (arith, holds-servers s b r))) ∙ ap (λ (j : ℕ). noteFirst j (s .membership .states) (s .noted)) (sym (add-one k)) in
+    sym (first-more k (s .membership .states) (s .noted) (omega (arith, numbers s b r .servers))) ∙ ap (λ (j : ℕ). noteFirst j (s .membership .states) (s .noted)) (sym (add-one k)) in
     let long : length (t .noted) ≤ length m = omega (arith, ap length same, first-length k s, first-length (k + 1) s) in
     lists-chained s t (withNoted m s) b r ok (noted-covers s (t .noted) m) (omega arith) long c d (f s r) (g t held)
     ∙ ap (λ (j : List ℕ). image (withNoted j s) b) same
@@ -133,7 +134,7 @@ pub note-end : (b c : List ℕ) (k n : ℕ) → n ≡ numberAt 1 b atServers →
 unfolding serversIn collected
 note-end b c k n e l m f s r =
     let count : length (s .membership .states) ≡ s .servers = body s (well-formed-facts s (r .formed)) .membership .states-length in
-    let whole : k ≡ length (s .membership .states) = omega (arith, holds-servers s b r) in
+    let whole : k ≡ length (s .membership .states) = omega (arith, numbers s b r .servers) in
     f s r ∙ ap (λ (j : List ℕ). image (withNoted j s) b) (first-all k (s .membership .states) (s .noted) whole)
 
 -- ---- one slot
@@ -155,12 +156,12 @@ states-at n q here (suc m) j (suc k) b at h =
 -- The slot of server k, in a buffer that holds s.
 slot-read : (s : Server) (b : List ℕ) (k : ℕ) → Holds s b → k < serversIn b
     → getD (s .membership .states) k none
-    ≡ pick (inSet k (numberAt 1 b atStates)) (some (stateAt (serversIn b) (drop (place theStates b + k * stateSize (serversIn b) (quotaIn b)) b))) none
-unfolding decoded decodedAs place
+    ≡ pick (inSet k (numberAt 1 b atStates)) (some (stateAt (serversIn b) (drop (statePlace k b) b))) none
+unfolding decoded decodedAs statePlace place
 slot-read s b k r h =
     ap (λ (t : Server). getD (t .membership .states) k none) (sym (holds-decoded s b r))
     ∙ states-at (serversIn b) (quotaIn b) (numberAt 1 b atStates) (serversIn b) 0 k b (place theStates b) h
-    ∙ ap (λ (j : ℕ). pick (inSet j (numberAt 1 b atStates)) (some (stateAt (serversIn b) (drop (place theStates b + k * stateSize (serversIn b) (quotaIn b)) b))) none) (zero-add k)
+    ∙ ap (λ (j : ℕ). pick (inSet j (numberAt 1 b atStates)) (some (stateAt (serversIn b) (drop (statePlace k b) b))) none) (zero-add k)
 
 pub slot-empty : (b : List ℕ) (k : ℕ) (x : Bool) → NumberIn k b → x ≡ inSet k (numberAt 1 b atStates) → not x ≡ true
     → (s : Server) → Holds s b → b ≡ image (withNoted (noteSlot (getD (s .membership .states) k none) (s .noted)) s) b
@@ -170,12 +171,12 @@ slot-empty b k x h e f s r =
     sym (r .written) ∙ ap (λ (y : Option State). image (withNoted (noteSlot y (s .noted)) s) b) (sym out)
 
 pub slot-noted : (b c : List ℕ) (k l : ℕ) (x : Bool) → NumberIn k b → x ≡ inSet k (numberAt 1 b atStates) → not x ≡ false
-    → l ≡ numberAt 4 b (place theStates b + k * stateSize (serversIn b) (quotaIn b) + (stateCutsAt + 2 * serversIn b))
+    → l ≡ sentLength k b
     → ((s : Server) → Holds s b → c ≡ image (withNoted (note k l (s .noted)) s) b)
     → (s : Server) → Holds s b → c ≡ image (withNoted (noteSlot (getD (s .membership .states) k none) (s .noted)) s) b
-unfolding noteSlot stateAt
+unfolding noteSlot stateAt sentLength
 slot-noted b c k l x h e f g i s r =
-    let at : ℕ = place theStates b + k * stateSize (serversIn b) (quotaIn b) in
+    let at : ℕ = statePlace k b in
     let y : State = stateAt (serversIn b) (drop at b) in
     let in-slot : getD (s .membership .states) k none ≡ some y = slot-read s b k r (h .below) ∙ sym (pick-yes (inSet k (numberAt 1 b atStates)) (some y) _ none (sym e ∙ not-false x f) refl) in
     let sender : y .sender ≡ k = body s (well-formed-facts s (r .formed)) .membership .states k y in-slot .sender in
@@ -186,19 +187,13 @@ slot-noted b c k l x h e f g i s r =
 
 -- ---- the code's numbers
 
-pub front-some : (b : List ℕ) → HoldsSome b → 0 < length b
+pub front-some : (b : List ℕ) → HoldsSome b → atServers < length b
 front-some b h = omega (arith, holds-header (h .state) b (h .holds))
 
-pub member-told : (b : List ℕ) (x k : ℕ) → x ≡ numberAt 1 b atStates → eqb (x / 2 ^ k % 2) 1 ≡ inSet k (numberAt 1 b atStates)
-unfolding inSet _=?_
-member-told b x k e = ap (λ (y : ℕ). eqb (y / 2 ^ k % 2) 1) e
-
-pub sent-place : (b : List ℕ) (k n at : ℕ) → NumberIn k b → at ≡ place theStates b + k * stateSize (serversIn b) (quotaIn b)
-    → at + stateSize (serversIn b) (quotaIn b) ≤ length b → n ≡ numberAt 1 b atServers → at + (stateCutsAt + 2 * n) + 4 ≤ length b
+pub sent-place : (b : List ℕ) (k n at : ℕ) → NumberIn k b → at ≡ statePlace k b → n ≡ numberAt 1 b atServers → at + (stateCutsAt + 2 * n) + 4 ≤ length b
 unfolding serversIn stateSize
-sent-place b k n at h e f g = omega arith
+sent-place b k n at h e g = omega (arith, state-room b k at h e)
 
-pub sent-read : (b : List ℕ) (k n at l : ℕ) → at ≡ place theStates b + k * stateSize (serversIn b) (quotaIn b) → n ≡ numberAt 1 b atServers → l ≡ numberAt 4 b (at + (stateCutsAt + 2 * n))
-    → l ≡ numberAt 4 b (place theStates b + k * stateSize (serversIn b) (quotaIn b) + (stateCutsAt + 2 * serversIn b))
-unfolding serversIn
+pub sent-read : (b : List ℕ) (k n at l : ℕ) → at ≡ statePlace k b → n ≡ numberAt 1 b atServers → l ≡ numberAt 4 b (at + (stateCutsAt + 2 * n)) → l ≡ sentLength k b
+unfolding sentLength serversIn
 sent-read b k n at l e f g = g ∙ ap₂ {A = ℕ} {B = ℕ} {C = ℕ} (λ u v. numberAt 4 b (u + (stateCutsAt + 2 * v))) e f

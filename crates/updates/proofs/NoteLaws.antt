@@ -13,18 +13,19 @@ use Rattle.base.specs.Patched.{patched}
 use Rattle.base.proofs.Sections.{begin}
 use Rattle.replication.specs.Machine.Types.{Server, withNoted}
 use Rattle.replication.specs.Machine.Colours.{note}
-use Rattle.engine.specs.Layout.{SizesIn, theNoted, sections, offset, stateLength, atServers, atQuota}
+use Rattle.engine.specs.Layout.{theNoted, sections, offset}
 use Rattle.engine.specs.Image.{over, headerBytes, notedBytes, section, parts, image}
-use Rattle.engine.specs.Decode.{serversIn, quotaIn, decoded, decodedAs}
+use Rattle.engine.specs.Decode.{serversIn, decoded, decodedAs}
 use Rattle.engine.proofs.InRange.{in-range}
 use Rattle.engine.proofs.Used.{noted-length}
 use Rattle.engine.specs.Holding.{Holds}
 use Rattle.engine.proofs.InPlace.{holds-decoded}
 use Rattle.queue.proofs.Inside.{changed-at, over-changed}
 use Rattle.queue.proofs.Holding.{holds-changed}
-use Rattle.updates.specs.Lists.{place, NumberIn}
+use Rattle.updates.specs.Lists.{NumberIn}
 use Rattle.updates.proofs.Changes.{changed-image}
-use Rattle.updates.proofs.Counts.{holds-servers, holds-place, place-read, header-room}
+use Rattle.engine.specs.Counts.{place}
+use Rattle.engine.proofs.Counts.{numbers, holds-place}
 
 -- ---- one of the numbers
 
@@ -54,48 +55,28 @@ noted-set (x ∷ l) (suc c) v h =
 
 -- ---- as the code does it
 
-pub noted-place-read : (b : List ℕ) (n q at c : ℕ) → n ≡ numberAt 1 b atServers → q ≡ numberAt 2 b atQuota → at ≡ offset n q theNoted → at + 4 * c ≡ place theNoted b + 4 * c
-noted-place-read b n q at c e f g = ap (λ (m : ℕ). m + 4 * c) (place-read theNoted b n q at e f g)
-
-noted-room : (b : List ℕ) (c : ℕ) → NumberIn c b → place theNoted b + 4 * c + 4 ≤ length b
-unfolding place offset stateLength sections sum
-noted-room b c h = omega (arith, h .counts .long, h .below)
-
-pub noted-free : (b : List ℕ) (n q at c : ℕ) → NumberIn c b → n ≡ numberAt 1 b atServers → q ≡ numberAt 2 b atQuota → at ≡ offset n q theNoted → at + 4 * c + 4 ≤ length b
-noted-free b n q at c h e f g = rw (place-read theNoted b n q at e f g) (noted-room b c h)
-
-pub noted-sizes : (b : List ℕ) (n q c : ℕ) → NumberIn c b → n ≡ numberAt 1 b atServers → q ≡ numberAt 2 b atQuota → SizesIn n q
-unfolding serversIn quotaIn
-noted-sizes b n q c h e f = rw (e, f) (h .counts .sizes)
-
-pub number-1 : (b : List ℕ) (c : ℕ) → NumberIn c b → 0 < length b
-number-1 b c h = omega (arith, header-room b (h .counts))
-
-pub number-3 : (b : List ℕ) (c : ℕ) → NumberIn c b → 1 + 2 ≤ length b
-number-3 b c h = omega (arith, header-room b (h .counts))
-
 -- It is as high already.
-pub note-kept : (b : List ℕ) (c l at old : ℕ) → NumberIn c b → at ≡ place theNoted b + 4 * c → old ≡ numberAt 4 b at → l ≤ old
+pub note-kept : (b : List ℕ) (c l at old : ℕ) → NumberIn c b → at ≡ place theNoted b → old ≡ numberAt 4 b (at + 4 * c) → l ≤ old
     → (s : Server) → Holds s b → b ≡ image (withNoted (note c l (s .noted)) s) b
 unfolding note
 note-kept b c l at old h e f g s r =
-    let was : old ≡ getD (s .noted) c 0 = f ∙ ap (numberAt 4 b) e ∙ noted-at s b c r (h .below) in
+    let was : old ≡ getD (s .noted) c 0 = f ∙ ap (λ (m : ℕ). numberAt 4 b (m + 4 * c)) e ∙ noted-at s b c r (h .below) in
     let high : getD (s .noted) c 0 ≡ max (getD (s .noted) c 0) l = omega arith in
     sym (r .written) ∙ ap (λ (x : List ℕ). image (withNoted x s) b) (sym (set-getD (s .noted) c 0) ∙ ap (set (s .noted) c) high)
 
 -- It rises.
-pub note-raised : (b b₁ : List ℕ) (c l at old : ℕ) → NumberIn c b → at ≡ place theNoted b + 4 * c → old ≡ numberAt 4 b at → old < l
-    → b₁ ≡ patched at (bytesOf 4 l) b → (s : Server) → Holds s b → b₁ ≡ image (withNoted (note c l (s .noted)) s) b
+pub note-raised : (b b₁ : List ℕ) (c l at old : ℕ) → NumberIn c b → at ≡ place theNoted b → old ≡ numberAt 4 b (at + 4 * c) → old < l
+    → b₁ ≡ patched (at + 4 * c) (bytesOf 4 l) b → (s : Server) → Holds s b → b₁ ≡ image (withNoted (note c l (s .noted)) s) b
 unfolding sections parts sum offset note headerBytes
 note-raised b b₁ c l at old h e f g k s r =
     let n : ℕ = s .servers in
     let q : ℕ = s .quota in
-    let was : old ≡ getD (s .noted) c 0 = f ∙ ap (numberAt 4 b) e ∙ noted-at s b c r (h .below) in
+    let was : old ≡ getD (s .noted) c 0 = f ∙ ap (λ (m : ℕ). numberAt 4 b (m + 4 * c)) e ∙ noted-at s b c r (h .below) in
     let high : l ≡ max (getD (s .noted) c 0) l = omega arith in
     let count : length (s .noted) ≡ n = in-range s (r .formed) .notedCount in
-    let below : c < length (s .noted) = omega (arith, h .below, holds-servers s b r) in
-    let there : at ≡ begin (sections n q) theNoted + 4 * c = e ∙ ap (λ (m : ℕ). m + 4 * c) (holds-place s b r theNoted) in
-    let one = changed-at (sections n q) (parts n q s b) b b (holds-changed s b r) theNoted (4 * c) at (bytesOf 4 l) there (omega arith) (omega (arith, bytes-length 4 l)) in
+    let below : c < length (s .noted) = omega (arith, h .below, numbers s b r .servers) in
+    let there : at + 4 * c ≡ begin (sections n q) theNoted + 4 * c = ap (λ (m : ℕ). m + 4 * c) (e ∙ holds-place s b r theNoted) in
+    let one = changed-at (sections n q) (parts n q s b) b b (holds-changed s b r) theNoted (4 * c) (at + 4 * c) (bytesOf 4 l) there (omega arith) (omega (arith, bytes-length 4 l)) in
     let list : patched (4 * c) (bytesOf 4 l) (over (notedBytes (s .noted)) (section n q theNoted b)) ≡ over (notedBytes (set (s .noted) c (max (getD (s .noted) c 0) l))) (section n q theNoted b) =
     over-changed (notedBytes (s .noted)) (bytesOf 4 l) (section n q theNoted b) (4 * c) (omega (arith, bytes-length 4 l, noted-length (s .noted)))
     ∙ ap (λ (y : List ℕ). over y (section n q theNoted b)) (noted-set (s .noted) c l below ∙ ap (λ (m : ℕ). notedBytes (set (s .noted) c m)) high) in

@@ -5,7 +5,6 @@ use mathlib.Core.Path.{_≡_, refl, sym, ap, ap₂, _∙_}
 use mathlib.Core.Bool.{true}
 use mathlib.Core.List.{List, [], _∷_, _++_, append-assoc, map, head-eq-of-cons-eq, tail-eq-of-cons-eq}
 use mathlib.Core.Logic.{inl, inr}
-use native.Mathlib.Nat.{mul-le-mul}
 use native.Mathlib.Omega.{arith}
 use lib.ListN.{length, getD, set, length-append, length-map}
 use Rattle.base.specs.Bytes.{bytesOf, numberAt, partAt}
@@ -15,7 +14,6 @@ use Rattle.base.proofs.ListLaws.{above-length}
 use Rattle.base.proofs.Occurs.{Occurs, occurs-first}
 use Rattle.base.specs.Patched.{patched}
 use Rattle.base.proofs.Sections.{begin}
-use Rattle.format.specs.Limits.{mostServers, mostQuota}
 use Rattle.format.specs.Types.{Id, Action}
 use Rattle.format.specs.Write.{cutsBytes}
 use Rattle.format.proofs.Lengths.{cuts-length}
@@ -28,27 +26,24 @@ use Rattle.replication.proofs.WellFormed.Changes.{body}
 use Rattle.replication.proofs.WellFormed.Effects.{recovered-body}
 use Rattle.replication.proofs.WellFormed.Facts.{well-formed-facts}
 use Rattle.replication.proofs.WellFormed.Logs.{LogFits, ownId}
-use Rattle.engine.specs.Layout.{theHeader, theCuts, theOwn, theQueue, sections, offset, stateLength, headerSize, atServers, atQuota, atMe, atQueueLength, atNumbered, atOwnCount, slotSize}
+use Rattle.engine.specs.Layout.{theHeader, theCuts, theOwn, theQueue, sections, offset, headerSize, atMe, atQueueLength, atNumbered, atOwnCount, slotSize}
 use Rattle.engine.specs.Image.{over, headerBytes, actionSlots, section, parts, image, fields}
-use Rattle.engine.specs.Decode.{serversIn, quotaIn}
 use Rattle.engine.proofs.InRange.{in-range}
 use Rattle.engine.proofs.Fit.{well-formed-fits}
 use Rattle.engine.proofs.Used.{action-slots-length, slots-append}
 use Rattle.engine.specs.Holding.{Holds, HoldsSome}
 use Rattle.engine.proofs.InPlace.{holds-section}
-use Rattle.queue.specs.Queue.{queueAt}
 use Rattle.engine.proofs.Fields.{theQueueCount, theOwnCount, two-fields}
-use Rattle.queue.proofs.Holding.{numbers, log-fits, log-formed, holds-counts, holds-changed}
+use Rattle.queue.proofs.Holding.{log-fits, log-formed, holds-changed}
 use Rattle.queue.proofs.Inside.{changed-at, over-extended, over-changed}
 use Rattle.queue.proofs.SlotLaws.{cut-set}
-use Rattle.updates.specs.Lists.{place, numberedIn}
 use Rattle.updates.specs.Standing.{EnterRoom, dropped}
 use Rattle.updates.proofs.Changes.{changed-image, part-here}
-use Rattle.updates.proofs.Counts.{holds-place, holds-numbered, header-room}
-use Rattle.updates.proofs.Counts as Lists
 use Rattle.engine.proofs.Chained.{then-holds, Covers, same-begins, lists-chained}
 use Rattle.updates.proofs.NumberLaws.{begun}
 use Rattle.updates.proofs.RecoveryLaws.{Following, log, all-entered}
+use Rattle.engine.specs.Counts.{place, mostActions}
+use Rattle.engine.proofs.Counts.{numbers, holds-counts, holds-place}
 
 -- ---- the own list
 
@@ -108,31 +103,25 @@ counts-entered s x e = ap (λ (k : ℕ). set (set (fields s) theQueueCount (byte
 -- ---- as the code does it
 
 pub enter-room : (b : List ℕ) → HoldsSome b → EnterRoom b
-unfolding place offset sections sum stateLength serversIn quotaIn contextOf
+unfolding place offset sections sum contextOf
 enter-room b h =
     let s : Server = h .state in
     let r : Holds s b = h .holds in
     let i = numbers s b r in
     let g = in-range s (r .formed) in
     let c = holds-counts s b r in
-    let d = Lists.holds-counts s b r in
-    let all : s .servers * s .quota ≤ mostServers * mostQuota = mul-le-mul (g .context .sizes .most) (g .context .sizes .highest) in
-    let sized : numberAt 1 b atServers * numberAt 2 b atQuota ≡ s .servers * s .quota = λ j. i .servers j * i .quota j in
+    let sized : mostActions b ≡ s .servers * s .quota = λ j. i .servers j * i .quota j in
     record {
-      counts = d;
-      queue = c;
-      header = header-room b d;
-      before = omega (arith, d .own);
+      counts = c;
       room = omega (arith, c .queueEnd, i .queue, i .own, entered-room s (r .formed));
       cut = omega (arith, c .cuts, i .me, i .servers, g .context .own);
-      few = omega (arith, i .queue, g .queueCount);
     }
 
-pub own-entered : (b b₁ b₂ : List ℕ) (own count from to me c : ℕ) → own ≡ numberAt 2 b atOwnCount → count ≡ numberAt 4 b atQueueLength → from ≡ place theOwn b → to ≡ queueAt b → me ≡ numberAt 1 b atMe
+pub own-entered : (b b₁ b₂ : List ℕ) (own count from to me c : ℕ) → own ≡ numberAt 2 b atOwnCount → count ≡ numberAt 4 b atQueueLength → from ≡ place theOwn b → to ≡ place theQueue b → me ≡ numberAt 1 b atMe
     → c ≡ numberAt 2 b atNumbered → b₁ ≡ patched (to + slotSize * count) (partAt (slotSize * own) b from) b
     → b₂ ≡ patched (headerSize + 2 * me) (bytesOf 2 c) (patched atOwnCount (bytesOf 2 0) (patched atQueueLength (bytesOf 4 (count + own)) b₁))
     → (s : Server) → Holds s b → b₂ ≡ image (withLog (reds (s .log .own) (s .log)) s) b
-unfolding sections parts sum offset cut contextOf numberedIn
+unfolding sections parts sum offset cut contextOf
 own-entered b b₁ b₂ own count from to me c e₁ e₂ e₃ e₄ e₅ e₆ e₇ e₈ s r =
     let n : ℕ = s .servers in
     let q : ℕ = s .quota in
@@ -146,7 +135,7 @@ own-entered b b₁ b₂ own count from to me c e₁ e₂ e₃ e₄ e₅ e₆ e�
     let counts : count ≡ length all = e₂ ∙ i .queue in
     let mine : me ≡ s .me = e₅ ∙ i .me in
     let low : me < length (s .log .cuts) = omega (arith, g .cutsCount, g .context .own) in
-    let last : c ≡ getD (s .log .cuts) (s .me) 0 + length list = e₆ ∙ holds-numbered s b r ∙ sym (own-count s (r .formed)) in
+    let last : c ≡ getD (s .log .cuts) (s .me) 0 + length list = e₆ ∙ numbers s b r .numbered ∙ sym (own-count s (r .formed)) in
     let at : ℕ = to + slotSize * count in
     let x : List ℕ = partAt (slotSize * own) b from in
     let own-size : length (actionSlots list) ≡ slotSize * length list = action-slots-length list (f .own) in
@@ -155,7 +144,7 @@ own-entered b b₁ b₂ own count from to me c e₁ e₂ e₃ e₄ e₅ e₆ e�
     ap₂ {A = ℕ} {B = ℕ} {C = List ℕ} (λ m j. partAt m b j) (ap (λ (m : ℕ). slotSize * m) owns ∙ sym own-size) (e₃ ∙ holds-place s b r theOwn) ∙ own-here s b r .part in
     let long : length x ≡ slotSize * length list = ap length slots ∙ own-size in
     let there : at ≡ begin (sections n q) theQueue + length (actionSlots all) =
-    ap₂ {A = ℕ} {B = ℕ} {C = ℕ} (λ u v. u + v) (e₄ ∙ λ j. offset (i .servers j) (i .quota j) theQueue) (ap (λ (m : ℕ). slotSize * m) counts ∙ sym size) in
+    ap₂ {A = ℕ} {B = ℕ} {C = ℕ} (λ u v. u + v) (e₄ ∙ holds-place s b r theQueue) (ap (λ (m : ℕ). slotSize * m) counts ∙ sym size) in
     let fits : length (actionSlots all) + length x ≤ slotSize * (n * q) = omega (arith, entered-room s (r .formed)) in
     let y : List ℕ = bytesOf 4 (count + own) in
     let z : List ℕ = bytesOf 2 0 in

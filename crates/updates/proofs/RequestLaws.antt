@@ -5,7 +5,7 @@ use mathlib.Core.Path.{_≡_, refl, sym, ap, ap₂, _∙_}
 use mathlib.Core.Bool.{true}
 use mathlib.Core.List.{List, [], _∷_, _++_, append-nil, map}
 use native.Mathlib.Omega.{arith}
-use lib.ListN.{length, set, length-append, length-map}
+use lib.ListN.{length, set, length-append, length-map, replicate}
 use Rattle.base.specs.Bytes.{bytesOf, numberAt, joined}
 use Rattle.base.proofs.BytesLaws.{bytes-length}
 use Rattle.base.specs.Lists.{above, sum}
@@ -14,7 +14,7 @@ use Rattle.base.specs.Patched.{patched}
 use Rattle.base.proofs.PatchedLaws.{patched-next}
 use Rattle.base.proofs.Sections.{begin}
 use Rattle.base.proofs.TestLaws.{lt-holds}
-use Rattle.format.specs.Limits.{mostHeld}
+use Rattle.format.specs.Limits.{mostHeld, mostPayload}
 use Rattle.format.specs.Types.{Id, Action}
 use Rattle.format.specs.Write.{actionBytes, payloadBytes}
 use Rattle.format.proofs.Lengths.{action-length, payload-length}
@@ -36,9 +36,10 @@ use Rattle.engine.proofs.Fields.{theOwnCount, theNumbered, theHeldCount, one-fi
 use Rattle.queue.proofs.Holding.{holds-changed}
 use Rattle.queue.proofs.Inside.{changed-at, over-extended}
 use Rattle.queue.proofs.SlotLaws.{slots-one}
-use Rattle.updates.specs.Lists.{ownCount, heldCount, numberedIn, place, nextHead, PayloadRoom}
+use Rattle.updates.specs.Lists.{nextHead, PayloadRoom}
 use Rattle.updates.proofs.Changes.{changed-image}
-use Rattle.updates.proofs.Counts.{holds-place, holds-own-count, holds-held-count, holds-numbered}
+use Rattle.engine.specs.Counts.{place}
+use Rattle.engine.proofs.Counts.{holds-place, numbers}
 
 -- The own list is no longer than what was numbered.
 pub own-short : (s : Server) (b : List ℕ) → Holds s b → length (s .log .own) ≤ s .log .numbered
@@ -76,7 +77,7 @@ action-short h p l = omega (arith, action-length (actionOf h p))
 pub request-numbered : (p b b₁ : List ℕ) (at own num : ℕ) (h : ActionHead) → PayloadRoom p b → at ≡ place theOwn b → own ≡ numberAt 2 b atOwnCount → num ≡ numberAt 2 b atNumbered → h ≡ nextHead b
     → b₁ ≡ patched atOwnCount (bytesOf 2 (own + 1)) (patched atNumbered (bytesOf 2 (num + 1)) (patched (at + slotSize * own) (slot slotSize (actionBytes (actionOf h p))) b))
     → (s : Server) → Holds s b → quotaLeft s ≡ true → b₁ ≡ image (numbered (p ∷ []) s) b
-unfolding sections parts sum offset numbered ownCount numberedIn queue
+unfolding sections parts sum offset numbered queue
 request-numbered p b b₁ at own num h room e₁ e₂ e₃ e₄ e₅ s r left =
     let n : ℕ = s .servers in
     let q : ℕ = s .quota in
@@ -85,8 +86,8 @@ request-numbered p b b₁ at own num h room e₁ e₂ e₃ e₄ e₅ s r left =
     let x : List ℕ = slot slotSize (actionBytes (actionOf h p)) in
     let f = well-formed-fits s (r .formed) in
     let size : length (actionSlots list) ≡ slotSize * length list = action-slots-length list (f .own) in
-    let count : own ≡ length list = e₂ ∙ holds-own-count s b r in
-    let nums : num ≡ s .log .numbered = e₃ ∙ holds-numbered s b r in
+    let count : own ≡ length list = e₂ ∙ numbers s b r .own in
+    let nums : num ≡ s .log .numbered = e₃ ∙ numbers s b r .numbered in
     let long : length x ≡ slotSize = slot-length slotSize (actionBytes (actionOf h p)) (action-short h p (room .short)) in
     let there : at + slotSize * own ≡ begin (sections n q) theOwn + length (actionSlots list) =
     ap₂ {A = ℕ} {B = ℕ} {C = ℕ} (λ u v. u + v) (e₁ ∙ holds-place s b r theOwn) (ap (λ (m : ℕ). slotSize * m) count ∙ sym size) in
@@ -107,13 +108,13 @@ request-numbered p b b₁ at own num h room e₁ e₂ e₃ e₄ e₅ s r left =
 
 -- ---- held requests
 
-pub held-put : (p s s₁ s₂ : List ℕ) (at : ℕ) → length p ≤ 48 → at + heldSize ≤ length s → s₁ ≡ patched at (payloadBytes p) s
-    → s₂ ≡ patched (at + (1 + length p)) (zeros (48 - length p)) s₁ → s₂ ≡ patched at (slot heldSize (payloadBytes p)) s
-unfolding slot
+pub held-put : (p s s₁ s₂ : List ℕ) (at : ℕ) → length p ≤ mostPayload → at + heldSize ≤ length s → s₁ ≡ patched at (payloadBytes p) s
+    → s₂ ≡ patched (at + (1 + length p)) (replicate {A = ℕ} (mostPayload - length p) 0) s₁ → s₂ ≡ patched at (slot heldSize (payloadBytes p)) s
+unfolding slot zeros
 held-put p s s₁ s₂ at l r e f =
     let y : List ℕ = payloadBytes p in
     let size : length y ≡ 1 + length p = payload-length p in
-    let left : 48 - length p ≡ heldSize - length y = omega arith in
+    let left : mostPayload - length p ≡ heldSize - length y = omega arith in
     f ∙ ap₂ {A = ℕ} {B = ℕ} {C = List ℕ} (λ k m. patched (at + k) (zeros m) s₁) (sym size) left
     ∙ ap (patched (at + length y) (zeros (heldSize - length y))) e
     ∙ patched-next at y (zeros (heldSize - length y)) s (omega arith)
@@ -128,7 +129,7 @@ count-held s l m e = ap (λ (k : ℕ). set (fields s) theHeldCount (bytesOf 2 k)
 pub request-held : (p b b₁ : List ℕ) (at m : ℕ) → PayloadRoom p b → at ≡ place theHeld b → m ≡ numberAt 2 b atHeldCount
     → b₁ ≡ patched atHeldCount (bytesOf 2 (m + 1)) (patched (at + heldSize * m) (slot heldSize (payloadBytes p)) b)
     → (s : Server) → Holds s b → length (s .held) < mostHeld → b₁ ≡ image (hold p s) b
-unfolding sections parts sum offset hold heldCount
+unfolding sections parts sum offset hold
 request-held p b b₁ at m room e₁ e₂ e₃ s r few =
     let n : ℕ = s .servers in
     let q : ℕ = s .quota in
@@ -137,7 +138,7 @@ request-held p b b₁ at m room e₁ e₂ e₃ s r few =
     let x : List ℕ = slot heldSize (payloadBytes p) in
     let f = well-formed-fits s (r .formed) in
     let size : length (heldSlots list) ≡ heldSize * length list = held-slots-length list (f .held) in
-    let count : m ≡ length list = e₂ ∙ holds-held-count s b r in
+    let count : m ≡ length list = e₂ ∙ numbers s b r .held in
     let long : length x ≡ heldSize = slot-length heldSize (payloadBytes p) (omega (arith, payload-length p, room .short)) in
     let there : at + heldSize * m ≡ begin (sections n q) theHeld + length (heldSlots list) =
     ap₂ {A = ℕ} {B = ℕ} {C = ℕ} (λ u v. u + v) (e₁ ∙ holds-place s b r theHeld) (ap (λ (k : ℕ). heldSize * k) count ∙ sym size) in

@@ -1,46 +1,36 @@
 -- Held requests that are numbered, in place.
 -- Assumes nothing.
-use Prim.Native.Nat.{ℕ, zero, suc, _+_, _*_, _/_, _%_, _≤_, _<_}
-use mathlib.Core.Path.{_≡_, refl, sym, ap, _∙_}
-use mathlib.Core.List.{List, [], _∷_, _++_}
-use native.Mathlib.Nat.{mod-eq-of-lt}
+use Prim.Native.Nat.{ℕ, zero, suc, _+_, _*_, _≤_, _<_}
+use mathlib.Core.Path.{_≡_, refl, sym, ap, _∙_, ap₂}
+use mathlib.Core.List.{List, _++_}
 use native.Mathlib.Numerals.{add-one}
 use native.Mathlib.Omega.{arith}
 use lib.ListN.{length, length-append}
-use mir.Syntax.{w8}
-use mir.Val.{Fits}
 use Rattle.base.specs.Bytes.{bytesOf, partAt, joined}
-use Rattle.base.proofs.BytesLaws.{part-length, bytes1, bytes2, bytes4}
+use Rattle.base.proofs.BytesLaws.{part-length}
 use Rattle.base.specs.Patched.{patched}
 use Rattle.base.proofs.PatchedLaws.{patched-next, patched-none, patched-in-front}
 use Rattle.format.specs.Write.{idBytes}
+use Rattle.format.specs.Places.{actionPayloadAt}
 use Rattle.record.specs.Blocks.{headBytes}
-use Rattle.record.specs.Values.{idOf}
 use Rattle.record.specs.declared.ActionHead.{ActionHead}
 use Rattle.engine.specs.Layout.{heldSize, slotSize}
 use Rattle.updates.specs.Sending.{laterHead, movedSlots, SendRoom}
 
-one-byte : (v : ℕ) → Fits w8 v → bytesOf 1 v ≡ v ∷ []
-one-byte v h = bytes1 v ∙ ap (λ (x : ℕ). x ∷ []) (mod-eq-of-lt (omega arith))
-
--- The head as the code makes it.
-pub head-made-of : (h : ActionHead) → Fits w8 (h .creator)
-    → h .creator ∷ h .index / 256 % 256 ∷ h .index % 256 ∷ h .«green_length» / 16777216 % 256 ∷ h .«green_length» / 65536 % 256 ∷ h .«green_length» / 256 % 256 ∷ h .«green_length» % 256 ∷ []
-    ≡ headBytes h
-unfolding headBytes idBytes idOf joined
-head-made-of h f = sym (rw (one-byte (h .creator) f, bytes2 (h .index), bytes4 (h .«green_length»)) refl)
-
-head-length : (h : ActionHead) → length (headBytes h) ≡ 7
+head-length : (h : ActionHead) → length (headBytes h) ≡ actionPayloadAt
 unfolding headBytes idBytes joined bytesOf
 head-length h = refl
 
-pub one-sent : (at from : ℕ) (h : ActionHead) (x y s s₁ s₂ : List ℕ) → at + slotSize ≤ length s → x ≡ partAt heldSize s from → y ≡ headBytes h → s₁ ≡ patched at y s → s₂ ≡ patched (at + 7) x s₁
-    → s₂ ≡ patched at (headBytes h ++ partAt heldSize s from) s
-one-sent at from h x y s s₁ s₂ l d e f g =
-    g ∙ ap (patched (at + 7) x) (f ∙ ap (λ (z : List ℕ). patched at z s) e)
-    ∙ ap (λ (m : ℕ). patched (at + m) x (patched at (headBytes h) s)) (sym (head-length h))
-    ∙ patched-next at (headBytes h) x s (omega arith)
-    ∙ ap (λ (z : List ℕ). patched at (headBytes h ++ z) s) d
+pub one-sent : (to from : ℕ) (h : ActionHead) (s s₁ s₂ : List ℕ) → from + heldSize ≤ to → to + slotSize ≤ length s → s₁ ≡ patched to (headBytes h) s
+    → s₂ ≡ patched (to + actionPayloadAt) (partAt heldSize s₁ from) s₁ → s₂ ≡ patched to (headBytes h ++ partAt heldSize s from) s
+one-sent to from h s s₁ s₂ l k f g =
+    let x : List ℕ = partAt heldSize s from in
+    let size : length x ≡ heldSize = part-length heldSize s from (omega arith) in
+    let same : partAt heldSize s₁ from ≡ x =
+    ap (λ (z : List ℕ). partAt heldSize z from) f ∙ patched-in-front heldSize from to (headBytes h) s l (omega (arith, head-length h)) in
+    g ∙ ap₂ {A = List ℕ} {B = List ℕ} {C = List ℕ} (λ y z. patched (to + actionPayloadAt) y z) same f
+    ∙ ap (λ (m : ℕ). patched (to + m) x (patched to (headBytes h) s)) (sym (head-length h))
+    ∙ patched-next to (headBytes h) x s (omega arith)
 
 -- ---- all of them
 

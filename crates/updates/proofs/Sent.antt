@@ -33,13 +33,14 @@ use Rattle.engine.proofs.InPlace.{holds-section}
 use Rattle.engine.proofs.Fields.{theOwnCount, theNumbered, theHeldCount, three-fields}
 use Rattle.queue.proofs.Holding.{holds-changed}
 use Rattle.queue.proofs.Inside.{changed-at, over-extended}
-use Rattle.updates.specs.Lists.{place, ownCount, heldCount, numberedIn, nextHead}
+use Rattle.updates.specs.Lists.{nextHead}
 use Rattle.updates.specs.Sending.{laterHead, movedSlots, SendRoom, SendReady}
 use Rattle.updates.proofs.Changes.{changed-image, part-here}
-use Rattle.updates.proofs.Counts.{holds-counts, holds-place, holds-quota, holds-own-count, holds-held-count, holds-numbered}
 use Rattle.updates.proofs.NumberLaws.{begun}
 use Rattle.updates.proofs.RequestLaws.{own-short}
 use Rattle.updates.proofs.SendLaws.{moved-length}
+use Rattle.engine.specs.Counts.{place}
+use Rattle.engine.proofs.Counts.{holds-counts, holds-place, numbers}
 
 -- ---- the slots from the front
 
@@ -122,12 +123,12 @@ holds-ready s b r =
     let f = well-formed-facts s (r .formed) in
     record {
       counts = holds-counts s b r;
-      quota = omega (arith, holds-own-count s b r, holds-held-count s b r, holds-quota s b r, own-short s b r, f .quota-kept);
+      quota = omega (arith, numbers s b r .own, numbers s b r .held, numbers s b r .quota, own-short s b r, f .quota-kept);
     }
 
 pub send-room : (b : List ℕ) (from to own held : ℕ) (h : ActionHead) → SendReady b → from ≡ place theHeld b → to ≡ place theOwn b → own ≡ numberAt 2 b atOwnCount → held ≡ numberAt 2 b atHeldCount
     → h ≡ nextHead b → SendRoom from (to + slotSize * own) held (h .index) b
-unfolding place offset stateLength sections sum ownCount heldCount numberedIn nextHead
+unfolding place offset stateLength sections sum nextHead
 send-room b from to own held h r e₁ e₂ e₃ e₄ e₅ =
     let c = r .counts in
     record {
@@ -148,7 +149,7 @@ pub held-sent : (b b₁ b₂ : List ℕ) (from to own held num : ℕ) (h : Actio
     → held ≡ numberAt 2 b atHeldCount → num ≡ numberAt 2 b atNumbered → h ≡ nextHead b → b₁ ≡ patched (to + slotSize * own) (movedSlots h held from b) b
     → b₂ ≡ patched atHeldCount (bytesOf 2 0) (patched atOwnCount (bytesOf 2 (own + held)) (patched atNumbered (bytesOf 2 (num + held)) b₁))
     → (s : Server) → Holds s b → b₂ ≡ image (sendHeld s) b
-unfolding sections parts sum offset sendHeld numbered ownCount heldCount numberedIn queue
+unfolding sections parts sum offset sendHeld numbered queue
 held-sent b b₁ b₂ from to own held num h ready e₁ e₂ e₃ e₄ e₅ e₆ e₇ e₈ s r =
     let n : ℕ = s .servers in
     let q : ℕ = s .quota in
@@ -157,9 +158,9 @@ held-sent b b₁ b₂ from to own held num h ready e₁ e₂ e₃ e₄ e₅ e₆
     let made : List Action = madeOf (s .held) s in
     let f = well-formed-fits s (r .formed) in
     let facts = well-formed-facts s (r .formed) in
-    let count : own ≡ length list = e₃ ∙ holds-own-count s b r in
-    let helds : held ≡ length (s .held) = e₄ ∙ holds-held-count s b r in
-    let nums : num ≡ s .log .numbered = e₅ ∙ holds-numbered s b r in
+    let count : own ≡ length list = e₃ ∙ numbers s b r .own in
+    let helds : held ≡ length (s .held) = e₄ ∙ numbers s b r .held in
+    let nums : num ≡ s .log .numbered = e₅ ∙ numbers s b r .numbered in
     let x : List ℕ = movedSlots h held from b in
     let slots : x ≡ actionSlots made = (λ i. movedSlots (e₆ i) (helds i) (e₁ i) b) ∙ all-made s b r in
     let size : length (actionSlots list) ≡ slotSize * length list = action-slots-length list (f .own) in

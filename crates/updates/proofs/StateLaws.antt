@@ -1,30 +1,29 @@
 -- A collected State in place.
 -- Assumes nothing.
-use Prim.Native.Nat.{ℕ, zero, suc, _+_, _*_, _%_, _^_, _≤_, _<_}
+use Prim.Native.Nat.{ℕ, zero, suc, _+_, _*_, _≤_, _<_}
 use mathlib.Core.Path.{_≡_, refl, sym, ap, ap₂, _∙_}
 use mathlib.Core.Bool.{Bool, true, false}
 use mathlib.Core.List.{List, [], _∷_, _++_, append-assoc}
 use mathlib.Core.Option.{Option, none, some}
 use native.Mathlib.Decide.{ℕ-discrete}
-use native.Mathlib.Nat.{zero-add, suc-mul, mul-le-mul-right}
+use native.Mathlib.Nat.{zero-add, suc-mul, mul-le-mul-right, mul-le-mul}
 use native.Mathlib.Omega.{arith}
-use lib.Bits.{bitOr, bitAnd, and-comm}
-use lib.ListN.{length, getD, take, drop, set, length-append, length-take, length-drop, length-set, take-append-drop}
+use lib.ListN.{length, getD, take, drop, set, length-set, take-append-drop}
 use lib.Seq.{take-at, drop-at, getD-set-same, getD-set-other, take-append-add, drop-append-add, drop-append-le}
 use Rattle.base.specs.Bytes.{bytesOf, numberAt}
 use Rattle.base.proofs.BytesLaws.{bytes-length}
 use Rattle.base.specs.Lists.{isThere, sum, Each}
 use Rattle.base.specs.Patched.{patched}
-use Rattle.base.proofs.Sections.{begin, begin-end}
-use Rattle.base.specs.Sets.{inSet, withMember, inside}
-use Rattle.base.proofs.SetLaws.{in-with-member, with-member-below, same-sets, members-inside}
+use Rattle.base.proofs.Sections.{begin}
+use Rattle.base.specs.Sets.{inSet, withMember}
+use Rattle.base.proofs.SetLaws.{in-with-member, with-member-below, same-sets}
 use Rattle.base.specs.Tests.{_or_}
-use Rattle.base.proofs.TestLaws.{eq-yes, eq-no, eq-holds}
+use Rattle.base.proofs.TestLaws.{eq-yes, eq-no}
 use Rattle.format.specs.Types.{State, state}
 use Rattle.format.specs.Write.{write}
 use Rattle.replication.specs.Machine.Types.{Server, contextOf}
 use Rattle.replication.specs.Machine.Step.{withState}
-use Rattle.engine.specs.Layout.{stateSize, theHeader, theStates, sections, sectionSize, offset, stateLength, headerSize, atServers, atQuota, atStates}
+use Rattle.engine.specs.Layout.{stateSize, theHeader, theStates, sections, sectionSize, offset, stateLength, atServers, atQuota, atStates, mostStateSize, mostStatesAt}
 use Rattle.engine.specs.Image.{over, headerBytes, senders, stateOver, statesOver, section, parts, image, fields}
 use Rattle.record.specs.declared.State.{State as Numbers}
 use Rattle.engine.specs.Header.{headerOf, headerIn}
@@ -39,10 +38,14 @@ use Rattle.engine.proofs.InPlace.{holds-section}
 use Rattle.engine.proofs.Fields.{theSenders, one-field}
 use Rattle.queue.proofs.Holding.{holds-changed}
 use Rattle.queue.proofs.Inside.{changed-at}
-use Rattle.updates.specs.Lists.{place, NumberIn, CollectRoom}
+use Rattle.updates.specs.Lists.{NumberIn, CollectRoom, statePlace, stateSlot}
 use Rattle.updates.proofs.Changes.{changed-image}
-use Rattle.updates.proofs.Counts.{holds-servers, holds-quota, holds-place, place-read, header-room}
-use Rattle.updates.proofs.MembershipLaws.{member-shifted}
+use Rattle.engine.specs.Counts.{place}
+use Rattle.engine.proofs.Counts.{numbers, holds-place}
+use mir.Syntax.{w64}
+use mir.Val.{Fits}
+use Rattle.format.specs.Places.{stateCutsAt}
+use Rattle.format.specs.Limits.{mostServers}
 
 -- ---- the set of senders
 
@@ -132,10 +135,10 @@ senders-written : (s : Server) (x : State) (m : ℕ) → m ≡ senders 0 (set (s
 unfolding withState
 senders-written s x m e = ap (λ (k : ℕ). set (fields s) theSenders (bytesOf 1 k)) e
 
-pub state-collected : (k : ℕ) (e b b₁ : List ℕ) (at m : ℕ) → CollectRoom k e b → at ≡ place theStates b + k * stateSize (serversIn b) (quotaIn b)
+pub state-collected : (k : ℕ) (e b b₁ : List ℕ) (at m : ℕ) → CollectRoom k e b → at ≡ statePlace k b
     → m ≡ withMember k (numberAt 1 b atStates) → b₁ ≡ patched atStates (bytesOf 1 m) (patched at e b)
     → (s : Server) (x : State) → Holds s b → write (state x) ≡ e → x .sender ≡ k → b₁ ≡ image (withState x s) b
-unfolding sections sectionSize parts sum offset withState contextOf
+unfolding statePlace sections sectionSize parts sum offset withState contextOf
 state-collected k e b b₁ at m room e₁ e₂ e₃ s x r w from =
     let n : ℕ = s .servers in
     let q : ℕ = s .quota in
@@ -145,8 +148,8 @@ state-collected k e b b₁ at m room e₁ e₂ e₃ s x r w from =
     let f = well-formed-fits s (r .formed) in
     let g = in-range s (r .formed) in
     let count : length xs ≡ n = g .statesCount in
-    let sizes : stateSize (serversIn b) (quotaIn b) ≡ size = λ i. stateSize (holds-servers s b r i) (holds-quota s b r i) in
-    let below : k < length xs = omega (arith, room .number .below, holds-servers s b r) in
+    let sizes : stateSlot b ≡ size = λ i. stateSize (numbers s b r .servers i) (numbers s b r .quota i) in
+    let below : k < length xs = omega (arith, room .number .below, numbers s b r .servers) in
     let sender : x .sender < length xs = omega arith in
     let few : length xs ≤ 8 = omega (arith, g .context .sizes .most) in
     let short : length e ≤ size = omega (arith, room .short) in
@@ -171,30 +174,42 @@ state-collected k e b b₁ at m room e₁ e₂ e₃ s x r w from =
 
 -- ---- the code's numbers
 
-slots-end : (b : List ℕ) (k : ℕ) → NumberIn k b → place theStates b + k * stateSize (serversIn b) (quotaIn b) + stateSize (serversIn b) (quotaIn b) ≤ length b
-unfolding place offset stateLength sections sum
-slots-end b k h =
-    let size : ℕ = stateSize (serversIn b) (quotaIn b) in
+pub state-room : (b : List ℕ) (k at : ℕ) → NumberIn k b → at ≡ statePlace k b → at + stateSlot b ≤ length b
+unfolding statePlace place offset stateLength sections sum
+state-room b k at h e =
+    let size : ℕ = stateSlot b in
     omega (arith, h .counts .long, mul-le-mul-right {m = suc k} {n = serversIn b} size (h .below), suc-mul k size)
 
-pub state-place-read : (b : List ℕ) (n q k at size all : ℕ) → n ≡ numberAt 1 b atServers → q ≡ numberAt 2 b atQuota → at ≡ offset n q theStates → size ≡ stateSize n q → all ≡ k * size
-    → at + all ≡ place theStates b + k * stateSize (serversIn b) (quotaIn b)
-unfolding serversIn quotaIn
-state-place-read b n q k at size all e f g h i =
-    ap₂ {A = ℕ} {B = ℕ} {C = ℕ} (λ u v. u + v) (place-read theStates b n q at e f g) (i ∙ ap (λ (z : ℕ). k * z) (h ∙ λ j. stateSize (e j) (f j)))
+pub state-place-read : (b : List ℕ) (n q k at size all : ℕ) → n ≡ numberAt 1 b atServers → q ≡ numberAt 2 b atQuota → at ≡ place theStates b → size ≡ stateSize n q → all ≡ k * size
+    → at + all ≡ statePlace k b
+unfolding statePlace serversIn quotaIn
+state-place-read b n q k at size all e f g h i = ap₂ {A = ℕ} {B = ℕ} {C = ℕ} (λ u v. u + v) g (i ∙ ap (λ (z : ℕ). k * z) (h ∙ λ j. stateSize (e j) (f j)))
 
-pub state-free : (b : List ℕ) (n q k at size all : ℕ) → NumberIn k b → n ≡ numberAt 1 b atServers → q ≡ numberAt 2 b atQuota → at ≡ offset n q theStates → size ≡ stateSize n q → all ≡ k * size
-    → at + all + stateSize (serversIn b) (quotaIn b) ≤ length b
-state-free b n q k at size all r e f g h i = rw (state-place-read b n q k at size all e f g h i) (slots-end b k r)
+-- The sums as the code makes them.
+module _ (b : List ℕ) (k at : ℕ) (h : NumberIn k b) where
+  states-low : at ≡ place theStates b → at ≤ mostStatesAt
+  unfolding place offset sections sum
+  states-low e = omega (arith, h .counts .sizes .servers)
 
-pub few-numbers : (b : List ℕ) (k : ℕ) → NumberIn k b → k < 8
-few-numbers b k h = omega (arith, h .below, h .counts .sizes .servers)
+  slot-low : stateSlot b ≤ mostStateSize
+  unfolding stateSize
+  slot-low = omega (arith, h .counts .sizes .servers, h .counts .most)
 
-pub few-servers : (b : List ℕ) (k : ℕ) → NumberIn k b → k ≤ 8
-few-servers b k h = omega (arith, few-numbers b k h)
+  pub state-place-fits : (size all : ℕ) → at ≡ place theStates b → size ≤ mostStateSize → all ≤ mostServers * size → Fits w64 (at + all)
+  state-place-fits size all e f g = omega (arith, states-low e)
 
-pub number-header : (b : List ℕ) (k : ℕ) → NumberIn k b → headerSize ≤ length b
-number-header b k h = header-room b (h .counts)
+  pub sent-fits : (n : ℕ) → at ≡ statePlace k b → n ≡ numberAt 1 b atServers → Fits w64 (at + (stateCutsAt + 2 * n))
+  unfolding statePlace serversIn place offset sections sum
+  sent-fits n e f =
+      let few : k * stateSlot b ≤ mostServers * mostStateSize = mul-le-mul {n₁ = k} {m₁ = stateSlot b} {n₂ = mostServers} {m₂ = mostStateSize} (omega (arith, h .below, h .counts .sizes .servers)) slot-low in
+      omega (arith, h .counts .sizes .servers)
 
-pub sender-shifted : (b : List ℕ) (x k : ℕ) → x ≡ numberAt 1 b atStates → k < 8 → bitOr x (1 * 2 ^ k % 256) ≡ withMember k (numberAt 1 b atStates)
-sender-shifted b x k e h = member-shifted x k h ∙ ap (withMember k) e
+-- The set of senders as the code reads it.
+pub senders-told : (k x y : ℕ) (t : Bool) → x ≡ y → t ≡ inSet k x → t ≡ inSet k y
+senders-told k x y t e f = f ∙ ap (inSet k) e
+
+pub senders-with : (k x y m : ℕ) → x ≡ y → m ≡ withMember k x → m ≡ withMember k y
+senders-with k x y m e f = f ∙ ap (withMember k) e
+
+pub state-put-room : (b e : List ℕ) (k at : ℕ) → CollectRoom k e b → at ≡ statePlace k b → at + length e ≤ length b
+state-put-room b e k at h f = omega (arith, state-room b k at (h .number) f, h .short)

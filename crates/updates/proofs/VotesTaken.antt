@@ -24,10 +24,11 @@ use Rattle.engine.proofs.InPlace.{holds-section}
 use Rattle.queue.proofs.Holding.{holds-changed}
 use Rattle.queue.proofs.Inside.{changed-at, over-front}
 use Rattle.updates.specs.declared.votes.VoteNumbers.{VoteNumbers}
-use Rattle.updates.specs.Lists.{place, YellowRoom}
+use Rattle.updates.specs.Lists.{YellowRoom}
 use Rattle.updates.specs.Standing.{voteNumbers}
 use Rattle.updates.proofs.Changes.{changed-image}
-use Rattle.updates.proofs.Counts.{holds-servers, holds-quota, holds-place}
+use Rattle.engine.specs.Counts.{place}
+use Rattle.engine.proofs.Counts.{numbers, holds-place}
 
 pub votes-taken : (e b b₁ b₂ : List ℕ) (at : ℕ) (h t : State) (x : VoteNumbers) → YellowRoom e b → h ≡ headerIn b
     → ((s : Server) (w : Votes) → h ≡ headerOf s → x ≡ voteNumbers w → t ≡ headerOf (withVotes w s)) → at ≡ place theYellow b → b₁ ≡ patched at e b
@@ -41,7 +42,7 @@ votes-taken e b b₁ b₂ at h t x room e₁ f e₂ e₃ e₄ s w r g ids =
     let sec : List ℕ = section n q theYellow b in
     let old : List ℕ = over (idsBytes (s .votes .yellow .ids)) sec in
     let there : at ≡ begin (sections n q) theYellow + 0 = e₂ ∙ holds-place s b r theYellow ∙ sym (add-zero (offset n q theYellow)) in
-    let most : serversIn b * quotaIn b ≡ n * q = λ i. holds-servers s b r i * holds-quota s b r i in
+    let most : serversIn b * quotaIn b ≡ n * q = λ i. numbers s b r .servers i * numbers s b r .quota i in
     let one = changed-at (sections n q) (parts n q s b) b b (holds-changed s b r) theYellow 0 at e there (omega arith) (omega (arith, room .short)) in
     let two = changed-at (sections n q) _ b _ one theHeader 0 0 (headerWritten t) refl (omega arith) (omega (arith, written-length t)) in
     let list : patched 0 e old ≡ over (idsBytes (w .yellow .ids)) sec =

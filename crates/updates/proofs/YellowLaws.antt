@@ -30,12 +30,19 @@ use Rattle.engine.specs.Image.{over, headerBytes, section, parts, image, fields
 use Rattle.engine.proofs.InRange.{in-range}
 use Rattle.engine.proofs.Used.{ids-append}
 use Rattle.engine.specs.Holding.{Holds}
-use Rattle.updates.specs.Lists.{yellowCount, place}
 use Rattle.updates.proofs.Changes.{changed-image}
 use Rattle.queue.proofs.Inside.{changed-at, over-extended}
 use Rattle.queue.proofs.Holding.{holds-changed}
 use Rattle.engine.proofs.Fields.{theYellowCount, one-field}
-use Rattle.updates.proofs.Counts.{holds-yellow-count, holds-place, holds-ids}
+use Rattle.engine.specs.Counts.{yellowCount, place}
+use Rattle.engine.proofs.Counts.{numbers, holds-place}
+use Rattle.engine.specs.Decode.{decoded, decodedAs}
+use Rattle.engine.proofs.InPlace.{holds-decoded}
+
+-- The yellow ids, as they are read from the buffer.
+pub holds-ids : (s : Server) (b : List ℕ) → Holds s b → idsAt (yellowCount b) b (place theYellow b) ≡ s .votes .yellow .ids
+unfolding decoded decodedAs place
+holds-ids s b r = ap (λ (x : Server). x .votes .yellow .ids) (holds-decoded s b r)
 
 -- ---- ids as bytes
 
@@ -112,7 +119,7 @@ id-added s b b₁ b₂ d r room e₁ e₂ =
     let q : ℕ = s .quota in
     let ids : List Id = s .votes .yellow .ids in
     let t : Server = withVotes (withIds (ids ++ (d ∷ [])) (s .votes)) s in
-    let count : yellowCount b ≡ length ids = holds-yellow-count s b r in
+    let count : yellowCount b ≡ length ids = numbers s b r .yellow in
     let at : place theYellow b + 3 * yellowCount b ≡ begin (sections n q) theYellow + length (idsBytes ids) =
     ap₂ {A = ℕ} {B = ℕ} {C = ℕ} (λ x y. x + y) (holds-place s b r theYellow) (ap (λ (m : ℕ). 3 * m) count ∙ sym (ids-length ids)) in
     let fits : length (idsBytes ids) + length (idBytes d) ≤ 3 * (n * q) = omega (arith, ids-length ids, id-length d) in
@@ -133,7 +140,7 @@ id-added s b b₁ b₂ d r room e₁ e₂ =
 -- The id is there already.
 pub id-there : (d : Id) (b : List ℕ) (at m : ℕ) (t : Bool) → at ≡ place theYellow b → m ≡ numberAt 2 b atYellowCount → t ≡ hasId d (idsAt m b at) → t ≡ true
     → (s : Server) → Holds s b → idOk (contextOf s) d ≡ true → b ≡ image (withVotes (joinYellow d (s .votes)) s) b
-unfolding joinYellow addId yellowCount
+unfolding joinYellow addId
 id-there d b at m t e₁ e₂ e₃ here s r ok =
     let ids : List Id = s .votes .yellow .ids in
     let has : hasId d ids ≡ true = ap (hasId d) (sym (holds-ids s b r)) ∙ rw (← e₁, ← e₂) (sym e₃ ∙ here) in
@@ -143,7 +150,7 @@ id-there d b at m t e₁ e₂ e₃ here s r ok =
 pub id-new : (d : Id) (b b₂ : List ℕ) (at m : ℕ) (t : Bool) → at ≡ place theYellow b → m ≡ numberAt 2 b atYellowCount → t ≡ hasId d (idsAt m b at) → t ≡ false
     → b₂ ≡ patched atYellowCount (bytesOf 2 (m + 1)) (patched (at + 3 * m) (idBytes d) b)
     → (s : Server) → Holds s b → idOk (contextOf s) d ≡ true → b₂ ≡ image (withVotes (joinYellow d (s .votes)) s) b
-unfolding joinYellow addId yellowCount
+unfolding joinYellow addId
 id-new d b b₂ at m t e₁ e₂ e₃ away f s r ok =
     let ids : List Id = s .votes .yellow .ids in
     let new : hasId d ids ≡ false = ap (hasId d) (sym (holds-ids s b r)) ∙ rw (← e₁, ← e₂) (sym e₃ ∙ away) in

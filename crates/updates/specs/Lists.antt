@@ -7,62 +7,44 @@ use mathlib.Core.Logic.{_⊎_}
 use lib.ListN.{length}
 use Rattle.base.specs.Bytes.{numberAt}
 use Rattle.base.specs.Lists.{Begins}
-use Rattle.format.specs.Limits.{mostPayload, mostHeld}
+use Rattle.format.specs.Limits.{mostPayload}
+use Rattle.format.specs.Places.{idSize}
 use Rattle.record.specs.declared.ActionHead.{ActionHead}
 use Rattle.replication.specs.Machine.Types.{Log, Votes, Configuration, Membership, Server, noStates}
 use Rattle.replication.specs.Machine.WellFormed.{queue}
-use Rattle.engine.specs.Layout.{SizesIn, headerSize, stateSize, offset, stateLength, atMe, atGreenLength, atNumbered, atOwnCount, atHeldCount, atYellowCount}
+use Rattle.engine.specs.Layout.{headerSize, stateSize, theStates, atMe}
 use Rattle.engine.specs.Decode.{serversIn, quotaIn}
-
--- ---- the numbers of the buffer b
-
-unfoldable pub numberedIn : List ℕ → ℕ
-numberedIn b = numberAt 2 b atNumbered
-
-unfoldable pub ownCount : List ℕ → ℕ
-ownCount b = numberAt 2 b atOwnCount
-
-unfoldable pub heldCount : List ℕ → ℕ
-heldCount b = numberAt 2 b atHeldCount
-
-unfoldable pub yellowCount : List ℕ → ℕ
-yellowCount b = numberAt 2 b atYellowCount
+use Rattle.engine.specs.Counts.{greenCount, numberedIn, place, mostActions, CountsIn}
 
 unfoldable pub configurationOf : (id set : ℕ) → Configuration
 configurationOf id set = record { id = id; set = set }
 
--- Where the section k begins.
-unfoldable pub place : ℕ → List ℕ → ℕ
-place k b = offset (serversIn b) (quotaIn b) k
-
--- The counts are in range, and the buffer is long enough for them.
-pub record CountsIn (b : List ℕ) : Type 0 where
-  pub sizes : SizesIn (serversIn b) (quotaIn b)
-  pub some : 1 ≤ serversIn b * quotaIn b
-  pub long : stateLength (serversIn b) (quotaIn b) ≤ length b
-  pub numbered : numberedIn b ≤ quotaIn b
-  pub own : ownCount b ≤ quotaIn b
-  pub held : heldCount b ≤ mostHeld
-  pub yellow : yellowCount b ≤ serversIn b * quotaIn b
-
 -- The next own action but its payload: the server's number, the next index, the green length.
 unfoldable pub nextHead : List ℕ → ActionHead
-nextHead b = record { creator = numberAt 1 b atMe; index = numberAt 2 b atNumbered + 1; «green_length» = numberAt 4 b atGreenLength }
+nextHead b = record { creator = numberAt 1 b atMe; index = numberedIn b + 1; «green_length» = greenCount b }
 
 -- Room for a yellow list of these bytes.
 pub record YellowRoom (e b : List ℕ) : Type 0 where
   pub counts : CountsIn b
-  pub short : length e ≤ 3 * (serversIn b * quotaIn b)
+  pub short : length e ≤ idSize * mostActions b
 
 -- A server's number.
 pub record NumberIn (k : ℕ) (b : List ℕ) : Type 0 where
   pub counts : CountsIn b
   pub below : k < serversIn b
 
+-- How long the slot of a collected State is.
+abbrev pub stateSlot : List ℕ → ℕ
+stateSlot b = stateSize (serversIn b) (quotaIn b)
+
+-- Where the slot of server k begins.
+unfoldable pub statePlace : (k : ℕ) → List ℕ → ℕ
+statePlace k b = place theStates b + k * stateSlot b
+
 -- The record e has room in the slot of server k.
 pub record CollectRoom (k : ℕ) (e b : List ℕ) : Type 0 where
   pub number : NumberIn k b
-  pub short : length e ≤ stateSize (serversIn b) (quotaIn b)
+  pub short : length e ≤ stateSlot b
 
 -- Room for the payload p.
 pub record PayloadRoom (p b : List ℕ) : Type 0 where

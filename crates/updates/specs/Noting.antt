@@ -1,13 +1,17 @@
 -- The collected States' green lengths noted, slot by slot.
 -- Assumes nothing.
-use Prim.Native.Nat.{ℕ}
+use Prim.Native.Nat.{ℕ, _+_, _*_}
 use mathlib.Core.List.{List}
 use mathlib.Core.Option.{Option, none, some}
 use lib.ListN.{take}
+use Rattle.base.specs.Bytes.{numberAt}
 use Rattle.base.specs.Lists.{present}
+use Rattle.format.specs.Places.{stateCutsAt}
 use Rattle.format.specs.Types.{State}
 use Rattle.replication.specs.Machine.Colours.{note}
 use Rattle.replication.specs.Machine.Exchange.{noteAll}
+use Rattle.engine.specs.Decode.{serversIn}
+use Rattle.updates.specs.Lists.{statePlace}
 
 -- Of a slot's State, if one is in.
 unfoldable pub noteSlot : Option State → List ℕ → List ℕ
@@ -17,3 +21,7 @@ noteSlot (some x) noted = note (x .sender) (x .greenLength) noted
 -- Of the first k slots.
 unfoldable pub noteFirst : ℕ → List (Option State) → List ℕ → List ℕ
 noteFirst k xs noted = noteAll (present (take k xs)) noted
+
+-- The green length in the State of server k in the buffer b: behind the cuts.
+unfoldable pub sentLength : (k : ℕ) → List ℕ → ℕ
+sentLength k b = numberAt 4 b (statePlace k b + (stateCutsAt + 2 * serversIn b))

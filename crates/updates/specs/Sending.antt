@@ -6,9 +6,10 @@ use lib.ListN.{length}
 use Rattle.base.specs.Bytes.{partAt}
 use Rattle.record.specs.Blocks.{headBytes}
 use Rattle.record.specs.declared.ActionHead.{ActionHead}
+use Rattle.format.specs.Limits.{mostQuota, mostHeld}
 use Rattle.engine.specs.Decode.{quotaIn}
 use Rattle.engine.specs.Layout.{heldSize, slotSize}
-use Rattle.updates.specs.Lists.{ownCount, heldCount, CountsIn}
+use Rattle.engine.specs.Counts.{ownCount, heldCount, CountsIn}
 
 -- The head of the action j after the one with this head.
 unfoldable pub laterHead : ActionHead → ℕ → ActionHead
@@ -23,8 +24,8 @@ movedSlots h (suc m) from b = movedSlots h m from b ++ (headBytes (laterHead h m
 pub record SendRoom (from to m index : ℕ) (b : List ℕ) : Type 0 where
   pub before : from + heldSize * m ≤ to
   pub room : to + slotSize * m ≤ length b
-  pub few : m ≤ 16
-  pub low : index ≤ 257
+  pub few : m ≤ mostHeld
+  pub low : index ≤ mostQuota + 1
 
 -- The own list has room for all held requests.
 pub record SendReady (b : List ℕ) : Type 0 where

@@ -5,24 +5,17 @@ use mathlib.Core.List.{List, []}
 use mathlib.Core.Option.{none}
 use lib.ListN.{length}
 use Rattle.base.specs.Bytes.{numberAt}
-use Rattle.format.specs.Limits.{mostServers, mostQuota}
 use Rattle.replication.specs.Machine.Types.{Non-prim, Votes, Server, withMembership, withHeld, noStates}
-use Rattle.engine.specs.Layout.{headerSize, slotSize, theOwn, atMe, atQueueLength, atOwnCount}
+use Rattle.engine.specs.Layout.{headerSize, slotSize, atMe, theQueue}
 use Rattle.engine.specs.Header.{lastOf, markNumbers}
-use Rattle.queue.specs.Queue.{queueAt}
-use Rattle.queue.specs.Queue as Queue
-use Rattle.updates.specs.Lists.{place, CountsIn}
 use Rattle.updates.specs.declared.votes.VoteNumbers.{VoteNumbers}
+use Rattle.engine.specs.Counts.{place, CountsIn, ownCount, queueCount}
 
 -- The own actions have room behind the queue.
 pub record EnterRoom (b : List ℕ) : Type 0 where
   pub counts : CountsIn b
-  pub queue : Queue.CountsIn b
-  pub header : headerSize ≤ length b
-  pub before : place theOwn b + slotSize * numberAt 2 b atOwnCount ≤ queueAt b
-  pub room : queueAt b + (slotSize * numberAt 4 b atQueueLength + slotSize * numberAt 2 b atOwnCount) ≤ length b
+  pub room : place theQueue b + (slotSize * queueCount b + slotSize * ownCount b) ≤ length b
   pub cut : headerSize + 2 * numberAt 1 b atMe + 2 ≤ length b
-  pub few : numberAt 4 b atQueueLength ≤ mostServers * mostQuota
 
 -- The numbers of votes: all but the yellow ids.
 unfoldable pub voteNumbers : Votes → VoteNumbers

@@ -2,6 +2,7 @@
 ghost use mathlib.Core.Path.{_≡_};
 ghost use Prim.Native.Nat.{_≤_, _<_};
 ghost use lib.ListN.{length};
+ghost use Rattle.format.specs.Limits.{mostServers};
 ghost use Rattle.replication.specs.Machine.Types.{Mode, Server, inMode};
 ghost use Rattle.replication.specs.Machine.Step.{entering, leave as left, withCpc};
 ghost use Rattle.engine.specs.Image.{modeNumber, image};
@@ -12,6 +13,7 @@ ghost use Rattle.engine.specs.Layout.{headerSize};
 use crate::numbers::save_numbers;
 use engine::header::load;
 use record::State;
+use record::sets::with_member;
 
 fn with_mode(h: State, mode: u8) -> State
     ensures { λ r. ⌜ ((s : Server) (m : Mode) → h ≡ headerOf s → mode ≡ modeNumber m → r ≡ headerOf (inMode m s)) ⌝ }
@@ -77,10 +79,10 @@ pub fn leave(state: &mut [u8], mode: u8, set: u8)
 }
 
 fn with_cpc(h: State, k: u8) -> State
-    requires { ⌜ k < 8 ⌝ }
+    requires { ⌜ k < mostServers ⌝ }
     ensures { λ r. ⌜ ((s : Server) → h ≡ headerOf s → r ≡ headerOf (withCpc k s)) ⌝ }
 {
-    let cpcs = h.cpcs | (1 << k);
+    let cpcs = with_member(h.cpcs, k as usize);
     let mut t = h;
     t.cpcs = cpcs;
     t
@@ -88,7 +90,7 @@ fn with_cpc(h: State, k: u8) -> State
 
 // The CPC of server k is in.
 pub fn add_cpc(state: &mut [u8], k: u8)
-    requires { ⌜ (headerSize ≤ length (now state)) × (k < 8) ⌝ }
+    requires { ⌜ (headerSize ≤ length (now state)) × (k < mostServers) ⌝ }
     ensures { λ _. ⌜ Becomes (withCpc k) (now (state .entry)) (now (state .exit)) ⌝ }
 {
     let h = load(state);

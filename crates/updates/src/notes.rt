@@ -1,7 +1,7 @@
 // Noted lengths in a state's buffer.
 ghost use mathlib.Core.Path.{_≡_};
 ghost use mathlib.Core.Option.{none};
-ghost use Prim.Native.Nat.{_+_, _*_, _≤_, _<_};
+ghost use Prim.Native.Nat.{_≤_};
 ghost use lib.ListN.{length, getD};
 ghost use Rattle.base.specs.Bytes.{numberAt};
 ghost use Rattle.base.specs.Sets.{inSet};
@@ -9,39 +9,26 @@ ghost use Rattle.replication.specs.Machine.Types.{withNoted};
 ghost use Rattle.replication.specs.Machine.Colours.{note as noted};
 ghost use Rattle.replication.specs.Machine.Exchange.{noteAll};
 ghost use Rattle.replication.specs.Machine.Step.{collected};
-ghost use Rattle.engine.specs.Layout.{stateSize, theNoted, theStates, headerSize, atStates};
-ghost use Rattle.engine.specs.Decode.{serversIn, quotaIn};
+ghost use Rattle.engine.specs.Layout.{headerSize, atStates};
 ghost use Rattle.engine.specs.Holding.{HoldsSome, Becomes};
-ghost use Rattle.updates.specs.Lists.{NumberIn, place};
-ghost use Rattle.updates.specs.Noting.{noteSlot};
-ghost use Rattle.format.specs.Places.{stateCutsAt};
+ghost use Rattle.updates.specs.Lists.{NumberIn};
+ghost use Rattle.updates.specs.Noting.{noteSlot, sentLength};
 use crate::states::state_place;
-use engine::places::noted_at;
+use engine::places::THE_NOTED;
+use engine::places::place_of;
 use record::State;
 use record::StateHead;
 use record::bytes::num8;
-use record::bytes::num16;
 use record::bytes::num32;
 use record::parts::put32;
-
-// Where the noted length of server c lies.
-fn noted_place(state: &[u8], c: u8) -> usize
-    requires { ⌜ NumberIn c (now state) ⌝ }
-    ensures { λ r. ⌜ (r ≡ place theNoted (now (state .entry)) + 4 * c) × (r + 4 ≤ length (now (state .entry))) ⌝ }
-{
-    noted_at(
-        num8(state, State::AT_SERVERS) as u32,
-        num16(state, State::AT_QUOTA) as u32,
-    ) as usize
-        + 4 * c as usize
-}
+use record::sets::has;
 
 // "a noted length never falls"
 pub fn note(state: &mut [u8], c: u8, l: u32)
     requires { ⌜ NumberIn c (now state) ⌝ }
     ensures { λ _. ⌜ Becomes (λ s. withNoted (noted c l (s .noted)) s) (now (state .entry)) (now (state .exit)) ⌝ }
 {
-    let at = noted_place(state, c);
+    let at = place_of(state, THE_NOTED) + 4 * c as usize;
     let old = num32(state, at);
     if l <= old {
         return;
@@ -51,16 +38,16 @@ pub fn note(state: &mut [u8], c: u8, l: u32)
 
 // Whether the State of server k is in.
 fn is_in(state: &[u8], k: u8) -> bool
-    requires { ⌜ (headerSize ≤ length (now state)) × (k < 8) ⌝ }
+    requires { ⌜ headerSize ≤ length (now state) ⌝ }
     ensures { λ r. ⌜ r ≡ inSet k (numberAt 1 (now (state .entry)) atStates) ⌝ }
 {
-    (num8(state, State::AT_STATES) >> k) % 2 == 1
+    has(num8(state, State::AT_STATES), k as usize)
 }
 
 // The green length in the State of server k: behind the cuts.
 fn sent_length(state: &[u8], k: u8) -> u32
     requires { ⌜ NumberIn k (now state) ⌝ }
-    ensures { λ r. ⌜ r ≡ numberAt 4 (now (state .entry)) (place theStates (now (state .entry)) + k * stateSize (serversIn (now (state .entry))) (quotaIn (now (state .entry))) + (stateCutsAt + 2 * serversIn (now (state .entry)))) ⌝ }
+    ensures { λ r. ⌜ r ≡ sentLength k (now (state .entry)) ⌝ }
 {
     let at = state_place(state, k);
     let n = num8(state, State::AT_SERVERS) as usize;

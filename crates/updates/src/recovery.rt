@@ -2,38 +2,27 @@
 ghost use mathlib.Core.Path.{_≡_};
 ghost use Prim.Native.Nat.{_+_, _≤_};
 ghost use lib.ListN.{length};
-ghost use Rattle.base.specs.Bytes.{bytesOf, partAt};
+ghost use Rattle.base.specs.Bytes.{bytesOf};
 ghost use Rattle.base.specs.Patched.{patched};
 ghost use Rattle.replication.specs.Machine.Types.{Server, withLog};
 ghost use Rattle.replication.specs.Machine.Colours.{reds};
 ghost use Rattle.replication.specs.Machine.Requests.{recovered};
-ghost use Rattle.engine.specs.Image.{image};
 ghost use Rattle.engine.specs.Header.{headerOf};
 ghost use Rattle.engine.specs.Holding.{HoldsSome, Becomes};
 ghost use Rattle.updates.specs.Standing.{EnterRoom, dropped};
 ghost use Rattle.engine.specs.Layout.{headerSize, atQueueLength, atOwnCount};
 use crate::numbers::save_numbers;
-use crate::requests::own_place;
 use engine::header::load;
-use queue::places::queue_place;
+use engine::places::THE_OWN;
+use engine::places::THE_QUEUE;
+use engine::places::place_of;
 use record::State;
+use record::blocks::copy_up;
 use record::bytes::num8;
 use record::bytes::num16;
 use record::bytes::num32;
 use record::parts::put16;
 use record::parts::put32;
-
-// Copies the `count` bytes from `from` on, which lie in front of `to`, to `to`.
-fn copy_up(state: &mut [u8], from: usize, to: usize, count: usize)
-    requires { ⌜ (from + count ≤ to) × (to + count ≤ length (now state)) ⌝ }
-    ensures { λ _. ⌜ now (state .exit) ≡ patched to (partAt count (now (state .entry)) from) (now (state .entry)) ⌝ }
-{
-    let mut j: usize = 0;
-    while j < count {
-        state[to + j] = state[from + j];
-        j += 1;
-    }
-}
 
 fn put_queue(state: &mut [u8], queue: u32)
     requires { ⌜ headerSize ≤ length (now state) ⌝ }
@@ -59,8 +48,8 @@ fn enter_own(state: &mut [u8])
 {
     let own = num16(state, State::AT_OWN_COUNT);
     let queue = num32(state, State::AT_QUEUE_LENGTH);
-    let from = own_place(state);
-    let to = queue_place(state);
+    let from = place_of(state, THE_OWN);
+    let to = place_of(state, THE_QUEUE);
     let at = State::SIZE + 2 * num8(state, State::AT_ME) as usize;
     let numbered = num16(state, State::AT_NUMBERED);
     copy_up(

@@ -4,42 +4,33 @@ ghost use mathlib.Core.Bool.{true};
 ghost use mathlib.Core.List.{[], _∷_};
 ghost use Prim.Native.Nat.{_+_, _*_, _≤_, _<_};
 ghost use lib.ListN.{length};
-ghost use Rattle.base.specs.Bytes.{bytesOf, numberAt};
+ghost use Rattle.base.specs.Bytes.{bytesOf};
 ghost use Rattle.base.specs.Patched.{patched};
 ghost use Rattle.format.specs.Limits.{mostHeld};
 ghost use Rattle.format.specs.Write.{actionBytes, payloadBytes};
 ghost use Rattle.record.specs.Values.{actionOf};
 ghost use Rattle.replication.specs.Machine.Requests.{quotaLeft, numbered as withNumbered, hold as withHeld};
-ghost use Rattle.engine.specs.Layout.{heldSize, slotSize, theHeld, theOwn, headerSize, atNumbered, atOwnCount, atHeldCount};
+ghost use Rattle.engine.specs.Layout.{heldSize, slotSize, headerSize, atNumbered, atOwnCount, atHeldCount};
 ghost use Rattle.engine.specs.Image.{slot};
 ghost use Rattle.engine.specs.Holding.{BecomesWhere};
-ghost use Rattle.updates.specs.Lists.{CountsIn, PayloadRoom, SlotRoom, nextHead, place};
-use engine::places::held_at;
-use engine::places::own_at;
-use engine::starting::clear;
+ghost use Rattle.updates.specs.Lists.{PayloadRoom, SlotRoom, nextHead};
+ghost use Rattle.engine.specs.Counts.{CountsIn};
+use engine::places::THE_HELD;
+use engine::places::THE_OWN;
+use engine::places::place_of;
 use queue::slots::put_slot;
 use record::ActionHead;
 use record::State;
+use record::blocks::clear;
 use record::bytes::num8;
 use record::bytes::num16;
 use record::bytes::num32;
 use record::parts::put_payload;
 use record::parts::put16;
 
-// Where the own list begins: there is room for one action more.
-pub fn own_place(state: &[u8]) -> usize
-    requires { ⌜ CountsIn (now state) ⌝ }
-    ensures { λ r. ⌜ (r ≡ place theOwn (now (state .entry))) × (r + (slotSize * numberAt 2 (now (state .entry)) atOwnCount + slotSize) ≤ length (now (state .entry))) × (numberAt 2 (now (state .entry)) atOwnCount ≤ 256) × (numberAt 2 (now (state .entry)) atNumbered ≤ 256) × (headerSize ≤ length (now (state .entry))) ⌝ }
-{
-    own_at(
-        num8(state, State::AT_SERVERS) as u32,
-        num16(state, State::AT_QUOTA) as u32,
-    ) as usize
-}
-
 // The next own action but its payload.
 pub fn next_head(state: &[u8]) -> ActionHead
-    requires { ⌜ (numberAt 2 (now state) atNumbered ≤ 256) × (headerSize ≤ length (now state)) ⌝ }
+    requires { ⌜ CountsIn (now state) ⌝ }
     ensures { λ r. ⌜ r ≡ nextHead (now (state .entry)) ⌝ }
 {
     ActionHead {
@@ -71,7 +62,7 @@ pub fn number(state: &mut [u8], payload: &[u8])
     requires { ⌜ PayloadRoom (now payload) (now state) ⌝ }
     ensures { λ _. ⌜ BecomesWhere (λ s. quotaLeft s ≡ true) (withNumbered (now (payload .entry) ∷ [])) (now (state .entry)) (now (state .exit)) ⌝ }
 {
-    let at = own_place(state);
+    let at = place_of(state, THE_OWN);
     let own = num16(state, State::AT_OWN_COUNT);
     let numbered = num16(state, State::AT_NUMBERED);
     let head = next_head(state);
@@ -83,17 +74,6 @@ pub fn number(state: &mut [u8], payload: &[u8])
         numbered + 1,
         own + 1,
     );
-}
-
-// Where the held requests begin: there is room for one more.
-pub fn held_place(state: &[u8]) -> usize
-    requires { ⌜ CountsIn (now state) ⌝ }
-    ensures { λ r. ⌜ (r ≡ place theHeld (now (state .entry))) × (r + (heldSize * numberAt 2 (now (state .entry)) atHeldCount + heldSize) ≤ length (now (state .entry))) × (numberAt 2 (now (state .entry)) atHeldCount ≤ 16) × (headerSize ≤ length (now (state .entry))) ⌝ }
-{
-    held_at(
-        num8(state, State::AT_SERVERS) as u32,
-        num16(state, State::AT_QUOTA) as u32,
-    ) as usize
 }
 
 // A held request's slot from `at` on: its payload, filled up with zeros.
@@ -123,7 +103,7 @@ pub fn hold(state: &mut [u8], payload: &[u8])
     requires { ⌜ PayloadRoom (now payload) (now state) ⌝ }
     ensures { λ _. ⌜ BecomesWhere (λ s. length (s .held) < mostHeld) (withHeld (now (payload .entry))) (now (state .entry)) (now (state .exit)) ⌝ }
 {
-    let at = held_place(state);
+    let at = place_of(state, THE_HELD);
     let count = num16(state, State::AT_HELD_COUNT);
     push_held(state, at + State::HELD * count as usize, payload, count + 1);
 }

@@ -10,55 +10,25 @@ ghost use Rattle.engine.specs.Holding.{Becomes};
 ghost use Rattle.engine.specs.Layout.{heldSize, slotSize, headerSize, atNumbered, atOwnCount, atHeldCount};
 ghost use Rattle.record.specs.Blocks.{headBytes};
 ghost use Rattle.updates.specs.Sending.{SendRoom, SendReady, movedSlots};
-use crate::requests::held_place;
 use crate::requests::next_head;
-use crate::requests::own_place;
 use crate::requests::put_counts;
+use engine::places::THE_HELD;
+use engine::places::THE_OWN;
+use engine::places::place_of;
 use record::ActionHead;
 use record::State;
-use record::blocks::copy;
+use record::blocks::copy_up;
 use record::bytes::num16;
+use record::parts::put_head;
 use record::parts::put16;
-
-// The held request's slot at `from`.
-fn held_slot(state: &[u8], from: usize) -> [u8; State::HELD]
-    requires { ⌜ from + heldSize ≤ length (now state) ⌝ }
-    ensures { λ r. ⌜ r ≡ partAt heldSize (now (state .entry)) from ⌝ }
-{
-    let mut x: [u8; State::HELD] = [0; State::HELD];
-    let mut j: usize = 0;
-    while j < State::HELD {
-        x[j] = state[from + j];
-        j += 1;
-    }
-    x
-}
-
-fn head_bytes(head: ActionHead) -> [u8; 7]
-    ensures { λ r. ⌜ r ≡ headBytes head ⌝ }
-{
-    let index = head.index;
-    let green = head.green_length;
-    [
-        head.creator,
-        (index / 256 % 256) as u8,
-        (index % 256) as u8,
-        (green / 16777216 % 256) as u8,
-        (green / 65536 % 256) as u8,
-        (green / 256 % 256) as u8,
-        (green % 256) as u8,
-    ]
-}
 
 // The slot of an own action at `to`: its head, and the held request at `from`.
 fn send_one(state: &mut [u8], from: usize, to: usize, head: ActionHead)
-    requires { ⌜ (from + heldSize ≤ length (now state)) × (to + slotSize ≤ length (now state)) ⌝ }
+    requires { ⌜ (from + heldSize ≤ to) × (to + slotSize ≤ length (now state)) ⌝ }
     ensures { λ _. ⌜ now (state .exit) ≡ patched to (headBytes head ++ partAt heldSize (now (state .entry)) from) (now (state .entry)) ⌝ }
 {
-    let x = held_slot(state, from);
-    let y = head_bytes(head);
-    copy(state, to, &y);
-    copy(state, to + 7, &x);
+    put_head(state, to, head);
+    copy_up(state, from, to + ActionHead::PAYLOAD, State::HELD);
 }
 
 // All `count` held requests from `from` on, to slots from `to` on.
@@ -96,8 +66,8 @@ pub fn send_held(state: &mut [u8])
     requires { ⌜ SendReady (now state) ⌝ }
     ensures { λ _. ⌜ Becomes sendHeld (now (state .entry)) (now (state .exit)) ⌝ }
 {
-    let from = held_place(state);
-    let at = own_place(state);
+    let from = place_of(state, THE_HELD);
+    let at = place_of(state, THE_OWN);
     let own = num16(state, State::AT_OWN_COUNT);
     let held = num16(state, State::AT_HELD_COUNT);
     let numbered = num16(state, State::AT_NUMBERED);

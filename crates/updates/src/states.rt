@@ -1,43 +1,45 @@
 // Collected States in a state's buffer.
 ghost use mathlib.Core.Path.{_≡_};
-ghost use Prim.Native.Nat.{_+_, _*_, _≤_, _<_};
+ghost use Prim.Native.Nat.{_+_, _≤_, _<_};
 ghost use lib.ListN.{length};
 ghost use Rattle.base.specs.Bytes.{bytesOf, numberAt};
 ghost use Rattle.base.specs.Patched.{patched};
 ghost use Rattle.base.specs.Sets.{withMember};
+ghost use Rattle.format.specs.Limits.{mostServers};
 ghost use Rattle.format.specs.Types.{State, state as stateRecord};
 ghost use Rattle.format.specs.Write.{write};
 ghost use Rattle.replication.specs.Machine.Types.{Server};
 ghost use Rattle.replication.specs.Machine.Step.{withState};
-ghost use Rattle.engine.specs.Layout.{stateSize, theStates, headerSize, atStates};
+ghost use Rattle.engine.specs.Layout.{headerSize, atStates};
 ghost use Rattle.engine.specs.Image.{image};
-ghost use Rattle.engine.specs.Decode.{serversIn, quotaIn};
 ghost use Rattle.engine.specs.Holding.{Holds};
-ghost use Rattle.updates.specs.Lists.{NumberIn, CollectRoom, place};
+ghost use Rattle.updates.specs.Lists.{statePlace, NumberIn, CollectRoom};
+use engine::places::THE_STATES;
+use engine::places::place_of;
 use engine::places::state_size;
-use engine::places::states_at;
 use engine::sizes::product;
 use record::blocks::copy;
 use record::bytes::num8;
 use record::bytes::num16;
 use record::parts::put8;
+use record::sets::with_member;
 
 // Where the slot of server k begins.
 pub fn state_place(state: &[u8], k: u8) -> usize
     requires { ⌜ NumberIn k (now state) ⌝ }
-    ensures { λ r. ⌜ (r ≡ place theStates (now (state .entry)) + k * stateSize (serversIn (now (state .entry))) (quotaIn (now (state .entry)))) × (r + stateSize (serversIn (now (state .entry))) (quotaIn (now (state .entry))) ≤ length (now (state .entry))) × (headerSize ≤ length (now (state .entry))) ⌝ }
+    ensures { λ r. ⌜ r ≡ statePlace k (now (state .entry)) ⌝ }
 {
     let n = num8(state, record::State::AT_SERVERS) as u32;
     let q = num16(state, record::State::AT_QUOTA) as u32;
-    (states_at(n, q) + product(k as u32, state_size(n, q))) as usize
+    place_of(state, THE_STATES) + product(k as u32, state_size(n, q)) as usize
 }
 
 // The set of senders, with server k.
 fn with_sender(state: &[u8], k: u8) -> u8
-    requires { ⌜ (headerSize ≤ length (now state)) × (k < 8) ⌝ }
+    requires { ⌜ (headerSize ≤ length (now state)) × (k < mostServers) ⌝ }
     ensures { λ r. ⌜ r ≡ withMember k (numberAt 1 (now (state .entry)) atStates) ⌝ }
 {
-    num8(state, record::State::AT_STATES) | (1 << k)
+    with_member(num8(state, record::State::AT_STATES), k as usize)
 }
 
 // A record at `at`, and the set of senders.

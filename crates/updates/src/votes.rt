@@ -12,9 +12,10 @@ ghost use Rattle.updates.specs.Lists.{YellowRoom};
 ghost use Rattle.updates.specs.Standing.{voteNumbers};
 ghost use Rattle.engine.specs.Layout.{headerSize};
 use crate::numbers::save_numbers;
-use crate::yellow::yellow_place;
 use engine::header::load;
 use engine::header::save;
+use engine::places::THE_YELLOW;
+use engine::places::place_of;
 use record::AttemptIndex;
 use record::LastPrimary;
 use record::Mark;
@@ -96,7 +97,7 @@ pub fn take_votes(state: &mut [u8], v: VoteNumbers, ids: &[u8])
 {
     let h = load(state);
     let t = with_votes(h, v);
-    let at = yellow_place(state);
+    let at = place_of(state, THE_YELLOW);
     copy(state, at, ids);
     save(state, t);
 }

@@ -4,7 +4,6 @@ use Rattle.queue.proofs.entering.append.Statement.{statement}
 use Rattle.queue.proofs.entering.append.Tie as tie
 use Rattle.queue.proofs.entering.append.Reads as reads
 use Rattle.queue.proofs.entering.append.Lts as lts
-use Rattle.queue.proofs.places.queue_place.Reads as queue-place-reads
 use Rattle.queue.proofs.slots.put_slot.Reads as put-slot-reads
 use Rattle.record.proofs.parts.put32.Reads as put32-reads
 use Rattle.record.proofs.bytes.num32.Reads as num32-reads
@@ -12,8 +11,8 @@ use Rattle.record.proofs.bytes.num32.Reads as num32-reads
 num32-requires : tie.Need-num32-requires
 num32-requires c κs = search needs
 
-queue-place-requires : tie.Need-queue-place-requires
-queue-place-requires c κs = search needs
+place-of-requires : tie.Need-place-of-requires
+place-of-requires c κs = search needs
 
 cast-at : tie.Need-cast-at
 cast-at c = search needs
@@ -44,7 +43,7 @@ append-spec =
     tie.close
     (tie.spec
     num32-requires
-    queue-place-requires
+    place-of-requires
     cast-at
     mul-at
     add-at

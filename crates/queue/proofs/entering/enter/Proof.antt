@@ -6,7 +6,6 @@ use Rattle.queue.proofs.entering.enter.Reads as reads
 use Rattle.queue.proofs.entering.enter.Lts as lts
 use Rattle.queue.proofs.entering.enqueue.Reads as enqueue-reads
 use Rattle.queue.proofs.entering.pop_own.Reads as pop-own-reads
-use Rattle.queue.proofs.places.own_place.Reads as own-place-reads
 use Rattle.record.proofs.bytes.num16.Reads as num16-reads
 use Rattle.record.proofs.bytes.num8.Reads as num8-reads
 
@@ -16,8 +15,8 @@ num8-requires c κs = search needs
 num16-requires : tie.Need-num16-requires
 num16-requires c κs = search needs
 
-own-place-requires : tie.Need-own-place-requires
-own-place-requires c κs = search needs
+place-of-requires : tie.Need-place-of-requires
+place-of-requires c κs = search needs
 
 enqueue-requires : tie.Need-enqueue-requires
 enqueue-requires c κs = search needs
@@ -49,7 +48,7 @@ enter-spec =
     (tie.spec
     num8-requires
     num16-requires
-    own-place-requires
+    place-of-requires
     enqueue-requires
     same-length
     returns

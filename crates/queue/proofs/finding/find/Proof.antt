@@ -10,7 +10,6 @@ use Rattle.queue.proofs.finding.find.Statement.{statement}
 use Rattle.queue.proofs.finding.find.Tie as tie
 use Rattle.queue.proofs.finding.find.Reads as reads
 use Rattle.queue.proofs.finding.find.Lts as lts
-use Rattle.queue.proofs.finding.has_id.Reads as has-id-reads
 use Rattle.engine.specs.Layout.{slotSize}
 
 abbrev Inv-loop : tie.InvT-loop
@@ -22,14 +21,14 @@ abbrev μ-loop : tie.MeasureT-loop
 loop-holds : tie.Need-loop-holds Inv-loop μ-loop
 loop-holds c = search (needs, find-start)
 
-mul-has-id : tie.Need-mul-has-id Inv-loop μ-loop
-mul-has-id c = omega arith
+mul-is-id : tie.Need-mul-is-id Inv-loop μ-loop
+mul-is-id c = omega arith
 
-add-has-id : tie.Need-add-has-id Inv-loop μ-loop
-add-has-id c = omega arith
+add-is-id : tie.Need-add-is-id Inv-loop μ-loop
+add-is-id c = omega arith
 
-has-id-requires : tie.Need-has-id-requires Inv-loop μ-loop
-has-id-requires c κs = omega arith
+is-id-requires : tie.Need-is-id-requires Inv-loop μ-loop
+is-id-requires c κs = omega arith
 
 returns : tie.Need-returns Inv-loop μ-loop
 returns c = search (needs, find-found)
@@ -53,9 +52,9 @@ find-spec =
     Inv-loop
     μ-loop
     loop-holds
-    mul-has-id
-    add-has-id
-    has-id-requires
+    mul-is-id
+    add-is-id
+    is-id-requires
     returns
     add-k
     loop-less

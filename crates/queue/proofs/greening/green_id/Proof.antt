@@ -7,7 +7,6 @@ use Rattle.queue.proofs.greening.green_id.Lts as lts
 use Rattle.queue.proofs.greening.promote.Reads as promote-reads
 use Rattle.queue.proofs.greening.red_count.Reads as red-count-reads
 use Rattle.queue.proofs.greening.red_place.Reads as red-place-reads
-use Rattle.queue.proofs.places.queue_place.Reads as queue-place-reads
 use Rattle.record.proofs.bytes.num32.Reads as num32-reads
 
 red-place-requires : tie.Need-red-place-requires
@@ -25,8 +24,8 @@ returns c = search (needs, green-passed)
 num32-requires : tie.Need-num32-requires
 num32-requires c κs = search needs
 
-queue-place-requires : tie.Need-queue-place-requires
-queue-place-requires c κs = search needs
+place-of-requires : tie.Need-place-of-requires
+place-of-requires c κs = search needs
 
 cast-promote : tie.Need-cast-promote
 cast-promote c = search needs
@@ -55,7 +54,7 @@ green-id-spec =
     same-length
     returns
     num32-requires
-    queue-place-requires
+    place-of-requires
     cast-promote
     mul-promote
     add-promote

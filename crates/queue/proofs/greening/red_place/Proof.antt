@@ -6,7 +6,6 @@ use Rattle.queue.proofs.greening.red_place.Reads as reads
 use Rattle.queue.proofs.greening.red_place.Lts as lts
 use Rattle.queue.proofs.finding.find.Reads as find-reads
 use Rattle.queue.proofs.greening.red_count.Reads as red-count-reads
-use Rattle.queue.proofs.places.queue_place.Reads as queue-place-reads
 use Rattle.record.proofs.bytes.num32.Reads as num32-reads
 
 red-count-requires : tie.Need-red-count-requires
@@ -15,8 +14,8 @@ red-count-requires c κs = search needs
 num32-requires : tie.Need-num32-requires
 num32-requires c κs = search needs
 
-queue-place-requires : tie.Need-queue-place-requires
-queue-place-requires c κs = search needs
+place-of-requires : tie.Need-place-of-requires
+place-of-requires c κs = search needs
 
 cast-find : tie.Need-cast-find
 cast-find c = search needs
@@ -39,7 +38,7 @@ red-place-spec =
     (tie.spec
     red-count-requires
     num32-requires
-    queue-place-requires
+    place-of-requires
     cast-find
     mul-find
     add-find

@@ -2,11 +2,11 @@ use native.Mathlib.Omega.{arith}
 use Rattle.engine.proofs.InPlace.{holds-some}
 use Rattle.step.proofs.TableLaws.{filled-start, filled-again, filled-end}
 use Rattle.step.specs.Resending.{queueIn, Filled}
-use Rattle.queue.specs.Queue.{queueCount}
 use Prim.Native.Nat.{_≤_}
 use borrow.Author.Needs.{needs}
 use Rattle.step.proofs.table.places.Statement.{statement}
 use Rattle.step.proofs.table.places.Tie as tie
+use Rattle.engine.specs.Counts.{queueCount}
 
 abbrev Inv-loop : tie.InvT-loop
 Inv-loop state table₀ k₀ table k = (k ≤ queueCount state) × Filled k table (queueIn state)

@@ -3,8 +3,14 @@ use borrow.Author.Needs.{needs}
 use Rattle.updates.proofs.notes.note.Statement.{statement}
 use Rattle.updates.proofs.notes.note.Tie as tie
 
-noted-place-requires : tie.Need-noted-place-requires
-noted-place-requires c κs = search needs
+place-of-requires : tie.Need-place-of-requires
+place-of-requires c κs = search needs
+
+mul-at : tie.Need-mul-at
+mul-at c = search needs
+
+add-at : tie.Need-add-at
+add-at c = search needs
 
 num32-requires : tie.Need-num32-requires
 num32-requires c κs = search needs
@@ -28,7 +34,9 @@ pub note-spec : {M : Type 1} → statement M
 note-spec =
     tie.close
     (tie.spec
-    noted-place-requires
+    place-of-requires
+    mul-at
+    add-at
     num32-requires
     same-length
     returns

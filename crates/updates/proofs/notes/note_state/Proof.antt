@@ -1,11 +1,10 @@
-use Rattle.updates.proofs.StateLaws.{few-numbers, number-header}
 use Rattle.updates.proofs.NoteAllLaws.{slot-empty, slot-noted}
 use borrow.Author.Needs.{needs}
 use Rattle.updates.proofs.notes.note_state.Statement.{statement}
 use Rattle.updates.proofs.notes.note_state.Tie as tie
 
 is-in-requires : tie.Need-is-in-requires
-is-in-requires c κs = search (needs, few-numbers, number-header)
+is-in-requires c κs = search needs
 
 same-length : tie.Need-same-length
 same-length c = search needs

@@ -1,4 +1,5 @@
 use Rattle.updates.proofs.NoteAllLaws.{sent-place, sent-read}
+use Rattle.updates.proofs.StateLaws.{sent-fits}
 use borrow.Author.Needs.{needs}
 use Rattle.updates.proofs.notes.sent_length.Statement.{statement}
 use Rattle.updates.proofs.notes.sent_length.Tie as tie
@@ -19,7 +20,7 @@ add-num32 : tie.Need-add-num32
 add-num32 c = search needs
 
 add-num32-2 : tie.Need-add-num32-2
-add-num32-2 c = search needs
+add-num32-2 c = search (needs, sent-fits)
 
 num32-requires : tie.Need-num32-requires
 num32-requires c κs = search (needs, sent-place)

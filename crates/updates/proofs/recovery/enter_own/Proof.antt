@@ -10,11 +10,11 @@ num16-requires c κs = omega arith
 num32-requires : tie.Need-num32-requires
 num32-requires c κs = omega arith
 
-own-place-requires : tie.Need-own-place-requires
-own-place-requires c κs = search needs
+place-of-requires : tie.Need-place-of-requires
+place-of-requires c κs = search needs
 
-queue-place-requires : tie.Need-queue-place-requires
-queue-place-requires c κs = search needs
+place-of-requires-2 : tie.Need-place-of-requires-2
+place-of-requires-2 c κs = search needs
 
 num8-requires : tie.Need-num8-requires
 num8-requires c κs = search needs
@@ -70,8 +70,8 @@ enter-own-spec =
     (tie.spec
     num16-requires
     num32-requires
-    own-place-requires
-    queue-place-requires
+    place-of-requires
+    place-of-requires-2
     num8-requires
     cast-at
     mul-at

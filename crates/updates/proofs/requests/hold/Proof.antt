@@ -3,8 +3,8 @@ use borrow.Author.Needs.{needs}
 use Rattle.updates.proofs.requests.hold.Statement.{statement}
 use Rattle.updates.proofs.requests.hold.Tie as tie
 
-held-place-requires : tie.Need-held-place-requires
-held-place-requires c κs = search needs
+place-of-requires : tie.Need-place-of-requires
+place-of-requires c κs = search needs
 
 num16-requires : tie.Need-num16-requires
 num16-requires c κs = search needs
@@ -34,7 +34,7 @@ pub hold-spec : {M : Type 1} → statement M
 hold-spec =
     tie.close
     (tie.spec
-    held-place-requires
+    place-of-requires
     num16-requires
     cast-push-held
     mul-push-held

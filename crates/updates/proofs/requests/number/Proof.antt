@@ -3,8 +3,8 @@ use borrow.Author.Needs.{needs}
 use Rattle.updates.proofs.requests.number.Statement.{statement}
 use Rattle.updates.proofs.requests.number.Tie as tie
 
-own-place-requires : tie.Need-own-place-requires
-own-place-requires c κs = search needs
+place-of-requires : tie.Need-place-of-requires
+place-of-requires c κs = search needs
 
 num16-requires : tie.Need-num16-requires
 num16-requires c κs = search needs
@@ -43,7 +43,7 @@ pub number-spec : {M : Type 1} → statement M
 number-spec =
     tie.close
     (tie.spec
-    own-place-requires
+    place-of-requires
     num16-requires
     num16-requires-2
     next-head-requires

@@ -3,11 +3,11 @@ use borrow.Author.Needs.{needs}
 use Rattle.updates.proofs.sending.send_held.Statement.{statement}
 use Rattle.updates.proofs.sending.send_held.Tie as tie
 
-held-place-requires : tie.Need-held-place-requires
-held-place-requires c κs = search needs
+place-of-requires : tie.Need-place-of-requires
+place-of-requires c κs = search needs
 
-own-place-requires : tie.Need-own-place-requires
-own-place-requires c κs = search needs
+place-of-requires-2 : tie.Need-place-of-requires-2
+place-of-requires-2 c κs = search needs
 
 num16-requires : tie.Need-num16-requires
 num16-requires c κs = search needs
@@ -52,8 +52,8 @@ pub send-held-spec : {M : Type 1} → statement M
 send-held-spec =
     tie.close
     (tie.spec
-    held-place-requires
-    own-place-requires
+    place-of-requires
+    place-of-requires-2
     num16-requires
     num16-requires-2
     num16-requires-3

@@ -1,4 +1,4 @@
-use Rattle.updates.proofs.StateLaws.{state-collected}
+use Rattle.updates.proofs.StateLaws.{state-put-room, state-collected}
 use borrow.Author.Needs.{needs}
 use Rattle.updates.proofs.states.collect_state.Statement.{statement}
 use Rattle.updates.proofs.states.collect_state.Tie as tie
@@ -10,7 +10,7 @@ with-sender-requires : tie.Need-with-sender-requires
 with-sender-requires c κs = search needs
 
 put-state-requires : tie.Need-put-state-requires
-put-state-requires c κs = search needs
+put-state-requires c κs = search (needs, state-put-room)
 
 same-length : tie.Need-same-length
 same-length c = search needs

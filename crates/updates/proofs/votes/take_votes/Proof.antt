@@ -1,17 +1,16 @@
-use Rattle.updates.proofs.Counts.{header-room}
 use Rattle.updates.proofs.VotesTaken.{votes-taken, list-room}
 use borrow.Author.Needs.{needs}
 use Rattle.updates.proofs.votes.take_votes.Statement.{statement}
 use Rattle.updates.proofs.votes.take_votes.Tie as tie
 
 load-requires : tie.Need-load-requires
-load-requires c κs = search (needs, header-room)
+load-requires c κs = search needs
 
 with-votes-requires : tie.Need-with-votes-requires
 with-votes-requires c κs = search needs
 
-yellow-place-requires : tie.Need-yellow-place-requires
-yellow-place-requires c κs = search needs
+place-of-requires : tie.Need-place-of-requires
+place-of-requires c κs = search needs
 
 copy-requires : tie.Need-copy-requires
 copy-requires c κs = search (needs, list-room)
@@ -31,7 +30,7 @@ take-votes-spec =
     (tie.spec
     load-requires
     with-votes-requires
-    yellow-place-requires
+    place-of-requires
     copy-requires
     save-requires
     same-length

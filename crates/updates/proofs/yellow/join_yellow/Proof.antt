@@ -4,8 +4,8 @@ use borrow.Author.Needs.{needs}
 use Rattle.updates.proofs.yellow.join_yellow.Statement.{statement}
 use Rattle.updates.proofs.yellow.join_yellow.Tie as tie
 
-yellow-place-requires : tie.Need-yellow-place-requires
-yellow-place-requires c κs = search needs
+place-of-requires : tie.Need-place-of-requires
+place-of-requires c κs = search needs
 
 num16-requires : tie.Need-num16-requires
 num16-requires c κs = omega arith
@@ -44,7 +44,7 @@ pub join-yellow-spec : {M : Type 1} → statement M
 join-yellow-spec =
     tie.close
     (tie.spec
-    yellow-place-requires
+    place-of-requires
     num16-requires
     cast-has-id
     has-id-requires

@@ -6,29 +6,29 @@ use Prim.Native.Nat.{_≤_, _-_}
 use mathlib.Core.Path.{_≡_, refl, sym}
 use native.Mathlib.Omega.{arith}
 use borrow.Author.Needs.{needs}
-use Rattle.updates.proofs.recovery.copy_up.Statement.{statement}
-use Rattle.updates.proofs.recovery.copy_up.Tie as tie
+use Rattle.record.proofs.blocks.copy_up.Statement.{statement}
+use Rattle.record.proofs.blocks.copy_up.Tie as tie
 
 abbrev Inv-loop : tie.InvT-loop
-Inv-loop state₀ from to count j₀ state j = (j ≤ count) × (length state ≡ length state₀) × (state ≡ patched to (take j (drop from state₀)) state₀)
+Inv-loop out₀ from to count j₀ out j = (j ≤ count) × (length out ≡ length out₀) × (out ≡ patched to (take j (drop from out₀)) out₀)
 
 abbrev μ-loop : tie.MeasureT-loop
-μ-loop state₀ from to count j₀ state j = count - j
+μ-loop out₀ from to count j₀ out j = count - j
 
 loop-holds : tie.Need-loop-holds Inv-loop μ-loop
 loop-holds c = (omega arith, refl, sym (patched-none _ _))
 
-add-state : tie.Need-add-state Inv-loop μ-loop
-add-state c = omega arith
+add-out : tie.Need-add-out Inv-loop μ-loop
+add-out c = omega arith
 
-slice-read-state : tie.Need-slice-read-state Inv-loop μ-loop
-slice-read-state c = omega arith
+slice-read-out : tie.Need-slice-read-out Inv-loop μ-loop
+slice-read-out c = omega arith
 
-add-state-2 : tie.Need-add-state-2 Inv-loop μ-loop
-add-state-2 c = omega arith
+add-out-2 : tie.Need-add-out-2 Inv-loop μ-loop
+add-out-2 c = omega arith
 
-slice-write-state : tie.Need-slice-write-state Inv-loop μ-loop
-slice-write-state c = omega arith
+slice-write-out : tie.Need-slice-write-out Inv-loop μ-loop
+slice-write-out c = omega arith
 
 add-j : tie.Need-add-j Inv-loop μ-loop
 add-j c = omega arith
@@ -52,10 +52,10 @@ copy-up-spec =
     Inv-loop
     μ-loop
     loop-holds
-    add-state
-    slice-read-state
-    add-state-2
-    slice-write-state
+    add-out
+    slice-read-out
+    add-out-2
+    slice-write-out
     add-j
     loop-less
     loop-again

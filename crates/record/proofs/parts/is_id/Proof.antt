@@ -1,13 +1,13 @@
-use Rattle.updates.proofs.YellowLaws.{id-other, id-same}
+use Rattle.record.proofs.IdLaws.{other-creator, same-creator}
 use borrow.Author.Needs.{needs}
-use Rattle.updates.proofs.yellow.is_id.Statement.{statement}
-use Rattle.updates.proofs.yellow.is_id.Tie as tie
+use Rattle.record.proofs.parts.is_id.Statement.{statement}
+use Rattle.record.proofs.parts.is_id.Tie as tie
 
 num8-requires : tie.Need-num8-requires
 num8-requires c κs = search needs
 
 returns : tie.Need-returns
-returns c = search (needs, id-other)
+returns c = search (needs, other-creator)
 
 add-num16 : tie.Need-add-num16
 add-num16 c = search needs
@@ -16,7 +16,7 @@ num16-requires : tie.Need-num16-requires
 num16-requires c κs = search needs
 
 returns-2 : tie.Need-returns-2
-returns-2 c = search (needs, id-same)
+returns-2 c = search (needs, same-creator)
 
 pub is-id-spec : {M : Type 1} → statement M
 is-id-spec = tie.close (tie.spec num8-requires returns add-num16 num16-requires returns-2)

@@ -1,28 +1,28 @@
 use borrow.Author.Needs.{needs}
 use native.Mathlib.Omega.{arith}
-use mathlib.Core.Path.{_≡_}
-use Prim.Native.Nat.{_≤_, _-_}
-use lib.ListN.{length, length-set}
+use mathlib.Core.Path.{_≡_, sym}
+use Prim.Native.Nat.{ℕ, _≤_, _-_}
+use lib.ListN.{length, take, replicate, length-set}
 use Rattle.base.specs.Patched.{patched}
-use Rattle.engine.specs.Image.{zeros}
-use Rattle.engine.proofs.StartLaws.{clear-none, clear-more, clear-all}
-use Rattle.engine.proofs.starting.clear.Statement.{statement}
-use Rattle.engine.proofs.starting.clear.Tie as tie
+use Rattle.base.proofs.PatchedLaws.{patched-none}
+use Rattle.record.proofs.Zeros.{clear-more, clear-all}
+use Rattle.record.proofs.blocks.clear.Statement.{statement}
+use Rattle.record.proofs.blocks.clear.Tie as tie
 
 abbrev Inv-loop : tie.InvT-loop
-Inv-loop state₀ at count j₀ state j = (j ≤ count) × (length state ≡ length state₀) × (state ≡ patched at (zeros j) state₀)
+Inv-loop out₀ at count j₀ out j = (j ≤ count) × (length out ≡ length out₀) × (out ≡ patched at (take j (replicate {A = ℕ} count 0)) out₀)
 
 abbrev μ-loop : tie.MeasureT-loop
-μ-loop state₀ at count j₀ state j = count - j
+μ-loop out₀ at count j₀ out j = count - j
 
 loop-holds : tie.Need-loop-holds Inv-loop μ-loop
-loop-holds c = (omega arith, search needs, clear-none _ _)
+loop-holds c = (omega arith, search needs, sym (patched-none _ _))
 
-add-state : tie.Need-add-state Inv-loop μ-loop
-add-state c = omega arith
+add-out : tie.Need-add-out Inv-loop μ-loop
+add-out c = omega arith
 
-slice-write-state : tie.Need-slice-write-state Inv-loop μ-loop
-slice-write-state c = omega arith
+slice-write-out : tie.Need-slice-write-out Inv-loop μ-loop
+slice-write-out c = omega arith
 
 add-j : tie.Need-add-j Inv-loop μ-loop
 add-j c = omega arith
@@ -46,8 +46,8 @@ clear-spec =
     Inv-loop
     μ-loop
     loop-holds
-    add-state
-    slice-write-state
+    add-out
+    slice-write-out
     add-j
     loop-less
     loop-again
