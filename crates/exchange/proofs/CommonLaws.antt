@@ -75,38 +75,38 @@ kept-common c v b k s e f =
 
 -- ---- those of the updated group
 
-pub voters-fit : (c : FormatContext) (v w : Slots) (b : List ℕ) (set n : ℕ) → Voters v b set → w ≡ withHere set v → ListsFit c v b n → ListsFit c w b n
+pub voters-fit : (c : FormatContext) (v w : Slots) (b o : List ℕ) (set : ℕ) → Voters v b set → w ≡ withHere set v → ListsFit c v b o → ListsFit c w b o
 unfolding ListsFit ListInside withHere slotAt stateIn
-voters-fit c v w b set n g e f =
-    subst (λ (y : Slots). ListsFit c y b n) (sym e)
+voters-fit c v w b o set g e f =
+    subst (λ (y : Slots). ListsFit c y b o) (sym e)
     (λ k l y. let z = f k l (g .among k l y) in record { inside = z .inside; short = z .short; range = z .range })
 
 pub first-below : (v w : Slots) (set k : ℕ) → w ≡ withHere set v → k < v .servers → k < w .servers
 first-below v w set k e h = rw (same-servers v w set e) h
 
-pub fits-inside : (c : FormatContext) (v : Slots) (b : List ℕ) (n : ℕ) → ListsFit c v b n → ListsInside v b
+pub fits-inside : (c : FormatContext) (v : Slots) (b o : List ℕ) → ListsFit c v b o → ListsInside v b
 unfolding ListsFit ListsInside
-fits-inside c v b n f k l t = f k l t .inside
+fits-inside c v b o f k l t = f k l t .inside
 
-pub first-fits : (c : FormatContext) (v : Slots) (b : List ℕ) (k n : ℕ) → ListsFit c v b n → First v k → k < v .servers → ListFits c v b n k
+pub first-fits : (c : FormatContext) (v : Slots) (b o : List ℕ) (k : ℕ) → ListsFit c v b o → First v k → k < v .servers → ListFits c v b o k
 unfolding ListsFit
-first-fits c v b k n f r h = f k h (r .there h)
+first-fits c v b o k f r h = f k h (r .there h)
 
-pub first-inside : (c : FormatContext) (v : Slots) (b : List ℕ) (k n : ℕ) → ListsFit c v b n → First v k → k < v .servers → ListInside v b k
-first-inside c v b k n f r h = first-fits c v b k n f r h .inside
+pub first-inside : (c : FormatContext) (v : Slots) (b o : List ℕ) (k : ℕ) → ListsFit c v b o → First v k → k < v .servers → ListInside v b k
+first-inside c v b o k f r h = first-fits c v b o k f r h .inside
 
-pub first-short : (c : FormatContext) (v : Slots) (b : List ℕ) (k n : ℕ) (x : StateHead) → ListsFit c v b n → First v k → k < v .servers
+pub first-short : (c : FormatContext) (v : Slots) (b o : List ℕ) (k : ℕ) (x : StateHead) → ListsFit c v b o → First v k → k < v .servers
     → x ≡ headOf v b k
-    → idSize * x .«yellow_count» ≤ n
-first-short c v b k n x f r h e = omega (arith, first-fits c v b k n f r h .short, ids-counted v b k x e)
+    → idSize * x .«yellow_count» ≤ length o
+first-short c v b o k x f r h e = omega (arith, first-fits c v b o k f r h .short, ids-counted v b k x e)
 
-each-from : (c : FormatContext) (v : Slots) (b : List ℕ) (n : ℕ) → ListsFit c v b n → (m k : ℕ) → k + m ≤ v .servers
+each-from : (c : FormatContext) (v : Slots) (b o : List ℕ) → ListsFit c v b o → (m k : ℕ) → k + m ≤ v .servers
     → Each (λ y. idsInRange c (y .yellow .ids) ≡ true) (statesFrom v b m k)
 unfolding statesFrom ListsFit
-each-from c v b n f zero k h = tt
-each-from c v b n f (suc m) k h =
+each-from c v b o f zero k h = tt
+each-from c v b o f (suc m) k h =
     pick-as (Each (λ y. idsInRange c (y .yellow .ids) ≡ true)) (inSet k (v .here)) _ _
-    (λ y. (f k (omega arith) y .range, each-from c v b n f m (k + 1) (omega arith))) (λ y. each-from c v b n f m (k + 1) (omega arith))
+    (λ y. (f k (omega arith) y .range, each-from c v b o f m (k + 1) (omega arith))) (λ y. each-from c v b o f m (k + 1) (omega arith))
 
 pub taken-ids-none : (v w : Slots) (b : List ℕ) (set k : ℕ) (o : List ℕ) → Voters v b set → w ≡ withHere set v → First w k → v .servers ≤ k
     → Listed 0 o (takenYellow (statesOf v b) .ids)
@@ -116,14 +116,14 @@ taken-ids-none v w b set k o g e r h =
     let none : takenYellow (statesOf v b) .ids ≡ [] = ap (λ (y : Yellow). y .ids) (voters-states v w b set k g e r ∙ ap commonYellow (states-end w b k l)) in
     subst (Listed 0 o) (sym none) (record { count = refl; bytes = refl })
 
-pub taken-ids-some : (c : Context) (v w : Slots) (b : List ℕ) (set k m n : ℕ) (o : List ℕ) → ContextIn c → Voters v b set → w ≡ withHere set v
+pub taken-ids-some : (c : Context) (v w : Slots) (b : List ℕ) (set k m : ℕ) (o u : List ℕ) → ContextIn c → Voters v b set → w ≡ withHere set v
     → First w k → k < v .servers
-    → Listed m o (keptIds (contextOf c) w b k) → ListsFit (contextOf c) v b n → Listed m o (takenYellow (statesOf v b) .ids)
+    → Listed m o (keptIds (contextOf c) w b k) → ListsFit (contextOf c) v b u → Listed m o (takenYellow (statesOf v b) .ids)
 unfolding commonYellow
-taken-ids-some c v w b set k m n o s g e r h i f =
+taken-ids-some c v w b set k m o u s g e r h i f =
     let l : k < w .servers = first-below v w set k e h in
-    let fits : ListsFit (contextOf c) w b n = voters-fit (contextOf c) v w b set n g e f in
+    let fits : ListsFit (contextOf c) w b u = voters-fit (contextOf c) v w b u set g e f in
     subst (Listed m o)
-    (kept-common (contextOf c) w b k (small c s) (first-fits (contextOf c) w b k n fits r l .range) (each-from (contextOf c) w b n fits (w .servers - (k + 1)) (k + 1) (omega arith))
+    (kept-common (contextOf c) w b k (small c s) (first-fits (contextOf c) w b u k fits r l .range) (each-from (contextOf c) w b u fits (w .servers - (k + 1)) (k + 1) (omega arith))
     ∙ sym (ap (λ (y : Yellow). y .ids) (voters-states v w b set k g e r ∙ ap commonYellow (states-in w b k l (r .there l)))))
     i

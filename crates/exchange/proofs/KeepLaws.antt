@@ -23,7 +23,7 @@ use Rattle.format.proofs.Writing.{ids-more}
 use Rattle.record.specs.Context.{contextOf, ContextIn}
 use Rattle.record.specs.Values.{idOf, placeOf}
 use Rattle.record.specs.declared.Context.{Context}
-use Rattle.exchange.specs.Table.{places, isKept, KeptIf, Listed}
+use Rattle.exchange.specs.Table.{places, isKept, Keeps, Listed}
 use Rattle.format.specs.Places.{idSize}
 use Rattle.record.proofs.Turns.{small, place-out, place-in}
 
@@ -107,7 +107,7 @@ kept-by t e at count j w q n o u (fails y) m h f g =
     }
 
 pub kept-again : (t : Id → Bool) (e : List ℕ) (at count j w q n : ℕ) (o u : List ℕ) → Kept t e at count j w n o → j < count
-    → KeptIf t (idAt e (at + idSize * j)) w q o u → Kept t e at count (j + 1) q n u
+    → Keeps t e (at + idSize * j) w q o u → Kept t e at count (j + 1) q n u
 kept-again t e at count j w q n o u m h k = kept-by t e at count j w q n o u (known (t (idAt e (at + idSize * j)))) m h (k .count) (k .bytes)
 
 pub kept-end : (t : Id → Bool) (e : List ℕ) (at count j w n : ℕ) (o : List ℕ) → Kept t e at count j w n o → count ≤ j

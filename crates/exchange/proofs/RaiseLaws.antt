@@ -23,7 +23,7 @@ use Rattle.record.specs.declared.StateHead.{StateHead}
 use Rattle.record.proofs.Turns.{small, place-out, place-in}
 use Rattle.exchange.specs.declared.slots.Slots.{Slots}
 use Rattle.exchange.specs.Slots.{slotAt, statesLeft, headOf}
-use Rattle.exchange.specs.Table.{places, raised, raisedAll, raisedLists, RaisedIf, RaisedBy, idsIn, ListInside, ListsInside}
+use Rattle.exchange.specs.Table.{places, raised, raisedAll, raisedLists, RaisedAt, RaisedBy, idsIn, ListInside, ListsInside}
 use Rattle.exchange.proofs.SlotLaws.{states-in, states-out, states-end}
 use Rattle.exchange.proofs.ReadLaws.{state-stands}
 use Rattle.format.specs.Places.{idSize, stateHeadSize, stateCutsAt, standingSize}
@@ -143,7 +143,7 @@ pub met-start : (c : FormatContext) (v : Slots) (b : List ℕ) (start : ℕ) (u 
 met-start c v b start u h = record { low = h; most = omega arith; count = omega arith; lists = refl }
 
 pub met-again : (c : FormatContext) (v : Slots) (b : List ℕ) (start k r q : ℕ) (u t s : List ℕ) → Met c v b start k r u t → k < v .servers
-    → RaisedIf (inSet k (v .here)) c (idsIn v b k) r q t s → Met c v b start (k + 1) q u s
+    → RaisedAt c v b k r q t s → Met c v b start (k + 1) q u s
 met-again c v b start k r q u t s m h f =
     record {
       low = omega arith;

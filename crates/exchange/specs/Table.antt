@@ -12,10 +12,11 @@ use Rattle.base.specs.Tests.{_and_, _=?_, pick}
 use Rattle.format.specs.Limits.{mostServers, mostQuota}
 use Rattle.format.specs.Types.{Id, State, Context}
 use Rattle.format.specs.Range.{idOk, idsInRange}
+use Rattle.format.specs.Read.{idAt}
 use Rattle.format.specs.Write.{idBytes, idsBytes}
 use Rattle.record.specs.Values.{slot}
 use Rattle.exchange.specs.declared.slots.Slots.{Slots}
-use Rattle.exchange.specs.Slots.{slotAt, stateIn, statesLeft}
+use Rattle.exchange.specs.Slots.{slotAt, stateIn, statesLeft, ifMeant}
 use Rattle.format.specs.Places.{idSize, stateHeadSize}
 
 -- How many places the table has.
@@ -35,21 +36,21 @@ unfoldable pub raisedLists : Context → ℕ → List ℕ → List State → Lis
 raisedLists c r t [] = t
 raisedLists c r t (y ∷ ys) = raisedLists c (r + 1) (raisedAll c r t (y .yellow .ids)) ys
 
--- If h, the ids ds are a list more: the table t after r lists is u after q.
-pub record RaisedIf (h : Bool) (c : Context) (ds : List Id) (r q : ℕ) (t u : List ℕ) : Type 0 where
-  pub count : q ≡ pick h (r + 1) r
-  pub table : u ≡ pick h (raisedAll c r t ds) t
+-- The yellow list of the State in the slot k.
+abbrev pub idsIn : Slots → List ℕ → ℕ → List Id
+idsIn v b k = stateIn v b k .yellow .ids
+
+-- If the slot k is meant, its list is one more: the table is t after r lists, and u after q.
+pub record RaisedAt (c : Context) (v : Slots) (b : List ℕ) (k r q : ℕ) (t u : List ℕ) : Type 0 where
+  pub count : q ≡ ifMeant v k (r + 1) r
+  pub table : u ≡ ifMeant v k (raisedAll c r t (idsIn v b k)) t
 
 -- The r lists of the States ys made u of the table t.
 pub record RaisedBy (c : Context) (ys : List State) (r : ℕ) (t u : List ℕ) : Type 0 where
   pub count : r ≡ length ys
   pub table : u ≡ raisedLists c 0 t ys
 
--- The yellow list of the State in the slot k.
-abbrev pub idsIn : Slots → List ℕ → ℕ → List Id
-idsIn v b k = stateIn v b k .yellow .ids
-
--- It lies in the buffer.
+-- The list in the slot k lies in the buffer.
 unfoldable pub ListInside : Slots → List ℕ → ℕ → Type 0
 ListInside v b k = slotAt v k + (stateHeadSize + 2 * v .servers + idSize * length (idsIn v b k)) ≤ length b
 
@@ -61,10 +62,10 @@ ListsInside v b = (k : ℕ) → k < v .servers → inSet k (v .here) ≡ true �
 unfoldable pub isKept : Context → ℕ → List ℕ → Id → Bool
 isKept c r t d = idOk c d and getD t (slot d) 0 =? r
 
--- If d passes the test it is an id more: with n ids the bytes are o, with q ids u.
-pub record KeptIf (t : Id → Bool) (d : Id) (n q : ℕ) (o u : List ℕ) : Type 0 where
-  pub count : q ≡ pick (t d) (n + 1) n
-  pub bytes : u ≡ pick (t d) (patched (idSize * n) (idBytes d) o) o
+-- If the id at `at` passes the test, it is one more: the bytes are o with n ids, and u with q.
+pub record Keeps (t : Id → Bool) (e : List ℕ) (at n q : ℕ) (o u : List ℕ) : Type 0 where
+  pub count : q ≡ pick (t (idAt e at)) (n + 1) n
+  pub bytes : u ≡ pick (t (idAt e at)) (patched (idSize * n) (idBytes (idAt e at)) o) o
 
 -- Those of the list in the slot k that the table of the lists behind it tells to be in all of them.
 unfoldable pub keptIds : Context → Slots → List ℕ → ℕ → List Id
@@ -77,12 +78,12 @@ pub record Listed (r : ℕ) (o : List ℕ) (ds : List Id) : Type 0 where
   pub count : r ≡ length ds
   pub bytes : take (idSize * r) o ≡ idsBytes ds
 
--- The list in the slot k lies in the buffer, it is at most n bytes long, and its ids are in range.
-pub record ListFits (c : Context) (v : Slots) (b : List ℕ) (n k : ℕ) : Type 0 where
+-- The list in the slot k lies in the buffer b and has room in o, and its ids are in range.
+pub record ListFits (c : Context) (v : Slots) (b o : List ℕ) (k : ℕ) : Type 0 where
   pub inside : ListInside v b k
-  pub short : idSize * length (idsIn v b k) ≤ n
+  pub short : idSize * length (idsIn v b k) ≤ length o
   pub range : idsInRange c (idsIn v b k) ≡ true
 
 -- So it is for the senders that are meant.
-unfoldable pub ListsFit : Context → Slots → List ℕ → ℕ → Type 0
-ListsFit c v b n = (k : ℕ) → k < v .servers → inSet k (v .here) ≡ true → ListFits c v b n k
+unfoldable pub ListsFit : Context → Slots → (b o : List ℕ) → Type 0
+ListsFit c v b o = (k : ℕ) → k < v .servers → inSet k (v .here) ≡ true → ListFits c v b o k

@@ -9,7 +9,7 @@ ghost use Rattle.format.specs.Read.{idAt, idsAt};
 ghost use Rattle.format.specs.Write.{idBytes};
 ghost use Rattle.record.specs.Context.{contextOf, ContextIn};
 ghost use Rattle.exchange.specs.Slots.{Room, First, statesOf};
-ghost use Rattle.exchange.specs.Table.{isKept, KeptIf, keptIds, Listed, ListsFit};
+ghost use Rattle.exchange.specs.Table.{isKept, Keeps, keptIds, Listed, ListsFit};
 ghost use Rattle.replication.specs.Machine.Exchange.{takenYellow};
 use crate::slots::Slots;
 use crate::slots::first;
@@ -57,7 +57,7 @@ fn keep_at(
     count: usize,
 ) -> usize
     requires { ⌜ ContextIn c × (at + idSize ≤ length (now e)) × (idSize * count + idSize ≤ length (now out)) ⌝ }
-    ensures { λ r. ⌜ KeptIf (isKept (contextOf c) round (now (table .entry))) (idAt (now (e .entry)) at) count r (now (out .entry)) (now (out .exit)) ⌝ }
+    ensures { λ r. ⌜ Keeps (isKept (contextOf c) round (now (table .entry))) (now (e .entry)) at count r (now (out .entry)) (now (out .exit)) ⌝ }
 {
     if !is_kept(c, e, at, round, table) {
         return count;
@@ -90,7 +90,7 @@ pub fn keep(
 
 // The ids of the list in the slot `start` that every list behind it has, too: how many there are.
 fn common(c: Context, v: Slots, state: &[u8], start: usize, out: &mut [u8]) -> usize
-    requires { ⌜ ContextIn c × Room v (now state) × First v start × (start < v .servers) × ListsFit (contextOf c) v (now state) (length (now out)) ⌝ }
+    requires { ⌜ ContextIn c × Room v (now state) × First v start × (start < v .servers) × ListsFit (contextOf c) v (now state) (now out) ⌝ }
     ensures { λ r. ⌜ Listed r (now (out .exit)) (keptIds (contextOf c) v (now (state .entry)) start) ⌝ }
 {
     let mut table: [u8; PLACES] = [0; PLACES];
@@ -111,7 +111,7 @@ fn common(c: Context, v: Slots, state: &[u8], start: usize, out: &mut [u8]) -> u
 // "the ids common to all those valid lists, in the order of the lowest-numbered such sender's list; else it is invalid and
 // empty": how many; their bytes are in `out`.
 pub fn taken_ids(c: Context, v: Slots, state: &[u8], out: &mut [u8]) -> usize
-    requires { ⌜ ContextIn c × Room v (now state) × ListsFit (contextOf c) v (now state) (length (now out)) ⌝ }
+    requires { ⌜ ContextIn c × Room v (now state) × ListsFit (contextOf c) v (now state) (now out) ⌝ }
     ensures { λ r. ⌜ Listed r (now (out .exit)) (takenYellow (statesOf v (now (state .entry))) .ids) ⌝ }
 {
     let set = yellow_voters(v, state);

@@ -3,13 +3,12 @@
 ghost use mathlib.Core.Path.{_≡_};
 ghost use Prim.Native.Nat.{_+_, _*_, _≤_, _<_};
 ghost use lib.ListN.{length};
-ghost use Rattle.base.specs.Sets.{inSet};
 ghost use Rattle.format.specs.Limits.{mostServers};
 ghost use Rattle.format.specs.Places.{idSize};
 ghost use Rattle.format.specs.Read.{idAt, idsAt};
 ghost use Rattle.record.specs.Context.{contextOf, ContextIn};
 ghost use Rattle.exchange.specs.Slots.{Room, statesLeft};
-ghost use Rattle.exchange.specs.Table.{raised, raisedAll, RaisedIf, RaisedBy, idsIn, ListInside, ListsInside};
+ghost use Rattle.exchange.specs.Table.{raised, raisedAll, RaisedAt, RaisedBy, idsIn, ListInside, ListsInside};
 use crate::slots::Slots;
 use crate::slots::head;
 use crate::slots::place;
@@ -74,7 +73,7 @@ fn raise_turn(
     table: &mut [u8; PLACES],
 ) -> u8
     requires { ⌜ ContextIn c × Room v (now state) × (k < v .servers) × ListsInside v (now state) × (round < mostServers) ⌝ }
-    ensures { λ r. ⌜ RaisedIf (inSet k (v .here)) (contextOf c) (idsIn v (now (state .entry)) k) round r (now (table .entry)) (now (table .exit)) ⌝ }
+    ensures { λ r. ⌜ RaisedAt (contextOf c) v (now (state .entry)) k round r (now (table .entry)) (now (table .exit)) ⌝ }
 {
     if !has(v.here, k) {
         return round;
