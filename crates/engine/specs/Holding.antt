@@ -33,3 +33,7 @@ Becomes f b b′ = (s : Server) → Holds s b → b′ ≡ image (f s) b
 -- The same of a state of which P is known.
 abbrev pub BecomesWhere : (Server → Type 0) → (Server → Server) → (b b′ : List ℕ) → Type 0
 BecomesWhere P f b b′ = (s : Server) → Holds s b → P s → b′ ≡ image (f s) b
+
+-- An answer from a buffer: of a buffer b that holds s, the answer r is f s.
+abbrev pub Computes : {A : Type 0} → (Server → A) → (b : List ℕ) → A → Type 0
+Computes f b r = (s : Server) → Holds s b → r ≡ f s

@@ -20,8 +20,7 @@ use Rattle.engine.specs.Header.{headerOf, headerIn}
 use Rattle.engine.proofs.HeaderLaws.{header-loaded}
 use Rattle.engine.proofs.ImageLaws.{decoded-image}
 use Rattle.engine.specs.Holding.{Holds}
-use Rattle.exchange.specs.View.{slotsIn}
-use Rattle.exchange.specs.Slots.{slotsOf, slotAt, stateIn, statesFrom, statesOf}
+use Rattle.exchange.specs.Slots.{slotsOf, slotsIn, slotAt, stateIn, statesFrom, statesOf}
 
 present-pick : {A : Type 0} (t : Bool) (x : A) (l : List (Option A)) → present (pick t (some x) none ∷ l) ≡ pick t (x ∷ present l) (present l)
 unfolding present atFront pick

@@ -5,7 +5,6 @@ use mathlib.Core.Path.{_≡_, refl, sym, ap, _∙_}
 use mathlib.Core.Bool.{Bool, true, false, not}
 use mathlib.Core.List.{List, _∷_}
 use native.Mathlib.Omega.{arith}
-use lib.Bits.{bitAnd}
 use lib.Dec.{eqb, ltb}
 use borrow.Author.Tests.{not-true, not-false}
 use Rattle.base.specs.Tests.{_and_, _or_, _=?_, _<?_, pick}
@@ -60,11 +59,11 @@ kept-made m bits = refl
 
 module _ (v : Slots) (b : List ℕ) (k : ℕ) (x : StateHead) (r : Mark) (h : x ≡ headOf v b k) where
   covers : (bits : ℕ) → bits ≡ joinedBits (statesOf v b) (stateIn v b k)
-      → ruleC (statesOf v b) (stateIn v b k) ≡ (bitAnd (x .mark .set) bits =? x .mark .set)
-  unfolding ruleC inside markOf
+      → ruleC (statesOf v b) (stateIn v b k) ≡ inside (x .mark .set) bits
+  unfolding ruleC markOf
   covers bits e =
       let s : stateIn v b k .mark .set ≡ x .mark .set = ap (λ (o : FormatMark). o .set) (mark-read v b k x h) in
-      λ i. bitAnd (s i) (sym e i) =? s i
+      λ i. inside (s i) (sym e i)
 
   pub judged-unmarked : (x .mark .status ≡ 1 → ⊥) → markOf r ≡ clearedMark → markOf r ≡ judgedMark (statesOf v b) (stateIn v b k)
   unfolding judgedMark
@@ -86,25 +85,25 @@ module _ (v : Slots) (b : List ℕ) (k : ℕ) (x : StateHead) (r : Mark) (h : x 
       let z : ruleB (statesOf v b) (stateIn v b k) ≡ true = sym (f (stateIn v b k) (mark-read v b k x h)) ∙ t in
       pick-no _ _ _ _ (third-no _ _ _ _ (ap not z)) c
 
-  pub judged-c : (bits : ℕ) → ((s : State) → s .mark ≡ markOf (x .mark) → bits ≡ joinedBits (statesOf v b) s)
-      → bitAnd (x .mark .set) bits ≡ x .mark .set
+  pub judged-c : (bits : ℕ) (t : Bool) → ((s : State) → s .mark ≡ markOf (x .mark) → bits ≡ joinedBits (statesOf v b) s)
+      → t ≡ inside (x .mark .set) bits → t ≡ true
       → markOf r ≡ clearedMark → markOf r ≡ judgedMark (statesOf v b) (stateIn v b k)
   unfolding judgedMark
-  judged-c bits f t c =
-      pick-no _ _ _ _ (fourth-no _ _ _ _ (ap not (covers bits (f (stateIn v b k) (mark-read v b k x h)) ∙ eq-yes _ _ t))) c
+  judged-c bits t f e y c =
+      pick-no _ _ _ _ (fourth-no _ _ _ _ (ap not (covers bits (f (stateIn v b k) (mark-read v b k x h)) ∙ sym e ∙ y))) c
 
-  pub judged-kept : (p : LastPrimary) (u w : Bool) (bits : ℕ) → primaryOf p ≡ takenPrimary (statesOf v b) → x .mark .status ≡ 1
+  pub judged-kept : (p : LastPrimary) (u w y : Bool) (bits : ℕ) → primaryOf p ≡ takenPrimary (statesOf v b) → x .mark .status ≡ 1
       → ((s : State) → s .sender ≡ x .sender → s .mark ≡ markOf (x .mark) → u ≡ ruleA (primaryOf p) s) → u ≡ false
       → ((s : State) → s .mark ≡ markOf (x .mark) → w ≡ ruleB (statesOf v b) s) → w ≡ false
-      → ((s : State) → s .mark ≡ markOf (x .mark) → bits ≡ joinedBits (statesOf v b) s) → (bitAnd (x .mark .set) bits ≡ x .mark .set → ⊥)
+      → ((s : State) → s .mark ≡ markOf (x .mark) → bits ≡ joinedBits (statesOf v b) s) → y ≡ inside (x .mark .set) bits → y ≡ false
       → markOf r ≡ withBits bits (markOf (x .mark)) → markOf r ≡ judgedMark (statesOf v b) (stateIn v b k)
   unfolding judgedMark keptMark withBits
-  judged-kept p u w bits e s f t g i j n c =
+  judged-kept p u w y bits e s f t g i j d n c =
       let m = mark-read v b k x h in
       let za : ruleA (takenPrimary (statesOf v b)) (stateIn v b k) ≡ false =
       ap (λ (y : Primary). ruleA y (stateIn v b k)) (sym e) ∙ sym (f (stateIn v b k) (sender-read v b k x h) m) ∙ t in
       let zb : ruleB (statesOf v b) (stateIn v b k) ≡ false = sym (g (stateIn v b k) m) ∙ i in
-      let zc : ruleC (statesOf v b) (stateIn v b k) ≡ false = covers bits (j (stateIn v b k) m) ∙ eq-no _ _ n in
+      let zc : ruleC (statesOf v b) (stateIn v b k) ≡ false = covers bits (j (stateIn v b k) m) ∙ sym d ∙ n in
       let joined : bits ≡ joinedBits (statesOf v b) (stateIn v b k) = j (stateIn v b k) m in
       pick-yes _ _ _ _ (all-four _ _ _ _ (status-read v b k x h ∙ eq-yes _ _ s) (ap not za) (ap not zb) (ap not zc)) (c ∙ (λ i. withBits (joined i) (sym m i)))
 

@@ -23,15 +23,16 @@ use Rattle.format.proofs.Writing.{ids-more}
 use Rattle.record.specs.Context.{contextOf, ContextIn}
 use Rattle.record.specs.Values.{idOf, placeOf}
 use Rattle.record.specs.declared.Context.{Context}
-use Rattle.exchange.specs.Table.{isKept, Listed}
+use Rattle.exchange.specs.Table.{places, isKept, Keeps, Listed}
+use Rattle.format.specs.Places.{idSize}
 use Rattle.record.proofs.Turns.{small, place-out, place-in}
 
-pub kept-out : (c : Context) (r p : ℕ) (t : List ℕ) (d : Id) → ContextIn c → p ≡ placeOf (contextOf c) d → 2048 ≤ p
+pub kept-out : (c : Context) (r p : ℕ) (t : List ℕ) (d : Id) → ContextIn c → p ≡ placeOf (contextOf c) d → places ≤ p
     → false ≡ isKept (contextOf c) r t d
 unfolding isKept
 kept-out c r p t d s e h = and-no _ _ (place-out (contextOf c) d p (small c s) (known _) e h)
 
-pub kept-told : (c : Context) (r p : ℕ) (t : List ℕ) (d : Id) → p ≡ placeOf (contextOf c) d → p < 2048
+pub kept-told : (c : Context) (r p : ℕ) (t : List ℕ) (d : Id) → p ≡ placeOf (contextOf c) d → p < places
     → eqb (getD t p 0) r ≡ isKept (contextOf c) r t d
 unfolding isKept
 kept-told c r p t d e h =
@@ -51,47 +52,47 @@ ids-cons d ds = ap (λ (l : List ℕ). idBytes d ++ l) (append-nil (idsBytes ds)
 pub record Kept (t : Id → Bool) (e : List ℕ) (at count j w n : ℕ) (o : List ℕ) : Type 0 where
   pub low : j ≤ count
   pub most : w ≤ j
-  pub room : 3 * count ≤ n
+  pub room : idSize * count ≤ n
   pub size : length o ≡ n
-  pub ids : idsBytes (filter t (idsAt count e at)) ≡ take (3 * w) o ++ idsBytes (filter t (idsAt (count - j) e (at + 3 * j)))
+  pub ids : idsBytes (filter t (idsAt count e at)) ≡ take (idSize * w) o ++ idsBytes (filter t (idsAt (count - j) e (at + idSize * j)))
 
-pub kept-start : (t : Id → Bool) (e : List ℕ) (at count : ℕ) (o : List ℕ) → 3 * count ≤ length o → Kept t e at count 0 0 (length o) o
+pub kept-start : (t : Id → Bool) (e : List ℕ) (at count : ℕ) (o : List ℕ) → idSize * count ≤ length o → Kept t e at count 0 0 (length o) o
 kept-start t e at count o h =
     let a : count ≡ count - 0 = omega arith in
-    let b : at ≡ at + 3 * 0 = omega arith in
+    let b : at ≡ at + idSize * 0 = omega arith in
     record { low = omega arith; most = omega arith; room = h; size = refl; ids = λ i. idsBytes (filter t (idsAt (a i) e (b i))) }
 
-one-more : (d : Id) (w : ℕ) (o : List ℕ) → 3 * w + 3 ≤ length o → take (3 * (w + 1)) (patched (3 * w) (idBytes d) o) ≡ take (3 * w) o ++ idBytes d
+one-more : (d : Id) (w : ℕ) (o : List ℕ) → idSize * w + idSize ≤ length o → take (idSize * (w + 1)) (patched (idSize * w) (idBytes d) o) ≡ take (idSize * w) o ++ idBytes d
 one-more d w o h =
-    let z : 3 * (w + 1) ≡ 3 * w + length (idBytes d) = omega (arith, id-length d) in
-    ap (λ (m : ℕ). take m (patched (3 * w) (idBytes d) o)) z ∙ patched-until (3 * w) (idBytes d) o (omega arith)
+    let z : idSize * (w + 1) ≡ idSize * w + length (idBytes d) = omega (arith, id-length d) in
+    ap (λ (m : ℕ). take m (patched (idSize * w) (idBytes d) o)) z ∙ patched-until (idSize * w) (idBytes d) o (omega arith)
 
-kept-by : (t : Id → Bool) (e : List ℕ) (at count j w q n : ℕ) (o u : List ℕ) → Known (t (idAt e (at + 3 * j))) → Kept t e at count j w n o → j < count
-    → q ≡ pick (t (idAt e (at + 3 * j))) (w + 1) w → u ≡ pick (t (idAt e (at + 3 * j))) (patched (3 * w) (idBytes (idAt e (at + 3 * j))) o) o
+kept-by : (t : Id → Bool) (e : List ℕ) (at count j w q n : ℕ) (o u : List ℕ) → Known (t (idAt e (at + idSize * j))) → Kept t e at count j w n o → j < count
+    → q ≡ pick (t (idAt e (at + idSize * j))) (w + 1) w → u ≡ pick (t (idAt e (at + idSize * j))) (patched (idSize * w) (idBytes (idAt e (at + idSize * j))) o) o
     → Kept t e at count (j + 1) q n u
 kept-by t e at count j w q n o u (holds y) m h f g =
-    let d : Id = idAt e (at + 3 * j) in
-    let ds : List Id = idsAt (count - (j + 1)) e (at + 3 * (j + 1)) in
+    let d : Id = idAt e (at + idSize * j) in
+    let ds : List Id = idsAt (count - (j + 1)) e (at + idSize * (j + 1)) in
     let a : q ≡ w + 1 = f ∙ sym (pick-yes _ _ _ _ y refl) in
-    let b : u ≡ patched (3 * w) (idBytes d) o = g ∙ sym (pick-yes _ _ _ _ y refl) in
-    let fits : 3 * w + 3 ≤ length o = omega (arith, m .most, m .room, m .size) in
-    let long : length (patched (3 * w) (idBytes d) o) ≡ length o = patched-length (3 * w) (idBytes d) o (omega (arith, id-length d)) in
+    let b : u ≡ patched (idSize * w) (idBytes d) o = g ∙ sym (pick-yes _ _ _ _ y refl) in
+    let fits : idSize * w + idSize ≤ length o = omega (arith, m .most, m .room, m .size) in
+    let long : length (patched (idSize * w) (idBytes d) o) ≡ length o = patched-length (idSize * w) (idBytes d) o (omega (arith, id-length d)) in
     record {
       low = omega arith;
       most = omega (arith, a, m .most);
       room = m .room;
       size = ap length b ∙ long ∙ m .size;
       ids =
-          m .ids ∙ ap (λ (l : List Id). take (3 * w) o ++ idsBytes (filter t l)) (ids-more e at j count h)
-          ∙ ap (λ (l : List Id). take (3 * w) o ++ idsBytes l) (filter-yes t d ds y)
-          ∙ ap (λ (l : List ℕ). take (3 * w) o ++ l) (ids-cons d (filter t ds))
-          ∙ sym (append-assoc (take (3 * w) o) (idBytes d) (idsBytes (filter t ds)))
+          m .ids ∙ ap (λ (l : List Id). take (idSize * w) o ++ idsBytes (filter t l)) (ids-more e at j count h)
+          ∙ ap (λ (l : List Id). take (idSize * w) o ++ idsBytes l) (filter-yes t d ds y)
+          ∙ ap (λ (l : List ℕ). take (idSize * w) o ++ l) (ids-cons d (filter t ds))
+          ∙ sym (append-assoc (take (idSize * w) o) (idBytes d) (idsBytes (filter t ds)))
           ∙ ap (λ (l : List ℕ). l ++ idsBytes (filter t ds)) (sym (one-more d w o fits))
-          ∙ (λ i. take (3 * sym a i) (sym b i) ++ idsBytes (filter t ds));
+          ∙ (λ i. take (idSize * sym a i) (sym b i) ++ idsBytes (filter t ds));
     }
 kept-by t e at count j w q n o u (fails y) m h f g =
-    let d : Id = idAt e (at + 3 * j) in
-    let ds : List Id = idsAt (count - (j + 1)) e (at + 3 * (j + 1)) in
+    let d : Id = idAt e (at + idSize * j) in
+    let ds : List Id = idsAt (count - (j + 1)) e (at + idSize * (j + 1)) in
     let a : q ≡ w = f ∙ sym (pick-no _ _ _ _ y refl) in
     let b : u ≡ o = g ∙ sym (pick-no _ _ _ _ y refl) in
     record {
@@ -100,21 +101,20 @@ kept-by t e at count j w q n o u (fails y) m h f g =
       room = m .room;
       size = ap length b ∙ m .size;
       ids =
-          m .ids ∙ ap (λ (l : List Id). take (3 * w) o ++ idsBytes (filter t l)) (ids-more e at j count h)
-          ∙ ap (λ (l : List Id). take (3 * w) o ++ idsBytes l) (filter-no t d ds y)
-          ∙ (λ i. take (3 * sym a i) (sym b i) ++ idsBytes (filter t ds));
+          m .ids ∙ ap (λ (l : List Id). take (idSize * w) o ++ idsBytes (filter t l)) (ids-more e at j count h)
+          ∙ ap (λ (l : List Id). take (idSize * w) o ++ idsBytes l) (filter-no t d ds y)
+          ∙ (λ i. take (idSize * sym a i) (sym b i) ++ idsBytes (filter t ds));
     }
 
 pub kept-again : (t : Id → Bool) (e : List ℕ) (at count j w q n : ℕ) (o u : List ℕ) → Kept t e at count j w n o → j < count
-    → q ≡ pick (t (idAt e (at + 3 * j))) (w + 1) w → u ≡ pick (t (idAt e (at + 3 * j))) (patched (3 * w) (idBytes (idAt e (at + 3 * j))) o) o
-    → Kept t e at count (j + 1) q n u
-kept-again t e at count j w q n o u m h f g = kept-by t e at count j w q n o u (known (t (idAt e (at + 3 * j)))) m h f g
+    → Keeps t e (at + idSize * j) w q o u → Kept t e at count (j + 1) q n u
+kept-again t e at count j w q n o u m h k = kept-by t e at count j w q n o u (known (t (idAt e (at + idSize * j)))) m h (k .count) (k .bytes)
 
 pub kept-end : (t : Id → Bool) (e : List ℕ) (at count j w n : ℕ) (o : List ℕ) → Kept t e at count j w n o → count ≤ j
     → Listed w o (filter t (idsAt count e at))
 unfolding idsAt filter idsBytes
 kept-end t e at count j w n o m h =
     let a : count - j ≡ 0 = omega arith in
-    let all : take (3 * w) o ≡ idsBytes (filter t (idsAt count e at)) =
-    sym (m .ids ∙ ap (λ (n : ℕ). take (3 * w) o ++ idsBytes (filter t (idsAt n e (at + 3 * j)))) a ∙ append-nil (take (3 * w) o)) in
-    record { count = omega (arith, ap length all, length-take (3 * w) o, ids-length (filter t (idsAt count e at)), m .most, m .room, m .size); bytes = all }
+    let all : take (idSize * w) o ≡ idsBytes (filter t (idsAt count e at)) =
+    sym (m .ids ∙ ap (λ (n : ℕ). take (idSize * w) o ++ idsBytes (filter t (idsAt n e (at + idSize * j)))) a ∙ append-nil (take (idSize * w) o)) in
+    record { count = omega (arith, ap length all, length-take (idSize * w) o, ids-length (filter t (idsAt count e at)), m .most, m .room, m .size); bytes = all }

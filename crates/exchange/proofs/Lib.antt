@@ -15,5 +15,4 @@ pub mod RaiseLaws
 pub mod KeepLaws
 pub mod CommonLaws
 pub mod ListLaws
-pub mod ViewLaws
 pub mod DecidedLaws

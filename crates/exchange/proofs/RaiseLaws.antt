@@ -3,7 +3,7 @@
 use Prim.Native.Nat.{ℕ, _+_, _*_, _-_, _≤_, _<_}
 use mathlib.Core.Path.{_≡_, refl, sym, ap, _∙_}
 use mathlib.Core.Bool.{Bool, true, false, not}
-use mathlib.Core.List.{List, [], _∷_}
+use mathlib.Core.List.{List}
 use native.Mathlib.Omega.{arith}
 use lib.ListN.{length, getD, take, drop, set, length-drop}
 use lib.Seq.{take-all}
@@ -22,20 +22,19 @@ use Rattle.record.specs.declared.Context.{Context}
 use Rattle.record.specs.declared.StateHead.{StateHead}
 use Rattle.record.proofs.Turns.{small, place-out, place-in}
 use Rattle.exchange.specs.declared.slots.Slots.{Slots}
-use Rattle.exchange.specs.Slots.{slotAt, stateIn, statesFrom, headOf}
-use Rattle.exchange.specs.Table.{raised, raisedAll, raisedLists, ListInside, ListsInside}
+use Rattle.exchange.specs.Slots.{slotAt, statesLeft, headOf}
+use Rattle.exchange.specs.Table.{places, raised, raisedAll, raisedLists, RaisedAt, RaisedBy, idsIn, ListInside, ListsInside}
 use Rattle.exchange.proofs.SlotLaws.{states-in, states-out, states-end}
 use Rattle.exchange.proofs.ReadLaws.{state-stands}
-use Rattle.exchange.proofs.TableLaws.{raised-length, raised-all-length}
-use Rattle.format.specs.Places.{stateHeadSize, stateCutsAt, standingSize}
+use Rattle.format.specs.Places.{idSize, stateHeadSize, stateCutsAt, standingSize}
 
 -- ---- one id
 
-pub raise-out : (c : Context) (r p : ℕ) (t : List ℕ) (d : Id) → ContextIn c → p ≡ placeOf (contextOf c) d → 2048 ≤ p → t ≡ raised (contextOf c) r t d
+pub raise-out : (c : Context) (r p : ℕ) (t : List ℕ) (d : Id) → ContextIn c → p ≡ placeOf (contextOf c) d → places ≤ p → t ≡ raised (contextOf c) r t d
 unfolding raised
 raise-out c r p t d s e h = pick-no _ _ _ _ (sym (and-no _ _ (place-out (contextOf c) d p (small c s) (known _) e h))) refl
 
-pub raise-other : (c : Context) (r p : ℕ) (t : List ℕ) (d : Id) → p ≡ placeOf (contextOf c) d → p < 2048 → (getD t p 0 ≡ r → ⊥)
+pub raise-other : (c : Context) (r p : ℕ) (t : List ℕ) (d : Id) → p ≡ placeOf (contextOf c) d → p < places → (getD t p 0 ≡ r → ⊥)
     → t ≡ raised (contextOf c) r t d
 unfolding raised
 raise-other c r p t d e h n =
@@ -43,7 +42,7 @@ raise-other c r p t d e h n =
     let m : getD t (slot d) 0 ≡ r → ⊥ = λ y. n (ap (λ (i : ℕ). getD t i 0) (z .1) ∙ y) in
     pick-no _ _ _ _ (ap (λ (u : Bool). idOk (contextOf c) d and u) (eq-no _ _ m) ∙ sym (and-false (idOk (contextOf c) d))) refl
 
-pub raise-here : (c : Context) (r p : ℕ) (t : List ℕ) (d : Id) → p ≡ placeOf (contextOf c) d → p < 2048 → getD t p 0 ≡ r
+pub raise-here : (c : Context) (r p : ℕ) (t : List ℕ) (d : Id) → p ≡ placeOf (contextOf c) d → p < places → getD t p 0 ≡ r
     → set t p (r + 1) ≡ raised (contextOf c) r t d
 unfolding raised
 raise-here c r p t d e h n =
@@ -53,21 +52,21 @@ raise-here c r p t d e h n =
 -- ---- one list
 
 pub list-start : (c : FormatContext) (r : ℕ) (t e : List ℕ) (at m : ℕ)
-    → raisedAll c r t (idsAt m e at) ≡ raisedAll c r t (idsAt (m - 0) e (at + 3 * 0))
+    → raisedAll c r t (idsAt m e at) ≡ raisedAll c r t (idsAt (m - 0) e (at + idSize * 0))
 list-start c r t e at m =
     let a : m - 0 ≡ m = omega arith in
-    let b : at + 3 * 0 ≡ at = omega arith in
+    let b : at + idSize * 0 ≡ at = omega arith in
     rw (a, b)
 
-pub list-again : (c : FormatContext) (r : ℕ) (t u w e : List ℕ) (at k m : ℕ) → k < m → u ≡ raised c r t (idAt e (at + 3 * k))
-    → w ≡ raisedAll c r t (idsAt (m - k) e (at + 3 * k)) → w ≡ raisedAll c r u (idsAt (m - (k + 1)) e (at + 3 * (k + 1)))
+pub list-again : (c : FormatContext) (r : ℕ) (t u w e : List ℕ) (at k m : ℕ) → k < m → u ≡ raised c r t (idAt e (at + idSize * k))
+    → w ≡ raisedAll c r t (idsAt (m - k) e (at + idSize * k)) → w ≡ raisedAll c r u (idsAt (m - (k + 1)) e (at + idSize * (k + 1)))
 unfolding raisedAll
 list-again c r t u w e at k m h i j = j ∙ ap (raisedAll c r t) (ids-more e at k m h)
-    ∙ ap (λ (y : List ℕ). raisedAll c r y (idsAt (m - (k + 1)) e (at + 3 * (k + 1)))) (sym i)
+    ∙ ap (λ (y : List ℕ). raisedAll c r y (idsAt (m - (k + 1)) e (at + idSize * (k + 1)))) (sym i)
 
-pub list-end : (c : FormatContext) (r : ℕ) (t w e : List ℕ) (at k m : ℕ) → m ≤ k → w ≡ raisedAll c r t (idsAt (m - k) e (at + 3 * k)) → t ≡ w
+pub list-end : (c : FormatContext) (r : ℕ) (t w e : List ℕ) (at k m : ℕ) → m ≤ k → w ≡ raisedAll c r t (idsAt (m - k) e (at + idSize * k)) → t ≡ w
 unfolding raisedAll idsAt
-list-end c r t w e at k m h j = let a : m - k ≡ 0 = omega arith in sym (j ∙ ap (λ (i : ℕ). raisedAll c r t (idsAt i e (at + 3 * k))) a)
+list-end c r t w e at k m h j = let a : m - k ≡ 0 = omega arith in sym (j ∙ ap (λ (i : ℕ). raisedAll c r t (idsAt i e (at + idSize * k))) a)
 
 -- ---- the list of a slot
 
@@ -75,28 +74,27 @@ rest-whole : (b : List ℕ) (at : ℕ) → take (length b - at) (drop at b) ≡ 
 rest-whole b at = take-all (length b - at) (drop at b) (omega (arith, length-drop at b))
 
 pub ids-read : (v : Slots) (b : List ℕ) (k at : ℕ) (x : StateHead) → x ≡ headOf v b k → at ≡ slotAt v k
-    → idsAt (x .«yellow_count») (take (length b - at) (drop at b)) (stateHeadSize + 2 * v .servers) ≡ stateIn v b k .yellow .ids
+    → idsAt (x .«yellow_count») (take (length b - at) (drop at b)) (stateHeadSize + 2 * v .servers) ≡ idsIn v b k
 unfolding stateOf
 ids-read v b k at x h e =
     let z : stateHeadSize + 2 * v .servers ≡ stateCutsAt + 2 * v .servers + standingSize = omega arith in
     (λ i. idsAt (x .«yellow_count») ((rest-whole b at ∙ ap (λ (p : ℕ). drop p b) e) i) (z i))
     ∙ ap (λ (s : State). s .yellow .ids) (state-stands v b k x h)
 
+pub ids-counted : (v : Slots) (b : List ℕ) (k : ℕ) (x : StateHead) → x ≡ headOf v b k → length (idsIn v b k) ≡ x .«yellow_count»
+ids-counted v b k x h = ap length (sym (ids-read v b k (slotAt v k) x h refl)) ∙ ids-number (x .«yellow_count») _ (stateHeadSize + 2 * v .servers)
+
 pub slot-raised : (c : FormatContext) (r : ℕ) (t u : List ℕ) (v : Slots) (b : List ℕ) (k at : ℕ) (x : StateHead)
     → x ≡ headOf v b k → at ≡ slotAt v k
     → u ≡ raisedAll c r t (idsAt (x .«yellow_count») (take (length b - at) (drop at b)) (stateHeadSize + 2 * v .servers))
-    → u ≡ raisedAll c r t (stateIn v b k .yellow .ids)
+    → u ≡ raisedAll c r t (idsIn v b k)
 slot-raised c r t u v b k at x h e i = i ∙ ap (raisedAll c r t) (ids-read v b k at x h e)
 
 pub slot-list-inside : (v : Slots) (b : List ℕ) (k at : ℕ) (x : StateHead) → x ≡ headOf v b k → at ≡ slotAt v k → ListInside v b k
-    → stateHeadSize + 2 * v .servers + 3 * x .«yellow_count» ≤ length (take (length b - at) (drop at b))
+    → stateHeadSize + 2 * v .servers + idSize * x .«yellow_count» ≤ length (take (length b - at) (drop at b))
 unfolding ListInside
 slot-list-inside v b k at x h e i =
-    let n : length (stateIn v b k .yellow .ids) ≡ x .«yellow_count» = ap length (sym (ids-read v b k at x h e)) ∙ ids-number (x .«yellow_count») _ (stateHeadSize + 2 * v .servers) in
-    omega (arith, i, n, e, ap length (rest-whole b at), length-drop at b)
-
-pub raised-still : (c : FormatContext) (r : ℕ) (t u : List ℕ) (d : Id) → length t ≡ 2048 → u ≡ raised c r t d → length u ≡ 2048
-raised-still c r t u d h e = ap length e ∙ raised-length c r t d ∙ h
+    omega (arith, i, ids-counted v b k x h, e, ap length (rest-whole b at), length-drop at b)
 
 -- ---- the lists of several slots
 
@@ -110,15 +108,9 @@ unfolding pick
 turn-most true r q k e h = omega arith
 turn-most false r q k e h = omega arith
 
-turn-length : (t : Bool) (c : FormatContext) (r : ℕ) (x u : List ℕ) (ds : List Id) → length x ≡ 2048 → u ≡ pick t (raisedAll c r x ds) x
-    → length u ≡ 2048
-unfolding pick
-turn-length true c r x u ds h e = ap length e ∙ raised-all-length c r x ds ∙ h
-turn-length false c r x u ds h e = ap length e ∙ h
-
 -- How many lists there are, those that were met among them.
 count-by : (v : Slots) (b : List ℕ) (k r q m : ℕ) → k < v .servers → Known (inSet k (v .here)) → q ≡ pick (inSet k (v .here)) (r + 1) r
-    → m ≡ r + length (statesFrom v b (v .servers - k) k) → m ≡ q + length (statesFrom v b (v .servers - (k + 1)) (k + 1))
+    → m ≡ r + length (statesLeft v b k) → m ≡ q + length (statesLeft v b (k + 1))
 count-by v b k r q m h (holds s) e i =
     let a : q ≡ r + 1 = e ∙ sym (pick-yes _ _ _ _ s refl) in
     omega (arith, i, a, ap length (states-in v b k h s))
@@ -128,61 +120,43 @@ count-by v b k r q m h (fails s) e i =
 
 lists-by : (c : FormatContext) (v : Slots) (b : List ℕ) (k r q : ℕ) (t u w : List ℕ) → k < v .servers → Known (inSet k (v .here))
     → q ≡ pick (inSet k (v .here)) (r + 1) r
-    → u ≡ pick (inSet k (v .here)) (raisedAll c r t (stateIn v b k .yellow .ids)) t
-    → w ≡ raisedLists c r t (statesFrom v b (v .servers - k) k) → w ≡ raisedLists c q u (statesFrom v b (v .servers - (k + 1)) (k + 1))
+    → u ≡ pick (inSet k (v .here)) (raisedAll c r t (idsIn v b k)) t
+    → w ≡ raisedLists c r t (statesLeft v b k) → w ≡ raisedLists c q u (statesLeft v b (k + 1))
 unfolding raisedLists
 lists-by c v b k r q t u w h (holds s) e f j =
     let a : q ≡ r + 1 = e ∙ sym (pick-yes _ _ _ _ s refl) in
-    let d : u ≡ raisedAll c r t (stateIn v b k .yellow .ids) = f ∙ sym (pick-yes _ _ _ _ s refl) in
-    j ∙ ap (raisedLists c r t) (states-in v b k h s) ∙ (λ y. raisedLists c (sym a y) (sym d y) (statesFrom v b (v .servers - (k + 1)) (k + 1)))
+    let d : u ≡ raisedAll c r t (idsIn v b k) = f ∙ sym (pick-yes _ _ _ _ s refl) in
+    j ∙ ap (raisedLists c r t) (states-in v b k h s) ∙ (λ y. raisedLists c (sym a y) (sym d y) (statesLeft v b (k + 1)))
 lists-by c v b k r q t u w h (fails s) e f j =
     let a : q ≡ r = e ∙ sym (pick-no _ _ _ _ s refl) in
     let d : u ≡ t = f ∙ sym (pick-no _ _ _ _ s refl) in
-    j ∙ ap (raisedLists c r t) (states-out v b k h s) ∙ (λ y. raisedLists c (sym a y) (sym d y) (statesFrom v b (v .servers - (k + 1)) (k + 1)))
+    j ∙ ap (raisedLists c r t) (states-out v b k h s) ∙ (λ y. raisedLists c (sym a y) (sym d y) (statesLeft v b (k + 1)))
 
 -- Of the slots from `start` on, those below k were met: the table t was u at first.
 pub record Met (c : FormatContext) (v : Slots) (b : List ℕ) (start k r : ℕ) (u t : List ℕ) : Type 0 where
   pub low : k ≤ v .servers
   pub most : r ≤ k
-  pub size : length t ≡ 2048
-  pub count : length (statesFrom v b (v .servers - start) start) ≡ r + length (statesFrom v b (v .servers - k) k)
-  pub lists : raisedLists c 0 u (statesFrom v b (v .servers - start) start) ≡ raisedLists c r t (statesFrom v b (v .servers - k) k)
+  pub count : length (statesLeft v b start) ≡ r + length (statesLeft v b k)
+  pub lists : raisedLists c 0 u (statesLeft v b start) ≡ raisedLists c r t (statesLeft v b k)
 
-pub met-start : (c : FormatContext) (v : Slots) (b : List ℕ) (start : ℕ) (u : List ℕ) → start ≤ v .servers → length u ≡ 2048
-    → Met c v b start start 0 u u
-met-start c v b start u h l = record { low = h; most = omega arith; size = l; count = omega arith; lists = refl }
+pub met-start : (c : FormatContext) (v : Slots) (b : List ℕ) (start : ℕ) (u : List ℕ) → start ≤ v .servers → Met c v b start start 0 u u
+met-start c v b start u h = record { low = h; most = omega arith; count = omega arith; lists = refl }
 
 pub met-again : (c : FormatContext) (v : Slots) (b : List ℕ) (start k r q : ℕ) (u t s : List ℕ) → Met c v b start k r u t → k < v .servers
-    → q ≡ pick (inSet k (v .here)) (r + 1) r → s ≡ pick (inSet k (v .here)) (raisedAll c r t (stateIn v b k .yellow .ids)) t
-    → Met c v b start (k + 1) q u s
-met-again c v b start k r q u t s m h e f =
+    → RaisedAt c v b k r q t s → Met c v b start (k + 1) q u s
+met-again c v b start k r q u t s m h f =
     record {
       low = omega arith;
-      most = turn-most (inSet k (v .here)) r q k e (m .most);
-      size = turn-length (inSet k (v .here)) c r t s (stateIn v b k .yellow .ids) (m .size) f;
-      count = count-by v b k r q _ h (known (inSet k (v .here))) e (m .count);
-      lists = lists-by c v b k r q t s _ h (known (inSet k (v .here))) e f (m .lists);
+      most = turn-most (inSet k (v .here)) r q k (f .count) (m .most);
+      count = count-by v b k r q _ h (known (inSet k (v .here))) (f .count) (m .count);
+      lists = lists-by c v b k r q t s _ h (known (inSet k (v .here))) (f .count) (f .table) (m .lists);
     }
 
-pub met-count : (c : FormatContext) (v : Slots) (b : List ℕ) (start k r : ℕ) (u t : List ℕ) → Met c v b start k r u t → v .servers ≤ k
-    → r ≡ length (statesFrom v b (v .servers - start) start)
-met-count c v b start k r u t m h = omega (arith, m .count, ap length (states-end v b k h))
-
-pub met-lists : (c : FormatContext) (v : Slots) (b : List ℕ) (start k r : ℕ) (u t : List ℕ) → Met c v b start k r u t → v .servers ≤ k
-    → t ≡ raisedLists c 0 u (statesFrom v b (v .servers - start) start)
+pub met-end : (c : FormatContext) (v : Slots) (b : List ℕ) (start k r : ℕ) (u t : List ℕ) → Met c v b start k r u t → v .servers ≤ k
+    → RaisedBy c (statesLeft v b start) r u t
 unfolding raisedLists
-met-lists c v b start k r u t m h = sym (m .lists ∙ ap (raisedLists c r t) (states-end v b k h))
-
-pub raised-lists-length : (c : FormatContext) (r : ℕ) (t : List ℕ) (ys : List State) → length (raisedLists c r t ys) ≡ length t
-unfolding raisedLists
-raised-lists-length c r t [] = refl
-raised-lists-length c r t (y ∷ ys) = raised-lists-length c (r + 1) (raisedAll c r t (y .yellow .ids)) ys ∙ raised-all-length c r t (y .yellow .ids)
-
-pub table-still : (c : FormatContext) (t u : List ℕ) (ys : List State) → length t ≡ 2048 → u ≡ raisedLists c 0 t ys → length u ≡ 2048
-table-still c t u ys h e = ap length e ∙ raised-lists-length c 0 t ys ∙ h
-
-pub list-short : (v : Slots) (b : List ℕ) (k n : ℕ) (x : StateHead) → x ≡ headOf v b k → 3 * length (stateIn v b k .yellow .ids) ≤ n
-    → 3 * x .«yellow_count» ≤ n
-list-short v b k n x h l =
-    let m : length (stateIn v b k .yellow .ids) ≡ x .«yellow_count» = ap length (sym (ids-read v b k (slotAt v k) x h refl)) ∙ ids-number (x .«yellow_count») _ (stateHeadSize + 2 * v .servers) in
-    omega arith
+met-end c v b start k r u t m h =
+    record {
+      count = omega (arith, m .count, ap length (states-end v b k h));
+      table = sym (m .lists ∙ ap (raisedLists c r t) (states-end v b k h));
+    }

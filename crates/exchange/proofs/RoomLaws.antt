@@ -7,12 +7,10 @@ use mathlib.Core.List.{List}
 use mathlib.Core.Option.{Option, none, some}
 use native.Mathlib.Nat.{zero-add, one-le-pow}
 use native.Mathlib.Omega.{arith}
-use lib.Bits.{bitAnd}
-use lib.Dec.{eqb}
 use lib.ListN.{length, getD, drop}
 use Rattle.base.specs.Tests.{pick}
 use Rattle.base.proofs.TestLaws.{pick-yes, holds}
-use Rattle.base.proofs.Branches.{told-eq, same-truth}
+use Rattle.base.proofs.Branches.{same-truth}
 use Rattle.base.specs.Lists.{isThere, sum}
 use Rattle.base.specs.Sets.{inSet, inside}
 use Rattle.base.proofs.SetLaws.{members-inside, inside-member}
@@ -30,8 +28,7 @@ use Rattle.engine.proofs.InRange.{in-range}
 use Rattle.engine.proofs.Slots.{in-senders}
 use Rattle.engine.specs.Holding.{Holds}
 use Rattle.exchange.specs.declared.slots.Slots.{Slots}
-use Rattle.exchange.specs.View.{slotsIn}
-use Rattle.exchange.specs.Slots.{Room, slotsOf, slotAt, stateIn}
+use Rattle.exchange.specs.Slots.{Space, Room, slotsOf, slotsIn, slotAt, stateIn}
 use Rattle.exchange.proofs.Collected.{states-there}
 
 states-at : (n q here : ℕ) (b : List ℕ) (m k at j : ℕ) → j < m
@@ -66,16 +63,15 @@ holds-room s b h =
       senders = λ k l t. well-formed-facts s (h .formed) .membership .states k _ (state-there s b h k l t) .sender;
     }
 
+pub room-space : (v : Slots) (b : List ℕ) → Room v b → Space v b
+room-space v b r = r .space
+
 -- ---- the slots as the code computes them
 
 pub slots-made : (n q size at here : ℕ) → size ≡ stateSize n q → at ≡ offset n q theStates
     → _≡_ {A = Slots} (record { servers = n; size = size; at = at; here = here }) (slotsOf n q here)
 unfolding slotsOf
 slots-made n q size at here e f = λ i. record { servers = n; size = e i; at = f i; here = here }
-
-pub inside-told : (s t : ℕ) → eqb (bitAnd s t) s ≡ inside s t
-unfolding inside
-inside-told s t = told-eq (bitAnd s t) s
 
 -- ---- every member's State is in
 

@@ -1,6 +1,6 @@
 -- A turn of a loop over the slots takes one State, or none, off the front of those that are left.
 -- Assumes nothing.
-use Prim.Native.Nat.{ℕ, suc, _+_, _*_, _-_, _≤_, _<_, _^_, _%_}
+use Prim.Native.Nat.{ℕ, suc, _+_, _*_, _-_, _≤_, _<_}
 use mathlib.Core.Path.{_≡_, refl, sym, ap, _∙_}
 use mathlib.Core.Bool.{Bool, true, false}
 use mathlib.Core.List.{List, [], _∷_}
@@ -9,11 +9,7 @@ use native.Mathlib.Omega.{arith}
 use lib.ListN.{length}
 use Rattle.base.specs.Tests.{pick}
 use Rattle.base.proofs.TestLaws.{pick-yes, pick-no, Known, known, holds, fails}
-use lib.Bits.{bitOr}
-use Rattle.base.specs.Sets.{inSet, withMember}
-use Rattle.base.proofs.SetLaws.{power-below, member-below}
-use mir.Syntax.{w8}
-use mir.Val.{Fits}
+use Rattle.base.specs.Sets.{inSet}
 use Rattle.format.specs.Types.{State}
 use Rattle.exchange.specs.declared.slots.Slots.{Slots}
 use Rattle.exchange.specs.Slots.{Space, First, stateIn, statesFrom, statesOf}
@@ -87,22 +83,3 @@ first-again v k t h e f i b = i b ∙ states-out v b k h (sym e ∙ f)
 
 pub first-none : (v : Slots) (k : ℕ) → k ≤ v .servers → v .servers ≤ k → ((b : List ℕ) → statesOf v b ≡ statesFrom v b (v .servers - k) k) → First v k
 first-none v k h l i = record { low = h; there = λ m. absurd (omega arith); rest = i }
-
--- ---- sets
-
-pub with-made : (k s : ℕ) → k < 8 → bitOr s (1 * 2 ^ k % 256) ≡ withMember k s
-unfolding withMember
-with-made k s h =
-    let a : 2 ^ k < 256 = power-below k 8 h in
-    let z : 1 * 2 ^ k % 256 ≡ 2 ^ k = omega arith in
-    ap (bitOr s) z
-
-pub no-member : (k s : ℕ) → s < 256 → 8 ≤ k → false ≡ inSet k s
-no-member k s h l = go (known (inSet k s))
-  where
-    go : Known (inSet k s) → false ≡ inSet k s
-    go (holds e) = absurd (omega (arith, member-below 8 k s h e))
-    go (fails e) = sym e
-
-pub no-member-of : (k s : ℕ) → Fits w8 s → 8 ≤ k → false ≡ inSet k s
-no-member-of k s h l = no-member k s (h .fits) l

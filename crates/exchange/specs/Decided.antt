@@ -11,7 +11,13 @@ use Rattle.exchange.specs.declared.decided.Part.{Part}
 
 -- Votes but the yellow ids.
 unfoldable pub votesNumbers : Votes → TakenVotes
-votesNumbers v = record { last = lastOf (v .last); attempt = record { 0 = v .attempt }; mark = markNumbers (v .mark); «yellow_status» = v .yellow .status }
+votesNumbers v =
+    record {
+      last = lastOf (v .last);
+      attempt = record { 0 = v .attempt };
+      mark = markNumbers (v .mark);
+      «yellow_status» = v .yellow .status;
+    }
 
 -- A server's part of the plan, by the green length or the cut of one creator: `missing f xs` is `above low high`.
 unfoldable pub partOf : (State → ℕ) → (me : ℕ) → List State → Part

@@ -12,13 +12,19 @@ use Rattle.format.specs.Types.{State}
 use Rattle.format.specs.Read.{stateAt}
 use Rattle.record.specs.Events.{headIn}
 use Rattle.record.specs.declared.StateHead.{StateHead}
+use Rattle.replication.specs.Machine.Types.{Server}
 use Rattle.engine.specs.Layout.{stateSize, theStates, offset}
+use Rattle.engine.specs.Image.{senders}
 use Rattle.exchange.specs.declared.slots.Slots.{Slots}
 use Rattle.format.specs.Places.{stateHeadSize, stateCutsAt}
 
 -- The slots of a state with n servers and the quota q; `here` is the set of the senders whose State is in.
 unfoldable pub slotsOf : (n q here : ℕ) → Slots
 slotsOf n q here = record { servers = n; size = stateSize n q; at = offset n q theStates; here = here }
+
+-- The slots of a buffer that holds s.
+unfoldable pub slotsIn : Server → Slots
+slotsIn s = slotsOf (s .servers) (s .quota) (senders 0 (s .membership .states))
 
 -- The same slots, by another set.
 unfoldable pub withHere : ℕ → Slots → Slots
@@ -44,6 +50,14 @@ statesFrom v b (suc m) k = pick (inSet k (v .here)) (stateIn v b k ∷ statesFro
 unfoldable pub statesOf : Slots → List ℕ → List State
 statesOf v b = statesFrom v b (v .servers) 0
 
+-- Those of the slots from k on.
+abbrev pub statesLeft : Slots → List ℕ → ℕ → List State
+statesLeft v b k = statesFrom v b (v .servers - k) k
+
+-- The slot k is meant: x, or else y.
+abbrev pub ifMeant : {A : Type 0} → Slots → ℕ → (x y : A) → A
+ifMeant v k x y = pick (inSet k (v .here)) x y
+
 -- The slots lie in the buffer, and a State's fixed parts fit in one.
 pub record Space (v : Slots) (b : List ℕ) : Type 0 where
   pub servers : v .servers ≤ mostServers
@@ -59,4 +73,4 @@ pub record Room (v : Slots) (b : List ℕ) : Type 0 where
 pub record First (v : Slots) (k : ℕ) : Type 0 where
   pub low : k ≤ v .servers
   pub there : k < v .servers → inSet k (v .here) ≡ true
-  pub rest : (b : List ℕ) → statesOf v b ≡ statesFrom v b (v .servers - k) k
+  pub rest : (b : List ℕ) → statesOf v b ≡ statesLeft v b k

@@ -1,20 +1,27 @@
 -- The table by which the ids common to several lists are found in one pass over each: a place for each id in range.
 -- Assumes nothing.
-use Prim.Native.Nat.{ℕ, _+_, _*_, _-_, _≤_, _<_}
+use Prim.Native.Nat.{ℕ, _+_, _*_, _≤_, _<_}
 use mathlib.Core.Path.{_≡_}
 use mathlib.Core.Bool.{Bool, true}
 use mathlib.Core.List.{List, [], _∷_}
 use lib.ListN.{length, getD, set, take, replicate}
 use Rattle.base.specs.Lists.{filter}
+use Rattle.base.specs.Patched.{patched}
 use Rattle.base.specs.Sets.{inSet}
 use Rattle.base.specs.Tests.{_and_, _=?_, pick}
+use Rattle.format.specs.Limits.{mostServers, mostQuota}
 use Rattle.format.specs.Types.{Id, State, Context}
 use Rattle.format.specs.Range.{idOk, idsInRange}
-use Rattle.format.specs.Write.{idsBytes}
+use Rattle.format.specs.Read.{idAt}
+use Rattle.format.specs.Write.{idBytes, idsBytes}
 use Rattle.record.specs.Values.{slot}
 use Rattle.exchange.specs.declared.slots.Slots.{Slots}
-use Rattle.exchange.specs.Slots.{slotAt, stateIn, statesFrom}
-use Rattle.format.specs.Places.{stateHeadSize}
+use Rattle.exchange.specs.Slots.{slotAt, stateIn, statesLeft, ifMeant}
+use Rattle.format.specs.Places.{idSize, stateHeadSize}
+
+-- How many places the table has.
+abbrev pub places : ℕ
+places = mostServers * mostQuota
 
 -- An id of the list after r others: its place is raised to r + 1 if it is at r.
 unfoldable pub raised : Context → ℕ → List ℕ → Id → List ℕ
@@ -29,9 +36,23 @@ unfoldable pub raisedLists : Context → ℕ → List ℕ → List State → Lis
 raisedLists c r t [] = t
 raisedLists c r t (y ∷ ys) = raisedLists c (r + 1) (raisedAll c r t (y .yellow .ids)) ys
 
--- The yellow list in the slot k lies in the buffer.
+-- The yellow list of the State in the slot k.
+abbrev pub idsIn : Slots → List ℕ → ℕ → List Id
+idsIn v b k = stateIn v b k .yellow .ids
+
+-- If the slot k is meant, its list is one more: the table is t after r lists, and u after q.
+pub record RaisedAt (c : Context) (v : Slots) (b : List ℕ) (k r q : ℕ) (t u : List ℕ) : Type 0 where
+  pub count : q ≡ ifMeant v k (r + 1) r
+  pub table : u ≡ ifMeant v k (raisedAll c r t (idsIn v b k)) t
+
+-- The r lists of the States ys made u of the table t.
+pub record RaisedBy (c : Context) (ys : List State) (r : ℕ) (t u : List ℕ) : Type 0 where
+  pub count : r ≡ length ys
+  pub table : u ≡ raisedLists c 0 t ys
+
+-- The list in the slot k lies in the buffer.
 unfoldable pub ListInside : Slots → List ℕ → ℕ → Type 0
-ListInside v b k = slotAt v k + (stateHeadSize + 2 * v .servers + 3 * length (stateIn v b k .yellow .ids)) ≤ length b
+ListInside v b k = slotAt v k + (stateHeadSize + 2 * v .servers + idSize * length (idsIn v b k)) ≤ length b
 
 -- Those of the senders that are meant lie in it.
 unfoldable pub ListsInside : Slots → List ℕ → Type 0
@@ -41,22 +62,28 @@ ListsInside v b = (k : ℕ) → k < v .servers → inSet k (v .here) ≡ true �
 unfoldable pub isKept : Context → ℕ → List ℕ → Id → Bool
 isKept c r t d = idOk c d and getD t (slot d) 0 =? r
 
+-- If the id at `at` passes the test, it is one more: the bytes are o with n ids, and u with q.
+pub record Keeps (t : Id → Bool) (e : List ℕ) (at n q : ℕ) (o u : List ℕ) : Type 0 where
+  pub count : q ≡ pick (t (idAt e at)) (n + 1) n
+  pub bytes : u ≡ pick (t (idAt e at)) (patched (idSize * n) (idBytes (idAt e at)) o) o
+
 -- Those of the list in the slot k that the table of the lists behind it tells to be in all of them.
 unfoldable pub keptIds : Context → Slots → List ℕ → ℕ → List Id
 keptIds c v b k =
-    filter
-    (isKept c (length (statesFrom v b (v .servers - (k + 1)) (k + 1))) (raisedLists c 0 (replicate {A = ℕ} 2048 0) (statesFrom v b (v .servers - (k + 1)) (k + 1))))
-    (stateIn v b k .yellow .ids)
+    let ys : List State = statesLeft v b (k + 1) in
+    filter (isKept c (length ys) (raisedLists c 0 (replicate {A = ℕ} places 0) ys)) (idsIn v b k)
 
 -- The bytes o begin with the ids ds, of which there are r.
 pub record Listed (r : ℕ) (o : List ℕ) (ds : List Id) : Type 0 where
   pub count : r ≡ length ds
-  pub bytes : take (3 * r) o ≡ idsBytes ds
+  pub bytes : take (idSize * r) o ≡ idsBytes ds
 
--- Those of the senders that are meant are at most n bytes long.
-unfoldable pub ListsShort : Slots → List ℕ → ℕ → Type 0
-ListsShort v b n = (k : ℕ) → k < v .servers → inSet k (v .here) ≡ true → 3 * length (stateIn v b k .yellow .ids) ≤ n
+-- The list in the slot k lies in the buffer b and has room in o, and its ids are in range.
+pub record ListFits (c : Context) (v : Slots) (b o : List ℕ) (k : ℕ) : Type 0 where
+  pub inside : ListInside v b k
+  pub short : idSize * length (idsIn v b k) ≤ length o
+  pub range : idsInRange c (idsIn v b k) ≡ true
 
--- Their ids are in range.
-unfoldable pub ListsInRange : Context → Slots → List ℕ → Type 0
-ListsInRange c v b = (k : ℕ) → k < v .servers → inSet k (v .here) ≡ true → idsInRange c (stateIn v b k .yellow .ids) ≡ true
+-- So it is for the senders that are meant.
+unfoldable pub ListsFit : Context → Slots → (b o : List ℕ) → Type 0
+ListsFit c v b o = (k : ℕ) → k < v .servers → inSet k (v .here) ≡ true → ListFits c v b o k

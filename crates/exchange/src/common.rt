@@ -1,15 +1,15 @@
 // The ids common to all the yellow lists that count.
 ghost use mathlib.Core.Path.{_≡_};
-ghost use Prim.Native.Nat.{ℕ, _+_, _*_, _≤_, _<_};
+ghost use Prim.Native.Nat.{_+_, _*_, _≤_, _<_};
 ghost use lib.ListN.{length};
 ghost use Rattle.base.specs.Lists.{filter};
 ghost use Rattle.base.specs.Patched.{patched};
-ghost use Rattle.base.specs.Tests.{pick};
+ghost use Rattle.format.specs.Places.{idSize};
 ghost use Rattle.format.specs.Read.{idAt, idsAt};
 ghost use Rattle.format.specs.Write.{idBytes};
 ghost use Rattle.record.specs.Context.{contextOf, ContextIn};
-ghost use Rattle.exchange.specs.Slots.{Room, stateIn, statesOf};
-ghost use Rattle.exchange.specs.Table.{isKept, keptIds, Listed, ListInside, ListsInside, ListsShort, ListsInRange};
+ghost use Rattle.exchange.specs.Slots.{Room, First, statesOf};
+ghost use Rattle.exchange.specs.Table.{isKept, Keeps, keptIds, Listed, ListsFit};
 ghost use Rattle.replication.specs.Machine.Exchange.{takenYellow};
 use crate::slots::Slots;
 use crate::slots::first;
@@ -18,6 +18,7 @@ use crate::slots::place;
 use crate::table::raise_lists;
 use crate::yellow::yellow_voters;
 use record::Context;
+use record::State;
 use record::StateHead;
 use record::bytes::num8;
 use record::bytes::num16;
@@ -26,8 +27,8 @@ use record::lists::place_at;
 use record::parts::put_id;
 
 // Whether the place of the id from `at` on tells `round`.
-fn is_kept(c: Context, e: &[u8], at: usize, round: u8, table: &[u8]) -> bool
-    requires { ⌜ ContextIn c × (at + 3 ≤ length (now e)) × (length (now table) ≡ 2048) ⌝ }
+fn is_kept(c: Context, e: &[u8], at: usize, round: u8, table: &[u8; PLACES]) -> bool
+    requires { ⌜ ContextIn c × (at + idSize ≤ length (now e)) ⌝ }
     ensures { λ r. ⌜ r ≡ isKept (contextOf c) round (now (table .entry)) (idAt (now (e .entry)) at) ⌝ }
 {
     let p = place_at(c, e, at);
@@ -39,10 +40,10 @@ fn is_kept(c: Context, e: &[u8], at: usize, round: u8, table: &[u8]) -> bool
 
 // Writes the id from `at` on as the id number `count` of the list.
 fn put_kept(e: &[u8], at: usize, out: &mut [u8], count: usize)
-    requires { ⌜ (at + 3 ≤ length (now e)) × (3 * count + 3 ≤ length (now out)) ⌝ }
-    ensures { λ _. ⌜ now (out .exit) ≡ patched (3 * count) (idBytes (idAt (now (e .entry)) at)) (now (out .entry)) ⌝ }
+    requires { ⌜ (at + idSize ≤ length (now e)) × (idSize * count + idSize ≤ length (now out)) ⌝ }
+    ensures { λ _. ⌜ now (out .exit) ≡ patched (idSize * count) (idBytes (idAt (now (e .entry)) at)) (now (out .entry)) ⌝ }
 {
-    put_id(out, 3 * count, num8(e, at), num16(e, at + 1));
+    put_id(out, State::ID * count, num8(e, at), num16(e, at + 1));
 }
 
 // Writes the id from `at` on if its place tells `round`: how many ids there are then.
@@ -51,12 +52,12 @@ fn keep_at(
     e: &[u8],
     at: usize,
     round: u8,
-    table: &[u8],
+    table: &[u8; PLACES],
     out: &mut [u8],
     count: usize,
 ) -> usize
-    requires { ⌜ ContextIn c × (at + 3 ≤ length (now e)) × (length (now table) ≡ 2048) × (3 * count + 3 ≤ length (now out)) ⌝ }
-    ensures { λ r. ⌜ (r ≡ pick (isKept (contextOf c) round (now (table .entry)) (idAt (now (e .entry)) at)) (count + 1) count) × (now (out .exit) ≡ pick (isKept (contextOf c) round (now (table .entry)) (idAt (now (e .entry)) at)) (patched (3 * count) (idBytes (idAt (now (e .entry)) at)) (now (out .entry))) (now (out .entry))) ⌝ }
+    requires { ⌜ ContextIn c × (at + idSize ≤ length (now e)) × (idSize * count + idSize ≤ length (now out)) ⌝ }
+    ensures { λ r. ⌜ Keeps (isKept (contextOf c) round (now (table .entry))) (now (e .entry)) at count r (now (out .entry)) (now (out .exit)) ⌝ }
 {
     if !is_kept(c, e, at, round, table) {
         return count;
@@ -72,16 +73,16 @@ pub fn keep(
     at: usize,
     count: usize,
     round: u8,
-    table: &[u8],
+    table: &[u8; PLACES],
     out: &mut [u8],
 ) -> usize
-    requires { ⌜ ContextIn c × (at + 3 * count ≤ length (now e)) × (length (now table) ≡ 2048) × (3 * count ≤ length (now out)) ⌝ }
+    requires { ⌜ ContextIn c × (at + idSize * count ≤ length (now e)) × (idSize * count ≤ length (now out)) ⌝ }
     ensures { λ r. ⌜ Listed r (now (out .exit)) (filter (isKept (contextOf c) round (now (table .entry))) (idsAt count (now (e .entry)) at)) ⌝ }
 {
     let mut kept = 0;
     let mut j = 0;
     while j < count {
-        kept = keep_at(c, e, at + 3 * j, round, table, out, kept);
+        kept = keep_at(c, e, at + State::ID * j, round, table, out, kept);
         j += 1;
     }
     kept
@@ -89,7 +90,7 @@ pub fn keep(
 
 // The ids of the list in the slot `start` that every list behind it has, too: how many there are.
 fn common(c: Context, v: Slots, state: &[u8], start: usize, out: &mut [u8]) -> usize
-    requires { ⌜ ContextIn c × Room v (now state) × (start < v .servers) × ListsInside v (now state) × ListInside v (now state) start × (3 * length (stateIn v (now state) start .yellow .ids) ≤ length (now out)) ⌝ }
+    requires { ⌜ ContextIn c × Room v (now state) × First v start × (start < v .servers) × ListsFit (contextOf c) v (now state) (now out) ⌝ }
     ensures { λ r. ⌜ Listed r (now (out .exit)) (keptIds (contextOf c) v (now (state .entry)) start) ⌝ }
 {
     let mut table: [u8; PLACES] = [0; PLACES];
@@ -110,8 +111,8 @@ fn common(c: Context, v: Slots, state: &[u8], start: usize, out: &mut [u8]) -> u
 // "the ids common to all those valid lists, in the order of the lowest-numbered such sender's list; else it is invalid and
 // empty": how many; their bytes are in `out`.
 pub fn taken_ids(c: Context, v: Slots, state: &[u8], out: &mut [u8]) -> usize
-    requires { ⌜ ContextIn c × Room v (now state) × ListsInside v (now state) × ListsShort v (now state) (length (now out)) ⌝ }
-    ensures { λ r. ⌜ (ListsInRange (contextOf c) v (now (state .entry)) → Listed r (now (out .exit)) (takenYellow (statesOf v (now (state .entry))) .ids)) ⌝ }
+    requires { ⌜ ContextIn c × Room v (now state) × ListsFit (contextOf c) v (now state) (now out) ⌝ }
+    ensures { λ r. ⌜ Listed r (now (out .exit)) (takenYellow (statesOf v (now (state .entry))) .ids) ⌝ }
 {
     let set = yellow_voters(v, state);
     let w = v.only(set);

@@ -1,15 +1,16 @@
-// What the collected States in a state's buffer decide.
+// What the collected States in a buffer that holds a state decide.
 ghost use mathlib.Core.Path.{_≡_};
-ghost use Prim.Native.Nat.{ℕ, _*_, _≤_, _<_};
+ghost use Prim.Native.Nat.{_*_, _≤_, _<_};
 ghost use lib.ListN.{length};
+ghost use Rattle.format.specs.Places.{idSize};
 ghost use Rattle.replication.specs.Machine.Types.{Server};
 ghost use Rattle.replication.specs.Machine.Plan.{greenIn, cutIn};
 ghost use Rattle.replication.specs.Machine.Exchange.{takenVotes, takenYellow, quorum as hasQuorum};
 ghost use Rattle.replication.specs.Machine.Step.{hereSet, collected, allStatesIn, allCpcsIn, plannedNow};
-ghost use Rattle.engine.specs.Holding.{Holds};
-ghost use Rattle.exchange.specs.Slots.{Room, statesOf};
+ghost use Rattle.engine.specs.Holding.{Holds, HoldsSuch, HoldsSome, Computes};
+ghost use Rattle.exchange.specs.Slots.{Room, slotsIn, statesOf};
 ghost use Rattle.exchange.specs.Numbers.{numberIn, Within};
-ghost use Rattle.exchange.specs.Table.{Listed};
+ghost use Rattle.exchange.specs.Table.{places, Listed};
 ghost use Rattle.exchange.specs.Decided.{votesNumbers, partOf};
 use crate::common::taken_ids;
 use crate::marks::own_mark;
@@ -22,16 +23,15 @@ use crate::plan::resends;
 use crate::primary::taken_attempt;
 use crate::primary::taken_primary;
 use crate::slots::Slots;
-use crate::slots::all_in;
-use crate::view::byte;
-use crate::view::context;
-use crate::view::view;
+use crate::slots::collected as collected_in;
 use crate::yellow::yellow_status;
+use engine::header::load;
 use record::AttemptIndex;
 use record::LastPrimary;
 use record::Mark;
-use record::PrimaryIndex;
-use record::StateHead;
+use record::State;
+use record::bytes::num8;
+use record::sets::inside;
 
 // The votes that the States decide, but the yellow ids.
 pub struct TakenVotes {
@@ -50,23 +50,41 @@ pub struct Part {
 
 // "When every member's State is in"
 pub fn all_states_in(state: &[u8]) -> bool
-    ensures { λ r. ⌜ ((s : Server) → Holds s (now (state .entry)) → r ≡ allStatesIn s) ⌝ }
+    requires { ⌜ HoldsSome (now state) ⌝ }
+    ensures { λ r. ⌜ Computes allStatesIn (now (state .entry)) r ⌝ }
 {
-    all_in(byte(state, 10), byte(state, 13))
+    inside(
+        num8(state, State::AT_CONFIGURATION_SET),
+        num8(state, State::AT_STATES),
+    )
 }
 
 // "when every member's CPC is in"
 pub fn all_cpcs_in(state: &[u8]) -> bool
-    ensures { λ r. ⌜ ((s : Server) → Holds s (now (state .entry)) → r ≡ allCpcsIn s) ⌝ }
+    requires { ⌜ HoldsSome (now state) ⌝ }
+    ensures { λ r. ⌜ Computes allCpcsIn (now (state .entry)) r ⌝ }
 {
-    all_in(byte(state, 10), byte(state, 14))
+    inside(
+        num8(state, State::AT_CONFIGURATION_SET),
+        num8(state, State::AT_CPCS),
+    )
+}
+
+// The slots of the States that are in.
+fn held_slots(state: &[u8]) -> Slots
+    requires { ⌜ HoldsSome (now state) ⌝ }
+    ensures { λ r. ⌜ Computes slotsIn (now (state .entry)) r ⌝ }
+{
+    let h = load(state);
+    collected_in(h.servers, h.quota, h.states)
 }
 
 // How many retransmissions are planned.
 pub fn planned_now(state: &[u8]) -> u64
-    ensures { λ r. ⌜ ((s : Server) → Holds s (now (state .entry)) → r ≡ plannedNow s) ⌝ }
+    requires { ⌜ HoldsSome (now state) ⌝ }
+    ensures { λ r. ⌜ Computes plannedNow (now (state .entry)) r ⌝ }
 {
-    let v = view(state);
+    let v = held_slots(state);
     planned(v, state)
 }
 
@@ -83,65 +101,40 @@ fn part_by(v: Slots, state: &[u8], f: Number, me: usize) -> Part
 
 // "the server with the longest green list resends positions from the shortest length + 1 to its own"
 pub fn resends_green(state: &[u8]) -> Part
-    ensures { λ r. ⌜ ((s : Server) → Holds s (now (state .entry)) → r ≡ partOf greenIn (s .me) (collected s)) ⌝ }
+    requires { ⌜ HoldsSome (now state) ⌝ }
+    ensures { λ r. ⌜ Computes (λ s. partOf greenIn (s .me) (collected s)) (now (state .entry)) r ⌝ }
 {
-    let v = view(state);
-    let me = byte(state, 3);
+    let v = held_slots(state);
+    let me = num8(state, State::AT_ME);
     part_by(v, state, Number::Green, me as usize)
 }
 
 // "for each creator the server with the highest cut resends from the lowest cut + 1 to it"
 pub fn resends_red(state: &[u8], c: usize) -> Part
-    ensures { λ r. ⌜ ((s : Server) → Holds s (now (state .entry)) → c < s .servers → r ≡ partOf (cutIn c) (s .me) (collected s)) ⌝ }
+    requires { ⌜ HoldsSuch (λ s. c < s .servers) (now state) ⌝ }
+    ensures { λ r. ⌜ Computes (λ s. partOf (cutIn c) (s .me) (collected s)) (now (state .entry)) r ⌝ }
 {
-    let v = view(state);
-    if v.servers <= c {
-        return Part {
-            mine: false,
-            low: 0,
-            high: 0,
-        };
-    }
-    let me = byte(state, 3);
+    let v = held_slots(state);
+    let me = num8(state, State::AT_ME);
     part_by(v, state, Number::Cut(c), me as usize)
 }
 
 // Whether the members here are a quorum.
 pub fn quorum_here(state: &[u8]) -> bool
-    ensures { λ r. ⌜ ((s : Server) → Holds s (now (state .entry)) → r ≡ hasQuorum (collected s) (hereSet s)) ⌝ }
+    requires { ⌜ HoldsSome (now state) ⌝ }
+    ensures { λ r. ⌜ Computes (λ s. hasQuorum (collected s) (hereSet s)) (now (state .entry)) r ⌝ }
 {
-    let v = view(state);
-    quorum(v, state, byte(state, 10))
-}
-
-fn no_votes() -> TakenVotes {
-    TakenVotes {
-        last: LastPrimary {
-            index: PrimaryIndex(0),
-            attempt: AttemptIndex(0),
-            set: 0,
-        },
-        attempt: AttemptIndex(0),
-        mark: Mark {
-            status: 0,
-            index: PrimaryIndex(0),
-            attempt: AttemptIndex(0),
-            set: 0,
-            bits: 0,
-        },
-        yellow_status: 0,
-    }
+    let v = held_slots(state);
+    quorum(v, state, num8(state, State::AT_CONFIGURATION_SET))
 }
 
 // Primary, attempt and own mark, and whether the yellow list is valid.
 pub fn taken_votes(state: &[u8]) -> TakenVotes
-    ensures { λ r. ⌜ ((s : Server) → Holds s (now (state .entry)) → r ≡ votesNumbers (takenVotes (s .me) (collected s))) ⌝ }
+    requires { ⌜ HoldsSome (now state) ⌝ }
+    ensures { λ r. ⌜ Computes (λ s. votesNumbers (takenVotes (s .me) (collected s))) (now (state .entry)) r ⌝ }
 {
-    let v = view(state);
-    let me = byte(state, 3) as usize;
-    if v.servers <= me {
-        return no_votes();
-    }
+    let v = held_slots(state);
+    let me = num8(state, State::AT_ME) as usize;
     let last = taken_primary(v, state);
     let mark = own_mark(v, state, me, last);
     TakenVotes {
@@ -152,14 +145,12 @@ pub fn taken_votes(state: &[u8]) -> TakenVotes
     }
 }
 
-// The yellow ids: how many; their bytes are in `out`, if it has room for as many as there can be.
+// The yellow ids: how many; their bytes are in `out`.
 pub fn taken_yellow(state: &[u8], out: &mut [u8]) -> usize
-    ensures { λ r. ⌜ ((s : Server) → Holds s (now (state .entry)) → 3 * (s .servers * s .quota) ≤ length (now (out .entry)) → Listed r (now (out .exit)) (takenYellow (collected s) .ids)) ⌝ }
+    requires { ⌜ HoldsSome (now state) × (idSize * places ≤ length (now out)) ⌝ }
+    ensures { λ r. ⌜ ((s : Server) → Holds s (now (state .entry)) → Listed r (now (out .exit)) (takenYellow (collected s) .ids)) ⌝ }
 {
-    let v = view(state);
-    if out.len() < v.size - (StateHead::SIZE + 2 * v.servers) {
-        return 0;
-    }
-    let c = context(state);
+    let v = held_slots(state);
+    let c = load(state).context();
     taken_ids(c, v, state, out)
 }

@@ -6,5 +6,4 @@ pub mod marks; // marks.rt: marks judged, and the quorum
 pub mod yellow; // yellow.rt: the yellow list
 pub mod table; // table.rt: the ids that every list has
 pub mod common; // common.rt: the ids common to the yellow lists
-pub mod view; // view.rt: the slots of a state's buffer
-pub mod decided; // decided.rt: the decisions, from a state's buffer alone
+pub mod decided; // decided.rt: the decisions, from a buffer that holds a state

@@ -1,27 +1,27 @@
 // Marks, judged on the States as sent: document 01, 'End of exchange'.
 ghost use mathlib.Core.Path.{_≡_};
-ghost use mathlib.Core.Bool.{true};
 ghost use Prim.Native.Nat.{_<_};
-ghost use Rattle.base.specs.Sets.{inSet, withMember, union};
-ghost use Rattle.base.specs.Tests.{_and_, _or_, _=?_, pick};
+ghost use Rattle.base.specs.Tests.{_or_};
 ghost use Rattle.format.specs.Types.{State as FormatState};
 ghost use Rattle.record.specs.Values.{primaryOf, markOf};
 ghost use Rattle.replication.specs.Machine.Types.{clearedMark};
-ghost use Rattle.replication.specs.Machine.Exchange.{takenPrimary, sameAttempt, ruleA, ruleB, joinedBits, judgedMark, markLeft, ownMark, quorum as hasQuorum};
-ghost use Rattle.exchange.specs.Slots.{Room, stateIn, statesOf};
-ghost use Rattle.exchange.specs.Marks.{against as isAgainst, likewise as isLikewise, withBits, isLeft};
+ghost use Rattle.replication.specs.Machine.Exchange.{takenPrimary, sameAttempt, ruleA, ruleB, joinedBits};
+ghost use Rattle.replication.specs.Machine.Exchange.{judgedMark, markLeft, ownMark, quorum as hasQuorum};
+ghost use Rattle.exchange.specs.Slots.{Room, stateIn, statesOf, ifMeant};
+ghost use Rattle.exchange.specs.Marks.{against as isAgainst, likewise as isLikewise, joinedWith, withBits, isLeft};
 use crate::primary::majority;
 use crate::primary::taken_attempt;
 use crate::primary::taken_primary;
 use crate::slots::Slots;
-use crate::slots::has;
 use crate::slots::head;
-use crate::slots::with_member;
 use record::AttemptIndex;
 use record::LastPrimary;
 use record::Mark;
 use record::PrimaryIndex;
 use record::State;
+use record::sets::has;
+use record::sets::inside;
+use record::sets::with_member;
 
 // "A cleared mark is all zeros."
 fn cleared() -> Mark
@@ -85,7 +85,7 @@ fn against(v: Slots, state: &[u8], k: usize, m: Mark) -> bool
 
 fn against_at(v: Slots, state: &[u8], k: usize, m: Mark, found: bool) -> bool
     requires { ⌜ Room v (now state) × (k < v .servers) ⌝ }
-    ensures { λ r. ⌜ r ≡ pick (inSet k (v .here)) (found or isAgainst (markOf m) (stateIn v (now (state .entry)) k)) found ⌝ }
+    ensures { λ r. ⌜ r ≡ ifMeant v k (found or isAgainst (markOf m) (stateIn v (now (state .entry)) k)) found ⌝ }
 {
     if !has(v.here, k) {
         return found;
@@ -112,7 +112,7 @@ fn rule_b(v: Slots, state: &[u8], m: Mark) -> bool
 
 fn joined_at(v: Slots, state: &[u8], k: usize, m: Mark, bits: u8) -> u8
     requires { ⌜ Room v (now state) × (k < v .servers) ⌝ }
-    ensures { λ r. ⌜ r ≡ pick (inSet k (v .here)) (pick (isLikewise (markOf m) (stateIn v (now (state .entry)) k .mark)) (withMember (stateIn v (now (state .entry)) k .sender) (union bits (stateIn v (now (state .entry)) k .mark .bits))) bits) bits ⌝ }
+    ensures { λ r. ⌜ r ≡ ifMeant v k (joinedWith (markOf m) bits (stateIn v (now (state .entry)) k)) bits ⌝ }
 {
     if !has(v.here, k) {
         return bits;
@@ -170,7 +170,7 @@ pub fn judged(v: Slots, state: &[u8], k: usize, p: LastPrimary) -> Mark
         return cleared();
     }
     let bits = joined_bits(v, state, m);
-    if m.set & bits == m.set {
+    if inside(m.set, bits) {
         return cleared();
     }
     kept(m, bits)
@@ -178,7 +178,7 @@ pub fn judged(v: Slots, state: &[u8], k: usize, p: LastPrimary) -> Mark
 
 fn left_at(v: Slots, state: &[u8], k: usize, p: LastPrimary, found: bool) -> bool
     requires { ⌜ Room v (now state) × (k < v .servers) × (primaryOf p ≡ takenPrimary (statesOf v (now state))) ⌝ }
-    ensures { λ r. ⌜ r ≡ pick (inSet k (v .here)) (found or isLeft (statesOf v (now (state .entry))) (stateIn v (now (state .entry)) k)) found ⌝ }
+    ensures { λ r. ⌜ r ≡ ifMeant v k (found or isLeft (statesOf v (now (state .entry))) (stateIn v (now (state .entry)) k)) found ⌝ }
 {
     if !has(v.here, k) {
         return found;

@@ -1,19 +1,20 @@
 // Who resends what: document 01, 'Plan'.
 ghost use mathlib.Core.Path.{_≡_};
-ghost use Prim.Native.Nat.{ℕ, _+_, _≤_, _<_, max, min};
+ghost use Prim.Native.Nat.{_<_, max, min};
 ghost use lib.ListN.{length};
 ghost use Rattle.base.specs.Sets.{inSet};
-ghost use Rattle.base.specs.Tests.{_and_, _=?_, pick};
-ghost use Rattle.replication.specs.Machine.Plan.{highest as highestOf, lowest as lowestOf, resender, missing as missingOf, planned as plannedOf, isMe, cutIn};
-ghost use Rattle.exchange.specs.Slots.{Room, stateIn, statesOf};
+ghost use Rattle.base.specs.Tests.{_and_, _=?_};
+ghost use Rattle.replication.specs.Machine.Plan.{highest as highestOf, lowest as lowestOf, missing as missingOf, planned as plannedOf};
+ghost use Rattle.replication.specs.Machine.Plan.{resender, isMe, cutIn};
+ghost use Rattle.exchange.specs.Slots.{Space, Room, stateIn, statesOf, ifMeant};
 ghost use Rattle.exchange.specs.Numbers.{numberIn, Within};
 use crate::slots::Slots;
 use crate::slots::first;
-use crate::slots::has;
 use crate::slots::head;
 use crate::slots::place;
 use record::StateHead;
 use record::bytes::num16;
+use record::sets::has;
 
 // A number of a State: green length, attempt, or the cut of one creator.
 pub enum Number {
@@ -24,7 +25,7 @@ pub enum Number {
 
 // The cut of the creator c in the State of the slot k.
 pub fn cut(v: Slots, state: &[u8], k: usize, c: usize) -> u16
-    requires { ⌜ Room v (now state) × (k < v .servers) × (c < v .servers) ⌝ }
+    requires { ⌜ Space v (now state) × (k < v .servers) × (c < v .servers) ⌝ }
     ensures { λ r. ⌜ r ≡ cutIn c (stateIn v (now (state .entry)) k) ⌝ }
 {
     let at = place(v, state, k);
@@ -33,7 +34,7 @@ pub fn cut(v: Slots, state: &[u8], k: usize, c: usize) -> u16
 
 // A number of the State in the slot k.
 pub fn value(v: Slots, state: &[u8], k: usize, f: Number) -> u32
-    requires { ⌜ Room v (now state) × (k < v .servers) × Within (v .servers) f ⌝ }
+    requires { ⌜ Space v (now state) × (k < v .servers) × Within (v .servers) f ⌝ }
     ensures { λ r. ⌜ r ≡ numberIn f (stateIn v (now (state .entry)) k) ⌝ }
 {
     match f {
@@ -44,8 +45,8 @@ pub fn value(v: Slots, state: &[u8], k: usize, f: Number) -> u32
 }
 
 fn raised(v: Slots, state: &[u8], k: usize, f: Number, high: u32) -> u32
-    requires { ⌜ Room v (now state) × (k < v .servers) × Within (v .servers) f ⌝ }
-    ensures { λ r. ⌜ r ≡ pick (inSet k (v .here)) (max (numberIn f (stateIn v (now (state .entry)) k)) high) high ⌝ }
+    requires { ⌜ Space v (now state) × (k < v .servers) × Within (v .servers) f ⌝ }
+    ensures { λ r. ⌜ r ≡ ifMeant v k (max (numberIn f (stateIn v (now (state .entry)) k)) high) high ⌝ }
 {
     if !has(v.here, k) {
         return high;
@@ -59,7 +60,7 @@ fn raised(v: Slots, state: &[u8], k: usize, f: Number, high: u32) -> u32
 
 // The highest of the States that are meant.
 pub fn highest(v: Slots, state: &[u8], f: Number) -> u32
-    requires { ⌜ Room v (now state) × Within (v .servers) f ⌝ }
+    requires { ⌜ Space v (now state) × Within (v .servers) f ⌝ }
     ensures { λ r. ⌜ r ≡ highestOf (numberIn f) (statesOf v (now (state .entry))) ⌝ }
 {
     let mut high = 0;
@@ -72,8 +73,8 @@ pub fn highest(v: Slots, state: &[u8], f: Number) -> u32
 }
 
 fn lowered(v: Slots, state: &[u8], k: usize, f: Number, low: u32) -> u32
-    requires { ⌜ Room v (now state) × (k < v .servers) × Within (v .servers) f ⌝ }
-    ensures { λ r. ⌜ r ≡ pick (inSet k (v .here)) (min low (numberIn f (stateIn v (now (state .entry)) k))) low ⌝ }
+    requires { ⌜ Space v (now state) × (k < v .servers) × Within (v .servers) f ⌝ }
+    ensures { λ r. ⌜ r ≡ ifMeant v k (min low (numberIn f (stateIn v (now (state .entry)) k))) low ⌝ }
 {
     if !has(v.here, k) {
         return low;
@@ -87,7 +88,7 @@ fn lowered(v: Slots, state: &[u8], k: usize, f: Number, low: u32) -> u32
 
 // The lowest of the States that are meant.
 pub fn lowest(v: Slots, state: &[u8], f: Number) -> u32
-    requires { ⌜ Room v (now state) × Within (v .servers) f ⌝ }
+    requires { ⌜ Space v (now state) × Within (v .servers) f ⌝ }
     ensures { λ r. ⌜ r ≡ lowestOf (numberIn f) (statesOf v (now (state .entry))) ⌝ }
 {
     let start = first(v);
@@ -104,7 +105,7 @@ pub fn lowest(v: Slots, state: &[u8], f: Number) -> u32
 }
 
 fn is_value(v: Slots, state: &[u8], k: usize, f: Number, x: u32) -> bool
-    requires { ⌜ Room v (now state) × (k < v .servers) × Within (v .servers) f ⌝ }
+    requires { ⌜ Space v (now state) × (k < v .servers) × Within (v .servers) f ⌝ }
     ensures { λ r. ⌜ r ≡ (inSet k (v .here) and numberIn f (stateIn v (now (state .entry)) k) =? x) ⌝ }
 {
     if !has(v.here, k) {
@@ -131,7 +132,7 @@ pub fn resends(v: Slots, state: &[u8], f: Number, me: usize) -> bool
 
 // How many are resent: "from the shortest length + 1 to its own", "from the lowest cut + 1 to it".
 pub fn missing(v: Slots, state: &[u8], f: Number) -> u32
-    requires { ⌜ Room v (now state) × Within (v .servers) f ⌝ }
+    requires { ⌜ Space v (now state) × Within (v .servers) f ⌝ }
     ensures { λ r. ⌜ r ≡ length (missingOf (numberIn f) (statesOf v (now (state .entry)))) ⌝ }
 {
     let low = lowest(v, state, f);
@@ -144,7 +145,7 @@ pub fn missing(v: Slots, state: &[u8], f: Number) -> u32
 
 // How many retransmissions are planned, those left out too.
 pub fn planned(v: Slots, state: &[u8]) -> u64
-    requires { ⌜ Room v (now state) ⌝ }
+    requires { ⌜ Space v (now state) ⌝ }
     ensures { λ r. ⌜ r ≡ plannedOf (v .servers) (statesOf v (now (state .entry))) ⌝ }
 {
     let mut total = missing(v, state, Number::Green) as u64;

@@ -5,18 +5,19 @@ ghost use Rattle.base.specs.Sets.{inSet, withMember};
 ghost use Rattle.base.specs.Tests.{pick, _and_};
 ghost use Rattle.record.specs.Values.{primaryOf};
 ghost use Rattle.replication.specs.Machine.Exchange.{later as isLater, takenPrimary, samePair, takenAttempt, majority as isMajority};
-ghost use Rattle.exchange.specs.Slots.{Room, stateIn, statesOf};
+ghost use Rattle.exchange.specs.Slots.{Room, stateIn, statesOf, ifMeant};
 ghost use Rattle.exchange.specs.Passing.{Passing};
+ghost use Rattle.exchange.specs.Primary.{laterOf};
 use crate::plan::Number;
 use crate::plan::highest;
 use crate::slots::Slots;
 use crate::slots::first;
-use crate::slots::has;
 use crate::slots::head;
-use crate::slots::with_member;
 use record::AttemptIndex;
 use record::LastPrimary;
 use record::PrimaryIndex;
+use record::sets::has;
+use record::sets::with_member;
 
 // "more than half of the taken primary's members here"
 pub fn majority(p: LastPrimary, here: u8) -> bool
@@ -49,7 +50,7 @@ fn later(p: LastPrimary, r: LastPrimary) -> bool
 }
 
 fn later_of(p: LastPrimary, r: LastPrimary) -> LastPrimary
-    ensures { λ t. ⌜ primaryOf t ≡ pick (isLater (primaryOf p) (primaryOf r)) (primaryOf r) (primaryOf p) ⌝ }
+    ensures { λ t. ⌜ primaryOf t ≡ laterOf (primaryOf p) (primaryOf r) ⌝ }
 {
     if later(p, r) {
         return r;
@@ -59,7 +60,7 @@ fn later_of(p: LastPrimary, r: LastPrimary) -> LastPrimary
 
 fn later_at(v: Slots, state: &[u8], k: usize, p: LastPrimary) -> LastPrimary
     requires { ⌜ Room v (now state) × (k < v .servers) ⌝ }
-    ensures { λ r. ⌜ primaryOf r ≡ pick (inSet k (v .here)) (pick (isLater (primaryOf p) (stateIn v (now (state .entry)) k .last)) (stateIn v (now (state .entry)) k .last) (primaryOf p)) (primaryOf p) ⌝ }
+    ensures { λ r. ⌜ primaryOf r ≡ ifMeant v k (laterOf (primaryOf p) (stateIn v (now (state .entry)) k .last)) (primaryOf p) ⌝ }
 {
     if !has(v.here, k) {
         return p;

@@ -1,15 +1,15 @@
 // The collected States in their slots.
 ghost use mathlib.Core.Path.{_≡_};
-ghost use mathlib.Core.List.{List};
-ghost use Prim.Native.Nat.{ℕ, _+_, _*_, _≤_, _<_};
-ghost use lib.ListN.{length, drop};
-ghost use Rattle.base.specs.Sets.{inSet, inside, withMember};
+ghost use Prim.Native.Nat.{_+_, _≤_, _<_};
+ghost use lib.ListN.{length};
+ghost use Rattle.format.specs.Limits.{mostServers};
 ghost use Rattle.engine.specs.Layout.{SizesIn};
 ghost use Rattle.exchange.specs.Slots.{Space, First, slotsOf, slotAt, headOf, withHere};
 use engine::places::state_size;
 use engine::places::states_at;
 use record::StateHead;
 use record::frame::state_head;
+use record::sets::has;
 
 // Where the slots lie, and which of them are meant: the slot of server k begins at `at` + k × `size`, and `here` is a set of
 // servers.
@@ -32,24 +32,6 @@ impl Slots {
             here,
         }
     }
-}
-
-// Whether server k is in the set.
-pub fn has(set: u8, k: usize) -> bool
-    ensures { λ r. ⌜ r ≡ inSet k set ⌝ }
-{
-    if 8 <= k {
-        return false;
-    }
-    (set >> k) % 2 == 1
-}
-
-// The set with server k.
-pub fn with_member(set: u8, k: usize) -> u8
-    requires { ⌜ k < 8 ⌝ }
-    ensures { λ r. ⌜ r ≡ withMember k set ⌝ }
-{
-    set | (1 << k)
 }
 
 // Where the slot k begins.
@@ -76,7 +58,7 @@ pub fn head(v: Slots, state: &[u8], k: usize) -> StateHead
 
 // The first slot that is meant.
 pub fn first(v: Slots) -> usize
-    requires { ⌜ v .servers ≤ 8 ⌝ }
+    requires { ⌜ v .servers ≤ mostServers ⌝ }
     ensures { λ r. ⌜ First v r ⌝ }
 {
     let mut k = 0;
@@ -102,11 +84,4 @@ pub fn collected(servers: u8, quota: u16, here: u8) -> Slots
         at: states_at(n, q) as usize,
         here,
     }
-}
-
-// Whether each member of `set` is in `states`: every member's State is in.
-pub fn all_in(set: u8, states: u8) -> bool
-    ensures { λ r. ⌜ r ≡ inside set states ⌝ }
-{
-    set & states == set
 }

@@ -1,27 +1,27 @@
 // The table by which the ids common to several yellow lists are found: after r lists the place of an id holds r exactly if
 // each of them has it.
 ghost use mathlib.Core.Path.{_≡_};
-ghost use mathlib.Core.Bool.{true};
-ghost use Prim.Native.Nat.{ℕ, _+_, _*_, _-_, _≤_, _<_};
+ghost use Prim.Native.Nat.{_+_, _*_, _≤_, _<_};
 ghost use lib.ListN.{length};
-ghost use Rattle.base.specs.Sets.{inSet};
-ghost use Rattle.base.specs.Tests.{pick};
+ghost use Rattle.format.specs.Limits.{mostServers};
+ghost use Rattle.format.specs.Places.{idSize};
 ghost use Rattle.format.specs.Read.{idAt, idsAt};
 ghost use Rattle.record.specs.Context.{contextOf, ContextIn};
-ghost use Rattle.exchange.specs.Slots.{Room, stateIn, statesFrom};
-ghost use Rattle.exchange.specs.Table.{raised, raisedAll, raisedLists, ListInside, ListsInside};
+ghost use Rattle.exchange.specs.Slots.{Room, statesLeft};
+ghost use Rattle.exchange.specs.Table.{raised, raisedAll, RaisedAt, RaisedBy, idsIn, ListInside, ListsInside};
 use crate::slots::Slots;
-use crate::slots::has;
 use crate::slots::head;
 use crate::slots::place;
 use record::Context;
+use record::State;
 use record::StateHead;
 use record::lists::PLACES;
 use record::lists::place_at;
+use record::sets::has;
 
 // An id of the list after `round` others.
-fn raise_at(c: Context, e: &[u8], at: usize, round: u8, table: &mut [u8])
-    requires { ⌜ ContextIn c × (at + 3 ≤ length (now e)) × (length (now table) ≡ 2048) × (round < 255) ⌝ }
+fn raise_at(c: Context, e: &[u8], at: usize, round: u8, table: &mut [u8; PLACES])
+    requires { ⌜ ContextIn c × (at + idSize ≤ length (now e)) × (round < mostServers) ⌝ }
     ensures { λ _. ⌜ now (table .exit) ≡ raised (contextOf c) round (now (table .entry)) (idAt (now (e .entry)) at) ⌝ }
 {
     let p = place_at(c, e, at);
@@ -35,21 +35,21 @@ fn raise_at(c: Context, e: &[u8], at: usize, round: u8, table: &mut [u8])
 }
 
 // The `count` ids from `at` on.
-fn raise_list(c: Context, e: &[u8], at: usize, count: usize, round: u8, table: &mut [u8])
-    requires { ⌜ ContextIn c × (at + 3 * count ≤ length (now e)) × (length (now table) ≡ 2048) × (round < 255) ⌝ }
+fn raise_list(c: Context, e: &[u8], at: usize, count: usize, round: u8, table: &mut [u8; PLACES])
+    requires { ⌜ ContextIn c × (at + idSize * count ≤ length (now e)) × (round < mostServers) ⌝ }
     ensures { λ _. ⌜ now (table .exit) ≡ raisedAll (contextOf c) round (now (table .entry)) (idsAt count (now (e .entry)) at) ⌝ }
 {
     let mut j = 0;
     while j < count {
-        raise_at(c, e, at + 3 * j, round, table);
+        raise_at(c, e, at + State::ID * j, round, table);
         j += 1;
     }
 }
 
 // The yellow list in the slot k.
-fn raise_slot(c: Context, v: Slots, state: &[u8], k: usize, round: u8, table: &mut [u8])
-    requires { ⌜ ContextIn c × Room v (now state) × (k < v .servers) × ListInside v (now state) k × (length (now table) ≡ 2048) × (round < 255) ⌝ }
-    ensures { λ _. ⌜ now (table .exit) ≡ raisedAll (contextOf c) round (now (table .entry)) (stateIn v (now (state .entry)) k .yellow .ids) ⌝ }
+fn raise_slot(c: Context, v: Slots, state: &[u8], k: usize, round: u8, table: &mut [u8; PLACES])
+    requires { ⌜ ContextIn c × Room v (now state) × (k < v .servers) × ListInside v (now state) k × (round < mostServers) ⌝ }
+    ensures { λ _. ⌜ now (table .exit) ≡ raisedAll (contextOf c) round (now (table .entry)) (idsIn v (now (state .entry)) k) ⌝ }
 {
     let x = head(v, state, k);
     let at = place(v, state, k);
@@ -64,9 +64,16 @@ fn raise_slot(c: Context, v: Slots, state: &[u8], k: usize, round: u8, table: &m
 }
 
 // The list in the slot k, if it is meant; how many lists there were then.
-fn raise_turn(c: Context, v: Slots, state: &[u8], k: usize, round: u8, table: &mut [u8]) -> u8
-    requires { ⌜ ContextIn c × Room v (now state) × (k < v .servers) × ListsInside v (now state) × (length (now table) ≡ 2048) × (round < 255) ⌝ }
-    ensures { λ r. ⌜ (r ≡ pick (inSet k (v .here)) (round + 1) round) × (now (table .exit) ≡ pick (inSet k (v .here)) (raisedAll (contextOf c) round (now (table .entry)) (stateIn v (now (state .entry)) k .yellow .ids)) (now (table .entry))) ⌝ }
+fn raise_turn(
+    c: Context,
+    v: Slots,
+    state: &[u8],
+    k: usize,
+    round: u8,
+    table: &mut [u8; PLACES],
+) -> u8
+    requires { ⌜ ContextIn c × Room v (now state) × (k < v .servers) × ListsInside v (now state) × (round < mostServers) ⌝ }
+    ensures { λ r. ⌜ RaisedAt (contextOf c) v (now (state .entry)) k round r (now (table .entry)) (now (table .exit)) ⌝ }
 {
     if !has(v.here, k) {
         return round;
@@ -76,9 +83,9 @@ fn raise_turn(c: Context, v: Slots, state: &[u8], k: usize, round: u8, table: &m
 }
 
 // The lists in the slots from `start` on, of the senders that are meant: how many there are.
-pub fn raise_lists(c: Context, v: Slots, state: &[u8], start: usize, table: &mut [u8]) -> u8
-    requires { ⌜ ContextIn c × Room v (now state) × (start ≤ v .servers) × ListsInside v (now state) × (length (now table) ≡ 2048) ⌝ }
-    ensures { λ r. ⌜ (r ≡ length (statesFrom v (now (state .entry)) (v .servers - start) start)) × (now (table .exit) ≡ raisedLists (contextOf c) 0 (now (table .entry)) (statesFrom v (now (state .entry)) (v .servers - start) start)) ⌝ }
+pub fn raise_lists(c: Context, v: Slots, state: &[u8], start: usize, table: &mut [u8; PLACES]) -> u8
+    requires { ⌜ ContextIn c × Room v (now state) × (start ≤ v .servers) × ListsInside v (now state) ⌝ }
+    ensures { λ r. ⌜ RaisedBy (contextOf c) (statesLeft v (now (state .entry)) start) r (now (table .entry)) (now (table .exit)) ⌝ }
 {
     let mut round = 0;
     let mut k = start;

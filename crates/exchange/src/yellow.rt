@@ -10,9 +10,9 @@ use crate::primary::group;
 use crate::primary::taken_primary;
 use crate::slots::Slots;
 use crate::slots::first;
-use crate::slots::has;
 use crate::slots::head;
-use crate::slots::with_member;
+use record::sets::has;
+use record::sets::with_member;
 
 fn is_valid(v: Slots, state: &[u8], k: usize) -> bool
     requires { ⌜ Room v (now state) × (k < v .servers) ⌝ }

@@ -4,6 +4,7 @@ use Prim.Native.Nat.{ℕ, _≤_, _<_}
 use mathlib.Core.Path.{_≡_, sym, ap, _∙_}
 use mathlib.Core.Bool.{Bool, false, not}
 use mathlib.Core.List.{List}
+use native.Mathlib.Omega.{arith}
 use lib.Dec.{ltb}
 use lib.ListN.{length}
 use borrow.Author.Tests.{not-false}
@@ -17,17 +18,24 @@ use Rattle.record.specs.Context.{contextOf, ContextIn}
 use Rattle.record.specs.declared.Context.{Context}
 use Rattle.record.specs.declared.State.{State}
 use Rattle.record.proofs.Placing.{context-in}
+use Rattle.replication.specs.Machine.Plan.{planned}
 use Rattle.engine.specs.Layout.{theStates, offset, stateLength}
+use Rattle.exchange.specs.declared.slots.Slots.{Slots}
+use Rattle.exchange.specs.Slots.{slotsOf, slotAt, statesOf}
+use Rattle.exchange.proofs.Collected.{present-states}
 use Rattle.state_check.specs.Numbers.{roomOk, quotaOk, countsOk, numbersOk, CountsIn}
 use Rattle.state_check.specs.Collected.{plannedIn}
 use Rattle.state_check.specs.Checks.{placeOf, exchangeOk, Buffer}
 
-pub exchange-told : (c : Context) (h : State) (b : List ℕ) (t : Bool) (at p : ℕ) → t ≡ inside (h .«configuration_set») (h .states) → not t ≡ false
-    → at ≡ offset (c .servers) (c .quota) theStates → p ≡ plannedIn (c .servers) (c .quota) (h .states) b at → ltb (h .come) p ≡ exchangeOk (contextOf c) h b
-unfolding exchangeOk placeOf contextOf
-exchange-told c h b t at p e f g k =
+pub exchange-told : (c : Context) (h : State) (b : List ℕ) (t : Bool) (v : Slots) (p : ℕ) → t ≡ inside (h .«configuration_set») (h .states) → not t ≡ false
+    → v ≡ slotsOf (c .servers) (c .quota) (h .states) → p ≡ planned (v .servers) (statesOf v b) → ltb (h .come) p ≡ exchangeOk (contextOf c) h b
+unfolding exchangeOk placeOf contextOf plannedIn slotsOf statesOf slotAt
+exchange-told c h b t v p e f g k =
+    let n : ℕ = c .servers in
+    let q : ℕ = c .quota in
+    let states = present-states n q (h .states) b n 0 (offset n q theStates) (omega arith) in
     and-yes _ (inside (h .«configuration_set») (h .states)) _ (sym e ∙ not-false t f)
-    (told-lt (h .come) p ∙ ap (λ (m : ℕ). h .come <? m) (k ∙ ap (plannedIn (c .servers) (c .quota) (h .states) b) g))
+    (told-lt (h .come) p ∙ ap (λ (m : ℕ). h .come <? m) (k ∙ ap (λ (y : Slots). planned (y .servers) (statesOf y b)) g ∙ ap (planned n) (sym states)))
 
 -- ---- what the callees ask for
 

@@ -1,6 +1,6 @@
 -- What the code on collected States answers.
 -- Assumes nothing.
-use Prim.Native.Nat.{ℕ, suc, _+_, _*_, _-_, _/_, _%_, _^_, _≤_, _<_}
+use Prim.Native.Nat.{ℕ, suc, _+_, _*_, _-_, _≤_, _<_}
 use mathlib.Core.Path.{_≡_, refl, sym, ap, subst, _∙_}
 use mathlib.Core.Bool.{Bool, true, false, not}
 use mathlib.Core.List.{List}
@@ -11,7 +11,7 @@ use lib.ListN.{length, take, drop}
 use borrow.Author.Tests.{not-true, not-false}
 use Rattle.base.specs.Tests.{_and_, _or_, _=?_}
 use Rattle.base.proofs.TestLaws.{and-yes, and-no, eq-yes, eq-no, le-holds}
-use Rattle.base.proofs.Branches.{told-eq}
+use Rattle.base.proofs.Branches.{told-eq, or-yes, or-no}
 use Rattle.base.specs.Bytes.{numberAt, partAt}
 use Rattle.base.specs.Sets.{inSet}
 use Rattle.format.specs.Range.{lengthOk}
@@ -29,7 +29,7 @@ use Rattle.record.specs.declared.reader.Reading.{Reading}
 use Rattle.record.specs.declared.reader.Reading.the-variants.{Good, Refused}
 use Rattle.engine.specs.Layout.{stateSize}
 use Rattle.state_check.specs.Collected.{isState, saysState, idsInSlot, slotRecord, holdsState, collectedOk, StatesInside}
-use Rattle.format.specs.Places.{stateHeadSize, stateCountAt}
+use Rattle.format.specs.Places.{idSize, stateHeadSize, stateCountAt}
 
 -- ---- by the kind of the event
 
@@ -97,7 +97,7 @@ module _ (c : Context) (b : List ℕ) (at : ℕ) where
   few x t e h = le-holds x (c .servers * c .quota) (sym e ∙ not-false t h)
 
   pub record-inside : (x : ℕ) (t : Bool) → at + stateSize (c .servers) (c .quota) ≤ length b → t ≡ lengthOk (contextOf c) x → not t ≡ false
-      → at + (stateHeadSize + 2 * c .servers + 3 * x) ≤ length b
+      → at + (stateHeadSize + 2 * c .servers + idSize * x) ≤ length b
   unfolding stateSize
   record-inside x t h e l = omega (arith, few x t e l)
 
@@ -106,26 +106,24 @@ module _ (c : Context) (b : List ℕ) (at : ℕ) where
   slot-denied k i x t e f h = and-no (lengthOk (contextOf c) (numberAt 2 b (at + (stateCountAt + 2 * c .servers)))) _ (ap (lengthOk (contextOf c)) (sym e) ∙ sym f ∙ not-true t h)
 
   pub slot-answered : (k i x : ℕ) (t u : Bool) (r : Reading) → x ≡ numberAt 2 b (at + (stateCountAt + 2 * c .servers)) → t ≡ lengthOk (contextOf c) x → not t ≡ false
-      → meaning r (take (at + (stateHeadSize + 2 * c .servers + 3 * x) - at) (drop at b)) ≡ read (contextOf c) (take (at + (stateHeadSize + 2 * c .servers + 3 * x) - at) (drop at b))
+      → meaning r (take (at + (stateHeadSize + 2 * c .servers + idSize * x) - at) (drop at b)) ≡ read (contextOf c) (take (at + (stateHeadSize + 2 * c .servers + idSize * x) - at) (drop at b))
       → ((e : List ℕ) → u ≡ saysState k i (meaning r e)) → u ≡ holdsState (contextOf c) k i b at
   unfolding holdsState idsInSlot slotRecord partAt contextOf
   slot-answered k i x t u r e f h g s =
-      let m : ℕ = stateHeadSize + 2 * c .servers + 3 * x in
+      let m : ℕ = stateHeadSize + 2 * c .servers + idSize * x in
       let long : at + m - at ≡ m = omega arith in
-      let part : take (at + m - at) (drop at b) ≡ take (stateHeadSize + 2 * c .servers + 3 * numberAt 2 b (at + (stateCountAt + 2 * c .servers))) (drop at b) =
-      ap (λ (j : ℕ). take j (drop at b)) long ∙ ap (λ (j : ℕ). take (stateHeadSize + 2 * c .servers + 3 * j) (drop at b)) e in
+      let part : take (at + m - at) (drop at b) ≡ take (stateHeadSize + 2 * c .servers + idSize * numberAt 2 b (at + (stateCountAt + 2 * c .servers))) (drop at b) =
+      ap (λ (j : ℕ). take j (drop at b)) long ∙ ap (λ (j : ℕ). take (stateHeadSize + 2 * c .servers + idSize * j) (drop at b)) e in
       and-yes u (lengthOk (contextOf c) (numberAt 2 b (at + (stateCountAt + 2 * c .servers)))) _ (ap (lengthOk (contextOf c)) (sym e) ∙ sym f ∙ not-false t h)
       (s (take (at + m - at) (drop at b)) ∙ ap (saysState k i) (g ∙ ap (read (contextOf c)) part))
 
 -- ---- by the senders
 
-pub absent-told : (k s : ℕ) (u : Bool) → (s / 2 ^ k % 2 ≡ 1 → ⊥) → true ≡ (not (inSet k s) or u)
-unfolding inSet _or_
-absent-told k s u h = rw (eq-no (s / 2 ^ k % 2) 1 h)
+pub absent-told : (t u v : Bool) → v ≡ t → not v ≡ true → true ≡ (not t or u)
+absent-told t u v e h = or-yes _ _ (ap not (sym e) ∙ h)
 
-pub there-told : (k s : ℕ) (r u : Bool) → s / 2 ^ k % 2 ≡ 1 → r ≡ u → r ≡ (not (inSet k s) or u)
-unfolding inSet _or_
-there-told k s r u h e = rw (eq-yes (s / 2 ^ k % 2) 1 h) e
+pub there-told : (t u v r : Bool) → v ≡ t → not v ≡ false → r ≡ u → r ≡ (not t or u)
+there-told t u v r e h i = or-no _ _ _ (ap not (sym e) ∙ h) i
 
 -- The first of the slots that are left, from that of server k on.
 pub record SlotsLeft (c : Context) (k : ℕ) (b : List ℕ) (at : ℕ) : Type 0 where

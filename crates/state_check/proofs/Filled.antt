@@ -24,7 +24,7 @@ use Rattle.format.proofs.Fields.{payload-read}
 use Rattle.format.proofs.Writing.{payload-written, action-written}
 use Rattle.engine.specs.Layout.{heldSize, slotSize}
 use Rattle.engine.specs.Image.{zeros, slot}
-use Rattle.state_check.specs.Slots.{zeroAt, payloadFits}
+use Rattle.state_check.specs.Slots.{zeroAt, payloadFits, payloadPlace}
 
 -- ---- zeros
 
@@ -102,10 +102,10 @@ module _ (b : List ℕ) (k : Bytes b) where
       let z : everyAt (zeroAt b) 1 (mostPayload - m) (at + 0 + (1 + m)) ≡ true = rw (add-zero at) (u .1) in
       filled heldSize (0 + 1 + m) (payloadBytes (payloadAt b at)) b at long h (omega arith) (payload-written b at k (omega arith)) (sym (moved 0 m b at l) ∙ z)
 
-  pub action-occurs : (at : ℕ) → at + slotSize ≤ length b → payloadFits b (at + 7) ≡ true → Occurs (slot slotSize (actionBytes (actionAt b at))) b at
+  pub action-occurs : (at : ℕ) → at + slotSize ≤ length b → payloadFits b (at + payloadPlace) ≡ true → Occurs (slot slotSize (actionBytes (actionAt b at))) b at
   unfolding payloadFits actionAt
   action-occurs at h t =
-      let m : ℕ = numberAt 1 b (at + 7) in
+      let m : ℕ = numberAt 1 b (at + payloadPlace) in
       let u = and-holds _ _ t in
       let l : m ≤ mostPayload = le-holds _ _ (u .0) in
       let long : length (actionBytes (actionAt b at)) ≡ 7 + 1 + m = omega (arith, action-length (actionAt b at), payload-long (at + 7) l (omega arith)) in
@@ -128,8 +128,8 @@ occurring-held b at p r o =
     let there : everyAt (zeroAt b) 1 (mostPayload - m) (at + 0 + (1 + m)) ≡ true = moved 0 m b at (r .most) ∙ z in
     payload-fits b at p r (payload-read p b at r first .0) (rw (add-zero at) at there)
 
-pub occurring-action : (b : List ℕ) (at : ℕ) (a : Action) → PayloadRange (a .payload) → numberAt 1 b (at + 7) ≡ length (a .payload)
-    → Occurs (slot slotSize (actionBytes a)) b at → payloadFits b (at + 7) ≡ true
+pub occurring-action : (b : List ℕ) (at : ℕ) (a : Action) → PayloadRange (a .payload) → numberAt 1 b (at + payloadPlace) ≡ length (a .payload)
+    → Occurs (slot slotSize (actionBytes a)) b at → payloadFits b (at + payloadPlace) ≡ true
 occurring-action b at a r e o =
     let m : ℕ = length (a .payload) in
     let z = filled-zeros slotSize (7 + 1 + m) (actionBytes a) b at (omega (arith, action-length a)) o in

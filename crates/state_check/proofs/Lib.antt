@@ -16,8 +16,6 @@ pub mod Back
 pub mod ReadsLaw
 pub mod SlotCode
 pub mod NumberCode
-pub mod PlanCode
-pub mod Planned
 pub mod CollectedCode
 pub mod SectionCode
 pub mod CheckCode

@@ -1,7 +1,7 @@
 -- What the code on the sections of the buffer answers.
 -- Assumes nothing.
 use Prim.Native.Nat.{ℕ, zero, suc, _+_, _*_, _-_, _≤_, _<_}
-use mathlib.Core.Path.{_≡_, sym, ap, _∙_}
+use mathlib.Core.Path.{_≡_, sym, ap, subst, _∙_}
 use mathlib.Core.Bool.{Bool, true, false, not}
 use mathlib.Core.List.{List}
 use native.Mathlib.Omega.{arith}
@@ -19,8 +19,11 @@ use Rattle.format.specs.Read.{idsAt}
 use Rattle.record.specs.Context.{contextOf}
 use Rattle.record.specs.Values.{idsBy, IdsInside}
 use Rattle.record.specs.declared.Context.{Context}
-use Rattle.engine.specs.Layout.{SizesIn, theNoted, theHeld, theStates, theYellow, theOwn, theQueue, sections, offset, headerSize, slotSize, heldSize}
-use Rattle.state_check.specs.Slots.{heldFit, queueFits, ownFits, notedFit}
+use Rattle.engine.specs.Layout.{SizesIn, theNoted, theHeld, theStates, theYellow, theOwn, theQueue, sections, stateSize, stateLength, offset, headerSize, slotSize, heldSize}
+use Rattle.exchange.specs.declared.slots.Slots.{Slots}
+use Rattle.exchange.specs.Slots.{Space, slotsOf}
+use Rattle.format.specs.Places.{idSize}
+use Rattle.state_check.specs.Slots.{heldFit, cutsReach, queueFits, ownFits, notedFit}
 use Rattle.state_check.specs.Collected.{collectedOk, StatesInside}
 use Rattle.state_check.specs.Checks.{placeOf, ownCut, queueCuts, ownNext, queueOk, Buffer}
 use Rattle.state_check.proofs.Rooms.{noted-room, held-room, states-room, ids-room, own-room, queue-room, header-room}
@@ -50,13 +53,18 @@ module _ (c : Context) (b : List ℕ) (k : Buffer c b) where
   pub sizes-in : SizesIn (c .servers) (c .quota)
   sizes-in = record { servers = k .context .most; quota = k .context .largest }
 
+  pub slots-space : (v : Slots) (here : ℕ) → v ≡ slotsOf (c .servers) (c .quota) here → Space v b
+  unfolding slotsOf stateSize offset sections sum stateLength
+  slots-space v here e =
+      subst (λ (y : Slots). Space y b) (sym e) (record { servers = k .context .most; long = omega arith; inside = omega (arith, k .long) })
+
   pub cut-room : headerSize + 2 * c .me + 2 ≤ length b
   cut-room = omega (arith, header-room (c .servers) (c .quota) b (k .long), k .context .own, k .context .most)
 
   pub cuts-inside : headerSize + 2 * c .servers ≤ length b
   cuts-inside = omega (arith, header-room (c .servers) (c .quota) b (k .long), k .context .most)
 
-  pub all-cuts-inside : headerSize + 512 ≤ length b
+  pub all-cuts-inside : headerSize + cutsReach ≤ length b
   all-cuts-inside = omega (arith, header-room (c .servers) (c .quota) b (k .long))
 
   pub noted-inside : (at : ℕ) → at ≡ offset (c .servers) (c .quota) theNoted → at + 4 * c .servers ≤ length b
@@ -65,7 +73,7 @@ module _ (c : Context) (b : List ℕ) (k : Buffer c b) where
   pub held-inside : (at m : ℕ) → at ≡ offset (c .servers) (c .quota) theHeld → m ≤ mostHeld → at + heldSize * m ≤ length b
   held-inside at m e l = rw e (held-room (c .servers) (c .quota) b (k .long) m l)
 
-  pub ids-inside : (at m : ℕ) → at ≡ offset (c .servers) (c .quota) theYellow → m ≤ c .servers * c .quota → at + 3 * m ≤ length b
+  pub ids-inside : (at m : ℕ) → at ≡ offset (c .servers) (c .quota) theYellow → m ≤ c .servers * c .quota → at + idSize * m ≤ length b
   ids-inside at m e l = rw e (ids-room (c .servers) (c .quota) b (k .long) m l)
 
   pub own-inside : (at m : ℕ) → at ≡ offset (c .servers) (c .quota) theOwn → m ≤ c .quota → at + slotSize * m ≤ length b

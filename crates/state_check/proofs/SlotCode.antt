@@ -15,7 +15,8 @@ use Rattle.base.proofs.Entries.{every-more}
 use Rattle.format.specs.Types.{Context}
 use Rattle.format.specs.Range.{lengthOk}
 use Rattle.engine.specs.Layout.{slotSize}
-use Rattle.state_check.specs.Slots.{zeroAt, payloadFits, slotFits, withinCutAt, queueSlotFits, ownSlotFits, ownFits, notedAt}
+use Rattle.state_check.specs.Slots.{zeroAt, payloadFits, payloadPlace, slotFits, withinCutAt, queueSlotFits, ownSlotFits, ownFits, notedAt}
+use Rattle.format.specs.Places.{idSize}
 
 -- ---- zeros
 
@@ -40,13 +41,13 @@ payload-answered b at m r e h k = and-yes r (numberAt 1 b at ≤? 48) _ (le-yes 
 -- ---- actions
 
 module _ (c : Context) (b : List ℕ) (at : ℕ) where
-  pub slot-denied : (x : ℕ) (t : Bool) → x ≡ numberAt 4 b (at + 3) → t ≡ lengthOk c x → not t ≡ true → false ≡ slotFits c b at
+  pub slot-denied : (x : ℕ) (t : Bool) → x ≡ numberAt 4 b (at + idSize) → t ≡ lengthOk c x → not t ≡ true → false ≡ slotFits c b at
   unfolding slotFits
-  slot-denied x t e f h = and-no (lengthOk c (numberAt 4 b (at + 3))) _ (ap (lengthOk c) (sym e) ∙ sym f ∙ not-true t h)
+  slot-denied x t e f h = and-no (lengthOk c (numberAt 4 b (at + idSize))) _ (ap (lengthOk c) (sym e) ∙ sym f ∙ not-true t h)
 
-  pub slot-answered : (x : ℕ) (t r : Bool) → x ≡ numberAt 4 b (at + 3) → t ≡ lengthOk c x → not t ≡ false → r ≡ payloadFits b (at + 7) → r ≡ slotFits c b at
+  pub slot-answered : (x : ℕ) (t r : Bool) → x ≡ numberAt 4 b (at + idSize) → t ≡ lengthOk c x → not t ≡ false → r ≡ payloadFits b (at + payloadPlace) → r ≡ slotFits c b at
   unfolding slotFits
-  slot-answered x t r e f h k = and-yes r (lengthOk c (numberAt 4 b (at + 3))) _ (ap (lengthOk c) (sym e) ∙ sym f ∙ not-false t h) k
+  slot-answered x t r e f h k = and-yes r (lengthOk c (numberAt 4 b (at + idSize))) _ (ap (lengthOk c) (sym e) ∙ sym f ∙ not-false t h) k
 
   pub queue-denied : (cuts k i x : ℕ) → k ≡ numberAt 1 b at → i ≡ numberAt 2 b (at + 1) → x ≡ numberAt 2 b (cuts + 2 * k) → x < i
       → false ≡ queueSlotFits c b cuts at

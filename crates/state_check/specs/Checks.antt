@@ -44,6 +44,10 @@ ownNext c own numbered b = ownCut c b + own =? numbered
 unfoldable pub cutsFit : Context → State → List ℕ → Bool
 cutsFit c h b = queueCuts c (h .«queue_length») b and ownNext c (h .«own_count») (h .numbered) b
 
+-- So many own actions.
+abbrev pub ownOk : Context → (own : ℕ) → List ℕ → Bool
+ownOk c own b = ownFits c (ownCut c b) own b (placeOf c theOwn)
+
 -- The queue of so many actions.
 unfoldable pub queueOk : Context → (actions : ℕ) → List ℕ → Bool
 queueOk c actions b =
@@ -55,7 +59,7 @@ firstListsOk c h b = cutsFit c h b and notedFit c b (placeOf c theNoted) and hel
 
 unfoldable pub lastListsOk : Context → (ids own actions : ℕ) → List ℕ → Bool
 lastListsOk c ids own actions b =
-    idsOk c (idsAt ids b (placeOf c theYellow)) and ownFits c (ownCut c b) own b (placeOf c theOwn) and queueOk c actions b
+    idsOk c (idsAt ids b (placeOf c theYellow)) and ownOk c own b and queueOk c actions b
 
 unfoldable pub listsOk : Context → State → List ℕ → Bool
 listsOk c h b = firstListsOk c h b and lastListsOk c (h .«yellow_count») (h .«own_count») (h .«queue_length») b

@@ -7,7 +7,8 @@ use lib.ListN.{getD}
 use Rattle.base.specs.Tests.{_and_, _≤?_, _=?_}
 use Rattle.base.specs.Bytes.{numberAt}
 use Rattle.base.specs.Lists.{everyAt}
-use Rattle.format.specs.Limits.{mostPayload}
+use Rattle.format.specs.Limits.{mostQuota, mostPayload}
+use Rattle.format.specs.Places.{idSize}
 use Rattle.format.specs.Types.{Context}
 use Rattle.format.specs.Range.{lengthOk}
 use Rattle.engine.specs.Layout.{heldSize, slotSize}
@@ -24,9 +25,17 @@ payloadFits b at =
 unfoldable pub heldFit : (m : ℕ) → List ℕ → ℕ → Bool
 heldFit m b at = everyAt (payloadFits b) heldSize m at
 
+-- Where an action's payload begins, with its length: behind id and green length.
+abbrev pub payloadPlace : ℕ
+payloadPlace = idSize + 4
+
 -- An action's green length and payload.
 unfoldable pub slotFits : Context → List ℕ → ℕ → Bool
-slotFits c b at = lengthOk c (numberAt 4 b (at + 3)) and payloadFits b (at + 7)
+slotFits c b at = lengthOk c (numberAt 4 b (at + idSize)) and payloadFits b (at + payloadPlace)
+
+-- A creator is any byte: so far from the first cut on the code may read.
+abbrev pub cutsReach : ℕ
+cutsReach = 2 * 256
 
 -- An action of the queue, its index at most its creator's cut; the cuts begin at `cuts`.
 unfoldable pub withinCutAt : List ℕ → (cuts at : ℕ) → Bool
@@ -37,6 +46,10 @@ queueSlotFits c b cuts at = withinCutAt b cuts at and slotFits c b at
 
 unfoldable pub queueFits : Context → (cuts m : ℕ) → List ℕ → ℕ → Bool
 queueFits c cuts m b at = everyAt (queueSlotFits c b cuts) slotSize m at
+
+-- The own cut is any number of two bytes: so high an index may be asked of the own list.
+abbrev pub ownReach : ℕ
+ownReach = 65535 + mostQuota
 
 -- m own actions, of the indexes from k + 1 on.
 unfoldable pub ownSlotFits : Context → ℕ → List ℕ → ℕ → Bool

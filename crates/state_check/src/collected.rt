@@ -2,7 +2,7 @@
 ghost use mathlib.Core.Path.{_≡_};
 ghost use mathlib.Core.Bool.{not};
 ghost use mathlib.Core.List.{List};
-ghost use Prim.Native.Nat.{ℕ, _+_, _≤_, _<_};
+ghost use Prim.Native.Nat.{ℕ, _+_, _≤_};
 ghost use lib.ListN.{length};
 ghost use Rattle.base.specs.Tests.{_or_};
 ghost use Rattle.base.specs.Sets.{inSet};
@@ -13,12 +13,14 @@ ghost use Rattle.record.specs.Reading.{meaning};
 ghost use Rattle.state_check.specs.Collected.{isState, saysState, holdsState, collectedOk, StatesInside};
 use engine::places::state_size;
 use record::Context;
+use record::State;
 use record::StateHead;
 use record::bytes::num16;
 use record::events::Event;
 use record::range::length_ok;
 use record::reader::Reading;
 use record::reader::read;
+use record::sets::has;
 
 // Whether an event is a State of this sender in this configuration.
 fn is_state(v: Event, sender: u8, configuration: u32) -> bool
@@ -73,17 +75,17 @@ fn holds_state(c: Context, sender: u8, configuration: u32, b: &[u8], at: usize) 
     if !length_ok(c, count as u32) {
         return false;
     }
-    let end = at + (StateHead::SIZE + 2 * n + 3 * count as usize);
+    let end = at + (StateHead::SIZE + 2 * n + State::ID * count as usize);
     let reading = read(c, &b[at..end]);
     says_state(reading, sender, configuration)
 }
 
 // The slot of server k: not in use, or its State.
 fn collected_at(c: Context, set: u8, configuration: u32, k: u8, b: &[u8], at: usize) -> bool
-    requires { ⌜ ContextIn c × (k < 8) × (at + stateSize (c .servers) (c .quota) ≤ length (now b)) ⌝ }
+    requires { ⌜ ContextIn c × (at + stateSize (c .servers) (c .quota) ≤ length (now b)) ⌝ }
     ensures { λ r. ⌜ r ≡ (not (inSet k set) or holdsState (contextOf c) k configuration (now (b .entry)) at) ⌝ }
 {
-    if (set >> k) % 2 != 1 {
+    if !has(set, k as usize) {
         return true;
     }
     holds_state(c, k, configuration, b, at)

@@ -10,23 +10,21 @@ ghost use Rattle.record.specs.Context.{contextOf};
 ghost use Rattle.state_check.specs.Checks.{exchangeOk, modeOk, checksOf, Buffer};
 
 pub mod numbers; // numbers.rt: the numbers of the state
-pub mod plan; // plan.rt: how many retransmissions are planned
 pub mod collected; // collected.rt: the collected States
 pub mod sections; // sections.rt: the sections of the buffer
 pub mod slots; // slots.rt: entries of one size
 
 use engine::header::load;
-use engine::places::states_at;
-use engine::sizes::HEADER;
 use engine::sizes::out_length;
 use engine::sizes::sizes_in;
 use engine::sizes::state_length;
-use numbers::inside;
+use exchange::plan::planned;
+use exchange::slots::collected as slots_of;
 use numbers::numbers_ok;
-use plan::planned;
 use record::Context;
 use record::State;
 use record::range::context_ok;
+use record::sets::inside;
 use sections::lists_ok;
 use sections::states_ok;
 
@@ -35,12 +33,11 @@ fn exchange_ok(c: Context, h: State, b: &[u8]) -> bool
     requires { ⌜ Buffer c (now b) ⌝ }
     ensures { λ r. ⌜ r ≡ exchangeOk (contextOf c) h (now (b .entry)) ⌝ }
 {
-    let senders = h.states;
-    if !inside(h.configuration_set, senders) {
+    if !inside(h.configuration_set, h.states) {
         return false;
     }
-    let at = states_at(c.servers as u32, c.quota as u32) as usize;
-    (h.come as u64) < planned(c, senders, b, at)
+    let v = slots_of(c.servers, c.quota, h.states);
+    (h.come as u64) < planned(v, b)
 }
 
 // Whether the numbers and lists are such as the state needs.
@@ -101,7 +98,7 @@ fn shorter(state: usize, out: usize, n: u32, q: u32) -> bool
 pub fn state_number(state: &[u8], out: &[u8]) -> u32
     ensures { λ r. ⌜ r ≡ stateNumber (now (state .entry)) (now (out .entry)) ⌝ }
 {
-    if state.len() < HEADER as usize {
+    if state.len() < State::SIZE {
         return 7;
     }
     let h = load(state);

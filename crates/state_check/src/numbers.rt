@@ -2,7 +2,6 @@
 ghost use mathlib.Core.Path.{_≡_};
 ghost use Prim.Native.Nat.{_*_};
 ghost use Rattle.base.specs.Tests.{_≤?_};
-ghost use Rattle.base.specs.Sets.{inside as isInside};
 ghost use Rattle.record.specs.Context.{contextOf, ContextIn};
 ghost use Rattle.state_check.specs.Numbers.{regularOk, transitionalOk, membershipOk, roomOk, quotaOk, countsOk, votesOk, numbersOk};
 use engine::sizes::product;
@@ -16,6 +15,7 @@ use record::range::own_set_ok;
 use record::range::primary_ok;
 use record::range::set_ok;
 use record::range::status_ok;
+use record::sets::inside;
 
 // None, and zeros; or one whose set holds the server itself.
 fn regular_ok(c: Context, h: State) -> bool
@@ -51,13 +51,6 @@ fn transitional_ok(c: Context, h: State) -> bool
         return false;
     }
     inside_last(c, set)
-}
-
-// Whether each member of s is in t.
-pub fn inside(s: u8, t: u8) -> bool
-    ensures { λ r. ⌜ r ≡ isInside s t ⌝ }
-{
-    s & t == s
 }
 
 // At most as many retransmissions as can be planned.

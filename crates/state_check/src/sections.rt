@@ -4,15 +4,16 @@ ghost use Prim.Native.Nat.{_+_, _*_, _≤_};
 ghost use lib.ListN.{length};
 ghost use Rattle.base.specs.Bytes.{numbersAt};
 ghost use Rattle.base.specs.Lists.{sum};
-ghost use Rattle.format.specs.Limits.{mostHeld};
+ghost use Rattle.format.specs.Limits.{mostServers, mostHeld};
 ghost use Rattle.format.specs.Range.{idsOk};
 ghost use Rattle.format.specs.Read.{idsAt};
-ghost use Rattle.engine.specs.Layout.{theNoted, theHeld, theStates, theYellow, theOwn};
+ghost use Rattle.engine.specs.Layout.{theNoted, theHeld, theStates, theYellow};
 ghost use Rattle.record.specs.Context.{contextOf};
-ghost use Rattle.state_check.specs.Slots.{heldFit, ownFits, notedFit};
+ghost use Rattle.state_check.specs.Slots.{heldFit, notedFit};
 ghost use Rattle.state_check.specs.Numbers.{CountsIn};
 ghost use Rattle.state_check.specs.Collected.{collectedOk};
-ghost use Rattle.state_check.specs.Checks.{placeOf, ownCut, queueCuts, ownNext, cutsFit, queueOk, firstListsOk, lastListsOk, listsOk, Buffer};
+ghost use Rattle.state_check.specs.Checks.{placeOf, ownCut, queueCuts, ownNext, cutsFit, ownOk, queueOk, Buffer};
+ghost use Rattle.state_check.specs.Checks.{firstListsOk, lastListsOk, listsOk};
 use super::collected::collected_ok;
 use super::slots::held_fit;
 use super::slots::noted_fit;
@@ -35,7 +36,7 @@ use record::lists::ids_ok;
 
 // The sum of the n numbers of two bytes from `at` on.
 fn sum_of(b: &[u8], at: usize, n: usize) -> u32
-    requires { ⌜ (n ≤ 8) × (at + 2 * n ≤ length (now b)) ⌝ }
+    requires { ⌜ (n ≤ mostServers) × (at + 2 * n ≤ length (now b)) ⌝ }
     ensures { λ r. ⌜ r ≡ sum (numbersAt 2 n (now (b .entry)) at) ⌝ }
 {
     let mut total: u32 = 0;
@@ -114,7 +115,7 @@ fn yellow_ok(c: Context, b: &[u8], count: usize) -> bool
 
 fn own_ok(c: Context, b: &[u8], count: usize) -> bool
     requires { ⌜ Buffer c (now b) × (count ≤ c .quota) ⌝ }
-    ensures { λ r. ⌜ r ≡ ownFits (contextOf c) (ownCut (contextOf c) (now (b .entry))) count (now (b .entry)) (placeOf (contextOf c) theOwn) ⌝ }
+    ensures { λ r. ⌜ r ≡ ownOk (contextOf c) count (now (b .entry)) ⌝ }
 {
     let at = own_at(c.servers as u32, c.quota as u32) as usize;
     own_fits(c, b, own_cut(c, b) as usize, at, count)

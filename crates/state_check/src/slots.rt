@@ -4,7 +4,8 @@ ghost use Prim.Native.Nat.{_+_, _*_, _≤_};
 ghost use lib.ListN.{length};
 ghost use Rattle.base.specs.Lists.{everyAt};
 ghost use Rattle.record.specs.Context.{contextOf, ContextIn};
-ghost use Rattle.state_check.specs.Slots.{zeroAt, payloadFits, heldFit, slotFits, queueSlotFits, queueFits, ownSlotFits, ownFits, notedAt, notedFit};
+ghost use Rattle.state_check.specs.Slots.{zeroAt, payloadFits, heldFit, slotFits, notedAt, notedFit};
+ghost use Rattle.state_check.specs.Slots.{cutsReach, queueSlotFits, queueFits, ownReach, ownSlotFits, ownFits};
 ghost use Rattle.engine.specs.Layout.{slotSize, heldSize};
 use record::Context;
 use record::State;
@@ -12,6 +13,9 @@ use record::bytes::num8;
 use record::bytes::num16;
 use record::bytes::num32;
 use record::range::length_ok;
+
+// Where an action's payload begins, with its length: behind id and green length.
+const PAYLOAD: usize = State::ID + 4;
 
 // Whether the `count` bytes from `at` on are zeros.
 fn zeros(b: &[u8], at: usize, count: usize) -> bool
@@ -64,15 +68,15 @@ fn slot_fits(c: Context, b: &[u8], at: usize) -> bool
     requires { ⌜ ContextIn c × (at + slotSize ≤ length (now b)) ⌝ }
     ensures { λ r. ⌜ r ≡ slotFits (contextOf c) (now (b .entry)) at ⌝ }
 {
-    if !length_ok(c, num32(b, at + 3)) {
+    if !length_ok(c, num32(b, at + State::ID)) {
         return false;
     }
-    payload_fits(b, at + 7)
+    payload_fits(b, at + PAYLOAD)
 }
 
 // An action of the queue: the cuts begin at `cuts`.
 fn queue_slot_fits(c: Context, b: &[u8], cuts: usize, at: usize) -> bool
-    requires { ⌜ ContextIn c × (cuts + 512 ≤ length (now b)) × (at + slotSize ≤ length (now b)) ⌝ }
+    requires { ⌜ ContextIn c × (cuts + cutsReach ≤ length (now b)) × (at + slotSize ≤ length (now b)) ⌝ }
     ensures { λ r. ⌜ r ≡ queueSlotFits (contextOf c) (now (b .entry)) cuts at ⌝ }
 {
     let creator = num8(b, at) as usize;
@@ -83,7 +87,7 @@ fn queue_slot_fits(c: Context, b: &[u8], cuts: usize, at: usize) -> bool
 }
 
 pub fn queue_fits(c: Context, b: &[u8], cuts: usize, at: usize, count: usize) -> bool
-    requires { ⌜ ContextIn c × (cuts + 512 ≤ length (now b)) × (at + slotSize * count ≤ length (now b)) ⌝ }
+    requires { ⌜ ContextIn c × (cuts + cutsReach ≤ length (now b)) × (at + slotSize * count ≤ length (now b)) ⌝ }
     ensures { λ r. ⌜ r ≡ queueFits (contextOf c) cuts count (now (b .entry)) at ⌝ }
 {
     let mut here = at;
@@ -100,7 +104,7 @@ pub fn queue_fits(c: Context, b: &[u8], cuts: usize, at: usize, count: usize) ->
 
 // An own action of the index k + 1.
 fn own_slot_fits(c: Context, b: &[u8], k: usize, at: usize) -> bool
-    requires { ⌜ ContextIn c × (k ≤ 131070) × (at + slotSize ≤ length (now b)) ⌝ }
+    requires { ⌜ ContextIn c × (k ≤ ownReach) × (at + slotSize ≤ length (now b)) ⌝ }
     ensures { λ r. ⌜ r ≡ ownSlotFits (contextOf c) k (now (b .entry)) at ⌝ }
 {
     if num8(b, at) != c.me {
@@ -114,7 +118,7 @@ fn own_slot_fits(c: Context, b: &[u8], k: usize, at: usize) -> bool
 
 // Own actions of the indexes from k + 1 on.
 pub fn own_fits(c: Context, b: &[u8], k: usize, at: usize, count: usize) -> bool
-    requires { ⌜ ContextIn c × (k + count ≤ 131070) × (at + slotSize * count ≤ length (now b)) ⌝ }
+    requires { ⌜ ContextIn c × (k + count ≤ ownReach) × (at + slotSize * count ≤ length (now b)) ⌝ }
     ensures { λ r. ⌜ r ≡ ownFits (contextOf c) k count (now (b .entry)) at ⌝ }
 {
     let mut here = at;

@@ -4,9 +4,6 @@ use borrow.Author.Needs.{needs}
 use Rattle.state_check.proofs.state_number.Statement.{statement}
 use Rattle.state_check.proofs.state_number.Tie as tie
 
-cast-if1 : tie.Need-cast-if1
-cast-if1 c = search needs
-
 returns : tie.Need-returns
 returns c = search (needs, brief-seven)
 
@@ -59,7 +56,6 @@ pub state-number-spec : {M : Type 1} → statement M
 state-number-spec =
     tie.close
     (tie.spec
-    cast-if1
     returns
     load-requires
     cast-n

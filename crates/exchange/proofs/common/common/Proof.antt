@@ -1,5 +1,5 @@
-use Rattle.exchange.proofs.RaiseLaws.{slot-list-inside, table-still, list-short}
-use Rattle.exchange.proofs.CommonLaws.{common-made}
+use Rattle.exchange.proofs.RaiseLaws.{slot-list-inside}
+use Rattle.exchange.proofs.CommonLaws.{fits-inside, first-inside, first-short, common-made}
 use borrow.Author.Needs.{needs}
 use Rattle.exchange.proofs.common.common.Statement.{statement}
 use Rattle.exchange.proofs.common.common.Tie as tie
@@ -7,11 +7,8 @@ use Rattle.exchange.proofs.common.common.Tie as tie
 add-raise-lists : tie.Need-add-raise-lists
 add-raise-lists c = search needs
 
-slice-aggregate-raise-lists : tie.Need-slice-aggregate-raise-lists
-slice-aggregate-raise-lists c = search needs
-
 raise-lists-requires : tie.Need-raise-lists-requires
-raise-lists-requires c κs = search needs
+raise-lists-requires c κs = search (needs, fits-inside)
 
 head-requires : tie.Need-head-requires
 head-requires c κs = search needs
@@ -37,11 +34,8 @@ add-keep c = search needs
 cast-keep : tie.Need-cast-keep
 cast-keep c = search needs
 
-slice-aggregate-keep : tie.Need-slice-aggregate-keep
-slice-aggregate-keep c = search needs
-
 keep-requires : tie.Need-keep-requires
-keep-requires c κs = (search needs, search (needs, slot-list-inside), search (needs, table-still), search (needs, list-short))
+keep-requires c κs = (search needs, search (needs, slot-list-inside, first-inside), search (needs, first-short))
 
 same-length : tie.Need-same-length
 same-length c = search needs
@@ -54,7 +48,6 @@ common-spec =
     tie.close
     (tie.spec
     add-raise-lists
-    slice-aggregate-raise-lists
     raise-lists-requires
     head-requires
     place-requires
@@ -64,7 +57,6 @@ common-spec =
     mul-keep
     add-keep
     cast-keep
-    slice-aggregate-keep
     keep-requires
     same-length
     returns)

@@ -9,11 +9,11 @@ place-at-requires c κs = search needs
 returns : tie.Need-returns
 returns c = search (needs, kept-out)
 
-shared-slice-read-result : tie.Need-shared-slice-read-result
-shared-slice-read-result c = search needs
+element-copy-out-result : tie.Need-element-copy-out-result
+element-copy-out-result c = search needs
 
 returns-2 : tie.Need-returns-2
 returns-2 c = search (needs, kept-told)
 
 pub is-kept-spec : {M : Type 1} → statement M
-is-kept-spec = tie.close (tie.spec place-at-requires returns shared-slice-read-result returns-2)
+is-kept-spec = tie.close (tie.spec place-at-requires returns element-copy-out-result returns-2)

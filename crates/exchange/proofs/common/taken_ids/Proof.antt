@@ -1,5 +1,5 @@
 use Rattle.exchange.proofs.YellowLaws.{voters-room, voters-servers}
-use Rattle.exchange.proofs.CommonLaws.{voters-inside, voters-short, first-below, first-inside, first-short, taken-ids-none, taken-ids-some}
+use Rattle.exchange.proofs.CommonLaws.{voters-fit, first-below, taken-ids-none, taken-ids-some}
 use borrow.Author.Needs.{needs}
 use Rattle.exchange.proofs.common.taken_ids.Statement.{statement}
 use Rattle.exchange.proofs.common.taken_ids.Tie as tie
@@ -17,7 +17,7 @@ returns : tie.Need-returns
 returns c = search (needs, taken-ids-none)
 
 common-requires : tie.Need-common-requires
-common-requires c κs = (search needs, search (needs, voters-room), search (needs, first-below), search (needs, voters-inside), search (needs, first-inside, first-below, voters-inside), search (needs, first-short, first-below, voters-short))
+common-requires c κs = search (needs, voters-room, first-below, voters-fit)
 
 same-length : tie.Need-same-length
 same-length c = search needs

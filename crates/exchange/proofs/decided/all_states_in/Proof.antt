@@ -1,19 +1,21 @@
+use native.Mathlib.Omega.{arith}
+use Rattle.engine.proofs.InPlace.{such-header}
 use Rattle.exchange.proofs.DecidedLaws.{states-told}
 use borrow.Author.Needs.{needs}
 use Rattle.exchange.proofs.decided.all_states_in.Statement.{statement}
 use Rattle.exchange.proofs.decided.all_states_in.Tie as tie
 
-byte-requires : tie.Need-byte-requires
-byte-requires c κs = search needs
+num8-requires : tie.Need-num8-requires
+num8-requires c κs = omega (arith, such-header _ _ (c .before .pre))
 
-byte-requires-2 : tie.Need-byte-requires-2
-byte-requires-2 c κs = search needs
+num8-requires-2 : tie.Need-num8-requires-2
+num8-requires-2 c κs = omega (arith, such-header _ _ (c .before .before .pre))
 
-all-in-requires : tie.Need-all-in-requires
-all-in-requires c κs = search needs
+inside-requires : tie.Need-inside-requires
+inside-requires c κs = search needs
 
 returns : tie.Need-returns
 returns c = search (needs, states-told)
 
 pub all-states-in-spec : {M : Type 1} → statement M
-all-states-in-spec = tie.close (tie.spec byte-requires byte-requires-2 all-in-requires returns)
+all-states-in-spec = tie.close (tie.spec num8-requires num8-requires-2 inside-requires returns)

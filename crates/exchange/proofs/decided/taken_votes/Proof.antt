@@ -1,49 +1,43 @@
-use Rattle.exchange.proofs.DecidedLaws.{votes-none, votes-told}
+use native.Mathlib.Omega.{arith}
+use Rattle.engine.proofs.InPlace.{such-header}
+use Rattle.exchange.proofs.DecidedLaws.{room-held, own-below, votes-told}
 use borrow.Author.Needs.{needs}
 use Rattle.exchange.proofs.decided.taken_votes.Statement.{statement}
 use Rattle.exchange.proofs.decided.taken_votes.Tie as tie
 
-view-requires : tie.Need-view-requires
-view-requires c κs = search needs
+held-slots-requires : tie.Need-held-slots-requires
+held-slots-requires c κs = search needs
 
-byte-requires : tie.Need-byte-requires
-byte-requires c κs = search needs
+num8-requires : tie.Need-num8-requires
+num8-requires c κs = omega (arith, such-header _ _ (c .before .before .pre))
 
 cast-me : tie.Need-cast-me
 cast-me c = search needs
 
-no-votes-requires : tie.Need-no-votes-requires
-no-votes-requires c κs = search needs
-
-returns : tie.Need-returns
-returns c = search (needs, votes-none)
-
 taken-primary-requires : tie.Need-taken-primary-requires
-taken-primary-requires c κs = search needs
+taken-primary-requires c κs = search (needs, room-held)
 
 own-mark-requires : tie.Need-own-mark-requires
-own-mark-requires c κs = search needs
+own-mark-requires c κs = search (needs, room-held, own-below)
 
 taken-attempt-requires : tie.Need-taken-attempt-requires
-taken-attempt-requires c κs = search needs
+taken-attempt-requires c κs = search (needs, room-held)
 
 yellow-status-requires : tie.Need-yellow-status-requires
-yellow-status-requires c κs = search needs
+yellow-status-requires c κs = search (needs, room-held)
 
-returns-2 : tie.Need-returns-2
-returns-2 c = search (needs, votes-told)
+returns : tie.Need-returns
+returns c = search (needs, votes-told)
 
 pub taken-votes-spec : {M : Type 1} → statement M
 taken-votes-spec =
     tie.close
     (tie.spec
-    view-requires
-    byte-requires
+    held-slots-requires
+    num8-requires
     cast-me
-    no-votes-requires
-    returns
     taken-primary-requires
     own-mark-requires
     taken-attempt-requires
     yellow-status-requires
-    returns-2)
+    returns)

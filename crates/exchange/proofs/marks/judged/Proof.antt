@@ -33,6 +33,9 @@ returns-3 c = search (needs, judged-b)
 joined-bits-requires : tie.Need-joined-bits-requires
 joined-bits-requires c κs = search needs
 
+inside-requires : tie.Need-inside-requires
+inside-requires c κs = search needs
+
 cleared-requires-4 : tie.Need-cleared-requires-4
 cleared-requires-4 c κs = search needs
 
@@ -59,6 +62,7 @@ judged-spec =
     cleared-requires-3
     returns-3
     joined-bits-requires
+    inside-requires
     cleared-requires-4
     returns-4
     kept-requires

@@ -1,4 +1,5 @@
 use Rattle.exchange.proofs.ResendLaws.{attempt-within}
+use Rattle.exchange.proofs.RoomLaws.{room-space}
 use Rattle.exchange.proofs.PrimaryLaws.{passing-room, attempt-made}
 use borrow.Author.Needs.{needs}
 use Rattle.exchange.proofs.primary.taken_attempt.Statement.{statement}
@@ -14,7 +15,7 @@ only-requires : tie.Need-only-requires
 only-requires c κs = search needs
 
 highest-requires : tie.Need-highest-requires
-highest-requires c κs = search (needs, passing-room, attempt-within)
+highest-requires c κs = search (needs, room-space, passing-room, attempt-within)
 
 returns : tie.Need-returns
 returns c = search (needs, attempt-made)

@@ -9,8 +9,8 @@ place-at-requires c κs = search needs
 returns : tie.Need-returns
 returns c = search (needs, raise-out)
 
-slice-read-if2 : tie.Need-slice-read-if2
-slice-read-if2 c = search needs
+element-copy-out-if2 : tie.Need-element-copy-out-if2
+element-copy-out-if2 c = search needs
 
 returns-2 : tie.Need-returns-2
 returns-2 c = search (needs, raise-other)
@@ -18,11 +18,8 @@ returns-2 c = search (needs, raise-other)
 add-table : tie.Need-add-table
 add-table c = search needs
 
-slice-write-table : tie.Need-slice-write-table
-slice-write-table c = search needs
-
-same-length : tie.Need-same-length
-same-length c = search needs
+element-write-table : tie.Need-element-write-table
+element-write-table c = search needs
 
 returns-3 : tie.Need-returns-3
 returns-3 c = search (needs, raise-here)
@@ -33,9 +30,8 @@ raise-at-spec =
     (tie.spec
     place-at-requires
     returns
-    slice-read-if2
+    element-copy-out-if2
     returns-2
     add-table
-    slice-write-table
-    same-length
+    element-write-table
     returns-3)

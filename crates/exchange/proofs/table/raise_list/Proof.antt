@@ -1,18 +1,18 @@
 use Rattle.exchange.specs.Table.{raisedAll}
 use Rattle.record.specs.Context.{contextOf}
 use Rattle.format.specs.Read.{idsAt}
-use lib.ListN.{length}
+use Rattle.format.specs.Places.{idSize}
 use Prim.Native.Nat.{_*_}
 use borrow.Author.Needs.{needs}
 use native.Mathlib.Omega.{arith}
 use mathlib.Core.Path.{_≡_}
 use Prim.Native.Nat.{_+_, _-_, _≤_}
-use Rattle.exchange.proofs.RaiseLaws.{list-start, list-again, list-end, raised-still}
+use Rattle.exchange.proofs.RaiseLaws.{list-start, list-again, list-end}
 use Rattle.exchange.proofs.table.raise_list.Statement.{statement}
 use Rattle.exchange.proofs.table.raise_list.Tie as tie
 
 abbrev Inv-loop : tie.InvT-loop
-Inv-loop c e at count round table₀ j₀ table j = (j ≤ count) × (length table ≡ 2048) × (raisedAll (contextOf c) round table₀ (idsAt count e at) ≡ raisedAll (contextOf c) round table (idsAt (count - j) e (at + 3 * j)))
+Inv-loop c e at count round table₀ j₀ table j = (j ≤ count) × (raisedAll (contextOf c) round table₀ (idsAt count e at) ≡ raisedAll (contextOf c) round table (idsAt (count - j) e (at + idSize * j)))
 
 abbrev μ-loop : tie.MeasureT-loop
 μ-loop c e at count round table₀ j₀ table j = count - j
@@ -36,10 +36,7 @@ loop-less : tie.Need-loop-less Inv-loop μ-loop
 loop-less c = omega arith
 
 loop-again : tie.Need-loop-again Inv-loop μ-loop
-loop-again c = search (needs, list-again, raised-still)
-
-same-length : tie.Need-same-length Inv-loop μ-loop
-same-length c = search needs
+loop-again c = search (needs, list-again)
 
 returns : tie.Need-returns Inv-loop μ-loop
 returns c = search (needs, list-end)
@@ -57,5 +54,4 @@ raise-list-spec =
     add-j
     loop-less
     loop-again
-    same-length
     returns)

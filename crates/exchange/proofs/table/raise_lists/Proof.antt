@@ -1,4 +1,4 @@
-use Rattle.exchange.proofs.RaiseLaws.{Met, met-start, met-again, met-count, met-lists}
+use Rattle.exchange.proofs.RaiseLaws.{Met, met-start, met-again, met-end}
 use Rattle.record.specs.Context.{contextOf}
 use borrow.Author.Needs.{needs}
 use native.Mathlib.Omega.{arith}
@@ -27,11 +27,8 @@ loop-less c = omega arith
 loop-again : tie.Need-loop-again Inv-loop μ-loop
 loop-again c = search (needs, met-again)
 
-same-length : tie.Need-same-length Inv-loop μ-loop
-same-length c = search needs
-
 returns : tie.Need-returns Inv-loop μ-loop
-returns c = search (needs, met-count, met-lists)
+returns c = search (needs, met-end)
 
 pub raise-lists-spec : {M : Type 1} → statement M
 raise-lists-spec =
@@ -44,5 +41,4 @@ raise-lists-spec =
     add-k
     loop-less
     loop-again
-    same-length
     returns)

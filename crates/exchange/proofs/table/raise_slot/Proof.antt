@@ -30,9 +30,6 @@ cast-raise-list c = search needs
 raise-list-requires : tie.Need-raise-list-requires
 raise-list-requires c κs = search (needs, slot-list-inside)
 
-same-length : tie.Need-same-length
-same-length c = search needs
-
 returns : tie.Need-returns
 returns c = search (needs, slot-raised)
 
@@ -49,5 +46,4 @@ raise-slot-spec =
     add-raise-list
     cast-raise-list
     raise-list-requires
-    same-length
     returns)

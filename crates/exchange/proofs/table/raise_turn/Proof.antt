@@ -16,12 +16,9 @@ raise-slot-requires c κs = search (needs, list-of)
 add-result : tie.Need-add-result
 add-result c = search needs
 
-same-length : tie.Need-same-length
-same-length c = search needs
-
 returns-2 : tie.Need-returns-2
 returns-2 c = search (needs, pick-answered)
 
 pub raise-turn-spec : {M : Type 1} → statement M
 raise-turn-spec =
-    tie.close (tie.spec has-requires returns raise-slot-requires add-result same-length returns-2)
+    tie.close (tie.spec has-requires returns raise-slot-requires add-result returns-2)

@@ -3,8 +3,8 @@ use borrow.Author.Needs.{needs}
 use Rattle.state_check.proofs.collected.collected_at.Statement.{statement}
 use Rattle.state_check.proofs.collected.collected_at.Tie as tie
 
-shr-if1 : tie.Need-shr-if1
-shr-if1 c = search needs
+has-requires : tie.Need-has-requires
+has-requires c κs = search needs
 
 returns : tie.Need-returns
 returns c = search (needs, absent-told)
@@ -16,4 +16,4 @@ returns-2 : tie.Need-returns-2
 returns-2 c = search (needs, there-told)
 
 pub collected-at-spec : {M : Type 1} → statement M
-collected-at-spec = tie.close (tie.spec shr-if1 returns holds-state-requires returns-2)
+collected-at-spec = tie.close (tie.spec has-requires returns holds-state-requires returns-2)

@@ -3,7 +3,6 @@ use mathlib.Core.Path.{_≡_}
 use native.Mathlib.Omega.{arith}
 use Rattle.record.specs.Context.{contextOf}
 use Rattle.state_check.specs.Collected.{collectedOk}
-use Rattle.state_check.proofs.PlanCode.{context-sizes}
 use Rattle.state_check.proofs.CollectedCode.{SlotsLeft, slots-left, first-left, rest-left, collected-start, collected-again, collected-denied, collected-end}
 use borrow.Author.Needs.{needs}
 use Rattle.state_check.proofs.collected.collected_ok.Statement.{statement}
@@ -22,7 +21,7 @@ cast-state-size-2 : tie.Need-cast-state-size-2 Inv-loop μ-loop
 cast-state-size-2 c = search needs
 
 state-size-requires : tie.Need-state-size-requires Inv-loop μ-loop
-state-size-requires c κs = search (needs, context-sizes)
+state-size-requires c κs = search needs
 
 cast-size : tie.Need-cast-size Inv-loop μ-loop
 cast-size c = search needs

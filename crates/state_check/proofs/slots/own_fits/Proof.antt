@@ -4,14 +4,14 @@ use native.Mathlib.Omega.{arith}
 use lib.ListN.{length}
 use borrow.Author.Needs.{needs}
 use Rattle.record.specs.Context.{contextOf}
-use Rattle.state_check.specs.Slots.{ownFits}
+use Rattle.state_check.specs.Slots.{ownReach, ownFits}
 use Rattle.state_check.proofs.SlotCode.{own-again, own-denied, own-end}
 use Rattle.state_check.proofs.slots.own_fits.Statement.{statement}
 use Rattle.state_check.proofs.slots.own_fits.Tie as tie
 use Rattle.engine.specs.Layout.{slotSize}
 
 abbrev Inv-loop : tie.InvT-loop
-Inv-loop c b k at count here₀ left₀ i₀ here left i = (here + slotSize * left ≤ length b) × (i + left ≤ 131070) × (ownFits (contextOf c) k count b at ≡ ownFits (contextOf c) i left b here)
+Inv-loop c b k at count here₀ left₀ i₀ here left i = (here + slotSize * left ≤ length b) × (i + left ≤ ownReach) × (ownFits (contextOf c) k count b at ≡ ownFits (contextOf c) i left b here)
 
 abbrev μ-loop : tie.MeasureT-loop
 μ-loop c b k at count here₀ left₀ i₀ here left i = left
