@@ -71,8 +71,10 @@ pub fn core(s: Server, e: &[u8]) -> Stepped
 pub fn alter(s: &mut Server, e: &[u8]) -> Reply
     ensures { λ r. ⌜ (r ≡ coreOf (now (s .entry)) (now (e .entry)) .reply) × (now (s .exit) ≡ coreOf (now (s .entry)) (now (e .entry)) .server) ⌝ }
 {
-    let r = core(*s, e);
-    *s = r.server;
+    let old = *s;
+    let r = core(old, e);
+    let new = r.server;
+    *s = new;
     r.reply
 }
 
