@@ -11,7 +11,8 @@ use Rattle.base.specs.Lists.{below, at}
 use Rattle.base.specs.Text.{ascii, decimal}
 use Rattle.format.specs.Types.{Reading, says, refused}
 use Rattle.format.specs.Setup.{Setup, readSetup}
-use Rattle.replication.specs.Machine.Types.{Mode, Non-prim, Reg-prim, Trans-prim, Exchange-states, Exchange-actions, Construct, No, Un, Server, Outcome, taken, start}
+use Rattle.replication.specs.Machine.Types.{Mode, Non-prim, Reg-prim, Trans-prim, Exchange-states, Exchange-actions, Construct, No, Un}
+use Rattle.replication.specs.Machine.Types.{Server, Outcome, taken, start}
 use Rattle.replication.specs.Images.{Images, arrive, leftBy, started}
 
 -- ---- lines

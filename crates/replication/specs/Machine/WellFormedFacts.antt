@@ -1,4 +1,5 @@
--- Document 01, 'Returned numbers', row 8: the facts of a well-formed state, clause by clause in the row's order; they say what the test `wellFormed` says.
+-- Document 01, 'Returned numbers', row 8: the facts of a well-formed state, clause by clause in the row's order; they say what the test
+-- `wellFormed` says.
 -- Assumes nothing.
 use Prim.Native.Nat.{ℕ, _+_, _*_, _≤_, _<_}
 use mathlib.Core.Path.{_≡_}
@@ -10,7 +11,8 @@ use Rattle.base.specs.Lists.{Each, above, isThere}
 use Rattle.base.specs.Sets.{inSet}
 use Rattle.format.specs.Limits.{mostHeld, mostIndex}
 use Rattle.format.specs.Types.{Id}
-use Rattle.replication.specs.Machine.Types.{Mode, Non-prim, Reg-prim, Trans-prim, Exchange-states, Exchange-actions, Construct, No, Un, Log, Configuration, Server}
+use Rattle.replication.specs.Machine.Types.{Mode, Non-prim, Reg-prim, Trans-prim, Exchange-states, Exchange-actions, Construct, No, Un}
+use Rattle.replication.specs.Machine.Types.{Log, Configuration, Server}
 use Rattle.replication.specs.Machine.Colours.{cut}
 use Rattle.replication.specs.Machine.Step.{hereSet, plannedNow}
 use Rattle.replication.specs.Machine.WellFormed.{idsIn, queue}
