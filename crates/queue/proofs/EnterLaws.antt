@@ -21,7 +21,7 @@ use Rattle.format.proofs.Lengths.{cuts-length}
 use Rattle.replication.specs.Machine.Types.{Log, Server, withLog}
 use Rattle.replication.specs.Machine.Colours.{cut, remove, isNext, enter}
 use Rattle.replication.specs.Machine.WellFormed.{idsIn, queue}
-use Rattle.replication.specs.Machine.WellFormedFacts.{OwnListFits}
+use Rattle.replication.proofs.WellFormed.Clauses.{OwnListFits}
 use Rattle.replication.proofs.Step.Logs.{next-index}
 use Rattle.replication.proofs.WellFormed.Ids.{same-id-yes, same-id-no}
 use Rattle.replication.proofs.WellFormed.Held.{remove-absent}

@@ -12,7 +12,6 @@ pub mod Taken
 pub mod Votes
 pub mod VotesOrder
 pub mod Modes
-pub mod Attempt
 pub mod Folds
 pub mod Yellows
 pub mod Reds
@@ -21,11 +20,8 @@ pub mod ModeColours
 pub mod Sending
 pub mod Parts
 pub mod OwnActions
-pub mod Held
-pub mod Shape
 pub mod Identity
 pub mod Rising
 pub mod Primary
-pub mod Configurations
 pub mod Kinds
 pub mod Noted

@@ -26,7 +26,7 @@ use Rattle.replication.proofs.Runs.Places.{event-not-store, sent-by-sto
 use Rattle.replication.proofs.Runs.Shifts.{says-same, comes-once, comes-of, crash-says-nothing}
 use Rattle.replication.proofs.Runs.Modes.{Standing, standing-in, standing}
 use Rattle.replication.proofs.Runs.Readings.{answer-refused}
-use Rattle.replication.proofs.Runs.Refusals.{regular-taken, transitional-taken}
+use Rattle.replication.proofs.Runs.Refusals.{regular-taken}
 use Rattle.replication.proofs.Runs.PlaceMoves.{placeOf}
 use Rattle.replication.proofs.Runs.Coupling.{coupled}
 use Rattle.replication.proofs.Runs.AllowedTurns.{Acts, Refuses, AllowedTurn, rests, crashes, saves, refuses, recovers, acts, allowed-turn}
@@ -119,15 +119,6 @@ module _ {n q : ℕ} {l : Run} (A : Allowed n q l) where
       let s = coupled A p i (x .up) in
       regular-taken _ _ _ (x .number) (standing n q l i p .memory)
       (λ y. A .between p i c (y .configuration) t (sym (ap (λ w. w .regular) s) ∙ y .there) (sym (ap (λ w. w .transitional) s) ∙ y .none-after))
-      (answer-refused _ (x .bytes) _ (x .number) (x .refusal) (x .reads ∙ refused-change p i _ t x)))
-
-  pub transitional-acts : (p i s : ℕ) → Comes n q l p i (transitional s) → (x : Acts n q l p i) × (x .by .event ≡ transitional s)
-  unfolding isRecovery
-  transitional-acts p i s t =
-      comes-taken p i _ t refl
-      (λ x.
-      let c = coupled A p i (x .up) in
-      transitional-taken _ _ (x .number) (standing n q l i p .memory) (ap (λ w. w .transitional) c ∙ A .one-transitional p i s t)
       (answer-refused _ (x .bytes) _ (x .number) (x .refusal) (x .reads ∙ refused-change p i _ t x)))
 
   -- ---- what is sent

@@ -15,7 +15,8 @@ use Rattle.replication.specs.Machine.Types.{Mode, Exchange-states, Const
 use Rattle.replication.specs.Machine.Colours.{yellow}
 use Rattle.replication.specs.Machine.Exchange.{noteAll, takenVotes, attempted}
 use Rattle.replication.specs.Machine.Step.{entering, unmarked, yellowValid, hereSet, collected, decided, attempting, withState, withCpc, leave}
-use Rattle.replication.specs.Machine.WellFormedRanges.{ConfigurationFits, TransitionalFits, CollectedFits}
+use Rattle.replication.specs.Machine.WellFormedRanges.{ConfigurationFits, TransitionalFits}
+use Rattle.replication.proofs.WellFormed.Clauses.{CollectedFits}
 use Rattle.replication.proofs.WellFormed.Ids.{same}
 use Rattle.replication.proofs.WellFormed.Decisions.{empty-below, cleared-mark-fits, taken-votes-fits, attempted-fits, note-all-length, note-all-bound}
 use Rattle.replication.proofs.WellFormed.Changes.{Body, votes-changed, membership-changed, noted-changed, in-mode, collected-fit, no-states}

@@ -5,7 +5,7 @@ use Prim.Native.Nat.{ℕ, _+_, _*_, max, _≤_, _<_}
 use mathlib.Core.Path.{_≡_, sym, subst}
 use mathlib.Core.Bool.{Bool, true}
 use mathlib.Core.List.{List, map}
-use lib.ListN.{length, length-map}
+use lib.ListN.{length}
 use native.Mathlib.Omega.{arith}
 use Rattle.base.proofs.TestLaws.{both-yes, lt-yes}
 use Rattle.base.specs.Bytes.{joined}
@@ -15,12 +15,11 @@ use Rattle.format.specs.Types.{Action, Record, action, retransmission, state, c
 use Rattle.format.specs.Range.{configurationOk, fieldsOk, recordOk}
 use Rattle.format.specs.Read.{read}
 use Rattle.format.specs.Write.{write, lengthOf}
-use Rattle.format.proofs.Lengths.{write-length}
 use Rattle.format.proofs.RoundTrip.{read-written}
 use Rattle.replication.specs.Machine.Types.{Server, taken}
 use Rattle.replication.specs.Machine.Step.{apply, step}
 use Rattle.replication.specs.Machine.WellFormed.{wellFormed}
-use Rattle.replication.specs.Machine.WellFormedRanges.{SizesFit}
+use Rattle.replication.proofs.WellFormed.Clauses.{SizesFit}
 use Rattle.replication.proofs.WellFormed.SentFacts.{RecordFits, PutOut}
 use Rattle.replication.specs.Laws.Transitions.{TakenBy}
 use Rattle.replication.proofs.Step.Inversion.{taken-by}
@@ -86,10 +85,6 @@ record-length n q (transitional t) f = absurd f
 record-length n q (request p) f = absurd f
 record-length n q recovery f = absurd f
 
-pub put-out-lengths : (n q me : ℕ) (rs : List Record) → PutOut n q me rs → Each (λ r. length (write r) ≤ max 65 (40 + 2 * n + 3 * (n * q))) rs
-put-out-lengths n q me rs o =
-    each-implied (RecordFits n q) (λ r. length (write r) ≤ max 65 (40 + 2 * n + 3 * (n * q))) (λ r f. omega (arith, write-length r, record-length n q r f)) rs (o .fit)
-
 -- ---- what a taken event puts out
 
 module _ (s : Server) (e : List ℕ) (t : Server) (bs : List (List ℕ)) (b : Bool) (g : List Action) (f : wellFormed s ≡ true) where
@@ -100,12 +95,6 @@ module _ (s : Server) (e : List ℕ) (t : Server) (bs : List (List ℕ)) (b : Bo
 
   pub step-put-out : step s e ≡ taken t bs b g → (rs : List Record) × (bs ≡ map write rs) × PutOut (s .servers) (s .quota) (s .me) rs
   step-put-out h = let d = taken-by s e t bs b g h in (d .records, d .written, taken-put-out d)
-
-  -- "required lengths": the outgoing records of one event.
-  pub step-record-count : step s e ≡ taken t bs b g → length bs ≤ 2 * (s .servers * s .quota)
-  step-record-count h =
-      let o = step-put-out h in
-      subst (λ l. length l ≤ 2 * (s .servers * s .quota)) (sym (o .1)) (subst (λ k. k ≤ 2 * (s .servers * s .quota)) (sym (length-map (o .0) write)) (o .2 .count))
 
   pub step-byte-count : step s e ≡ taken t bs b g → length (joined bs) ≤ 130 * (s .servers * s .quota)
   step-byte-count h = let o = step-put-out h in subst (λ l. length (joined l) ≤ 130 * (s .servers * s .quota)) (sym (o .1)) (o .2 .bytes)

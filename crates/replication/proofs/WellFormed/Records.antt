@@ -20,7 +20,8 @@ use Rattle.replication.specs.Machine.Colours.{cut, find}
 use Rattle.replication.specs.Machine.Plan.{highest, lowest, missing, cutIn, greenIn, resender, isMe, resent, resendGreen, resendRed, ownPart, planned}
 use Rattle.replication.specs.Machine.Requests.{numberedFrom, madeOf, heldRecords}
 use Rattle.replication.specs.Machine.Step.{ownState}
-use Rattle.replication.specs.Machine.WellFormedRanges.{SizesFit, PayloadFits, ActionFits, StateFits, ConfigurationFits}
+use Rattle.replication.specs.Machine.WellFormedRanges.{PayloadFits, ActionFits, StateFits, ConfigurationFits}
+use Rattle.replication.proofs.WellFormed.Clauses.{SizesFit}
 use Rattle.replication.proofs.WellFormed.SentFacts.{senderOf, RecordFits, PutOut}
 use Rattle.replication.proofs.WellFormed.Held.{found-fact}
 use Rattle.replication.proofs.WellFormed.Logs.{LogFits}

@@ -4,9 +4,8 @@ use Prim.Native.Nat.{ℕ, _+_}
 use mathlib.Core.Path.{_≡_}
 use mathlib.Core.Bool.{Bool, true, false}
 use mathlib.Core.List.{List, [], List·Memᴰ}
-use mathlib.Core.Logic.{_⊎_}
 use mathlib.Core.Option.{Option, none, some}
-use Rattle.format.specs.Types.{Action, Yellow, Record, recovery}
+use Rattle.format.specs.Types.{Action, Yellow}
 use Rattle.replication.specs.Machine.Types.{Mode, Non-prim, Reg-prim, Trans-prim, Exchange-states, Exchange-actions, Construct, No, Un}
 use Rattle.replication.specs.Machine.Types.{Votes, Configuration, Server, noYellow, modeOf}
 use Rattle.replication.specs.Machine.Step.{theSet}
@@ -80,12 +79,3 @@ attempting Exchange-actions = false
 attempting Construct = true
 attempting No = true
 attempting Un = true
-
--- From the marking on, what was marked stays as it was, until Install, the next regular configuration, or recovery.
-pub data AttemptStep (s : Server) (r : Record) (t : Server) : Type 0 where
-  waits : attempting (modeOf t) ≡ true → t .log ≡ s .log → t .votes ≡ s .votes
-      → t .membership .configuration ≡ s .membership .configuration → AttemptStep s r t
-  installs : (modeOf t ≡ Reg-prim) ⊎ (modeOf t ≡ Trans-prim) → t .membership .configuration ≡ s .membership .configuration
-      → AttemptStep s r t
-  joins : modeOf t ≡ Exchange-states → AttemptStep s r t
-  recovers : r ≡ recovery → AttemptStep s r t

@@ -3,9 +3,8 @@
 use Prim.Native.Nat.{ℕ}
 use mathlib.Core.Path.{_≡_}
 use mathlib.Core.List.{List, [], _∷_}
-use mathlib.Core.Option.{none, some}
 use Rattle.format.specs.Types.{Action, Record, action, regular, transitional, request, recovery}
-use Rattle.replication.specs.Machine.Types.{Trans-prim, Exchange-states, Configuration, Membership, Server, modeOf}
+use Rattle.replication.specs.Machine.Types.{Trans-prim, Exchange-states, Configuration, Server, modeOf}
 use Rattle.replication.specs.Machine.Step.{unmarked, yellowValid}
 use Rattle.replication.specs.Laws.Folds.{Greened, Yellowed}
 
@@ -26,11 +25,3 @@ pub data TransitionalStep (s : Server) (r : Record) (t : Server) : Type 0 where
   joins : (c : Configuration) → r ≡ regular (c .id) (c .set) → modeOf t ≡ Exchange-states → t .votes ≡ yellowValid (unmarked (s .votes))
       → t .log ≡ s .log → TransitionalStep s r t
   recovers : r ≡ recovery → TransitionalStep s r t
-
--- The configuration that a server has, and the transitional one after it, change only by events that bring one, and by recovery.
-pub data ConfigurationChange (m : Membership) (r : Record) (n : Membership) : Type 0 where
-  kept : n .configuration ≡ m .configuration → n .transitional ≡ m .transitional → ConfigurationChange m r n
-  joined : (c : Configuration) → r ≡ regular (c .id) (c .set) → n .configuration ≡ some c → n .transitional ≡ none
-      → ConfigurationChange m r n
-  left : (x : ℕ) → r ≡ transitional x → n .configuration ≡ m .configuration → n .transitional ≡ some x → ConfigurationChange m r n
-  recovered : r ≡ recovery → n .configuration ≡ none → n .transitional ≡ none → ConfigurationChange m r n

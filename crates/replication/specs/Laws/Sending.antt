@@ -8,7 +8,7 @@ use mathlib.Core.Option.{some}
 use lib.ListN.{length}
 use Rattle.base.specs.Tests.{_=?_}
 use Rattle.base.specs.Lists.{at}
-use Rattle.format.specs.Types.{Action, State, Record, action, retransmission, state, cpc, regular, request, recovery}
+use Rattle.format.specs.Types.{Action, State, Record, action, retransmission, state, cpc, regular, request}
 use Rattle.replication.specs.Machine.Types.{Non-prim, Reg-prim, Exchange-states, Exchange-actions, Construct}
 use Rattle.replication.specs.Machine.Types.{Log, Configuration, Server, modeOf}
 use Rattle.replication.specs.Machine.Colours.{find}
@@ -53,20 +53,6 @@ pub data PutsOut (s : Server) (r : Record) (t : Server) : List Record → Bool �
       → Numbers s t (s .held) → PutsOut s r t (map action (made s t (s .held))) true
   heldAfterInstall : (k i : ℕ) → r ≡ cpc k i → modeOf s ≡ Construct → allCpcsIn (withCpc k s) ≡ true → modeOf t ≡ Reg-prim
       → Numbers s t (s .held) → PutsOut s r t (map action (made s t (s .held))) true
-
--- ---- requests
-
--- What becomes of the held requests.
-pub data HeldChange (s : Server) (r : Record) (t : Server) : List Record → Type 0 where
-  stay : (rs : List Record) → t .held ≡ s .held → HeldChange s r t rs
-  oneMore : (p : List ℕ) → r ≡ request p → t .held ≡ s .held ++ (p ∷ []) → HeldChange s r t []
-  areSent : t .held ≡ [] → HeldChange s r t (map action (made s t (s .held)))
-  areDropped : r ≡ recovery → t .held ≡ [] → HeldChange s r t []
-
--- A request is sent, stored first, or held.
-pub data RequestKept (s t : Server) (p : List ℕ) : List Record → Bool → Type 0 where
-  sent : sendsNow (s .membership) ≡ true → t .held ≡ s .held → RequestKept s t p (map action (made s t (p ∷ []))) true
-  held : sendsNow (s .membership) ≡ false → t .held ≡ s .held ++ (p ∷ []) → RequestKept s t p [] false
 
 -- An own action that t sends after s: its creator, its index above those that s has numbered and among those that t has, its green length; it is on
 -- the own list.

@@ -17,7 +17,7 @@ use Rattle.replication.specs.Machine.Colours.{cut}
 use Rattle.replication.specs.Machine.Plan.{highest, lowest, cutIn, greenIn}
 use Rattle.replication.specs.Machine.Step.{ownState}
 use Rattle.replication.specs.Machine.WellFormed.{idsIn}
-use Rattle.replication.specs.Machine.WellFormedFacts.{WellFormed}
+use Rattle.replication.proofs.WellFormed.Clauses.{WellFormed}
 use Rattle.replication.specs.Runs.Run.{Run}
 use Rattle.replication.specs.Runs.Happenings.{isMessage, Comes, Falls, Takes}
 use Rattle.replication.specs.Runs.Allowed.{Allowed}

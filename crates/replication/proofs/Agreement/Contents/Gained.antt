@@ -21,7 +21,7 @@ use Rattle.replication.specs.Machine.Colours.{cut, find}
 use Rattle.replication.specs.Machine.Plan.{highest, lowest, resender, cutIn, greenIn}
 use Rattle.replication.specs.Machine.Step.{ownState, placed}
 use Rattle.replication.specs.Machine.WellFormed.{idsIn, queue}
-use Rattle.replication.specs.Machine.WellFormedFacts.{heldCount}
+use Rattle.replication.proofs.WellFormed.Clauses.{heldCount}
 use Rattle.replication.specs.Runs.Run.{Run}
 use Rattle.replication.specs.Runs.Happenings.{isMessage, Comes, Takes}
 use Rattle.replication.specs.Runs.Allowed.{Allowed}

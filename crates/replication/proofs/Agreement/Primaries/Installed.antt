@@ -250,12 +250,3 @@ module _ {n q : ℕ} {l : Run} (A : Allowed n q l) where
       go (settled e) = absurd (none-settled x p k here e)
       go (regular u b y h) = installed u b y (in-regular h)
       go (transitional u b y h) = installed u b y (in-transitional h)
-
-  -- A member that does not install in c delivers no action there.
-  pub none-without : {r i : ℕ} {c : Configuration} → InstallsAt n q l r i c → (p k : ℕ) → InCom n q l p k c → ((u : ℕ) → u < p → InstallsAt n q l u k c → ⊥)
-      → inCom A c k p ≡ []
-  none-without {r} {i} {c} x p k here f = go (member-phase x p k here)
-    where
-      go : MemberPhase p k c → inCom A c k p ≡ []
-      go (not-yet e h) = h
-      go (installed u b y h) = absurd (f u b y)

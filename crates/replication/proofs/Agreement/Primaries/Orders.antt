@@ -14,7 +14,7 @@ use Rattle.replication.specs.Machine.Types.{Trans-prim, Configuration}
 use Rattle.replication.specs.Machine.Colours.{cut}
 use Rattle.replication.specs.Machine.Install.{installLog}
 use Rattle.replication.specs.Machine.WellFormed.{idsIn, queue}
-use Rattle.replication.specs.Machine.WellFormedFacts.{WellFormed}
+use Rattle.replication.proofs.WellFormed.Clauses.{WellFormed}
 use Rattle.replication.specs.Laws.Folds.{entered}
 use Rattle.replication.specs.Runs.Run.{Run, Place, placeAt}
 use Rattle.replication.specs.Runs.Allowed.{Allowed}

@@ -12,7 +12,7 @@ use Rattle.format.specs.Types.{Action, action, cpc}
 use Rattle.replication.specs.Machine.Types.{Trans-prim, Un, Configuration, Server}
 use Rattle.replication.specs.Machine.Rules.{ruleFor, onAction, onCpc}
 use Rattle.replication.specs.Machine.Step.{installsBy}
-use Rattle.replication.specs.Machine.WellFormedFacts.{YellowWithinCuts, YellowEntered}
+use Rattle.replication.proofs.WellFormed.Clauses.{YellowWithinCuts, YellowEntered}
 use Rattle.replication.specs.Laws.Primary as S
 use Rattle.replication.specs.Laws.Primary.{RegularStep, TransitionalStep}
 use Rattle.replication.specs.Runs.Run.{Run, Place, placeAt, heardAt}

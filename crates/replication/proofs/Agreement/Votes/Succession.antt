@@ -1,6 +1,6 @@
 -- The configurations in which primary components are installed follow one another in time, as their indexes do.
 use Prim.Native.Nat.{ℕ, zero, suc, _<_}
-use mathlib.Core.Path.{_≡_, refl, sym, ap, subst, _∙_}
+use mathlib.Core.Path.{_≡_, sym, ap, subst, _∙_}
 use mathlib.Core.Bool.{true}
 use mathlib.Core.List.{List, List·Memᴰ}
 use native.Mathlib.Omega.{arith}
@@ -81,8 +81,3 @@ module _ {n q : ℕ} {l : Run} (A : Allowed n q l) (X : ExchangeFacts n q l) whe
       go (no a) f =
           let k = unique-install A X x (z .install) (omega (arith, z .index)) .0 in
           omega (arith, configuration-time A t (subst (λ w. Takes n q l (z .took-at) (z .server) w) (sym k) (z .took)), z .earlier)
-
-  -- Installs of rising indexes are in configurations of rising times.
-  pub installs-in-order : {p r i j u v : ℕ} {c d : Configuration} (x : InstallsAt n q l p i c) (y : InstallsAt n q l r j d)
-      → installed n q l x .index < installed n q l y .index → Takes n q l u i c → Takes n q l v j d → time A u < time A v
-  installs-in-order x y h t o = ordered (installed n q l y .index) x y h refl t o
