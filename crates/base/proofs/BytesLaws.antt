@@ -75,13 +75,6 @@ pub part-behind : (m : ℕ) (p e : List ℕ) (at : ℕ) → partAt m (p ++ e) (l
 unfolding partAt
 part-behind m p e at = ap (take m) (drop-append-add p e at)
 
-pub numbers-behind : (w m : ℕ) (p e : List ℕ) (at : ℕ) → numbersAt w m (p ++ e) (length p + at) ≡ numbersAt w m e at
-unfolding numbersAt
-numbers-behind w zero p e at = refl
-numbers-behind w (suc m) p e at =
-    ap₂ {A = ℕ} {B = List ℕ} {C = List ℕ} (λ n l. n ∷ l) (number-behind w p e at)
-    (ap (λ (k : ℕ). numbersAt w m (p ++ e) k) (add-assoc (length p) at w) ∙ numbers-behind w m p e (at + w))
-
 -- A number depends on its own bytes only.
 pub number-part : (w : ℕ) (e : List ℕ) (at m : ℕ) → w ≤ m → numberAt w (partAt m e at) 0 ≡ numberAt w e at
 unfolding numberAt partAt

@@ -16,7 +16,7 @@ use Rattle.replication.specs.Machine.Step.{ownState, theSet, hereSet, al
 use Rattle.replication.proofs.WellFormed.Clauses.{MembershipRanges}
 use Rattle.replication.specs.Laws.Modes.{InRegular}
 use Rattle.replication.specs.Laws.Order.{SameControl, AtMost, inExchange, OwnStateTrue, hearing}
-use Rattle.replication.specs.Runs.Run.{Run, placeAt, worldAt}
+use Rattle.replication.specs.Runs.Run.{Run, placeAt}
 use Rattle.replication.specs.Runs.Happenings.{Comes, Falls, by-crash, by-recovery, Takes}
 use Rattle.replication.specs.Runs.Allowed.{Allowed}
 use Rattle.replication.proofs.Step.Formed.{every-state-in}

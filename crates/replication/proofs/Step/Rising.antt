@@ -1,6 +1,6 @@
 -- From event to event (last primary's index, its attempt, attempt) never falls, in memory and in the store.
 use Prim.Native.Nat.{ℕ}
-use mathlib.Core.Path.{_≡_, refl, sym}
+use mathlib.Core.Path.{_≡_, sym}
 use mathlib.Core.Bool.{Bool, true, false}
 use mathlib.Core.List.{List}
 use Rattle.base.specs.Tests.{pick}
@@ -9,7 +9,6 @@ use Rattle.replication.specs.Machine.Types.{Server, Outcome, refused, ta
 use Rattle.replication.specs.Machine.Step.{step}
 use Rattle.replication.specs.Machine.WellFormed.{wellFormed}
 use Rattle.replication.specs.Images.{Images, sourceOf, arrive, leftBy}
-use Rattle.replication.specs.Laws.Images.{next}
 use Rattle.replication.specs.Laws.Order.{AtMost, SameControl, OwnStateTrueAt}
 use Rattle.replication.proofs.Step.Inversion.{taken-by}
 use Rattle.replication.proofs.Step.Moves.{moved}
@@ -43,7 +42,3 @@ module _ (i : Images) (e : List ℕ) (agree : SameControl (i .store) (i .memory)
         (at-most-trans from-memory r, at-most-trans from-store r)
     after (taken t bs false g) h =
         (at-most-trans from-memory (taken-votes-rise (sourceOf i e) e t bs false g h formed own), at-most-refl (i .store .votes))
-
-    pub next-votes-rise : AtMost (i .memory .votes) ((next i e) .memory .votes) × AtMost (i .store .votes) ((next i e) .store .votes)
-    unfolding next
-    next-votes-rise = after (arrive i e) refl

@@ -5,7 +5,7 @@ use mathlib.Core.Bool.{Bool, true, false, not}
 use mathlib.Core.List.{List}
 use mathlib.Core.Option.{Option, none, some}
 use lib.ListN.{getD}
-use Rattle.base.specs.Tests.{_and_, _or_, _=?_, _≤?_, _<?_}
+use Rattle.base.specs.Tests.{_and_, _or_, _=?_, _≤?_}
 use Rattle.base.specs.Lists.{isThere}
 use Rattle.base.specs.Sets.{inSet}
 use Rattle.format.specs.Types.{Action, State, Record, action, retransmission, state, cpc, regular, transitional, request, recovery}

@@ -3,16 +3,16 @@
 -- Assumes nothing.
 use Prim.Native.Nat.{ℕ, _<_, _≤_}
 use mathlib.Core.Path.{_≡_}
-use mathlib.Core.Bool.{Bool, true, false}
+use mathlib.Core.Bool.{true, false}
 use mathlib.Core.List.{List}
-use mathlib.Core.Option.{Option, none, some}
+use mathlib.Core.Option.{none, some}
 use lib.ListN.{length}
 use Rattle.base.specs.Lists.{at}
 use Rattle.base.specs.Sets.{inSet}
 use Rattle.format.specs.Range.{sizesOk}
 use Rattle.format.specs.Types.{Record, transitional, recovery}
 use Rattle.replication.specs.Machine.Types.{Configuration}
-use Rattle.replication.specs.Runs.Run.{Entry, event, store, Run, worldAt, placeAt, members, putOut, sentAt}
+use Rattle.replication.specs.Runs.Run.{event, store, Run, worldAt, placeAt, members, putOut, sentAt}
 use Rattle.replication.specs.Runs.Happenings.{Message, isMessage, Configured, Happening, entry-at, sending-of, Of, Crashes, Comes, Falls}
 use Rattle.replication.specs.Runs.Happenings.{Takes, Left, Sends, Delivers, Delivered, Configures, Passes, Causes, Precedes}
 

@@ -5,17 +5,16 @@ use mathlib.Core.Path.{_≡_}
 use mathlib.Core.Bool.{Bool, true, false}
 use mathlib.Core.List.{List}
 use mathlib.Core.Logic.{_↔_}
-use mathlib.Core.Option.{Option, none, some}
+use mathlib.Core.Option.{some}
 use lib.ListN.{length}
 use Rattle.base.specs.Tests.{pick}
 use Rattle.base.specs.Lists.{at, Begins}
 use Rattle.base.specs.Sets.{everyone}
-use Rattle.format.specs.Types.{Action, Primary, says}
-use Rattle.replication.specs.Machine.Types.{Server, Outcome, taken}
-use Rattle.replication.specs.Machine.Rules.{ruleFor}
+use Rattle.format.specs.Types.{Action, Primary}
+use Rattle.replication.specs.Machine.Types.{Server, taken}
 use Rattle.replication.specs.Machine.Step.{installs}
-use Rattle.replication.specs.Images.{Images, arrive, sourceOf}
-use Rattle.replication.specs.Runs.Run.{Entry, event, Run, worldAt}
+use Rattle.replication.specs.Images.{arrive, sourceOf}
+use Rattle.replication.specs.Runs.Run.{event, Run, worldAt}
 use Rattle.replication.specs.Runs.Strays.{AllowedWithStrays}
 
 -- "equal exactly when equally long, else the shorter begins the longer"

@@ -5,12 +5,12 @@ use Prim.Native.Nat.{ℕ, suc, _<_}
 use mathlib.Core.Path.{_≡_}
 use mathlib.Core.Bool.{Bool, true, false}
 use mathlib.Core.List.{List}
-use mathlib.Core.Option.{Option, none, some}
+use mathlib.Core.Option.{some}
 use lib.ListN.{length}
 use Rattle.base.specs.Lists.{at}
 use Rattle.format.specs.Types.{Record, action, retransmission, state, cpc, regular, transitional, request, recovery, says}
 use Rattle.replication.specs.Machine.Types.{Configuration}
-use Rattle.replication.specs.Runs.Run.{Entry, event, crash, Run, serverOf, Place, placeAt, heardAt, sentAt}
+use Rattle.replication.specs.Runs.Run.{Entry, event, crash, Run, serverOf, placeAt, heardAt, sentAt}
 
 -- A record that was sent, by its place and not by its bytes: the record `number` of those sent at the place `sending`.
 pub record Message : Type 0 where

@@ -3,7 +3,6 @@ use Prim.Native.Nat.{ℕ, suc, _≤_, _<_}
 use mathlib.Core.Path.{_≡_, refl, sym, ap, subst, _∙_}
 use mathlib.Core.Bool.{Bool, true, false}
 use mathlib.Core.List.{List}
-use mathlib.Core.Option.{Option, none, some}
 use native.Mathlib.Omega.{arith}
 use Rattle.base.proofs.TestLaws.{not-both}
 use Rattle.base.proofs.AtLaws.{some-same}
@@ -12,15 +11,15 @@ use Rattle.replication.specs.Machine.Types.{Mode, Non-prim, Reg-prim, Tr
 use Rattle.replication.specs.Machine.Requests.{sendsIn, sendsNow, numbered, hold, sendHeld}
 use Rattle.replication.specs.Machine.Step.{decided, attempting, withState, resending, oneMore, placed, exchanged, leave}
 use Rattle.replication.specs.Laws.Transitions as L
-use Rattle.replication.specs.Laws.Transitions.{Ends, Leads, Transition}
+use Rattle.replication.specs.Laws.Transitions.{Ends, Transition}
 use Rattle.replication.specs.Runs.Run.{Run, heardAt}
 use Rattle.replication.specs.Runs.Happenings.{isMessage, Comes, Falls, by-crash, by-recovery, Takes}
 use Rattle.replication.specs.Runs.Allowed.{Allowed}
 use Rattle.replication.proofs.Runs.Places.{event-not-store, event-entry}
-use Rattle.replication.proofs.Runs.Shifts.{comes-of, comes-once}
-use Rattle.replication.proofs.Runs.AllowedTurns.{memoryAt, Acts, Refuses, AllowedTurn, rests, crashes, saves, refuses, recovers, acts, allowed-turn}
-use Rattle.replication.proofs.Runs.Stays.{membershipAt, in-stay}
-use Rattle.replication.proofs.Agreement.Exchange.Stages.{remains, stage, modeNumber, other-mode, InCom, remaining, stage-rises}
+use Rattle.replication.proofs.Runs.Shifts.{comes-of}
+use Rattle.replication.proofs.Runs.AllowedTurns.{memoryAt, Acts, AllowedTurn, rests, crashes, saves, refuses, recovers, acts, allowed-turn}
+use Rattle.replication.proofs.Runs.Stays.{membershipAt}
+use Rattle.replication.proofs.Agreement.Exchange.Stages.{remains, stage, InCom, remaining}
 use Rattle.replication.proofs.Agreement.Exchange.Retransmissions.{saysResent}
 use Rattle.replication.proofs.Agreement.Exchange.ActionsTaken as T
 use Rattle.replication.proofs.Agreement.Exchange.NotRefused.{no-delivery-refused}

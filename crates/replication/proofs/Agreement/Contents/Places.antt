@@ -1,16 +1,14 @@
 -- Where an exchange ends: at each end as the agreement's terms have it, the server has what the exchange left, at that place or earlier in Non_prim.
-use Prim.Native.Nat.{ℕ, suc, _≤_, _<_}
+use Prim.Native.Nat.{ℕ, suc, _≤_}
 use mathlib.Core.Path.{_≡_, refl, sym, ap, _∙_}
 use mathlib.Core.Bool.{Bool, true, false}
 use mathlib.Core.List.{List}
 use mathlib.Core.Logic.{_⊎_, inl, inr}
-use mathlib.Core.Option.{Option, none, some}
+use mathlib.Core.Option.{none}
 use native.Mathlib.Omega.{arith}
 use Rattle.base.proofs.TestLaws.{not-both}
-use Rattle.base.proofs.AtLaws.{none-some}
 use Rattle.format.specs.Types.{Record}
 use Rattle.replication.specs.Machine.Types.{Mode, Non-prim, Construct, Configuration, Server}
-use Rattle.replication.specs.Machine.Colours.{cut}
 use Rattle.replication.specs.Machine.Install.{install}
 use Rattle.replication.specs.Machine.Requests.{sendsIn, sendsNow, numbered, sendHeld}
 use Rattle.replication.specs.Machine.Exchange.{quorum}
@@ -18,21 +16,15 @@ use Rattle.replication.specs.Machine.Step.{theSet, hereSet, collected, a
 use Rattle.replication.specs.Laws.Transitions as L
 use Rattle.replication.specs.Laws.Transitions.{Ends, Transition}
 use Rattle.replication.specs.Laws.Greens as G
-use Rattle.replication.specs.Laws.Greens.{GreenChange}
 use Rattle.replication.specs.Runs.Run.{Run}
-use Rattle.replication.specs.Runs.Happenings.{Falls, Takes}
 use Rattle.replication.specs.Runs.Allowed.{Allowed}
 use Rattle.replication.proofs.Step.Control.{yellow-membership}
-use Rattle.replication.proofs.Step.Greens.{green-changes}
-use Rattle.replication.proofs.Step.Growth.{transition-grows}
-use Rattle.replication.proofs.Runs.AllowedTurns.{memoryAt}
-use Rattle.replication.proofs.Runs.Stays.{membershipAt, stay-transitional, acts-membership}
+use Rattle.replication.proofs.Runs.Stays.{membershipAt, stay-transitional}
 use Rattle.replication.proofs.Agreement.Terms.{EndsAt, MarksAt}
 use Rattle.replication.proofs.Agreement.Exchange.Stages.{remains, stage, modeNumber, other-mode, InCom, remaining}
 use Rattle.replication.proofs.Agreement.Exchange.Endings.{ends-decide}
-use Rattle.replication.proofs.Agreement.Exchange.Phases.{settled-step}
 use Rattle.replication.proofs.Agreement.Exchange.SameStates.{still-here}
-use Rattle.replication.proofs.Agreement.Contents.Logs.{ends-log, MemoryStep, still, moved, acting}
+use Rattle.replication.proofs.Agreement.Contents.Logs.{ends-log, acting}
 use Rattle.replication.proofs.Agreement.Contents.Sent.{inside-stay}
 
 -- ---- one step
@@ -107,18 +99,6 @@ module _ {s : Server} where
   stored-marks (L.holds p c) h k w = not-both h
   stored-marks L.recovers h k w = not-both k
 
-  -- In Non_prim no green list changes.
-  pub settled-green : {r : Record} {t : Server} {rs : List Record} {b : Bool} → Transition s r t rs b → s .membership .mode ≡ Non-prim → t .log .green ≡ s .log .green
-  unfolding modeNumber
-  settled-green {r} {t} x h = go (green-changes s x)
-    where
-      go : GreenChange s r t → t .log .green ≡ s .log .green
-      go (G.unchanged e) = e
-      go (G.delivered a m e f) = other-mode h m (λ z. omega arith)
-      go (G.resent k p a m e f g) = other-mode h m (λ z. omega arith)
-      go (G.installed k i m e f g) = other-mode h m (λ z. omega arith)
-      go (G.installedLate a m e f) = other-mode h m (λ z. omega arith)
-
 -- ---- a stay
 
 module _ {n q : ℕ} {l : Run} (A : Allowed n q l) where
@@ -129,49 +109,6 @@ module _ {n q : ℕ} {l : Run} (A : Allowed n q l) where
     pub before : stage (membershipAt n q l y i .mode) ≤ 1
     pub late : 2 ≤ stage (membershipAt n q l (suc y) i .mode)
     pub whole : membershipAt n q l (suc y) i .mode ≡ Non-prim → membershipAt n q l (suc y) i .transitional ≡ none
-
-  -- The server i has at y what the end of its exchange in c left: the green list, and at least the cuts.
-  pub record HasEnded (y i : ℕ) (c : Configuration) : Type 0 where
-    pub place : ℕ
-    pub earlier : place < y
-    pub ended : EndedAt place i c
-    pub green : memoryAt n q l y i .log .green ≡ memoryAt n q l (suc place) i .log .green
-    pub cuts : (d : ℕ) → cut (memoryAt n q l (suc place) i .log) d ≤ cut (memoryAt n q l y i .log) d
-
-  module _ (i : ℕ) (c : Configuration) where
-    abbrev Past : ℕ → Type 0
-    Past y = membershipAt n q l y i .mode ≡ Non-prim → membershipAt n q l y i .transitional ≡ none → HasEnded y i c
-
-    onward : (y : ℕ) → InCom n q l y i c → (Falls n q l y i → ⊥) → ((d : Configuration) → Takes n q l y i d → ⊥) → membershipAt n q l y i .mode ≡ Non-prim
-        → Past y → MemoryStep A y i → Past (suc y)
-    onward y a f g m h (still e o) u v =
-        let x = h m (ap (λ s. s .membership .transitional) (sym e) ∙ v) in
-        record {
-          place = x .place;
-          earlier = omega (arith, x .earlier);
-          ended = x .ended;
-          green = ap (λ s. s .log .green) e ∙ x .green;
-          cuts = λ d. omega (arith, x .cuts d, ap (λ s. cut (s .log) d) e);
-        }
-    onward y a f g m h (moved w) u v =
-        let k = remaining g f (w .by .event) (acting A w) in
-        let x = h m (regular (settled-step (acts-membership A y i w) k m)) in
-        record {
-          place = x .place;
-          earlier = omega (arith, x .earlier);
-          ended = x .ended;
-          green = ap (λ s. s .log .green) (w .memory-next) ∙ settled-green (w .moves) m ∙ x .green;
-          cuts = λ d. omega (arith, x .cuts d, ap (λ s. cut (s .log) d) (w .memory-next), transition-grows (w .moves) .cuts d);
-        }
-      where
-        regular : (membershipAt n q l (suc y) i .mode ≡ Non-prim)
-            × ((t : ℕ) → membershipAt n q l y i .transitional ≡ some t → (x : ℕ) × (membershipAt n q l (suc y) i .transitional ≡ some x))
-            → membershipAt n q l y i .transitional ≡ none
-        regular z = go (membershipAt n q l y i .transitional) refl
-          where
-            go : (o : Option ℕ) → membershipAt n q l y i .transitional ≡ o → membershipAt n q l y i .transitional ≡ none
-            go none e = e
-            go (some t) e = none-some (sym v ∙ z .1 t e .1)
 
   -- ---- the ends as the agreement's terms have them
 
