@@ -1,3 +1,4 @@
+pub mod Apart
 pub mod Inversion
 pub mod Moves
 pub mod Logs

@@ -11,7 +11,7 @@ use Rattle.base.specs.Lists.{at, isThere}
 use Rattle.base.proofs.AtLaws.{none-some, some-same, at-in-take, at-map}
 use Rattle.format.specs.Types.{Record, regular, transitional, says}
 use Rattle.format.specs.Write.{write}
-use Rattle.replication.specs.Machine.Types.{Mode, Non-prim, Reg-prim, Trans-prim, Exchange-states, Exchange-actions, Construct, No, Un, Configuration, Server}
+use Rattle.replication.specs.Machine.Types.{Mode, Reg-prim, Exchange-states, Exchange-actions, Construct, Configuration, Server}
 use Rattle.replication.specs.Machine.Install.{install}
 use Rattle.replication.specs.Machine.Requests.{inRegular, sendsIn, sendsNow, numbered, sendHeld}
 use Rattle.replication.specs.Machine.Step.{entering, decided, attempting, withState, resending, oneMore, exchanged, withCpc}
@@ -22,6 +22,7 @@ use Rattle.replication.specs.Laws.Transitions.{Ends, Transition}
 use Rattle.replication.specs.Runs.Run.{Entry, event, crash, store, Run, placeAt, heardAt, putOut, sentAt}
 use Rattle.replication.specs.Runs.Happenings.{Comes, Takes}
 use Rattle.replication.specs.Runs.Allowed.{Allowed}
+use Rattle.replication.proofs.Step.Apart.{sends-in}
 use Rattle.replication.proofs.Runs.Places.{event-not-store, sent-by-store, event-entry, event-not-crash, of-event, sent-at, sent-past, sent-by-crash}
 use Rattle.replication.proofs.Runs.Shifts.{says-same, comes-once, comes-of, crash-says-nothing}
 use Rattle.replication.proofs.Runs.Modes.{Standing, standing-in, standing}
@@ -33,19 +34,16 @@ use Rattle.replication.proofs.Runs.AllowedTurns.{Acts, Refuses, Allowed
 
 -- ---- one step: what sends leaves the server in a regular configuration
 
+in-regular : (c : Option Configuration) (t : Option ℕ) → (isThere c and inRegular t) ≡ true → InRegular c t
+unfolding isThere inRegular _and_
+in-regular none t e = not-both e
+in-regular (some c) none e = record { configuration = c; there = refl; none-after = refl }
+in-regular (some c) (some x) e = not-both e
+
 sends-regular : (m : Mode) (c : Option Configuration) (t : Option ℕ) → sendsIn m (isThere c and inRegular t) ≡ true → (m ≡ Reg-prim → InRegular c t)
     → InRegular c t
-unfolding sendsIn isThere inRegular _and_
-sends-regular Non-prim none t e f = not-both e
-sends-regular Non-prim (some c) none e f = record { configuration = c; there = refl; none-after = refl }
-sends-regular Non-prim (some c) (some x) e f = not-both e
-sends-regular Reg-prim c t e f = f refl
-sends-regular Trans-prim c t e f = not-both e
-sends-regular Exchange-states c t e f = not-both e
-sends-regular Exchange-actions c t e f = not-both e
-sends-regular Construct c t e f = not-both e
-sends-regular No c t e f = not-both e
-sends-regular Un c t e f = not-both e
+unfolding sendsIn
+sends-regular m c t e f = sends-in m _ e (λ z. in-regular c t (ap (λ o. sendsIn o (isThere c and inRegular t)) (sym z) ∙ e)) f
 
 abbrev Sends : Server → List Record → Type 0
 Sends t rs = (rs ≡ []) ⊎ InRegular (t .membership .configuration) (t .membership .transitional)

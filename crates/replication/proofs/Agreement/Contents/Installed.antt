@@ -11,7 +11,7 @@ use Rattle.format.specs.Types.{Record}
 use Rattle.replication.specs.Machine.Types.{Mode, Non-prim, Reg-prim, Trans-prim, Exchange-states, Exchange-actions, Construct, No, Un, Configuration, Server}
 use Rattle.replication.specs.Machine.Exchange.{quorum, takenYellow, takenVotes, attempted}
 use Rattle.replication.specs.Machine.Install.{installLog, install}
-use Rattle.replication.specs.Machine.Requests.{sendsIn, sendsNow, numbered, hold, sendHeld}
+use Rattle.replication.specs.Machine.Requests.{sendsNow, numbered, hold, sendHeld}
 use Rattle.replication.specs.Machine.Step.{theSet, hereSet, collected, attempting, decided, withCpc, leave, greenAndNote}
 use Rattle.replication.specs.Machine.WellFormed.{idsIn}
 use Rattle.replication.specs.Laws.Transitions as L
@@ -28,7 +28,8 @@ use Rattle.replication.proofs.Runs.Stays.{membershipAt, in-stay, enteri
 use Rattle.replication.proofs.Runs.Progress.{stay-member}
 use Rattle.replication.proofs.Agreement.Terms as T
 use Rattle.replication.proofs.Agreement.Terms.{EndsAt, MarksAt, InstallsAt, AfterMarking}
-use Rattle.replication.proofs.Agreement.Exchange.Stages.{remains, stage, modeNumber, other-mode, InCom, remaining, stage-onward}
+use Rattle.replication.proofs.Step.Apart.{modeNumber, other-mode, sends-in}
+use Rattle.replication.proofs.Agreement.Exchange.Stages.{remains, stage, InCom, remaining, stage-onward}
 use Rattle.replication.proofs.Agreement.Exchange.Endings.{ends-decide}
 use Rattle.replication.proofs.Agreement.Exchange.Marked.{marked-here}
 use Rattle.replication.proofs.Agreement.Exchange.SameStates as S
@@ -55,17 +56,6 @@ attempts Un = true
 
 elsewhere : {X : Type 0} {m : Mode} (o : Mode) → m ≡ o → attempts o ≡ false → attempts m ≡ true → X
 elsewhere o e f h = not-both (sym f ∙ ap attempts (sym e) ∙ h)
-
-attempts-holds : (m : Mode) (b : Bool) → attempts m ≡ true → sendsIn m b ≡ false
-unfolding attempts sendsIn
-attempts-holds Non-prim b h = not-both h
-attempts-holds Reg-prim b h = not-both h
-attempts-holds Trans-prim b h = not-both h
-attempts-holds Exchange-states b h = not-both h
-attempts-holds Exchange-actions b h = not-both h
-attempts-holds Construct b h = refl
-attempts-holds No b h = refl
-attempts-holds Un b h = refl
 
 leads-attempts : {m o : Mode} → Leads m o → attempts o ≡ true → attempts m ≡ true
 unfolding attempts
@@ -107,7 +97,7 @@ attempt-keeps (L.joinsMarked c e) k h w = not-both k
 attempt-keeps (L.joinsUnmarked c e) k h w = not-both k
 attempt-keeps (L.joinsYellow c e) k h w = not-both k
 attempt-keeps (L.leaves m o x e y) k h w = record { was = ap attempts e ∙ leads-attempts y w; log = refl; votes = refl }
-attempt-keeps (L.sends p c) k h w = not-both (sym (attempts-holds _ _ w) ∙ c)
+attempt-keeps (L.sends p c) k h w = sends-in _ _ c (λ e. elsewhere Non-prim e refl w) (λ e. elsewhere Reg-prim e refl w)
 attempt-keeps (L.holds p c) k h w = record { was = w; log = refl; votes = refl }
 attempt-keeps L.recovers k h w = not-both k
 

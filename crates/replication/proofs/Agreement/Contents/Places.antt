@@ -8,9 +8,9 @@ use mathlib.Core.Option.{none}
 use native.Mathlib.Omega.{arith}
 use Rattle.base.proofs.TestLaws.{not-both}
 use Rattle.format.specs.Types.{Record}
-use Rattle.replication.specs.Machine.Types.{Mode, Non-prim, Construct, Configuration, Server}
+use Rattle.replication.specs.Machine.Types.{Non-prim, Construct, Configuration, Server}
 use Rattle.replication.specs.Machine.Install.{install}
-use Rattle.replication.specs.Machine.Requests.{sendsIn, sendsNow, numbered, sendHeld}
+use Rattle.replication.specs.Machine.Requests.{sendsNow, numbered, sendHeld}
 use Rattle.replication.specs.Machine.Exchange.{quorum}
 use Rattle.replication.specs.Machine.Step.{theSet, hereSet, collected, attempting, decided, withState, oneMore, exchanged, withCpc}
 use Rattle.replication.specs.Laws.Transitions as L
@@ -21,7 +21,8 @@ use Rattle.replication.specs.Runs.Allowed.{Allowed}
 use Rattle.replication.proofs.Step.Control.{yellow-membership}
 use Rattle.replication.proofs.Runs.Stays.{membershipAt, stay-transitional}
 use Rattle.replication.proofs.Agreement.Terms.{EndsAt, MarksAt}
-use Rattle.replication.proofs.Agreement.Exchange.Stages.{remains, stage, modeNumber, other-mode, InCom, remaining}
+use Rattle.replication.proofs.Step.Apart.{modeNumber, other-mode, sends-in}
+use Rattle.replication.proofs.Agreement.Exchange.Stages.{remains, stage, InCom, remaining}
 use Rattle.replication.proofs.Agreement.Exchange.Endings.{ends-decide}
 use Rattle.replication.proofs.Agreement.Exchange.SameStates.{still-here}
 use Rattle.replication.proofs.Agreement.Contents.Logs.{ends-log, acting}
@@ -33,10 +34,6 @@ ends-transitional : {t u : Server} {rs : List Record} → Ends t u rs → u .mem
 unfolding attempting decided sendHeld numbered
 ends-transitional (L.withQuorum h) = refl
 ends-transitional (L.withoutQuorum h) = refl
-
-construct-holds : (m : Mode) (b : Bool) → m ≡ Construct → sendsIn m b ≡ false
-unfolding sendsIn
-construct-holds m b e = ap (λ o. sendsIn o b) e
 
 module _ {s : Server} where
   -- An event of a stay that stores does not bring a transitional configuration.
@@ -95,7 +92,7 @@ module _ {s : Server} where
   stored-marks (L.joinsUnmarked c e) h k w = not-both k
   stored-marks (L.joinsYellow c e) h k w = not-both k
   stored-marks (L.leaves m o x e y) h k w = not-both h
-  stored-marks (L.sends p c) h k w = not-both (sym (construct-holds _ _ w) ∙ c)
+  stored-marks (L.sends p c) h k w = sends-in _ _ c (λ e. other-mode w e (λ z. omega arith)) (λ e. other-mode w e (λ z. omega arith))
   stored-marks (L.holds p c) h k w = not-both h
   stored-marks L.recovers h k w = not-both k
 

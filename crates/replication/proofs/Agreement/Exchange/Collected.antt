@@ -25,7 +25,8 @@ use Rattle.replication.proofs.Runs.Progress.{Progress, progress-in, sta
 use Rattle.replication.proofs.Runs.Memberships as M
 use Rattle.replication.proofs.Runs.Memberships.{everyStateIn, Completes, MembershipStep}
 use Rattle.replication.proofs.Runs.Stays.{membershipAt, stay-configuration}
-use Rattle.replication.proofs.Agreement.Exchange.Stages.{remains, stage, modeNumber, other-mode, InCom, KeptInStay}
+use Rattle.replication.proofs.Step.Apart.{modeNumber, other-mode}
+use Rattle.replication.proofs.Agreement.Exchange.Stages.{remains, stage, InCom, KeptInStay}
 
 -- ---- which States each event of a stay leaves
 

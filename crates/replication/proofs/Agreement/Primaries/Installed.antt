@@ -26,7 +26,8 @@ use Rattle.replication.proofs.Runs.Stays.{membershipAt}
 use Rattle.replication.proofs.Agreement.Terms.{MarksAt, InstallsAt}
 use Rattle.replication.proofs.Agreement.Exchange.Installs.{Installing, on-cpc, on-action, installs-on, installs-here, all-marked}
 use Rattle.replication.proofs.Agreement.Exchange.Phases.{settled-step}
-use Rattle.replication.proofs.Agreement.Exchange.Stages.{remains, stage, modeNumber, other-mode, InCom, onward, stage-onward}
+use Rattle.replication.proofs.Step.Apart.{modeNumber, other-mode}
+use Rattle.replication.proofs.Agreement.Exchange.Stages.{remains, stage, InCom, onward, stage-onward}
 use Rattle.replication.proofs.Agreement.Primaries.Parts.{InRegPrim, InTransPrim}
 use Rattle.replication.proofs.Agreement.Primaries.Phases.{primary-phase}
 use Rattle.replication.proofs.Agreement.Primaries.Steps.{beforeInstall, EarlyStep, goes-on, reddens, settles, installs, installs-late, leaves, early-step}

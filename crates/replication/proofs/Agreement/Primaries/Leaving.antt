@@ -30,7 +30,8 @@ use Rattle.replication.proofs.Runs.Sending.{regular-acts}
 use Rattle.replication.proofs.Runs.Stays.{membershipAt, placed-up, acts-membership}
 use Rattle.replication.proofs.Agreement.Terms.{InstallsAt}
 use Rattle.replication.proofs.Agreement.Exchange.Leaving.{none-leaves-late}
-use Rattle.replication.proofs.Agreement.Exchange.Stages.{modeNumber, other-mode, InCom}
+use Rattle.replication.proofs.Step.Apart.{modeNumber, other-mode}
+use Rattle.replication.proofs.Agreement.Exchange.Stages.{InCom}
 use Rattle.replication.proofs.Agreement.Primaries.Acted.{acted-grows, acted-still, acted-whole, acted-agreement, acted-left}
 use Rattle.replication.proofs.Agreement.Primaries.Installed.{AfterInstall, in-regular, in-transitional, after-install, none-settled, MemberPhase, not-yet, installed, member-phase}
 use Rattle.replication.proofs.Agreement.Primaries.Terms.{begins-nothing, base, cutsOf, regularly, inCom}
