@@ -98,12 +98,6 @@ at-map f [] p y e = none-some e
 at-map f (x ∷ l) zero y e = (x, refl, sym (some-same e))
 at-map f (x ∷ l) (suc p) y e = at-map f l p y e
 
-pub map-at : {A B : Type 0} (f : A → B) (l : List A) (p : ℕ) (x : A) → at l p ≡ some x → at (map f l) p ≡ some (f x)
-unfolding at
-map-at f [] p x e = none-some e
-map-at f (y ∷ l) zero x e = ap some (ap f (some-same e))
-map-at f (y ∷ l) (suc p) x e = map-at f l p x e
-
 -- ---- maps
 
 -- A map changed at i, looked at in j.

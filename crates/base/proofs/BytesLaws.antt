@@ -4,10 +4,10 @@ use Prim.Native.Nat.{ℕ, zero, suc, _+_, _*_, _/_, _%_, _^_, _≤_, _<_}
 use mathlib.Core.Path.{_≡_, refl, sym, ap, ap₂, _∙_}
 use mathlib.Core.Bool.{true}
 use mathlib.Core.List.{List, [], _∷_, _++_, append-assoc}
-use native.Mathlib.Nat.{add-assoc, add-zero, zero-add, suc-mul, pow-suc, div-lt-iff-lt-mul, mul-le-mul-right}
+use native.Mathlib.Nat.{add-assoc, add-zero, zero-add, pow-suc, div-lt-iff-lt-mul, mul-le-mul-right}
 use native.Mathlib.Omega.{arith}
 use lib.ListN.{length, getD, take, drop, length-append, length-take, length-drop, List·getD-append}
-use lib.Seq.{drop-at, drop-drop, take-add, take-append-seam, getD-append-add, getD-at, getD-take, getD-drop, take-suc, drop-append-add}
+use lib.Seq.{drop-drop, take-add, getD-append-add, getD-at, getD-take, getD-drop, take-suc, drop-append-add}
 use mir.Syntax.{w8}
 use mir.Val.{Fits}
 use Rattle.base.specs.Tests.{_<?_}
@@ -43,23 +43,11 @@ unfolding joined
 joined-append [] ys = refl
 joined-append (x ∷ xs) ys = ap (λ (l : List _). x ++ l) (joined-append xs ys) ∙ sym (append-assoc x (joined xs) (joined ys))
 
-pub joined-length : {A : Type 0} (w : ℕ) (xs : List (List A)) → ((i : ℕ) → i < length xs → length (getD xs i []) ≡ w) → length (joined xs) ≡ length xs * w
-unfolding joined
-joined-length w [] h = omega arith
-joined-length w (x ∷ xs) h =
-    let first : length x ≡ w = h 0 (omega arith) in
-    let rest : length (joined xs) ≡ length xs * w = joined-length w xs (λ i l. h (suc i) (omega arith)) in
-    simp length-append (rw (first, rest, suc-mul) (omega arith))
-
 -- ---- parts of parts
 
 pub part-append : (m k : ℕ) (e : List ℕ) (at : ℕ) → partAt (m + k) e at ≡ partAt m e at ++ partAt k e (at + m)
 unfolding partAt
 part-append m k e at = take-add m k (drop at e) ∙ ap (λ (l : List ℕ). take m (drop at e) ++ take k l) (drop-drop m at e)
-
-pub part-at : (p x r : List ℕ) (at : ℕ) → length p ≡ at → partAt (length x) (p ++ (x ++ r)) at ≡ x
-unfolding partAt
-part-at p x r at h = ap (take (length x)) (drop-at p (x ++ r) at h) ∙ take-append-seam x r
 
 pub number-front : (w : ℕ) (x r : List ℕ) (at : ℕ) → at + w ≤ length x → numberAt w (x ++ r) at ≡ numberAt w x at
 unfolding numberAt
@@ -86,13 +74,6 @@ number-drop (suc w) e p at =
 pub part-behind : (m : ℕ) (p e : List ℕ) (at : ℕ) → partAt m (p ++ e) (length p + at) ≡ partAt m e at
 unfolding partAt
 part-behind m p e at = ap (take m) (drop-append-add p e at)
-
-pub numbers-behind : (w m : ℕ) (p e : List ℕ) (at : ℕ) → numbersAt w m (p ++ e) (length p + at) ≡ numbersAt w m e at
-unfolding numbersAt
-numbers-behind w zero p e at = refl
-numbers-behind w (suc m) p e at =
-    ap₂ {A = ℕ} {B = List ℕ} {C = List ℕ} (λ n l. n ∷ l) (number-behind w p e at)
-    (ap (λ (k : ℕ). numbersAt w m (p ++ e) k) (add-assoc (length p) at w) ∙ numbers-behind w m p e (at + w))
 
 -- A number depends on its own bytes only.
 pub number-part : (w : ℕ) (e : List ℕ) (at m : ℕ) → w ≤ m → numberAt w (partAt m e at) 0 ≡ numberAt w e at

@@ -2,17 +2,15 @@
 -- Assumes nothing.
 use Prim.Native.Nat.{ℕ, zero, suc, _≤_}
 use mathlib.Core.Path.{_≡_, refl, sym, ap, subst, _∙_}
-use mathlib.Core.Bool.{Bool}
-use mathlib.Core.List.{List, [], _∷_, _++_, map, map-append, append-assoc, append-cancel-left, cons≢nil, head-eq-of-cons-eq, tail-eq-of-cons-eq, List·Memᴰ, List·Memᴰ·head, Memᴰ·append-left, Memᴰ·append-right}
-use mathlib.Core.Logic.{_⊎_, inl, inr, ⊎-elim}
+use mathlib.Core.List.{List, [], _∷_, _++_, map, map-append, append-assoc, cons≢nil, head-eq-of-cons-eq, tail-eq-of-cons-eq, List·Memᴰ, List·Memᴰ·head, Memᴰ·append-left, Memᴰ·append-right}
+use mathlib.Core.Logic.{_⊎_, inl, inr}
 use mathlib.Core.Option.{Option, none, some}
 use native.Mathlib.Omega.{arith}
 use native.Mathlib.Decide.{decLe}
-use lib.ListN.{length, take, drop, take-append-drop, length-append, length-take}
+use lib.ListN.{length, take, drop, take-append-drop, length-append}
 use lib.Seq.{take-append-seam, take-all}
-use Rattle.base.specs.Lists.{filter, atFront, gather, gatherAll, Begins}
-use Rattle.base.proofs.Filters.{filter-append}
-use Rattle.base.proofs.Prefixes.{begins-same, begins-append, begins-trans, begins-length}
+use Rattle.base.specs.Lists.{atFront, gather, gatherAll, Begins}
+use Rattle.base.proofs.Prefixes.{begins-same, begins-append, begins-length}
 
 -- One of x and y begins the other.
 unfoldable pub Comparable : {A : Type 0} → List A → List A → Type 0
@@ -50,10 +48,6 @@ module _ {A : Type 0} where
   unfolding Begins
   begins-behind g x y h = (h .0, ap (λ z. g ++ z) (h .1) ∙ sym (append-assoc g x (h .0)))
 
-  pub behind-begins : (g x y : List A) → Begins (g ++ x) (g ++ y) → Begins x y
-  unfolding Begins
-  behind-begins g x y h = (h .0, append-cancel-left g y (x ++ h .0) (h .1 ∙ append-assoc g x (h .0)))
-
   -- The element that follows a beginning.
   pub next-member : (x y : List A) (a : A) → Begins (x ++ (a ∷ [])) y → List·Memᴰ a y
   next-member x y a h = begins-member (x ++ (a ∷ [])) y a h (Memᴰ·append-right x (List·Memᴰ·head refl))
@@ -82,13 +76,6 @@ module _ {A : Type 0} where
   unfolding Comparable
   begun-comparable x y h = inr h
 
-  pub comparable-same : (x y : List A) → x ≡ y → Comparable x y
-  comparable-same x y e = begins-comparable x y (begins-same x y (sym e))
-
-  pub comparable-swap : (x y : List A) → Comparable x y → Comparable y x
-  unfolding Comparable
-  comparable-swap x y h = ⊎-elim (λ p. inr p) (λ p. inl p) h
-
   -- Two beginnings of one list.
   pub beginnings-comparable : (x y z : List A) → Begins x z → Begins y z → Comparable x y
   unfolding Comparable
@@ -116,12 +103,6 @@ module _ {A : Type 0} where
 
   pub comparable-same-length : (x y : List A) → Comparable x y → length x ≡ length y → x ≡ y
   comparable-same-length x y h e = begins-same-length x y (comparable-shorter x y h (omega arith)) e
-
-  -- The beginning of one is comparable with the other.
-  pub comparable-shortened : (x y z : List A) → Begins x y → Comparable y z → Comparable x z
-  unfolding Comparable
-  comparable-shortened x y z p (inl h) = inl (begins-trans x y z p h)
-  comparable-shortened x y z p (inr h) = beginnings-comparable x z y p h
 
   -- Beside x with one more element.
   pub comparable-next : (x y : List A) (a : A) → Comparable y (x ++ (a ∷ [])) → Begins y x ⊎ Begins (x ++ (a ∷ [])) y
@@ -154,9 +135,6 @@ module _ {A : Type 0} where
   pub begins-within-take : (m : ℕ) (x y : List A) → Begins x y → length x ≤ m → Begins x (take m y)
   begins-within-take m x y h l = subst (λ z. Begins z (take m y)) (take-all m x l) (takes-begin m x y h)
 
-  pub takes-rise : (m k : ℕ) (x : List A) → m ≤ k → Begins (take m x) (take k x)
-  takes-rise m k x l = begins-within-take k (take m x) x (begins-take m x) (omega (arith, length-take m x))
-
 -- ---- beginnings of what is made of the elements
 
 front-append : {B : Type 0} (o : Option B) (x y : List B) → atFront o x ++ y ≡ atFront o (x ++ y)
@@ -187,12 +165,3 @@ module _ {A B : Type 0} where
   unfolding gatherAll
   gather-all-append f [] y = refl
   gather-all-append f (a ∷ x) y = ap (λ z. f a ++ z) (gather-all-append f x y) ∙ sym (append-assoc (f a) (gatherAll f x) (gatherAll f y))
-
-  pub begins-gather-all : (f : A → List B) (x y : List A) → Begins x y → Begins (gatherAll f x) (gatherAll f y)
-  unfolding Begins
-  begins-gather-all f x y h = (gatherAll f (h .0), ap (gatherAll f) (h .1) ∙ gather-all-append f x (h .0))
-
-module _ {A : Type 0} where
-  pub begins-filter : (t : A → Bool) (x y : List A) → Begins x y → Begins (filter t x) (filter t y)
-  unfolding Begins
-  begins-filter t x y h = (filter t (h .0), ap (filter t) (h .1) ∙ filter-append t x (h .0))

@@ -2,21 +2,12 @@
 -- Assumes nothing.
 use mathlib.Core.Path.{_≡_, refl, sym, ap, _∙_}
 use mathlib.Core.Bool.{Bool, true, false}
-use mathlib.Core.List.{List, [], _∷_, _++_, List·Memᴰ, List·Memᴰ·head, List·Memᴰ·tail}
+use mathlib.Core.List.{List, [], _∷_, List·Memᴰ, List·Memᴰ·head, List·Memᴰ·tail}
 use Rattle.base.specs.Tests.{pick}
 use Rattle.base.proofs.TestLaws.{pick-yes, pick-no, and-holds, both-yes, Known, holds, fails, known}
 use Rattle.base.specs.Lists.{all, filter}
 
 module _ {A : Type 0} where
-  pub filter-append : (t : A → Bool) (x y : List A) → filter t (x ++ y) ≡ filter t x ++ filter t y
-  unfolding filter pick
-  filter-append t [] y = refl
-  filter-append t (a ∷ x) y = go (known (t a)) (filter-append t x y)
-    where
-      go : Known (t a) → filter t (x ++ y) ≡ filter t x ++ filter t y → filter t (a ∷ (x ++ y)) ≡ filter t (a ∷ x) ++ filter t y
-      go (holds e) h = rw e (ap (λ z. a ∷ z) h)
-      go (fails e) h = rw e h
-
   pub filter-yes : (t : A → Bool) (a : A) (x : List A) → t a ≡ true → filter t (a ∷ x) ≡ a ∷ filter t x
   unfolding filter
   filter-yes t a x h = sym (pick-yes _ _ _ _ h refl)

@@ -1,7 +1,7 @@
 -- Where the elements of joined and gathered lists stand.
 -- Assumes nothing.
 use Prim.Native.Nat.{ℕ, zero, suc, _+_, _-_, _≤_, _<_}
-use mathlib.Core.Path.{_≡_, refl, sym, ap, subst, _∙_}
+use mathlib.Core.Path.{_≡_, refl, sym, ap, _∙_}
 use mathlib.Core.List.{List, [], _∷_, _++_, List·Memᴰ, List·Memᴰ·head, List·Memᴰ·tail}
 use mathlib.Core.Logic.{_⊎_, inl, inr}
 use mathlib.Core.Option.{Option, none, some}
@@ -9,7 +9,7 @@ use native.Mathlib.Omega.{arith}
 use native.Mathlib.Decide.{ℕ-discrete}
 use lib.ListN.{length}
 use Rattle.base.specs.Lists.{at, atFront, gather, gatherAll, after, above, below}
-use Rattle.base.proofs.AtLaws.{none-some, some-same, at-single}
+use Rattle.base.proofs.AtLaws.{none-some, at-single}
 use Rattle.base.proofs.ListLaws.{below-length}
 
 module _ {A : Type 0} where
@@ -37,12 +37,6 @@ module _ {A : Type 0} where
           → (at xs j ≡ some x) ⊎ ((k : ℕ) × (suc j ≡ length (y ∷ xs) + k) × (at ys k ≡ some x))
       go (inl h) = inl h
       go (inr h) = inr (h .0, omega (arith, h .1), h .2)
-
-  -- Each element stands somewhere.
-  pub among-at : (xs : List A) (x : A) → List·Memᴰ x xs → (j : ℕ) × (at xs j ≡ some x)
-  unfolding at
-  among-at (y ∷ xs) x (List·Memᴰ·head e) = (0, ap some (sym e))
-  among-at (y ∷ xs) x (List·Memᴰ·tail m) = let h = among-at xs x m in (suc (h .0), h .1)
 
 module _ {B : Type 0} (f : ℕ → Option B) where
   -- What is gathered of the numbers after k, at j: of the number i; what f makes of a lower number stands before it.

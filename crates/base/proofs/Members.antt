@@ -1,9 +1,9 @@
 -- Elements of lists: where filters and lists of options keep them, and where gathered ones come from.
 -- Assumes nothing.
 use Prim.Native.Nat.{ℕ, zero, suc}
-use mathlib.Core.Path.{_≡_, refl, sym, ap, subst, _∙_}
+use mathlib.Core.Path.{_≡_, refl, sym, ap, _∙_}
 use mathlib.Core.Bool.{Bool, true, false}
-use mathlib.Core.List.{List, [], _∷_, List·Memᴰ, List·Memᴰ·head, List·Memᴰ·tail, List·Memᴰ·not-nil, List·Memᴰ·cases-cons, List·Memᴰ·append-cases, Memᴰ·append-left, Memᴰ·append-right}
+use mathlib.Core.List.{List, [], _∷_, List·Memᴰ, List·Memᴰ·head, List·Memᴰ·tail, List·Memᴰ·not-nil, List·Memᴰ·cases-cons, List·Memᴰ·append-cases}
 use mathlib.Core.Logic.{⊎-elim}
 use mathlib.Core.Option.{Option, none, some, Option·none-ne-some, Option·some-injective}
 use lib.ListN.{getD}
@@ -98,9 +98,3 @@ module _ {A B : Type 0} where
   gathered-all-from f y [] m = absurd (List·Memᴰ·not-nil m)
   gathered-all-from f y (x ∷ l) m =
       ⊎-elim (λ p. (x, List·Memᴰ·head refl, p)) (λ p. let r = gathered-all-from f y l p in (r .0, List·Memᴰ·tail (r .1), r .2)) (List·Memᴰ·append-cases (f x) m)
-
-  -- What is made of an element is among what is gathered.
-  pub gathered-all : (f : A → List B) (x : A) (y : B) (l : List A) → List·Memᴰ x l → List·Memᴰ y (f x) → List·Memᴰ y (gatherAll f l)
-  unfolding gatherAll
-  gathered-all f x y (z ∷ l) (List·Memᴰ·head e) k = Memᴰ·append-left (gatherAll f l) (subst (λ w. List·Memᴰ y (f w)) e k)
-  gathered-all f x y (z ∷ l) (List·Memᴰ·tail m) k = Memᴰ·append-right (f z) (gathered-all f x y l m k)

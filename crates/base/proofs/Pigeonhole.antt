@@ -2,10 +2,8 @@
 -- Assumes nothing.
 use Prim.Native.Nat.{ℕ, zero, suc, _+_, _*_, _/_, _≤_, _<_}
 use mathlib.Core.Path.{_≡_, refl, sym, ap, _∙_}
-use mathlib.Core.List.{List}
 use native.Mathlib.Nat.{suc-mul, mul-le-mul-right, mul-add-div-right, div-eq-of-lt}
 use native.Mathlib.Omega.{arith}
-use lib.ListN.{length, getD}
 use Rattle.base.specs.Tests.{_=?_, pick}
 use Rattle.base.proofs.TestLaws.{pick-yes, pick-no, eq-holds, eq-fails, Known, holds, fails, known}
 
@@ -52,9 +50,6 @@ pigeonhole (suc k) (suc m) f b d = let fewer : k ≤ m = pigeonhole k m (instead
         go (changed p e) (kept p′ e′) q = d j k l (omega arith) (omega arith)
         go (kept p e) (changed p′ e′) q = d i k (omega arith) (omega arith) (omega arith)
         go (kept p e) (kept p′ e′) q = d i j h (omega arith) (omega arith)
-
-pub distinct-short : (l : List ℕ) (m : ℕ) → Below (length l) m (λ i. getD l i 0) → Differ (length l) (λ i. getD l i 0) → length l ≤ m
-distinct-short l m b d = pigeonhole (length l) m (λ i. getD l i 0) b d
 
 -- ---- the number a * q + b, with b below q, stands for the pair of a and b
 

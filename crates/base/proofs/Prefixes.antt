@@ -30,10 +30,6 @@ module _ {A : Type 0} where
   unfolding Begins
   begins-length x y p = omega (arith, ap length (p .1), length-append x (p .0))
 
-  -- A list that gains x and then y gains both.
-  pub gained-then : (g m n x y z : List A) → m ≡ g ++ x → n ≡ m ++ y → z ≡ x ++ y → n ≡ g ++ z
-  gained-then g m n x y z p q r = q ∙ ap (λ w. w ++ y) p ∙ append-assoc g x y ∙ ap (λ w. g ++ w) (sym r)
-
   -- What a list gained over its beginning.
   pub drop-beginning : (x z : List A) → drop (length x) (x ++ z) ≡ z
   drop-beginning [] z = refl

@@ -145,11 +145,6 @@ module _ (ws : List ℕ) (ps : List (List ℕ)) (b : List ℕ) (l : Laid ws ps b
         whole = laid-patched k y h e ∙ ap (λ (r : List ℕ). joined (set ps k y) ++ r) (sym (laid-rest k y h e));
       }
 
-  -- The same parts, and the same behind them.
-  pub laid-same : (qs : List (List ℕ)) (c : List ℕ) → Laid ws qs c → ps ≡ qs → drop (sum ws) b ≡ drop (sum ws) c → b ≡ c
-  laid-same qs c m e d =
-      l .whole ∙ ap₂ {A = List (List ℕ)} {B = List ℕ} {C = List ℕ} (λ xs r. joined xs ++ r) e d ∙ sym (m .whole)
-
 -- ---- a store inside a part
 
 drop-taken : (m w : ℕ) (l : List ℕ) → m ≤ length (take w l) → drop m (take w l) ++ drop w l ≡ drop m l

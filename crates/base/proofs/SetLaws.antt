@@ -1,6 +1,6 @@
 -- Laws of sets of servers: members of a union, of a common part and of a set with one more, inclusion by members, bounds.
 -- Assumes nothing.
-use Prim.Native.Nat.{ℕ, zero, suc, _-_, _<_, _/_, _%_, _^_, min, max}
+use Prim.Native.Nat.{ℕ, zero, suc, _<_, _/_, _%_, _^_, min, max}
 use mathlib.Core.Path.{_≡_, refl, sym, ap, ap₂, _∙_}
 use mathlib.Core.Bool.{Bool, true, false}
 use native.Mathlib.Nat.{mod-lt, div-add-mod', div-one, pow-succ', pow-zero, div-div-eq-div-mul, pow-le-pow-right, one-le-pow}
@@ -121,16 +121,6 @@ pub member-same : (t : Bool) (k s : ℕ) → inSet k s ≡ false → inSet k (pi
 unfolding pick _or_
 member-same true k s h = in-with-member k k s ∙ ap₂ {A = Bool} {B = Bool} {C = Bool} (λ u v. u or v) h (eq-yes k k refl)
 member-same false k s h = h
-
-pub in-everyone : (n k : ℕ) → k < n → inSet k (everyone n) ≡ true
-unfolding everyone
-in-everyone zero k h = absurd (omega arith)
-in-everyone (suc n) zero h =
-    let e : (2 ^ suc n - 1) % 2 ≡ 1 = omega (arith, pow-succ' 2 n, one-le-pow n 2 (omega arith)) in
-    in-set-zero (2 ^ suc n - 1) ∙ eq-yes _ 1 e
-in-everyone (suc n) (suc k) h =
-    let e : (2 ^ suc n - 1) / 2 ≡ 2 ^ n - 1 = omega (arith, pow-succ' 2 n, one-le-pow n 2 (omega arith)) in
-    rw (in-set-suc k (2 ^ suc n - 1), e) (in-everyone n k (omega arith))
 
 pub member-below : (n k s : ℕ) → s < 2 ^ n → inSet k s ≡ true → k < n
 member-below zero k s h m = let e : s ≡ 0 = omega arith in not-both (sym (in-empty k) ∙ (rw e at m))

@@ -9,5 +9,11 @@ use Rattle.base.specs.Tests.{_≤?_, _<?_, _=?_, _and_, _or_, pick}
 use Rattle.base.specs.Text.{ascii, digits, decimal}
 
 unfoldable pub opened : ℕ
-unfolding ones areBytes bytesOf bytesOfAll numberAt numbersAt partAt joined all any filter atFront present gather gatherAll after above below isThere at sum same upd everyAt inSet inside withMember size common union everyone _≤?_ _<?_ _=?_ _and_ _or_ pick ascii digits decimal
+unfolding
+    ones
+    areBytes bytesOf bytesOfAll numberAt numbersAt partAt joined
+    all any filter atFront present gather gatherAll after above below isThere at sum same upd everyAt
+    inSet inside withMember size common union everyone
+    _≤?_ _<?_ _=?_ _and_ _or_ pick
+    ascii digits decimal
 opened = 0

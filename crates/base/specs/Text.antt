@@ -1,9 +1,9 @@
 -- Text as bytes: names, and numbers in decimal.
 -- Assumes nothing.
 use Prim.Native.Nat.{ℕ, zero, suc, _+_, _/_, _%_}
-use Prim.Native.Char.{Char, code}
+use Prim.Native.Char.{code}
 use Prim.Native.String.{String}
-use mathlib.Core.List.{List, [], _∷_, _++_}
+use mathlib.Core.List.{List, [], _∷_}
 
 -- The characters' codes; of ASCII, its bytes.
 unfoldable pub ascii : String → List ℕ

@@ -42,7 +42,8 @@ module _ (n q : ℕ) (l : Run) (x : Lending) where
   -- The daemons do what the machine does.
   pub record BuffersFollow : Type 0 where
     pub down : (p i : ℕ) → i < n → daemons p .down i ≡ worldAt n q l p .down i
-    pub state : (p i : ℕ) → i < n → daemons p .down i ≡ false → readImage (daemons p .buffers i .state) ≡ some (worldAt n q l p .images i .memory)
+    pub state : (p i : ℕ) → i < n → daemons p .down i ≡ false
+        → readImage (daemons p .buffers i .state) ≡ some (worldAt n q l p .images i .memory)
     pub store : (p i : ℕ) → i < n → readImage (daemons p .buffers i .store) ≡ some (worldAt n q l p .images i .store)
     -- Number, store word and buffers are the machine's answer; no event gets 7 or 8.
     pub answer : (p i k : ℕ) (e : List ℕ) → at l p ≡ some (event i e k)
@@ -77,4 +78,5 @@ module _ (n q : ℕ) (l : Run) (x : Lending) where
 
 -- Demand 3 on buffers: for any bytes in the lent buffers, if they are long enough.
 unfoldable pub BuffersDemand : Type 0
-BuffersDemand = (n q : ℕ) (l : Run) → AllowedWithStrays n q l → (x : Lending) → LongEnough n q l x → BuffersFollow n q l x × BuffersAgree n q l x
+BuffersDemand =
+    (n q : ℕ) (l : Run) → AllowedWithStrays n q l → (x : Lending) → LongEnough n q l x → BuffersFollow n q l x × BuffersAgree n q l x

@@ -17,8 +17,8 @@ pub record Daemons : Type 0 where
   pub buffers : ℕ → Buffers
   pub down : ℕ → Bool
 
--- The bytes that a run leaves open: each server's buffers at first, the outgoing buffer at each place, and what the state's buffer holds after a crash
--- at each place, since memory is lost.
+-- The bytes that a run leaves open: each server's buffers at first, the outgoing buffer at each place, and what the state's buffer holds after a
+-- crash at each place, since memory is lost.
 pub record Lending : Type 0 where
   pub first : ℕ → Buffers
   pub out : ℕ → List ℕ

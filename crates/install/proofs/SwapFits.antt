@@ -17,7 +17,7 @@ use Rattle.replication.specs.Machine.Types.{Log}
 use Rattle.replication.specs.Machine.Colours.{cut}
 use Rattle.replication.specs.Machine.WellFormed.{queue}
 use Rattle.replication.specs.Machine.WellFormedRanges.{ActionFits}
-use Rattle.replication.specs.Machine.WellFormedFacts.{heldCount}
+use Rattle.replication.proofs.WellFormed.Clauses.{heldCount}
 use Rattle.replication.proofs.WellFormed.Held.{held-parts, found-fact}
 use Rattle.replication.proofs.WellFormed.Logs.{LogFits}
 use Rattle.queue.specs.Queue.{position}

@@ -20,7 +20,7 @@ use Rattle.format.proofs.Lengths.{cuts-length}
 use Rattle.replication.specs.Machine.Types.{Log, Server, withLog}
 use Rattle.replication.specs.Machine.Colours.{cut, remove, enter}
 use Rattle.replication.specs.Machine.WellFormed.{queue}
-use Rattle.replication.specs.Machine.WellFormedFacts.{OwnListFits}
+use Rattle.replication.proofs.WellFormed.Clauses.{OwnListFits}
 use Rattle.replication.proofs.WellFormed.Ids.{same-id-yes, same-id-no}
 use Rattle.replication.proofs.WellFormed.Held.{remove-absent}
 use Rattle.replication.proofs.WellFormed.Logs.{ownId}

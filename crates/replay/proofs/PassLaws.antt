@@ -6,7 +6,7 @@ use mathlib.Core.Bool.{Bool, false}
 use mathlib.Core.List.{List, [], _++_, append-assoc}
 use native.Mathlib.Nat.{zero-add}
 use native.Mathlib.Omega.{arith}
-use lib.ListN.{length, take, drop, length-drop}
+use lib.ListN.{length, drop, length-drop}
 use Rattle.base.specs.Tests.{_<?_}
 use Rattle.base.proofs.TestLaws.{pick-lt, pick-ge, Known, holds, fails, known, lt-holds, lt-fails}
 use Rattle.base.specs.Bytes.{Bytes}

@@ -16,7 +16,7 @@ use Rattle.format.specs.Types.{Reading, says, refused}
 use Rattle.format.specs.Setup.{Setup, setupIn, setupFrameOk, setupOk, readSetup}
 use Rattle.replication.specs.Machine.Types.{Server, start}
 use Rattle.replication.specs.Images.{Images, started}
-use Rattle.replication.specs.Replay.{line, header, inputLine, setupLine, recordLength, tableAfter, lineFor, events, afterSetup, replay}
+use Rattle.replication.specs.Replay.{header, inputLine, setupLine, recordLength, tableAfter, lineFor, events, afterSetup, replay}
 use Rattle.servers.specs.declared.Server as declared
 use Rattle.servers.specs.Starting.{freshTable}
 use Rattle.servers.specs.Table.{altered}

@@ -1,6 +1,6 @@
 -- What the program prints of an input that comes in parts is what `replay` says.
 -- Assumes nothing.
-use Prim.Native.Nat.{ℕ, zero, suc, _+_, _-_, _≤_, _<_}
+use Prim.Native.Nat.{ℕ, zero, suc, _-_, _≤_}
 use mathlib.Core.Path.{_≡_, refl, sym, ap, subst, _∙_}
 use mathlib.Core.Bool.{Bool, true, false}
 use mathlib.Core.List.{List, [], _∷_, _++_, append-assoc, append-nil}
@@ -17,13 +17,12 @@ use Rattle.replication.specs.Replay.{header, setupLine, events, replay}
 use Rattle.servers.specs.declared.Server.{Server}
 use Rattle.servers.specs.Starting.{freshTable}
 use Rattle.replay.specs.declared.input.Setup.{Setup}
-use Rattle.replay.specs.declared.turns.Going.{Going}
 use Rattle.replay.specs.declared.turns.Going.the-variants.{On, Read, Stop}
 use Rattle.replay.specs.Input.{setupOf}
 use Rattle.replay.specs.Lines.{lineRoom}
 use Rattle.replay.specs.Turns.{Turned, turnOf}
 use Rattle.replay.specs.Passes as passes
-use Rattle.replay.specs.Passes.{Progress, behind, nextEvent, passFrom, passOf, partFrom, partOf, asksMore, partsFrom, printedOf, PrintsReplay}
+use Rattle.replay.specs.Passes.{Progress, nextEvent, passFrom, passOf, partFrom, partOf, asksMore, partsFrom, printedOf, PrintsReplay}
 use Rattle.replay.proofs.Goings.{on-read, on-stop, read-stop, Goes, on, read, stop, goes}
 use Rattle.replay.proofs.PassLaws.{from-full, from-on, from-end}
 use Rattle.replay.proofs.PartLaws.{part-on, part-end, part-fed, part-off}

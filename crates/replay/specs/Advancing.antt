@@ -37,8 +37,8 @@ pub data Reached (servers quota : ℕ) : (parts : List (List ℕ)) → (text : L
   goesOn : (parts : List (List ℕ)) (text : List ℕ) (s r : Standing) → Reached servers quota parts text s → s .more ≡ true
       → (a : Advanced servers s r) → (m : r .more ≡ true)
       → Reached servers quota (parts ++ (a .refilled m .read ∷ [])) (text ++ passesAt servers s .text) r
-  ends : (parts : List (List ℕ)) (text : List ℕ) (s r : Standing) → Reached servers quota parts text s → s .more ≡ true → Advanced servers s r
-      → r .more ≡ false → Reached servers quota parts (text ++ passesAt servers s .text) r
+  ends : (parts : List (List ℕ)) (text : List ℕ) (s r : Standing) → Reached servers quota parts text s → s .more ≡ true
+      → Advanced servers s r → r .more ≡ false → Reached servers quota parts (text ++ passesAt servers s .text) r
 
 pub record Served (servers quota : ℕ) (r : Standing) : Type 0 where
   pub parts : List (List ℕ)

@@ -3,7 +3,7 @@
 use Prim.Native.Nat.{ℕ, _+_, _-_}
 use mathlib.Core.Bool.{Bool}
 use mathlib.Core.List.{List, []}
-use lib.ListN.{length, getD, take, drop}
+use lib.ListN.{length, getD, take}
 use Rattle.base.specs.Bytes.{numberAt, partAt}
 use Rattle.engine.specs.Layout.{atMode, atQueueLength, atGreenLength, atLast}
 use Rattle.servers.specs.declared.Server.{Server}

@@ -1,3 +1,4 @@
+pub mod Apart
 pub mod Inversion
 pub mod Moves
 pub mod Logs
@@ -12,7 +13,6 @@ pub mod Taken
 pub mod Votes
 pub mod VotesOrder
 pub mod Modes
-pub mod Attempt
 pub mod Folds
 pub mod Yellows
 pub mod Reds
@@ -21,11 +21,8 @@ pub mod ModeColours
 pub mod Sending
 pub mod Parts
 pub mod OwnActions
-pub mod Held
-pub mod Shape
 pub mod Identity
 pub mod Rising
 pub mod Primary
-pub mod Configurations
 pub mod Kinds
 pub mod Noted

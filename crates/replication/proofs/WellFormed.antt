@@ -1,3 +1,4 @@
+pub mod Clauses
 pub mod SentFacts
 pub mod Ids
 pub mod Ranges

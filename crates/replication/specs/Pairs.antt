@@ -7,7 +7,7 @@ use mathlib.Core.List.{List, [], _∷_, map}
 use Rattle.base.specs.Lists.{above, below, filter}
 use Rattle.base.specs.Sets.{inSet}
 use Rattle.format.specs.Types.{Id, Action, State, retransmission}
-use Rattle.replication.specs.Machine.Types.{Log, Votes, withLog, withVotes, clearedMark, noYellow, start}
+use Rattle.replication.specs.Machine.Types.{Log, Votes, withLog, withVotes, withYellow, clearedMark, noYellow, start}
 use Rattle.replication.specs.Machine.Colours.{reds, greenIds}
 use Rattle.replication.specs.Machine.Plan.{ownPart}
 use Rattle.replication.specs.Machine.Exchange.{takenYellow, judgedMark, quorum}
@@ -27,7 +27,7 @@ abbrev pub lastPrimary : (set : ℕ) → Votes
 lastPrimary s = record { last = record { index = 1; attempt = 1; set = s }; attempt = 0; mark = clearedMark; yellow = noYellow }
 
 abbrev pub validYellow : List Id → Votes
-validYellow ds = record { last = record { index = 1; attempt = 1; set = 255 }; attempt = 0; mark = clearedMark; yellow = record { status = 1; ids = ds } }
+validYellow ds = withYellow (record { status = 1; ids = ds }) (lastPrimary 255)
 
 abbrev pub marked : (bits : ℕ) → Votes
 marked b = record {

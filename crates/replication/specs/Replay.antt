@@ -1,17 +1,18 @@
 -- Document 01, 'What `replay` prints': from the bytes on standard input to the bytes printed.
 -- Assumes nothing.
 use Prim.Native.Nat.{ℕ, zero, suc, _+_}
-use mathlib.Core.Bool.{Bool, true, false}
+use mathlib.Core.Bool.{true, false}
 use mathlib.Core.List.{List, [], _∷_, _++_, map}
 use mathlib.Core.Option.{Option, none, some}
-use lib.ListN.{length, take, drop, getD, set}
-use Rattle.base.specs.Tests.{_≤?_, _<?_, pick}
-use Rattle.base.specs.Bytes.{numberAt, joined}
+use lib.ListN.{length, take, drop, set}
+use Rattle.base.specs.Tests.{_≤?_, _<?_}
+use Rattle.base.specs.Bytes.{numberAt}
 use Rattle.base.specs.Lists.{below, at}
 use Rattle.base.specs.Text.{ascii, decimal}
 use Rattle.format.specs.Types.{Reading, says, refused}
 use Rattle.format.specs.Setup.{Setup, readSetup}
-use Rattle.replication.specs.Machine.Types.{Mode, Non-prim, Reg-prim, Trans-prim, Exchange-states, Exchange-actions, Construct, No, Un, Server, Outcome, taken, start}
+use Rattle.replication.specs.Machine.Types.{Mode, Non-prim, Reg-prim, Trans-prim, Exchange-states, Exchange-actions, Construct, No, Un}
+use Rattle.replication.specs.Machine.Types.{Server, Outcome, taken, start}
 use Rattle.replication.specs.Images.{Images, arrive, leftBy, started}
 
 -- ---- lines

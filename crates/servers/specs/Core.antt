@@ -64,3 +64,7 @@ afterStep s r = record {
 
 unfoldable pub coreOf : Server → List ℕ → Stepped
 coreOf s e = afterStep s (stepIn (buffersOf s) e (zeros outRoom))
+
+-- The event e makes the entry t of the entry s, and gives the reply r.
+abbrev pub Alters : Server → List ℕ → Server → Reply → Type 0
+Alters s e t r = (r ≡ coreOf s e .reply) × (t ≡ coreOf s e .server)

@@ -1,7 +1,7 @@
 // The servers of one program: one event at one server by value, and the table of servers, lent to one routine that alters the
 // named server's entry.
 ghost use mathlib.Core.Path.{_≡_};
-ghost use Rattle.servers.specs.Core.{coreOf};
+ghost use Rattle.servers.specs.Core.{coreOf, Alters};
 ghost use Rattle.servers.specs.Table.{altered, replied};
 
 pub mod starting; // starting.rt: the table at the start
@@ -69,10 +69,12 @@ pub fn core(s: Server, e: &[u8]) -> Stepped
 
 // One entry is lent: the core is called by value, and the new entry is stored.
 pub fn alter(s: &mut Server, e: &[u8]) -> Reply
-    ensures { λ r. ⌜ (r ≡ coreOf (now (s .entry)) (now (e .entry)) .reply) × (now (s .exit) ≡ coreOf (now (s .entry)) (now (e .entry)) .server) ⌝ }
+    ensures { λ r. ⌜ Alters (now (s .entry)) (now (e .entry)) (now (s .exit)) r ⌝ }
 {
-    let r = core(*s, e);
-    *s = r.server;
+    let old = *s;
+    let r = core(old, e);
+    let new = r.server;
+    *s = new;
     r.reply
 }
 

@@ -32,7 +32,8 @@ use Rattle.replication.specs.Machine.Rules.{memberOf, isOf}
 use Rattle.replication.specs.Machine.Step.{plannedNow, hereSet, theSet, collected}
 use Rattle.replication.specs.Machine.WellFormed.{idsIn, queue}
 use Rattle.replication.specs.Machine.WellFormedRanges.{idCount, PayloadFits, ActionFits}
-use Rattle.replication.specs.Machine.WellFormedFacts.{Configured, WellFormed}
+use Rattle.replication.specs.Machine.WellFormedFacts.{Configured}
+use Rattle.replication.proofs.WellFormed.Clauses.{WellFormed}
 use Rattle.replication.proofs.WellFormed.Facts.{held-index}
 use Rattle.replication.proofs.WellFormed.Ids.{each-counted, once-differ}
 use Rattle.replication.proofs.WellFormed.Ranges.{cuts-ok, sizes-ok, length-ok, set-ok, action-ok, primary-ok, mark-ok, ids-ok, state-ok, own-set-facts, ids-short}

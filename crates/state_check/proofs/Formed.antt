@@ -25,8 +25,9 @@ use Rattle.record.specs.declared.State.{State}
 use Rattle.replication.specs.Machine.Colours.{cut}
 use Rattle.replication.specs.Machine.Step.{plannedNow, hereSet, theSet, collected}
 use Rattle.replication.specs.Machine.WellFormed.{idsIn, queue}
-use Rattle.replication.specs.Machine.WellFormedRanges.{PayloadFits, ActionFits, LogRanges, VotesRanges, CollectedFits, MembershipRanges}
-use Rattle.replication.specs.Machine.WellFormedFacts.{HeldToCuts, OwnListFits, Configured, ModeFits, WellFormed}
+use Rattle.replication.specs.Machine.WellFormedRanges.{PayloadFits, ActionFits}
+use Rattle.replication.specs.Machine.WellFormedFacts.{Configured, ModeFits}
+use Rattle.replication.proofs.WellFormed.Clauses.{LogRanges, VotesRanges, CollectedFits, MembershipRanges, HeldToCuts, OwnListFits, WellFormed}
 use Rattle.replication.proofs.WellFormed.Ids.{counted-fact, differ-once}
 use Rattle.replication.proofs.WellFormed.Ranges.{cuts-facts, sizes-facts, length-facts, set-facts, primary-facts, mark-facts, ids-facts, state-facts}
 use Rattle.engine.specs.Layout.{slotSize, theCuts, theNoted, theHeld, theStates, theOwn, theQueue, stateLength}

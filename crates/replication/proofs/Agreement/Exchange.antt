@@ -21,4 +21,3 @@ pub mod NotRefused
 pub mod Leaving
 pub mod Facts
 pub mod SameDecision
-pub mod OwnMarks

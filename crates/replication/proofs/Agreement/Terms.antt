@@ -1,18 +1,16 @@
 -- The terms of the agreement proof, over one run: images, ends of exchanges, Installs; and what the exchange gives to the arguments on votes and green lists.
-use Prim.Native.Nat.{ℕ, suc, _+_, _≤_, _<_}
+use Prim.Native.Nat.{ℕ, suc, _<_}
 use mathlib.Core.Path.{_≡_}
-use mathlib.Core.Bool.{Bool, true, false}
-use mathlib.Core.List.{List}
-use mathlib.Core.Logic.{_⊎_}
-use mathlib.Core.Option.{Option, none, some}
+use mathlib.Core.Bool.{true, false}
+use mathlib.Core.Option.{none, some}
 use lib.ListN.{getD}
 use Rattle.base.specs.Sets.{inSet}
-use Rattle.format.specs.Types.{Primary, Mark, State}
+use Rattle.format.specs.Types.{Primary, State}
 use Rattle.replication.specs.Machine.Types.{Mode, Construct, No, Un, Reg-prim, Trans-prim, Configuration, Server}
 use Rattle.replication.specs.Machine.Exchange.{quorum}
-use Rattle.replication.specs.Machine.Step.{ownState, collected, allStatesIn, hereSet, installsBy}
+use Rattle.replication.specs.Machine.Step.{ownState, collected, allStatesIn, installsBy}
 use Rattle.replication.specs.Laws.Transitions.{Ends}
-use Rattle.replication.specs.Runs.Run.{Run, Place, worldAt, placeAt}
+use Rattle.replication.specs.Runs.Run.{Run, worldAt, placeAt}
 use Rattle.replication.specs.Runs.Happenings.{Takes, Falls}
 use Rattle.replication.proofs.Runs.AllowedTurns.{memoryAt, storeAt, Acts}
 

@@ -12,5 +12,4 @@ pub mod Attempts
 pub mod Present
 pub mod Kept
 pub mod Unique
-pub mod Succession
 pub mod Primaries

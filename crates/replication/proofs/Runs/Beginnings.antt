@@ -66,9 +66,6 @@ module _ (n q : ℕ) (l : Run) (k : ℕ) where
   pub of-low : {p i : ℕ} → Of (take k l) p i → p < k
   of-low {p} x = at-in-take k l p _ (x .here) .0
 
-  pub crash-whole : (p i : ℕ) → Crashes (take k l) p i → Crashes l p i
-  crash-whole p i x = at-in-take k l p _ x .1
-
   pub comes-low : {p i : ℕ} {r : Record} → Comes n q (take k l) p i r → p < k
   comes-low {p} x = at-in-take k l p _ (x .here) .0
 
@@ -76,10 +73,6 @@ module _ (n q : ℕ) (l : Run) (k : ℕ) where
   comes-whole {p} {i} x =
       let h = at-in-take k l p _ (x .here) in
       record { bytes = x .bytes; sent = x .sent; here = h .1; heard = sym (heard-in p i (x .bytes) (omega (arith, h .0))) ∙ x .heard }
-
-  pub falls-whole : {p i : ℕ} → Falls n q (take k l) p i → Falls n q l p i
-  falls-whole {p} {i} (by-crash x) = by-crash (crash-whole p i x)
-  falls-whole (by-recovery x) = by-recovery (comes-whole x)
 
   -- ---- from the whole to the beginning
 

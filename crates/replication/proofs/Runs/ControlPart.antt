@@ -1,8 +1,7 @@
 -- The control part (last primary, attempt, mark, numbered) over a run: memory and store agree on it, and only an event that stores changes it.
 use Prim.Native.Nat.{ℕ, suc, _≤_}
-use mathlib.Core.Path.{_≡_, refl, sym, ap, subst, _∙_}
+use mathlib.Core.Path.{_≡_, refl, sym, ap, subst}
 use mathlib.Core.Bool.{Bool, true, false}
-use mathlib.Core.List.{List}
 use mathlib.Core.Logic.{_⊎_, inl, inr}
 use native.Mathlib.Omega.{arith}
 use Rattle.base.proofs.Chains.{chain}
@@ -10,7 +9,7 @@ use Rattle.replication.specs.Machine.Types.{Server, start}
 use Rattle.replication.specs.Machine.Requests.{recovered}
 use Rattle.replication.specs.Laws.Order.{SameControl, Grows}
 use Rattle.replication.specs.Laws.Transitions.{Transition}
-use Rattle.replication.specs.Runs.Run.{Run, worldAt}
+use Rattle.replication.specs.Runs.Run.{Run}
 use Rattle.replication.specs.Runs.Allowed.{Allowed}
 use Rattle.replication.proofs.Step.Control.{control-refl, control-trans, unstored-keeps, control-stored}
 use Rattle.replication.proofs.Step.Growth.{grows-refl, grows-trans, transition-grows, taken-grows}

@@ -1,18 +1,16 @@
 -- Every CPC that a server has collected came to it in its configuration, and was put out there by its sender at the end of its exchange.
-use Prim.Native.Nat.{ℕ, suc, _<_}
+use Prim.Native.Nat.{ℕ, suc}
 use mathlib.Core.Path.{_≡_, refl, sym, ap, subst, _∙_}
 use mathlib.Core.Bool.{true, false}
 use mathlib.Core.Option.{some}
 use native.Mathlib.Omega.{arith}
 use Rattle.base.specs.Tests.{_or_, _=?_}
 use Rattle.base.proofs.TestLaws.{not-both, eq-holds, Known, holds, fails, known}
-use Rattle.base.proofs.AtLaws.{some-same}
 use Rattle.base.specs.Sets.{inSet, withMember}
 use Rattle.base.proofs.SetLaws.{in-empty, in-with-member}
 use Rattle.format.specs.Types.{Record, cpc, regular}
 use Rattle.replication.specs.Machine.Types.{Construct, Configuration, Membership}
 use Rattle.replication.specs.Machine.Step.{theId, hereId}
-use Rattle.replication.proofs.WellFormed.SentFacts.{senderOf}
 use Rattle.replication.specs.Laws.Votes.{EndsExchange}
 use Rattle.replication.specs.Runs.Run.{Run, placeAt}
 use Rattle.replication.specs.Runs.Happenings.{isMessage, Comes}
@@ -23,7 +21,7 @@ use Rattle.replication.proofs.Runs.Sending.{Puts}
 use Rattle.replication.proofs.Runs.PutRecords.{alone-first}
 use Rattle.replication.proofs.Runs.Memberships as M
 use Rattle.replication.proofs.Runs.Memberships.{Completes, MembershipStep}
-use Rattle.replication.proofs.Runs.StateOrigins.{puts-among, puts-by, puts-configuration, Came, came-later, came-now, came-from}
+use Rattle.replication.proofs.Runs.StateOrigins.{puts-among, puts-by, puts-configuration, Came, came-later, came-now}
 use Rattle.replication.proofs.Runs.Stays.{membershipAt, in-stay, StayStep, rested, refused, took, stay-step, entering-membership}
 
 pub data CpcsChange (m : Membership) (r : Record) (o : Membership) : Type 0 where
@@ -102,18 +100,4 @@ module _ {n q : ℕ} {l : Run} (A : Allowed n q l) where
         record { act = u .act; ended = h .ended; constructs = ap (λ s. s .membership .mode) (u .act .memory-next) ∙ h .to },
         h .configuration ∙ ap theId (puts-configuration A u),
         alone-first (u .act .by .records) _ j _ (h .alone) (u .record-there),
-      )
-
-  -- Every CPC that a server has collected was put out by its sender, a member, at the end of its exchange in that configuration.
-  pub cpcs-attempted : (i : ℕ) (c : Configuration) (p : ℕ) → placeAt n q l i p .regular ≡ some c → (j : ℕ) → inSet j (membershipAt n q l p i .cpcs) ≡ true
-      → (v : ℕ) × Attempted v j c × (v < p) × (inSet j (c .set) ≡ true)
-  unfolding senderOf
-  cpcs-attempted i c p a j e =
-      let h = cpcs-came i c p a j e in
-      let o = came-from A (h .1) in
-      let z : o .sender ≡ j = some-same (sym (o .named)) in (
-        o .sending,
-        subst (λ k. Attempted (o .sending) k c) z (cpc-attempted (o .puts) .0),
-        o .earlier,
-        subst (λ k. inSet k (c .set) ≡ true) z (o .member),
       )

@@ -1,7 +1,7 @@
 -- The images of a server at a place of a run are those after some events: what holds after any events holds at every place.
 use Prim.Native.Nat.{ℕ, zero, suc}
 use mathlib.Core.Path.{_≡_, refl, sym, ap, subst, _∙_}
-use mathlib.Core.Bool.{Bool, false}
+use mathlib.Core.Bool.{Bool}
 use mathlib.Core.List.{List, [], _∷_, _++_}
 use mathlib.Core.Option.{Option, none, some}
 use Rattle.format.specs.Types.{Action}
@@ -10,7 +10,7 @@ use Rattle.replication.specs.Machine.Step.{step}
 use Rattle.replication.specs.Images.{Images, started, arrive, leftBy, savedIn, lived}
 use Rattle.replication.specs.Laws.Images.{OfBoth}
 use Rattle.replication.specs.Runs.Run.{Run, beginning, worldAt}
-use Rattle.replication.proofs.Step.Lifts.{lived-each, lived-pair}
+use Rattle.replication.proofs.Step.Lifts.{lived-each}
 use Rattle.replication.proofs.Runs.Places.{world-at-start}
 use Rattle.replication.proofs.Runs.Turns.{Turn, rests, crashes, saves, refuses, acts, turn}
 
@@ -57,11 +57,3 @@ module _ (n q : ℕ) (l : Run) where
       → (i : ℕ) → P (start n q i) → (p : ℕ) → OfBoth P (worldAt n q l p .images i)
   unfolding started
   each-at-place P kept i s = at-place (OfBoth P) i (λ es. lived-each P kept (started (start n q i)) es (record { memory = s; store = s }))
-
-  -- A relation of the store to the memory that every event without a store keeps.
-  pub pair-at-place : (Q : Server → Server → Type 0) → ((s : Server) → Q s s)
-      → ((u s : Server) (e : List ℕ) (t : Server) (bs : List (List ℕ)) (g : List Action) → step s e ≡ taken t bs false g → Q u s → Q u t)
-      → (i p : ℕ) → Q (worldAt n q l p .images i .store) (worldAt n q l p .images i .memory)
-  unfolding started
-  pair-at-place Q same unstored i =
-      at-place (λ x. Q (x .store) (x .memory)) i (λ es. lived-pair Q same unstored (started (start n q i)) es (same (start n q i)))

@@ -5,7 +5,7 @@ use mathlib.Core.Bool.{true}
 use Rattle.format.specs.Range.{sizesOk}
 use Rattle.replication.specs.Machine.Types.{Server, start}
 use Rattle.replication.specs.Machine.WellFormed.{wellFormed}
-use Rattle.replication.specs.Machine.WellFormedFacts.{Invariant}
+use Rattle.replication.proofs.WellFormed.Clauses.{Invariant}
 use Rattle.replication.specs.Laws.Images.{OfBoth}
 use Rattle.replication.specs.Laws.Order.{SameServer}
 use Rattle.replication.specs.Runs.Run.{Run, worldAt}

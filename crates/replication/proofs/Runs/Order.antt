@@ -13,7 +13,7 @@ use Rattle.format.specs.Range.{recordOk, fieldsOk, ownSetOk}
 use Rattle.format.proofs.Reading.{read-in-range}
 use Rattle.replication.specs.Machine.Types.{Configuration}
 use Rattle.replication.specs.Runs.Run.{Run, Place, heard, members, membersIn, placeAt, heardAt}
-use Rattle.replication.specs.Runs.Happenings.{Message, regularly, entry-at, sending-of, Of, Takes, Left, Sends, to-regular, Causes, in-turn, sends, in-order, before-next, through, causes}
+use Rattle.replication.specs.Runs.Happenings.{Message, regularly, entry-at, Of, Takes, Left, Sends, to-regular, in-turn, causes}
 use Rattle.replication.specs.Runs.Allowed.{Allowed}
 use Rattle.replication.proofs.Runs.Shifts.{comes-of}
 use Rattle.replication.proofs.Runs.Entries.{had}
@@ -31,11 +31,6 @@ taker-member t = let r = and-holds _ _ (and-holds _ _ (read-in-range _ (t .bytes
 -- A server that sends in a configuration is a member of it.
 pub sender-member : {n q : ℕ} {l : Run} {i : ℕ} {m : Message} {c : Configuration} → Sends n q l i m c → inSet i (c .set) ≡ true
 sender-member {n} {q} {l} {i} {m} {c} s = taker-member (had n q l (suc (m .sending)) i c (s .under) .took)
-
--- The message m is sent before m′, by one server.
-pub data SentBefore (m m′ : Message) : Type 0 where
-  in-earlier-event : m .sending < m′ .sending → SentBefore m m′
-  in-same-event : m .sending ≡ m′ .sending → m .number < m′ .number → SentBefore m m′
 
 module _ {n q : ℕ} {l : Run} (A : Allowed n q l) where
   -- The order number of a place.
@@ -75,15 +70,6 @@ module _ {n q : ℕ} {l : Run} (A : Allowed n q l) where
       → p < r → x < y
   configurations-ordered t u v w h =
       time-before (comes-of v) (comes-of w) (omega (arith, time-rises (comes-of t) (comes-of u) h, configuration-time t v, configuration-time u w))
-
-  -- Whoever delivers a message has delivered before it what its sender sent before it in that configuration.
-  pub own-order : {p i j : ℕ} {m m′ : Message} {c : Configuration} → Sends n q l i m c → Sends n q l i m′ c → SentBefore m m′ → Delivery A p j m′
-      → (x : ℕ) × Delivery A x j m × (x < p)
-  own-order {p} {i} {j} {m} {m′} {c} s t b d = A .causal p i i j m m′ c s t (go b) d
-    where
-      go : SentBefore m m′ → Causes n q l (A .source) (A .name) (sending-of m) (sending-of m′)
-      go (in-earlier-event h) = through (before-next i m (s .out) (s .mine) (t .mine) h) (sends m′ (t .out))
-      go (in-same-event e h) = in-order m m′ e h (t .out)
 
   members-regular : (c : Configuration) (x : Place) → x ≡ inRegularOf c → members x ≡ c .set
   unfolding members membersIn

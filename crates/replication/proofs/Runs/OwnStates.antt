@@ -13,10 +13,10 @@ use Rattle.base.specs.Sets.{inSet}
 use Rattle.format.specs.Types.{State, regular}
 use Rattle.replication.specs.Machine.Types.{Mode, Non-prim, Reg-prim, Trans-prim, Exchange-states, Exchange-actions, Construct, No, Un, Configuration}
 use Rattle.replication.specs.Machine.Step.{ownState, theSet, hereSet, allStatesIn}
-use Rattle.replication.specs.Machine.WellFormedRanges.{MembershipRanges}
+use Rattle.replication.proofs.WellFormed.Clauses.{MembershipRanges}
 use Rattle.replication.specs.Laws.Modes.{InRegular}
 use Rattle.replication.specs.Laws.Order.{SameControl, AtMost, inExchange, OwnStateTrue, hearing}
-use Rattle.replication.specs.Runs.Run.{Run, placeAt, worldAt}
+use Rattle.replication.specs.Runs.Run.{Run, placeAt}
 use Rattle.replication.specs.Runs.Happenings.{Comes, Falls, by-crash, by-recovery, Takes}
 use Rattle.replication.specs.Runs.Allowed.{Allowed}
 use Rattle.replication.proofs.Step.Formed.{every-state-in}

@@ -75,9 +75,6 @@ event-entry h = (cc, cc, cc)
 pub event-not-crash : {X : Type 0} {i j : ℕ} {e : List ℕ} {k : ℕ} → event i e k ≡ crash j → X
 event-not-crash h = let z : _≡_ {A = ℕ} 0 1 = cc in absurd (omega arith)
 
-pub crash-entry : {i j : ℕ} → crash i ≡ crash j → i ≡ j
-crash-entry h = cc
-
 -- One place is of one server.
 pub of-one : {l : Run} {p i j : ℕ} → Of l p i → Of l p j → i ≡ j
 of-one x y = sym (x .its) ∙ ap serverOf (some-same (sym (x .here) ∙ y .here)) ∙ y .its

@@ -12,7 +12,7 @@ use Rattle.base.specs.Sets.{inSet}
 use Rattle.format.specs.Types.{Record, transitional, recovery, regular}
 use Rattle.replication.specs.Machine.Types.{Configuration}
 use Rattle.replication.specs.Runs.Run.{event, store, Run, members, worldAt, placeAt, putOut, sentAt}
-use Rattle.replication.specs.Runs.Happenings.{Message, isMessage, Configured, entry-at, sending-of, Of, Crashes, Comes, Falls, Takes, Left, Sends, Delivers, Delivered, Passes, Causes}
+use Rattle.replication.specs.Runs.Happenings.{Message, isMessage, Configured, entry-at, sending-of, Crashes, Comes, Falls, Takes, Left, Sends, Delivers, Delivered, Passes, Causes}
 use Rattle.replication.specs.Runs.Allowed.{Allowed}
 use Rattle.replication.proofs.Runs.Beginnings as B
 use Rattle.replication.proofs.Runs.Deliveries.{delivered-where-sent, sent-before, delivered-before-leaving}

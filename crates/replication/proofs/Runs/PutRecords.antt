@@ -1,36 +1,24 @@
 -- Records put out: the number of one that is put out alone, and the states in which actions are put out.
 use Prim.Native.Nat.{ℕ}
-use mathlib.Core.Path.{_≡_, refl, sym, ap, subst, _∙_}
-use mathlib.Core.Bool.{Bool, true}
+use mathlib.Core.Path.{_≡_, sym, ap, subst, _∙_}
+use mathlib.Core.Bool.{Bool}
 use mathlib.Core.List.{List, [], _∷_, List·Memᴰ, List·Memᴰ·not-nil, List·Memᴰ·eq-of-singleton}
 use mathlib.Core.Logic.{_⊎_, inl, inr}
 use mathlib.Core.Option.{some}
 use native.Mathlib.Omega.{arith}
-use Rattle.base.proofs.TestLaws.{not-both}
 use Rattle.base.specs.Lists.{at}
 use Rattle.base.proofs.AtLaws.{at-single}
 use Rattle.format.specs.Types.{Action, State, Record, action}
-use Rattle.replication.specs.Machine.Types.{Mode, Non-prim, Reg-prim, Trans-prim, Exchange-states, Exchange-actions, Construct, No, Un, Log, Server}
-use Rattle.replication.specs.Machine.Requests.{sendsIn, sendsNow}
+use Rattle.replication.specs.Machine.Types.{Non-prim, Reg-prim, Log, Server}
+use Rattle.replication.specs.Machine.Requests.{sendsNow}
 use Rattle.replication.specs.Machine.Step.{collected}
 use Rattle.replication.specs.Laws.Sending as P
 use Rattle.replication.specs.Laws.Sending.{PutsOut, Resent}
+use Rattle.replication.proofs.Step.Apart.{sends-in}
 use Rattle.replication.proofs.Step.Parts.{part-resent}
 
 pub alone-first : (rs : List Record) (y : Record) (j : ℕ) (x : Record) → rs ≡ y ∷ [] → at rs j ≡ some x → j ≡ 0
 alone-first rs y j x e h = at-single y j x (ap (λ z. at z j) (sym e) ∙ h) .0
-
--- Requests are sent in Reg_prim and Non_prim.
-sends-in : (m : Mode) (b : Bool) → sendsIn m b ≡ true → (m ≡ Non-prim) ⊎ (m ≡ Reg-prim)
-unfolding sendsIn
-sends-in Non-prim b e = inl refl
-sends-in Reg-prim b e = inr refl
-sends-in Trans-prim b e = not-both e
-sends-in Exchange-states b e = not-both e
-sends-in Exchange-actions b e = not-both e
-sends-in Construct b e = not-both e
-sends-in No b e = not-both e
-sends-in Un b e = not-both e
 
 resent-no-action : {X : Type 0} (me : ℕ) (l : Log) (xs : List State) (a : Action) → Resent me l xs (action a) → X
 resent-no-action me l xs a (P.asGreen p b m f e) = let z : _≡_ {A = ℕ} 0 1 = cc in absurd (omega arith)
@@ -45,6 +33,6 @@ action-sent-in (P.stateOnEntry c e f g n) a m = let h = List·Memᴰ·eq-of-sing
 action-sent-in {t = t} (P.partOfPlan x e f g h i n) a m =
     resent-no-action (t .me) (t .log) (collected t) a (part-resent (t .me) (t .log) (collected t) (action a) (t .servers) m)
 action-sent-in (P.cpcOnAttempt e q f n) a m = let h = List·Memᴰ·eq-of-singleton m in let z : _≡_ {A = ℕ} 0 1 = cc in absurd (omega arith)
-action-sent-in {s} (P.requestAtOnce p e f g n) a m = subst (λ z. (z .mode ≡ Non-prim) ⊎ (z .mode ≡ Reg-prim)) (sym g) (sends-in (s .membership .mode) _ f)
+action-sent-in {s} (P.requestAtOnce p e f g n) a m = subst (λ z. (z .mode ≡ Non-prim) ⊎ (z .mode ≡ Reg-prim)) (sym g) (sends-in (s .membership .mode) _ f inl inr)
 action-sent-in (P.heldAfterExchange e q f n) a m = inl f
 action-sent-in (P.heldAfterInstall k i e f g h n) a m = inr h

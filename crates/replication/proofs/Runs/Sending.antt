@@ -11,7 +11,7 @@ use Rattle.base.specs.Lists.{at, isThere}
 use Rattle.base.proofs.AtLaws.{none-some, some-same, at-in-take, at-map}
 use Rattle.format.specs.Types.{Record, regular, transitional, says}
 use Rattle.format.specs.Write.{write}
-use Rattle.replication.specs.Machine.Types.{Mode, Non-prim, Reg-prim, Trans-prim, Exchange-states, Exchange-actions, Construct, No, Un, Configuration, Server}
+use Rattle.replication.specs.Machine.Types.{Mode, Reg-prim, Exchange-states, Exchange-actions, Construct, Configuration, Server}
 use Rattle.replication.specs.Machine.Install.{install}
 use Rattle.replication.specs.Machine.Requests.{inRegular, sendsIn, sendsNow, numbered, sendHeld}
 use Rattle.replication.specs.Machine.Step.{entering, decided, attempting, withState, resending, oneMore, exchanged, withCpc}
@@ -22,30 +22,28 @@ use Rattle.replication.specs.Laws.Transitions.{Ends, Transition}
 use Rattle.replication.specs.Runs.Run.{Entry, event, crash, store, Run, placeAt, heardAt, putOut, sentAt}
 use Rattle.replication.specs.Runs.Happenings.{Comes, Takes}
 use Rattle.replication.specs.Runs.Allowed.{Allowed}
+use Rattle.replication.proofs.Step.Apart.{sends-in}
 use Rattle.replication.proofs.Runs.Places.{event-not-store, sent-by-store, event-entry, event-not-crash, of-event, sent-at, sent-past, sent-by-crash}
 use Rattle.replication.proofs.Runs.Shifts.{says-same, comes-once, comes-of, crash-says-nothing}
 use Rattle.replication.proofs.Runs.Modes.{Standing, standing-in, standing}
 use Rattle.replication.proofs.Runs.Readings.{answer-refused}
-use Rattle.replication.proofs.Runs.Refusals.{regular-taken, transitional-taken}
+use Rattle.replication.proofs.Runs.Refusals.{regular-taken}
 use Rattle.replication.proofs.Runs.PlaceMoves.{placeOf}
 use Rattle.replication.proofs.Runs.Coupling.{coupled}
 use Rattle.replication.proofs.Runs.AllowedTurns.{Acts, Refuses, AllowedTurn, rests, crashes, saves, refuses, recovers, acts, allowed-turn}
 
 -- ---- one step: what sends leaves the server in a regular configuration
 
+in-regular : (c : Option Configuration) (t : Option ℕ) → (isThere c and inRegular t) ≡ true → InRegular c t
+unfolding isThere inRegular _and_
+in-regular none t e = not-both e
+in-regular (some c) none e = record { configuration = c; there = refl; none-after = refl }
+in-regular (some c) (some x) e = not-both e
+
 sends-regular : (m : Mode) (c : Option Configuration) (t : Option ℕ) → sendsIn m (isThere c and inRegular t) ≡ true → (m ≡ Reg-prim → InRegular c t)
     → InRegular c t
-unfolding sendsIn isThere inRegular _and_
-sends-regular Non-prim none t e f = not-both e
-sends-regular Non-prim (some c) none e f = record { configuration = c; there = refl; none-after = refl }
-sends-regular Non-prim (some c) (some x) e f = not-both e
-sends-regular Reg-prim c t e f = f refl
-sends-regular Trans-prim c t e f = not-both e
-sends-regular Exchange-states c t e f = not-both e
-sends-regular Exchange-actions c t e f = not-both e
-sends-regular Construct c t e f = not-both e
-sends-regular No c t e f = not-both e
-sends-regular Un c t e f = not-both e
+unfolding sendsIn
+sends-regular m c t e f = sends-in m _ e (λ z. in-regular c t (ap (λ o. sendsIn o (isThere c and inRegular t)) (sym z) ∙ e)) f
 
 abbrev Sends : Server → List Record → Type 0
 Sends t rs = (rs ≡ []) ⊎ InRegular (t .membership .configuration) (t .membership .transitional)
@@ -119,15 +117,6 @@ module _ {n q : ℕ} {l : Run} (A : Allowed n q l) where
       let s = coupled A p i (x .up) in
       regular-taken _ _ _ (x .number) (standing n q l i p .memory)
       (λ y. A .between p i c (y .configuration) t (sym (ap (λ w. w .regular) s) ∙ y .there) (sym (ap (λ w. w .transitional) s) ∙ y .none-after))
-      (answer-refused _ (x .bytes) _ (x .number) (x .refusal) (x .reads ∙ refused-change p i _ t x)))
-
-  pub transitional-acts : (p i s : ℕ) → Comes n q l p i (transitional s) → (x : Acts n q l p i) × (x .by .event ≡ transitional s)
-  unfolding isRecovery
-  transitional-acts p i s t =
-      comes-taken p i _ t refl
-      (λ x.
-      let c = coupled A p i (x .up) in
-      transitional-taken _ _ (x .number) (standing n q l i p .memory) (ap (λ w. w .transitional) c ∙ A .one-transitional p i s t)
       (answer-refused _ (x .bytes) _ (x .number) (x .refusal) (x .reads ∙ refused-change p i _ t x)))
 
   -- ---- what is sent

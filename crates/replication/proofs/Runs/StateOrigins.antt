@@ -155,11 +155,6 @@ module _ {n q : ℕ} {l : Run} (A : Allowed n q l) where
         member = subst (λ y. inSet (o .sender) (y .set) ≡ true) w (o .member);
       }
 
-  pub came-message : {p i : ℕ} {c : Configuration} {r : Record} (x : Came p i c r)
-      → (A .source (x .place) .sending ≡ came-from x .sending) × (A .source (x .place) .number ≡ came-from x .number)
-  unfolding came-from
-  came-message x = (refl, refl)
-
   abbrev StateCame : ℕ → ℕ → ℕ → Configuration → State → Type 0
   StateCame p i k c x = Came p i c (state x) × (k ≡ x .sender)
 

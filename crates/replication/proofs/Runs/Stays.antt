@@ -7,8 +7,8 @@ use Rattle.base.proofs.TestLaws.{not-both}
 use Rattle.base.proofs.AtLaws.{none-some, some-same}
 use Rattle.format.specs.Types.{regular}
 use Rattle.replication.specs.Machine.Types.{Configuration, Membership}
-use Rattle.replication.specs.Runs.Run.{Run, beginning, nowhere, worldAt, placeAt}
-use Rattle.replication.specs.Runs.Happenings.{isMessage, Of, Comes, Falls, by-crash, by-recovery, Takes}
+use Rattle.replication.specs.Runs.Run.{Run, nowhere, worldAt, placeAt}
+use Rattle.replication.specs.Runs.Happenings.{isMessage, Comes, Falls, by-crash, by-recovery, Takes}
 use Rattle.replication.specs.Runs.Allowed.{Allowed}
 use Rattle.replication.proofs.Runs.Places.{place-at-start}
 use Rattle.replication.proofs.Runs.Turns as T

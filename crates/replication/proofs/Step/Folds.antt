@@ -2,15 +2,14 @@
 use Prim.Native.Nat.{ℕ}
 use mathlib.Core.Path.{_≡_, refl, sym, ap, _∙_}
 use mathlib.Core.Bool.{true, false}
-use mathlib.Core.List.{List, [], _∷_, _++_, map, map-append, append-nil}
+use mathlib.Core.List.{List, [], _∷_, _++_, append-nil}
 use mathlib.Core.Option.{some}
 use Rattle.base.specs.Tests.{pick}
-use Rattle.base.proofs.TestLaws.{pick-yes, pick-no, Known, holds, fails, known}
-use Rattle.base.proofs.Prefixes.{gained-then}
-use Rattle.format.specs.Types.{Id, Action}
+use Rattle.base.proofs.TestLaws.{Known, holds, fails, known}
+use Rattle.format.specs.Types.{Action}
 use Rattle.replication.specs.Machine.Types.{Log, Server}
-use Rattle.replication.specs.Machine.Colours.{find, remove, cut, nextIndex, isNext, enter, red, promote, promoteFound, greenId, green, addId, joinYellow, yellow}
-use Rattle.replication.specs.Laws.Folds.{follows, cutsWith, cutsAfter, entered, addIds, greenAll, yellowAll, Greened, Yellowed}
+use Rattle.replication.specs.Machine.Colours.{find, remove, cut, nextIndex, isNext, enter, red, promote, promoteFound, greenId, green, joinYellow, yellow}
+use Rattle.replication.specs.Laws.Folds.{follows, cutsWith, cutsAfter, entered, addIds, Greened, Yellowed}
 use Rattle.replication.proofs.Step.Logs.{red-entered, red-ignored, yellow-as}
 use Rattle.replication.proofs.WellFormed.Ids.{same-id-yes}
 
@@ -78,61 +77,4 @@ unfolding cutsAfter
 cuts-append cuts [] y = refl
 cuts-append cuts (a ∷ x) y = cuts-append (cutsWith a cuts) x y
 
--- What is entered of x and then of y, by the cuts that x leaves.
-entered-then : (cuts next : List ℕ) (x y : List Action) → next ≡ cutsAfter cuts x → entered cuts (x ++ y) ≡ entered cuts x ++ entered next y
-entered-then cuts next x y e = rw e (entered-append cuts x y)
-
--- Greening x and then y is greening x ++ y.
-pub greened-then : (x y : List Action) (l m n : Log) → Greened x l m → Greened y m n → Greened (x ++ y) l n
-greened-then x y l m n p q = record {
-  green = gained-then (l .green) (m .green) (n .green) _ _ _ (p .green) (q .green) (entered-then (l .cuts) (m .cuts) x y (p .cuts));
-  red = q .red;
-  cuts = q .cuts ∙ ap (λ c. cutsAfter c y) (p .cuts) ∙ sym (cuts-append (l .cuts) x y);
-}
-
-pub green-all : (more : List Action) (l : Log) → l .red ≡ [] → Greened more l (greenAll more l)
-unfolding greenAll entered cutsAfter
-green-all [] l r = record { green = sym (append-nil (l .green)); red = r; cuts = refl }
-green-all (a ∷ more) l r = let p = green-one a l r in greened-then (a ∷ []) more l (green a l) _ p (green-all more (green a l) (p .red))
-
-add-ids-append : (x y ids : List Id) → addIds (x ++ y) ids ≡ addIds y (addIds x ids)
-unfolding addIds
-add-ids-append [] y ids = refl
-add-ids-append (d ∷ x) y ids = add-ids-append x y (addId d ids)
-
--- Yellowing x and then y is yellowing x ++ y.
-pub yellowed-then : (x y : List Action) (s t u : Server) → Yellowed x s t → Yellowed y t u → Yellowed (x ++ y) s u
-yellowed-then x y s t u p q =
-    let e = entered-then (s .log .cuts) (t .log .cuts) x y (p .cuts) in
-    record {
-      ids =
-          q .ids
-          ∙ ap (addIds (map (λ a. a .id) (entered (t .log .cuts) y))) (p .ids)
-          ∙ sym (add-ids-append (map (λ a. a .id) (entered (s .log .cuts) x)) (map (λ a. a .id) (entered (t .log .cuts) y)) (s .votes .yellow .ids))
-          ∙ ap (λ ds. addIds ds (s .votes .yellow .ids)) (sym (ap (map (λ a. a .id)) e ∙ map-append (λ (a : Action). a .id) (entered (s .log .cuts) x) (entered (t .log .cuts) y)));
-      status = q .status ∙ p .status;
-      green = q .green ∙ p .green;
-      red = gained-then (s .log .red) (t .log .red) (u .log .red) _ _ _ (p .red) (q .red) e;
-      cuts = q .cuts ∙ ap (λ c. cutsAfter c y) (p .cuts) ∙ sym (cuts-append (s .log .cuts) x y);
-    }
-
-pub yellow-all : (more : List Action) (s : Server) → Yellowed more s (yellowAll more s)
-unfolding yellowAll addIds entered cutsAfter
-yellow-all [] s = record { ids = refl; status = refl; green = refl; red = sym (append-nil _); cuts = refl }
-yellow-all (a ∷ more) s = yellowed-then (a ∷ []) more s (yellow a s) _ (yellow-one a s) (yellow-all more (yellow a s))
-
 -- ---- one action, with the test written out
-
-pub green-appends : (a : Action) (l : Log) → l .red ≡ [] → (green a l) .green ≡ pick (isNext l a) (l .green ++ (a ∷ [])) (l .green)
-unfolding promote enter pick
-green-appends a l r = go (known (isNext l a))
-  where
-    go : Known (isNext l a) → (green a l) .green ≡ pick (isNext l a) (l .green ++ (a ∷ [])) (l .green)
-    go (holds e) = rw (green-entered a l r e, e)
-    go (fails e) = rw (green-ignored a l r e, e)
-
-pub yellow-adds : (a : Action) (s : Server) → (yellow a s) .votes .yellow .ids ≡ pick (isNext (s .log) a) (addId (a .id) (s .votes .yellow .ids)) (s .votes .yellow .ids)
-unfolding joinYellow
-yellow-adds a s =
-    yellow-as (λ t. t .votes .yellow .ids ≡ pick (isNext (s .log) a) (addId (a .id) (s .votes .yellow .ids)) (s .votes .yellow .ids)) a s
-    (λ e. pick-yes _ _ _ _ e refl) (λ e. pick-no _ _ _ _ e refl)

@@ -12,7 +12,8 @@ use Rattle.replication.specs.Machine.Install.{idsUpTo}
 use Rattle.replication.specs.Machine.Step.{allStatesIn}
 use Rattle.replication.specs.Machine.WellFormed.{wellFormed}
 use Rattle.replication.specs.Machine.WellFormedRanges.{idCount}
-use Rattle.replication.specs.Machine.WellFormedFacts.{ModeFits, WellFormed}
+use Rattle.replication.specs.Machine.WellFormedFacts.{ModeFits}
+use Rattle.replication.proofs.WellFormed.Clauses.{WellFormed}
 use Rattle.replication.proofs.WellFormed.Ids.{counted-has, each-counted, each-up-to}
 use Rattle.replication.proofs.WellFormed.Modes.{all-in-ok}
 use Rattle.replication.proofs.WellFormed.Facts.{well-formed-facts, held-index}

@@ -7,16 +7,14 @@ use lib.ListN.{length}
 use Rattle.base.specs.Tests.{_=?_, _≤?_, _and_, pick}
 use Rattle.base.proofs.TestLaws.{eq-holds, Known, holds, fails, known}
 use Rattle.format.specs.Types.{Action, Record, retransmission}
-use Rattle.replication.specs.Machine.Types.{Exchange-actions, Log, Server, taken}
+use Rattle.replication.specs.Machine.Types.{Exchange-actions, Log, Server}
 use Rattle.replication.specs.Machine.Colours.{isNext, enter, red, reds, green, yellow}
 use Rattle.replication.specs.Machine.Install.{install}
 use Rattle.replication.specs.Machine.Requests.{numbered, hold, sendHeld, recovered}
-use Rattle.replication.specs.Machine.Step.{entering, decided, attempting, withState, resending, placed, oneMore, exchanged, withCpc, leave, greenAndNote, step}
+use Rattle.replication.specs.Machine.Step.{entering, decided, attempting, withState, resending, placed, oneMore, exchanged, withCpc, leave, greenAndNote}
 use Rattle.replication.specs.Laws.Transitions as L
 use Rattle.replication.specs.Laws.Transitions.{Ends, Transition}
 use Rattle.replication.specs.Laws.Greens.{GreenChange, unchanged, delivered, resent, installed, installedLate}
-use Rattle.replication.proofs.Step.Inversion.{taken-by}
-use Rattle.replication.proofs.Step.Moves.{moved}
 use Rattle.replication.proofs.Step.Logs.{red-entered, red-ignored, yellow-log}
 
 pub red-green : (a : Action) (l : Log) → (red a l) .green ≡ l .green
@@ -90,7 +88,3 @@ module _ (s : Server) where
   green-changes (L.sends q c) = unchanged refl
   green-changes (L.holds q c) = unchanged refl
   green-changes L.recovers = unchanged (reds-green (s .log .own) (s .log))
-
-  pub taken-green : (e : List ℕ) (t : Server) (bs : List (List ℕ)) (b : Bool) (g : List Action) (h : step s e ≡ taken t bs b g)
-      → GreenChange s (taken-by s e t bs b g h .event) t
-  taken-green e t bs b g h = green-changes (moved (taken-by s e t bs b g h) .0)

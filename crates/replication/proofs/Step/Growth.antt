@@ -7,14 +7,14 @@ use mathlib.Core.Option.{some}
 use native.Mathlib.Omega.{arith}
 use Rattle.base.proofs.Prefixes.{begins-refl, begins-trans, begins-more, begins-gained, set-rises}
 use Rattle.format.specs.Types.{Id, Action, Record}
-use Rattle.replication.specs.Machine.Types.{Log, Server, taken}
+use Rattle.replication.specs.Machine.Types.{Log, Server, taken, withOwn}
 use Rattle.replication.specs.Machine.Colours.{find, cut, isNext, enter, red, promote, green}
 use Rattle.replication.specs.Machine.Step.{greened, step}
 use Rattle.replication.specs.Laws.Transitions.{Transition}
 use Rattle.replication.specs.Laws.Order.{Grows}
 use Rattle.replication.proofs.Step.Inversion.{taken-by}
 use Rattle.replication.proofs.Step.Moves.{moved}
-use Rattle.replication.proofs.Step.Logs.{next-index, withOwn, on-red, on-green, on-transition}
+use Rattle.replication.proofs.Step.Logs.{next-index, on-red, on-green, on-transition}
 
 pub grows-refl : (l : Log) → Grows l l
 grows-refl l = record { greens = begins-refl (l .green); cuts = λ c. omega arith; numbers = omega arith }
@@ -35,7 +35,7 @@ unfolding promote cut
 grows-promote l d x m e p = record { greens = begins-more _ _ (x ∷ []) (p .greens); cuts = p .cuts; numbers = p .numbers }
 
 grows-own : (l : Log) (more : List Action) (k : ℕ) (m : Log) → Grows l m → Grows l (withOwn more k m)
-unfolding withOwn cut
+unfolding cut
 grows-own l more k m p = record { greens = p .greens; cuts = p .cuts; numbers = omega (arith, p .numbers) }
 
 pub red-grows : (a : Action) (l : Log) → Grows l (red a l)

@@ -1,5 +1,5 @@
 -- Which records a taken event puts out, kind by kind.
-use Prim.Native.Nat.{ℕ, _≤_}
+use Prim.Native.Nat.{ℕ}
 use mathlib.Core.Path.{_≡_, refl, sym, ap}
 use mathlib.Core.Bool.{Bool}
 use mathlib.Core.List.{List, [], _∷_, map, List·Memᴰ, List·Memᴰ·not-nil, List·Memᴰ·eq-of-singleton, Memᴰ·of-map}
@@ -19,10 +19,6 @@ other-kind x y e n = absurd (n (ap (λ r. kindNumber (kindOf r)) e))
 not-made : {X : Type 0} (s t : Server) (ps : List (List ℕ)) (x : Record) → List·Memᴰ x (map action (made s t ps)) → (kindNumber (kindOf x) ≡ 1 → ⊥) → X
 unfolding kindNumber kindOf
 not-made s t ps x m n = let k = Memᴰ·of-map action (made s t ps) m in other-kind x (action (k .0)) (sym (k .2)) n
-
-made-kind : (s t : Server) (ps : List (List ℕ)) (x : Record) → List·Memᴰ x (map action (made s t ps)) → kindNumber (kindOf x) ≤ 4
-unfolding kindNumber kindOf
-made-kind s t ps x m = let k = Memᴰ·of-map action (made s t ps) m in rw (← k .2) (omega arith)
 
 resent-kind : (me : ℕ) (l : Log) (xs : List State) (x : Record) → Resent me l xs x → kindNumber (kindOf x) ≡ 2
 unfolding kindNumber kindOf
@@ -68,14 +64,3 @@ module _ {s : Server} {r : Record} {t : Server} where
   cpc-sent (P.requestAtOnce p e f g n) k i m = not-made s t (p ∷ []) (cpc k i) m (λ z. omega arith)
   cpc-sent (P.heldAfterExchange e q f n) k i m = not-made s t (s .held) (cpc k i) m (λ z. omega arith)
   cpc-sent (P.heldAfterInstall j l e f g h n) k i m = not-made s t (s .held) (cpc k i) m (λ z. omega arith)
-
-  -- Only records of the kinds 1 to 4 are put out.
-  pub sent-kinds : {rs : List Record} {b : Bool} → PutsOut s r t rs b → (x : Record) → List·Memᴰ x rs → kindNumber (kindOf x) ≤ 4
-  unfolding kindNumber kindOf
-  sent-kinds (P.nothing b n) x m = absurd (List·Memᴰ·not-nil m)
-  sent-kinds (P.stateOnEntry c e f g n) x m = rw (List·Memᴰ·eq-of-singleton m) (omega arith)
-  sent-kinds (P.partOfPlan y e f g h i n) x m = omega (arith, resent-kind (t .me) (t .log) (collected t) x (part-resent (t .me) (t .log) (collected t) x (t .servers) m))
-  sent-kinds (P.cpcOnAttempt e q f n) x m = rw (List·Memᴰ·eq-of-singleton m) (omega arith)
-  sent-kinds (P.requestAtOnce p e f g n) x m = made-kind s t (p ∷ []) x m
-  sent-kinds (P.heldAfterExchange e q f n) x m = made-kind s t (s .held) x m
-  sent-kinds (P.heldAfterInstall k i e f g h n) x m = made-kind s t (s .held) x m

@@ -2,13 +2,13 @@
 use Prim.Native.Nat.{ℕ, _+_}
 use mathlib.Core.Path.{_≡_, refl, sym}
 use mathlib.Core.Bool.{Bool, true, false}
-use mathlib.Core.List.{List, [], _∷_, _++_}
+use mathlib.Core.List.{List, [], _∷_}
 use mathlib.Core.Option.{Option, none, some}
 use lib.ListN.{length}
 use Rattle.base.specs.Tests.{_and_, _=?_, _≤?_, pick}
 use Rattle.base.proofs.TestLaws.{pick-as, eq-holds, Known, holds, fails, known}
 use Rattle.format.specs.Types.{Id, Action, Record}
-use Rattle.replication.specs.Machine.Types.{Log, Server, withLog, withVotes}
+use Rattle.replication.specs.Machine.Types.{Log, Server, withLog, withVotes, withOwn}
 use Rattle.replication.specs.Machine.Colours.{find, cut, nextIndex, isNext, enter, red, reds, promote, promoteFound, greenId, greenIds, green, joinYellow, yellow}
 use Rattle.replication.specs.Machine.Install.{installLog, install}
 use Rattle.replication.specs.Machine.Requests.{numbered, madeOf, hold, sendHeld, recovered}
@@ -50,10 +50,6 @@ placed-as P k a l g i r = go (k =? length (l .green) + 1) (1 ≤? k and k ≤? l
     go true u = g
     go false true = i
     go false false = r
-
--- The log with more actions on the own list, and that many more numbered.
-unfoldable pub withOwn : List Action → ℕ → Log → Log
-withOwn more k l = record { green = l .green; red = l .red; cuts = l .cuts; own = l .own ++ more; numbered = l .numbered + k }
 
 module _ (P : Log → Type 0)
     (on-enter : (a : Action) (l : Log) → isNext l a ≡ true → P l → P (enter a l))
@@ -97,7 +93,7 @@ module _ (P : Log → Type 0)
 
     module _ (on-own : (more : List Action) (k : ℕ) (l : Log) → P l → P (withOwn more k l)) where
       pub on-numbered : (ps : List (List ℕ)) (s : Server) → P (s .log) → P ((numbered ps s) .log)
-      unfolding numbered withOwn
+      unfolding numbered
       on-numbered ps s p = on-own (madeOf ps s) (length ps) (s .log) p
 
       on-end : (t u : Server) (rs : List Record) → Ends t u rs → P (t .log) → P (u .log)

@@ -1,13 +1,11 @@
 -- Own actions are numbered on from those numbered before, carry the present green length, stand on the own list, and go out stored first;
 -- requests are sent or held.
-use Prim.Native.Nat.{ℕ, zero, suc, _+_, _≤_, _<_}
-use mathlib.Core.Path.{_≡_, refl, sym, ap, _∙_}
+use Prim.Native.Nat.{ℕ, _+_, _≤_, _<_}
+use mathlib.Core.Path.{_≡_, refl, ap}
 use mathlib.Core.Bool.{Bool, true}
 use mathlib.Core.List.{List, [], _∷_, map, List·Memᴰ, List·Memᴰ·head, List·Memᴰ·tail, List·Memᴰ·not-nil, List·Memᴰ·eq-of-singleton, Memᴰ·append-right, Memᴰ·of-map, Memᴰ·cast}
-use mathlib.Core.Option.{some, Option·none-ne-some, Option·some-injective}
 use native.Mathlib.Omega.{arith}
 use lib.ListN.{length}
-use Rattle.base.specs.Lists.{at}
 use Rattle.format.specs.Types.{Action, State, Record, action}
 use Rattle.replication.specs.Machine.Types.{Log, Server}
 use Rattle.replication.specs.Machine.Requests.{numberedFrom}
@@ -17,16 +15,6 @@ use Rattle.replication.specs.Laws.Sending.{made, Numbers, PutsOut, Own, 
 use Rattle.replication.proofs.Step.Parts.{part-resent}
 
 -- ---- actions numbered from k + 1 on
-
--- The action at place j has the index k + 1 + j.
-pub numbered-at : (me g k : ℕ) (ps : List (List ℕ)) (j : ℕ) (a : Action) → at (numberedFrom me g k ps) j ≡ some a
-    → (a .id .creator ≡ me) × (a .id .index ≡ k + 1 + j) × (a .greenLength ≡ g)
-unfolding numberedFrom at
-numbered-at me g k [] j a h = absurd (Option·none-ne-some a h)
-numbered-at me g k (p ∷ ps) zero a h =
-    let e = Option·some-injective _ a h in
-    (sym (ap (λ x. x .id .creator) e), sym (ap (λ x. x .id .index) e) ∙ omega arith, sym (ap (λ x. x .greenLength) e))
-numbered-at me g k (p ∷ ps) (suc j) a h = let r = numbered-at me g (k + 1) ps j a h in (r .0, omega (arith, r .1), r .2)
 
 numbered-in : (me g k : ℕ) (ps : List (List ℕ)) (a : Action) → List·Memᴰ a (numberedFrom me g k ps)
     → (a .id .creator ≡ me) × (k < a .id .index) × (a .id .index ≤ k + length ps) × (a .greenLength ≡ g)

@@ -1,6 +1,6 @@
 -- What each event does in a primary component.
 use Prim.Native.Nat.{ℕ}
-use mathlib.Core.Path.{_≡_, refl, sym, ap, subst, _∙_}
+use mathlib.Core.Path.{_≡_, refl, sym, subst, _∙_}
 use mathlib.Core.Bool.{Bool, true, false}
 use mathlib.Core.List.{List, [], append-nil}
 use Rattle.base.specs.Tests.{_=?_}
@@ -15,43 +15,26 @@ use Rattle.replication.specs.Laws.Modes.{ColourFacts, ColourFactsOf}
 use Rattle.replication.specs.Laws.Folds.{entered, cutsAfter}
 use Rattle.replication.specs.Laws.Primary as S
 use Rattle.replication.specs.Laws.Primary.{RegularStep, TransitionalStep}
+use Rattle.replication.proofs.Step.Apart.{modeNumber, other-mode, sends-in}
 use Rattle.replication.proofs.Step.Folds.{green-one, yellow-one}
 use Rattle.replication.proofs.Step.Control.{yellow-membership}
-
--- The states, numbered, so that two are told apart by a test.
-number : Mode → ℕ
-number Non-prim = 0
-number Reg-prim = 1
-number Trans-prim = 2
-number Exchange-states = 3
-number Exchange-actions = 4
-number Construct = 5
-number No = 6
-number Un = 7
-
-apart : {X : Type 0} (m n o : Mode) → o ≡ m → o ≡ n → (number m =? number n) ≡ false → X
-apart m n o p q f = absurd (eq-fails (number m) (number n) f (ap number (sym p ∙ q)))
 
 regular-sends : (m : Mode) (r : Bool) → m ≡ Reg-prim → sendsIn m r ≡ true
 unfolding sendsIn
 regular-sends m r e = rw e
 
-ending-holds : (m : Mode) (r : Bool) → m ≡ Trans-prim → sendsIn m r ≡ false
-unfolding sendsIn
-ending-holds m r e = rw e
-
 -- ---- Reg_prim
 
 module _ (s : Server) (here : s .membership .mode ≡ Reg-prim) (colours : ColourFactsOf s) where
-  not-here : {X : Type 0} (m : Mode) → s .membership .mode ≡ m → (number m =? 1) ≡ false → X
-  unfolding number
-  not-here m e f = apart m Reg-prim (s .membership .mode) e here f
+  not-here : {X : Type 0} (m : Mode) → s .membership .mode ≡ m → (modeNumber m =? 1) ≡ false → X
+  unfolding modeNumber
+  not-here m e f = other-mode e here (eq-fails (modeNumber m) 1 f)
 
   no-red : s .log .red ≡ []
   no-red = let p : ColourFacts Reg-prim (s .votes .yellow) (s .log .red) = subst (λ m. ColourFacts m (s .votes .yellow) (s .log .red)) here colours in p .1
 
   leads-regular : (r : Record) (m n : Mode) (x : ℕ) → r ≡ Record.transitional x → s .membership .mode ≡ m → Leads m n → RegularStep s r (leave n x s)
-  unfolding number _=?_ leave
+  unfolding modeNumber _=?_ leave
   leads-regular r m n x q e L.stays = not-here Non-prim e refl
   leads-regular r m n x q e L.parts = S.RegularStep.leaves x q refl refl refl
   leads-regular r m n x q e L.interruptsStates = not-here Exchange-states e refl
@@ -59,7 +42,7 @@ module _ (s : Server) (here : s .membership .mode ≡ Reg-prim) (colours : Colou
   leads-regular r m n x q e L.interruptsConstruct = not-here Construct e refl
 
   pub regular-step : {r : Record} {t : Server} {rs : List Record} {b : Bool} → Transition s r t rs b → RegularStep s r t
-  unfolding number _=?_ greenAndNote numbered entered cutsAfter sendsNow
+  unfolding modeNumber _=?_ greenAndNote numbered entered cutsAfter sendsNow
   regular-step (L.ignoresState x e) = not-here Non-prim e refl
   regular-step (L.ignoresCpc k i e) = not-here Non-prim e refl
   regular-step (L.reddens a e) = not-here Non-prim e refl
@@ -89,12 +72,12 @@ module _ (s : Server) (here : s .membership .mode ≡ Reg-prim) (colours : Colou
 -- ---- Trans_prim
 
 module _ (s : Server) (here : s .membership .mode ≡ Trans-prim) where
-  not-there : {X : Type 0} (m : Mode) → s .membership .mode ≡ m → (number m =? 2) ≡ false → X
-  unfolding number
-  not-there m e f = apart m Trans-prim (s .membership .mode) e here f
+  not-there : {X : Type 0} (m : Mode) → s .membership .mode ≡ m → (modeNumber m =? 2) ≡ false → X
+  unfolding modeNumber
+  not-there m e f = other-mode e here (eq-fails (modeNumber m) 2 f)
 
   leads-ending : {X : Type 0} (m n : Mode) → s .membership .mode ≡ m → Leads m n → X
-  unfolding number _=?_
+  unfolding modeNumber _=?_
   leads-ending m n e L.stays = not-there Non-prim e refl
   leads-ending m n e L.parts = not-there Reg-prim e refl
   leads-ending m n e L.interruptsStates = not-there Exchange-states e refl
@@ -102,7 +85,7 @@ module _ (s : Server) (here : s .membership .mode ≡ Trans-prim) where
   leads-ending m n e L.interruptsConstruct = not-there Construct e refl
 
   pub transitional-step : {r : Record} {t : Server} {rs : List Record} {b : Bool} → Transition s r t rs b → TransitionalStep s r t
-  unfolding number _=?_ hold entering sendsNow
+  unfolding modeNumber _=?_ hold entering sendsNow
   transitional-step (L.ignoresState x e) = not-there Non-prim e refl
   transitional-step (L.ignoresCpc k i e) = not-there Non-prim e refl
   transitional-step (L.reddens a e) = not-there Non-prim e refl
@@ -125,6 +108,6 @@ module _ (s : Server) (here : s .membership .mode ≡ Trans-prim) where
   transitional-step (L.joinsUnmarked c e) = not-there No e refl
   transitional-step (L.joinsYellow c e) = S.TransitionalStep.joins c refl refl refl refl
   transitional-step (L.leaves m n x e q) = leads-ending m n e q
-  transitional-step (L.sends q c) = not-both (sym (ending-holds _ _ here) ∙ c)
+  transitional-step (L.sends q c) = sends-in _ _ c (λ e. not-there Non-prim e refl) (λ e. not-there Reg-prim e refl)
   transitional-step (L.holds q c) = S.TransitionalStep.holds q refl refl refl refl
   transitional-step L.recovers = S.TransitionalStep.recovers refl

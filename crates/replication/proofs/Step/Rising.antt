@@ -1,31 +1,20 @@
 -- From event to event (last primary's index, its attempt, attempt) never falls, in memory and in the store.
 use Prim.Native.Nat.{ℕ}
-use mathlib.Core.Path.{_≡_, refl, sym, ap, _∙_}
+use mathlib.Core.Path.{_≡_, sym}
 use mathlib.Core.Bool.{Bool, true, false}
 use mathlib.Core.List.{List}
 use Rattle.base.specs.Tests.{pick}
-use Rattle.base.proofs.TestLaws.{not-both}
-use Rattle.format.specs.Types.{Action, Record}
+use Rattle.format.specs.Types.{Action}
 use Rattle.replication.specs.Machine.Types.{Server, Outcome, refused, taken}
 use Rattle.replication.specs.Machine.Step.{step}
 use Rattle.replication.specs.Machine.WellFormed.{wellFormed}
 use Rattle.replication.specs.Images.{Images, sourceOf, arrive, leftBy}
-use Rattle.replication.specs.Laws.Transitions.{Transition}
-use Rattle.replication.specs.Laws.Images.{next}
-use Rattle.replication.specs.Laws.Order.{AtMost, SameControl, inExchange, OwnStateTrue, OwnStateTrueAt}
+use Rattle.replication.specs.Laws.Order.{AtMost, SameControl, OwnStateTrueAt}
 use Rattle.replication.proofs.Step.Inversion.{taken-by}
 use Rattle.replication.proofs.Step.Moves.{moved}
 use Rattle.replication.proofs.Step.Formed.{every-state-in}
 use Rattle.replication.proofs.Step.Lifts.{source-of}
-use Rattle.replication.proofs.Step.VotesOrder.{hearing-keeps, at-most-same, at-most-refl, at-most-trans, votes-rise}
-
--- Outside an exchange nothing is asked of the own State.
-pub votes-rise-outside : {s : Server} {r : Record} {t : Server} {rs : List Record} {b : Bool} → Transition s r t rs b → inExchange (s .membership .mode) ≡ false
-    → AtMost (s .votes) (t .votes)
-unfolding OwnStateTrue inExchange
-votes-rise-outside {s} {r} x o =
-    votes-rise x (λ e. not-both (sym o ∙ ap inExchange e))
-    (λ i. not-both (sym o ∙ ap inExchange (sym (hearing-keeps r s .1)) ∙ i))
+use Rattle.replication.proofs.Step.VotesOrder.{at-most-same, at-most-refl, at-most-trans, votes-rise}
 
 pub taken-votes-rise : (s : Server) (e : List ℕ) (t : Server) (bs : List (List ℕ)) (b : Bool) (g : List Action) → step s e ≡ taken t bs b g
     → wellFormed s ≡ true → OwnStateTrueAt s e → AtMost (s .votes) (t .votes)
@@ -53,7 +42,3 @@ module _ (i : Images) (e : List ℕ) (agree : SameControl (i .store) (i .memory)
         (at-most-trans from-memory r, at-most-trans from-store r)
     after (taken t bs false g) h =
         (at-most-trans from-memory (taken-votes-rise (sourceOf i e) e t bs false g h formed own), at-most-refl (i .store .votes))
-
-    pub next-votes-rise : AtMost (i .memory .votes) ((next i e) .memory .votes) × AtMost (i .store .votes) ((next i e) .store .votes)
-    unfolding next
-    next-votes-rise = after (arrive i e) refl

@@ -16,8 +16,8 @@ use Rattle.format.specs.Types.{Id, Action}
 use Rattle.format.specs.Range.{hasId}
 use Rattle.replication.specs.Machine.Types.{Server}
 use Rattle.replication.specs.Machine.Colours.{cut, addId}
-use Rattle.replication.specs.Machine.WellFormedFacts.{YellowWithinCuts}
-use Rattle.replication.specs.Laws.Folds.{follows, cutsWith, cutsAfter, entered, addIds, Yellowed, YellowGained}
+use Rattle.replication.specs.Laws.Folds.{follows, cutsWith, cutsAfter, entered, addIds, Yellowed}
+use Rattle.replication.proofs.WellFormed.Clauses.{YellowWithinCuts, YellowGained}
 use Rattle.replication.proofs.WellFormed.Ids.{has-counted, has-member, counted-fact}
 
 -- ---- one id

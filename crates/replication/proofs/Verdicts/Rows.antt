@@ -93,12 +93,6 @@ module _ (n q : ℕ) (l : Run) (w : Witness) where
   row-server p (crash i) = refl
   row-server p (store i) = refl
 
-  pub row-before : (p : ℕ) (y : Entry) → rowAt p y .before ≡ placeAt n q l (serverOf y) p
-  unfolding rowAt rowOf serverOf
-  row-before p (event i e k) = refl
-  row-before p (crash i) = refl
-  row-before p (store i) = refl
-
   pub row-after : (p : ℕ) (y : Entry) → at l p ≡ some y → rowAt p y .after ≡ placeAt n q l (serverOf y) (suc p)
   unfolding rowAt rowOf serverOf
   row-after p (event i e k) h = sym (place-next n q l i p (event i e k) h)

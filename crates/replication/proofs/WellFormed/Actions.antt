@@ -12,7 +12,8 @@ use Rattle.replication.specs.Machine.Types.{Trans-prim, Un, Configuratio
 use Rattle.replication.specs.Machine.Colours.{enter, red, green, joinYellow, yellow, note}
 use Rattle.replication.specs.Machine.Install.{installVotes, install}
 use Rattle.replication.specs.Machine.Step.{quiet, stored, greenAndNote}
-use Rattle.replication.specs.Machine.WellFormedFacts.{YellowEntered, Configured, ModeFits, WellFormed}
+use Rattle.replication.specs.Machine.WellFormedFacts.{Configured, ModeFits}
+use Rattle.replication.proofs.WellFormed.Clauses.{YellowEntered, WellFormed}
 use Rattle.replication.proofs.Step.Logs.{yellow-as}
 use Rattle.replication.proofs.Step.Numbered.{numbered-install}
 use Rattle.replication.proofs.Step.Growth.{red-grows, green-grows}

@@ -15,7 +15,8 @@ use Rattle.replication.specs.Machine.Rules.{Rule, ignoring, reddening, g
 use Rattle.replication.specs.Machine.Step.{quiet, stored, entering, unmarked, yellowValid, join, leave, requested, apply}
 use Rattle.replication.specs.Laws.Transitions.{Leads, stays, parts, interruptsStates, interruptsActions, interruptsConstruct}
 use Rattle.replication.specs.Machine.WellFormedRanges.{PayloadFits, TransitionalFits}
-use Rattle.replication.specs.Machine.WellFormedFacts.{YellowEntered, ModeFits, WellFormed}
+use Rattle.replication.specs.Machine.WellFormedFacts.{ModeFits}
+use Rattle.replication.proofs.WellFormed.Clauses.{YellowEntered, WellFormed}
 use Rattle.replication.proofs.WellFormed.Changes.{Body, body}
 use Rattle.replication.specs.Laws.RuleFits.{RuleFits}
 use Rattle.replication.proofs.WellFormed.Effects.{number-body, hold-body, recovered-body}

@@ -16,7 +16,8 @@ use Rattle.replication.specs.Machine.Plan.{ownPart}
 use Rattle.replication.specs.Machine.Install.{installVotes, install}
 use Rattle.replication.specs.Machine.Requests.{numbered, sendHeld, heldRecords}
 use Rattle.replication.specs.Machine.Step.{quiet, stored, sent, hereSet, hereId, collected, decided, attempting, endExchange, withState, allStatesIn, plannedNow, resending, afterStates, collectState, oneMore, exchanged, allCome, exchange, withCpc, allCpcsIn, installing, collectCpc, collectLateCpc}
-use Rattle.replication.specs.Machine.WellFormedFacts.{Configured, StatesIn, ModeFits, WellFormed}
+use Rattle.replication.specs.Machine.WellFormedFacts.{Configured, StatesIn, ModeFits}
+use Rattle.replication.proofs.WellFormed.Clauses.{WellFormed}
 use Rattle.replication.proofs.WellFormed.Changes.{Body, body, in-mode, mode-changed, here-below}
 use Rattle.replication.specs.Laws.RuleFits.{Delivered, StateCame}
 use Rattle.replication.proofs.WellFormed.Effects.{exchanged-body, install-body, send-held-body}

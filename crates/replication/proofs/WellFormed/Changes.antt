@@ -12,8 +12,9 @@ use Rattle.format.specs.Limits.{mostHeld}
 use Rattle.format.specs.Types.{State}
 use Rattle.replication.specs.Machine.Types.{Mode, Log, Votes, Configuration, Membership, Server, withLog, withVotes, withMembership, withHeld, withNoted, withMode, withCome, inMode, noStates}
 use Rattle.replication.specs.Machine.Step.{collected, hereSet, theSet, hereId, theId}
-use Rattle.replication.specs.Machine.WellFormedRanges.{SizesFit, PayloadFits, StateFits, VotesRanges, MembershipRanges}
-use Rattle.replication.specs.Machine.WellFormedFacts.{ModeFits, WellFormed}
+use Rattle.replication.specs.Machine.WellFormedRanges.{PayloadFits, StateFits}
+use Rattle.replication.specs.Machine.WellFormedFacts.{ModeFits}
+use Rattle.replication.proofs.WellFormed.Clauses.{SizesFit, VotesRanges, MembershipRanges, WellFormed}
 use Rattle.replication.proofs.WellFormed.Logs.{LogFits}
 
 -- The clauses that do not depend on which of the eight states it is.

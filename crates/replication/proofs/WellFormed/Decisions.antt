@@ -21,7 +21,8 @@ use Rattle.replication.specs.Machine.Types.{Votes, clearedMark, noYellow
 use Rattle.replication.specs.Machine.Colours.{note}
 use Rattle.replication.specs.Machine.Plan.{highest, lowest, missing, cutIn, greenIn, planned}
 use Rattle.replication.specs.Machine.Exchange.{noteAll, later, latest, takenPrimary, samePair, updatedGroup, takenAttempt, isValid, commonYellow, takenYellow, isMarked, ruleA, ruleB, alike, joinBits, joinedBits, ruleC, keptMark, judgedMark, ownMark, takenVotes, attempted}
-use Rattle.replication.specs.Machine.WellFormedRanges.{IdFits, PrimaryFits, MarkFits, YellowFits, StateFits, VotesRanges}
+use Rattle.replication.specs.Machine.WellFormedRanges.{IdFits, PrimaryFits, MarkFits, YellowFits, StateFits}
+use Rattle.replication.proofs.WellFormed.Clauses.{VotesRanges}
 
 picked : {A : Type 0} (P : A → Type 0) (t : Bool) (x y : A) → P x → P y → P (pick t x y)
 unfolding pick

@@ -20,7 +20,8 @@ use Rattle.replication.specs.Machine.Install.{installLog, installVotes, 
 use Rattle.replication.specs.Machine.Requests.{quotaLeft, madeOf, numbered, hold, sendHeld, recovered}
 use Rattle.replication.specs.Machine.Step.{collected, plannedNow, placed, oneMore, exchanged, greenAndNote}
 use Rattle.replication.specs.Machine.WellFormed.{idsIn}
-use Rattle.replication.specs.Machine.WellFormedRanges.{idCount, IdFits, PayloadFits, VotesRanges}
+use Rattle.replication.specs.Machine.WellFormedRanges.{idCount, IdFits, PayloadFits}
+use Rattle.replication.proofs.WellFormed.Clauses.{VotesRanges}
 use Rattle.replication.proofs.Step.Logs.{red-entered, yellow-as}
 use Rattle.replication.proofs.Step.Numbered.{numbered-red, numbered-reds, numbered-green, numbered-placed, numbered-install}
 use Rattle.replication.proofs.Step.Yellows.{add-as}

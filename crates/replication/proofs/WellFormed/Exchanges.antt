@@ -11,11 +11,12 @@ use Rattle.base.specs.Sets.{withMember}
 use Rattle.base.proofs.SetLaws.{with-member-below}
 use Rattle.format.specs.Limits.{mostIndex}
 use Rattle.format.specs.Types.{State}
-use Rattle.replication.specs.Machine.Types.{Mode, Exchange-states, Construct, Configuration, Server, withVotes, noStates}
+use Rattle.replication.specs.Machine.Types.{Mode, Construct, Configuration, Server, withVotes, noStates, withMode, withTransitional, withStates, withCpcs}
 use Rattle.replication.specs.Machine.Colours.{yellow}
 use Rattle.replication.specs.Machine.Exchange.{noteAll, takenVotes, attempted}
 use Rattle.replication.specs.Machine.Step.{entering, unmarked, yellowValid, hereSet, collected, decided, attempting, withState, withCpc, leave}
-use Rattle.replication.specs.Machine.WellFormedRanges.{ConfigurationFits, TransitionalFits, CollectedFits}
+use Rattle.replication.specs.Machine.WellFormedRanges.{ConfigurationFits, TransitionalFits}
+use Rattle.replication.proofs.WellFormed.Clauses.{CollectedFits}
 use Rattle.replication.proofs.WellFormed.Ids.{same}
 use Rattle.replication.proofs.WellFormed.Decisions.{empty-below, cleared-mark-fits, taken-votes-fits, attempted-fits, note-all-length, note-all-bound}
 use Rattle.replication.proofs.WellFormed.Changes.{Body, votes-changed, membership-changed, noted-changed, in-mode, collected-fit, no-states}
@@ -42,14 +43,7 @@ module _ (s : Server) (b : Body s) where
   unfolding withState
   with-state-body x c =
       membership-changed s b
-      (record {
-        mode = s .membership .mode;
-        configuration = s .membership .configuration;
-        transitional = s .membership .transitional;
-        states = set (s .membership .states) (x .sender) (some x);
-        cpcs = s .membership .cpcs;
-        come = s .membership .come;
-      })
+      (withStates (set (s .membership .states) (x .sender) (some x)) (s .membership))
       (record {
         configuration = b .membership .configuration;
         transitional = b .membership .transitional;
@@ -76,14 +70,7 @@ module _ (s : Server) (b : Body s) where
   unfolding withCpc
   with-cpc-body k h =
       membership-changed s b
-      (record {
-        mode = s .membership .mode;
-        configuration = s .membership .configuration;
-        transitional = s .membership .transitional;
-        states = s .membership .states;
-        cpcs = withMember k (s .membership .cpcs);
-        come = s .membership .come;
-      })
+      (withCpcs (withMember k (s .membership .cpcs)) (s .membership))
       (record {
         configuration = b .membership .configuration;
         transitional = b .membership .transitional;
@@ -99,7 +86,7 @@ module _ (s : Server) (b : Body s) where
   unfolding entering noStates
   entering-body c f =
       membership-changed s b
-      (record { mode = Exchange-states; configuration = some c; transitional = none; states = noStates (s .servers); cpcs = 0; come = s .membership .come })
+      (entering c s .membership)
       (record {
         configuration = λ d e. subst (ConfigurationFits (s .servers) (s .me)) (Option·some-injective c d e) f;
         transitional = λ t e. absurd (Option·none-ne-some t e);
@@ -130,14 +117,7 @@ module _ (s : Server) (b : Body s) where
   unfolding leave
   leave-body m t f =
       membership-changed s b
-      (record {
-        mode = m;
-        configuration = s .membership .configuration;
-        transitional = some t;
-        states = s .membership .states;
-        cpcs = s .membership .cpcs;
-        come = s .membership .come;
-      })
+      (withMode m (withTransitional t (s .membership)))
       (record {
         configuration = b .membership .configuration;
         transitional = λ u e. subst (TransitionalFits (s .servers) (s .me) (s .membership .configuration)) (Option·some-injective t u e) f;

@@ -3,7 +3,6 @@
 use Prim.Native.Nat.{_*_, _≤_}
 use mathlib.Core.Path.{_≡_}
 use mathlib.Core.Bool.{true}
-use native.Mathlib.Omega.{arith}
 use Rattle.base.proofs.TestLaws.{and-holds, both-yes, le-yes, le-holds, eq-yes, eq-holds}
 use Rattle.base.proofs.ListLaws.{all-each, each-all, each-append, each-map, each-implied, each-bounded, bounded-each}
 use Rattle.format.specs.Types.{Id}
@@ -12,7 +11,7 @@ use Rattle.replication.specs.Machine.Types.{Server, contextOf}
 use Rattle.replication.specs.Machine.Colours.{cut}
 use Rattle.replication.specs.Machine.WellFormed.{ranges, idsIn, queue, quotaKept, wellFormed}
 use Rattle.replication.specs.Machine.WellFormedRanges.{IdFits, ActionFits, PayloadFits}
-use Rattle.replication.specs.Machine.WellFormedFacts.{heldCount, WellFormed}
+use Rattle.replication.proofs.WellFormed.Clauses.{heldCount, WellFormed}
 use Rattle.replication.proofs.WellFormed.Ids.{counted-fact, differ-once, once-differ}
 use Rattle.replication.proofs.WellFormed.Ranges.{sizes-facts, sizes-ok, payload-facts, payload-ok, length-facts, length-ok}
 use Rattle.replication.proofs.WellFormed.Parts.{log-facts, log-ok, votes-facts, votes-ok, membership-facts, membership-ok, held-to-cuts-facts, held-to-cuts-ok, own-list-facts, own-list-ok}
@@ -70,9 +69,6 @@ facts-well-formed s f =
     (both-yes _ _ (le-yes _ _ (f .quota-kept)) (mode-ok (s .membership .mode) s (f .membership .states-length) (f .mode))))))
 
 -- ---- an action with the id (c, i) is held exactly if 1 ≤ i ≤ c's cut, and then once
-
-pub held-once : (s : Server) → WellFormed s → (d : Id) → 1 ≤ d .index → d .index ≤ cut (s .log) (d .creator) → heldCount d (s .log) ≡ 1
-held-once s f d low high = omega (arith, f .once d, f .held-to-cuts .entered d low high)
 
 pub held-fits : (s : Server) → WellFormed s → (d : Id) → 1 ≤ heldCount d (s .log) → IdFits (s .servers) (s .quota) d
 unfolding idsIn queue

@@ -19,7 +19,7 @@ use Rattle.format.specs.Range.{sameId}
 use Rattle.replication.specs.Machine.Types.{Log}
 use Rattle.replication.specs.Machine.Colours.{find, remove, cut, isNext, enter, red, promote, promoteFound, greenId}
 use Rattle.replication.specs.Machine.WellFormed.{idsIn, queue}
-use Rattle.replication.specs.Machine.WellFormedFacts.{heldCount}
+use Rattle.replication.proofs.WellFormed.Clauses.{heldCount}
 use Rattle.replication.proofs.Step.Logs.{next-index, red-entered, red-ignored}
 use Rattle.replication.proofs.WellFormed.Ids.{SameId, same, other, same-id?, same-id-yes}
 

@@ -10,7 +10,8 @@ use Rattle.format.specs.Types.{Action, Record}
 use Rattle.replication.specs.Machine.Types.{Mode, Non-prim, Reg-prim, Trans-prim, Exchange-states, Exchange-actions, Construct, No, Un, Log, Votes, Server, Outcome, refused, taken, withLog}
 use Rattle.replication.specs.Machine.Colours.{cut}
 use Rattle.replication.specs.Machine.Step.{collected, hereSet, plannedNow}
-use Rattle.replication.specs.Machine.WellFormedFacts.{YellowWithinCuts, YellowEntered, ModeFits, Invariant}
+use Rattle.replication.specs.Machine.WellFormedFacts.{ModeFits}
+use Rattle.replication.proofs.WellFormed.Clauses.{YellowWithinCuts, YellowEntered, Invariant}
 use Rattle.replication.proofs.WellFormed.Changes.{Body, body, whole}
 
 -- ---- a fact of the state and the records of an outcome

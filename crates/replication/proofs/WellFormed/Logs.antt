@@ -14,8 +14,8 @@ use Rattle.replication.specs.Machine.Types.{Log}
 use Rattle.replication.specs.Machine.Colours.{cut, enter, red, reds, promote, greenId, greenIds, green}
 use Rattle.replication.specs.Machine.Install.{installLog, idsUpTo}
 use Rattle.replication.specs.Machine.WellFormed.{idsIn}
-use Rattle.replication.specs.Machine.WellFormedRanges.{ActionFits, LogRanges}
-use Rattle.replication.specs.Machine.WellFormedFacts.{heldCount, HeldToCuts, OwnListFits}
+use Rattle.replication.specs.Machine.WellFormedRanges.{ActionFits}
+use Rattle.replication.proofs.WellFormed.Clauses.{LogRanges, heldCount, HeldToCuts, OwnListFits}
 use Rattle.replication.proofs.Step.Numbered.{numbered-red}
 use Rattle.replication.proofs.WellFormed.Ids.{SameId, same, other, same-id?, same-id-no}
 use Rattle.replication.proofs.WellFormed.Held.{found-fact, each-remove, remove-first, remove-absent, Entered, entered, ignored, entered?, held-enter, CutAfter, risen, left, cut-after?, Greened, unmoved, moved, greened?}

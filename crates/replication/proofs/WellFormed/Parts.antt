@@ -1,4 +1,4 @@
--- The tests on the parts of a state hold exactly if the facts of `WellFormedRanges` and `WellFormedFacts` do.
+-- The tests on the parts of a state hold exactly if the facts of `WellFormedRanges` and `Clauses` do.
 -- Assumes nothing.
 use Prim.Native.Nat.{ℕ, zero, suc, _+_, _≤_}
 use mathlib.Core.Path.{_≡_, refl, subst}
@@ -17,8 +17,8 @@ use Rattle.replication.specs.Machine.Colours.{cut}
 use Rattle.replication.specs.Machine.Rules.{memberOf, isOf}
 use Rattle.replication.specs.Machine.Install.{idsUpTo}
 use Rattle.replication.specs.Machine.WellFormed.{logRanges, votesRanges, configurationFits, transitionalFits, collectedFits, collectedFit, membershipRanges, idsIn, queue, withinCut, heldToCuts, ownListFits}
-use Rattle.replication.specs.Machine.WellFormedRanges.{ActionFits, ConfigurationFits, TransitionalFits, LogRanges, VotesRanges, CollectedFits, MembershipRanges}
-use Rattle.replication.specs.Machine.WellFormedFacts.{heldCount, HeldToCuts, OwnListFits}
+use Rattle.replication.specs.Machine.WellFormedRanges.{ActionFits, ConfigurationFits, TransitionalFits}
+use Rattle.replication.proofs.WellFormed.Clauses.{LogRanges, VotesRanges, CollectedFits, MembershipRanges, heldCount, HeldToCuts, OwnListFits}
 use Rattle.replication.proofs.WellFormed.Ids.{each-counted, counted-fact, has-counted, counted-has, same-ids-holds, same-ids-yes, up-to-each, each-up-to}
 use Rattle.replication.proofs.WellFormed.Ranges.{cuts-facts, cuts-ok, set-facts, set-ok, action-facts, action-ok, primary-facts, primary-ok, mark-facts, mark-ok, yellow-facts, yellow-ok, state-facts, state-ok, own-set-facts, own-set-ok}
 

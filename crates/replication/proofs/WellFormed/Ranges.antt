@@ -14,7 +14,8 @@ use Rattle.format.specs.Limits.{fewestServers, mostServers, leastQuota, mostQuo
 use Rattle.format.specs.Types.{Id, Action, Primary, Mark, Yellow, State, Context}
 use Rattle.format.specs.Range.{sizesOk, contextOk, idOk, lengthOk, payloadOk, actionOk, cutsOk, indexOk, setOk, statusOk, primaryOk, markOk, idsInRange, idsOk, yellowOk, configurationOk, stateOk, ownSetOk}
 use Rattle.format.proofs.IdCount.{ids-count}
-use Rattle.replication.specs.Machine.WellFormedRanges.{idCount, SizesFit, IdFits, PayloadFits, ActionFits, PrimaryFits, MarkFits, YellowFits, StateFits, OwnSetFits}
+use Rattle.replication.specs.Machine.WellFormedRanges.{idCount, IdFits, PayloadFits, ActionFits, PrimaryFits, MarkFits, YellowFits, StateFits, OwnSetFits}
+use Rattle.replication.proofs.WellFormed.Clauses.{SizesFit}
 use Rattle.replication.proofs.WellFormed.Ids.{differ-once, once-differ}
 
 -- ---- lists of numbers, by place

@@ -1,30 +1,30 @@
 -- Every record that a taken event puts out reads at every server with the same n and q as what was meant, and names its sender; how many records and
 -- bytes an event puts out.
 -- Assumes nothing.
-use Prim.Native.Nat.{ℕ, _+_, _*_, max, _≤_, _<_}
+use Prim.Native.Nat.{ℕ, _*_, _≤_, _<_}
 use mathlib.Core.Path.{_≡_, sym, subst}
 use mathlib.Core.Bool.{Bool, true}
 use mathlib.Core.List.{List, map}
-use lib.ListN.{length, length-map}
+use lib.ListN.{length}
 use native.Mathlib.Omega.{arith}
 use Rattle.base.proofs.TestLaws.{both-yes, lt-yes}
 use Rattle.base.specs.Bytes.{joined}
 use Rattle.base.specs.Lists.{Each}
 use Rattle.base.proofs.ListLaws.{each-implied}
+use Rattle.format.specs.Places.{mostRetransmission}
 use Rattle.format.specs.Types.{Action, Record, action, retransmission, state, cpc, regular, transitional, request, recovery, Context, says}
 use Rattle.format.specs.Range.{configurationOk, fieldsOk, recordOk}
 use Rattle.format.specs.Read.{read}
-use Rattle.format.specs.Write.{write, lengthOf}
-use Rattle.format.proofs.Lengths.{write-length}
+use Rattle.format.specs.Write.{write}
 use Rattle.format.proofs.RoundTrip.{read-written}
 use Rattle.replication.specs.Machine.Types.{Server, taken}
 use Rattle.replication.specs.Machine.Step.{apply, step}
 use Rattle.replication.specs.Machine.WellFormed.{wellFormed}
-use Rattle.replication.specs.Machine.WellFormedRanges.{SizesFit}
+use Rattle.replication.proofs.WellFormed.Clauses.{SizesFit}
 use Rattle.replication.proofs.WellFormed.SentFacts.{RecordFits, PutOut}
 use Rattle.replication.specs.Laws.Transitions.{TakenBy}
 use Rattle.replication.proofs.Step.Inversion.{taken-by}
-use Rattle.replication.proofs.WellFormed.Ranges.{sizes-ok, length-ok, action-ok, state-ok, ids-short}
+use Rattle.replication.proofs.WellFormed.Ranges.{sizes-ok, length-ok, action-ok, state-ok}
 use Rattle.replication.proofs.WellFormed.Facts.{well-formed-facts}
 use Rattle.replication.proofs.WellFormed.Kept.{after-taken}
 use Rattle.replication.proofs.WellFormed.Steps.{taken-fits}
@@ -74,22 +74,6 @@ module _ (s : Server) (f : wellFormed s ≡ true) (c : Context) (p : Peer s c) w
   pub put-out-reads : (rs : List Record) → PutOut (s .servers) (s .quota) (s .me) rs → Each (λ r. read c (write r) ≡ says r) rs
   put-out-reads rs o = each-implied (λ r. recordOk c r ≡ true) (λ r. read c (write r) ≡ says r) (λ r h. read-written c r h) rs (put-out-in-range rs o)
 
--- The longest record put out is a retransmission or a State.
-record-length : (n q : ℕ) (r : Record) → RecordFits n q r → lengthOf r ≤ max 65 (40 + 2 * n + 3 * (n * q))
-unfolding lengthOf
-record-length n q (action a) f = omega (arith, f .payload .most)
-record-length n q (retransmission k p a) f = omega (arith, f .2 .payload .most)
-record-length n q (state x) f = omega (arith, f .cuts-length, ids-short n q (x .yellow .ids) (f .yellow .ids) (f .yellow .once))
-record-length n q (cpc k i) f = omega arith
-record-length n q (regular i t) f = absurd f
-record-length n q (transitional t) f = absurd f
-record-length n q (request p) f = absurd f
-record-length n q recovery f = absurd f
-
-pub put-out-lengths : (n q me : ℕ) (rs : List Record) → PutOut n q me rs → Each (λ r. length (write r) ≤ max 65 (40 + 2 * n + 3 * (n * q))) rs
-put-out-lengths n q me rs o =
-    each-implied (RecordFits n q) (λ r. length (write r) ≤ max 65 (40 + 2 * n + 3 * (n * q))) (λ r f. omega (arith, write-length r, record-length n q r f)) rs (o .fit)
-
 -- ---- what a taken event puts out
 
 module _ (s : Server) (e : List ℕ) (t : Server) (bs : List (List ℕ)) (b : Bool) (g : List Action) (f : wellFormed s ≡ true) where
@@ -101,11 +85,5 @@ module _ (s : Server) (e : List ℕ) (t : Server) (bs : List (List ℕ)) (b : Bo
   pub step-put-out : step s e ≡ taken t bs b g → (rs : List Record) × (bs ≡ map write rs) × PutOut (s .servers) (s .quota) (s .me) rs
   step-put-out h = let d = taken-by s e t bs b g h in (d .records, d .written, taken-put-out d)
 
-  -- "required lengths": the outgoing records of one event.
-  pub step-record-count : step s e ≡ taken t bs b g → length bs ≤ 2 * (s .servers * s .quota)
-  step-record-count h =
-      let o = step-put-out h in
-      subst (λ l. length l ≤ 2 * (s .servers * s .quota)) (sym (o .1)) (subst (λ k. k ≤ 2 * (s .servers * s .quota)) (sym (length-map (o .0) write)) (o .2 .count))
-
-  pub step-byte-count : step s e ≡ taken t bs b g → length (joined bs) ≤ 130 * (s .servers * s .quota)
-  step-byte-count h = let o = step-put-out h in subst (λ l. length (joined l) ≤ 130 * (s .servers * s .quota)) (sym (o .1)) (o .2 .bytes)
+  pub step-byte-count : step s e ≡ taken t bs b g → length (joined bs) ≤ 2 * mostRetransmission * (s .servers * s .quota)
+  step-byte-count h = let o = step-put-out h in subst (λ l. length (joined l) ≤ 2 * mostRetransmission * (s .servers * s .quota)) (sym (o .1)) (o .2 .bytes)

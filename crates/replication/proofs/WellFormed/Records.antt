@@ -12,6 +12,7 @@ use Rattle.base.specs.Tests.{pick}
 use Rattle.base.specs.Bytes.{joined}
 use Rattle.base.specs.Lists.{gather, gatherAll, below, at, Each}
 use Rattle.base.proofs.ListLaws.{each-append, each-always, each-implied, each-map, each-both, each-at, each-gather, each-gather-all, gather-length, gather-all-length, above-between}
+use Rattle.format.specs.Places.{mostRetransmission}
 use Rattle.format.specs.Types.{Action, State, Record, action, retransmission, state, cpc}
 use Rattle.format.specs.Write.{write, lengthOf}
 use Rattle.format.proofs.Lengths.{write-length}
@@ -20,7 +21,8 @@ use Rattle.replication.specs.Machine.Colours.{cut, find}
 use Rattle.replication.specs.Machine.Plan.{highest, lowest, missing, cutIn, greenIn, resender, isMe, resent, resendGreen, resendRed, ownPart, planned}
 use Rattle.replication.specs.Machine.Requests.{numberedFrom, madeOf, heldRecords}
 use Rattle.replication.specs.Machine.Step.{ownState}
-use Rattle.replication.specs.Machine.WellFormedRanges.{SizesFit, PayloadFits, ActionFits, StateFits, ConfigurationFits}
+use Rattle.replication.specs.Machine.WellFormedRanges.{PayloadFits, ActionFits, StateFits, ConfigurationFits}
+use Rattle.replication.proofs.WellFormed.Clauses.{SizesFit}
 use Rattle.replication.proofs.WellFormed.SentFacts.{senderOf, RecordFits, PutOut}
 use Rattle.replication.proofs.WellFormed.Held.{found-fact}
 use Rattle.replication.proofs.WellFormed.Logs.{LogFits}
@@ -49,11 +51,11 @@ unfolding joined
 bytes-bound b [] h = omega arith
 bytes-bound b (r ∷ rs) h = omega (arith, length-append (write r) (joined (map write rs)), write-length r, h .0, bytes-bound b rs (h .1))
 
--- A record in range, of the server `me`, of at most 65 bytes.
+-- A record in range, of the server `me`, no longer than a retransmission.
 record Short (n q me : ℕ) (r : Record) : Type 0 where
   fit : RecordFits n q r
   own : senderOf r ≡ some me
-  short : lengthOf r ≤ 65
+  short : lengthOf r ≤ mostRetransmission
 
 action-short : (n q me : ℕ) (a : Action) → ActionFits n q a → a .id .creator ≡ me → Short n q me (action a)
 unfolding senderOf lengthOf
@@ -68,7 +70,7 @@ short-out n q me rs f l = record {
   fit = each-implied (Short n q me) (RecordFits n q) (λ r h. h .fit) rs f;
   own = each-implied (Short n q me) (λ r. senderOf r ≡ some me) (λ r h. h .own) rs f;
   count = l;
-  bytes = omega (arith, bytes-bound 65 rs (each-implied (Short n q me) (λ r. lengthOf r ≤ 65) (λ r h. h .short) rs f), mul-le-mul-right 65 l);
+  bytes = omega (arith, bytes-bound mostRetransmission rs (each-implied (Short n q me) (λ r. lengthOf r ≤ mostRetransmission) (λ r h. h .short) rs f), mul-le-mul-right mostRetransmission l);
 }
 
 pub none-out : (n q me : ℕ) → PutOut n q me []
@@ -159,7 +161,7 @@ module _ (s : Server) (b : Body s) where
     bytes =
         omega (
           arith,
-          bytes-bound (130 * (s .servers * s .quota)) (state (ownState c s) ∷ []) (
+          bytes-bound (2 * mostRetransmission * (s .servers * s .quota)) (state (ownState c s) ∷ []) (
             omega (
               arith,
               many .two,

@@ -9,12 +9,11 @@ use Rattle.base.proofs.TestLaws.{and-holds, eq-yes, le-holds, lt-holds}
 use Rattle.format.specs.Types.{Action, State, Record, action, retransmission, state, cpc, regular, transitional, request, recovery}
 use Rattle.format.specs.Range.{actionOk, configurationOk, fieldsOk, recordOk}
 use Rattle.replication.specs.Machine.Types.{Mode, Non-prim, Reg-prim, Trans-prim, Exchange-states, Exchange-actions, Construct, No, Un, Configuration, Server, contextOf}
-use Rattle.replication.specs.Machine.Requests.{quotaLeft, roomToHold}
-use Rattle.replication.specs.Machine.Rules.{Rule, ignoring, reddening, greening, yellowing, lateInstalling, exchanging, collectingState, collectingCpc, collectingLateCpc, joining, joiningUnmarked, joiningYellow, leaving, requesting, recovering, onAction, onRetransmission, onState, onCpc, onRegular, onTransitional, ruleFor, numberedOwn, possible, memberOf, isOf, fromMember, isIgnored, withinQuota, withinHeld}
-use Rattle.replication.specs.Laws.Transitions.{Leads, stays, parts, interruptsStates, interruptsActions, interruptsConstruct}
-use Rattle.replication.specs.Machine.WellFormedRanges.{PayloadFits, ActionFits, StateFits, ConfigurationFits, TransitionalFits}
+use Rattle.replication.specs.Machine.Rules.{Rule, ignoring, reddening, greening, yellowing, lateInstalling, exchanging, collectingState, collectingCpc, collectingLateCpc, joining, joiningUnmarked, joiningYellow, leaving, requesting, recovering, onAction, onRetransmission, onState, onCpc, onRegular, onTransitional, ruleFor, numberedOwn, possible, fromMember, isIgnored, withinQuota, withinHeld}
+use Rattle.replication.specs.Laws.Transitions.{stays, parts, interruptsStates, interruptsActions, interruptsConstruct}
+use Rattle.replication.specs.Machine.WellFormedRanges.{StateFits, ConfigurationFits, TransitionalFits}
 use Rattle.replication.proofs.WellFormed.Ranges.{payload-facts, action-facts, state-facts, own-set-facts}
-use Rattle.replication.specs.Laws.RuleFits.{Delivered, StateCame, RuleFits}
+use Rattle.replication.specs.Laws.RuleFits.{Delivered, RuleFits}
 
 delivered : (s : Server) (a : Action) → actionOk (contextOf s) a ≡ true → numberedOwn s a ≡ true → Delivered s a
 unfolding contextOf numberedOwn _or_

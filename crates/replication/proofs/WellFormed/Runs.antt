@@ -16,17 +16,13 @@ use Rattle.format.specs.Range.{sizesOk, contextOk}
 use Rattle.replication.specs.Machine.Types.{start, noStates}
 use Rattle.replication.specs.Machine.Colours.{cut}
 use Rattle.replication.specs.Machine.WellFormed.{idsIn, queue, wellFormed}
-use Rattle.replication.specs.Machine.WellFormedRanges.{SizesFit}
-use Rattle.replication.specs.Machine.WellFormedFacts.{WellFormed, Invariant}
-use Rattle.replication.specs.Images.{started, sourceOf, lived}
-use Rattle.replication.specs.Laws.Images.{OfBoth, next}
-use Rattle.replication.specs.Laws.Order.{AtMost, OwnStateTrueAt}
+use Rattle.replication.proofs.WellFormed.Clauses.{SizesFit, WellFormed, Invariant}
+use Rattle.replication.specs.Images.{started, lived}
+use Rattle.replication.specs.Laws.Images.{OfBoth}
 use Rattle.replication.specs.Laws.Modes.{ColourFactsOf}
 use Rattle.replication.proofs.Step.Inversion.{taken-by}
 use Rattle.replication.proofs.Step.Moves.{moved}
-use Rattle.replication.proofs.Step.Lifts.{source-of, lived-each}
-use Rattle.replication.proofs.Step.Control.{control-stored}
-use Rattle.replication.proofs.Step.Rising.{next-votes-rise}
+use Rattle.replication.proofs.Step.Lifts.{lived-each}
 use Rattle.replication.proofs.Step.ModeColours.{colour-facts-kept}
 use Rattle.replication.proofs.WellFormed.Ranges.{sizes-facts}
 use Rattle.replication.proofs.WellFormed.Facts.{facts-well-formed}
@@ -103,12 +99,3 @@ module _ (n q i : ℕ) (sizes : sizesOk n q ≡ true) (own : i < n) where
       (λ s e t bs b g h p. (step-well-formed s e t bs b g (p .0) h, colour-facts-kept s (p .0) (moved (taken-by s e t bs b g h) .0) (p .1)))
       (started (start n q i)) es (record { memory = (start-well-formed, tt); store = (start-well-formed, tt) }) in
       record { memory = both .memory .1; store = both .store .1 }
-
-  -- With one more event no vote falls, in memory or in the store, if the own State that the event brings is true.
-  pub lived-votes-rise : (es : List (Option (List ℕ))) (e : List ℕ) → OwnStateTrueAt (sourceOf (lived (started (start n q i)) es) e) e
-      → AtMost ((lived (started (start n q i)) es) .memory .votes) ((next (lived (started (start n q i)) es) e) .memory .votes)
-      × AtMost ((lived (started (start n q i)) es) .store .votes) ((next (lived (started (start n q i)) es) e) .store .votes)
-  lived-votes-rise es e own =
-      let w = lived-well-formed es in
-      next-votes-rise (lived (started (start n q i)) es) e (control-stored (start n q i) es)
-      (source-of (λ s. wellFormed s ≡ true) (lived (started (start n q i)) es) e (w .store) (w .memory)) own

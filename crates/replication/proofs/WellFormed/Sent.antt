@@ -16,7 +16,8 @@ use Rattle.replication.specs.Machine.Requests.{sendsNow, quotaLeft, numb
 use Rattle.replication.specs.Machine.Rules.{Rule, ignoring, reddening, greening, yellowing, lateInstalling, exchanging, collectingState, collectingCpc, collectingLateCpc, joining, joiningUnmarked, joiningYellow, leaving, requesting, recovering}
 use Rattle.replication.specs.Machine.Step.{quiet, stored, sent, unmarked, yellowValid, join, hereSet, hereId, collected, decided, attempting, endExchange, withState, allStatesIn, plannedNow, resending, afterStates, collectState, oneMore, exchanged, allCome, exchange, withCpc, allCpcsIn, installing, collectCpc, collectLateCpc, requested, apply}
 use Rattle.replication.specs.Machine.WellFormedRanges.{PayloadFits}
-use Rattle.replication.specs.Machine.WellFormedFacts.{Configured, StatesIn, ModeFits, WellFormed}
+use Rattle.replication.specs.Machine.WellFormedFacts.{Configured, StatesIn, ModeFits}
+use Rattle.replication.proofs.WellFormed.Clauses.{WellFormed}
 use Rattle.replication.proofs.WellFormed.SentFacts.{PutOut}
 use Rattle.replication.proofs.WellFormed.Changes.{Body, body, in-mode, collected-fit, here-id-below}
 use Rattle.replication.specs.Laws.RuleFits.{Delivered, StateCame, RuleFits}

@@ -7,6 +7,7 @@ use mathlib.Core.Option.{Option, none, some}
 use lib.ListN.{length}
 use Rattle.base.specs.Bytes.{joined}
 use Rattle.base.specs.Lists.{Each}
+use Rattle.format.specs.Places.{mostRetransmission}
 use Rattle.format.specs.Types.{Record, action, retransmission, state, cpc, regular, transitional, request, recovery}
 use Rattle.format.specs.Write.{write}
 use Rattle.replication.specs.Machine.WellFormedRanges.{ActionFits, StateFits}
@@ -38,4 +39,4 @@ pub record PutOut (n q me : ℕ) (rs : List Record) : Type 0 where
   pub fit : Each (RecordFits n q) rs
   pub own : Each (λ r. senderOf r ≡ some me) rs
   pub count : length rs ≤ 2 * (n * q)
-  pub bytes : length (joined (map write rs)) ≤ 130 * (n * q)
+  pub bytes : length (joined (map write rs)) ≤ 2 * mostRetransmission * (n * q)

@@ -60,7 +60,9 @@ hasLeftSince ts s = any (λ t. t .server =? s .server and sameRegular (some (t .
 -- "3. If there exist send_p(m, c) and deliver_conf_p(c') where c' ≠ trans_p(c) .. then there exists deliver_p(m, com_p(c))"
 unfoldable pub self-delivery : Journal → Bool
 self-delivery j =
-    all (λ c. all (λ s. hasLeftSince (c .leavings) s implies isDelivered (c .deliveries) (s .server) (s .message)) (c .sendings)) (j .configurations)
+    all
+    (λ c. all (λ s. hasLeftSince (c .leavings) s implies isDelivered (c .deliveries) (s .server) (s .message)) (c .sendings))
+    (j .configurations)
 
 -- ---- Specification 4
 
@@ -96,8 +98,8 @@ atomic j =
 unfoldable pub isCause : Sending → Sending → Bool
 isCause s t = sameRegular (s .regular) (t .regular) and knows (t .clock) (s .server) (s .number)
 
--- "5. If there exist send_p(m, c), send_q(m', c) and deliver_r(m', com_r(c)) such that send_p(m, c) → send_q(m', c)": "whoever delivers a record has
--- before it delivered every record sent in the same regular configuration that causally precedes it"
+-- "5. If there exist send_p(m, c), send_q(m', c) and deliver_r(m', com_r(c)) such that send_p(m, c) → send_q(m', c)": "whoever delivers a
+-- record has before it delivered every record sent in the same regular configuration that causally precedes it"
 unfoldable pub causal : Journal → Bool
 causal j =
     all
@@ -168,5 +170,8 @@ isSharedWith d t = sameRegular (some (t .configuration)) (d .before .regular) an
 unfoldable pub safe : Journal → Bool
 safe j =
     all
-    (λ c. all (λ d. all (λ t. isSharedWith d t implies isDelivered (c .deliveries) (t .server) (d .sending .message)) (c .leavings)) (c .deliveries))
+    (λ c.
+    all
+    (λ d. all (λ t. isSharedWith d t implies isDelivered (c .deliveries) (t .server) (d .sending .message)) (c .leavings))
+    (c .deliveries))
     (j .configurations)

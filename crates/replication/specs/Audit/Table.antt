@@ -9,7 +9,8 @@ use Rattle.base.specs.Lists.{upd}
 use Rattle.format.specs.Types.{Record, action, retransmission, state, cpc, regular, transitional, request, recovery, Reading, says, refused}
 use Rattle.replication.specs.Machine.Types.{Configuration}
 use Rattle.replication.specs.Images.{arrive}
-use Rattle.replication.specs.Runs.Run.{Entry, event, crash, store, Run, serverOf, World, beginning, worldAfter, Place, nowhere, heard, placeAfter, recordsOf}
+use Rattle.replication.specs.Runs.Run.{Entry, event, crash, store, Run, serverOf, World, beginning, worldAfter, Place, nowhere, heard}
+use Rattle.replication.specs.Runs.Run.{placeAfter, recordsOf}
 use Rattle.replication.specs.Runs.Happenings.{Message}
 use Rattle.replication.specs.Audit.Witness.{Witness, sourceIn, nameIn, entryOrd, sendingOrdsAt}
 

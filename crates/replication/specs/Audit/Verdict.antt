@@ -10,8 +10,10 @@ use Rattle.replication.specs.Runs.Run.{Run}
 use Rattle.replication.specs.Audit.Witness.{Witness}
 use Rattle.replication.specs.Audit.Table.{table}
 use Rattle.replication.specs.Audit.Journal.{Journal, journalOf}
-use Rattle.replication.specs.Audit.Rules.{sizes, servers, one-set, once, between, one-transitional, genuine, cut-by-crash, recovers, stores-up}
-use Rattle.replication.specs.Audit.Specifications.{same-configuration, one-delivery, one-name, self-delivery, atomic, causal, rises, same-moment, same-message, one-order, agreed, safe}
+use Rattle.replication.specs.Audit.Rules.{sizes, servers, one-set, once, between, one-transitional, genuine, cut-by-crash, recovers}
+use Rattle.replication.specs.Audit.Rules.{stores-up}
+use Rattle.replication.specs.Audit.Specifications.{same-configuration, one-delivery, one-name, self-delivery, atomic, causal, rises}
+use Rattle.replication.specs.Audit.Specifications.{same-moment, same-message, one-order, agreed, safe}
 
 pub record Test : Type 0 where
   pub name : String

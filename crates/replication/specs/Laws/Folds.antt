@@ -9,7 +9,6 @@ use Rattle.base.specs.Tests.{_=?_, pick}
 use Rattle.format.specs.Types.{Id, Action}
 use Rattle.replication.specs.Machine.Types.{Log, Server}
 use Rattle.replication.specs.Machine.Colours.{green, addId, yellow}
-use Rattle.replication.specs.Machine.WellFormedFacts.{YellowWithinCuts}
 
 -- "an action is entered only if its index is its creator's cut plus one"
 unfoldable pub follows : List ℕ → Action → Bool
@@ -34,14 +33,6 @@ unfoldable pub addIds : List Id → List Id → List Id
 addIds [] ids = ids
 addIds (d ∷ ds) ids = addIds ds (addId d ids)
 
-unfoldable pub greenAll : List Action → Log → Log
-greenAll [] l = l
-greenAll (a ∷ more) l = greenAll more (green a l)
-
-unfoldable pub yellowAll : List Action → Server → Server
-yellowAll [] s = s
-yellowAll (a ∷ more) s = yellowAll more (yellow a s)
-
 -- The log m is the log l, which had no red action, with these delivered and greened.
 pub record Greened (delivered : List Action) (l m : Log) : Type 0 where
   pub green : m .green ≡ l .green ++ entered (l .cuts) delivered
@@ -55,8 +46,3 @@ pub record Yellowed (delivered : List Action) (s t : Server) : Type 0 where
   pub green : t .log .green ≡ s .log .green
   pub red : t .log .red ≡ s .log .red ++ entered (s .log .cuts) delivered
   pub cuts : t .log .cuts ≡ cutsAfter (s .log .cuts) delivered
-
--- From s to t the yellow list gained the ids of those entered, and holds ids of entered actions only.
-pub record YellowGained (delivered : List Action) (s t : Server) : Type 0 where
-  pub ids : t .votes .yellow .ids ≡ s .votes .yellow .ids ++ map (λ a. a .id) (entered (s .log .cuts) delivered)
-  pub within : YellowWithinCuts t

@@ -6,7 +6,7 @@ use mathlib.Core.Bool.{Bool, true, false}
 use mathlib.Core.List.{List, [], _∷_}
 use mathlib.Core.Option.{some}
 use Rattle.format.specs.Types.{State, Record, state, cpc, regular}
-use Rattle.replication.specs.Machine.Types.{Exchange-states, Exchange-actions, Construct, Configuration, Server}
+use Rattle.replication.specs.Machine.Types.{Exchange-states, Exchange-actions, Construct, Configuration, Server, modeOf}
 use Rattle.replication.specs.Machine.Exchange.{quorum}
 use Rattle.replication.specs.Machine.Plan.{ownPart}
 use Rattle.replication.specs.Machine.Step.{ownState, hereSet, hereId, collected, allStatesIn}
@@ -19,7 +19,7 @@ pub record StateSent (r : Record) (t : Server) (rs : List Record) (b : Bool) (x 
   pub entered : Configuration
   pub brought : r ≡ regular (entered .id) (entered .set)
   pub there : t .membership .configuration ≡ some entered
-  pub to : t .membership .mode ≡ Exchange-states
+  pub to : modeOf t ≡ Exchange-states
   pub says : x ≡ ownState entered t
   pub alone : rs ≡ state x ∷ []
   pub stored : b ≡ true
@@ -28,8 +28,8 @@ pub record StateSent (r : Record) (t : Server) (rs : List Record) (b : Bool) (x 
 pub record PartSent (s : Server) (r : Record) (t : Server) (rs : List Record) (b : Bool) (e : Record) : Type 0 where
   pub last : State
   pub brought : r ≡ state last
-  pub from : s .membership .mode ≡ Exchange-states
-  pub to : t .membership .mode ≡ Exchange-actions
+  pub from : modeOf s ≡ Exchange-states
+  pub to : modeOf t ≡ Exchange-actions
   pub complete : allStatesIn t ≡ true
   pub whole : rs ≡ ownPart (t .servers) (t .me) (t .log) (collected t)
   pub planned : Resent (t .me) (t .log) (collected t) e
@@ -39,7 +39,7 @@ pub record PartSent (s : Server) (r : Record) (t : Server) (rs : List Record) (b
 pub record CpcSent (s : Server) (r : Record) (t : Server) (rs : List Record) (b : Bool) (k i : ℕ) : Type 0 where
   pub ended : EndsExchange s r
   pub agreed : quorum (collected (hearing r s)) (hereSet s) ≡ true
-  pub to : t .membership .mode ≡ Construct
+  pub to : modeOf t ≡ Construct
   pub sender : k ≡ t .me
   pub configuration : i ≡ hereId t
   pub alone : rs ≡ cpc k i ∷ []

@@ -4,10 +4,10 @@ use Prim.Native.Nat.{ℕ, _+_}
 use mathlib.Core.Path.{_≡_}
 use mathlib.Core.Bool.{Bool, true, false}
 use mathlib.Core.List.{List, [], List·Memᴰ}
-use mathlib.Core.Logic.{_⊎_}
 use mathlib.Core.Option.{Option, none, some}
-use Rattle.format.specs.Types.{Action, Yellow, Record, recovery}
-use Rattle.replication.specs.Machine.Types.{Mode, Non-prim, Reg-prim, Trans-prim, Exchange-states, Exchange-actions, Construct, No, Un, Votes, Configuration, Server, noYellow}
+use Rattle.format.specs.Types.{Action, Yellow}
+use Rattle.replication.specs.Machine.Types.{Mode, Non-prim, Reg-prim, Trans-prim, Exchange-states, Exchange-actions, Construct, No, Un}
+use Rattle.replication.specs.Machine.Types.{Votes, Configuration, Server, noYellow, modeOf}
 use Rattle.replication.specs.Machine.Step.{theSet}
 
 -- ---- configurations
@@ -50,7 +50,7 @@ ModeFacts No v c t = InTransitional c t × Attempts v c
 ModeFacts Un v c t = InTransitional c t × Attempts v c
 
 abbrev pub ModeFactsOf : Server → Type 0
-ModeFactsOf s = ModeFacts (s .membership .mode) (s .votes) (s .membership .configuration) (s .membership .transitional)
+ModeFactsOf s = ModeFacts (modeOf s) (s .votes) (s .membership .configuration) (s .membership .transitional)
 
 -- ---- colours
 
@@ -66,7 +66,7 @@ ColourFacts No y l = Unit {0}
 ColourFacts Un y l = Unit {0}
 
 abbrev pub ColourFactsOf : Server → Type 0
-ColourFactsOf s = ColourFacts (s .membership .mode) (s .votes .yellow) (s .log .red)
+ColourFactsOf s = ColourFacts (modeOf s) (s .votes .yellow) (s .log .red)
 
 -- ---- an attempt under way
 
@@ -79,12 +79,3 @@ attempting Exchange-actions = false
 attempting Construct = true
 attempting No = true
 attempting Un = true
-
--- From the marking on, what was marked stays as it was, until Install, the next regular configuration, or recovery.
-pub data AttemptStep (s : Server) (r : Record) (t : Server) : Type 0 where
-  waits : attempting (t .membership .mode) ≡ true → t .log ≡ s .log → t .votes ≡ s .votes → t .membership .configuration ≡ s .membership .configuration
-      → AttemptStep s r t
-  installs : (t .membership .mode ≡ Reg-prim) ⊎ (t .membership .mode ≡ Trans-prim) → t .membership .configuration ≡ s .membership .configuration
-      → AttemptStep s r t
-  joins : t .membership .mode ≡ Exchange-states → AttemptStep s r t
-  recovers : r ≡ recovery → AttemptStep s r t

@@ -9,7 +9,8 @@ use mathlib.Core.List.{List}
 use Rattle.base.specs.Lists.{Begins}
 use Rattle.format.specs.Types.{State, Record, action, retransmission, state, cpc, regular, transitional, request, recovery, says}
 use Rattle.format.specs.Read.{read}
-use Rattle.replication.specs.Machine.Types.{Mode, Non-prim, Reg-prim, Trans-prim, Exchange-states, Exchange-actions, Construct, No, Un, Log, Votes, Server, contextOf}
+use Rattle.replication.specs.Machine.Types.{Mode, Non-prim, Reg-prim, Trans-prim, Exchange-states, Exchange-actions, Construct, No, Un}
+use Rattle.replication.specs.Machine.Types.{Log, Votes, Server, contextOf, modeOf}
 use Rattle.replication.specs.Machine.Colours.{cut}
 use Rattle.replication.specs.Machine.Step.{withState, allStatesIn}
 
@@ -53,7 +54,7 @@ inExchange Un = false
 -- In an exchange, when every member's State is in, the own one is, and says the last primary and the attempt that the server has.
 unfoldable pub OwnStateTrue : Server → Type 0
 OwnStateTrue s =
-    inExchange (s .membership .mode) ≡ true
+    inExchange (modeOf s) ≡ true
     → allStatesIn s ≡ true
     → (x : State) × (getD (s .membership .states) (s .me) none ≡ some x) × (x .last ≡ s .votes .last) × (x .attempt ≡ s .votes .attempt)
 

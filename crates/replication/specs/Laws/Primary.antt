@@ -3,30 +3,25 @@
 use Prim.Native.Nat.{ℕ}
 use mathlib.Core.Path.{_≡_}
 use mathlib.Core.List.{List, [], _∷_}
-use mathlib.Core.Option.{none, some}
 use Rattle.format.specs.Types.{Action, Record, action, regular, transitional, request, recovery}
-use Rattle.replication.specs.Machine.Types.{Trans-prim, Exchange-states, Configuration, Membership, Server}
+use Rattle.replication.specs.Machine.Types.{Trans-prim, Exchange-states, Configuration, Server, modeOf}
 use Rattle.replication.specs.Machine.Step.{unmarked, yellowValid}
 use Rattle.replication.specs.Laws.Folds.{Greened, Yellowed}
 
 -- In Reg_prim: an action is greened, a request is sent, a transitional configuration leads to Trans_prim.
 pub data RegularStep (s : Server) (r : Record) (t : Server) : Type 0 where
-  delivers : (a : Action) → r ≡ action a → t .membership ≡ s .membership → t .votes ≡ s .votes → Greened (a ∷ []) (s .log) (t .log) → RegularStep s r t
-  sends : (p : List ℕ) → r ≡ request p → t .membership ≡ s .membership → t .votes ≡ s .votes → Greened [] (s .log) (t .log) → RegularStep s r t
-  leaves : (x : ℕ) → r ≡ transitional x → t .membership .mode ≡ Trans-prim → t .votes ≡ s .votes → t .log ≡ s .log → RegularStep s r t
+  delivers : (a : Action) → r ≡ action a → t .membership ≡ s .membership → t .votes ≡ s .votes
+      → Greened (a ∷ []) (s .log) (t .log) → RegularStep s r t
+  sends : (p : List ℕ) → r ≡ request p → t .membership ≡ s .membership → t .votes ≡ s .votes
+      → Greened [] (s .log) (t .log) → RegularStep s r t
+  leaves : (x : ℕ) → r ≡ transitional x → modeOf t ≡ Trans-prim → t .votes ≡ s .votes → t .log ≡ s .log → RegularStep s r t
   recovers : r ≡ recovery → RegularStep s r t
 
 -- In Trans_prim: an action is yellowed, a request is held, a regular configuration leads to Exchange_states with yellow made valid.
 pub data TransitionalStep (s : Server) (r : Record) (t : Server) : Type 0 where
   delivers : (a : Action) → r ≡ action a → t .membership ≡ s .membership → Yellowed (a ∷ []) s t → TransitionalStep s r t
-  holds : (p : List ℕ) → r ≡ request p → t .membership ≡ s .membership → t .votes ≡ s .votes → t .log ≡ s .log → TransitionalStep s r t
-  joins : (c : Configuration) → r ≡ regular (c .id) (c .set) → t .membership .mode ≡ Exchange-states → t .votes ≡ yellowValid (unmarked (s .votes))
+  holds : (p : List ℕ) → r ≡ request p → t .membership ≡ s .membership → t .votes ≡ s .votes → t .log ≡ s .log
+      → TransitionalStep s r t
+  joins : (c : Configuration) → r ≡ regular (c .id) (c .set) → modeOf t ≡ Exchange-states → t .votes ≡ yellowValid (unmarked (s .votes))
       → t .log ≡ s .log → TransitionalStep s r t
   recovers : r ≡ recovery → TransitionalStep s r t
-
--- The configuration that a server has, and the transitional one after it, change only by events that bring one, and by recovery.
-pub data ConfigurationChange (m : Membership) (r : Record) (n : Membership) : Type 0 where
-  kept : n .configuration ≡ m .configuration → n .transitional ≡ m .transitional → ConfigurationChange m r n
-  joined : (c : Configuration) → r ≡ regular (c .id) (c .set) → n .configuration ≡ some c → n .transitional ≡ none → ConfigurationChange m r n
-  left : (x : ℕ) → r ≡ transitional x → n .configuration ≡ m .configuration → n .transitional ≡ some x → ConfigurationChange m r n
-  recovered : r ≡ recovery → n .configuration ≡ none → n .transitional ≡ none → ConfigurationChange m r n

@@ -11,7 +11,7 @@ use Rattle.base.specs.Lists.{isThere}
 use Rattle.format.specs.Types.{Record, Kind}
 use Rattle.format.specs.Range.{recordOk}
 use Rattle.format.specs.Read.{kindNamed, frameOk, recordIn}
-use Rattle.replication.specs.Machine.Types.{Server, contextOf}
+use Rattle.replication.specs.Machine.Types.{Server, contextOf, modeOf}
 use Rattle.replication.specs.Machine.Rules.{Rule, ruleFor, possible, fromMember, isIgnored, withinQuota, withinHeld}
 
 -- ---- the event
@@ -47,7 +47,7 @@ row2 s e = tested (λ r. not (recordOk (contextOf s) r)) (recordOf s e)
 
 -- "event impossible in this state, or an action or retransmission of this server's own action above those it has numbered"
 unfoldable pub row5 : Server → List ℕ → Bool
-row5 s e = tested (λ r. not (isThere (ruleFor (s .membership .mode) r) and possible s r)) (recordOf s e)
+row5 s e = tested (λ r. not (isThere (ruleFor (modeOf s) r) and possible s r)) (recordOf s e)
 
 unfoldable pub ignores : Option Rule → Bool
 ignores none = false
@@ -56,7 +56,7 @@ ignores (some k) = isIgnored k
 -- "record's sender outside the last regular set .., a State or CPC whose id is not that configuration's, or second State or CPC of that sender";
 -- "Ignored State and CPC skip 6."
 unfoldable pub row6 : Server → List ℕ → Bool
-row6 s e = tested (λ r. not (ignores (ruleFor (s .membership .mode) r)) and not (fromMember (s .membership) r)) (recordOf s e)
+row6 s e = tested (λ r. not (ignores (ruleFor (modeOf s) r)) and not (fromMember (s .membership) r)) (recordOf s e)
 
 -- "request, actions numbered so far plus held ones already q"
 unfoldable pub row3 : Server → List ℕ → Bool
@@ -74,7 +74,8 @@ pub data Refuses (s : Server) (e : List ℕ) : ℕ → Type 0 where
   by-row5 : row1 s e ≡ false → row2 s e ≡ false → row5 s e ≡ true → Refuses s e 5
   by-row6 : row1 s e ≡ false → row2 s e ≡ false → row5 s e ≡ false → row6 s e ≡ true → Refuses s e 6
   by-row3 : row1 s e ≡ false → row2 s e ≡ false → row5 s e ≡ false → row6 s e ≡ false → row3 s e ≡ true → Refuses s e 3
-  by-row4 : row1 s e ≡ false → row2 s e ≡ false → row5 s e ≡ false → row6 s e ≡ false → row3 s e ≡ false → row4 s e ≡ true → Refuses s e 4
+  by-row4 : row1 s e ≡ false → row2 s e ≡ false → row5 s e ≡ false → row6 s e ≡ false → row3 s e ≡ false
+      → row4 s e ≡ true → Refuses s e 4
 
 -- The number of the first row that applies, 0 if none does.
 unfoldable pub firstRow : Server → List ℕ → ℕ

@@ -4,9 +4,12 @@ use Prim.Native.Nat.{ℕ, _≤_, _<_}
 use mathlib.Core.Path.{_≡_}
 use mathlib.Core.Bool.{true}
 use Rattle.format.specs.Types.{Action, State}
-use Rattle.replication.specs.Machine.Types.{Reg-prim, Trans-prim, Exchange-states, Exchange-actions, Construct, No, Un, Server}
+use Rattle.replication.specs.Machine.Types.{Reg-prim, Trans-prim, Exchange-states, Exchange-actions, Construct, No, Un}
+use Rattle.replication.specs.Machine.Types.{Server, modeOf}
 use Rattle.replication.specs.Machine.Requests.{quotaLeft, roomToHold}
-use Rattle.replication.specs.Machine.Rules.{Rule, ignoring, reddening, greening, yellowing, lateInstalling, exchanging, collectingState, collectingCpc, collectingLateCpc, joining, joiningUnmarked, joiningYellow, leaving, requesting, recovering, memberOf, isOf}
+use Rattle.replication.specs.Machine.Rules.{Rule, ignoring, reddening, greening, yellowing, lateInstalling, exchanging, collectingState}
+use Rattle.replication.specs.Machine.Rules.{collectingCpc, collectingLateCpc, joining, joiningUnmarked, joiningYellow, leaving, requesting}
+use Rattle.replication.specs.Machine.Rules.{recovering, memberOf, isOf}
 use Rattle.replication.specs.Machine.WellFormedRanges.{PayloadFits, ActionFits, StateFits, ConfigurationFits, TransitionalFits}
 use Rattle.replication.specs.Laws.Transitions.{Leads}
 
@@ -28,16 +31,16 @@ pub record StateCame (s : Server) (x : State) : Type 0 where
 abbrev pub RuleFits : Rule → Server → Type 0
 RuleFits ignoring s = Unit {0}
 RuleFits (reddening a) s = Delivered s a
-RuleFits (greening a) s = Delivered s a × (s .membership .mode ≡ Reg-prim)
-RuleFits (yellowing a) s = Delivered s a × (s .membership .mode ≡ Trans-prim)
-RuleFits (lateInstalling a) s = Delivered s a × (s .membership .mode ≡ Un)
-RuleFits (exchanging p a) s = Delivered s a × (s .membership .mode ≡ Exchange-actions)
-RuleFits (collectingState x) s = StateCame s x × (s .membership .mode ≡ Exchange-states)
-RuleFits (collectingCpc k) s = (k < s .servers) × (s .membership .mode ≡ Construct)
-RuleFits (collectingLateCpc k) s = (k < s .servers) × (s .membership .mode ≡ No)
+RuleFits (greening a) s = Delivered s a × (modeOf s ≡ Reg-prim)
+RuleFits (yellowing a) s = Delivered s a × (modeOf s ≡ Trans-prim)
+RuleFits (lateInstalling a) s = Delivered s a × (modeOf s ≡ Un)
+RuleFits (exchanging p a) s = Delivered s a × (modeOf s ≡ Exchange-actions)
+RuleFits (collectingState x) s = StateCame s x × (modeOf s ≡ Exchange-states)
+RuleFits (collectingCpc k) s = (k < s .servers) × (modeOf s ≡ Construct)
+RuleFits (collectingLateCpc k) s = (k < s .servers) × (modeOf s ≡ No)
 RuleFits (joining c) s = ConfigurationFits (s .servers) (s .me) c
 RuleFits (joiningUnmarked c) s = ConfigurationFits (s .servers) (s .me) c
 RuleFits (joiningYellow c) s = ConfigurationFits (s .servers) (s .me) c
-RuleFits (leaving m t) s = TransitionalFits (s .servers) (s .me) (s .membership .configuration) t × Leads (s .membership .mode) m
+RuleFits (leaving m t) s = TransitionalFits (s .servers) (s .me) (s .membership .configuration) t × Leads (modeOf s) m
 RuleFits (requesting p) s = PayloadFits p × (quotaLeft s ≡ true) × (roomToHold s ≡ true)
 RuleFits recovering s = Unit {0}

@@ -8,15 +8,15 @@ use mathlib.Core.Option.{some}
 use lib.ListN.{length}
 use Rattle.base.specs.Tests.{_=?_}
 use Rattle.base.specs.Lists.{at}
-use Rattle.format.specs.Types.{Action, State, Record, action, retransmission, state, cpc, regular, request, recovery}
-use Rattle.replication.specs.Machine.Types.{Non-prim, Reg-prim, Exchange-states, Exchange-actions, Construct, Log, Configuration, Server}
+use Rattle.format.specs.Types.{Action, State, Record, action, retransmission, state, cpc, regular, request}
+use Rattle.replication.specs.Machine.Types.{Non-prim, Reg-prim, Exchange-states, Exchange-actions, Construct}
+use Rattle.replication.specs.Machine.Types.{Log, Configuration, Server, modeOf}
 use Rattle.replication.specs.Machine.Colours.{find}
 use Rattle.replication.specs.Machine.Exchange.{quorum}
 use Rattle.replication.specs.Machine.Plan.{missing, cutIn, greenIn, ownPart}
 use Rattle.replication.specs.Machine.Requests.{sendsNow, numberedFrom}
 use Rattle.replication.specs.Machine.Step.{ownState, hereSet, hereId, collected, allStatesIn, plannedNow, withCpc, allCpcsIn}
-use Rattle.replication.specs.Laws.Order.{hearing}
-use Rattle.replication.specs.Laws.Votes.{EndsExchange}
+use Rattle.replication.specs.Laws.Votes.{statesWith, EndsExchange}
 
 -- ---- own actions
 
@@ -36,34 +36,23 @@ pub record Numbers (s t : Server) (ps : List (List ℕ)) : Type 0 where
 pub data PutsOut (s : Server) (r : Record) (t : Server) : List Record → Bool → Type 0 where
   nothing : (b : Bool) → t .log .numbered ≡ s .log .numbered → PutsOut s r t [] b
   -- "on entry .. the state is stored, a State sent"
-  stateOnEntry : (c : Configuration) → r ≡ regular (c .id) (c .set) → t .membership .mode ≡ Exchange-states → t .membership .configuration ≡ some c
+  stateOnEntry : (c : Configuration) → r ≡ regular (c .id) (c .set) → modeOf t ≡ Exchange-states → t .membership .configuration ≡ some c
       → t .log .numbered ≡ s .log .numbered → PutsOut s r t (state (ownState c t) ∷ []) true
   -- "When every member's State is in: send one's part of the plan, to Exchange_actions."
-  partOfPlan : (x : State) → r ≡ state x → s .membership .mode ≡ Exchange-states → t .membership .mode ≡ Exchange-actions → allStatesIn t ≡ true
-      → (plannedNow t =? 0) ≡ false → t .log .numbered ≡ s .log .numbered → PutsOut s r t (ownPart (t .servers) (t .me) (t .log) (collected t)) false
+  partOfPlan : (x : State) → r ≡ state x → modeOf s ≡ Exchange-states → modeOf t ≡ Exchange-actions → allStatesIn t ≡ true
+      → (plannedNow t =? 0) ≡ false → t .log .numbered ≡ s .log .numbered
+      → PutsOut s r t (ownPart (t .servers) (t .me) (t .log) (collected t)) false
   -- "attempt + 1, mark .., store, send CPC, Construct"
-  cpcOnAttempt : EndsExchange s r → quorum (collected (hearing r s)) (hereSet s) ≡ true → t .membership .mode ≡ Construct → t .log .numbered ≡ s .log .numbered → PutsOut s r t (cpc (t .me) (hereId t) ∷ []) true
+  cpcOnAttempt : EndsExchange s r → quorum (statesWith r s) (hereSet s) ≡ true → modeOf t ≡ Construct
+      → t .log .numbered ≡ s .log .numbered → PutsOut s r t (cpc (t .me) (hereId t) ∷ []) true
   -- "Request: sent in Reg_prim, and in Non_prim .."
-  requestAtOnce : (p : List ℕ) → r ≡ request p → sendsNow (s .membership) ≡ true → t .membership ≡ s .membership → Numbers s t (p ∷ [])
-      → PutsOut s r t (map action (made s t (p ∷ []))) true
+  requestAtOnce : (p : List ℕ) → r ≡ request p → sendsNow (s .membership) ≡ true → t .membership ≡ s .membership
+      → Numbers s t (p ∷ []) → PutsOut s r t (map action (made s t (p ∷ []))) true
   -- "Elsewhere held, and sent in order on reaching those states."
-  heldAfterExchange : EndsExchange s r → quorum (collected (hearing r s)) (hereSet s) ≡ false → t .membership .mode ≡ Non-prim → Numbers s t (s .held) → PutsOut s r t (map action (made s t (s .held))) true
-  heldAfterInstall : (k i : ℕ) → r ≡ cpc k i → s .membership .mode ≡ Construct → allCpcsIn (withCpc k s) ≡ true → t .membership .mode ≡ Reg-prim
+  heldAfterExchange : EndsExchange s r → quorum (statesWith r s) (hereSet s) ≡ false → modeOf t ≡ Non-prim
       → Numbers s t (s .held) → PutsOut s r t (map action (made s t (s .held))) true
-
--- ---- requests
-
--- What becomes of the held requests.
-pub data HeldChange (s : Server) (r : Record) (t : Server) : List Record → Type 0 where
-  stay : (rs : List Record) → t .held ≡ s .held → HeldChange s r t rs
-  oneMore : (p : List ℕ) → r ≡ request p → t .held ≡ s .held ++ (p ∷ []) → HeldChange s r t []
-  areSent : t .held ≡ [] → HeldChange s r t (map action (made s t (s .held)))
-  areDropped : r ≡ recovery → t .held ≡ [] → HeldChange s r t []
-
--- A request is sent, stored first, or held.
-pub data RequestKept (s t : Server) (p : List ℕ) : List Record → Bool → Type 0 where
-  sent : sendsNow (s .membership) ≡ true → t .held ≡ s .held → RequestKept s t p (map action (made s t (p ∷ []))) true
-  held : sendsNow (s .membership) ≡ false → t .held ≡ s .held ++ (p ∷ []) → RequestKept s t p [] false
+  heldAfterInstall : (k i : ℕ) → r ≡ cpc k i → modeOf s ≡ Construct → allCpcsIn (withCpc k s) ≡ true → modeOf t ≡ Reg-prim
+      → Numbers s t (s .held) → PutsOut s r t (map action (made s t (s .held))) true
 
 -- An own action that t sends after s: its creator, its index above those that s has numbered and among those that t has, its green length; it is on
 -- the own list.
@@ -76,6 +65,8 @@ pub record Own (s t : Server) (a : Action) : Type 0 where
 
 -- A record of one's part of the plan: "positions from the shortest length + 1", or "for each creator .. from the lowest cut + 1 .., as red".
 pub data Resent (me : ℕ) (l : Log) (xs : List State) (r : Record) : Type 0 where
-  asGreen : (p : ℕ) (a : Action) → List·Memᴰ p (missing greenIn xs) → at (l .green) (p - 1) ≡ some a → r ≡ retransmission me p a → Resent me l xs r
-  asRed : (c i : ℕ) (a : Action) → List·Memᴰ i (missing (cutIn c) xs) → find (record { creator = c; index = i }) (l .green ++ l .red) ≡ some a
+  asGreen : (p : ℕ) (a : Action) → List·Memᴰ p (missing greenIn xs) → at (l .green) (p - 1) ≡ some a
+      → r ≡ retransmission me p a → Resent me l xs r
+  asRed : (c i : ℕ) (a : Action) → List·Memᴰ i (missing (cutIn c) xs)
+      → find (record { creator = c; index = i }) (l .green ++ l .red) ≡ some a
       → r ≡ retransmission me 0 a → Resent me l xs r

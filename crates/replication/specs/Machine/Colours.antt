@@ -8,7 +8,7 @@ use lib.ListN.{getD, set}
 use Rattle.base.specs.Tests.{_=?_, pick}
 use Rattle.format.specs.Types.{Id, Action}
 use Rattle.format.specs.Range.{sameId, hasId}
-use Rattle.replication.specs.Machine.Types.{Log, Votes, Server, withLog, withVotes}
+use Rattle.replication.specs.Machine.Types.{Log, Votes, Server, withLog, withVotes, withYellow}
 
 -- ---- actions in a list, by id
 
@@ -79,7 +79,7 @@ unfoldable pub addId : Id → List Id → List Id
 addId d ids = pick (hasId d ids) ids (ids ++ (d ∷ []))
 
 unfoldable pub joinYellow : Id → Votes → Votes
-joinYellow d v = record { last = v .last; attempt = v .attempt; mark = v .mark; yellow = record { status = v .yellow .status; ids = addId d (v .yellow .ids) } }
+joinYellow d v = withYellow (record { status = v .yellow .status; ids = addId d (v .yellow .ids) }) v
 
 unfoldable pub yellow : Action → Server → Server
 yellow a s = pick (isNext (s .log) a) (withVotes (joinYellow (a .id) (s .votes)) (withLog (enter a (s .log)) s)) s

@@ -1,15 +1,13 @@
 -- Document 01, 'End of exchange': what the collected States decide, in the order of their senders.
 -- Assumes nothing.
 use Prim.Native.Nat.{ℕ, _+_, _*_}
-use mathlib.Core.Bool.{Bool, true, false, not}
+use mathlib.Core.Bool.{Bool, not}
 use mathlib.Core.List.{List, [], _∷_}
-use mathlib.Core.Option.{Option, none, some}
-use lib.ListN.{length}
 use Rattle.base.specs.Tests.{_and_, _or_, _=?_, _<?_, pick}
 use Rattle.base.specs.Lists.{all, any, filter}
 use Rattle.base.specs.Sets.{inSet, inside, withMember, size, common, union}
 use Rattle.format.specs.Limits.{mostIndex}
-use Rattle.format.specs.Types.{Id, Primary, Mark, Yellow, State}
+use Rattle.format.specs.Types.{Primary, Mark, Yellow, State}
 use Rattle.format.specs.Range.{hasId}
 use Rattle.replication.specs.Machine.Types.{Votes, clearedMark, noYellow}
 use Rattle.replication.specs.Machine.Colours.{note}

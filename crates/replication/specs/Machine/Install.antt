@@ -1,6 +1,6 @@
 -- Document 01, 'Install'.
 -- Assumes nothing.
-use Prim.Native.Nat.{ℕ, zero, suc, _+_}
+use Prim.Native.Nat.{ℕ, _+_}
 use mathlib.Core.List.{List, [], _∷_, _++_, map}
 use Rattle.base.specs.Lists.{above}
 use Rattle.format.specs.Types.{Id}

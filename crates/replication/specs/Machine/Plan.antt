@@ -1,13 +1,13 @@
 -- Document 01, 'Plan': who resends what, from the collected States alone, in the order of their senders.
 -- Assumes nothing.
-use Prim.Native.Nat.{ℕ, zero, suc, _+_, _-_, max, min}
+use Prim.Native.Nat.{ℕ, _+_, _-_, max, min}
 use mathlib.Core.Bool.{Bool, false}
 use mathlib.Core.List.{List, [], _∷_, _++_, map}
 use mathlib.Core.Option.{Option, none, some}
 use lib.ListN.{length, getD}
 use Rattle.base.specs.Tests.{_=?_, pick}
 use Rattle.base.specs.Lists.{gather, gatherAll, above, below, at, sum}
-use Rattle.format.specs.Types.{Id, Action, State, Record, retransmission}
+use Rattle.format.specs.Types.{Action, State, Record, retransmission}
 use Rattle.replication.specs.Machine.Types.{Log}
 use Rattle.replication.specs.Machine.Colours.{find}
 

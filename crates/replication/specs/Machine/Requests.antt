@@ -9,7 +9,8 @@ use Rattle.base.specs.Tests.{_and_, _or_, _<?_}
 use Rattle.base.specs.Lists.{isThere}
 use Rattle.format.specs.Limits.{mostHeld}
 use Rattle.format.specs.Types.{Action, Record, action}
-use Rattle.replication.specs.Machine.Types.{Mode, Non-prim, Reg-prim, Trans-prim, Exchange-states, Exchange-actions, Construct, No, Un, Log, Membership, Server, withLog, withMembership, withHeld, noStates}
+use Rattle.replication.specs.Machine.Types.{Mode, Non-prim, Reg-prim, Trans-prim, Exchange-states, Exchange-actions, Construct, No, Un}
+use Rattle.replication.specs.Machine.Types.{Membership, Server, withLog, withMembership, withHeld, withOwn, noStates}
 use Rattle.replication.specs.Machine.Colours.{reds}
 
 -- The latest configuration since start or recovery is regular.
@@ -49,8 +50,7 @@ madeOf ps s = numberedFrom (s .me) (length (s .log .green)) (s .log .numbered) p
 
 -- "numbered, put on the own list"
 unfoldable pub numbered : List (List ℕ) → Server → Server
-numbered ps s =
-    withLog (record { green = s .log .green; red = s .log .red; cuts = s .log .cuts; own = s .log .own ++ madeOf ps s; numbered = s .log .numbered + length ps }) s
+numbered ps s = withLog (withOwn (madeOf ps s) (length ps) (s .log)) s
 
 -- "Elsewhere held"
 unfoldable pub hold : List ℕ → Server → Server
@@ -66,6 +66,11 @@ heldRecords s = map action (madeOf (s .held) s)
 -- "Recovery, from the stored image: Non_prim, no configuration, holds and States dropped, own-list actions above the own cut entered red"
 unfoldable pub recovered : Server → Server
 recovered s =
-    withMembership
-    (record { mode = Non-prim; configuration = none; transitional = none; states = noStates (s .servers); cpcs = s .membership .cpcs; come = s .membership .come })
-    (withHeld [] (withLog (reds (s .log .own) (s .log)) s))
+    withMembership (record {
+      mode = Non-prim;
+      configuration = none;
+      transitional = none;
+      states = noStates (s .servers);
+      cpcs = s .membership .cpcs;
+      come = s .membership .come;
+    }) (withHeld [] (withLog (reds (s .log .own) (s .log)) s))

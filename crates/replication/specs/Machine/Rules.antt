@@ -5,11 +5,12 @@ use mathlib.Core.Bool.{Bool, true, false, not}
 use mathlib.Core.List.{List}
 use mathlib.Core.Option.{Option, none, some}
 use lib.ListN.{getD}
-use Rattle.base.specs.Tests.{_and_, _or_, _=?_, _≤?_, _<?_}
+use Rattle.base.specs.Tests.{_and_, _or_, _=?_, _≤?_}
 use Rattle.base.specs.Lists.{isThere}
 use Rattle.base.specs.Sets.{inSet}
 use Rattle.format.specs.Types.{Action, State, Record, action, retransmission, state, cpc, regular, transitional, request, recovery}
-use Rattle.replication.specs.Machine.Types.{Mode, Non-prim, Reg-prim, Trans-prim, Exchange-states, Exchange-actions, Construct, No, Un, Configuration, Membership, Server}
+use Rattle.replication.specs.Machine.Types.{Mode, Non-prim, Reg-prim, Trans-prim, Exchange-states, Exchange-actions, Construct, No, Un}
+use Rattle.replication.specs.Machine.Types.{Configuration, Membership, Server}
 use Rattle.replication.specs.Machine.Requests.{quotaLeft, roomToHold}
 
 -- What an event that a state takes does there.
@@ -39,7 +40,8 @@ pub data Rule : Type 0 where
 
 -- ---- the table: a state takes an event by a rule, or not at all ("Any pair not named is refused 5")
 
--- "Non_prim: action .. red"; "Reg_prim: action green"; "Trans_prim: action yellow"; "Exchange_states: .. Action red."; "Un: action does Install, then yellow"
+-- "Non_prim: action .. red"; "Reg_prim: action green"; "Trans_prim: action yellow"; "Exchange_states: .. Action red."; "Un: action does Install,
+-- then yellow"
 unfoldable pub onAction : Mode → Action → Option Rule
 onAction Non-prim a = some (reddening a)
 onAction Reg-prim a = some (greening a)

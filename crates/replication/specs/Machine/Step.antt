@@ -2,7 +2,7 @@
 -- Assumes nothing.
 use Prim.Native.Nat.{ℕ, _+_}
 use mathlib.Core.Bool.{Bool, true, false, not}
-use mathlib.Core.List.{List, [], _∷_, _++_, map}
+use mathlib.Core.List.{List, [], _∷_, map}
 use mathlib.Core.Option.{Option, none, some}
 use lib.ListN.{length, drop, set}
 use Rattle.base.specs.Tests.{_and_, _or_, _=?_, _≤?_, pick}
@@ -11,13 +11,18 @@ use Rattle.base.specs.Sets.{inSet, inside, withMember}
 use Rattle.format.specs.Types.{Action, State, Record, action, state, cpc, Reading, says}
 use Rattle.format.specs.Read.{read}
 use Rattle.format.specs.Write.{write}
-use Rattle.replication.specs.Machine.Types.{Mode, Non-prim, Reg-prim, Trans-prim, Exchange-states, Exchange-actions, Construct, No, Un, Log, Votes, Configuration, Membership, Server, Outcome, refused, taken, withLog, withVotes, withMembership, withNoted, withMode, withCome, inMode, clearedMark, noStates, contextOf}
+use Rattle.replication.specs.Machine.Types.{Mode, Non-prim, Reg-prim, Trans-prim, Exchange-states, Exchange-actions, Construct, Un}
+use Rattle.replication.specs.Machine.Types.{Log, Votes, Configuration, Server, Outcome, refused, taken, withLog, withVotes, withMembership}
+use Rattle.replication.specs.Machine.Types.{withNoted, withYellow, withMode, withTransitional, withStates, withCpcs, withCome}
+use Rattle.replication.specs.Machine.Types.{inMode, clearedMark, noStates, contextOf}
 use Rattle.replication.specs.Machine.Colours.{red, green, yellow, note}
 use Rattle.replication.specs.Machine.Plan.{planned, ownPart}
 use Rattle.replication.specs.Machine.Exchange.{noteAll, takenVotes, attempted, quorum}
 use Rattle.replication.specs.Machine.Install.{install}
 use Rattle.replication.specs.Machine.Requests.{sendsNow, numbered, madeOf, hold, sendHeld, heldRecords, recovered}
-use Rattle.replication.specs.Machine.Rules.{Rule, ignoring, reddening, greening, yellowing, lateInstalling, exchanging, collectingState, collectingCpc, collectingLateCpc, joining, joiningUnmarked, joiningYellow, leaving, requesting, recovering, ruleFor, possible, fromMember, isIgnored, withinQuota, withinHeld}
+use Rattle.replication.specs.Machine.Rules.{Rule, ignoring, reddening, greening, yellowing, lateInstalling, exchanging, collectingState}
+use Rattle.replication.specs.Machine.Rules.{collectingCpc, collectingLateCpc, joining, joiningUnmarked, joiningYellow, leaving, requesting}
+use Rattle.replication.specs.Machine.Rules.{recovering, ruleFor, possible, fromMember, isIgnored, withinQuota, withinHeld}
 
 -- ---- outcomes: from s to t
 
@@ -41,7 +46,14 @@ sent s t r = taken t r false (greened s t)
 
 unfoldable pub entering : Configuration → Server → Server
 entering c s =
-    withMembership (record { mode = Exchange-states; configuration = some c; transitional = none; states = noStates (s .servers); cpcs = 0; come = s .membership .come }) s
+    withMembership (record {
+      mode = Exchange-states;
+      configuration = some c;
+      transitional = none;
+      states = noStates (s .servers);
+      cpcs = 0;
+      come = s .membership .come;
+    }) s
 
 unfoldable pub ownState : Configuration → Server → State
 ownState c s = record {
@@ -64,7 +76,7 @@ unmarked v = record { last = v .last; attempt = v .attempt; mark = clearedMark; 
 
 -- "makes yellow valid"
 unfoldable pub yellowValid : Votes → Votes
-yellowValid v = record { last = v .last; attempt = v .attempt; mark = v .mark; yellow = record { status = 1; ids = v .yellow .ids } }
+yellowValid v = withYellow (record { status = 1; ids = v .yellow .ids }) v
 
 -- ---- the end of an exchange
 
@@ -104,8 +116,7 @@ endExchange s t =
 -- ---- States: "When every member's State is in: send one's part of the plan, to Exchange_actions."
 
 unfoldable pub withState : State → Server → Server
-withState x s =
-    withMembership (record { mode = s .membership .mode; configuration = s .membership .configuration; transitional = s .membership .transitional; states = set (s .membership .states) (x .sender) (some x); cpcs = s .membership .cpcs; come = s .membership .come }) s
+withState x s = withMembership (withStates (set (s .membership .states) (x .sender) (some x)) (s .membership)) s
 
 -- Each member from the number k on has its State in.
 unfoldable pub allFrom : ℕ → ℕ → List (Option State) → Bool
@@ -151,8 +162,7 @@ exchange p a s = pick (allCome (exchanged p a s)) (endExchange s (exchanged p a 
 -- ---- CPCs
 
 unfoldable pub withCpc : ℕ → Server → Server
-withCpc k s =
-    withMembership (record { mode = s .membership .mode; configuration = s .membership .configuration; transitional = s .membership .transitional; states = s .membership .states; cpcs = withMember k (s .membership .cpcs); come = s .membership .come }) s
+withCpc k s = withMembership (withCpcs (withMember k (s .membership .cpcs)) (s .membership)) s
 
 unfoldable pub allCpcsIn : Server → Bool
 allCpcsIn s = inside (hereSet s) (s .membership .cpcs)
@@ -171,8 +181,7 @@ collectLateCpc k s = pick (allCpcsIn (withCpc k s)) (quiet s (inMode Un (withCpc
 -- ---- the other events
 
 unfoldable pub leave : Mode → ℕ → Server → Server
-leave m t s =
-    withMembership (record { mode = m; configuration = s .membership .configuration; transitional = some t; states = s .membership .states; cpcs = s .membership .cpcs; come = s .membership .come }) s
+leave m t s = withMembership (withMode m (withTransitional t (s .membership))) s
 
 -- "Reg_prim: action green; the creator's green length is noted"
 unfoldable pub greenAndNote : Action → Server → Server

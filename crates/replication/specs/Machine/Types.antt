@@ -1,8 +1,8 @@
 -- The state of one server, and what an event gives. Document 01, 'What each event does'.
 -- Assumes nothing.
-use Prim.Native.Nat.{ℕ}
+use Prim.Native.Nat.{ℕ, _+_}
 use mathlib.Core.Bool.{Bool}
-use mathlib.Core.List.{List, [], _∷_}
+use mathlib.Core.List.{List, [], _++_}
 use mathlib.Core.Option.{Option, none, some}
 use lib.ListN.{replicate}
 use Rattle.base.specs.Sets.{everyone}
@@ -63,26 +63,54 @@ pub data Outcome (R : Type 0) : Type 0 where
 
 -- ---- changes of one part
 
+-- The server s with these parts.
+abbrev parts : Server → Log → Votes → Membership → List (List ℕ) → List ℕ → Server
+parts s l v m h d =
+    record { servers = s .servers; quota = s .quota; me = s .me; log = l; votes = v; membership = m; held = h; noted = d }
+
 abbrev pub withLog : Log → Server → Server
-withLog l s = record { servers = s .servers; quota = s .quota; me = s .me; log = l; votes = s .votes; membership = s .membership; held = s .held; noted = s .noted }
+withLog l s = parts s l (s .votes) (s .membership) (s .held) (s .noted)
 
 abbrev pub withVotes : Votes → Server → Server
-withVotes v s = record { servers = s .servers; quota = s .quota; me = s .me; log = s .log; votes = v; membership = s .membership; held = s .held; noted = s .noted }
+withVotes v s = parts s (s .log) v (s .membership) (s .held) (s .noted)
 
 abbrev pub withMembership : Membership → Server → Server
-withMembership m s = record { servers = s .servers; quota = s .quota; me = s .me; log = s .log; votes = s .votes; membership = m; held = s .held; noted = s .noted }
+withMembership m s = parts s (s .log) (s .votes) m (s .held) (s .noted)
 
 abbrev pub withHeld : List (List ℕ) → Server → Server
-withHeld h s = record { servers = s .servers; quota = s .quota; me = s .me; log = s .log; votes = s .votes; membership = s .membership; held = h; noted = s .noted }
+withHeld h s = parts s (s .log) (s .votes) (s .membership) h (s .noted)
 
 abbrev pub withNoted : List ℕ → Server → Server
-withNoted l s = record { servers = s .servers; quota = s .quota; me = s .me; log = s .log; votes = s .votes; membership = s .membership; held = s .held; noted = l }
+withNoted d s = parts s (s .log) (s .votes) (s .membership) (s .held) d
+
+-- These on the own list, and k more numbered.
+abbrev pub withOwn : List Action → ℕ → Log → Log
+withOwn more k l = record { green = l .green; red = l .red; cuts = l .cuts; own = l .own ++ more; numbered = l .numbered + k }
+
+abbrev pub withYellow : Yellow → Votes → Votes
+withYellow y v = record { last = v .last; attempt = v .attempt; mark = v .mark; yellow = y }
+
+-- The membership c, in its configuration, with these.
+abbrev within : Membership → Mode → Option ℕ → List (Option State) → ℕ → ℕ → Membership
+within c m t xs k n = record { mode = m; configuration = c .configuration; transitional = t; states = xs; cpcs = k; come = n }
 
 abbrev pub withMode : Mode → Membership → Membership
-withMode m c = record { mode = m; configuration = c .configuration; transitional = c .transitional; states = c .states; cpcs = c .cpcs; come = c .come }
+withMode m c = within c m (c .transitional) (c .states) (c .cpcs) (c .come)
+
+abbrev pub withTransitional : ℕ → Membership → Membership
+withTransitional t c = within c (c .mode) (some t) (c .states) (c .cpcs) (c .come)
+
+abbrev pub withStates : List (Option State) → Membership → Membership
+withStates xs c = within c (c .mode) (c .transitional) xs (c .cpcs) (c .come)
+
+abbrev pub withCpcs : ℕ → Membership → Membership
+withCpcs k c = within c (c .mode) (c .transitional) (c .states) k (c .come)
 
 abbrev pub withCome : ℕ → Membership → Membership
-withCome k c = record { mode = c .mode; configuration = c .configuration; transitional = c .transitional; states = c .states; cpcs = c .cpcs; come = k }
+withCome n c = within c (c .mode) (c .transitional) (c .states) (c .cpcs) n
+
+abbrev pub modeOf : Server → Mode
+modeOf s = s .membership .mode
 
 abbrev pub inMode : Mode → Server → Server
 inMode m s = withMembership (withMode m (s .membership)) s

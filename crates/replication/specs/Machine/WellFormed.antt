@@ -5,16 +5,18 @@ use mathlib.Core.Bool.{Bool, true, false, not}
 use mathlib.Core.List.{List, [], _∷_, _++_, map}
 use mathlib.Core.Option.{Option, none, some}
 use lib.ListN.{length}
-use Rattle.base.specs.Tests.{_and_, _or_, _=?_, _≤?_, _<?_}
+use Rattle.base.specs.Tests.{_and_, _=?_, _≤?_, _<?_}
 use Rattle.base.specs.Lists.{all, above, isThere}
 use Rattle.base.specs.Sets.{inSet, inside}
 use Rattle.format.specs.Limits.{mostHeld, mostIndex}
 use Rattle.format.specs.Types.{Id, Action, State, Context}
-use Rattle.format.specs.Range.{contextOk, lengthOk, payloadOk, actionOk, cutsOk, indexOk, setOk, ownSetOk, primaryOk, markOk, yellowOk, configurationOk, stateOk, sameId, hasId, idsDiffer}
-use Rattle.replication.specs.Machine.Types.{Mode, Non-prim, Reg-prim, Trans-prim, Exchange-states, Exchange-actions, Construct, No, Un, Log, Votes, Configuration, Membership, Server, contextOf}
+use Rattle.format.specs.Range.{contextOk, lengthOk, payloadOk, actionOk, cutsOk, indexOk, setOk, ownSetOk, primaryOk, markOk, yellowOk}
+use Rattle.format.specs.Range.{configurationOk, stateOk, sameId, hasId, idsDiffer}
+use Rattle.replication.specs.Machine.Types.{Mode, Non-prim, Reg-prim, Trans-prim, Exchange-states, Exchange-actions, Construct, No, Un}
+use Rattle.replication.specs.Machine.Types.{Log, Votes, Configuration, Membership, Server, contextOf}
 use Rattle.replication.specs.Machine.Colours.{cut}
 use Rattle.replication.specs.Machine.Install.{idsUpTo}
-use Rattle.replication.specs.Machine.Step.{theSet, theId, allStatesIn, allCome}
+use Rattle.replication.specs.Machine.Step.{allStatesIn, allCome}
 
 -- ---- "a number or set out of range"
 

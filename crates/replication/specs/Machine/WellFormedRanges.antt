@@ -1,35 +1,23 @@
--- Document 01, 'Records' and row 8: what it says of numbers and lists that the parts of a record or a state are in range, with n servers and quota q.
+-- Document 01, 'Records': what it says of numbers and lists that the parts of a record are in range, with n servers and quota q.
 -- Assumes nothing.
 use Prim.Native.Nat.{ℕ, _*_, _^_, _≤_, _<_}
 use mathlib.Core.Path.{_≡_}
 use mathlib.Core.Bool.{true}
 use mathlib.Core.List.{List}
-use mathlib.Core.Option.{Option, none, some}
+use mathlib.Core.Option.{Option}
 use lib.ListN.{length, getD}
 use Rattle.base.specs.Bytes.{Bytes}
 use Rattle.base.specs.Lists.{Each}
 use Rattle.base.specs.Counts.{count}
 use Rattle.base.specs.Sets.{inSet}
-use Rattle.format.specs.Limits.{fewestServers, mostServers, leastQuota, mostQuota, mostPayload, mostIndex}
+use Rattle.format.specs.Limits.{mostPayload, mostIndex}
 use Rattle.format.specs.Types.{Id, Action, Primary, Mark, Yellow, State}
 use Rattle.format.specs.Range.{sameId, insideLast}
-use Rattle.replication.specs.Machine.Types.{Log, Votes, Configuration, Membership, setOf}
-use Rattle.replication.specs.Machine.Colours.{cut}
-use Rattle.replication.specs.Machine.Rules.{memberOf, isOf}
+use Rattle.replication.specs.Machine.Types.{Configuration, setOf}
 
 -- How often the id d stands in a list.
 abbrev pub idCount : Id → List Id → ℕ
 idCount d xs = count (sameId d) xs
-
--- ---- the parts of records
-
--- "Servers: 2 to 8, numbered from 0"; "Quota q: 1 to 256"
-pub record SizesFit (n q me : ℕ) : Type 0 where
-  pub fewest : fewestServers ≤ n
-  pub most : n ≤ mostServers
-  pub least : leastQuota ≤ q
-  pub highest : q ≤ mostQuota
-  pub own : me < n
 
 -- "Indexes of actions run 1 to q"
 pub record IdFits (n q : ℕ) (d : Id) : Type 0 where
@@ -89,34 +77,3 @@ pub record ConfigurationFits (n me : ℕ) (d : Configuration) : Type 0 where
 pub record TransitionalFits (n me : ℕ) (d : Option Configuration) (t : ℕ) : Type 0 where
   pub set : OwnSetFits n me t
   pub inside : insideLast (setOf d) t ≡ true
-
--- ---- the parts of a state: "a number or set out of range" does not apply
-
-pub record LogRanges (n q : ℕ) (l : Log) : Type 0 where
-  pub green : Each (ActionFits n q) (l .green)
-  pub red : Each (ActionFits n q) (l .red)
-  pub cuts-length : length (l .cuts) ≡ n
-  pub cuts : (c : ℕ) → cut l c ≤ q
-  pub own : Each (ActionFits n q) (l .own)
-  pub numbered : l .numbered ≤ q
-
-pub record VotesRanges (n q : ℕ) (v : Votes) : Type 0 where
-  pub last : PrimaryFits n (v .last)
-  pub attempt : v .attempt ≤ mostIndex
-  pub mark : MarkFits n (v .mark)
-  pub yellow : YellowFits n q (v .yellow)
-
--- A State collected at the place k: of the configuration and of its member k.
-pub record CollectedFits (n q : ℕ) (d : Option Configuration) (k : ℕ) (x : State) : Type 0 where
-  pub fits : StateFits n q x
-  pub sender : x .sender ≡ k
-  pub member : memberOf d k ≡ true
-  pub configuration : isOf d (x .configuration) ≡ true
-
-pub record MembershipRanges (n q me : ℕ) (m : Membership) : Type 0 where
-  pub configuration : (d : Configuration) → m .configuration ≡ some d → ConfigurationFits n me d
-  pub transitional : (t : ℕ) → m .transitional ≡ some t → TransitionalFits n me (m .configuration) t
-  pub states-length : length (m .states) ≡ n
-  pub states : (k : ℕ) (x : State) → getD (m .states) k none ≡ some x → CollectedFits n q (m .configuration) k x
-  pub cpcs : m .cpcs < 2 ^ n
-  pub come : m .come ≤ 2 * (n * q)

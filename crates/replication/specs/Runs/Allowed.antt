@@ -3,17 +3,18 @@
 -- Assumes nothing.
 use Prim.Native.Nat.{ℕ, _<_, _≤_}
 use mathlib.Core.Path.{_≡_}
-use mathlib.Core.Bool.{Bool, true, false}
+use mathlib.Core.Bool.{true, false}
 use mathlib.Core.List.{List}
-use mathlib.Core.Option.{Option, none, some}
+use mathlib.Core.Option.{none, some}
 use lib.ListN.{length}
 use Rattle.base.specs.Lists.{at}
 use Rattle.base.specs.Sets.{inSet}
 use Rattle.format.specs.Range.{sizesOk}
 use Rattle.format.specs.Types.{Record, transitional, recovery}
 use Rattle.replication.specs.Machine.Types.{Configuration}
-use Rattle.replication.specs.Runs.Run.{Entry, event, store, Run, worldAt, placeAt, members, putOut, sentAt}
-use Rattle.replication.specs.Runs.Happenings.{Message, isMessage, Configured, Happening, entry-at, sending-of, Of, Crashes, Comes, Falls, Takes, Left, Sends, Delivers, Delivered, Configures, Passes, Causes, Precedes}
+use Rattle.replication.specs.Runs.Run.{event, store, Run, worldAt, placeAt, members, putOut, sentAt}
+use Rattle.replication.specs.Runs.Happenings.{Message, isMessage, Configured, Happening, entry-at, sending-of, Of, Crashes, Comes, Falls}
+use Rattle.replication.specs.Runs.Happenings.{Takes, Left, Sends, Delivers, Delivered, Configures, Passes, Causes, Precedes}
 
 pub record Allowed (n q : ℕ) (l : Run) : Type 0 where
   -- ---- what the run chooses
@@ -33,7 +34,8 @@ pub record Allowed (n q : ℕ) (l : Run) : Type 0 where
   -- "none of them comes to one server twice"
   pub once : (p r i : ℕ) (c : Configuration) → Takes n q l p i c → Takes n q l r i c → p ≡ r
   -- "and between two of them at a server lies a transitional one or a recovery"
-  pub between : (p i : ℕ) (c d : Configuration) → Takes n q l p i c → placeAt n q l i p .regular ≡ some d → placeAt n q l i p .transitional ≡ none → ⊥
+  pub between : (p i : ℕ) (c d : Configuration) → Takes n q l p i c
+      → placeAt n q l i p .regular ≡ some d → placeAt n q l i p .transitional ≡ none → ⊥
   -- "a second transitional cannot come"
   pub one-transitional : (p i s : ℕ) → Comes n q l p i (transitional s) → placeAt n q l i p .transitional ≡ none
   -- "every record delivered was written by a server's engine and sent by that server"
@@ -41,8 +43,8 @@ pub record Allowed (n q : ℕ) (l : Run) : Type 0 where
       → (source p .sending < p) × (at (sentAt n q l (source p .sending)) (source p .number) ≡ some e)
   -- "A crash may fall before an event, or after it and its store, if any, with none or only the first few of its records sent": the crash comes
   -- before the server's next event.
-  pub cut-by-crash : (p r i k m : ℕ) (e f : List ℕ) → at l p ≡ some (event i e k) → k < length (putOut n q l p) → p < r → at l r ≡ some (event i f m)
-      → (x : ℕ) × Crashes l x i × (p < x) × (x < r)
+  pub cut-by-crash : (p r i k m : ℕ) (e f : List ℕ) → at l p ≡ some (event i e k) → k < length (putOut n q l p)
+      → p < r → at l r ≡ some (event i f m) → (x : ℕ) × Crashes l x i × (p < x) × (x < r)
   -- "that server's next event is then recovery, from its store."
   pub recovers : (p i k : ℕ) (e : List ℕ) → at l p ≡ some (event i e k) → worldAt n q l p .down i ≡ true → Comes n q l p i recovery
   -- A store comes to a server that is up.
@@ -54,7 +56,8 @@ pub record Allowed (n q : ℕ) (l : Run) : Type 0 where
   pub same-configuration : (p i : ℕ) (m : Message) → Delivers n q l source name p i m
       → (j : ℕ) × (c : Configuration) × Sends n q l j m c × (placeAt n q l i p .regular ≡ some c)
   -- "1.4 .. if there exists deliver_p(m, c), then there does not exist deliver_p(m, c') where c ≠ c'."
-  pub one-delivery : (p r i : ℕ) (m : Message) → Delivers n q l source name p i m → Delivers n q l source name r i m → placeAt n q l i p ≡ placeAt n q l i r
+  pub one-delivery : (p r i : ℕ) (m : Message) → Delivers n q l source name p i m → Delivers n q l source name r i m
+      → placeAt n q l i p ≡ placeAt n q l i r
   -- ---- Specification 2: 2.1 forbids no finite run; 2.2 is `placeAt`; 2.3 and 2.4 are `Precedes`
 
   -- A transitional configuration has one regular one before it, and one set.
@@ -67,21 +70,24 @@ pub record Allowed (n q : ℕ) (l : Run) : Type 0 where
   pub self-delivery : (i : ℕ) (m : Message) (c : Configuration) → Sends n q l i m c → Left n q l i c → Delivered n q l source name i m
   -- "4. If there exist deliver_conf_p(c), deliver_conf_p(c''), deliver_conf_q(c), deliver_conf_q(c'') and deliver_p(m, c) .. then there exists
   -- deliver_q(m, c)."
-  pub atomic : (i j p r x y z w : ℕ) (m : Message) (c d : Configured) (f : Configuration) → Passes n q l source name i c d p r → Passes n q l source name j c d x y
+  pub atomic : (i j p r x y z w : ℕ) (m : Message) (c d : Configured) (f : Configuration)
+      → Passes n q l source name i c d p r → Passes n q l source name j c d x y
       → p < z → z < r → Delivers n q l source name z i m
       → y ≤ w → Takes n q l w j f → ((v : ℕ) → x < v → v < w → Falls n q l v j → ⊥)
       → (v : ℕ) × Delivers n q l source name v j m × (x < v) × (v < y)
-  -- "5. If there exist send_p(m, c), send_q(m', c) and deliver_r(m', com_r(c)) such that send_p(m, c) → send_q(m', c)": "whoever delivers a record has
-  -- before it delivered every record sent in the same regular configuration that causally precedes it"
+  -- "5. If there exist send_p(m, c), send_q(m', c) and deliver_r(m', com_r(c)) such that send_p(m, c) → send_q(m', c)": "whoever delivers a
+  -- record has before it delivered every record sent in the same regular configuration that causally precedes it"
   pub causal : (p i j k : ℕ) (m m′ : Message) (c : Configuration) → Sends n q l i m c → Sends n q l j m′ c
       → Causes n q l source name (sending-of m) (sending-of m′) → Delivers n q l source name p k m′
       → (x : ℕ) × Delivers n q l source name x k m × (x < p)
   -- "6.1 If there exist events e and e' such that e → e', then ord(e) < ord(e')."
   pub rises : (a b : Happening) → Precedes n q l source name a b → ord a < ord b
   -- "6.2 If there exist events e and e' that are either deliver_conf_p(c) and deliver_conf_q(c)"
-  pub same-moment : (p r i j : ℕ) (c : Configured) → Configures n q l source name p i c → Configures n q l source name r j c → ord (entry-at p) ≡ ord (entry-at r)
+  pub same-moment : (p r i j : ℕ) (c : Configured)
+      → Configures n q l source name p i c → Configures n q l source name r j c → ord (entry-at p) ≡ ord (entry-at r)
   -- "or deliver_p(m, c) and deliver_q(m, c'), then ord(e) = ord(e')."
-  pub same-message : (p r i j : ℕ) (m : Message) → Delivers n q l source name p i m → Delivers n q l source name r j m → ord (entry-at p) ≡ ord (entry-at r)
+  pub same-message : (p r i j : ℕ) (m : Message)
+      → Delivers n q l source name p i m → Delivers n q l source name r j m → ord (entry-at p) ≡ ord (entry-at r)
   -- "Specification 6's one order": two records of one regular configuration never share a moment.
   pub one-order : (p r i j : ℕ) (m m′ : Message) → Delivers n q l source name p i m → Delivers n q l source name r j m′
       → placeAt n q l i p .regular ≡ placeAt n q l j r .regular → ord (entry-at p) ≡ ord (entry-at r) → m ≡ m′

@@ -5,17 +5,16 @@ use mathlib.Core.Path.{_≡_}
 use mathlib.Core.Bool.{Bool, true, false}
 use mathlib.Core.List.{List}
 use mathlib.Core.Logic.{_↔_}
-use mathlib.Core.Option.{Option, none, some}
+use mathlib.Core.Option.{some}
 use lib.ListN.{length}
 use Rattle.base.specs.Tests.{pick}
 use Rattle.base.specs.Lists.{at, Begins}
 use Rattle.base.specs.Sets.{everyone}
-use Rattle.format.specs.Types.{Action, Primary, says}
-use Rattle.replication.specs.Machine.Types.{Server, Outcome, taken}
-use Rattle.replication.specs.Machine.Rules.{ruleFor}
+use Rattle.format.specs.Types.{Action, Primary}
+use Rattle.replication.specs.Machine.Types.{Server, taken}
 use Rattle.replication.specs.Machine.Step.{installs}
-use Rattle.replication.specs.Images.{Images, arrive, sourceOf}
-use Rattle.replication.specs.Runs.Run.{Entry, event, Run, worldAt}
+use Rattle.replication.specs.Images.{arrive, sourceOf}
+use Rattle.replication.specs.Runs.Run.{event, Run, worldAt}
 use Rattle.replication.specs.Runs.Strays.{AllowedWithStrays}
 
 -- "equal exactly when equally long, else the shorter begins the longer"
@@ -55,11 +54,13 @@ module _ (n q : ℕ) (l : Run) where
     -- "Stored green lists agree likewise at different moments"
     pub stored : (p r i j : ℕ) → i < n → j < n → ListsAgree (storedGreen p i) (storedGreen r j)
     -- What is green in a store keeps its place: it agrees with what is green later in the memory of any server that is up ..
-    pub later : (p r i j : ℕ) → p ≤ r → i < n → j < n → worldAt n q l r .down j ≡ false → ListsAgree (storedGreen p i) (memoryGreen r j)
+    pub later : (p r i j : ℕ) → p ≤ r → i < n → j < n → worldAt n q l r .down j ≡ false
+        → ListsAgree (storedGreen p i) (memoryGreen r j)
     -- .. and the store never loses it.
     pub kept : (p r i : ℕ) → p ≤ r → i < n → Begins (storedGreen p i) (storedGreen r i)
     -- Every last primary known anywhere, in memory or store, is one of the primary components.
-    pub known : (p i : ℕ) → i < n → IsPrimary (worldAt n q l p .images i .memory .votes .last) × IsPrimary (worldAt n q l p .images i .store .votes .last)
+    pub known : (p i : ℕ) → i < n
+        → IsPrimary (worldAt n q l p .images i .memory .votes .last) × IsPrimary (worldAt n q l p .images i .store .votes .last)
 
 -- Demand 3: "Over every allowed run of all servers, refused events included, crashes wherever they fall".
 unfoldable pub Demand3 : Type 0

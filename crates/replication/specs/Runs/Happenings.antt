@@ -1,15 +1,16 @@
--- What happens in a run, in the thesis's terms (chapter 4): configuration changes, sendings, deliveries, crashes; causality, and the precedes relation.
+-- What happens in a run, in the thesis's terms (chapter 4): configuration changes, sendings, deliveries, crashes; causality, and the precedes
+-- relation.
 -- Assumes nothing.
 use Prim.Native.Nat.{ℕ, suc, _<_}
 use mathlib.Core.Path.{_≡_}
 use mathlib.Core.Bool.{Bool, true, false}
 use mathlib.Core.List.{List}
-use mathlib.Core.Option.{Option, none, some}
+use mathlib.Core.Option.{some}
 use lib.ListN.{length}
 use Rattle.base.specs.Lists.{at}
 use Rattle.format.specs.Types.{Record, action, retransmission, state, cpc, regular, transitional, request, recovery, says}
 use Rattle.replication.specs.Machine.Types.{Configuration}
-use Rattle.replication.specs.Runs.Run.{Entry, event, crash, Run, serverOf, Place, placeAt, heardAt, sentAt}
+use Rattle.replication.specs.Runs.Run.{Entry, event, crash, Run, serverOf, placeAt, heardAt, sentAt}
 
 -- A record that was sent, by its place and not by its bytes: the record `number` of those sent at the place `sending`.
 pub record Message : Type 0 where
@@ -111,9 +112,10 @@ module _ (n q : ℕ) (l : Run) where
       -- 1.2, the events within one server: its entries, and the sendings of an entry's records, "in their order .. and before its next event"
       in-turn : {p r : ℕ} (i : ℕ) → Of l p i → Of l r i → p < r → Causes (entry-at p) (entry-at r)
       sends : (m : Message) → m .number < length (sentAt n q l (m .sending)) → Causes (entry-at (m .sending)) (sending-of m)
-      in-order : (m m′ : Message) → m .sending ≡ m′ .sending → m .number < m′ .number → m′ .number < length (sentAt n q l (m′ .sending))
-          → Causes (sending-of m) (sending-of m′)
-      before-next : {r : ℕ} (i : ℕ) (m : Message) → m .number < length (sentAt n q l (m .sending)) → Of l (m .sending) i → Of l r i → m .sending < r → Causes (sending-of m) (entry-at r)
+      in-order : (m m′ : Message) → m .sending ≡ m′ .sending → m .number < m′ .number
+          → m′ .number < length (sentAt n q l (m′ .sending)) → Causes (sending-of m) (sending-of m′)
+      before-next : {r : ℕ} (i : ℕ) (m : Message) → m .number < length (sentAt n q l (m .sending))
+          → Of l (m .sending) i → Of l r i → m .sending < r → Causes (sending-of m) (entry-at r)
       -- 1.3
       carries : {p : ℕ} (i : ℕ) (m : Message) → Delivers p i m → Causes (sending-of m) (entry-at p)
       -- 1.1
@@ -123,7 +125,9 @@ module _ (n q : ℕ) (l : Run) where
     pub data Precedes : Happening → Happening → Type 0 where
       causes : {a b : Happening} → Causes a b → Precedes a b
       -- "2.3 If there exist deliver_conf_p(c), deliver_conf_q(c) and e such that deliver_conf_p(c) → e, then deliver_conf_q(c) → e."
-      after-all : {p r : ℕ} {e : Happening} (i j : ℕ) (c : Configured) → Configures p i c → Configures r j c → Precedes (entry-at p) e → Precedes (entry-at r) e
+      after-all : {p r : ℕ} {e : Happening} (i j : ℕ) (c : Configured) → Configures p i c → Configures r j c
+          → Precedes (entry-at p) e → Precedes (entry-at r) e
       -- "2.4 .. such that e → deliver_conf_p(c), then e → deliver_conf_q(c)."
-      before-all : {p r : ℕ} {e : Happening} (i j : ℕ) (c : Configured) → Configures p i c → Configures r j c → Precedes e (entry-at p) → Precedes e (entry-at r)
+      before-all : {p r : ℕ} {e : Happening} (i j : ℕ) (c : Configured) → Configures p i c → Configures r j c
+          → Precedes e (entry-at p) → Precedes e (entry-at r)
       along : {a b c : Happening} → Precedes a b → Precedes b c → Precedes a c

@@ -36,5 +36,6 @@ pub record NotedInRun (n q : ℕ) (l : Run) (i : ℕ) : Type 0 where
 
 -- Of one event, and of every run.
 pub record NotedNeverFall : Type 0 where
-  pub one-event : (s : Server) (e : List ℕ) (t : Server) (r : List (List ℕ)) (b : Bool) (g : List Action) → step s e ≡ taken t r b g → NotedRise s t
+  pub one-event : (s : Server) (e : List ℕ) (t : Server) (r : List (List ℕ)) (b : Bool) (g : List Action)
+      → step s e ≡ taken t r b g → NotedRise s t
   pub run : (n q : ℕ) (l : Run) (i : ℕ) → NotedInRun n q l i

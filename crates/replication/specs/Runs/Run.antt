@@ -1,15 +1,15 @@
 -- Document 01, 'Allowed runs': a run of all servers, and what stands at each of its places.
 -- Assumes nothing.
-use Prim.Native.Nat.{ℕ, zero, suc}
+use Prim.Native.Nat.{ℕ}
 use mathlib.Core.Bool.{Bool, true, false}
 use mathlib.Core.List.{List, [], _∷_}
 use mathlib.Core.Option.{Option, none, some}
 use lib.ListN.{take}
 use Rattle.base.specs.Tests.{_=?_, pick}
 use Rattle.base.specs.Lists.{at, upd}
-use Rattle.format.specs.Types.{Action, Record, action, retransmission, state, cpc, regular, transitional, request, recovery, Reading, says, refused}
+use Rattle.format.specs.Types.{Record, action, retransmission, state, cpc, regular, transitional, request, recovery, Reading, says, refused}
 use Rattle.format.specs.Read.{read}
-use Rattle.replication.specs.Machine.Types.{Configuration, Server, Outcome, taken, start, setOf}
+use Rattle.replication.specs.Machine.Types.{Configuration, Outcome, taken, start, setOf}
 use Rattle.replication.specs.Images.{Images, started, arrive, leftBy, savedIn}
 
 -- "A run is a list of crashes and events (kinds 1 to 8, each at one server)". An event comes with how many of its records were sent; where that

@@ -1,32 +1,29 @@
 -- The States that all have who have them all in one configuration: whose they are, and who resends.
 use Prim.Native.Nat.{ℕ, suc, _≤_, _<_}
-use mathlib.Core.Path.{_≡_, refl, sym, ap, subst, _∙_}
+use mathlib.Core.Path.{_≡_, sym, ap, subst, _∙_}
 use mathlib.Core.Bool.{true}
 use mathlib.Core.List.{List, List·Memᴰ}
-use mathlib.Core.Option.{Option, none, some}
+use mathlib.Core.Option.{some}
 use native.Mathlib.Omega.{arith}
-use lib.ListN.{length, getD}
 use Rattle.base.specs.Lists.{at, present}
 use Rattle.base.proofs.AtLaws.{some-same}
 use Rattle.base.proofs.Members.{present-has, present-from}
 use Rattle.base.specs.Sets.{inSet}
-use Rattle.format.specs.Types.{State, Record}
-use Rattle.replication.specs.Machine.Types.{Configuration, Log}
-use Rattle.replication.specs.Machine.Plan.{highest, lowest, resender, cutIn, greenIn, ownPart}
+use Rattle.format.specs.Types.{State}
+use Rattle.replication.specs.Machine.Types.{Configuration}
+use Rattle.replication.specs.Machine.Plan.{highest, lowest, resender, ownPart}
 use Rattle.replication.specs.Machine.Step.{ownState}
 use Rattle.replication.specs.Runs.Run.{Run}
 use Rattle.replication.specs.Runs.Happenings.{Message, Takes}
 use Rattle.replication.specs.Runs.Allowed.{Allowed}
 use Rattle.replication.proofs.Step.Taken.{highest-covers}
 use Rattle.replication.proofs.Runs.Numbers.{numbers}
-use Rattle.replication.proofs.Runs.Shifts.{comes-of}
 use Rattle.replication.proofs.Runs.Entries.{had}
 use Rattle.replication.proofs.Runs.Deliveries.{Delivery}
 use Rattle.replication.proofs.Runs.AllowedTurns.{memoryAt}
 use Rattle.replication.proofs.Runs.Memberships.{statesIn, everyStateIn}
 use Rattle.replication.proofs.Runs.Stays.{membershipAt}
 use Rattle.replication.proofs.Runs.Progress.{stay-member}
-use Rattle.replication.proofs.Agreement.Terms.{SentState}
 use Rattle.replication.proofs.Agreement.Exchange.Stages.{InCom}
 use Rattle.replication.proofs.Agreement.Exchange.Collected.{complete-in}
 use Rattle.replication.proofs.Agreement.Exchange.SameStates.{collected-sent, complete-same}

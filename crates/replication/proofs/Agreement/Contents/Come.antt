@@ -3,9 +3,8 @@ use Prim.Native.Nat.{ℕ, suc, _+_, _≤_, _<_}
 use mathlib.Core.Path.{_≡_, refl, sym, ap, subst, _∙_}
 use mathlib.Core.Bool.{true}
 use mathlib.Core.List.{List}
-use mathlib.Core.Option.{Option, none, some}
+use mathlib.Core.Option.{some}
 use native.Mathlib.Omega.{arith}
-use lib.ListN.{length}
 use Rattle.base.specs.Lists.{at}
 use Rattle.base.proofs.AtLaws.{some-same, at-low}
 use Rattle.base.proofs.Distinct.{numbered-onto}
@@ -18,14 +17,14 @@ use Rattle.replication.specs.Runs.Run.{Run}
 use Rattle.replication.specs.Runs.Happenings.{isMessage, Comes, Takes}
 use Rattle.replication.specs.Runs.Allowed.{Allowed}
 use Rattle.replication.proofs.Runs.AllowedTurns.{memoryAt}
-use Rattle.replication.proofs.Runs.Memberships.{statesIn, everyStateIn, plannedIn}
+use Rattle.replication.proofs.Runs.Memberships.{everyStateIn, plannedIn}
 use Rattle.replication.proofs.Runs.Stays.{membershipAt}
 use Rattle.replication.proofs.Agreement.Exchange.Stages.{InCom}
 use Rattle.replication.proofs.Agreement.Exchange.Answers.{coming}
 use Rattle.replication.proofs.Agreement.Exchange.Retransmissions.{resentAt, resent-holds, PartMessage, part-message}
 use Rattle.replication.proofs.Agreement.Exchange.Tally.{resentCount}
 use Rattle.replication.proofs.Agreement.Exchange.Shares.{share, part-within, shares-planned}
-use Rattle.replication.proofs.Agreement.Exchange.ResentTaken.{planNumber, Resent, resent, number-below, number-once}
+use Rattle.replication.proofs.Agreement.Exchange.ResentTaken.{planNumber, resent, number-below, number-once}
 use Rattle.replication.proofs.Agreement.Contents.Sent.{part-before}
 use Rattle.replication.proofs.Agreement.Contents.Collected.{statesOf, message-at}
 
@@ -36,9 +35,6 @@ module _ {n q : ℕ} {l : Run} (A : Allowed n q l) where
     pub earlier : place < y
     pub comes : Comes n q l place i r
     pub inside : InCom n q l place i c
-
-  pub came-later : {c : Configuration} {y z i : ℕ} {r : Record} → y ≤ z → Came c y i r → Came c z i r
-  came-later h w = record { place = w .place; earlier = omega (arith, w .earlier); comes = w .comes; inside = w .inside }
 
   module _ (c : Configuration) (p0 i0 : ℕ) (here : InCom n q l p0 i0 c) (full : everyStateIn (membershipAt n q l p0 i0) ≡ true) where
     -- The part of the plan of the server k, which took c at e.

@@ -1,22 +1,20 @@
 -- Whoever ends the exchange has the longest green list that a member had when it took the configuration, and the highest cuts.
-use Prim.Native.Nat.{ℕ, suc, _+_, _-_, _≤_, _<_}
-use mathlib.Core.Path.{_≡_, refl, sym, ap, subst, _∙_}
-use mathlib.Core.Bool.{true, false}
+use Prim.Native.Nat.{ℕ, suc, _-_, _≤_, _<_}
+use mathlib.Core.Path.{_≡_, sym, subst, _∙_}
+use mathlib.Core.Bool.{true}
 use mathlib.Core.List.{List, _++_}
-use mathlib.Core.Option.{Option, none, some}
+use mathlib.Core.Option.{none, some}
 use native.Mathlib.Omega.{arith}
 use native.Mathlib.Decide.{decLt}
 use lib.ListN.{length}
-use Rattle.base.specs.Lists.{at, Begins}
 use Rattle.base.proofs.AtLaws.{at-there}
 use Rattle.base.proofs.Comparable.{begins-same-length}
 use Rattle.base.proofs.Prefixes.{begins-length}
-use Rattle.format.specs.Types.{Id, Action, State, retransmission}
+use Rattle.format.specs.Types.{Id, State}
 use Rattle.replication.specs.Machine.Types.{Non-prim, Configuration}
 use Rattle.replication.specs.Machine.Colours.{cut}
 use Rattle.replication.specs.Machine.Plan.{highest, lowest, resender, cutIn, greenIn}
 use Rattle.replication.specs.Machine.Step.{ownState}
-use Rattle.replication.specs.Machine.WellFormed.{idsIn}
 use Rattle.replication.specs.Runs.Run.{Run}
 use Rattle.replication.specs.Runs.Happenings.{Takes}
 use Rattle.replication.specs.Runs.Allowed.{Allowed}
@@ -31,8 +29,8 @@ use Rattle.replication.proofs.Agreement.Contents.Agreeable.{greenIdsAt,
 use Rattle.replication.proofs.Agreement.Contents.Plan.{part-has-position, part-has-index}
 use Rattle.replication.proofs.Agreement.Contents.Placing.{ids-length}
 use Rattle.replication.proofs.Agreement.Contents.Collected.{Resender, resenderBy, resender-same}
-use Rattle.replication.proofs.Agreement.Contents.Come.{Came, all-came}
-use Rattle.replication.proofs.Agreement.Contents.Gained.{found-id, held-found, leader, longest, longest-length, highCut, Gained, member, exact}
+use Rattle.replication.proofs.Agreement.Contents.Come.{all-came}
+use Rattle.replication.proofs.Agreement.Contents.Gained.{found-id, held-found, leader, longest, longest-length, Gained, member, exact}
 use Rattle.replication.proofs.Agreement.Contents.Exchanging.{ended}
 
 module _ {n q : ℕ} {l : Run} (A : Allowed n q l) (y i : ℕ) (c : Configuration) (a : InCom n q l y i c) (b : InCom n q l (suc y) i c)

@@ -1,43 +1,31 @@
 -- In Exchange_actions, and at the end of the exchange, a server has gained what has come; at the end all that is planned.
-use Prim.Native.Nat.{ℕ, suc, _+_, _-_, _≤_, _<_}
+use Prim.Native.Nat.{ℕ, suc, _≤_, _<_}
 use mathlib.Core.Path.{_≡_, refl, sym, ap, subst, _∙_}
-use mathlib.Core.Bool.{true, false}
-use mathlib.Core.List.{List, _++_}
-use mathlib.Core.Option.{Option, none, some}
+use mathlib.Core.Bool.{true}
 use native.Mathlib.Omega.{arith}
 use native.Mathlib.Decide.{decLt}
-use lib.ListN.{length}
 use Rattle.base.proofs.TestLaws.{not-both}
-use Rattle.base.proofs.Comparable.{begins-same-length}
-use Rattle.base.proofs.AtLaws.{at-there}
-use Rattle.base.proofs.Prefixes.{begins-length}
-use Rattle.format.specs.Types.{Id, Action, retransmission, says}
-use Rattle.replication.specs.Machine.Types.{Mode, Non-prim, Reg-prim, Trans-prim, Exchange-states, Exchange-actions, Construct, No, Un, Configuration, Log}
-use Rattle.replication.specs.Machine.Colours.{cut}
-use Rattle.replication.specs.Machine.Plan.{highest, lowest, cutIn, greenIn}
-use Rattle.replication.specs.Machine.Step.{ownState}
-use Rattle.replication.specs.Machine.WellFormed.{idsIn}
-use Rattle.replication.specs.Machine.WellFormedFacts.{WellFormed}
+use Rattle.format.specs.Types.{Action, retransmission, says}
+use Rattle.replication.specs.Machine.Types.{Mode, Non-prim, Reg-prim, Trans-prim, Exchange-states, Exchange-actions, Construct, No, Un, Configuration}
+use Rattle.replication.proofs.WellFormed.Clauses.{WellFormed}
 use Rattle.replication.specs.Runs.Run.{Run}
-use Rattle.replication.specs.Runs.Happenings.{isMessage, Comes, Falls, Takes}
+use Rattle.replication.specs.Runs.Happenings.{isMessage, Comes, Takes}
 use Rattle.replication.specs.Runs.Allowed.{Allowed}
 use Rattle.replication.proofs.Runs.Numbers.{numbers, invariant-at}
-use Rattle.replication.proofs.Runs.Shifts.{comes-of, comes-once}
-use Rattle.replication.proofs.Runs.AllowedTurns.{memoryAt, Acts}
-use Rattle.replication.proofs.Runs.Memberships.{everyStateIn, plannedIn}
+use Rattle.replication.proofs.Runs.Shifts.{comes-once}
+use Rattle.replication.proofs.Runs.AllowedTurns.{memoryAt}
+use Rattle.replication.proofs.Runs.Memberships.{everyStateIn}
 use Rattle.replication.proofs.Runs.Stays.{membershipAt, in-stay, entering-membership}
 use Rattle.replication.proofs.Runs.Progress.{stay-member}
 use Rattle.replication.proofs.Agreement.Exchange.Stages.{stage, first-stage, InCom, stage-onward}
 use Rattle.replication.proofs.Agreement.Exchange.Retransmissions.{saysResent, resent-late}
-use Rattle.replication.proofs.Agreement.Exchange.Tally.{resentCount}
 use Rattle.replication.proofs.Agreement.Lists.Held.{held-exactly}
 use Rattle.replication.proofs.Agreement.Contents.Agreeable.{Agreeable}
-use Rattle.replication.proofs.Agreement.Contents.Logs.{SameHeld, LogMove, keeps, places, MemoryStep, still, moved, memory-step, acting, acts-log}
-use Rattle.replication.proofs.Agreement.Contents.Plan.{part-has-position, part-has-index}
+use Rattle.replication.proofs.Agreement.Contents.Logs.{LogMove, keeps, places, MemoryStep, still, moved, memory-step, acting, acts-log}
 use Rattle.replication.proofs.Agreement.Contents.Sent.{inside-stay, collecting-log}
-use Rattle.replication.proofs.Agreement.Contents.Collected.{Resender, resenderBy, statesOf, took-it}
-use Rattle.replication.proofs.Agreement.Contents.Come.{Came, all-came}
-use Rattle.replication.proofs.Agreement.Contents.Gained.{found-id, held-found, leader, longest, longest-length, highCut, Gained, gained-nothing, gained-still, gained-same, one-more, exact}
+use Rattle.replication.proofs.Agreement.Contents.Collected.{took-it}
+use Rattle.replication.proofs.Agreement.Contents.Come.{Came}
+use Rattle.replication.proofs.Agreement.Contents.Gained.{Gained, gained-nothing, gained-still, gained-same, one-more}
 
 -- A server at the first two stages is in the exchange.
 pub data Early : Mode → Type 0 where

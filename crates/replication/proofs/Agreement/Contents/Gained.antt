@@ -3,36 +3,35 @@
 use Prim.Native.Nat.{ℕ, zero, suc, _+_, _-_, _≤_, _<_}
 use mathlib.Core.Path.{_≡_, refl, sym, ap, subst, _∙_}
 use mathlib.Core.Bool.{true}
-use mathlib.Core.List.{List, [], _∷_, _++_, map, List·Memᴰ}
+use mathlib.Core.List.{List, [], _∷_, _++_}
 use mathlib.Core.Logic.{_⊎_, inl, inr}
-use mathlib.Core.Option.{Option, none, some}
+use mathlib.Core.Option.{some}
 use native.Mathlib.Omega.{arith}
-use native.Mathlib.Decide.{decLt, ℕ-discrete}
-use lib.ListN.{length, getD, length-map}
+use native.Mathlib.Decide.{decLt}
+use lib.ListN.{length, getD}
 use Rattle.base.specs.Lists.{at, Begins}
 use Rattle.base.proofs.AtLaws.{none-some, some-same, at-low, at-there, at-among}
 use Rattle.base.proofs.Comparable.{comparable-shorter}
 use Rattle.base.proofs.CountLaws.{count-map}
 use Rattle.base.specs.Sets.{inSet}
 use Rattle.format.specs.Range.{sameId}
-use Rattle.format.specs.Types.{Id, Action, State, Record, retransmission}
+use Rattle.format.specs.Types.{Id, Action, State, retransmission}
 use Rattle.replication.specs.Machine.Types.{Configuration, Log}
 use Rattle.replication.specs.Machine.Colours.{cut, find}
 use Rattle.replication.specs.Machine.Plan.{highest, lowest, resender, cutIn, greenIn}
 use Rattle.replication.specs.Machine.Step.{ownState, placed}
 use Rattle.replication.specs.Machine.WellFormed.{idsIn, queue}
-use Rattle.replication.specs.Machine.WellFormedFacts.{heldCount}
+use Rattle.replication.proofs.WellFormed.Clauses.{heldCount}
 use Rattle.replication.specs.Runs.Run.{Run}
 use Rattle.replication.specs.Runs.Happenings.{isMessage, Comes, Takes}
 use Rattle.replication.specs.Runs.Allowed.{Allowed}
-use Rattle.replication.proofs.WellFormed.Held.{actionCount, held-parts, Found, absent, found, found?}
+use Rattle.replication.proofs.WellFormed.Held.{Found, absent, found, found?}
 use Rattle.replication.proofs.Runs.Numbers.{invariant-at}
 use Rattle.replication.proofs.Runs.Shifts.{comes-of, comes-once}
 use Rattle.replication.proofs.Runs.Order.{taker-member}
 use Rattle.replication.proofs.Runs.AllowedTurns.{memoryAt}
 use Rattle.replication.proofs.Runs.Memberships.{everyStateIn}
 use Rattle.replication.proofs.Runs.Stays.{membershipAt}
-use Rattle.replication.proofs.Runs.Progress.{stay-member}
 use Rattle.replication.proofs.Agreement.Exchange.Stages.{InCom}
 use Rattle.replication.proofs.Agreement.Exchange.Answers.{coming}
 use Rattle.replication.proofs.Agreement.Exchange.Retransmissions.{PartMessage, part-message}
@@ -42,8 +41,8 @@ use Rattle.replication.proofs.Agreement.Contents.Agreeable.{greenIdsAt,
 use Rattle.replication.proofs.Agreement.Contents.Logs.{SameHeld}
 use Rattle.replication.proofs.Agreement.Contents.Plan.{PartRecord, by-position, by-index, part-record}
 use Rattle.replication.proofs.Agreement.Contents.Placing.{ids-length, PlacedAt, placed-position, placed-index}
-use Rattle.replication.proofs.Agreement.Contents.Collected.{statesOf, sent-one, Resender, resends, resenderBy, resender-same, resender-has, sent-between, took-it}
-use Rattle.replication.proofs.Agreement.Contents.Come.{Came, came-later, partFrom, Numbered, numbered}
+use Rattle.replication.proofs.Agreement.Contents.Collected.{statesOf, sent-one, Resender, resenderBy, resender-same, resender-has, sent-between, took-it}
+use Rattle.replication.proofs.Agreement.Contents.Come.{Came, partFrom, Numbered, numbered}
 
 -- ---- finding a held action
 

@@ -4,33 +4,32 @@ use mathlib.Core.Path.{_≡_, refl, sym, ap, subst, _∙_}
 use mathlib.Core.Bool.{Bool, true, false}
 use mathlib.Core.List.{List}
 use mathlib.Core.Logic.{_⊎_, inl, inr}
-use mathlib.Core.Option.{Option, some}
 use native.Mathlib.Omega.{arith}
 use native.Mathlib.Decide.{decLt}
 use Rattle.base.proofs.TestLaws.{not-both}
-use Rattle.format.specs.Types.{Id, Action, Yellow, Record}
-use Rattle.replication.specs.Machine.Types.{Mode, Non-prim, Reg-prim, Trans-prim, Exchange-states, Exchange-actions, Construct, No, Un, Configuration, Log, Server}
+use Rattle.format.specs.Types.{Record}
+use Rattle.replication.specs.Machine.Types.{Mode, Non-prim, Reg-prim, Trans-prim, Exchange-states, Exchange-actions, Construct, No, Un, Configuration, Server}
 use Rattle.replication.specs.Machine.Exchange.{quorum, takenYellow, takenVotes, attempted}
 use Rattle.replication.specs.Machine.Install.{installLog, install}
-use Rattle.replication.specs.Machine.Requests.{sendsIn, sendsNow, numbered, hold, sendHeld}
+use Rattle.replication.specs.Machine.Requests.{sendsNow, numbered, hold, sendHeld}
 use Rattle.replication.specs.Machine.Step.{theSet, hereSet, collected, attempting, decided, withCpc, leave, greenAndNote}
 use Rattle.replication.specs.Machine.WellFormed.{idsIn}
 use Rattle.replication.specs.Laws.Transitions as L
 use Rattle.replication.specs.Laws.Transitions.{Ends, Leads, Transition}
 use Rattle.replication.specs.Laws.Greens as G
-use Rattle.replication.specs.Laws.Greens.{GreenChange}
 use Rattle.replication.specs.Runs.Run.{Run}
 use Rattle.replication.specs.Runs.Happenings.{Falls, Takes}
 use Rattle.replication.specs.Runs.Allowed.{Allowed}
 use Rattle.replication.proofs.Step.Control.{yellow-membership}
 use Rattle.replication.proofs.Step.Greens.{yellow-green}
 use Rattle.replication.proofs.Runs.Numbers.{invariant-at}
-use Rattle.replication.proofs.Runs.AllowedTurns.{memoryAt, Acts}
-use Rattle.replication.proofs.Runs.Stays.{membershipAt, in-stay, entering-membership, placed-up}
+use Rattle.replication.proofs.Runs.AllowedTurns.{memoryAt}
+use Rattle.replication.proofs.Runs.Stays.{membershipAt, in-stay, entering-membership}
 use Rattle.replication.proofs.Runs.Progress.{stay-member}
 use Rattle.replication.proofs.Agreement.Terms as T
-use Rattle.replication.proofs.Agreement.Terms.{EndsAt, MarksAt, InstallsAt, AfterMarking, Within}
-use Rattle.replication.proofs.Agreement.Exchange.Stages.{remains, stage, modeNumber, other-mode, InCom, remaining, stage-onward}
+use Rattle.replication.proofs.Agreement.Terms.{EndsAt, MarksAt, InstallsAt, AfterMarking}
+use Rattle.replication.proofs.Step.Apart.{modeNumber, other-mode, sends-in}
+use Rattle.replication.proofs.Agreement.Exchange.Stages.{remains, stage, InCom, remaining, stage-onward}
 use Rattle.replication.proofs.Agreement.Exchange.Endings.{ends-decide}
 use Rattle.replication.proofs.Agreement.Exchange.Marked.{marked-here}
 use Rattle.replication.proofs.Agreement.Exchange.SameStates as S
@@ -39,7 +38,7 @@ use Rattle.replication.proofs.Agreement.Lists.Held.{HeldExactly, held-e
 use Rattle.replication.proofs.Agreement.Lists.Install.{install-same}
 use Rattle.replication.proofs.Agreement.Contents.Agreeable.{greenIdsAt, Agreeable, agreeable-earlier}
 use Rattle.replication.proofs.Agreement.Contents.Logs.{MemoryStep, still, moved, memory-step, acting}
-use Rattle.replication.proofs.Agreement.Contents.Places.{EndedAt, marks-ended, ends-here}
+use Rattle.replication.proofs.Agreement.Contents.Places.{EndedAt, marks-ended}
 use Rattle.replication.proofs.Agreement.Contents.Same.{same-ids, same-cuts, same-greens}
 
 -- ---- one step
@@ -57,17 +56,6 @@ attempts Un = true
 
 elsewhere : {X : Type 0} {m : Mode} (o : Mode) → m ≡ o → attempts o ≡ false → attempts m ≡ true → X
 elsewhere o e f h = not-both (sym f ∙ ap attempts (sym e) ∙ h)
-
-attempts-holds : (m : Mode) (b : Bool) → attempts m ≡ true → sendsIn m b ≡ false
-unfolding attempts sendsIn
-attempts-holds Non-prim b h = not-both h
-attempts-holds Reg-prim b h = not-both h
-attempts-holds Trans-prim b h = not-both h
-attempts-holds Exchange-states b h = not-both h
-attempts-holds Exchange-actions b h = not-both h
-attempts-holds Construct b h = refl
-attempts-holds No b h = refl
-attempts-holds Un b h = refl
 
 leads-attempts : {m o : Mode} → Leads m o → attempts o ≡ true → attempts m ≡ true
 unfolding attempts
@@ -109,7 +97,7 @@ attempt-keeps (L.joinsMarked c e) k h w = not-both k
 attempt-keeps (L.joinsUnmarked c e) k h w = not-both k
 attempt-keeps (L.joinsYellow c e) k h w = not-both k
 attempt-keeps (L.leaves m o x e y) k h w = record { was = ap attempts e ∙ leads-attempts y w; log = refl; votes = refl }
-attempt-keeps (L.sends p c) k h w = not-both (sym (attempts-holds _ _ w) ∙ c)
+attempt-keeps (L.sends p c) k h w = sends-in _ _ c (λ e. elsewhere Non-prim e refl w) (λ e. elsewhere Reg-prim e refl w)
 attempt-keeps (L.holds p c) k h w = record { was = w; log = refl; votes = refl }
 attempt-keeps L.recovers k h w = not-both k
 

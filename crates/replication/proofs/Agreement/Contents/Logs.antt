@@ -3,24 +3,24 @@ use Prim.Native.Nat.{ℕ, suc, _≤_, _<_}
 use mathlib.Core.Path.{_≡_, refl, sym, ap, subst, _∙_}
 use mathlib.Core.Bool.{Bool, true, false}
 use mathlib.Core.List.{List}
-use mathlib.Core.Option.{Option, none, some}
 use native.Mathlib.Omega.{arith}
 use Rattle.base.proofs.TestLaws.{not-both}
 use Rattle.base.proofs.AtLaws.{some-same}
 use Rattle.format.specs.Types.{Action, Record, action, retransmission, says}
-use Rattle.replication.specs.Machine.Types.{Mode, Non-prim, Reg-prim, Trans-prim, Exchange-states, Exchange-actions, Construct, No, Un, Configuration, Log, Server}
-use Rattle.replication.specs.Machine.Requests.{sendsIn, sendsNow, numbered, hold, sendHeld}
+use Rattle.replication.specs.Machine.Types.{Mode, Non-prim, Reg-prim, Exchange-actions, Construct, No, Configuration, Log, Server}
+use Rattle.replication.specs.Machine.Requests.{sendsNow, numbered, hold, sendHeld}
 use Rattle.replication.specs.Machine.Step.{decided, attempting, withState, resending, oneMore, placed, exchanged, leave}
 use Rattle.replication.specs.Laws.Transitions as L
-use Rattle.replication.specs.Laws.Transitions.{Ends, Leads, Transition}
+use Rattle.replication.specs.Laws.Transitions.{Ends, Transition}
 use Rattle.replication.specs.Runs.Run.{Run, heardAt}
 use Rattle.replication.specs.Runs.Happenings.{isMessage, Comes, Falls, by-crash, by-recovery, Takes}
 use Rattle.replication.specs.Runs.Allowed.{Allowed}
+use Rattle.replication.proofs.Step.Apart.{sends-in}
 use Rattle.replication.proofs.Runs.Places.{event-not-store, event-entry}
-use Rattle.replication.proofs.Runs.Shifts.{comes-of, comes-once}
-use Rattle.replication.proofs.Runs.AllowedTurns.{memoryAt, Acts, Refuses, AllowedTurn, rests, crashes, saves, refuses, recovers, acts, allowed-turn}
-use Rattle.replication.proofs.Runs.Stays.{membershipAt, in-stay}
-use Rattle.replication.proofs.Agreement.Exchange.Stages.{remains, stage, modeNumber, other-mode, InCom, remaining, stage-rises}
+use Rattle.replication.proofs.Runs.Shifts.{comes-of}
+use Rattle.replication.proofs.Runs.AllowedTurns.{memoryAt, Acts, AllowedTurn, rests, crashes, saves, refuses, recovers, acts, allowed-turn}
+use Rattle.replication.proofs.Runs.Stays.{membershipAt}
+use Rattle.replication.proofs.Agreement.Exchange.Stages.{remains, stage, InCom, remaining}
 use Rattle.replication.proofs.Agreement.Exchange.Retransmissions.{saysResent}
 use Rattle.replication.proofs.Agreement.Exchange.ActionsTaken as T
 use Rattle.replication.proofs.Agreement.Exchange.NotRefused.{no-delivery-refused}
@@ -48,17 +48,6 @@ module _ (s : Server) (early : stage (s .membership .mode) ≤ 1) where
   late : {X : Type 0} (m : Mode) → s .membership .mode ≡ m → 1 < stage m → X
   late m e h = absurd (omega (arith, ap stage e))
 
-  pub early-holds : (m : Mode) (b : Bool) → stage m ≤ 1 → sendsIn m b ≡ false
-  unfolding stage sendsIn
-  early-holds Non-prim b h = absurd (omega arith)
-  early-holds Reg-prim b h = absurd (omega arith)
-  early-holds Trans-prim b h = refl
-  early-holds Exchange-states b h = refl
-  early-holds Exchange-actions b h = refl
-  early-holds Construct b h = refl
-  early-holds No b h = refl
-  early-holds Un b h = refl
-
   pub log-move : {r : Record} {t : Server} {rs : List Record} {b : Bool} → ((a : Action) → r ≡ action a → ⊥) → remains r ≡ true → Transition s r t rs b → LogMove s r t
   unfolding exchanged oneMore withState resending hold stage remains saysResent leave sendsNow
   log-move f h (L.ignoresState x e) = late Non-prim e (omega arith)
@@ -83,7 +72,7 @@ module _ (s : Server) (early : stage (s .membership .mode) ≤ 1) where
   log-move f h (L.joinsUnmarked c e) = not-both h
   log-move f h (L.joinsYellow c e) = not-both h
   log-move f h (L.leaves m o x e y) = keeps refl (λ z. refl) (same-refl _)
-  log-move f h (L.sends p c) = not-both (sym (early-holds _ _ early) ∙ c)
+  log-move f h (L.sends p c) = sends-in _ _ c (λ e. late Non-prim e (omega arith)) (λ e. late Reg-prim e (omega arith))
   log-move f h (L.holds p c) = keeps refl (λ z. refl) (same-refl _)
   log-move f h L.recovers = not-both h
 

@@ -1,39 +1,31 @@
 -- Where an exchange ends: at each end as the agreement's terms have it, the server has what the exchange left, at that place or earlier in Non_prim.
-use Prim.Native.Nat.{ℕ, suc, _+_, _≤_, _<_}
-use mathlib.Core.Path.{_≡_, refl, sym, ap, subst, _∙_}
+use Prim.Native.Nat.{ℕ, suc, _≤_}
+use mathlib.Core.Path.{_≡_, refl, sym, ap, _∙_}
 use mathlib.Core.Bool.{Bool, true, false}
 use mathlib.Core.List.{List}
 use mathlib.Core.Logic.{_⊎_, inl, inr}
-use mathlib.Core.Option.{Option, none, some}
+use mathlib.Core.Option.{none}
 use native.Mathlib.Omega.{arith}
-use native.Mathlib.Decide.{decLe}
 use Rattle.base.proofs.TestLaws.{not-both}
-use Rattle.base.proofs.AtLaws.{none-some}
 use Rattle.format.specs.Types.{Record}
-use Rattle.replication.specs.Machine.Types.{Mode, Non-prim, Reg-prim, Trans-prim, Exchange-states, Exchange-actions, Construct, No, Un, Configuration, Membership, Server}
-use Rattle.replication.specs.Machine.Colours.{cut}
+use Rattle.replication.specs.Machine.Types.{Non-prim, Construct, Configuration, Server}
 use Rattle.replication.specs.Machine.Install.{install}
-use Rattle.replication.specs.Machine.Requests.{sendsIn, sendsNow, numbered, hold, sendHeld}
+use Rattle.replication.specs.Machine.Requests.{sendsNow, numbered, sendHeld}
 use Rattle.replication.specs.Machine.Exchange.{quorum}
-use Rattle.replication.specs.Machine.Step.{theSet, hereSet, collected, attempting, decided, withState, resending, oneMore, exchanged, leave, withCpc, greenAndNote}
+use Rattle.replication.specs.Machine.Step.{theSet, hereSet, collected, attempting, decided, withState, oneMore, exchanged, withCpc}
 use Rattle.replication.specs.Laws.Transitions as L
-use Rattle.replication.specs.Laws.Transitions.{Ends, Leads, Transition}
+use Rattle.replication.specs.Laws.Transitions.{Ends, Transition}
 use Rattle.replication.specs.Laws.Greens as G
-use Rattle.replication.specs.Laws.Greens.{GreenChange}
 use Rattle.replication.specs.Runs.Run.{Run}
-use Rattle.replication.specs.Runs.Happenings.{Falls, Takes}
 use Rattle.replication.specs.Runs.Allowed.{Allowed}
 use Rattle.replication.proofs.Step.Control.{yellow-membership}
-use Rattle.replication.proofs.Step.Greens.{green-changes}
-use Rattle.replication.proofs.Step.Growth.{transition-grows}
-use Rattle.replication.proofs.Runs.AllowedTurns.{memoryAt, Acts}
-use Rattle.replication.proofs.Runs.Stays.{membershipAt, in-stay, entering-membership, stay-transitional, acts-membership}
+use Rattle.replication.proofs.Runs.Stays.{membershipAt, stay-transitional}
 use Rattle.replication.proofs.Agreement.Terms.{EndsAt, MarksAt}
-use Rattle.replication.proofs.Agreement.Exchange.Stages.{remains, stage, modeNumber, other-mode, InCom, remaining, stage-onward, stage-rises}
+use Rattle.replication.proofs.Step.Apart.{modeNumber, other-mode, sends-in}
+use Rattle.replication.proofs.Agreement.Exchange.Stages.{remains, stage, InCom, remaining}
 use Rattle.replication.proofs.Agreement.Exchange.Endings.{ends-decide}
-use Rattle.replication.proofs.Agreement.Exchange.Phases.{settled-step}
 use Rattle.replication.proofs.Agreement.Exchange.SameStates.{still-here}
-use Rattle.replication.proofs.Agreement.Contents.Logs.{SameHeld, ends-log, MemoryStep, still, moved, memory-step, acting}
+use Rattle.replication.proofs.Agreement.Contents.Logs.{ends-log, acting}
 use Rattle.replication.proofs.Agreement.Contents.Sent.{inside-stay}
 
 -- ---- one step
@@ -42,10 +34,6 @@ ends-transitional : {t u : Server} {rs : List Record} → Ends t u rs → u .mem
 unfolding attempting decided sendHeld numbered
 ends-transitional (L.withQuorum h) = refl
 ends-transitional (L.withoutQuorum h) = refl
-
-construct-holds : (m : Mode) (b : Bool) → m ≡ Construct → sendsIn m b ≡ false
-unfolding sendsIn
-construct-holds m b e = ap (λ o. sendsIn o b) e
 
 module _ {s : Server} where
   -- An event of a stay that stores does not bring a transitional configuration.
@@ -104,21 +92,9 @@ module _ {s : Server} where
   stored-marks (L.joinsUnmarked c e) h k w = not-both k
   stored-marks (L.joinsYellow c e) h k w = not-both k
   stored-marks (L.leaves m o x e y) h k w = not-both h
-  stored-marks (L.sends p c) h k w = not-both (sym (construct-holds _ _ w) ∙ c)
+  stored-marks (L.sends p c) h k w = sends-in _ _ c (λ e. other-mode w e (λ z. omega arith)) (λ e. other-mode w e (λ z. omega arith))
   stored-marks (L.holds p c) h k w = not-both h
   stored-marks L.recovers h k w = not-both k
-
-  -- In Non_prim no green list changes.
-  pub settled-green : {r : Record} {t : Server} {rs : List Record} {b : Bool} → Transition s r t rs b → s .membership .mode ≡ Non-prim → t .log .green ≡ s .log .green
-  unfolding modeNumber
-  settled-green {r} {t} x h = go (green-changes s x)
-    where
-      go : GreenChange s r t → t .log .green ≡ s .log .green
-      go (G.unchanged e) = e
-      go (G.delivered a m e f) = other-mode h m (λ z. omega arith)
-      go (G.resent k p a m e f g) = other-mode h m (λ z. omega arith)
-      go (G.installed k i m e f g) = other-mode h m (λ z. omega arith)
-      go (G.installedLate a m e f) = other-mode h m (λ z. omega arith)
 
 -- ---- a stay
 
@@ -130,79 +106,6 @@ module _ {n q : ℕ} {l : Run} (A : Allowed n q l) where
     pub before : stage (membershipAt n q l y i .mode) ≤ 1
     pub late : 2 ≤ stage (membershipAt n q l (suc y) i .mode)
     pub whole : membershipAt n q l (suc y) i .mode ≡ Non-prim → membershipAt n q l (suc y) i .transitional ≡ none
-
-  -- The server i has at y what the end of its exchange in c left: the green list, and at least the cuts.
-  pub record HasEnded (y i : ℕ) (c : Configuration) : Type 0 where
-    pub place : ℕ
-    pub earlier : place < y
-    pub ended : EndedAt place i c
-    pub green : memoryAt n q l y i .log .green ≡ memoryAt n q l (suc place) i .log .green
-    pub cuts : (d : ℕ) → cut (memoryAt n q l (suc place) i .log) d ≤ cut (memoryAt n q l y i .log) d
-
-  ended-now : {y i : ℕ} {c : Configuration} → EndedAt y i c → HasEnded (suc y) i c
-  ended-now {y} e = record { place = y; earlier = omega arith; ended = e; green = refl; cuts = λ d. omega arith }
-
-  -- Two stages: past the exchange without an attempt.
-  non-prim : (m : Mode) → 2 ≤ stage m → stage m ≤ 2 → m ≡ Non-prim
-  unfolding stage
-  non-prim Non-prim h k = refl
-  non-prim Reg-prim h k = absurd (omega arith)
-  non-prim Trans-prim h k = absurd (omega arith)
-  non-prim Exchange-states h k = absurd (omega arith)
-  non-prim Exchange-actions h k = absurd (omega arith)
-  non-prim Construct h k = absurd (omega arith)
-  non-prim No h k = absurd (omega arith)
-  non-prim Un h k = absurd (omega arith)
-
-  module _ (i : ℕ) (c : Configuration) where
-    abbrev Past : ℕ → Type 0
-    Past y = membershipAt n q l y i .mode ≡ Non-prim → membershipAt n q l y i .transitional ≡ none → HasEnded y i c
-
-    onward : (y : ℕ) → InCom n q l y i c → (Falls n q l y i → ⊥) → ((d : Configuration) → Takes n q l y i d → ⊥) → membershipAt n q l y i .mode ≡ Non-prim
-        → Past y → MemoryStep A y i → Past (suc y)
-    onward y a f g m h (still e o) u v =
-        let x = h m (ap (λ s. s .membership .transitional) (sym e) ∙ v) in
-        record {
-          place = x .place;
-          earlier = omega (arith, x .earlier);
-          ended = x .ended;
-          green = ap (λ s. s .log .green) e ∙ x .green;
-          cuts = λ d. omega (arith, x .cuts d, ap (λ s. cut (s .log) d) e);
-        }
-    onward y a f g m h (moved w) u v =
-        let k = remaining g f (w .by .event) (acting A w) in
-        let x = h m (regular (settled-step (acts-membership A y i w) k m)) in
-        record {
-          place = x .place;
-          earlier = omega (arith, x .earlier);
-          ended = x .ended;
-          green = ap (λ s. s .log .green) (w .memory-next) ∙ settled-green (w .moves) m ∙ x .green;
-          cuts = λ d. omega (arith, x .cuts d, ap (λ s. cut (s .log) d) (w .memory-next), transition-grows (w .moves) .cuts d);
-        }
-      where
-        regular : (membershipAt n q l (suc y) i .mode ≡ Non-prim)
-            × ((t : ℕ) → membershipAt n q l y i .transitional ≡ some t → (x : ℕ) × (membershipAt n q l (suc y) i .transitional ≡ some x))
-            → membershipAt n q l y i .transitional ≡ none
-        regular z = go (membershipAt n q l y i .transitional) refl
-          where
-            go : (o : Option ℕ) → membershipAt n q l y i .transitional ≡ o → membershipAt n q l y i .transitional ≡ none
-            go none e = e
-            go (some t) e = none-some (sym v ∙ z .1 t e .1)
-
-    -- In Non_prim in regular c a server has ended its exchange there.
-    pub past-end : (y : ℕ) → InCom n q l y i c → Past y
-    unfolding stage modeNumber
-    past-end =
-        in-stay n q l i c Past (λ t w m v. other-mode (ap (λ o. o .mode) (entering-membership A t i c w)) m (λ z. omega arith))
-        (λ y a b f g h m v. go y a b f g h m v (decLe (stage (membershipAt n q l y i .mode)) 1))
-      where
-        go : (y : ℕ) → InCom n q l y i c → InCom n q l (suc y) i c → (Falls n q l y i → ⊥) → ((d : Configuration) → Takes n q l y i d → ⊥) → Past y
-            → membershipAt n q l (suc y) i .mode ≡ Non-prim → membershipAt n q l (suc y) i .transitional ≡ none → Dec (stage (membershipAt n q l y i .mode) ≤ 1)
-            → HasEnded (suc y) i c
-        go y a b f g h m v (yes e) = ended-now (record { here = a; after = b; before = e; late = omega (arith, ap stage m); whole = λ z. v })
-        go y a b f g h m v (no e) =
-            let k = non-prim (membershipAt n q l y i .mode) (omega arith) (omega (arith, stage-onward A i c y (suc y) a b (omega arith), ap stage m)) in
-            onward y a f g k h (memory-step A y i f) m v
 
   -- ---- the ends as the agreement's terms have them
 
@@ -226,25 +129,6 @@ module _ {n q : ℕ} {l : Run} (A : Allowed n q l) where
     -- An end from the exchange.
     pub ends-ended : stage (membershipAt n q l p i .mode) ≤ 1 → EndedAt p i c
     ends-ended h = record { here = ends-here; after = still-here A x; before = h; late = ends-late; whole = λ z. ends-regular }
-
-    -- Any end.
-    pub ends-has : HasEnded (suc p) i c
-    unfolding stage
-    ends-has = go (decLe (stage (membershipAt n q l p i .mode)) 1)
-      where
-        settles : (stage (membershipAt n q l p i .mode) ≤ 1 → ⊥)
-            → ((quorum (collected (x .judged)) (hereSet (x .judged)) ≡ true) × (x .acts .after .membership .mode ≡ Construct))
-            ⊎ ((quorum (collected (x .judged)) (hereSet (x .judged)) ≡ false) × (x .acts .after .membership .mode ≡ Non-prim)) → HasEnded (suc p) i c
-        settles h (inl e) = absurd (h (stored-marks (x .acts .moves) (x .stores) ends-remains (e .1)))
-        settles h (inr e) = past-end i c (suc p) (still-here A x) (ap (λ s. s .membership .mode) (x .acts .memory-next) ∙ e .1) ends-regular
-
-        go : Dec (stage (membershipAt n q l p i .mode) ≤ 1) → HasEnded (suc p) i c
-        go (yes h) = ended-now (ends-ended h)
-        go (no h) = settles h (ends-decide (x .ends))
-
-    -- The log that the States were judged with.
-    pub judged-held : SameHeld (x .judged .log) (memoryAt n q l (suc p) i .log)
-    judged-held = subst (λ s. SameHeld (x .judged .log) (s .log)) (sym (x .acts .memory-next)) (ends-log (x .ends) .0)
 
   -- A marking ends an exchange.
   pub marks-ended : {p i : ℕ} {c : Configuration} (x : MarksAt n q l p i c) → EndedAt p i c

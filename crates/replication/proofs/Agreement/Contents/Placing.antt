@@ -1,24 +1,22 @@
 -- What one retransmission does to a log whose green list begins the longest one.
-use Prim.Native.Nat.{ℕ, zero, suc, _+_, _-_, _≤_, _<_}
+use Prim.Native.Nat.{ℕ, _+_, _-_, _≤_, _<_}
 use mathlib.Core.Path.{_≡_, refl, sym, ap, subst, _∙_}
-use mathlib.Core.Bool.{true, false}
 use mathlib.Core.List.{List, [], _∷_, _++_}
-use mathlib.Core.Option.{Option, none, some}
+use mathlib.Core.Option.{some}
 use native.Mathlib.Omega.{arith}
 use native.Mathlib.Decide.{ℕ-discrete}
 use lib.ListN.{length, getD, length-map, length-append}
-use Rattle.base.specs.Tests.{_=?_, _≤?_, _and_, pick}
+use Rattle.base.specs.Tests.{_≤?_, _and_, pick}
 use Rattle.base.proofs.TestLaws.{eq-yes, eq-no, le-yes, le-no, both-yes}
 use Rattle.base.specs.Lists.{at, Begins}
 use Rattle.base.proofs.AtLaws.{none-some, some-same}
 use Rattle.base.proofs.Gathered.{at-second}
-use Rattle.base.proofs.Prefixes.{set-most, begins-append}
+use Rattle.base.proofs.Prefixes.{set-most}
 use Rattle.format.specs.Types.{Id, Action}
 use Rattle.replication.specs.Machine.Types.{Log}
 use Rattle.replication.specs.Machine.Colours.{cut, enter, red, green}
 use Rattle.replication.specs.Machine.Step.{placed}
 use Rattle.replication.specs.Machine.WellFormed.{idsIn}
-use Rattle.replication.specs.Laws.Order.{Grows}
 use Rattle.replication.proofs.Step.Greens.{red-green}
 use Rattle.replication.proofs.Step.Growth.{red-grows, green-grows}
 use Rattle.replication.proofs.WellFormed.Held.{Entered, entered, ignored, entered?}

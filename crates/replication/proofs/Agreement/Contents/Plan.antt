@@ -1,7 +1,7 @@
 -- What stands where in one's part of the plan: positions rise, and each creator's indexes rise.
 use Prim.Native.Nat.{ℕ, _+_, _-_, _≤_, _<_, min}
-use mathlib.Core.Path.{_≡_, refl, sym, ap, subst, _∙_}
-use mathlib.Core.Bool.{Bool, true, false}
+use mathlib.Core.Path.{_≡_, refl, sym, ap, _∙_}
+use mathlib.Core.Bool.{true}
 use mathlib.Core.List.{List, [], _∷_, _++_, List·Memᴰ, List·Memᴰ·head, List·Memᴰ·tail}
 use mathlib.Core.Logic.{_⊎_, inl, inr}
 use mathlib.Core.Option.{Option, none, some}
@@ -10,16 +10,15 @@ use native.Mathlib.Decide.{decLe}
 use lib.ListN.{length}
 use Rattle.base.specs.Tests.{_=?_, pick}
 use Rattle.base.proofs.TestLaws.{not-both, eq-holds, eq-yes, Known, holds, fails, known}
-use Rattle.base.specs.Lists.{at, gather, gatherAll, below}
+use Rattle.base.specs.Lists.{at, gatherAll, below}
 use Rattle.base.proofs.AtLaws.{none-some, some-same}
 use Rattle.base.proofs.Distinct.{below-has}
 use Rattle.base.proofs.ListLaws.{below-each}
-use Rattle.base.proofs.Gathered.{at-first, at-second, at-either, GatheredAt, gathered-above, above-gathered, PartAt, gathered-part, part-gathered}
+use Rattle.base.proofs.Gathered.{at-first, at-second, at-either, gathered-above, above-gathered, gathered-part, part-gathered}
 use Rattle.format.specs.Types.{Action, State, Record, retransmission}
 use Rattle.replication.specs.Machine.Types.{Log}
 use Rattle.replication.specs.Machine.Colours.{find}
 use Rattle.replication.specs.Machine.Plan.{highest, lowest, lowestFrom, firstWith, resender, missing, cutIn, greenIn, isMe, resent, resendGreen, resendRed, ownPart}
-use Rattle.replication.proofs.Step.Taken.{highest-covers}
 use Rattle.replication.proofs.Runs.LogActions.{each-in}
 
 -- ---- the numbers of the plan

@@ -1,54 +1,29 @@
 -- All who end the exchange of one configuration have the same green list, the same cuts, and hold the same actions.
-use Prim.Native.Nat.{ℕ, suc, _≤_, _<_}
-use mathlib.Core.Path.{_≡_, refl, sym, ap, subst, _∙_}
-use mathlib.Core.Bool.{true}
-use mathlib.Core.List.{List, [], _∷_, _++_, map, List·Memᴰ, List·Memᴰ·head, List·Memᴰ·tail, Memᴰ·map}
-use mathlib.Core.Option.{Option, none, some}
+use Prim.Native.Nat.{ℕ, suc}
+use mathlib.Core.Path.{_≡_, refl, sym, ap, _∙_}
+use mathlib.Core.List.{List, [], _∷_, map}
 use native.Mathlib.Omega.{arith}
-use lib.ListN.{length, getD}
+use lib.ListN.{length}
 use lib.Seq.{ext-getD}
-use Rattle.base.specs.Tests.{pick}
-use Rattle.base.proofs.TestLaws.{Known, holds, fails, known}
 use Rattle.base.specs.Lists.{present, Each}
-use Rattle.base.proofs.AtLaws.{none-some, some-same}
-use Rattle.base.proofs.ListLaws.{each-append}
-use Rattle.format.specs.Types.{Id, Action, State}
-use Rattle.format.specs.Range.{sameId}
-use Rattle.replication.specs.Machine.Types.{Configuration, Log}
-use Rattle.replication.specs.Machine.Colours.{cut, find}
+use Rattle.format.specs.Types.{Action}
+use Rattle.replication.specs.Machine.Types.{Configuration}
+use Rattle.replication.specs.Machine.Colours.{cut}
 use Rattle.replication.specs.Machine.Plan.{highest, resender, cutIn, greenIn}
-use Rattle.replication.specs.Machine.WellFormed.{idsIn, queue}
-use Rattle.replication.specs.Machine.WellFormedFacts.{heldCount}
+use Rattle.replication.specs.Machine.WellFormed.{idsIn}
 use Rattle.replication.specs.Runs.Run.{Run}
-use Rattle.replication.specs.Runs.Happenings.{Takes}
 use Rattle.replication.specs.Runs.Allowed.{Allowed}
-use Rattle.replication.proofs.WellFormed.Ids.{has-counted}
 use Rattle.replication.proofs.Runs.Numbers.{numbers, invariant-at}
 use Rattle.replication.proofs.Runs.AllowedTurns.{memoryAt}
-use Rattle.replication.proofs.Runs.Memberships.{statesIn, everyStateIn}
+use Rattle.replication.proofs.Runs.Memberships.{statesIn}
 use Rattle.replication.proofs.Runs.Stays.{membershipAt}
 use Rattle.replication.proofs.Runs.Progress.{stay-member}
-use Rattle.replication.proofs.Runs.LogActions.{EachIn, each-in}
 use Rattle.replication.proofs.Runs.Made.{Made, made-one, all-made}
 use Rattle.replication.proofs.Agreement.Exchange.Stages.{InCom}
 use Rattle.replication.proofs.Agreement.Exchange.SameStates.{complete-same}
-use Rattle.replication.proofs.Agreement.Lists.Plus.{member-has}
-use Rattle.replication.proofs.Agreement.Lists.Held.{HeldExactly, held-exactly}
 use Rattle.replication.proofs.Agreement.Contents.Agreeable.{greenIdsAt, Agreeable}
-use Rattle.replication.proofs.Agreement.Contents.Collected.{Resender}
-use Rattle.replication.proofs.Agreement.Contents.Gained.{found-id, held-found}
 use Rattle.replication.proofs.Agreement.Contents.Ended as E
 use Rattle.replication.proofs.Agreement.Contents.Places.{EndedAt}
-
--- What is found is there.
-found-among : (d : Id) (xs : List Action) (a : Action) → find d xs ≡ some a → List·Memᴰ a xs
-unfolding find pick
-found-among d [] a e = none-some e
-found-among d (x ∷ xs) a e = go (known (sameId d (x .id))) (λ h. found-among d xs a h)
-  where
-    go : Known (sameId d (x .id)) → (find d xs ≡ some a → List·Memᴰ a xs) → List·Memᴰ a (x ∷ xs)
-    go (holds h) r = List·Memᴰ·head (sym (some-same (rw h at e)))
-    go (fails h) r = List·Memᴰ·tail (r (rw h at e))
 
 module _ {n q : ℕ} {l : Run} (A : Allowed n q l) where
   -- ---- an id fixes the action
@@ -69,26 +44,6 @@ module _ {n q : ℕ} {l : Run} (A : Allowed n q l) where
   -- So green lists are the same if their ids are.
   pub same-greens : (p r i j : ℕ) → greenIdsAt n q l p i ≡ greenIdsAt n q l r j → memoryAt n q l p i .log .green ≡ memoryAt n q l r j .log .green
   same-greens p r i j e = same-actions p r _ _ (all-made A p i .memory .green) (all-made A r j .memory .green) e
-
-  -- With the same cuts the same actions are held.
-  pub same-held : (p r i j : ℕ) → i < n → j < n → memoryAt n q l p i .log .cuts ≡ memoryAt n q l r j .log .cuts → (a : Action)
-      → List·Memᴰ a (queue (memoryAt n q l p i .log)) → List·Memᴰ a (queue (memoryAt n q l r j .log))
-  unfolding queue idsIn cut
-  same-held p r i j u v e a m =
-      let x = held-exactly (memoryAt n q l p i) (invariant-at n q i (A .sizes) u l p .memory .well-formed) in
-      let y = held-exactly (memoryAt n q l r j) (invariant-at n q j (A .sizes) v l r .memory .well-formed) in
-      let w = x .within (a .id) (has-counted (a .id) _ (member-has (a .id) _ (Memᴰ·map (λ z. z .id) m))) in
-      let h = y .entered (a .id) (w .0) (omega (arith, w .1, ap (λ z. getD z (a .id .creator) 0) e)) in
-      let b = held-found (a .id) (memoryAt n q l r j .log) h in
-      let held = memoryAt n q l r j .log .green ++ memoryAt n q l r j .log .red in
-      let k = found-among (a .id) held (b .0) (b .1) in
-      let s : a ≡ b .0 = made-one A (held-made p i a m) (held-made r j (b .0) k) (found-id (a .id) held (b .0) (b .1)) in
-      subst (λ z. List·Memᴰ z held) (sym s) k
-    where
-      held-made : (p i : ℕ) (a : Action) → List·Memᴰ a (memoryAt n q l p i .log .green ++ memoryAt n q l p i .log .red) → Made A p a
-      held-made p i a m =
-          each-in (Made A p) _
-          (each-append (Made A p) (memoryAt n q l p i .log .green) (memoryAt n q l p i .log .red) (all-made A p i .memory .green) (all-made A p i .memory .red)) a m
 
   -- ---- two ends in one configuration
 

@@ -1,22 +1,20 @@
 -- What a member of a configuration resends there: its part of the plan, from the log that it had when it took the configuration.
 use Prim.Native.Nat.{ℕ, suc, _≤_, _<_}
 use mathlib.Core.Path.{_≡_, refl, sym, ap, subst, _∙_}
-use mathlib.Core.Bool.{Bool, true, false}
+use mathlib.Core.Bool.{Bool}
 use mathlib.Core.List.{List}
-use mathlib.Core.Option.{Option, none, some}
+use mathlib.Core.Option.{some}
 use native.Mathlib.Omega.{arith}
-use lib.ListN.{length}
-use Rattle.base.proofs.TestLaws.{not-both}
 use Rattle.base.specs.Lists.{at}
-use Rattle.format.specs.Types.{Action, Record, retransmission}
-use Rattle.replication.specs.Machine.Types.{Mode, Non-prim, Exchange-states, Exchange-actions, Configuration, Server}
+use Rattle.format.specs.Types.{Record}
+use Rattle.replication.specs.Machine.Types.{Mode, Exchange-states, Exchange-actions, Configuration, Server}
 use Rattle.replication.specs.Machine.Plan.{ownPart}
 use Rattle.replication.specs.Machine.Requests.{sendsNow, hold, recovered}
 use Rattle.replication.specs.Machine.Step.{collected, withState, resending, leave, entering}
 use Rattle.replication.specs.Laws.Transitions as L
-use Rattle.replication.specs.Laws.Transitions.{Ends, Leads, Transition}
+use Rattle.replication.specs.Laws.Transitions.{Leads, Transition}
 use Rattle.replication.specs.Runs.Run.{Run}
-use Rattle.replication.specs.Runs.Happenings.{Message, isMessage, sending-of, Sends, Comes, Falls, Takes, Causes, in-order}
+use Rattle.replication.specs.Runs.Happenings.{Message, Sends, Falls, Takes, in-order}
 use Rattle.replication.specs.Runs.Allowed.{Allowed}
 use Rattle.replication.proofs.Runs.Places.{of-one}
 use Rattle.replication.proofs.Runs.Entries.{had}
@@ -25,9 +23,10 @@ use Rattle.replication.proofs.Runs.Origins.{origin}
 use Rattle.replication.proofs.Runs.Sending.{Puts}
 use Rattle.replication.proofs.Runs.AllowedTurns.{memoryAt, Acts}
 use Rattle.replication.proofs.Runs.Stays.{membershipAt, in-stay, acts-membership}
-use Rattle.replication.proofs.Agreement.Exchange.Stages.{remains, stage, modeNumber, other-mode, InCom, remaining, stage-rises}
+use Rattle.replication.proofs.Step.Apart.{modeNumber, other-mode, sends-in}
+use Rattle.replication.proofs.Agreement.Exchange.Stages.{stage, InCom, remaining, stage-rises}
 use Rattle.replication.proofs.Agreement.Exchange.Retransmissions.{partOf, part-of, PartPut, PartMessage}
-use Rattle.replication.proofs.Agreement.Contents.Logs.{LogMove, keeps, places, ends-log, early-holds, MemoryStep, still, moved, memory-step, acting, acts-log}
+use Rattle.replication.proofs.Agreement.Contents.Logs.{LogMove, keeps, places, ends-log, MemoryStep, still, moved, memory-step, acting, acts-log}
 
 leads-no-actions : {X : Type 0} {m o : Mode} → Leads m o → o ≡ Exchange-actions → X
 unfolding modeNumber
@@ -63,7 +62,7 @@ enters-actions (L.joinsMarked c e) h k = other-mode h e (λ z. omega arith)
 enters-actions (L.joinsUnmarked c e) h k = other-mode h e (λ z. omega arith)
 enters-actions (L.joinsYellow c e) h k = other-mode h e (λ z. omega arith)
 enters-actions (L.leaves m o x e y) h k = leads-no-actions y k
-enters-actions {s = s} (L.sends p c) h k = not-both (sym (early-holds s (omega (arith, ap stage h)) _ _ (omega (arith, ap stage h))) ∙ c)
+enters-actions (L.sends p c) h k = sends-in _ _ c (λ e. other-mode h e (λ z. omega arith)) (λ e. other-mode h e (λ z. omega arith))
 enters-actions (L.holds p c) h k = other-mode h k (λ z. omega arith)
 enters-actions L.recovers h k = other-mode refl k (λ z. omega arith)
 

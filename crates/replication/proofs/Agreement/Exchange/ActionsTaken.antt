@@ -29,7 +29,8 @@ use Rattle.replication.proofs.Runs.Made.{delivered-made}
 use Rattle.replication.proofs.Runs.Progress.{Attempting, Settled, Installable, progress-in, stay-member, progress}
 use Rattle.replication.proofs.Runs.Memberships.{everyStateIn, everyCpcIn, quorumIn}
 use Rattle.replication.proofs.Runs.Stays.{membershipAt, stay-configuration, stay-transitional}
-use Rattle.replication.proofs.Agreement.Exchange.Stages.{stage, modeNumber, other-mode, InCom}
+use Rattle.replication.proofs.Step.Apart.{modeNumber, other-mode}
+use Rattle.replication.proofs.Agreement.Exchange.Stages.{stage, InCom}
 use Rattle.replication.proofs.Agreement.Exchange.SameStates.{complete-same}
 use Rattle.replication.proofs.Agreement.Exchange.Messages.{sent-in}
 use Rattle.replication.proofs.Agreement.Exchange.Answers.{coming, TakenAt, taken-by-rule, member-here}

@@ -15,7 +15,7 @@ use Rattle.base.specs.Sets.{inSet}
 use Rattle.format.specs.Types.{State, Record, state}
 use Rattle.replication.specs.Machine.Types.{Mode, Non-prim, Reg-prim, Trans-prim, Exchange-states, Exchange-actions, Construct, No, Un, Configuration, Membership}
 use Rattle.replication.specs.Machine.Step.{theSet, hereSet, allStatesIn}
-use Rattle.replication.specs.Machine.WellFormedFacts.{WellFormed}
+use Rattle.replication.proofs.WellFormed.Clauses.{WellFormed}
 use Rattle.replication.specs.Runs.Run.{Run}
 use Rattle.replication.specs.Runs.Allowed.{Allowed}
 use Rattle.replication.proofs.WellFormed.Modes.{all-in-facts, all-in-ok}
@@ -25,7 +25,8 @@ use Rattle.replication.proofs.Runs.Progress.{Progress, progress-in, sta
 use Rattle.replication.proofs.Runs.Memberships as M
 use Rattle.replication.proofs.Runs.Memberships.{everyStateIn, Completes, MembershipStep}
 use Rattle.replication.proofs.Runs.Stays.{membershipAt, stay-configuration}
-use Rattle.replication.proofs.Agreement.Exchange.Stages.{remains, stage, modeNumber, other-mode, InCom, KeptInStay}
+use Rattle.replication.proofs.Step.Apart.{modeNumber, other-mode}
+use Rattle.replication.proofs.Agreement.Exchange.Stages.{remains, stage, InCom, KeptInStay}
 
 -- ---- which States each event of a stay leaves
 

@@ -1,6 +1,6 @@
 -- How a server leaves an exchange: by its end, or by a transitional configuration.
 use Prim.Native.Nat.{ℕ, _≤_, _<_}
-use mathlib.Core.Path.{_≡_, refl, sym, ap, _∙_}
+use mathlib.Core.Path.{_≡_, refl, ap}
 use mathlib.Core.Bool.{Bool, true, false}
 use mathlib.Core.List.{List}
 use mathlib.Core.Logic.{_⊎_, inl, inr}
@@ -8,12 +8,13 @@ use mathlib.Core.Option.{some}
 use native.Mathlib.Omega.{arith}
 use Rattle.base.proofs.TestLaws.{not-both}
 use Rattle.format.specs.Types.{Record}
-use Rattle.replication.specs.Machine.Types.{Mode, Non-prim, Reg-prim, Trans-prim, Exchange-states, Exchange-actions, Construct, No, Un, Server, withMode}
+use Rattle.replication.specs.Machine.Types.{Mode, Non-prim, Reg-prim, Trans-prim, Exchange-actions, Construct, No, Un, Server, withMode}
 use Rattle.replication.specs.Machine.Exchange.{quorum}
-use Rattle.replication.specs.Machine.Requests.{sendsIn, sendsNow, numbered, hold, sendHeld}
+use Rattle.replication.specs.Machine.Requests.{sendsNow, numbered, hold, sendHeld}
 use Rattle.replication.specs.Machine.Step.{hereSet, collected, decided, attempting, withState, allStatesIn, resending, oneMore, exchanged, leave}
 use Rattle.replication.specs.Laws.Transitions as L
 use Rattle.replication.specs.Laws.Transitions.{Ends, Leads, Transition}
+use Rattle.replication.proofs.Step.Apart.{sends-in}
 use Rattle.replication.proofs.Agreement.Exchange.Stages.{remains, stage}
 
 -- ---- one step
@@ -43,17 +44,6 @@ module _ (s : Server) (early : stage (s .membership .mode) ≤ 1) where
   leads-move m o x rs b e L.interruptsActions = is-left x refl refl
   leads-move m o x rs b e L.interruptsConstruct = past Construct e (omega arith)
 
-  early-holds : (m : Mode) (b : Bool) → stage m ≤ 1 → sendsIn m b ≡ false
-  unfolding stage sendsIn
-  early-holds Non-prim b h = absurd (omega arith)
-  early-holds Reg-prim b h = absurd (omega arith)
-  early-holds Trans-prim b h = refl
-  early-holds Exchange-states b h = refl
-  early-holds Exchange-actions b h = refl
-  early-holds Construct b h = refl
-  early-holds No b h = refl
-  early-holds Un b h = refl
-
   pub exchange-move : {r : Record} {t : Server} {rs : List Record} {b : Bool} → (s .membership .mode ≡ Exchange-actions → allStatesIn s ≡ true)
       → remains r ≡ true → Transition s r t rs b → ExchangeMove s t rs b
   unfolding exchanged oneMore withState resending hold stage remains allStatesIn hereSet sendsNow
@@ -79,7 +69,7 @@ module _ (s : Server) (early : stage (s .membership .mode) ≤ 1) where
   exchange-move f h (L.joinsUnmarked c e) = not-both h
   exchange-move f h (L.joinsYellow c e) = not-both h
   exchange-move f h (L.leaves m o x e y) = leads-move m o x _ _ e y
-  exchange-move f h (L.sends p c) = not-both (sym (early-holds _ _ early) ∙ c)
+  exchange-move f h (L.sends p c) = sends-in _ _ c (λ e. past Non-prim e (omega arith)) (λ e. past Reg-prim e (omega arith))
   exchange-move f h (L.holds p c) = goes-on early
   exchange-move f h L.recovers = not-both h
 

@@ -20,7 +20,8 @@ use Rattle.replication.proofs.Runs.Origins.{delivery-says}
 use Rattle.replication.proofs.Runs.Progress.{Installable, progress-in, progress}
 use Rattle.replication.proofs.Runs.Stays.{membershipAt, stay-transitional}
 use Rattle.replication.proofs.Agreement.Terms.{Within, InstallsAt}
-use Rattle.replication.proofs.Agreement.Exchange.Stages.{modeNumber, other-mode, InCom}
+use Rattle.replication.proofs.Step.Apart.{modeNumber, other-mode}
+use Rattle.replication.proofs.Agreement.Exchange.Stages.{InCom}
 use Rattle.replication.proofs.Agreement.Exchange.Answers.{coming}
 use Rattle.replication.proofs.Agreement.Exchange.Cpcs.{every-cpc-came}
 use Rattle.replication.proofs.Agreement.Exchange.CpcsTaken.{cpcs-recorded}

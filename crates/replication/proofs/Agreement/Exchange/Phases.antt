@@ -25,7 +25,8 @@ use Rattle.replication.proofs.Runs.Memberships.{Completes, MembershipSt
 use Rattle.replication.proofs.Runs.Progress.{stay-member}
 use Rattle.replication.proofs.Runs.Stays.{membershipAt, in-stay, entering-membership, stay-configuration, stay-transitional, StayStep, rested, refused, took, stay-step}
 use Rattle.replication.proofs.Agreement.Terms.{EndsAt, MarksAt}
-use Rattle.replication.proofs.Agreement.Exchange.Stages.{remains, stage, modeNumber, other-mode, stage-rises, InCom, remaining}
+use Rattle.replication.proofs.Step.Apart.{modeNumber, other-mode}
+use Rattle.replication.proofs.Agreement.Exchange.Stages.{remains, stage, stage-rises, InCom, remaining}
 use Rattle.replication.proofs.Agreement.Exchange.Endings.{ExchangeMove, goes-on, is-left, is-ended, exchange-move, ends-decide}
 
 -- ---- one step

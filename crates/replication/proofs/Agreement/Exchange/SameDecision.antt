@@ -7,9 +7,8 @@ use Rattle.replication.specs.Machine.Exchange.{takenPrimary, takenYellow
 use Rattle.replication.specs.Machine.Step.{collected}
 use Rattle.replication.specs.Runs.Run.{Run}
 use Rattle.replication.specs.Runs.Allowed.{Allowed}
-use Rattle.replication.proofs.Agreement.Terms.{EndsAt, MarksAt}
+use Rattle.replication.proofs.Agreement.Terms.{EndsAt}
 use Rattle.replication.proofs.Agreement.Votes.Turns.{votesAt, lastAt, Decides, with-quorum, without-quorum, ended, ended-last}
-use Rattle.replication.proofs.Agreement.Votes.Marks.{attemptMark, marking-mark}
 use Rattle.replication.proofs.Agreement.Exchange.SameStates.{same-states}
 
 module _ {n q : ℕ} {l : Run} {p i : ℕ} {c : Configuration} (x : EndsAt n q l p i c) where
@@ -51,8 +50,3 @@ module _ {n q : ℕ} {l : Run} (A : Allowed n q l) {c : Configuration} where
       attempts (with-quorum h v m d) (without-quorum k w o) = not-both (sym k ∙ sym f ∙ h)
       attempts (without-quorum h v m) (with-quorum k w o u) = not-both (sym h ∙ f ∙ k)
       attempts (without-quorum h v m) (without-quorum k w o) = ap (λ z. z .attempt) v ∙ ap takenAttempt e ∙ sym (ap (λ z. z .attempt) w)
-
-  -- All who mark in c make one mark, (index of the taken primary, taken attempt + 1, c's set, no bits).
-  pub same-mark : {p r i j : ℕ} (x : MarksAt n q l p i c) (y : MarksAt n q l r j c) → votesAt n q l (suc p) i .mark ≡ votesAt n q l (suc r) j .mark
-  same-mark {p} {r} {i} {j} x y =
-      marking-mark x ∙ ap (attemptMark (c .set)) (same-states A p r i j c (x .ending) (y .ending)) ∙ sym (marking-mark y)

@@ -55,20 +55,6 @@ first-stage Construct h = absurd (omega arith)
 first-stage No h = absurd (omega arith)
 first-stage Un h = absurd (omega arith)
 
--- The states by number, to tell them apart.
-unfoldable pub modeNumber : Mode → ℕ
-modeNumber Non-prim = 0
-modeNumber Reg-prim = 1
-modeNumber Trans-prim = 2
-modeNumber Exchange-states = 3
-modeNumber Exchange-actions = 4
-modeNumber Construct = 5
-modeNumber No = 6
-modeNumber Un = 7
-
-pub other-mode : {X : Type 0} {m x y : Mode} → m ≡ x → m ≡ y → (modeNumber x ≡ modeNumber y → ⊥) → X
-other-mode e f h = absurd (h (ap modeNumber (sym e ∙ f)))
-
 leads-stage : {m o : Mode} → Leads m o → stage m ≤ stage o
 unfolding stage
 leads-stage L.stays = omega arith

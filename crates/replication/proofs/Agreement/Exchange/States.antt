@@ -24,7 +24,8 @@ use Rattle.replication.proofs.Runs.Order.{delivered-once}
 use Rattle.replication.proofs.Runs.StateOrigins.{Entered, state-entered, states-came}
 use Rattle.replication.proofs.Runs.Memberships.{MembershipStep}
 use Rattle.replication.proofs.Runs.Stays.{membershipAt, acts-membership}
-use Rattle.replication.proofs.Agreement.Exchange.Stages.{stage, first-stage, modeNumber, InCom, between, onward, stage-onward}
+use Rattle.replication.proofs.Step.Apart.{modeNumber}
+use Rattle.replication.proofs.Agreement.Exchange.Stages.{stage, first-stage, InCom, between, onward, stage-onward}
 use Rattle.replication.proofs.Agreement.Exchange.Collected.{complete-in, states-in, states-length, state-adds, state-stays}
 use Rattle.replication.proofs.Agreement.Exchange.Messages.{same-message, sent-in}
 use Rattle.replication.proofs.Agreement.Exchange.Answers.{coming, TakenAt, taken-by-rule, member-here, is-here}

@@ -24,7 +24,8 @@ use Rattle.replication.proofs.Runs.AllowedTurns.{Acts}
 use Rattle.replication.proofs.Runs.Memberships as M
 use Rattle.replication.proofs.Runs.Memberships.{plannedIn, Completes, MembershipStep}
 use Rattle.replication.proofs.Runs.Stays.{membershipAt, in-stay, entering-membership, acts-membership, StayStep, rested, refused, took, stay-step}
-use Rattle.replication.proofs.Agreement.Exchange.Stages.{remains, stage, modeNumber, other-mode, InCom, remaining}
+use Rattle.replication.proofs.Step.Apart.{modeNumber, other-mode}
+use Rattle.replication.proofs.Agreement.Exchange.Stages.{remains, stage, InCom, remaining}
 use Rattle.replication.proofs.Agreement.Exchange.Retransmissions.{saysResent, says-resent, resentAt, resent-yes, resent-holds, resent-late, resent-taken}
 
 -- ---- one step

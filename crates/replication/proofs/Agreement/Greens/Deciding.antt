@@ -61,9 +61,6 @@ module _ {n q : ℕ} {l : Run} (A : Allowed n q l) (X : ExchangeFacts n q l) (P 
     {p i s : ℕ} {c e : Configuration} (x : InstallsAt n q l p i c)
     (h : p < suc t) (y : EndsAt n q l t s e) (exchanging : inExchange (memoryAt n q l t s .membership .mode) ≡ true)
     (same-index : takenPrimary (collected (y .judged)) .index ≡ installed n q l x .index) where
-  xs : List State
-  xs = collected (y .judged)
-
   abbrev g : List Id
   g = greens (memoryAt n q l (suc t) s)
 

@@ -14,7 +14,7 @@ use Rattle.replication.specs.Machine.Colours.{cut}
 use Rattle.replication.specs.Machine.Exchange.{commonYellow}
 use Rattle.replication.specs.Machine.Requests.{recovered}
 use Rattle.replication.specs.Machine.Step.{collected, unmarked, yellowValid}
-use Rattle.replication.specs.Machine.WellFormedFacts.{YellowEntered, YellowWithinCuts}
+use Rattle.replication.proofs.WellFormed.Clauses.{YellowEntered, YellowWithinCuts}
 use Rattle.replication.specs.Laws.Order.{inExchange}
 use Rattle.replication.specs.Laws.Transitions as L
 use Rattle.replication.specs.Runs.Run.{Run}

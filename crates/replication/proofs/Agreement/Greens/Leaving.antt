@@ -1,14 +1,12 @@
 -- A server that still has the mark of an attempt that was installed, but is no longer in its configuration, fell there, or nobody got further than the Install.
 use Prim.Native.Nat.{ℕ, zero, suc, _≤_, _<_}
 use mathlib.Core.Path.{_≡_, sym, ap, subst, _∙_}
-use mathlib.Core.Bool.{true}
 use mathlib.Core.List.{List, List·Memᴰ}
 use mathlib.Core.Option.{some}
 use native.Mathlib.Omega.{arith}
 use Rattle.base.proofs.Chains.{strong}
 use Rattle.base.proofs.AtLaws.{some-same}
 use Rattle.base.proofs.TestLaws.{not-both, Known, holds, fails, known}
-use Rattle.base.specs.Sets.{inSet}
 use Rattle.format.specs.Types.{Mark, Action, action, regular, request, recovery, State}
 use Rattle.replication.specs.Machine.Types.{Trans-prim, Configuration, Server, clearedMark, start}
 use Rattle.replication.specs.Machine.Exchange.{judgedMark, keptMark}
@@ -83,9 +81,6 @@ module _ {n q : ℕ} {l : Run} (A : Allowed n q l) (X : ExchangeFacts n q l) {p 
       made-status : {r : ℕ} {e : Configuration} → Alike (votesAt n q l (suc r) d .mark) (votesAt n q l t d .mark) → MarksAt n q l r d e
           → votesAt n q l (suc r) d .mark .status ≡ 1
       made-status k m = ap (λ z. z .status) (marking-mark m)
-
-  pub like-member : (t d : ℕ) → Alike (markOfInstall A x) (votesAt n q l t d .mark) → inSet d (c .set) ≡ true
-  like-member t d h = let m = like-marked t d h in taker-member (had n q l (m .0) d c (ap (λ z. z .regular) (m .2 .ending .here)) .took)
 
   pub data Departed (t d : ℕ) : Type 0 where
     with-none : reach A x d ≡ baseOf A x → Departed t d

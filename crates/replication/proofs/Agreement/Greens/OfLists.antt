@@ -9,7 +9,7 @@ use Rattle.replication.specs.Machine.Types.{Server}
 use Rattle.replication.specs.Machine.Colours.{cut}
 use Rattle.replication.specs.Machine.Install.{installLog}
 use Rattle.replication.specs.Machine.WellFormed.{idsIn}
-use Rattle.replication.specs.Machine.WellFormedFacts.{WellFormed}
+use Rattle.replication.proofs.WellFormed.Clauses.{WellFormed}
 use Rattle.replication.proofs.Runs.LogActions.{each-in}
 use Rattle.replication.proofs.Agreement.Lists.Plus.{plus-grown, plus-joins}
 use Rattle.replication.proofs.Agreement.Lists.Common.{yellow-begins}

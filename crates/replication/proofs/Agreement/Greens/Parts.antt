@@ -12,7 +12,7 @@ use Rattle.replication.specs.Machine.Colours.{cut}
 use Rattle.replication.specs.Machine.Exchange.{commonYellow}
 use Rattle.replication.specs.Machine.Install.{installLog}
 use Rattle.replication.specs.Machine.WellFormed.{idsIn}
-use Rattle.replication.specs.Machine.WellFormedFacts.{WellFormed}
+use Rattle.replication.proofs.WellFormed.Clauses.{WellFormed}
 use Rattle.replication.specs.Laws.Order.{inExchange}
 use Rattle.replication.specs.Runs.Run.{Run}
 use Rattle.replication.specs.Runs.Happenings.{Takes, Falls}

@@ -34,10 +34,6 @@ module _ {n q : ℕ} {l : Run} (A : Allowed n q l) (X : ExchangeFacts n q l) whe
   settled-prefix k (at-base p i c x a b) = at-base p i c x a (prefix-trans k b)
   settled-prefix k (left p i d c x a m o b) = left p i d c x a m o (prefix-trans k b)
 
-  pub reached-prefix : {t s : ℕ} {g h : List Id} → Prefix g h → Reached A t s h → Reached A t s g
-  reached-prefix k (settled b) = settled (settled-prefix k b)
-  reached-prefix k (own p i c x a m b) = own p i c x a m (prefix-trans k b)
-
   -- ---- one place
 
   not-within : (t d : ℕ) (c : Configuration) → (Within n q l t d c → ⊥) → fallsIn A c d t ≡ false

@@ -1,20 +1,20 @@
 -- The actions that are entered follow the cuts, and raise them by as many as each creator has among them.
 use Prim.Native.Nat.{ℕ, _+_, _<_}
-use mathlib.Core.Path.{_≡_, refl, sym, ap}
+use mathlib.Core.Path.{_≡_, sym, ap}
 use mathlib.Core.Bool.{true}
 use mathlib.Core.List.{List, [], _∷_, _++_}
 use native.Mathlib.Omega.{arith}
-use lib.ListN.{length, getD, set, replicate, length-set}
+use lib.ListN.{length, getD, set, length-set}
 use lib.Seq.{getD-set-same, getD-set-other}
 use Rattle.base.specs.Tests.{_=?_, pick}
-use Rattle.base.proofs.TestLaws.{eq-yes, eq-holds, eq-fails, Known, holds, fails, known}
+use Rattle.base.proofs.TestLaws.{eq-holds, eq-fails, Known, holds, fails, known}
 use Rattle.base.specs.Lists.{Each}
-use Rattle.base.proofs.ListLaws.{each-map, replicate-at}
-use Rattle.base.specs.Counts.{one, count}
+use Rattle.base.proofs.ListLaws.{each-map}
+use Rattle.base.specs.Counts.{one}
 use Rattle.base.proofs.CountLaws.{one-yes, one-no}
 use Rattle.format.specs.Types.{Id, Action}
 use Rattle.replication.specs.Machine.WellFormed.{idsIn}
-use Rattle.replication.specs.Laws.Folds.{follows, cutsWith, cutsAfter, entered}
+use Rattle.replication.specs.Laws.Folds.{follows, cutsWith, entered}
 use Rattle.replication.proofs.Agreement.Lists.Fifo.{createdBy, Follows, Fifo, follows-same, follows-below, follows-append}
 
 -- Each creator has a cut.
@@ -52,19 +52,6 @@ entered-follows cuts (a ∷ xs) h = go (known (follows cuts a)) (λ k b. entered
         rw e (next cuts a e, follows-same _ _ (idsIn (entered then xs)) (raised cuts a (h .0) e) (more then (creators-set cuts _ _ xs (h .1))))
     go (fails e) more = rw e (more cuts (h .1))
 
-pub cuts-after : (cuts : List ℕ) (xs : List Action) → Creators cuts xs → (c : ℕ)
-    → getD (cutsAfter cuts xs) c 0 ≡ getD cuts c 0 + createdBy c (idsIn (entered cuts xs))
-unfolding entered cutsAfter cutsWith pick idsIn count
-cuts-after cuts [] h c = omega arith
-cuts-after cuts (a ∷ xs) h c = go (known (follows cuts a)) (λ k b. cuts-after k xs b c)
-  where
-    go : Known (follows cuts a) → ((k : List ℕ) → Creators k xs → getD (cutsAfter k xs) c 0 ≡ getD k c 0 + createdBy c (idsIn (entered k xs)))
-        → getD (cutsAfter cuts (a ∷ xs)) c 0 ≡ getD cuts c 0 + createdBy c (idsIn (entered cuts (a ∷ xs)))
-    go (holds e) more =
-        let then = set cuts (a .id .creator) (a .id .index) in
-        rw e (omega (arith, raised cuts a (h .0) e c, more then (creators-set cuts _ _ xs (h .1))))
-    go (fails e) more = rw e (more cuts (h .1))
-
 pub each-entered : (P : Action → Type 0) (cuts : List ℕ) (xs : List Action) → Each P xs → Each P (entered cuts xs)
 unfolding entered pick
 each-entered P cuts [] h = tt
@@ -73,22 +60,6 @@ each-entered P cuts (a ∷ xs) h = go (known (follows cuts a)) (each-entered P (
     go : Known (follows cuts a) → Each P (entered (cutsWith a cuts) xs) → Each P (entered cuts (a ∷ xs))
     go (holds e) k = rw e (h .0, k)
     go (fails e) k = rw e k
-
--- If they follow the cuts, all are entered.
-pub entered-all : (cuts : List ℕ) (xs : List Action) → Creators cuts xs → Follows (λ c. getD cuts c 0) (idsIn xs) → entered cuts xs ≡ xs
-unfolding entered cutsWith follows pick idsIn
-entered-all cuts [] h f = refl
-entered-all cuts (a ∷ xs) h f =
-    let e : follows cuts a ≡ true = eq-yes _ _ (f .0) in
-    let then = set cuts (a .id .creator) (a .id .index) in
-    rw e (ap (λ z. a ∷ z) (entered-all then xs (creators-set cuts _ _ xs (h .1)) (follows-same _ _ (idsIn xs) (λ c. sym (raised cuts a (h .0) e c)) (f .1))))
-
--- From no cut on, actions in order raise each creator's cut to as many as it has.
-pub fifo-cuts : (n : ℕ) (xs : List Action) → Creators (replicate n 0) xs → Fifo (idsIn xs) → (c : ℕ)
-    → getD (cutsAfter (replicate n 0) xs) c 0 ≡ createdBy c (idsIn xs)
-fifo-cuts n xs h p c =
-    let all = entered-all (replicate n 0) xs h (follows-same (λ k. 0) (λ k. getD (replicate n 0) k 0) (idsIn xs) (λ k. sym (replicate-at 0 n k)) p) in
-    omega (arith, cuts-after (replicate n 0) xs h c, ap (λ z. createdBy c (idsIn z)) all, replicate-at {A = ℕ} 0 n c)
 
 -- Behind a list in order that has as many ids of each creator as its cut says.
 pub fifo-entered : (g : List Id) (cuts : List ℕ) (xs : List Action) → Fifo g → ((c : ℕ) → c < length cuts → createdBy c g ≡ getD cuts c 0) → Creators cuts xs

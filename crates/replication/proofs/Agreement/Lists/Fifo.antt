@@ -10,10 +10,6 @@ use Rattle.base.specs.Lists.{Begins, Each}
 use Rattle.base.specs.Counts.{one, count}
 use Rattle.base.proofs.CountLaws.{one-yes, one-no}
 use Rattle.format.specs.Types.{Id}
-use Rattle.format.specs.Range.{sameId}
-use Rattle.replication.specs.Machine.WellFormedRanges.{idCount}
-use Rattle.replication.proofs.WellFormed.Ids.{SameId, same, other, same-id?, has-member, counted-has}
-use Rattle.replication.proofs.Agreement.Lists.Plus.{Once}
 
 -- How many ids of the list are of the creator c.
 abbrev pub createdBy : ℕ → List Id → ℕ
@@ -92,24 +88,6 @@ follows-has f (d ∷ x) h c i low high = go (known (d .creator =? c)) (ℕ-discr
         List·Memᴰ·head (λ j. record { creator = k j; index = n j })
     go (holds e) (no p) more = List·Memᴰ·tail (more (omega (arith, one-yes _ e)) (omega arith))
     go (fails e) p more = List·Memᴰ·tail (more (omega (arith, one-no _ e)) (omega arith))
-
-pub follows-once : (f : ℕ → ℕ) (x : List Id) → Follows f x → Once x
-unfolding count
-follows-once f [] h e = omega arith
-follows-once f (d ∷ x) h e = go (same-id? e d) (follows-once _ x (h .1) e)
-  where
-    gone : e ≡ d → 1 ≤ idCount e x → ⊥
-    gone p l =
-        let w = follows-within _ x e (h .1) (has-member e x (counted-has e x l)) in
-        omega (arith, w .0, h .0, self (d .creator), ap (λ z. z .index) p, ap (λ z. f (z .creator)) p, ap (λ z. one (d .creator =? z .creator)) p)
-
-    go : SameId e d → idCount e x ≤ 1 → one (sameId e d) + idCount e x ≤ 1
-    go (same p c i t u) rest = none (decLe 1 (idCount e x))
-      where
-        none : Dec (1 ≤ idCount e x) → one (sameId e d) + idCount e x ≤ 1
-        none (yes l) = absurd (gone p l)
-        none (no l) = omega arith
-    go (other n t u) rest = omega arith
 
 -- ---- lists that are in order from the first index on
 

@@ -8,20 +8,18 @@ use native.Mathlib.Decide.{decLe}
 use lib.ListN.{getD}
 use Rattle.base.specs.Tests.{_and_, _≤?_, pick}
 use Rattle.base.proofs.TestLaws.{not-both, and-holds, both-yes, le-yes, le-holds, Known, holds, fails, known}
-use Rattle.base.specs.Lists.{filter, Each}
-use Rattle.base.proofs.ListLaws.{each-append, each-map, each-implied}
+use Rattle.base.specs.Lists.{filter}
 use Rattle.base.proofs.CountLaws.{count-map, one-yes}
 use Rattle.format.specs.Types.{Id, Action}
 use Rattle.format.specs.Range.{sameId}
 use Rattle.replication.specs.Machine.Types.{Log, Server}
 use Rattle.replication.specs.Machine.Colours.{cut, promote, promoteFound, greenId, greenIds, addId}
-use Rattle.replication.specs.Machine.WellFormed.{idsIn, queue}
-use Rattle.replication.specs.Machine.WellFormedRanges.{idCount, IdFits, ActionFits}
-use Rattle.replication.specs.Machine.WellFormedFacts.{heldCount, WellFormed}
+use Rattle.replication.specs.Machine.WellFormed.{idsIn}
+use Rattle.replication.specs.Machine.WellFormedRanges.{idCount}
+use Rattle.replication.proofs.WellFormed.Clauses.{heldCount, WellFormed}
 use Rattle.replication.specs.Laws.Folds.{addIds}
-use Rattle.replication.proofs.WellFormed.Ids.{same-id-yes, counted-fact, has-counted, counted-has, has-member}
+use Rattle.replication.proofs.WellFormed.Ids.{same-id-yes, has-counted, counted-has, has-member}
 use Rattle.replication.proofs.WellFormed.Held.{actionCount, held-parts, Found, absent, found, found?, Greened, unmoved, moved, greened?}
-use Rattle.replication.proofs.WellFormed.Logs.{LogFits}
 use Rattle.replication.proofs.WellFormed.Facts.{held-index}
 use Rattle.replication.proofs.Agreement.Lists.Plus.{plus, member-has, add-there, add-new}
 
@@ -33,20 +31,6 @@ pub record HeldExactly (l : Log) : Type 0 where
 
 pub held-exactly : (s : Server) → WellFormed s → HeldExactly (s .log)
 held-exactly s f = record { once = f .once; within = held-index s f; entered = f .held-to-cuts .entered }
-
-pub fits-exactly : (n q me : ℕ) (l : Log) → LogFits n q me l → HeldExactly l
-unfolding idsIn queue
-fits-exactly n q me l f = record {
-  once = f .once;
-  within = λ d k. (counted-fact (IdFits n q) d (idsIn (queue l)) fit k .least, f .held-to-cuts .within d k);
-  entered = f .held-to-cuts .entered;
-}
-  where
-    fit : Each (IdFits n q) (idsIn (queue l))
-    fit =
-        each-map (IdFits n q) (λ a. a .id) (queue l)
-        (each-implied (ActionFits n q) (λ a. IdFits n q (a .id)) (λ a g. g .id) (queue l)
-        (each-append (ActionFits n q) (l .green) (l .red) (f .ranges .green) (f .ranges .red)))
 
 -- By these cuts the id d is held.
 unfoldable pub isHeld : List ℕ → Id → Bool

@@ -1,31 +1,27 @@
 -- What Install does to the ids of the green list: those of the yellow list that are held join it in order, then all others that are held, by creator and index.
 use Prim.Native.Nat.{ℕ, zero, suc, _+_, _-_, _≤_}
 use mathlib.Core.Path.{_≡_, sym, ap, subst, _∙_}
-use mathlib.Core.Bool.{true, false}
-use mathlib.Core.List.{List, [], _∷_, _++_, map, List·Memᴰ}
+use mathlib.Core.Bool.{true}
+use mathlib.Core.List.{List, [], _∷_, map, List·Memᴰ}
 use mathlib.Core.Logic.{inr}
 use native.Mathlib.Omega.{arith}
 use native.Mathlib.Decide.{ℕ-discrete, decLe}
-use lib.ListN.{getD}
 use Rattle.base.specs.Lists.{filter, after, above, Begins}
 use Rattle.base.specs.Counts.{count}
 use Rattle.base.proofs.Filters.{filter-all}
 use Rattle.base.proofs.Comparable.{begins-member}
-use Rattle.format.specs.Types.{Id, Action}
-use Rattle.format.specs.Range.{hasId}
+use Rattle.format.specs.Types.{Id}
 use Rattle.replication.specs.Machine.Types.{Log}
 use Rattle.replication.specs.Machine.Colours.{cut, greenIds, addId}
 use Rattle.replication.specs.Machine.Install.{idsUpTo, installLog}
 use Rattle.replication.specs.Machine.WellFormed.{idsIn}
-use Rattle.replication.specs.Machine.WellFormedFacts.{heldCount}
+use Rattle.replication.proofs.WellFormed.Clauses.{heldCount}
 use Rattle.replication.specs.Laws.Folds.{addIds, entered}
-use Rattle.replication.proofs.Step.Reds.{install-empties}
-use Rattle.replication.proofs.Runs.LogActions.{each-of, each-in}
-use Rattle.replication.proofs.WellFormed.Ids.{counted-has, has-member, up-to-each, each-up-to}
+use Rattle.replication.proofs.Runs.LogActions.{each-in}
+use Rattle.replication.proofs.WellFormed.Ids.{counted-has, has-member, up-to-each}
 use Rattle.replication.proofs.WellFormed.Held.{actionCount}
-use Rattle.replication.proofs.Agreement.Lists.Plus.{plus, has-absent, add-begins, add-has, plus-append, plus-begins}
+use Rattle.replication.proofs.Agreement.Lists.Plus.{plus, add-begins, add-has, plus-append, plus-begins}
 use Rattle.replication.proofs.Agreement.Lists.Fifo.{createdBy, Fifo, begins-fifo, fifo-within, fifo-has}
-use Rattle.replication.proofs.Agreement.Lists.Entered.{Creators, fifo-entered}
 use Rattle.replication.proofs.Agreement.Lists.FifoPlus.{withIndex, fifo-add, fifo-filtered}
 use Rattle.replication.proofs.Agreement.Lists.Held.{HeldExactly, isHeld, is-held, held-bounds, tells-kept, cuts-tell, green-count, green-held, green-ids-held, green-ids-cuts, green-ids-plus}
 
@@ -35,12 +31,6 @@ up-to-held : (cuts : List ℕ) (d : Id) → List·Memᴰ d (idsUpTo 0 cuts) → 
 up-to-held cuts d m =
     each-in (λ x. isHeld cuts x ≡ true) (idsUpTo 0 cuts)
     (up-to-each (λ x. isHeld cuts x ≡ true) 0 cuts (λ c i low high. let z : 0 + c ≡ c = omega arith in rw z (is-held cuts _ low high))) d m
-
-held-up-to : (cuts : List ℕ) (d : Id) → 1 ≤ d .index → d .index ≤ getD cuts (d .creator) 0 → List·Memᴰ d (idsUpTo 0 cuts)
-held-up-to cuts d low high =
-    let ids = idsUpTo 0 cuts in
-    let z : 0 + d .creator ≡ d .creator = omega arith in
-    rw z at (each-up-to (λ x. List·Memᴰ x ids) 0 cuts (each-of (λ x. List·Memᴰ x ids) ids (λ x m. m)) (d .creator) (d .index) low high)
 
 -- A run of one creator's ids joins a list that has the ones below it.
 run-fifo : (c j m : ℕ) (g : List Id) → Fifo g → ((i : ℕ) → 1 ≤ i → i ≤ j → List·Memᴰ (record { creator = c; index = i }) g)
@@ -138,21 +128,3 @@ green-created l h r p c = go (decLe (createdBy c g) (cut l c)) (decLe (cut l c) 
         absurd (omega (arith, fifo-within g (idOf (cut l c)) p (all-green l r _ (h .entered (idOf (cut l c)) (omega arith) (omega arith))) .1))
 
 -- So it is after Install.
-module _ (ys : List Id) (l : Log) (h : HeldExactly l) where
-  pub install-reds : (installLog ys l) .red ≡ []
-  unfolding cut
-  install-reds = install-empties ys l (λ d. omega (arith, h .once d, green-count d l)) (λ d e. none d e (decLe 1 (actionCount d (l .red))))
-    where
-      none : (d : Id) → hasId d (idsUpTo 0 (l .cuts)) ≡ false → Dec (1 ≤ actionCount d (l .red)) → actionCount d (l .red) ≡ 0
-      none d e (yes k) = let b = h .within d (omega (arith, green-count d l)) in absurd (has-absent d _ e (held-up-to (l .cuts) d (b .0) (b .1)))
-      none d e (no k) = omega arith
-
-  pub install-created : Fifo (plus (idsIn (l .green)) ys) → (c : ℕ) → createdBy c (idsIn ((installLog ys l) .green)) ≡ cut l c
-  unfolding cut
-  install-created p c = green-created (installLog ys l) (install-exactly ys l h) install-reds (install-fifo ys l h p) c ∙ ap (λ k. getD k c 0) (install-cuts ys l)
-
-  -- What is entered afterwards goes on in order.
-  pub install-entered : Fifo (plus (idsIn (l .green)) ys) → (xs : List Action) → Creators (l .cuts) xs
-      → Fifo (idsIn ((installLog ys l) .green) ++ idsIn (entered (l .cuts) xs))
-  unfolding cut
-  install-entered p xs f = fifo-entered _ (l .cuts) xs (install-fifo ys l h p) (λ c b. install-created p c) f

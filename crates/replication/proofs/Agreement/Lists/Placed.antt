@@ -1,13 +1,11 @@
 -- What greening an action does to the ids of the green list, and what red and green do to the cuts, if the action is its creator's next or is held.
 use Prim.Native.Nat.{ℕ, _+_, _≤_, _<_, max}
 use mathlib.Core.Path.{_≡_, refl, sym, ap, _∙_}
-use mathlib.Core.Bool.{true, false}
+use mathlib.Core.Bool.{false}
 use mathlib.Core.List.{List, [], _∷_, _++_, List·Memᴰ}
 use native.Mathlib.Omega.{arith}
 use native.Mathlib.Decide.{decLe}
 use lib.ListN.{length, getD}
-use lib.Seq.{getD-set-other}
-use Rattle.base.specs.Tests.{pick}
 use Rattle.base.proofs.TestLaws.{pick-yes, pick-no, both-yes, and-no, eq-yes, eq-no, eq-fails, le-yes, le-no}
 use Rattle.base.proofs.CountLaws.{one-yes}
 use Rattle.format.specs.Types.{Id, Action}
@@ -15,9 +13,7 @@ use Rattle.replication.specs.Machine.Types.{Log}
 use Rattle.replication.specs.Machine.Colours.{cut, nextIndex, isNext, enter, red, green, addId}
 use Rattle.replication.specs.Machine.Step.{placed}
 use Rattle.replication.specs.Machine.WellFormed.{idsIn}
-use Rattle.replication.specs.Machine.WellFormedFacts.{heldCount}
-use Rattle.replication.specs.Laws.Folds.{follows, cutsWith}
-use Rattle.replication.proofs.Step.Folds.{next-follows}
+use Rattle.replication.proofs.WellFormed.Clauses.{heldCount}
 use Rattle.replication.proofs.WellFormed.Ids.{same-id-yes}
 use Rattle.replication.proofs.WellFormed.Held.{Entered, entered, ignored, entered?, held-enter, CutAfter, risen, left, cut-after?}
 use Rattle.replication.proofs.Agreement.Lists.Plus.{add-new}
@@ -90,24 +86,7 @@ module _ (a : Action) (l : Log) (h : HeldExactly l) where
       let next = follows-second (λ c. 0) g (a .id ∷ z) p .0 in
       green-next (omega (arith, next)) (λ m. omega (arith, next, fifo-within g (a .id) (follows-first (λ c. 0) g (a .id ∷ z) p) m .1)) (fifo-before g (a .id) z p)
 
-  -- .. also by a retransmission at its position.
-  pub placed-in-order : (z : List Id) (p : ℕ) → p ≡ length (l .green) + 1 → Fifo (idsIn (l .green) ++ (a .id ∷ z))
-      → idsIn ((placed p a l) .green) ≡ idsIn (l .green) ++ (a .id ∷ [])
-  placed-in-order z p e f = ap (λ m. idsIn (m .green)) (placed-next p a l e) ∙ green-in-order z f
-
 -- ---- the cuts
-
-pub red-cuts : (a : Action) (l : Log) → (red a l) .cuts ≡ cutsWith a (l .cuts)
-unfolding enter cutsWith pick
-red-cuts a l = go (entered? a l)
-  where
-    go : Entered a l → (red a l) .cuts ≡ cutsWith a (l .cuts)
-    go (entered next t e) = let f : follows (l .cuts) a ≡ true = sym (next-follows l a) ∙ t in rw (e, f)
-    go (ignored t e) = let f : follows (l .cuts) a ≡ false = sym (next-follows l a) ∙ t in rw (e, f)
-
-pub green-cuts : (a : Action) (l : Log) → (green a l) .cuts ≡ cutsWith a (l .cuts)
-unfolding green
-green-cuts a l = green-id-cuts (a .id) (red a l) ∙ red-cuts a l
 
 -- The creator's cut rises to the index of an action that is its next, and no other cut changes.
 pub red-cut : (a : Action) (l : Log) → a .id .creator < length (l .cuts) → a .id .index ≤ cut l (a .id .creator) + 1
@@ -121,14 +100,6 @@ red-cut a l b high = go (entered? a l)
         raised (risen c k) = omega arith
         raised (left c k) = absurd (c refl)
     go (ignored t e) = rw e (let other : a .id .index ≡ cut l (a .id .creator) + 1 → ⊥ = not-next l a t in omega arith)
-
-pub red-cut-other : (a : Action) (l : Log) (c : ℕ) → (c ≡ a .id .creator → ⊥) → cut (red a l) c ≡ cut l c
-unfolding enter cut
-red-cut-other a l c n = go (entered? a l)
-  where
-    go : Entered a l → cut (red a l) c ≡ cut l c
-    go (entered next t e) = rw e (getD-set-other (l .cuts) (a .id .creator) c (a .id .index) 0 n)
-    go (ignored t e) = rw e
 
 pub green-cut : (a : Action) (l : Log) (c : ℕ) → cut (green a l) c ≡ cut (red a l) c
 unfolding green cut

@@ -1,5 +1,5 @@
 -- A list of ids followed by those of another that are not in it, in that one's order.
-use Prim.Native.Nat.{_+_, _≤_}
+use Prim.Native.Nat.{_≤_}
 use mathlib.Core.Path.{_≡_, refl, sym, ap, subst, _∙_}
 use mathlib.Core.Bool.{Bool, true, false, not}
 use mathlib.Core.List.{List, [], _∷_, _++_, append-nil, append-assoc, List·Memᴰ, List·Memᴰ·head, List·Memᴰ·tail, List·Memᴰ·append-cases, List·Memᴰ·eq-of-singleton, Memᴰ·append-left, Memᴰ·append-right}
@@ -8,8 +8,8 @@ use native.Mathlib.Omega.{arith}
 use Rattle.base.specs.Tests.{_or_, pick}
 use Rattle.base.proofs.TestLaws.{not-both, Known, holds, fails, known}
 use Rattle.base.specs.Lists.{filter, Begins}
-use Rattle.base.specs.Counts.{one, count}
-use Rattle.base.proofs.CountLaws.{count-append, count-single, one-yes}
+use Rattle.base.specs.Counts.{count}
+use Rattle.base.proofs.CountLaws.{one-yes}
 use Rattle.base.proofs.Filters.{filter-same, filter-all}
 use Rattle.base.proofs.Prefixes.{begins-refl, begins-append, begins-trans}
 use Rattle.base.proofs.Comparable.{Comparable, begins-antisym, begins-member, beginnings-comparable, comparable-next, next-member}
@@ -18,8 +18,8 @@ use Rattle.format.specs.Range.{sameId, hasId}
 use Rattle.replication.specs.Machine.Colours.{addId}
 use Rattle.replication.specs.Machine.WellFormedRanges.{idCount}
 use Rattle.replication.specs.Laws.Folds.{addIds}
-use Rattle.replication.proofs.Step.Yellows.{add-as, add-ids-keeps, add-ids-joins}
-use Rattle.replication.proofs.WellFormed.Ids.{SameId, same, other, same-id?, same-id-yes, has-counted, not-had-counted, has-member}
+use Rattle.replication.proofs.Step.Yellows.{add-as, add-ids-joins}
+use Rattle.replication.proofs.WellFormed.Ids.{same-id-yes, has-counted, has-member}
 
 -- g followed by the ids of y that are not in it, each once, in y's order.
 unfoldable pub plus : List Id → List Id → List Id
@@ -83,28 +83,11 @@ add-from d e g =
     add-as (λ x. List·Memᴰ e x → List·Memᴰ e g ⊎ (e ≡ d)) d g (λ h m. inl m)
     (λ h m. ⊎-elim (λ k. inl k) (λ k. inr (List·Memᴰ·eq-of-singleton k)) (List·Memᴰ·append-cases g m))
 
-pub once-next : (d : Id) (g : List Id) → Once g → hasId d g ≡ false → Once (g ++ (d ∷ []))
-once-next d g o h e = go (same-id? e d)
-  where
-    counted : idCount e (g ++ (d ∷ [])) ≡ idCount e g + one (sameId e d)
-    counted = count-append (sameId e) g (d ∷ []) ∙ ap (λ k. idCount e g + k) (count-single (sameId e) d)
-
-    go : SameId e d → idCount e (g ++ (d ∷ [])) ≤ 1
-    go (same p c i t u) = omega (arith, counted, not-had-counted d g h, ap (λ x. idCount x g) p)
-    go (other n t u) = omega (arith, counted, o e)
-
-pub add-once : (d : Id) (g : List Id) → Once g → Once (addId d g)
-add-once d g o = add-as Once d g (λ h. o) (λ h. once-next d g o h)
-
 -- ---- plus
 
 pub plus-nil : (g : List Id) → plus g [] ≡ g
 unfolding plus addIds
 plus-nil g = refl
-
-pub plus-cons : (g : List Id) (d : Id) (y : List Id) → plus g (d ∷ y) ≡ plus (addId d g) y
-unfolding plus addIds
-plus-cons g d y = refl
 
 pub plus-append : (g x y : List Id) → plus g (x ++ y) ≡ plus (plus g x) y
 unfolding plus addIds
@@ -115,21 +98,6 @@ pub plus-begins : (g y : List Id) → Begins g (plus g y)
 unfolding plus addIds
 plus-begins g [] = begins-refl g
 plus-begins g (d ∷ y) = begins-trans g (addId d g) _ (add-begins d g) (plus-begins (addId d g) y)
-
--- With more at the end.
-pub plus-more : (g y z : List Id) → Begins y z → Begins (plus g y) (plus g z)
-unfolding Begins
-plus-more g y z h = subst (Begins (plus g y)) (sym (plus-append g y (h .0)) ∙ ap (plus g) (sym (h .1))) (plus-begins (plus g y) (h .0))
-
--- With nothing new.
-pub plus-there : (g y : List Id) → ((d : Id) → List·Memᴰ d y → List·Memᴰ d g) → plus g y ≡ g
-unfolding plus addIds
-plus-there g [] f = refl
-plus-there g (d ∷ y) f = rw (add-there d g (f d (List·Memᴰ·head refl))) (plus-there g y (λ e m. f e (List·Memᴰ·tail m)))
-
-pub plus-keeps : (g y : List Id) (d : Id) → List·Memᴰ d g → List·Memᴰ d (plus g y)
-unfolding plus
-plus-keeps g y d m = add-ids-keeps d y g m
 
 pub plus-joins : (g y : List Id) (d : Id) → List·Memᴰ d y → List·Memᴰ d (plus g y)
 unfolding plus
@@ -143,11 +111,6 @@ plus-from g (e ∷ y) d m = go (plus-from (addId e g) y d m)
     go : List·Memᴰ d (addId e g) ⊎ List·Memᴰ d y → List·Memᴰ d g ⊎ List·Memᴰ d (e ∷ y)
     go (inl k) = ⊎-elim (λ z. inl z) (λ z. inr (List·Memᴰ·head z)) (add-from e d g k)
     go (inr k) = inr (List·Memᴰ·tail k)
-
-pub plus-once : (g y : List Id) → Once g → Once (plus g y)
-unfolding plus addIds
-plus-once g [] o = o
-plus-once g (d ∷ y) o = plus-once (addId d g) y (add-once d g o)
 
 -- ---- plus, written out
 
@@ -182,12 +145,6 @@ plus-filter g (d ∷ y) o = go (among? d g) (λ k. plus-filter k y (λ e. omega 
 pub plus-apart : (g y : List Id) → Once y → ((d : Id) → List·Memᴰ d y → List·Memᴰ d g → ⊥) → plus g y ≡ g ++ y
 plus-apart g y o f =
     plus-filter g y o ∙ ap (λ z. g ++ z) (filter-all (λ d. not (hasId d g)) y (λ d m. ap not (absent-has d g (f d m))))
-
--- The two together have no id twice.
-pub plus-once-behind : (g y : List Id) → Once (g ++ y) → plus g y ≡ g ++ y
-plus-once-behind g y o =
-    plus-apart g y (λ d. omega (arith, o d, count-append (sameId d) g y))
-    (λ d m k. omega (arith, o d, count-append (sameId d) g y, has-counted d y (member-has d y m), has-counted d g (member-has d g k)))
 
 -- ---- what begins such a list
 

@@ -1,11 +1,10 @@
 -- A server installs once in a configuration; what it has afterwards; and where each member stands if anyone installs there.
-use Prim.Native.Nat.{ℕ, suc, _≤_, _<_}
+use Prim.Native.Nat.{ℕ, suc, _<_}
 use mathlib.Core.Path.{_≡_, refl, sym, ap, subst, _∙_}
 use mathlib.Core.Bool.{Bool, true, false}
 use mathlib.Core.List.{List, []}
 use native.Mathlib.Omega.{arith}
 use native.Mathlib.Decide.{decLt}
-use Rattle.base.specs.Lists.{Begins}
 use Rattle.base.proofs.TestLaws.{not-both}
 use Rattle.format.specs.Types.{Record}
 use Rattle.replication.specs.Machine.Types.{Mode, Non-prim, Reg-prim, Trans-prim, Exchange-states, Exchange-actions, Construct, No, Un, Configuration, Membership, Server}
@@ -17,7 +16,6 @@ use Rattle.replication.specs.Laws.Transitions as L
 use Rattle.replication.specs.Laws.Transitions.{Ends, Leads}
 use Rattle.replication.specs.Runs.Run.{Run}
 use Rattle.replication.specs.Runs.Allowed.{Allowed}
-use Rattle.replication.proofs.Runs.DeliveryFacts.{within}
 use Rattle.replication.proofs.Runs.AllowedTurns.{memoryAt}
 use Rattle.replication.proofs.Runs.Coupling.{coupled}
 use Rattle.replication.proofs.Runs.Memberships as M
@@ -28,12 +26,12 @@ use Rattle.replication.proofs.Runs.Stays.{membershipAt}
 use Rattle.replication.proofs.Agreement.Terms.{MarksAt, InstallsAt}
 use Rattle.replication.proofs.Agreement.Exchange.Installs.{Installing, on-cpc, on-action, installs-on, installs-here, all-marked}
 use Rattle.replication.proofs.Agreement.Exchange.Phases.{settled-step}
-use Rattle.replication.proofs.Agreement.Exchange.Stages.{remains, stage, modeNumber, other-mode, InCom, onward, stage-onward}
-use Rattle.replication.proofs.Agreement.Primaries.Acted.{acted-grows}
+use Rattle.replication.proofs.Step.Apart.{modeNumber, other-mode}
+use Rattle.replication.proofs.Agreement.Exchange.Stages.{remains, stage, InCom, onward, stage-onward}
 use Rattle.replication.proofs.Agreement.Primaries.Parts.{InRegPrim, InTransPrim}
 use Rattle.replication.proofs.Agreement.Primaries.Phases.{primary-phase}
 use Rattle.replication.proofs.Agreement.Primaries.Steps.{beforeInstall, EarlyStep, goes-on, reddens, settles, installs, installs-late, leaves, early-step}
-use Rattle.replication.proofs.Agreement.Primaries.Terms.{begins-nothing, base, cutsOf, regularly, inCom, PrimaryPhase, early, settled, regular, transitional}
+use Rattle.replication.proofs.Agreement.Primaries.Terms.{base, cutsOf, regularly, inCom, PrimaryPhase, early, settled, regular, transitional}
 
 -- ---- the states of a primary component
 
@@ -178,20 +176,6 @@ module _ {n q : ℕ} {l : Run} (A : Allowed n q l) where
       go (transitional u b y k) =
           in-transitional (subst (λ z. InTransPrim (memoryAt n q l (suc z) i .log .green) (memoryAt n q l z i .log .cuts) (regularly A c i p) (inCom A c i p) (memoryAt n q l p i)) (installs-once y x) k)
 
-  -- Before its Install a server delivers no action in c.
-  pub none-before : {r i : ℕ} {c : Configuration} (x : InstallsAt n q l r i c) (p : ℕ) → p ≤ r → inCom A c i p ≡ []
-  unfolding beforeInstall
-  none-before {r} {i} {c} x p h = begins-nothing _ (subst (λ z. Begins (inCom A c i p) z) (go (primary-phase A i c r (x .here))) (acted-grows A (within c) i p r h))
-    where
-      mode : beforeInstall (membershipAt n q l r i .mode) ≡ true
-      mode = installs-before x
-
-      go : PrimaryPhase A r i c → inCom A c i r ≡ []
-      go (early e k) = k
-      go (settled e) = not-both (sym (ap beforeInstall e) ∙ mode)
-      go (regular u b y k) = not-both (sym (ap beforeInstall (k .mode)) ∙ mode)
-      go (transitional u b y k) = not-both (sym (ap beforeInstall (k .mode)) ∙ mode)
-
   -- A server in Reg_prim or Trans_prim installed in its configuration.
   pub in-primary : (p i : ℕ) (c : Configuration) → InCom n q l p i c → inPrimary (membershipAt n q l p i .mode) ≡ true → (r : ℕ) × (r < p) × InstallsAt n q l r i c
   unfolding inPrimary
@@ -250,12 +234,3 @@ module _ {n q : ℕ} {l : Run} (A : Allowed n q l) where
       go (settled e) = absurd (none-settled x p k here e)
       go (regular u b y h) = installed u b y (in-regular h)
       go (transitional u b y h) = installed u b y (in-transitional h)
-
-  -- A member that does not install in c delivers no action there.
-  pub none-without : {r i : ℕ} {c : Configuration} → InstallsAt n q l r i c → (p k : ℕ) → InCom n q l p k c → ((u : ℕ) → u < p → InstallsAt n q l u k c → ⊥)
-      → inCom A c k p ≡ []
-  none-without {r} {i} {c} x p k here f = go (member-phase x p k here)
-    where
-      go : MemberPhase p k c → inCom A c k p ≡ []
-      go (not-yet e h) = h
-      go (installed u b y h) = absurd (f u b y)

@@ -2,7 +2,6 @@
 -- otherwise, without going down, nobody gets further than the Install.
 use Prim.Native.Nat.{ℕ, suc, _≤_, _<_}
 use mathlib.Core.Path.{_≡_, refl, sym, ap, subst, _∙_}
-use mathlib.Core.Bool.{true}
 use mathlib.Core.List.{List, [], _++_}
 use mathlib.Core.Logic.{_⊎_, inl, inr}
 use native.Mathlib.Omega.{arith}
@@ -10,20 +9,17 @@ use native.Mathlib.Decide.{decLt}
 use lib.ListN.{length}
 use Rattle.base.proofs.Comparable.{Comparable, begins-behind, begins-map}
 use Rattle.base.specs.Lists.{Begins}
-use Rattle.base.specs.Tests.{pick}
 use Rattle.base.proofs.TestLaws.{not-both}
 use Rattle.format.specs.Types.{Action, action, regular}
 use Rattle.replication.specs.Machine.Types.{Mode, Trans-prim, Un, Configuration, Membership}
 use Rattle.replication.specs.Machine.WellFormed.{idsIn}
 use Rattle.replication.specs.Laws.Folds.{cutsAfter, entered}
-use Rattle.replication.specs.Laws.Order.{SameControl}
 use Rattle.replication.specs.Runs.Run.{Run, placeAt}
 use Rattle.replication.specs.Runs.Happenings.{isMessage, Comes, Falls, Takes, Left}
 use Rattle.replication.specs.Runs.Allowed.{Allowed}
 use Rattle.replication.proofs.Runs.DeliveryFacts.{within, withinRegular}
 use Rattle.replication.proofs.Step.Folds.{entered-append}
-use Rattle.replication.proofs.Runs.AllowedTurns.{memoryAt, storeAt, Acts}
-use Rattle.replication.proofs.Runs.ControlPart.{control-next, store-below, store-grows-between}
+use Rattle.replication.proofs.Runs.AllowedTurns.{memoryAt}
 use Rattle.replication.proofs.Runs.Shifts.{changes, unchanging}
 use Rattle.replication.proofs.Runs.DeliveryLists.{within-holds}
 use Rattle.replication.proofs.Runs.Entries.{had}
@@ -34,8 +30,8 @@ use Rattle.replication.proofs.Runs.Sending.{regular-acts}
 use Rattle.replication.proofs.Runs.Stays.{membershipAt, placed-up, acts-membership}
 use Rattle.replication.proofs.Agreement.Terms.{InstallsAt}
 use Rattle.replication.proofs.Agreement.Exchange.Leaving.{none-leaves-late}
-use Rattle.replication.proofs.Agreement.Exchange.Stages.{modeNumber, other-mode, InCom}
-use Rattle.replication.proofs.Agreement.Votes.Events.{installing-at}
+use Rattle.replication.proofs.Step.Apart.{modeNumber, other-mode}
+use Rattle.replication.proofs.Agreement.Exchange.Stages.{InCom}
 use Rattle.replication.proofs.Agreement.Primaries.Acted.{acted-grows, acted-still, acted-whole, acted-agreement, acted-left}
 use Rattle.replication.proofs.Agreement.Primaries.Installed.{AfterInstall, in-regular, in-transitional, after-install, none-settled, MemberPhase, not-yet, installed, member-phase}
 use Rattle.replication.proofs.Agreement.Primaries.Terms.{begins-nothing, base, cutsOf, regularly, inCom}
@@ -165,22 +161,4 @@ module _ {n q : ℕ} {l : Run} (A : Allowed n q l) where
     green-whole =
         subst (λ g. Begins g (reached c (base A x) (cutsOf A x) i (length l))) (sym green-reached)
         (entered-begins (base A x) (cutsOf A x) _ _ (acted-whole A (withinRegular c) i p))
-
-  -- ---- stores
-
-  -- The Install is stored.
-  pub install-stored : {u i : ℕ} {c : Configuration} (x : InstallsAt n q l u i c) → storeAt n q l (suc u) i ≡ memoryAt n q l (suc u) i
-  unfolding pick
-  install-stored {u} {i} x = go (control-next A u i)
-    where
-      go : SameControl (memoryAt n q l u i) (memoryAt n q l (suc u) i) ⊎ ((y : Acts n q l u i) × (y .stores ≡ true)) → storeAt n q l (suc u) i ≡ memoryAt n q l (suc u) i
-      go (inl s) = absurd (omega (arith, installing-at x .index, ap (λ z. z .index) (s .last)))
-      go (inr y) = y .0 .store-next ∙ ap (λ b. pick b (y .0 .after) (storeAt n q l u i)) (y .1) ∙ sym (y .0 .memory-next)
-
-  -- From the Install on the store's green list is between the base and the memory's.
-  pub base-stored : {u i : ℕ} {c : Configuration} (x : InstallsAt n q l u i c) (p : ℕ) → u < p → Begins (base A x) (storeAt n q l p i .log .green)
-  base-stored {u} {i} x p h =
-      subst (λ s. Begins (s .log .green) (storeAt n q l p i .log .green)) (install-stored x) (store-grows-between n q l i (suc u) p h .greens)
-
-  pub stored-begins : (p i : ℕ) → Begins (storeAt n q l p i .log .green) (memoryAt n q l p i .log .green)
-  stored-begins p i = store-below n q l i p .greens
+    -- ---- stores

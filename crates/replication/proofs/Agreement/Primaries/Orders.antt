@@ -14,7 +14,7 @@ use Rattle.replication.specs.Machine.Types.{Trans-prim, Configuration}
 use Rattle.replication.specs.Machine.Colours.{cut}
 use Rattle.replication.specs.Machine.Install.{installLog}
 use Rattle.replication.specs.Machine.WellFormed.{idsIn, queue}
-use Rattle.replication.specs.Machine.WellFormedFacts.{WellFormed}
+use Rattle.replication.proofs.WellFormed.Clauses.{WellFormed}
 use Rattle.replication.specs.Laws.Folds.{entered}
 use Rattle.replication.specs.Runs.Run.{Run, Place, placeAt}
 use Rattle.replication.specs.Runs.Allowed.{Allowed}
@@ -27,7 +27,8 @@ use Rattle.replication.proofs.Runs.Numbers.{numbers, invariant-at, well
 use Rattle.replication.proofs.Runs.Progress.{stay-member}
 use Rattle.replication.proofs.Runs.Stays.{membershipAt}
 use Rattle.replication.proofs.Agreement.Terms.{InstallsAt}
-use Rattle.replication.proofs.Agreement.Exchange.Stages.{modeNumber, other-mode, InCom}
+use Rattle.replication.proofs.Step.Apart.{modeNumber, other-mode}
+use Rattle.replication.proofs.Agreement.Exchange.Stages.{InCom}
 use Rattle.replication.proofs.Agreement.Lists.Entered.{Creators, fifo-entered}
 use Rattle.replication.proofs.Agreement.Lists.Fifo.{createdBy, Fifo}
 use Rattle.replication.proofs.Agreement.Lists.Held.{held-exactly}

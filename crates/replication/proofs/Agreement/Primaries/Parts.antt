@@ -7,7 +7,7 @@ use Rattle.base.specs.Lists.{Each}
 use Rattle.format.specs.Types.{Action}
 use Rattle.replication.specs.Machine.Types.{Reg-prim, Trans-prim, Server, noYellow}
 use Rattle.replication.specs.Machine.WellFormed.{idsIn}
-use Rattle.replication.specs.Machine.WellFormedFacts.{YellowWithinCuts}
+use Rattle.replication.proofs.WellFormed.Clauses.{YellowWithinCuts}
 use Rattle.replication.specs.Laws.Folds.{cutsAfter, entered, Greened, Yellowed}
 use Rattle.replication.proofs.Step.Folds.{entered-append, cuts-append}
 use Rattle.replication.proofs.Step.Yellows.{yellow-gained}

@@ -3,7 +3,7 @@ use Prim.Native.Nat.{ℕ, suc, _<_}
 use mathlib.Core.Path.{_≡_, refl, sym, ap, subst, subst₂, _∙_}
 use mathlib.Core.Bool.{Bool, true}
 use mathlib.Core.List.{[], _∷_, _++_, append-nil}
-use mathlib.Core.Option.{none, some}
+use mathlib.Core.Option.{some}
 use native.Mathlib.Omega.{arith}
 use Rattle.base.proofs.AtLaws.{some-same}
 use Rattle.base.specs.Lists.{Begins}
@@ -12,7 +12,7 @@ use Rattle.format.specs.Types.{Action, action, cpc}
 use Rattle.replication.specs.Machine.Types.{Trans-prim, Un, Configuration, Server}
 use Rattle.replication.specs.Machine.Rules.{ruleFor, onAction, onCpc}
 use Rattle.replication.specs.Machine.Step.{installsBy}
-use Rattle.replication.specs.Machine.WellFormedFacts.{YellowWithinCuts, YellowEntered}
+use Rattle.replication.proofs.WellFormed.Clauses.{YellowWithinCuts, YellowEntered}
 use Rattle.replication.specs.Laws.Primary as S
 use Rattle.replication.specs.Laws.Primary.{RegularStep, TransitionalStep}
 use Rattle.replication.specs.Runs.Run.{Run, Place, placeAt, heardAt}

@@ -9,12 +9,13 @@ use Rattle.format.specs.Types.{Action, Record, action, retransmission, state, c
 use Rattle.replication.specs.Machine.Types.{Mode, Non-prim, Reg-prim, Trans-prim, Exchange-states, Exchange-actions, Construct, No, Un, Server, inMode, noYellow}
 use Rattle.replication.specs.Machine.Colours.{yellow}
 use Rattle.replication.specs.Machine.Install.{installLog, install, installVotes}
-use Rattle.replication.specs.Machine.Requests.{numbered, sendHeld, hold, sendsIn, sendsNow}
+use Rattle.replication.specs.Machine.Requests.{numbered, sendHeld, hold, sendsNow}
 use Rattle.replication.specs.Machine.Step.{withCpc, allCpcsIn, decided, attempting, withState, resending, oneMore, exchanged, leave}
 use Rattle.replication.specs.Machine.WellFormed.{wellFormed, idsIn}
 use Rattle.replication.specs.Laws.Folds.{entered, cutsAfter, Yellowed}
 use Rattle.replication.specs.Laws.Transitions as L
 use Rattle.replication.specs.Laws.Transitions.{Ends, Leads, Transition}
+use Rattle.replication.proofs.Step.Apart.{sends-in}
 use Rattle.replication.proofs.Step.Folds.{yellow-one}
 use Rattle.replication.proofs.Step.ModeColours.{install-no-red}
 use Rattle.replication.proofs.Agreement.Exchange.Stages.{remains}
@@ -105,18 +106,6 @@ module _ (s : Server) (formed : wellFormed s ≡ true) where
 
 -- ---- every event
 
--- No request is sent before the Install.
-early-holds : (m : Mode) (b : Bool) → beforeInstall m ≡ true → sendsIn m b ≡ false
-unfolding beforeInstall sendsIn
-early-holds Non-prim b h = not-both h
-early-holds Reg-prim b h = not-both h
-early-holds Trans-prim b h = refl
-early-holds Exchange-states b h = refl
-early-holds Exchange-actions b h = refl
-early-holds Construct b h = refl
-early-holds No b h = refl
-early-holds Un b h = refl
-
 module _ (s : Server) (formed : wellFormed s ≡ true) (early : beforeInstall (s .membership .mode) ≡ true) where
   elsewhere : {X : Type 0} (m : Mode) → s .membership .mode ≡ m → beforeInstall m ≡ false → X
   elsewhere m e h = not-both (sym h ∙ subst (λ o. beforeInstall o ≡ true) e early)
@@ -158,6 +147,6 @@ module _ (s : Server) (formed : wellFormed s ≡ true) (early : beforeInstall (s
   early-step (L.joinsUnmarked c e) = leaves refl
   early-step (L.joinsYellow c e) = leaves refl
   early-step (L.leaves m o x e y) = left x e y
-  early-step (L.sends p c) = not-both (sym (early-holds _ _ early) ∙ c)
+  early-step (L.sends p c) = sends-in _ _ c (λ e. elsewhere Non-prim e refl) (λ e. elsewhere Reg-prim e refl)
   early-step (L.holds p c) = goes-on early (λ b h. other-record _ b refl h)
   early-step L.recovers = leaves refl

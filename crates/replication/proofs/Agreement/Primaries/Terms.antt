@@ -21,7 +21,6 @@ use Rattle.replication.proofs.Runs.DeliveryFacts.{within, withinRegular
 use Rattle.replication.proofs.WellFormed.Runs.{colour-facts}
 use Rattle.replication.proofs.Runs.AllowedTurns.{memoryAt}
 use Rattle.replication.proofs.Runs.DeliveryLists.{within-regular-holds}
-use Rattle.replication.proofs.Runs.Entries.{had}
 use Rattle.replication.proofs.Runs.Lived.{at-place}
 use Rattle.replication.proofs.Runs.Modes.{standing, standing-in}
 use Rattle.replication.proofs.Runs.Numbers.{numbers, invariant-at}

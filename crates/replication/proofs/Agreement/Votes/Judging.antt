@@ -1,5 +1,5 @@
 -- What judging the marks of collected States comes to: which mark is kept, with which bits, and that a kept mark leaves no quorum.
-use Prim.Native.Nat.{ℕ, _≤_, _<_}
+use Prim.Native.Nat.{ℕ, _≤_}
 use mathlib.Core.Path.{_≡_, refl, sym, ap, _∙_}
 use mathlib.Core.Bool.{true, false, not}
 use mathlib.Core.List.{List, [], _∷_, List·Memᴰ, List·Memᴰ·head, List·Memᴰ·tail, List·Memᴰ·not-nil}
@@ -12,7 +12,7 @@ use Rattle.base.specs.Sets.{inSet, inside, union}
 use Rattle.base.proofs.SetLaws.{in-union, in-with-member, inside-member}
 use Rattle.format.specs.Types.{Primary, Mark, State}
 use Rattle.replication.specs.Machine.Types.{clearedMark}
-use Rattle.replication.specs.Machine.Exchange.{later, latest, takenPrimary, isMarked, sameAttempt, ruleA, ruleB, alike, joinBits, joinedBits, ruleC, keptMark, judgedMark, markLeft, ownMark, majority, quorum}
+use Rattle.replication.specs.Machine.Exchange.{later, latest, takenPrimary, isMarked, sameAttempt, ruleA, ruleB, alike, joinBits, joinedBits, ruleC, keptMark, judgedMark, markLeft, ownMark, quorum}
 
 -- The marks are of one attempt: both set, alike in index, attempt and set.
 pub record Alike (m o : Mark) : Type 0 where

@@ -6,7 +6,6 @@ use Rattle.replication.specs.Machine.Types.{Server}
 use Rattle.replication.specs.Laws.Order.{AtMost, by-index, by-primary, by-attempt}
 use Rattle.replication.specs.Runs.Run.{Run}
 use Rattle.replication.specs.Runs.Allowed.{Allowed}
-use Rattle.replication.proofs.Step.VotesOrder.{at-most-same, at-most-trans}
 use Rattle.replication.proofs.Runs.ControlPart.{control-at}
 use Rattle.replication.proofs.Runs.OwnStates.{votes-rise-between}
 use Rattle.replication.proofs.Agreement.Terms.{Image, in-memory, in-store}
@@ -23,12 +22,6 @@ image-votes {n} {q} {l} {p} {i} in-store =
     record { last = sym (c .last); attempt = sym (c .attempt); mark = sym (c .mark) }
 
 module _ {n q : ℕ} {l : Run} (A : Allowed n q l) where
-  pub images-rise : (i p r : ℕ) (s t : Server) → p ≤ r → Image n q l p i s → Image n q l r i t → AtMost (s .votes) (t .votes)
-  images-rise i p r s t h x y =
-      let v = image-votes x in
-      let w = image-votes y in
-      at-most-trans (at-most-same (sym (v .last)) (sym (v .attempt))) (at-most-trans (votes-rise-between A i p r h) (at-most-same (w .last) (w .attempt)))
-
   pub index-rises : (i p r : ℕ) → p ≤ r → lastAt n q l p i .index ≤ lastAt n q l r i .index
   index-rises i p r h = go (votes-rise-between A i p r h)
     where
