@@ -27,8 +27,13 @@ def run_files(name):
     return {f'samples/{name}.bin': told.input(), f'samples/{name}.txt': told.output().encode()}
 
 
-def vector_files(crate, table, module):
-    given, expected = module.vectors(source(table))
+def vector_files(crate, groups, headed=True):
+    given, expected = [], []
+    for name, module in groups:
+        heading = ['= ' + name] if headed else []
+        group = module.vectors(source(name + '.vectors'))
+        given += heading + group[0]
+        expected += heading + group[1]
     return {f'crates/{crate}/stdin': text_of(given), f'crates/{crate}/stdout': text_of(expected)}
 
 
@@ -38,9 +43,8 @@ def files():
     found['crates/replay/stdin'], found['crates/replay/stdout'] = found['samples/partition.bin'], found['samples/partition.txt']
     run = proof_files.run_file(story.told(source('partition.story')), SOURCES + 'partition.story')
     found['crates/examples/proofs/PartitionRun.antt'] = run.encode()
-    found.update(vector_files('records', 'records.vectors', record_vectors))
-    found.update(vector_files('states', 'states.vectors', state_vectors))
-    found.update(vector_files('decisions', 'decisions.vectors', decision_vectors))
+    found.update(vector_files('vectors', (('records', record_vectors), ('states', state_vectors))))
+    found.update(vector_files('decisions', (('decisions', decision_vectors),), headed=False))
     return found
 
 
