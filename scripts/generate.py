@@ -1,6 +1,7 @@
 #!/usr/bin/env python3
 """Writes every recorded file of the repository from the stories and tables of vectors under samples/sources: what programs are given, what they
 must print, and the run that crates/examples proves allowed. What must come out is computed by scripts/model, a plain implementation of document 01.
+The layout's numbers in include/guzbytor_layout.h and docs/LAYOUT.md come from model/layout.py.
 
 usage: generate.py            writes the files that are not as they should be, and names them
        generate.py --check    only names them; exit status 1 if there are any
@@ -8,7 +9,7 @@ usage: generate.py            writes the files that are not as they should be, a
 import sys
 from pathlib import Path
 
-from model import decision_vectors, proof_files, record_vectors, state_vectors, story
+from model import c_header, decision_vectors, layout_page, proof_files, record_vectors, state_vectors, story
 
 TOP = Path(__file__).resolve().parent.parent
 SOURCES = 'samples/sources/'
@@ -43,6 +44,8 @@ def files():
     found['crates/replay/stdin'], found['crates/replay/stdout'] = found['samples/partition.bin'], found['samples/partition.txt']
     run = proof_files.run_file(story.told(source('partition.story')), SOURCES + 'partition.story')
     found['crates/examples/proofs/PartitionRun.antt'] = run.encode()
+    found['include/guzbytor_layout.h'] = c_header.header().encode()
+    found['docs/LAYOUT.md'] = layout_page.page((TOP / 'docs/LAYOUT.md').read_text()).encode()
     found.update(vector_files('vectors', (('records', record_vectors), ('states', state_vectors))))
     found.update(vector_files('decisions', (('decisions', decision_vectors),), headed=False))
     return found
