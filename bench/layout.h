@@ -2,13 +2,13 @@
 #ifndef BENCH_LAYOUT_H
 #define BENCH_LAYOUT_H
 
+#include "guzbytor_layout.h"
+
 #include <stddef.h>
 #include <stdint.h>
 
-enum { HEADER = 60, HELD = 49, MOST_HELD = 16, SLOT = 56, MOST_PAYLOAD = 48 };
-
-/* The bytes of put_action: its payload has 40. */
-enum { ACTION = 48 };
+/* The payloads of full states, and the bytes of put_action. */
+enum { PAYLOAD = 40, ACTION = ACTION_SIZE + PAYLOAD };
 
 /* A state's buffer with its required length, the outgoing buffer's, and how many bytes of the state are in use. */
 typedef struct {
@@ -25,26 +25,36 @@ typedef enum {
     FULL_OWN    /* q actions on the own list, nothing held, every other server's actions in the queue */
 } fullness;
 
-static inline size_t state_slot(size_t n, size_t q) { return 40 + 2 * n + 3 * n * q; }
+/* Where a State's record with n cuts has its green length, and its yellow ids. */
+static inline size_t rest_at(size_t n) { return STATE_CUTS + CUT_SIZE * n; }
 
-static inline size_t held_at(size_t n) { return HEADER + 6 * n; }
+static inline size_t ids_at(size_t n) { return rest_at(n) + REST_SIZE; }
 
-static inline size_t states_at(size_t n) { return held_at(n) + HELD * MOST_HELD; }
+static inline size_t state_slot(size_t n, size_t q) { return ids_at(n) + ID_SIZE * n * q; }
+
+/* The sections of the image, each behind the one before it. */
+static inline size_t cuts_at(void) { return HEADER_SIZE; }
+
+static inline size_t noted_at(size_t n) { return cuts_at() + CUT_SIZE * n; }
+
+static inline size_t held_at(size_t n) { return noted_at(n) + NOTED_SIZE * n; }
+
+static inline size_t states_at(size_t n) { return held_at(n) + HELD_SIZE * MOST_HELD; }
 
 static inline size_t yellow_at(size_t n, size_t q) { return states_at(n) + n * state_slot(n, q); }
 
-static inline size_t own_at(size_t n, size_t q) { return yellow_at(n, q) + 3 * n * q; }
+static inline size_t own_at(size_t n, size_t q) { return yellow_at(n, q) + ID_SIZE * n * q; }
 
-static inline size_t queue_at(size_t n, size_t q) { return own_at(n, q) + SLOT * q; }
+static inline size_t queue_at(size_t n, size_t q) { return own_at(n, q) + SLOT_SIZE * q; }
 
-static inline size_t state_length(size_t n, size_t q) { return queue_at(n, q) + SLOT * n * q; }
+static inline size_t state_length(size_t n, size_t q) { return queue_at(n, q) + SLOT_SIZE * n * q; }
 
-static inline size_t out_length(size_t n, size_t q) { return 130 * n * q; }
+static inline size_t out_length(size_t n, size_t q) { return 2 * MOST_RETRANSMISSION * n * q; }
 
 /* The number v in `width` bytes, big-endian. */
 void put(uint8_t *b, size_t width, uint32_t v);
 
-/* An action with a payload of 40 bytes: in a slot zeros stand behind it. */
+/* An action with its payload: in a slot zeros stand behind it. */
 void put_action(uint8_t *b, size_t creator, size_t index);
 
 /* A state in Exchange_actions: every State is in, each with n q yellow ids, and one retransmission is to come. */

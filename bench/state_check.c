@@ -52,14 +52,14 @@ static void agree(const full_state *s, const uint8_t *out) {
         refused += rattle != 0;
         s->bytes[at] = old;
     }
-    printf("%zu servers, quota %zu: %zu changed states, %zu of them refused, by both alike\n", (size_t)s->bytes[0],
-           (size_t)s->bytes[1] << 8 | s->bytes[2], changes, refused);
+    printf("%zu servers, quota %zu: %zu changed states, %zu of them refused, by both alike\n", (size_t)s->bytes[AT_SERVERS],
+           (size_t)s->bytes[AT_QUOTA] << 8 | s->bytes[AT_QUOTA + 1], changes, refused);
 }
 
 int main(void) {
     static double rattle[2][COUNT], plain[2][COUNT];
     static full_state states[2][COUNT];
-    uint8_t *out = calloc(1, out_length(8, 256));
+    uint8_t *out = calloc(1, out_length(MOST_SERVERS, MOST_QUOTA));
     if (out == NULL) {
         return 1;
     }

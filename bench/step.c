@@ -13,22 +13,8 @@ static const struct {
 
 enum { SIZE_COUNT = sizeof SIZES / sizeof SIZES[0], ROUNDS = 100 };
 
-/* Where the header has its fields (docs/LAYOUT.md). */
-enum {
-    MODE_AT = 4,
-    TRANSITIONAL_AT = 11,
-    STATES_AT = 13,
-    CPCS_AT = 14,
-    COUNT_AT = 19,
-    GREEN_AT = 23,
-    OWN_AT = 29,
-    HELD_AT = 31,
-    ATTEMPT_AT = 33,
-    MARK_AT = 46,
-    YELLOW_AT = 57
-};
-
-enum { NON_PRIM, REG_PRIM, TRANS_PRIM, EXCHANGE_STATES, EXCHANGE_ACTIONS, CONSTRUCT };
+/* Sender and configuration id; configuration id and set. */
+enum { CPC_BODY = 1 + 4, REGULAR_BODY = 4 + 1 };
 
 /* A state, the event that it gets, and what must come of it. */
 typedef struct {
@@ -59,77 +45,79 @@ static uint8_t *in_memory(size_t length) {
 
 /* How many bytes of the state are in use. */
 static size_t used_bytes(const uint8_t *b) {
-    size_t n = b[0], q = number(b + 1, 2);
-    size_t used = held_at(n) + HELD * number(b + HELD_AT, 2) + 3 * number(b + YELLOW_AT + 1, 2);
+    size_t n = b[AT_SERVERS], q = number(b + AT_QUOTA, 2);
+    size_t used = held_at(n) + HELD_SIZE * number(b + AT_HELD_COUNT, 2) + ID_SIZE * number(b + AT_YELLOW_COUNT, 2);
     for (size_t k = 0; k < n; k++) {
-        used += b[STATES_AT] >> k & 1 ? 2 + number(b + states_at(n) + k * state_slot(n, q), 2) : 0;
+        used += b[AT_STATES] >> k & 1 ? FRAME_VERSION + number(b + states_at(n) + k * state_slot(n, q), 2) : 0;
     }
-    return used + SLOT * (number(b + OWN_AT, 2) + number(b + COUNT_AT, 4));
+    return used + SLOT_SIZE * (number(b + AT_OWN_COUNT, 2) + number(b + AT_QUEUE_COUNT, 4));
 }
 
 /* An event of a kind with room for its body. */
 static trial begun(full_state s, uint8_t kind, size_t body, uint8_t mode_after, size_t sent_after) {
-    trial t = {s, in_memory(4 + body), 4 + body, mode_after, sent_after};
-    put(t.event, 2, (uint32_t)(2 + body));
-    t.event[2] = 1;
-    t.event[3] = kind;
+    size_t length = FRAME_SIZE + body;
+    trial t = {s, in_memory(length), length, mode_after, sent_after};
+    put(t.event + FRAME_LENGTH, 2, (uint32_t)(length - FRAME_VERSION));
+    t.event[FRAME_VERSION] = RECORD_VERSION;
+    t.event[FRAME_KIND] = kind;
     return t;
 }
 
 /* The last action of all comes in Reg_prim: it goes below n q - 1 red ones. */
 static trial green(size_t n, size_t q) {
-    trial t = begun(make_full_state(n, q, FULL_QUEUE), 1, ACTION, REG_PRIM, 0);
+    trial t = begun(make_full_state(n, q, FULL_QUEUE), KIND_ACTION, ACTION, MODE_REG_PRIM, 0);
     uint8_t *b = t.state.bytes;
-    b[MODE_AT] = REG_PRIM;
-    put(b + COUNT_AT, 4, (uint32_t)(n * q - 1));
-    put(b + GREEN_AT, 4, 0);
-    put(b + HEADER + 2 * (n - 1), 2, (uint32_t)(q - 1));
-    put_action(t.event + 4, n - 1, q);
+    b[AT_STATE] = MODE_REG_PRIM;
+    put(b + AT_QUEUE_COUNT, 4, (uint32_t)(n * q - 1));
+    put(b + AT_GREEN, 4, 0);
+    put(b + cuts_at() + CUT_SIZE * (n - 1), CUT_SIZE, (uint32_t)(q - 1));
+    put_action(t.event + FRAME_SIZE, n - 1, q);
     return t;
 }
 
 /* The last CPC comes: half of n q red actions are on the yellow list. */
 static trial install(size_t n, size_t q) {
-    trial t = begun(make_full_state(n, q, FULL_QUEUE), 4, 5, REG_PRIM, 0);
+    trial t = begun(make_full_state(n, q, FULL_QUEUE), KIND_CPC, CPC_BODY, MODE_REG_PRIM, 0);
     uint8_t *b = t.state.bytes;
-    b[MODE_AT] = CONSTRUCT;
-    b[CPCS_AT] = everyone(n - 1);
-    put(b + GREEN_AT, 4, 0);
-    put(b + ATTEMPT_AT, 4, 1);
-    b[MARK_AT] = 1;
-    put(b + MARK_AT + 5, 4, 1);
-    b[MARK_AT + 9] = everyone(n);
-    put(b + YELLOW_AT + 1, 2, (uint32_t)(n * q / 2));
-    t.event[4] = (uint8_t)(n - 1);
-    put(t.event + 5, 4, 1);
+    b[AT_STATE] = MODE_CONSTRUCT;
+    b[AT_CPCS] = everyone(n - 1);
+    put(b + AT_GREEN, 4, 0);
+    put(b + AT_ATTEMPT, 4, 1);
+    b[AT_MARK_STATUS] = 1;
+    put(b + AT_MARK_ATTEMPT, 4, 1);
+    b[AT_MARK_SET] = everyone(n);
+    put(b + AT_YELLOW_COUNT, 2, (uint32_t)(n * q / 2));
+    t.event[FRAME_SIZE] = (uint8_t)(n - 1);
+    put(t.event + FRAME_SIZE + 1, 4, 1);
     return t;
 }
 
 /* The last State comes, of a server that has nothing: n q actions are resent by position, and again as red. */
 static trial resend(size_t n, size_t q) {
-    trial t = begun(make_full_state(n, q, FULL_QUEUE), 3, state_slot(n, q) - 4, EXCHANGE_ACTIONS, 2 * n * q * (9 + ACTION));
+    trial t = begun(make_full_state(n, q, FULL_QUEUE), KIND_STATE, state_slot(n, q) - FRAME_SIZE, MODE_EXCHANGE_ACTIONS,
+                    2 * n * q * (FRAME_SIZE + RETRANSMISSION_SIZE + ACTION));
     uint8_t *b = t.state.bytes;
-    b[MODE_AT] = EXCHANGE_STATES;
-    b[STATES_AT] = everyone(n - 1);
-    put(b + GREEN_AT, 4, (uint32_t)(n * q));
+    b[AT_STATE] = MODE_EXCHANGE_STATES;
+    b[AT_STATES] = everyone(n - 1);
+    put(b + AT_GREEN, 4, (uint32_t)(n * q));
     uint8_t *states = b + states_at(n);
     memcpy(t.event, states + (n - 1) * state_slot(n, q), t.event_length);
-    memset(t.event + 9, 0, 2 * n + 4);
-    put(states + 9 + 2, 2, (uint32_t)q);
+    memset(t.event + STATE_CUTS, 0, rest_at(n) + REST_ATTEMPT - STATE_CUTS);
+    put(states + STATE_CUTS + CUT_SIZE, CUT_SIZE, (uint32_t)q);
     for (size_t k = 0; k + 1 < n; k++) {
-        put(states + k * state_slot(n, q) + 9 + 2 * n, 4, (uint32_t)(n * q));
+        put(states + k * state_slot(n, q) + rest_at(n) + REST_GREEN, 4, (uint32_t)(n * q));
     }
     return t;
 }
 
 /* The last retransmission comes: the exchange ends, with n yellow lists of n q ids, all but the first one backwards. */
 static trial end(size_t n, size_t q) {
-    trial t = begun(make_full_state(n, q, FULL_QUEUE), 2, 5 + ACTION, CONSTRUCT, 9);
-    put_action(t.event + 9, 1, q);
+    trial t = begun(make_full_state(n, q, FULL_QUEUE), KIND_RETRANSMISSION, RETRANSMISSION_SIZE + ACTION, MODE_CONSTRUCT, FRAME_SIZE + CPC_BODY);
+    put_action(t.event + FRAME_SIZE + RETRANSMISSION_SIZE, 1, q);
     for (size_t k = 1; k < n; k++) {
-        uint8_t *ids = t.state.bytes + states_at(n) + k * state_slot(n, q) + 40 + 2 * n;
+        uint8_t *ids = t.state.bytes + states_at(n) + k * state_slot(n, q) + ids_at(n);
         for (size_t i = 0; i < n * q; i++) {
-            memcpy(ids + 3 * i, t.state.bytes + yellow_at(n, q) + 3 * (n * q - 1 - i), 3);
+            memcpy(ids + ID_SIZE * i, t.state.bytes + yellow_at(n, q) + ID_SIZE * (n * q - 1 - i), ID_SIZE);
         }
     }
     return t;
@@ -137,20 +125,20 @@ static trial end(size_t n, size_t q) {
 
 /* A regular configuration comes in Trans_prim: a State with n q yellow ids is sent. */
 static trial join(size_t n, size_t q) {
-    trial t = begun(make_full_state(n, q, FULL_QUEUE), 5, 5, EXCHANGE_STATES, state_slot(n, q));
+    trial t = begun(make_full_state(n, q, FULL_QUEUE), KIND_REGULAR, REGULAR_BODY, MODE_EXCHANGE_STATES, state_slot(n, q));
     uint8_t *b = t.state.bytes;
-    b[MODE_AT] = TRANS_PRIM;
-    b[TRANSITIONAL_AT] = 1;
-    b[TRANSITIONAL_AT + 1] = everyone(n);
-    put(t.event + 4, 4, 2);
-    t.event[8] = everyone(n);
+    b[AT_STATE] = MODE_TRANS_PRIM;
+    b[AT_TRANSITIONAL_STATUS] = 1;
+    b[AT_TRANSITIONAL_SET] = everyone(n);
+    put(t.event + FRAME_SIZE, 4, 2);
+    t.event[FRAME_SIZE + 4] = everyone(n);
     return t;
 }
 
 /* Recovery with q actions on the own list. */
 static trial recover(size_t n, size_t q) {
-    trial t = begun(make_full_state(n, q, FULL_OWN), 8, 0, NON_PRIM, 0);
-    t.state.bytes[MODE_AT] = NON_PRIM;
+    trial t = begun(make_full_state(n, q, FULL_OWN), KIND_RECOVERY, 0, MODE_NON_PRIM, 0);
+    t.state.bytes[AT_STATE] = MODE_NON_PRIM;
     return t;
 }
 
@@ -176,8 +164,8 @@ static guzbytor_step_answer stepped(const trial *t, uint8_t *state, uint8_t *out
 static void try_once(const char *name, const trial *t, uint8_t *state, uint8_t *out) {
     memcpy(state, t->state.bytes, t->state.length);
     guzbytor_step_answer a = stepped(t, state, out);
-    if (a.number != 0 || a.sent != t->sent_after || state[MODE_AT] != t->mode_after) {
-        fprintf(stderr, "%s: number %u, %u bytes sent, state %u\n", name, a.number, a.sent, state[MODE_AT]);
+    if (a.number != 0 || a.sent != t->sent_after || state[AT_STATE] != t->mode_after) {
+        fprintf(stderr, "%s: number %u, %u bytes sent, state %u\n", name, a.number, a.sent, state[AT_STATE]);
         exit(1);
     }
 }
@@ -211,7 +199,7 @@ static void keep_best(double *best, double now) {
 int main(void) {
     static trial trials[EVENT_COUNT][SIZE_COUNT];
     static double both[EVENT_COUNT][SIZE_COUNT], layout[EVENT_COUNT][SIZE_COUNT], copy[EVENT_COUNT][SIZE_COUNT], first[EVENT_COUNT];
-    uint8_t *state = in_memory(state_length(8, 256)), *out = in_memory(out_length(8, 256));
+    uint8_t *state = in_memory(state_length(MOST_SERVERS, MOST_QUOTA)), *out = in_memory(out_length(MOST_SERVERS, MOST_QUOTA));
     for (int e = 0; e < EVENT_COUNT; e++) {
         for (int i = 0; i < SIZE_COUNT; i++) {
             trials[e][i] = EVENTS[e].make(SIZES[i].n, SIZES[i].q);

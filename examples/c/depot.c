@@ -1,15 +1,14 @@
 /* A depot's daemon over a recorded run: it lends the engine each server's state and one outgoing buffer, stores a state before its records are
    sent, and prints for each event what document 01's `replay` prints. The file: a set-up record, then server byte and event, repeated. */
 #include "guzbytor.h"
+#include "guzbytor_layout.h"
 
 #include <stdio.h>
 #include <stdlib.h>
 #include <string.h>
 
-enum { SETUP_LENGTH = 7, SETUP = 9, RECOVERY = 8, VERSION = 1, KIND_AT = 3 };
-
-/* Where the state's buffer has its numbers (docs/LAYOUT.md). */
-enum { MODE_AT = 4, QUEUE_AT = 19, GREEN_AT = 23, PRIMARY_AT = 37 };
+/* The set-up record: servers (1 byte) and quota (2) behind its frame. */
+enum { SETUP_SERVERS = FRAME_SIZE, SETUP_QUOTA = SETUP_SERVERS + 1, SETUP_LENGTH = SETUP_QUOTA + 2 };
 
 static const char *const MODES[] = {"Non_prim",         "Reg_prim",  "Trans_prim", "Exchange_states",
                                     "Exchange_actions", "Construct", "No",         "Un"};
@@ -57,7 +56,7 @@ static void exchange_images(server *s) {
 
 /* One event at one server: the answer's records stand at the beginning of `out`, and may be sent. */
 static guzbytor_step_answer take(server *s, const uint8_t *event, size_t length, buffer out) {
-    int recovery = length > KIND_AT && event[KIND_AT] == RECOVERY;
+    int recovery = length > FRAME_KIND && event[FRAME_KIND] == KIND_RECOVERY;
     if (recovery) {
         exchange_images(s); /* a recovery is given the image stored last */
     }
@@ -81,9 +80,9 @@ static size_t send_records(const uint8_t *out, size_t length) {
 }
 
 static void print_line(size_t event, unsigned number, guzbytor_step_answer a, const uint8_t *state, size_t sent) {
-    uint32_t green = number_at(state + GREEN_AT);
-    printf("%zu %u %u %s %u %u %u %zu\n", event, number, a.number, MODES[state[MODE_AT]], number_at(state + QUEUE_AT) - green, green,
-           number_at(state + PRIMARY_AT), sent);
+    uint32_t green = number_at(state + AT_GREEN);
+    printf("%zu %u %u %s %u %u %u %zu\n", event, number, a.number, MODES[state[AT_STATE]], number_at(state + AT_QUEUE_COUNT) - green, green,
+           number_at(state + AT_LAST_INDEX), sent);
 }
 
 /* Each event in turn; 0, or the number that the input is refused with. */
@@ -124,13 +123,15 @@ static buffer read_file(const char *name) {
     return b;
 }
 
+static uint32_t setup_quota(const uint8_t *b) { return (uint32_t)b[SETUP_QUOTA] << 8 | b[SETUP_QUOTA + 1]; }
+
 /* The set-up record's number: 1 for its form, and else what the lengths are answered with. */
 static uint32_t set_up(buffer run, guzbytor_lengths_answer *lengths) {
     const uint8_t *b = run.bytes;
-    if (run.length < SETUP_LENGTH || record_length(b) != SETUP_LENGTH || b[2] != VERSION || b[KIND_AT] != SETUP) {
+    if (run.length < SETUP_LENGTH || record_length(b) != SETUP_LENGTH || b[FRAME_VERSION] != RECORD_VERSION || b[FRAME_KIND] != KIND_SETUP) {
         return 1;
     }
-    *lengths = guzbytor_lengths(b[4], (uint32_t)b[5] << 8 | b[6]);
+    *lengths = guzbytor_lengths(b[SETUP_SERVERS], setup_quota(b));
     return lengths->number;
 }
 
@@ -147,9 +148,9 @@ int main(int count, char **words) {
         free(input.bytes);
         return 0;
     }
-    uint8_t servers = input.bytes[4];
-    uint32_t quota = (uint32_t)input.bytes[5] << 8 | input.bytes[6];
-    server table[8];
+    uint8_t servers = input.bytes[SETUP_SERVERS];
+    uint32_t quota = setup_quota(input.bytes);
+    server table[MOST_SERVERS];
     for (uint8_t k = 0; k < servers; k++) {
         table[k] = (server){lent(lengths.state), lent(lengths.state)};
         if (guzbytor_start(table[k].state.bytes, lengths.state, servers, quota, k) != 0) {

@@ -1,11 +1,12 @@
 /* Asks for the buffers' lengths with 6 servers and quota 256, and makes the start of server 0. */
 #include "guzbytor.h"
+#include "guzbytor_layout.h"
 
 #include <stdio.h>
 #include <stdlib.h>
 
 int main(void) {
-    const uint32_t servers = 6, quota = 256, me = 0;
+    const uint32_t servers = 6, quota = MOST_QUOTA, me = 0;
     guzbytor_lengths_answer lengths = guzbytor_lengths(servers, quota);
     printf("lengths %u: state %u, outgoing %u\n", lengths.number, lengths.state, lengths.out);
     if (lengths.number != 0) {
@@ -19,8 +20,8 @@ int main(void) {
     printf("start %u\n", guzbytor_start(state, lengths.state, servers, quota, me));
     printf("short buffer %u\n", guzbytor_start(state, lengths.state - 1, servers, quota, me));
     printf("own number out of range %u\n", guzbytor_start(state, lengths.state, servers, quota, servers));
-    printf("first bytes:");
-    for (int i = 0; i < 60; i++) {
+    printf("header:");
+    for (int i = 0; i < HEADER_SIZE; i++) {
         printf(" %u", state[i]);
     }
     printf("\n");

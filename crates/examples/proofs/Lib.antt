@@ -12,5 +12,5 @@ pub mod RefusedDeliveries
 pub mod RefusedOrders
 pub mod CrossedConfigurations
 pub mod UnsafeInstall
-pub mod PartitionWitness
+pub mod PartitionRun
 pub mod Partition

@@ -1,0 +1,32 @@
+// Changed bytes of a state.
+use record::blocks::copy;
+use record::bytes::num8;
+use record::bytes::num16;
+
+// Changes the bytes from `at` on to those of src, if there is room.
+pub fn patch(state: &mut [u8], at: usize, src: &[u8]) {
+    if src.len() > state.len() {
+        return;
+    }
+    if at > state.len() - src.len() {
+        return;
+    }
+    copy(state, at, src);
+}
+
+// Patches one after another: each is a place (2 bytes), a count (1) and so many bytes.
+pub fn patches(state: &mut [u8], e: &[u8]) {
+    let mut i = 0;
+    while i < e.len() {
+        if e.len() - i < 3 {
+            return;
+        }
+        let at = num16(e, i) as usize;
+        let m = num8(e, i + 2) as usize;
+        if e.len() - (i + 3) < m {
+            return;
+        }
+        patch(state, at, &e[i + 3..i + 3 + m]);
+        i = i + 3 + m;
+    }
+}

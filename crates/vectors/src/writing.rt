@@ -1,0 +1,151 @@
+// What was read, written again: into a buffer with exactly enough room for one record or for two, and with one byte too few.
+ghost use Rattle.record.specs.Reading.{PlacedEvent, PlacedAction, PlacedRetransmission, PlacedState};
+use crate::output::bytes;
+use crate::reading;
+use record::Context;
+use record::events::ActionAt;
+use record::events::Event;
+use record::events::StateAt;
+use record::reader::Reading;
+use record::writer::Written;
+use record::writer::write_action;
+use record::writer::write_cpc;
+use record::writer::write_retransmission;
+use record::writer::write_state;
+
+fn action(c: Context, a: ActionAt, e: &[u8], out: &mut [u8], at: usize) -> Written
+    requires { ⌜ PlacedAction c a (now e) ⌝ }
+{
+    let start = a.payload_at;
+    let end = start + a.payload_length;
+    let head = a.head;
+    write_action(out, at, head, &e[start..end])
+}
+
+fn retransmission(
+    c: Context,
+    sender: u8,
+    position: u32,
+    a: ActionAt,
+    e: &[u8],
+    out: &mut [u8],
+    at: usize,
+) -> Written
+    requires { ⌜ PlacedRetransmission c sender position a (now e) ⌝ }
+{
+    let start = a.payload_at;
+    let end = start + a.payload_length;
+    let head = a.head;
+    write_retransmission(out, at, sender, position, head, &e[start..end])
+}
+
+fn state(c: Context, s: StateAt, e: &[u8], out: &mut [u8], at: usize) -> Written
+    requires { ⌜ PlacedState c s (now e) ⌝ }
+{
+    let cuts_at = s.cuts_at;
+    let yellow_at = s.yellow_at;
+    let head = s.head;
+    write_state(out, at, head, &e[cuts_at..], &e[yellow_at..])
+}
+
+// Writes the event at `at`; an event of a kind that the engine does not send is not written.
+fn again(c: Context, v: Event, e: &[u8], out: &mut [u8], at: usize) -> Written
+    requires { ⌜ PlacedEvent c v (now e) ⌝ }
+{
+    match v {
+        Event::Action(a) => action(c, a, e, out, at),
+        Event::Retransmission {
+            sender,
+            position,
+            action,
+        } => retransmission(c, sender, position, action, e, out, at),
+        Event::State(s) => state(c, s, e, out, at),
+        Event::Cpc {
+            sender,
+            configuration,
+        } => write_cpc(out, at, sender, configuration),
+        _ => Written::Full,
+    }
+}
+
+// What the bytes from `start` to `end` say.
+fn reading(c: Context, s: &[u8], start: usize, end: usize) {
+    if end < start {
+        return;
+    }
+    if s.len() < end {
+        return;
+    }
+    say(c, &s[start..end]);
+}
+
+pub fn say(c: Context, e: &[u8]) {
+    let r = record::reader::read(c, e);
+    match r {
+        Reading::Good(v) => reading::event(c, v, e),
+        Reading::Refused(k) => reading::refused(k),
+    }
+}
+
+// Writes the event three times, each next after the one before, as long as there is room.
+fn fill(c: Context, v: Event, e: &[u8], out: &mut [u8])
+    requires { ⌜ PlacedEvent c v (now e) ⌝ }
+{
+    let mut at: usize = 0;
+    let mut k: usize = 0;
+    while k < 3 {
+        let w = again(c, v, e, out, at);
+        let Written::Next(next) = w else {
+            reading::full();
+            return;
+        };
+        reading::next(next);
+        reading(c, out, at, next);
+        at = next;
+        k += 1;
+    }
+}
+
+fn room(c: Context, v: Event, e: &[u8], out: &mut [u8])
+    requires { ⌜ PlacedEvent c v (now e) ⌝ }
+{
+    reading::room(out.len());
+    fill(c, v, e, out);
+    bytes(out);
+    io::write_all(1, b"\n");
+}
+
+// Fills a buffer of this size, which held 238 everywhere.
+fn sized(c: Context, v: Event, e: &[u8], size: usize)
+    requires { ⌜ PlacedEvent c v (now e) ⌝ }
+{
+    let mut space: [u8; 16384] = [238; 16384];
+    let buffer: &mut [u8] = &mut space;
+    if size <= buffer.len() {
+        room(c, v, e, &mut buffer[..size]);
+    }
+}
+
+// The same for each of the four sizes.
+fn rooms(c: Context, v: Event, e: &[u8])
+    requires { ⌜ PlacedEvent c v (now e) ⌝ }
+{
+    let n = e.len();
+    if n < 1 {
+        return;
+    }
+    if 8192 < n {
+        return;
+    }
+    sized(c, v, e, n - 1);
+    sized(c, v, e, n);
+    sized(c, v, e, 2 * n - 1);
+    sized(c, v, e, 2 * n);
+}
+
+pub fn write(c: Context, e: &[u8]) {
+    let r = record::reader::read(c, e);
+    if let Reading::Good(v) = r {
+        rooms(c, v, e);
+    }
+}

@@ -1,0 +1,140 @@
+/* Where records and the state's image have their parts (docs/LAYOUT.md), for the C files of this repository: the names have no
+   prefix. Written by scripts/generate.py. */
+#ifndef GUZBYTOR_LAYOUT_H
+#define GUZBYTOR_LAYOUT_H
+
+#include <stdint.h>
+
+/* The states' numbers. */
+enum {
+    MODE_NON_PRIM = 0,
+    MODE_REG_PRIM = 1,
+    MODE_TRANS_PRIM = 2,
+    MODE_EXCHANGE_STATES = 3,
+    MODE_EXCHANGE_ACTIONS = 4,
+    MODE_CONSTRUCT = 5,
+    MODE_NO = 6,
+    MODE_UN = 7
+};
+
+/* Limits. */
+enum {
+    FEWEST_SERVERS = 2,
+    MOST_SERVERS = 8,
+    LEAST_QUOTA = 1,
+    MOST_QUOTA = 256,
+    MOST_PAYLOAD = 48,
+    MOST_HELD = 16
+};
+
+/* The state's image: fields of its header, which come first. */
+enum {
+    AT_SERVERS = 0,
+    AT_QUOTA = 1,
+    AT_ME = 3,
+    AT_STATE = 4,
+    AT_CONFIGURATION_STATUS = 5,
+    AT_CONFIGURATION_ID = 6,
+    AT_CONFIGURATION_SET = 10,
+    AT_TRANSITIONAL_STATUS = 11,
+    AT_TRANSITIONAL_SET = 12,
+    AT_STATES = 13,
+    AT_CPCS = 14,
+    AT_COME = 15,
+    AT_QUEUE_COUNT = 19,
+    AT_GREEN = 23,
+    AT_NUMBERED = 27,
+    AT_OWN_COUNT = 29,
+    AT_HELD_COUNT = 31,
+    AT_ATTEMPT = 33,
+    AT_LAST_INDEX = 37,
+    AT_LAST_ATTEMPT = 41,
+    AT_LAST_SET = 45,
+    AT_MARK_STATUS = 46,
+    AT_MARK_INDEX = 47,
+    AT_MARK_ATTEMPT = 51,
+    AT_MARK_SET = 55,
+    AT_MARK_BITS = 56,
+    AT_YELLOW_STATUS = 57,
+    AT_YELLOW_COUNT = 58,
+    HEADER_SIZE = 60
+};
+
+/* Entries of its sections. */
+enum {
+    CUT_SIZE = 2,
+    NOTED_SIZE = 4,
+    HELD_SIZE = 49,
+    ID_SIZE = 3,
+    SLOT_SIZE = 56
+};
+
+/* A record, its version and the kinds. */
+enum {
+    FRAME_LENGTH = 0,
+    FRAME_VERSION = 2,
+    FRAME_KIND = 3,
+    FRAME_SIZE = 4,
+    RECORD_VERSION = 1,
+    KIND_ACTION = 1,
+    KIND_RETRANSMISSION = 2,
+    KIND_STATE = 3,
+    KIND_CPC = 4,
+    KIND_REGULAR = 5,
+    KIND_TRANSITIONAL = 6,
+    KIND_REQUEST = 7,
+    KIND_RECOVERY = 8,
+    KIND_SETUP = 9
+};
+
+/* An action: in a slot, and in a record's body. Its payload follows. */
+enum {
+    ACTION_CREATOR = 0,
+    ACTION_INDEX = 1,
+    ACTION_GREEN = 3,
+    ACTION_PAYLOAD = 7,
+    ACTION_SIZE = 8
+};
+
+/* A retransmission: what stands before its action, and the longest record. */
+enum {
+    RETRANSMISSION_SIZE = 5,
+    MOST_RETRANSMISSION = 65
+};
+
+/* A last primary, and a mark. */
+enum {
+    LAST_INDEX = 0,
+    LAST_ATTEMPT = 4,
+    LAST_SET = 8,
+    MARK_STATUS = 0,
+    MARK_INDEX = 1,
+    MARK_ATTEMPT = 5,
+    MARK_SET = 9,
+    MARK_BITS = 10
+};
+
+/* A State's record: up to its cuts; and behind them, up to its yellow ids. */
+enum {
+    STATE_SENDER = 4,
+    STATE_ID = 5,
+    STATE_CUTS = 9,
+    REST_GREEN = 0,
+    REST_ATTEMPT = 4,
+    REST_LAST_INDEX = 8,
+    REST_LAST_ATTEMPT = 12,
+    REST_LAST_SET = 16,
+    REST_MARK_STATUS = 17,
+    REST_MARK_INDEX = 18,
+    REST_MARK_ATTEMPT = 22,
+    REST_MARK_SET = 26,
+    REST_MARK_BITS = 27,
+    REST_YELLOW_STATUS = 28,
+    REST_YELLOW_COUNT = 29,
+    REST_SIZE = 31
+};
+
+/* The highest primary index and attempt. */
+static const uint32_t MOST_INDEX = 4000000000u;
+
+#endif

@@ -1,0 +1,66 @@
+#!/usr/bin/env python3
+"""Writes every recorded file of the repository from the stories and tables of vectors under samples/sources: what programs are given, what they
+must print, and the run that crates/examples proves allowed. What must come out is computed by scripts/model, a plain implementation of document 01.
+The layout's numbers in include/guzbytor_layout.h and docs/LAYOUT.md come from model/layout.py.
+
+usage: generate.py            writes the files that are not as they should be, and names them
+       generate.py --check    only names them; exit status 1 if there are any
+"""
+import sys
+from pathlib import Path
+
+from model import c_header, decision_vectors, layout_page, proof_files, record_vectors, state_vectors, story
+
+TOP = Path(__file__).resolve().parent.parent
+SOURCES = 'samples/sources/'
+
+
+def source(name):
+    return (TOP / SOURCES / name).read_text()
+
+
+def text_of(lines):
+    return ('\n'.join(lines) + '\n').encode()
+
+
+def run_files(name):
+    told = story.told(source(name + '.story'))
+    return {f'samples/{name}.bin': told.input(), f'samples/{name}.txt': told.output().encode()}
+
+
+def vector_files(crate, groups, headed=True):
+    given, expected = [], []
+    for name, module in groups:
+        heading = ['= ' + name] if headed else []
+        group = module.vectors(source(name + '.vectors'))
+        given += heading + group[0]
+        expected += heading + group[1]
+    return {f'crates/{crate}/stdin': text_of(given), f'crates/{crate}/stdout': text_of(expected)}
+
+
+def files():
+    """Path to bytes of every file."""
+    found = {**run_files('worked'), **run_files('partition')}
+    found['crates/replay/stdin'], found['crates/replay/stdout'] = found['samples/partition.bin'], found['samples/partition.txt']
+    run = proof_files.run_file(story.told(source('partition.story')), SOURCES + 'partition.story')
+    found['crates/examples/proofs/PartitionRun.antt'] = run.encode()
+    found['include/guzbytor_layout.h'] = c_header.header().encode()
+    found['docs/LAYOUT.md'] = layout_page.page((TOP / 'docs/LAYOUT.md').read_text()).encode()
+    found.update(vector_files('vectors', (('records', record_vectors), ('states', state_vectors))))
+    found.update(vector_files('decisions', (('decisions', decision_vectors),), headed=False))
+    return found
+
+
+def main():
+    check = sys.argv[1:] == ['--check']
+    if sys.argv[1:] and not check:
+        sys.exit(__doc__)
+    stale = [(name, data) for name, data in files().items() if not (TOP / name).is_file() or (TOP / name).read_bytes() != data]
+    for name, data in stale:
+        print(name + (': not what its source says' if check else ': written'))
+        if not check:
+            (TOP / name).write_bytes(data)
+    sys.exit(1 if check and stale else 0)
+
+
+main()

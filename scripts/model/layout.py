@@ -1,0 +1,116 @@
+"""Limits, and where the parts of a record and of the state's image lie (docs/LAYOUT.md): each size is named here and nowhere else."""
+
+FEWEST_SERVERS, MOST_SERVERS = 2, 8
+LEAST_QUOTA, MOST_QUOTA = 1, 256
+MOST_PAYLOAD, MOST_HELD = 48, 16
+MOST_INDEX = 4_000_000_000
+
+# By their numbers.
+MODES = ('Non_prim', 'Reg_prim', 'Trans_prim', 'Exchange_states', 'Exchange_actions', 'Construct', 'No', 'Un')
+
+# Fields in their order, with their sizes in bytes.
+LAST = (('last.index', 4), ('last.attempt', 4), ('last.set', 1))
+MARK = (('mark.status', 1), ('mark.index', 4), ('mark.attempt', 4), ('mark.set', 1), ('mark.bits', 1))
+ID = (('creator', 1), ('index', 2))
+ACTION = ID + (('green', 4), ('payload', 1))
+FRAME = (('length', 2), ('version', 1), ('kind', 1))
+STATE_FRONT = FRAME + (('sender', 1), ('id', 4))
+STATE_REST = (('green', 4), ('attempt', 4)) + LAST + MARK + (('yellow.status', 1), ('yellow.count', 2))
+HEADER = (
+    (('layout', 1), ('servers', 1), ('quota', 2), ('me', 1), ('state', 1))
+    + (('configuration.status', 1), ('configuration.id', 4), ('configuration.set', 1))
+    + (('transitional.status', 1), ('transitional.set', 1))
+    + (('states', 1), ('cpcs', 1), ('come', 4))
+    + (('queue.count', 4), ('green', 4), ('numbered', 2), ('own.count', 2), ('held.count', 2), ('attempt', 4))
+    + LAST + MARK + (('yellow.status', 1), ('yellow.count', 2))
+)
+
+# Fields of the header whose value every image has; another value is 8.
+FIXED = {'layout': 9}
+
+
+def size(fields):
+    return sum(width for _, width in fields)
+
+
+def places(fields, at=0):
+    """Name to (offset, width)."""
+    found = {}
+    for name, width in fields:
+        found[name] = (at, width)
+        at += width
+    return found
+
+
+CUT, NOTED = 2, 4
+HELD = 1 + MOST_PAYLOAD
+SLOT = size(ACTION) + MOST_PAYLOAD
+RETRANSMISSION_HEAD = 1 + 4
+# A retransmission with the longest payload.
+MOST_RETRANSMISSION = size(FRAME) + RETRANSMISSION_HEAD + SLOT
+
+
+def state_slot(n, q):
+    return size(STATE_FRONT) + CUT * n + size(STATE_REST) + size(ID) * n * q
+
+
+def sections(n, q):
+    """Name to (offset, size of an entry)."""
+    sizes = (
+        ('cuts', CUT, n), ('noted', NOTED, n), ('held', HELD, MOST_HELD), ('State', state_slot(n, q), n),
+        ('yellow', size(ID), n * q), ('own', SLOT, q), ('queue', SLOT, n * q), ('end', 0, 0),
+    )
+    found, at = {}, size(HEADER)
+    for name, entry, count in sizes:
+        found[name] = (at, entry)
+        at += entry * count
+    return found
+
+
+def state_length(n, q):
+    return sections(n, q)['end'][0]
+
+
+def out_length(n, q):
+    return 2 * MOST_RETRANSMISSION * n * q
+
+
+def sizes_ok(n, q):
+    return FEWEST_SERVERS <= n <= MOST_SERVERS and LEAST_QUOTA <= q <= MOST_QUOTA
+
+
+def in_state_record(n, words):
+    """The place of a field of a State's record with n cuts: a name, `cuts.C` or `ids.K.FIELD`."""
+    rest_at = size(STATE_FRONT) + CUT * n
+    if words[0] == 'cuts':
+        return (size(STATE_FRONT) + CUT * int(words[1]), CUT)
+    if words[0] == 'ids':
+        return in_entry(rest_at + size(STATE_REST) + size(ID) * int(words[1]), ID, size(ID), words[2:])
+    return {**places(STATE_FRONT), **places(STATE_REST, rest_at)}['.'.join(words)]
+
+
+def in_entry(at, fields, whole, words):
+    """The place of a field of an entry, of a byte of its payload, or of the entry."""
+    if not words:
+        return (at, whole)
+    if words[0] == 'byte':
+        return (at + size(fields) + int(words[1]), 1)
+    offset, width = places(fields)[words[0]]
+    return (at + offset, width)
+
+
+def place(n, q, name):
+    """(offset, width) of a part of the image by its name, as `me`, `cuts.1`, `State.0.mark.set`, `queue.2.index`, `held.0.byte.47`."""
+    header = places(HEADER)
+    if name in header:
+        return header[name]
+    words = name.split('.')
+    at, entry = sections(n, q)[words[0]]
+    at += entry * int(words[1])
+    if words[0] == 'State':
+        if not words[2:]:
+            return (at, entry)
+        offset, width = in_state_record(n, words[2:])
+        return (at + offset, width)
+    fields = {'cuts': (), 'noted': (), 'held': (('payload', 1),), 'yellow': ID, 'own': ACTION, 'queue': ACTION}[words[0]]
+    return in_entry(at, fields, entry, words[2:])
