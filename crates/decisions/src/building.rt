@@ -7,11 +7,11 @@ use engine::header::load;
 use engine::header::save;
 use engine::places::state_size;
 use engine::places::states_at;
-use engine::sizes::product;
-use engine::sizes::sizes_in;
 use exchange::view::byte;
 use record::blocks::copy;
 use record::bytes::num16;
+use record::range::product;
+use record::range::sizes_ok;
 
 // How many servers there are, at most 8.
 pub fn number_of(state: &[u8]) -> usize
@@ -64,7 +64,7 @@ fn slot_at(n: u32, q: u32, k: u8) -> usize {
     if 8 <= k {
         return 4294967295;
     }
-    if !sizes_in(n, q) {
+    if !sizes_ok(n, q) {
         return 4294967295;
     }
     let at = states_at(n, q) + product(k as u32, state_size(n, q));

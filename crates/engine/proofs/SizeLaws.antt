@@ -1,29 +1,20 @@
 -- Required lengths as the code computes them.
 -- Assumes nothing.
-use Prim.Native.Nat.{ℕ, _+_, _*_, _≤_}
+use Prim.Native.Nat.{ℕ, _+_, _*_}
 use mathlib.Core.Path.{_≡_, sym, _∙_}
 use mathlib.Core.Bool.{Bool, false, not}
-use native.Mathlib.Nat.{mul-le-mul-right}
 use native.Mathlib.Omega.{arith}
 use borrow.Author.Tests.{not-false}
-use mir.Syntax.{w32}
-use mir.Val.{Fits}
 use Rattle.base.specs.Lists.{sum}
-use Rattle.format.specs.Limits.{mostServers, mostHeld}
+use Rattle.format.specs.Limits.{mostHeld}
 use Rattle.format.specs.Range.{sizesOk}
 use Rattle.format.proofs.Ranges.{sizes-range}
 use Rattle.engine.specs.declared.Lengths.{Lengths}
 use Rattle.engine.specs.Layout.{SizesIn, stateSize, sections, stateLength, outLength, slotSize, headerSize, heldSize}
-use Rattle.format.specs.Places.{stateHeadSize, mostRetransmission}
+use Rattle.format.specs.Places.{idSize, stateHeadSize, mostRetransmission}
 
-pub product-most : (n m : ℕ) → n ≤ mostServers → n * m ≤ 8 * m
-product-most n m h = mul-le-mul-right m h
-
-pub product-fits : (n m : ℕ) → n ≤ mostServers → m ≤ 65535 → Fits w32 (n * m)
-product-fits n m h k = omega (arith, product-most n m h)
-
-pub state-length-made : (n q all states : ℕ) → all ≡ n * q → states ≡ n * (stateHeadSize + 2 * n + 3 * all)
-    → headerSize + 6 * n + heldSize * mostHeld + states + 3 * all + slotSize * q + slotSize * all ≡ stateLength n q
+pub state-length-made : (n q all states : ℕ) → all ≡ n * q → states ≡ n * (stateHeadSize + 2 * n + idSize * all)
+    → headerSize + 6 * n + heldSize * mostHeld + states + idSize * all + slotSize * q + slotSize * all ≡ stateLength n q
 unfolding stateLength sections sum stateSize
 state-length-made n q all states e f = rw (f, e) (omega arith)
 

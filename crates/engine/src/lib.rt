@@ -8,8 +8,8 @@ pub mod places; // places.rt: where the sections begin
 pub mod starting; // starting.rt: the start in its buffer
 
 use record::State;
+use record::range::sizes_ok;
 use sizes::out_length;
-use sizes::sizes_in;
 use sizes::state_length;
 use starting::begin;
 
@@ -25,7 +25,7 @@ pub struct Lengths {
 pub extern "C" fn guzbytor_lengths(servers: u32, quota: u32) -> Lengths
     ensures { λ r. ⌜ r ≡ lengthsOf servers quota ⌝ }
 {
-    if !sizes_in(servers, quota) {
+    if !sizes_ok(servers, quota) {
         return Lengths {
             number: 2,
             state: 0,
@@ -45,7 +45,7 @@ pub extern "C" fn guzbytor_lengths(servers: u32, quota: u32) -> Lengths
 pub extern "C" fn guzbytor_start(state: &mut [u8], servers: u32, quota: u32, me: u32) -> u32
     ensures { λ r. ⌜ started r (now (state .exit)) ≡ startOn servers quota me (now (state .entry)) ⌝ }
 {
-    if !sizes_in(servers, quota) {
+    if !sizes_ok(servers, quota) {
         let least = state_length(State::FEWEST_SERVERS as u32, State::LEAST_QUOTA as u32);
         if state.len() < least as usize {
             return 7;

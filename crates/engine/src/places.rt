@@ -9,10 +9,10 @@ use super::sizes::HELD;
 use super::sizes::ID;
 use super::sizes::SLOT;
 use super::sizes::STATE_HEAD;
-use super::sizes::product;
 use record::State;
 use record::bytes::num8;
 use record::bytes::num16;
+use record::range::product;
 
 // The sections that lists lie in, by their numbers.
 pub const THE_NOTED: u8 = 2;

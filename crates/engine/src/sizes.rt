@@ -1,11 +1,9 @@
 // How long the buffers must be, by the numbers of servers and the quota.
 ghost use mathlib.Core.Path.{_≡_};
-ghost use Prim.Native.Nat.{_*_, _≤_};
-ghost use Rattle.format.specs.Limits.{mostServers};
-ghost use Rattle.format.specs.Range.{sizesOk};
 ghost use Rattle.engine.specs.Layout.{SizesIn, stateLength, outLength};
 use record::State;
 use record::StateHead;
+use record::range::product;
 
 // The fixed-size fields; a held request; an action on the own list or in the queue; an id; a State with no cuts and no ids.
 pub const HEADER: u32 = State::SIZE as u32;
@@ -20,29 +18,6 @@ pub const STATE_HEAD: u32 = StateHead::SIZE as u32;
 
 // The longest retransmission of an action by its position, and that of it as red.
 const RESENT: u32 = 2 * State::RETRANSMISSION as u32;
-
-// "Servers: 2 to 8 .. Quota q: 1 to 256"
-pub fn sizes_in(servers: u32, quota: u32) -> bool
-    ensures { λ r. ⌜ r ≡ sizesOk servers quota ⌝ }
-{
-    if servers < State::FEWEST_SERVERS as u32 {
-        return false;
-    }
-    if (State::MOST_SERVERS as u32) < servers {
-        return false;
-    }
-    if quota < State::LEAST_QUOTA as u32 {
-        return false;
-    }
-    quota <= State::MOST_QUOTA as u32
-}
-
-pub fn product(n: u32, m: u32) -> u32
-    requires { ⌜ (n ≤ mostServers) × (m ≤ 65535) ⌝ }
-    ensures { λ r. ⌜ (r ≡ n * m) × (r ≤ 8 * m) ⌝ }
-{
-    n * m
-}
 
 // The required length of the state's buffer.
 pub fn state_length(n: u32, q: u32) -> u32

@@ -4,21 +4,24 @@ use Prim.Native.Nat.{ℕ, zero, suc, _*_, _^_, _%_, _≤_}
 use mathlib.Core.Path.{_≡_, refl, ap, _∙_}
 use mathlib.Core.Bool.{Bool, true}
 use native.Mathlib.Omega.{arith}
-use native.Mathlib.Nat.{mul-le-mul, pow-le-pow-right, mod-eq-of-lt}
+use native.Mathlib.Nat.{mul-le-mul-right, pow-le-pow-right, mod-eq-of-lt}
 use lib.Dec.{leb, ltb}
 use mir.Syntax.{w32}
 use mir.Val.{Fits}
 use Rattle.base.specs.Tests.{_≤?_, _<?_}
 use Rattle.base.specs.Sets.{inside}
 use Rattle.base.proofs.Branches.{told-le, told-lt}
-use Rattle.format.specs.Limits.{mostServers, mostQuota}
+use Rattle.format.specs.Limits.{mostServers}
 use Rattle.format.specs.Range.{insideLast}
 use Rattle.record.specs.Context.{lastOf}
 
 -- n × q
 
-pub product-fits : (n q : ℕ) → n ≤ mostServers → q ≤ mostQuota → Fits w32 (n * q)
-product-fits n q h k = let z : n * q ≤ mostServers * mostQuota = mul-le-mul h k in record { fits = omega arith }
+pub product-most : (n m : ℕ) → n ≤ mostServers → n * m ≤ mostServers * m
+product-most n m h = mul-le-mul-right m h
+
+pub product-fits : (n m : ℕ) → n ≤ mostServers → m ≤ 65535 → Fits w32 (n * m)
+product-fits n m h k = omega (arith, product-most n m h)
 
 pub length-law : (l n q p : ℕ) → p ≡ n * q → leb l p ≡ (l ≤? n * q)
 length-law l n q p h = ap (leb l) h ∙ told-le l (n * q)

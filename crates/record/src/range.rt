@@ -1,7 +1,7 @@
 // Which numbers, sets and lists are in range: document 01, 'Records', second paragraph.
 ghost use mathlib.Core.Path.{_≡_};
 ghost use Prim.Native.Nat.{_*_, _≤_};
-ghost use Rattle.format.specs.Limits.{mostServers, mostQuota};
+ghost use Rattle.format.specs.Limits.{mostServers};
 ghost use Rattle.format.specs.Range.{sizesOk, contextOk, idOk, lengthOk, indexOk, setOk, statusOk, primaryOk, markOk, ownSetOk, insideLast};
 ghost use Rattle.record.specs.Context.{contextOf, lastOf, ContextIn};
 ghost use Rattle.record.specs.Limits.{theLimits};
@@ -41,25 +41,25 @@ impl Limits {
 }
 
 // "Servers: 2 to 8 .. Quota q: 1 to 256"
-pub fn sizes_ok(servers: u8, quota: u16) -> bool
+pub fn sizes_ok(servers: u32, quota: u32) -> bool
     ensures { λ r. ⌜ r ≡ sizesOk servers quota ⌝ }
 {
-    if servers < State::FEWEST_SERVERS {
+    if servers < State::FEWEST_SERVERS as u32 {
         return false;
     }
-    if State::MOST_SERVERS < servers {
+    if (State::MOST_SERVERS as u32) < servers {
         return false;
     }
-    if quota < State::LEAST_QUOTA {
+    if quota < State::LEAST_QUOTA as u32 {
         return false;
     }
-    quota <= State::MOST_QUOTA
+    quota <= State::MOST_QUOTA as u32
 }
 
 pub fn context_ok(c: Context) -> bool
     ensures { λ r. ⌜ r ≡ contextOk (contextOf c) ⌝ }
 {
-    if !sizes_ok(c.servers, c.quota) {
+    if !sizes_ok(c.servers as u32, c.quota as u32) {
         return false;
     }
     c.me < c.servers
@@ -78,11 +78,11 @@ pub fn id_ok(c: Context, creator: u8, index: u16) -> bool
     index <= c.quota
 }
 
-fn product(servers: u8, quota: u16) -> u32
-    requires { ⌜ (servers ≤ mostServers) × (quota ≤ mostQuota) ⌝ }
-    ensures { λ r. ⌜ r ≡ servers * quota ⌝ }
+pub fn product(n: u32, m: u32) -> u32
+    requires { ⌜ (n ≤ mostServers) × (m ≤ 65535) ⌝ }
+    ensures { λ r. ⌜ (r ≡ n * m) × (r ≤ mostServers * m) ⌝ }
 {
-    servers as u32 * quota as u32
+    n * m
 }
 
 // "positions and green lengths 0 to n × q"
@@ -90,7 +90,7 @@ pub fn length_ok(c: Context, length: u32) -> bool
     requires { ⌜ ContextIn c ⌝ }
     ensures { λ r. ⌜ r ≡ lengthOk (contextOf c) length ⌝ }
 {
-    length <= product(c.servers, c.quota)
+    length <= product(c.servers as u32, c.quota as u32)
 }
 
 // "Primary and attempt indexes run 0 to 4,000,000,000."

@@ -2,10 +2,10 @@
 ghost use mathlib.Core.Path.{_≡_};
 ghost use Rattle.format.specs.Types.{refused as refusedWith};
 ghost use Rattle.replay.specs.Input.{setupNumbers, setupOf, cutShort, nextOf};
-use engine::sizes::sizes_in;
 use record::bytes::num8;
 use record::bytes::num16;
 use record::events::VERSION;
+use record::range::sizes_ok;
 use servers::QUOTA;
 use servers::SERVERS;
 
@@ -50,7 +50,7 @@ pub fn read_setup(e: &[u8]) -> Setup
     }
     let servers = num8(e, 4);
     let quota = num16(e, 5);
-    if !sizes_in(servers as u32, quota as u32) {
+    if !sizes_ok(servers as u32, quota as u32) {
         return Setup::refused(2);
     }
     if MOST_SERVERS < servers {

@@ -16,7 +16,6 @@ pub mod slots; // slots.rt: entries of one size
 
 use engine::header::load;
 use engine::sizes::out_length;
-use engine::sizes::sizes_in;
 use engine::sizes::state_length;
 use exchange::plan::planned;
 use exchange::slots::collected as slots_of;
@@ -24,6 +23,7 @@ use numbers::numbers_ok;
 use record::Context;
 use record::State;
 use record::range::context_ok;
+use record::range::sizes_ok;
 use record::sets::inside;
 use sections::lists_ok;
 use sections::states_ok;
@@ -104,7 +104,7 @@ pub fn state_number(state: &[u8], out: &[u8]) -> u32
     let h = load(state);
     let n = h.servers as u32;
     let q = h.quota as u32;
-    if !sizes_in(n, q) {
+    if !sizes_ok(n, q) {
         if shorter(
             state.len(),
             out.len(),

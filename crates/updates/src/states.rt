@@ -17,11 +17,11 @@ ghost use Rattle.updates.specs.Lists.{statePlace, NumberIn, CollectRoom}
 use engine::places::THE_STATES;
 use engine::places::place_of;
 use engine::places::state_size;
-use engine::sizes::product;
 use record::blocks::copy;
 use record::bytes::num8;
 use record::bytes::num16;
 use record::parts::put8;
+use record::range::product;
 use record::sets::with_member;
 
 // Where the slot of server k begins.

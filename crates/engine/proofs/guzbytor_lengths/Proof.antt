@@ -5,8 +5,8 @@ use borrow.Author.Needs.{needs}
 use Rattle.engine.proofs.guzbytor_lengths.Statement.{statement}
 use Rattle.engine.proofs.guzbytor_lengths.Tie as tie
 
-sizes-in-requires : tie.Need-sizes-in-requires
-sizes-in-requires c κs = search needs
+sizes-ok-requires : tie.Need-sizes-ok-requires
+sizes-ok-requires c κs = search needs
 
 returns : tie.Need-returns
 unfolding lengthsOf
@@ -25,4 +25,4 @@ returns-2 c = search (needs, pick-answered, lengths-made)
 pub guzbytor-lengths-spec : {M : Type 1} → statement M
 guzbytor-lengths-spec =
     tie.close
-    (tie.spec sizes-in-requires returns state-length-requires out-length-requires returns-2)
+    (tie.spec sizes-ok-requires returns state-length-requires out-length-requires returns-2)

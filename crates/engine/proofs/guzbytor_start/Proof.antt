@@ -4,8 +4,8 @@ use borrow.Author.Needs.{needs}
 use Rattle.engine.proofs.guzbytor_start.Statement.{statement}
 use Rattle.engine.proofs.guzbytor_start.Tie as tie
 
-sizes-in-requires : tie.Need-sizes-in-requires
-sizes-in-requires c κs = search needs
+sizes-ok-requires : tie.Need-sizes-ok-requires
+sizes-ok-requires c κs = search needs
 
 cast-state-length : tie.Need-cast-state-length
 cast-state-length c = search needs
@@ -59,7 +59,7 @@ pub guzbytor-start-spec : {M : Type 1} → statement M
 guzbytor-start-spec =
     tie.close
     (tie.spec
-    sizes-in-requires
+    sizes-ok-requires
     cast-state-length
     cast-state-length-2
     state-length-requires

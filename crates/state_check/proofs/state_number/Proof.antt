@@ -16,8 +16,8 @@ cast-n c = search needs
 cast-q : tie.Need-cast-q
 cast-q c = search needs
 
-sizes-in-requires : tie.Need-sizes-in-requires
-sizes-in-requires c κs = search needs
+sizes-ok-requires : tie.Need-sizes-ok-requires
+sizes-ok-requires c κs = search needs
 
 cast-shorter : tie.Need-cast-shorter
 cast-shorter c = search needs
@@ -60,7 +60,7 @@ state-number-spec =
     load-requires
     cast-n
     cast-q
-    sizes-in-requires
+    sizes-ok-requires
     cast-shorter
     cast-shorter-2
     shorter-requires

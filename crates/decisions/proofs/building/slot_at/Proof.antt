@@ -6,8 +6,8 @@ use Rattle.decisions.proofs.building.slot_at.Tie as tie
 returns : tie.Need-returns
 returns c = search needs
 
-sizes-in-requires : tie.Need-sizes-in-requires
-sizes-in-requires c κs = search needs
+sizes-ok-requires : tie.Need-sizes-ok-requires
+sizes-ok-requires c κs = search needs
 
 returns-2 : tie.Need-returns-2
 returns-2 c = search needs
@@ -35,7 +35,7 @@ slot-at-spec =
     tie.close
     (tie.spec
     returns
-    sizes-in-requires
+    sizes-ok-requires
     returns-2
     states-at-requires
     state-size-requires

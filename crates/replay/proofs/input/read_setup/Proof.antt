@@ -4,7 +4,7 @@ use Rattle.replay.proofs.input.read_setup.Statement.{statement}
 use Rattle.replay.proofs.input.read_setup.Tie as tie
 use Rattle.replay.proofs.input.read_setup.Reads as reads
 use Rattle.replay.proofs.input.read_setup.Lts as lts
-use Rattle.engine.proofs.sizes.sizes_in.Reads as sizes-in-reads
+use Rattle.record.proofs.range.sizes_ok.Reads as sizes-ok-reads
 use Rattle.record.proofs.bytes.num16.Reads as num16-reads
 use Rattle.record.proofs.bytes.num8.Reads as num8-reads
 use Rattle.replay.proofs.input.Setup.refused.Reads as refused-reads
@@ -54,8 +54,8 @@ cast-sizes-in c = search needs
 cast-sizes-in-2 : tie.Need-cast-sizes-in-2
 cast-sizes-in-2 c = search needs
 
-sizes-in-requires : tie.Need-sizes-in-requires
-sizes-in-requires c κs = search needs
+sizes-ok-requires : tie.Need-sizes-ok-requires
+sizes-ok-requires c κs = search needs
 
 refused-requires-5 : tie.Need-refused-requires-5
 refused-requires-5 c κs = search needs
@@ -97,7 +97,7 @@ read-setup-spec =
     num16-requires-2
     cast-sizes-in
     cast-sizes-in-2
-    sizes-in-requires
+    sizes-ok-requires
     refused-requires-5
     returns-5
     refused-requires-6
