@@ -1,7 +1,9 @@
 // Runs vectors through the exchange's decisions. A line of the input is a vector in hexadecimal, and from '#' on a label: servers
 // (1 byte), quota (2), the configuration's set (1), the set of those whose CPC is in (1), and the collected States as records.
 // Written are whether all States and CPCs are in, how many retransmissions are planned, the quorum, the taken primary, the
-// attempt, the yellow list, who resends what, and each member's mark as judged.
+// attempt, the yellow list, who resends what, and each member's mark as judged; or the number of the state check where it is not 0.
+ghost use Rattle.engine.specs.Holding.{HoldsSome};
+
 mod building;
 mod print;
 
@@ -17,12 +19,20 @@ use exchange::decided::resends_green;
 use exchange::decided::resends_red;
 use exchange::decided::taken_votes;
 use exchange::decided::taken_yellow;
-use exchange::slots::has;
+use record::State;
+use record::bytes::num8;
+use record::lists::PLACES;
+use record::sets::has;
+use state_check::state_number;
 
-// As long as a state can be: eight servers, quota 256.
+// As long as a state and what it sends can be: eight servers, quota 256.
 const ROOM: usize = 185660;
 
-fn answers(state: &[u8]) {
+const OUT: usize = 2 * State::RETRANSMISSION * PLACES;
+
+fn answers(state: &[u8])
+    requires { ⌜ HoldsSome (now state) ⌝ }
+{
     print::flag(b"states", all_states_in(state));
     print::flag(b" cpcs", all_cpcs_in(state));
     print::labelled(b" planned", planned_now(state));
@@ -32,54 +42,72 @@ fn answers(state: &[u8]) {
     print::primary(last);
     print::labelled(b" attempt", v.attempt.0 as u64);
     print::labelled(b" yellow", v.yellow_status as u64);
-    let mut ids: [u8; 6144] = [0; 6144];
+    let mut ids: [u8; State::IDS] = [0; State::IDS];
     let n = taken_yellow(state, &mut ids);
     print::ids(&ids, n);
 }
 
 // Who resends of those that the server c made, or by position where there is no such server.
-fn part(state: &[u8], c: usize) -> Part {
-    if number_of(state) <= c {
+fn part(state: &[u8], c: u8) -> Part
+    requires { ⌜ HoldsSome (now state) ⌝ }
+{
+    if num8(state, State::AT_SERVERS) <= c {
         return resends_green(state);
     }
-    resends_red(state, c)
+    resends_red(state, c as usize)
+}
+
+// The part of server k, if it is that one's own. A server outside the configuration has no state.
+fn own_part(state: &mut [u8], out: &[u8], k: u8, c: u8) {
+    put(state, State::AT_ME, k);
+    if state_number(state, out) != 0 {
+        return;
+    }
+    let p = part(state, c);
+    if p.mine {
+        print::part(k as u64, p);
+    }
 }
 
 // Of each server's part, the one that is its own.
-fn resender(state: &mut [u8], c: usize) {
+fn resender(state: &mut [u8], out: &[u8], c: u8) {
     let n = number_of(state);
     let mut k = 0;
     while k < n {
-        put(state, 3, k as u8);
-        let p = part(state, c);
-        if p.mine {
-            print::part(k as u64, p);
-        }
+        own_part(state, out, k, c);
         k += 1;
     }
 }
 
-fn plan(state: &mut [u8]) {
+fn plan(state: &mut [u8], out: &[u8]) {
     io::write_all(1, b" green");
-    resender(state, 8);
+    resender(state, out, State::MOST_SERVERS);
     io::write_all(1, b" red");
     let n = number_of(state);
     let mut c = 0;
     while c < n {
-        resender(state, c);
+        resender(state, out, c);
         c += 1;
     }
 }
 
-fn marks(state: &mut [u8], set: u8) {
+// The mark of server k as it judges it.
+fn own_mark(state: &mut [u8], out: &[u8], k: u8) {
+    put(state, State::AT_ME, k);
+    if state_number(state, out) != 0 {
+        return;
+    }
+    let m = taken_votes(state).mark;
+    print::mark(k as u64, m);
+}
+
+fn marks(state: &mut [u8], out: &[u8], set: u8) {
     io::write_all(1, b" marks");
     let n = number_of(state);
     let mut k = 0;
     while k < n {
-        put(state, 3, k as u8);
-        if has(set, k) {
-            let m = taken_votes(state).mark;
-            print::mark(k as u64, m);
+        if has(set, k as usize) {
+            own_mark(state, out, k);
         }
         k += 1;
     }
@@ -87,13 +115,20 @@ fn marks(state: &mut [u8], set: u8) {
 
 fn vector(e: &[u8]) {
     let mut state: [u8; ROOM] = [0; ROOM];
+    let out: [u8; OUT] = [0; OUT];
     if !build(&mut state, e) {
         return;
     }
+    let number = state_number(&state, &out);
+    if number != 0 {
+        print::labelled(b"state check", number as u64);
+        io::write_all(1, b" ");
+        return;
+    }
     answers(&state);
-    plan(&mut state);
+    plan(&mut state, &out);
     let set = building::senders(&state);
-    marks(&mut state, set);
+    marks(&mut state, &out, set);
     io::write_all(1, b" ");
 }
 

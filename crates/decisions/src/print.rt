@@ -2,6 +2,7 @@
 use exchange::decided::Part;
 use record::LastPrimary;
 use record::Mark;
+use record::State;
 
 fn number(v: u64) {
     io::write_all(1, b" ");
@@ -42,11 +43,11 @@ fn hex(s: &[u8]) {
 // The first n ids.
 pub fn ids(s: &[u8], n: usize) {
     labelled(b" ids", n as u64);
-    if s.len() / 3 < n {
+    if s.len() / State::ID < n {
         return;
     }
     io::write_all(1, b" ");
-    hex(&s[0..3 * n]);
+    hex(&s[0..State::ID * n]);
 }
 
 // Server k resends those above `low` up to `high`.

@@ -8,13 +8,13 @@ use mathlib.Core.Option.{Option, none, some}
 use native.Mathlib.Omega.{arith}
 use lib.ListN.{drop}
 use Rattle.base.specs.Tests.{pick}
-use Rattle.base.specs.Lists.{present, atFront, sum}
+use Rattle.base.specs.Lists.{present, atFront}
 use Rattle.base.specs.Sets.{inSet}
 use Rattle.format.specs.Read.{stateAt}
 use Rattle.replication.specs.Machine.Types.{Server}
 use Rattle.replication.specs.Machine.Step.{collected}
 use Rattle.engine.specs.Layout.{stateSize, theStates, offset}
-use Rattle.engine.specs.Image.{senders, image}
+use Rattle.engine.specs.Image.{senders}
 use Rattle.engine.specs.Decode.{statesAt, decoded, decodedAs, serversIn, quotaIn}
 use Rattle.engine.specs.Header.{headerOf, headerIn}
 use Rattle.engine.proofs.HeaderLaws.{header-loaded}

@@ -38,7 +38,7 @@ head-made v b k at x e h =
 
 -- The numbers and lists in the slot k stand for its State.
 pub state-stands : (v : Slots) (b : List ℕ) (k : ℕ) (x : StateHead) → x ≡ headOf v b k
-    → stateOf x (drop (slotAt v k) b) 9 (drop (slotAt v k) b) (stateCutsAt + 2 * v .servers + standingSize) ≡ stateIn v b k
+    → stateOf x (drop (slotAt v k) b) stateCutsAt (drop (slotAt v k) b) (stateCutsAt + 2 * v .servers + standingSize) ≡ stateIn v b k
 unfolding headOf stateIn stateFrom
 state-stands v b k x h = rw h (state-is (v .servers) (drop (slotAt v k) b))
 
@@ -50,7 +50,7 @@ unfolding cutIn stateIn stateAt
 cut-read v b k c at x h e i =
     let z : at + stateCutsAt + 2 * c ≡ at + (stateCutsAt + 2 * c) = omega arith in
     i ∙ ap (numberAt 2 b) z ∙ sym (number-drop 2 b at (stateCutsAt + 2 * c)) ∙ ap (λ (p : ℕ). numberAt 2 (drop p b) (stateCutsAt + 2 * c)) e
-    ∙ sym (numbers-at 2 (v .servers) (drop (slotAt v k) b) 9 c h)
+    ∙ sym (numbers-at 2 (v .servers) (drop (slotAt v k) b) stateCutsAt c h)
 
 pub green-read : (v : Slots) (b : List ℕ) (k : ℕ) (x : StateHead) (f : Number) → f ≡ Green → x ≡ headOf v b k
     → x .«green_length» ≡ numberIn f (stateIn v b k)

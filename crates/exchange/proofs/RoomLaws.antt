@@ -2,7 +2,7 @@
 -- Assumes nothing.
 use Prim.Native.Nat.{ℕ, zero, suc, _+_, _*_, _^_, _<_}
 use mathlib.Core.Path.{_≡_, refl, sym, ap, _∙_}
-use mathlib.Core.Bool.{true, not}
+use mathlib.Core.Bool.{true}
 use mathlib.Core.List.{List}
 use mathlib.Core.Option.{Option, none, some}
 use native.Mathlib.Nat.{zero-add, one-le-pow}
@@ -31,7 +31,7 @@ use Rattle.exchange.specs.declared.slots.Slots.{Slots}
 use Rattle.exchange.specs.Slots.{Space, Room, slotsOf, slotsIn, slotAt, stateIn}
 use Rattle.exchange.proofs.Collected.{states-there}
 
-states-at : (n q here : ℕ) (b : List ℕ) (m k at j : ℕ) → j < m
+pub states-at : (n q here : ℕ) (b : List ℕ) (m k at j : ℕ) → j < m
     → getD (statesAt n q here m k b at) j none ≡ pick (inSet (k + j) here) (some (stateAt n (drop (at + j * stateSize n q) b))) none
 unfolding statesAt
 states-at n q here b zero k at j h = absurd (omega arith)

@@ -20,6 +20,7 @@ use Rattle.exchange.specs.Slots.{Room, First, withHere, stateIn, statesF
 use Rattle.exchange.specs.Passing.{Passing, Voters}
 use Rattle.exchange.proofs.SlotLaws.{states-in, states-end}
 use Rattle.exchange.proofs.ReadLaws.{state-stands}
+use Rattle.format.specs.Limits.{mostServers}
 
 pub valid-told : (v : Slots) (b : List ℕ) (k : ℕ) (x : StateHead) → x ≡ headOf v b k → eqb (x .«yellow_status») 1 ≡ isValid (stateIn v b k)
 unfolding isValid stateOf
@@ -56,7 +57,7 @@ voters-made v w b p set r e g i h =
 pub voters-room : (v w : Slots) (b : List ℕ) (set : ℕ) → Voters v b set → w ≡ withHere set v → Room w b
 voters-room v w b set p e = rw e (p .room)
 
-pub voters-servers : (v w : Slots) (set : ℕ) → w ≡ withHere set v → v .servers ≤ 8 → w .servers ≤ 8
+pub voters-servers : (v w : Slots) (set : ℕ) → w ≡ withHere set v → v .servers ≤ mostServers → w .servers ≤ mostServers
 unfolding withHere
 voters-servers v w set e h = rw e h
 

@@ -3,7 +3,6 @@
 use Prim.Native.Nat.{ℕ, _<_}
 use Rattle.format.specs.Types.{State}
 use Rattle.replication.specs.Machine.Plan.{cutIn, greenIn}
-use Rattle.exchange.specs.declared.slots.Slots.{Slots}
 use Rattle.exchange.specs.declared.plan.Number.{Number}
 use Rattle.exchange.specs.declared.plan.Number.the-variants.{Green, Attempt, Cut}
 

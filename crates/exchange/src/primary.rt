@@ -1,6 +1,6 @@
 // The primary component that the States decide, the group that sent it, and the attempt: document 01, 'End of exchange'.
 ghost use mathlib.Core.Path.{_≡_};
-ghost use Prim.Native.Nat.{_≤_, _<_};
+ghost use Prim.Native.Nat.{_<_};
 ghost use Rattle.base.specs.Sets.{inSet, withMember};
 ghost use Rattle.base.specs.Tests.{pick, _and_};
 ghost use Rattle.record.specs.Values.{primaryOf};

@@ -107,7 +107,7 @@ module _ (c : Context) (h : State) (b : List ℕ) (f : WellFormed (said c h b)) 
   -- The State of a sender is there.
   sent : (j : ℕ) → j < c .servers → inSet j (h .states) ≡ true → (x : Record) × (getD (said c h b .membership .states) j none ≡ some x)
   sent j l m =
-      there _ (in-states (c .servers) (c .quota) (h .states) (c .servers) 0 b (placeOf c theStates) j l ∙ ap (λ (i : ℕ). inSet i (h .states)) (zero-add j) ∙ m)
+      there _ (in-states (c .servers) (c .quota) (h .states) b (placeOf c theStates) j l ∙ m)
 
   member-in : Regular c h → (j : ℕ) → memberOf (regularOf h) j ≡ true → inSet j (h .«configuration_set») ≡ true
   unfolding memberOf

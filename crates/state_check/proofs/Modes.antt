@@ -1,30 +1,29 @@
 -- The state's number: the code's test of it, and row 8's clauses on the eight states.
 -- Assumes nothing.
-use Prim.Native.Nat.{ℕ, zero, suc, _+_, _≤_, _<_, _^_}
+use Prim.Native.Nat.{ℕ, zero, suc, _+_, _<_, _^_}
 use mathlib.Core.Path.{_≡_, refl, sym, ap, _∙_}
 use mathlib.Core.Bool.{Bool, true, false}
 use mathlib.Core.List.{List}
 use mathlib.Core.Option.{Option, none, some}
-use native.Mathlib.Nat.{add-zero, zero-add}
+use native.Mathlib.Nat.{zero-add}
 use native.Mathlib.Omega.{arith}
-use lib.ListN.{getD, drop}
+use lib.ListN.{getD}
 use Rattle.base.specs.Tests.{_and_, _≤?_, _=?_, pick}
 use Rattle.base.proofs.TestLaws.{not-both, and-holds, both-yes, eq-no, le-no}
 use Rattle.base.specs.Lists.{isThere}
 use Rattle.base.specs.Sets.{inSet, inside}
 use Rattle.base.proofs.SetLaws.{inside-member, members-inside, same-sets}
 use Rattle.format.specs.Limits.{mostIndex}
-use Rattle.format.specs.Read.{stateAt}
 use Rattle.format.specs.Types.{State}
 use Rattle.replication.specs.Machine.Types.{Mode, Non-prim, Reg-prim, Trans-prim, Exchange-states, Exchange-actions, Construct, No, Un, Server}
 use Rattle.replication.specs.Machine.Step.{hereSet, plannedNow}
 use Rattle.replication.specs.Machine.WellFormedFacts.{Configured, StatesIn, ModeFits}
-use Rattle.engine.specs.Layout.{stateSize}
 use Rattle.engine.specs.Image.{modeNumber, senders}
 use Rattle.engine.specs.Decode.{modeNamed, statesAt}
 use Rattle.engine.proofs.Slots.{in-senders, senders-below}
 use Rattle.state_check.specs.Checks.{modeTest}
-use Rattle.state_check.proofs.StateLists.{InSlot, there, absent, in-slot, states-number}
+use Rattle.exchange.proofs.RoomLaws.{states-at}
+use Rattle.state_check.proofs.StateLists.{states-number}
 
 -- ---- by the number
 
@@ -63,18 +62,14 @@ module _ (s : Server) (configured exchange below : Bool) (conf : Configured s �
 
 -- ---- the set of those whose State is in
 
-pub in-states : (n q here m k : ℕ) (b : List ℕ) (at j : ℕ) → j < m → isThere (getD (statesAt n q here m k b at) j none) ≡ inSet (k + j) here
-unfolding statesAt isThere
-in-states n q here zero k b at j h = absurd (omega arith)
-in-states n q here (suc m) k b at zero h = go (in-slot (inSet k here) (stateAt n (drop at b)))
-  where
-    go : InSlot (inSet k here) (stateAt n (drop at b)) (pick (inSet k here) (some (stateAt n (drop at b))) none)
-        → isThere (pick (inSet k here) (some (stateAt n (drop at b))) none) ≡ inSet (k + 0) here
-    go (there e p) = ap isThere p ∙ sym (ap (λ (i : ℕ). inSet i here) (add-zero k) ∙ e)
-    go (absent e p) = ap isThere p ∙ sym (ap (λ (i : ℕ). inSet i here) (add-zero k) ∙ e)
-in-states n q here (suc m) k b at (suc j) h =
-    let next : k + 1 + j ≡ k + suc j = omega arith in
-    in-states n q here m (k + 1) b (at + stateSize n q) j (omega arith) ∙ ap (λ (i : ℕ). inSet i here) next
+is-picked : (t : Bool) (x : State) → isThere (pick t (some x) none) ≡ t
+unfolding pick isThere
+is-picked true x = refl
+is-picked false x = refl
+
+pub in-states : (n q here : ℕ) (b : List ℕ) (at j : ℕ) → j < n → isThere (getD (statesAt n q here n 0 b at) j none) ≡ inSet j here
+in-states n q here b at j h =
+    ap isThere (states-at n q here b n 0 at j h) ∙ is-picked (inSet (0 + j) here) _ ∙ ap (λ (i : ℕ). inSet i here) (zero-add j)
 
 pub senders-are : (n q here : ℕ) (b : List ℕ) (at : ℕ) → here < 2 ^ n → senders 0 (statesAt n q here n 0 b at) ≡ here
 senders-are n q here b at h =
@@ -84,14 +79,13 @@ senders-are n q here b at h =
     same k l =
         ap (λ (i : ℕ). inSet i (senders 0 (statesAt n q here n 0 b at))) (sym (zero-add k))
         ∙ in-senders 0 (statesAt n q here n 0 b at) k
-        ∙ in-states n q here n 0 b at k l
-        ∙ ap (λ (i : ℕ). inSet i here) (zero-add k)
+        ∙ in-states n q here b at k l
 
 -- Every member's State is in exactly if the members are among their senders.
 module _ (s : Server) (q here : ℕ) (b : List ℕ) (at : ℕ) (e : s .membership .states ≡ statesAt (s .servers) q here (s .servers) 0 b at) where
   at-place : (k : ℕ) → k < s .servers → isThere (getD (s .membership .states) k none) ≡ inSet k here
   at-place k l =
-      ap (λ (xs : List (Option State)). isThere (getD xs k none)) e ∙ in-states (s .servers) q here (s .servers) 0 b at k l ∙ ap (λ (i : ℕ). inSet i here) (zero-add k)
+      ap (λ (xs : List (Option State)). isThere (getD xs k none)) e ∙ in-states (s .servers) q here b at k l
 
   pub inside-all-in : inside (hereSet s) here ≡ true → StatesIn s
   inside-all-in h k l m = at-place k l ∙ inside-member (hereSet s) here k h m

@@ -8,6 +8,7 @@ use Rattle.base.specs.Lists.{sum}
 use Rattle.base.proofs.Sections.{begin-end}
 use Rattle.format.specs.Limits.{mostHeld}
 use Rattle.engine.specs.Layout.{heldSize, slotSize, stateSize, theCuts, theNoted, theHeld, theStates, theYellow, theOwn, theQueue, sections, sectionSize, offset, stateLength}
+use Rattle.format.specs.Places.{idSize}
 
 module _ (n q : ℕ) (b : List ℕ) (h : stateLength n q ≤ length b) where
   section-room : (k : ℕ) → offset n q k + sectionSize n q k ≤ length b
@@ -30,7 +31,7 @@ module _ (n q : ℕ) (b : List ℕ) (h : stateLength n q ≤ length b) where
   unfolding sectionSize sections
   states-room = section-room theStates
 
-  pub ids-room : (m : ℕ) → m ≤ n * q → offset n q theYellow + 3 * m ≤ length b
+  pub ids-room : (m : ℕ) → m ≤ n * q → offset n q theYellow + idSize * m ≤ length b
   unfolding sectionSize sections
   ids-room m l = omega (arith, section-room theYellow)
 

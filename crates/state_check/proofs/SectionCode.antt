@@ -19,7 +19,7 @@ use Rattle.format.specs.Read.{idsAt}
 use Rattle.record.specs.Context.{contextOf}
 use Rattle.record.specs.Values.{idsBy, IdsInside}
 use Rattle.record.specs.declared.Context.{Context}
-use Rattle.engine.specs.Layout.{SizesIn, theNoted, theHeld, theStates, theYellow, theOwn, theQueue, sections, stateSize, stateLength, offset, headerSize, slotSize, heldSize}
+use Rattle.engine.specs.Layout.{theNoted, theHeld, theStates, theYellow, theOwn, theQueue, sections, stateSize, stateLength, offset, headerSize, slotSize, heldSize}
 use Rattle.exchange.specs.declared.slots.Slots.{Slots}
 use Rattle.exchange.specs.Slots.{Space, slotsOf}
 use Rattle.format.specs.Places.{idSize}
@@ -50,9 +50,6 @@ sum-end v total (suc m) b at h l = absurd (omega arith)
 -- ---- rooms, as the callees ask for them
 
 module _ (c : Context) (b : List ℕ) (k : Buffer c b) where
-  pub sizes-in : SizesIn (c .servers) (c .quota)
-  sizes-in = record { servers = k .context .most; quota = k .context .largest }
-
   pub slots-space : (v : Slots) (here : ℕ) → v ≡ slotsOf (c .servers) (c .quota) here → Space v b
   unfolding slotsOf stateSize offset sections sum stateLength
   slots-space v here e =

@@ -23,7 +23,7 @@ use Rattle.format.proofs.Reading.{read-in-range}
 use Rattle.format.proofs.RoundTrip.{read-written, written-read}
 use Rattle.engine.specs.Layout.{stateSize}
 use Rattle.state_check.specs.Collected.{isState, saysState, idsInSlot, slotRecord, holdsState}
-use Rattle.format.specs.Places.{stateHeadSize, stateCountAt, stateYellowAt}
+use Rattle.format.specs.Places.{stateHeadSize, stateCountAt, stateYellowAt, idSize, stateCutsAt}
 
 -- What is known of the State x in the slot at `at`.
 pub record Slot (c : Context) (k i : ℕ) (b : List ℕ) (at : ℕ) (x : State) : Type 0 where
@@ -73,7 +73,7 @@ module _ (c : Context) (s : ContextRange c) (ok : contextOk c ≡ true) (b : Lis
       let n : ℕ = c .servers in
       let u = and-holds _ _ t in
       let count : idsInSlot n b at ≤ n * c .quota = le-holds _ _ (u .0) in
-      let m : ℕ = stateHeadSize + 2 * n + 3 * idsInSlot n b at in
+      let m : ℕ = stateHeadSize + 2 * n + idSize * idsInSlot n b at in
       let e : List ℕ = partAt m b at in
       let d = said k i (read c e) (u .1) in
       let x : State = d .what in
@@ -95,7 +95,7 @@ module _ (c : Context) (s : ContextRange c) (ok : contextOk c ≡ true) (b : Lis
 
   cuts-of-state : length (stateAt (c .servers) (drop at b) .cuts) ≡ c .servers
   unfolding stateAt
-  cuts-of-state = numbers-length 2 (c .servers) (drop at b) 9
+  cuts-of-state = numbers-length 2 (c .servers) (drop at b) stateCutsAt
 
   pub state-ids-few : stateOk c (stateAt (c .servers) (drop at b)) ≡ true → idsInSlot (c .servers) b at ≤ c .servers * c .quota
   state-ids-few f =
@@ -103,9 +103,9 @@ module _ (c : Context) (s : ContextRange c) (ok : contextOk c ≡ true) (b : Lis
       let r = state-range c x s f in
       omega (arith, ids-of-state, ids-count c (x .yellow .ids) (r .yellow .ids) (r .yellow .differ))
 
-  record-length : length (write (state (stateAt (c .servers) (drop at b)))) ≡ stateHeadSize + 2 * c .servers + 3 * idsInSlot (c .servers) b at
+  record-length : length (write (state (stateAt (c .servers) (drop at b)))) ≡ stateHeadSize + 2 * c .servers + idSize * idsInSlot (c .servers) b at
   unfolding lengthOf
-  record-length = write-length (state (stateAt (c .servers) (drop at b))) ∙ ap₂ {A = ℕ} {B = ℕ} {C = ℕ} (λ m j. stateHeadSize + 2 * m + 3 * j) cuts-of-state ids-of-state
+  record-length = write-length (state (stateAt (c .servers) (drop at b))) ∙ ap₂ {A = ℕ} {B = ℕ} {C = ℕ} (λ m j. stateHeadSize + 2 * m + idSize * j) cuts-of-state ids-of-state
 
   pub slot-short : stateOk c (stateAt (c .servers) (drop at b)) ≡ true → length (write (state (stateAt (c .servers) (drop at b)))) ≤ stateSize (c .servers) (c .quota)
   unfolding stateSize

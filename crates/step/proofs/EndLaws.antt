@@ -47,8 +47,6 @@ use Rattle.engine.proofs.Chained.{Covers, chained, then-holds, numbers-then}
 use Rattle.step.proofs.ExchangeStates.{decided-formed, attempting-formed, staying-formed}
 use Rattle.step.proofs.LentLaws.{holds-products, put-room, put-done, one-record}
 use Rattle.step.proofs.OutcomeLaws.{stored-outcome}
-use Rattle.format.specs.Places.{idSize}
-use Rattle.format.specs.Limits.{mostServers, mostQuota}
 
 -- ---- what the States decide
 
@@ -62,15 +60,7 @@ taken-few t b r e =
     let y = in-range (decided t) (decided-formed t (r .formed) e) .yellow in
     ids-count (contextOf (decided t)) (takenYellow (collected t) .ids) (y .ids) (y .differ)
 
-module _ (b o₁ : List ℕ) (count room : ℕ) (m : HoldsSuch Idle b)
-    (f : (s : Server) → Holds s b → 3 * (s .servers * s .quota) ≤ room → Listed count o₁ (takenYellow (collected s) .ids)) (size : room ≡ idSize * (mostServers * mostQuota)) where
-  listed : (t : Server) → Holds t b → Listed count o₁ (takenYellow (collected t) .ids)
-  unfolding contextOf
-  listed t r =
-      let z = in-range t (r .formed) .context .sizes in
-      let all : t .servers * t .quota ≤ 8 * 256 = mul-le-mul {n₁ = t .servers} {m₁ = t .quota} {n₂ = 8} {m₂ = 256} (z .most) (z .highest) in
-      f t r (omega arith)
-
+module _ (b o₁ : List ℕ) (count : ℕ) (m : HoldsSuch Idle b) (listed : (s : Server) → Holds s b → Listed count o₁ (takenYellow (collected s) .ids)) where
   idle : (t : Server) → Holds t b → Idle t
   idle t r = such-fact Idle b t m r
 

@@ -23,8 +23,8 @@ use Rattle.replication.proofs.WellFormed.Exchanges.{with-cpc-body}
 use Rattle.engine.specs.Image.{modeNumber, over, image}
 use Rattle.engine.specs.Outcome.{word, resultOf}
 use Rattle.engine.proofs.InRange.{in-range}
-use Rattle.engine.specs.Holding.{Holds, HoldsSuch}
-use Rattle.engine.proofs.InPlace.{such-fact, holds-header}
+use Rattle.engine.specs.Holding.{Holds, HoldsSuch, HoldsSome}
+use Rattle.engine.proofs.InPlace.{such-fact, holds-header, holds-some}
 use Rattle.step.specs.declared.Answer.{Answer}
 use Rattle.step.specs.Answers.{answered, outcomeOn, LentSuch, Installs, quietly, withLateCpc}
 use Rattle.step.proofs.LentFacts.{lent-fact}
@@ -72,6 +72,9 @@ module _ (k : ℕ) (b c o : List ℕ) (p : LentSuch (λ s. (k < s .servers) × (
   may-install : (s : Server) → Holds s b → Configured s × (s .votes .last .index < mostIndex)
   may-install s r = subst (λ m. ModeFits m s) (known s r .1) (well-formed-facts s (r .formed) .mode)
 
+  pub cpc-some : HoldsSome c
+  cpc-some = holds-some (withCpc k (p .state)) c (collected-holds (p .state) (p .holds))
+
   pub cpc-lent : LentSuch (λ t. Configured t × (t .votes .last .index < mostIndex)) c o
   unfolding withCpc
   cpc-lent = record { state = withCpc k (p .state); holds = collected-holds (p .state) (p .holds); fact = may-install (p .state) (p .holds); room = p .room }
@@ -114,6 +117,9 @@ module _ (k : ℕ) (b c o : List ℕ) (p : LentSuch (λ s. (k < s .servers) × (
 
 module _ (k : ℕ) (b c : List ℕ) (m : HoldsSuch (λ s. (k < s .servers) × (s .membership .mode ≡ No)) b)
     (f : (s : Server) → Holds s b → c ≡ image (withCpc k s) b) where
+  pub late-some : HoldsSome c
+  late-some = holds-some (withCpc k (m .state)) c (cpc-holds k (m .state) b c (m .holds) (m .fact .0) (f (m .state) (m .holds)))
+
   pub late-header : headerSize ≤ length c
   late-header = holds-header (withCpc k (m .state)) c (cpc-holds k (m .state) b c (m .holds) (m .fact .0) (f (m .state) (m .holds)))
 

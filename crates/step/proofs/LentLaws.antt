@@ -23,13 +23,17 @@ use Rattle.engine.specs.Layout.{offset, headerSize}
 use Rattle.engine.specs.Image.{parts}
 use Rattle.engine.proofs.Decoded.{image-part}
 use Rattle.engine.proofs.Fit.{well-formed-fits}
-use Rattle.engine.specs.Holding.{Holds}
+use Rattle.engine.specs.Holding.{Holds, HoldsSome}
+use Rattle.engine.proofs.InPlace.{holds-some}
 use Rattle.updates.proofs.Counts.{header-room}
 use Rattle.step.specs.Answers.{LentSuch, recordBytes}
 use Rattle.engine.specs.Counts.{CountsIn}
 use Rattle.engine.proofs.Counts.{holds-counts}
 
 module _ (P : Server → Type 0) (b o : List ℕ) (h : LentSuch P b o) where
+  pub lent-some : HoldsSome b
+  lent-some = holds-some (h .state) b (h .holds)
+
   pub lent-counts : CountsIn b
   lent-counts = holds-counts (h .state) b (h .holds)
 

@@ -35,8 +35,8 @@ use Rattle.engine.specs.Image.{over, slot, actionSlots, image, parts}
 use Rattle.engine.specs.Decode.{actionsAt, decodedAs, serversIn, quotaIn, decoded}
 use Rattle.engine.proofs.Decoded.{image-part}
 use Rattle.engine.proofs.Fit.{well-formed-fits}
-use Rattle.engine.specs.Holding.{Holds}
-use Rattle.engine.proofs.InPlace.{holds-decoded}
+use Rattle.engine.specs.Holding.{Holds, HoldsSuch, HoldsSome}
+use Rattle.engine.proofs.InPlace.{holds-decoded, holds-some}
 use Rattle.engine.proofs.InRange.{in-range}
 use Rattle.engine.proofs.Used.{action-slot-length}
 use Rattle.queue.proofs.ReadLaws.{queue-read, actions-at}
@@ -159,11 +159,16 @@ module _ (b : List ℕ) (x : Part) (s : Stated b) (e : (t : Server) → Holds t 
       (pick-yes (x .mine) _ (gather (atPosition me (greensIn b)) (above (x .low) (x .high))) [] (not-false (x .mine) t) refl ∙ green-is me m)
       (more-asked (x .high - x .low) (mostActions b) 0 r _ o o₁ (omega (arith, greens-most)) a)
 
-module _ (b : List ℕ) (c : ℕ) (x : Part) (s : Stated b)
-    (e : (t : Server) → Holds t b → c < t .servers → x ≡ partOf (cutIn c) (t .me) (collected t)) (h : c < serversIn b) where
+pub stated-some : (b : List ℕ) → Stated b → HoldsSome b
+stated-some b s = holds-some (decoded b) b (s .holds)
+
+pub stated-creator : (b : List ℕ) (c : ℕ) → Stated b → c < serversIn b → HoldsSuch (λ s. c < s .servers) b
+unfolding decoded decodedAs serversIn quotaIn
+stated-creator b c s h = record { state = decoded b; holds = s .holds; fact = h }
+
+module _ (b : List ℕ) (c : ℕ) (x : Part) (e : (t : Server) → Holds t b → x ≡ partOf (cutIn c) (t .me) (collected t)) (s : Stated b) where
   reds : x ≡ partOf (cutIn c) (decoded b .me) (collected (decoded b))
-  unfolding decoded decodedAs serversIn quotaIn
-  reds = e (decoded b) (s .holds) h
+  reds = e (decoded b) (s .holds)
 
   reds-most : x .high ≤ quotaIn b
   unfolding partOf

@@ -24,7 +24,8 @@ use Rattle.replication.proofs.WellFormed.Ranges.{sizes-ok, state-ok, ids-short}
 use Rattle.replication.specs.Laws.RuleFits.{StateCame}
 use Rattle.engine.specs.Layout.{stateSize}
 use Rattle.engine.specs.Image.{modeNumber, over, image}
-use Rattle.engine.specs.Holding.{Holds}
+use Rattle.engine.specs.Holding.{Holds, HoldsSome}
+use Rattle.engine.proofs.InPlace.{holds-some}
 use Rattle.updates.specs.Lists.{CollectRoom}
 use Rattle.step.specs.declared.Answer.{Answer}
 use Rattle.step.specs.Answers.{answered, outcomeOn, LentSuch, Came, quietly, sentOnly, recordBytes}
@@ -163,6 +164,11 @@ module _ (k : ℕ) (e b o : List ℕ) (m : LentSuch (Came k e) b o) where
     got-holds : (s : Server) (x : State) → Holds s b → StateCame s x × (x .sender ≡ k) → write (state x) ≡ e → Holds (withState x s) c
     unfolding withState
     got-holds s x r d w = then-holds s (withState x s) b c r (f s x r w (d .1)) refl refl (came-formed s (r .formed) (mode s r) x (d .0))
+
+    pub collect-some : HoldsSome c
+    collect-some =
+        let d = m .fact in
+        holds-some (withState (d .sent) (m .state)) c (got-holds (m .state) (d .sent) (m .holds) (d .came, d .sender) (d .written))
 
     module _ (all : Bool) (told : (s : Server) → Holds s c → all ≡ allStatesIn s) where
       in-told : (s : Server) (x : State) → Holds s b → StateCame s x × (x .sender ≡ k) → write (state x) ≡ e → allStatesIn (withState x s) ≡ all

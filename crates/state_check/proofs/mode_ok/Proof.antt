@@ -1,4 +1,4 @@
-use Rattle.base.proofs.Branches.{answers, told}
+use Rattle.base.proofs.Branches.{told}
 use Rattle.base.proofs.TestLaws.{tests, choices}
 use Rattle.state_check.specs.Checks.{modeTest, modeOk}
 use borrow.Author.Needs.{needs}

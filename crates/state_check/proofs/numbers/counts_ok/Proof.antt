@@ -1,6 +1,4 @@
-use Rattle.base.proofs.TestLaws.{tests}
-use Rattle.base.proofs.Branches.{answers, told}
-use Rattle.record.specs.Context.{contextOf}
+use Rattle.base.proofs.Branches.{answers}
 use Rattle.state_check.specs.Numbers.{countsOk}
 use borrow.Author.Needs.{needs}
 use Rattle.state_check.proofs.numbers.counts_ok.Statement.{statement}

@@ -1,6 +1,5 @@
 use Rattle.base.proofs.TestLaws.{tests, choices}
 use Rattle.base.proofs.Branches.{answers, told}
-use Rattle.record.specs.Context.{contextOf}
 use Rattle.state_check.specs.Numbers.{regularOk}
 use borrow.Author.Needs.{needs}
 use Rattle.state_check.proofs.numbers.regular_ok.Statement.{statement}

@@ -1,5 +1,5 @@
 use Rattle.base.proofs.TestLaws.{tests}
-use Rattle.base.proofs.Branches.{answers, told}
+use Rattle.base.proofs.Branches.{answers}
 use Rattle.record.specs.Context.{contextOf}
 use Rattle.state_check.specs.Numbers.{roomOk}
 use borrow.Author.Needs.{needs}

@@ -1,11 +1,11 @@
 use Rattle.step.proofs.StatesLaws.{after-awaited, after-ends, after-ended}
-use Rattle.step.proofs.LentLaws.{lent-header}
+use Rattle.step.proofs.LentLaws.{lent-header, lent-some}
 use borrow.Author.Needs.{needs}
 use Rattle.step.proofs.exchanging.after_states.Statement.{statement}
 use Rattle.step.proofs.exchanging.after_states.Tie as tie
 
 planned-now-requires : tie.Need-planned-now-requires
-planned-now-requires c κs = search needs
+planned-now-requires c κs = search (needs, lent-some)
 
 await-actions-requires : tie.Need-await-actions-requires
 await-actions-requires c κs = search needs

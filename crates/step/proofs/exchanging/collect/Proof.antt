@@ -1,4 +1,4 @@
-use Rattle.step.proofs.StatesLaws.{collect-room, collect-waiting, collect-complete, collect-done}
+use Rattle.step.proofs.StatesLaws.{collect-room, collect-some, collect-waiting, collect-complete, collect-done}
 use borrow.Author.Tests.{not-true, not-false}
 use borrow.Author.Needs.{needs}
 use Rattle.step.proofs.exchanging.collect.Statement.{statement}
@@ -8,7 +8,7 @@ collect-state-requires : tie.Need-collect-state-requires
 collect-state-requires c κs = collect-room _ _ _ _ (c .before .before .before .before .pre)
 
 all-states-in-requires : tie.Need-all-states-in-requires
-all-states-in-requires c κs = search needs
+all-states-in-requires c κs = search (needs, collect-some)
 
 quiet-requires : tie.Need-quiet-requires
 quiet-requires c κs = search needs

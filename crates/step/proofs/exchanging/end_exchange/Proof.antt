@@ -1,10 +1,11 @@
+use Rattle.step.proofs.LentLaws.{lent-some}
 use Rattle.step.proofs.EndLaws.{end-attempts, end-stays}
 use borrow.Author.Needs.{needs}
 use Rattle.step.proofs.exchanging.end_exchange.Statement.{statement}
 use Rattle.step.proofs.exchanging.end_exchange.Tie as tie
 
 quorum-here-requires : tie.Need-quorum-here-requires
-quorum-here-requires c κs = search needs
+quorum-here-requires c κs = search (needs, lent-some)
 
 attempt-primary-requires : tie.Need-attempt-primary-requires
 attempt-primary-requires c κs =

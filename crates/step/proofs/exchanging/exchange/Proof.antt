@@ -1,12 +1,12 @@
 use Rattle.step.proofs.ExchangeLaws.{last-ends, last-ended, more-such, more-quiet}
-use Rattle.step.proofs.LentLaws.{lent-header}
+use Rattle.step.proofs.LentLaws.{lent-header, lent-some}
 use native.Mathlib.Omega.{arith}
 use borrow.Author.Needs.{needs}
 use Rattle.step.proofs.exchanging.exchange.Statement.{statement}
 use Rattle.step.proofs.exchanging.exchange.Tie as tie
 
 planned-now-requires : tie.Need-planned-now-requires
-planned-now-requires c κs = search needs
+planned-now-requires c κs = search (needs, lent-some)
 
 num32-requires : tie.Need-num32-requires
 num32-requires c κs = omega (arith, lent-header _ _ _ (c .before .before .before .before .before .before .pre))

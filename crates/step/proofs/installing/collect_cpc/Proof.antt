@@ -1,4 +1,4 @@
-use Rattle.step.proofs.InstallingLaws.{cpc-room, cpc-lent, cpc-waiting, cpc-complete}
+use Rattle.step.proofs.InstallingLaws.{cpc-room, cpc-some, cpc-lent, cpc-waiting, cpc-complete}
 use borrow.Author.Needs.{needs}
 use borrow.Author.Tests.{not-true, not-false}
 use Rattle.step.proofs.installing.collect_cpc.Statement.{statement}
@@ -8,7 +8,7 @@ add-cpc-requires : tie.Need-add-cpc-requires
 add-cpc-requires c κs = cpc-room _ _ _ (c .before .before .before .pre .holds) (c .before .before .before .pre .fact .0)
 
 all-cpcs-in-requires : tie.Need-all-cpcs-in-requires
-all-cpcs-in-requires c κs = search needs
+all-cpcs-in-requires c κs = cpc-some _ _ _ _ (c .before .before .before .before .before .before .before .pre) (c .before .before .before .add-cpc .ensures)
 
 quiet-requires : tie.Need-quiet-requires
 quiet-requires c κs = search needs

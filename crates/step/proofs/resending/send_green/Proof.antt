@@ -1,10 +1,10 @@
-use Rattle.step.proofs.PlanLaws.{green-none, green-room, green-sent}
+use Rattle.step.proofs.PlanLaws.{stated-some, green-none, green-room, green-sent}
 use borrow.Author.Needs.{needs}
 use Rattle.step.proofs.resending.send_green.Statement.{statement}
 use Rattle.step.proofs.resending.send_green.Tie as tie
 
 resends-green-requires : tie.Need-resends-green-requires
-resends-green-requires c κs = search needs
+resends-green-requires c κs = search (needs, stated-some)
 
 returns : tie.Need-returns
 returns c = search (needs, green-none)

@@ -1,16 +1,18 @@
-use Rattle.step.proofs.PlanLaws.{red-none, red-room, red-high, red-sent}
+use Rattle.step.proofs.PlanLaws.{stated-creator, red-none, red-room, red-high, red-sent}
 use borrow.Author.Needs.{needs}
 use Rattle.step.proofs.resending.send_red.Statement.{statement}
 use Rattle.step.proofs.resending.send_red.Tie as tie
 
 resends-red-requires : tie.Need-resends-red-requires
-resends-red-requires c κs = search needs
+resends-red-requires c κs = stated-creator _ _ (search needs) (search needs)
 
 returns : tie.Need-returns
 returns c = search (needs, red-none)
 
 send-creator-requires : tie.Need-send-creator-requires
-send-creator-requires c κs = search (needs, red-room, red-high)
+send-creator-requires c κs =
+    let e = c .before .before .before .resends-red .ensures in
+    (search needs, search needs, search needs, red-high _ _ _ e (search needs), search (needs, red-room _ _ _ e))
 
 same-length : tie.Need-same-length
 same-length c = search needs
