@@ -58,5 +58,11 @@ pub fn join_yellow(state: &mut [u8], creator: u8, index: u16)
     if has_id(state, at, count as usize, creator, index) {
         return;
     }
-    add_id(state, at + State::ID * count as usize, count, creator, index);
+    add_id(
+        state,
+        at + State::ID * count as usize,
+        count,
+        creator,
+        index,
+    );
 }
