@@ -22,7 +22,7 @@ use Rattle.replication.specs.Machine.Install.{idsUpTo}
 use Rattle.replication.specs.Machine.WellFormedRanges.{IdFits}
 use Rattle.replication.proofs.WellFormed.Facts.{well-formed-facts}
 use Rattle.engine.specs.Layout.{theYellow, offset, headerSize, atServers, atYellowCount}
-use Rattle.engine.specs.Decode.{decoded}
+use Rattle.engine.specs.Decode.{decoded, serversIn}
 use Rattle.queue.proofs.RedLaws.{cut-read}
 use Rattle.engine.specs.Holding.{HoldsSome}
 use Rattle.engine.proofs.InPlace.{such-decoded}
@@ -108,11 +108,11 @@ unfolding above after
 creator-start b t c r = turned-none b t r
 
 module _ (b₀ : List ℕ) (s₀ : HoldsSome b₀) (c : ℕ) where
-  creator-cut : c < numberAt 1 b₀ atServers → numberAt 2 b₀ (headerSize + 2 * c) ≡ cut (logIn b₀) c
+  creator-cut : c < serversIn b₀ → numberAt 2 b₀ (headerSize + 2 * c) ≡ cut (logIn b₀) c
   unfolding logIn
   creator-cut h = cut-read (decoded b₀) b₀ c (such-decoded _ b₀ s₀) (omega (arith, numbers (decoded b₀) b₀ (such-decoded _ b₀ s₀) .servers))
 
-  pub creator-in : (k i : ℕ) → c < numberAt 1 b₀ atServers → k ≡ numberAt 2 b₀ (headerSize + 2 * c) → i < k → InTable c (i + 1)
+  pub creator-in : (k i : ℕ) → c < serversIn b₀ → k ≡ numberAt 2 b₀ (headerSize + 2 * c) → i < k → InTable c (i + 1)
   unfolding logIn
   creator-in k i h e l =
       let facts = well-formed-facts (decoded b₀) (such-decoded _ b₀ s₀ .formed) in
@@ -130,7 +130,7 @@ module _ (b₀ : List ℕ) (s₀ : HoldsSome b₀) (c : ℕ) where
       (sym (ap (map (idOf c)) (above-more 0 i 1 (omega arith)) ∙ map-append (idOf c) (above 0 i) (after i 1)))
       (turned-append (map (idOf c) (above 0 i)) (idOf c (i + 1) ∷ []) b₀ t b t₁ b₁ s₀ e turn)
 
-  pub creator-end : (t b : List ℕ) (k i : ℕ) → c < numberAt 1 b₀ atServers → k ≡ numberAt 2 b₀ (headerSize + 2 * c) → i ≤ k → k ≤ i
+  pub creator-end : (t b : List ℕ) (k i : ℕ) → c < serversIn b₀ → k ≡ numberAt 2 b₀ (headerSize + 2 * c) → i ≤ k → k ≤ i
       → Turned (map (idOf c) (above 0 i)) b₀ t b
       → Turned (idsOf c b₀) b₀ t b
   unfolding idsOf
@@ -157,11 +157,12 @@ module _ (b₀ : List ℕ) (s₀ : HoldsSome b₀) where
   unfolding logIn
   cuts-kept ds t b e = ap (λ (v : Server). v .log .cuts) (turned-decoded ds b₀ t b s₀ e) ∙ swaps-kept ds ((decoded b₀) .log) .cuts
 
-  cuts-count : length (logIn b₀ .cuts) ≡ numberAt 1 b₀ atServers
+  cuts-count : length (logIn b₀ .cuts) ≡ serversIn b₀
   unfolding logIn
   cuts-count = well-formed-facts (decoded b₀) (such-decoded _ b₀ s₀ .formed) .log .cuts-length ∙ sym (numbers (decoded b₀) b₀ (such-decoded _ b₀ s₀) .servers)
 
-  pub rest-in : (ds : List Id) (t b : List ℕ) (n c : ℕ) → Turned ds b₀ t b → n ≡ numberAt 1 b₀ atServers → c < n → c < numberAt 1 b atServers
+  pub rest-in : (ds : List Id) (t b : List ℕ) (n c : ℕ) → Turned ds b₀ t b → n ≡ numberAt 1 b₀ atServers → c < n → c < serversIn b
+  unfolding serversIn
   rest-in ds t b n c e f h =
       omega (
         arith,
@@ -173,7 +174,7 @@ module _ (b₀ : List ℕ) (s₀ : HoldsSome b₀) where
   pub rest-again : (t b t₁ b₁ : List ℕ) (n c : ℕ) → Turned (idsUpTo 0 (take c (logIn b₀ .cuts))) b₀ t b → n ≡ numberAt 1 b₀ atServers → c < n
       → Turned (idsOf c b) b t₁ b₁
       → Turned (idsUpTo 0 (take (c + 1) (logIn b₀ .cuts))) b₀ t₁ b₁
-  unfolding idsOf cut
+  unfolding idsOf cut serversIn
   rest-again t b t₁ b₁ n c e f h turn =
       let cuts : List ℕ = logIn b₀ .cuts in
       let low : c < length cuts = omega (arith, cuts-count) in
@@ -189,6 +190,7 @@ module _ (b₀ : List ℕ) (s₀ : HoldsSome b₀) where
 
   pub rest-end : (t b : List ℕ) (n c : ℕ) → Turned (idsUpTo 0 (take c (logIn b₀ .cuts))) b₀ t b → n ≡ numberAt 1 b₀ atServers → n ≤ c
       → Turned (idsUpTo 0 (logIn b₀ .cuts)) b₀ t b
+  unfolding serversIn
   rest-end t b n c e f h =
       turned-as (idsUpTo 0 (take c (logIn b₀ .cuts))) (idsUpTo 0 (logIn b₀ .cuts)) b₀ t b
       (ap (idsUpTo 0) (take-all c (logIn b₀ .cuts) (omega (arith, cuts-count)))) e

@@ -7,7 +7,6 @@ use mathlib.Core.List.{List, [], _∷_}
 use mathlib.Core.Option.{some}
 use native.Mathlib.Omega.{arith}
 use Rattle.base.proofs.AtLaws.{none-some, some-same}
-use Rattle.base.specs.Counts.{one}
 use Rattle.base.proofs.CountLaws.{one-yes}
 use Rattle.base.specs.Lists.{at}
 use Rattle.base.specs.Tests.{pick}

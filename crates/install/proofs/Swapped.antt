@@ -36,7 +36,7 @@ use Rattle.queue.proofs.Positions.{Stands}
 use Rattle.queue.proofs.Promoted.{used-part, patched-middle}
 use Rattle.queue.proofs.Holding.{holds-changed, log-image}
 use Rattle.engine.specs.Counts.{place}
-use Rattle.engine.proofs.Counts.{numbers}
+use Rattle.engine.proofs.Counts.{numbers, holds-place}
 
 -- ---- lists
 
@@ -121,14 +121,14 @@ module _ (s : Server) (b : List ℕ) (r : Holds s b) (d : Id) (k : Stands d (s .
   abbrev pub swappedLog : Log
   swappedLog = greenFound (some x) (position d (s .log .red)) (s .log)
 
-  abbrev pub place : ℕ
-  place = length (s .log .green) + position d (s .log .red)
+  abbrev pub stands : ℕ
+  stands = length (s .log .green) + position d (s .log .red)
 
   swap-as : greenSwap d (s .log) ≡ swappedLog
   unfolding greenSwap
   swap-as = ap (λ (o : Option Action). greenFound o (position d (s .log .red)) (s .log)) (k .found)
 
-  x-at : at (queue (s .log)) place ≡ some x
+  x-at : at (queue (s .log)) stands ≡ some x
   unfolding queue
   x-at =
       at-second (s .log .green) (s .log .red) (position d (s .log .red))
@@ -144,7 +144,7 @@ module _ (s : Server) (b : List ℕ) (r : Holds s b) (d : Id) (k : Stands d (s .
       ∙ ap (λ (l : List Action). at l 0) (k .whole)
       ∙ lowest-at (k .before) x (k .behind)
 
-  pub queue-after : queue swappedLog ≡ set (set (queue (s .log)) (length (s .log .green)) x) place y
+  pub queue-after : queue swappedLog ≡ set (set (queue (s .log)) (length (s .log .green)) x) stands y
   unfolding queue greenFound
   queue-after =
       ap₂ {A = ℕ} {B = List Action} {C = List Action} (λ i l. (s .log .green ++ (x ∷ [])) ++ swapOut i l) (sym (k .count)) (k .whole)
@@ -153,7 +153,7 @@ module _ (s : Server) (b : List ℕ) (r : Holds s b) (d : Id) (k : Stands d (s .
       (sym (k .whole))
 
   same-length : length (queue swappedLog) ≡ length (queue (s .log))
-  same-length = ap length queue-after ∙ length-set (set (queue (s .log)) (length (s .log .green)) x) place y ∙ length-set (queue (s .log)) (length (s .log .green)) x
+  same-length = ap length queue-after ∙ length-set (set (queue (s .log)) (length (s .log .green)) x) stands y ∙ length-set (queue (s .log)) (length (s .log .green)) x
 
   header-after : patched atGreenLength (bytesOf 4 (length (s .log .green) + 1)) (headerBytes s) ≡ headerBytes (withLog swappedLog s)
   unfolding greenFound sum
@@ -169,13 +169,13 @@ module _ (s : Server) (b : List ℕ) (r : Holds s b) (d : Id) (k : Stands d (s .
   fits = well-formed-fits s (r .formed) .actions
 
   x-fits : ActionFits x
-  x-fits = each-at ActionFits (queue (s .log)) place x fits x-at
+  x-fits = each-at ActionFits (queue (s .log)) stands x fits x-at
 
   y-fits : ActionFits y
   y-fits = each-at ActionFits (queue (s .log)) (length (s .log .green)) y fits y-at
 
-  pub x-low : place < length (queue (s .log))
-  x-low = at-low (queue (s .log)) place x x-at
+  pub x-low : stands < length (queue (s .log))
+  x-low = at-low (queue (s .log)) stands x x-at
 
   y-low : length (s .log .green) < length (queue (s .log))
   y-low = at-low (queue (s .log)) (length (s .log .green)) y y-at
@@ -187,7 +187,7 @@ module _ (s : Server) (b : List ℕ) (r : Holds s b) (d : Id) (k : Stands d (s .
   once-fits = each-set ActionFits (queue (s .log)) (length (s .log .green)) x fits x-fits
 
   section-after : (l : List ℕ)
-      → patched (slotSize * place) (slot slotSize (actionBytes y)) (patched (slotSize * length (s .log .green)) (slot slotSize (actionBytes x)) (over (actionSlots (queue (s .log))) l))
+      → patched (slotSize * stands) (slot slotSize (actionBytes y)) (patched (slotSize * length (s .log .green)) (slot slotSize (actionBytes x)) (over (actionSlots (queue (s .log))) l))
       ≡ over (actionSlots (queue swappedLog)) l
   section-after l =
       let a : List ℕ = slot slotSize (actionBytes x) in
@@ -198,10 +198,10 @@ module _ (s : Server) (b : List ℕ) (r : Holds s b) (d : Id) (k : Stands d (s .
       let first : patched i a (over (actionSlots (queue (s .log))) l) ≡ over (actionSlots once-set) l =
       over-changed (actionSlots (queue (s .log))) a l i (omega (arith, action-slot-length x x-fits, y-low))
       ∙ ap (λ (z : List ℕ). over z l) (slots-set (queue (s .log)) (length (s .log .green)) x fits x-fits y-low) in
-      ap (patched (slotSize * place) c) first
-      ∙ over-changed (actionSlots once-set) c l (slotSize * place) (omega (arith, action-slot-length y y-fits, x-low))
+      ap (patched (slotSize * stands) c) first
+      ∙ over-changed (actionSlots once-set) c l (slotSize * stands) (omega (arith, action-slot-length y y-fits, x-low))
       ∙ ap (λ (z : List ℕ). over z l)
-      (slots-set once-set place y once-fits y-fits (omega (arith, length-set (queue (s .log)) (length (s .log .green)) x, x-low)) ∙ ap actionSlots (sym queue-after))
+      (slots-set once-set stands y once-fits y-fits (omega (arith, length-set (queue (s .log)) (length (s .log .green)) x, x-low)) ∙ ap actionSlots (sym queue-after))
 
   -- The slots in the buffer.
   queue-occurs : Occurs (actionSlots (queue (s .log))) b (offset (s .servers) (s .quota) theQueue)
@@ -217,7 +217,7 @@ module _ (s : Server) (b : List ℕ) (r : Holds s b) (d : Id) (k : Stands d (s .
       let o = slot-occurs (queue (s .log)) b (offset (s .servers) (s .quota) theQueue) j a fits e queue-occurs in
       ap (λ (m : ℕ). partAt m b (offset (s .servers) (s .quota) theQueue + slotSize * j)) (sym (action-slot-length a f)) ∙ o .part
 
-  pub swap-image : greenAt place b ≡ image (withLog (greenSwap d (s .log)) s) b
+  pub swap-image : greenAt stands b ≡ image (withLog (greenSwap d (s .log)) s) b
   unfolding greenAt exchanged parts sections offset sum greenFound
   swap-image =
       let ws : List ℕ = sections (s .servers) (s .quota) in
@@ -228,11 +228,11 @@ module _ (s : Server) (b : List ℕ) (r : Holds s b) (d : Id) (k : Stands d (s .
       let c : List ℕ = slot slotSize (actionBytes y) in
       let room : length (queue (s .log)) ≤ s .servers * s .quota = in-range s (r .formed) .queueCount in
       let c₁ = changed-at ws _ b b (holds-changed s b r) theQueue (slotSize * g) (p + slotSize * g) a refl (omega arith) (omega (arith, action-slot-length x x-fits, y-low)) in
-      let c₂ = changed-at ws _ b (patched (p + slotSize * g) a b) c₁ theQueue (slotSize * place) (p + slotSize * place) c refl (omega arith) (omega (arith, action-slot-length y y-fits, x-low)) in
-      let c₃ = changed-at ws _ b (patched (p + slotSize * place) c (patched (p + slotSize * g) a b)) c₂ theHeader atGreenLength atGreenLength (bytesOf 4 (g + 1)) refl (omega arith) (omega (arith, bytes-length 4 (g + 1))) in
-      (λ i. patched atGreenLength (bytesOf 4 (n .green i + 1)) (exchanged (offset (n .servers i) (n .quota i) theQueue + slotSize * n .green i) (offset (n .servers i) (n .quota i) theQueue + slotSize * place) b))
-      ∙ ap₂ {A = List ℕ} {B = List ℕ} {C = List ℕ} (λ u v. patched atGreenLength (bytesOf 4 (g + 1)) (patched (p + slotSize * place) u (patched (p + slotSize * g) v b))) (slot-part g y y-fits y-at)
-      (slot-part place x x-fits x-at)
+      let c₂ = changed-at ws _ b (patched (p + slotSize * g) a b) c₁ theQueue (slotSize * stands) (p + slotSize * stands) c refl (omega arith) (omega (arith, action-slot-length y y-fits, x-low)) in
+      let c₃ = changed-at ws _ b (patched (p + slotSize * stands) c (patched (p + slotSize * g) a b)) c₂ theHeader atGreenLength atGreenLength (bytesOf 4 (g + 1)) refl (omega arith) (omega (arith, bytes-length 4 (g + 1))) in
+      (λ i. patched atGreenLength (bytesOf 4 (n .green i + 1)) (exchanged (holds-place s b r theQueue i + slotSize * n .green i) (holds-place s b r theQueue i + slotSize * stands) b))
+      ∙ ap₂ {A = List ℕ} {B = List ℕ} {C = List ℕ} (λ u v. patched atGreenLength (bytesOf 4 (g + 1)) (patched (p + slotSize * stands) u (patched (p + slotSize * g) v b))) (slot-part g y y-fits y-at)
+      (slot-part stands x x-fits x-at)
       ∙ log-image s swappedLog b _ _ _ _ _ c₃ header-after refl refl (section-after (section (s .servers) (s .quota) theQueue b))
       ∙ ap (λ (l : Log). image (withLog l s) b) (sym swap-as)
 

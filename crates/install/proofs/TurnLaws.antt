@@ -108,7 +108,7 @@ module _ (t b : List ℕ) (x : Indexed t b) (d : Id) where
       let named : d ≡ y .id =
       same-id-holds d _ (sym e ∙ h) ∙ ap (λ (z : ℕ). idAt b (z + slotSize * k)) q ∙ read-id w b (such-decoded _ b (x .holds)) k y there in
       let once = fits-once (w .servers) (w .quota) (w .me) (w .log) (log-fits w (such-decoded _ b (x .holds) .formed)) in
-      let place : position d ((decoded b) .log .red) ≡ k - length ((decoded b) .log .green) =
+      let stands : position d ((decoded b) .log .red) ≡ k - length ((decoded b) .log .green) =
       ap (λ (z : Id). position z ((decoded b) .log .red)) named
       ∙ position-at ((decoded b) .log .red) once (k - length ((decoded b) .log .green)) y red-there in
       omega arith
@@ -184,9 +184,9 @@ turned-swapped t b t₁ b₁ d k n g p x e f h i j made stored = go (swap? d ((d
         let l : Log = (decoded b) .log in
         let written : b₁ ≡ image (withLog (greenSwap d l) w) b = made ∙ ap (λ (z : ℕ). greenAt z b) e ∙ swap-image w b r d s in
         let held : Holds (withLog (greenSwap d l) w) b₁ = swaps-hold w b b₁ r (d ∷ []) written in
-        let place : p ≡ slot (lowest (s .before) (s .it) .id) =
+        let entry : p ≡ slot (lowest (s .before) (s .it) .id) =
         j ∙ ap (λ (z : ℕ). slot (idAt b (place theQueue b + slotSize * z))) (i ∙ green-read b (x .holds))
         ∙ ap slot (read-id w b r (length (l .green)) (lowest (s .before) (s .it)) (y-at w b r d s)) in
         let same : t₁ ≡ set t (slot (lowest (s .before) (s .it) .id)) (length (l .green) + position d (l .red)) =
-        stored ∙ (λ z. set t (place z) (e z)) in
+        stored ∙ (λ z. set t (entry z) (e z)) in
         record { written = written; indexed = subst (λ (u : List ℕ). Indexed u b₁) (sym same) (indexed-after w b r d s t (x .size) (x .right) b₁ q held) }

@@ -3,6 +3,7 @@
 ghost use mathlib.Core.Path.{_≡_};
 ghost use mathlib.Core.List.{[], _∷_};
 ghost use Prim.Native.Nat.{_+_, _*_, _≤_, _<_};
+ghost use Rattle.format.specs.Limits.{mostServers, mostQuota};
 ghost use Rattle.format.specs.Read.{idAt};
 ghost use Rattle.record.specs.Values.{idOf, slot};
 ghost use Rattle.engine.specs.Layout.{slotSize, theQueue};
@@ -10,19 +11,21 @@ ghost use Rattle.engine.specs.Holding.{HoldsSome};
 ghost use Rattle.install.specs.Table.{redPlace, InTable, Indexed, Turned};
 ghost use Rattle.engine.specs.Counts.{queueCount, greenCount, place, CountsIn};
 use crate::swapping::green_at;
-use queue::finding::has_id;
-use queue::places::queue_place;
+use engine::places::THE_QUEUE;
+use engine::places::place_of;
 use record::State;
 use record::bytes::num8;
 use record::bytes::num16;
 use record::bytes::num32;
+use record::bytes::wider;
+use record::parts::is_id;
 
 pub const PLACES: usize = State::MOST_SERVERS as usize * State::MOST_QUOTA as usize;
 
 // The place of an id in the table.
 pub fn entry(creator: u8, index: u16) -> usize
     requires { ⌜ InTable creator index ⌝ }
-    ensures { λ r. ⌜ (r ≡ slot (idOf creator index)) × (r < 2048) ⌝ }
+    ensures { λ r. ⌜ (r ≡ slot (idOf creator index)) × (r < mostServers * mostQuota) ⌝ }
 {
     creator as usize * State::MOST_QUOTA as usize + (index as usize - 1)
 }
@@ -30,9 +33,9 @@ pub fn entry(creator: u8, index: u16) -> usize
 // The same for the action at the place k of the queue.
 pub fn entry_at(state: &[u8], k: usize) -> usize
     requires { ⌜ HoldsSome (now state) × CountsIn (now state) × (k < queueCount (now state)) ⌝ }
-    ensures { λ r. ⌜ (r ≡ slot (idAt (now (state .entry)) (place theQueue (now (state .entry)) + slotSize * k))) × (r < 2048) ⌝ }
+    ensures { λ r. ⌜ (r ≡ slot (idAt (now (state .entry)) (place theQueue (now (state .entry)) + slotSize * k))) × (r < mostServers * mostQuota) ⌝ }
 {
-    let at = queue_place(state) + State::SLOT * k;
+    let at = place_of(state, THE_QUEUE) + State::SLOT * k;
     entry(num8(state, at), num16(state, at + 1))
 }
 
@@ -52,18 +55,12 @@ pub fn table(state: &[u8]) -> [u16; PLACES]
     places
 }
 
-fn wide(k: u16) -> usize
-    ensures { λ r. ⌜ r ≡ k ⌝ }
-{
-    k as usize
-}
-
 // The place in the queue of the red action with this id: the number of actions where there is none.
 fn red_at(state: &[u8], places: &[u16; PLACES], creator: u8, index: u16) -> usize
     requires { ⌜ Indexed (now places) (now state) × InTable creator index ⌝ }
     ensures { λ r. ⌜ (r ≡ redPlace (idOf creator index) (now (state .entry))) × (greenCount (now (state .entry)) ≤ r) ⌝ }
 {
-    let k = wide(places[entry(creator, index)]);
+    let k = wider(places[entry(creator, index)]) as usize;
     let count = num32(state, State::AT_QUEUE_LENGTH) as usize;
     if k < num32(state, State::AT_GREEN_LENGTH) as usize {
         return count;
@@ -71,7 +68,12 @@ fn red_at(state: &[u8], places: &[u16; PLACES], creator: u8, index: u16) -> usiz
     if count <= k {
         return count;
     }
-    if has_id(state, queue_place(state) + State::SLOT * k, creator, index) {
+    if is_id(
+        state,
+        place_of(state, THE_QUEUE) + State::SLOT * k,
+        creator,
+        index,
+    ) {
         return k;
     }
     count

@@ -27,7 +27,7 @@ use Rattle.replication.specs.Machine.Types.{Server}
 use Rattle.replication.specs.Machine.Requests.{numberedFrom, madeOf, heldRecords}
 use Rattle.replication.proofs.WellFormed.Changes.{body}
 use Rattle.replication.proofs.WellFormed.Facts.{well-formed-facts}
-use Rattle.engine.specs.Layout.{heldSize, theHeld, outLength, headerSize, atMe, atGreenLength, atNumbered, atHeldCount}
+use Rattle.engine.specs.Layout.{heldSize, theHeld, outLength, atMe, atGreenLength, atNumbered, atHeldCount}
 use Rattle.engine.specs.Header.{headerOf, headerIn}
 use Rattle.engine.specs.Image.{over, slot, heldSlots, parts}
 use Rattle.engine.specs.Decode.{heldAt, decodedAs, decoded}
@@ -37,28 +37,24 @@ use Rattle.engine.specs.Holding.{Holds}
 use Rattle.engine.proofs.InPlace.{holds-decoded}
 use Rattle.engine.proofs.Used.{held-slot-length, over-length}
 use Rattle.queue.proofs.Inside.{over-extended}
-use Rattle.updates.proofs.Counts.{header-room, numbered-few, held-few}
 use Rattle.step.specs.Answers.{LentSuch, recordBytes}
 use Rattle.step.specs.Sending.{heldPlace, heldHead, heldAction, heldBytes, HeldRoom}
 use Rattle.step.proofs.LentLaws.{lent-counts, lent-header, holds-products, holds-part, put-room, put-done, one-record}
 use Rattle.format.specs.Places.{mostAction}
-use Rattle.engine.specs.Counts.{heldCount, place}
+use Rattle.engine.specs.Counts.{heldCount, place, CountsIn}
 use Rattle.engine.proofs.Counts.{holds-place, numbers}
 
 -- ---- the request k
 
-pub place-made : (b : List ℕ) (at k : ℕ) → at ≡ place theHeld b → at + (heldSize * numberAt 2 b atHeldCount + heldSize) ≤ length b → k < heldCount b
+pub place-made : (b : List ℕ) (at k : ℕ) → at ≡ place theHeld b → CountsIn b → k < heldCount b
     → (at + heldSize * k ≡ heldPlace b k) × (at + heldSize * k + heldSize ≤ length b)
 unfolding heldPlace
-place-made b at k e h l = (ap (λ (m : ℕ). m + heldSize * k) e, omega arith)
+place-made b at k e c l = (ap (λ (m : ℕ). m + heldSize * k) e, omega (arith, c .held, c .heldEnd, c .yellowEnd, c .ownEnd, c .queueEnd))
 
 pub head-made : (b : List ℕ) (k x y z : ℕ) → x ≡ numberAt 1 b atMe → y ≡ numberAt 2 b atNumbered → z ≡ numberAt 4 b atGreenLength
     → record { creator = x; index = y + k + 1; «green_length» = z } ≡ heldHead b k
 unfolding heldHead
 head-made b k x y z e f g = λ i. record { creator = e i; index = f i + k + 1; «green_length» = g i }
-
-pub head-ready : (k at : ℕ) (b o : List ℕ) → HeldRoom k at b o → (numberAt 2 b atNumbered ≤ 256) × (headerSize ≤ length b) × (k ≤ 16)
-head-ready k at b o h = (numbered-few b (h .counts), header-room b (h .counts), omega (arith, h .below, held-few b (h .counts)))
 
 module _ (k at i n : ℕ) (b o : List ℕ) (h : HeldRoom k at b o) (e : i ≡ heldPlace b k) (d : n ≡ numberAt 1 b i) where
   few : n ≤ 48

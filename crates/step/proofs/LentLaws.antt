@@ -19,15 +19,14 @@ use Rattle.replication.specs.Machine.Types.{Server}
 use Rattle.replication.proofs.WellFormed.Changes.{body}
 use Rattle.replication.proofs.WellFormed.Facts.{well-formed-facts}
 use Rattle.replication.proofs.WellFormed.Records.{Products, products}
-use Rattle.engine.specs.Layout.{offset, headerSize}
+use Rattle.engine.specs.Layout.{offset, headerSize, theYellow}
 use Rattle.engine.specs.Image.{parts}
 use Rattle.engine.proofs.Decoded.{image-part}
 use Rattle.engine.proofs.Fit.{well-formed-fits}
 use Rattle.engine.specs.Holding.{Holds, HoldsSome}
 use Rattle.engine.proofs.InPlace.{holds-some}
-use Rattle.updates.proofs.Counts.{header-room}
 use Rattle.step.specs.Answers.{LentSuch, recordBytes}
-use Rattle.engine.specs.Counts.{CountsIn}
+use Rattle.engine.specs.Counts.{CountsIn, place}
 use Rattle.engine.proofs.Counts.{holds-counts}
 
 module _ (P : Server → Type 0) (b o : List ℕ) (h : LentSuch P b o) where
@@ -38,7 +37,10 @@ module _ (P : Server → Type 0) (b o : List ℕ) (h : LentSuch P b o) where
   lent-counts = holds-counts (h .state) b (h .holds)
 
   pub lent-header : headerSize ≤ length b
-  lent-header = header-room b lent-counts
+  lent-header = omega (arith, lent-counts .cuts)
+
+  pub lent-yellow : (at : ℕ) → at ≡ place theYellow b → at ≤ length b
+  lent-yellow at e = let c = lent-counts in omega (arith, c .yellowEnd, c .ownEnd, c .queueEnd)
 
 pub holds-products : (s : Server) (b : List ℕ) → Holds s b → Products (s .servers) (s .quota)
 holds-products s b r = products (s .servers) (s .quota) (s .me) (body s (well-formed-facts s (r .formed)) .sizes)

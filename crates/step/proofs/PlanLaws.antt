@@ -49,7 +49,7 @@ use Rattle.step.specs.Resending.{redPart, redParts, wholePart}
 use Rattle.step.proofs.ResendingLaws.{sends-none, sends-next}
 use Rattle.format.specs.Places.{mostRetransmission}
 use Rattle.engine.specs.Counts.{queueCount, place, mostActions}
-use Rattle.engine.proofs.Counts.{numbers, holds-counts}
+use Rattle.engine.proofs.Counts.{numbers, holds-counts, holds-place}
 
 -- ---- a buffer that holds a state
 
@@ -74,11 +74,10 @@ module _ (s : Server) (b : List ℕ) (r : Holds s b) where
   slots-there : Occurs (actionSlots (queue (s .log))) b (place theQueue b)
   unfolding parts over
   slots-there =
-      let m = numbers s b r in
       let o = image-part s (well-formed-fits s (r .formed)) b (r .long) theQueue (omega arith) in
       let u = occurs-first (actionSlots (queue (s .log))) _ (image s b) (offset (s .servers) (s .quota) theQueue) o in
       subst (λ (c : List ℕ). Occurs (actionSlots (queue (s .log))) c (place theQueue b)) (r .written)
-      (subst (Occurs (actionSlots (queue (s .log))) (image s b)) (λ i. offset (sym (m .servers) i) (sym (m .quota) i) theQueue) u)
+      (subst (Occurs (actionSlots (queue (s .log))) (image s b)) (sym (holds-place s b r theQueue)) u)
 
   ids-in : (k : ℕ) → k < queueCount b → InTable (numberAt 1 b (slotPlace b k)) (numberAt 2 b (slotPlace b k + 1))
   unfolding slotPlace actionAt idAt contextOf
@@ -122,11 +121,11 @@ module _ (b : List ℕ) (s : Stated b) where
   facts = body (decoded b) (well-formed-facts (decoded b) (s .holds .formed))
 
   green-high : highest greenIn (collected (decoded b)) ≤ mostActions b
-  unfolding decoded decodedAs serversIn quotaIn
+  unfolding decoded decodedAs place
   green-high = green-bound (serversIn b) (quotaIn b) (collected (decoded b)) (collected-fit (decoded b) facts)
 
   cut-high : (c : ℕ) → highest (cutIn c) (collected (decoded b)) ≤ quotaIn b
-  unfolding decoded decodedAs serversIn quotaIn
+  unfolding decoded decodedAs place
   cut-high c = cut-bound (serversIn b) (quotaIn b) c (collected (decoded b)) (collected-fit (decoded b) facts)
 
 module _ (b : List ℕ) (x : Part) (s : Stated b) (e : (t : Server) → Holds t b → x ≡ partOf greenIn (t .me) (collected t)) where
@@ -138,7 +137,7 @@ module _ (b : List ℕ) (x : Part) (s : Stated b) (e : (t : Server) → Holds t 
   greens-most = omega (arith, ap (λ (y : Part). y .high) greens, green-high b s)
 
   green-is : (me : ℕ) → me ≡ numberAt 1 b atMe → pick (x .mine) (gather (atPosition me (greensIn b)) (above (x .low) (x .high))) [] ≡ greenPart b
-  unfolding greenPart resendGreen missing partOf atPosition greensIn queueIn decoded decodedAs serversIn quotaIn
+  unfolding greenPart resendGreen missing partOf atPosition greensIn queueIn decoded decodedAs place
   green-is me m =
       ap₂ {A = ℕ} {B = Part} {C = List Record} (λ k y. pick (y .mine) (gather (atPosition k (greensIn b)) (above (y .low) (y .high))) []) m greens
 
@@ -175,11 +174,11 @@ module _ (b : List ℕ) (c : ℕ) (x : Part) (e : (t : Server) → Holds t b →
   reds-most = omega (arith, ap (λ (y : Part). y .high) reds, cut-high b s c)
 
   held : decoded b .log .green ++ decoded b .log .red ≡ queueIn b
-  unfolding queueIn decoded decodedAs serversIn quotaIn
+  unfolding queueIn decoded decodedAs place
   held = take-append-drop (numberAt 4 b atGreenLength) (actionsAt (queueCount b) b (place theQueue b))
 
   red-is : (me : ℕ) → me ≡ numberAt 1 b atMe → pick (x .mine) (gather (asRed me (queueIn b) c) (above (x .low) (x .high))) [] ≡ redPart b c
-  unfolding redPart resendRed missing partOf asRed idOf decoded decodedAs serversIn quotaIn
+  unfolding redPart resendRed missing partOf asRed idOf decoded decodedAs place
   red-is me m =
       (λ i. pick (reds i .mine) (gather (asRed (m i) (sym held i) c) (above (reds i .low) (reds i .high))) [])
 
@@ -212,8 +211,13 @@ reds-start b q i o = sends-none (0 * q) i o
 rows : (c n q : ℕ) → c < n → (c + 1) * q ≤ n * q
 rows c n q h = mul-le-mul-right q (omega arith)
 
+pub reds-creator : (b : List ℕ) (c n : ℕ) → n ≡ numberAt 1 b atServers → c < n → c < serversIn b
+unfolding serversIn
+reds-creator b c n e h = omega arith
+
 pub reds-room : (b : List ℕ) (c n q i j : ℕ) (o o₁ : List ℕ) → n ≡ numberAt 1 b atServers → c < n → i + mostRetransmission * mostActions b ≤ length o
     → Sends (c * quotaIn b) (redParts b c) i o o₁ j → j + mostRetransmission * quotaIn b ≤ length o₁
+unfolding serversIn
 reds-room b c n q i j o o₁ e h l a =
     let m : (c + 1) * quotaIn b ≤ mostActions b = rows c (serversIn b) (quotaIn b) (omega arith) in
     let k : (c + 1) * quotaIn b ≡ c * quotaIn b + quotaIn b = omega arith in
@@ -238,6 +242,7 @@ reds-again b c i j r o o₁ o₂ l a d =
 
 pub reds-end : (b : List ℕ) (c n i r : ℕ) (o o₁ : List ℕ) → n ≡ numberAt 1 b atServers → c ≤ n → n ≤ c → Sends (c * quotaIn b) (redParts b c) i o o₁ r
     → Sends (mostActions b) (redParts b (serversIn b)) i o o₁ r
+unfolding serversIn
 reds-end b c n i r o o₁ e h l a = subst (λ (m : ℕ). Sends (m * quotaIn b) (redParts b m) i o o₁ r) (omega arith) a
 
 -- ---- the whole
@@ -265,7 +270,7 @@ pub part-fits : (P : Server → Type 0) (b : List ℕ) (xs : List Record) (r : �
 part-fits P b xs r o o₁ l a = omega (arith, holds-counts (l .state) b (l .holds) .most, a .most)
 
 whole : (b : List ℕ) → wholePart b ≡ ownPart (decoded b .servers) (decoded b .me) (decoded b .log) (collected (decoded b))
-unfolding wholePart greenPart redPart redParts ownPart decoded decodedAs serversIn quotaIn
+unfolding wholePart greenPart redPart redParts ownPart decoded decodedAs place
 whole b = refl
 
 front : (x o : List ℕ) → patched 0 x o ≡ over x o

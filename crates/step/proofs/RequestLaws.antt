@@ -8,7 +8,6 @@ use native.Mathlib.Omega.{arith}
 use mir.Syntax.{w32}
 use mir.Val.{Fits}
 use lib.ListN.{length}
-use Rattle.base.specs.Bytes.{numberAt}
 use Rattle.base.specs.Tests.{_or_}
 use Rattle.base.proofs.TestLaws.{pick-yes, pick-no, lt-holds, not-both}
 use Rattle.format.specs.Limits.{mostHeld}
@@ -25,18 +24,17 @@ use Rattle.replication.specs.Machine.Types.{Server}
 use Rattle.replication.specs.Machine.Requests.{sendsNow, quotaLeft, roomToHold, madeOf, numbered, hold}
 use Rattle.replication.specs.Machine.Step.{stored, quiet, requested}
 use Rattle.replication.specs.Machine.WellFormedRanges.{PayloadFits}
-use Rattle.engine.specs.Layout.{outLength, headerSize, atNumbered}
+use Rattle.engine.specs.Layout.{outLength}
 use Rattle.engine.specs.Header.{headerOf}
 use Rattle.engine.specs.Image.{over, image}
 use Rattle.engine.specs.Holding.{Holds}
 use Rattle.queue.proofs.Inside.{over-front}
 use Rattle.updates.specs.Lists.{PayloadRoom, nextHead}
-use Rattle.updates.proofs.Counts.{numbered-few}
 use Rattle.updates.proofs.RequestLaws.{head-made}
 use Rattle.step.specs.declared.Answer.{Answer}
 use Rattle.step.specs.Answers.{answered, outcomeOn, LentSuch, quietly, storedFirst, recordBytes}
 use Rattle.step.proofs.LentFacts.{lent-fact}
-use Rattle.step.proofs.LentLaws.{lent-counts, lent-header, holds-products, put-room, put-done, one-record}
+use Rattle.step.proofs.LentLaws.{lent-counts, holds-products, put-room, put-done, one-record}
 use Rattle.step.proofs.OutcomeLaws.{stored-outcome, quiet-outcome}
 
 -- What is known of a request that is sent.
@@ -48,9 +46,6 @@ abbrev pub Asked : List ℕ → State → Server → Type 0
 Asked p h s = PayloadFits p × (quotaLeft s ≡ true) × (roomToHold s ≡ true) × (h ≡ headerOf s)
 
 -- ---- what is asked for before each call
-
-pub next-ready : (P : Server → Type 0) (b o : List ℕ) → LentSuch P b o → (numberAt 2 b atNumbered ≤ 256) × (headerSize ≤ length b)
-next-ready P b o h = (numbered-few b (lent-counts P b o h), lent-header P b o h)
 
 pub sent-payload : (p b o : List ℕ) → LentSuch (λ s. Sent p s) b o → PayloadRoom p b
 sent-payload p b o h = record { counts = lent-counts (λ s. Sent p s) b o h; short = h .fact .0 .most }

@@ -19,14 +19,12 @@ use Rattle.replication.specs.Laws.RuleFits.{Delivered}
 use Rattle.engine.specs.Image.{modeNumber, image}
 use Rattle.engine.specs.Holding.{Holds, HoldsSuch, HoldsSome}
 use Rattle.engine.proofs.InPlace.{such-fact, holds-some}
-use Rattle.queue.specs.Queue as Queue
 use Rattle.queue.specs.Queue.{RoomIfNext}
-use Rattle.queue.proofs.Holding as holding
 use Rattle.queue.proofs.RedLaws.{room-if-next}
 use Rattle.engine.proofs.Chained.{chained, then-holds, numbers-then}
 use Rattle.step.proofs.ExchangeStates.{placed-formed, non-prim-formed, more-formed, closed-formed, last-formed}
 use Rattle.engine.specs.Layout.{atGreenLength}
-use Rattle.engine.proofs.Counts.{numbers}
+use Rattle.engine.proofs.Counts.{numbers, holds-counts}
 
 -- ---- one action, by its position
 
@@ -47,7 +45,7 @@ module _ (h : ActionHead) (p b : List ℕ) (m : HoldsSuch (λ s. Delivered s (ac
   delivered s r = such-fact (λ x. Delivered x (actionOf h p)) b s m r
 
   pub green-few : numberAt 4 b atGreenLength ≤ 2048
-  green-few = let c = holding.holds-counts (m .state) b (m .holds) in omega (arith, c .green, c .queue, c .most)
+  green-few = let c = holds-counts (m .state) b (m .holds) in omega (arith, c .green, c .queue, c .most)
 
   module _ (k x : ℕ) (e : x ≡ numberAt 4 b atGreenLength) where
     count : (s : Server) → Holds s b → x ≡ length (s .log .green)

@@ -15,7 +15,7 @@ use Rattle.replication.specs.Machine.Colours.{find}
 use Rattle.replication.specs.Machine.Plan.{resent, resendGreen, resendRed}
 use Rattle.replication.specs.Machine.Step.{collected}
 use Rattle.engine.specs.Layout.{slotSize, theQueue}
-use Rattle.engine.specs.Decode.{actionsAt, decoded, serversIn, quotaIn}
+use Rattle.engine.specs.Decode.{actionsAt, decoded, serversIn}
 use Rattle.engine.specs.Holding.{Holds}
 use Rattle.install.specs.Table.{InTable}
 use Rattle.step.specs.Answers.{recordBytes}
@@ -29,10 +29,6 @@ queueIn b = actionsAt (queueCount b) b (place theQueue b)
 
 unfoldable pub greensIn : List ℕ → List Action
 greensIn b = take (greenCount b) (queueIn b)
-
--- How many actions there can be.
-abbrev pub mostActions : List ℕ → ℕ
-mostActions b = serversIn b * quotaIn b
 
 -- Where the slot k of the queue begins.
 unfoldable pub slotPlace : List ℕ → ℕ → ℕ

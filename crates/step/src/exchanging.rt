@@ -9,7 +9,7 @@ ghost use Rattle.format.specs.Write.{write};
 ghost use Rattle.record.specs.Values.{actionOf};
 ghost use Rattle.replication.specs.Machine.Types.{Non-prim, Exchange-states, Exchange-actions, Votes, Server, withLog, inMode, contextOf};
 ghost use Rattle.replication.specs.Machine.Exchange.{quorum};
-ghost use Rattle.replication.specs.Machine.Step.{stored, collected, hereSet, placed, exchanged, oneMore, allCome, plannedNow, decided, endExchange, allStatesIn, afterStates, collectState, exchange as exchangedBy};
+ghost use Rattle.replication.specs.Machine.Step.{collected, hereSet, placed, exchanged, oneMore, allCome, plannedNow, decided, endExchange, allStatesIn, afterStates, collectState, exchange as exchangedBy};
 ghost use Rattle.replication.specs.Machine.WellFormedFacts.{Configured};
 ghost use Rattle.replication.specs.Laws.RuleFits.{Delivered};
 ghost use Rattle.engine.specs.Image.{image};

@@ -14,6 +14,8 @@ ghost use Rattle.step.specs.Sending.{ownHead, ownRecord};
 ghost use Rattle.engine.specs.Layout.{headerSize};
 use crate::Answer;
 use engine::header::load;
+use engine::places::THE_YELLOW;
+use engine::places::place_of;
 use record::State;
 use record::StateHead;
 use record::writer::Written;

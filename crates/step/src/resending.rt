@@ -22,14 +22,16 @@ ghost use Rattle.format.specs.Places.{mostRetransmission};
 ghost use Rattle.engine.specs.Decode.{serversIn, quotaIn};
 ghost use Rattle.engine.specs.Counts.{queueCount, mostActions};
 use crate::table::places;
+use engine::places::THE_QUEUE;
+use engine::places::place_of;
 use exchange::decided::resends_green;
 use exchange::decided::resends_red;
 use install::table::PLACES;
 use install::table::entry;
-use queue::places::queue_place;
 use record::State;
 use record::bytes::num8;
 use record::bytes::num32;
+use record::bytes::wider;
 use record::events::ActionAt;
 use record::frame::action_at;
 use record::writer::Written;
@@ -55,7 +57,7 @@ fn send_slot(state: &[u8], out: &mut [u8], at: usize, me: u8, position: u32, k: 
     requires { ⌜ QueueIn (now state) × (k < queueCount (now state)) × (at + mostRetransmission ≤ length (now out)) ⌝ }
     ensures { λ r. ⌜ Sends 1 (oneOf (fromPlace me position (queueIn (now (state .entry))) k)) at (now (out .entry)) (now (out .exit)) r ⌝ }
 {
-    let a = action_at(state, queue_place(state) + State::SLOT * k);
+    let a = action_at(state, place_of(state, THE_QUEUE) + State::SLOT * k);
     send_action(state, out, at, me, position, a)
 }
 
@@ -84,12 +86,6 @@ fn send_positions(state: &[u8], out: &mut [u8], at: usize, me: u8, low: u32, hig
     next
 }
 
-fn wide(k: u16) -> usize
-    ensures { λ r. ⌜ r ≡ k ⌝ }
-{
-    k as usize
-}
-
 // The action of an id; one that is not held is left out.
 fn send_index(
     state: &[u8],
@@ -104,7 +100,7 @@ fn send_index(
     ensures { λ r. ⌜ Sends 1 (oneOf (asRed me (queueIn (now (state .entry))) creator index)) at (now (out .entry)) (now (out .exit)) r ⌝ }
 {
     let p = entry(creator, index);
-    let k = wide(table[p]);
+    let k = wider(table[p]) as usize;
     if k == 0 {
         return at;
     }

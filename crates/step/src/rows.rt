@@ -1,7 +1,5 @@
 // The conditions of rows 5, 6, 3 and 4 of document 01's 'Returned numbers', from the state's numbers alone.
 ghost use mathlib.Core.Path.{_≡_};
-ghost use Prim.Native.Nat.{_<_};
-ghost use Rattle.base.specs.Sets.{inSet};
 ghost use Rattle.format.specs.Types.{Action};
 ghost use Rattle.record.specs.Values.{idOf};
 ghost use Rattle.replication.specs.Machine.Types.{Server};
@@ -9,6 +7,7 @@ ghost use Rattle.replication.specs.Machine.Requests.{sendsNow, quotaLeft, roomT
 ghost use Rattle.replication.specs.Machine.Rules.{numberedOwn, regularDue, transitionalDue, memberOf, isOf, stateIn, cpcIn};
 ghost use Rattle.engine.specs.Header.{headerOf};
 use record::State;
+use record::sets::has;
 
 // "an action or retransmission of this server's own action above those it has numbered" does not apply.
 pub fn numbered_own(h: State, creator: u8, index: u16) -> bool
@@ -37,23 +36,14 @@ pub fn transitional_due(h: State) -> bool
     h.transitional_status != 1
 }
 
-// Whether server k is in the set.
-fn in_set(k: u8, set: u8) -> bool
-    requires { ⌜ k < 8 ⌝ }
-    ensures { λ r. ⌜ r ≡ inSet k set ⌝ }
-{
-    (set >> k) % 2 == 1
-}
-
 // Whether server k is in the last regular set.
 pub fn is_member(h: State, k: u8) -> bool
-    requires { ⌜ k < 8 ⌝ }
     ensures { λ r. ⌜ ((s : Server) → h ≡ headerOf s → r ≡ memberOf (s .membership .configuration) k) ⌝ }
 {
     if h.configuration_status != 1 {
         return false;
     }
-    in_set(k, h.configuration_set)
+    has(h.configuration_set, k as usize)
 }
 
 // Whether the last regular configuration has this id.
@@ -68,18 +58,16 @@ pub fn is_of(h: State, id: u32) -> bool
 
 // Whether server k's State is in.
 pub fn state_in(h: State, k: u8) -> bool
-    requires { ⌜ k < 8 ⌝ }
     ensures { λ r. ⌜ ((s : Server) → h ≡ headerOf s → r ≡ stateIn (s .membership) k) ⌝ }
 {
-    in_set(k, h.states)
+    has(h.states, k as usize)
 }
 
 // Whether server k's CPC is in.
 pub fn cpc_in(h: State, k: u8) -> bool
-    requires { ⌜ k < 8 ⌝ }
     ensures { λ r. ⌜ ((s : Server) → h ≡ headerOf s → r ≡ cpcIn (s .membership) k) ⌝ }
 {
-    in_set(k, h.cpcs)
+    has(h.cpcs, k as usize)
 }
 
 // "sent in Reg_prim, and in Non_prim if the latest configuration since start or recovery is regular"

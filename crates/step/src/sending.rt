@@ -2,8 +2,8 @@
 ghost use mathlib.Core.Path.{_≡_};
 ghost use Prim.Native.Nat.{_+_, _*_, _≤_, _<_};
 ghost use lib.ListN.{length};
-ghost use Rattle.base.specs.Bytes.{numberAt};
 ghost use Rattle.base.specs.Patched.{patched};
+ghost use Rattle.format.specs.Limits.{mostHeld};
 ghost use Rattle.format.specs.Types.{action};
 ghost use Rattle.format.specs.Write.{write};
 ghost use Rattle.replication.specs.Machine.Types.{Server};
@@ -12,8 +12,10 @@ ghost use Rattle.engine.specs.Image.{over};
 ghost use Rattle.engine.specs.Holding.{Holds};
 ghost use Rattle.step.specs.Answers.{LentSuch, recordBytes};
 ghost use Rattle.step.specs.Sending.{heldPlace, heldHead, heldAction, HeldRoom};
-ghost use Rattle.engine.specs.Layout.{headerSize, atNumbered, heldSize};
+ghost use Rattle.engine.specs.Layout.{heldSize};
 ghost use Rattle.engine.specs.Counts.{CountsIn, heldCount};
+use engine::places::THE_HELD;
+use engine::places::place_of;
 use record::ActionHead;
 use record::State;
 use record::bytes::num8;
@@ -32,7 +34,7 @@ fn request_place(state: &[u8], k: u16) -> usize
 
 // The action that it becomes, but its payload.
 fn held_head(state: &[u8], k: u16) -> ActionHead
-    requires { ⌜ (numberAt 2 (now state) atNumbered ≤ 256) × (headerSize ≤ length (now state)) × (k ≤ 16) ⌝ }
+    requires { ⌜ CountsIn (now state) × (k ≤ mostHeld) ⌝ }
     ensures { λ r. ⌜ r ≡ heldHead (now (state .entry)) k ⌝ }
 {
     ActionHead {

@@ -13,8 +13,8 @@ Inv-loop state₀ places₀ at count j₀ state places j = (j ≤ count) × (len
 abbrev μ-loop : tie.MeasureT-loop
 μ-loop state₀ places₀ at count j₀ state places j = count - j
 
-yellow-place-requires : tie.Need-yellow-place-requires Inv-loop μ-loop
-yellow-place-requires c κs = search needs
+place-of-requires : tie.Need-place-of-requires Inv-loop μ-loop
+place-of-requires c κs = search needs
 
 num16-requires : tie.Need-num16-requires Inv-loop μ-loop
 num16-requires c κs = search needs
@@ -55,7 +55,7 @@ turn-yellow-spec =
     (tie.spec
     Inv-loop
     μ-loop
-    yellow-place-requires
+    place-of-requires
     num16-requires
     cast-count
     loop-holds

@@ -6,8 +6,8 @@ use Rattle.install.proofs.swapping.green_at.Tie as tie
 num32-requires : tie.Need-num32-requires
 num32-requires c κs = search needs
 
-queue-place-requires : tie.Need-queue-place-requires
-queue-place-requires c κs = search needs
+place-of-requires : tie.Need-place-of-requires
+place-of-requires c κs = search needs
 
 cast-exchange : tie.Need-cast-exchange
 cast-exchange c = search needs
@@ -44,7 +44,7 @@ green-at-spec =
     tie.close
     (tie.spec
     num32-requires
-    queue-place-requires
+    place-of-requires
     cast-exchange
     mul-exchange
     add-exchange

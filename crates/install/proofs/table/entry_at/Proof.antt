@@ -3,8 +3,8 @@ use borrow.Author.Needs.{needs}
 use Rattle.install.proofs.table.entry_at.Statement.{statement}
 use Rattle.install.proofs.table.entry_at.Tie as tie
 
-queue-place-requires : tie.Need-queue-place-requires
-queue-place-requires c κs = search needs
+place-of-requires : tie.Need-place-of-requires
+place-of-requires c κs = search needs
 
 mul-at : tie.Need-mul-at
 mul-at c = search needs
@@ -31,7 +31,7 @@ pub entry-at-spec : {M : Type 1} → statement M
 entry-at-spec =
     tie.close
     (tie.spec
-    queue-place-requires
+    place-of-requires
     mul-at
     add-at
     num8-requires

@@ -6,14 +6,17 @@ use Rattle.install.proofs.table.red_at.Tie as tie
 entry-requires : tie.Need-entry-requires
 entry-requires c κs = search needs
 
-mul-wide : tie.Need-mul-wide
-mul-wide c = search needs
+mul-wider : tie.Need-mul-wider
+mul-wider c = search needs
 
-element-copy-out-wide : tie.Need-element-copy-out-wide
-element-copy-out-wide c = search needs
+element-copy-out-wider : tie.Need-element-copy-out-wider
+element-copy-out-wider c = search needs
 
-wide-requires : tie.Need-wide-requires
-wide-requires c κs = search needs
+wider-requires : tie.Need-wider-requires
+wider-requires c κs = search needs
+
+cast-k : tie.Need-cast-k
+cast-k c = search needs
 
 num32-requires : tie.Need-num32-requires
 num32-requires c κs = search needs
@@ -33,17 +36,17 @@ returns c = search (needs, entry-green)
 returns-2 : tie.Need-returns-2
 returns-2 c = search (needs, entry-past)
 
-queue-place-requires : tie.Need-queue-place-requires
-queue-place-requires c κs = search needs
+place-of-requires : tie.Need-place-of-requires
+place-of-requires c κs = search needs
 
-mul-has-id : tie.Need-mul-has-id
-mul-has-id c = search needs
+mul-is-id : tie.Need-mul-is-id
+mul-is-id c = search needs
 
-add-has-id : tie.Need-add-has-id
-add-has-id c = search needs
+add-is-id : tie.Need-add-is-id
+add-is-id c = search needs
 
-has-id-requires : tie.Need-has-id-requires
-has-id-requires c κs = search needs
+is-id-requires : tie.Need-is-id-requires
+is-id-requires c κs = search needs
 
 returns-3 : tie.Need-returns-3
 returns-3 c = search (needs, entry-found)
@@ -56,18 +59,19 @@ red-at-spec =
     tie.close
     (tie.spec
     entry-requires
-    mul-wide
-    element-copy-out-wide
-    wide-requires
+    mul-wider
+    element-copy-out-wider
+    wider-requires
+    cast-k
     num32-requires
     cast-count
     num32-requires-2
     cast-if1
     returns
     returns-2
-    queue-place-requires
-    mul-has-id
-    add-has-id
-    has-id-requires
+    place-of-requires
+    mul-is-id
+    add-is-id
+    is-id-requires
     returns-3
     returns-4)

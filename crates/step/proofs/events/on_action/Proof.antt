@@ -29,7 +29,7 @@ returns-2 : tie.Need-returns-2
 returns-2 c = search (needs, action-unnumbered)
 
 is-member-requires : tie.Need-is-member-requires
-is-member-requires c κs = search (needs, creator-below)
+is-member-requires c κs = search needs
 
 refused-requires-3 : tie.Need-refused-requires-3
 refused-requires-3 c κs = search needs

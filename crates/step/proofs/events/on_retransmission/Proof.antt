@@ -31,7 +31,7 @@ returns-2 : tie.Need-returns-2
 returns-2 c = search (needs, resent-unnumbered)
 
 is-member-requires : tie.Need-is-member-requires
-is-member-requires c κs = search (needs, sender-below)
+is-member-requires c κs = search needs
 
 refused-requires-3 : tie.Need-refused-requires-3
 refused-requires-3 c κs = search needs

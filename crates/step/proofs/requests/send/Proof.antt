@@ -1,4 +1,5 @@
-use Rattle.step.proofs.RequestLaws.{next-ready, sent-payload, send-full, send-small, send-done}
+use Rattle.step.proofs.RequestLaws.{sent-payload, send-full, send-small, send-done}
+use Rattle.step.proofs.LentLaws.{lent-counts}
 use borrow.Author.Needs.{needs}
 use Rattle.step.proofs.requests.send.Statement.{statement}
 use Rattle.step.proofs.requests.send.Tie as tie
@@ -11,7 +12,7 @@ use Rattle.step.proofs.Answer.quiet.Reads as quiet-reads
 use Rattle.step.proofs.Answer.stored.Reads as stored-reads
 
 next-head-requires : tie.Need-next-head-requires
-next-head-requires c κs = search (needs, next-ready)
+next-head-requires c κs = search (needs, lent-counts)
 
 write-action-requires : tie.Need-write-action-requires
 write-action-requires c κs = search needs

@@ -6,14 +6,17 @@ use Rattle.step.proofs.resending.send_index.Tie as tie
 entry-requires : tie.Need-entry-requires
 entry-requires c κs = search needs
 
-mul-wide : tie.Need-mul-wide
-mul-wide c = search needs
+mul-wider : tie.Need-mul-wider
+mul-wider c = search needs
 
-element-copy-out-wide : tie.Need-element-copy-out-wide
-element-copy-out-wide c = search needs
+element-copy-out-wider : tie.Need-element-copy-out-wider
+element-copy-out-wider c = search needs
 
-wide-requires : tie.Need-wide-requires
-wide-requires c κs = search needs
+wider-requires : tie.Need-wider-requires
+wider-requires c κs = search needs
+
+cast-k : tie.Need-cast-k
+cast-k c = search needs
 
 returns : tie.Need-returns
 returns c = search (needs, index-none)
@@ -35,9 +38,10 @@ send-index-spec =
     tie.close
     (tie.spec
     entry-requires
-    mul-wide
-    element-copy-out-wide
-    wide-requires
+    mul-wider
+    element-copy-out-wider
+    wider-requires
+    cast-k
     returns
     sub-send-slot
     send-slot-requires

@@ -1,5 +1,5 @@
 use borrow.Author.Needs.{needs}
-use Rattle.step.proofs.PlanLaws.{reds-start, reds-room, reds-again, reds-end}
+use Rattle.step.proofs.PlanLaws.{reds-start, reds-creator, reds-room, reds-again, reds-end}
 use Rattle.step.specs.Resending.{redParts, Sends}
 use Prim.Native.Nat.{_*_, _-_, _≤_}
 use native.Mathlib.Omega.{arith}
@@ -20,7 +20,7 @@ loop-holds : tie.Need-loop-holds Inv-loop μ-loop
 loop-holds c = (omega arith, search (needs, reds-start))
 
 send-red-requires : tie.Need-send-red-requires Inv-loop μ-loop
-send-red-requires c κs = search (needs, reds-room)
+send-red-requires c κs = search (needs, reds-creator, reds-room)
 
 add-c : tie.Need-add-c Inv-loop μ-loop
 add-c c = search needs

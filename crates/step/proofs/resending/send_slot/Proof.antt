@@ -3,8 +3,8 @@ use borrow.Author.Needs.{needs}
 use Rattle.step.proofs.resending.send_slot.Statement.{statement}
 use Rattle.step.proofs.resending.send_slot.Tie as tie
 
-queue-place-requires : tie.Need-queue-place-requires
-queue-place-requires c κs = search needs
+place-of-requires : tie.Need-place-of-requires
+place-of-requires c κs = search needs
 
 mul-action-at : tie.Need-mul-action-at
 mul-action-at c = search needs
@@ -28,7 +28,7 @@ pub send-slot-spec : {M : Type 1} → statement M
 send-slot-spec =
     tie.close
     (tie.spec
-    queue-place-requires
+    place-of-requires
     mul-action-at
     add-action-at
     action-at-requires

@@ -3,11 +3,11 @@ use borrow.Author.Needs.{needs}
 use Rattle.step.proofs.rows.cpc_in.Statement.{statement}
 use Rattle.step.proofs.rows.cpc_in.Tie as tie
 
-in-set-requires : tie.Need-in-set-requires
-in-set-requires c κs = search needs
+has-requires : tie.Need-has-requires
+has-requires c κs = search needs
 
 returns : tie.Need-returns
 returns c = search (needs, cpc-told)
 
 pub cpc-in-spec : {M : Type 1} → statement M
-cpc-in-spec = tie.close (tie.spec in-set-requires returns)
+cpc-in-spec = tie.close (tie.spec has-requires returns)

@@ -4,10 +4,9 @@ use Rattle.step.proofs.sending.request_place.Statement.{statement}
 use Rattle.step.proofs.sending.request_place.Tie as tie
 use Rattle.step.proofs.sending.request_place.Reads as reads
 use Rattle.step.proofs.sending.request_place.Lts as lts
-use Rattle.updates.proofs.requests.held_place.Reads as held-place-reads
 
-held-place-requires : tie.Need-held-place-requires
-held-place-requires c κs = search needs
+place-of-requires : tie.Need-place-of-requires
+place-of-requires c κs = search needs
 
 mul-result : tie.Need-mul-result
 mul-result c = search needs
@@ -19,4 +18,4 @@ returns : tie.Need-returns
 returns c = place-made _ _ _ (search needs) (search needs) (search needs)
 
 pub request-place-spec : {M : Type 1} → statement M
-request-place-spec = tie.close (tie.spec held-place-requires mul-result add-result returns)
+request-place-spec = tie.close (tie.spec place-of-requires mul-result add-result returns)

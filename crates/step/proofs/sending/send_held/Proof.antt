@@ -1,4 +1,4 @@
-use Rattle.step.proofs.HeldLaws.{head-ready, payload-ends, held-full, held-done}
+use Rattle.step.proofs.HeldLaws.{payload-ends, held-full, held-done}
 use borrow.Author.Needs.{needs}
 use Rattle.step.proofs.sending.send_held.Statement.{statement}
 use Rattle.step.proofs.sending.send_held.Tie as tie
@@ -13,7 +13,7 @@ request-place-requires : tie.Need-request-place-requires
 request-place-requires c κs = search needs
 
 held-head-requires : tie.Need-held-head-requires
-held-head-requires c κs = search (needs, head-ready)
+held-head-requires c κs = search needs
 
 add-start : tie.Need-add-start
 add-start c = search needs
