@@ -6,6 +6,7 @@ The layout's numbers in include/guzbytor_layout.h and docs/LAYOUT.md come from m
 usage: generate.py            writes the files that are not as they should be, and names them
        generate.py --check    only names them; exit status 1 if there are any
 """
+import re
 import sys
 from pathlib import Path
 
@@ -23,9 +24,14 @@ def text_of(lines):
     return ('\n'.join(lines) + '\n').encode()
 
 
-def run_files(name):
-    told = story.told(source(name + '.story'))
+def run_files(name, told):
     return {f'samples/{name}.bin': told.input(), f'samples/{name}.txt': told.output().encode()}
+
+
+def worked_file(told):
+    """The hexadecimal digits in the proof of document 01's worked example."""
+    text = (TOP / 'crates/examples/proofs/Worked.antt').read_text()
+    return re.sub(r'hex "[0-9a-f]*"', 'hex "%s"' % told.input().hex(), text).encode()
 
 
 def vector_files(crate, groups, headed=True):
@@ -40,10 +46,11 @@ def vector_files(crate, groups, headed=True):
 
 def files():
     """Path to bytes of every file."""
-    found = {**run_files('worked'), **run_files('partition')}
+    worked, partition = story.told(source('worked.story')), story.told(source('partition.story'))
+    found = {**run_files('worked', worked), **run_files('partition', partition)}
     found['crates/replay/stdin'], found['crates/replay/stdout'] = found['samples/partition.bin'], found['samples/partition.txt']
-    run = proof_files.run_file(story.told(source('partition.story')), SOURCES + 'partition.story')
-    found['crates/examples/proofs/PartitionRun.antt'] = run.encode()
+    found['crates/examples/proofs/Worked.antt'] = worked_file(worked)
+    found['crates/examples/proofs/PartitionRun.antt'] = proof_files.run_file(partition, SOURCES + 'partition.story').encode()
     found['include/guzbytor_layout.h'] = c_header.header().encode()
     found['docs/LAYOUT.md'] = layout_page.page((TOP / 'docs/LAYOUT.md').read_text()).encode()
     found.update(vector_files('vectors', (('records', record_vectors), ('states', state_vectors))))

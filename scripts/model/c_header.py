@@ -34,7 +34,8 @@ GROUPS = (
 
 
 def header():
-    text = '/* Where records and the state\'s image have their parts (docs/LAYOUT.md), for the C files of this repository: the names have no\n   prefix. Written by scripts/generate.py. */\n'
+    text = '/* Where records and the state\'s image have their parts (docs/LAYOUT.md), for the C files of this repository: the names have no\n'
+    text += '   prefix. Written by scripts/generate.py. */\n'
     text += '#ifndef GUZBYTOR_LAYOUT_H\n#define GUZBYTOR_LAYOUT_H\n\n#include <stdint.h>\n'
     for comment, constants in GROUPS:
         text += '\n/* %s */\nenum {\n' % comment + ',\n'.join('    %s = %d' % c for c in constants) + '\n};\n'

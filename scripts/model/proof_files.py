@@ -36,7 +36,8 @@ def summary(story):
 def run_file(story, source):
     w = Witness(story)
     rows = '\n    ∷ '.join([row(e) for e in story.entries] + ['[]'])
-    return f'''-- A run of {len(story.events())} events at {story.servers} servers with the quota {story.quota}, written by scripts/generate.py from {source}.
+    size = '%d events at %d servers with the quota %d' % (len(story.events()), story.servers, story.quota)
+    return f'''-- A run of {size}, written by scripts/generate.py from {source}.
 {summary(story)}-- Assumes nothing.
 use Prim.Native.Nat.{{ℕ}}
 use mathlib.Core.List.{{List, [], _∷_}}

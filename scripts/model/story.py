@@ -22,7 +22,7 @@ HEADING = 'event server returned state red green prim sent'
 
 @dataclass
 class Entry:
-    """A crash, which has no bytes, or an event: what it was answered with, the place and number of the sending that it delivers, its configuration."""
+    """A crash, which has no bytes, or an event: its answer, the place and number of the sending that it delivers, the configuration before it."""
     server: int
     data: bytes = None
     number: int = 0

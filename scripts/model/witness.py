@@ -1,5 +1,5 @@
-"""What a story's run chose, for the audit (crates/replication/specs/Audit/Witness.antt): the sending that each delivery delivers, the names of transitional
-configurations, and the ords. Entries that share a moment (deliveries of one record or of one configuration) are one node of a graph whose edges are
+"""What a story's run chose, for the audit (crates/replication/specs/Audit/Witness.antt): the sending that each delivery delivers, the names
+of transitional configurations, and the ords. Entries that share a moment (deliveries of one record or of one configuration) are one node of a graph whose edges are
 each server's own order and sending before delivery; its nodes are numbered in an order that keeps to the edges."""
 import heapq
 from collections import defaultdict

@@ -1,6 +1,6 @@
-// Runs vectors: of records through the reader and the writers, of states through the state check. A line of the input is a vector in hexadecimal, and
-// from '#' on a label, which is written behind the answer. A line that begins with '=' is the heading of a group. What a line that begins with 'w' says
-// is written again too.
+// Runs vectors: of records through the reader and the writers, of states through the state check. A line of the input is a vector in
+// hexadecimal, and from '#' on a label, which is written behind the answer. A line that begins with '=' is the heading of a group. What a
+// line that begins with 'w' says is written again too.
 mod output;
 mod patch;
 mod reading;

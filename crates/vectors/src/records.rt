@@ -1,23 +1,18 @@
 // Vectors for the reader and the writers: the context (servers 1 byte, quota 2, own number 1, configured 1, set 1) and the event.
+ghost use Prim.Native.Nat.{_≤_};
+ghost use lib.ListN.{length};
 use crate::output::numbers;
-use crate::text;
 use crate::writing;
 use record::Context;
+use record::bytes::num16;
 use record::range::Limits;
 
-fn context(e: &[u8]) -> Context {
-    if e.len() < 6 {
-        return Context {
-            servers: 0,
-            quota: 0,
-            me: 0,
-            configured: 0,
-            set: 0,
-        };
-    }
+fn context(e: &[u8]) -> Context
+    requires { ⌜ 6 ≤ length (now e) ⌝ }
+{
     Context {
         servers: e[0],
-        quota: text::two(e[1], e[2]),
+        quota: num16(e, 1),
         me: e[3],
         configured: e[4],
         set: e[5],

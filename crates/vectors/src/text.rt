@@ -18,11 +18,6 @@ pub fn find(s: &[u8], at: usize, b: u8) -> usize
     i
 }
 
-// The number in two bytes.
-pub fn two(high: u8, low: u8) -> u16 {
-    high as u16 * 256 + low as u16
-}
-
 pub fn begins(s: &[u8], b: u8) -> bool {
     if s.len() < 1 {
         return false;
