@@ -59,6 +59,7 @@ full_state make_full_state(size_t n, size_t q, fullness what) {
         abort();
     }
     uint8_t all = (uint8_t)((1u << n) - 1);
+    b[AT_LAYOUT] = IMAGE_LAYOUT;
     b[AT_SERVERS] = (uint8_t)n;
     put(b + AT_QUOTA, 2, (uint32_t)q);
     b[AT_STATE] = MODE_EXCHANGE_ACTIONS;

@@ -214,7 +214,7 @@ uint32_t plain_state_check(const uint8_t *state, size_t state_size, const uint8_
     if (state_size < state_length(n, q) || out_size < out_length(n, q)) {
         return 7;
     }
-    if (!sizes || !numbers_ok(s) || !first_lists_ok(s)) {
+    if (!sizes || state[AT_LAYOUT] != IMAGE_LAYOUT || !numbers_ok(s) || !first_lists_ok(s)) {
         return 8;
     }
     if (!ids_ok(s, state + yellow_at(n, q), num16(state + AT_YELLOW_COUNT), ID_SIZE) || !own_ok(s) || !queue_ok(s)) {
