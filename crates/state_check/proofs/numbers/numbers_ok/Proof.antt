@@ -1,3 +1,4 @@
+use Rattle.base.proofs.TestLaws.{tests}
 use Rattle.base.proofs.Branches.{answers}
 use Rattle.state_check.specs.Numbers.{numbersOk}
 use borrow.Author.Needs.{needs}
