@@ -67,9 +67,9 @@ BecomesGreen a b b′ = BecomesWhere (λ s. Delivered s a) (λ s. withLog (green
 
 -- ---- changes of the bytes b
 
--- An action's slot.
-abbrev pub actionSlot : Action → List ℕ
-actionSlot a = slot slotSize (actionBytes a)
+-- The action a in a slot from `at` on.
+abbrev pub slotPut : (at : ℕ) → Action → List ℕ → List ℕ
+slotPut at a b = patched at (slot slotSize (actionBytes a)) b
 
 -- The last slot goes to the front; the others move up one place.
 abbrev pub lastToFront : List ℕ → List ℕ
@@ -77,7 +77,7 @@ lastToFront b = drop (length b - slotSize) b ++ take (length b - slotSize) b
 
 -- The action a behind the last one of the queue.
 unfoldable pub appended : Action → List ℕ → List ℕ
-appended a b = patched atQueueLength (bytesOf 4 (queueCount b + 1)) (patched (place theQueue b + slotSize * queueCount b) (actionSlot a) b)
+appended a b = patched atQueueLength (bytesOf 4 (queueCount b + 1)) (slotPut (place theQueue b + slotSize * queueCount b) a b)
 
 -- The same, and its creator's cut.
 unfoldable pub queued : Action → List ℕ → List ℕ

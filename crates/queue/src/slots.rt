@@ -8,7 +8,7 @@ ghost use Rattle.base.specs.Patched.{patched};
 ghost use Rattle.format.specs.Limits.{mostPayload};
 ghost use Rattle.record.specs.Values.{actionOf};
 ghost use Rattle.engine.specs.Layout.{slotSize};
-ghost use Rattle.queue.specs.Queue.{actionSlot, lastToFront};
+ghost use Rattle.queue.specs.Queue.{slotPut, lastToFront};
 use record::ActionHead;
 use record::State;
 use record::blocks::clear;
@@ -18,7 +18,7 @@ use record::parts::put_body;
 // An action's slot from `at` on: its bytes, filled up with zeros.
 pub fn put_slot(state: &mut [u8], at: usize, head: ActionHead, payload: &[u8])
     requires { ⌜ (length (now payload) ≤ mostPayload) × (at + slotSize ≤ length (now state)) ⌝ }
-    ensures { λ _. ⌜ now (state .exit) ≡ patched at (actionSlot (actionOf head (now (payload .entry)))) (now (state .entry)) ⌝ }
+    ensures { λ _. ⌜ now (state .exit) ≡ slotPut at (actionOf head (now (payload .entry))) (now (state .entry)) ⌝ }
 {
     put_body(state, at, head, payload);
     clear(

@@ -116,9 +116,9 @@ MayHold s = length (s .held) < mostHeld
 
 -- ---- changes of the bytes b
 
--- A held request's slot.
-abbrev pub heldSlot : List ℕ → List ℕ
-heldSlot p = slot heldSize (payloadBytes p)
+-- The held request p in a slot from `at` on.
+abbrev pub heldPut : (at : ℕ) → (p b : List ℕ) → List ℕ
+heldPut at p b = patched at (slot heldSize (payloadBytes p)) b
 
 -- The numbers of actions numbered, and on the own list.
 abbrev pub ownCounts : (numbered own : ℕ) → List ℕ → List ℕ

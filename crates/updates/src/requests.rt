@@ -9,9 +9,9 @@ ghost use Rattle.record.specs.Values.{actionOf};
 ghost use Rattle.replication.specs.Machine.Requests.{numbered as withNumbered, hold as withHeld};
 ghost use Rattle.engine.specs.Layout.{heldSize, slotSize, headerSize, atHeldCount};
 ghost use Rattle.engine.specs.Holding.{BecomesWhere};
-ghost use Rattle.updates.specs.Lists.{PayloadRoom, SlotRoom, nextHead, ownCounts, heldSlot, MayNumber, MayHold};
+ghost use Rattle.updates.specs.Lists.{PayloadRoom, SlotRoom, nextHead, ownCounts, heldPut, MayNumber, MayHold};
 ghost use Rattle.engine.specs.Counts.{CountsIn};
-ghost use Rattle.queue.specs.Queue.{actionSlot};
+ghost use Rattle.queue.specs.Queue.{slotPut};
 use engine::places::THE_HELD;
 use engine::places::THE_OWN;
 use engine::places::place_of;
@@ -48,7 +48,7 @@ pub fn put_counts(state: &mut [u8], numbered: u16, own: u16)
 // An action's slot at `at`, and the counts.
 fn push_own(state: &mut [u8], at: usize, head: ActionHead, payload: &[u8], numbered: u16, own: u16)
     requires { ⌜ SlotRoom slotSize at (now payload) (now state) ⌝ }
-    ensures { λ _. ⌜ now (state .exit) ≡ ownCounts numbered own (patched at (actionSlot (actionOf head (now (payload .entry)))) (now (state .entry))) ⌝ }
+    ensures { λ _. ⌜ now (state .exit) ≡ ownCounts numbered own (slotPut at (actionOf head (now (payload .entry))) (now (state .entry))) ⌝ }
 {
     put_slot(state, at, head, payload);
     put_counts(state, numbered, own);
@@ -76,7 +76,7 @@ pub fn number(state: &mut [u8], payload: &[u8])
 // A held request's slot from `at` on: its payload, filled up with zeros.
 fn put_held(state: &mut [u8], at: usize, payload: &[u8])
     requires { ⌜ SlotRoom heldSize at (now payload) (now state) ⌝ }
-    ensures { λ _. ⌜ now (state .exit) ≡ patched at (heldSlot (now (payload .entry))) (now (state .entry)) ⌝ }
+    ensures { λ _. ⌜ now (state .exit) ≡ heldPut at (now (payload .entry)) (now (state .entry)) ⌝ }
 {
     put_payload(state, at, payload);
     clear(
@@ -89,7 +89,7 @@ fn put_held(state: &mut [u8], at: usize, payload: &[u8])
 // The same, and the count.
 fn push_held(state: &mut [u8], at: usize, payload: &[u8], count: u16)
     requires { ⌜ SlotRoom heldSize at (now payload) (now state) ⌝ }
-    ensures { λ _. ⌜ now (state .exit) ≡ patched atHeldCount (bytesOf 2 count) (patched at (heldSlot (now (payload .entry))) (now (state .entry))) ⌝ }
+    ensures { λ _. ⌜ now (state .exit) ≡ patched atHeldCount (bytesOf 2 count) (heldPut at (now (payload .entry)) (now (state .entry))) ⌝ }
 {
     put_held(state, at, payload);
     put16(state, State::AT_HELD_COUNT, count);
