@@ -32,19 +32,20 @@ use Rattle.install.proofs.Turning.{turned-decoded, turned-append, turne
 use Rattle.engine.proofs.Counts.{numbers, holds-place}
 use Rattle.engine.specs.Counts.{yellowCount, place}
 use Rattle.updates.proofs.YellowLaws.{holds-ids}
+use Rattle.format.specs.Places.{idSize}
 
 turned-as : (ds es : List Id) (b u c : List ℕ) → ds ≡ es → Turned ds b u c → Turned es b u c
 turned-as ds es b u c e h = subst (λ (x : List Id). Turned x b u c) e h
 
 -- ---- the yellow list
 
-ids-at : (m : ℕ) (e : List ℕ) (p k : ℕ) → k < m → at (idsAt m e p) k ≡ some (idAt e (p + 3 * k))
+ids-at : (m : ℕ) (e : List ℕ) (p k : ℕ) → k < m → at (idsAt m e p) k ≡ some (idAt e (p + idSize * k))
 unfolding idsAt at
 ids-at zero e p k h = absurd (omega arith)
-ids-at (suc m) e p zero h = let f : p ≡ p + 3 * 0 = omega arith in ap (λ (i : ℕ). some (idAt e i)) f
+ids-at (suc m) e p zero h = let f : p ≡ p + idSize * 0 = omega arith in ap (λ (i : ℕ). some (idAt e i)) f
 ids-at (suc m) e p (suc k) h =
-    let f : p + 3 + 3 * k ≡ p + 3 * suc k = omega arith in
-    ids-at m e (p + 3) k (omega arith) ∙ ap (λ (i : ℕ). some (idAt e i)) f
+    let f : p + idSize + idSize * k ≡ p + idSize * suc k = omega arith in
+    ids-at m e (p + idSize) k (omega arith) ∙ ap (λ (i : ℕ). some (idAt e i)) f
 
 pub turned-read : (b t₁ b₁ : List ℕ) (p x y : ℕ) → x ≡ numberAt 1 b p → y ≡ numberAt 2 b (p + 1) → Turned (idOf x y ∷ []) b t₁ b₁
     → Turned (idAt b p ∷ []) b t₁ b₁
@@ -71,29 +72,29 @@ module _ (b₀ : List ℕ) (s₀ : HoldsSome b₀) where
   yellow-count = numbers (decoded b₀) b₀ (such-decoded _ b₀ s₀) .yellow
 
   yellow-id : (ds : List Id) (t b : List ℕ) (j n p : ℕ) → Turned ds b₀ t b → p ≡ place theYellow b₀ → n ≡ numberAt 2 b₀ atYellowCount → j < n
-      → at (yellowsIn b₀) j ≡ some (idAt b (p + 3 * j))
+      → at (yellowsIn b₀) j ≡ some (idAt b (p + idSize * j))
   yellow-id ds t b j n p e f g h =
       let kept = yellow-kept ds t b e in
       let r = such-decoded _ b (e .indexed .holds) in
       let many : j < numberAt 2 b atYellowCount = omega (arith, numbers (decoded b) b r .yellow, ap length kept, yellow-count) in
       ap (λ (l : List Id). at l j) (sym kept ∙ sym (holds-ids (decoded b) b r))
       ∙ ids-at (numberAt 2 b atYellowCount) b (place theYellow b) j many
-      ∙ ap (λ (q : ℕ). some (idAt b (q + 3 * j))) (yellow-place ds t b e ∙ sym f)
+      ∙ ap (λ (q : ℕ). some (idAt b (q + idSize * j))) (yellow-place ds t b e ∙ sym f)
 
   pub yellow-in : (ds : List Id) (t b : List ℕ) (j n p : ℕ) → Turned ds b₀ t b → p ≡ place theYellow b₀ → n ≡ numberAt 2 b₀ atYellowCount → j < n
-      → InTable (numberAt 1 b (p + 3 * j)) (numberAt 2 b (p + 3 * j + 1))
+      → InTable (numberAt 1 b (p + idSize * j)) (numberAt 2 b (p + idSize * j + 1))
   unfolding yellowsIn idAt
   yellow-in ds t b j n p e f g h =
       let v : Server = decoded b₀ in
       let facts = well-formed-facts v (such-decoded _ b₀ s₀ .formed) in
-      let fits = each-at (IdFits (v .servers) (v .quota)) (v .votes .yellow .ids) j (idAt b (p + 3 * j)) (facts .votes .yellow .ids) (yellow-id ds t b j n p e f g h) in
+      let fits = each-at (IdFits (v .servers) (v .quota)) (v .votes .yellow .ids) j (idAt b (p + idSize * j)) (facts .votes .yellow .ids) (yellow-id ds t b j n p e f g h) in
       record { creator = omega (arith, facts .sizes .most); least = fits .least; most = omega (arith, facts .sizes .highest) }
 
   pub yellow-again : (t b t₁ b₁ : List ℕ) (j n p : ℕ) → Turned (take j (yellowsIn b₀)) b₀ t b → p ≡ place theYellow b₀ → n ≡ numberAt 2 b₀ atYellowCount → j < n
-      → Turned (idAt b (p + 3 * j) ∷ []) b t₁ b₁ → Turned (take (j + 1) (yellowsIn b₀)) b₀ t₁ b₁
+      → Turned (idAt b (p + idSize * j) ∷ []) b t₁ b₁ → Turned (take (j + 1) (yellowsIn b₀)) b₀ t₁ b₁
   yellow-again t b t₁ b₁ j n p e f g h turn =
       let ids : List Id = yellowsIn b₀ in
-      let d : Id = idAt b (p + 3 * j) in
+      let d : Id = idAt b (p + idSize * j) in
       turned-as (take j ids ++ (d ∷ [])) (take (j + 1) ids) b₀ t₁ b₁
       (sym (ap (λ (m : ℕ). take m ids) (add-one j) ∙ take-next ids j d (yellow-id (take j ids) t b j n p e f g h)))
       (turned-append (take j ids) (d ∷ []) b₀ t b t₁ b₁ s₀ e turn)

@@ -1,7 +1,7 @@
 -- The table of places: filled, looked up, kept by a swap.
 -- Assumes nothing.
 use Prim.Native.Nat.{ℕ, _+_, _*_, _-_, _≤_, _<_}
-use mathlib.Core.Path.{_≡_, refl, sym, ap, _∙_}
+use mathlib.Core.Path.{_≡_, refl, sym, ap, _∙_, subst}
 use mathlib.Core.List.{List}
 use mathlib.Core.Option.{some}
 use native.Mathlib.Decide.{ℕ-discrete}
@@ -30,11 +30,11 @@ use Rattle.engine.specs.Holding.{Holds, HoldsSome}
 use Rattle.engine.proofs.InPlace.{such-decoded, such-header}
 use Rattle.queue.proofs.Holding.{log-fits}
 use Rattle.queue.proofs.ReadLaws.{queue-read, actions-at}
-use Rattle.install.specs.Table.{logIn, InTable, Indexed}
+use Rattle.install.specs.Table.{logIn, InTable, Indexed, IndexedFrom, idIn}
 use Rattle.install.proofs.Places.{same-place}
 use Rattle.install.proofs.SwapLaws.{Once}
 use Rattle.engine.specs.Counts.{queueCount, greenCount, place, CountsIn}
-use Rattle.engine.proofs.Counts.{numbers, queue-parts, holds-counts}
+use Rattle.engine.proofs.Counts.{numbers, such-counts}
 
 -- ---- the place of an id in the table
 
@@ -46,7 +46,7 @@ module _ (s : Server) (b : List ℕ) (r : Holds s b) where
   id-in : (k : ℕ) (a : Action) → at (queue (s .log)) k ≡ some a → IdRange (contextOf s) (a .id)
   id-in k a e = each-at (ActionRange (contextOf s)) (queue (s .log)) k a (in-range s (r .formed) .actions) e .id
 
-  pub id-low : (k : ℕ) (a : Action) → at (queue (s .log)) k ≡ some a → slot (a .id) < 2048
+  pub id-low : (k : ℕ) (a : Action) → at (queue (s .log)) k ≡ some a → slot (a .id) < mostServers * mostQuota
   id-low k a e = slot-lt (contextOf s) (a .id) small (id-in k a e)
 
   pub queue-once : Once (queue (s .log))
@@ -96,9 +96,6 @@ entry-in b k p x y s h e f g =
     let i : y ≡ a .id .index = ap (λ (j : Id). j .index) d in
     record { creator = omega arith; least = omega arith; most = omega arith }
 
-pub some-counts : (b : List ℕ) → HoldsSome b → CountsIn b
-some-counts b s = holds-counts (s .state) b (s .holds)
-
 pub count-inside : (b : List ℕ) → HoldsSome b → atQueueLength + 4 ≤ length b
 count-inside b s = omega (arith, such-header _ b s)
 
@@ -107,36 +104,39 @@ green-inside b s = omega (arith, such-header _ b s)
 
 -- ---- filled
 
--- The table has the places of the red actions before k.
-pub record Filled (k : ℕ) (t b : List ℕ) : Type 0 where
+-- The table has the places of the actions from `first` on before k.
+pub record Filled (first k : ℕ) (t b : List ℕ) : Type 0 where
   pub counts : CountsIn b
   pub size : length t ≡ mostServers * mostQuota
-  pub low : greenCount b ≤ k
+  pub low : first ≤ k
   pub high : k ≤ queueCount b
-  pub right : (j : ℕ) (a : Action) → length (logIn b .green) ≤ j → j < k → at (queue (logIn b)) j ≡ some a → getD t (slot (a .id)) 0 ≡ j
+  pub right : (j : ℕ) (a : Action) → first ≤ j → j < k → at (queue (logIn b)) j ≡ some a → getD t (slot (a .id)) 0 ≡ j
 
 module _ (b : List ℕ) (s : HoldsSome b) where
   pub green-read : greenCount b ≡ length (logIn b .green)
   unfolding logIn
   green-read = numbers (decoded b) b (such-decoded _ b s) .green
 
-  pub queue-count : queueCount b ≡ length (logIn b .green) + length (logIn b .red)
+  pub queue-count : queueCount b ≡ length (queue (logIn b))
   unfolding logIn
-  queue-count = numbers (decoded b) b (such-decoded _ b s) .queue ∙ queue-parts ((decoded b) .log)
+  queue-count = numbers (decoded b) b (such-decoded _ b s) .queue
 
-  pub filled-start : (k : ℕ) (t : List ℕ) → k ≡ numberAt 4 b atGreenLength → t ≡ replicate {A = ℕ} 2048 0 → Filled k t b
-  filled-start k t e f = record {
-    counts = some-counts b s;
-    size = ap length f ∙ length-replicate {A = ℕ} 2048 0;
+  pub green-first : (g : ℕ) → g ≡ numberAt 4 b atGreenLength → g ≤ queueCount b
+  green-first g e = omega (arith, such-counts _ b s .green)
+
+  pub filled-start : (first : ℕ) (t : List ℕ) → first ≤ queueCount b → t ≡ replicate {A = ℕ} (mostServers * mostQuota) 0 → Filled first first t b
+  filled-start first t h f = record {
+    counts = such-counts _ b s;
+    size = ap length f ∙ length-replicate {A = ℕ} (mostServers * mostQuota) 0;
     low = omega arith;
-    high = omega (arith, some-counts b s .green);
-    right = λ j a h l m. absurd (omega (arith, green-read));
+    high = h;
+    right = λ j a l m. absurd (omega arith);
   }
 
-  pub filled-again : (k p n : ℕ) (t : List ℕ) → Filled k t b → n ≡ numberAt 4 b atQueueLength → k < n → p ≡ slot (idAt b (place theQueue b + slotSize * k)) → p < 2048
-      → Filled (k + 1) (set t p k) b
+  pub filled-again : (first k p n : ℕ) (t : List ℕ) → Filled first k t b → n ≡ numberAt 4 b atQueueLength → k < n → p ≡ slot (idIn b k)
+      → p < mostServers * mostQuota → Filled first (k + 1) (set t p k) b
   unfolding logIn
-  filled-again k p n t f count h e l = record {
+  filled-again first k p n t f count h e l = record {
     counts = f .counts;
     size = length-set t p k ∙ f .size;
     low = omega (arith, f .low);
@@ -144,12 +144,12 @@ module _ (b : List ℕ) (s : HoldsSome b) where
     right = right;
   }
     where
-      right : (j : ℕ) (a : Action) → length ((decoded b) .log .green) ≤ j → j < k + 1 → at (queue ((decoded b) .log)) j ≡ some a
+      right : (j : ℕ) (a : Action) → first ≤ j → j < k + 1 → at (queue ((decoded b) .log)) j ≡ some a
           → getD (set t p k) (slot (a .id)) 0 ≡ j
       right j a low lt m = go (ℕ-discrete j k)
         where
           here : (i : ℕ) (x : Action) → i ≡ k → at (queue ((decoded b) .log)) i ≡ some x → p ≡ slot (x .id)
-          here i x q n = e ∙ ap (λ (z : ℕ). slot (idAt b (place theQueue b + slotSize * z))) (sym q) ∙ ap slot (read-id (decoded b) b (such-decoded _ b s) i x n)
+          here i x q n = e ∙ ap (λ (z : ℕ). slot (idIn b z)) (sym q) ∙ ap slot (read-id (decoded b) b (such-decoded _ b s) i x n)
 
           go : Dec (j ≡ k) → getD (set t p k) (slot (a .id)) 0 ≡ j
           go (yes q) = ap (λ (z : ℕ). getD (set t p k) z 0) (sym (here j a q m)) ∙ getD-set-same t p k 0 (omega (arith, f .size)) ∙ sym q
@@ -159,11 +159,19 @@ module _ (b : List ℕ) (s : HoldsSome b) where
               let apart : slot (a .id) ≡ p → ⊥ = λ z. slots-apart (decoded b) b (such-decoded _ b s) j k a x m there q (z ∙ here k x refl there) in
               getD-set-other t p (slot (a .id)) k 0 apart ∙ f .right j a low (omega arith) m
 
-  pub filled-end : (k n : ℕ) (t : List ℕ) → Filled k t b → n ≡ numberAt 4 b atQueueLength → n ≤ k → Indexed t b
+  pub filled-end : (first k n : ℕ) (t : List ℕ) → Filled first k t b → n ≡ numberAt 4 b atQueueLength → n ≤ k → IndexedFrom first t b
   unfolding logIn
-  filled-end k n t f m h = record {
+  filled-end first k n t f m h = record {
     holds = s;
     counts = f .counts;
     size = f .size;
+    low = omega (arith, f .low, f .high);
     right = λ j a low z. f .right j a low (omega (arith, at-low (queue ((decoded b) .log)) j a z, numbers (decoded b) b (such-decoded _ b s) .queue)) z;
   }
+
+-- The code's number of green actions.
+pub indexed-green : (g : ℕ) (t b : List ℕ) → g ≡ numberAt 4 b atGreenLength → Indexed t b → IndexedFrom g t b
+indexed-green g t b e x = subst (λ (m : ℕ). IndexedFrom m t b) (sym e) x
+
+pub green-indexed : (g : ℕ) (t b : List ℕ) → g ≡ numberAt 4 b atGreenLength → IndexedFrom g t b → Indexed t b
+green-indexed g t b e x = subst (λ (m : ℕ). IndexedFrom m t b) e x

@@ -27,6 +27,7 @@ use Rattle.install.specs.Swaps.{greenSwaps}
 use Rattle.install.specs.Table.{logIn, Indexed, Turned}
 use Rattle.install.proofs.SwapFits.{swaps-kept, swaps-fits, swaps-append}
 use Rattle.engine.proofs.Counts.{holds-counts}
+use Rattle.install.proofs.TableLaws.{green-read}
 
 -- ---- the state that is left
 
@@ -95,8 +96,12 @@ module _ (s : Server) (b t : List ℕ) (r : Holds s b) (size : length t ≡ most
     holds = holds-some s b r;
     counts = holds-counts s b r;
     size = size;
-    right =
-        subst
-        (λ (v : Server). (k : ℕ) (a : Action) → length (v .log .green) ≤ k → at (queue (v .log)) k ≡ some a → getD t (slot (a .id)) 0 ≡ k)
-        (sym (holds-decoded s b r)) right;
+    low = holds-counts s b r .green;
+    right = λ k a h e. decoded-right k a (omega (arith, green-read b (holds-some s b r))) e;
   }
+    where
+      decoded-right : (k : ℕ) (a : Action) → length ((decoded b) .log .green) ≤ k → at (queue ((decoded b) .log)) k ≡ some a → getD t (slot (a .id)) 0 ≡ k
+      decoded-right =
+          subst
+          (λ (v : Server). (k : ℕ) (a : Action) → length (v .log .green) ≤ k → at (queue (v .log)) k ≡ some a → getD t (slot (a .id)) 0 ≡ k)
+          (sym (holds-decoded s b r)) right

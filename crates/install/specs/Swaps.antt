@@ -40,4 +40,5 @@ exchanged i j b = patched j (partAt slotSize b i) (patched i (partAt slotSize b 
 
 -- The action at the place k of the queue and the lowest red one change places, and the green length is one more.
 unfoldable pub greenAt : ℕ → List ℕ → List ℕ
-greenAt k b = patched atGreenLength (bytesOf 4 (greenCount b + 1)) (exchanged (place theQueue b + slotSize * greenCount b) (place theQueue b + slotSize * k) b)
+greenAt k b =
+    patched atGreenLength (bytesOf 4 (greenCount b + 1)) (exchanged (place theQueue b + slotSize * greenCount b) (place theQueue b + slotSize * k) b)

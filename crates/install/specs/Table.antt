@@ -4,7 +4,7 @@ use Prim.Native.Nat.{ℕ, _+_, _*_, _≤_, _<_}
 use mathlib.Core.Path.{_≡_}
 use mathlib.Core.List.{List, map}
 use mathlib.Core.Option.{some}
-use lib.ListN.{length, getD}
+use lib.ListN.{length, getD, drop}
 use Rattle.base.specs.Lists.{above, at}
 use Rattle.format.specs.Limits.{mostServers, mostQuota}
 use Rattle.format.specs.Types.{Id, Action}
@@ -17,7 +17,11 @@ use Rattle.engine.specs.Decode.{decoded}
 use Rattle.engine.specs.Holding.{HoldsSome}
 use Rattle.queue.specs.Queue.{position}
 use Rattle.install.specs.Swaps.{greenSwaps}
-use Rattle.engine.specs.Counts.{CountsIn}
+use Rattle.engine.specs.Counts.{CountsIn, queueCount, greenCount, place}
+use Rattle.engine.specs.Layout.{theQueue, slotSize}
+use Rattle.format.specs.Read.{idAt}
+use Rattle.format.specs.Places.{idSize}
+use Rattle.base.specs.Bytes.{numberAt}
 
 unfoldable pub logIn : List ℕ → Log
 logIn b = (decoded b) .log
@@ -29,9 +33,13 @@ yellowsIn b = (decoded b) .votes .yellow .ids
 unfoldable pub idsOf : ℕ → List ℕ → List Id
 idsOf c b = map (idOf c) (above 0 (cut (logIn b) c))
 
--- The place in the queue of the red action with the id d: the number of actions where there is none.
-unfoldable pub redPlace : Id → List ℕ → ℕ
-redPlace d b = length (logIn b .green) + position d (logIn b .red)
+-- The place in the queue, from `first` on, of the action with the id d: the number of actions where there is none.
+unfoldable pub placeFrom : (first : ℕ) → Id → List ℕ → ℕ
+placeFrom first d b = first + position d (drop first (queue (logIn b)))
+
+-- The id in the slot k of the queue.
+abbrev pub idIn : List ℕ → (k : ℕ) → Id
+idIn b k = idAt b (place theQueue b + slotSize * k)
 
 -- An id that has a place in the table.
 pub record InTable (c i : ℕ) : Type 0 where
@@ -39,12 +47,22 @@ pub record InTable (c i : ℕ) : Type 0 where
   pub least : 1 ≤ i
   pub most : i ≤ mostQuota
 
--- The table t has each red action's place in the queue at its id; what it has at other ids does not matter.
-pub record Indexed (t b : List ℕ) : Type 0 where
+-- An id lies at `at`, and has a place in the table.
+pub record IdInside (at : ℕ) (b : List ℕ) : Type 0 where
+  pub inside : at + idSize ≤ length b
+  pub entry : InTable (numberAt 1 b at) (numberAt 2 b (at + 1))
+
+-- The table t has the place in the queue of each action from the place `first` on at its id; what it has at other ids does not matter.
+pub record IndexedFrom (first : ℕ) (t b : List ℕ) : Type 0 where
   pub holds : HoldsSome b
   pub counts : CountsIn b
   pub size : length t ≡ mostServers * mostQuota
-  pub right : (k : ℕ) (a : Action) → length (logIn b .green) ≤ k → at (queue (logIn b)) k ≡ some a → getD t (slot (a .id)) 0 ≡ k
+  pub low : first ≤ queueCount b
+  pub right : (k : ℕ) (a : Action) → first ≤ k → at (queue (logIn b)) k ≡ some a → getD t (slot (a .id)) 0 ≡ k
+
+-- That of the red actions.
+abbrev pub Indexed : (t b : List ℕ) → Type 0
+Indexed t b = IndexedFrom (greenCount b) t b
 
 -- The actions with the ids ds turned green one after the other: the buffer b became c, and u is a table of c.
 pub record Turned (ds : List Id) (b u c : List ℕ) : Type 0 where

@@ -1,12 +1,9 @@
 // The ids in Install's order, each turned green: a pass over the yellow list and one over the cuts.
 ghost use mathlib.Core.List.{[], _∷_};
-ghost use Prim.Native.Nat.{_+_, _≤_, _<_};
-ghost use lib.ListN.{length};
-ghost use Rattle.base.specs.Bytes.{numberAt};
-ghost use Rattle.format.specs.Places.{idSize};
+ghost use Prim.Native.Nat.{_+_, _<_};
 ghost use Rattle.format.specs.Read.{idAt};
 ghost use Rattle.replication.specs.Machine.Install.{idsUpTo};
-ghost use Rattle.install.specs.Table.{logIn, yellowsIn, idsOf, InTable, Indexed, Turned};
+ghost use Rattle.install.specs.Table.{logIn, yellowsIn, idsOf, Indexed, Turned, IdInside};
 ghost use Rattle.engine.specs.Decode.{serversIn};
 use crate::table::PLACES;
 use crate::table::turn_green;
@@ -18,7 +15,7 @@ use record::bytes::num16;
 
 // The action with the id at `at` turns green if it is red.
 fn turn_at(state: &mut [u8], places: &mut [u16; PLACES], at: usize)
-    requires { ⌜ Indexed (now places) (now state) × (at + idSize ≤ length (now state)) × InTable (numberAt 1 (now state) at) (numberAt 2 (now state) (at + 1)) ⌝ }
+    requires { ⌜ Indexed (now places) (now state) × IdInside at (now state) ⌝ }
     ensures { λ _. ⌜ Turned (idAt (now (state .entry)) at ∷ []) (now (state .entry)) (now (places .exit)) (now (state .exit)) ⌝ }
 {
     let creator = num8(state, at);

@@ -1,15 +1,13 @@
-// The table of places: at each id, where in the queue its action stands if it is red. Any other entry is told by the place that it names: the
-// action there is not red, or has another id.
+// The table of places: at each id, where in the queue its action stands, for the actions from a given place on. Any other entry is told by the
+// place that it names: the action there comes before that place, or has another id.
 ghost use mathlib.Core.Path.{_≡_};
 ghost use mathlib.Core.List.{[], _∷_};
 ghost use Prim.Native.Nat.{_+_, _*_, _≤_, _<_};
 ghost use Rattle.format.specs.Limits.{mostServers, mostQuota};
-ghost use Rattle.format.specs.Read.{idAt};
 ghost use Rattle.record.specs.Values.{idOf, slot};
-ghost use Rattle.engine.specs.Layout.{slotSize, theQueue};
 ghost use Rattle.engine.specs.Holding.{HoldsSome};
-ghost use Rattle.install.specs.Table.{redPlace, InTable, Indexed, Turned};
-ghost use Rattle.engine.specs.Counts.{queueCount, greenCount, place, CountsIn};
+ghost use Rattle.install.specs.Table.{placeFrom, InTable, IndexedFrom, Indexed, Turned, idIn};
+ghost use Rattle.engine.specs.Counts.{queueCount, CountsIn};
 use crate::swapping::green_at;
 use engine::places::THE_QUEUE;
 use engine::places::place_of;
@@ -33,20 +31,20 @@ pub fn entry(creator: u8, index: u16) -> usize
 // The same for the action at the place k of the queue.
 pub fn entry_at(state: &[u8], k: usize) -> usize
     requires { ⌜ HoldsSome (now state) × CountsIn (now state) × (k < queueCount (now state)) ⌝ }
-    ensures { λ r. ⌜ (r ≡ slot (idAt (now (state .entry)) (place theQueue (now (state .entry)) + slotSize * k))) × (r < mostServers * mostQuota) ⌝ }
+    ensures { λ r. ⌜ (r ≡ slot (idIn (now (state .entry)) k)) × (r < mostServers * mostQuota) ⌝ }
 {
     let at = place_of(state, THE_QUEUE) + State::SLOT * k;
     entry(num8(state, at), num16(state, at + 1))
 }
 
-// The table of the red actions.
-pub fn table(state: &[u8]) -> [u16; PLACES]
-    requires { ⌜ HoldsSome (now state) ⌝ }
-    ensures { λ r. ⌜ Indexed r (now (state .entry)) ⌝ }
+// The table of the actions from the place `first` on.
+pub fn table(state: &[u8], first: usize) -> [u16; PLACES]
+    requires { ⌜ HoldsSome (now state) × (first ≤ queueCount (now state)) ⌝ }
+    ensures { λ r. ⌜ IndexedFrom first r (now (state .entry)) ⌝ }
 {
     let mut places: [u16; PLACES] = [0; PLACES];
     let count = num32(state, State::AT_QUEUE_LENGTH) as usize;
-    let mut k = num32(state, State::AT_GREEN_LENGTH) as usize;
+    let mut k = first;
     while k < count {
         let p = entry_at(state, k);
         places[p] = k as u16;
@@ -55,14 +53,20 @@ pub fn table(state: &[u8]) -> [u16; PLACES]
     places
 }
 
-// The place in the queue of the red action with this id: the number of actions where there is none.
-fn red_at(state: &[u8], places: &[u16; PLACES], creator: u8, index: u16) -> usize
-    requires { ⌜ Indexed (now places) (now state) × InTable creator index ⌝ }
-    ensures { λ r. ⌜ (r ≡ redPlace (idOf creator index) (now (state .entry))) × (greenCount (now (state .entry)) ≤ r) ⌝ }
+// The place in the queue, from `first` on, of the action with this id: the number of actions where there is none.
+pub fn place_in(
+    state: &[u8],
+    places: &[u16; PLACES],
+    first: usize,
+    creator: u8,
+    index: u16,
+) -> usize
+    requires { ⌜ IndexedFrom first (now places) (now state) × InTable creator index ⌝ }
+    ensures { λ r. ⌜ (r ≡ placeFrom first (idOf creator index) (now (state .entry))) × (first ≤ r) ⌝ }
 {
     let k = wider(places[entry(creator, index)]) as usize;
     let count = num32(state, State::AT_QUEUE_LENGTH) as usize;
-    if k < num32(state, State::AT_GREEN_LENGTH) as usize {
+    if k < first {
         return count;
     }
     if count <= k {
@@ -84,11 +88,12 @@ pub fn turn_green(state: &mut [u8], places: &mut [u16; PLACES], creator: u8, ind
     requires { ⌜ Indexed (now places) (now state) × InTable creator index ⌝ }
     ensures { λ _. ⌜ Turned (idOf creator index ∷ []) (now (state .entry)) (now (places .exit)) (now (state .exit)) ⌝ }
 {
-    let k = red_at(state, places, creator, index);
+    let green = num32(state, State::AT_GREEN_LENGTH) as usize;
+    let k = place_in(state, places, green, creator, index);
     if num32(state, State::AT_QUEUE_LENGTH) as usize <= k {
         return;
     }
-    let lowest = entry_at(state, num32(state, State::AT_GREEN_LENGTH) as usize);
+    let lowest = entry_at(state, green);
     green_at(state, k);
     places[lowest] = k as u16;
 }

@@ -3,7 +3,7 @@
 use Prim.Native.Nat.{ℕ, suc, _+_, _*_, _-_, _≤_, _<_}
 use mathlib.Core.Path.{_≡_}
 use mathlib.Core.List.{List, [], _∷_, _++_}
-use lib.ListN.{drop}
+use lib.ListN.{length, take, drop}
 use Rattle.base.specs.Tests.{pick}
 use Rattle.base.specs.Bytes.{bytesOf, numberAt, partAt}
 use Rattle.base.specs.Patched.{patched}
@@ -12,7 +12,12 @@ use Rattle.format.specs.Types.{Id, Action}
 use Rattle.format.specs.Range.{sameId}
 use Rattle.format.specs.Write.{actionBytes}
 use Rattle.engine.specs.Layout.{headerSize, slotSize, theQueue, atQueueLength, atGreenLength, atOwnCount}
-use Rattle.engine.specs.Image.{slot}
+use Rattle.engine.specs.Image.{slot, image}
+use Rattle.engine.specs.Holding.{Holds, BecomesWhere}
+use Rattle.replication.specs.Machine.Types.{Server, withLog}
+use Rattle.replication.specs.Machine.Colours.{isNext, enter, red, green}
+use Rattle.replication.specs.Laws.RuleFits.{Delivered}
+use mathlib.Core.Bool.{true}
 use Rattle.engine.specs.Decode.{actionsAt, serversIn}
 use Rattle.engine.specs.Counts.{queueCount, greenCount, place, mostActions, CountsIn}
 
@@ -39,11 +44,40 @@ pub record RoomIfNext (c i m : ℕ) (b : List ℕ) : Type 0 where
   pub short : m ≤ mostPayload
   pub room : numberAt 2 b (headerSize + 2 * c) + 1 ≡ i → queueCount b < mostActions b
 
+-- The slot k from `at` on lies inside the buffer.
+pub record SlotIn (at k : ℕ) (b : List ℕ) : Type 0 where
+  pub header : headerSize ≤ length b
+  pub inside : at + (slotSize * k + slotSize) ≤ length b
+
+-- ---- changes of a state in place, from the bytes b to the bytes b′
+
+-- The action a entered.
+abbrev pub withEntered : Action → Server → Server
+withEntered a s = withLog (enter a (s .log)) s
+
+-- "An action is entered only if its index is its creator's cut plus one".
+abbrev pub BecomesEntered : Action → (b b′ : List ℕ) → Type 0
+BecomesEntered a b b′ = (s : Server) → Holds s b → Delivered s a → isNext (s .log) a ≡ true → b′ ≡ image (withEntered a s) b
+
+abbrev pub BecomesRed : Action → (b b′ : List ℕ) → Type 0
+BecomesRed a b b′ = BecomesWhere (λ s. Delivered s a) (λ s. withLog (red a (s .log)) s) b b′
+
+abbrev pub BecomesGreen : Action → (b b′ : List ℕ) → Type 0
+BecomesGreen a b b′ = BecomesWhere (λ s. Delivered s a) (λ s. withLog (green a (s .log)) s) b b′
+
 -- ---- changes of the bytes b
+
+-- The action a in a slot from `at` on.
+abbrev pub slotPut : (at : ℕ) → Action → List ℕ → List ℕ
+slotPut at a b = patched at (slot slotSize (actionBytes a)) b
+
+-- The last slot goes to the front; the others move up one place.
+abbrev pub lastToFront : List ℕ → List ℕ
+lastToFront b = drop (length b - slotSize) b ++ take (length b - slotSize) b
 
 -- The action a behind the last one of the queue.
 unfoldable pub appended : Action → List ℕ → List ℕ
-appended a b = patched atQueueLength (bytesOf 4 (queueCount b + 1)) (patched (place theQueue b + slotSize * queueCount b) (slot slotSize (actionBytes a)) b)
+appended a b = patched atQueueLength (bytesOf 4 (queueCount b + 1)) (slotPut (place theQueue b + slotSize * queueCount b) a b)
 
 -- The same, and its creator's cut.
 unfoldable pub queued : Action → List ℕ → List ℕ

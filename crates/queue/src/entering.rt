@@ -1,16 +1,10 @@
 // An action is entered: it joins the queue's red part, its creator's cut rises, and an own action leaves the own list.
 ghost use mathlib.Core.Path.{_≡_};
-ghost use mathlib.Core.Bool.{true};
 ghost use Prim.Native.Nat.{_+_, _*_, _≤_};
 ghost use lib.ListN.{length};
 ghost use Rattle.record.specs.Values.{actionOf};
-ghost use Rattle.replication.specs.Machine.Types.{Server, withLog};
-ghost use Rattle.replication.specs.Machine.Colours.{isNext, enter as entered, red as reddened};
-ghost use Rattle.replication.specs.Laws.RuleFits.{Delivered};
 ghost use Rattle.engine.specs.Layout.{slotSize, headerSize};
-ghost use Rattle.engine.specs.Image.{image};
-ghost use Rattle.engine.specs.Holding.{Holds, BecomesWhere};
-ghost use Rattle.queue.specs.Queue.{RoomFor, RoomIfNext, appended, queued, popped};
+ghost use Rattle.queue.specs.Queue.{RoomFor, RoomIfNext, appended, queued, popped, BecomesEntered, BecomesRed};
 use crate::slots::put_slot;
 use crate::slots::shift_down;
 use engine::places::THE_OWN;
@@ -58,7 +52,7 @@ fn pop_own(state: &mut [u8], at: usize, own: u16)
 // entered."
 pub fn enter(state: &mut [u8], head: ActionHead, payload: &[u8])
     requires { ⌜ RoomFor (head .creator) (length (now payload)) (now state) ⌝ }
-    ensures { λ _. ⌜ ((s : Server) → Holds s (now (state .entry)) → Delivered s (actionOf head (now (payload .entry))) → isNext (s .log) (actionOf head (now (payload .entry))) ≡ true → now (state .exit) ≡ image (withLog (entered (actionOf head (now (payload .entry))) (s .log)) s) (now (state .entry))) ⌝ }
+    ensures { λ _. ⌜ BecomesEntered (actionOf head (now (payload .entry))) (now (state .entry)) (now (state .exit)) ⌝ }
 {
     let me = num8(state, State::AT_ME);
     let own = num16(state, State::AT_OWN_COUNT);
@@ -77,7 +71,7 @@ pub fn enter(state: &mut [u8], head: ActionHead, payload: &[u8])
 // The action is entered if it is its creator's next one; "any other is ignored".
 pub fn red(state: &mut [u8], head: ActionHead, payload: &[u8])
     requires { ⌜ RoomIfNext (head .creator) (head .index) (length (now payload)) (now state) ⌝ }
-    ensures { λ _. ⌜ BecomesWhere (λ s. Delivered s (actionOf head (now (payload .entry)))) (λ s. withLog (reddened (actionOf head (now (payload .entry))) (s .log)) s) (now (state .entry)) (now (state .exit)) ⌝ }
+    ensures { λ _. ⌜ BecomesRed (actionOf head (now (payload .entry))) (now (state .entry)) (now (state .exit)) ⌝ }
 {
     let cut = num16(state, State::SIZE + 2 * head.creator as usize);
     if cut as u32 + 1 != head.index as u32 {

@@ -1,15 +1,14 @@
 // An action turns green.
 ghost use mathlib.Core.Path.{_≡_};
 ghost use Prim.Native.Nat.{_+_, _*_, _-_, _≤_, _<_};
-ghost use lib.ListN.{length};
 ghost use Rattle.record.specs.Values.{idOf, actionOf};
 ghost use Rattle.replication.specs.Machine.Types.{withLog};
-ghost use Rattle.replication.specs.Machine.Colours.{greenId, green as greened};
+ghost use Rattle.replication.specs.Machine.Colours.{greenId};
 ghost use Rattle.replication.specs.Laws.RuleFits.{Delivered};
-ghost use Rattle.engine.specs.Layout.{slotSize, headerSize};
-ghost use Rattle.engine.specs.Holding.{HoldsSuch, Becomes, BecomesWhere};
-ghost use Rattle.queue.specs.Queue.{position, redsIn, promoted};
+ghost use Rattle.engine.specs.Holding.{HoldsSuch, Becomes};
+ghost use Rattle.queue.specs.Queue.{position, redsIn, promoted, BecomesGreen, SlotIn};
 ghost use Rattle.engine.specs.Counts.{queueCount, greenCount, CountsIn};
+ghost use Rattle.format.specs.Limits.{mostServers, mostQuota};
 use crate::entering::red;
 use crate::finding::find;
 use crate::slots::last_to_front;
@@ -22,7 +21,7 @@ use record::parts::put32;
 
 // The slot k from `at` on goes to the front of those before it.
 fn promote(state: &mut [u8], at: usize, k: usize, green: u32)
-    requires { ⌜ (headerSize ≤ length (now state)) × (at + (slotSize * k + slotSize) ≤ length (now state)) × (green ≤ 4096) ⌝ }
+    requires { ⌜ SlotIn at k (now state) × (green ≤ mostServers * mostQuota) ⌝ }
     ensures { λ _. ⌜ now (state .exit) ≡ promoted at k (green + 1) (now (state .entry)) ⌝ }
 {
     let end = at + (State::SLOT * k + State::SLOT);
@@ -75,7 +74,7 @@ pub fn green_id(state: &mut [u8], creator: u8, index: u16)
 // "As red, then" green.
 pub fn green(state: &mut [u8], head: ActionHead, payload: &[u8])
     requires { ⌜ HoldsSuch (λ s. Delivered s (actionOf head (now payload))) (now state) ⌝ }
-    ensures { λ _. ⌜ BecomesWhere (λ s. Delivered s (actionOf head (now (payload .entry)))) (λ s. withLog (greened (actionOf head (now (payload .entry))) (s .log)) s) (now (state .entry)) (now (state .exit)) ⌝ }
+    ensures { λ _. ⌜ BecomesGreen (actionOf head (now (payload .entry))) (now (state .entry)) (now (state .exit)) ⌝ }
 {
     red(state, head, payload);
     green_id(state, head.creator, head.index);

@@ -6,10 +6,9 @@ ghost use lib.ListN.{length, take, drop};
 ghost use Rattle.base.specs.Bytes.{partAt};
 ghost use Rattle.base.specs.Patched.{patched};
 ghost use Rattle.format.specs.Limits.{mostPayload};
-ghost use Rattle.format.specs.Write.{actionBytes};
 ghost use Rattle.record.specs.Values.{actionOf};
 ghost use Rattle.engine.specs.Layout.{slotSize};
-ghost use Rattle.engine.specs.Image.{slot};
+ghost use Rattle.queue.specs.Queue.{slotPut, lastToFront};
 use record::ActionHead;
 use record::State;
 use record::blocks::clear;
@@ -19,7 +18,7 @@ use record::parts::put_body;
 // An action's slot from `at` on: its bytes, filled up with zeros.
 pub fn put_slot(state: &mut [u8], at: usize, head: ActionHead, payload: &[u8])
     requires { ⌜ (length (now payload) ≤ mostPayload) × (at + slotSize ≤ length (now state)) ⌝ }
-    ensures { λ _. ⌜ now (state .exit) ≡ patched at (slot slotSize (actionBytes (actionOf head (now (payload .entry))))) (now (state .entry)) ⌝ }
+    ensures { λ _. ⌜ now (state .exit) ≡ slotPut at (actionOf head (now (payload .entry))) (now (state .entry)) ⌝ }
 {
     put_body(state, at, head, payload);
     clear(
@@ -71,7 +70,7 @@ pub fn slot_at(s: &[u8], at: usize) -> [u8; State::SLOT]
 // The last slot goes to the front; the others move up one place.
 pub fn last_to_front(s: &mut [u8])
     requires { ⌜ slotSize ≤ length (now s) ⌝ }
-    ensures { λ _. ⌜ now (s .exit) ≡ drop (length (now (s .entry)) - slotSize) (now (s .entry)) ++ take (length (now (s .entry)) - slotSize) (now (s .entry)) ⌝ }
+    ensures { λ _. ⌜ now (s .exit) ≡ lastToFront (now (s .entry)) ⌝ }
 {
     let last = slot_at(s, s.len() - State::SLOT);
     shift_up(s, State::SLOT);

@@ -27,6 +27,5 @@ pub mod JoinLaws
 pub mod VotesLaws
 pub mod HeldLaws
 pub mod StatesLaws
-pub mod TableLaws
 pub mod ResendingLaws
 pub mod PlanLaws

@@ -4,21 +4,18 @@ use Prim.Native.Nat.{ℕ, zero, suc, _+_, _*_, _-_, _≤_, _<_}
 use mathlib.Core.Path.{_≡_, refl, sym, ap, ap₂, subst, _∙_}
 use mathlib.Core.Bool.{true, false, not}
 use mathlib.Core.List.{List, [], _∷_, _++_, append-nil}
-use mathlib.Core.Option.{some}
 use native.Mathlib.Omega.{arith}
 use native.Mathlib.Nat.{mul-le-mul-right}
 use lib.ListN.{length, drop, take-append-drop}
 use borrow.Author.Tests.{not-true, not-false}
 use Rattle.base.specs.Bytes.{numberAt, joined}
 use Rattle.base.proofs.Comparable.{gather-all-append}
-use Rattle.base.specs.Lists.{at, gather, gatherAll, above, below, Each}
-use Rattle.base.proofs.ListLaws.{each-at}
+use Rattle.base.specs.Lists.{gather, gatherAll, above, below, Each}
 use Rattle.base.proofs.Occurs.{Occurs, occurs-first, occurs-second}
 use Rattle.base.specs.Patched.{patched}
 use Rattle.base.specs.Tests.{pick}
 use Rattle.base.proofs.TestLaws.{pick-yes, pick-no}
 use Rattle.format.specs.Types.{Action, Record, Context}
-use Rattle.format.specs.Read.{idAt, actionAt}
 use Rattle.format.specs.Write.{actionBytes}
 use Rattle.format.proofs.Fields.{action-read}
 use Rattle.format.proofs.Ranges.{ContextRange, ActionRange}
@@ -39,11 +36,9 @@ use Rattle.engine.specs.Holding.{Holds, HoldsSuch, HoldsSome}
 use Rattle.engine.proofs.InPlace.{holds-decoded, holds-some}
 use Rattle.engine.proofs.InRange.{in-range}
 use Rattle.engine.proofs.Used.{action-slot-length}
-use Rattle.queue.proofs.ReadLaws.{queue-read, actions-at}
 use Rattle.step.specs.Answers.{LentSuch, recordBytes}
 use Rattle.exchange.specs.Decided.{partOf}
 use Rattle.exchange.specs.declared.decided.Part.{Part}
-use Rattle.install.specs.Table.{InTable}
 use Rattle.step.specs.Resending.{queueIn, greensIn, slotPlace, QueueIn, atPosition, asRed, Sends, Stated, greenPart}
 use Rattle.step.specs.Resending.{redPart, redParts, wholePart}
 use Rattle.step.proofs.ResendingLaws.{sends-none, sends-next}
@@ -79,26 +74,12 @@ module _ (s : Server) (b : List ℕ) (r : Holds s b) where
       subst (λ (c : List ℕ). Occurs (actionSlots (queue (s .log))) c (place theQueue b)) (r .written)
       (subst (Occurs (actionSlots (queue (s .log))) (image s b)) (sym (holds-place s b r theQueue)) u)
 
-  ids-in : (k : ℕ) → k < queueCount b → InTable (numberAt 1 b (slotPlace b k)) (numberAt 2 b (slotPlace b k + 1))
-  unfolding slotPlace actionAt idAt contextOf
-  ids-in k h =
-      let there : at (queue (s .log)) k ≡ some (actionAt b (place theQueue b + slotSize * k)) =
-      ap (λ (l : List Action). at l k) (sym (queue-read s b r)) ∙ actions-at (queueCount b) b (place theQueue b) k h in
-      let i = in-range s (r .formed) in
-      let z = each-at (ActionRange (contextOf s)) (queue (s .log)) k (actionAt b (place theQueue b + slotSize * k)) (i .actions) there .id in
-      record {
-        creator = omega (arith, z .creator, i .context .sizes .most);
-        least = omega (arith, z .least);
-        most = omega (arith, z .most, i .context .sizes .highest);
-      }
-
   holds-queue : QueueIn b
   unfolding slotPlace
   holds-queue =
       let i = in-range s (r .formed) in
       record {
         counts = holds-counts s b r;
-        ids = ids-in;
         payloads = λ k h.
             slot-payload (contextOf s) (queue (s .log)) b (place theQueue b) k (i .context) (i .actions) slots-there
             (omega (arith, numbers s b r .queue));
@@ -115,6 +96,9 @@ more-asked m k p r xs o o₁ h s = record { place = s .place; most = omega (arit
 
 same-sent : (m p r : ℕ) (xs ys : List Record) (o o₁ : List ℕ) → xs ≡ ys → Sends m xs p o o₁ r → Sends m ys p o o₁ r
 same-sent m p r xs ys o o₁ e s = subst (λ (l : List Record). Sends m l p o o₁ r) e s
+
+pub stated-some : (b : List ℕ) → Stated b → HoldsSome b
+stated-some b s = holds-some (decoded b) b (s .holds)
 
 module _ (b : List ℕ) (s : Stated b) where
   facts : Body (decoded b)

@@ -1,11 +1,11 @@
 -- Retransmissions written one after another.
 -- Assumes nothing.
-use Prim.Native.Nat.{ℕ, zero, suc, _+_, _*_, _-_, _≤_, _<_}
+use Prim.Native.Nat.{ℕ, _+_, _*_, _-_, _≤_, _<_}
 use mathlib.Core.Path.{_≡_, refl, sym, ap, ap₂, subst, _∙_}
 use mathlib.Core.List.{List, [], _∷_, _++_, append-nil, map, map-append}
 use mathlib.Core.Option.{Option, none, some}
 use native.Mathlib.Omega.{arith}
-use lib.ListN.{length, getD, take, drop, length-append, length-take}
+use lib.ListN.{length, take, drop, length-append, length-take}
 use Rattle.base.proofs.AtLaws.{at-take, at-past-take}
 use Rattle.base.specs.Bytes.{numberAt, partAt, joined}
 use Rattle.base.proofs.BytesLaws.{joined-append}
@@ -22,18 +22,24 @@ use Rattle.record.specs.declared.events.ActionAt.{ActionAt}
 use Rattle.record.specs.declared.writer.Written.{Written}
 use Rattle.record.specs.declared.writer.Written.the-variants.{Next, Full}
 use Rattle.record.specs.Events.{actionIn, actionFrom}
-use Rattle.record.specs.Values.{idOf, actionOf, slot}
+use Rattle.record.specs.Values.{idOf, actionOf}
 use Rattle.record.specs.Written.{next, full, put, putOf}
 use Rattle.replication.specs.Machine.Colours.{find}
 use Rattle.replication.specs.Machine.Plan.{resent}
-use Rattle.engine.specs.Layout.{slotSize, atGreenLength, theQueue}
+use Rattle.engine.specs.Layout.{slotSize, atGreenLength, theQueue, atQueueLength}
 use Rattle.engine.proofs.Slots.{actions-count}
-use Rattle.queue.proofs.ReadLaws.{actions-at, slot-read}
+use Rattle.queue.proofs.ReadLaws.{actions-at, slot-read, find-at, queue-read}
 use Rattle.step.specs.Answers.{recordBytes}
-use Rattle.install.specs.Table.{InTable}
-use Rattle.step.specs.Resending.{queueIn, greensIn, slotPlace, QueueIn, named, Filled, fromPlace, atPosition, asRed, oneOf, Sends}
+use Rattle.install.specs.Table.{IndexedFrom, placeFrom, logIn}
+use Rattle.step.specs.Resending.{queueIn, greensIn, slotPlace, QueueIn, fromPlace, atPosition, asRed, oneOf, Sends}
 use Rattle.format.specs.Places.{mostRetransmission}
 use Rattle.engine.specs.Counts.{queueCount, greenCount, place}
+use Rattle.queue.specs.Queue.{position}
+use Rattle.engine.proofs.InPlace.{such-decoded}
+use Rattle.engine.specs.Decode.{decoded}
+use native.Mathlib.Nat.{zero-add}
+use lib.Seq.{take-all}
+use Rattle.replication.specs.Machine.WellFormed.{queue}
 
 -- ---- none, one, and more
 
@@ -161,36 +167,29 @@ position-sent b me g p i r o o₁ e h l s =
 
 -- ---- an id
 
-module _ (b t : List ℕ) (c i p k : ℕ) (f : Filled 0 t (queueIn b)) (n : InTable c i) (e : p ≡ slot (idOf c i)) (g : k ≡ getD t p 0) where
-  found : find (idOf c i) (queueIn b) ≡ named (queueIn b) k
-  unfolding idOf
-  found = sym (ap (named (queueIn b)) (g ∙ ap (λ (j : ℕ). getD t j 0) e) ∙ f .names (idOf c i) n)
+module _ (b t : List ℕ) (c i k n : ℕ) (f : IndexedFrom 0 t b) (g : k ≡ placeFrom 0 (idOf c i) b) (m : n ≡ numberAt 4 b atQueueLength) where
+  stands : k ≡ position (idOf c i) (queueIn b)
+  unfolding placeFrom queueIn logIn
+  stands =
+      g ∙ zero-add (position (idOf c i) (queue ((decoded b) .log))) ∙ ap (position (idOf c i)) (sym (queue-read (decoded b) b (such-decoded _ b (f .holds))))
 
-  pub index-none : (me j : ℕ) (o : List ℕ) → k ≡ 0 → Sends 1 (oneOf (asRed me (queueIn b) c i)) j o o j
-  unfolding asRed named oneOf resent atFront
-  index-none me j o z =
-      subst (λ (x : Option Action). Sends 1 (oneOf (resent me 0 x)) j o o j) (sym (found ∙ ap (named (queueIn b)) z)) (sends-none 1 j o)
+  found : find (idOf c i) (queueIn b) ≡ at (queueIn b) k
+  found = find-at (idOf c i) (queueIn b) ∙ ap (at (queueIn b)) (sym stands)
 
-  pub index-low : (k ≡ 0 → ⊥) → k - 1 < queueCount b
+  past : n ≤ k → at (queueIn b) k ≡ none
   unfolding queueIn
-  index-low z = omega (arith, f .low p, actions-count (queueCount b) b (place theQueue b), pos)
-    where
-      pos : 1 ≤ k
-      pos = go k z
-        where
-          go : (m : ℕ) → (m ≡ 0 → ⊥) → 1 ≤ m
-          go zero d = absurd (d refl)
-          go (suc m) d = omega arith
+  past h =
+      let all : length (queueIn b) ≡ queueCount b = actions-count (queueCount b) b (place theQueue b) in
+      ap (λ (l : List Action). at l k) (sym (take-all (length (queueIn b)) (queueIn b) (omega arith))) ∙ at-past-take (length (queueIn b)) (queueIn b) k (omega arith)
 
-  pub index-sent : (me j r : ℕ) (o o₁ : List ℕ) → (k ≡ 0 → ⊥) → Sends 1 (oneOf (fromPlace me 0 (queueIn b) (k - 1))) j o o₁ r
+  pub index-none : (me j : ℕ) (o : List ℕ) → n ≤ k → Sends 1 (oneOf (asRed me (queueIn b) c i)) j o o j
+  unfolding asRed oneOf resent atFront
+  index-none me j o h = subst (λ (x : Option Action). Sends 1 (oneOf (resent me 0 x)) j o o j) (sym (found ∙ past h)) (sends-none 1 j o)
+
+  pub index-sent : (me j r : ℕ) (o o₁ : List ℕ) → Sends 1 (oneOf (fromPlace me 0 (queueIn b) k)) j o o₁ r
       → Sends 1 (oneOf (asRed me (queueIn b) c i)) j o o₁ r
-  unfolding asRed fromPlace named
-  index-sent me j r o o₁ z s =
-      subst (λ (x : Option Action). Sends 1 (oneOf (resent me 0 x)) j o o₁ r) (sym (found ∙ there k z)) s
-    where
-      there : (m : ℕ) → (m ≡ 0 → ⊥) → named (queueIn b) m ≡ at (queueIn b) (m - 1)
-      there zero d = absurd (d refl)
-      there (suc m) d = let u : suc m - 1 ≡ m = omega arith in ap (at (queueIn b)) (sym u)
+  unfolding asRed fromPlace
+  index-sent me j r o o₁ s = subst (λ (x : Option Action). Sends 1 (oneOf (resent me 0 x)) j o o₁ r) (sym found) s
 
 -- ---- all from `low` to `high`
 

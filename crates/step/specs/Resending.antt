@@ -1,26 +1,27 @@
 -- One's part of the retransmission plan, over the buffers.
 -- Assumes nothing.
-use Prim.Native.Nat.{ℕ, zero, suc, _+_, _*_, _-_, _≤_, _<_}
+use Prim.Native.Nat.{ℕ, _+_, _*_, _-_, _≤_, _<_}
 use mathlib.Core.Path.{_≡_}
 use mathlib.Core.List.{List, [], _++_}
-use mathlib.Core.Option.{Option, none}
-use lib.ListN.{length, getD, take, drop}
+use mathlib.Core.Option.{Option}
+use lib.ListN.{length, take}
 use Rattle.base.specs.Bytes.{numberAt}
 use Rattle.base.specs.Lists.{at, atFront, gatherAll, below}
 use Rattle.base.specs.Patched.{patched}
-use Rattle.format.specs.Limits.{mostServers, mostQuota, mostPayload}
-use Rattle.format.specs.Types.{Id, Action, Record}
-use Rattle.record.specs.Values.{idOf, slot}
+use Rattle.format.specs.Limits.{mostPayload}
+use Rattle.format.specs.Types.{Action, Record}
+use Rattle.record.specs.Values.{idOf}
 use Rattle.replication.specs.Machine.Colours.{find}
 use Rattle.replication.specs.Machine.Plan.{resent, resendGreen, resendRed}
 use Rattle.replication.specs.Machine.Step.{collected}
 use Rattle.engine.specs.Layout.{slotSize, theQueue}
 use Rattle.engine.specs.Decode.{actionsAt, decoded, serversIn}
 use Rattle.engine.specs.Holding.{Holds}
-use Rattle.install.specs.Table.{InTable}
+use Rattle.install.specs.Table.{IndexedFrom}
 use Rattle.step.specs.Answers.{recordBytes}
 use Rattle.format.specs.Places.{mostRetransmission}
 use Rattle.engine.specs.Counts.{CountsIn, queueCount, greenCount, place}
+use Rattle.record.specs.Blocks.{headSize}
 
 -- ---- the queue of the buffer b
 
@@ -34,28 +35,14 @@ greensIn b = take (greenCount b) (queueIn b)
 unfoldable pub slotPlace : List ℕ → ℕ → ℕ
 slotPlace b k = place theQueue b + slotSize * k
 
--- The numbers of the buffer are in range, and so is each action of its queue.
+-- The numbers of the buffer are in range, and so is each payload of its queue.
 pub record QueueIn (b : List ℕ) : Type 0 where
   pub counts : CountsIn b
-  pub ids : (k : ℕ) → k < queueCount b → InTable (numberAt 1 b (slotPlace b k)) (numberAt 2 b (slotPlace b k + 1))
-  pub payloads : (k : ℕ) → k < queueCount b → numberAt 1 b (slotPlace b k + 7) ≤ mostPayload
-
--- ---- the table of places
-
--- The action that an entry names: none by 0, and else one place less.
-unfoldable pub named : List Action → ℕ → Option Action
-named l zero = none
-named l (suc k) = at l k
-
--- The table t names at each id the first of the actions from the place k on that has it.
-pub record Filled (k : ℕ) (t : List ℕ) (l : List Action) : Type 0 where
-  pub size : length t ≡ mostServers * mostQuota
-  pub low : (i : ℕ) → getD t i 0 ≤ length l
-  pub names : (d : Id) → InTable (d .creator) (d .index) → named l (getD t (slot d) 0) ≡ find d (drop k l)
+  pub payloads : (k : ℕ) → k < queueCount b → numberAt 1 b (slotPlace b k + headSize) ≤ mostPayload
 
 -- The table of the whole queue of the buffer b.
 abbrev pub TableOf : (t b : List ℕ) → Type 0
-TableOf t b = Filled 0 t (queueIn b)
+TableOf t b = IndexedFrom 0 t b
 
 -- ---- what is sent
 
@@ -71,7 +58,7 @@ atPosition me l p = resent me p (at l (p - 1))
 unfoldable pub asRed : ℕ → List Action → ℕ → ℕ → Option Record
 asRed me l c i = resent me 0 (find (idOf c i) l)
 
--- The records rs from `at` on, of at most 65 bytes for each of m that were asked for; the place behind them is r.
+-- The records rs from `at` on, none longer than the longest retransmission, for each of m that were asked for; the place behind them is r.
 pub record Sends (m : ℕ) (rs : List Record) (at : ℕ) (old new : List ℕ) (r : ℕ) : Type 0 where
   pub place : r ≡ at + length (recordBytes rs)
   pub most : r ≤ at + mostRetransmission * m

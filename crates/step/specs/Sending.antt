@@ -14,11 +14,12 @@ use Rattle.record.specs.Values.{actionOf}
 use Rattle.replication.specs.Machine.Types.{Server}
 use Rattle.replication.specs.Machine.Requests.{numberedFrom}
 use Rattle.replication.specs.Machine.Step.{ownState}
-use Rattle.engine.specs.Layout.{heldSize, theHeld, atMe, atGreenLength, atNumbered}
+use Rattle.engine.specs.Layout.{heldSize, theHeld, atMe}
 use Rattle.engine.specs.Decode.{heldAt}
 use Rattle.updates.specs.Lists.{configurationOf}
 use Rattle.step.specs.Answers.{recordBytes}
-use Rattle.engine.specs.Counts.{CountsIn, heldCount, place}
+use Rattle.engine.specs.Counts.{CountsIn, heldCount, place, greenCount, numberedIn}
+use Rattle.format.specs.Places.{mostAction}
 
 -- The numbers of the State that a server with the numbers h sends in the configuration of this id.
 unfoldable pub ownHead : Numbers → (id : ℕ) → StateHead
@@ -46,18 +47,18 @@ heldPlace b k = place theHeld b + heldSize * k
 
 -- The action that it becomes, but its payload.
 unfoldable pub heldHead : List ℕ → (k : ℕ) → ActionHead
-heldHead b k = record { creator = numberAt 1 b atMe; index = numberAt 2 b atNumbered + k + 1; «green_length» = numberAt 4 b atGreenLength }
+heldHead b k = record { creator = numberAt 1 b atMe; index = numberedIn b + k + 1; «green_length» = greenCount b }
 
 unfoldable pub heldAction : List ℕ → (k : ℕ) → Action
 heldAction b k = actionOf (heldHead b k) (payloadAt b (heldPlace b k))
 
 -- The first k of them as the records of the actions that they become.
 unfoldable pub heldBytes : List ℕ → (k : ℕ) → List ℕ
-heldBytes b k = recordBytes (map action (numberedFrom (numberAt 1 b atMe) (numberAt 4 b atGreenLength) (numberAt 2 b atNumbered) (heldAt k b (place theHeld b))))
+heldBytes b k = recordBytes (map action (numberedFrom (numberAt 1 b atMe) (greenCount b) (numberedIn b) (heldAt k b (place theHeld b))))
 
 -- There is a request k, and room for its record at `at` in o.
 pub record HeldRoom (k at : ℕ) (b o : List ℕ) : Type 0 where
   pub counts : CountsIn b
   pub below : k < heldCount b
   pub short : numberAt 1 b (heldPlace b k) ≤ mostPayload
-  pub room : at + (12 + mostPayload) ≤ length o
+  pub room : at + mostAction ≤ length o

@@ -17,6 +17,7 @@ ghost use Rattle.engine.specs.Header.{headerOf};
 ghost use Rattle.engine.specs.Holding.{Holds, HoldsSuch};
 ghost use Rattle.step.specs.Answers.{answered, outcomeOn, LentSuch, InForce, StateInForce, AnswersAlone, AnswersAs};
 ghost use Rattle.step.specs.Events.{Takes, modeAfter};
+ghost use Rattle.format.specs.Limits.{mostServers};
 use crate::Answer;
 use crate::colours::green_and_note;
 use crate::colours::yellow;
@@ -136,7 +137,7 @@ pub fn on_retransmission(
 
 // Row 6 does not apply to the State of server k in configuration `id`.
 fn state_from_member(h: State, k: u8, id: u32) -> bool
-    requires { ⌜ k < 8 ⌝ }
+    requires { ⌜ k < mostServers ⌝ }
     ensures { λ r. ⌜ ((s : Server) (x : FormatState) → h ≡ headerOf s → x .sender ≡ k → x .configuration ≡ id → r ≡ fromMember (s .membership) (stateRecord x)) ⌝ }
 {
     if !is_member(h, k) {
@@ -179,7 +180,7 @@ fn takes_cpc(mode: u8) -> bool
 
 // Row 6 does not apply to the CPC of server k in configuration `id`.
 fn cpc_from_member(h: State, k: u8, id: u32) -> bool
-    requires { ⌜ k < 8 ⌝ }
+    requires { ⌜ k < mostServers ⌝ }
     ensures { λ r. ⌜ ((s : Server) → h ≡ headerOf s → r ≡ fromMember (s .membership) (cpc k id)) ⌝ }
 {
     if !is_member(h, k) {

@@ -68,7 +68,7 @@ fn decide_all(state: &mut [u8])
     let mut ids: [u8; record::State::IDS] = [0; record::State::IDS];
     let v = taken_votes(state);
     let count = taken_yellow(state, &mut ids);
-    let end = 3 * count;
+    let end = record::State::ID * count;
     let votes = with_count(v, count as u16);
     decide(state, votes, &ids[..end]);
 }

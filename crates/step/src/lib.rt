@@ -9,7 +9,6 @@ pub mod requests; // requests.rt: requests numbered and sent, or held
 pub mod joining; // joining.rt: regular configurations
 pub mod sending; // sending.rt: held requests as records
 pub mod installing; // installing.rt: Install
-pub mod table; // table.rt: where in the queue each id stands
 pub mod resending; // resending.rt: one's part of the plan
 pub mod exchanging; // exchanging.rt: States and retransmissions, and the end of an exchange
 pub mod events; // events.rt: each kind of event

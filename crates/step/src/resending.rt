@@ -21,17 +21,17 @@ ghost use Rattle.engine.specs.Layout.{atMe};
 ghost use Rattle.format.specs.Places.{mostRetransmission};
 ghost use Rattle.engine.specs.Decode.{serversIn, quotaIn};
 ghost use Rattle.engine.specs.Counts.{queueCount, mostActions};
-use crate::table::places;
+ghost use Rattle.format.specs.Limits.{mostServers, mostQuota, mostPayload};
 use engine::places::THE_QUEUE;
 use engine::places::place_of;
 use exchange::decided::resends_green;
 use exchange::decided::resends_red;
 use install::table::PLACES;
-use install::table::entry;
+use install::table::place_in;
+use install::table::table;
 use record::State;
 use record::bytes::num8;
 use record::bytes::num32;
-use record::bytes::wider;
 use record::events::ActionAt;
 use record::frame::action_at;
 use record::writer::Written;
@@ -39,7 +39,7 @@ use record::writer::write_retransmission;
 
 // Writes an action that lies in the state: the place behind its record.
 fn send_action(state: &[u8], out: &mut [u8], at: usize, me: u8, position: u32, a: ActionAt) -> usize
-    requires { ⌜ (a .«payload_length» ≤ 48) × (a .«payload_at» + a .«payload_length» ≤ length (now state)) × (at + mostRetransmission ≤ length (now out)) ⌝ }
+    requires { ⌜ (a .«payload_length» ≤ mostPayload) × (a .«payload_at» + a .«payload_length» ≤ length (now state)) × (at + mostRetransmission ≤ length (now out)) ⌝ }
     ensures { λ r. ⌜ Sends 1 (retransmission me position (actionFrom a (now (state .entry))) ∷ []) at (now (out .entry)) (now (out .exit)) r ⌝ }
 {
     let head = a.head;
@@ -91,20 +91,19 @@ fn send_index(
     state: &[u8],
     out: &mut [u8],
     at: usize,
-    table: &[u16; PLACES],
+    places: &[u16; PLACES],
     me: u8,
     creator: u8,
     index: u16,
 ) -> usize
-    requires { ⌜ QueueIn (now state) × TableOf (now table) (now state) × InTable creator index × (at + mostRetransmission ≤ length (now out)) ⌝ }
+    requires { ⌜ QueueIn (now state) × TableOf (now places) (now state) × InTable creator index × (at + mostRetransmission ≤ length (now out)) ⌝ }
     ensures { λ r. ⌜ Sends 1 (oneOf (asRed me (queueIn (now (state .entry))) creator index)) at (now (out .entry)) (now (out .exit)) r ⌝ }
 {
-    let p = entry(creator, index);
-    let k = wider(table[p]) as usize;
-    if k == 0 {
+    let k = place_in(state, places, 0, creator, index);
+    if num32(state, State::AT_QUEUE_LENGTH) as usize <= k {
         return at;
     }
-    send_slot(state, out, at, me, 0, k - 1)
+    send_slot(state, out, at, me, 0, k)
 }
 
 // "resends from the lowest cut + 1 to it, as red": the indexes above `low` up to `high`.
@@ -112,20 +111,20 @@ fn send_creator(
     state: &[u8],
     out: &mut [u8],
     at: usize,
-    table: &[u16; PLACES],
+    places: &[u16; PLACES],
     me: u8,
     creator: u8,
     low: u32,
     high: u32,
 ) -> usize
-    requires { ⌜ QueueIn (now state) × TableOf (now table) (now state) × (creator < 8) × (high ≤ 256) × (at + mostRetransmission * (high - low) ≤ length (now out)) ⌝ }
+    requires { ⌜ QueueIn (now state) × TableOf (now places) (now state) × (creator < mostServers) × (high ≤ mostQuota) × (at + mostRetransmission * (high - low) ≤ length (now out)) ⌝ }
     ensures { λ r. ⌜ Sends (high - low) (gather (asRed me (queueIn (now (state .entry))) creator) (above low high)) at (now (out .entry)) (now (out .exit)) r ⌝ }
 {
     let mut next = at;
     let mut i = low;
     while i < high {
         i += 1;
-        next = send_index(state, out, next, table, me, creator, i as u16);
+        next = send_index(state, out, next, places, me, creator, i as u16);
     }
     next
 }
@@ -147,30 +146,30 @@ fn send_red(
     state: &[u8],
     out: &mut [u8],
     at: usize,
-    table: &[u16; PLACES],
+    places: &[u16; PLACES],
     me: u8,
     creator: u8,
 ) -> usize
-    requires { ⌜ Stated (now state) × TableOf (now table) (now state) × (me ≡ numberAt 1 (now state) atMe) × (creator < serversIn (now state)) × (at + mostRetransmission * quotaIn (now state) ≤ length (now out)) ⌝ }
+    requires { ⌜ Stated (now state) × TableOf (now places) (now state) × (me ≡ numberAt 1 (now state) atMe) × (creator < serversIn (now state)) × (at + mostRetransmission * quotaIn (now state) ≤ length (now out)) ⌝ }
     ensures { λ r. ⌜ Sends (quotaIn (now (state .entry))) (redPart (now (state .entry)) creator) at (now (out .entry)) (now (out .exit)) r ⌝ }
 {
     let part = resends_red(state, creator as usize);
     if !part.mine {
         return at;
     }
-    send_creator(state, out, at, table, me, creator, part.low, part.high)
+    send_creator(state, out, at, places, me, creator, part.low, part.high)
 }
 
 // The same for every creator.
-fn send_reds(state: &[u8], out: &mut [u8], at: usize, table: &[u16; PLACES], me: u8) -> usize
-    requires { ⌜ Stated (now state) × TableOf (now table) (now state) × (me ≡ numberAt 1 (now state) atMe) × (at + mostRetransmission * mostActions (now state) ≤ length (now out)) ⌝ }
+fn send_reds(state: &[u8], out: &mut [u8], at: usize, places: &[u16; PLACES], me: u8) -> usize
+    requires { ⌜ Stated (now state) × TableOf (now places) (now state) × (me ≡ numberAt 1 (now state) atMe) × (at + mostRetransmission * mostActions (now state) ≤ length (now out)) ⌝ }
     ensures { λ r. ⌜ Sends (mostActions (now (state .entry))) (redParts (now (state .entry)) (serversIn (now (state .entry)))) at (now (out .entry)) (now (out .exit)) r ⌝ }
 {
     let servers = num8(state, State::AT_SERVERS);
     let mut next = at;
     let mut c = 0;
     while c < servers {
-        next = send_red(state, out, next, table, me, c);
+        next = send_red(state, out, next, places, me, c);
         c += 1;
     }
     next
@@ -183,8 +182,8 @@ fn send_plan(state: &[u8], out: &mut [u8]) -> usize
 {
     let me = num8(state, State::AT_ME);
     let next = send_green(state, out, me);
-    let table = places(state);
-    send_reds(state, out, next, &table, me)
+    let places = table(state, 0);
+    send_reds(state, out, next, &places, me)
 }
 
 // "send one's part of the plan": at the front of the outgoing buffer; how many bytes it has.

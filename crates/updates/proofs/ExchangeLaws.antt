@@ -28,6 +28,7 @@ use Rattle.engine.proofs.Chained.{then-holds, Covers, numbers-first, lists-chai
 use Rattle.updates.proofs.MembershipLaws.{Saved, membership-kept}
 use Rattle.updates.proofs.NoteAllLaws.{all-formed}
 use Rattle.engine.proofs.Counts.{numbers, holds-counts}
+use Rattle.format.specs.Places.{idSize}
 
 -- ---- numbers only
 
@@ -93,7 +94,7 @@ AllNoted b c = (s : Server) → Holds s b → c ≡ image (withNoted (noteAll (c
 noted-holds : (b c : List ℕ) → AllNoted b c → (s : Server) → Holds s b → Holds (withNoted (noteAll (collected s) (s .noted)) s) c
 noted-holds b c f s r = then-holds s (withNoted (noteAll (collected s) (s .noted)) s) b c r (f s r) refl refl (all-formed s (r .formed))
 
-pub decided-room : (e b c : List ℕ) → HoldsSuch (λ s. length e ≤ 3 * (s .servers * s .quota)) b → AllNoted b c → YellowRoom e c
+pub decided-room : (e b c : List ℕ) → HoldsSuch (λ s. length e ≤ idSize * (s .servers * s .quota)) b → AllNoted b c → YellowRoom e c
 decided-room e b c h f =
     let s : Server = h .state in
     let r : Holds s b = h .holds in

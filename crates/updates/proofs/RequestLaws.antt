@@ -70,7 +70,7 @@ counts-written : (s : Server) (p : List ℕ) (x y : ℕ) → x ≡ s .log .numbe
 unfolding numbered queue
 counts-written s p x y e f = ap₂ {A = ℕ} {B = ℕ} {C = List (List ℕ)} (λ u v. set (set (fields s) theNumbered (bytesOf 2 u)) theOwnCount (bytesOf 2 v)) e f
 
-action-short : (h : ActionHead) (p : List ℕ) → length p ≤ 48 → length (actionBytes (actionOf h p)) ≤ slotSize
+action-short : (h : ActionHead) (p : List ℕ) → length p ≤ mostPayload → length (actionBytes (actionOf h p)) ≤ slotSize
 unfolding actionOf
 action-short h p l = omega (arith, action-length (actionOf h p))
 

@@ -59,12 +59,12 @@ unfolding _or_
 or-yes true = refl
 or-yes false = refl
 
-pub sender-more : (xs : List (Option State)) (k : ℕ) (x : State) → k < length xs → length xs ≤ 8
+pub sender-more : (xs : List (Option State)) (k : ℕ) (x : State) → k < length xs → length xs ≤ mostServers
     → withMember k (senders 0 xs) ≡ senders 0 (set xs k (some x))
 unfolding isThere
 sender-more xs k x h few =
-    same-sets 8 _ _ (with-member-below 8 k (senders 0 xs) (omega arith) (senders-below 8 0 xs (omega arith)))
-    (senders-below 8 0 (set xs k (some x)) (omega (arith, length-set xs k (some x)))) (λ j l. go j (ℕ-discrete j k))
+    same-sets mostServers _ _ (with-member-below mostServers k (senders 0 xs) (omega arith) (senders-below mostServers 0 xs (omega arith)))
+    (senders-below mostServers 0 (set xs k (some x)) (omega (arith, length-set xs k (some x)))) (λ j l. go j (ℕ-discrete j k))
   where
     in-set : (j : ℕ) (ys : List (Option State)) → inSet j (senders 0 ys) ≡ isThere (getD ys j none)
     in-set j ys = ap (λ (i : ℕ). inSet i (senders 0 ys)) (sym (zero-add j)) ∙ in-senders 0 ys j
@@ -151,7 +151,7 @@ state-collected k e b b₁ at m room e₁ e₂ e₃ s x r w from =
     let sizes : stateSlot b ≡ size = λ i. stateSize (numbers s b r .servers i) (numbers s b r .quota i) in
     let below : k < length xs = omega (arith, room .number .below, numbers s b r .servers) in
     let sender : x .sender < length xs = omega arith in
-    let few : length xs ≤ 8 = omega (arith, g .context .sizes .most) in
+    let few : length xs ≤ mostServers = omega (arith, g .context .sizes .most) in
     let short : length e ≤ size = omega (arith, room .short) in
     let record-short : length (write (state x)) ≤ size = omega (arith, ap length w) in
     let slots : k * size + size ≤ n * size = omega (arith, mul-le-mul-right {m = suc k} {n = n} size (omega arith), suc-mul k size) in

@@ -38,6 +38,7 @@ use Rattle.engine.specs.Counts.{yellowCount, place}
 use Rattle.engine.proofs.Counts.{numbers, holds-place}
 use Rattle.engine.specs.Decode.{decoded, decodedAs}
 use Rattle.engine.proofs.InPlace.{holds-decoded}
+use Rattle.format.specs.Places.{idSize}
 
 -- The yellow ids, as they are read from the buffer.
 pub holds-ids : (s : Server) (b : List ℕ) → Holds s b → idsAt (yellowCount b) b (place theYellow b) ≡ s .votes .yellow .ids
@@ -111,7 +112,7 @@ count-written s l m e = ap (λ (k : ℕ). set (fields s) theYellowCount (bytesOf
 
 -- An id behind the last one, and the count.
 pub id-added : (s : Server) (b b₁ b₂ : List ℕ) (d : Id) → Holds s b → length (s .votes .yellow .ids) + 1 ≤ s .servers * s .quota
-    → b₁ ≡ patched (place theYellow b + 3 * yellowCount b) (idBytes d) b → b₂ ≡ patched atYellowCount (bytesOf 2 (yellowCount b + 1)) b₁
+    → b₁ ≡ patched (place theYellow b + idSize * yellowCount b) (idBytes d) b → b₂ ≡ patched atYellowCount (bytesOf 2 (yellowCount b + 1)) b₁
     → b₂ ≡ image (withVotes (withIds (s .votes .yellow .ids ++ (d ∷ [])) (s .votes)) s) b
 unfolding sections parts sum offset
 id-added s b b₁ b₂ d r room e₁ e₂ =
@@ -120,10 +121,10 @@ id-added s b b₁ b₂ d r room e₁ e₂ =
     let ids : List Id = s .votes .yellow .ids in
     let t : Server = withVotes (withIds (ids ++ (d ∷ [])) (s .votes)) s in
     let count : yellowCount b ≡ length ids = numbers s b r .yellow in
-    let at : place theYellow b + 3 * yellowCount b ≡ begin (sections n q) theYellow + length (idsBytes ids) =
-    ap₂ {A = ℕ} {B = ℕ} {C = ℕ} (λ x y. x + y) (holds-place s b r theYellow) (ap (λ (m : ℕ). 3 * m) count ∙ sym (ids-length ids)) in
-    let fits : length (idsBytes ids) + length (idBytes d) ≤ 3 * (n * q) = omega (arith, ids-length ids, id-length d) in
-    let one = changed-at (sections n q) (parts n q s b) b b (holds-changed s b r) theYellow (length (idsBytes ids)) (place theYellow b + 3 * yellowCount b) (idBytes d) at (omega arith) fits in
+    let at : place theYellow b + idSize * yellowCount b ≡ begin (sections n q) theYellow + length (idsBytes ids) =
+    ap₂ {A = ℕ} {B = ℕ} {C = ℕ} (λ x y. x + y) (holds-place s b r theYellow) (ap (λ (m : ℕ). idSize * m) count ∙ sym (ids-length ids)) in
+    let fits : length (idsBytes ids) + length (idBytes d) ≤ idSize * (n * q) = omega (arith, ids-length ids, id-length d) in
+    let one = changed-at (sections n q) (parts n q s b) b b (holds-changed s b r) theYellow (length (idsBytes ids)) (place theYellow b + idSize * yellowCount b) (idBytes d) at (omega arith) fits in
     let two = changed-at (sections n q) _ b _ one theHeader atYellowCount atYellowCount (bytesOf 2 (yellowCount b + 1)) refl (omega arith) (omega (arith, bytes-length 2 (yellowCount b + 1))) in
     let list : patched (length (idsBytes ids)) (idBytes d) (over (idsBytes ids) (section n q theYellow b)) ≡ over (idsBytes (ids ++ (d ∷ []))) (section n q theYellow b) =
     over-extended (idsBytes ids) (idBytes d) (section n q theYellow b)
@@ -148,44 +149,44 @@ id-there d b at m t e₁ e₂ e₃ here s r ok =
 
 -- It is not.
 pub id-new : (d : Id) (b b₂ : List ℕ) (at m : ℕ) (t : Bool) → at ≡ place theYellow b → m ≡ numberAt 2 b atYellowCount → t ≡ hasId d (idsAt m b at) → t ≡ false
-    → b₂ ≡ patched atYellowCount (bytesOf 2 (m + 1)) (patched (at + 3 * m) (idBytes d) b)
+    → b₂ ≡ patched atYellowCount (bytesOf 2 (m + 1)) (patched (at + idSize * m) (idBytes d) b)
     → (s : Server) → Holds s b → idOk (contextOf s) d ≡ true → b₂ ≡ image (withVotes (joinYellow d (s .votes)) s) b
 unfolding joinYellow addId
 id-new d b b₂ at m t e₁ e₂ e₃ away f s r ok =
     let ids : List Id = s .votes .yellow .ids in
     let new : hasId d ids ≡ false = ap (hasId d) (sym (holds-ids s b r)) ∙ rw (← e₁, ← e₂) (sym e₃ ∙ away) in
-    let made : b₂ ≡ patched atYellowCount (bytesOf 2 (yellowCount b + 1)) (patched (place theYellow b + 3 * yellowCount b) (idBytes d) b) = rw (← e₁, ← e₂) f in
+    let made : b₂ ≡ patched atYellowCount (bytesOf 2 (yellowCount b + 1)) (patched (place theYellow b + idSize * yellowCount b) (idBytes d) b) = rw (← e₁, ← e₂) f in
     id-added s b _ b₂ d r (yellow-more s b d r ok new) refl made
     ∙ ap (λ (l : List Id). image (withVotes (withIds l (s .votes)) s) b) (pick-no (hasId d ids) (ids ++ (d ∷ [])) ids (ids ++ (d ∷ [])) new refl)
 
 -- ---- ids in bytes, one by one
 
-ids-more : (e : List ℕ) (at k m : ℕ) → k < m → idsAt (m - k) e (at + 3 * k) ≡ idAt e (at + 3 * k) ∷ idsAt (m - (k + 1)) e (at + 3 * (k + 1))
+ids-more : (e : List ℕ) (at k m : ℕ) → k < m → idsAt (m - k) e (at + idSize * k) ≡ idAt e (at + idSize * k) ∷ idsAt (m - (k + 1)) e (at + idSize * (k + 1))
 unfolding idsAt
 ids-more e at k m h =
     let a : m - k ≡ suc (m - (k + 1)) = omega arith in
-    let b : at + 3 * (k + 1) ≡ at + 3 * k + 3 = omega arith in
-    ap (λ (i : ℕ). idsAt i e (at + 3 * k)) a ∙ rw b
+    let b : at + idSize * (k + 1) ≡ at + idSize * k + idSize = omega arith in
+    ap (λ (i : ℕ). idsAt i e (at + idSize * k)) a ∙ rw b
 
-pub has-start : (e : List ℕ) (at m : ℕ) (d : Id) → hasId d (idsAt m e at) ≡ hasId d (idsAt (m - 0) e (at + 3 * 0))
+pub has-start : (e : List ℕ) (at m : ℕ) (d : Id) → hasId d (idsAt m e at) ≡ hasId d (idsAt (m - 0) e (at + idSize * 0))
 has-start e at m d =
     let a : m - 0 ≡ m = omega arith in
-    let b : at + 3 * 0 ≡ at = omega arith in
+    let b : at + idSize * 0 ≡ at = omega arith in
     rw (a, b)
 
-pub has-found : (e : List ℕ) (at k m : ℕ) (d : Id) (t w : Bool) → k < m → t ≡ sameId d (idAt e (at + 3 * k)) → t ≡ true
-    → w ≡ hasId d (idsAt (m - k) e (at + 3 * k)) → true ≡ w
+pub has-found : (e : List ℕ) (at k m : ℕ) (d : Id) (t w : Bool) → k < m → t ≡ sameId d (idAt e (at + idSize * k)) → t ≡ true
+    → w ≡ hasId d (idsAt (m - k) e (at + idSize * k)) → true ≡ w
 unfolding hasId _or_
 has-found e at k m d t w h f g j = sym (j ∙ ap (hasId d) (ids-more e at k m h) ∙ rw (sym f ∙ g))
 
-pub has-again : (e : List ℕ) (at k m : ℕ) (d : Id) (t w : Bool) → k < m → t ≡ sameId d (idAt e (at + 3 * k)) → t ≡ false
-    → w ≡ hasId d (idsAt (m - k) e (at + 3 * k)) → w ≡ hasId d (idsAt (m - (k + 1)) e (at + 3 * (k + 1)))
+pub has-again : (e : List ℕ) (at k m : ℕ) (d : Id) (t w : Bool) → k < m → t ≡ sameId d (idAt e (at + idSize * k)) → t ≡ false
+    → w ≡ hasId d (idsAt (m - k) e (at + idSize * k)) → w ≡ hasId d (idsAt (m - (k + 1)) e (at + idSize * (k + 1)))
 unfolding hasId _or_
 has-again e at k m d t w h f g j = j ∙ ap (hasId d) (ids-more e at k m h) ∙ rw (sym f ∙ g)
 
-pub has-end : (e : List ℕ) (at k m : ℕ) (d : Id) (w : Bool) → m ≤ k → w ≡ hasId d (idsAt (m - k) e (at + 3 * k)) → false ≡ w
+pub has-end : (e : List ℕ) (at k m : ℕ) (d : Id) (w : Bool) → m ≤ k → w ≡ hasId d (idsAt (m - k) e (at + idSize * k)) → false ≡ w
 unfolding hasId idsAt
-has-end e at k m d w h j = let a : m - k ≡ 0 = omega arith in sym (j ∙ ap (λ (i : ℕ). hasId d (idsAt i e (at + 3 * k))) a)
+has-end e at k m d w h j = let a : m - k ≡ 0 = omega arith in sym (j ∙ ap (λ (i : ℕ). hasId d (idsAt i e (at + idSize * k))) a)
 
 pub id-other : (e : List ℕ) (at c i x : ℕ) → x ≡ numberAt 1 e at → (c ≡ x → ⊥) → false ≡ sameId (idOf c i) (idAt e at)
 unfolding sameId idOf idAt

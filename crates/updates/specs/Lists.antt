@@ -5,16 +5,28 @@ use mathlib.Core.List.{List}
 use mathlib.Core.Path.{_≡_}
 use mathlib.Core.Logic.{_⊎_}
 use lib.ListN.{length}
-use Rattle.base.specs.Bytes.{numberAt}
+use Rattle.base.specs.Bytes.{numberAt, bytesOf}
 use Rattle.base.specs.Lists.{Begins}
-use Rattle.format.specs.Limits.{mostPayload}
+use Rattle.format.specs.Limits.{mostPayload, mostHeld}
 use Rattle.format.specs.Places.{idSize}
 use Rattle.record.specs.declared.ActionHead.{ActionHead}
-use Rattle.replication.specs.Machine.Types.{Log, Votes, Configuration, Membership, Server, noStates}
+use Rattle.replication.specs.Machine.Types.{Log, Votes, Configuration, Membership, Server, noStates, Mode, contextOf, withVotes}
 use Rattle.replication.specs.Machine.WellFormed.{queue}
-use Rattle.engine.specs.Layout.{headerSize, stateSize, theStates, atMe}
+use Rattle.engine.specs.Layout.{headerSize, stateSize, theStates, atMe, heldSize, atOwnCount, atNumbered, atQueueLength, atYellowCount}
 use Rattle.engine.specs.Decode.{serversIn, quotaIn}
 use Rattle.engine.specs.Counts.{greenCount, numberedIn, place, mostActions, CountsIn}
+use Rattle.record.specs.declared.State.{State}
+use Rattle.engine.specs.Header.{headerOf}
+use Rattle.engine.specs.Image.{modeNumber, image, slot}
+use Rattle.engine.specs.Holding.{Holds, BecomesWhere}
+use Rattle.replication.specs.Machine.Colours.{joinYellow}
+use Rattle.replication.specs.Machine.Requests.{quotaLeft}
+use Rattle.replication.specs.Machine.Step.{withState}
+use Rattle.format.specs.Types.{Id, State as Sent, state}
+use Rattle.format.specs.Write.{write, payloadBytes, idBytes}
+use Rattle.format.specs.Range.{idOk}
+use Rattle.base.specs.Patched.{patched}
+use mathlib.Core.Bool.{true}
 
 unfoldable pub configurationOf : (id set : ℕ) → Configuration
 configurationOf id set = record { id = id; set = set }
@@ -71,3 +83,51 @@ pub record Shortened (s : Server) (l : Log) (v : Votes) (m : Membership) (h : Li
   pub yellow : Begins (v .yellow .ids) (s .votes .yellow .ids)
   pub held : Begins h (s .held)
   pub states : (m .states ≡ s .membership .states) ⊎ (m .states ≡ noStates (s .servers))
+
+-- ---- what the contracts say
+
+-- The numbers r are those of the state f s, where h are those of s.
+abbrev pub NumbersOf : (Server → Server) → (h r : State) → Type 0
+NumbersOf f h r = (s : Server) → h ≡ headerOf s → r ≡ headerOf (f s)
+
+-- The numbers h of a changed state that is written by its numbers alone, from the bytes b to the bytes b′.
+abbrev pub BecomesNumbered : (h : State) → (b b′ : List ℕ) → Type 0
+BecomesNumbered h b b′ =
+    (s : Server) (l : Log) (v : Votes) (m : Membership) (w : List (List ℕ))
+    → Holds s b → Shortened s l v m w → h ≡ headerOf (changedTo s l v m w) → b′ ≡ image (changedTo s l v m w) b
+
+-- A change to the state of the number k.
+abbrev pub BecomesIn : (k : ℕ) → (Mode → Server → Server) → (b b′ : List ℕ) → Type 0
+BecomesIn k f b b′ = (s : Server) (m : Mode) → Holds s b → k ≡ modeNumber m → b′ ≡ image (f m s) b
+
+-- The State of server k is in, whose bytes are e.
+abbrev pub BecomesCollected : (k : ℕ) → (e b b′ : List ℕ) → Type 0
+BecomesCollected k e b b′ = (s : Server) (x : Sent) → Holds s b → write (state x) ≡ e → x .sender ≡ k → b′ ≡ image (withState x s) b
+
+-- The id d joins the yellow list.
+abbrev pub BecomesYellow : Id → (b b′ : List ℕ) → Type 0
+BecomesYellow d b b′ = BecomesWhere (λ s. idOk (contextOf s) d ≡ true) (λ s. withVotes (joinYellow d (s .votes)) s) b b′
+
+abbrev pub MayNumber : Server → Type 0
+MayNumber s = quotaLeft s ≡ true
+
+abbrev pub MayHold : Server → Type 0
+MayHold s = length (s .held) < mostHeld
+
+-- ---- changes of the bytes b
+
+-- The held request p in a slot from `at` on.
+abbrev pub heldPut : (at : ℕ) → (p b : List ℕ) → List ℕ
+heldPut at p b = patched at (slot heldSize (payloadBytes p)) b
+
+-- The numbers of actions numbered, and on the own list.
+abbrev pub ownCounts : (numbered own : ℕ) → List ℕ → List ℕ
+ownCounts x y b = patched atOwnCount (bytesOf 2 y) (patched atNumbered (bytesOf 2 x) b)
+
+-- The number of actions in the queue, and none on the own list.
+abbrev pub queueCounts : (count : ℕ) → List ℕ → List ℕ
+queueCounts x b = patched atOwnCount (bytesOf 2 0) (patched atQueueLength (bytesOf 4 x) b)
+
+-- The id d from `at` on, and the number of yellow ids.
+abbrev pub idAdded : (at m : ℕ) → Id → List ℕ → List ℕ
+idAdded at m d b = patched atYellowCount (bytesOf 2 m) (patched at (idBytes d) b)

@@ -5,11 +5,17 @@ use mathlib.Core.List.{List, []}
 use mathlib.Core.Option.{none}
 use lib.ListN.{length}
 use Rattle.base.specs.Bytes.{numberAt}
-use Rattle.replication.specs.Machine.Types.{Non-prim, Votes, Server, withMembership, withHeld, noStates}
+use Rattle.replication.specs.Machine.Types.{Non-prim, Votes, Server, withMembership, withHeld, noStates, withVotes}
 use Rattle.engine.specs.Layout.{headerSize, slotSize, atMe, theQueue}
 use Rattle.engine.specs.Header.{lastOf, markNumbers}
 use Rattle.updates.specs.declared.votes.VoteNumbers.{VoteNumbers}
 use Rattle.engine.specs.Counts.{place, CountsIn, ownCount, queueCount}
+use mathlib.Core.Path.{_≡_}
+use Rattle.format.specs.Write.{idsBytes}
+use Rattle.replication.specs.Machine.Exchange.{takenVotes}
+use Rattle.replication.specs.Machine.Step.{collected, decided}
+use Rattle.engine.specs.Image.{image}
+use Rattle.engine.specs.Holding.{Holds}
 
 -- The own actions have room behind the queue.
 pub record EnterRoom (b : List ℕ) : Type 0 where
@@ -31,5 +37,26 @@ voteNumbers v = record {
 unfoldable pub dropped : Server → Server
 dropped s =
     withMembership
-    (record { mode = Non-prim; configuration = none; transitional = none; states = noStates (s .servers); cpcs = s .membership .cpcs; come = s .membership .come })
+    (record {
+      mode = Non-prim;
+      configuration = none;
+      transitional = none;
+      states = noStates (s .servers);
+      cpcs = s .membership .cpcs;
+      come = s .membership .come;
+    })
     (withHeld [] s)
+
+-- Other votes, whose numbers are v and whose yellow ids' bytes are e.
+abbrev pub BecomesVoted : VoteNumbers → (e b b′ : List ℕ) → Type 0
+BecomesVoted v e b b′ =
+    (s : Server) (w : Votes) → Holds s b → v ≡ voteNumbers w → idsBytes (w .yellow .ids) ≡ e → b′ ≡ image (withVotes w s) b
+
+-- The votes that the collected States decide.
+abbrev pub takenIn : Server → Votes
+takenIn s = takenVotes (s .me) (collected s)
+
+-- What they decide, where those votes' numbers are v and their yellow ids' bytes are e.
+abbrev pub BecomesDecided : VoteNumbers → (e b b′ : List ℕ) → Type 0
+BecomesDecided v e b b′ =
+    (s : Server) → Holds s b → v ≡ voteNumbers (takenIn s) → idsBytes (takenIn s .yellow .ids) ≡ e → b′ ≡ image (decided s) b

@@ -1,17 +1,13 @@
 // Exchanges: how many retransmissions have come, and the end.
-ghost use mathlib.Core.Path.{_≡_};
 ghost use Prim.Native.Nat.{_*_, _≤_};
 ghost use lib.ListN.{length};
 ghost use Rattle.format.specs.Limits.{mostIndex, mostServers, mostQuota};
-ghost use Rattle.format.specs.Write.{idsBytes};
-ghost use Rattle.replication.specs.Machine.Types.{Server};
-ghost use Rattle.replication.specs.Machine.Exchange.{takenVotes};
-ghost use Rattle.replication.specs.Machine.Step.{oneMore, resending, attempting, collected, decided};
-ghost use Rattle.engine.specs.Image.{image};
-ghost use Rattle.engine.specs.Header.{headerOf};
-ghost use Rattle.engine.specs.Holding.{Holds, HoldsSome, HoldsSuch, Becomes};
-ghost use Rattle.updates.specs.Standing.{voteNumbers};
+ghost use Rattle.replication.specs.Machine.Step.{oneMore, resending, attempting};
+ghost use Rattle.engine.specs.Holding.{HoldsSome, HoldsSuch, Becomes};
+ghost use Rattle.updates.specs.Standing.{BecomesDecided};
 ghost use Rattle.engine.specs.Layout.{headerSize};
+ghost use Rattle.updates.specs.Lists.{NumbersOf};
+ghost use Rattle.format.specs.Places.{idSize};
 use crate::notes::note_all;
 use crate::numbers::save_numbers;
 use crate::votes::VoteNumbers;
@@ -23,7 +19,7 @@ use record::State;
 
 fn with_one_more(h: State) -> State
     requires { ⌜ h .come ≤ 2 * (mostServers * mostQuota) ⌝ }
-    ensures { λ r. ⌜ ((s : Server) → h ≡ headerOf s → r ≡ headerOf (oneMore s)) ⌝ }
+    ensures { λ r. ⌜ NumbersOf oneMore h r ⌝ }
 {
     let come = h.come + 1;
     let mut t = h;
@@ -42,7 +38,7 @@ pub fn one_more(state: &mut [u8])
 }
 
 fn with_none_come(h: State) -> State
-    ensures { λ r. ⌜ ((s : Server) → h ≡ headerOf s → r ≡ headerOf (resending s)) ⌝ }
+    ensures { λ r. ⌜ NumbersOf resending h r ⌝ }
 {
     let mut t = h;
     t.mode = State::EXCHANGE_ACTIONS;
@@ -63,7 +59,7 @@ pub fn resend(state: &mut [u8])
 // "attempt + 1, mark (primary index, attempt, this set, no bits) .., Construct"
 fn with_attempt(h: State) -> State
     requires { ⌜ h .attempt .0 ≤ mostIndex ⌝ }
-    ensures { λ r. ⌜ ((s : Server) → h ≡ headerOf s → r ≡ headerOf (attempting s)) ⌝ }
+    ensures { λ r. ⌜ NumbersOf attempting h r ⌝ }
 {
     let last = h.last;
     let index = last.index;
@@ -94,8 +90,8 @@ pub fn attempt(state: &mut [u8])
 
 // Noted lengths and votes as the States decide; v and ids are the votes that they decide.
 pub fn decide(state: &mut [u8], v: VoteNumbers, ids: &[u8])
-    requires { ⌜ HoldsSuch (λ s. length (now ids) ≤ 3 * (s .servers * s .quota)) (now state) ⌝ }
-    ensures { λ _. ⌜ ((s : Server) → Holds s (now (state .entry)) → v ≡ voteNumbers (takenVotes (s .me) (collected s)) → idsBytes (takenVotes (s .me) (collected s) .yellow .ids) ≡ now (ids .entry) → now (state .exit) ≡ image (decided s) (now (state .entry))) ⌝ }
+    requires { ⌜ HoldsSuch (λ s. length (now ids) ≤ idSize * (s .servers * s .quota)) (now state) ⌝ }
+    ensures { λ _. ⌜ BecomesDecided v (now (ids .entry)) (now (state .entry)) (now (state .exit)) ⌝ }
 {
     note_all(state);
     take_votes(state, v, ids);

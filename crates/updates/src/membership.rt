@@ -5,10 +5,10 @@ ghost use lib.ListN.{length};
 ghost use Rattle.format.specs.Limits.{mostServers};
 ghost use Rattle.replication.specs.Machine.Types.{Mode, Server, inMode};
 ghost use Rattle.replication.specs.Machine.Step.{entering, leave as left, withCpc};
-ghost use Rattle.engine.specs.Image.{modeNumber, image};
+ghost use Rattle.engine.specs.Image.{modeNumber};
 ghost use Rattle.engine.specs.Header.{headerOf};
-ghost use Rattle.engine.specs.Holding.{Holds, Becomes};
-ghost use Rattle.updates.specs.Lists.{configurationOf};
+ghost use Rattle.engine.specs.Holding.{Becomes};
+ghost use Rattle.updates.specs.Lists.{configurationOf, NumbersOf, BecomesIn};
 ghost use Rattle.engine.specs.Layout.{headerSize};
 use crate::numbers::save_numbers;
 use engine::header::load;
@@ -26,7 +26,7 @@ fn with_mode(h: State, mode: u8) -> State
 // Another of the eight states.
 pub fn set_mode(state: &mut [u8], mode: u8)
     requires { ⌜ headerSize ≤ length (now state) ⌝ }
-    ensures { λ _. ⌜ ((s : Server) (m : Mode) → Holds s (now (state .entry)) → mode ≡ modeNumber m → now (state .exit) ≡ image (inMode m s) (now (state .entry))) ⌝ }
+    ensures { λ _. ⌜ BecomesIn mode inMode (now (state .entry)) (now (state .exit)) ⌝ }
 {
     let h = load(state);
     let t = with_mode(h, mode);
@@ -34,7 +34,7 @@ pub fn set_mode(state: &mut [u8], mode: u8)
 }
 
 fn with_configuration(h: State, id: u32, set: u8) -> State
-    ensures { λ r. ⌜ ((s : Server) → h ≡ headerOf s → r ≡ headerOf (entering (configurationOf id set) s)) ⌝ }
+    ensures { λ r. ⌜ NumbersOf (entering (configurationOf id set)) h r ⌝ }
 {
     let mut t = h;
     t.mode = State::EXCHANGE_STATES;
@@ -71,7 +71,7 @@ fn with_transitional(h: State, mode: u8, set: u8) -> State
 // A transitional configuration of this set, and the state that it leads to.
 pub fn leave(state: &mut [u8], mode: u8, set: u8)
     requires { ⌜ headerSize ≤ length (now state) ⌝ }
-    ensures { λ _. ⌜ ((s : Server) (m : Mode) → Holds s (now (state .entry)) → mode ≡ modeNumber m → now (state .exit) ≡ image (left m set s) (now (state .entry))) ⌝ }
+    ensures { λ _. ⌜ BecomesIn mode (λ m. left m set) (now (state .entry)) (now (state .exit)) ⌝ }
 {
     let h = load(state);
     let t = with_transitional(h, mode, set);
@@ -80,7 +80,7 @@ pub fn leave(state: &mut [u8], mode: u8, set: u8)
 
 fn with_cpc(h: State, k: u8) -> State
     requires { ⌜ k < mostServers ⌝ }
-    ensures { λ r. ⌜ ((s : Server) → h ≡ headerOf s → r ≡ headerOf (withCpc k s)) ⌝ }
+    ensures { λ r. ⌜ NumbersOf (withCpc k) h r ⌝ }
 {
     let cpcs = with_member(h.cpcs, k as usize);
     let mut t = h;

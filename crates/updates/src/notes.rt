@@ -1,8 +1,7 @@
 // Noted lengths in a state's buffer.
 ghost use mathlib.Core.Path.{_≡_};
-ghost use mathlib.Core.Option.{none};
 ghost use Prim.Native.Nat.{_≤_};
-ghost use lib.ListN.{length, getD};
+ghost use lib.ListN.{length};
 ghost use Rattle.base.specs.Bytes.{numberAt};
 ghost use Rattle.base.specs.Sets.{inSet};
 ghost use Rattle.replication.specs.Machine.Types.{withNoted};
@@ -12,7 +11,7 @@ ghost use Rattle.replication.specs.Machine.Step.{collected};
 ghost use Rattle.engine.specs.Layout.{headerSize, atStates};
 ghost use Rattle.engine.specs.Holding.{HoldsSome, Becomes};
 ghost use Rattle.updates.specs.Lists.{NumberIn};
-ghost use Rattle.updates.specs.Noting.{noteSlot, sentLength};
+ghost use Rattle.updates.specs.Noting.{sentLength, notedSlot};
 use crate::states::state_place;
 use engine::places::THE_NOTED;
 use engine::places::place_of;
@@ -57,7 +56,7 @@ fn sent_length(state: &[u8], k: u8) -> u32
 // The green length of server k, if its State is in.
 fn note_state(state: &mut [u8], k: u8)
     requires { ⌜ NumberIn k (now state) ⌝ }
-    ensures { λ _. ⌜ Becomes (λ s. withNoted (noteSlot (getD (s .membership .states) k none) (s .noted)) s) (now (state .entry)) (now (state .exit)) ⌝ }
+    ensures { λ _. ⌜ Becomes (notedSlot k) (now (state .entry)) (now (state .exit)) ⌝ }
 {
     if !is_in(state, k) {
         return;

@@ -4,13 +4,13 @@ ghost use Prim.Native.Nat.{_+_, _≤_};
 ghost use lib.ListN.{length};
 ghost use Rattle.base.specs.Bytes.{bytesOf};
 ghost use Rattle.base.specs.Patched.{patched};
-ghost use Rattle.replication.specs.Machine.Types.{Server, withLog};
+ghost use Rattle.replication.specs.Machine.Types.{withLog};
 ghost use Rattle.replication.specs.Machine.Colours.{reds};
 ghost use Rattle.replication.specs.Machine.Requests.{recovered};
-ghost use Rattle.engine.specs.Header.{headerOf};
 ghost use Rattle.engine.specs.Holding.{HoldsSome, Becomes};
 ghost use Rattle.updates.specs.Standing.{EnterRoom, dropped};
-ghost use Rattle.engine.specs.Layout.{headerSize, atQueueLength, atOwnCount};
+ghost use Rattle.engine.specs.Layout.{headerSize};
+ghost use Rattle.updates.specs.Lists.{NumbersOf, queueCounts};
 use crate::numbers::save_numbers;
 use engine::header::load;
 use engine::places::THE_OWN;
@@ -26,7 +26,7 @@ use record::parts::put32;
 
 fn put_queue(state: &mut [u8], queue: u32)
     requires { ⌜ headerSize ≤ length (now state) ⌝ }
-    ensures { λ _. ⌜ now (state .exit) ≡ patched atOwnCount (bytesOf 2 0) (patched atQueueLength (bytesOf 4 queue) (now (state .entry))) ⌝ }
+    ensures { λ _. ⌜ now (state .exit) ≡ queueCounts queue (now (state .entry)) ⌝ }
 {
     put32(state, State::AT_QUEUE_LENGTH, queue);
     put16(state, State::AT_OWN_COUNT, 0);
@@ -35,7 +35,7 @@ fn put_queue(state: &mut [u8], queue: u32)
 // The counts of the queue and of the own list, which is empty, and the cut at `at`.
 fn put_entered(state: &mut [u8], queue: u32, at: usize, cut: u16)
     requires { ⌜ (headerSize ≤ length (now state)) × (at + 2 ≤ length (now state)) ⌝ }
-    ensures { λ _. ⌜ now (state .exit) ≡ patched at (bytesOf 2 cut) (patched atOwnCount (bytesOf 2 0) (patched atQueueLength (bytesOf 4 queue) (now (state .entry)))) ⌝ }
+    ensures { λ _. ⌜ now (state .exit) ≡ patched at (bytesOf 2 cut) (queueCounts queue (now (state .entry))) ⌝ }
 {
     put_queue(state, queue);
     put16(state, at, cut);
@@ -62,7 +62,7 @@ fn enter_own(state: &mut [u8])
 }
 
 fn without_membership(h: State) -> State
-    ensures { λ r. ⌜ ((s : Server) → h ≡ headerOf s → r ≡ headerOf (dropped s)) ⌝ }
+    ensures { λ r. ⌜ NumbersOf dropped h r ⌝ }
 {
     let mut t = h;
     t.mode = State::NON_PRIM;

@@ -1,20 +1,17 @@
 // Requests in a state's buffer: numbered ones on the own list, and held ones.
 ghost use mathlib.Core.Path.{_≡_};
-ghost use mathlib.Core.Bool.{true};
 ghost use mathlib.Core.List.{[], _∷_};
-ghost use Prim.Native.Nat.{_+_, _*_, _≤_, _<_};
+ghost use Prim.Native.Nat.{_+_, _*_, _≤_};
 ghost use lib.ListN.{length};
 ghost use Rattle.base.specs.Bytes.{bytesOf};
 ghost use Rattle.base.specs.Patched.{patched};
-ghost use Rattle.format.specs.Limits.{mostHeld};
-ghost use Rattle.format.specs.Write.{actionBytes, payloadBytes};
 ghost use Rattle.record.specs.Values.{actionOf};
-ghost use Rattle.replication.specs.Machine.Requests.{quotaLeft, numbered as withNumbered, hold as withHeld};
-ghost use Rattle.engine.specs.Layout.{heldSize, slotSize, headerSize, atNumbered, atOwnCount, atHeldCount};
-ghost use Rattle.engine.specs.Image.{slot};
+ghost use Rattle.replication.specs.Machine.Requests.{numbered as withNumbered, hold as withHeld};
+ghost use Rattle.engine.specs.Layout.{heldSize, slotSize, headerSize, atHeldCount};
 ghost use Rattle.engine.specs.Holding.{BecomesWhere};
-ghost use Rattle.updates.specs.Lists.{PayloadRoom, SlotRoom, nextHead};
+ghost use Rattle.updates.specs.Lists.{PayloadRoom, SlotRoom, nextHead, ownCounts, heldPut, MayNumber, MayHold};
 ghost use Rattle.engine.specs.Counts.{CountsIn};
+ghost use Rattle.queue.specs.Queue.{slotPut};
 use engine::places::THE_HELD;
 use engine::places::THE_OWN;
 use engine::places::place_of;
@@ -42,7 +39,7 @@ pub fn next_head(state: &[u8]) -> ActionHead
 
 pub fn put_counts(state: &mut [u8], numbered: u16, own: u16)
     requires { ⌜ headerSize ≤ length (now state) ⌝ }
-    ensures { λ _. ⌜ now (state .exit) ≡ patched atOwnCount (bytesOf 2 own) (patched atNumbered (bytesOf 2 numbered) (now (state .entry))) ⌝ }
+    ensures { λ _. ⌜ now (state .exit) ≡ ownCounts numbered own (now (state .entry)) ⌝ }
 {
     put16(state, State::AT_NUMBERED, numbered);
     put16(state, State::AT_OWN_COUNT, own);
@@ -51,7 +48,7 @@ pub fn put_counts(state: &mut [u8], numbered: u16, own: u16)
 // An action's slot at `at`, and the counts.
 fn push_own(state: &mut [u8], at: usize, head: ActionHead, payload: &[u8], numbered: u16, own: u16)
     requires { ⌜ SlotRoom slotSize at (now payload) (now state) ⌝ }
-    ensures { λ _. ⌜ now (state .exit) ≡ patched atOwnCount (bytesOf 2 own) (patched atNumbered (bytesOf 2 numbered) (patched at (slot slotSize (actionBytes (actionOf head (now (payload .entry))))) (now (state .entry)))) ⌝ }
+    ensures { λ _. ⌜ now (state .exit) ≡ ownCounts numbered own (slotPut at (actionOf head (now (payload .entry))) (now (state .entry))) ⌝ }
 {
     put_slot(state, at, head, payload);
     put_counts(state, numbered, own);
@@ -60,7 +57,7 @@ fn push_own(state: &mut [u8], at: usize, head: ActionHead, payload: &[u8], numbe
 // "numbered, put on the own list"
 pub fn number(state: &mut [u8], payload: &[u8])
     requires { ⌜ PayloadRoom (now payload) (now state) ⌝ }
-    ensures { λ _. ⌜ BecomesWhere (λ s. quotaLeft s ≡ true) (withNumbered (now (payload .entry) ∷ [])) (now (state .entry)) (now (state .exit)) ⌝ }
+    ensures { λ _. ⌜ BecomesWhere MayNumber (withNumbered (now (payload .entry) ∷ [])) (now (state .entry)) (now (state .exit)) ⌝ }
 {
     let at = place_of(state, THE_OWN);
     let own = num16(state, State::AT_OWN_COUNT);
@@ -79,7 +76,7 @@ pub fn number(state: &mut [u8], payload: &[u8])
 // A held request's slot from `at` on: its payload, filled up with zeros.
 fn put_held(state: &mut [u8], at: usize, payload: &[u8])
     requires { ⌜ SlotRoom heldSize at (now payload) (now state) ⌝ }
-    ensures { λ _. ⌜ now (state .exit) ≡ patched at (slot heldSize (payloadBytes (now (payload .entry)))) (now (state .entry)) ⌝ }
+    ensures { λ _. ⌜ now (state .exit) ≡ heldPut at (now (payload .entry)) (now (state .entry)) ⌝ }
 {
     put_payload(state, at, payload);
     clear(
@@ -92,7 +89,7 @@ fn put_held(state: &mut [u8], at: usize, payload: &[u8])
 // The same, and the count.
 fn push_held(state: &mut [u8], at: usize, payload: &[u8], count: u16)
     requires { ⌜ SlotRoom heldSize at (now payload) (now state) ⌝ }
-    ensures { λ _. ⌜ now (state .exit) ≡ patched atHeldCount (bytesOf 2 count) (patched at (slot heldSize (payloadBytes (now (payload .entry)))) (now (state .entry))) ⌝ }
+    ensures { λ _. ⌜ now (state .exit) ≡ patched atHeldCount (bytesOf 2 count) (heldPut at (now (payload .entry)) (now (state .entry))) ⌝ }
 {
     put_held(state, at, payload);
     put16(state, State::AT_HELD_COUNT, count);
@@ -101,7 +98,7 @@ fn push_held(state: &mut [u8], at: usize, payload: &[u8], count: u16)
 // "Elsewhere held"
 pub fn hold(state: &mut [u8], payload: &[u8])
     requires { ⌜ PayloadRoom (now payload) (now state) ⌝ }
-    ensures { λ _. ⌜ BecomesWhere (λ s. length (s .held) < mostHeld) (withHeld (now (payload .entry))) (now (state .entry)) (now (state .exit)) ⌝ }
+    ensures { λ _. ⌜ BecomesWhere MayHold (withHeld (now (payload .entry))) (now (state .entry)) (now (state .exit)) ⌝ }
 {
     let at = place_of(state, THE_HELD);
     let count = num16(state, State::AT_HELD_COUNT);

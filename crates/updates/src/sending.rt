@@ -7,9 +7,10 @@ ghost use Rattle.base.specs.Bytes.{bytesOf, partAt};
 ghost use Rattle.base.specs.Patched.{patched};
 ghost use Rattle.replication.specs.Machine.Requests.{sendHeld};
 ghost use Rattle.engine.specs.Holding.{Becomes};
-ghost use Rattle.engine.specs.Layout.{heldSize, slotSize, headerSize, atNumbered, atOwnCount, atHeldCount};
+ghost use Rattle.engine.specs.Layout.{heldSize, slotSize, headerSize, atHeldCount};
 ghost use Rattle.record.specs.Blocks.{headBytes};
 ghost use Rattle.updates.specs.Sending.{SendRoom, SendReady, movedSlots};
+ghost use Rattle.updates.specs.Lists.{ownCounts};
 use crate::requests::next_head;
 use crate::requests::put_counts;
 use engine::places::THE_HELD;
@@ -55,7 +56,7 @@ fn send_all(state: &mut [u8], from: usize, to: usize, count: u16, head: ActionHe
 
 fn put_sent(state: &mut [u8], numbered: u16, own: u16)
     requires { ⌜ headerSize ≤ length (now state) ⌝ }
-    ensures { λ _. ⌜ now (state .exit) ≡ patched atHeldCount (bytesOf 2 0) (patched atOwnCount (bytesOf 2 own) (patched atNumbered (bytesOf 2 numbered) (now (state .entry)))) ⌝ }
+    ensures { λ _. ⌜ now (state .exit) ≡ patched atHeldCount (bytesOf 2 0) (ownCounts numbered own (now (state .entry))) ⌝ }
 {
     put_counts(state, numbered, own);
     put16(state, State::AT_HELD_COUNT, 0);

@@ -6,14 +6,8 @@ ghost use Rattle.base.specs.Bytes.{bytesOf, numberAt};
 ghost use Rattle.base.specs.Patched.{patched};
 ghost use Rattle.base.specs.Sets.{withMember};
 ghost use Rattle.format.specs.Limits.{mostServers};
-ghost use Rattle.format.specs.Types.{State, state as stateRecord};
-ghost use Rattle.format.specs.Write.{write};
-ghost use Rattle.replication.specs.Machine.Types.{Server};
-ghost use Rattle.replication.specs.Machine.Step.{withState};
 ghost use Rattle.engine.specs.Layout.{headerSize, atStates};
-ghost use Rattle.engine.specs.Image.{image};
-ghost use Rattle.engine.specs.Holding.{Holds};
-ghost use Rattle.updates.specs.Lists.{statePlace, NumberIn, CollectRoom};
+ghost use Rattle.updates.specs.Lists.{statePlace, NumberIn, CollectRoom, BecomesCollected};
 use engine::places::THE_STATES;
 use engine::places::place_of;
 use engine::places::state_size;
@@ -54,7 +48,7 @@ fn put_state(state: &mut [u8], at: usize, event: &[u8], senders: u8)
 // The State of server k is in: its record, as it came.
 pub fn collect_state(state: &mut [u8], k: u8, event: &[u8])
     requires { ⌜ CollectRoom k (now event) (now state) ⌝ }
-    ensures { λ _. ⌜ ((s : Server) (x : State) → Holds s (now (state .entry)) → write (stateRecord x) ≡ now (event .entry) → x .sender ≡ k → now (state .exit) ≡ image (withState x s) (now (state .entry))) ⌝ }
+    ensures { λ _. ⌜ BecomesCollected k (now (event .entry)) (now (state .entry)) (now (state .exit)) ⌝ }
 {
     let at = state_place(state, k);
     let senders = with_sender(state, k);

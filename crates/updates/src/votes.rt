@@ -2,14 +2,12 @@
 ghost use mathlib.Core.Path.{_≡_};
 ghost use Prim.Native.Nat.{_≤_};
 ghost use lib.ListN.{length};
-ghost use Rattle.format.specs.Write.{idsBytes};
 ghost use Rattle.replication.specs.Machine.Types.{Votes, Server, withVotes};
 ghost use Rattle.replication.specs.Machine.Step.{unmarked, yellowValid};
-ghost use Rattle.engine.specs.Image.{image};
 ghost use Rattle.engine.specs.Header.{headerOf};
-ghost use Rattle.engine.specs.Holding.{Holds, Becomes};
-ghost use Rattle.updates.specs.Lists.{YellowRoom};
-ghost use Rattle.updates.specs.Standing.{voteNumbers};
+ghost use Rattle.engine.specs.Holding.{Becomes};
+ghost use Rattle.updates.specs.Lists.{YellowRoom, NumbersOf};
+ghost use Rattle.updates.specs.Standing.{voteNumbers, BecomesVoted};
 ghost use Rattle.engine.specs.Layout.{headerSize};
 use crate::numbers::save_numbers;
 use engine::header::load;
@@ -33,7 +31,7 @@ pub struct VoteNumbers {
 }
 
 fn without_mark(h: State) -> State
-    ensures { λ r. ⌜ ((s : Server) → h ≡ headerOf s → r ≡ headerOf (withVotes (unmarked (s .votes)) s)) ⌝ }
+    ensures { λ r. ⌜ NumbersOf (λ s. withVotes (unmarked (s .votes)) s) h r ⌝ }
 {
     let none = Mark {
         status: 0,
@@ -58,7 +56,7 @@ pub fn clear_mark(state: &mut [u8])
 }
 
 fn with_valid(h: State) -> State
-    ensures { λ r. ⌜ ((s : Server) → h ≡ headerOf s → r ≡ headerOf (withVotes (yellowValid (s .votes)) s)) ⌝ }
+    ensures { λ r. ⌜ NumbersOf (λ s. withVotes (yellowValid (s .votes)) s) h r ⌝ }
 {
     let mut t = h;
     t.yellow_status = 1;
@@ -93,7 +91,7 @@ fn with_votes(h: State, v: VoteNumbers) -> State
 // Other votes: their numbers, and the bytes of the yellow ids.
 pub fn take_votes(state: &mut [u8], v: VoteNumbers, ids: &[u8])
     requires { ⌜ YellowRoom (now ids) (now state) ⌝ }
-    ensures { λ _. ⌜ ((s : Server) (w : Votes) → Holds s (now (state .entry)) → v ≡ voteNumbers w → idsBytes (w .yellow .ids) ≡ now (ids .entry) → now (state .exit) ≡ image (withVotes w s) (now (state .entry))) ⌝ }
+    ensures { λ _. ⌜ BecomesVoted v (now (ids .entry)) (now (state .entry)) (now (state .exit)) ⌝ }
 {
     let h = load(state);
     let t = with_votes(h, v);

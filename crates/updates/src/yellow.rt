@@ -3,19 +3,14 @@ ghost use mathlib.Core.Path.{_≡_};
 ghost use mathlib.Core.Bool.{true};
 ghost use Prim.Native.Nat.{_+_, _*_, _≤_};
 ghost use lib.ListN.{length};
-ghost use Rattle.base.specs.Bytes.{bytesOf};
-ghost use Rattle.base.specs.Patched.{patched};
 ghost use Rattle.format.specs.Limits.{mostServers, mostQuota};
 ghost use Rattle.format.specs.Places.{idSize};
-ghost use Rattle.format.specs.Range.{idOk, hasId};
+ghost use Rattle.format.specs.Range.{hasId};
 ghost use Rattle.format.specs.Read.{idsAt};
-ghost use Rattle.format.specs.Write.{idBytes};
 ghost use Rattle.record.specs.Values.{idOf};
-ghost use Rattle.replication.specs.Machine.Types.{contextOf, withVotes};
-ghost use Rattle.replication.specs.Machine.Colours.{joinYellow};
-ghost use Rattle.engine.specs.Layout.{headerSize, atYellowCount};
-ghost use Rattle.engine.specs.Holding.{BecomesWhere};
+ghost use Rattle.engine.specs.Layout.{headerSize};
 ghost use Rattle.engine.specs.Counts.{CountsIn};
+ghost use Rattle.updates.specs.Lists.{idAdded, BecomesYellow};
 use engine::places::THE_YELLOW;
 use engine::places::place_of;
 use record::State;
@@ -42,7 +37,7 @@ fn has_id(e: &[u8], at: usize, count: usize, creator: u8, index: u16) -> bool
 // An id at `at`, and the count.
 fn add_id(state: &mut [u8], at: usize, count: u16, creator: u8, index: u16)
     requires { ⌜ (headerSize ≤ length (now state)) × (at + idSize ≤ length (now state)) × (count ≤ mostServers * mostQuota) ⌝ }
-    ensures { λ _. ⌜ now (state .exit) ≡ patched atYellowCount (bytesOf 2 (count + 1)) (patched at (idBytes (idOf creator index)) (now (state .entry))) ⌝ }
+    ensures { λ _. ⌜ now (state .exit) ≡ idAdded at (count + 1) (idOf creator index) (now (state .entry)) ⌝ }
 {
     put_id(state, at, creator, index);
     put16(state, State::AT_YELLOW_COUNT, count + 1);
@@ -51,7 +46,7 @@ fn add_id(state: &mut [u8], at: usize, count: u16, creator: u8, index: u16)
 // "its id joins the yellow list": one that is already there has joined.
 pub fn join_yellow(state: &mut [u8], creator: u8, index: u16)
     requires { ⌜ CountsIn (now state) ⌝ }
-    ensures { λ _. ⌜ BecomesWhere (λ s. idOk (contextOf s) (idOf creator index) ≡ true) (λ s. withVotes (joinYellow (idOf creator index) (s .votes)) s) (now (state .entry)) (now (state .exit)) ⌝ }
+    ensures { λ _. ⌜ BecomesYellow (idOf creator index) (now (state .entry)) (now (state .exit)) ⌝ }
 {
     let at = place_of(state, THE_YELLOW);
     let count = num16(state, State::AT_YELLOW_COUNT);

@@ -1,26 +1,20 @@
-use Rattle.install.proofs.TableLaws.{count-inside, green-inside, Filled, filled-start, filled-again, filled-end}
+use Rattle.install.proofs.TableLaws.{count-inside, Filled, filled-start, filled-again, filled-end}
 use Prim.Native.Nat.{_-_}
 use borrow.Author.Needs.{needs}
 use Rattle.install.proofs.table.table.Statement.{statement}
 use Rattle.install.proofs.table.table.Tie as tie
 
 abbrev Inv-loop : tie.InvT-loop
-Inv-loop state places₀ count k₀ places k = Filled k places state
+Inv-loop state first places₀ count k₀ places k = Filled first k places state
 
 abbrev μ-loop : tie.MeasureT-loop
-μ-loop state places₀ count k₀ places k = count - k
+μ-loop state first places₀ count k₀ places k = count - k
 
 num32-requires : tie.Need-num32-requires Inv-loop μ-loop
 num32-requires c κs = search (needs, count-inside)
 
 cast-count : tie.Need-cast-count Inv-loop μ-loop
 cast-count c = search needs
-
-num32-requires-2 : tie.Need-num32-requires-2 Inv-loop μ-loop
-num32-requires-2 c κs = search (needs, green-inside)
-
-cast-k : tie.Need-cast-k Inv-loop μ-loop
-cast-k c = search needs
 
 loop-holds : tie.Need-loop-holds Inv-loop μ-loop
 loop-holds c = search (needs, filled-start)
@@ -57,8 +51,6 @@ table-spec =
     μ-loop
     num32-requires
     cast-count
-    num32-requires-2
-    cast-k
     loop-holds
     entry-at-requires
     cast-places

@@ -1,13 +1,20 @@
 use Rattle.install.proofs.TurnLaws.{turned-passed, turned-swapped}
+use Rattle.install.proofs.TableLaws.{indexed-green}
 use borrow.Author.Needs.{needs}
 use Rattle.install.proofs.table.turn_green.Statement.{statement}
 use Rattle.install.proofs.table.turn_green.Tie as tie
 
-red-at-requires : tie.Need-red-at-requires
-red-at-requires c κs = search needs
-
 num32-requires : tie.Need-num32-requires
 num32-requires c κs = search needs
+
+cast-green : tie.Need-cast-green
+cast-green c = search needs
+
+place-in-requires : tie.Need-place-in-requires
+place-in-requires c κs = search (needs, indexed-green)
+
+num32-requires-2 : tie.Need-num32-requires-2
+num32-requires-2 c κs = search needs
 
 cast-if1 : tie.Need-cast-if1
 cast-if1 c = search needs
@@ -17,12 +24,6 @@ same-length c = search needs
 
 returns : tie.Need-returns
 returns c = search (needs, turned-passed)
-
-num32-requires-2 : tie.Need-num32-requires-2
-num32-requires-2 c κs = search needs
-
-cast-entry-at : tie.Need-cast-entry-at
-cast-entry-at c = search needs
 
 entry-at-requires : tie.Need-entry-at-requires
 entry-at-requires c κs = search needs
@@ -49,13 +50,13 @@ pub turn-green-spec : {M : Type 1} → statement M
 turn-green-spec =
     tie.close
     (tie.spec
-    red-at-requires
     num32-requires
+    cast-green
+    place-in-requires
+    num32-requires-2
     cast-if1
     same-length
     returns
-    num32-requires-2
-    cast-entry-at
     entry-at-requires
     green-at-requires
     cast-places

@@ -1,4 +1,4 @@
-use Rattle.step.proofs.PlanLaws.{plan-sent}
+use Rattle.step.proofs.PlanLaws.{stated-some, plan-sent}
 use borrow.Author.Needs.{needs}
 use Rattle.step.proofs.resending.send_plan.Statement.{statement}
 use Rattle.step.proofs.resending.send_plan.Tie as tie
@@ -9,8 +9,8 @@ num8-requires c κs = search needs
 send-green-requires : tie.Need-send-green-requires
 send-green-requires c κs = search needs
 
-places-requires : tie.Need-places-requires
-places-requires c κs = search needs
+table-requires : tie.Need-table-requires
+table-requires c κs = search (needs, stated-some)
 
 send-reds-requires : tie.Need-send-reds-requires
 send-reds-requires c κs = search needs
@@ -27,7 +27,7 @@ send-plan-spec =
     (tie.spec
     num8-requires
     send-green-requires
-    places-requires
+    table-requires
     send-reds-requires
     same-length
     returns)

@@ -8,9 +8,10 @@ use native.Mathlib.Omega.{arith}
 use Rattle.updates.proofs.YellowLaws.{has-start, has-found, has-again, has-end}
 use Rattle.updates.proofs.yellow.has_id.Statement.{statement}
 use Rattle.updates.proofs.yellow.has_id.Tie as tie
+use Rattle.format.specs.Places.{idSize}
 
 abbrev Inv-loop : tie.InvT-loop
-Inv-loop e at count creator index k₀ k = (k ≤ count) × (hasId (idOf creator index) (idsAt count e at) ≡ hasId (idOf creator index) (idsAt (count - k) e (at + 3 * k)))
+Inv-loop e at count creator index k₀ k = (k ≤ count) × (hasId (idOf creator index) (idsAt count e at) ≡ hasId (idOf creator index) (idsAt (count - k) e (at + idSize * k)))
 
 abbrev μ-loop : tie.MeasureT-loop
 μ-loop e at count creator index k₀ k = count - k

@@ -1,7 +1,7 @@
-use Rattle.install.proofs.TurnLaws.{entry-green, entry-past, entry-found, entry-other}
+use Rattle.install.proofs.TurnLaws.{entry-low, entry-before, entry-past, entry-found, entry-other}
 use borrow.Author.Needs.{needs}
-use Rattle.install.proofs.table.red_at.Statement.{statement}
-use Rattle.install.proofs.table.red_at.Tie as tie
+use Rattle.install.proofs.table.place_in.Statement.{statement}
+use Rattle.install.proofs.table.place_in.Tie as tie
 
 entry-requires : tie.Need-entry-requires
 entry-requires c κs = search needs
@@ -24,17 +24,11 @@ num32-requires c κs = search needs
 cast-count : tie.Need-cast-count
 cast-count c = search needs
 
-num32-requires-2 : tie.Need-num32-requires-2
-num32-requires-2 c κs = search needs
-
-cast-if1 : tie.Need-cast-if1
-cast-if1 c = search needs
-
 returns : tie.Need-returns
-returns c = search (needs, entry-green)
+returns c = search (needs, entry-before, entry-low)
 
 returns-2 : tie.Need-returns-2
-returns-2 c = search (needs, entry-past)
+returns-2 c = search (needs, entry-past, entry-low)
 
 place-of-requires : tie.Need-place-of-requires
 place-of-requires c κs = search needs
@@ -52,10 +46,10 @@ returns-3 : tie.Need-returns-3
 returns-3 c = search (needs, entry-found)
 
 returns-4 : tie.Need-returns-4
-returns-4 c = search (needs, entry-other)
+returns-4 c = search (needs, entry-other, entry-low)
 
-pub red-at-spec : {M : Type 1} → statement M
-red-at-spec =
+pub place-in-spec : {M : Type 1} → statement M
+place-in-spec =
     tie.close
     (tie.spec
     entry-requires
@@ -65,8 +59,6 @@ red-at-spec =
     cast-k
     num32-requires
     cast-count
-    num32-requires-2
-    cast-if1
     returns
     returns-2
     place-of-requires
