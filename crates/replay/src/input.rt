@@ -8,6 +8,10 @@ use record::bytes::num16;
 use record::events::VERSION;
 use servers::QUOTA;
 use servers::SERVERS;
+use servers::stepping::AT_BODY;
+use servers::stepping::AT_KIND;
+use servers::stepping::AT_VERSION;
+use servers::stepping::LENGTH;
 
 // The number that the set-up is refused with, or 0; how many servers, and the quota.
 pub struct Setup {
@@ -17,6 +21,17 @@ pub struct Setup {
 }
 
 impl Setup {
+    const KIND: u8 = 9;
+
+    const AT_SERVERS: usize = AT_BODY;
+
+    const AT_QUOTA: usize = Setup::AT_SERVERS + 1;
+
+    pub const SIZE: usize = Setup::AT_QUOTA + 2;
+
+    // What its length bytes say.
+    const FOLLOWING: u16 = (Setup::SIZE - LENGTH) as u16;
+
     fn refused(number: u8) -> Setup
         ensures { λ r. ⌜ r ≡ setupNumbers (refusedWith number) ⌝ }
     {
@@ -36,20 +51,20 @@ pub const MOST_QUOTA: u16 = QUOTA as u16;
 pub fn read_setup(e: &[u8]) -> Setup
     ensures { λ r. ⌜ r ≡ setupOf (now (e .entry)) ⌝ }
 {
-    if e.len() != 7 {
+    if e.len() != Setup::SIZE {
         return Setup::refused(1);
     }
-    if num16(e, 0) != 5 {
+    if num16(e, 0) != Setup::FOLLOWING {
         return Setup::refused(1);
     }
-    if num8(e, 2) != VERSION {
+    if num8(e, AT_VERSION) != VERSION {
         return Setup::refused(1);
     }
-    if num8(e, 3) != 9 {
+    if num8(e, AT_KIND) != Setup::KIND {
         return Setup::refused(1);
     }
-    let servers = num8(e, 4);
-    let quota = num16(e, 5);
+    let servers = num8(e, Setup::AT_SERVERS);
+    let quota = num16(e, Setup::AT_QUOTA);
     if !sizes_in(servers as u32, quota as u32) {
         return Setup::refused(2);
     }
@@ -95,10 +110,10 @@ pub fn next_in(servers: u8, input: &[u8], ended: bool) -> Next
     if servers <= input[0] {
         return Next::Wrong(2);
     }
-    if input.len() < 3 {
+    if input.len() < 1 + LENGTH {
         return cut_short(ended);
     }
-    let size = num16(input, 1) as usize + 2;
+    let size = num16(input, 1) as usize + LENGTH;
     if input.len() - 1 < size {
         return cut_short(ended);
     }
