@@ -9,9 +9,10 @@ use native.Mathlib.Decide.{decLt}
 use lib.ListN.{length, take, drop, length-append, length-drop}
 use lib.Seq.{take-at, drop-at}
 use Rattle.base.proofs.TestLaws.{and-holds, lt-holds, eq-holds, pick-lt, pick-ge}
-use Rattle.base.specs.Bytes.{numberAt, joined}
+use Rattle.base.specs.Bytes.{joined}
 use Rattle.base.proofs.BytesLaws.{number-front}
 use Rattle.base.specs.Lists.{Each}
+use Rattle.format.specs.Places.{lengthSize}
 use Rattle.format.specs.Types.{Action, Record, Context}
 use Rattle.format.specs.Range.{contextOk, recordOk}
 use Rattle.format.specs.Read.{frameOk}
@@ -22,72 +23,68 @@ use Rattle.replication.specs.Machine.Types.{Server, taken, contextOf}
 use Rattle.replication.specs.Machine.Step.{step}
 use Rattle.replication.specs.Machine.WellFormed.{wellFormed}
 use Rattle.replication.proofs.WellFormed.Reads.{Peer, put-out-in-range, step-put-out}
-use Rattle.buffers.specs.Sending.{cutFrom, cutRecords}
+use Rattle.buffers.specs.Sending.{firstSize, cutFrom, cutRecords}
 use Rattle.buffers.proofs.Keeping.{formed-context}
 
--- How long the record at the front is, by its length bytes.
-abbrev pub size : List ℕ → ℕ
-size b = numberAt 2 b 0 + 2
-
-from-short : (d : ℕ) (b : List ℕ) → length b < 2 → cutFrom d b ≡ []
+from-short : (d : ℕ) (b : List ℕ) → length b < lengthSize → cutFrom d b ≡ []
 unfolding cutFrom
 from-short zero b h = refl
-from-short (suc d) b h = sym (pick-lt (length b) 2 [] _ _ h refl)
+from-short (suc d) b h = sym (pick-lt (length b) lengthSize [] _ _ h refl)
 
-from-next : (d : ℕ) (b : List ℕ) → 2 ≤ length b → cutFrom (suc d) b ≡ take (size b) b ∷ cutFrom d (drop (size b) b)
+from-next : (d : ℕ) (b : List ℕ) → lengthSize ≤ length b → cutFrom (suc d) b ≡ take (firstSize b) b ∷ cutFrom d (drop (firstSize b) b)
 unfolding cutFrom
-from-next d b h = sym (pick-ge (length b) 2 (take (size b) b ∷ cutFrom d (drop (size b) b)) _ _ h refl)
+from-next d b h = sym (pick-ge (length b) lengthSize (take (firstSize b) b ∷ cutFrom d (drop (firstSize b) b)) _ _ h refl)
 
 -- The bound does not matter.
 from-any : (d m : ℕ) (b : List ℕ) → length b ≤ d → length b ≤ m → cutFrom d b ≡ cutFrom m b
 from-any zero m b h k = from-short zero b (omega arith) ∙ sym (from-short m b (omega arith))
 from-any (suc d) zero b h k = from-short (suc d) b (omega arith) ∙ sym (from-short zero b (omega arith))
-from-any (suc d) (suc m) b h k = go (decLt (length b) 2) (λ p q. from-any d m (drop (size b) b) p q)
+from-any (suc d) (suc m) b h k = go (decLt (length b) lengthSize) (λ p q. from-any d m (drop (firstSize b) b) p q)
   where
-    go : Dec (length b < 2)
-        → (length (drop (size b) b) ≤ d → length (drop (size b) b) ≤ m → cutFrom d (drop (size b) b) ≡ cutFrom m (drop (size b) b))
+    go : Dec (length b < lengthSize)
+        → (length (drop (firstSize b) b) ≤ d → length (drop (firstSize b) b) ≤ m → cutFrom d (drop (firstSize b) b) ≡ cutFrom m (drop (firstSize b) b))
         → cutFrom (suc d) b ≡ cutFrom (suc m) b
     go (yes p) rest = from-short (suc d) b p ∙ sym (from-short (suc m) b p)
     go (no p) rest =
-        let l = length-drop (size b) b in
+        let l = length-drop (firstSize b) b in
         from-next d b (omega arith)
-        ∙ ap (λ (r : List (List ℕ)). take (size b) b ∷ r) (rest (omega arith) (omega arith))
+        ∙ ap (λ (r : List (List ℕ)). take (firstSize b) b ∷ r) (rest (omega arith) (omega arith))
         ∙ sym (from-next m b (omega arith))
 
-pub cut-short : (b : List ℕ) → length b < 2 → cutRecords b ≡ []
+pub cut-short : (b : List ℕ) → length b < lengthSize → cutRecords b ≡ []
 unfolding cutRecords
 cut-short b h = from-short (length b) b h
 
 -- One record, and those behind it.
-pub cut-next : (b : List ℕ) → 2 ≤ length b → cutRecords b ≡ take (size b) b ∷ cutRecords (drop (size b) b)
+pub cut-next : (b : List ℕ) → lengthSize ≤ length b → cutRecords b ≡ take (firstSize b) b ∷ cutRecords (drop (firstSize b) b)
 unfolding cutRecords
 cut-next b h = go (length b) refl
   where
-    go : (m : ℕ) → length b ≡ m → cutFrom m b ≡ take (size b) b ∷ cutFrom (length (drop (size b) b)) (drop (size b) b)
+    go : (m : ℕ) → length b ≡ m → cutFrom m b ≡ take (firstSize b) b ∷ cutFrom (length (drop (firstSize b) b)) (drop (firstSize b) b)
     go zero l = absurd (omega arith)
     go (suc m) l =
-        let r = length-drop (size b) b in
+        let r = length-drop (firstSize b) b in
         from-next m b h
-        ∙ ap (λ (r : List (List ℕ)). take (size b) b ∷ r) (from-any m (length (drop (size b) b)) (drop (size b) b) (omega arith) (omega arith))
+        ∙ ap (λ (r : List (List ℕ)). take (firstSize b) b ∷ r) (from-any m (length (drop (firstSize b) b)) (drop (firstSize b) b) (omega arith) (omega arith))
 
 -- ---- written records
 
-frame-long : (c : Context) (r : Record) → recordOk c r ≡ true → numberAt 2 (write r) 0 + 2 ≡ length (write r)
+frame-long : (c : Context) (r : Record) → recordOk c r ≡ true → firstSize (write r) ≡ length (write r)
 unfolding frameOk
 frame-long c r ok =
     let x = says-read c (write r) r (read-written c r ok) in
-    eq-holds (numberAt 2 (write r) 0 + 2) (length (write r)) (and-holds _ _ (x .frame) .0)
+    eq-holds (firstSize (write r)) (length (write r)) (and-holds _ _ (x .frame) .0)
 
 written-cut : (c : Context) (rs : List Record) → Each (λ r. recordOk c r ≡ true) rs → cutRecords (joined (map write rs)) ≡ map write rs
 unfolding joined
 written-cut c [] h = cut-short [] (omega arith)
 written-cut c (r ∷ rs) h =
     let rest : List ℕ = joined (map write rs) in
-    let long : numberAt 2 (write r) 0 + 2 ≡ length (write r) = frame-long c r (h .0) in
-    let front : numberAt 2 (write r ++ rest) 0 + 2 ≡ length (write r) = ap (λ (m : ℕ). m + 2) (number-front 2 (write r) rest 0 (omega arith))
+    let long : firstSize (write r) ≡ length (write r) = frame-long c r (h .0) in
+    let front : firstSize (write r ++ rest) ≡ length (write r) = ap (λ (m : ℕ). m + lengthSize) (number-front lengthSize (write r) rest 0 (omega arith))
     ∙ long in
-    let first : take (size (write r ++ rest)) (write r ++ rest) ≡ write r = take-at (write r) rest (size (write r ++ rest)) (sym front) in
-    let behind : drop (size (write r ++ rest)) (write r ++ rest) ≡ rest = drop-at (write r) rest (size (write r ++ rest)) (sym front) in
+    let first : take (firstSize (write r ++ rest)) (write r ++ rest) ≡ write r = take-at (write r) rest (firstSize (write r ++ rest)) (sym front) in
+    let behind : drop (firstSize (write r ++ rest)) (write r ++ rest) ≡ rest = drop-at (write r) rest (firstSize (write r ++ rest)) (sym front) in
     cut-next (write r ++ rest) (omega (arith, length-append (write r) rest))
     ∙ ap₂ {A = List ℕ} {B = List ℕ} {C = List (List ℕ)} (λ x y. x ∷ cutRecords y) first behind
     ∙ ap (λ (l : List (List ℕ)). write r ∷ l) (written-cut c rs (h .1))

@@ -1,11 +1,14 @@
 -- What a daemon keeps for one server, and what it makes of it: by a store, at the start, by an event.
 -- Assumes nothing.
-use Prim.Native.Nat.{ℕ, _≤_}
+use Prim.Native.Nat.{ℕ, _-_, _≤_}
 use mathlib.Core.Path.{_≡_}
 use mathlib.Core.Bool.{Bool}
 use mathlib.Core.List.{List}
 use lib.ListN.{length, getD}
 use Rattle.base.specs.Tests.{_and_, _=?_, pick}
+use Rattle.format.specs.Limits.{version}
+use Rattle.format.specs.Places.{lengthSize, atVersion, atKind, atBody}
+use Rattle.format.specs.Types.{ofRecovery, kindNumber}
 use Rattle.engine.specs.Layout.{stateLength}
 use Rattle.engine.specs.Outcome.{Result, stepOn, startOn}
 
@@ -29,7 +32,9 @@ begun n q i b = saved (record { state = startOn n q i (b .state) .state; store =
 
 -- The recovery's record: no other bytes read as one.
 unfoldable pub isRecovery : List ℕ → Bool
-isRecovery e = length e =? 4 and getD e 0 0 =? 0 and getD e 1 0 =? 2 and getD e 2 0 =? 1 and getD e 3 0 =? 8
+isRecovery e =
+    length e =? atBody and getD e 0 0 =? 0 and getD e 1 0 =? atBody - lengthSize
+    and getD e atVersion 0 =? version and getD e atKind 0 =? kindNumber ofRecovery
 
 -- What the state's buffer holds when the event comes: "Recovery starts from that server's last stored image."
 unfoldable pub sourceIn : Buffers → List ℕ → List ℕ

@@ -22,7 +22,7 @@ use Rattle.engine.specs.Image.{modeNumber}
 use Rattle.engine.specs.Decode.{modeNamed}
 use Rattle.engine.proofs.HeaderRead.{mode-named}
 use Rattle.replay.specs.declared.line.Shown.{Shown}
-use Rattle.replay.specs.Lines.{Put, lineRoom, spaced, ended, frontText, stateText, backText, shownLine}
+use Rattle.replay.specs.Lines.{headRoom, Put, lineRoom, spaced, ended, frontText, stateText, backText, shownLine}
 use Rattle.replay.proofs.DecimalLaws.{digits-few, decimal-digits}
 
 pub word-put : (w o o′ : List ℕ) (at : ℕ) → at + length w ≤ length o → o′ ≡ patched at w o → Put w (length w) at (at + length w) o o′
@@ -178,20 +178,20 @@ line-put s o o₁ o₂ r k p q =
     put-as (frontOf s ++ restOf s) (shownLine s) o o₂ lineRoom lineRoom 0 k (put-then (frontOf s) (restOf s) 63 101 0 r k o o₁ o₂ p q) (shown-parts s)
     (omega arith)
 
-pub header-put : (o o₁ : List ℕ) (r : ℕ) → Put header (length header) 0 r o o₁ → Put header 64 0 r o o₁
+pub header-put : (o o₁ : List ℕ) (r : ℕ) → Put header (length header) 0 r o o₁ → Put header headRoom 0 r o o₁
 unfolding header ascii
-header-put o o₁ r p = put-as header header o o₁ 48 64 0 r p refl (omega arith)
+header-put o o₁ r p = put-as header header o o₁ (length header) headRoom 0 r p refl (omega arith)
 
 pub input-put : (k r l : ℕ) (o o₁ o₂ : List ℕ) → Put (ascii "input ") (length (ascii "input ")) 0 r o o₁ → Put (ended (decimal k)) 21 r l o₁ o₂
-    → Put (inputLine k) 64 0 l o o₂
+    → Put (inputLine k) headRoom 0 l o o₂
 unfolding ascii inputLine line ended
 input-put k r l o o₁ o₂ p q =
-    put-as (ascii "input " ++ ended (decimal k)) (inputLine k) o o₂ 27 64 0 l
+    put-as (ascii "input " ++ ended (decimal k)) (inputLine k) o o₂ 27 headRoom 0 l
     (put-then (ascii "input ") (ended (decimal k)) 6 21 0 r l o o₁ o₂ p q) refl (omega arith)
 
 pub setup-put : (k r l : ℕ) (o o₁ o₂ : List ℕ) → Put (ascii "setup ") (length (ascii "setup ")) 0 r o o₁ → Put (ended (decimal k)) 21 r l o₁ o₂
-    → Put (setupLine k) 64 0 l o o₂
+    → Put (setupLine k) headRoom 0 l o o₂
 unfolding ascii setupLine line ended
 setup-put k r l o o₁ o₂ p q =
-    put-as (ascii "setup " ++ ended (decimal k)) (setupLine k) o o₂ 27 64 0 l
+    put-as (ascii "setup " ++ ended (decimal k)) (setupLine k) o o₂ 27 headRoom 0 l
     (put-then (ascii "setup ") (ended (decimal k)) 6 21 0 r l o o₁ o₂ p q) refl (omega arith)

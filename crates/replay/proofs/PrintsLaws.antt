@@ -7,6 +7,7 @@ use mathlib.Core.List.{List, [], _∷_, _++_, append-nil, map}
 use native.Mathlib.Omega.{arith}
 use lib.ListN.{length, getD, take, drop, length-append}
 use lib.Seq.{take-append-le, drop-append-le}
+use Rattle.servers.specs.Core.{tableServers, tableQuota}
 use Rattle.base.specs.Tests.{_<?_, _≤?_}
 use Rattle.base.proofs.TestLaws.{lt-yes, lt-no, le-yes, le-no, le-holds, and-holds, pick-as}
 use Rattle.base.specs.Bytes.{numberAt, partAt}
@@ -24,7 +25,7 @@ use Rattle.servers.proofs.Tabled.{Tabled, fresh-tabled}
 use Rattle.replay.specs.declared.input.Next.{Next}
 use Rattle.replay.specs.declared.input.Next.the-variants.{Event, Wrong, More, Done}
 use Rattle.replay.specs.declared.turns.Going.the-variants.{On, Read, Stop}
-use Rattle.replay.specs.Input.{setupNumbers, setupOf, nextOf}
+use Rattle.replay.specs.Input.{setupSize, setupNumbers, setupOf, nextOf}
 use Rattle.replay.specs.Turns.{lineAt, Turned, turnBy, turnOf}
 use Rattle.replay.proofs.Goings.{on-stop, read-stop}
 use Rattle.replay.proofs.InputLaws.{Whole, whole-event, Comes, wrong, cut, done, comes}
@@ -148,11 +149,11 @@ module _ (t : List Images) (s : List declared.Server) (r : Tabled t s) (event : 
 
 -- ---- the set-up
 
-pub prints-setup : (k : ℕ) (input : List ℕ) → setupOf (take 7 input) .number ≡ k → (k ≡ 0 → ⊥) → replay 4 16 input ≡ setupLine k
+pub prints-setup : (k : ℕ) (input : List ℕ) → setupOf (take setupSize input) .number ≡ k → (k ≡ 0 → ⊥) → replay tableServers tableQuota input ≡ setupLine k
 unfolding setupOf setupNumbers replay afterSetup
-prints-setup k input e h = go (readSetup 4 16 (take 7 input)) e
+prints-setup k input e h = go (readSetup tableServers tableQuota (take setupSize input)) e
   where
-    go : (x : Reading Setup) → setupNumbers x .number ≡ k → afterSetup x (drop 7 input) ≡ setupLine k
+    go : (x : Reading Setup) → setupNumbers x .number ≡ k → afterSetup x (drop setupSize input) ≡ setupLine k
     go (says y) e = absurd (h (sym e))
     go (refused j) e = ap setupLine e
 
@@ -161,11 +162,11 @@ abbrev pub fresh : (n q : ℕ) → List Images
 fresh n q = map (λ k. started (start n q k)) (below n)
 
 starts : (e rest : List ℕ) → setupOf e .number ≡ 0
-    → (afterSetup (readSetup 4 16 e) rest ≡ header ++ events (length rest) 1 (fresh (setupOf e .servers) (setupOf e .quota)) rest)
+    → (afterSetup (readSetup tableServers tableQuota e) rest ≡ header ++ events (length rest) 1 (fresh (setupOf e .servers) (setupOf e .quota)) rest)
     × Tabled (fresh (setupOf e .servers) (setupOf e .quota)) (freshTable (setupOf e .servers) (setupOf e .quota))
 unfolding setupOf setupNumbers readSetup setupOk afterSetup
 starts e rest =
-    pick-as P (setupFrameOk e) _ _ (λ f. pick-as P (setupOk 4 16 (setupIn e)) _ _ (λ ok z. (refl, tabled ok)) (λ n z. absurd (omega arith)))
+    pick-as P (setupFrameOk e) _ _ (λ f. pick-as P (setupOk tableServers tableQuota (setupIn e)) _ _ (λ ok z. (refl, tabled ok)) (λ n z. absurd (omega arith)))
     (λ n z. absurd (omega arith))
   where
     P : Reading Setup → Type 0
@@ -174,19 +175,19 @@ starts e rest =
         → (afterSetup x rest ≡ header ++ events (length rest) 1 (fresh (setupNumbers x .servers) (setupNumbers x .quota)) rest)
         × Tabled (fresh (setupNumbers x .servers) (setupNumbers x .quota)) (freshTable (setupNumbers x .servers) (setupNumbers x .quota))
 
-    tabled : setupOk 4 16 (setupIn e) ≡ true
+    tabled : setupOk tableServers tableQuota (setupIn e) ≡ true
         → Tabled (fresh (setupIn e .servers) (setupIn e .quota)) (freshTable (setupIn e .servers) (setupIn e .quota))
     tabled ok =
         let sizes = and-holds _ _ ok in
         let limits = and-holds _ _ (sizes .1) in
-        fresh-tabled (setupIn e .servers) (setupIn e .quota) (sizes .0) (le-holds (setupIn e .servers) 4 (limits .0))
-        (le-holds (setupIn e .quota) 16 (limits .1))
+        fresh-tabled (setupIn e .servers) (setupIn e .quota) (sizes .0) (le-holds (setupIn e .servers) tableServers (limits .0))
+        (le-holds (setupIn e .quota) tableQuota (limits .1))
 
 -- After a good set-up the header follows, then the events at servers at their start; the table that the program makes keeps these.
-pub prints-start : (input : List ℕ) → setupOf (take 7 input) .number ≡ 0
-    → (replay 4 16 input
-    ≡ header ++ events (length (drop 7 input)) 1 (fresh (setupOf (take 7 input) .servers) (setupOf (take 7 input) .quota)) (drop 7 input))
-    × Tabled (fresh (setupOf (take 7 input) .servers) (setupOf (take 7 input) .quota))
-    (freshTable (setupOf (take 7 input) .servers) (setupOf (take 7 input) .quota))
+pub prints-start : (input : List ℕ) → setupOf (take setupSize input) .number ≡ 0
+    → (replay tableServers tableQuota input
+    ≡ header ++ events (length (drop setupSize input)) 1 (fresh (setupOf (take setupSize input) .servers) (setupOf (take setupSize input) .quota)) (drop setupSize input))
+    × Tabled (fresh (setupOf (take setupSize input) .servers) (setupOf (take setupSize input) .quota))
+    (freshTable (setupOf (take setupSize input) .servers) (setupOf (take setupSize input) .quota))
 unfolding replay
-prints-start input e = starts (take 7 input) (drop 7 input) e
+prints-start input e = starts (take setupSize input) (drop setupSize input) e

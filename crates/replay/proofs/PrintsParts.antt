@@ -7,6 +7,7 @@ use mathlib.Core.List.{List, [], _∷_, _++_, append-assoc, append-nil}
 use mathlib.Core.Option.{some}
 use native.Mathlib.Omega.{arith}
 use lib.ListN.{length, take, drop, length-drop, length-map}
+use Rattle.servers.specs.Core.{tableServers, tableQuota}
 use Rattle.base.specs.Tests.{_<?_, _=?_, pick}
 use Rattle.base.proofs.TestLaws.{pick-yes, pick-no, not-both, Known, holds, fails, known, lt-holds, lt-fails, eq-no, eq-holds, eq-fails}
 use Rattle.base.specs.Bytes.{joined}
@@ -18,7 +19,7 @@ use Rattle.servers.specs.declared.Server.{Server}
 use Rattle.servers.specs.Starting.{freshTable}
 use Rattle.replay.specs.declared.input.Setup.{Setup}
 use Rattle.replay.specs.declared.turns.Going.the-variants.{On, Read, Stop}
-use Rattle.replay.specs.Input.{setupOf}
+use Rattle.replay.specs.Input.{setupSize, setupOf}
 use Rattle.replay.specs.Lines.{lineRoom}
 use Rattle.replay.specs.Turns.{Turned, turnOf}
 use Rattle.replay.specs.Passes as passes
@@ -202,26 +203,26 @@ module _ (n room : ℕ) (line : lineRoom ≤ room) where
 
 pub prints-replay : PrintsReplay
 unfolding PrintsReplay printedOf
-prints-replay room input parts line small each cut = go (known (setupOf (take 7 input) .number =? 0))
+prints-replay room input parts line small each cut = go (known (setupOf (take setupSize input) .number =? 0))
   where
     s : Setup
-    s = setupOf (take 7 input)
+    s = setupOf (take setupSize input)
 
     P : List ℕ
     P = header ++ partsFrom room (freshTable (s .servers) (s .quota)) (s .servers) 1 [] (parts ++ ([] ∷ []))
 
-    go : Known (s .number =? 0) → pick (s .number =? 0) P (setupLine (s .number)) ≡ replay 4 16 input
+    go : Known (s .number =? 0) → pick (s .number =? 0) P (setupLine (s .number)) ≡ replay tableServers tableQuota input
     go (fails e) =
         sym (pick-no (s .number =? 0) (setupLine (s .number)) P (setupLine (s .number)) e refl)
         ∙ sym (prints-setup (s .number) input refl (eq-fails (s .number) 0 e))
     go (holds e) =
         let start = prints-start input (eq-holds (s .number) 0 e) in
         let many : length (fresh (s .servers) (s .quota)) ≡ s .servers = length-map (below (s .servers)) _ ∙ below-length (s .servers) in
-        let rest : length (joined parts) ≡ length input - 7 = ap length cut ∙ length-drop 7 input in
-        let h : Stands (s .servers) (joined parts) (fresh (s .servers) (s .quota)) (freshTable (s .servers) (s .quota)) (length (drop 7 input)) 1 []
+        let rest : length (joined parts) ≡ length input - setupSize = ap length cut ∙ length-drop setupSize input in
+        let h : Stands (s .servers) (joined parts) (fresh (s .servers) (s .quota)) (freshTable (s .servers) (s .quota)) (length (drop setupSize input)) 1 []
         = record { tabled = start .1; count = many; bound = omega (arith, ap length cut); small = omega arith } in
         sym (pick-yes (s .number =? 0) P P (setupLine (s .number)) e refl)
         ∙ ap (λ (x : List ℕ). header ++ x)
-        (parts-print (s .servers) room line parts (fresh (s .servers) (s .quota)) (freshTable (s .servers) (s .quota)) (length (drop 7 input)) 1 [] each h
-        ∙ ap (events (length (drop 7 input)) 1 (fresh (s .servers) (s .quota))) cut)
+        (parts-print (s .servers) room line parts (fresh (s .servers) (s .quota)) (freshTable (s .servers) (s .quota)) (length (drop setupSize input)) 1 [] each h
+        ∙ ap (events (length (drop setupSize input)) 1 (fresh (s .servers) (s .quota))) cut)
         ∙ sym (start .0)

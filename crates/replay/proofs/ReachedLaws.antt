@@ -13,7 +13,7 @@ use Rattle.servers.specs.declared.Server.{Server}
 use Rattle.servers.specs.Starting.{freshTable}
 use Rattle.replay.specs.declared.input.Setup.{Setup}
 use Rattle.replay.specs.declared.Standing.{Standing}
-use Rattle.replay.specs.Input.{setupOf}
+use Rattle.replay.specs.Input.{setupSize, setupOf}
 use Rattle.replay.specs.Passes.{partOf, asksMore, partsFrom, printedOf, PrintsReplay}
 use Rattle.replay.specs.Reading.{linesRoom, Refilled}
 use Rattle.replay.specs.Advancing.{there, passesAt, Reached, starts, goesOn, ends, ServesReplay}
@@ -67,7 +67,7 @@ module _ (n q : ℕ) where
 pub serves-replay : ServesReplay
 unfolding ServesReplay PrintsReplay printedOf
 serves-replay input cut parts behind text r small each whole-input reading good h last =
-    let s : Setup = setupOf (take 7 input) in
+    let s : Setup = setupOf (take setupSize input) in
     let lines : List ℕ = partsFrom linesRoom (freshTable (s .servers) (s .quota)) (s .servers) 1 [] (cut ++ ([] ∷ [])) in
     ap (λ (x : List ℕ). header ++ x) (sym (traced (s .servers) (s .quota) parts text r h behind .1 last) ∙ ap (whole (s .servers) (s .quota)) (sym reading))
     ∙ pick-eq (s .number) 0 (header ++ lines) (header ++ lines) (setupLine (s .number)) good refl

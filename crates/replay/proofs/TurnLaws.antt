@@ -6,6 +6,7 @@ use mathlib.Core.Bool.{Bool}
 use mathlib.Core.List.{List}
 use native.Mathlib.Omega.{arith}
 use lib.ListN.{length, getD, take, drop}
+use Rattle.servers.specs.Core.{tableServers}
 use Rattle.base.specs.Bytes.{numberAt, partAt}
 use Rattle.replication.specs.Replay.{inputLine}
 use Rattle.engine.specs.Layout.{atMode, atQueueLength, atGreenLength, atLast}
@@ -18,7 +19,7 @@ use Rattle.replay.specs.declared.input.Next.the-variants.{Event, Wrong, 
 use Rattle.replay.specs.declared.turns.Going.the-variants.{On, Read, Stop}
 use Rattle.replay.specs.declared.turns.Turn.{Turn}
 use Rattle.replay.specs.Input.{nextOf}
-use Rattle.replay.specs.Lines.{Put, lineRoom, shownLine}
+use Rattle.replay.specs.Lines.{headRoom, Put, lineRoom, shownLine}
 use Rattle.replay.specs.Turns.{shownOf, lineAt, Turned, turned, turnBy, turnOf}
 use Rattle.replay.proofs.InputLaws.{whole-event}
 
@@ -64,7 +65,7 @@ event-made t t₁ event size r input o o₁ f p =
     λ i. record { table = table-is i; taken = size + 1; text = text-is i; going = On }
 
 module _ (n size : ℕ) (input : List ℕ) (ended : Bool) (x : Next) (is-x : x ≡ nextOf n input ended) (is-event : x ≡ Event size) where
-  pub event-server : n ≤ 4 → getD input 0 0 < 4
+  pub event-server : n ≤ tableServers → getD input 0 0 < tableServers
   event-server h = omega (arith, whole-event n input ended size (sym is-x ∙ is-event) .server)
 
   pub event-inside : size + 1 ≤ length input
@@ -76,7 +77,7 @@ module _ (t : List Server) (n event : ℕ) (input o o₁ : List ℕ) (ended : Bo
   unfolding turnOf
   event-turn size r e h = h ∙ ap (λ (y : Next). turnBy y t event input) (sym e ∙ is-x)
 
-  pub wrong-turn : (k r : ℕ) → x ≡ Wrong k → Put (inputLine k) 64 0 r o o₁
+  pub wrong-turn : (k r : ℕ) → x ≡ Wrong k → Put (inputLine k) headRoom 0 r o o₁
       → turned (record { table = t; taken = 0; length = r; going = Stop }) o₁ ≡ turnOf t n event input ended
   unfolding turnOf turned turnBy
   wrong-turn k r e p =

@@ -8,9 +8,10 @@ use lib.ListN.{length, take, drop}
 use Rattle.base.specs.Bytes.{joined}
 use Rattle.base.specs.Lists.{Each}
 use Rattle.replication.specs.Replay.{header, replay}
+use Rattle.servers.specs.Core.{tableServers, tableQuota}
 use Rattle.servers.specs.Starting.{freshTable}
 use Rattle.replay.specs.declared.Standing.{Standing}
-use Rattle.replay.specs.Input.{setupOf}
+use Rattle.replay.specs.Input.{setupSize, setupOf}
 use Rattle.replay.specs.Passes.{Progress, partOf, asksMore}
 use Rattle.replay.specs.Reading.{linesRoom, Refilled}
 
@@ -49,6 +50,8 @@ pub record Served (servers quota : ℕ) (r : Standing) : Type 0 where
 -- read are the first of those that the input is cut into, the last of which is its end.
 unfoldable pub ServesReplay : Type 0
 ServesReplay =
-    (input : List ℕ) (cut parts others : List (List ℕ)) (text : List ℕ) (r : Standing) → length input < 2 ^ 64 → Each (λ x. 1 ≤ length x) cut
-    → joined cut ≡ drop 7 input → cut ++ ([] ∷ []) ≡ parts ++ others → setupOf (take 7 input) .number ≡ 0
-    → Reached (setupOf (take 7 input) .servers) (setupOf (take 7 input) .quota) parts text r → r .more ≡ false → header ++ text ≡ replay 4 16 input
+    (input : List ℕ) (cut parts others : List (List ℕ)) (text : List ℕ) (r : Standing) → length input < 2 ^ 64
+    → Each (λ x. 1 ≤ length x) cut → joined cut ≡ drop setupSize input → cut ++ ([] ∷ []) ≡ parts ++ others
+    → setupOf (take setupSize input) .number ≡ 0
+    → Reached (setupOf (take setupSize input) .servers) (setupOf (take setupSize input) .quota) parts text r → r .more ≡ false
+    → header ++ text ≡ replay tableServers tableQuota input

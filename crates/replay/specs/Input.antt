@@ -6,12 +6,21 @@ use mathlib.Core.List.{List}
 use lib.ListN.{length, getD}
 use Rattle.base.specs.Tests.{_<?_, pick}
 use Rattle.base.specs.Bytes.{numberAt}
+use Rattle.format.specs.Places.{lengthSize, atBody}
 use Rattle.format.specs.Types.{Reading, says, refused}
 use Rattle.format.specs.Setup as format
 use Rattle.format.specs.Setup.{readSetup}
+use Rattle.servers.specs.Core.{tableServers, tableQuota}
 use Rattle.replay.specs.declared.input.Setup.{Setup}
 use Rattle.replay.specs.declared.input.Next.{Next}
 use Rattle.replay.specs.declared.input.Next.the-variants.{Event, Wrong, More, Done}
+
+-- "a set-up record (kind 9: n 1 byte, q 2 bytes)"
+abbrev pub setupSize : ℕ
+setupSize = atBody + 1 + 2
+
+abbrev pub setupKind : ℕ
+setupKind = 9
 
 -- What the set-up reads as: its number, or 0.
 unfoldable pub setupNumbers : Reading format.Setup → Setup
@@ -19,16 +28,20 @@ setupNumbers (says s) = record { number = 0; servers = s .servers; quota = s .qu
 setupNumbers (refused k) = record { number = k; servers = 0; quota = 0 }
 
 unfoldable pub setupOf : List ℕ → Setup
-setupOf e = setupNumbers (readSetup 4 16 e)
+setupOf e = setupNumbers (readSetup tableServers tableQuota e)
 
 unfoldable pub cutShort : Bool → Next
 cutShort ended = pick ended (Wrong 1) More
+
+-- The size of the event behind the server byte, by its length bytes.
+abbrev pub eventSize : List ℕ → ℕ
+eventSize input = numberAt lengthSize input 1 + lengthSize
 
 -- What comes next of n servers; whether the input has ended with these bytes. "A server byte from n up, or an event cut short by the input's end".
 unfoldable pub nextOf : (n : ℕ) → List ℕ → Bool → Next
 nextOf n input ended =
     pick (length input <? 1) (pick ended Done More)
     (pick (getD input 0 0 <? n)
-    (pick (length input <? 3) (cutShort ended)
-    (pick (length input - 1 <? numberAt 2 input 1 + 2) (cutShort ended) (Event (numberAt 2 input 1 + 2))))
+    (pick (length input <? 1 + lengthSize) (cutShort ended)
+    (pick (length input - 1 <? eventSize input) (cutShort ended) (Event (eventSize input))))
     (Wrong 2))

@@ -20,6 +20,10 @@ pub record Put (w : List ℕ) (size at r : ℕ) (o o′ : List ℕ) : Type 0 whe
 abbrev pub lineRoom : ℕ
 lineRoom = 164
 
+-- The most bytes that the header, the `input` line and the `setup` line take.
+abbrev pub headRoom : ℕ
+headRoom = 64
+
 -- A word and a space; a word and the line's end.
 unfoldable pub spaced : List ℕ → List ℕ
 spaced w = w ++ ascii " "

@@ -9,6 +9,7 @@ use Rattle.base.specs.Tests.{_<?_, _=?_, pick}
 use Rattle.base.specs.Bytes.{joined}
 use Rattle.base.specs.Lists.{Each}
 use Rattle.replication.specs.Replay.{header, setupLine, replay}
+use Rattle.servers.specs.Core.{tableServers, tableQuota}
 use Rattle.servers.specs.declared.Server.{Server}
 use Rattle.servers.specs.Starting.{freshTable}
 use Rattle.replay.specs.declared.input.Setup.{Setup}
@@ -16,7 +17,7 @@ use Rattle.replay.specs.declared.turns.Going.{Going}
 use Rattle.replay.specs.declared.turns.Going.the-variants.{On, Read, Stop}
 use Rattle.replay.specs.declared.passes.Passed.{Passed}
 use Rattle.replay.specs.declared.Printed.{Printed}
-use Rattle.replay.specs.Input.{setupOf}
+use Rattle.replay.specs.Input.{setupSize, setupOf}
 use Rattle.replay.specs.Lines.{lineRoom}
 use Rattle.replay.specs.Turns.{Turned, turnOf}
 
@@ -107,9 +108,10 @@ printedOf room first parts =
     let s : Setup = setupOf first in
     pick (s .number =? 0) (header ++ partsFrom room (freshTable (s .servers) (s .quota)) (s .servers) 1 [] parts) (setupLine (s .number))
 
--- However the input behind its first 7 bytes is cut into parts, and whatever room lines have, one at least: the program prints what
+-- However the input behind its set-up record is cut into parts, and whatever room lines have, one at least: the program prints what
 -- document 01 says. Events are numbered in 64 bits: the input has fewer than 2 ^ 64 bytes.
 unfoldable pub PrintsReplay : Type 0
 PrintsReplay =
     (room : ℕ) (input : List ℕ) (parts : List (List ℕ)) → lineRoom ≤ room → length input < 2 ^ 64 → Each (λ x. 1 ≤ length x) parts
-    → joined parts ≡ drop 7 input → printedOf room (take 7 input) (parts ++ ([] ∷ [])) ≡ replay 4 16 input
+    → joined parts ≡ drop setupSize input
+    → printedOf room (take setupSize input) (parts ++ ([] ∷ [])) ≡ replay tableServers tableQuota input

@@ -4,6 +4,7 @@ ghost use Rattle.format.specs.Types.{refused as refusedWith};
 ghost use Rattle.replay.specs.Input.{setupNumbers, setupOf, cutShort, nextOf};
 use record::bytes::num8;
 use record::bytes::num16;
+use record::events::Event;
 use record::events::VERSION;
 use record::range::sizes_ok;
 use servers::QUOTA;
@@ -17,6 +18,17 @@ pub struct Setup {
 }
 
 impl Setup {
+    const KIND: u8 = 9;
+
+    const AT_SERVERS: usize = Event::BODY;
+
+    const AT_QUOTA: usize = Setup::AT_SERVERS + 1;
+
+    pub const SIZE: usize = Setup::AT_QUOTA + 2;
+
+    // What its length bytes say.
+    const FOLLOWING: u16 = (Setup::SIZE - Event::LENGTH_SIZE) as u16;
+
     fn refused(number: u8) -> Setup
         ensures { λ r. ⌜ r ≡ setupNumbers (refusedWith number) ⌝ }
     {
@@ -36,20 +48,20 @@ pub const MOST_QUOTA: u16 = QUOTA as u16;
 pub fn read_setup(e: &[u8]) -> Setup
     ensures { λ r. ⌜ r ≡ setupOf (now (e .entry)) ⌝ }
 {
-    if e.len() != 7 {
+    if e.len() != Setup::SIZE {
         return Setup::refused(1);
     }
-    if num16(e, 0) != 5 {
+    if num16(e, 0) != Setup::FOLLOWING {
         return Setup::refused(1);
     }
-    if num8(e, 2) != VERSION {
+    if num8(e, Event::VERSION_AT) != VERSION {
         return Setup::refused(1);
     }
-    if num8(e, 3) != 9 {
+    if num8(e, Event::KIND_AT) != Setup::KIND {
         return Setup::refused(1);
     }
-    let servers = num8(e, 4);
-    let quota = num16(e, 5);
+    let servers = num8(e, Setup::AT_SERVERS);
+    let quota = num16(e, Setup::AT_QUOTA);
     if !sizes_ok(servers as u32, quota as u32) {
         return Setup::refused(2);
     }
@@ -95,10 +107,10 @@ pub fn next_in(servers: u8, input: &[u8], ended: bool) -> Next
     if servers <= input[0] {
         return Next::Wrong(2);
     }
-    if input.len() < 3 {
+    if input.len() < 1 + Event::LENGTH_SIZE {
         return cut_short(ended);
     }
-    let size = num16(input, 1) as usize + 2;
+    let size = num16(input, 1) as usize + Event::LENGTH_SIZE;
     if input.len() - 1 < size {
         return cut_short(ended);
     }

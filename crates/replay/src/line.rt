@@ -6,12 +6,15 @@ ghost use lib.ListN.{length};
 ghost use Rattle.base.specs.Text.{decimal as decimalOf};
 ghost use Rattle.replication.specs.Replay.{modeName, header, inputLine, setupLine};
 ghost use Rattle.engine.specs.Decode.{modeNamed};
-ghost use Rattle.replay.specs.Lines.{Put, lineRoom, spaced, ended, pairText, frontText, stateText, backText, shownLine};
+ghost use Rattle.replay.specs.Lines.{headRoom, Put, lineRoom, spaced, ended, pairText, frontText, stateText, backText, shownLine};
 use record::State;
 use record::blocks::copy;
 
 // The most bytes that a line takes.
 pub const LINE_ROOM: usize = 164;
+
+// The most bytes that the header, the `input` line and the `setup` line take.
+pub const HEAD_ROOM: usize = 64;
 
 fn put_word(out: &mut [u8], at: usize, w: &[u8]) -> usize
     requires { ⌜ at + length (now w) ≤ length (now out) ⌝ }
@@ -135,16 +138,16 @@ pub fn event_line(out: &mut [u8], s: Shown) -> usize
 }
 
 pub fn header_line(out: &mut [u8]) -> usize
-    requires { ⌜ 64 ≤ length (now out) ⌝ }
-    ensures { λ r. ⌜ Put header 64 0 r (now (out .entry)) (now (out .exit)) ⌝ }
+    requires { ⌜ headRoom ≤ length (now out) ⌝ }
+    ensures { λ r. ⌜ Put header headRoom 0 r (now (out .entry)) (now (out .exit)) ⌝ }
 {
     put_word(out, 0, b"event server returned state red green prim sent\n")
 }
 
 // "prints `input` and 2 or 1"
 pub fn input_line(out: &mut [u8], number: u8) -> usize
-    requires { ⌜ 64 ≤ length (now out) ⌝ }
-    ensures { λ r. ⌜ Put (inputLine number) 64 0 r (now (out .entry)) (now (out .exit)) ⌝ }
+    requires { ⌜ headRoom ≤ length (now out) ⌝ }
+    ensures { λ r. ⌜ Put (inputLine number) headRoom 0 r (now (out .entry)) (now (out .exit)) ⌝ }
 {
     let next = put_word(out, 0, b"input ");
     put_last(out, next, number as u64)
@@ -152,8 +155,8 @@ pub fn input_line(out: &mut [u8], number: u8) -> usize
 
 // "prints `setup` and its number (1 or 2)"
 pub fn setup_line(out: &mut [u8], number: u8) -> usize
-    requires { ⌜ 64 ≤ length (now out) ⌝ }
-    ensures { λ r. ⌜ Put (setupLine number) 64 0 r (now (out .entry)) (now (out .exit)) ⌝ }
+    requires { ⌜ headRoom ≤ length (now out) ⌝ }
+    ensures { λ r. ⌜ Put (setupLine number) headRoom 0 r (now (out .entry)) (now (out .exit)) ⌝ }
 {
     let next = put_word(out, 0, b"setup ");
     put_last(out, next, number as u64)

@@ -4,6 +4,7 @@ ghost use mathlib.Core.Path.{_≡_};
 ghost use Prim.Native.Nat.{_≤_, _<_};
 ghost use lib.ListN.{length};
 ghost use Rattle.io.specs.Counts.{Counts};
+ghost use Rattle.servers.specs.Core.{tableServers};
 ghost use Rattle.replay.specs.Passes.{partOf, printed, PrintsReplay};
 ghost use Rattle.replay.specs.Reading.{inputRoom, linesRoom, Fed, Refilled};
 ghost use Rattle.replay.specs.Advancing.{Advanced, Served, ServesReplay};
@@ -13,7 +14,9 @@ mod line;
 mod passes;
 mod turns;
 
+use input::Setup;
 use input::read_setup;
+use line::HEAD_ROOM;
 use line::header_line;
 use line::setup_line;
 use passes::pass;
@@ -39,7 +42,7 @@ struct Printed {
 
 // Every whole event of the input: one write for each pass.
 fn print_part(t: [Server; SERVERS], servers: u8, first: u64, input: &[u8], ended: bool) -> Printed
-    requires { ⌜ servers ≤ 4 ⌝ }
+    requires { ⌜ servers ≤ tableServers ⌝ }
     ensures { λ r. ⌜ r ≡ printed (partOf linesRoom t servers first (now (input .entry)) ended) ⌝ }
     ensures { λ r. ⌜ Fed r (now (input .entry)) ⌝ }
 {
@@ -119,7 +122,7 @@ struct Standing {
 
 // The events that are there, and then what is read at once.
 fn advance(servers: u8, s: Standing) -> Standing
-    requires { ⌜ (servers ≤ 4) × Counts (s .filled .count) (s .filled .bytes) ⌝ }
+    requires { ⌜ (servers ≤ tableServers) × Counts (s .filled .count) (s .filled .bytes) ⌝ }
     ensures { λ r. ⌜ Advanced servers s r ⌝ }
 {
     let filled = s.filled;
@@ -148,7 +151,7 @@ fn advance(servers: u8, s: Standing) -> Standing
 
 // Events from the input's start on, until it ends or is wrong.
 fn serve(servers: u8, quota: u16) -> Standing
-    requires { ⌜ servers ≤ 4 ⌝ }
+    requires { ⌜ servers ≤ tableServers ⌝ }
     ensures { λ r. ⌜ Served servers quota r ⌝ }
 {
     let table = begin(servers, quota);
@@ -185,10 +188,10 @@ fn serves_replay()
 fn main() {
     prints_replay();
     serves_replay();
-    let mut head: [u8; 7] = [0; 7];
+    let mut head: [u8; Setup::SIZE] = [0; Setup::SIZE];
     let n = io::read_full(0, &mut head);
     let s = read_setup(&head[..n]);
-    let mut out: [u8; 64] = [0; 64];
+    let mut out: [u8; HEAD_ROOM] = [0; HEAD_ROOM];
     if s.number != 0 {
         let k = setup_line(&mut out, s.number);
         io::write_all(1, &out[..k]);

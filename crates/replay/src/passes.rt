@@ -2,6 +2,7 @@
 ghost use mathlib.Core.Path.{_≡_};
 ghost use Prim.Native.Nat.{_≤_};
 ghost use lib.ListN.{length};
+ghost use Rattle.servers.specs.Core.{tableServers};
 ghost use Rattle.io.specs.Counts.{Counts};
 ghost use Rattle.replay.specs.Passes.{passed, passOf};
 use crate::line::LINE_ROOM;
@@ -29,7 +30,7 @@ pub fn pass(
     ended: bool,
     out: &mut [u8],
 ) -> Passed
-    requires { ⌜ servers ≤ 4 ⌝ }
+    requires { ⌜ servers ≤ tableServers ⌝ }
     ensures { λ r. ⌜ passed r (now (out .exit)) ≡ passOf t servers first (now (input .entry)) ended (length (now (out .entry))) ⌝ }
     ensures { λ r. ⌜ Counts (r .length) (now (out .exit)) ⌝ }
 {

@@ -2,6 +2,7 @@
 ghost use mathlib.Core.Path.{_≡_};
 ghost use Prim.Native.Nat.{_+_, _-_, _≤_, _<_};
 ghost use lib.ListN.{length, getD};
+ghost use Rattle.servers.specs.Core.{tableServers};
 ghost use Rattle.io.specs.Counts.{Counts};
 ghost use Rattle.servers.specs.Table.{altered};
 ghost use Rattle.replay.specs.Lines.{Put, lineRoom};
@@ -64,7 +65,7 @@ struct Answered {
 
 // The event e at the server k.
 fn answer(t: [Server; SERVERS], event: u64, k: u8, e: &[u8], out: &mut [u8]) -> Answered
-    requires { ⌜ (k < 4) × (lineRoom ≤ length (now out)) ⌝ }
+    requires { ⌜ (k < tableServers) × (lineRoom ≤ length (now out)) ⌝ }
     ensures { λ r. ⌜ r .table ≡ altered t k (now (e .entry)) ⌝ }
     ensures { λ r. ⌜ Put (lineAt t event k (now (e .entry))) lineRoom 0 (r .length) (now (out .entry)) (now (out .exit)) ⌝ }
 {
@@ -92,7 +93,7 @@ pub struct Turn {
 
 // The event of `size` bytes behind its server byte.
 fn take_event(t: [Server; SERVERS], event: u64, input: &[u8], size: usize, out: &mut [u8]) -> Turn
-    requires { ⌜ (getD (now input) 0 0 < 4) × (size + 1 ≤ length (now input)) × (lineRoom ≤ length (now out)) ⌝ }
+    requires { ⌜ (getD (now input) 0 0 < tableServers) × (size + 1 ≤ length (now input)) × (lineRoom ≤ length (now out)) ⌝ }
     ensures { λ r. ⌜ turned r (now (out .exit)) ≡ turnBy (Event size) t event (now (input .entry)) ⌝ }
     ensures { λ r. ⌜ Counts (r .length) (now (out .exit)) ⌝ }
 {
@@ -115,7 +116,7 @@ pub fn take_turn(
     ended: bool,
     out: &mut [u8],
 ) -> Turn
-    requires { ⌜ (servers ≤ 4) × (lineRoom ≤ length (now out)) ⌝ }
+    requires { ⌜ (servers ≤ tableServers) × (lineRoom ≤ length (now out)) ⌝ }
     ensures { λ r. ⌜ turned r (now (out .exit)) ≡ turnOf t servers event (now (input .entry)) ended ⌝ }
     ensures { λ r. ⌜ Counts (r .length) (now (out .exit)) ⌝ }
 {

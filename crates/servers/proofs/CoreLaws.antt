@@ -7,6 +7,7 @@ use mathlib.Core.List.{List}
 use native.Mathlib.Omega.{arith}
 use lib.ListN.{length, take, drop, length-drop, drop-of-length-le}
 use lib.Seq.{take-all, drop-length, drop-drop}
+use Rattle.format.specs.Places.{lengthSize}
 use Rattle.base.proofs.TestLaws.{pick-eq, pick-ne}
 use Rattle.base.specs.Bytes.{numberAt}
 use Rattle.base.proofs.BytesLaws.{number-drop}
@@ -24,25 +25,25 @@ use Rattle.servers.specs.Core.{outRoom, buffersOf, entryAfter, recordsIn
 -- ---- records counted by their length bytes
 
 -- One record, and those behind it.
-records-next : (e : List ℕ) → 2 ≤ length e → recordsIn e ≡ suc (recordsIn (drop (numberAt 2 e 0 + 2) e))
+records-next : (e : List ℕ) → lengthSize ≤ length e → recordsIn e ≡ suc (recordsIn (drop (numberAt lengthSize e 0 + lengthSize) e))
 unfolding recordsIn
 records-next e h = ap length (cut-next e h)
 
-records-none : (e : List ℕ) → length e < 2 → recordsIn e ≡ 0
+records-none : (e : List ℕ) → length e < lengthSize → recordsIn e ≡ 0
 unfolding recordsIn
 records-none e h = ap length (cut-short e h)
 
-pub count-again : (e : List ℕ) (at r n : ℕ) → at ≤ length e → 2 ≤ length e - at → drop r e ≡ drop (at + (numberAt 2 e at + 2)) e
+pub count-again : (e : List ℕ) (at r n : ℕ) → at ≤ length e → lengthSize ≤ length e - at → drop r e ≡ drop (at + (numberAt lengthSize e at + lengthSize)) e
     → n + recordsIn (drop at e) ≡ recordsIn e → n + 1 + recordsIn (drop r e) ≡ recordsIn e
 count-again e at r n i h d g =
     let l = length-drop at e in
     let here : at + 0 ≡ at = omega arith in
-    let number : numberAt 2 (drop at e) 0 ≡ numberAt 2 e at = number-drop 2 e at 0 ∙ ap (numberAt 2 e) here in
-    let behind : drop (numberAt 2 (drop at e) 0 + 2) (drop at e) ≡ drop r e
-    = ap (λ (m : ℕ). drop (m + 2) (drop at e)) number ∙ drop-drop (numberAt 2 e at + 2) at e ∙ sym d in
+    let number : numberAt lengthSize (drop at e) 0 ≡ numberAt lengthSize e at = number-drop lengthSize e at 0 ∙ ap (numberAt lengthSize e) here in
+    let behind : drop (numberAt lengthSize (drop at e) 0 + lengthSize) (drop at e) ≡ drop r e
+    = ap (λ (m : ℕ). drop (m + lengthSize) (drop at e)) number ∙ drop-drop (numberAt lengthSize e at + lengthSize) at e ∙ sym d in
     omega (arith, records-next (drop at e) (omega arith), ap recordsIn behind)
 
-pub count-end : (e : List ℕ) (at n : ℕ) → length e - at < 2 → n + recordsIn (drop at e) ≡ recordsIn e → n ≡ recordsIn e
+pub count-end : (e : List ℕ) (at n : ℕ) → length e - at < lengthSize → n + recordsIn (drop at e) ≡ recordsIn e → n ≡ recordsIn e
 count-end e at n h g =
     let l = length-drop at e in
     omega (arith, records-none (drop at e) (omega arith))
@@ -61,12 +62,12 @@ module _ (s : Server) (e : List ℕ) (t : Bool) (answer : t ≡ isRecovery e) wh
 
 -- ---- the place behind a record
 
-pub behind-end : (e : List ℕ) (at size : ℕ) → length e - at - 2 < size → size ≡ numberAt 2 e at
-    → drop (length e) e ≡ drop (at + (numberAt 2 e at + 2)) e
-behind-end e at size h g = drop-length e ∙ sym (drop-of-length-le e {i = at + (numberAt 2 e at + 2)} (omega arith))
+pub behind-end : (e : List ℕ) (at size : ℕ) → length e - at - lengthSize < size → size ≡ numberAt lengthSize e at
+    → drop (length e) e ≡ drop (at + (numberAt lengthSize e at + lengthSize)) e
+behind-end e at size h g = drop-length e ∙ sym (drop-of-length-le e {i = at + (numberAt lengthSize e at + lengthSize)} (omega arith))
 
-pub behind-inside : (e : List ℕ) (at size : ℕ) → size ≡ numberAt 2 e at → drop (at + 2 + size) e ≡ drop (at + (numberAt 2 e at + 2)) e
-behind-inside e at size g = let place : at + 2 + size ≡ at + (numberAt 2 e at + 2) = omega arith in ap (λ (m : ℕ). drop m e) place
+pub behind-inside : (e : List ℕ) (at size : ℕ) → size ≡ numberAt lengthSize e at → drop (at + lengthSize + size) e ≡ drop (at + (numberAt lengthSize e at + lengthSize)) e
+behind-inside e at size g = let place : at + lengthSize + size ≡ at + (numberAt lengthSize e at + lengthSize) = omega arith in ap (λ (m : ℕ). drop m e) place
 
 -- ---- the entry afterwards
 

@@ -20,7 +20,7 @@ use Rattle.buffers.proofs.Keeping.{begun-keeps}
 use Rattle.servers.specs.declared.Server.{Server}
 use Rattle.servers.specs.Starting.{alike, freshOf, freshTable}
 use Rattle.servers.proofs.Keeping.{Keeps, as-entry}
-use Rattle.servers.specs.Core.{stateRoom, outRoom, buffersOf}
+use Rattle.servers.specs.Core.{tableServers, tableQuota, stateRoom, outRoom, buffersOf}
 
 -- ---- as the code makes it
 
@@ -36,7 +36,7 @@ table-made n q a b c d e f g h = λ i. e i ∷ f i ∷ g i ∷ h i ∷ []
 
 -- ---- there is room
 
-state-room : (n q : ℕ) → n ≤ 4 → q ≤ 16 → stateLength n q ≤ stateRoom
+state-room : (n q : ℕ) → n ≤ tableServers → q ≤ tableQuota → stateLength n q ≤ stateRoom
 unfolding stateLength sections stateSize sum
 state-room zero q h k = omega arith
 state-room (suc zero) q h k = omega arith
@@ -45,7 +45,7 @@ state-room (suc (suc (suc zero))) q h k = omega arith
 state-room (suc (suc (suc (suc zero)))) q h k = omega arith
 state-room (suc (suc (suc (suc (suc n))))) q h k = absurd (omega arith)
 
-out-room : (n q : ℕ) → n ≤ 4 → q ≤ 16 → outLength n q ≤ outRoom
+out-room : (n q : ℕ) → n ≤ tableServers → q ≤ tableQuota → outLength n q ≤ outRoom
 unfolding outLength
 out-room zero q h k = omega arith
 out-room (suc zero) q h k = omega arith
@@ -56,7 +56,7 @@ out-room (suc (suc (suc (suc (suc n))))) q h k = absurd (omega arith)
 
 -- ---- the entry keeps the start
 
-module _ (n q k : ℕ) (sizes : sizesOk n q ≡ true) (few : n ≤ 4) (small : q ≤ 16) (own : k < n) where
+module _ (n q k : ℕ) (sizes : sizesOk n q ≡ true) (few : n ≤ tableServers) (small : q ≤ tableQuota) (own : k < n) where
   long : stateLength n q ≤ length (zeros stateRoom)
   long = omega (arith, state-room n q few small, zeros-length stateRoom)
 

@@ -22,7 +22,7 @@ use Rattle.replication.specs.Replay.{tableAfter}
 use Rattle.servers.specs.declared.Server as declared
 use Rattle.servers.specs.Starting.{freshOf, freshTable}
 use Rattle.servers.specs.Table as table
-use Rattle.servers.specs.Core.{coreOf}
+use Rattle.servers.specs.Core.{tableServers, tableQuota, coreOf}
 use Rattle.servers.specs.Table.{altered, replied}
 use Rattle.servers.proofs.Keeping.{Keeps, Arrives, arrives}
 use Rattle.servers.proofs.StartingLaws.{fresh-keeps}
@@ -75,7 +75,7 @@ module _ (t : List Images) (s : List declared.Server) (k : ℕ) (i : Images) (e 
 
 -- ---- the table at the start
 
-fresh-at : (n q k : ℕ) → k < 4 → getD (freshTable n q) k table.none ≡ freshOf n q k
+fresh-at : (n q k : ℕ) → k < tableServers → getD (freshTable n q) k table.none ≡ freshOf n q k
 unfolding freshTable
 fresh-at n q zero h = refl
 fresh-at n q (suc zero) h = refl
@@ -83,7 +83,7 @@ fresh-at n q (suc (suc zero)) h = refl
 fresh-at n q (suc (suc (suc zero))) h = refl
 fresh-at n q (suc (suc (suc (suc k)))) h = absurd (omega arith)
 
-pub fresh-tabled : (n q : ℕ) → sizesOk n q ≡ true → n ≤ 4 → q ≤ 16 → Tabled (map (λ k. started (start n q k)) (below n)) (freshTable n q)
+pub fresh-tabled : (n q : ℕ) → sizesOk n q ≡ true → n ≤ tableServers → q ≤ tableQuota → Tabled (map (λ k. started (start n q k)) (below n)) (freshTable n q)
 unfolding freshTable
 fresh-tabled n q ok few small = record {
   long = omega (arith, length-map (below n) (λ k. started (start n q k)), below-length n);

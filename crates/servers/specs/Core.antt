@@ -7,7 +7,7 @@ use lib.ListN.{length, take, drop}
 use Rattle.base.specs.Tests.{_=?_, pick}
 use Rattle.base.specs.Bytes.{numberAt}
 use Rattle.format.specs.Limits.{mostHeld}
-use Rattle.format.specs.Places.{idSize, stateHeadSize, mostRetransmission}
+use Rattle.format.specs.Places.{lengthSize, idSize, stateHeadSize, mostRetransmission}
 use Rattle.engine.specs.Layout.{headerSize, heldSize, slotSize}
 use Rattle.engine.specs.Image.{zeros}
 use Rattle.engine.specs.Outcome.{Result}
@@ -47,9 +47,9 @@ entryAfter s number store state =
 
 -- r is the place behind the record at `at`, by its length bytes, or the end where it would lie beyond.
 pub record Behind (e : List ℕ) (at r : ℕ) : Type 0 where
-  pub least : at + 2 ≤ r
+  pub least : at + lengthSize ≤ r
   pub most : r ≤ length e
-  pub rest : drop r e ≡ drop (at + (numberAt 2 e at + 2)) e
+  pub rest : drop r e ≡ drop (at + (numberAt lengthSize e at + lengthSize)) e
 
 -- How many records there are, by their length bytes.
 unfoldable pub recordsIn : List ℕ → ℕ

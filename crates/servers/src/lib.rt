@@ -74,7 +74,8 @@ pub fn alter(s: &mut Server, e: &[u8]) -> Reply
     let old = *s;
     let r = core(old, e);
     let new = r.server;
-    *s = new;
+    s.state = new.state;
+    s.store = new.store;
     r.reply
 }
 

@@ -2,6 +2,7 @@
 ghost use mathlib.Core.Path.{_≡_};
 ghost use Prim.Native.Nat.{_+_, _≤_};
 ghost use lib.ListN.{length, take};
+ghost use Rattle.format.specs.Places.{lengthSize};
 ghost use Rattle.buffers.specs.Buffers.{isRecovery, sourceIn};
 ghost use Rattle.servers.specs.Core.{buffersOf, entryAfter, Behind, recordsIn};
 use crate::STATE_ROOM;
@@ -10,23 +11,26 @@ use record::bytes::num16;
 use record::events::Event;
 use record::events::VERSION;
 
+// What a record with no body has in its low length byte.
+const NO_BODY: u8 = (Event::BODY - Event::LENGTH_SIZE) as u8;
+
 // The event is the recovery's record.
 fn is_recovery(e: &[u8]) -> bool
     ensures { λ r. ⌜ r ≡ isRecovery (now (e .entry)) ⌝ }
 {
-    if e.len() != 4 {
+    if e.len() != Event::BODY {
         return false;
     }
     if e[0] != 0 {
         return false;
     }
-    if e[1] != 2 {
+    if e[1] != NO_BODY {
         return false;
     }
-    if e[2] != VERSION {
+    if e[Event::VERSION_AT] != VERSION {
         return false;
     }
-    e[3] == Event::RECOVERY
+    e[Event::KIND_AT] == Event::RECOVERY
 }
 
 // The state that the event comes to.
@@ -58,14 +62,14 @@ pub fn kept(s: Server, state: [u8; STATE_ROOM], number: u32, store: u32) -> Serv
 
 // The place behind the record at `at`, by its length bytes; the end where it would lie beyond.
 fn behind(out: &[u8], at: usize) -> usize
-    requires { ⌜ at + 2 ≤ length (now out) ⌝ }
+    requires { ⌜ at + lengthSize ≤ length (now out) ⌝ }
     ensures { λ r. ⌜ Behind (now (out .entry)) at r ⌝ }
 {
     let size = num16(out, at) as usize;
-    if out.len() - at - 2 < size {
+    if out.len() - at - Event::LENGTH_SIZE < size {
         return out.len();
     }
-    at + 2 + size
+    at + Event::LENGTH_SIZE + size
 }
 
 // How many records the first `sent` bytes are.
@@ -84,7 +88,7 @@ fn count(out: &[u8]) -> usize
 {
     let mut at = 0;
     let mut n = 0;
-    while 2 <= out.len() - at {
+    while Event::LENGTH_SIZE <= out.len() - at {
         at = behind(out, at);
         n += 1;
     }

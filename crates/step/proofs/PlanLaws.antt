@@ -142,9 +142,6 @@ module _ (b : List ℕ) (x : Part) (s : Stated b) (e : (t : Server) → Holds t 
       (pick-yes (x .mine) _ (gather (atPosition me (greensIn b)) (above (x .low) (x .high))) [] (not-false (x .mine) t) refl ∙ green-is me m)
       (more-asked (x .high - x .low) (mostActions b) 0 r _ o o₁ (omega (arith, greens-most)) a)
 
-pub stated-some : (b : List ℕ) → Stated b → HoldsSome b
-stated-some b s = holds-some (decoded b) b (s .holds)
-
 pub stated-creator : (b : List ℕ) (c : ℕ) → Stated b → c < serversIn b → HoldsSuch (λ s. c < s .servers) b
 unfolding decoded decodedAs serversIn quotaIn
 stated-creator b c s h = record { state = decoded b; holds = s .holds; fact = h }

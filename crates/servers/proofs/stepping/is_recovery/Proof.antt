@@ -1,4 +1,5 @@
 use Rattle.base.proofs.Branches.{told}
+use Rattle.format.specs.Types.{kindNumber}
 use Rattle.buffers.specs.Buffers.{isRecovery}
 use Rattle.base.proofs.TestLaws.{tests}
 use borrow.Author.Needs.{needs}
@@ -8,35 +9,35 @@ use Rattle.servers.proofs.stepping.is_recovery.Reads as reads
 use Rattle.servers.proofs.stepping.is_recovery.Lts as lts
 
 returns : tie.Need-returns
-unfolding isRecovery
+unfolding isRecovery kindNumber
 returns c = search (needs, tests, told) depth 12
 
 shared-slice-read-if2 : tie.Need-shared-slice-read-if2
 shared-slice-read-if2 c = search needs
 
 returns-2 : tie.Need-returns-2
-unfolding isRecovery
+unfolding isRecovery kindNumber
 returns-2 c = search (needs, tests, told) depth 12
 
 shared-slice-read-if3 : tie.Need-shared-slice-read-if3
 shared-slice-read-if3 c = search needs
 
 returns-3 : tie.Need-returns-3
-unfolding isRecovery
+unfolding isRecovery kindNumber
 returns-3 c = search (needs, tests, told) depth 12
 
 shared-slice-read-if4 : tie.Need-shared-slice-read-if4
 shared-slice-read-if4 c = search needs
 
 returns-4 : tie.Need-returns-4
-unfolding isRecovery
+unfolding isRecovery kindNumber
 returns-4 c = search (needs, tests, told) depth 12
 
 shared-slice-read-result : tie.Need-shared-slice-read-result
 shared-slice-read-result c = search needs
 
 returns-5 : tie.Need-returns-5
-unfolding isRecovery
+unfolding isRecovery kindNumber
 returns-5 c = search (needs, tests, told) depth 12
 
 pub is-recovery-spec : {M : Type 1} → statement M
