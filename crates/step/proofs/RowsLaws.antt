@@ -180,9 +180,9 @@ sends-formed h zero same s e =
     ∙ regular-told (s .membership .transitional)
     ∙ sends-zero (s .membership .mode) (inRegular (s .membership .transitional)) ((λ j. sym e j .mode) ∙ zero))
 
-pub quota-told : (h : State) (s : Server) → h ≡ headerOf s → ltb (h .numbered + h .«held_count») (h .quota) ≡ quotaLeft s
-unfolding headerOf quotaLeft _<?_
-quota-told h s e = λ j. ltb (e j .numbered + e j .«held_count») (e j .quota)
+pub quota-told : (h : State) (r : Bool) → r ≡ (h .numbered + h .«held_count» <? h .quota) → (s : Server) → h ≡ headerOf s → r ≡ quotaLeft s
+unfolding headerOf quotaLeft
+quota-told h r f s e = f ∙ (λ j. e j .numbered + e j .«held_count» <? e j .quota)
 
 pub room-sending : (h : State) (r : Bool) → r ≡ true → ((s : Server) → h ≡ headerOf s → r ≡ sendsNow (s .membership))
     → (s : Server) → h ≡ headerOf s → true ≡ roomToHold s

@@ -19,9 +19,8 @@ use Rattle.engine.specs.Decode.{actionsAt, decoded, serversIn}
 use Rattle.engine.specs.Holding.{Holds}
 use Rattle.install.specs.Table.{IndexedFrom}
 use Rattle.step.specs.Answers.{recordBytes}
-use Rattle.format.specs.Places.{mostRetransmission}
+use Rattle.format.specs.Places.{actionPayloadAt, mostRetransmission}
 use Rattle.engine.specs.Counts.{CountsIn, queueCount, greenCount, place}
-use Rattle.record.specs.Blocks.{headSize}
 
 -- ---- the queue of the buffer b
 
@@ -38,7 +37,7 @@ slotPlace b k = place theQueue b + slotSize * k
 -- The numbers of the buffer are in range, and so is each payload of its queue.
 pub record QueueIn (b : List ℕ) : Type 0 where
   pub counts : CountsIn b
-  pub payloads : (k : ℕ) → k < queueCount b → numberAt 1 b (slotPlace b k + headSize) ≤ mostPayload
+  pub payloads : (k : ℕ) → k < queueCount b → numberAt 1 b (slotPlace b k + actionPayloadAt) ≤ mostPayload
 
 -- The table of the whole queue of the buffer b.
 abbrev pub TableOf : (t b : List ℕ) → Type 0

@@ -1,5 +1,7 @@
 // The conditions of rows 5, 6, 3 and 4 of document 01's 'Returned numbers', from the state's numbers alone.
 ghost use mathlib.Core.Path.{_≡_};
+ghost use Prim.Native.Nat.{_+_};
+ghost use Rattle.base.specs.Tests.{_<?_};
 ghost use Rattle.format.specs.Types.{Action};
 ghost use Rattle.record.specs.Values.{idOf};
 ghost use Rattle.replication.specs.Machine.Types.{Server};
@@ -86,11 +88,18 @@ pub fn sends_now(h: State) -> bool
     h.transitional_status != 1
 }
 
+// Whether so many numbered and held ones are together fewer than the quota.
+fn fewer(numbered: u16, held: u16, quota: u16) -> bool
+    ensures { λ r. ⌜ r ≡ (numbered + held <? quota) ⌝ }
+{
+    (numbered as u32 + (held as u32)) < quota as u32
+}
+
 // "actions numbered so far plus held ones already q" does not apply.
 pub fn quota_left(h: State) -> bool
     ensures { λ r. ⌜ ((s : Server) → h ≡ headerOf s → r ≡ quotaLeft s) ⌝ }
 {
-    (h.numbered as u32) + (h.held_count as u32) < h.quota as u32
+    fewer(h.numbered, h.held_count, h.quota)
 }
 
 // "request to hold, 16 held" does not apply.

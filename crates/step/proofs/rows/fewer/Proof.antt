@@ -1,0 +1,13 @@
+use Rattle.base.proofs.Branches.{told}
+use borrow.Author.Needs.{needs}
+use Rattle.step.proofs.rows.fewer.Statement.{statement}
+use Rattle.step.proofs.rows.fewer.Tie as tie
+
+add-result : tie.Need-add-result
+add-result c = search needs
+
+returns : tie.Need-returns
+returns c = search (needs, told)
+
+pub fewer-spec : {M : Type 1} → statement M
+fewer-spec = tie.close (tie.spec add-result returns)
