@@ -23,7 +23,6 @@ use Rattle.record.specs.Written.{put, putOf}
 use Rattle.replication.specs.Machine.Types.{Server}
 use Rattle.replication.specs.Machine.Requests.{sendsNow, quotaLeft, roomToHold, madeOf, numbered, hold}
 use Rattle.replication.specs.Machine.Step.{stored, quiet, requested}
-use Rattle.replication.specs.Machine.WellFormedRanges.{PayloadFits}
 use Rattle.engine.specs.Layout.{outLength}
 use Rattle.engine.specs.Header.{headerOf}
 use Rattle.engine.specs.Image.{over, image}
@@ -36,14 +35,7 @@ use Rattle.step.specs.Answers.{answered, outcomeOn, LentSuch, quietly, s
 use Rattle.step.proofs.LentFacts.{lent-fact}
 use Rattle.step.proofs.LentLaws.{lent-counts, holds-products, put-room, put-done, one-record}
 use Rattle.step.proofs.OutcomeLaws.{stored-outcome, quiet-outcome}
-
--- What is known of a request that is sent.
-abbrev pub Sent : List ℕ → Server → Type 0
-Sent p s = PayloadFits p × (quotaLeft s ≡ true) × (sendsNow (s .membership) ≡ true)
-
--- And of any that rows 3 and 4 let pass.
-abbrev pub Asked : List ℕ → State → Server → Type 0
-Asked p h s = PayloadFits p × (quotaLeft s ≡ true) × (roomToHold s ≡ true) × (h ≡ headerOf s)
+use Rattle.step.specs.Events.{Sent, Asked}
 
 -- ---- what is asked for before each call
 

@@ -12,7 +12,7 @@ use Rattle.format.specs.Types.{State, Record, state}
 use Rattle.format.specs.Range.{fieldsOk}
 use Rattle.format.specs.Write.{write}
 use Rattle.replication.specs.Machine.Types.{Exchange-states, Un, Server, Outcome, inMode, contextOf}
-use Rattle.replication.specs.Machine.Step.{inBytes, withCpc, allCpcsIn}
+use Rattle.replication.specs.Machine.Step.{inBytes, withCpc, allCpcsIn, answer}
 use Rattle.replication.specs.Machine.WellFormedFacts.{Configured}
 use Rattle.replication.specs.Laws.RuleFits.{StateCame}
 use Rattle.record.specs.declared.State.{State as Numbers}
@@ -21,6 +21,9 @@ use Rattle.engine.specs.Layout.{outLength}
 use Rattle.engine.specs.Outcome.{Result, resultOf}
 use Rattle.engine.specs.Holding.{Holds}
 use Rattle.step.specs.declared.Answer.{Answer}
+use denote.Ref.{RefT, now}
+use denote.Triple.Both.{Both}
+use Rattle.engine.specs.Image.{over}
 
 -- An answer, and both buffers afterwards.
 unfoldable pub answered : Answer → List ℕ → List ℕ → Result
@@ -37,6 +40,28 @@ AnswersAs f r b b′ o o′ = (s : Server) → Holds s b → answered r b′ o�
 -- .. and where the outgoing buffer is not lent, whatever that holds.
 abbrev pub AnswersAlone : (Server → Outcome Record) → Answer → (b b′ : List ℕ) → Type 0
 AnswersAlone f r b b′ = (s : Server) (o : List ℕ) → Holds s b → answered r b′ o ≡ outcomeOn (f s) b o
+
+-- A lent buffer, as a contract sees it: at entry and at exit.
+abbrev pub Lent : Type 0
+Lent = Both (RefT (List ℕ)) (RefT (List ℕ))
+
+-- The same of the lent buffers themselves.
+abbrev pub AnswersBy : (Server → Outcome Record) → Answer → (state out : Lent) → Type 0
+AnswersBy f r b o = AnswersAs f r (now (b .entry)) (now (b .exit)) (now (o .entry)) (now (o .exit))
+
+-- The answer to the record x.
+abbrev pub AnswersTo : Record → Answer → (state out : Lent) → Type 0
+AnswersTo x r b o = AnswersBy (λ s. answer s x) r b o
+
+-- .. and where the outgoing buffer is not lent.
+abbrev pub AnswersToAlone : Record → Answer → (state : Lent) → Type 0
+AnswersToAlone x r b = AnswersAlone (λ s. answer s x) r (now (b .entry)) (now (b .exit))
+
+-- The outcome of a state t that the server s has become in the same event.
+abbrev pub AnswersFor : (Server → Server → Outcome Record) → Answer → (state out : Lent) → Type 0
+AnswersFor f r b o =
+    (s t : Server) → Holds t (now (b .entry))
+    → answered r (now (b .exit)) (now (o .exit)) ≡ outcomeOn (f s t) (now (b .entry)) (now (o .entry))
 
 -- The buffer b holds a state of which P is known, and o has room for all that an event puts out.
 pub record LentSuch (P : Server → Type 0) (b o : List ℕ) : Type 0 where
@@ -64,6 +89,10 @@ sentOnly m = record { number = 0; store = 0; sent = m }
 -- Records one after another, as bytes.
 unfoldable pub recordBytes : List Record → List ℕ
 recordBytes rs = joined (map write rs)
+
+-- These records of the state that b holds are put at the front of the outgoing buffer, r bytes.
+abbrev pub Puts : (Server → List Record) → (r : ℕ) → (b o o′ : List ℕ) → Type 0
+Puts f r b o o′ = (s : Server) → Holds s b → (r ≡ length (recordBytes (f s))) × (o′ ≡ over (recordBytes (f s)) o)
 
 -- The bytes e are those of a State that the server s collects from its sender k.
 pub record Came (k : ℕ) (e : List ℕ) (s : Server) : Type 0 where

@@ -12,15 +12,18 @@ use Rattle.format.specs.Limits.{mostPayload}
 use Rattle.format.specs.Types.{Action, Record}
 use Rattle.record.specs.Values.{idOf}
 use Rattle.replication.specs.Machine.Colours.{find}
-use Rattle.replication.specs.Machine.Plan.{resent, resendGreen, resendRed}
+use Rattle.replication.specs.Machine.Plan.{resent, resendGreen, resendRed, ownPart}
 use Rattle.replication.specs.Machine.Step.{collected}
-use Rattle.engine.specs.Layout.{slotSize, theQueue}
+use Rattle.engine.specs.Layout.{slotSize, theQueue, atMe}
 use Rattle.engine.specs.Decode.{actionsAt, decoded, serversIn}
 use Rattle.engine.specs.Holding.{Holds}
 use Rattle.install.specs.Table.{IndexedFrom}
-use Rattle.step.specs.Answers.{recordBytes}
+use Rattle.step.specs.Answers.{recordBytes, Lent}
 use Rattle.format.specs.Places.{actionPayloadAt, mostRetransmission}
 use Rattle.engine.specs.Counts.{CountsIn, queueCount, greenCount, place}
+use denote.Ref.{now}
+use Rattle.record.specs.declared.events.ActionAt.{ActionAt}
+use Rattle.replication.specs.Machine.Types.{Server}
 
 -- ---- the queue of the buffer b
 
@@ -64,6 +67,28 @@ pub record Sends (m : ℕ) (rs : List Record) (at : ℕ) (old new : List ℕ) (r
   pub size : length new ≡ length old
   pub bytes : new ≡ patched at (recordBytes rs) old
 
+-- The same of the lent buffer itself.
+abbrev pub SendsTo : (m : ℕ) → List Record → (at : ℕ) → (out : Lent) → (r : ℕ) → Type 0
+SendsTo m rs at out r = Sends m rs at (now (out .entry)) (now (out .exit)) r
+
+-- Room for m retransmissions from `at` on.
+abbrev pub Room : (at m : ℕ) → (o : List ℕ) → Type 0
+Room at m o = at + mostRetransmission * m ≤ length o
+
+-- The payload of an action that lies in the bytes b.
+pub record PayloadInside (a : ActionAt) (b : List ℕ) : Type 0 where
+  pub short : a .«payload_length» ≤ mostPayload
+  pub inside : a .«payload_at» + a .«payload_length» ≤ length b
+
+-- The queue is in range, and t is its table.
+pub record Tabled (t b : List ℕ) : Type 0 where
+  pub queue : QueueIn b
+  pub table : TableOf t b
+
+-- The server's own number.
+abbrev pub OwnNumber : (me : ℕ) → List ℕ → Type 0
+OwnNumber me b = me ≡ numberAt 1 b atMe
+
 -- One record or none.
 unfoldable pub oneOf : Option Record → List Record
 oneOf x = atFront x []
@@ -75,6 +100,12 @@ pub record Stated (b : List ℕ) : Type 0 where
   pub holds : Holds (decoded b) b
   pub queue : QueueIn b
 
+-- The table t of its queue, and its server's number.
+pub record Resends (t : List ℕ) (me : ℕ) (b : List ℕ) : Type 0 where
+  pub stated : Stated b
+  pub table : TableOf t b
+  pub mine : OwnNumber me b
+
 unfoldable pub greenPart : List ℕ → List Record
 greenPart b = resendGreen (decoded b .me) (decoded b .log) (collected (decoded b))
 
@@ -85,5 +116,12 @@ redPart b c = resendRed (decoded b .me) (decoded b .log) (collected (decoded b))
 unfoldable pub redParts : List ℕ → ℕ → List Record
 redParts b n = gatherAll (redPart b) (below n)
 
+abbrev pub allReds : List ℕ → List Record
+allReds b = redParts b (serversIn b)
+
 unfoldable pub wholePart : List ℕ → List Record
-wholePart b = greenPart b ++ redParts b (serversIn b)
+wholePart b = greenPart b ++ allReds b
+
+-- The part of the state s.
+abbrev pub partIn : Server → List Record
+partIn s = ownPart (s .servers) (s .me) (s .log) (collected s)

@@ -20,6 +20,10 @@ use Rattle.updates.specs.Lists.{configurationOf}
 use Rattle.step.specs.Answers.{recordBytes}
 use Rattle.engine.specs.Counts.{CountsIn, heldCount, place, greenCount, numberedIn}
 use Rattle.format.specs.Places.{mostAction}
+use mathlib.Core.Path.{_≡_}
+use Rattle.base.specs.Patched.{patched}
+use Rattle.engine.specs.Image.{over}
+use Rattle.engine.specs.Holding.{Holds}
 
 -- The numbers of the State that a server with the numbers h sends in the configuration of this id.
 unfoldable pub ownHead : Numbers → (id : ℕ) → StateHead
@@ -38,6 +42,12 @@ ownHead h id = record {
 -- What it sends then.
 unfoldable pub ownRecord : (id set : ℕ) → Server → List Record
 ownRecord id set s = state (ownState (configurationOf id set) s) ∷ []
+
+-- It is put at the front of the outgoing buffer, r bytes, whatever the configuration's set is.
+abbrev pub PutsOwn : (id r : ℕ) → (b o o′ : List ℕ) → Type 0
+PutsOwn id r b o o′ =
+    (s : Server) (set : ℕ) → Holds s b
+    → (r ≡ length (recordBytes (ownRecord id set s))) × (o′ ≡ over (recordBytes (ownRecord id set s)) o)
 
 -- ---- held requests, counted from 0
 
@@ -62,3 +72,7 @@ pub record HeldRoom (k at : ℕ) (b o : List ℕ) : Type 0 where
   pub below : k < heldCount b
   pub short : numberAt 1 b (heldPlace b k) ≤ mostPayload
   pub room : at + mostAction ≤ length o
+
+-- The bytes x are put at `at`; r is the place behind them.
+abbrev pub PutsAt : (x : List ℕ) → (at r : ℕ) → (o o′ : List ℕ) → Type 0
+PutsAt x at r o o′ = (r ≡ at + length x) × (o′ ≡ patched at x o)

@@ -1,11 +1,10 @@
 // Actions that a state colours green or yellow.
-ghost use mathlib.Core.Path.{_≡_};
 ghost use Rattle.record.specs.Values.{actionOf};
-ghost use mathlib.Core.Bool.{true};
-ghost use Rattle.replication.specs.Machine.Colours.{isNext, yellow as yellowed};
+ghost use Rattle.replication.specs.Machine.Colours.{yellow as yellowed};
 ghost use Rattle.replication.specs.Machine.Step.{greenAndNote};
 ghost use Rattle.replication.specs.Laws.RuleFits.{Delivered};
 ghost use Rattle.engine.specs.Holding.{HoldsSuch, Becomes};
+ghost use Rattle.step.specs.Events.{Next};
 use queue::entering::enter;
 use queue::greening::green;
 use record::ActionHead;
@@ -25,7 +24,7 @@ pub fn green_and_note(state: &mut [u8], head: ActionHead, payload: &[u8])
 
 // The action is entered, and its id joins the yellow list.
 fn enter_yellow(state: &mut [u8], head: ActionHead, payload: &[u8])
-    requires { ⌜ HoldsSuch (λ s. Delivered s (actionOf head (now payload)) × (isNext (s .log) (actionOf head (now payload)) ≡ true)) (now state) ⌝ }
+    requires { ⌜ HoldsSuch (Next (actionOf head (now payload))) (now state) ⌝ }
     ensures { λ _. ⌜ Becomes (yellowed (actionOf head (now (payload .entry)))) (now (state .entry)) (now (state .exit)) ⌝ }
 {
     enter(state, head, payload);

@@ -1,22 +1,17 @@
 // Each kind of event: whether the state takes it, by rows 5, 6, 3 and 4, and what it does. h are the state's numbers.
 ghost use mathlib.Core.Path.{_≡_};
 ghost use mathlib.Core.Bool.{true};
-ghost use mathlib.Core.List.{List};
-ghost use mathlib.Core.Option.{some};
 ghost use Prim.Native.Nat.{ℕ, _<_};
 ghost use Rattle.base.specs.Lists.{isThere};
-ghost use Rattle.format.specs.Types.{Action, State as FormatState, action, retransmission, state as stateRecord, cpc, regular, transitional, request as requestRecord};
-ghost use Rattle.format.specs.Range.{fieldsOk};
-ghost use Rattle.format.specs.Write.{write};
+ghost use Rattle.format.specs.Types.{Action, action, retransmission, cpc, regular, transitional, request as requestRecord};
 ghost use Rattle.record.specs.Values.{actionOf};
-ghost use Rattle.replication.specs.Machine.Types.{Mode, Server, contextOf};
-ghost use Rattle.replication.specs.Machine.Rules.{Rule, onAction, onRetransmission, onCpc, fromMember};
-ghost use Rattle.replication.specs.Machine.Step.{apply, answer};
+ghost use Rattle.replication.specs.Machine.Types.{Mode, Server};
+ghost use Rattle.replication.specs.Machine.Rules.{onAction, onRetransmission, onCpc, fromMember};
 ghost use Rattle.engine.specs.Image.{modeNumber};
 ghost use Rattle.engine.specs.Header.{headerOf};
-ghost use Rattle.engine.specs.Holding.{Holds, HoldsSuch};
-ghost use Rattle.step.specs.Answers.{answered, outcomeOn, LentSuch, InForce, StateInForce, AnswersAlone, AnswersAs};
-ghost use Rattle.step.specs.Events.{Takes, modeAfter};
+ghost use Rattle.engine.specs.Holding.{HoldsSuch};
+ghost use Rattle.step.specs.Answers.{LentSuch, InForce, StateInForce, AnswersTo, AnswersToAlone};
+ghost use Rattle.step.specs.Events.{Takes, modeAfter, Colours, FromMember, AnswersState};
 ghost use Rattle.format.specs.Limits.{mostServers};
 use crate::Answer;
 use crate::colours::green_and_note;
@@ -47,7 +42,7 @@ use updates::membership::leave;
 // An action that rows 5 and 6 let pass; `mode` is the state's number.
 fn colour(state: &mut [u8], mode: u8, head: ActionHead, payload: &[u8]) -> Answer
     requires { ⌜ HoldsSuch (Takes mode (actionOf head (now payload))) (now state) ⌝ }
-    ensures { λ r. ⌜ ((s : Server) (o : List ℕ) (k : Rule) → Holds s (now (state .entry)) → onAction (s .membership .mode) (actionOf head (now (payload .entry))) ≡ some k → answered r (now (state .exit)) o ≡ outcomeOn (apply k s) (now (state .entry)) o) ⌝ }
+    ensures { λ r. ⌜ Colours (actionOf head (now (payload .entry))) r state ⌝ }
 {
     match mode {
         State::REG_PRIM => {
@@ -82,7 +77,7 @@ fn takes_action(mode: u8) -> bool
 
 pub fn on_action(state: &mut [u8], h: State, head: ActionHead, payload: &[u8]) -> Answer
     requires { ⌜ HoldsSuch (InForce h (action (actionOf head (now payload)))) (now state) ⌝ }
-    ensures { λ r. ⌜ AnswersAlone (λ s. answer s (action (actionOf head (now (payload .entry))))) r (now (state .entry)) (now (state .exit)) ⌝ }
+    ensures { λ r. ⌜ AnswersToAlone (action (actionOf head (now (payload .entry)))) r state ⌝ }
 {
     if !takes_action(h.mode) {
         return Answer::refused(5);
@@ -117,7 +112,7 @@ pub fn on_retransmission(
     payload: &[u8],
 ) -> Answer
     requires { ⌜ LentSuch (InForce h (retransmission sender position (actionOf head (now payload)))) (now state) (now out) ⌝ }
-    ensures { λ r. ⌜ AnswersAs (λ s. answer s (retransmission sender position (actionOf head (now (payload .entry))))) r (now (state .entry)) (now (state .exit)) (now (out .entry)) (now (out .exit)) ⌝ }
+    ensures { λ r. ⌜ AnswersTo (retransmission sender position (actionOf head (now (payload .entry)))) r state out ⌝ }
 {
     if !takes_retransmission(h.mode) {
         return Answer::refused(5);
@@ -138,7 +133,7 @@ pub fn on_retransmission(
 // Row 6 does not apply to the State of server k in configuration `id`.
 fn state_from_member(h: State, k: u8, id: u32) -> bool
     requires { ⌜ k < mostServers ⌝ }
-    ensures { λ r. ⌜ ((s : Server) (x : FormatState) → h ≡ headerOf s → x .sender ≡ k → x .configuration ≡ id → r ≡ fromMember (s .membership) (stateRecord x)) ⌝ }
+    ensures { λ r. ⌜ FromMember k id h r ⌝ }
 {
     if !is_member(h, k) {
         return false;
@@ -152,7 +147,7 @@ fn state_from_member(h: State, k: u8, id: u32) -> bool
 // The State of server k in configuration `id`: the whole event.
 pub fn on_state(state: &mut [u8], out: &mut [u8], h: State, k: u8, id: u32, event: &[u8]) -> Answer
     requires { ⌜ LentSuch (StateInForce h k id (now event)) (now state) (now out) ⌝ }
-    ensures { λ r. ⌜ ((s : Server) (x : FormatState) → Holds s (now (state .entry)) → fieldsOk (contextOf s) (stateRecord x) ≡ true → write (stateRecord x) ≡ now (event .entry) → x .sender ≡ k → x .configuration ≡ id → answered r (now (state .exit)) (now (out .exit)) ≡ outcomeOn (answer s (stateRecord x)) (now (state .entry)) (now (out .entry))) ⌝ }
+    ensures { λ r. ⌜ AnswersState k id (now (event .entry)) r state out ⌝ }
 {
     if h.mode == State::NON_PRIM {
         return Answer::quiet();
@@ -194,7 +189,7 @@ fn cpc_from_member(h: State, k: u8, id: u32) -> bool
 
 pub fn on_cpc(state: &mut [u8], out: &mut [u8], h: State, k: u8, id: u32) -> Answer
     requires { ⌜ LentSuch (InForce h (cpc k id)) (now state) (now out) ⌝ }
-    ensures { λ r. ⌜ AnswersAs (λ s. answer s (cpc k id)) r (now (state .entry)) (now (state .exit)) (now (out .entry)) (now (out .exit)) ⌝ }
+    ensures { λ r. ⌜ AnswersTo (cpc k id) r state out ⌝ }
 {
     if h.mode == State::NON_PRIM {
         return Answer::quiet();
@@ -214,7 +209,7 @@ pub fn on_cpc(state: &mut [u8], out: &mut [u8], h: State, k: u8, id: u32) -> Ans
 
 pub fn on_regular(state: &mut [u8], out: &mut [u8], h: State, id: u32, set: u8) -> Answer
     requires { ⌜ LentSuch (InForce h (regular id set)) (now state) (now out) ⌝ }
-    ensures { λ r. ⌜ AnswersAs (λ s. answer s (regular id set)) r (now (state .entry)) (now (state .exit)) (now (out .entry)) (now (out .exit)) ⌝ }
+    ensures { λ r. ⌜ AnswersTo (regular id set) r state out ⌝ }
 {
     if !regular_due(h) {
         return Answer::refused(5);
@@ -248,7 +243,7 @@ fn after_transitional(mode: u8) -> u8
 
 pub fn on_transitional(state: &mut [u8], h: State, set: u8) -> Answer
     requires { ⌜ HoldsSuch (InForce h (transitional set)) (now state) ⌝ }
-    ensures { λ r. ⌜ AnswersAlone (λ s. answer s (transitional set)) r (now (state .entry)) (now (state .exit)) ⌝ }
+    ensures { λ r. ⌜ AnswersToAlone (transitional set) r state ⌝ }
 {
     let mode = after_transitional(h.mode);
     if mode == NO_MODE {
@@ -263,7 +258,7 @@ pub fn on_transitional(state: &mut [u8], h: State, set: u8) -> Answer
 
 pub fn on_request(state: &mut [u8], out: &mut [u8], h: State, payload: &[u8]) -> Answer
     requires { ⌜ LentSuch (InForce h (requestRecord (now payload))) (now state) (now out) ⌝ }
-    ensures { λ r. ⌜ AnswersAs (λ s. answer s (requestRecord (now (payload .entry)))) r (now (state .entry)) (now (state .exit)) (now (out .entry)) (now (out .exit)) ⌝ }
+    ensures { λ r. ⌜ AnswersTo (requestRecord (now (payload .entry))) r state out ⌝ }
 {
     if !quota_left(h) {
         return Answer::refused(3);

@@ -2,21 +2,18 @@
 ghost use mathlib.Core.Path.{_≡_};
 ghost use mathlib.Core.Bool.{true, false};
 ghost use lib.ListN.{length};
-ghost use Rattle.base.specs.Tests.{_=?_};
-ghost use Rattle.format.specs.Types.{State, state as stateRecord};
-ghost use Rattle.format.specs.Range.{fieldsOk};
-ghost use Rattle.format.specs.Write.{write};
+ghost use Rattle.format.specs.Types.{State};
 ghost use Rattle.record.specs.Values.{actionOf};
-ghost use Rattle.replication.specs.Machine.Types.{Non-prim, Exchange-states, Exchange-actions, Votes, Server, withLog, inMode, contextOf};
-ghost use Rattle.replication.specs.Machine.Exchange.{quorum};
-ghost use Rattle.replication.specs.Machine.Step.{collected, hereSet, placed, exchanged, oneMore, allCome, plannedNow, decided, endExchange, allStatesIn, afterStates, collectState, exchange as exchangedBy};
+ghost use Rattle.replication.specs.Machine.Types.{Non-prim, Exchange-states, Exchange-actions, Votes, Server, inMode};
+ghost use Rattle.replication.specs.Machine.Step.{exchanged, oneMore, decided, endExchange, allStatesIn, afterStates, exchange as exchangedBy};
 ghost use Rattle.replication.specs.Machine.WellFormedFacts.{Configured};
 ghost use Rattle.replication.specs.Laws.RuleFits.{Delivered};
 ghost use Rattle.engine.specs.Image.{image};
 ghost use Rattle.engine.specs.Holding.{Holds, HoldsSuch, Becomes};
 ghost use Rattle.updates.specs.Standing.{voteNumbers};
 ghost use Rattle.exchange.specs.Decided.{votesNumbers};
-ghost use Rattle.step.specs.Answers.{answered, outcomeOn, LentSuch, Came, AnswersAs};
+ghost use Rattle.step.specs.Answers.{LentSuch, Came, AnswersFor, AnswersBy};
+ghost use Rattle.step.specs.Events.{Ends, Retransmitted, NotLast, AnswersPlanned, AnswersCollected, withPlaced, exchangedLast};
 use crate::Answer;
 use crate::resending::send_part;
 use crate::sending::send_records;
@@ -75,8 +72,8 @@ fn decide_all(state: &mut [u8])
 
 // "attempt + 1, mark .., store, send CPC, Construct"
 fn attempt_primary(state: &mut [u8], out: &mut [u8]) -> Answer
-    requires { ⌜ LentSuch (λ t. Configured t × (t .membership .mode ≡ Non-prim) × (quorum (collected t) (hereSet t) ≡ true)) (now state) (now out) ⌝ }
-    ensures { λ r. ⌜ ((s t : Server) → Holds t (now (state .entry)) → answered r (now (state .exit)) (now (out .exit)) ≡ outcomeOn (endExchange s t) (now (state .entry)) (now (out .entry))) ⌝ }
+    requires { ⌜ LentSuch (Ends true) (now state) (now out) ⌝ }
+    ensures { λ r. ⌜ AnswersFor endExchange r state out ⌝ }
 {
     let h = load(state);
     let w = write_cpc(out, 0, h.me, h.configuration_id);
@@ -90,8 +87,8 @@ fn attempt_primary(state: &mut [u8], out: &mut [u8]) -> Answer
 
 // "else store, Non_prim": held requests are sent.
 fn stay(state: &mut [u8], out: &mut [u8]) -> Answer
-    requires { ⌜ LentSuch (λ t. Configured t × (t .membership .mode ≡ Non-prim) × (quorum (collected t) (hereSet t) ≡ false)) (now state) (now out) ⌝ }
-    ensures { λ r. ⌜ ((s t : Server) → Holds t (now (state .entry)) → answered r (now (state .exit)) (now (out .exit)) ≡ outcomeOn (endExchange s t) (now (state .entry)) (now (out .entry))) ⌝ }
+    requires { ⌜ LentSuch (Ends false) (now state) (now out) ⌝ }
+    ensures { λ r. ⌜ AnswersFor endExchange r state out ⌝ }
 {
     let sent = send_records(state, out);
     decide_all(state);
@@ -102,7 +99,7 @@ fn stay(state: &mut [u8], out: &mut [u8]) -> Answer
 // "the exchange ends": every State is in, and the state has become Non_prim already, in which every number and list may change alone.
 fn end_exchange(state: &mut [u8], out: &mut [u8]) -> Answer
     requires { ⌜ LentSuch (λ t. Configured t × (t .membership .mode ≡ Non-prim)) (now state) (now out) ⌝ }
-    ensures { λ r. ⌜ ((s t : Server) → Holds t (now (state .entry)) → answered r (now (state .exit)) (now (out .exit)) ≡ outcomeOn (endExchange s t) (now (state .entry)) (now (out .entry))) ⌝ }
+    ensures { λ r. ⌜ AnswersFor endExchange r state out ⌝ }
 {
     if quorum_here(state) {
         return attempt_primary(state, out);
@@ -115,7 +112,7 @@ fn end_exchange(state: &mut [u8], out: &mut [u8]) -> Answer
 // One's part of the plan is sent, and the retransmissions are awaited.
 fn await_actions(state: &mut [u8], out: &mut [u8]) -> Answer
     requires { ⌜ LentSuch (λ t. (allStatesIn t ≡ true) × (t .membership .mode ≡ Exchange-states)) (now state) (now out) ⌝ }
-    ensures { λ r. ⌜ ((s t : Server) → Holds t (now (state .entry)) → (plannedNow t =? 0) ≡ false → answered r (now (state .exit)) (now (out .exit)) ≡ outcomeOn (afterStates s t) (now (state .entry)) (now (out .entry))) ⌝ }
+    ensures { λ r. ⌜ AnswersPlanned r state out ⌝ }
 {
     let sent = send_part(state, out);
     resend(state);
@@ -125,7 +122,7 @@ fn await_actions(state: &mut [u8], out: &mut [u8]) -> Answer
 // All States are in.
 fn after_states(state: &mut [u8], out: &mut [u8]) -> Answer
     requires { ⌜ LentSuch (λ t. (allStatesIn t ≡ true) × (t .membership .mode ≡ Exchange-states)) (now state) (now out) ⌝ }
-    ensures { λ r. ⌜ ((s t : Server) → Holds t (now (state .entry)) → answered r (now (state .exit)) (now (out .exit)) ≡ outcomeOn (afterStates s t) (now (state .entry)) (now (out .entry))) ⌝ }
+    ensures { λ r. ⌜ AnswersFor afterStates r state out ⌝ }
 {
     if planned_now(state) != 0 {
         return await_actions(state, out);
@@ -137,7 +134,7 @@ fn after_states(state: &mut [u8], out: &mut [u8]) -> Answer
 // "When every member's State is in: send one's part of the plan, to Exchange_actions." The State of server k is the whole event.
 pub fn collect(state: &mut [u8], out: &mut [u8], k: u8, event: &[u8]) -> Answer
     requires { ⌜ LentSuch (Came k (now event)) (now state) (now out) ⌝ }
-    ensures { λ r. ⌜ ((s : Server) (x : State) → Holds s (now (state .entry)) → fieldsOk (contextOf s) (stateRecord x) ≡ true → write (stateRecord x) ≡ now (event .entry) → answered r (now (state .exit)) (now (out .exit)) ≡ outcomeOn (collectState x s) (now (state .entry)) (now (out .entry))) ⌝ }
+    ensures { λ r. ⌜ AnswersCollected (now (event .entry)) r state out ⌝ }
 {
     collect_state(state, k, event);
     if !all_states_in(state) {
@@ -151,7 +148,7 @@ pub fn collect(state: &mut [u8], out: &mut [u8], k: u8, event: &[u8]) -> Answer
 // "a retransmission at position green length + 1 is green; one at a lower nonzero position is ignored; any other is red."
 fn place_action(state: &mut [u8], position: u32, head: ActionHead, payload: &[u8])
     requires { ⌜ HoldsSuch (λ s. Delivered s (actionOf head (now payload))) (now state) ⌝ }
-    ensures { λ _. ⌜ Becomes (λ s. withLog (placed position (actionOf head (now (payload .entry))) (s .log)) s) (now (state .entry)) (now (state .exit)) ⌝ }
+    ensures { λ _. ⌜ Becomes (withPlaced position (actionOf head (now (payload .entry)))) (now (state .entry)) (now (state .exit)) ⌝ }
 {
     let length = num32(state, record::State::AT_GREEN_LENGTH);
     if position == length + 1 {
@@ -169,7 +166,7 @@ fn place_action(state: &mut [u8], position: u32, head: ActionHead, payload: &[u8
 
 // One that is not the last.
 fn take_in(state: &mut [u8], position: u32, head: ActionHead, payload: &[u8])
-    requires { ⌜ HoldsSuch (λ s. Delivered s (actionOf head (now payload)) × (s .membership .mode ≡ Exchange-actions) × (allCome (oneMore s) ≡ false)) (now state) ⌝ }
+    requires { ⌜ HoldsSuch (NotLast (actionOf head (now payload))) (now state) ⌝ }
     ensures { λ _. ⌜ Becomes (exchanged position (actionOf head (now (payload .entry)))) (now (state .entry)) (now (state .exit)) ⌝ }
 {
     place_action(state, position, head, payload);
@@ -187,8 +184,8 @@ fn close(state: &mut [u8])
 
 // The last one, after which the exchange ends.
 fn take_last(state: &mut [u8], position: u32, head: ActionHead, payload: &[u8])
-    requires { ⌜ HoldsSuch (λ s. Delivered s (actionOf head (now payload)) × (s .membership .mode ≡ Exchange-actions)) (now state) ⌝ }
-    ensures { λ _. ⌜ Becomes (λ s. inMode Non-prim (exchanged position (actionOf head (now (payload .entry))) s)) (now (state .entry)) (now (state .exit)) ⌝ }
+    requires { ⌜ HoldsSuch (Retransmitted (actionOf head (now payload))) (now state) ⌝ }
+    ensures { λ _. ⌜ Becomes (exchangedLast position (actionOf head (now (payload .entry)))) (now (state .entry)) (now (state .exit)) ⌝ }
 {
     place_action(state, position, head, payload);
     close(state);
@@ -202,8 +199,8 @@ pub fn exchange(
     head: ActionHead,
     payload: &[u8],
 ) -> Answer
-    requires { ⌜ LentSuch (λ s. Delivered s (actionOf head (now payload)) × (s .membership .mode ≡ Exchange-actions)) (now state) (now out) ⌝ }
-    ensures { λ r. ⌜ AnswersAs (exchangedBy position (actionOf head (now (payload .entry)))) r (now (state .entry)) (now (state .exit)) (now (out .entry)) (now (out .exit)) ⌝ }
+    requires { ⌜ LentSuch (Retransmitted (actionOf head (now payload))) (now state) (now out) ⌝ }
+    ensures { λ r. ⌜ AnswersBy (exchangedBy position (actionOf head (now (payload .entry)))) r state out ⌝ }
 {
     let planned = planned_now(state);
     let come = num32(state, record::State::AT_COME);

@@ -3,16 +3,16 @@ ghost use mathlib.Core.Path.{_≡_};
 ghost use Prim.Native.Nat.{_≤_, _<_};
 ghost use Rattle.format.specs.Limits.{mostIndex};
 ghost use Rattle.record.specs.Values.{actionOf};
-ghost use Rattle.replication.specs.Machine.Types.{Mode, Trans-prim, Construct, No, Un, Server, inMode};
-ghost use Rattle.replication.specs.Machine.Colours.{yellow as yellowed};
+ghost use Rattle.replication.specs.Machine.Types.{Construct, No, Un, inMode};
 ghost use Rattle.replication.specs.Machine.Install.{install as installed};
 ghost use Rattle.replication.specs.Machine.Requests.{sendHeld, heldRecords};
 ghost use Rattle.replication.specs.Machine.Step.{stored, installing, collectCpc};
 ghost use Rattle.replication.specs.Machine.WellFormedFacts.{Configured};
 ghost use Rattle.replication.specs.Laws.RuleFits.{Delivered};
-ghost use Rattle.engine.specs.Image.{modeNumber, image};
-ghost use Rattle.engine.specs.Holding.{Holds, HoldsSuch, Becomes};
-ghost use Rattle.step.specs.Answers.{answered, outcomeOn, LentSuch, Installs, withLateCpc, AnswersAs};
+ghost use Rattle.engine.specs.Holding.{HoldsSuch, Becomes};
+ghost use Rattle.step.specs.Answers.{LentSuch, Installs, withLateCpc, AnswersBy, AnswersFor};
+ghost use Rattle.updates.specs.Lists.{BecomesIn};
+ghost use Rattle.step.specs.Events.{installedLate};
 use crate::Answer;
 use crate::colours::yellow;
 use crate::sending::send_records;
@@ -27,7 +27,7 @@ use updates::sending::send_held;
 // Install, and the state that it leads to; that one first, since row 8 bounds the primary index in Construct and Un.
 fn install_in(state: &mut [u8], mode: u8)
     requires { ⌜ HoldsSuch (Installs mode) (now state) ⌝ }
-    ensures { λ _. ⌜ ((s : Server) (m : Mode) → Holds s (now (state .entry)) → mode ≡ modeNumber m → now (state .exit) ≡ image (inMode m (installed s)) (now (state .entry))) ⌝ }
+    ensures { λ _. ⌜ BecomesIn mode (λ m s. inMode m (installed s)) (now (state .entry)) (now (state .exit)) ⌝ }
 {
     set_mode(state, mode);
     install(state);
@@ -36,7 +36,7 @@ fn install_in(state: &mut [u8], mode: u8)
 // "Un: action does Install, then yellow"
 pub fn late_install(state: &mut [u8], head: ActionHead, payload: &[u8])
     requires { ⌜ HoldsSuch (λ s. Delivered s (actionOf head (now payload)) × (s .membership .mode ≡ Un)) (now state) ⌝ }
-    ensures { λ _. ⌜ Becomes (λ s. inMode Trans-prim (yellowed (actionOf head (now (payload .entry))) (installed s))) (now (state .entry)) (now (state .exit)) ⌝ }
+    ensures { λ _. ⌜ Becomes (installedLate (actionOf head (now (payload .entry)))) (now (state .entry)) (now (state .exit)) ⌝ }
 {
     install_in(state, State::TRANS_PRIM);
     yellow(state, head, payload);
@@ -45,7 +45,7 @@ pub fn late_install(state: &mut [u8], head: ActionHead, payload: &[u8])
 // "and sent in order on reaching those states"
 fn send_all(state: &mut [u8], out: &mut [u8]) -> Answer
     requires { ⌜ LentSuch (λ s. 0 ≤ 0) (now state) (now out) ⌝ }
-    ensures { λ r. ⌜ ((s t : Server) → Holds t (now (state .entry)) → answered r (now (state .exit)) (now (out .exit)) ≡ outcomeOn (stored s (sendHeld t) (heldRecords t)) (now (state .entry)) (now (out .entry))) ⌝ }
+    ensures { λ r. ⌜ AnswersFor (λ s t. stored s (sendHeld t) (heldRecords t)) r state out ⌝ }
 {
     let sent = send_records(state, out);
     send_held(state);
@@ -55,7 +55,7 @@ fn send_all(state: &mut [u8], out: &mut [u8]) -> Answer
 // "Install, to Reg_prim"
 fn install_all(state: &mut [u8], out: &mut [u8]) -> Answer
     requires { ⌜ LentSuch (λ t. Configured t × (t .votes .last .index < mostIndex)) (now state) (now out) ⌝ }
-    ensures { λ r. ⌜ ((s t : Server) → Holds t (now (state .entry)) → answered r (now (state .exit)) (now (out .exit)) ≡ outcomeOn (installing s t) (now (state .entry)) (now (out .entry))) ⌝ }
+    ensures { λ r. ⌜ AnswersFor installing r state out ⌝ }
 {
     install_in(state, State::REG_PRIM);
     send_all(state, out)
@@ -64,7 +64,7 @@ fn install_all(state: &mut [u8], out: &mut [u8]) -> Answer
 // "Construct: when every member's CPC is in: Install, to Reg_prim"
 pub fn collect_cpc(state: &mut [u8], out: &mut [u8], k: u8) -> Answer
     requires { ⌜ LentSuch (λ s. (k < s .servers) × (s .membership .mode ≡ Construct)) (now state) (now out) ⌝ }
-    ensures { λ r. ⌜ AnswersAs (collectCpc k) r (now (state .entry)) (now (state .exit)) (now (out .entry)) (now (out .exit)) ⌝ }
+    ensures { λ r. ⌜ AnswersBy (collectCpc k) r state out ⌝ }
 {
     add_cpc(state, k);
     if !all_cpcs_in(state) {

@@ -1,16 +1,14 @@
 // A regular configuration: "on entry collected States and CPCs are dropped, the state is stored, a State sent."
 ghost use mathlib.Core.Path.{_≡_};
-ghost use Prim.Native.Nat.{ℕ, _≤_};
+ghost use Prim.Native.Nat.{_≤_};
 ghost use lib.ListN.{length};
-ghost use Rattle.replication.specs.Machine.Types.{Server, withVotes};
+ghost use Rattle.replication.specs.Machine.Types.{withVotes};
 ghost use Rattle.replication.specs.Machine.Step.{join as joined, unmarked, yellowValid};
 ghost use Rattle.replication.specs.Machine.WellFormedRanges.{ConfigurationFits};
 ghost use Rattle.updates.specs.Lists.{configurationOf};
 ghost use Rattle.engine.specs.Header.{headerIn};
-ghost use Rattle.engine.specs.Image.{over};
-ghost use Rattle.engine.specs.Holding.{Holds};
-ghost use Rattle.step.specs.Answers.{answered, outcomeOn, LentSuch, recordBytes};
-ghost use Rattle.step.specs.Sending.{ownHead, ownRecord};
+ghost use Rattle.step.specs.Answers.{LentSuch, AnswersFor};
+ghost use Rattle.step.specs.Sending.{ownHead, PutsOwn};
 ghost use Rattle.engine.specs.Layout.{headerSize};
 use crate::Answer;
 use engine::header::load;
@@ -56,7 +54,7 @@ fn own_numbers(state: &[u8], id: u32) -> StateHead
 // The server's State, at the front of the outgoing buffer; how many bytes it has.
 fn send_state(state: &[u8], out: &mut [u8], id: u32) -> u32
     requires { ⌜ LentSuch (λ s. 0 ≤ 0) (now state) (now out) ⌝ }
-    ensures { λ r. ⌜ ((s : Server) (set : ℕ) → Holds s (now (state .entry)) → (r ≡ length (recordBytes (ownRecord id set s))) × (now (out .exit) ≡ over (recordBytes (ownRecord id set s)) (now (out .entry)))) ⌝ }
+    ensures { λ r. ⌜ PutsOwn id r (now (state .entry)) (now (out .entry)) (now (out .exit)) ⌝ }
 {
     let head = own_numbers(state, id);
     let at = place_of(state, THE_YELLOW);
@@ -70,7 +68,7 @@ fn send_state(state: &[u8], out: &mut [u8], id: u32) -> u32
 // With the mark kept.
 pub fn join(state: &mut [u8], out: &mut [u8], id: u32, set: u8) -> Answer
     requires { ⌜ LentSuch (λ s. ConfigurationFits (s .servers) (s .me) (configurationOf id set)) (now state) (now out) ⌝ }
-    ensures { λ r. ⌜ ((s t : Server) → Holds t (now (state .entry)) → answered r (now (state .exit)) (now (out .exit)) ≡ outcomeOn (joined s (configurationOf id set) t) (now (state .entry)) (now (out .entry))) ⌝ }
+    ensures { λ r. ⌜ AnswersFor (λ s t. joined s (configurationOf id set) t) r state out ⌝ }
 {
     let sent = send_state(state, out, id);
     enter_exchange(state, id, set);
@@ -80,7 +78,7 @@ pub fn join(state: &mut [u8], out: &mut [u8], id: u32, set: u8) -> Answer
 // "No: .. regular clears the mark, to Exchange_states."
 pub fn join_unmarked(state: &mut [u8], out: &mut [u8], id: u32, set: u8) -> Answer
     requires { ⌜ LentSuch (λ s. ConfigurationFits (s .servers) (s .me) (configurationOf id set)) (now state) (now out) ⌝ }
-    ensures { λ r. ⌜ ((s t : Server) → Holds t (now (state .entry)) → answered r (now (state .exit)) (now (out .exit)) ≡ outcomeOn (joined s (configurationOf id set) (withVotes (unmarked (t .votes)) t)) (now (state .entry)) (now (out .entry))) ⌝ }
+    ensures { λ r. ⌜ AnswersFor (λ s t. joined s (configurationOf id set) (withVotes (unmarked (t .votes)) t)) r state out ⌝ }
 {
     clear_mark(state);
     join(state, out, id, set)
@@ -89,7 +87,7 @@ pub fn join_unmarked(state: &mut [u8], out: &mut [u8], id: u32, set: u8) -> Answ
 // "Trans_prim: .. regular clears the mark, makes yellow valid, to Exchange_states."
 pub fn join_yellow(state: &mut [u8], out: &mut [u8], id: u32, set: u8) -> Answer
     requires { ⌜ LentSuch (λ s. ConfigurationFits (s .servers) (s .me) (configurationOf id set)) (now state) (now out) ⌝ }
-    ensures { λ r. ⌜ ((s t : Server) → Holds t (now (state .entry)) → answered r (now (state .exit)) (now (out .exit)) ≡ outcomeOn (joined s (configurationOf id set) (withVotes (yellowValid (unmarked (t .votes))) t)) (now (state .entry)) (now (out .entry))) ⌝ }
+    ensures { λ r. ⌜ AnswersFor (λ s t. joined s (configurationOf id set) (withVotes (yellowValid (unmarked (t .votes))) t)) r state out ⌝ }
 {
     make_yellow_valid(state);
     join_unmarked(state, out, id, set)

@@ -1,11 +1,7 @@
 // A request: numbered, put on the own list and sent, or held.
-ghost use mathlib.Core.Path.{_≡_};
-ghost use mathlib.Core.Bool.{true};
-ghost use Rattle.replication.specs.Machine.Requests.{sendsNow, quotaLeft, roomToHold};
 ghost use Rattle.replication.specs.Machine.Step.{requested};
-ghost use Rattle.replication.specs.Machine.WellFormedRanges.{PayloadFits};
-ghost use Rattle.engine.specs.Header.{headerOf};
-ghost use Rattle.step.specs.Answers.{LentSuch, AnswersAs};
+ghost use Rattle.step.specs.Answers.{LentSuch, AnswersBy};
+ghost use Rattle.step.specs.Events.{Sent, Asked};
 use crate::Answer;
 use crate::rows::sends_now;
 use record::State;
@@ -17,8 +13,8 @@ use updates::requests::number;
 
 // The request as an action: "numbered, put on the own list and stored first", then sent.
 fn send(state: &mut [u8], out: &mut [u8], payload: &[u8]) -> Answer
-    requires { ⌜ LentSuch (λ s. PayloadFits (now payload) × (quotaLeft s ≡ true) × (sendsNow (s .membership) ≡ true)) (now state) (now out) ⌝ }
-    ensures { λ r. ⌜ AnswersAs (requested (now (payload .entry))) r (now (state .entry)) (now (state .exit)) (now (out .entry)) (now (out .exit)) ⌝ }
+    requires { ⌜ LentSuch (Sent (now payload)) (now state) (now out) ⌝ }
+    ensures { λ r. ⌜ AnswersBy (requested (now (payload .entry))) r state out ⌝ }
 {
     let head = next_head(state);
     let w = write_action(out, 0, head, payload);
@@ -31,8 +27,8 @@ fn send(state: &mut [u8], out: &mut [u8], payload: &[u8]) -> Answer
 
 // "Elsewhere held"; h are the state's numbers.
 pub fn request(state: &mut [u8], out: &mut [u8], h: State, payload: &[u8]) -> Answer
-    requires { ⌜ LentSuch (λ s. PayloadFits (now payload) × (quotaLeft s ≡ true) × (roomToHold s ≡ true) × (h ≡ headerOf s)) (now state) (now out) ⌝ }
-    ensures { λ r. ⌜ AnswersAs (requested (now (payload .entry))) r (now (state .entry)) (now (state .exit)) (now (out .entry)) (now (out .exit)) ⌝ }
+    requires { ⌜ LentSuch (Asked (now payload) h) (now state) (now out) ⌝ }
+    ensures { λ r. ⌜ AnswersBy (requested (now (payload .entry))) r state out ⌝ }
 {
     if sends_now(h) {
         return send(state, out, payload);

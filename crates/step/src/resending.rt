@@ -4,24 +4,18 @@ ghost use mathlib.Core.Bool.{true};
 ghost use mathlib.Core.List.{[], _∷_};
 ghost use Prim.Native.Nat.{_+_, _*_, _-_, _≤_, _<_};
 ghost use lib.ListN.{length};
-ghost use Rattle.base.specs.Bytes.{numberAt};
 ghost use Rattle.base.specs.Lists.{gather, above};
 ghost use Rattle.format.specs.Types.{retransmission};
 ghost use Rattle.record.specs.Events.{actionFrom};
-ghost use Rattle.replication.specs.Machine.Types.{Server};
-ghost use Rattle.replication.specs.Machine.Plan.{ownPart};
-ghost use Rattle.replication.specs.Machine.Step.{collected, allStatesIn};
-ghost use Rattle.engine.specs.Image.{over};
-ghost use Rattle.engine.specs.Holding.{Holds};
-ghost use Rattle.step.specs.Answers.{LentSuch, recordBytes};
+ghost use Rattle.replication.specs.Machine.Step.{allStatesIn};
+ghost use Rattle.step.specs.Answers.{LentSuch, Puts};
 ghost use Rattle.install.specs.Table.{InTable};
-ghost use Rattle.step.specs.Resending.{queueIn, greensIn, QueueIn, TableOf};
-ghost use Rattle.step.specs.Resending.{fromPlace, atPosition, asRed, oneOf, Sends, Stated, greenPart, redPart, redParts, wholePart};
-ghost use Rattle.engine.specs.Layout.{atMe};
+ghost use Rattle.step.specs.Resending.{queueIn, greensIn, QueueIn, SendsTo, Room, PayloadInside, Resends, partIn, Tabled, OwnNumber, allReds};
+ghost use Rattle.step.specs.Resending.{fromPlace, atPosition, asRed, oneOf, Stated, greenPart, redPart, wholePart};
 ghost use Rattle.format.specs.Places.{mostRetransmission};
 ghost use Rattle.engine.specs.Decode.{serversIn, quotaIn};
 ghost use Rattle.engine.specs.Counts.{queueCount, mostActions};
-ghost use Rattle.format.specs.Limits.{mostServers, mostQuota, mostPayload};
+ghost use Rattle.format.specs.Limits.{mostServers, mostQuota};
 use engine::places::THE_QUEUE;
 use engine::places::place_of;
 use exchange::decided::resends_green;
@@ -39,8 +33,8 @@ use record::writer::write_retransmission;
 
 // Writes an action that lies in the state: the place behind its record.
 fn send_action(state: &[u8], out: &mut [u8], at: usize, me: u8, position: u32, a: ActionAt) -> usize
-    requires { ⌜ (a .«payload_length» ≤ mostPayload) × (a .«payload_at» + a .«payload_length» ≤ length (now state)) × (at + mostRetransmission ≤ length (now out)) ⌝ }
-    ensures { λ r. ⌜ Sends 1 (retransmission me position (actionFrom a (now (state .entry))) ∷ []) at (now (out .entry)) (now (out .exit)) r ⌝ }
+    requires { ⌜ PayloadInside a (now state) × (at + mostRetransmission ≤ length (now out)) ⌝ }
+    ensures { λ r. ⌜ SendsTo 1 (retransmission me position (actionFrom a (now (state .entry))) ∷ []) at out r ⌝ }
 {
     let head = a.head;
     let start = a.payload_at;
@@ -55,7 +49,7 @@ fn send_action(state: &[u8], out: &mut [u8], at: usize, me: u8, position: u32, a
 // The action at the place k of the queue.
 fn send_slot(state: &[u8], out: &mut [u8], at: usize, me: u8, position: u32, k: usize) -> usize
     requires { ⌜ QueueIn (now state) × (k < queueCount (now state)) × (at + mostRetransmission ≤ length (now out)) ⌝ }
-    ensures { λ r. ⌜ Sends 1 (oneOf (fromPlace me position (queueIn (now (state .entry))) k)) at (now (out .entry)) (now (out .exit)) r ⌝ }
+    ensures { λ r. ⌜ SendsTo 1 (oneOf (fromPlace me position (queueIn (now (state .entry))) k)) at out r ⌝ }
 {
     let a = action_at(state, place_of(state, THE_QUEUE) + State::SLOT * k);
     send_action(state, out, at, me, position, a)
@@ -64,7 +58,7 @@ fn send_slot(state: &[u8], out: &mut [u8], at: usize, me: u8, position: u32, k: 
 // A green position; one past the green list is left out.
 fn send_position(state: &[u8], out: &mut [u8], at: usize, me: u8, position: u32) -> usize
     requires { ⌜ QueueIn (now state) × (1 ≤ position) × (at + mostRetransmission ≤ length (now out)) ⌝ }
-    ensures { λ r. ⌜ Sends 1 (oneOf (atPosition me (greensIn (now (state .entry))) position)) at (now (out .entry)) (now (out .exit)) r ⌝ }
+    ensures { λ r. ⌜ SendsTo 1 (oneOf (atPosition me (greensIn (now (state .entry))) position)) at out r ⌝ }
 {
     if num32(state, State::AT_GREEN_LENGTH) < position {
         return at;
@@ -74,8 +68,8 @@ fn send_position(state: &[u8], out: &mut [u8], at: usize, me: u8, position: u32)
 
 // "resends positions from the shortest length + 1 to its own": those above `low` up to `high`.
 fn send_positions(state: &[u8], out: &mut [u8], at: usize, me: u8, low: u32, high: u32) -> usize
-    requires { ⌜ QueueIn (now state) × (at + mostRetransmission * (high - low) ≤ length (now out)) ⌝ }
-    ensures { λ r. ⌜ Sends (high - low) (gather (atPosition me (greensIn (now (state .entry)))) (above low high)) at (now (out .entry)) (now (out .exit)) r ⌝ }
+    requires { ⌜ QueueIn (now state) × Room at (high - low) (now out) ⌝ }
+    ensures { λ r. ⌜ SendsTo (high - low) (gather (atPosition me (greensIn (now (state .entry)))) (above low high)) at out r ⌝ }
 {
     let mut next = at;
     let mut p = low;
@@ -96,8 +90,8 @@ fn send_index(
     creator: u8,
     index: u16,
 ) -> usize
-    requires { ⌜ QueueIn (now state) × TableOf (now places) (now state) × InTable creator index × (at + mostRetransmission ≤ length (now out)) ⌝ }
-    ensures { λ r. ⌜ Sends 1 (oneOf (asRed me (queueIn (now (state .entry))) creator index)) at (now (out .entry)) (now (out .exit)) r ⌝ }
+    requires { ⌜ Tabled (now places) (now state) × InTable creator index × (at + mostRetransmission ≤ length (now out)) ⌝ }
+    ensures { λ r. ⌜ SendsTo 1 (oneOf (asRed me (queueIn (now (state .entry))) creator index)) at out r ⌝ }
 {
     let k = place_in(state, places, 0, creator, index);
     if num32(state, State::AT_QUEUE_LENGTH) as usize <= k {
@@ -117,8 +111,8 @@ fn send_creator(
     low: u32,
     high: u32,
 ) -> usize
-    requires { ⌜ QueueIn (now state) × TableOf (now places) (now state) × (creator < mostServers) × (high ≤ mostQuota) × (at + mostRetransmission * (high - low) ≤ length (now out)) ⌝ }
-    ensures { λ r. ⌜ Sends (high - low) (gather (asRed me (queueIn (now (state .entry))) creator) (above low high)) at (now (out .entry)) (now (out .exit)) r ⌝ }
+    requires { ⌜ Tabled (now places) (now state) × (creator < mostServers) × (high ≤ mostQuota) × Room at (high - low) (now out) ⌝ }
+    ensures { λ r. ⌜ SendsTo (high - low) (gather (asRed me (queueIn (now (state .entry))) creator) (above low high)) at out r ⌝ }
 {
     let mut next = at;
     let mut i = low;
@@ -131,8 +125,8 @@ fn send_creator(
 
 // "the server with the longest green list resends positions from the shortest length + 1 to its own."
 fn send_green(state: &[u8], out: &mut [u8], me: u8) -> usize
-    requires { ⌜ Stated (now state) × (me ≡ numberAt 1 (now state) atMe) × (mostRetransmission * mostActions (now state) ≤ length (now out)) ⌝ }
-    ensures { λ r. ⌜ Sends (mostActions (now (state .entry))) (greenPart (now (state .entry))) 0 (now (out .entry)) (now (out .exit)) r ⌝ }
+    requires { ⌜ Stated (now state) × OwnNumber me (now state) × (mostRetransmission * mostActions (now state) ≤ length (now out)) ⌝ }
+    ensures { λ r. ⌜ SendsTo (mostActions (now (state .entry))) (greenPart (now (state .entry))) 0 out r ⌝ }
 {
     let part = resends_green(state);
     if !part.mine {
@@ -150,8 +144,8 @@ fn send_red(
     me: u8,
     creator: u8,
 ) -> usize
-    requires { ⌜ Stated (now state) × TableOf (now places) (now state) × (me ≡ numberAt 1 (now state) atMe) × (creator < serversIn (now state)) × (at + mostRetransmission * quotaIn (now state) ≤ length (now out)) ⌝ }
-    ensures { λ r. ⌜ Sends (quotaIn (now (state .entry))) (redPart (now (state .entry)) creator) at (now (out .entry)) (now (out .exit)) r ⌝ }
+    requires { ⌜ Resends (now places) me (now state) × (creator < serversIn (now state)) × Room at (quotaIn (now state)) (now out) ⌝ }
+    ensures { λ r. ⌜ SendsTo (quotaIn (now (state .entry))) (redPart (now (state .entry)) creator) at out r ⌝ }
 {
     let part = resends_red(state, creator as usize);
     if !part.mine {
@@ -162,8 +156,8 @@ fn send_red(
 
 // The same for every creator.
 fn send_reds(state: &[u8], out: &mut [u8], at: usize, places: &[u16; PLACES], me: u8) -> usize
-    requires { ⌜ Stated (now state) × TableOf (now places) (now state) × (me ≡ numberAt 1 (now state) atMe) × (at + mostRetransmission * mostActions (now state) ≤ length (now out)) ⌝ }
-    ensures { λ r. ⌜ Sends (mostActions (now (state .entry))) (redParts (now (state .entry)) (serversIn (now (state .entry)))) at (now (out .entry)) (now (out .exit)) r ⌝ }
+    requires { ⌜ Resends (now places) me (now state) × Room at (mostActions (now state)) (now out) ⌝ }
+    ensures { λ r. ⌜ SendsTo (mostActions (now (state .entry))) (allReds (now (state .entry))) at out r ⌝ }
 {
     let servers = num8(state, State::AT_SERVERS);
     let mut next = at;
@@ -178,7 +172,7 @@ fn send_reds(state: &[u8], out: &mut [u8], at: usize, places: &[u16; PLACES], me
 // All of them: the place behind the last.
 fn send_plan(state: &[u8], out: &mut [u8]) -> usize
     requires { ⌜ Stated (now state) × (2 * mostRetransmission * mostActions (now state) ≤ length (now out)) ⌝ }
-    ensures { λ r. ⌜ Sends (2 * mostActions (now (state .entry))) (wholePart (now (state .entry))) 0 (now (out .entry)) (now (out .exit)) r ⌝ }
+    ensures { λ r. ⌜ SendsTo (2 * mostActions (now (state .entry))) (wholePart (now (state .entry))) 0 out r ⌝ }
 {
     let me = num8(state, State::AT_ME);
     let next = send_green(state, out, me);
@@ -189,7 +183,7 @@ fn send_plan(state: &[u8], out: &mut [u8]) -> usize
 // "send one's part of the plan": at the front of the outgoing buffer; how many bytes it has.
 pub fn send_part(state: &[u8], out: &mut [u8]) -> u32
     requires { ⌜ LentSuch (λ s. allStatesIn s ≡ true) (now state) (now out) ⌝ }
-    ensures { λ r. ⌜ ((s : Server) → Holds s (now (state .entry)) → (r ≡ length (recordBytes (ownPart (s .servers) (s .me) (s .log) (collected s)))) × (now (out .exit) ≡ over (recordBytes (ownPart (s .servers) (s .me) (s .log) (collected s))) (now (out .entry)))) ⌝ }
+    ensures { λ r. ⌜ Puts partIn r (now (state .entry)) (now (out .entry)) (now (out .exit)) ⌝ }
 {
     send_plan(state, out) as u32
 }

@@ -2,16 +2,12 @@
 ghost use mathlib.Core.Path.{_≡_};
 ghost use Prim.Native.Nat.{_+_, _*_, _≤_, _<_};
 ghost use lib.ListN.{length};
-ghost use Rattle.base.specs.Patched.{patched};
 ghost use Rattle.format.specs.Limits.{mostHeld};
 ghost use Rattle.format.specs.Types.{action};
 ghost use Rattle.format.specs.Write.{write};
-ghost use Rattle.replication.specs.Machine.Types.{Server};
 ghost use Rattle.replication.specs.Machine.Requests.{heldRecords};
-ghost use Rattle.engine.specs.Image.{over};
-ghost use Rattle.engine.specs.Holding.{Holds};
-ghost use Rattle.step.specs.Answers.{LentSuch, recordBytes};
-ghost use Rattle.step.specs.Sending.{heldPlace, heldHead, heldAction, HeldRoom};
+ghost use Rattle.step.specs.Answers.{LentSuch, Puts};
+ghost use Rattle.step.specs.Sending.{heldPlace, heldHead, heldAction, HeldRoom, PutsAt};
 ghost use Rattle.engine.specs.Layout.{heldSize};
 ghost use Rattle.engine.specs.Counts.{CountsIn, heldCount};
 use engine::places::THE_HELD;
@@ -47,7 +43,7 @@ fn held_head(state: &[u8], k: u16) -> ActionHead
 // The held request k as a record at `at`; the place behind it.
 fn send_held(state: &[u8], out: &mut [u8], at: usize, k: u16) -> usize
     requires { ⌜ HeldRoom k at (now state) (now out) ⌝ }
-    ensures { λ r. ⌜ (r ≡ at + length (write (action (heldAction (now (state .entry)) k)))) × (now (out .exit) ≡ patched at (write (action (heldAction (now (state .entry)) k))) (now (out .entry))) ⌝ }
+    ensures { λ r. ⌜ PutsAt (write (action (heldAction (now (state .entry)) k))) at r (now (out .entry)) (now (out .exit)) ⌝ }
 {
     let place = request_place(state, k);
     let head = held_head(state, k);
@@ -63,7 +59,7 @@ fn send_held(state: &[u8], out: &mut [u8], at: usize, k: u16) -> usize
 // The held requests, numbered in order, at the front of the outgoing buffer; how many bytes they have. The state is not changed.
 pub fn send_records(state: &[u8], out: &mut [u8]) -> u32
     requires { ⌜ LentSuch (λ s. 0 ≤ 0) (now state) (now out) ⌝ }
-    ensures { λ r. ⌜ ((s : Server) → Holds s (now (state .entry)) → (r ≡ length (recordBytes (heldRecords s))) × (now (out .exit) ≡ over (recordBytes (heldRecords s)) (now (out .entry)))) ⌝ }
+    ensures { λ r. ⌜ Puts heldRecords r (now (state .entry)) (now (out .entry)) (now (out .exit)) ⌝ }
 {
     let count = num16(state, State::AT_HELD_COUNT);
     let mut at: usize = 0;

@@ -3,11 +3,10 @@ ghost use mathlib.Core.Path.{_≡_};
 ghost use Rattle.base.specs.Bytes.{partAt};
 ghost use Rattle.format.specs.Types.{action as actionRecord, retransmission, request, recovery};
 ghost use Rattle.record.specs.Events.{actionFrom, recordOf};
-ghost use Rattle.replication.specs.Machine.Step.{answer};
 ghost use Rattle.engine.specs.Outcome.{stateNumber, stepOn};
 ghost use Rattle.engine.specs.Holding.{HoldsSuch};
-ghost use Rattle.step.specs.Answers.{answered, LentSuch, InForce, AnswersAlone, AnswersAs};
-ghost use Rattle.step.specs.Events.{PartInForce, ReadInForce, numberOf};
+ghost use Rattle.step.specs.Answers.{answered, LentSuch, InForce, AnswersTo, AnswersToAlone};
+ghost use Rattle.step.specs.Events.{PartInForce, ReadInForce, numberOf, ActionInForce};
 use crate::Answer;
 use crate::events::on_action;
 use crate::events::on_cpc;
@@ -25,8 +24,8 @@ use record::reader::read;
 use updates::recovery::recover;
 
 fn act(state: &mut [u8], h: State, a: ActionAt, event: &[u8]) -> Answer
-    requires { ⌜ HoldsSuch (PartInForce h (actionRecord (actionFrom a (now event))) (a .«payload_at») (a .«payload_length») (now event)) (now state) ⌝ }
-    ensures { λ r. ⌜ AnswersAlone (λ s. answer s (actionRecord (actionFrom a (now (event .entry))))) r (now (state .entry)) (now (state .exit)) ⌝ }
+    requires { ⌜ HoldsSuch (ActionInForce actionRecord h a (now event)) (now state) ⌝ }
+    ensures { λ r. ⌜ AnswersToAlone (actionRecord (actionFrom a (now (event .entry)))) r state ⌝ }
 {
     let at = a.payload_at;
     let end = at + a.payload_length;
@@ -43,8 +42,8 @@ fn resent(
     a: ActionAt,
     event: &[u8],
 ) -> Answer
-    requires { ⌜ LentSuch (PartInForce h (retransmission sender position (actionFrom a (now event))) (a .«payload_at») (a .«payload_length») (now event)) (now state) (now out) ⌝ }
-    ensures { λ r. ⌜ AnswersAs (λ s. answer s (retransmission sender position (actionFrom a (now (event .entry))))) r (now (state .entry)) (now (state .exit)) (now (out .entry)) (now (out .exit)) ⌝ }
+    requires { ⌜ LentSuch (ActionInForce (retransmission sender position) h a (now event)) (now state) (now out) ⌝ }
+    ensures { λ r. ⌜ AnswersTo (retransmission sender position (actionFrom a (now (event .entry)))) r state out ⌝ }
 {
     let at = a.payload_at;
     let end = at + a.payload_length;
@@ -61,7 +60,7 @@ fn requested(
     event: &[u8],
 ) -> Answer
     requires { ⌜ LentSuch (PartInForce h (request (partAt count (now event) at)) at count (now event)) (now state) (now out) ⌝ }
-    ensures { λ r. ⌜ AnswersAs (λ s. answer s (request (partAt count (now (event .entry)) at))) r (now (state .entry)) (now (state .exit)) (now (out .entry)) (now (out .exit)) ⌝ }
+    ensures { λ r. ⌜ AnswersTo (request (partAt count (now (event .entry)) at)) r state out ⌝ }
 {
     let end = at + count;
     on_request(state, out, h, &event[at..end])
@@ -70,7 +69,7 @@ fn requested(
 // "Non_prim, no configuration, .. stored."
 fn recovered(state: &mut [u8], h: State) -> Answer
     requires { ⌜ HoldsSuch (InForce h recovery) (now state) ⌝ }
-    ensures { λ r. ⌜ AnswersAlone (λ s. answer s recovery) r (now (state .entry)) (now (state .exit)) ⌝ }
+    ensures { λ r. ⌜ AnswersToAlone recovery r state ⌝ }
 {
     recover(state);
     Answer::stored(0)
@@ -79,7 +78,7 @@ fn recovered(state: &mut [u8], h: State) -> Answer
 // The event v, which was read from the bytes `event`.
 fn on_event(state: &mut [u8], out: &mut [u8], h: State, v: Event, event: &[u8]) -> Answer
     requires { ⌜ LentSuch (ReadInForce h v (now event)) (now state) (now out) ⌝ }
-    ensures { λ r. ⌜ AnswersAs (λ s. answer s (recordOf v (now (event .entry)))) r (now (state .entry)) (now (state .exit)) (now (out .entry)) (now (out .exit)) ⌝ }
+    ensures { λ r. ⌜ AnswersTo (recordOf v (now (event .entry))) r state out ⌝ }
 {
     match v {
         Event::Action(action) => act(state, h, action, event),
