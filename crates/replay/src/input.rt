@@ -94,6 +94,9 @@ fn cut_short(ended: bool) -> Next
     if ended { Next::Wrong(1) } else { Next::More }
 }
 
+// A server byte and an event's length bytes.
+const FRONT: usize = 1 + Event::LENGTH_SIZE;
+
 // What comes next, of n servers; whether the input has ended with these bytes.
 pub fn next_in(servers: u8, input: &[u8], ended: bool) -> Next
     ensures { λ r. ⌜ r ≡ nextOf servers (now (input .entry)) ended ⌝ }
@@ -107,7 +110,7 @@ pub fn next_in(servers: u8, input: &[u8], ended: bool) -> Next
     if servers <= input[0] {
         return Next::Wrong(2);
     }
-    if input.len() < 1 + Event::LENGTH_SIZE {
+    if input.len() < FRONT {
         return cut_short(ended);
     }
     let size = num16(input, 1) as usize + Event::LENGTH_SIZE;
