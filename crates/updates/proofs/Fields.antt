@@ -20,9 +20,6 @@ theNumbered = 11
 abbrev pub theHeldCount : ℕ
 theHeldCount = 13
 
-abbrev pub theYellowStatus : ℕ
-theYellowStatus = 17
-
 abbrev pub theYellowCount : ℕ
 theYellowCount = 18
 
