@@ -37,12 +37,9 @@ theOwnCount = theNumbered + 1
 abbrev pub theHeldCount : ℕ
 theHeldCount = theOwnCount + 1
 
--- .. attempt, last primary and mark before the yellow list.
-abbrev pub theYellowStatus : ℕ
-theYellowStatus = theHeldCount + 4
-
+-- .. attempt, last primary, mark and the yellow list's status before its count.
 abbrev pub theYellowCount : ℕ
-theYellowCount = theYellowStatus + 1
+theYellowCount = theHeldCount + 5
 
 abbrev pub fieldCount : ℕ
 fieldCount = theYellowCount + 1

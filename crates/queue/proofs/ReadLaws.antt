@@ -19,12 +19,12 @@ use Rattle.record.specs.Values.{idOf, actionOf}
 use Rattle.replication.specs.Machine.Types.{Server}
 use Rattle.replication.specs.Machine.Colours.{find}
 use Rattle.replication.specs.Machine.WellFormed.{queue}
-use Rattle.engine.specs.Layout.{slotSize, atGreenLength, theQueue, theOwn}
+use Rattle.engine.specs.Layout.{slotSize, atGreenLength, theQueue}
 use Rattle.engine.specs.Decode.{actionsAt, decodedAs, decoded}
 use Rattle.engine.specs.Holding.{Holds}
 use Rattle.engine.proofs.InPlace.{holds-decoded}
 use Rattle.queue.specs.Queue.{position}
-use Rattle.engine.specs.Counts.{queueCount, place, ownCount}
+use Rattle.engine.specs.Counts.{queueCount, place}
 
 -- ---- the lists
 
@@ -34,10 +34,6 @@ queue-read s b r =
     let e = holds-decoded s b r in
     sym (take-append-drop (numberAt 4 b atGreenLength) (actionsAt (queueCount b) b (place theQueue b)))
     ∙ ap₂ {A = List Action} {B = List Action} {C = List Action} (λ x y. x ++ y) (ap (λ (t : Server). t .log .green) e) (ap (λ (t : Server). t .log .red) e)
-
-pub own-read : (s : Server) (b : List ℕ) → Holds s b → actionsAt (ownCount b) b (place theOwn b) ≡ s .log .own
-unfolding decoded decodedAs place
-own-read s b r = ap (λ (t : Server). t .log .own) (holds-decoded s b r)
 
 -- ---- one slot
 
@@ -53,18 +49,6 @@ actions-at (suc m) b p (suc k) h =
 pub slot-read : (b : List ℕ) (p : ℕ) → actionFrom (actionIn b p) b ≡ actionAt b p
 unfolding actionFrom actionOf actionIn actionAt idAt payloadAt idOf
 slot-read b p = rw (add-assoc p 7 1)
-
-pub queue-slot : (s : Server) (b : List ℕ) (k : ℕ) → Holds s b → k < queueCount b → at (queue (s .log)) k ≡ some (actionFrom (actionIn b (place theQueue b + slotSize * k)) b)
-queue-slot s b k r h =
-    ap (λ (l : List Action). at l k) (sym (queue-read s b r))
-    ∙ actions-at (queueCount b) b (place theQueue b) k h
-    ∙ ap some (sym (slot-read b (place theQueue b + slotSize * k)))
-
-pub own-slot : (s : Server) (b : List ℕ) (k : ℕ) → Holds s b → k < ownCount b → at (s .log .own) k ≡ some (actionFrom (actionIn b (place theOwn b + slotSize * k)) b)
-own-slot s b k r h =
-    ap (λ (l : List Action). at l k) (sym (own-read s b r))
-    ∙ actions-at (ownCount b) b (place theOwn b) k h
-    ∙ ap some (sym (slot-read b (place theOwn b + slotSize * k)))
 
 -- ---- by id
 

@@ -43,6 +43,7 @@ use Rattle.step.proofs.LentLaws.{lent-counts, lent-header, holds-produc
 use Rattle.format.specs.Places.{mostAction}
 use Rattle.engine.specs.Counts.{heldCount, place, CountsIn}
 use Rattle.engine.proofs.Counts.{holds-place, numbers}
+use Rattle.format.specs.Limits.{mostPayload}
 
 -- ---- the request k
 
@@ -57,8 +58,8 @@ unfolding heldHead
 head-made b k x y z e f g = λ i. record { creator = e i; index = f i + k + 1; «green_length» = g i }
 
 module _ (k at i n : ℕ) (b o : List ℕ) (h : HeldRoom k at b o) (e : i ≡ heldPlace b k) (d : n ≡ numberAt 1 b i) where
-  few : n ≤ 48
-  few = let s : numberAt 1 b i ≤ 48 = rw e (h .short) in omega arith
+  few : n ≤ mostPayload
+  few = let s : numberAt 1 b i ≤ mostPayload = rw e (h .short) in omega arith
 
   pub payload-ends : i + heldSize ≤ length b → i + 1 + n ≤ length b
   payload-ends l = omega (arith, few)
@@ -78,7 +79,7 @@ module _ (k at i n : ℕ) (b o : List ℕ) (h : HeldRoom k at b o) (e : i ≡ he
     room : at + length (write (action (heldAction b k))) ≤ length o
     unfolding heldAction lengthOf actionOf payloadAt partAt
     room =
-        let taken : length (take (numberAt 1 b (heldPlace b k)) (drop (heldPlace b k + 1) b)) ≤ 48 =
+        let taken : length (take (numberAt 1 b (heldPlace b k)) (drop (heldPlace b k + 1) b)) ≤ mostPayload =
         omega (arith, length-take (numberAt 1 b (heldPlace b k)) (drop (heldPlace b k + 1) b), h .short) in
         omega (arith, write-length (action (heldAction b k)), h .room)
 
@@ -142,7 +143,7 @@ bytes-more b k =
 -- ---- in a buffer that holds a state
 
 slots-short : (l : List (List ℕ)) (e : List ℕ) (at k : ℕ) → Each PayloadRange l → Occurs (heldSlots l) e at → k < length l
-    → numberAt 1 e (at + heldSize * k) ≤ 48
+    → numberAt 1 e (at + heldSize * k) ≤ mostPayload
 unfolding heldSlots joined slot
 slots-short [] e at k r o h = absurd (omega arith)
 slots-short (p ∷ l) e at zero r o h =
@@ -157,7 +158,7 @@ slots-short (p ∷ l) e at (suc k) r o h =
     (occurs-second (slot heldSize (payloadBytes p)) (heldSlots l) e at (at + heldSize) next o) (omega arith))
 
 module _ (s : Server) (b : List ℕ) (r : Holds s b) where
-  held-short : (k : ℕ) → k < heldCount b → numberAt 1 b (heldPlace b k) ≤ 48
+  held-short : (k : ℕ) → k < heldCount b → numberAt 1 b (heldPlace b k) ≤ mostPayload
   unfolding heldPlace parts over
   held-short k h =
       rw (holds-place s b r theHeld)

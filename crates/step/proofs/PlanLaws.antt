@@ -45,12 +45,13 @@ use Rattle.step.proofs.ResendingLaws.{sends-none, sends-next}
 use Rattle.format.specs.Places.{mostRetransmission}
 use Rattle.engine.specs.Counts.{queueCount, place, mostActions}
 use Rattle.engine.proofs.Counts.{numbers, holds-counts, holds-place}
+use Rattle.format.specs.Limits.{mostPayload}
 
 -- ---- a buffer that holds a state
 
 -- The payload's length of the slot k.
 slot-payload : (c : Context) (l : List Action) (e : List ℕ) (p k : ℕ) → ContextRange c → Each (ActionRange c) l
-    → Occurs (actionSlots l) e p → k < length l → numberAt 1 e (p + slotSize * k + 7) ≤ 48
+    → Occurs (actionSlots l) e p → k < length l → numberAt 1 e (p + slotSize * k + 7) ≤ mostPayload
 unfolding actionSlots joined slot
 slot-payload c [] e p k s r o h = absurd (omega arith)
 slot-payload c (a ∷ l) e p zero s r o h =
@@ -63,7 +64,7 @@ slot-payload c (a ∷ l) e p (suc k) s r o h =
     let there : p + slotSize + slotSize * k + 7 ≡ p + slotSize * suc k + 7 = omega arith in
     let rest = slot-payload c l e (p + slotSize) k s (r .1)
     (occurs-second (slot slotSize (actionBytes a)) (actionSlots l) e p (p + slotSize) place o) (omega arith) in
-    subst (λ (m : ℕ). numberAt 1 e m ≤ 48) there rest
+    subst (λ (m : ℕ). numberAt 1 e m ≤ mostPayload) there rest
 
 module _ (s : Server) (b : List ℕ) (r : Holds s b) where
   slots-there : Occurs (actionSlots (queue (s .log))) b (place theQueue b)

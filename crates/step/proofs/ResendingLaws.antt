@@ -40,6 +40,7 @@ use Rattle.engine.specs.Decode.{decoded}
 use native.Mathlib.Nat.{zero-add}
 use lib.Seq.{take-all}
 use Rattle.replication.specs.Machine.WellFormed.{queue}
+use Rattle.format.specs.Limits.{mostPayload}
 
 -- ---- none, one, and more
 
@@ -78,7 +79,7 @@ put-fits : (x o : List ℕ) (p : ℕ) → p + length x ≤ length o → put x p 
 unfolding put
 put-fits x o p h = sym (pick-le (p + length x) (length o) _ _ _ h refl)
 
-module _ (a : ActionAt) (b : List ℕ) (me position p : ℕ) (o o₁ : List ℕ) (w : Written) (h : a .«payload_length» ≤ 48) (l : p + mostRetransmission ≤ length o)
+module _ (a : ActionAt) (b : List ℕ) (me position p : ℕ) (o o₁ : List ℕ) (w : Written) (h : a .«payload_length» ≤ mostPayload) (l : p + mostRetransmission ≤ length o)
     (e : putOf w o₁
     ≡ put (write (retransmission me position
     (actionOf (a .head) (take (a .«payload_at» + a .«payload_length» - a .«payload_at») (drop (a .«payload_at») b))))) p o) where
@@ -131,7 +132,7 @@ module _ (b : List ℕ) (k p : ℕ) (a : ActionAt) (q : QueueIn b) (h : k < queu
   unfolding slotPlace
   read = f ∙ ap (λ (m : ℕ). actionIn b (m + slotSize * k)) e
 
-  pub slot-short : a .«payload_length» ≤ 48
+  pub slot-short : a .«payload_length» ≤ mostPayload
   unfolding actionIn
   slot-short = omega (arith, ap (λ (x : ActionAt). x .«payload_length») read, q .payloads k h)
 

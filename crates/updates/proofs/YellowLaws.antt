@@ -6,11 +6,9 @@ use mathlib.Core.Bool.{Bool, true, false, not}
 use mathlib.Core.List.{List, [], _∷_, _++_, append-nil}
 use native.Mathlib.Decide.{ℕ-discrete}
 use native.Mathlib.Omega.{arith}
-use lib.Dec.{eqb}
 use lib.ListN.{length, set, length-append}
 use Rattle.base.specs.Tests.{_and_, _or_, _=?_}
-use Rattle.base.proofs.TestLaws.{pick-yes, pick-no, both-yes, and-holds, and-eq, and-ne, or-fails, not-holds, eq-yes, eq-no}
-use Rattle.base.proofs.Branches.{told-eq}
+use Rattle.base.proofs.TestLaws.{pick-yes, pick-no, both-yes, and-holds, or-fails, not-holds, eq-yes, eq-no}
 use Rattle.base.specs.Bytes.{bytesOf, numberAt, joined}
 use Rattle.base.proofs.BytesLaws.{bytes-length}
 use Rattle.base.specs.Lists.{sum}
@@ -22,7 +20,6 @@ use Rattle.format.specs.Read.{idAt, idsAt}
 use Rattle.format.specs.Write.{idBytes, idsBytes}
 use Rattle.format.proofs.Lengths.{id-length, ids-length}
 use Rattle.format.proofs.IdCount.{ids-count}
-use Rattle.record.specs.Values.{idOf}
 use Rattle.replication.specs.Machine.Types.{Server, Votes, contextOf, withVotes}
 use Rattle.replication.specs.Machine.Colours.{addId, joinYellow}
 use Rattle.engine.specs.Layout.{theHeader, theYellow, sections, offset, atYellowCount}
@@ -187,11 +184,3 @@ has-again e at k m d t w h f g j = j ∙ ap (hasId d) (ids-more e at k m h) ∙ 
 pub has-end : (e : List ℕ) (at k m : ℕ) (d : Id) (w : Bool) → m ≤ k → w ≡ hasId d (idsAt (m - k) e (at + idSize * k)) → false ≡ w
 unfolding hasId idsAt
 has-end e at k m d w h j = let a : m - k ≡ 0 = omega arith in sym (j ∙ ap (λ (i : ℕ). hasId d (idsAt i e (at + idSize * k))) a)
-
-pub id-other : (e : List ℕ) (at c i x : ℕ) → x ≡ numberAt 1 e at → (c ≡ x → ⊥) → false ≡ sameId (idOf c i) (idAt e at)
-unfolding sameId idOf idAt
-id-other e at c i x f h = and-ne c (numberAt 1 e at) _ (λ g. h (g ∙ sym f))
-
-pub id-same : (e : List ℕ) (at c i x y : ℕ) → x ≡ numberAt 1 e at → c ≡ x → y ≡ numberAt 2 e (at + 1) → eqb i y ≡ sameId (idOf c i) (idAt e at)
-unfolding sameId idOf idAt
-id-same e at c i x y f h g = and-eq c (numberAt 1 e at) _ _ (h ∙ f) (told-eq i y ∙ ap (λ (m : ℕ). i =? m) g)

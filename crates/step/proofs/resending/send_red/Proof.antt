@@ -12,7 +12,7 @@ returns c = search (needs, red-none)
 send-creator-requires : tie.Need-send-creator-requires
 send-creator-requires c κs =
     let e = c .before .before .before .resends-red .ensures in
-    (search needs, search needs, search needs, red-high _ _ _ e (search needs), search (needs, red-room _ _ _ e))
+    (search needs, search needs, red-high _ _ _ e (search needs), search (needs, red-room _ _ _ e))
 
 same-length : tie.Need-same-length
 same-length c = search needs
