@@ -21,14 +21,13 @@ use exchange::decided::taken_votes;
 use exchange::decided::taken_yellow;
 use record::State;
 use record::bytes::num8;
-use record::lists::PLACES;
 use record::sets::has;
 use state_check::state_number;
 
 // As long as a state and what it sends can be: eight servers, quota 256.
 const ROOM: usize = 185660;
 
-const OUT: usize = 2 * State::RETRANSMISSION * PLACES;
+const OUT: usize = 2 * State::RETRANSMISSION * State::MOST_IDS;
 
 fn answers(state: &[u8])
     requires { ⌜ HoldsSome (now state) ⌝ }

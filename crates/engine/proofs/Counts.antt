@@ -8,7 +8,7 @@ use native.Mathlib.Omega.{arith}
 use lib.ListN.{length, length-append}
 use Rattle.base.specs.Bytes.{numberAt}
 use Rattle.base.specs.Lists.{sum}
-use Rattle.format.specs.Limits.{mostServers, mostQuota, mostHeld}
+use Rattle.format.specs.Limits.{mostHeld, mostIds}
 use Rattle.format.specs.Places.{idSize}
 use Rattle.format.proofs.IdCount.{ids-count}
 use Rattle.record.specs.declared.State.{State}
@@ -96,7 +96,7 @@ module _ (s : Server) (b : List ℕ) (r : Holds s b) where
       let q = numbers .quota in
       let ids : length (s .votes .yellow .ids) ≤ s .servers * s .quota = ids-count (contextOf s) (s .votes .yellow .ids) (f .yellow .ids) (f .yellow .differ) in
       let one : 1 * 1 ≤ s .servers * s .quota = mul-le-mul {n₁ = 1} {m₁ = 1} {n₂ = s .servers} {m₂ = s .quota} (omega (arith, z .fewest)) (omega (arith, z .least)) in
-      let all : s .servers * s .quota ≤ mostServers * mostQuota = mul-le-mul (z .most) (z .highest) in
+      let all : s .servers * s .quota ≤ mostIds = mul-le-mul (z .most) (z .highest) in
       let parts : length (queue (s .log)) ≡ length (s .log .green) + length (s .log .red) = queue-parts (s .log) in
       let long : stateLength (serversIn b) (quotaIn b) ≤ length b = rw (n, q) (r .long) in
       record {

@@ -11,7 +11,7 @@ use Rattle.base.specs.Tests.{_=?_, pick}
 use Rattle.base.proofs.TestLaws.{pick-yes, pick-no, eq-yes, eq-no}
 use Rattle.base.specs.Bytes.{bytesOf, numberAt}
 use Rattle.base.proofs.Occurs.{Occurs, occurs-at, joined-parts, number-read}
-use Rattle.format.specs.Limits.{mostServers, mostQuota, layoutNumber}
+use Rattle.format.specs.Limits.{mostServers, layoutNumber, mostIds}
 use Rattle.format.specs.Places.{primarySize, markSize}
 use Rattle.format.specs.Write.{primaryBytes, markBytes}
 use Rattle.format.specs.Read.{primaryAt, markAt}
@@ -127,7 +127,7 @@ unfolding headerBytes bytesOf contextOf queue
 header-read s e r o =
     let sizes = r .context .sizes in
     let own = r .context .own in
-    let product : s .servers * s .quota ≤ mostServers * mostQuota = mul-le-mul (sizes .most) (sizes .highest) in
+    let product : s .servers * s .quota ≤ mostIds = mul-le-mul (sizes .most) (sizes .highest) in
     let few = ids-count (contextOf s) (s .votes .yellow .ids) (r .yellow .ids) (r .yellow .differ) in
     let c : length (configurationBytes (s .membership .configuration)) ≡ 6 = configuration-length (s .membership .configuration) in
     let t : length (transitionalBytes (s .membership .transitional)) ≡ 2 = transitional-length (s .membership .transitional) in

@@ -10,7 +10,7 @@ use lib.ListN.{length, length-map}
 use Rattle.base.proofs.TestLaws.{and-holds, both-yes, le-holds, eq-holds, not-both}
 use Rattle.base.specs.Lists.{all, above, Each}
 use Rattle.base.proofs.ListLaws.{all-each, above-length}
-use Rattle.format.specs.Limits.{mostServers, mostQuota, mostHeld, mostIndex}
+use Rattle.format.specs.Limits.{mostServers, mostHeld, mostIndex, mostIds}
 use Rattle.format.specs.Types.{Id, Action, State, Context}
 use Rattle.format.specs.Range.{actionOk, lengthOk, payloadOk, cutsOk, ownSetOk, idsInRange}
 use Rattle.format.proofs.Ranges.{ContextRange, context-range, length-range, set-range, index-range, configuration-range, PayloadRange, payload-range, ActionRange, action-range, PrimaryRange, primary-range, MarkRange, mark-range, YellowRange, yellow-range, StateRange, state-range}
@@ -54,7 +54,7 @@ pub record InRange (s : Server) : Type 0 where
   pub heldCount : length (s .held) ≤ mostHeld
   pub held : Each PayloadRange (s .held)
   pub notedCount : length (s .noted) ≡ s .servers
-  pub noted : Each (λ l. l ≤ mostServers * mostQuota) (s .noted)
+  pub noted : Each (λ l. l ≤ mostIds) (s .noted)
 
 -- ---- the parts
 
@@ -171,5 +171,5 @@ in-range s ok =
       heldCount = le-holds (length (s .held)) mostHeld (b₅ .0);
       held = all-each payloadOk PayloadRange payload-range (s .held) (b₆ .0);
       notedCount = eq-holds (length (s .noted)) (s .servers) (b₇ .0);
-      noted = all-each (lengthOk c) (λ l. l ≤ mostServers * mostQuota) (λ l h. length-range c l r h) (s .noted) (b₇ .1);
+      noted = all-each (lengthOk c) (λ l. l ≤ mostIds) (λ l h. length-range c l r h) (s .noted) (b₇ .1);
     }

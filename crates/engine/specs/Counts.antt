@@ -4,7 +4,7 @@ use Prim.Native.Nat.{ℕ, _+_, _*_, _≤_}
 use mathlib.Core.List.{List}
 use lib.ListN.{length}
 use Rattle.base.specs.Bytes.{numberAt}
-use Rattle.format.specs.Limits.{mostServers, mostQuota, mostHeld}
+use Rattle.format.specs.Limits.{mostHeld, mostIds}
 use Rattle.format.specs.Places.{idSize}
 use Rattle.engine.specs.Layout.{atQueueLength, atGreenLength, atNumbered, atOwnCount, atHeldCount, atYellowCount}
 use Rattle.engine.specs.Layout.{SizesIn, headerSize, heldSize, slotSize, theNoted, theHeld, theYellow, theOwn, theQueue, offset, stateLength}
@@ -40,7 +40,7 @@ mostActions b = serversIn b * quotaIn b
 pub record CountsIn (b : List ℕ) : Type 0 where
   pub sizes : SizesIn (serversIn b) (quotaIn b)
   pub some : 1 ≤ mostActions b
-  pub most : mostActions b ≤ mostServers * mostQuota
+  pub most : mostActions b ≤ mostIds
   pub long : stateLength (serversIn b) (quotaIn b) ≤ length b
   pub cuts : headerSize + 2 * serversIn b ≤ length b
   pub notedEnd : place theNoted b + 4 * serversIn b ≤ place theHeld b

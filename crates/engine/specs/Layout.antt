@@ -5,7 +5,7 @@ use mathlib.Core.List.{List, [], _∷_}
 use lib.ListN.{length, take, getD}
 use Rattle.base.specs.Lists.{sum}
 use Rattle.format.specs.Places.{primarySize, markSize, idSize, actionHeadSize, stateHeadSize, mostRetransmission}
-use Rattle.format.specs.Limits.{fewestServers, mostServers, leastQuota, mostQuota, mostPayload, mostHeld}
+use Rattle.format.specs.Limits.{fewestServers, mostServers, leastQuota, mostQuota, mostPayload, mostHeld, mostIds}
 
 -- The fixed-size fields: where each begins, behind the one before it. A field that may be absent begins with its status.
 abbrev pub atLayout : ℕ
@@ -137,13 +137,13 @@ abbrev pub mostStatesAt : ℕ
 mostStatesAt = headerSize + 6 * mostServers + heldSize * mostHeld
 
 abbrev pub mostStateSize : ℕ
-mostStateSize = stateHeadSize + 2 * mostServers + idSize * (mostServers * mostQuota)
+mostStateSize = stateHeadSize + 2 * mostServers + idSize * mostIds
 
 abbrev pub mostYellowAt : ℕ
 mostYellowAt = mostStatesAt + mostServers * mostStateSize
 
 abbrev pub mostOwnAt : ℕ
-mostOwnAt = mostYellowAt + idSize * (mostServers * mostQuota)
+mostOwnAt = mostYellowAt + idSize * mostIds
 
 -- Where the section k begins.
 unfoldable pub offset : (n q k : ℕ) → ℕ

@@ -6,6 +6,7 @@ use mathlib.Core.Bool.{Bool, true}
 use mathlib.Core.List.{List, [], _∷_}
 use native.Mathlib.Omega.{arith}
 use lib.ListN.{length, take, drop, replicate, length-replicate}
+use Rattle.format.specs.Limits.{mostIds}
 use Rattle.base.specs.Tests.{_and_, pick}
 use Rattle.base.proofs.TestLaws.{and-holds, pick-as}
 use Rattle.base.specs.Lists.{all, filter, Each}
@@ -27,7 +28,7 @@ use Rattle.record.proofs.Turns.{small}
 use Rattle.exchange.specs.declared.slots.Slots.{Slots}
 use Rattle.exchange.specs.Slots.{First, withHere, slotAt, stateIn, statesFrom, statesLeft, statesOf, headOf}
 use Rattle.exchange.specs.Passing.{Voters}
-use Rattle.exchange.specs.Table.{places, isKept, keptIds, Listed, raisedLists, RaisedBy, idsIn, ListInside, ListsInside, ListFits, ListsFit}
+use Rattle.exchange.specs.Table.{isKept, keptIds, Listed, raisedLists, RaisedBy, idsIn, ListInside, ListsInside, ListFits, ListsFit}
 use Rattle.exchange.proofs.TableLaws.{table-decides}
 use Rattle.exchange.proofs.RaiseLaws.{ids-read, ids-counted}
 use Rattle.exchange.proofs.SlotLaws.{states-in, states-end}
@@ -36,7 +37,7 @@ use Rattle.format.specs.Places.{idSize, stateHeadSize}
 
 pub common-made : (c : FormatContext) (v : Slots) (b : List ℕ) (k at round r : ℕ) (t o : List ℕ) (x : StateHead)
     → x ≡ headOf v b k → at ≡ slotAt v k
-    → RaisedBy c (statesLeft v b (k + 1)) round (replicate {A = ℕ} places 0) t
+    → RaisedBy c (statesLeft v b (k + 1)) round (replicate {A = ℕ} mostIds 0) t
     → Listed r o (filter (isKept c round t) (idsAt (x .«yellow_count») (take (length b - at) (drop at b)) (stateHeadSize + 2 * v .servers)))
     → Listed r o (keptIds c v b k)
 unfolding keptIds
@@ -59,10 +60,10 @@ each-in-range c [] h = tt
 each-in-range c (d ∷ ds) h = let p = and-holds _ _ h in (p .0, each-in-range c ds (p .1))
 
 kept-all : (c : FormatContext) (ys : List State) (d : Id) → Small c → Each (λ y. idsInRange c (y .yellow .ids) ≡ true) ys → idOk c d ≡ true
-    → isKept c (length ys) (raisedLists c 0 (replicate {A = ℕ} places 0) ys) d ≡ all (λ y. hasId d (y .yellow .ids)) ys
+    → isKept c (length ys) (raisedLists c 0 (replicate {A = ℕ} mostIds 0) ys) d ≡ all (λ y. hasId d (y .yellow .ids)) ys
 unfolding isKept _and_
 kept-all c ys d s e ok =
-    rw ok (table-decides c d s (id-range c d ok) (replicate {A = ℕ} places 0) ys (length-replicate {A = ℕ} places 0) (replicate-at {A = ℕ} 0 places (slot d)) e)
+    rw ok (table-decides c d s (id-range c d ok) (replicate {A = ℕ} mostIds 0) ys (length-replicate {A = ℕ} mostIds 0) (replicate-at {A = ℕ} 0 mostIds (slot d)) e)
 
 -- Where the ids are in range, those kept are the ids common to all the lists.
 pub kept-common : (c : FormatContext) (v : Slots) (b : List ℕ) (k : ℕ) → Small c → idsInRange c (idsIn v b k) ≡ true

@@ -7,6 +7,7 @@ use mathlib.Core.List.{List}
 use mathlib.Core.Option.{Option, none, some}
 use native.Mathlib.Omega.{arith}
 use lib.ListN.{length}
+use Rattle.format.specs.Limits.{mostIds}
 use Rattle.base.specs.Bytes.{numberAt}
 use Rattle.base.specs.Sets.{inside}
 use Rattle.format.specs.Types.{State, Context as FormatContext}
@@ -31,7 +32,7 @@ use Rattle.exchange.specs.declared.decided.Part.{Part}
 use Rattle.exchange.specs.declared.decided.TakenVotes.{TakenVotes}
 use Rattle.exchange.specs.Slots.{Space, Room, slotsOf, slotsIn, statesOf}
 use Rattle.exchange.specs.Numbers.{numberIn, Within}
-use Rattle.exchange.specs.Table.{places, Listed, ListsFit}
+use Rattle.exchange.specs.Table.{Listed, ListsFit}
 use Rattle.exchange.specs.Decided.{votesNumbers, partOf}
 use Rattle.exchange.proofs.Collected.{collected-slots}
 use Rattle.exchange.proofs.RoomLaws.{holds-room, all-states-in}
@@ -114,7 +115,7 @@ module _ (P : Server → Type 0) (b : List ℕ) (such : HoldsSuch P b) where
     own-below me e =
         omega (arith, e, servers-held, own-read (such .state) b (such .holds), in-range (such .state) (such .holds .formed) .context .own)
 
-    pub lists-held : (x : Numbers) (c : Context) (o : List ℕ) → x ≡ headerIn b → c ≡ readingContext x → idSize * places ≤ length o
+    pub lists-held : (x : Numbers) (c : Context) (o : List ℕ) → x ≡ headerIn b → c ≡ readingContext x → idSize * mostIds ≤ length o
         → ListsFit (formatContext c) v b o
     lists-held x c o e f l =
         let s : Server = such .state in

@@ -7,6 +7,7 @@ use mathlib.Core.List.{List, _∷_, _++_, append-assoc, append-nil}
 use native.Mathlib.Omega.{arith}
 use lib.Dec.{eqb}
 use lib.ListN.{length, getD, take, length-take}
+use Rattle.format.specs.Limits.{mostIds}
 use Rattle.base.specs.Tests.{_=?_, _and_, pick}
 use Rattle.base.proofs.TestLaws.{pick-yes, pick-no, and-no, and-yes, Known, known, holds, fails}
 use Rattle.base.proofs.Branches.{told-eq}
@@ -23,16 +24,16 @@ use Rattle.format.proofs.Writing.{ids-more}
 use Rattle.record.specs.Context.{contextOf, ContextIn}
 use Rattle.record.specs.Values.{idOf, placeOf}
 use Rattle.record.specs.declared.Context.{Context}
-use Rattle.exchange.specs.Table.{places, isKept, Keeps, Listed}
+use Rattle.exchange.specs.Table.{isKept, Keeps, Listed}
 use Rattle.format.specs.Places.{idSize}
 use Rattle.record.proofs.Turns.{small, place-out, place-in}
 
-pub kept-out : (c : Context) (r p : ℕ) (t : List ℕ) (d : Id) → ContextIn c → p ≡ placeOf (contextOf c) d → places ≤ p
+pub kept-out : (c : Context) (r p : ℕ) (t : List ℕ) (d : Id) → ContextIn c → p ≡ placeOf (contextOf c) d → mostIds ≤ p
     → false ≡ isKept (contextOf c) r t d
 unfolding isKept
 kept-out c r p t d s e h = and-no _ _ (place-out (contextOf c) d p (small c s) (known _) e h)
 
-pub kept-told : (c : Context) (r p : ℕ) (t : List ℕ) (d : Id) → p ≡ placeOf (contextOf c) d → p < places
+pub kept-told : (c : Context) (r p : ℕ) (t : List ℕ) (d : Id) → p ≡ placeOf (contextOf c) d → p < mostIds
     → eqb (getD t p 0) r ≡ isKept (contextOf c) r t d
 unfolding isKept
 kept-told c r p t d e h =

@@ -8,6 +8,7 @@ use mathlib.Core.Option.{none}
 use native.Mathlib.Nat.{mul-le-mul}
 use native.Mathlib.Omega.{arith}
 use lib.ListN.{length}
+use Rattle.format.specs.Limits.{mostIds}
 use Rattle.base.proofs.ListLaws.{each-there}
 use Rattle.base.specs.Sets.{inSet}
 use Rattle.format.proofs.Ranges.{StateRange}
@@ -18,7 +19,7 @@ use Rattle.engine.specs.Image.{senders}
 use Rattle.engine.proofs.InRange.{CollectedRange, in-range}
 use Rattle.engine.specs.Holding.{Holds}
 use Rattle.exchange.specs.Slots.{slotsOf, slotsIn, slotAt, stateIn}
-use Rattle.exchange.specs.Table.{places, idsIn, ListInside, ListsFit}
+use Rattle.exchange.specs.Table.{idsIn, ListInside, ListsFit}
 use Rattle.exchange.proofs.SlotLaws.{slot-inside}
 use Rattle.exchange.proofs.RoomLaws.{state-there, holds-room}
 use Rattle.format.specs.Places.{idSize}
@@ -34,11 +35,11 @@ module _ (s : Server) (b : List ℕ) (h : Holds s b) where
   unfolding contextOf
   few k l t = let y = in-slot k l t .yellow in ids-count (contextOf s) _ (y .ids) (y .differ)
 
-  most : s .servers * s .quota ≤ places
+  most : s .servers * s .quota ≤ mostIds
   unfolding contextOf
   most = let z = in-range s (h .formed) .context .sizes in mul-le-mul (z .most) (z .highest)
 
-  pub holds-fit : (o : List ℕ) → idSize * places ≤ length o → ListsFit (contextOf s) (slotsIn s) b o
+  pub holds-fit : (o : List ℕ) → idSize * mostIds ≤ length o → ListsFit (contextOf s) (slotsIn s) b o
   unfolding ListsFit ListInside slotsIn slotsOf slotAt stateSize
   holds-fit o m k l t =
       record {

@@ -7,6 +7,7 @@ use mathlib.Core.List.{List}
 use native.Mathlib.Omega.{arith}
 use lib.ListN.{length, getD, take, drop, set, length-drop}
 use lib.Seq.{take-all}
+use Rattle.format.specs.Limits.{mostIds}
 use Rattle.base.specs.Tests.{_and_, pick}
 use Rattle.base.proofs.TestLaws.{pick-yes, pick-no, both-yes, and-no, eq-yes, eq-no, Known, known, holds, fails}
 use borrow.Author.Tests.{not-false}
@@ -23,18 +24,18 @@ use Rattle.record.specs.declared.StateHead.{StateHead}
 use Rattle.record.proofs.Turns.{small, place-out, place-in}
 use Rattle.exchange.specs.declared.slots.Slots.{Slots}
 use Rattle.exchange.specs.Slots.{slotAt, statesLeft, headOf}
-use Rattle.exchange.specs.Table.{places, raised, raisedAll, raisedLists, RaisedAt, RaisedBy, idsIn, ListInside, ListsInside}
+use Rattle.exchange.specs.Table.{raised, raisedAll, raisedLists, RaisedAt, RaisedBy, idsIn, ListInside, ListsInside}
 use Rattle.exchange.proofs.SlotLaws.{states-in, states-out, states-end}
 use Rattle.exchange.proofs.ReadLaws.{state-stands}
 use Rattle.format.specs.Places.{idSize, stateHeadSize, stateCutsAt, standingSize}
 
 -- ---- one id
 
-pub raise-out : (c : Context) (r p : ℕ) (t : List ℕ) (d : Id) → ContextIn c → p ≡ placeOf (contextOf c) d → places ≤ p → t ≡ raised (contextOf c) r t d
+pub raise-out : (c : Context) (r p : ℕ) (t : List ℕ) (d : Id) → ContextIn c → p ≡ placeOf (contextOf c) d → mostIds ≤ p → t ≡ raised (contextOf c) r t d
 unfolding raised
 raise-out c r p t d s e h = pick-no _ _ _ _ (sym (and-no _ _ (place-out (contextOf c) d p (small c s) (known _) e h))) refl
 
-pub raise-other : (c : Context) (r p : ℕ) (t : List ℕ) (d : Id) → p ≡ placeOf (contextOf c) d → p < places → (getD t p 0 ≡ r → ⊥)
+pub raise-other : (c : Context) (r p : ℕ) (t : List ℕ) (d : Id) → p ≡ placeOf (contextOf c) d → p < mostIds → (getD t p 0 ≡ r → ⊥)
     → t ≡ raised (contextOf c) r t d
 unfolding raised
 raise-other c r p t d e h n =
@@ -42,7 +43,7 @@ raise-other c r p t d e h n =
     let m : getD t (slot d) 0 ≡ r → ⊥ = λ y. n (ap (λ (i : ℕ). getD t i 0) (z .1) ∙ y) in
     pick-no _ _ _ _ (ap (λ (u : Bool). idOk (contextOf c) d and u) (eq-no _ _ m) ∙ sym (and-false (idOk (contextOf c) d))) refl
 
-pub raise-here : (c : Context) (r p : ℕ) (t : List ℕ) (d : Id) → p ≡ placeOf (contextOf c) d → p < places → getD t p 0 ≡ r
+pub raise-here : (c : Context) (r p : ℕ) (t : List ℕ) (d : Id) → p ≡ placeOf (contextOf c) d → p < mostIds → getD t p 0 ≡ r
     → set t p (r + 1) ≡ raised (contextOf c) r t d
 unfolding raised
 raise-here c r p t d e h n =

@@ -8,6 +8,7 @@ use native.Mathlib.Omega.{arith}
 use native.Mathlib.Nat.{zero-add}
 use lib.ListN.{length, getD, set, length-set}
 use lib.Seq.{getD-set-same, getD-set-other}
+use Rattle.format.specs.Limits.{mostIds}
 use Rattle.base.specs.Tests.{_=?_, _and_, _or_, pick}
 use Rattle.base.proofs.TestLaws.{pick-yes, pick-no, and-holds, both-yes, and-no, pick-either, eq-yes, eq-no, Known, known, holds, fails}
 use Rattle.base.proofs.Branches.{and-true, and-false}
@@ -17,7 +18,7 @@ use Rattle.format.specs.Range.{idOk, sameId, hasId, idsInRange}
 use Rattle.format.proofs.Ranges.{IdRange, id-range}
 use Rattle.record.specs.Values.{slot}
 use Rattle.record.proofs.OnePass.{Small, slot-lt, same-slot, other-slot}
-use Rattle.exchange.specs.Table.{places, raised, raisedAll, raisedLists}
+use Rattle.exchange.specs.Table.{raised, raisedAll, raisedLists}
 
 -- ---- one id
 
@@ -46,7 +47,7 @@ unfolding lifted
 lifted-no has r v e = sym (pick-no _ _ _ _ (sym (and-no _ _ e)) refl)
 
 module _ (c : Context) (r : ℕ) (x : Id) (s : Small c) (a : IdRange c x) where
-  raised-at : (t : List ℕ) (d : Id) → length t ≡ places → idOk c d ≡ true → getD (raised c r t d) (slot x) 0 ≡ lifted (sameId x d) r (getD t (slot x) 0)
+  raised-at : (t : List ℕ) (d : Id) → length t ≡ mostIds → idOk c d ≡ true → getD (raised c r t d) (slot x) 0 ≡ lifted (sameId x d) r (getD t (slot x) 0)
   raised-at t d l ok = go (known (sameId x d)) (known (getD t (slot d) 0 =? r))
     where
       read : {u : List ℕ} → raised c r t d ≡ u → getD (raised c r t d) (slot x) 0 ≡ getD u (slot x) 0
@@ -88,7 +89,7 @@ lifted-twice false more r v (holds e) = ap (lifted more r) (lifted-no false r v 
 lifted-twice has more r v (fails e) = ap (lifted more r) (lifted-not has r v e) ∙ lifted-not more r v e ∙ sym (lifted-not (has or more) r v e)
 
 module _ (c : Context) (r : ℕ) (x : Id) (s : Small c) (a : IdRange c x) where
-  raised-all-at : (t : List ℕ) (ds : List Id) → length t ≡ places → idsInRange c ds ≡ true
+  raised-all-at : (t : List ℕ) (ds : List Id) → length t ≡ mostIds → idsInRange c ds ≡ true
       → getD (raisedAll c r t ds) (slot x) 0 ≡ lifted (hasId x ds) r (getD t (slot x) 0)
   unfolding raisedAll idsInRange hasId
   raised-all-at t [] l ok = sym (lifted-no false r _ refl)
@@ -117,7 +118,7 @@ shuffle false true q = refl
 shuffle false false q = refl
 
 module _ (c : Context) (x : Id) (s : Small c) (a : IdRange c x) where
-  raised-lists-at : (r : ℕ) (t : List ℕ) (ys : List State) → length t ≡ places → getD t (slot x) 0 ≤ r
+  raised-lists-at : (r : ℕ) (t : List ℕ) (ys : List State) → length t ≡ mostIds → getD t (slot x) 0 ≤ r
       → Each (λ y. idsInRange c (y .yellow .ids) ≡ true) ys
       → (getD (raisedLists c r t ys) (slot x) 0 =? (r + length ys)) ≡ (all (λ y. hasId x (y .yellow .ids)) ys and getD t (slot x) 0 =? r)
   unfolding raisedLists all _and_
@@ -134,7 +135,7 @@ module _ (c : Context) (x : Id) (s : Small c) (a : IdRange c x) where
       ∙ shuffle (all (λ w. hasId x (w .yellow .ids)) ys) has (v =? r)
 
   -- From a table of zeros: each list has x exactly if its place tells their number.
-  pub table-decides : (t : List ℕ) (ys : List State) → length t ≡ places → getD t (slot x) 0 ≡ 0 → Each (λ y. idsInRange c (y .yellow .ids) ≡ true) ys
+  pub table-decides : (t : List ℕ) (ys : List State) → length t ≡ mostIds → getD t (slot x) 0 ≡ 0 → Each (λ y. idsInRange c (y .yellow .ids) ≡ true) ys
       → (getD (raisedLists c 0 t ys) (slot x) 0 =? length ys) ≡ all (λ y. hasId x (y .yellow .ids)) ys
   table-decides t ys l h e =
       ap (λ (m : ℕ). getD (raisedLists c 0 t ys) (slot x) 0 =? m) (sym (zero-add (length ys)))

@@ -9,7 +9,7 @@ use Rattle.base.specs.Lists.{filter}
 use Rattle.base.specs.Patched.{patched}
 use Rattle.base.specs.Sets.{inSet}
 use Rattle.base.specs.Tests.{_and_, _=?_, pick}
-use Rattle.format.specs.Limits.{mostServers, mostQuota}
+use Rattle.format.specs.Limits.{mostIds}
 use Rattle.format.specs.Types.{Id, State, Context}
 use Rattle.format.specs.Range.{idOk, idsInRange}
 use Rattle.format.specs.Read.{idAt}
@@ -18,10 +18,6 @@ use Rattle.record.specs.Values.{slot}
 use Rattle.exchange.specs.declared.slots.Slots.{Slots}
 use Rattle.exchange.specs.Slots.{slotAt, stateIn, statesLeft, ifMeant}
 use Rattle.format.specs.Places.{idSize, stateHeadSize}
-
--- How many places the table has.
-abbrev pub places : ℕ
-places = mostServers * mostQuota
 
 -- An id of the list after r others: its place is raised to r + 1 if it is at r.
 unfoldable pub raised : Context → ℕ → List ℕ → Id → List ℕ
@@ -71,7 +67,7 @@ pub record Keeps (t : Id → Bool) (e : List ℕ) (at n q : ℕ) (o u : List ℕ
 unfoldable pub keptIds : Context → Slots → List ℕ → ℕ → List Id
 keptIds c v b k =
     let ys : List State = statesLeft v b (k + 1) in
-    filter (isKept c (length ys) (raisedLists c 0 (replicate {A = ℕ} places 0) ys)) (idsIn v b k)
+    filter (isKept c (length ys) (raisedLists c 0 (replicate {A = ℕ} mostIds 0) ys)) (idsIn v b k)
 
 -- The bytes o begin with the ids ds, of which there are r.
 pub record Listed (r : ℕ) (o : List ℕ) (ds : List Id) : Type 0 where

@@ -22,17 +22,16 @@ use record::State;
 use record::StateHead;
 use record::bytes::num8;
 use record::bytes::num16;
-use record::lists::PLACES;
 use record::lists::place_at;
 use record::parts::put_id;
 
 // Whether the place of the id from `at` on tells `round`.
-fn is_kept(c: Context, e: &[u8], at: usize, round: u8, table: &[u8; PLACES]) -> bool
+fn is_kept(c: Context, e: &[u8], at: usize, round: u8, table: &[u8; State::MOST_IDS]) -> bool
     requires { ⌜ ContextIn c × (at + idSize ≤ length (now e)) ⌝ }
     ensures { λ r. ⌜ r ≡ isKept (contextOf c) round (now (table .entry)) (idAt (now (e .entry)) at) ⌝ }
 {
     let p = place_at(c, e, at);
-    if PLACES <= p {
+    if State::MOST_IDS <= p {
         return false;
     }
     table[p] == round
@@ -52,7 +51,7 @@ fn keep_at(
     e: &[u8],
     at: usize,
     round: u8,
-    table: &[u8; PLACES],
+    table: &[u8; State::MOST_IDS],
     out: &mut [u8],
     count: usize,
 ) -> usize
@@ -73,7 +72,7 @@ pub fn keep(
     at: usize,
     count: usize,
     round: u8,
-    table: &[u8; PLACES],
+    table: &[u8; State::MOST_IDS],
     out: &mut [u8],
 ) -> usize
     requires { ⌜ ContextIn c × (at + idSize * count ≤ length (now e)) × (idSize * count ≤ length (now out)) ⌝ }
@@ -93,7 +92,7 @@ fn common(c: Context, v: Slots, state: &[u8], start: usize, out: &mut [u8]) -> u
     requires { ⌜ ContextIn c × Room v (now state) × First v start × (start < v .servers) × ListsFit (contextOf c) v (now state) (now out) ⌝ }
     ensures { λ r. ⌜ Listed r (now (out .exit)) (keptIds (contextOf c) v (now (state .entry)) start) ⌝ }
 {
-    let mut table: [u8; PLACES] = [0; PLACES];
+    let mut table: [u8; State::MOST_IDS] = [0; State::MOST_IDS];
     let round = raise_lists(c, v, state, start + 1, &mut table);
     let x = head(v, state, start);
     let at = place(v, state, start);

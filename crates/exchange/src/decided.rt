@@ -2,6 +2,7 @@
 ghost use mathlib.Core.Path.{_≡_};
 ghost use Prim.Native.Nat.{_*_, _≤_, _<_};
 ghost use lib.ListN.{length};
+ghost use Rattle.format.specs.Limits.{mostIds};
 ghost use Rattle.format.specs.Places.{idSize};
 ghost use Rattle.replication.specs.Machine.Types.{Server};
 ghost use Rattle.replication.specs.Machine.Plan.{greenIn, cutIn};
@@ -10,7 +11,7 @@ ghost use Rattle.replication.specs.Machine.Step.{hereSet, collected, allStatesI
 ghost use Rattle.engine.specs.Holding.{Holds, HoldsSuch, HoldsSome, Computes};
 ghost use Rattle.exchange.specs.Slots.{Room, slotsIn, statesOf};
 ghost use Rattle.exchange.specs.Numbers.{numberIn, Within};
-ghost use Rattle.exchange.specs.Table.{places, Listed};
+ghost use Rattle.exchange.specs.Table.{Listed};
 ghost use Rattle.exchange.specs.Decided.{votesNumbers, partOf};
 use crate::common::taken_ids;
 use crate::marks::own_mark;
@@ -147,7 +148,7 @@ pub fn taken_votes(state: &[u8]) -> TakenVotes
 
 // The yellow ids: how many; their bytes are in `out`.
 pub fn taken_yellow(state: &[u8], out: &mut [u8]) -> usize
-    requires { ⌜ HoldsSome (now state) × (idSize * places ≤ length (now out)) ⌝ }
+    requires { ⌜ HoldsSome (now state) × (idSize * mostIds ≤ length (now out)) ⌝ }
     ensures { λ r. ⌜ ((s : Server) → Holds s (now (state .entry)) → Listed r (now (out .exit)) (takenYellow (collected s) .ids)) ⌝ }
 {
     let v = held_slots(state);

@@ -15,17 +15,16 @@ use crate::slots::place;
 use record::Context;
 use record::State;
 use record::StateHead;
-use record::lists::PLACES;
 use record::lists::place_at;
 use record::sets::has;
 
 // An id of the list after `round` others.
-fn raise_at(c: Context, e: &[u8], at: usize, round: u8, table: &mut [u8; PLACES])
+fn raise_at(c: Context, e: &[u8], at: usize, round: u8, table: &mut [u8; State::MOST_IDS])
     requires { ⌜ ContextIn c × (at + idSize ≤ length (now e)) × (round < mostServers) ⌝ }
     ensures { λ _. ⌜ now (table .exit) ≡ raised (contextOf c) round (now (table .entry)) (idAt (now (e .entry)) at) ⌝ }
 {
     let p = place_at(c, e, at);
-    if PLACES <= p {
+    if State::MOST_IDS <= p {
         return;
     }
     if table[p] != round {
@@ -35,7 +34,14 @@ fn raise_at(c: Context, e: &[u8], at: usize, round: u8, table: &mut [u8; PLACES]
 }
 
 // The `count` ids from `at` on.
-fn raise_list(c: Context, e: &[u8], at: usize, count: usize, round: u8, table: &mut [u8; PLACES])
+fn raise_list(
+    c: Context,
+    e: &[u8],
+    at: usize,
+    count: usize,
+    round: u8,
+    table: &mut [u8; State::MOST_IDS],
+)
     requires { ⌜ ContextIn c × (at + idSize * count ≤ length (now e)) × (round < mostServers) ⌝ }
     ensures { λ _. ⌜ now (table .exit) ≡ raisedAll (contextOf c) round (now (table .entry)) (idsAt count (now (e .entry)) at) ⌝ }
 {
@@ -47,7 +53,14 @@ fn raise_list(c: Context, e: &[u8], at: usize, count: usize, round: u8, table: &
 }
 
 // The yellow list in the slot k.
-fn raise_slot(c: Context, v: Slots, state: &[u8], k: usize, round: u8, table: &mut [u8; PLACES])
+fn raise_slot(
+    c: Context,
+    v: Slots,
+    state: &[u8],
+    k: usize,
+    round: u8,
+    table: &mut [u8; State::MOST_IDS],
+)
     requires { ⌜ ContextIn c × Room v (now state) × (k < v .servers) × ListInside v (now state) k × (round < mostServers) ⌝ }
     ensures { λ _. ⌜ now (table .exit) ≡ raisedAll (contextOf c) round (now (table .entry)) (idsIn v (now (state .entry)) k) ⌝ }
 {
@@ -70,7 +83,7 @@ fn raise_turn(
     state: &[u8],
     k: usize,
     round: u8,
-    table: &mut [u8; PLACES],
+    table: &mut [u8; State::MOST_IDS],
 ) -> u8
     requires { ⌜ ContextIn c × Room v (now state) × (k < v .servers) × ListsInside v (now state) × (round < mostServers) ⌝ }
     ensures { λ r. ⌜ RaisedAt (contextOf c) v (now (state .entry)) k round r (now (table .entry)) (now (table .exit)) ⌝ }
@@ -83,7 +96,13 @@ fn raise_turn(
 }
 
 // The lists in the slots from `start` on, of the senders that are meant: how many there are.
-pub fn raise_lists(c: Context, v: Slots, state: &[u8], start: usize, table: &mut [u8; PLACES]) -> u8
+pub fn raise_lists(
+    c: Context,
+    v: Slots,
+    state: &[u8],
+    start: usize,
+    table: &mut [u8; State::MOST_IDS],
+) -> u8
     requires { ⌜ ContextIn c × Room v (now state) × (start ≤ v .servers) × ListsInside v (now state) ⌝ }
     ensures { λ r. ⌜ RaisedBy (contextOf c) (statesLeft v (now (state .entry)) start) r (now (table .entry)) (now (table .exit)) ⌝ }
 {

@@ -11,7 +11,7 @@ use Rattle.base.proofs.TestLaws.{and-holds, le-holds}
 use Rattle.base.specs.Bytes.{bytesOf, numberAt, numbersAt, partAt}
 use Rattle.base.proofs.BytesLaws.{bytes-length}
 use Rattle.base.proofs.Occurs.{Occurs, joined-parts, occurs-at, number-read}
-use Rattle.format.specs.Limits.{mostServers, mostQuota}
+use Rattle.format.specs.Limits.{mostQuota, mostIds}
 use Rattle.format.specs.Places.{atBody, idIndexAt, idSize, actionGreenAt, actionPayloadAt, primaryAttemptAt, primarySetAt, primarySize, markIndexAt, markAttemptAt, markSetAt, markBitsAt, markSize}
 use Rattle.format.specs.Places.{yellowCountAt, yellowHeadSize, configurationIdAt, stateCutsAt, stateGreenAt, stateAttemptAt, stateLastAt, stateMarkAt, stateYellowAt, stateCountAt}
 use Rattle.format.specs.Types.{Id, Action, Primary, Mark, Yellow, State, Context}
@@ -95,7 +95,7 @@ unfolding yellowBytes yellowAt bytesOf
 yellow-read c y e at s r o =
     let parts = joined-parts _ e at o in
     let few = ids-count c (y .ids) (r .ids) (r .differ) in
-    let product : c .servers * c .quota ≤ mostServers * mostQuota = mul-le-mul (s .sizes .most) (s .sizes .highest) in
+    let product : c .servers * c .quota ≤ mostIds = mul-le-mul (s .sizes .most) (s .sizes .highest) in
     let status : numberAt 1 e at ≡ y .status = number-read 1 at (parts .0) refl (omega arith) in
     let count : numberAt 2 e (at + yellowCountAt) ≡ length (y .ids) = number-read 2 (at + yellowCountAt) (parts .1 .0) (omega arith) (omega arith) in
     let ids = ids-read c (y .ids) e (at + yellowHeadSize) s (r .ids) (occurs-at (parts .1 .1 .0) (omega arith)) in

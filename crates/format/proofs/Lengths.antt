@@ -9,7 +9,7 @@ use native.Mathlib.Nat.{mul-le-mul}
 use lib.ListN.{length, length-append}
 use Rattle.base.proofs.TestLaws.{and-holds}
 use Rattle.base.specs.Bytes.{bytesOf, joined}
-use Rattle.format.specs.Limits.{mostServers, mostQuota}
+use Rattle.format.specs.Limits.{mostServers, mostIds}
 use Rattle.format.specs.Places.{atBody, idSize, actionHeadSize, primarySize, markSize, stateHeadSize}
 use Rattle.format.specs.Types.{Id, Action, Primary, Mark, State, Record, action, retransmission, state, cpc, regular, transitional, request, recovery, kindNumber, kindOf, Context}
 use Rattle.format.specs.Range.{fieldsOk, recordOk}
@@ -74,13 +74,13 @@ write-length r = framed-length (kindNumber (kindOf r)) (bodyOf r) ∙ body-lengt
 
 -- The longest one is a State.
 abbrev pub mostState : ℕ
-mostState = stateHeadSize + 2 * mostServers + idSize * (mostServers * mostQuota)
+mostState = stateHeadSize + 2 * mostServers + idSize * mostIds
 
-ids-short : (c : Context) (s : State) → ContextRange c → fieldsOk c (state s) ≡ true → length (s .yellow .ids) ≤ mostServers * mostQuota
+ids-short : (c : Context) (s : State) → ContextRange c → fieldsOk c (state s) ≡ true → length (s .yellow .ids) ≤ mostIds
 unfolding fieldsOk
 ids-short c s r ok =
     let y = state-range c s r ok .yellow in
-    let product : c .servers * c .quota ≤ mostServers * mostQuota = mul-le-mul (r .sizes .most) (r .sizes .highest) in
+    let product : c .servers * c .quota ≤ mostIds = mul-le-mul (r .sizes .most) (r .sizes .highest) in
     omega (arith, ids-count c (s .yellow .ids) (y .ids) (y .differ))
 
 length-short : (c : Context) (r : Record) → ContextRange c → fieldsOk c r ≡ true → lengthOf r ≤ mostState

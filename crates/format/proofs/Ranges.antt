@@ -10,7 +10,7 @@ use lib.ListN.{length}
 use Rattle.base.proofs.TestLaws.{and-holds, le-holds, lt-holds, eq-holds}
 use Rattle.base.specs.Bytes.{Bytes}
 use Rattle.base.proofs.BytesLaws.{are-bytes}
-use Rattle.format.specs.Limits.{fewestServers, mostServers, leastQuota, mostQuota, mostPayload, mostIndex}
+use Rattle.format.specs.Limits.{fewestServers, mostServers, leastQuota, mostQuota, mostPayload, mostIndex, mostIds}
 use Rattle.format.specs.Types.{Id, Action, Primary, Mark, Yellow, State, Context}
 use Rattle.format.specs.Range.{sizesOk, contextOk, idOk, lengthOk, payloadOk, actionOk, cutsOk, indexOk, setOk, statusOk, primaryOk, markOk, idsInRange, idsDiffer, idsOk, yellowOk, configurationOk, stateOk}
 
@@ -52,10 +52,10 @@ id-range c d ok =
     record { creator = lt-holds (d .creator) (c .servers) (a .0); least = le-holds 1 (d .index) (b .0); most = le-holds (d .index) (c .quota) (b .1) }
 
 -- Every position and green length lies within 2,048.
-pub length-range : (c : Context) (l : ℕ) → ContextRange c → lengthOk c l ≡ true → l ≤ mostServers * mostQuota
+pub length-range : (c : Context) (l : ℕ) → ContextRange c → lengthOk c l ≡ true → l ≤ mostIds
 unfolding lengthOk
 length-range c l r ok =
-    let product : c .servers * c .quota ≤ mostServers * mostQuota = mul-le-mul (r .sizes .most) (r .sizes .highest) in
+    let product : c .servers * c .quota ≤ mostIds = mul-le-mul (r .sizes .most) (r .sizes .highest) in
     let below : l ≤ c .servers * c .quota = le-holds l (c .servers * c .quota) ok in
     omega arith
 
@@ -88,7 +88,7 @@ payload-range p ok = let a = and-holds _ _ ok in record { most = le-holds (lengt
 
 pub record ActionRange (c : Context) (a : Action) : Type 0 where
   pub id : IdRange c (a .id)
-  pub greenLength : a .greenLength ≤ mostServers * mostQuota
+  pub greenLength : a .greenLength ≤ mostIds
   pub payload : PayloadRange (a .payload)
 
 pub action-range : (c : Context) (a : Action) → ContextRange c → actionOk c a ≡ true → ActionRange c a
@@ -149,7 +149,7 @@ pub record StateRange (c : Context) (s : State) : Type 0 where
   pub configuration : s .configuration < 2 ^ 32
   pub count : length (s .cuts) ≡ c .servers
   pub cuts : cutsOk (c .quota) (s .cuts) ≡ true
-  pub greenLength : s .greenLength ≤ mostServers * mostQuota
+  pub greenLength : s .greenLength ≤ mostIds
   pub attempt : s .attempt ≤ mostIndex
   pub last : PrimaryRange (s .last)
   pub mark : MarkRange (s .mark)

@@ -14,7 +14,7 @@ use Rattle.base.proofs.CountLaws.{count-map}
 use Rattle.base.specs.Lists.{at}
 use Rattle.base.proofs.ListLaws.{each-at}
 use Rattle.base.proofs.TestLaws.{Known, holds, fails, known}
-use Rattle.format.specs.Limits.{mostServers, mostQuota}
+use Rattle.format.specs.Limits.{mostIds}
 use Rattle.format.specs.Types.{Id, Action}
 use Rattle.format.specs.Range.{sameId}
 use Rattle.format.specs.Read.{idAt, actionAt}
@@ -46,7 +46,7 @@ module _ (s : Server) (b : List ℕ) (r : Holds s b) where
   id-in : (k : ℕ) (a : Action) → at (queue (s .log)) k ≡ some a → IdRange (contextOf s) (a .id)
   id-in k a e = each-at (ActionRange (contextOf s)) (queue (s .log)) k a (in-range s (r .formed) .actions) e .id
 
-  pub id-low : (k : ℕ) (a : Action) → at (queue (s .log)) k ≡ some a → slot (a .id) < mostServers * mostQuota
+  pub id-low : (k : ℕ) (a : Action) → at (queue (s .log)) k ≡ some a → slot (a .id) < mostIds
   id-low k a e = slot-lt (contextOf s) (a .id) small (id-in k a e)
 
   pub queue-once : Once (queue (s .log))
@@ -107,7 +107,7 @@ green-inside b s = omega (arith, such-header _ b s)
 -- The table has the places of the actions from `first` on before k.
 pub record Filled (first k : ℕ) (t b : List ℕ) : Type 0 where
   pub counts : CountsIn b
-  pub size : length t ≡ mostServers * mostQuota
+  pub size : length t ≡ mostIds
   pub low : first ≤ k
   pub high : k ≤ queueCount b
   pub right : (j : ℕ) (a : Action) → first ≤ j → j < k → at (queue (logIn b)) j ≡ some a → getD t (slot (a .id)) 0 ≡ j
@@ -124,17 +124,17 @@ module _ (b : List ℕ) (s : HoldsSome b) where
   pub green-first : (g : ℕ) → g ≡ numberAt 4 b atGreenLength → g ≤ queueCount b
   green-first g e = omega (arith, such-counts _ b s .green)
 
-  pub filled-start : (first : ℕ) (t : List ℕ) → first ≤ queueCount b → t ≡ replicate {A = ℕ} (mostServers * mostQuota) 0 → Filled first first t b
+  pub filled-start : (first : ℕ) (t : List ℕ) → first ≤ queueCount b → t ≡ replicate {A = ℕ} mostIds 0 → Filled first first t b
   filled-start first t h f = record {
     counts = such-counts _ b s;
-    size = ap length f ∙ length-replicate {A = ℕ} (mostServers * mostQuota) 0;
+    size = ap length f ∙ length-replicate {A = ℕ} mostIds 0;
     low = omega arith;
     high = h;
     right = λ j a l m. absurd (omega arith);
   }
 
   pub filled-again : (first k p n : ℕ) (t : List ℕ) → Filled first k t b → n ≡ numberAt 4 b atQueueLength → k < n → p ≡ slot (idIn b k)
-      → p < mostServers * mostQuota → Filled first (k + 1) (set t p k) b
+      → p < mostIds → Filled first (k + 1) (set t p k) b
   unfolding logIn
   filled-again first k p n t f count h e l = record {
     counts = f .counts;

@@ -14,7 +14,7 @@ use Rattle.base.specs.Bytes.{numberAt}
 use Rattle.base.specs.Lists.{at}
 use Rattle.base.specs.Tests.{_≤?_}
 use Rattle.base.proofs.TestLaws.{not-both, le-holds, le-fails, Known, holds, fails, known}
-use Rattle.format.specs.Limits.{mostServers, mostQuota}
+use Rattle.format.specs.Limits.{mostIds}
 use Rattle.format.specs.Types.{Id, Action}
 use Rattle.format.specs.Range.{sameId}
 use Rattle.format.specs.Read.{idAt, actionAt}
@@ -144,7 +144,7 @@ turned-passed t b d k n g x i e f h = go (swap? d ((decoded b) .log))
 
 -- The swap leaves a table of the new queue: only the action that was the lowest red one has another place.
 module _ (s : Server) (b : List ℕ) (r : Holds s b) (d : Id) (k : Stands d (s .log .red) (position d (s .log .red))) (t : List ℕ)
-    (size : length t ≡ mostServers * mostQuota)
+    (size : length t ≡ mostIds)
     (right : (i : ℕ) (a : Action) → length (s .log .green) ≤ i → at (queue (s .log)) i ≡ some a → getD t (slot (a .id)) 0 ≡ i) where
   abbrev low : Action
   low = lowest (k .before) (k .it)

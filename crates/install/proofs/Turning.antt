@@ -8,7 +8,7 @@ use mathlib.Core.Option.{some}
 use native.Mathlib.Omega.{arith}
 use lib.ListN.{length, getD}
 use Rattle.base.specs.Lists.{at}
-use Rattle.format.specs.Limits.{mostServers, mostQuota}
+use Rattle.format.specs.Limits.{mostIds}
 use Rattle.format.specs.Types.{Id, Action}
 use Rattle.format.specs.Write.{cutsBytes}
 use Rattle.record.specs.Values.{slot}
@@ -88,7 +88,7 @@ turned-none b t r = record { written = sym (such-decoded _ b (r .holds) .written
 
 -- ---- a table by the state
 
-module _ (s : Server) (b t : List ℕ) (r : Holds s b) (size : length t ≡ mostServers * mostQuota)
+module _ (s : Server) (b t : List ℕ) (r : Holds s b) (size : length t ≡ mostIds)
     (right : (k : ℕ) (a : Action) → length (s .log .green) ≤ k → at (queue (s .log)) k ≡ some a → getD t (slot (a .id)) 0 ≡ k) where
   pub indexed-by : Indexed t b
   unfolding logIn

@@ -6,7 +6,7 @@ use mathlib.Core.List.{List, map}
 use mathlib.Core.Option.{some}
 use lib.ListN.{length, getD, drop}
 use Rattle.base.specs.Lists.{above, at}
-use Rattle.format.specs.Limits.{mostServers, mostQuota}
+use Rattle.format.specs.Limits.{mostServers, mostQuota, mostIds}
 use Rattle.format.specs.Types.{Id, Action}
 use Rattle.record.specs.Values.{idOf, slot}
 use Rattle.replication.specs.Machine.Types.{Log, withLog}
@@ -56,7 +56,7 @@ pub record IdInside (at : ℕ) (b : List ℕ) : Type 0 where
 pub record IndexedFrom (first : ℕ) (t b : List ℕ) : Type 0 where
   pub holds : HoldsSome b
   pub counts : CountsIn b
-  pub size : length t ≡ mostServers * mostQuota
+  pub size : length t ≡ mostIds
   pub low : first ≤ queueCount b
   pub right : (k : ℕ) (a : Action) → first ≤ k → at (queue (logIn b)) k ≡ some a → getD t (slot (a .id)) 0 ≡ k
 

@@ -5,7 +5,6 @@ ghost use Rattle.format.specs.Read.{idAt};
 ghost use Rattle.replication.specs.Machine.Install.{idsUpTo};
 ghost use Rattle.install.specs.Table.{logIn, yellowsIn, idsOf, Indexed, Turned, IdInside};
 ghost use Rattle.engine.specs.Decode.{serversIn};
-use crate::table::PLACES;
 use crate::table::turn_green;
 use engine::places::THE_YELLOW;
 use engine::places::place_of;
@@ -14,7 +13,7 @@ use record::bytes::num8;
 use record::bytes::num16;
 
 // The action with the id at `at` turns green if it is red.
-fn turn_at(state: &mut [u8], places: &mut [u16; PLACES], at: usize)
+fn turn_at(state: &mut [u8], places: &mut [u16; State::MOST_IDS], at: usize)
     requires { ⌜ Indexed (now places) (now state) × IdInside at (now state) ⌝ }
     ensures { λ _. ⌜ Turned (idAt (now (state .entry)) at ∷ []) (now (state .entry)) (now (places .exit)) (now (state .exit)) ⌝ }
 {
@@ -24,7 +23,7 @@ fn turn_at(state: &mut [u8], places: &mut [u16; PLACES], at: usize)
 }
 
 // "yellow list green in order, ids not held passed over"
-pub fn turn_yellow(state: &mut [u8], places: &mut [u16; PLACES])
+pub fn turn_yellow(state: &mut [u8], places: &mut [u16; State::MOST_IDS])
     requires { ⌜ Indexed (now places) (now state) ⌝ }
     ensures { λ _. ⌜ Turned (yellowsIn (now (state .entry))) (now (state .entry)) (now (places .exit)) (now (state .exit)) ⌝ }
 {
@@ -38,7 +37,7 @@ pub fn turn_yellow(state: &mut [u8], places: &mut [u16; PLACES])
 }
 
 // One creator's actions by their indexes.
-fn turn_creator(state: &mut [u8], places: &mut [u16; PLACES], creator: u8)
+fn turn_creator(state: &mut [u8], places: &mut [u16; State::MOST_IDS], creator: u8)
     requires { ⌜ Indexed (now places) (now state) × (creator < serversIn (now state)) ⌝ }
     ensures { λ _. ⌜ Turned (idsOf creator (now (state .entry))) (now (state .entry)) (now (places .exit)) (now (state .exit)) ⌝ }
 {
@@ -51,7 +50,7 @@ fn turn_creator(state: &mut [u8], places: &mut [u16; PLACES], creator: u8)
 }
 
 // "all other reds green by creator, then index"
-pub fn turn_rest(state: &mut [u8], places: &mut [u16; PLACES])
+pub fn turn_rest(state: &mut [u8], places: &mut [u16; State::MOST_IDS])
     requires { ⌜ Indexed (now places) (now state) ⌝ }
     ensures { λ _. ⌜ Turned (idsUpTo 0 (logIn (now (state .entry)) .cuts)) (now (state .entry)) (now (places .exit)) (now (state .exit)) ⌝ }
 {

@@ -3,7 +3,7 @@
 ghost use mathlib.Core.Path.{_≡_};
 ghost use mathlib.Core.List.{[], _∷_};
 ghost use Prim.Native.Nat.{_+_, _*_, _≤_, _<_};
-ghost use Rattle.format.specs.Limits.{mostServers, mostQuota};
+ghost use Rattle.format.specs.Limits.{mostIds};
 ghost use Rattle.record.specs.Values.{idOf, slot};
 ghost use Rattle.engine.specs.Holding.{HoldsSome};
 ghost use Rattle.install.specs.Table.{placeFrom, InTable, IndexedFrom, Indexed, Turned, idIn};
@@ -18,12 +18,10 @@ use record::bytes::num32;
 use record::bytes::wider;
 use record::parts::is_id;
 
-pub const PLACES: usize = State::MOST_SERVERS as usize * State::MOST_QUOTA as usize;
-
 // The place of an id in the table.
 pub fn entry(creator: u8, index: u16) -> usize
     requires { ⌜ InTable creator index ⌝ }
-    ensures { λ r. ⌜ (r ≡ slot (idOf creator index)) × (r < mostServers * mostQuota) ⌝ }
+    ensures { λ r. ⌜ (r ≡ slot (idOf creator index)) × (r < mostIds) ⌝ }
 {
     creator as usize * State::MOST_QUOTA as usize + (index as usize - 1)
 }
@@ -31,18 +29,18 @@ pub fn entry(creator: u8, index: u16) -> usize
 // The same for the action at the place k of the queue.
 pub fn entry_at(state: &[u8], k: usize) -> usize
     requires { ⌜ HoldsSome (now state) × CountsIn (now state) × (k < queueCount (now state)) ⌝ }
-    ensures { λ r. ⌜ (r ≡ slot (idIn (now (state .entry)) k)) × (r < mostServers * mostQuota) ⌝ }
+    ensures { λ r. ⌜ (r ≡ slot (idIn (now (state .entry)) k)) × (r < mostIds) ⌝ }
 {
     let at = place_of(state, THE_QUEUE) + State::SLOT * k;
     entry(num8(state, at), num16(state, at + 1))
 }
 
 // The table of the actions from the place `first` on.
-pub fn table(state: &[u8], first: usize) -> [u16; PLACES]
+pub fn table(state: &[u8], first: usize) -> [u16; State::MOST_IDS]
     requires { ⌜ HoldsSome (now state) × (first ≤ queueCount (now state)) ⌝ }
     ensures { λ r. ⌜ IndexedFrom first r (now (state .entry)) ⌝ }
 {
-    let mut places: [u16; PLACES] = [0; PLACES];
+    let mut places: [u16; State::MOST_IDS] = [0; State::MOST_IDS];
     let count = num32(state, State::AT_QUEUE_LENGTH) as usize;
     let mut k = first;
     while k < count {
@@ -56,7 +54,7 @@ pub fn table(state: &[u8], first: usize) -> [u16; PLACES]
 // The place in the queue, from `first` on, of the action with this id: the number of actions where there is none.
 pub fn place_in(
     state: &[u8],
-    places: &[u16; PLACES],
+    places: &[u16; State::MOST_IDS],
     first: usize,
     creator: u8,
     index: u16,
@@ -84,7 +82,7 @@ pub fn place_in(
 }
 
 // The action with this id turns green if it is red: the lowest red one takes its place.
-pub fn turn_green(state: &mut [u8], places: &mut [u16; PLACES], creator: u8, index: u16)
+pub fn turn_green(state: &mut [u8], places: &mut [u16; State::MOST_IDS], creator: u8, index: u16)
     requires { ⌜ Indexed (now places) (now state) × InTable creator index ⌝ }
     ensures { λ _. ⌜ Turned (idOf creator index ∷ []) (now (state .entry)) (now (places .exit)) (now (state .exit)) ⌝ }
 {

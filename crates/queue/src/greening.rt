@@ -8,7 +8,7 @@ ghost use Rattle.replication.specs.Laws.RuleFits.{Delivered};
 ghost use Rattle.engine.specs.Holding.{HoldsSuch, Becomes};
 ghost use Rattle.queue.specs.Queue.{position, redsIn, promoted, BecomesGreen, SlotIn};
 ghost use Rattle.engine.specs.Counts.{queueCount, greenCount, CountsIn};
-ghost use Rattle.format.specs.Limits.{mostServers, mostQuota};
+ghost use Rattle.format.specs.Limits.{mostIds};
 use crate::entering::red;
 use crate::finding::find;
 use crate::slots::last_to_front;
@@ -21,7 +21,7 @@ use record::parts::put32;
 
 // The slot k from `at` on goes to the front of those before it.
 fn promote(state: &mut [u8], at: usize, k: usize, green: u32)
-    requires { ⌜ SlotIn at k (now state) × (green ≤ mostServers * mostQuota) ⌝ }
+    requires { ⌜ SlotIn at k (now state) × (green ≤ mostIds) ⌝ }
     ensures { λ _. ⌜ now (state .exit) ≡ promoted at k (green + 1) (now (state .entry)) ⌝ }
 {
     let end = at + (State::SLOT * k + State::SLOT);

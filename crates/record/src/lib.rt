@@ -247,10 +247,13 @@ impl State {
     // The longest retransmission.
     pub const RETRANSMISSION: usize = Event::RESENT + State::SLOT;
 
-    // An id, and the most ids of a list.
+    // An id, and how many there can be.
     pub const ID: usize = ActionHead::INDEX + 2;
 
-    pub const IDS: usize = State::ID * (State::MOST_SERVERS as usize * State::MOST_QUOTA as usize);
+    pub const MOST_IDS: usize = State::MOST_SERVERS as usize * State::MOST_QUOTA as usize;
+
+    // The bytes of so many.
+    pub const IDS: usize = State::ID * State::MOST_IDS;
 
     // "At the start: Non_prim, no configuration, nothing held or marked, yellow invalid, attempt 0, last primary (index 0,
     // attempt 0, all servers)."

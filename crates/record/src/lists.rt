@@ -31,16 +31,13 @@ pub fn cuts_ok(e: &[u8], at: usize, n: usize, quota: u16) -> bool
     true
 }
 
-// A place for each id that can be in range.
-pub const PLACES: usize = State::MOST_SERVERS as usize * State::MOST_QUOTA as usize;
-
-// The place of an id in range, and PLACES for any other.
+// The place of an id in range, and State::MOST_IDS for any other.
 fn place(c: Context, creator: u8, index: u16) -> usize
     requires { ⌜ ContextIn c ⌝ }
     ensures { λ r. ⌜ r ≡ placeOf (contextOf c) (idOf creator index) ⌝ }
 {
     if !id_ok(c, creator, index) {
-        return PLACES;
+        return State::MOST_IDS;
     }
     creator as usize * State::MOST_QUOTA as usize + (index as usize - 1)
 }
@@ -58,12 +55,12 @@ pub fn ids_differ(c: Context, e: &[u8], at: usize, step: usize, count: usize) ->
     requires { ⌜ ContextIn c × IdsInside step count (now e) at ⌝ }
     ensures { λ r. ⌜ r ≡ idsOk (contextOf c) (idsBy step count (now (e .entry)) at) ⌝ }
 {
-    let mut met: [u8; PLACES] = [0; PLACES];
+    let mut met: [u8; State::MOST_IDS] = [0; State::MOST_IDS];
     let mut here = at;
     let mut left = count;
     while 0 < left {
         let p = place_at(c, e, here);
-        if PLACES <= p {
+        if State::MOST_IDS <= p {
             return false;
         }
         if met[p] == 1 {

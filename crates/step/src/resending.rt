@@ -20,7 +20,6 @@ use engine::places::THE_QUEUE;
 use engine::places::place_of;
 use exchange::decided::resends_green;
 use exchange::decided::resends_red;
-use install::table::PLACES;
 use install::table::place_in;
 use install::table::table;
 use record::State;
@@ -85,7 +84,7 @@ fn send_index(
     state: &[u8],
     out: &mut [u8],
     at: usize,
-    places: &[u16; PLACES],
+    places: &[u16; State::MOST_IDS],
     me: u8,
     creator: u8,
     index: u16,
@@ -105,7 +104,7 @@ fn send_creator(
     state: &[u8],
     out: &mut [u8],
     at: usize,
-    places: &[u16; PLACES],
+    places: &[u16; State::MOST_IDS],
     me: u8,
     creator: u8,
     low: u32,
@@ -140,7 +139,7 @@ fn send_red(
     state: &[u8],
     out: &mut [u8],
     at: usize,
-    places: &[u16; PLACES],
+    places: &[u16; State::MOST_IDS],
     me: u8,
     creator: u8,
 ) -> usize
@@ -155,7 +154,13 @@ fn send_red(
 }
 
 // The same for every creator.
-fn send_reds(state: &[u8], out: &mut [u8], at: usize, places: &[u16; PLACES], me: u8) -> usize
+fn send_reds(
+    state: &[u8],
+    out: &mut [u8],
+    at: usize,
+    places: &[u16; State::MOST_IDS],
+    me: u8,
+) -> usize
     requires { ⌜ Resends (now places) me (now state) × Room at (mostActions (now state)) (now out) ⌝ }
     ensures { λ r. ⌜ SendsTo (mostActions (now (state .entry))) (allReds (now (state .entry))) at out r ⌝ }
 {

@@ -9,7 +9,7 @@ use native.Mathlib.Nat.{mul-le-mul}
 use native.Mathlib.Omega.{arith}
 use lib.ListN.{length}
 use Rattle.base.proofs.Prefixes.{begins-refl, begins-append}
-use Rattle.format.specs.Limits.{mostIndex, mostServers, mostQuota}
+use Rattle.format.specs.Limits.{mostIndex, mostIds}
 use Rattle.format.specs.Write.{idsBytes}
 use Rattle.record.specs.declared.State.{State}
 use Rattle.replication.specs.Machine.Types.{Votes, Configuration, Server, withVotes, withNoted, contextOf}
@@ -67,13 +67,13 @@ membership-dropped h t b b₁ e f g s r =
 
 -- ---- the numbers' ranges
 
-pub come-low : (b : List ℕ) (h : State) → HoldsSome b → h ≡ headerIn b → h .come ≤ 2 * (mostServers * mostQuota)
+pub come-low : (b : List ℕ) (h : State) → HoldsSome b → h ≡ headerIn b → h .come ≤ 2 * mostIds
 unfolding headerOf contextOf
 come-low b h w e =
     let s : Server = w .state in
     let g = in-range s (w .holds .formed) in
     let f : h .come ≡ s .membership .come = ap (λ (x : State). x .come) (e ∙ header-loaded s b (w .holds)) in
-    let all : s .servers * s .quota ≤ mostServers * mostQuota = mul-le-mul (g .context .sizes .most) (g .context .sizes .highest) in
+    let all : s .servers * s .quota ≤ mostIds = mul-le-mul (g .context .sizes .most) (g .context .sizes .highest) in
     omega (arith, g .come)
 
 pub attempt-low : (b : List ℕ) (h : State) → HoldsSome b → h ≡ headerIn b → h .attempt .0 ≤ mostIndex

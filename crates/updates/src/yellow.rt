@@ -3,7 +3,7 @@ ghost use mathlib.Core.Path.{_≡_};
 ghost use mathlib.Core.Bool.{true};
 ghost use Prim.Native.Nat.{_+_, _*_, _≤_};
 ghost use lib.ListN.{length};
-ghost use Rattle.format.specs.Limits.{mostServers, mostQuota};
+ghost use Rattle.format.specs.Limits.{mostIds};
 ghost use Rattle.format.specs.Places.{idSize};
 ghost use Rattle.format.specs.Range.{hasId};
 ghost use Rattle.format.specs.Read.{idsAt};
@@ -36,7 +36,7 @@ fn has_id(e: &[u8], at: usize, count: usize, creator: u8, index: u16) -> bool
 
 // An id at `at`, and the count.
 fn add_id(state: &mut [u8], at: usize, count: u16, creator: u8, index: u16)
-    requires { ⌜ (headerSize ≤ length (now state)) × (at + idSize ≤ length (now state)) × (count ≤ mostServers * mostQuota) ⌝ }
+    requires { ⌜ (headerSize ≤ length (now state)) × (at + idSize ≤ length (now state)) × (count ≤ mostIds) ⌝ }
     ensures { λ _. ⌜ now (state .exit) ≡ idAdded at (count + 1) (idOf creator index) (now (state .entry)) ⌝ }
 {
     put_id(state, at, creator, index);
