@@ -12,15 +12,15 @@ use Rattle.base.specs.Tests.{_and_, _≤?_, _<?_, _=?_, pick}
 use Rattle.base.proofs.TestLaws.{pick-as, pick-yes, pick-no, pick-lt, pick-ge, and-holds, both-yes, eq-holds, eq-yes, le-holds, le-yes, lt-holds, lt-fails, not-both, Known, holds, fails, known}
 use Rattle.base.specs.Bytes.{numberAt}
 use Rattle.format.specs.Limits.{version}
-use Rattle.format.specs.Places.{lengthSize, atVersion, atKind, atBody}
+use Rattle.format.specs.Places.{lengthSize, atVersion, atKind, atBody, setupSize}
 use Rattle.format.specs.Types.{Reading, says, refused}
 use Rattle.format.specs.Range.{sizesOk}
 use Rattle.format.specs.Setup as format
-use Rattle.format.specs.Setup.{setupIn, setupFrameOk, setupOk, readSetup}
+use Rattle.format.specs.Setup.{setupIn, setupFrameOk, setupOk, readSetup, setupKind}
 use Rattle.replay.specs.declared.input.Setup.{Setup}
 use Rattle.replay.specs.declared.input.Next.{Next}
 use Rattle.replay.specs.declared.input.Next.the-variants.{Event, Wrong, More, Done}
-use Rattle.replay.specs.Input.{setupSize, setupKind, setupNumbers, setupOf, cutShort, eventSize, nextOf}
+use Rattle.replay.specs.Input.{setupNumbers, setupOf, cutShort, eventSize, nextOf}
 
 -- ---- the set-up record
 

@@ -7,6 +7,7 @@ use mathlib.Core.List.{List, [], _∷_, _++_, append-nil, map}
 use native.Mathlib.Omega.{arith}
 use lib.ListN.{length, getD, take, drop, length-append}
 use lib.Seq.{take-append-le, drop-append-le}
+use Rattle.format.specs.Places.{setupSize}
 use Rattle.servers.specs.Core.{tableServers, tableQuota}
 use Rattle.base.specs.Tests.{_<?_, _≤?_}
 use Rattle.base.proofs.TestLaws.{lt-yes, lt-no, le-yes, le-no, le-holds, and-holds, pick-as}
@@ -25,7 +26,7 @@ use Rattle.servers.proofs.Tabled.{Tabled, fresh-tabled}
 use Rattle.replay.specs.declared.input.Next.{Next}
 use Rattle.replay.specs.declared.input.Next.the-variants.{Event, Wrong, More, Done}
 use Rattle.replay.specs.declared.turns.Going.the-variants.{On, Read, Stop}
-use Rattle.replay.specs.Input.{setupSize, setupNumbers, setupOf, nextOf}
+use Rattle.replay.specs.Input.{setupNumbers, setupOf, nextOf}
 use Rattle.replay.specs.Turns.{lineAt, Turned, turnBy, turnOf}
 use Rattle.replay.proofs.Goings.{on-stop, read-stop}
 use Rattle.replay.proofs.InputLaws.{Whole, whole-event, Comes, wrong, cut, done, comes}

@@ -7,6 +7,7 @@ use mathlib.Core.List.{List, [], _∷_, _++_, append-assoc, append-nil}
 use mathlib.Core.Option.{some}
 use native.Mathlib.Omega.{arith}
 use lib.ListN.{length, take, drop, length-drop, length-map}
+use Rattle.format.specs.Places.{setupSize}
 use Rattle.servers.specs.Core.{tableServers, tableQuota}
 use Rattle.base.specs.Tests.{_<?_, _=?_, pick}
 use Rattle.base.proofs.TestLaws.{pick-yes, pick-no, not-both, Known, holds, fails, known, lt-holds, lt-fails, eq-no, eq-holds, eq-fails}
@@ -19,7 +20,7 @@ use Rattle.servers.specs.declared.Server.{Server}
 use Rattle.servers.specs.Starting.{freshTable}
 use Rattle.replay.specs.declared.input.Setup.{Setup}
 use Rattle.replay.specs.declared.turns.Going.the-variants.{On, Read, Stop}
-use Rattle.replay.specs.Input.{setupSize, setupOf}
+use Rattle.replay.specs.Input.{setupOf}
 use Rattle.replay.specs.Lines.{lineRoom}
 use Rattle.replay.specs.Turns.{Turned, turnOf}
 use Rattle.replay.specs.Passes as passes

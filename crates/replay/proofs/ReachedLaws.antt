@@ -6,6 +6,7 @@ use mathlib.Core.Bool.{Bool, true, false}
 use mathlib.Core.List.{List, [], _∷_, _++_, append-assoc}
 use native.Mathlib.Omega.{arith}
 use lib.ListN.{take, drop}
+use Rattle.format.specs.Places.{setupSize}
 use Rattle.base.proofs.TestLaws.{not-both, pick-eq}
 use Rattle.base.specs.Tests.{pick}
 use Rattle.replication.specs.Replay.{header, setupLine}
@@ -13,7 +14,7 @@ use Rattle.servers.specs.declared.Server.{Server}
 use Rattle.servers.specs.Starting.{freshTable}
 use Rattle.replay.specs.declared.input.Setup.{Setup}
 use Rattle.replay.specs.declared.Standing.{Standing}
-use Rattle.replay.specs.Input.{setupSize, setupOf}
+use Rattle.replay.specs.Input.{setupOf}
 use Rattle.replay.specs.Passes.{partOf, asksMore, partsFrom, printedOf, PrintsReplay}
 use Rattle.replay.specs.Reading.{linesRoom, Refilled}
 use Rattle.replay.specs.Advancing.{there, passesAt, Reached, starts, goesOn, ends, ServesReplay}

@@ -5,13 +5,14 @@ use mathlib.Core.Path.{_≡_}
 use mathlib.Core.Bool.{true, false}
 use mathlib.Core.List.{List, [], _∷_, _++_}
 use lib.ListN.{length, take, drop}
+use Rattle.format.specs.Places.{setupSize}
 use Rattle.base.specs.Bytes.{joined}
 use Rattle.base.specs.Lists.{Each}
 use Rattle.replication.specs.Replay.{header, replay}
 use Rattle.servers.specs.Core.{tableServers, tableQuota}
 use Rattle.servers.specs.Starting.{freshTable}
 use Rattle.replay.specs.declared.Standing.{Standing}
-use Rattle.replay.specs.Input.{setupSize, setupOf}
+use Rattle.replay.specs.Input.{setupOf}
 use Rattle.replay.specs.Passes.{Progress, partOf, asksMore}
 use Rattle.replay.specs.Reading.{linesRoom, Refilled}
 

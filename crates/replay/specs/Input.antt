@@ -15,13 +15,6 @@ use Rattle.replay.specs.declared.input.Setup.{Setup}
 use Rattle.replay.specs.declared.input.Next.{Next}
 use Rattle.replay.specs.declared.input.Next.the-variants.{Event, Wrong, More, Done}
 
--- "a set-up record (kind 9: n 1 byte, q 2 bytes)"
-abbrev pub setupSize : ℕ
-setupSize = atBody + 1 + 2
-
-abbrev pub setupKind : ℕ
-setupKind = 9
-
 -- What the set-up reads as: its number, or 0.
 unfoldable pub setupNumbers : Reading format.Setup → Setup
 setupNumbers (says s) = record { number = 0; servers = s .servers; quota = s .quota }

@@ -5,6 +5,7 @@ use mathlib.Core.Path.{_≡_}
 use mathlib.Core.Bool.{Bool, true, false}
 use mathlib.Core.List.{List, [], _∷_, _++_}
 use lib.ListN.{length, take, drop}
+use Rattle.format.specs.Places.{setupSize}
 use Rattle.base.specs.Tests.{_<?_, _=?_, pick}
 use Rattle.base.specs.Bytes.{joined}
 use Rattle.base.specs.Lists.{Each}
@@ -17,7 +18,7 @@ use Rattle.replay.specs.declared.turns.Going.{Going}
 use Rattle.replay.specs.declared.turns.Going.the-variants.{On, Read, Stop}
 use Rattle.replay.specs.declared.passes.Passed.{Passed}
 use Rattle.replay.specs.declared.Printed.{Printed}
-use Rattle.replay.specs.Input.{setupSize, setupOf}
+use Rattle.replay.specs.Input.{setupOf}
 use Rattle.replay.specs.Lines.{lineRoom}
 use Rattle.replay.specs.Turns.{Turned, turnOf}
 
