@@ -24,8 +24,8 @@ guzbytor_lengths_answer guzbytor_lengths(uint32_t servers, uint32_t quota);
    range, and leaves the buffer as it was. */
 uint32_t guzbytor_start(uint8_t *state, size_t state_length, uint32_t servers, uint32_t quota, uint32_t me);
 
-/* Whether a step can begin: 7 where a buffer is too short, 8 where the state's buffer holds no well-formed state, and else 0. It changes
-   neither buffer, and guzbytor_step does it by itself. (libstate_check.a) */
+/* Whether a step can begin: 7 where a buffer is too short, 8 where the state's buffer holds no well-formed state, as one stored by an engine
+   of another layout (docs/LAYOUT.md), and else 0. It changes neither buffer, and guzbytor_step does it by itself. (libstate_check.a) */
 uint32_t guzbytor_state_check(const uint8_t *state, size_t state_length, const uint8_t *out, size_t out_length);
 
 /* The number returned, the store word (1: store the state before anything is sent), and how many bytes of records the outgoing buffer
