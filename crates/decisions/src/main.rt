@@ -10,6 +10,7 @@ mod print;
 use building::build;
 use building::number_of;
 use building::put;
+use building::senders;
 use exchange::decided::Part;
 use exchange::decided::all_cpcs_in;
 use exchange::decided::all_states_in;
@@ -30,6 +31,24 @@ const ROOM: usize = 185660;
 
 const OUT: usize = 2 * State::RETRANSMISSION * PLACES;
 
+fn votes(state: &[u8])
+    requires { ⌜ HoldsSome (now state) ⌝ }
+{
+    let v = taken_votes(state);
+    let last = v.last;
+    print::primary(last);
+    print::labelled(b" attempt", v.attempt.0 as u64);
+    print::labelled(b" yellow", v.yellow_status as u64);
+}
+
+fn yellow_ids(state: &[u8])
+    requires { ⌜ HoldsSome (now state) ⌝ }
+{
+    let mut ids: [u8; State::IDS] = [0; State::IDS];
+    let n = taken_yellow(state, &mut ids);
+    print::ids(&ids, n);
+}
+
 fn answers(state: &[u8])
     requires { ⌜ HoldsSome (now state) ⌝ }
 {
@@ -37,14 +56,8 @@ fn answers(state: &[u8])
     print::flag(b" cpcs", all_cpcs_in(state));
     print::labelled(b" planned", planned_now(state));
     print::flag(b" quorum", quorum_here(state));
-    let v = taken_votes(state);
-    let last = v.last;
-    print::primary(last);
-    print::labelled(b" attempt", v.attempt.0 as u64);
-    print::labelled(b" yellow", v.yellow_status as u64);
-    let mut ids: [u8; State::IDS] = [0; State::IDS];
-    let n = taken_yellow(state, &mut ids);
-    print::ids(&ids, n);
+    votes(state);
+    yellow_ids(state);
 }
 
 // Who resends of those that the server c made, or by position where there is no such server.
@@ -91,8 +104,11 @@ fn plan(state: &mut [u8], out: &[u8]) {
     }
 }
 
-// The mark of server k as it judges it.
-fn own_mark(state: &mut [u8], out: &[u8], k: u8) {
+// The mark of server k, if it is in the set, as it judges it.
+fn own_mark(state: &mut [u8], out: &[u8], set: u8, k: u8) {
+    if !has(set, k as usize) {
+        return;
+    }
     put(state, State::AT_ME, k);
     if state_number(state, out) != 0 {
         return;
@@ -106,11 +122,21 @@ fn marks(state: &mut [u8], out: &[u8], set: u8) {
     let n = number_of(state);
     let mut k = 0;
     while k < n {
-        if has(set, k as usize) {
-            own_mark(state, out, k);
-        }
+        own_mark(state, out, set, k);
         k += 1;
     }
+}
+
+fn decide(state: &mut [u8], out: &[u8]) {
+    let number = state_number(state, out);
+    if number != 0 {
+        print::labelled(b"state check", number as u64);
+        return;
+    }
+    answers(state);
+    plan(state, out);
+    let set = senders(state);
+    marks(state, out, set);
 }
 
 fn vector(e: &[u8]) {
@@ -119,16 +145,7 @@ fn vector(e: &[u8]) {
     if !build(&mut state, e) {
         return;
     }
-    let number = state_number(&state, &out);
-    if number != 0 {
-        print::labelled(b"state check", number as u64);
-        io::write_all(1, b" ");
-        return;
-    }
-    answers(&state);
-    plan(&mut state, &out);
-    let set = building::senders(&state);
-    marks(&mut state, &out, set);
+    decide(&mut state, &out);
     io::write_all(1, b" ");
 }
 

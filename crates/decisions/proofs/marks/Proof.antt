@@ -1,15 +1,16 @@
 use Prim.Native.Nat.{_-_, _≤_}
 use mathlib.Core.Path.{_≡_}
 use lib.ListN.{length}
+use Rattle.format.specs.Limits.{mostServers}
 use borrow.Author.Needs.{needs}
 use Rattle.decisions.proofs.marks.Statement.{statement}
 use Rattle.decisions.proofs.marks.Tie as tie
 
 abbrev Inv-loop : tie.InvT-loop
-Inv-loop state₀ set n k₀ state k = (k ≤ n) × (n ≤ 8) × (length state ≡ length state₀)
+Inv-loop state₀ out set n k₀ state k = (k ≤ n) × (n ≤ mostServers) × (length state ≡ length state₀)
 
 abbrev μ-loop : tie.MeasureT-loop
-μ-loop state₀ set n k₀ state k = n - k
+μ-loop state₀ out set n k₀ state k = n - k
 
 slice-aggregate-write-all : tie.Need-slice-aggregate-write-all Inv-loop μ-loop
 slice-aggregate-write-all c = search needs
@@ -23,20 +24,8 @@ number-of-requires c κs = search needs
 loop-holds : tie.Need-loop-holds Inv-loop μ-loop
 loop-holds c = search needs
 
-cast-put : tie.Need-cast-put Inv-loop μ-loop
-cast-put c = search needs
-
-put-requires : tie.Need-put-requires Inv-loop μ-loop
-put-requires c κs = search needs
-
-has-requires : tie.Need-has-requires Inv-loop μ-loop
-has-requires c κs = search needs
-
-taken-votes-requires : tie.Need-taken-votes-requires Inv-loop μ-loop
-taken-votes-requires c κs = search needs
-
-mark-requires : tie.Need-mark-requires Inv-loop μ-loop
-mark-requires c κs = search needs
+own-mark-requires : tie.Need-own-mark-requires Inv-loop μ-loop
+own-mark-requires c κs = search needs
 
 add-k : tie.Need-add-k Inv-loop μ-loop
 add-k c = search needs
@@ -63,11 +52,7 @@ marks-spec =
     write-all-requires
     number-of-requires
     loop-holds
-    cast-put
-    put-requires
-    has-requires
-    taken-votes-requires
-    mark-requires
+    own-mark-requires
     add-k
     loop-less
     loop-again

@@ -1,15 +1,16 @@
 use Prim.Native.Nat.{_-_, _≤_}
 use mathlib.Core.Path.{_≡_}
 use lib.ListN.{length}
+use Rattle.format.specs.Limits.{mostServers}
 use borrow.Author.Needs.{needs}
 use Rattle.decisions.proofs.plan.Statement.{statement}
 use Rattle.decisions.proofs.plan.Tie as tie
 
 abbrev Inv-loop : tie.InvT-loop
-Inv-loop state₀ n c₀ state c = (c ≤ n) × (n ≤ 8) × (length state ≡ length state₀)
+Inv-loop state₀ out n c₀ state c = (c ≤ n) × (n ≤ mostServers) × (length state ≡ length state₀)
 
 abbrev μ-loop : tie.MeasureT-loop
-μ-loop state₀ n c₀ state c = n - c
+μ-loop state₀ out n c₀ state c = n - c
 
 slice-aggregate-write-all : tie.Need-slice-aggregate-write-all Inv-loop μ-loop
 slice-aggregate-write-all c = search needs
