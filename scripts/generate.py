@@ -34,14 +34,13 @@ def worked_file(told):
     return re.sub(r'hex "[0-9a-f]*"', 'hex "%s"' % told.input().hex(), text).encode()
 
 
-def vector_files(crate, groups, headed=True):
+def vector_files():
     given, expected = [], []
-    for name, module in groups:
-        heading = ['= ' + name] if headed else []
+    for name, module in (('records', record_vectors), ('states', state_vectors), ('decisions', decision_vectors)):
         group = module.vectors(source(name + '.vectors'))
-        given += heading + group[0]
-        expected += heading + group[1]
-    return {f'crates/{crate}/stdin': text_of(given), f'crates/{crate}/stdout': text_of(expected)}
+        given += ['= ' + name] + group[0]
+        expected += ['= ' + name] + group[1]
+    return {'crates/vectors/stdin': text_of(given), 'crates/vectors/stdout': text_of(expected)}
 
 
 def files():
@@ -53,8 +52,7 @@ def files():
     found['crates/examples/proofs/PartitionRun.antt'] = proof_files.run_file(partition, SOURCES + 'partition.story').encode()
     found['include/guzbytor_layout.h'] = c_header.header().encode()
     found['docs/LAYOUT.md'] = layout_page.page((TOP / 'docs/LAYOUT.md').read_text()).encode()
-    found.update(vector_files('vectors', (('records', record_vectors), ('states', state_vectors))))
-    found.update(vector_files('decisions', (('decisions', decision_vectors),), headed=False))
+    found.update(vector_files())
     return found
 
 

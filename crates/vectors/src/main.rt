@@ -1,6 +1,8 @@
-// Runs vectors: of records through the reader and the writers, of states through the state check. A line of the input is a vector in
-// hexadecimal, and from '#' on a label, which is written behind the answer. A line that begins with '=' is the heading of a group. What a
-// line that begins with 'w' says is written again too.
+// Runs vectors: of records through the reader and the writers, of states through the state check, of collected States through the
+// exchange's decisions. A line of the input is a vector in hexadecimal, and from '#' on a label, which is written behind the answer. A line
+// that begins with '=' is the heading of a group. What a line that begins with 'w' says is written again too.
+mod building;
+mod decisions;
 mod output;
 mod patch;
 mod reading;
@@ -14,6 +16,7 @@ enum Group {
     Nothing,
     Records,
     States,
+    Decisions,
 }
 
 // The group of a heading, by the first letter of its name.
@@ -24,6 +27,7 @@ fn group_of(s: &[u8]) -> Group {
     match s[2] {
         b'r' => Group::Records,
         b's' => Group::States,
+        b'd' => Group::Decisions,
         _ => Group::Nothing,
     }
 }
@@ -39,6 +43,7 @@ fn answer(group: Group, base: &mut [u8], e: &[u8]) {
     match group {
         Group::Records => records::read(e),
         Group::States => states::vector(base, e),
+        Group::Decisions => decisions::vector(e),
         Group::Nothing => {}
     }
 }

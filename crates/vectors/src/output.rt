@@ -6,6 +6,19 @@ pub fn number(v: u64) {
     io::print_decimal(1, v);
 }
 
+pub fn labelled(name: &[u8], v: u64) {
+    io::write_all(1, name);
+    number(v);
+}
+
+pub fn flag(name: &[u8], b: bool) {
+    if b {
+        labelled(name, 1);
+        return;
+    }
+    labelled(name, 0);
+}
+
 // The first `count` of them.
 pub fn numbers(v: [u64; 13], count: usize) {
     let mut k = 0;

@@ -14,6 +14,11 @@ pub fn patch(state: &mut [u8], at: usize, src: &[u8]) {
     copy(state, at, src);
 }
 
+pub fn put(state: &mut [u8], at: usize, b: u8) {
+    let one: [u8; 1] = [b];
+    patch(state, at, &one);
+}
+
 // Patches one after another: each is a place (2 bytes), a count (1) and so many bytes.
 pub fn patches(state: &mut [u8], e: &[u8]) {
     let mut i = 0;

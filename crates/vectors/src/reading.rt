@@ -4,6 +4,7 @@ ghost use lib.ListN.{length};
 ghost use Rattle.record.specs.Reading.{PlacedEvent, PlacedAction, PlacedRetransmission, PlacedState, PlacedPayload};
 use crate::output::bytes;
 use crate::output::hex;
+use crate::output::labelled;
 use crate::output::number;
 use crate::output::numbers;
 use record::ActionHead;
@@ -109,8 +110,7 @@ fn cuts(e: &[u8], at: usize, n: usize)
 fn ids(e: &[u8], at: usize, count: usize)
     requires { ⌜ at + 3 * count ≤ length (now e) ⌝ }
 {
-    io::write_all(1, b" ids");
-    number(count as u64);
+    labelled(b" ids", count as u64);
     let end = at + 3 * count;
     bytes(&e[at..end]);
 }
@@ -167,14 +167,12 @@ pub fn event(c: Context, v: Event, e: &[u8])
 }
 
 pub fn refused(k: u8) {
-    io::write_all(1, b"refused");
-    number(k as u64);
+    labelled(b"refused", k as u64);
 }
 
 // What a writer answered.
 pub fn next(place: usize) {
-    io::write_all(1, b" next");
-    number(place as u64);
+    labelled(b" next", place as u64);
     io::write_all(1, b" ");
 }
 
@@ -183,6 +181,5 @@ pub fn full() {
 }
 
 pub fn room(size: usize) {
-    io::write_all(1, b"  room");
-    number(size as u64);
+    labelled(b"  room", size as u64);
 }

@@ -1,26 +1,29 @@
-use lib.ListN.{length}
 use Prim.Native.Nat.{_-_, _≤_}
+use Rattle.format.specs.Limits.{mostServers}
 use borrow.Author.Needs.{needs}
-use Rattle.text.proofs.find.Statement.{statement}
-use Rattle.text.proofs.find.Tie as tie
+use Rattle.vectors.proofs.building.lowest.Statement.{statement}
+use Rattle.vectors.proofs.building.lowest.Tie as tie
 
 abbrev Inv-loop : tie.InvT-loop
-Inv-loop s at b i₀ i = (at ≤ i) × (i ≤ length s)
+Inv-loop set k₀ k = k ≤ mostServers
 
 abbrev μ-loop : tie.MeasureT-loop
-μ-loop s at b i₀ i = length s - i
+μ-loop set k₀ k = mostServers - k
 
 loop-holds : tie.Need-loop-holds Inv-loop μ-loop
 loop-holds c = search needs
 
-shared-slice-read-if1 : tie.Need-shared-slice-read-if1 Inv-loop μ-loop
-shared-slice-read-if1 c = search needs
+cast-has : tie.Need-cast-has Inv-loop μ-loop
+cast-has c = search needs
+
+has-requires : tie.Need-has-requires Inv-loop μ-loop
+has-requires c κs = search needs
 
 returns : tie.Need-returns Inv-loop μ-loop
 returns c = search needs
 
-add-i : tie.Need-add-i Inv-loop μ-loop
-add-i c = search needs
+add-k : tie.Need-add-k Inv-loop μ-loop
+add-k c = search needs
 
 loop-less : tie.Need-loop-less Inv-loop μ-loop
 loop-less c = search needs
@@ -31,16 +34,17 @@ loop-again c = search needs
 returns-2 : tie.Need-returns-2 Inv-loop μ-loop
 returns-2 c = search needs
 
-pub find-spec : {M : Type 1} → statement M
-find-spec =
+pub lowest-spec : {M : Type 1} → statement M
+lowest-spec =
     tie.close
     (tie.spec
     Inv-loop
     μ-loop
     loop-holds
-    shared-slice-read-if1
+    cast-has
+    has-requires
     returns
-    add-i
+    add-k
     loop-less
     loop-again
     returns-2)

@@ -1,15 +1,16 @@
 use Prim.Native.Nat.{_-_, _≤_}
 use mathlib.Core.Path.{_≡_}
 use lib.ListN.{length}
+use Rattle.format.specs.Limits.{mostServers}
 use borrow.Author.Needs.{needs}
-use Rattle.decisions.proofs.resender.Statement.{statement}
-use Rattle.decisions.proofs.resender.Tie as tie
+use Rattle.vectors.proofs.decisions.resender.Statement.{statement}
+use Rattle.vectors.proofs.decisions.resender.Tie as tie
 
 abbrev Inv-loop : tie.InvT-loop
-Inv-loop state₀ c n k₀ state k = (k ≤ n) × (n ≤ 8) × (length state ≡ length state₀)
+Inv-loop state₀ out c n k₀ state k = (k ≤ n) × (n ≤ mostServers) × (length state ≡ length state₀)
 
 abbrev μ-loop : tie.MeasureT-loop
-μ-loop state₀ c n k₀ state k = n - k
+μ-loop state₀ out c n k₀ state k = n - k
 
 number-of-requires : tie.Need-number-of-requires Inv-loop μ-loop
 number-of-requires c κs = search needs
@@ -17,17 +18,8 @@ number-of-requires c κs = search needs
 loop-holds : tie.Need-loop-holds Inv-loop μ-loop
 loop-holds c = search needs
 
-cast-put : tie.Need-cast-put Inv-loop μ-loop
-cast-put c = search needs
-
-put-requires : tie.Need-put-requires Inv-loop μ-loop
-put-requires c κs = search needs
-
-part-requires : tie.Need-part-requires Inv-loop μ-loop
-part-requires c κs = search needs
-
-part-requires-2 : tie.Need-part-requires-2 Inv-loop μ-loop
-part-requires-2 c κs = search needs
+own-part-requires : tie.Need-own-part-requires Inv-loop μ-loop
+own-part-requires c κs = search needs
 
 add-k : tie.Need-add-k Inv-loop μ-loop
 add-k c = search needs
@@ -52,10 +44,7 @@ resender-spec =
     μ-loop
     number-of-requires
     loop-holds
-    cast-put
-    put-requires
-    part-requires
-    part-requires-2
+    own-part-requires
     add-k
     loop-less
     loop-again

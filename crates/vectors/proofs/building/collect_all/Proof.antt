@@ -2,8 +2,8 @@ use Prim.Native.Nat.{_-_, _≤_}
 use mathlib.Core.Path.{_≡_}
 use lib.ListN.{length}
 use borrow.Author.Needs.{needs}
-use Rattle.decisions.proofs.building.collect_all.Statement.{statement}
-use Rattle.decisions.proofs.building.collect_all.Tie as tie
+use Rattle.vectors.proofs.building.collect_all.Statement.{statement}
+use Rattle.vectors.proofs.building.collect_all.Tie as tie
 
 abbrev Inv-loop : tie.InvT-loop
 Inv-loop state₀ e i₀ state i = (i ≤ length e) × (length state ≡ length state₀)

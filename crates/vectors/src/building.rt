@@ -1,14 +1,16 @@
 // A state's buffer with a configuration and collected States.
 ghost use Prim.Native.Nat.{_≤_};
 ghost use Rattle.format.specs.Limits.{mostServers};
+use crate::patch::patch;
+use crate::patch::put;
 use engine::guzbytor_start;
 use engine::header::load;
 use engine::header::save;
 use engine::places::state_size;
 use engine::places::states_at;
 use record::State;
-use record::blocks::copy;
 use record::bytes::num16;
+use record::events::Event;
 use record::range::product;
 use record::range::sizes_ok;
 use record::sets::has;
@@ -36,22 +38,6 @@ pub fn number_of(state: &[u8]) -> u8
 // Those whose State is in.
 pub fn senders(state: &[u8]) -> u8 {
     byte(state, State::AT_STATES)
-}
-
-// Changes the bytes from `at` on to those of src, if there is room.
-fn patch(state: &mut [u8], at: usize, src: &[u8]) {
-    if src.len() > state.len() {
-        return;
-    }
-    if at > state.len() - src.len() {
-        return;
-    }
-    copy(state, at, src);
-}
-
-pub fn put(state: &mut [u8], at: usize, b: u8) {
-    let one: [u8; 1] = [b];
-    patch(state, at, &one);
 }
 
 // In Exchange_states with this set, of the configuration 1.
@@ -83,12 +69,9 @@ fn slot_at(n: u32, q: u32, k: u8) -> usize {
     at as usize
 }
 
-// Where a State's sender is in its record: behind length, version and kind.
-const SENDER: usize = 4;
-
 // The State of this record in its sender's slot.
 fn collect(state: &mut [u8], e: &[u8]) {
-    let k = byte(e, SENDER);
+    let k = byte(e, Event::SENDER);
     if State::MOST_SERVERS <= k {
         return;
     }
@@ -103,10 +86,10 @@ fn collect(state: &mut [u8], e: &[u8]) {
 fn collect_all(state: &mut [u8], e: &[u8]) {
     let mut i = 0;
     while i < e.len() {
-        if e.len() - i < 2 {
+        if e.len() - i < Event::LENGTH_SIZE {
             return;
         }
-        let m = num16(e, i) as usize + 2;
+        let m = num16(e, i) as usize + Event::LENGTH_SIZE;
         if e.len() - i < m {
             return;
         }

@@ -1,7 +1,7 @@
 use Rattle.engine.proofs.SizeLaws.{sizes-answered}
 use borrow.Author.Needs.{needs}
-use Rattle.decisions.proofs.building.slot_at.Statement.{statement}
-use Rattle.decisions.proofs.building.slot_at.Tie as tie
+use Rattle.vectors.proofs.building.slot_at.Statement.{statement}
+use Rattle.vectors.proofs.building.slot_at.Tie as tie
 
 returns : tie.Need-returns
 returns c = search needs
