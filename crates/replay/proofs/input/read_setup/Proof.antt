@@ -48,11 +48,11 @@ num8-requires-3 c κs = search needs
 num16-requires-2 : tie.Need-num16-requires-2
 num16-requires-2 c κs = search needs
 
-cast-sizes-in : tie.Need-cast-sizes-in
-cast-sizes-in c = search needs
+cast-sizes-ok : tie.Need-cast-sizes-ok
+cast-sizes-ok c = search needs
 
-cast-sizes-in-2 : tie.Need-cast-sizes-in-2
-cast-sizes-in-2 c = search needs
+cast-sizes-ok-2 : tie.Need-cast-sizes-ok-2
+cast-sizes-ok-2 c = search needs
 
 sizes-ok-requires : tie.Need-sizes-ok-requires
 sizes-ok-requires c κs = search needs
@@ -95,8 +95,8 @@ read-setup-spec =
     returns-4
     num8-requires-3
     num16-requires-2
-    cast-sizes-in
-    cast-sizes-in-2
+    cast-sizes-ok
+    cast-sizes-ok-2
     sizes-ok-requires
     refused-requires-5
     returns-5
