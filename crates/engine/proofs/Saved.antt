@@ -94,7 +94,7 @@ pub first-length : (h : State) → length (firstBytes h) ≡ atLast
 unfolding firstBytes membershipBytes countsBytes joined bytesOf
 first-length h = refl
 
-pub standing-length : (h : State) → length (standingBytes h) ≡ 20
+pub standing-length : (h : State) → length (standingBytes h) ≡ atYellow - atLast
 unfolding standingBytes primaryBytes markBytes joined bytesOf
 standing-length h = refl
 

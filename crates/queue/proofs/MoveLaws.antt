@@ -100,12 +100,12 @@ to-front s x s₁ s₂ h e f g =
 -- ---- a slot written
 
 pub slot-put : (h : ActionHead) (p s s₁ s₂ : List ℕ) (at : ℕ) → length p ≤ mostPayload → at + slotSize ≤ length s → s₁ ≡ patched at (actionBytes (actionOf h p)) s
-    → s₂ ≡ patched (at + (actionHeadSize + length p)) (replicate {A = ℕ} (mostPayload - length p) 0) s₁ → s₂ ≡ patched at (slot slotSize (actionBytes (actionOf h p))) s
+    → s₂ ≡ patched (at + (actionHeadSize + length p)) (replicate {A = ℕ} (slotSize - (actionHeadSize + length p)) 0) s₁ → s₂ ≡ patched at (slot slotSize (actionBytes (actionOf h p))) s
 unfolding slot zeros actionOf
 slot-put h p s s₁ s₂ at l r e f =
     let y : List ℕ = actionBytes (actionOf h p) in
     let size : length y ≡ actionHeadSize + length p = action-length (actionOf h p) in
-    let left : mostPayload - length p ≡ slotSize - length y = omega arith in
+    let left : slotSize - (actionHeadSize + length p) ≡ slotSize - length y = omega arith in
     f ∙ ap₂ {A = ℕ} {B = ℕ} {C = List ℕ} (λ k m. patched (at + k) (zeros m) s₁) (sym size) left
     ∙ ap (patched (at + length y) (zeros (slotSize - length y))) e
     ∙ patched-next at y (zeros (slotSize - length y)) s (omega arith)

@@ -24,7 +24,7 @@ pub fn put_slot(state: &mut [u8], at: usize, head: ActionHead, payload: &[u8])
     clear(
         state,
         at + (ActionHead::SIZE + payload.len()),
-        State::MOST_PAYLOAD - payload.len(),
+        State::SLOT - (ActionHead::SIZE + payload.len()),
     );
 }
 

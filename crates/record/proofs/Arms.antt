@@ -7,6 +7,7 @@ use mathlib.Core.List.{List}
 use lib.Dec.{leb, ltb}
 use mir.Syntax.{w32}
 use mir.Val.{Fits}
+use Rattle.format.specs.Limits.{mostPayload}
 use Rattle.base.specs.Tests.{_<?_}
 use Rattle.base.proofs.TestLaws.{and-yes, and-lt}
 use Rattle.base.proofs.Branches.{told-lt, and-true, and-answered}
@@ -71,9 +72,9 @@ pub arm-transitional : (c : Context) (v : Event) (e : List ℕ) (s : ℕ) (r : B
 unfolding recordOf
 arm-transitional c v e s r f g = judged-as c v (Transitional s) e f r g
 
-pub arm-request : (c : Context) (v : Event) (e : List ℕ) (at m : ℕ) → Readable c v e → v ≡ Request at m → leb m 48 ≡ fieldsOk (contextOf c) (recordOf v e)
+pub arm-request : (c : Context) (v : Event) (e : List ℕ) (at m : ℕ) → Readable c v e → v ≡ Request at m → leb m mostPayload ≡ fieldsOk (contextOf c) (recordOf v e)
 unfolding fieldsOk recordOf Inside
-arm-request c v e at m h f = judged-as c v (Request at m) e f (leb m 48) (payload-law e at m (h .bytes) (inside-as c v (Request at m) e f h))
+arm-request c v e at m h f = judged-as c v (Request at m) e f (leb m mostPayload) (payload-law e at m (h .bytes) (inside-as c v (Request at m) e f h))
 
 pub arm-recovery : (c : Context) (v : Event) (e : List ℕ) → v ≡ Recovery → true ≡ fieldsOk (contextOf c) (recordOf v e)
 unfolding fieldsOk recordOf

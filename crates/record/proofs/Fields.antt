@@ -8,6 +8,7 @@ use lib.ListN.{length}
 use lib.Dec.{leb}
 use mir.Syntax.{w32}
 use mir.Val.{Fits}
+use Rattle.format.specs.Limits.{mostPayload}
 use Rattle.base.specs.Tests.{_≤?_, _<?_, _and_}
 use Rattle.base.proofs.TestLaws.{lt-yes, eq-yes}
 use Rattle.base.proofs.Branches.{told-le, and-true, and-false, and-answered, and-denied}
@@ -23,9 +24,9 @@ use Rattle.record.specs.declared.Context.{Context}
 use Rattle.record.specs.declared.events.StateAt.{StateAt}
 
 -- The length is the one test of a payload in bytes.
-pub payload-law : (e : List ℕ) (at m : ℕ) → Bytes e → at + m ≤ length e → leb m 48 ≡ payloadOk (partAt m e at)
+pub payload-law : (e : List ℕ) (at m : ℕ) → Bytes e → at + m ≤ length e → leb m mostPayload ≡ payloadOk (partAt m e at)
 unfolding payloadOk
-payload-law e at m b h = rw (part-length m e at h, part-are-bytes m e at b) (told-le m 48 ∙ and-true (m ≤? 48))
+payload-law e at m b h = rw (part-length m e at h, part-are-bytes m e at b) (told-le m mostPayload ∙ and-true (m ≤? mostPayload))
 
 -- Any number of four bytes is a configuration id.
 

@@ -6,6 +6,7 @@ use mathlib.Core.Bool.{true}
 use mathlib.Core.List.{List}
 use native.Mathlib.Omega.{arith}
 use lib.ListN.{length}
+use Rattle.format.specs.Limits.{mostPayload}
 use Rattle.base.proofs.TestLaws.{and-holds, lt-holds, le-holds}
 use Rattle.base.specs.Bytes.{Bytes, partAt}
 use Rattle.base.proofs.BytesLaws.{part-length}
@@ -34,7 +35,7 @@ length-in : (c : Context) (l : ℕ) → lengthOk (contextOf c) l ≡ true → l 
 unfolding lengthOk contextOf
 length-in c l h = le-holds l (c .servers * c .quota) h
 
-payload-short : (at m : ℕ) (e : List ℕ) → at + m ≤ length e → payloadOk (partAt m e at) ≡ true → m ≤ 48
+payload-short : (at m : ℕ) (e : List ℕ) → at + m ≤ length e → payloadOk (partAt m e at) ≡ true → m ≤ mostPayload
 payload-short at m e h k = let z = payload-range (partAt m e at) k .most in let y = part-length m e at h in omega arith
 
 action-placed : (c : Context) (a : ActionAt) (e : List ℕ) → PayloadInside a e → actionOk (contextOf c) (actionFrom a e) ≡ true → PlacedAction c a e

@@ -245,7 +245,7 @@ impl State {
     pub const HELD: usize = 1 + State::MOST_PAYLOAD;
 
     // The longest retransmission.
-    pub const RETRANSMISSION: usize = Event::RESENT + State::SLOT;
+    pub const RETRANSMISSION: usize = Event::RETRANSMISSION_SIZE + State::MOST_PAYLOAD;
 
     // An id, and how many there can be.
     pub const ID: usize = ActionHead::INDEX + 2;

@@ -8,6 +8,7 @@ use native.Mathlib.Nat.{add-zero}
 use native.Mathlib.Omega.{arith}
 use lib.ListN.{length, getD, take, drop}
 use lib.Seq.{drop-cons, getD-take, getD-drop}
+use Rattle.format.specs.Places.{actionPayloadAt, actionHeadSize}
 use Rattle.base.specs.Tests.{_and_}
 use Rattle.base.proofs.TestLaws.{and-holds, both-yes, le-yes, le-holds, eq-yes, eq-holds}
 use Rattle.base.specs.Bytes.{Bytes, numberAt, partAt}
@@ -24,7 +25,7 @@ use Rattle.format.proofs.Fields.{payload-read}
 use Rattle.format.proofs.Writing.{payload-written, action-written}
 use Rattle.engine.specs.Layout.{heldSize, slotSize}
 use Rattle.engine.specs.Image.{zeros, slot}
-use Rattle.state_check.specs.Slots.{zeroAt, payloadFits, payloadPlace}
+use Rattle.state_check.specs.Slots.{zeroAt, payloadFits, payloadRoom}
 
 -- ---- zeros
 
@@ -69,10 +70,10 @@ filled-zeros size k x b at e o =
 -- ---- payloads
 
 -- d bytes of a slot stand before the length of the payload, m.
-moved : (d m : ℕ) (b : List ℕ) (at : ℕ) → m ≤ mostPayload
-    → everyAt (zeroAt b) 1 (mostPayload - m) (at + d + (1 + m)) ≡ everyAt (zeroAt b) 1 (d + heldSize - (d + 1 + m)) (at + (d + 1 + m))
-moved d m b at l =
-    let p : mostPayload - m ≡ d + heldSize - (d + 1 + m) = omega arith in
+moved : (size d m : ℕ) (b : List ℕ) (at : ℕ)
+    → everyAt (zeroAt b) 1 (size - d - (1 + m)) (at + d + (1 + m)) ≡ everyAt (zeroAt b) 1 (size - (d + 1 + m)) (at + (d + 1 + m))
+moved size d m b at =
+    let p : size - d - (1 + m) ≡ size - (d + 1 + m) = omega arith in
     let q : at + d + (1 + m) ≡ at + (d + 1 + m) = omega arith in
     rw (p, q)
 
@@ -86,51 +87,51 @@ module _ (b : List ℕ) (k : Bytes b) where
   payload-bytes at = bytes-part (numberAt 1 b at) b (at + 1) k
 
   -- A slot's payload, of the length that it says.
-  pub payload-in-range : (at : ℕ) → at + heldSize ≤ length b → payloadFits b at ≡ true → PayloadRange (payloadAt b at)
+  pub payload-in-range : (room at : ℕ) → at + heldSize ≤ length b → payloadFits room b at ≡ true → PayloadRange (payloadAt b at)
   unfolding payloadFits
-  payload-in-range at h t =
+  payload-in-range room at h t =
       let l : numberAt 1 b at ≤ mostPayload = le-holds _ _ (and-holds _ _ t .0) in
       record { most = omega (arith, payload-long at l h); bytes = payload-bytes at }
 
-  pub held-occurs : (at : ℕ) → at + heldSize ≤ length b → payloadFits b at ≡ true → Occurs (slot heldSize (payloadBytes (payloadAt b at))) b at
+  pub held-occurs : (at : ℕ) → at + heldSize ≤ length b → payloadFits heldSize b at ≡ true → Occurs (slot heldSize (payloadBytes (payloadAt b at))) b at
   unfolding payloadFits
   held-occurs at h t =
       let m : ℕ = numberAt 1 b at in
       let u = and-holds _ _ t in
       let l : m ≤ mostPayload = le-holds _ _ (u .0) in
       let long : length (payloadBytes (payloadAt b at)) ≡ 0 + 1 + m = omega (arith, payload-length (payloadAt b at), payload-long at l h) in
-      let z : everyAt (zeroAt b) 1 (mostPayload - m) (at + 0 + (1 + m)) ≡ true = rw (add-zero at) (u .1) in
-      filled heldSize (0 + 1 + m) (payloadBytes (payloadAt b at)) b at long h (omega arith) (payload-written b at k (omega arith)) (sym (moved 0 m b at l) ∙ z)
+      let z : everyAt (zeroAt b) 1 (heldSize - 0 - (1 + m)) (at + 0 + (1 + m)) ≡ true = rw (add-zero at) (u .1) in
+      filled heldSize (0 + 1 + m) (payloadBytes (payloadAt b at)) b at long h (omega arith) (payload-written b at k (omega arith)) (sym (moved heldSize 0 m b at) ∙ z)
 
-  pub action-occurs : (at : ℕ) → at + slotSize ≤ length b → payloadFits b (at + payloadPlace) ≡ true → Occurs (slot slotSize (actionBytes (actionAt b at))) b at
+  pub action-occurs : (at : ℕ) → at + slotSize ≤ length b → payloadFits payloadRoom b (at + actionPayloadAt) ≡ true → Occurs (slot slotSize (actionBytes (actionAt b at))) b at
   unfolding payloadFits actionAt
   action-occurs at h t =
-      let m : ℕ = numberAt 1 b (at + payloadPlace) in
+      let m : ℕ = numberAt 1 b (at + actionPayloadAt) in
       let u = and-holds _ _ t in
       let l : m ≤ mostPayload = le-holds _ _ (u .0) in
-      let long : length (actionBytes (actionAt b at)) ≡ 7 + 1 + m = omega (arith, action-length (actionAt b at), payload-long (at + 7) l (omega arith)) in
-      filled slotSize (7 + 1 + m) (actionBytes (actionAt b at)) b at long h (omega arith) (action-written b at k (omega arith)) (sym (moved 7 m b at l) ∙ u .1)
+      let long : length (actionBytes (actionAt b at)) ≡ actionHeadSize + m = omega (arith, action-length (actionAt b at), payload-long (at + 7) l (omega arith)) in
+      filled slotSize (actionHeadSize + m) (actionBytes (actionAt b at)) b at long h (omega arith) (action-written b at k (omega arith)) (sym (moved slotSize actionPayloadAt m b at) ∙ u .1)
 
 -- ---- and back
 
-payload-fits : (b : List ℕ) (at : ℕ) (p : List ℕ) → PayloadRange p → numberAt 1 b at ≡ length p → everyAt (zeroAt b) 1 (mostPayload - length p) (at + (1 + length p)) ≡ true
-    → payloadFits b at ≡ true
+payload-fits : (room : ℕ) (b : List ℕ) (at : ℕ) (p : List ℕ) → PayloadRange p → numberAt 1 b at ≡ length p → everyAt (zeroAt b) 1 (room - (1 + length p)) (at + (1 + length p)) ≡ true
+    → payloadFits room b at ≡ true
 unfolding payloadFits
-payload-fits b at p r e z =
-    both-yes _ _ (le-yes _ _ (omega (arith, r .most))) (subst (λ (m : ℕ). everyAt (zeroAt b) 1 (mostPayload - m) (at + (1 + m)) ≡ true) (sym e) z)
+payload-fits room b at p r e z =
+    both-yes _ _ (le-yes _ _ (omega (arith, r .most))) (subst (λ (m : ℕ). everyAt (zeroAt b) 1 (room - (1 + m)) (at + (1 + m)) ≡ true) (sym e) z)
 
-pub occurring-held : (b : List ℕ) (at : ℕ) (p : List ℕ) → PayloadRange p → Occurs (slot heldSize (payloadBytes p)) b at → payloadFits b at ≡ true
+pub occurring-held : (b : List ℕ) (at : ℕ) (p : List ℕ) → PayloadRange p → Occurs (slot heldSize (payloadBytes p)) b at → payloadFits heldSize b at ≡ true
 unfolding slot
 occurring-held b at p r o =
     let m : ℕ = length p in
     let first = occurs-first (payloadBytes p) _ b at o in
     let z = filled-zeros heldSize (0 + 1 + m) (payloadBytes p) b at (omega (arith, payload-length p)) o in
-    let there : everyAt (zeroAt b) 1 (mostPayload - m) (at + 0 + (1 + m)) ≡ true = moved 0 m b at (r .most) ∙ z in
-    payload-fits b at p r (payload-read p b at r first .0) (rw (add-zero at) at there)
+    let there : everyAt (zeroAt b) 1 (heldSize - 0 - (1 + m)) (at + 0 + (1 + m)) ≡ true = moved heldSize 0 m b at ∙ z in
+    payload-fits heldSize b at p r (payload-read p b at r first .0) (rw (add-zero at) at there)
 
-pub occurring-action : (b : List ℕ) (at : ℕ) (a : Action) → PayloadRange (a .payload) → numberAt 1 b (at + payloadPlace) ≡ length (a .payload)
-    → Occurs (slot slotSize (actionBytes a)) b at → payloadFits b (at + payloadPlace) ≡ true
+pub occurring-action : (b : List ℕ) (at : ℕ) (a : Action) → PayloadRange (a .payload) → numberAt 1 b (at + actionPayloadAt) ≡ length (a .payload)
+    → Occurs (slot slotSize (actionBytes a)) b at → payloadFits payloadRoom b (at + actionPayloadAt) ≡ true
 occurring-action b at a r e o =
     let m : ℕ = length (a .payload) in
-    let z = filled-zeros slotSize (7 + 1 + m) (actionBytes a) b at (omega (arith, action-length a)) o in
-    payload-fits b (at + 7) (a .payload) r e (moved 7 m b at (r .most) ∙ z)
+    let z = filled-zeros slotSize (actionHeadSize + m) (actionBytes a) b at (omega (arith, action-length a)) o in
+    payload-fits payloadRoom b (at + actionPayloadAt) (a .payload) r e (moved slotSize actionPayloadAt m b at ∙ z)

@@ -7,6 +7,7 @@ use mathlib.Core.List.{List}
 use native.Mathlib.Omega.{arith}
 use lib.ListN.{getD}
 use borrow.Author.Tests.{not-true, not-false}
+use Rattle.format.specs.Limits.{mostPayload}
 use Rattle.base.specs.Tests.{_and_, _≤?_, _=?_}
 use Rattle.base.proofs.TestLaws.{and-yes, and-no, le-yes, le-no, eq-yes, eq-no}
 use Rattle.base.specs.Bytes.{numberAt}
@@ -15,8 +16,8 @@ use Rattle.base.proofs.Entries.{every-more}
 use Rattle.format.specs.Types.{Context}
 use Rattle.format.specs.Range.{lengthOk}
 use Rattle.engine.specs.Layout.{slotSize}
-use Rattle.state_check.specs.Slots.{zeroAt, payloadFits, payloadPlace, slotFits, withinCutAt, queueSlotFits, ownSlotFits, ownFits, notedAt}
-use Rattle.format.specs.Places.{idSize}
+use Rattle.state_check.specs.Slots.{zeroAt, payloadFits, payloadRoom, slotFits, withinCutAt, queueSlotFits, ownSlotFits, ownFits, notedAt}
+use Rattle.format.specs.Places.{idSize, actionPayloadAt, actionGreenAt}
 
 -- ---- zeros
 
@@ -30,24 +31,24 @@ zeros-denied b m at v h l e = and-no (zeroAt b at) _ (eq-no _ 0 e) ∙ sym (h �
 
 -- ---- payloads
 
-pub payload-denied : (b : List ℕ) (at m : ℕ) → m ≡ numberAt 1 b at → 48 < m → false ≡ payloadFits b at
+pub payload-denied : (b : List ℕ) (room at m : ℕ) → m ≡ numberAt 1 b at → mostPayload < m → false ≡ payloadFits room b at
 unfolding payloadFits
-payload-denied b at m e h = and-no (numberAt 1 b at ≤? 48) _ (le-no _ 48 (rw e at h))
+payload-denied b room at m e h = and-no (numberAt 1 b at ≤? mostPayload) _ (le-no _ mostPayload (rw e at h))
 
-pub payload-answered : (b : List ℕ) (at m : ℕ) (r : Bool) → m ≡ numberAt 1 b at → m ≤ 48 → r ≡ everyAt (zeroAt b) 1 (48 - m) (at + (1 + m)) → r ≡ payloadFits b at
+pub payload-answered : (b : List ℕ) (room at m : ℕ) (r : Bool) → m ≡ numberAt 1 b at → m ≤ mostPayload → r ≡ everyAt (zeroAt b) 1 (room - (1 + m)) (at + (1 + m)) → r ≡ payloadFits room b at
 unfolding payloadFits
-payload-answered b at m r e h k = and-yes r (numberAt 1 b at ≤? 48) _ (le-yes _ 48 (rw e at h)) (rw e at k)
+payload-answered b room at m r e h k = and-yes r (numberAt 1 b at ≤? mostPayload) _ (le-yes _ mostPayload (rw e at h)) (rw e at k)
 
 -- ---- actions
 
 module _ (c : Context) (b : List ℕ) (at : ℕ) where
-  pub slot-denied : (x : ℕ) (t : Bool) → x ≡ numberAt 4 b (at + idSize) → t ≡ lengthOk c x → not t ≡ true → false ≡ slotFits c b at
+  pub slot-denied : (x : ℕ) (t : Bool) → x ≡ numberAt 4 b (at + actionGreenAt) → t ≡ lengthOk c x → not t ≡ true → false ≡ slotFits c b at
   unfolding slotFits
-  slot-denied x t e f h = and-no (lengthOk c (numberAt 4 b (at + idSize))) _ (ap (lengthOk c) (sym e) ∙ sym f ∙ not-true t h)
+  slot-denied x t e f h = and-no (lengthOk c (numberAt 4 b (at + actionGreenAt))) _ (ap (lengthOk c) (sym e) ∙ sym f ∙ not-true t h)
 
-  pub slot-answered : (x : ℕ) (t r : Bool) → x ≡ numberAt 4 b (at + idSize) → t ≡ lengthOk c x → not t ≡ false → r ≡ payloadFits b (at + payloadPlace) → r ≡ slotFits c b at
+  pub slot-answered : (x : ℕ) (t r : Bool) → x ≡ numberAt 4 b (at + actionGreenAt) → t ≡ lengthOk c x → not t ≡ false → r ≡ payloadFits payloadRoom b (at + actionPayloadAt) → r ≡ slotFits c b at
   unfolding slotFits
-  slot-answered x t r e f h k = and-yes r (lengthOk c (numberAt 4 b (at + idSize))) _ (ap (lengthOk c) (sym e) ∙ sym f ∙ not-false t h) k
+  slot-answered x t r e f h k = and-yes r (lengthOk c (numberAt 4 b (at + actionGreenAt))) _ (ap (lengthOk c) (sym e) ∙ sym f ∙ not-false t h) k
 
   pub queue-denied : (cuts k i x : ℕ) → k ≡ numberAt 1 b at → i ≡ numberAt 2 b (at + 1) → x ≡ numberAt 2 b (cuts + 2 * k) → x < i
       → false ≡ queueSlotFits c b cuts at

@@ -10,6 +10,7 @@ use Rattle.base.proofs.TestLaws.{and-holds, both-yes}
 use Rattle.base.specs.Bytes.{Bytes, numberAt, joined}
 use Rattle.base.specs.Lists.{everyAt, all, Each}
 use Rattle.base.proofs.Occurs.{Occurs, occurs-nil, occurs-append, occurs-first, occurs-second}
+use Rattle.format.specs.Places.{actionPayloadAt}
 use Rattle.format.specs.Types.{Id, Context}
 use Rattle.format.specs.Range.{idOk, actionOk, idsInRange}
 use Rattle.format.specs.Read.{idAt, payloadAt, actionAt}
@@ -35,7 +36,7 @@ unfolding heldFit heldAt everyAt heldSlots joined
 held-in b k zero at h t = (tt, occurs-nil b at)
 held-in b k (suc m) at h t =
     let u = and-holds _ _ t in
-    let r = payload-in-range b k at (omega arith) (u .0) in
+    let r = payload-in-range b k _ at (omega arith) (u .0) in
     let more = held-in b k m (at + heldSize) (omega arith) (u .1) in
     let place : at + length (slot heldSize (payloadBytes (payloadAt b at))) ≡ at + heldSize = ap (λ (i : ℕ). at + i) (held-slot-length (payloadAt b at) r) in
     ((r, more .0), occurs-append _ _ b at (at + heldSize) place (held-occurs b k at (omega arith) (u .0)) (more .1))
@@ -65,7 +66,7 @@ module _ (c : Context) (b : List ℕ) where
   unfolding slotFits actionAt
   action-fits k at h i t =
       let u = and-holds _ _ t in
-      let r = payload-in-range b k (at + 7) (omega arith) (u .1) in
+      let r = payload-in-range b k _ (at + actionPayloadAt) (omega arith) (u .1) in
       record { id = id-facts c (idAt b at) i; greenLength = length-facts c (numberAt 4 b (at + 3)) (u .0); payload = record { most = r .most; bytes = r .bytes } }
 
   pub actions-in : Bytes b → (m at : ℕ) → at + slotSize * m ≤ length b → idsInRange c (idsBy slotSize m b at) ≡ true → everyAt (slotFits c b) slotSize m at ≡ true
@@ -76,7 +77,7 @@ module _ (c : Context) (b : List ℕ) where
       let u = and-holds _ _ t in
       let j = and-holds _ _ i in
       let p = and-holds _ _ (u .0) .1 in
-      let r = payload-in-range b k (at + 7) (omega arith) p in
+      let r = payload-in-range b k _ (at + actionPayloadAt) (omega arith) p in
       let more = actions-in k m (at + slotSize) (omega arith) (j .1) (u .1) in
       let place : at + length (slot slotSize (actionBytes (actionAt b at))) ≡ at + slotSize = ap (λ (n : ℕ). at + n) (action-slot-length (actionAt b at) r) in (
         (action-fits k at (omega arith) (j .0) (u .0), more .0),

@@ -8,7 +8,7 @@ use Rattle.base.specs.Tests.{_and_, _≤?_, _=?_}
 use Rattle.base.specs.Bytes.{numberAt}
 use Rattle.base.specs.Lists.{everyAt}
 use Rattle.format.specs.Limits.{mostQuota, mostPayload}
-use Rattle.format.specs.Places.{idSize}
+use Rattle.format.specs.Places.{idSize, actionGreenAt, actionPayloadAt}
 use Rattle.format.specs.Types.{Context}
 use Rattle.format.specs.Range.{lengthOk}
 use Rattle.engine.specs.Layout.{heldSize, slotSize}
@@ -17,21 +17,21 @@ use Rattle.engine.specs.Layout.{heldSize, slotSize}
 unfoldable pub zeroAt : List ℕ → ℕ → Bool
 zeroAt b at = getD b at 0 =? 0
 
--- A payload of at most 48 bytes, and zeros behind it: its length stands at `at`.
-unfoldable pub payloadFits : List ℕ → ℕ → Bool
-payloadFits b at =
-    numberAt 1 b at ≤? mostPayload and everyAt (zeroAt b) 1 (mostPayload - numberAt 1 b at) (at + (1 + numberAt 1 b at))
+-- A payload of at most 48 bytes, and zeros behind it: its length stands at `at`, and `room` bytes from there on are its.
+unfoldable pub payloadFits : ℕ → List ℕ → ℕ → Bool
+payloadFits room b at =
+    numberAt 1 b at ≤? mostPayload and everyAt (zeroAt b) 1 (room - (1 + numberAt 1 b at)) (at + (1 + numberAt 1 b at))
 
 unfoldable pub heldFit : (m : ℕ) → List ℕ → ℕ → Bool
-heldFit m b at = everyAt (payloadFits b) heldSize m at
+heldFit m b at = everyAt (payloadFits heldSize b) heldSize m at
 
--- Where an action's payload begins, with its length: behind id and green length.
-abbrev pub payloadPlace : ℕ
-payloadPlace = idSize + 4
+-- How much of an action's slot its payload has, with its length.
+abbrev pub payloadRoom : ℕ
+payloadRoom = slotSize - actionPayloadAt
 
 -- An action's green length and payload.
 unfoldable pub slotFits : Context → List ℕ → ℕ → Bool
-slotFits c b at = lengthOk c (numberAt 4 b (at + idSize)) and payloadFits b (at + payloadPlace)
+slotFits c b at = lengthOk c (numberAt 4 b (at + actionGreenAt)) and payloadFits payloadRoom b (at + actionPayloadAt)
 
 -- A creator is any byte: so far from the first cut on the code may read.
 abbrev pub cutsReach : ℕ

@@ -7,6 +7,7 @@ ghost use Rattle.record.specs.Context.{contextOf, ContextIn};
 ghost use Rattle.state_check.specs.Slots.{zeroAt, payloadFits, heldFit, slotFits, notedAt, notedFit};
 ghost use Rattle.state_check.specs.Slots.{cutsReach, queueSlotFits, queueFits, ownReach, ownSlotFits, ownFits};
 ghost use Rattle.engine.specs.Layout.{slotSize, heldSize};
+use record::ActionHead;
 use record::Context;
 use record::State;
 use record::bytes::num8;
@@ -14,8 +15,8 @@ use record::bytes::num16;
 use record::bytes::num32;
 use record::range::length_ok;
 
-// Where an action's payload begins, with its length: behind id and green length.
-const PAYLOAD: usize = State::ID + 4;
+// How much of an action's slot its payload has, with its length.
+const PAYLOAD_ROOM: usize = State::SLOT - ActionHead::PAYLOAD;
 
 // Whether the `count` bytes from `at` on are zeros.
 fn zeros(b: &[u8], at: usize, count: usize) -> bool
@@ -35,15 +36,15 @@ fn zeros(b: &[u8], at: usize, count: usize) -> bool
 }
 
 // A payload of at most 48 bytes, and zeros behind it.
-fn payload_fits(b: &[u8], at: usize) -> bool
-    requires { ⌜ at + heldSize ≤ length (now b) ⌝ }
-    ensures { λ r. ⌜ r ≡ payloadFits (now (b .entry)) at ⌝ }
+fn payload_fits(b: &[u8], at: usize, room: usize) -> bool
+    requires { ⌜ (heldSize ≤ room) × (at + room ≤ length (now b)) ⌝ }
+    ensures { λ r. ⌜ r ≡ payloadFits room (now (b .entry)) at ⌝ }
 {
     let m = num8(b, at) as usize;
     if State::MOST_PAYLOAD < m {
         return false;
     }
-    zeros(b, at + (1 + m), State::MOST_PAYLOAD - m)
+    zeros(b, at + (1 + m), room - (1 + m))
 }
 
 // The held requests.
@@ -54,7 +55,7 @@ pub fn held_fit(b: &[u8], at: usize, count: usize) -> bool
     let mut here = at;
     let mut left = count;
     while 0 < left {
-        if !payload_fits(b, here) {
+        if !payload_fits(b, here, State::HELD) {
             return false;
         }
         here += State::HELD;
@@ -68,10 +69,10 @@ fn slot_fits(c: Context, b: &[u8], at: usize) -> bool
     requires { ⌜ ContextIn c × (at + slotSize ≤ length (now b)) ⌝ }
     ensures { λ r. ⌜ r ≡ slotFits (contextOf c) (now (b .entry)) at ⌝ }
 {
-    if !length_ok(c, num32(b, at + State::ID)) {
+    if !length_ok(c, num32(b, at + ActionHead::GREEN_LENGTH)) {
         return false;
     }
-    payload_fits(b, at + PAYLOAD)
+    payload_fits(b, at + ActionHead::PAYLOAD, PAYLOAD_ROOM)
 }
 
 // An action of the queue: the cuts begin at `cuts`.

@@ -28,7 +28,7 @@ use Rattle.record.specs.Values.{componentOf, primaryOf, markOf, stateOf}
 use Rattle.record.specs.Written.{put, putOf, putState}
 use Rattle.replication.specs.Machine.Types.{Server, contextOf}
 use Rattle.replication.specs.Machine.Step.{entering, ownState, join}
-use Rattle.engine.specs.Layout.{theCuts, theYellow, sections, offset, stateLength, outLength, headerSize}
+use Rattle.engine.specs.Layout.{theCuts, theYellow, sections, offset, stateLength, outLength, headerSize, mostStateSize}
 use Rattle.engine.specs.Header.{lastOf, markNumbers, headerOf, headerIn}
 use Rattle.engine.specs.Image.{over, parts, image}
 use Rattle.engine.proofs.Fit.{well-formed-fits}
@@ -104,7 +104,7 @@ module _ (s : Server) (b : List ℕ) (r : Holds s b) where
         holds-products s b r .servers,
       )
 
-  own-most : (id set : ℕ) → length (write (state (ownState (configurationOf id set) s))) ≤ 6200
+  own-most : (id set : ℕ) → length (write (state (ownState (configurationOf id set) s))) ≤ mostStateSize
   unfolding ownState lengthOf contextOf
   own-most id set =
       let all : s .servers * s .quota ≤ 8 * 256 =

@@ -8,6 +8,7 @@ use native.Mathlib.Omega.{arith}
 use mir.Syntax.{w32}
 use mir.Val.{Fits}
 use lib.ListN.{length}
+use Rattle.format.specs.Places.{actionSize}
 use Rattle.base.specs.Tests.{_or_}
 use Rattle.base.proofs.TestLaws.{pick-yes, pick-no, lt-holds, not-both}
 use Rattle.format.specs.Limits.{mostHeld}
@@ -56,7 +57,7 @@ asked-sent p b o n t h f e =
 
 module _ (p b o o₁ : List ℕ) (g : ActionHead) (w : Written) (h : LentSuch (λ s. Sent p s) b o)
     (e : putOf w o₁ ≡ put (write (action (actionOf g p))) 0 o) where
-  size : length (write (action (actionOf g p))) ≡ 12 + length p
+  size : length (write (action (actionOf g p))) ≡ actionSize + length p
   unfolding lengthOf actionOf
   size = write-length (action (actionOf g p))
 

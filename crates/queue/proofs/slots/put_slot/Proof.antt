@@ -15,6 +15,9 @@ add-clear c = search needs
 add-clear-2 : tie.Need-add-clear-2
 add-clear-2 c = search needs
 
+add-clear-3 : tie.Need-add-clear-3
+add-clear-3 c = search needs
+
 sub-clear : tie.Need-sub-clear
 sub-clear c = search needs
 
@@ -30,4 +33,4 @@ returns c = search (needs, slot-put)
 pub put-slot-spec : {M : Type 1} → statement M
 put-slot-spec =
     tie.close
-    (tie.spec put-body-requires add-clear add-clear-2 sub-clear clear-requires same-length returns)
+    (tie.spec put-body-requires add-clear add-clear-2 add-clear-3 sub-clear clear-requires same-length returns)

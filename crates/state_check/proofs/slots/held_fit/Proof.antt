@@ -11,7 +11,7 @@ use Rattle.state_check.proofs.slots.held_fit.Tie as tie
 use Rattle.engine.specs.Layout.{heldSize}
 
 abbrev Inv-loop : tie.InvT-loop
-Inv-loop b at count here₀ left₀ here left = (here + heldSize * left ≤ length b) × (heldFit count b at ≡ everyAt (payloadFits b) 49 left here)
+Inv-loop b at count here₀ left₀ here left = (here + heldSize * left ≤ length b) × (heldFit count b at ≡ everyAt (payloadFits heldSize b) heldSize left here)
 
 abbrev μ-loop : tie.MeasureT-loop
 μ-loop b at count here₀ left₀ here left = left
