@@ -66,9 +66,10 @@ module _ (s : Server) (b : List ℕ) (h : Holds s b) where
   unfolding decoded decodedAs
   holds-quota = ap (λ (t : Server). t .quota) (holds-decoded s b h)
 
-  pub holds-step : (e o : List ℕ) → outLength (s .servers) (s .quota) ≤ length o → stepOn b e o ≡ resultOf (step s e) b o
+  -- Neither buffer is too short.
+  pub holds-long : (o : List ℕ) → outLength (s .servers) (s .quota) ≤ length o → tooShort b o ≡ false
   unfolding tooShort
-  holds-step e o room = step-read b e o s (long (serversIn b) (quotaIn b) holds-servers holds-quota) holds-read
+  holds-long o room = long (serversIn b) (quotaIn b) holds-servers holds-quota
     where
       long : (n q : ℕ) → n ≡ s .servers → q ≡ s .quota
           → pick (sizesOk n q) (length b <? stateLength n q or length o <? outLength n q)
@@ -80,6 +81,9 @@ module _ (s : Server) (b : List ℕ) (h : Holds s b) where
           sym
           (pick-yes (sizesOk n q) false _ _ sizes
           (or-no false _ _ (lt-no (length b) (stateLength n q) (omega (arith, h .long))) (sym (lt-no (length o) (outLength n q) (omega arith)))))
+
+  pub holds-step : (e o : List ℕ) → outLength (s .servers) (s .quota) ≤ length o → stepOn b e o ≡ resultOf (step s e) b o
+  holds-step e o room = step-read b e o s (holds-long o room) holds-read
 
 -- ---- the start
 

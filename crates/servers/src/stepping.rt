@@ -3,35 +3,13 @@ ghost use mathlib.Core.Path.{_≡_};
 ghost use Prim.Native.Nat.{_+_, _≤_};
 ghost use lib.ListN.{length, take};
 ghost use Rattle.format.specs.Places.{lengthSize};
-ghost use Rattle.buffers.specs.Buffers.{isRecovery, sourceIn};
+ghost use Rattle.buffers.specs.Buffers.{sourceIn};
 ghost use Rattle.servers.specs.Core.{buffersOf, entryAfter, Behind, recordsIn};
 use crate::STATE_ROOM;
 use crate::Server;
+use burst::slices::is_recovery;
 use record::bytes::num16;
 use record::events::Event;
-use record::events::VERSION;
-
-// What a record with no body has in its low length byte.
-const NO_BODY: u8 = (Event::BODY - Event::LENGTH_SIZE) as u8;
-
-// The event is the recovery's record.
-fn is_recovery(e: &[u8]) -> bool
-    ensures { λ r. ⌜ r ≡ isRecovery (now (e .entry)) ⌝ }
-{
-    if e.len() != Event::BODY {
-        return false;
-    }
-    if e[0] != 0 {
-        return false;
-    }
-    if e[1] != NO_BODY {
-        return false;
-    }
-    if e[Event::VERSION_AT] != VERSION {
-        return false;
-    }
-    e[Event::KIND_AT] == Event::RECOVERY
-}
 
 // The state that the event comes to.
 pub fn source(s: Server, e: &[u8]) -> [u8; STATE_ROOM]

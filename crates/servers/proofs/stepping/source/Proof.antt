@@ -4,7 +4,7 @@ use Rattle.servers.proofs.stepping.source.Statement.{statement}
 use Rattle.servers.proofs.stepping.source.Tie as tie
 use Rattle.servers.proofs.stepping.source.Reads as reads
 use Rattle.servers.proofs.stepping.source.Lts as lts
-use Rattle.servers.proofs.stepping.is_recovery.Reads as is-recovery-reads
+use Rattle.burst.proofs.slices.is_recovery.Reads as is-recovery-reads
 
 is-recovery-requires : tie.Need-is-recovery-requires
 is-recovery-requires c κs = search needs

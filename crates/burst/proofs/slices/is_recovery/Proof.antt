@@ -3,10 +3,10 @@ use Rattle.format.specs.Types.{kindNumber}
 use Rattle.buffers.specs.Buffers.{isRecovery}
 use Rattle.base.proofs.TestLaws.{tests}
 use borrow.Author.Needs.{needs}
-use Rattle.servers.proofs.stepping.is_recovery.Statement.{statement}
-use Rattle.servers.proofs.stepping.is_recovery.Tie as tie
-use Rattle.servers.proofs.stepping.is_recovery.Reads as reads
-use Rattle.servers.proofs.stepping.is_recovery.Lts as lts
+use Rattle.burst.proofs.slices.is_recovery.Statement.{statement}
+use Rattle.burst.proofs.slices.is_recovery.Tie as tie
+use Rattle.burst.proofs.slices.is_recovery.Reads as reads
+use Rattle.burst.proofs.slices.is_recovery.Lts as lts
 
 returns : tie.Need-returns
 unfolding isRecovery kindNumber

@@ -1,0 +1,5 @@
+pub mod NextLaws
+pub mod KeptLaws
+pub mod BurstLaws
+pub mod StepsLaws
+pub mod BurstCode
