@@ -44,10 +44,10 @@ impl BurstAnswer {
 fn is_silent(a: Answer) -> bool
     ensures { λ r. ⌜ r ≡ (a .store =? 0 and a .sent =? 0) ⌝ }
 {
-    if a.store != 0 {
-        return false;
+    if a.store == 0 {
+        return a.sent == 0;
     }
-    a.sent == 0
+    false
 }
 
 // Over buffers whose number is 0: they stay such, so that no step checks them anew.
@@ -87,10 +87,10 @@ pub extern "C" fn guzbytor_burst(state: &mut [u8], events: &[u8], out: &mut [u8]
     ensures { λ r. ⌜ left r (now (state .exit)) (now (out .exit)) ≡ burstOn (now (state .entry)) (now (events .entry)) (now (out .entry)) ⌝ }
 {
     let number = state_number(state, out);
-    if number != 0 {
-        return BurstAnswer::stopped(number, 0, 0);
+    if number == 0 {
+        return take_events(state, events, out);
     }
-    take_events(state, events, out)
+    BurstAnswer::stopped(number, 0, 0)
 }
 
 // A burst is its single steps one after another. It does nothing: its contract is the theorem.

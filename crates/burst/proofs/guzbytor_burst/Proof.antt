@@ -11,8 +11,8 @@ use Rattle.state_check.proofs.state_number.Reads as state-number-reads
 state-number-requires : tie.Need-state-number-requires
 state-number-requires c κs = search needs
 
-stopped-requires : tie.Need-stopped-requires
-stopped-requires c κs = search needs
+take-events-requires : tie.Need-take-events-requires
+take-events-requires c κs = search needs
 
 same-length : tie.Need-same-length
 same-length c = search needs
@@ -21,10 +21,10 @@ same-length-2 : tie.Need-same-length-2
 same-length-2 c = search needs
 
 returns : tie.Need-returns
-returns c = search (needs, burst-refused)
+returns c = search (needs, burst-ready)
 
-take-events-requires : tie.Need-take-events-requires
-take-events-requires c κs = search needs
+stopped-requires : tie.Need-stopped-requires
+stopped-requires c κs = search needs
 
 same-length-3 : tie.Need-same-length-3
 same-length-3 c = search needs
@@ -33,18 +33,18 @@ same-length-4 : tie.Need-same-length-4
 same-length-4 c = search needs
 
 returns-2 : tie.Need-returns-2
-returns-2 c = search (needs, burst-ready)
+returns-2 c = search (needs, burst-refused)
 
 pub guzbytor-burst-spec : {M : Type 1} → statement M
 guzbytor-burst-spec =
     tie.close
     (tie.spec
     state-number-requires
-    stopped-requires
+    take-events-requires
     same-length
     same-length-2
     returns
-    take-events-requires
+    stopped-requires
     same-length-3
     same-length-4
     returns-2)
