@@ -51,9 +51,9 @@ typedef struct {
 } guzbytor_burst_answer;
 
 /* Many events at one server, one behind another in one buffer, each as long as its length bytes say: what guzbytor_step does with each of them in
-   turn, but the state is checked once, and that check is most of what an action costs. Use it where several events wait, as actions do in Reg_prim; for
-   one event use the step. Events are taken until one stores or puts out records (the last one taken), until one is refused, or to the end. Store and
-   send as after a step; then go on behind the `bytes` taken:
+   turn, but the state is checked once, and that check is most of what an action costs. Use it where several events wait, as actions do in Reg_prim;
+   for one event use the step. Events are taken until one stores or puts out records (the last one taken), until one is refused, or to the end. Store
+   and send as after a step; then go on behind the `bytes` taken:
    - number 0, store or sent not 0: with a further burst.
    - number 0, both 0, and bytes left: an event that is cut short, which waits for its rest, or a recovery, which is given the image stored last and
      stands first in a burst or goes to the step.

@@ -1,22 +1,11 @@
 /* A depot's daemon over a recorded run: it lends the engine each server's state and one outgoing buffer, stores a state before its records are
    sent, and prints for each event what document 01's `replay` prints. The file: a set-up record, then server byte and event, repeated. */
-#include "guzbytor.h"
-#include "guzbytor_layout.h"
+#include "run.h"
 
-#include <stdio.h>
-#include <stdlib.h>
 #include <string.h>
-
-/* The set-up record: servers (1 byte) and quota (2) behind its frame. */
-enum { SETUP_SERVERS = FRAME_SIZE, SETUP_QUOTA = SETUP_SERVERS + 1, SETUP_LENGTH = SETUP_QUOTA + 2 };
 
 static const char *const MODES[] = {"Non_prim",         "Reg_prim",  "Trans_prim", "Exchange_states",
                                     "Exchange_actions", "Construct", "No",         "Un"};
-
-typedef struct {
-    uint8_t *bytes;
-    size_t length;
-} buffer;
 
 /* One server: its running state, and the image that a crash leaves. */
 typedef struct {
@@ -24,22 +13,8 @@ typedef struct {
     buffer stored;
 } server;
 
-static buffer lent(size_t length) {
-    buffer b = {malloc(length > 0 ? length : 1), length};
-    if (b.bytes == NULL) {
-        fprintf(stderr, "no memory\n");
-        exit(1);
-    }
-    return b;
-}
-
 static uint32_t number_at(const uint8_t *b) {
     return (uint32_t)b[0] << 24 | (uint32_t)b[1] << 16 | (uint32_t)b[2] << 8 | b[3];
-}
-
-/* The length of the record that b begins with: two length bytes and what they count. */
-static size_t record_length(const uint8_t *b) {
-    return 2 + ((size_t)b[0] << 8 | b[1]);
 }
 
 /* The stored image, which a daemon writes to its disk and waits for. */
@@ -102,37 +77,6 @@ static uint32_t run(server *table, uint8_t servers, buffer out, const uint8_t *b
         length -= 1 + count;
     }
     return 0;
-}
-
-static buffer read_file(const char *name) {
-    FILE *f = fopen(name, "rb");
-    long length = -1;
-    if (f != NULL && fseek(f, 0, SEEK_END) == 0) {
-        length = ftell(f);
-    }
-    if (length < 0 || fseek(f, 0, SEEK_SET) != 0) {
-        fprintf(stderr, "%s cannot be read\n", name);
-        exit(1);
-    }
-    buffer b = lent((size_t)length);
-    if (fread(b.bytes, 1, b.length, f) != b.length) {
-        fprintf(stderr, "%s cannot be read\n", name);
-        exit(1);
-    }
-    fclose(f);
-    return b;
-}
-
-static uint32_t setup_quota(const uint8_t *b) { return (uint32_t)b[SETUP_QUOTA] << 8 | b[SETUP_QUOTA + 1]; }
-
-/* The set-up record's number: 1 for its form, and else what the lengths are answered with. */
-static uint32_t set_up(buffer run, guzbytor_lengths_answer *lengths) {
-    const uint8_t *b = run.bytes;
-    if (run.length < SETUP_LENGTH || record_length(b) != SETUP_LENGTH || b[FRAME_VERSION] != RECORD_VERSION || b[FRAME_KIND] != KIND_SETUP) {
-        return 1;
-    }
-    *lengths = guzbytor_lengths(b[SETUP_SERVERS], setup_quota(b));
-    return lengths->number;
 }
 
 int main(int count, char **words) {
