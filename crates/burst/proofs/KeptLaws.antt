@@ -1,17 +1,14 @@
 -- Buffers whose number is 0 keep it through a step, and a refused event leaves them: so the state is checked once.
 -- Assumes nothing.
-use Prim.Native.Nat.{ℕ, _≤_}
-use mathlib.Core.Path.{_≡_, refl, sym, ap, subst}
+use Prim.Native.Nat.{ℕ}
+use mathlib.Core.Path.{_≡_, refl, sym, subst}
 use mathlib.Core.Bool.{true}
 use mathlib.Core.List.{List}
-use lib.ListN.{length}
 use Rattle.base.specs.Bytes.{joined}
 use Rattle.replication.specs.Machine.Types.{Server, Outcome, refused, taken}
 use Rattle.replication.specs.Machine.Step.{step}
-use Rattle.engine.specs.Layout.{outLength}
 use Rattle.engine.specs.Image.{over, image}
 use Rattle.engine.specs.Decode.{decoded, reads}
-use Rattle.engine.specs.Holding.{Holds}
 use Rattle.engine.specs.Outcome.{Result, refusal, resultOf, stepOn, stateNumber}
 use Rattle.engine.proofs.ImageLaws.{image-reads}
 use Rattle.engine.proofs.Refusals.{Ready, number-read, zero-read, zero-ready, step-read}
