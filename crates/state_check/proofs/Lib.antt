@@ -14,6 +14,7 @@ pub mod Formed
 pub mod Rewritten
 pub mod Back
 pub mod ReadsLaw
+pub mod Gathered
 pub mod SlotCode
 pub mod NumberCode
 pub mod CollectedCode

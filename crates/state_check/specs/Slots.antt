@@ -1,6 +1,7 @@
 -- What the code tests of the slots of a state's buffer b: all that is said of an entry and is not a test of its id.
 -- Assumes nothing.
-use Prim.Native.Nat.{ℕ, zero, suc, _+_, _*_, _-_}
+use Prim.Native.Nat.{ℕ, zero, suc, _+_, _*_, _-_, _≤_, _<_}
+use mathlib.Core.Path.{_≡_}
 use mathlib.Core.Bool.{Bool, true}
 use mathlib.Core.List.{List}
 use lib.ListN.{getD}
@@ -21,6 +22,11 @@ zeroAt b at = getD b at 0 =? 0
 unfoldable pub payloadFits : ℕ → List ℕ → ℕ → Bool
 payloadFits room b at =
     numberAt 1 b at ≤? mostPayload and everyAt (zeroAt b) 1 (room - (1 + numberAt 1 b at)) (at + (1 + numberAt 1 b at))
+
+-- What the masks of payloads are: a test may gather all bytes of a payload's room under those from mostPayload - m on.
+pub record Masks (t : List ℕ) : Type 0 where
+  pub payload : (j : ℕ) → j < mostPayload → getD t j 0 ≡ 0
+  pub behind : (j : ℕ) → mostPayload ≤ j → j < 2 * mostPayload → getD t j 0 ≡ 255
 
 unfoldable pub heldFit : (m : ℕ) → List ℕ → ℕ → Bool
 heldFit m b at = everyAt (payloadFits heldSize b) heldSize m at

@@ -16,6 +16,7 @@ ghost use Rattle.state_check.specs.Checks.{placeOf, ownCut, queueCuts, o
 ghost use Rattle.state_check.specs.Checks.{firstListsOk, lastListsOk, listsOk};
 use super::collected::collected_ok;
 use super::slots::held_fit;
+use super::slots::masks;
 use super::slots::noted_fit;
 use super::slots::own_fits;
 use super::slots::queue_fits;
@@ -102,7 +103,8 @@ fn held_ok(c: Context, b: &[u8], count: usize) -> bool
     ensures { λ r. ⌜ r ≡ heldFit count (now (b .entry)) (placeOf (contextOf c) theHeld) ⌝ }
 {
     let at = held_at(c.servers as u32, c.quota as u32) as usize;
-    held_fit(b, at, count)
+    let t = masks();
+    held_fit(b, at, count, &t)
 }
 
 fn yellow_ok(c: Context, b: &[u8], count: usize) -> bool
@@ -118,7 +120,8 @@ fn own_ok(c: Context, b: &[u8], count: usize) -> bool
     ensures { λ r. ⌜ r ≡ ownOk (contextOf c) count (now (b .entry)) ⌝ }
 {
     let at = own_at(c.servers as u32, c.quota as u32) as usize;
-    own_fits(c, b, own_cut(c, b) as usize, at, count)
+    let t = masks();
+    own_fits(c, b, own_cut(c, b) as usize, at, count, &t)
 }
 
 fn queue_ok(c: Context, b: &[u8], count: usize) -> bool
@@ -129,7 +132,8 @@ fn queue_ok(c: Context, b: &[u8], count: usize) -> bool
     if !ids_differ(c, b, at, SLOT as usize, count) {
         return false;
     }
-    queue_fits(c, b, CUTS as usize, at, count)
+    let t = masks();
+    queue_fits(c, b, CUTS as usize, at, count, &t)
 }
 
 pub fn states_ok(c: Context, set: u8, configuration: u32, b: &[u8]) -> bool

@@ -24,6 +24,9 @@ ids-differ-requires c κs = search (needs, queue-ids-inside, queue-inside)
 returns : tie.Need-returns
 returns c = search (needs, queue-denied)
 
+masks-requires : tie.Need-masks-requires
+masks-requires c κs = search needs
+
 cast-queue-fits : tie.Need-cast-queue-fits
 cast-queue-fits c = search needs
 
@@ -44,6 +47,7 @@ queue-ok-spec =
     cast-ids-differ
     ids-differ-requires
     returns
+    masks-requires
     cast-queue-fits
     queue-fits-requires
     returns-2)

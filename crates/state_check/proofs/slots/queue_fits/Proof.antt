@@ -12,10 +12,10 @@ use Rattle.state_check.proofs.slots.queue_fits.Tie as tie
 use Rattle.engine.specs.Layout.{slotSize}
 
 abbrev Inv-loop : tie.InvT-loop
-Inv-loop c b cuts at count here₀ left₀ here left = (here + slotSize * left ≤ length b) × (queueFits (contextOf c) cuts count b at ≡ everyAt (queueSlotFits (contextOf c) b cuts) slotSize left here)
+Inv-loop c b cuts at count t here₀ left₀ here left = (here + slotSize * left ≤ length b) × (queueFits (contextOf c) cuts count b at ≡ everyAt (queueSlotFits (contextOf c) b cuts) slotSize left here)
 
 abbrev μ-loop : tie.MeasureT-loop
-μ-loop c b cuts at count here₀ left₀ here left = left
+μ-loop c b cuts at count t here₀ left₀ here left = left
 
 loop-holds : tie.Need-loop-holds Inv-loop μ-loop
 unfolding queueFits
