@@ -16,6 +16,7 @@ pub mod Back
 pub mod ReadsLaw
 pub mod Gathered
 pub mod SlotCode
+pub mod QueueCode
 pub mod NumberCode
 pub mod CollectedCode
 pub mod SectionCode

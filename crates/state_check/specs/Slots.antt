@@ -1,4 +1,4 @@
--- What the code tests of the slots of a state's buffer b: all that is said of an entry and is not a test of its id.
+-- What the code tests of the slots of a state's buffer b.
 -- Assumes nothing.
 use Prim.Native.Nat.{ℕ, zero, suc, _+_, _*_, _-_, _≤_, _<_}
 use mathlib.Core.Path.{_≡_}
@@ -11,7 +11,8 @@ use Rattle.base.specs.Lists.{everyAt}
 use Rattle.format.specs.Limits.{mostQuota, mostPayload}
 use Rattle.format.specs.Places.{idSize, actionGreenAt, actionPayloadAt}
 use Rattle.format.specs.Types.{Context}
-use Rattle.format.specs.Range.{lengthOk}
+use Rattle.format.specs.Range.{lengthOk, idsOk}
+use Rattle.record.specs.Values.{idsBy}
 use Rattle.engine.specs.Layout.{heldSize, slotSize}
 
 -- A byte that is zero.
@@ -50,8 +51,12 @@ withinCutAt b cuts at = numberAt 2 b (at + 1) ≤? numberAt 2 b (cuts + 2 * numb
 unfoldable pub queueSlotFits : Context → List ℕ → (cuts at : ℕ) → Bool
 queueSlotFits c b cuts at = withinCutAt b cuts at and slotFits c b at
 
+unfoldable pub queueSlotsFit : Context → (cuts m : ℕ) → List ℕ → ℕ → Bool
+queueSlotsFit c cuts m b at = everyAt (queueSlotFits c b cuts) slotSize m at
+
+-- The queue's m actions: their ids in range, none twice, and all else.
 unfoldable pub queueFits : Context → (cuts m : ℕ) → List ℕ → ℕ → Bool
-queueFits c cuts m b at = everyAt (queueSlotFits c b cuts) slotSize m at
+queueFits c cuts m b at = idsOk c (idsBy slotSize m b at) and queueSlotsFit c cuts m b at
 
 -- The own cut is any number of two bytes: so high an index may be asked of the own list.
 abbrev pub ownReach : ℕ

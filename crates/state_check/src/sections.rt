@@ -27,12 +27,10 @@ use engine::places::own_at;
 use engine::places::queue_at;
 use engine::places::states_at;
 use engine::places::yellow_at;
-use engine::sizes::SLOT;
 use record::Context;
 use record::State;
 use record::bytes::num16;
 use record::lists::cuts_ok;
-use record::lists::ids_differ;
 use record::lists::ids_ok;
 
 // The sum of the n numbers of two bytes from `at` on.
@@ -129,9 +127,6 @@ fn queue_ok(c: Context, b: &[u8], count: usize) -> bool
     ensures { λ r. ⌜ r ≡ queueOk (contextOf c) count (now (b .entry)) ⌝ }
 {
     let at = queue_at(c.servers as u32, c.quota as u32) as usize;
-    if !ids_differ(c, b, at, SLOT as usize, count) {
-        return false;
-    }
     let t = masks();
     queue_fits(c, b, CUTS as usize, at, count, &t)
 }

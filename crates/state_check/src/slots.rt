@@ -14,6 +14,7 @@ use record::State;
 use record::bytes::num8;
 use record::bytes::num16;
 use record::bytes::num32;
+use record::lists::place_at;
 use record::range::length_ok;
 
 // Masks of payloads: as many zeros as a payload may have bytes, then as many ones. From MOST_PAYLOAD - m on they let through what stands
@@ -102,6 +103,7 @@ fn queue_slot_fits(c: Context, b: &[u8], cuts: usize, at: usize, t: &[u8; MASKS]
     slot_fits(c, b, at, t)
 }
 
+// The queue, in one pass: the place of each id that it meets is set.
 pub fn queue_fits(
     c: Context,
     b: &[u8],
@@ -113,12 +115,21 @@ pub fn queue_fits(
     requires { ⌜ ContextIn c × Masks (now t) × (cuts + cutsReach ≤ length (now b)) × (at + slotSize * count ≤ length (now b)) ⌝ }
     ensures { λ r. ⌜ r ≡ queueFits (contextOf c) cuts count (now (b .entry)) at ⌝ }
 {
+    let mut met: [u8; State::MOST_IDS] = [0; State::MOST_IDS];
     let mut here = at;
     let mut left = count;
     while 0 < left {
+        let p = place_at(c, b, here);
+        if State::MOST_IDS <= p {
+            return false;
+        }
+        if met[p] == 1 {
+            return false;
+        }
         if !queue_slot_fits(c, b, cuts, here, t) {
             return false;
         }
+        met[p] = 1;
         here += State::SLOT;
         left -= 1;
     }
