@@ -14,7 +14,7 @@ use Rattle.base.proofs.Branches.{told-eq}
 use Rattle.base.specs.Bytes.{numberAt, numbersAt}
 use Rattle.base.specs.Lists.{sum}
 use Rattle.format.specs.Limits.{mostHeld}
-use Rattle.format.specs.Range.{cutsOk, idsOk}
+use Rattle.format.specs.Range.{cutsOk, idsInRange, idsDiffer, idsOk}
 use Rattle.format.specs.Read.{idsAt}
 use Rattle.record.specs.Context.{contextOf}
 use Rattle.record.specs.declared.Context.{Context}
@@ -96,6 +96,10 @@ module _ (c : Context) (b : List ℕ) where
   pub held-told : (at m : ℕ) (r : Bool) → at ≡ offset (c .servers) (c .quota) theHeld → r ≡ heldFit m b at → r ≡ heldFit m b (placeOf (contextOf c) theHeld)
   unfolding placeOf contextOf
   held-told at m r e f = f ∙ ap (heldFit m b) e
+
+  pub no-ids : (m at : ℕ) → m ≡ 0 → true ≡ idsOk (contextOf c) (idsAt m b at)
+  unfolding idsOk idsInRange idsDiffer idsAt _and_
+  no-ids m at e = rw e
 
   pub ids-told : (at m : ℕ) (r : Bool) → at ≡ offset (c .servers) (c .quota) theYellow → r ≡ idsOk (contextOf c) (idsAt m b at)
       → r ≡ idsOk (contextOf c) (idsAt m b (placeOf (contextOf c) theYellow))

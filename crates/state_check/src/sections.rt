@@ -105,10 +105,14 @@ fn held_ok(c: Context, b: &[u8], count: usize) -> bool
     held_fit(b, at, count, &t)
 }
 
+// No table is laid out where there are no ids.
 fn yellow_ok(c: Context, b: &[u8], count: usize) -> bool
     requires { ⌜ Buffer c (now b) × (count ≤ c .servers * c .quota) ⌝ }
     ensures { λ r. ⌜ r ≡ idsOk (contextOf c) (idsAt count (now (b .entry)) (placeOf (contextOf c) theYellow)) ⌝ }
 {
+    if count == 0 {
+        return true;
+    }
     let at = yellow_at(c.servers as u32, c.quota as u32) as usize;
     ids_ok(c, b, at, count)
 }
