@@ -1,10 +1,9 @@
 -- A turn of the pass over the queue: the first of the slots that are left, and the others. t is the table of the ids that were met.
 -- Assumes nothing.
-use Prim.Native.Nat.{ℕ, _+_, _*_, _-_, _≤_, _<_}
+use Prim.Native.Nat.{ℕ, _+_, _-_, _≤_, _<_}
 use mathlib.Core.Path.{_≡_, refl, sym, ap, _∙_}
 use mathlib.Core.Bool.{Bool, true, false, not}
 use mathlib.Core.List.{List}
-use native.Mathlib.Omega.{arith}
 use lib.ListN.{getD, set, replicate}
 use Rattle.base.specs.Tests.{_and_}
 use Rattle.base.proofs.TestLaws.{and-no, both-yes}
@@ -13,7 +12,6 @@ use Rattle.base.specs.Lists.{everyAt}
 use Rattle.base.proofs.Entries.{every-again, every-denied, every-end}
 use Rattle.format.specs.Limits.{mostIds}
 use Rattle.format.specs.Types.{Context as FormatContext}
-use Rattle.format.specs.Range.{idsOk}
 use Rattle.format.specs.Read.{idAt}
 use Rattle.record.specs.declared.Context.{Context}
 use Rattle.record.specs.Context.{contextOf, ContextIn}

@@ -16,7 +16,7 @@ use Rattle.replication.specs.Machine.Types.{Non-prim, Exchange-states, Exchange
 use Rattle.record.specs.Context.{readingContext, contextOf, ContextIn}
 use Rattle.record.specs.declared.Context.{Context as CodeContext}
 use Rattle.record.specs.declared.State.{State}
-use Rattle.engine.specs.Layout.{slotSize, theCuts, theNoted, theHeld, theStates, theYellow, theOwn, theQueue, offset, stateLength}
+use Rattle.engine.specs.Layout.{theCuts, theNoted, theHeld, theStates, theYellow, theOwn, theQueue, offset, stateLength}
 use Rattle.engine.specs.Image.{modeNumber}
 use Rattle.engine.specs.Header.{headerIn}
 use Rattle.state_check.specs.Slots.{heldFit, queueFits, ownFits, notedFit}

@@ -9,7 +9,7 @@ use Rattle.base.specs.Tests.{_and_, _≤?_, _=?_}
 use Rattle.base.specs.Bytes.{numberAt}
 use Rattle.base.specs.Lists.{everyAt}
 use Rattle.format.specs.Limits.{mostQuota, mostPayload}
-use Rattle.format.specs.Places.{idSize, actionGreenAt, actionPayloadAt}
+use Rattle.format.specs.Places.{actionGreenAt, actionPayloadAt}
 use Rattle.format.specs.Types.{Context}
 use Rattle.format.specs.Range.{lengthOk, idsOk}
 use Rattle.record.specs.Values.{idsBy}
