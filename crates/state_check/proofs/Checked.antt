@@ -15,10 +15,10 @@ use Rattle.format.specs.Read.{idsAt}
 use Rattle.record.specs.Values.{primaryOf, markOf, idsBy}
 use Rattle.record.specs.declared.State.{State}
 use Rattle.engine.specs.Layout.{slotSize, theCuts, theNoted, theHeld, theStates, theYellow, theOwn, theQueue}
-use Rattle.state_check.specs.Slots.{heldFit, queueFits, ownFits, notedFit}
+use Rattle.state_check.specs.Slots.{heldFit, queueSlotsFit, queueFits, ownFits, notedFit}
 use Rattle.state_check.specs.Numbers.{regularOk, transitionalOk, membershipOk, roomOk, quotaOk, countsOk, votesOk, numbersOk}
 use Rattle.state_check.specs.Collected.{collectedOk}
-use Rattle.state_check.specs.Checks.{placeOf, ownCut, queueCuts, ownNext, cutsFit, queueOk, firstListsOk, lastListsOk, listsOk, modeOk, checksOf}
+use Rattle.state_check.specs.Checks.{placeOf, ownCut, queueCuts, ownNext, cutsFit, firstListsOk, lastListsOk, listsOk, modeOk, checksOf}
 
 pub record Checked (c : Context) (h : State) (b : List ℕ) : Type 0 where
   pub context : contextOk c ≡ true
@@ -47,12 +47,12 @@ pub record Checked (c : Context) (h : State) (b : List ℕ) : Type 0 where
   pub ids : idsOk c (idsAt (h .«yellow_count») b (placeOf c theYellow)) ≡ true
   pub own : ownFits c (ownCut c b) (h .«own_count») b (placeOf c theOwn) ≡ true
   pub queue-ids : idsOk c (idsBy slotSize (h .«queue_length») b (placeOf c theQueue)) ≡ true
-  pub queue : queueFits c (placeOf c theCuts) (h .«queue_length») b (placeOf c theQueue) ≡ true
+  pub queue : queueSlotsFit c (placeOf c theCuts) (h .«queue_length») b (placeOf c theQueue) ≡ true
   pub collected : collectedOk c (h .states) (h .«configuration_id») (c .servers) 0 b (placeOf c theStates) ≡ true
   pub mode : modeOk c h b ≡ true
 
 pub checked : (c : Context) (h : State) (b : List ℕ) → checksOf c h b ≡ true → Checked c h b
-unfolding checksOf numbersOk membershipOk countsOk roomOk quotaOk votesOk listsOk firstListsOk lastListsOk cutsFit queueCuts ownNext queueOk lengthOk
+unfolding checksOf numbersOk membershipOk countsOk roomOk quotaOk votesOk listsOk firstListsOk lastListsOk cutsFit queueCuts ownNext queueFits lengthOk
 checked c h b t =
     let a₁ = and-holds _ _ t in
     let a₂ = and-holds _ _ (a₁ .1) in
@@ -115,7 +115,7 @@ checked c h b t =
     }
 
 pub check : (c : Context) (h : State) (b : List ℕ) → Checked c h b → checksOf c h b ≡ true
-unfolding checksOf numbersOk membershipOk countsOk roomOk quotaOk votesOk listsOk firstListsOk lastListsOk cutsFit queueCuts ownNext queueOk lengthOk
+unfolding checksOf numbersOk membershipOk countsOk roomOk quotaOk votesOk listsOk firstListsOk lastListsOk cutsFit queueCuts ownNext queueFits lengthOk
 check c h b k =
     let membership = both-yes _ _ (k .regular) (both-yes _ _ (k .transitional) (both-yes _ _ (k .senders) (both-yes _ _ (k .members) (both-yes _ _ (k .cpcs) (le-yes _ _ (k .come)))))) in
     let room = both-yes _ _ (le-yes _ _ (k .few-actions)) (both-yes _ _ (le-yes _ _ (k .few-greens)) (both-yes _ _ (le-yes _ _ (k .few-own)) (le-yes _ _ (k .few-ids)))) in

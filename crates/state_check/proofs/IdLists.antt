@@ -18,19 +18,19 @@ use Rattle.format.specs.Read.{idAt}
 use Rattle.format.proofs.Ranges.{id-range}
 use Rattle.record.specs.Values.{idsBy}
 use Rattle.engine.specs.Layout.{slotSize}
-use Rattle.state_check.specs.Slots.{slotFits, withinCutAt, queueSlotFits, queueFits, ownSlotFits, ownFits}
+use Rattle.state_check.specs.Slots.{slotFits, withinCutAt, queueSlotFits, queueSlotsFit, ownSlotFits, ownFits}
 use Rattle.state_check.proofs.HeldIds.{WithinCuts}
 
 -- ---- the queue
 
 module _ (c : Context) (b : List ℕ) (cuts : ℕ) where
-  pub queue-slots : (m at : ℕ) → queueFits c cuts m b at ≡ true → everyAt (slotFits c b) slotSize m at ≡ true
-  unfolding queueFits queueSlotFits
+  pub queue-slots : (m at : ℕ) → queueSlotsFit c cuts m b at ≡ true → everyAt (slotFits c b) slotSize m at ≡ true
+  unfolding queueSlotsFit queueSlotFits
   queue-slots m at h =
       every-implied (λ i. withinCutAt b cuts i and slotFits c b i) (slotFits c b) (λ i t. and-holds (withinCutAt b cuts i) (slotFits c b i) t .1) slotSize m at h
 
-  queue-cuts : (m at : ℕ) → queueFits c cuts m b at ≡ true → everyAt (withinCutAt b cuts) slotSize m at ≡ true
-  unfolding queueFits queueSlotFits
+  queue-cuts : (m at : ℕ) → queueSlotsFit c cuts m b at ≡ true → everyAt (withinCutAt b cuts) slotSize m at ≡ true
+  unfolding queueSlotsFit queueSlotFits
   queue-cuts m at h =
       every-implied (λ i. withinCutAt b cuts i and slotFits c b i) (withinCutAt b cuts) (λ i t. and-holds (withinCutAt b cuts i) (slotFits c b i) t .0) slotSize m at h
 
@@ -45,7 +45,7 @@ module _ (c : Context) (b : List ℕ) (cuts : ℕ) where
       let here : getD (numbersAt 2 (c .servers) b cuts) (numberAt 1 b at) 0 ≡ numberAt 2 b (cuts + 2 * numberAt 1 b at) = numbers-at 2 (c .servers) b cuts (numberAt 1 b at) (r .creator) in
       ((r .least, omega (arith, le-holds _ _ (u .0))), ids-within m (at + slotSize) (j .1) (u .1))
 
-  pub queue-within : (m at : ℕ) → idsInRange c (idsBy slotSize m b at) ≡ true → queueFits c cuts m b at ≡ true
+  pub queue-within : (m at : ℕ) → idsInRange c (idsBy slotSize m b at) ≡ true → queueSlotsFit c cuts m b at ≡ true
       → Each (WithinCuts (numbersAt 2 (c .servers) b cuts)) (idsBy slotSize m b at)
   queue-within m at i h = ids-within m at i (queue-cuts m at h)
 
@@ -60,8 +60,8 @@ module _ (c : Context) (b : List ℕ) (cuts : ℕ) where
       both-yes _ _ (le-yes _ _ (omega (arith, t .0 .1))) (within-ids m (at + slotSize) (j .1) (t .1))
 
   pub queue-out : (m at : ℕ) → idsInRange c (idsBy slotSize m b at) ≡ true → Each (WithinCuts (numbersAt 2 (c .servers) b cuts)) (idsBy slotSize m b at)
-      → everyAt (slotFits c b) slotSize m at ≡ true → queueFits c cuts m b at ≡ true
-  unfolding queueFits queueSlotFits
+      → everyAt (slotFits c b) slotSize m at ≡ true → queueSlotsFit c cuts m b at ≡ true
+  unfolding queueSlotsFit queueSlotFits
   queue-out m at i w h = every-both (withinCutAt b cuts) (slotFits c b) slotSize m at (within-ids m at i w) h
 
 -- ---- the own list

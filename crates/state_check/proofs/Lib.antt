@@ -14,7 +14,9 @@ pub mod Formed
 pub mod Rewritten
 pub mod Back
 pub mod ReadsLaw
+pub mod Gathered
 pub mod SlotCode
+pub mod QueueCode
 pub mod NumberCode
 pub mod CollectedCode
 pub mod SectionCode

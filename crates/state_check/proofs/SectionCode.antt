@@ -14,10 +14,9 @@ use Rattle.base.proofs.Branches.{told-eq}
 use Rattle.base.specs.Bytes.{numberAt, numbersAt}
 use Rattle.base.specs.Lists.{sum}
 use Rattle.format.specs.Limits.{mostHeld}
-use Rattle.format.specs.Range.{cutsOk, idsOk}
+use Rattle.format.specs.Range.{cutsOk, idsInRange, idsDiffer, idsOk}
 use Rattle.format.specs.Read.{idsAt}
 use Rattle.record.specs.Context.{contextOf}
-use Rattle.record.specs.Values.{idsBy, IdsInside}
 use Rattle.record.specs.declared.Context.{Context}
 use Rattle.engine.specs.Layout.{theNoted, theHeld, theStates, theYellow, theOwn, theQueue, sections, stateSize, stateLength, offset, headerSize, slotSize, heldSize}
 use Rattle.exchange.specs.declared.slots.Slots.{Slots}
@@ -98,6 +97,10 @@ module _ (c : Context) (b : List ℕ) where
   unfolding placeOf contextOf
   held-told at m r e f = f ∙ ap (heldFit m b) e
 
+  pub no-ids : (m at : ℕ) → m ≡ 0 → true ≡ idsOk (contextOf c) (idsAt m b at)
+  unfolding idsOk idsInRange idsDiffer idsAt _and_
+  no-ids m at e = rw e
+
   pub ids-told : (at m : ℕ) (r : Bool) → at ≡ offset (c .servers) (c .quota) theYellow → r ≡ idsOk (contextOf c) (idsAt m b at)
       → r ≡ idsOk (contextOf c) (idsAt m b (placeOf (contextOf c) theYellow))
   unfolding placeOf contextOf
@@ -121,19 +124,9 @@ module _ (c : Context) (b : List ℕ) where
   unfolding ownNext
   next-told x own numbered e = ap (λ (i : ℕ). eqb (i + own) numbered) e ∙ told-eq (ownCut (contextOf c) b + own) numbered
 
-  pub queue-ids-inside : (at m : ℕ) → at + slotSize * m ≤ length b → IdsInside slotSize m b at
-  queue-ids-inside at m h = record { wide = omega arith; inside = h }
-
-  pub queue-denied : (at m : ℕ) (t : Bool) → at ≡ offset (c .servers) (c .quota) theQueue → t ≡ idsOk (contextOf c) (idsBy slotSize m b at) → not t ≡ true
-      → false ≡ queueOk (contextOf c) m b
-  unfolding queueOk placeOf contextOf
-  queue-denied at m t e f h = and-no _ _ (ap (λ (i : ℕ). idsOk (contextOf c) (idsBy slotSize m b i)) (sym e) ∙ sym f ∙ not-true t h)
-
-  pub queue-answered : (at m : ℕ) (t r : Bool) → at ≡ offset (c .servers) (c .quota) theQueue → t ≡ idsOk (contextOf c) (idsBy slotSize m b at) → not t ≡ false
-      → r ≡ queueFits (contextOf c) headerSize m b at → r ≡ queueOk (contextOf c) m b
-  unfolding queueOk placeOf contextOf offset sections sum
-  queue-answered at m t r e f h g =
-      and-yes r _ _ (ap (λ (i : ℕ). idsOk (contextOf c) (idsBy slotSize m b i)) (sym e) ∙ sym f ∙ not-false t h) (g ∙ ap (λ (i : ℕ). queueFits (contextOf c) headerSize m b i) e)
+  pub queue-told : (at m : ℕ) (r : Bool) → at ≡ offset (c .servers) (c .quota) theQueue → r ≡ queueFits (contextOf c) headerSize m b at → r ≡ queueOk (contextOf c) m b
+  unfolding placeOf contextOf offset sections sum
+  queue-told at m r e f = f ∙ ap (queueFits (contextOf c) headerSize m b) e
 
   pub states-told : (at s i : ℕ) (r : Bool) → at ≡ offset (c .servers) (c .quota) theStates → r ≡ collectedOk (contextOf c) s i (c .servers) 0 b at
       → r ≡ collectedOk (contextOf c) s i (c .servers) 0 b (placeOf (contextOf c) theStates)

@@ -5,29 +5,17 @@ use mathlib.Core.Path.{_≡_, refl, sym, ap, _∙_}
 use mathlib.Core.Bool.{Bool, true, false, not}
 use mathlib.Core.List.{List}
 use native.Mathlib.Omega.{arith}
-use lib.ListN.{getD}
 use borrow.Author.Tests.{not-true, not-false}
 use Rattle.format.specs.Limits.{mostPayload}
 use Rattle.base.specs.Tests.{_and_, _≤?_, _=?_}
 use Rattle.base.proofs.TestLaws.{and-yes, and-no, le-yes, le-no, eq-yes, eq-no}
 use Rattle.base.specs.Bytes.{numberAt}
 use Rattle.base.specs.Lists.{everyAt}
-use Rattle.base.proofs.Entries.{every-more}
 use Rattle.format.specs.Types.{Context}
 use Rattle.format.specs.Range.{lengthOk}
-use Rattle.engine.specs.Layout.{slotSize}
+use Rattle.engine.specs.Layout.{heldSize, slotSize}
 use Rattle.state_check.specs.Slots.{zeroAt, payloadFits, payloadRoom, slotFits, withinCutAt, queueSlotFits, ownSlotFits, ownFits, notedAt}
-use Rattle.format.specs.Places.{idSize, actionPayloadAt, actionGreenAt}
-
--- ---- zeros
-
-pub zeros-again : (b : List ℕ) (m at : ℕ) (v : Bool) → v ≡ everyAt (zeroAt b) 1 m at → 0 < m → getD b at 0 ≡ 0 → v ≡ everyAt (zeroAt b) 1 (m - 1) (at + 1)
-unfolding zeroAt
-zeros-again b m at v h l e = h ∙ every-more (zeroAt b) 1 m at l ∙ sym (and-yes _ (zeroAt b at) _ (eq-yes _ 0 e) refl)
-
-pub zeros-denied : (b : List ℕ) (m at : ℕ) (v : Bool) → v ≡ everyAt (zeroAt b) 1 m at → 0 < m → (getD b at 0 ≡ 0 → ⊥) → false ≡ v
-unfolding zeroAt
-zeros-denied b m at v h l e = and-no (zeroAt b at) _ (eq-no _ 0 e) ∙ sym (h ∙ every-more (zeroAt b) 1 m at l)
+use Rattle.format.specs.Places.{actionPayloadAt, actionGreenAt}
 
 -- ---- payloads
 
@@ -35,9 +23,13 @@ pub payload-denied : (b : List ℕ) (room at m : ℕ) → m ≡ numberAt 1 b at 
 unfolding payloadFits
 payload-denied b room at m e h = and-no (numberAt 1 b at ≤? mostPayload) _ (le-no _ mostPayload (rw e at h))
 
-pub payload-answered : (b : List ℕ) (room at m : ℕ) (r : Bool) → m ≡ numberAt 1 b at → m ≤ mostPayload → r ≡ everyAt (zeroAt b) 1 (room - (1 + m)) (at + (1 + m)) → r ≡ payloadFits room b at
+pub payload-answered : (b : List ℕ) (at m : ℕ) (r : Bool) → m ≡ numberAt 1 b at → m ≤ mostPayload → r ≡ everyAt (zeroAt b) 1 (mostPayload - m) (at + 1 + m)
+    → r ≡ payloadFits heldSize b at
 unfolding payloadFits
-payload-answered b room at m r e h k = and-yes r (numberAt 1 b at ≤? mostPayload) _ (le-yes _ mostPayload (rw e at h)) (rw e at k)
+payload-answered b at m r e h k =
+    let p : mostPayload - m ≡ heldSize - (1 + m) = omega arith in
+    let q : at + 1 + m ≡ at + (1 + m) = omega arith in
+    and-yes r (numberAt 1 b at ≤? mostPayload) _ (le-yes _ mostPayload (rw e at h)) (rw (p, q, e) at k)
 
 -- ---- actions
 

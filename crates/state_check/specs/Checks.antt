@@ -14,10 +14,9 @@ use Rattle.format.specs.Range.{contextOk, cutsOk, idsOk}
 use Rattle.format.specs.Read.{idsAt}
 use Rattle.replication.specs.Machine.Types.{Non-prim, Exchange-states, Exchange-actions, Un}
 use Rattle.record.specs.Context.{readingContext, contextOf, ContextIn}
-use Rattle.record.specs.Values.{idsBy}
 use Rattle.record.specs.declared.Context.{Context as CodeContext}
 use Rattle.record.specs.declared.State.{State}
-use Rattle.engine.specs.Layout.{slotSize, theCuts, theNoted, theHeld, theStates, theYellow, theOwn, theQueue, offset, stateLength}
+use Rattle.engine.specs.Layout.{theCuts, theNoted, theHeld, theStates, theYellow, theOwn, theQueue, offset, stateLength}
 use Rattle.engine.specs.Image.{modeNumber}
 use Rattle.engine.specs.Header.{headerIn}
 use Rattle.state_check.specs.Slots.{heldFit, queueFits, ownFits, notedFit}
@@ -49,9 +48,8 @@ abbrev pub ownOk : Context → (own : ℕ) → List ℕ → Bool
 ownOk c own b = ownFits c (ownCut c b) own b (placeOf c theOwn)
 
 -- The queue of so many actions.
-unfoldable pub queueOk : Context → (actions : ℕ) → List ℕ → Bool
-queueOk c actions b =
-    idsOk c (idsBy slotSize actions b (placeOf c theQueue)) and queueFits c (placeOf c theCuts) actions b (placeOf c theQueue)
+abbrev pub queueOk : Context → (actions : ℕ) → List ℕ → Bool
+queueOk c actions b = queueFits c (placeOf c theCuts) actions b (placeOf c theQueue)
 
 -- Cuts, noted lengths and held requests; then so many yellow ids, own actions and actions in the queue.
 unfoldable pub firstListsOk : Context → State → List ℕ → Bool

@@ -1,6 +1,7 @@
--- What the code tests of the slots of a state's buffer b: all that is said of an entry and is not a test of its id.
+-- What the code tests of the slots of a state's buffer b.
 -- Assumes nothing.
-use Prim.Native.Nat.{ℕ, zero, suc, _+_, _*_, _-_}
+use Prim.Native.Nat.{ℕ, zero, suc, _+_, _*_, _-_, _≤_, _<_}
+use mathlib.Core.Path.{_≡_}
 use mathlib.Core.Bool.{Bool, true}
 use mathlib.Core.List.{List}
 use lib.ListN.{getD}
@@ -8,9 +9,10 @@ use Rattle.base.specs.Tests.{_and_, _≤?_, _=?_}
 use Rattle.base.specs.Bytes.{numberAt}
 use Rattle.base.specs.Lists.{everyAt}
 use Rattle.format.specs.Limits.{mostQuota, mostPayload}
-use Rattle.format.specs.Places.{idSize, actionGreenAt, actionPayloadAt}
+use Rattle.format.specs.Places.{actionGreenAt, actionPayloadAt}
 use Rattle.format.specs.Types.{Context}
-use Rattle.format.specs.Range.{lengthOk}
+use Rattle.format.specs.Range.{lengthOk, idsOk}
+use Rattle.record.specs.Values.{idsBy}
 use Rattle.engine.specs.Layout.{heldSize, slotSize}
 
 -- A byte that is zero.
@@ -21,6 +23,11 @@ zeroAt b at = getD b at 0 =? 0
 unfoldable pub payloadFits : ℕ → List ℕ → ℕ → Bool
 payloadFits room b at =
     numberAt 1 b at ≤? mostPayload and everyAt (zeroAt b) 1 (room - (1 + numberAt 1 b at)) (at + (1 + numberAt 1 b at))
+
+-- What the masks of payloads are: a test may gather all bytes of a payload's room under those from mostPayload - m on.
+pub record Masks (t : List ℕ) : Type 0 where
+  pub payload : (j : ℕ) → j < mostPayload → getD t j 0 ≡ 0
+  pub behind : (j : ℕ) → mostPayload ≤ j → j < 2 * mostPayload → getD t j 0 ≡ 255
 
 unfoldable pub heldFit : (m : ℕ) → List ℕ → ℕ → Bool
 heldFit m b at = everyAt (payloadFits heldSize b) heldSize m at
@@ -44,8 +51,12 @@ withinCutAt b cuts at = numberAt 2 b (at + 1) ≤? numberAt 2 b (cuts + 2 * numb
 unfoldable pub queueSlotFits : Context → List ℕ → (cuts at : ℕ) → Bool
 queueSlotFits c b cuts at = withinCutAt b cuts at and slotFits c b at
 
+unfoldable pub queueSlotsFit : Context → (cuts m : ℕ) → List ℕ → ℕ → Bool
+queueSlotsFit c cuts m b at = everyAt (queueSlotFits c b cuts) slotSize m at
+
+-- The queue's m actions: their ids in range, none twice, and all else.
 unfoldable pub queueFits : Context → (cuts m : ℕ) → List ℕ → ℕ → Bool
-queueFits c cuts m b at = everyAt (queueSlotFits c b cuts) slotSize m at
+queueFits c cuts m b at = idsOk c (idsBy slotSize m b at) and queueSlotsFit c cuts m b at
 
 -- The own cut is any number of two bytes: so high an index may be asked of the own list.
 abbrev pub ownReach : ℕ

@@ -16,6 +16,7 @@ ghost use Rattle.state_check.specs.Checks.{placeOf, ownCut, queueCuts, o
 ghost use Rattle.state_check.specs.Checks.{firstListsOk, lastListsOk, listsOk};
 use super::collected::collected_ok;
 use super::slots::held_fit;
+use super::slots::masks;
 use super::slots::noted_fit;
 use super::slots::own_fits;
 use super::slots::queue_fits;
@@ -26,12 +27,10 @@ use engine::places::own_at;
 use engine::places::queue_at;
 use engine::places::states_at;
 use engine::places::yellow_at;
-use engine::sizes::SLOT;
 use record::Context;
 use record::State;
 use record::bytes::num16;
 use record::lists::cuts_ok;
-use record::lists::ids_differ;
 use record::lists::ids_ok;
 
 // The sum of the n numbers of two bytes from `at` on.
@@ -102,13 +101,18 @@ fn held_ok(c: Context, b: &[u8], count: usize) -> bool
     ensures { λ r. ⌜ r ≡ heldFit count (now (b .entry)) (placeOf (contextOf c) theHeld) ⌝ }
 {
     let at = held_at(c.servers as u32, c.quota as u32) as usize;
-    held_fit(b, at, count)
+    let t = masks();
+    held_fit(b, at, count, &t)
 }
 
+// No table is laid out where there are no ids.
 fn yellow_ok(c: Context, b: &[u8], count: usize) -> bool
     requires { ⌜ Buffer c (now b) × (count ≤ c .servers * c .quota) ⌝ }
     ensures { λ r. ⌜ r ≡ idsOk (contextOf c) (idsAt count (now (b .entry)) (placeOf (contextOf c) theYellow)) ⌝ }
 {
+    if count == 0 {
+        return true;
+    }
     let at = yellow_at(c.servers as u32, c.quota as u32) as usize;
     ids_ok(c, b, at, count)
 }
@@ -118,7 +122,8 @@ fn own_ok(c: Context, b: &[u8], count: usize) -> bool
     ensures { λ r. ⌜ r ≡ ownOk (contextOf c) count (now (b .entry)) ⌝ }
 {
     let at = own_at(c.servers as u32, c.quota as u32) as usize;
-    own_fits(c, b, own_cut(c, b) as usize, at, count)
+    let t = masks();
+    own_fits(c, b, own_cut(c, b) as usize, at, count, &t)
 }
 
 fn queue_ok(c: Context, b: &[u8], count: usize) -> bool
@@ -126,10 +131,8 @@ fn queue_ok(c: Context, b: &[u8], count: usize) -> bool
     ensures { λ r. ⌜ r ≡ queueOk (contextOf c) count (now (b .entry)) ⌝ }
 {
     let at = queue_at(c.servers as u32, c.quota as u32) as usize;
-    if !ids_differ(c, b, at, SLOT as usize, count) {
-        return false;
-    }
-    queue_fits(c, b, CUTS as usize, at, count)
+    let t = masks();
+    queue_fits(c, b, CUTS as usize, at, count, &t)
 }
 
 pub fn states_ok(c: Context, set: u8, configuration: u32, b: &[u8]) -> bool

@@ -1,10 +1,11 @@
 // The slots of the state's buffer: what is tested of each entry.
 ghost use mathlib.Core.Path.{_≡_};
-ghost use Prim.Native.Nat.{_+_, _*_, _≤_};
+ghost use Prim.Native.Nat.{_+_, _*_, _-_, _≤_};
 ghost use lib.ListN.{length};
 ghost use Rattle.base.specs.Lists.{everyAt};
+ghost use Rattle.format.specs.Limits.{mostPayload};
 ghost use Rattle.record.specs.Context.{contextOf, ContextIn};
-ghost use Rattle.state_check.specs.Slots.{zeroAt, payloadFits, heldFit, slotFits, notedAt, notedFit};
+ghost use Rattle.state_check.specs.Slots.{Masks, zeroAt, payloadFits, heldFit, slotFits, notedAt, notedFit};
 ghost use Rattle.state_check.specs.Slots.{cutsReach, queueSlotFits, queueFits, ownReach, ownSlotFits, ownFits};
 ghost use Rattle.engine.specs.Layout.{slotSize, heldSize};
 use record::ActionHead;
@@ -13,49 +14,64 @@ use record::State;
 use record::bytes::num8;
 use record::bytes::num16;
 use record::bytes::num32;
+use record::lists::place_at;
 use record::range::length_ok;
 
-// How much of an action's slot its payload has, with its length.
-const PAYLOAD_ROOM: usize = State::SLOT - ActionHead::PAYLOAD;
+// Masks of payloads: as many zeros as a payload may have bytes, then as many ones. From MOST_PAYLOAD - m on they let through what stands
+// behind a payload of m bytes.
+pub const MASKS: usize = 2 * State::MOST_PAYLOAD;
 
-// Whether the `count` bytes from `at` on are zeros.
-fn zeros(b: &[u8], at: usize, count: usize) -> bool
-    requires { ⌜ at + count ≤ length (now b) ⌝ }
-    ensures { λ r. ⌜ r ≡ everyAt (zeroAt (now (b .entry))) 1 count at ⌝ }
+pub fn masks() -> [u8; MASKS]
+    ensures { λ r. ⌜ Masks r ⌝ }
 {
-    let mut here = at;
-    let mut left = count;
-    while 0 < left {
-        if b[here] != 0 {
-            return false;
-        }
-        here += 1;
-        left -= 1;
+    let mut t: [u8; MASKS] = [0; MASKS];
+    let mut j = State::MOST_PAYLOAD;
+    while j < MASKS {
+        t[j] = 255;
+        j += 1;
     }
-    true
+    t
+}
+
+// Whether zeros stand behind a payload of m bytes, which begins at `at`: the OR of all its room under the masks, so that the time does not
+// go by m and the compiler can use wide instructions.
+fn zeros(b: &[u8], at: usize, m: usize, t: &[u8; MASKS]) -> bool
+    requires { ⌜ Masks (now t) × (m ≤ mostPayload) × (at + mostPayload ≤ length (now b)) ⌝ }
+    ensures { λ r. ⌜ r ≡ everyAt (zeroAt (now (b .entry))) 1 (mostPayload - m) (at + m) ⌝ }
+{
+    let from = State::MOST_PAYLOAD - m;
+    let mut all: u8 = 0;
+    let mut j = 0;
+    while j < State::MOST_PAYLOAD {
+        let x = b[at + j];
+        let mask = t[from + j];
+        all = all | (x & mask);
+        j += 1;
+    }
+    all == 0
 }
 
 // A payload of at most 48 bytes, and zeros behind it.
-fn payload_fits(b: &[u8], at: usize, room: usize) -> bool
-    requires { ⌜ (heldSize ≤ room) × (at + room ≤ length (now b)) ⌝ }
-    ensures { λ r. ⌜ r ≡ payloadFits room (now (b .entry)) at ⌝ }
+fn payload_fits(b: &[u8], at: usize, t: &[u8; MASKS]) -> bool
+    requires { ⌜ Masks (now t) × (at + heldSize ≤ length (now b)) ⌝ }
+    ensures { λ r. ⌜ r ≡ payloadFits heldSize (now (b .entry)) at ⌝ }
 {
     let m = num8(b, at) as usize;
     if State::MOST_PAYLOAD < m {
         return false;
     }
-    zeros(b, at + (1 + m), room - (1 + m))
+    zeros(b, at + 1, m, t)
 }
 
 // The held requests.
-pub fn held_fit(b: &[u8], at: usize, count: usize) -> bool
-    requires { ⌜ at + heldSize * count ≤ length (now b) ⌝ }
+pub fn held_fit(b: &[u8], at: usize, count: usize, t: &[u8; MASKS]) -> bool
+    requires { ⌜ Masks (now t) × (at + heldSize * count ≤ length (now b)) ⌝ }
     ensures { λ r. ⌜ r ≡ heldFit count (now (b .entry)) at ⌝ }
 {
     let mut here = at;
     let mut left = count;
     while 0 < left {
-        if !payload_fits(b, here, State::HELD) {
+        if !payload_fits(b, here, t) {
             return false;
         }
         here += State::HELD;
@@ -65,38 +81,55 @@ pub fn held_fit(b: &[u8], at: usize, count: usize) -> bool
 }
 
 // An action's green length and payload.
-fn slot_fits(c: Context, b: &[u8], at: usize) -> bool
-    requires { ⌜ ContextIn c × (at + slotSize ≤ length (now b)) ⌝ }
+fn slot_fits(c: Context, b: &[u8], at: usize, t: &[u8; MASKS]) -> bool
+    requires { ⌜ ContextIn c × Masks (now t) × (at + slotSize ≤ length (now b)) ⌝ }
     ensures { λ r. ⌜ r ≡ slotFits (contextOf c) (now (b .entry)) at ⌝ }
 {
     if !length_ok(c, num32(b, at + ActionHead::GREEN_LENGTH)) {
         return false;
     }
-    payload_fits(b, at + ActionHead::PAYLOAD, PAYLOAD_ROOM)
+    payload_fits(b, at + ActionHead::PAYLOAD, t)
 }
 
 // An action of the queue: the cuts begin at `cuts`.
-fn queue_slot_fits(c: Context, b: &[u8], cuts: usize, at: usize) -> bool
-    requires { ⌜ ContextIn c × (cuts + cutsReach ≤ length (now b)) × (at + slotSize ≤ length (now b)) ⌝ }
+fn queue_slot_fits(c: Context, b: &[u8], cuts: usize, at: usize, t: &[u8; MASKS]) -> bool
+    requires { ⌜ ContextIn c × Masks (now t) × (cuts + cutsReach ≤ length (now b)) × (at + slotSize ≤ length (now b)) ⌝ }
     ensures { λ r. ⌜ r ≡ queueSlotFits (contextOf c) (now (b .entry)) cuts at ⌝ }
 {
     let creator = num8(b, at) as usize;
     if num16(b, cuts + 2 * creator) < num16(b, at + 1) {
         return false;
     }
-    slot_fits(c, b, at)
+    slot_fits(c, b, at, t)
 }
 
-pub fn queue_fits(c: Context, b: &[u8], cuts: usize, at: usize, count: usize) -> bool
-    requires { ⌜ ContextIn c × (cuts + cutsReach ≤ length (now b)) × (at + slotSize * count ≤ length (now b)) ⌝ }
+// The queue, in one pass: the place of each id that it meets is set.
+pub fn queue_fits(
+    c: Context,
+    b: &[u8],
+    cuts: usize,
+    at: usize,
+    count: usize,
+    t: &[u8; MASKS],
+) -> bool
+    requires { ⌜ ContextIn c × Masks (now t) × (cuts + cutsReach ≤ length (now b)) × (at + slotSize * count ≤ length (now b)) ⌝ }
     ensures { λ r. ⌜ r ≡ queueFits (contextOf c) cuts count (now (b .entry)) at ⌝ }
 {
+    let mut met: [u8; State::MOST_IDS] = [0; State::MOST_IDS];
     let mut here = at;
     let mut left = count;
     while 0 < left {
-        if !queue_slot_fits(c, b, cuts, here) {
+        let p = place_at(c, b, here);
+        if State::MOST_IDS <= p {
             return false;
         }
+        if met[p] == 1 {
+            return false;
+        }
+        if !queue_slot_fits(c, b, cuts, here, t) {
+            return false;
+        }
+        met[p] = 1;
         here += State::SLOT;
         left -= 1;
     }
@@ -104,8 +137,8 @@ pub fn queue_fits(c: Context, b: &[u8], cuts: usize, at: usize, count: usize) ->
 }
 
 // An own action of the index k + 1.
-fn own_slot_fits(c: Context, b: &[u8], k: usize, at: usize) -> bool
-    requires { ⌜ ContextIn c × (k ≤ ownReach) × (at + slotSize ≤ length (now b)) ⌝ }
+fn own_slot_fits(c: Context, b: &[u8], k: usize, at: usize, t: &[u8; MASKS]) -> bool
+    requires { ⌜ ContextIn c × Masks (now t) × (k ≤ ownReach) × (at + slotSize ≤ length (now b)) ⌝ }
     ensures { λ r. ⌜ r ≡ ownSlotFits (contextOf c) k (now (b .entry)) at ⌝ }
 {
     if num8(b, at) != c.me {
@@ -114,19 +147,19 @@ fn own_slot_fits(c: Context, b: &[u8], k: usize, at: usize) -> bool
     if num16(b, at + 1) as usize != k + 1 {
         return false;
     }
-    slot_fits(c, b, at)
+    slot_fits(c, b, at, t)
 }
 
 // Own actions of the indexes from k + 1 on.
-pub fn own_fits(c: Context, b: &[u8], k: usize, at: usize, count: usize) -> bool
-    requires { ⌜ ContextIn c × (k + count ≤ ownReach) × (at + slotSize * count ≤ length (now b)) ⌝ }
+pub fn own_fits(c: Context, b: &[u8], k: usize, at: usize, count: usize, t: &[u8; MASKS]) -> bool
+    requires { ⌜ ContextIn c × Masks (now t) × (k + count ≤ ownReach) × (at + slotSize * count ≤ length (now b)) ⌝ }
     ensures { λ r. ⌜ r ≡ ownFits (contextOf c) k count (now (b .entry)) at ⌝ }
 {
     let mut here = at;
     let mut left = count;
     let mut i = k;
     while 0 < left {
-        if !own_slot_fits(c, b, i, here) {
+        if !own_slot_fits(c, b, i, here, t) {
             return false;
         }
         here += State::SLOT;

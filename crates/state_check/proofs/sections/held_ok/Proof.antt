@@ -15,6 +15,9 @@ held-at-requires c κs = search needs
 cast-at : tie.Need-cast-at
 cast-at c = search needs
 
+masks-requires : tie.Need-masks-requires
+masks-requires c κs = search needs
+
 held-fit-requires : tie.Need-held-fit-requires
 held-fit-requires c κs = search (needs, held-inside)
 
@@ -24,4 +27,4 @@ returns c = search (needs, held-told)
 pub held-ok-spec : {M : Type 1} → statement M
 held-ok-spec =
     tie.close
-    (tie.spec cast-held-at cast-held-at-2 held-at-requires cast-at held-fit-requires returns)
+    (tie.spec cast-held-at cast-held-at-2 held-at-requires cast-at masks-requires held-fit-requires returns)

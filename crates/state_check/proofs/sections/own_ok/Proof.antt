@@ -15,6 +15,9 @@ own-at-requires c κs = search needs
 cast-at : tie.Need-cast-at
 cast-at c = search needs
 
+masks-requires : tie.Need-masks-requires
+masks-requires c κs = search needs
+
 own-cut-requires : tie.Need-own-cut-requires
 own-cut-requires c κs = search needs
 
@@ -35,6 +38,7 @@ own-ok-spec =
     cast-own-at-2
     own-at-requires
     cast-at
+    masks-requires
     own-cut-requires
     cast-own-fits
     own-fits-requires

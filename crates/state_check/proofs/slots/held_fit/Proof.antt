@@ -11,17 +11,17 @@ use Rattle.state_check.proofs.slots.held_fit.Tie as tie
 use Rattle.engine.specs.Layout.{heldSize}
 
 abbrev Inv-loop : tie.InvT-loop
-Inv-loop b at count here₀ left₀ here left = (here + heldSize * left ≤ length b) × (heldFit count b at ≡ everyAt (payloadFits heldSize b) heldSize left here)
+Inv-loop b at count t here₀ left₀ here left = (here + heldSize * left ≤ length b) × (heldFit count b at ≡ everyAt (payloadFits heldSize b) heldSize left here)
 
 abbrev μ-loop : tie.MeasureT-loop
-μ-loop b at count here₀ left₀ here left = left
+μ-loop b at count t here₀ left₀ here left = left
 
 loop-holds : tie.Need-loop-holds Inv-loop μ-loop
 unfolding heldFit
 loop-holds c = search needs
 
 payload-fits-requires : tie.Need-payload-fits-requires Inv-loop μ-loop
-payload-fits-requires c κs = omega arith
+payload-fits-requires c κs = search needs
 
 returns : tie.Need-returns Inv-loop μ-loop
 returns c = search (needs, every-denied)

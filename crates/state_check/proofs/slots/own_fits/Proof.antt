@@ -11,10 +11,10 @@ use Rattle.state_check.proofs.slots.own_fits.Tie as tie
 use Rattle.engine.specs.Layout.{slotSize}
 
 abbrev Inv-loop : tie.InvT-loop
-Inv-loop c b k at count here₀ left₀ i₀ here left i = (here + slotSize * left ≤ length b) × (i + left ≤ ownReach) × (ownFits (contextOf c) k count b at ≡ ownFits (contextOf c) i left b here)
+Inv-loop c b k at count t here₀ left₀ i₀ here left i = (here + slotSize * left ≤ length b) × (i + left ≤ ownReach) × (ownFits (contextOf c) k count b at ≡ ownFits (contextOf c) i left b here)
 
 abbrev μ-loop : tie.MeasureT-loop
-μ-loop c b k at count here₀ left₀ i₀ here left i = left
+μ-loop c b k at count t here₀ left₀ i₀ here left i = left
 
 loop-holds : tie.Need-loop-holds Inv-loop μ-loop
 loop-holds c = search needs

@@ -15,15 +15,6 @@ returns c = search (needs, payload-denied)
 add-zeros : tie.Need-add-zeros
 add-zeros c = search needs
 
-add-zeros-2 : tie.Need-add-zeros-2
-add-zeros-2 c = search needs
-
-add-zeros-3 : tie.Need-add-zeros-3
-add-zeros-3 c = search needs
-
-sub-zeros : tie.Need-sub-zeros
-sub-zeros c = search needs
-
 zeros-requires : tie.Need-zeros-requires
 zeros-requires c κs = search needs
 
@@ -33,4 +24,4 @@ returns-2 c = search (needs, payload-answered)
 pub payload-fits-spec : {M : Type 1} → statement M
 payload-fits-spec =
     tie.close
-    (tie.spec num8-requires cast-m returns add-zeros add-zeros-2 add-zeros-3 sub-zeros zeros-requires returns-2)
+    (tie.spec num8-requires cast-m returns add-zeros zeros-requires returns-2)

@@ -1,44 +1,49 @@
-use Prim.Native.Nat.{_+_, _≤_}
+use Prim.Native.Nat.{_+_, _-_}
 use mathlib.Core.Path.{_≡_}
 use native.Mathlib.Omega.{arith}
-use lib.ListN.{length}
 use borrow.Author.Needs.{needs}
 use Rattle.base.specs.Lists.{everyAt}
-use Rattle.base.proofs.Entries.{every-end}
+use Rattle.format.specs.Limits.{mostPayload}
 use Rattle.state_check.specs.Slots.{zeroAt}
-use Rattle.state_check.proofs.SlotCode.{zeros-again, zeros-denied}
+use Rattle.state_check.proofs.Gathered.{unread, gather-start, gather-again, gather-end}
 use Rattle.state_check.proofs.slots.zeros.Statement.{statement}
 use Rattle.state_check.proofs.slots.zeros.Tie as tie
 
 abbrev Inv-loop : tie.InvT-loop
-Inv-loop b at count here₀ left₀ here left = (here + left ≤ length b) × (everyAt (zeroAt b) 1 count at ≡ everyAt (zeroAt b) 1 left here)
+Inv-loop b at m t from all₀ j₀ all j = (everyAt (zeroAt b) 1 (mostPayload - m) (at + m) ≡ unread b at m all j)
 
 abbrev μ-loop : tie.MeasureT-loop
-μ-loop b at count here₀ left₀ here left = left
+μ-loop b at m t from all₀ j₀ all j = mostPayload - j
+
+sub-from : tie.Need-sub-from Inv-loop μ-loop
+sub-from c = search needs
 
 loop-holds : tie.Need-loop-holds Inv-loop μ-loop
-loop-holds c = search needs
+loop-holds c = search (needs, gather-start)
 
-shared-slice-read-if1 : tie.Need-shared-slice-read-if1 Inv-loop μ-loop
-shared-slice-read-if1 c = omega arith
+add-x : tie.Need-add-x Inv-loop μ-loop
+add-x c = omega arith
 
-returns : tie.Need-returns Inv-loop μ-loop
-returns c = search (needs, zeros-denied)
+shared-slice-read-x : tie.Need-shared-slice-read-x Inv-loop μ-loop
+shared-slice-read-x c = omega arith
 
-add-here : tie.Need-add-here Inv-loop μ-loop
-add-here c = omega arith
+add-mask : tie.Need-add-mask Inv-loop μ-loop
+add-mask c = omega arith
 
-sub-left : tie.Need-sub-left Inv-loop μ-loop
-sub-left c = omega arith
+element-copy-out-mask : tie.Need-element-copy-out-mask Inv-loop μ-loop
+element-copy-out-mask c = omega arith
+
+add-j : tie.Need-add-j Inv-loop μ-loop
+add-j c = omega arith
 
 loop-less : tie.Need-loop-less Inv-loop μ-loop
 loop-less c = omega arith
 
 loop-again : tie.Need-loop-again Inv-loop μ-loop
-loop-again c = search (needs, zeros-again)
+loop-again c = search (needs, gather-again)
 
-returns-2 : tie.Need-returns-2 Inv-loop μ-loop
-returns-2 c = search (needs, every-end)
+returns : tie.Need-returns Inv-loop μ-loop
+returns c = search (needs, gather-end)
 
 pub zeros-spec : {M : Type 1} → statement M
 zeros-spec =
@@ -46,11 +51,13 @@ zeros-spec =
     (tie.spec
     Inv-loop
     μ-loop
+    sub-from
     loop-holds
-    shared-slice-read-if1
-    returns
-    add-here
-    sub-left
+    add-x
+    shared-slice-read-x
+    add-mask
+    element-copy-out-mask
+    add-j
     loop-less
     loop-again
-    returns-2)
+    returns)
