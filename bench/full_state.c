@@ -33,8 +33,8 @@ static void put_ids(uint8_t *b, size_t n, size_t q) {
 /* The State of a server in the configuration 1: full cuts, but that server 0 misses the last action of server 1. */
 static void put_state(uint8_t *b, size_t n, size_t q, size_t sender) {
     put(b + FRAME_LENGTH, 2, (uint32_t)(state_slot(n, q) - FRAME_VERSION));
-    b[FRAME_VERSION] = RECORD_VERSION;
-    b[FRAME_KIND] = KIND_STATE;
+    b[FRAME_VERSION] = GUZBYTOR_VERSION;
+    b[FRAME_KIND] = GUZBYTOR_KIND_STATE;
     b[STATE_SENDER] = (uint8_t)sender;
     put(b + STATE_ID, 4, 1);
     for (size_t c = 0; c < n; c++) {
@@ -49,7 +49,7 @@ static void put_state(uint8_t *b, size_t n, size_t q, size_t sender) {
 }
 
 full_state make_full_state(size_t n, size_t q, fullness what) {
-    size_t held = what != FULL_LISTS ? 0 : q > MOST_HELD ? MOST_HELD : q / 2;
+    size_t held = what != FULL_LISTS ? 0 : q > GUZBYTOR_MOST_HELD ? GUZBYTOR_MOST_HELD : q / 2;
     size_t own = what == FULL_QUEUE ? 0 : q - held;
     size_t cut = q - held - own; /* of the server itself, number 0 */
     size_t actions = (n - 1) * q + cut;
@@ -62,7 +62,7 @@ full_state make_full_state(size_t n, size_t q, fullness what) {
     b[AT_LAYOUT] = IMAGE_LAYOUT;
     b[AT_SERVERS] = (uint8_t)n;
     put(b + AT_QUOTA, 2, (uint32_t)q);
-    b[AT_STATE] = MODE_EXCHANGE_ACTIONS;
+    b[AT_STATE] = GUZBYTOR_EXCHANGE_ACTIONS;
     b[AT_CONFIGURATION_STATUS] = 1;
     put(b + AT_CONFIGURATION_ID, 4, 1);
     b[AT_CONFIGURATION_SET] = all;

@@ -39,7 +39,7 @@ static inline size_t noted_at(size_t n) { return cuts_at() + CUT_SIZE * n; }
 
 static inline size_t held_at(size_t n) { return noted_at(n) + NOTED_SIZE * n; }
 
-static inline size_t states_at(size_t n) { return held_at(n) + HELD_SIZE * MOST_HELD; }
+static inline size_t states_at(size_t n) { return held_at(n) + HELD_SIZE * GUZBYTOR_MOST_HELD; }
 
 static inline size_t yellow_at(size_t n, size_t q) { return states_at(n) + n * state_slot(n, q); }
 

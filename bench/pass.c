@@ -39,7 +39,7 @@ static full_state made(size_t n, size_t q, size_t kind) {
     size_t cut = KINDS[kind].parts == 0 ? 0 : q / KINDS[kind].parts, actions = n * cut;
     uint8_t *b = s.bytes;
     if (!KINDS[kind].states) {
-        b[AT_STATE] = MODE_REG_PRIM;
+        b[AT_STATE] = GUZBYTOR_REG_PRIM;
         b[AT_STATES] = 0;
     }
     if (!KINDS[kind].ids) {
@@ -56,9 +56,9 @@ static full_state made(size_t n, size_t q, size_t kind) {
     for (size_t k = 0; k < actions; k++) {
         uint8_t *slot = b + queue_at(n, q) + SLOT_SIZE * k;
         random = random * 1664525u + 1013904223u;
-        size_t m = KINDS[kind].payload == MIXED ? (random >> 16) % (MOST_PAYLOAD + 1) : KINDS[kind].payload;
+        size_t m = KINDS[kind].payload == MIXED ? (random >> 16) % (GUZBYTOR_MOST_PAYLOAD + 1) : KINDS[kind].payload;
         slot[ACTION_PAYLOAD] = (uint8_t)m;
-        memset(slot + ACTION_SIZE, 0, MOST_PAYLOAD);
+        memset(slot + ACTION_SIZE, 0, GUZBYTOR_MOST_PAYLOAD);
         memset(slot + ACTION_SIZE, 7, m);
     }
     s.used = held_at(n) + SLOT_SIZE * actions + (KINDS[kind].ids ? ID_SIZE * n * q : 0) + (KINDS[kind].states ? n * state_slot(n, q) : 0);
@@ -91,7 +91,7 @@ static double timed_pass(const full_state *s, size_t calls) {
 int main(void) {
     static double check[KIND_COUNT][SIZE_COUNT], pass[KIND_COUNT][SIZE_COUNT];
     static full_state states[KIND_COUNT][SIZE_COUNT];
-    uint8_t *out = calloc(1, out_length(MOST_SERVERS, MOST_QUOTA));
+    uint8_t *out = calloc(1, out_length(GUZBYTOR_MOST_SERVERS, GUZBYTOR_MOST_QUOTA));
     if (out == NULL) {
         return 1;
     }

@@ -26,14 +26,14 @@ static bool mark_ok(view s, const uint8_t *b) {
 
 /* Ids, one at the front of each of `count` entries: in range, and none of them twice. */
 static bool ids_ok(view s, const uint8_t *b, size_t count, size_t step) {
-    uint8_t met[MOST_SERVERS * MOST_QUOTA];
+    uint8_t met[GUZBYTOR_MOST_SERVERS * GUZBYTOR_MOST_QUOTA];
     memset(met, 0, sizeof met);
     for (size_t k = 0; k < count; k++, b += step) {
         size_t creator = b[ACTION_CREATOR], index = num16(b + ACTION_INDEX);
         if (creator >= s.n || index < 1 || index > s.q) {
             return false;
         }
-        uint8_t *m = &met[creator * MOST_QUOTA + index - 1];
+        uint8_t *m = &met[creator * GUZBYTOR_MOST_QUOTA + index - 1];
         if (*m) {
             return false;
         }
@@ -43,10 +43,10 @@ static bool ids_ok(view s, const uint8_t *b, size_t count, size_t step) {
 }
 
 static bool payload_ok(const uint8_t *b) {
-    if (b[0] > MOST_PAYLOAD) {
+    if (b[0] > GUZBYTOR_MOST_PAYLOAD) {
         return false;
     }
-    for (size_t i = 1 + (size_t)b[0]; i <= MOST_PAYLOAD; i++) {
+    for (size_t i = 1 + (size_t)b[0]; i <= GUZBYTOR_MOST_PAYLOAD; i++) {
         if (b[i] != 0) {
             return false;
         }
@@ -77,13 +77,13 @@ static bool numbers_ok(view s) {
     const uint8_t *b = s.b;
     size_t all = s.n * s.q;
     uint32_t queue = num32(b + AT_QUEUE_COUNT), held = num16(b + AT_HELD_COUNT);
-    if (b[AT_ME] >= s.n || b[AT_STATE] > MODE_UN || !configurations_ok(s)) {
+    if (b[AT_ME] >= s.n || b[AT_STATE] > GUZBYTOR_UN || !configurations_ok(s)) {
         return false;
     }
     if ((b[AT_STATES] & ~b[AT_CONFIGURATION_SET]) != 0 || !set_ok(s, b[AT_CPCS]) || num32(b + AT_COME) > 2 * all) {
         return false;
     }
-    if (queue > all || num32(b + AT_GREEN) > queue || num16(b + AT_OWN_COUNT) > s.q || held > MOST_HELD) {
+    if (queue > all || num32(b + AT_GREEN) > queue || num16(b + AT_OWN_COUNT) > s.q || held > GUZBYTOR_MOST_HELD) {
         return false;
     }
     if (num16(b + AT_NUMBERED) + held > s.q || num32(b + AT_ATTEMPT) > MOST_INDEX || !primary_ok(s, b + AT_LAST_INDEX)) {
@@ -144,7 +144,7 @@ static bool queue_ok(view s) {
 static bool state_ok(view s, const uint8_t *b, size_t sender) {
     const uint8_t *rest = b + rest_at(s.n);
     size_t count = num16(rest + REST_YELLOW_COUNT), length = ids_at(s.n) - FRAME_VERSION + ID_SIZE * count;
-    if (count > s.n * s.q || num16(b + FRAME_LENGTH) != length || b[FRAME_VERSION] != RECORD_VERSION || b[FRAME_KIND] != KIND_STATE) {
+    if (count > s.n * s.q || num16(b + FRAME_LENGTH) != length || b[FRAME_VERSION] != GUZBYTOR_VERSION || b[FRAME_KIND] != GUZBYTOR_KIND_STATE) {
         return false;
     }
     if (b[STATE_SENDER] != sender || num32(b + STATE_ID) != num32(s.b + AT_CONFIGURATION_ID)) {
@@ -187,20 +187,20 @@ static uint64_t spread(view s, size_t place, size_t width) {
 
 static bool mode_ok(view s) {
     unsigned mode = s.b[AT_STATE];
-    if (mode == MODE_NON_PRIM) {
+    if (mode == GUZBYTOR_NON_PRIM) {
         return true;
     }
     if (s.b[AT_CONFIGURATION_STATUS] != 1) {
         return false;
     }
-    if (mode == MODE_EXCHANGE_ACTIONS) {
+    if (mode == GUZBYTOR_EXCHANGE_ACTIONS) {
         uint64_t planned = spread(s, rest_at(s.n) + REST_GREEN, 4);
         for (size_t c = 0; c < s.n; c++) {
             planned += spread(s, STATE_CUTS + CUT_SIZE * c, CUT_SIZE);
         }
         return (s.b[AT_CONFIGURATION_SET] & ~s.b[AT_STATES]) == 0 && num32(s.b + AT_COME) < planned;
     }
-    return mode < MODE_EXCHANGE_ACTIONS || num32(s.b + AT_LAST_INDEX) < MOST_INDEX;
+    return mode < GUZBYTOR_EXCHANGE_ACTIONS || num32(s.b + AT_LAST_INDEX) < MOST_INDEX;
 }
 
 uint32_t plain_state_check(const uint8_t *state, size_t state_size, const uint8_t *out, size_t out_size) {
@@ -209,8 +209,8 @@ uint32_t plain_state_check(const uint8_t *state, size_t state_size, const uint8_
         return 7;
     }
     view s = {state, state[AT_SERVERS], num16(state + AT_QUOTA)};
-    bool sizes = FEWEST_SERVERS <= s.n && s.n <= MOST_SERVERS && LEAST_QUOTA <= s.q && s.q <= MOST_QUOTA;
-    size_t n = sizes ? s.n : FEWEST_SERVERS, q = sizes ? s.q : LEAST_QUOTA;
+    bool sizes = GUZBYTOR_FEWEST_SERVERS <= s.n && s.n <= GUZBYTOR_MOST_SERVERS && GUZBYTOR_LEAST_QUOTA <= s.q && s.q <= GUZBYTOR_MOST_QUOTA;
+    size_t n = sizes ? s.n : GUZBYTOR_FEWEST_SERVERS, q = sizes ? s.q : GUZBYTOR_LEAST_QUOTA;
     if (state_size < state_length(n, q) || out_size < out_length(n, q)) {
         return 7;
     }

@@ -59,7 +59,7 @@ static void agree(const full_state *s, const uint8_t *out) {
 int main(void) {
     static double rattle[2][COUNT], plain[2][COUNT];
     static full_state states[2][COUNT];
-    uint8_t *out = calloc(1, out_length(MOST_SERVERS, MOST_QUOTA));
+    uint8_t *out = calloc(1, out_length(GUZBYTOR_MOST_SERVERS, GUZBYTOR_MOST_QUOTA));
     if (out == NULL) {
         return 1;
     }

@@ -58,16 +58,16 @@ static trial begun(full_state s, uint8_t kind, size_t body, uint8_t mode_after, 
     size_t length = FRAME_SIZE + body;
     trial t = {s, in_memory(length), length, mode_after, sent_after};
     put(t.event + FRAME_LENGTH, 2, (uint32_t)(length - FRAME_VERSION));
-    t.event[FRAME_VERSION] = RECORD_VERSION;
+    t.event[FRAME_VERSION] = GUZBYTOR_VERSION;
     t.event[FRAME_KIND] = kind;
     return t;
 }
 
 /* The last action of all comes in Reg_prim: it goes below n q - 1 red ones. */
 static trial green(size_t n, size_t q) {
-    trial t = begun(make_full_state(n, q, FULL_QUEUE), KIND_ACTION, ACTION, MODE_REG_PRIM, 0);
+    trial t = begun(make_full_state(n, q, FULL_QUEUE), GUZBYTOR_KIND_ACTION, ACTION, GUZBYTOR_REG_PRIM, 0);
     uint8_t *b = t.state.bytes;
-    b[AT_STATE] = MODE_REG_PRIM;
+    b[AT_STATE] = GUZBYTOR_REG_PRIM;
     put(b + AT_QUEUE_COUNT, 4, (uint32_t)(n * q - 1));
     put(b + AT_GREEN, 4, 0);
     put(b + cuts_at() + CUT_SIZE * (n - 1), CUT_SIZE, (uint32_t)(q - 1));
@@ -77,9 +77,9 @@ static trial green(size_t n, size_t q) {
 
 /* The last CPC comes: half of n q red actions are on the yellow list. */
 static trial install(size_t n, size_t q) {
-    trial t = begun(make_full_state(n, q, FULL_QUEUE), KIND_CPC, CPC_BODY, MODE_REG_PRIM, 0);
+    trial t = begun(make_full_state(n, q, FULL_QUEUE), GUZBYTOR_KIND_CPC, CPC_BODY, GUZBYTOR_REG_PRIM, 0);
     uint8_t *b = t.state.bytes;
-    b[AT_STATE] = MODE_CONSTRUCT;
+    b[AT_STATE] = GUZBYTOR_CONSTRUCT;
     b[AT_CPCS] = everyone(n - 1);
     put(b + AT_GREEN, 4, 0);
     put(b + AT_ATTEMPT, 4, 1);
@@ -94,10 +94,10 @@ static trial install(size_t n, size_t q) {
 
 /* The last State comes, of a server that has nothing: n q actions are resent by position, and again as red. */
 static trial resend(size_t n, size_t q) {
-    trial t = begun(make_full_state(n, q, FULL_QUEUE), KIND_STATE, state_slot(n, q) - FRAME_SIZE, MODE_EXCHANGE_ACTIONS,
+    trial t = begun(make_full_state(n, q, FULL_QUEUE), GUZBYTOR_KIND_STATE, state_slot(n, q) - FRAME_SIZE, GUZBYTOR_EXCHANGE_ACTIONS,
                     2 * n * q * (FRAME_SIZE + RETRANSMISSION_SIZE + ACTION));
     uint8_t *b = t.state.bytes;
-    b[AT_STATE] = MODE_EXCHANGE_STATES;
+    b[AT_STATE] = GUZBYTOR_EXCHANGE_STATES;
     b[AT_STATES] = everyone(n - 1);
     put(b + AT_GREEN, 4, (uint32_t)(n * q));
     uint8_t *states = b + states_at(n);
@@ -112,7 +112,7 @@ static trial resend(size_t n, size_t q) {
 
 /* The last retransmission comes: the exchange ends, with n yellow lists of n q ids, all but the first one backwards. */
 static trial end(size_t n, size_t q) {
-    trial t = begun(make_full_state(n, q, FULL_QUEUE), KIND_RETRANSMISSION, RETRANSMISSION_SIZE + ACTION, MODE_CONSTRUCT, FRAME_SIZE + CPC_BODY);
+    trial t = begun(make_full_state(n, q, FULL_QUEUE), GUZBYTOR_KIND_RETRANSMISSION, RETRANSMISSION_SIZE + ACTION, GUZBYTOR_CONSTRUCT, FRAME_SIZE + CPC_BODY);
     put_action(t.event + FRAME_SIZE + RETRANSMISSION_SIZE, 1, q);
     for (size_t k = 1; k < n; k++) {
         uint8_t *ids = t.state.bytes + states_at(n) + k * state_slot(n, q) + ids_at(n);
@@ -125,9 +125,9 @@ static trial end(size_t n, size_t q) {
 
 /* A regular configuration comes in Trans_prim: a State with n q yellow ids is sent. */
 static trial join(size_t n, size_t q) {
-    trial t = begun(make_full_state(n, q, FULL_QUEUE), KIND_REGULAR, REGULAR_BODY, MODE_EXCHANGE_STATES, state_slot(n, q));
+    trial t = begun(make_full_state(n, q, FULL_QUEUE), GUZBYTOR_KIND_REGULAR, REGULAR_BODY, GUZBYTOR_EXCHANGE_STATES, state_slot(n, q));
     uint8_t *b = t.state.bytes;
-    b[AT_STATE] = MODE_TRANS_PRIM;
+    b[AT_STATE] = GUZBYTOR_TRANS_PRIM;
     b[AT_TRANSITIONAL_STATUS] = 1;
     b[AT_TRANSITIONAL_SET] = everyone(n);
     put(t.event + FRAME_SIZE, 4, 2);
@@ -137,8 +137,8 @@ static trial join(size_t n, size_t q) {
 
 /* Recovery with q actions on the own list. */
 static trial recover(size_t n, size_t q) {
-    trial t = begun(make_full_state(n, q, FULL_OWN), KIND_RECOVERY, 0, MODE_NON_PRIM, 0);
-    t.state.bytes[AT_STATE] = MODE_NON_PRIM;
+    trial t = begun(make_full_state(n, q, FULL_OWN), GUZBYTOR_KIND_RECOVERY, 0, GUZBYTOR_NON_PRIM, 0);
+    t.state.bytes[AT_STATE] = GUZBYTOR_NON_PRIM;
     return t;
 }
 
@@ -199,7 +199,7 @@ static void keep_best(double *best, double now) {
 int main(void) {
     static trial trials[EVENT_COUNT][SIZE_COUNT];
     static double both[EVENT_COUNT][SIZE_COUNT], layout[EVENT_COUNT][SIZE_COUNT], copy[EVENT_COUNT][SIZE_COUNT], first[EVENT_COUNT];
-    uint8_t *state = in_memory(state_length(MOST_SERVERS, MOST_QUOTA)), *out = in_memory(out_length(MOST_SERVERS, MOST_QUOTA));
+    uint8_t *state = in_memory(state_length(GUZBYTOR_MOST_SERVERS, GUZBYTOR_MOST_QUOTA)), *out = in_memory(out_length(GUZBYTOR_MOST_SERVERS, GUZBYTOR_MOST_QUOTA));
     for (int e = 0; e < EVENT_COUNT; e++) {
         for (int i = 0; i < SIZE_COUNT; i++) {
             trials[e][i] = EVENTS[e].make(SIZES[i].n, SIZES[i].q);

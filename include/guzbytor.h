@@ -1,5 +1,12 @@
-/* The engine's exported functions. A buffer is a pointer and its length in bytes. A daemon links target/staticlib/libengine.a (lengths and start) and
-   libstep.a (the step), and libburst.a where it takes many events at once; README.md, 'Call it from C', says what it does with them. */
+/* The engine for C: one server's part of the replication of a register. Link libguzbytor.a (scripts/dist.sh makes it, with this header); README.md,
+   'Call it from C', says what a daemon does with it, docs/RECORDS.md what the bytes of events and records are.
+
+   - A buffer is a pointer and its length in bytes. It needs no alignment. One of length 0 may be NULL. A longer one than asked for is allowed: what
+     lies behind the length that is asked for is neither read nor written.
+   - The buffers of one call may not overlap.
+   - There is no state but in the buffers: calls over different buffers may run at the same time in different threads; two calls over one buffer may not,
+     unless both only read it.
+   - No function allocates, blocks, calls back or fails but by the number that it returns. The stack that a call needs is at most GUZBYTOR_STACK bytes. */
 #ifndef GUZBYTOR_H
 #define GUZBYTOR_H
 
@@ -10,8 +17,66 @@
 extern "C" {
 #endif
 
-/* number 0 with the required lengths of the state's and the outgoing buffer, or number 2 with zeros where servers (2 to 8) or quota
-   (1 to 256) is out of range. */
+/* Returned numbers. A refused event, state or buffer leaves everything that was lent as it was. What a daemon does: */
+enum {
+    GUZBYTOR_TAKEN = 0,         /* store if the store word is 1, and wait for it; then send the records, in order, before the next event */
+    GUZBYTOR_BAD_RECORD = 1,    /* bad length, version or kind: pass over the event and log it; the group layer brought what no engine wrote */
+    GUZBYTOR_OUT_OF_RANGE = 2,  /* a number, set or list is out of range: as 1; of a start, a reading or lengths: the caller's own numbers are wrong */
+    GUZBYTOR_QUOTA_USED = 3,    /* a request, and this server's quota is used: tell the crew; no later request will be taken */
+    GUZBYTOR_HOLDS_FULL = 4,    /* a request that would be held, and 16 are: tell the crew to ask again later */
+    GUZBYTOR_NOT_NOW = 5,       /* an event that cannot come in this state: a duty of the group layer was broken (docs/GROUP-LAYER.md); log it */
+    GUZBYTOR_NOT_FROM_HERE = 6, /* a sender outside the configuration, another configuration's id, or a second State or CPC: as 5 */
+    GUZBYTOR_SHORT_BUFFER = 7,  /* a buffer is shorter than guzbytor_lengths asks for: a mistake of the daemon's */
+    GUZBYTOR_BAD_STATE = 8      /* the state's buffer holds no state of this layout: it was damaged, or another engine stored it; stop this server */
+};
+
+/* Written by scripts/generate.py from here .. */
+
+/* The eight states of a server. */
+enum {
+    GUZBYTOR_NON_PRIM = 0,
+    GUZBYTOR_REG_PRIM = 1,
+    GUZBYTOR_TRANS_PRIM = 2,
+    GUZBYTOR_EXCHANGE_STATES = 3,
+    GUZBYTOR_EXCHANGE_ACTIONS = 4,
+    GUZBYTOR_CONSTRUCT = 5,
+    GUZBYTOR_NO = 6,
+    GUZBYTOR_UN = 7
+};
+
+/* The version of records, and their kinds. */
+enum {
+    GUZBYTOR_VERSION = 1,
+    GUZBYTOR_KIND_ACTION = 1,
+    GUZBYTOR_KIND_RETRANSMISSION = 2,
+    GUZBYTOR_KIND_STATE = 3,
+    GUZBYTOR_KIND_CPC = 4,
+    GUZBYTOR_KIND_REGULAR = 5,
+    GUZBYTOR_KIND_TRANSITIONAL = 6,
+    GUZBYTOR_KIND_REQUEST = 7,
+    GUZBYTOR_KIND_RECOVERY = 8,
+    GUZBYTOR_KIND_SETUP = 9
+};
+
+/* Limits. */
+enum {
+    GUZBYTOR_FEWEST_SERVERS = 2,
+    GUZBYTOR_MOST_SERVERS = 8,
+    GUZBYTOR_LEAST_QUOTA = 1,
+    GUZBYTOR_MOST_QUOTA = 256,
+    GUZBYTOR_MOST_PAYLOAD = 48,
+    GUZBYTOR_MOST_HELD = 16
+};
+
+/* The longest green entry that a reading puts. */
+enum {
+    GUZBYTOR_MOST_ENTRY = 52
+};
+
+/* .. to here. */
+
+/* What guzbytor_lengths answers: GUZBYTOR_TAKEN and the required lengths of the state's and the outgoing buffer, or GUZBYTOR_OUT_OF_RANGE and zeros where
+   servers or quota is out of range. */
 typedef struct {
     uint32_t number;
     uint32_t state;
@@ -20,13 +85,8 @@ typedef struct {
 
 guzbytor_lengths_answer guzbytor_lengths(uint32_t servers, uint32_t quota);
 
-/* Makes the start of server `me` in its buffer and returns 0; returns 7 where the buffer is too short and 2 where a number is out of
-   range, and leaves the buffer as it was. */
+/* Makes the start of server `me` in its buffer and returns 0; returns 7 where the buffer is too short and 2 where a number is out of range. */
 uint32_t guzbytor_start(uint8_t *state, size_t state_length, uint32_t servers, uint32_t quota, uint32_t me);
-
-/* Whether a step can begin: 7 where a buffer is too short, 8 where the state's buffer holds no well-formed state, as one stored by an engine
-   of another layout (docs/LAYOUT.md), and else 0. It changes neither buffer, and guzbytor_step does it by itself. (libstate_check.a) */
-uint32_t guzbytor_state_check(const uint8_t *state, size_t state_length, const uint8_t *out, size_t out_length);
 
 /* The number returned, the store word (1: store the state before anything is sent), and how many bytes of records the outgoing buffer
    begins with. */
@@ -36,8 +96,8 @@ typedef struct {
     uint32_t sent;
 } guzbytor_step_answer;
 
-/* One event at one server: number 0 with the new state and the records put out, or the number that the event or the buffers are refused with,
-   and then both buffers are as they were. A recovery is given the image stored last. The three buffers may not overlap. */
+/* One event at one server: number 0 with the new state and the records put out, or the number that the event or the buffers are refused with.
+   A recovery is given the image stored last. */
 guzbytor_step_answer guzbytor_step(uint8_t *state, size_t state_length, const uint8_t *event, size_t event_length, uint8_t *out, size_t out_length);
 
 /* The number of the event that a burst stopped at (0: none was refused); of the last event taken the store word, and how many bytes of records the
@@ -58,9 +118,54 @@ typedef struct {
    - number 0, both 0, and bytes left: an event that is cut short, which waits for its rest, or a recovery, which is given the image stored last and
      stands first in a burst or goes to the step.
    - another number: the next event was refused with it and is not taken; all before it stay taken. Pass over it by its length bytes; one that is cut
-     short gets 1 where it stands first. 7 and 8 refuse the buffers, before any event and for no events too.
-   The three buffers may not overlap. */
+     short gets 1 where it stands first. 7 and 8 refuse the buffers, before any event and for no events too. */
 guzbytor_burst_answer guzbytor_burst(uint8_t *state, size_t state_length, const uint8_t *events, size_t events_length, uint8_t *out, size_t out_length);
+
+/* Whether a step can begin: 7 where a buffer is too short, 8 where the state's buffer holds no well-formed state, as one stored by an engine
+   of another layout (docs/LAYOUT.md), and else 0. It changes neither buffer, and every other function does it by itself. */
+uint32_t guzbytor_state_check(const uint8_t *state, size_t state_length, const uint8_t *out, size_t out_length);
+
+/* The state at a glance. Sets are bytes: bit k is server k. */
+typedef struct {
+    uint32_t number;  /* 0; or 7 or 8, and then all else is 0 */
+    uint32_t servers, quota, me;
+    uint32_t state;                               /* GUZBYTOR_NON_PRIM to GUZBYTOR_UN */
+    uint32_t configured;                          /* 1: a regular configuration has come since start or recovery .. */
+    uint32_t configuration_id, configuration_set; /* .. this one; else 0 */
+    uint32_t transitional;                        /* 1: a transitional one has come since then .. */
+    uint32_t transitional_set;                    /* .. of these; else 0 */
+    uint32_t green;                               /* entries that have their lasting place */
+    uint32_t red;                                 /* entries that are known here and have none yet */
+    uint32_t numbered;                            /* own requests that have got an index, of `quota` */
+    uint32_t waiting;                             /* of these, stored and sent, but not yet come back */
+    uint32_t held;                                /* requests taken, kept in memory until they can be sent */
+    uint32_t primary_index, primary_attempt, primary_set; /* the last primary component known here */
+    uint32_t attempt;
+    uint32_t marked;                              /* 1: marked by an attempt at a primary component whose end is not known here */
+} guzbytor_summary_answer;
+
+guzbytor_summary_answer guzbytor_summary(const uint8_t *state, size_t state_length);
+
+/* Number 0; how many entries are green in all; how many of them were put, and in how many bytes. Or 7, 8 or 2, in this order, and zeros: a buffer is too
+   short, the state's buffer holds no well-formed state, `from` exceeds the green length. */
+typedef struct {
+    uint32_t number;
+    uint32_t green;
+    uint32_t entries;
+    uint32_t bytes;
+} guzbytor_green_entries_answer;
+
+/* The green entries behind the first `from`, in their order, one behind another into `entries`, as many as fit whole. An entry is creator (1 byte), index
+   (2, the high byte first), payload length (1) and payload: GUZBYTOR_MOST_ENTRY bytes at most, and a shorter buffer gets 7. So at least one is put where
+   `from` is below the green length; read on from `from` + `entries`. The state is checked once in a call, however many entries are put: lend room for
+   what is wanted at once.
+   What an event turned green: note the green length before it (that of the last summary or reading); the entries behind it are those, in their order. */
+guzbytor_green_entries_answer guzbytor_green_entries(const uint8_t *state, size_t state_length, uint32_t from, uint8_t *entries, size_t entries_length);
+
+/* What green is worth. A red entry is known. A green one keeps its place while one server that has it green stays up or has it green in its store. So what
+   is green in a stored image keeps its place whatever happens, and whoever answers a crew on green, or prints a deed, stores the state first. A daemon may
+   store after any event, whatever the store word says. Green entries that no store has may come back in another order where all servers that have them green
+   lose power. */
 
 #ifdef __cplusplus
 }

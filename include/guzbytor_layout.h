@@ -3,29 +3,7 @@
 #ifndef GUZBYTOR_LAYOUT_H
 #define GUZBYTOR_LAYOUT_H
 
-#include <stdint.h>
-
-/* The states' numbers. */
-enum {
-    MODE_NON_PRIM = 0,
-    MODE_REG_PRIM = 1,
-    MODE_TRANS_PRIM = 2,
-    MODE_EXCHANGE_STATES = 3,
-    MODE_EXCHANGE_ACTIONS = 4,
-    MODE_CONSTRUCT = 5,
-    MODE_NO = 6,
-    MODE_UN = 7
-};
-
-/* Limits. */
-enum {
-    FEWEST_SERVERS = 2,
-    MOST_SERVERS = 8,
-    LEAST_QUOTA = 1,
-    MOST_QUOTA = 256,
-    MOST_PAYLOAD = 48,
-    MOST_HELD = 16
-};
+#include "guzbytor.h"
 
 /* The state's image: fields of its header, which come first. */
 enum {
@@ -71,22 +49,12 @@ enum {
     SLOT_SIZE = 56
 };
 
-/* A record, its version and the kinds. */
+/* The frame of a record. */
 enum {
     FRAME_LENGTH = 0,
     FRAME_VERSION = 2,
     FRAME_KIND = 3,
-    FRAME_SIZE = 4,
-    RECORD_VERSION = 1,
-    KIND_ACTION = 1,
-    KIND_RETRANSMISSION = 2,
-    KIND_STATE = 3,
-    KIND_CPC = 4,
-    KIND_REGULAR = 5,
-    KIND_TRANSITIONAL = 6,
-    KIND_REQUEST = 7,
-    KIND_RECOVERY = 8,
-    KIND_SETUP = 9
+    FRAME_SIZE = 4
 };
 
 /* An action: in a slot, and in a record's body. Its payload follows. */

@@ -1,18 +1,24 @@
 #!/bin/sh
-# Builds the state check and the step as static libraries, and times the one against one pass over the same bytes and against the same
-# check in plain C, the other against memcpy (bench/README.md).
+# Builds the archive and times it (bench/README.md): the state check against one pass over the same bytes and against the same check in plain C, steps
+# against memcpy, and bursts against steps over runs that it records first.
 set -eu
 cd "$(dirname "$0")/.."
-rt staticlib state_check
-rt staticlib step
+sh scripts/dist.sh
 mkdir -p target/bench
 compile() {
-    "${CC:-cc}" -std=c11 -D_POSIX_C_SOURCE=199309L -Wall -Wextra -O2 -Iinclude "$@"
+    "${CC:-cc}" -std=c11 -D_POSIX_C_SOURCE=199309L -Wall -Wextra -O2 -Idist -Iinclude -Iexamples/c "$@"
 }
 compile -O3 -c bench/one_pass.c -o target/bench/one_pass.o
-compile bench/pass.c bench/full_state.c target/bench/one_pass.o target/staticlib/libstate_check.a -o target/bench/pass
-compile bench/state_check.c bench/full_state.c bench/plain_check.c target/staticlib/libstate_check.a -o target/bench/state_check
-compile bench/step.c bench/full_state.c target/staticlib/libstep.a -o target/bench/step
+compile bench/pass.c bench/full_state.c target/bench/one_pass.o dist/libguzbytor.a -o target/bench/pass
+compile bench/state_check.c bench/full_state.c bench/plain_check.c dist/libguzbytor.a -o target/bench/state_check
+compile bench/step.c bench/full_state.c dist/libguzbytor.a -o target/bench/step
+compile bench/record.c dist/libguzbytor.a -o target/bench/record
+compile bench/burst.c target/bench/one_pass.o dist/libguzbytor.a -o target/bench/burst
 target/bench/pass
 target/bench/state_check
 target/bench/step
+for size in "3 16" "6 256" "8 256"; do
+    # shellcheck disable=SC2086
+    target/bench/record $size "target/bench/$(echo $size | tr ' ' _).run"
+done
+target/bench/burst target/bench/3_16.run target/bench/6_256.run target/bench/8_256.run

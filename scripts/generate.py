@@ -1,7 +1,7 @@
 #!/usr/bin/env python3
 """Writes every recorded file of the repository from the stories and tables of vectors under samples/sources: what programs are given, what they
 must print, and the run that crates/examples proves allowed. What must come out is computed by scripts/model, a plain implementation of document 01.
-The layout's numbers in include/guzbytor_layout.h and docs/LAYOUT.md come from model/layout.py.
+The numbers in include/ and docs/LAYOUT.md come from model/layout.py.
 
 usage: generate.py            writes the files that are not as they should be, and names them
        generate.py --check    only names them; exit status 1 if there are any
@@ -50,6 +50,7 @@ def files():
     found['crates/replay/stdin'], found['crates/replay/stdout'] = found['samples/partition.bin'], found['samples/partition.txt']
     found['crates/examples/proofs/Worked.antt'] = worked_file(worked)
     found['crates/examples/proofs/PartitionRun.antt'] = proof_files.run_file(partition, SOURCES + 'partition.story').encode()
+    found['include/guzbytor.h'] = c_header.public((TOP / 'include/guzbytor.h').read_text()).encode()
     found['include/guzbytor_layout.h'] = c_header.header().encode()
     found['docs/LAYOUT.md'] = layout_page.page((TOP / 'docs/LAYOUT.md').read_text()).encode()
     found.update(vector_files())

@@ -31,7 +31,7 @@ static void exchange_images(server *s) {
 
 /* One event at one server: the answer's records stand at the beginning of `out`, and may be sent. */
 static guzbytor_step_answer take(server *s, const uint8_t *event, size_t length, buffer out) {
-    int recovery = length > FRAME_KIND && event[FRAME_KIND] == KIND_RECOVERY;
+    int recovery = length > FRAME_KIND && event[FRAME_KIND] == GUZBYTOR_KIND_RECOVERY;
     if (recovery) {
         exchange_images(s); /* a recovery is given the image stored last */
     }
@@ -94,7 +94,7 @@ int main(int count, char **words) {
     }
     uint8_t servers = input.bytes[SETUP_SERVERS];
     uint32_t quota = setup_quota(input.bytes);
-    server table[MOST_SERVERS];
+    server table[GUZBYTOR_MOST_SERVERS];
     for (uint8_t k = 0; k < servers; k++) {
         table[k] = (server){lent(lengths.state), lent(lengths.state)};
         if (guzbytor_start(table[k].state.bytes, lengths.state, servers, quota, k) != 0) {

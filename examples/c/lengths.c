@@ -6,7 +6,7 @@
 #include <stdlib.h>
 
 int main(void) {
-    const uint32_t servers = 6, quota = MOST_QUOTA, me = 0;
+    const uint32_t servers = 6, quota = GUZBYTOR_MOST_QUOTA, me = 0;
     guzbytor_lengths_answer lengths = guzbytor_lengths(servers, quota);
     printf("lengths %u: state %u, outgoing %u\n", lengths.number, lengths.state, lengths.out);
     if (lengths.number != 0) {

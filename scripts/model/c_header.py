@@ -1,4 +1,6 @@
-"""The layout as C constants (include/guzbytor_layout.h)."""
+"""Numbers as C constants: those that a daemon needs, in include/guzbytor.h, and the layout, in include/guzbytor_layout.h."""
+import re
+
 from . import layout, records
 from .layout import ACTION, FRAME, HEADER, ID, LAST, MARK, MODES, STATE_FRONT, STATE_REST, places, size
 
@@ -12,18 +14,22 @@ def short(fields):
     return [(name.split('.')[-1], width) for name, width in fields]
 
 
-# What is said of a group of constants, and the constants.
-GROUPS = (
-    ('The states\' numbers.', [('MODE_' + mode.upper(), k) for k, mode in enumerate(MODES)]),
+# What is said of a group of constants, and the constants. First those of include/guzbytor.h.
+PUBLIC = (
+    ('The eight states of a server.', [(mode.upper(), k) for k, mode in enumerate(MODES)]),
+    ('The version of records, and their kinds.', [('VERSION', records.VERSION)] + [
+        ('KIND_' + kind.upper(), k) for k, kind in enumerate(records.KINDS) if kind]),
     ('Limits.', [
         ('FEWEST_SERVERS', layout.FEWEST_SERVERS), ('MOST_SERVERS', layout.MOST_SERVERS), ('LEAST_QUOTA', layout.LEAST_QUOTA),
         ('MOST_QUOTA', layout.MOST_QUOTA), ('MOST_PAYLOAD', layout.MOST_PAYLOAD), ('MOST_HELD', layout.MOST_HELD)]),
+    ('The longest green entry that a reading puts.', [('MOST_ENTRY', size(ID) + 1 + layout.MOST_PAYLOAD)]),
+)
+GROUPS = (
     ('The state\'s image: fields of its header, which come first.', named('AT_', HEADER) + [('HEADER_SIZE', size(HEADER))]
      + [('IMAGE_' + name.upper(), value) for name, value in layout.FIXED.items()]),
     ('Entries of its sections.', [
         ('CUT_SIZE', layout.CUT), ('NOTED_SIZE', layout.NOTED), ('HELD_SIZE', layout.HELD), ('ID_SIZE', size(ID)), ('SLOT_SIZE', layout.SLOT)]),
-    ('A record, its version and the kinds.', named('FRAME_', FRAME) + [('FRAME_SIZE', size(FRAME)), ('RECORD_VERSION', records.VERSION)]
-     + [('KIND_' + kind.upper(), k) for k, kind in enumerate(records.KINDS) if kind]),
+    ('The frame of a record.', named('FRAME_', FRAME) + [('FRAME_SIZE', size(FRAME))]),
     ('An action: in a slot, and in a record\'s body. Its payload follows.', named('ACTION_', ACTION) + [('ACTION_SIZE', size(ACTION))]),
     ('A retransmission: what stands before its action, and the longest record.', [
         ('RETRANSMISSION_SIZE', layout.RETRANSMISSION_HEAD), ('MOST_RETRANSMISSION', layout.MOST_RETRANSMISSION)]),
@@ -33,11 +39,24 @@ GROUPS = (
 )
 
 
+def enums(groups, prefix=''):
+    return ''.join('\n/* %s */\nenum {\n' % comment + ',\n'.join('    %s%s = %d' % (prefix, *c) for c in constants) + '\n};\n'
+                   for comment, constants in groups)
+
+
+def public(text):
+    """include/guzbytor.h with its constants; all else in it is written by hand."""
+    written = '/* Written by scripts/generate.py from here .. */\n%s\n/* .. to here. */' % enums(PUBLIC, 'GUZBYTOR_')
+    found, count = re.subn(r'/\* Written by scripts/generate.py from here .*? to here. \*/', lambda _: written, text, flags=re.S)
+    if count != 1:
+        raise SystemExit('include/guzbytor.h: no place for its constants')
+    return found
+
+
 def header():
     text = '/* Where records and the state\'s image have their parts (docs/LAYOUT.md), for the C files of this repository: the names have no\n'
     text += '   prefix. Written by scripts/generate.py. */\n'
-    text += '#ifndef GUZBYTOR_LAYOUT_H\n#define GUZBYTOR_LAYOUT_H\n\n#include <stdint.h>\n'
-    for comment, constants in GROUPS:
-        text += '\n/* %s */\nenum {\n' % comment + ',\n'.join('    %s = %d' % c for c in constants) + '\n};\n'
+    text += '#ifndef GUZBYTOR_LAYOUT_H\n#define GUZBYTOR_LAYOUT_H\n\n#include "guzbytor.h"\n'
+    text += enums(GROUPS)
     text += '\n/* The highest primary index and attempt. */\nstatic const uint32_t MOST_INDEX = %du;\n' % layout.MOST_INDEX
     return text + '\n#endif\n'
