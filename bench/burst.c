@@ -44,7 +44,7 @@ static void fail(const char *what) {
 /* The actions that the events begin with, at most `most`; their bytes one behind another in `to`. */
 static size_t front(const uint8_t *b, size_t length, size_t most, uint8_t *to, size_t *count) {
     size_t put = 0;
-    for (*count = 0; length > 0 && *count < most && (b[0] != 0 || b[1 + FRAME_KIND] == GUZBYTOR_KIND_ACTION); ) {
+    for (*count = 0; length > 0 && *count < most && (b[0] != 0 || b[1 + GUZBYTOR_AT_KIND] == GUZBYTOR_KIND_ACTION); ) {
         size_t whole = record_length(b + 1);
         if (b[0] == 0) {
             memcpy(to + put, b + 1, whole);
@@ -59,9 +59,9 @@ static size_t front(const uint8_t *b, size_t length, size_t most, uint8_t *to, s
 
 /* A row begins here if server 0 is in Reg_prim and gets ROW actions one after another. */
 static void note_row(run *r, const uint8_t *b, size_t length) {
-    static uint8_t bytes[ROW * (FRAME_SIZE + SLOT_SIZE)];
+    static uint8_t bytes[ROW * (GUZBYTOR_AT_BODY + SLOT_SIZE)];
     size_t count, of_8;
-    if (r->state[AT_STATE] != GUZBYTOR_REG_PRIM || b[0] != 0 || b[1 + FRAME_KIND] != GUZBYTOR_KIND_ACTION || r->count == MOST_ROWS) {
+    if (r->state[AT_STATE] != GUZBYTOR_REG_PRIM || b[0] != 0 || b[1 + GUZBYTOR_AT_KIND] != GUZBYTOR_KIND_ACTION || r->count == MOST_ROWS) {
         return;
     }
     of_8 = front(b, length, 8, bytes, &count);
@@ -85,7 +85,7 @@ static void find_rows(run *r, buffer input) {
             if (fresh) {
                 note_row(r, b, length);
             }
-            fresh = b[1 + FRAME_KIND] != GUZBYTOR_KIND_ACTION;
+            fresh = b[1 + GUZBYTOR_AT_KIND] != GUZBYTOR_KIND_ACTION;
             if (guzbytor_step(r->state, r->lengths.state, b + 1, whole, r->out, r->lengths.out).number != 0) {
                 fail("a recorded event is refused");
             }

@@ -32,9 +32,9 @@ static void put_ids(uint8_t *b, size_t n, size_t q) {
 
 /* The State of a server in the configuration 1: full cuts, but that server 0 misses the last action of server 1. */
 static void put_state(uint8_t *b, size_t n, size_t q, size_t sender) {
-    put(b + FRAME_LENGTH, 2, (uint32_t)(state_slot(n, q) - FRAME_VERSION));
-    b[FRAME_VERSION] = GUZBYTOR_VERSION;
-    b[FRAME_KIND] = GUZBYTOR_KIND_STATE;
+    put(b + GUZBYTOR_AT_LENGTH, 2, (uint32_t)(state_slot(n, q) - GUZBYTOR_AT_VERSION));
+    b[GUZBYTOR_AT_VERSION] = GUZBYTOR_VERSION;
+    b[GUZBYTOR_AT_KIND] = GUZBYTOR_KIND_STATE;
     b[STATE_SENDER] = (uint8_t)sender;
     put(b + STATE_ID, 4, 1);
     for (size_t c = 0; c < n; c++) {

@@ -143,8 +143,8 @@ static bool queue_ok(view s) {
 
 static bool state_ok(view s, const uint8_t *b, size_t sender) {
     const uint8_t *rest = b + rest_at(s.n);
-    size_t count = num16(rest + REST_YELLOW_COUNT), length = ids_at(s.n) - FRAME_VERSION + ID_SIZE * count;
-    if (count > s.n * s.q || num16(b + FRAME_LENGTH) != length || b[FRAME_VERSION] != GUZBYTOR_VERSION || b[FRAME_KIND] != GUZBYTOR_KIND_STATE) {
+    size_t count = num16(rest + REST_YELLOW_COUNT), length = ids_at(s.n) - GUZBYTOR_AT_VERSION + ID_SIZE * count;
+    if (count > s.n * s.q || num16(b + GUZBYTOR_AT_LENGTH) != length || b[GUZBYTOR_AT_VERSION] != GUZBYTOR_VERSION || b[GUZBYTOR_AT_KIND] != GUZBYTOR_KIND_STATE) {
         return false;
     }
     if (b[STATE_SENDER] != sender || num32(b + STATE_ID) != num32(s.b + AT_CONFIGURATION_ID)) {

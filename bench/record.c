@@ -59,20 +59,20 @@ static void settle(void) {
 
 static void request(uint8_t server) {
     static uint32_t random = 1;
-    uint8_t bytes[FRAME_SIZE + 1 + GUZBYTOR_MOST_PAYLOAD] = {0, 0, GUZBYTOR_VERSION, GUZBYTOR_KIND_REQUEST};
+    uint8_t bytes[GUZBYTOR_AT_BODY + 1 + GUZBYTOR_MOST_PAYLOAD] = {0, 0, GUZBYTOR_VERSION, GUZBYTOR_KIND_REQUEST};
     random = random * 1664525u + 1013904223u;
     uint8_t payload = (uint8_t)((random >> 16) % (GUZBYTOR_MOST_PAYLOAD + 1));
-    bytes[1] = (uint8_t)(FRAME_SIZE + 1 + payload - FRAME_VERSION);
-    bytes[FRAME_SIZE] = payload;
-    memset(bytes + FRAME_SIZE + 1, 7, payload);
-    event(server, bytes, FRAME_SIZE + 1u + payload);
+    bytes[1] = (uint8_t)(GUZBYTOR_AT_BODY + 1 + payload - GUZBYTOR_AT_VERSION);
+    bytes[GUZBYTOR_AT_BODY] = payload;
+    memset(bytes + GUZBYTOR_AT_BODY + 1, 7, payload);
+    event(server, bytes, GUZBYTOR_AT_BODY + 1u + payload);
 }
 
 static void begin(uint8_t servers, uint16_t quota) {
     office.servers = servers;
     office.lengths = guzbytor_lengths(servers, quota);
     office.out = lent(office.lengths.out).bytes;
-    put((const uint8_t[]){0, SETUP_LENGTH - FRAME_VERSION, GUZBYTOR_VERSION, GUZBYTOR_KIND_SETUP, servers, (uint8_t)(quota >> 8), (uint8_t)quota}, SETUP_LENGTH);
+    put((const uint8_t[]){0, SETUP_LENGTH - GUZBYTOR_AT_VERSION, GUZBYTOR_VERSION, GUZBYTOR_KIND_SETUP, servers, (uint8_t)(quota >> 8), (uint8_t)quota}, SETUP_LENGTH);
     for (uint8_t k = 0; k < servers; k++) {
         office.state[k] = lent(office.lengths.state).bytes;
         if (guzbytor_start(office.state[k], office.lengths.state, servers, quota, k) != 0) {
@@ -92,7 +92,7 @@ int main(int count, char **words) {
     }
     begin((uint8_t)servers, (uint16_t)quota);
     for (uint8_t k = 0; k < servers; k++) {
-        event(k, (const uint8_t[]){0, 7, GUZBYTOR_VERSION, GUZBYTOR_KIND_REGULAR, 0, 0, 0, 1, (uint8_t)((1u << servers) - 1)}, FRAME_SIZE + 4 + 1);
+        event(k, (const uint8_t[]){0, 7, GUZBYTOR_VERSION, GUZBYTOR_KIND_REGULAR, 0, 0, 0, 1, (uint8_t)((1u << servers) - 1)}, GUZBYTOR_AT_BODY + 4 + 1);
     }
     settle();
     for (int made = 0; made < quota; made += REQUESTS) {

@@ -48,18 +48,18 @@ static size_t used_bytes(const uint8_t *b) {
     size_t n = b[AT_SERVERS], q = number(b + AT_QUOTA, 2);
     size_t used = held_at(n) + HELD_SIZE * number(b + AT_HELD_COUNT, 2) + ID_SIZE * number(b + AT_YELLOW_COUNT, 2);
     for (size_t k = 0; k < n; k++) {
-        used += b[AT_STATES] >> k & 1 ? FRAME_VERSION + number(b + states_at(n) + k * state_slot(n, q), 2) : 0;
+        used += b[AT_STATES] >> k & 1 ? GUZBYTOR_AT_VERSION + number(b + states_at(n) + k * state_slot(n, q), 2) : 0;
     }
     return used + SLOT_SIZE * (number(b + AT_OWN_COUNT, 2) + number(b + AT_QUEUE_COUNT, 4));
 }
 
 /* An event of a kind with room for its body. */
 static trial begun(full_state s, uint8_t kind, size_t body, uint8_t mode_after, size_t sent_after) {
-    size_t length = FRAME_SIZE + body;
+    size_t length = GUZBYTOR_AT_BODY + body;
     trial t = {s, in_memory(length), length, mode_after, sent_after};
-    put(t.event + FRAME_LENGTH, 2, (uint32_t)(length - FRAME_VERSION));
-    t.event[FRAME_VERSION] = GUZBYTOR_VERSION;
-    t.event[FRAME_KIND] = kind;
+    put(t.event + GUZBYTOR_AT_LENGTH, 2, (uint32_t)(length - GUZBYTOR_AT_VERSION));
+    t.event[GUZBYTOR_AT_VERSION] = GUZBYTOR_VERSION;
+    t.event[GUZBYTOR_AT_KIND] = kind;
     return t;
 }
 
@@ -71,7 +71,7 @@ static trial green(size_t n, size_t q) {
     put(b + AT_QUEUE_COUNT, 4, (uint32_t)(n * q - 1));
     put(b + AT_GREEN, 4, 0);
     put(b + cuts_at() + CUT_SIZE * (n - 1), CUT_SIZE, (uint32_t)(q - 1));
-    put_action(t.event + FRAME_SIZE, n - 1, q);
+    put_action(t.event + GUZBYTOR_AT_BODY, n - 1, q);
     return t;
 }
 
@@ -87,15 +87,15 @@ static trial install(size_t n, size_t q) {
     put(b + AT_MARK_ATTEMPT, 4, 1);
     b[AT_MARK_SET] = everyone(n);
     put(b + AT_YELLOW_COUNT, 2, (uint32_t)(n * q / 2));
-    t.event[FRAME_SIZE] = (uint8_t)(n - 1);
-    put(t.event + FRAME_SIZE + 1, 4, 1);
+    t.event[GUZBYTOR_AT_BODY] = (uint8_t)(n - 1);
+    put(t.event + GUZBYTOR_AT_BODY + 1, 4, 1);
     return t;
 }
 
 /* The last State comes, of a server that has nothing: n q actions are resent by position, and again as red. */
 static trial resend(size_t n, size_t q) {
-    trial t = begun(make_full_state(n, q, FULL_QUEUE), GUZBYTOR_KIND_STATE, state_slot(n, q) - FRAME_SIZE, GUZBYTOR_EXCHANGE_ACTIONS,
-                    2 * n * q * (FRAME_SIZE + RETRANSMISSION_SIZE + ACTION));
+    trial t = begun(make_full_state(n, q, FULL_QUEUE), GUZBYTOR_KIND_STATE, state_slot(n, q) - GUZBYTOR_AT_BODY, GUZBYTOR_EXCHANGE_ACTIONS,
+                    2 * n * q * (GUZBYTOR_AT_BODY + RETRANSMISSION_SIZE + ACTION));
     uint8_t *b = t.state.bytes;
     b[AT_STATE] = GUZBYTOR_EXCHANGE_STATES;
     b[AT_STATES] = everyone(n - 1);
@@ -112,8 +112,8 @@ static trial resend(size_t n, size_t q) {
 
 /* The last retransmission comes: the exchange ends, with n yellow lists of n q ids, all but the first one backwards. */
 static trial end(size_t n, size_t q) {
-    trial t = begun(make_full_state(n, q, FULL_QUEUE), GUZBYTOR_KIND_RETRANSMISSION, RETRANSMISSION_SIZE + ACTION, GUZBYTOR_CONSTRUCT, FRAME_SIZE + CPC_BODY);
-    put_action(t.event + FRAME_SIZE + RETRANSMISSION_SIZE, 1, q);
+    trial t = begun(make_full_state(n, q, FULL_QUEUE), GUZBYTOR_KIND_RETRANSMISSION, RETRANSMISSION_SIZE + ACTION, GUZBYTOR_CONSTRUCT, GUZBYTOR_AT_BODY + CPC_BODY);
+    put_action(t.event + GUZBYTOR_AT_BODY + RETRANSMISSION_SIZE, 1, q);
     for (size_t k = 1; k < n; k++) {
         uint8_t *ids = t.state.bytes + states_at(n) + k * state_slot(n, q) + ids_at(n);
         for (size_t i = 0; i < n * q; i++) {
@@ -130,8 +130,8 @@ static trial join(size_t n, size_t q) {
     b[AT_STATE] = GUZBYTOR_TRANS_PRIM;
     b[AT_TRANSITIONAL_STATUS] = 1;
     b[AT_TRANSITIONAL_SET] = everyone(n);
-    put(t.event + FRAME_SIZE, 4, 2);
-    t.event[FRAME_SIZE + 4] = everyone(n);
+    put(t.event + GUZBYTOR_AT_BODY, 4, 2);
+    t.event[GUZBYTOR_AT_BODY + 4] = everyone(n);
     return t;
 }
 

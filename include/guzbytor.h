@@ -45,6 +45,14 @@ enum {
     GUZBYTOR_UN = 7
 };
 
+/* The frame of a record: two length bytes, which count what follows them, version and kind; then its body. */
+enum {
+    GUZBYTOR_AT_LENGTH = 0,
+    GUZBYTOR_AT_VERSION = 2,
+    GUZBYTOR_AT_KIND = 3,
+    GUZBYTOR_AT_BODY = 4
+};
+
 /* The version of records, and their kinds. */
 enum {
     GUZBYTOR_VERSION = 1,

@@ -49,14 +49,6 @@ enum {
     SLOT_SIZE = 56
 };
 
-/* The frame of a record. */
-enum {
-    FRAME_LENGTH = 0,
-    FRAME_VERSION = 2,
-    FRAME_KIND = 3,
-    FRAME_SIZE = 4
-};
-
 /* An action: in a slot, and in a record's body. Its payload follows. */
 enum {
     ACTION_CREATOR = 0,

@@ -28,8 +28,8 @@ static void ended(way w) {
 
 /* A recovery, of which these are the only bytes, is given the image stored last. */
 static void before(way w, const uint8_t *event) {
-    static const uint8_t recovery[FRAME_SIZE] = {0, FRAME_SIZE - 2, GUZBYTOR_VERSION, GUZBYTOR_KIND_RECOVERY};
-    if (record_length(event) == FRAME_SIZE && memcmp(event, recovery, FRAME_SIZE) == 0) {
+    static const uint8_t recovery[GUZBYTOR_AT_BODY] = {0, GUZBYTOR_AT_BODY - 2, GUZBYTOR_VERSION, GUZBYTOR_KIND_RECOVERY};
+    if (record_length(event) == GUZBYTOR_AT_BODY && memcmp(event, recovery, GUZBYTOR_AT_BODY) == 0) {
         memcpy(w.state.bytes, w.stored.bytes, w.state.length);
     }
 }

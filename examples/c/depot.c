@@ -13,10 +13,6 @@ typedef struct {
     buffer stored;
 } server;
 
-static uint32_t number_at(const uint8_t *b) {
-    return (uint32_t)b[0] << 24 | (uint32_t)b[1] << 16 | (uint32_t)b[2] << 8 | b[3];
-}
-
 /* The stored image, which a daemon writes to its disk and waits for. */
 static void store(server *s) {
     memcpy(s->stored.bytes, s->state.bytes, s->state.length);
@@ -31,7 +27,7 @@ static void exchange_images(server *s) {
 
 /* One event at one server: the answer's records stand at the beginning of `out`, and may be sent. */
 static guzbytor_step_answer take(server *s, const uint8_t *event, size_t length, buffer out) {
-    int recovery = length > FRAME_KIND && event[FRAME_KIND] == GUZBYTOR_KIND_RECOVERY;
+    int recovery = length > GUZBYTOR_AT_KIND && event[GUZBYTOR_AT_KIND] == GUZBYTOR_KIND_RECOVERY;
     if (recovery) {
         exchange_images(s); /* a recovery is given the image stored last */
     }
@@ -54,10 +50,9 @@ static size_t send_records(const uint8_t *out, size_t length) {
     return count;
 }
 
-static void print_line(size_t event, unsigned number, guzbytor_step_answer a, const uint8_t *state, size_t sent) {
-    uint32_t green = number_at(state + AT_GREEN);
-    printf("%zu %u %u %s %u %u %u %zu\n", event, number, a.number, MODES[state[AT_STATE]], number_at(state + AT_QUEUE_COUNT) - green, green,
-           number_at(state + AT_LAST_INDEX), sent);
+static void print_line(size_t event, unsigned number, guzbytor_step_answer a, buffer state, size_t sent) {
+    guzbytor_summary_answer s = guzbytor_summary(state.bytes, state.length);
+    printf("%zu %u %u %s %u %u %u %zu\n", event, number, a.number, MODES[s.state], s.red, s.green, s.primary_index, sent);
 }
 
 /* Each event in turn; 0, or the number that the input is refused with. */
@@ -72,7 +67,7 @@ static uint32_t run(server *table, uint8_t servers, buffer out, const uint8_t *b
         }
         size_t count = record_length(b + 1);
         guzbytor_step_answer a = take(&table[number], b + 1, count, out);
-        print_line(event, number, a, table[number].state.bytes, send_records(out.bytes, a.sent));
+        print_line(event, number, a, table[number].state, send_records(out.bytes, a.sent));
         b += 1 + count;
         length -= 1 + count;
     }

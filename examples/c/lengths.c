@@ -1,6 +1,5 @@
 /* Asks for the buffers' lengths with 6 servers and quota 256, and makes the start of server 0. */
 #include "guzbytor.h"
-#include "guzbytor_layout.h"
 
 #include <stdio.h>
 #include <stdlib.h>
@@ -20,11 +19,9 @@ int main(void) {
     printf("start %u\n", guzbytor_start(state, lengths.state, servers, quota, me));
     printf("short buffer %u\n", guzbytor_start(state, lengths.state - 1, servers, quota, me));
     printf("own number out of range %u\n", guzbytor_start(state, lengths.state, servers, quota, servers));
-    printf("header:");
-    for (int i = 0; i < HEADER_SIZE; i++) {
-        printf(" %u", state[i]);
-    }
-    printf("\n");
+    guzbytor_summary_answer s = guzbytor_summary(state, lengths.state);
+    printf("summary %u: server %u of %u, quota %u, state %u, last primary %u of set %u\n", s.number, s.me, s.servers, s.quota, s.state, s.primary_index,
+           s.primary_set);
     free(state);
     return 0;
 }

@@ -3,13 +3,12 @@
 #define RUN_H
 
 #include "guzbytor.h"
-#include "guzbytor_layout.h"
 
 #include <stdio.h>
 #include <stdlib.h>
 
 /* The set-up record: servers (1 byte) and quota (2) behind its frame. */
-enum { SETUP_SERVERS = FRAME_SIZE, SETUP_QUOTA = SETUP_SERVERS + 1, SETUP_LENGTH = SETUP_QUOTA + 2 };
+enum { SETUP_SERVERS = GUZBYTOR_AT_BODY, SETUP_QUOTA = SETUP_SERVERS + 1, SETUP_LENGTH = SETUP_QUOTA + 2 };
 
 typedef struct {
     uint8_t *bytes;
@@ -54,7 +53,7 @@ static inline uint32_t setup_quota(const uint8_t *b) { return (uint32_t)b[SETUP_
 /* The set-up record's number: 1 for its form, and else what the lengths are answered with. */
 static inline uint32_t set_up(buffer run, guzbytor_lengths_answer *lengths) {
     const uint8_t *b = run.bytes;
-    if (run.length < SETUP_LENGTH || record_length(b) != SETUP_LENGTH || b[FRAME_VERSION] != GUZBYTOR_VERSION || b[FRAME_KIND] != GUZBYTOR_KIND_SETUP) {
+    if (run.length < SETUP_LENGTH || record_length(b) != SETUP_LENGTH || b[GUZBYTOR_AT_VERSION] != GUZBYTOR_VERSION || b[GUZBYTOR_AT_KIND] != GUZBYTOR_KIND_SETUP) {
         return 1;
     }
     *lengths = guzbytor_lengths(b[SETUP_SERVERS], setup_quota(b));

@@ -17,6 +17,8 @@ def short(fields):
 # What is said of a group of constants, and the constants. First those of include/guzbytor.h.
 PUBLIC = (
     ('The eight states of a server.', [(mode.upper(), k) for k, mode in enumerate(MODES)]),
+    ('The frame of a record: two length bytes, which count what follows them, version and kind; then its body.',
+     named('AT_', FRAME) + [('AT_BODY', size(FRAME))]),
     ('The version of records, and their kinds.', [('VERSION', records.VERSION)] + [
         ('KIND_' + kind.upper(), k) for k, kind in enumerate(records.KINDS) if kind]),
     ('Limits.', [
@@ -29,7 +31,6 @@ GROUPS = (
      + [('IMAGE_' + name.upper(), value) for name, value in layout.FIXED.items()]),
     ('Entries of its sections.', [
         ('CUT_SIZE', layout.CUT), ('NOTED_SIZE', layout.NOTED), ('HELD_SIZE', layout.HELD), ('ID_SIZE', size(ID)), ('SLOT_SIZE', layout.SLOT)]),
-    ('The frame of a record.', named('FRAME_', FRAME) + [('FRAME_SIZE', size(FRAME))]),
     ('An action: in a slot, and in a record\'s body. Its payload follows.', named('ACTION_', ACTION) + [('ACTION_SIZE', size(ACTION))]),
     ('A retransmission: what stands before its action, and the longest record.', [
         ('RETRANSMISSION_SIZE', layout.RETRANSMISSION_HEAD), ('MOST_RETRANSMISSION', layout.MOST_RETRANSMISSION)]),
