@@ -7,8 +7,7 @@ use mathlib.Core.List.{List}
 use mathlib.Core.Option.{some}
 use native.Mathlib.Omega.{arith}
 use lib.ListN.{length}
-use Rattle.base.specs.Tests.{_<?_, _or_, pick}
-use Rattle.base.proofs.TestLaws.{pick-yes, and-holds, lt-no}
+use Rattle.base.proofs.TestLaws.{and-holds}
 use Rattle.base.proofs.Branches.{or-no}
 use Rattle.format.specs.Range.{sizesOk, contextOk}
 use Rattle.replication.specs.Laws.Order.{SameServer}
@@ -17,13 +16,12 @@ use Rattle.replication.specs.Machine.Step.{step}
 use Rattle.replication.specs.Machine.WellFormed.{ranges, wellFormed}
 use Rattle.replication.specs.Images.{Images, started, savedIn}
 use Rattle.replication.proofs.WellFormed.Runs.{start-well-formed}
-use Rattle.engine.specs.Layout.{stateLength, outLength, leastStateLength, leastOutLength}
-use Rattle.engine.specs.Decode.{decodedAs, decoded, serversIn, quotaIn, readImage}
-use Rattle.engine.specs.Outcome.{tooShort, resultOf, stepOn, startOn}
+use Rattle.engine.specs.Layout.{stateLength, outLength}
+use Rattle.engine.specs.Decode.{readImage}
+use Rattle.engine.specs.Outcome.{stateShort, outShort, tooShort, resultOf, stepOn, startOn}
 use Rattle.engine.proofs.ImageLaws.{image-length, image-again, read-image}
 use Rattle.engine.specs.Holding.{Holds}
-use Rattle.engine.proofs.InPlace.{holds-decoded}
-use Rattle.engine.proofs.Refusals.{step-read, formed-sizes}
+use Rattle.engine.proofs.Refusals.{step-read, holds-long as state-long, holds-out-long}
 use Rattle.buffers.specs.Buffers.{Buffers, Lent, begun, saved}
 use Rattle.buffers.proofs.BufferLaws.{start-left, saved-state, saved-store}
 
@@ -58,29 +56,10 @@ module _ (s : Server) (b : List ℕ) (h : Holds s b) where
   pub holds-read : readImage b ≡ some s
   holds-read = subst (λ (x : List ℕ). readImage x ≡ some s) (h .written) (read-image s b (h .formed) (h .long))
 
-  holds-servers : serversIn b ≡ s .servers
-  unfolding decoded decodedAs
-  holds-servers = ap (λ (t : Server). t .servers) (holds-decoded s b h)
-
-  holds-quota : quotaIn b ≡ s .quota
-  unfolding decoded decodedAs
-  holds-quota = ap (λ (t : Server). t .quota) (holds-decoded s b h)
-
   -- Neither buffer is too short.
   pub holds-long : (o : List ℕ) → outLength (s .servers) (s .quota) ≤ length o → tooShort b o ≡ false
   unfolding tooShort
-  holds-long o room = long (serversIn b) (quotaIn b) holds-servers holds-quota
-    where
-      long : (n q : ℕ) → n ≡ s .servers → q ≡ s .quota
-          → pick (sizesOk n q) (length b <? stateLength n q or length o <? outLength n q)
-          (length b <? leastStateLength or length o <? leastOutLength) ≡ false
-      long n q k l =
-          let sizes : sizesOk n q ≡ true = (λ i. sizesOk (k i) (l i)) ∙ formed-sizes s (h .formed) in
-          let state : stateLength n q ≡ stateLength (s .servers) (s .quota) = λ i. stateLength (k i) (l i) in
-          let out : outLength n q ≡ outLength (s .servers) (s .quota) = λ i. outLength (k i) (l i) in
-          sym
-          (pick-yes (sizesOk n q) false _ _ sizes
-          (or-no false _ _ (lt-no (length b) (stateLength n q) (omega (arith, h .long))) (sym (lt-no (length o) (outLength n q) (omega arith)))))
+  holds-long o room = sym (or-no false (stateShort b) (outShort b o) (state-long s b h) (sym (holds-out-long s b h o room)))
 
   pub holds-step : (e o : List ℕ) → outLength (s .servers) (s .quota) ≤ length o → stepOn b e o ≡ resultOf (step s e) b o
   holds-step e o room = step-read b e o s (holds-long o room) holds-read

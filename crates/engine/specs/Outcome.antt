@@ -31,12 +31,17 @@ unfoldable pub word : Bool → ℕ
 word true = 1
 word false = 0
 
--- "a buffer is shorter than its formula; with n or q in the state out of range, shorter than the formula for n 2 and q 1"
+-- "a buffer is shorter than its formula; with n or q in the state out of range, shorter than the formula for n 2 and q 1": the state's ..
+unfoldable pub stateShort : List ℕ → Bool
+stateShort b =
+    pick (sizesOk (serversIn b) (quotaIn b)) (length b <? stateLength (serversIn b) (quotaIn b)) (length b <? leastStateLength)
+
+-- .. and the outgoing one.
+unfoldable pub outShort : List ℕ → List ℕ → Bool
+outShort b o = pick (sizesOk (serversIn b) (quotaIn b)) (length o <? outLength (serversIn b) (quotaIn b)) (length o <? leastOutLength)
+
 unfoldable pub tooShort : List ℕ → List ℕ → Bool
-tooShort b o =
-    pick (sizesOk (serversIn b) (quotaIn b))
-    (length b <? stateLength (serversIn b) (quotaIn b) or length o <? outLength (serversIn b) (quotaIn b))
-    (length b <? leastStateLength or length o <? leastOutLength)
+tooShort b o = stateShort b or outShort b o
 
 -- "new state, records, store word; bytes past either unchanged"
 unfoldable pub resultOf : Outcome (List ℕ) → List ℕ → List ℕ → Result
@@ -54,6 +59,10 @@ stepOn b e o = pick (tooShort b o) (refusal 7 b o) (stepFrom (readImage b) b e o
 -- The state's own part of 7 and 8: 0 exactly when an image reads.
 unfoldable pub stateNumber : List ℕ → List ℕ → ℕ
 stateNumber b o = pick (tooShort b o) 7 (pick (reads b) 0 8)
+
+-- The same of the state's buffer alone.
+unfoldable pub imageNumber : List ℕ → ℕ
+imageNumber b = pick (stateShort b) 7 (pick (reads b) 0 8)
 
 -- ---- start and lengths
 

@@ -1,29 +1,41 @@
 -- Actions read from the slots of a buffer that holds a state.
 -- Assumes nothing.
-use Prim.Native.Nat.{ℕ, zero, suc, _+_, _*_, _<_}
-use mathlib.Core.Path.{_≡_, refl, sym, ap, ap₂, _∙_}
+use Prim.Native.Nat.{ℕ, zero, suc, _+_, _*_, _≤_, _<_}
+use mathlib.Core.Path.{_≡_, refl, sym, ap, ap₂, subst, _∙_}
 use mathlib.Core.List.{List, [], _∷_, _++_}
 use mathlib.Core.Option.{some}
 use native.Mathlib.Omega.{arith}
 use native.Mathlib.Nat.{add-assoc}
-use lib.ListN.{take-append-drop}
-use Rattle.base.specs.Bytes.{numberAt}
-use Rattle.base.specs.Lists.{at}
+use lib.ListN.{length, take-append-drop}
+use Rattle.base.specs.Bytes.{numberAt, joined}
+use Rattle.base.specs.Lists.{at, Each}
+use Rattle.base.proofs.Occurs.{Occurs, occurs-first, occurs-second}
 use Rattle.base.specs.Tests.{pick}
 use Rattle.base.proofs.TestLaws.{Known, holds, fails, known}
-use Rattle.format.specs.Types.{Id, Action}
+use Rattle.format.specs.Limits.{mostPayload}
+use Rattle.format.specs.Places.{actionPayloadAt}
+use Rattle.format.specs.Types.{Id, Action, Context}
 use Rattle.format.specs.Range.{sameId}
 use Rattle.format.specs.Read.{idAt, payloadAt, actionAt}
+use Rattle.format.specs.Write.{actionBytes}
+use Rattle.format.proofs.Fields.{action-read}
+use Rattle.format.proofs.Ranges.{ContextRange, ActionRange}
 use Rattle.record.specs.Events.{actionIn, actionFrom}
 use Rattle.record.specs.Values.{idOf, actionOf}
-use Rattle.replication.specs.Machine.Types.{Server}
+use Rattle.replication.specs.Machine.Types.{Server, contextOf}
 use Rattle.replication.specs.Machine.Colours.{find}
 use Rattle.replication.specs.Machine.WellFormed.{queue}
-use Rattle.engine.specs.Layout.{slotSize, atGreenLength, theQueue}
+use Rattle.engine.specs.Layout.{slotSize, atGreenLength, theQueue, offset}
+use Rattle.engine.specs.Image.{over, slot, actionSlots, image, parts}
 use Rattle.engine.specs.Decode.{actionsAt, decodedAs, decoded}
 use Rattle.engine.specs.Holding.{Holds}
 use Rattle.engine.proofs.InPlace.{holds-decoded}
-use Rattle.queue.specs.Queue.{position}
+use Rattle.engine.proofs.InRange.{in-range}
+use Rattle.engine.proofs.Decoded.{image-part}
+use Rattle.engine.proofs.Fit.{well-formed-fits}
+use Rattle.engine.proofs.Used.{action-slot-length}
+use Rattle.engine.proofs.Counts.{numbers, holds-counts, holds-place}
+use Rattle.queue.specs.Queue.{position, slotPlace, QueueIn}
 use Rattle.engine.specs.Counts.{queueCount, place}
 
 -- ---- the lists
@@ -49,6 +61,43 @@ actions-at (suc m) b p (suc k) h =
 pub slot-read : (b : List ℕ) (p : ℕ) → actionFrom (actionIn b p) b ≡ actionAt b p
 unfolding actionFrom actionOf actionIn actionAt idAt payloadAt idOf
 slot-read b p = rw (add-assoc p 7 1)
+
+-- The payload's length of the slot k.
+slot-payload : (c : Context) (l : List Action) (e : List ℕ) (p k : ℕ) → ContextRange c → Each (ActionRange c) l
+    → Occurs (actionSlots l) e p → k < length l → numberAt 1 e (p + slotSize * k + actionPayloadAt) ≤ mostPayload
+unfolding actionSlots joined slot
+slot-payload c [] e p k s r o h = absurd (omega arith)
+slot-payload c (a ∷ l) e p zero s r o h =
+    let first = action-read c a e p s (r .0)
+    (occurs-first (actionBytes a) _ e p (occurs-first (slot slotSize (actionBytes a)) (actionSlots l) e p o)) .0 in
+    let here : p + 7 ≡ p + slotSize * 0 + 7 = omega arith in
+    omega (arith, first, ap (numberAt 1 e) here, r .0 .payload .most)
+slot-payload c (a ∷ l) e p (suc k) s r o h =
+    let place : p + length (slot slotSize (actionBytes a)) ≡ p + slotSize = ap (λ (m : ℕ). p + m) (action-slot-length a (r .0 .payload)) in
+    let there : p + slotSize + slotSize * k + 7 ≡ p + slotSize * suc k + 7 = omega arith in
+    let rest = slot-payload c l e (p + slotSize) k s (r .1)
+    (occurs-second (slot slotSize (actionBytes a)) (actionSlots l) e p (p + slotSize) place o) (omega arith) in
+    subst (λ (m : ℕ). numberAt 1 e m ≤ mostPayload) there rest
+
+module _ (s : Server) (b : List ℕ) (r : Holds s b) where
+  slots-there : Occurs (actionSlots (queue (s .log))) b (place theQueue b)
+  unfolding parts over
+  slots-there =
+      let o = image-part s (well-formed-fits s (r .formed)) b (r .long) theQueue (omega arith) in
+      let u = occurs-first (actionSlots (queue (s .log))) _ (image s b) (offset (s .servers) (s .quota) theQueue) o in
+      subst (λ (c : List ℕ). Occurs (actionSlots (queue (s .log))) c (place theQueue b)) (r .written)
+      (subst (Occurs (actionSlots (queue (s .log))) (image s b)) (sym (holds-place s b r theQueue)) u)
+
+  pub holds-queue : QueueIn b
+  unfolding slotPlace
+  holds-queue =
+      let i = in-range s (r .formed) in
+      record {
+        counts = holds-counts s b r;
+        payloads = λ k h.
+            slot-payload (contextOf s) (queue (s .log)) b (place theQueue b) k (i .context) (i .actions) slots-there
+            (omega (arith, numbers s b r .queue));
+      }
 
 -- ---- by id
 

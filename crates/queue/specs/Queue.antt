@@ -8,6 +8,7 @@ use Rattle.base.specs.Tests.{pick}
 use Rattle.base.specs.Bytes.{bytesOf, numberAt, partAt}
 use Rattle.base.specs.Patched.{patched}
 use Rattle.format.specs.Limits.{mostPayload}
+use Rattle.format.specs.Places.{actionPayloadAt}
 use Rattle.format.specs.Types.{Id, Action}
 use Rattle.format.specs.Range.{sameId}
 use Rattle.format.specs.Write.{actionBytes}
@@ -29,6 +30,15 @@ position d (a ∷ l) = pick (sameId d (a .id)) 0 (suc (position d l))
 -- The red actions: those behind the green ones.
 unfoldable pub redsIn : List ℕ → List Action
 redsIn b = actionsAt (queueCount b - greenCount b) b (place theQueue b + slotSize * greenCount b)
+
+-- Where the slot k of the queue begins.
+unfoldable pub slotPlace : List ℕ → ℕ → ℕ
+slotPlace b k = place theQueue b + slotSize * k
+
+-- The numbers of the buffer are in range, and so is each payload of its queue.
+pub record QueueIn (b : List ℕ) : Type 0 where
+  pub counts : CountsIn b
+  pub payloads : (k : ℕ) → k < queueCount b → numberAt 1 b (slotPlace b k + actionPayloadAt) ≤ mostPayload
 
 -- Room for one action more, of the creator c and with m bytes of payload.
 pub record RoomFor (c m : ℕ) (b : List ℕ) : Type 0 where

@@ -3,9 +3,8 @@ ghost use mathlib.Core.Path.{_≡_};
 ghost use Prim.Native.Nat.{_≤_};
 ghost use lib.ListN.{length};
 ghost use Rattle.base.specs.Bytes.{Bytes};
-ghost use Rattle.base.specs.Tests.{_or_, _<?_};
-ghost use Rattle.engine.specs.Layout.{SizesIn, stateLength, outLength};
-ghost use Rattle.engine.specs.Outcome.{stateNumber};
+ghost use Rattle.engine.specs.Layout.{headerSize, stateLength};
+ghost use Rattle.engine.specs.Outcome.{outShort, stateNumber, imageNumber};
 ghost use Rattle.record.specs.Context.{contextOf};
 ghost use Rattle.state_check.specs.Checks.{exchangeOk, modeOk, checksOf, Buffer};
 
@@ -22,6 +21,8 @@ use exchange::slots::collected as slots_of;
 use numbers::numbers_ok;
 use record::Context;
 use record::State;
+use record::bytes::num8;
+use record::bytes::num16;
 use record::range::context_ok;
 use record::range::sizes_ok;
 use record::sets::inside;
@@ -83,20 +84,9 @@ fn checks_ok(c: Context, h: State, b: &[u8]) -> bool
     mode_ok(c, h, b)
 }
 
-// Whether a buffer is shorter than its formula for n servers and the quota q.
-fn shorter(state: usize, out: usize, n: u32, q: u32) -> bool
-    requires { ⌜ SizesIn n q ⌝ }
-    ensures { λ r. ⌜ r ≡ (state <? stateLength n q or out <? outLength n q) ⌝ }
-{
-    if state < state_length(n, q) as usize {
-        return true;
-    }
-    out < out_length(n, q) as usize
-}
-
-// The state's own part of 7 and 8: 7 where a buffer is too short, 8 where the state's buffer holds no well-formed state, and else 0.
-pub fn state_number(state: &[u8], out: &[u8]) -> u32
-    ensures { λ r. ⌜ r ≡ stateNumber (now (state .entry)) (now (out .entry)) ⌝ }
+// 7 where the state's buffer is too short, 8 where it holds no well-formed state, and else 0.
+pub fn image_number(state: &[u8]) -> u32
+    ensures { λ r. ⌜ r ≡ imageNumber (now (state .entry)) ⌝ }
 {
     if state.len() < State::SIZE {
         return 7;
@@ -105,23 +95,47 @@ pub fn state_number(state: &[u8], out: &[u8]) -> u32
     let n = h.servers as u32;
     let q = h.quota as u32;
     if !sizes_ok(n, q) {
-        if shorter(
-            state.len(),
-            out.len(),
-            State::FEWEST_SERVERS as u32,
-            State::LEAST_QUOTA as u32,
-        ) {
+        let least = state_length(State::FEWEST_SERVERS as u32, State::LEAST_QUOTA as u32);
+        if state.len() < least as usize {
             return 7;
         }
         return 8;
     }
-    if shorter(state.len(), out.len(), n, q) {
+    if state.len() < state_length(n, q) as usize {
         return 7;
     }
     if !checks_ok(h.context(), h, state) {
         return 8;
     }
     0
+}
+
+// Whether the outgoing buffer is shorter than its formula, by the sizes in the state.
+fn out_short(state: &[u8], out: &[u8]) -> bool
+    requires { ⌜ headerSize ≤ length (now state) ⌝ }
+    ensures { λ r. ⌜ r ≡ outShort (now (state .entry)) (now (out .entry)) ⌝ }
+{
+    let n = num8(state, State::AT_SERVERS) as u32;
+    let q = num16(state, State::AT_QUOTA) as u32;
+    if !sizes_ok(n, q) {
+        let least = out_length(State::FEWEST_SERVERS as u32, State::LEAST_QUOTA as u32);
+        return out.len() < least as usize;
+    }
+    out.len() < out_length(n, q) as usize
+}
+
+// The state's own part of 7 and 8: 7 where a buffer is too short, 8 where the state's buffer holds no well-formed state, and else 0.
+pub fn state_number(state: &[u8], out: &[u8]) -> u32
+    ensures { λ r. ⌜ r ≡ stateNumber (now (state .entry)) (now (out .entry)) ⌝ }
+{
+    let number = image_number(state);
+    if number == 7 {
+        return 7;
+    }
+    if out_short(state, out) {
+        return 7;
+    }
+    number
 }
 
 // The same for C.

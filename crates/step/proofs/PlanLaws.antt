@@ -1,6 +1,6 @@
 -- The parts of the plan: what a buffer says of its queue, and whose part is what.
 -- Assumes nothing.
-use Prim.Native.Nat.{ℕ, zero, suc, _+_, _*_, _-_, _≤_, _<_}
+use Prim.Native.Nat.{ℕ, suc, _+_, _*_, _-_, _≤_, _<_}
 use mathlib.Core.Path.{_≡_, refl, sym, ap, ap₂, subst, _∙_}
 use mathlib.Core.Bool.{true, false, not}
 use mathlib.Core.List.{List, [], _∷_, _++_, append-nil}
@@ -8,86 +8,42 @@ use native.Mathlib.Omega.{arith}
 use native.Mathlib.Nat.{mul-le-mul-right}
 use lib.ListN.{length, drop, take-append-drop}
 use borrow.Author.Tests.{not-true, not-false}
-use Rattle.base.specs.Bytes.{numberAt, joined}
+use Rattle.base.specs.Bytes.{numberAt}
 use Rattle.base.proofs.Comparable.{gather-all-append}
-use Rattle.base.specs.Lists.{gather, gatherAll, above, below, Each}
-use Rattle.base.proofs.Occurs.{Occurs, occurs-first, occurs-second}
+use Rattle.base.specs.Lists.{gather, gatherAll, above, below}
 use Rattle.base.specs.Patched.{patched}
 use Rattle.base.specs.Tests.{pick}
 use Rattle.base.proofs.TestLaws.{pick-yes, pick-no}
-use Rattle.format.specs.Types.{Action, Record, Context}
-use Rattle.format.specs.Write.{actionBytes}
-use Rattle.format.proofs.Fields.{action-read}
-use Rattle.format.proofs.Ranges.{ContextRange, ActionRange}
+use Rattle.format.specs.Types.{Record}
 use Rattle.record.specs.Values.{idOf}
-use Rattle.replication.specs.Machine.Types.{Server, contextOf}
+use Rattle.replication.specs.Machine.Types.{Server}
 use Rattle.replication.specs.Machine.Plan.{highest, missing, cutIn, greenIn, resendGreen, resendRed, ownPart}
 use Rattle.replication.specs.Machine.Step.{collected}
 use Rattle.replication.specs.Machine.WellFormed.{queue}
 use Rattle.replication.proofs.WellFormed.Changes.{Body, body, collected-fit}
 use Rattle.replication.proofs.WellFormed.Decisions.{green-bound, cut-bound}
 use Rattle.replication.proofs.WellFormed.Facts.{well-formed-facts}
-use Rattle.engine.specs.Layout.{slotSize, theQueue, offset, outLength, atServers, atMe, atGreenLength}
-use Rattle.engine.specs.Image.{over, slot, actionSlots, image, parts}
+use Rattle.engine.specs.Layout.{theQueue, outLength, atServers, atMe, atGreenLength}
+use Rattle.engine.specs.Image.{over}
 use Rattle.engine.specs.Decode.{actionsAt, decodedAs, serversIn, quotaIn, decoded}
-use Rattle.engine.proofs.Decoded.{image-part}
-use Rattle.engine.proofs.Fit.{well-formed-fits}
 use Rattle.engine.specs.Holding.{Holds, HoldsSuch, HoldsSome}
 use Rattle.engine.proofs.InPlace.{holds-decoded, holds-some}
-use Rattle.engine.proofs.InRange.{in-range}
-use Rattle.engine.proofs.Used.{action-slot-length}
+use Rattle.queue.proofs.ReadLaws.{holds-queue}
 use Rattle.step.specs.Answers.{LentSuch, recordBytes}
 use Rattle.exchange.specs.Decided.{partOf}
 use Rattle.exchange.specs.declared.decided.Part.{Part}
-use Rattle.step.specs.Resending.{queueIn, greensIn, slotPlace, QueueIn, atPosition, asRed, Sends, Stated, greenPart}
+use Rattle.step.specs.Resending.{queueIn, greensIn, atPosition, asRed, Sends, Stated, greenPart}
 use Rattle.step.specs.Resending.{redPart, redParts, wholePart}
 use Rattle.step.proofs.ResendingLaws.{sends-none, sends-next}
 use Rattle.format.specs.Places.{mostRetransmission}
 use Rattle.engine.specs.Counts.{queueCount, place, mostActions}
-use Rattle.engine.proofs.Counts.{numbers, holds-counts, holds-place}
-use Rattle.format.specs.Limits.{mostPayload}
+use Rattle.engine.proofs.Counts.{numbers, holds-counts}
 
 -- ---- a buffer that holds a state
 
--- The payload's length of the slot k.
-slot-payload : (c : Context) (l : List Action) (e : List ℕ) (p k : ℕ) → ContextRange c → Each (ActionRange c) l
-    → Occurs (actionSlots l) e p → k < length l → numberAt 1 e (p + slotSize * k + 7) ≤ mostPayload
-unfolding actionSlots joined slot
-slot-payload c [] e p k s r o h = absurd (omega arith)
-slot-payload c (a ∷ l) e p zero s r o h =
-    let first = action-read c a e p s (r .0)
-    (occurs-first (actionBytes a) _ e p (occurs-first (slot slotSize (actionBytes a)) (actionSlots l) e p o)) .0 in
-    let here : p + 7 ≡ p + slotSize * 0 + 7 = omega arith in
-    omega (arith, first, ap (numberAt 1 e) here, r .0 .payload .most)
-slot-payload c (a ∷ l) e p (suc k) s r o h =
-    let place : p + length (slot slotSize (actionBytes a)) ≡ p + slotSize = ap (λ (m : ℕ). p + m) (action-slot-length a (r .0 .payload)) in
-    let there : p + slotSize + slotSize * k + 7 ≡ p + slotSize * suc k + 7 = omega arith in
-    let rest = slot-payload c l e (p + slotSize) k s (r .1)
-    (occurs-second (slot slotSize (actionBytes a)) (actionSlots l) e p (p + slotSize) place o) (omega arith) in
-    subst (λ (m : ℕ). numberAt 1 e m ≤ mostPayload) there rest
-
 module _ (s : Server) (b : List ℕ) (r : Holds s b) where
-  slots-there : Occurs (actionSlots (queue (s .log))) b (place theQueue b)
-  unfolding parts over
-  slots-there =
-      let o = image-part s (well-formed-fits s (r .formed)) b (r .long) theQueue (omega arith) in
-      let u = occurs-first (actionSlots (queue (s .log))) _ (image s b) (offset (s .servers) (s .quota) theQueue) o in
-      subst (λ (c : List ℕ). Occurs (actionSlots (queue (s .log))) c (place theQueue b)) (r .written)
-      (subst (Occurs (actionSlots (queue (s .log))) (image s b)) (sym (holds-place s b r theQueue)) u)
-
-  holds-queue : QueueIn b
-  unfolding slotPlace
-  holds-queue =
-      let i = in-range s (r .formed) in
-      record {
-        counts = holds-counts s b r;
-        payloads = λ k h.
-            slot-payload (contextOf s) (queue (s .log)) b (place theQueue b) k (i .context) (i .actions) slots-there
-            (omega (arith, numbers s b r .queue));
-      }
-
   holds-stated : Stated b
-  holds-stated = record { holds = subst (λ (t : Server). Holds t b) (sym (holds-decoded s b r)) r; queue = holds-queue }
+  holds-stated = record { holds = subst (λ (t : Server). Holds t b) (sym (holds-decoded s b r)) r; queue = holds-queue s b r }
 
 -- ---- whose part is what
 

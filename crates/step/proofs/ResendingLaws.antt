@@ -31,10 +31,10 @@ use Rattle.engine.proofs.Slots.{actions-count}
 use Rattle.queue.proofs.ReadLaws.{actions-at, slot-read, find-at, queue-read}
 use Rattle.step.specs.Answers.{recordBytes}
 use Rattle.install.specs.Table.{IndexedFrom, placeFrom, logIn}
-use Rattle.step.specs.Resending.{queueIn, greensIn, slotPlace, QueueIn, fromPlace, atPosition, asRed, oneOf, Sends}
+use Rattle.step.specs.Resending.{queueIn, greensIn, fromPlace, atPosition, asRed, oneOf, Sends}
 use Rattle.format.specs.Places.{mostRetransmission}
 use Rattle.engine.specs.Counts.{queueCount, greenCount, place}
-use Rattle.queue.specs.Queue.{position}
+use Rattle.queue.specs.Queue.{position, slotPlace, QueueIn}
 use Rattle.engine.proofs.InPlace.{such-decoded}
 use Rattle.engine.specs.Decode.{decoded}
 use native.Mathlib.Nat.{zero-add}

@@ -1,6 +1,6 @@
 -- One's part of the retransmission plan, over the buffers.
 -- Assumes nothing.
-use Prim.Native.Nat.{ℕ, _+_, _*_, _-_, _≤_, _<_}
+use Prim.Native.Nat.{ℕ, _+_, _*_, _-_, _≤_}
 use mathlib.Core.Path.{_≡_}
 use mathlib.Core.List.{List, [], _++_}
 use mathlib.Core.Option.{Option}
@@ -14,13 +14,14 @@ use Rattle.record.specs.Values.{idOf}
 use Rattle.replication.specs.Machine.Colours.{find}
 use Rattle.replication.specs.Machine.Plan.{resent, resendGreen, resendRed, ownPart}
 use Rattle.replication.specs.Machine.Step.{collected}
-use Rattle.engine.specs.Layout.{slotSize, theQueue, atMe}
+use Rattle.engine.specs.Layout.{theQueue, atMe}
 use Rattle.engine.specs.Decode.{actionsAt, decoded, serversIn}
 use Rattle.engine.specs.Holding.{Holds}
+use Rattle.queue.specs.Queue.{QueueIn}
 use Rattle.install.specs.Table.{IndexedFrom}
 use Rattle.step.specs.Answers.{recordBytes, Lent}
-use Rattle.format.specs.Places.{actionPayloadAt, mostRetransmission}
-use Rattle.engine.specs.Counts.{CountsIn, queueCount, greenCount, place}
+use Rattle.format.specs.Places.{mostRetransmission}
+use Rattle.engine.specs.Counts.{queueCount, greenCount, place}
 use denote.Ref.{now}
 use Rattle.record.specs.declared.events.ActionAt.{ActionAt}
 use Rattle.replication.specs.Machine.Types.{Server}
@@ -32,15 +33,6 @@ queueIn b = actionsAt (queueCount b) b (place theQueue b)
 
 unfoldable pub greensIn : List ℕ → List Action
 greensIn b = take (greenCount b) (queueIn b)
-
--- Where the slot k of the queue begins.
-unfoldable pub slotPlace : List ℕ → ℕ → ℕ
-slotPlace b k = place theQueue b + slotSize * k
-
--- The numbers of the buffer are in range, and so is each payload of its queue.
-pub record QueueIn (b : List ℕ) : Type 0 where
-  pub counts : CountsIn b
-  pub payloads : (k : ℕ) → k < queueCount b → numberAt 1 b (slotPlace b k + actionPayloadAt) ≤ mostPayload
 
 -- The table of the whole queue of the buffer b.
 abbrev pub TableOf : (t b : List ℕ) → Type 0

@@ -1,0 +1,185 @@
+-- Green entries, as the code puts them one behind another.
+-- Assumes nothing.
+use Prim.Native.Nat.{ℕ, zero, suc, _+_, _*_, _-_, _^_, _≤_, _<_}
+use mathlib.Core.Path.{_≡_, refl, sym, ap, _∙_}
+use mathlib.Core.List.{List, [], _∷_, _++_, append-nil, append-assoc}
+use mathlib.Core.Option.{some}
+use native.Mathlib.Omega.{arith}
+use native.Mathlib.Nat.{zero-add}
+use lib.ListN.{length, take, drop, length-append}
+use lib.Seq.{length-take-le, drop-length}
+use Rattle.base.specs.Bytes.{numberAt, joined}
+use Rattle.base.specs.Lists.{at}
+use Rattle.base.proofs.AtLaws.{none-some, some-same, at-take}
+use Rattle.base.specs.Patched.{patched}
+use Rattle.base.proofs.PatchedLaws.{patched-next, patched-none}
+use Rattle.base.proofs.TestLaws.{pick-ge}
+use Rattle.format.specs.Limits.{mostPayload}
+use Rattle.format.specs.Places.{actionPayloadAt, actionHeadSize}
+use Rattle.format.specs.Types.{Action}
+use Rattle.format.specs.Read.{actionAt}
+use Rattle.engine.specs.Layout.{slotSize, theQueue}
+use Rattle.engine.specs.Image.{over}
+use Rattle.engine.specs.Decode.{actionsAt, decodedAs, decoded}
+use Rattle.engine.specs.Counts.{queueCount, greenCount, place}
+use Rattle.engine.proofs.Slots.{actions-count}
+use Rattle.queue.specs.Queue.{slotPlace, QueueIn}
+use Rattle.queue.proofs.Inside.{over-front}
+use Rattle.queue.proofs.ReadLaws.{actions-at}
+use Rattle.queries.specs.declared.GreenEntries.{GreenEntries}
+use Rattle.queries.specs.Queries.{entryBytes, entriesBytes, entryHeadSize, mostEntry, fitting, greens, putting, listing, listed, putEntries}
+use Rattle.queries.proofs.EntryLaws.{slot-entry-length, entries-append, one-entry, first-fits, first-too-long, none-to-fit}
+
+-- ---- the green list
+
+drop-next : {A : Type 0} (l : List A) (p : ℕ) (x : A) → at l p ≡ some x → drop p l ≡ x ∷ drop (suc p) l
+unfolding at
+drop-next [] p x e = none-some e
+drop-next (y ∷ l) zero x e = ap (λ z. z ∷ l) (some-same e)
+drop-next (y ∷ l) (suc p) x e = drop-next l p x e
+
+module _ (b : List ℕ) (q : QueueIn b) where
+  abbrev queued : List Action
+  queued = actionsAt (queueCount b) b (place theQueue b)
+
+  greens-read : greens b ≡ take (greenCount b) queued
+  unfolding greens decoded decodedAs place
+  greens-read = refl
+
+  pub greens-count : length (greens b) ≡ greenCount b
+  greens-count =
+      ap length greens-read ∙ length-take-le (greenCount b) queued (omega (arith, actions-count (queueCount b) b (place theQueue b), q .counts .green))
+
+  -- The next one lies in the slot k.
+  greens-next : (k : ℕ) → k < greenCount b → drop k (greens b) ≡ actionAt b (slotPlace b k) ∷ drop (suc k) (greens b)
+  unfolding slotPlace
+  greens-next k h =
+      drop-next (greens b) k (actionAt b (place theQueue b + slotSize * k))
+      (ap (λ (l : List Action). at l k) greens-read
+      ∙ at-take (greenCount b) queued k h
+      ∙ actions-at (queueCount b) b (place theQueue b) k (omega (arith, q .counts .green)))
+
+-- ---- the loop
+
+-- Entries put so far: k and `at` are the places behind them, and what fits of the whole is these and what fits of the rest.
+pub record Along (b : List ℕ) (from : ℕ) (o₀ o : List ℕ) (k at : ℕ) : Type 0 where
+  pub size : length o ≡ length o₀
+  pub high : k ≤ greenCount b
+  pub put : List Action
+  pub count : from + length put ≡ k
+  pub place : at ≡ length (entriesBytes put)
+  pub inside : at ≤ length o₀
+  pub most : at ≤ mostEntry * length put
+  pub bytes : o ≡ patched 0 (entriesBytes put) o₀
+  pub rest : fitting (length o₀) (drop from (greens b)) ≡ put ++ fitting (length o₀ - at) (drop k (greens b))
+
+pub along-starts : (b : List ℕ) (from green : ℕ) (o : List ℕ) → green ≡ greenCount b → from ≤ green → Along b from o o from 0
+unfolding entriesBytes joined
+along-starts b from green o e h =
+    let room : length o ≡ length o - 0 = omega arith in
+    record {
+      size = refl;
+      high = omega arith;
+      put = [];
+      count = omega arith;
+      place = refl;
+      inside = omega arith;
+      most = omega arith;
+      bytes = sym (patched-none 0 o);
+      rest = ap (λ (r : ℕ). fitting r (drop from (greens b))) room;
+    }
+
+module _ (b : List ℕ) (from : ℕ) (o₀ o : List ℕ) (k at : ℕ) (q : QueueIn b) (a : Along b from o₀ o k at) where
+  pub along-low : from ≤ k
+  along-low = omega (arith, a .count)
+
+  -- The bytes are few enough for 32 bits.
+  pub along-few : at < 2 ^ 32
+  along-few = omega (arith, a .most, a .count, a .high, q .counts .green, q .counts .queue, q .counts .most)
+
+  -- Nothing more fits: the answer.
+  module _ (done : fitting (length o₀ - at) (drop k (greens b)) ≡ []) where
+    chosen : a .put ≡ fitting (length o₀) (drop from (greens b))
+    chosen = sym (a .rest ∙ ap (λ (x : List Action). a .put ++ x) done ∙ append-nil (a .put))
+
+    along-answer : (green : ℕ) (r : GreenEntries) → green ≡ greenCount b → r ≡ putEntries green (k - from) at → listed r o ≡ listing (greens b) from o₀
+    unfolding listed listing putting
+    along-answer green r e is-r =
+        let green-is : green ≡ length (greens b) = e ∙ sym (greens-count b q) in
+        let entries : k - from ≡ length (a .put) = omega (arith, a .count) in
+        let put : o ≡ over (entriesBytes (a .put)) o₀ = a .bytes ∙ over-front (entriesBytes (a .put)) o₀ in
+        ap (λ (y : GreenEntries). listed y o) is-r
+        ∙ pick-ge (length (greens b)) from _ _ _ (omega (arith, a .count, a .high, greens-count b q))
+        (λ i. record {
+          number = 0;
+          green = green-is i;
+          entries = (entries ∙ ap length chosen) i;
+          bytes = (a .place ∙ ap (λ (x : List Action). length (entriesBytes x)) chosen) i;
+          out = (put ∙ ap (λ (x : List Action). over (entriesBytes x) o₀) chosen) i;
+        })
+
+  pub along-ends : (green : ℕ) (r : GreenEntries) → green ≡ greenCount b → green ≤ k → r ≡ putEntries green (k - from) at → listed r o ≡ listing (greens b) from o₀
+  along-ends green r e h is-r =
+      let last : k ≡ length (greens b) = omega (arith, a .high, greens-count b q) in
+      along-answer
+      (ap (λ (n : ℕ). fitting (length o₀ - at) (drop n (greens b))) last
+      ∙ ap (fitting (length o₀ - at)) (drop-length (greens b))
+      ∙ none-to-fit (length o₀ - at)) green r e is-r
+
+  -- The slot k, with its payload's length.
+  module _ (green p m : ℕ) (e : green ≡ greenCount b) (h : k < green) (is-p : p ≡ place theQueue b) (is-m : m ≡ numberAt 1 b (p + slotSize * k + actionPayloadAt)) where
+    slot-short : m ≤ mostPayload
+    unfolding slotPlace
+    slot-short =
+        let here : p + slotSize * k + actionPayloadAt ≡ place theQueue b + slotSize * k + actionPayloadAt = omega arith in
+        omega (arith, q .payloads k (omega (arith, q .counts .green)), ap (numberAt 1 b) here)
+
+    pub slot-inside : p + slotSize * k + actionHeadSize + m ≤ length b
+    slot-inside = omega (arith, slot-short, q .counts .queueEnd, q .counts .queue, q .counts .green)
+
+    abbrev x : Action
+    x = actionAt b (p + slotSize * k)
+
+    next-is : drop k (greens b) ≡ x ∷ drop (suc k) (greens b)
+    unfolding slotPlace
+    next-is = greens-next b q k (omega arith) ∙ ap (λ (n : ℕ). actionAt b (n + slotSize * k) ∷ drop (suc k) (greens b)) (sym is-p)
+
+    size-is : length (entryBytes x) ≡ entryHeadSize + m
+    size-is = slot-entry-length b (p + slotSize * k) m is-m slot-inside
+
+    pub along-full : (r : GreenEntries) → length o - at < entryHeadSize + m → r ≡ putEntries green (k - from) at → listed r o ≡ listing (greens b) from o₀
+    along-full r l is-r =
+        along-answer
+        (ap (fitting (length o₀ - at)) next-is ∙ first-too-long (length o₀ - at) x (drop (suc k) (greens b)) (omega (arith, size-is, a .size))) green r e is-r
+
+    module _ (l : entryHeadSize + m ≤ length o - at) where
+      pub along-room : at + (entryHeadSize + m) ≤ length o
+      along-room = omega (arith, a .inside, a .size)
+
+      pub along-on : (o₁ : List ℕ) → length o₁ ≡ length o → o₁ ≡ patched at (entryBytes x) o → Along b from o₀ o₁ (k + 1) (at + (entryHeadSize + m))
+      along-on o₁ same put =
+          let long : length (a .put ++ (x ∷ [])) ≡ length (a .put) + 1 = length-append (a .put) (x ∷ []) in
+          let all : entriesBytes (a .put ++ (x ∷ [])) ≡ entriesBytes (a .put) ++ entryBytes x =
+          entries-append (a .put) (x ∷ []) ∙ ap (λ (y : List ℕ). entriesBytes (a .put) ++ y) (one-entry x) in
+          let left : length o₀ - at - length (entryBytes x) ≡ length o₀ - (at + (entryHeadSize + m)) = omega (arith, size-is) in
+          let next : suc k ≡ k + 1 = omega arith in
+          record {
+            size = same ∙ a .size;
+            high = omega arith;
+            put = a .put ++ (x ∷ []);
+            count = omega (arith, long, a .count);
+            place = omega (arith, a .place, size-is, ap length all ∙ length-append (entriesBytes (a .put)) (entryBytes x));
+            inside = omega (arith, a .inside, a .size);
+            most = omega (arith, long, a .most, slot-short);
+            bytes =
+                put
+                ∙ (λ i. patched ((a .place ∙ sym (zero-add (length (entriesBytes (a .put))))) i) (entryBytes x) (a .bytes i))
+                ∙ patched-next 0 (entriesBytes (a .put)) (entryBytes x) o₀ (omega arith)
+                ∙ ap (λ (y : List ℕ). patched 0 y o₀) (sym all);
+            rest =
+                a .rest
+                ∙ ap (λ (y : List Action). a .put ++ fitting (length o₀ - at) y) next-is
+                ∙ ap (λ (y : List Action). a .put ++ y) (first-fits (length o₀ - at) x (drop (suc k) (greens b)) (omega (arith, size-is, a .size)))
+                ∙ sym (append-assoc (a .put) (x ∷ []) (fitting (length o₀ - at - length (entryBytes x)) (drop (suc k) (greens b))))
+                ∙ (λ i. (a .put ++ (x ∷ [])) ++ fitting (left i) (drop (next i) (greens b)));
+          }

@@ -1,0 +1,5 @@
+pub mod EntryLaws
+pub mod EntriesCode
+pub mod ListingLaws
+pub mod SummaryLaws
+pub mod ReadingLaws

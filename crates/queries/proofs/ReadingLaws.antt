@@ -1,0 +1,157 @@
+-- Readings one behind another, and what turned green by an event.
+-- Assumes nothing.
+use Prim.Native.Nat.{ℕ, _+_, _-_, _≤_}
+use mathlib.Core.Path.{_≡_, refl, sym, ap, ap₂, subst, _∙_}
+use mathlib.Core.List.{List, [], _∷_, _++_, append-nil}
+use native.Mathlib.Omega.{arith}
+use lib.ListN.{length, take, drop, length-drop, take-append-drop}
+use lib.Seq.{drop-drop, drop-length, take-append-seam}
+use Rattle.base.specs.Bytes.{joined}
+use Rattle.base.specs.Lists.{Each}
+use Rattle.base.proofs.ListLaws.{each-first, each-second, each-implied}
+use Rattle.base.proofs.Prefixes.{drop-beginning}
+use Rattle.base.specs.Tests.{_<?_, _=?_}
+use Rattle.base.proofs.TestLaws.{Known, holds, fails, known, lt-holds, lt-fails, eq-holds, eq-fails}
+use Rattle.format.specs.Limits.{mostPayload}
+use Rattle.format.specs.Types.{Action}
+use Rattle.format.proofs.Ranges.{ActionRange}
+use Rattle.replication.specs.Machine.Types.{Server, Outcome, refused, taken, contextOf}
+use Rattle.replication.specs.Machine.Step.{step}
+use Rattle.replication.specs.Machine.WellFormed.{queue}
+use Rattle.replication.proofs.Step.Growth.{green-gained}
+use Rattle.engine.specs.Image.{over, image}
+use Rattle.engine.specs.Decode.{decoded}
+use Rattle.engine.specs.Holding.{Holds}
+use Rattle.engine.specs.Outcome.{imageNumber, Result, refusal, resultOf, stateNumber, stepOn}
+use Rattle.engine.proofs.InPlace.{holds-decoded}
+use Rattle.engine.proofs.InRange.{in-range}
+use Rattle.engine.proofs.Refusals.{zero-whole, zero-ready, zero-read, step-read, step-refused, whole-holds, holds-whole}
+use Rattle.engine.proofs.Taken.{taken-holds}
+use Rattle.queries.specs.Queries.{entriesBytes, mostEntry, fitting, greens, Listing, putting, entriesOn}
+use Rattle.queries.specs.Reading.{Reads, readings, Progress, turnedGreen, GreenBy, NewlyGreen}
+use Rattle.queries.proofs.EntryLaws.{entry-length, entries-append, first-fits, fitting-taken}
+use Rattle.queries.proofs.ListingLaws.{Put, put-is, put-when}
+
+-- ---- one reading
+
+-- With room for the longest entry, the first one fits.
+some-fit : (r : ℕ) (l : List Action) → mostEntry ≤ r → Each (λ a. length (a .payload) ≤ mostPayload) l → 1 ≤ length l → 1 ≤ length (fitting r l)
+some-fit r [] h e n = absurd (omega arith)
+some-fit r (a ∷ l) h e n = omega (arith, ap length (first-fits r a l (omega (arith, entry-length a, e .0))))
+
+green-payloads : (b : List ℕ) → imageNumber b ≡ 0 → Each (λ a. length (a .payload) ≤ mostPayload) (greens b)
+unfolding greens queue
+green-payloads b z =
+    let s : Server = decoded b in
+    each-implied (ActionRange (contextOf s)) (λ a. length (a .payload) ≤ mostPayload) (λ a r. r .payload .most) (s .log .green)
+    (each-first (ActionRange (contextOf s)) (s .log .green) (s .log .red) (in-range s (whole-holds b z .formed) .actions))
+
+module _ (b : List ℕ) (f : ℕ) (o : List ℕ) (p : Put b f o) where
+  abbrev rest : List Action
+  rest = drop f (greens b)
+
+  abbrev chosen : List Action
+  chosen = fitting (length o) rest
+
+  rest-long : length rest ≡ length (greens b) - f
+  rest-long = length-drop f (greens b)
+
+  rest-payloads : Each (λ a. length (a .payload) ≤ mostPayload) rest
+  rest-payloads =
+      each-second (λ a. length (a .payload) ≤ mostPayload) (take f (greens b)) rest
+      (subst (Each (λ a. length (a .payload) ≤ mostPayload)) (sym (take-append-drop f (greens b))) (green-payloads b (p .whole)))
+
+  reading : Reads b f o (putting (greens b) chosen o)
+  unfolding putting
+  reading =
+      let t = fitting-taken (length o) rest in
+      record {
+        green = refl;
+        inside = omega (arith, t .0, rest-long, p .inside);
+        bytes = ap (λ (x : List Action). length (entriesBytes x)) (t .1);
+        out = ap (λ (x : List Action). over (entriesBytes x) o) (t .1);
+        some = λ l. some-fit (length o) rest (p .room) rest-payloads (omega (arith, rest-long));
+      }
+
+  pub put-reads : Reads b f o (entriesOn b f o)
+  put-reads = subst (Reads b f o) (sym (put-is b f o p)) reading
+
+-- ---- readings one behind another
+
+no-entries : entriesBytes [] ≡ []
+unfolding entriesBytes joined
+no-entries = refl
+
+front : (y l : List ℕ) → take (length y) (over y l) ≡ y
+unfolding over
+front y l = take-append-seam y (drop (length y) l)
+
+all-read : (b : List ℕ) (f : ℕ) (os : List (List ℕ)) → imageNumber b ≡ 0 → Each (λ o. mostEntry ≤ length o) os → f ≤ length (greens b)
+    → length (greens b) ≤ f + length os → readings b f os ≡ entriesBytes (drop f (greens b))
+unfolding readings
+all-read b f [] z r h l =
+    let last : f ≡ length (greens b) = omega arith in
+    sym (ap (λ (n : ℕ). entriesBytes (drop n (greens b))) last ∙ ap entriesBytes (drop-length (greens b)) ∙ no-entries)
+all-read b f (o ∷ os) z r h l =
+    let x : Listing = entriesOn b f o in
+    let a = put-reads b f o (record { whole = z; room = r .0; inside = h }) in
+    let y : List ℕ = entriesBytes (take (x .entries) (drop f (greens b))) in
+    let first : take (x .bytes) (x .out) ≡ y = ap₂ {A = ℕ} {B = List ℕ} {C = List ℕ} (λ n w. take n w) (a .bytes) (a .out) ∙ front y o in
+    let next = all-read b (f + x .entries) os z (r .1) (a .inside) (enough (known (f <? length (greens b))) a) in
+    ap₂ {A = List ℕ} {B = List ℕ} {C = List ℕ} (λ u v. u ++ v) first (next ∙ ap entriesBytes (sym (drop-drop (x .entries) f (greens b))))
+    ∙ sym (entries-append (take (x .entries) (drop f (greens b))) (drop (x .entries) (drop f (greens b))))
+    ∙ ap entriesBytes (take-append-drop (x .entries) (drop f (greens b)))
+  where
+    enough : Known (f <? length (greens b)) → Reads b f o (entriesOn b f o) → length (greens b) ≤ f + entriesOn b f o .entries + length os
+    enough (holds t) a = omega (arith, a .some (lt-holds f (length (greens b)) t))
+    enough (fails t) a = omega (arith, lt-fails f (length (greens b)) t)
+
+pub progress : Progress
+progress = record { reading = λ b f o z. put-reads b f o (put-when b f o z); all = all-read }
+
+-- ---- what turned green
+
+module _ (b e o : List ℕ) (z : stepOn b e o .number ≡ 0) where
+  ready : stateNumber b o ≡ 0
+  unfolding refusal
+  ready = go (known (stateNumber b o =? 0))
+    where
+      go : Known (stateNumber b o =? 0) → stateNumber b o ≡ 0
+      go (holds h) = eq-holds (stateNumber b o) 0 h
+      go (fails h) = sym (ap (λ (r : Result). r .number) (step-refused b e o (eq-fails (stateNumber b o) 0 h))) ∙ z
+
+  -- The state's bytes c afterwards, and what turned green.
+  pub record After (c : List ℕ) (g : List Action) : Type 0 where
+    pub whole : imageNumber c ≡ 0
+    pub gained : greens c ≡ greens b ++ g
+
+  after-step : After (stepOn b e o .state) (turnedGreen (step (decoded b) e))
+  unfolding resultOf refusal turnedGreen greens
+  after-step =
+      subst (λ (r : Result). After (r .state) (turnedGreen (step (decoded b) e))) (sym machine) (go (step (decoded b) e) refl)
+    where
+      machine : stepOn b e o ≡ resultOf (step (decoded b) e) b o
+      machine = step-read b e o (decoded b) (zero-read b o ready .0) (zero-ready b o ready .read)
+
+      go : (x : Outcome (List ℕ)) → step (decoded b) e ≡ x → After (resultOf x b o .state) (turnedGreen x)
+      go (refused k) h = record { whole = zero-whole b o ready; gained = sym (append-nil (greens b)) }
+      go (taken t rs w g) h =
+          let new : Holds t (image t b) = taken-holds (decoded b) e t rs w g h b (zero-ready b o ready .image) in
+          record {
+            whole = holds-whole t (image t b) new;
+            gained = ap (λ (s : Server). s .log .green) (holds-decoded t (image t b) new) ∙ green-gained (decoded b) e t rs w g h;
+          }
+
+  green-by : GreenBy b e o
+  green-by =
+      let g : List Action = turnedGreen (step (decoded b) e) in
+      record {
+        before = zero-whole b o ready;
+        after = after-step .whole;
+        gained = after-step .gained;
+        behind = ap (λ (l : List Action). drop (length (greens b)) l) (after-step .gained) ∙ drop-beginning (greens b) g;
+      }
+
+pub newly-green : NewlyGreen
+unfolding NewlyGreen
+newly-green b e o z = green-by b e o z

@@ -1,0 +1,70 @@
+use native.Mathlib.Omega.{arith}
+use Rattle.queries.proofs.SummaryLaws.{summary-made}
+use borrow.Author.Needs.{needs}
+use Rattle.queries.proofs.Summary.of.Statement.{statement}
+use Rattle.queries.proofs.Summary.of.Tie as tie
+
+cast-t2 : tie.Need-cast-t2
+cast-t2 c = search needs
+
+cast-t3 : tie.Need-cast-t3
+cast-t3 c = search needs
+
+cast-t4 : tie.Need-cast-t4
+cast-t4 c = search needs
+
+cast-t5 : tie.Need-cast-t5
+cast-t5 c = search needs
+
+cast-t6 : tie.Need-cast-t6
+cast-t6 c = search needs
+
+cast-t7 : tie.Need-cast-t7
+cast-t7 c = search needs
+
+cast-t8 : tie.Need-cast-t8
+cast-t8 c = search needs
+
+cast-t9 : tie.Need-cast-t9
+cast-t9 c = omega (arith, c .struct-known8 .given)
+
+sub-t10 : tie.Need-sub-t10
+sub-t10 c = search needs
+
+cast-t11 : tie.Need-cast-t11
+cast-t11 c = omega (arith, c .struct-known10 .given)
+
+cast-t12 : tie.Need-cast-t12
+cast-t12 c = omega (arith, c .struct-known11 .given)
+
+cast-t13 : tie.Need-cast-t13
+cast-t13 c = omega (arith, c .struct-known12 .given)
+
+cast-t14 : tie.Need-cast-t14
+cast-t14 c = omega (arith, c .struct-known13 .given)
+
+cast-t15 : tie.Need-cast-t15
+cast-t15 c = omega (arith, c .struct-known14 .given)
+
+returns : tie.Need-returns
+returns c = search (needs, summary-made)
+
+pub of-spec : {M : Type 1} → statement M
+of-spec =
+    tie.close
+    (tie.spec
+    cast-t2
+    cast-t3
+    cast-t4
+    cast-t5
+    cast-t6
+    cast-t7
+    cast-t8
+    cast-t9
+    sub-t10
+    cast-t11
+    cast-t12
+    cast-t13
+    cast-t14
+    cast-t15
+    returns)

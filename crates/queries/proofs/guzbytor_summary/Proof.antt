@@ -1,0 +1,27 @@
+use Rattle.queries.proofs.SummaryLaws.{summary-refused, summary-header, summary-counts, summary-read}
+use borrow.Author.Needs.{needs}
+use Rattle.queries.proofs.guzbytor_summary.Statement.{statement}
+use Rattle.queries.proofs.guzbytor_summary.Tie as tie
+
+image-number-requires : tie.Need-image-number-requires
+image-number-requires c κs = search needs
+
+refused-requires : tie.Need-refused-requires
+refused-requires c κs = search needs
+
+returns : tie.Need-returns
+returns c = search (needs, summary-refused)
+
+load-requires : tie.Need-load-requires
+load-requires c κs = search (needs, summary-header)
+
+of-requires : tie.Need-of-requires
+of-requires c κs = search (needs, summary-counts)
+
+returns-2 : tie.Need-returns-2
+returns-2 c = search (needs, summary-read)
+
+pub guzbytor-summary-spec : {M : Type 1} → statement M
+guzbytor-summary-spec =
+    tie.close
+    (tie.spec image-number-requires refused-requires returns load-requires of-requires returns-2)

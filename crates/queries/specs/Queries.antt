@@ -1,0 +1,142 @@
+-- What a state's buffer says, for C: its numbers, and its green entries.
+-- Assumes nothing.
+use Prim.Native.Nat.{ℕ, _+_, _-_}
+use mathlib.Core.List.{List, [], _∷_, map}
+use lib.ListN.{length, drop}
+use Rattle.base.specs.Tests.{_or_, _≤?_, _<?_, _=?_, pick}
+use Rattle.base.specs.Bytes.{joined}
+use Rattle.format.specs.Limits.{mostPayload}
+use Rattle.format.specs.Places.{idSize}
+use Rattle.format.specs.Types.{Action}
+use Rattle.format.specs.Write.{idBytes, payloadBytes}
+use Rattle.replication.specs.Machine.Types.{Server}
+use Rattle.engine.specs.Image.{modeNumber, over}
+use Rattle.engine.specs.Header.{statusOf, idOf, setOf, transitionalOf}
+use Rattle.engine.specs.Decode.{decoded, reads}
+use Rattle.engine.specs.Outcome.{stateShort, imageNumber}
+use Rattle.queries.specs.declared.Summary.{Summary}
+use Rattle.queries.specs.declared.GreenEntries.{GreenEntries}
+
+-- ---- the summary
+
+unfoldable pub summaryOf : Server → Summary
+summaryOf s = record {
+  number = 0;
+  servers = s .servers;
+  quota = s .quota;
+  me = s .me;
+  state = modeNumber (s .membership .mode);
+  configured = statusOf (s .membership .configuration);
+  «configuration_id» = idOf (s .membership .configuration);
+  «configuration_set» = setOf (s .membership .configuration);
+  transitional = statusOf (s .membership .transitional);
+  «transitional_set» = transitionalOf (s .membership .transitional);
+  green = length (s .log .green);
+  red = length (s .log .red);
+  numbered = s .log .numbered;
+  waiting = length (s .log .own);
+  held = length (s .held);
+  «primary_index» = s .votes .last .index;
+  «primary_attempt» = s .votes .last .attempt;
+  «primary_set» = s .votes .last .set;
+  attempt = s .votes .attempt;
+  marked = s .votes .mark .status;
+}
+
+-- Refused: the number, and zeros.
+unfoldable pub noSummary : (number : ℕ) → Summary
+noSummary k = record {
+  number = k;
+  servers = 0;
+  quota = 0;
+  me = 0;
+  state = 0;
+  configured = 0;
+  «configuration_id» = 0;
+  «configuration_set» = 0;
+  transitional = 0;
+  «transitional_set» = 0;
+  green = 0;
+  red = 0;
+  numbered = 0;
+  waiting = 0;
+  held = 0;
+  «primary_index» = 0;
+  «primary_attempt» = 0;
+  «primary_set» = 0;
+  attempt = 0;
+  marked = 0;
+}
+
+-- Of the state that the buffer holds; refused with 7 or 8 where it holds none.
+unfoldable pub summaryOn : List ℕ → Summary
+summaryOn b = pick (imageNumber b =? 0) (summaryOf (decoded b)) (noSummary (imageNumber b))
+
+-- ---- green entries
+
+-- An entry: creator, index, payload length, payload.
+unfoldable pub entryBytes : Action → List ℕ
+entryBytes a = joined (idBytes (a .id) ∷ payloadBytes (a .payload) ∷ [])
+
+-- One behind another.
+unfoldable pub entriesBytes : List Action → List ℕ
+entriesBytes l = joined (map entryBytes l)
+
+-- All but the payload, and with the longest one.
+abbrev pub entryHeadSize : ℕ
+entryHeadSize = idSize + 1
+
+abbrev pub mostEntry : ℕ
+mostEntry = entryHeadSize + mostPayload
+
+-- The longest beginning of the list whose entries fit whole, one behind another.
+unfoldable pub fitting : (room : ℕ) → List Action → List Action
+fitting r [] = []
+fitting r (a ∷ l) = pick (length (entryBytes a) ≤? r) (a ∷ fitting (r - length (entryBytes a)) l) []
+
+-- The green list that the buffer says.
+unfoldable pub greens : List ℕ → List Action
+greens b = decoded b .log .green
+
+-- The number returned; how many entries are green in all; how many of them were put, in how many bytes; and the lent buffer afterwards.
+pub record Listing : Type 0 where
+  pub number : ℕ
+  pub green : ℕ
+  pub entries : ℕ
+  pub bytes : ℕ
+  pub out : List ℕ
+
+-- All as before, and zeros.
+unfoldable pub unlisted : (number : ℕ) → (out : List ℕ) → Listing
+unlisted k o = record { number = k; green = 0; entries = 0; bytes = 0; out = o }
+
+-- These of the green list l are put at the front of o.
+unfoldable pub putting : (l chosen : List Action) → (out : List ℕ) → Listing
+putting l x o = record {
+  number = 0;
+  green = length l;
+  entries = length x;
+  bytes = length (entriesBytes x);
+  out = over (entriesBytes x) o;
+}
+
+-- As many as fit of those behind the first `from`; 2 where there are not so many.
+unfoldable pub listing : (l : List Action) → (from : ℕ) → (out : List ℕ) → Listing
+listing l f o = pick (length l <? f) (unlisted 2 o) (putting l (fitting (length o) (drop f l)) o)
+
+-- 7 where a buffer is too short, then 8 where the state's does not read, then 2, then the entries.
+unfoldable pub entriesOn : (state : List ℕ) → (from : ℕ) → (out : List ℕ) → Listing
+entriesOn b f o =
+    pick (stateShort b or length o <? mostEntry) (unlisted 7 o)
+    (pick (reads b) (listing (greens b) f o) (unlisted 8 o))
+
+-- What the code leaves: its answer, and the lent buffer afterwards.
+unfoldable pub listed : GreenEntries → List ℕ → Listing
+listed r o = record { number = r .number; green = r .green; entries = r .entries; bytes = r .bytes; out = o }
+
+-- The code's answer where it refuses, and where it has put entries.
+abbrev pub refusedEntries : (number : ℕ) → GreenEntries
+refusedEntries k = record { number = k; green = 0; entries = 0; bytes = 0 }
+
+abbrev pub putEntries : (green entries bytes : ℕ) → GreenEntries
+putEntries g n m = record { number = 0; green = g; entries = n; bytes = m }

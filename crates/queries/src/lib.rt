@@ -1,0 +1,180 @@
+// Reading a state's buffer: its numbers, and its green entries. The state is checked once a call.
+ghost use mathlib.Core.Path.{_≡_};
+ghost use Prim.Native.Nat.{_^_, _≤_, _<_};
+ghost use Rattle.replication.specs.Machine.Types.{Server};
+ghost use Rattle.engine.specs.Header.{headerOf};
+ghost use Rattle.queries.specs.Queries.{summaryOf, noSummary, summaryOn, entriesOn, listed, refusedEntries, putEntries};
+ghost use Rattle.queries.specs.Reading.{Progress, NewlyGreen};
+
+pub mod entries; // entries.rt: entries put one behind another
+
+use engine::header::load;
+use entries::MOST_ENTRY;
+use entries::put_entries;
+use record::State;
+use record::bytes::num32;
+use state_check::image_number;
+
+// What a state says: 0 and its numbers, or what its buffer is refused with and zeros.
+#[repr(C)]
+pub struct Summary {
+    pub number: u32,
+    pub servers: u32,
+    pub quota: u32,
+    pub me: u32,
+    pub state: u32,
+    pub configured: u32,
+    pub configuration_id: u32,
+    pub configuration_set: u32,
+    pub transitional: u32,
+    pub transitional_set: u32,
+    pub green: u32,
+    pub red: u32,
+    pub numbered: u32,
+    pub waiting: u32,
+    pub held: u32,
+    pub primary_index: u32,
+    pub primary_attempt: u32,
+    pub primary_set: u32,
+    pub attempt: u32,
+    pub marked: u32,
+}
+
+impl Summary {
+    fn refused(number: u32) -> Summary
+        ensures { λ r. ⌜ r ≡ noSummary number ⌝ }
+    {
+        Summary {
+            number,
+            servers: 0,
+            quota: 0,
+            me: 0,
+            state: 0,
+            configured: 0,
+            configuration_id: 0,
+            configuration_set: 0,
+            transitional: 0,
+            transitional_set: 0,
+            green: 0,
+            red: 0,
+            numbered: 0,
+            waiting: 0,
+            held: 0,
+            primary_index: 0,
+            primary_attempt: 0,
+            primary_set: 0,
+            attempt: 0,
+            marked: 0,
+        }
+    }
+
+    // Of a state with these numbers.
+    fn of(h: State) -> Summary
+        requires { ⌜ h .«green_length» ≤ h .«queue_length» ⌝ }
+        ensures { λ r. ⌜ ((s : Server) → h ≡ headerOf s → r ≡ summaryOf s) ⌝ }
+    {
+        Summary {
+            number: 0,
+            servers: h.servers as u32,
+            quota: h.quota as u32,
+            me: h.me as u32,
+            state: h.mode as u32,
+            configured: h.configuration_status as u32,
+            configuration_id: h.configuration_id,
+            configuration_set: h.configuration_set as u32,
+            transitional: h.transitional_status as u32,
+            transitional_set: h.transitional_set as u32,
+            green: h.green_length,
+            red: h.queue_length - h.green_length,
+            numbered: h.numbered as u32,
+            waiting: h.own_count as u32,
+            held: h.held_count as u32,
+            primary_index: h.last.index.0,
+            primary_attempt: h.last.attempt.0,
+            primary_set: h.last.set as u32,
+            attempt: h.attempt.0,
+            marked: h.mark.status as u32,
+        }
+    }
+}
+
+#[no_mangle]
+pub extern "C" fn guzbytor_summary(state: &[u8]) -> Summary
+    ensures { λ r. ⌜ r ≡ summaryOn (now (state .entry)) ⌝ }
+{
+    let number = image_number(state);
+    if number != 0 {
+        return Summary::refused(number);
+    }
+    Summary::of(load(state))
+}
+
+// 0, how many entries are green in all, and how many of them were put in how many bytes; or the number of a refusal and zeros.
+#[repr(C)]
+pub struct GreenEntries {
+    pub number: u32,
+    pub green: u32,
+    pub entries: u32,
+    pub bytes: u32,
+}
+
+impl GreenEntries {
+    // "all as before"
+    fn refused(number: u32) -> GreenEntries
+        ensures { λ r. ⌜ r ≡ refusedEntries number ⌝ }
+    {
+        GreenEntries {
+            number,
+            green: 0,
+            entries: 0,
+            bytes: 0,
+        }
+    }
+
+    // So many of those that are green, in so many bytes.
+    fn put(green: u32, entries: u32, bytes: usize) -> GreenEntries
+        requires { ⌜ bytes < 2 ^ 32 ⌝ }
+        ensures { λ r. ⌜ r ≡ putEntries green entries bytes ⌝ }
+    {
+        GreenEntries {
+            number: 0,
+            green,
+            entries,
+            bytes: bytes as u32,
+        }
+    }
+}
+
+// The green entries behind the first `from`, as many as fit whole. 7 where a buffer is too short, then 8 where the state's holds no
+// well-formed state, then 2 where there are not so many.
+#[no_mangle]
+pub extern "C" fn guzbytor_green_entries(
+    state: &[u8],
+    from: u32,
+    entries: &mut [u8],
+) -> GreenEntries
+    ensures { λ r. ⌜ listed r (now (entries .exit)) ≡ entriesOn (now (state .entry)) from (now (entries .entry)) ⌝ }
+{
+    if entries.len() < MOST_ENTRY {
+        return GreenEntries::refused(7);
+    }
+    let number = image_number(state);
+    if number != 0 {
+        return GreenEntries::refused(number);
+    }
+    let green = num32(state, State::AT_GREEN_LENGTH);
+    if green < from {
+        return GreenEntries::refused(2);
+    }
+    put_entries(state, from, green, entries)
+}
+
+// Readings one behind another make progress and give all green entries; green lengths before and after an event tell what turned green. They do
+// nothing: their contracts are the theorems.
+pub fn readings_progress()
+    ensures { λ _. ⌜ Progress ⌝ }
+{}
+
+pub fn newly_green_is_behind()
+    ensures { λ _. ⌜ NewlyGreen ⌝ }
+{}
