@@ -17,20 +17,21 @@ use Rattle.replication.specs.Runs.Strays.{AllowedWithStrays}
 use Rattle.replication.specs.Runs.Claim.{ListsAgree, storedGreen, memoryGreen, greenAt, IsPrimary, Agreement, Consequences, Demand3, Corollaries}
 use Rattle.replication.proofs.Agreement.Greens.Demand.{demand3, corollaries}
 use Rattle.replication.proofs.Runs.Places.{put-out-at, sent-at}
+use Rattle.engine.specs.Decode.{greensIn}
 use Rattle.engine.specs.Outcome.{Result}
 use Rattle.engine.specs.Holding.{Holds}
 use Rattle.engine.proofs.InPlace.{holds-decoded}
 use Rattle.buffers.specs.Buffers.{stepIn}
 use Rattle.buffers.specs.Sending.{cutRecords}
 use Rattle.buffers.specs.Daemons.{Daemons, Lending, LongEnough, daemonsAt}
-use Rattle.buffers.specs.Claim.{greenIn, primaryIn, shown, HeldBy, running, stored, BuffersFollow, BuffersAgree, BuffersDemand}
+use Rattle.buffers.specs.Claim.{primaryIn, shown, HeldBy, running, stored, BuffersFollow, BuffersAgree, BuffersDemand}
 use Rattle.buffers.proofs.Keeping.{holds-read}
 use Rattle.buffers.proofs.Arriving.{Arrives, answered, arrives}
 use Rattle.buffers.proofs.Entries.{Kept}
 use Rattle.buffers.proofs.Runs.{out-room, event-keeps, kept-at}
 
-green-held : (s : Server) (b : List ℕ) → Holds s b → s .log .green ≡ greenIn b
-unfolding greenIn
+green-held : (s : Server) (b : List ℕ) → Holds s b → s .log .green ≡ greensIn b
+unfolding greensIn
 green-held s b h = ap (λ (t : Server). t .log .green) (sym (holds-decoded s b h))
 
 primary-held : (s : Server) (b : List ℕ) → Holds s b → s .votes .last ≡ primaryIn b
@@ -93,20 +94,20 @@ module _ {n q : ℕ} {l : Run} (S : AllowedWithStrays n q l) (x : Lending) (long
   unfolding Corollaries
   follow = corollaries n q l S
 
-  stored-green : (p i : ℕ) → i < n → storedGreen n q l p i ≡ greenIn (daemons p .buffers i .store)
+  stored-green : (p i : ℕ) → i < n → storedGreen n q l p i ≡ greensIn (daemons p .buffers i .store)
   unfolding storedGreen
   stored-green p i b = green-held _ _ (store-holds p i b)
 
-  memory-green : (p i : ℕ) → i < n → daemons p .down i ≡ false → memoryGreen n q l p i ≡ greenIn (daemons p .buffers i .state)
+  memory-green : (p i : ℕ) → i < n → daemons p .down i ≡ false → memoryGreen n q l p i ≡ greensIn (daemons p .buffers i .state)
   unfolding memoryGreen
   memory-green p i b d = green-held _ _ (state-holds p i b d)
 
-  shown-green : (p i : ℕ) → i < n → greenAt n q l p i ≡ greenIn (shown (daemons p) i)
+  shown-green : (p i : ℕ) → i < n → greenAt n q l p i ≡ greensIn (shown (daemons p) i)
   unfolding greenAt shown pick
   shown-green p i b = go (worldAt n q l p .down i) (daemons p .down i) refl (at-server p i b .down)
     where
       go : (u v : Bool) → daemons p .down i ≡ v → v ≡ u
-          → pick u (storedGreen n q l p i) (memoryGreen n q l p i) ≡ greenIn (pick v (daemons p .buffers i .store) (daemons p .buffers i .state))
+          → pick u (storedGreen n q l p i) (memoryGreen n q l p i) ≡ greensIn (pick v (daemons p .buffers i .store) (daemons p .buffers i .state))
       go true true d h = stored-green p i b
       go false false d h = memory-green p i b d
       go true false d h = not-both h

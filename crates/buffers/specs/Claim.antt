@@ -14,14 +14,11 @@ use Rattle.replication.specs.Images.{arrive}
 use Rattle.replication.specs.Runs.Run.{event, Run, worldAt, putOut, sentAt}
 use Rattle.replication.specs.Runs.Strays.{AllowedWithStrays}
 use Rattle.replication.specs.Runs.Claim.{ListsAgree, PrimariesAgree, IsPrimary}
-use Rattle.engine.specs.Decode.{decoded, readImage}
+use Rattle.engine.specs.Decode.{decoded, readImage, greensIn}
 use Rattle.engine.specs.Outcome.{Result, resultOf}
 use Rattle.buffers.specs.Buffers.{sourceIn, stepIn}
 use Rattle.buffers.specs.Sending.{cutRecords}
 use Rattle.buffers.specs.Daemons.{Daemons, Lending, LongEnough, daemonsAt}
-
-unfoldable pub greenIn : List ℕ → List Action
-greenIn b = decoded b .log .green
 
 unfoldable pub primaryIn : List ℕ → Primary
 primaryIn b = decoded b .votes .last
@@ -63,18 +60,18 @@ module _ (n q : ℕ) (l : Run) (x : Lending) where
 
   pub record BuffersAgree : Type 0 where
     -- "equal exactly when equally long, else the shorter begins the longer"
-    pub green : (p i j : ℕ) → i < n → j < n → ListsAgree (greenIn (shown (daemons p) i)) (greenIn (shown (daemons p) j))
+    pub green : (p i j : ℕ) → i < n → j < n → ListsAgree (greensIn (shown (daemons p) i)) (greensIn (shown (daemons p) j))
     -- "two primary components are equal, members and all, exactly when their indexes are"
     pub primary : (p r i j : ℕ) (b c : List ℕ) → i < n → j < n → HeldBy (daemons p) i b → HeldBy (daemons r) j c
         → PrimariesAgree (primaryIn b) (primaryIn c)
     -- Each of them is one of the run's primary components: "the start's and each Install's".
     pub known : (p i : ℕ) (b : List ℕ) → i < n → HeldBy (daemons p) i b → IsPrimary n q l (primaryIn b)
     -- "Stored green lists agree likewise at different moments"
-    pub stored : (p r i j : ℕ) → i < n → j < n → ListsAgree (greenIn (daemons p .buffers i .store)) (greenIn (daemons r .buffers j .store))
+    pub stored : (p r i j : ℕ) → i < n → j < n → ListsAgree (greensIn (daemons p .buffers i .store)) (greensIn (daemons r .buffers j .store))
     -- What is green in a stored image keeps its place: later it agrees with the buffer of any server that is up, and no stored image loses it.
     pub later : (p r i j : ℕ) → p ≤ r → i < n → j < n → daemons r .down j ≡ false
-        → ListsAgree (greenIn (daemons p .buffers i .store)) (greenIn (daemons r .buffers j .state))
-    pub kept : (p r i : ℕ) → p ≤ r → i < n → Begins (greenIn (daemons p .buffers i .store)) (greenIn (daemons r .buffers i .store))
+        → ListsAgree (greensIn (daemons p .buffers i .store)) (greensIn (daemons r .buffers j .state))
+    pub kept : (p r i : ℕ) → p ≤ r → i < n → Begins (greensIn (daemons p .buffers i .store)) (greensIn (daemons r .buffers i .store))
 
 -- Demand 3 on buffers: for any bytes in the lent buffers, if they are long enough.
 unfoldable pub BuffersDemand : Type 0

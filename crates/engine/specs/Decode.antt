@@ -98,3 +98,7 @@ reads b = wellFormed (decoded b) and same (image (decoded b) b) b
 
 unfoldable pub readImage : List ℕ → Option Server
 readImage b = pick (reads b) (some (decoded b)) none
+
+-- The green list that the bytes say.
+unfoldable pub greensIn : List ℕ → List Action
+greensIn b = decoded b .log .green

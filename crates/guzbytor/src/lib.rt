@@ -3,8 +3,11 @@ ghost use mathlib.Core.Path.{_≡_};
 ghost use Rattle.engine.specs.Outcome.{lengthsOf, started, startOn, stateNumber, stepOn};
 ghost use Rattle.step.specs.Answers.{answered};
 ghost use Rattle.burst.specs.Burst.{burstOn, left};
+ghost use Rattle.queries.specs.Queries.{summaryOn, entriesOn, listed};
 use burst::BurstAnswer;
 use engine::Lengths;
+use queries::GreenEntries;
+use queries::Summary;
 use step::Answer;
 
 #[no_mangle]
@@ -40,4 +43,22 @@ pub extern "C" fn guzbytor_burst(state: &mut [u8], events: &[u8], out: &mut [u8]
     ensures { λ r. ⌜ left r (now (state .exit)) (now (out .exit)) ≡ burstOn (now (state .entry)) (now (events .entry)) (now (out .entry)) ⌝ }
 {
     burst::guzbytor_burst(state, events, out)
+}
+
+#[no_mangle]
+pub extern "C" fn guzbytor_summary(state: &[u8]) -> Summary
+    ensures { λ r. ⌜ r ≡ summaryOn (now (state .entry)) ⌝ }
+{
+    queries::guzbytor_summary(state)
+}
+
+#[no_mangle]
+pub extern "C" fn guzbytor_green_entries(
+    state: &[u8],
+    from: u32,
+    entries: &mut [u8],
+) -> GreenEntries
+    ensures { λ r. ⌜ listed r (now (entries .exit)) ≡ entriesOn (now (state .entry)) from (now (entries .entry)) ⌝ }
+{
+    queries::guzbytor_green_entries(state, from, entries)
 }

@@ -20,14 +20,14 @@ use Rattle.format.specs.Types.{Action}
 use Rattle.format.specs.Read.{actionAt}
 use Rattle.engine.specs.Layout.{slotSize, theQueue}
 use Rattle.engine.specs.Image.{over}
-use Rattle.engine.specs.Decode.{actionsAt, decodedAs, decoded}
+use Rattle.engine.specs.Decode.{actionsAt, decodedAs, decoded, greensIn}
 use Rattle.engine.specs.Counts.{queueCount, greenCount, place}
 use Rattle.engine.proofs.Slots.{actions-count}
 use Rattle.queue.specs.Queue.{slotPlace, QueueIn}
 use Rattle.queue.proofs.Inside.{over-front}
 use Rattle.queue.proofs.ReadLaws.{actions-at}
 use Rattle.queries.specs.declared.GreenEntries.{GreenEntries}
-use Rattle.queries.specs.Queries.{entryBytes, entriesBytes, entryHeadSize, mostEntry, fitting, greens, putting, listing, listed, putEntries}
+use Rattle.queries.specs.Queries.{entryBytes, entriesBytes, entryHeadSize, mostEntry, fitting, putting, listing, listed, putEntries}
 use Rattle.queries.proofs.EntryLaws.{slot-entry-length, entries-append, one-entry, first-fits, first-too-long, none-to-fit}
 
 -- ---- the green list
@@ -42,20 +42,20 @@ module _ (b : List ℕ) (q : QueueIn b) where
   abbrev queued : List Action
   queued = actionsAt (queueCount b) b (place theQueue b)
 
-  greens-read : greens b ≡ take (greenCount b) queued
-  unfolding greens decoded decodedAs place
-  greens-read = refl
+  greensIn-read : greensIn b ≡ take (greenCount b) queued
+  unfolding greensIn decoded decodedAs place
+  greensIn-read = refl
 
-  pub greens-count : length (greens b) ≡ greenCount b
-  greens-count =
-      ap length greens-read ∙ length-take-le (greenCount b) queued (omega (arith, actions-count (queueCount b) b (place theQueue b), q .counts .green))
+  pub greensIn-count : length (greensIn b) ≡ greenCount b
+  greensIn-count =
+      ap length greensIn-read ∙ length-take-le (greenCount b) queued (omega (arith, actions-count (queueCount b) b (place theQueue b), q .counts .green))
 
   -- The next one lies in the slot k.
-  greens-next : (k : ℕ) → k < greenCount b → drop k (greens b) ≡ actionAt b (slotPlace b k) ∷ drop (suc k) (greens b)
+  greensIn-next : (k : ℕ) → k < greenCount b → drop k (greensIn b) ≡ actionAt b (slotPlace b k) ∷ drop (suc k) (greensIn b)
   unfolding slotPlace
-  greens-next k h =
-      drop-next (greens b) k (actionAt b (place theQueue b + slotSize * k))
-      (ap (λ (l : List Action). at l k) greens-read
+  greensIn-next k h =
+      drop-next (greensIn b) k (actionAt b (place theQueue b + slotSize * k))
+      (ap (λ (l : List Action). at l k) greensIn-read
       ∙ at-take (greenCount b) queued k h
       ∙ actions-at (queueCount b) b (place theQueue b) k (omega (arith, q .counts .green)))
 
@@ -71,7 +71,7 @@ pub record Along (b : List ℕ) (from : ℕ) (o₀ o : List ℕ) (k at : ℕ) : 
   pub inside : at ≤ length o₀
   pub most : at ≤ mostEntry * length put
   pub bytes : o ≡ patched 0 (entriesBytes put) o₀
-  pub rest : fitting (length o₀) (drop from (greens b)) ≡ put ++ fitting (length o₀ - at) (drop k (greens b))
+  pub rest : fitting (length o₀) (drop from (greensIn b)) ≡ put ++ fitting (length o₀ - at) (drop k (greensIn b))
 
 pub along-starts : (b : List ℕ) (from green : ℕ) (o : List ℕ) → green ≡ greenCount b → from ≤ green → Along b from o o from 0
 unfolding entriesBytes joined
@@ -86,7 +86,7 @@ along-starts b from green o e h =
       inside = omega arith;
       most = omega arith;
       bytes = sym (patched-none 0 o);
-      rest = ap (λ (r : ℕ). fitting r (drop from (greens b))) room;
+      rest = ap (λ (r : ℕ). fitting r (drop from (greensIn b))) room;
     }
 
 module _ (b : List ℕ) (from : ℕ) (o₀ o : List ℕ) (k at : ℕ) (q : QueueIn b) (a : Along b from o₀ o k at) where
@@ -98,18 +98,18 @@ module _ (b : List ℕ) (from : ℕ) (o₀ o : List ℕ) (k at : ℕ) (q : Queue
   along-few = omega (arith, a .most, a .count, a .high, q .counts .green, q .counts .queue, q .counts .most)
 
   -- Nothing more fits: the answer.
-  module _ (done : fitting (length o₀ - at) (drop k (greens b)) ≡ []) where
-    chosen : a .put ≡ fitting (length o₀) (drop from (greens b))
+  module _ (done : fitting (length o₀ - at) (drop k (greensIn b)) ≡ []) where
+    chosen : a .put ≡ fitting (length o₀) (drop from (greensIn b))
     chosen = sym (a .rest ∙ ap (λ (x : List Action). a .put ++ x) done ∙ append-nil (a .put))
 
-    along-answer : (green : ℕ) (r : GreenEntries) → green ≡ greenCount b → r ≡ putEntries green (k - from) at → listed r o ≡ listing (greens b) from o₀
+    along-answer : (green : ℕ) (r : GreenEntries) → green ≡ greenCount b → r ≡ putEntries green (k - from) at → listed r o ≡ listing (greensIn b) from o₀
     unfolding listed listing putting
     along-answer green r e is-r =
-        let green-is : green ≡ length (greens b) = e ∙ sym (greens-count b q) in
+        let green-is : green ≡ length (greensIn b) = e ∙ sym (greensIn-count b q) in
         let entries : k - from ≡ length (a .put) = omega (arith, a .count) in
         let put : o ≡ over (entriesBytes (a .put)) o₀ = a .bytes ∙ over-front (entriesBytes (a .put)) o₀ in
         ap (λ (y : GreenEntries). listed y o) is-r
-        ∙ pick-ge (length (greens b)) from _ _ _ (omega (arith, a .count, a .high, greens-count b q))
+        ∙ pick-ge (length (greensIn b)) from _ _ _ (omega (arith, a .count, a .high, greensIn-count b q))
         (λ i. record {
           number = 0;
           green = green-is i;
@@ -118,12 +118,12 @@ module _ (b : List ℕ) (from : ℕ) (o₀ o : List ℕ) (k at : ℕ) (q : Queue
           out = (put ∙ ap (λ (x : List Action). over (entriesBytes x) o₀) chosen) i;
         })
 
-  pub along-ends : (green : ℕ) (r : GreenEntries) → green ≡ greenCount b → green ≤ k → r ≡ putEntries green (k - from) at → listed r o ≡ listing (greens b) from o₀
+  pub along-ends : (green : ℕ) (r : GreenEntries) → green ≡ greenCount b → green ≤ k → r ≡ putEntries green (k - from) at → listed r o ≡ listing (greensIn b) from o₀
   along-ends green r e h is-r =
-      let last : k ≡ length (greens b) = omega (arith, a .high, greens-count b q) in
+      let last : k ≡ length (greensIn b) = omega (arith, a .high, greensIn-count b q) in
       along-answer
-      (ap (λ (n : ℕ). fitting (length o₀ - at) (drop n (greens b))) last
-      ∙ ap (fitting (length o₀ - at)) (drop-length (greens b))
+      (ap (λ (n : ℕ). fitting (length o₀ - at) (drop n (greensIn b))) last
+      ∙ ap (fitting (length o₀ - at)) (drop-length (greensIn b))
       ∙ none-to-fit (length o₀ - at)) green r e is-r
 
   -- The slot k, with its payload's length.
@@ -140,17 +140,17 @@ module _ (b : List ℕ) (from : ℕ) (o₀ o : List ℕ) (k at : ℕ) (q : Queue
     abbrev x : Action
     x = actionAt b (p + slotSize * k)
 
-    next-is : drop k (greens b) ≡ x ∷ drop (suc k) (greens b)
+    next-is : drop k (greensIn b) ≡ x ∷ drop (suc k) (greensIn b)
     unfolding slotPlace
-    next-is = greens-next b q k (omega arith) ∙ ap (λ (n : ℕ). actionAt b (n + slotSize * k) ∷ drop (suc k) (greens b)) (sym is-p)
+    next-is = greensIn-next b q k (omega arith) ∙ ap (λ (n : ℕ). actionAt b (n + slotSize * k) ∷ drop (suc k) (greensIn b)) (sym is-p)
 
     size-is : length (entryBytes x) ≡ entryHeadSize + m
     size-is = slot-entry-length b (p + slotSize * k) m is-m slot-inside
 
-    pub along-full : (r : GreenEntries) → length o - at < entryHeadSize + m → r ≡ putEntries green (k - from) at → listed r o ≡ listing (greens b) from o₀
+    pub along-full : (r : GreenEntries) → length o - at < entryHeadSize + m → r ≡ putEntries green (k - from) at → listed r o ≡ listing (greensIn b) from o₀
     along-full r l is-r =
         along-answer
-        (ap (fitting (length o₀ - at)) next-is ∙ first-too-long (length o₀ - at) x (drop (suc k) (greens b)) (omega (arith, size-is, a .size))) green r e is-r
+        (ap (fitting (length o₀ - at)) next-is ∙ first-too-long (length o₀ - at) x (drop (suc k) (greensIn b)) (omega (arith, size-is, a .size))) green r e is-r
 
     module _ (l : entryHeadSize + m ≤ length o - at) where
       pub along-room : at + (entryHeadSize + m) ≤ length o
@@ -179,7 +179,7 @@ module _ (b : List ℕ) (from : ℕ) (o₀ o : List ℕ) (k at : ℕ) (q : Queue
             rest =
                 a .rest
                 ∙ ap (λ (y : List Action). a .put ++ fitting (length o₀ - at) y) next-is
-                ∙ ap (λ (y : List Action). a .put ++ y) (first-fits (length o₀ - at) x (drop (suc k) (greens b)) (omega (arith, size-is, a .size)))
-                ∙ sym (append-assoc (a .put) (x ∷ []) (fitting (length o₀ - at - length (entryBytes x)) (drop (suc k) (greens b))))
-                ∙ (λ i. (a .put ++ (x ∷ [])) ++ fitting (left i) (drop (next i) (greens b)));
+                ∙ ap (λ (y : List Action). a .put ++ y) (first-fits (length o₀ - at) x (drop (suc k) (greensIn b)) (omega (arith, size-is, a .size)))
+                ∙ sym (append-assoc (a .put) (x ∷ []) (fitting (length o₀ - at - length (entryBytes x)) (drop (suc k) (greensIn b))))
+                ∙ (λ i. (a .put ++ (x ∷ [])) ++ fitting (left i) (drop (next i) (greensIn b)));
           }

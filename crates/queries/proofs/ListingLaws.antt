@@ -11,7 +11,7 @@ use Rattle.base.specs.Tests.{_or_, _<?_}
 use Rattle.base.proofs.TestLaws.{Known, holds, fails, known, pick-yes, pick-no, pick-lt, or-fails, lt-yes, lt-no, lt-holds, lt-fails}
 use Rattle.base.proofs.Branches.{or-yes, or-no}
 use Rattle.engine.specs.Layout.{atGreenLength}
-use Rattle.engine.specs.Decode.{decoded, reads}
+use Rattle.engine.specs.Decode.{decoded, reads, greensIn}
 use Rattle.engine.specs.Holding.{Holds}
 use Rattle.engine.specs.Outcome.{stateShort, imageNumber}
 use Rattle.engine.proofs.InPlace.{holds-header}
@@ -20,7 +20,7 @@ use Rattle.engine.proofs.Refusals.{image-short, image-unread, image-whole, whol
 use Rattle.queue.specs.Queue.{QueueIn}
 use Rattle.queue.proofs.ReadLaws.{holds-queue}
 use Rattle.queries.specs.declared.GreenEntries.{GreenEntries}
-use Rattle.queries.specs.Queries.{mostEntry, fitting, greens, Listing, unlisted, putting, listing, entriesOn, listed, refusedEntries}
+use Rattle.queries.specs.Queries.{mostEntry, fitting, Listing, unlisted, putting, listing, entriesOn, listed, refusedEntries}
 
 module _ (b : List ℕ) (f : ℕ) (o : List ℕ) where
   on-short : (stateShort b or length o <? mostEntry) ≡ true → entriesOn b f o ≡ unlisted 7 o
@@ -31,17 +31,17 @@ module _ (b : List ℕ) (f : ℕ) (o : List ℕ) where
   unfolding entriesOn
   on-unread h k = sym (pick-no (stateShort b or length o <? mostEntry) _ _ _ h (pick-no (reads b) _ _ _ k refl))
 
-  on-read : (stateShort b or length o <? mostEntry) ≡ false → reads b ≡ true → entriesOn b f o ≡ listing (greens b) f o
+  on-read : (stateShort b or length o <? mostEntry) ≡ false → reads b ≡ true → entriesOn b f o ≡ listing (greensIn b) f o
   unfolding entriesOn
   on-read h k = sym (pick-no (stateShort b or length o <? mostEntry) _ _ _ h (pick-yes (reads b) _ _ _ k refl))
 
-  on-past : length (greens b) < f → listing (greens b) f o ≡ unlisted 2 o
+  on-past : length (greensIn b) < f → listing (greensIn b) f o ≡ unlisted 2 o
   unfolding listing
-  on-past h = sym (pick-lt (length (greens b)) f _ _ _ h refl)
+  on-past h = sym (pick-lt (length (greensIn b)) f _ _ _ h refl)
 
-  on-put : f ≤ length (greens b) → listing (greens b) f o ≡ putting (greens b) (fitting (length o) (drop f (greens b))) o
+  on-put : f ≤ length (greensIn b) → listing (greensIn b) f o ≡ putting (greensIn b) (fitting (length o) (drop f (greensIn b))) o
   unfolding listing
-  on-put h = sym (pick-no (length (greens b) <? f) _ _ _ (lt-no (length (greens b)) f h) refl)
+  on-put h = sym (pick-no (length (greensIn b) <? f) _ _ _ (lt-no (length (greensIn b)) f h) refl)
 
   both-long : stateShort b ≡ false → mostEntry ≤ length o → (stateShort b or length o <? mostEntry) ≡ false
   both-long h l = sym (or-no false (stateShort b) (length o <? mostEntry) h (sym (lt-no (length o) mostEntry l)))
@@ -52,26 +52,26 @@ module _ (b : List ℕ) (f : ℕ) (o : List ℕ) where
   pub record Put : Type 0 where
     pub whole : imageNumber b ≡ 0
     pub room : mostEntry ≤ length o
-    pub inside : f ≤ length (greens b)
+    pub inside : f ≤ length (greensIn b)
 
-  pub put-is : Put → entriesOn b f o ≡ putting (greens b) (fitting (length o) (drop f (greens b))) o
+  pub put-is : Put → entriesOn b f o ≡ putting (greensIn b) (fitting (length o) (drop f (greensIn b))) o
   put-is p = let r = whole-read b (p .whole) in on-read (both-long (r .0) (p .room)) (r .1) ∙ on-put (p .inside)
 
   pub put-when : entriesOn b f o .number ≡ 0 → Put
   unfolding unlisted
-  put-when z = go (known (stateShort b or length o <? mostEntry)) (known (reads b)) (known (length (greens b) <? f))
+  put-when z = go (known (stateShort b or length o <? mostEntry)) (known (reads b)) (known (length (greensIn b) <? f))
     where
-      go : Known (stateShort b or length o <? mostEntry) → Known (reads b) → Known (length (greens b) <? f) → Put
+      go : Known (stateShort b or length o <? mostEntry) → Known (reads b) → Known (length (greensIn b) <? f) → Put
       go (holds t) u v = absurd (omega (arith, z, ap (λ (x : Listing). x .number) (on-short t)))
       go (fails t) (fails u) v = absurd (omega (arith, z, ap (λ (x : Listing). x .number) (on-unread t u)))
       go (fails t) (holds u) (holds v) =
-          absurd (omega (arith, z, ap (λ (x : Listing). x .number) (on-read t u ∙ on-past (lt-holds (length (greens b)) f v))))
+          absurd (omega (arith, z, ap (λ (x : Listing). x .number) (on-read t u ∙ on-past (lt-holds (length (greensIn b)) f v))))
       go (fails t) (holds u) (fails v) =
           let r = or-fails (stateShort b) (length o <? mostEntry) t in
           record {
             whole = image-whole b (r .0) u;
             room = lt-fails (length o) mostEntry (r .1);
-            inside = lt-fails (length (greens b)) f v;
+            inside = lt-fails (length (greensIn b)) f v;
           }
 
   -- ---- the code's answers
@@ -106,12 +106,12 @@ module _ (b : List ℕ) (f : ℕ) (o : List ℕ) where
       pub whole-queue : QueueIn b
       whole-queue = holds-queue (decoded b) b read
 
-      is-read : entriesOn b f o ≡ listing (greens b) f o
+      is-read : entriesOn b f o ≡ listing (greensIn b) f o
       is-read = let r = whole-read b (sym e ∙ z) in on-read (both-long (r .0) room) (r .1)
 
       pub past-entries : (g : ℕ) (r : GreenEntries) → g ≡ numberAt 4 b atGreenLength → g < f → r ≡ refusedEntries 2 → listed r o ≡ entriesOn b f o
-      unfolding greens
+      unfolding greensIn
       past-entries g r k l m = refused-is 2 r m ∙ sym (is-read ∙ on-past (omega (arith, numbers (decoded b) b read .green)))
 
-      pub put-listed : (x : Listing) → x ≡ listing (greens b) f o → x ≡ entriesOn b f o
+      pub put-listed : (x : Listing) → x ≡ listing (greensIn b) f o → x ≡ entriesOn b f o
       put-listed x h = h ∙ sym is-read

@@ -20,14 +20,14 @@ use Rattle.replication.specs.Machine.Step.{step}
 use Rattle.replication.specs.Machine.WellFormed.{queue}
 use Rattle.replication.proofs.Step.Growth.{green-gained}
 use Rattle.engine.specs.Image.{over, image}
-use Rattle.engine.specs.Decode.{decoded}
+use Rattle.engine.specs.Decode.{decoded, greensIn}
 use Rattle.engine.specs.Holding.{Holds}
 use Rattle.engine.specs.Outcome.{imageNumber, Result, refusal, resultOf, stateNumber, stepOn}
 use Rattle.engine.proofs.InPlace.{holds-decoded}
 use Rattle.engine.proofs.InRange.{in-range}
 use Rattle.engine.proofs.Refusals.{zero-whole, zero-ready, zero-read, step-read, step-refused, whole-holds, holds-whole}
 use Rattle.engine.proofs.Taken.{taken-holds}
-use Rattle.queries.specs.Queries.{entriesBytes, mostEntry, fitting, greens, Listing, putting, entriesOn}
+use Rattle.queries.specs.Queries.{entriesBytes, mostEntry, fitting, Listing, putting, entriesOn}
 use Rattle.queries.specs.Reading.{Reads, readings, Progress, turnedGreen, GreenBy, NewlyGreen}
 use Rattle.queries.proofs.EntryLaws.{entry-length, entries-append, first-fits, fitting-taken}
 use Rattle.queries.proofs.ListingLaws.{Put, put-is, put-when}
@@ -39,8 +39,8 @@ some-fit : (r : ℕ) (l : List Action) → mostEntry ≤ r → Each (λ a. lengt
 some-fit r [] h e n = absurd (omega arith)
 some-fit r (a ∷ l) h e n = omega (arith, ap length (first-fits r a l (omega (arith, entry-length a, e .0))))
 
-green-payloads : (b : List ℕ) → imageNumber b ≡ 0 → Each (λ a. length (a .payload) ≤ mostPayload) (greens b)
-unfolding greens queue
+green-payloads : (b : List ℕ) → imageNumber b ≡ 0 → Each (λ a. length (a .payload) ≤ mostPayload) (greensIn b)
+unfolding greensIn queue
 green-payloads b z =
     let s : Server = decoded b in
     each-implied (ActionRange (contextOf s)) (λ a. length (a .payload) ≤ mostPayload) (λ a r. r .payload .most) (s .log .green)
@@ -48,20 +48,20 @@ green-payloads b z =
 
 module _ (b : List ℕ) (f : ℕ) (o : List ℕ) (p : Put b f o) where
   abbrev rest : List Action
-  rest = drop f (greens b)
+  rest = drop f (greensIn b)
 
   abbrev chosen : List Action
   chosen = fitting (length o) rest
 
-  rest-long : length rest ≡ length (greens b) - f
-  rest-long = length-drop f (greens b)
+  rest-long : length rest ≡ length (greensIn b) - f
+  rest-long = length-drop f (greensIn b)
 
   rest-payloads : Each (λ a. length (a .payload) ≤ mostPayload) rest
   rest-payloads =
-      each-second (λ a. length (a .payload) ≤ mostPayload) (take f (greens b)) rest
-      (subst (Each (λ a. length (a .payload) ≤ mostPayload)) (sym (take-append-drop f (greens b))) (green-payloads b (p .whole)))
+      each-second (λ a. length (a .payload) ≤ mostPayload) (take f (greensIn b)) rest
+      (subst (Each (λ a. length (a .payload) ≤ mostPayload)) (sym (take-append-drop f (greensIn b))) (green-payloads b (p .whole)))
 
-  reading : Reads b f o (putting (greens b) chosen o)
+  reading : Reads b f o (putting (greensIn b) chosen o)
   unfolding putting
   reading =
       let t = fitting-taken (length o) rest in
@@ -86,25 +86,25 @@ front : (y l : List ℕ) → take (length y) (over y l) ≡ y
 unfolding over
 front y l = take-append-seam y (drop (length y) l)
 
-all-read : (b : List ℕ) (f : ℕ) (os : List (List ℕ)) → imageNumber b ≡ 0 → Each (λ o. mostEntry ≤ length o) os → f ≤ length (greens b)
-    → length (greens b) ≤ f + length os → readings b f os ≡ entriesBytes (drop f (greens b))
+all-read : (b : List ℕ) (f : ℕ) (os : List (List ℕ)) → imageNumber b ≡ 0 → Each (λ o. mostEntry ≤ length o) os → f ≤ length (greensIn b)
+    → length (greensIn b) ≤ f + length os → readings b f os ≡ entriesBytes (drop f (greensIn b))
 unfolding readings
 all-read b f [] z r h l =
-    let last : f ≡ length (greens b) = omega arith in
-    sym (ap (λ (n : ℕ). entriesBytes (drop n (greens b))) last ∙ ap entriesBytes (drop-length (greens b)) ∙ no-entries)
+    let last : f ≡ length (greensIn b) = omega arith in
+    sym (ap (λ (n : ℕ). entriesBytes (drop n (greensIn b))) last ∙ ap entriesBytes (drop-length (greensIn b)) ∙ no-entries)
 all-read b f (o ∷ os) z r h l =
     let x : Listing = entriesOn b f o in
     let a = put-reads b f o (record { whole = z; room = r .0; inside = h }) in
-    let y : List ℕ = entriesBytes (take (x .entries) (drop f (greens b))) in
+    let y : List ℕ = entriesBytes (take (x .entries) (drop f (greensIn b))) in
     let first : take (x .bytes) (x .out) ≡ y = ap₂ {A = ℕ} {B = List ℕ} {C = List ℕ} (λ n w. take n w) (a .bytes) (a .out) ∙ front y o in
-    let next = all-read b (f + x .entries) os z (r .1) (a .inside) (enough (known (f <? length (greens b))) a) in
-    ap₂ {A = List ℕ} {B = List ℕ} {C = List ℕ} (λ u v. u ++ v) first (next ∙ ap entriesBytes (sym (drop-drop (x .entries) f (greens b))))
-    ∙ sym (entries-append (take (x .entries) (drop f (greens b))) (drop (x .entries) (drop f (greens b))))
-    ∙ ap entriesBytes (take-append-drop (x .entries) (drop f (greens b)))
+    let next = all-read b (f + x .entries) os z (r .1) (a .inside) (enough (known (f <? length (greensIn b))) a) in
+    ap₂ {A = List ℕ} {B = List ℕ} {C = List ℕ} (λ u v. u ++ v) first (next ∙ ap entriesBytes (sym (drop-drop (x .entries) f (greensIn b))))
+    ∙ sym (entries-append (take (x .entries) (drop f (greensIn b))) (drop (x .entries) (drop f (greensIn b))))
+    ∙ ap entriesBytes (take-append-drop (x .entries) (drop f (greensIn b)))
   where
-    enough : Known (f <? length (greens b)) → Reads b f o (entriesOn b f o) → length (greens b) ≤ f + entriesOn b f o .entries + length os
-    enough (holds t) a = omega (arith, a .some (lt-holds f (length (greens b)) t))
-    enough (fails t) a = omega (arith, lt-fails f (length (greens b)) t)
+    enough : Known (f <? length (greensIn b)) → Reads b f o (entriesOn b f o) → length (greensIn b) ≤ f + entriesOn b f o .entries + length os
+    enough (holds t) a = omega (arith, a .some (lt-holds f (length (greensIn b)) t))
+    enough (fails t) a = omega (arith, lt-fails f (length (greensIn b)) t)
 
 pub progress : Progress
 progress = record { reading = λ b f o z. put-reads b f o (put-when b f o z); all = all-read }
@@ -123,10 +123,10 @@ module _ (b e o : List ℕ) (z : stepOn b e o .number ≡ 0) where
   -- The state's bytes c afterwards, and what turned green.
   pub record After (c : List ℕ) (g : List Action) : Type 0 where
     pub whole : imageNumber c ≡ 0
-    pub gained : greens c ≡ greens b ++ g
+    pub gained : greensIn c ≡ greensIn b ++ g
 
   after-step : After (stepOn b e o .state) (turnedGreen (step (decoded b) e))
-  unfolding resultOf refusal turnedGreen greens
+  unfolding resultOf refusal turnedGreen greensIn
   after-step =
       subst (λ (r : Result). After (r .state) (turnedGreen (step (decoded b) e))) (sym machine) (go (step (decoded b) e) refl)
     where
@@ -134,7 +134,7 @@ module _ (b e o : List ℕ) (z : stepOn b e o .number ≡ 0) where
       machine = step-read b e o (decoded b) (zero-read b o ready .0) (zero-ready b o ready .read)
 
       go : (x : Outcome (List ℕ)) → step (decoded b) e ≡ x → After (resultOf x b o .state) (turnedGreen x)
-      go (refused k) h = record { whole = zero-whole b o ready; gained = sym (append-nil (greens b)) }
+      go (refused k) h = record { whole = zero-whole b o ready; gained = sym (append-nil (greensIn b)) }
       go (taken t rs w g) h =
           let new : Holds t (image t b) = taken-holds (decoded b) e t rs w g h b (zero-ready b o ready .image) in
           record {
@@ -149,7 +149,7 @@ module _ (b e o : List ℕ) (z : stepOn b e o .number ≡ 0) where
         before = zero-whole b o ready;
         after = after-step .whole;
         gained = after-step .gained;
-        behind = ap (λ (l : List Action). drop (length (greens b)) l) (after-step .gained) ∙ drop-beginning (greens b) g;
+        behind = ap (λ (l : List Action). drop (length (greensIn b)) l) (after-step .gained) ∙ drop-beginning (greensIn b) g;
       }
 
 pub newly-green : NewlyGreen

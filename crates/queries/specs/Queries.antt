@@ -12,7 +12,7 @@ use Rattle.format.specs.Write.{idBytes, payloadBytes}
 use Rattle.replication.specs.Machine.Types.{Server}
 use Rattle.engine.specs.Image.{modeNumber, over}
 use Rattle.engine.specs.Header.{statusOf, idOf, setOf, transitionalOf}
-use Rattle.engine.specs.Decode.{decoded, reads}
+use Rattle.engine.specs.Decode.{decoded, reads, greensIn}
 use Rattle.engine.specs.Outcome.{stateShort, imageNumber}
 use Rattle.queries.specs.declared.Summary.{Summary}
 use Rattle.queries.specs.declared.GreenEntries.{GreenEntries}
@@ -94,10 +94,6 @@ unfoldable pub fitting : (room : ℕ) → List Action → List Action
 fitting r [] = []
 fitting r (a ∷ l) = pick (length (entryBytes a) ≤? r) (a ∷ fitting (r - length (entryBytes a)) l) []
 
--- The green list that the buffer says.
-unfoldable pub greens : List ℕ → List Action
-greens b = decoded b .log .green
-
 -- The number returned; how many entries are green in all; how many of them were put, in how many bytes; and the lent buffer afterwards.
 pub record Listing : Type 0 where
   pub number : ℕ
@@ -128,7 +124,7 @@ listing l f o = pick (length l <? f) (unlisted 2 o) (putting l (fitting (length 
 unfoldable pub entriesOn : (state : List ℕ) → (from : ℕ) → (out : List ℕ) → Listing
 entriesOn b f o =
     pick (stateShort b or length o <? mostEntry) (unlisted 7 o)
-    (pick (reads b) (listing (greens b) f o) (unlisted 8 o))
+    (pick (reads b) (listing (greensIn b) f o) (unlisted 8 o))
 
 -- What the code leaves: its answer, and the lent buffer afterwards.
 unfoldable pub listed : GreenEntries → List ℕ → Listing

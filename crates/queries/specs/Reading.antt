@@ -9,21 +9,21 @@ use Rattle.format.specs.Types.{Action}
 use Rattle.replication.specs.Machine.Types.{Outcome, refused, taken}
 use Rattle.replication.specs.Machine.Step.{step}
 use Rattle.engine.specs.Image.{over}
-use Rattle.engine.specs.Decode.{decoded}
+use Rattle.engine.specs.Decode.{decoded, greensIn}
 use Rattle.engine.specs.Outcome.{stepOn, imageNumber}
-use Rattle.queries.specs.Queries.{entriesBytes, mostEntry, greens, Listing, entriesOn}
+use Rattle.queries.specs.Queries.{entriesBytes, mostEntry, Listing, entriesOn}
 
 -- ---- progress
 
 -- The answer x to a reading of the state b behind the first `from` entries, into the buffer o.
 pub record Reads (b : List ℕ) (from : ℕ) (o : List ℕ) (x : Listing) : Type 0 where
-  pub green : x .green ≡ length (greens b)
+  pub green : x .green ≡ length (greensIn b)
   -- Its entries are the next ones of the green list, in their order, in front of what o holds behind them.
-  pub inside : from + x .entries ≤ length (greens b)
-  pub bytes : x .bytes ≡ length (entriesBytes (take (x .entries) (drop from (greens b))))
-  pub out : x .out ≡ over (entriesBytes (take (x .entries) (drop from (greens b)))) o
+  pub inside : from + x .entries ≤ length (greensIn b)
+  pub bytes : x .bytes ≡ length (entriesBytes (take (x .entries) (drop from (greensIn b))))
+  pub out : x .out ≡ over (entriesBytes (take (x .entries) (drop from (greensIn b)))) o
   -- Where there is one more, one at least is put.
-  pub some : from < length (greens b) → 1 ≤ x .entries
+  pub some : from < length (greensIn b) → 1 ≤ x .entries
 
 -- The bytes that readings of the state b put, each into the next of these buffers: the first behind the first `from` entries, each other behind what
 -- the one before it put.
@@ -35,7 +35,7 @@ pub record Progress : Type 0 where
   pub reading : (b : List ℕ) (from : ℕ) (o : List ℕ) → entriesOn b from o .number ≡ 0 → Reads b from o (entriesOn b from o)
   -- Readings one behind another, as many as there are entries at most, give all that is green.
   pub all : (b : List ℕ) (from : ℕ) (os : List (List ℕ)) → imageNumber b ≡ 0 → Each (λ o. mostEntry ≤ length o) os
-      → from ≤ length (greens b) → length (greens b) ≤ from + length os → readings b from os ≡ entriesBytes (drop from (greens b))
+      → from ≤ length (greensIn b) → length (greensIn b) ≤ from + length os → readings b from os ≡ entriesBytes (drop from (greensIn b))
 
 -- ---- what turned green
 
@@ -50,9 +50,9 @@ pub record GreenBy (b e o : List ℕ) : Type 0 where
   pub before : imageNumber b ≡ 0
   pub after : imageNumber (stepOn b e o .state) ≡ 0
   -- .. the new one has the old one's green list, and behind it what the machine's step names, in its order ..
-  pub gained : greens (stepOn b e o .state) ≡ greens b ++ turnedGreen (step (decoded b) e)
+  pub gained : greensIn (stepOn b e o .state) ≡ greensIn b ++ turnedGreen (step (decoded b) e)
   -- .. which so stands behind the old length.
-  pub behind : drop (length (greens b)) (greens (stepOn b e o .state)) ≡ turnedGreen (step (decoded b) e)
+  pub behind : drop (length (greensIn b)) (greensIn (stepOn b e o .state)) ≡ turnedGreen (step (decoded b) e)
 
 unfoldable pub NewlyGreen : Type 0
 NewlyGreen = (b e o : List ℕ) → stepOn b e o .number ≡ 0 → GreenBy b e o

@@ -7,8 +7,9 @@ ghost use Rattle.base.specs.Patched.{patched};
 ghost use Rattle.format.specs.Places.{actionPayloadAt, actionHeadSize};
 ghost use Rattle.format.specs.Read.{actionAt};
 ghost use Rattle.engine.specs.Counts.{greenCount};
+ghost use Rattle.engine.specs.Decode.{greensIn};
 ghost use Rattle.queue.specs.Queue.{QueueIn};
-ghost use Rattle.queries.specs.Queries.{entryBytes, entryHeadSize, greens, listing, listed};
+ghost use Rattle.queries.specs.Queries.{entryBytes, entryHeadSize, listing, listed};
 use crate::GreenEntries;
 use engine::places::THE_QUEUE;
 use engine::places::place_of;
@@ -38,7 +39,7 @@ fn put_entry(state: &[u8], slot: usize, m: usize, out: &mut [u8], at: usize)
 // Those behind the first `from` that fit.
 pub fn put_entries(state: &[u8], from: u32, green: u32, out: &mut [u8]) -> GreenEntries
     requires { ⌜ QueueIn (now state) × (green ≡ greenCount (now state)) × (from ≤ green) ⌝ }
-    ensures { λ r. ⌜ listed r (now (out .exit)) ≡ listing (greens (now (state .entry))) from (now (out .entry)) ⌝ }
+    ensures { λ r. ⌜ listed r (now (out .exit)) ≡ listing (greensIn (now (state .entry))) from (now (out .entry)) ⌝ }
 {
     let queue = place_of(state, THE_QUEUE);
     let mut k = from;
