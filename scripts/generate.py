@@ -1,16 +1,18 @@
 #!/usr/bin/env python3
 """Writes every recorded file of the repository from the stories and tables of vectors under samples/sources: what programs are given, what they
 must print, and the run that crates/examples proves allowed. What must come out is computed by scripts/model, a plain implementation of document 01.
-The numbers in include/ and docs/LAYOUT.md come from model/layout.py.
+The numbers in include/, docs/LAYOUT.md and docs/RECORDS.md come from model/layout.py; scripts/picture.sh draws docs/reunion.svg.
 
 usage: generate.py            writes the files that are not as they should be, and names them
        generate.py --check    only names them; exit status 1 if there are any
 """
 import re
+import subprocess
 import sys
+import tempfile
 from pathlib import Path
 
-from model import c_header, decision_vectors, layout_page, proof_files, record_vectors, state_vectors, story
+from model import c_header, decision_vectors, layout_page, proof_files, record_vectors, records_page, state_vectors, story
 
 TOP = Path(__file__).resolve().parent.parent
 SOURCES = 'samples/sources/'
@@ -26,6 +28,15 @@ def text_of(lines):
 
 def run_files(name, told):
     return {f'samples/{name}.bin': told.input(), f'samples/{name}.txt': told.output().encode()}
+
+
+def picture(run, lines):
+    """What picture.sh draws of a run. The bytes are the same by every awk."""
+    with tempfile.TemporaryDirectory() as folder:
+        paths = [Path(folder) / 'run.bin', Path(folder) / 'run.txt']
+        for path, data in zip(paths, (run, lines)):
+            path.write_bytes(data)
+        return subprocess.run(['sh', str(TOP / 'scripts/picture.sh'), *map(str, paths)], check=True, capture_output=True).stdout
 
 
 def worked_file(told):
@@ -45,14 +56,17 @@ def vector_files():
 
 def files():
     """Path to bytes of every file."""
-    worked, partition = story.told(source('worked.story')), story.told(source('partition.story'))
-    found = {**run_files('worked', worked), **run_files('partition', partition)}
+    stories = {name: story.told(source(name + '.story')) for name in ('worked', 'partition', 'reunion')}
+    found = {}
+    for name, told in stories.items():
+        found.update(run_files(name, told))
     found['crates/replay/stdin'], found['crates/replay/stdout'] = found['samples/partition.bin'], found['samples/partition.txt']
-    found['crates/examples/proofs/Worked.antt'] = worked_file(worked)
-    found['crates/examples/proofs/PartitionRun.antt'] = proof_files.run_file(partition, SOURCES + 'partition.story').encode()
-    found['include/guzbytor.h'] = c_header.public((TOP / 'include/guzbytor.h').read_text()).encode()
+    found['crates/examples/proofs/Worked.antt'] = worked_file(stories['worked'])
+    found['crates/examples/proofs/PartitionRun.antt'] = proof_files.run_file(stories['partition'], SOURCES + 'partition.story').encode()
+    found['docs/reunion.svg'] = picture(found['samples/reunion.bin'], found['samples/reunion.txt'])
     found['include/guzbytor_layout.h'] = c_header.header().encode()
-    found['docs/LAYOUT.md'] = layout_page.page((TOP / 'docs/LAYOUT.md').read_text()).encode()
+    for name, page in (('include/guzbytor.h', c_header.public), ('docs/LAYOUT.md', layout_page.page), ('docs/RECORDS.md', records_page.page)):
+        found[name] = page((TOP / name).read_text()).encode()
     found.update(vector_files())
     return found
 

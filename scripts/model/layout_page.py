@@ -1,4 +1,4 @@
-"""The numbers of docs/LAYOUT.md: offsets, the header's size, both formulas and their values. The page's words are written by hand."""
+"""The numbers of docs/LAYOUT.md: offsets, the header's size, where sections begin, both formulas and their values. The page's words are written by hand."""
 import re
 
 from . import layout
@@ -29,7 +29,53 @@ def with_lengths(text):
     return re.sub(r'^\| (\d), (\d+) \| [\d,]+ \| [\d,]+ \|', counted, text, flags=re.M)
 
 
+# The page's names of sections.
+SECTIONS = {
+    'header': None, 'cuts': 'cuts', 'noted lengths': 'noted', 'held requests': 'held', 'collected States': 'State', 'yellow ids': 'yellow',
+    'own list': 'own', 'queue': 'queue', 'end': 'end',
+}
+
+
+def begins(section, n, q):
+    return 0 if section is None else layout.sections(n, q)[section][0]
+
+
+def quadratic(value):
+    """The coefficients of 1, n and n², from a quadratic's values at 0, 1 and 2."""
+    zero, one, two = value(0), value(1), value(2)
+    square = (two - 2 * one + zero) // 2
+    return zero, one - zero - square, square
+
+
+def formula(section):
+    """Where a section begins, in n and q: offsets have no higher powers than n² and q."""
+    fixed = quadratic(lambda n: begins(section, n, 0))
+    by_quota = quadratic(lambda n: begins(section, n, 1) - begins(section, n, 0))
+    terms = [(c, power) for c, power in zip(fixed + by_quota, ('', ' n', ' n²', ' q', ' n q', ' n² q')) if c]
+
+    def value(n, q):
+        return sum(c * n ** power.count('n') * n ** power.count('²') * q ** power.count('q') for c, power in terms)
+
+    if any(value(n, q) != begins(section, n, q) for n in range(2, 9) for q in (1, 2, 16, 255, 256)):
+        raise SystemExit('docs/LAYOUT.md: no such formula for ' + str(section))
+    return ' + '.join('%d%s' % t for t in terms) or '0'
+
+
+def with_sections(text):
+    """The table of where sections begin; its heading names n and q of each column."""
+    heading = re.search(r'^\| Section \| Begins at \|(.*)$', text, flags=re.M).group(1)
+    columns = [(int(n), int(q)) for n, q in re.findall(r'n (\d+), q (\d+)', heading)]
+
+    def filled(row):
+        section = SECTIONS[row.group(1)]
+        cells = [row.group(1), formula(section)] + [f'{begins(section, n, q):,}' for n, q in columns]
+        return '| ' + ' | '.join(cells) + ' |'
+
+    names = '|'.join(SECTIONS)
+    return re.sub(r'^\| (%s) \| [^|]* (?:\| [\d,]+ ){%d}\|$' % (names, len(columns)), filled, text, flags=re.M)
+
+
 def page(text):
     text = with_lengths(with_offsets(text))
-    text = re.sub(r'^\| header \| \d+ \|', '| header | %d |' % size(HEADER), text, flags=re.M)
-    return re.sub(r'^State: \d+ \+', 'State: %d +' % size(HEADER), text, flags=re.M)
+    text = re.sub(r'^\| header \| \d+ \| the', '| header | %d | the' % size(HEADER), text, flags=re.M)
+    return with_sections(re.sub(r'^State: \d+ \+', 'State: %d +' % size(HEADER), text, flags=re.M))
