@@ -16,7 +16,7 @@ typedef struct {
     size_t length;
 } buffer;
 
-static buffer lent(size_t length) {
+static inline buffer lent(size_t length) {
     buffer b = {malloc(length > 0 ? length : 1), length};
     if (b.bytes == NULL) {
         fprintf(stderr, "no memory\n");
@@ -26,11 +26,11 @@ static buffer lent(size_t length) {
 }
 
 /* The length of the record that b begins with: two length bytes and what they count. */
-static size_t record_length(const uint8_t *b) {
+static inline size_t record_length(const uint8_t *b) {
     return 2 + ((size_t)b[0] << 8 | b[1]);
 }
 
-static buffer read_file(const char *name) {
+static inline buffer read_file(const char *name) {
     FILE *f = fopen(name, "rb");
     long length = -1;
     if (f != NULL && fseek(f, 0, SEEK_END) == 0) {
@@ -49,10 +49,10 @@ static buffer read_file(const char *name) {
     return b;
 }
 
-static uint32_t setup_quota(const uint8_t *b) { return (uint32_t)b[SETUP_QUOTA] << 8 | b[SETUP_QUOTA + 1]; }
+static inline uint32_t setup_quota(const uint8_t *b) { return (uint32_t)b[SETUP_QUOTA] << 8 | b[SETUP_QUOTA + 1]; }
 
 /* The set-up record's number: 1 for its form, and else what the lengths are answered with. */
-static uint32_t set_up(buffer run, guzbytor_lengths_answer *lengths) {
+static inline uint32_t set_up(buffer run, guzbytor_lengths_answer *lengths) {
     const uint8_t *b = run.bytes;
     if (run.length < SETUP_LENGTH || record_length(b) != SETUP_LENGTH || b[FRAME_VERSION] != RECORD_VERSION || b[FRAME_KIND] != KIND_SETUP) {
         return 1;
