@@ -192,7 +192,7 @@ void trial(office *o, uint32_t moves) {
         befalls(o, &c, k);
         for (uint32_t left = below(&o->draws, c.requests + 1); left > 0; left--) {
             k = (uint8_t)below(&o->draws, o->servers);
-            if (o->depots[k].up) {
+            if (o->depots[k].up && (o->depots[k].asked < o->quota || one_in(&o->draws, 16))) {
                 request_comes(o, k);
             }
         }
