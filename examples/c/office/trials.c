@@ -7,6 +7,8 @@ typedef struct {
     uint32_t pace;      /* deliveries and receptions between two moves, at most */
     uint32_t change_in; /* lines change once in so many moves */
     uint32_t requests;  /* at most so many with each move */
+    uint32_t at_once;   /* records received one after another, at most */
+    uint32_t astray_in; /* a record comes out of its order once in so many; 0: never */
 } course;
 
 /* The depots that are up and that k has a line to, itself too. */
@@ -136,8 +138,8 @@ static void some_time_passes(office *o, const course *c) {
             something_comes(o, k);
         } else {
             uint8_t heard = heard_by(o, c, k);
-            for (uint32_t more = below(&o->draws, 2 * o->servers) + 1; more > 0; more--) {
-                group_receive(&o->group, k, heard, one_in(&o->draws, 4), &o->draws);
+            for (uint32_t more = below(&o->draws, c->at_once) + 1; more > 0; more--) {
+                group_receive(&o->group, k, heard, one_in(&o->draws, c->astray_in), &o->draws);
             }
         }
     }
@@ -184,8 +186,14 @@ static void befalls(office *o, const course *c, uint8_t k) {
 }
 
 void trial(office *o, uint32_t moves) {
-    static const uint32_t paces[] = {3, 12, 40, 120}, crashes[] = {0, 40, 150, 600};
-    course c = {{0}, paces[below(&o->draws, 4)], 4 + below(&o->draws, 20), 1 + below(&o->draws, 4)};
+    static const uint32_t paces[] = {3, 12, 40, 120}, crashes[] = {0, 40, 150, 600}, at_once[] = {1, 4, 16}, astray[] = {0, 1, 4};
+    course c = {
+        .pace = paces[below(&o->draws, 4)],
+        .change_in = 4 + below(&o->draws, 20),
+        .requests = 1 + below(&o->draws, 4),
+        .at_once = at_once[below(&o->draws, 3)],
+        .astray_in = astray[below(&o->draws, 3)],
+    };
     o->crash_in = crashes[below(&o->draws, 4)];
     for (uint32_t i = 0; i < moves; i++) {
         uint8_t k = (uint8_t)below(&o->draws, o->servers);
