@@ -3,9 +3,9 @@
 
 usage: audit.py JOURNAL..     JOURNAL: a file that the office wrote (examples/c/office, -j)
 
-Writes target/audit/NAME, a crate whose proofs say that the run is allowed, and has it checked; where it is not allowed, target/audit/NAME_fields
-finds the fields of `Allowed` that fail. The crates base, format, replication and examples must be proved (rt check examples). Exit status 0: all
-runs are allowed.
+Writes target/audit/NAME, a crate that proves the run allowed, and has it checked. Where that fails, target/audit/NAME_fields finds the fields of
+`Allowed` that fail, and target/audit/NAME_refused proves that the audit refuses the run with these. The crates base, format, replication and
+examples must be proved (rt check examples). Exit status 0: all runs are allowed.
 """
 import re
 import subprocess
@@ -44,10 +44,16 @@ def checked(name):
     return done.returncode == 0 and 'logic=proved' in said, re.findall(r'error: `([^`]*)`', said)
 
 
-def failing_fields(name, run):
+def refused(name, run):
+    """Why a run is refused, and the crate that shows it."""
     fields = re.findall(r'test "([^"]*)"', (TOP / VERDICT).read_text())
-    write_crate(name, run, 'Fields', proof_files.fields_file(name, fields))
-    return [f for f in checked(name)[1] if f in fields + ['strays']]
+    write_crate(name + '_fields', run, 'Fields', proof_files.fields_file(name + '_fields', fields))
+    failing = checked(name + '_fields')[1]
+    if not failing or not set(failing) <= set(fields):
+        why = 'a stray is an event that the machine takes' if 'strays' in failing else 'see target/audit/%s_fields.log' % name
+        return why, name + '_fields'
+    write_crate(name + '_refused', run, 'Refused', proof_files.refused_file(name + '_refused', failing))
+    return ', '.join(failing) + ('' if checked(name + '_refused')[0] else ' (not proved)'), name + '_refused'
 
 
 def audited(path):
@@ -57,13 +63,9 @@ def audited(path):
     write_crate(name, run, 'Audit', proof_files.audit_file(name))
     size = '%d entries, %d of them strays' % (len(story.entries), len(story.strays()))
     allowed = checked(name)[0]
-    if allowed:
-        print('%s: allowed (%s)' % (path.name, size))
-    else:
-        name += '_fields'
-        failing = failing_fields(name, run)
-        print('%s: NOT allowed (%s): %s' % (path.name, size, ', '.join(failing) or 'see target/audit/%s.log' % name))
-    print('  checked by: ' + ' '.join(command(name)), flush=True)
+    why, shown = ('allowed', name) if allowed else refused(name, run)
+    print('%s, %s: %s' % (path.name, size, why if allowed else 'REFUSED, failing: ' + why))
+    print('  ' + ' '.join(command(shown)), flush=True)
     return allowed
 
 

@@ -18,13 +18,14 @@ mkdir -p "$out"
 # Runs a seed; with a fourth word it is recorded too.
 run() {
     set -- "$1" -n "$2" -q "$3" -m $((20 + $1 % 10 * 30)) -u -d "$out/depots" ${4:+-r "$out/run.bin" -l "$out/lines.txt"}
-    "$out/office" "$@" >"$out/said.txt" && return
+    "$out/office" "$@" >"$out/said.txt" && cat "$out/said.txt" >>"$out/all.txt" && return
     cat "$out/said.txt"
     echo "  by: $out/office $*"
     return 1
 }
 
 equal=0 recorded=0 same=0 seed=0
+: >"$out/all.txt"
 while [ "$seed" -lt "$count" ]; do
     seed=$((seed + 1))
     depots=$((2 + seed % 7))
@@ -43,6 +44,7 @@ while [ "$seed" -lt "$count" ]; do
     target/bin/replay <"$out/run.bin" >"$out/replay.txt"
     if cmp "$out/lines.txt" "$out/replay.txt"; then same=$((same + 1)); fi
 done
+awk '{ events += $3; crashes += $5; green += $7 } END { print events " events, " crashes " crashes, " green " green" }' "$out/all.txt"
 echo "$equal of $count seeds ended equal; replay prints the same lines for $same of $recorded recorded"
 [ "$equal" -eq "$count" ] && [ "$same" -eq "$recorded" ] || exit 1
 

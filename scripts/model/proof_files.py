@@ -149,6 +149,25 @@ agrees = demand3 servers quota run allowed
 '''
 
 
+def refused_file(crate, fields):
+    """The audit refuses the run, and these fields fail."""
+    names = ' ∷ '.join(['"%s"' % f for f in fields] + ['[]'])
+    return f'''-- The audit refuses the recorded run: these fields of `Allowed` fail.
+-- Assumes nothing.
+use mathlib.Core.Path.{{refl}}
+use mathlib.Core.List.{{[], _∷_}}
+use Rattle.replication.specs.Runs.Strays.{{without}}
+use Rattle.replication.specs.Audit.Strays.{{isOneOf}}
+use Rattle.examples.proofs.Rows.{{digit, pairsOf, hex}}
+use Rattle.examples.proofs.Shown.{{Refused, opened}}
+use Rattle.{crate}.proofs.Run.{{servers, quota, run, strays, witness}}
+
+refused : Refused servers quota (without (isOneOf strays) run) witness ({names})
+unfolding opened digit pairsOf hex run strays witness
+refused = (refl, refl)
+'''
+
+
 def fields_file(crate, fields):
     """Each field of `Allowed` by itself: the check names those that fail. `strays` is no field: a stray that the machine takes."""
     lemmas = ''.join(f'''

@@ -23,7 +23,7 @@ HEADING = 'event server returned state red green prim sent'
 @dataclass
 class Entry:
     """A crash or a store between events, which have no bytes, or an event: its answer, the place and number of the sending that it delivers, the
-    name of the transitional configuration that it brings."""
+    name of the transitional configuration that it brings; of a delivery also the configuration and the position in its order, if recorded."""
     server: int
     data: bytes = None
     number: int = 0
@@ -34,6 +34,7 @@ class Entry:
     sent: int = 0
     cut: bool = False
     stores: bool = False
+    position: tuple = None
 
 
 @dataclass

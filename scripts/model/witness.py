@@ -1,7 +1,8 @@
 """What the run of a story or of a journal chose, for the audit (crates/replication/specs/Audit/Witness.antt): the sending that each delivery
 delivers, the names of transitional configurations, and the ords. Entries that share a moment (deliveries of one record or of one configuration)
-are one node of a graph whose edges are each server's own order and sending before delivery; its nodes are numbered in an order that keeps to the
-edges. In a run that is not allowed the edges may make a circle, and a sending may be missing: the audit then says what fails."""
+are one node of a graph whose edges are each server's own order, sending before delivery, and each configuration's one order where it is recorded;
+its nodes are numbered in an order that keeps to the edges. In a run that is not allowed the edges may make a circle, and a sending may be missing:
+the audit then says what fails."""
 import heapq
 from collections import defaultdict
 
@@ -38,7 +39,16 @@ class Witness:
             for x in [self.node(p)] + [('sending', p, i) for i in range(e.sent)]:
                 found.append((last.get(e.server), x))
                 last[e.server] = x
-        return found
+        return found + self.one_orders()
+
+    def one_orders(self):
+        """Each configuration's records by their positions, one after another."""
+        orders = defaultdict(dict)
+        for p, e in enumerate(self.entries):
+            if e.position:
+                orders[e.position[0]][e.position[1]] = self.node(p)
+        chains = [[x for _, x in sorted(order.items())] for order in orders.values()]
+        return [pair for chain in chains for pair in zip(chain, chain[1:])]
 
 
 def ordered(edges):

@@ -97,7 +97,7 @@ static uint32_t send_records(office *o, uint8_t k, size_t length, uint32_t most)
     uint32_t put = 0;
     for (size_t at = 0; at < length; at += record_length(out + at), put++) {
         if (put < most) {
-            group_send(&o->group, k, out + at, record_length(out + at), (sending){o->journal.entries, put});
+            group_send(&o->group, k, out + at, record_length(out + at), o->journal.entries, put);
         }
     }
     return put;
@@ -124,7 +124,7 @@ static void finish(office *o, const event *e, guzbytor_step_answer a, fate f) {
         note_requests(d, e);
     }
     if (f.crash) {
-        if (o->stores && one_in(&o->draws, 4)) {
+        if (one_in(&o->draws, 4) && o->stores) {
             depot_stores(o, e->server); /* a further store may fall between an event and the crash */
         }
         depot_crashes(o, e->server);

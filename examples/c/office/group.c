@@ -22,7 +22,7 @@ static void find_safe(configuration *c) {
     }
 }
 
-void group_send(group *g, uint8_t k, const uint8_t *bytes, size_t length, sending source) {
+void group_send(group *g, uint8_t k, const uint8_t *bytes, size_t length, size_t place, uint32_t number) {
     configuration *c = g->members[k].in;
     if (c == NULL || g->members[k].parted) {
         fprintf(stderr, "depot %u sends outside a regular configuration\n", k);
@@ -32,7 +32,7 @@ void group_send(group *g, uint8_t k, const uint8_t *bytes, size_t length, sendin
         c->room = c->room * 2 + 16;
         c->order = grown(c->order, c->room * sizeof *c->order);
     }
-    c->order[c->count] = (record){lent(length), k, only(k), source};
+    c->order[c->count] = (record){lent(length), k, only(k), {place, number, c->count}};
     memcpy(c->order[c->count].bytes.bytes, bytes, length);
     c->count++;
     find_safe(c);

@@ -78,8 +78,8 @@ const configuration *group_joins(group *g, uint8_t k);
 /* A transitional configuration with no regular one before it, which nothing forbids: its name. */
 uint32_t group_parts_alone(group *g, uint8_t k);
 
-/* A server sends a record in the configuration that it has. */
-void group_send(group *g, uint8_t k, const uint8_t *bytes, size_t length, sending source);
+/* A server sends a record in the configuration that it has, as the record `number` of the entry at `place`. */
+void group_send(group *g, uint8_t k, const uint8_t *bytes, size_t length, size_t place, uint32_t number);
 
 /* A server receives a record that one of `heard` has, the earliest that it lacks or any; 0 where there is none. */
 int group_receive(group *g, uint8_t k, uint8_t heard, int any, draws *d);

@@ -29,7 +29,7 @@ static void write_entry(journal *j, const event *e, uint32_t returned, uint32_t 
         fprintf(j->journal, "%02x", e->bytes[i]);
     }
     if (e->delivers) {
-        fprintf(j->journal, " source %zu %u", e->source.place, e->source.number);
+        fprintf(j->journal, " source %zu %u position %zu", e->source.place, e->source.number, e->source.position);
     }
     if (e->name != 0) {
         fprintf(j->journal, " name %u", e->name);

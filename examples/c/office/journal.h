@@ -4,10 +4,11 @@
 
 #include "../run.h"
 
-/* A record that was sent: the place of the entry that sent it, and which of its records it is. */
+/* A record that was sent: the place of the entry that sent it, which of its records it is, and where it stands in its configuration's one order. */
 typedef struct {
     size_t place;
     uint32_t number;
+    size_t position;
 } sending;
 
 /* An event at a depot, and what the group layer chose with it. */

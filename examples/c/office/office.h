@@ -34,7 +34,7 @@ typedef struct {
 } office;
 
 /* Says what is wrong, and ends with status 1. */
-void wrong(const office *o, const char *format, ...);
+_Noreturn void wrong(const office *o, const char *format, ...);
 
 /* ---- depot.c: what a daemon does */
 
