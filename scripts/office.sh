@@ -48,10 +48,17 @@ awk '{ events += $3; crashes += $5; green += $7 } END { print events " events, "
 echo "$equal of $count seeds ended equal; replay prints the same lines for $same of $recorded recorded"
 [ "$equal" -eq "$count" ] && [ "$same" -eq "$recorded" ] || exit 1
 
-# A daemon refuses an image that is damaged, and one of another number of depots.
+# A daemon refuses an image of another number of depots, of another depot, and one that is damaged.
+refuses() {
+    if "$out/office" -t -n "$1" -q 4 -d "$out/depots" >/dev/null; then
+        echo "$2 is taken"
+        exit 1
+    fi
+}
 "$out/office" 1 -n 3 -q 4 -d "$out/depots" >/dev/null
 "$out/office" -t -n 3 -q 4 -d "$out/depots"
-if "$out/office" -t -n 2 -q 4 -d "$out/depots" 2>"$out/refused.txt"; then echo "images of another office are taken" && exit 1; fi
+refuses 2 "an image of another number of depots"
+cp "$out/depots/depot0.img" "$out/depots/depot1.img"
+refuses 3 "an image of another depot"
 printf 'x' | dd of="$out/depots/depot1.img" bs=1 seek=100 conv=notrunc 2>/dev/null
-if "$out/office" -t -n 3 -q 4 -d "$out/depots" >/dev/null 2>>"$out/refused.txt"; then echo "a damaged image is taken" && exit 1; fi
-cat "$out/refused.txt"
+refuses 3 "a damaged image"

@@ -42,7 +42,26 @@ static list green_at(const office *o, uint8_t k) {
     return l;
 }
 
-void greens_agree(office *o) {
+/* Of any two depots that are up: the primary components known last are equal where their indexes are. */
+static void compare_primaries(const office *o) {
+    guzbytor_summary_answer known[MOST_SERVERS];
+    uint8_t count = 0;
+    for (uint8_t k = 0; k < o->servers; k++) {
+        if (!o->depots[k].up) {
+            continue;
+        }
+        guzbytor_summary_answer a = depot_summary(o, k);
+        for (uint8_t i = 0; i < count; i++) {
+            const guzbytor_summary_answer *b = &known[i];
+            if (a.primary_index == b->primary_index && (a.primary_attempt != b->primary_attempt || a.primary_set != b->primary_set)) {
+                wrong(o, "depots %u and %u know different primary components of one index", b->me, k);
+            }
+        }
+        known[count++] = a;
+    }
+}
+
+static void compare_greens(const office *o) {
     list longest = green_at(o, 0);
     for (uint8_t k = 1; k < o->servers; k++) {
         list l = green_at(o, k);
@@ -55,6 +74,11 @@ void greens_agree(office *o) {
         free(shorter.entries.bytes);
     }
     free(longest.entries.bytes);
+}
+
+void depots_agree(const office *o) {
+    compare_greens(o);
+    compare_primaries(o);
 }
 
 /* Whether a green entry is the request that its creator was asked; `found` counts each creator's. */
@@ -84,7 +108,7 @@ static void compare_asked(const office *o, const list *l) {
     }
 }
 
-uint32_t greens_equal(office *o) {
+uint32_t depots_equal(const office *o) {
     list first = green_at(o, 0);
     for (uint8_t k = 0; k < o->servers; k++) {
         guzbytor_summary_answer a = depot_summary(o, k);

@@ -138,7 +138,7 @@ static void run(office *o, const options *p) {
     }
     trial(o, p->moves);
     trial_ends(o);
-    uint32_t green = greens_equal(o);
+    uint32_t green = depots_equal(o);
     if (!journal_end(&o->journal)) {
         wrong(o, "a file is not whole");
     }

@@ -78,10 +78,11 @@ void trial_ends(office *o);
 
 /* ---- greens.c: what must hold */
 
-/* Green lists agree now: of any two depots the shorter begins the longer. The list of a depot that is down is the stored one. */
-void greens_agree(office *o);
+/* Green lists agree now: of any two depots the shorter begins the longer. The list of a depot that is down is the stored one. Primary components
+   agree too. */
+void depots_agree(const office *o);
 
 /* All depots are in Reg_prim with equal green lists, which are the requests answered 0; nothing is red, waiting or held. How many are green. */
-uint32_t greens_equal(office *o);
+uint32_t depots_equal(const office *o);
 
 #endif

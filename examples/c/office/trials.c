@@ -207,7 +207,7 @@ void trial(office *o, uint32_t moves) {
         some_time_passes(o, &c);
         if (one_in(&o->draws, c.change_in)) {
             change_lines(o, &c);
-            greens_agree(o);
+            depots_agree(o);
         }
     }
 }
