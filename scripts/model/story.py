@@ -22,16 +22,19 @@ HEADING = 'event server returned state red green prim sent'
 
 @dataclass
 class Entry:
-    """A crash, which has no bytes, or an event: its answer, the place and number of the sending that it delivers, the configuration before it."""
+    """A crash or a store between events, which have no bytes, or an event: its answer, the place and number of the sending that it delivers, the
+    name of the transitional configuration that it brings; of a delivery also the configuration and the position in its order, if recorded."""
     server: int
     data: bytes = None
     number: int = 0
     line: str = ''
     record: Record = None
     source: tuple = None
-    configuration: int = None
+    name: int = 0
     sent: int = 0
     cut: bool = False
+    stores: bool = False
+    position: tuple = None
 
 
 @dataclass
@@ -61,6 +64,7 @@ class Teller:
         self.stored = list(self.memory)
         self.sendings = {}      # (configuration, sender): [(place, number, bytes)]
         self.had = {}           # (server, configuration, sender): how many of them
+        self.names = {}         # (configuration, set): the name of the transitional configuration
         self.events = 0
 
     def here(self, k):
@@ -93,7 +97,8 @@ class Teller:
         if record and record.kind in TOLD and source is None:
             raise ValueError('a record that was not sent is taken')
         count = len(outcome.sent) if sent is None else sent
-        self.story.entries.append(Entry(k, data, refused, line, record, source, before, count, sent is not None))
+        name = self.names.setdefault((before, record.set), len(self.names) + 1) if record and record.kind == 'transitional' else 0
+        self.story.entries.append(Entry(k, data, refused, line, record, source, name, count, sent is not None))
         told = self.sendings.setdefault((self.here(k), k), [])
         told += [(place, i, records.write(r)) for i, r in enumerate(outcome.sent[:count])]
 

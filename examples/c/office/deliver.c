@@ -1,0 +1,83 @@
+/* Deliveries: one by one, or several in a burst. */
+#include "office.h"
+
+#include <string.h>
+
+enum { MOST_BURST = 16 };
+
+static event delivery(uint8_t k, const record *r) {
+    return (event){.server = k, .bytes = r->bytes.bytes, .length = r->bytes.length, .delivers = 1, .source = r->source};
+}
+
+/* The next records in a row; how many, and all of them one behind another. */
+static size_t gathered(const office *o, uint8_t k, size_t most, event *events, buffer *all) {
+    size_t count = 0, length = 0;
+    for (const record *r; count < most && (r = group_record(&o->group, k, count)) != NULL; count++) {
+        events[count] = delivery(k, r);
+        length += r->bytes.length;
+    }
+    *all = lent(length);
+    length = 0;
+    for (size_t i = 0; i < count; i++) {
+        memcpy(all->bytes + length, events[i].bytes, events[i].length);
+        length += events[i].length;
+    }
+    return count;
+}
+
+/* The events of a burst but the last one, by single steps over a copy: they store and send nothing, and are written down as they would come alone.
+   Then the last one, over the copy too: it must leave what the burst left. */
+static void by_steps(office *o, const event *events, guzbytor_burst_answer a, buffer copy) {
+    depot *d = &o->depots[events->server];
+    buffer out = lent(d->out.length);
+    guzbytor_step_answer s = {0, 0, 0};
+    for (size_t i = 0; i < a.events && s.number == 0 && s.store == 0 && s.sent == 0; i++) {
+        s = guzbytor_step(copy.bytes, copy.length, events[i].bytes, events[i].length, out.bytes, out.length);
+        if (i + 1 < a.events) {
+            journal_event(&o->journal, &events[i], s.number, 0, 0, copy);
+        }
+    }
+    if (s.number != 0 || s.store != a.store || s.sent != a.sent || memcmp(copy.bytes, d->state.bytes, copy.length) != 0 ||
+        memcmp(out.bytes, d->out.bytes, s.sent) != 0) {
+        wrong(o, "depot %u: a burst of %zu records is not its steps", events->server, a.events);
+    }
+    free(out.bytes);
+}
+
+/* A burst ends with the event that stores or sends, if one does: the daemon's duties are those after that event. */
+static void burst(office *o, uint8_t k, size_t most) {
+    depot *d = &o->depots[k];
+    event events[MOST_BURST];
+    buffer all, copy = lent(d->state.length);
+    size_t count = gathered(o, k, most < MOST_BURST ? most : MOST_BURST, events, &all);
+    memcpy(copy.bytes, d->state.bytes, copy.length);
+    guzbytor_burst_answer a = guzbytor_burst(d->state.bytes, d->state.length, all.bytes, all.length, d->out.bytes, d->out.length);
+    if (a.number != 0 || a.events == 0 || a.events > count) {
+        wrong(o, "depot %u: a burst of %zu records ends with %u after %zu", k, count, a.number, a.events);
+    }
+    o->bursts += a.events > 1;
+    for (size_t i = 0; i < a.events; i++) {
+        group_delivered(&o->group, k);
+    }
+    by_steps(o, events, a, copy);
+    depot_finishes(o, &events[a.events - 1], (guzbytor_step_answer){0, a.store, a.sent});
+    free(all.bytes);
+    free(copy.bytes);
+}
+
+void depot_delivers(office *o, uint8_t k, size_t most) {
+    const record *r = group_record(&o->group, k, 0);
+    if (r == NULL) {
+        return;
+    }
+    if (most > 1 && group_record(&o->group, k, 1) != NULL) {
+        burst(o, k, most);
+        return;
+    }
+    event e = delivery(k, r);
+    group_delivered(&o->group, k);
+    uint32_t number = depot_takes(o, &e);
+    if (number != 0) {
+        wrong(o, "depot %u refuses a record with %u", k, number);
+    }
+}

@@ -1,0 +1,81 @@
+#include "events.h"
+#include "guzbytor_layout.h"
+#include "office.h"
+
+#include <string.h>
+
+/* A second regular configuration; a second transitional one where one has come. 0 where neither can be refused here. */
+static size_t second_configuration(office *o, uint8_t k, uint8_t *b) {
+    const member *m = &o->group.members[k];
+    if (m->parted) {
+        return write_transitional(b, only(k));
+    }
+    return m->in != NULL ? write_regular(b, group_new_id(&o->group), only(k)) : 0;
+}
+
+/* An action, as if sent by a server that is not in the configuration; 0 where all are. */
+static size_t outsiders_action(office *o, uint8_t k, uint8_t *b) {
+    const member *m = &o->group.members[k];
+    uint8_t creator = 0;
+    while (creator < o->servers && (creator == k || (m->in != NULL && has(m->in->set, creator)))) {
+        creator++;
+    }
+    if (creator == o->servers) {
+        return 0;
+    }
+    memset(b, 0, GUZBYTOR_AT_BODY + ACTION_SIZE);
+    b[GUZBYTOR_AT_BODY + ACTION_CREATOR] = creator;
+    b[GUZBYTOR_AT_BODY + ACTION_INDEX + 1] = 1;
+    return write_frame(b, GUZBYTOR_KIND_ACTION, ACTION_SIZE);
+}
+
+/* An own action with an index that this depot has not numbered. */
+static size_t unnumbered_action(office *o, uint8_t k, uint8_t *b) {
+    uint32_t index = depot_summary(o, k).numbered + 1;
+    if (index > o->quota) {
+        return 0;
+    }
+    memset(b, 0, GUZBYTOR_AT_BODY + ACTION_SIZE);
+    b[GUZBYTOR_AT_BODY + ACTION_CREATOR] = k;
+    b[GUZBYTOR_AT_BODY + ACTION_INDEX] = (uint8_t)(index >> 8);
+    b[GUZBYTOR_AT_BODY + ACTION_INDEX + 1] = (uint8_t)index;
+    return write_frame(b, GUZBYTOR_KIND_ACTION, ACTION_SIZE);
+}
+
+static size_t unreadable(office *o, uint8_t k, uint8_t *b) {
+    uint8_t payload[GUZBYTOR_MOST_PAYLOAD + 1] = {0};
+    size_t length;
+    switch (below(&o->draws, 4)) {
+    case 0: /* a bad version */
+        length = write_request(b, payload, 1);
+        b[GUZBYTOR_AT_VERSION] = (uint8_t)(GUZBYTOR_VERSION + 1 + below(&o->draws, 200));
+        return length;
+    case 1: /* a bad kind */
+        return write_frame(b, (uint8_t)(GUZBYTOR_KIND_SETUP + below(&o->draws, 200)), 0);
+    case 2: /* a payload that is too long */
+        return write_request(b, payload, GUZBYTOR_MOST_PAYLOAD + 1);
+    default: /* a set without the server itself */
+        return write_transitional(b, (uint8_t)(((1u << o->servers) - 1) & ~(unsigned)only(k)));
+    }
+}
+
+void depot_refuses(office *o, uint8_t k) {
+    uint8_t b[MOST_REQUEST];
+    size_t length = 0;
+    switch (below(&o->draws, 4)) {
+    case 0:
+        length = second_configuration(o, k, b);
+        break;
+    case 1:
+        length = outsiders_action(o, k, b);
+        break;
+    case 2:
+        length = unnumbered_action(o, k, b);
+        break;
+    default:
+        length = unreadable(o, k, b);
+    }
+    if (length != 0 && depot_takes(o, &(event){.server = k, .bytes = b, .length = length}) == 0) {
+        wrong(o, "depot %u takes an event that it must refuse", k);
+    }
+}

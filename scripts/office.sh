@@ -1,0 +1,60 @@
+#!/bin/sh
+# Runs the office (examples/c/office) by the seeds 1 to COUNT, with every number of depots and many quotas: each run must end with all depots in one
+# primary component with equal green lists. Runs that `replay` can take are recorded, and its lines compared with the office's own.
+# usage: office.sh [COUNT]       (default 1000)
+set -eu
+cd "$(dirname "$0")/.."
+count=${1:-1000}
+out=target/office
+mkdir -p "$out"
+[ -x target/bin/replay ] || rt check replay
+[ -f dist/libguzbytor.a ] || sh scripts/dist.sh
+"${CC:-cc}" -std=c11 -D_POSIX_C_SOURCE=200809L -Wall -Wextra -O2 -Idist -Iinclude examples/c/office/*.c dist/libguzbytor.a -o "$out/office"
+
+# Runs a seed; with a fourth word it is recorded too.
+run() {
+    set -- "$1" -n "$2" -q "$3" -m $((20 + $1 % 10 * 30)) -u -d "$out/depots" ${4:+-r "$out/run.bin" -l "$out/lines.txt"}
+    "$out/office" "$@" >"$out/said.txt" && cat "$out/said.txt" >>"$out/all.txt" && return
+    cat "$out/said.txt"
+    echo "  by: $out/office $*"
+    return 1
+}
+
+equal=0 recorded=0 same=0 seed=0
+: >"$out/all.txt"
+while [ "$seed" -lt "$count" ]; do
+    seed=$((seed + 1))
+    depots=$((2 + seed % 7))
+    case $((seed / 7 % 4)) in
+    0) quota=$((1 + seed % 4)) ;;
+    1) quota=$((1 + seed * 5 % 16)) ;;
+    2) quota=$((1 + seed * 29 % 256)) ;;
+    *) quota=256 ;;
+    esac
+    if [ "$depots" -gt 4 ] || [ "$quota" -gt 16 ]; then
+        if run "$seed" "$depots" "$quota"; then equal=$((equal + 1)); fi
+        continue
+    fi
+    recorded=$((recorded + 1))
+    if run "$seed" "$depots" "$quota" recorded; then equal=$((equal + 1)); fi
+    target/bin/replay <"$out/run.bin" >"$out/replay.txt"
+    if cmp "$out/lines.txt" "$out/replay.txt"; then same=$((same + 1)); fi
+done
+awk '{ events += $3; crashes += $5; green += $7 } END { print events " events, " crashes " crashes, " green " green" }' "$out/all.txt"
+echo "$equal of $count seeds ended equal; replay prints the same lines for $same of $recorded recorded"
+[ "$equal" -eq "$count" ] && [ "$same" -eq "$recorded" ] || exit 1
+
+# A daemon refuses an image of another number of depots, of another depot, and one that is damaged.
+refuses() {
+    if "$out/office" -t -n "$1" -q 4 -d "$out/depots" >/dev/null; then
+        echo "$2 is taken"
+        exit 1
+    fi
+}
+"$out/office" 1 -n 3 -q 4 -d "$out/depots" >/dev/null
+"$out/office" -t -n 3 -q 4 -d "$out/depots"
+refuses 2 "an image of another number of depots"
+cp "$out/depots/depot0.img" "$out/depots/depot1.img"
+refuses 3 "an image of another depot"
+printf 'x' | dd of="$out/depots/depot1.img" bs=1 seek=100 conv=notrunc 2>/dev/null
+refuses 3 "a damaged image"
