@@ -15,13 +15,12 @@ use Rattle.base.specs.Bytes.{Bytes, numberAt}
 use Rattle.base.specs.Lists.{sum}
 use Rattle.format.specs.Limits.{fewestServers, leastQuota}
 use Rattle.format.specs.Range.{sizesOk, contextOk}
-use Rattle.format.proofs.Ranges.{sizes-range}
 use Rattle.record.specs.Context.{contextOf, readingContext}
 use Rattle.record.specs.declared.Context.{Context}
 use Rattle.record.specs.declared.State.{State}
 use Rattle.replication.specs.Machine.Types.{contextOf as contextOfState}
 use Rattle.replication.specs.Machine.WellFormed.{ranges, wellFormed}
-use Rattle.engine.specs.Layout.{SizesIn, sections, stateLength, outLength, leastStateLength, leastOutLength, headerSize, atServers, atQuota}
+use Rattle.engine.specs.Layout.{sections, stateLength, outLength, leastStateLength, leastOutLength, headerSize, atServers, atQuota}
 use Rattle.engine.specs.Header.{headerIn}
 use Rattle.engine.specs.Decode.{serversIn, quotaIn, decodedAs, decoded, reads}
 use Rattle.engine.specs.Outcome.{stateShort, outShort, tooShort, stateNumber, imageNumber}
@@ -57,9 +56,6 @@ brief-seven b h = sym (image-short b (go (known (stateShort b))))
 
 -- ---- sizes out of range
 
-pub least-sizes : SizesIn 2 1
-least-sizes = record { servers = omega arith; quota = omega arith }
-
 no-context : (b : List ℕ) → sizesOk (serversIn b) (quotaIn b) ≡ false → reads b ≡ false
 unfolding reads wellFormed ranges contextOfState contextOk decoded decodedAs
 no-context b g = sym (and-no _ _ (sym (and-no _ _ (sym (and-no _ _ (sym (and-no _ _ g)))))))
@@ -81,9 +77,6 @@ module _ (b : List ℕ) (h : State) (e : h ≡ headerIn b) (t : Bool) (f : t ≡
     least-long l = sym (image-unread b (sym by-least ∙ lt-no (length b) x l) (no-context b (sizes-told ∙ not-true t g)))
 
   -- ---- sizes in range
-
-  pub sizes-made : not t ≡ false → SizesIn (h .servers) (h .quota)
-  sizes-made g = let r = sizes-range (h .servers) (h .quota) (sym f ∙ not-false t g) in record { servers = r .most; quota = r .highest }
 
   module _ (x : ℕ) (g : not t ≡ false) (k : x ≡ stateLength (h .servers) (h .quota)) where
     by-formula : (length b <? x) ≡ stateShort b
@@ -122,9 +115,6 @@ module _ (b o : List ℕ) (n q : ℕ) (e : n ≡ numberAt 1 b atServers) (f : q 
   same-sizes : sizesOk (serversIn b) (quotaIn b) ≡ t
   unfolding serversIn quotaIn
   same-sizes = sym (g ∙ (λ i. sizesOk (e i) (f i)))
-
-  pub out-sizes : not t ≡ false → SizesIn n q
-  out-sizes h = let r = sizes-range n q (sym g ∙ not-false t h) in record { servers = r .most; quota = r .highest }
 
   pub out-by-least : (x : ℕ) → not t ≡ true → x ≡ outLength 2 1 → ltb (length o) x ≡ outShort b o
   unfolding outShort leastOutLength

@@ -1,4 +1,5 @@
-use Rattle.state_check.proofs.NumberAnswer.{brief-seven, least-short, least-long, sizes-made, formula-short, context-long, checked-eight, checked-zero}
+use Rattle.engine.proofs.SizeLaws.{sizes-answered}
+use Rattle.state_check.proofs.NumberAnswer.{brief-seven, least-short, least-long, formula-short, context-long, checked-eight, checked-zero}
 use Rattle.base.proofs.BytesLaws.{given-bytes}
 use borrow.Author.Needs.{needs}
 use Rattle.state_check.proofs.image_number.Statement.{statement}
@@ -38,7 +39,7 @@ returns-3 : tie.Need-returns-3
 returns-3 c = search (needs, least-long)
 
 state-length-requires-2 : tie.Need-state-length-requires-2
-state-length-requires-2 c κs = search (needs, sizes-made)
+state-length-requires-2 c κs = search (needs, sizes-answered)
 
 cast-if4 : tie.Need-cast-if4
 cast-if4 c = search needs

@@ -1,4 +1,5 @@
-use Rattle.state_check.proofs.NumberAnswer.{out-sizes, out-by-least, out-by-formula}
+use Rattle.engine.proofs.SizeLaws.{sizes-answered}
+use Rattle.state_check.proofs.NumberAnswer.{out-by-least, out-by-formula}
 use borrow.Author.Needs.{needs}
 use Rattle.state_check.proofs.out_short.Statement.{statement}
 use Rattle.state_check.proofs.out_short.Tie as tie
@@ -34,7 +35,7 @@ returns : tie.Need-returns
 returns c = search (needs, out-by-least)
 
 out-length-requires-2 : tie.Need-out-length-requires-2
-out-length-requires-2 c κs = search (needs, out-sizes)
+out-length-requires-2 c κs = search (needs, sizes-answered)
 
 cast-result-2 : tie.Need-cast-result-2
 cast-result-2 c = search needs
