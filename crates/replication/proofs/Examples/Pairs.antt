@@ -9,6 +9,10 @@ unfolding opened
 pairs-hold = record {
   p1 = refl;
   p2 = refl;
+  p2-others = refl;
+  half-with-lowest = refl;
+  half-without-lowest = refl;
+  half-with-server-0 = refl;
   p3 = refl;
   p4 = refl;
   p5 = refl;
