@@ -1,4 +1,4 @@
--- Document 01's pairs P1 to P8 hold by computation.
+-- The pairs hold by computation.
 -- Assumes nothing.
 use mathlib.Core.Path.{refl}
 use Rattle.replication.specs.Pairs.{Pairs}

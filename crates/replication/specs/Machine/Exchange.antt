@@ -112,11 +112,13 @@ unfoldable pub moreThanHalf : Primary → ℕ → Bool
 moreThanHalf p here = size (p .set) <? 2 * size (common (p .set) here)
 
 -- Document 02, K1: "Exactly half of the last primary now also makes a quorum if it holds that primary's lowest-numbered member."
-unfoldable pub halfWithLowest : Primary → ℕ → Bool
-halfWithLowest p here =
-    2 * size (common (p .set) here) =? size (p .set) and inSet (lowestMember mostServers (p .set)) (common (p .set) here)
+unfoldable pub lowestOf : Primary → ℕ
+lowestOf p = lowestMember mostServers (p .set)
 
--- Who wins by dynamic linear voting.
+unfoldable pub halfWithLowest : Primary → ℕ → Bool
+halfWithLowest p here = 2 * size (common (p .set) here) =? size (p .set) and inSet (lowestOf p) (common (p .set) here)
+
+-- Dynamic linear voting: the members of p that are here win, or not.
 unfoldable pub linearVote : Primary → ℕ → Bool
 linearVote p here = moreThanHalf p here or halfWithLowest p here
 
