@@ -13,7 +13,7 @@ for example in lengths depot burst; do
     "${CC:-cc}" -std=c11 -Wall -Wextra -O2 -Iinclude "examples/c/$example.c" $libraries -o "target/examples/$example"
 done
 target/examples/lengths
-for run in worked partition; do
+for run in worked partition halves; do
     target/examples/depot "samples/$run.bin" >"target/examples/$run.txt"
     diff "samples/$run.txt" "target/examples/$run.txt"
     echo "samples/$run.bin: same"

@@ -45,11 +45,13 @@ def vector_files():
 
 def files():
     """Path to bytes of every file."""
-    worked, partition = story.told(source('worked.story')), story.told(source('partition.story'))
-    found = {**run_files('worked', worked), **run_files('partition', partition)}
+    stories = {name: story.told(source(name + '.story')) for name in ('worked', 'partition', 'halves')}
+    found = {}
+    for name, told in stories.items():
+        found.update(run_files(name, told))
     found['crates/replay/stdin'], found['crates/replay/stdout'] = found['samples/partition.bin'], found['samples/partition.txt']
-    found['crates/examples/proofs/Worked.antt'] = worked_file(worked)
-    found['crates/examples/proofs/PartitionRun.antt'] = proof_files.run_file(partition, SOURCES + 'partition.story').encode()
+    found['crates/examples/proofs/Worked.antt'] = worked_file(stories['worked'])
+    found['crates/examples/proofs/PartitionRun.antt'] = proof_files.run_file(stories['partition'], SOURCES + 'partition.story').encode()
     found['include/guzbytor_layout.h'] = c_header.header().encode()
     found['docs/LAYOUT.md'] = layout_page.page((TOP / 'docs/LAYOUT.md').read_text()).encode()
     found.update(vector_files())
