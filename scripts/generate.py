@@ -56,7 +56,7 @@ def vector_files():
 
 def files():
     """Path to bytes of every file."""
-    stories = {name: story.told(source(name + '.story')) for name in ('worked', 'partition', 'reunion')}
+    stories = {name: story.told(source(name + '.story')) for name in ('worked', 'partition', 'reunion', 'halves')}
     found = {}
     for name, told in stories.items():
         found.update(run_files(name, told))

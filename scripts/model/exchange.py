@@ -8,10 +8,6 @@ def has(s, k):
     return s >> k & 1 == 1
 
 
-def ones(s):
-    return bin(s).count('1')
-
-
 # ---- plan
 
 def spread(values):
@@ -90,7 +86,15 @@ def judged(states, v):
     return CLEARED if members & ~bits == 0 else (status, index, attempt, members, bits)
 
 
+def outvotes(members, here):
+    """More than half of the members are here; or half of them, with the lowest-numbered one (document 02, K1)."""
+    numbers = [k for k in range(members.bit_length()) if has(members, k)]
+    present = [k for k in numbers if has(here, k)]
+    absent = [k for k in numbers if not has(here, k)]
+    return len(present) > len(absent) or len(present) == len(absent) > 0 and min(present) < min(absent)
+
+
 def quorum(states, here):
     index, _, members = taken_primary(states)
-    return (all(judged(states, v)[0] == 0 for v in states) and 2 * ones(members & here) > ones(members)
+    return (all(judged(states, v)[0] == 0 for v in states) and outvotes(members, here)
             and index < MOST_INDEX and taken_attempt(states) < MOST_INDEX)

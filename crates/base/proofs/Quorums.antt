@@ -1,4 +1,4 @@
--- Two sets that each have more than half of a set's members have one of them in common.
+-- When two sets share a member of a third one.
 -- Assumes nothing.
 use Prim.Native.Nat.{ℕ, zero, suc, _+_, _*_, _≤_, _<_, _/_, _%_, _^_, min}
 use mathlib.Core.Path.{_≡_, refl, sym, ap, _∙_}
@@ -45,10 +45,19 @@ some-member (suc m) s h z = go (s % 2) refl (rest s) (some-member m (s / 2) (ome
     go (suc zero) e l f = (0, in-set-zero s ∙ eq-yes _ 1 e)
     go (suc (suc r)) e l f = absurd (omega arith)
 
-pub majorities-meet : (m p a b : ℕ) → p < 2 ^ m → size p < 2 * size (common p a) → size p < 2 * size (common p b)
+-- Two sets that together have more of a set's members than there are share one of them.
+pub shares-meet : (m p a b : ℕ) → p < 2 ^ m → size p < size (common p a) + size (common p b)
     → (k : ℕ) × (inSet k p ≡ true) × (inSet k a ≡ true) × (inSet k b ≡ true)
-majorities-meet m p a b h f g =
+shares-meet m p a b h f =
     let x = some-member m (common p (common a b)) (common-below m p (common a b) h) (omega (arith, shared m p a b h)) in
     let y = and-holds _ _ (sym (in-common (x .0) p (common a b)) ∙ x .1) in
     let z = and-holds _ _ (sym (in-common (x .0) a b) ∙ y .1) in
     (x .0, y .0, z .0, z .1)
+
+-- So do two sets that both have one and the same member of it.
+pub member-meets : (k p a b : ℕ) → inSet k (common p a) ≡ true → inSet k (common p b) ≡ true
+    → (k : ℕ) × (inSet k p ≡ true) × (inSet k a ≡ true) × (inSet k b ≡ true)
+member-meets k p a b f g =
+    let y = and-holds _ _ (sym (in-common k p a) ∙ f) in
+    let z = and-holds _ _ (sym (in-common k p b) ∙ g) in
+    (k, y .0, y .1, z .1)

@@ -4,7 +4,7 @@ use Prim.Native.Nat.{ℕ}
 use lib.Count.{ones}
 use Rattle.base.specs.Bytes.{areBytes, bytesOf, bytesOfAll, numberAt, numbersAt, partAt, joined}
 use Rattle.base.specs.Lists.{all, any, filter, atFront, present, gather, gatherAll, after, above, below, isThere, at, sum, same, upd, everyAt}
-use Rattle.base.specs.Sets.{inSet, inside, withMember, size, common, union, everyone}
+use Rattle.base.specs.Sets.{inSet, inside, withMember, size, common, union, everyone, firstMember, lowestMember}
 use Rattle.base.specs.Tests.{_≤?_, _<?_, _=?_, _and_, _or_, pick}
 use Rattle.base.specs.Text.{ascii, digits, decimal}
 
@@ -13,7 +13,7 @@ unfolding
     ones
     areBytes bytesOf bytesOfAll numberAt numbersAt partAt joined
     all any filter atFront present gather gatherAll after above below isThere at sum same upd everyAt
-    inSet inside withMember size common union everyone
+    inSet inside withMember size common union everyone firstMember lowestMember
     _≤?_ _<?_ _=?_ _and_ _or_ pick
     ascii digits decimal
 opened = 0

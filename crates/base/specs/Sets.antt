@@ -1,10 +1,10 @@
 -- A set of servers as a byte: bit k is server k.
 -- Assumes nothing.
-use Prim.Native.Nat.{ℕ, _-_, _/_, _%_, _^_}
+use Prim.Native.Nat.{ℕ, zero, suc, _+_, _-_, _/_, _%_, _^_}
 use mathlib.Core.Bool.{Bool}
 use lib.Bits.{bitAnd, bitOr}
 use lib.Count.{ones}
-use Rattle.base.specs.Tests.{_=?_}
+use Rattle.base.specs.Tests.{_=?_, pick}
 
 -- Server k is in the set s.
 unfoldable pub inSet : ℕ → ℕ → Bool
@@ -33,3 +33,12 @@ union s t = bitOr s t
 -- All of n servers.
 unfoldable pub everyone : ℕ → ℕ
 everyone n = 2 ^ n - 1
+
+-- The first of the m servers from k on that is in s; the one behind them where none is.
+unfoldable pub firstMember : (m k s : ℕ) → ℕ
+firstMember zero k s = k
+firstMember (suc m) k s = pick (inSet k s) k (firstMember m (k + 1) s)
+
+-- The lowest-numbered member of s, a set of servers below n; an empty one has none, and n stands for it.
+unfoldable pub lowestMember : (n s : ℕ) → ℕ
+lowestMember n s = firstMember n 0 s

@@ -32,10 +32,10 @@ same-configuration-refused = (refl, refl)
 -- 1.4: a State is delivered in the regular configuration and again in the transitional one.
 abbrev one-delivery-run : Run
 one-delivery-run =
-    event 0 (write (regular 1 1)) 1
-    ∷ event 0 (write (state (told 0 1 (0 ∷ 0 ∷ []) 0 0 (primary 0 0 3) unmarked no-yellow))) 0
-    ∷ event 0 (write (transitional 1)) 0
-    ∷ event 0 (write (state (told 0 1 (0 ∷ 0 ∷ []) 0 0 (primary 0 0 3) unmarked no-yellow))) 0
+    event 1 (write (regular 1 2)) 1
+    ∷ event 1 (write (state (told 1 1 (0 ∷ 0 ∷ []) 0 0 (primary 0 0 3) unmarked no-yellow))) 0
+    ∷ event 1 (write (transitional 2)) 0
+    ∷ event 1 (write (state (told 1 1 (0 ∷ 0 ∷ []) 0 0 (primary 0 0 3) unmarked no-yellow))) 0
     ∷ []
 
 abbrev one-delivery-witness : Witness
@@ -91,18 +91,18 @@ self-delivery-refused : Refused 2 2 self-delivery-run self-delivery-witness ("se
 unfolding opened
 self-delivery-refused = (refl, refl)
 
--- 4: two servers go from one configuration to the next together, and only one has delivered server 0's State there. (So 7.1 fails too.)
+-- 4: two servers go from one configuration to the next together, and only one has delivered server 2's State there. (So 7.1 fails too.)
 abbrev atomic-run : Run
 atomic-run =
-    event 0 (write (regular 1 3)) 1
-    ∷ event 1 (write (regular 1 3)) 1
-    ∷ event 0 (write (state (told 1 1 (0 ∷ 0 ∷ 0 ∷ 0 ∷ []) 0 0 (primary 0 0 15) unmarked no-yellow))) 0
-    ∷ event 1 (write (state (told 1 1 (0 ∷ 0 ∷ 0 ∷ 0 ∷ []) 0 0 (primary 0 0 15) unmarked no-yellow))) 0
-    ∷ event 0 (write (state (told 0 1 (0 ∷ 0 ∷ 0 ∷ 0 ∷ []) 0 0 (primary 0 0 15) unmarked no-yellow))) 0
-    ∷ event 0 (write (transitional 3)) 0
-    ∷ event 1 (write (transitional 3)) 0
-    ∷ event 0 (write (regular 2 3)) 1
-    ∷ event 1 (write (regular 2 3)) 1
+    event 2 (write (regular 1 12)) 1
+    ∷ event 3 (write (regular 1 12)) 1
+    ∷ event 2 (write (state (told 3 1 (0 ∷ 0 ∷ 0 ∷ 0 ∷ []) 0 0 (primary 0 0 15) unmarked no-yellow))) 0
+    ∷ event 3 (write (state (told 3 1 (0 ∷ 0 ∷ 0 ∷ 0 ∷ []) 0 0 (primary 0 0 15) unmarked no-yellow))) 0
+    ∷ event 2 (write (state (told 2 1 (0 ∷ 0 ∷ 0 ∷ 0 ∷ []) 0 0 (primary 0 0 15) unmarked no-yellow))) 0
+    ∷ event 2 (write (transitional 12)) 0
+    ∷ event 3 (write (transitional 12)) 0
+    ∷ event 2 (write (regular 2 12)) 1
+    ∷ event 3 (write (regular 2 12)) 1
     ∷ []
 
 abbrev atomic-witness : Witness
@@ -120,11 +120,11 @@ atomic-refused = (refl, refl)
 -- 5: the second of two actions is delivered, the first is not.
 abbrev causal-run : Run
 causal-run =
-    event 0 (write (regular 1 1)) 1
-    ∷ event 0 (write (state (told 0 1 (0 ∷ 0 ∷ []) 0 0 (primary 0 0 3) unmarked no-yellow))) 0
-    ∷ event 0 (write (request (65 ∷ []))) 1
-    ∷ event 0 (write (request (66 ∷ []))) 1
-    ∷ event 0 (write (action (made 0 2 0 (66 ∷ [])))) 0
+    event 1 (write (regular 1 2)) 1
+    ∷ event 1 (write (state (told 1 1 (0 ∷ 0 ∷ []) 0 0 (primary 0 0 3) unmarked no-yellow))) 0
+    ∷ event 1 (write (request (65 ∷ []))) 1
+    ∷ event 1 (write (request (66 ∷ []))) 1
+    ∷ event 1 (write (action (made 1 2 0 (66 ∷ [])))) 0
     ∷ []
 
 abbrev causal-witness : Witness

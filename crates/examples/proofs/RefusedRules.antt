@@ -62,9 +62,9 @@ once-refused = (refl, refl)
 -- "between two of them at a server lies a transitional one or a recovery": nothing does.
 abbrev between-run : Run
 between-run =
-    event 0 (write (regular 1 1)) 1
-    ∷ event 0 (write (state (told 0 1 (0 ∷ 0 ∷ []) 0 0 (primary 0 0 3) unmarked no-yellow))) 0
-    ∷ event 0 (write (regular 2 1)) 0
+    event 1 (write (regular 1 2)) 1
+    ∷ event 1 (write (state (told 1 1 (0 ∷ 0 ∷ []) 0 0 (primary 0 0 3) unmarked no-yellow))) 0
+    ∷ event 1 (write (regular 2 2)) 0
     ∷ []
 
 abbrev between-witness : Witness

@@ -19,7 +19,7 @@ use Rattle.record.specs.declared.LastPrimary.{LastPrimary}
 use Rattle.record.specs.declared.Mark.{Mark}
 use Rattle.record.specs.declared.StateHead.{StateHead}
 use Rattle.replication.specs.Machine.Types.{clearedMark}
-use Rattle.replication.specs.Machine.Exchange.{ruleA, ruleB, ruleC, joinedBits, keptMark, judgedMark, markLeft, ownMark, majority, takenPrimary, takenAttempt, quorum}
+use Rattle.replication.specs.Machine.Exchange.{ruleA, ruleB, ruleC, joinedBits, keptMark, judgedMark, markLeft, ownMark, linearVote, takenPrimary, takenAttempt, quorum}
 use Rattle.exchange.specs.declared.slots.Slots.{Slots}
 use Rattle.exchange.specs.Slots.{Room, stateIn, statesFrom, statesOf, headOf}
 use Rattle.exchange.specs.Marks.{withBits, isLeft}
@@ -192,9 +192,9 @@ module _ (xs : List State) (p : LastPrimary) (here : ℕ) (u : Bool) (e : primar
   unfolding quorum
   quorum-left h = and-no _ _ (ap not (sym l ∙ h))
 
-  module _ (w : Bool) (n : u ≡ false) (f : w ≡ majority (primaryOf p) here) where
-    most : w ≡ majority (takenPrimary xs) here
-    most = f ∙ ap (λ (y : Primary). majority y here) e
+  module _ (w : Bool) (n : u ≡ false) (f : w ≡ linearVote (primaryOf p) here) where
+    most : w ≡ linearVote (takenPrimary xs) here
+    most = f ∙ ap (λ (y : Primary). linearVote y here) e
 
     index : p .index .0 ≡ takenPrimary xs .index
     unfolding primaryOf componentOf

@@ -9,7 +9,7 @@ ghost use Rattle.replication.specs.Machine.Exchange.{takenPrimary, sameAttempt,
 ghost use Rattle.replication.specs.Machine.Exchange.{judgedMark, markLeft, ownMark, quorum as hasQuorum};
 ghost use Rattle.exchange.specs.Slots.{Room, stateIn, statesOf, ifMeant};
 ghost use Rattle.exchange.specs.Marks.{against as isAgainst, likewise as isLikewise, joinedWith, withBits, isLeft};
-use crate::primary::majority;
+use crate::primary::linear_vote;
 use crate::primary::taken_attempt;
 use crate::primary::taken_primary;
 use crate::slots::Slots;
@@ -214,7 +214,8 @@ pub fn own_mark(v: Slots, state: &[u8], me: usize, p: LastPrimary) -> Mark
     judged(v, state, me, p)
 }
 
-// "Quorum: no mark left here, more than half of the taken primary's members here, and both counters below 4,000,000,000."
+// "Quorum: no mark left here, more than half of the taken primary's members here, and both counters below 4,000,000,000." At exactly half document 02's
+// K1 decides.
 pub fn quorum(v: Slots, state: &[u8], here: u8) -> bool
     requires { ⌜ Room v (now state) ⌝ }
     ensures { λ r. ⌜ r ≡ hasQuorum (statesOf v (now (state .entry))) here ⌝ }
@@ -223,7 +224,7 @@ pub fn quorum(v: Slots, state: &[u8], here: u8) -> bool
     if mark_left(v, state, p) {
         return false;
     }
-    if !majority(p, here) {
+    if !linear_vote(p, here) {
         return false;
     }
     if State::MOST_INDEX <= p.index.0 {

@@ -7,7 +7,8 @@ use Rattle.replication.specs.Machine.Colours.{find, remove, cut, nextInd
 use Rattle.replication.specs.Machine.Colours.{greenIds, green, addId, joinYellow, yellow, note}
 use Rattle.replication.specs.Machine.Exchange.{noteAll, later, latest, takenPrimary, samePair, updatedGroup, takenAttempt, isValid}
 use Rattle.replication.specs.Machine.Exchange.{commonYellow, takenYellow, isMarked, sameAttempt, ruleA, ruleB, alike, joinBits, joinedBits}
-use Rattle.replication.specs.Machine.Exchange.{ruleC, keptMark, judgedMark, markLeft, ownMark, majority, quorum, takenVotes, attempted}
+use Rattle.replication.specs.Machine.Exchange.{ruleC, keptMark, judgedMark, markLeft, ownMark, moreThanHalf, lowestOf, halfWithLowest}
+use Rattle.replication.specs.Machine.Exchange.{linearVote, quorum, takenVotes, attempted}
 use Rattle.replication.specs.Machine.Install.{idsUpTo, installLog, installVotes, install}
 use Rattle.replication.specs.Machine.Plan.{highest, lowestFrom, lowest, firstWith, resender, missing, cutIn, greenIn, planned, isMe, resent}
 use Rattle.replication.specs.Machine.Plan.{resendGreen, resendRed, ownPart}
@@ -34,7 +35,7 @@ unfolding
     started isRecovery sourceOf arrive leftBy lived
     find remove cut nextIndex isNext enter red reds promote promoteFound greenId greenIds green addId joinYellow yellow note
     noteAll later latest takenPrimary samePair updatedGroup takenAttempt isValid commonYellow takenYellow isMarked sameAttempt ruleA ruleB alike
-    joinBits joinedBits ruleC keptMark judgedMark markLeft ownMark majority quorum takenVotes attempted
+    joinBits joinedBits ruleC keptMark judgedMark markLeft ownMark moreThanHalf lowestOf halfWithLowest linearVote quorum takenVotes attempted
     idsUpTo installLog installVotes install
     highest lowestFrom lowest firstWith resender missing cutIn greenIn planned isMe resent resendGreen resendRed ownPart
     inRegular sendsIn sendsNow quotaLeft roomToHold numberedFrom madeOf numbered hold sendHeld heldRecords recovered

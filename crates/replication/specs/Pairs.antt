@@ -1,4 +1,5 @@
--- Document 01, 'Pairs to prove (P), one table, one theorem'. Each pair is a closed instance of a definition by which the step decides.
+-- Document 01, 'Pairs to prove (P), one table, one theorem', with those of document 02's K1. Each pair is a closed instance of a definition by which the
+-- step decides.
 -- Assumes nothing.
 use Prim.Native.Nat.{ℕ}
 use mathlib.Core.Path.{_≡_}
@@ -52,13 +53,18 @@ greenTo g = greenIds (map (idOf 0) (above 0 g)) (reds (map (actionOf 0) (above 0
 abbrev pub greenAt : (g k : ℕ) → State
 greenAt g k = ownState (record { id = 1; set = 7 }) (withLog (greenTo g) (start 8 16 k))
 
--- ---- the table; sets as bytes: {0,1} 3, {0,1,2} 7, {0,1,2,3} 15, {0..4} 31
+-- ---- the table; sets as bytes: {0,1} 3, {0,1,2} 7, {0,1,2,3} 15, {0..4} 31; {2,3} 12, {0,2,3} 13, {1,4} 18, {1,2,3,4} 30
 
 pub record Pairs : Type 0 where
   -- "P1 last primary {0,1,2,3}: {0,1,2} a quorum."
   pub p1 : quorum (sentIn 7 (lastPrimary 15)) 7 ≡ true
-  -- "P2 {0,1} none."
-  pub p2 : quorum (sentIn 3 (lastPrimary 15)) 3 ≡ false
+  -- Document 02, K1: "Pair P2 becomes a quorum, and {2,3} stays none." P2 is {0,1}.
+  pub p2 : quorum (sentIn 3 (lastPrimary 15)) 3 ≡ true
+  pub p2-others : quorum (sentIn 12 (lastPrimary 15)) 12 ≡ false
+  -- Last primary {1,2,3,4}, without server 0: {1,4} a quorum, {2,3} none, {0,2,3} none.
+  pub half-with-lowest : quorum (sentIn 18 (lastPrimary 30)) 18 ≡ true
+  pub half-without-lowest : quorum (sentIn 12 (lastPrimary 30)) 12 ≡ false
+  pub half-with-server-0 : quorum (sentIn 13 (lastPrimary 30)) 13 ≡ false
   -- "P3 {0..4}: {0,1} none."
   pub p3 : quorum (sentIn 3 (lastPrimary 31)) 3 ≡ false
   -- "P4 reds (2,1),(0,1),(1,1),(0,2) install as (0,1),(0,2),(1,1),(2,1)."

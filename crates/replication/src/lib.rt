@@ -4,7 +4,7 @@ ghost use Rattle.replication.specs.Pairs.{Pairs};
 ghost use Rattle.replication.specs.Runs.Claim.{Demand3, Corollaries};
 ghost use Rattle.replication.specs.Runs.Noted.{NotedNeverFall};
 
-// Document 01's pairs P1 to P8.
+// Document 01's pairs P1 to P8, P2 as document 02's K1 has it, and the pairs that pin K1's rule.
 pub fn pairs()
     ensures { λ _. ⌜ Pairs ⌝ }
 {}

@@ -1,4 +1,4 @@
--- Document 01's pairs P1 to P8 hold by computation.
+-- The pairs hold by computation.
 -- Assumes nothing.
 use mathlib.Core.Path.{refl}
 use Rattle.replication.specs.Pairs.{Pairs}
@@ -9,6 +9,10 @@ unfolding opened
 pairs-hold = record {
   p1 = refl;
   p2 = refl;
+  p2-others = refl;
+  half-with-lowest = refl;
+  half-without-lowest = refl;
+  half-with-server-0 = refl;
   p3 = refl;
   p4 = refl;
   p5 = refl;

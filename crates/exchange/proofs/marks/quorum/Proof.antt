@@ -12,8 +12,8 @@ mark-left-requires c κs = search needs
 returns : tie.Need-returns
 returns c = search (needs, quorum-left)
 
-majority-requires : tie.Need-majority-requires
-majority-requires c κs = search needs
+linear-vote-requires : tie.Need-linear-vote-requires
+linear-vote-requires c κs = search needs
 
 returns-2 : tie.Need-returns-2
 returns-2 c = search (needs, quorum-few)
@@ -34,7 +34,7 @@ quorum-spec =
     taken-primary-requires
     mark-left-requires
     returns
-    majority-requires
+    linear-vote-requires
     returns-2
     returns-3
     taken-attempt-requires
