@@ -3,9 +3,10 @@
 
 usage: audit.py JOURNAL..     JOURNAL: a file that the office wrote (examples/c/office, -j)
 
-Writes target/audit/NAME, a crate that proves the run allowed, and has it checked. Where that fails, target/audit/NAME_fields finds the fields of
-`Allowed` that fail, and target/audit/NAME_refused proves that the audit refuses the run with these. The crates base, format, replication and
-examples must be proved (rt check examples). Exit status 0: all runs are allowed.
+Writes target/audit/NAME, a crate that proves the run allowed by one computation, and has it checked. Where that fails or is too long for the checker,
+target/audit/NAME_fields has a lemma for each field of `Allowed`, and those that fail are named; target/audit/NAME_refused proves that the audit
+refuses the run with these. The crates base, format, replication and examples must be proved (rt check examples). Exit status 0: all runs are
+allowed; 1: one is refused; 3: of one the checker could not tell.
 """
 import re
 import subprocess
@@ -37,23 +38,24 @@ def command(name):
 
 
 def checked(name):
-    """Whether it is proved, and the names of the definitions that are not."""
+    """Whether it is proved, and which definitions are shown not to be: not those that the checker could not tell of."""
     done = subprocess.run(command(name), cwd=TOP, capture_output=True, text=True)
     said = done.stdout + done.stderr
     (TOP / 'target/audit' / (name + '.log')).write_text(said)
-    return done.returncode == 0 and 'logic=proved' in said, re.findall(r'error: `([^`]*)`', said)
+    errors = re.findall(r'error: `([^`]*)`: (.*)', said)
+    return done.returncode == 0 and 'logic=proved' in said, [x for x, why in errors if 'step limit' not in why and 'not admitted' not in why]
 
 
-def refused(name, run):
-    """Why a run is refused, and the crate that shows it."""
+def by_fields(name, run):
+    """The exit status, the verdict by the fields one by one, and the crate that shows it."""
     fields = re.findall(r'test "([^"]*)"', (TOP / VERDICT).read_text())
     write_crate(name + '_fields', run, 'Fields', proof_files.fields_file(name + '_fields', fields))
-    failing = checked(name + '_fields')[1]
-    if not failing or not set(failing) <= set(fields):
-        why = 'a stray is an event that the machine takes' if 'strays' in failing else 'see target/audit/%s_fields.log' % name
-        return why, name + '_fields'
+    proved, errors = checked(name + '_fields')
+    failing = [x for x in errors if x in fields + ['strays']]
+    if proved or not failing:
+        return (0, 'allowed', name + '_fields') if proved else (3, 'NO VERDICT, see target/audit/%s_fields.log' % name, name + '_fields')
     write_crate(name + '_refused', run, 'Refused', proof_files.refused_file(name + '_refused', failing))
-    return ', '.join(failing) + ('' if checked(name + '_refused')[0] else ' (not proved)'), name + '_refused'
+    return 1, 'REFUSED, failing: ' + ', '.join(failing), name + ('_refused' if checked(name + '_refused')[0] else '_fields')
 
 
 def audited(path):
@@ -61,12 +63,10 @@ def audited(path):
     story = journal.told(path.read_text())
     run = proof_files.recorded_file(story, path.name)
     write_crate(name, run, 'Audit', proof_files.audit_file(name))
-    size = '%d entries, %d of them strays' % (len(story.entries), len(story.strays()))
-    allowed = checked(name)[0]
-    why, shown = ('allowed', name) if allowed else refused(name, run)
-    print('%s, %s: %s' % (path.name, size, why if allowed else 'REFUSED, failing: ' + why))
+    status, verdict, shown = (0, 'allowed', name) if checked(name)[0] else by_fields(name, run)
+    print('%s, %d entries, %d of them strays: %s' % (path.name, len(story.entries), len(story.strays()), verdict))
     print('  ' + ' '.join(command(shown)), flush=True)
-    return allowed
+    return status
 
 
 def main():
@@ -75,7 +75,7 @@ def main():
     missing = [crate for crate in NEEDED if not (TOP / 'target/rlib' / (crate + '.rlib')).is_dir()]
     if missing:
         sys.exit('not proved: %s. First: rt check examples' % ', '.join(missing))
-    sys.exit(0 if all([audited(Path(name)) for name in sys.argv[1:]]) else 1)
+    sys.exit(max([audited(Path(name)) for name in sys.argv[1:]]))
 
 
 main()

@@ -169,24 +169,31 @@ refused = (refl, refl)
 
 
 def fields_file(crate, fields):
-    """Each field of `Allowed` by itself: the check names those that fail. `strays` is no field: a stray that the machine takes."""
+    """The same with a lemma for each field of `Allowed`, so that a long run does not meet the checker's limit, and what fails has a name. `strays` is
+    no field: it says that the machine refuses the strays."""
     lemmas = ''.join(f'''
 {name} : passed {k} ≡ true
 unfolding opened digit pairsOf hex run places witness rest passed
 {name} = refl
 ''' for k, name in enumerate(fields))
-    return f'''-- The fields of `Allowed`, one by one: those that the recorded run fails do not check.
+    together = ''.join('both-yes _ _ %s (' % name for name in fields) + 'refl' + ')' * len(fields)
+    return f'''-- The recorded run is allowed, but for its strays, and all agree: a lemma for each field of `Allowed`.
 -- Assumes nothing.
 use Prim.Native.Nat.{{ℕ}}
 use mathlib.Core.Path.{{_≡_, refl}}
 use mathlib.Core.Bool.{{Bool, true, false}}
 use mathlib.Core.List.{{map}}
 use lib.ListN.{{getD}}
+use Rattle.base.specs.Lists.{{all}}
+use Rattle.base.proofs.TestLaws.{{both-yes}}
 use Rattle.replication.specs.Runs.Run.{{Run, beginning}}
-use Rattle.replication.specs.Runs.Strays.{{without}}
-use Rattle.replication.specs.Audit.Verdict.{{Test, tests}}
-use Rattle.replication.specs.Audit.Strays.{{isOneOf, straysFrom}}
+use Rattle.replication.specs.Runs.Strays.{{without, AllowedWithStrays}}
+use Rattle.replication.specs.Runs.Claim.{{Agreement, Demand3}}
+use Rattle.replication.specs.Audit.Verdict.{{Test, testsOf, tests, audit}}
+use Rattle.replication.specs.Audit.Strays.{{isOneOf, straysFrom, auditWithStrays}}
 use Rattle.replication.specs.Audit.Opened.{{opened}}
+use Rattle.replication.proofs.Verdicts.Strays.{{strays-sound}}
+use Rattle.replication.proofs.Agreement.Greens.Demand.{{demand3}}
 use Rattle.examples.proofs.Rows.{{digit, pairsOf, hex}}
 use Rattle.{crate}.proofs.Run.{{servers as n, quota as q, run, strays as places, witness}}
 
@@ -199,4 +206,20 @@ passed k = getD (map (λ (t : Test). t .passed) (tests n q rest witness)) k fals
 strays : straysFrom n (isOneOf places) (beginning n q) run ≡ true
 unfolding opened digit pairsOf hex run places
 strays = refl
-{lemmas}'''
+{lemmas}
+all-fields : audit n q rest witness ≡ true
+unfolding audit tests testsOf all passed
+all-fields =
+    {together}
+
+passes : auditWithStrays n q run places witness ≡ true
+unfolding auditWithStrays rest
+passes = both-yes _ _ strays all-fields
+
+pub allowed : AllowedWithStrays n q run
+allowed = strays-sound n q run places witness passes
+
+pub agrees : Agreement n q run
+unfolding Demand3
+agrees = demand3 n q run allowed
+'''

@@ -110,8 +110,8 @@ static int is_settled(const office *o, uint8_t k, uint8_t heard) {
     return goal != NULL && goal->set == heard;
 }
 
-/* The group layer notices who hears whom. */
-static int is_noticed(office *o, const course *c, uint8_t k) {
+/* The group layer notices who hears whom, and forms a configuration of them, if it has not. */
+static int notices(office *o, const course *c, uint8_t k) {
     uint8_t heard = heard_by(o, c, k);
     if (!o->depots[k].up || is_settled(o, k, heard)) {
         return 0;
@@ -166,12 +166,12 @@ static void befalls(office *o, const course *c, uint8_t k) {
         parts_alone(o, k);
         break;
     case 3:
-        if (one_in(&o->draws, o->crash_in)) {
+        if (one_in(&o->draws, 3) && o->crash_in != 0) {
             depot_crashes(o, k);
         }
         break;
     case 4:
-        if (one_in(&o->draws, o->crash_in)) {
+        if (one_in(&o->draws, 3) && o->crash_in != 0) {
             depot_recovers(o, k); /* without a crash before it */
         }
         break;
@@ -181,7 +181,7 @@ static void befalls(office *o, const course *c, uint8_t k) {
         }
         break;
     default:
-        is_noticed(o, c, k);
+        notices(o, c, k);
     }
 }
 
@@ -221,7 +221,7 @@ void trial_ends(office *o) {
         }
     }
     for (int moved = 1; moved;) {
-        moved = is_noticed(o, &c, 0);
+        moved = notices(o, &c, 0);
         for (uint8_t k = 0; k < o->servers; k++) {
             while (group_receive(&o->group, k, heard_by(o, &c, k), 0, &o->draws)) {
                 moved = 1;
