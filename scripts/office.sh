@@ -11,6 +11,10 @@ include=${GUZBYTOR_INCLUDE:-dist}
 library=${GUZBYTOR_LIBRARY:-dist/libguzbytor.a}
 out=target/office
 mkdir -p "$out"
+if [ ! -f "$include/guzbytor.h" ]; then
+    echo "no $include/guzbytor.h: first sh scripts/dist.sh"
+    exit 1
+fi
 [ -x target/bin/replay ] || rt check replay
 # shellcheck disable=SC2086
 "${CC:-cc}" -std=c11 -D_POSIX_C_SOURCE=200809L -Wall -Wextra -O2 -I"$include" -Iinclude examples/c/office/*.c $library -o "$out/office"
