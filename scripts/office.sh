@@ -7,12 +7,8 @@ cd "$(dirname "$0")/.."
 count=${1:-1000}
 out=target/office
 mkdir -p "$out"
-if [ ! -f "$include/guzbytor.h" ]; then
-    echo "no $include/guzbytor.h: first sh scripts/dist.sh"
-    exit 1
-fi
-[ -x target/bin/replay ] || rt check replay
-[ -f dist/libguzbytor.a ] || sh scripts/dist.sh
+rt check replay
+sh scripts/dist.sh
 "${CC:-cc}" -std=c11 -D_POSIX_C_SOURCE=200809L -Wall -Wextra -O2 -Idist -Iinclude examples/c/office/*.c dist/libguzbytor.a -o "$out/office"
 
 # Runs a seed; with a fourth word it is recorded too.
