@@ -214,8 +214,8 @@ pub fn own_mark(v: Slots, state: &[u8], me: usize, p: LastPrimary) -> Mark
     judged(v, state, me, p)
 }
 
-// "Quorum: no mark left here, more than half of the taken primary's members here, and both counters below 4,000,000,000." At exactly half document 02's
-// K1 decides.
+// "Quorum: no mark left here, more than half of the taken primary's members here, and both counters below 4,000,000,000." At exactly half
+// document 02's K1 decides.
 pub fn quorum(v: Slots, state: &[u8], here: u8) -> bool
     requires { ⌜ Room v (now state) ⌝ }
     ensures { λ r. ⌜ r ≡ hasQuorum (statesOf v (now (state .entry))) here ⌝ }

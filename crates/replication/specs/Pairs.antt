@@ -1,5 +1,5 @@
--- Document 01, 'Pairs to prove (P), one table, one theorem', with those of document 02's K1. Each pair is a closed instance of a definition by which the
--- step decides.
+-- Document 01, 'Pairs to prove (P), one table, one theorem', with those of document 02's K1. Each pair is a closed instance of a definition by
+-- which the step decides.
 -- Assumes nothing.
 use Prim.Native.Nat.{ℕ}
 use mathlib.Core.Path.{_≡_}
