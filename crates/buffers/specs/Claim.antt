@@ -9,7 +9,7 @@ use lib.ListN.{length, take}
 use Rattle.base.specs.Tests.{pick}
 use Rattle.base.specs.Bytes.{joined}
 use Rattle.base.specs.Lists.{at, Begins}
-use Rattle.format.specs.Types.{Action, Primary}
+use Rattle.format.specs.Types.{Primary}
 use Rattle.replication.specs.Images.{arrive}
 use Rattle.replication.specs.Runs.Run.{event, Run, worldAt, putOut, sentAt}
 use Rattle.replication.specs.Runs.Strays.{AllowedWithStrays}

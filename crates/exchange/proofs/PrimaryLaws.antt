@@ -1,4 +1,4 @@
--- The taken primary, its group and the attempt, computed from the slots.
+-- The vote by counting ones; the taken primary, its group and the attempt, computed from the slots.
 -- Assumes nothing.
 use Prim.Native.Nat.{ℕ, zero, suc, _+_, _-_, _*_, _/_, _%_, _^_, _≤_, _<_}
 use mathlib.Core.Path.{_≡_, refl, sym, ap, _∙_}
@@ -11,7 +11,7 @@ use lib.Bits.{bitAnd, and-le-l}
 use lib.Count.{ones, ones-le, under, trailingZeros}
 use lib.Dec.{eqb, ltb}
 use borrow.Author.Tests.{not-false}
-use Rattle.base.specs.Tests.{_<?_, _and_, _=?_, pick}
+use Rattle.base.specs.Tests.{_and_, _=?_, pick}
 use Rattle.base.proofs.TestLaws.{pick-yes, pick-no, and-no, and-yes, lt-yes, lt-no, eq-yes, eq-no}
 use Rattle.base.proofs.Branches.{told-eq, told-lt, or-yes, or-no}
 use Rattle.base.specs.Lists.{filter}

@@ -28,7 +28,7 @@ use Rattle.engine.proofs.InRange.{in-range}
 use Rattle.engine.proofs.Refusals.{zero-whole, zero-ready, zero-read, step-read, step-refused, whole-holds, holds-whole}
 use Rattle.engine.proofs.Taken.{taken-holds}
 use Rattle.queries.specs.Queries.{entriesBytes, mostEntry, fitting, Listing, putting, entriesOn}
-use Rattle.queries.specs.Reading.{Reads, readings, Progress, turnedGreen, GreenBy, NewlyGreen}
+use Rattle.queries.specs.Reading.{Reads, readings, ReadingsGiveAll, turnedGreen, GreenBy, NewlyGreen}
 use Rattle.queries.proofs.EntryLaws.{entry-length, entries-append, first-fits, fitting-taken}
 use Rattle.queries.proofs.ListingLaws.{Put, put-is, put-when}
 
@@ -106,8 +106,8 @@ all-read b f (o ∷ os) z r h l =
     enough (holds t) a = omega (arith, a .some (lt-holds f (length (greensIn b)) t))
     enough (fails t) a = omega (arith, lt-fails f (length (greensIn b)) t)
 
-pub progress : Progress
-progress = record { reading = λ b f o z. put-reads b f o (put-when b f o z); all = all-read }
+pub readings-give-all : ReadingsGiveAll
+readings-give-all = record { reading = λ b f o z. put-reads b f o (put-when b f o z); all = all-read }
 
 -- ---- what turned green
 

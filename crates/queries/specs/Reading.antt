@@ -13,7 +13,7 @@ use Rattle.engine.specs.Decode.{decoded, greensIn}
 use Rattle.engine.specs.Outcome.{stepOn, imageNumber}
 use Rattle.queries.specs.Queries.{entriesBytes, mostEntry, Listing, entriesOn}
 
--- ---- progress
+-- ---- readings one behind another
 
 -- The answer x to a reading of the state b behind the first `from` entries, into the buffer o.
 pub record Reads (b : List ℕ) (from : ℕ) (o : List ℕ) (x : Listing) : Type 0 where
@@ -31,7 +31,7 @@ unfoldable pub readings : (b : List ℕ) → (from : ℕ) → (buffers : List (L
 readings b f [] = []
 readings b f (o ∷ os) = take (entriesOn b f o .bytes) (entriesOn b f o .out) ++ readings b (f + entriesOn b f o .entries) os
 
-pub record Progress : Type 0 where
+pub record ReadingsGiveAll : Type 0 where
   pub reading : (b : List ℕ) (from : ℕ) (o : List ℕ) → entriesOn b from o .number ≡ 0 → Reads b from o (entriesOn b from o)
   -- Readings one behind another, as many as there are entries at most, give all that is green.
   pub all : (b : List ℕ) (from : ℕ) (os : List (List ℕ)) → imageNumber b ≡ 0 → Each (λ o. mostEntry ≤ length o) os

@@ -4,7 +4,7 @@ ghost use Prim.Native.Nat.{_^_, _≤_, _<_};
 ghost use Rattle.replication.specs.Machine.Types.{Server};
 ghost use Rattle.engine.specs.Header.{headerOf};
 ghost use Rattle.queries.specs.Queries.{summaryOf, noSummary, summaryOn, entriesOn, listed, refusedEntries, putEntries};
-ghost use Rattle.queries.specs.Reading.{Progress, NewlyGreen};
+ghost use Rattle.queries.specs.Reading.{ReadingsGiveAll, NewlyGreen};
 
 pub mod entries; // entries.rt: entries put one behind another
 
@@ -169,10 +169,10 @@ pub extern "C" fn guzbytor_green_entries(
     put_entries(state, from, green, entries)
 }
 
-// Readings one behind another make progress and give all green entries; green lengths before and after an event tell what turned green. They do
+// Readings one behind another give all green entries; green lengths before and after an event tell what turned green. They do
 // nothing: their contracts are the theorems.
-pub fn readings_progress()
-    ensures { λ _. ⌜ Progress ⌝ }
+pub fn readings_give_all()
+    ensures { λ _. ⌜ ReadingsGiveAll ⌝ }
 {}
 
 pub fn newly_green_is_behind()

@@ -6,12 +6,11 @@ use mathlib.Core.Bool.{true, false, not}
 use mathlib.Core.List.{List, [], _∷_, _++_, append-nil}
 use native.Mathlib.Omega.{arith}
 use native.Mathlib.Nat.{mul-le-mul-right}
-use lib.ListN.{length, drop, take-append-drop}
+use lib.ListN.{length, take-append-drop}
 use borrow.Author.Tests.{not-true, not-false}
 use Rattle.base.specs.Bytes.{numberAt}
 use Rattle.base.proofs.Comparable.{gather-all-append}
 use Rattle.base.specs.Lists.{gather, gatherAll, above, below}
-use Rattle.base.specs.Patched.{patched}
 use Rattle.base.specs.Tests.{pick}
 use Rattle.base.proofs.TestLaws.{pick-yes, pick-no}
 use Rattle.format.specs.Types.{Record}
@@ -25,14 +24,15 @@ use Rattle.replication.proofs.WellFormed.Decisions.{green-bound, cut-bound}
 use Rattle.replication.proofs.WellFormed.Facts.{well-formed-facts}
 use Rattle.engine.specs.Layout.{theQueue, outLength, atServers, atMe, atGreenLength}
 use Rattle.engine.specs.Image.{over}
-use Rattle.engine.specs.Decode.{actionsAt, decodedAs, serversIn, quotaIn, decoded}
+use Rattle.engine.specs.Decode.{actionsAt, decodedAs, serversIn, quotaIn, decoded, greensIn}
 use Rattle.engine.specs.Holding.{Holds, HoldsSuch, HoldsSome}
 use Rattle.engine.proofs.InPlace.{holds-decoded, holds-some}
 use Rattle.queue.proofs.ReadLaws.{holds-queue}
+use Rattle.queue.proofs.Inside.{over-front}
 use Rattle.step.specs.Answers.{LentSuch, recordBytes}
 use Rattle.exchange.specs.Decided.{partOf}
 use Rattle.exchange.specs.declared.decided.Part.{Part}
-use Rattle.step.specs.Resending.{queueIn, greensIn, atPosition, asRed, Sends, Stated, greenPart}
+use Rattle.step.specs.Resending.{queueIn, atPosition, asRed, Sends, Stated, greenPart}
 use Rattle.step.specs.Resending.{redPart, redParts, wholePart}
 use Rattle.step.proofs.ResendingLaws.{sends-none, sends-next}
 use Rattle.format.specs.Places.{mostRetransmission}
@@ -211,10 +211,6 @@ whole : (b : List ℕ) → wholePart b ≡ ownPart (decoded b .servers) (decoded
 unfolding wholePart greenPart redPart redParts ownPart decoded decodedAs place
 whole b = refl
 
-front : (x o : List ℕ) → patched 0 x o ≡ over x o
-unfolding patched over
-front x o = let e : 0 + length x ≡ length x = omega arith in ap (λ (m : ℕ). x ++ drop m o) e
-
 module _ (b : List ℕ) (m r : ℕ) (o o₁ : List ℕ) (a : Sends m (wholePart b) 0 o o₁ r) (s : Server) (h : Holds s b) where
   own : wholePart b ≡ ownPart (s .servers) (s .me) (s .log) (collected s)
   own = whole b ∙ ap (λ (t : Server). ownPart (t .servers) (t .me) (t .log) (collected t)) (holds-decoded s b h)
@@ -223,4 +219,4 @@ module _ (b : List ℕ) (m r : ℕ) (o o₁ : List ℕ) (a : Sends m (wholePart 
   part-length = omega (arith, a .place, ap (λ (xs : List Record). length (recordBytes xs)) own)
 
   pub part-bytes : o₁ ≡ over (recordBytes (ownPart (s .servers) (s .me) (s .log) (collected s))) o
-  part-bytes = a .bytes ∙ front (recordBytes (wholePart b)) o ∙ ap (λ (xs : List Record). over (recordBytes xs) o) own
+  part-bytes = a .bytes ∙ over-front (recordBytes (wholePart b)) o ∙ ap (λ (xs : List Record). over (recordBytes xs) o) own

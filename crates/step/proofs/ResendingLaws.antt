@@ -31,12 +31,12 @@ use Rattle.engine.proofs.Slots.{actions-count}
 use Rattle.queue.proofs.ReadLaws.{actions-at, slot-read, find-at, queue-read}
 use Rattle.step.specs.Answers.{recordBytes}
 use Rattle.install.specs.Table.{IndexedFrom, placeFrom, logIn}
-use Rattle.step.specs.Resending.{queueIn, greensIn, fromPlace, atPosition, asRed, oneOf, Sends}
+use Rattle.step.specs.Resending.{queueIn, fromPlace, atPosition, asRed, oneOf, Sends}
 use Rattle.format.specs.Places.{mostRetransmission}
 use Rattle.engine.specs.Counts.{queueCount, greenCount, place}
 use Rattle.queue.specs.Queue.{position, slotPlace, QueueIn}
 use Rattle.engine.proofs.InPlace.{such-decoded}
-use Rattle.engine.specs.Decode.{decoded}
+use Rattle.engine.specs.Decode.{decoded, decodedAs, greensIn}
 use native.Mathlib.Nat.{zero-add}
 use lib.Seq.{take-all}
 use Rattle.replication.specs.Machine.WellFormed.{queue}
@@ -154,14 +154,14 @@ module _ (b : List ℕ) (k p : ℕ) (a : ActionAt) (q : QueueIn b) (h : k < queu
 -- ---- a position
 
 pub position-past : (b : List ℕ) (me g p i : ℕ) (o : List ℕ) → g ≡ numberAt 4 b atGreenLength → g < p → Sends 1 (oneOf (atPosition me (greensIn b) p)) i o o i
-unfolding atPosition greensIn oneOf resent atFront
+unfolding atPosition greensIn decoded decodedAs queueIn place oneOf resent atFront
 position-past b me g p i o e h =
     let past : at (take (greenCount b) (queueIn b)) (p - 1) ≡ none = at-past-take (greenCount b) (queueIn b) (p - 1) (omega arith) in
     subst (λ (x : Option Action). Sends 1 (oneOf (resent me p x)) i o o i) (sym past) (sends-none 1 i o)
 
 pub position-sent : (b : List ℕ) (me g p i r : ℕ) (o o₁ : List ℕ) → g ≡ numberAt 4 b atGreenLength → p ≤ g → 1 ≤ p
     → Sends 1 (oneOf (fromPlace me p (queueIn b) (p - 1))) i o o₁ r → Sends 1 (oneOf (atPosition me (greensIn b) p)) i o o₁ r
-unfolding atPosition greensIn fromPlace
+unfolding atPosition greensIn decoded decodedAs queueIn place fromPlace
 position-sent b me g p i r o o₁ e h l s =
     let there : at (take (greenCount b) (queueIn b)) (p - 1) ≡ at (queueIn b) (p - 1) = at-take (greenCount b) (queueIn b) (p - 1) (omega arith) in
     subst (λ (x : Option Action). Sends 1 (oneOf (resent me p x)) i o o₁ r) (sym there) s

@@ -4,7 +4,7 @@ use Prim.Native.Nat.{ℕ, _+_, _*_, _-_, _≤_}
 use mathlib.Core.Path.{_≡_}
 use mathlib.Core.List.{List, [], _++_}
 use mathlib.Core.Option.{Option}
-use lib.ListN.{length, take}
+use lib.ListN.{length}
 use Rattle.base.specs.Bytes.{numberAt}
 use Rattle.base.specs.Lists.{at, atFront, gatherAll, below}
 use Rattle.base.specs.Patched.{patched}
@@ -21,7 +21,7 @@ use Rattle.queue.specs.Queue.{QueueIn}
 use Rattle.install.specs.Table.{IndexedFrom}
 use Rattle.step.specs.Answers.{recordBytes, Lent}
 use Rattle.format.specs.Places.{mostRetransmission}
-use Rattle.engine.specs.Counts.{queueCount, greenCount, place}
+use Rattle.engine.specs.Counts.{queueCount, place}
 use denote.Ref.{now}
 use Rattle.record.specs.declared.events.ActionAt.{ActionAt}
 use Rattle.replication.specs.Machine.Types.{Server}
@@ -30,9 +30,6 @@ use Rattle.replication.specs.Machine.Types.{Server}
 
 unfoldable pub queueIn : List ℕ → List Action
 queueIn b = actionsAt (queueCount b) b (place theQueue b)
-
-unfoldable pub greensIn : List ℕ → List Action
-greensIn b = take (greenCount b) (queueIn b)
 
 -- The table of the whole queue of the buffer b.
 abbrev pub TableOf : (t b : List ℕ) → Type 0

@@ -1,6 +1,7 @@
 use borrow.Author.Needs.{needs}
 use Rattle.step.proofs.ResendingLaws.{all-start, all-again, all-end}
-use Rattle.step.specs.Resending.{greensIn, atPosition, Sends}
+use Rattle.engine.specs.Decode.{greensIn}
+use Rattle.step.specs.Resending.{atPosition, Sends}
 use Rattle.base.specs.Lists.{gather, above}
 use Prim.Native.Nat.{_-_, _≤_}
 use native.Mathlib.Omega.{arith}
