@@ -21,7 +21,6 @@ pub mod InstallingLaws
 pub mod LentLaws
 pub mod OutcomeLaws
 pub mod RetransmissionLaws
-pub mod RowsLaws
 pub mod RequestLaws
 pub mod JoinLaws
 pub mod VotesLaws

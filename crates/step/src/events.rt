@@ -25,18 +25,18 @@ use crate::joining::join;
 use crate::joining::join_unmarked;
 use crate::joining::join_yellow;
 use crate::requests::request;
-use crate::rows::cpc_in;
-use crate::rows::is_member;
-use crate::rows::is_of;
-use crate::rows::numbered_own;
-use crate::rows::quota_left;
-use crate::rows::regular_due;
-use crate::rows::room_to_hold;
-use crate::rows::state_in;
-use crate::rows::transitional_due;
 use queue::entering::red;
 use record::ActionHead;
 use record::State;
+use rows::cpc_in;
+use rows::is_member;
+use rows::is_of;
+use rows::numbered_own;
+use rows::quota_left;
+use rows::regular_due;
+use rows::room_to_hold;
+use rows::state_in;
+use rows::transitional_due;
 use updates::membership::leave;
 
 // An action that rows 5 and 6 let pass; `mode` is the state's number.

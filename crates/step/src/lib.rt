@@ -3,7 +3,6 @@ ghost use mathlib.Core.Path.{_≡_};
 ghost use Rattle.engine.specs.Outcome.{stepOn};
 ghost use Rattle.step.specs.Answers.{answered, refusedWith, quietly, storedFirst, sentOnly};
 
-pub mod rows; // rows.rt: the conditions of rows 5, 6, 3 and 4
 pub mod colours; // colours.rt: actions that a state colours
 pub mod requests; // requests.rt: requests numbered and sent, or held
 pub mod joining; // joining.rt: regular configurations

@@ -6,8 +6,8 @@ use Rattle.step.proofs.events.on_request.Reads as reads
 use Rattle.step.proofs.events.on_request.Lts as lts
 use Rattle.step.proofs.Answer.refused.Reads as refused-reads
 use Rattle.step.proofs.requests.request.Reads as request-reads
-use Rattle.step.proofs.rows.quota_left.Reads as quota-left-reads
-use Rattle.step.proofs.rows.room_to_hold.Reads as room-to-hold-reads
+use Rattle.rows.proofs.quota_left.Reads as quota-left-reads
+use Rattle.rows.proofs.room_to_hold.Reads as room-to-hold-reads
 
 quota-left-requires : tie.Need-quota-left-requires
 quota-left-requires c κs = search needs

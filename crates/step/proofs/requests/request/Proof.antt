@@ -7,7 +7,7 @@ use Rattle.step.proofs.requests.request.Lts as lts
 use Rattle.updates.proofs.requests.hold.Reads as hold-reads
 use Rattle.step.proofs.Answer.quiet.Reads as quiet-reads
 use Rattle.step.proofs.requests.send.Reads as send-reads
-use Rattle.step.proofs.rows.sends_now.Reads as sends-now-reads
+use Rattle.rows.proofs.sends_now.Reads as sends-now-reads
 
 sends-now-requires : tie.Need-sends-now-requires
 sends-now-requires c κs = search needs

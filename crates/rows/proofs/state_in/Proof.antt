@@ -1,7 +1,7 @@
-use Rattle.step.proofs.RowsLaws.{state-told}
+use Rattle.rows.proofs.RowsLaws.{state-told}
 use borrow.Author.Needs.{needs}
-use Rattle.step.proofs.rows.state_in.Statement.{statement}
-use Rattle.step.proofs.rows.state_in.Tie as tie
+use Rattle.rows.proofs.state_in.Statement.{statement}
+use Rattle.rows.proofs.state_in.Tie as tie
 
 has-requires : tie.Need-has-requires
 has-requires c κs = search needs

@@ -1,7 +1,7 @@
-use Rattle.step.proofs.RowsLaws.{regular-after, regular-first}
+use Rattle.rows.proofs.RowsLaws.{regular-after, regular-first}
 use borrow.Author.Needs.{needs}
-use Rattle.step.proofs.rows.regular_due.Statement.{statement}
-use Rattle.step.proofs.rows.regular_due.Tie as tie
+use Rattle.rows.proofs.regular_due.Statement.{statement}
+use Rattle.rows.proofs.regular_due.Tie as tie
 
 returns : tie.Need-returns
 returns c = search (needs, regular-after)

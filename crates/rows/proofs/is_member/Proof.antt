@@ -1,7 +1,7 @@
-use Rattle.step.proofs.RowsLaws.{outside-all, member-told}
+use Rattle.rows.proofs.RowsLaws.{outside-all, member-told}
 use borrow.Author.Needs.{needs}
-use Rattle.step.proofs.rows.is_member.Statement.{statement}
-use Rattle.step.proofs.rows.is_member.Tie as tie
+use Rattle.rows.proofs.is_member.Statement.{statement}
+use Rattle.rows.proofs.is_member.Tie as tie
 
 returns : tie.Need-returns
 returns c = search (needs, outside-all)

@@ -1,7 +1,7 @@
-use Rattle.step.proofs.RowsLaws.{cpc-told}
+use Rattle.rows.proofs.RowsLaws.{cpc-told}
 use borrow.Author.Needs.{needs}
-use Rattle.step.proofs.rows.cpc_in.Statement.{statement}
-use Rattle.step.proofs.rows.cpc_in.Tie as tie
+use Rattle.rows.proofs.cpc_in.Statement.{statement}
+use Rattle.rows.proofs.cpc_in.Tie as tie
 
 has-requires : tie.Need-has-requires
 has-requires c κs = search needs

@@ -1,7 +1,7 @@
 use Rattle.base.proofs.Branches.{told}
 use borrow.Author.Needs.{needs}
-use Rattle.step.proofs.rows.fewer.Statement.{statement}
-use Rattle.step.proofs.rows.fewer.Tie as tie
+use Rattle.rows.proofs.fewer.Statement.{statement}
+use Rattle.rows.proofs.fewer.Tie as tie
 
 add-result : tie.Need-add-result
 add-result c = search needs

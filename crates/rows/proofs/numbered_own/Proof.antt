@@ -1,7 +1,7 @@
-use Rattle.step.proofs.RowsLaws.{others-numbered, own-numbered}
+use Rattle.rows.proofs.RowsLaws.{others-numbered, own-numbered}
 use borrow.Author.Needs.{needs}
-use Rattle.step.proofs.rows.numbered_own.Statement.{statement}
-use Rattle.step.proofs.rows.numbered_own.Tie as tie
+use Rattle.rows.proofs.numbered_own.Statement.{statement}
+use Rattle.rows.proofs.numbered_own.Tie as tie
 
 returns : tie.Need-returns
 returns c = search (needs, others-numbered)

@@ -1,7 +1,7 @@
-use Rattle.step.proofs.RowsLaws.{transitional-first}
+use Rattle.rows.proofs.RowsLaws.{transitional-first}
 use borrow.Author.Needs.{needs}
-use Rattle.step.proofs.rows.transitional_due.Statement.{statement}
-use Rattle.step.proofs.rows.transitional_due.Tie as tie
+use Rattle.rows.proofs.transitional_due.Statement.{statement}
+use Rattle.rows.proofs.transitional_due.Tie as tie
 
 returns : tie.Need-returns
 returns c = search (needs, transitional-first)

@@ -1,7 +1,7 @@
-use Rattle.step.proofs.RowsLaws.{quota-told}
+use Rattle.rows.proofs.RowsLaws.{quota-told}
 use borrow.Author.Needs.{needs}
-use Rattle.step.proofs.rows.quota_left.Statement.{statement}
-use Rattle.step.proofs.rows.quota_left.Tie as tie
+use Rattle.rows.proofs.quota_left.Statement.{statement}
+use Rattle.rows.proofs.quota_left.Tie as tie
 
 fewer-requires : tie.Need-fewer-requires
 fewer-requires c κs = search needs

@@ -1,7 +1,7 @@
-use Rattle.step.proofs.RowsLaws.{of-none, of-last}
+use Rattle.rows.proofs.RowsLaws.{of-none, of-last}
 use borrow.Author.Needs.{needs}
-use Rattle.step.proofs.rows.is_of.Statement.{statement}
-use Rattle.step.proofs.rows.is_of.Tie as tie
+use Rattle.rows.proofs.is_of.Statement.{statement}
+use Rattle.rows.proofs.is_of.Tie as tie
 
 returns : tie.Need-returns
 returns c = search (needs, of-none)

@@ -1,7 +1,7 @@
-use Rattle.step.proofs.RowsLaws.{room-sending, room-holding}
+use Rattle.rows.proofs.RowsLaws.{room-sending, room-holding}
 use borrow.Author.Needs.{needs}
-use Rattle.step.proofs.rows.room_to_hold.Statement.{statement}
-use Rattle.step.proofs.rows.room_to_hold.Tie as tie
+use Rattle.rows.proofs.room_to_hold.Statement.{statement}
+use Rattle.rows.proofs.room_to_hold.Tie as tie
 
 sends-now-requires : tie.Need-sends-now-requires
 sends-now-requires c κs = search needs

@@ -1,7 +1,7 @@
-use Rattle.step.proofs.RowsLaws.{sends-primary, sends-elsewhere, sends-unformed, sends-formed}
+use Rattle.rows.proofs.RowsLaws.{sends-primary, sends-elsewhere, sends-unformed, sends-formed}
 use borrow.Author.Needs.{needs}
-use Rattle.step.proofs.rows.sends_now.Statement.{statement}
-use Rattle.step.proofs.rows.sends_now.Tie as tie
+use Rattle.rows.proofs.sends_now.Statement.{statement}
+use Rattle.rows.proofs.sends_now.Tie as tie
 
 returns : tie.Need-returns
 returns c = search (needs, sends-primary)
