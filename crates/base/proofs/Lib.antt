@@ -26,3 +26,4 @@ pub mod Comparable
 pub mod Members
 pub mod Gathered
 pub mod Branches
+pub mod Shifts

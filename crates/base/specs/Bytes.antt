@@ -1,9 +1,9 @@
 -- Bytes, and numbers in them, big-endian.
 -- Assumes nothing.
-use Prim.Native.Nat.{ℕ, zero, suc, _+_, _*_, _/_, _%_, _<_}
+use Prim.Native.Nat.{ℕ, zero, suc, _+_, _*_, _-_, _/_, _%_, _<_}
 use mathlib.Core.Bool.{Bool, true}
 use mathlib.Core.List.{List, [], _∷_, _++_}
-use lib.ListN.{getD, take, drop}
+use lib.ListN.{length, getD, take, drop, replicate}
 use Rattle.base.specs.Tests.{_and_, _<?_}
 
 -- Every element is a byte.
@@ -43,3 +43,14 @@ partAt m e at = take m (drop at e)
 unfoldable pub joined : {A : Type 0} → List (List A) → List A
 joined [] = []
 joined (x ∷ xs) = x ++ joined xs
+
+-- y in front of what l holds behind it.
+unfoldable pub over : List ℕ → List ℕ → List ℕ
+over y l = y ++ drop (length y) l
+
+unfoldable pub zeros : ℕ → List ℕ
+zeros m = replicate {A = ℕ} m 0
+
+-- y filled up with zeros to the size of a slot.
+unfoldable pub slot : ℕ → List ℕ → List ℕ
+slot size y = y ++ zeros (size - length y)

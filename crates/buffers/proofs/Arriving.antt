@@ -9,7 +9,7 @@ use lib.ListN.{length, take, drop}
 use lib.Seq.{take-at}
 use Rattle.base.specs.Tests.{pick}
 use Rattle.base.proofs.TestLaws.{pick-either, Known, holds, fails, known}
-use Rattle.base.specs.Bytes.{joined}
+use Rattle.base.specs.Bytes.{joined, over}
 use Rattle.format.specs.Types.{Action, recovery}
 use Rattle.replication.specs.Laws.Order.{SameServer}
 use Rattle.replication.specs.Machine.Types.{Server, Outcome, refused, taken, contextOf}
@@ -24,7 +24,7 @@ use Rattle.replication.proofs.Step.Inversion.{taken-by}
 use Rattle.replication.proofs.Step.Lifts.{source-of}
 use Rattle.replication.proofs.Step.Moves.{moved}
 use Rattle.engine.specs.Layout.{stateLength, outLength}
-use Rattle.engine.specs.Image.{over, image}
+use Rattle.engine.specs.Image.{image}
 use Rattle.engine.specs.Outcome.{Result, refusal, word, resultOf}
 use Rattle.engine.proofs.ImageLaws.{image-length}
 use Rattle.engine.specs.Holding.{Holds}

@@ -8,7 +8,7 @@ use native.Mathlib.Nat.{mul-le-mul-right}
 use native.Mathlib.Omega.{arith}
 use lib.ListN.{length, getD, take, drop}
 use lib.Seq.{take-append-seam, drop-append-seam}
-use Rattle.base.specs.Bytes.{numberAt, numbersAt, partAt}
+use Rattle.base.specs.Bytes.{numberAt, numbersAt, partAt, over}
 use Rattle.base.specs.Lists.{isThere, sum}
 use Rattle.base.proofs.Occurs.{Occurs, occurs-first}
 use Rattle.base.proofs.Sections.{sized-at}
@@ -19,7 +19,7 @@ use Rattle.format.proofs.Fields.{cuts-read, ids-read}
 use Rattle.replication.specs.Machine.Types.{Server, contextOf}
 use Rattle.replication.specs.Machine.WellFormed.{queue}
 use Rattle.engine.specs.Layout.{stateSize, theHeader, theCuts, theNoted, theHeld, theStates, theYellow, theOwn, theQueue, sections, sectionSize, offset, stateLength, atStates, atQueueLength, atGreenLength, atOwnCount, atHeldCount, atYellowCount}
-use Rattle.engine.specs.Image.{over, senders, section, parts, image}
+use Rattle.engine.specs.Image.{senders, section, parts, image}
 use Rattle.engine.specs.Decode.{modeNamed, actionsAt, heldAt, statesAt, decodedAs, serversIn, quotaIn, decoded}
 use Rattle.engine.proofs.InRange.{InRange}
 use Rattle.engine.proofs.Fit.{SectionsFit, range-fits, section-length, parts-sized, image-section}

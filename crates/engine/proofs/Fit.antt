@@ -8,7 +8,7 @@ use mathlib.Core.Option.{Option, none, some}
 use native.Mathlib.Nat.{mul-le-mul-right}
 use native.Mathlib.Omega.{arith}
 use lib.ListN.{length, getD, drop, length-append, length-drop}
-use Rattle.base.specs.Bytes.{Bytes, joined}
+use Rattle.base.specs.Bytes.{Bytes, joined, over}
 use Rattle.base.proofs.BytesLaws.{part-length, bytes-append, bytes-joined, bytes-part, bytes-drop}
 use Rattle.base.specs.Lists.{Each}
 use Rattle.base.proofs.ListLaws.{each-implied}
@@ -23,7 +23,7 @@ use Rattle.format.proofs.WriteBytes.{cuts-bytes, ids-bytes}
 use Rattle.replication.specs.Machine.Types.{Server, contextOf}
 use Rattle.replication.specs.Machine.WellFormed.{queue, wellFormed}
 use Rattle.engine.specs.Layout.{stateSize, theCuts, theNoted, theHeld, theStates, theYellow, theOwn, theQueue, sections, sectionSize, offset, stateLength}
-use Rattle.engine.specs.Image.{over, statesOver, section, parts, image}
+use Rattle.engine.specs.Image.{statesOver, section, parts, image}
 use Rattle.engine.proofs.InRange.{CollectedRange, InRange, in-range}
 use Rattle.engine.proofs.Used.{over-length, over-bytes, ActionFits, action-slots-length, action-slots-bytes, held-slots-length, held-slots-bytes, noted-length, noted-bytes, header-length, header-bytes, StateFits, states-over-length, states-over-bytes}
 

@@ -10,7 +10,7 @@ use native.Mathlib.Omega.{arith}
 use lib.ListN.{length, getD, take, drop}
 use Rattle.base.specs.Tests.{pick}
 use Rattle.base.proofs.TestLaws.{pick-yes, pick-no}
-use Rattle.base.specs.Bytes.{bytesOf, numberAt, numbersAt, joined}
+use Rattle.base.specs.Bytes.{bytesOf, numberAt, numbersAt, joined, over, slot}
 use Rattle.base.specs.Lists.{isThere, Each}
 use Rattle.base.proofs.Occurs.{Occurs, occurs-first, occurs-second, occurs-at, occurs-drop, joined-parts, number-read}
 use Rattle.base.specs.Sets.{inSet, withMember}
@@ -22,7 +22,7 @@ use Rattle.format.specs.Read.{payloadAt, actionAt, stateAt}
 use Rattle.format.proofs.Ranges.{ContextRange, PayloadRange, ActionRange}
 use Rattle.format.proofs.Fields.{payload-read, action-read, state-read}
 use Rattle.engine.specs.Layout.{heldSize, slotSize, stateSize}
-use Rattle.engine.specs.Image.{over, slot, senders, notedBytes, stateOver, statesOver, actionSlots, heldSlots}
+use Rattle.engine.specs.Image.{senders, notedBytes, stateOver, statesOver, actionSlots, heldSlots}
 use Rattle.engine.specs.Decode.{actionsAt, heldAt, statesAt}
 use Rattle.engine.proofs.InRange.{CollectedRange}
 use Rattle.engine.proofs.Used.{action-slot-length, held-slot-length, StateFits, state-over-length, first-slot, more-slots}

@@ -10,7 +10,7 @@ use lib.ListN.{length, getD, take, drop, set, replicate, length-replicate, take-
 use mir.Syntax.{w8, w16}
 use mir.Val.{Fits}
 use lib.Seq.{take-all, take-append-seam, drop-length}
-use Rattle.base.specs.Bytes.{bytesOf, joined}
+use Rattle.base.specs.Bytes.{bytesOf, joined, over, zeros}
 use Rattle.base.specs.Lists.{sum, isThere, Each}
 use Rattle.base.specs.Patched.{patched}
 use Rattle.base.proofs.PatchedLaws.{patched-more, patched-length, patched-none, patched-next}
@@ -28,7 +28,7 @@ use Rattle.replication.specs.Machine.Types.{Server, clearedMark, noYellow, noSt
 use Rattle.replication.specs.Machine.WellFormed.{queue}
 use Rattle.replication.proofs.WellFormed.Runs.{start-well-formed}
 use Rattle.engine.specs.Layout.{StartRoom, stateSize, theHeader, theCuts, theNoted, theStates, sections, sectionSize, stateLength, leastStateLength, headerSize}
-use Rattle.engine.specs.Image.{modeNumber, over, zeros, senders, headerBytes, notedBytes, stateOver, statesOver, actionSlots, heldSlots, section, parts, image}
+use Rattle.engine.specs.Image.{modeNumber, senders, headerBytes, notedBytes, stateOver, statesOver, actionSlots, heldSlots, section, parts, image}
 use Rattle.engine.specs.Header.{statusOf, idOf, setOf, transitionalOf, lastOf, markNumbers, headerOf, headerWritten}
 use Rattle.engine.specs.Decode.{readImage}
 use Rattle.engine.specs.Outcome.{started, startOn}

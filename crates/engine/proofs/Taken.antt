@@ -6,7 +6,7 @@ use mathlib.Core.Bool.{Bool, true}
 use mathlib.Core.List.{List}
 use native.Mathlib.Omega.{arith}
 use lib.ListN.{length}
-use Rattle.base.specs.Bytes.{joined}
+use Rattle.base.specs.Bytes.{joined, over}
 use Rattle.format.specs.Types.{Action}
 use Rattle.replication.specs.Laws.Order.{SameServer}
 use Rattle.replication.specs.Machine.Types.{Server, taken}
@@ -18,7 +18,7 @@ use Rattle.replication.proofs.Step.Moves.{moved}
 use Rattle.replication.proofs.WellFormed.Reads.{step-byte-count}
 use Rattle.replication.proofs.WellFormed.Steps.{step-well-formed}
 use Rattle.engine.specs.Layout.{stateLength, outLength}
-use Rattle.engine.specs.Image.{over, image}
+use Rattle.engine.specs.Image.{image}
 use Rattle.engine.proofs.Used.{over-length}
 use Rattle.engine.proofs.ImageLaws.{image-length, image-again, read-image}
 use Rattle.engine.specs.Holding.{Holds}

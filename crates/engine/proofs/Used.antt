@@ -8,7 +8,7 @@ use native.Mathlib.Nat.{suc-mul}
 use native.Mathlib.Omega.{arith}
 use lib.ListN.{length, take, drop, length-append, length-take, length-drop, length-replicate}
 use lib.Seq.{drop-at, take-at}
-use Rattle.base.specs.Bytes.{Bytes, bytesOf, joined}
+use Rattle.base.specs.Bytes.{Bytes, bytesOf, joined, over, zeros, slot}
 use Rattle.base.proofs.BytesLaws.{joined-append, bytes-nil, bytes-small, bytes-append, bytes-cons, bytes-take, bytes-drop, bytes-joined}
 use Rattle.base.specs.Lists.{Each}
 use Rattle.format.specs.Types.{Id, Action, State, state}
@@ -18,7 +18,7 @@ use Rattle.format.proofs.Ranges.{PayloadRange}
 use Rattle.format.proofs.WriteBytes.{action-bytes, payload-bytes, primary-bytes, mark-bytes, state-record-bytes}
 use Rattle.replication.specs.Machine.Types.{Configuration, Server}
 use Rattle.engine.specs.Layout.{heldSize, slotSize, headerSize}
-use Rattle.engine.specs.Image.{over, zeros, slot, configurationBytes, transitionalBytes, headerBytes, notedBytes, stateOver, statesOver, actionSlots, heldSlots}
+use Rattle.engine.specs.Image.{configurationBytes, transitionalBytes, headerBytes, notedBytes, stateOver, statesOver, actionSlots, heldSlots}
 
 -- ---- over what was there
 

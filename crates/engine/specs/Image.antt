@@ -1,11 +1,11 @@
 -- The image of a state over the bytes that its buffer held.
 -- Assumes nothing.
-use Prim.Native.Nat.{ℕ, _+_, _-_}
+use Prim.Native.Nat.{ℕ, _+_}
 use mathlib.Core.List.{List, [], _∷_, _++_, map}
 use mathlib.Core.Option.{Option, none, some}
-use lib.ListN.{length, take, drop, replicate}
+use lib.ListN.{length, take, drop}
 use Rattle.base.specs.Tests.{pick}
-use Rattle.base.specs.Bytes.{bytesOf, partAt, joined}
+use Rattle.base.specs.Bytes.{bytesOf, partAt, joined, over, slot}
 use Rattle.base.specs.Lists.{isThere}
 use Rattle.base.specs.Sets.{withMember}
 use Rattle.format.specs.Limits.{layoutNumber}
@@ -29,17 +29,6 @@ modeNumber Exchange-actions = 4
 modeNumber Construct = 5
 modeNumber No = 6
 modeNumber Un = 7
-
--- y in front of what l holds behind it.
-unfoldable pub over : List ℕ → List ℕ → List ℕ
-over y l = y ++ drop (length y) l
-
-unfoldable pub zeros : ℕ → List ℕ
-zeros m = replicate {A = ℕ} m 0
-
--- y filled up with zeros to the size of a slot.
-unfoldable pub slot : ℕ → List ℕ → List ℕ
-slot size y = y ++ zeros (size - length y)
 
 -- A field that may be absent: status, then the value, zeros where it is absent.
 unfoldable pub configurationBytes : Option Configuration → List ℕ

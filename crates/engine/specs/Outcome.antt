@@ -6,13 +6,13 @@ use mathlib.Core.List.{List}
 use mathlib.Core.Option.{Option, none, some}
 use lib.ListN.{length}
 use Rattle.base.specs.Tests.{_or_, _<?_, pick}
-use Rattle.base.specs.Bytes.{joined}
+use Rattle.base.specs.Bytes.{joined, over}
 use Rattle.format.specs.Range.{sizesOk}
 use Rattle.replication.specs.Machine.Types.{Server, Outcome, refused, taken, start}
 use Rattle.replication.specs.Machine.Step.{step}
 use Rattle.engine.specs.declared.Lengths.{Lengths}
 use Rattle.engine.specs.Layout.{stateLength, outLength, leastStateLength, leastOutLength}
-use Rattle.engine.specs.Image.{over, image}
+use Rattle.engine.specs.Image.{image}
 use Rattle.engine.specs.Decode.{serversIn, quotaIn, reads, readImage}
 
 -- The number returned, the store word (1: store first), how many bytes of records there are, and both buffers afterwards.

@@ -7,7 +7,7 @@ use mathlib.Core.List.{List, [], _∷_, _++_}
 use mathlib.Core.Logic.{inl}
 use native.Mathlib.Omega.{arith}
 use lib.ListN.{length, getD}
-use Rattle.base.specs.Bytes.{joined}
+use Rattle.base.specs.Bytes.{joined, over}
 use Rattle.base.proofs.Prefixes.{begins-refl, begins-append}
 use Rattle.format.specs.Limits.{mostIndex}
 use Rattle.format.specs.Types.{Id}
@@ -20,7 +20,7 @@ use Rattle.record.specs.declared.State.{State}
 use Rattle.replication.proofs.WellFormed.Logs.{install-log-fits}
 use Rattle.format.specs.Write.{idsBytes}
 use Rattle.engine.specs.Layout.{theCuts, theNoted, theHeld, theStates, theYellow, theOwn, theQueue, stateLength}
-use Rattle.engine.specs.Image.{over, headerBytes, section, parts, image}
+use Rattle.engine.specs.Image.{headerBytes, section, parts, image}
 use Rattle.engine.specs.Header.{headerOf, headerIn, lastOf}
 use Rattle.engine.proofs.InRange.{in-range}
 use Rattle.engine.proofs.HeaderLaws.{header-loaded}

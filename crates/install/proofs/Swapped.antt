@@ -9,7 +9,7 @@ use native.Mathlib.Nat.{add-zero}
 use lib.ListN.{length, take, drop, set, length-append, length-set}
 use lib.Seq.{set-append-seam, take-append-add, drop-append-add}
 use Rattle.base.proofs.AtLaws.{none-some, some-same, at-low}
-use Rattle.base.specs.Bytes.{bytesOf, numberAt, partAt, joined}
+use Rattle.base.specs.Bytes.{bytesOf, numberAt, partAt, joined, over, slot}
 use Rattle.base.proofs.BytesLaws.{bytes-length}
 use Rattle.base.specs.Lists.{sum, at, Each}
 use Rattle.base.proofs.Gathered.{at-second}
@@ -21,7 +21,7 @@ use Rattle.format.specs.Write.{actionBytes}
 use Rattle.replication.specs.Machine.Types.{Log, Server, withLog}
 use Rattle.replication.specs.Machine.WellFormed.{queue}
 use Rattle.engine.specs.Layout.{slotSize, theHeader, theQueue, sections, offset, atGreenLength}
-use Rattle.engine.specs.Image.{over, slot, headerBytes, actionSlots, section, parts, image, fields}
+use Rattle.engine.specs.Image.{headerBytes, actionSlots, section, parts, image, fields}
 use Rattle.engine.proofs.InRange.{in-range}
 use Rattle.engine.proofs.Used.{ActionFits, action-slot-length, action-slots-length}
 use Rattle.engine.proofs.Fit.{well-formed-fits}

@@ -8,7 +8,7 @@ use native.Mathlib.Omega.{arith}
 use native.Mathlib.Nat.{zero-add}
 use lib.ListN.{length, take, drop, length-append}
 use lib.Seq.{length-take-le, drop-length}
-use Rattle.base.specs.Bytes.{numberAt, joined}
+use Rattle.base.specs.Bytes.{numberAt, joined, over}
 use Rattle.base.specs.Lists.{at}
 use Rattle.base.proofs.AtLaws.{none-some, some-same, at-take}
 use Rattle.base.specs.Patched.{patched}
@@ -19,7 +19,6 @@ use Rattle.format.specs.Places.{actionPayloadAt, actionHeadSize}
 use Rattle.format.specs.Types.{Action}
 use Rattle.format.specs.Read.{actionAt}
 use Rattle.engine.specs.Layout.{slotSize, theQueue}
-use Rattle.engine.specs.Image.{over}
 use Rattle.engine.specs.Decode.{actionsAt, decodedAs, decoded, greensIn}
 use Rattle.engine.specs.Counts.{queueCount, greenCount, place}
 use Rattle.engine.proofs.Slots.{actions-count}

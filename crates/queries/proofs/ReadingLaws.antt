@@ -6,7 +6,7 @@ use mathlib.Core.List.{List, [], _∷_, _++_, append-nil}
 use native.Mathlib.Omega.{arith}
 use lib.ListN.{length, take, drop, length-drop, take-append-drop}
 use lib.Seq.{drop-drop, drop-length, take-append-seam}
-use Rattle.base.specs.Bytes.{joined}
+use Rattle.base.specs.Bytes.{joined, over}
 use Rattle.base.specs.Lists.{Each}
 use Rattle.base.proofs.ListLaws.{each-first, each-second, each-implied}
 use Rattle.base.proofs.Prefixes.{drop-beginning}
@@ -19,7 +19,7 @@ use Rattle.replication.specs.Machine.Types.{Server, Outcome, refused, taken, co
 use Rattle.replication.specs.Machine.Step.{step}
 use Rattle.replication.specs.Machine.WellFormed.{queue}
 use Rattle.replication.proofs.Step.Growth.{green-gained}
-use Rattle.engine.specs.Image.{over, image}
+use Rattle.engine.specs.Image.{image}
 use Rattle.engine.specs.Decode.{decoded, greensIn}
 use Rattle.engine.specs.Holding.{Holds}
 use Rattle.engine.specs.Outcome.{imageNumber, Result, refusal, resultOf, stateNumber, stepOn}

@@ -4,13 +4,13 @@ use Prim.Native.Nat.{ℕ, _+_, _-_}
 use mathlib.Core.List.{List, [], _∷_, map}
 use lib.ListN.{length, drop}
 use Rattle.base.specs.Tests.{_or_, _≤?_, _<?_, _=?_, pick}
-use Rattle.base.specs.Bytes.{joined}
+use Rattle.base.specs.Bytes.{joined, over}
 use Rattle.format.specs.Limits.{mostPayload}
 use Rattle.format.specs.Places.{idSize}
 use Rattle.format.specs.Types.{Action}
 use Rattle.format.specs.Write.{idBytes, payloadBytes}
 use Rattle.replication.specs.Machine.Types.{Server}
-use Rattle.engine.specs.Image.{modeNumber, over}
+use Rattle.engine.specs.Image.{modeNumber}
 use Rattle.engine.specs.Header.{statusOf, idOf, setOf, transitionalOf}
 use Rattle.engine.specs.Decode.{decoded, reads, greensIn}
 use Rattle.engine.specs.Outcome.{stateShort, imageNumber}

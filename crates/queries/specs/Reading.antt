@@ -5,10 +5,10 @@ use mathlib.Core.Path.{_≡_}
 use mathlib.Core.List.{List, [], _∷_, _++_}
 use lib.ListN.{length, take, drop}
 use Rattle.base.specs.Lists.{Each}
+use Rattle.base.specs.Bytes.{over}
 use Rattle.format.specs.Types.{Action}
 use Rattle.replication.specs.Machine.Types.{Outcome, refused, taken}
 use Rattle.replication.specs.Machine.Step.{step}
-use Rattle.engine.specs.Image.{over}
 use Rattle.engine.specs.Decode.{decoded, greensIn}
 use Rattle.engine.specs.Outcome.{stepOn, imageNumber}
 use Rattle.queries.specs.Queries.{entriesBytes, mostEntry, Listing, entriesOn}

@@ -7,7 +7,7 @@ use native.Mathlib.Omega.{arith}
 use native.Mathlib.Nat.{add-zero}
 use lib.ListN.{length, take, drop, length-append, length-drop}
 use lib.Seq.{drop-at, drop-drop, length-take-le, take-add, take-take}
-use Rattle.base.specs.Bytes.{bytesOf, numberAt, partAt}
+use Rattle.base.specs.Bytes.{bytesOf, numberAt, partAt, slot}
 use Rattle.base.proofs.BytesLaws.{part-length}
 use Rattle.base.specs.Patched.{patched}
 use Rattle.base.proofs.PatchedLaws.{patched-length, lent-patched}
@@ -16,7 +16,6 @@ use Rattle.format.specs.Write.{actionBytes}
 use Rattle.record.specs.declared.ActionHead.{ActionHead}
 use Rattle.record.specs.Values.{idOf, actionOf}
 use Rattle.engine.specs.Layout.{slotSize, headerSize, atQueueLength, atGreenLength, atOwnCount, theQueue}
-use Rattle.engine.specs.Image.{slot}
 use Rattle.queue.specs.Queue.{appended, queued, popped, promoted}
 use Rattle.engine.specs.Counts.{place}
 

@@ -6,7 +6,7 @@ use mathlib.Core.Bool.{true, false}
 use mathlib.Core.List.{List, [], _∷_, _++_, append-assoc}
 use native.Mathlib.Omega.{arith}
 use lib.ListN.{length, set, length-append}
-use Rattle.base.specs.Bytes.{bytesOf, joined}
+use Rattle.base.specs.Bytes.{bytesOf, joined, over, slot}
 use Rattle.base.proofs.BytesLaws.{bytes-length}
 use Rattle.base.specs.Lists.{sum, above, Each}
 use Rattle.base.proofs.ListLaws.{each-always, each-map}
@@ -25,7 +25,7 @@ use Rattle.replication.proofs.WellFormed.Ids.{same-id-yes, same-id-no}
 use Rattle.replication.proofs.WellFormed.Held.{remove-absent}
 use Rattle.replication.proofs.WellFormed.Logs.{ownId}
 use Rattle.engine.specs.Layout.{slotSize, atQueueLength, atOwnCount}
-use Rattle.engine.specs.Image.{over, slot, headerBytes, actionSlots, fields}
+use Rattle.engine.specs.Image.{headerBytes, actionSlots, fields}
 use Rattle.engine.proofs.Used.{ActionFits, action-slots-length, slots-append}
 use Rattle.queue.proofs.Inside.{over-extended, over-changed}
 use Rattle.engine.proofs.Fields.{fieldSizes, header-fields, fields-sized, field-changed, theQueueCount, theOwnCount}

@@ -7,7 +7,7 @@ use mathlib.Core.List.{List, [], _∷_, map}
 use native.Mathlib.Omega.{arith}
 use lib.ListN.{length, take, drop}
 use lib.Seq.{take-at, drop-at, take-take}
-use Rattle.base.specs.Bytes.{bytesOf, numberAt, partAt}
+use Rattle.base.specs.Bytes.{bytesOf, numberAt, partAt, over, slot}
 use Rattle.base.proofs.BytesLaws.{bytes-length}
 use Rattle.base.specs.Lists.{sum, above, Each}
 use Rattle.base.proofs.ListLaws.{above-next}
@@ -22,7 +22,7 @@ use Rattle.replication.proofs.Step.Logs.{next-index}
 use Rattle.replication.proofs.WellFormed.Logs.{LogFits, ownId, enter-fits}
 use Rattle.replication.specs.Laws.RuleFits.{Delivered}
 use Rattle.engine.specs.Layout.{slotSize, stateSize, theHeader, theCuts, theNoted, theHeld, theStates, theYellow, theOwn, theQueue, sections, offset, headerSize, atMe, atQueueLength, atOwnCount}
-use Rattle.engine.specs.Image.{over, slot, headerBytes, notedBytes, statesOver, actionSlots, heldSlots, section, parts, image}
+use Rattle.engine.specs.Image.{headerBytes, notedBytes, statesOver, actionSlots, heldSlots, section, parts, image}
 use Rattle.engine.proofs.InRange.{in-range}
 use Rattle.engine.proofs.Used.{ActionFits, action-slot-length, action-slots-length}
 use Rattle.engine.proofs.Fit.{well-formed-fits}

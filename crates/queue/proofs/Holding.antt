@@ -4,7 +4,7 @@ use Prim.Native.Nat.{ℕ, _+_, _-_}
 use mathlib.Core.Path.{_≡_, refl, ap₂, subst, _∙_}
 use mathlib.Core.Bool.{true}
 use mathlib.Core.List.{List, [], _∷_, _++_}
-use Rattle.base.specs.Bytes.{joined}
+use Rattle.base.specs.Bytes.{joined, over}
 use Rattle.base.proofs.Sections.{Laid}
 use Rattle.format.specs.Write.{cutsBytes, idsBytes}
 use Rattle.replication.specs.Machine.Types.{Log, Server, withLog}
@@ -14,7 +14,7 @@ use Rattle.replication.proofs.WellFormed.Changes.{body, whole, log-changed-alik
 use Rattle.replication.proofs.WellFormed.Kept.{mode-kept}
 use Rattle.replication.proofs.WellFormed.Logs.{LogFits}
 use Rattle.engine.specs.Layout.{stateSize, theCuts, theNoted, theHeld, theStates, theYellow, theOwn, theQueue, sections, stateLength}
-use Rattle.engine.specs.Image.{over, headerBytes, notedBytes, statesOver, actionSlots, heldSlots, section, parts, image}
+use Rattle.engine.specs.Image.{headerBytes, notedBytes, statesOver, actionSlots, heldSlots, section, parts, image}
 use Rattle.engine.proofs.Fit.{well-formed-fits, image-laid}
 use Rattle.engine.specs.Holding.{Holds}
 use Rattle.queue.proofs.Inside.{Changed}

@@ -7,12 +7,11 @@ use native.Mathlib.Omega.{arith}
 use native.Mathlib.Nat.{zero-add}
 use lib.ListN.{length, getD, take, drop, set, length-append}
 use lib.Seq.{take-at, drop-at, drop-drop}
-use Rattle.base.specs.Bytes.{joined}
+use Rattle.base.specs.Bytes.{joined, over}
 use Rattle.base.specs.Lists.{sum}
 use Rattle.base.specs.Patched.{patched}
 use Rattle.base.proofs.PatchedLaws.{patched-length}
 use Rattle.base.proofs.Sections.{Laid, begin, begin-end, sized-at, sized-length, laid-part, laid-set, laid-rest, patched-front, patched-inside}
-use Rattle.engine.specs.Image.{over}
 
 -- b is laid out in these parts, and behind them it is what `old` is.
 pub record Changed (ws : List ℕ) (ps : List (List ℕ)) (old b : List ℕ) : Type 0 where

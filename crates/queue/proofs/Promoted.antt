@@ -7,7 +7,7 @@ use mathlib.Core.Option.{Option, none}
 use native.Mathlib.Omega.{arith}
 use lib.ListN.{length, drop, set, length-append}
 use lib.Seq.{take-at, drop-at}
-use Rattle.base.specs.Bytes.{bytesOf, numberAt, partAt, joined}
+use Rattle.base.specs.Bytes.{bytesOf, numberAt, partAt, joined, over, slot}
 use Rattle.base.proofs.BytesLaws.{bytes-length}
 use Rattle.base.specs.Lists.{sum, Each}
 use Rattle.base.proofs.ListLaws.{each-first, each-second}
@@ -19,7 +19,7 @@ use Rattle.replication.specs.Machine.Types.{Server, withLog}
 use Rattle.replication.specs.Machine.Colours.{find, remove, promote, promoteFound, greenId}
 use Rattle.replication.specs.Machine.WellFormed.{queue}
 use Rattle.engine.specs.Layout.{slotSize, theHeader, theQueue, sections, offset, atQueueLength, atGreenLength}
-use Rattle.engine.specs.Image.{over, slot, headerBytes, actionSlots, section, parts, image, fields}
+use Rattle.engine.specs.Image.{headerBytes, actionSlots, section, parts, image, fields}
 use Rattle.engine.specs.Decode.{actionsAt, decodedAs, decoded}
 use Rattle.engine.proofs.InRange.{in-range}
 use Rattle.engine.proofs.Used.{ActionFits, action-slot-length, action-slots-length, slots-append}

@@ -7,7 +7,7 @@ use mathlib.Core.Option.{some}
 use native.Mathlib.Omega.{arith}
 use native.Mathlib.Nat.{add-assoc}
 use lib.ListN.{length, take-append-drop}
-use Rattle.base.specs.Bytes.{numberAt, joined}
+use Rattle.base.specs.Bytes.{numberAt, joined, over, slot}
 use Rattle.base.specs.Lists.{at, Each}
 use Rattle.base.proofs.Occurs.{Occurs, occurs-first, occurs-second}
 use Rattle.base.specs.Tests.{pick}
@@ -26,7 +26,7 @@ use Rattle.replication.specs.Machine.Types.{Server, contextOf}
 use Rattle.replication.specs.Machine.Colours.{find}
 use Rattle.replication.specs.Machine.WellFormed.{queue}
 use Rattle.engine.specs.Layout.{slotSize, atGreenLength, theQueue, offset}
-use Rattle.engine.specs.Image.{over, slot, actionSlots, image, parts}
+use Rattle.engine.specs.Image.{actionSlots, image, parts}
 use Rattle.engine.specs.Decode.{actionsAt, decodedAs, decoded}
 use Rattle.engine.specs.Holding.{Holds}
 use Rattle.engine.proofs.InPlace.{holds-decoded}

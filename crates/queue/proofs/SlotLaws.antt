@@ -5,12 +5,12 @@ use mathlib.Core.Path.{_≡_, refl, sym, ap, _∙_}
 use mathlib.Core.List.{List, [], _∷_, _++_, append-nil}
 use native.Mathlib.Omega.{arith}
 use lib.ListN.{length, set}
-use Rattle.base.specs.Bytes.{bytesOf, joined}
+use Rattle.base.specs.Bytes.{bytesOf, joined, slot}
 use Rattle.base.specs.Patched.{patched}
 use Rattle.format.specs.Types.{Action}
 use Rattle.format.specs.Write.{cutsBytes, actionBytes}
 use Rattle.engine.specs.Layout.{slotSize}
-use Rattle.engine.specs.Image.{slot, actionSlots}
+use Rattle.engine.specs.Image.{actionSlots}
 
 pub slots-one : (a : Action) → actionSlots (a ∷ []) ≡ slot slotSize (actionBytes a)
 unfolding actionSlots joined

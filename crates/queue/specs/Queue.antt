@@ -5,7 +5,7 @@ use mathlib.Core.Path.{_≡_}
 use mathlib.Core.List.{List, [], _∷_, _++_}
 use lib.ListN.{length, take, drop}
 use Rattle.base.specs.Tests.{pick}
-use Rattle.base.specs.Bytes.{bytesOf, numberAt, partAt}
+use Rattle.base.specs.Bytes.{bytesOf, numberAt, partAt, slot}
 use Rattle.base.specs.Patched.{patched}
 use Rattle.format.specs.Limits.{mostPayload}
 use Rattle.format.specs.Places.{actionPayloadAt}
@@ -13,7 +13,7 @@ use Rattle.format.specs.Types.{Id, Action}
 use Rattle.format.specs.Range.{sameId}
 use Rattle.format.specs.Write.{actionBytes}
 use Rattle.engine.specs.Layout.{headerSize, slotSize, theQueue, atQueueLength, atGreenLength, atOwnCount}
-use Rattle.engine.specs.Image.{slot, image}
+use Rattle.engine.specs.Image.{image}
 use Rattle.engine.specs.Holding.{Holds, BecomesWhere}
 use Rattle.replication.specs.Machine.Types.{Server, withLog}
 use Rattle.replication.specs.Machine.Colours.{isNext, enter, red, green}

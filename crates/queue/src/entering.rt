@@ -6,7 +6,6 @@ ghost use Rattle.record.specs.Values.{actionOf};
 ghost use Rattle.engine.specs.Layout.{slotSize, headerSize};
 ghost use Rattle.queue.specs.Queue.{RoomFor, RoomIfNext, appended, queued, popped, BecomesEntered, BecomesRed};
 use crate::slots::put_slot;
-use crate::slots::shift_down;
 use engine::places::THE_OWN;
 use engine::places::THE_QUEUE;
 use engine::places::place_of;
@@ -15,6 +14,7 @@ use record::State;
 use record::bytes::num8;
 use record::bytes::num16;
 use record::bytes::num32;
+use record::moves::shift_down;
 use record::parts::put16;
 use record::parts::put32;
 

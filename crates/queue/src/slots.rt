@@ -1,10 +1,8 @@
 // A slot of an action written, and slots moved in place.
 ghost use mathlib.Core.Path.{_≡_};
-ghost use mathlib.Core.List.{_++_};
-ghost use Prim.Native.Nat.{_+_, _-_, _≤_};
-ghost use lib.ListN.{length, take, drop};
+ghost use Prim.Native.Nat.{_+_, _≤_};
+ghost use lib.ListN.{length};
 ghost use Rattle.base.specs.Bytes.{partAt};
-ghost use Rattle.base.specs.Patched.{patched};
 ghost use Rattle.format.specs.Limits.{mostPayload};
 ghost use Rattle.record.specs.Values.{actionOf};
 ghost use Rattle.engine.specs.Layout.{slotSize};
@@ -13,6 +11,7 @@ use record::ActionHead;
 use record::State;
 use record::blocks::clear;
 use record::blocks::copy;
+use record::moves::shift_up;
 use record::parts::put_body;
 
 // An action's slot from `at` on: its bytes, filled up with zeros.
@@ -26,31 +25,6 @@ pub fn put_slot(state: &mut [u8], at: usize, head: ActionHead, payload: &[u8])
         at + (ActionHead::SIZE + payload.len()),
         State::SLOT - (ActionHead::SIZE + payload.len()),
     );
-}
-
-// Moves s down by w bytes; the last w stay as they were.
-pub fn shift_down(s: &mut [u8], w: usize)
-    requires { ⌜ w ≤ length (now s) ⌝ }
-    ensures { λ _. ⌜ now (s .exit) ≡ patched 0 (drop w (now (s .entry))) (now (s .entry)) ⌝ }
-{
-    let n = s.len() - w;
-    let mut i: usize = 0;
-    while i < n {
-        s[i] = s[w + i];
-        i += 1;
-    }
-}
-
-// Moves s up by w bytes; the first w stay as they were.
-pub fn shift_up(s: &mut [u8], w: usize)
-    requires { ⌜ w ≤ length (now s) ⌝ }
-    ensures { λ _. ⌜ now (s .exit) ≡ take w (now (s .entry)) ++ take (length (now (s .entry)) - w) (now (s .entry)) ⌝ }
-{
-    let mut i: usize = s.len() - w;
-    while 0 < i {
-        i -= 1;
-        s[w + i] = s[i];
-    }
 }
 
 // The slot from `at` on.

@@ -9,9 +9,8 @@ use lib.ListN.{length, take, drop, length-drop, drop-of-length-le}
 use lib.Seq.{take-all, drop-length, drop-drop}
 use Rattle.format.specs.Places.{lengthSize}
 use Rattle.base.proofs.TestLaws.{pick-eq, pick-ne}
-use Rattle.base.specs.Bytes.{numberAt}
+use Rattle.base.specs.Bytes.{numberAt, zeros}
 use Rattle.base.proofs.BytesLaws.{number-drop}
-use Rattle.engine.specs.Image.{zeros}
 use Rattle.engine.specs.Outcome.{Result, stepOn}
 use Rattle.buffers.specs.Buffers.{isRecovery, sourceIn, stepIn}
 use Rattle.buffers.proofs.BufferLaws as laws

@@ -7,13 +7,13 @@ use native.Mathlib.Omega.{arith}
 use lib.ListN.{length}
 use Rattle.base.specs.Tests.{_=?_, pick}
 use Rattle.base.proofs.TestLaws.{pick-eq, eq-holds, eq-fails, Known, holds, fails, known}
+use Rattle.base.specs.Bytes.{zeros}
 use Rattle.replication.specs.Laws.Order.{SameServer}
 use Rattle.replication.specs.Machine.Types.{Outcome, refused, taken}
 use Rattle.replication.specs.Images.{Images, arrive, leftBy}
 use Rattle.replication.specs.Replay.{returned, sentCount}
 use Rattle.replication.specs.Runs.Run.{recordsOf}
 use Rattle.engine.specs.Layout.{outLength}
-use Rattle.engine.specs.Image.{zeros}
 use Rattle.engine.specs.Outcome.{Result}
 use Rattle.engine.specs.Holding.{Holds}
 use Rattle.engine.proofs.StartLaws.{zeros-length}

@@ -7,11 +7,11 @@ use mathlib.Core.List.{List, [], _∷_}
 use native.Mathlib.Omega.{arith}
 use lib.ListN.{length}
 use Rattle.base.specs.Lists.{sum}
+use Rattle.base.specs.Bytes.{zeros}
 use Rattle.format.specs.Range.{sizesOk}
 use Rattle.replication.specs.Machine.Types.{start}
 use Rattle.replication.specs.Images.{started}
 use Rattle.engine.specs.Layout.{stateSize, sections, stateLength, outLength}
-use Rattle.engine.specs.Image.{zeros}
 use Rattle.engine.specs.Outcome as outcome
 use Rattle.engine.specs.Outcome.{startOn}
 use Rattle.engine.proofs.StartLaws.{zeros-length}

@@ -5,11 +5,10 @@ use mathlib.Core.Path.{_≡_}
 use mathlib.Core.List.{List}
 use lib.ListN.{length, take, drop}
 use Rattle.base.specs.Tests.{_=?_, pick}
-use Rattle.base.specs.Bytes.{numberAt}
+use Rattle.base.specs.Bytes.{numberAt, zeros}
 use Rattle.format.specs.Limits.{mostHeld}
 use Rattle.format.specs.Places.{lengthSize, idSize, stateHeadSize, mostRetransmission}
 use Rattle.engine.specs.Layout.{headerSize, heldSize, slotSize}
-use Rattle.engine.specs.Image.{zeros}
 use Rattle.engine.specs.Outcome.{Result}
 use Rattle.buffers.specs.Buffers.{Buffers, stepIn}
 use Rattle.buffers.specs.Sending.{cutRecords}

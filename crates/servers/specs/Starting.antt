@@ -2,7 +2,7 @@
 -- Assumes nothing.
 use Prim.Native.Nat.{ℕ}
 use mathlib.Core.List.{List, [], _∷_}
-use Rattle.engine.specs.Image.{zeros}
+use Rattle.base.specs.Bytes.{zeros}
 use Rattle.engine.specs.Outcome.{startOn}
 use Rattle.servers.specs.declared.Server.{Server}
 use Rattle.servers.specs.Core.{stateRoom}

@@ -10,7 +10,7 @@ use native.Mathlib.Omega.{arith}
 use lib.ListN.{length, getD, length-append, length-map, take-append-drop}
 use Rattle.base.proofs.TestLaws.{not-both, both-yes, le-yes, lt-yes, eq-yes, eq-holds}
 use Rattle.base.specs.Tests.{_=?_, _<?_}
-use Rattle.base.specs.Bytes.{partAt}
+use Rattle.base.specs.Bytes.{partAt, over}
 use Rattle.base.proofs.BytesLaws.{numbers-at}
 use Rattle.base.specs.Lists.{everyAt, all, above, sum, Each}
 use Rattle.base.proofs.Entries.{every-number}
@@ -38,7 +38,7 @@ use Rattle.replication.proofs.WellFormed.Facts.{held-index}
 use Rattle.replication.proofs.WellFormed.Ids.{each-counted, once-differ}
 use Rattle.replication.proofs.WellFormed.Ranges.{cuts-ok, sizes-ok, length-ok, set-ok, action-ok, primary-ok, mark-ok, ids-ok, state-ok, own-set-facts, ids-short}
 use Rattle.engine.specs.Layout.{slotSize, stateSize, theCuts, theNoted, theHeld, theStates, theYellow, theOwn, theQueue, sections, sectionSize, offset}
-use Rattle.engine.specs.Image.{over, modeNumber, senders, actionSlots, heldSlots, statesOver, section, parts, image}
+use Rattle.engine.specs.Image.{modeNumber, senders, actionSlots, heldSlots, statesOver, section, parts, image}
 use Rattle.engine.specs.Decode.{modeNamed, actionsAt}
 use Rattle.engine.specs.Header.{headerOf}
 use Rattle.engine.proofs.InRange.{in-range}

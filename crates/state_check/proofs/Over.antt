@@ -5,9 +5,8 @@ use mathlib.Core.Path.{_≡_, refl, sym, ap, _∙_}
 use mathlib.Core.List.{List, _++_}
 use lib.ListN.{length, take, drop, take-append-drop}
 use lib.Seq.{take-at, drop-at, take-take}
-use Rattle.base.specs.Bytes.{partAt}
+use Rattle.base.specs.Bytes.{partAt, over}
 use Rattle.base.proofs.Occurs.{Occurs}
-use Rattle.engine.specs.Image.{over}
 
 pub occurs-over : (size : ℕ) (y b : List ℕ) (at : ℕ) → length y ≤ size → Occurs y b at → over y (partAt size b at) ≡ partAt size b at
 unfolding over partAt

@@ -7,7 +7,7 @@ use native.Mathlib.Omega.{arith}
 use lib.ListN.{length}
 use lib.Seq.{length-take-le}
 use Rattle.base.proofs.TestLaws.{lt-holds}
-use Rattle.base.specs.Bytes.{Bytes, bytesOf, numbersAt, partAt}
+use Rattle.base.specs.Bytes.{Bytes, bytesOf, numbersAt, partAt, over}
 use Rattle.base.proofs.BytesLaws.{numbers-length}
 use Rattle.base.specs.Lists.{sum, Each}
 use Rattle.base.proofs.ListLaws.{each-implied}
@@ -27,7 +27,7 @@ use Rattle.replication.specs.Machine.WellFormed.{queue}
 use Rattle.replication.specs.Machine.WellFormedRanges.{ActionFits}
 use Rattle.replication.proofs.WellFormed.Facts.{facts-well-formed}
 use Rattle.engine.specs.Layout.{stateSize, theHeader, theCuts, theNoted, theHeld, theStates, theYellow, theOwn, theQueue, sections, sectionSize, offset, stateLength, headerSize}
-use Rattle.engine.specs.Image.{over, headerBytes, notedBytes, actionSlots, heldSlots, statesOver, section, parts, image}
+use Rattle.engine.specs.Image.{headerBytes, notedBytes, actionSlots, heldSlots, statesOver, section, parts, image}
 use Rattle.engine.specs.Decode.{actionsAt, heldAt}
 use Rattle.engine.specs.Header.{statusOf, idOf, setOf, transitionalOf, lastOf as lastNumbers, markNumbers, headerOf, headerWritten}
 use Rattle.engine.proofs.Used.{action-slots-length, held-slots-length, noted-length, header-length}

@@ -7,7 +7,7 @@ use mathlib.Core.List.{List, _∷_}
 use native.Mathlib.Omega.{arith}
 use lib.ListN.{length}
 use Rattle.base.proofs.TestLaws.{and-holds, both-yes}
-use Rattle.base.specs.Bytes.{Bytes, numberAt, joined}
+use Rattle.base.specs.Bytes.{Bytes, numberAt, joined, slot}
 use Rattle.base.specs.Lists.{everyAt, all, Each}
 use Rattle.base.proofs.Occurs.{Occurs, occurs-nil, occurs-append, occurs-first, occurs-second}
 use Rattle.format.specs.Places.{actionPayloadAt}
@@ -22,7 +22,7 @@ use Rattle.replication.specs.Machine.WellFormed.{idsIn}
 use Rattle.replication.specs.Machine.WellFormedRanges.{ActionFits}
 use Rattle.replication.proofs.WellFormed.Ranges.{id-facts, length-facts}
 use Rattle.engine.specs.Layout.{heldSize, slotSize}
-use Rattle.engine.specs.Image.{slot, actionSlots, heldSlots}
+use Rattle.engine.specs.Image.{actionSlots, heldSlots}
 use Rattle.engine.specs.Decode.{actionsAt, heldAt}
 use Rattle.engine.proofs.Used.{action-slot-length, held-slot-length}
 use Rattle.state_check.specs.Slots.{heldFit, slotFits}

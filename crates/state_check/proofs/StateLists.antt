@@ -11,7 +11,7 @@ use lib.ListN.{length, getD, take, drop}
 use lib.Seq.{take-at, drop-at}
 use Rattle.base.specs.Tests.{_and_, _or_, pick}
 use Rattle.base.proofs.TestLaws.{pick-yes, pick-no, not-both, and-holds, both-yes, Known, holds, fails, known}
-use Rattle.base.specs.Bytes.{Bytes, partAt}
+use Rattle.base.specs.Bytes.{Bytes, partAt, over}
 use Rattle.base.proofs.BytesLaws.{part-length, part-append}
 use Rattle.base.specs.Sets.{inSet}
 use Rattle.format.specs.Types.{State, Context, state}
@@ -20,7 +20,7 @@ use Rattle.format.specs.Read.{stateAt}
 use Rattle.format.specs.Write.{write}
 use Rattle.format.proofs.Ranges.{ContextRange}
 use Rattle.engine.specs.Layout.{stateSize}
-use Rattle.engine.specs.Image.{over, stateOver, statesOver}
+use Rattle.engine.specs.Image.{stateOver, statesOver}
 use Rattle.engine.specs.Decode.{statesAt}
 use Rattle.engine.proofs.Used.{state-over-length}
 use Rattle.state_check.specs.Collected.{holdsState, collectedOk}

@@ -7,7 +7,7 @@ use mathlib.Core.List.{List, []}
 use mathlib.Core.Option.{Option, none, some}
 use Rattle.base.specs.Tests.{_and_, _or_}
 use Rattle.base.proofs.TestLaws.{pick-yes, pick-no, and-holds, both-yes, not-both}
-use Rattle.base.specs.Bytes.{joined}
+use Rattle.base.specs.Bytes.{joined, over}
 use Rattle.base.specs.Lists.{isThere}
 use Rattle.format.specs.Types.{Record}
 use Rattle.format.specs.Range.{contextOk, fieldsOk, recordOk}
@@ -17,7 +17,7 @@ use Rattle.replication.specs.Machine.Step.{quiet, stored, apply, applyRule, ans
 use Rattle.replication.specs.Machine.WellFormed.{ranges, wellFormed}
 use Rattle.replication.specs.Laws.RuleFits.{RuleFits}
 use Rattle.replication.proofs.WellFormed.RuleFacts.{rule-fits}
-use Rattle.engine.specs.Image.{over, image}
+use Rattle.engine.specs.Image.{image}
 use Rattle.engine.specs.Outcome.{refusal, resultOf}
 use Rattle.step.specs.declared.Answer.{Answer}
 use Rattle.step.specs.Answers.{answered, outcomeOn, refusedWith, quietly, storedFirst, recordBytes}

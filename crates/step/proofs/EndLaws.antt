@@ -11,6 +11,7 @@ use native.Mathlib.Omega.{arith}
 use lib.ListN.{length, take, length-take}
 use Rattle.base.proofs.Prefixes.{begins-refl}
 use Rattle.base.proofs.TestLaws.{pick-yes, pick-no}
+use Rattle.base.specs.Bytes.{over}
 use Rattle.format.specs.Types.{cpc}
 use Rattle.format.specs.Write.{write, idsBytes, lengthOf}
 use Rattle.format.proofs.IdCount.{ids-count}
@@ -26,7 +27,7 @@ use Rattle.replication.specs.Machine.Step.{theId, hereSet, hereId, collected, d
 use Rattle.replication.specs.Machine.WellFormed.{queue, wellFormed}
 use Rattle.replication.specs.Machine.WellFormedFacts.{Configured}
 use Rattle.engine.specs.Layout.{outLength}
-use Rattle.engine.specs.Image.{over, image}
+use Rattle.engine.specs.Image.{image}
 use Rattle.engine.specs.Header.{idOf, headerOf, headerIn}
 use Rattle.engine.proofs.HeaderLaws.{header-loaded}
 use Rattle.engine.proofs.InRange.{in-range}

@@ -7,7 +7,7 @@ use mathlib.Core.List.{List, [], _∷_, map}
 use mathlib.Core.Logic.{inl}
 use native.Mathlib.Omega.{arith}
 use lib.ListN.{length, length-append}
-use Rattle.base.specs.Bytes.{joined}
+use Rattle.base.specs.Bytes.{joined, over}
 use Rattle.base.proofs.TestLaws.{pick-as}
 use Rattle.format.specs.Types.{Record, cpc}
 use Rattle.format.specs.Write.{write}
@@ -17,7 +17,7 @@ use Rattle.replication.specs.Machine.Requests.{madeOf, numbered, sendHeld, held
 use Rattle.replication.specs.Machine.Step.{hereSet, hereId, collected, decided, attempting, stored, sent, inBytes, endExchange}
 use Rattle.replication.specs.Machine.WellFormed.{queue, wellFormed}
 use Rattle.replication.specs.Machine.WellFormedFacts.{Configured}
-use Rattle.engine.specs.Image.{over, image}
+use Rattle.engine.specs.Image.{image}
 use Rattle.engine.specs.Outcome.{resultOf, word}
 use Rattle.engine.specs.Holding.{Holds}
 use Rattle.step.specs.Answers.{outcomeOn}

@@ -7,7 +7,7 @@ use native.Mathlib.Omega.{arith}
 use mir.Syntax.{w32}
 use mir.Val.{Fits}
 use lib.ListN.{length, take, drop, length-append, length-take}
-use Rattle.base.specs.Bytes.{numberAt, partAt, joined}
+use Rattle.base.specs.Bytes.{numberAt, partAt, joined, over, slot}
 use Rattle.base.proofs.BytesLaws.{joined-append}
 use Rattle.base.specs.Lists.{Each}
 use Rattle.base.proofs.Occurs.{Occurs, occurs-first, occurs-second}
@@ -29,7 +29,7 @@ use Rattle.replication.proofs.WellFormed.Changes.{body}
 use Rattle.replication.proofs.WellFormed.Facts.{well-formed-facts}
 use Rattle.engine.specs.Layout.{heldSize, theHeld, outLength, atMe, atGreenLength, atNumbered, atHeldCount}
 use Rattle.engine.specs.Header.{headerOf, headerIn}
-use Rattle.engine.specs.Image.{over, slot, heldSlots, parts}
+use Rattle.engine.specs.Image.{heldSlots, parts}
 use Rattle.engine.specs.Decode.{heldAt, decodedAs, decoded}
 use Rattle.engine.proofs.Fit.{well-formed-fits}
 use Rattle.engine.proofs.HeaderLaws.{header-loaded}

@@ -7,7 +7,7 @@ use mathlib.Core.List.{List, [], _∷_, _++_, map}
 use mathlib.Core.Logic.{inl, inr}
 use native.Mathlib.Omega.{arith}
 use lib.ListN.{length, length-append}
-use Rattle.base.specs.Bytes.{joined}
+use Rattle.base.specs.Bytes.{joined, over}
 use Rattle.base.proofs.Prefixes.{begins-same, begins-refl}
 use Rattle.base.specs.Tests.{pick}
 use Rattle.format.specs.Limits.{mostIndex}
@@ -26,7 +26,7 @@ use Rattle.replication.proofs.WellFormed.Facts.{well-formed-facts, facts-well-f
 use Rattle.replication.proofs.WellFormed.Changes.{Body, body, whole, in-mode}
 use Rattle.replication.proofs.WellFormed.Effects.{install-body, send-held-body}
 use Rattle.replication.specs.Laws.RuleFits.{Delivered}
-use Rattle.engine.specs.Image.{modeNumber, over, image}
+use Rattle.engine.specs.Image.{modeNumber, image}
 use Rattle.engine.specs.Outcome.{word, resultOf}
 use Rattle.engine.specs.Holding.{Holds, HoldsSuch, HoldsSome}
 use Rattle.engine.proofs.InPlace.{such-fact, holds-some}

@@ -10,7 +10,7 @@ use mir.Syntax.{w32}
 use mir.Val.{Fits}
 use lib.ListN.{length, take, drop, length-drop}
 use lib.Seq.{take-all}
-use Rattle.base.specs.Bytes.{numbersAt}
+use Rattle.base.specs.Bytes.{numbersAt, over}
 use Rattle.base.specs.Lists.{sum}
 use Rattle.base.proofs.Occurs.{Occurs, occurs-first, occurs-drop, occurs-at}
 use Rattle.base.specs.Tests.{_≤?_, _and_}
@@ -30,7 +30,7 @@ use Rattle.replication.specs.Machine.Types.{Server, contextOf}
 use Rattle.replication.specs.Machine.Step.{entering, ownState, join}
 use Rattle.engine.specs.Layout.{theCuts, theYellow, sections, offset, stateLength, outLength, headerSize, mostStateSize}
 use Rattle.engine.specs.Header.{lastOf, markNumbers, headerOf, headerIn}
-use Rattle.engine.specs.Image.{over, parts, image}
+use Rattle.engine.specs.Image.{parts, image}
 use Rattle.engine.proofs.Fit.{well-formed-fits}
 use Rattle.engine.proofs.HeaderLaws.{header-loaded}
 use Rattle.engine.proofs.InRange.{InRange, in-range}

@@ -5,10 +5,10 @@ use mathlib.Core.Path.{_≡_, ap, _∙_}
 use mathlib.Core.List.{List}
 use lib.ListN.{length}
 use Rattle.format.specs.Types.{Record}
-use Rattle.base.specs.Bytes.{joined}
+use Rattle.base.specs.Bytes.{joined, over}
 use Rattle.replication.specs.Machine.Types.{Server}
 use Rattle.replication.specs.Machine.Step.{quiet, stored, sent, inBytes}
-use Rattle.engine.specs.Image.{over, image}
+use Rattle.engine.specs.Image.{image}
 use Rattle.engine.specs.Outcome.{resultOf, word}
 use Rattle.step.specs.declared.Answer.{Answer}
 use Rattle.step.specs.Answers.{answered, outcomeOn, quietly, storedFirst, sentOnly, recordBytes}

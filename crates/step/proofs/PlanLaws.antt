@@ -8,7 +8,7 @@ use native.Mathlib.Omega.{arith}
 use native.Mathlib.Nat.{mul-le-mul-right}
 use lib.ListN.{length, take-append-drop}
 use borrow.Author.Tests.{not-true, not-false}
-use Rattle.base.specs.Bytes.{numberAt}
+use Rattle.base.specs.Bytes.{numberAt, over}
 use Rattle.base.proofs.Comparable.{gather-all-append}
 use Rattle.base.specs.Lists.{gather, gatherAll, above, below}
 use Rattle.base.specs.Tests.{pick}
@@ -23,7 +23,6 @@ use Rattle.replication.proofs.WellFormed.Changes.{Body, body, collected-fit}
 use Rattle.replication.proofs.WellFormed.Decisions.{green-bound, cut-bound}
 use Rattle.replication.proofs.WellFormed.Facts.{well-formed-facts}
 use Rattle.engine.specs.Layout.{theQueue, outLength, atServers, atMe, atGreenLength}
-use Rattle.engine.specs.Image.{over}
 use Rattle.engine.specs.Decode.{actionsAt, decodedAs, serversIn, quotaIn, decoded, greensIn}
 use Rattle.engine.specs.Holding.{Holds, HoldsSuch, HoldsSome}
 use Rattle.engine.proofs.InPlace.{holds-decoded, holds-some}

@@ -8,6 +8,7 @@ use native.Mathlib.Omega.{arith}
 use mir.Syntax.{w32}
 use mir.Val.{Fits}
 use lib.ListN.{length}
+use Rattle.base.specs.Bytes.{over}
 use Rattle.format.specs.Places.{actionSize}
 use Rattle.base.specs.Tests.{_or_}
 use Rattle.base.proofs.TestLaws.{pick-yes, pick-no, lt-holds, not-both}
@@ -26,7 +27,7 @@ use Rattle.replication.specs.Machine.Requests.{sendsNow, quotaLeft, roomToHold,
 use Rattle.replication.specs.Machine.Step.{stored, quiet, requested}
 use Rattle.engine.specs.Layout.{outLength}
 use Rattle.engine.specs.Header.{headerOf}
-use Rattle.engine.specs.Image.{over, image}
+use Rattle.engine.specs.Image.{image}
 use Rattle.engine.specs.Holding.{Holds}
 use Rattle.queue.proofs.Inside.{over-front}
 use Rattle.updates.specs.Lists.{PayloadRoom, nextHead}

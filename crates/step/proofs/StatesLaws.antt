@@ -8,6 +8,7 @@ use native.Mathlib.Omega.{arith}
 use lib.ListN.{length}
 use Rattle.base.specs.Tests.{_=?_}
 use Rattle.base.proofs.TestLaws.{pick-yes, pick-no, pick-as, both-yes, eq-yes, eq-no}
+use Rattle.base.specs.Bytes.{over}
 use Rattle.format.specs.Types.{State, Context, state}
 use Rattle.format.specs.Range.{fieldsOk, recordOk, contextOk}
 use Rattle.format.specs.Read.{read}
@@ -23,7 +24,7 @@ use Rattle.replication.proofs.WellFormed.Facts.{well-formed-facts}
 use Rattle.replication.proofs.WellFormed.Ranges.{sizes-ok, state-ok, ids-short}
 use Rattle.replication.specs.Laws.RuleFits.{StateCame}
 use Rattle.engine.specs.Layout.{stateSize}
-use Rattle.engine.specs.Image.{modeNumber, over, image}
+use Rattle.engine.specs.Image.{modeNumber, image}
 use Rattle.engine.specs.Holding.{Holds, HoldsSome}
 use Rattle.engine.proofs.InPlace.{holds-some}
 use Rattle.updates.specs.Lists.{CollectRoom}

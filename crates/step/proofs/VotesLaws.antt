@@ -7,7 +7,7 @@ use mathlib.Core.List.{List, [], _∷_, map}
 use mathlib.Core.Logic.{inr}
 use native.Mathlib.Omega.{arith}
 use lib.ListN.{length}
-use Rattle.base.specs.Bytes.{joined}
+use Rattle.base.specs.Bytes.{joined, over}
 use Rattle.base.specs.Lists.{Begins}
 use Rattle.base.proofs.Prefixes.{begins-refl}
 use Rattle.format.specs.Types.{Id, Record, state}
@@ -20,7 +20,7 @@ use Rattle.replication.proofs.WellFormed.Changes.{Body, body, whole, votes-chan
 use Rattle.replication.proofs.WellFormed.Exchanges.{entering-body, unmarked-body}
 use Rattle.replication.proofs.WellFormed.Facts.{well-formed-facts, facts-well-formed}
 use Rattle.replication.proofs.WellFormed.Kept.{mode-kept}
-use Rattle.engine.specs.Image.{over, image}
+use Rattle.engine.specs.Image.{image}
 use Rattle.engine.specs.Outcome.{resultOf, word}
 use Rattle.engine.specs.Holding.{Holds}
 use Rattle.updates.specs.Lists.{configurationOf}

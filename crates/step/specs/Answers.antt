@@ -6,7 +6,7 @@ use mathlib.Core.Bool.{true}
 use mathlib.Core.List.{List, map}
 use lib.ListN.{length}
 use Rattle.base.specs.Tests.{pick}
-use Rattle.base.specs.Bytes.{joined}
+use Rattle.base.specs.Bytes.{joined, over}
 use Rattle.format.specs.Limits.{mostIndex}
 use Rattle.format.specs.Types.{State, Record, state}
 use Rattle.format.specs.Range.{fieldsOk}
@@ -23,7 +23,6 @@ use Rattle.engine.specs.Holding.{Holds}
 use Rattle.step.specs.declared.Answer.{Answer}
 use denote.Ref.{RefT, now}
 use denote.Triple.Both.{Both}
-use Rattle.engine.specs.Image.{over}
 
 -- An answer, and both buffers afterwards.
 unfoldable pub answered : Answer → List ℕ → List ℕ → Result

@@ -3,7 +3,7 @@
 use Prim.Native.Nat.{ℕ, _+_, _*_, _≤_, _<_}
 use mathlib.Core.List.{List, [], _∷_, map}
 use lib.ListN.{length}
-use Rattle.base.specs.Bytes.{numberAt}
+use Rattle.base.specs.Bytes.{numberAt, over}
 use Rattle.format.specs.Limits.{mostPayload}
 use Rattle.format.specs.Types.{Action, Record, action, state}
 use Rattle.format.specs.Read.{payloadAt}
@@ -22,7 +22,6 @@ use Rattle.engine.specs.Counts.{CountsIn, heldCount, place, greenCount, numbere
 use Rattle.format.specs.Places.{mostAction}
 use mathlib.Core.Path.{_≡_}
 use Rattle.base.specs.Patched.{patched}
-use Rattle.engine.specs.Image.{over}
 use Rattle.engine.specs.Holding.{Holds}
 
 -- The numbers of the State that a server with the numbers h sends in the configuration of this id.

@@ -6,7 +6,7 @@ use mathlib.Core.List.{List, [], _∷_, _++_}
 use native.Mathlib.Omega.{arith}
 use lib.ListN.{length, getD, set}
 use lib.Seq.{set-getD}
-use Rattle.base.specs.Bytes.{bytesOf, numberAt}
+use Rattle.base.specs.Bytes.{bytesOf, numberAt, over}
 use Rattle.base.proofs.BytesLaws.{bytes-length, numbers-at}
 use Rattle.base.specs.Lists.{sum}
 use Rattle.base.specs.Patched.{patched}
@@ -14,7 +14,7 @@ use Rattle.base.proofs.Sections.{begin}
 use Rattle.replication.specs.Machine.Types.{Server, withNoted}
 use Rattle.replication.specs.Machine.Colours.{note}
 use Rattle.engine.specs.Layout.{theNoted, sections, offset}
-use Rattle.engine.specs.Image.{over, headerBytes, notedBytes, section, parts, image}
+use Rattle.engine.specs.Image.{headerBytes, notedBytes, section, parts, image}
 use Rattle.engine.specs.Decode.{serversIn, decoded, decodedAs}
 use Rattle.engine.proofs.InRange.{in-range}
 use Rattle.engine.proofs.Used.{noted-length}

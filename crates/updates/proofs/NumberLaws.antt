@@ -10,13 +10,14 @@ use lib.ListN.{length, getD, take, drop, set, take-append-drop}
 use Rattle.base.specs.Lists.{Begins, sum}
 use Rattle.base.specs.Patched.{patched}
 use Rattle.base.proofs.PatchedLaws.{patched-whole}
+use Rattle.base.specs.Bytes.{over}
 use Rattle.format.specs.Types.{Action, State as Collected}
 use Rattle.format.specs.Write.{idsBytes, cutsBytes}
 use Rattle.record.specs.declared.State.{State}
 use Rattle.replication.specs.Machine.Types.{Log, Votes, Membership, Server, noStates}
 use Rattle.replication.specs.Machine.WellFormed.{queue}
 use Rattle.engine.specs.Layout.{stateSize, theHeader, theCuts, theNoted, theHeld, theStates, theYellow, theOwn, theQueue, sections}
-use Rattle.engine.specs.Image.{over, headerBytes, notedBytes, stateOver, statesOver, actionSlots, heldSlots, section, parts, image}
+use Rattle.engine.specs.Image.{headerBytes, notedBytes, stateOver, statesOver, actionSlots, heldSlots, section, parts, image}
 use Rattle.engine.specs.Header.{headerOf, headerWritten}
 use Rattle.engine.proofs.Used.{header-length, slots-append, ids-append, held-append}
 use Rattle.engine.proofs.HeaderLaws.{header-written, written-length}

@@ -7,7 +7,7 @@ use mathlib.Core.List.{List, [], _∷_, _++_, append-assoc, map, head-eq-of-cons
 use mathlib.Core.Logic.{inl, inr}
 use native.Mathlib.Omega.{arith}
 use lib.ListN.{length, getD, set, length-append, length-map}
-use Rattle.base.specs.Bytes.{bytesOf, numberAt, partAt}
+use Rattle.base.specs.Bytes.{bytesOf, numberAt, partAt, over}
 use Rattle.base.proofs.BytesLaws.{bytes-length}
 use Rattle.base.specs.Lists.{sum, after, above}
 use Rattle.base.proofs.ListLaws.{above-length}
@@ -27,7 +27,7 @@ use Rattle.replication.proofs.WellFormed.Effects.{recovered-body}
 use Rattle.replication.proofs.WellFormed.Facts.{well-formed-facts}
 use Rattle.replication.proofs.WellFormed.Logs.{LogFits, ownId}
 use Rattle.engine.specs.Layout.{theHeader, theCuts, theOwn, theQueue, sections, offset, headerSize, atMe, atQueueLength, atNumbered, atOwnCount, slotSize}
-use Rattle.engine.specs.Image.{over, headerBytes, actionSlots, section, parts, image, fields}
+use Rattle.engine.specs.Image.{headerBytes, actionSlots, section, parts, image, fields}
 use Rattle.engine.proofs.InRange.{in-range}
 use Rattle.engine.proofs.Fit.{well-formed-fits}
 use Rattle.engine.proofs.Used.{action-slots-length, slots-append}

@@ -6,7 +6,7 @@ use mathlib.Core.Bool.{true}
 use mathlib.Core.List.{List, [], _∷_, _++_, append-nil, map}
 use native.Mathlib.Omega.{arith}
 use lib.ListN.{length, set, length-append, length-map, replicate}
-use Rattle.base.specs.Bytes.{bytesOf, numberAt, joined}
+use Rattle.base.specs.Bytes.{bytesOf, numberAt, joined, over, zeros, slot}
 use Rattle.base.proofs.BytesLaws.{bytes-length}
 use Rattle.base.specs.Lists.{above, sum}
 use Rattle.base.proofs.ListLaws.{above-length}
@@ -27,7 +27,7 @@ use Rattle.replication.specs.Machine.WellFormed.{idsIn, queue}
 use Rattle.replication.proofs.WellFormed.Facts.{well-formed-facts}
 use Rattle.engine.specs.Layout.{heldSize, slotSize, theHeader, theHeld, theOwn, sections, offset, atMe, atGreenLength, atNumbered, atOwnCount, atHeldCount}
 use Rattle.engine.specs.Header.{headerOf, headerIn}
-use Rattle.engine.specs.Image.{over, zeros, slot, headerBytes, actionSlots, heldSlots, section, parts, image, fields}
+use Rattle.engine.specs.Image.{headerBytes, actionSlots, heldSlots, section, parts, image, fields}
 use Rattle.engine.proofs.Fit.{well-formed-fits}
 use Rattle.engine.proofs.HeaderLaws.{header-loaded}
 use Rattle.engine.proofs.Used.{slot-length, action-slots-length, held-slots-length, slots-append, held-append}

@@ -5,7 +5,7 @@ use mathlib.Core.Path.{_≡_, refl, sym, ap, ap₂, _∙_}
 use mathlib.Core.List.{List, [], _∷_, _++_, append-assoc, append-nil}
 use native.Mathlib.Omega.{arith}
 use lib.ListN.{length, set, length-append}
-use Rattle.base.specs.Bytes.{bytesOf, numberAt, partAt, joined}
+use Rattle.base.specs.Bytes.{bytesOf, numberAt, partAt, joined, over, zeros, slot}
 use Rattle.base.proofs.BytesLaws.{bytes-length}
 use Rattle.base.specs.Lists.{sum, Each}
 use Rattle.base.proofs.Occurs.{Occurs, occurs-first, occurs-second}
@@ -24,7 +24,7 @@ use Rattle.replication.specs.Machine.WellFormed.{queue}
 use Rattle.replication.proofs.WellFormed.Facts.{well-formed-facts}
 use Rattle.engine.specs.Layout.{heldSize, slotSize, theHeader, theHeld, theOwn, sections, offset, stateLength, atNumbered, atOwnCount, atHeldCount}
 use Rattle.engine.specs.Header.{headerOf, headerIn}
-use Rattle.engine.specs.Image.{over, zeros, slot, headerBytes, actionSlots, heldSlots, section, parts, image, fields}
+use Rattle.engine.specs.Image.{headerBytes, actionSlots, heldSlots, section, parts, image, fields}
 use Rattle.engine.proofs.Fit.{well-formed-fits}
 use Rattle.engine.proofs.HeaderLaws.{header-loaded}
 use Rattle.engine.proofs.Used.{held-slot-length, action-slots-length, slots-append}

@@ -10,7 +10,7 @@ use native.Mathlib.Nat.{zero-add, suc-mul, mul-le-mul-right, mul-le-mul}
 use native.Mathlib.Omega.{arith}
 use lib.ListN.{length, getD, take, drop, set, length-set, take-append-drop}
 use lib.Seq.{take-at, drop-at, getD-set-same, getD-set-other, take-append-add, drop-append-add, drop-append-le}
-use Rattle.base.specs.Bytes.{bytesOf, numberAt}
+use Rattle.base.specs.Bytes.{bytesOf, numberAt, over}
 use Rattle.base.proofs.BytesLaws.{bytes-length}
 use Rattle.base.specs.Lists.{isThere, sum, Each}
 use Rattle.base.specs.Patched.{patched}
@@ -24,7 +24,7 @@ use Rattle.format.specs.Write.{write}
 use Rattle.replication.specs.Machine.Types.{Server, contextOf}
 use Rattle.replication.specs.Machine.Step.{withState}
 use Rattle.engine.specs.Layout.{stateSize, theHeader, theStates, sections, sectionSize, offset, stateLength, atServers, atQuota, atStates, mostStateSize, mostStatesAt}
-use Rattle.engine.specs.Image.{over, headerBytes, senders, stateOver, statesOver, section, parts, image, fields}
+use Rattle.engine.specs.Image.{headerBytes, senders, stateOver, statesOver, section, parts, image, fields}
 use Rattle.record.specs.declared.State.{State as Numbers}
 use Rattle.engine.specs.Header.{headerOf, headerIn}
 use Rattle.engine.proofs.HeaderLaws.{header-loaded}

@@ -10,11 +10,12 @@ use Rattle.base.specs.Lists.{sum}
 use Rattle.base.specs.Patched.{patched}
 use Rattle.base.proofs.PatchedLaws.{patched-whole}
 use Rattle.base.proofs.Sections.{begin}
+use Rattle.base.specs.Bytes.{over}
 use Rattle.format.specs.Write.{idsBytes}
 use Rattle.record.specs.declared.State.{State}
 use Rattle.replication.specs.Machine.Types.{Votes, Server, withVotes}
 use Rattle.engine.specs.Layout.{theHeader, theYellow, sections, offset, stateLength}
-use Rattle.engine.specs.Image.{over, headerBytes, section, parts, image}
+use Rattle.engine.specs.Image.{headerBytes, section, parts, image}
 use Rattle.engine.specs.Decode.{serversIn, quotaIn}
 use Rattle.engine.specs.Header.{headerOf, headerIn, headerWritten}
 use Rattle.engine.proofs.HeaderLaws.{header-loaded, header-written, written-length}

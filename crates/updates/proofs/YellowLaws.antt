@@ -9,7 +9,7 @@ use native.Mathlib.Omega.{arith}
 use lib.ListN.{length, set, length-append}
 use Rattle.base.specs.Tests.{_and_, _or_, _=?_}
 use Rattle.base.proofs.TestLaws.{pick-yes, pick-no, both-yes, and-holds, or-fails, not-holds, eq-yes, eq-no}
-use Rattle.base.specs.Bytes.{bytesOf, numberAt, joined}
+use Rattle.base.specs.Bytes.{bytesOf, numberAt, joined, over}
 use Rattle.base.proofs.BytesLaws.{bytes-length}
 use Rattle.base.specs.Lists.{sum}
 use Rattle.base.specs.Patched.{patched}
@@ -23,7 +23,7 @@ use Rattle.format.proofs.IdCount.{ids-count}
 use Rattle.replication.specs.Machine.Types.{Server, Votes, contextOf, withVotes}
 use Rattle.replication.specs.Machine.Colours.{addId, joinYellow}
 use Rattle.engine.specs.Layout.{theHeader, theYellow, sections, offset, atYellowCount}
-use Rattle.engine.specs.Image.{over, headerBytes, section, parts, image, fields}
+use Rattle.engine.specs.Image.{headerBytes, section, parts, image, fields}
 use Rattle.engine.proofs.InRange.{in-range}
 use Rattle.engine.proofs.Used.{ids-append}
 use Rattle.engine.specs.Holding.{Holds}

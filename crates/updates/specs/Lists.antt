@@ -5,7 +5,7 @@ use mathlib.Core.List.{List}
 use mathlib.Core.Path.{_≡_}
 use mathlib.Core.Logic.{_⊎_}
 use lib.ListN.{length}
-use Rattle.base.specs.Bytes.{numberAt, bytesOf}
+use Rattle.base.specs.Bytes.{numberAt, bytesOf, slot}
 use Rattle.base.specs.Lists.{Begins}
 use Rattle.format.specs.Limits.{mostPayload, mostHeld}
 use Rattle.format.specs.Places.{idSize}
@@ -17,7 +17,7 @@ use Rattle.engine.specs.Decode.{serversIn, quotaIn}
 use Rattle.engine.specs.Counts.{greenCount, numberedIn, place, mostActions, CountsIn}
 use Rattle.record.specs.declared.State.{State}
 use Rattle.engine.specs.Header.{headerOf}
-use Rattle.engine.specs.Image.{modeNumber, image, slot}
+use Rattle.engine.specs.Image.{modeNumber, image}
 use Rattle.engine.specs.Holding.{Holds, BecomesWhere}
 use Rattle.replication.specs.Machine.Colours.{joinYellow}
 use Rattle.replication.specs.Machine.Requests.{quotaLeft}

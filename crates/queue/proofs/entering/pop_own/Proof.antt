@@ -4,7 +4,7 @@ use Rattle.queue.proofs.entering.pop_own.Statement.{statement}
 use Rattle.queue.proofs.entering.pop_own.Tie as tie
 use Rattle.queue.proofs.entering.pop_own.Reads as reads
 use Rattle.queue.proofs.entering.pop_own.Lts as lts
-use Rattle.queue.proofs.slots.shift_down.Reads as shift-down-reads
+use Rattle.record.proofs.moves.shift_down.Reads as shift-down-reads
 use Rattle.record.proofs.parts.put16.Reads as put16-reads
 
 mul-end : tie.Need-mul-end

@@ -1,4 +1,4 @@
-use Rattle.queue.proofs.MoveLaws.{down-turn, down-end}
+use Rattle.base.proofs.Shifts.{down-turn, down-end}
 use Rattle.base.specs.Patched.{patched}
 use Rattle.base.proofs.PatchedLaws.{patched-none}
 use lib.ListN.{length, take, drop, length-set}
@@ -6,10 +6,10 @@ use Prim.Native.Nat.{_≤_, _-_}
 use mathlib.Core.Path.{_≡_, sym}
 use native.Mathlib.Omega.{arith}
 use borrow.Author.Needs.{needs}
-use Rattle.queue.proofs.slots.shift_down.Statement.{statement}
-use Rattle.queue.proofs.slots.shift_down.Tie as tie
-use Rattle.queue.proofs.slots.shift_down.Reads as reads
-use Rattle.queue.proofs.slots.shift_down.Lts as lts
+use Rattle.record.proofs.moves.shift_down.Statement.{statement}
+use Rattle.record.proofs.moves.shift_down.Tie as tie
+use Rattle.record.proofs.moves.shift_down.Reads as reads
+use Rattle.record.proofs.moves.shift_down.Lts as lts
 
 abbrev Inv-loop : tie.InvT-loop
 Inv-loop s₀ w n i₀ s i = (i ≤ n) × (n ≡ length s₀ - w) × (length s ≡ length s₀) × (s ≡ patched 0 (take i (drop w s₀)) s₀)

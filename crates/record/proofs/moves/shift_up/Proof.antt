@@ -3,11 +3,11 @@ use native.Mathlib.Omega.{arith}
 use Prim.Native.Nat.{suc, _-_, _≤_}
 use mathlib.Core.Path.{_≡_, ap, _∙_}
 use lib.ListN.{length, length-set}
-use Rattle.queue.proofs.MoveLaws.{shifted, up-turn, up-start, up-end}
-use Rattle.queue.proofs.slots.shift_up.Statement.{statement}
-use Rattle.queue.proofs.slots.shift_up.Tie as tie
-use Rattle.queue.proofs.slots.shift_up.Reads as reads
-use Rattle.queue.proofs.slots.shift_up.Lts as lts
+use Rattle.base.proofs.Shifts.{shifted, up-turn, up-start, up-end}
+use Rattle.record.proofs.moves.shift_up.Statement.{statement}
+use Rattle.record.proofs.moves.shift_up.Tie as tie
+use Rattle.record.proofs.moves.shift_up.Reads as reads
+use Rattle.record.proofs.moves.shift_up.Lts as lts
 
 abbrev Inv-loop : tie.InvT-loop
 Inv-loop s₀ w i₀ s i = (i ≤ length s₀ - w) × (length s ≡ length s₀) × (s ≡ shifted s₀ w i)
