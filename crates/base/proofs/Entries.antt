@@ -1,6 +1,6 @@
 -- Entries of one size, one after another: a test at the place of each, with the laws of a loop over them.
 -- Assumes nothing.
-use Prim.Native.Nat.{ℕ, zero, suc, _+_, _-_, _≤_, _<_}
+use Prim.Native.Nat.{ℕ, zero, suc, _+_, _*_, _-_, _≤_, _<_}
 use mathlib.Core.Path.{_≡_, refl, sym, ap, _∙_}
 use mathlib.Core.Bool.{Bool, true, false, not}
 use mathlib.Core.List.{List}
@@ -52,3 +52,22 @@ pub every-number : (t : ℕ → Bool) (w m : ℕ) (e : List ℕ) (at : ℕ) → 
 unfolding everyAt all numbersAt
 every-number t w zero e at = refl
 every-number t w (suc m) e at = ap (λ (b : Bool). t (numberAt w e at) and b) (every-number t w m e (at + w))
+
+-- ---- every entry, and each
+
+module _ (t : ℕ → Bool) (w : ℕ) where
+  next-entry : (p k : ℕ) → t (p + w + w * k) ≡ t (p + w * suc k)
+  next-entry p k = let e : p + w + w * k ≡ p + w * suc k = omega arith in ap t e
+
+  pub every-each : (m p : ℕ) → everyAt t w m p ≡ true → (k : ℕ) → k < m → t (p + w * k) ≡ true
+  unfolding everyAt
+  every-each zero p h k l = absurd (omega arith)
+  every-each (suc m) p h zero l = let e : p + w * 0 ≡ p = omega arith in ap t e ∙ and-holds _ _ h .0
+  every-each (suc m) p h (suc k) l = sym (next-entry p k) ∙ every-each m (p + w) (and-holds _ _ h .1) k (omega arith)
+
+  pub each-every : (m p : ℕ) → ((k : ℕ) → k < m → t (p + w * k) ≡ true) → everyAt t w m p ≡ true
+  unfolding everyAt
+  each-every zero p f = refl
+  each-every (suc m) p f =
+      let e : p ≡ p + w * 0 = omega arith in
+      both-yes _ _ (ap t e ∙ f 0 (omega arith)) (each-every m (p + w) (λ k l. next-entry p k ∙ f (suc k) (omega arith)))

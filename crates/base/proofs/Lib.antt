@@ -27,3 +27,4 @@ pub mod Members
 pub mod Gathered
 pub mod Branches
 pub mod Shifts
+pub mod Over

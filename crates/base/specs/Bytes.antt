@@ -4,7 +4,7 @@ use Prim.Native.Nat.{ℕ, zero, suc, _+_, _*_, _-_, _/_, _%_, _<_}
 use mathlib.Core.Bool.{Bool, true}
 use mathlib.Core.List.{List, [], _∷_, _++_}
 use lib.ListN.{length, getD, take, drop, replicate}
-use Rattle.base.specs.Tests.{_and_, _<?_}
+use Rattle.base.specs.Tests.{_and_, _<?_, _=?_}
 
 -- Every element is a byte.
 abbrev pub Bytes : List ℕ → Type 0
@@ -54,3 +54,7 @@ zeros m = replicate {A = ℕ} m 0
 -- y filled up with zeros to the size of a slot.
 unfoldable pub slot : ℕ → List ℕ → List ℕ
 slot size y = y ++ zeros (size - length y)
+
+-- The byte at `at` is zero.
+unfoldable pub zeroAt : List ℕ → ℕ → Bool
+zeroAt b at = getD b at 0 =? 0

@@ -68,7 +68,7 @@ module _ (i : Images) (b : Buffers) (e : List ℕ) (k : KeepsWhere (isRecovery e
 
   -- ---- the state that the event comes to
 
-  source-holds : Holds s before
+  pub source-holds : Holds s before
   unfolding sourceOf
   source-holds =
       subst (λ (t : Bool). Holds (pick t (i .store) (i .memory)) before)
@@ -94,7 +94,7 @@ module _ (i : Images) (b : Buffers) (e : List ℕ) (k : KeepsWhere (isRecovery e
       go (fails h) = ap length (sym (source-running b e h)) ∙ z .state
 
   -- A recovery is never refused.
-  refused-running : (m : ℕ) → step s e ≡ refused m → isRecovery e ≡ false
+  pub refused-running : (m : ℕ) → step s e ≡ refused m → isRecovery e ≡ false
   refused-running m h = go (known (isRecovery e))
     where
       go : Known (isRecovery e) → isRecovery e ≡ false
@@ -181,7 +181,7 @@ module _ (i : Images) (b : Buffers) (e : List ℕ) (k : KeepsWhere (isRecovery e
   -- ---- the answer
 
   module _ (o : List ℕ) (room : outLength (i .memory .servers) (i .memory .quota) ≤ length o) where
-    room-here : outLength (s .servers) (s .quota) ≤ length o
+    pub room-here : outLength (s .servers) (s .quota) ≤ length o
     room-here = subst (λ (m : ℕ). m ≤ length o) (λ j. outLength (sym (source-same .servers) j) (sym (source-same .quota) j)) room
 
     pub answered : stepIn b e o ≡ resultOf (arrive i e) (sourceIn b e) o

@@ -34,7 +34,7 @@ module _ {n q : ℕ} {l : Run} (S : AllowedWithStrays n q l) where
       go (fails s) = S .rest .servers (kept (S .stray) p) i (of-event (at-kept (S .stray) l p _ h s))
 
   -- A server that is down takes no event but a recovery.
-  down-recovers : (p i k : ℕ) (e : List ℕ) → at l p ≡ some (event i e k) → worldAt n q l p .down i ≡ true → isRecovery e ≡ true
+  pub down-recovers : (p i k : ℕ) (e : List ℕ) → at l p ≡ some (event i e k) → worldAt n q l p .down i ≡ true → isRecovery e ≡ true
   unfolding heardAt heard
   down-recovers p i k e h d = go (known (S .stray p))
     where
@@ -48,7 +48,7 @@ module _ {n q : ℕ} {l : Run} (S : AllowedWithStrays n q l) where
           subst (λ (b : List ℕ). isRecovery b ≡ true) (sym (event-entry (some-same (sym there ∙ x .here)) .1))
           (recovery-bytes _ (x .bytes) (x .heard))
 
-  store-up : (p i : ℕ) → at l p ≡ some (store i) → worldAt n q l p .down i ≡ false
+  pub store-up : (p i : ℕ) → at l p ≡ some (store i) → worldAt n q l p .down i ≡ false
   store-up p i h = go (known (S .stray p))
     where
       go : Known (S .stray p) → worldAt n q l p .down i ≡ false

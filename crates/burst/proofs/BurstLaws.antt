@@ -13,13 +13,13 @@ use Rattle.burst.specs.declared.slices.Next.{Next}
 use Rattle.burst.specs.declared.slices.Next.the-variants.{Event, Stop}
 use Rattle.burst.specs.Burst.{nextOf, Burst, stopped, ended, behind, silent, afterStep, byNext, burstFrom}
 
-by-stop : (x : Next) (k : ℕ) (s t : ℕ → Burst) → x ≡ Stop k → byNext x s t ≡ s k
+pub by-stop : {A : Type 0} (x : Next) (k : ℕ) (s t : ℕ → A) → x ≡ Stop k → byNext x s t ≡ s k
 unfolding byNext
-by-stop x k s t h = ap (λ (y : Next). byNext y s t) h
+by-stop {A} x k s t h = ap (λ (y : Next). byNext y s t) h
 
-by-event : (x : Next) (m : ℕ) (s t : ℕ → Burst) → x ≡ Event m → byNext x s t ≡ t m
+pub by-event : {A : Type 0} (x : Next) (m : ℕ) (s t : ℕ → A) → x ≡ Event m → byNext x s t ≡ t m
 unfolding byNext
-by-event x m s t h = ap (λ (y : Next). byNext y s t) h
+by-event {A} x m s t h = ap (λ (y : Next). byNext y s t) h
 
 -- ---- one event
 

@@ -80,8 +80,8 @@ silent r = r .store =? 0 and r .sent =? 0
 unfoldable pub afterStep : (b o : List ℕ) → (m : ℕ) → Result → (rest : Burst) → Burst
 afterStep b o m r rest = pick (r .number =? 0) (pick (silent r) (behind 1 m rest) (ended m r)) (stopped (r .number) b o)
 
--- The burst by what comes next.
-unfoldable pub byNext : Next → (stop event : ℕ → Burst) → Burst
+-- By what comes next.
+unfoldable pub byNext : {A : Type 0} → Next → (stop event : ℕ → A) → A
 byNext (Stop k) s t = s k
 byNext (Event m) s t = t m
 

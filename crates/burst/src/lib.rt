@@ -51,7 +51,7 @@ fn is_silent(a: Answer) -> bool
 }
 
 // Over buffers whose number is 0: they stay such, so that no step checks them anew.
-fn take_events(state: &mut [u8], events: &[u8], out: &mut [u8]) -> BurstAnswer
+pub fn take_events(state: &mut [u8], events: &[u8], out: &mut [u8]) -> BurstAnswer
     requires { ⌜ stateNumber (now state) (now out) ≡ 0 ⌝ }
     ensures { λ r. ⌜ left r (now (state .exit)) (now (out .exit)) ≡ burstAll (now (state .entry)) (now (events .entry)) (now (out .entry)) ⌝ }
 {

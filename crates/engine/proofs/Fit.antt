@@ -13,6 +13,7 @@ use Rattle.base.proofs.BytesLaws.{part-length, bytes-append, bytes-joined, byte
 use Rattle.base.specs.Lists.{Each}
 use Rattle.base.proofs.ListLaws.{each-implied}
 use Rattle.base.proofs.Sections.{Sized, Laid, begin-end, sized-rest, sized-length, laid-part}
+use Rattle.base.proofs.Over.{over-length}
 use Rattle.format.specs.Limits.{mostHeld}
 use Rattle.format.specs.Types.{State, Context, state}
 use Rattle.format.specs.Write.{lengthOf}
@@ -25,7 +26,7 @@ use Rattle.replication.specs.Machine.WellFormed.{queue, wellFormed}
 use Rattle.engine.specs.Layout.{stateSize, theCuts, theNoted, theHeld, theStates, theYellow, theOwn, theQueue, sections, sectionSize, offset, stateLength}
 use Rattle.engine.specs.Image.{statesOver, section, parts, image}
 use Rattle.engine.proofs.InRange.{CollectedRange, InRange, in-range}
-use Rattle.engine.proofs.Used.{over-length, over-bytes, ActionFits, action-slots-length, action-slots-bytes, held-slots-length, held-slots-bytes, noted-length, noted-bytes, header-length, header-bytes, StateFits, states-over-length, states-over-bytes}
+use Rattle.engine.proofs.Used.{over-bytes, ActionFits, action-slots-length, action-slots-bytes, held-slots-length, held-slots-bytes, noted-length, noted-bytes, header-length, header-bytes, StateFits, states-over-length, states-over-bytes}
 
 -- The lists of s have room in their sections.
 pub record SectionsFit (s : Server) : Type 0 where

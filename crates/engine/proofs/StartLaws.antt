@@ -18,6 +18,7 @@ use Rattle.base.proofs.Sections.{patchedAll}
 use Rattle.base.specs.Tests.{pick}
 use Rattle.base.proofs.TestLaws.{pick-lt, pick-ge}
 use Rattle.base.proofs.Branches.{pick-answered, pick-denied}
+use Rattle.base.proofs.Over.{zeros-length}
 use Rattle.format.specs.Limits.{fewestServers, leastQuota}
 use Rattle.format.specs.Range.{sizesOk}
 use Rattle.format.specs.Types.{State}
@@ -40,10 +41,6 @@ use Rattle.engine.proofs.InPlace.{SameBut, same-but, image-patched}
 use Rattle.engine.proofs.HeaderLaws.{header-written}
 
 -- ---- zeros
-
-pub zeros-length : (m : ℕ) → length (zeros m) ≡ m
-unfolding zeros
-zeros-length m = length-replicate {A = ℕ} m 0
 
 zeros-append : (m k : ℕ) → zeros m ++ zeros k ≡ zeros (m + k)
 unfolding zeros

@@ -7,6 +7,7 @@ use mathlib.Core.List.{List}
 use native.Mathlib.Omega.{arith}
 use lib.ListN.{length}
 use Rattle.base.specs.Bytes.{joined, over}
+use Rattle.base.proofs.Over.{over-length}
 use Rattle.format.specs.Types.{Action}
 use Rattle.replication.specs.Laws.Order.{SameServer}
 use Rattle.replication.specs.Machine.Types.{Server, taken}
@@ -19,7 +20,6 @@ use Rattle.replication.proofs.WellFormed.Reads.{step-byte-count}
 use Rattle.replication.proofs.WellFormed.Steps.{step-well-formed}
 use Rattle.engine.specs.Layout.{stateLength, outLength}
 use Rattle.engine.specs.Image.{image}
-use Rattle.engine.proofs.Used.{over-length}
 use Rattle.engine.proofs.ImageLaws.{image-length, image-again, read-image}
 use Rattle.engine.specs.Holding.{Holds}
 use Rattle.engine.proofs.Refusals.{Ready}

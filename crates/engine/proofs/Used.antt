@@ -11,6 +11,7 @@ use lib.Seq.{drop-at, take-at}
 use Rattle.base.specs.Bytes.{Bytes, bytesOf, joined, over, zeros, slot}
 use Rattle.base.proofs.BytesLaws.{joined-append, bytes-nil, bytes-small, bytes-append, bytes-cons, bytes-take, bytes-drop, bytes-joined}
 use Rattle.base.specs.Lists.{Each}
+use Rattle.base.proofs.Over.{over-length, over-again, slot-length}
 use Rattle.format.specs.Types.{Id, Action, State, state}
 use Rattle.format.specs.Write.{write, idBytes, idsBytes, actionBytes, payloadBytes, primaryBytes, markBytes}
 use Rattle.format.proofs.Lengths.{action-length, payload-length}
@@ -22,14 +23,6 @@ use Rattle.engine.specs.Image.{configurationBytes, transitionalBytes, he
 
 -- ---- over what was there
 
-pub over-length : (y l : List ℕ) → length y ≤ length l → length (over y l) ≡ length l
-unfolding over
-over-length y l h = simp (length-append, length-drop) (omega arith)
-
-pub over-again : (y l : List ℕ) → over y (over y l) ≡ over y l
-unfolding over
-over-again y l = ap (λ (r : List ℕ). y ++ r) (drop-at y (drop (length y) l) (length y) refl)
-
 pub over-bytes : (y l : List ℕ) → Bytes y → Bytes l → Bytes (over y l)
 unfolding over
 over-bytes y l h k = bytes-append y (drop (length y) l) h (bytes-drop (length y) l k)
@@ -40,10 +33,6 @@ unfolding over
 over-none l = refl
 
 -- ---- slots
-
-pub slot-length : (size : ℕ) (y : List ℕ) → length y ≤ size → length (slot size y) ≡ size
-unfolding slot zeros
-slot-length size y h = simp (length-append, length-replicate) (omega arith)
 
 zeros-bytes : (m : ℕ) → Bytes (zeros m)
 unfolding zeros

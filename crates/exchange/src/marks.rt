@@ -9,7 +9,6 @@ ghost use Rattle.replication.specs.Machine.Exchange.{takenPrimary, sameAttempt,
 ghost use Rattle.replication.specs.Machine.Exchange.{judgedMark, markLeft, ownMark, quorum as hasQuorum};
 ghost use Rattle.exchange.specs.Slots.{Room, stateIn, statesOf, ifMeant};
 ghost use Rattle.exchange.specs.Marks.{against as isAgainst, likewise as isLikewise, joinedWith, withBits, isLeft};
-use crate::primary::linear_vote;
 use crate::primary::taken_attempt;
 use crate::primary::taken_primary;
 use crate::slots::Slots;
@@ -22,6 +21,7 @@ use record::State;
 use record::sets::has;
 use record::sets::inside;
 use record::sets::with_member;
+use votes::linear_vote;
 
 // "A cleared mark is all zeros."
 fn cleared() -> Mark

@@ -1,11 +1,10 @@
 // The primary component that the States decide, the group that sent it, and the attempt: document 01, 'End of exchange'.
 ghost use mathlib.Core.Path.{_≡_};
 ghost use Prim.Native.Nat.{_<_};
-ghost use Rattle.base.specs.Sets.{inSet, withMember, lowestMember};
-ghost use Rattle.format.specs.Limits.{mostServers};
+ghost use Rattle.base.specs.Sets.{inSet, withMember};
 ghost use Rattle.base.specs.Tests.{pick, _and_};
 ghost use Rattle.record.specs.Values.{primaryOf};
-ghost use Rattle.replication.specs.Machine.Exchange.{later as isLater, takenPrimary, samePair, takenAttempt, linearVote};
+ghost use Rattle.replication.specs.Machine.Exchange.{takenPrimary, samePair, takenAttempt};
 ghost use Rattle.exchange.specs.Slots.{Room, stateIn, statesOf, ifMeant};
 ghost use Rattle.exchange.specs.Passing.{Passing};
 ghost use Rattle.exchange.specs.Primary.{laterOf};
@@ -19,31 +18,7 @@ use record::LastPrimary;
 use record::PrimaryIndex;
 use record::sets::has;
 use record::sets::with_member;
-
-// The lowest-numbered member of the set; 8, which is no server, where it is empty.
-fn lowest_member(set: u8) -> usize
-    ensures { λ r. ⌜ r ≡ lowestMember mostServers set ⌝ }
-{
-    u8::trailing_zeros(set) as usize
-}
-
-// "more than half of the taken primary's members here"; document 02, K1: "Exactly half of the last primary now also makes a quorum if it holds that
-// primary's lowest-numbered member."
-pub fn linear_vote(p: LastPrimary, here: u8) -> bool
-    ensures { λ r. ⌜ r ≡ linearVote (primaryOf p) here ⌝ }
-{
-    let set = p.set;
-    let present = set & here;
-    let all = u8::count_ones(set);
-    let twice = 2 * u8::count_ones(present);
-    if all < twice {
-        return true;
-    }
-    if twice != all {
-        return false;
-    }
-    has(present, lowest_member(set))
-}
+use votes::later;
 
 // The last primary in the State of the slot k.
 fn last(v: Slots, state: &[u8], k: usize) -> LastPrimary
@@ -52,19 +27,6 @@ fn last(v: Slots, state: &[u8], k: usize) -> LastPrimary
 {
     let x = head(v, state, k);
     x.last
-}
-
-// Whether r has a higher (index, attempt) than p.
-fn later(p: LastPrimary, r: LastPrimary) -> bool
-    ensures { λ t. ⌜ t ≡ isLater (primaryOf p) (primaryOf r) ⌝ }
-{
-    if p.index.0 < r.index.0 {
-        return true;
-    }
-    if p.index.0 != r.index.0 {
-        return false;
-    }
-    p.attempt.0 < r.attempt.0
 }
 
 fn later_of(p: LastPrimary, r: LastPrimary) -> LastPrimary

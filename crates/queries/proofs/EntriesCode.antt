@@ -50,7 +50,7 @@ module _ (b : List ℕ) (q : QueueIn b) where
       ap length greensIn-read ∙ length-take-le (greenCount b) queued (omega (arith, actions-count (queueCount b) b (place theQueue b), q .counts .green))
 
   -- The next one lies in the slot k.
-  greensIn-next : (k : ℕ) → k < greenCount b → drop k (greensIn b) ≡ actionAt b (slotPlace b k) ∷ drop (suc k) (greensIn b)
+  pub greensIn-next : (k : ℕ) → k < greenCount b → drop k (greensIn b) ≡ actionAt b (slotPlace b k) ∷ drop (suc k) (greensIn b)
   unfolding slotPlace
   greensIn-next k h =
       drop-next (greensIn b) k (actionAt b (place theQueue b + slotSize * k))

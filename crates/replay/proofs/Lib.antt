@@ -1,15 +1,8 @@
-pub mod DecimalLaws
-pub mod Goings
-pub mod InputLaws
-pub mod LineLaws
 pub mod PartCode
 pub mod PartLaws
-pub mod PassCode
-pub mod PassLaws
 pub mod PrintsLaws
 pub mod PrintsParts
 pub mod PrintsTurns
 pub mod ReachedLaws
 pub mod ReadingLaws
-pub mod TurnLaws
 pub mod ShownLaws

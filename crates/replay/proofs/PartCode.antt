@@ -11,14 +11,15 @@ use mir.Syntax.{w8, w64}
 use mir.Val.{Fits}
 use Rattle.base.proofs.BytesLaws.{given-bytes}
 use Rattle.servers.specs.declared.Server.{Server}
-use Rattle.replay.specs.declared.turns.Going.{Going}
-use Rattle.replay.specs.declared.turns.Going.the-variants.{On, Read, Stop}
-use Rattle.replay.specs.declared.passes.Passed.{Passed}
+use Rattle.turns.specs.declared.Going.{Going}
+use Rattle.turns.specs.declared.Going.the-variants.{On, Read, Stop}
+use Rattle.turns.specs.declared.passes.Passed.{Passed}
 use Rattle.replay.specs.declared.Printed.{Printed}
 use Rattle.replay.specs.Reading.{linesRoom, Fed}
-use Rattle.replay.specs.Passes.{Progress, behind, passOf, passed, partOf, asksMore, printed}
-use Rattle.replay.proofs.Goings.{on-read, on-stop}
-use Rattle.replay.proofs.PassLaws.{behind-none}
+use Rattle.turns.specs.Passes.{Progress, behind, passOf, passed}
+use Rattle.replay.specs.Parts.{partOf, asksMore, printed}
+use Rattle.turns.proofs.Goings.{on-read, on-stop}
+use Rattle.turns.proofs.PassLaws.{behind-none}
 use Rattle.replay.proofs.PartLaws.{pass-fed, pass-some, part-next, part-last, fed}
 
 -- What the passes so far have come to: all are what is left, behind them.

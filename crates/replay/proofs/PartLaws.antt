@@ -10,15 +10,16 @@ use Rattle.base.specs.Tests.{_<?_}
 use Rattle.base.proofs.TestLaws.{not-both, Known, holds, fails, known, lt-holds, lt-fails}
 use Rattle.base.specs.Bytes.{Bytes}
 use Rattle.servers.specs.declared.Server.{Server}
-use Rattle.replay.specs.declared.turns.Going.{Going}
-use Rattle.replay.specs.declared.turns.Going.the-variants.{On, Read, Stop}
+use Rattle.turns.specs.declared.Going.{Going}
+use Rattle.turns.specs.declared.Going.the-variants.{On, Read, Stop}
 use Rattle.replay.specs.declared.Printed.{Printed}
-use Rattle.replay.specs.Lines.{lineRoom}
+use Rattle.lines.specs.Lines.{lineRoom}
 use Rattle.replay.specs.Reading.{linesRoom, Fed}
-use Rattle.replay.specs.Turns.{Turned, turnOf}
-use Rattle.replay.specs.Passes.{Progress, none, behind, nextEvent, passFrom, passOf, partFrom, partOf, asksMore, printed}
-use Rattle.replay.proofs.Goings.{on-read, on-stop, Goes, on, read, stop, goes, if-on, if-off}
-use Rattle.replay.proofs.PassLaws.{Feeds, feeds-behind, turn-feeds, turn-some, from-full, from-on, from-end}
+use Rattle.turns.specs.Turns.{Turned, turnOf}
+use Rattle.turns.specs.Passes.{Progress, none, behind, nextEvent, passFrom, passOf}
+use Rattle.replay.specs.Parts.{partFrom, partOf, asksMore, printed}
+use Rattle.turns.proofs.Goings.{on-read, on-stop, Goes, on, read, stop, goes, if-on, if-off}
+use Rattle.turns.proofs.PassLaws.{Feeds, feeds-behind, turn-feeds, turn-some, from-full, from-on, from-end}
 
 -- ---- what a pass takes
 

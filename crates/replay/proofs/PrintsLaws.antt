@@ -23,13 +23,13 @@ use Rattle.servers.specs.declared.Server as declared
 use Rattle.servers.specs.Starting.{freshTable}
 use Rattle.servers.specs.Table.{altered}
 use Rattle.servers.proofs.Tabled.{Tabled, fresh-tabled}
-use Rattle.replay.specs.declared.input.Next.{Next}
-use Rattle.replay.specs.declared.input.Next.the-variants.{Event, Wrong, More, Done}
-use Rattle.replay.specs.declared.turns.Going.the-variants.{On, Read, Stop}
-use Rattle.replay.specs.Input.{setupNumbers, setupOf, nextOf}
-use Rattle.replay.specs.Turns.{lineAt, Turned, turnBy, turnOf}
-use Rattle.replay.proofs.Goings.{on-stop, read-stop}
-use Rattle.replay.proofs.InputLaws.{Whole, whole-event, Comes, wrong, cut, done, comes}
+use Rattle.lines.specs.declared.input.Next.{Next}
+use Rattle.lines.specs.declared.input.Next.the-variants.{Event, Wrong, More, Done}
+use Rattle.turns.specs.declared.Going.the-variants.{On, Read, Stop}
+use Rattle.lines.specs.Input.{setupNumbers, setupOf, nextOf}
+use Rattle.turns.specs.Turns.{lineAt, Turned, turnBy, turnOf}
+use Rattle.turns.proofs.Goings.{on-stop, read-stop}
+use Rattle.lines.proofs.InputLaws.{Whole, whole-event, Comes, wrong, cut, done, comes}
 use Rattle.replay.proofs.ShownLaws.{line-shown, table-shown}
 
 -- ---- the input

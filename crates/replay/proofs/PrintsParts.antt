@@ -18,15 +18,16 @@ use Rattle.replication.specs.Images.{Images}
 use Rattle.replication.specs.Replay.{header, setupLine, events, replay}
 use Rattle.servers.specs.declared.Server.{Server}
 use Rattle.servers.specs.Starting.{freshTable}
-use Rattle.replay.specs.declared.input.Setup.{Setup}
-use Rattle.replay.specs.declared.turns.Going.the-variants.{On, Read, Stop}
-use Rattle.replay.specs.Input.{setupOf}
-use Rattle.replay.specs.Lines.{lineRoom}
-use Rattle.replay.specs.Turns.{Turned, turnOf}
-use Rattle.replay.specs.Passes as passes
-use Rattle.replay.specs.Passes.{Progress, nextEvent, passFrom, passOf, partFrom, partOf, asksMore, partsFrom, printedOf, PrintsReplay}
-use Rattle.replay.proofs.Goings.{on-read, on-stop, read-stop, Goes, on, read, stop, goes}
-use Rattle.replay.proofs.PassLaws.{from-full, from-on, from-end}
+use Rattle.lines.specs.declared.input.Setup.{Setup}
+use Rattle.turns.specs.declared.Going.the-variants.{On, Read, Stop}
+use Rattle.lines.specs.Input.{setupOf}
+use Rattle.lines.specs.Lines.{lineRoom}
+use Rattle.turns.specs.Turns.{Turned, turnOf}
+use Rattle.turns.specs.Passes as passes
+use Rattle.turns.specs.Passes.{Progress, nextEvent, passFrom, passOf}
+use Rattle.replay.specs.Parts.{partFrom, partOf, asksMore, partsFrom, printedOf, PrintsReplay}
+use Rattle.turns.proofs.Goings.{on-read, on-stop, read-stop, Goes, on, read, stop, goes}
+use Rattle.turns.proofs.PassLaws.{from-full, from-on, from-end}
 use Rattle.replay.proofs.PartLaws.{part-on, part-end, part-fed, part-off}
 use Rattle.replay.proofs.PrintsLaws.{prints-setup, prints-start, fresh}
 use Rattle.replay.proofs.PrintsTurns.{Stands, Leads, Right, stops, leads, right-none, right-behind, has-event, waits, step-leads, turn-stops}

@@ -15,15 +15,15 @@ use Rattle.replication.specs.Images.{Images, arrive, leftBy}
 use Rattle.replication.specs.Replay.{tableAfter, events}
 use Rattle.servers.specs.declared.Server.{Server}
 use Rattle.servers.proofs.Tabled.{Tabled}
-use Rattle.replay.specs.declared.input.Next.{Next}
-use Rattle.replay.specs.declared.input.Next.the-variants.{Event, Wrong, More, Done}
-use Rattle.replay.specs.declared.turns.Going.the-variants.{On, Read, Stop}
-use Rattle.replay.specs.Input.{nextOf}
-use Rattle.replay.specs.Turns.{Turned, turnBy, turnOf}
-use Rattle.replay.specs.Passes as passes
-use Rattle.replay.specs.Passes.{Progress, behind, nextEvent}
-use Rattle.replay.proofs.Goings.{on-read, on-stop, read-stop}
-use Rattle.replay.proofs.InputLaws.{whole-event}
+use Rattle.lines.specs.declared.input.Next.{Next}
+use Rattle.lines.specs.declared.input.Next.the-variants.{Event, Wrong, More, Done}
+use Rattle.turns.specs.declared.Going.the-variants.{On, Read, Stop}
+use Rattle.lines.specs.Input.{nextOf}
+use Rattle.turns.specs.Turns.{Turned, turnBy, turnOf}
+use Rattle.turns.specs.Passes as passes
+use Rattle.turns.specs.Passes.{Progress, behind, nextEvent}
+use Rattle.turns.proofs.Goings.{on-read, on-stop, read-stop}
+use Rattle.lines.proofs.InputLaws.{whole-event}
 use Rattle.replay.proofs.PrintsLaws.{prints-event, keeps-event, prints-stop}
 
 -- ---- where the program stands

@@ -12,10 +12,10 @@ use Rattle.base.specs.Tests.{pick}
 use Rattle.replication.specs.Replay.{header, setupLine}
 use Rattle.servers.specs.declared.Server.{Server}
 use Rattle.servers.specs.Starting.{freshTable}
-use Rattle.replay.specs.declared.input.Setup.{Setup}
+use Rattle.lines.specs.declared.input.Setup.{Setup}
 use Rattle.replay.specs.declared.Standing.{Standing}
-use Rattle.replay.specs.Input.{setupOf}
-use Rattle.replay.specs.Passes.{partOf, asksMore, partsFrom, printedOf, PrintsReplay}
+use Rattle.lines.specs.Input.{setupOf}
+use Rattle.replay.specs.Parts.{partOf, asksMore, partsFrom, printedOf, PrintsReplay}
 use Rattle.replay.specs.Reading.{linesRoom, Refilled}
 use Rattle.replay.specs.Advancing.{there, passesAt, Reached, starts, goesOn, ends, ServesReplay}
 use Rattle.replay.proofs.PrintsParts.{text-more, text-last, prints-replay}

@@ -19,7 +19,7 @@ use Rattle.servers.specs.Starting.{freshTable}
 use Rattle.replay.specs.declared.Filled.{Filled}
 use Rattle.replay.specs.declared.Printed.{Printed}
 use Rattle.replay.specs.declared.Standing.{Standing}
-use Rattle.replay.specs.Passes.{partOf, printed}
+use Rattle.replay.specs.Parts.{partOf, printed}
 use Rattle.replay.specs.Reading.{inputRoom, linesRoom, Fed, Refilled}
 use Rattle.replay.specs.Advancing.{there, passesAt, Advanced, starts, goesOn, ends, Served}
 

@@ -29,8 +29,8 @@ use Rattle.servers.specs.Core.{coreOf}
 use Rattle.servers.specs.Table as table
 use Rattle.servers.specs.Table.{altered}
 use Rattle.servers.proofs.Tabled.{Tabled, entry-after, entry-arrives, reply-is, tabled-after}
-use Rattle.replay.specs.Lines.{shownLine}
-use Rattle.replay.specs.Turns.{shownOf, lineAt}
+use Rattle.lines.specs.Lines.{shownLine}
+use Rattle.turns.specs.Turns.{shownOf, lineAt}
 
 -- ---- a line
 

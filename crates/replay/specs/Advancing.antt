@@ -12,8 +12,9 @@ use Rattle.replication.specs.Replay.{header, replay}
 use Rattle.servers.specs.Core.{tableServers, tableQuota}
 use Rattle.servers.specs.Starting.{freshTable}
 use Rattle.replay.specs.declared.Standing.{Standing}
-use Rattle.replay.specs.Input.{setupOf}
-use Rattle.replay.specs.Passes.{Progress, partOf, asksMore}
+use Rattle.lines.specs.Input.{setupOf}
+use Rattle.turns.specs.Passes.{Progress}
+use Rattle.replay.specs.Parts.{partOf, asksMore}
 use Rattle.replay.specs.Reading.{linesRoom, Refilled}
 
 -- The bytes that are there.

@@ -1,6 +1,3 @@
 pub mod Advancing
-pub mod Input
-pub mod Lines
-pub mod Passes
+pub mod Parts
 pub mod Reading
-pub mod Turns

@@ -7,6 +7,7 @@ use mathlib.Core.List.{List, _++_}
 use lib.ListN.{length, take}
 use Rattle.base.specs.Tests.{_=?_}
 use Rattle.io.specs.Counts.{Counts}
+use Rattle.lines.specs.Input.{eventRoom}
 use Rattle.replay.specs.declared.Filled.{Filled}
 use Rattle.replay.specs.declared.Printed.{Printed}
 
@@ -16,10 +17,6 @@ inputRoom = 131072
 
 abbrev pub linesRoom : ℕ
 linesRoom = 16384
-
--- A server byte and the longest event: 2 bytes that say a length, and as many as these can say.
-abbrev pub eventRoom : ℕ
-eventRoom = 65538
 
 -- The bytes taken are there; where more is asked for, what is left is less than a whole event.
 pub record Fed (r : Printed) (input : List ℕ) : Type 0 where

@@ -5,26 +5,20 @@ ghost use Prim.Native.Nat.{_≤_, _<_};
 ghost use lib.ListN.{length};
 ghost use Rattle.io.specs.Counts.{Counts};
 ghost use Rattle.servers.specs.Core.{tableServers};
-ghost use Rattle.replay.specs.Passes.{partOf, printed, PrintsReplay};
+ghost use Rattle.replay.specs.Parts.{partOf, printed, PrintsReplay};
 ghost use Rattle.replay.specs.Reading.{inputRoom, linesRoom, Fed, Refilled};
 ghost use Rattle.replay.specs.Advancing.{Advanced, Served, ServesReplay};
-
-mod input;
-mod line;
-mod passes;
-mod turns;
-
-use input::Setup;
-use input::read_setup;
-use line::HEAD_ROOM;
-use line::header_line;
-use line::setup_line;
-use passes::pass;
+use lines::input::Setup;
+use lines::input::read_setup;
+use lines::line::HEAD_ROOM;
+use lines::line::header_line;
+use lines::line::setup_line;
 use record::blocks::copy;
 use servers::SERVERS;
 use servers::Server;
 use servers::starting::begin;
 use turns::Going;
+use turns::passes::pass;
 
 // More than a server byte and an event, which are at most 65,538 bytes.
 const INPUT_ROOM: usize = 131072;

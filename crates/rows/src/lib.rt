@@ -4,10 +4,12 @@ ghost use Prim.Native.Nat.{_+_};
 ghost use Rattle.base.specs.Tests.{_<?_};
 ghost use Rattle.format.specs.Types.{Action};
 ghost use Rattle.record.specs.Values.{idOf};
-ghost use Rattle.replication.specs.Machine.Types.{Server};
+ghost use Rattle.replication.specs.Machine.Types.{Mode, Server};
 ghost use Rattle.replication.specs.Machine.Requests.{sendsNow, quotaLeft, roomToHold};
 ghost use Rattle.replication.specs.Machine.Rules.{numberedOwn, regularDue, transitionalDue, memberOf, isOf, stateIn, cpcIn};
+ghost use Rattle.engine.specs.Image.{modeNumber};
 ghost use Rattle.engine.specs.Header.{headerOf};
+ghost use Rattle.rows.specs.Modes.{modeAfter};
 use record::State;
 use record::sets::has;
 
@@ -36,6 +38,23 @@ pub fn transitional_due(h: State) -> bool
     ensures { λ r. ⌜ ((s : Server) → h ≡ headerOf s → r ≡ transitionalDue (s .membership)) ⌝ }
 {
     h.transitional_status != 1
+}
+
+// No state's number.
+pub const NO_MODE: u8 = 8;
+
+// The state that a transitional configuration leads to, if it can come.
+pub fn after_transitional(mode: u8) -> u8
+    ensures { λ r. ⌜ ((m : Mode) → mode ≡ modeNumber m → r ≡ modeAfter m) ⌝ }
+{
+    match mode {
+        State::NON_PRIM => State::NON_PRIM,
+        State::REG_PRIM => State::TRANS_PRIM,
+        State::EXCHANGE_STATES => State::NON_PRIM,
+        State::EXCHANGE_ACTIONS => State::NON_PRIM,
+        State::CONSTRUCT => State::NO,
+        _ => NO_MODE,
+    }
 }
 
 // Whether server k is in the last regular set.

@@ -8,6 +8,7 @@ use lib.ListN.{length}
 use Rattle.base.specs.Tests.{_=?_, pick}
 use Rattle.base.proofs.TestLaws.{pick-eq, eq-holds, eq-fails, Known, holds, fails, known}
 use Rattle.base.specs.Bytes.{zeros}
+use Rattle.base.proofs.Over.{zeros-length}
 use Rattle.replication.specs.Laws.Order.{SameServer}
 use Rattle.replication.specs.Machine.Types.{Outcome, refused, taken}
 use Rattle.replication.specs.Images.{Images, arrive, leftBy}
@@ -16,7 +17,6 @@ use Rattle.replication.specs.Runs.Run.{recordsOf}
 use Rattle.engine.specs.Layout.{outLength}
 use Rattle.engine.specs.Outcome.{Result}
 use Rattle.engine.specs.Holding.{Holds}
-use Rattle.engine.proofs.StartLaws.{zeros-length}
 use Rattle.buffers.specs.Buffers.{stepIn, keptAfter}
 use Rattle.buffers.proofs.Keeping as keeping
 use Rattle.buffers.proofs.Arriving as arriving

@@ -8,13 +8,13 @@ use native.Mathlib.Omega.{arith}
 use lib.ListN.{length}
 use Rattle.base.specs.Lists.{sum}
 use Rattle.base.specs.Bytes.{zeros}
+use Rattle.base.proofs.Over.{zeros-length}
 use Rattle.format.specs.Range.{sizesOk}
 use Rattle.replication.specs.Machine.Types.{start}
 use Rattle.replication.specs.Images.{started}
 use Rattle.engine.specs.Layout.{stateSize, sections, stateLength, outLength}
 use Rattle.engine.specs.Outcome as outcome
 use Rattle.engine.specs.Outcome.{startOn}
-use Rattle.engine.proofs.StartLaws.{zeros-length}
 use Rattle.buffers.specs.Buffers.{saved, begun}
 use Rattle.buffers.proofs.Keeping.{begun-keeps}
 use Rattle.servers.specs.declared.Server.{Server}

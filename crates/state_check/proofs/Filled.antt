@@ -11,7 +11,7 @@ use lib.Seq.{drop-cons, getD-take, getD-drop}
 use Rattle.format.specs.Places.{actionPayloadAt, actionHeadSize}
 use Rattle.base.specs.Tests.{_and_}
 use Rattle.base.proofs.TestLaws.{and-holds, both-yes, le-yes, le-holds, eq-yes, eq-holds}
-use Rattle.base.specs.Bytes.{Bytes, numberAt, partAt, zeros, slot}
+use Rattle.base.specs.Bytes.{Bytes, numberAt, partAt, zeros, slot, zeroAt}
 use Rattle.base.proofs.BytesLaws.{part-length, bytes-part}
 use Rattle.base.specs.Lists.{everyAt}
 use Rattle.base.proofs.Occurs.{Occurs, occurs-nil, occurs-append, occurs-first, occurs-second}
@@ -24,7 +24,7 @@ use Rattle.format.proofs.Ranges.{PayloadRange}
 use Rattle.format.proofs.Fields.{payload-read}
 use Rattle.format.proofs.Writing.{payload-written, action-written}
 use Rattle.engine.specs.Layout.{heldSize, slotSize}
-use Rattle.state_check.specs.Slots.{zeroAt, payloadFits, payloadRoom}
+use Rattle.state_check.specs.Slots.{payloadFits, payloadRoom}
 
 -- ---- zeros
 

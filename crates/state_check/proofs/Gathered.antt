@@ -12,6 +12,7 @@ use lib.ListN.{length, getD, set, length-set, replicate, length-replicate}
 use lib.Seq.{getD-set-same, getD-set-other}
 use mir.Syntax.{w8}
 use mir.Val.{Fits}
+use Rattle.base.specs.Bytes.{zeroAt}
 use Rattle.format.specs.Limits.{mostPayload}
 use Rattle.base.specs.Tests.{_and_, _≤?_, _=?_}
 use Rattle.base.proofs.TestLaws.{and-yes, and-no, le-holds, le-fails, eq-yes, eq-no, eq-holds, eq-fails, Known, known, holds, fails}
@@ -19,7 +20,7 @@ use Rattle.base.proofs.Branches.{and-true}
 use Rattle.base.specs.Lists.{everyAt}
 use Rattle.base.proofs.Entries.{every-more}
 use Rattle.record.proofs.OnePass.{getD-zeros}
-use Rattle.state_check.specs.Slots.{Masks, zeroAt}
+use Rattle.state_check.specs.Slots.{Masks}
 
 -- An OR is zero where both are.
 

@@ -9,12 +9,12 @@ use borrow.Author.Tests.{not-true, not-false}
 use Rattle.format.specs.Limits.{mostPayload}
 use Rattle.base.specs.Tests.{_and_, _≤?_, _=?_}
 use Rattle.base.proofs.TestLaws.{and-yes, and-no, le-yes, le-no, eq-yes, eq-no}
-use Rattle.base.specs.Bytes.{numberAt}
+use Rattle.base.specs.Bytes.{numberAt, zeroAt}
 use Rattle.base.specs.Lists.{everyAt}
 use Rattle.format.specs.Types.{Context}
 use Rattle.format.specs.Range.{lengthOk}
 use Rattle.engine.specs.Layout.{heldSize, slotSize}
-use Rattle.state_check.specs.Slots.{zeroAt, payloadFits, payloadRoom, slotFits, withinCutAt, queueSlotFits, ownSlotFits, ownFits, notedAt}
+use Rattle.state_check.specs.Slots.{payloadFits, payloadRoom, slotFits, withinCutAt, queueSlotFits, ownSlotFits, ownFits, notedAt}
 use Rattle.format.specs.Places.{actionPayloadAt, actionGreenAt}
 
 -- ---- payloads

@@ -6,7 +6,7 @@ use mathlib.Core.Bool.{Bool, true}
 use mathlib.Core.List.{List}
 use lib.ListN.{getD}
 use Rattle.base.specs.Tests.{_and_, _≤?_, _=?_}
-use Rattle.base.specs.Bytes.{numberAt}
+use Rattle.base.specs.Bytes.{numberAt, zeroAt}
 use Rattle.base.specs.Lists.{everyAt}
 use Rattle.format.specs.Limits.{mostQuota, mostPayload}
 use Rattle.format.specs.Places.{actionGreenAt, actionPayloadAt}
@@ -14,10 +14,6 @@ use Rattle.format.specs.Types.{Context}
 use Rattle.format.specs.Range.{lengthOk, idsOk}
 use Rattle.record.specs.Values.{idsBy}
 use Rattle.engine.specs.Layout.{heldSize, slotSize}
-
--- A byte that is zero.
-unfoldable pub zeroAt : List ℕ → ℕ → Bool
-zeroAt b at = getD b at 0 =? 0
 
 -- A payload of at most 48 bytes, and zeros behind it: its length stands at `at`, and `room` bytes from there on are its.
 unfoldable pub payloadFits : ℕ → List ℕ → ℕ → Bool

@@ -33,7 +33,7 @@ use Rattle.step.specs.Answers.{answered, outcomeOn, InForce, refusedWith
 use Rattle.step.specs.Events.{Takes}
 use Rattle.step.proofs.AnswerLaws.{Passes, untaken, impossible, outside, passed, passed-fits, not-there, refused-as, quiet-as, stored-as}
 use Rattle.step.proofs.ForceLaws.{numbers-mode, below-eight, OwnNumbered, own-numbered, Member}
-use Rattle.step.proofs.ModeLaws.{in-mode}
+use Rattle.rows.proofs.ModeLaws.{in-mode}
 
 -- ---- an action that they let pass
 

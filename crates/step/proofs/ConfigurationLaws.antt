@@ -22,7 +22,7 @@ use Rattle.engine.proofs.InPlace.{such-fact}
 use Rattle.updates.specs.Lists.{configurationOf}
 use Rattle.step.specs.declared.Answer.{Answer}
 use Rattle.step.specs.Answers.{answered, outcomeOn, LentSuch, InForce, refusedWith, quietly}
-use Rattle.step.specs.Events.{modeAfter}
+use Rattle.rows.specs.Modes.{modeAfter}
 use Rattle.step.proofs.LentFacts.{lent-fact}
 use Rattle.step.proofs.AnswerLaws.{Passes, untaken, impossible, passed, passed-fits, refused-as, quiet-as}
 use Rattle.step.proofs.ModeLaws.{regular-not, no-transitional, leads}

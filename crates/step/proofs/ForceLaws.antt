@@ -17,7 +17,7 @@ use Rattle.engine.specs.Image.{modeNumber}
 use Rattle.engine.specs.Header.{headerOf}
 use Rattle.engine.proofs.InRange.{in-range}
 use Rattle.engine.specs.Holding.{Holds}
-use Rattle.step.proofs.ModeLaws.{at-mode}
+use Rattle.rows.proofs.ModeLaws.{at-mode}
 use Rattle.engine.specs.Decode.{modeNamed}
 
 pub numbers-mode : (h : Numbers) (s : Server) → h ≡ headerOf s → h .mode ≡ modeNumber (s .membership .mode)

@@ -12,6 +12,7 @@ use Rattle.base.proofs.BytesLaws.{joined-append}
 use Rattle.base.specs.Lists.{Each}
 use Rattle.base.proofs.Occurs.{Occurs, occurs-first, occurs-second}
 use Rattle.base.specs.Patched.{patched}
+use Rattle.base.proofs.Over.{over-length}
 use Rattle.format.specs.Types.{Action, Record, action}
 use Rattle.format.specs.Read.{payloadAt}
 use Rattle.format.specs.Write.{write, lengthOf, payloadBytes}
@@ -35,7 +36,7 @@ use Rattle.engine.proofs.Fit.{well-formed-fits}
 use Rattle.engine.proofs.HeaderLaws.{header-loaded}
 use Rattle.engine.specs.Holding.{Holds}
 use Rattle.engine.proofs.InPlace.{holds-decoded}
-use Rattle.engine.proofs.Used.{held-slot-length, over-length}
+use Rattle.engine.proofs.Used.{held-slot-length}
 use Rattle.queue.proofs.Inside.{over-extended}
 use Rattle.step.specs.Answers.{LentSuch, recordBytes}
 use Rattle.step.specs.Sending.{heldPlace, heldHead, heldAction, heldBytes, HeldRoom}

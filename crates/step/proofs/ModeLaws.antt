@@ -1,7 +1,7 @@
 -- States by their numbers: which of them take an event.
 -- Assumes nothing.
 use Prim.Native.Nat.{ℕ, _≤_, _<_}
-use mathlib.Core.Path.{_≡_, refl, sym, ap, subst, _∙_}
+use mathlib.Core.Path.{_≡_, refl, sym, _∙_}
 use mathlib.Core.Bool.{true, false}
 use mathlib.Core.Option.{none, some}
 use native.Mathlib.Omega.{arith}
@@ -12,15 +12,8 @@ use Rattle.replication.specs.Machine.Types.{Mode, Non-prim, Reg-prim, Trans-pri
 use Rattle.replication.specs.Machine.Rules.{leaving, onAction, onRetransmission, onCpc, onRegular, onTransitional}
 use Rattle.engine.specs.Image.{modeNumber}
 use Rattle.engine.specs.Decode.{modeNamed}
-use Rattle.engine.proofs.HeaderRead.{mode-named}
-use Rattle.step.specs.Events.{modeAfter}
-
-pub in-mode : (m : Mode) (k : ℕ) → k ≡ modeNumber m → m ≡ modeNamed k
-in-mode m k e = sym (mode-named m) ∙ ap modeNamed (sym e)
-
--- What holds of the state of this number.
-pub at-mode : (P : Mode → Type 0) (m : Mode) (k : ℕ) → k ≡ modeNumber m → P (modeNamed k) → P m
-at-mode P m k e h = subst P (sym (in-mode m k e)) h
+use Rattle.rows.specs.Modes.{modeAfter}
+use Rattle.rows.proofs.ModeLaws.{at-mode}
 
 -- ---- actions
 
@@ -110,21 +103,6 @@ regular-not k x y z w Exchange-actions c e = refl
 regular-not k x y z w Construct c e = refl
 regular-not k x y z w No c e = absurd (z e)
 regular-not k x y z w Un c e = absurd (y e)
-
--- The number j where it is that of the state which k leads to.
-pub after-as : (j k l : ℕ) → k ≡ l → j ≡ modeAfter (modeNamed l) → (m : Mode) → k ≡ modeNumber m → j ≡ modeAfter m
-after-as j k l h f m e = at-mode (λ n. j ≡ modeAfter n) m l (sym h ∙ e) f
-
-pub after-none : (k : ℕ) → (k ≡ 0 → ⊥) → (k ≡ 1 → ⊥) → (k ≡ 3 → ⊥) → (k ≡ 4 → ⊥) → (k ≡ 5 → ⊥) → (m : Mode) → k ≡ modeNumber m → 8 ≡ modeAfter m
-unfolding modeNumber modeAfter
-after-none k x y z v w Non-prim e = absurd (x e)
-after-none k x y z v w Reg-prim e = absurd (y e)
-after-none k x y z v w Trans-prim e = refl
-after-none k x y z v w Exchange-states e = absurd (z e)
-after-none k x y z v w Exchange-actions e = absurd (v e)
-after-none k x y z v w Construct e = absurd (w e)
-after-none k x y z v w No e = refl
-after-none k x y z v w Un e = refl
 
 pub no-transitional : (m : Mode) (t : ℕ) → modeAfter m ≡ 8 → onTransitional m t ≡ none
 unfolding modeNumber modeAfter onTransitional

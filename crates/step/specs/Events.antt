@@ -14,7 +14,7 @@ use Rattle.record.specs.declared.reader.Reading.the-variants.{Good, Refused}
 use Rattle.record.specs.Context.{readingContext}
 use Rattle.record.specs.Events.{recordOf, actionFrom}
 use Rattle.record.specs.Reading.{PlacedEvent}
-use Rattle.replication.specs.Machine.Types.{Mode, Non-prim, Reg-prim, Trans-prim, Exchange-states, Exchange-actions, Construct, No, Un, Server}
+use Rattle.replication.specs.Machine.Types.{Non-prim, Trans-prim, Exchange-actions, Server}
 use Rattle.replication.specs.Machine.Types.{withLog, inMode, contextOf}
 use Rattle.replication.specs.Machine.Rules.{Rule, onAction, fromMember}
 use Rattle.replication.specs.Laws.RuleFits.{RuleFits, Delivered}
@@ -43,21 +43,6 @@ pub record Takes (mode : ℕ) (a : Action) (s : Server) : Type 0 where
   pub rule : Rule
   pub taken : onAction (s .membership .mode) a ≡ some rule
   pub fits : RuleFits rule s
-
--- No state's number.
-abbrev pub noMode : ℕ
-noMode = 8
-
--- The number of the state that a transitional configuration leads to, if it can come.
-unfoldable pub modeAfter : Mode → ℕ
-modeAfter Non-prim = modeNumber Non-prim
-modeAfter Reg-prim = modeNumber Trans-prim
-modeAfter Trans-prim = noMode
-modeAfter Exchange-states = modeNumber Non-prim
-modeAfter Exchange-actions = modeNumber Non-prim
-modeAfter Construct = modeNumber No
-modeAfter No = noMode
-modeAfter Un = noMode
 
 -- ---- records in the bytes e of an event
 

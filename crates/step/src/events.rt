@@ -11,7 +11,7 @@ ghost use Rattle.engine.specs.Image.{modeNumber};
 ghost use Rattle.engine.specs.Header.{headerOf};
 ghost use Rattle.engine.specs.Holding.{HoldsSuch};
 ghost use Rattle.step.specs.Answers.{LentSuch, InForce, StateInForce, AnswersTo, AnswersToAlone};
-ghost use Rattle.step.specs.Events.{Takes, modeAfter, Colours, FromMember, AnswersState};
+ghost use Rattle.step.specs.Events.{Takes, Colours, FromMember, AnswersState};
 ghost use Rattle.format.specs.Limits.{mostServers};
 use crate::Answer;
 use crate::colours::green_and_note;
@@ -28,6 +28,8 @@ use crate::requests::request;
 use queue::entering::red;
 use record::ActionHead;
 use record::State;
+use rows::NO_MODE;
+use rows::after_transitional;
 use rows::cpc_in;
 use rows::is_member;
 use rows::is_of;
@@ -221,23 +223,6 @@ pub fn on_regular(state: &mut [u8], out: &mut [u8], h: State, id: u32, set: u8) 
         State::NO => join_unmarked(state, out, id, set),
         State::TRANS_PRIM => join_yellow(state, out, id, set),
         _ => Answer::refused(5),
-    }
-}
-
-// No state's number.
-const NO_MODE: u8 = 8;
-
-// The state that a transitional configuration leads to, if it can come.
-fn after_transitional(mode: u8) -> u8
-    ensures { λ r. ⌜ ((m : Mode) → mode ≡ modeNumber m → r ≡ modeAfter m) ⌝ }
-{
-    match mode {
-        State::NON_PRIM => State::NON_PRIM,
-        State::REG_PRIM => State::TRANS_PRIM,
-        State::EXCHANGE_STATES => State::NON_PRIM,
-        State::EXCHANGE_ACTIONS => State::NON_PRIM,
-        State::CONSTRUCT => State::NO,
-        _ => NO_MODE,
     }
 }
 

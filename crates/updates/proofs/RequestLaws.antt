@@ -14,6 +14,7 @@ use Rattle.base.specs.Patched.{patched}
 use Rattle.base.proofs.PatchedLaws.{patched-next}
 use Rattle.base.proofs.Sections.{begin}
 use Rattle.base.proofs.TestLaws.{lt-holds}
+use Rattle.base.proofs.Over.{slot-length}
 use Rattle.format.specs.Limits.{mostHeld, mostPayload}
 use Rattle.format.specs.Types.{Id, Action}
 use Rattle.format.specs.Write.{actionBytes, payloadBytes}
@@ -30,7 +31,7 @@ use Rattle.engine.specs.Header.{headerOf, headerIn}
 use Rattle.engine.specs.Image.{headerBytes, actionSlots, heldSlots, section, parts, image, fields}
 use Rattle.engine.proofs.Fit.{well-formed-fits}
 use Rattle.engine.proofs.HeaderLaws.{header-loaded}
-use Rattle.engine.proofs.Used.{slot-length, action-slots-length, held-slots-length, slots-append, held-append}
+use Rattle.engine.proofs.Used.{action-slots-length, held-slots-length, slots-append, held-append}
 use Rattle.engine.specs.Holding.{Holds}
 use Rattle.engine.proofs.Fields.{theOwnCount, theNumbered, theHeldCount, one-field, two-fields}
 use Rattle.queue.proofs.Holding.{holds-changed}

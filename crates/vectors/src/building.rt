@@ -1,8 +1,6 @@
 // A state's buffer with a configuration and collected States.
 ghost use Prim.Native.Nat.{_≤_};
 ghost use Rattle.format.specs.Limits.{mostServers};
-use crate::patch::patch;
-use crate::patch::put;
 use engine::guzbytor_start;
 use engine::header::load;
 use engine::header::save;
@@ -15,6 +13,8 @@ use record::range::product;
 use record::range::sizes_ok;
 use record::sets::has;
 use record::sets::with_member;
+use vector_tools::patch::patch;
+use vector_tools::patch::put;
 
 // The byte at `at`, and 0 past the end.
 fn byte(s: &[u8], at: usize) -> u8 {

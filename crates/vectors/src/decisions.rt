@@ -6,11 +6,6 @@ ghost use Rattle.engine.specs.Holding.{HoldsSome};
 use crate::building::build;
 use crate::building::number_of;
 use crate::building::senders;
-use crate::output::flag;
-use crate::output::hex;
-use crate::output::labelled;
-use crate::output::number;
-use crate::patch::put;
 use exchange::decided::Part;
 use exchange::decided::all_cpcs_in;
 use exchange::decided::all_states_in;
@@ -27,6 +22,11 @@ use record::StateHead;
 use record::bytes::num8;
 use record::sets::has;
 use state_check::state_number;
+use vector_tools::output::flag;
+use vector_tools::output::hex;
+use vector_tools::output::labelled;
+use vector_tools::output::number;
+use vector_tools::patch::put;
 
 const SERVERS: usize = State::MOST_SERVERS as usize;
 

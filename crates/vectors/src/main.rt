@@ -3,13 +3,13 @@
 // that begins with '=' is the heading of a group. What a line that begins with 'w' says is written again too.
 mod building;
 mod decisions;
-mod output;
 mod patch;
 mod reading;
 mod records;
 mod states;
-mod text;
 mod writing;
+
+use vector_tools::text;
 
 // What the vectors of a group are run through.
 enum Group {

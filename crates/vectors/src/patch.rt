@@ -1,23 +1,7 @@
 // Changed bytes of a state.
-use record::blocks::copy;
 use record::bytes::num8;
 use record::bytes::num16;
-
-// Changes the bytes from `at` on to those of src, if there is room.
-pub fn patch(state: &mut [u8], at: usize, src: &[u8]) {
-    if src.len() > state.len() {
-        return;
-    }
-    if at > state.len() - src.len() {
-        return;
-    }
-    copy(state, at, src);
-}
-
-pub fn put(state: &mut [u8], at: usize, b: u8) {
-    let one: [u8; 1] = [b];
-    patch(state, at, &one);
-}
+use vector_tools::patch::patch;
 
 // Patches one after another: each is a place (2 bytes), a count (1) and so many bytes.
 pub fn patches(state: &mut [u8], e: &[u8]) {

@@ -2,17 +2,17 @@
 ghost use Prim.Native.Nat.{_+_, _*_, _≤_};
 ghost use lib.ListN.{length};
 ghost use Rattle.record.specs.Reading.{PlacedEvent, PlacedAction, PlacedRetransmission, PlacedState, PlacedPayload};
-use crate::output::bytes;
-use crate::output::hex;
-use crate::output::labelled;
-use crate::output::number;
-use crate::output::numbers;
 use record::ActionHead;
 use record::Context;
 use record::StateHead;
 use record::events::ActionAt;
 use record::events::Event;
 use record::events::StateAt;
+use vector_tools::output::bytes;
+use vector_tools::output::hex;
+use vector_tools::output::labelled;
+use vector_tools::output::number;
+use vector_tools::output::numbers;
 
 fn name(kind: u8) {
     match kind {

@@ -1,11 +1,11 @@
 // Vectors for the reader and the writers: the context (servers 1 byte, quota 2, own number 1, configured 1, set 1) and the event.
 ghost use Prim.Native.Nat.{_≤_};
 ghost use lib.ListN.{length};
-use crate::output::numbers;
 use crate::writing;
 use record::Context;
 use record::bytes::num16;
 use record::range::Limits;
+use vector_tools::output::numbers;
 
 fn context(e: &[u8]) -> Context
     requires { ⌜ 6 ≤ length (now e) ⌝ }

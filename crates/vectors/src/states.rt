@@ -6,12 +6,12 @@
 ghost use mathlib.Core.Path.{_≡_};
 ghost use Prim.Native.Nat.{_<_};
 ghost use lib.ListN.{length};
-use crate::patch::patch;
 use crate::patch::patches;
 use engine::guzbytor_start;
 use record::bytes::num8;
 use record::bytes::num16;
 use state_check::state_number;
+use vector_tools::patch::patch;
 
 pub const ROOM: usize = 8192;
 

@@ -1,6 +1,5 @@
 // What was read, written again: into a buffer with exactly enough room for one record or for two, and with one byte too few.
 ghost use Rattle.record.specs.Reading.{PlacedEvent, PlacedAction, PlacedRetransmission, PlacedState};
-use crate::output::bytes;
 use crate::reading;
 use record::Context;
 use record::events::ActionAt;
@@ -12,6 +11,7 @@ use record::writer::write_action;
 use record::writer::write_cpc;
 use record::writer::write_retransmission;
 use record::writer::write_state;
+use vector_tools::output::bytes;
 
 fn action(c: Context, a: ActionAt, e: &[u8], out: &mut [u8], at: usize) -> Written
     requires { ⌜ PlacedAction c a (now e) ⌝ }

@@ -3,8 +3,8 @@ use mathlib.Core.Path.{_≡_}
 use native.Mathlib.Omega.{arith}
 use borrow.Author.Needs.{needs}
 use Rattle.base.specs.Lists.{everyAt}
+use Rattle.base.specs.Bytes.{zeroAt}
 use Rattle.format.specs.Limits.{mostPayload}
-use Rattle.state_check.specs.Slots.{zeroAt}
 use Rattle.state_check.proofs.Gathered.{unread, gather-start, gather-again, gather-end}
 use Rattle.state_check.proofs.slots.zeros.Statement.{statement}
 use Rattle.state_check.proofs.slots.zeros.Tie as tie

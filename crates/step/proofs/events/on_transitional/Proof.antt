@@ -8,7 +8,7 @@ use Rattle.step.proofs.events.on_transitional.Lts as lts
 use Rattle.updates.proofs.membership.leave.Reads as leave-reads
 use Rattle.step.proofs.Answer.quiet.Reads as quiet-reads
 use Rattle.step.proofs.Answer.refused.Reads as refused-reads
-use Rattle.step.proofs.events.after_transitional.Reads as after-transitional-reads
+use Rattle.rows.proofs.after_transitional.Reads as after-transitional-reads
 use Rattle.rows.proofs.transitional_due.Reads as transitional-due-reads
 
 after-transitional-requires : tie.Need-after-transitional-requires

@@ -1,0 +1,4 @@
+pub mod Goings
+pub mod PassCode
+pub mod PassLaws
+pub mod TurnLaws
