@@ -4,10 +4,18 @@ ghost use Rattle.engine.specs.Outcome.{lengthsOf, started, startOn, stateNumber
 ghost use Rattle.step.specs.Answers.{answered};
 ghost use Rattle.burst.specs.Burst.{burstOn, left};
 ghost use Rattle.queries.specs.Queries.{summaryOn, entriesOn, listed};
+ghost use Rattle.pegs.specs.Image.{registerLength};
+ghost use Rattle.pegs.specs.Outcome.{changed, emptyOn, applyOn, findOn};
+ghost use Rattle.register_check.specs.Answers.{located};
+ghost use Rattle.register_step.specs.Answers.{AnswersJointly};
+ghost use Rattle.register_step.specs.Burst.{AnswersAll};
 use burst::BurstAnswer;
 use engine::Lengths;
 use queries::GreenEntries;
 use queries::Summary;
+use register_check::RegisterFind;
+use register_step::RegisterAnswer;
+use register_step::RegisterBurst;
 use step::Answer;
 
 #[no_mangle]
@@ -61,4 +69,56 @@ pub extern "C" fn guzbytor_green_entries(
     ensures { λ r. ⌜ listed r (now (entries .exit)) ≡ entriesOn (now (state .entry)) from (now (entries .entry)) ⌝ }
 {
     queries::guzbytor_green_entries(state, from, entries)
+}
+
+#[no_mangle]
+pub extern "C" fn guzbytor_register_length() -> u32
+    ensures { λ r. ⌜ r ≡ registerLength ⌝ }
+{
+    register_check::guzbytor_register_length()
+}
+
+#[no_mangle]
+pub extern "C" fn guzbytor_register_start(register: &mut [u8]) -> u32
+    ensures { λ r. ⌜ changed r (now (register .exit)) ≡ emptyOn (now (register .entry)) ⌝ }
+{
+    register::guzbytor_register_start(register)
+}
+
+#[no_mangle]
+pub extern "C" fn guzbytor_register_apply(register: &mut [u8], payload: &[u8]) -> u32
+    ensures { λ r. ⌜ changed r (now (register .exit)) ≡ applyOn (now (register .entry)) (now (payload .entry)) ⌝ }
+{
+    register::guzbytor_register_apply(register, payload)
+}
+
+#[no_mangle]
+pub extern "C" fn guzbytor_register_find(register: &[u8], name: &[u8]) -> RegisterFind
+    ensures { λ r. ⌜ located r ≡ findOn (now (register .entry)) (now (name .entry)) ⌝ }
+{
+    register_check::guzbytor_register_find(register, name)
+}
+
+#[no_mangle]
+pub extern "C" fn guzbytor_register_step(
+    state: &mut [u8],
+    register: &mut [u8],
+    event: &[u8],
+    out: &mut [u8],
+) -> RegisterAnswer
+    ensures { λ r. ⌜ AnswersJointly r state register event out ⌝ }
+{
+    register_step::guzbytor_register_step(state, register, event, out)
+}
+
+#[no_mangle]
+pub extern "C" fn guzbytor_register_burst(
+    state: &mut [u8],
+    register: &mut [u8],
+    events: &[u8],
+    out: &mut [u8],
+) -> RegisterBurst
+    ensures { λ r. ⌜ AnswersAll r state register events out ⌝ }
+{
+    register_step::guzbytor_register_burst(state, register, events, out)
 }

@@ -1,0 +1,11 @@
+pub mod Numbers
+pub mod Named
+pub mod Order
+pub mod Sorted
+pub mod Places
+pub mod PegLaws
+pub mod ImageLaws
+pub mod Kept
+pub mod Advance
+pub mod Listed
+pub mod PairsHold

@@ -1,0 +1,5 @@
+pub mod ShapeLaws
+pub mod Made
+pub mod Images
+pub mod Applied
+pub mod Exported

@@ -1,0 +1,10 @@
+pub mod Compared
+pub mod Held
+pub mod Searched
+pub mod Filled
+pub mod Words
+pub mod Checked
+pub mod ReadsLaw
+pub mod CheckCode
+pub mod Millimetres
+pub mod Found

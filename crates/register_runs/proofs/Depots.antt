@@ -1,0 +1,153 @@
+-- At every place of an allowed run, strays included: the depots' states are those of daemons without registers, each register's buffer reads as the
+-- fold of the green list beside it, and the registers agree.
+-- Assumes nothing.
+use Prim.Native.Nat.{ℕ, zero, suc, _<_}
+use mathlib.Core.Path.{_≡_, refl, sym, ap, subst, subst₂, _∙_}
+use mathlib.Core.Bool.{Bool, true, false}
+use mathlib.Core.List.{List, []}
+use mathlib.Core.Option.{Option, none, some}
+use lib.ListN.{length, drop}
+use Rattle.base.specs.Tests.{pick}
+use Rattle.base.specs.Lists.{at}
+use Rattle.replication.specs.Machine.Types.{Server, start}
+use Rattle.replication.specs.Images.{started}
+use Rattle.replication.specs.Runs.Run.{Entry, store, Run, World, beginning, worldAfter, worldAt}
+use Rattle.replication.specs.Runs.Strays.{AllowedWithStrays}
+use Rattle.replication.specs.Runs.Claim.{ListsAgree}
+use Rattle.replication.proofs.Runs.Places.{world-at-start, world-next, world-past}
+use Rattle.engine.specs.Decode.{decoded, greensIn}
+use Rattle.engine.specs.Holding.{Holds}
+use Rattle.engine.proofs.InPlace.{holds-decoded}
+use Rattle.buffers.specs.Buffers.{Buffers}
+use Rattle.buffers.specs.Daemons.{Daemons, daemonsAfter, daemonsAt}
+use Rattle.buffers.specs.Claim.{shown, BuffersDemand}
+use Rattle.buffers.proofs.BufferLaws.{saved-state, saved-store}
+use Rattle.buffers.proofs.Entries.{Kept}
+use Rattle.buffers.proofs.Runs.{down-recovers, store-up, out-room, kept-at, event-keeps}
+use Rattle.buffers.proofs.Agreement.{buffers-demand}
+use Rattle.pegs.specs.Operations.{Peg}
+use Rattle.pegs.specs.Register.{advance}
+use Rattle.pegs.specs.Image.{registerBytes}
+use Rattle.pegs.specs.Outcome.{emptyOn}
+use Rattle.register_runs.specs.Joint.{payloads}
+use Rattle.register_runs.specs.Depots.{begunAll, Depots, Lent, LongEnoughAll, depotsAfter, depotsAt}
+use Rattle.register_runs.specs.Claim.{shownRegister, shownGreen, DepotsFollow, DepotsAgree}
+use Rattle.register_runs.proofs.Agreement.{same-folds, further-fold}
+use Rattle.register_runs.proofs.Holding.{HoldsFold, fold-read, fold-used, fold-empty}
+use Rattle.register_runs.proofs.Joining.{FoldsWhere}
+use Rattle.register_runs.proofs.Entries.{Follows, Fits, entry-follows}
+
+module _ {n q : ℕ} {l : Run} (S : AllowedWithStrays n q l) (x : Lent) (long : LongEnoughAll n q l x) where
+  abbrev world : ℕ → World
+  world p = worldAt n q l p
+
+  abbrev daemons : ℕ → Daemons
+  daemons p = daemonsAt n q l (x .states) p
+
+  abbrev depots : ℕ → Depots
+  depots p = depotsAt n q l x p
+
+  -- ---- the places
+
+  fits : (p i : ℕ) (y : Entry) → at l p ≡ some y → Fits (world p) (daemons p) (x .states .out p) i y
+  fits p i y h = record {
+    recovers = λ e k f d. down-recovers S p i k e (h ∙ ap some f) d;
+    keeps = λ e k f. event-keeps S (x .states) (long .states) p i k e (h ∙ ap some f);
+    room = out-room S (x .states) (long .states) p i;
+    up = λ f. store-up S p i (h ∙ ap some f);
+  }
+
+  begun-folds : (i : ℕ) → i < n → FoldsWhere (Unit {0}) (started (start n q i)) (depots 0 .depot i .registers)
+  unfolding depotsAt begunAll started start
+  begun-folds i b =
+      let made : Buffers = record { state = emptyOn (x .registers i .state) .register; store = x .registers i .store } in
+      record {
+        memory = λ u. subst (HoldsFold []) (saved-state made) (fold-empty (x .registers i .state) (long .registers i b));
+        store = subst (HoldsFold []) (saved-store made) (fold-empty (x .registers i .state) (long .registers i b));
+      }
+
+  follows-at : (p i : ℕ) → i < n → Follows (world p) (daemons p) (depots p) i
+  unfolding daemonsAt daemonsAfter depotsAt depotsAfter begunAll beginning
+  follows-at zero i b =
+      subst (λ (w : World). Follows w (daemons 0) (depots 0) i) (sym (world-at-start n q l))
+      (let f = begun-folds i b in record { down = refl; states = refl; folds = record { memory = λ h. f .memory tt; store = f .store } })
+  follows-at (suc p) i b = go (at l p) refl (follows-at p i b)
+    where
+      next : (y : Option Entry) (w : World) → at l p ≡ y → world (suc p) ≡ w
+          → Follows w (daemonsAfter (daemons p) (x .states .out p) (x .states .crashed p) y)
+          (depotsAfter (depots p) (x .states .out p) (x .states .crashed p) (x .crashed p) y) i
+          → Follows (world (suc p)) (daemons (suc p)) (depots (suc p)) i
+      next y w h e f =
+          coe 1 0
+          (j. Follows (e j) (daemonsAfter (daemons p) (x .states .out p) (x .states .crashed p) (h j))
+          (depotsAfter (depots p) (x .states .out p) (x .states .crashed p) (x .crashed p) (h j)) i) f
+
+      go : (y : Option Entry) → at l p ≡ y → Follows (world p) (daemons p) (depots p) i → Follows (world (suc p)) (daemons (suc p)) (depots (suc p)) i
+      go none h f = next none (world p) h (world-past n q l p h) f
+      go (some y) h f =
+          next (some y) (worldAfter (world p) y) h (world-next n q l p y h)
+          (entry-follows (world p) (daemons p) (depots p) (x .states .out p) (x .states .crashed p) (x .crashed p) i f y (fits p i y h))
+
+  -- ---- what they follow
+
+  kept : (p i : ℕ) → i < n → Kept (length (x .states .first i .state)) (world p) (daemons p) i
+  kept p i b = kept-at S (x .states) (long .states) p i b
+
+  -- The fold of the green list that the state's bytes say.
+  held-fold : (s : Server) (b c r : List ℕ) → c ≡ b → Holds s b → HoldsFold (s .log .green) r → HoldsFold (greensIn c) r
+  unfolding greensIn
+  held-fold s b c r e h f = subst (λ (t : Server). HoldsFold (t .log .green) r) (sym (holds-decoded s b h) ∙ ap decoded (sym e)) f
+
+  memory-fold : (p i : ℕ) → i < n → depots p .down i ≡ false
+      → HoldsFold (greensIn (depots p .depot i .states .state)) (depots p .depot i .registers .state)
+  memory-fold p i b d =
+      let f = follows-at p i b in
+      let k = kept p i b in
+      let up : world p .down i ≡ false = sym (k .down) ∙ sym (f .down) ∙ d in
+      held-fold _ _ _ _ (ap (λ (y : Buffers). y .state) (f .states)) (k .keeps .memory up) (f .folds .memory up)
+
+  store-fold : (p i : ℕ) → i < n → HoldsFold (greensIn (depots p .depot i .states .store)) (depots p .depot i .registers .store)
+  store-fold p i b =
+      let f = follows-at p i b in
+      held-fold _ _ _ _ (ap (λ (y : Buffers). y .store) (f .states)) (kept p i b .keeps .store) (f .folds .store)
+
+  pub depots-follow : DepotsFollow n q l x
+  depots-follow = record {
+    states = λ p i b. follows-at p i b .states;
+    down = λ p i b. follows-at p i b .down;
+    memory = λ p i b d. fold-read _ _ (memory-fold p i b d);
+    store = λ p i b. fold-read _ _ (store-fold p i b);
+  }
+
+  -- ---- agreement
+
+  shown-fold : (p i : ℕ) → i < n → HoldsFold (shownGreen (depots p) i) (shownRegister (depots p) i)
+  unfolding shownGreen shownRegister pick
+  shown-fold p i b = go (depots p .down i) refl
+    where
+      go : (v : Bool) → depots p .down i ≡ v
+          → HoldsFold (greensIn (pick v (depots p .depot i .states .store) (depots p .depot i .states .state)))
+          (pick v (depots p .depot i .registers .store) (depots p .depot i .registers .state))
+      go true d = store-fold p i b
+      go false d = memory-fold p i b d
+
+  shown-green : (p i : ℕ) → i < n → greensIn (shown (daemons p) i) ≡ shownGreen (depots p) i
+  unfolding shownGreen shown
+  shown-green p i b =
+      let f = follows-at p i b in
+      sym (λ j. greensIn (pick (f .down j) (f .states j .store) (f .states j .state)))
+
+  lists : (p i j : ℕ) → i < n → j < n → ListsAgree (shownGreen (depots p) i) (shownGreen (depots p) j)
+  unfolding BuffersDemand
+  lists p i j h k =
+      subst₂ (λ u v. ListsAgree u v) (shown-green p i h) (shown-green p j k)
+      (buffers-demand n q l S (x .states) (long .states) .1 .green p i j h k)
+
+  pub depots-agree : DepotsAgree n q l x
+  depots-agree = record {
+    equal = λ p i j h k e.
+        fold-used _ _ (shown-fold p i h) ∙ ap registerBytes (same-folds _ _ (lists p i j h k) e) ∙ sym (fold-used _ _ (shown-fold p j k));
+    further = λ p i j h k e.
+        shown-fold p j k .pegs ∙ further-fold _ _ (lists p i j h k) e
+        ∙ ap (λ (r : List Peg). advance r (payloads (drop (length (shownGreen (depots p) i)) (shownGreen (depots p) j)))) (sym (shown-fold p i h .pegs));
+  }

@@ -1,0 +1,76 @@
+-- Buffers that hold the fold of a green list.
+-- Assumes nothing.
+use Prim.Native.Nat.{ℕ, _≤_}
+use mathlib.Core.Path.{_≡_, refl, sym, ap, subst, _∙_}
+use mathlib.Core.Bool.{Bool, true}
+use mathlib.Core.List.{List, [], _++_}
+use mathlib.Core.Option.{some}
+use lib.ListN.{length}
+use Rattle.base.specs.Lists.{Each}
+use Rattle.base.specs.Bytes.{Bytes}
+use Rattle.base.proofs.TestLaws.{pick-ge}
+use Rattle.base.proofs.ListLaws.{each-second, each-implied, each-map}
+use Rattle.format.specs.Types.{Action}
+use Rattle.replication.specs.Machine.Types.{Server, taken}
+use Rattle.replication.specs.Machine.Step.{step}
+use Rattle.replication.specs.Machine.WellFormed.{wellFormed}
+use Rattle.replication.specs.Machine.WellFormedRanges.{ActionFits}
+use Rattle.replication.proofs.Step.Growth.{green-gained}
+use Rattle.replication.proofs.WellFormed.Facts.{well-formed-facts}
+use Rattle.replication.proofs.WellFormed.Steps.{step-well-formed}
+use Rattle.pegs.specs.Operations.{Peg}
+use Rattle.pegs.specs.Register.{advance, registerOf}
+use Rattle.pegs.specs.Image.{registerLength, registerBytes, registerImage, pegsIn, readRegister, usedIn}
+use Rattle.pegs.specs.Outcome.{registerShort, registerNumber, Changed, changed, emptyOn}
+use Rattle.pegs.proofs.ImageLaws.{pegs-image, image-number, number-zero, used-is}
+use Rattle.pegs.proofs.Advance.{formed-empty, applied-all}
+use Rattle.register_runs.specs.Joint.{payloads, carried}
+use Rattle.register_runs.proofs.Folds.{fold-append}
+
+-- The buffer r holds the register that is the fold of the green list l.
+pub record HoldsFold (l : List Action) (r : List ℕ) : Type 0 where
+  pub number : registerNumber r ≡ 0
+  pub pegs : pegsIn r ≡ registerOf (payloads l)
+
+module _ (l : List Action) (r : List ℕ) (h : HoldsFold l r) where
+  pub fold-read : readRegister r ≡ some (registerOf (payloads l))
+  fold-read = number-zero r (h .number) .read ∙ ap (λ (x : List Peg). some x) (h .pegs)
+
+  pub fold-used : usedIn r ≡ registerBytes (registerOf (payloads l))
+  fold-used = used-is r (number-zero r (h .number)) ∙ ap registerBytes (h .pegs)
+
+  pub fold-carried : (g : List Action) → Each Bytes (payloads g) → HoldsFold (l ++ g) (carried g r)
+  unfolding carried
+  fold-carried g b =
+      let a = applied-all (payloads g) r (h .number) b in
+      record { number = a .number; pegs = a .pegs ∙ ap (λ (x : List Peg). advance x (payloads g)) (h .pegs) ∙ sym (fold-append l g) }
+
+empty-is : (r : List ℕ) → registerLength ≤ length r → emptyOn r .register ≡ registerImage [] r
+unfolding emptyOn registerShort changed
+empty-is r h = ap (λ (x : Changed). x .register) (sym (pick-ge (length r) registerLength (changed 0 (registerImage [] r)) _ _ h refl))
+
+pub fold-empty : (r : List ℕ) → registerLength ≤ length r → HoldsFold [] (emptyOn r .register)
+unfolding registerOf payloads advance
+fold-empty r h =
+    subst (HoldsFold []) (sym (empty-is r h)) (record { number = image-number [] r formed-empty h; pegs = pegs-image [] r formed-empty h })
+
+-- ---- payloads are bytes
+
+green-bytes : (s : Server) → wellFormed s ≡ true → Each (λ a. Bytes (a .payload)) (s .log .green)
+green-bytes s ok =
+    each-implied (ActionFits (s .servers) (s .quota)) (λ a. Bytes (a .payload)) (λ a f. f .payload .bytes) (s .log .green)
+    (well-formed-facts s ok .log .green)
+
+module _ (s : Server) (e : List ℕ) (t : Server) (rs : List (List ℕ)) (w : Bool) (g : List Action) (h : step s e ≡ taken t rs w g) where
+  gained-bytes : wellFormed s ≡ true → Each Bytes (payloads g)
+  unfolding payloads
+  gained-bytes ok =
+      each-map Bytes (λ (a : Action). a .payload) g
+      (each-second (λ a. Bytes (a .payload)) (s .log .green) g
+      (subst (Each (λ a. Bytes (a .payload))) (green-gained s e t rs w g h) (green-bytes t (step-well-formed s e t rs w g ok h))))
+
+  -- The register of the state that an event comes to, carried on by what the event turns green, is that of the state that it leaves.
+  pub holds-taken : wellFormed s ≡ true → (r : List ℕ) → HoldsFold (s .log .green) r → HoldsFold (t .log .green) (carried g r)
+  holds-taken ok r k =
+      subst (λ (l : List Action). HoldsFold l (carried g r)) (sym (green-gained s e t rs w g h))
+      (fold-carried (s .log .green) r k g (gained-bytes ok))

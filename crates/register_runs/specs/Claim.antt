@@ -1,0 +1,75 @@
+-- Registers over runs: each is the fold of its server's green list, and over allowed runs they agree as the green lists do.
+-- Assumes nothing.
+use Prim.Native.Nat.{ℕ, _≤_, _<_}
+use mathlib.Core.Path.{_≡_}
+use mathlib.Core.Bool.{false}
+use mathlib.Core.List.{List}
+use mathlib.Core.Option.{some}
+use lib.ListN.{length, drop}
+use Rattle.base.specs.Tests.{pick}
+use Rattle.format.specs.Types.{Action}
+use Rattle.replication.specs.Runs.Run.{Run, worldAt}
+use Rattle.replication.specs.Runs.Strays.{AllowedWithStrays}
+use Rattle.replication.specs.Runs.Claim.{storedGreen, memoryGreen, greenAt}
+use Rattle.engine.specs.Decode.{greensIn}
+use Rattle.buffers.specs.Daemons.{daemonsAt}
+use Rattle.pegs.specs.Operations.{Peg}
+use Rattle.pegs.specs.Register.{advance, registerOf}
+use Rattle.pegs.specs.Image.{pegsIn, readRegister, usedIn}
+use Rattle.register_runs.specs.Joint.{payloads}
+use Rattle.register_runs.specs.Registers.{registersAt}
+use Rattle.register_runs.specs.Depots.{Depots, Lent, LongEnoughAll, depotsAt}
+
+-- ---- the machine's
+
+module _ (n q : ℕ) (l : Run) where
+  -- At every moment, in memory and in store, the register is the fold of that server's green list.
+  pub record RegistersFold : Type 0 where
+    pub memory : (p i : ℕ) → registersAt n q l p i .memory ≡ registerOf (payloads (memoryGreen n q l p i))
+    pub store : (p i : ℕ) → registersAt n q l p i .store ≡ registerOf (payloads (storedGreen n q l p i))
+
+  -- The register of a server: from memory, or from the store while it is down.
+  unfoldable pub registerAt : ℕ → ℕ → List Peg
+  registerAt p i = pick (worldAt n q l p .down i) (registersAt n q l p i .store) (registersAt n q l p i .memory)
+
+  -- Equally long green lists have equal registers; otherwise the longer's register is the shorter's, carried on.
+  pub record RegistersAgree : Type 0 where
+    pub equal : (p i j : ℕ) → i < n → j < n → length (greenAt n q l p i) ≡ length (greenAt n q l p j) → registerAt p i ≡ registerAt p j
+    pub further : (p i j : ℕ) → i < n → j < n → length (greenAt n q l p i) ≤ length (greenAt n q l p j)
+        → registerAt p j ≡ advance (registerAt p i) (payloads (drop (length (greenAt n q l p i)) (greenAt n q l p j)))
+
+-- ---- in the buffers of daemons
+
+-- The register's buffer of a server: its stored image while it is down; and the state's.
+unfoldable pub shownRegister : Depots → ℕ → List ℕ
+shownRegister d i = pick (d .down i) (d .depot i .registers .store) (d .depot i .registers .state)
+
+unfoldable pub shownGreen : Depots → ℕ → List Action
+shownGreen d i = greensIn (pick (d .down i) (d .depot i .states .store) (d .depot i .states .state))
+
+module _ (n q : ℕ) (l : Run) (x : Lent) where
+  abbrev depots : ℕ → Depots
+  depots p = depotsAt n q l x p
+
+  -- The states' buffers are those of daemons without registers, so all that is proved of these holds of them. Each register's buffer reads as the
+  -- fold of the green list in the state's buffer beside it.
+  pub record DepotsFollow : Type 0 where
+    pub states : (p i : ℕ) → i < n → depots p .depot i .states ≡ daemonsAt n q l (x .states) p .buffers i
+    pub down : (p i : ℕ) → i < n → depots p .down i ≡ daemonsAt n q l (x .states) p .down i
+    pub memory : (p i : ℕ) → i < n → depots p .down i ≡ false
+        → readRegister (depots p .depot i .registers .state) ≡ some (registerOf (payloads (greensIn (depots p .depot i .states .state))))
+    pub store : (p i : ℕ) → i < n
+        → readRegister (depots p .depot i .registers .store) ≡ some (registerOf (payloads (greensIn (depots p .depot i .states .store))))
+
+  pub record DepotsAgree : Type 0 where
+    -- "equal registers, byte for byte in use"
+    pub equal : (p i j : ℕ) → i < n → j < n → length (shownGreen (depots p) i) ≡ length (shownGreen (depots p) j)
+        → usedIn (shownRegister (depots p) i) ≡ usedIn (shownRegister (depots p) j)
+    pub further : (p i j : ℕ) → i < n → j < n → length (shownGreen (depots p) i) ≤ length (shownGreen (depots p) j)
+        → pegsIn (shownRegister (depots p) j)
+        ≡ advance (pegsIn (shownRegister (depots p) i)) (payloads (drop (length (shownGreen (depots p) i)) (shownGreen (depots p) j)))
+
+pub record RegistersClaim : Type 0 where
+  pub folds : (n q : ℕ) (l : Run) → RegistersFold n q l
+  pub agree : (n q : ℕ) (l : Run) → AllowedWithStrays n q l → RegistersAgree n q l
+  pub depots : (n q : ℕ) (l : Run) → AllowedWithStrays n q l → (x : Lent) → LongEnoughAll n q l x → DepotsFollow n q l x × DepotsAgree n q l x

@@ -1,0 +1,4 @@
+pub mod Joint
+pub mod Registers
+pub mod Depots
+pub mod Claim

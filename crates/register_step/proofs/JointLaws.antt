@@ -1,0 +1,148 @@
+-- The joint step beside the engine's own: the same answer, and the register carried on by what turned green.
+-- Assumes nothing.
+use Prim.Native.Nat.{ℕ, _+_, _≤_, _<_}
+use mathlib.Core.Path.{_≡_, refl, sym, ap, subst, _∙_}
+use mathlib.Core.Bool.{Bool, true, false}
+use mathlib.Core.List.{List, []}
+use native.Mathlib.Omega.{arith}
+use lib.ListN.{length, drop}
+use Rattle.base.specs.Bytes.{numberAt, joined, over}
+use Rattle.base.specs.Tests.{_and_, _or_, _<?_, _=?_, pick}
+use Rattle.base.proofs.TestLaws.{Known, known, holds, fails, pick-yes, pick-no, pick-ne, and-yes, and-no, lt-yes, lt-no}
+use Rattle.base.proofs.Branches.{or-yes, or-no}
+use Rattle.format.specs.Types.{Action}
+use Rattle.replication.specs.Machine.Types.{Server, Outcome, refused, taken}
+use Rattle.replication.specs.Machine.Step.{step}
+use Rattle.replication.proofs.Step.Growth.{green-gained}
+use Rattle.engine.specs.Layout.{atGreenLength}
+use Rattle.engine.specs.Counts.{greenCount}
+use Rattle.engine.specs.Image.{image}
+use Rattle.engine.specs.Decode.{decoded, reads, greensIn}
+use Rattle.engine.specs.Holding.{Holds}
+use Rattle.engine.specs.Outcome.{Result, refusal, word, tooShort, resultOf, stepOn, stateNumber, imageNumber}
+use Rattle.engine.proofs.InPlace.{holds-decoded, holds-header}
+use Rattle.engine.proofs.Refusals.{zero-whole, zero-ready, zero-read, number-short, number-unread, number-read, step-read}
+use Rattle.engine.proofs.Taken.{taken-holds}
+use Rattle.queue.specs.Queue.{QueueIn}
+use Rattle.queue.proofs.ReadLaws.{holds-queue}
+use Rattle.queries.proofs.EntriesCode.{greensIn-count}
+use Rattle.burst.proofs.KeptLaws.{step-kept}
+use Rattle.pegs.specs.Image.{registerLength, registerReads}
+use Rattle.pegs.specs.Outcome.{registerShort, registerNumber}
+use Rattle.pegs.proofs.Advance.{AppliedAll, applied-all}
+use Rattle.step.specs.declared.Answer.{Answer}
+use Rattle.step.specs.Answers.{answered}
+use Rattle.register_runs.specs.Joint.{Joint, unjoined, payloads, carried, jointOf, jointNumber, jointOn}
+use Rattle.register_runs.proofs.JointLaws.{joint-zero, joint-number, zero-joint, stepPart, joint-step, joint-read}
+use Rattle.register_step.specs.declared.carrying.Carried.{Carried}
+use Rattle.register_step.specs.declared.RegisterAnswer.{RegisterAnswer}
+use Rattle.register_step.specs.Carrying.{carryOn, carriedBy}
+use Rattle.register_step.specs.Answers.{joined as answeredWith, refusedWith}
+use Rattle.register_step.proofs.Gains.{Gains, gains-none, gained-bytes, gains-carried, gains-longer}
+
+-- ---- the buffers' number, as the code finds it
+
+module _ (b r o : List ℕ) where
+  pub joint-brief : length r < registerLength → _≡_ {A = ℕ} 7 (jointNumber b r o)
+  unfolding jointNumber registerShort
+  joint-brief h = go (known (tooShort b o))
+    where
+      go : Known (tooShort b o) → _≡_ {A = ℕ} 7 (pick (tooShort b o or length r <? registerLength) 7 (pick (reads b and registerReads r) 0 8))
+      go (holds t) = pick-yes _ 7 _ _ (sym (or-yes (tooShort b o) (length r <? registerLength) t)) refl
+      go (fails t) = pick-yes _ 7 _ _ (sym (or-no true (tooShort b o) (length r <? registerLength) t (sym (lt-yes (length r) registerLength h)))) refl
+
+  module _ (long : registerLength ≤ length r) (k : ℕ) (is-k : k ≡ stateNumber b o) where
+    long-either : (tooShort b o or registerShort r) ≡ tooShort b o
+    unfolding registerShort
+    long-either = go (known (tooShort b o))
+      where
+        go : Known (tooShort b o) → (tooShort b o or length r <? registerLength) ≡ tooShort b o
+        go (holds t) = sym (or-yes (tooShort b o) (length r <? registerLength) t) ∙ sym t
+        go (fails t) = sym (or-no false (tooShort b o) (length r <? registerLength) t (sym (lt-no (length r) registerLength long))) ∙ sym t
+
+    by-register : jointNumber b r o ≡ pick (tooShort b o) 7 (pick (reads b and registerReads r) 0 8)
+    unfolding jointNumber
+    by-register = ap (λ (t : Bool). pick t 7 (pick (reads b and registerReads r) 0 8)) long-either
+
+    pub joint-state : (k ≡ 0 → ⊥) → k ≡ jointNumber b r o
+    joint-state n = is-k ∙ go (known (tooShort b o)) (known (reads b))
+      where
+        go : Known (tooShort b o) → Known (reads b) → stateNumber b o ≡ jointNumber b r o
+        go (holds t) u = number-short b o t ∙ sym (by-register ∙ sym (pick-yes (tooShort b o) 7 _ _ t refl))
+        go (fails t) (holds u) = absurd (n (is-k ∙ number-read b o t u))
+        go (fails t) (fails u) =
+            number-unread b o t u
+            ∙ sym (by-register ∙ sym (pick-no (tooShort b o) 8 _ _ t (pick-no (reads b and registerReads r) 8 _ _ (sym (and-no (reads b) (registerReads r) u)) refl)))
+
+    module _ (z : k ≡ 0) (t : Bool) (is-t : t ≡ registerReads r) where
+      by-reads : jointNumber b r o ≡ pick t 0 8
+      by-reads =
+          let y = zero-read b o (sym is-k ∙ z) in
+          by-register ∙ sym (pick-no (tooShort b o) (pick t 0 8) _ _ (y .0) (ap (λ (u : Bool). pick u 0 8) (and-yes t (reads b) (registerReads r) (y .1) is-t)))
+
+      pub joint-reads : t ≡ true → _≡_ {A = ℕ} 0 (jointNumber b r o)
+      joint-reads e = sym (by-reads ∙ sym (pick-yes t 0 _ _ e refl))
+
+      pub joint-unread : t ≡ false → _≡_ {A = ℕ} 8 (jointNumber b r o)
+      joint-unread e = sym (by-reads ∙ sym (pick-no t 8 _ _ e refl))
+
+-- ---- one event
+
+module _ (b r e o : List ℕ) (z : jointNumber b r o ≡ 0) where
+  abbrev x : Result
+  x = stepOn b e o
+
+  abbrev y : Joint
+  y = jointOn b r e o
+
+  state-zero : stateNumber b o ≡ 0
+  state-zero = joint-zero b r o z .0
+
+  register-zero : registerNumber r ≡ 0
+  register-zero = joint-zero b r o z .1
+
+  machine : x ≡ resultOf (step (decoded b) e) b o
+  machine = step-read b e o (decoded b) (zero-read b o state-zero .0) (zero-ready b o state-zero .read)
+
+  by-outcome : (P : Result → Joint → Type 0) → ((w : Outcome (List ℕ)) → step (decoded b) e ≡ w → P (resultOf w b o) (jointOf w b r o)) → P x y
+  by-outcome P h = subst (λ (v : Result). P v y) (sym machine) (subst (P (resultOf (step (decoded b) e) b o)) (sym (joint-read b r e o z)) (h (step (decoded b) e) refl))
+
+  pub joint-gains : Gains b r (x .state) (y .register) (y .greened) (y .refused)
+  unfolding resultOf jointOf refusal unjoined greensIn
+  joint-gains = by-outcome (λ v w. Gains b r (v .state) (w .register) (w .greened) (w .refused)) go
+    where
+      go : (w : Outcome (List ℕ)) → step (decoded b) e ≡ w
+          → Gains b r (resultOf w b o .state) (jointOf w b r o .register) (jointOf w b r o .greened) (jointOf w b r o .refused)
+      go (refused k) h = gains-none b r
+      go (taken t rs w g) h =
+          let new : Holds t (image t b) = taken-holds (decoded b) e t rs w g h b (zero-ready b o state-zero .image) in
+          record {
+            gained = g;
+            greens = ap (λ (s : Server). s .log .green) (holds-decoded t (image t b) new) ∙ green-gained (decoded b) e t rs w g h;
+            greened = refl;
+            refused = refl;
+            register = refl;
+          }
+
+  state-kept : stateNumber (x .state) (x .out) ≡ 0
+  state-kept = step-kept b e o state-zero
+
+  state-whole : imageNumber (x .state) ≡ 0
+  state-whole = zero-whole (x .state) (x .out) state-kept
+
+  -- The next event need not check them.
+  pub joint-kept : jointNumber (x .state) (y .register) (x .out) ≡ 0
+  unfolding carried
+  joint-kept =
+      let g = joint-gains in
+      zero-joint (x .state) (y .register) (x .out) state-kept
+      (ap registerNumber (g .register) ∙ applied-all (payloads (g .gained)) r register-zero (gained-bytes state-whole g) .number)
+
+  -- "no refusal changes anything lent"
+  pub refused-joint : (x .number ≡ 0 → ⊥) → y ≡ unjoined (x .number) b r o
+  unfolding resultOf jointOf refusal
+  refused-joint = by-outcome (λ v w. (v .number ≡ 0 → ⊥) → w ≡ unjoined (v .number) b r o) go
+    where
+      go : (w : Outcome (List ℕ)) → step (decoded b) e ≡ w → (resultOf w b o .number ≡ 0 → ⊥) → jointOf w b r o ≡ unjoined (resultOf w b o .number) b r o
+      go (refused k) h n = refl
+      go (taken t rs w g) h n = absurd (n refl)

@@ -1,0 +1,58 @@
+// Green actions of a state applied to the register.
+ghost use mathlib.Core.Path.{_≡_};
+ghost use Prim.Native.Nat.{_+_, _≤_};
+ghost use lib.ListN.{length, drop};
+ghost use Rattle.base.specs.Bytes.{numberAt};
+ghost use Rattle.format.specs.Places.{actionPayloadAt, actionHeadSize};
+ghost use Rattle.format.specs.Read.{actionAt};
+ghost use Rattle.engine.specs.Decode.{greensIn};
+ghost use Rattle.pegs.specs.Outcome.{registerNumber};
+ghost use Rattle.register_step.specs.Carrying.{AppliedOne, CarryReady, carryOn, carriedBy};
+use engine::places::THE_QUEUE;
+use engine::places::place_of;
+use record::ActionHead;
+use record::State;
+use record::bytes::num8;
+use record::bytes::num32;
+use register::apply;
+
+// How many actions were applied, and how many operations of them were refused.
+pub struct Carried {
+    pub greened: u32,
+    pub refused: u32,
+}
+
+// The payload of the action in the slot from `slot` on is applied: 1 where it is refused, else 0.
+fn apply_slot(state: &[u8], slot: usize, register: &mut [u8]) -> u32
+    requires { ⌜ slot + actionHeadSize + numberAt 1 (now state) (slot + actionPayloadAt) ≤ length (now state) ⌝ }
+    requires { ⌜ registerNumber (now register) ≡ 0 ⌝ }
+    ensures { λ r. ⌜ AppliedOne (actionAt (now (state .entry)) slot) (now (register .entry)) r (now (register .exit)) ⌝ }
+{
+    let m = num8(state, slot + ActionHead::PAYLOAD) as usize;
+    let from = slot + ActionHead::SIZE;
+    let end = from + m;
+    if apply(register, &state[from..end]) == 0 {
+        return 0;
+    }
+    1
+}
+
+// Those behind the first `from`, in their order.
+pub fn carry(state: &[u8], register: &mut [u8], from: u32) -> Carried
+    requires { ⌜ CarryReady (now state) from (now register) ⌝ }
+    ensures { λ r. ⌜ carriedBy r (now (register .exit)) ≡ carryOn (drop from (greensIn (now (state .entry)))) (now (register .entry)) ⌝ }
+{
+    let green = num32(state, State::AT_GREEN_LENGTH);
+    let queue = place_of(state, THE_QUEUE);
+    let mut k = from;
+    let mut refused: u32 = 0;
+    while k < green {
+        let slot = queue + State::SLOT * k as usize;
+        refused += apply_slot(state, slot, register);
+        k += 1;
+    }
+    Carried {
+        greened: green - from,
+        refused,
+    }
+}

@@ -1,0 +1,149 @@
+// Events at one server that keeps a register, over the lent buffers: the engine's step, then every action that it turned green applied in order.
+ghost use mathlib.Core.Path.{_≡_};
+ghost use Rattle.register_runs.specs.Joint.{jointNumber};
+ghost use Rattle.register_step.specs.Answers.{refusedWith, AnswersJointly, AllRead};
+ghost use Rattle.register_step.specs.Burst.{AnswersAll};
+
+pub mod carrying; // carrying.rt: green actions applied to the register
+
+use burst::take_events;
+use carrying::carry;
+use record::State;
+use record::bytes::num32;
+use register_check::checking::register_reads;
+use register_check::layout::REGISTER_LENGTH;
+use state_check::state_number;
+use step::taking::step;
+
+// The number returned, the store word (1: state and register are stored first, as one), how many bytes of records the outgoing buffer begins with,
+// how many actions turned green, and how many operations of them were refused.
+#[repr(C)]
+pub struct RegisterAnswer {
+    pub number: u32,
+    pub store: u32,
+    pub sent: u32,
+    pub greened: u32,
+    pub refused: u32,
+}
+
+impl RegisterAnswer {
+    // "no refusal changes anything lent"
+    fn refused(number: u32) -> RegisterAnswer
+        ensures { λ r. ⌜ r ≡ refusedWith number ⌝ }
+    {
+        RegisterAnswer {
+            number,
+            store: 0,
+            sent: 0,
+            greened: 0,
+            refused: 0,
+        }
+    }
+}
+
+// 7 where one of the buffers is too short, then 8 where one does not read, else 0.
+fn joint_number(state: &[u8], register: &[u8], out: &[u8]) -> u32
+    ensures { λ r. ⌜ r ≡ jointNumber (now (state .entry)) (now (register .entry)) (now (out .entry)) ⌝ }
+{
+    if register.len() < REGISTER_LENGTH {
+        return 7;
+    }
+    let number = state_number(state, out);
+    if number != 0 {
+        return number;
+    }
+    if register_reads(register) { 0 } else { 8 }
+}
+
+// Over buffers whose number is 0: the engine's step, then what it turned green.
+fn take_event(state: &mut [u8], register: &mut [u8], event: &[u8], out: &mut [u8]) -> RegisterAnswer
+    requires { ⌜ AllRead state register out ⌝ }
+    ensures { λ r. ⌜ AnswersJointly r state register event out ⌝ }
+{
+    let green = num32(state, State::AT_GREEN_LENGTH);
+    let a = step(state, event, out);
+    if a.number != 0 {
+        return RegisterAnswer::refused(a.number);
+    }
+    let c = carry(state, register, green);
+    RegisterAnswer {
+        number: 0,
+        store: a.store,
+        sent: a.sent,
+        greened: c.greened,
+        refused: c.refused,
+    }
+}
+
+// One event at one server with its register: the buffers' own number first, then the event.
+#[no_mangle]
+pub extern "C" fn guzbytor_register_step(
+    state: &mut [u8],
+    register: &mut [u8],
+    event: &[u8],
+    out: &mut [u8],
+) -> RegisterAnswer
+    ensures { λ r. ⌜ AnswersJointly r state register event out ⌝ }
+{
+    let number = joint_number(state, register, out);
+    if number != 0 {
+        return RegisterAnswer::refused(number);
+    }
+    take_event(state, register, event, out)
+}
+
+// As a burst's answer, with how many actions all its events turned green, and how many operations of these were refused.
+#[repr(C)]
+pub struct RegisterBurst {
+    pub number: u32,
+    pub store: u32,
+    pub sent: u32,
+    pub greened: u32,
+    pub refused: u32,
+    pub events: usize,
+    pub bytes: usize,
+}
+
+// Over buffers whose number is 0: the engine's burst, then all that it turned green.
+fn take_burst(state: &mut [u8], register: &mut [u8], events: &[u8], out: &mut [u8]) -> RegisterBurst
+    requires { ⌜ AllRead state register out ⌝ }
+    ensures { λ r. ⌜ AnswersAll r state register events out ⌝ }
+{
+    let from = num32(state, State::AT_GREEN_LENGTH);
+    let a = take_events(state, events, out);
+    let c = carry(state, register, from);
+    RegisterBurst {
+        number: a.number,
+        store: a.store,
+        sent: a.sent,
+        greened: c.greened,
+        refused: c.refused,
+        events: a.events,
+        bytes: a.bytes,
+    }
+}
+
+// Many events at one server with its register: each buffer is checked once.
+#[no_mangle]
+pub extern "C" fn guzbytor_register_burst(
+    state: &mut [u8],
+    register: &mut [u8],
+    events: &[u8],
+    out: &mut [u8],
+) -> RegisterBurst
+    ensures { λ r. ⌜ AnswersAll r state register events out ⌝ }
+{
+    let number = joint_number(state, register, out);
+    if number != 0 {
+        return RegisterBurst {
+            number,
+            store: 0,
+            sent: 0,
+            greened: 0,
+            refused: 0,
+            events: 0,
+            bytes: 0,
+        };
+    }
+    take_burst(state, register, events, out)
+}
