@@ -1,6 +1,6 @@
 #!/bin/sh
 # Builds the archive and times it (bench/README.md): the state check against one pass over the same bytes and against the same check in plain C, steps
-# against memcpy, and bursts against steps over runs that it records first.
+# against memcpy, bursts against steps over runs that it records first, and the register, alone and beside the state, against plain C.
 set -eu
 cd "$(dirname "$0")/.."
 sh scripts/dist.sh
@@ -11,9 +11,11 @@ compile() {
 compile -O3 -c bench/one_pass.c -o target/bench/one_pass.o
 compile bench/pass.c bench/full_state.c target/bench/one_pass.o dist/libguzbytor.a -o target/bench/pass
 compile bench/state_check.c bench/full_state.c bench/plain_check.c dist/libguzbytor.a -o target/bench/state_check
-compile bench/step.c bench/full_state.c dist/libguzbytor.a -o target/bench/step
+compile bench/step.c bench/trial.c bench/full_state.c dist/libguzbytor.a -o target/bench/step
 compile bench/record.c dist/libguzbytor.a -o target/bench/record
 compile bench/burst.c target/bench/one_pass.o dist/libguzbytor.a -o target/bench/burst
+compile bench/register.c bench/made_pegs.c bench/plain_register.c target/bench/one_pass.o dist/libguzbytor.a -o target/bench/register
+compile bench/register_step.c bench/trial.c bench/full_state.c bench/made_pegs.c bench/plain_register.c dist/libguzbytor.a -o target/bench/register_step
 target/bench/pass
 target/bench/state_check
 target/bench/step
@@ -22,3 +24,5 @@ for size in "3 16" "6 256" "8 256"; do
     target/bench/record $size "target/bench/$(echo $size | tr ' ' _).run"
 done
 target/bench/burst target/bench/3_16.run target/bench/6_256.run target/bench/8_256.run
+target/bench/register
+target/bench/register_step

@@ -1,6 +1,7 @@
 #!/usr/bin/env python3
 """Writes every recorded file of the repository from the stories and tables of vectors under samples/sources: what programs are given, what they
-must print, and the run that crates/examples proves allowed. What must come out is computed by scripts/model, a plain implementation of document 01.
+must print, and the run that crates/examples proves allowed. What must come out is computed by scripts/model, a plain implementation of documents 01
+and 02.
 The numbers in include/, docs/LAYOUT.md and docs/RECORDS.md come from model/layout.py; scripts/picture.sh draws docs/reunion.svg.
 
 usage: generate.py            writes the files that are not as they should be, and names them
@@ -12,7 +13,7 @@ import sys
 import tempfile
 from pathlib import Path
 
-from model import c_header, decision_vectors, layout_page, proof_files, record_vectors, records_page, state_vectors, story
+from model import c_header, decision_vectors, layout_page, proof_files, record_vectors, records_page, register_vectors, state_vectors, story
 
 TOP = Path(__file__).resolve().parent.parent
 SOURCES = 'samples/sources/'
@@ -51,7 +52,9 @@ def vector_files():
         group = module.vectors(source(name + '.vectors'))
         given += ['= ' + name] + group[0]
         expected += ['= ' + name] + group[1]
-    return {'crates/vectors/stdin': text_of(given), 'crates/vectors/stdout': text_of(expected)}
+    pegs = register_vectors.vectors(source('register.vectors'))
+    return {'crates/vectors/stdin': text_of(given), 'crates/vectors/stdout': text_of(expected),
+            'crates/register_vectors/stdin': text_of(pegs[0]), 'crates/register_vectors/stdout': text_of(pegs[1])}
 
 
 def files():

@@ -1,6 +1,7 @@
 #!/bin/sh
 # Runs the office (examples/c/office) by the seeds 1 to COUNT, with every number of depots and many quotas: each run must end with all depots in one
-# primary component with equal green lists. Runs that `replay` can take are recorded, and its lines compared with the office's own.
+# primary component with equal green lists, and the register that they make. Runs that `replay` can take are recorded, and its lines compared with the
+# office's own. Then a register as a table and as a sheet (examples/c/sheet.c), which must be those under docs/.
 # usage: office.sh [COUNT]       (default 1000)
 set -eu
 cd "$(dirname "$0")/.."
@@ -9,7 +10,11 @@ out=target/office
 mkdir -p "$out"
 rt check replay
 sh scripts/dist.sh
-"${CC:-cc}" -std=c11 -D_POSIX_C_SOURCE=200809L -Wall -Wextra -O2 -Idist -Iinclude examples/c/office/*.c dist/libguzbytor.a -o "$out/office"
+compile() {
+    "${CC:-cc}" -std=c11 -D_POSIX_C_SOURCE=200809L -Wall -Wextra -O2 -Idist -Iinclude -Iexamples/c -Ibench "$@"
+}
+compile examples/c/office/*.c bench/plain_register.c dist/libguzbytor.a -o "$out/office"
+compile examples/c/sheet.c dist/libguzbytor.a -o "$out/sheet"
 
 # Runs a seed; with a fourth word it is recorded too.
 run() {
@@ -40,9 +45,16 @@ while [ "$seed" -lt "$count" ]; do
     target/bin/replay <"$out/run.bin" >"$out/replay.txt"
     if cmp "$out/lines.txt" "$out/replay.txt"; then same=$((same + 1)); fi
 done
-awk '{ events += $3; crashes += $5; green += $7 } END { print events " events, " crashes " crashes, " green " green" }' "$out/all.txt"
+awk '{ events += $3; crashes += $5; green += $7; refused += $9; pegs += $11 }
+    END { print events " events, " crashes " crashes, " green " green, of these " refused " refused by the register, " pegs " pegs" }' "$out/all.txt"
 echo "$equal of $count seeds ended equal; replay prints the same lines for $same of $recorded recorded"
 [ "$equal" -eq "$count" ] && [ "$same" -eq "$recorded" ] || exit 1
+
+# A run's register: the table, and the sheet (docs/STORY.md).
+"$out/office" 7 -n 3 -q 16 -u -d "$out/depots" -p "$out/pegs.img" >/dev/null
+"$out/sheet" "$out/pegs.img" >"$out/pegs.txt"
+"$out/sheet" -s "$out/pegs.img" >"$out/sheet.svg"
+cmp docs/sheet.svg "$out/sheet.svg"
 
 # A daemon refuses an image of another number of depots, of another depot, and one that is damaged.
 refuses() {

@@ -1,8 +1,8 @@
 """Numbers as C constants: those that a daemon needs, in include/guzbytor.h, and the layout, in include/guzbytor_layout.h."""
 import re
 
-from . import layout, records
-from .layout import ACTION, FRAME, HEADER, ID, LAST, MARK, MODES, STATE_FRONT, STATE_REST, places, size
+from . import layout, records, register
+from .layout import ACTION, FRAME, HEADER, ID, LAST, MARK, MODES, PEG, PEG_COUNT, STATE_FRONT, STATE_REST, places, size
 
 
 def named(prefix, fields):
@@ -25,6 +25,11 @@ PUBLIC = (
         ('FEWEST_SERVERS', layout.FEWEST_SERVERS), ('MOST_SERVERS', layout.MOST_SERVERS), ('LEAST_QUOTA', layout.LEAST_QUOTA),
         ('MOST_QUOTA', layout.MOST_QUOTA), ('MOST_PAYLOAD', layout.MOST_PAYLOAD), ('MOST_HELD', layout.MOST_HELD)]),
     ('The longest green entry that a reading puts.', [('MOST_ENTRY', size(ID) + 1 + layout.MOST_PAYLOAD)]),
+    ('Operations on the register: a payload\'s first byte.', [('SET', register.SET), ('MOVE', register.MOVE), ('RETIRE', register.RETIRE)]),
+    ('The register\'s buffer, and its limits.', [
+        ('MOST_PEGS', layout.MOST_PEGS), ('MOST_NAME', layout.MOST_NAME), ('REGISTER_COUNT_SIZE', size(PEG_COUNT)),
+        ('REGISTER_AT_NAME', places(PEG)['name'][0]), ('REGISTER_AT_PLACE', places(PEG)['easting'][0]), ('REGISTER_PEG_SIZE', size(PEG)),
+        ('REGISTER_LENGTH', layout.REGISTER_LENGTH)]),
 )
 GROUPS = (
     ('The state\'s image: fields of its header, which come first.', named('AT_', HEADER) + [('HEADER_SIZE', size(HEADER))]

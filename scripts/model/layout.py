@@ -1,9 +1,10 @@
-"""Limits, and where the parts of a record and of the state's image lie (docs/LAYOUT.md): each size is named here and nowhere else."""
+"""Limits, and where the parts of a record, of the state's image and of the register lie (docs/LAYOUT.md): each size is named here and nowhere else."""
 
 FEWEST_SERVERS, MOST_SERVERS = 2, 8
 LEAST_QUOTA, MOST_QUOTA = 1, 256
 MOST_PAYLOAD, MOST_HELD = 48, 16
 MOST_INDEX = 4_000_000_000
+MOST_PEGS, MOST_NAME = 4096, 24
 
 # By their numbers.
 MODES = ('Non_prim', 'Reg_prim', 'Trans_prim', 'Exchange_states', 'Exchange_actions', 'Construct', 'No', 'Un')
@@ -24,6 +25,12 @@ HEADER = (
     + (('queue.count', 4), ('green', 4), ('numbered', 2), ('own.count', 2), ('held.count', 2), ('attempt', 4))
     + LAST + MARK + (('yellow.status', 1), ('yellow.count', 2))
 )
+
+# The register: how many pegs there are, then a slot for each. A payload that it takes: what stands in front of the name, and where a peg is put.
+PEG_COUNT = (('count', 2),)
+PLACE = (('easting', 4), ('northing', 4))
+PEG = (('length', 1), ('name', MOST_NAME)) + PLACE
+OPERATION = (('operation', 1), ('length', 1))
 
 # Fields of the header whose value every image has; another value is 8.
 FIXED = {'layout': 9}
@@ -73,6 +80,21 @@ def state_length(n, q):
 
 def out_length(n, q):
     return 2 * MOST_RETRANSMISSION * n * q
+
+
+REGISTER_LENGTH = size(PEG_COUNT) + size(PEG) * MOST_PEGS
+
+
+def in_register(name):
+    """(offset, width) of a part of the register by its name: `count`, or a slot's number and its field, as `0`, `2.length`, `2.name`, `2.name.23`."""
+    if name == 'count':
+        return places(PEG_COUNT)[name]
+    peg, *words = name.split('.')
+    at = size(PEG_COUNT) + size(PEG) * int(peg)
+    if not words:
+        return (at, size(PEG))
+    offset, width = places(PEG)[words[0]]
+    return (at + offset + int(words[1]), 1) if words[1:] else (at + offset, width)
 
 
 def sizes_ok(n, q):

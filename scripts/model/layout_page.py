@@ -1,12 +1,12 @@
-"""The numbers of docs/LAYOUT.md: offsets, the header's size, where sections begin, both formulas and their values. The page's words are written by hand."""
+"""The numbers of docs/LAYOUT.md: offsets, the header's size, where sections begin, the formulas and their values. The page's words are written by hand."""
 import re
 
-from . import layout
-from .layout import HEADER, size
+from . import layout, tables
+from .layout import HEADER, MOST_PEGS, PEG, PEG_COUNT, REGISTER_LENGTH, size
 
 
 def with_offsets(text):
-    """Each row of the first table begins behind the row before it."""
+    """Each row of the header's table begins behind the row before it."""
     at = 0
 
     def moved(row):
@@ -75,7 +75,31 @@ def with_sections(text):
     return re.sub(r'^\| (%s) \| [^|]* (?:\| [\d,]+ ){%d}\|$' % (names, len(columns)), filled, text, flags=re.M)
 
 
+# What follows the count in a register's buffer.
+SLOTS = '%d × %s' % (size(PEG), f'{MOST_PEGS:,}')
+
+
+def with_formulas(text):
+    text = re.sub(r'^State: \d+ \+', 'State: %d +' % size(HEADER), text, flags=re.M)
+    return re.sub(r'^Register: .* = [\d,]*\d', 'Register: %d + %s = %s' % (size(PEG_COUNT), SLOTS, f'{REGISTER_LENGTH:,}'), text, flags=re.M)
+
+
+def with_register(text):
+    text = re.sub(r'begins at \d+ \+ \d+ k', 'begins at %d + %d k' % (size(PEG_COUNT), size(PEG)), text)
+    return tables.with_places(text, 0, [size(PEG_COUNT), (SLOTS, SLOTS)])
+
+
 def page(text):
-    text = with_lengths(with_offsets(text))
-    text = re.sub(r'^\| header \| \d+ \| the', '| header | %d | the' % size(HEADER), text, flags=re.M)
-    return with_sections(re.sub(r'^State: \d+ \+', 'State: %d +' % size(HEADER), text, flags=re.M))
+    found = []
+    for title, section in tables.sections(text):
+        if title == 'Fields':
+            section = with_sections(with_offsets(section))
+            section = re.sub(r'^\| header \| \d+ \| the', '| header | %d | the' % size(HEADER), section, flags=re.M)
+        elif title == 'Required lengths':
+            section = with_lengths(with_formulas(section))
+        elif title == 'The register\'s buffer':
+            section = with_register(section)
+        elif title == 'A peg\'s slot':
+            section = tables.with_places(section, 0, [w for _, w in PEG])
+        found.append(section)
+    return ''.join(found)

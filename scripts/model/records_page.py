@@ -1,10 +1,11 @@
-"""The numbers of docs/RECORDS.md: where each field of a record lies and how long records are, and the bytes of its worked example. The page's words
+"""The numbers of docs/RECORDS.md: where each field of a record lies and how long records are, and the bytes of its worked examples. The page's words
 are written by hand."""
 import re
 
-from . import records, words
-from .layout import ACTION, CUT, FRAME, ID, RETRANSMISSION_HEAD, STATE_FRONT, STATE_REST, size
+from . import records, register, register_vectors, words
+from .layout import ACTION, CUT, FRAME, ID, OPERATION, PLACE, REGISTER_LENGTH, RETRANSMISSION_HEAD, STATE_FRONT, STATE_REST, size
 from .machine import Server, step
+from .tables import sections, with_places
 
 # What a body ends with: its size, and how long the whole may be.
 PAYLOAD = ('the rest', 'payload')
@@ -26,6 +27,10 @@ BODIES = {
 # An entry of guzbytor_green_entries has no frame.
 ENTRY = [w for _, w in ID] + [1, PAYLOAD]
 
+# A payload that the register takes: a retire ends behind the name.
+NAME = ('k', 'k')
+PEG_OPERATION = [w for _, w in OPERATION] + [NAME] + [w for _, w in PLACE]
+
 # The worked example: words of an event, or None: what was sent last comes back; and what is said of it.
 EXAMPLE = (
     ('regular 3 {2}', 'regular configuration 3 {2}'),
@@ -35,33 +40,17 @@ EXAMPLE = (
     ('recovery', 'recovery, after a crash, with the stored image'),
 )
 SERVERS, QUOTA, ME = 3, 16, 2
+# The register's, from the empty one.
+OPERATIONS = (
+    ('set "P3" 1204500 -1', 'set P3 at 1,204.500 metres east and 0.001 south'),
+    ('set "P10" 250000 80000', 'set P10, which stands before P3: its second byte is lower'),
+    ('set "P3" 0 0', 'set P3: it is there'),
+    ('move "P3" 1204750 0', 'move P3'),
+    ('retire "P10"', 'retire P10: what is behind the last peg stays, and is never read'),
+    ('retire "P4"', 'retire P4: it is not there'),
+    ('set "" 1 1', 'a name of no bytes'),
+)
 BYTES_A_LINE = 24
-
-
-def summed(parts):
-    return ' + '.join(str(p) for p in parts if p)
-
-
-def rows(at, fields):
-    """(offset, size) of each field, and the length of the whole."""
-    found, fixed, more = [], at, []
-    for width in fields:
-        found.append((summed([fixed] + more) or '0', width if isinstance(width, int) else width[0]))
-        if isinstance(width, int):
-            fixed += width
-        else:
-            more.append(width[1])
-    return found, summed([fixed] + more)
-
-
-def with_places(section, at, fields):
-    """The section with the first two cells of each row of its table, and its length."""
-    found, length = rows(at, fields)
-    left = list(found)
-    text = re.sub(r'^\| [^|]*\d[^|]* \| [^|]* \|', lambda _: '| %s | %s |' % left.pop(0), section, flags=re.M)
-    if left:
-        raise SystemExit('docs/RECORDS.md: rows are missing in' + section.split('\n')[0])
-    return re.sub(r'^Length: .*\.$', 'Length: %s.' % length, text, flags=re.M)
 
 
 def hexed(first, data):
@@ -84,16 +73,28 @@ def example():
     return '```\n' + '\n'.join(lines[:-1]) + '\n```'
 
 
+def operations():
+    buffer, lines = register.start(bytes(REGISTER_LENGTH))[1], []
+    for said, label in OPERATIONS:
+        data = register_vectors.payload_of(words.Words(said))
+        (number,), buffer = register.apply(buffer, data)
+        lines += ['-- ' + label] + hexed('bytes', data) + ['%-6s %d' % ('number', number)]
+        lines += ([] if number else hexed('pegs', register.used(register.read(buffer)))) + ['']
+    return '```\n' + '\n'.join(lines[:-1]) + '\n```'
+
+
 def page(text):
-    sections = re.split(r'(?=^## )', text, flags=re.M)
-    for k, section in enumerate(sections):
-        title = re.sub(r'^## (?:\d )?', '', section.split('\n')[0])
+    found = []
+    for title, section in sections(text):
         if title in BODIES:
-            sections[k] = with_places(section, size(FRAME), BODIES[title])
+            section = with_places(section, size(FRAME), BODIES[title])
         elif title == 'Frame':
-            sections[k] = with_places(section, 0, [w for _, w in FRAME])
+            section = with_places(section, 0, [w for _, w in FRAME])
         elif title == 'Green entries':
-            sections[k] = with_places(section, 0, ENTRY)
+            section = with_places(section, 0, ENTRY)
         elif title == 'A worked example':
-            sections[k] = re.sub(r'```\n.*?```', lambda _: example(), section, flags=re.S)
-    return ''.join(sections)
+            section = re.sub(r'```\n.*?```', lambda _: example(), section, flags=re.S)
+        elif title == 'Operations on the register':
+            section = re.sub(r'```\n.*?```', lambda _: operations(), with_places(section, 0, PEG_OPERATION), flags=re.S)
+        found.append(section)
+    return ''.join(found)
