@@ -60,8 +60,9 @@ void put_action(uint8_t *b, size_t creator, size_t index);
 /* A state in Exchange_actions: every State is in, each with n q yellow ids, and one retransmission is to come. */
 full_state make_full_state(size_t n, size_t q, fullness what);
 
-/* An OR of the used bytes, in one pass. */
+/* An OR of the used bytes, in one pass: of a state, of a register. */
 uint8_t or_of_used(const uint8_t *state);
+uint8_t or_of_pegs(const uint8_t *pegs);
 
 /* Rows 7 and 8 in plain C: the answer of guzbytor_state_check. */
 uint32_t plain_state_check(const uint8_t *state, size_t state_length, const uint8_t *out, size_t out_length);

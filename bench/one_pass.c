@@ -1,5 +1,6 @@
-/* The least that row 8 can cost: one pass over the used bytes of a state, in plain C. Compiled with -O3. */
+/* The least that row 8 can cost: one pass over the used bytes of a state or a register, in plain C. Compiled with -O3. */
 #include "layout.h"
+#include "pegs.h"
 
 static uint8_t or_of(const uint8_t *b, size_t length) {
     uint8_t all = 0;
@@ -31,3 +32,5 @@ uint8_t or_of_used(const uint8_t *b) {
     all |= or_of(b + own_at(n, q), SLOT_SIZE * number(b + AT_OWN_COUNT, 2));
     return all | or_of(b + queue_at(n, q), SLOT_SIZE * number(b + AT_QUEUE_COUNT, 4));
 }
+
+uint8_t or_of_pegs(const uint8_t *pegs) { return or_of(pegs, pegs_used(pegs)); }

@@ -1,6 +1,6 @@
 /* How long a step takes for the costly events: nanoseconds per used byte of the state, against memcpy of those bytes in the same run. */
 #include "guzbytor.h"
-#include "layout.h"
+#include "trial.h"
 
 #include <stdio.h>
 #include <stdlib.h>
@@ -13,56 +13,6 @@ static const struct {
 
 enum { SIZE_COUNT = sizeof SIZES / sizeof SIZES[0], ROUNDS = 100 };
 
-/* Sender and configuration id; configuration id and set. */
-enum { CPC_BODY = 1 + 4, REGULAR_BODY = 4 + 1 };
-
-/* A state, the event that it gets, and what must come of it. */
-typedef struct {
-    full_state state;
-    uint8_t *event;
-    size_t event_length;
-    uint8_t mode_after;
-    size_t sent_after;
-} trial;
-
-static uint8_t everyone(size_t n) { return (uint8_t)((1u << n) - 1); }
-
-static uint32_t number(const uint8_t *b, size_t width) {
-    uint32_t v = 0;
-    for (size_t i = 0; i < width; i++) {
-        v = v << 8 | b[i];
-    }
-    return v;
-}
-
-static uint8_t *in_memory(size_t length) {
-    uint8_t *b = calloc(1, length);
-    if (b == NULL) {
-        abort();
-    }
-    return b;
-}
-
-/* How many bytes of the state are in use. */
-static size_t used_bytes(const uint8_t *b) {
-    size_t n = b[AT_SERVERS], q = number(b + AT_QUOTA, 2);
-    size_t used = held_at(n) + HELD_SIZE * number(b + AT_HELD_COUNT, 2) + ID_SIZE * number(b + AT_YELLOW_COUNT, 2);
-    for (size_t k = 0; k < n; k++) {
-        used += b[AT_STATES] >> k & 1 ? GUZBYTOR_AT_VERSION + number(b + states_at(n) + k * state_slot(n, q), 2) : 0;
-    }
-    return used + SLOT_SIZE * (number(b + AT_OWN_COUNT, 2) + number(b + AT_QUEUE_COUNT, 4));
-}
-
-/* An event of a kind with room for its body. */
-static trial begun(full_state s, uint8_t kind, size_t body, uint8_t mode_after, size_t sent_after) {
-    size_t length = GUZBYTOR_AT_BODY + body;
-    trial t = {s, in_memory(length), length, mode_after, sent_after};
-    put(t.event + GUZBYTOR_AT_LENGTH, 2, (uint32_t)(length - GUZBYTOR_AT_VERSION));
-    t.event[GUZBYTOR_AT_VERSION] = GUZBYTOR_VERSION;
-    t.event[GUZBYTOR_AT_KIND] = kind;
-    return t;
-}
-
 /* The last action of all comes in Reg_prim: it goes below n q - 1 red ones. */
 static trial green(size_t n, size_t q) {
     trial t = begun(make_full_state(n, q, FULL_QUEUE), GUZBYTOR_KIND_ACTION, ACTION, GUZBYTOR_REG_PRIM, 0);
@@ -72,23 +22,6 @@ static trial green(size_t n, size_t q) {
     put(b + AT_GREEN, 4, 0);
     put(b + cuts_at() + CUT_SIZE * (n - 1), CUT_SIZE, (uint32_t)(q - 1));
     put_action(t.event + GUZBYTOR_AT_BODY, n - 1, q);
-    return t;
-}
-
-/* The last CPC comes: half of n q red actions are on the yellow list. */
-static trial install(size_t n, size_t q) {
-    trial t = begun(make_full_state(n, q, FULL_QUEUE), GUZBYTOR_KIND_CPC, CPC_BODY, GUZBYTOR_REG_PRIM, 0);
-    uint8_t *b = t.state.bytes;
-    b[AT_STATE] = GUZBYTOR_CONSTRUCT;
-    b[AT_CPCS] = everyone(n - 1);
-    put(b + AT_GREEN, 4, 0);
-    put(b + AT_ATTEMPT, 4, 1);
-    b[AT_MARK_STATUS] = 1;
-    put(b + AT_MARK_ATTEMPT, 4, 1);
-    b[AT_MARK_SET] = everyone(n);
-    put(b + AT_YELLOW_COUNT, 2, (uint32_t)(n * q / 2));
-    t.event[GUZBYTOR_AT_BODY] = (uint8_t)(n - 1);
-    put(t.event + GUZBYTOR_AT_BODY + 1, 4, 1);
     return t;
 }
 

@@ -1,5 +1,6 @@
-/* The engine for C: one server's part of the replication of a register. Link libguzbytor.a (scripts/dist.sh makes it, with this header); README.md,
-   'Call it from C', says what a daemon does with it, docs/RECORDS.md what the bytes of events and records are.
+/* The engine for C: one server's part of the replication of a register, and the register of pegs that comes of it. Link libguzbytor.a (scripts/dist.sh
+   makes it, with this header); README.md, 'Call it from C' and 'Keep the register', says what a daemon does with it, docs/RECORDS.md what the bytes of
+   events and records are.
 
    - A buffer is a pointer and its length in bytes. It needs no alignment. One of length 0 may be NULL. A longer one than asked for is allowed: what
      lies behind the length that is asked for is neither read nor written.
@@ -27,8 +28,18 @@ enum {
     GUZBYTOR_HOLDS_FULL = 4,    /* a request that would be held, and 16 are: tell the crew to ask again later */
     GUZBYTOR_NOT_NOW = 5,       /* an event that cannot come in this state: a duty of the group layer was broken (docs/GROUP-LAYER.md); log it */
     GUZBYTOR_NOT_FROM_HERE = 6, /* a sender outside the configuration, another configuration's id, or a second State or CPC: as 5 */
-    GUZBYTOR_SHORT_BUFFER = 7,  /* a buffer is shorter than guzbytor_lengths asks for: a mistake of the daemon's */
-    GUZBYTOR_BAD_STATE = 8      /* the state's buffer holds no state of this layout: it was damaged, or another engine stored it; stop this server */
+    GUZBYTOR_SHORT_BUFFER = 7,  /* a buffer is shorter than guzbytor_lengths or guzbytor_register_length asks for: a mistake of the daemon's */
+    GUZBYTOR_BAD_STATE = 8      /* the state's buffer holds no state of this layout, or the register's holds no register: it was damaged, or another
+                                   engine stored it; stop this server */
+};
+
+/* Numbers of an operation on the register. They refuse no event: a refused operation stays in the green list and leaves the register as it was, at every
+   server alike. Tell the crew. */
+enum {
+    GUZBYTOR_PEG_THERE = 9,      /* a set, and the name is there: move it, or retire it first */
+    GUZBYTOR_PEG_NOT_THERE = 10, /* a move or retire, and the name is not there */
+    GUZBYTOR_NO_OPERATION = 11,  /* the payload is no operation; tested before 9, 10 and 13 */
+    GUZBYTOR_REGISTER_FULL = 13  /* a set of a name that is not there, and GUZBYTOR_MOST_PEGS stand: retire one first */
 };
 
 /* Written by scripts/generate.py from here .. */
@@ -80,6 +91,24 @@ enum {
 /* The longest green entry that a reading puts. */
 enum {
     GUZBYTOR_MOST_ENTRY = 52
+};
+
+/* Operations on the register: a payload's first byte. */
+enum {
+    GUZBYTOR_SET = 1,
+    GUZBYTOR_MOVE = 2,
+    GUZBYTOR_RETIRE = 3
+};
+
+/* The register's buffer, and its limits. */
+enum {
+    GUZBYTOR_MOST_PEGS = 4096,
+    GUZBYTOR_MOST_NAME = 24,
+    GUZBYTOR_REGISTER_COUNT_SIZE = 2,
+    GUZBYTOR_REGISTER_AT_NAME = 1,
+    GUZBYTOR_REGISTER_AT_PLACE = 25,
+    GUZBYTOR_REGISTER_PEG_SIZE = 33,
+    GUZBYTOR_REGISTER_LENGTH = 135170
 };
 
 /* .. to here. */
@@ -175,6 +204,79 @@ guzbytor_green_entries_answer guzbytor_green_entries(const uint8_t *state, size_
    is green in a stored image keeps its place whatever happens, and whoever answers a crew on green, or prints a deed, stores the state first. A daemon may
    store after any event, whatever the store word says. Green entries that no store has may come back in another order where all servers that have them green
    lose power. */
+
+/* ---- the register of pegs
+
+   It is what the payloads of the green actions make, each an operation on one peg, in the order of the green list, from the empty register on. A payload
+   is an operation:
+     operation (1 byte: GUZBYTOR_SET, GUZBYTOR_MOVE, GUZBYTOR_RETIRE), name length (1: 1 to GUZBYTOR_MOST_NAME), name, and for set and move easting and
+     northing (4 bytes each: millimetres, two's complement, the high byte first). Nothing may follow.
+   A name is any bytes, and counts whole: with a zero byte behind it, it is another one.
+
+   The register's buffer: how many pegs (GUZBYTOR_REGISTER_COUNT_SIZE bytes, the high byte first), then a slot of GUZBYTOR_REGISTER_PEG_SIZE bytes for each,
+   by byte order of name, a beginning before what it begins: name length, name (from GUZBYTOR_REGISTER_AT_NAME on, zeros behind it), easting and northing
+   (from GUZBYTOR_REGISTER_AT_PLACE on, as in the payload). So equal registers have equal bytes, as far as they are in use. What lies behind the last peg is
+   never read; whoever lists the pegs reads the buffer itself. */
+
+/* The required length of a register's buffer, GUZBYTOR_REGISTER_LENGTH, whatever servers and quota are. */
+uint32_t guzbytor_register_length(void);
+
+/* Makes the empty register and returns 0; returns 7 where the buffer is too short. It writes the count and leaves what lies behind it. */
+uint32_t guzbytor_register_start(uint8_t *pegs, size_t pegs_length);
+
+/* One operation on a register, for tools: 0 where it is taken, or 7, 8, 11, 9, 13, 10, tested in this order, and nothing has changed. A daemon leaves it
+   to guzbytor_register_step, which takes every green action once and in its order: whoever applies payloads beside it has another register than the
+   others. */
+uint32_t guzbytor_register_apply(uint8_t *pegs, size_t pegs_length, const uint8_t *payload, size_t payload_length);
+
+/* Number 0, with found 1 where the name is there: which slot it has, from 0 on, and its place in millimetres. Else zeros behind the number, which is 7 or
+   8 where the buffer is refused, and 0 where the name is not there, as none longer than GUZBYTOR_MOST_NAME is. */
+typedef struct {
+    uint32_t number;
+    uint32_t found;
+    uint32_t index;
+    int32_t easting, northing;
+} guzbytor_register_find_answer;
+
+guzbytor_register_find_answer guzbytor_register_find(const uint8_t *pegs, size_t pegs_length, const uint8_t *name, size_t name_length);
+
+/* What guzbytor_step answers, how many actions the event turned green, and how many of these are operations that the register refused (9, 10, 11, 13). */
+typedef struct {
+    uint32_t number;
+    uint32_t store;
+    uint32_t sent;
+    uint32_t greened;
+    uint32_t refused;
+} guzbytor_register_step_answer;
+
+/* One event at one server that keeps a register beside its state: guzbytor_step, and then every action that the event turned green is applied to the
+   register, in their order, be it one action or the 2,048 of an Install; each buffer is checked once. 7, then 8, are tested over state, register and
+   outgoing buffer together, before the event's own numbers; with a number that is not 0 all three are as they were. An operation that is refused
+   refuses no event: number 0, and `refused` counts it. (Which ones, and with what numbers: guzbytor_register_apply on a copy of the register as it
+   was, of the green entries behind the old green length.)
+   The register belongs to the state beside it, and goes with it everywhere:
+   - The store word covers both. Store them as one image, so that no crash leaves the one without the other, and wait; then send.
+   - A daemon that stores between events, as before it answers a crew on green, stores both.
+   - A recovery is given both as they were stored last, each in its buffer.
+   - A server that has taken an event by guzbytor_step or guzbytor_burst has a register that lacks what this turned green: use one or the other. */
+guzbytor_register_step_answer guzbytor_register_step(uint8_t *state, size_t state_length, uint8_t *pegs, size_t pegs_length, const uint8_t *event,
+                                                     size_t event_length, uint8_t *out, size_t out_length);
+
+/* As guzbytor_burst_answer; `greened` and `refused` count over all events taken. */
+typedef struct {
+    uint32_t number;
+    uint32_t store;
+    uint32_t sent;
+    uint32_t greened;
+    uint32_t refused;
+    size_t events;
+    size_t bytes;
+} guzbytor_register_burst_answer;
+
+/* Many events, as guzbytor_burst takes them, each by what guzbytor_register_step does; each buffer is checked once. It ends where guzbytor_burst ends,
+   and the daemon goes on as behind that one, with both stored as one. */
+guzbytor_register_burst_answer guzbytor_register_burst(uint8_t *state, size_t state_length, uint8_t *pegs, size_t pegs_length, const uint8_t *events,
+                                                       size_t events_length, uint8_t *out, size_t out_length);
 
 #ifdef __cplusplus
 }

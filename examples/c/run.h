@@ -6,6 +6,7 @@
 
 #include <stdio.h>
 #include <stdlib.h>
+#include <string.h>
 
 /* The set-up record: servers (1 byte) and quota (2) behind its frame. */
 enum { SETUP_SERVERS = GUZBYTOR_AT_BODY, SETUP_QUOTA = SETUP_SERVERS + 1, SETUP_LENGTH = SETUP_QUOTA + 2 };
@@ -22,6 +23,12 @@ static inline buffer lent(size_t length) {
         exit(1);
     }
     return b;
+}
+
+static inline buffer copied(buffer b) {
+    buffer copy = lent(b.length);
+    memcpy(copy.bytes, b.bytes, b.length);
+    return copy;
 }
 
 /* The length of the record that b begins with: two length bytes and what they count. */

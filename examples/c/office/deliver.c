@@ -27,18 +27,21 @@ static size_t gathered(const office *o, uint8_t k, size_t most, event *events, b
 
 /* The events of a burst but the last one, by single steps over a copy: they store and send nothing, and are written down as they would come alone.
    Then the last one, over the copy too: it must leave what the burst left. */
-static void by_steps(office *o, const event *events, guzbytor_burst_answer a, buffer copy) {
+static void by_steps(office *o, const event *events, guzbytor_register_burst_answer a, buffer copy) {
     depot *d = &o->depots[events->server];
-    buffer out = lent(d->out.length);
-    guzbytor_step_answer s = {0, 0, 0};
+    buffer out = lent(d->out.length), state = state_of(copy), pegs = pegs_of(copy);
+    guzbytor_register_step_answer s = {0, 0, 0, 0, 0};
+    uint32_t greened = 0, refused = 0;
     for (size_t i = 0; i < a.events && s.number == 0 && s.store == 0 && s.sent == 0; i++) {
-        s = guzbytor_step(copy.bytes, copy.length, events[i].bytes, events[i].length, out.bytes, out.length);
+        s = guzbytor_register_step(state.bytes, state.length, pegs.bytes, pegs.length, events[i].bytes, events[i].length, out.bytes, out.length);
+        greened += s.greened;
+        refused += s.refused;
         if (i + 1 < a.events) {
-            journal_event(&o->journal, &events[i], s.number, 0, 0, copy);
+            journal_event(&o->journal, &events[i], s.number, 0, 0, state);
         }
     }
-    if (s.number != 0 || s.store != a.store || s.sent != a.sent || memcmp(copy.bytes, d->state.bytes, copy.length) != 0 ||
-        memcmp(out.bytes, d->out.bytes, s.sent) != 0) {
+    if (s.number != 0 || s.store != a.store || s.sent != a.sent || greened != a.greened || refused != a.refused ||
+        memcmp(copy.bytes, d->image.bytes, copy.length) != 0 || memcmp(out.bytes, d->out.bytes, s.sent) != 0) {
         wrong(o, "depot %u: a burst of %zu records is not its steps", events->server, a.events);
     }
     free(out.bytes);
@@ -48,10 +51,10 @@ static void by_steps(office *o, const event *events, guzbytor_burst_answer a, bu
 static void burst(office *o, uint8_t k, size_t most) {
     depot *d = &o->depots[k];
     event events[MOST_BURST];
-    buffer all, copy = lent(d->state.length);
+    buffer all, copy = copied(d->image);
     size_t count = gathered(o, k, most < MOST_BURST ? most : MOST_BURST, events, &all);
-    memcpy(copy.bytes, d->state.bytes, copy.length);
-    guzbytor_burst_answer a = guzbytor_burst(d->state.bytes, d->state.length, all.bytes, all.length, d->out.bytes, d->out.length);
+    guzbytor_register_burst_answer a =
+        guzbytor_register_burst(d->state.bytes, d->state.length, d->pegs.bytes, d->pegs.length, all.bytes, all.length, d->out.bytes, d->out.length);
     if (a.number != 0 || a.events == 0 || a.events > count) {
         wrong(o, "depot %u: a burst of %zu records ends with %u after %zu", k, count, a.number, a.events);
     }
@@ -60,7 +63,7 @@ static void burst(office *o, uint8_t k, size_t most) {
         group_delivered(&o->group, k);
     }
     by_steps(o, events, a, copy);
-    depot_finishes(o, &events[a.events - 1], (guzbytor_step_answer){0, a.store, a.sent});
+    depot_finishes(o, &events[a.events - 1], (guzbytor_register_step_answer){0, a.store, a.sent, a.greened, a.refused});
     free(all.bytes);
     free(copy.bytes);
 }

@@ -24,13 +24,16 @@ static fate drawn_fate(office *o) {
 void depot_start(office *o, uint8_t k) {
     depot *d = &o->depots[k];
     guzbytor_lengths_answer lengths = guzbytor_lengths(o->servers, o->quota);
-    d->state = lent(lengths.state);
+    d->image = new_image(o->servers, o->quota);
+    d->state = state_of(d->image);
+    d->pegs = pegs_of(d->image);
     d->out = lent(lengths.out);
-    memset(d->state.bytes, WIPED, d->state.length);
-    if (guzbytor_start(d->state.bytes, d->state.length, o->servers, o->quota, k) != 0) {
+    memset(d->image.bytes, WIPED, d->image.length);
+    if (guzbytor_start(d->state.bytes, d->state.length, o->servers, o->quota, k) != 0 ||
+        guzbytor_register_start(d->pegs.bytes, d->pegs.length) != 0) {
         wrong(o, "depot %u cannot start", k);
     }
-    store_image(&o->store, k, d->state);
+    store_image(&o->store, k, d->image);
     d->up = 1;
 }
 
@@ -44,7 +47,7 @@ guzbytor_summary_answer depot_summary(const office *o, uint8_t k) {
 
 /* ---- crashes */
 
-/* The running state is gone. What was asked is numbered, and so stored, or held, and so lost. */
+/* The running state and register are gone. What was asked is numbered, and so stored, or held, and so lost. */
 static void lose_memory(office *o, uint8_t k) {
     depot *d = &o->depots[k];
     guzbytor_summary_answer a = depot_summary(o, k);
@@ -53,7 +56,7 @@ static void lose_memory(office *o, uint8_t k) {
     }
     d->numbered = a.numbered;
     d->up = 0;
-    memset(d->state.bytes, WIPED, d->state.length);
+    memset(d->image.bytes, WIPED, d->image.length);
     group_falls(&o->group, k, one_in(&o->draws, 2));
 }
 
@@ -69,7 +72,7 @@ void depot_recovers(office *o, uint8_t k) {
     if (d->up) {
         lose_memory(o, k);
     }
-    if (!store_load(&o->store, k, d->state)) {
+    if (!store_load(&o->store, k, d->image)) {
         wrong(o, "depot %u cannot recover", k);
     }
     guzbytor_summary_answer a = depot_summary(o, k);
@@ -77,6 +80,8 @@ void depot_recovers(office *o, uint8_t k) {
         wrong(o, "depot %u: %u requests were numbered, %u are stored", k, d->numbered, a.numbered);
     }
     d->asked = a.numbered + a.held;
+    d->green = a.green;
+    d->refused = register_follows(o, k, d->image);
     d->up = 1;
     uint32_t number = depot_takes(o, &(event){.server = k, .bytes = bytes, .length = write_recovery(bytes)});
     if (number != 0) {
@@ -84,10 +89,10 @@ void depot_recovers(office *o, uint8_t k) {
     }
 }
 
-/* ---- one event: step, store where the word says, then send, in order */
+/* ---- one event: step, store state and register where the word says, then send, in order */
 
 void depot_stores(office *o, uint8_t k) {
-    store_image(&o->store, k, o->depots[k].state);
+    store_image(&o->store, k, o->depots[k].image);
     journal_store(&o->journal, k);
 }
 
@@ -113,10 +118,21 @@ static void note_requests(depot *d, const event *e) {
     }
 }
 
-static void finish(office *o, const event *e, guzbytor_step_answer a, fate f) {
+/* What the answers say turned green is what the state has. */
+static void count_greens(office *o, uint8_t k, guzbytor_register_step_answer a) {
+    depot *d = &o->depots[k];
+    d->green += a.greened;
+    d->refused += a.refused;
+    if (depot_summary(o, k).green != d->green || a.refused > a.greened) {
+        wrong(o, "depot %u: an event turned %u green, and not %u", k, depot_summary(o, k).green - (d->green - a.greened), a.greened);
+    }
+}
+
+static void finish(office *o, const event *e, guzbytor_register_step_answer a, fate f) {
     depot *d = &o->depots[e->server];
+    count_greens(o, e->server, a);
     if (a.store == 1) {
-        store_image(&o->store, e->server, d->state);
+        store_image(&o->store, e->server, d->image);
     }
     uint32_t put = send_records(o, e->server, a.sent, f.most);
     journal_event(&o->journal, e, a.number, put, put < f.most ? put : f.most, d->state);
@@ -134,28 +150,23 @@ static void finish(office *o, const event *e, guzbytor_step_answer a, fate f) {
 /* A crash in the middle of the store: the event has not come, and what the daemon had before it is lost too. */
 static void cut_store(office *o, uint8_t k, buffer before) {
     depot *d = &o->depots[k];
-    store_cut(&o->store, k, d->state, below(&o->draws, (uint32_t)d->state.length + 1));
-    memcpy(d->state.bytes, before.bytes, before.length);
+    store_cut(&o->store, k, d->image, below(&o->draws, (uint32_t)d->image.length + 1));
+    memcpy(d->image.bytes, before.bytes, before.length);
     depot_crashes(o, k);
 }
 
-void depot_finishes(office *o, const event *e, guzbytor_step_answer a) {
+void depot_finishes(office *o, const event *e, guzbytor_register_step_answer a) {
     fate f = drawn_fate(o);
     f.cuts_store = 0;
     finish(o, e, a, f);
 }
 
-static buffer copied(buffer b) {
-    buffer copy = lent(b.length);
-    memcpy(copy.bytes, b.bytes, b.length);
-    return copy;
-}
-
 uint32_t depot_takes(office *o, const event *e) {
     depot *d = &o->depots[e->server];
     fate f = drawn_fate(o);
-    buffer before = f.cuts_store ? copied(d->state) : (buffer){NULL, 0};
-    guzbytor_step_answer a = guzbytor_step(d->state.bytes, d->state.length, e->bytes, e->length, d->out.bytes, d->out.length);
+    buffer before = f.cuts_store ? copied(d->image) : (buffer){NULL, 0};
+    guzbytor_register_step_answer a = guzbytor_register_step(d->state.bytes, d->state.length, d->pegs.bytes, d->pegs.length, e->bytes, e->length,
+                                                             d->out.bytes, d->out.length);
     if (f.cuts_store && a.store == 1) {
         cut_store(o, e->server, before);
     } else {

@@ -1,4 +1,6 @@
+#include "../pegs.h"
 #include "office.h"
+#include "plain_register.h"
 
 #include <string.h>
 
@@ -27,20 +29,63 @@ static list green_list(const office *o, uint8_t k, buffer state) {
     return l;
 }
 
-/* What is green at a depot: in memory, or while it is down in the store. */
-static list green_at(const office *o, uint8_t k) {
-    const depot *d = &o->depots[k];
-    if (d->up) {
-        return green_list(o, k, d->state);
-    }
-    buffer image = lent(d->state.length);
-    if (!store_load(&o->store, k, image)) {
+/* A depot's image: as in memory, or while it is down as in the store. */
+static buffer image_at(const office *o, uint8_t k) {
+    buffer image = copied(o->depots[k].image);
+    if (!o->depots[k].up && !store_load(&o->store, k, image)) {
         wrong(o, "depot %u cannot be read", k);
     }
-    list l = green_list(o, k, image);
+    return image;
+}
+
+static list green_at(const office *o, uint8_t k) {
+    buffer image = image_at(o, k);
+    list l = green_list(o, k, state_of(image));
     free(image.bytes);
     return l;
 }
+
+/* ---- registers */
+
+static int same_pegs(const uint8_t *a, const uint8_t *b) { return pegs_used(a) == pegs_used(b) && memcmp(a, b, pegs_used(a)) == 0; }
+
+uint32_t register_follows(const office *o, uint8_t k, buffer image) {
+    list l = green_list(o, k, state_of(image));
+    buffer pegs = lent(GUZBYTOR_REGISTER_LENGTH);
+    uint32_t refused = 0;
+    memset(pegs.bytes, 0, GUZBYTOR_REGISTER_COUNT_SIZE);
+    for (size_t at = 0; at < l.entries.length; at += ENTRY_FRONT + l.entries.bytes[at + ENTRY_FRONT - 1]) {
+        const uint8_t *entry = l.entries.bytes + at;
+        refused += plain_operation(pegs.bytes, entry + ENTRY_FRONT, entry[ENTRY_FRONT - 1]) != 0;
+    }
+    if (!same_pegs(pegs.bytes, pegs_of(image).bytes)) {
+        wrong(o, "depot %u: its register is not what its green list makes", k);
+    }
+    free(pegs.bytes);
+    free(l.entries.bytes);
+    return refused;
+}
+
+/* Each follows its green list; where two green lists are equally long the registers are equal. */
+static void compare_registers(const office *o) {
+    buffer images[GUZBYTOR_MOST_SERVERS];
+    uint32_t green[GUZBYTOR_MOST_SERVERS];
+    for (uint8_t k = 0; k < o->servers; k++) {
+        images[k] = image_at(o, k);
+        green[k] = guzbytor_summary(state_of(images[k]).bytes, state_of(images[k]).length).green;
+        register_follows(o, k, images[k]);
+        for (uint8_t j = 0; j < k; j++) {
+            if (green[j] == green[k] && !same_pegs(pegs_of(images[j]).bytes, pegs_of(images[k]).bytes)) {
+                wrong(o, "the registers of depots %u and %u, both of %u green entries, are not equal", j, k, green[k]);
+            }
+        }
+    }
+    for (uint8_t k = 0; k < o->servers; k++) {
+        free(images[k].bytes);
+    }
+}
+
+/* ---- green lists and primary components */
 
 /* Of any two depots that are up: the primary components known last are equal where their indexes are. */
 static void compare_primaries(const office *o) {
@@ -78,6 +123,7 @@ static void compare_greens(const office *o) {
 
 void depots_agree(const office *o) {
     compare_greens(o);
+    compare_registers(o);
     compare_primaries(o);
 }
 
@@ -108,7 +154,7 @@ static void compare_asked(const office *o, const list *l) {
     }
 }
 
-uint32_t depots_equal(const office *o) {
+void depots_equal(const office *o) {
     list first = green_at(o, 0);
     for (uint8_t k = 0; k < o->servers; k++) {
         guzbytor_summary_answer a = depot_summary(o, k);
@@ -116,13 +162,16 @@ uint32_t depots_equal(const office *o) {
         if (a.state != GUZBYTOR_REG_PRIM || a.red != 0 || a.waiting != 0 || a.held != 0) {
             wrong(o, "depot %u ends in state %u with %u red, %u waiting and %u held", k, a.state, a.red, a.waiting, a.held);
         }
-        if (a.green != l.count || l.entries.length != first.entries.length || memcmp(l.entries.bytes, first.entries.bytes, l.entries.length) != 0) {
+        if (a.green != l.count || a.green != o->depots[k].green || l.entries.length != first.entries.length ||
+            memcmp(l.entries.bytes, first.entries.bytes, l.entries.length) != 0) {
             wrong(o, "the green lists of depots 0 and %u are not equal", k);
+        }
+        if (register_follows(o, k, o->depots[k].image) != o->depots[k].refused) {
+            wrong(o, "depot %u: the answers count %u operations that were refused", k, o->depots[k].refused);
         }
         free(l.entries.bytes);
     }
     compare_asked(o, &first);
-    uint32_t count = first.count;
+    compare_registers(o);
     free(first.entries.bytes);
-    return count;
 }

@@ -59,10 +59,35 @@ static size_t unreadable(office *o, uint8_t k, uint8_t *b) {
     }
 }
 
+/* Buffers that are refused before any event is looked at: 7 before 8, over all of them together. They stay as they were. */
+static void refuses_buffers(office *o, uint8_t k) {
+    uint8_t b[GUZBYTOR_AT_BODY];
+    size_t length = write_recovery(b);
+    buffer image = copied(o->depots[k].image), state = state_of(image), pegs = pegs_of(image), out = copied(o->depots[k].out);
+    uint32_t what = 1 + below(&o->draws, 11), cut = what % 4, damaged = what / 4; /* one or both */
+    uint32_t number = cut != 0 ? GUZBYTOR_SHORT_BUFFER : GUZBYTOR_BAD_STATE;
+    state.length -= cut == 1;
+    pegs.length -= cut == 2;
+    out.length -= cut == 3;
+    state.bytes[AT_LAYOUT] ^= damaged == 1;
+    pegs.bytes[0] |= damaged == 2 ? 0x80 : 0; /* more pegs than there is room for */
+    buffer before = copied(image);
+    guzbytor_register_step_answer s = guzbytor_register_step(state.bytes, state.length, pegs.bytes, pegs.length, b, length, out.bytes, out.length);
+    guzbytor_register_burst_answer a = guzbytor_register_burst(state.bytes, state.length, pegs.bytes, pegs.length, b, length, out.bytes, out.length);
+    if (s.number != number || a.number != number || s.store + s.sent + s.greened + s.refused != 0 ||
+        a.store + a.sent + a.greened + a.refused + a.events + a.bytes != 0 || memcmp(image.bytes, before.bytes, image.length) != 0 ||
+        memcmp(out.bytes, o->depots[k].out.bytes, out.length) != 0) {
+        wrong(o, "depot %u: buffers that must be refused with %u are answered %u and %u, or changed", k, number, s.number, a.number);
+    }
+    free(image.bytes);
+    free(before.bytes);
+    free(out.bytes);
+}
+
 void depot_refuses(office *o, uint8_t k) {
     uint8_t b[MOST_REQUEST];
     size_t length = 0;
-    switch (below(&o->draws, 4)) {
+    switch (below(&o->draws, 5)) {
     case 0:
         length = second_configuration(o, k, b);
         break;
@@ -71,6 +96,9 @@ void depot_refuses(office *o, uint8_t k) {
         break;
     case 2:
         length = unnumbered_action(o, k, b);
+        break;
+    case 3:
+        refuses_buffers(o, k);
         break;
     default:
         length = unreadable(o, k, b);

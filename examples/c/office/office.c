@@ -1,12 +1,16 @@
 /* An office to try the engine in: depots in one process over a group layer in memory (group.h), by a seed. Lines drop and come back, depots crash and
-   recover, requests come; in the end all lines are up, and all depots must have the same green list (greens.c). A daemon's duties are in depot.c.
-   usage: office SEED [-n DEPOTS] [-q QUOTA] [-m MOVES] [-d FOLDER] [-u] [-r RUN] [-l LINES] [-j JOURNAL]
+   recover, crews ask for pegs to be set, moved and retired (crews.c); in the end all lines are up, and all depots must have the same green list and the
+   register that it makes (greens.c). A daemon's duties are in depot.c.
+   usage: office SEED [-n DEPOTS] [-q QUOTA] [-m MOVES] [-d FOLDER] [-u] [-r RUN] [-l LINES] [-j JOURNAL] [-p PEGS]
           office -t [-n DEPOTS] [-q QUOTA] [-d FOLDER]
    -d  the folder of the stored images       -u  stores do not wait for the disk
    -r  the run as input of `replay` (to 4 depots and a quota of 16; no further stores are drawn)
    -l  the lines that `replay` prints for it  -j  the journal of the run for scripts/audit.py
+   -p  the register of all depots in the end, as it stands in the buffer (examples/c/sheet.c prints and draws it)
    -t  tests the images in the folder, and ends */
 #include "office.h"
+
+#include "../pegs.h"
 
 #include <stdarg.h>
 #include <string.h>
@@ -18,6 +22,7 @@ typedef struct {
     const char *run;
     const char *lines;
     const char *journal;
+    const char *pegs;
     uint32_t moves;
     int tests;
 } options;
@@ -33,7 +38,7 @@ void wrong(const office *o, const char *format, ...) {
 }
 
 static void usage(const char *why) {
-    fprintf(stderr, "%s\nusage: office SEED [-n DEPOTS] [-q QUOTA] [-m MOVES] [-d FOLDER] [-u] [-r RUN] [-l LINES] [-j JOURNAL]\n", why);
+    fprintf(stderr, "%s\nusage: office SEED [-n DEPOTS] [-q QUOTA] [-m MOVES] [-d FOLDER] [-u] [-r RUN] [-l LINES] [-j JOURNAL] [-p PEGS]\n", why);
     fprintf(stderr, "       office -t [-n DEPOTS] [-q QUOTA] [-d FOLDER]\n");
     exit(1);
 }
@@ -70,6 +75,9 @@ static void read_option(char letter, const char *word, office *o, options *p) {
         break;
     case 'j':
         p->journal = word;
+        break;
+    case 'p':
+        p->pegs = word;
         break;
     default:
         usage("no such option");
@@ -112,11 +120,12 @@ static FILE *opened(const char *name) {
 
 /* Whether every image in the folder is one that a daemon would start from. */
 static int test_images(const office *o) {
-    buffer image = lent(guzbytor_lengths(o->servers, o->quota).state);
+    buffer image = new_image(o->servers, o->quota);
     int bad = 0;
     for (uint8_t k = 0; k < o->servers; k++) {
         if (store_load(&o->store, k, image)) {
-            printf("depot %u: %u green\n", k, guzbytor_summary(image.bytes, image.length).green);
+            printf("depot %u: %u green, %zu pegs\n", k, guzbytor_summary(state_of(image).bytes, state_of(image).length).green,
+                   peg_count(pegs_of(image).bytes));
         } else {
             bad = 1;
         }
@@ -125,9 +134,18 @@ static int test_images(const office *o) {
     return bad;
 }
 
+static void write_pegs(const office *o, const char *name) {
+    FILE *f = opened(name);
+    buffer pegs = o->depots[0].pegs;
+    if (f != NULL && (fwrite(pegs.bytes, 1, pegs.length, f) != pegs.length) + (fclose(f) != 0) != 0) {
+        wrong(o, "%s is not whole", name);
+    }
+}
+
 static void run(office *o, const options *p) {
     o->seed = number(p->seed);
     o->draws.state = o->seed;
+    o->crews = crews_come(o->seed);
     o->stores = p->run == NULL;
     o->group = (group){.servers = o->servers, .salt = (uint32_t)drawn(&o->draws)};
     o->journal = (journal){.run = opened(p->run), .lines = opened(p->lines), .journal = opened(p->journal)};
@@ -138,11 +156,13 @@ static void run(office *o, const options *p) {
     }
     trial(o, p->moves);
     trial_ends(o);
-    uint32_t green = depots_equal(o);
+    depots_equal(o);
     if (!journal_end(&o->journal)) {
         wrong(o, "a file is not whole");
     }
-    printf("seed %llu: %zu events, %zu crashes, %u green, equal\n", (unsigned long long)o->seed, o->journal.events, o->crashes, green);
+    write_pegs(o, p->pegs);
+    printf("seed %llu: %zu events, %zu crashes, %u green, %u refused, %zu pegs, equal\n", (unsigned long long)o->seed, o->journal.events, o->crashes,
+           o->depots[0].green, o->depots[0].refused, peg_count(o->depots[0].pegs.bytes));
 }
 
 int main(int count, char **words) {
@@ -156,7 +176,7 @@ int main(int count, char **words) {
     run(&o, &p);
     group_end(&o.group);
     for (uint8_t k = 0; k < o.servers; k++) {
-        free(o.depots[k].state.bytes);
+        free(o.depots[k].image.bytes);
         free(o.depots[k].out.bytes);
     }
     return 0;

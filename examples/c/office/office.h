@@ -2,18 +2,23 @@
 #ifndef OFFICE_H
 #define OFFICE_H
 
+#include "crews.h"
 #include "draws.h"
 #include "group.h"
 #include "journal.h"
 #include "store.h"
 
-/* A depot's daemon: the two buffers that it lends the engine, and the requests that were answered 0 and that no crash has lost, each a length and
-   its bytes, in the order of their numbers. */
+/* A depot's daemon: the buffers that it lends the engine, and the requests that were answered 0 and that no crash has lost, each a length and its
+   bytes, in the order of their numbers. State and register are the two parts of one image, for they are stored as one. */
 typedef struct {
+    buffer image;
     buffer state;
+    buffer pegs;
     buffer out;
     int up;
     uint32_t numbered; /* when it last went down */
+    uint32_t green;    /* actions, as the answers count them .. */
+    uint32_t refused;  /* .. and operations of them that the register refused */
     uint32_t asked;
     uint8_t payloads[GUZBYTOR_MOST_QUOTA][1 + GUZBYTOR_MOST_PAYLOAD];
 } depot;
@@ -23,6 +28,7 @@ typedef struct {
     uint32_t servers;
     uint32_t quota;
     draws draws;
+    crews crews;
     store store;
     journal journal;
     group group;
@@ -45,7 +51,7 @@ void depot_start(office *o, uint8_t k);
 uint32_t depot_takes(office *o, const event *e);
 
 /* The duties after a step that was answered so: store where the word says, and then send. A crash may follow. */
-void depot_finishes(office *o, const event *e, guzbytor_step_answer a);
+void depot_finishes(office *o, const event *e, guzbytor_register_step_answer a);
 
 /* The daemon stores between two events. */
 void depot_stores(office *o, uint8_t k);
@@ -65,7 +71,7 @@ void depot_delivers(office *o, uint8_t k, size_t most);
 
 /* ---- hostile.c */
 
-/* An event comes that no group layer should bring, or that does not read. It must be refused. */
+/* An event comes that no group layer should bring, or that does not read, or the buffers are short or damaged. It must be refused. */
 void depot_refuses(office *o, uint8_t k);
 
 /* ---- trials.c */
@@ -78,11 +84,14 @@ void trial_ends(office *o);
 
 /* ---- greens.c: what must hold */
 
-/* Green lists agree now: of any two depots the shorter begins the longer. The list of a depot that is down is the stored one. Primary components
-   agree too. */
+/* The register in an image is the fold, in plain C, of the green list in the same image. How many of its operations are refused. */
+uint32_t register_follows(const office *o, uint8_t k, buffer image);
+
+/* Green lists agree now: of any two depots the shorter begins the longer. The list of a depot that is down is the stored one, and so is its register:
+   each follows its green list, and where the lists are equally long the registers have the same bytes in use. Primary components agree too. */
 void depots_agree(const office *o);
 
-/* All depots are in Reg_prim with equal green lists, which are the requests answered 0; nothing is red, waiting or held. How many are green. */
-uint32_t depots_equal(const office *o);
+/* All depots are in Reg_prim with equal green lists, which are the requests answered 0, and equal registers; nothing is red, waiting or held. */
+void depots_equal(const office *o);
 
 #endif

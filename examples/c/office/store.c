@@ -7,6 +7,12 @@
 
 enum { CHECKSUM_SIZE = 8, NAME_SIZE = 512 };
 
+buffer new_image(uint32_t servers, uint32_t quota) { return lent((size_t)guzbytor_lengths(servers, quota).state + guzbytor_register_length()); }
+
+buffer state_of(buffer image) { return (buffer){image.bytes, image.length - guzbytor_register_length()}; }
+
+buffer pegs_of(buffer image) { return (buffer){image.bytes + state_of(image).length, guzbytor_register_length()}; }
+
 static void stop(const char *what, const char *name) {
     perror(name);
     fprintf(stderr, "%s: cannot %s\n", name, what);
@@ -111,9 +117,13 @@ int store_load(const store *s, uint8_t me, buffer image) {
     if (memcmp(found, right, CHECKSUM_SIZE) != 0) {
         return refused(name, "its checksum is not that of its bytes");
     }
-    guzbytor_summary_answer a = guzbytor_summary(image.bytes, image.length);
+    buffer state = state_of(image), pegs = pegs_of(image);
+    guzbytor_summary_answer a = guzbytor_summary(state.bytes, state.length);
     if (a.number != 0) {
         return refused(name, "it holds no well-formed state");
+    }
+    if (guzbytor_register_find(pegs.bytes, pegs.length, NULL, 0).number != 0) {
+        return refused(name, "it holds no well-formed register");
     }
     if (a.servers != s->servers || a.quota != s->quota || a.me != me) {
         return refused(name, "it is of another number of depots, another quota or another depot");

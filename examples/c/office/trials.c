@@ -58,13 +58,7 @@ static int something_comes(office *o, uint8_t k) {
 
 static void request_comes(office *o, uint8_t k) {
     uint8_t b[MOST_REQUEST], payload[GUZBYTOR_MOST_PAYLOAD];
-    uint8_t length = (uint8_t)below(&o->draws, GUZBYTOR_MOST_PAYLOAD + 1);
-    if (one_in(&o->draws, 4)) {
-        length = one_in(&o->draws, 2) ? 0 : GUZBYTOR_MOST_PAYLOAD;
-    }
-    for (uint8_t i = 0; i < length; i++) {
-        payload[i] = (uint8_t)below(&o->draws, 256);
-    }
+    uint8_t length = crew_asks(&o->crews, payload);
     depot_takes(o, &(event){.server = k, .bytes = b, .length = write_request(b, payload, length)});
 }
 
