@@ -37,13 +37,17 @@ emptyOn r = pick (registerShort r) (changed 7 r) (changed 0 (registerImage [] r)
 unfoldable pub applied : (payload : List ℕ) → List Peg → List ℕ → Changed
 applied p l r = pick (payloadNumber p l =? 0) (changed 0 (registerImage (afterPayload p l) r)) (changed (payloadNumber p l) r)
 
+-- The payload applied to the register that the bytes r hold.
+abbrev pub appliedTo : (register payload : List ℕ) → Changed
+appliedTo r p = applied p (pegsIn r) r
+
 -- Payloads one after another, each on the buffer that the one before it left. What is behind the register is what they left there.
 unfoldable pub appliedAll : (payloads : List (List ℕ)) → List ℕ → List ℕ
 appliedAll [] r = r
-appliedAll (p ∷ ps) r = appliedAll ps (applied p (pegsIn r) r .register)
+appliedAll (p ∷ ps) r = appliedAll ps (appliedTo r p .register)
 
 unfoldable pub applyOn : (register payload : List ℕ) → Changed
-applyOn r p = pick (registerNumber r =? 0) (applied p (pegsIn r) r) (changed (registerNumber r) r)
+applyOn r p = pick (registerNumber r =? 0) (appliedTo r p) (changed (registerNumber r) r)
 
 -- ---- one peg by its name
 

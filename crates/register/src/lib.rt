@@ -1,8 +1,7 @@
 // The register changed in its lent buffer: its start, and one operation. Document 02, K2.
 ghost use mathlib.Core.Path.{_≡_};
 ghost use Rattle.pegs.specs.Operations.{setByte};
-ghost use Rattle.pegs.specs.Image.{pegsIn};
-ghost use Rattle.pegs.specs.Outcome.{registerNumber, changed, emptyOn, applied, applyOn};
+ghost use Rattle.pegs.specs.Outcome.{registerNumber, changed, emptyOn, appliedTo, applyOn};
 ghost use Rattle.register.specs.Shapes.{Operates, Sought};
 
 pub mod payload; // payload.rt: what a payload is
@@ -27,7 +26,7 @@ use register_check::searching::seek;
 // A move or a retire: "10 move or retire and the name is not there".
 fn change(register: &mut [u8], payload: &[u8], it: Shape, found: Search) -> u32
     requires { ⌜ Sought it found (now payload) (now register) × (it .operation ≡ setByte → ⊥) ⌝ }
-    ensures { λ r. ⌜ changed r (now (register .exit)) ≡ applied (now (payload .entry)) (pegsIn (now (register .entry))) (now (register .entry)) ⌝ }
+    ensures { λ r. ⌜ changed r (now (register .exit)) ≡ appliedTo (now (register .entry)) (now (payload .entry)) ⌝ }
 {
     if !found.there {
         return 10;
@@ -46,7 +45,7 @@ fn change(register: &mut [u8], payload: &[u8], it: Shape, found: Search) -> u32
 // An operation of this shape: the name is searched once. A set: "9 set and the name is there, then 13 a set while 4,096 stand".
 fn operate(register: &mut [u8], payload: &[u8], it: Shape) -> u32
     requires { ⌜ (registerNumber (now register) ≡ 0) × Operates it (now payload) ⌝ }
-    ensures { λ r. ⌜ changed r (now (register .exit)) ≡ applied (now (payload .entry)) (pegsIn (now (register .entry))) (now (register .entry)) ⌝ }
+    ensures { λ r. ⌜ changed r (now (register .exit)) ≡ appliedTo (now (register .entry)) (now (payload .entry)) ⌝ }
 {
     let end = AT_NAME + it.name;
     let found = seek(register, &payload[AT_NAME..end]);
@@ -75,7 +74,7 @@ fn operate(register: &mut [u8], payload: &[u8], it: Shape) -> u32
 // The payload as an operation, "11 the payload is no such operation, tested first": nothing is changed where the number is not 0.
 pub fn apply(register: &mut [u8], payload: &[u8]) -> u32
     requires { ⌜ registerNumber (now register) ≡ 0 ⌝ }
-    ensures { λ r. ⌜ changed r (now (register .exit)) ≡ applied (now (payload .entry)) (pegsIn (now (register .entry))) (now (register .entry)) ⌝ }
+    ensures { λ r. ⌜ changed r (now (register .exit)) ≡ appliedTo (now (register .entry)) (now (payload .entry)) ⌝ }
 {
     let it = shape_of(payload);
     if it.operation == 0 {

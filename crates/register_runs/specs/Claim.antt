@@ -72,4 +72,5 @@ module _ (n q : ℕ) (l : Run) (x : Lent) where
 pub record RegistersClaim : Type 0 where
   pub folds : (n q : ℕ) (l : Run) → RegistersFold n q l
   pub agree : (n q : ℕ) (l : Run) → AllowedWithStrays n q l → RegistersAgree n q l
-  pub depots : (n q : ℕ) (l : Run) → AllowedWithStrays n q l → (x : Lent) → LongEnoughAll n q l x → DepotsFollow n q l x × DepotsAgree n q l x
+  pub depots : (n q : ℕ) (l : Run) → AllowedWithStrays n q l → (x : Lent) → LongEnoughAll n q l x
+      → DepotsFollow n q l x × DepotsAgree n q l x
