@@ -14,7 +14,7 @@ use Rattle.base.specs.Patched.{patched}
 use Rattle.base.proofs.Stores.{two-blocks}
 use Rattle.format.specs.Write.{primaryBytes, markBytes}
 use Rattle.format.proofs.Lengths.{primary-length}
-use Rattle.record.specs.Blocks.{yellowHeadBytes}
+use Rattle.writer.specs.Blocks.{yellowHeadBytes}
 use Rattle.record.specs.Values.{componentOf, markOf}
 use Rattle.record.specs.declared.State.{State}
 use Rattle.engine.specs.Header.{membershipBytes, countsBytes, standingBytes, votesBytes, firstBytes, headerWritten}

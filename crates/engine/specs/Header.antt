@@ -12,7 +12,7 @@ use Rattle.record.specs.declared.State.{State}
 use Rattle.record.specs.declared.LastPrimary.{LastPrimary}
 use Rattle.record.specs.declared.Mark as declared
 use Rattle.record.specs.Values.{componentOf, markOf}
-use Rattle.record.specs.Blocks.{yellowHeadBytes}
+use Rattle.writer.specs.Blocks.{yellowHeadBytes}
 use Rattle.record.specs.Events.{lastIn, markIn}
 use Rattle.replication.specs.Machine.Types.{Configuration, Server}
 use Rattle.replication.specs.Machine.WellFormed.{queue}

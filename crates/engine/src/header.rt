@@ -8,15 +8,15 @@ ghost use Rattle.engine.specs.Header.{headerWritten};
 ghost use Rattle.engine.specs.Layout.{headerSize, atQueueLength, atLast};
 use record::AttemptIndex;
 use record::State;
-use record::blocks::copy;
-use record::blocks::put_mark;
-use record::blocks::put_primary;
-use record::blocks::put_yellow_head;
 use record::bytes::num8;
 use record::bytes::num16;
 use record::bytes::num32;
 use record::frame::last_at;
 use record::frame::mark_at;
+use writer::blocks::copy;
+use writer::blocks::put_mark;
+use writer::blocks::put_primary;
+use writer::blocks::put_yellow_head;
 
 // The first ones: layout, sizes, state and configurations.
 pub struct Membership {

@@ -9,7 +9,7 @@ ghost use Rattle.engine.specs.Layout.{StartRoom};
 ghost use Rattle.engine.specs.Image.{image};
 use crate::header::save;
 use record::State;
-use record::blocks::clear;
+use writer::blocks::clear;
 
 // Makes the start: its numbers, and zeros for the cuts and noted lengths.
 pub fn begin(state: &mut [u8], servers: u8, quota: u16, me: u8)

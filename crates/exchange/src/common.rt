@@ -23,7 +23,7 @@ use record::StateHead;
 use record::bytes::num8;
 use record::bytes::num16;
 use record::lists::place_at;
-use record::parts::put_id;
+use writer::parts::put_id;
 
 // Whether the place of the id from `at` on tells `round`.
 fn is_kept(c: Context, e: &[u8], at: usize, round: u8, table: &[u8; State::MOST_IDS]) -> bool

@@ -9,9 +9,9 @@ use engine::places::THE_QUEUE;
 use engine::places::place_of;
 use queue::slots::slot_at;
 use record::State;
-use record::blocks::copy;
 use record::bytes::num32;
-use record::parts::put32;
+use writer::blocks::copy;
+use writer::parts::put32;
 
 // The slots from i on and from j on change places.
 fn exchange(state: &mut [u8], i: usize, j: usize)

@@ -16,7 +16,7 @@ use record::bytes::num8;
 use record::bytes::num16;
 use record::bytes::num32;
 use record::bytes::wider;
-use record::parts::is_id;
+use writer::parts::is_id;
 
 // The place of an id in the table.
 pub fn entry(creator: u8, index: u16) -> usize

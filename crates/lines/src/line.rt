@@ -8,7 +8,7 @@ ghost use Rattle.replication.specs.Replay.{modeName, header, inputLine, setupLi
 ghost use Rattle.engine.specs.Decode.{modeNamed};
 ghost use Rattle.lines.specs.Lines.{headRoom, Put, lineRoom, spaced, ended, pairText, frontText, stateText, backText, shownLine};
 use record::State;
-use record::blocks::copy;
+use writer::blocks::copy;
 
 // The most bytes that a line takes.
 pub const LINE_ROOM: usize = 164;

@@ -15,8 +15,8 @@ use engine::places::THE_QUEUE;
 use engine::places::place_of;
 use record::ActionHead;
 use record::State;
-use record::blocks::copy;
 use record::bytes::num8;
+use writer::blocks::copy;
 
 // An entry but its payload: an id, and the payload's length; and with the longest payload.
 const ENTRY_HEAD: usize = State::ID + 1;

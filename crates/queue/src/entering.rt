@@ -14,9 +14,9 @@ use record::State;
 use record::bytes::num8;
 use record::bytes::num16;
 use record::bytes::num32;
-use record::moves::shift_down;
-use record::parts::put16;
-use record::parts::put32;
+use writer::moves::shift_down;
+use writer::parts::put16;
+use writer::parts::put32;
 
 // An action behind the last one of the queue.
 fn append(state: &mut [u8], head: ActionHead, payload: &[u8])

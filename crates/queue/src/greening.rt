@@ -17,7 +17,7 @@ use engine::places::place_of;
 use record::ActionHead;
 use record::State;
 use record::bytes::num32;
-use record::parts::put32;
+use writer::parts::put32;
 
 // The slot k from `at` on goes to the front of those before it.
 fn promote(state: &mut [u8], at: usize, k: usize, green: u32)

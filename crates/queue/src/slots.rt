@@ -9,10 +9,10 @@ ghost use Rattle.engine.specs.Layout.{slotSize};
 ghost use Rattle.queue.specs.Queue.{slotPut, lastToFront};
 use record::ActionHead;
 use record::State;
-use record::blocks::clear;
-use record::blocks::copy;
-use record::moves::shift_up;
-use record::parts::put_body;
+use writer::blocks::clear;
+use writer::blocks::copy;
+use writer::moves::shift_up;
+use writer::parts::put_body;
 
 // An action's slot from `at` on: its bytes, filled up with zeros.
 pub fn put_slot(state: &mut [u8], at: usize, head: ActionHead, payload: &[u8])

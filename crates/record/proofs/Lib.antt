@@ -11,13 +11,5 @@ pub mod Arms
 pub mod Judged
 pub mod Placing
 pub mod Returns
-pub mod WriterPlaces
-pub mod WriterNumbers
-pub mod WriterReturns
-pub mod WriterState
-pub mod WriterRoundTrip
 pub mod Callers
-pub mod PartLaws
 pub mod SetCode
-pub mod IdLaws
-pub mod Zeros

@@ -4,6 +4,4 @@ pub mod Values
 pub mod Events
 pub mod Framed
 pub mod Reading
-pub mod Written
-pub mod Blocks
 pub mod Limits

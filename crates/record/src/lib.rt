@@ -12,10 +12,6 @@ pub mod lists; // lists.rt: lists in bytes
 pub mod events; // events.rt: an event that was read
 pub mod frame; // frame.rt: its frame
 pub mod reader; // reader.rt: what an event says
-pub mod blocks; // blocks.rt: parts of records, written
-pub mod moves; // moves.rt: bytes moved
-pub mod parts; // parts.rt: numbers, ids and actions, written
-pub mod writer; // writer.rt: writers of what the engine sends
 
 use events::Event;
 use sets::everyone;

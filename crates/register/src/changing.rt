@@ -6,17 +6,17 @@ ghost use Rattle.base.specs.Patched.{patched};
 ghost use Rattle.pegs.specs.Operations.{mostName, placeSize};
 ghost use Rattle.pegs.specs.Image.{pegSize, atPlace};
 ghost use Rattle.register.specs.Changes.{namedBytes, slotBytes, RoomFor, SlotsIn, widened, inserted, removed, replaced};
-use record::blocks::clear;
-use record::blocks::copy;
-use record::moves::shift_down;
-use record::moves::shift_up;
-use record::parts::put_payload;
-use record::parts::put16;
 use register_check::layout::AT_PLACE;
 use register_check::layout::AT_SLOT_NAME;
 use register_check::layout::COUNT_SIZE;
 use register_check::layout::MOST_NAME;
 use register_check::layout::PEG_SIZE;
+use writer::blocks::clear;
+use writer::blocks::copy;
+use writer::moves::shift_down;
+use writer::moves::shift_up;
+use writer::parts::put_payload;
+use writer::parts::put16;
 
 // A name's length, and the name filled up with zeros, from `at` on.
 fn put_name(register: &mut [u8], at: usize, name: &[u8])

@@ -17,9 +17,9 @@ use Rattle.format.specs.Write.{write, idsBytes, lengthOf}
 use Rattle.format.proofs.IdCount.{ids-count}
 use Rattle.format.proofs.Lengths.{write-length}
 use Rattle.record.specs.declared.State.{State}
-use Rattle.record.specs.declared.writer.Written.{Written}
-use Rattle.record.specs.declared.writer.Written.the-variants.{Next, Full}
-use Rattle.record.specs.Written.{put, putOf}
+use Rattle.writer.specs.declared.records.Written.{Written}
+use Rattle.writer.specs.declared.records.Written.the-variants.{Next, Full}
+use Rattle.writer.specs.Written.{put, putOf}
 use Rattle.replication.specs.Machine.Types.{Non-prim, Votes, Configuration, Server, withMembership, withMode, inMode, contextOf}
 use Rattle.replication.specs.Machine.Exchange.{quorum, takenVotes, takenYellow, attempted}
 use Rattle.replication.specs.Machine.Requests.{madeOf, numbered, sendHeld, heldRecords}

@@ -20,10 +20,10 @@ use Rattle.format.proofs.Fields.{payload-read}
 use Rattle.format.proofs.Lengths.{write-length}
 use Rattle.format.proofs.Ranges.{PayloadRange}
 use Rattle.record.specs.declared.ActionHead.{ActionHead}
-use Rattle.record.specs.declared.writer.Written.{Written}
-use Rattle.record.specs.declared.writer.Written.the-variants.{Next, Full}
+use Rattle.writer.specs.declared.records.Written.{Written}
+use Rattle.writer.specs.declared.records.Written.the-variants.{Next, Full}
 use Rattle.record.specs.Values.{idOf, actionOf}
-use Rattle.record.specs.Written.{put, putOf}
+use Rattle.writer.specs.Written.{put, putOf}
 use Rattle.replication.specs.Machine.Types.{Server}
 use Rattle.replication.specs.Machine.Requests.{numberedFrom, madeOf, heldRecords}
 use Rattle.replication.proofs.WellFormed.Changes.{body}

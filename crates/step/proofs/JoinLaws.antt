@@ -22,10 +22,10 @@ use Rattle.format.proofs.Fields.{cuts-read, ids-read}
 use Rattle.format.proofs.Lengths.{write-length}
 use Rattle.record.specs.declared.State as declared
 use Rattle.record.specs.declared.StateHead.{StateHead}
-use Rattle.record.specs.declared.writer.Written.{Written}
-use Rattle.record.specs.declared.writer.Written.the-variants.{Next, Full}
+use Rattle.writer.specs.declared.records.Written.{Written}
+use Rattle.writer.specs.declared.records.Written.the-variants.{Next, Full}
 use Rattle.record.specs.Values.{componentOf, primaryOf, markOf, stateOf}
-use Rattle.record.specs.Written.{put, putOf, putState}
+use Rattle.writer.specs.Written.{put, putOf, putState}
 use Rattle.replication.specs.Machine.Types.{Server, contextOf}
 use Rattle.replication.specs.Machine.Step.{entering, ownState, join}
 use Rattle.engine.specs.Layout.{theCuts, theYellow, sections, offset, stateLength, outLength, headerSize, mostStateSize}

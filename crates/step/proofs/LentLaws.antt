@@ -11,10 +11,10 @@ use Rattle.base.specs.Patched.{patched}
 use Rattle.base.proofs.TestLaws.{pick-le}
 use Rattle.format.specs.Types.{Record}
 use Rattle.format.specs.Write.{write}
-use Rattle.record.specs.declared.writer.Written.{Written}
-use Rattle.record.specs.declared.writer.Written.the-variants.{Next, Full}
-use Rattle.record.specs.Written.{next, full, put, putOf}
-use Rattle.record.proofs.WriterRoundTrip.{Fitted, answer-next, put-fitted}
+use Rattle.writer.specs.declared.records.Written.{Written}
+use Rattle.writer.specs.declared.records.Written.the-variants.{Next, Full}
+use Rattle.writer.specs.Written.{next, full, put, putOf}
+use Rattle.writer.proofs.WriterRoundTrip.{Fitted, answer-next, put-fitted}
 use Rattle.replication.specs.Machine.Types.{Server}
 use Rattle.replication.proofs.WellFormed.Changes.{body}
 use Rattle.replication.proofs.WellFormed.Facts.{well-formed-facts}

@@ -18,10 +18,10 @@ use Rattle.format.specs.Write.{write, lengthOf}
 use Rattle.format.proofs.Lengths.{write-length}
 use Rattle.record.specs.declared.ActionHead.{ActionHead}
 use Rattle.record.specs.declared.State.{State}
-use Rattle.record.specs.declared.writer.Written.{Written}
-use Rattle.record.specs.declared.writer.Written.the-variants.{Next, Full}
+use Rattle.writer.specs.declared.records.Written.{Written}
+use Rattle.writer.specs.declared.records.Written.the-variants.{Next, Full}
 use Rattle.record.specs.Values.{actionOf}
-use Rattle.record.specs.Written.{put, putOf}
+use Rattle.writer.specs.Written.{put, putOf}
 use Rattle.replication.specs.Machine.Types.{Server}
 use Rattle.replication.specs.Machine.Requests.{sendsNow, quotaLeft, roomToHold, madeOf, numbered, hold}
 use Rattle.replication.specs.Machine.Step.{stored, quiet, requested}

@@ -19,11 +19,11 @@ use Rattle.format.specs.Types.{Action, Record, retransmission}
 use Rattle.format.specs.Write.{write, lengthOf}
 use Rattle.format.proofs.Lengths.{write-length}
 use Rattle.record.specs.declared.events.ActionAt.{ActionAt}
-use Rattle.record.specs.declared.writer.Written.{Written}
-use Rattle.record.specs.declared.writer.Written.the-variants.{Next, Full}
+use Rattle.writer.specs.declared.records.Written.{Written}
+use Rattle.writer.specs.declared.records.Written.the-variants.{Next, Full}
 use Rattle.record.specs.Events.{actionIn, actionFrom}
 use Rattle.record.specs.Values.{idOf, actionOf}
-use Rattle.record.specs.Written.{next, full, put, putOf}
+use Rattle.writer.specs.Written.{next, full, put, putOf}
 use Rattle.replication.specs.Machine.Colours.{find}
 use Rattle.replication.specs.Machine.Plan.{resent}
 use Rattle.engine.specs.Layout.{slotSize, atGreenLength, theQueue, atQueueLength}

@@ -28,8 +28,6 @@ use queue::entering::red;
 use queue::greening::green;
 use record::ActionHead;
 use record::bytes::num32;
-use record::writer::Written;
-use record::writer::write_cpc;
 use updates::exchanges::attempt;
 use updates::exchanges::decide;
 use updates::exchanges::one_more;
@@ -38,6 +36,8 @@ use updates::membership::set_mode;
 use updates::sending::send_held;
 use updates::states::collect_state;
 use updates::votes::VoteNumbers;
+use writer::records::Written;
+use writer::records::write_cpc;
 
 // ---- the end
 

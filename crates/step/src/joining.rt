@@ -16,11 +16,11 @@ use engine::places::THE_YELLOW;
 use engine::places::place_of;
 use record::State;
 use record::StateHead;
-use record::writer::Written;
-use record::writer::write_state;
 use updates::membership::enter_exchange;
 use updates::votes::clear_mark;
 use updates::votes::make_yellow_valid;
+use writer::records::Written;
+use writer::records::write_state;
 
 // The numbers of the State that a server with the numbers h sends in this configuration.
 fn own_head(h: State, id: u32) -> StateHead

@@ -4,12 +4,12 @@ ghost use Rattle.step.specs.Answers.{LentSuch, AnswersBy};
 ghost use Rattle.step.specs.Events.{Sent, Asked};
 use crate::Answer;
 use record::State;
-use record::writer::Written;
-use record::writer::write_action;
 use rows::sends_now;
 use updates::requests::hold;
 use updates::requests::next_head;
 use updates::requests::number;
+use writer::records::Written;
+use writer::records::write_action;
 
 // The request as an action: "numbered, put on the own list and stored first", then sent.
 fn send(state: &mut [u8], out: &mut [u8], payload: &[u8]) -> Answer

@@ -28,8 +28,8 @@ use record::bytes::num8;
 use record::bytes::num32;
 use record::events::ActionAt;
 use record::frame::action_at;
-use record::writer::Written;
-use record::writer::write_retransmission;
+use writer::records::Written;
+use writer::records::write_retransmission;
 
 // Writes an action that lies in the state: the place behind its record.
 fn send_action(state: &[u8], out: &mut [u8], at: usize, me: u8, position: u32, a: ActionAt) -> usize

@@ -17,8 +17,8 @@ use record::State;
 use record::bytes::num8;
 use record::bytes::num16;
 use record::bytes::num32;
-use record::writer::Written;
-use record::writer::write_action;
+use writer::records::Written;
+use writer::records::write_action;
 
 // Where the held request k lies.
 fn request_place(state: &[u8], k: u16) -> usize

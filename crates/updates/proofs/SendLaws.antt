@@ -12,7 +12,7 @@ use Rattle.base.specs.Patched.{patched}
 use Rattle.base.proofs.PatchedLaws.{patched-next, patched-none, patched-in-front}
 use Rattle.format.specs.Write.{idBytes}
 use Rattle.format.specs.Places.{actionPayloadAt}
-use Rattle.record.specs.Blocks.{headBytes}
+use Rattle.writer.specs.Blocks.{headBytes}
 use Rattle.record.specs.declared.ActionHead.{ActionHead}
 use Rattle.engine.specs.Layout.{heldSize, slotSize}
 use Rattle.updates.specs.Sending.{laterHead, movedSlots, SendRoom}

@@ -15,7 +15,7 @@ use Rattle.format.specs.Types.{Action}
 use Rattle.format.specs.Write.{payloadBytes, actionBytes}
 use Rattle.format.proofs.Lengths.{payload-length, action-length}
 use Rattle.format.proofs.Ranges.{PayloadRange}
-use Rattle.record.specs.Blocks.{headBytes}
+use Rattle.writer.specs.Blocks.{headBytes}
 use Rattle.record.specs.Values.{idOf}
 use Rattle.record.specs.declared.ActionHead.{ActionHead}
 use Rattle.replication.specs.Machine.Types.{Server}

@@ -4,7 +4,7 @@ use Prim.Native.Nat.{ℕ, zero, suc, _+_, _*_, _≤_}
 use mathlib.Core.List.{List, [], _++_}
 use lib.ListN.{length}
 use Rattle.base.specs.Bytes.{partAt}
-use Rattle.record.specs.Blocks.{headBytes}
+use Rattle.writer.specs.Blocks.{headBytes}
 use Rattle.record.specs.declared.ActionHead.{ActionHead}
 use Rattle.format.specs.Limits.{mostQuota, mostHeld}
 use Rattle.engine.specs.Decode.{quotaIn}

@@ -19,8 +19,8 @@ use record::State;
 use record::StateHead;
 use record::bytes::num8;
 use record::bytes::num32;
-use record::parts::put32;
 use record::sets::has;
+use writer::parts::put32;
 
 // "a noted length never falls"
 pub fn note(state: &mut [u8], c: u8, l: u32)

@@ -17,12 +17,12 @@ use engine::places::THE_OWN;
 use engine::places::THE_QUEUE;
 use engine::places::place_of;
 use record::State;
-use record::blocks::copy_up;
 use record::bytes::num8;
 use record::bytes::num16;
 use record::bytes::num32;
-use record::parts::put16;
-use record::parts::put32;
+use writer::blocks::copy_up;
+use writer::parts::put16;
+use writer::parts::put32;
 
 fn put_queue(state: &mut [u8], queue: u32)
     requires { ⌜ headerSize ≤ length (now state) ⌝ }

@@ -18,12 +18,12 @@ use engine::places::place_of;
 use queue::slots::put_slot;
 use record::ActionHead;
 use record::State;
-use record::blocks::clear;
 use record::bytes::num8;
 use record::bytes::num16;
 use record::bytes::num32;
-use record::parts::put_payload;
-use record::parts::put16;
+use writer::blocks::clear;
+use writer::parts::put_payload;
+use writer::parts::put16;
 
 // The next own action but its payload.
 pub fn next_head(state: &[u8]) -> ActionHead

@@ -8,7 +8,7 @@ ghost use Rattle.base.specs.Patched.{patched};
 ghost use Rattle.replication.specs.Machine.Requests.{sendHeld};
 ghost use Rattle.engine.specs.Holding.{Becomes};
 ghost use Rattle.engine.specs.Layout.{heldSize, slotSize, headerSize, atHeldCount};
-ghost use Rattle.record.specs.Blocks.{headBytes};
+ghost use Rattle.writer.specs.Blocks.{headBytes};
 ghost use Rattle.updates.specs.Sending.{SendRoom, SendReady, movedSlots};
 ghost use Rattle.updates.specs.Lists.{ownCounts};
 use crate::requests::next_head;
@@ -18,10 +18,10 @@ use engine::places::THE_OWN;
 use engine::places::place_of;
 use record::ActionHead;
 use record::State;
-use record::blocks::copy_up;
 use record::bytes::num16;
-use record::parts::put_head;
-use record::parts::put16;
+use writer::blocks::copy_up;
+use writer::parts::put_head;
+use writer::parts::put16;
 
 // The slot of an own action at `to`: its head, and the held request at `from`.
 fn send_one(state: &mut [u8], from: usize, to: usize, head: ActionHead)

@@ -19,7 +19,7 @@ use record::LastPrimary;
 use record::Mark;
 use record::PrimaryIndex;
 use record::State;
-use record::blocks::copy;
+use writer::blocks::copy;
 
 // The numbers of votes; the yellow ids lie beside them.
 pub struct VoteNumbers {

@@ -15,9 +15,9 @@ use engine::places::THE_YELLOW;
 use engine::places::place_of;
 use record::State;
 use record::bytes::num16;
-use record::parts::is_id;
-use record::parts::put_id;
-use record::parts::put16;
+use writer::parts::is_id;
+use writer::parts::put_id;
+use writer::parts::put16;
 
 // Whether this id is one of the `count` ids from `at` on.
 fn has_id(e: &[u8], at: usize, count: usize, creator: u8, index: u16) -> bool

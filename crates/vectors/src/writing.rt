@@ -6,12 +6,12 @@ use record::events::ActionAt;
 use record::events::Event;
 use record::events::StateAt;
 use record::reader::Reading;
-use record::writer::Written;
-use record::writer::write_action;
-use record::writer::write_cpc;
-use record::writer::write_retransmission;
-use record::writer::write_state;
 use vector_tools::output::bytes;
+use writer::records::Written;
+use writer::records::write_action;
+use writer::records::write_cpc;
+use writer::records::write_retransmission;
+use writer::records::write_state;
 
 fn action(c: Context, a: ActionAt, e: &[u8], out: &mut [u8], at: usize) -> Written
     requires { ⌜ PlacedAction c a (now e) ⌝ }

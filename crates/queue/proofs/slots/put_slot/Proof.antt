@@ -4,7 +4,7 @@ use Rattle.queue.proofs.slots.put_slot.Statement.{statement}
 use Rattle.queue.proofs.slots.put_slot.Tie as tie
 use Rattle.queue.proofs.slots.put_slot.Reads as reads
 use Rattle.queue.proofs.slots.put_slot.Lts as lts
-use Rattle.record.proofs.parts.put_body.Reads as put-body-reads
+use Rattle.writer.proofs.parts.put_body.Reads as put-body-reads
 
 put-body-requires : tie.Need-put-body-requires
 put-body-requires c κs = search needs

@@ -4,8 +4,8 @@ use Rattle.register.proofs.changing.put_name.Statement.{statement}
 use Rattle.register.proofs.changing.put_name.Tie as tie
 use Rattle.register.proofs.changing.put_name.Reads as reads
 use Rattle.register.proofs.changing.put_name.Lts as lts
-use Rattle.record.proofs.blocks.clear.Reads as clear-reads
-use Rattle.record.proofs.parts.put_payload.Reads as put-payload-reads
+use Rattle.writer.proofs.blocks.clear.Reads as clear-reads
+use Rattle.writer.proofs.parts.put_payload.Reads as put-payload-reads
 
 put-payload-requires : tie.Need-put-payload-requires
 put-payload-requires c κs = search needs

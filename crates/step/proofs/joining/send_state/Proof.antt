@@ -5,7 +5,7 @@ use Rattle.step.proofs.joining.send_state.Statement.{statement}
 use Rattle.step.proofs.joining.send_state.Tie as tie
 use Rattle.step.proofs.joining.send_state.Reads as reads
 use Rattle.step.proofs.joining.send_state.Lts as lts
-use Rattle.record.proofs.writer.write_state.Reads as write-state-reads
+use Rattle.writer.proofs.records.write_state.Reads as write-state-reads
 use Rattle.step.proofs.joining.own_numbers.Reads as own-numbers-reads
 
 own-numbers-requires : tie.Need-own-numbers-requires

@@ -7,7 +7,7 @@ use Rattle.step.proofs.requests.send.Reads as reads
 use Rattle.step.proofs.requests.send.Lts as lts
 use Rattle.updates.proofs.requests.next_head.Reads as next-head-reads
 use Rattle.updates.proofs.requests.number.Reads as number-reads
-use Rattle.record.proofs.writer.write_action.Reads as write-action-reads
+use Rattle.writer.proofs.records.write_action.Reads as write-action-reads
 use Rattle.step.proofs.Answer.quiet.Reads as quiet-reads
 use Rattle.step.proofs.Answer.stored.Reads as stored-reads
 

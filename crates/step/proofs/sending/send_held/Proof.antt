@@ -5,7 +5,7 @@ use Rattle.step.proofs.sending.send_held.Tie as tie
 use Rattle.step.proofs.sending.send_held.Reads as reads
 use Rattle.step.proofs.sending.send_held.Lts as lts
 use Rattle.record.proofs.bytes.num8.Reads as num8-reads
-use Rattle.record.proofs.writer.write_action.Reads as write-action-reads
+use Rattle.writer.proofs.records.write_action.Reads as write-action-reads
 use Rattle.step.proofs.sending.held_head.Reads as held-head-reads
 use Rattle.step.proofs.sending.request_place.Reads as request-place-reads
 

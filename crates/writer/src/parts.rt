@@ -1,0 +1,84 @@
+// Numbers, ids, payloads and actions at a place: written, and an id compared.
+ghost use mathlib.Core.Path.{_≡_};
+ghost use Prim.Native.Nat.{_+_, _≤_};
+ghost use lib.ListN.{length};
+ghost use Rattle.base.specs.Bytes.{bytesOf};
+ghost use Rattle.base.specs.Patched.{patched};
+ghost use Rattle.format.specs.Places.{idSize, actionPayloadAt, actionHeadSize};
+ghost use Rattle.format.specs.Range.{sameId};
+ghost use Rattle.format.specs.Read.{idAt};
+ghost use Rattle.format.specs.Write.{idBytes, payloadBytes, actionBytes};
+ghost use Rattle.record.specs.Values.{idOf, actionOf};
+ghost use Rattle.writer.specs.Blocks.{headBytes};
+use crate::blocks::copy;
+use crate::blocks::put_number;
+use record::ActionHead;
+use record::bytes::num8;
+use record::bytes::num16;
+
+// A number of one byte; put16 and put32: of two and of four.
+pub fn put8(out: &mut [u8], at: usize, v: u8)
+    requires { ⌜ at + 1 ≤ length (now out) ⌝ }
+    ensures { λ _. ⌜ now (out .exit) ≡ patched at (bytesOf 1 v) (now (out .entry)) ⌝ }
+{
+    put_number(out, at, 1, v as u32);
+}
+
+pub fn put16(out: &mut [u8], at: usize, v: u16)
+    requires { ⌜ at + 2 ≤ length (now out) ⌝ }
+    ensures { λ _. ⌜ now (out .exit) ≡ patched at (bytesOf 2 v) (now (out .entry)) ⌝ }
+{
+    put_number(out, at, 2, v as u32);
+}
+
+pub fn put32(out: &mut [u8], at: usize, v: u32)
+    requires { ⌜ at + 4 ≤ length (now out) ⌝ }
+    ensures { λ _. ⌜ now (out .exit) ≡ patched at (bytesOf 4 v) (now (out .entry)) ⌝ }
+{
+    put_number(out, at, 4, v);
+}
+
+pub fn put_id(out: &mut [u8], at: usize, creator: u8, index: u16)
+    requires { ⌜ at + idSize ≤ length (now out) ⌝ }
+    ensures { λ _. ⌜ now (out .exit) ≡ patched at (idBytes (idOf creator index)) (now (out .entry)) ⌝ }
+{
+    put8(out, at, creator);
+    put16(out, at + ActionHead::INDEX, index);
+}
+
+// Whether the id at `at` is this one.
+pub fn is_id(e: &[u8], at: usize, creator: u8, index: u16) -> bool
+    requires { ⌜ at + idSize ≤ length (now e) ⌝ }
+    ensures { λ r. ⌜ r ≡ sameId (idOf creator index) (idAt (now (e .entry)) at) ⌝ }
+{
+    if creator != num8(e, at) {
+        return false;
+    }
+    index == num16(e, at + ActionHead::INDEX)
+}
+
+pub fn put_payload(out: &mut [u8], at: usize, payload: &[u8])
+    requires { ⌜ at + (1 + length (now payload)) ≤ length (now out) ⌝ }
+    ensures { λ _. ⌜ now (out .exit) ≡ patched at (payloadBytes (now (payload .entry))) (now (out .entry)) ⌝ }
+{
+    put8(out, at, (payload.len() % 256) as u8);
+    copy(out, at + 1, payload);
+}
+
+// An action's id and its creator's green length.
+pub fn put_head(out: &mut [u8], at: usize, head: ActionHead)
+    requires { ⌜ at + actionPayloadAt ≤ length (now out) ⌝ }
+    ensures { λ _. ⌜ now (out .exit) ≡ patched at (headBytes head) (now (out .entry)) ⌝ }
+{
+    put_id(out, at, head.creator, head.index);
+    put32(out, at + ActionHead::GREEN_LENGTH, head.green_length);
+}
+
+// An action, as actions and retransmissions have it.
+pub fn put_body(out: &mut [u8], at: usize, head: ActionHead, payload: &[u8])
+    requires { ⌜ at + (actionHeadSize + length (now payload)) ≤ length (now out) ⌝ }
+    ensures { λ _. ⌜ now (out .exit) ≡ patched at (actionBytes (actionOf head (now (payload .entry)))) (now (out .entry)) ⌝ }
+{
+    put_head(out, at, head);
+    put_payload(out, at + ActionHead::PAYLOAD, payload);
+}
