@@ -1,12 +1,16 @@
 -- Bytes laid over others, and filled up.
 -- Assumes nothing.
-use Prim.Native.Nat.{ℕ, _≤_}
-use mathlib.Core.Path.{_≡_, refl, ap}
-use mathlib.Core.List.{List, _++_}
+use Prim.Native.Nat.{ℕ, _+_, _≤_}
+use mathlib.Core.Path.{_≡_, refl, sym, ap, _∙_}
+use mathlib.Core.List.{List, _++_, append-assoc}
+use native.Mathlib.Nat.{zero-add}
 use native.Mathlib.Omega.{arith}
-use lib.ListN.{length, drop, length-append, length-drop, length-replicate}
-use lib.Seq.{drop-at}
+use lib.ListN.{length, take, drop, length-append, length-drop, length-replicate}
+use lib.Seq.{take-at, drop-at, drop-drop}
 use Rattle.base.specs.Bytes.{over, zeros, slot}
+use Rattle.base.specs.Patched.{patched}
+use Rattle.base.proofs.PatchedLaws.{patched-length}
+use Rattle.base.proofs.Sections.{patched-front}
 
 pub over-length : (y l : List ℕ) → length y ≤ length l → length (over y l) ≡ length l
 unfolding over
@@ -23,3 +27,28 @@ slot-length size y h = simp (length-append, length-replicate) (omega arith)
 pub zeros-length : (m : ℕ) → length (zeros m) ≡ m
 unfolding zeros
 zeros-length m = length-replicate {A = ℕ} m 0
+
+-- ---- changes of a used part
+
+-- More behind it.
+pub over-extended : (y x l : List ℕ) → patched (length y) x (over y l) ≡ over (y ++ x) l
+unfolding over patched
+over-extended y x l =
+    let front : take (length y) (y ++ drop (length y) l) ≡ y = take-at y (drop (length y) l) (length y) refl in
+    let back : drop (length y + length x) (y ++ drop (length y) l) ≡ drop (length (y ++ x)) l =
+    sym (drop-drop (length x) (length y) (y ++ drop (length y) l))
+    ∙ ap (λ (m : List ℕ). drop (length x) m) (drop-at y (drop (length y) l) (length y) refl)
+    ∙ drop-drop (length x) (length y) l
+    ∙ ap (λ (m : ℕ). drop m l) (sym (length-append y x)) in
+    rw (front, back) (sym (append-assoc y x (drop (length (y ++ x)) l)))
+
+-- Inside it.
+pub over-changed : (y x l : List ℕ) (i : ℕ) → i + length x ≤ length y → patched i x (over y l) ≡ over (patched i x y) l
+unfolding over
+over-changed y x l i h =
+    patched-front i x y (drop (length y) l) h ∙ ap (λ (m : ℕ). patched i x y ++ drop m l) (sym (patched-length i x y h))
+
+-- Only y in front is used from now on.
+pub over-front : (y l : List ℕ) → patched 0 y l ≡ over y l
+unfolding over patched
+over-front y l = ap (λ (m : ℕ). y ++ drop m l) (zero-add (length y))

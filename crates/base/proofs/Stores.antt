@@ -2,11 +2,11 @@
 -- Assumes nothing.
 use Prim.Native.Nat.{ℕ, _+_, _≤_, _<_}
 use mathlib.Core.Path.{_≡_, sym, ap, ap₂, _∙_}
-use mathlib.Core.List.{List, [], _∷_, append-nil}
+use mathlib.Core.List.{List, [], _∷_, _++_, append-nil, append-assoc}
 use native.Mathlib.Nat.{zero-add}
 use native.Mathlib.Omega.{arith}
 use native.Mathlib.Numerals.{add-one}
-use lib.ListN.{length, getD, take, drop, set, replicate, length-drop, length-replicate}
+use lib.ListN.{length, getD, take, drop, set, replicate, length-append, length-drop, length-replicate}
 use lib.Seq.{take-all, getD-drop, length-take-le}
 use Rattle.base.specs.Bytes.{partAt, joined}
 use Rattle.base.specs.Patched.{patched}
@@ -63,8 +63,31 @@ up-all s t from to m j h l e = let k : j ≡ m = omega arith in e ∙ ap (λ (i 
 -- ---- one block of bytes after another
 
 -- b, and c next after it
+pub next-block : (at m : ℕ) (b c s s₁ s₂ : List ℕ) → at ≤ length s → s₁ ≡ patched at b s → s₂ ≡ patched m c s₁ → m ≡ at + length b → s₂ ≡ patched at (b ++ c) s
+next-block at m b c s s₁ s₂ h e f g = f ∙ rw (e, g) (patched-next at b c s h)
+
+-- the same in a room of k
 pub two-blocks : (at m k : ℕ) (b c s s₁ s₂ : List ℕ) → at + k ≤ length s → s₁ ≡ patched at b s → s₂ ≡ patched (at + m) c s₁ → length b ≡ m
     → s₂ ≡ patched at (joined (b ∷ c ∷ [])) s
 unfolding joined
 two-blocks at m k b c s s₁ s₂ h e f g =
-    f ∙ rw (e, ← g, append-nil) (patched-next at b c s (omega arith))
+    next-block at (at + m) b c s s₁ s₂ (omega arith) e f (omega arith) ∙ rw append-nil
+
+-- three, and five
+module _ (at : ℕ) (b c d s s₁ s₂ s₃ : List ℕ) (i j : ℕ) (h : at ≤ length s) (e : s₁ ≡ patched at b s) (f : s₂ ≡ patched i c s₁) (g : s₃ ≡ patched j d s₂)
+    (m : i ≡ at + length b) (n : j ≡ i + length c) where
+  three-joined : s₃ ≡ patched at ((b ++ c) ++ d) s
+  three-joined = next-block at j (b ++ c) d s s₂ s₃ h (next-block at i b c s s₁ s₂ h e f m) g (omega (arith, length-append b c))
+
+  pub three-blocks : s₃ ≡ patched at (joined (b ∷ c ∷ d ∷ [])) s
+  unfolding joined
+  three-blocks = three-joined ∙ ap (λ (l : List ℕ). patched at l s) (simp (append-nil, append-assoc))
+
+  pub five-blocks : (x y s₄ s₅ : List ℕ) (k l : ℕ) → s₄ ≡ patched k x s₃ → s₅ ≡ patched l y s₄ → k ≡ j + length d → l ≡ k + length x
+      → s₅ ≡ patched at (joined (b ∷ c ∷ d ∷ x ∷ y ∷ [])) s
+  unfolding joined
+  five-blocks x y s₄ s₅ k l p q u v =
+      let four : s₄ ≡ patched at (((b ++ c) ++ d) ++ x) s =
+      next-block at k ((b ++ c) ++ d) x s s₃ s₄ h three-joined p (omega (arith, length-append (b ++ c) d, length-append b c)) in
+      next-block at l (((b ++ c) ++ d) ++ x) y s s₄ s₅ h four q (omega (arith, length-append ((b ++ c) ++ d) x, length-append (b ++ c) d, length-append b c))
+      ∙ ap (λ (z : List ℕ). patched at z s) (simp (append-nil, append-assoc))

@@ -20,11 +20,6 @@ unfoldable pub bytesOf : ℕ → ℕ → List ℕ
 bytesOf zero v = []
 bytesOf (suc w) v = bytesOf w (v / 256) ++ (v % 256 ∷ [])
 
--- Numbers one after another, each in as many bytes as its width says; 0 where there is a width and no number.
-unfoldable pub bytesOfAll : (widths numbers : List ℕ) → List ℕ
-bytesOfAll [] vs = []
-bytesOfAll (w ∷ ws) vs = bytesOf w (getD vs 0 0) ++ bytesOfAll ws (drop 1 vs)
-
 -- The number in the w bytes from `at` on.
 unfoldable pub numberAt : ℕ → List ℕ → ℕ → ℕ
 numberAt zero e at = 0

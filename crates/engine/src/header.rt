@@ -14,9 +14,9 @@ use record::bytes::num32;
 use record::frame::last_at;
 use record::frame::mark_at;
 use writer::blocks::copy;
-use writer::blocks::put_mark;
-use writer::blocks::put_primary;
-use writer::blocks::put_yellow_head;
+use writer::parts::put_mark;
+use writer::parts::put_primary;
+use writer::parts::put_yellow_head;
 
 // The first ones: layout, sizes, state and configurations.
 pub struct Membership {

@@ -29,7 +29,8 @@ use Rattle.engine.proofs.Decoded.{image-part}
 use Rattle.engine.specs.Holding.{Holds}
 use Rattle.queue.specs.Queue.{position}
 use Rattle.install.specs.Swaps.{swapOut, greenFound, greenSwap, exchanged, greenAt}
-use Rattle.queue.proofs.Inside.{changed-at, over-changed}
+use Rattle.base.proofs.Over.{over-changed}
+use Rattle.queue.proofs.Inside.{changed-at}
 use Rattle.engine.proofs.Fields.{header-fields, fields-sized, field-changed, theGreenCount, theQueueCount}
 use Rattle.queue.proofs.SlotLaws.{slots-cons}
 use Rattle.queue.proofs.Positions.{Stands}

@@ -23,7 +23,7 @@ use Rattle.engine.specs.Decode.{actionsAt, decodedAs, decoded, greensIn}
 use Rattle.engine.specs.Counts.{queueCount, greenCount, place}
 use Rattle.engine.proofs.Slots.{actions-count}
 use Rattle.queue.specs.Queue.{slotPlace, QueueIn}
-use Rattle.queue.proofs.Inside.{over-front}
+use Rattle.base.proofs.Over.{over-front}
 use Rattle.queue.proofs.ReadLaws.{actions-at}
 use Rattle.queries.specs.declared.GreenEntries.{GreenEntries}
 use Rattle.queries.specs.Queries.{entryBytes, entriesBytes, entryHeadSize, mostEntry, fitting, putting, listing, listed, putEntries}

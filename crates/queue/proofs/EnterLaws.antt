@@ -27,7 +27,7 @@ use Rattle.replication.proofs.WellFormed.Logs.{ownId}
 use Rattle.engine.specs.Layout.{slotSize, atQueueLength, atOwnCount}
 use Rattle.engine.specs.Image.{headerBytes, actionSlots, fields}
 use Rattle.engine.proofs.Used.{ActionFits, action-slots-length, slots-append}
-use Rattle.queue.proofs.Inside.{over-extended, over-changed}
+use Rattle.base.proofs.Over.{over-extended, over-changed}
 use Rattle.engine.proofs.Fields.{fieldSizes, header-fields, fields-sized, field-changed, theQueueCount, theOwnCount}
 use Rattle.queue.proofs.SlotLaws.{slots-one, cut-set}
 

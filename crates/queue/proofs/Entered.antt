@@ -31,7 +31,8 @@ use Rattle.engine.proofs.InPlace.{holds-section}
 use Rattle.record.specs.declared.ActionHead.{ActionHead}
 use Rattle.record.specs.Values.{idOf, actionOf}
 use Rattle.queue.specs.Queue.{appended, queued, popped, RoomFor}
-use Rattle.queue.proofs.Inside.{Changed, changed-at, over-front}
+use Rattle.base.proofs.Over.{over-front}
+use Rattle.queue.proofs.Inside.{Changed, changed-at}
 use Rattle.queue.proofs.SlotLaws.{slots-cons}
 use Rattle.queue.proofs.Holding.{log-formed, log-fits, holds-changed, log-image}
 use Rattle.queue.proofs.EnterLaws.{one-more, header-entered, header-left, queue-entered, cuts-entered, others-stay, first-leaves}

@@ -1,17 +1,15 @@
 -- Changes inside the sections of a buffer, one after the other.
 -- Assumes nothing.
 use Prim.Native.Nat.{ℕ, _+_, _-_, _≤_, _<_}
-use mathlib.Core.Path.{_≡_, refl, sym, ap, _∙_}
-use mathlib.Core.List.{List, [], _++_, append-assoc}
+use mathlib.Core.Path.{_≡_, ap, _∙_}
+use mathlib.Core.List.{List, []}
 use native.Mathlib.Omega.{arith}
-use native.Mathlib.Nat.{zero-add}
-use lib.ListN.{length, getD, take, drop, set, length-append}
-use lib.Seq.{take-at, drop-at, drop-drop}
-use Rattle.base.specs.Bytes.{joined, over}
+use lib.ListN.{length, getD, drop, set, length-append}
+use Rattle.base.specs.Bytes.{joined}
 use Rattle.base.specs.Lists.{sum}
 use Rattle.base.specs.Patched.{patched}
 use Rattle.base.proofs.PatchedLaws.{patched-length}
-use Rattle.base.proofs.Sections.{Laid, begin, begin-end, sized-at, sized-length, laid-part, laid-set, laid-rest, patched-front, patched-inside}
+use Rattle.base.proofs.Sections.{Laid, begin, begin-end, sized-at, sized-length, laid-part, laid-set, laid-rest, patched-inside}
 
 -- b is laid out in these parts, and behind them it is what `old` is.
 pub record Changed (ws : List ℕ) (ps : List (List ℕ)) (old b : List ℕ) : Type 0 where
@@ -40,28 +38,3 @@ changed-inside ws ps old b c k i x h r =
 pub changed-at : (ws : List ℕ) (ps : List (List ℕ)) (old b : List ℕ) → Changed ws ps old b → (k i at : ℕ) (x : List ℕ) → at ≡ begin ws k + i → k < length ws
     → i + length x ≤ getD ws k 0 → Changed ws (set ps k (patched i x (getD ps k []))) old (patched at x b)
 changed-at ws ps old b c k i at x e h r = rw e (changed-inside ws ps old b c k i x h r)
-
--- ---- changes of a used part
-
--- More behind it.
-pub over-extended : (y x l : List ℕ) → patched (length y) x (over y l) ≡ over (y ++ x) l
-unfolding over patched
-over-extended y x l =
-    let front : take (length y) (y ++ drop (length y) l) ≡ y = take-at y (drop (length y) l) (length y) refl in
-    let back : drop (length y + length x) (y ++ drop (length y) l) ≡ drop (length (y ++ x)) l =
-    sym (drop-drop (length x) (length y) (y ++ drop (length y) l))
-    ∙ ap (λ (m : List ℕ). drop (length x) m) (drop-at y (drop (length y) l) (length y) refl)
-    ∙ drop-drop (length x) (length y) l
-    ∙ ap (λ (m : ℕ). drop m l) (sym (length-append y x)) in
-    rw (front, back) (sym (append-assoc y x (drop (length (y ++ x)) l)))
-
--- Inside it.
-pub over-changed : (y x l : List ℕ) (i : ℕ) → i + length x ≤ length y → patched i x (over y l) ≡ over (patched i x y) l
-unfolding over
-over-changed y x l i h =
-    patched-front i x y (drop (length y) l) h ∙ ap (λ (m : ℕ). patched i x y ++ drop m l) (sym (patched-length i x y h))
-
--- Only y in front is used from now on.
-pub over-front : (y l : List ℕ) → patched 0 y l ≡ over y l
-unfolding over patched
-over-front y l = ap (λ (m : ℕ). y ++ drop m l) (zero-add (length y))

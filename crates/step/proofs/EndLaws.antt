@@ -33,7 +33,7 @@ use Rattle.engine.proofs.HeaderLaws.{header-loaded}
 use Rattle.engine.proofs.InRange.{in-range}
 use Rattle.engine.specs.Holding.{Holds, HoldsSuch, HoldsSome}
 use Rattle.engine.proofs.InPlace.{such-fact, holds-some}
-use Rattle.queue.proofs.Inside.{over-front}
+use Rattle.base.proofs.Over.{over-front}
 use Rattle.updates.specs.declared.votes.VoteNumbers.{VoteNumbers}
 use Rattle.updates.specs.Sending.{SendReady}
 use Rattle.updates.specs.Standing.{voteNumbers}

@@ -12,7 +12,7 @@ use Rattle.base.proofs.BytesLaws.{joined-append}
 use Rattle.base.specs.Lists.{Each}
 use Rattle.base.proofs.Occurs.{Occurs, occurs-first, occurs-second}
 use Rattle.base.specs.Patched.{patched}
-use Rattle.base.proofs.Over.{over-length}
+use Rattle.base.proofs.Over.{over-length, over-extended}
 use Rattle.format.specs.Types.{Action, Record, action}
 use Rattle.format.specs.Read.{payloadAt}
 use Rattle.format.specs.Write.{write, lengthOf, payloadBytes}
@@ -37,7 +37,6 @@ use Rattle.engine.proofs.HeaderLaws.{header-loaded}
 use Rattle.engine.specs.Holding.{Holds}
 use Rattle.engine.proofs.InPlace.{holds-decoded}
 use Rattle.engine.proofs.Used.{held-slot-length}
-use Rattle.queue.proofs.Inside.{over-extended}
 use Rattle.step.specs.Answers.{LentSuch, recordBytes}
 use Rattle.step.specs.Sending.{heldPlace, heldHead, heldAction, heldBytes, HeldRoom}
 use Rattle.step.proofs.LentLaws.{lent-counts, lent-header, holds-products, holds-part, put-room, put-done, one-record}

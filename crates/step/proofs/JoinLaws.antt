@@ -35,7 +35,7 @@ use Rattle.engine.proofs.Fit.{well-formed-fits}
 use Rattle.engine.proofs.HeaderLaws.{header-loaded}
 use Rattle.engine.proofs.InRange.{InRange, in-range}
 use Rattle.engine.specs.Holding.{Holds}
-use Rattle.queue.proofs.Inside.{over-front}
+use Rattle.base.proofs.Over.{over-front}
 use Rattle.updates.specs.Lists.{configurationOf}
 use Rattle.step.specs.declared.Answer.{Answer}
 use Rattle.step.specs.Answers.{answered, outcomeOn, LentSuch, storedFirst, recordBytes}

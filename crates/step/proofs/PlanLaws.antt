@@ -27,7 +27,7 @@ use Rattle.engine.specs.Decode.{actionsAt, decodedAs, serversIn, quotaIn, decod
 use Rattle.engine.specs.Holding.{Holds, HoldsSuch, HoldsSome}
 use Rattle.engine.proofs.InPlace.{holds-decoded, holds-some}
 use Rattle.queue.proofs.ReadLaws.{holds-queue}
-use Rattle.queue.proofs.Inside.{over-front}
+use Rattle.base.proofs.Over.{over-front}
 use Rattle.step.specs.Answers.{LentSuch, recordBytes}
 use Rattle.exchange.specs.Decided.{partOf}
 use Rattle.exchange.specs.declared.decided.Part.{Part}

@@ -29,7 +29,7 @@ use Rattle.engine.specs.Layout.{outLength}
 use Rattle.engine.specs.Header.{headerOf}
 use Rattle.engine.specs.Image.{image}
 use Rattle.engine.specs.Holding.{Holds}
-use Rattle.queue.proofs.Inside.{over-front}
+use Rattle.base.proofs.Over.{over-front}
 use Rattle.updates.specs.Lists.{PayloadRoom, nextHead}
 use Rattle.updates.proofs.RequestLaws.{head-made}
 use Rattle.step.specs.declared.Answer.{Answer}

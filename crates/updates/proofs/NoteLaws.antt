@@ -20,7 +20,8 @@ use Rattle.engine.proofs.InRange.{in-range}
 use Rattle.engine.proofs.Used.{noted-length}
 use Rattle.engine.specs.Holding.{Holds}
 use Rattle.engine.proofs.InPlace.{holds-decoded}
-use Rattle.queue.proofs.Inside.{changed-at, over-changed}
+use Rattle.base.proofs.Over.{over-changed}
+use Rattle.queue.proofs.Inside.{changed-at}
 use Rattle.queue.proofs.Holding.{holds-changed}
 use Rattle.updates.specs.Lists.{NumberIn}
 use Rattle.updates.proofs.Changes.{changed-image}

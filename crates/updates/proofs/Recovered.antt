@@ -35,7 +35,8 @@ use Rattle.engine.specs.Holding.{Holds, HoldsSome}
 use Rattle.engine.proofs.InPlace.{holds-section}
 use Rattle.engine.proofs.Fields.{theQueueCount, theOwnCount, two-fields}
 use Rattle.queue.proofs.Holding.{log-fits, log-formed, holds-changed}
-use Rattle.queue.proofs.Inside.{changed-at, over-extended, over-changed}
+use Rattle.base.proofs.Over.{over-extended, over-changed}
+use Rattle.queue.proofs.Inside.{changed-at}
 use Rattle.queue.proofs.SlotLaws.{cut-set}
 use Rattle.updates.specs.Standing.{EnterRoom, dropped}
 use Rattle.updates.proofs.Changes.{changed-image, part-here}

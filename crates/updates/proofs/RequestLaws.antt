@@ -14,7 +14,7 @@ use Rattle.base.specs.Patched.{patched}
 use Rattle.base.proofs.PatchedLaws.{patched-next}
 use Rattle.base.proofs.Sections.{begin}
 use Rattle.base.proofs.TestLaws.{lt-holds}
-use Rattle.base.proofs.Over.{slot-length}
+use Rattle.base.proofs.Over.{slot-length, over-extended}
 use Rattle.format.specs.Limits.{mostHeld, mostPayload}
 use Rattle.format.specs.Types.{Id, Action}
 use Rattle.format.specs.Write.{actionBytes, payloadBytes}
@@ -35,7 +35,7 @@ use Rattle.engine.proofs.Used.{action-slots-length, held-slots-length, slots-ap
 use Rattle.engine.specs.Holding.{Holds}
 use Rattle.engine.proofs.Fields.{theOwnCount, theNumbered, theHeldCount, one-field, two-fields}
 use Rattle.queue.proofs.Holding.{holds-changed}
-use Rattle.queue.proofs.Inside.{changed-at, over-extended}
+use Rattle.queue.proofs.Inside.{changed-at}
 use Rattle.queue.proofs.SlotLaws.{slots-one}
 use Rattle.updates.specs.Lists.{nextHead, PayloadRoom}
 use Rattle.updates.proofs.Changes.{changed-image}

@@ -32,7 +32,8 @@ use Rattle.engine.specs.Holding.{Holds}
 use Rattle.engine.proofs.InPlace.{holds-section}
 use Rattle.engine.proofs.Fields.{theOwnCount, theNumbered, theHeldCount, three-fields}
 use Rattle.queue.proofs.Holding.{holds-changed}
-use Rattle.queue.proofs.Inside.{changed-at, over-extended}
+use Rattle.base.proofs.Over.{over-extended}
+use Rattle.queue.proofs.Inside.{changed-at}
 use Rattle.updates.specs.Lists.{nextHead}
 use Rattle.updates.specs.Sending.{laterHead, movedSlots, SendRoom, SendReady}
 use Rattle.updates.proofs.Changes.{changed-image, part-here}

@@ -23,7 +23,8 @@ use Rattle.engine.proofs.Used.{header-length}
 use Rattle.engine.specs.Holding.{Holds}
 use Rattle.engine.proofs.InPlace.{holds-section}
 use Rattle.queue.proofs.Holding.{holds-changed}
-use Rattle.queue.proofs.Inside.{changed-at, over-front}
+use Rattle.base.proofs.Over.{over-front}
+use Rattle.queue.proofs.Inside.{changed-at}
 use Rattle.updates.specs.declared.votes.VoteNumbers.{VoteNumbers}
 use Rattle.updates.specs.Lists.{YellowRoom}
 use Rattle.updates.specs.Standing.{voteNumbers}

@@ -28,7 +28,8 @@ use Rattle.engine.proofs.InRange.{in-range}
 use Rattle.engine.proofs.Used.{ids-append}
 use Rattle.engine.specs.Holding.{Holds}
 use Rattle.updates.proofs.Changes.{changed-image}
-use Rattle.queue.proofs.Inside.{changed-at, over-extended}
+use Rattle.base.proofs.Over.{over-extended}
+use Rattle.queue.proofs.Inside.{changed-at}
 use Rattle.queue.proofs.Holding.{holds-changed}
 use Rattle.engine.proofs.Fields.{theYellowCount, one-field}
 use Rattle.engine.specs.Counts.{yellowCount, place}

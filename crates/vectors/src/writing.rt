@@ -13,13 +13,13 @@ use writer::records::write_cpc;
 use writer::records::write_retransmission;
 use writer::records::write_state;
 
-fn action(c: Context, a: ActionAt, e: &[u8], out: &mut [u8], at: usize) -> Written
+fn action(c: Context, a: ActionAt, e: &[u8], rest: &mut [u8]) -> Written
     requires { ⌜ PlacedAction c a (now e) ⌝ }
 {
     let start = a.payload_at;
     let end = start + a.payload_length;
     let head = a.head;
-    write_action(out, at, head, &e[start..end])
+    write_action(rest, head, &e[start..end])
 }
 
 fn retransmission(
@@ -28,42 +28,41 @@ fn retransmission(
     position: u32,
     a: ActionAt,
     e: &[u8],
-    out: &mut [u8],
-    at: usize,
+    rest: &mut [u8],
 ) -> Written
     requires { ⌜ PlacedRetransmission c sender position a (now e) ⌝ }
 {
     let start = a.payload_at;
     let end = start + a.payload_length;
     let head = a.head;
-    write_retransmission(out, at, sender, position, head, &e[start..end])
+    write_retransmission(rest, sender, position, head, &e[start..end])
 }
 
-fn state(c: Context, s: StateAt, e: &[u8], out: &mut [u8], at: usize) -> Written
+fn state(c: Context, s: StateAt, e: &[u8], rest: &mut [u8]) -> Written
     requires { ⌜ PlacedState c s (now e) ⌝ }
 {
     let cuts_at = s.cuts_at;
     let yellow_at = s.yellow_at;
     let head = s.head;
-    write_state(out, at, head, &e[cuts_at..], &e[yellow_at..])
+    write_state(rest, head, &e[cuts_at..], &e[yellow_at..])
 }
 
-// Writes the event at `at`; an event of a kind that the engine does not send is not written.
-fn again(c: Context, v: Event, e: &[u8], out: &mut [u8], at: usize) -> Written
+// Writes the event at the front of the rest; an event of a kind that the engine does not send is not written.
+fn again(c: Context, v: Event, e: &[u8], rest: &mut [u8]) -> Written
     requires { ⌜ PlacedEvent c v (now e) ⌝ }
 {
     match v {
-        Event::Action(a) => action(c, a, e, out, at),
+        Event::Action(a) => action(c, a, e, rest),
         Event::Retransmission {
             sender,
             position,
             action,
-        } => retransmission(c, sender, position, action, e, out, at),
-        Event::State(s) => state(c, s, e, out, at),
+        } => retransmission(c, sender, position, action, e, rest),
+        Event::State(s) => state(c, s, e, rest),
         Event::Cpc {
             sender,
             configuration,
-        } => write_cpc(out, at, sender, configuration),
+        } => write_cpc(rest, sender, configuration),
         _ => Written::Full,
     }
 }
@@ -94,11 +93,15 @@ fn fill(c: Context, v: Event, e: &[u8], out: &mut [u8])
     let mut at: usize = 0;
     let mut k: usize = 0;
     while k < 3 {
-        let w = again(c, v, e, out, at);
-        let Written::Next(next) = w else {
+        let w = again(c, v, e, &mut out[at..]);
+        let Written::Next(size) = w else {
             reading::full();
             return;
         };
+        if out.len() - at < size {
+            return;
+        }
+        let next = at + size;
         reading::next(next);
         reading(c, out, at, next);
         at = next;

@@ -1,8 +1,7 @@
 pub mod Zeros
 pub mod IdLaws
 pub mod PartLaws
-pub mod WriterPlaces
-pub mod WriterNumbers
-pub mod WriterReturns
-pub mod WriterState
+pub mod RecordBytes
+pub mod RecordLaws
+pub mod StateLaws
 pub mod WriterRoundTrip

@@ -1,18 +1,22 @@
--- Blocks of bytes written one after another are one block.
+-- Blocks of bytes written one after another are one block: the parts of a record.
 -- Assumes nothing.
 use Prim.Native.Nat.{ℕ, _+_, _%_, _≤_}
 use mathlib.Core.Path.{_≡_, refl, sym, ap, _∙_}
 use mathlib.Core.List.{List, [], _∷_, append-assoc, append-nil}
 use native.Mathlib.Omega.{arith}
 use lib.ListN.{length}
-use Rattle.format.specs.Places.{actionPayloadAt}
 use Rattle.base.specs.Bytes.{bytesOf, joined}
 use Rattle.base.proofs.BytesLaws.{bytes-length, bytes1}
 use Rattle.base.specs.Patched.{patched}
-use Rattle.base.proofs.Stores.{two-blocks}
+use Rattle.base.proofs.Stores.{two-blocks, three-blocks, five-blocks}
+use Rattle.format.specs.Places.{actionPayloadAt, primaryAttemptAt, primarySetAt, primarySize, markIndexAt, markAttemptAt, markSetAt, markBitsAt, markSize}
 use Rattle.format.specs.Types.{Id}
-use Rattle.format.specs.Write.{idBytes, payloadBytes}
+use Rattle.format.specs.Write.{idBytes, payloadBytes, primaryBytes, markBytes}
 use Rattle.format.proofs.Lengths.{id-length}
+use Rattle.record.specs.declared.AttemptIndex.{AttemptIndex}
+use Rattle.record.specs.declared.Mark.{Mark}
+use Rattle.record.specs.declared.PrimaryIndex.{PrimaryIndex}
+use Rattle.record.specs.Values.{componentOf, markOf}
 
 pub head-length : (d : Id) (v : ℕ) → length (joined (idBytes d ∷ bytesOf 4 v ∷ [])) ≡ actionPayloadAt
 unfolding idBytes joined bytesOf
@@ -23,11 +27,11 @@ unfolding joined
 joined-two b c d = simp (append-nil, append-assoc)
 
 -- two in one, and d next after it
-pub three-blocks : (at m k : ℕ) (b c d s s₁ s₂ : List ℕ) → at + k ≤ length s → s₁ ≡ patched at (joined (b ∷ c ∷ [])) s → s₂ ≡ patched (at + m) d s₁
+pub block-after-two : (at m k : ℕ) (b c d s s₁ s₂ : List ℕ) → at + k ≤ length s → s₁ ≡ patched at (joined (b ∷ c ∷ [])) s → s₂ ≡ patched (at + m) d s₁
     → length (joined (b ∷ c ∷ [])) ≡ m → s₂ ≡ patched at (joined (b ∷ c ∷ d ∷ [])) s
-three-blocks at m k b c d s s₁ s₂ h e f g = two-blocks at m k (joined (b ∷ c ∷ [])) d s s₁ s₂ h e f g ∙ rw joined-two
+block-after-two at m k b c d s s₁ s₂ h e f g = two-blocks at m k (joined (b ∷ c ∷ [])) d s s₁ s₂ h e f g ∙ rw joined-two
 
-pub ruleset blocks = (two-blocks, three-blocks, bytes-length, id-length, head-length)
+pub ruleset blocks = (two-blocks, block-after-two, bytes-length, id-length, head-length)
 
 pub payload-blocks : (at k : ℕ) (p s s₁ s₂ : List ℕ) → at + k ≤ length s → s₁ ≡ patched at (bytesOf 1 (length p % 256)) s → s₂ ≡ patched (at + 1) p s₁
     → s₂ ≡ patched at (payloadBytes p) s
@@ -35,3 +39,24 @@ unfolding payloadBytes
 payload-blocks at k p s s₁ s₂ h e f =
     let m : bytesOf 1 (length p % 256) ≡ bytesOf 1 (length p) = bytes1 (length p % 256) ∙ ap (λ (n : ℕ). n ∷ []) (omega arith) ∙ sym (bytes1 (length p)) in
     two-blocks at 1 k (bytesOf 1 (length p)) p s s₁ s₂ h (rw m at e) f (bytes-length 1 (length p))
+
+-- ---- a primary component, and a mark
+
+module _ (at : ℕ) (s s₁ s₂ s₃ : List ℕ) where
+  pub primary-blocks : (i : PrimaryIndex) (a : AttemptIndex) (t : ℕ) → at + primarySize ≤ length s → s₁ ≡ patched at (bytesOf 4 (i .0)) s
+      → s₂ ≡ patched (at + primaryAttemptAt) (bytesOf 4 (a .0)) s₁ → s₃ ≡ patched (at + primarySetAt) (bytesOf 1 t) s₂
+      → s₃ ≡ patched at (primaryBytes (componentOf i a t)) s
+  unfolding primaryBytes componentOf
+  primary-blocks i a t h e f g =
+      three-blocks at _ _ _ s s₁ s₂ s₃ (at + primaryAttemptAt) (at + primarySetAt) (omega arith) e f g
+      (omega (arith, bytes-length 4 (i .0))) (omega (arith, bytes-length 4 (a .0)))
+
+  pub mark-blocks : (m : Mark) (s₄ s₅ : List ℕ) → at + markSize ≤ length s → s₁ ≡ patched at (bytesOf 1 (m .status)) s
+      → s₂ ≡ patched (at + markIndexAt) (bytesOf 4 (m .index .0)) s₁ → s₃ ≡ patched (at + markAttemptAt) (bytesOf 4 (m .attempt .0)) s₂
+      → s₄ ≡ patched (at + markSetAt) (bytesOf 1 (m .set)) s₃ → s₅ ≡ patched (at + markBitsAt) (bytesOf 1 (m .bits)) s₄
+      → s₅ ≡ patched at (markBytes (markOf m)) s
+  unfolding markBytes markOf
+  mark-blocks m s₄ s₅ h e f g i j =
+      five-blocks at _ _ _ s s₁ s₂ s₃ (at + markIndexAt) (at + markAttemptAt) (omega arith) e f g
+      (omega (arith, bytes-length 1 (m .status))) (omega (arith, bytes-length 4 (m .index .0)))
+      _ _ s₄ s₅ (at + markSetAt) (at + markBitsAt) i j (omega (arith, bytes-length 4 (m .attempt .0))) (omega (arith, bytes-length 1 (m .set)))

@@ -1,79 +1,23 @@
--- Parts of records as bytes, and the numbers that the writers make records of, filled up with zeros to twelve.
+-- Parts of records as bytes.
 -- Assumes nothing.
-use Prim.Native.Nat.{ℕ, _+_, _*_, _-_, _≤_}
+use Prim.Native.Nat.{ℕ, _+_, _*_, _≤_}
 use mathlib.Core.List.{List, [], _∷_}
 use lib.ListN.{length}
 use Rattle.base.specs.Bytes.{bytesOf, joined}
 use Rattle.format.specs.Limits.{version}
-use Rattle.format.specs.Places.{lengthSize, idSize, actionSize, retransmissionSize, stateHeadSize}
-use Rattle.format.specs.Types.{kindNumber, ofAction, ofRetransmission, ofState}
-use Rattle.format.specs.Write.{idBytes}
+use Rattle.format.specs.Places.{lengthSize, idSize, stateHeadSize}
+use Rattle.format.specs.Write.{idBytes, primaryBytes, markBytes}
 use Rattle.record.specs.declared.ActionHead.{ActionHead}
 use Rattle.record.specs.declared.StateHead.{StateHead}
-use Rattle.record.specs.Values.{idOf}
+use Rattle.record.specs.Values.{idOf, primaryOf, markOf}
 
--- what follows the length bytes, version, kind, sender, and a number: all of a CPC, and what a State begins with
-unfoldable pub openingNumbers : (follows kind sender number : ℕ) → List ℕ
-openingNumbers follows kind sender number = follows ∷ version ∷ kind ∷ sender ∷ number ∷ 0 ∷ 0 ∷ 0 ∷ 0 ∷ 0 ∷ 0 ∷ 0 ∷ []
+-- "Two length bytes (counting what follows them), version byte 1, kind byte"
+unfoldable pub frameBytes : (follows kind : ℕ) → List ℕ
+frameBytes follows kind = joined (bytesOf lengthSize follows ∷ bytesOf 1 version ∷ bytesOf 1 kind ∷ [])
 
--- how many bytes the cuts and ids of a State have
-abbrev pub listsSize : StateHead → ℕ
-listsSize h = 2 * h .servers + idSize * h .«yellow_count»
-
--- what a State begins with
-unfoldable pub stateOpening : StateHead → List ℕ
-stateOpening h = openingNumbers (stateHeadSize - lengthSize + listsSize h) (kindNumber ofState) (h .sender) (h .configuration)
-
--- an action with m bytes of payload, up to the payload
-unfoldable pub actionNumbers : ActionHead → (m : ℕ) → List ℕ
-actionNumbers h m =
-    (actionSize - lengthSize + m)
-    ∷ version
-    ∷ kindNumber ofAction
-    ∷ h .creator
-    ∷ h .index
-    ∷ h .«green_length»
-    ∷ m
-    ∷ 0
-    ∷ 0
-    ∷ 0
-    ∷ 0
-    ∷ 0
-    ∷ []
-
--- a retransmission of it, up to the payload
-unfoldable pub retransmissionNumbers : (sender position : ℕ) → ActionHead → (m : ℕ) → List ℕ
-retransmissionNumbers sender position h m =
-    (retransmissionSize - lengthSize + m)
-    ∷ version
-    ∷ kindNumber ofRetransmission
-    ∷ sender
-    ∷ position
-    ∷ h .creator
-    ∷ h .index
-    ∷ h .«green_length»
-    ∷ m
-    ∷ 0
-    ∷ 0
-    ∷ 0
-    ∷ []
-
--- a State from behind its cuts up to its ids
-unfoldable pub standingNumbers : StateHead → List ℕ
-standingNumbers h =
-    h .«green_length»
-    ∷ h .attempt .0
-    ∷ h .last .index .0
-    ∷ h .last .attempt .0
-    ∷ h .last .set
-    ∷ h .mark .status
-    ∷ h .mark .index .0
-    ∷ h .mark .attempt .0
-    ∷ h .mark .set
-    ∷ h .mark .bits
-    ∷ h .«yellow_status»
-    ∷ h .«yellow_count»
-    ∷ []
+-- These, a sender and a number: all of a CPC, and what a State and a retransmission begin with.
+unfoldable pub openingBytes : (follows kind sender number : ℕ) → List ℕ
+openingBytes follows kind sender number = joined (frameBytes follows kind ∷ bytesOf 1 sender ∷ bytesOf 4 number ∷ [])
 
 -- "creator (1 byte), index (2), creator's green length (4)"
 unfoldable pub headBytes : ActionHead → List ℕ
@@ -83,8 +27,23 @@ headBytes h = joined (idBytes (idOf (h .creator) (h .index)) ∷ bytesOf 4 (h .�
 unfoldable pub yellowHeadBytes : (status count : ℕ) → List ℕ
 yellowHeadBytes status count = joined (bytesOf 1 status ∷ bytesOf 2 count ∷ [])
 
--- The bytes given hold all cuts and ids of a State, and the buffer has room for it.
-pub record StateRoom (h : StateHead) (cuts ids : List ℕ) (at : ℕ) (s : List ℕ) : Type 0 where
+-- A State from behind its cuts up to its ids.
+unfoldable pub standingBytes : StateHead → List ℕ
+standingBytes h =
+    joined
+    (bytesOf 4 (h .«green_length»)
+    ∷ bytesOf 4 (h .attempt .0)
+    ∷ primaryBytes (primaryOf (h .last))
+    ∷ markBytes (markOf (h .mark))
+    ∷ yellowHeadBytes (h .«yellow_status») (h .«yellow_count»)
+    ∷ [])
+
+-- How many bytes the cuts and ids of a State have.
+abbrev pub listsSize : StateHead → ℕ
+listsSize h = 2 * h .servers + idSize * h .«yellow_count»
+
+-- The bytes given hold all cuts and ids of a State, and the rest has room for it.
+pub record StateRoom (h : StateHead) (cuts ids rest : List ℕ) : Type 0 where
   pub enoughCuts : 2 * h .servers ≤ length cuts
   pub enoughIds : idSize * h .«yellow_count» ≤ length ids
-  pub room : at + (stateHeadSize + listsSize h) ≤ length s
+  pub room : stateHeadSize + listsSize h ≤ length rest

@@ -1,4 +1,4 @@
--- What a writer leaves in the outgoing buffer: a record's bytes next after the last record's.
+-- What a writer leaves in the outgoing buffer's unused rest: a record's bytes at its front. Document 02, K3: "writing one changes only its own bytes there".
 -- Assumes nothing.
 use Prim.Native.Nat.{ℕ, _+_, _*_}
 use mathlib.Core.Path.{_≡_}
@@ -6,33 +6,32 @@ use mathlib.Core.Bool.{Bool}
 use mathlib.Core.List.{List}
 use lib.ListN.{length}
 use Rattle.base.specs.Tests.{_and_, _≤?_, pick}
-use Rattle.base.specs.Patched.{patched}
-use Rattle.format.specs.Places.{idSize, stateHeadSize}
+use Rattle.base.specs.Bytes.{over}
+use Rattle.format.specs.Places.{idSize}
 use Rattle.format.specs.Types.{State, state}
 use Rattle.format.specs.Write.{write}
 use Rattle.record.specs.declared.StateHead.{StateHead}
+use Rattle.record.specs.Values.{stateOf}
 use Rattle.writer.specs.declared.records.Written.{Written}
 use Rattle.writer.specs.declared.records.Written.the-variants.{Next, Full}
-use Rattle.record.specs.Values.{stateOf}
-use Rattle.writer.specs.Blocks.{listsSize}
 
--- A buffer after a writer: the place where the next record goes, or no room.
+-- A rest after a writer: how many bytes the record has, so that the next one goes behind them, or no room.
 pub data Put : Type 0 where
-  next : (place : ℕ) → List ℕ → Put
+  next : (size : ℕ) → List ℕ → Put
   full : List ℕ → Put
 
--- The bytes b from `at` on and all else unchanged, if there is room.
-unfoldable pub put : List ℕ → ℕ → List ℕ → Put
-put b at old = pick (at + length b ≤? length old) (next (at + length b) (patched at b old)) (full old)
+-- The bytes b at the front of the rest and all behind them unchanged, if there is room.
+unfoldable pub put : (b rest : List ℕ) → Put
+put b rest = pick (length b ≤? length rest) (next (length b) (over b rest)) (full rest)
 
--- A writer's answer, with the buffer that it leaves.
+-- A writer's answer, with the rest that it leaves.
 unfoldable pub putOf : Written → List ℕ → Put
 putOf (Next n) s = next n s
 putOf Full s = full s
 
--- What a writer of the bytes b at `at` answers, and the buffer before and after.
-abbrev pub Puts : List ℕ → ℕ → Written → (old new : List ℕ) → Type 0
-Puts b at r old new = putOf r new ≡ put b at old
+-- What a writer of the bytes b answers, and the rest before and after.
+abbrev pub Puts : List ℕ → Written → (old new : List ℕ) → Type 0
+Puts b r old new = putOf r new ≡ put b old
 
 -- A State whose cuts and ids are the first bytes given.
 abbrev pub givenState : StateHead → (cuts ids : List ℕ) → State
@@ -47,17 +46,5 @@ abbrev pub enough : StateHead → (cuts ids : ℕ) → Bool
 enough h cuts ids = 2 * h .servers ≤? cuts and idSize * h .«yellow_count» ≤? ids
 
 -- A State is written only then.
-unfoldable pub putState : StateHead → (cuts ids : List ℕ) → ℕ → List ℕ → Put
-putState h cuts ids at old =
-    pick (enough h (length cuts) (length ids)) (put (givenBytes h cuts ids) at old) (full old)
-
--- ---- before anything is written
-
--- The place behind `size` bytes at `at`, if they lie inside `length` bytes.
-unfoldable pub placeAfter : (length at size : ℕ) → Written
-placeAfter l at size = pick (at + size ≤? l) (Next (at + size)) Full
-
--- The same for a State, of which `cuts` and `ids` bytes are given.
-unfoldable pub statePlace : StateHead → (cuts ids length at : ℕ) → Written
-statePlace h cuts ids l at =
-    pick (enough h cuts ids) (placeAfter l at (stateHeadSize + listsSize h)) Full
+unfoldable pub putState : StateHead → (cuts ids rest : List ℕ) → Put
+putState h cuts ids rest = pick (enough h (length cuts) (length ids)) (put (givenBytes h cuts ids) rest) (full rest)

@@ -1,18 +1,23 @@
-// Numbers, ids, payloads and actions at a place: written, and an id compared.
+// Numbers, ids, actions, primary components and marks at a place: written, and an id compared.
 ghost use mathlib.Core.Path.{_≡_};
 ghost use Prim.Native.Nat.{_+_, _≤_};
 ghost use lib.ListN.{length};
 ghost use Rattle.base.specs.Bytes.{bytesOf};
 ghost use Rattle.base.specs.Patched.{patched};
-ghost use Rattle.format.specs.Places.{idSize, actionPayloadAt, actionHeadSize};
+ghost use Rattle.format.specs.Places.{idSize, actionPayloadAt, actionHeadSize, primarySize, markSize, yellowHeadSize};
 ghost use Rattle.format.specs.Range.{sameId};
 ghost use Rattle.format.specs.Read.{idAt};
-ghost use Rattle.format.specs.Write.{idBytes, payloadBytes, actionBytes};
-ghost use Rattle.record.specs.Values.{idOf, actionOf};
-ghost use Rattle.writer.specs.Blocks.{headBytes};
+ghost use Rattle.format.specs.Write.{idBytes, payloadBytes, actionBytes, primaryBytes, markBytes};
+ghost use Rattle.record.specs.Values.{idOf, componentOf, markOf, actionOf};
+ghost use Rattle.writer.specs.Blocks.{headBytes, yellowHeadBytes};
 use crate::blocks::copy;
 use crate::blocks::put_number;
 use record::ActionHead;
+use record::AttemptIndex;
+use record::LastPrimary;
+use record::Mark;
+use record::PrimaryIndex;
+use record::StateHead;
 use record::bytes::num8;
 use record::bytes::num16;
 
@@ -81,4 +86,36 @@ pub fn put_body(out: &mut [u8], at: usize, head: ActionHead, payload: &[u8])
 {
     put_head(out, at, head);
     put_payload(out, at + ActionHead::PAYLOAD, payload);
+}
+
+pub fn put_primary(out: &mut [u8], at: usize, index: PrimaryIndex, attempt: AttemptIndex, set: u8)
+    requires { ⌜ at + primarySize ≤ length (now out) ⌝ }
+    ensures { λ _. ⌜ now (out .exit) ≡ patched at (primaryBytes (componentOf index attempt set)) (now (out .entry)) ⌝ }
+{
+    put32(out, at, index.0);
+    put32(out, at + LastPrimary::ATTEMPT, attempt.0);
+    put8(out, at + LastPrimary::SET, set);
+}
+
+pub fn put_mark(out: &mut [u8], at: usize, mark: Mark)
+    requires { ⌜ at + markSize ≤ length (now out) ⌝ }
+    ensures { λ _. ⌜ now (out .exit) ≡ patched at (markBytes (markOf mark)) (now (out .entry)) ⌝ }
+{
+    put8(out, at, mark.status);
+    put32(out, at + Mark::INDEX, mark.index.0);
+    put32(out, at + Mark::ATTEMPT, mark.attempt.0);
+    put8(out, at + Mark::SET, mark.set);
+    put8(out, at + Mark::BITS, mark.bits);
+}
+
+// Where the count of a yellow list lies, behind its status.
+const YELLOW_COUNT: usize = StateHead::YELLOW_COUNT - StateHead::YELLOW;
+
+// The status and the count of a yellow list.
+pub fn put_yellow_head(out: &mut [u8], at: usize, status: u8, count: u16)
+    requires { ⌜ at + yellowHeadSize ≤ length (now out) ⌝ }
+    ensures { λ _. ⌜ now (out .exit) ≡ patched at (yellowHeadBytes status count) (now (out .entry)) ⌝ }
+{
+    put8(out, at, status);
+    put16(out, at + YELLOW_COUNT, count);
 }

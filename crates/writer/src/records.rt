@@ -1,43 +1,34 @@
-// Writers of the records that the engine sends, straight into the outgoing buffer.
+// Writers of the records that the engine sends. Each takes the outgoing buffer's unused rest and writes its record at the front of it, number by number.
 ghost use mathlib.Core.Path.{_≡_};
-ghost use Prim.Native.Nat.{_+_, _*_, _%_};
+ghost use Prim.Native.Nat.{_+_, _≤_};
+ghost use lib.ListN.{length};
 ghost use Rattle.base.specs.Patched.{patched};
+ghost use Rattle.base.specs.Tests.{_≤?_};
+ghost use Rattle.format.specs.Places.{atBody, cpcSize, standingSize};
 ghost use Rattle.format.specs.Types.{action, cpc};
 ghost use Rattle.format.specs.Write.{write};
 ghost use Rattle.record.specs.Values.{actionOf, resent};
-ghost use Rattle.writer.specs.Written.{Puts, givenBytes, putOf, putState, placeAfter, statePlace};
-ghost use Rattle.writer.specs.Blocks.{openingNumbers, stateOpening, actionNumbers, retransmissionNumbers, standingNumbers, StateRoom};
-use crate::blocks::put_block;
-use crate::blocks::put_numbers;
+ghost use Rattle.writer.specs.Blocks.{frameBytes, openingBytes, standingBytes, StateRoom};
+ghost use Rattle.writer.specs.Written.{Puts, givenBytes, putOf, putState};
+use crate::blocks::copy;
+use crate::blocks::put_number;
+use crate::parts::put_body;
+use crate::parts::put_mark;
+use crate::parts::put_primary;
+use crate::parts::put_yellow_head;
+use crate::parts::put8;
+use crate::parts::put32;
 use record::ActionHead;
 use record::State;
 use record::StateHead;
 use record::events::Event;
 use record::events::VERSION;
 
-// Where the next record goes, or no room: then the buffer is as it was.
+// How many bytes the record has, so that the next one goes behind them; or no room: then the rest is as it was.
 pub enum Written {
     Next(usize),
     Full,
 }
-
-// The place behind `size` and `more` bytes at `at`, if they lie inside `length` bytes.
-fn place_after(length: usize, at: usize, size: usize, more: usize) -> Written
-    ensures { λ r. ⌜ r ≡ placeAfter length at (size + more) ⌝ }
-{
-    if length < at {
-        return Written::Full;
-    }
-    if length - at < size {
-        return Written::Full;
-    }
-    if length - at - size < more {
-        return Written::Full;
-    }
-    Written::Next(at + size + more)
-}
-
-const ID: u32 = State::ID as u32;
 
 // What the length bytes count of a record of each kind, but payload, cuts and ids.
 const ACTION_FOLLOWS: u32 = (Event::ACTION_SIZE - Event::LENGTH_SIZE) as u32;
@@ -48,199 +39,134 @@ const STATE_FOLLOWS: u32 = (StateHead::SIZE - Event::LENGTH_SIZE) as u32;
 
 const CPC_FOLLOWS: u32 = (Event::CPC_SIZE - Event::LENGTH_SIZE) as u32;
 
-// Each record's numbers up to its bytes, filled up with zeros, and their widths.
-
-// All of a CPC, and what a State begins with.
-const OPENING_WIDTHS: [u8; 12] = [2, 1, 1, 1, 4, 0, 0, 0, 0, 0, 0, 0];
-
-fn opening(follows: u32, kind: u8, sender: u8, number: u32) -> [u32; 12]
-    ensures { λ r. ⌜ r ≡ openingNumbers follows kind sender number ⌝ }
+// Whether `size` bytes and `more` behind them lie inside `length` bytes.
+fn fits(length: usize, size: usize, more: usize) -> bool
+    ensures { λ r. ⌜ r ≡ (size + more ≤? length) ⌝ }
 {
-    let kind = kind as u32;
-    let sender = sender as u32;
-    [
-        follows,
-        VERSION as u32,
-        kind,
-        sender,
-        number,
-        0,
-        0,
-        0,
-        0,
-        0,
-        0,
-        0,
-    ]
+    if length < size {
+        return false;
+    }
+    more <= length - size
 }
 
-const ACTION_WIDTHS: [u8; 12] = [2, 1, 1, 1, 2, 4, 1, 0, 0, 0, 0, 0];
-
-// Of the payload's length as much as two bytes can tell.
-fn action_numbers(head: ActionHead, payload: usize) -> [u32; 12]
-    ensures { λ r. ⌜ r ≡ actionNumbers head (payload % 65536) ⌝ }
+// Length bytes, version and kind.
+fn put_frame(rest: &mut [u8], follows: u32, kind: u8)
+    requires { ⌜ atBody ≤ length (now rest) ⌝ }
+    ensures { λ _. ⌜ now (rest .exit) ≡ patched 0 (frameBytes follows kind) (now (rest .entry)) ⌝ }
 {
-    let size = (payload % 65536) as u32;
-    [
-        ACTION_FOLLOWS + size,
-        VERSION as u32,
-        Event::ACTION as u32,
-        head.creator as u32,
-        head.index as u32,
-        head.green_length,
-        size,
-        0,
-        0,
-        0,
-        0,
-        0,
-    ]
+    put_number(rest, 0, Event::LENGTH_SIZE, follows);
+    put8(rest, Event::VERSION_AT, VERSION);
+    put8(rest, Event::KIND_AT, kind);
 }
 
-const RETRANSMISSION_WIDTHS: [u8; 12] = [2, 1, 1, 1, 4, 1, 2, 4, 1, 0, 0, 0];
-
-fn retransmission_numbers(sender: u8, position: u32, head: ActionHead, payload: usize) -> [u32; 12]
-    ensures { λ r. ⌜ r ≡ retransmissionNumbers sender position head (payload % 65536) ⌝ }
+// These, a sender and a number: all of a CPC, and what a State and a retransmission begin with.
+fn put_opening(rest: &mut [u8], follows: u32, kind: u8, sender: u8, number: u32)
+    requires { ⌜ cpcSize ≤ length (now rest) ⌝ }
+    ensures { λ _. ⌜ now (rest .exit) ≡ patched 0 (openingBytes follows kind sender number) (now (rest .entry)) ⌝ }
 {
-    let size = (payload % 65536) as u32;
-    [
-        RETRANSMISSION_FOLLOWS + size,
-        VERSION as u32,
-        Event::RETRANSMISSION as u32,
-        sender as u32,
-        position,
-        head.creator as u32,
-        head.index as u32,
-        head.green_length,
-        size,
-        0,
-        0,
-        0,
-    ]
+    put_frame(rest, follows, kind);
+    put8(rest, Event::SENDER, sender);
+    put32(rest, Event::NUMBER, number);
 }
 
-const STANDING_WIDTHS: [u8; 12] = [4, 4, 4, 4, 1, 1, 4, 4, 1, 1, 1, 2];
-
-fn standing(head: StateHead) -> [u32; 12]
-    ensures { λ r. ⌜ r ≡ standingNumbers head ⌝ }
+// Writes a CPC.
+pub fn write_cpc(rest: &mut [u8], sender: u8, configuration: u32) -> Written
+    ensures { λ r. ⌜ Puts (write (cpc sender configuration)) r (now (rest .entry)) (now (rest .exit)) ⌝ }
 {
-    let last = head.last;
-    let mark = head.mark;
-    [
-        head.green_length,
-        head.attempt.0,
-        last.index.0,
-        last.attempt.0,
-        last.set as u32,
-        mark.status as u32,
-        mark.index.0,
-        mark.attempt.0,
-        mark.set as u32,
-        mark.bits as u32,
-        head.yellow_status as u32,
-        head.yellow_count as u32,
-    ]
-}
-
-// Writes a CPC at `at`.
-pub fn write_cpc(out: &mut [u8], at: usize, sender: u8, configuration: u32) -> Written
-    ensures { λ r. ⌜ Puts (write (cpc sender configuration)) at r (now (out .entry)) (now (out .exit)) ⌝ }
-{
-    let w = place_after(out.len(), at, Event::CPC_SIZE, 0);
-    let Written::Next(_) = w else {
+    if rest.len() < Event::CPC_SIZE {
         return Written::Full;
-    };
-    let numbers = opening(CPC_FOLLOWS, Event::CPC, sender, configuration);
-    put_numbers(out, at, OPENING_WIDTHS, numbers);
-    w
+    }
+    put_opening(rest, CPC_FOLLOWS, Event::CPC, sender, configuration);
+    Written::Next(Event::CPC_SIZE)
 }
 
-// Writes an action at `at`.
-pub fn write_action(out: &mut [u8], at: usize, head: ActionHead, payload: &[u8]) -> Written
-    ensures { λ r. ⌜ Puts (write (action (actionOf head (now (payload .entry))))) at r (now (out .entry)) (now (out .exit)) ⌝ }
+// Writes an action. Two length bytes tell of a payload's length as much as they can.
+pub fn write_action(rest: &mut [u8], head: ActionHead, payload: &[u8]) -> Written
+    ensures { λ r. ⌜ Puts (write (action (actionOf head (now (payload .entry))))) r (now (rest .entry)) (now (rest .exit)) ⌝ }
 {
     let size = payload.len();
-    let w = place_after(out.len(), at, Event::ACTION_SIZE, size);
-    let Written::Next(_) = w else {
+    if !fits(rest.len(), Event::ACTION_SIZE, size) {
         return Written::Full;
-    };
-    let numbers = action_numbers(head, size);
-    put_block(out, at, ACTION_WIDTHS, numbers, payload);
-    w
+    }
+    let follows = ACTION_FOLLOWS + (size % 65536) as u32;
+    put_frame(rest, follows, Event::ACTION);
+    put_body(rest, Event::BODY, head, payload);
+    Written::Next(Event::ACTION_SIZE + size)
 }
 
-// Writes a retransmission of an action at `at`.
+// Writes a retransmission of an action.
 pub fn write_retransmission(
-    out: &mut [u8],
-    at: usize,
+    rest: &mut [u8],
     sender: u8,
     position: u32,
     head: ActionHead,
     payload: &[u8],
 ) -> Written
-    ensures { λ r. ⌜ Puts (write (resent sender position head (now (payload .entry)))) at r (now (out .entry)) (now (out .exit)) ⌝ }
+    ensures { λ r. ⌜ Puts (write (resent sender position head (now (payload .entry)))) r (now (rest .entry)) (now (rest .exit)) ⌝ }
 {
     let size = payload.len();
-    let w = place_after(out.len(), at, Event::RETRANSMISSION_SIZE, size);
-    let Written::Next(_) = w else {
-        return Written::Full;
-    };
-    let numbers = retransmission_numbers(sender, position, head, size);
-    put_block(out, at, RETRANSMISSION_WIDTHS, numbers, payload);
-    w
-}
-
-// The place behind a State at `at`, if the bytes given hold all its cuts and ids and it lies inside `length` bytes.
-fn state_place(head: StateHead, cuts: usize, ids: usize, length: usize, at: usize) -> Written
-    ensures { λ r. ⌜ r ≡ statePlace head cuts ids length at ⌝ }
-{
-    let n = 2 * (head.servers as usize);
-    if cuts < n {
+    if !fits(rest.len(), Event::RETRANSMISSION_SIZE, size) {
         return Written::Full;
     }
-    let m = State::ID * (head.yellow_count as usize);
-    if ids < m {
-        return Written::Full;
-    }
-    place_after(length, at, StateHead::SIZE, n + m)
+    let follows = RETRANSMISSION_FOLLOWS + (size % 65536) as u32;
+    put_opening(rest, follows, Event::RETRANSMISSION, sender, position);
+    put_body(rest, Event::RESENT, head, payload);
+    Written::Next(Event::RETRANSMISSION_SIZE + size)
 }
 
-// A State's first numbers.
-fn state_opening(head: StateHead) -> [u32; 12]
-    ensures { λ r. ⌜ r ≡ stateOpening head ⌝ }
+// What a State has behind its cuts, from `at` on, up to its ids.
+fn put_standing(rest: &mut [u8], at: usize, head: StateHead)
+    requires { ⌜ at + standingSize ≤ length (now rest) ⌝ }
+    ensures { λ _. ⌜ now (rest .exit) ≡ patched at (standingBytes head) (now (rest .entry)) ⌝ }
 {
-    let follows = STATE_FOLLOWS + (2 * (head.servers as u32) + ID * (head.yellow_count as u32));
-    opening(follows, Event::STATE, head.sender, head.configuration)
-}
-
-// The whole record of a State, of the first bytes given.
-fn put_state(out: &mut [u8], at: usize, head: StateHead, cuts: &[u8], ids: &[u8])
-    requires { ⌜ StateRoom head (now cuts) (now ids) at (now out) ⌝ }
-    ensures { λ _. ⌜ now (out .exit) ≡ patched at (givenBytes head (now (cuts .entry)) (now (ids .entry))) (now (out .entry)) ⌝ }
-{
-    let n = 2 * (head.servers as usize);
-    let m = State::ID * (head.yellow_count as usize);
-    let first = state_opening(head);
-    let second = standing(head);
-    put_block(out, at, OPENING_WIDTHS, first, &cuts[..n]);
-    put_block(
-        out,
-        at + (StateHead::CUTS + n),
-        STANDING_WIDTHS,
-        second,
-        &ids[..m],
+    let last = head.last;
+    put32(rest, at, head.green_length);
+    put32(rest, at + StateHead::ATTEMPT, head.attempt.0);
+    put_primary(
+        rest,
+        at + StateHead::LAST,
+        last.index,
+        last.attempt,
+        last.set,
+    );
+    put_mark(rest, at + StateHead::MARK, head.mark);
+    put_yellow_head(
+        rest,
+        at + StateHead::YELLOW,
+        head.yellow_status,
+        head.yellow_count,
     );
 }
 
-// Writes a State at `at`: `cuts` begins with its cuts, two bytes each, and `ids` with its yellow ids, three bytes each. Full too where
-// these are too few.
-pub fn write_state(out: &mut [u8], at: usize, head: StateHead, cuts: &[u8], ids: &[u8]) -> Written
-    ensures { λ r. ⌜ putOf r (now (out .exit)) ≡ putState head (now (cuts .entry)) (now (ids .entry)) at (now (out .entry)) ⌝ }
+// The whole record of a State, of the first bytes given.
+fn put_state(rest: &mut [u8], head: StateHead, cuts: &[u8], ids: &[u8])
+    requires { ⌜ StateRoom head (now cuts) (now ids) (now rest) ⌝ }
+    ensures { λ _. ⌜ now (rest .exit) ≡ patched 0 (givenBytes head (now (cuts .entry)) (now (ids .entry))) (now (rest .entry)) ⌝ }
 {
-    let w = state_place(head, cuts.len(), ids.len(), out.len(), at);
-    let Written::Next(_) = w else {
+    let n = 2 * (head.servers as usize);
+    let m = State::ID * (head.yellow_count as usize);
+    let follows = STATE_FOLLOWS + (n + m) as u32;
+    put_opening(rest, follows, Event::STATE, head.sender, head.configuration);
+    copy(rest, StateHead::CUTS, &cuts[..n]);
+    put_standing(rest, StateHead::CUTS + n, head);
+    copy(rest, StateHead::SIZE + n, &ids[..m]);
+}
+
+// Writes a State: `cuts` begins with its cuts, two bytes each, and `ids` with its yellow ids, three bytes each. Full too where these are too few.
+pub fn write_state(rest: &mut [u8], head: StateHead, cuts: &[u8], ids: &[u8]) -> Written
+    ensures { λ r. ⌜ putOf r (now (rest .exit)) ≡ putState head (now (cuts .entry)) (now (ids .entry)) (now (rest .entry)) ⌝ }
+{
+    let n = 2 * (head.servers as usize);
+    if cuts.len() < n {
         return Written::Full;
-    };
-    put_state(out, at, head, cuts, ids);
-    w
+    }
+    let m = State::ID * (head.yellow_count as usize);
+    if ids.len() < m {
+        return Written::Full;
+    }
+    if rest.len() < StateHead::SIZE + (n + m) {
+        return Written::Full;
+    }
+    put_state(rest, head, cuts, ids);
+    Written::Next(StateHead::SIZE + (n + m))
 }

@@ -8,8 +8,6 @@ use native.Mathlib.Omega.{arith}
 use borrow.Author.Needs.{needs}
 use Rattle.writer.proofs.moves.shift_down.Statement.{statement}
 use Rattle.writer.proofs.moves.shift_down.Tie as tie
-use Rattle.writer.proofs.moves.shift_down.Reads as reads
-use Rattle.writer.proofs.moves.shift_down.Lts as lts
 
 abbrev Inv-loop : tie.InvT-loop
 Inv-loop s₀ w n i₀ s i = (i ≤ n) × (n ≡ length s₀ - w) × (length s ≡ length s₀) × (s ≡ patched 0 (take i (drop w s₀)) s₀)

@@ -6,8 +6,6 @@ use lib.ListN.{length, length-set}
 use Rattle.base.proofs.Shifts.{shifted, up-turn, up-start, up-end}
 use Rattle.writer.proofs.moves.shift_up.Statement.{statement}
 use Rattle.writer.proofs.moves.shift_up.Tie as tie
-use Rattle.writer.proofs.moves.shift_up.Reads as reads
-use Rattle.writer.proofs.moves.shift_up.Lts as lts
 
 abbrev Inv-loop : tie.InvT-loop
 Inv-loop s₀ w i₀ s i = (i ≤ length s₀ - w) × (length s ≡ length s₀) × (s ≡ shifted s₀ w i)

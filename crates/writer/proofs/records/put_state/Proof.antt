@@ -1,5 +1,5 @@
-use Rattle.base.specs.Lists.{sum}
-use Rattle.writer.proofs.WriterState.{cuts-given, ids-given, first-fits, second-fits, state-filled}
+use Rattle.writer.proofs.StateLaws.{cuts-given, ids-given, cuts-fit, ids-fit, state-filled}
+use Rattle.format.specs.Types.{kindNumber}
 use borrow.Author.Needs.{needs}
 use Rattle.writer.proofs.records.put_state.Statement.{statement}
 use Rattle.writer.proofs.records.put_state.Tie as tie
@@ -16,36 +16,44 @@ cast-m c = search needs
 mul-m : tie.Need-mul-m
 mul-m c = search needs
 
-state-opening-requires : tie.Need-state-opening-requires
-state-opening-requires c κs = search needs
+add-follows : tie.Need-add-follows
+add-follows c = search needs
 
-standing-requires : tie.Need-standing-requires
-standing-requires c κs = search needs
+cast-follows : tie.Need-cast-follows
+cast-follows c = search needs
 
-slice-aggregate-put-block : tie.Need-slice-aggregate-put-block
-slice-aggregate-put-block c = search (needs, cuts-given)
+add-follows-2 : tie.Need-add-follows-2
+add-follows-2 c = search needs
 
-put-block-requires : tie.Need-put-block-requires
-unfolding sum
-put-block-requires c κs = search (needs, first-fits)
+put-opening-requires : tie.Need-put-opening-requires
+put-opening-requires c κs = search needs
 
-add-put-block : tie.Need-add-put-block
-add-put-block c = search needs
+slice-aggregate-copy : tie.Need-slice-aggregate-copy
+slice-aggregate-copy c = search (needs, cuts-given)
 
-add-put-block-2 : tie.Need-add-put-block-2
-add-put-block-2 c = search needs
+copy-requires : tie.Need-copy-requires
+copy-requires c κs = search (needs, cuts-fit)
 
-slice-aggregate-put-block-2 : tie.Need-slice-aggregate-put-block-2
-slice-aggregate-put-block-2 c = search (needs, ids-given)
+add-put-standing : tie.Need-add-put-standing
+add-put-standing c = search needs
 
-put-block-requires-2 : tie.Need-put-block-requires-2
-unfolding sum
-put-block-requires-2 c κs = search (needs, second-fits)
+put-standing-requires : tie.Need-put-standing-requires
+put-standing-requires c κs = search needs
+
+add-copy : tie.Need-add-copy
+add-copy c = search needs
+
+slice-aggregate-copy-2 : tie.Need-slice-aggregate-copy-2
+slice-aggregate-copy-2 c = search (needs, ids-given)
+
+copy-requires-2 : tie.Need-copy-requires-2
+copy-requires-2 c κs = ids-fit _ _ _ _ (c .before .before .before .before .before .before .before .before .before .before .before .before .before .before .before .before .before .before .before .before .pre) _ (search needs)
 
 same-length : tie.Need-same-length
 same-length c = search needs
 
 returns : tie.Need-returns
+unfolding kindNumber
 returns c = search (needs, state-filled)
 
 pub put-state-spec : {M : Type 1} → statement M
@@ -56,13 +64,16 @@ put-state-spec =
     mul-n
     cast-m
     mul-m
-    state-opening-requires
-    standing-requires
-    slice-aggregate-put-block
-    put-block-requires
-    add-put-block
-    add-put-block-2
-    slice-aggregate-put-block-2
-    put-block-requires-2
+    add-follows
+    cast-follows
+    add-follows-2
+    put-opening-requires
+    slice-aggregate-copy
+    copy-requires
+    add-put-standing
+    put-standing-requires
+    add-copy
+    slice-aggregate-copy-2
+    copy-requires-2
     same-length
     returns)

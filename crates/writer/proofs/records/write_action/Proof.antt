@@ -1,43 +1,47 @@
-use Rattle.base.specs.Lists.{sum}
-use Rattle.writer.proofs.WriterReturns.{block-fits, action-full, action-next}
+use Rattle.writer.proofs.RecordLaws.{frame-room, body-room, action-full, action-next}
+use Rattle.format.specs.Types.{kindNumber}
 use borrow.Author.Needs.{needs}
 use Rattle.writer.proofs.records.write_action.Statement.{statement}
 use Rattle.writer.proofs.records.write_action.Tie as tie
 
-place-after-requires : tie.Need-place-after-requires
-place-after-requires c κs = search needs
-
-enum-told : tie.Need-enum-told
-enum-told c = search needs
-
-enum-told-2 : tie.Need-enum-told-2
-enum-told-2 c = search needs
+fits-requires : tie.Need-fits-requires
+fits-requires c κs = search needs
 
 returns : tie.Need-returns
 returns c = search (needs, action-full)
 
-action-numbers-requires : tie.Need-action-numbers-requires
-action-numbers-requires c κs = search needs
+cast-follows : tie.Need-cast-follows
+cast-follows c = search needs
 
-put-block-requires : tie.Need-put-block-requires
-unfolding sum
-put-block-requires c κs = search (needs, block-fits)
+add-follows : tie.Need-add-follows
+add-follows c = search needs
+
+put-frame-requires : tie.Need-put-frame-requires
+put-frame-requires c κs = search (needs, frame-room)
+
+put-body-requires : tie.Need-put-body-requires
+put-body-requires c κs = search (needs, body-room)
+
+add-t7 : tie.Need-add-t7
+add-t7 c = search needs
 
 same-length : tie.Need-same-length
 same-length c = search needs
 
 returns-2 : tie.Need-returns-2
+unfolding kindNumber
 returns-2 c = search (needs, action-next)
 
 pub write-action-spec : {M : Type 1} → statement M
 write-action-spec =
     tie.close
     (tie.spec
-    place-after-requires
-    enum-told
-    enum-told-2
+    fits-requires
     returns
-    action-numbers-requires
-    put-block-requires
+    cast-follows
+    add-follows
+    put-frame-requires
+    put-body-requires
+    add-t7
     same-length
     returns-2)

@@ -1,43 +1,47 @@
-use Rattle.base.specs.Lists.{sum}
-use Rattle.writer.proofs.WriterReturns.{block-fits, retransmission-full, retransmission-next}
+use Rattle.writer.proofs.RecordLaws.{opening-room, resent-room, retransmission-full, retransmission-next}
+use Rattle.format.specs.Types.{kindNumber}
 use borrow.Author.Needs.{needs}
 use Rattle.writer.proofs.records.write_retransmission.Statement.{statement}
 use Rattle.writer.proofs.records.write_retransmission.Tie as tie
 
-place-after-requires : tie.Need-place-after-requires
-place-after-requires c κs = search needs
-
-enum-told : tie.Need-enum-told
-enum-told c = search needs
-
-enum-told-2 : tie.Need-enum-told-2
-enum-told-2 c = search needs
+fits-requires : tie.Need-fits-requires
+fits-requires c κs = search needs
 
 returns : tie.Need-returns
 returns c = search (needs, retransmission-full)
 
-retransmission-numbers-requires : tie.Need-retransmission-numbers-requires
-retransmission-numbers-requires c κs = search needs
+cast-follows : tie.Need-cast-follows
+cast-follows c = search needs
 
-put-block-requires : tie.Need-put-block-requires
-unfolding sum
-put-block-requires c κs = search (needs, block-fits)
+add-follows : tie.Need-add-follows
+add-follows c = search needs
+
+put-opening-requires : tie.Need-put-opening-requires
+put-opening-requires c κs = search (needs, opening-room)
+
+put-body-requires : tie.Need-put-body-requires
+put-body-requires c κs = search (needs, resent-room)
+
+add-t9 : tie.Need-add-t9
+add-t9 c = search needs
 
 same-length : tie.Need-same-length
 same-length c = search needs
 
 returns-2 : tie.Need-returns-2
+unfolding kindNumber
 returns-2 c = search (needs, retransmission-next)
 
 pub write-retransmission-spec : {M : Type 1} → statement M
 write-retransmission-spec =
     tie.close
     (tie.spec
-    place-after-requires
-    enum-told
-    enum-told-2
+    fits-requires
     returns
-    retransmission-numbers-requires
-    put-block-requires
+    cast-follows
+    add-follows
+    put-opening-requires
+    put-body-requires
+    add-t9
     same-length
     returns-2)
