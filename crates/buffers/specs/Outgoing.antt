@@ -1,5 +1,5 @@
--- What the outgoing buffer holds after a taken event. Document 02, K3: "writing one changes only its own bytes there, next after the last record's, and
--- they read back as it."
+-- What the outgoing buffer holds after a taken event.
+-- Document 02, K3: "writing one changes only its own bytes there, next after the last record's, and they read back as it."
 -- Assumes nothing.
 use Prim.Native.Nat.{ℕ, _+_, _≤_}
 use mathlib.Core.Path.{_≡_}
