@@ -6,3 +6,4 @@ pub mod Arriving
 pub mod Entries
 pub mod Runs
 pub mod Agreement
+pub mod OutgoingLaws

@@ -22,7 +22,8 @@ use Rattle.format.proofs.RoundTrip.{read-written}
 use Rattle.replication.specs.Machine.Types.{Server, taken, contextOf}
 use Rattle.replication.specs.Machine.Step.{step}
 use Rattle.replication.specs.Machine.WellFormed.{wellFormed}
-use Rattle.replication.proofs.WellFormed.Reads.{Peer, put-out-in-range, step-put-out}
+use Rattle.replication.specs.Laws.Sending.{Peer}
+use Rattle.replication.proofs.WellFormed.Reads.{put-out-in-range, step-put-out}
 use Rattle.buffers.specs.Sending.{firstSize, cutFrom, cutRecords}
 use Rattle.buffers.proofs.Keeping.{formed-context}
 

@@ -2,3 +2,4 @@ pub mod Buffers
 pub mod Sending
 pub mod Daemons
 pub mod Claim
+pub mod Outgoing

@@ -1,8 +1,16 @@
-// Demand 3 on the buffers of daemons: definitions and a theorem, no running code. The function here does nothing: its contract is the theorem.
+// Demand 3 on the buffers of daemons, and what the outgoing buffer holds: definitions and theorems, no running code. The functions here do nothing:
+// their contracts are the theorems.
 ghost use Rattle.buffers.specs.Claim.{BuffersDemand};
+ghost use Rattle.buffers.specs.Outgoing.{OutgoingRecords};
 
 // Daemons that keep each server's state and stored image in buffers, as the C interface says: in every allowed run, at every moment, the buffers hold
 // the machine's states, the green lists and the primaries read from them agree, and the records put out are the machine's.
 pub fn buffers_agree()
     ensures { λ _. ⌜ BuffersDemand ⌝ }
+{}
+
+// After a taken event the outgoing buffer holds its records one after another from its beginning, each exactly its writing, which reads back as it at
+// every server of the same n and q; behind the last it is as it was.
+pub fn outgoing_records()
+    ensures { λ _. ⌜ OutgoingRecords ⌝ }
 {}

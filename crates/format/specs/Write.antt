@@ -1,7 +1,7 @@
 -- Document 01, 'Records': the bytes of a record.
 -- Assumes nothing.
 use Prim.Native.Nat.{ℕ, _+_, _*_, _-_}
-use mathlib.Core.List.{List, [], _∷_}
+use mathlib.Core.List.{List, [], _∷_, map}
 use lib.ListN.{length}
 use Rattle.base.specs.Bytes.{bytesOf, joined}
 use Rattle.format.specs.Limits.{version}
@@ -67,6 +67,10 @@ bodyOf recovery = []
 
 unfoldable pub write : Record → List ℕ
 write r = framed (kindNumber (kindOf r)) (bodyOf r)
+
+-- Records one after another, as bytes.
+unfoldable pub recordBytes : List Record → List ℕ
+recordBytes rs = joined (map write rs)
 
 -- How long the bytes of a record are, the two length bytes among them.
 unfoldable pub lengthOf : Record → ℕ

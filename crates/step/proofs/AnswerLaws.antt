@@ -11,6 +11,7 @@ use Rattle.base.specs.Bytes.{joined, over}
 use Rattle.base.specs.Lists.{isThere}
 use Rattle.format.specs.Types.{Record}
 use Rattle.format.specs.Range.{contextOk, fieldsOk, recordOk}
+use Rattle.format.specs.Write.{recordBytes}
 use Rattle.replication.specs.Machine.Types.{Server, Outcome, refused, contextOf}
 use Rattle.replication.specs.Machine.Rules.{Rule, ruleFor, possible, fromMember, isIgnored, withinQuota, withinHeld}
 use Rattle.replication.specs.Machine.Step.{quiet, stored, apply, applyRule, answer, inBytes}
@@ -20,7 +21,7 @@ use Rattle.replication.proofs.WellFormed.RuleFacts.{rule-fits}
 use Rattle.engine.specs.Image.{image}
 use Rattle.engine.specs.Outcome.{refusal, resultOf}
 use Rattle.step.specs.declared.Answer.{Answer}
-use Rattle.step.specs.Answers.{answered, outcomeOn, refusedWith, quietly, storedFirst, recordBytes}
+use Rattle.step.specs.Answers.{answered, outcomeOn, refusedWith, quietly, storedFirst}
 use Rattle.step.proofs.OutcomeLaws.{quiet-outcome, stored-outcome}
 
 -- ---- rows 5, 6, 3 and 4

@@ -13,7 +13,7 @@ use Rattle.base.proofs.Prefixes.{begins-refl}
 use Rattle.base.proofs.TestLaws.{pick-yes, pick-no}
 use Rattle.base.specs.Bytes.{over}
 use Rattle.format.specs.Types.{cpc}
-use Rattle.format.specs.Write.{write, idsBytes, lengthOf}
+use Rattle.format.specs.Write.{write, idsBytes, lengthOf, recordBytes}
 use Rattle.format.proofs.IdCount.{ids-count}
 use Rattle.format.proofs.Lengths.{write-length}
 use Rattle.record.specs.declared.State.{State}
@@ -42,7 +42,7 @@ use Rattle.exchange.specs.declared.decided.TakenVotes.{TakenVotes}
 use Rattle.exchange.specs.Decided.{votesNumbers}
 use Rattle.exchange.specs.Table.{Listed}
 use Rattle.step.specs.declared.Answer.{Answer}
-use Rattle.step.specs.Answers.{answered, outcomeOn, LentSuch, storedFirst, recordBytes}
+use Rattle.step.specs.Answers.{answered, outcomeOn, LentSuch, storedFirst}
 use Rattle.step.proofs.LentFacts.{lent-fact, lent-room}
 use Rattle.engine.proofs.Chained.{Covers, chained, then-holds, numbers-then}
 use Rattle.step.proofs.ExchangeStates.{decided-formed, attempting-formed, staying-formed}

@@ -15,7 +15,7 @@ use Rattle.base.specs.Patched.{patched}
 use Rattle.base.proofs.Over.{over-length, over-extended}
 use Rattle.format.specs.Types.{Action, Record, action}
 use Rattle.format.specs.Read.{payloadAt}
-use Rattle.format.specs.Write.{write, lengthOf, payloadBytes}
+use Rattle.format.specs.Write.{write, lengthOf, payloadBytes, recordBytes}
 use Rattle.format.proofs.Fields.{payload-read}
 use Rattle.format.proofs.Lengths.{write-length}
 use Rattle.format.proofs.Ranges.{PayloadRange}
@@ -37,7 +37,7 @@ use Rattle.engine.proofs.HeaderLaws.{header-loaded}
 use Rattle.engine.specs.Holding.{Holds}
 use Rattle.engine.proofs.InPlace.{holds-decoded}
 use Rattle.engine.proofs.Used.{held-slot-length}
-use Rattle.step.specs.Answers.{LentSuch, recordBytes}
+use Rattle.step.specs.Answers.{LentSuch}
 use Rattle.step.specs.Sending.{heldPlace, heldHead, heldAction, heldBytes, HeldRoom}
 use Rattle.step.proofs.LentLaws.{lent-counts, lent-header, holds-products, holds-part, put-room, put-done, one-record}
 use Rattle.format.specs.Places.{mostAction}

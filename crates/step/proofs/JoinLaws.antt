@@ -17,7 +17,7 @@ use Rattle.base.specs.Tests.{_≤?_, _and_}
 use Rattle.base.proofs.TestLaws.{pick-yes, both-yes, le-yes}
 use Rattle.format.specs.Types.{Id, State, state}
 use Rattle.format.specs.Read.{idsAt}
-use Rattle.format.specs.Write.{write, lengthOf, cutsBytes, idsBytes}
+use Rattle.format.specs.Write.{write, lengthOf, cutsBytes, idsBytes, recordBytes}
 use Rattle.format.proofs.Fields.{cuts-read, ids-read}
 use Rattle.format.proofs.Lengths.{write-length}
 use Rattle.record.specs.declared.State as declared
@@ -38,7 +38,7 @@ use Rattle.engine.specs.Holding.{Holds}
 use Rattle.base.proofs.Over.{over-front}
 use Rattle.updates.specs.Lists.{configurationOf}
 use Rattle.step.specs.declared.Answer.{Answer}
-use Rattle.step.specs.Answers.{answered, outcomeOn, LentSuch, storedFirst, recordBytes}
+use Rattle.step.specs.Answers.{answered, outcomeOn, LentSuch, storedFirst}
 use Rattle.step.specs.Sending.{ownHead, ownRecord}
 use Rattle.step.proofs.LentFacts.{lent-room}
 use Rattle.step.proofs.LentLaws.{holds-products, holds-part, put-room, put-done, one-record}

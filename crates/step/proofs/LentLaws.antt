@@ -10,7 +10,7 @@ use Rattle.base.proofs.Occurs.{Occurs}
 use Rattle.base.specs.Patched.{patched}
 use Rattle.base.proofs.TestLaws.{pick-le}
 use Rattle.format.specs.Types.{Record}
-use Rattle.format.specs.Write.{write}
+use Rattle.format.specs.Write.{write, recordBytes}
 use Rattle.writer.specs.declared.records.Written.{Written}
 use Rattle.writer.specs.declared.records.Written.the-variants.{Next, Full}
 use Rattle.writer.specs.Written.{next, full, put, putOf}
@@ -25,7 +25,7 @@ use Rattle.engine.proofs.Decoded.{image-part}
 use Rattle.engine.proofs.Fit.{well-formed-fits}
 use Rattle.engine.specs.Holding.{Holds, HoldsSome}
 use Rattle.engine.proofs.InPlace.{holds-some}
-use Rattle.step.specs.Answers.{LentSuch, recordBytes}
+use Rattle.step.specs.Answers.{LentSuch}
 use Rattle.engine.specs.Counts.{CountsIn, place}
 use Rattle.engine.proofs.Counts.{holds-counts}
 

@@ -28,13 +28,14 @@ use Rattle.engine.specs.Holding.{Holds, HoldsSuch, HoldsSome}
 use Rattle.engine.proofs.InPlace.{holds-decoded, holds-some}
 use Rattle.queue.proofs.ReadLaws.{holds-queue}
 use Rattle.base.proofs.Over.{over-front}
-use Rattle.step.specs.Answers.{LentSuch, recordBytes}
+use Rattle.step.specs.Answers.{LentSuch}
 use Rattle.exchange.specs.Decided.{partOf}
 use Rattle.exchange.specs.declared.decided.Part.{Part}
 use Rattle.step.specs.Resending.{queueIn, atPosition, asRed, Sends, Stated, greenPart}
 use Rattle.step.specs.Resending.{redPart, redParts, wholePart}
 use Rattle.step.proofs.ResendingLaws.{sends-none, sends-next}
 use Rattle.format.specs.Places.{mostRetransmission}
+use Rattle.format.specs.Write.{recordBytes}
 use Rattle.engine.specs.Counts.{queueCount, place, mostActions}
 use Rattle.engine.proofs.Counts.{numbers, holds-counts}
 

@@ -14,7 +14,7 @@ use Rattle.base.specs.Tests.{_or_}
 use Rattle.base.proofs.TestLaws.{pick-yes, pick-no, lt-holds, not-both}
 use Rattle.format.specs.Limits.{mostHeld}
 use Rattle.format.specs.Types.{Action, action}
-use Rattle.format.specs.Write.{write, lengthOf}
+use Rattle.format.specs.Write.{write, lengthOf, recordBytes}
 use Rattle.format.proofs.Lengths.{write-length}
 use Rattle.record.specs.declared.ActionHead.{ActionHead}
 use Rattle.record.specs.declared.State.{State}
@@ -33,7 +33,7 @@ use Rattle.base.proofs.Over.{over-front}
 use Rattle.updates.specs.Lists.{PayloadRoom, nextHead}
 use Rattle.updates.proofs.RequestLaws.{head-made}
 use Rattle.step.specs.declared.Answer.{Answer}
-use Rattle.step.specs.Answers.{answered, outcomeOn, LentSuch, quietly, storedFirst, recordBytes}
+use Rattle.step.specs.Answers.{answered, outcomeOn, LentSuch, quietly, storedFirst}
 use Rattle.step.proofs.LentFacts.{lent-fact}
 use Rattle.step.proofs.LentLaws.{lent-counts, holds-products, put-room, put-done, one-record}
 use Rattle.step.proofs.OutcomeLaws.{stored-outcome, quiet-outcome}

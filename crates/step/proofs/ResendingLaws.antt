@@ -16,7 +16,7 @@ use Rattle.base.specs.Patched.{patched}
 use Rattle.base.proofs.PatchedLaws.{patched-length, patched-next, patched-none}
 use Rattle.base.proofs.TestLaws.{pick-le}
 use Rattle.format.specs.Types.{Action, Record, retransmission}
-use Rattle.format.specs.Write.{write, lengthOf}
+use Rattle.format.specs.Write.{write, lengthOf, recordBytes}
 use Rattle.format.proofs.Lengths.{write-length}
 use Rattle.record.specs.declared.events.ActionAt.{ActionAt}
 use Rattle.writer.specs.declared.records.Written.{Written}
@@ -29,7 +29,6 @@ use Rattle.replication.specs.Machine.Plan.{resent}
 use Rattle.engine.specs.Layout.{slotSize, atGreenLength, theQueue, atQueueLength}
 use Rattle.engine.proofs.Slots.{actions-count}
 use Rattle.queue.proofs.ReadLaws.{actions-at, slot-read, find-at, queue-read}
-use Rattle.step.specs.Answers.{recordBytes}
 use Rattle.install.specs.Table.{IndexedFrom, placeFrom, logIn}
 use Rattle.step.specs.Resending.{queueIn, fromPlace, atPosition, asRed, oneOf, Sends}
 use Rattle.format.specs.Places.{mostRetransmission}

@@ -12,7 +12,7 @@ use Rattle.base.specs.Bytes.{over}
 use Rattle.format.specs.Types.{State, Context, state}
 use Rattle.format.specs.Range.{fieldsOk, recordOk, contextOk}
 use Rattle.format.specs.Read.{read}
-use Rattle.format.specs.Write.{write, lengthOf}
+use Rattle.format.specs.Write.{write, lengthOf, recordBytes}
 use Rattle.format.proofs.Lengths.{write-length}
 use Rattle.format.proofs.Reading.{says-same}
 use Rattle.format.proofs.RoundTrip.{read-written}
@@ -29,7 +29,7 @@ use Rattle.engine.specs.Holding.{Holds, HoldsSome}
 use Rattle.engine.proofs.InPlace.{holds-some}
 use Rattle.updates.specs.Lists.{CollectRoom}
 use Rattle.step.specs.declared.Answer.{Answer}
-use Rattle.step.specs.Answers.{answered, outcomeOn, LentSuch, Came, quietly, sentOnly, recordBytes}
+use Rattle.step.specs.Answers.{answered, outcomeOn, LentSuch, Came, quietly, sentOnly}
 use Rattle.step.proofs.LentFacts.{lent-fact}
 use Rattle.engine.proofs.Chained.{Covers, image-over, then-holds, numbers-then}
 use Rattle.step.proofs.ExchangeStates.{non-prim-formed, exchange-configured, came-formed, resending-formed}

@@ -3,14 +3,14 @@
 use Prim.Native.Nat.{ℕ, _≤_, _<_}
 use mathlib.Core.Path.{_≡_}
 use mathlib.Core.Bool.{true}
-use mathlib.Core.List.{List, map}
+use mathlib.Core.List.{List}
 use lib.ListN.{length}
 use Rattle.base.specs.Tests.{pick}
-use Rattle.base.specs.Bytes.{joined, over}
+use Rattle.base.specs.Bytes.{over}
 use Rattle.format.specs.Limits.{mostIndex}
 use Rattle.format.specs.Types.{State, Record, state}
 use Rattle.format.specs.Range.{fieldsOk}
-use Rattle.format.specs.Write.{write}
+use Rattle.format.specs.Write.{write, recordBytes}
 use Rattle.replication.specs.Machine.Types.{Exchange-states, Un, Server, Outcome, inMode, contextOf}
 use Rattle.replication.specs.Machine.Step.{inBytes, withCpc, allCpcsIn, answer}
 use Rattle.replication.specs.Machine.WellFormedFacts.{Configured}
@@ -84,10 +84,6 @@ storedFirst m = record { number = 0; store = 1; sent = m }
 -- So many bytes sent, with nothing stored.
 abbrev pub sentOnly : ℕ → Answer
 sentOnly m = record { number = 0; store = 0; sent = m }
-
--- Records one after another, as bytes.
-unfoldable pub recordBytes : List Record → List ℕ
-recordBytes rs = joined (map write rs)
 
 -- These records of the state that b holds are put at the front of the outgoing buffer, r bytes.
 abbrev pub Puts : (Server → List Record) → (r : ℕ) → (b o o′ : List ℕ) → Type 0

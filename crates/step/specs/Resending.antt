@@ -19,8 +19,9 @@ use Rattle.engine.specs.Decode.{actionsAt, decoded, serversIn}
 use Rattle.engine.specs.Holding.{Holds}
 use Rattle.queue.specs.Queue.{QueueIn}
 use Rattle.install.specs.Table.{IndexedFrom}
-use Rattle.step.specs.Answers.{recordBytes, Lent}
+use Rattle.step.specs.Answers.{Lent}
 use Rattle.format.specs.Places.{mostRetransmission}
+use Rattle.format.specs.Write.{recordBytes}
 use Rattle.engine.specs.Counts.{queueCount, place}
 use denote.Ref.{now}
 use Rattle.record.specs.declared.events.ActionAt.{ActionAt}

@@ -17,9 +17,9 @@ use Rattle.replication.specs.Machine.Step.{ownState}
 use Rattle.engine.specs.Layout.{heldSize, theHeld, atMe}
 use Rattle.engine.specs.Decode.{heldAt}
 use Rattle.updates.specs.Lists.{configurationOf}
-use Rattle.step.specs.Answers.{recordBytes}
 use Rattle.engine.specs.Counts.{CountsIn, heldCount, place, greenCount, numberedIn}
 use Rattle.format.specs.Places.{mostAction}
+use Rattle.format.specs.Write.{recordBytes}
 use mathlib.Core.Path.{_≡_}
 use Rattle.base.specs.Patched.{patched}
 use Rattle.engine.specs.Holding.{Holds}

@@ -14,12 +14,13 @@ use Rattle.format.specs.Read.{read}
 use Rattle.format.specs.Write.{write}
 use Rattle.format.proofs.Ranges.{sizes-range}
 use Rattle.replication.specs.Machine.Types.{Configuration, setOf}
+use Rattle.replication.specs.Laws.Sending.{Peer}
 use Rattle.replication.proofs.WellFormed.SentFacts.{senderOf}
 use Rattle.replication.specs.Runs.Run.{Run, Place, nowhere, heard, placeAt, heardAt, sentAt}
 use Rattle.replication.specs.Runs.Happenings.{Message, Sends}
 use Rattle.replication.specs.Runs.Allowed.{Allowed}
 use Rattle.replication.proofs.Runs.DeliveryFacts.{recordFrom, recordIn, recordOf}
-use Rattle.replication.proofs.WellFormed.Reads.{Peer, put-out-reads, taken-put-out}
+use Rattle.replication.proofs.WellFormed.Reads.{put-out-reads, taken-put-out}
 use Rattle.replication.proofs.Runs.Places.{of-one, of-event}
 use Rattle.replication.proofs.Runs.Shifts.{says-same, comes-of}
 use Rattle.replication.proofs.Runs.Numbers.{numbers, well-formed-at}

@@ -1,7 +1,7 @@
 -- Every record that a taken event puts out reads at every server with the same n and q as what was meant, and names its sender; how many records and
 -- bytes an event puts out.
 -- Assumes nothing.
-use Prim.Native.Nat.{ℕ, _*_, _≤_, _<_}
+use Prim.Native.Nat.{ℕ, _*_, _≤_}
 use mathlib.Core.Path.{_≡_, sym, subst}
 use mathlib.Core.Bool.{Bool, true}
 use mathlib.Core.List.{List, map}
@@ -22,6 +22,7 @@ use Rattle.replication.specs.Machine.Step.{apply, step}
 use Rattle.replication.specs.Machine.WellFormed.{wellFormed}
 use Rattle.replication.proofs.WellFormed.Clauses.{SizesFit}
 use Rattle.replication.proofs.WellFormed.SentFacts.{RecordFits, PutOut}
+use Rattle.replication.specs.Laws.Sending.{Peer}
 use Rattle.replication.specs.Laws.Transitions.{TakenBy}
 use Rattle.replication.proofs.Step.Inversion.{taken-by}
 use Rattle.replication.proofs.WellFormed.Ranges.{sizes-ok, length-ok, action-ok, state-ok}
@@ -42,12 +43,6 @@ fields-fit c (regular i t) f = absurd f
 fields-fit c (transitional t) f = absurd f
 fields-fit c (request p) f = absurd f
 fields-fit c recovery f = absurd f
-
--- A reader with the same n and q, and a number of its own.
-pub record Peer (s : Server) (c : Context) : Type 0 where
-  pub servers : c .servers ≡ s .servers
-  pub quota : c .quota ≡ s .quota
-  pub self : c .self < c .servers
 
 module _ (s : Server) (f : wellFormed s ≡ true) (c : Context) (p : Peer s c) where
   peer-sizes : SizesFit (c .servers) (c .quota) (c .self)

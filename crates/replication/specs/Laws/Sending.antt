@@ -8,7 +8,7 @@ use mathlib.Core.Option.{some}
 use lib.ListN.{length}
 use Rattle.base.specs.Tests.{_=?_}
 use Rattle.base.specs.Lists.{at}
-use Rattle.format.specs.Types.{Action, State, Record, action, retransmission, state, cpc, regular, request}
+use Rattle.format.specs.Types.{Action, State, Record, Context, action, retransmission, state, cpc, regular, request}
 use Rattle.replication.specs.Machine.Types.{Non-prim, Reg-prim, Exchange-states, Exchange-actions, Construct}
 use Rattle.replication.specs.Machine.Types.{Log, Configuration, Server, modeOf}
 use Rattle.replication.specs.Machine.Colours.{find}
@@ -70,3 +70,11 @@ pub data Resent (me : ℕ) (l : Log) (xs : List State) (r : Record) : Type 0 whe
   asRed : (c i : ℕ) (a : Action) → List·Memᴰ i (missing (cutIn c) xs)
       → find (record { creator = c; index = i }) (l .green ++ l .red) ≡ some a
       → r ≡ retransmission me 0 a → Resent me l xs r
+
+-- ---- who reads them
+
+-- A reader with the same n and q, and a number of its own.
+pub record Peer (s : Server) (c : Context) : Type 0 where
+  pub servers : c .servers ≡ s .servers
+  pub quota : c .quota ≡ s .quota
+  pub self : c .self < c .servers
