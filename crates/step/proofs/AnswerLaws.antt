@@ -20,7 +20,8 @@ use Rattle.replication.proofs.WellFormed.RuleFacts.{rule-fits}
 use Rattle.engine.specs.Image.{image}
 use Rattle.engine.specs.Outcome.{refusal, resultOf}
 use Rattle.step.specs.declared.Answer.{Answer}
-use Rattle.step.specs.Answers.{answered, outcomeOn, refusedWith, quietly, storedFirst, recordBytes}
+use Rattle.outgoing.specs.Lent.{recordBytes}
+use Rattle.step.specs.Answers.{answered, outcomeOn, refusedWith, quietly, storedFirst}
 use Rattle.step.proofs.OutcomeLaws.{quiet-outcome, stored-outcome}
 
 -- ---- rows 5, 6, 3 and 4

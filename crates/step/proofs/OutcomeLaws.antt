@@ -11,7 +11,8 @@ use Rattle.replication.specs.Machine.Step.{quiet, stored, sent, inBytes}
 use Rattle.engine.specs.Image.{image}
 use Rattle.engine.specs.Outcome.{resultOf, word}
 use Rattle.step.specs.declared.Answer.{Answer}
-use Rattle.step.specs.Answers.{answered, outcomeOn, quietly, storedFirst, sentOnly, recordBytes}
+use Rattle.outgoing.specs.Lent.{recordBytes}
+use Rattle.step.specs.Answers.{answered, outcomeOn, quietly, storedFirst, sentOnly}
 
 module _ (s t : Server) (rs : List Record) (b o b₁ o₁ : List ℕ) (m : ℕ) (r : Answer) where
   pub stored-outcome : r ≡ storedFirst m → b₁ ≡ image t b → m ≡ length (recordBytes rs) → o₁ ≡ over (recordBytes rs) o
