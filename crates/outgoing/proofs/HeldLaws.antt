@@ -8,12 +8,11 @@ use mir.Syntax.{w32}
 use mir.Val.{Fits}
 use lib.ListN.{length, take, drop, length-append, length-take}
 use Rattle.base.specs.Bytes.{numberAt, partAt, joined, over, slot}
-use Rattle.base.proofs.BytesLaws.{joined-append}
 use Rattle.base.specs.Lists.{Each}
 use Rattle.base.proofs.Occurs.{Occurs, occurs-first, occurs-second}
 use Rattle.base.specs.Patched.{patched}
 use Rattle.base.proofs.Over.{over-length}
-use Rattle.format.specs.Types.{Action, Record, action}
+use Rattle.format.specs.Types.{Action, action}
 use Rattle.format.specs.Read.{payloadAt}
 use Rattle.format.specs.Write.{write, lengthOf, payloadBytes}
 use Rattle.format.proofs.Fields.{payload-read}
@@ -40,7 +39,7 @@ use Rattle.engine.proofs.Used.{held-slot-length}
 use Rattle.queue.proofs.Inside.{over-extended}
 use Rattle.outgoing.specs.Lent.{LentSuch, recordBytes}
 use Rattle.outgoing.specs.Sending.{heldPlace, heldHead, heldAction, heldBytes, HeldRoom}
-use Rattle.outgoing.proofs.LentLaws.{lent-counts, lent-header, holds-products, holds-part, put-room, put-done, one-record}
+use Rattle.outgoing.proofs.LentLaws.{lent-counts, lent-header, holds-products, holds-part, put-room, put-done, one-record, records-append}
 use Rattle.format.specs.Places.{mostAction}
 use Rattle.engine.specs.Counts.{heldCount, place, CountsIn}
 use Rattle.engine.proofs.Counts.{holds-place, numbers}
@@ -118,12 +117,8 @@ numbered-more me g j (q ∷ ps) p =
     (numbered-more me g (j + 1) ps p
     ∙ ap (λ (i : ℕ). numberedFrom me g (j + 1) ps ++ (record { id = record { creator = me; index = i }; greenLength = g; payload = p } ∷ [])) e)
 
-records-append : (x y : List Action) → recordBytes (map action (x ++ y)) ≡ recordBytes (map action x) ++ recordBytes (map action y)
-unfolding recordBytes
-records-append x y =
-    ap (λ (l : List Record). joined (map write l)) (map-append action x y)
-    ∙ ap joined (map-append write (map action x) (map action y))
-    ∙ joined-append (map write (map action x)) (map write (map action y))
+actions-append : (x y : List Action) → recordBytes (map action (x ++ y)) ≡ recordBytes (map action x) ++ recordBytes (map action y)
+actions-append x y = ap recordBytes (map-append action x y) ∙ records-append (map action x) (map action y)
 
 bytes-more : (b : List ℕ) (k : ℕ) → heldBytes b (suc k) ≡ heldBytes b k ++ write (action (heldAction b k))
 unfolding heldBytes heldAction heldHead heldPlace actionOf idOf
@@ -135,7 +130,7 @@ bytes-more b k =
     let p : List ℕ = payloadAt b (place theHeld b + heldSize * k) in
     ap (λ (l : List (List ℕ)). recordBytes (map action (numberedFrom me g j l))) (held-more k b (place theHeld b))
     ∙ ap (λ (l : List Action). recordBytes (map action l)) (numbered-more me g j ps p)
-    ∙ records-append (numberedFrom me g j ps) (record { id = record { creator = me; index = j + length ps + 1 }; greenLength = g; payload = p } ∷ [])
+    ∙ actions-append (numberedFrom me g j ps) (record { id = record { creator = me; index = j + length ps + 1 }; greenLength = g; payload = p } ∷ [])
     ∙ ap (λ (l : List ℕ). recordBytes (map action (numberedFrom me g j ps)) ++ l)
     (one-record (action (record { id = record { creator = me; index = j + length ps + 1 }; greenLength = g; payload = p }))
     ∙ ap (λ (m : ℕ). write (action (record { id = record { creator = me; index = j + m + 1 }; greenLength = g; payload = p })))

@@ -2,10 +2,11 @@
 -- Assumes nothing.
 use Prim.Native.Nat.{ℕ, _+_, _≤_, _<_}
 use mathlib.Core.Path.{_≡_, refl, sym, ap, subst, _∙_}
-use mathlib.Core.List.{List, [], _∷_, append-nil}
+use mathlib.Core.List.{List, [], _∷_, _++_, append-nil, map, map-append}
 use native.Mathlib.Omega.{arith}
 use lib.ListN.{length, getD}
 use Rattle.base.specs.Bytes.{joined}
+use Rattle.base.proofs.BytesLaws.{joined-append}
 use Rattle.base.proofs.Occurs.{Occurs}
 use Rattle.base.specs.Patched.{patched}
 use Rattle.base.proofs.TestLaws.{pick-le}
@@ -68,7 +69,12 @@ module _ (x o o₁ : List ℕ) (at : ℕ) (w : Written) (e : putOf w o₁ ≡ pu
   pub put-done : (n : ℕ) → w ≡ Next n → Fitted x at o n o₁
   put-done n f = put-fitted x o o₁ at n (answer-next w (put x at o) n o₁ e f)
 
--- One record.
+-- ---- records as bytes
+
 pub one-record : (r : Record) → recordBytes (r ∷ []) ≡ write r
 unfolding recordBytes joined
 one-record r = append-nil (write r)
+
+pub records-append : (xs ys : List Record) → recordBytes (xs ++ ys) ≡ recordBytes xs ++ recordBytes ys
+unfolding recordBytes
+records-append xs ys = ap joined (map-append write xs ys) ∙ joined-append (map write xs) (map write ys)

@@ -2,19 +2,17 @@
 -- Assumes nothing.
 use Prim.Native.Nat.{ℕ, _+_, _*_, _-_, _≤_, _<_}
 use mathlib.Core.Path.{_≡_, refl, sym, ap, ap₂, subst, _∙_}
-use mathlib.Core.List.{List, [], _∷_, _++_, append-nil, map, map-append}
+use mathlib.Core.List.{List, [], _∷_, _++_}
 use mathlib.Core.Option.{Option, none, some}
 use native.Mathlib.Omega.{arith}
 use lib.ListN.{length, take, drop, length-append, length-take}
 use Rattle.base.proofs.AtLaws.{at-take, at-past-take}
 use Rattle.base.specs.Bytes.{numberAt, partAt, joined}
-use Rattle.base.proofs.BytesLaws.{joined-append}
 use Rattle.base.proofs.Comparable.{gather-append}
 use Rattle.base.specs.Lists.{at, atFront, gather, after, above}
 use Rattle.base.proofs.ListLaws.{above-more}
 use Rattle.base.specs.Patched.{patched}
 use Rattle.base.proofs.PatchedLaws.{patched-length, patched-next, patched-none}
-use Rattle.base.proofs.TestLaws.{pick-le}
 use Rattle.format.specs.Types.{Action, Record, retransmission}
 use Rattle.format.specs.Write.{write, lengthOf}
 use Rattle.format.proofs.Lengths.{write-length}
@@ -23,7 +21,7 @@ use Rattle.writer.specs.declared.records.Written.{Written}
 use Rattle.writer.specs.declared.records.Written.the-variants.{Next, Full}
 use Rattle.record.specs.Events.{actionIn, actionFrom}
 use Rattle.record.specs.Values.{idOf, actionOf}
-use Rattle.writer.specs.Written.{next, full, put, putOf}
+use Rattle.writer.specs.Written.{put, putOf}
 use Rattle.replication.specs.Machine.Colours.{find}
 use Rattle.replication.specs.Machine.Plan.{resent}
 use Rattle.engine.specs.Layout.{slotSize, atGreenLength, theQueue, atQueueLength}
@@ -32,6 +30,7 @@ use Rattle.queue.proofs.ReadLaws.{actions-at, slot-read, find-at, queue-read}
 use Rattle.outgoing.specs.Lent.{recordBytes}
 use Rattle.install.specs.Table.{IndexedFrom, placeFrom, logIn}
 use Rattle.outgoing.specs.Resending.{queueIn, fromPlace, atPosition, asRed, oneOf, Sends}
+use Rattle.outgoing.proofs.LentLaws.{put-room, put-done, one-record, records-append}
 use Rattle.format.specs.Places.{mostRetransmission}
 use Rattle.engine.specs.Counts.{queueCount, greenCount, place}
 use Rattle.queue.specs.Queue.{position, slotPlace, QueueIn}
@@ -43,14 +42,6 @@ use Rattle.replication.specs.Machine.WellFormed.{queue}
 use Rattle.format.specs.Limits.{mostPayload}
 
 -- ---- none, one, and more
-
-records-append : (xs ys : List Record) → recordBytes (xs ++ ys) ≡ recordBytes xs ++ recordBytes ys
-unfolding recordBytes
-records-append xs ys = ap joined (map-append write xs ys) ∙ joined-append (map write xs) (map write ys)
-
-one-record : (r : Record) → recordBytes (r ∷ []) ≡ write r
-unfolding recordBytes joined
-one-record r = append-nil (write r)
 
 pub sends-none : (m p : ℕ) (o : List ℕ) → Sends m [] p o o p
 unfolding recordBytes joined
@@ -74,11 +65,6 @@ sends-next m k p q r xs ys o o₁ o₂ h a b =
 
 -- ---- one record written
 
--- It fits: the writer answers with the place behind it.
-put-fits : (x o : List ℕ) (p : ℕ) → p + length x ≤ length o → put x p o ≡ next (p + length x) (patched p x o)
-unfolding put
-put-fits x o p h = sym (pick-le (p + length x) (length o) _ _ _ h refl)
-
 module _ (a : ActionAt) (b : List ℕ) (me position p : ℕ) (o o₁ : List ℕ) (w : Written) (h : a .«payload_length» ≤ mostPayload) (l : p + mostRetransmission ≤ length o)
     (e : putOf w o₁
     ≡ put (write (retransmission me position
@@ -92,37 +78,25 @@ module _ (a : ActionAt) (b : List ℕ) (me position p : ℕ) (o o₁ : List ℕ)
       let m : length (take (a .«payload_length») (drop (a .«payload_at») b)) ≤ a .«payload_length» = simp length-take (omega arith) in
       omega (arith, write-length (retransmission me position (actionFrom a b)))
 
-  fits : p + length x ≤ length o
-  fits = omega (arith, short)
-
-  answer : putOf w o₁ ≡ next (p + length x) (patched p x o)
+  answer : putOf w o₁ ≡ put x p o
   unfolding actionFrom partAt
   answer =
       let m : a .«payload_at» + a .«payload_length» - a .«payload_at» ≡ a .«payload_length» = omega arith in
-      e
-      ∙ ap (λ (k : ℕ). put (write (retransmission me position (actionOf (a .head) (take k (drop (a .«payload_at») b))))) p o) m
-      ∙ put-fits x o p fits
+      e ∙ ap (λ (k : ℕ). put (write (retransmission me position (actionOf (a .head) (take k (drop (a .«payload_at») b))))) p o) m
 
   pub written-next : (n : ℕ) → w ≡ Next n → Sends 1 (retransmission me position (actionFrom a b) ∷ []) p o o₁ n
-  unfolding putOf
   written-next n f =
-      let g : next n o₁ ≡ next (p + length x) (patched p x o) = ap (λ (v : Written). putOf v o₁) (sym f) ∙ answer in
-      let i : n ≡ p + length x = cc in
-      let j : o₁ ≡ patched p x o = cc in
+      let done = put-done x o o₁ p w answer n f in
       let one : recordBytes (retransmission me position (actionFrom a b) ∷ []) ≡ x = one-record (retransmission me position (actionFrom a b)) in
       record {
-        place = i ∙ ap (λ (z : List ℕ). p + length z) (sym one);
-        most = omega (arith, short);
-        size = ap length j ∙ patched-length p x o fits;
-        bytes = j ∙ ap (λ (z : List ℕ). patched p z o) (sym one);
+        place = done .placed ∙ ap (λ (z : List ℕ). p + length z) (sym one);
+        most = omega (arith, done .placed, short);
+        size = ap length (done .filled) ∙ patched-length p x o (done .room);
+        bytes = done .filled ∙ ap (λ (z : List ℕ). patched p z o) (sym one);
       }
 
   pub never-full : w ≡ Full → (n : ℕ) → Sends 1 (retransmission me position (actionFrom a b) ∷ []) p o o₁ n
-  unfolding putOf
-  never-full f n =
-      let g : full o₁ ≡ next (p + length x) (patched p x o) = ap (λ (v : Written). putOf v o₁) (sym f) ∙ answer in
-      let z : _≡_ {A = ℕ} 0 1 = cc in
-      absurd (omega arith)
+  never-full f n = put-room x o o₁ p w answer (omega (arith, short)) f
 
 -- ---- the slot k
 

@@ -1,5 +1,4 @@
 // A regular configuration: "on entry collected States and CPCs are dropped, the state is stored, a State sent."
-ghost use mathlib.Core.Path.{_≡_};
 ghost use Rattle.replication.specs.Machine.Types.{withVotes};
 ghost use Rattle.replication.specs.Machine.Step.{join as joined, unmarked, yellowValid};
 ghost use Rattle.replication.specs.Machine.WellFormedRanges.{ConfigurationFits};
