@@ -20,8 +20,9 @@ use Rattle.engine.specs.Header.{headerOf}
 use Rattle.engine.specs.Decode.{modeNamed}
 use Rattle.engine.specs.Holding.{Holds, HoldsSuch}
 use Rattle.step.specs.declared.Answer.{Answer}
-use Rattle.step.specs.Answers.{answered, outcomeOn, LentSuch, InForce, withLateCpc, refusedWith, quietly}
-use Rattle.step.proofs.LentFacts.{lent-fact}
+use Rattle.outgoing.specs.Lent.{LentSuch}
+use Rattle.step.specs.Answers.{answered, outcomeOn, InForce, withLateCpc, refusedWith, quietly}
+use Rattle.outgoing.proofs.LentFacts.{lent-fact}
 use Rattle.step.proofs.AnswerLaws.{Passes, untaken, outside, passed, passed-fits, not-there, refused-as, quiet-as}
 use Rattle.step.proofs.ForceLaws.{numbers-mode, numbers-at, below-eight}
 

@@ -42,11 +42,12 @@ use Rattle.exchange.specs.declared.decided.TakenVotes.{TakenVotes}
 use Rattle.exchange.specs.Decided.{votesNumbers}
 use Rattle.exchange.specs.Table.{Listed}
 use Rattle.step.specs.declared.Answer.{Answer}
-use Rattle.step.specs.Answers.{answered, outcomeOn, LentSuch, storedFirst}
-use Rattle.step.proofs.LentFacts.{lent-fact, lent-room}
+use Rattle.outgoing.specs.Lent.{LentSuch}
+use Rattle.step.specs.Answers.{answered, outcomeOn, storedFirst}
+use Rattle.outgoing.proofs.LentFacts.{lent-fact, lent-room}
 use Rattle.engine.proofs.Chained.{Covers, chained, then-holds, numbers-then}
 use Rattle.step.proofs.ExchangeStates.{decided-formed, attempting-formed, staying-formed}
-use Rattle.step.proofs.LentLaws.{holds-products, put-room, put-done, one-record}
+use Rattle.outgoing.proofs.LentLaws.{holds-products, put-room, put-done, one-record}
 use Rattle.step.proofs.OutcomeLaws.{stored-outcome}
 
 -- ---- what the States decide

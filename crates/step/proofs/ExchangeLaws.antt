@@ -20,8 +20,9 @@ use Rattle.engine.specs.Header.{headerOf, headerIn}
 use Rattle.engine.proofs.HeaderLaws.{header-loaded}
 use Rattle.engine.specs.Holding.{Holds, HoldsSuch}
 use Rattle.step.specs.declared.Answer.{Answer}
-use Rattle.step.specs.Answers.{answered, outcomeOn, LentSuch, quietly}
-use Rattle.step.proofs.LentFacts.{lent-fact}
+use Rattle.outgoing.specs.Lent.{LentSuch}
+use Rattle.step.specs.Answers.{answered, outcomeOn, quietly}
+use Rattle.outgoing.proofs.LentFacts.{lent-fact}
 use Rattle.engine.proofs.Chained.{then-holds}
 use Rattle.step.proofs.EndLaws.{Ends}
 use Rattle.step.proofs.EndOverLaws.{end-mode, Before, end-over}

@@ -33,8 +33,9 @@ use Rattle.engine.proofs.InPlace.{such-fact, holds-some}
 use Rattle.install.proofs.SwapFits.{swaps-kept}
 use Rattle.install.proofs.InstallLaws.{install-swaps}
 use Rattle.step.specs.declared.Answer.{Answer}
-use Rattle.step.specs.Answers.{answered, outcomeOn, LentSuch, Installs, storedFirst}
-use Rattle.step.proofs.LentFacts.{lent-fact}
+use Rattle.outgoing.specs.Lent.{LentSuch}
+use Rattle.step.specs.Answers.{answered, outcomeOn, Installs, storedFirst}
+use Rattle.outgoing.proofs.LentFacts.{lent-fact}
 use Rattle.engine.proofs.Chained.{Covers, chained, then-holds}
 use Rattle.step.proofs.ColoursLaws.{joined-formed}
 

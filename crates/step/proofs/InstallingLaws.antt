@@ -26,8 +26,9 @@ use Rattle.engine.proofs.InRange.{in-range}
 use Rattle.engine.specs.Holding.{Holds, HoldsSuch, HoldsSome}
 use Rattle.engine.proofs.InPlace.{such-fact, holds-header, holds-some}
 use Rattle.step.specs.declared.Answer.{Answer}
-use Rattle.step.specs.Answers.{answered, outcomeOn, LentSuch, Installs, quietly, withLateCpc}
-use Rattle.step.proofs.LentFacts.{lent-fact}
+use Rattle.outgoing.specs.Lent.{LentSuch}
+use Rattle.step.specs.Answers.{answered, outcomeOn, Installs, quietly, withLateCpc}
+use Rattle.outgoing.proofs.LentFacts.{lent-fact}
 use Rattle.engine.proofs.Chained.{Covers, chained, then-holds}
 use Rattle.step.proofs.Installed.{sent-formed, stored-over}
 use Rattle.engine.specs.Layout.{headerSize}

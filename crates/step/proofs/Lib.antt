@@ -1,4 +1,3 @@
-pub mod LentFacts
 pub mod AnswerLaws
 pub mod ModeLaws
 pub mod ForceLaws
@@ -18,13 +17,9 @@ pub mod EndOverLaws
 pub mod ExchangeLaws
 pub mod ExchangeStates
 pub mod InstallingLaws
-pub mod LentLaws
 pub mod OutcomeLaws
 pub mod RetransmissionLaws
 pub mod RequestLaws
 pub mod JoinLaws
 pub mod VotesLaws
-pub mod HeldLaws
 pub mod StatesLaws
-pub mod ResendingLaws
-pub mod PlanLaws

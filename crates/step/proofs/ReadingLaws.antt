@@ -32,7 +32,8 @@ use Rattle.engine.specs.Holding.{Holds}
 use Rattle.engine.proofs.InPlace.{holds-header}
 use Rattle.engine.proofs.Refusals.{zero-read, zero-ready, step-read, step-refused}
 use Rattle.step.specs.declared.Answer.{Answer}
-use Rattle.step.specs.Answers.{answered, outcomeOn, LentSuch, refusedWith}
+use Rattle.outgoing.specs.Lent.{LentSuch}
+use Rattle.step.specs.Answers.{answered, outcomeOn, refusedWith}
 use Rattle.step.specs.Events.{ReadInForce, numberOf}
 use Rattle.engine.specs.Layout.{headerSize}
 

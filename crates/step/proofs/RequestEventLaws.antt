@@ -16,8 +16,9 @@ use Rattle.replication.specs.Machine.WellFormedRanges.{PayloadFits}
 use Rattle.engine.specs.Header.{headerOf}
 use Rattle.engine.specs.Holding.{Holds}
 use Rattle.step.specs.declared.Answer.{Answer}
-use Rattle.step.specs.Answers.{answered, outcomeOn, LentSuch, InForce, refusedWith}
-use Rattle.step.proofs.LentFacts.{lent-fact}
+use Rattle.outgoing.specs.Lent.{LentSuch}
+use Rattle.step.specs.Answers.{answered, outcomeOn, InForce, refusedWith}
+use Rattle.outgoing.proofs.LentFacts.{lent-fact}
 use Rattle.step.proofs.AnswerLaws.{Passes, above-quota, above-held, passed, passed-fits, refused-as}
 
 module _ (h : Numbers) (p b o : List ℕ) (f : LentSuch (InForce h (request p)) b o) (t : Bool)

@@ -33,9 +33,10 @@ use Rattle.base.proofs.Over.{over-front}
 use Rattle.updates.specs.Lists.{PayloadRoom, nextHead}
 use Rattle.updates.proofs.RequestLaws.{head-made}
 use Rattle.step.specs.declared.Answer.{Answer}
-use Rattle.step.specs.Answers.{answered, outcomeOn, LentSuch, quietly, storedFirst}
-use Rattle.step.proofs.LentFacts.{lent-fact}
-use Rattle.step.proofs.LentLaws.{lent-counts, holds-products, put-room, put-done, one-record}
+use Rattle.outgoing.specs.Lent.{LentSuch}
+use Rattle.step.specs.Answers.{answered, outcomeOn, quietly, storedFirst}
+use Rattle.outgoing.proofs.LentFacts.{lent-fact}
+use Rattle.outgoing.proofs.LentLaws.{lent-counts, holds-products, put-room, put-done, one-record}
 use Rattle.step.proofs.OutcomeLaws.{stored-outcome, quiet-outcome}
 use Rattle.step.specs.Events.{Sent, Asked}
 

@@ -26,8 +26,9 @@ use Rattle.engine.specs.Holding.{Holds}
 use Rattle.queue.specs.Queue.{RoomIfNext}
 use Rattle.queue.proofs.RedLaws.{room-if-next}
 use Rattle.step.specs.declared.Answer.{Answer}
-use Rattle.step.specs.Answers.{answered, outcomeOn, LentSuch, InForce, refusedWith, quietly}
-use Rattle.step.proofs.LentFacts.{lent-fact}
+use Rattle.outgoing.specs.Lent.{LentSuch}
+use Rattle.step.specs.Answers.{answered, outcomeOn, InForce, refusedWith, quietly}
+use Rattle.outgoing.proofs.LentFacts.{lent-fact}
 use Rattle.step.proofs.AnswerLaws.{Passes, untaken, impossible, outside, passed, passed-fits, not-there, refused-as, quiet-as}
 use Rattle.step.proofs.ForceLaws.{numbers-mode, numbers-at, below-eight, OwnNumbered, own-numbered, Member}
 

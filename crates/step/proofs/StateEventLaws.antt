@@ -20,8 +20,9 @@ use Rattle.engine.specs.Header.{headerOf}
 use Rattle.engine.specs.Decode.{modeNamed}
 use Rattle.engine.specs.Holding.{Holds}
 use Rattle.step.specs.declared.Answer.{Answer}
-use Rattle.step.specs.Answers.{answered, outcomeOn, LentSuch, StateInForce, Came, refusedWith, quietly}
-use Rattle.step.proofs.LentFacts.{lent-fact}
+use Rattle.outgoing.specs.Lent.{LentSuch}
+use Rattle.step.specs.Answers.{answered, outcomeOn, StateInForce, Came, refusedWith, quietly}
+use Rattle.outgoing.proofs.LentFacts.{lent-fact}
 use Rattle.step.proofs.AnswerLaws.{Passes, untaken, outside, passed, passed-fits, refused-as, quiet-as}
 use Rattle.step.proofs.ForceLaws.{numbers-mode, numbers-at, below-eight}
 

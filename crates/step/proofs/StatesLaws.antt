@@ -29,8 +29,9 @@ use Rattle.engine.specs.Holding.{Holds, HoldsSome}
 use Rattle.engine.proofs.InPlace.{holds-some}
 use Rattle.updates.specs.Lists.{CollectRoom}
 use Rattle.step.specs.declared.Answer.{Answer}
-use Rattle.step.specs.Answers.{answered, outcomeOn, LentSuch, Came, quietly, sentOnly}
-use Rattle.step.proofs.LentFacts.{lent-fact}
+use Rattle.outgoing.specs.Lent.{LentSuch}
+use Rattle.step.specs.Answers.{answered, outcomeOn, Came, quietly, sentOnly}
+use Rattle.outgoing.proofs.LentFacts.{lent-fact}
 use Rattle.engine.proofs.Chained.{Covers, image-over, then-holds, numbers-then}
 use Rattle.step.proofs.ExchangeStates.{non-prim-formed, exchange-configured, came-formed, resending-formed}
 use Rattle.step.proofs.EndLaws.{Ends}

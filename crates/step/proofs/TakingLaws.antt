@@ -27,9 +27,10 @@ use Rattle.replication.specs.Machine.Step.{apply, answer}
 use Rattle.engine.specs.Image.{image}
 use Rattle.engine.specs.Holding.{Holds, HoldsSuch}
 use Rattle.step.specs.declared.Answer.{Answer}
-use Rattle.step.specs.Answers.{answered, outcomeOn, LentSuch, InForce, StateInForce, storedFirst}
+use Rattle.outgoing.specs.Lent.{LentSuch}
+use Rattle.step.specs.Answers.{answered, outcomeOn, InForce, StateInForce, storedFirst}
 use Rattle.step.specs.Events.{PartInForce, ReadInForce}
-use Rattle.step.proofs.LentFacts.{lent-fact}
+use Rattle.outgoing.proofs.LentFacts.{lent-fact}
 use Rattle.step.proofs.AnswerLaws.{Passes, passed, stored-as}
 
 -- ---- a part of the bytes, as the code lends it

@@ -25,9 +25,10 @@ use Rattle.engine.specs.Outcome.{resultOf, word}
 use Rattle.engine.specs.Holding.{Holds}
 use Rattle.updates.specs.Lists.{configurationOf}
 use Rattle.step.specs.declared.Answer.{Answer}
-use Rattle.step.specs.Answers.{answered, outcomeOn, LentSuch}
+use Rattle.outgoing.specs.Lent.{LentSuch}
+use Rattle.step.specs.Answers.{answered, outcomeOn}
 use Rattle.engine.proofs.Chained.{Covers, image-over, then-holds}
-use Rattle.step.proofs.LentFacts.{lent-fact}
+use Rattle.outgoing.proofs.LentFacts.{lent-fact}
 
 -- ---- well-formed states on the way
 

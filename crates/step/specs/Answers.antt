@@ -4,9 +4,7 @@ use Prim.Native.Nat.{ℕ, _≤_, _<_}
 use mathlib.Core.Path.{_≡_}
 use mathlib.Core.Bool.{true}
 use mathlib.Core.List.{List}
-use lib.ListN.{length}
 use Rattle.base.specs.Tests.{pick}
-use Rattle.base.specs.Bytes.{over}
 use Rattle.format.specs.Limits.{mostIndex}
 use Rattle.format.specs.Types.{State, Record, state}
 use Rattle.format.specs.Range.{fieldsOk}
@@ -17,12 +15,11 @@ use Rattle.replication.specs.Machine.WellFormedFacts.{Configured}
 use Rattle.replication.specs.Laws.RuleFits.{StateCame}
 use Rattle.record.specs.declared.State.{State as Numbers}
 use Rattle.engine.specs.Header.{headerOf}
-use Rattle.engine.specs.Layout.{outLength}
 use Rattle.engine.specs.Outcome.{Result, resultOf}
 use Rattle.engine.specs.Holding.{Holds}
+use Rattle.outgoing.specs.Lent.{Lent}
 use Rattle.step.specs.declared.Answer.{Answer}
-use denote.Ref.{RefT, now}
-use denote.Triple.Both.{Both}
+use denote.Ref.{now}
 
 -- An answer, and both buffers afterwards.
 unfoldable pub answered : Answer → List ℕ → List ℕ → Result
@@ -39,10 +36,6 @@ AnswersAs f r b b′ o o′ = (s : Server) → Holds s b → answered r b′ o�
 -- .. and where the outgoing buffer is not lent, whatever that holds.
 abbrev pub AnswersAlone : (Server → Outcome Record) → Answer → (b b′ : List ℕ) → Type 0
 AnswersAlone f r b b′ = (s : Server) (o : List ℕ) → Holds s b → answered r b′ o ≡ outcomeOn (f s) b o
-
--- A lent buffer, as a contract sees it: at entry and at exit.
-abbrev pub Lent : Type 0
-Lent = Both (RefT (List ℕ)) (RefT (List ℕ))
 
 -- The same of the lent buffers themselves.
 abbrev pub AnswersBy : (Server → Outcome Record) → Answer → (state out : Lent) → Type 0
@@ -62,13 +55,6 @@ AnswersFor f r b o =
     (s t : Server) → Holds t (now (b .entry))
     → answered r (now (b .exit)) (now (o .exit)) ≡ outcomeOn (f s t) (now (b .entry)) (now (o .entry))
 
--- The buffer b holds a state of which P is known, and o has room for all that an event puts out.
-pub record LentSuch (P : Server → Type 0) (b o : List ℕ) : Type 0 where
-  pub state : Server
-  pub holds : Holds state b
-  pub fact : P state
-  pub room : outLength (state .servers) (state .quota) ≤ length o
-
 -- A refusal leaves both buffers as they are.
 abbrev pub refusedWith : ℕ → Answer
 refusedWith k = record { number = k; store = 0; sent = 0 }
@@ -84,10 +70,6 @@ storedFirst m = record { number = 0; store = 1; sent = m }
 -- So many bytes sent, with nothing stored.
 abbrev pub sentOnly : ℕ → Answer
 sentOnly m = record { number = 0; store = 0; sent = m }
-
--- These records of the state that b holds are put at the front of the outgoing buffer, r bytes.
-abbrev pub Puts : (Server → List Record) → (r : ℕ) → (b o o′ : List ℕ) → Type 0
-Puts f r b o o′ = (s : Server) → Holds s b → (r ≡ length (recordBytes (f s))) × (o′ ≡ over (recordBytes (f s)) o)
 
 -- The bytes e are those of a State that the server s collects from its sender k.
 pub record Came (k : ℕ) (e : List ℕ) (s : Server) : Type 0 where

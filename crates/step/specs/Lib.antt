@@ -1,4 +1,2 @@
 pub mod Answers
 pub mod Events
-pub mod Sending
-pub mod Resending

@@ -10,7 +10,8 @@ ghost use Rattle.replication.specs.Machine.Rules.{onAction, onRetransmission, o
 ghost use Rattle.engine.specs.Image.{modeNumber};
 ghost use Rattle.engine.specs.Header.{headerOf};
 ghost use Rattle.engine.specs.Holding.{HoldsSuch};
-ghost use Rattle.step.specs.Answers.{LentSuch, InForce, StateInForce, AnswersTo, AnswersToAlone};
+ghost use Rattle.outgoing.specs.Lent.{LentSuch};
+ghost use Rattle.step.specs.Answers.{InForce, StateInForce, AnswersTo, AnswersToAlone};
 ghost use Rattle.step.specs.Events.{Takes, Colours, FromMember, AnswersState};
 ghost use Rattle.format.specs.Limits.{mostServers};
 use crate::Answer;

@@ -10,14 +10,15 @@ ghost use Rattle.replication.specs.Machine.Step.{stored, installing, collectCpc
 ghost use Rattle.replication.specs.Machine.WellFormedFacts.{Configured};
 ghost use Rattle.replication.specs.Laws.RuleFits.{Delivered};
 ghost use Rattle.engine.specs.Holding.{HoldsSuch, Becomes};
-ghost use Rattle.step.specs.Answers.{LentSuch, Installs, withLateCpc, AnswersBy, AnswersFor};
+ghost use Rattle.outgoing.specs.Lent.{LentSuch};
+ghost use Rattle.step.specs.Answers.{Installs, withLateCpc, AnswersBy, AnswersFor};
 ghost use Rattle.updates.specs.Lists.{BecomesIn};
 ghost use Rattle.step.specs.Events.{installedLate};
 use crate::Answer;
 use crate::colours::yellow;
-use crate::sending::send_records;
 use exchange::decided::all_cpcs_in;
 use install::installing::install;
+use outgoing::sending::send_records;
 use record::ActionHead;
 use record::State;
 use updates::membership::add_cpc;

@@ -6,9 +6,7 @@ ghost use Rattle.step.specs.Answers.{answered, refusedWith, quietly, sto
 pub mod colours; // colours.rt: actions that a state colours
 pub mod requests; // requests.rt: requests numbered and sent, or held
 pub mod joining; // joining.rt: regular configurations
-pub mod sending; // sending.rt: held requests as records
 pub mod installing; // installing.rt: Install
-pub mod resending; // resending.rt: one's part of the plan
 pub mod exchanging; // exchanging.rt: States and retransmissions, and the end of an exchange
 pub mod events; // events.rt: each kind of event
 pub mod taking; // taking.rt: an event as it comes

@@ -1,6 +1,7 @@
 // A request: numbered, put on the own list and sent, or held.
 ghost use Rattle.replication.specs.Machine.Step.{requested};
-ghost use Rattle.step.specs.Answers.{LentSuch, AnswersBy};
+ghost use Rattle.outgoing.specs.Lent.{LentSuch};
+ghost use Rattle.step.specs.Answers.{AnswersBy};
 ghost use Rattle.step.specs.Events.{Sent, Asked};
 use crate::Answer;
 use record::State;

@@ -5,7 +5,8 @@ ghost use Rattle.format.specs.Types.{action as actionRecord, retransmission, re
 ghost use Rattle.record.specs.Events.{actionFrom, recordOf};
 ghost use Rattle.engine.specs.Outcome.{stateNumber, stepOn};
 ghost use Rattle.engine.specs.Holding.{HoldsSuch};
-ghost use Rattle.step.specs.Answers.{answered, LentSuch, InForce, AnswersTo, AnswersToAlone};
+ghost use Rattle.outgoing.specs.Lent.{LentSuch};
+ghost use Rattle.step.specs.Answers.{answered, InForce, AnswersTo, AnswersToAlone};
 ghost use Rattle.step.specs.Events.{PartInForce, ReadInForce, numberOf, ActionInForce};
 use crate::Answer;
 use crate::events::on_action;

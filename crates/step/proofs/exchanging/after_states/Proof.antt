@@ -1,5 +1,5 @@
 use Rattle.step.proofs.StatesLaws.{after-awaited, after-ends, after-ended}
-use Rattle.step.proofs.LentLaws.{lent-header, lent-some}
+use Rattle.outgoing.proofs.LentLaws.{lent-header, lent-some}
 use borrow.Author.Needs.{needs}
 use Rattle.step.proofs.exchanging.after_states.Statement.{statement}
 use Rattle.step.proofs.exchanging.after_states.Tie as tie

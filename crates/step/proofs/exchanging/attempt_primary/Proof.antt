@@ -1,5 +1,5 @@
 use Rattle.step.proofs.EndLaws.{attempt-full, attempt-some, attempt-short, attempt-made}
-use Rattle.step.proofs.LentLaws.{lent-header}
+use Rattle.outgoing.proofs.LentLaws.{lent-header}
 use native.Mathlib.Omega.{arith}
 use borrow.Author.Needs.{needs}
 use Rattle.step.proofs.exchanging.attempt_primary.Statement.{statement}

@@ -1,5 +1,5 @@
 use Rattle.step.proofs.StatesLaws.{part-sent}
-use Rattle.step.proofs.LentLaws.{lent-header}
+use Rattle.outgoing.proofs.LentLaws.{lent-header}
 use borrow.Author.Needs.{needs}
 use Rattle.step.proofs.exchanging.await_actions.Statement.{statement}
 use Rattle.step.proofs.exchanging.await_actions.Tie as tie

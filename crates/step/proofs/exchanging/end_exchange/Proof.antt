@@ -1,4 +1,4 @@
-use Rattle.step.proofs.LentLaws.{lent-some}
+use Rattle.outgoing.proofs.LentLaws.{lent-some}
 use Rattle.step.proofs.EndLaws.{end-attempts, end-stays}
 use borrow.Author.Needs.{needs}
 use Rattle.step.proofs.exchanging.end_exchange.Statement.{statement}

@@ -1,5 +1,5 @@
 use Rattle.step.proofs.ExchangeLaws.{last-ends, last-ended, more-such, more-quiet}
-use Rattle.step.proofs.LentLaws.{lent-header, lent-some}
+use Rattle.outgoing.proofs.LentLaws.{lent-header, lent-some}
 use native.Mathlib.Omega.{arith}
 use borrow.Author.Needs.{needs}
 use Rattle.step.proofs.exchanging.exchange.Statement.{statement}

@@ -1,5 +1,5 @@
 use Rattle.step.proofs.JoinLaws.{join-done}
-use Rattle.step.proofs.LentLaws.{lent-header}
+use Rattle.outgoing.proofs.LentLaws.{lent-header}
 use borrow.Author.Needs.{needs}
 use Rattle.step.proofs.joining.join.Statement.{statement}
 use Rattle.step.proofs.joining.join.Tie as tie
@@ -7,7 +7,7 @@ use Rattle.step.proofs.joining.join.Reads as reads
 use Rattle.step.proofs.joining.join.Lts as lts
 use Rattle.updates.proofs.membership.enter_exchange.Reads as enter-exchange-reads
 use Rattle.step.proofs.Answer.stored.Reads as stored-reads
-use Rattle.step.proofs.joining.send_state.Reads as send-state-reads
+use Rattle.outgoing.proofs.states.send_state.Reads as send-state-reads
 
 send-state-requires : tie.Need-send-state-requires
 send-state-requires c κs = search needs

@@ -1,5 +1,5 @@
 use Rattle.step.proofs.VotesLaws.{unmarked-lent, unmarked-joined}
-use Rattle.step.proofs.LentLaws.{lent-header}
+use Rattle.outgoing.proofs.LentLaws.{lent-header}
 use borrow.Author.Needs.{needs}
 use Rattle.step.proofs.joining.join_unmarked.Statement.{statement}
 use Rattle.step.proofs.joining.join_unmarked.Tie as tie

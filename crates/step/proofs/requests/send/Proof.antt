@@ -1,5 +1,5 @@
 use Rattle.step.proofs.RequestLaws.{sent-payload, send-full, send-small, send-done}
-use Rattle.step.proofs.LentLaws.{lent-counts}
+use Rattle.outgoing.proofs.LentLaws.{lent-counts}
 use borrow.Author.Needs.{needs}
 use Rattle.step.proofs.requests.send.Statement.{statement}
 use Rattle.step.proofs.requests.send.Tie as tie

@@ -1,0 +1,191 @@
+-- Retransmissions written one after another.
+-- Assumes nothing.
+use Prim.Native.Nat.{ℕ, _+_, _*_, _-_, _≤_, _<_}
+use mathlib.Core.Path.{_≡_, refl, sym, ap, ap₂, subst, _∙_}
+use mathlib.Core.List.{List, [], _∷_, _++_}
+use mathlib.Core.Option.{Option, none, some}
+use native.Mathlib.Omega.{arith}
+use lib.ListN.{length, take, drop, length-append, length-take}
+use Rattle.base.proofs.AtLaws.{at-take, at-past-take}
+use Rattle.base.specs.Bytes.{numberAt, partAt, joined}
+use Rattle.base.proofs.Comparable.{gather-append}
+use Rattle.base.specs.Lists.{at, atFront, gather, after, above}
+use Rattle.base.proofs.ListLaws.{above-more}
+use Rattle.base.specs.Patched.{patched}
+use Rattle.base.proofs.PatchedLaws.{patched-length, patched-next, patched-none}
+use Rattle.format.specs.Types.{Action, Record, retransmission}
+use Rattle.format.specs.Write.{write, lengthOf, recordBytes}
+use Rattle.format.proofs.Lengths.{write-length}
+use Rattle.record.specs.declared.events.ActionAt.{ActionAt}
+use Rattle.writer.specs.declared.records.Written.{Written}
+use Rattle.writer.specs.declared.records.Written.the-variants.{Next, Full}
+use Rattle.record.specs.Events.{actionIn, actionFrom}
+use Rattle.record.specs.Values.{idOf, actionOf}
+use Rattle.writer.specs.Written.{put, putOf}
+use Rattle.replication.specs.Machine.Colours.{find}
+use Rattle.replication.specs.Machine.Plan.{resent}
+use Rattle.engine.specs.Layout.{slotSize, atGreenLength, theQueue, atQueueLength}
+use Rattle.engine.proofs.Slots.{actions-count}
+use Rattle.queue.proofs.ReadLaws.{actions-at, slot-read, find-at, queue-read}
+use Rattle.install.specs.Table.{IndexedFrom, placeFrom, logIn}
+use Rattle.outgoing.specs.Resending.{queueIn, fromPlace, atPosition, asRed, oneOf, Sends}
+use Rattle.outgoing.proofs.LentLaws.{put-room, put-done, one-record, records-append}
+use Rattle.format.specs.Places.{mostRetransmission}
+use Rattle.engine.specs.Counts.{queueCount, greenCount, place}
+use Rattle.queue.specs.Queue.{position, slotPlace, QueueIn}
+use Rattle.engine.proofs.InPlace.{such-decoded}
+use Rattle.engine.specs.Decode.{decoded, decodedAs, greensIn}
+use native.Mathlib.Nat.{zero-add}
+use lib.Seq.{take-all}
+use Rattle.replication.specs.Machine.WellFormed.{queue}
+use Rattle.format.specs.Limits.{mostPayload}
+
+-- ---- none, one, and more
+
+pub sends-none : (m p : ℕ) (o : List ℕ) → Sends m [] p o o p
+unfolding recordBytes joined
+sends-none m p o = record { place = omega arith; most = omega arith; size = refl; bytes = sym (patched-none p o) }
+
+pub sends-next : (m k p q r : ℕ) (xs ys : List Record) (o o₁ o₂ : List ℕ) → p ≤ length o → Sends m xs p o o₁ q → Sends k ys q o₁ o₂ r
+    → Sends (m + k) (xs ++ ys) p o o₂ r
+sends-next m k p q r xs ys o o₁ o₂ h a b =
+    let both : length (recordBytes (xs ++ ys)) ≡ length (recordBytes xs) + length (recordBytes ys) =
+    ap length (records-append xs ys) ∙ length-append (recordBytes xs) (recordBytes ys) in
+    record {
+      place = omega (arith, a .place, b .place);
+      most = omega (arith, a .most, b .most);
+      size = b .size ∙ a .size;
+      bytes =
+          b .bytes
+          ∙ ap₂ {A = ℕ} {B = List ℕ} {C = List ℕ} (λ i l. patched i (recordBytes ys) l) (a .place) (a .bytes)
+          ∙ patched-next p (recordBytes xs) (recordBytes ys) o h
+          ∙ ap (λ (l : List ℕ). patched p l o) (sym (records-append xs ys));
+    }
+
+-- ---- one record written
+
+module _ (a : ActionAt) (b : List ℕ) (me position p : ℕ) (o o₁ : List ℕ) (w : Written) (h : a .«payload_length» ≤ mostPayload) (l : p + mostRetransmission ≤ length o)
+    (e : putOf w o₁
+    ≡ put (write (retransmission me position
+    (actionOf (a .head) (take (a .«payload_at» + a .«payload_length» - a .«payload_at») (drop (a .«payload_at») b))))) p o) where
+  abbrev x : List ℕ
+  x = write (retransmission me position (actionFrom a b))
+
+  short : length x ≤ mostRetransmission
+  unfolding lengthOf actionFrom actionOf partAt
+  short =
+      let m : length (take (a .«payload_length») (drop (a .«payload_at») b)) ≤ a .«payload_length» = simp length-take (omega arith) in
+      omega (arith, write-length (retransmission me position (actionFrom a b)))
+
+  answer : putOf w o₁ ≡ put x p o
+  unfolding actionFrom partAt
+  answer =
+      let m : a .«payload_at» + a .«payload_length» - a .«payload_at» ≡ a .«payload_length» = omega arith in
+      e ∙ ap (λ (k : ℕ). put (write (retransmission me position (actionOf (a .head) (take k (drop (a .«payload_at») b))))) p o) m
+
+  pub written-next : (n : ℕ) → w ≡ Next n → Sends 1 (retransmission me position (actionFrom a b) ∷ []) p o o₁ n
+  written-next n f =
+      let done = put-done x o o₁ p w answer n f in
+      let one : recordBytes (retransmission me position (actionFrom a b) ∷ []) ≡ x = one-record (retransmission me position (actionFrom a b)) in
+      record {
+        place = done .placed ∙ ap (λ (z : List ℕ). p + length z) (sym one);
+        most = omega (arith, done .placed, short);
+        size = ap length (done .filled) ∙ patched-length p x o (done .room);
+        bytes = done .filled ∙ ap (λ (z : List ℕ). patched p z o) (sym one);
+      }
+
+  pub never-full : w ≡ Full → (n : ℕ) → Sends 1 (retransmission me position (actionFrom a b) ∷ []) p o o₁ n
+  never-full f n = put-room x o o₁ p w answer (omega (arith, short)) f
+
+-- ---- the slot k
+
+module _ (b : List ℕ) (k p : ℕ) (a : ActionAt) (q : QueueIn b) (h : k < queueCount b) (e : p ≡ place theQueue b)
+    (f : a ≡ actionIn b (p + slotSize * k)) where
+  read : a ≡ actionIn b (slotPlace b k)
+  unfolding slotPlace
+  read = f ∙ ap (λ (m : ℕ). actionIn b (m + slotSize * k)) e
+
+  pub slot-short : a .«payload_length» ≤ mostPayload
+  unfolding actionIn
+  slot-short = omega (arith, ap (λ (x : ActionAt). x .«payload_length») read, q .payloads k h)
+
+  pub slot-inside : a .«payload_at» + a .«payload_length» ≤ length b
+  unfolding actionIn slotPlace
+  slot-inside = omega (arith, ap (λ (x : ActionAt). x .«payload_at») read, slot-short, q .counts .queueEnd, q .counts .queue)
+
+  slot-action : at (queueIn b) k ≡ some (actionFrom a b)
+  unfolding queueIn slotPlace
+  slot-action =
+      actions-at (queueCount b) b (place theQueue b) k h
+      ∙ ap some (sym (slot-read b (place theQueue b + slotSize * k)) ∙ ap (λ (x : ActionAt). actionFrom x b) (sym read))
+
+  pub slot-sent : (me position i r : ℕ) (o o₁ : List ℕ) → Sends 1 (retransmission me position (actionFrom a b) ∷ []) i o o₁ r
+      → Sends 1 (oneOf (fromPlace me position (queueIn b) k)) i o o₁ r
+  unfolding oneOf fromPlace resent atFront
+  slot-sent me position i r o o₁ s = subst (λ (x : Option Action). Sends 1 (oneOf (resent me position x)) i o o₁ r) (sym slot-action) s
+
+-- ---- a position
+
+pub position-past : (b : List ℕ) (me g p i : ℕ) (o : List ℕ) → g ≡ numberAt 4 b atGreenLength → g < p → Sends 1 (oneOf (atPosition me (greensIn b) p)) i o o i
+unfolding atPosition greensIn decoded decodedAs queueIn place oneOf resent atFront
+position-past b me g p i o e h =
+    let past : at (take (greenCount b) (queueIn b)) (p - 1) ≡ none = at-past-take (greenCount b) (queueIn b) (p - 1) (omega arith) in
+    subst (λ (x : Option Action). Sends 1 (oneOf (resent me p x)) i o o i) (sym past) (sends-none 1 i o)
+
+pub position-sent : (b : List ℕ) (me g p i r : ℕ) (o o₁ : List ℕ) → g ≡ numberAt 4 b atGreenLength → p ≤ g → 1 ≤ p
+    → Sends 1 (oneOf (fromPlace me p (queueIn b) (p - 1))) i o o₁ r → Sends 1 (oneOf (atPosition me (greensIn b) p)) i o o₁ r
+unfolding atPosition greensIn decoded decodedAs queueIn place fromPlace
+position-sent b me g p i r o o₁ e h l s =
+    let there : at (take (greenCount b) (queueIn b)) (p - 1) ≡ at (queueIn b) (p - 1) = at-take (greenCount b) (queueIn b) (p - 1) (omega arith) in
+    subst (λ (x : Option Action). Sends 1 (oneOf (resent me p x)) i o o₁ r) (sym there) s
+
+-- ---- an id
+
+module _ (b t : List ℕ) (c i k n : ℕ) (f : IndexedFrom 0 t b) (g : k ≡ placeFrom 0 (idOf c i) b) (m : n ≡ numberAt 4 b atQueueLength) where
+  stands : k ≡ position (idOf c i) (queueIn b)
+  unfolding placeFrom queueIn logIn
+  stands =
+      g ∙ zero-add (position (idOf c i) (queue ((decoded b) .log))) ∙ ap (position (idOf c i)) (sym (queue-read (decoded b) b (such-decoded _ b (f .holds))))
+
+  found : find (idOf c i) (queueIn b) ≡ at (queueIn b) k
+  found = find-at (idOf c i) (queueIn b) ∙ ap (at (queueIn b)) (sym stands)
+
+  past : n ≤ k → at (queueIn b) k ≡ none
+  unfolding queueIn
+  past h =
+      let all : length (queueIn b) ≡ queueCount b = actions-count (queueCount b) b (place theQueue b) in
+      ap (λ (l : List Action). at l k) (sym (take-all (length (queueIn b)) (queueIn b) (omega arith))) ∙ at-past-take (length (queueIn b)) (queueIn b) k (omega arith)
+
+  pub index-none : (me j : ℕ) (o : List ℕ) → n ≤ k → Sends 1 (oneOf (asRed me (queueIn b) c i)) j o o j
+  unfolding asRed oneOf resent atFront
+  index-none me j o h = subst (λ (x : Option Action). Sends 1 (oneOf (resent me 0 x)) j o o j) (sym (found ∙ past h)) (sends-none 1 j o)
+
+  pub index-sent : (me j r : ℕ) (o o₁ : List ℕ) → Sends 1 (oneOf (fromPlace me 0 (queueIn b) k)) j o o₁ r
+      → Sends 1 (oneOf (asRed me (queueIn b) c i)) j o o₁ r
+  unfolding asRed fromPlace
+  index-sent me j r o o₁ s = subst (λ (x : Option Action). Sends 1 (oneOf (resent me 0 x)) j o o₁ r) (sym found) s
+
+-- ---- all from `low` to `high`
+
+module _ (f : ℕ → Option Record) where
+  gather-next : (low p : ℕ) → low ≤ p → gather f (above low (p + 1)) ≡ gather f (above low p) ++ oneOf (f (p + 1))
+  unfolding gather after oneOf
+  gather-next low p h = ap (gather f) (above-more low p 1 h) ∙ gather-append f (above low p) (after p 1)
+
+  pub all-start : (low i : ℕ) (o : List ℕ) → Sends (low - low) (gather f (above low low)) i o o i
+  unfolding gather above after
+  all-start low i o = let e : low - low ≡ 0 = omega arith in rw e (sends-none 0 i o)
+
+  pub all-again : (low high p i q r : ℕ) (o o₁ o₂ : List ℕ) → low ≤ p → i + mostRetransmission * (high - low) ≤ length o
+      → Sends (p - low) (gather f (above low p)) i o o₁ q
+      → Sends 1 (oneOf (f (p + 1))) q o₁ o₂ r → Sends (p + 1 - low) (gather f (above low (p + 1))) i o o₂ r
+  all-again low high p i q r o o₁ o₂ h l a b =
+      let e : p - low + 1 ≡ p + 1 - low = omega arith in
+      subst (λ (m : ℕ). Sends m (gather f (above low (p + 1))) i o o₂ r) e
+      (subst (λ (xs : List Record). Sends (p - low + 1) xs i o o₂ r) (sym (gather-next low p h))
+      (sends-next (p - low) 1 i q r (gather f (above low p)) (oneOf (f (p + 1))) o o₁ o₂ (omega arith) a b))
+
+  pub all-end : (low high p i r : ℕ) (o o₁ : List ℕ) → low ≤ p → p - low ≤ high - low → high ≤ p → Sends (p - low) (gather f (above low p)) i o o₁ r
+      → Sends (high - low) (gather f (above low high)) i o o₁ r
+  unfolding above
+  all-end low high p i r o o₁ h l m a = subst (λ (k : ℕ). Sends k (gather f (after low k)) i o o₁ r) (omega arith) a

@@ -1,0 +1,165 @@
+-- The State that a server sends when a regular configuration comes.
+-- Assumes nothing.
+use Prim.Native.Nat.{ℕ, _+_, _*_, _-_, _≤_}
+use mathlib.Core.Path.{_≡_, sym, ap, _∙_}
+use mathlib.Core.Bool.{true}
+use mathlib.Core.List.{List}
+use native.Mathlib.Nat.{mul-le-mul}
+use native.Mathlib.Omega.{arith}
+use mir.Syntax.{w32}
+use mir.Val.{Fits}
+use lib.ListN.{length, take, drop, length-drop}
+use lib.Seq.{take-all}
+use Rattle.base.specs.Bytes.{numbersAt, over}
+use Rattle.base.specs.Lists.{sum}
+use Rattle.base.proofs.Occurs.{Occurs, occurs-first, occurs-drop, occurs-at}
+use Rattle.base.specs.Tests.{_≤?_, _and_}
+use Rattle.base.proofs.TestLaws.{pick-yes, both-yes, le-yes}
+use Rattle.base.proofs.Over.{over-front}
+use Rattle.format.specs.Types.{Id, State, state}
+use Rattle.format.specs.Read.{idsAt}
+use Rattle.format.specs.Write.{write, lengthOf, cutsBytes, idsBytes, recordBytes}
+use Rattle.format.proofs.Fields.{cuts-read, ids-read}
+use Rattle.format.proofs.Lengths.{write-length}
+use Rattle.record.specs.declared.State as declared
+use Rattle.record.specs.declared.StateHead.{StateHead}
+use Rattle.writer.specs.declared.records.Written.{Written}
+use Rattle.writer.specs.declared.records.Written.the-variants.{Next, Full}
+use Rattle.record.specs.Values.{componentOf, primaryOf, markOf, stateOf}
+use Rattle.writer.specs.Written.{put, putOf, putState}
+use Rattle.replication.specs.Machine.Types.{Server, contextOf}
+use Rattle.replication.specs.Machine.Step.{ownState}
+use Rattle.engine.specs.Layout.{theCuts, theYellow, sections, offset, stateLength, outLength, headerSize, mostStateSize}
+use Rattle.engine.specs.Header.{lastOf, markNumbers, headerOf, headerIn}
+use Rattle.engine.specs.Image.{parts}
+use Rattle.engine.proofs.Fit.{well-formed-fits}
+use Rattle.engine.proofs.HeaderLaws.{header-loaded}
+use Rattle.engine.proofs.InRange.{InRange, in-range}
+use Rattle.engine.specs.Holding.{Holds}
+use Rattle.updates.specs.Lists.{configurationOf}
+use Rattle.outgoing.specs.Lent.{LentSuch}
+use Rattle.outgoing.specs.Sending.{ownHead, ownRecord}
+use Rattle.outgoing.proofs.LentFacts.{lent-room}
+use Rattle.outgoing.proofs.LentLaws.{holds-products, holds-part, put-room, put-done, one-record}
+use Rattle.engine.specs.Counts.{place}
+use Rattle.engine.proofs.Counts.{holds-place}
+
+pub numbers-taken : (b : List ℕ) (id : ℕ) (h : declared.State) (g : StateHead) → h ≡ headerIn b → g ≡ ownHead h id → g ≡ ownHead (headerIn b) id
+numbers-taken b id h g e f = f ∙ ap (λ (x : declared.State). ownHead x id) e
+
+-- ---- the record made of the buffer's bytes
+
+-- All of a list from `at` on.
+rest : (b : List ℕ) (at : ℕ) → take (length b - at) (drop at b) ≡ drop at b
+rest b at = take-all (length b - at) (drop at b) (omega (arith, length-drop at b))
+
+module _ (s : Server) (b : List ℕ) (r : Holds s b) where
+  range : InRange s
+  range = in-range s (r .formed)
+
+  own-cuts : numbersAt 2 (s .servers) (drop headerSize b) 0 ≡ s .log .cuts
+  unfolding parts contextOf offset sections sum over
+  own-cuts =
+      let there : Occurs (cutsBytes (s .log .cuts)) b (headerSize + 0) =
+      occurs-first (cutsBytes (s .log .cuts)) _ b headerSize (holds-part s b r theCuts (omega arith)) in
+      ap (λ (m : ℕ). numbersAt 2 m (drop headerSize b) 0) (sym (range .cutsCount))
+      ∙ cuts-read (s .quota) (s .log .cuts) (drop headerSize b) 0 (range .context .sizes .highest) (range .cuts) (occurs-drop headerSize 0 there)
+
+  own-ids : idsAt (length (s .votes .yellow .ids)) (drop (offset (s .servers) (s .quota) theYellow) b) 0 ≡ s .votes .yellow .ids
+  unfolding parts over
+  own-ids =
+      let ids : List Id = s .votes .yellow .ids in
+      let at : ℕ = offset (s .servers) (s .quota) theYellow in
+      let there : Occurs (idsBytes ids) b (at + 0) =
+      occurs-at (occurs-first (idsBytes ids) _ b at (holds-part s b r theYellow (omega arith))) (omega arith) in
+      ids-read (contextOf s) ids (drop at b) 0 (range .context) (range .yellow .ids) (occurs-drop at 0 there)
+
+  own-made : (id set : ℕ) → stateOf (ownHead (headerOf s) id) (drop headerSize b) 0 (drop (offset (s .servers) (s .quota) theYellow) b) 0
+      ≡ ownState (configurationOf id set) s
+  unfolding stateOf ownHead headerOf lastOf markNumbers primaryOf componentOf markOf ownState configurationOf
+  own-made id set =
+      λ i. record {
+        sender = s .me;
+        configuration = id;
+        cuts = own-cuts i;
+        greenLength = length (s .log .green);
+        attempt = s .votes .attempt;
+        last = s .votes .last;
+        mark = s .votes .mark;
+        yellow = record { status = s .votes .yellow .status; ids = own-ids i };
+      }
+
+  -- It fits the outgoing buffer.
+  own-short : (id set : ℕ) → length (write (state (ownState (configurationOf id set) s))) ≤ outLength (s .servers) (s .quota)
+  unfolding ownState lengthOf outLength
+  own-short id set =
+      omega (
+        arith,
+        write-length (state (ownState (configurationOf id set) s)),
+        range .cutsCount,
+        well-formed-fits s (r .formed) .ids,
+        holds-products s b r .two,
+        holds-products s b r .servers,
+      )
+
+  own-most : (id set : ℕ) → length (write (state (ownState (configurationOf id set) s))) ≤ mostStateSize
+  unfolding ownState lengthOf contextOf
+  own-most id set =
+      let all : s .servers * s .quota ≤ 8 * 256 =
+      mul-le-mul {n₁ = s .servers} {m₁ = s .quota} {n₂ = 8} {m₂ = 256} (range .context .sizes .most) (range .context .sizes .highest) in
+      omega (
+        arith,
+        write-length (state (ownState (configurationOf id set) s)),
+        range .cutsCount,
+        range .context .sizes .most,
+        well-formed-fits s (r .formed) .ids,
+      )
+
+  own-end : (headerSize + 2 * s .servers ≤ length b) × (offset (s .servers) (s .quota) theYellow + 3 * length (s .votes .yellow .ids) ≤ length b)
+  unfolding offset stateLength sections sum
+  own-end = (omega (arith, r .long), omega (arith, r .long, well-formed-fits s (r .formed) .ids))
+
+  -- What the writer leaves.
+  own-put : (o : List ℕ) (id set at : ℕ) (g : StateHead) → g ≡ ownHead (headerIn b) id → at ≡ place theYellow b
+      → putState g (take (length b - headerSize) (drop headerSize b)) (take (length b - at) (drop at b)) 0 o
+      ≡ put (write (state (ownState (configurationOf id set) s))) 0 o
+  unfolding putState ownHead headerOf
+  own-put o id set at g e f =
+      let n : ℕ = s .servers in
+      let m : ℕ = length (s .votes .yellow .ids) in
+      let y : ℕ = offset (s .servers) (s .quota) theYellow in
+      let head : g ≡ ownHead (headerOf s) id = e ∙ ap (λ (h : declared.State). ownHead h id) (header-loaded s b r) in
+      let there : at ≡ y = f ∙ holds-place s b r theYellow in
+      let fits : (2 * n ≤? length (drop headerSize b) and 3 * m ≤? length (drop y b)) ≡ true =
+      both-yes _ _ (le-yes (2 * n) (length (drop headerSize b)) (omega (arith, length-drop headerSize b, own-end .0)))
+      (le-yes (3 * m) (length (drop y b)) (omega (arith, length-drop y b, own-end .1))) in
+      (λ i. putState (head i) (rest b headerSize i) (rest b (there i) i) 0 o)
+      ∙ sym (pick-yes (2 * n ≤? length (drop headerSize b) and 3 * m ≤? length (drop y b)) (put (write (state (ownState (configurationOf id set) s))) 0 o)
+      _ _ fits
+      (ap (λ (x : State). put (write (state x)) 0 o) (sym (own-made id set))))
+
+-- ---- as the code writes it
+
+module _ (b o o₁ : List ℕ) (id at : ℕ) (g : StateHead) (w : Written) (h : LentSuch (λ s. 0 ≤ 0) b o)
+    (i : g ≡ ownHead (headerIn b) id) (j : at ≡ place theYellow b)
+    (e : putOf w o₁ ≡ putState g (take (length b - headerSize) (drop headerSize b)) (take (length b - at) (drop at b)) 0 o) where
+  pub state-full : w ≡ Full → (m : ℕ) (s : Server) (set : ℕ) → Holds s b
+      → (m ≡ length (recordBytes (ownRecord id set s))) × (o₁ ≡ over (recordBytes (ownRecord id set s)) o)
+  state-full f m s set r =
+      put-room (write (state (ownState (configurationOf id set) s))) o o₁ 0 w (e ∙ own-put s b r o id set at g i j)
+      (omega (arith, own-short s b r id set, lent-room (λ s. 0 ≤ 0) b o s h r)) f
+
+  pub state-done : (m : ℕ) → w ≡ Next m → (s : Server) (set : ℕ) → Holds s b
+      → (m ≡ length (recordBytes (ownRecord id set s))) × (o₁ ≡ over (recordBytes (ownRecord id set s)) o)
+  unfolding ownRecord
+  state-done m f s set r =
+      let x : List ℕ = write (state (ownState (configurationOf id set) s)) in
+      let done = put-done x o o₁ 0 w (e ∙ own-put s b r o id set at g i j) m f in
+      let bytes : x ≡ recordBytes (ownRecord id set s) = sym (one-record (state (ownState (configurationOf id set) s))) in
+      (omega (arith, done .placed, ap length bytes), done .filled ∙ over-front x o ∙ ap (λ (y : List ℕ). over y o) bytes)
+
+  pub state-small : (m : ℕ) → w ≡ Next m → Fits w32 m
+  state-small m f =
+      let s : Server = h .state in
+      let done = put-done (write (state (ownState (configurationOf id 0) s))) o o₁ 0 w (e ∙ own-put s b (h .holds) o id 0 at g i j) m f in
+      omega (arith, done .placed, own-most s b (h .holds) id 0)

@@ -1,0 +1,13 @@
+use borrow.Author.Needs.{needs}
+use Rattle.outgoing.specs.Sending.{ownHead}
+use Rattle.outgoing.proofs.states.own_head.Statement.{statement}
+use Rattle.outgoing.proofs.states.own_head.Tie as tie
+use Rattle.outgoing.proofs.states.own_head.Reads as reads
+use Rattle.outgoing.proofs.states.own_head.Lts as lts
+
+returns : tie.Need-returns
+unfolding ownHead
+returns c = search needs
+
+pub own-head-spec : {M : Type 1} → statement M
+own-head-spec = tie.close (tie.spec returns)

@@ -1,0 +1,29 @@
+-- What the code of a step may rely on in lent buffers, and records put into the outgoing one.
+-- Assumes nothing.
+use Prim.Native.Nat.{ℕ, _≤_}
+use mathlib.Core.Path.{_≡_}
+use mathlib.Core.List.{List}
+use lib.ListN.{length}
+use Rattle.base.specs.Bytes.{over}
+use Rattle.format.specs.Types.{Record}
+use Rattle.format.specs.Write.{recordBytes}
+use Rattle.replication.specs.Machine.Types.{Server}
+use Rattle.engine.specs.Layout.{outLength}
+use Rattle.engine.specs.Holding.{Holds}
+use denote.Ref.{RefT}
+use denote.Triple.Both.{Both}
+
+-- A lent buffer, as a contract sees it: at entry and at exit.
+abbrev pub Lent : Type 0
+Lent = Both (RefT (List ℕ)) (RefT (List ℕ))
+
+-- The buffer b holds a state of which P is known, and o has room for all that an event puts out.
+pub record LentSuch (P : Server → Type 0) (b o : List ℕ) : Type 0 where
+  pub state : Server
+  pub holds : Holds state b
+  pub fact : P state
+  pub room : outLength (state .servers) (state .quota) ≤ length o
+
+-- These records of the state that b holds are put at the front of the outgoing buffer, r bytes.
+abbrev pub Puts : (Server → List Record) → (r : ℕ) → (b o o′ : List ℕ) → Type 0
+Puts f r b o o′ = (s : Server) → Holds s b → (r ≡ length (recordBytes (f s))) × (o′ ≡ over (recordBytes (f s)) o)

@@ -1,0 +1,195 @@
+// One's part of the retransmission plan, as records.
+ghost use mathlib.Core.Path.{_≡_};
+ghost use mathlib.Core.Bool.{true};
+ghost use mathlib.Core.List.{[], _∷_};
+ghost use Prim.Native.Nat.{_+_, _*_, _-_, _≤_, _<_};
+ghost use lib.ListN.{length};
+ghost use Rattle.base.specs.Lists.{gather, above};
+ghost use Rattle.format.specs.Types.{retransmission};
+ghost use Rattle.record.specs.Events.{actionFrom};
+ghost use Rattle.replication.specs.Machine.Step.{allStatesIn};
+ghost use Rattle.outgoing.specs.Lent.{LentSuch, Puts};
+ghost use Rattle.queue.specs.Queue.{QueueIn};
+ghost use Rattle.install.specs.Table.{InTable};
+ghost use Rattle.outgoing.specs.Resending.{queueIn, SendsTo, Room, PayloadInside, Resends, partIn, Tabled, OwnNumber, allReds};
+ghost use Rattle.outgoing.specs.Resending.{fromPlace, atPosition, asRed, oneOf, Stated, greenPart, redPart, wholePart};
+ghost use Rattle.format.specs.Places.{mostRetransmission};
+ghost use Rattle.engine.specs.Decode.{serversIn, quotaIn, greensIn};
+ghost use Rattle.engine.specs.Counts.{queueCount, mostActions};
+ghost use Rattle.format.specs.Limits.{mostServers, mostQuota};
+use engine::places::THE_QUEUE;
+use engine::places::place_of;
+use exchange::decided::resends_green;
+use exchange::decided::resends_red;
+use install::table::place_in;
+use install::table::table;
+use record::State;
+use record::bytes::num8;
+use record::bytes::num32;
+use record::events::ActionAt;
+use record::frame::action_at;
+use writer::records::Written;
+use writer::records::write_retransmission;
+
+// Writes an action that lies in the state: the place behind its record.
+fn send_action(state: &[u8], out: &mut [u8], at: usize, me: u8, position: u32, a: ActionAt) -> usize
+    requires { ⌜ PayloadInside a (now state) × (at + mostRetransmission ≤ length (now out)) ⌝ }
+    ensures { λ r. ⌜ SendsTo 1 (retransmission me position (actionFrom a (now (state .entry))) ∷ []) at out r ⌝ }
+{
+    let head = a.head;
+    let start = a.payload_at;
+    let end = start + a.payload_length;
+    let w = write_retransmission(out, at, me, position, head, &state[start..end]);
+    let Written::Next(next) = w else {
+        return at;
+    };
+    next
+}
+
+// The action at the place k of the queue.
+fn send_slot(state: &[u8], out: &mut [u8], at: usize, me: u8, position: u32, k: usize) -> usize
+    requires { ⌜ QueueIn (now state) × (k < queueCount (now state)) × (at + mostRetransmission ≤ length (now out)) ⌝ }
+    ensures { λ r. ⌜ SendsTo 1 (oneOf (fromPlace me position (queueIn (now (state .entry))) k)) at out r ⌝ }
+{
+    let a = action_at(state, place_of(state, THE_QUEUE) + State::SLOT * k);
+    send_action(state, out, at, me, position, a)
+}
+
+// A green position; one past the green list is left out.
+fn send_position(state: &[u8], out: &mut [u8], at: usize, me: u8, position: u32) -> usize
+    requires { ⌜ QueueIn (now state) × (1 ≤ position) × (at + mostRetransmission ≤ length (now out)) ⌝ }
+    ensures { λ r. ⌜ SendsTo 1 (oneOf (atPosition me (greensIn (now (state .entry))) position)) at out r ⌝ }
+{
+    if num32(state, State::AT_GREEN_LENGTH) < position {
+        return at;
+    }
+    send_slot(state, out, at, me, position, position as usize - 1)
+}
+
+// "resends positions from the shortest length + 1 to its own": those above `low` up to `high`.
+fn send_positions(state: &[u8], out: &mut [u8], at: usize, me: u8, low: u32, high: u32) -> usize
+    requires { ⌜ QueueIn (now state) × Room at (high - low) (now out) ⌝ }
+    ensures { λ r. ⌜ SendsTo (high - low) (gather (atPosition me (greensIn (now (state .entry)))) (above low high)) at out r ⌝ }
+{
+    let mut next = at;
+    let mut p = low;
+    while p < high {
+        p += 1;
+        next = send_position(state, out, next, me, p);
+    }
+    next
+}
+
+// The action of an id; one that is not held is left out.
+fn send_index(
+    state: &[u8],
+    out: &mut [u8],
+    at: usize,
+    places: &[u16; State::MOST_IDS],
+    me: u8,
+    creator: u8,
+    index: u16,
+) -> usize
+    requires { ⌜ Tabled (now places) (now state) × InTable creator index × (at + mostRetransmission ≤ length (now out)) ⌝ }
+    ensures { λ r. ⌜ SendsTo 1 (oneOf (asRed me (queueIn (now (state .entry))) creator index)) at out r ⌝ }
+{
+    let k = place_in(state, places, 0, creator, index);
+    if num32(state, State::AT_QUEUE_LENGTH) as usize <= k {
+        return at;
+    }
+    send_slot(state, out, at, me, 0, k)
+}
+
+// "resends from the lowest cut + 1 to it, as red": the indexes above `low` up to `high`.
+fn send_creator(
+    state: &[u8],
+    out: &mut [u8],
+    at: usize,
+    places: &[u16; State::MOST_IDS],
+    me: u8,
+    creator: u8,
+    low: u32,
+    high: u32,
+) -> usize
+    requires { ⌜ Tabled (now places) (now state) × (creator < mostServers) × (high ≤ mostQuota) × Room at (high - low) (now out) ⌝ }
+    ensures { λ r. ⌜ SendsTo (high - low) (gather (asRed me (queueIn (now (state .entry))) creator) (above low high)) at out r ⌝ }
+{
+    let mut next = at;
+    let mut i = low;
+    while i < high {
+        i += 1;
+        next = send_index(state, out, next, places, me, creator, i as u16);
+    }
+    next
+}
+
+// "the server with the longest green list resends positions from the shortest length + 1 to its own."
+fn send_green(state: &[u8], out: &mut [u8], me: u8) -> usize
+    requires { ⌜ Stated (now state) × OwnNumber me (now state) × (mostRetransmission * mostActions (now state) ≤ length (now out)) ⌝ }
+    ensures { λ r. ⌜ SendsTo (mostActions (now (state .entry))) (greenPart (now (state .entry))) 0 out r ⌝ }
+{
+    let part = resends_green(state);
+    if !part.mine {
+        return 0;
+    }
+    send_positions(state, out, 0, me, part.low, part.high)
+}
+
+// "for each creator the server with the highest cut resends from the lowest cut + 1 to it, as red."
+fn send_red(
+    state: &[u8],
+    out: &mut [u8],
+    at: usize,
+    places: &[u16; State::MOST_IDS],
+    me: u8,
+    creator: u8,
+) -> usize
+    requires { ⌜ Resends (now places) me (now state) × (creator < serversIn (now state)) × Room at (quotaIn (now state)) (now out) ⌝ }
+    ensures { λ r. ⌜ SendsTo (quotaIn (now (state .entry))) (redPart (now (state .entry)) creator) at out r ⌝ }
+{
+    let part = resends_red(state, creator as usize);
+    if !part.mine {
+        return at;
+    }
+    send_creator(state, out, at, places, me, creator, part.low, part.high)
+}
+
+// The same for every creator.
+fn send_reds(
+    state: &[u8],
+    out: &mut [u8],
+    at: usize,
+    places: &[u16; State::MOST_IDS],
+    me: u8,
+) -> usize
+    requires { ⌜ Resends (now places) me (now state) × Room at (mostActions (now state)) (now out) ⌝ }
+    ensures { λ r. ⌜ SendsTo (mostActions (now (state .entry))) (allReds (now (state .entry))) at out r ⌝ }
+{
+    let servers = num8(state, State::AT_SERVERS);
+    let mut next = at;
+    let mut c = 0;
+    while c < servers {
+        next = send_red(state, out, next, places, me, c);
+        c += 1;
+    }
+    next
+}
+
+// All of them: the place behind the last.
+fn send_plan(state: &[u8], out: &mut [u8]) -> usize
+    requires { ⌜ Stated (now state) × (2 * mostRetransmission * mostActions (now state) ≤ length (now out)) ⌝ }
+    ensures { λ r. ⌜ SendsTo (2 * mostActions (now (state .entry))) (wholePart (now (state .entry))) 0 out r ⌝ }
+{
+    let me = num8(state, State::AT_ME);
+    let next = send_green(state, out, me);
+    let places = table(state, 0);
+    send_reds(state, out, next, &places, me)
+}
+
+// "send one's part of the plan": at the front of the outgoing buffer; how many bytes it has.
+pub fn send_part(state: &[u8], out: &mut [u8]) -> u32
+    requires { ⌜ LentSuch (λ s. allStatesIn s ≡ true) (now state) (now out) ⌝ }
+    ensures { λ r. ⌜ Puts partIn r (now (state .entry)) (now (out .entry)) (now (out .exit)) ⌝ }
+{
+    send_plan(state, out) as u32
+}
