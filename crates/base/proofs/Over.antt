@@ -1,11 +1,11 @@
 -- Bytes laid over others, and filled up.
 -- Assumes nothing.
-use Prim.Native.Nat.{ℕ, _+_, _≤_}
+use Prim.Native.Nat.{ℕ, _+_, _-_, _≤_}
 use mathlib.Core.Path.{_≡_, refl, sym, ap, _∙_}
-use mathlib.Core.List.{List, _++_, append-assoc}
+use mathlib.Core.List.{List, [], _++_, append-assoc, append-nil}
 use native.Mathlib.Nat.{zero-add}
 use native.Mathlib.Omega.{arith}
-use lib.ListN.{length, take, drop, length-append, length-drop, length-replicate}
+use lib.ListN.{length, take, drop, length-append, length-drop, length-replicate, drop-of-length-le}
 use lib.Seq.{take-at, drop-at, drop-drop}
 use Rattle.base.specs.Bytes.{over, zeros, slot}
 use Rattle.base.specs.Patched.{patched}
@@ -52,3 +52,10 @@ over-changed y x l i h =
 pub over-front : (y l : List ℕ) → patched 0 y l ≡ over y l
 unfolding over patched
 over-front y l = ap (λ (m : ℕ). y ++ drop m l) (zero-add (length y))
+
+-- The rest of l from `at` on, which was lent, is back with y at its front.
+pub rest-back : (at : ℕ) (y l : List ℕ) → take at l ++ (over y (drop at l) ++ drop (length l - at) (drop at l)) ≡ patched at y l
+unfolding over patched
+rest-back at y l =
+    let none : drop (length l - at) (drop at l) ≡ [] = drop-of-length-le (drop at l) {i = length l - at} (omega (arith, length-drop at l)) in
+    rw (none, append-nil, drop-drop)

@@ -1,10 +1,10 @@
 -- Held requests as the records of the actions that they become.
 -- Assumes nothing.
-use Prim.Native.Nat.{ℕ, zero, suc, _+_, _*_, _-_, _≤_, _<_}
+use Prim.Native.Nat.{ℕ, zero, suc, _+_, _*_, _-_, _^_, _≤_, _<_}
 use mathlib.Core.Path.{_≡_, refl, sym, ap, _∙_}
 use mathlib.Core.List.{List, [], _∷_, _++_, map, map-append}
 use native.Mathlib.Omega.{arith}
-use mir.Syntax.{w32}
+use mir.Syntax.{w32, w64}
 use mir.Val.{Fits}
 use lib.ListN.{length, take, drop, length-append, length-take}
 use Rattle.base.specs.Bytes.{numberAt, partAt, joined, over, slot}
@@ -38,7 +38,7 @@ use Rattle.engine.proofs.InPlace.{holds-decoded}
 use Rattle.engine.proofs.Used.{held-slot-length}
 use Rattle.outgoing.specs.Lent.{LentSuch}
 use Rattle.outgoing.specs.Sending.{heldPlace, heldHead, heldAction, heldBytes, HeldRoom}
-use Rattle.outgoing.proofs.LentLaws.{lent-counts, lent-header, holds-products, holds-part, put-room, put-done, one-record, records-append}
+use Rattle.outgoing.proofs.LentLaws.{lent-counts, lent-header, holds-products, holds-part, Placed, rest-room, rest-done, one-record, records-append}
 use Rattle.format.specs.Places.{mostAction}
 use Rattle.engine.specs.Counts.{heldCount, place, CountsIn}
 use Rattle.engine.proofs.Counts.{holds-place, numbers}
@@ -69,25 +69,37 @@ module _ (k at i n : ℕ) (b o : List ℕ) (h : HeldRoom k at b o) (e : i ≡ he
       let m : i + 1 + n - (i + 1) ≡ n = omega arith in
       (λ j. take ((m ∙ d) j) (drop (i + 1) b)) ∙ (λ j. take (numberAt 1 b (e j)) (drop (e j + 1) b))
 
-  module _ (o₁ : List ℕ) (g : ActionHead) (w : Written) (f : g ≡ heldHead b k)
-      (p : putOf w o₁ ≡ put (write (action (actionOf g (take (i + 1 + n - (i + 1)) (drop (i + 1) b))))) at o) where
-    put-held : putOf w o₁ ≡ put (write (action (heldAction b k))) at o
-    unfolding heldAction
-    put-held = p ∙ (λ j. put (write (action (actionOf (f j) (payload-taken j)))) at o)
+  -- written into the rest from `at` on: y is what the writer left there
+  module _ (y : List ℕ) (g : ActionHead) (w : Written) (f : g ≡ heldHead b k)
+      (p : putOf w y ≡ put (write (action (actionOf g (take (i + 1 + n - (i + 1)) (drop (i + 1) b))))) (take (length o - at) (drop at o))) where
+    abbrev x : List ℕ
+    x = write (action (heldAction b k))
 
-    room : at + length (write (action (heldAction b k))) ≤ length o
+    abbrev o₁ : List ℕ
+    o₁ = take at o ++ (y ++ drop (length o - at) (drop at o))
+
+    put-held : putOf w y ≡ put x (take (length o - at) (drop at o))
+    unfolding heldAction
+    put-held = p ∙ (λ j. put (write (action (actionOf (f j) (payload-taken j)))) (take (length o - at) (drop at o)))
+
+    room : at + length x ≤ length o
     unfolding heldAction lengthOf actionOf payloadAt partAt
     room =
         let taken : length (take (numberAt 1 b (heldPlace b k)) (drop (heldPlace b k + 1) b)) ≤ mostPayload =
         omega (arith, length-take (numberAt 1 b (heldPlace b k)) (drop (heldPlace b k + 1) b), h .short) in
         omega (arith, write-length (action (heldAction b k)), h .room)
 
-    pub held-full : w ≡ Full → (r : ℕ)
-        → (r ≡ at + length (write (action (heldAction b k)))) × (o₁ ≡ patched at (write (action (heldAction b k))) o)
-    held-full z r = put-room (write (action (heldAction b k))) o o₁ at w put-held room z
+    done : (r : ℕ) → w ≡ Next r → Placed x at o r o₁
+    done = rest-done x o y at w (omega (arith, h .room)) put-held
 
-    pub held-done : (r : ℕ) → w ≡ Next r → (r ≡ at + length (write (action (heldAction b k)))) × (o₁ ≡ patched at (write (action (heldAction b k))) o)
-    held-done r z = let t = put-done (write (action (heldAction b k))) o o₁ at w put-held r z in (t .placed, t .filled)
+    pub held-full : w ≡ Full → (r : ℕ) → (r ≡ at + length x) × (o₁ ≡ patched at x o)
+    held-full z r = rest-room x o y at w (omega (arith, h .room)) put-held room z
+
+    pub held-fits : length o < 2 ^ 64 → (r : ℕ) → w ≡ Next r → Fits w64 (at + r)
+    held-fits l r z = let d = done r z in record { fits = omega (arith, d .room, d .sized) }
+
+    pub held-done : (r : ℕ) → w ≡ Next r → (at + r ≡ at + length x) × (o₁ ≡ patched at x o)
+    held-done r z = let d = done r z in (ap (λ (m : ℕ). at + m) (d .sized), d .filled)
 
 -- ---- one more of them
 

@@ -1,13 +1,15 @@
 -- What buffers that are lent with a state give, and a record put into the outgoing one.
 -- Assumes nothing.
-use Prim.Native.Nat.{ℕ, _+_, _≤_, _<_}
+use Prim.Native.Nat.{ℕ, _+_, _-_, _≤_, _<_}
 use mathlib.Core.Path.{_≡_, refl, sym, ap, subst, _∙_}
 use mathlib.Core.List.{List, [], _∷_, _++_, append-nil, map, map-append}
 use native.Mathlib.Omega.{arith}
-use lib.ListN.{length, getD}
-use Rattle.base.specs.Bytes.{joined}
+use lib.ListN.{length, getD, take, drop, length-drop}
+use lib.Seq.{take-all}
+use Rattle.base.specs.Bytes.{joined, over}
 use Rattle.base.proofs.BytesLaws.{joined-append}
 use Rattle.base.proofs.Occurs.{Occurs}
+use Rattle.base.proofs.Over.{rest-back}
 use Rattle.base.specs.Patched.{patched}
 use Rattle.base.proofs.TestLaws.{pick-le}
 use Rattle.format.specs.Types.{Record}
@@ -53,21 +55,49 @@ holds-part s b r k l =
     subst (λ (c : List ℕ). Occurs (getD (parts (s .servers) (s .quota) s b) k []) c (offset (s .servers) (s .quota) k)) (r .written)
     (image-part s (well-formed-fits s (r .formed)) b (r .long) k l)
 
--- ---- the record x put at `at`
+-- ---- the record x put at the front of the rest o
 
 not-full : {A : Type 0} (n : ℕ) (x y : List ℕ) → next n x ≡ full y → A
 not-full n x y e = let z : _≡_ {A = ℕ} 0 1 = cc in absurd (omega arith)
 
-module _ (x o o₁ : List ℕ) (at : ℕ) (w : Written) (e : putOf w o₁ ≡ put x at o) where
+module _ (x o o₁ : List ℕ) (w : Written) (e : putOf w o₁ ≡ put x o) where
   -- Where there is room a writer does not answer that there is none.
-  pub put-room : {A : Type 0} → at + length x ≤ length o → w ≡ Full → A
+  pub put-room : {A : Type 0} → length x ≤ length o → w ≡ Full → A
   unfolding put putOf
   put-room h f =
-      not-full (at + length x) (patched at x o) o₁
-      (pick-le (at + length x) (length o) (next (at + length x) (patched at x o)) _ _ h refl ∙ sym e ∙ ap (λ (v : Written). putOf v o₁) f)
+      not-full (length x) (over x o) o₁
+      (pick-le (length x) (length o) (next (length x) (over x o)) _ _ h refl ∙ sym e ∙ ap (λ (v : Written). putOf v o₁) f)
 
-  pub put-done : (n : ℕ) → w ≡ Next n → Fitted x at o n o₁
-  put-done n f = put-fitted x o o₁ at n (answer-next w (put x at o) n o₁ e f)
+  pub put-done : (n : ℕ) → w ≡ Next n → Fitted x o n o₁
+  put-done n f = put-fitted x o o₁ n (answer-next w (put x o) n o₁ e f)
+
+-- ---- the same from `at` on in the buffer o, of which the rest was lent: y is what the writer left there
+
+-- All of a list from `at` on.
+pub whole-rest : (b : List ℕ) (at : ℕ) → take (length b - at) (drop at b) ≡ drop at b
+whole-rest b at = take-all (length b - at) (drop at b) (omega (arith, length-drop at b))
+
+-- The place behind the record, and the buffer o₁ once the rest is back.
+pub record Placed (x : List ℕ) (at : ℕ) (o : List ℕ) (n : ℕ) (o₁ : List ℕ) : Type 0 where
+  pub room : at + length x ≤ length o
+  pub sized : n ≡ length x
+  pub filled : o₁ ≡ patched at x o
+
+module _ (x o y : List ℕ) (at : ℕ) (w : Written) (h : at ≤ length o) (e : putOf w y ≡ put x (take (length o - at) (drop at o))) where
+  rest-put : putOf w y ≡ put x (drop at o)
+  rest-put = e ∙ ap (put x) (whole-rest o at)
+
+  pub rest-room : {A : Type 0} → at + length x ≤ length o → w ≡ Full → A
+  rest-room r f = put-room x (drop at o) y w rest-put (omega (arith, length-drop at o)) f
+
+  pub rest-done : (n : ℕ) → w ≡ Next n → Placed x at o n (take at o ++ (y ++ drop (length o - at) (drop at o)))
+  rest-done n f =
+      let done = put-done x (drop at o) y w rest-put n f in
+      record {
+        room = omega (arith, done .room, length-drop at o);
+        sized = done .sized;
+        filled = ap (λ (z : List ℕ). take at o ++ (z ++ drop (length o - at) (drop at o))) (done .filled) ∙ rest-back at x o;
+      }
 
 -- ---- records as bytes
 

@@ -1,10 +1,12 @@
 -- Retransmissions written one after another.
 -- Assumes nothing.
-use Prim.Native.Nat.{ℕ, _+_, _*_, _-_, _≤_, _<_}
+use Prim.Native.Nat.{ℕ, _+_, _*_, _-_, _^_, _≤_, _<_}
 use mathlib.Core.Path.{_≡_, refl, sym, ap, ap₂, subst, _∙_}
 use mathlib.Core.List.{List, [], _∷_, _++_}
 use mathlib.Core.Option.{Option, none, some}
 use native.Mathlib.Omega.{arith}
+use mir.Syntax.{w64}
+use mir.Val.{Fits}
 use lib.ListN.{length, take, drop, length-append, length-take}
 use Rattle.base.proofs.AtLaws.{at-take, at-past-take}
 use Rattle.base.specs.Bytes.{numberAt, partAt, joined}
@@ -29,7 +31,7 @@ use Rattle.engine.proofs.Slots.{actions-count}
 use Rattle.queue.proofs.ReadLaws.{actions-at, slot-read, find-at, queue-read}
 use Rattle.install.specs.Table.{IndexedFrom, placeFrom, logIn}
 use Rattle.outgoing.specs.Resending.{queueIn, fromPlace, atPosition, asRed, oneOf, Sends}
-use Rattle.outgoing.proofs.LentLaws.{put-room, put-done, one-record, records-append}
+use Rattle.outgoing.proofs.LentLaws.{Placed, rest-room, rest-done, one-record, records-append}
 use Rattle.format.specs.Places.{mostRetransmission}
 use Rattle.engine.specs.Counts.{queueCount, greenCount, place}
 use Rattle.queue.specs.Queue.{position, slotPlace, QueueIn}
@@ -62,14 +64,18 @@ sends-next m k p q r xs ys o o₁ o₂ h a b =
           ∙ ap (λ (l : List ℕ). patched p l o) (sym (records-append xs ys));
     }
 
--- ---- one record written
+-- ---- one record written into the rest from p on: y is what the writer left there
 
-module _ (a : ActionAt) (b : List ℕ) (me position p : ℕ) (o o₁ : List ℕ) (w : Written) (h : a .«payload_length» ≤ mostPayload) (l : p + mostRetransmission ≤ length o)
-    (e : putOf w o₁
+module _ (a : ActionAt) (b : List ℕ) (me position p : ℕ) (o y : List ℕ) (w : Written) (h : a .«payload_length» ≤ mostPayload) (l : p + mostRetransmission ≤ length o)
+    (e : putOf w y
     ≡ put (write (retransmission me position
-    (actionOf (a .head) (take (a .«payload_at» + a .«payload_length» - a .«payload_at») (drop (a .«payload_at») b))))) p o) where
+    (actionOf (a .head) (take (a .«payload_at» + a .«payload_length» - a .«payload_at») (drop (a .«payload_at») b)))))
+    (take (length o - p) (drop p o))) where
   abbrev x : List ℕ
   x = write (retransmission me position (actionFrom a b))
+
+  abbrev o₁ : List ℕ
+  o₁ = take p o ++ (y ++ drop (length o - p) (drop p o))
 
   short : length x ≤ mostRetransmission
   unfolding lengthOf actionFrom actionOf partAt
@@ -77,25 +83,31 @@ module _ (a : ActionAt) (b : List ℕ) (me position p : ℕ) (o o₁ : List ℕ)
       let m : length (take (a .«payload_length») (drop (a .«payload_at») b)) ≤ a .«payload_length» = simp length-take (omega arith) in
       omega (arith, write-length (retransmission me position (actionFrom a b)))
 
-  answer : putOf w o₁ ≡ put x p o
+  answer : putOf w y ≡ put x (take (length o - p) (drop p o))
   unfolding actionFrom partAt
   answer =
       let m : a .«payload_at» + a .«payload_length» - a .«payload_at» ≡ a .«payload_length» = omega arith in
-      e ∙ ap (λ (k : ℕ). put (write (retransmission me position (actionOf (a .head) (take k (drop (a .«payload_at») b))))) p o) m
+      e ∙ ap (λ (k : ℕ). put (write (retransmission me position (actionOf (a .head) (take k (drop (a .«payload_at») b))))) (take (length o - p) (drop p o))) m
 
-  pub written-next : (n : ℕ) → w ≡ Next n → Sends 1 (retransmission me position (actionFrom a b) ∷ []) p o o₁ n
+  done : (n : ℕ) → w ≡ Next n → Placed x p o n o₁
+  done = rest-done x o y p w (omega arith) answer
+
+  pub place-fits : length o < 2 ^ 64 → (n : ℕ) → w ≡ Next n → Fits w64 (p + n)
+  place-fits b n f = let d = done n f in record { fits = omega (arith, d .room, d .sized) }
+
+  pub written-next : (n : ℕ) → w ≡ Next n → Sends 1 (retransmission me position (actionFrom a b) ∷ []) p o o₁ (p + n)
   written-next n f =
-      let done = put-done x o o₁ p w answer n f in
+      let d = done n f in
       let one : recordBytes (retransmission me position (actionFrom a b) ∷ []) ≡ x = one-record (retransmission me position (actionFrom a b)) in
       record {
-        place = done .placed ∙ ap (λ (z : List ℕ). p + length z) (sym one);
-        most = omega (arith, done .placed, short);
-        size = ap length (done .filled) ∙ patched-length p x o (done .room);
-        bytes = done .filled ∙ ap (λ (z : List ℕ). patched p z o) (sym one);
+        place = ap (λ (m : ℕ). p + m) (d .sized) ∙ ap (λ (z : List ℕ). p + length z) (sym one);
+        most = omega (arith, d .sized, short);
+        size = ap length (d .filled) ∙ patched-length p x o (d .room);
+        bytes = d .filled ∙ ap (λ (z : List ℕ). patched p z o) (sym one);
       }
 
   pub never-full : w ≡ Full → (n : ℕ) → Sends 1 (retransmission me position (actionFrom a b) ∷ []) p o o₁ n
-  never-full f n = put-room x o o₁ p w answer (omega (arith, short)) f
+  never-full f n = rest-room x o y p w (omega arith) answer (omega (arith, short)) f
 
 -- ---- the slot k
 

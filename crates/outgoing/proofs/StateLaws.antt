@@ -9,13 +9,11 @@ use native.Mathlib.Omega.{arith}
 use mir.Syntax.{w32}
 use mir.Val.{Fits}
 use lib.ListN.{length, take, drop, length-drop}
-use lib.Seq.{take-all}
 use Rattle.base.specs.Bytes.{numbersAt, over}
 use Rattle.base.specs.Lists.{sum}
 use Rattle.base.proofs.Occurs.{Occurs, occurs-first, occurs-drop, occurs-at}
 use Rattle.base.specs.Tests.{_≤?_, _and_}
 use Rattle.base.proofs.TestLaws.{pick-yes, both-yes, le-yes}
-use Rattle.base.proofs.Over.{over-front}
 use Rattle.format.specs.Types.{Id, State, state}
 use Rattle.format.specs.Read.{idsAt}
 use Rattle.format.specs.Write.{write, lengthOf, cutsBytes, idsBytes, recordBytes}
@@ -40,7 +38,7 @@ use Rattle.updates.specs.Lists.{configurationOf}
 use Rattle.outgoing.specs.Lent.{LentSuch}
 use Rattle.outgoing.specs.Sending.{ownHead, ownRecord}
 use Rattle.outgoing.proofs.LentFacts.{lent-room}
-use Rattle.outgoing.proofs.LentLaws.{holds-products, holds-part, put-room, put-done, one-record}
+use Rattle.outgoing.proofs.LentLaws.{holds-products, holds-part, put-room, put-done, whole-rest, one-record}
 use Rattle.engine.specs.Counts.{place}
 use Rattle.engine.proofs.Counts.{holds-place}
 
@@ -48,10 +46,6 @@ pub numbers-taken : (b : List ℕ) (id : ℕ) (h : declared.State) (g : StateHea
 numbers-taken b id h g e f = f ∙ ap (λ (x : declared.State). ownHead x id) e
 
 -- ---- the record made of the buffer's bytes
-
--- All of a list from `at` on.
-rest : (b : List ℕ) (at : ℕ) → take (length b - at) (drop at b) ≡ drop at b
-rest b at = take-all (length b - at) (drop at b) (omega (arith, length-drop at b))
 
 module _ (s : Server) (b : List ℕ) (r : Holds s b) where
   range : InRange s
@@ -121,8 +115,8 @@ module _ (s : Server) (b : List ℕ) (r : Holds s b) where
 
   -- What the writer leaves.
   own-put : (o : List ℕ) (id set at : ℕ) (g : StateHead) → g ≡ ownHead (headerIn b) id → at ≡ place theYellow b
-      → putState g (take (length b - headerSize) (drop headerSize b)) (take (length b - at) (drop at b)) 0 o
-      ≡ put (write (state (ownState (configurationOf id set) s))) 0 o
+      → putState g (take (length b - headerSize) (drop headerSize b)) (take (length b - at) (drop at b)) o
+      ≡ put (write (state (ownState (configurationOf id set) s))) o
   unfolding putState ownHead headerOf
   own-put o id set at g e f =
       let n : ℕ = s .servers in
@@ -133,20 +127,20 @@ module _ (s : Server) (b : List ℕ) (r : Holds s b) where
       let fits : (2 * n ≤? length (drop headerSize b) and 3 * m ≤? length (drop y b)) ≡ true =
       both-yes _ _ (le-yes (2 * n) (length (drop headerSize b)) (omega (arith, length-drop headerSize b, own-end .0)))
       (le-yes (3 * m) (length (drop y b)) (omega (arith, length-drop y b, own-end .1))) in
-      (λ i. putState (head i) (rest b headerSize i) (rest b (there i) i) 0 o)
-      ∙ sym (pick-yes (2 * n ≤? length (drop headerSize b) and 3 * m ≤? length (drop y b)) (put (write (state (ownState (configurationOf id set) s))) 0 o)
+      (λ i. putState (head i) (whole-rest b headerSize i) (whole-rest b (there i) i) o)
+      ∙ sym (pick-yes (2 * n ≤? length (drop headerSize b) and 3 * m ≤? length (drop y b)) (put (write (state (ownState (configurationOf id set) s))) o)
       _ _ fits
-      (ap (λ (x : State). put (write (state x)) 0 o) (sym (own-made id set))))
+      (ap (λ (x : State). put (write (state x)) o) (sym (own-made id set))))
 
 -- ---- as the code writes it
 
 module _ (b o o₁ : List ℕ) (id at : ℕ) (g : StateHead) (w : Written) (h : LentSuch (λ s. 0 ≤ 0) b o)
     (i : g ≡ ownHead (headerIn b) id) (j : at ≡ place theYellow b)
-    (e : putOf w o₁ ≡ putState g (take (length b - headerSize) (drop headerSize b)) (take (length b - at) (drop at b)) 0 o) where
+    (e : putOf w o₁ ≡ putState g (take (length b - headerSize) (drop headerSize b)) (take (length b - at) (drop at b)) o) where
   pub state-full : w ≡ Full → (m : ℕ) (s : Server) (set : ℕ) → Holds s b
       → (m ≡ length (recordBytes (ownRecord id set s))) × (o₁ ≡ over (recordBytes (ownRecord id set s)) o)
   state-full f m s set r =
-      put-room (write (state (ownState (configurationOf id set) s))) o o₁ 0 w (e ∙ own-put s b r o id set at g i j)
+      put-room (write (state (ownState (configurationOf id set) s))) o o₁ w (e ∙ own-put s b r o id set at g i j)
       (omega (arith, own-short s b r id set, lent-room (λ s. 0 ≤ 0) b o s h r)) f
 
   pub state-done : (m : ℕ) → w ≡ Next m → (s : Server) (set : ℕ) → Holds s b
@@ -154,12 +148,12 @@ module _ (b o o₁ : List ℕ) (id at : ℕ) (g : StateHead) (w : Written) (h : 
   unfolding ownRecord
   state-done m f s set r =
       let x : List ℕ = write (state (ownState (configurationOf id set) s)) in
-      let done = put-done x o o₁ 0 w (e ∙ own-put s b r o id set at g i j) m f in
+      let done = put-done x o o₁ w (e ∙ own-put s b r o id set at g i j) m f in
       let bytes : x ≡ recordBytes (ownRecord id set s) = sym (one-record (state (ownState (configurationOf id set) s))) in
-      (omega (arith, done .placed, ap length bytes), done .filled ∙ over-front x o ∙ ap (λ (y : List ℕ). over y o) bytes)
+      (omega (arith, done .sized, ap length bytes), done .filled ∙ ap (λ (y : List ℕ). over y o) bytes)
 
   pub state-small : (m : ℕ) → w ≡ Next m → Fits w32 m
   state-small m f =
       let s : Server = h .state in
-      let done = put-done (write (state (ownState (configurationOf id 0) s))) o o₁ 0 w (e ∙ own-put s b (h .holds) o id 0 at g i j) m f in
-      omega (arith, done .placed, own-most s b (h .holds) id 0)
+      let done = put-done (write (state (ownState (configurationOf id 0) s))) o o₁ w (e ∙ own-put s b (h .holds) o id 0 at g i j) m f in
+      omega (arith, done .sized, own-most s b (h .holds) id 0)

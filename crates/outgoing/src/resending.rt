@@ -39,11 +39,11 @@ fn send_action(state: &[u8], out: &mut [u8], at: usize, me: u8, position: u32, a
     let head = a.head;
     let start = a.payload_at;
     let end = start + a.payload_length;
-    let w = write_retransmission(out, at, me, position, head, &state[start..end]);
-    let Written::Next(next) = w else {
+    let w = write_retransmission(&mut out[at..], me, position, head, &state[start..end]);
+    let Written::Next(size) = w else {
         return at;
     };
-    next
+    at + size
 }
 
 // The action at the place k of the queue.

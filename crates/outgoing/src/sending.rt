@@ -49,11 +49,11 @@ fn send_held(state: &[u8], out: &mut [u8], at: usize, k: u16) -> usize
     let head = held_head(state, k);
     let start = place + 1;
     let end = start + num8(state, place) as usize;
-    let w = write_action(out, at, head, &state[start..end]);
-    let Written::Next(next) = w else {
+    let w = write_action(&mut out[at..], head, &state[start..end]);
+    let Written::Next(size) = w else {
         return at;
     };
-    next
+    at + size
 }
 
 // The held requests, numbered in order, at the front of the outgoing buffer; how many bytes they have. The state is not changed.

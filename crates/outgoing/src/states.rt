@@ -50,7 +50,7 @@ pub fn send_state(state: &[u8], out: &mut [u8], id: u32) -> u32
 {
     let head = own_numbers(state, id);
     let at = place_of(state, THE_YELLOW);
-    let w = write_state(out, 0, head, &state[State::SIZE..], &state[at..]);
+    let w = write_state(out, head, &state[State::SIZE..], &state[at..]);
     let Written::Next(sent) = w else {
         return 0;
     };

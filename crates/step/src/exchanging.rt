@@ -77,7 +77,7 @@ fn attempt_primary(state: &mut [u8], out: &mut [u8]) -> Answer
     ensures { λ r. ⌜ AnswersFor endExchange r state out ⌝ }
 {
     let h = load(state);
-    let w = write_cpc(out, 0, h.me, h.configuration_id);
+    let w = write_cpc(out, h.me, h.configuration_id);
     let Written::Next(sent) = w else {
         return Answer::quiet();
     };

@@ -18,7 +18,7 @@ fn send(state: &mut [u8], out: &mut [u8], payload: &[u8]) -> Answer
     ensures { λ r. ⌜ AnswersBy (requested (now (payload .entry))) r state out ⌝ }
 {
     let head = next_head(state);
-    let w = write_action(out, 0, head, payload);
+    let w = write_action(out, head, payload);
     let Written::Next(sent) = w else {
         return Answer::quiet();
     };
