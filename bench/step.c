@@ -1,11 +1,9 @@
 /* How long a step takes for the costly events: nanoseconds per used byte of the state, against memcpy of those bytes in the same run. */
-#include "guzbytor.h"
-#include "trial.h"
+#include "plan.h"
+#include "timed_step.h"
 
 #include <stdio.h>
-#include <stdlib.h>
 #include <string.h>
-#include <time.h>
 
 static const struct {
     size_t n, q;
@@ -26,22 +24,7 @@ static trial green(size_t n, size_t q) {
 }
 
 /* The last State comes, of a server that has nothing: n q actions are resent by position, and again as red. */
-static trial resend(size_t n, size_t q) {
-    trial t = begun(make_full_state(n, q, FULL_QUEUE), GUZBYTOR_KIND_STATE, state_slot(n, q) - GUZBYTOR_AT_BODY, GUZBYTOR_EXCHANGE_ACTIONS,
-                    2 * n * q * (GUZBYTOR_AT_BODY + RETRANSMISSION_SIZE + ACTION));
-    uint8_t *b = t.state.bytes;
-    b[AT_STATE] = GUZBYTOR_EXCHANGE_STATES;
-    b[AT_STATES] = everyone(n - 1);
-    put(b + AT_GREEN, 4, (uint32_t)(n * q));
-    uint8_t *states = b + states_at(n);
-    memcpy(t.event, states + (n - 1) * state_slot(n, q), t.event_length);
-    memset(t.event + STATE_CUTS, 0, rest_at(n) + REST_ATTEMPT - STATE_CUTS);
-    put(states + STATE_CUTS + CUT_SIZE, CUT_SIZE, (uint32_t)q);
-    for (size_t k = 0; k + 1 < n; k++) {
-        put(states + k * state_slot(n, q) + rest_at(n) + REST_GREEN, 4, (uint32_t)(n * q));
-    }
-    return t;
-}
+static trial resend_all(size_t n, size_t q) { return resend(n, q, PAYLOAD, 0); }
 
 /* The last retransmission comes: the exchange ends, with n yellow lists of n q ids, all but the first one backwards. */
 static trial end(size_t n, size_t q) {
@@ -79,55 +62,10 @@ static const struct {
     const char *name;
     trial (*make)(size_t n, size_t q);
 } EVENTS[] = {
-    {"action green", green}, {"CPC, Install", install}, {"State, resend", resend}, {"retransm., end", end}, {"regular", join}, {"recovery", recover},
+    {"action green", green}, {"CPC, Install", install}, {"State, resend", resend_all}, {"retransm., end", end}, {"regular", join}, {"recovery", recover},
 };
 
 enum { EVENT_COUNT = sizeof EVENTS / sizeof EVENTS[0] };
-
-static double seconds(void) {
-    struct timespec t;
-    clock_gettime(CLOCK_MONOTONIC, &t);
-    return (double)t.tv_sec + 1e-9 * (double)t.tv_nsec;
-}
-
-static guzbytor_step_answer stepped(const trial *t, uint8_t *state, uint8_t *out) {
-    return guzbytor_step(state, t->state.length, t->event, t->event_length, out, t->state.out_length);
-}
-
-static void try_once(const char *name, const trial *t, uint8_t *state, uint8_t *out) {
-    memcpy(state, t->state.bytes, t->state.length);
-    guzbytor_step_answer a = stepped(t, state, out);
-    if (a.number != 0 || a.sent != t->sent_after || state[AT_STATE] != t->mode_after) {
-        fprintf(stderr, "%s: number %u, %u bytes sent, state %u\n", name, a.number, a.sent, state[AT_STATE]);
-        exit(1);
-    }
-}
-
-/* Nanoseconds of laying a state out, its first `length` bytes in one piece. */
-static double laid_out(const trial *t, uint8_t *state, size_t length, size_t calls) {
-    double from = seconds();
-    for (size_t i = 0; i < calls; i++) {
-        memcpy(state, t->state.bytes, length);
-        __asm__ volatile("" : : "r"(state) : "memory");
-    }
-    return 1e9 * (seconds() - from) / (double)calls;
-}
-
-/* The same of a whole state, and one step from it: a step changes its state, so that each needs a new one. */
-static double laid_out_and_stepped(const trial *t, uint8_t *state, uint8_t *out, size_t calls) {
-    double from = seconds();
-    for (size_t i = 0; i < calls; i++) {
-        memcpy(state, t->state.bytes, t->state.length);
-        stepped(t, state, out);
-    }
-    return 1e9 * (seconds() - from) / (double)calls;
-}
-
-static void keep_best(double *best, double now) {
-    if (*best == 0 || now < *best) {
-        *best = now;
-    }
-}
 
 int main(void) {
     static trial trials[EVENT_COUNT][SIZE_COUNT];
@@ -147,8 +85,8 @@ int main(void) {
                 const trial *t = &trials[e][i];
                 size_t calls = 1000000 / t->state.used + 1;
                 keep_best(&both[e][i], laid_out_and_stepped(t, state, out, calls));
-                keep_best(&layout[e][i], laid_out(t, state, t->state.length, calls));
-                keep_best(&copy[e][i], laid_out(t, state, t->state.used, calls));
+                keep_best(&layout[e][i], copied(state, t->state.bytes, t->state.length, calls));
+                keep_best(&copy[e][i], copied(state, t->state.bytes, t->state.used, calls));
             }
         }
     }

@@ -11,7 +11,7 @@ compile() {
 compile -O3 -c bench/one_pass.c -o target/bench/one_pass.o
 compile bench/pass.c bench/full_state.c target/bench/one_pass.o dist/libguzbytor.a -o target/bench/pass
 compile bench/state_check.c bench/full_state.c bench/plain_check.c dist/libguzbytor.a -o target/bench/state_check
-compile bench/step.c bench/trial.c bench/full_state.c dist/libguzbytor.a -o target/bench/step
+compile bench/step.c bench/plan.c bench/timed_step.c bench/trial.c bench/full_state.c dist/libguzbytor.a -o target/bench/step
 compile bench/record.c dist/libguzbytor.a -o target/bench/record
 compile bench/burst.c target/bench/one_pass.o dist/libguzbytor.a -o target/bench/burst
 compile bench/register.c bench/made_pegs.c bench/plain_register.c target/bench/one_pass.o dist/libguzbytor.a -o target/bench/register
