@@ -33,7 +33,6 @@ use Rattle.engine.proofs.HeaderLaws.{header-loaded}
 use Rattle.engine.proofs.InRange.{in-range}
 use Rattle.engine.specs.Holding.{Holds, HoldsSuch, HoldsSome}
 use Rattle.engine.proofs.InPlace.{such-fact, holds-some}
-use Rattle.base.proofs.Over.{over-front}
 use Rattle.updates.specs.declared.votes.VoteNumbers.{VoteNumbers}
 use Rattle.updates.specs.Sending.{SendReady}
 use Rattle.updates.specs.Standing.{voteNumbers}
@@ -128,7 +127,7 @@ module _ (b o : List ℕ) (m : LentSuch Attempts b o) where
   pub attempt-some : (c : List ℕ) → Decided b c → HoldsSome c
   attempt-some c f = holds-some (decided (m .state)) c (decided-holds (m .state) b c (m .holds) (m .fact .1) f)
 
-  module _ (h : State) (e : h ≡ headerIn b) (w : Written) (o₁ : List ℕ) (p : putOf w o₁ ≡ put (write (cpc (h .me) (h .«configuration_id»))) 0 o) where
+  module _ (h : State) (e : h ≡ headerIn b) (w : Written) (o₁ : List ℕ) (p : putOf w o₁ ≡ put (write (cpc (h .me) (h .«configuration_id»))) o) where
     own-cpc : (t : Server) → Holds t b → cpc (h .me) (h .«configuration_id») ≡ cpc (t .me) (hereId t)
     unfolding headerOf hereId
     own-cpc t r =
@@ -138,13 +137,13 @@ module _ (b o : List ℕ) (m : LentSuch Attempts b o) where
     pub attempt-full : w ≡ Full → (r : Answer) (b₁ : List ℕ) (s t : Server) → Holds t b → answered r b₁ o₁ ≡ outcomeOn (endExchange s t) b o
     unfolding outLength lengthOf
     attempt-full f r b₁ s t k =
-        put-room (write (cpc (h .me) (h .«configuration_id»))) o o₁ 0 w p
+        put-room (write (cpc (h .me) (h .«configuration_id»))) o o₁ w p
         (omega (arith, write-length (cpc (h .me) (h .«configuration_id»)), holds-products t b k .two, lent-room Attempts b o t m k)) f
 
     pub attempt-short : (n : ℕ) → w ≡ Next n → n ≡ 9
     unfolding lengthOf
     attempt-short n f =
-        omega (arith, write-length (cpc (h .me) (h .«configuration_id»)), put-done (write (cpc (h .me) (h .«configuration_id»))) o o₁ 0 w p n f .placed)
+        omega (arith, write-length (cpc (h .me) (h .«configuration_id»)), put-done (write (cpc (h .me) (h .«configuration_id»))) o o₁ w p n f .sized)
 
     pub attempt-made : (n : ℕ) → w ≡ Next n → (c d : List ℕ) → Decided b c → ((t : Server) → Holds t c → d ≡ image (attempting t) c) → (r : Answer)
         → r ≡ storedFirst n
@@ -152,11 +151,11 @@ module _ (b o : List ℕ) (m : LentSuch Attempts b o) where
     attempt-made n f c d g k r a s t y =
         let z : Attempts t = lent-fact Attempts b o t m y in
         let x : List ℕ = write (cpc (h .me) (h .«configuration_id»)) in
-        let done = put-done x o o₁ 0 w p n f in
+        let done = put-done x o o₁ w p n f in
         let bytes : x ≡ recordBytes (cpc (t .me) (hereId t) ∷ []) = ap write (own-cpc t y) ∙ sym (one-record (cpc (t .me) (hereId t))) in
         stored-outcome s (attempting (decided t)) (cpc (t .me) (hereId t) ∷ []) b o d o₁ n r a (over-decided t y z c d g k)
-        (omega (arith, done .placed, ap length bytes))
-        (done .filled ∙ over-front x o ∙ ap (λ (l : List ℕ). over l o) bytes)
+        (omega (arith, done .sized, ap length bytes))
+        (done .filled ∙ ap (λ (l : List ℕ). over l o) bytes)
         ∙ ap (λ v. outcomeOn v b o) (sym (end-attempting s t (z .2)))
       where
         over-decided : (t : Server) → Holds t b → Attempts t → (c d : List ℕ) → Decided b c → ((t : Server) → Holds t c → d ≡ image (attempting t) c)

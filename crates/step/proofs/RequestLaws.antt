@@ -29,7 +29,6 @@ use Rattle.engine.specs.Layout.{outLength}
 use Rattle.engine.specs.Header.{headerOf}
 use Rattle.engine.specs.Image.{image}
 use Rattle.engine.specs.Holding.{Holds}
-use Rattle.base.proofs.Over.{over-front}
 use Rattle.updates.specs.Lists.{PayloadRoom, nextHead}
 use Rattle.updates.proofs.RequestLaws.{head-made}
 use Rattle.step.specs.declared.Answer.{Answer}
@@ -58,20 +57,20 @@ asked-sent p b o n t h f e =
 -- ---- sent
 
 module _ (p b o o₁ : List ℕ) (g : ActionHead) (w : Written) (h : LentSuch (λ s. Sent p s) b o)
-    (e : putOf w o₁ ≡ put (write (action (actionOf g p))) 0 o) where
+    (e : putOf w o₁ ≡ put (write (action (actionOf g p))) o) where
   size : length (write (action (actionOf g p))) ≡ actionSize + length p
   unfolding lengthOf actionOf
   size = write-length (action (actionOf g p))
 
-  room : 0 + length (write (action (actionOf g p))) ≤ length o
+  room : length (write (action (actionOf g p))) ≤ length o
   unfolding outLength
   room = omega (arith, size, h .fact .0 .most, h .room, holds-products (h .state) b (h .holds) .two)
 
   pub send-full : w ≡ Full → (r : Answer) (b₁ : List ℕ) (s : Server) → Holds s b → answered r b₁ o₁ ≡ outcomeOn (requested p s) b o
-  send-full f r b₁ s k = put-room (write (action (actionOf g p))) o o₁ 0 w e room f
+  send-full f r b₁ s k = put-room (write (action (actionOf g p))) o o₁ w e room f
 
   pub send-small : (m : ℕ) → w ≡ Next m → Fits w32 m
-  send-small m f = omega (arith, put-done (write (action (actionOf g p))) o o₁ 0 w e m f .placed, size, h .fact .0 .most)
+  send-small m f = omega (arith, put-done (write (action (actionOf g p))) o o₁ w e m f .sized, size, h .fact .0 .most)
 
   pub send-done : (m : ℕ) (b₁ : List ℕ) (r : Answer) → g ≡ nextHead b → w ≡ Next m
       → ((s : Server) → Holds s b → quotaLeft s ≡ true → b₁ ≡ image (numbered (p ∷ []) s) b) → r ≡ storedFirst m
@@ -80,12 +79,12 @@ module _ (p b o o₁ : List ℕ) (g : ActionHead) (w : Written) (h : LentSuch (�
   send-done m b₁ r i f d a s k =
       let fact = lent-fact (λ t. Sent p t) b o s h k in
       let x : List ℕ = write (action (actionOf g p)) in
-      let done = put-done x o o₁ 0 w e m f in
+      let done = put-done x o o₁ w e m f in
       let made : actionOf g p ∷ [] ≡ madeOf (p ∷ []) s = ap (λ (c : ActionHead). actionOf c p ∷ []) i ∙ head-made s b p k in
       let bytes : x ≡ recordBytes (map action (madeOf (p ∷ []) s)) =
       sym (one-record (action (actionOf g p))) ∙ ap (λ (l : List Action). recordBytes (map action l)) made in
-      let count : m ≡ length (recordBytes (map action (madeOf (p ∷ []) s))) = omega (arith, done .placed, ap length bytes) in
-      let out : o₁ ≡ over (recordBytes (map action (madeOf (p ∷ []) s))) o = done .filled ∙ over-front x o ∙ ap (λ (y : List ℕ). over y o) bytes in
+      let count : m ≡ length (recordBytes (map action (madeOf (p ∷ []) s))) = omega (arith, done .sized, ap length bytes) in
+      let out : o₁ ≡ over (recordBytes (map action (madeOf (p ∷ []) s))) o = done .filled ∙ ap (λ (y : List ℕ). over y o) bytes in
       stored-outcome s (numbered (p ∷ []) s) (map action (madeOf (p ∷ []) s)) b o b₁ o₁ m r a (d s k (fact .1)) count out
       ∙ ap (λ z. outcomeOn z b o)
       (pick-yes (sendsNow (s .membership)) (stored s (numbered (p ∷ []) s) (map action (madeOf (p ∷ []) s))) _ _ (fact .2) refl)
