@@ -8,7 +8,7 @@ use Rattle.base.specs.Tests.{pick}
 use Rattle.format.specs.Limits.{mostIndex}
 use Rattle.format.specs.Types.{State, Record, state}
 use Rattle.format.specs.Range.{fieldsOk}
-use Rattle.format.specs.Write.{write, recordBytes}
+use Rattle.format.specs.Write.{write}
 use Rattle.replication.specs.Machine.Types.{Exchange-states, Un, Server, Outcome, inMode, contextOf}
 use Rattle.replication.specs.Machine.Step.{inBytes, withCpc, allCpcsIn, answer}
 use Rattle.replication.specs.Machine.WellFormedFacts.{Configured}

@@ -3,10 +3,10 @@
 use Prim.Native.Nat.{ℕ, _+_, _-_, _%_, _≤_, _<_}
 use mathlib.Core.Path.{_≡_, refl, sym, ap, _∙_}
 use mathlib.Core.Bool.{Bool, true, false, not}
-use mathlib.Core.List.{List, _++_}
+use mathlib.Core.List.{List}
 use native.Mathlib.Omega.{arith}
 use lib.ListN.{length}
-use Rattle.base.specs.Bytes.{bytesOf, joined}
+use Rattle.base.specs.Bytes.{bytesOf}
 use Rattle.base.proofs.BytesLaws.{bytes-length}
 use Rattle.base.proofs.Over.{over-front}
 use Rattle.base.specs.Patched.{patched}
@@ -15,7 +15,7 @@ use Rattle.base.specs.Tests.{_≤?_}
 use Rattle.base.proofs.TestLaws.{pick-le, pick-gt, le-holds, le-fails, le-no, le-yes}
 use Rattle.format.specs.Limits.{version}
 use Rattle.format.specs.Places.{lengthSize, atVersion, atKind, atBody, senderAt, positionAt, resentAt, cpcSize, actionHeadSize, actionSize, retransmissionSize}
-use Rattle.format.specs.Types.{Record, action, retransmission, cpc, kindNumber, ofAction, ofRetransmission, ofCpc}
+use Rattle.format.specs.Types.{action, retransmission, cpc, kindNumber, ofAction, ofRetransmission, ofCpc}
 use Rattle.format.specs.Write.{actionBytes, write, lengthOf}
 use Rattle.format.proofs.Lengths.{write-length}
 use Rattle.record.specs.declared.ActionHead.{ActionHead}

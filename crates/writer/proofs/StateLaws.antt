@@ -122,9 +122,6 @@ module _ (h : StateHead) (cuts ids s : List ℕ) where
     pub state-full : length s < stateHeadSize + listsSize h → putOf Full s ≡ putState h cuts ids s
     state-full l = given _ (put-full written s (omega (arith, state-size)))
 
-    pub state-room : stateHeadSize + listsSize h ≤ length s → StateRoom h cuts ids s
-    state-room l = record { enoughCuts = k; enoughIds = j; room = l }
-
     pub state-next : (s₁ : List ℕ) → stateHeadSize + listsSize h ≤ length s → s₁ ≡ patched 0 written s
         → putOf (Next (stateHeadSize + listsSize h)) s₁ ≡ putState h cuts ids s
     state-next s₁ l e = given _ (put-next written s _ s₁ (omega (arith, state-size)) (sym state-size) e)

@@ -1,6 +1,7 @@
--- What a writer leaves in the outgoing buffer's unused rest: a record's bytes at its front. Document 02, K3: "writing one changes only its own bytes there".
+-- What a writer leaves in the outgoing buffer's unused rest: a record's bytes at its front.
+-- Document 02, K3: "writing one changes only its own bytes there".
 -- Assumes nothing.
-use Prim.Native.Nat.{ℕ, _+_, _*_}
+use Prim.Native.Nat.{ℕ, _*_}
 use mathlib.Core.Path.{_≡_}
 use mathlib.Core.Bool.{Bool}
 use mathlib.Core.List.{List}

@@ -1,4 +1,5 @@
-// Writers of the records that the engine sends. Each takes the outgoing buffer's unused rest and writes its record at the front of it, number by number.
+// Writers of the records that the engine sends. Each takes the outgoing buffer's unused rest and writes its record at the front of it,
+// number by number.
 ghost use mathlib.Core.Path.{_≡_};
 ghost use Prim.Native.Nat.{_+_, _≤_};
 ghost use lib.ListN.{length};

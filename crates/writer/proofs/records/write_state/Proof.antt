@@ -1,4 +1,4 @@
-use Rattle.writer.proofs.StateLaws.{few-cuts, few-ids, state-full, state-room, state-next}
+use Rattle.writer.proofs.StateLaws.{few-cuts, few-ids, state-full, state-next}
 use borrow.Author.Needs.{needs}
 use Rattle.writer.proofs.records.write_state.Statement.{statement}
 use Rattle.writer.proofs.records.write_state.Tie as tie
