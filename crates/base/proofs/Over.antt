@@ -6,7 +6,7 @@ use mathlib.Core.List.{List, [], _++_, append-assoc, append-nil}
 use native.Mathlib.Nat.{zero-add}
 use native.Mathlib.Omega.{arith}
 use lib.ListN.{length, take, drop, length-append, length-drop, length-replicate, drop-of-length-le}
-use lib.Seq.{take-at, drop-at, drop-drop}
+use lib.Seq.{take-all, take-at, drop-at, drop-drop}
 use Rattle.base.specs.Bytes.{over, zeros, slot}
 use Rattle.base.specs.Patched.{patched}
 use Rattle.base.proofs.PatchedLaws.{patched-length}
@@ -53,7 +53,13 @@ pub over-front : (y l : List ℕ) → patched 0 y l ≡ over y l
 unfolding over patched
 over-front y l = ap (λ (m : ℕ). y ++ drop m l) (zero-add (length y))
 
--- The rest of l from `at` on, which was lent, is back with y at its front.
+-- ---- the rest of a list from `at` on, lent
+
+-- It is all that is behind `at`.
+pub rest-whole : (l : List ℕ) (at : ℕ) → take (length l - at) (drop at l) ≡ drop at l
+rest-whole l at = take-all (length l - at) (drop at l) (omega (arith, length-drop at l))
+
+-- It is back, with y at its front.
 pub rest-back : (at : ℕ) (y l : List ℕ) → take at l ++ (over y (drop at l) ++ drop (length l - at) (drop at l)) ≡ patched at y l
 unfolding over patched
 rest-back at y l =

@@ -1,8 +1,5 @@
 // The start in its buffer.
 ghost use mathlib.Core.Path.{_≡_};
-ghost use Prim.Native.Nat.{_+_, _≤_};
-ghost use lib.ListN.{length};
-ghost use Rattle.base.specs.Patched.{patched};
 ghost use Rattle.base.specs.Bytes.{zeros};
 ghost use Rattle.replication.specs.Machine.Types.{start};
 ghost use Rattle.engine.specs.Layout.{StartRoom};

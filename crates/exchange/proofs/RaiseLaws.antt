@@ -6,13 +6,13 @@ use mathlib.Core.Bool.{Bool, true, false, not}
 use mathlib.Core.List.{List}
 use native.Mathlib.Omega.{arith}
 use lib.ListN.{length, getD, take, drop, set, length-drop}
-use lib.Seq.{take-all}
 use Rattle.format.specs.Limits.{mostIds}
 use Rattle.base.specs.Tests.{_and_, pick}
 use Rattle.base.proofs.TestLaws.{pick-yes, pick-no, both-yes, and-no, eq-yes, eq-no, Known, known, holds, fails}
 use borrow.Author.Tests.{not-false}
 use Rattle.base.proofs.Branches.{and-false}
 use Rattle.base.specs.Sets.{inSet}
+use Rattle.base.proofs.Over.{rest-whole}
 use Rattle.format.specs.Types.{Id, State, Context as FormatContext}
 use Rattle.format.specs.Range.{idOk}
 use Rattle.format.specs.Read.{idAt, idsAt}
@@ -70,9 +70,6 @@ unfolding raisedAll idsAt
 list-end c r t w e at k m h j = let a : m - k ≡ 0 = omega arith in sym (j ∙ ap (λ (i : ℕ). raisedAll c r t (idsAt i e (at + idSize * k))) a)
 
 -- ---- the list of a slot
-
-rest-whole : (b : List ℕ) (at : ℕ) → take (length b - at) (drop at b) ≡ drop at b
-rest-whole b at = take-all (length b - at) (drop at b) (omega (arith, length-drop at b))
 
 pub ids-read : (v : Slots) (b : List ℕ) (k at : ℕ) (x : StateHead) → x ≡ headOf v b k → at ≡ slotAt v k
     → idsAt (x .«yellow_count») (take (length b - at) (drop at b)) (stateHeadSize + 2 * v .servers) ≡ idsIn v b k

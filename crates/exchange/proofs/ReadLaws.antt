@@ -4,10 +4,10 @@ use Prim.Native.Nat.{ℕ, _+_, _*_, _-_, _<_, _≤_}
 use mathlib.Core.Path.{_≡_, refl, sym, ap, _∙_}
 use mathlib.Core.List.{List}
 use native.Mathlib.Omega.{arith}
-use lib.ListN.{length, take, drop, length-drop}
-use lib.Seq.{take-all}
+use lib.ListN.{length, take, drop}
 use Rattle.base.specs.Bytes.{numberAt}
 use Rattle.base.proofs.BytesLaws.{numbers-at, number-drop}
+use Rattle.base.proofs.Over.{rest-whole}
 use Rattle.format.specs.Types.{State}
 use Rattle.format.specs.Read.{stateAt}
 use Rattle.record.specs.Events.{headIn, stateFrom}
@@ -33,7 +33,7 @@ pub head-made : (v : Slots) (b : List ℕ) (k at : ℕ) (x : StateHead) → at �
     → x ≡ headOf v b k
 unfolding headOf
 head-made v b k at x e h =
-    let whole : take (length b - at) (drop at b) ≡ drop at b = take-all (length b - at) (drop at b) (omega (arith, length-drop at b)) in
+    let whole : take (length b - at) (drop at b) ≡ drop at b = rest-whole b at in
     h ∙ ap (λ (l : List ℕ). headIn (v .servers) l (stateCutsAt + 2 * v .servers)) (whole ∙ ap (λ (i : ℕ). drop i b) e)
 
 -- The numbers and lists in the slot k stand for its State.

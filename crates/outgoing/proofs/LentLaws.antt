@@ -5,11 +5,10 @@ use mathlib.Core.Path.{_≡_, refl, sym, ap, subst, _∙_}
 use mathlib.Core.List.{List, [], _∷_, _++_, append-nil, map, map-append}
 use native.Mathlib.Omega.{arith}
 use lib.ListN.{length, getD, take, drop, length-drop}
-use lib.Seq.{take-all}
 use Rattle.base.specs.Bytes.{joined, over}
 use Rattle.base.proofs.BytesLaws.{joined-append}
 use Rattle.base.proofs.Occurs.{Occurs}
-use Rattle.base.proofs.Over.{rest-back}
+use Rattle.base.proofs.Over.{rest-whole, rest-back}
 use Rattle.base.specs.Patched.{patched}
 use Rattle.base.proofs.TestLaws.{pick-le}
 use Rattle.format.specs.Types.{Record}
@@ -73,10 +72,6 @@ module _ (x o o₁ : List ℕ) (w : Written) (e : putOf w o₁ ≡ put x o) wher
 
 -- ---- the same from `at` on in the buffer o, of which the rest was lent: y is what the writer left there
 
--- All of a list from `at` on.
-pub whole-rest : (b : List ℕ) (at : ℕ) → take (length b - at) (drop at b) ≡ drop at b
-whole-rest b at = take-all (length b - at) (drop at b) (omega (arith, length-drop at b))
-
 -- The place behind the record, and the buffer o₁ once the rest is back.
 pub record Placed (x : List ℕ) (at : ℕ) (o : List ℕ) (n : ℕ) (o₁ : List ℕ) : Type 0 where
   pub room : at + length x ≤ length o
@@ -85,7 +80,7 @@ pub record Placed (x : List ℕ) (at : ℕ) (o : List ℕ) (n : ℕ) (o₁ : Lis
 
 module _ (x o y : List ℕ) (at : ℕ) (w : Written) (h : at ≤ length o) (e : putOf w y ≡ put x (take (length o - at) (drop at o))) where
   rest-put : putOf w y ≡ put x (drop at o)
-  rest-put = e ∙ ap (put x) (whole-rest o at)
+  rest-put = e ∙ ap (put x) (rest-whole o at)
 
   pub rest-room : {A : Type 0} → at + length x ≤ length o → w ≡ Full → A
   rest-room r f = put-room x (drop at o) y w rest-put (omega (arith, length-drop at o)) f

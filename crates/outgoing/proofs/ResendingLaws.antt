@@ -93,7 +93,7 @@ module _ (a : ActionAt) (b : List ℕ) (me position p : ℕ) (o y : List ℕ) (w
   done = rest-done x o y p w (omega arith) answer
 
   pub place-fits : length o < 2 ^ 64 → (n : ℕ) → w ≡ Next n → Fits w64 (p + n)
-  place-fits b n f = let d = done n f in record { fits = omega (arith, d .room, d .sized) }
+  place-fits long n f = let d = done n f in record { fits = omega (arith, d .room, d .sized) }
 
   pub written-next : (n : ℕ) → w ≡ Next n → Sends 1 (retransmission me position (actionFrom a b) ∷ []) p o o₁ (p + n)
   written-next n f =

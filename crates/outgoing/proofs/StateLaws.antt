@@ -14,6 +14,7 @@ use Rattle.base.specs.Lists.{sum}
 use Rattle.base.proofs.Occurs.{Occurs, occurs-first, occurs-drop, occurs-at}
 use Rattle.base.specs.Tests.{_≤?_, _and_}
 use Rattle.base.proofs.TestLaws.{pick-yes, both-yes, le-yes}
+use Rattle.base.proofs.Over.{rest-whole}
 use Rattle.format.specs.Types.{Id, State, state}
 use Rattle.format.specs.Read.{idsAt}
 use Rattle.format.specs.Write.{write, lengthOf, cutsBytes, idsBytes, recordBytes}
@@ -38,7 +39,7 @@ use Rattle.updates.specs.Lists.{configurationOf}
 use Rattle.outgoing.specs.Lent.{LentSuch}
 use Rattle.outgoing.specs.Sending.{ownHead, ownRecord}
 use Rattle.outgoing.proofs.LentFacts.{lent-room}
-use Rattle.outgoing.proofs.LentLaws.{holds-products, holds-part, put-room, put-done, whole-rest, one-record}
+use Rattle.outgoing.proofs.LentLaws.{holds-products, holds-part, put-room, put-done, one-record}
 use Rattle.engine.specs.Counts.{place}
 use Rattle.engine.proofs.Counts.{holds-place}
 
@@ -127,7 +128,7 @@ module _ (s : Server) (b : List ℕ) (r : Holds s b) where
       let fits : (2 * n ≤? length (drop headerSize b) and 3 * m ≤? length (drop y b)) ≡ true =
       both-yes _ _ (le-yes (2 * n) (length (drop headerSize b)) (omega (arith, length-drop headerSize b, own-end .0)))
       (le-yes (3 * m) (length (drop y b)) (omega (arith, length-drop y b, own-end .1))) in
-      (λ i. putState (head i) (whole-rest b headerSize i) (whole-rest b (there i) i) o)
+      (λ i. putState (head i) (rest-whole b headerSize i) (rest-whole b (there i) i) o)
       ∙ sym (pick-yes (2 * n ≤? length (drop headerSize b) and 3 * m ≤? length (drop y b)) (put (write (state (ownState (configurationOf id set) s))) o)
       _ _ fits
       (ap (λ (x : State). put (write (state x)) o) (sym (own-made id set))))

@@ -25,5 +25,5 @@ pub record LentSuch (P : Server → Type 0) (b o : List ℕ) : Type 0 where
   pub room : outLength (state .servers) (state .quota) ≤ length o
 
 -- These records of the state that b holds are put at the front of the outgoing buffer, r bytes.
-abbrev pub Puts : (Server → List Record) → (r : ℕ) → (b o o′ : List ℕ) → Type 0
-Puts f r b o o′ = (s : Server) → Holds s b → (r ≡ length (recordBytes (f s))) × (o′ ≡ over (recordBytes (f s)) o)
+abbrev pub PutsRecords : (Server → List Record) → (r : ℕ) → (b o o′ : List ℕ) → Type 0
+PutsRecords f r b o o′ = (s : Server) → Holds s b → (r ≡ length (recordBytes (f s))) × (o′ ≡ over (recordBytes (f s)) o)

@@ -8,7 +8,7 @@ ghost use Rattle.base.specs.Lists.{gather, above};
 ghost use Rattle.format.specs.Types.{retransmission};
 ghost use Rattle.record.specs.Events.{actionFrom};
 ghost use Rattle.replication.specs.Machine.Step.{allStatesIn};
-ghost use Rattle.outgoing.specs.Lent.{LentSuch, Puts};
+ghost use Rattle.outgoing.specs.Lent.{LentSuch, PutsRecords};
 ghost use Rattle.queue.specs.Queue.{QueueIn};
 ghost use Rattle.install.specs.Table.{InTable};
 ghost use Rattle.outgoing.specs.Resending.{queueIn, SendsTo, Room, PayloadInside, Resends, partIn, Tabled, OwnNumber, allReds};
@@ -189,7 +189,7 @@ fn send_plan(state: &[u8], out: &mut [u8]) -> usize
 // "send one's part of the plan": at the front of the outgoing buffer; how many bytes it has.
 pub fn send_part(state: &[u8], out: &mut [u8]) -> u32
     requires { ⌜ LentSuch (λ s. allStatesIn s ≡ true) (now state) (now out) ⌝ }
-    ensures { λ r. ⌜ Puts partIn r (now (state .entry)) (now (out .entry)) (now (out .exit)) ⌝ }
+    ensures { λ r. ⌜ PutsRecords partIn r (now (state .entry)) (now (out .entry)) (now (out .exit)) ⌝ }
 {
     send_plan(state, out) as u32
 }

@@ -6,7 +6,7 @@ ghost use Rattle.format.specs.Limits.{mostHeld};
 ghost use Rattle.format.specs.Types.{action};
 ghost use Rattle.format.specs.Write.{write};
 ghost use Rattle.replication.specs.Machine.Requests.{heldRecords};
-ghost use Rattle.outgoing.specs.Lent.{LentSuch, Puts};
+ghost use Rattle.outgoing.specs.Lent.{LentSuch, PutsRecords};
 ghost use Rattle.outgoing.specs.Sending.{heldPlace, heldHead, heldAction, HeldRoom, PutsAt};
 ghost use Rattle.engine.specs.Layout.{heldSize};
 ghost use Rattle.engine.specs.Counts.{CountsIn, heldCount};
@@ -59,7 +59,7 @@ fn send_held(state: &[u8], out: &mut [u8], at: usize, k: u16) -> usize
 // The held requests, numbered in order, at the front of the outgoing buffer; how many bytes they have. The state is not changed.
 pub fn send_records(state: &[u8], out: &mut [u8]) -> u32
     requires { ⌜ LentSuch (λ s. 0 ≤ 0) (now state) (now out) ⌝ }
-    ensures { λ r. ⌜ Puts heldRecords r (now (state .entry)) (now (out .entry)) (now (out .exit)) ⌝ }
+    ensures { λ r. ⌜ PutsRecords heldRecords r (now (state .entry)) (now (out .entry)) (now (out .exit)) ⌝ }
 {
     let count = num16(state, State::AT_HELD_COUNT);
     let mut at: usize = 0;

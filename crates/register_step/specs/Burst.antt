@@ -10,7 +10,7 @@ use Rattle.outgoing.specs.Lent.{Lent}
 use Rattle.burst.specs.Burst.{nextOf, byNext}
 use Rattle.register_runs.specs.Joint.{Joint, jointNumber, jointOn}
 use Rattle.register_step.specs.declared.RegisterBurst.{RegisterBurst}
-use denote.Ref.{RefT, now}
+use denote.Ref.{now}
 
 -- As a burst's, and how many actions all its events turned green, and how many operations of these were refused.
 pub record JointBurst : Type 0 where

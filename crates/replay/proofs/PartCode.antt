@@ -6,10 +6,11 @@ use mathlib.Core.Bool.{Bool, true, false}
 use mathlib.Core.List.{List, []}
 use native.Mathlib.Omega.{arith}
 use lib.ListN.{length, getD, take, drop, length-drop}
-use lib.Seq.{take-all, drop-drop}
+use lib.Seq.{drop-drop}
 use mir.Syntax.{w8, w64}
 use mir.Val.{Fits}
 use Rattle.base.proofs.BytesLaws.{given-bytes}
+use Rattle.base.proofs.Over.{rest-whole}
 use Rattle.servers.specs.declared.Server.{Server}
 use Rattle.turns.specs.declared.Going.{Going}
 use Rattle.turns.specs.declared.Going.the-variants.{On, Read, Stop}
@@ -53,7 +54,7 @@ module _ (t : List Server) (n first : ℕ) (input : List ℕ) (ended : Bool) (ta
   is-next : passed r o ≡ next
   is-next =
       let all : take (length input - taken) (drop taken input) ≡ drop taken input
-      = take-all (length input - taken) (drop taken input) (omega (arith, length-drop taken input)) in
+      = rest-whole input taken in
       h ∙ (λ i. passOf table n event (all i) ended (a .room i))
 
   table-is : next .table ≡ r .table

@@ -6,7 +6,8 @@ use mathlib.Core.Bool.{Bool}
 use mathlib.Core.List.{List, [], _++_, append-nil}
 use native.Mathlib.Omega.{arith}
 use lib.ListN.{length, take, drop, length-append, length-drop}
-use lib.Seq.{take-all, take-append-le, take-append-add, length-take-le, drop-drop}
+use lib.Seq.{take-append-le, take-append-add, length-take-le, drop-drop}
+use Rattle.base.proofs.Over.{rest-whole}
 use mir.Syntax.{w64}
 use mir.Val.{Fits}
 use Rattle.io.specs.Counts.{Counts}
@@ -66,7 +67,7 @@ module _ (t : List Server) (n first : ℕ) (input : List ℕ) (ended : Bool) (o 
 
     is-next : turned r y ≡ next
     is-next =
-        h ∙ ap (λ (x : List ℕ). turnOf table n event x ended) (take-all (length input - taken) (drop taken input) (omega (arith, length-drop taken input)))
+        h ∙ ap (λ (x : List ℕ). turnOf table n event x ended) (rest-whole input taken)
 
     table-is : next .table ≡ r .table
     unfolding turned
