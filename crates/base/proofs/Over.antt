@@ -9,6 +9,7 @@ use lib.ListN.{length, take, drop, length-append, length-drop, length-replicate,
 use lib.Seq.{take-all, take-at, drop-at, drop-drop}
 use Rattle.base.specs.Bytes.{over, zeros, slot}
 use Rattle.base.specs.Patched.{patched}
+use Rattle.base.proofs.Occurs.{Occurs, occurs-first}
 use Rattle.base.proofs.PatchedLaws.{patched-length}
 use Rattle.base.proofs.Sections.{patched-front}
 
@@ -29,6 +30,15 @@ unfolding zeros
 zeros-length m = length-replicate {A = ℕ} m 0
 
 -- ---- changes of a used part
+
+-- It is in front.
+pub over-take : (y l : List ℕ) (m : ℕ) → length y ≡ m → take m (over y l) ≡ y
+unfolding over
+over-take y l m e = take-at y (drop (length y) l) m e
+
+pub used-part : (y l e : List ℕ) (at : ℕ) → Occurs (over y l) e at → Occurs y e at
+unfolding over
+used-part y l e at o = occurs-first y (drop (length y) l) e at o
 
 -- More behind it.
 pub over-extended : (y x l : List ℕ) → patched (length y) x (over y l) ≡ over (y ++ x) l

@@ -12,13 +12,13 @@ use Rattle.base.specs.Bytes.{joined, over, zeros, slot}
 use Rattle.base.specs.Lists.{Begins}
 use Rattle.base.proofs.Prefixes.{begins-refl}
 use Rattle.format.specs.Types.{Action, State}
-use Rattle.format.specs.Write.{actionBytes, payloadBytes, cutsBytes, idsBytes}
+use Rattle.format.specs.Write.{actionBytes, payloadBytes, idsBytes}
 use Rattle.format.proofs.Lengths.{cuts-length, ids-length}
 use Rattle.replication.specs.Machine.Types.{Server}
 use Rattle.replication.specs.Machine.WellFormed.{queue, wellFormed}
-use Rattle.engine.specs.Layout.{heldSize, slotSize, stateSize, theCuts, theNoted, theHeld, theStates, theYellow, theOwn, theQueue, stateLength}
-use Rattle.engine.specs.Image.{notedBytes, statesOver, actionSlots, heldSlots, section, parts, image}
-use Rattle.engine.proofs.InRange.{InRange, in-range}
+use Rattle.engine.specs.Layout.{heldSize, slotSize, stateSize, theHeld, theStates, theYellow, theOwn, theQueue, stateLength}
+use Rattle.engine.specs.Image.{statesOver, actionSlots, heldSlots, section, parts, image}
+use Rattle.engine.proofs.InRange.{in-range}
 use Rattle.engine.proofs.Used.{action-slots-length, held-slots-length, noted-length, slots-append, held-append, ids-append}
 use Rattle.engine.proofs.Fit.{SectionsFit, well-formed-fits}
 use Rattle.engine.proofs.Again.{CoversBytes, alike, Covering, covering-over}

@@ -8,11 +8,12 @@ use native.Mathlib.Nat.{mul-le-mul-right}
 use native.Mathlib.Omega.{arith}
 use lib.ListN.{length, getD, take, drop}
 use lib.Seq.{take-append-seam, drop-append-seam}
-use Rattle.base.specs.Bytes.{numberAt, numbersAt, partAt, over}
+use Rattle.base.specs.Bytes.{numberAt, numbersAt, partAt}
 use Rattle.base.specs.Lists.{isThere, sum}
-use Rattle.base.proofs.Occurs.{Occurs, occurs-first}
+use Rattle.base.proofs.Occurs.{Occurs}
 use Rattle.base.proofs.Sections.{sized-at}
 use Rattle.base.specs.Sets.{inSet}
+use Rattle.base.proofs.Over.{used-part}
 use Rattle.format.specs.Types.{Action, State}
 use Rattle.format.specs.Read.{idsAt}
 use Rattle.format.proofs.Fields.{cuts-read, ids-read}
@@ -33,11 +34,6 @@ unfolding section sectionSize
 image-part s f b h k l =
     let size = sized-at (sections (s .servers) (s .quota)) (parts (s .servers) (s .quota) s b) k (parts-sized s f b h) in
     record { part = ap (λ (m : ℕ). partAt m (image s b) (offset (s .servers) (s .quota) k)) size ∙ image-section s f b h k l }
-
--- The used part y of a section.
-used-part : (y l e : List ℕ) (at : ℕ) → Occurs (over y l) e at → Occurs y e at
-unfolding over
-used-part y l e at o = occurs-first y (drop (length y) l) e at o
 
 module _ (s : Server) (r : InRange s) (b : List ℕ) (h : stateLength (s .servers) (s .quota) ≤ length b) where
   at-section : (k : ℕ) → k < 8 → Occurs (getD (parts (s .servers) (s .quota) s b) k []) (image s b) (offset (s .servers) (s .quota) k)

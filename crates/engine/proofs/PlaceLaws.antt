@@ -1,9 +1,8 @@
 -- Where sections begin, as the code computes it.
 -- Assumes nothing.
 use Prim.Native.Nat.{ℕ, _+_, _*_, _≤_}
-use mathlib.Core.Path.{_≡_, refl}
+use mathlib.Core.Path.{_≡_}
 use native.Mathlib.Omega.{arith}
-use lib.ListN.{take}
 use Rattle.base.specs.Lists.{sum}
 use Rattle.engine.specs.Layout.{stateSize, theNoted, theHeld, theStates, theYellow, theOwn, theQueue, sections, offset, headerSize, slotSize, heldSize}
 use Rattle.format.specs.Places.{stateHeadSize}

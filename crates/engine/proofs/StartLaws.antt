@@ -6,14 +6,14 @@ use mathlib.Core.Bool.{Bool, true, false, not}
 use mathlib.Core.List.{List, [], _∷_, _++_, append-nil}
 use mathlib.Core.Option.{none, some}
 use native.Mathlib.Omega.{arith}
-use lib.ListN.{length, getD, take, drop, set, replicate, length-replicate, take-append-drop}
+use lib.ListN.{length, take, drop, replicate, length-replicate, take-append-drop}
 use mir.Syntax.{w8, w16}
 use mir.Val.{Fits}
-use lib.Seq.{take-all, take-append-seam, drop-length}
+use lib.Seq.{drop-length}
 use Rattle.base.specs.Bytes.{bytesOf, joined, over, zeros}
 use Rattle.base.specs.Lists.{sum, isThere, Each}
 use Rattle.base.specs.Patched.{patched}
-use Rattle.base.proofs.PatchedLaws.{patched-more, patched-length, patched-none, patched-next}
+use Rattle.base.proofs.PatchedLaws.{patched-length, patched-next}
 use Rattle.base.proofs.Sections.{patchedAll}
 use Rattle.base.specs.Tests.{pick}
 use Rattle.base.proofs.TestLaws.{pick-lt, pick-ge}

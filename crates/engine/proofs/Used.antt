@@ -6,7 +6,7 @@ use mathlib.Core.List.{List, [], _∷_, _++_, append-assoc, append-nil, map-appe
 use mathlib.Core.Option.{Option, none, some}
 use native.Mathlib.Nat.{suc-mul}
 use native.Mathlib.Omega.{arith}
-use lib.ListN.{length, take, drop, length-append, length-take, length-drop, length-replicate}
+use lib.ListN.{length, take, drop, length-append, length-take, length-drop}
 use lib.Seq.{drop-at, take-at}
 use Rattle.base.specs.Bytes.{Bytes, bytesOf, joined, over, zeros, slot}
 use Rattle.base.proofs.BytesLaws.{joined-append, bytes-nil, bytes-small, bytes-append, bytes-cons, bytes-take, bytes-drop, bytes-joined}

@@ -5,7 +5,7 @@ use mathlib.Core.Path.{_≡_, refl}
 use mathlib.Core.List.{List, [], _∷_}
 use Rattle.base.specs.Bytes.{joined}
 use Rattle.base.specs.Text.{ascii}
-use Rattle.format.specs.Types.{Action, Record, action, state, regular, request}
+use Rattle.format.specs.Types.{action, state, regular, request}
 use Rattle.format.specs.Setup.{writeSetup}
 use Rattle.format.specs.Write.{write}
 use Rattle.replication.specs.Machine.Types.{start}

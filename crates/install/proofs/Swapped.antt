@@ -29,12 +29,12 @@ use Rattle.engine.proofs.Decoded.{image-part}
 use Rattle.engine.specs.Holding.{Holds}
 use Rattle.queue.specs.Queue.{position}
 use Rattle.install.specs.Swaps.{swapOut, greenFound, greenSwap, exchanged, greenAt}
-use Rattle.base.proofs.Over.{over-changed}
+use Rattle.base.proofs.Over.{over-changed, used-part}
 use Rattle.queue.proofs.Inside.{changed-at}
 use Rattle.engine.proofs.Fields.{header-fields, fields-sized, field-changed, theGreenCount, theQueueCount}
 use Rattle.queue.proofs.SlotLaws.{slots-cons}
 use Rattle.queue.proofs.Positions.{Stands}
-use Rattle.queue.proofs.Promoted.{used-part, patched-middle}
+use Rattle.queue.proofs.Promoted.{patched-middle}
 use Rattle.queue.proofs.Holding.{holds-changed, log-image}
 use Rattle.engine.specs.Counts.{place}
 use Rattle.engine.proofs.Counts.{numbers, holds-place}

@@ -6,7 +6,7 @@ use mathlib.Core.List.{List}
 use lib.ListN.{length, getD}
 use Rattle.base.specs.Tests.{_<?_, pick}
 use Rattle.base.specs.Bytes.{numberAt}
-use Rattle.format.specs.Places.{lengthSize, atBody}
+use Rattle.format.specs.Places.{lengthSize}
 use Rattle.format.specs.Types.{Reading, says, refused}
 use Rattle.format.specs.Setup as format
 use Rattle.format.specs.Setup.{readSetup}

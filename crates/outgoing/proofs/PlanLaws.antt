@@ -197,9 +197,9 @@ plan-sent b i r o o₁ o₂ a d =
 pub lent-stated : (P : Server → Type 0) (b o : List ℕ) → LentSuch P b o → Stated b
 lent-stated P b o l = holds-stated (l .state) b (l .holds)
 
-pub lent-room : (P : Server → Type 0) (b o : List ℕ) → LentSuch P b o → 2 * mostRetransmission * mostActions b ≤ length o
+pub plan-room : (P : Server → Type 0) (b o : List ℕ) → LentSuch P b o → 2 * mostRetransmission * mostActions b ≤ length o
 unfolding outLength
-lent-room P b o l =
+plan-room P b o l =
     let m = numbers (l .state) b (l .holds) in
     subst (λ (k : ℕ). 2 * mostRetransmission * k ≤ length o) (λ i. sym (m .servers) i * sym (m .quota) i) (l .room)
 

@@ -5,13 +5,14 @@ use mathlib.Core.Path.{_≡_, refl, sym, ap, ap₂, subst, _∙_}
 use mathlib.Core.List.{List, [], _∷_, _++_, append-nil}
 use native.Mathlib.Omega.{arith}
 use lib.ListN.{length, take, drop, length-drop, take-append-drop}
-use lib.Seq.{drop-drop, drop-length, take-append-seam}
+use lib.Seq.{drop-drop, drop-length}
 use Rattle.base.specs.Bytes.{joined, over}
 use Rattle.base.specs.Lists.{Each}
 use Rattle.base.proofs.ListLaws.{each-first, each-second, each-implied}
 use Rattle.base.proofs.Prefixes.{drop-beginning}
 use Rattle.base.specs.Tests.{_<?_, _=?_}
 use Rattle.base.proofs.TestLaws.{Known, holds, fails, known, lt-holds, lt-fails, eq-holds, eq-fails}
+use Rattle.base.proofs.Over.{over-take}
 use Rattle.format.specs.Limits.{mostPayload}
 use Rattle.format.specs.Types.{Action}
 use Rattle.format.proofs.Ranges.{ActionRange}
@@ -82,10 +83,6 @@ no-entries : entriesBytes [] ≡ []
 unfolding entriesBytes joined
 no-entries = refl
 
-front : (y l : List ℕ) → take (length y) (over y l) ≡ y
-unfolding over
-front y l = take-append-seam y (drop (length y) l)
-
 all-read : (b : List ℕ) (f : ℕ) (os : List (List ℕ)) → imageNumber b ≡ 0 → Each (λ o. mostEntry ≤ length o) os → f ≤ length (greensIn b)
     → length (greensIn b) ≤ f + length os → readings b f os ≡ entriesBytes (drop f (greensIn b))
 unfolding readings
@@ -96,7 +93,7 @@ all-read b f (o ∷ os) z r h l =
     let x : Listing = entriesOn b f o in
     let a = put-reads b f o (record { whole = z; room = r .0; inside = h }) in
     let y : List ℕ = entriesBytes (take (x .entries) (drop f (greensIn b))) in
-    let first : take (x .bytes) (x .out) ≡ y = ap₂ {A = ℕ} {B = List ℕ} {C = List ℕ} (λ n w. take n w) (a .bytes) (a .out) ∙ front y o in
+    let first : take (x .bytes) (x .out) ≡ y = ap₂ {A = ℕ} {B = List ℕ} {C = List ℕ} (λ n w. take n w) (a .bytes) (a .out) ∙ over-take y o (length y) refl in
     let next = all-read b (f + x .entries) os z (r .1) (a .inside) (enough (known (f <? length (greensIn b))) a) in
     ap₂ {A = List ℕ} {B = List ℕ} {C = List ℕ} (λ u v. u ++ v) first (next ∙ ap entriesBytes (sym (drop-drop (x .entries) f (greensIn b))))
     ∙ sym (entries-append (take (x .entries) (drop f (greensIn b))) (drop (x .entries) (drop f (greensIn b))))

@@ -6,7 +6,7 @@ use mathlib.Core.Bool.{true}
 use mathlib.Core.List.{List, [], _∷_, map}
 use native.Mathlib.Omega.{arith}
 use lib.ListN.{length, take, drop}
-use lib.Seq.{take-at, drop-at, take-take}
+use lib.Seq.{drop-at, take-take}
 use Rattle.base.specs.Bytes.{bytesOf, numberAt, partAt, over, slot}
 use Rattle.base.proofs.BytesLaws.{bytes-length}
 use Rattle.base.specs.Lists.{sum, above, Each}
@@ -31,18 +31,13 @@ use Rattle.engine.proofs.InPlace.{holds-section}
 use Rattle.record.specs.declared.ActionHead.{ActionHead}
 use Rattle.record.specs.Values.{idOf, actionOf}
 use Rattle.queue.specs.Queue.{appended, queued, popped, RoomFor}
-use Rattle.base.proofs.Over.{over-front}
+use Rattle.base.proofs.Over.{over-front, over-take}
 use Rattle.queue.proofs.Inside.{Changed, changed-at}
 use Rattle.queue.proofs.SlotLaws.{slots-cons}
 use Rattle.queue.proofs.Holding.{log-formed, log-fits, holds-changed, log-image}
 use Rattle.queue.proofs.EnterLaws.{one-more, header-entered, header-left, queue-entered, cuts-entered, others-stay, first-leaves}
 use Rattle.engine.specs.Counts.{place}
 use Rattle.engine.proofs.Counts.{numbers, holds-counts, holds-place}
-
--- The used part in front.
-over-take : (y l : List ℕ) (m : ℕ) → length y ≡ m → take m (over y l) ≡ y
-unfolding over
-over-take y l m e = take-at y (drop (length y) l) m e
 
 own-here : (s : Server) (b : List ℕ) → Holds s b
     → section (s .servers) (s .quota) theOwn b ≡ over (actionSlots (s .log .own)) (section (s .servers) (s .quota) theOwn b)

@@ -29,7 +29,7 @@ use Rattle.engine.proofs.Decoded.{image-part}
 use Rattle.engine.specs.Holding.{Holds}
 use Rattle.engine.proofs.InPlace.{holds-decoded}
 use Rattle.queue.specs.Queue.{position, redsIn, promoted}
-use Rattle.base.proofs.Over.{over-changed}
+use Rattle.base.proofs.Over.{over-changed, used-part}
 use Rattle.queue.proofs.Inside.{changed-at}
 use Rattle.engine.proofs.Fields.{header-fields, fields-sized, field-changed, theGreenCount, theQueueCount}
 use Rattle.queue.proofs.SlotLaws.{slots-one, slots-cons}
@@ -46,10 +46,6 @@ patched-middle g y z v e =
     let m : length (g ++ z) ≡ length g + length y = length-append g z ∙ omega arith in
     ap₂ {A = List ℕ} {B = List ℕ} {C = List ℕ} (λ u w. u ++ (y ++ w)) (take-at g (z ++ v) (length g) refl)
     (ap (drop (length g + length y)) (sym (append-assoc g z v)) ∙ drop-at (g ++ z) v (length g + length y) m)
-
-pub used-part : (y l e : List ℕ) (at : ℕ) → Occurs (over y l) e at → Occurs y e at
-unfolding over
-used-part y l e at o = occurs-first y (drop (length y) l) e at o
 
 -- ---- the header
 

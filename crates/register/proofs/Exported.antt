@@ -2,7 +2,7 @@
 -- Assumes nothing.
 use Prim.Native.Nat.{ℕ, _≤_, _<_}
 use mathlib.Core.Path.{_≡_, refl, sym, ap, _∙_}
-use mathlib.Core.List.{List, [], append-nil}
+use mathlib.Core.List.{List, append-nil}
 use Rattle.base.specs.Bytes.{bytesOf, joined, over}
 use Rattle.base.specs.Patched.{patched}
 use Rattle.base.proofs.Shifts.{patched-front-part}

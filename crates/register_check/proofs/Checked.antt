@@ -5,7 +5,7 @@ use mathlib.Core.Path.{_≡_, refl, sym, ap, subst, _∙_}
 use mathlib.Core.Bool.{true}
 use mathlib.Core.List.{List, _++_}
 use native.Mathlib.Omega.{arith}
-use lib.ListN.{length, length-replicate}
+use lib.ListN.{length}
 use Rattle.base.specs.Bytes.{Bytes, bytesOf, numberAt, partAt, zeros, slot}
 use Rattle.base.proofs.TestLaws.{and-holds, both-yes, le-yes, le-holds}
 use Rattle.base.proofs.BytesLaws.{bytes-length, part-length, part-append, number-lt}

@@ -1,10 +1,9 @@
 -- A burst with a register beside the engine's own, and as the code makes it.
 -- Assumes nothing.
-use Prim.Native.Nat.{ℕ, zero, suc, _+_, _≤_}
+use Prim.Native.Nat.{ℕ, zero, suc}
 use mathlib.Core.Path.{_≡_, refl, sym, ap, subst, _∙_}
 use mathlib.Core.Bool.{Bool, true, false}
 use mathlib.Core.List.{List}
-use native.Mathlib.Omega.{arith}
 use lib.ListN.{length, take, drop}
 use Rattle.base.specs.Bytes.{numberAt}
 use Rattle.base.specs.Tests.{_and_, _=?_}
@@ -19,15 +18,13 @@ use Rattle.burst.specs.declared.slices.Next.the-variants.{Event, Stop}
 use Rattle.burst.specs.Burst as engine
 use Rattle.burst.specs.Burst.{nextOf, byNext}
 use Rattle.burst.proofs.BurstLaws as steps
-use Rattle.pegs.specs.Outcome.{registerNumber}
 use Rattle.register_runs.specs.Joint.{Joint, jointNumber, jointOn}
 use Rattle.register_runs.proofs.JointLaws.{joint-zero, stepPart, joint-step}
 use Rattle.register_step.specs.declared.carrying.Carried.{Carried}
-use Rattle.register_step.specs.declared.RegisterBurst.{RegisterBurst}
 use Rattle.register_step.specs.Carrying.{CarryReady, carryOn, carriedBy}
 use Rattle.register_step.specs.Burst.{JointBurst, stopped, ended, behind, silent, afterJoint, burstFrom, burstAll, jointBurstOn, left, refusedBurst}
 use Rattle.register_step.proofs.Gains.{Gains, gains-none, gains-more, gains-carried}
-use Rattle.register_step.proofs.JointLaws.{joint-gains, joint-kept, refused-joint}
+use Rattle.register_step.proofs.JointLaws.{joint-gains, joint-kept}
 use Rattle.register_step.proofs.StepLaws.{green-length, carry-ready}
 
 -- The burst y with the register is the engine's burst x from the state b, and the register r is carried on by what turned green.

@@ -1,11 +1,10 @@
 -- Green actions applied one after another, as the code does it.
 -- Assumes nothing.
-use Prim.Native.Nat.{ℕ, zero, suc, _+_, _*_, _-_, _^_, _≤_, _<_}
-use mathlib.Core.Path.{_≡_, refl, sym, ap, subst, _∙_}
+use Prim.Native.Nat.{ℕ, suc, _+_, _*_, _-_, _^_, _≤_, _<_}
+use mathlib.Core.Path.{_≡_, refl, sym, ap, _∙_}
 use mathlib.Core.Bool.{Bool, true, false}
-use mathlib.Core.List.{List, [], _∷_, _++_, append-nil, append-assoc, map, map-append}
+use mathlib.Core.List.{List, [], _∷_, _++_, append-nil, append-assoc, map-append}
 use native.Mathlib.Omega.{arith}
-use lib.Dec.{eqb}
 use lib.ListN.{length, take, drop, length-append}
 use lib.Seq.{drop-length}
 use Rattle.base.specs.Bytes.{Bytes, numberAt, partAt}
@@ -27,7 +26,6 @@ use Rattle.pegs.specs.Image.{pegsIn}
 use Rattle.pegs.specs.Outcome.{Changed, registerNumber, changed, applied, appliedAll}
 use Rattle.pegs.proofs.Advance.{advance-append, refusals-append, applied-number, applied-zero, applied-pegs, applied-all-next}
 use Rattle.register_runs.specs.Joint.{payloads, carried}
-use Rattle.register_step.specs.declared.carrying.Carried.{Carried}
 use Rattle.register_step.specs.Carrying.{CarryReady, carryOn, carriedBy, AppliedOne}
 
 -- ---- one action

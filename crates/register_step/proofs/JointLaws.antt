@@ -1,44 +1,30 @@
 -- The joint step beside the engine's own: the same answer, and the register carried on by what turned green.
 -- Assumes nothing.
-use Prim.Native.Nat.{ℕ, _+_, _≤_, _<_}
+use Prim.Native.Nat.{ℕ, _≤_, _<_}
 use mathlib.Core.Path.{_≡_, refl, sym, ap, subst, _∙_}
 use mathlib.Core.Bool.{Bool, true, false}
-use mathlib.Core.List.{List, []}
-use native.Mathlib.Omega.{arith}
-use lib.ListN.{length, drop}
-use Rattle.base.specs.Bytes.{numberAt, joined, over}
-use Rattle.base.specs.Tests.{_and_, _or_, _<?_, _=?_, pick}
-use Rattle.base.proofs.TestLaws.{Known, known, holds, fails, pick-yes, pick-no, pick-ne, and-yes, and-no, lt-yes, lt-no}
+use mathlib.Core.List.{List}
+use lib.ListN.{length}
+use Rattle.base.specs.Tests.{_and_, _or_, _<?_, pick}
+use Rattle.base.proofs.TestLaws.{Known, known, holds, fails, pick-yes, pick-no, and-yes, and-no, lt-yes, lt-no}
 use Rattle.base.proofs.Branches.{or-yes, or-no}
-use Rattle.format.specs.Types.{Action}
 use Rattle.replication.specs.Machine.Types.{Server, Outcome, refused, taken}
 use Rattle.replication.specs.Machine.Step.{step}
 use Rattle.replication.proofs.Step.Growth.{green-gained}
-use Rattle.engine.specs.Layout.{atGreenLength}
-use Rattle.engine.specs.Counts.{greenCount}
 use Rattle.engine.specs.Image.{image}
 use Rattle.engine.specs.Decode.{decoded, reads, greensIn}
 use Rattle.engine.specs.Holding.{Holds}
-use Rattle.engine.specs.Outcome.{Result, refusal, word, tooShort, resultOf, stepOn, stateNumber, imageNumber}
-use Rattle.engine.proofs.InPlace.{holds-decoded, holds-header}
+use Rattle.engine.specs.Outcome.{Result, refusal, tooShort, resultOf, stepOn, stateNumber, imageNumber}
+use Rattle.engine.proofs.InPlace.{holds-decoded}
 use Rattle.engine.proofs.Refusals.{zero-whole, zero-ready, zero-read, number-short, number-unread, number-read, step-read}
 use Rattle.engine.proofs.Taken.{taken-holds}
-use Rattle.queue.specs.Queue.{QueueIn}
-use Rattle.queue.proofs.ReadLaws.{holds-queue}
-use Rattle.queries.proofs.EntriesCode.{greensIn-count}
 use Rattle.burst.proofs.KeptLaws.{step-kept}
 use Rattle.pegs.specs.Image.{registerLength, registerReads}
 use Rattle.pegs.specs.Outcome.{registerShort, registerNumber}
-use Rattle.pegs.proofs.Advance.{AppliedAll, applied-all}
-use Rattle.step.specs.declared.Answer.{Answer}
-use Rattle.step.specs.Answers.{answered}
+use Rattle.pegs.proofs.Advance.{applied-all}
 use Rattle.register_runs.specs.Joint.{Joint, unjoined, payloads, carried, jointOf, jointNumber, jointOn}
-use Rattle.register_runs.proofs.JointLaws.{joint-zero, joint-number, zero-joint, stepPart, joint-step, joint-read}
-use Rattle.register_step.specs.declared.carrying.Carried.{Carried}
-use Rattle.register_step.specs.declared.RegisterAnswer.{RegisterAnswer}
-use Rattle.register_step.specs.Carrying.{carryOn, carriedBy}
-use Rattle.register_step.specs.Answers.{joined as answeredWith, refusedWith}
-use Rattle.register_step.proofs.Gains.{Gains, gains-none, gained-bytes, gains-carried, gains-longer}
+use Rattle.register_runs.proofs.JointLaws.{joint-zero, zero-joint, joint-read}
+use Rattle.register_step.proofs.Gains.{Gains, gains-none, gained-bytes}
 
 -- ---- the buffers' number, as the code finds it
 

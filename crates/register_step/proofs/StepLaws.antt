@@ -1,7 +1,7 @@
 -- The joint step, as the code makes it.
 -- Assumes nothing.
 use Prim.Native.Nat.{ℕ, _+_, _≤_}
-use mathlib.Core.Path.{_≡_, refl, sym, ap, subst, _∙_}
+use mathlib.Core.Path.{_≡_, sym, ap, subst, _∙_}
 use mathlib.Core.List.{List}
 use native.Mathlib.Omega.{arith}
 use lib.ListN.{length, drop}
@@ -12,7 +12,7 @@ use Rattle.engine.specs.Decode.{decoded, greensIn}
 use Rattle.engine.specs.Holding.{Holds}
 use Rattle.engine.specs.Outcome.{Result, stepOn, stateNumber}
 use Rattle.engine.proofs.InPlace.{holds-header}
-use Rattle.engine.proofs.Refusals.{zero-whole, zero-ready, whole-holds}
+use Rattle.engine.proofs.Refusals.{zero-whole, zero-ready}
 use Rattle.queue.specs.Queue.{QueueIn}
 use Rattle.queue.proofs.ReadLaws.{holds-queue}
 use Rattle.queries.proofs.EntriesCode.{greensIn-count}

@@ -40,6 +40,9 @@ const STATE_FOLLOWS: u32 = (StateHead::SIZE - Event::LENGTH_SIZE) as u32;
 
 const CPC_FOLLOWS: u32 = (Event::CPC_SIZE - Event::LENGTH_SIZE) as u32;
 
+// How many numbers two length bytes can tell apart: of a longer payload's length they tell only that much.
+const TOLD: usize = 65536;
+
 // Whether `size` bytes and `more` behind them lie inside `length` bytes.
 fn fits(length: usize, size: usize, more: usize) -> bool
     ensures { λ r. ⌜ r ≡ (size + more ≤? length) ⌝ }
@@ -81,7 +84,7 @@ pub fn write_cpc(rest: &mut [u8], sender: u8, configuration: u32) -> Written
     Written::Next(Event::CPC_SIZE)
 }
 
-// Writes an action. Two length bytes tell of a payload's length as much as they can.
+// Writes an action.
 pub fn write_action(rest: &mut [u8], head: ActionHead, payload: &[u8]) -> Written
     ensures { λ r. ⌜ Puts (write (action (actionOf head (now (payload .entry))))) r (now (rest .entry)) (now (rest .exit)) ⌝ }
 {
@@ -89,7 +92,7 @@ pub fn write_action(rest: &mut [u8], head: ActionHead, payload: &[u8]) -> Writte
     if !fits(rest.len(), Event::ACTION_SIZE, size) {
         return Written::Full;
     }
-    let follows = ACTION_FOLLOWS + (size % 65536) as u32;
+    let follows = ACTION_FOLLOWS + (size % TOLD) as u32;
     put_frame(rest, follows, Event::ACTION);
     put_body(rest, Event::BODY, head, payload);
     Written::Next(Event::ACTION_SIZE + size)
@@ -109,7 +112,7 @@ pub fn write_retransmission(
     if !fits(rest.len(), Event::RETRANSMISSION_SIZE, size) {
         return Written::Full;
     }
-    let follows = RETRANSMISSION_FOLLOWS + (size % 65536) as u32;
+    let follows = RETRANSMISSION_FOLLOWS + (size % TOLD) as u32;
     put_opening(rest, follows, Event::RETRANSMISSION, sender, position);
     put_body(rest, Event::RESENT, head, payload);
     Written::Next(Event::RETRANSMISSION_SIZE + size)

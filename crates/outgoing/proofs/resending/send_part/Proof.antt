@@ -1,10 +1,10 @@
-use Rattle.outgoing.proofs.PlanLaws.{lent-stated, lent-room, part-fits, part-length, part-bytes}
+use Rattle.outgoing.proofs.PlanLaws.{lent-stated, plan-room, part-fits, part-length, part-bytes}
 use borrow.Author.Needs.{needs}
 use Rattle.outgoing.proofs.resending.send_part.Statement.{statement}
 use Rattle.outgoing.proofs.resending.send_part.Tie as tie
 
 send-plan-requires : tie.Need-send-plan-requires
-send-plan-requires c κs = search (needs, lent-stated, lent-room)
+send-plan-requires c κs = search (needs, lent-stated, plan-room)
 
 cast-result : tie.Need-cast-result
 cast-result c = search (needs, part-fits)

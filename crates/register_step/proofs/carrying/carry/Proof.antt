@@ -1,4 +1,4 @@
-use Rattle.register_step.proofs.CarryLaws.{Along, along-starts, along-low, along-few, along-ends, slot-inside, one-more, along-on}
+use Rattle.register_step.proofs.CarryLaws.{Along, along-starts, along-low, along-ends, slot-inside, one-more, along-on}
 use Rattle.base.proofs.BytesLaws.{given-bytes}
 use Prim.Native.Nat.{_-_}
 use borrow.Author.Needs.{needs}

@@ -1,4 +1,4 @@
-use Rattle.step.proofs.ActionLaws.{creator-below, action-untaken, action-unnumbered, action-outside, action-takes, action-coloured}
+use Rattle.step.proofs.ActionLaws.{action-untaken, action-unnumbered, action-outside, action-takes, action-coloured}
 use borrow.Author.Needs.{needs}
 use Rattle.step.proofs.events.on_action.Statement.{statement}
 use Rattle.step.proofs.events.on_action.Tie as tie

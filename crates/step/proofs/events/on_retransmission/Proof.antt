@@ -1,4 +1,4 @@
-use Rattle.step.proofs.ResentLaws.{sender-below, resent-untaken, resent-unnumbered, resent-outside, exchange-ready, resent-exchanged, resent-room, resent-red}
+use Rattle.step.proofs.ResentLaws.{resent-untaken, resent-unnumbered, resent-outside, exchange-ready, resent-exchanged, resent-room, resent-red}
 use borrow.Author.Needs.{needs}
 use Rattle.step.proofs.events.on_retransmission.Statement.{statement}
 use Rattle.step.proofs.events.on_retransmission.Tie as tie
