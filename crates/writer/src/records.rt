@@ -40,8 +40,8 @@ const STATE_FOLLOWS: u32 = (StateHead::SIZE - Event::LENGTH_SIZE) as u32;
 
 const CPC_FOLLOWS: u32 = (Event::CPC_SIZE - Event::LENGTH_SIZE) as u32;
 
-// How many numbers two length bytes can tell apart: of a longer payload's length they tell only that much.
-const TOLD: usize = 65536;
+// Two length bytes tell a length modulo this.
+const LENGTH_MODULUS: usize = 65536;
 
 // Whether `size` bytes and `more` behind them lie inside `length` bytes.
 fn fits(length: usize, size: usize, more: usize) -> bool
@@ -92,7 +92,7 @@ pub fn write_action(rest: &mut [u8], head: ActionHead, payload: &[u8]) -> Writte
     if !fits(rest.len(), Event::ACTION_SIZE, size) {
         return Written::Full;
     }
-    let follows = ACTION_FOLLOWS + (size % TOLD) as u32;
+    let follows = ACTION_FOLLOWS + (size % LENGTH_MODULUS) as u32;
     put_frame(rest, follows, Event::ACTION);
     put_body(rest, Event::BODY, head, payload);
     Written::Next(Event::ACTION_SIZE + size)
@@ -112,7 +112,7 @@ pub fn write_retransmission(
     if !fits(rest.len(), Event::RETRANSMISSION_SIZE, size) {
         return Written::Full;
     }
-    let follows = RETRANSMISSION_FOLLOWS + (size % TOLD) as u32;
+    let follows = RETRANSMISSION_FOLLOWS + (size % LENGTH_MODULUS) as u32;
     put_opening(rest, follows, Event::RETRANSMISSION, sender, position);
     put_body(rest, Event::RESENT, head, payload);
     Written::Next(Event::RETRANSMISSION_SIZE + size)
