@@ -1,8 +1,11 @@
 -- Laws of filters, and of tests on every element.
 -- Assumes nothing.
+use Prim.Native.Nat.{_≤_}
 use mathlib.Core.Path.{_≡_, refl, sym, ap, _∙_}
 use mathlib.Core.Bool.{Bool, true, false}
 use mathlib.Core.List.{List, [], _∷_, List·Memᴰ, List·Memᴰ·head, List·Memᴰ·tail}
+use native.Mathlib.Omega.{arith}
+use lib.ListN.{length}
 use Rattle.base.specs.Tests.{pick}
 use Rattle.base.proofs.TestLaws.{pick-yes, pick-no, and-holds, both-yes, Known, holds, fails, known}
 use Rattle.base.specs.Lists.{all, filter}
@@ -15,6 +18,15 @@ module _ {A : Type 0} where
   pub filter-no : (t : A → Bool) (a : A) (x : List A) → t a ≡ false → filter t (a ∷ x) ≡ filter t x
   unfolding filter
   filter-no t a x h = sym (pick-no _ _ _ _ h refl)
+
+  pub filter-length : (t : A → Bool) (x : List A) → length (filter t x) ≤ length x
+  unfolding filter
+  filter-length t [] = omega arith
+  filter-length t (a ∷ x) = go (known (t a)) (filter-length t x)
+    where
+      go : Known (t a) → length (filter t x) ≤ length x → length (filter t (a ∷ x)) ≤ length (a ∷ x)
+      go (holds h) k = omega (arith, ap length (filter-yes t a x h))
+      go (fails h) k = omega (arith, ap length (filter-no t a x h))
 
   -- Two tests that agree on every element.
   pub filter-same : (t u : A → Bool) (x : List A) → ((a : A) → List·Memᴰ a x → t a ≡ u a) → filter t x ≡ filter u x

@@ -20,10 +20,6 @@ mostQuota = 256
 abbrev pub mostPayload : ℕ
 mostPayload = 48
 
--- "Held requests: 16."
-abbrev pub mostHeld : ℕ
-mostHeld = 16
-
 -- "Primary and attempt indexes run 0 to 4,000,000,000."
 abbrev pub mostIndex : ℕ
 mostIndex = 4_000_000_000
@@ -33,9 +29,9 @@ abbrev pub version : ℕ
 version = 1
 
 -- The number of the layout of a state's image, which begins with it, so that none of another layout is misread. The first layout had no number and
--- began with the number of servers: no layout takes a number of servers (docs/LAYOUT.md).
+-- began with the number of servers: no layout takes a number of servers (docs/LAYOUT.md). This is the third: requests are not held.
 abbrev pub layoutNumber : ℕ
-layoutNumber = mostServers + 1
+layoutNumber = mostServers + 2
 
 -- How many ids there can be.
 abbrev pub mostIds : ℕ

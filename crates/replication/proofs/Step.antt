@@ -3,6 +3,7 @@ pub mod Inversion
 pub mod Moves
 pub mod Logs
 pub mod Numbered
+pub mod SameHeld
 pub mod Growth
 pub mod Lifts
 pub mod Control

@@ -8,6 +8,7 @@ pub mod Facts
 pub mod Held
 pub mod Logs
 pub mod Numbering
+pub mod OwnList
 pub mod Decisions
 pub mod Changes
 pub mod RuleFacts

@@ -12,11 +12,11 @@ use Rattle.replication.specs.Machine.Exchange.{linearVote, quorum, taken
 use Rattle.replication.specs.Machine.Install.{idsUpTo, installLog, installVotes, install}
 use Rattle.replication.specs.Machine.Plan.{highest, lowestFrom, lowest, firstWith, resender, missing, cutIn, greenIn, planned, isMe, resent}
 use Rattle.replication.specs.Machine.Plan.{resendGreen, resendRed, ownPart}
-use Rattle.replication.specs.Machine.Requests.{inRegular, sendsIn, sendsNow, quotaLeft, roomToHold, numberedFrom, madeOf, numbered, hold}
-use Rattle.replication.specs.Machine.Requests.{sendHeld, heldRecords, recovered}
+use Rattle.replication.specs.Machine.Requests.{inRegular, sendsIn, sendsNow, quotaLeft, madeOf, numbered, unsent, waiting}
+use Rattle.replication.specs.Machine.Requests.{waitingRecords, sendWaiting, recovered}
 use Rattle.replication.specs.Machine.Rules.{onAction, onRetransmission, onState, onCpc, onRegular, onTransitional, ruleFor, numberedOwn}
 use Rattle.replication.specs.Machine.Rules.{regularDue, transitionalDue, possible, memberOf, isOf, stateIn, cpcIn, fromMember, isIgnored}
-use Rattle.replication.specs.Machine.Rules.{withinQuota, withinHeld}
+use Rattle.replication.specs.Machine.Rules.{withinQuota}
 use Rattle.replication.specs.Machine.Step.{greened, quiet, stored, sent, entering, ownState, join, unmarked, yellowValid, theSet, theId}
 use Rattle.replication.specs.Machine.Step.{hereSet, hereId, collected, decided, attempting, endExchange, withState, allFrom, allStatesIn}
 use Rattle.replication.specs.Machine.Step.{plannedNow, resending, afterStates, collectState, placed, oneMore, exchanged, allCome, exchange}
@@ -25,7 +25,7 @@ use Rattle.replication.specs.Machine.Step.{applyRule, answer, onReading,
 use Rattle.replication.specs.Machine.Types.{clearedMark, noYellow, noStates, start, setOf, contextOf}
 use Rattle.replication.specs.Machine.WellFormed.{logRanges, votesRanges, configurationFits, transitionalFits, collectedFits, collectedFit}
 use Rattle.replication.specs.Machine.WellFormed.{membershipRanges, ranges, idsIn, queue, withinCut, heldToCuts, sameIds, ownListFits}
-use Rattle.replication.specs.Machine.WellFormed.{quotaKept, modeFits, wellFormed}
+use Rattle.replication.specs.Machine.WellFormed.{modeFits, wellFormed}
 use Rattle.replication.specs.Replay.{modeName, line, header, returned, sentCount, eventLine, inputLine, setupLine, recordLength, tableAfter}
 use Rattle.replication.specs.Replay.{lineFor, events, afterSetup, replay}
 
@@ -38,14 +38,14 @@ unfolding
     joinBits joinedBits ruleC keptMark judgedMark markLeft ownMark moreThanHalf lowestOf halfWithLowest linearVote quorum takenVotes attempted
     idsUpTo installLog installVotes install
     highest lowestFrom lowest firstWith resender missing cutIn greenIn planned isMe resent resendGreen resendRed ownPart
-    inRegular sendsIn sendsNow quotaLeft roomToHold numberedFrom madeOf numbered hold sendHeld heldRecords recovered
+    inRegular sendsIn sendsNow quotaLeft madeOf numbered unsent waiting waitingRecords sendWaiting recovered
     onAction onRetransmission onState onCpc onRegular onTransitional ruleFor numberedOwn regularDue transitionalDue possible memberOf isOf stateIn
-    cpcIn fromMember isIgnored withinQuota withinHeld
+    cpcIn fromMember isIgnored withinQuota
     greened quiet stored sent entering ownState join unmarked yellowValid theSet theId hereSet hereId collected decided attempting endExchange
     withState allFrom allStatesIn plannedNow resending afterStates collectState placed oneMore exchanged allCome exchange withCpc allCpcsIn installing
     collectCpc collectLateCpc leave greenAndNote requested apply applyRule answer onReading inBytes step installsBy installsOn installs
     clearedMark noYellow noStates start setOf contextOf
     logRanges votesRanges configurationFits transitionalFits collectedFits collectedFit membershipRanges ranges idsIn queue withinCut heldToCuts
-    sameIds ownListFits quotaKept modeFits wellFormed
+    sameIds ownListFits modeFits wellFormed
     modeName line header returned sentCount eventLine inputLine setupLine recordLength tableAfter lineFor events afterSetup replay
 opened = 0

@@ -1,4 +1,4 @@
--- The control part (last primary, attempt, mark, numbered) over a run: memory and store agree on it, and only an event that stores changes it.
+-- The control part (last primary, attempt, mark, numbered, sent) over a run: memory and store agree on it, and only an event that stores changes it.
 use Prim.Native.Nat.{ℕ, suc, _≤_}
 use mathlib.Core.Path.{_≡_, refl, sym, ap, subst}
 use mathlib.Core.Bool.{Bool, true, false}
@@ -11,22 +11,22 @@ use Rattle.replication.specs.Laws.Order.{SameControl, Grows}
 use Rattle.replication.specs.Laws.Transitions.{Transition}
 use Rattle.replication.specs.Runs.Run.{Run}
 use Rattle.replication.specs.Runs.Allowed.{Allowed}
-use Rattle.replication.proofs.Step.Control.{control-refl, control-trans, unstored-keeps, control-stored}
+use Rattle.replication.proofs.Step.Control.{same, control-refl, control-trans, unstored-keeps, control-stored}
 use Rattle.replication.proofs.Step.Growth.{grows-refl, grows-trans, transition-grows, taken-grows}
-use Rattle.replication.proofs.Step.Numbered.{numbered-reds}
+use Rattle.replication.proofs.Step.Numbered.{numbers-reds}
 use Rattle.replication.proofs.Runs.Lived.{at-place}
 use Rattle.replication.proofs.Runs.Rising.{store-below-memory, store-rises-between}
 use Rattle.replication.proofs.Runs.AllowedTurns.{memoryAt, storeAt, Acts, AllowedTurn, rests, crashes, saves, refuses, recovers, acts, allowed-turn}
 
 pub control-sym : {s t : Server} → SameControl s t → SameControl t s
-control-sym h = record { last = sym (h .last); attempt = sym (h .attempt); mark = sym (h .mark); numbered = sym (h .numbered) }
+control-sym h = record { last = sym (h .last); attempt = sym (h .attempt); mark = sym (h .mark); numbered = sym (h .numbered); sent = sym (h .sent) }
 
 control-same : (s t : Server) → t ≡ s → SameControl s t
 control-same s t e = subst (λ x. SameControl s x) (sym e) (control-refl s)
 
 pub recovered-control : (s : Server) → SameControl s (recovered s)
 unfolding recovered
-recovered-control s = record { last = refl; attempt = refl; mark = refl; numbered = numbered-reds (s .log .own) (s .log) }
+recovered-control s = same refl (numbers-reds (s .log .own) (s .log))
 
 abbrev logGrows : Server → Server → Type 0
 logGrows s t = Grows (s .log) (t .log)

@@ -9,7 +9,7 @@ use lib.ListN.{length, set, length-set}
 use Rattle.base.proofs.TestLaws.{not-both}
 use Rattle.format.specs.Types.{State, Record, action, retransmission, state, cpc, regular, transitional, request, recovery, says}
 use Rattle.replication.specs.Machine.Types.{Mode, Configuration, Membership, Server}
-use Rattle.replication.specs.Machine.Requests.{numbered, hold, sendHeld, recovered}
+use Rattle.replication.specs.Machine.Requests.{numbered, sendWaiting, recovered}
 use Rattle.replication.specs.Machine.Step.{decided, attempting, withState, resending, oneMore, exchanged, withCpc, leave, greenAndNote}
 use Rattle.replication.specs.Images.{isRecovery}
 use Rattle.replication.specs.Laws.Order.{inExchange, hearing}
@@ -23,7 +23,7 @@ use Rattle.replication.proofs.Runs.Memberships.{Joinable, Completes, Me
 pub exchange-votes : {s : Server} {r : Record} {t : Server} {rs : List Record} {b : Bool} → Transition s r t rs b
     → (inExchange (t .membership .mode) ≡ true)
     → ((inExchange (s .membership .mode) ≡ true) × (t .votes ≡ s .votes)) ⊎ ((c : Configuration) × (r ≡ regular (c .id) (c .set)))
-unfolding inExchange greenAndNote exchanged oneMore withState resending withCpc sendHeld numbered leave hold recovered attempting decided
+unfolding inExchange greenAndNote exchanged oneMore withState resending withCpc sendWaiting numbered leave recovered attempting decided
 exchange-votes (L.ignoresState x e) h = inl (h, refl)
 exchange-votes (L.ignoresCpc k j e) h = inl (h, refl)
 exchange-votes (L.reddens a e) h = inl (h, refl)
@@ -53,7 +53,7 @@ exchange-votes (L.leaves m o x e L.interruptsStates) h = not-both h
 exchange-votes (L.leaves m o x e L.interruptsActions) h = not-both h
 exchange-votes (L.leaves m o x e L.interruptsConstruct) h = not-both h
 exchange-votes (L.sends p c) h = inl (h, refl)
-exchange-votes (L.holds p c) h = inl (h, refl)
+exchange-votes (L.numbers p c) h = inl (h, refl)
 exchange-votes L.recovers h = not-both h
 
 -- The States after a record that may bring one.

@@ -1,4 +1,4 @@
--- The actions in a log: after a taken event each was there before, came with the event's record, or was put out by the event.
+-- The actions in a log: after a taken event each was there before, came with the event's record, or was made of the event's request.
 use Prim.Native.Nat.{ℕ, _+_}
 use mathlib.Core.Path.{_≡_, refl, sym, subst}
 use mathlib.Core.Bool.{Bool}
@@ -13,7 +13,7 @@ use Rattle.format.specs.Types.{Id, Action, Record, action, retransmission, stat
 use Rattle.replication.specs.Machine.Types.{Non-prim, Reg-prim, Log, Server, inMode}
 use Rattle.replication.specs.Machine.Colours.{find, isNext, enter, red, reds, promote, promoteFound, greenId, greenIds, green, yellow}
 use Rattle.replication.specs.Machine.Install.{installLog, install}
-use Rattle.replication.specs.Machine.Requests.{madeOf, numbered, hold, sendHeld, heldRecords, recovered}
+use Rattle.replication.specs.Machine.Requests.{madeOf, numbered, sendWaiting, recovered}
 use Rattle.replication.specs.Machine.Step.{entering, decided, attempting, withState, resending, placed, oneMore, exchanged, withCpc, leave, greenAndNote}
 use Rattle.replication.specs.Laws.Transitions as L
 use Rattle.replication.specs.Laws.Transitions.{Ends, Transition}
@@ -93,27 +93,22 @@ module _ (Q : Action → Type 0) where
       pick-either (EachIn Q) (p =? length (l .green) + 1) (green a l) _ (each-green a l q h)
       (pick-either (EachIn Q) (1 ≤? p and p ≤? length (l .green)) l (red a l) h (each-red a l q h))
 
-  each-numbered : (ps : List (List ℕ)) (s : Server) → ((a : Action) → List·Memᴰ (action a) (map action (madeOf ps s)) → Q a) → EachIn Q (s .log)
-      → EachIn Q ((numbered ps s) .log)
-  unfolding numbered
-  each-numbered ps s f h = record {
-    green = h .green;
-    red = h .red;
-    own = each-append Q (s .log .own) (madeOf ps s) (h .own) (each-of Q (madeOf ps s) (λ a m. f a (Memᴰ·map action m)));
-  }
+  each-numbered : (p : List ℕ) (s : Server) → Q (madeOf p s) → EachIn Q (s .log) → EachIn Q ((numbered p s) .log)
+  unfolding numbered sendWaiting
+  each-numbered p s f h = record { green = h .green; red = h .red; own = each-append Q (s .log .own) (madeOf p s ∷ []) (h .own) (f, tt) }
 
-  each-held : (s : Server) → ((a : Action) → List·Memᴰ (action a) (heldRecords s) → Q a) → EachIn Q (s .log) → EachIn Q ((sendHeld s) .log)
-  unfolding sendHeld heldRecords
-  each-held s f h = each-numbered (s .held) s f h
+  each-waiting : (s : Server) → EachIn Q (s .log) → EachIn Q ((sendWaiting s) .log)
+  unfolding sendWaiting
+  each-waiting s h = record { green = h .green; red = h .red; own = h .own }
 
-  each-end : (t u : Server) (rs : List Record) → Ends t u rs → ((a : Action) → List·Memᴰ (action a) rs → Q a) → EachIn Q (t .log) → EachIn Q (u .log)
+  each-end : (t u : Server) (rs : List Record) → Ends t u rs → EachIn Q (t .log) → EachIn Q (u .log)
   unfolding attempting decided
-  each-end t u rs (L.withQuorum c) f h = h
-  each-end t u rs (L.withoutQuorum c) f h = each-held (inMode Non-prim (decided t)) f h
+  each-end t u rs (L.withQuorum c) h = h
+  each-end t u rs (L.withoutQuorum c) h = each-waiting (inMode Non-prim (decided t)) h
 
   pub each-after : {s : Server} {r : Record} {t : Server} {rs : List Record} {b : Bool} → Transition s r t rs b → EachIn Q (s .log) → Each Q (carried r)
-      → ((a : Action) → List·Memᴰ (action a) rs → Q a) → EachIn Q (t .log)
-  unfolding greenAndNote install exchanged oneMore withState resending withCpc entering leave hold recovered
+      → ((p : List ℕ) → r ≡ request p → Q (madeOf p s)) → EachIn Q (t .log)
+  unfolding greenAndNote install exchanged oneMore withState resending withCpc entering leave recovered
   each-after (L.ignoresState x e) h q f = h
   each-after (L.ignoresCpc k i e) h q f = h
   each-after {s} (L.reddens a e) h q f = each-red a (s .log) (q .0) h
@@ -124,13 +119,13 @@ module _ (Q : Action → Type 0) where
   each-after {s} (L.installsLate a e) h q f =
       subst (EachIn Q) (sym (yellow-log a (install s))) (each-red a _ (q .0) (each-install (s .votes .yellow .ids) (s .log) h))
   each-after {s} (L.exchanges k i a e c) h q f = each-placed i a (s .log) (q .0) h
-  each-after {s} (L.exchangesLast k i a u us e c x) h q f = each-end (exchanged i a s) u us x f (each-placed i a (s .log) (q .0) h)
+  each-after {s} (L.exchangesLast k i a u us e c x) h q f = each-end (exchanged i a s) u us x (each-placed i a (s .log) (q .0) h)
   each-after (L.collects x e c) h q f = h
   each-after (L.collectsLast x e c d) h q f = h
-  each-after {s} (L.collectsWhole x u us e c d y) h q f = each-end (withState x s) u us y f h
+  each-after {s} (L.collectsWhole x u us e c d y) h q f = each-end (withState x s) u us y h
   each-after (L.counts k i e c) h q f = h
   each-after {s} (L.installs k i e c) h q f =
-      each-held (inMode Reg-prim (install (withCpc k s))) f (each-install (s .votes .yellow .ids) (s .log) h)
+      each-waiting (inMode Reg-prim (install (withCpc k s))) (each-install (s .votes .yellow .ids) (s .log) h)
   each-after (L.countsLate k i e c) h q f = h
   each-after (L.countsAllLate k i e c) h q f = h
   each-after (L.joins c e) h q f = h
@@ -138,8 +133,8 @@ module _ (Q : Action → Type 0) where
   each-after (L.joinsUnmarked c e) h q f = h
   each-after (L.joinsYellow c e) h q f = h
   each-after (L.leaves m n x e y) h q f = h
-  each-after {s} (L.sends p c) h q f = each-numbered (p ∷ []) s f h
-  each-after (L.holds p c) h q f = h
+  each-after {s} (L.sends p c) h q f = each-waiting (numbered p s) (each-numbered p s (f p refl) h)
+  each-after {s} (L.numbers p c) h q f = each-numbered p s (f p refl) h
   each-after {s} L.recovers h q f = each-reds (s .log .own) (s .log) (h .own) h
 
   pub each-recovered : (s : Server) → EachIn Q (s .log) → EachIn Q ((recovered s) .log)

@@ -13,17 +13,18 @@ use Rattle.base.proofs.ListLaws.{each-append, each-implied}
 use Rattle.format.specs.Types.{Id, Action, State, Record, action, retransmission, state, cpc, regular, transitional, request, recovery}
 use Rattle.replication.specs.Machine.Types.{Configuration, Log, start}
 use Rattle.replication.specs.Machine.Colours.{find}
+use Rattle.replication.specs.Machine.Requests.{madeOf}
 use Rattle.replication.specs.Machine.WellFormed.{idsIn}
 use Rattle.replication.specs.Images.{started}
 use Rattle.replication.specs.Laws.Images.{OfBoth}
+use Rattle.replication.specs.Laws.Transitions.{Transition}
 use Rattle.replication.specs.Laws.Sending as P
 use Rattle.replication.specs.Laws.Sending.{Own, Resent}
 use Rattle.replication.specs.Runs.Run.{Run, beginning, worldAt}
 use Rattle.replication.specs.Runs.Happenings.{Message, isMessage, Comes}
 use Rattle.replication.specs.Runs.Allowed.{Allowed}
 use Rattle.replication.proofs.Step.Kinds.{part-sent}
-use Rattle.replication.proofs.Step.OwnActions.{own-sent}
-use Rattle.replication.proofs.Step.Sending.{puts-out}
+use Rattle.replication.proofs.Step.OwnActions.{own-sent, request-own}
 use Rattle.replication.proofs.WellFormed.Held.{found-fact}
 use Rattle.replication.proofs.Runs.Places.{world-at-start, of-event}
 use Rattle.replication.proofs.Runs.Numbers.{numbers, invariant-at}
@@ -113,13 +114,13 @@ module _ {n q : ℕ} {l : Run} (A : Allowed n q l) where
   abbrev AllMade : ℕ → Type 0
   AllMade p = (i : ℕ) → OfBoth (λ s. EachIn (Made p) (s .log)) (worldAt n q l p .images i)
 
-  own-made : (p i : ℕ) (x : Acts n q l p i) (a : Action) → List·Memᴰ (action a) (x .by .records) → Made (suc p) a
-  own-made p i x a m = record {
+  own-made : (p i : ℕ) (x : Acts n q l p i) (u : List ℕ) → x .by .event ≡ request u → Made (suc p) (madeOf u (memoryAt n q l p i))
+  own-made p i x u e = record {
     place = p;
     earlier = omega arith;
     server = i;
     act = x;
-    own = subst (λ t. Own (memoryAt n q l p i) t a) (sym (x .memory-next)) (own-sent (puts-out _ (x .moves)) a m .0);
+    own = subst (λ t. Own (memoryAt n q l p i) t (madeOf u (memoryAt n q l p i))) (sym (x .memory-next)) (request-own (subst (λ r. Transition (memoryAt n q l p i) r (x .after) (x .by .records) (x .stores)) e (x .moves)));
   }
 
   each-later : (p r : ℕ) (m : Log) → p ≤ r → EachIn (Made p) m → EachIn (Made r) m
@@ -137,7 +138,9 @@ module _ {n q : ℕ} {l : Run} (A : Allowed n q l) where
   -- What a record put out carries was made.
   put-made : (v k j : ℕ) (c : Configuration) (r : Record) (x : Puts A v k j c r) → EachIn (Made (suc v)) (memoryAt n q l (suc v) k .log)
       → Each (Made (suc v)) (carried r)
-  put-made v k j c (action a) x h = (own-made v k (x .act) a (at-among _ j (action a) (x .record-there)), tt)
+  put-made v k j c (action a) x h =
+      let w = own-sent (puts-by A x) a (puts-among A x) .0 in
+      (each-in (Made (suc v)) _ (subst (λ t. EachIn (Made (suc v)) (t .log)) (x .act .memory-next) h .own) a (w .listed), tt)
   put-made v k j c (retransmission w p a) x h =
       (resent-made (suc v) _ _ _ w p a (subst (λ t. EachIn (Made (suc v)) (t .log)) (x .act .memory-next) h) (part-sent (puts-by A x) w p a (puts-among A x) .planned), tt)
   put-made v k j c (state y) x h = tt

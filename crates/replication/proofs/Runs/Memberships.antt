@@ -13,7 +13,7 @@ use Rattle.replication.specs.Machine.Types.{Mode, Non-prim, Reg-prim, Tr
 use Rattle.replication.specs.Machine.Plan.{planned}
 use Rattle.replication.specs.Machine.Exchange.{quorum}
 use Rattle.replication.specs.Machine.Install.{install}
-use Rattle.replication.specs.Machine.Requests.{numbered, hold, sendHeld, recovered}
+use Rattle.replication.specs.Machine.Requests.{numbered, sendWaiting, recovered}
 use Rattle.replication.specs.Machine.Step.{entering, theSet, hereSet, collected, decided, attempting, withState, allFrom, allStatesIn, plannedNow, resending, oneMore, exchanged, allCome, withCpc, allCpcsIn, leave, greenAndNote}
 use Rattle.replication.specs.Laws.Transitions as L
 use Rattle.replication.specs.Laws.Transitions.{Ends, Leads, Transition}
@@ -106,13 +106,13 @@ pub data MembershipStep (n : ℕ) (m : Membership) : Record → Membership → T
 module _ (s : Server) where
   ended : (r : Record) (t u : Server) (rs : List Record) → Completes (s .servers) (s .membership) r (t .membership) → Ends t u rs
       → MembershipStep (s .servers) (s .membership) r (u .membership)
-  unfolding attempting decided sendHeld numbered collected hereSet
+  unfolding attempting decided sendWaiting numbered collected hereSet
   ended r t u rs h (L.withQuorum q) = attempts _ _ h q
   ended r t u rs h (L.withoutQuorum q) = settles _ _ h q
 
   pub membership-step : {r : Record} {t : Server} {rs : List Record} {b : Bool} → Transition s r t rs b
       → MembershipStep (s .servers) (s .membership) r (t .membership)
-  unfolding isMessage greenAndNote install exchanged oneMore withState resending withCpc sendHeld numbered entering leave hold recovered allStatesIn plannedNow collected hereSet allCome allCpcsIn
+  unfolding isMessage greenAndNote install exchanged oneMore withState resending withCpc sendWaiting numbered entering leave recovered allStatesIn plannedNow collected hereSet allCome allCpcsIn
   membership-step (L.ignoresState x e) = ignores (state x) refl e
   membership-step (L.ignoresCpc k i e) = ignores (cpc k i) refl e
   membership-step (L.reddens a e) = ignores (action a) refl e
@@ -138,5 +138,5 @@ module _ (s : Server) where
   membership-step (L.joinsYellow c e) = joins c Trans-prim e fromTransPrim
   membership-step (L.leaves o u x e y) = leaves o u x e y
   membership-step (L.sends p c) = asks p
-  membership-step (L.holds p c) = asks p
+  membership-step (L.numbers p c) = asks p
   membership-step L.recovers = recovers

@@ -5,7 +5,7 @@ use mathlib.Core.List.{List}
 use Rattle.format.specs.Types.{Record, says}
 use Rattle.replication.specs.Machine.Types.{Server}
 use Rattle.replication.specs.Machine.Install.{install}
-use Rattle.replication.specs.Machine.Requests.{numbered, hold, sendHeld, recovered}
+use Rattle.replication.specs.Machine.Requests.{numbered, sendWaiting, recovered}
 use Rattle.replication.specs.Machine.Step.{entering, decided, attempting, withState, resending, oneMore, exchanged, withCpc, leave, greenAndNote}
 use Rattle.replication.specs.Laws.Transitions as L
 use Rattle.replication.specs.Laws.Transitions.{Ends, Transition}
@@ -17,13 +17,13 @@ abbrev pub placeOf : Server → Place
 placeOf s = record { regular = s .membership .configuration; transitional = s .membership .transitional }
 
 ends-place : {t u : Server} {rs : List Record} → Ends t u rs → placeOf u ≡ placeOf t
-unfolding attempting decided sendHeld numbered
+unfolding attempting decided sendWaiting numbered
 ends-place (L.withQuorum c) = refl
 ends-place (L.withoutQuorum c) = refl
 
 pub transition-place : {s : Server} {r : Record} {t : Server} {rs : List Record} {b : Bool} → Transition s r t rs b
     → placeOf t ≡ moved (says r) (placeOf s)
-unfolding moved nowhere greenAndNote install exchanged oneMore withState resending withCpc sendHeld numbered entering leave hold recovered
+unfolding moved nowhere greenAndNote install exchanged oneMore withState resending withCpc sendWaiting numbered entering leave recovered
 transition-place (L.ignoresState x e) = refl
 transition-place (L.ignoresCpc k j e) = refl
 transition-place (L.reddens a e) = refl
@@ -47,5 +47,5 @@ transition-place (L.joinsUnmarked c e) = refl
 transition-place (L.joinsYellow c e) = refl
 transition-place (L.leaves m o x e y) = refl
 transition-place (L.sends p c) = refl
-transition-place (L.holds p c) = refl
+transition-place (L.numbers p c) = refl
 transition-place L.recovers = refl

@@ -33,6 +33,7 @@ action-sent-in (P.stateOnEntry c e f g n) a m = let h = List·Memᴰ·eq-of-sing
 action-sent-in {t = t} (P.partOfPlan x e f g h i n) a m =
     resent-no-action (t .me) (t .log) (collected t) a (part-resent (t .me) (t .log) (collected t) (action a) (t .servers) m)
 action-sent-in (P.cpcOnAttempt e q f n) a m = let h = List·Memᴰ·eq-of-singleton m in let z : _≡_ {A = ℕ} 0 1 = cc in absurd (omega arith)
-action-sent-in {s} (P.requestAtOnce p e f g n) a m = subst (λ z. (z .mode ≡ Non-prim) ⊎ (z .mode ≡ Reg-prim)) (sym g) (sends-in (s .membership .mode) _ f inl inr)
-action-sent-in (P.heldAfterExchange e q f n) a m = inl f
-action-sent-in (P.heldAfterInstall k i e f g h n) a m = inr h
+action-sent-in {s} (P.requestAtOnce p us e f g n w) a m = subst (λ z. (z .mode ≡ Non-prim) ⊎ (z .mode ≡ Reg-prim)) (sym g) (sends-in (s .membership .mode) _ f inl inr)
+action-sent-in (P.requestWaits p e f n w) a m = absurd (List·Memᴰ·not-nil m)
+action-sent-in (P.waitingAfterExchange us e q f n w) a m = inl f
+action-sent-in (P.waitingAfterInstall k i us e f g h n w) a m = inr h

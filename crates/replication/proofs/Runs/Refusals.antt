@@ -9,7 +9,7 @@ use Rattle.base.specs.Lists.{isThere}
 use Rattle.base.proofs.AtLaws.{none-some}
 use Rattle.format.specs.Types.{Record, regular, transitional, recovery}
 use Rattle.replication.specs.Machine.Types.{Mode, Non-prim, Reg-prim, Trans-prim, Exchange-states, Exchange-actions, Construct, No, Un, Configuration, Server, Outcome, refused}
-use Rattle.replication.specs.Machine.Rules.{Rule, onRegular, onTransitional, ruleFor, regularDue, transitionalDue, possible, isIgnored, fromMember, withinQuota, withinHeld}
+use Rattle.replication.specs.Machine.Rules.{Rule, onRegular, onTransitional, ruleFor, regularDue, transitionalDue, possible, isIgnored, fromMember, withinQuota}
 use Rattle.replication.specs.Machine.Step.{apply, applyRule, answer}
 use Rattle.replication.specs.Laws.Modes.{InRegular}
 use Rattle.replication.proofs.Step.Moves.{Moves, rule-moves}
@@ -35,18 +35,18 @@ or-true false d e = e
 
 -- An event that has a rule in the state and meets no row of the table is taken.
 pub not-refused : (s : Server) (r : Record) (k : Rule) → ruleFor (s .membership .mode) r ≡ some k → possible s r ≡ true
-    → (isIgnored k or fromMember (s .membership) r) ≡ true → withinQuota s r ≡ true → withinHeld s r ≡ true → (z : ℕ) → answer s r ≡ refused z → ⊥
+    → (isIgnored k or fromMember (s .membership) r) ≡ true → withinQuota s r ≡ true → (z : ℕ) → answer s r ≡ refused z → ⊥
 unfolding answer applyRule
-not-refused s r k e a b c d z h = moves-no-refusal s r (apply k s) z (sym f ∙ h) (rule-moves s r k e)
+not-refused s r k e a b c z h = moves-no-refusal s r (apply k s) z (sym f ∙ h) (rule-moves s r k e)
   where
     f : answer s r ≡ apply k s
-    f = ap (λ x. applyRule x s r) e ∙ picked-true _ _ _ a ∙ picked-true _ _ _ b ∙ picked-true _ _ _ c ∙ picked-true _ _ _ d
+    f = ap (λ x. applyRule x s r) e ∙ picked-true _ _ _ a ∙ picked-true _ _ _ b ∙ picked-true _ _ _ c
 
 -- ---- the events of the group layer
 
 pub recovery-taken : (s : Server) (z : ℕ) → answer s recovery ≡ refused z → ⊥
-unfolding ruleFor possible fromMember withinQuota withinHeld isIgnored _or_
-recovery-taken s z h = not-refused s recovery _ refl refl refl refl refl z h
+unfolding ruleFor possible fromMember withinQuota isIgnored _or_
+recovery-taken s z h = not-refused s recovery _ refl refl refl refl z h
 
 regular-ruled : (m : Mode) (c : Option Configuration) (t : Option ℕ) (d : Configuration) → (InRegular c t → ⊥) → Stands m c t
     → (k : Rule) × (onRegular m d ≡ some k)
@@ -69,10 +69,10 @@ due c (some x) f = refl
 -- A regular configuration is taken unless the latest one is regular.
 pub regular-taken : (s : Server) (i x z : ℕ) → Standing s → (InRegular (s .membership .configuration) (s .membership .transitional) → ⊥)
     → answer s (regular i x) ≡ refused z → ⊥
-unfolding ruleFor possible regularDue fromMember withinQuota withinHeld
+unfolding ruleFor possible regularDue fromMember withinQuota
 regular-taken s i x z h f e =
     let k = regular-ruled _ _ _ (record { id = i; set = x }) f h in
-    not-refused s (regular i x) (k .0) (k .1) (due _ _ f) (or-true _ _ refl) refl refl z e
+    not-refused s (regular i x) (k .0) (k .1) (due _ _ f) (or-true _ _ refl) refl z e
 
 transitional-ruled : (m : Mode) (c : Option Configuration) (t : Option ℕ) (x : ℕ) → t ≡ none → Stands m c t → (k : Rule) × (onTransitional m x ≡ some k)
 unfolding onTransitional
@@ -87,7 +87,7 @@ transitional-ruled Un c t x f h = none-some (sym f ∙ h .after)
 
 -- A transitional configuration is taken unless one has come.
 pub transitional-taken : (s : Server) (x z : ℕ) → Standing s → s .membership .transitional ≡ none → answer s (transitional x) ≡ refused z → ⊥
-unfolding ruleFor possible transitionalDue isThere fromMember withinQuota withinHeld
+unfolding ruleFor possible transitionalDue isThere fromMember withinQuota
 transitional-taken s x z h f e =
     let k = transitional-ruled _ _ _ x f h in
-    not-refused s (transitional x) (k .0) (k .1) (ap (λ t. not (isThere t)) f) (or-true _ _ refl) refl refl z e
+    not-refused s (transitional x) (k .0) (k .1) (ap (λ t. not (isThere t)) f) (or-true _ _ refl) refl z e

@@ -13,7 +13,7 @@ use Rattle.format.specs.Types.{Record, regular, transitional, says}
 use Rattle.format.specs.Write.{write}
 use Rattle.replication.specs.Machine.Types.{Mode, Reg-prim, Exchange-states, Exchange-actions, Construct, Configuration, Server}
 use Rattle.replication.specs.Machine.Install.{install}
-use Rattle.replication.specs.Machine.Requests.{inRegular, sendsIn, sendsNow, numbered, sendHeld}
+use Rattle.replication.specs.Machine.Requests.{inRegular, sendsIn, sendsNow, numbered, sendWaiting}
 use Rattle.replication.specs.Machine.Step.{entering, decided, attempting, withState, resending, oneMore, exchanged, withCpc}
 use Rattle.replication.specs.Images.{isRecovery}
 use Rattle.replication.specs.Laws.Modes.{InRegular}
@@ -49,13 +49,13 @@ abbrev Sends : Server → List Record → Type 0
 Sends t rs = (rs ≡ []) ⊎ InRegular (t .membership .configuration) (t .membership .transitional)
 
 ends-regular : {t u : Server} {rs : List Record} → Ends t u rs → InRegular (t .membership .configuration) (t .membership .transitional) → Sends u rs
-unfolding attempting decided sendHeld numbered
+unfolding attempting decided sendWaiting numbered
 ends-regular (L.withQuorum c) h = inr h
 ends-regular (L.withoutQuorum c) h = inr h
 
 pub transition-sends : {s : Server} {r : Record} {t : Server} {rs : List Record} {b : Bool} → Transition s r t rs b → Standing s
     → (rs ≡ []) ⊎ InRegular (t .membership .configuration) (t .membership .transitional)
-unfolding exchanged oneMore withState resending withCpc sendHeld numbered entering sendsNow install
+unfolding exchanged oneMore withState resending withCpc sendWaiting numbered entering sendsNow install
 transition-sends (L.ignoresState x e) h = inl refl
 transition-sends (L.ignoresCpc k j e) h = inl refl
 transition-sends (L.reddens a e) h = inl refl
@@ -79,7 +79,7 @@ transition-sends (L.joinsUnmarked c e) h = inr (record { configuration = c; ther
 transition-sends (L.joinsYellow c e) h = inr (record { configuration = c; there = refl; none-after = refl })
 transition-sends (L.leaves m o x e y) h = inl refl
 transition-sends {s} (L.sends p c) h = inr (sends-regular (s .membership .mode) _ _ c (λ e. standing-in s Reg-prim e h))
-transition-sends (L.holds p c) h = inl refl
+transition-sends (L.numbers p c) h = inl refl
 transition-sends L.recovers h = inl refl
 
 module _ {n q : ℕ} {l : Run} (A : Allowed n q l) where

@@ -1,4 +1,4 @@
--- The control part (last primary, attempt, mark, numbered) changes only in events that store, so memory and store agree on it.
+-- The control part (last primary, attempt, mark, numbered, sent) changes only in events that store, so memory and store agree on it.
 use Prim.Native.Nat.{ℕ}
 use mathlib.Core.Path.{_≡_, refl, ap, _∙_}
 use mathlib.Core.Bool.{false}
@@ -7,53 +7,52 @@ use mathlib.Core.Option.{Option}
 use Rattle.format.specs.Types.{Action, Record}
 use Rattle.replication.specs.Machine.Types.{Server, taken}
 use Rattle.replication.specs.Machine.Colours.{enter, joinYellow, yellow}
-use Rattle.replication.specs.Machine.Requests.{hold}
+use Rattle.replication.specs.Machine.Requests.{numbered}
 use Rattle.replication.specs.Machine.Step.{withState, resending, oneMore, exchanged, withCpc, leave, greenAndNote, step}
 use Rattle.replication.specs.Images.{started, lived}
 use Rattle.replication.specs.Laws.Transitions as L
 use Rattle.replication.specs.Laws.Transitions.{Transition}
-use Rattle.replication.specs.Laws.Order.{SameControl}
+use Rattle.replication.specs.Laws.Order.{SameControl, SameNumbers}
 use Rattle.replication.proofs.Step.Inversion.{taken-by}
 use Rattle.replication.proofs.Step.Moves.{moved}
 use Rattle.replication.proofs.Step.Logs.{yellow-as}
-use Rattle.replication.proofs.Step.Numbered.{numbered-red, numbered-green, numbered-placed}
+use Rattle.replication.proofs.Step.Numbered.{same-numbers, numbers-red, numbers-green, numbers-placed}
 use Rattle.replication.proofs.Step.Lifts.{lived-pair}
 
 -- ---- one event
 
-same : {s t : Server} → t .votes ≡ s .votes → t .log .numbered ≡ s .log .numbered → SameControl s t
-same p q = record { last = ap (λ v. v .last) p; attempt = ap (λ v. v .attempt) p; mark = ap (λ v. v .mark) p; numbered = q }
+pub same : {s t : Server} → t .votes ≡ s .votes → SameNumbers (s .log) (t .log) → SameControl s t
+same p q = record { last = ap (λ v. v .last) p; attempt = ap (λ v. v .attempt) p; mark = ap (λ v. v .mark) p; numbered = q .numbered; sent = q .sent }
 
 pub control-refl : (s : Server) → SameControl s s
-control-refl s = same refl refl
+control-refl s = same refl (same-numbers _)
 
 pub control-trans : {s t u : Server} → SameControl s t → SameControl t u → SameControl s u
-control-trans p q = record { last = q .last ∙ p .last; attempt = q .attempt ∙ p .attempt; mark = q .mark ∙ p .mark; numbered = q .numbered ∙ p .numbered }
+control-trans p q = record { last = q .last ∙ p .last; attempt = q .attempt ∙ p .attempt; mark = q .mark ∙ p .mark; numbered = q .numbered ∙ p .numbered; sent = q .sent ∙ p .sent }
 
 pub control-yellow : (a : Action) (s : Server) → SameControl s (yellow a s)
 unfolding joinYellow enter
-control-yellow a s = yellow-as (SameControl s) a s (λ e. record { last = refl; attempt = refl; mark = refl; numbered = refl }) (λ e. control-refl s)
+control-yellow a s = yellow-as (SameControl s) a s (λ e. record { last = refl; attempt = refl; mark = refl; numbered = refl; sent = refl }) (λ e. control-refl s)
 
 pub yellow-membership : (a : Action) (s : Server) → (yellow a s) .membership ≡ s .membership
 yellow-membership a s = yellow-as (λ t. t .membership ≡ s .membership) a s (λ e. refl) (λ e. refl)
 
 pub unstored-keeps : {s : Server} {r : Record} {t : Server} {rs : List Record} → Transition s r t rs false → SameControl s t
-unfolding greenAndNote exchanged oneMore withState resending withCpc leave hold
+unfolding greenAndNote exchanged oneMore withState resending withCpc leave
 unstored-keeps {s} (L.ignoresState x e) = control-refl s
 unstored-keeps {s} (L.ignoresCpc k i e) = control-refl s
-unstored-keeps {s} (L.reddens a e) = same refl (numbered-red a (s .log))
-unstored-keeps {s} (L.reddensResent k i a e) = same refl (numbered-red a (s .log))
-unstored-keeps {s} (L.reddensInExchange a e) = same refl (numbered-red a (s .log))
-unstored-keeps {s} (L.greens a e) = same refl (numbered-green a (s .log))
+unstored-keeps {s} (L.reddens a e) = same refl (numbers-red a (s .log))
+unstored-keeps {s} (L.reddensResent k i a e) = same refl (numbers-red a (s .log))
+unstored-keeps {s} (L.reddensInExchange a e) = same refl (numbers-red a (s .log))
+unstored-keeps {s} (L.greens a e) = same refl (numbers-green a (s .log))
 unstored-keeps {s} (L.yellows a e) = control-yellow a s
-unstored-keeps {s} (L.exchanges k i a e c) = same refl (numbered-placed i a (s .log))
-unstored-keeps {s} (L.collects x e c) = same refl refl
-unstored-keeps {s} (L.collectsLast x e c d) = same refl refl
-unstored-keeps {s} (L.counts k i e c) = same refl refl
-unstored-keeps {s} (L.countsLate k i e c) = same refl refl
-unstored-keeps {s} (L.countsAllLate k i e c) = same refl refl
-unstored-keeps {s} (L.leaves m n x e q) = same refl refl
-unstored-keeps {s} (L.holds q c) = same refl refl
+unstored-keeps {s} (L.exchanges k i a e c) = same refl (numbers-placed i a (s .log))
+unstored-keeps {s} (L.collects x e c) = same refl (same-numbers _)
+unstored-keeps {s} (L.collectsLast x e c d) = same refl (same-numbers _)
+unstored-keeps {s} (L.counts k i e c) = same refl (same-numbers _)
+unstored-keeps {s} (L.countsLate k i e c) = same refl (same-numbers _)
+unstored-keeps {s} (L.countsAllLate k i e c) = same refl (same-numbers _)
+unstored-keeps {s} (L.leaves m n x e q) = same refl (same-numbers _)
 
 -- An event that does not store leaves the control part.
 pub unstored-control : (s : Server) (e : List ℕ) (t : Server) (bs : List (List ℕ)) (g : List Action) → step s e ≡ taken t bs false g → SameControl s t

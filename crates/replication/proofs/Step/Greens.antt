@@ -10,7 +10,7 @@ use Rattle.format.specs.Types.{Action, Record, retransmission}
 use Rattle.replication.specs.Machine.Types.{Exchange-actions, Log, Server}
 use Rattle.replication.specs.Machine.Colours.{isNext, enter, red, reds, green, yellow}
 use Rattle.replication.specs.Machine.Install.{install}
-use Rattle.replication.specs.Machine.Requests.{numbered, hold, sendHeld, recovered}
+use Rattle.replication.specs.Machine.Requests.{numbered, sendWaiting, recovered}
 use Rattle.replication.specs.Machine.Step.{entering, decided, attempting, withState, resending, placed, oneMore, exchanged, withCpc, leave, greenAndNote}
 use Rattle.replication.specs.Laws.Transitions as L
 use Rattle.replication.specs.Laws.Transitions.{Ends, Transition}
@@ -57,12 +57,12 @@ module _ (s : Server) where
       go (elsewhere f) = unchanged (g ∙ f)
 
   end-green : (t u : Server) (rs : List Record) → Ends t u rs → u .log .green ≡ t .log .green
-  unfolding attempting decided sendHeld numbered
+  unfolding attempting decided sendWaiting numbered
   end-green t u rs (L.withQuorum q) = refl
   end-green t u rs (L.withoutQuorum q) = refl
 
   pub green-changes : {r : Record} {t : Server} {rs : List Record} {b : Bool} → Transition s r t rs b → GreenChange s r t
-  unfolding greenAndNote install exchanged oneMore withState resending withCpc sendHeld numbered entering leave hold recovered
+  unfolding greenAndNote install exchanged oneMore withState resending withCpc sendWaiting numbered entering leave recovered
   green-changes (L.ignoresState x e) = unchanged refl
   green-changes (L.ignoresCpc k i e) = unchanged refl
   green-changes (L.reddens a e) = unchanged (red-green a (s .log))
@@ -86,5 +86,5 @@ module _ (s : Server) where
   green-changes (L.joinsYellow c e) = unchanged refl
   green-changes (L.leaves m n x e q) = unchanged refl
   green-changes (L.sends q c) = unchanged refl
-  green-changes (L.holds q c) = unchanged refl
+  green-changes (L.numbers q c) = unchanged refl
   green-changes L.recovers = unchanged (reds-green (s .log .own) (s .log))

@@ -7,7 +7,7 @@ use mathlib.Core.Option.{some}
 use native.Mathlib.Omega.{arith}
 use Rattle.base.proofs.Prefixes.{begins-refl, begins-trans, begins-more, begins-gained, set-rises}
 use Rattle.format.specs.Types.{Id, Action, Record}
-use Rattle.replication.specs.Machine.Types.{Log, Server, taken, withOwn}
+use Rattle.replication.specs.Machine.Types.{Log, Server, taken, withOwn, withSent}
 use Rattle.replication.specs.Machine.Colours.{find, cut, isNext, enter, red, promote, green}
 use Rattle.replication.specs.Machine.Step.{greened, step}
 use Rattle.replication.specs.Laws.Transitions.{Transition}
@@ -34,9 +34,13 @@ grows-promote : (l : Log) (d : Id) (x : Action) (m : Log) → find d (m .red) �
 unfolding promote cut
 grows-promote l d x m e p = record { greens = begins-more _ _ (x ∷ []) (p .greens); cuts = p .cuts; numbers = p .numbers }
 
-grows-own : (l : Log) (more : List Action) (k : ℕ) (m : Log) → Grows l m → Grows l (withOwn more k m)
+grows-own : (l : Log) (a : Action) (m : Log) → Grows l m → Grows l (withOwn a m)
 unfolding cut
-grows-own l more k m p = record { greens = p .greens; cuts = p .cuts; numbers = omega (arith, p .numbers) }
+grows-own l a m p = record { greens = p .greens; cuts = p .cuts; numbers = omega (arith, p .numbers) }
+
+grows-sent : (l : Log) (k : ℕ) (m : Log) → Grows l m → Grows l (withSent k m)
+unfolding cut
+grows-sent l k m p = record { greens = p .greens; cuts = p .cuts; numbers = p .numbers }
 
 pub red-grows : (a : Action) (l : Log) → Grows l (red a l)
 red-grows a l = on-red (Grows l) (grows-enter l) (grows-promote l) a l (grows-refl l)
@@ -46,7 +50,7 @@ green-grows a l = on-green (Grows l) (grows-enter l) (grows-promote l) a l (grow
 
 pub transition-grows : {s : Server} {r : Record} {t : Server} {rs : List Record} {b : Bool} → Transition s r t rs b → Grows (s .log) (t .log)
 transition-grows {s} {r} {t} {rs} {b} x =
-    on-transition (Grows (s .log)) (grows-enter (s .log)) (grows-promote (s .log)) (grows-own (s .log)) s r t rs b x (grows-refl (s .log))
+    on-transition (Grows (s .log)) (grows-enter (s .log)) (grows-promote (s .log)) (grows-own (s .log)) (grows-sent (s .log)) s r t rs b x (grows-refl (s .log))
 
 pub taken-grows : (s : Server) (e : List ℕ) (t : Server) (bs : List (List ℕ)) (b : Bool) (g : List Action) → step s e ≡ taken t bs b g → Grows (s .log) (t .log)
 taken-grows s e t bs b g h = transition-grows (moved (taken-by s e t bs b g h) .0)

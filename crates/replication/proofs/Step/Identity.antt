@@ -8,7 +8,7 @@ use Rattle.format.specs.Types.{Action, Record}
 use Rattle.replication.specs.Machine.Types.{Server}
 use Rattle.replication.specs.Machine.Colours.{yellow}
 use Rattle.replication.specs.Machine.Install.{install}
-use Rattle.replication.specs.Machine.Requests.{numbered, hold, sendHeld, recovered}
+use Rattle.replication.specs.Machine.Requests.{numbered, sendWaiting, recovered}
 use Rattle.replication.specs.Machine.Step.{entering, decided, attempting, withState, resending, oneMore, exchanged, withCpc, leave, greenAndNote}
 use Rattle.replication.specs.Images.{started, lived}
 use Rattle.replication.specs.Laws.Transitions as L
@@ -28,12 +28,12 @@ same-yellow a s = yellow-as (SameServer s) a s (λ e. same refl refl refl) (λ e
 
 module _ (s : Server) where
   end-same : (t u : Server) (rs : List Record) → SameServer s t → Ends t u rs → SameServer s u
-  unfolding attempting decided sendHeld numbered
+  unfolding attempting decided sendWaiting numbered
   end-same t u rs p (L.withQuorum q) = same (p .servers) (p .quota) (p .me)
   end-same t u rs p (L.withoutQuorum q) = same (p .servers) (p .quota) (p .me)
 
   pub identity-kept : {r : Record} {t : Server} {rs : List Record} {b : Bool} → Transition s r t rs b → SameServer s t
-  unfolding greenAndNote install exchanged oneMore withState resending withCpc sendHeld numbered entering leave hold recovered
+  unfolding greenAndNote install exchanged oneMore withState resending withCpc sendWaiting numbered entering leave recovered
   identity-kept (L.ignoresState x e) = same refl refl refl
   identity-kept (L.ignoresCpc k i e) = same refl refl refl
   identity-kept (L.reddens a e) = same refl refl refl
@@ -57,7 +57,7 @@ module _ (s : Server) where
   identity-kept (L.joinsYellow c e) = same refl refl refl
   identity-kept (L.leaves m n x e q) = same refl refl refl
   identity-kept (L.sends q c) = same refl refl refl
-  identity-kept (L.holds q c) = same refl refl refl
+  identity-kept (L.numbers q c) = same refl refl refl
   identity-kept L.recovers = same refl refl refl
 
 -- Every image of a server has the start's n, q and number.

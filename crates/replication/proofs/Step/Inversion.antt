@@ -10,7 +10,7 @@ use Rattle.format.specs.Types.{Action, Record, Reading, says}
 use Rattle.format.specs.Read.{read}
 use Rattle.format.specs.Write.{write}
 use Rattle.replication.specs.Machine.Types.{Server, Outcome, refused, taken, contextOf}
-use Rattle.replication.specs.Machine.Rules.{Rule, ruleFor, possible, fromMember, isIgnored, withinQuota, withinHeld}
+use Rattle.replication.specs.Machine.Rules.{Rule, ruleFor, possible, fromMember, isIgnored, withinQuota}
 use Rattle.replication.specs.Machine.Step.{applyRule, answer, onReading, inBytes, step}
 use Rattle.replication.specs.Laws.Transitions.{TakenBy}
 
@@ -40,8 +40,7 @@ module _ (s : Server) (e : List ℕ) (t : Server) (bs : List (List ℕ)) (b : Bo
       let x = passed (possible s r) _ 5 t rs b g h in
       let y = passed (isIgnored k or fromMember (s .membership) r) _ 6 t rs b g (x .1) in
       let z = passed (withinQuota s r) _ 3 t rs b g (y .1) in
-      let u = passed (withinHeld s r) _ 4 t rs b g (z .1) in
-      record { event = r; rule = k; records = rs; reads = p; ruled = q; can = x .0; member = y .0; quota = z .0; room = u .0; applied = u .1; written = w }
+      record { event = r; rule = k; records = rs; reads = p; ruled = q; can = x .0; member = y .0; quota = z .0; applied = z .1; written = w }
 
   by-reading : (x : Reading Record) → read (contextOf s) e ≡ x → inBytes (onReading s x) ≡ taken t bs b g → TakenBy s e t bs b g
   unfolding onReading answer

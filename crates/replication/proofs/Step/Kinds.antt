@@ -2,13 +2,14 @@
 use Prim.Native.Nat.{ℕ}
 use mathlib.Core.Path.{_≡_, refl, sym, ap}
 use mathlib.Core.Bool.{Bool}
-use mathlib.Core.List.{List, [], _∷_, map, List·Memᴰ, List·Memᴰ·not-nil, List·Memᴰ·eq-of-singleton, Memᴰ·of-map}
+use mathlib.Core.List.{List, [], _∷_, List·Memᴰ, List·Memᴰ·not-nil, List·Memᴰ·eq-of-singleton, Memᴰ·of-map}
 use native.Mathlib.Omega.{arith}
 use Rattle.format.specs.Types.{Action, State, Record, action, retransmission, state, cpc, kindNumber, kindOf}
 use Rattle.replication.specs.Machine.Types.{Log, Server}
+use Rattle.replication.specs.Machine.Requests.{unsent}
 use Rattle.replication.specs.Machine.Step.{collected}
 use Rattle.replication.specs.Laws.Sending as P
-use Rattle.replication.specs.Laws.Sending.{made, PutsOut, Resent}
+use Rattle.replication.specs.Laws.Sending.{SendsWaiting, PutsOut, Resent}
 use Rattle.replication.specs.Laws.Kinds.{StateSent, PartSent, CpcSent}
 use Rattle.replication.proofs.Step.Parts.{part-resent}
 
@@ -16,9 +17,11 @@ use Rattle.replication.proofs.Step.Parts.{part-resent}
 other-kind : {X : Type 0} (x y : Record) → x ≡ y → (kindNumber (kindOf x) ≡ kindNumber (kindOf y) → ⊥) → X
 other-kind x y e n = absurd (n (ap (λ r. kindNumber (kindOf r)) e))
 
-not-made : {X : Type 0} (s t : Server) (ps : List (List ℕ)) (x : Record) → List·Memᴰ x (map action (made s t ps)) → (kindNumber (kindOf x) ≡ 1 → ⊥) → X
+not-waiting : {X : Type 0} (s t : Server) (rs : List Record) (x : Record) → SendsWaiting s t rs → List·Memᴰ x rs → (kindNumber (kindOf x) ≡ 1 → ⊥) → X
 unfolding kindNumber kindOf
-not-made s t ps x m n = let k = Memᴰ·of-map action (made s t ps) m in other-kind x (action (k .0)) (sym (k .2)) n
+not-waiting s t rs x w m n =
+    let k = Memᴰ·of-map action (unsent (s .log .sent) (t .log .own)) (rw (w .records) at m) in
+    other-kind x (action (k .0)) (sym (k .2)) n
 
 resent-kind : (me : ℕ) (l : Log) (xs : List State) (x : Record) → Resent me l xs x → kindNumber (kindOf x) ≡ 2
 unfolding kindNumber kindOf
@@ -37,9 +40,10 @@ module _ {s : Server} {r : Record} {t : Server} where
       record { entered = c; brought = e; there = g; to = f; says = cc; alone = ap (λ y. y ∷ []) (sym h); stored = refl }
   state-sent (P.partOfPlan y e f g h i n) x m = not-resent t (state x) (part-resent (t .me) (t .log) (collected t) (state x) (t .servers) m) (λ z. omega arith)
   state-sent (P.cpcOnAttempt e q f n) x m = other-kind (state x) _ (List·Memᴰ·eq-of-singleton m) (λ z. omega arith)
-  state-sent (P.requestAtOnce p e f g n) x m = not-made s t (p ∷ []) (state x) m (λ z. omega arith)
-  state-sent (P.heldAfterExchange e q f n) x m = not-made s t (s .held) (state x) m (λ z. omega arith)
-  state-sent (P.heldAfterInstall k i e f g h n) x m = not-made s t (s .held) (state x) m (λ z. omega arith)
+  state-sent (P.requestAtOnce o us e f g n w) x m = not-waiting s t us (state x) w m (λ z. omega arith)
+  state-sent (P.requestWaits o e f n w) x m = absurd (List·Memᴰ·not-nil m)
+  state-sent (P.waitingAfterExchange us e q f n w) x m = not-waiting s t us (state x) w m (λ z. omega arith)
+  state-sent (P.waitingAfterInstall j l us e f g h n w) x m = not-waiting s t us (state x) w m (λ z. omega arith)
 
   pub part-sent : {rs : List Record} {b : Bool} → PutsOut s r t rs b → (k p : ℕ) (a : Action) → List·Memᴰ (retransmission k p a) rs
       → PartSent s r t rs b (retransmission k p a)
@@ -49,9 +53,10 @@ module _ {s : Server} {r : Record} {t : Server} where
   part-sent (P.partOfPlan y e f g h i n) k p a m =
       record { last = y; brought = e; from = f; to = g; complete = h; whole = refl; planned = part-resent (t .me) (t .log) (collected t) _ (t .servers) m; unstored = refl }
   part-sent (P.cpcOnAttempt e q f n) k p a m = other-kind (retransmission k p a) _ (List·Memᴰ·eq-of-singleton m) (λ z. omega arith)
-  part-sent (P.requestAtOnce q e f g n) k p a m = not-made s t (q ∷ []) (retransmission k p a) m (λ z. omega arith)
-  part-sent (P.heldAfterExchange e q f n) k p a m = not-made s t (s .held) (retransmission k p a) m (λ z. omega arith)
-  part-sent (P.heldAfterInstall j i e f g h n) k p a m = not-made s t (s .held) (retransmission k p a) m (λ z. omega arith)
+  part-sent (P.requestAtOnce o us e f g n w) k p a m = not-waiting s t us (retransmission k p a) w m (λ z. omega arith)
+  part-sent (P.requestWaits o e f n w) k p a m = absurd (List·Memᴰ·not-nil m)
+  part-sent (P.waitingAfterExchange us e q f n w) k p a m = not-waiting s t us (retransmission k p a) w m (λ z. omega arith)
+  part-sent (P.waitingAfterInstall j l us e f g h n w) k p a m = not-waiting s t us (retransmission k p a) w m (λ z. omega arith)
 
   pub cpc-sent : {rs : List Record} {b : Bool} → PutsOut s r t rs b → (k i : ℕ) → List·Memᴰ (cpc k i) rs → CpcSent s r t rs b k i
   unfolding kindNumber kindOf
@@ -61,6 +66,7 @@ module _ {s : Server} {r : Record} {t : Server} where
   cpc-sent (P.cpcOnAttempt e q f n) k i m =
       let h = List·Memᴰ·eq-of-singleton m in
       record { ended = e; agreed = q; to = f; sender = cc; configuration = cc; alone = ap (λ y. y ∷ []) (sym h); stored = refl }
-  cpc-sent (P.requestAtOnce p e f g n) k i m = not-made s t (p ∷ []) (cpc k i) m (λ z. omega arith)
-  cpc-sent (P.heldAfterExchange e q f n) k i m = not-made s t (s .held) (cpc k i) m (λ z. omega arith)
-  cpc-sent (P.heldAfterInstall j l e f g h n) k i m = not-made s t (s .held) (cpc k i) m (λ z. omega arith)
+  cpc-sent (P.requestAtOnce o us e f g n w) k i m = not-waiting s t us (cpc k i) w m (λ z. omega arith)
+  cpc-sent (P.requestWaits o e f n w) k i m = absurd (List·Memᴰ·not-nil m)
+  cpc-sent (P.waitingAfterExchange us e q f n w) k i m = not-waiting s t us (cpc k i) w m (λ z. omega arith)
+  cpc-sent (P.waitingAfterInstall j l us e f g h n w) k i m = not-waiting s t us (cpc k i) w m (λ z. omega arith)

@@ -8,10 +8,10 @@ use lib.ListN.{length}
 use Rattle.base.specs.Tests.{_and_, _=?_, _≤?_, pick}
 use Rattle.base.proofs.TestLaws.{pick-as, eq-holds, Known, holds, fails, known}
 use Rattle.format.specs.Types.{Id, Action, Record}
-use Rattle.replication.specs.Machine.Types.{Log, Server, withLog, withVotes, withOwn}
+use Rattle.replication.specs.Machine.Types.{Log, Server, withLog, withVotes, withOwn, withSent}
 use Rattle.replication.specs.Machine.Colours.{find, cut, nextIndex, isNext, enter, red, reds, promote, promoteFound, greenId, greenIds, green, joinYellow, yellow}
 use Rattle.replication.specs.Machine.Install.{installLog, install}
-use Rattle.replication.specs.Machine.Requests.{numbered, madeOf, hold, sendHeld, recovered}
+use Rattle.replication.specs.Machine.Requests.{numbered, madeOf, sendWaiting, recovered}
 use Rattle.replication.specs.Machine.Step.{entering, decided, attempting, withState, resending, placed, oneMore, exchanged, withCpc, leave, greenAndNote}
 use Rattle.replication.specs.Laws.Transitions as L
 use Rattle.replication.specs.Laws.Transitions.{Ends, Transition}
@@ -91,18 +91,22 @@ module _ (P : Log → Type 0)
     pub on-placed : (k : ℕ) (a : Action) (l : Log) → P l → P (placed k a l)
     on-placed k a l p = placed-as P k a l (on-green a l p) p (on-red a l p)
 
-    module _ (on-own : (more : List Action) (k : ℕ) (l : Log) → P l → P (withOwn more k l)) where
-      pub on-numbered : (ps : List (List ℕ)) (s : Server) → P (s .log) → P ((numbered ps s) .log)
-      unfolding numbered
-      on-numbered ps s p = on-own (madeOf ps s) (length ps) (s .log) p
+    module _ (on-own : (a : Action) (l : Log) → P l → P (withOwn a l)) (on-sent : (k : ℕ) (l : Log) → P l → P (withSent k l)) where
+      pub on-numbered : (p : List ℕ) (s : Server) → P (s .log) → P ((numbered p s) .log)
+      unfolding numbered sendWaiting
+      on-numbered p s h = on-own (madeOf p s) (s .log) h
+
+      pub on-waiting : (s : Server) → P (s .log) → P ((sendWaiting s) .log)
+      unfolding sendWaiting
+      on-waiting s h = on-sent (s .log .numbered) (s .log) h
 
       on-end : (t u : Server) (rs : List Record) → Ends t u rs → P (t .log) → P (u .log)
-      unfolding attempting decided sendHeld
+      unfolding attempting decided
       on-end t u rs (L.withQuorum q) p = p
-      on-end t u rs (L.withoutQuorum q) p = on-numbered (t .held) _ p
+      on-end t u rs (L.withoutQuorum q) p = on-waiting _ p
 
       pub on-transition : (s : Server) (r : Record) (t : Server) (rs : List Record) (b : Bool) → Transition s r t rs b → P (s .log) → P (t .log)
-      unfolding greenAndNote install exchanged oneMore withState resending withCpc sendHeld entering leave hold recovered
+      unfolding greenAndNote install exchanged oneMore withState resending withCpc entering leave recovered
       on-transition s r t rs b (L.ignoresState x e) p = p
       on-transition s r t rs b (L.ignoresCpc k i e) p = p
       on-transition s r t rs b (L.reddens a e) p = on-red a (s .log) p
@@ -117,7 +121,7 @@ module _ (P : Log → Type 0)
       on-transition s r t rs b (L.collectsLast x e c d) p = p
       on-transition s r t rs b (L.collectsWhole x u us e c d y) p = on-end (withState x s) u us y p
       on-transition s r t rs b (L.counts k i e c) p = p
-      on-transition s r t rs b (L.installs k i e c) p = on-numbered (s .held) _ (on-install (s .votes .yellow .ids) (s .log) p)
+      on-transition s r t rs b (L.installs k i e c) p = on-waiting _ (on-install (s .votes .yellow .ids) (s .log) p)
       on-transition s r t rs b (L.countsLate k i e c) p = p
       on-transition s r t rs b (L.countsAllLate k i e c) p = p
       on-transition s r t rs b (L.joins c e) p = p
@@ -125,6 +129,6 @@ module _ (P : Log → Type 0)
       on-transition s r t rs b (L.joinsUnmarked c e) p = p
       on-transition s r t rs b (L.joinsYellow c e) p = p
       on-transition s r t rs b (L.leaves m n x e q) p = p
-      on-transition s r t rs b (L.sends q c) p = on-numbered (q ∷ []) s p
-      on-transition s r t rs b (L.holds q c) p = p
+      on-transition s r t rs b (L.sends q c) p = on-waiting (numbered q s) (on-numbered q s p)
+      on-transition s r t rs b (L.numbers q c) p = on-numbered q s p
       on-transition s r t rs b L.recovers p = on-reds (s .log .own) (s .log) p

@@ -7,7 +7,7 @@ use Rattle.format.specs.Types.{Action, Yellow, Record}
 use Rattle.replication.specs.Machine.Types.{Mode, Non-prim, Reg-prim, Trans-prim, Exchange-states, Exchange-actions, Server, noYellow}
 use Rattle.replication.specs.Machine.Colours.{yellow}
 use Rattle.replication.specs.Machine.Install.{installLog, install, installVotes}
-use Rattle.replication.specs.Machine.Requests.{numbered, hold, sendHeld, recovered}
+use Rattle.replication.specs.Machine.Requests.{numbered, sendWaiting, recovered}
 use Rattle.replication.specs.Machine.Step.{decided, attempting, withState, resending, oneMore, exchanged, withCpc, entering, leave, greenAndNote}
 use Rattle.replication.specs.Machine.WellFormed.{wellFormed}
 use Rattle.replication.specs.Laws.Transitions as L
@@ -54,12 +54,12 @@ module _ (s : Server) (formed : wellFormed s ≡ true) where
   back m y l e p = subst (λ n. ColourFacts n y l) (sym e) p
 
   end-colours : (t u : Server) (rs : List Record) → Ends t u rs → ColourFactsOf u
-  unfolding attempting decided sendHeld numbered
+  unfolding attempting decided sendWaiting numbered
   end-colours t u rs (L.withQuorum q) = tt
   end-colours t u rs (L.withoutQuorum q) = tt
 
   pub colour-facts-kept : {r : Record} {t : Server} {rs : List Record} {b : Bool} → Transition s r t rs b → ColourFactsOf s → ColourFactsOf t
-  unfolding greenAndNote install installVotes noYellow exchanged oneMore withState resending withCpc sendHeld numbered entering leave hold recovered
+  unfolding greenAndNote install installVotes noYellow exchanged oneMore withState resending withCpc sendWaiting numbered entering leave recovered
   colour-facts-kept (L.ignoresState x e) p = p
   colour-facts-kept (L.ignoresCpc k i e) p = p
   colour-facts-kept (L.reddens a e) p = back Non-prim _ _ e tt
@@ -86,5 +86,5 @@ module _ (s : Server) (formed : wellFormed s ≡ true) where
   colour-facts-kept (L.joinsYellow c e) p = tt
   colour-facts-kept (L.leaves m n x e q) p = leads-colours (s .votes .yellow) (s .log .red) q (at m e p)
   colour-facts-kept (L.sends q c) p = p
-  colour-facts-kept (L.holds q c) p = p
+  colour-facts-kept (L.numbers q c) p = p
   colour-facts-kept L.recovers p = tt

@@ -11,7 +11,7 @@ use Rattle.replication.specs.Machine.Types.{Mode, Trans-prim, Exchange-s
 use Rattle.replication.specs.Machine.Colours.{yellow}
 use Rattle.replication.specs.Machine.Exchange.{isValid, updatedGroup, commonYellow, takenYellow, takenVotes, attempted}
 use Rattle.replication.specs.Machine.Install.{install, installVotes}
-use Rattle.replication.specs.Machine.Requests.{numbered, hold, sendHeld, recovered}
+use Rattle.replication.specs.Machine.Requests.{numbered, sendWaiting, recovered}
 use Rattle.replication.specs.Machine.Step as M
 use Rattle.replication.specs.Machine.Step.{theSet, hereSet, collected, decided}
 use Rattle.replication.specs.Images.{started, lived}
@@ -75,13 +75,13 @@ module _ (s : Server) where
 
   end-facts : (t u : Server) (rs : List Record) → t .membership .configuration ≡ s .membership .configuration → t .membership .transitional ≡ s .membership .transitional
       → InRegular (s .membership .configuration) (s .membership .transitional) → Ends t u rs → ModeFactsOf u
-  unfolding M.attempting decided sendHeld numbered hereSet
+  unfolding M.attempting decided sendWaiting numbered hereSet
   end-facts t u rs e f p (L.withQuorum q) =
       (record { configuration = p .configuration; there = e ∙ p .there; none-after = f ∙ p .none-after }, attempt-marked (t .me) _ _ (collected t) refl)
   end-facts t u rs e f p (L.withoutQuorum q) = tt
 
   pub mode-facts-kept : {r : Record} {t : Server} {rs : List Record} {b : Bool} → Transition s r t rs b → ModeFactsOf s → ModeFactsOf t
-  unfolding M.greenAndNote install M.exchanged M.oneMore M.withState M.resending M.withCpc sendHeld numbered M.entering M.leave hold recovered
+  unfolding M.greenAndNote install M.exchanged M.oneMore M.withState M.resending M.withCpc sendWaiting numbered M.entering M.leave recovered
   mode-facts-kept (L.ignoresState x e) p = p
   mode-facts-kept (L.ignoresCpc k i e) p = p
   mode-facts-kept (L.reddens a e) p = p
@@ -110,7 +110,7 @@ module _ (s : Server) where
   mode-facts-kept (L.joinsYellow c e) p = record { configuration = c; there = refl; none-after = refl }
   mode-facts-kept (L.leaves m n x e q) p = leads-kept (s .votes) (s .membership .configuration) (s .membership .transitional) x q (at m e p)
   mode-facts-kept (L.sends q c) p = p
-  mode-facts-kept (L.holds q c) p = p
+  mode-facts-kept (L.numbers q c) p = p
   mode-facts-kept L.recovers p = tt
 
 -- ---- over a run

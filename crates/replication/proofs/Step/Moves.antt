@@ -111,7 +111,7 @@ module _ (s : Server) where
   by-record (cpc k i) = on-cpc _ refl k i
   by-record (regular i x) = on-regular _ refl i x
   by-record (transitional x) = on-transitional _ refl x
-  by-record (request p) = pick-as (Moves s (request p)) (sendsNow (s .membership)) _ _ (λ c. (L.sends p c, refl)) (λ c. (L.holds p c, refl))
+  by-record (request p) = pick-as (Moves s (request p)) (sendsNow (s .membership)) _ _ (λ c. (L.sends p c, refl)) (λ c. (L.numbers p c, refl))
   by-record recovery = (L.recovers, refl)
 
 -- A rule that a record takes is never a refusal.

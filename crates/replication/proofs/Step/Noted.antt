@@ -11,7 +11,7 @@ use Rattle.replication.specs.Machine.Types.{Server, taken}
 use Rattle.replication.specs.Machine.Colours.{yellow, note}
 use Rattle.replication.specs.Machine.Exchange.{noteAll}
 use Rattle.replication.specs.Machine.Install.{install}
-use Rattle.replication.specs.Machine.Requests.{numbered, hold, sendHeld, recovered}
+use Rattle.replication.specs.Machine.Requests.{numbered, sendWaiting, recovered}
 use Rattle.replication.specs.Machine.Step.{entering, collected, decided, attempting, withState, resending, oneMore, exchanged, withCpc, leave, greenAndNote, step}
 use Rattle.replication.specs.Runs.Noted.{NotedRise}
 use Rattle.replication.specs.Laws.Transitions as L
@@ -49,7 +49,7 @@ module _ (s : Server) where
   same t e = λ c. omega (arith, ap (λ l. getD l c 0) e)
 
   end-rises : (t u : Server) (rs : List Record) → t .noted ≡ s .noted → Ends t u rs → NotedRise s u
-  unfolding NotedRise attempting decided sendHeld numbered
+  unfolding NotedRise attempting decided sendWaiting numbered
   end-rises t u rs e (L.withQuorum q) = λ c. omega (arith, ap (λ l. getD l c 0) e, note-all-rises (collected t) (t .noted) c)
   end-rises t u rs e (L.withoutQuorum q) = λ c. omega (arith, ap (λ l. getD l c 0) e, note-all-rises (collected t) (t .noted) c)
 
@@ -58,7 +58,7 @@ module _ (s : Server) where
   green-rises a = λ c. note-rises (a .id .creator) (a .greenLength) (s .noted) c
 
   pub transition-rises : {r : Record} {t : Server} {rs : List Record} {b : Bool} → Transition s r t rs b → NotedRise s t
-  unfolding install exchanged oneMore withState resending withCpc sendHeld numbered entering leave hold recovered
+  unfolding install exchanged oneMore withState resending withCpc sendWaiting numbered entering leave recovered
   transition-rises (L.ignoresState x e) = same _ refl
   transition-rises (L.ignoresCpc k i e) = same _ refl
   transition-rises (L.reddens a e) = same _ refl
@@ -82,7 +82,7 @@ module _ (s : Server) where
   transition-rises (L.joinsYellow c e) = same _ refl
   transition-rises (L.leaves m n x e q) = same _ refl
   transition-rises (L.sends q c) = same _ refl
-  transition-rises (L.holds q c) = same _ refl
+  transition-rises (L.numbers q c) = same _ refl
   transition-rises L.recovers = same _ refl
 
 pub taken-rises : (s : Server) (e : List ℕ) (t : Server) (bs : List (List ℕ)) (b : Bool) (g : List Action) → step s e ≡ taken t bs b g → NotedRise s t

@@ -7,7 +7,7 @@ use Rattle.base.specs.Tests.{_=?_}
 use Rattle.base.proofs.TestLaws.{eq-fails, not-both}
 use Rattle.format.specs.Types.{Record}
 use Rattle.replication.specs.Machine.Types.{Mode, Non-prim, Reg-prim, Trans-prim, Exchange-states, Exchange-actions, Construct, No, Un, Server}
-use Rattle.replication.specs.Machine.Requests.{sendsIn, sendsNow, numbered, hold}
+use Rattle.replication.specs.Machine.Requests.{sendsIn, sendsNow, numbered, sendWaiting}
 use Rattle.replication.specs.Machine.Step.{entering, leave, greenAndNote}
 use Rattle.replication.specs.Laws.Transitions as L
 use Rattle.replication.specs.Laws.Transitions.{Leads, Transition}
@@ -42,7 +42,7 @@ module _ (s : Server) (here : s .membership .mode ≡ Reg-prim) (colours : Colou
   leads-regular r m n x q e L.interruptsConstruct = not-here Construct e refl
 
   pub regular-step : {r : Record} {t : Server} {rs : List Record} {b : Bool} → Transition s r t rs b → RegularStep s r t
-  unfolding modeNumber _=?_ greenAndNote numbered entered cutsAfter sendsNow
+  unfolding modeNumber _=?_ greenAndNote numbered entered cutsAfter sendsNow sendWaiting
   regular-step (L.ignoresState x e) = not-here Non-prim e refl
   regular-step (L.ignoresCpc k i e) = not-here Non-prim e refl
   regular-step (L.reddens a e) = not-here Non-prim e refl
@@ -66,7 +66,7 @@ module _ (s : Server) (here : s .membership .mode ≡ Reg-prim) (colours : Colou
   regular-step (L.joinsYellow c e) = not-here Trans-prim e refl
   regular-step (L.leaves m n x e q) = leads-regular _ m n x refl e q
   regular-step (L.sends q c) = S.RegularStep.sends q refl refl refl (record { green = sym (append-nil _); red = no-red; cuts = refl })
-  regular-step (L.holds q c) = not-both (sym c ∙ regular-sends _ _ here)
+  regular-step (L.numbers q c) = not-both (sym c ∙ regular-sends _ _ here)
   regular-step L.recovers = S.RegularStep.recovers refl
 
 -- ---- Trans_prim
@@ -85,7 +85,7 @@ module _ (s : Server) (here : s .membership .mode ≡ Trans-prim) where
   leads-ending m n e L.interruptsConstruct = not-there Construct e refl
 
   pub transitional-step : {r : Record} {t : Server} {rs : List Record} {b : Bool} → Transition s r t rs b → TransitionalStep s r t
-  unfolding modeNumber _=?_ hold entering sendsNow
+  unfolding modeNumber _=?_ numbered entering sendsNow sendWaiting
   transitional-step (L.ignoresState x e) = not-there Non-prim e refl
   transitional-step (L.ignoresCpc k i e) = not-there Non-prim e refl
   transitional-step (L.reddens a e) = not-there Non-prim e refl
@@ -109,5 +109,5 @@ module _ (s : Server) (here : s .membership .mode ≡ Trans-prim) where
   transitional-step (L.joinsYellow c e) = S.TransitionalStep.joins c refl refl refl refl
   transitional-step (L.leaves m n x e q) = leads-ending m n e q
   transitional-step (L.sends q c) = sends-in _ _ c (λ e. not-there Non-prim e refl) (λ e. not-there Reg-prim e refl)
-  transitional-step (L.holds q c) = S.TransitionalStep.holds q refl refl refl refl
+  transitional-step (L.numbers q c) = S.TransitionalStep.numbers q refl refl refl (record { green = refl; red = refl; cuts = refl })
   transitional-step L.recovers = S.TransitionalStep.recovers refl

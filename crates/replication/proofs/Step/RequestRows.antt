@@ -1,22 +1,20 @@
--- Rows 3 and 4 are about requests only, and apply no sooner than the quota is used or 16 are held.
-use Prim.Native.Nat.{ℕ, _+_, _≤_}
+-- Row 3 is about requests only, and applies no sooner than the quota is used.
+use Prim.Native.Nat.{ℕ, _≤_}
 use mathlib.Core.Path.{_≡_, refl, ap, subst, _∙_}
 use mathlib.Core.Bool.{Bool, true, false, not}
 use mathlib.Core.List.{List}
 use mathlib.Core.Logic.{_↔_}
 use mathlib.Core.Option.{Option, none, some}
-use lib.ListN.{length}
 use borrow.Author.Tests.{not-false}
-use Rattle.base.specs.Tests.{_or_, pick}
-use Rattle.base.proofs.TestLaws.{not-both, lt-no, lt-fails, not-holds, or-fails}
-use Rattle.format.specs.Limits.{mostHeld}
+use Rattle.base.specs.Tests.{pick}
+use Rattle.base.proofs.TestLaws.{not-both, lt-no, lt-fails, not-holds}
 use Rattle.format.specs.Types.{Record, action, retransmission, state, cpc, regular, transitional, request, recovery, Kind, says}
 use Rattle.format.specs.Range.{recordOk}
 use Rattle.format.specs.Read.{frameOk, recordIn, readAs, read}
 use Rattle.replication.specs.Machine.Types.{Server, contextOf}
-use Rattle.replication.specs.Machine.Requests.{sendsNow, quotaLeft, roomToHold}
-use Rattle.replication.specs.Machine.Rules.{withinQuota, withinHeld}
-use Rattle.replication.specs.Laws.Rows.{kindIn, frameFits, recordNamed, recordOf, tested, row1, row2, row3, row4}
+use Rattle.replication.specs.Machine.Requests.{quotaLeft}
+use Rattle.replication.specs.Machine.Rules.{withinQuota}
+use Rattle.replication.specs.Laws.Rows.{kindIn, frameFits, recordNamed, recordOf, tested, row1, row2, row3}
 
 module _ (s : Server) (e : List ℕ) where
   -- An event that rows 1 and 2 let pass reads as the record that its fields say.
@@ -55,31 +53,10 @@ module _ (s : Server) (e : List ℕ) where
   quota-request (request p) h = (p, refl)
   quota-request recovery h = not-both h
 
-  held-request : (r : Record) → not (withinHeld s r) ≡ true → (p : List ℕ) × (r ≡ request p)
-  unfolding withinHeld
-  held-request (action a) h = not-both h
-  held-request (retransmission k p a) h = not-both h
-  held-request (state x) h = not-both h
-  held-request (cpc k i) h = not-both h
-  held-request (regular i t) h = not-both h
-  held-request (transitional t) h = not-both h
-  held-request (request p) h = (p, refl)
-  held-request recovery h = not-both h
-
-  -- Row 3: a request, and numbered plus held are already the quota.
-  pub quota-row : (row3 s e ≡ true) ↔ ((p : List ℕ) × (recordOf s e ≡ some (request p)) × (s .quota ≤ s .log .numbered + length (s .held)))
+  -- Row 3: a request, and the numbered ones are already the quota.
+  pub quota-row : (row3 s e ≡ true) ↔ ((p : List ℕ) × (recordOf s e ≡ some (request p)) × (s .quota ≤ s .log .numbered))
   unfolding row3 withinQuota quotaLeft tested
   quota-row = (
     λ h. of-request (λ r. not (withinQuota s r)) _ (λ p q f. (p, q, lt-fails _ _ (not-holds _ f))) quota-request h,
-    λ x. rw (x .1, lt-no (s .log .numbered + length (s .held)) (s .quota) (x .2)),
-  )
-
-  -- Row 4: a request that is not sent, and 16 are held.
-  pub held-row : (row4 s e ≡ true)
-      ↔ ((p : List ℕ) × (recordOf s e ≡ some (request p)) × (sendsNow (s .membership) ≡ false) × (mostHeld ≤ length (s .held)))
-  unfolding row4 withinHeld roomToHold tested _or_
-  held-row = (
-    λ h. of-request (λ r. not (withinHeld s r)) _
-        (λ p q f. let x = or-fails (sendsNow (s .membership)) _ (not-holds _ f) in (p, q, x .0, lt-fails _ _ (x .1))) held-request h,
-    λ x. rw (x .1, x .2, lt-no (length (s .held)) mostHeld (x .3)),
+    λ x. rw (x .1, lt-no (s .log .numbered) (s .quota) (x .2)),
   )

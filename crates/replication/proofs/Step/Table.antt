@@ -13,10 +13,10 @@ use Rattle.format.specs.Types.{Action, Record, Kind}
 use Rattle.format.specs.Range.{recordOk}
 use Rattle.format.specs.Read.{frameOk, recordIn, readAs, read}
 use Rattle.replication.specs.Machine.Types.{Server, Outcome, refused, taken, contextOf}
-use Rattle.replication.specs.Machine.Rules.{Rule, ruleFor, possible, fromMember, isIgnored, withinQuota, withinHeld}
+use Rattle.replication.specs.Machine.Rules.{Rule, ruleFor, possible, fromMember, isIgnored, withinQuota}
 use Rattle.replication.specs.Machine.Step.{apply, applyRule, answer, onReading, inBytes, step}
 use Rattle.replication.specs.Laws.Rows as R
-use Rattle.replication.specs.Laws.Rows.{kindIn, frameFits, recordNamed, recordOf, tested, ignores, row1, row2, row5, row6, row3, row4, Refuses, firstRow, NoRow}
+use Rattle.replication.specs.Laws.Rows.{kindIn, frameFits, recordNamed, recordOf, tested, ignores, row1, row2, row5, row6, row3, Refuses, firstRow, NoRow}
 use Rattle.replication.proofs.Step.Moves.{Moves, rule-moves}
 
 -- What the table says of an outcome.
@@ -47,7 +47,7 @@ module _ (s : Server) (e : List ℕ) where
 
   by-rule : (r : Record) (x : Option Rule) → recordOf s e ≡ some r → row1 s e ≡ false → row2 s e ≡ false
       → ruleFor (s .membership .mode) r ≡ x → Answers s e (inBytes (applyRule x s r))
-  unfolding applyRule inBytes row5 row6 row3 row4 isThere ignores _and_ _or_
+  unfolding applyRule inBytes row5 row6 row3 isThere ignores _and_ _or_
   by-rule r none q n1 n2 h = R.by-row5 n1 n2 (at-record _ r true q (rw h))
   by-rule r (some k) q n1 n2 h =
       chosen (possible s r) _ _
@@ -56,10 +56,7 @@ module _ (s : Server) (e : List ℕ) where
       (λ p6. let n6 : row6 s e ≡ false = at-record _ r false q (rw (h, neither, p6)) in
       chosen (withinQuota s r) _ _
       (λ p3. let n3 : row3 s e ≡ false = at-record _ r false q (rw p3) in
-      chosen (withinHeld s r) _ _
-      (λ p4. applied (apply k s) r (rule-moves s r k h)
-      (record { not1 = n1; not2 = n2; not5 = n5; not6 = n6; not3 = n3; not4 = at-record _ r false q (rw p4) }))
-      (λ p4. R.by-row4 n1 n2 n5 n6 n3 (at-record _ r true q (rw p4))))
+      applied (apply k s) r (rule-moves s r k h) (record { not1 = n1; not2 = n2; not5 = n5; not6 = n6; not3 = n3 }))
       (λ p3. R.by-row3 n1 n2 n5 n6 (at-record _ r true q (rw p3))))
       (λ p6. R.by-row6 n1 n2 n5 (at-record _ r true q (rw (h, neither, p6)))))
       (λ p5. R.by-row5 n1 n2 (at-record _ r true q (rw (h, p5))))
@@ -90,7 +87,6 @@ refuses-first (R.by-row2 a b) = rw (a, b)
 refuses-first (R.by-row5 a b c) = rw (a, b, c)
 refuses-first (R.by-row6 a b c d) = rw (a, b, c, d)
 refuses-first (R.by-row3 a b c d f) = rw (a, b, c, d, f)
-refuses-first (R.by-row4 a b c d f g) = rw (a, b, c, d, f, g)
 
 refuses-some : {s : Server} {e : List ℕ} {k : ℕ} → Refuses s e k → 1 ≤ k
 refuses-some (R.by-row1 a) = omega arith
@@ -98,11 +94,20 @@ refuses-some (R.by-row2 a b) = omega arith
 refuses-some (R.by-row5 a b c) = omega arith
 refuses-some (R.by-row6 a b c d) = omega arith
 refuses-some (R.by-row3 a b c d f) = omega arith
-refuses-some (R.by-row4 a b c d f g) = omega arith
+
+no-four : {s : Server} {e : List ℕ} → Refuses s e 4 → ⊥
+no-four x = go x refl
+  where
+    go : {s : Server} {e : List ℕ} {k : ℕ} → Refuses s e k → k ≡ 4 → ⊥
+    go (R.by-row1 a) h = omega arith
+    go (R.by-row2 a b) h = omega arith
+    go (R.by-row5 a b c) h = omega arith
+    go (R.by-row6 a b c d) h = omega arith
+    go (R.by-row3 a b c d f) h = omega arith
 
 none-first : {s : Server} {e : List ℕ} → NoRow s e → firstRow s e ≡ 0
 unfolding firstRow pick
-none-first n = rw (n .not1, n .not2, n .not5, n .not6, n .not3, n .not4)
+none-first n = rw (n .not1, n .not2, n .not5, n .not6, n .not3)
 
 -- ---- the table
 
@@ -118,6 +123,10 @@ module _ (s : Server) (e : List ℕ) where
   -- A refusal's number is not 0.
   pub refused-some : (k : ℕ) → step s e ≡ refused k → 1 ≤ k
   refused-some k h = refuses-some (table k .0 h)
+
+  -- Document 02, K4: "4 never occurs".
+  pub never-four : step s e ≡ refused 4 → ⊥
+  never-four h = no-four (table 4 .0 h)
 
   -- An event is taken exactly when no row applies.
   pub table-taken : ((t : Server) × (bs : List (List ℕ)) × (b : Bool) × (g : List Action) × (step s e ≡ taken t bs b g)) ↔ NoRow s e

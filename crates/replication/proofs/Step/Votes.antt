@@ -8,7 +8,7 @@ use Rattle.format.specs.Types.{State, Record}
 use Rattle.replication.specs.Machine.Types.{Server}
 use Rattle.replication.specs.Machine.Exchange.{takenVotes, attempted, quorum}
 use Rattle.replication.specs.Machine.Install.{install, installVotes}
-use Rattle.replication.specs.Machine.Requests.{numbered, hold, sendHeld, recovered}
+use Rattle.replication.specs.Machine.Requests.{numbered, sendWaiting, recovered}
 use Rattle.replication.specs.Machine.Step.{entering, unmarked, yellowValid, hereSet, collected, decided, attempting, withState, resending, oneMore, exchanged, withCpc, leave, greenAndNote}
 use Rattle.replication.specs.Laws.Transitions as L
 use Rattle.replication.specs.Laws.Transitions.{Ends, Transition}
@@ -26,7 +26,7 @@ same-attempt i j h k xs ys p q r = cc
 module _ (s : Server) where
   end-changes : (r : Record) (t u : Server) (rs : List Record) → EndsExchange s r → t .me ≡ s .me → collected t ≡ collected (hearing r s) → hereSet t ≡ hereSet s
       → Ends t u rs → VotesChange s r u
-  unfolding attempting decided sendHeld numbered hereSet
+  unfolding attempting decided sendWaiting numbered hereSet
   end-changes r t u rs e m c h (L.withQuorum q) =
       C.VotesChange.attempted e refl (same-quorum (collected t) (collected (hearing r s)) (hereSet t) (hereSet s) true c h q)
       (same-attempt (t .me) (s .me) (hereSet t) (hereSet s) (collected t) (collected (hearing r s)) m h c)
@@ -35,7 +35,7 @@ module _ (s : Server) where
       (ap (λ i. takenVotes i (collected t)) m ∙ ap (takenVotes (s .me)) c)
 
   pub votes-changes : {r : Record} {t : Server} {rs : List Record} {b : Bool} → Transition s r t rs b → VotesChange s r t
-  unfolding greenAndNote install exchanged oneMore withState resending withCpc sendHeld numbered entering leave hold recovered hearing collected hereSet
+  unfolding greenAndNote install exchanged oneMore withState resending withCpc sendWaiting numbered entering leave recovered hearing collected hereSet
   votes-changes (L.ignoresState x e) = C.VotesChange.kept refl
   votes-changes (L.ignoresCpc k i e) = C.VotesChange.kept refl
   votes-changes (L.reddens a e) = C.VotesChange.kept refl
@@ -59,7 +59,7 @@ module _ (s : Server) where
   votes-changes (L.joinsYellow c e) = C.madeValid c e refl refl
   votes-changes (L.leaves m n x e q) = C.VotesChange.kept refl
   votes-changes (L.sends q c) = C.VotesChange.kept refl
-  votes-changes (L.holds q c) = C.VotesChange.kept refl
+  votes-changes (L.numbers q c) = C.VotesChange.kept refl
   votes-changes L.recovers = C.VotesChange.kept refl
 
   primary-change : {r : Record} {t : Server} → VotesChange s r t → PrimaryChange s r t

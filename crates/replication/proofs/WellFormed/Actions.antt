@@ -15,7 +15,7 @@ use Rattle.replication.specs.Machine.Step.{quiet, stored, greenAndNote}
 use Rattle.replication.specs.Machine.WellFormedFacts.{Configured, ModeFits}
 use Rattle.replication.proofs.WellFormed.Clauses.{YellowEntered, WellFormed}
 use Rattle.replication.proofs.Step.Logs.{yellow-as}
-use Rattle.replication.proofs.Step.Numbered.{numbered-install}
+use Rattle.replication.proofs.Step.Numbered.{numbers-install}
 use Rattle.replication.proofs.Step.Growth.{red-grows, green-grows}
 use Rattle.replication.proofs.Step.Control.{yellow-membership}
 use Rattle.replication.proofs.Step.Folds.{yellow-one}
@@ -37,16 +37,16 @@ module _ (s : Server) (f : WellFormed s) where
   unfolding quiet
   reddening-keeps a d = record {
     body = red-body s (body s f) a d;
-    mode = mode-kept (s .membership .mode) s (red a (s .log)) (s .votes) (s .held) (s .noted) refl (f .mode);
-    yellow = λ z. yellow-kept (s .membership .mode) s (red a (s .log)) (s .held) (s .noted) (red-grows a (s .log) .cuts) z;
+    mode = mode-kept (s .membership .mode) s (red a (s .log)) (s .votes) (s .noted) refl (f .mode);
+    yellow = λ z. yellow-kept (s .membership .mode) s (red a (s .log)) (s .noted) (red-grows a (s .log) .cuts) z;
   }
 
   pub greening-keeps : (a : Action) → Delivered s a → Keeps s (quiet s (greenAndNote a s))
   unfolding quiet greenAndNote
   greening-keeps a d = record {
     body = green-and-note-body s (body s f) a d;
-    mode = mode-kept (s .membership .mode) s (green a (s .log)) (s .votes) (s .held) (note (a .id .creator) (a .greenLength) (s .noted)) refl (f .mode);
-    yellow = λ z. yellow-kept (s .membership .mode) s (green a (s .log)) (s .held) (note (a .id .creator) (a .greenLength) (s .noted)) (green-grows a (s .log) .cuts) z;
+    mode = mode-kept (s .membership .mode) s (green a (s .log)) (s .votes) (note (a .id .creator) (a .greenLength) (s .noted)) refl (f .mode);
+    yellow = λ z. yellow-kept (s .membership .mode) s (green a (s .log)) (note (a .id .creator) (a .greenLength) (s .noted)) (green-grows a (s .log) .cuts) z;
   }
 
   pub yellowing-keeps : (a : Action) → Delivered s a → s .membership .mode ≡ Trans-prim → Keeps s (quiet s (yellow a s))
@@ -55,7 +55,7 @@ module _ (s : Server) (f : WellFormed s) where
     body = yellow-body s (body s f) a d;
     mode =
         yellow-as (λ u. ModeFits (u .membership .mode) u) a s
-        (λ next. mode-kept (s .membership .mode) s (enter a (s .log)) (joinYellow (a .id) (s .votes)) (s .held) (s .noted) refl (f .mode)) (λ old. f .mode);
+        (λ next. mode-kept (s .membership .mode) s (enter a (s .log)) (joinYellow (a .id) (s .votes)) (s .noted) refl (f .mode)) (λ old. f .mode);
     yellow = λ z.
         subst (λ m. YellowEntered m (yellow a s)) (sym (ap (λ m. m .mode) (yellow-membership a s) ∙ e))
         (yellow-gained (a ∷ []) s (yellow a s) (yellow-one a s) (subst (λ m. YellowEntered m s) e z) (inside a d, tt) .within);
@@ -78,4 +78,4 @@ module _ (s : Server) (f : WellFormed s) where
       installed = install-body s (body s f) (attempt .1)
 
       delivered : Delivered (install s) a
-      delivered = record { fits = d .fits; own = λ p. omega (arith, d .own p, numbered-install (s .votes .yellow .ids) (s .log)) }
+      delivered = record { fits = d .fits; own = λ p. omega (arith, d .own p, numbers-install (s .votes .yellow .ids) (s .log) .numbered) }

@@ -3,14 +3,12 @@
 use Prim.Native.Nat.{ℕ}
 use mathlib.Core.Path.{_≡_, refl}
 use mathlib.Core.Bool.{true}
-use mathlib.Core.List.{List, [], _∷_, _++_, map}
+use mathlib.Core.List.{List, []}
 use native.Mathlib.Omega.{arith}
-use Rattle.base.specs.Tests.{_or_}
-use Rattle.base.proofs.TestLaws.{lt-holds, pick-as}
-use Rattle.format.specs.Types.{action}
-use Rattle.replication.specs.Machine.Types.{Mode, Configuration, Server, withVotes}
+use Rattle.base.proofs.TestLaws.{pick-as}
+use Rattle.replication.specs.Machine.Types.{Mode, Log, Configuration, Server, withLog, withVotes}
 use Rattle.replication.specs.Machine.Colours.{cut, yellow}
-use Rattle.replication.specs.Machine.Requests.{sendsNow, quotaLeft, roomToHold, numbered, hold, madeOf, recovered}
+use Rattle.replication.specs.Machine.Requests.{sendsNow, quotaLeft, numbered, sendWaiting, waitingRecords, recovered}
 use Rattle.replication.specs.Machine.Rules.{Rule, ignoring, reddening, greening, yellowing, lateInstalling, exchanging, collectingState, collectingCpc, collectingLateCpc, joining, joiningUnmarked, joiningYellow, leaving, requesting, recovering}
 use Rattle.replication.specs.Machine.Step.{quiet, stored, entering, unmarked, yellowValid, join, leave, requested, apply}
 use Rattle.replication.specs.Laws.Transitions.{Leads, stays, parts, interruptsStates, interruptsActions, interruptsConstruct}
@@ -19,9 +17,9 @@ use Rattle.replication.specs.Machine.WellFormedFacts.{ModeFits}
 use Rattle.replication.proofs.WellFormed.Clauses.{YellowEntered, WellFormed}
 use Rattle.replication.proofs.WellFormed.Changes.{Body, body}
 use Rattle.replication.specs.Laws.RuleFits.{RuleFits}
-use Rattle.replication.proofs.WellFormed.Effects.{number-body, hold-body, recovered-body}
+use Rattle.replication.proofs.WellFormed.Effects.{number-body, send-waiting-body, recovered-body}
 use Rattle.replication.proofs.WellFormed.Exchanges.{entering-body, unmarked-body, yellow-valid-body, leave-body}
-use Rattle.replication.proofs.WellFormed.Kept.{Keeps, mode-kept, yellow-kept}
+use Rattle.replication.proofs.WellFormed.Kept.{Kept, Keeps, CutsRise, mode-kept, yellow-kept}
 use Rattle.replication.proofs.WellFormed.Actions.{ignoring-keeps, reddening-keeps, greening-keeps, yellowing-keeps, lateInstalling-keeps}
 use Rattle.replication.proofs.WellFormed.Attempts.{exchanging-keeps, collectingState-keeps, collectingCpc-keeps, collectingLateCpc-keeps}
 
@@ -56,20 +54,22 @@ module _ (s : Server) (f : WellFormed s) where
 
   -- ---- requests and recovery
 
-  requesting-keeps : (p : List ℕ) → PayloadFits p → quotaLeft s ≡ true → roomToHold s ≡ true → Keeps s (requested p s)
-  unfolding requested stored quiet numbered hold cut roomToHold _or_
-  requesting-keeps p g q r =
-      pick-as (Keeps s) (sendsNow (s .membership)) (stored s (numbered (p ∷ []) s) (map action (madeOf (p ∷ []) s))) (quiet s (hold p s))
-      (λ h. record {
-        body = number-body s (body s f) p g q;
-        mode = mode-kept (s .membership .mode) s ((numbered (p ∷ []) s) .log) (s .votes) (s .held) (s .noted) refl (f .mode);
-        yellow = λ z. yellow-kept (s .membership .mode) s ((numbered (p ∷ []) s) .log) (s .held) (s .noted) (λ c. omega arith) z;
-      })
-      (λ h. record {
-        body = hold-body s (body s f) p g q (lt-holds _ _ (rw h at r));
-        mode = mode-kept (s .membership .mode) s (s .log) (s .votes) (s .held ++ (p ∷ [])) (s .noted) refl (f .mode);
-        yellow = λ z. yellow-kept (s .membership .mode) s (s .log) (s .held ++ (p ∷ [])) (s .noted) (λ c. omega arith) z;
-      })
+  requesting-keeps : (p : List ℕ) → PayloadFits p → quotaLeft s ≡ true → Keeps s (requested p s)
+  unfolding requested stored numbered sendWaiting cut
+  requesting-keeps p g q =
+      pick-as (Keeps s) (sendsNow (s .membership)) (stored s (sendWaiting (numbered p s)) (waitingRecords (numbered p s))) (stored s (numbered p s) [])
+      (λ h. kept ((sendWaiting (numbered p s)) .log) (send-waiting-body (numbered p s) numbered-body) (λ c. omega arith))
+      (λ h. kept ((numbered p s) .log) numbered-body (λ c. omega arith))
+    where
+      numbered-body : Body (numbered p s)
+      numbered-body = number-body s (body s f) p g q
+
+      kept : (l : Log) → Body (withLog l s) → CutsRise (s .log) l → Kept s (withLog l s)
+      kept l b r = record {
+        body = b;
+        mode = mode-kept (s .membership .mode) s l (s .votes) (s .noted) refl (f .mode);
+        yellow = λ z. yellow-kept (s .membership .mode) s l (s .noted) r z;
+      }
 
   recovering-keeps : Keeps s (stored s (recovered s) [])
   unfolding stored recovered
@@ -95,5 +95,5 @@ module _ (s : Server) (f : WellFormed s) where
       joining-keeps s (withVotes (yellowValid (unmarked (s .votes))) s) c
       (entering-body (withVotes (yellowValid (unmarked (s .votes))) s) (yellow-valid-body s (body s f)) c r)
   apply-keeps (leaving m t) r = leaving-keeps m t (r .0) (r .1)
-  apply-keeps (requesting p) r = requesting-keeps p (r .0) (r .1) (r .2)
+  apply-keeps (requesting p) r = requesting-keeps p (r .0) (r .1)
   apply-keeps recovering r = recovering-keeps

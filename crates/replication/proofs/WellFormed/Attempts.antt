@@ -14,13 +14,13 @@ use Rattle.replication.specs.Machine.Colours.{yellow}
 use Rattle.replication.specs.Machine.Exchange.{quorum, takenVotes, attempted}
 use Rattle.replication.specs.Machine.Plan.{ownPart}
 use Rattle.replication.specs.Machine.Install.{installVotes, install}
-use Rattle.replication.specs.Machine.Requests.{numbered, sendHeld, heldRecords}
+use Rattle.replication.specs.Machine.Requests.{numbered, sendWaiting, waitingRecords}
 use Rattle.replication.specs.Machine.Step.{quiet, stored, sent, hereSet, hereId, collected, decided, attempting, endExchange, withState, allStatesIn, plannedNow, resending, afterStates, collectState, oneMore, exchanged, allCome, exchange, withCpc, allCpcsIn, installing, collectCpc, collectLateCpc}
 use Rattle.replication.specs.Machine.WellFormedFacts.{Configured, StatesIn, ModeFits}
 use Rattle.replication.proofs.WellFormed.Clauses.{WellFormed}
 use Rattle.replication.proofs.WellFormed.Changes.{Body, body, in-mode, mode-changed, here-below}
 use Rattle.replication.specs.Laws.RuleFits.{Delivered, StateCame}
-use Rattle.replication.proofs.WellFormed.Effects.{exchanged-body, install-body, send-held-body}
+use Rattle.replication.proofs.WellFormed.Effects.{exchanged-body, install-body, send-waiting-body}
 use Rattle.replication.proofs.WellFormed.Exchanges.{decided-body, attempting-body, with-state-body, with-cpc-body}
 use Rattle.replication.proofs.WellFormed.Modes.{all-in-facts}
 use Rattle.replication.proofs.WellFormed.Kept.{Kept, Keeps, kept-at}
@@ -40,16 +40,16 @@ module _ (s t : Server) (b : Body t) (c : Configured t) where
         yellow = λ z. tt;
       }
 
-  giving-up-keeps : Kept s (sendHeld (inMode Non-prim (decided t)))
-  unfolding sendHeld numbered decided
+  giving-up-keeps : Kept s (sendWaiting (inMode Non-prim (decided t)))
+  unfolding sendWaiting numbered decided
   giving-up-keeps =
-      record { body = send-held-body (inMode Non-prim (decided t)) (in-mode (decided t) (decided-body t b) Non-prim); mode = tt; yellow = λ z. tt }
+      record { body = send-waiting-body (inMode Non-prim (decided t)) (in-mode (decided t) (decided-body t b) Non-prim); mode = tt; yellow = λ z. tt }
 
   end-keeps : Keeps s (endExchange s t)
   unfolding endExchange stored
   end-keeps =
       pick-as (Keeps s) (quorum (collected t) (hereSet t)) (stored s (attempting (decided t)) (cpc (t .me) (hereId t) ∷ []))
-      (stored s (sendHeld (inMode Non-prim (decided t))) (heldRecords (inMode Non-prim (decided t)))) attempting-keeps (λ h. giving-up-keeps)
+      (stored s (sendWaiting (inMode Non-prim (decided t))) (waitingRecords (inMode Non-prim (decided t)))) attempting-keeps (λ h. giving-up-keeps)
 
   after-states-keeps : allStatesIn t ≡ true → Keeps s (afterStates s t)
   unfolding afterStates sent resending hereSet plannedNow collected
@@ -94,12 +94,12 @@ module _ (s : Server) (f : WellFormed s) where
       after = with-state-body s (body s f) x c
 
   pub collectingCpc-keeps : (k : ℕ) → k < s .servers → s .membership .mode ≡ Construct → Keeps s (collectCpc k s)
-  unfolding collectCpc installing quiet stored withCpc sendHeld numbered install installVotes noYellow
+  unfolding collectCpc installing quiet stored withCpc sendWaiting numbered install installVotes noYellow
   collectingCpc-keeps k h e =
       pick-as (Keeps s) (allCpcsIn (withCpc k s)) (installing s (withCpc k s)) (quiet s (withCpc k s))
       (λ t. record {
         body =
-            send-held-body (inMode Reg-prim (install (withCpc k s))) (in-mode (install (withCpc k s)) (install-body (withCpc k s) after (fits .1)) Reg-prim);
+            send-waiting-body (inMode Reg-prim (install (withCpc k s))) (in-mode (install (withCpc k s)) (install-body (withCpc k s) after (fits .1)) Reg-prim);
         mode = fits .0;
         yellow = λ z. tt;
       })

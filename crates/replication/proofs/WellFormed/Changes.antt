@@ -1,18 +1,16 @@
 -- A change of one part of a state keeps row 8's clauses, apart from those on the eight states.
 -- Assumes nothing.
-use Prim.Native.Nat.{ℕ, _+_, _*_, _^_, _≤_, _<_}
+use Prim.Native.Nat.{ℕ, _*_, _^_, _≤_, _<_}
 use mathlib.Core.Path.{_≡_, sym, _∙_}
 use mathlib.Core.List.{List}
 use mathlib.Core.Option.{none, some, Option·none-ne-some}
-use native.Mathlib.Omega.{arith}
 use lib.ListN.{length, getD}
 use Rattle.base.specs.Lists.{Each}
 use Rattle.base.proofs.ListLaws.{each-present, replicate-at}
-use Rattle.format.specs.Limits.{mostHeld}
 use Rattle.format.specs.Types.{State}
-use Rattle.replication.specs.Machine.Types.{Mode, Log, Votes, Configuration, Membership, Server, withLog, withVotes, withMembership, withHeld, withNoted, withMode, withCome, inMode, noStates}
+use Rattle.replication.specs.Machine.Types.{Mode, Log, Votes, Configuration, Membership, Server, withLog, withVotes, withMembership, withNoted, withMode, withCome, inMode, noStates}
 use Rattle.replication.specs.Machine.Step.{collected, hereSet, theSet, hereId, theId}
-use Rattle.replication.specs.Machine.WellFormedRanges.{PayloadFits, StateFits}
+use Rattle.replication.specs.Machine.WellFormedRanges.{StateFits}
 use Rattle.replication.specs.Machine.WellFormedFacts.{ModeFits}
 use Rattle.replication.proofs.WellFormed.Clauses.{SizesFit, VotesRanges, MembershipRanges, WellFormed}
 use Rattle.replication.proofs.WellFormed.Logs.{LogFits}
@@ -23,11 +21,8 @@ pub record Body (s : Server) : Type 0 where
   pub log : LogFits (s .servers) (s .quota) (s .me) (s .log)
   pub votes : VotesRanges (s .servers) (s .quota) (s .votes)
   pub membership : MembershipRanges (s .servers) (s .quota) (s .me) (s .membership)
-  pub held-length : length (s .held) ≤ mostHeld
-  pub held : Each PayloadFits (s .held)
   pub noted-length : length (s .noted) ≡ s .servers
   pub noted : (c : ℕ) → getD (s .noted) c 0 ≤ s .servers * s .quota
-  pub quota-kept : s .log .numbered + length (s .held) ≤ s .quota
 
 pub body : (s : Server) → WellFormed s → Body s
 body s f = record {
@@ -35,11 +30,8 @@ body s f = record {
   log = record { ranges = f .log; once = f .once; held-to-cuts = f .held-to-cuts; own-list = f .own-list };
   votes = f .votes;
   membership = f .membership;
-  held-length = f .held-length;
-  held = f .held;
   noted-length = f .noted-length;
   noted = f .noted;
-  quota-kept = f .quota-kept;
 }
 
 pub whole : (s : Server) → Body s → ModeFits (s .membership .mode) s → WellFormed s
@@ -48,14 +40,11 @@ whole s b m = record {
   log = b .log .ranges;
   votes = b .votes;
   membership = b .membership;
-  held-length = b .held-length;
-  held = b .held;
   noted-length = b .noted-length;
   noted = b .noted;
   once = b .log .once;
   held-to-cuts = b .log .held-to-cuts;
   own-list = b .log .own-list;
-  quota-kept = b .quota-kept;
   mode = m;
 }
 
@@ -66,39 +55,29 @@ no-states n k x e = absurd (Option·none-ne-some x (sym (replicate-at none n k) 
 -- ---- one part changed
 
 module _ (s : Server) (b : Body s) where
-  changed : (l : Log) (v : Votes) (m : Membership) (h : List (List ℕ)) (w : List ℕ) → LogFits (s .servers) (s .quota) (s .me) l → VotesRanges (s .servers) (s .quota) v
-      → MembershipRanges (s .servers) (s .quota) (s .me) m → length h ≤ mostHeld → Each PayloadFits h → length w ≡ s .servers
-      → ((c : ℕ) → getD w c 0 ≤ s .servers * s .quota) → l .numbered + length h ≤ s .quota
-      → Body (record { servers = s .servers; quota = s .quota; me = s .me; log = l; votes = v; membership = m; held = h; noted = w })
-  changed l v m h w log votes membership short held long noted q = record {
+  changed : (l : Log) (v : Votes) (m : Membership) (w : List ℕ) → LogFits (s .servers) (s .quota) (s .me) l → VotesRanges (s .servers) (s .quota) v
+      → MembershipRanges (s .servers) (s .quota) (s .me) m → length w ≡ s .servers → ((c : ℕ) → getD w c 0 ≤ s .servers * s .quota)
+      → Body (record { servers = s .servers; quota = s .quota; me = s .me; log = l; votes = v; membership = m; noted = w })
+  changed l v m w log votes membership long noted = record {
     sizes = b .sizes;
     log = log;
     votes = votes;
     membership = membership;
-    held-length = short;
-    held = held;
     noted-length = long;
     noted = noted;
-    quota-kept = q;
   }
 
-  pub log-changed : (l : Log) → LogFits (s .servers) (s .quota) (s .me) l → l .numbered + length (s .held) ≤ s .quota → Body (withLog l s)
-  log-changed l f q = changed l (s .votes) (s .membership) (s .held) (s .noted) f (b .votes) (b .membership) (b .held-length) (b .held) (b .noted-length) (b .noted) q
-
-  pub log-changed-alike : (l : Log) → LogFits (s .servers) (s .quota) (s .me) l → l .numbered ≡ s .log .numbered → Body (withLog l s)
-  log-changed-alike l f e = log-changed l f (omega (arith, b .quota-kept))
+  pub log-changed : (l : Log) → LogFits (s .servers) (s .quota) (s .me) l → Body (withLog l s)
+  log-changed l f = changed l (s .votes) (s .membership) (s .noted) f (b .votes) (b .membership) (b .noted-length) (b .noted)
 
   pub votes-changed : (v : Votes) → VotesRanges (s .servers) (s .quota) v → Body (withVotes v s)
-  votes-changed v f = changed (s .log) v (s .membership) (s .held) (s .noted) (b .log) f (b .membership) (b .held-length) (b .held) (b .noted-length) (b .noted) (b .quota-kept)
+  votes-changed v f = changed (s .log) v (s .membership) (s .noted) (b .log) f (b .membership) (b .noted-length) (b .noted)
 
   pub membership-changed : (m : Membership) → MembershipRanges (s .servers) (s .quota) (s .me) m → Body (withMembership m s)
-  membership-changed m f = changed (s .log) (s .votes) m (s .held) (s .noted) (b .log) (b .votes) f (b .held-length) (b .held) (b .noted-length) (b .noted) (b .quota-kept)
-
-  pub held-changed : (h : List (List ℕ)) → length h ≤ mostHeld → Each PayloadFits h → s .log .numbered + length h ≤ s .quota → Body (withHeld h s)
-  held-changed h l f q = changed (s .log) (s .votes) (s .membership) h (s .noted) (b .log) (b .votes) (b .membership) l f (b .noted-length) (b .noted) q
+  membership-changed m f = changed (s .log) (s .votes) m (s .noted) (b .log) (b .votes) f (b .noted-length) (b .noted)
 
   pub noted-changed : (w : List ℕ) → length w ≡ length (s .noted) → ((c : ℕ) → getD w c 0 ≤ s .servers * s .quota) → Body (withNoted w s)
-  noted-changed w l f = changed (s .log) (s .votes) (s .membership) (s .held) w (b .log) (b .votes) (b .membership) (b .held-length) (b .held) (l ∙ b .noted-length) f (b .quota-kept)
+  noted-changed w l f = changed (s .log) (s .votes) (s .membership) w (b .log) (b .votes) (b .membership) (l ∙ b .noted-length) f
 
   -- Another of the eight states, and another count of retransmissions.
   pub mode-changed : (m : Mode) (k : ℕ) → k ≤ 2 * (s .servers * s .quota) → Body (withMembership (withMode m (withCome k (s .membership))) s)

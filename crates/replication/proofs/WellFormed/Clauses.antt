@@ -1,20 +1,20 @@
 -- The facts of a well-formed state, clause by clause in row 8's order: they say what the test `wellFormed` says. Beside them, what every state that
 -- a run reaches satisfies.
 -- Assumes nothing.
-use Prim.Native.Nat.{ℕ, _+_, _*_, _^_, _≤_, _<_}
+use Prim.Native.Nat.{ℕ, _*_, _^_, _≤_, _<_}
 use mathlib.Core.Path.{_≡_}
 use mathlib.Core.Bool.{true}
 use mathlib.Core.List.{List, _++_, map}
 use mathlib.Core.Option.{Option, none, some}
 use lib.ListN.{length, getD}
 use Rattle.base.specs.Lists.{Each, above}
-use Rattle.format.specs.Limits.{fewestServers, mostServers, leastQuota, mostQuota, mostHeld, mostIndex}
+use Rattle.format.specs.Limits.{fewestServers, mostServers, leastQuota, mostQuota, mostIndex}
 use Rattle.format.specs.Types.{Id, Action, State}
 use Rattle.replication.specs.Machine.Types.{Mode, Non-prim, Reg-prim, Trans-prim, Exchange-states, Exchange-actions, Construct, No, Un, Log, Votes, Configuration, Membership, Server}
 use Rattle.replication.specs.Machine.Colours.{cut}
 use Rattle.replication.specs.Machine.Rules.{memberOf, isOf}
 use Rattle.replication.specs.Machine.WellFormed.{idsIn, queue}
-use Rattle.replication.specs.Machine.WellFormedRanges.{idCount, PayloadFits, ActionFits, PrimaryFits, MarkFits, YellowFits, StateFits, ConfigurationFits, TransitionalFits}
+use Rattle.replication.specs.Machine.WellFormedRanges.{idCount, ActionFits, PrimaryFits, MarkFits, YellowFits, StateFits, ConfigurationFits, TransitionalFits}
 use Rattle.replication.specs.Machine.WellFormedFacts.{ModeFits}
 use Rattle.replication.specs.Laws.Folds.{entered}
 
@@ -35,6 +35,7 @@ pub record LogRanges (n q : ℕ) (l : Log) : Type 0 where
   pub cuts : (c : ℕ) → cut l c ≤ q
   pub own : Each (ActionFits n q) (l .own)
   pub numbered : l .numbered ≤ q
+  pub sent : l .sent ≤ l .numbered
 
 pub record VotesRanges (n q : ℕ) (v : Votes) : Type 0 where
   pub last : PrimaryFits n (v .last)
@@ -82,14 +83,11 @@ pub record WellFormed (s : Server) : Type 0 where
   pub log : LogRanges (s .servers) (s .quota) (s .log)
   pub votes : VotesRanges (s .servers) (s .quota) (s .votes)
   pub membership : MembershipRanges (s .servers) (s .quota) (s .me) (s .membership)
-  pub held-length : length (s .held) ≤ mostHeld
-  pub held : Each PayloadFits (s .held)
   pub noted-length : length (s .noted) ≡ s .servers
   pub noted : (c : ℕ) → getD (s .noted) c 0 ≤ s .servers * s .quota
   pub once : (d : Id) → heldCount d (s .log) ≤ 1
   pub held-to-cuts : HeldToCuts (s .log)
   pub own-list : OwnListFits (s .me) (s .log)
-  pub quota-kept : s .log .numbered + length (s .held) ≤ s .quota
   pub mode : ModeFits (s .membership .mode) s
 
 -- ---- beside row 8

@@ -11,26 +11,25 @@ use Rattle.base.proofs.TestLaws.{lt-holds}
 use Rattle.base.specs.Lists.{above, Each}
 use Rattle.base.proofs.ListLaws.{each-append, each-implied, each-map, map-each, above-between}
 use Rattle.base.proofs.CountLaws.{count-append, count-single}
-use Rattle.format.specs.Limits.{mostHeld, mostIndex}
+use Rattle.format.specs.Limits.{mostIndex}
 use Rattle.format.specs.Types.{Id, Action}
 use Rattle.format.specs.Range.{sameId, hasId}
-use Rattle.replication.specs.Machine.Types.{Non-prim, Votes, Server, withLog, withVotes, withHeld, noStates}
+use Rattle.replication.specs.Machine.Types.{Non-prim, Votes, Server, withLog, withVotes, withOwn, withSent, noStates}
 use Rattle.replication.specs.Machine.Colours.{cut, isNext, enter, red, reds, green, addId, joinYellow, yellow, note}
 use Rattle.replication.specs.Machine.Install.{installLog, installVotes, install}
-use Rattle.replication.specs.Machine.Requests.{quotaLeft, madeOf, numbered, hold, sendHeld, recovered}
+use Rattle.replication.specs.Machine.Requests.{quotaLeft, madeOf, numbered, sendWaiting, recovered}
 use Rattle.replication.specs.Machine.Step.{collected, plannedNow, placed, oneMore, exchanged, greenAndNote}
 use Rattle.replication.specs.Machine.WellFormed.{idsIn}
 use Rattle.replication.specs.Machine.WellFormedRanges.{idCount, IdFits, PayloadFits}
 use Rattle.replication.proofs.WellFormed.Clauses.{VotesRanges}
 use Rattle.replication.proofs.Step.Logs.{red-entered, yellow-as}
-use Rattle.replication.proofs.Step.Numbered.{numbered-red, numbered-reds, numbered-green, numbered-placed, numbered-install}
 use Rattle.replication.proofs.Step.Yellows.{add-as}
 use Rattle.replication.proofs.WellFormed.Ids.{SameId, same, other, same-id?, not-had-counted}
 use Rattle.replication.specs.Laws.RuleFits.{Numbered}
 use Rattle.replication.proofs.WellFormed.Logs.{ownId, red-fits, reds-fits, green-fits, install-log-fits}
-use Rattle.replication.proofs.WellFormed.Numbering.{placed-fits, numberedLog, numbering-fits}
+use Rattle.replication.proofs.WellFormed.Numbering.{placed-fits, numbering-fits, sent-fits}
 use Rattle.replication.proofs.WellFormed.Decisions.{no-yellow-fits, planned-bound, note-length, note-bound}
-use Rattle.replication.proofs.WellFormed.Changes.{Body, log-changed, log-changed-alike, votes-changed, membership-changed, held-changed, noted-changed, mode-changed, collected-fit, no-states}
+use Rattle.replication.proofs.WellFormed.Changes.{Body, log-changed, votes-changed, membership-changed, noted-changed, mode-changed, collected-fit, no-states}
 use Rattle.replication.specs.Laws.RuleFits.{Delivered}
 
 -- ---- parts of votes and memberships
@@ -71,13 +70,13 @@ join-yellow-fits n q d v f fits = record {
 
 module _ (s : Server) (b : Body s) (a : Action) (d : Delivered s a) where
   pub red-body : Body (withLog (red a (s .log)) s)
-  red-body = log-changed-alike s b (red a (s .log)) (red-fits (s .servers) (s .quota) (s .me) a (s .log) (b .log) (d .fits) (d .own)) (numbered-red a (s .log))
+  red-body = log-changed s b (red a (s .log)) (red-fits (s .servers) (s .quota) (s .me) a (s .log) (b .log) (d .fits) (d .own))
 
   pub green-and-note-body : Body (greenAndNote a s)
   unfolding greenAndNote
   green-and-note-body =
       noted-changed (withLog (green a (s .log)) s)
-      (log-changed-alike s b (green a (s .log)) (green-fits (s .servers) (s .quota) (s .me) a (s .log) (b .log) (d .fits) (d .own)) (numbered-green a (s .log)))
+      (log-changed s b (green a (s .log)) (green-fits (s .servers) (s .quota) (s .me) a (s .log) (b .log) (d .fits) (d .own)))
       (note (a .id .creator) (a .greenLength) (s .noted))
       (note-length (a .id .creator) (a .greenLength) (s .noted))
       (note-bound (s .servers * s .quota) (a .id .creator) (a .greenLength) (s .noted) (b .noted) (d .fits .greenLength))
@@ -95,7 +94,7 @@ module _ (s : Server) (b : Body s) (a : Action) (d : Delivered s a) where
   unfolding exchanged oneMore plannedNow
   exchanged-body p h =
       mode-changed (withLog (placed p a (s .log)) s)
-      (log-changed-alike s b (placed p a (s .log)) (placed-fits (s .servers) (s .quota) (s .me) p a (s .log) (b .log) (d .fits) (d .own)) (numbered-placed p a (s .log)))
+      (log-changed s b (placed p a (s .log)) (placed-fits (s .servers) (s .quota) (s .me) p a (s .log) (b .log) (d .fits) (d .own)))
       (s .membership .mode) (s .membership .come + 1)
       (omega (arith, planned-bound (s .servers) (s .quota) (collected s) (collected-fit s b)))
 
@@ -106,39 +105,25 @@ module _ (s : Server) (b : Body s) where
   unfolding install
   install-body h =
       votes-changed (withLog (installLog (s .votes .yellow .ids) (s .log)) s)
-      (log-changed-alike s b (installLog (s .votes .yellow .ids) (s .log)) (install-log-fits (s .servers) (s .quota) (s .me) (s .votes .yellow .ids) (s .log) (b .log))
-      (numbered-install (s .votes .yellow .ids) (s .log)))
+      (log-changed s b (installLog (s .votes .yellow .ids) (s .log)) (install-log-fits (s .servers) (s .quota) (s .me) (s .votes .yellow .ids) (s .log) (b .log)))
       (installVotes (s .votes)) (install-votes-fits (s .servers) (s .quota) (s .votes) (b .votes) h)
 
-  pub send-held-body : Body (sendHeld s)
-  unfolding sendHeld numbered madeOf
-  send-held-body =
-      log-changed (withHeld [] s) (held-changed s b [] (omega arith) tt (omega (arith, b .quota-kept))) (numberedLog (s .me) (s .held) (s .log))
-      (numbering-fits (s .servers) (s .quota) (s .me) (s .held) (s .log) (b .sizes .own) (b .log) (b .quota-kept) (b .held)) (omega (arith, b .quota-kept))
+  pub send-waiting-body : Body (sendWaiting s)
+  unfolding sendWaiting
+  send-waiting-body = log-changed s b (withSent (s .log .numbered) (s .log)) (sent-fits (s .servers) (s .quota) (s .me) (s .log) (b .log))
 
-  pub number-body : (p : List ℕ) → PayloadFits p → quotaLeft s ≡ true → Body (numbered (p ∷ []) s)
+  pub number-body : (p : List ℕ) → PayloadFits p → quotaLeft s ≡ true → Body (numbered p s)
   unfolding numbered madeOf quotaLeft
   number-body p f q =
-      let room = lt-holds _ _ q in
-      log-changed s b (numberedLog (s .me) (p ∷ []) (s .log))
-      (numbering-fits (s .servers) (s .quota) (s .me) (p ∷ []) (s .log) (b .sizes .own) (b .log) (omega arith) (f, tt)) (omega arith)
-
-  pub hold-body : (p : List ℕ) → PayloadFits p → quotaLeft s ≡ true → length (s .held) < mostHeld → Body (hold p s)
-  unfolding hold quotaLeft
-  hold-body p f q r =
-      let room = lt-holds _ _ q in
-      let more = length-append (s .held) (p ∷ []) in
-      held-changed s b (s .held ++ (p ∷ [])) (omega arith) (each-append PayloadFits (s .held) (p ∷ []) (b .held) (f, tt)) (omega arith)
+      log-changed s b (withOwn (madeOf p s) (s .log))
+      (numbering-fits (s .servers) (s .quota) (s .me) p (s .log) (b .sizes .own) (b .log) (lt-holds _ _ q) f)
 
   pub recovered-body : Body (recovered s)
   unfolding recovered idsIn noStates
   recovered-body =
-      membership-changed (withHeld [] (withLog (reds (s .log .own) (s .log)) s))
-      (held-changed (withLog (reds (s .log .own) (s .log)) s)
-      (log-changed-alike s b (reds (s .log .own) (s .log))
-      (reds-fits (s .servers) (s .quota) (s .me) (s .log .own) (s .log) (b .log) (b .log .ranges .own) own-numbered)
-      (numbered-reds (s .log .own) (s .log)))
-      [] (omega arith) tt (omega (arith, numbered-reds (s .log .own) (s .log), b .quota-kept)))
+      membership-changed (withLog (reds (s .log .own) (s .log)) s)
+      (log-changed s b (reds (s .log .own) (s .log))
+      (reds-fits (s .servers) (s .quota) (s .me) (s .log .own) (s .log) (b .log) (b .log .ranges .own) own-numbered))
       (record { mode = Non-prim; configuration = none; transitional = none; states = noStates (s .servers); cpcs = s .membership .cpcs; come = s .membership .come })
       (record {
         configuration = λ d e. absurd (Option·none-ne-some d e);

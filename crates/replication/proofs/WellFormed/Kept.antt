@@ -44,17 +44,17 @@ kept-invariant s t v k = record { well-formed = whole t (k .body) (k .mode); yel
 
 -- ---- the state's name and the membership stay
 
-pub mode-kept : (m : Mode) (s : Server) (l : Log) (v : Votes) (h : List (List ℕ)) (w : List ℕ) → v .last .index ≡ s .votes .last .index → ModeFits m s
-    → ModeFits m (record { servers = s .servers; quota = s .quota; me = s .me; log = l; votes = v; membership = s .membership; held = h; noted = w })
+pub mode-kept : (m : Mode) (s : Server) (l : Log) (v : Votes) (w : List ℕ) → v .last .index ≡ s .votes .last .index → ModeFits m s
+    → ModeFits m (record { servers = s .servers; quota = s .quota; me = s .me; log = l; votes = v; membership = s .membership; noted = w })
 unfolding plannedNow hereSet collected
-mode-kept Non-prim s l v h w e f = tt
-mode-kept Reg-prim s l v h w e f = f
-mode-kept Trans-prim s l v h w e f = f
-mode-kept Exchange-states s l v h w e f = f
-mode-kept Exchange-actions s l v h w e f = f
-mode-kept Construct s l v h w e f = (f .0, omega (arith, f .1))
-mode-kept No s l v h w e f = (f .0, omega (arith, f .1))
-mode-kept Un s l v h w e f = (f .0, omega (arith, f .1))
+mode-kept Non-prim s l v w e f = tt
+mode-kept Reg-prim s l v w e f = f
+mode-kept Trans-prim s l v w e f = f
+mode-kept Exchange-states s l v w e f = f
+mode-kept Exchange-actions s l v w e f = f
+mode-kept Construct s l v w e f = (f .0, omega (arith, f .1))
+mode-kept No s l v w e f = (f .0, omega (arith, f .1))
+mode-kept Un s l v w e f = (f .0, omega (arith, f .1))
 
 -- No cut of the log m is lower than in the log l.
 abbrev pub CutsRise : Log → Log → Type 0
@@ -64,13 +64,13 @@ within-kept : (s : Server) (l : Log) → CutsRise (s .log) l → YellowWithinCut
 within-kept s l r f =
     each-implied (λ d. d .index ≤ cut (s .log) (d .creator)) (λ d. d .index ≤ cut l (d .creator)) (λ d h. omega (arith, r (d .creator))) (s .votes .yellow .ids) f
 
-pub yellow-kept : (m : Mode) (s : Server) (l : Log) (h : List (List ℕ)) (w : List ℕ) → CutsRise (s .log) l → YellowEntered m s
-    → YellowEntered m (record { servers = s .servers; quota = s .quota; me = s .me; log = l; votes = s .votes; membership = s .membership; held = h; noted = w })
-yellow-kept Non-prim s l h w r f = tt
-yellow-kept Reg-prim s l h w r f = within-kept s l r f
-yellow-kept Trans-prim s l h w r f = within-kept s l r f
-yellow-kept Exchange-states s l h w r f = tt
-yellow-kept Exchange-actions s l h w r f = tt
-yellow-kept Construct s l h w r f = tt
-yellow-kept No s l h w r f = tt
-yellow-kept Un s l h w r f = tt
+pub yellow-kept : (m : Mode) (s : Server) (l : Log) (w : List ℕ) → CutsRise (s .log) l → YellowEntered m s
+    → YellowEntered m (record { servers = s .servers; quota = s .quota; me = s .me; log = l; votes = s .votes; membership = s .membership; noted = w })
+yellow-kept Non-prim s l w r f = tt
+yellow-kept Reg-prim s l w r f = within-kept s l r f
+yellow-kept Trans-prim s l w r f = within-kept s l r f
+yellow-kept Exchange-states s l w r f = tt
+yellow-kept Exchange-actions s l w r f = tt
+yellow-kept Construct s l w r f = tt
+yellow-kept No s l w r f = tt
+yellow-kept Un s l w r f = tt

@@ -55,6 +55,7 @@ module _ (n q me : ℕ) (a : Action) (l : Log) (f : LogFits n q me l) (fits : Ac
     cuts = bounded-set (l .cuts) (a .id .creator) (a .id .index) q (f .ranges .cuts) (fits .id .most);
     own = each-remove (ActionFits n q) (a .id) (l .own) (f .ranges .own);
     numbered = f .ranges .numbered;
+    sent = f .ranges .sent;
   }
 
   enter-once : (d : Id) → heldCount d (enter a l) ≤ 1
@@ -146,6 +147,7 @@ promote-fits n q me x l fits kept f = record {
     cuts = f .ranges .cuts;
     own = f .ranges .own;
     numbered = f .ranges .numbered;
+    sent = f .ranges .sent;
   };
   once = λ d. omega (arith, kept d, f .once d);
   held-to-cuts = record {

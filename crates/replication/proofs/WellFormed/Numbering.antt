@@ -8,9 +8,9 @@ use lib.ListN.{length, length-append, length-map}
 use Rattle.base.specs.Lists.{after, above, Each}
 use Rattle.base.proofs.ListLaws.{each-append, each-map, each-implied, above-more}
 use Rattle.format.specs.Types.{Action}
-use Rattle.replication.specs.Machine.Types.{Log}
+use Rattle.replication.specs.Machine.Types.{Log, withOwn, withSent}
 use Rattle.replication.specs.Machine.Colours.{cut}
-use Rattle.replication.specs.Machine.Requests.{numberedFrom}
+use Rattle.replication.specs.Machine.Requests.{numbered}
 use Rattle.replication.specs.Machine.Step.{placed}
 use Rattle.replication.specs.Machine.WellFormed.{idsIn, queue}
 use Rattle.replication.specs.Machine.WellFormedRanges.{IdFits, PayloadFits, ActionFits}
@@ -40,62 +40,57 @@ queue-short n q me l f =
 
 -- ---- numbering
 
-pub numbered-ids : (me g k : ℕ) (ps : List (List ℕ)) → idsIn (numberedFrom me g k ps) ≡ map (ownId me) (after k (length ps))
-unfolding idsIn numberedFrom after
-numbered-ids me g k [] = refl
-numbered-ids me g k (p ∷ ps) = ap (λ l. ownId me (k + 1) ∷ l) (numbered-ids me g (k + 1) ps)
+-- The action that a server makes of the payload p.
+abbrev pub madeWith : (me g k : ℕ) → List ℕ → Action
+madeWith me g k p = record { id = ownId me (k + 1); greenLength = g; payload = p }
 
-pub numbered-each : (n q me g k : ℕ) (ps : List (List ℕ)) → me < n → g ≤ n * q → k + length ps ≤ q → Each PayloadFits ps
-    → Each (ActionFits n q) (numberedFrom me g k ps)
-unfolding numberedFrom
-numbered-each n q me g k [] own short room fits = tt
-numbered-each n q me g k (p ∷ ps) own short room fits = (
-  record { id = record { creator = own; least = omega arith; most = omega arith }; greenLength = short; payload = fits .0 },
-  numbered-each n q me g (k + 1) ps own short (omega arith) (fits .1),
-)
+pub made-fits : (n q me g k : ℕ) (p : List ℕ) → me < n → g ≤ n * q → k < q → PayloadFits p → ActionFits n q (madeWith me g k p)
+made-fits n q me g k p own short room fits =
+    record { id = record { creator = own; least = omega arith; most = omega arith }; greenLength = short; payload = fits }
 
-pub numbered-own : (me g k : ℕ) (ps : List (List ℕ)) → Each (λ a. a .id .creator ≡ me) (numberedFrom me g k ps)
-unfolding numberedFrom
-numbered-own me g k [] = tt
-numbered-own me g k (p ∷ ps) = (refl, numbered-own me g (k + 1) ps)
-
-pub numbered-length : (me g k : ℕ) (ps : List (List ℕ)) → length (numberedFrom me g k ps) ≡ length ps
-unfolding numberedFrom
-numbered-length me g k [] = refl
-numbered-length me g k (p ∷ ps) = ap suc (numbered-length me g (k + 1) ps)
-
--- The log with these payloads numbered and put on the own list.
-abbrev pub numberedLog : ℕ → List (List ℕ) → Log → Log
-numberedLog me ps l = record {
-  green = l .green;
-  red = l .red;
-  cuts = l .cuts;
-  own = l .own ++ numberedFrom me (length (l .green)) (l .numbered) ps;
-  numbered = l .numbered + length ps;
-}
-
-pub numbering-fits : (n q me : ℕ) (ps : List (List ℕ)) (l : Log) → me < n → LogFits n q me l → l .numbered + length ps ≤ q → Each PayloadFits ps
-    → LogFits n q me (numberedLog me ps l)
-unfolding cut queue idsIn
-numbering-fits n q me ps l own f room fits = record {
+pub numbering-fits : (n q me : ℕ) (p : List ℕ) (l : Log) → me < n → LogFits n q me l → l .numbered < q → PayloadFits p
+    → LogFits n q me (withOwn (madeWith me (length (l .green)) (l .numbered) p) l)
+unfolding cut queue idsIn after
+numbering-fits n q me p l own f room fits = record {
   ranges = record {
     green = f .ranges .green;
     red = f .ranges .red;
     cuts-length = f .ranges .cuts-length;
     cuts = f .ranges .cuts;
-    own = each-append (ActionFits n q) (l .own) made (f .ranges .own) (numbered-each n q me (length (l .green)) (l .numbered) ps own (omega (arith, queue-short n q me l f)) room fits);
-    numbered = room;
+    own = each-append (ActionFits n q) (l .own) (made ∷ []) (f .ranges .own)
+    (made-fits n q me (length (l .green)) (l .numbered) p own (omega (arith, queue-short n q me l f)) room fits, tt);
+    numbered = omega arith;
+    sent = omega (arith, f .ranges .sent);
   };
   once = f .once;
   held-to-cuts = record { within = f .held-to-cuts .within; entered = f .held-to-cuts .entered };
   own-list = record { numbered = omega (arith, f .own-list .numbered); ids = ids };
 }
   where
-    made : List Action
-    made = numberedFrom me (length (l .green)) (l .numbered) ps
+    made : Action
+    made = madeWith me (length (l .green)) (l .numbered) p
 
-    ids : idsIn (l .own ++ made) ≡ map (ownId me) (above (cut l me) (l .numbered + length ps))
+    ids : idsIn (l .own ++ (made ∷ [])) ≡ map (ownId me) (above (cut l me) (l .numbered + 1))
     ids =
-        map-append (λ a. a .id) (l .own) made
-        ∙ (rw (f .own-list .ids, numbered-ids me (length (l .green)) (l .numbered) ps, above-more (cut l me) (l .numbered) (length ps) (f .own-list .numbered))
-        (sym (map-append (ownId me) (above (cut l me) (l .numbered)) (after (l .numbered) (length ps)))))
+        map-append (λ a. a .id) (l .own) (made ∷ [])
+        ∙ (rw (f .own-list .ids, above-more (cut l me) (l .numbered) 1 (f .own-list .numbered))
+        (sym (map-append (ownId me) (above (cut l me) (l .numbered)) (after (l .numbered) 1))))
+
+-- ---- sending what waits
+
+pub sent-fits : (n q me : ℕ) (l : Log) → LogFits n q me l → LogFits n q me (withSent (l .numbered) l)
+unfolding cut queue idsIn
+sent-fits n q me l f = record {
+  ranges = record {
+    green = f .ranges .green;
+    red = f .ranges .red;
+    cuts-length = f .ranges .cuts-length;
+    cuts = f .ranges .cuts;
+    own = f .ranges .own;
+    numbered = f .ranges .numbered;
+    sent = omega arith;
+  };
+  once = f .once;
+  held-to-cuts = record { within = f .held-to-cuts .within; entered = f .held-to-cuts .entered };
+  own-list = record { numbered = f .own-list .numbered; ids = f .own-list .ids };
+}

@@ -31,13 +31,15 @@ module _ (c : Context) where
       let a₃ = and-holds _ _ (a₂ .1) in
       let a₄ = and-holds _ _ (a₃ .1) in
       let a₅ = and-holds _ _ (a₄ .1) in
+      let a₆ = and-holds _ _ (a₅ .1) in
       record {
         green = all-each (actionOk c) (ActionFits (c .servers) (c .quota)) (action-facts c) (l .green) (a₁ .0);
         red = all-each (actionOk c) (ActionFits (c .servers) (c .quota)) (action-facts c) (l .red) (a₂ .0);
         cuts-length = eq-holds _ _ (a₃ .0);
         cuts = cuts-facts (c .quota) (l .cuts) (a₄ .0);
         own = all-each (actionOk c) (ActionFits (c .servers) (c .quota)) (action-facts c) (l .own) (a₅ .0);
-        numbered = le-holds _ _ (a₅ .1);
+        numbered = le-holds _ _ (a₆ .0);
+        sent = le-holds _ _ (a₆ .1);
       }
 
   pub log-ok : (l : Log) → LogRanges (c .servers) (c .quota) l → logRanges c l ≡ true
@@ -47,7 +49,8 @@ module _ (c : Context) where
       (both-yes _ _ (each-all (actionOk c) (ActionFits (c .servers) (c .quota)) (action-ok c) (l .red) (f .red))
       (both-yes _ _ (eq-yes _ _ (f .cuts-length))
       (both-yes _ _ (cuts-ok (c .quota) (l .cuts) (f .cuts))
-      (both-yes _ _ (each-all (actionOk c) (ActionFits (c .servers) (c .quota)) (action-ok c) (l .own) (f .own)) (le-yes _ _ (f .numbered))))))
+      (both-yes _ _ (each-all (actionOk c) (ActionFits (c .servers) (c .quota)) (action-ok c) (l .own) (f .own))
+      (both-yes _ _ (le-yes _ _ (f .numbered)) (le-yes _ _ (f .sent)))))))
 
   pub votes-facts : (v : Votes) → votesRanges c v ≡ true → VotesRanges (c .servers) (c .quota) v
   unfolding votesRanges indexOk

@@ -11,7 +11,7 @@ use lib.ListN.{length, length-append, length-map}
 use Rattle.base.specs.Tests.{pick}
 use Rattle.base.specs.Bytes.{joined}
 use Rattle.base.specs.Lists.{gather, gatherAll, below, at, Each}
-use Rattle.base.proofs.ListLaws.{each-append, each-always, each-implied, each-map, each-both, each-at, each-gather, each-gather-all, gather-length, gather-all-length, above-between}
+use Rattle.base.proofs.ListLaws.{each-append, each-always, each-filter, each-implied, each-map, each-both, each-at, each-gather, each-gather-all, gather-length, gather-all-length, above-between}
 use Rattle.format.specs.Places.{mostRetransmission}
 use Rattle.format.specs.Types.{Action, State, Record, action, retransmission, state, cpc}
 use Rattle.format.specs.Write.{write, lengthOf}
@@ -19,14 +19,15 @@ use Rattle.format.proofs.Lengths.{write-length}
 use Rattle.replication.specs.Machine.Types.{Log, Configuration, Server}
 use Rattle.replication.specs.Machine.Colours.{cut, find}
 use Rattle.replication.specs.Machine.Plan.{highest, lowest, missing, cutIn, greenIn, resender, isMe, resent, resendGreen, resendRed, ownPart, planned}
-use Rattle.replication.specs.Machine.Requests.{numberedFrom, madeOf, heldRecords}
+use Rattle.replication.specs.Machine.Requests.{unsent, waiting, waitingRecords}
 use Rattle.replication.specs.Machine.Step.{ownState}
-use Rattle.replication.specs.Machine.WellFormedRanges.{PayloadFits, ActionFits, StateFits, ConfigurationFits}
+use Rattle.replication.specs.Machine.WellFormedRanges.{ActionFits, StateFits, ConfigurationFits}
 use Rattle.replication.proofs.WellFormed.Clauses.{SizesFit}
 use Rattle.replication.proofs.WellFormed.SentFacts.{senderOf, RecordFits, PutOut}
 use Rattle.replication.proofs.WellFormed.Held.{found-fact}
 use Rattle.replication.proofs.WellFormed.Logs.{LogFits}
-use Rattle.replication.proofs.WellFormed.Numbering.{queue-short, numbered-each, numbered-own, numbered-length}
+use Rattle.replication.proofs.WellFormed.Numbering.{queue-short}
+use Rattle.replication.proofs.WellFormed.OwnList.{OwnId, waiting-short, waiting-ids}
 use Rattle.replication.proofs.WellFormed.Ranges.{ids-short}
 use Rattle.replication.proofs.WellFormed.Decisions.{green-bound, planned-bound}
 use Rattle.replication.proofs.WellFormed.Changes.{Body}
@@ -187,25 +188,23 @@ module _ (s : Server) (b : Body s) where
         yellow = b .votes .yellow;
       }
 
-  pub made-out : (ps : List (List ℕ)) → s .log .numbered + length ps ≤ s .quota → Each PayloadFits ps → PutOut (s .servers) (s .quota) (s .me) (map action (madeOf ps s))
-  unfolding madeOf
-  made-out ps q f =
-      short-out (s .servers) (s .quota) (s .me) (map action made)
-      (each-map (Short (s .servers) (s .quota) (s .me)) action made
-      (each-implied (λ a. ActionFits (s .servers) (s .quota) a × (a .id .creator ≡ s .me)) (λ a. Short (s .servers) (s .quota) (s .me) (action a))
-      (λ a h. action-short (s .servers) (s .quota) (s .me) a (h .0) (h .1)) made
-      (each-both (ActionFits (s .servers) (s .quota)) (λ a. a .id .creator ≡ s .me) made
-      (numbered-each (s .servers) (s .quota) (s .me) (length (s .log .green)) (s .log .numbered) ps (b .sizes .own)
-      (omega (arith, queue-short (s .servers) (s .quota) (s .me) (s .log) (b .log))) q f)
-      (numbered-own (s .me) (length (s .log .green)) (s .log .numbered) ps))))
-      (omega (arith, length-map made action, numbered-length (s .me) (length (s .log .green)) (s .log .numbered) ps, many .quota))
-    where
-      made : List Action
-      made = numberedFrom (s .me) (length (s .log .green)) (s .log .numbered) ps
-
-  pub held-out : PutOut (s .servers) (s .quota) (s .me) (heldRecords s)
-  unfolding heldRecords
-  held-out = made-out (s .held) (b .quota-kept) (b .held)
+  pub waiting-out : PutOut (s .servers) (s .quota) (s .me) (waitingRecords s)
+  unfolding waitingRecords waiting unsent
+  waiting-out =
+      short-out (s .servers) (s .quota) (s .me) (map action (waiting (s .log)))
+      (each-map (Short (s .servers) (s .quota) (s .me)) action (waiting (s .log))
+      (each-implied (λ a. ActionFits (s .servers) (s .quota) a × OwnId (s .me) (s .log) (a .id)) (λ a. Short (s .servers) (s .quota) (s .me) (action a))
+      (λ a h. action-short (s .servers) (s .quota) (s .me) a (h .0) (h .1 .creator)) (waiting (s .log))
+      (each-both (ActionFits (s .servers) (s .quota)) (λ a. OwnId (s .me) (s .log) (a .id)) (waiting (s .log))
+      (each-filter (ActionFits (s .servers) (s .quota)) _ (s .log .own) (b .log .ranges .own))
+      (waiting-ids (s .me) (s .log) (b .log .own-list)))))
+      (omega (
+        arith,
+        length-map (waiting (s .log)) action,
+        waiting-short (s .me) (s .log) (b .log .own-list),
+        b .log .ranges .numbered,
+        many .quota,
+      ))
 
   pub resent-out : (xs : List State) → Each (StateFits (s .servers) (s .quota)) xs → PutOut (s .servers) (s .quota) (s .me) (ownPart (s .servers) (s .me) (s .log) xs)
   resent-out xs f =

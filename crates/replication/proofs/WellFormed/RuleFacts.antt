@@ -9,7 +9,7 @@ use Rattle.base.proofs.TestLaws.{and-holds, eq-yes, le-holds, lt-holds}
 use Rattle.format.specs.Types.{Action, State, Record, action, retransmission, state, cpc, regular, transitional, request, recovery}
 use Rattle.format.specs.Range.{actionOk, configurationOk, fieldsOk, recordOk}
 use Rattle.replication.specs.Machine.Types.{Mode, Non-prim, Reg-prim, Trans-prim, Exchange-states, Exchange-actions, Construct, No, Un, Configuration, Server, contextOf}
-use Rattle.replication.specs.Machine.Rules.{Rule, ignoring, reddening, greening, yellowing, lateInstalling, exchanging, collectingState, collectingCpc, collectingLateCpc, joining, joiningUnmarked, joiningYellow, leaving, requesting, recovering, onAction, onRetransmission, onState, onCpc, onRegular, onTransitional, ruleFor, numberedOwn, possible, fromMember, isIgnored, withinQuota, withinHeld}
+use Rattle.replication.specs.Machine.Rules.{Rule, ignoring, reddening, greening, yellowing, lateInstalling, exchanging, collectingState, collectingCpc, collectingLateCpc, joining, joiningUnmarked, joiningYellow, leaving, requesting, recovering, onAction, onRetransmission, onState, onCpc, onRegular, onTransitional, ruleFor, numberedOwn, possible, fromMember, isIgnored, withinQuota}
 use Rattle.replication.specs.Laws.Transitions.{stays, parts, interruptsStates, interruptsActions, interruptsConstruct}
 use Rattle.replication.specs.Machine.WellFormedRanges.{StateFits, ConfigurationFits, TransitionalFits}
 use Rattle.replication.proofs.WellFormed.Ranges.{payload-facts, action-facts, state-facts, own-set-facts}
@@ -108,21 +108,21 @@ module _ (s : Server) (k : Rule) where
   -- ---- all together
 
   fields-fit : (r : Record) → fieldsOk (contextOf s) r ≡ true → ruleFor (s .membership .mode) r ≡ some k → possible s r ≡ true
-      → (isIgnored k or fromMember (s .membership) r) ≡ true → withinQuota s r ≡ true → withinHeld s r ≡ true → RuleFits k s
-  unfolding fieldsOk contextOf ruleFor possible withinQuota withinHeld configurationOk
-  fields-fit (action a) f h p o q w = action-rule (s .membership .mode) a refl (delivered s a f p) h
-  fields-fit (retransmission j i a) f h p o q w =
+      → (isIgnored k or fromMember (s .membership) r) ≡ true → withinQuota s r ≡ true → RuleFits k s
+  unfolding fieldsOk contextOf ruleFor possible withinQuota configurationOk
+  fields-fit (action a) f h p o q = action-rule (s .membership .mode) a refl (delivered s a f p) h
+  fields-fit (retransmission j i a) f h p o q =
       retransmission-rule (s .membership .mode) i a refl (delivered s a (and-holds _ _ (and-holds _ _ f .1) .1) p) h
-  fields-fit (state x) f h p o q w = state-rule (s .membership .mode) x refl (state-facts (contextOf s) x f) h o
-  fields-fit (cpc j i) f h p o q w = cpc-rule (s .membership .mode) j refl (lt-holds _ _ (and-holds _ _ f .0)) h
-  fields-fit (regular i t) f h p o q w =
+  fields-fit (state x) f h p o q = state-rule (s .membership .mode) x refl (state-facts (contextOf s) x f) h o
+  fields-fit (cpc j i) f h p o q = cpc-rule (s .membership .mode) j refl (lt-holds _ _ (and-holds _ _ f .0)) h
+  fields-fit (regular i t) f h p o q =
       regular-rule (s .membership .mode) (record { id = i; set = t }) (record { id = lt-holds _ _ (and-holds _ _ f .0); set = own-set-facts (contextOf s) t (and-holds _ _ f .1) }) h
-  fields-fit (transitional t) f h p o q w =
+  fields-fit (transitional t) f h p o q =
       transitional-rule (s .membership .mode) t refl (record { set = own-set-facts (contextOf s) t (and-holds _ _ f .0); inside = and-holds _ _ f .1 }) h
-  fields-fit (request x) f h p o q w = by (requesting x) h (payload-facts x f, q, w)
-  fields-fit recovery f h p o q w = by recovering h tt
+  fields-fit (request x) f h p o q = by (requesting x) h (payload-facts x f, q)
+  fields-fit recovery f h p o q = by recovering h tt
 
   pub rule-fits : (r : Record) → recordOk (contextOf s) r ≡ true → ruleFor (s .membership .mode) r ≡ some k → possible s r ≡ true
-      → (isIgnored k or fromMember (s .membership) r) ≡ true → withinQuota s r ≡ true → withinHeld s r ≡ true → RuleFits k s
+      → (isIgnored k or fromMember (s .membership) r) ≡ true → withinQuota s r ≡ true → RuleFits k s
   unfolding recordOk
-  rule-fits r f h p o q w = fields-fit r (and-holds _ _ f .1) h p o q w
+  rule-fits r f h p o q = fields-fit r (and-holds _ _ f .1) h p o q

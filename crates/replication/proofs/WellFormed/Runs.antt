@@ -46,6 +46,7 @@ module _ (n q i : ℕ) (sizes : sizesOk n q ≡ true) (own : i < n) where
       cuts = λ c. omega (arith, replicate-at {A = ℕ} 0 n c);
       own = tt;
       numbered = omega arith;
+      sent = omega arith;
     };
     votes = record {
       last = record { index = omega arith; attempt = omega arith; set = everyone-below n };
@@ -61,14 +62,11 @@ module _ (n q i : ℕ) (sizes : sizesOk n q ≡ true) (own : i < n) where
       cpcs = empty-below n;
       come = omega arith;
     };
-    held-length = omega arith;
-    held = tt;
     noted-length = length-replicate n 0;
     noted = λ c. omega (arith, replicate-at {A = ℕ} 0 n c);
     once = λ d. omega arith;
     held-to-cuts = record { within = λ d h. absurd (omega arith); entered = λ d low high. absurd (omega (arith, replicate-at {A = ℕ} 0 n (d .creator))) };
     own-list = record { numbered = omega (arith, replicate-at {A = ℕ} 0 n i); ids = ap (λ k. map (λ j. record { creator = i; index = j }) (above k 0)) (sym (replicate-at {A = ℕ} 0 n i)) };
-    quota-kept = omega arith;
     mode = tt;
   }
 

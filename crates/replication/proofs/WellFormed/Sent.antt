@@ -12,7 +12,7 @@ use Rattle.replication.specs.Machine.Types.{Non-prim, Reg-prim, Exchange
 use Rattle.replication.specs.Machine.Exchange.{quorum}
 use Rattle.replication.specs.Machine.Plan.{ownPart}
 use Rattle.replication.specs.Machine.Install.{install}
-use Rattle.replication.specs.Machine.Requests.{sendsNow, quotaLeft, numbered, madeOf, hold, sendHeld, heldRecords}
+use Rattle.replication.specs.Machine.Requests.{sendsNow, quotaLeft, numbered, madeOf, sendWaiting, waitingRecords}
 use Rattle.replication.specs.Machine.Rules.{Rule, ignoring, reddening, greening, yellowing, lateInstalling, exchanging, collectingState, collectingCpc, collectingLateCpc, joining, joiningUnmarked, joiningYellow, leaving, requesting, recovering}
 use Rattle.replication.specs.Machine.Step.{quiet, stored, sent, unmarked, yellowValid, join, hereSet, hereId, collected, decided, attempting, endExchange, withState, allStatesIn, plannedNow, resending, afterStates, collectState, oneMore, exchanged, allCome, exchange, withCpc, allCpcsIn, installing, collectCpc, collectLateCpc, requested, apply}
 use Rattle.replication.specs.Machine.WellFormedRanges.{PayloadFits}
@@ -21,10 +21,10 @@ use Rattle.replication.proofs.WellFormed.Clauses.{WellFormed}
 use Rattle.replication.proofs.WellFormed.SentFacts.{PutOut}
 use Rattle.replication.proofs.WellFormed.Changes.{Body, body, in-mode, collected-fit, here-id-below}
 use Rattle.replication.specs.Laws.RuleFits.{Delivered, StateCame, RuleFits}
-use Rattle.replication.proofs.WellFormed.Effects.{exchanged-body, install-body}
+use Rattle.replication.proofs.WellFormed.Effects.{exchanged-body, install-body, number-body}
 use Rattle.replication.proofs.WellFormed.Exchanges.{decided-body, with-state-body, with-cpc-body, unmarked-body, yellow-valid-body}
 use Rattle.replication.proofs.WellFormed.Kept.{After}
-use Rattle.replication.proofs.WellFormed.Records.{none-out, cpc-out, state-out, made-out, held-out, resent-out}
+use Rattle.replication.proofs.WellFormed.Records.{none-out, cpc-out, state-out, waiting-out, resent-out}
 
 abbrev pub PutsOut : Server → Outcome Record → Type 0
 PutsOut s o = After (λ t r. PutOut (s .servers) (s .quota) (s .me) r) o
@@ -39,9 +39,9 @@ module _ (s t : Server) (b : Body t) (c : Configured t) where
   unfolding endExchange stored decided
   end-out =
       pick-as (PutsOut t) (quorum (collected t) (hereSet t)) (stored s (attempting (decided t)) (cpc (t .me) (hereId t) ∷ []))
-      (stored s (sendHeld (inMode Non-prim (decided t))) (heldRecords (inMode Non-prim (decided t))))
+      (stored s (sendWaiting (inMode Non-prim (decided t))) (waitingRecords (inMode Non-prim (decided t))))
       (λ h. cpc-out t b (hereId t) (here-id-below t b (c .0) (c .1)))
-      (λ h. held-out (inMode Non-prim (decided t)) (in-mode (decided t) (decided-body t b) Non-prim))
+      (λ h. waiting-out (inMode Non-prim (decided t)) (in-mode (decided t) (decided-body t b) Non-prim))
 
   states-out : PutsOut t (afterStates s t)
   unfolding afterStates sent
@@ -75,7 +75,7 @@ module _ (s : Server) (f : WellFormed s) where
   collectingCpc-out k h e =
       pick-as (PutsOut s) (allCpcsIn (withCpc k s)) (installing s (withCpc k s)) (quiet s (withCpc k s))
       (λ t.
-      held-out (inMode Reg-prim (install (withCpc k s)))
+      waiting-out (inMode Reg-prim (install (withCpc k s)))
       (in-mode (install (withCpc k s)) (install-body (withCpc k s) (with-cpc-body s (body s f) k h) ((subst (λ m. ModeFits m s) e (f .mode)) .1)) Reg-prim))
       (λ t. nothing-out)
 
@@ -85,10 +85,10 @@ module _ (s : Server) (f : WellFormed s) where
       pick-as (PutsOut s) (allCpcsIn (withCpc k s)) (quiet s (inMode Un (withCpc k s))) (quiet s (withCpc k s)) (λ t. nothing-out) (λ t. nothing-out)
 
   requesting-out : (p : List ℕ) → PayloadFits p → quotaLeft s ≡ true → PutsOut s (requested p s)
-  unfolding requested stored quiet quotaLeft
+  unfolding requested stored numbered
   requesting-out p g q =
-      pick-as (PutsOut s) (sendsNow (s .membership)) (stored s (numbered (p ∷ []) s) (map action (madeOf (p ∷ []) s))) (quiet s (hold p s))
-      (λ h. let room = lt-holds _ _ q in made-out s (body s f) (p ∷ []) (omega arith) (g, tt)) (λ h. nothing-out)
+      pick-as (PutsOut s) (sendsNow (s .membership)) (stored s (sendWaiting (numbered p s)) (waitingRecords (numbered p s))) (stored s (numbered p s) [])
+      (λ h. waiting-out (numbered p s) (number-body s (body s f) p g q)) (λ h. nothing-out)
 
   pub apply-out : (k : Rule) → RuleFits k s → PutsOut s (apply k s)
   unfolding apply quiet stored join

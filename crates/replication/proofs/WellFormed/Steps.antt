@@ -22,7 +22,7 @@ use Rattle.replication.proofs.WellFormed.Apply.{apply-keeps}
 module _ (s : Server) (e : List ℕ) (t : Server) (bs : List (List ℕ)) (b : Bool) (g : List Action) where
   -- What the rule that took the event may rely on.
   pub taken-fits : (d : TakenBy s e t bs b g) → RuleFits (d .rule) s
-  taken-fits d = rule-fits s (d .rule) (d .event) (read-in-range (contextOf s) e (d .event) (d .reads)) (d .ruled) (d .can) (d .member) (d .quota) (d .room)
+  taken-fits d = rule-fits s (d .rule) (d .event) (read-in-range (contextOf s) e (d .event) (d .reads)) (d .ruled) (d .can) (d .member) (d .quota)
 
   step-kept : WellFormed s → step s e ≡ taken t bs b g → Kept s t
   step-kept f h =

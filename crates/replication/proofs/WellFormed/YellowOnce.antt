@@ -25,10 +25,9 @@ before = record {
   servers = 2;
   quota = 1;
   me = 0;
-  log = record { green = []; red = []; cuts = 0 ∷ 0 ∷ []; own = []; numbered = 0 };
+  log = record { green = []; red = []; cuts = 0 ∷ 0 ∷ []; own = []; numbered = 0; sent = 0 };
   votes = record { last = record { index = 0; attempt = 0; set = 3 }; attempt = 0; mark = clearedMark; yellow = record { status = 0; ids = yellowId ∷ [] } };
   membership = record { mode = Trans-prim; configuration = some (record { id = 1; set = 3 }); transitional = some 3; states = none ∷ none ∷ []; cpcs = 0; come = 0 };
-  held = [];
   noted = 0 ∷ 0 ∷ [];
 }
 

@@ -20,12 +20,28 @@ pub record SameServer (s t : Server) : Type 0 where
   pub quota : t .quota ≡ s .quota
   pub me : t .me ≡ s .me
 
--- The control part: last primary, attempt, mark, and how many actions are numbered.
+-- The control part: last primary, attempt, mark, how many actions are numbered and up to which index own ones are sent.
 pub record SameControl (s t : Server) : Type 0 where
   pub last : t .votes .last ≡ s .votes .last
   pub attempt : t .votes .attempt ≡ s .votes .attempt
   pub mark : t .votes .mark ≡ s .votes .mark
   pub numbered : t .log .numbered ≡ s .log .numbered
+  pub sent : t .log .sent ≡ s .log .sent
+
+-- The own actions in the log l: k are numbered, and sent up to the index m.
+pub record OwnNumbers (k m : ℕ) (l : Log) : Type 0 where
+  pub numbered : l .numbered ≡ k
+  pub sent : l .sent ≡ m
+
+-- From the log l to the log m none was numbered and none sent.
+abbrev pub SameNumbers : Log → Log → Type 0
+SameNumbers l m = OwnNumbers (l .numbered) (l .sent) m
+
+-- The logs hold the same, in the same colours.
+pub record SameHeld (l m : Log) : Type 0 where
+  pub green : m .green ≡ l .green
+  pub red : m .red ≡ l .red
+  pub cuts : m .cuts ≡ l .cuts
 
 -- The log m has grown from the log l: the green list goes on, no cut and no number falls.
 pub record Grows (l m : Log) : Type 0 where

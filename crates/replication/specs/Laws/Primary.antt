@@ -7,6 +7,7 @@ use Rattle.format.specs.Types.{Action, Record, action, regular, transitional, r
 use Rattle.replication.specs.Machine.Types.{Trans-prim, Exchange-states, Configuration, Server, modeOf}
 use Rattle.replication.specs.Machine.Step.{unmarked, yellowValid}
 use Rattle.replication.specs.Laws.Folds.{Greened, Yellowed}
+use Rattle.replication.specs.Laws.Order.{SameHeld}
 
 -- In Reg_prim: an action is greened, a request is sent, a transitional configuration leads to Trans_prim.
 pub data RegularStep (s : Server) (r : Record) (t : Server) : Type 0 where
@@ -17,10 +18,10 @@ pub data RegularStep (s : Server) (r : Record) (t : Server) : Type 0 where
   leaves : (x : ℕ) → r ≡ transitional x → modeOf t ≡ Trans-prim → t .votes ≡ s .votes → t .log ≡ s .log → RegularStep s r t
   recovers : r ≡ recovery → RegularStep s r t
 
--- In Trans_prim: an action is yellowed, a request is held, a regular configuration leads to Exchange_states with yellow made valid.
+-- In Trans_prim: an action is yellowed, a request is numbered, a regular configuration leads to Exchange_states with yellow made valid.
 pub data TransitionalStep (s : Server) (r : Record) (t : Server) : Type 0 where
   delivers : (a : Action) → r ≡ action a → t .membership ≡ s .membership → Yellowed (a ∷ []) s t → TransitionalStep s r t
-  holds : (p : List ℕ) → r ≡ request p → t .membership ≡ s .membership → t .votes ≡ s .votes → t .log ≡ s .log
+  numbers : (p : List ℕ) → r ≡ request p → t .membership ≡ s .membership → t .votes ≡ s .votes → SameHeld (s .log) (t .log)
       → TransitionalStep s r t
   joins : (c : Configuration) → r ≡ regular (c .id) (c .set) → modeOf t ≡ Exchange-states → t .votes ≡ yellowValid (unmarked (s .votes))
       → t .log ≡ s .log → TransitionalStep s r t

@@ -1,4 +1,5 @@
--- Document 01, 'Returned numbers': the rows from 1 on, each as a test of a state and an event, and the table's claim.
+-- Document 01, 'Returned numbers': the rows from 1 on, each as a test of a state and an event, and the table's claim. Document 02, K4:
+-- "4 never occurs", so it has no row here.
 -- Assumes nothing.
 use Prim.Native.Nat.{ℕ}
 use mathlib.Core.Path.{_≡_}
@@ -12,7 +13,7 @@ use Rattle.format.specs.Types.{Record, Kind}
 use Rattle.format.specs.Range.{recordOk}
 use Rattle.format.specs.Read.{kindNamed, frameOk, recordIn}
 use Rattle.replication.specs.Machine.Types.{Server, contextOf, modeOf}
-use Rattle.replication.specs.Machine.Rules.{Rule, ruleFor, possible, fromMember, isIgnored, withinQuota, withinHeld}
+use Rattle.replication.specs.Machine.Rules.{Rule, ruleFor, possible, fromMember, isIgnored, withinQuota}
 
 -- ---- the event
 
@@ -58,13 +59,9 @@ ignores (some k) = isIgnored k
 unfoldable pub row6 : Server → List ℕ → Bool
 row6 s e = tested (λ r. not (ignores (ruleFor (modeOf s) r)) and not (fromMember (s .membership) r)) (recordOf s e)
 
--- "request, actions numbered so far plus held ones already q"
+-- "request, actions numbered so far .. already q"
 unfoldable pub row3 : Server → List ℕ → Bool
 row3 s e = tested (λ r. not (withinQuota s r)) (recordOf s e)
-
--- "request to hold, 16 held"
-unfoldable pub row4 : Server → List ℕ → Bool
-row4 s e = tested (λ r. not (withinHeld s r)) (recordOf s e)
 
 -- ---- "Checked in this order.": the row applies and none before it does
 
@@ -74,8 +71,6 @@ pub data Refuses (s : Server) (e : List ℕ) : ℕ → Type 0 where
   by-row5 : row1 s e ≡ false → row2 s e ≡ false → row5 s e ≡ true → Refuses s e 5
   by-row6 : row1 s e ≡ false → row2 s e ≡ false → row5 s e ≡ false → row6 s e ≡ true → Refuses s e 6
   by-row3 : row1 s e ≡ false → row2 s e ≡ false → row5 s e ≡ false → row6 s e ≡ false → row3 s e ≡ true → Refuses s e 3
-  by-row4 : row1 s e ≡ false → row2 s e ≡ false → row5 s e ≡ false → row6 s e ≡ false → row3 s e ≡ false
-      → row4 s e ≡ true → Refuses s e 4
 
 -- The number of the first row that applies, 0 if none does.
 unfoldable pub firstRow : Server → List ℕ → ℕ
@@ -84,8 +79,7 @@ firstRow s e =
     (pick (row2 s e) 2
     (pick (row5 s e) 5
     (pick (row6 s e) 6
-    (pick (row3 s e) 3
-    (pick (row4 s e) 4 0)))))
+    (pick (row3 s e) 3 0))))
 
 pub record NoRow (s : Server) (e : List ℕ) : Type 0 where
   pub not1 : row1 s e ≡ false
@@ -93,4 +87,3 @@ pub record NoRow (s : Server) (e : List ℕ) : Type 0 where
   pub not5 : row5 s e ≡ false
   pub not6 : row6 s e ≡ false
   pub not3 : row3 s e ≡ false
-  pub not4 : row4 s e ≡ false

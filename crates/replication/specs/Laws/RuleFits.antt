@@ -1,4 +1,4 @@
--- What each rule may rely on: the record was in range, the state takes it by this rule, and rows 5, 6, 3 and 4 do not apply.
+-- What each rule may rely on: the record was in range, the state takes it by this rule, and rows 5, 6 and 3 do not apply.
 -- Assumes nothing.
 use Prim.Native.Nat.{ℕ, _≤_, _<_}
 use mathlib.Core.Path.{_≡_}
@@ -6,7 +6,7 @@ use mathlib.Core.Bool.{true}
 use Rattle.format.specs.Types.{Action, State}
 use Rattle.replication.specs.Machine.Types.{Reg-prim, Trans-prim, Exchange-states, Exchange-actions, Construct, No, Un}
 use Rattle.replication.specs.Machine.Types.{Server, modeOf}
-use Rattle.replication.specs.Machine.Requests.{quotaLeft, roomToHold}
+use Rattle.replication.specs.Machine.Requests.{quotaLeft}
 use Rattle.replication.specs.Machine.Rules.{Rule, ignoring, reddening, greening, yellowing, lateInstalling, exchanging, collectingState}
 use Rattle.replication.specs.Machine.Rules.{collectingCpc, collectingLateCpc, joining, joiningUnmarked, joiningYellow, leaving, requesting}
 use Rattle.replication.specs.Machine.Rules.{recovering, memberOf, isOf}
@@ -42,5 +42,5 @@ RuleFits (joining c) s = ConfigurationFits (s .servers) (s .me) c
 RuleFits (joiningUnmarked c) s = ConfigurationFits (s .servers) (s .me) c
 RuleFits (joiningYellow c) s = ConfigurationFits (s .servers) (s .me) c
 RuleFits (leaving m t) s = TransitionalFits (s .servers) (s .me) (s .membership .configuration) t × Leads (modeOf s) m
-RuleFits (requesting p) s = PayloadFits p × (quotaLeft s ≡ true) × (roomToHold s ≡ true)
+RuleFits (requesting p) s = PayloadFits p × (quotaLeft s ≡ true)
 RuleFits recovering s = Unit {0}

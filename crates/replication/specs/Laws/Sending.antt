@@ -1,4 +1,4 @@
--- What a taken event puts out, numbers and holds.
+-- What a taken event puts out and numbers.
 -- Assumes nothing.
 use Prim.Native.Nat.{ℕ, _+_, _-_, _≤_, _<_}
 use mathlib.Core.Path.{_≡_}
@@ -14,53 +14,57 @@ use Rattle.replication.specs.Machine.Types.{Log, Configuration, Server, 
 use Rattle.replication.specs.Machine.Colours.{find}
 use Rattle.replication.specs.Machine.Exchange.{quorum}
 use Rattle.replication.specs.Machine.Plan.{missing, cutIn, greenIn, ownPart}
-use Rattle.replication.specs.Machine.Requests.{sendsNow, numberedFrom}
+use Rattle.replication.specs.Machine.Requests.{sendsNow, madeOf, unsent}
 use Rattle.replication.specs.Machine.Step.{ownState, hereSet, hereId, collected, allStatesIn, plannedNow, withCpc, allCpcsIn}
+use Rattle.replication.specs.Laws.Order.{SameNumbers}
 use Rattle.replication.specs.Laws.Votes.{statesWith, EndsExchange}
 
 -- ---- own actions
 
--- The actions that s makes of these payloads, for t to send: numbered on from those of s, with the green length of t.
-unfoldable pub made : Server → Server → List (List ℕ) → List Action
-made s t ps = numberedFrom (s .me) (length (t .log .green)) (s .log .numbered) ps
+-- "numbered, put on the own list": the action that s makes of the payload p.
+pub record Numbers (s t : Server) (p : List ℕ) : Type 0 where
+  pub numbered : t .log .numbered ≡ s .log .numbered + 1
+  pub own : t .log .own ≡ s .log .own ++ (madeOf p s ∷ [])
 
--- "numbered, put on the own list"
-pub record Numbers (s t : Server) (ps : List (List ℕ)) : Type 0 where
-  pub numbered : t .log .numbered ≡ s .log .numbered + length ps
-  pub before : List Action
-  pub own : t .log .own ≡ before ++ made s t ps
+-- What t has on its own list and s had not sent is put out, and t has sent all that is numbered.
+pub record SendsWaiting (s t : Server) (rs : List Record) : Type 0 where
+  pub records : rs ≡ map action (unsent (s .log .sent) (t .log .own))
+  pub sent : t .log .sent ≡ t .log .numbered
 
 -- ---- the records
 
 -- The ways to put out records, with the store word.
 pub data PutsOut (s : Server) (r : Record) (t : Server) : List Record → Bool → Type 0 where
-  nothing : (b : Bool) → t .log .numbered ≡ s .log .numbered → PutsOut s r t [] b
+  nothing : (b : Bool) → SameNumbers (s .log) (t .log) → PutsOut s r t [] b
   -- "on entry .. the state is stored, a State sent"
   stateOnEntry : (c : Configuration) → r ≡ regular (c .id) (c .set) → modeOf t ≡ Exchange-states → t .membership .configuration ≡ some c
-      → t .log .numbered ≡ s .log .numbered → PutsOut s r t (state (ownState c t) ∷ []) true
+      → SameNumbers (s .log) (t .log) → PutsOut s r t (state (ownState c t) ∷ []) true
   -- "When every member's State is in: send one's part of the plan, to Exchange_actions."
   partOfPlan : (x : State) → r ≡ state x → modeOf s ≡ Exchange-states → modeOf t ≡ Exchange-actions → allStatesIn t ≡ true
-      → (plannedNow t =? 0) ≡ false → t .log .numbered ≡ s .log .numbered
+      → (plannedNow t =? 0) ≡ false → SameNumbers (s .log) (t .log)
       → PutsOut s r t (ownPart (t .servers) (t .me) (t .log) (collected t)) false
   -- "attempt + 1, mark .., store, send CPC, Construct"
   cpcOnAttempt : EndsExchange s r → quorum (statesWith r s) (hereSet s) ≡ true → modeOf t ≡ Construct
-      → t .log .numbered ≡ s .log .numbered → PutsOut s r t (cpc (t .me) (hereId t) ∷ []) true
+      → SameNumbers (s .log) (t .log) → PutsOut s r t (cpc (t .me) (hereId t) ∷ []) true
   -- "Request: sent in Reg_prim, and in Non_prim .."
-  requestAtOnce : (p : List ℕ) → r ≡ request p → sendsNow (s .membership) ≡ true → t .membership ≡ s .membership
-      → Numbers s t (p ∷ []) → PutsOut s r t (map action (made s t (p ∷ []))) true
-  -- "Elsewhere held, and sent in order on reaching those states."
-  heldAfterExchange : EndsExchange s r → quorum (statesWith r s) (hereSet s) ≡ false → modeOf t ≡ Non-prim
-      → Numbers s t (s .held) → PutsOut s r t (map action (made s t (s .held))) true
-  heldAfterInstall : (k i : ℕ) → r ≡ cpc k i → modeOf s ≡ Construct → allCpcsIn (withCpc k s) ≡ true → modeOf t ≡ Reg-prim
-      → Numbers s t (s .held) → PutsOut s r t (map action (made s t (s .held))) true
+  requestAtOnce : (p : List ℕ) (rs : List Record) → r ≡ request p → sendsNow (s .membership) ≡ true → t .membership ≡ s .membership
+      → Numbers s t p → SendsWaiting s t rs → PutsOut s r t rs true
+  -- K4: "numbered, put on the own list and stored whenever it comes"
+  requestWaits : (p : List ℕ) → r ≡ request p → sendsNow (s .membership) ≡ false → Numbers s t p → t .log .sent ≡ s .log .sent
+      → PutsOut s r t [] true
+  -- K4: "sent .. in order when the server reaches Reg_prim, or the part of Non_prim where requests are sent"
+  waitingAfterExchange : (rs : List Record) → EndsExchange s r → quorum (statesWith r s) (hereSet s) ≡ false → modeOf t ≡ Non-prim
+      → t .log .numbered ≡ s .log .numbered → SendsWaiting s t rs → PutsOut s r t rs true
+  waitingAfterInstall : (k i : ℕ) (rs : List Record) → r ≡ cpc k i → modeOf s ≡ Construct → allCpcsIn (withCpc k s) ≡ true
+      → modeOf t ≡ Reg-prim → t .log .numbered ≡ s .log .numbered → SendsWaiting s t rs → PutsOut s r t rs true
 
--- An own action that t sends after s: its creator, its index above those that s has numbered and among those that t has, its green length; it is on
--- the own list.
+-- An own action that t has numbered after s: its creator, its index above those that s has numbered and among those that t has; it carries the green
+-- length of s, and is on the own list.
 pub record Own (s t : Server) (a : Action) : Type 0 where
   pub creator : a .id .creator ≡ s .me
   pub above : s .log .numbered < a .id .index
   pub within : a .id .index ≤ t .log .numbered
-  pub green-length : a .greenLength ≡ length (t .log .green)
+  pub green-length : a .greenLength ≡ length (s .log .green)
   pub listed : List·Memᴰ a (t .log .own)
 
 -- A record of one's part of the plan: "positions from the shortest length + 1", or "for each creator .. from the lowest cut + 1 .., as red".

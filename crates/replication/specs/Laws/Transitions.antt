@@ -15,8 +15,8 @@ use Rattle.replication.specs.Machine.Colours.{red, yellow}
 use Rattle.replication.specs.Machine.Exchange.{quorum}
 use Rattle.replication.specs.Machine.Install.{install}
 use Rattle.replication.specs.Machine.Plan.{ownPart}
-use Rattle.replication.specs.Machine.Requests.{sendsNow, numbered, madeOf, hold, sendHeld, heldRecords, recovered}
-use Rattle.replication.specs.Machine.Rules.{Rule, ruleFor, possible, fromMember, isIgnored, withinQuota, withinHeld}
+use Rattle.replication.specs.Machine.Requests.{sendsNow, numbered, sendWaiting, waitingRecords, recovered}
+use Rattle.replication.specs.Machine.Rules.{Rule, ruleFor, possible, fromMember, isIgnored, withinQuota}
 use Rattle.replication.specs.Machine.Step.{entering, ownState, unmarked, yellowValid, hereSet, hereId, collected, decided, attempting}
 use Rattle.replication.specs.Machine.Step.{withState, allStatesIn, plannedNow, resending, exchanged, allCome, withCpc, allCpcsIn, leave}
 use Rattle.replication.specs.Machine.Step.{greenAndNote, apply}
@@ -33,7 +33,6 @@ pub record TakenBy (s : Server) (e : List ℕ) (t : Server) (bs : List (List ℕ
   pub can : possible s event ≡ true
   pub member : (isIgnored rule or fromMember (s .membership) event) ≡ true
   pub quota : withinQuota s event ≡ true
-  pub room : withinHeld s event ≡ true
   pub applied : apply rule s ≡ taken t records b g
   pub written : bs ≡ map write records
 
@@ -43,7 +42,7 @@ pub record TakenBy (s : Server) (e : List ℕ) (t : Server) (bs : List (List ℕ
 pub data Ends (t : Server) : Server → List Record → Type 0 where
   withQuorum : quorum (collected t) (hereSet t) ≡ true → Ends t (attempting (decided t)) (cpc (t .me) (hereId t) ∷ [])
   withoutQuorum : quorum (collected t) (hereSet t) ≡ false
-      → Ends t (sendHeld (inMode Non-prim (decided t))) (heldRecords (inMode Non-prim (decided t)))
+      → Ends t (sendWaiting (inMode Non-prim (decided t))) (waitingRecords (inMode Non-prim (decided t)))
 
 -- Where a transitional configuration leads from a state that takes it.
 pub data Leads : Mode → Mode → Type 0 where
@@ -80,7 +79,8 @@ pub data Transition (s : Server) : Record → Server → List Record → Bool �
   -- a CPC that is not the last; the last; the same after a transitional configuration
   counts : (k i : ℕ) → modeOf s ≡ Construct → allCpcsIn (withCpc k s) ≡ false → Transition s (cpc k i) (withCpc k s) [] false
   installs : (k i : ℕ) → modeOf s ≡ Construct → allCpcsIn (withCpc k s) ≡ true
-      → Transition s (cpc k i) (sendHeld (inMode Reg-prim (install (withCpc k s)))) (heldRecords (inMode Reg-prim (install (withCpc k s)))) true
+      → Transition s (cpc k i) (sendWaiting (inMode Reg-prim (install (withCpc k s))))
+      (waitingRecords (inMode Reg-prim (install (withCpc k s)))) true
   countsLate : (k i : ℕ) → modeOf s ≡ No → allCpcsIn (withCpc k s) ≡ false → Transition s (cpc k i) (withCpc k s) [] false
   countsAllLate : (k i : ℕ) → modeOf s ≡ No → allCpcsIn (withCpc k s) ≡ true → Transition s (cpc k i) (inMode Un (withCpc k s)) [] false
   -- a regular configuration, with the mark kept, cleared, cleared and yellow made valid
@@ -92,9 +92,9 @@ pub data Transition (s : Server) : Record → Server → List Record → Bool �
   joinsYellow : (c : Configuration) → modeOf s ≡ Trans-prim
       → Transition s (regular (c .id) (c .set)) (entering c (withVotes (yellowValid (unmarked (s .votes))) s))
       (state (ownState c (withVotes (yellowValid (unmarked (s .votes))) s)) ∷ []) true
-  -- a transitional configuration, a request sent or held, recovery
+  -- a transitional configuration, a request sent or only numbered, recovery
   leaves : (from to : Mode) (x : ℕ) → modeOf s ≡ from → Leads from to → Transition s (transitional x) (leave to x s) [] false
   sends : (p : List ℕ) → sendsNow (s .membership) ≡ true
-      → Transition s (request p) (numbered (p ∷ []) s) (map action (madeOf (p ∷ []) s)) true
-  holds : (p : List ℕ) → sendsNow (s .membership) ≡ false → Transition s (request p) (hold p s) [] false
+      → Transition s (request p) (sendWaiting (numbered p s)) (waitingRecords (numbered p s)) true
+  numbers : (p : List ℕ) → sendsNow (s .membership) ≡ false → Transition s (request p) (numbered p s) [] true
   recovers : Transition s recovery (recovered s) [] true

@@ -42,6 +42,7 @@ enter a l = record {
   cuts = set (l .cuts) (a .id .creator) (a .id .index);
   own = remove (a .id) (l .own);
   numbered = l .numbered;
+  sent = l .sent;
 }
 
 unfoldable pub red : Action → Log → Log
@@ -55,7 +56,14 @@ reds (a ∷ more) l = reds more (red a l)
 
 -- The held red action x becomes the last green one.
 unfoldable pub promote : Action → Log → Log
-promote x l = record { green = l .green ++ (x ∷ []); red = remove (x .id) (l .red); cuts = l .cuts; own = l .own; numbered = l .numbered }
+promote x l = record {
+  green = l .green ++ (x ∷ []);
+  red = remove (x .id) (l .red);
+  cuts = l .cuts;
+  own = l .own;
+  numbered = l .numbered;
+  sent = l .sent;
+}
 
 unfoldable pub promoteFound : Option Action → Log → Log
 promoteFound none l = l

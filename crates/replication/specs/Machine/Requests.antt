@@ -1,16 +1,15 @@
--- Document 01, 'Request' and 'Recovery'.
+-- Document 01, 'Request' and 'Recovery', with document 02's K4.
 -- Assumes nothing.
 use Prim.Native.Nat.{ℕ, _+_}
 use mathlib.Core.Bool.{Bool, true, false}
-use mathlib.Core.List.{List, [], _∷_, _++_, map}
+use mathlib.Core.List.{List, map}
 use mathlib.Core.Option.{Option, none, some}
 use lib.ListN.{length}
-use Rattle.base.specs.Tests.{_and_, _or_, _<?_}
-use Rattle.base.specs.Lists.{isThere}
-use Rattle.format.specs.Limits.{mostHeld}
+use Rattle.base.specs.Tests.{_and_, _<?_}
+use Rattle.base.specs.Lists.{filter, isThere}
 use Rattle.format.specs.Types.{Action, Record, action}
 use Rattle.replication.specs.Machine.Types.{Mode, Non-prim, Reg-prim, Trans-prim, Exchange-states, Exchange-actions, Construct, No, Un}
-use Rattle.replication.specs.Machine.Types.{Membership, Server, withLog, withMembership, withHeld, withOwn, noStates}
+use Rattle.replication.specs.Machine.Types.{Log, Membership, Server, withLog, withMembership, withOwn, withSent, noStates}
 use Rattle.replication.specs.Machine.Colours.{reds}
 
 -- The latest configuration since start or recovery is regular.
@@ -32,38 +31,37 @@ sendsIn Un r = false
 unfoldable pub sendsNow : Membership → Bool
 sendsNow m = sendsIn (m .mode) (isThere (m .configuration) and inRegular (m .transitional))
 
--- "actions numbered so far plus held ones already q" does not apply.
+-- Document 02, K4: "3 counts numbered actions". Already q does not apply.
 unfoldable pub quotaLeft : Server → Bool
-quotaLeft s = s .log .numbered + length (s .held) <? s .quota
+quotaLeft s = s .log .numbered <? s .quota
 
--- "request to hold, 16 held" does not apply.
-unfoldable pub roomToHold : Server → Bool
-roomToHold s = sendsNow (s .membership) or length (s .held) <? mostHeld
+-- K4: "A request is now numbered, put on the own list and stored whenever it comes"; "It carries the green length of when it was numbered."
+unfoldable pub madeOf : List ℕ → Server → Action
+madeOf p s = record {
+  id = record { creator = s .me; index = s .log .numbered + 1 };
+  greenLength = length (s .log .green);
+  payload = p;
+}
 
--- The actions made of these payloads: the server's own, numbered from k + 1 on, with its present green length.
-unfoldable pub numberedFrom : ℕ → ℕ → ℕ → List (List ℕ) → List Action
-numberedFrom me g k [] = []
-numberedFrom me g k (p ∷ ps) = record { id = record { creator = me; index = k + 1 }; greenLength = g; payload = p } ∷ numberedFrom me g (k + 1) ps
+unfoldable pub numbered : List ℕ → Server → Server
+numbered p s = withLog (withOwn (madeOf p s) (s .log)) s
 
-unfoldable pub madeOf : List (List ℕ) → Server → List Action
-madeOf ps s = numberedFrom (s .me) (length (s .log .green)) (s .log .numbered) ps
+-- K4: "and is sent, one time only, in order when the server reaches Reg_prim, or the part of Non_prim where requests are sent". What waits to be
+-- sent: own actions above those sent, and on the own list, for "once entered it is not sent".
+unfoldable pub unsent : ℕ → List Action → List Action
+unsent sent own = filter (λ a. sent <? a .id .index) own
 
--- "numbered, put on the own list"
-unfoldable pub numbered : List (List ℕ) → Server → Server
-numbered ps s = withLog (withOwn (madeOf ps s) (length ps) (s .log)) s
+unfoldable pub waiting : Log → List Action
+waiting l = unsent (l .sent) (l .own)
 
--- "Elsewhere held"
-unfoldable pub hold : List ℕ → Server → Server
-hold p s = withHeld (s .held ++ (p ∷ [])) s
+unfoldable pub waitingRecords : Server → List Record
+waitingRecords s = map action (waiting (s .log))
 
--- "and sent in order on reaching those states"
-unfoldable pub sendHeld : Server → Server
-sendHeld s = withHeld [] (numbered (s .held) s)
+unfoldable pub sendWaiting : Server → Server
+sendWaiting s = withLog (withSent (s .log .numbered) (s .log)) s
 
-unfoldable pub heldRecords : Server → List Record
-heldRecords s = map action (madeOf (s .held) s)
-
--- "Recovery, from the stored image: Non_prim, no configuration, holds and States dropped, own-list actions above the own cut entered red"
+-- "Recovery, from the stored image: Non_prim, no configuration, .. States dropped, own-list actions above the own cut entered red"; K4: "After a
+-- crash it is an own-list action like any other".
 unfoldable pub recovered : Server → Server
 recovered s =
     withMembership (record {
@@ -73,4 +71,4 @@ recovered s =
       states = noStates (s .servers);
       cpcs = s .membership .cpcs;
       come = s .membership .come;
-    }) (withHeld [] (withLog (reds (s .log .own) (s .log)) s))
+    }) (withLog (reds (s .log .own) (s .log)) s)

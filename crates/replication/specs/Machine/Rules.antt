@@ -1,4 +1,4 @@
--- Document 01, 'What each event does': which state takes which event, and the conditions of rows 5, 6, 3 and 4 of 'Returned numbers'.
+-- Document 01, 'What each event does': which state takes which event, and the conditions of rows 5, 6 and 3 of 'Returned numbers'.
 -- Assumes nothing.
 use Prim.Native.Nat.{ℕ}
 use mathlib.Core.Bool.{Bool, true, false, not}
@@ -11,7 +11,7 @@ use Rattle.base.specs.Sets.{inSet}
 use Rattle.format.specs.Types.{Action, State, Record, action, retransmission, state, cpc, regular, transitional, request, recovery}
 use Rattle.replication.specs.Machine.Types.{Mode, Non-prim, Reg-prim, Trans-prim, Exchange-states, Exchange-actions, Construct, No, Un}
 use Rattle.replication.specs.Machine.Types.{Configuration, Membership, Server}
-use Rattle.replication.specs.Machine.Requests.{quotaLeft, roomToHold}
+use Rattle.replication.specs.Machine.Requests.{quotaLeft}
 
 -- What an event that a state takes does there.
 pub data Rule : Type 0 where
@@ -191,7 +191,7 @@ isIgnored (leaving m t) = false
 isIgnored (requesting p) = false
 isIgnored recovering = false
 
--- ---- rows 3 and 4
+-- ---- row 3
 
 unfoldable pub withinQuota : Server → Record → Bool
 withinQuota s (action a) = true
@@ -202,13 +202,3 @@ withinQuota s (regular i t) = true
 withinQuota s (transitional t) = true
 withinQuota s (request p) = quotaLeft s
 withinQuota s recovery = true
-
-unfoldable pub withinHeld : Server → Record → Bool
-withinHeld s (action a) = true
-withinHeld s (retransmission k p a) = true
-withinHeld s (state x) = true
-withinHeld s (cpc k i) = true
-withinHeld s (regular i t) = true
-withinHeld s (transitional t) = true
-withinHeld s (request p) = roomToHold s
-withinHeld s recovery = true

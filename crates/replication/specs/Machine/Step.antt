@@ -8,7 +8,7 @@ use lib.ListN.{length, drop, set}
 use Rattle.base.specs.Tests.{_and_, _or_, _=?_, _≤?_, pick}
 use Rattle.base.specs.Lists.{present, isThere}
 use Rattle.base.specs.Sets.{inSet, inside, withMember}
-use Rattle.format.specs.Types.{Action, State, Record, action, state, cpc, Reading, says}
+use Rattle.format.specs.Types.{Action, State, Record, state, cpc, Reading, says}
 use Rattle.format.specs.Read.{read}
 use Rattle.format.specs.Write.{write}
 use Rattle.replication.specs.Machine.Types.{Mode, Non-prim, Reg-prim, Trans-prim, Exchange-states, Exchange-actions, Construct, Un}
@@ -19,10 +19,10 @@ use Rattle.replication.specs.Machine.Colours.{red, green, yellow, note}
 use Rattle.replication.specs.Machine.Plan.{planned, ownPart}
 use Rattle.replication.specs.Machine.Exchange.{noteAll, takenVotes, attempted, quorum}
 use Rattle.replication.specs.Machine.Install.{install}
-use Rattle.replication.specs.Machine.Requests.{sendsNow, numbered, madeOf, hold, sendHeld, heldRecords, recovered}
+use Rattle.replication.specs.Machine.Requests.{sendsNow, numbered, sendWaiting, waitingRecords, recovered}
 use Rattle.replication.specs.Machine.Rules.{Rule, ignoring, reddening, greening, yellowing, lateInstalling, exchanging, collectingState}
 use Rattle.replication.specs.Machine.Rules.{collectingCpc, collectingLateCpc, joining, joiningUnmarked, joiningYellow, leaving, requesting}
-use Rattle.replication.specs.Machine.Rules.{recovering, ruleFor, possible, fromMember, isIgnored, withinQuota, withinHeld}
+use Rattle.replication.specs.Machine.Rules.{recovering, ruleFor, possible, fromMember, isIgnored, withinQuota}
 
 -- ---- outcomes: from s to t
 
@@ -111,7 +111,7 @@ unfoldable pub endExchange : Server → Server → Outcome Record
 endExchange s t =
     pick (quorum (collected t) (hereSet t))
     (stored s (attempting (decided t)) (cpc (t .me) (hereId t) ∷ []))
-    (stored s (sendHeld (inMode Non-prim (decided t))) (heldRecords (inMode Non-prim (decided t))))
+    (stored s (sendWaiting (inMode Non-prim (decided t))) (waitingRecords (inMode Non-prim (decided t))))
 
 -- ---- States: "When every member's State is in: send one's part of the plan, to Exchange_actions."
 
@@ -169,7 +169,7 @@ allCpcsIn s = inside (hereSet s) (s .membership .cpcs)
 
 -- "Construct: when every member's CPC is in: Install, to Reg_prim"
 unfoldable pub installing : Server → Server → Outcome Record
-installing s t = stored s (sendHeld (inMode Reg-prim (install t))) (heldRecords (inMode Reg-prim (install t)))
+installing s t = stored s (sendWaiting (inMode Reg-prim (install t))) (waitingRecords (inMode Reg-prim (install t)))
 
 unfoldable pub collectCpc : ℕ → Server → Outcome Record
 collectCpc k s = pick (allCpcsIn (withCpc k s)) (installing s (withCpc k s)) (quiet s (withCpc k s))
@@ -187,10 +187,10 @@ leave m t s = withMembership (withMode m (withTransitional t (s .membership))) s
 unfoldable pub greenAndNote : Action → Server → Server
 greenAndNote a s = withNoted (note (a .id .creator) (a .greenLength) (s .noted)) (withLog (green a (s .log)) s)
 
--- "numbered, put on the own list and stored first", or "Elsewhere held"
+-- "numbered, put on the own list and stored first", and sent where requests are sent; K4: elsewhere it waits.
 unfoldable pub requested : List ℕ → Server → Outcome Record
 requested p s =
-    pick (sendsNow (s .membership)) (stored s (numbered (p ∷ []) s) (map action (madeOf (p ∷ []) s))) (quiet s (hold p s))
+    pick (sendsNow (s .membership)) (stored s (sendWaiting (numbered p s)) (waitingRecords (numbered p s))) (stored s (numbered p s) [])
 
 -- ---- the step
 
@@ -211,13 +211,13 @@ apply (leaving m t) s = quiet s (leave m t s)
 apply (requesting p) s = requested p s
 apply recovering s = stored s (recovered s) []
 
--- 'Returned numbers': 5, 6, 3, 4, "Checked in this order."
+-- 'Returned numbers': 5, 6, 3, "Checked in this order."; K4: "4 never occurs".
 unfoldable pub applyRule : Option Rule → Server → Record → Outcome Record
 applyRule none s r = refused 5
 applyRule (some k) s r =
     pick (possible s r)
     (pick (isIgnored k or fromMember (s .membership) r)
-    (pick (withinQuota s r) (pick (withinHeld s r) (apply k s) (refused 4)) (refused 3))
+    (pick (withinQuota s r) (apply k s) (refused 3))
     (refused 6))
     (refused 5)
 

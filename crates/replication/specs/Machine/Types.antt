@@ -2,7 +2,7 @@
 -- Assumes nothing.
 use Prim.Native.Nat.{ℕ, _+_}
 use mathlib.Core.Bool.{Bool}
-use mathlib.Core.List.{List, [], _++_}
+use mathlib.Core.List.{List, [], _∷_, _++_}
 use mathlib.Core.Option.{Option, none, some}
 use lib.ListN.{replicate}
 use Rattle.base.specs.Sets.{everyone}
@@ -14,13 +14,15 @@ pub data Mode : Type 0 where
 
 -- The actions held: green ones (document 01's term: they have their lasting place) in their order, red ones (known, no lasting place yet) above
 -- them in the order in which they came; each creator's cut (document 01's term: the highest index entered); and the own list (own actions
--- numbered and not yet entered) with the number of actions numbered so far.
+-- numbered and not yet entered) with the number of actions numbered so far, and up to which index own actions have been sent: those on the own
+-- list with a higher one wait to be sent.
 pub record Log : Type 0 where
   pub green : List Action
   pub red : List Action
   pub cuts : List ℕ
   pub own : List Action
   pub numbered : ℕ
+  pub sent : ℕ
 
 -- What primary components are decided by.
 pub record Votes : Type 0 where
@@ -52,7 +54,6 @@ pub record Server : Type 0 where
   pub log : Log
   pub votes : Votes
   pub membership : Membership
-  pub held : List (List ℕ)
   pub noted : List ℕ
 
 -- What an event gives: its refusal number, or the new state, the records to send in order, whether to store first, and the actions that turned
@@ -64,28 +65,29 @@ pub data Outcome (R : Type 0) : Type 0 where
 -- ---- changes of one part
 
 -- The server s with these parts.
-abbrev parts : Server → Log → Votes → Membership → List (List ℕ) → List ℕ → Server
-parts s l v m h d =
-    record { servers = s .servers; quota = s .quota; me = s .me; log = l; votes = v; membership = m; held = h; noted = d }
+abbrev parts : Server → Log → Votes → Membership → List ℕ → Server
+parts s l v m d = record { servers = s .servers; quota = s .quota; me = s .me; log = l; votes = v; membership = m; noted = d }
 
 abbrev pub withLog : Log → Server → Server
-withLog l s = parts s l (s .votes) (s .membership) (s .held) (s .noted)
+withLog l s = parts s l (s .votes) (s .membership) (s .noted)
 
 abbrev pub withVotes : Votes → Server → Server
-withVotes v s = parts s (s .log) v (s .membership) (s .held) (s .noted)
+withVotes v s = parts s (s .log) v (s .membership) (s .noted)
 
 abbrev pub withMembership : Membership → Server → Server
-withMembership m s = parts s (s .log) (s .votes) m (s .held) (s .noted)
-
-abbrev pub withHeld : List (List ℕ) → Server → Server
-withHeld h s = parts s (s .log) (s .votes) (s .membership) h (s .noted)
+withMembership m s = parts s (s .log) (s .votes) m (s .noted)
 
 abbrev pub withNoted : List ℕ → Server → Server
-withNoted d s = parts s (s .log) (s .votes) (s .membership) (s .held) d
+withNoted d s = parts s (s .log) (s .votes) (s .membership) d
 
--- These on the own list, and k more numbered.
-abbrev pub withOwn : List Action → ℕ → Log → Log
-withOwn more k l = record { green = l .green; red = l .red; cuts = l .cuts; own = l .own ++ more; numbered = l .numbered + k }
+-- One more numbered, on the own list.
+abbrev pub withOwn : Action → Log → Log
+withOwn a l =
+    record { green = l .green; red = l .red; cuts = l .cuts; own = l .own ++ (a ∷ []); numbered = l .numbered + 1; sent = l .sent }
+
+-- Own actions sent up to the index k.
+abbrev pub withSent : ℕ → Log → Log
+withSent k l = record { green = l .green; red = l .red; cuts = l .cuts; own = l .own; numbered = l .numbered; sent = k }
 
 abbrev pub withYellow : Yellow → Votes → Votes
 withYellow y v = record { last = v .last; attempt = v .attempt; mark = v .mark; yellow = y }
@@ -134,10 +136,9 @@ start n q i = record {
   servers = n;
   quota = q;
   me = i;
-  log = record { green = []; red = []; cuts = replicate {A = ℕ} n 0; own = []; numbered = 0 };
+  log = record { green = []; red = []; cuts = replicate {A = ℕ} n 0; own = []; numbered = 0; sent = 0 };
   votes = record { last = record { index = 0; attempt = 0; set = everyone n }; attempt = 0; mark = clearedMark; yellow = noYellow };
   membership = record { mode = Non-prim; configuration = none; transitional = none; states = noStates n; cpcs = 0; come = 0 };
-  held = [];
   noted = replicate {A = ℕ} n 0;
 }
 

@@ -8,9 +8,9 @@ use lib.ListN.{length}
 use Rattle.base.specs.Tests.{_and_, _=?_, _≤?_, _<?_}
 use Rattle.base.specs.Lists.{all, above, isThere}
 use Rattle.base.specs.Sets.{inSet, inside}
-use Rattle.format.specs.Limits.{mostHeld, mostIndex}
+use Rattle.format.specs.Limits.{mostIndex}
 use Rattle.format.specs.Types.{Id, Action, State, Context}
-use Rattle.format.specs.Range.{contextOk, lengthOk, payloadOk, actionOk, cutsOk, indexOk, setOk, ownSetOk, primaryOk, markOk, yellowOk}
+use Rattle.format.specs.Range.{contextOk, lengthOk, actionOk, cutsOk, indexOk, setOk, ownSetOk, primaryOk, markOk, yellowOk}
 use Rattle.format.specs.Range.{configurationOk, stateOk, sameId, hasId, idsDiffer}
 use Rattle.replication.specs.Machine.Types.{Mode, Non-prim, Reg-prim, Trans-prim, Exchange-states, Exchange-actions, Construct, No, Un}
 use Rattle.replication.specs.Machine.Types.{Log, Votes, Configuration, Membership, Server, contextOf}
@@ -28,6 +28,7 @@ logRanges c l =
     and cutsOk (c .quota) (l .cuts)
     and all (actionOk c) (l .own)
     and l .numbered ≤? c .quota
+    and l .sent ≤? l .numbered
 
 unfoldable pub votesRanges : Context → Votes → Bool
 votesRanges c v = primaryOk c (v .last) and indexOk (v .attempt) and markOk c (v .mark) and yellowOk c (v .yellow)
@@ -67,8 +68,6 @@ ranges c s =
     and logRanges c (s .log)
     and votesRanges c (s .votes)
     and membershipRanges c (s .membership)
-    and length (s .held) ≤? mostHeld
-    and all payloadOk (s .held)
     and length (s .noted) =? c .servers
     and all (lengthOk c) (s .noted)
 
@@ -103,10 +102,6 @@ ownListFits me l =
 
 -- ---- the rest of the row
 
--- "numbered plus held above q" does not apply.
-unfoldable pub quotaKept : Server → Bool
-quotaKept s = s .log .numbered + length (s .held) ≤? s .quota
-
 -- "a state other than Non_prim with no configuration" does not apply; "Exchange_actions without every member's State or with all planned in"
 -- neither, nor "the primary index at 4,000,000,000 in Construct, No or Un".
 unfoldable pub modeFits : Mode → Server → Bool
@@ -125,5 +120,4 @@ wellFormed s =
     and idsDiffer (idsIn (queue (s .log)))
     and heldToCuts (s .log)
     and ownListFits (s .me) (s .log)
-    and quotaKept s
     and modeFits (s .membership .mode) s

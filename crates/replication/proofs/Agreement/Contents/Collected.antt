@@ -29,7 +29,7 @@ use Rattle.replication.proofs.Agreement.Exchange.Collected.{complete-in
 use Rattle.replication.proofs.Agreement.Exchange.SameStates.{collected-sent, complete-same}
 use Rattle.replication.proofs.Agreement.Exchange.Retransmissions.{PartMessage}
 use Rattle.replication.proofs.Agreement.Contents.Plan.{lowest-covered, resender-highest, someone-resends}
-use Rattle.replication.proofs.Agreement.Contents.Sent.{resending-log, part-delivered}
+use Rattle.replication.proofs.Agreement.Contents.Sent.{resending-log, part-same, part-delivered}
 
 module _ {n q : ℕ} {l : Run} (A : Allowed n q l) where
   -- A server that has c took it.
@@ -126,11 +126,11 @@ module _ {n q : ℕ} {l : Run} (A : Allowed n q l) where
 
     -- ---- what is resent
 
-    -- A message of the part of the plan that the server k sent: its place in the part, planned from these States and from the log that k had when it took c.
+    -- A message of the part of the plan that the server k sent: its place in the part, planned from these States and from what k held when it took c.
     pub message-at : {x i k e : ℕ} {m : Message} → PartMessage A m k c → (d : Delivery A x i m) → Takes n q l e k c
         → at (ownPart n k (memoryAt n q l (suc e) k .log) statesOf) (m .number) ≡ some (d .what)
     message-at {x} {i} {k} {e} {m} u d t =
         let v = m .sending in
         let g = resending-log A t v (u .put .before) (u .put .after) (u .put .collecting) (u .put .resending) in
         let s = states-same (suc v) k (u .put .after) (u .put .complete) in
-        sym (λ j. at (ownPart n k (g j) (s j)) (m .number)) ∙ part-delivered A u d
+        sym (ap (λ z. at (ownPart n k (memoryAt n q l (suc v) k .log) z) (m .number)) s ∙ ap (λ z. at z (m .number)) (part-same n k _ _ statesOf g)) ∙ part-delivered A u d

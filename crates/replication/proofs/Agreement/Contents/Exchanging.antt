@@ -78,11 +78,11 @@ module _ {n q : ℕ} {l : Run} (A : Allowed n q l) (c : Configuration) (p0 i0 : 
 
         start : Gained A c p0 i0 here full t most G (memoryAt n q l y i .log) (suc y) i
         start =
-            subst (λ m. Gained A c p0 i0 here full t most G m (suc y) i) (sym (collecting-log A (w .1) y a h))
+            gained-same A c p0 i0 here full t most G (collecting-log A (w .1) y a h)
             (gained-nothing A c p0 i0 here full t most G (w .1) (none-came y a h))
 
         go : LogMove (memoryAt n q l y i) (x .by .event) (x .after) → GainedBy (suc y)
-        go (keeps u v s) =
+        go (keeps u s) =
             subst (λ z. Gained A c p0 i0 here full t most G (z .log) (suc y) i) (sym (x .memory-next)) (gained-same A c p0 i0 here full t most G s start)
         go (places k p o u m s) = absurd (omega (arith, ap stage m, ap stage h))
 
@@ -97,7 +97,7 @@ module _ {n q : ℕ} {l : Run} (A : Allowed n q l) (c : Configuration) (p0 i0 : 
         after z = subst (λ s. Gained A c p0 i0 here full t most G (s .log) (suc y) i) (sym (x .memory-next)) z
 
         go : LogMove (memoryAt n q l y i) (x .by .event) (x .after) → GainedBy (suc y)
-        go (keeps u v s) =
+        go (keeps u s) =
             after
             (gained-same A c p0 i0 here full t most G s
             (gained-still A c p0 i0 here full t most G

@@ -38,7 +38,7 @@ use Rattle.replication.proofs.Agreement.Exchange.Retransmissions.{PartM
 use Rattle.replication.proofs.Agreement.Lists.Fifo.{Fifo}
 use Rattle.replication.proofs.Agreement.Lists.Held.{HeldExactly, held-exactly, green-held}
 use Rattle.replication.proofs.Agreement.Contents.Agreeable.{greenIdsAt, Agreeable}
-use Rattle.replication.proofs.Agreement.Contents.Logs.{SameHeld}
+use Rattle.replication.specs.Laws.Order.{SameHeld}
 use Rattle.replication.proofs.Agreement.Contents.Plan.{PartRecord, by-position, by-index, part-record}
 use Rattle.replication.proofs.Agreement.Contents.Placing.{ids-length, PlacedAt, placed-position, placed-index}
 use Rattle.replication.proofs.Agreement.Contents.Collected.{statesOf, sent-one, Resender, resenderBy, resender-same, resender-has, sent-between, took-it}

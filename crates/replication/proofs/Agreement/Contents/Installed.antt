@@ -11,15 +11,17 @@ use Rattle.format.specs.Types.{Record}
 use Rattle.replication.specs.Machine.Types.{Mode, Non-prim, Reg-prim, Trans-prim, Exchange-states, Exchange-actions, Construct, No, Un, Configuration, Server}
 use Rattle.replication.specs.Machine.Exchange.{quorum, takenYellow, takenVotes, attempted}
 use Rattle.replication.specs.Machine.Install.{installLog, install}
-use Rattle.replication.specs.Machine.Requests.{sendsNow, numbered, hold, sendHeld}
+use Rattle.replication.specs.Machine.Requests.{sendsNow, numbered, sendWaiting}
 use Rattle.replication.specs.Machine.Step.{theSet, hereSet, collected, attempting, decided, withCpc, leave, greenAndNote}
 use Rattle.replication.specs.Machine.WellFormed.{idsIn}
 use Rattle.replication.specs.Laws.Transitions as L
 use Rattle.replication.specs.Laws.Transitions.{Ends, Leads, Transition}
+use Rattle.replication.specs.Laws.Order.{SameHeld}
 use Rattle.replication.specs.Laws.Greens as G
 use Rattle.replication.specs.Runs.Run.{Run}
 use Rattle.replication.specs.Runs.Happenings.{Falls, Takes}
 use Rattle.replication.specs.Runs.Allowed.{Allowed}
+use Rattle.replication.proofs.Step.SameHeld.{held-refl, held-same, held-trans}
 use Rattle.replication.proofs.Step.Control.{yellow-membership}
 use Rattle.replication.proofs.Step.Greens.{yellow-green}
 use Rattle.replication.proofs.Runs.Numbers.{invariant-at}
@@ -68,13 +70,13 @@ leads-attempts L.interruptsConstruct h = refl
 -- What an attempt keeps.
 pub record Kept (s t : Server) : Type 0 where
   pub was : attempts (s .membership .mode) ≡ true
-  pub log : t .log ≡ s .log
+  pub log : SameHeld (s .log) (t .log)
   pub votes : t .votes ≡ s .votes
 
--- An event of a stay that leaves an attempt under way changes neither log nor votes.
+-- An event of a stay that leaves an attempt under way changes neither what is held nor votes.
 attempt-keeps : {s : Server} {r : Record} {t : Server} {rs : List Record} {b : Bool} → Transition s r t rs b → remains r ≡ true → 3 ≤ stage (s .membership .mode)
     → attempts (t .membership .mode) ≡ true → Kept s t
-unfolding greenAndNote install sendHeld numbered withCpc leave hold remains stage attempts sendsNow
+unfolding greenAndNote install sendWaiting numbered withCpc leave remains stage attempts sendsNow
 attempt-keeps (L.ignoresState x e) k h w = elsewhere Non-prim e refl w
 attempt-keeps (L.ignoresCpc y i e) k h w = elsewhere Non-prim e refl w
 attempt-keeps (L.reddens a e) k h w = elsewhere Non-prim e refl w
@@ -88,28 +90,28 @@ attempt-keeps (L.exchangesLast y p a t rs e c x) k h w = absurd (omega (arith, a
 attempt-keeps (L.collects x e c) k h w = absurd (omega (arith, ap stage e))
 attempt-keeps (L.collectsLast x e c d) k h w = absurd (omega (arith, ap stage e))
 attempt-keeps (L.collectsWhole x t rs e c d y) k h w = absurd (omega (arith, ap stage e))
-attempt-keeps (L.counts y i e c) k h w = record { was = ap attempts e; log = refl; votes = refl }
+attempt-keeps (L.counts y i e c) k h w = record { was = ap attempts e; log = held-refl _; votes = refl }
 attempt-keeps (L.installs y i e c) k h w = not-both w
-attempt-keeps (L.countsLate y i e c) k h w = record { was = ap attempts e; log = refl; votes = refl }
-attempt-keeps (L.countsAllLate y i e c) k h w = record { was = ap attempts e; log = refl; votes = refl }
+attempt-keeps (L.countsLate y i e c) k h w = record { was = ap attempts e; log = held-refl _; votes = refl }
+attempt-keeps (L.countsAllLate y i e c) k h w = record { was = ap attempts e; log = held-refl _; votes = refl }
 attempt-keeps (L.joins c e) k h w = not-both k
 attempt-keeps (L.joinsMarked c e) k h w = not-both k
 attempt-keeps (L.joinsUnmarked c e) k h w = not-both k
 attempt-keeps (L.joinsYellow c e) k h w = not-both k
-attempt-keeps (L.leaves m o x e y) k h w = record { was = ap attempts e ∙ leads-attempts y w; log = refl; votes = refl }
+attempt-keeps (L.leaves m o x e y) k h w = record { was = ap attempts e ∙ leads-attempts y w; log = held-refl _; votes = refl }
 attempt-keeps (L.sends p c) k h w = sends-in _ _ c (λ e. elsewhere Non-prim e refl w) (λ e. elsewhere Reg-prim e refl w)
-attempt-keeps (L.holds p c) k h w = record { was = w; log = refl; votes = refl }
+attempt-keeps (L.numbers p c) k h w = record { was = w; log = record { green = refl; red = refl; cuts = refl }; votes = refl }
 attempt-keeps L.recovers k h w = not-both k
 
 ends-yellow : {t u : Server} {rs : List Record} → Ends t u rs → u .votes .yellow ≡ takenYellow (collected t)
-unfolding attempting decided sendHeld numbered takenVotes attempted
+unfolding attempting decided sendWaiting numbered takenVotes attempted
 ends-yellow (L.withQuorum h) = refl
 ends-yellow (L.withoutQuorum h) = refl
 
 -- What an Install makes of the green list.
 install-green : {s t : Server} {r : Record} {rs : List Record} {b : Bool} → Transition s r t rs b → Installing s t r
     → t .log .green ≡ (installLog (s .votes .yellow .ids) (s .log)) .green
-unfolding modeNumber install withCpc sendHeld numbered
+unfolding modeNumber install withCpc sendWaiting numbered
 install-green {s} (L.installsLate a e) h = yellow-green a (install s)
 install-green (L.installs k i e c) h = refl
 install-green {s} (L.reddens a e) (on-action b f g) = other-mode e f (λ z. omega arith)
@@ -137,13 +139,13 @@ module _ {n q : ℕ} {l : Run} (A : Allowed n q l) where
             not-both (sym (e .0) ∙ ap (λ d. quorum (collected (x .ending .judged)) (theSet d)) (x .ending .configuration) ∙ x .has-quorum)
 
     abbrev SameSince : ℕ → Type 0
-    SameSince y = (memoryAt n q l y i .log ≡ memoryAt n q l (suc r) i .log) × (memoryAt n q l y i .votes ≡ memoryAt n q l (suc r) i .votes)
+    SameSince y = SameHeld (memoryAt n q l (suc r) i .log) (memoryAt n q l y i .log) × (memoryAt n q l y i .votes ≡ memoryAt n q l (suc r) i .votes)
 
     since-step : (y : ℕ) → InCom n q l y i c → r < y → (Falls n q l y i → ⊥) → ((d : Configuration) → Takes n q l y i d → ⊥)
         → (attempts (membershipAt n q l y i .mode) ≡ true → SameSince y) → attempts (membershipAt n q l (suc y) i .mode) ≡ true → MemoryStep A y i → SameSince (suc y)
     since-step y a h f g k w (still m o) =
         let z = k (ap (λ s. attempts (s .membership .mode)) (sym m) ∙ w) in
-        (ap (λ s. s .log) m ∙ z .0, ap (λ s. s .votes) m ∙ z .1)
+        (held-trans _ _ _ (z .0) (held-same _ _ (ap (λ s. s .log) m)), ap (λ s. s .votes) m ∙ z .1)
     since-step y a h f g k w (moved v) =
         let s = stage-onward A i c (suc r) y (S.still-here A (x .ending)) a h in
         let u =
@@ -151,7 +153,7 @@ module _ {n q : ℕ} {l : Run} (A : Allowed n q l) where
         (ap (λ s. attempts (s .membership .mode)) (sym (v .memory-next)) ∙ w)
         in
         let z = k (u .was) in
-        (ap (λ s. s .log) (v .memory-next) ∙ u .log ∙ z .0, ap (λ s. s .votes) (v .memory-next) ∙ u .votes ∙ z .1)
+        (held-trans _ _ _ (held-trans _ _ _ (z .0) (u .log)) (held-same _ _ (ap (λ s. s .log) (v .memory-next))), ap (λ s. s .votes) (v .memory-next) ∙ u .votes ∙ z .1)
 
     -- As long as the attempt is under way.
     pub same-since : (y : ℕ) → InCom n q l y i c → r < y → attempts (membershipAt n q l y i .mode) ≡ true → SameSince y
@@ -167,14 +169,14 @@ module _ {n q : ℕ} {l : Run} (A : Allowed n q l) where
         go y a f g k h w (yes b) = since-step y a b f g (k b) w (memory-step A y i f)
         go y a f g k h w (no b) =
             let e : y ≡ r = omega arith in
-            (ap (λ z. memoryAt n q l (suc z) i .log) e, ap (λ z. memoryAt n q l (suc z) i .votes) e)
+            (held-same _ _ (ap (λ z. memoryAt n q l (suc z) i .log) e), ap (λ z. memoryAt n q l (suc z) i .votes) e)
 
   -- The marking that an Install completes, and what the server had then.
   pub record Completing {p i : ℕ} {c : Configuration} (x : InstallsAt n q l p i c) : Type 0 where
     pub place : ℕ
     pub earlier : place < p
     pub marking : MarksAt n q l place i c
-    pub log : memoryAt n q l p i .log ≡ memoryAt n q l (suc place) i .log
+    pub log : SameHeld (memoryAt n q l (suc place) i .log) (memoryAt n q l p i .log)
     pub votes : memoryAt n q l p i .votes ≡ memoryAt n q l (suc place) i .votes
 
   pub completing : {p i : ℕ} {c : Configuration} (x : InstallsAt n q l p i c) → Completing x
@@ -225,7 +227,7 @@ module _ {n q : ℕ} {l : Run} (A : Allowed n q l) where
     later = agreeable-earlier n q l (omega (arith, v .earlier)) H
 
     pub same-install-cuts : memoryAt n q l p i .log .cuts ≡ memoryAt n q l r j .log .cuts
-    same-install-cuts = ap (λ m. m .cuts) (u .log) ∙ same-cuts A before after earlier later ∙ ap (λ m. m .cuts) (sym (v .log))
+    same-install-cuts = u .log .cuts ∙ same-cuts A before after earlier later ∙ sym (v .log .cuts)
 
     same-yellow : memoryAt n q l p i .votes .yellow ≡ memoryAt n q l r j .votes .yellow
     same-yellow =
@@ -243,7 +245,7 @@ module _ {n q : ℕ} {l : Run} (A : Allowed n q l) where
         ap idsIn (installs-green x)
         ∙ ap (λ w. idsIn ((installLog (w .ids) (memoryAt n q l p i .log)) .green)) same-yellow
         ∙ install-same (memoryAt n q l r j .votes .yellow .ids) (memoryAt n q l p i .log) (memoryAt n q l r j .log) (exact p i (x .here)) (exact r j (y .here))
-        (ap (λ m. idsIn (m .green)) (u .log) ∙ same-ids A before after earlier later ∙ ap (λ m. idsIn (m .green)) (sym (v .log))) same-install-cuts
+        (ap idsIn (u .log .green) ∙ same-ids A before after earlier later ∙ ap idsIn (sym (v .log .green))) same-install-cuts
         ∙ ap idsIn (sym (installs-green y))
 
     pub same-install : memoryAt n q l (suc p) i .log .green ≡ memoryAt n q l (suc r) j .log .green

@@ -8,14 +8,16 @@ use Rattle.base.proofs.TestLaws.{not-both}
 use Rattle.base.proofs.AtLaws.{some-same}
 use Rattle.format.specs.Types.{Action, Record, action, retransmission, says}
 use Rattle.replication.specs.Machine.Types.{Mode, Non-prim, Reg-prim, Exchange-actions, Construct, No, Configuration, Log, Server}
-use Rattle.replication.specs.Machine.Requests.{sendsNow, numbered, hold, sendHeld}
+use Rattle.replication.specs.Machine.Requests.{sendsNow, numbered, sendWaiting}
 use Rattle.replication.specs.Machine.Step.{decided, attempting, withState, resending, oneMore, placed, exchanged, leave}
 use Rattle.replication.specs.Laws.Transitions as L
 use Rattle.replication.specs.Laws.Transitions.{Ends, Transition}
+use Rattle.replication.specs.Laws.Order.{SameHeld}
 use Rattle.replication.specs.Runs.Run.{Run, heardAt}
 use Rattle.replication.specs.Runs.Happenings.{isMessage, Comes, Falls, by-crash, by-recovery, Takes}
 use Rattle.replication.specs.Runs.Allowed.{Allowed}
 use Rattle.replication.proofs.Step.Apart.{sends-in}
+use Rattle.replication.proofs.Step.SameHeld.{held-refl}
 use Rattle.replication.proofs.Runs.Places.{event-not-store, event-entry}
 use Rattle.replication.proofs.Runs.Shifts.{comes-of}
 use Rattle.replication.proofs.Runs.AllowedTurns.{memoryAt, Acts, AllowedTurn, rests, crashes, saves, refuses, recovers, acts, allowed-turn}
@@ -25,22 +27,13 @@ use Rattle.replication.proofs.Agreement.Exchange.Retransmissions.{saysR
 use Rattle.replication.proofs.Agreement.Exchange.ActionsTaken as T
 use Rattle.replication.proofs.Agreement.Exchange.NotRefused.{no-delivery-refused}
 
--- The logs hold the same, in the same colours.
-pub record SameHeld (l m : Log) : Type 0 where
-  pub green : m .green ≡ l .green
-  pub red : m .red ≡ l .red
-  pub cuts : m .cuts ≡ l .cuts
-
-same-refl : (l : Log) → SameHeld l l
-same-refl l = record { green = refl; red = refl; cuts = refl }
-
 -- What an event of a stay that brings no action does to the log of a server in the exchange.
 pub data LogMove (s : Server) (r : Record) (t : Server) : Type 0 where
-  keeps : saysResent (says r) ≡ false → (stage (t .membership .mode) ≤ 1 → t .log ≡ s .log) → SameHeld (s .log) (t .log) → LogMove s r t
+  keeps : saysResent (says r) ≡ false → SameHeld (s .log) (t .log) → LogMove s r t
   places : (k p : ℕ) (a : Action) → r ≡ retransmission k p a → s .membership .mode ≡ Exchange-actions → SameHeld (placed p a (s .log)) (t .log) → LogMove s r t
 
 pub ends-log : {t u : Server} {rs : List Record} → Ends t u rs → SameHeld (t .log) (u .log) × (2 ≤ stage (u .membership .mode))
-unfolding attempting decided sendHeld numbered stage
+unfolding attempting decided sendWaiting numbered stage
 ends-log (L.withQuorum h) = (record { green = refl; red = refl; cuts = refl }, omega arith)
 ends-log (L.withoutQuorum h) = (record { green = refl; red = refl; cuts = refl }, omega arith)
 
@@ -49,7 +42,7 @@ module _ (s : Server) (early : stage (s .membership .mode) ≤ 1) where
   late m e h = absurd (omega (arith, ap stage e))
 
   pub log-move : {r : Record} {t : Server} {rs : List Record} {b : Bool} → ((a : Action) → r ≡ action a → ⊥) → remains r ≡ true → Transition s r t rs b → LogMove s r t
-  unfolding exchanged oneMore withState resending hold stage remains saysResent leave sendsNow
+  unfolding exchanged oneMore withState resending numbered stage remains saysResent leave sendsNow sendWaiting
   log-move f h (L.ignoresState x e) = late Non-prim e (omega arith)
   log-move f h (L.ignoresCpc k i e) = late Non-prim e (omega arith)
   log-move f h (L.reddens a e) = absurd (f a refl)
@@ -58,11 +51,11 @@ module _ (s : Server) (early : stage (s .membership .mode) ≤ 1) where
   log-move f h (L.greens a e) = absurd (f a refl)
   log-move f h (L.yellows a e) = absurd (f a refl)
   log-move f h (L.installsLate a e) = absurd (f a refl)
-  log-move f h (L.exchanges k p a e c) = places k p a refl e (same-refl _)
+  log-move f h (L.exchanges k p a e c) = places k p a refl e (held-refl _)
   log-move f h (L.exchangesLast k p a t rs e c x) = places k p a refl e (ends-log x .0)
-  log-move f h (L.collects x e c) = keeps refl (λ z. refl) (same-refl _)
-  log-move f h (L.collectsLast x e c d) = keeps refl (λ z. refl) (same-refl _)
-  log-move f h (L.collectsWhole x t rs e c d y) = let z = ends-log y in keeps refl (λ w. absurd (omega (arith, z .1))) (z .0)
+  log-move f h (L.collects x e c) = keeps refl (held-refl _)
+  log-move f h (L.collectsLast x e c d) = keeps refl (held-refl _)
+  log-move f h (L.collectsWhole x t rs e c d y) = keeps refl (ends-log y .0)
   log-move f h (L.counts k i e c) = late Construct e (omega arith)
   log-move f h (L.installs k i e c) = late Construct e (omega arith)
   log-move f h (L.countsLate k i e c) = late No e (omega arith)
@@ -71,9 +64,9 @@ module _ (s : Server) (early : stage (s .membership .mode) ≤ 1) where
   log-move f h (L.joinsMarked c e) = not-both h
   log-move f h (L.joinsUnmarked c e) = not-both h
   log-move f h (L.joinsYellow c e) = not-both h
-  log-move f h (L.leaves m o x e y) = keeps refl (λ z. refl) (same-refl _)
+  log-move f h (L.leaves m o x e y) = keeps refl (held-refl _)
   log-move f h (L.sends p c) = sends-in _ _ c (λ e. late Non-prim e (omega arith)) (λ e. late Reg-prim e (omega arith))
-  log-move f h (L.holds p c) = keeps refl (λ z. refl) (same-refl _)
+  log-move f h (L.numbers p c) = keeps refl (record { green = refl; red = refl; cuts = refl })
   log-move f h L.recovers = not-both h
 
 -- ---- a stay

@@ -1,4 +1,4 @@
--- What a member of a configuration resends there: its part of the plan, from the log that it had when it took the configuration.
+-- What a member of a configuration resends there: its part of the plan, from what it held when it took the configuration.
 use Prim.Native.Nat.{ℕ, suc, _≤_, _<_}
 use mathlib.Core.Path.{_≡_, refl, sym, ap, subst, _∙_}
 use mathlib.Core.Bool.{Bool}
@@ -6,13 +6,14 @@ use mathlib.Core.List.{List}
 use mathlib.Core.Option.{some}
 use native.Mathlib.Omega.{arith}
 use Rattle.base.specs.Lists.{at}
-use Rattle.format.specs.Types.{Record}
-use Rattle.replication.specs.Machine.Types.{Mode, Exchange-states, Exchange-actions, Configuration, Server}
-use Rattle.replication.specs.Machine.Plan.{ownPart}
-use Rattle.replication.specs.Machine.Requests.{sendsNow, hold, recovered}
+use Rattle.format.specs.Types.{State, Record}
+use Rattle.replication.specs.Machine.Types.{Mode, Exchange-states, Exchange-actions, Configuration, Log, Server}
+use Rattle.replication.specs.Machine.Plan.{ownPart, resendGreen, resendRed}
+use Rattle.replication.specs.Machine.Requests.{sendsNow, recovered, numbered, sendWaiting}
 use Rattle.replication.specs.Machine.Step.{collected, withState, resending, leave, entering}
 use Rattle.replication.specs.Laws.Transitions as L
 use Rattle.replication.specs.Laws.Transitions.{Leads, Transition}
+use Rattle.replication.specs.Laws.Order.{SameHeld}
 use Rattle.replication.specs.Runs.Run.{Run}
 use Rattle.replication.specs.Runs.Happenings.{Message, Sends, Falls, Takes, in-order}
 use Rattle.replication.specs.Runs.Allowed.{Allowed}
@@ -23,6 +24,7 @@ use Rattle.replication.proofs.Runs.Origins.{origin}
 use Rattle.replication.proofs.Runs.Sending.{Puts}
 use Rattle.replication.proofs.Runs.AllowedTurns.{memoryAt, Acts}
 use Rattle.replication.proofs.Runs.Stays.{membershipAt, in-stay, acts-membership}
+use Rattle.replication.proofs.Step.SameHeld.{held-same, held-trans}
 use Rattle.replication.proofs.Step.Apart.{modeNumber, other-mode, sends-in}
 use Rattle.replication.proofs.Agreement.Exchange.Stages.{stage, InCom, remaining, stage-rises}
 use Rattle.replication.proofs.Agreement.Exchange.Retransmissions.{partOf, part-of, PartPut, PartMessage}
@@ -36,10 +38,15 @@ leads-no-actions L.interruptsStates e = other-mode refl e (λ z. omega arith)
 leads-no-actions L.interruptsActions e = other-mode refl e (λ z. omega arith)
 leads-no-actions L.interruptsConstruct e = other-mode refl e (λ z. omega arith)
 
+-- One's part of the plan is of what is held.
+pub part-same : (n k : ℕ) (l m : Log) (xs : List State) → SameHeld l m → ownPart n k m xs ≡ ownPart n k l xs
+unfolding ownPart resendGreen resendRed
+part-same n k l m xs s = rw (s .green, s .red)
+
 -- From Exchange_states to Exchange_actions one's whole part of the plan is put out.
 pub enters-actions : {s : Server} {r : Record} {t : Server} {rs : List Record} {b : Bool} → Transition s r t rs b → s .membership .mode ≡ Exchange-states
     → t .membership .mode ≡ Exchange-actions → rs ≡ ownPart (t .servers) (t .me) (t .log) (collected t)
-unfolding withState resending hold recovered leave entering modeNumber stage collected sendsNow
+unfolding withState resending numbered recovered leave entering modeNumber stage collected sendsNow sendWaiting
 enters-actions (L.ignoresState x e) h k = other-mode h e (λ z. omega arith)
 enters-actions (L.ignoresCpc y i e) h k = other-mode h e (λ z. omega arith)
 enters-actions (L.reddens a e) h k = other-mode h e (λ z. omega arith)
@@ -63,7 +70,7 @@ enters-actions (L.joinsUnmarked c e) h k = other-mode h e (λ z. omega arith)
 enters-actions (L.joinsYellow c e) h k = other-mode h e (λ z. omega arith)
 enters-actions (L.leaves m o x e y) h k = leads-no-actions y k
 enters-actions (L.sends p c) h k = sends-in _ _ c (λ e. other-mode h e (λ z. omega arith)) (λ e. other-mode h e (λ z. omega arith))
-enters-actions (L.holds p c) h k = other-mode h k (λ z. omega arith)
+enters-actions (L.numbers p c) h k = other-mode h k (λ z. omega arith)
 enters-actions L.recovers h k = other-mode refl k (λ z. omega arith)
 
 module _ {n q : ℕ} {l : Run} (A : Allowed n q l) where
@@ -77,42 +84,45 @@ module _ {n q : ℕ} {l : Run} (A : Allowed n q l) where
       (λ d. y .alone p d (omega (arith, x .earlier)) (omega arith), y .steady p (omega (arith, x .earlier)) (omega arith))
 
   module _ {i e : ℕ} {c : Configuration} (took : Takes n q l e i c) where
-    -- In Exchange_states a server has the log that it had when it took the configuration.
-    pub collecting-log : (p : ℕ) → InCom n q l p i c → membershipAt n q l p i .mode ≡ Exchange-states → memoryAt n q l p i .log ≡ memoryAt n q l (suc e) i .log
+    -- In Exchange_states a server holds what it held when it took the configuration.
+    pub collecting-log : (p : ℕ) → InCom n q l p i c → membershipAt n q l p i .mode ≡ Exchange-states
+        → SameHeld (memoryAt n q l (suc e) i .log) (memoryAt n q l p i .log)
     unfolding stage
     collecting-log p here h =
-        in-stay n q l i c (λ y. stage (membershipAt n q l y i .mode) ≤ 0 → memoryAt n q l y i .log ≡ memoryAt n q l (suc e) i .log)
-        (λ t w k. ap (λ z. memoryAt n q l (suc z) i .log) (A .once t e i c w took)) (λ y a b f g k w. step y a f g k w (memory-step A y i f)) p here
+        in-stay n q l i c (λ y. stage (membershipAt n q l y i .mode) ≤ 0 → SameHeld (memoryAt n q l (suc e) i .log) (memoryAt n q l y i .log))
+        (λ t w k. held-same _ _ (ap (λ z. memoryAt n q l (suc z) i .log) (A .once t e i c w took))) (λ y a b f g k w. step y a f g k w (memory-step A y i f)) p here
         (omega (arith, ap stage h))
       where
         step : (y : ℕ) → InCom n q l y i c → (Falls n q l y i → ⊥) → ((d : Configuration) → Takes n q l y i d → ⊥)
-            → (stage (membershipAt n q l y i .mode) ≤ 0 → memoryAt n q l y i .log ≡ memoryAt n q l (suc e) i .log)
-            → stage (membershipAt n q l (suc y) i .mode) ≤ 0 → MemoryStep A y i → memoryAt n q l (suc y) i .log ≡ memoryAt n q l (suc e) i .log
-        step y a f g k w (still m o) = ap (λ s. s .log) m ∙ k (omega (arith, ap (λ s. stage (s .membership .mode)) m))
+            → (stage (membershipAt n q l y i .mode) ≤ 0 → SameHeld (memoryAt n q l (suc e) i .log) (memoryAt n q l y i .log))
+            → stage (membershipAt n q l (suc y) i .mode) ≤ 0 → MemoryStep A y i → SameHeld (memoryAt n q l (suc e) i .log) (memoryAt n q l (suc y) i .log)
+        step y a f g k w (still m o) =
+            held-trans _ _ _ (k (omega (arith, ap (λ s. stage (s .membership .mode)) m))) (held-same _ _ (ap (λ s. s .log) m))
         step y a f g k w (moved x) =
             let r = stage-rises (acts-membership A y i x) (remaining g f (x .by .event) (acting A x)) in
             go (omega (arith, r)) (acts-log A a (omega (arith, r)) g f x)
           where
-            go : stage (membershipAt n q l y i .mode) ≤ 0 → LogMove (memoryAt n q l y i) (x .by .event) (x .after) → memoryAt n q l (suc y) i .log ≡ memoryAt n q l (suc e) i .log
-            go z (keeps u v s) = ap (λ s. s .log) (x .memory-next) ∙ v (omega (arith, ap (λ s. stage (s .membership .mode)) (x .memory-next))) ∙ k z
+            go : stage (membershipAt n q l y i .mode) ≤ 0 → LogMove (memoryAt n q l y i) (x .by .event) (x .after)
+                → SameHeld (memoryAt n q l (suc e) i .log) (memoryAt n q l (suc y) i .log)
+            go z (keeps u s) = held-trans _ _ _ (held-trans _ _ _ (k z) s) (held-same _ _ (ap (λ s. s .log) (x .memory-next)))
             go z (places u v b o m s) = absurd (omega (arith, ap stage m))
 
-    -- .. and with that log it goes to Exchange_actions.
+    -- .. and with that it goes to Exchange_actions.
     pub resending-log : (p : ℕ) → InCom n q l p i c → InCom n q l (suc p) i c → membershipAt n q l p i .mode ≡ Exchange-states
-        → membershipAt n q l (suc p) i .mode ≡ Exchange-actions → memoryAt n q l (suc p) i .log ≡ memoryAt n q l (suc e) i .log
+        → membershipAt n q l (suc p) i .mode ≡ Exchange-actions → SameHeld (memoryAt n q l (suc e) i .log) (memoryAt n q l (suc p) i .log)
     unfolding stage
     resending-log p a b h k = go (memory-step A p i (w .1))
       where
         w : ((d : Configuration) → Takes n q l p i d → ⊥) × (Falls n q l p i → ⊥)
         w = inside-stay a b
 
-        by-event : (x : Acts n q l p i) → LogMove (memoryAt n q l p i) (x .by .event) (x .after) → memoryAt n q l (suc p) i .log ≡ memoryAt n q l (suc e) i .log
-        by-event x (keeps u v s) =
-            ap (λ s. s .log) (x .memory-next) ∙ v (omega (arith, ap (λ s. stage (s .membership .mode)) (x .memory-next), ap stage k)) ∙ collecting-log p a h
+        by-event : (x : Acts n q l p i) → LogMove (memoryAt n q l p i) (x .by .event) (x .after)
+            → SameHeld (memoryAt n q l (suc e) i .log) (memoryAt n q l (suc p) i .log)
+        by-event x (keeps u s) = held-trans _ _ _ (held-trans _ _ _ (collecting-log p a h) s) (held-same _ _ (ap (λ s. s .log) (x .memory-next)))
         by-event x (places u v y o m s) = absurd (omega (arith, ap stage m, ap stage h))
 
-        go : MemoryStep A p i → memoryAt n q l (suc p) i .log ≡ memoryAt n q l (suc e) i .log
-        go (still m o) = ap (λ s. s .log) m ∙ collecting-log p a h
+        go : MemoryStep A p i → SameHeld (memoryAt n q l (suc e) i .log) (memoryAt n q l (suc p) i .log)
+        go (still m o) = held-trans _ _ _ (collecting-log p a h) (held-same _ _ (ap (λ s. s .log) m))
         go (moved x) = by-event x (acts-log A a (omega (arith, ap stage h)) (w .0) (w .1) x)
 
   -- What a delivery says of a message of the part of the plan that the server k sent.

@@ -9,7 +9,7 @@ use Rattle.base.proofs.AtLaws.{some-same}
 use Rattle.base.specs.Sets.{inSet}
 use Rattle.format.specs.Types.{Record, action, retransmission, state, cpc, regular, transitional, request, recovery, says}
 use Rattle.replication.specs.Machine.Types.{Configuration, Server}
-use Rattle.replication.specs.Machine.Rules.{Rule, ruleFor, possible, memberOf, isOf, fromMember, isIgnored, withinQuota, withinHeld}
+use Rattle.replication.specs.Machine.Rules.{Rule, ruleFor, possible, memberOf, isOf, fromMember, isIgnored, withinQuota}
 use Rattle.replication.specs.Images.{isRecovery}
 use Rattle.replication.specs.Runs.Run.{Run, heardAt}
 use Rattle.replication.specs.Runs.Happenings.{isMessage, Comes}
@@ -34,16 +34,16 @@ message-no-recovery (transitional s) h = refl
 message-no-recovery (request p) h = refl
 message-no-recovery recovery h = not-both h
 
-message-within : (s : Server) (r : Record) → isMessage r ≡ true → (withinQuota s r ≡ true) × (withinHeld s r ≡ true)
-unfolding isMessage withinQuota withinHeld
-message-within s (action a) h = (refl, refl)
-message-within s (retransmission k p a) h = (refl, refl)
-message-within s (state x) h = (refl, refl)
-message-within s (cpc k i) h = (refl, refl)
-message-within s (regular i t) h = (refl, refl)
-message-within s (transitional t) h = (refl, refl)
+message-within : (s : Server) (r : Record) → isMessage r ≡ true → withinQuota s r ≡ true
+unfolding isMessage withinQuota
+message-within s (action a) h = refl
+message-within s (retransmission k p a) h = refl
+message-within s (state x) h = refl
+message-within s (cpc k i) h = refl
+message-within s (regular i t) h = refl
+message-within s (transitional t) h = refl
 message-within s (request p) h = not-both h
-message-within s recovery h = (refl, refl)
+message-within s recovery h = refl
 
 -- What comes as a message is a delivery.
 abbrev pub coming : {n q : ℕ} {l : Run} (A : Allowed n q l) {p i : ℕ} {r : Record} → Comes n q l p i r → isMessage r ≡ true → Delivery A p i (A .source p)
@@ -63,7 +63,7 @@ module _ {n q : ℕ} {l : Run} (A : Allowed n q l) (p i : ℕ) where
       refuted x =
           let w = message-within (memoryAt n q l p i) r h in
           let y = event-entry (some-same (sym (x .here) ∙ c .here)) in
-          not-refused (memoryAt n q l p i) r k e f g (w .0) (w .1) (x .number)
+          not-refused (memoryAt n q l p i) r k e f g w (x .number)
           (answer-refused (memoryAt n q l p i) (x .bytes) r (x .number) (x .refusal) (x .reads ∙ ap (heardAt n q l p i) (y .1) ∙ c .heard))
 
   -- ---- row 6 in com(c)

@@ -10,7 +10,7 @@ use Rattle.base.proofs.TestLaws.{not-both}
 use Rattle.format.specs.Types.{Record}
 use Rattle.replication.specs.Machine.Types.{Mode, Non-prim, Reg-prim, Trans-prim, Exchange-actions, Construct, No, Un, Server, withMode}
 use Rattle.replication.specs.Machine.Exchange.{quorum}
-use Rattle.replication.specs.Machine.Requests.{sendsNow, numbered, hold, sendHeld}
+use Rattle.replication.specs.Machine.Requests.{sendsNow, numbered, sendWaiting}
 use Rattle.replication.specs.Machine.Step.{hereSet, collected, decided, attempting, withState, allStatesIn, resending, oneMore, exchanged, leave}
 use Rattle.replication.specs.Laws.Transitions as L
 use Rattle.replication.specs.Laws.Transitions.{Ends, Leads, Transition}
@@ -21,7 +21,7 @@ use Rattle.replication.proofs.Agreement.Exchange.Stages.{remains, stage
 
 -- The end of an exchange changes only the state's name in the membership part.
 pub ends-membership : {t u : Server} {rs : List Record} → Ends t u rs → (m : Mode) × (u .membership ≡ withMode m (t .membership))
-unfolding attempting decided sendHeld numbered
+unfolding attempting decided sendWaiting numbered
 ends-membership (L.withQuorum h) = (Construct, refl)
 ends-membership (L.withoutQuorum h) = (Non-prim, refl)
 
@@ -46,7 +46,7 @@ module _ (s : Server) (early : stage (s .membership .mode) ≤ 1) where
 
   pub exchange-move : {r : Record} {t : Server} {rs : List Record} {b : Bool} → (s .membership .mode ≡ Exchange-actions → allStatesIn s ≡ true)
       → remains r ≡ true → Transition s r t rs b → ExchangeMove s t rs b
-  unfolding exchanged oneMore withState resending hold stage remains allStatesIn hereSet sendsNow
+  unfolding exchanged oneMore withState resending numbered stage remains allStatesIn hereSet sendsNow sendWaiting
   exchange-move f h (L.ignoresState x e) = past Non-prim e (omega arith)
   exchange-move f h (L.ignoresCpc k i e) = past Non-prim e (omega arith)
   exchange-move f h (L.reddens a e) = past Non-prim e (omega arith)
@@ -70,13 +70,13 @@ module _ (s : Server) (early : stage (s .membership .mode) ≤ 1) where
   exchange-move f h (L.joinsYellow c e) = not-both h
   exchange-move f h (L.leaves m o x e y) = leads-move m o x _ _ e y
   exchange-move f h (L.sends p c) = sends-in _ _ c (λ e. past Non-prim e (omega arith)) (λ e. past Reg-prim e (omega arith))
-  exchange-move f h (L.holds p c) = goes-on early
+  exchange-move f h (L.numbers p c) = goes-on early
   exchange-move f h L.recovers = not-both h
 
 -- How the end of an exchange decides.
 pub ends-decide : {t u : Server} {rs : List Record} → Ends t u rs
     → ((quorum (collected t) (hereSet t) ≡ true) × (u .membership .mode ≡ Construct))
     ⊎ ((quorum (collected t) (hereSet t) ≡ false) × (u .membership .mode ≡ Non-prim))
-unfolding attempting sendHeld numbered
+unfolding attempting sendWaiting numbered
 ends-decide (L.withQuorum h) = inl (h, refl)
 ends-decide (L.withoutQuorum h) = inr (h, refl)

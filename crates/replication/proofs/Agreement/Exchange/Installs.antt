@@ -9,7 +9,7 @@ use Rattle.base.specs.Sets.{inSet}
 use Rattle.format.specs.Types.{Action, Record, action, cpc, transitional, says}
 use Rattle.replication.specs.Machine.Types.{Mode, Non-prim, Reg-prim, Trans-prim, Exchange-states, Exchange-actions, Construct, No, Un, Configuration, Server}
 use Rattle.replication.specs.Machine.Rules.{onAction, onRetransmission, onState, onCpc, onRegular, onTransitional, ruleFor}
-use Rattle.replication.specs.Machine.Requests.{numbered, sendHeld}
+use Rattle.replication.specs.Machine.Requests.{numbered, sendWaiting}
 use Rattle.replication.specs.Machine.Step.{installsBy}
 use Rattle.replication.specs.Laws.Transitions as L
 use Rattle.replication.specs.Laws.Transitions.{Leads, Transition}
@@ -45,7 +45,7 @@ module _ (s : Server) where
 
   pub installing : {r : Record} {t : Server} {rs : List Record} {b : Bool} → Transition s r t rs b
       → installsBy (ruleFor (s .membership .mode) r) s ≡ true → Installing s t r
-  unfolding ruleFor onAction onRetransmission onState onCpc onRegular onTransitional installsBy sendHeld numbered
+  unfolding ruleFor onAction onRetransmission onState onCpc onRegular onTransitional installsBy sendWaiting numbered
   installing {r} (L.ignoresState x e) h = no-install r Non-prim e refl h
   installing {r} (L.ignoresCpc k i e) h = no-install r Non-prim e refl h
   installing {r} (L.reddens a e) h = no-install r Non-prim e refl h
@@ -69,7 +69,7 @@ module _ (s : Server) where
   installing {r} (L.joinsYellow c e) h = no-install r Trans-prim e refl h
   installing {r} (L.leaves m o x e y) h = no-install r m e (leads-rule x y) h
   installing (L.sends p c) h = not-both h
-  installing (L.holds p c) h = not-both h
+  installing (L.numbers p c) h = not-both h
   installing L.recovers h = not-both h
 
 -- ---- in a run

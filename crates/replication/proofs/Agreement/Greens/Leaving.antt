@@ -113,7 +113,7 @@ module _ {n q : ℕ} {l : Run} (A : Allowed n q l) (X : ExchangeFacts n q l) {p 
               where
                 clash : {a : Action} → regular (e .id) (e .set) ≡ action a → ⊥
                 clash z = let v : _≡_ {A = ℕ} 0 1 = cc in omega arith
-            step y f (Q.holds a r b g v) = clash (sym f ∙ r)
+            step y f (Q.numbers a r b g v) = clash (sym f ∙ r)
               where
                 clash : {a : List ℕ} → regular (e .id) (e .set) ≡ request a → ⊥
                 clash z = let v : _≡_ {A = ℕ} 0 1 = cc in omega arith

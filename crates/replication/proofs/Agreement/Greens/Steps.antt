@@ -8,7 +8,7 @@ use Rattle.base.proofs.TestLaws.{not-both}
 use Rattle.format.specs.Types.{Record, regular}
 use Rattle.replication.specs.Machine.Types.{Mode, Non-prim, Reg-prim, Trans-prim, Exchange-states, Exchange-actions, Construct, No, Un, Votes, Configuration, Server, start}
 use Rattle.replication.specs.Machine.Install.{install, installVotes}
-use Rattle.replication.specs.Machine.Requests.{numbered, hold, sendHeld, recovered}
+use Rattle.replication.specs.Machine.Requests.{numbered, sendWaiting, recovered}
 use Rattle.replication.specs.Machine.Rules.{ruleFor, onAction, onCpc}
 use Rattle.replication.specs.Machine.Step.{entering, unmarked, yellowValid, withState, resending, exchanged, oneMore, withCpc, leave, greenAndNote, attempting, decided, installsBy, hereSet, allStatesIn}
 use Rattle.replication.specs.Laws.Modes as M
@@ -60,7 +60,7 @@ module _ (s : Server) where
   by-votes h p k (C.installs g o j) = installs o h p j
 
   pub green-step : {r : Record} {t : Server} {rs : List Record} {b : Bool} → Transition s r t rs b → GreenStep s r t rs b
-  unfolding greenAndNote install exchanged oneMore withState resending withCpc sendHeld numbered entering leave hold recovered M.attempting inExchange installsBy ruleFor onAction onCpc hereSet allStatesIn
+  unfolding greenAndNote install exchanged oneMore withState resending withCpc sendWaiting numbered entering leave recovered M.attempting inExchange installsBy ruleFor onAction onCpc hereSet allStatesIn
   green-step (L.ignoresState x e) = steady refl refl (λ h. h)
   green-step (L.ignoresCpc k i e) = steady refl refl (λ h. h)
   green-step (L.reddens a e) = steady (red-green a (s .log)) refl (λ h. h)
@@ -87,7 +87,7 @@ module _ (s : Server) where
   green-step (L.joinsYellow c e) = makesValid c refl e refl refl refl
   green-step (L.leaves m n x e q) = steady refl refl (leads-steady m n e q)
   green-step (L.sends p c) = steady refl refl (λ h. h)
-  green-step (L.holds p c) = steady refl refl (λ h. h)
+  green-step (L.numbers p c) = steady refl refl (λ h. h)
   green-step L.recovers = steady (reds-green (s .log .own) (s .log)) refl (λ h. not-both h)
 
 -- ---- in a primary component the mark is set
@@ -120,12 +120,12 @@ module _ (s : Server) where
   facts-in m e h = subst (λ n. ModeFacts n (s .votes) (s .membership .configuration) (s .membership .transitional)) e h
 
   end-marked : (t u : Server) (rs : List Record) → Ends t u rs → MarkSetOf u
-  unfolding attempting decided sendHeld numbered
+  unfolding attempting decided sendWaiting numbered
   end-marked t u rs (L.withQuorum q) = tt
   end-marked t u rs (L.withoutQuorum q) = tt
 
   pub mark-set-kept : {r : Record} {t : Server} {rs : List Record} {b : Bool} → Transition s r t rs b → ModeFactsOf s → MarkSetOf s → MarkSetOf t
-  unfolding greenAndNote install installVotes exchanged oneMore withState resending withCpc sendHeld numbered entering leave hold recovered
+  unfolding greenAndNote install installVotes exchanged oneMore withState resending withCpc sendWaiting numbered entering leave recovered
   mark-set-kept (L.ignoresState x e) f h = h
   mark-set-kept (L.ignoresCpc k i e) f h = h
   mark-set-kept (L.reddens a e) f h = h
@@ -152,7 +152,7 @@ module _ (s : Server) where
   mark-set-kept (L.joinsYellow c e) f h = tt
   mark-set-kept (L.leaves m n x e q) f h = leads-marked (s .votes) q (marked-in m e h)
   mark-set-kept (L.sends p c) f h = h
-  mark-set-kept (L.holds p c) f h = h
+  mark-set-kept (L.numbers p c) f h = h
   mark-set-kept L.recovers f h = tt
 
 -- For both images of every server.

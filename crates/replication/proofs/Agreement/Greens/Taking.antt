@@ -60,7 +60,7 @@ regular-stores (L.joinsUnmarked c e) h = refl
 regular-stores (L.joinsYellow c e) h = refl
 regular-stores (L.leaves m n x e q) h = not-both h
 regular-stores (L.sends p c) h = refl
-regular-stores (L.holds p c) h = not-both h
+regular-stores (L.numbers p c) h = refl
 regular-stores L.recovers h = refl
 
 module _ {n q : ℕ} {l : Run} (A : Allowed n q l) where

@@ -9,6 +9,7 @@ use Rattle.replication.specs.Machine.Types.{Reg-prim, Trans-prim, Server
 use Rattle.replication.specs.Machine.WellFormed.{idsIn}
 use Rattle.replication.proofs.WellFormed.Clauses.{YellowWithinCuts}
 use Rattle.replication.specs.Laws.Folds.{cutsAfter, entered, Greened, Yellowed}
+use Rattle.replication.specs.Laws.Order.{SameHeld}
 use Rattle.replication.proofs.Step.Folds.{entered-append, cuts-append}
 use Rattle.replication.proofs.Step.Yellows.{yellow-gained}
 
@@ -114,15 +115,15 @@ module _ (base : List Action) (cuts : List ℕ) (r a r′ a′ : List Action) (s
       subst (λ z. InRegPrim base cuts z a′ t) (sym e)
       (subst (λ z. InRegPrim base cuts r z t) (sym f) (subst (λ z. InRegPrim base cuts r a z) (sym u) h))
 
-  pub transitional-unchanged : InTransPrim base cuts r a s → t .membership .mode ≡ s .membership .mode → t .votes ≡ s .votes → t .log ≡ s .log
+  pub transitional-unchanged : InTransPrim base cuts r a s → t .membership .mode ≡ s .membership .mode → t .votes ≡ s .votes → SameHeld (s .log) (t .log)
       → InTransPrim base cuts r′ a′ t
   transitional-unchanged h m v g =
       let y = ap (λ w. w .yellow .ids) v in
-      let x = ap (λ w. w .green) g in
+      let x = g .green in
       record {
         mode = m ∙ h .mode;
         green = x ∙ h .green ∙ ap (λ z. base ++ entered cuts z) (sym e);
-        cuts-now = ap (λ w. w .cuts) g ∙ h .cuts-now ∙ ap (cutsAfter cuts) (sym f);
-        red = ap (λ w. idsIn (w .red)) g ∙ h .red ∙ sym y;
+        cuts-now = g .cuts ∙ h .cuts-now ∙ ap (cutsAfter cuts) (sym f);
+        red = ap idsIn (g .red) ∙ h .red ∙ sym y;
         ids = (λ j. idsIn (x j) ++ y j) ∙ h .ids ∙ ap (λ z. idsIn (base ++ entered cuts z)) (sym f);
       }

@@ -34,6 +34,7 @@ use Rattle.replication.proofs.Agreement.Exchange.NotRefused.{no-deliver
 use Rattle.replication.proofs.Agreement.Exchange.Phases.{settled-step}
 use Rattle.replication.proofs.Agreement.Exchange.Stages.{remains, InCom, remaining}
 use Rattle.replication.proofs.Agreement.Primaries.Acted.{actedIn, acted-more, acted-same, acted-none, acted-regular}
+use Rattle.replication.proofs.Step.SameHeld.{held-same}
 use Rattle.replication.proofs.Agreement.Primaries.Parts.{InRegPrim, InTransPrim, greened-kept, yellowed-kept, parted, regular-unchanged, transitional-unchanged}
 use Rattle.replication.proofs.Agreement.Primaries.Steps.{beforeInstall, isAction, other-record, EarlyStep, goes-on, reddens, settles, installs, installs-late, leaves, early-step}
 use Rattle.replication.proofs.Agreement.Primaries.Terms.{begins-nothing, base, cutsOf, regularly, inCom, past-exchanging, creator-cut, colours-at, regular-place, not-regular, PrimaryPhase, early, settled, regular, transitional}
@@ -69,7 +70,7 @@ module _ {n q : ℕ} {l : Run} (A : Allowed n q l) (i : ℕ) (c : Configuration)
       go (transitional r b y k) =
           transitional r (omega arith) y
           (transitional-unchanged (base A y) (cutsOf A y) _ _ _ _ _ _ (still (withinRegular c)) (still (within c)) k mode
-          (ap (λ s. s .votes) m) (ap (λ s. s .log) m))
+          (ap (λ s. s .votes) m) (held-same _ _ (ap (λ s. s .log) m)))
 
   -- ---- an event that is taken
 
@@ -156,7 +157,7 @@ module _ {n q : ℕ} {l : Run} (A : Allowed n q l) (i : ℕ) (c : Configuration)
           transitional r (omega arith) y
           (yellowed-kept (base A y) (cutsOf A y) _ _ _ _ (a ∷ []) now after h (ap (λ o. o .mode) m) v (entered-yellow (h .mode))
           (creator-cut A p i a z c here, tt) (still-regular (t .set) (t .after)) (acted-more A (within c) i p a z in-com))
-      from-transitional h (S.TransitionalStep.holds d e m v g) =
+      from-transitional h (S.TransitionalStep.numbers d e m v g) =
           let same = still (λ a z. other-record _ a (ap isAction e) z) in
           transitional r (omega arith) y
           (transitional-unchanged (base A y) (cutsOf A y) _ _ _ _ now after (same (withinRegular c)) (same (within c)) h (ap (λ o. o .mode) m) v g)

@@ -9,7 +9,7 @@ use Rattle.format.specs.Types.{Action, Record, action, retransmission, state, c
 use Rattle.replication.specs.Machine.Types.{Mode, Non-prim, Reg-prim, Trans-prim, Exchange-states, Exchange-actions, Construct, No, Un, Server, inMode, noYellow}
 use Rattle.replication.specs.Machine.Colours.{yellow}
 use Rattle.replication.specs.Machine.Install.{installLog, install, installVotes}
-use Rattle.replication.specs.Machine.Requests.{numbered, sendHeld, hold, sendsNow}
+use Rattle.replication.specs.Machine.Requests.{numbered, sendWaiting, sendsNow}
 use Rattle.replication.specs.Machine.Step.{withCpc, allCpcsIn, decided, attempting, withState, resending, oneMore, exchanged, leave}
 use Rattle.replication.specs.Machine.WellFormed.{wellFormed, idsIn}
 use Rattle.replication.specs.Laws.Folds.{entered, cutsAfter, Yellowed}
@@ -60,8 +60,8 @@ pub data EarlyStep (s : Server) (r : Record) (t : Server) : Type 0 where
 
 -- ---- the Installs
 
-regular-green : (s : Server) (k : ℕ) → (sendHeld (inMode Reg-prim (install (withCpc k s)))) .log .green ≡ (installLog (s .votes .yellow .ids) (s .log)) .green
-unfolding sendHeld numbered install withCpc
+regular-green : (s : Server) (k : ℕ) → (sendWaiting (inMode Reg-prim (install (withCpc k s)))) .log .green ≡ (installLog (s .votes .yellow .ids) (s .log)) .green
+unfolding sendWaiting numbered install withCpc
 regular-green s k = refl
 
 late-green : (s : Server) (a : Action) → (yellow a (install s)) .log .green ≡ (installLog (s .votes .yellow .ids) (s .log)) .green
@@ -69,8 +69,8 @@ unfolding install
 late-green s a = yellow-one a (install s) .green
 
 module _ (s : Server) (formed : wellFormed s ≡ true) where
-  installed-regular : (k : ℕ) → let t = sendHeld (inMode Reg-prim (install (withCpc k s))) in InRegPrim (t .log .green) (s .log .cuts) [] [] t
-  unfolding sendHeld numbered install installVotes withCpc entered cutsAfter
+  installed-regular : (k : ℕ) → let t = sendWaiting (inMode Reg-prim (install (withCpc k s))) in InRegPrim (t .log .green) (s .log .cuts) [] [] t
+  unfolding sendWaiting numbered install installVotes withCpc entered cutsAfter
   installed-regular k =
       record {
         mode = refl;
@@ -111,7 +111,7 @@ module _ (s : Server) (formed : wellFormed s ≡ true) (early : beforeInstall (s
   elsewhere m e h = not-both (sym h ∙ subst (λ o. beforeInstall o ≡ true) e early)
 
   ended : {r : Record} {t u : Server} {rs : List Record} → Ends t u rs → ((a : Action) → r ≡ action a → ⊥) → EarlyStep s r u
-  unfolding beforeInstall attempting decided sendHeld numbered
+  unfolding beforeInstall attempting decided sendWaiting numbered
   ended (L.withQuorum q) f = goes-on refl f
   ended (L.withoutQuorum q) f = settles refl
 
@@ -124,7 +124,7 @@ module _ (s : Server) (formed : wellFormed s ≡ true) (early : beforeInstall (s
   left x e L.interruptsConstruct = goes-on refl (λ b h. other-record _ b refl h)
 
   pub early-step : {r : Record} {t : Server} {rs : List Record} {b : Bool} → Transition s r t rs b → EarlyStep s r t
-  unfolding isAction beforeInstall exchanged oneMore withState resending withCpc hold remains sendsNow
+  unfolding isAction beforeInstall exchanged oneMore withState resending withCpc numbered remains sendsNow sendWaiting
   early-step (L.ignoresState x e) = elsewhere Non-prim e refl
   early-step (L.ignoresCpc k i e) = elsewhere Non-prim e refl
   early-step (L.reddens a e) = elsewhere Non-prim e refl
@@ -148,5 +148,5 @@ module _ (s : Server) (formed : wellFormed s ≡ true) (early : beforeInstall (s
   early-step (L.joinsYellow c e) = leaves refl
   early-step (L.leaves m o x e y) = left x e y
   early-step (L.sends p c) = sends-in _ _ c (λ e. elsewhere Non-prim e refl) (λ e. elsewhere Reg-prim e refl)
-  early-step (L.holds p c) = goes-on early (λ b h. other-record _ b refl h)
+  early-step (L.numbers p c) = goes-on early (λ b h. other-record _ b refl h)
   early-step L.recovers = leaves refl

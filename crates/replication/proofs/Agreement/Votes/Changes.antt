@@ -10,7 +10,7 @@ use Rattle.format.specs.Types.{Action, Record, action, retransmission, state, c
 use Rattle.replication.specs.Machine.Types.{Mode, Non-prim, Reg-prim, Trans-prim, Exchange-states, Exchange-actions, Construct, No, Un, Votes, Configuration, Server, clearedMark}
 use Rattle.replication.specs.Machine.Colours.{yellow}
 use Rattle.replication.specs.Machine.Install.{install, installVotes}
-use Rattle.replication.specs.Machine.Requests.{numbered, hold, sendHeld, recovered}
+use Rattle.replication.specs.Machine.Requests.{numbered, sendWaiting, recovered}
 use Rattle.replication.specs.Machine.Rules.{onAction, onRetransmission, onState, onCpc, onRegular, onTransitional, ruleFor}
 use Rattle.replication.specs.Machine.Step.{entering, unmarked, yellowValid, hereSet, withState, allStatesIn, resending, oneMore, exchanged, withCpc, leave, greenAndNote, installsBy}
 use Rattle.replication.specs.Laws.Transitions as L
@@ -128,7 +128,7 @@ module _ (s : Server) where
   -- ---- the ways
 
   pub votes-step : {r : Record} {t : Server} {rs : List Record} {b : Bool} → Transition s r t rs b → VotesStep s r t rs b
-  unfolding isRegular installsBy ruleFor onAction onRetransmission onState onCpc onRegular onTransitional greenAndNote install installVotes exchanged oneMore withState resending withCpc sendHeld numbered entering unmarked yellowValid leave hold recovered hereSet allStatesIn inExchange attempting
+  unfolding isRegular installsBy ruleFor onAction onRetransmission onState onCpc onRegular onTransitional greenAndNote install installVotes exchanged oneMore withState resending withCpc sendWaiting numbered entering unmarked yellowValid leave recovered hereSet allStatesIn inExchange attempting
   votes-step {r} (L.ignoresState x e) = keeps refl (in-state Non-prim r _ e refl) (same-votes-refl _) (same-membership s _ refl)
   votes-step {r} (L.ignoresCpc k i e) = keeps refl (in-state Non-prim r _ e refl) (same-votes-refl _) (same-membership s _ refl)
   votes-step {r} (L.reddens a e) = keeps refl (in-state Non-prim r _ e refl) (same-votes-refl _) (same-membership s _ refl)
@@ -173,5 +173,5 @@ module _ (s : Server) where
       joins c refl (in-state Trans-prim r _ e refl) (record { mode = refl; configuration = refl; last = refl; attempt = refl; mark = mark-cleared (inr e) refl })
   votes-step {r} (L.leaves m n x e q) = keeps refl (in-state m r _ e (leads-nowhere m n x q)) (same-votes-refl _) (leaving m n x e q)
   votes-step (L.sends p c) = keeps refl refl (same-votes-refl _) (same-phase s _ refl refl refl)
-  votes-step (L.holds p c) = keeps refl refl (same-votes-refl _) (same-phase s _ refl refl refl)
+  votes-step (L.numbers p c) = keeps refl refl (same-votes-refl _) (same-phase s _ refl refl refl)
   votes-step L.recovers = keeps refl refl (same-votes-refl _) (outside s _ refl refl)

@@ -8,7 +8,7 @@ use mathlib.Core.Option.{Option, none, some}
 use Rattle.format.specs.Types.{Primary, State, Record, regular, says}
 use Rattle.replication.specs.Machine.Types.{Mode, Non-prim, Construct, Un, Votes, Configuration, Server}
 use Rattle.replication.specs.Machine.Exchange.{takenPrimary, quorum, takenVotes, attempted}
-use Rattle.replication.specs.Machine.Requests.{numbered, sendHeld, recovered}
+use Rattle.replication.specs.Machine.Requests.{numbered, sendWaiting, recovered}
 use Rattle.replication.specs.Machine.Step.{theSet, hereSet, collected, decided, attempting, installsBy}
 use Rattle.replication.specs.Laws.Modes as M
 use Rattle.replication.specs.Laws.Order.{inExchange}
@@ -61,7 +61,7 @@ installer-placed s (inr e) h = let g = standing-in s Un e h in (g .configuration
 module _ {n q : ℕ} {l : Run} where
   decides : (p i : ℕ) (c : Configuration) (j t : Server) (rs : List Record) → Ends j t rs → memoryAt n q l (suc p) i ≡ t → j .me ≡ i
       → j .membership .configuration ≡ some c → Decides n q l p i c (collected j)
-  unfolding attempting decided sendHeld numbered hereSet theSet
+  unfolding attempting decided sendWaiting numbered hereSet theSet
   decides p i c j t rs (L.withQuorum h) e m d =
       let k : theSet (j .membership .configuration) ≡ c .set = ap theSet d in
       with-quorum (ap (quorum (collected j)) (sym k) ∙ h)
