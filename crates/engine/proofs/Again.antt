@@ -14,8 +14,8 @@ use Rattle.format.specs.Types.{State}
 use Rattle.format.specs.Write.{cutsBytes, idsBytes}
 use Rattle.replication.specs.Machine.Types.{Server}
 use Rattle.replication.specs.Machine.WellFormed.{queue}
-use Rattle.engine.specs.Layout.{stateSize, theCuts, theNoted, theHeld, theStates, theYellow, theOwn, theQueue, sections, sectionSize, stateLength}
-use Rattle.engine.specs.Image.{headerBytes, notedBytes, statesOver, actionSlots, heldSlots, section, parts, image}
+use Rattle.engine.specs.Layout.{stateSize, theCuts, theNoted, theStates, theYellow, theOwn, theQueue, sections, sectionSize, stateLength, sectionCount}
+use Rattle.engine.specs.Image.{headerBytes, notedBytes, statesOver, actionSlots, section, parts, image}
 use Rattle.engine.proofs.Used.{states-over-again}
 use Rattle.engine.proofs.Fit.{SectionsFit, section-length, image-rest, image-section}
 
@@ -53,13 +53,12 @@ states-covered size zs ys l c e a (inr h) =
 
 -- t with the sizes of s.
 abbrev pub alike : Server → Server → Server
-alike s t = record { servers = s .servers; quota = s .quota; me = t .me; log = t .log; votes = t .votes; membership = t .membership; held = t .held; noted = t .noted }
+alike s t = record { servers = s .servers; quota = s .quota; me = t .me; log = t .log; votes = t .votes; membership = t .membership; noted = t .noted }
 
 -- The lists of t over those of s over the bytes b.
 pub record Covering (s t : Server) (b : List ℕ) : Type 0 where
   pub cuts : CoversBytes (cutsBytes (t .log .cuts)) (cutsBytes (s .log .cuts)) (section (s .servers) (s .quota) theCuts b)
   pub noted : CoversBytes (notedBytes (t .noted)) (notedBytes (s .noted)) (section (s .servers) (s .quota) theNoted b)
-  pub held : CoversBytes (heldSlots (t .held)) (heldSlots (s .held)) (section (s .servers) (s .quota) theHeld b)
   pub states : (section (s .servers) (s .quota) theStates b ≡ statesOver (stateSize (s .servers) (s .quota)) (s .membership .states) (section (s .servers) (s .quota) theStates b)) ⊎ (t .membership .states ≡ s .membership .states)
   pub ids : CoversBytes (idsBytes (t .votes .yellow .ids)) (idsBytes (s .votes .yellow .ids)) (section (s .servers) (s .quota) theYellow b)
   pub own : CoversBytes (actionSlots (t .log .own)) (actionSlots (s .log .own)) (section (s .servers) (s .quota) theOwn b)
@@ -67,7 +66,7 @@ pub record Covering (s t : Server) (b : List ℕ) : Type 0 where
 
 module _ (s : Server) (f : SectionsFit s) (b : List ℕ) (h : stateLength (s .servers) (s .quota) ≤ length b) where
   module _ (t : Server) (c : Covering s t b) where
-    part : (k : ℕ) → k < 8 → (z y : List ℕ) → getD (parts (s .servers) (s .quota) s b) k [] ≡ over y (section (s .servers) (s .quota) k b)
+    part : (k : ℕ) → k < sectionCount → (z y : List ℕ) → getD (parts (s .servers) (s .quota) s b) k [] ≡ over y (section (s .servers) (s .quota) k b)
         → CoversBytes z y (section (s .servers) (s .quota) k b) → over z (section (s .servers) (s .quota) k (image s b)) ≡ over z (section (s .servers) (s .quota) k b)
     part k l z y e g = covered z y (section (s .servers) (s .quota) k b) (section (s .servers) (s .quota) k (image s b)) (image-section s f b h k l ∙ e) g
 
@@ -86,12 +85,11 @@ module _ (s : Server) (f : SectionsFit s) (b : List ℕ) (h : stateLength (s .se
     parts-over =
         let cuts = part theCuts (omega arith) (cutsBytes (t .log .cuts)) (cutsBytes (s .log .cuts)) refl (c .cuts) in
         let noted = part theNoted (omega arith) (notedBytes (t .noted)) (notedBytes (s .noted)) refl (c .noted) in
-        let held = part theHeld (omega arith) (heldSlots (t .held)) (heldSlots (s .held)) refl (c .held) in
         let collected = states in
         let ids = part theYellow (omega arith) (idsBytes (t .votes .yellow .ids)) (idsBytes (s .votes .yellow .ids)) refl (c .ids) in
         let own = part theOwn (omega arith) (actionSlots (t .log .own)) (actionSlots (s .log .own)) refl (c .own) in
         let actions = part theQueue (omega arith) (actionSlots (queue (t .log))) (actionSlots (queue (s .log))) refl (c .actions) in
-        λ i. headerBytes (alike s t) ∷ cuts i ∷ noted i ∷ held i ∷ collected i ∷ ids i ∷ own i ∷ actions i ∷ []
+        λ i. headerBytes (alike s t) ∷ cuts i ∷ noted i ∷ collected i ∷ ids i ∷ own i ∷ actions i ∷ []
 
     pub covering-over : image (alike s t) (image s b) ≡ image (alike s t) b
     unfolding image
@@ -100,7 +98,7 @@ module _ (s : Server) (f : SectionsFit s) (b : List ℕ) (h : stateLength (s .se
   -- The state itself.
   itself : Covering s s b
   itself =
-      record { cuts = inr (omega arith); noted = inr (omega arith); held = inr (omega arith); states = inr refl; ids = inr (omega arith); own = inr (omega arith); actions = inr (omega arith) }
+      record { cuts = inr (omega arith); noted = inr (omega arith); states = inr refl; ids = inr (omega arith); own = inr (omega arith); actions = inr (omega arith) }
 
   pub parts-again : parts (s .servers) (s .quota) s (image s b) ≡ parts (s .servers) (s .quota) s b
   parts-again = parts-over s itself

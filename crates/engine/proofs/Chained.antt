@@ -16,10 +16,10 @@ use Rattle.format.specs.Write.{actionBytes, payloadBytes, idsBytes}
 use Rattle.format.proofs.Lengths.{cuts-length, ids-length}
 use Rattle.replication.specs.Machine.Types.{Server}
 use Rattle.replication.specs.Machine.WellFormed.{queue, wellFormed}
-use Rattle.engine.specs.Layout.{heldSize, slotSize, stateSize, theHeld, theStates, theYellow, theOwn, theQueue, stateLength}
-use Rattle.engine.specs.Image.{statesOver, actionSlots, heldSlots, section, parts, image}
+use Rattle.engine.specs.Layout.{slotSize, stateSize, theStates, theYellow, theOwn, theQueue, stateLength, sectionCount}
+use Rattle.engine.specs.Image.{statesOver, actionSlots, section, parts, image}
 use Rattle.engine.proofs.InRange.{in-range}
-use Rattle.engine.proofs.Used.{action-slots-length, held-slots-length, noted-length, slots-append, held-append, ids-append}
+use Rattle.engine.proofs.Used.{action-slots-length, noted-length, slots-append, ids-append}
 use Rattle.engine.proofs.Fit.{SectionsFit, well-formed-fits}
 use Rattle.engine.proofs.Again.{CoversBytes, alike, Covering, covering-over}
 use Rattle.engine.specs.Holding.{Holds}
@@ -38,7 +38,6 @@ Gone s t u = (length t ≤ length u) ⊎ Begins t s
 pub record Covers (s t u : Server) : Type 0 where
   pub servers : (t .servers ≡ s .servers) × (u .servers ≡ s .servers)
   pub quota : (t .quota ≡ s .quota) × (u .quota ≡ s .quota)
-  pub held : Gone (s .held) (t .held) (u .held)
   pub states : (t .membership .states ≡ u .membership .states) ⊎ (t .membership .states ≡ s .membership .states)
   pub ids : Gone (s .votes .yellow .ids) (t .votes .yellow .ids) (u .votes .yellow .ids)
   pub own : Gone (s .log .own) (t .log .own) (u .log .own)
@@ -52,14 +51,12 @@ same-begins s t u e = inr (subst (Begins t) e (begins-refl t))
 
 -- The lists of t are those of u.
 pub numbers-then : (s t u : Server) → (t .servers ≡ s .servers) × (u .servers ≡ s .servers) → (t .quota ≡ s .quota) × (u .quota ≡ s .quota)
-    → u .held ≡ t .held
     → t .membership .states ≡ u .membership .states → u .votes .yellow .ids ≡ t .votes .yellow .ids → u .log .own ≡ t .log .own
     → queue (u .log) ≡ queue (t .log)
     → Covers s t u
-numbers-then s t u n q held states ids own actions = record {
+numbers-then s t u n q states ids own actions = record {
   servers = n;
   quota = q;
-  held = same-length (s .held) (t .held) (u .held) held;
   states = inl states;
   ids = same-length (s .votes .yellow .ids) (t .votes .yellow .ids) (u .votes .yellow .ids) ids;
   own = same-length (s .log .own) (t .log .own) (u .log .own) own;
@@ -68,14 +65,12 @@ numbers-then s t u n q held states ids own actions = record {
 
 -- Those of t are those of s.
 pub numbers-first : (s t u : Server) → (t .servers ≡ s .servers) × (u .servers ≡ s .servers) → (t .quota ≡ s .quota) × (u .quota ≡ s .quota)
-    → t .held ≡ s .held
     → t .membership .states ≡ s .membership .states → t .votes .yellow .ids ≡ s .votes .yellow .ids → t .log .own ≡ s .log .own
     → queue (t .log) ≡ queue (s .log)
     → Covers s t u
-numbers-first s t u n q held states ids own actions = record {
+numbers-first s t u n q states ids own actions = record {
   servers = n;
   quota = q;
-  held = same-begins (s .held) (t .held) (u .held) held;
   states = inr states;
   ids = same-begins (s .votes .yellow .ids) (t .votes .yellow .ids) (u .votes .yellow .ids) ids;
   own = same-begins (s .log .own) (t .log .own) (u .log .own) own;
@@ -93,12 +88,6 @@ unfolding actionSlots joined
 action-slots-least [] = omega arith
 action-slots-least (a ∷ l) =
     omega (arith, length-append (slot slotSize (actionBytes a)) (actionSlots l), slot-least slotSize (actionBytes a), action-slots-least l)
-
-held-slots-least : (l : List (List ℕ)) → heldSize * length l ≤ length (heldSlots l)
-unfolding heldSlots joined
-held-slots-least [] = omega arith
-held-slots-least (p ∷ l) =
-    omega (arith, length-append (slot heldSize (payloadBytes p)) (heldSlots l), slot-least heldSize (payloadBytes p), held-slots-least l)
 
 -- In a section l that holds the list of s: what is longer takes more bytes, and what begins a list begins its bytes.
 covers : {A : Type 0} (f : List A → List ℕ) → ((x y : List A) → f (x ++ y) ≡ f x ++ f y) → (s t u : List A) (l : List ℕ) → l ≡ over (f s) l
@@ -121,7 +110,7 @@ module _ (s t u : Server) (b : List ℕ) (r : Holds s b) (ok : wellFormed t ≡ 
   long : stateLength (t .servers) (t .quota) ≤ length b
   long = subst (λ (m : ℕ). m ≤ length b) (λ i. stateLength (sym (e .servers .0) i) (sym (e .quota .0) i)) (r .long)
 
-  here : (k : ℕ) (x : List ℕ) → k < 8 → getD (parts (s .servers) (s .quota) s b) k [] ≡ over x (section (s .servers) (s .quota) k b)
+  here : (k : ℕ) (x : List ℕ) → k < sectionCount → getD (parts (s .servers) (s .quota) s b) k [] ≡ over x (section (s .servers) (s .quota) k b)
       → section (t .servers) (t .quota) k b ≡ over x (section (t .servers) (t .quota) k b)
   here k x l f =
       (λ i. section (e .servers .0 i) (e .quota .0 i) k b) ∙ holds-section s b r k l ∙ f ∙ (λ i. over x (section (sym (e .servers .0) i) (sym (e .quota .0) i) k b))
@@ -138,7 +127,7 @@ module _ (s t u : Server) (b : List ℕ) (r : Holds s b) (ok : wellFormed t ≡ 
   sizes =
       let n : t .servers ≡ u .servers = e .servers .0 ∙ sym (e .servers .1) in
       let q : t .quota ≡ u .quota = e .quota .0 ∙ sym (e .quota .1) in
-      λ i. record { servers = n i; quota = q i; me = u .me; log = u .log; votes = u .votes; membership = u .membership; held = u .held; noted = u .noted }
+      λ i. record { servers = n i; quota = q i; me = u .me; log = u .log; votes = u .votes; membership = u .membership; noted = u .noted }
 
   module _ (cuts : length (t .log .cuts) ≤ length (u .log .cuts)) (noted : length (t .noted) ≤ length (u .noted)) where
     covering : Covering t u b
@@ -146,9 +135,6 @@ module _ (s t u : Server) (b : List ℕ) (r : Holds s b) (ok : wellFormed t ≡ 
     covering = record {
       cuts = inr (omega (arith, cuts-length (t .log .cuts), cuts-length (u .log .cuts)));
       noted = inr (omega (arith, noted-length (t .noted), noted-length (u .noted)));
-      held =
-          covers heldSlots held-append (s .held) (t .held) (u .held) (section (t .servers) (t .quota) theHeld b) (here theHeld (heldSlots (s .held)) (omega arith) refl)
-          (λ h. omega (arith, held-slots-length (t .held) (fits .held), held-slots-least (u .held))) (e .held);
       states =
           states-cover (stateSize (t .servers) (t .quota)) (s .membership .states) (t .membership .states) (u .membership .states)
           (section (t .servers) (t .quota) theStates b) states-here (e .states);

@@ -8,17 +8,17 @@ use native.Mathlib.Omega.{arith}
 use lib.ListN.{length, length-append}
 use Rattle.base.specs.Bytes.{numberAt}
 use Rattle.base.specs.Lists.{sum}
-use Rattle.format.specs.Limits.{mostHeld, mostIds}
+use Rattle.format.specs.Limits.{mostIds}
 use Rattle.format.specs.Places.{idSize}
 use Rattle.format.proofs.IdCount.{ids-count}
 use Rattle.record.specs.declared.State.{State}
 use Rattle.replication.specs.Machine.Types.{Log, Server, contextOf}
 use Rattle.replication.specs.Machine.WellFormed.{queue}
-use Rattle.engine.specs.Layout.{SizesIn, theHeld, theYellow, theOwn, theQueue, sections, offset, stateLength, headerSize, slotSize, heldSize, atServers, atQuota, atMe, theNoted}
+use Rattle.engine.specs.Layout.{SizesIn, theYellow, theOwn, theQueue, sections, offset, stateLength, headerSize, slotSize, atServers, atQuota, atMe, theNoted}
 use Rattle.engine.specs.Header.{headerOf, headerIn}
 use Rattle.engine.specs.Decode.{serversIn, quotaIn}
 use Rattle.engine.specs.Holding.{Holds, HoldsSuch}
-use Rattle.engine.specs.Counts.{queueCount, greenCount, numberedIn, ownCount, heldCount, yellowCount, place, CountsIn}
+use Rattle.engine.specs.Counts.{queueCount, greenCount, numberedIn, ownCount, sentIn, yellowCount, place, CountsIn}
 use Rattle.engine.proofs.InRange.{InRange, in-range}
 use Rattle.engine.proofs.HeaderLaws.{header-loaded}
 
@@ -30,7 +30,7 @@ pub record Numbers (s : Server) (b : List ℕ) : Type 0 where
   pub green : greenCount b ≡ length (s .log .green)
   pub numbered : numberedIn b ≡ s .log .numbered
   pub own : ownCount b ≡ length (s .log .own)
-  pub held : heldCount b ≡ length (s .held)
+  pub sent : sentIn b ≡ s .log .sent
   pub yellow : yellowCount b ≡ length (s .votes .yellow .ids)
 
 pub queue-parts : (l : Log) → length (queue l) ≡ length (l .green) + length (l .red)
@@ -44,13 +44,9 @@ module _ (n q : ℕ) where
   unfolding stateLength sections sum
   cuts-end = omega arith
 
-  noted-end : offset n q theNoted + 4 * n ≤ offset n q theHeld
+  noted-end : offset n q theNoted + 4 * n ≤ offset n q theYellow
   unfolding offset sections sum
   noted-end = omega arith
-
-  held-end : offset n q theHeld + heldSize * mostHeld ≤ offset n q theYellow
-  unfolding offset sections sum
-  held-end = omega arith
 
   yellow-end : offset n q theYellow + idSize * (n * q) ≤ offset n q theOwn
   unfolding offset sections sum
@@ -77,7 +73,7 @@ module _ (s : Server) (b : List ℕ) (r : Holds s b) where
         green = ap (λ (h : State). h .«green_length») e;
         numbered = ap (λ (h : State). h .numbered) e;
         own = ap (λ (h : State). h .«own_count») e;
-        held = ap (λ (h : State). h .«held_count») e;
+        sent = ap (λ (h : State). h .sent) e;
         yellow = ap (λ (h : State). h .«yellow_count») e;
       }
 
@@ -106,7 +102,6 @@ module _ (s : Server) (b : List ℕ) (r : Holds s b) where
         long = long;
         cuts = omega (arith, cuts-end (serversIn b) (quotaIn b));
         notedEnd = noted-end (serversIn b) (quotaIn b);
-        heldEnd = held-end (serversIn b) (quotaIn b);
         yellowEnd = yellow-end (serversIn b) (quotaIn b);
         ownEnd = own-end (serversIn b) (quotaIn b);
         queueEnd = omega (arith, queue-end (serversIn b) (quotaIn b));
@@ -114,7 +109,7 @@ module _ (s : Server) (b : List ℕ) (r : Holds s b) where
         green = omega (arith, m .queue, m .green);
         numbered = rw (m .numbered, q) (f .numbered);
         own = rw (m .own, q) (f .ownCount);
-        held = rw (m .held) (f .heldCount);
+        sent = rw (m .sent, m .numbered) (f .sent);
         yellow = rw (m .yellow, n, q) ids;
       }
 

@@ -19,16 +19,16 @@ use Rattle.format.specs.Read.{idsAt}
 use Rattle.format.proofs.Fields.{cuts-read, ids-read}
 use Rattle.replication.specs.Machine.Types.{Server, contextOf}
 use Rattle.replication.specs.Machine.WellFormed.{queue}
-use Rattle.engine.specs.Layout.{stateSize, theHeader, theCuts, theNoted, theHeld, theStates, theYellow, theOwn, theQueue, sections, sectionSize, offset, stateLength, atStates, atQueueLength, atGreenLength, atOwnCount, atHeldCount, atYellowCount}
+use Rattle.engine.specs.Layout.{stateSize, theHeader, theCuts, theNoted, theStates, theYellow, theOwn, theQueue, sections, sectionSize, offset, stateLength, atStates, atQueueLength, atGreenLength, atOwnCount, atSent, atYellowCount, sectionCount}
 use Rattle.engine.specs.Image.{senders, section, parts, image}
-use Rattle.engine.specs.Decode.{modeNamed, actionsAt, heldAt, statesAt, decodedAs, serversIn, quotaIn, decoded}
+use Rattle.engine.specs.Decode.{modeNamed, actionsAt, statesAt, decodedAs, serversIn, quotaIn, decoded}
 use Rattle.engine.proofs.InRange.{InRange}
 use Rattle.engine.proofs.Fit.{SectionsFit, range-fits, section-length, parts-sized, image-section}
-use Rattle.engine.proofs.Slots.{actions-read, held-read, noted-read, in-senders, states-read}
+use Rattle.engine.proofs.Slots.{actions-read, noted-read, in-senders, states-read}
 use Rattle.engine.proofs.HeaderRead.{HeaderRead, header-read, mode-named}
 
 -- Each part of an image occurs where its section begins.
-pub image-part : (s : Server) → SectionsFit s → (b : List ℕ) → stateLength (s .servers) (s .quota) ≤ length b → (k : ℕ) → k < 8
+pub image-part : (s : Server) → SectionsFit s → (b : List ℕ) → stateLength (s .servers) (s .quota) ≤ length b → (k : ℕ) → k < sectionCount
     → Occurs (getD (parts (s .servers) (s .quota) s b) k []) (image s b) (offset (s .servers) (s .quota) k)
 unfolding section sectionSize
 image-part s f b h k l =
@@ -36,7 +36,7 @@ image-part s f b h k l =
     record { part = ap (λ (m : ℕ). partAt m (image s b) (offset (s .servers) (s .quota) k)) size ∙ image-section s f b h k l }
 
 module _ (s : Server) (r : InRange s) (b : List ℕ) (h : stateLength (s .servers) (s .quota) ≤ length b) where
-  at-section : (k : ℕ) → k < 8 → Occurs (getD (parts (s .servers) (s .quota) s b) k []) (image s b) (offset (s .servers) (s .quota) k)
+  at-section : (k : ℕ) → k < sectionCount → Occurs (getD (parts (s .servers) (s .quota) s b) k []) (image s b) (offset (s .servers) (s .quota) k)
   at-section k l = image-part s (range-fits s r) b h k l
 
   header-back : HeaderRead s (image s b)
@@ -57,13 +57,6 @@ module _ (s : Server) (r : InRange s) (b : List ℕ) (h : stateLength (s .server
       let e : List ℕ = image s b in
       let at : ℕ = offset (s .servers) (s .quota) theNoted in
       ap (λ (m : ℕ). numbersAt 4 m e at) (sym (r .notedCount)) ∙ noted-read (s .noted) e at (r .noted) (used-part _ _ e at (at-section theNoted (omega arith)))
-
-  held-back : heldAt (numberAt 2 (image s b) atHeldCount) (image s b) (offset (s .servers) (s .quota) theHeld) ≡ s .held
-  unfolding parts
-  held-back =
-      let e : List ℕ = image s b in
-      let at : ℕ = offset (s .servers) (s .quota) theHeld in
-      ap (λ (m : ℕ). heldAt m e at) (header-back .heldCount) ∙ held-read (s .held) e at (r .held) (used-part _ _ e at (at-section theHeld (omega arith)))
 
   ids-back : idsAt (numberAt 2 (image s b) atYellowCount) (image s b) (offset (s .servers) (s .quota) theYellow) ≡ s .votes .yellow .ids
   unfolding parts
@@ -122,7 +115,7 @@ module _ (s : Server) (r : InRange s) (b : List ℕ) (h : stateLength (s .server
         servers = s .servers;
         quota = s .quota;
         me = x .me i;
-        log = record { green = green-back i; red = red-back i; cuts = cuts-back i; own = own-back i; numbered = x .numbered i };
+        log = record { green = green-back i; red = red-back i; cuts = cuts-back i; own = own-back i; numbered = x .numbered i; sent = x .sent i };
         votes = record { last = x .last i; attempt = x .attempt i; mark = x .mark i; yellow = record { status = x .yellow i; ids = ids-back i } };
         membership = record {
           mode = (ap modeNamed (x .mode) ∙ mode-named (s .membership .mode)) i;
@@ -132,7 +125,6 @@ module _ (s : Server) (r : InRange s) (b : List ℕ) (h : stateLength (s .server
           cpcs = x .cpcs i;
           come = x .come i;
         };
-        held = held-back i;
         noted = noted-back i;
       }
 

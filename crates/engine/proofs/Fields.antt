@@ -34,12 +34,12 @@ theNumbered = theGreenCount + 1
 abbrev pub theOwnCount : ℕ
 theOwnCount = theNumbered + 1
 
-abbrev pub theHeldCount : ℕ
-theHeldCount = theOwnCount + 1
+abbrev pub theSent : ℕ
+theSent = theOwnCount + 1
 
 -- .. attempt, last primary, mark and the yellow list's status before its count.
 abbrev pub theYellowCount : ℕ
-theYellowCount = theHeldCount + 5
+theYellowCount = theSent + 5
 
 abbrev pub fieldCount : ℕ
 fieldCount = theYellowCount + 1

@@ -14,7 +14,6 @@ use Rattle.base.specs.Lists.{Each}
 use Rattle.base.proofs.ListLaws.{each-implied}
 use Rattle.base.proofs.Sections.{Sized, Laid, begin-end, sized-rest, sized-length, laid-part}
 use Rattle.base.proofs.Over.{over-length}
-use Rattle.format.specs.Limits.{mostHeld}
 use Rattle.format.specs.Types.{State, Context, state}
 use Rattle.format.specs.Write.{lengthOf}
 use Rattle.format.proofs.Ranges.{PayloadRange, ActionRange}
@@ -23,17 +22,15 @@ use Rattle.format.proofs.Lengths.{cuts-length, ids-length, write-length}
 use Rattle.format.proofs.WriteBytes.{cuts-bytes, ids-bytes}
 use Rattle.replication.specs.Machine.Types.{Server, contextOf}
 use Rattle.replication.specs.Machine.WellFormed.{queue, wellFormed}
-use Rattle.engine.specs.Layout.{stateSize, theCuts, theNoted, theHeld, theStates, theYellow, theOwn, theQueue, sections, sectionSize, offset, stateLength}
+use Rattle.engine.specs.Layout.{stateSize, theCuts, theNoted, theStates, theYellow, theOwn, theQueue, sections, sectionSize, offset, stateLength, sectionCount}
 use Rattle.engine.specs.Image.{statesOver, section, parts, image}
 use Rattle.engine.proofs.InRange.{CollectedRange, InRange, in-range}
-use Rattle.engine.proofs.Used.{over-bytes, ActionFits, action-slots-length, action-slots-bytes, held-slots-length, held-slots-bytes, noted-length, noted-bytes, header-length, header-bytes, StateFits, states-over-length, states-over-bytes}
+use Rattle.engine.proofs.Used.{over-bytes, ActionFits, action-slots-length, action-slots-bytes, noted-length, noted-bytes, header-length, header-bytes, StateFits, states-over-length, states-over-bytes}
 
 -- The lists of s have room in their sections.
 pub record SectionsFit (s : Server) : Type 0 where
   pub cuts : length (s .log .cuts) ≤ s .servers
   pub noted : length (s .noted) ≤ s .servers
-  pub heldCount : length (s .held) ≤ mostHeld
-  pub held : Each PayloadRange (s .held)
   pub statesCount : length (s .membership .states) ≤ s .servers
   pub states : Each (StateFits (stateSize (s .servers) (s .quota))) (s .membership .states)
   pub ids : length (s .votes .yellow .ids) ≤ s .servers * s .quota
@@ -54,8 +51,6 @@ range-fits s r =
     record {
       cuts = omega (arith, r .cutsCount);
       noted = omega (arith, r .notedCount);
-      heldCount = r .heldCount;
-      held = r .held;
       statesCount = omega (arith, r .statesCount);
       states = each-implied (CollectedRange c) (StateFits (stateSize (s .servers) (s .quota))) (λ x h. state-fits c x h) (s .membership .states) (r .states);
       ids = ids-count c (s .votes .yellow .ids) (r .yellow .ids) (r .yellow .differ);
@@ -94,15 +89,12 @@ module _ (s : Server) (f : SectionsFit s) (b : List ℕ) (h : stateLength (s .se
       (
         over-section (s .servers) (s .quota) theNoted _ b (omega (arith, noted-length (s .noted), f .noted)) h,
         (
-          over-section (s .servers) (s .quota) theHeld _ b (omega (arith, held-slots-length (s .held) (f .held), f .heldCount)) h,
+          states,
           (
-            states,
+            over-section (s .servers) (s .quota) theYellow _ b (omega (arith, ids-length (s .votes .yellow .ids), f .ids)) h,
             (
-              over-section (s .servers) (s .quota) theYellow _ b (omega (arith, ids-length (s .votes .yellow .ids), f .ids)) h,
-              (
-                over-section (s .servers) (s .quota) theOwn _ b (omega (arith, action-slots-length (s .log .own) (f .own), f .ownCount)) h,
-                (over-section (s .servers) (s .quota) theQueue _ b (omega (arith, action-slots-length (queue (s .log)) (f .actions), f .queueCount)) h, tt),
-              ),
+              over-section (s .servers) (s .quota) theOwn _ b (omega (arith, action-slots-length (s .log .own) (f .own), f .ownCount)) h,
+              (over-section (s .servers) (s .quota) theQueue _ b (omega (arith, action-slots-length (queue (s .log)) (f .actions), f .queueCount)) h, tt),
             ),
           ),
         ),
@@ -133,7 +125,7 @@ module _ (s : Server) (f : SectionsFit s) (b : List ℕ) (h : stateLength (s .se
       ∙ omega (arith, sized-length (sections (s .servers) (s .quota)) (parts (s .servers) (s .quota) s b) parts-sized, length-drop (stateLength (s .servers) (s .quota)) b)
 
   -- The section k of an image.
-  pub image-section : (k : ℕ) → k < 8 → section (s .servers) (s .quota) k (image s b) ≡ getD (parts (s .servers) (s .quota) s b) k []
+  pub image-section : (k : ℕ) → k < sectionCount → section (s .servers) (s .quota) k (image s b) ≡ getD (parts (s .servers) (s .quota) s b) k []
   unfolding section sectionSize offset sections
   image-section k l = laid-part (sections (s .servers) (s .quota)) (parts (s .servers) (s .quota) s b) (image s b) image-laid k l
 
@@ -148,15 +140,12 @@ module _ (s : Server) (f : SectionsFit s) (b : List ℕ) (h : stateLength (s .se
           (
             over-bytes _ _ (noted-bytes (s .noted)) (part theNoted),
             (
-              over-bytes _ _ (held-slots-bytes (s .held) (f .held)) (part theHeld),
+              states-over-bytes _ (s .membership .states) _ (part theStates),
               (
-                states-over-bytes _ (s .membership .states) _ (part theStates),
+                over-bytes _ _ (ids-bytes (s .votes .yellow .ids)) (part theYellow),
                 (
-                  over-bytes _ _ (ids-bytes (s .votes .yellow .ids)) (part theYellow),
-                  (
-                    over-bytes _ _ (action-slots-bytes (s .log .own) (f .own)) (part theOwn),
-                    (over-bytes _ _ (action-slots-bytes (queue (s .log)) (f .actions)) (part theQueue), tt),
-                  ),
+                  over-bytes _ _ (action-slots-bytes (s .log .own) (f .own)) (part theOwn),
+                  (over-bytes _ _ (action-slots-bytes (queue (s .log)) (f .actions)) (part theQueue), tt),
                 ),
               ),
             ),

@@ -19,7 +19,7 @@ use Rattle.writer.specs.Blocks.{yellowHeadBytes}
 use Rattle.record.specs.Events.{lastIn, markIn}
 use Rattle.record.specs.Values.{componentOf, markOf}
 use Rattle.replication.specs.Machine.Types.{Configuration, Server}
-use Rattle.engine.specs.Layout.{theHeader, sections, offset, headerSize, atLast, atYellow, atYellowCount, atAttempt, atCome, atConfiguration, atConfigurationId, atConfigurationSet, atCpcs, atGreenLength, atHeldCount, atMark, atMe, atMode, atNumbered, atOwnCount, atQueueLength, atQuota, atLayout, atServers, atStates, atTransitional, atTransitionalSet}
+use Rattle.engine.specs.Layout.{theHeader, sections, offset, headerSize, atLast, atYellow, atYellowCount, atAttempt, atCome, atConfiguration, atConfigurationId, atConfigurationSet, atCpcs, atGreenLength, atSent, atMark, atMe, atMode, atNumbered, atOwnCount, atQueueLength, atQuota, atLayout, atServers, atStates, atTransitional, atTransitionalSet}
 use Rattle.engine.specs.Image.{configurationBytes, transitionalBytes, headerBytes, parts}
 use Rattle.engine.specs.Header.{statusOf, idOf, setOf, transitionalOf, lastOf, markNumbers, headerOf, headerIn, membershipBytes, countsBytes, standingBytes, votesBytes, firstBytes, headerWritten}
 use Rattle.engine.proofs.InRange.{in-range}
@@ -80,7 +80,7 @@ header-loaded s b r =
       «green_length» = x .greenCount i;
       numbered = x .numbered i;
       «own_count» = x .ownCount i;
-      «held_count» = x .heldCount i;
+      sent = x .sent i;
       attempt = record { 0 = x .attempt i };
       last = lastOf (x .last i);
       mark = markNumbers (x .mark i);
@@ -131,7 +131,7 @@ counts-kept b k h =
         number-occurs 4 b atGreenLength refl k (omega arith),
         (
           number-occurs 2 b atNumbered refl k (omega arith),
-          (number-occurs 2 b atOwnCount refl k (omega arith), (number-occurs 2 b atHeldCount refl k (omega arith), (number-occurs 4 b atAttempt refl k (omega arith), tt))),
+          (number-occurs 2 b atOwnCount refl k (omega arith), (number-occurs 2 b atSent refl k (omega arith), (number-occurs 4 b atAttempt refl k (omega arith), tt))),
         ),
       ),
     )

@@ -26,7 +26,7 @@ use Rattle.engine.specs.Decode.{modeNamed, configurationAt, transitional
 use Rattle.engine.proofs.InRange.{ConfigurationRange, TransitionalRange, InRange}
 use Rattle.engine.proofs.Used.{configuration-length, transitional-length}
 use Rattle.engine.proofs.Slots.{senders-below}
-use Rattle.engine.specs.Layout.{atLayout, atServers, atQuota, atMe, atMode, atConfiguration, atConfigurationId, atConfigurationSet, atTransitional, atTransitionalSet, atStates, atCpcs, atCome, atQueueLength, atGreenLength, atNumbered, atOwnCount, atHeldCount, atAttempt, atLast, atMark, atYellow, atYellowCount}
+use Rattle.engine.specs.Layout.{atLayout, atServers, atQuota, atMe, atMode, atConfiguration, atConfigurationId, atConfigurationSet, atTransitional, atTransitionalSet, atStates, atCpcs, atCome, atQueueLength, atGreenLength, atNumbered, atOwnCount, atSent, atAttempt, atLast, atMark, atYellow, atYellowCount}
 
 pub mode-named : (m : Mode) → modeNamed (modeNumber m) ≡ m
 unfolding modeNamed modeNumber pick _=?_
@@ -115,7 +115,7 @@ pub record HeaderRead (s : Server) (e : List ℕ) : Type 0 where
   pub greenCount : numberAt 4 e atGreenLength ≡ length (s .log .green)
   pub numbered : numberAt 2 e atNumbered ≡ s .log .numbered
   pub ownCount : numberAt 2 e atOwnCount ≡ length (s .log .own)
-  pub heldCount : numberAt 2 e atHeldCount ≡ length (s .held)
+  pub sent : numberAt 2 e atSent ≡ s .log .sent
   pub attempt : numberAt 4 e atAttempt ≡ s .votes .attempt
   pub last : primaryAt e atLast ≡ s .votes .last
   pub mark : markAt e atMark ≡ s .votes .mark
@@ -175,7 +175,7 @@ header-read s e r o =
       greenCount = number-read 4 atGreenLength (f₁₀ .0) (omega arith) (omega (arith, r .queueCount, length-append (s .log .green) (s .log .red)));
       numbered = number-read 2 atNumbered (f₁₁ .0) (omega arith) (omega (arith, r .numbered));
       ownCount = number-read 2 atOwnCount (f₁₂ .0) (omega arith) (omega (arith, r .ownCount));
-      heldCount = number-read 2 atHeldCount (f₁₃ .0) (omega arith) (omega (arith, r .heldCount));
+      sent = number-read 2 atSent (f₁₃ .0) (omega arith) (omega (arith, r .sent, r .numbered, r .context .sizes .highest));
       attempt = number-read 4 atAttempt (f₁₄ .0) (omega arith) (omega (arith, r .attempt));
       last = primary-read (s .votes .last) e atLast (r .last) (occurs-at (f₁₅ .0) (omega arith));
       mark = mark-read (s .votes .mark) e atMark (r .mark) (occurs-at (f₁₆ .0) (omega arith));

@@ -17,8 +17,8 @@ use Rattle.base.proofs.Sections.{cutBy, cut-at, laid-cut, begin-end, patched-fr
 use Rattle.format.specs.Write.{cutsBytes, idsBytes}
 use Rattle.replication.specs.Machine.Types.{Server}
 use Rattle.replication.specs.Machine.WellFormed.{queue, wellFormed}
-use Rattle.engine.specs.Layout.{stateSize, theHeader, theCuts, theNoted, theHeld, theStates, theYellow, theOwn, theQueue, sections, sectionSize, offset, stateLength, headerSize}
-use Rattle.engine.specs.Image.{headerBytes, notedBytes, statesOver, actionSlots, heldSlots, section, parts, image}
+use Rattle.engine.specs.Layout.{stateSize, theHeader, theCuts, theNoted, theStates, theYellow, theOwn, theQueue, sections, sectionSize, offset, stateLength, headerSize, sectionCount}
+use Rattle.engine.specs.Image.{headerBytes, notedBytes, statesOver, actionSlots, section, parts, image}
 use Rattle.engine.specs.Decode.{decoded, readImage}
 use Rattle.engine.specs.Holding.{Holds, HoldsSuch, HoldsSome}
 use Rattle.engine.proofs.Fit.{SectionsFit, well-formed-fits, parts-sized, image-section}
@@ -66,7 +66,7 @@ such-header P b h = holds-header (h .state) b (h .holds)
 -- ---- sections
 
 -- Each section of a buffer that holds s: the used part, and behind it the rest.
-pub holds-section : (s : Server) (b : List ℕ) → Holds s b → (k : ℕ) → k < 8
+pub holds-section : (s : Server) (b : List ℕ) → Holds s b → (k : ℕ) → k < sectionCount
     → section (s .servers) (s .quota) k b ≡ getD (parts (s .servers) (s .quota) s b) k []
 holds-section s b r k l =
     ap (λ (c : List ℕ). section (s .servers) (s .quota) k c) (sym (r .written)) ∙ image-section s (well-formed-fits s (r .formed)) b (r .long) k l
@@ -74,10 +74,10 @@ holds-section s b r k l =
 -- Every section of t but those of these numbers is what the buffer has.
 abbrev pub SameBut : List ℕ → Server → List ℕ → Type 0
 SameBut ks t b =
-    (j : ℕ) → j < 8 → NoneOf ks j → section (t .servers) (t .quota) j b ≡ getD (parts (t .servers) (t .quota) t b) j []
+    (j : ℕ) → j < sectionCount → NoneOf ks j → section (t .servers) (t .quota) j b ≡ getD (parts (t .servers) (t .quota) t b) j []
 
 -- The image of t over b is b with these sections written anew.
-pub image-patched : (t : Server) → SectionsFit t → (b : List ℕ) → stateLength (t .servers) (t .quota) ≤ length b → (ks : List ℕ) → Each (λ k. k < 8) ks
+pub image-patched : (t : Server) → SectionsFit t → (b : List ℕ) → stateLength (t .servers) (t .quota) ≤ length b → (ks : List ℕ) → Each (λ k. k < sectionCount) ks
     → SameBut ks t b → image t b ≡ patchedAll (sections (t .servers) (t .quota)) ks (parts (t .servers) (t .quota) t b) b
 unfolding image stateLength sections section sectionSize offset
 image-patched t f b h ks few same =
@@ -85,7 +85,7 @@ image-patched t f b h ks few same =
     let ts : List (List ℕ) = parts (t .servers) (t .quota) t b in
     sym (all-patched ws ks (cutBy ws 0 b) ts b (laid-cut ws b h) (parts-sized t f b h) few agree)
   where
-    agree : (j : ℕ) → j < 8 → NoneOf ks j → getD (cutBy (sections (t .servers) (t .quota)) 0 b) j [] ≡ getD (parts (t .servers) (t .quota) t b) j []
+    agree : (j : ℕ) → j < sectionCount → NoneOf ks j → getD (cutBy (sections (t .servers) (t .quota)) 0 b) j [] ≡ getD (parts (t .servers) (t .quota) t b) j []
     agree j l other =
         let ws : List ℕ = sections (t .servers) (t .quota) in
         cut-at ws 0 b j l ∙ ap (λ (m : ℕ). partAt (getD ws j 0) b m) (zero-add (sum (take j ws))) ∙ same j l other
@@ -95,21 +95,19 @@ pub same-but : (ks : List ℕ) (t : Server) (b : List ℕ)
     → (NoneOf ks theHeader → section (t .servers) (t .quota) theHeader b ≡ getD (parts (t .servers) (t .quota) t b) theHeader [])
     → (NoneOf ks theCuts → section (t .servers) (t .quota) theCuts b ≡ getD (parts (t .servers) (t .quota) t b) theCuts [])
     → (NoneOf ks theNoted → section (t .servers) (t .quota) theNoted b ≡ getD (parts (t .servers) (t .quota) t b) theNoted [])
-    → (NoneOf ks theHeld → section (t .servers) (t .quota) theHeld b ≡ getD (parts (t .servers) (t .quota) t b) theHeld [])
     → (NoneOf ks theStates → section (t .servers) (t .quota) theStates b ≡ getD (parts (t .servers) (t .quota) t b) theStates [])
     → (NoneOf ks theYellow → section (t .servers) (t .quota) theYellow b ≡ getD (parts (t .servers) (t .quota) t b) theYellow [])
     → (NoneOf ks theOwn → section (t .servers) (t .quota) theOwn b ≡ getD (parts (t .servers) (t .quota) t b) theOwn [])
     → (NoneOf ks theQueue → section (t .servers) (t .quota) theQueue b ≡ getD (parts (t .servers) (t .quota) t b) theQueue [])
     → SameBut ks t b
-same-but ks t b e₀ e₁ e₂ e₃ e₄ e₅ e₆ e₇ zero l = e₀
-same-but ks t b e₀ e₁ e₂ e₃ e₄ e₅ e₆ e₇ (suc zero) l = e₁
-same-but ks t b e₀ e₁ e₂ e₃ e₄ e₅ e₆ e₇ (suc (suc zero)) l = e₂
-same-but ks t b e₀ e₁ e₂ e₃ e₄ e₅ e₆ e₇ (suc (suc (suc zero))) l = e₃
-same-but ks t b e₀ e₁ e₂ e₃ e₄ e₅ e₆ e₇ (suc (suc (suc (suc zero)))) l = e₄
-same-but ks t b e₀ e₁ e₂ e₃ e₄ e₅ e₆ e₇ (suc (suc (suc (suc (suc zero))))) l = e₅
-same-but ks t b e₀ e₁ e₂ e₃ e₄ e₅ e₆ e₇ (suc (suc (suc (suc (suc (suc zero)))))) l = e₆
-same-but ks t b e₀ e₁ e₂ e₃ e₄ e₅ e₆ e₇ (suc (suc (suc (suc (suc (suc (suc zero))))))) l = e₇
-same-but ks t b e₀ e₁ e₂ e₃ e₄ e₅ e₆ e₇ (suc (suc (suc (suc (suc (suc (suc (suc j)))))))) l = absurd (omega arith)
+same-but ks t b e₀ e₁ e₂ e₃ e₄ e₅ e₆ zero l = e₀
+same-but ks t b e₀ e₁ e₂ e₃ e₄ e₅ e₆ (suc zero) l = e₁
+same-but ks t b e₀ e₁ e₂ e₃ e₄ e₅ e₆ (suc (suc zero)) l = e₂
+same-but ks t b e₀ e₁ e₂ e₃ e₄ e₅ e₆ (suc (suc (suc zero))) l = e₃
+same-but ks t b e₀ e₁ e₂ e₃ e₄ e₅ e₆ (suc (suc (suc (suc zero)))) l = e₄
+same-but ks t b e₀ e₁ e₂ e₃ e₄ e₅ e₆ (suc (suc (suc (suc (suc zero))))) l = e₅
+same-but ks t b e₀ e₁ e₂ e₃ e₄ e₅ e₆ (suc (suc (suc (suc (suc (suc zero)))))) l = e₆
+same-but ks t b e₀ e₁ e₂ e₃ e₄ e₅ e₆ (suc (suc (suc (suc (suc (suc (suc j))))))) l = absurd (omega arith)
 
 -- From a buffer that holds s, to a state t that has the lists of s in all sections but these.
 pub record SameLists (ks : List ℕ) (s t : Server) : Type 0 where
@@ -118,7 +116,6 @@ pub record SameLists (ks : List ℕ) (s t : Server) : Type 0 where
   pub header : NoneOf ks theHeader → headerBytes s ≡ headerBytes t
   pub cuts : NoneOf ks theCuts → s .log .cuts ≡ t .log .cuts
   pub noted : NoneOf ks theNoted → s .noted ≡ t .noted
-  pub held : NoneOf ks theHeld → s .held ≡ t .held
   pub states : NoneOf ks theStates → s .membership .states ≡ t .membership .states
   pub ids : NoneOf ks theYellow → s .votes .yellow .ids ≡ t .votes .yellow .ids
   pub own : NoneOf ks theOwn → s .log .own ≡ t .log .own
@@ -130,13 +127,12 @@ holds-same s t b ks r e =
     same-but ks t b (λ m. there theHeader (omega arith) ∙ e .header m)
     (λ m. there theCuts (omega arith) ∙ used theCuts (ap cutsBytes (e .cuts m)))
     (λ m. there theNoted (omega arith) ∙ used theNoted (ap notedBytes (e .noted m)))
-    (λ m. there theHeld (omega arith) ∙ used theHeld (ap heldSlots (e .held m)))
     (λ m. there theStates (omega arith) ∙ slots (e .states m))
     (λ m. there theYellow (omega arith) ∙ used theYellow (ap idsBytes (e .ids m)))
     (λ m. there theOwn (omega arith) ∙ used theOwn (ap actionSlots (e .own m)))
     (λ m. there theQueue (omega arith) ∙ used theQueue (ap actionSlots (e .actions m)))
   where
-    there : (k : ℕ) → k < 8 → section (t .servers) (t .quota) k b ≡ getD (parts (s .servers) (s .quota) s b) k []
+    there : (k : ℕ) → k < sectionCount → section (t .servers) (t .quota) k b ≡ getD (parts (s .servers) (s .quota) s b) k []
     there k l = (λ i. section (e .servers i) (e .quota i) k b) ∙ holds-section s b r k l
 
     used : (k : ℕ) {x y : List ℕ} → x ≡ y → over x (section (s .servers) (s .quota) k b) ≡ over y (section (t .servers) (t .quota) k b)
@@ -149,7 +145,7 @@ holds-same s t b ks r e =
         λ i. statesOver (stateSize (sym (e .servers) i) (sym (e .quota) i)) (p i) (section (sym (e .servers) i) (sym (e .quota) i) theStates b)
 
 -- One section and the header: the image of t is the buffer with these written anew.
-pub image-patched-one : (s t : Server) (b : List ℕ) (k : ℕ) → Holds s b → SectionsFit t → k < 8 → SameLists (k ∷ theHeader ∷ []) s t
+pub image-patched-one : (s t : Server) (b : List ℕ) (k : ℕ) → Holds s b → SectionsFit t → k < sectionCount → SameLists (k ∷ theHeader ∷ []) s t
     → image t b
     ≡ patched (offset (t .servers) (t .quota) theHeader) (headerBytes t)
     (patched (offset (t .servers) (t .quota) k) (getD (parts (t .servers) (t .quota) t b) k []) b)

@@ -10,7 +10,7 @@ use lib.ListN.{length, length-map}
 use Rattle.base.proofs.TestLaws.{and-holds, both-yes, le-holds, eq-holds, not-both}
 use Rattle.base.specs.Lists.{all, above, Each}
 use Rattle.base.proofs.ListLaws.{all-each, above-length}
-use Rattle.format.specs.Limits.{mostServers, mostHeld, mostIndex, mostIds}
+use Rattle.format.specs.Limits.{mostServers, mostIndex, mostIds}
 use Rattle.format.specs.Types.{Id, Action, State, Context}
 use Rattle.format.specs.Range.{actionOk, lengthOk, payloadOk, cutsOk, ownSetOk, idsInRange}
 use Rattle.format.proofs.Ranges.{ContextRange, context-range, length-range, set-range, index-range, configuration-range, PayloadRange, payload-range, ActionRange, action-range, PrimaryRange, primary-range, MarkRange, mark-range, YellowRange, yellow-range, StateRange, state-range}
@@ -51,8 +51,7 @@ pub record InRange (s : Server) : Type 0 where
   pub states : Each (CollectedRange (contextOf s)) (s .membership .states)
   pub cpcs : s .membership .cpcs < 2 ^ mostServers
   pub come : s .membership .come ≤ 2 * (s .servers * s .quota)
-  pub heldCount : length (s .held) ≤ mostHeld
-  pub held : Each PayloadRange (s .held)
+  pub sent : s .log .sent ≤ s .log .numbered
   pub notedCount : length (s .noted) ≡ s .servers
   pub noted : Each (λ l. l ≤ mostIds) (s .noted)
 
@@ -130,14 +129,13 @@ in-range s ok =
     let b₃ = and-holds _ _ (b₂ .1) in
     let b₄ = and-holds _ _ (b₃ .1) in
     let b₅ = and-holds _ _ (b₄ .1) in
-    let b₆ = and-holds _ _ (b₅ .1) in
-    let b₇ = and-holds _ _ (b₆ .1) in
     let r : ContextRange c = context-range c (b₁ .0) in
     let l₁ = and-holds _ _ (b₂ .0) in
     let l₂ = and-holds _ _ (l₁ .1) in
     let l₃ = and-holds _ _ (l₂ .1) in
     let l₄ = and-holds _ _ (l₃ .1) in
     let l₅ = and-holds _ _ (l₄ .1) in
+    let l₆ = and-holds _ _ (l₅ .1) in
     let v₁ = and-holds _ _ (b₃ .0) in
     let v₂ = and-holds _ _ (v₁ .1) in
     let v₃ = and-holds _ _ (v₂ .1) in
@@ -147,7 +145,7 @@ in-range s ok =
     let m₄ = and-holds _ _ (m₃ .1) in
     let m₅ = and-holds _ _ (m₄ .1) in
     let actions : all (actionOk c) (s .log .green ++ s .log .red) ≡ true = all-append c (s .log .green) (s .log .red) (l₁ .0) (l₂ .0) in
-    let numbered : s .log .numbered ≤ s .quota = le-holds (s .log .numbered) (s .quota) (l₅ .1) in
+    let numbered : s .log .numbered ≤ s .quota = le-holds (s .log .numbered) (s .quota) (l₆ .0) in
     record {
       context = r;
       actions = actions-range c r (s .log .green ++ s .log .red) actions;
@@ -158,6 +156,7 @@ in-range s ok =
       own = actions-range c r (s .log .own) (l₅ .0);
       ownCount = omega (arith, own-count (s .me) (s .log) (a₄ .0));
       numbered = numbered;
+      sent = le-holds (s .log .sent) (s .log .numbered) (l₆ .1);
       last = primary-range c (s .votes .last) r (v₁ .0);
       attempt = index-range (s .votes .attempt) (v₂ .0);
       mark = mark-range c (s .votes .mark) r (v₃ .0);
@@ -168,8 +167,6 @@ in-range s ok =
       states = collected-fit c r (s .membership .configuration) 0 (s .membership .states) (m₄ .0);
       cpcs = set-range c (s .membership .cpcs) r (m₅ .0);
       come = le-holds (s .membership .come) (2 * (s .servers * s .quota)) (m₅ .1);
-      heldCount = le-holds (length (s .held)) mostHeld (b₅ .0);
-      held = all-each payloadOk PayloadRange payload-range (s .held) (b₆ .0);
-      notedCount = eq-holds (length (s .noted)) (s .servers) (b₇ .0);
-      noted = all-each (lengthOk c) (λ l. l ≤ mostIds) (λ l h. length-range c l r h) (s .noted) (b₇ .1);
+      notedCount = eq-holds (length (s .noted)) (s .servers) (b₅ .0);
+      noted = all-each (lengthOk c) (λ l. l ≤ mostIds) (λ l h. length-range c l r h) (s .noted) (b₅ .1);
     }

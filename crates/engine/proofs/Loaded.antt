@@ -10,7 +10,7 @@ use Rattle.record.specs.declared.State.{State}
 use Rattle.record.specs.Events.{lastIn, markIn}
 use Rattle.engine.specs.declared.header.Membership.{Membership}
 use Rattle.engine.specs.Header.{headerIn, membershipIn}
-use Rattle.engine.specs.Layout.{atLayout, atServers, atQuota, atMe, atMode, atConfiguration, atConfigurationId, atConfigurationSet, atTransitional, atTransitionalSet, atStates, atCpcs, atCome, atQueueLength, atGreenLength, atNumbered, atOwnCount, atHeldCount, atAttempt, atLast, atMark, atYellow, atYellowCount}
+use Rattle.engine.specs.Layout.{atLayout, atServers, atQuota, atMe, atMode, atConfiguration, atConfigurationId, atConfigurationSet, atTransitional, atTransitionalSet, atStates, atCpcs, atCome, atQueueLength, atGreenLength, atNumbered, atOwnCount, atSent, atAttempt, atLast, atMark, atYellow, atYellowCount}
 
 abbrev pub madeMembership : (layout servers quota me mode status id set transitional inside states cpcs come : ℕ) → Membership
 madeMembership layout servers quota me mode status id set transitional inside states cpcs come = record {
@@ -56,7 +56,7 @@ madeState m queue green numbered own held attempt last mark yellow count = recor
   «green_length» = green;
   numbered = numbered;
   «own_count» = own;
-  «held_count» = held;
+  sent = held;
   attempt = record { 0 = attempt };
   last = last;
   mark = mark;
@@ -66,7 +66,7 @@ madeState m queue green numbered own held attempt last mark yellow count = recor
 
 pub state-loaded : (b : List ℕ) (m : Membership) (queue green numbered own held attempt : ℕ) (last : LastPrimary) (mark : Mark) (yellow count : ℕ)
     → m ≡ membershipIn b → queue ≡ numberAt 4 b atQueueLength → green ≡ numberAt 4 b atGreenLength → numbered ≡ numberAt 2 b atNumbered → own ≡ numberAt 2 b atOwnCount
-    → held ≡ numberAt 2 b atHeldCount → attempt ≡ numberAt 4 b atAttempt → last ≡ lastIn b atLast → mark ≡ markIn b atMark → yellow ≡ numberAt 1 b atYellow
+    → held ≡ numberAt 2 b atSent → attempt ≡ numberAt 4 b atAttempt → last ≡ lastIn b atLast → mark ≡ markIn b atMark → yellow ≡ numberAt 1 b atYellow
     → count ≡ numberAt 2 b atYellowCount → madeState m queue green numbered own held attempt last mark yellow count ≡ headerIn b
 unfolding headerIn membershipIn
 state-loaded b m queue green numbered own held attempt last mark yellow count e₀ e₁ e₂ e₃ e₄ e₅ e₆ e₇ e₈ e₉ f₀ =

@@ -4,19 +4,14 @@ use Prim.Native.Nat.{ℕ, _+_, _*_, _≤_}
 use mathlib.Core.Path.{_≡_}
 use native.Mathlib.Omega.{arith}
 use Rattle.base.specs.Lists.{sum}
-use Rattle.engine.specs.Layout.{stateSize, theNoted, theHeld, theStates, theYellow, theOwn, theQueue, sections, offset, headerSize, slotSize, heldSize}
+use Rattle.engine.specs.Layout.{stateSize, theNoted, theStates, theYellow, theOwn, theQueue, sections, offset, headerSize, slotSize}
 use Rattle.format.specs.Places.{stateHeadSize}
-use Rattle.format.specs.Limits.{mostHeld}
 
 pub noted-place : (n q : ℕ) → headerSize + 2 * n ≡ offset n q theNoted
 unfolding offset sections sum
 noted-place n q = omega arith
 
-pub held-place : (n q : ℕ) → headerSize + 6 * n ≡ offset n q theHeld
-unfolding offset sections sum
-held-place n q = omega arith
-
-pub states-place : (n q : ℕ) → headerSize + 6 * n + heldSize * mostHeld ≡ offset n q theStates
+pub states-place : (n q : ℕ) → headerSize + 6 * n ≡ offset n q theStates
 unfolding offset sections sum
 states-place n q = omega arith
 
@@ -40,6 +35,6 @@ queue-place n q at e = rw e (omega arith)
 pub section-found : (n q j k r : ℕ) → k ≡ j → r ≡ offset n q j → r ≡ offset n q k
 section-found n q j k r e f = rw e f
 
-pub section-last : (n q k r : ℕ) → theNoted ≤ k → k ≤ theQueue → (k ≡ theNoted → ⊥) → (k ≡ theHeld → ⊥) → (k ≡ theStates → ⊥) → (k ≡ theYellow → ⊥)
+pub section-last : (n q k r : ℕ) → theNoted ≤ k → k ≤ theQueue → (k ≡ theNoted → ⊥) → (k ≡ theStates → ⊥) → (k ≡ theYellow → ⊥)
     → (k ≡ theOwn → ⊥) → r ≡ offset n q theQueue → r ≡ offset n q k
-section-last n q k r l h a b c d e f = section-found n q theQueue k r (omega arith) f
+section-last n q k r l h a b c d f = section-found n q theQueue k r (omega arith) f

@@ -71,8 +71,8 @@ pub counts-saved : (h : State) (s t : List ℕ)
     ∷ h .numbered % 256
     ∷ h .«own_count» / 256 % 256
     ∷ h .«own_count» % 256
-    ∷ h .«held_count» / 256 % 256
-    ∷ h .«held_count» % 256
+    ∷ h .sent / 256 % 256
+    ∷ h .sent % 256
     ∷ h .attempt .0 / 16777216 % 256
     ∷ h .attempt .0 / 65536 % 256
     ∷ h .attempt .0 / 256 % 256
@@ -82,7 +82,7 @@ pub counts-saved : (h : State) (s t : List ℕ)
     → t ≡ patched atQueueLength (countsBytes h) s
 unfolding countsBytes joined
 counts-saved h s t e =
-    rw (bytes4 (h .«queue_length»), bytes4 (h .«green_length»), bytes2 (h .numbered), bytes2 (h .«own_count»), bytes2 (h .«held_count»), bytes4 (h .attempt .0)) e
+    rw (bytes4 (h .«queue_length»), bytes4 (h .«green_length»), bytes2 (h .numbered), bytes2 (h .«own_count»), bytes2 (h .sent), bytes4 (h .attempt .0)) e
 
 -- ---- one block after another
 

@@ -6,15 +6,14 @@ use mathlib.Core.Bool.{Bool, false, not}
 use native.Mathlib.Omega.{arith}
 use borrow.Author.Tests.{not-false}
 use Rattle.base.specs.Lists.{sum}
-use Rattle.format.specs.Limits.{mostHeld}
 use Rattle.format.specs.Range.{sizesOk}
 use Rattle.format.proofs.Ranges.{sizes-range}
 use Rattle.engine.specs.declared.Lengths.{Lengths}
-use Rattle.engine.specs.Layout.{SizesIn, stateSize, sections, stateLength, outLength, slotSize, headerSize, heldSize}
+use Rattle.engine.specs.Layout.{SizesIn, stateSize, sections, stateLength, outLength, slotSize, headerSize}
 use Rattle.format.specs.Places.{idSize, stateHeadSize, mostRetransmission}
 
 pub state-length-made : (n q all states : ℕ) → all ≡ n * q → states ≡ n * (stateHeadSize + 2 * n + idSize * all)
-    → headerSize + 6 * n + heldSize * mostHeld + states + idSize * all + slotSize * q + slotSize * all ≡ stateLength n q
+    → headerSize + 6 * n + states + idSize * all + slotSize * q + slotSize * all ≡ stateLength n q
 unfolding stateLength sections sum stateSize
 state-length-made n q all states e f = rw (f, e) (omega arith)
 

@@ -21,11 +21,11 @@ use Rattle.format.specs.Write.{write, framed, bodyOf, stateBytes, actionBytes, 
 use Rattle.format.specs.Read.{payloadAt, actionAt, stateAt}
 use Rattle.format.proofs.Ranges.{ContextRange, PayloadRange, ActionRange}
 use Rattle.format.proofs.Fields.{payload-read, action-read, state-read}
-use Rattle.engine.specs.Layout.{heldSize, slotSize, stateSize}
-use Rattle.engine.specs.Image.{senders, notedBytes, stateOver, statesOver, actionSlots, heldSlots}
-use Rattle.engine.specs.Decode.{actionsAt, heldAt, statesAt}
+use Rattle.engine.specs.Layout.{slotSize, stateSize}
+use Rattle.engine.specs.Image.{senders, notedBytes, stateOver, statesOver, actionSlots}
+use Rattle.engine.specs.Decode.{actionsAt, statesAt}
 use Rattle.engine.proofs.InRange.{CollectedRange}
-use Rattle.engine.proofs.Used.{action-slot-length, held-slot-length, StateFits, state-over-length, first-slot, more-slots}
+use Rattle.engine.proofs.Used.{action-slot-length, StateFits, state-over-length, first-slot, more-slots}
 
 pub actions-read : (c : Context) (l : List Action) (e : List ℕ) (at : ℕ) → ContextRange c → Each (ActionRange c) l → Occurs (actionSlots l) e at
     → actionsAt (length l) e at ≡ l
@@ -37,21 +37,7 @@ actions-read c (a ∷ l) e at s r o =
     let rest = actions-read c l e (at + slotSize) s (r .1) (occurs-second (slot slotSize (actionBytes a)) (actionSlots l) e at (at + slotSize) place o) in
     ap₂ {A = Action} {B = List Action} {C = List Action} (λ x xs. x ∷ xs) first rest
 
-pub held-read : (l : List (List ℕ)) (e : List ℕ) (at : ℕ) → Each PayloadRange l → Occurs (heldSlots l) e at → heldAt (length l) e at ≡ l
-unfolding heldSlots heldAt joined slot
-held-read [] e at r o = refl
-held-read (p ∷ l) e at r o =
-    let first : payloadAt e at ≡ p = payload-read p e at (r .0) (occurs-first (payloadBytes p) _ e at (occurs-first (slot heldSize (payloadBytes p)) (heldSlots l) e at o)) .1 in
-    let place : at + length (slot heldSize (payloadBytes p)) ≡ at + heldSize = ap (λ (m : ℕ). at + m) (held-slot-length p (r .0)) in
-    let rest = held-read l e (at + heldSize) (r .1) (occurs-second (slot heldSize (payloadBytes p)) (heldSlots l) e at (at + heldSize) place o) in
-    ap₂ {A = List ℕ} {B = List (List ℕ)} {C = List (List ℕ)} (λ x xs. x ∷ xs) first rest
-
 -- As many are read as are asked for.
-
-pub held-count : (m : ℕ) (b : List ℕ) (at : ℕ) → length (heldAt m b at) ≡ m
-unfolding heldAt
-held-count zero b at = refl
-held-count (suc m) b at = ap suc (held-count m b (at + heldSize))
 
 pub actions-count : (m : ℕ) (b : List ℕ) (at : ℕ) → length (actionsAt m b at) ≡ m
 unfolding actionsAt

@@ -29,7 +29,7 @@ use Rattle.replication.specs.Machine.Types.{Server, clearedMark, noYellow, noSt
 use Rattle.replication.specs.Machine.WellFormed.{queue}
 use Rattle.replication.proofs.WellFormed.Runs.{start-well-formed}
 use Rattle.engine.specs.Layout.{StartRoom, stateSize, theHeader, theCuts, theNoted, theStates, sections, sectionSize, stateLength, leastStateLength, headerSize}
-use Rattle.engine.specs.Image.{modeNumber, senders, headerBytes, notedBytes, stateOver, statesOver, actionSlots, heldSlots, section, parts, image}
+use Rattle.engine.specs.Image.{modeNumber, senders, headerBytes, notedBytes, stateOver, statesOver, actionSlots, section, parts, image}
 use Rattle.engine.specs.Header.{statusOf, idOf, setOf, transitionalOf, lastOf, markNumbers, headerOf, headerWritten}
 use Rattle.engine.specs.Decode.{readImage}
 use Rattle.engine.specs.Outcome.{started, startOn}
@@ -91,8 +91,6 @@ unfolding start queue noYellow
 start-fits n q i = record {
   cuts = omega (arith, length-replicate {A = ℕ} n 0);
   noted = omega (arith, length-replicate {A = ℕ} n 0);
-  heldCount = omega arith;
-  held = tt;
   statesCount = omega (arith, none-length n);
   states = none-fit (stateSize n q) n;
   ids = omega arith;
@@ -103,9 +101,9 @@ start-fits n q i = record {
 }
 
 start-same : (n q i : ℕ) (b : List ℕ) → SameBut (theHeader ∷ theCuts ∷ theNoted ∷ []) (start n q i) b
-unfolding start parts over heldSlots actionSlots idsBytes joined queue noYellow
+unfolding start parts over actionSlots idsBytes joined queue noYellow
 start-same n q i b =
-    same-but (theHeader ∷ theCuts ∷ theNoted ∷ []) (start n q i) b (λ m. absurd (m .0 refl)) (λ m. absurd (m .1 .0 refl)) (λ m. absurd (m .1 .1 .0 refl)) (λ m. refl)
+    same-but (theHeader ∷ theCuts ∷ theNoted ∷ []) (start n q i) b (λ m. absurd (m .0 refl)) (λ m. absurd (m .1 .0 refl)) (λ m. absurd (m .1 .1 .0 refl))
     (λ m. sym (states-none (stateSize n q) n (section n q theStates b))) (λ m. refl) (λ m. refl) (λ m. refl)
 
 -- A used part that fills its section.

@@ -18,8 +18,8 @@ use Rattle.format.proofs.Lengths.{action-length, payload-length}
 use Rattle.format.proofs.Ranges.{PayloadRange}
 use Rattle.format.proofs.WriteBytes.{action-bytes, payload-bytes, primary-bytes, mark-bytes, state-record-bytes}
 use Rattle.replication.specs.Machine.Types.{Configuration, Server}
-use Rattle.engine.specs.Layout.{heldSize, slotSize, headerSize}
-use Rattle.engine.specs.Image.{configurationBytes, transitionalBytes, headerBytes, notedBytes, stateOver, statesOver, actionSlots, heldSlots}
+use Rattle.engine.specs.Layout.{slotSize, headerSize}
+use Rattle.engine.specs.Image.{configurationBytes, transitionalBytes, headerBytes, notedBytes, stateOver, statesOver, actionSlots}
 
 -- ---- over what was there
 
@@ -46,9 +46,6 @@ slot-bytes size y h = bytes-append y (zeros (size - length y)) h (zeros-bytes (s
 pub action-slot-length : (a : Action) → PayloadRange (a .payload) → length (slot slotSize (actionBytes a)) ≡ slotSize
 action-slot-length a r = slot-length slotSize (actionBytes a) (omega (arith, action-length a, r .most))
 
-pub held-slot-length : (p : List ℕ) → PayloadRange p → length (slot heldSize (payloadBytes p)) ≡ heldSize
-held-slot-length p r = slot-length heldSize (payloadBytes p) (omega (arith, payload-length p, r .most))
-
 -- An action whose payload fits its slot.
 abbrev pub ActionFits : Action → Type 0
 ActionFits a = PayloadRange (a .payload)
@@ -65,27 +62,11 @@ action-slots-bytes [] h = bytes-nil
 action-slots-bytes (a ∷ l) h =
     bytes-append (slot slotSize (actionBytes a)) (actionSlots l) (slot-bytes slotSize (actionBytes a) (action-bytes a (h .0 .bytes))) (action-slots-bytes l (h .1))
 
-pub held-slots-length : (l : List (List ℕ)) → Each PayloadRange l → length (heldSlots l) ≡ heldSize * length l
-unfolding heldSlots joined
-held-slots-length [] h = refl
-held-slots-length (p ∷ l) h =
-    length-append (slot heldSize (payloadBytes p)) (heldSlots l) ∙ omega (arith, held-slot-length p (h .0), held-slots-length l (h .1))
-
-pub held-slots-bytes : (l : List (List ℕ)) → Each PayloadRange l → Bytes (heldSlots l)
-unfolding heldSlots joined
-held-slots-bytes [] h = bytes-nil
-held-slots-bytes (p ∷ l) h =
-    bytes-append (slot heldSize (payloadBytes p)) (heldSlots l) (slot-bytes heldSize (payloadBytes p) (payload-bytes p (h .0 .bytes))) (held-slots-bytes l (h .1))
-
 -- ---- lists one behind the other
 
 pub slots-append : (x y : List Action) → actionSlots (x ++ y) ≡ actionSlots x ++ actionSlots y
 unfolding actionSlots
 slots-append x y = ap joined (map-append _ x y) ∙ joined-append _ _
-
-pub held-append : (x y : List (List ℕ)) → heldSlots (x ++ y) ≡ heldSlots x ++ heldSlots y
-unfolding heldSlots
-held-append x y = ap joined (map-append _ x y) ∙ joined-append _ _
 
 pub ids-append : (xs ys : List Id) → idsBytes (xs ++ ys) ≡ idsBytes xs ++ idsBytes ys
 unfolding idsBytes joined

@@ -4,10 +4,10 @@ use Prim.Native.Nat.{ℕ, _+_, _*_, _≤_}
 use mathlib.Core.List.{List}
 use lib.ListN.{length}
 use Rattle.base.specs.Bytes.{numberAt}
-use Rattle.format.specs.Limits.{mostHeld, mostIds}
+use Rattle.format.specs.Limits.{mostIds}
 use Rattle.format.specs.Places.{idSize}
-use Rattle.engine.specs.Layout.{atQueueLength, atGreenLength, atNumbered, atOwnCount, atHeldCount, atYellowCount}
-use Rattle.engine.specs.Layout.{SizesIn, headerSize, heldSize, slotSize, theNoted, theHeld, theYellow, theOwn, theQueue, offset, stateLength}
+use Rattle.engine.specs.Layout.{atQueueLength, atGreenLength, atNumbered, atOwnCount, atSent, atYellowCount}
+use Rattle.engine.specs.Layout.{SizesIn, headerSize, slotSize, theNoted, theYellow, theOwn, theQueue, offset, stateLength}
 use Rattle.engine.specs.Decode.{serversIn, quotaIn}
 
 abbrev pub queueCount : List ℕ → ℕ
@@ -22,8 +22,8 @@ numberedIn b = numberAt 2 b atNumbered
 abbrev pub ownCount : List ℕ → ℕ
 ownCount b = numberAt 2 b atOwnCount
 
-abbrev pub heldCount : List ℕ → ℕ
-heldCount b = numberAt 2 b atHeldCount
+abbrev pub sentIn : List ℕ → ℕ
+sentIn b = numberAt 2 b atSent
 
 abbrev pub yellowCount : List ℕ → ℕ
 yellowCount b = numberAt 2 b atYellowCount
@@ -43,8 +43,7 @@ pub record CountsIn (b : List ℕ) : Type 0 where
   pub most : mostActions b ≤ mostIds
   pub long : stateLength (serversIn b) (quotaIn b) ≤ length b
   pub cuts : headerSize + 2 * serversIn b ≤ length b
-  pub notedEnd : place theNoted b + 4 * serversIn b ≤ place theHeld b
-  pub heldEnd : place theHeld b + heldSize * mostHeld ≤ place theYellow b
+  pub notedEnd : place theNoted b + 4 * serversIn b ≤ place theYellow b
   pub yellowEnd : place theYellow b + idSize * mostActions b ≤ place theOwn b
   pub ownEnd : place theOwn b + slotSize * quotaIn b ≤ place theQueue b
   pub queueEnd : place theQueue b + slotSize * mostActions b ≤ length b
@@ -52,5 +51,5 @@ pub record CountsIn (b : List ℕ) : Type 0 where
   pub green : greenCount b ≤ queueCount b
   pub numbered : numberedIn b ≤ quotaIn b
   pub own : ownCount b ≤ quotaIn b
-  pub held : heldCount b ≤ mostHeld
+  pub sent : sentIn b ≤ numberedIn b
   pub yellow : yellowCount b ≤ mostActions b

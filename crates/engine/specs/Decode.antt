@@ -10,13 +10,13 @@ use Rattle.base.specs.Bytes.{numberAt, numbersAt}
 use Rattle.base.specs.Lists.{same}
 use Rattle.base.specs.Sets.{inSet}
 use Rattle.format.specs.Types.{Action, State}
-use Rattle.format.specs.Read.{payloadAt, actionAt, primaryAt, markAt, idsAt, stateAt}
+use Rattle.format.specs.Read.{actionAt, primaryAt, markAt, idsAt, stateAt}
 use Rattle.replication.specs.Machine.Types.{Mode, Non-prim, Reg-prim, Trans-prim, Exchange-states, Exchange-actions, Construct, No, Un}
 use Rattle.replication.specs.Machine.Types.{Configuration, Server}
 use Rattle.replication.specs.Machine.WellFormed.{wellFormed}
-use Rattle.engine.specs.Layout.{heldSize, slotSize, stateSize, theCuts, theNoted, theHeld, theStates, theYellow, theOwn, theQueue, offset}
+use Rattle.engine.specs.Layout.{slotSize, stateSize, theCuts, theNoted, theStates, theYellow, theOwn, theQueue, offset}
 use Rattle.engine.specs.Layout.{atServers, atQuota, atMe, atMode, atConfiguration, atTransitional, atStates, atCpcs, atCome, atQueueLength}
-use Rattle.engine.specs.Layout.{atGreenLength, atNumbered, atOwnCount, atHeldCount, atAttempt, atLast, atMark, atYellow, atYellowCount}
+use Rattle.engine.specs.Layout.{atGreenLength, atNumbered, atOwnCount, atSent, atAttempt, atLast, atMark, atYellow, atYellowCount}
 use Rattle.engine.specs.Image.{modeNumber, image}
 
 -- Another number names no state: it is no image's.
@@ -41,11 +41,6 @@ unfoldable pub actionsAt : ℕ → List ℕ → ℕ → List Action
 actionsAt zero b at = []
 actionsAt (suc m) b at = actionAt b at ∷ actionsAt m b (at + slotSize)
 
--- m held requests, a slot each, from `at` on
-unfoldable pub heldAt : ℕ → List ℕ → ℕ → List (List ℕ)
-heldAt zero b at = []
-heldAt (suc m) b at = payloadAt b at ∷ heldAt m b (at + heldSize)
-
 -- m slots for States from `at` on, of the senders from the number k on; `here` is the set of those that are in
 unfoldable pub statesAt : (n q here m k : ℕ) → List ℕ → ℕ → List (Option State)
 statesAt n q here zero k b at = []
@@ -64,6 +59,7 @@ decodedAs n q b = record {
     cuts = numbersAt 2 n b (offset n q theCuts);
     own = actionsAt (numberAt 2 b atOwnCount) b (offset n q theOwn);
     numbered = numberAt 2 b atNumbered;
+    sent = numberAt 2 b atSent;
   };
   votes = record {
     last = primaryAt b atLast;
@@ -79,7 +75,6 @@ decodedAs n q b = record {
     cpcs = numberAt 1 b atCpcs;
     come = numberAt 4 b atCome;
   };
-  held = heldAt (numberAt 2 b atHeldCount) b (offset n q theHeld);
   noted = numbersAt 4 n b (offset n q theNoted);
 }
 

@@ -20,7 +20,7 @@ use Rattle.engine.specs.declared.header.Membership.{Membership}
 use Rattle.engine.specs.Image.{modeNumber, senders}
 use Rattle.engine.specs.Layout.{atLayout, atServers, atQuota, atMe, atMode, atConfiguration, atConfigurationId}
 use Rattle.engine.specs.Layout.{atConfigurationSet, atTransitional, atTransitionalSet, atStates, atCpcs, atCome, atQueueLength, atGreenLength}
-use Rattle.engine.specs.Layout.{atNumbered, atOwnCount, atHeldCount, atAttempt, atLast, atMark, atYellow, atYellowCount}
+use Rattle.engine.specs.Layout.{atNumbered, atOwnCount, atSent, atAttempt, atLast, atMark, atYellow, atYellowCount}
 
 -- ---- of a state
 
@@ -66,7 +66,7 @@ headerOf s = record {
   «green_length» = length (s .log .green);
   numbered = s .log .numbered;
   «own_count» = length (s .log .own);
-  «held_count» = length (s .held);
+  sent = s .log .sent;
   attempt = record { 0 = s .votes .attempt };
   last = lastOf (s .votes .last);
   mark = markNumbers (s .votes .mark);
@@ -96,7 +96,7 @@ headerIn b = record {
   «green_length» = numberAt 4 b atGreenLength;
   numbered = numberAt 2 b atNumbered;
   «own_count» = numberAt 2 b atOwnCount;
-  «held_count» = numberAt 2 b atHeldCount;
+  sent = numberAt 2 b atSent;
   attempt = record { 0 = numberAt 4 b atAttempt };
   last = lastIn b atLast;
   mark = markIn b atMark;
@@ -148,7 +148,7 @@ countsBytes h =
     ∷ bytesOf 4 (h .«green_length»)
     ∷ bytesOf 2 (h .numbered)
     ∷ bytesOf 2 (h .«own_count»)
-    ∷ bytesOf 2 (h .«held_count»)
+    ∷ bytesOf 2 (h .sent)
     ∷ bytesOf 4 (h .attempt .0)
     ∷ [])
 

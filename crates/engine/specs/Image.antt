@@ -10,11 +10,11 @@ use Rattle.base.specs.Lists.{isThere}
 use Rattle.base.specs.Sets.{withMember}
 use Rattle.format.specs.Limits.{layoutNumber}
 use Rattle.format.specs.Types.{Action, State, state}
-use Rattle.format.specs.Write.{write, actionBytes, cutsBytes, primaryBytes, markBytes, idsBytes, payloadBytes}
+use Rattle.format.specs.Write.{write, actionBytes, cutsBytes, primaryBytes, markBytes, idsBytes}
 use Rattle.replication.specs.Machine.Types.{Mode, Non-prim, Reg-prim, Trans-prim, Exchange-states, Exchange-actions, Construct, No, Un}
 use Rattle.replication.specs.Machine.Types.{Configuration, Server}
 use Rattle.replication.specs.Machine.WellFormed.{queue}
-use Rattle.engine.specs.Layout.{heldSize, slotSize, stateSize, theCuts, theNoted, theHeld, theStates, theYellow, theOwn}
+use Rattle.engine.specs.Layout.{slotSize, stateSize, theCuts, theNoted, theStates, theYellow, theOwn}
 use Rattle.engine.specs.Layout.{theQueue, sectionSize, offset, stateLength}
 
 -- ---- the parts as bytes
@@ -61,7 +61,7 @@ fields s =
     ∷ bytesOf 4 (length (s .log .green))
     ∷ bytesOf 2 (s .log .numbered)
     ∷ bytesOf 2 (length (s .log .own))
-    ∷ bytesOf 2 (length (s .held))
+    ∷ bytesOf 2 (s .log .sent)
     ∷ bytesOf 4 (s .votes .attempt)
     ∷ primaryBytes (s .votes .last)
     ∷ markBytes (s .votes .mark)
@@ -88,9 +88,6 @@ statesOver size (x ∷ xs) old = stateOver x (take size old) ++ statesOver size 
 unfoldable pub actionSlots : List Action → List ℕ
 actionSlots l = joined (map (λ a. slot slotSize (actionBytes a)) l)
 
-unfoldable pub heldSlots : List (List ℕ) → List ℕ
-heldSlots l = joined (map (λ p. slot heldSize (payloadBytes p)) l)
-
 -- ---- the image
 
 -- The section k of the bytes b.
@@ -103,7 +100,6 @@ parts n q s old =
     headerBytes s
     ∷ over (cutsBytes (s .log .cuts)) (section n q theCuts old)
     ∷ over (notedBytes (s .noted)) (section n q theNoted old)
-    ∷ over (heldSlots (s .held)) (section n q theHeld old)
     ∷ statesOver (stateSize n q) (s .membership .states) (section n q theStates old)
     ∷ over (idsBytes (s .votes .yellow .ids)) (section n q theYellow old)
     ∷ over (actionSlots (s .log .own)) (section n q theOwn old)

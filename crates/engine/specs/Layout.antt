@@ -5,7 +5,7 @@ use mathlib.Core.List.{List, [], _∷_}
 use lib.ListN.{length, take, getD}
 use Rattle.base.specs.Lists.{sum}
 use Rattle.format.specs.Places.{primarySize, markSize, idSize, actionHeadSize, stateHeadSize, mostRetransmission}
-use Rattle.format.specs.Limits.{fewestServers, mostServers, leastQuota, mostQuota, mostPayload, mostHeld, mostIds}
+use Rattle.format.specs.Limits.{fewestServers, mostServers, leastQuota, mostQuota, mostPayload, mostIds}
 
 -- The fixed-size fields: where each begins, behind the one before it. A field that may be absent begins with its status.
 abbrev pub atLayout : ℕ
@@ -59,11 +59,11 @@ atNumbered = atGreenLength + 4
 abbrev pub atOwnCount : ℕ
 atOwnCount = atNumbered + 2
 
-abbrev pub atHeldCount : ℕ
-atHeldCount = atOwnCount + 2
+abbrev pub atSent : ℕ
+atSent = atOwnCount + 2
 
 abbrev pub atAttempt : ℕ
-atAttempt = atHeldCount + 2
+atAttempt = atSent + 2
 
 abbrev pub atLast : ℕ
 atLast = atAttempt + 4
@@ -79,10 +79,6 @@ atYellowCount = atYellow + 1
 
 abbrev pub headerSize : ℕ
 headerSize = atYellowCount + 2
-
--- A held request: payload length and payload, filled up with zeros.
-abbrev pub heldSize : ℕ
-heldSize = 1 + mostPayload
 
 -- An action: creator, index, green length, payload length and payload, filled up with zeros.
 abbrev pub slotSize : ℕ
@@ -102,27 +98,26 @@ theCuts = 1
 abbrev pub theNoted : ℕ
 theNoted = 2
 
-abbrev pub theHeld : ℕ
-theHeld = 3
-
 abbrev pub theStates : ℕ
-theStates = 4
+theStates = 3
 
 abbrev pub theYellow : ℕ
-theYellow = 5
+theYellow = 4
 
 abbrev pub theOwn : ℕ
-theOwn = 6
+theOwn = 5
 
 abbrev pub theQueue : ℕ
-theQueue = 7
+theQueue = 6
+
+abbrev pub sectionCount : ℕ
+sectionCount = theQueue + 1
 
 unfoldable pub sections : (n q : ℕ) → List ℕ
 sections n q =
     headerSize
     ∷ (2 * n)
     ∷ (4 * n)
-    ∷ (heldSize * mostHeld)
     ∷ (n * stateSize n q)
     ∷ (idSize * (n * q))
     ∷ (slotSize * q)
@@ -134,7 +129,7 @@ sectionSize n q k = getD (sections n q) k 0
 
 -- For the most servers and the highest quota: where the States, the yellow ids and the own list begin, and a State's slot.
 abbrev pub mostStatesAt : ℕ
-mostStatesAt = headerSize + 6 * mostServers + heldSize * mostHeld
+mostStatesAt = headerSize + 6 * mostServers
 
 abbrev pub mostStateSize : ℕ
 mostStateSize = stateHeadSize + 2 * mostServers + idSize * mostIds

@@ -80,7 +80,7 @@ pub fn load(state: &[u8]) -> State
         green_length: num32(state, State::AT_GREEN_LENGTH),
         numbered: num16(state, State::AT_NUMBERED),
         own_count: num16(state, State::AT_OWN_COUNT),
-        held_count: num16(state, State::AT_HELD_COUNT),
+        sent: num16(state, State::AT_SENT),
         attempt: AttemptIndex(num32(state, State::AT_ATTEMPT)),
         last: last_at(state, State::AT_LAST),
         mark: mark_at(state, State::AT_MARK),
@@ -130,7 +130,7 @@ fn save_counts(state: &mut [u8], h: State)
     let green = h.green_length;
     let numbered = h.numbered;
     let own = h.own_count;
-    let held = h.held_count;
+    let sent = h.sent;
     let attempt = h.attempt.0;
     let b: [u8; State::AT_LAST - State::AT_QUEUE_LENGTH] = [
         (queue / 16777216 % 256) as u8,
@@ -145,8 +145,8 @@ fn save_counts(state: &mut [u8], h: State)
         (numbered % 256) as u8,
         (own / 256 % 256) as u8,
         (own % 256) as u8,
-        (held / 256 % 256) as u8,
-        (held % 256) as u8,
+        (sent / 256 % 256) as u8,
+        (sent % 256) as u8,
         (attempt / 16777216 % 256) as u8,
         (attempt / 65536 % 256) as u8,
         (attempt / 256 % 256) as u8,

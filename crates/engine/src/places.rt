@@ -1,11 +1,10 @@
 // Where the sections of the state's buffer begin.
 ghost use mathlib.Core.Path.{_≡_};
 ghost use Prim.Native.Nat.{_≤_};
-ghost use Rattle.engine.specs.Layout.{SizesIn, stateSize, theNoted, theHeld, theStates, theYellow, theOwn, theQueue, offset, mostStatesAt};
+ghost use Rattle.engine.specs.Layout.{SizesIn, stateSize, theNoted, theStates, theYellow, theOwn, theQueue, offset, mostStatesAt};
 ghost use Rattle.engine.specs.Layout.{mostStateSize, mostYellowAt, mostOwnAt};
 ghost use Rattle.engine.specs.Counts.{place, CountsIn};
 use super::sizes::HEADER;
-use super::sizes::HELD;
 use super::sizes::ID;
 use super::sizes::SLOT;
 use super::sizes::STATE_HEAD;
@@ -17,15 +16,13 @@ use record::range::product;
 // The sections that lists lie in, by their numbers.
 pub const THE_NOTED: u8 = 2;
 
-pub const THE_HELD: u8 = 3;
+pub const THE_STATES: u8 = 3;
 
-pub const THE_STATES: u8 = 4;
+pub const THE_YELLOW: u8 = 4;
 
-pub const THE_YELLOW: u8 = 5;
+pub const THE_OWN: u8 = 5;
 
-pub const THE_OWN: u8 = 6;
-
-pub const THE_QUEUE: u8 = 7;
+pub const THE_QUEUE: u8 = 6;
 
 // The cuts begin behind the header.
 pub const CUTS: u32 = HEADER;
@@ -37,18 +34,11 @@ pub fn noted_at(n: u32, q: u32) -> u32
     CUTS + 2 * n
 }
 
-pub fn held_at(n: u32, q: u32) -> u32
-    requires { ⌜ SizesIn n q ⌝ }
-    ensures { λ r. ⌜ r ≡ offset n q theHeld ⌝ }
-{
-    CUTS + 6 * n
-}
-
 pub fn states_at(n: u32, q: u32) -> u32
     requires { ⌜ SizesIn n q ⌝ }
     ensures { λ r. ⌜ (r ≡ offset n q theStates) × (r ≤ mostStatesAt) ⌝ }
 {
-    CUTS + 6 * n + HELD * State::MOST_HELD as u32
+    CUTS + 6 * n
 }
 
 // A collected State's slot.
@@ -87,9 +77,6 @@ fn section_at(n: u32, q: u32, section: u8) -> u32
 {
     if section == THE_NOTED {
         return noted_at(n, q);
-    }
-    if section == THE_HELD {
-        return held_at(n, q);
     }
     if section == THE_STATES {
         return states_at(n, q);

@@ -5,10 +5,8 @@ use record::State;
 use record::StateHead;
 use record::range::product;
 
-// The fixed-size fields; a held request; an action on the own list or in the queue; an id; a State with no cuts and no ids.
+// The fixed-size fields; an action on the own list or in the queue; an id; a State with no cuts and no ids.
 pub const HEADER: u32 = State::SIZE as u32;
-
-pub const HELD: u32 = State::HELD as u32;
 
 pub const SLOT: u32 = State::SLOT as u32;
 
@@ -26,7 +24,7 @@ pub fn state_length(n: u32, q: u32) -> u32
 {
     let all = product(n, q);
     let states = product(n, STATE_HEAD + 2 * n + ID * all);
-    HEADER + 6 * n + HELD * State::MOST_HELD as u32 + states + ID * all + SLOT * q + SLOT * all
+    HEADER + 6 * n + states + ID * all + SLOT * q + SLOT * all
 }
 
 // The required length of the outgoing buffer.

@@ -21,7 +21,7 @@ use Rattle.replication.specs.Machine.Types.{Server}
 use Rattle.replication.proofs.WellFormed.Changes.{body}
 use Rattle.replication.proofs.WellFormed.Facts.{well-formed-facts}
 use Rattle.replication.proofs.WellFormed.Records.{Products, products}
-use Rattle.engine.specs.Layout.{offset, headerSize, theYellow}
+use Rattle.engine.specs.Layout.{offset, headerSize, theYellow, sectionCount}
 use Rattle.engine.specs.Image.{parts}
 use Rattle.engine.proofs.Decoded.{image-part}
 use Rattle.engine.proofs.Fit.{well-formed-fits}
@@ -48,7 +48,7 @@ pub holds-products : (s : Server) (b : List ℕ) → Holds s b → Products (s .
 holds-products s b r = products (s .servers) (s .quota) (s .me) (body s (well-formed-facts s (r .formed)) .sizes)
 
 -- Each section, where it begins.
-pub holds-part : (s : Server) (b : List ℕ) → Holds s b → (k : ℕ) → k < 8
+pub holds-part : (s : Server) (b : List ℕ) → Holds s b → (k : ℕ) → k < sectionCount
     → Occurs (getD (parts (s .servers) (s .quota) s b) k []) b (offset (s .servers) (s .quota) k)
 holds-part s b r k l =
     subst (λ (c : List ℕ). Occurs (getD (parts (s .servers) (s .quota) s b) k []) c (offset (s .servers) (s .quota) k)) (r .written)

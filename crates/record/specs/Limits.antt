@@ -1,6 +1,6 @@
 -- The code's limits are the format's.
 -- Assumes nothing.
-use Rattle.format.specs.Limits.{fewestServers, mostServers, leastQuota, mostQuota, mostPayload, mostHeld, mostIndex}
+use Rattle.format.specs.Limits.{fewestServers, mostServers, leastQuota, mostQuota, mostPayload, mostIndex}
 use Rattle.record.specs.declared.range.Limits.{Limits}
 
 unfoldable pub theLimits : Limits
@@ -10,6 +10,5 @@ theLimits = record {
   «least_quota» = leastQuota;
   «most_quota» = mostQuota;
   «most_payload» = mostPayload;
-  «most_held» = mostHeld;
   «most_index» = mostIndex;
 }

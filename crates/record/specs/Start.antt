@@ -25,7 +25,7 @@ startOf n q i = record {
   «green_length» = 0;
   numbered = 0;
   «own_count» = 0;
-  «held_count» = 0;
+  sent = 0;
   attempt = record { 0 = 0 };
   last = record { index = record { 0 = 0 }; attempt = record { 0 = 0 }; set = everyone n };
   mark = record { status = 0; index = record { 0 = 0 }; attempt = record { 0 = 0 }; set = 0; bits = 0 };

@@ -142,7 +142,7 @@ pub struct State {
     pub green_length: u32,
     pub numbered: u16,
     pub own_count: u16,
-    pub held_count: u16,
+    pub sent: u16,
     pub attempt: AttemptIndex,
     pub last: LastPrimary,
     pub mark: Mark,
@@ -161,8 +161,6 @@ impl State {
     pub const MOST_QUOTA: u16 = 256;
 
     pub const MOST_PAYLOAD: usize = 48;
-
-    pub const MOST_HELD: u8 = 16;
 
     pub const MOST_INDEX: u32 = 4_000_000_000;
 
@@ -184,7 +182,7 @@ impl State {
     pub const UN: u8 = 7;
 
     // The number of this layout, with which every image begins: no number of servers, with which those of the first layout began.
-    pub const LAYOUT: u8 = State::MOST_SERVERS + 1;
+    pub const LAYOUT: u8 = State::MOST_SERVERS + 2;
 
     // Where each number begins in the state's buffer, behind the one before it (docs/LAYOUT.md).
     pub const AT_LAYOUT: usize = 0;
@@ -221,9 +219,9 @@ impl State {
 
     pub const AT_OWN_COUNT: usize = State::AT_NUMBERED + 2;
 
-    pub const AT_HELD_COUNT: usize = State::AT_OWN_COUNT + 2;
+    pub const AT_SENT: usize = State::AT_OWN_COUNT + 2;
 
-    pub const AT_ATTEMPT: usize = State::AT_HELD_COUNT + 2;
+    pub const AT_ATTEMPT: usize = State::AT_SENT + 2;
 
     pub const AT_LAST: usize = State::AT_ATTEMPT + 4;
 
@@ -236,10 +234,8 @@ impl State {
     // All of them together.
     pub const SIZE: usize = State::AT_YELLOW_COUNT + 2;
 
-    // An action on the own list or in the queue; a held request: payload length and payload. Both are filled up with zeros.
+    // An action on the own list or in the queue, filled up with zeros.
     pub const SLOT: usize = ActionHead::SIZE + State::MOST_PAYLOAD;
-
-    pub const HELD: usize = 1 + State::MOST_PAYLOAD;
 
     // The longest retransmission.
     pub const RETRANSMISSION: usize = Event::RETRANSMISSION_SIZE + State::MOST_PAYLOAD;
@@ -288,7 +284,7 @@ impl State {
             green_length: 0,
             numbered: 0,
             own_count: 0,
-            held_count: 0,
+            sent: 0,
             attempt: AttemptIndex(0),
             last,
             mark,

@@ -20,7 +20,6 @@ pub struct Limits {
     pub least_quota: u16,
     pub most_quota: u16,
     pub most_payload: usize,
-    pub most_held: u8,
     pub most_index: u32,
 }
 
@@ -34,7 +33,6 @@ impl Limits {
             least_quota: State::LEAST_QUOTA,
             most_quota: State::MOST_QUOTA,
             most_payload: State::MOST_PAYLOAD,
-            most_held: State::MOST_HELD,
             most_index: State::MOST_INDEX,
         }
     }

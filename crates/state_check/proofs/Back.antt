@@ -37,7 +37,7 @@ use Rattle.replication.proofs.WellFormed.Clauses.{WellFormed}
 use Rattle.replication.proofs.WellFormed.Facts.{held-index}
 use Rattle.replication.proofs.WellFormed.Ids.{each-counted, once-differ}
 use Rattle.replication.proofs.WellFormed.Ranges.{cuts-ok, sizes-ok, length-ok, set-ok, action-ok, primary-ok, mark-ok, ids-ok, state-ok, own-set-facts, ids-short}
-use Rattle.engine.specs.Layout.{slotSize, stateSize, theCuts, theNoted, theHeld, theStates, theYellow, theOwn, theQueue, sections, sectionSize, offset}
+use Rattle.engine.specs.Layout.{slotSize, stateSize, theCuts, theNoted, theHeld, theStates, theYellow, theOwn, theQueue, sections, sectionSize, offset, sectionCount}
 use Rattle.engine.specs.Image.{modeNumber, senders, actionSlots, heldSlots, statesOver, section, parts, image}
 use Rattle.engine.specs.Decode.{modeNamed, actionsAt}
 use Rattle.engine.specs.Header.{headerOf}
@@ -121,7 +121,7 @@ module _ (c : Context) (h : State) (b : List ℕ) (f : WellFormed (said c h b)) 
 
   -- ---- what occurs where
 
-  part-here : (j : ℕ) → j < 8 → Occurs (getD (parts (c .servers) (c .quota) (said c h b) b) j []) b (placeOf c j)
+  part-here : (j : ℕ) → j < sectionCount → Occurs (getD (parts (c .servers) (c .quota) (said c h b) b) j []) b (placeOf c j)
   unfolding placeOf
   part-here j l =
       subst (λ (e : List ℕ). Occurs (getD (parts (c .servers) (c .quota) (said c h b) b) j []) e (offset (c .servers) (c .quota) j)) (holds-it .written)

@@ -8,7 +8,7 @@ use Rattle.base.specs.Bytes.{joined}
 use Rattle.base.proofs.Occurs.{Occurs}
 use Rattle.base.specs.Patched.{patched}
 use Rattle.replication.specs.Machine.Types.{Server}
-use Rattle.engine.specs.Layout.{sections, offset, stateLength}
+use Rattle.engine.specs.Layout.{sections, offset, stateLength, sectionCount}
 use Rattle.engine.specs.Image.{parts, image}
 use Rattle.engine.proofs.Decoded.{image-part}
 use Rattle.engine.proofs.Fit.{well-formed-fits}
@@ -23,7 +23,7 @@ changed-image t ps old b c e =
     c .laid .whole ∙ ap₂ {A = List (List ℕ)} {B = List ℕ} {C = List ℕ} (λ xs r. joined xs ++ r) e (c .rest)
 
 -- Each part of the image occurs where its section begins.
-pub part-here : (s : Server) (b : List ℕ) → Holds s b → (k : ℕ) → k < 8
+pub part-here : (s : Server) (b : List ℕ) → Holds s b → (k : ℕ) → k < sectionCount
     → Occurs (getD (parts (s .servers) (s .quota) s b) k []) b (offset (s .servers) (s .quota) k)
 part-here s b r k l =
     subst (λ (c : List ℕ). Occurs (getD (parts (s .servers) (s .quota) s b) k []) c (offset (s .servers) (s .quota) k)) (r .written)

@@ -16,7 +16,7 @@ use Rattle.format.specs.Write.{idsBytes, cutsBytes}
 use Rattle.record.specs.declared.State.{State}
 use Rattle.replication.specs.Machine.Types.{Log, Votes, Membership, Server, noStates}
 use Rattle.replication.specs.Machine.WellFormed.{queue}
-use Rattle.engine.specs.Layout.{stateSize, theHeader, theCuts, theNoted, theHeld, theStates, theYellow, theOwn, theQueue, sections}
+use Rattle.engine.specs.Layout.{stateSize, theHeader, theCuts, theNoted, theHeld, theStates, theYellow, theOwn, theQueue, sections, sectionCount}
 use Rattle.engine.specs.Image.{headerBytes, notedBytes, stateOver, statesOver, actionSlots, heldSlots, section, parts, image}
 use Rattle.engine.specs.Header.{headerOf, headerWritten}
 use Rattle.engine.proofs.Used.{header-length, slots-append, ids-append, held-append}
@@ -40,7 +40,7 @@ dropped size zero l = refl
 dropped size (suc m) l = ap (λ (r : List ℕ). take size l ++ r) (dropped size m (drop size l)) ∙ take-append-drop size l
 
 module _ (s : Server) (b : List ℕ) (r : Holds s b) where
-  here : (k : ℕ) → k < 8 → section (s .servers) (s .quota) k b ≡ getD (parts (s .servers) (s .quota) s b) k []
+  here : (k : ℕ) → k < sectionCount → section (s .servers) (s .quota) k b ≡ getD (parts (s .servers) (s .quota) s b) k []
   here k h = holds-section s b r k h
 
   -- Where only numbers change, every other section stays.

@@ -9,35 +9,29 @@ noted-at-requires c κs = search needs
 returns : tie.Need-returns
 returns c = search (needs, section-found)
 
-held-at-requires : tie.Need-held-at-requires
-held-at-requires c κs = search needs
+states-at-requires : tie.Need-states-at-requires
+states-at-requires c κs = search needs
 
 returns-2 : tie.Need-returns-2
 returns-2 c = search (needs, section-found)
 
-states-at-requires : tie.Need-states-at-requires
-states-at-requires c κs = search needs
+yellow-at-requires : tie.Need-yellow-at-requires
+yellow-at-requires c κs = search needs
 
 returns-3 : tie.Need-returns-3
 returns-3 c = search (needs, section-found)
 
-yellow-at-requires : tie.Need-yellow-at-requires
-yellow-at-requires c κs = search needs
+own-at-requires : tie.Need-own-at-requires
+own-at-requires c κs = search needs
 
 returns-4 : tie.Need-returns-4
 returns-4 c = search (needs, section-found)
 
-own-at-requires : tie.Need-own-at-requires
-own-at-requires c κs = search needs
-
-returns-5 : tie.Need-returns-5
-returns-5 c = search (needs, section-found)
-
 queue-at-requires : tie.Need-queue-at-requires
 queue-at-requires c κs = search needs
 
-returns-6 : tie.Need-returns-6
-returns-6 c = search (needs, section-last)
+returns-5 : tie.Need-returns-5
+returns-5 c = search (needs, section-last)
 
 pub section-at-spec : {M : Type 1} → statement M
 section-at-spec =
@@ -45,13 +39,11 @@ section-at-spec =
     (tie.spec
     noted-at-requires
     returns
-    held-at-requires
-    returns-2
     states-at-requires
-    returns-3
+    returns-2
     yellow-at-requires
-    returns-4
+    returns-3
     own-at-requires
-    returns-5
+    returns-4
     queue-at-requires
-    returns-6)
+    returns-5)

@@ -9,18 +9,9 @@ mul-result c = search needs
 add-result : tie.Need-add-result
 add-result c = search needs
 
-cast-result : tie.Need-cast-result
-cast-result c = search needs
-
-mul-result-2 : tie.Need-mul-result-2
-mul-result-2 c = search needs
-
-add-result-2 : tie.Need-add-result-2
-add-result-2 c = search needs
-
 returns : tie.Need-returns
 returns c = search (needs, states-place)
 
 pub states-at-spec : {M : Type 1} → statement M
 states-at-spec =
-    tie.close (tie.spec mul-result add-result cast-result mul-result-2 add-result-2 returns)
+    tie.close (tie.spec mul-result add-result returns)

@@ -27,9 +27,6 @@ mul-result c = search needs
 add-result : tie.Need-add-result
 add-result c = search needs
 
-cast-result : tie.Need-cast-result
-cast-result c = search needs
-
 mul-result-2 : tie.Need-mul-result-2
 mul-result-2 c = search needs
 
@@ -51,12 +48,6 @@ mul-result-4 c = search needs
 add-result-5 : tie.Need-add-result-5
 add-result-5 c = search needs
 
-mul-result-5 : tie.Need-mul-result-5
-mul-result-5 c = search needs
-
-add-result-6 : tie.Need-add-result-6
-add-result-6 c = search needs
-
 returns : tie.Need-returns
 returns c = search (needs, state-length-made)
 
@@ -72,14 +63,11 @@ state-length-spec =
     product-requires-2
     mul-result
     add-result
-    cast-result
-    mul-result-2
     add-result-2
+    mul-result-2
     add-result-3
     mul-result-3
     add-result-4
     mul-result-4
     add-result-5
-    mul-result-5
-    add-result-6
     returns)
