@@ -51,9 +51,6 @@ installed-formed : (s : Server) → wellFormed s ≡ true → wellFormed (withLo
 installed-formed s ok =
     log-formed s (installLog (s .votes .yellow .ids) (s .log)) ok
     (install-log-fits (s .servers) (s .quota) (s .me) (s .votes .yellow .ids) (s .log) (log-fits s ok))
-    (ap (λ (l : Log). l .numbered) (sym (install-swaps s ok))
-    ∙ swaps-kept (idsUpTo 0 (s .log .cuts)) _ .numbered
-    ∙ swaps-kept (s .votes .yellow .ids) (s .log) .numbered)
 
 log-holds : (b b₁ : List ℕ) (s : Server) → Holds s b → b₁ ≡ image (withLog (installLog (s .votes .yellow .ids) (s .log)) s) b
     → Holds (withLog (installLog (s .votes .yellow .ids) (s .log)) s) b₁

@@ -33,7 +33,7 @@ use Rattle.install.proofs.TableLaws.{green-read}
 
 pub swaps-formed : (s : Server) (ds : List Id) → wellFormed s ≡ true → wellFormed (withLog (greenSwaps ds (s .log)) s) ≡ true
 swaps-formed s ds ok =
-    log-formed s (greenSwaps ds (s .log)) ok (swaps-fits (s .servers) (s .quota) (s .me) ds (s .log) (log-fits s ok)) (swaps-kept ds (s .log) .numbered)
+    log-formed s (greenSwaps ds (s .log)) ok (swaps-fits (s .servers) (s .quota) (s .me) ds (s .log) (log-fits s ok))
 
 module _ (s : Server) (b c : List ℕ) (r : Holds s b) (ds : List Id) (e : c ≡ image (withLog (greenSwaps ds (s .log)) s) b) where
   pub swaps-hold : Holds (withLog (greenSwaps ds (s .log)) s) c

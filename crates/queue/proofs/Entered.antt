@@ -21,8 +21,8 @@ use Rattle.replication.specs.Machine.WellFormed.{idsIn, queue, wellFormed}
 use Rattle.replication.proofs.Step.Logs.{next-index}
 use Rattle.replication.proofs.WellFormed.Logs.{LogFits, ownId, enter-fits}
 use Rattle.replication.specs.Laws.RuleFits.{Delivered}
-use Rattle.engine.specs.Layout.{slotSize, stateSize, theHeader, theCuts, theNoted, theHeld, theStates, theYellow, theOwn, theQueue, sections, offset, headerSize, atMe, atQueueLength, atOwnCount}
-use Rattle.engine.specs.Image.{headerBytes, notedBytes, statesOver, actionSlots, heldSlots, section, parts, image}
+use Rattle.engine.specs.Layout.{slotSize, stateSize, theHeader, theCuts, theNoted, theStates, theYellow, theOwn, theQueue, sections, offset, headerSize, atMe, atQueueLength, atOwnCount}
+use Rattle.engine.specs.Image.{headerBytes, notedBytes, statesOver, actionSlots, section, parts, image}
 use Rattle.engine.proofs.InRange.{in-range}
 use Rattle.engine.proofs.Used.{ActionFits, action-slot-length, action-slots-length}
 use Rattle.engine.proofs.Fit.{well-formed-fits}
@@ -57,7 +57,7 @@ module _ (s : Server) (a : Action) (b : List ℕ) (r : Holds s b) (d : Delivered
 
   pub entered-formed : wellFormed (withLog (enter a (s .log)) s) ≡ true
   unfolding enter
-  entered-formed = log-formed s (enter a (s .log)) (r .formed) entered-fits refl
+  entered-formed = log-formed s (enter a (s .log)) (r .formed) entered-fits
 
   entered-room : length (queue (s .log)) + 1 ≤ s .servers * s .quota
   entered-room = omega (arith, in-range (withLog (enter a (s .log)) s) entered-formed .queueCount, one-more a (s .log))
@@ -93,7 +93,6 @@ module _ (s : Server) (a : Action) (b : List ℕ) (r : Holds s b) (d : Delivered
       (patched atQueueLength (bytesOf 4 (length (queue (s .log)) + 1)) (headerBytes s)
       ∷ patched (2 * a .id .creator) (bytesOf 2 (a .id .index)) (over (cutsBytes (s .log .cuts)) (section (s .servers) (s .quota) theCuts b))
       ∷ over (notedBytes (s .noted)) (section (s .servers) (s .quota) theNoted b)
-      ∷ over (heldSlots (s .held)) (section (s .servers) (s .quota) theHeld b)
       ∷ statesOver (stateSize (s .servers) (s .quota)) (s .membership .states) (section (s .servers) (s .quota) theStates b)
       ∷ over (idsBytes (s .votes .yellow .ids)) (section (s .servers) (s .quota) theYellow b)
       ∷ over (actionSlots (s .log .own)) (section (s .servers) (s .quota) theOwn b)

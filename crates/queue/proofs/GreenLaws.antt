@@ -16,7 +16,6 @@ use Rattle.format.specs.Write.{cutsBytes}
 use Rattle.replication.specs.Machine.Types.{Log, Server, withLog}
 use Rattle.replication.specs.Machine.Colours.{find, remove, red, promote, greenId, green}
 use Rattle.replication.specs.Machine.WellFormed.{queue, wellFormed}
-use Rattle.replication.proofs.Step.Numbered.{numbered-red}
 use Rattle.replication.proofs.WellFormed.Held.{Greened, unmoved, moved, greened?}
 use Rattle.replication.proofs.WellFormed.Logs.{red-fits, green-id-fits}
 use Rattle.replication.specs.Laws.RuleFits.{Delivered}
@@ -42,7 +41,7 @@ pub log-image-over : (s : Server) (l m : Log) (b : List ℕ) → wellFormed (wit
     → length (actionSlots (queue l)) ≤ length (actionSlots (queue m)) → image (withLog m s) (image (withLog l s) b) ≡ image (withLog m s) b
 log-image-over s l m b ok h cuts own actions =
     covering-over (withLog l s) (well-formed-fits (withLog l s) ok) b h (withLog m s)
-    (record { cuts = inr cuts; noted = inr (omega arith); held = inr (omega arith); states = inr refl; ids = inr (omega arith); own = inr own; actions = inr actions })
+    (record { cuts = inr cuts; noted = inr (omega arith); states = inr refl; ids = inr (omega arith); own = inr own; actions = inr actions })
 
 promote-over : (s : Server) (x : Action) (l : Log) (b : List ℕ) → wellFormed (withLog l s) ≡ true → stateLength (s .servers) (s .quota) ≤ length b
     → length (actionSlots (queue l)) ≤ length (actionSlots (queue (promote x l))) → image (withLog (promote x l) s) (image (withLog l s) b) ≡ image (withLog (promote x l) s) b
@@ -68,14 +67,6 @@ promoted-count d l x e =
     length-append (l .green ++ (x ∷ [])) (remove (x .id) (l .red))
     ∙ omega (arith, length-append (l .green) (x ∷ []), removed-count d (l .red) x e, length-append (l .green) (l .red))
 
-numbered-kept : (d : Id) (l : Log) → (greenId d l) .numbered ≡ l .numbered
-unfolding promote
-numbered-kept d l = go (greened? d l)
-  where
-    go : Greened d l → (greenId d l) .numbered ≡ l .numbered
-    go (unmoved e) = ap (λ (m : Log). m .numbered) e
-    go (moved x found e kept) = ap (λ (m : Log). m .numbered) e
-
 pub green-over : (s : Server) (d : Id) (l : Log) (b : List ℕ) → wellFormed (withLog l s) ≡ true → wellFormed (withLog (greenId d l) s) ≡ true
     → stateLength (s .servers) (s .quota) ≤ length b → image (withLog (greenId d l) s) (image (withLog l s) b) ≡ image (withLog (greenId d l) s) b
 green-over s d l b ok ok₂ h = go (greened? d l)
@@ -98,7 +89,7 @@ green-over s d l b ok ok₂ h = go (greened? d l)
 
 reddened : (s : Server) (a : Action) (b : List ℕ) → Holds s b → Delivered s a → wellFormed (withLog (red a (s .log)) s) ≡ true
 reddened s a b r d =
-    log-formed s (red a (s .log)) (r .formed) (red-fits (s .servers) (s .quota) (s .me) a (s .log) (log-fits s (r .formed)) (d .fits) (d .own)) (numbered-red a (s .log))
+    log-formed s (red a (s .log)) (r .formed) (red-fits (s .servers) (s .quota) (s .me) a (s .log) (log-fits s (r .formed)) (d .fits) (d .own))
 
 red-holds : (s : Server) (a : Action) (b c : List ℕ) → Holds s b → Delivered s a → c ≡ image (withLog (red a (s .log)) s) b → Holds (withLog (red a (s .log)) s) c
 red-holds s a b c r d e =
@@ -125,7 +116,7 @@ module _ (h : ActionHead) (p b : List ℕ) where
       let t : Server = withLog l s in
       let held : Holds t c = red-holds s a b c r d (f s r d) in
       let ok₂ : wellFormed (withLog (greenId (a .id) l) s) ≡ true =
-      log-formed t (greenId (a .id) l) (held .formed) (green-id-fits (s .servers) (s .quota) (s .me) (a .id) l (log-fits t (held .formed))) (numbered-kept (a .id) l) in
+      log-formed t (greenId (a .id) l) (held .formed) (green-id-fits (s .servers) (s .quota) (s .me) (a .id) l (log-fits t (held .formed))) in
       g t held
       ∙ ap (image (withLog (greenId (a .id) l) s)) (f s r d)
       ∙ green-over s (a .id) l b (held .formed) ok₂ (r .long)

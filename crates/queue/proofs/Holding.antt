@@ -10,22 +10,21 @@ use Rattle.format.specs.Write.{cutsBytes, idsBytes}
 use Rattle.replication.specs.Machine.Types.{Log, Server, withLog}
 use Rattle.replication.specs.Machine.WellFormed.{queue, wellFormed}
 use Rattle.replication.proofs.WellFormed.Facts.{well-formed-facts, facts-well-formed}
-use Rattle.replication.proofs.WellFormed.Changes.{body, whole, log-changed-alike}
+use Rattle.replication.proofs.WellFormed.Changes.{body, whole, log-changed}
 use Rattle.replication.proofs.WellFormed.Kept.{mode-kept}
 use Rattle.replication.proofs.WellFormed.Logs.{LogFits}
-use Rattle.engine.specs.Layout.{stateSize, theCuts, theNoted, theHeld, theStates, theYellow, theOwn, theQueue, sections, stateLength}
-use Rattle.engine.specs.Image.{headerBytes, notedBytes, statesOver, actionSlots, heldSlots, section, parts, image}
+use Rattle.engine.specs.Layout.{stateSize, theCuts, theNoted, theStates, theYellow, theOwn, theQueue, sections, stateLength}
+use Rattle.engine.specs.Image.{headerBytes, notedBytes, statesOver, actionSlots, section, parts, image}
 use Rattle.engine.proofs.Fit.{well-formed-fits, image-laid}
 use Rattle.engine.specs.Holding.{Holds}
 use Rattle.queue.proofs.Inside.{Changed}
 
 -- A state with another log.
-pub log-formed : (s : Server) (l : Log) → wellFormed s ≡ true → LogFits (s .servers) (s .quota) (s .me) l → l .numbered ≡ s .log .numbered
-    → wellFormed (withLog l s) ≡ true
-log-formed s l ok f e =
+pub log-formed : (s : Server) (l : Log) → wellFormed s ≡ true → LogFits (s .servers) (s .quota) (s .me) l → wellFormed (withLog l s) ≡ true
+log-formed s l ok f =
     let g = well-formed-facts s ok in
     facts-well-formed (withLog l s)
-    (whole (withLog l s) (log-changed-alike s (body s g) l f e) (mode-kept (s .membership .mode) s l (s .votes) (s .held) (s .noted) refl (g .mode)))
+    (whole (withLog l s) (log-changed s (body s g) l f) (mode-kept (s .membership .mode) s l (s .votes) (s .noted) refl (g .mode)))
 
 pub log-fits : (s : Server) → wellFormed s ≡ true → LogFits (s .servers) (s .quota) (s .me) (s .log)
 log-fits s ok = body s (well-formed-facts s ok) .log
@@ -42,7 +41,6 @@ pub log-image : (s : Server) (l : Log) (b c : List ℕ) (h x y z : List ℕ)
     (h
     ∷ x
     ∷ over (notedBytes (s .noted)) (section (s .servers) (s .quota) theNoted b)
-    ∷ over (heldSlots (s .held)) (section (s .servers) (s .quota) theHeld b)
     ∷ statesOver (stateSize (s .servers) (s .quota)) (s .membership .states) (section (s .servers) (s .quota) theStates b)
     ∷ over (idsBytes (s .votes .yellow .ids)) (section (s .servers) (s .quota) theYellow b)
     ∷ y
@@ -61,7 +59,6 @@ log-image s l b c h x y z m eh ex ey ez =
     eh i
     ∷ ex i
     ∷ over (notedBytes (s .noted)) (section (s .servers) (s .quota) theNoted b)
-    ∷ over (heldSlots (s .held)) (section (s .servers) (s .quota) theHeld b)
     ∷ statesOver (stateSize (s .servers) (s .quota)) (s .membership .states) (section (s .servers) (s .quota) theStates b)
     ∷ over (idsBytes (s .votes .yellow .ids)) (section (s .servers) (s .quota) theYellow b)
     ∷ ey i

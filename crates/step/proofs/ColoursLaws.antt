@@ -17,7 +17,6 @@ use Rattle.replication.specs.Machine.Types.{Log, Votes, Server, withLog, withVo
 use Rattle.replication.specs.Machine.Colours.{cut, nextIndex, isNext, enter, green, joinYellow, yellow, note}
 use Rattle.replication.specs.Machine.Step.{greenAndNote}
 use Rattle.replication.specs.Machine.WellFormed.{wellFormed}
-use Rattle.replication.proofs.Step.Numbered.{numbered-green}
 use Rattle.replication.proofs.WellFormed.Facts.{well-formed-facts, facts-well-formed}
 use Rattle.replication.proofs.WellFormed.Ranges.{id-ok}
 use Rattle.replication.proofs.WellFormed.Logs.{green-fits}
@@ -52,7 +51,7 @@ formed-alike s l v h w ok e b =
 module _ (s : Server) (a : Action) (ok : wellFormed s ≡ true) (d : Delivered s a) where
   pub green-formed : wellFormed (withLog (green a (s .log)) s) ≡ true
   green-formed =
-      log-formed s (green a (s .log)) ok (green-fits (s .servers) (s .quota) (s .me) a (s .log) (log-fits s ok) (d .fits) (d .own)) (numbered-green a (s .log))
+      log-formed s (green a (s .log)) ok (green-fits (s .servers) (s .quota) (s .me) a (s .log) (log-fits s ok) (d .fits) (d .own))
 
   pub noted-formed : wellFormed (greenAndNote a s) ≡ true
   unfolding greenAndNote

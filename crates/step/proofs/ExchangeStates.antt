@@ -13,7 +13,6 @@ use Rattle.replication.specs.Machine.Requests.{numbered, sendHeld}
 use Rattle.replication.specs.Machine.Step.{hereSet, collected, decided, attempting, withState, allStatesIn, plannedNow, resending, placed, oneMore, exchanged, allCome}
 use Rattle.replication.specs.Machine.WellFormed.{wellFormed}
 use Rattle.replication.specs.Machine.WellFormedFacts.{Configured, StatesIn, ModeFits}
-use Rattle.replication.proofs.Step.Numbered.{numbered-placed}
 use Rattle.replication.proofs.WellFormed.Facts.{well-formed-facts, facts-well-formed}
 use Rattle.replication.proofs.WellFormed.Numbering.{placed-fits}
 use Rattle.replication.proofs.WellFormed.Decisions.{planned-bound}
@@ -40,7 +39,6 @@ module _ (s : Server) (ok : wellFormed s ≡ true) where
   pub placed-formed : (k : ℕ) (a : Action) → Delivered s a → wellFormed (withLog (placed k a (s .log)) s) ≡ true
   placed-formed k a d =
       log-formed s (placed k a (s .log)) ok (placed-fits (s .servers) (s .quota) (s .me) k a (s .log) (log-fits s ok) (d .fits) (d .own))
-      (numbered-placed k a (s .log))
 
   pub non-prim-formed : wellFormed (inMode Non-prim s) ≡ true
   non-prim-formed = facts-well-formed (inMode Non-prim s) (whole (inMode Non-prim s) (in-mode s in-body Non-prim) tt)

@@ -21,7 +21,7 @@ use Rattle.replication.specs.Machine.Step.{stored, inBytes, installing}
 use Rattle.replication.specs.Machine.WellFormed.{queue, wellFormed}
 use Rattle.replication.specs.Machine.WellFormedFacts.{Configured, ModeFits}
 use Rattle.replication.proofs.Step.Logs.{yellow-as}
-use Rattle.replication.proofs.Step.Numbered.{numbered-install}
+use Rattle.replication.proofs.Step.Numbered.{numbers-install}
 use Rattle.replication.proofs.WellFormed.Facts.{well-formed-facts, facts-well-formed}
 use Rattle.replication.proofs.WellFormed.Changes.{Body, body, whole, in-mode}
 use Rattle.replication.proofs.WellFormed.Effects.{install-body, send-held-body}
@@ -195,7 +195,7 @@ module _ (a : Action) (b : List ℕ) (p : HoldsSuch (λ s. Delivered s a × (s .
     unfolding install
     still-delivered s r =
         let d : Delivered s a = such s r .0 in
-        record { fits = d .fits; own = λ e. omega (arith, d .own e, numbered-install (s .votes .yellow .ids) (s .log)) }
+        record { fits = d .fits; own = λ e. omega (arith, d .own e, numbers-install (s .votes .yellow .ids) (s .log) .numbered) }
 
     pub late-delivered : HoldsSuch (λ s. Delivered s a) c
     late-delivered = record {

@@ -6,7 +6,6 @@ use mathlib.Core.Bool.{true}
 use mathlib.Core.List.{List}
 use native.Mathlib.Omega.{arith}
 use lib.ListN.{length}
-use Rattle.format.specs.Limits.{mostHeld}
 use Rattle.base.specs.Tests.{_and_, _≤?_, _<?_}
 use Rattle.format.specs.Range.{sizesOk, idOk}
 use Rattle.record.specs.Values.{idOf}
@@ -36,14 +35,10 @@ module _ (b : List ℕ) (long : stateLength 2 1 ≤ length b) where
   counts : CountsIn (image first b)
   counts = holds-counts first (image first b) holds
 
-  -- A request may be numbered, or held; an id may join the yellow list.
+  -- A request may be numbered; an id may join the yellow list.
   quota : quotaLeft first ≡ true
   unfolding quotaLeft start _<?_
   quota = refl
-
-  room : length (first .held) < mostHeld
-  unfolding start
-  room = omega arith
 
   id : idOk (contextOf first) (idOf 1 1) ≡ true
   unfolding idOk contextOf idOf start _and_ _≤?_ _<?_

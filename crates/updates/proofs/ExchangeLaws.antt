@@ -41,28 +41,28 @@ pub one-more-come : (h t : State) (b b₁ : List ℕ) → h ≡ headerIn b → (
     → (s : Server) → Holds s b → b₁ ≡ image (oneMore s) b
 unfolding oneMore
 one-more-come h t b b₁ e f g s r =
-    g s (s .log) (s .votes) (oneMore s .membership) (s .held) r (membership-kept s (oneMore s .membership) refl) (f s (e ∙ header-loaded s b r))
+    g s (s .log) (s .votes) (oneMore s .membership) r (membership-kept s (oneMore s .membership) refl) (f s (e ∙ header-loaded s b r))
 
 pub none-come : (h t : State) (b b₁ : List ℕ) → h ≡ headerIn b → ((s : Server) → h ≡ headerOf s → t ≡ headerOf (resending s)) → Saved t b b₁
     → (s : Server) → Holds s b → b₁ ≡ image (resending s) b
 unfolding resending
 none-come h t b b₁ e f g s r =
-    g s (s .log) (s .votes) (resending s .membership) (s .held) r (membership-kept s (resending s .membership) refl) (f s (e ∙ header-loaded s b r))
+    g s (s .log) (s .votes) (resending s .membership) r (membership-kept s (resending s .membership) refl) (f s (e ∙ header-loaded s b r))
 
 pub attempt-made : (h t : State) (b b₁ : List ℕ) → h ≡ headerIn b → ((s : Server) → h ≡ headerOf s → t ≡ headerOf (attempting s)) → Saved t b b₁
     → (s : Server) → Holds s b → b₁ ≡ image (attempting s) b
 unfolding attempting attempted
 attempt-made h t b b₁ e f g s r =
-    g s (s .log) (attempting s .votes) (attempting s .membership) (s .held) r
-    (record { cuts = refl; queued = refl; own = begins-refl _; yellow = begins-refl _; held = begins-refl _; states = inl refl })
+    g s (s .log) (attempting s .votes) (attempting s .membership) r
+    (record { cuts = refl; queued = refl; own = begins-refl _; yellow = begins-refl _; states = inl refl })
     (f s (e ∙ header-loaded s b r))
 
 pub membership-dropped : (h t : State) (b b₁ : List ℕ) → h ≡ headerIn b → ((s : Server) → h ≡ headerOf s → t ≡ headerOf (dropped s)) → Saved t b b₁
     → (s : Server) → Holds s b → b₁ ≡ image (dropped s) b
 unfolding dropped
 membership-dropped h t b b₁ e f g s r =
-    g s (s .log) (s .votes) (dropped s .membership) [] r
-    (record { cuts = refl; queued = refl; own = begins-refl _; yellow = begins-refl _; held = begins-append [] (s .held); states = inr refl })
+    g s (s .log) (s .votes) (dropped s .membership) r
+    (record { cuts = refl; queued = refl; own = begins-refl _; yellow = begins-refl _; states = inr refl })
     (f s (e ∙ header-loaded s b r))
 
 -- ---- the numbers' ranges
@@ -86,7 +86,7 @@ attempt-low b h w e =
 -- ---- decided
 
 noted-then-votes : (s : Server) (l : List ℕ) (v : Votes) → Covers s (withNoted l s) (withVotes v (withNoted l s))
-noted-then-votes s l v = numbers-first s (withNoted l s) (withVotes v (withNoted l s)) (refl, refl) (refl, refl) refl refl refl refl refl
+noted-then-votes s l v = numbers-first s (withNoted l s) (withVotes v (withNoted l s)) (refl, refl) (refl, refl) refl refl refl refl
 
 abbrev AllNoted : List ℕ → List ℕ → Type 0
 AllNoted b c = (s : Server) → Holds s b → c ≡ image (withNoted (noteAll (collected s) (s .noted)) s) b

@@ -7,8 +7,6 @@ pub mod RequestLaws
 pub mod NoteLaws
 pub mod StateLaws
 pub mod NoteAllLaws
-pub mod SendLaws
-pub mod Sent
 pub mod Examples
 pub mod RecoveryLaws
 pub mod Recovered

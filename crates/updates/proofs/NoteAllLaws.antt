@@ -74,7 +74,7 @@ pub noted-formed : (s : Server) (l : List ℕ) → wellFormed s ≡ true → len
 noted-formed s l ok e f =
     let g = well-formed-facts s ok in
     facts-well-formed (withNoted l s)
-    (whole (withNoted l s) (noted-changed s (body s g) l e f) (mode-kept (s .membership .mode) s (s .log) (s .votes) (s .held) l refl (g .mode)))
+    (whole (withNoted l s) (noted-changed s (body s g) l e f) (mode-kept (s .membership .mode) s (s .log) (s .votes) l refl (g .mode)))
 
 abbrev firstNoted : ℕ → Server → Server
 firstNoted k s = withNoted (noteFirst k (s .membership .states) (s .noted)) s
@@ -98,7 +98,7 @@ all-formed s ok =
     (first-formed (length (s .membership .states)) s ok)
 
 noted-covers : (s : Server) (l m : List ℕ) → Covers s (withNoted l s) (withNoted m s)
-noted-covers s l m = numbers-first s (withNoted l s) (withNoted m s) (refl, refl) (refl, refl) refl refl refl refl refl
+noted-covers s l m = numbers-first s (withNoted l s) (withNoted m s) (refl, refl) (refl, refl) refl refl refl refl
 
 -- ---- the turns of the loop
 

@@ -16,10 +16,10 @@ use Rattle.format.specs.Write.{idsBytes, cutsBytes}
 use Rattle.record.specs.declared.State.{State}
 use Rattle.replication.specs.Machine.Types.{Log, Votes, Membership, Server, noStates}
 use Rattle.replication.specs.Machine.WellFormed.{queue}
-use Rattle.engine.specs.Layout.{stateSize, theHeader, theCuts, theNoted, theHeld, theStates, theYellow, theOwn, theQueue, sections, sectionCount}
-use Rattle.engine.specs.Image.{headerBytes, notedBytes, stateOver, statesOver, actionSlots, heldSlots, section, parts, image}
+use Rattle.engine.specs.Layout.{stateSize, theHeader, theCuts, theNoted, theStates, theYellow, theOwn, theQueue, sections, sectionCount}
+use Rattle.engine.specs.Image.{headerBytes, notedBytes, stateOver, statesOver, actionSlots, section, parts, image}
 use Rattle.engine.specs.Header.{headerOf, headerWritten}
-use Rattle.engine.proofs.Used.{header-length, slots-append, ids-append, held-append}
+use Rattle.engine.proofs.Used.{header-length, slots-append, ids-append}
 use Rattle.engine.proofs.HeaderLaws.{header-written, written-length}
 use Rattle.engine.specs.Holding.{Holds}
 use Rattle.engine.proofs.InPlace.{holds-section, over-less}
@@ -44,16 +44,14 @@ module _ (s : Server) (b : List ℕ) (r : Holds s b) where
   here k h = holds-section s b r k h
 
   -- Where only numbers change, every other section stays.
-  parts-kept : (l : Log) (v : Votes) (m : Membership) (w : List (List ℕ)) → Shortened s l v m w
-      → set (parts (s .servers) (s .quota) s b) theHeader (headerBytes (changedTo s l v m w)) ≡ parts (s .servers) (s .quota) (changedTo s l v m w) b
+  parts-kept : (l : Log) (v : Votes) (m : Membership) → Shortened s l v m
+      → set (parts (s .servers) (s .quota) s b) theHeader (headerBytes (changedTo s l v m)) ≡ parts (s .servers) (s .quota) (changedTo s l v m) b
   unfolding parts Begins
-  parts-kept l v m w e =
+  parts-kept l v m e =
       let n : ℕ = s .servers in
       let q : ℕ = s .quota in
       let cuts : over (cutsBytes (s .log .cuts)) (section n q theCuts b) ≡ over (cutsBytes (l .cuts)) (section n q theCuts b) =
       ap (λ (x : List ℕ). over (cutsBytes x) (section n q theCuts b)) (sym (e .cuts)) in
-      let held : over (heldSlots (s .held)) (section n q theHeld b) ≡ over (heldSlots w) (section n q theHeld b) =
-      begun (heldSlots (s .held)) (heldSlots w) (heldSlots (e .held .0)) (section n q theHeld b) (ap heldSlots (e .held .1) ∙ held-append w (e .held .0)) (here theHeld (omega arith)) in
       let states : statesOver (stateSize n q) (s .membership .states) (section n q theStates b) ≡ statesOver (stateSize n q) (m .states) (section n q theStates b) =
       ⊎-elim (λ h. ap (λ (x : List (Option Collected)). statesOver (stateSize n q) x (section n q theStates b)) (sym h))
       (λ h. sym (here theStates (omega arith)) ∙ sym (dropped (stateSize n q) n (section n q theStates b)) ∙ ap (λ (x : List (Option Collected)). statesOver (stateSize n q) x (section n q theStates b)) (sym h))
@@ -64,10 +62,9 @@ module _ (s : Server) (b : List ℕ) (r : Holds s b) where
       begun (actionSlots (s .log .own)) (actionSlots (l .own)) (actionSlots (e .own .0)) (section n q theOwn b) (ap actionSlots (e .own .1) ∙ slots-append (l .own) (e .own .0)) (here theOwn (omega arith)) in
       let actions : over (actionSlots (queue (s .log))) (section n q theQueue b) ≡ over (actionSlots (queue l)) (section n q theQueue b) =
       ap (λ (x : List Action). over (actionSlots x) (section n q theQueue b)) (sym (e .queued)) in
-      λ i. headerBytes (changedTo s l v m w)
+      λ i. headerBytes (changedTo s l v m)
       ∷ cuts i
       ∷ over (notedBytes (s .noted)) (section n q theNoted b)
-      ∷ held i
       ∷ states i
       ∷ ids i
       ∷ own i
@@ -76,15 +73,15 @@ module _ (s : Server) (b : List ℕ) (r : Holds s b) where
 
 -- The numbers of the changed state, saved.
 pub numbers-saved : (h : State) (b b₁ : List ℕ) → b₁ ≡ patched 0 (headerWritten h) b
-    → (s : Server) (l : Log) (v : Votes) (m : Membership) (w : List (List ℕ)) → Holds s b → Shortened s l v m w → h ≡ headerOf (changedTo s l v m w)
-    → b₁ ≡ image (changedTo s l v m w) b
+    → (s : Server) (l : Log) (v : Votes) (m : Membership) → Holds s b → Shortened s l v m → h ≡ headerOf (changedTo s l v m)
+    → b₁ ≡ image (changedTo s l v m) b
 unfolding sections sum parts
-numbers-saved h b b₁ f s l v m w r e g =
+numbers-saved h b b₁ f s l v m r e g =
     let n : ℕ = s .servers in
     let q : ℕ = s .quota in
-    let t : Server = changedTo s l v m w in
+    let t : Server = changedTo s l v m in
     let size : length (headerWritten h) ≡ length (headerBytes s) = written-length h ∙ sym (header-length s) in
     let header : patched 0 (headerWritten h) (headerBytes s) ≡ headerBytes t =
     patched-whole (headerWritten h) (headerBytes s) size ∙ ap headerWritten g ∙ header-written t in
     let one = changed-at (sections n q) (parts n q s b) b b (holds-changed s b r) theHeader 0 0 (headerWritten h) refl (omega arith) (omega (arith, written-length h)) in
-    f ∙ changed-image t _ b _ one (ap (λ (x : List ℕ). set (parts n q s b) theHeader x) header ∙ parts-kept s b r l v m w e)
+    f ∙ changed-image t _ b _ one (ap (λ (x : List ℕ). set (parts n q s b) theHeader x) header ∙ parts-kept s b r l v m e)

@@ -21,7 +21,6 @@ use Rattle.replication.specs.Machine.Types.{Log, Server, withLog, contextOf}
 use Rattle.replication.specs.Machine.Colours.{cut, reds}
 use Rattle.replication.specs.Machine.Requests.{recovered}
 use Rattle.replication.specs.Machine.WellFormed.{idsIn, queue, wellFormed}
-use Rattle.replication.proofs.Step.Numbered.{numbered-reds}
 use Rattle.replication.proofs.WellFormed.Changes.{body}
 use Rattle.replication.proofs.WellFormed.Effects.{recovered-body}
 use Rattle.replication.proofs.WellFormed.Facts.{well-formed-facts}
@@ -56,14 +55,14 @@ following me c (suc m) (a ∷ own) e = (head-eq-of-cons-eq e, following me (c + 
 
 abbrev entered : Server → Log
 entered s =
-    log (s .me) (s .log .green) (s .log .numbered) (s .log .red ++ s .log .own) (set (s .log .cuts) (s .me) (getD (s .log .cuts) (s .me) 0 + length (s .log .own))) []
+    log (s .me) (s .log .green) (s .log .numbered) (s .log .sent) (s .log .red ++ s .log .own) (set (s .log .cuts) (s .me) (getD (s .log .cuts) (s .me) 0 + length (s .log .own))) []
 
 own-in : (s : Server) → wellFormed s ≡ true → reds (s .log .own) (s .log) ≡ entered s
 unfolding above cut contextOf
 own-in s ok =
     let f = log-fits s ok in
     let g = in-range s ok in
-    all-entered (s .me) (s .log .green) (s .log .numbered) (s .log .own) (s .log .red) (s .log .cuts) (omega (arith, g .cutsCount, g .context .own))
+    all-entered (s .me) (s .log .green) (s .log .numbered) (s .log .sent) (s .log .own) (s .log .red) (s .log .cuts) (omega (arith, g .cutsCount, g .context .own))
     (following (s .me) (cut (s .log) (s .me)) (s .log .numbered - cut (s .log) (s .me)) (s .log .own) (f .own-list .ids))
 
 own-count : (s : Server) → wellFormed s ≡ true → cut (s .log) (s .me) + length (s .log .own) ≡ s .log .numbered
@@ -77,7 +76,7 @@ unfolding recovered
 entered-fits s ok = recovered-body s (body s (well-formed-facts s ok)) .log
 
 pub entered-formed : (s : Server) → wellFormed s ≡ true → wellFormed (withLog (reds (s .log .own) (s .log)) s) ≡ true
-entered-formed s ok = log-formed s (reds (s .log .own) (s .log)) ok (entered-fits s ok) (numbered-reds (s .log .own) (s .log))
+entered-formed s ok = log-formed s (reds (s .log .own) (s .log)) ok (entered-fits s ok)
 
 entered-queue : (s : Server) → queue (s .log) ++ s .log .own ≡ queue (entered s)
 unfolding queue
@@ -178,7 +177,6 @@ unfolding dropped
 entered-covers s l = record {
   servers = (refl, refl);
   quota = (refl, refl);
-  held = same-begins (s .held) (s .held) [] refl;
   states = inr refl;
   ids = inl (omega arith);
   own = inl (omega arith);

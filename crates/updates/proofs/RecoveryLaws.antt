@@ -24,9 +24,9 @@ set-twice (x ∷ l) zero u v = refl
 set-twice (x ∷ l) (suc k) u v = ap (λ (m : List ℕ). x ∷ m) (set-twice l k u v)
 
 -- One more of them, from the log with these parts.
-module _ (me : ℕ) (green : List Action) (numbered : ℕ) where
+module _ (me : ℕ) (green : List Action) (numbered sent : ℕ) where
   abbrev pub log : List Action → List ℕ → List Action → Log
-  log r c o = record { green = green; red = r; cuts = c; own = o; numbered = numbered }
+  log r c o = record { green = green; red = r; cuts = c; own = o; numbered = numbered; sent = sent }
 
   first-entered : (a : Action) (more r : List Action) (c : List ℕ) → me < length c → a .id ≡ record { creator = me; index = getD c me 0 + 1 }
       → red a (log r c (a ∷ more)) ≡ log (r ++ (a ∷ [])) (set c me (getD c me 0 + 1)) more

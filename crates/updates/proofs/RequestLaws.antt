@@ -1,9 +1,10 @@
--- Requests in place: numbered ones and held ones.
+-- Requests in place: numbered, and sent.
 -- Assumes nothing.
 use Prim.Native.Nat.{ℕ, _+_, _*_, _-_, _≤_, _<_}
 use mathlib.Core.Path.{_≡_, refl, sym, ap, ap₂, _∙_}
 use mathlib.Core.Bool.{true}
 use mathlib.Core.List.{List, [], _∷_, _++_, append-nil, map}
+use mathlib.Core.Logic.{inl}
 use native.Mathlib.Omega.{arith}
 use lib.ListN.{length, set, length-append, length-map, replicate}
 use Rattle.base.specs.Bytes.{bytesOf, numberAt, joined, over, zeros, slot}
@@ -13,32 +14,35 @@ use Rattle.base.proofs.ListLaws.{above-length}
 use Rattle.base.specs.Patched.{patched}
 use Rattle.base.proofs.PatchedLaws.{patched-next}
 use Rattle.base.proofs.Sections.{begin}
+use Rattle.base.proofs.Prefixes.{begins-refl}
 use Rattle.base.proofs.TestLaws.{lt-holds}
 use Rattle.base.proofs.Over.{slot-length, over-extended}
-use Rattle.format.specs.Limits.{mostHeld, mostPayload}
+use Rattle.format.specs.Limits.{mostPayload}
 use Rattle.format.specs.Types.{Id, Action}
 use Rattle.format.specs.Write.{actionBytes, payloadBytes}
 use Rattle.format.proofs.Lengths.{action-length, payload-length}
 use Rattle.record.specs.Values.{idOf, actionOf}
 use Rattle.record.specs.declared.ActionHead.{ActionHead}
-use Rattle.replication.specs.Machine.Types.{Server, withHeld}
+use Rattle.record.specs.declared.State.{State}
+use Rattle.replication.specs.Machine.Types.{Server}
 use Rattle.replication.specs.Machine.Colours.{cut}
-use Rattle.replication.specs.Machine.Requests.{quotaLeft, numberedFrom, madeOf, numbered, hold}
+use Rattle.replication.specs.Machine.Requests.{quotaLeft, madeOf, numbered, sendWaiting}
 use Rattle.replication.specs.Machine.WellFormed.{idsIn, queue}
 use Rattle.replication.proofs.WellFormed.Facts.{well-formed-facts}
-use Rattle.engine.specs.Layout.{heldSize, slotSize, theHeader, theHeld, theOwn, sections, offset, atMe, atGreenLength, atNumbered, atOwnCount, atHeldCount}
+use Rattle.engine.specs.Layout.{slotSize, theHeader, theOwn, sections, offset, atMe, atGreenLength, atNumbered, atOwnCount}
 use Rattle.engine.specs.Header.{headerOf, headerIn}
-use Rattle.engine.specs.Image.{headerBytes, actionSlots, heldSlots, section, parts, image, fields}
+use Rattle.engine.specs.Image.{headerBytes, actionSlots, section, parts, image, fields}
 use Rattle.engine.proofs.Fit.{well-formed-fits}
 use Rattle.engine.proofs.HeaderLaws.{header-loaded}
-use Rattle.engine.proofs.Used.{action-slots-length, held-slots-length, slots-append, held-append}
+use Rattle.engine.proofs.Used.{action-slots-length, slots-append}
 use Rattle.engine.specs.Holding.{Holds}
-use Rattle.engine.proofs.Fields.{theOwnCount, theNumbered, theHeldCount, one-field, two-fields}
+use Rattle.engine.proofs.Fields.{theOwnCount, theNumbered, two-fields}
 use Rattle.queue.proofs.Holding.{holds-changed}
 use Rattle.queue.proofs.Inside.{changed-at}
 use Rattle.queue.proofs.SlotLaws.{slots-one}
 use Rattle.updates.specs.Lists.{nextHead, PayloadRoom}
 use Rattle.updates.proofs.Changes.{changed-image}
+use Rattle.updates.proofs.MembershipLaws.{Saved}
 use Rattle.engine.specs.Counts.{place}
 use Rattle.engine.proofs.Counts.{holds-place, numbers}
 
@@ -50,9 +54,9 @@ own-short s b r =
     let same : length (map (λ (a : Action). a .id) (s .log .own)) ≡ length (map {B = Id} (λ (i : ℕ). record { creator = s .me; index = i }) (above (cut (s .log) (s .me)) (s .log .numbered))) = ap length (f .ids) in
     omega (arith, same, length-map (s .log .own) (λ (a : Action). a .id), length-map {B = Id} (above (cut (s .log) (s .me)) (s .log .numbered)) (λ (i : ℕ). record { creator = s .me; index = i }), above-length (cut (s .log) (s .me)) (s .log .numbered))
 
-quota-left : (s : Server) → quotaLeft s ≡ true → s .log .numbered + length (s .held) < s .quota
+quota-left : (s : Server) → quotaLeft s ≡ true → s .log .numbered < s .quota
 unfolding quotaLeft
-quota-left s h = lt-holds (s .log .numbered + length (s .held)) (s .quota) h
+quota-left s h = lt-holds (s .log .numbered) (s .quota) h
 
 pub head-read : (b : List ℕ) (x y z : ℕ) → x ≡ numberAt 1 b atMe → y ≡ numberAt 2 b atNumbered → z ≡ numberAt 4 b atGreenLength
     → record { creator = x; index = y + 1; «green_length» = z } ≡ nextHead b
@@ -60,14 +64,14 @@ unfolding nextHead
 head-read b x y z e f g = λ i. record { creator = e i; index = f i + 1; «green_length» = g i }
 
 -- The action that the code makes of the payload p.
-pub head-made : (s : Server) (b : List ℕ) (p : List ℕ) → Holds s b → actionOf (nextHead b) p ∷ [] ≡ madeOf (p ∷ []) s
-unfolding actionOf nextHead idOf madeOf numberedFrom headerIn headerOf
+pub head-made : (s : Server) (b : List ℕ) (p : List ℕ) → Holds s b → actionOf (nextHead b) p ≡ madeOf p s
+unfolding actionOf nextHead idOf madeOf headerIn headerOf
 head-made s b p r =
     let h : headerIn b ≡ headerOf s = header-loaded s b r in
-    λ i. record { id = record { creator = h i .me; index = h i .numbered + 1 }; greenLength = h i .«green_length»; payload = p } ∷ []
+    λ i. record { id = record { creator = h i .me; index = h i .numbered + 1 }; greenLength = h i .«green_length»; payload = p }
 
-counts-written : (s : Server) (p : List ℕ) (x y : ℕ) → x ≡ s .log .numbered + 1 → y ≡ length (s .log .own ++ madeOf (p ∷ []) s)
-    → set (set (fields s) theNumbered (bytesOf 2 x)) theOwnCount (bytesOf 2 y) ≡ fields (numbered (p ∷ []) s)
+counts-written : (s : Server) (p : List ℕ) (x y : ℕ) → x ≡ s .log .numbered + 1 → y ≡ length (s .log .own ++ (madeOf p s ∷ []))
+    → set (set (fields s) theNumbered (bytesOf 2 x)) theOwnCount (bytesOf 2 y) ≡ fields (numbered p s)
 unfolding numbered queue
 counts-written s p x y e f = ap₂ {A = ℕ} {B = ℕ} {C = List (List ℕ)} (λ u v. set (set (fields s) theNumbered (bytesOf 2 u)) theOwnCount (bytesOf 2 v)) e f
 
@@ -77,12 +81,12 @@ action-short h p l = omega (arith, action-length (actionOf h p))
 
 pub request-numbered : (p b b₁ : List ℕ) (at own num : ℕ) (h : ActionHead) → PayloadRoom p b → at ≡ place theOwn b → own ≡ numberAt 2 b atOwnCount → num ≡ numberAt 2 b atNumbered → h ≡ nextHead b
     → b₁ ≡ patched atOwnCount (bytesOf 2 (own + 1)) (patched atNumbered (bytesOf 2 (num + 1)) (patched (at + slotSize * own) (slot slotSize (actionBytes (actionOf h p))) b))
-    → (s : Server) → Holds s b → quotaLeft s ≡ true → b₁ ≡ image (numbered (p ∷ []) s) b
+    → (s : Server) → Holds s b → quotaLeft s ≡ true → b₁ ≡ image (numbered p s) b
 unfolding sections parts sum offset numbered queue
 request-numbered p b b₁ at own num h room e₁ e₂ e₃ e₄ e₅ s r left =
     let n : ℕ = s .servers in
     let q : ℕ = s .quota in
-    let t : Server = numbered (p ∷ []) s in
+    let t : Server = numbered p s in
     let list : List Action = s .log .own in
     let x : List ℕ = slot slotSize (actionBytes (actionOf h p)) in
     let f = well-formed-fits s (r .formed) in
@@ -96,61 +100,22 @@ request-numbered p b b₁ at own num h room e₁ e₂ e₃ e₄ e₅ s r left =
     let one = changed-at (sections n q) (parts n q s b) b b (holds-changed s b r) theOwn (length (actionSlots list)) (at + slotSize * own) x there (omega arith) fits in
     let two = changed-at (sections n q) _ b _ one theHeader atNumbered atNumbered (bytesOf 2 (num + 1)) refl (omega arith) (omega (arith, bytes-length 2 (num + 1))) in
     let three = changed-at (sections n q) _ b _ two theHeader atOwnCount atOwnCount (bytesOf 2 (own + 1)) refl (omega arith) (omega (arith, bytes-length 2 (own + 1))) in
-    let made : actionOf h p ∷ [] ≡ madeOf (p ∷ []) s = ap (λ (g : ActionHead). actionOf g p ∷ []) e₄ ∙ head-made s b p r in
-    let slots : patched (length (actionSlots list)) x (over (actionSlots list) (section n q theOwn b)) ≡ over (actionSlots (list ++ madeOf (p ∷ []) s)) (section n q theOwn b) =
+    let made : actionOf h p ∷ [] ≡ madeOf p s ∷ [] = ap (λ (x : Action). x ∷ []) (ap (λ (g : ActionHead). actionOf g p) e₄ ∙ head-made s b p r) in
+    let slots : patched (length (actionSlots list)) x (over (actionSlots list) (section n q theOwn b)) ≡ over (actionSlots (list ++ (madeOf p s ∷ []))) (section n q theOwn b) =
     over-extended (actionSlots list) x (section n q theOwn b)
-    ∙ ap (λ (y : List ℕ). over y (section n q theOwn b)) (ap (λ (y : List ℕ). actionSlots list ++ y) (sym (slots-one (actionOf h p)) ∙ ap actionSlots made) ∙ sym (slots-append list (madeOf (p ∷ []) s))) in
-    let more : own + 1 ≡ length (list ++ madeOf (p ∷ []) s) = omega (arith, count, length-append list (madeOf (p ∷ []) s), ap length made) in
+    ∙ ap (λ (y : List ℕ). over y (section n q theOwn b)) (ap (λ (y : List ℕ). actionSlots list ++ y) (sym (slots-one (actionOf h p)) ∙ ap actionSlots made) ∙ sym (slots-append list (madeOf p s ∷ []))) in
+    let more : own + 1 ≡ length (list ++ (madeOf p s ∷ [])) = omega (arith, count, length-append list (madeOf p s ∷ []), ap length made) in
     let less : num + 1 ≡ s .log .numbered + 1 = omega (arith, nums) in
     let header : patched atOwnCount (bytesOf 2 (own + 1)) (patched atNumbered (bytesOf 2 (num + 1)) (headerBytes s)) ≡ headerBytes t =
     two-fields s t theNumbered theOwnCount (bytesOf 2 (num + 1)) (bytesOf 2 (own + 1)) (omega arith) (omega arith) (bytes-length 2 _) (bytes-length 2 _) (counts-written s p (num + 1) (own + 1) less more) in
     e₅
     ∙ changed-image t _ b _ three (ap₂ {A = List ℕ} {B = List ℕ} {C = List (List ℕ)} (λ u v. set (set (parts n q s b) theOwn v) theHeader u) header slots)
 
--- ---- held requests
+-- ---- what waits is sent
 
-pub held-put : (p s s₁ s₂ : List ℕ) (at : ℕ) → length p ≤ mostPayload → at + heldSize ≤ length s → s₁ ≡ patched at (payloadBytes p) s
-    → s₂ ≡ patched (at + (1 + length p)) (replicate {A = ℕ} (mostPayload - length p) 0) s₁ → s₂ ≡ patched at (slot heldSize (payloadBytes p)) s
-unfolding slot zeros
-held-put p s s₁ s₂ at l r e f =
-    let y : List ℕ = payloadBytes p in
-    let size : length y ≡ 1 + length p = payload-length p in
-    let left : mostPayload - length p ≡ heldSize - length y = omega arith in
-    f ∙ ap₂ {A = ℕ} {B = ℕ} {C = List ℕ} (λ k m. patched (at + k) (zeros m) s₁) (sym size) left
-    ∙ ap (patched (at + length y) (zeros (heldSize - length y))) e
-    ∙ patched-next at y (zeros (heldSize - length y)) s (omega arith)
-
-held-one : (p : List ℕ) → heldSlots (p ∷ []) ≡ slot heldSize (payloadBytes p)
-unfolding heldSlots joined
-held-one p = append-nil (slot heldSize (payloadBytes p))
-
-count-held : (s : Server) (l : List (List ℕ)) (m : ℕ) → m ≡ length l → set (fields s) theHeldCount (bytesOf 2 m) ≡ fields (withHeld l s)
-count-held s l m e = ap (λ (k : ℕ). set (fields s) theHeldCount (bytesOf 2 k)) e
-
-pub request-held : (p b b₁ : List ℕ) (at m : ℕ) → PayloadRoom p b → at ≡ place theHeld b → m ≡ numberAt 2 b atHeldCount
-    → b₁ ≡ patched atHeldCount (bytesOf 2 (m + 1)) (patched (at + heldSize * m) (slot heldSize (payloadBytes p)) b)
-    → (s : Server) → Holds s b → length (s .held) < mostHeld → b₁ ≡ image (hold p s) b
-unfolding sections parts sum offset hold
-request-held p b b₁ at m room e₁ e₂ e₃ s r few =
-    let n : ℕ = s .servers in
-    let q : ℕ = s .quota in
-    let list : List (List ℕ) = s .held in
-    let t : Server = hold p s in
-    let x : List ℕ = slot heldSize (payloadBytes p) in
-    let f = well-formed-fits s (r .formed) in
-    let size : length (heldSlots list) ≡ heldSize * length list = held-slots-length list (f .held) in
-    let count : m ≡ length list = e₂ ∙ numbers s b r .held in
-    let long : length x ≡ heldSize = slot-length heldSize (payloadBytes p) (omega (arith, payload-length p, room .short)) in
-    let there : at + heldSize * m ≡ begin (sections n q) theHeld + length (heldSlots list) =
-    ap₂ {A = ℕ} {B = ℕ} {C = ℕ} (λ u v. u + v) (e₁ ∙ holds-place s b r theHeld) (ap (λ (k : ℕ). heldSize * k) count ∙ sym size) in
-    let fits : length (heldSlots list) + length x ≤ 784 = omega (arith, few) in
-    let one = changed-at (sections n q) (parts n q s b) b b (holds-changed s b r) theHeld (length (heldSlots list)) (at + heldSize * m) x there (omega arith) fits in
-    let two = changed-at (sections n q) _ b _ one theHeader atHeldCount atHeldCount (bytesOf 2 (m + 1)) refl (omega arith) (omega (arith, bytes-length 2 (m + 1))) in
-    let slots : patched (length (heldSlots list)) x (over (heldSlots list) (section n q theHeld b)) ≡ over (heldSlots (list ++ (p ∷ []))) (section n q theHeld b) =
-    over-extended (heldSlots list) x (section n q theHeld b)
-    ∙ ap (λ (y : List ℕ). over y (section n q theHeld b)) (ap (λ (y : List ℕ). heldSlots list ++ y) (sym (held-one p)) ∙ sym (held-append list (p ∷ []))) in
-    let more : m + 1 ≡ length (list ++ (p ∷ [])) = omega (arith, count, length-append list (p ∷ [])) in
-    let header : patched atHeldCount (bytesOf 2 (m + 1)) (headerBytes s) ≡ headerBytes t =
-    one-field s t theHeldCount (bytesOf 2 (m + 1)) (omega arith) (bytes-length 2 _) (count-held s (list ++ (p ∷ [])) (m + 1) more) in
-    e₃
-    ∙ changed-image t _ b _ two (ap₂ {A = List ℕ} {B = List ℕ} {C = List (List ℕ)} (λ u v. set (set (parts n q s b) theHeld v) theHeader u) header slots)
+pub waiting-marked : (h t : State) (b b₁ : List ℕ) → h ≡ headerIn b → ((s : Server) → h ≡ headerOf s → t ≡ headerOf (sendWaiting s)) → Saved t b b₁
+    → (s : Server) → Holds s b → b₁ ≡ image (sendWaiting s) b
+unfolding sendWaiting queue
+waiting-marked h t b b₁ e f g s r =
+    g s (sendWaiting s .log) (s .votes) (s .membership) r
+    (record { cuts = refl; queued = refl; own = begins-refl _; yellow = begins-refl _; states = inl refl }) (f s (e ∙ header-loaded s b r))

@@ -1,4 +1,3 @@
 pub mod Lists
-pub mod Sending
 pub mod Noting
 pub mod Standing

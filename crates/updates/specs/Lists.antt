@@ -5,14 +5,14 @@ use mathlib.Core.List.{List}
 use mathlib.Core.Path.{_≡_}
 use mathlib.Core.Logic.{_⊎_}
 use lib.ListN.{length}
-use Rattle.base.specs.Bytes.{numberAt, bytesOf, slot}
+use Rattle.base.specs.Bytes.{numberAt, bytesOf}
 use Rattle.base.specs.Lists.{Begins}
-use Rattle.format.specs.Limits.{mostPayload, mostHeld}
+use Rattle.format.specs.Limits.{mostPayload}
 use Rattle.format.specs.Places.{idSize}
 use Rattle.record.specs.declared.ActionHead.{ActionHead}
 use Rattle.replication.specs.Machine.Types.{Log, Votes, Configuration, Membership, Server, noStates, Mode, contextOf, withVotes}
 use Rattle.replication.specs.Machine.WellFormed.{queue}
-use Rattle.engine.specs.Layout.{headerSize, stateSize, theStates, atMe, heldSize, atOwnCount, atNumbered, atQueueLength, atYellowCount}
+use Rattle.engine.specs.Layout.{headerSize, stateSize, theStates, atMe, atOwnCount, atNumbered, atQueueLength, atYellowCount}
 use Rattle.engine.specs.Decode.{serversIn, quotaIn}
 use Rattle.engine.specs.Counts.{greenCount, numberedIn, place, mostActions, CountsIn}
 use Rattle.record.specs.declared.State.{State}
@@ -23,7 +23,7 @@ use Rattle.replication.specs.Machine.Colours.{joinYellow}
 use Rattle.replication.specs.Machine.Requests.{quotaLeft}
 use Rattle.replication.specs.Machine.Step.{withState}
 use Rattle.format.specs.Types.{Id, State as Sent, state}
-use Rattle.format.specs.Write.{write, payloadBytes, idBytes}
+use Rattle.format.specs.Write.{write, idBytes}
 use Rattle.format.specs.Range.{idOk}
 use Rattle.base.specs.Patched.{patched}
 use mathlib.Core.Bool.{true}
@@ -71,17 +71,16 @@ pub record SlotRoom (size at : ℕ) (p b : List ℕ) : Type 0 where
 
 -- ---- other numbers and shorter lists
 
--- The state s with another log, other votes, another membership and other held requests.
-abbrev pub changedTo : Server → Log → Votes → Membership → List (List ℕ) → Server
-changedTo s l v m h = record { servers = s .servers; quota = s .quota; me = s .me; log = l; votes = v; membership = m; held = h; noted = s .noted }
+-- The state s with another log, other votes and another membership.
+abbrev pub changedTo : Server → Log → Votes → Membership → Server
+changedTo s l v m = record { servers = s .servers; quota = s .quota; me = s .me; log = l; votes = v; membership = m; noted = s .noted }
 
 -- Its lists are those of s or beginnings of them, and its States are those of s or dropped: only numbers change in the buffer.
-pub record Shortened (s : Server) (l : Log) (v : Votes) (m : Membership) (h : List (List ℕ)) : Type 0 where
+pub record Shortened (s : Server) (l : Log) (v : Votes) (m : Membership) : Type 0 where
   pub cuts : l .cuts ≡ s .log .cuts
   pub queued : queue l ≡ queue (s .log)
   pub own : Begins (l .own) (s .log .own)
   pub yellow : Begins (v .yellow .ids) (s .votes .yellow .ids)
-  pub held : Begins h (s .held)
   pub states : (m .states ≡ s .membership .states) ⊎ (m .states ≡ noStates (s .servers))
 
 -- ---- what the contracts say
@@ -93,8 +92,8 @@ NumbersOf f h r = (s : Server) → h ≡ headerOf s → r ≡ headerOf (f s)
 -- The numbers h of a changed state that is written by its numbers alone, from the bytes b to the bytes b′.
 abbrev pub BecomesNumbered : (h : State) → (b b′ : List ℕ) → Type 0
 BecomesNumbered h b b′ =
-    (s : Server) (l : Log) (v : Votes) (m : Membership) (w : List (List ℕ))
-    → Holds s b → Shortened s l v m w → h ≡ headerOf (changedTo s l v m w) → b′ ≡ image (changedTo s l v m w) b
+    (s : Server) (l : Log) (v : Votes) (m : Membership)
+    → Holds s b → Shortened s l v m → h ≡ headerOf (changedTo s l v m) → b′ ≡ image (changedTo s l v m) b
 
 -- A change to the state of the number k.
 abbrev pub BecomesIn : (k : ℕ) → (Mode → Server → Server) → (b b′ : List ℕ) → Type 0
@@ -111,14 +110,7 @@ BecomesYellow d b b′ = BecomesWhere (λ s. idOk (contextOf s) d ≡ true) (λ 
 abbrev pub MayNumber : Server → Type 0
 MayNumber s = quotaLeft s ≡ true
 
-abbrev pub MayHold : Server → Type 0
-MayHold s = length (s .held) < mostHeld
-
 -- ---- changes of the bytes b
-
--- The held request p in a slot from `at` on.
-abbrev pub heldPut : (at : ℕ) → (p b : List ℕ) → List ℕ
-heldPut at p b = patched at (slot heldSize (payloadBytes p)) b
 
 -- The numbers of actions numbered, and on the own list.
 abbrev pub ownCounts : (numbered own : ℕ) → List ℕ → List ℕ

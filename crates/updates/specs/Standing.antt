@@ -1,11 +1,11 @@
 -- Room in a buffer, and changes of whole parts of a state.
 -- Assumes nothing.
 use Prim.Native.Nat.{ℕ, _+_, _*_, _≤_}
-use mathlib.Core.List.{List, []}
+use mathlib.Core.List.{List}
 use mathlib.Core.Option.{none}
 use lib.ListN.{length}
 use Rattle.base.specs.Bytes.{numberAt}
-use Rattle.replication.specs.Machine.Types.{Non-prim, Votes, Server, withMembership, withHeld, noStates, withVotes}
+use Rattle.replication.specs.Machine.Types.{Non-prim, Votes, Server, withMembership, noStates, withVotes}
 use Rattle.engine.specs.Layout.{headerSize, slotSize, atMe, theQueue}
 use Rattle.engine.specs.Header.{lastOf, markNumbers}
 use Rattle.updates.specs.declared.votes.VoteNumbers.{VoteNumbers}
@@ -33,7 +33,7 @@ voteNumbers v = record {
   «yellow_count» = length (v .yellow .ids);
 }
 
--- "Non_prim, no configuration, holds and States dropped"
+-- "Non_prim, no configuration, .. States dropped"
 unfoldable pub dropped : Server → Server
 dropped s =
     withMembership
@@ -45,7 +45,7 @@ dropped s =
       cpcs = s .membership .cpcs;
       come = s .membership .come;
     })
-    (withHeld [] s)
+    s
 
 -- Other votes, whose numbers are v and whose yellow ids' bytes are e.
 abbrev pub BecomesVoted : VoteNumbers → (e b b′ : List ℕ) → Type 0

@@ -4,9 +4,8 @@ pub mod numbers; // numbers.rt: numbers alone
 pub mod yellow; // yellow.rt: the yellow list
 pub mod membership; // membership.rt: state and configurations
 pub mod votes; // votes.rt: mark, yellow status, and all votes at once
-pub mod requests; // requests.rt: numbered and held requests
+pub mod requests; // requests.rt: requests numbered, and sent
 pub mod notes; // notes.rt: noted lengths
 pub mod states; // states.rt: collected States
-pub mod sending; // sending.rt: held requests numbered
 pub mod exchanges; // exchanges.rt: retransmissions come, the end of an exchange
 pub mod recovery; // recovery.rt: recovery

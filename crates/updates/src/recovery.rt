@@ -1,4 +1,4 @@
-// Recovery: the own list entered red, and what was held and collected dropped.
+// Recovery: the own list entered red, and what was collected dropped.
 ghost use mathlib.Core.Path.{_≡_};
 ghost use Prim.Native.Nat.{_+_, _≤_};
 ghost use lib.ListN.{length};
@@ -72,11 +72,10 @@ fn without_membership(h: State) -> State
     t.transitional_status = 0;
     t.transitional_set = 0;
     t.states = 0;
-    t.held_count = 0;
     t
 }
 
-// "Non_prim, no configuration, holds and States dropped"
+// "Non_prim, no configuration, .. States dropped"
 fn drop_membership(state: &mut [u8])
     requires { ⌜ headerSize ≤ length (now state) ⌝ }
     ensures { λ _. ⌜ Becomes dropped (now (state .entry)) (now (state .exit)) ⌝ }

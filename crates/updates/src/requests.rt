@@ -1,18 +1,16 @@
-// Requests in a state's buffer: numbered ones on the own list, and held ones.
+// Requests in a state's buffer: numbered, on the own list, and sent.
 ghost use mathlib.Core.Path.{_≡_};
-ghost use mathlib.Core.List.{[], _∷_};
 ghost use Prim.Native.Nat.{_+_, _*_, _≤_};
 ghost use lib.ListN.{length};
-ghost use Rattle.base.specs.Bytes.{bytesOf};
-ghost use Rattle.base.specs.Patched.{patched};
 ghost use Rattle.record.specs.Values.{actionOf};
-ghost use Rattle.replication.specs.Machine.Requests.{numbered as withNumbered, hold as withHeld};
-ghost use Rattle.engine.specs.Layout.{heldSize, slotSize, headerSize, atHeldCount};
-ghost use Rattle.engine.specs.Holding.{BecomesWhere};
-ghost use Rattle.updates.specs.Lists.{PayloadRoom, SlotRoom, nextHead, ownCounts, heldPut, MayNumber, MayHold};
+ghost use Rattle.replication.specs.Machine.Requests.{numbered as withNumbered, sendWaiting};
+ghost use Rattle.engine.specs.Layout.{slotSize, headerSize};
+ghost use Rattle.engine.specs.Holding.{Becomes, BecomesWhere};
+ghost use Rattle.updates.specs.Lists.{PayloadRoom, SlotRoom, nextHead, ownCounts, NumbersOf, MayNumber};
 ghost use Rattle.engine.specs.Counts.{CountsIn};
 ghost use Rattle.queue.specs.Queue.{slotPut};
-use engine::places::THE_HELD;
+use crate::numbers::save_numbers;
+use engine::header::load;
 use engine::places::THE_OWN;
 use engine::places::place_of;
 use queue::slots::put_slot;
@@ -21,8 +19,6 @@ use record::State;
 use record::bytes::num8;
 use record::bytes::num16;
 use record::bytes::num32;
-use writer::blocks::clear;
-use writer::parts::put_payload;
 use writer::parts::put16;
 
 // The next own action but its payload.
@@ -57,7 +53,7 @@ fn push_own(state: &mut [u8], at: usize, head: ActionHead, payload: &[u8], numbe
 // "numbered, put on the own list"
 pub fn number(state: &mut [u8], payload: &[u8])
     requires { ⌜ PayloadRoom (now payload) (now state) ⌝ }
-    ensures { λ _. ⌜ BecomesWhere MayNumber (withNumbered (now (payload .entry) ∷ [])) (now (state .entry)) (now (state .exit)) ⌝ }
+    ensures { λ _. ⌜ BecomesWhere MayNumber (withNumbered (now (payload .entry))) (now (state .entry)) (now (state .exit)) ⌝ }
 {
     let at = place_of(state, THE_OWN);
     let own = num16(state, State::AT_OWN_COUNT);
@@ -73,34 +69,22 @@ pub fn number(state: &mut [u8], payload: &[u8])
     );
 }
 
-// A held request's slot from `at` on: its payload, filled up with zeros.
-fn put_held(state: &mut [u8], at: usize, payload: &[u8])
-    requires { ⌜ SlotRoom heldSize at (now payload) (now state) ⌝ }
-    ensures { λ _. ⌜ now (state .exit) ≡ heldPut at (now (payload .entry)) (now (state .entry)) ⌝ }
+// All that are numbered are sent.
+fn with_sent(h: State) -> State
+    ensures { λ r. ⌜ NumbersOf sendWaiting h r ⌝ }
 {
-    put_payload(state, at, payload);
-    clear(
-        state,
-        at + (1 + payload.len()),
-        State::MOST_PAYLOAD - payload.len(),
-    );
+    let numbered = h.numbered;
+    let mut t = h;
+    t.sent = numbered;
+    t
 }
 
-// The same, and the count.
-fn push_held(state: &mut [u8], at: usize, payload: &[u8], count: u16)
-    requires { ⌜ SlotRoom heldSize at (now payload) (now state) ⌝ }
-    ensures { λ _. ⌜ now (state .exit) ≡ patched atHeldCount (bytesOf 2 count) (heldPut at (now (payload .entry)) (now (state .entry))) ⌝ }
+// What waits is sent: no byte of the own list moves.
+pub fn send_waiting(state: &mut [u8])
+    requires { ⌜ headerSize ≤ length (now state) ⌝ }
+    ensures { λ _. ⌜ Becomes sendWaiting (now (state .entry)) (now (state .exit)) ⌝ }
 {
-    put_held(state, at, payload);
-    put16(state, State::AT_HELD_COUNT, count);
-}
-
-// "Elsewhere held"
-pub fn hold(state: &mut [u8], payload: &[u8])
-    requires { ⌜ PayloadRoom (now payload) (now state) ⌝ }
-    ensures { λ _. ⌜ BecomesWhere MayHold (withHeld (now (payload .entry))) (now (state .entry)) (now (state .exit)) ⌝ }
-{
-    let at = place_of(state, THE_HELD);
-    let count = num16(state, State::AT_HELD_COUNT);
-    push_held(state, at + State::HELD * count as usize, payload, count + 1);
+    let h = load(state);
+    let t = with_sent(h);
+    save_numbers(state, t);
 }
