@@ -33,3 +33,5 @@ pub mod DeliveryLists
 pub mod Agreement
 pub mod Strays
 pub mod Noted
+pub mod RequestsOrder
+pub mod RequestsSent
