@@ -35,3 +35,4 @@ pub mod Strays
 pub mod Noted
 pub mod RequestsOrder
 pub mod RequestsSent
+pub mod RequestsHeld
