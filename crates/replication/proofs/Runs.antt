@@ -36,3 +36,4 @@ pub mod Noted
 pub mod RequestsOrder
 pub mod RequestsSent
 pub mod RequestsHeld
+pub mod Requests

@@ -8,16 +8,14 @@ use native.Mathlib.Decide.{decLe}
 use Rattle.base.specs.Tests.{pick}
 use Rattle.base.specs.Lists.{above}
 use Rattle.base.proofs.ListLaws.{map-each, above-each}
-use Rattle.format.specs.Types.{Id, Action, Record, request, says}
-use Rattle.format.specs.Read.{read}
-use Rattle.replication.specs.Machine.Types.{Server, taken, contextOf}
+use Rattle.format.specs.Types.{Id, Action, Record, request}
+use Rattle.replication.specs.Machine.Types.{Server, taken}
 use Rattle.replication.specs.Machine.Colours.{cut}
 use Rattle.replication.specs.Machine.Requests.{madeOf}
 use Rattle.replication.specs.Machine.Step.{step}
 use Rattle.replication.specs.Machine.WellFormed.{idsIn, queue, wellFormed}
 use Rattle.replication.specs.Images.{Images, started, isRecovery, sourceOf, arrive, leftBy, lived}
 use Rattle.replication.specs.Laws.Images.{OfBoth, next}
-use Rattle.replication.specs.Laws.Order.{SameServer}
 use Rattle.replication.specs.Laws.Sending.{Own}
 use Rattle.replication.specs.Laws.Transitions as L
 use Rattle.replication.specs.Laws.Transitions.{Transition}
@@ -26,7 +24,7 @@ use Rattle.replication.specs.Runs.Requests.{HasId, TakesRequest, Nothing
 use Rattle.replication.proofs.Step.Inversion.{taken-by}
 use Rattle.replication.proofs.Step.Moves.{moved}
 use Rattle.replication.proofs.Step.Growth.{taken-grows}
-use Rattle.replication.proofs.Step.Identity.{identity, identity-kept}
+use Rattle.replication.proofs.Step.Identity.{identity-kept}
 use Rattle.replication.proofs.Step.OwnActions.{request-own}
 use Rattle.replication.proofs.Step.Lifts.{lived-each}
 use Rattle.replication.proofs.WellFormed.Clauses.{WellFormed}
@@ -39,6 +37,7 @@ use Rattle.replication.proofs.Runs.LogActions.{each-of}
 
 -- ---- an own id that was numbered is on the own list or entered
 
+-- The id d is the server's own, and its index among those numbered.
 pub record WasNumbered (d : Id) (s : Server) : Type 0 where
   pub creator : d .creator ≡ s .me
   pub least : 1 ≤ d .index
