@@ -33,3 +33,7 @@ pub mod DeliveryLists
 pub mod Agreement
 pub mod Strays
 pub mod Noted
+pub mod RequestsOrder
+pub mod RequestsSent
+pub mod RequestsHeld
+pub mod Requests

@@ -4,3 +4,4 @@ pub mod Allowed
 pub mod Strays
 pub mod Claim
 pub mod Noted
+pub mod Requests

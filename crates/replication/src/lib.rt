@@ -3,6 +3,7 @@
 ghost use Rattle.replication.specs.Pairs.{Pairs};
 ghost use Rattle.replication.specs.Runs.Claim.{Demand3, Corollaries};
 ghost use Rattle.replication.specs.Runs.Noted.{NotedNeverFall};
+ghost use Rattle.replication.specs.Runs.Requests.{RequestsKept};
 
 // Document 01's pairs P1 to P8, P2 as document 02's K1 has it, and the pairs that pin K1's rule.
 pub fn pairs()
@@ -23,4 +24,9 @@ pub fn corollaries()
 // "a noted length never falls", in every run.
 pub fn noted_never_fall()
     ensures { λ _. ⌜ NotedNeverFall ⌝ }
+{}
+
+// Document 02, K4: an action is sent one time only, in order; nothing that was answered 0 is lost; number 4 never occurs.
+pub fn requests_kept()
+    ensures { λ _. ⌜ RequestsKept ⌝ }
 {}

@@ -173,7 +173,7 @@ module _ {n q : ℕ} {l : Run} (S : AllowedWithStrays n q l) where
   green-kept p i = ap (λ w. pick (w .down i) (w .images i .store .log .green) (w .images i .memory .log .green)) (sym (world-kept p))
 
   -- An event that is taken is no stray.
-  taken-kept : (p i k : ℕ) (e : List ℕ) (t : Server) (r : List (List ℕ)) (b : Bool) (g : List Action) → at l p ≡ some (event i e k)
+  pub taken-kept : (p i k : ℕ) (e : List ℕ) (t : Server) (r : List (List ℕ)) (b : Bool) (g : List Action) → at l p ≡ some (event i e k)
       → arrive (worldAt n q l p .images i) e ≡ taken t r b g → S .stray p ≡ false
   taken-kept p i k e t r b g h a = go (known (S .stray p))
     where

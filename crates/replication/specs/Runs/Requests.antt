@@ -1,0 +1,85 @@
+-- Document 02, K4: what becomes of requests. Of one server the events may be any, with recoveries and stores anywhere.
+-- Assumes nothing.
+use Prim.Native.Nat.{ℕ, _<_}
+use mathlib.Core.Path.{_≡_}
+use mathlib.Core.Bool.{Bool, true}
+use mathlib.Core.List.{List, [], _∷_, _++_, List·Memᴰ}
+use mathlib.Core.Option.{Option, none, some}
+use Rattle.base.specs.Lists.{at}
+use Rattle.format.specs.Types.{Id, Action, Context, action, request, says}
+use Rattle.format.specs.Read.{read}
+use Rattle.replication.specs.Machine.Types.{Server, Outcome, taken, contextOf}
+use Rattle.replication.specs.Machine.Requests.{madeOf}
+use Rattle.replication.specs.Machine.Step.{step}
+use Rattle.replication.specs.Machine.WellFormed.{idsIn, queue, wellFormed}
+use Rattle.replication.specs.Images.{Images, started, arrive, leftBy, savedIn, lived}
+use Rattle.replication.specs.Laws.Images.{OfBoth, next}
+use Rattle.replication.specs.Laws.Sending.{Peer}
+use Rattle.replication.specs.Runs.Run.{event, Run, worldAt, recordsOf}
+use Rattle.replication.specs.Runs.Strays.{AllowedWithStrays}
+
+-- ---- "sent, one time only, in order"
+
+-- The records that a server puts out over these events, in order; `none` is a store between two of them.
+unfoldable pub putOutOver : Images → List (Option (List ℕ)) → List (List ℕ)
+putOutOver i [] = []
+putOutOver i (none ∷ es) = putOutOver (savedIn i) es
+putOutOver i (some e ∷ es) = recordsOf (arrive i e) ++ putOutOver (leftBy (arrive i e) i) es
+
+-- The j-th record that the server s puts out over these events is read, by a server of the same n and q, as the action a.
+pub record PutsAction (s : Server) (es : List (Option (List ℕ))) (j : ℕ) (a : Action) : Type 0 where
+  pub bytes : List ℕ
+  pub out : at (putOutOver (started s) es) j ≡ some bytes
+  pub reader : Context
+  pub peer : Peer s reader
+  pub reads : read reader bytes ≡ says (action a)
+
+-- Two actions put out are the server's own, and the later one has the higher index: none is put out twice.
+unfoldable pub OneTimeOnly : Type 0
+OneTimeOnly =
+    (s : Server) → wellFormed s ≡ true → (es : List (Option (List ℕ))) (j k : ℕ) (a b : Action) → j < k → PutsAction s es j a → PutsAction s es k b
+    → (a .id .creator ≡ s .me) × (b .id .creator ≡ s .me) × (a .id .index < b .id .index)
+
+-- ---- nothing that was answered 0 is lost: "stored whenever it comes", "After a crash it is an own-list action like any other"
+
+-- An action with the id d is on the own list or entered.
+pub data HasId (d : Id) (s : Server) : Type 0 where
+  on-own-list : List·Memᴰ d (idsIn (s .log .own)) → HasId d s
+  entered : List·Memᴰ d (idsIn (queue (s .log))) → HasId d s
+
+-- The server with these images takes the event e, a request with the payload p, giving t.
+pub record TakesRequest (i : Images) (e p : List ℕ) (t : Server) (rs : List (List ℕ)) (b : Bool) (g : List Action) : Type 0 where
+  pub reads : read (contextOf (i .memory)) e ≡ says (request p)
+  pub takes : arrive i e ≡ taken t rs b g
+
+-- It stores, and whatever comes then, the action that it made of the request stays, in memory and store.
+unfoldable pub NothingLost : Type 0
+NothingLost =
+    (s : Server) → wellFormed s ≡ true
+    → (es fs : List (Option (List ℕ))) (e p : List ℕ) (t : Server) (rs : List (List ℕ)) (b : Bool) (g : List Action)
+    → TakesRequest (lived (started s) es) e p t rs b g
+    → (b ≡ true) × OfBoth (HasId (madeOf p (lived (started s) es .memory) .id)) (lived (next (lived (started s) es) e) fs)
+
+-- The action a is on the own list or entered.
+pub data HasAction (a : Action) (s : Server) : Type 0 where
+  on-own-list : List·Memᴰ a (s .log .own) → HasAction a s
+  entered : List·Memᴰ a (queue (s .log)) → HasAction a s
+
+-- In every allowed run, stray events included, it is that very action.
+unfoldable pub NothingLostInRuns : Type 0
+NothingLostInRuns =
+    (n q : ℕ) (l : Run) → AllowedWithStrays n q l
+    → (x i k : ℕ) (e p : List ℕ) (t : Server) (rs : List (List ℕ)) (b : Bool) (g : List Action)
+    → at l x ≡ some (event i e k) → TakesRequest (worldAt n q l x .images i) e p t rs b g
+    → (y : ℕ) → x < y → OfBoth (HasAction (madeOf p (worldAt n q l x .images i .memory))) (worldAt n q l y .images i)
+
+-- ---- "4 never occurs"
+
+unfoldable pub NeverFour : Type 0
+NeverFour = (s : Server) (e : List ℕ) → step s e ≡ Outcome.refused 4 → ⊥
+
+pub record RequestsKept : Type 0 where
+  pub one-time-only : OneTimeOnly
+  pub nothing-lost : NothingLost
+  pub nothing-lost-in-runs : NothingLostInRuns
+  pub never-four : NeverFour
