@@ -19,7 +19,7 @@ use Rattle.replication.proofs.Step.ModeColours.{install-no-red}
 use Rattle.record.specs.declared.State.{State}
 use Rattle.replication.proofs.WellFormed.Logs.{install-log-fits}
 use Rattle.format.specs.Write.{idsBytes}
-use Rattle.engine.specs.Layout.{theCuts, theNoted, theHeld, theStates, theYellow, theOwn, theQueue, stateLength}
+use Rattle.engine.specs.Layout.{theCuts, theNoted, theStates, theYellow, theOwn, theQueue, stateLength}
 use Rattle.engine.specs.Image.{headerBytes, section, parts, image}
 use Rattle.engine.specs.Header.{headerOf, headerIn, lastOf}
 use Rattle.engine.proofs.InRange.{in-range}
@@ -92,8 +92,8 @@ pub votes-installed : (h t : State) (b b₁ : List ℕ) → h ≡ headerIn b
     → Saved t b b₁ → (s : Server) → Holds s b → b₁ ≡ image (withVotes (installVotes (s .votes)) s) b
 unfolding installVotes noYellow
 votes-installed h t b b₁ e f g s r =
-    g s (s .log) (installVotes (s .votes)) (s .membership) (s .held) r
-    (record { cuts = refl; queued = refl; own = begins-refl _; yellow = begins-append [] (s .votes .yellow .ids); held = begins-refl _; states = inl refl })
+    g s (s .log) (installVotes (s .votes)) (s .membership) r
+    (record { cuts = refl; queued = refl; own = begins-refl _; yellow = begins-append [] (s .votes .yellow .ids); states = inl refl })
     (f s (e ∙ header-loaded s b r))
 
 -- ---- both
@@ -113,7 +113,6 @@ votes-over t b ok h e =
     headerBytes (withVotes (installVotes (t .votes)) t)
     ∷ getD (same i) theCuts []
     ∷ getD (same i) theNoted []
-    ∷ getD (same i) theHeld []
     ∷ getD (same i) theStates []
     ∷ yellow i
     ∷ getD (same i) theOwn []

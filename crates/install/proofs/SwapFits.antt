@@ -124,6 +124,7 @@ found-fits n q me d l k kept f = record {
     cuts = f .ranges .cuts;
     own = f .ranges .own;
     numbered = f .ranges .numbered;
+    sent = f .ranges .sent;
   };
   once = λ e. omega (arith, kept e, f .once e);
   held-to-cuts = record {

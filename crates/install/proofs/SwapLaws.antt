@@ -147,6 +147,7 @@ pub record Alike (l m : Log) : Type 0 where
   pub cuts : l .cuts ≡ m .cuts
   pub own : l .own ≡ m .own
   pub numbered : l .numbered ≡ m .numbered
+  pub sent : l .sent ≡ m .sent
 
 alike-unmoved : (d : Id) (l m : Log) → Alike l m → find d (l .red) ≡ none → Alike (greenSwap d l) (greenId d m)
 unfolding greenSwap greenFound greenId promoteFound
@@ -176,6 +177,7 @@ alike-moved d l m r k =
       cuts = r .cuts;
       own = r .own;
       numbered = r .numbered;
+      sent = r .sent;
     })
   where
     finds : (e : Id) → Known (sameId e (k .it .id)) → find (k .it .id) (remove (k .it .id) (m .red)) ≡ none
@@ -200,7 +202,7 @@ alike-greens [] l m r = r
 alike-greens (d ∷ ds) l m r = alike-greens ds (greenSwap d l) (greenId d m) (alike-green d l m r)
 
 pub alike-itself : (l : Log) → Once (l .red) → Alike l l
-alike-itself l once = record { green = refl; finds = λ e. refl; once = once; once-too = once; cuts = refl; own = refl; numbered = refl }
+alike-itself l once = record { green = refl; finds = λ e. refl; once = once; once-too = once; cuts = refl; own = refl; numbered = refl; sent = refl }
 
 -- Once no red action is left, they are the same.
 nothing-found : (l : List Action) → ((e : Id) → find e l ≡ none) → l ≡ []
@@ -215,4 +217,4 @@ none-in-nil e l h = rw h
 pub alike-same : (l m : Log) → Alike l m → m .red ≡ [] → l ≡ m
 alike-same l m r e =
     let none-left : l .red ≡ [] = nothing-found (l .red) (λ i. r .finds i ∙ none-in-nil i (m .red) e) in
-    λ i. record { green = r .green i; red = (none-left ∙ sym e) i; cuts = r .cuts i; own = r .own i; numbered = r .numbered i }
+    λ i. record { green = r .green i; red = (none-left ∙ sym e) i; cuts = r .cuts i; own = r .own i; numbered = r .numbered i; sent = r .sent i }

@@ -22,7 +22,14 @@ swapOut (suc k) (y ∷ l) = set l k y
 
 unfoldable pub greenFound : Option Action → ℕ → Log → Log
 greenFound none k l = l
-greenFound (some x) k l = record { green = l .green ++ (x ∷ []); red = swapOut k (l .red); cuts = l .cuts; own = l .own; numbered = l .numbered }
+greenFound (some x) k l = record {
+  green = l .green ++ (x ∷ []);
+  red = swapOut k (l .red);
+  cuts = l .cuts;
+  own = l .own;
+  numbered = l .numbered;
+  sent = l .sent;
+}
 
 -- The action with the id d turns green, if it is held and red.
 unfoldable pub greenSwap : Id → Log → Log

@@ -1,6 +1,6 @@
 pub mod LentFacts
 pub mod LentLaws
-pub mod HeldLaws
+pub mod WaitingLaws
 pub mod ResendingLaws
 pub mod PlanLaws
 pub mod StateLaws

@@ -1,4 +1,4 @@
--- Retransmissions written one after another.
+-- Records of actions written one after another.
 -- Assumes nothing.
 use Prim.Native.Nat.{ℕ, _+_, _*_, _-_, _^_, _≤_, _<_}
 use mathlib.Core.Path.{_≡_, refl, sym, ap, ap₂, subst, _∙_}
@@ -15,7 +15,7 @@ use Rattle.base.specs.Lists.{at, atFront, gather, after, above}
 use Rattle.base.proofs.ListLaws.{above-more}
 use Rattle.base.specs.Patched.{patched}
 use Rattle.base.proofs.PatchedLaws.{patched-length, patched-next, patched-none}
-use Rattle.format.specs.Types.{Action, Record, retransmission}
+use Rattle.format.specs.Types.{Action, Record, action, retransmission}
 use Rattle.format.specs.Write.{write, lengthOf, recordBytes}
 use Rattle.format.proofs.Lengths.{write-length}
 use Rattle.record.specs.declared.events.ActionAt.{ActionAt}
@@ -64,41 +64,53 @@ sends-next m k p q r xs ys o o₁ o₂ h a b =
           ∙ ap (λ (l : List ℕ). patched p l o) (sym (records-append xs ys));
     }
 
--- ---- one record written into the rest from p on: y is what the writer left there
+-- ---- one record made of an action, written into the rest from p on: y is what the writer left there
 
-module _ (a : ActionAt) (b : List ℕ) (me position p : ℕ) (o y : List ℕ) (w : Written) (h : a .«payload_length» ≤ mostPayload) (l : p + mostRetransmission ≤ length o)
-    (e : putOf w y
-    ≡ put (write (retransmission me position
-    (actionOf (a .head) (take (a .«payload_at» + a .«payload_length» - a .«payload_at») (drop (a .«payload_at») b)))))
-    (take (length o - p) (drop p o))) where
+-- What a record made of an action is no longer than.
+abbrev Short : (Action → Record) → Type 0
+Short made = (x : Action) → length (x .payload) ≤ mostPayload → length (write (made x)) ≤ mostRetransmission
+
+-- What the writer of such a record says, lent the rest.
+abbrev Answered : (Action → Record) → ActionAt → (b : List ℕ) (p : ℕ) (o y : List ℕ) → Written → Type 0
+Answered made a b p o y w =
+    putOf w y
+    ≡ put (write (made (actionOf (a .head) (take (a .«payload_at» + a .«payload_length» - a .«payload_at») (drop (a .«payload_at») b)))))
+    (take (length o - p) (drop p o))
+
+-- The buffer with the rest back.
+abbrev restored : (p : ℕ) (o y : List ℕ) → List ℕ
+restored p o y = take p o ++ (y ++ drop (length o - p) (drop p o))
+
+module _ (made : Action → Record) (least : Short made) (a : ActionAt) (b : List ℕ) (p : ℕ) (o y : List ℕ) (w : Written) (h : a .«payload_length» ≤ mostPayload)
+    (l : p + mostRetransmission ≤ length o) (e : Answered made a b p o y w) where
   abbrev x : List ℕ
-  x = write (retransmission me position (actionFrom a b))
+  x = write (made (actionFrom a b))
 
   abbrev o₁ : List ℕ
-  o₁ = take p o ++ (y ++ drop (length o - p) (drop p o))
+  o₁ = restored p o y
 
   short : length x ≤ mostRetransmission
-  unfolding lengthOf actionFrom actionOf partAt
+  unfolding actionFrom actionOf partAt
   short =
       let m : length (take (a .«payload_length») (drop (a .«payload_at») b)) ≤ a .«payload_length» = simp length-take (omega arith) in
-      omega (arith, write-length (retransmission me position (actionFrom a b)))
+      least (actionFrom a b) (omega arith)
 
   answer : putOf w y ≡ put x (take (length o - p) (drop p o))
   unfolding actionFrom partAt
   answer =
       let m : a .«payload_at» + a .«payload_length» - a .«payload_at» ≡ a .«payload_length» = omega arith in
-      e ∙ ap (λ (k : ℕ). put (write (retransmission me position (actionOf (a .head) (take k (drop (a .«payload_at») b))))) (take (length o - p) (drop p o))) m
+      e ∙ ap (λ (k : ℕ). put (write (made (actionOf (a .head) (take k (drop (a .«payload_at») b))))) (take (length o - p) (drop p o))) m
 
   done : (n : ℕ) → w ≡ Next n → Placed x p o n o₁
   done = rest-done x o y p w (omega arith) answer
 
-  pub place-fits : length o < 2 ^ 64 → (n : ℕ) → w ≡ Next n → Fits w64 (p + n)
-  place-fits long n f = let d = done n f in record { fits = omega (arith, d .room, d .sized) }
+  made-fits : length o < 2 ^ 64 → (n : ℕ) → w ≡ Next n → Fits w64 (p + n)
+  made-fits long n f = let d = done n f in record { fits = omega (arith, d .room, d .sized) }
 
-  pub written-next : (n : ℕ) → w ≡ Next n → Sends 1 (retransmission me position (actionFrom a b) ∷ []) p o o₁ (p + n)
-  written-next n f =
+  made-next : (n : ℕ) → w ≡ Next n → Sends 1 (made (actionFrom a b) ∷ []) p o o₁ (p + n)
+  made-next n f =
       let d = done n f in
-      let one : recordBytes (retransmission me position (actionFrom a b) ∷ []) ≡ x = one-record (retransmission me position (actionFrom a b)) in
+      let one : recordBytes (made (actionFrom a b) ∷ []) ≡ x = one-record (made (actionFrom a b)) in
       record {
         place = ap (λ (m : ℕ). p + m) (d .sized) ∙ ap (λ (z : List ℕ). p + length z) (sym one);
         most = omega (arith, d .sized, short);
@@ -106,8 +118,38 @@ module _ (a : ActionAt) (b : List ℕ) (me position p : ℕ) (o y : List ℕ) (w
         bytes = d .filled ∙ ap (λ (z : List ℕ). patched p z o) (sym one);
       }
 
-  pub never-full : w ≡ Full → (n : ℕ) → Sends 1 (retransmission me position (actionFrom a b) ∷ []) p o o₁ n
-  never-full f n = rest-room x o y p w (omega arith) answer (omega (arith, short)) f
+  made-room : w ≡ Full → (n : ℕ) → Sends 1 (made (actionFrom a b) ∷ []) p o o₁ n
+  made-room f n = rest-room x o y p w (omega arith) answer (omega (arith, short)) f
+
+retransmission-short : (me position : ℕ) → Short (retransmission me position)
+unfolding lengthOf
+retransmission-short me position x h = omega (arith, write-length (retransmission me position x))
+
+action-short : Short action
+unfolding lengthOf
+action-short x h = omega (arith, write-length (action x))
+
+module _ (a : ActionAt) (b : List ℕ) (me position p : ℕ) (o y : List ℕ) (w : Written) (h : a .«payload_length» ≤ mostPayload) (l : p + mostRetransmission ≤ length o)
+    (e : Answered (retransmission me position) a b p o y w) where
+  pub place-fits : length o < 2 ^ 64 → (n : ℕ) → w ≡ Next n → Fits w64 (p + n)
+  place-fits = made-fits (retransmission me position) (retransmission-short me position) a b p o y w h l e
+
+  pub written-next : (n : ℕ) → w ≡ Next n → Sends 1 (retransmission me position (actionFrom a b) ∷ []) p o (restored p o y) (p + n)
+  written-next = made-next (retransmission me position) (retransmission-short me position) a b p o y w h l e
+
+  pub never-full : w ≡ Full → (n : ℕ) → Sends 1 (retransmission me position (actionFrom a b) ∷ []) p o (restored p o y) n
+  never-full = made-room (retransmission me position) (retransmission-short me position) a b p o y w h l e
+
+module _ (a : ActionAt) (b : List ℕ) (p : ℕ) (o y : List ℕ) (w : Written) (h : a .«payload_length» ≤ mostPayload) (l : p + mostRetransmission ≤ length o)
+    (e : Answered action a b p o y w) where
+  pub own-place-fits : length o < 2 ^ 64 → (n : ℕ) → w ≡ Next n → Fits w64 (p + n)
+  own-place-fits = made-fits action action-short a b p o y w h l e
+
+  pub own-written : (n : ℕ) → w ≡ Next n → Sends 1 (action (actionFrom a b) ∷ []) p o (restored p o y) (p + n)
+  own-written = made-next action action-short a b p o y w h l e
+
+  pub own-never-full : w ≡ Full → (n : ℕ) → Sends 1 (action (actionFrom a b) ∷ []) p o (restored p o y) n
+  own-never-full = made-room action action-short a b p o y w h l e
 
 -- ---- the slot k
 

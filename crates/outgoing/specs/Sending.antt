@@ -1,27 +1,24 @@
 -- Records that are made of the bytes of a state's buffer.
 -- Assumes nothing.
-use Prim.Native.Nat.{ℕ, _+_, _*_, _≤_, _<_}
-use mathlib.Core.List.{List, [], _∷_, map}
+use Prim.Native.Nat.{ℕ, _+_, _*_, _-_, _≤_, _<_}
+use mathlib.Core.List.{List, [], _∷_}
+use mathlib.Core.Option.{Option, none, some}
 use lib.ListN.{length}
 use Rattle.base.specs.Bytes.{numberAt, over}
+use Rattle.base.specs.Lists.{at}
 use Rattle.format.specs.Limits.{mostPayload}
 use Rattle.format.specs.Types.{Action, Record, action, state}
-use Rattle.format.specs.Read.{payloadAt}
 use Rattle.record.specs.declared.State.{State as Numbers}
-use Rattle.record.specs.declared.ActionHead.{ActionHead}
 use Rattle.record.specs.declared.StateHead.{StateHead}
-use Rattle.record.specs.Values.{actionOf}
 use Rattle.replication.specs.Machine.Types.{Server}
-use Rattle.replication.specs.Machine.Requests.{numberedFrom}
 use Rattle.replication.specs.Machine.Step.{ownState}
-use Rattle.engine.specs.Layout.{heldSize, theHeld, atMe}
-use Rattle.engine.specs.Decode.{heldAt}
+use Rattle.engine.specs.Layout.{slotSize, theOwn}
+use Rattle.engine.specs.Decode.{actionsAt}
 use Rattle.updates.specs.Lists.{configurationOf}
-use Rattle.engine.specs.Counts.{CountsIn, heldCount, place, greenCount, numberedIn}
-use Rattle.format.specs.Places.{mostAction}
+use Rattle.engine.specs.Counts.{CountsIn, ownCount, numberedIn, sentIn, place}
+use Rattle.format.specs.Places.{actionPayloadAt}
 use Rattle.format.specs.Write.{recordBytes}
 use mathlib.Core.Path.{_≡_}
-use Rattle.base.specs.Patched.{patched}
 use Rattle.engine.specs.Holding.{Holds}
 
 -- The numbers of the State that a server with the numbers h sends in the configuration of this id.
@@ -48,30 +45,24 @@ PutsOwn id r b o o′ =
     (s : Server) (set : ℕ) → Holds s b
     → (r ≡ length (recordBytes (ownRecord id set s))) × (o′ ≡ over (recordBytes (ownRecord id set s)) o)
 
--- ---- held requests, counted from 0
+-- ---- what waits on the own list of the buffer b
 
--- Where the request k lies.
-unfoldable pub heldPlace : List ℕ → (k : ℕ) → ℕ
-heldPlace b k = place theHeld b + heldSize * k
+unfoldable pub ownIn : List ℕ → List Action
+ownIn b = actionsAt (ownCount b) b (place theOwn b)
 
--- The action that it becomes, but its payload.
-unfoldable pub heldHead : List ℕ → (k : ℕ) → ActionHead
-heldHead b k = record { creator = numberAt 1 b atMe; index = numberedIn b + k + 1; «green_length» = greenCount b }
+-- How many of them were sent, or more: none waits in front of those.
+unfoldable pub sentBefore : List ℕ → ℕ
+sentBefore b = sentIn b + ownCount b - numberedIn b
 
-unfoldable pub heldAction : List ℕ → (k : ℕ) → Action
-heldAction b k = actionOf (heldHead b k) (payloadAt b (heldPlace b k))
+unfoldable pub asAction : Option Action → Option Record
+asAction none = none
+asAction (some a) = some (action a)
 
--- The first k of them as the records of the actions that they become.
-unfoldable pub heldBytes : List ℕ → (k : ℕ) → List ℕ
-heldBytes b k = recordBytes (map action (numberedFrom (numberAt 1 b atMe) (greenCount b) (numberedIn b) (heldAt k b (place theHeld b))))
+-- The p-th of them as a record.
+unfoldable pub ownAt : List ℕ → ℕ → Option Record
+ownAt b p = asAction (at (ownIn b) (p - 1))
 
--- There is a request k, and room for its record at `at` in o.
-pub record HeldRoom (k at : ℕ) (b o : List ℕ) : Type 0 where
+-- The numbers of the buffer are in range, and so is each payload of its own list.
+pub record OwnIn (b : List ℕ) : Type 0 where
   pub counts : CountsIn b
-  pub below : k < heldCount b
-  pub short : numberAt 1 b (heldPlace b k) ≤ mostPayload
-  pub room : at + mostAction ≤ length o
-
--- The bytes x are put at `at`; r is the place behind them.
-abbrev pub PutsAt : (x : List ℕ) → (at r : ℕ) → (o o′ : List ℕ) → Type 0
-PutsAt x at r o o′ = (r ≡ at + length x) × (o′ ≡ patched at x o)
+  pub payloads : (k : ℕ) → k < ownCount b → numberAt 1 b (place theOwn b + slotSize * k + actionPayloadAt) ≤ mostPayload

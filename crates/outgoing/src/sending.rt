@@ -1,54 +1,47 @@
-// Held requests as the records of the actions that they become.
+// What waits on the own list, as records.
 ghost use mathlib.Core.Path.{_≡_};
-ghost use Prim.Native.Nat.{_+_, _*_, _≤_, _<_};
+ghost use mathlib.Core.List.{[], _∷_};
+ghost use Prim.Native.Nat.{_+_, _-_, _≤_};
 ghost use lib.ListN.{length};
-ghost use Rattle.format.specs.Limits.{mostHeld};
+ghost use Rattle.base.specs.Lists.{gather, above};
+ghost use Rattle.format.specs.Places.{mostRetransmission};
 ghost use Rattle.format.specs.Types.{action};
-ghost use Rattle.format.specs.Write.{write};
-ghost use Rattle.replication.specs.Machine.Requests.{heldRecords};
+ghost use Rattle.record.specs.Events.{actionFrom};
+ghost use Rattle.replication.specs.Machine.Requests.{waitingRecords};
+ghost use Rattle.engine.specs.Counts.{CountsIn, ownCount};
 ghost use Rattle.outgoing.specs.Lent.{LentSuch, PutsRecords};
-ghost use Rattle.outgoing.specs.Sending.{heldPlace, heldHead, heldAction, HeldRoom, PutsAt};
-ghost use Rattle.engine.specs.Layout.{heldSize};
-ghost use Rattle.engine.specs.Counts.{CountsIn, heldCount};
-use engine::places::THE_HELD;
+ghost use Rattle.outgoing.specs.Resending.{SendsTo, Room, PayloadInside, oneOf};
+ghost use Rattle.outgoing.specs.Sending.{sentBefore, OwnIn, ownAt};
+use engine::places::THE_OWN;
 use engine::places::place_of;
-use record::ActionHead;
 use record::State;
-use record::bytes::num8;
 use record::bytes::num16;
-use record::bytes::num32;
+use record::events::ActionAt;
+use record::frame::action_at;
 use writer::records::Written;
 use writer::records::write_action;
 
-// Where the held request k lies.
-fn request_place(state: &[u8], k: u16) -> usize
-    requires { ⌜ CountsIn (now state) × (k < heldCount (now state)) ⌝ }
-    ensures { λ r. ⌜ (r ≡ heldPlace (now (state .entry)) k) × (r + heldSize ≤ length (now (state .entry))) ⌝ }
+// How many of the own list were sent: what waits stands behind them.
+fn sent_before(state: &[u8]) -> u16
+    requires { ⌜ CountsIn (now state) ⌝ }
+    ensures { λ r. ⌜ r ≡ sentBefore (now (state .entry)) ⌝ }
 {
-    place_of(state, THE_HELD) + State::HELD * k as usize
-}
-
-// The action that it becomes, but its payload.
-fn held_head(state: &[u8], k: u16) -> ActionHead
-    requires { ⌜ CountsIn (now state) × (k ≤ mostHeld) ⌝ }
-    ensures { λ r. ⌜ r ≡ heldHead (now (state .entry)) k ⌝ }
-{
-    ActionHead {
-        creator: num8(state, State::AT_ME),
-        index: num16(state, State::AT_NUMBERED) + k + 1,
-        green_length: num32(state, State::AT_GREEN_LENGTH),
+    let reached = num16(state, State::AT_SENT) + num16(state, State::AT_OWN_COUNT);
+    let numbered = num16(state, State::AT_NUMBERED);
+    if reached <= numbered {
+        return 0;
     }
+    reached - numbered
 }
 
-// The held request k as a record at `at`; the place behind it.
-fn send_held(state: &[u8], out: &mut [u8], at: usize, k: u16) -> usize
-    requires { ⌜ HeldRoom k at (now state) (now out) ⌝ }
-    ensures { λ r. ⌜ PutsAt (write (action (heldAction (now (state .entry)) k))) at r (now (out .entry)) (now (out .exit)) ⌝ }
+// Writes an action that lies in the state: the place behind its record.
+fn send_made(state: &[u8], out: &mut [u8], at: usize, a: ActionAt) -> usize
+    requires { ⌜ PayloadInside a (now state) × (at + mostRetransmission ≤ length (now out)) ⌝ }
+    ensures { λ r. ⌜ SendsTo 1 (action (actionFrom a (now (state .entry))) ∷ []) at out r ⌝ }
 {
-    let place = request_place(state, k);
-    let head = held_head(state, k);
-    let start = place + 1;
-    let end = start + num8(state, place) as usize;
+    let head = a.head;
+    let start = a.payload_at;
+    let end = start + a.payload_length;
     let w = write_action(&mut out[at..], head, &state[start..end]);
     let Written::Next(size) = w else {
         return at;
@@ -56,17 +49,35 @@ fn send_held(state: &[u8], out: &mut [u8], at: usize, k: u16) -> usize
     at + size
 }
 
-// The held requests, numbered in order, at the front of the outgoing buffer; how many bytes they have. The state is not changed.
+// The p-th action of the own list.
+fn send_own(state: &[u8], out: &mut [u8], at: usize, p: u16) -> usize
+    requires { ⌜ OwnIn (now state) × (1 ≤ p) × (p ≤ ownCount (now state)) × (at + mostRetransmission ≤ length (now out)) ⌝ }
+    ensures { λ r. ⌜ SendsTo 1 (oneOf (ownAt (now (state .entry)) p)) at out r ⌝ }
+{
+    let a = action_at(state, place_of(state, THE_OWN) + State::SLOT * (p as usize - 1));
+    send_made(state, out, at, a)
+}
+
+// Those behind the first `low` up to the one at `high`, at the front of the outgoing buffer; the place behind them.
+fn send_behind(state: &[u8], out: &mut [u8], low: u16, high: u16) -> usize
+    requires { ⌜ OwnIn (now state) × (high ≤ ownCount (now state)) × Room 0 (high - low) (now out) ⌝ }
+    ensures { λ r. ⌜ SendsTo (high - low) (gather (ownAt (now (state .entry))) (above low high)) 0 out r ⌝ }
+{
+    let mut next: usize = 0;
+    let mut p = low;
+    while p < high {
+        p += 1;
+        next = send_own(state, out, next, p);
+    }
+    next
+}
+
+// What waits, in order, at the front of the outgoing buffer; how many bytes it has. The state is not changed.
 pub fn send_records(state: &[u8], out: &mut [u8]) -> u32
     requires { ⌜ LentSuch (λ s. 0 ≤ 0) (now state) (now out) ⌝ }
-    ensures { λ r. ⌜ PutsRecords heldRecords r (now (state .entry)) (now (out .entry)) (now (out .exit)) ⌝ }
+    ensures { λ r. ⌜ PutsRecords waitingRecords r (now (state .entry)) (now (out .entry)) (now (out .exit)) ⌝ }
 {
-    let count = num16(state, State::AT_HELD_COUNT);
-    let mut at: usize = 0;
-    let mut k: u16 = 0;
-    while k < count {
-        at = send_held(state, out, at, k);
-        k += 1;
-    }
-    at as u32
+    let low = sent_before(state);
+    let high = num16(state, State::AT_OWN_COUNT);
+    send_behind(state, out, low, high) as u32
 }

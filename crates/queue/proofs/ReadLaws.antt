@@ -63,7 +63,7 @@ unfolding actionFrom actionOf actionIn actionAt idAt payloadAt idOf
 slot-read b p = rw (add-assoc p 7 1)
 
 -- The payload's length of the slot k.
-slot-payload : (c : Context) (l : List Action) (e : List ℕ) (p k : ℕ) → ContextRange c → Each (ActionRange c) l
+pub slot-payload : (c : Context) (l : List Action) (e : List ℕ) (p k : ℕ) → ContextRange c → Each (ActionRange c) l
     → Occurs (actionSlots l) e p → k < length l → numberAt 1 e (p + slotSize * k + actionPayloadAt) ≤ mostPayload
 unfolding actionSlots joined slot
 slot-payload c [] e p k s r o h = absurd (omega arith)

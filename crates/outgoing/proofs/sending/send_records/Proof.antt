@@ -1,59 +1,34 @@
-use Rattle.outgoing.proofs.HeldLaws.{HeldSent, count-ready, sent-none, turn-ready, sent-more, sent-small, sent-all}
+use Rattle.outgoing.proofs.WaitingLaws.{lent-own, behind-room, behind-fits, waiting-length, waiting-bytes}
+use Rattle.outgoing.proofs.LentLaws.{lent-counts, lent-header}
 use borrow.Author.Needs.{needs}
-use native.Mathlib.Omega.{arith}
-use Prim.Native.Nat.{_-_}
 use Rattle.outgoing.proofs.sending.send_records.Statement.{statement}
 use Rattle.outgoing.proofs.sending.send_records.Tie as tie
-use Rattle.outgoing.proofs.sending.send_records.Reads as reads
-use Rattle.outgoing.proofs.sending.send_records.Lts as lts
-use Rattle.record.proofs.bytes.num16.Reads as num16-reads
-use Rattle.outgoing.proofs.sending.send_held.Reads as send-held-reads
 
-abbrev Inv-loop : tie.InvT-loop
-Inv-loop state out₀ count at₀ k₀ out at k = HeldSent state out₀ count out at k
+sent-before-requires : tie.Need-sent-before-requires
+sent-before-requires c κs = search (needs, lent-counts)
 
-abbrev μ-loop : tie.MeasureT-loop
-μ-loop state out₀ count at₀ k₀ out at k = count - k
+num16-requires : tie.Need-num16-requires
+num16-requires c κs = search (needs, lent-header)
 
-num16-requires : tie.Need-num16-requires Inv-loop μ-loop
-num16-requires c κs = search (needs, count-ready)
+send-behind-requires : tie.Need-send-behind-requires
+send-behind-requires c κs = search (needs, lent-own, behind-room)
 
-loop-holds : tie.Need-loop-holds Inv-loop μ-loop
-loop-holds c = search (needs, sent-none)
+cast-result : tie.Need-cast-result
+cast-result c = search (needs, behind-fits)
 
-send-held-requires : tie.Need-send-held-requires Inv-loop μ-loop
-send-held-requires c κs = search (needs, turn-ready)
-
-add-k : tie.Need-add-k Inv-loop μ-loop
-add-k c = omega arith
-
-loop-less : tie.Need-loop-less Inv-loop μ-loop
-loop-less c = omega arith
-
-loop-again : tie.Need-loop-again Inv-loop μ-loop
-loop-again c = search (needs, sent-more)
-
-cast-result : tie.Need-cast-result Inv-loop μ-loop
-cast-result c = search (needs, sent-small)
-
-same-length : tie.Need-same-length Inv-loop μ-loop
+same-length : tie.Need-same-length
 same-length c = search needs
 
-returns : tie.Need-returns Inv-loop μ-loop
-returns c = sent-all _ _ _ _ _ _ (search needs) (c .before .loop .inv) (search needs)
+returns : tie.Need-returns
+returns c = search (needs, waiting-length, waiting-bytes)
 
 pub send-records-spec : {M : Type 1} → statement M
 send-records-spec =
     tie.close
     (tie.spec
-    Inv-loop
-    μ-loop
+    sent-before-requires
     num16-requires
-    loop-holds
-    send-held-requires
-    add-k
-    loop-less
-    loop-again
+    send-behind-requires
     cast-result
     same-length
     returns)
