@@ -58,7 +58,7 @@ numbering-fits n q me p l own f room fits = record {
     cuts-length = f .ranges .cuts-length;
     cuts = f .ranges .cuts;
     own = each-append (ActionFits n q) (l .own) (made ∷ []) (f .ranges .own)
-    (made-fits n q me (length (l .green)) (l .numbered) p own (omega (arith, queue-short n q me l f)) room fits, tt);
+        (made-fits n q me (length (l .green)) (l .numbered) p own (omega (arith, queue-short n q me l f)) room fits, tt);
     numbered = omega arith;
     sent = omega (arith, f .ranges .sent);
   };
