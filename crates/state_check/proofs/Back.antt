@@ -21,7 +21,7 @@ use Rattle.base.proofs.SetLaws.{members-inside}
 use Rattle.format.specs.Limits.{mostIndex}
 use Rattle.format.specs.Types.{Id, Action, State as Record, Context}
 use Rattle.format.specs.Range.{contextOk, lengthOk, actionOk, indexOk, statusOk, idsInRange, idsDiffer, idsOk}
-use Rattle.format.proofs.Ranges.{ContextRange, PayloadRange, context-range}
+use Rattle.format.proofs.Ranges.{ContextRange, context-range}
 use Rattle.format.proofs.Writing.{ids-number}
 use Rattle.record.specs.Context.{lastOf}
 use Rattle.record.specs.Values.{componentOf, primaryOf, idsBy}
@@ -31,14 +31,14 @@ use Rattle.replication.specs.Machine.Colours.{cut}
 use Rattle.replication.specs.Machine.Rules.{memberOf, isOf}
 use Rattle.replication.specs.Machine.Step.{plannedNow, hereSet, theSet, collected}
 use Rattle.replication.specs.Machine.WellFormed.{idsIn, queue}
-use Rattle.replication.specs.Machine.WellFormedRanges.{idCount, PayloadFits, ActionFits}
+use Rattle.replication.specs.Machine.WellFormedRanges.{idCount, ActionFits}
 use Rattle.replication.specs.Machine.WellFormedFacts.{Configured}
 use Rattle.replication.proofs.WellFormed.Clauses.{WellFormed}
 use Rattle.replication.proofs.WellFormed.Facts.{held-index}
 use Rattle.replication.proofs.WellFormed.Ids.{each-counted, once-differ}
 use Rattle.replication.proofs.WellFormed.Ranges.{cuts-ok, sizes-ok, length-ok, set-ok, action-ok, primary-ok, mark-ok, ids-ok, state-ok, own-set-facts, ids-short}
-use Rattle.engine.specs.Layout.{slotSize, stateSize, theCuts, theNoted, theHeld, theStates, theYellow, theOwn, theQueue, sections, sectionSize, offset, sectionCount}
-use Rattle.engine.specs.Image.{modeNumber, senders, actionSlots, heldSlots, statesOver, section, parts, image}
+use Rattle.engine.specs.Layout.{slotSize, stateSize, theCuts, theNoted, theStates, theYellow, theOwn, theQueue, sections, sectionSize, offset, sectionCount}
+use Rattle.engine.specs.Image.{modeNumber, senders, actionSlots, statesOver, section, parts, image}
 use Rattle.engine.specs.Decode.{modeNamed, actionsAt}
 use Rattle.engine.specs.Header.{headerOf}
 use Rattle.engine.proofs.InRange.{in-range}
@@ -46,13 +46,13 @@ use Rattle.engine.proofs.Fit.{well-formed-fits}
 use Rattle.engine.proofs.Decoded.{image-part}
 use Rattle.engine.specs.Holding.{Holds}
 use Rattle.engine.proofs.InPlace.{holds-section}
-use Rattle.engine.proofs.Slots.{senders-below, held-count}
-use Rattle.state_check.specs.Slots.{heldFit, slotFits, notedAt, notedFit}
+use Rattle.engine.proofs.Slots.{senders-below}
+use Rattle.state_check.specs.Slots.{slotFits, notedAt, notedFit}
 use Rattle.state_check.specs.Numbers.{regularOk, transitionalOk}
 use Rattle.state_check.specs.Collected.{plannedIn, collectedOk}
 use Rattle.state_check.specs.Checks.{placeOf, ownCut, exchangeOk, modeTest, modeOk}
 use Rattle.state_check.proofs.Rooms.{states-room}
-use Rattle.state_check.proofs.SlotLists.{held-out, ids-by-number, ids-of-actions, actions-out}
+use Rattle.state_check.proofs.SlotLists.{ids-by-number, ids-of-actions, actions-out}
 use Rattle.state_check.proofs.HeldIds.{WithinCuts, all-as-many}
 use Rattle.state_check.proofs.IdLists.{queue-out, own-out, run}
 use Rattle.state_check.proofs.StateLists.{Collected, states-out}
@@ -126,10 +126,6 @@ module _ (c : Context) (h : State) (b : List ℕ) (f : WellFormed (said c h b)) 
   part-here j l =
       subst (λ (e : List ℕ). Occurs (getD (parts (c .servers) (c .quota) (said c h b) b) j []) e (offset (c .servers) (c .quota) j)) (holds-it .written)
       (image-part (said c h b) (well-formed-fits (said c h b) (holds-it .formed)) b (holds-it .long) j l)
-
-  held-here : Occurs (heldSlots (said c h b .held)) b (placeOf c theHeld)
-  unfolding parts over
-  held-here = occurs-first (heldSlots (said c h b .held)) _ b (placeOf c theHeld) (part-here theHeld (omega arith))
 
   own-here : Occurs (actionSlots (said c h b .log .own)) b (placeOf c theOwn)
   unfolding parts over
@@ -208,11 +204,6 @@ module _ (c : Context) (h : State) (b : List ℕ) (f : WellFormed (said c h b)) 
       every-number (lengthOk c) 4 (c .servers) b (placeOf c theNoted)
       ∙ each-all (lengthOk c) (λ l. l ≤ c .servers * c .quota) (length-ok c) (said c h b .noted) (bounded-each (c .servers * c .quota) (said c h b .noted) (f .noted))
 
-  held-test : heldFit (h .«held_count») b (placeOf c theHeld) ≡ true
-  held-test =
-      held-out b (h .«held_count») (placeOf c theHeld)
-      (each-implied PayloadFits PayloadRange (λ p r. record { most = r .most; bytes = r .bytes }) (said c h b .held) (f .held)) held-here
-
   ids-few : h .«yellow_count» ≤ c .servers * c .quota
   ids-few =
       omega (arith, ids-short (c .servers) (c .quota) (said c h b .votes .yellow .ids) (f .votes .yellow .ids) (f .votes .yellow .once), ids-number (h .«yellow_count») b (placeOf c theYellow))
@@ -286,8 +277,8 @@ module _ (c : Context) (h : State) (b : List ℕ) (f : WellFormed (said c h b)) 
         few-actions = actions-few;
         few-greens = greens-few;
         few-own = omega (arith, own-next, f .log .numbered);
-        few-held = omega (arith, held-count (h .«held_count») b (placeOf c theHeld), f .held-length);
-        quota = omega (arith, held-count (h .«held_count») b (placeOf c theHeld), f .quota-kept);
+        quota = f .log .numbered;
+        sent = f .log .sent;
         few-ids = ids-few;
         attempt = le-yes _ _ (f .votes .attempt);
         last = primary-ok c _ (f .votes .last);
@@ -297,7 +288,6 @@ module _ (c : Context) (h : State) (b : List ℕ) (f : WellFormed (said c h b)) 
         as-many = as-many;
         own-next = own-next;
         noted = noted-test;
-        held = held-test;
         ids = both-yes _ _ (ids-ok c _ (f .votes .yellow .ids)) (once-differ _ (f .votes .yellow .once));
         own = own-out c b (ownCut c b) (h .«own_count») (placeOf c theOwn) own-run (own-parts .1);
         queue-ids = both-yes _ _ (queue-parts .0) (ap idsDiffer (sym queue-ids) ∙ differ);

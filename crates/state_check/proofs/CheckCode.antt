@@ -23,7 +23,7 @@ use Rattle.engine.specs.Layout.{theStates, offset, stateLength}
 use Rattle.exchange.specs.declared.slots.Slots.{Slots}
 use Rattle.exchange.specs.Slots.{slotsOf, slotAt, statesOf}
 use Rattle.exchange.proofs.Collected.{present-states}
-use Rattle.state_check.specs.Numbers.{roomOk, quotaOk, countsOk, numbersOk, CountsIn}
+use Rattle.state_check.specs.Numbers.{roomOk, countsOk, numbersOk, CountsIn}
 use Rattle.state_check.specs.Collected.{plannedIn}
 use Rattle.state_check.specs.Checks.{placeOf, exchangeOk, Buffer}
 
@@ -46,11 +46,11 @@ pub buffer-made : (c : Context) (b : List ℕ) (t : Bool) → Bytes b → stateL
 buffer-made c b t k l e f = record { context = context-made c t e f; bytes = k; long = l }
 
 pub counts-made : (c : Context) (h : State) (t : Bool) → t ≡ numbersOk (contextOf c) h → not t ≡ false → CountsIn (c .servers) (c .quota) h
-unfolding numbersOk countsOk roomOk quotaOk lengthOk contextOf
+unfolding numbersOk countsOk roomOk lengthOk contextOf
 counts-made c h t e f =
     let a = and-holds _ _ (sym e ∙ not-false t f) in
     let counts = and-holds _ _ (and-holds _ _ (and-holds _ _ (a .1) .1) .0) in
     let r₁ = and-holds _ _ (counts .0) in
     let r₂ = and-holds _ _ (r₁ .1) in
     let r₃ = and-holds _ _ (r₂ .1) in
-    record { actions = le-holds _ _ (r₁ .0); own = le-holds _ _ (r₃ .0); held = le-holds _ _ (and-holds _ _ (counts .1) .0); ids = le-holds _ _ (r₃ .1) }
+    record { actions = le-holds _ _ (r₁ .0); own = le-holds _ _ (r₃ .0); ids = le-holds _ _ (r₃ .1) }

@@ -8,14 +8,14 @@ use Rattle.base.proofs.TestLaws.{and-holds, both-yes, le-yes, le-holds, eq-yes,
 use Rattle.base.specs.Bytes.{numbersAt}
 use Rattle.base.specs.Lists.{sum}
 use Rattle.base.specs.Sets.{inside}
-use Rattle.format.specs.Limits.{mostHeld, layoutNumber}
+use Rattle.format.specs.Limits.{layoutNumber}
 use Rattle.format.specs.Types.{Context}
 use Rattle.format.specs.Range.{contextOk, lengthOk, cutsOk, indexOk, setOk, statusOk, primaryOk, markOk, idsOk}
 use Rattle.format.specs.Read.{idsAt}
 use Rattle.record.specs.Values.{primaryOf, markOf, idsBy}
 use Rattle.record.specs.declared.State.{State}
-use Rattle.engine.specs.Layout.{slotSize, theCuts, theNoted, theHeld, theStates, theYellow, theOwn, theQueue}
-use Rattle.state_check.specs.Slots.{heldFit, queueSlotsFit, queueFits, ownFits, notedFit}
+use Rattle.engine.specs.Layout.{slotSize, theCuts, theNoted, theStates, theYellow, theOwn, theQueue}
+use Rattle.state_check.specs.Slots.{queueSlotsFit, queueFits, ownFits, notedFit}
 use Rattle.state_check.specs.Numbers.{regularOk, transitionalOk, membershipOk, roomOk, quotaOk, countsOk, votesOk, numbersOk}
 use Rattle.state_check.specs.Collected.{collectedOk}
 use Rattle.state_check.specs.Checks.{placeOf, ownCut, queueCuts, ownNext, cutsFit, firstListsOk, lastListsOk, listsOk, modeOk, checksOf}
@@ -32,8 +32,8 @@ pub record Checked (c : Context) (h : State) (b : List ℕ) : Type 0 where
   pub few-actions : h .«queue_length» ≤ c .servers * c .quota
   pub few-greens : h .«green_length» ≤ h .«queue_length»
   pub few-own : h .«own_count» ≤ c .quota
-  pub few-held : h .«held_count» ≤ mostHeld
-  pub quota : h .numbered + h .«held_count» ≤ c .quota
+  pub quota : h .numbered ≤ c .quota
+  pub sent : h .sent ≤ h .numbered
   pub few-ids : h .«yellow_count» ≤ c .servers * c .quota
   pub attempt : indexOk (h .attempt .0) ≡ true
   pub last : primaryOk c (primaryOf (h .last)) ≡ true
@@ -43,7 +43,6 @@ pub record Checked (c : Context) (h : State) (b : List ℕ) : Type 0 where
   pub as-many : sum (numbersAt 2 (c .servers) b (placeOf c theCuts)) ≡ h .«queue_length»
   pub own-next : ownCut c b + h .«own_count» ≡ h .numbered
   pub noted : notedFit c b (placeOf c theNoted) ≡ true
-  pub held : heldFit (h .«held_count») b (placeOf c theHeld) ≡ true
   pub ids : idsOk c (idsAt (h .«yellow_count») b (placeOf c theYellow)) ≡ true
   pub own : ownFits c (ownCut c b) (h .«own_count») b (placeOf c theOwn) ≡ true
   pub queue-ids : idsOk c (idsBy slotSize (h .«queue_length») b (placeOf c theQueue)) ≡ true
@@ -76,12 +75,11 @@ checked c h b t =
     let v₃ = and-holds _ _ (v₂ .1) in
     let l₀ = and-holds _ _ (a₃ .0) in
     let l₁ = and-holds _ _ (l₀ .0) in
-    let l₂ = and-holds _ _ (l₁ .1) in
-    let l₄ = and-holds _ _ (l₀ .1) in
-    let l₅ = and-holds _ _ (l₄ .1) in
+    let l₂ = and-holds _ _ (l₀ .1) in
+    let l₃ = and-holds _ _ (l₂ .1) in
     let c₁ = and-holds _ _ (l₁ .0) in
     let c₂ = and-holds _ _ (c₁ .0) in
-    let q₁ = and-holds _ _ (l₅ .1) in
+    let q₁ = and-holds _ _ (l₃ .1) in
     record {
       context = a₁ .0;
       layout = eq-holds _ _ (n₀ .0);
@@ -95,8 +93,8 @@ checked c h b t =
       few-greens = le-holds _ _ (r₂ .0);
       few-own = le-holds _ _ (r₃ .0);
       few-ids = le-holds _ _ (r₃ .1);
-      few-held = le-holds _ _ (k₂ .0);
-      quota = le-holds _ _ (k₂ .1);
+      quota = le-holds _ _ (k₂ .0);
+      sent = le-holds _ _ (k₂ .1);
       attempt = v₁ .0;
       last = v₂ .0;
       mark = v₃ .0;
@@ -104,10 +102,9 @@ checked c h b t =
       cuts = c₂ .0;
       as-many = eq-holds _ _ (c₂ .1);
       own-next = eq-holds _ _ (c₁ .1);
-      noted = l₂ .0;
-      held = l₂ .1;
-      ids = l₄ .0;
-      own = l₅ .0;
+      noted = l₁ .1;
+      ids = l₂ .0;
+      own = l₃ .0;
       queue-ids = q₁ .0;
       queue = q₁ .1;
       collected = a₄ .0;
@@ -119,8 +116,8 @@ unfolding checksOf numbersOk membershipOk countsOk roomOk quotaOk votesOk listsO
 check c h b k =
     let membership = both-yes _ _ (k .regular) (both-yes _ _ (k .transitional) (both-yes _ _ (k .senders) (both-yes _ _ (k .members) (both-yes _ _ (k .cpcs) (le-yes _ _ (k .come)))))) in
     let room = both-yes _ _ (le-yes _ _ (k .few-actions)) (both-yes _ _ (le-yes _ _ (k .few-greens)) (both-yes _ _ (le-yes _ _ (k .few-own)) (le-yes _ _ (k .few-ids)))) in
-    let counts = both-yes _ _ room (both-yes _ _ (le-yes _ _ (k .few-held)) (le-yes _ _ (k .quota))) in
+    let counts = both-yes _ _ room (both-yes _ _ (le-yes _ _ (k .quota)) (le-yes _ _ (k .sent))) in
     let votes = both-yes _ _ (k .attempt) (both-yes _ _ (k .last) (both-yes _ _ (k .mark) (k .status))) in
     let cuts = both-yes _ _ (both-yes _ _ (k .cuts) (eq-yes _ _ (k .as-many))) (eq-yes _ _ (k .own-next)) in
-    let lists = both-yes _ _ (both-yes _ _ cuts (both-yes _ _ (k .noted) (k .held))) (both-yes _ _ (k .ids) (both-yes _ _ (k .own) (both-yes _ _ (k .queue-ids) (k .queue)))) in
+    let lists = both-yes _ _ (both-yes _ _ cuts (k .noted)) (both-yes _ _ (k .ids) (both-yes _ _ (k .own) (both-yes _ _ (k .queue-ids) (k .queue)))) in
     both-yes _ _ (k .context) (both-yes _ _ (both-yes _ _ (eq-yes _ _ (k .layout)) (both-yes _ _ membership (both-yes _ _ counts votes))) (both-yes _ _ lists (both-yes _ _ (k .collected) (k .mode))))

@@ -14,16 +14,15 @@ use Rattle.base.proofs.TestLaws.{and-holds, both-yes, le-yes, le-holds, eq-yes,
 use Rattle.base.specs.Bytes.{Bytes, numberAt, partAt, zeros, slot, zeroAt}
 use Rattle.base.proofs.BytesLaws.{part-length, bytes-part}
 use Rattle.base.specs.Lists.{everyAt}
-use Rattle.base.proofs.Occurs.{Occurs, occurs-nil, occurs-append, occurs-first, occurs-second}
+use Rattle.base.proofs.Occurs.{Occurs, occurs-nil, occurs-append, occurs-second}
 use Rattle.format.specs.Limits.{mostPayload}
 use Rattle.format.specs.Types.{Action}
-use Rattle.format.specs.Write.{payloadBytes, actionBytes}
+use Rattle.format.specs.Write.{actionBytes}
 use Rattle.format.specs.Read.{payloadAt, actionAt}
-use Rattle.format.proofs.Lengths.{payload-length, action-length}
+use Rattle.format.proofs.Lengths.{action-length}
 use Rattle.format.proofs.Ranges.{PayloadRange}
-use Rattle.format.proofs.Fields.{payload-read}
-use Rattle.format.proofs.Writing.{payload-written, action-written}
-use Rattle.engine.specs.Layout.{heldSize, slotSize}
+use Rattle.format.proofs.Writing.{action-written}
+use Rattle.engine.specs.Layout.{slotSize}
 use Rattle.state_check.specs.Slots.{payloadFits, payloadRoom}
 
 -- ---- zeros
@@ -77,7 +76,7 @@ moved size d m b at =
     rw (p, q)
 
 module _ (b : List ℕ) (k : Bytes b) where
-  payload-long : (at : ℕ) → numberAt 1 b at ≤ mostPayload → at + heldSize ≤ length b → length (payloadAt b at) ≡ numberAt 1 b at
+  payload-long : (at : ℕ) → numberAt 1 b at ≤ mostPayload → at + payloadRoom ≤ length b → length (payloadAt b at) ≡ numberAt 1 b at
   unfolding payloadAt
   payload-long at l h = part-length (numberAt 1 b at) b (at + 1) (omega arith)
 
@@ -86,23 +85,13 @@ module _ (b : List ℕ) (k : Bytes b) where
   payload-bytes at = bytes-part (numberAt 1 b at) b (at + 1) k
 
   -- A slot's payload, of the length that it says.
-  pub payload-in-range : (room at : ℕ) → at + heldSize ≤ length b → payloadFits room b at ≡ true → PayloadRange (payloadAt b at)
+  pub payload-in-range : (at : ℕ) → at + payloadRoom ≤ length b → payloadFits b at ≡ true → PayloadRange (payloadAt b at)
   unfolding payloadFits
-  payload-in-range room at h t =
+  payload-in-range at h t =
       let l : numberAt 1 b at ≤ mostPayload = le-holds _ _ (and-holds _ _ t .0) in
       record { most = omega (arith, payload-long at l h); bytes = payload-bytes at }
 
-  pub held-occurs : (at : ℕ) → at + heldSize ≤ length b → payloadFits heldSize b at ≡ true → Occurs (slot heldSize (payloadBytes (payloadAt b at))) b at
-  unfolding payloadFits
-  held-occurs at h t =
-      let m : ℕ = numberAt 1 b at in
-      let u = and-holds _ _ t in
-      let l : m ≤ mostPayload = le-holds _ _ (u .0) in
-      let long : length (payloadBytes (payloadAt b at)) ≡ 0 + 1 + m = omega (arith, payload-length (payloadAt b at), payload-long at l h) in
-      let z : everyAt (zeroAt b) 1 (heldSize - 0 - (1 + m)) (at + 0 + (1 + m)) ≡ true = rw (add-zero at) (u .1) in
-      filled heldSize (0 + 1 + m) (payloadBytes (payloadAt b at)) b at long h (omega arith) (payload-written b at k (omega arith)) (sym (moved heldSize 0 m b at) ∙ z)
-
-  pub action-occurs : (at : ℕ) → at + slotSize ≤ length b → payloadFits payloadRoom b (at + actionPayloadAt) ≡ true → Occurs (slot slotSize (actionBytes (actionAt b at))) b at
+  pub action-occurs : (at : ℕ) → at + slotSize ≤ length b → payloadFits b (at + actionPayloadAt) ≡ true → Occurs (slot slotSize (actionBytes (actionAt b at))) b at
   unfolding payloadFits actionAt
   action-occurs at h t =
       let m : ℕ = numberAt 1 b (at + actionPayloadAt) in
@@ -113,24 +102,15 @@ module _ (b : List ℕ) (k : Bytes b) where
 
 -- ---- and back
 
-payload-fits : (room : ℕ) (b : List ℕ) (at : ℕ) (p : List ℕ) → PayloadRange p → numberAt 1 b at ≡ length p → everyAt (zeroAt b) 1 (room - (1 + length p)) (at + (1 + length p)) ≡ true
-    → payloadFits room b at ≡ true
+payload-fits : (b : List ℕ) (at : ℕ) (p : List ℕ) → PayloadRange p → numberAt 1 b at ≡ length p → everyAt (zeroAt b) 1 (payloadRoom - (1 + length p)) (at + (1 + length p)) ≡ true
+    → payloadFits b at ≡ true
 unfolding payloadFits
-payload-fits room b at p r e z =
-    both-yes _ _ (le-yes _ _ (omega (arith, r .most))) (subst (λ (m : ℕ). everyAt (zeroAt b) 1 (room - (1 + m)) (at + (1 + m)) ≡ true) (sym e) z)
-
-pub occurring-held : (b : List ℕ) (at : ℕ) (p : List ℕ) → PayloadRange p → Occurs (slot heldSize (payloadBytes p)) b at → payloadFits heldSize b at ≡ true
-unfolding slot
-occurring-held b at p r o =
-    let m : ℕ = length p in
-    let first = occurs-first (payloadBytes p) _ b at o in
-    let z = filled-zeros heldSize (0 + 1 + m) (payloadBytes p) b at (omega (arith, payload-length p)) o in
-    let there : everyAt (zeroAt b) 1 (heldSize - 0 - (1 + m)) (at + 0 + (1 + m)) ≡ true = moved heldSize 0 m b at ∙ z in
-    payload-fits heldSize b at p r (payload-read p b at r first .0) (rw (add-zero at) at there)
+payload-fits b at p r e z =
+    both-yes _ _ (le-yes _ _ (omega (arith, r .most))) (subst (λ (m : ℕ). everyAt (zeroAt b) 1 (payloadRoom - (1 + m)) (at + (1 + m)) ≡ true) (sym e) z)
 
 pub occurring-action : (b : List ℕ) (at : ℕ) (a : Action) → PayloadRange (a .payload) → numberAt 1 b (at + actionPayloadAt) ≡ length (a .payload)
-    → Occurs (slot slotSize (actionBytes a)) b at → payloadFits payloadRoom b (at + actionPayloadAt) ≡ true
+    → Occurs (slot slotSize (actionBytes a)) b at → payloadFits b (at + actionPayloadAt) ≡ true
 occurring-action b at a r e o =
     let m : ℕ = length (a .payload) in
     let z = filled-zeros slotSize (actionHeadSize + m) (actionBytes a) b at (omega (arith, action-length a)) o in
-    payload-fits payloadRoom b (at + actionPayloadAt) (a .payload) r e (moved slotSize actionPayloadAt m b at ∙ z)
+    payload-fits b (at + actionPayloadAt) (a .payload) r e (moved slotSize actionPayloadAt m b at ∙ z)

@@ -13,32 +13,31 @@ use Rattle.base.specs.Bytes.{Bytes, numbersAt}
 use Rattle.base.proofs.BytesLaws.{numbers-length, numbers-at}
 use Rattle.base.proofs.Entries.{every-number}
 use Rattle.base.specs.Lists.{above, Each}
-use Rattle.base.proofs.ListLaws.{all-each, each-first, each-second, each-implied, each-bounded}
+use Rattle.base.proofs.ListLaws.{all-each, each-first, each-second, each-bounded}
 use Rattle.base.specs.Sets.{inside}
 use Rattle.base.proofs.Occurs.{Occurs}
 use Rattle.format.specs.Types.{State as Record, Context}
 use Rattle.format.specs.Range.{lengthOk, indexOk, statusOk, idsInRange, idsDiffer, idsOk}
-use Rattle.format.proofs.Ranges.{ContextRange, PayloadRange, context-range}
+use Rattle.format.proofs.Ranges.{ContextRange, context-range}
 use Rattle.record.specs.Context.{lastOf}
 use Rattle.record.specs.Values.{componentOf, primaryOf, idsBy}
 use Rattle.record.specs.declared.State.{State}
 use Rattle.replication.specs.Machine.Colours.{cut}
 use Rattle.replication.specs.Machine.Step.{plannedNow, hereSet, theSet, collected}
 use Rattle.replication.specs.Machine.WellFormed.{idsIn, queue}
-use Rattle.replication.specs.Machine.WellFormedRanges.{PayloadFits, ActionFits}
+use Rattle.replication.specs.Machine.WellFormedRanges.{ActionFits}
 use Rattle.replication.specs.Machine.WellFormedFacts.{Configured, ModeFits}
 use Rattle.replication.proofs.WellFormed.Clauses.{LogRanges, VotesRanges, CollectedFits, MembershipRanges, HeldToCuts, OwnListFits, WellFormed}
 use Rattle.replication.proofs.WellFormed.Ids.{counted-fact, differ-once}
 use Rattle.replication.proofs.WellFormed.Ranges.{cuts-facts, sizes-facts, length-facts, set-facts, primary-facts, mark-facts, ids-facts, state-facts}
-use Rattle.engine.specs.Layout.{slotSize, theCuts, theNoted, theHeld, theStates, theOwn, theQueue, stateLength}
-use Rattle.engine.specs.Image.{modeNumber, actionSlots, heldSlots}
-use Rattle.engine.specs.Decode.{modeNamed, actionsAt, heldAt}
-use Rattle.engine.proofs.Slots.{held-count}
+use Rattle.engine.specs.Layout.{slotSize, theCuts, theNoted, theStates, theOwn, theQueue, stateLength}
+use Rattle.engine.specs.Image.{modeNumber, actionSlots}
+use Rattle.engine.specs.Decode.{modeNamed, actionsAt}
 use Rattle.state_check.specs.Slots.{notedAt, notedFit}
 use Rattle.state_check.specs.Collected.{plannedIn}
 use Rattle.state_check.specs.Checks.{placeOf, ownCut, exchangeOk, modeOk}
-use Rattle.state_check.proofs.Rooms.{held-room, states-room, own-room, queue-room}
-use Rattle.state_check.proofs.SlotLists.{held-in, ids-by-number, ids-of-actions, actions-in}
+use Rattle.state_check.proofs.Rooms.{states-room, own-room, queue-room}
+use Rattle.state_check.proofs.SlotLists.{ids-by-number, ids-of-actions, actions-in}
 use Rattle.state_check.proofs.HeldIds.{WithinCuts, as-many-all}
 use Rattle.state_check.proofs.IdLists.{queue-slots, queue-within, own-slots, own-run, own-in-range, run}
 use Rattle.state_check.proofs.StateLists.{states-number, states-collected}
@@ -104,7 +103,8 @@ module _ (c : Context) (h : State) (b : List ℕ) (k : Checked c h b) (bytes : B
         cuts-length = numbers-length 2 (c .servers) b (placeOf c theCuts);
         cuts = cuts-facts (c .quota) (numbersAt 2 (c .servers) b (placeOf c theCuts)) (k .cuts);
         own = own-in .0;
-        numbered = omega (arith, k .quota);
+        numbered = k .quota;
+        sent = k .sent;
       }
 
   within : Each (WithinCuts (numbersAt 2 (c .servers) b (placeOf c theCuts))) (idsIn (queue (logSaid c h b)))
@@ -181,12 +181,7 @@ module _ (c : Context) (h : State) (b : List ℕ) (k : Checked c h b) (bytes : B
         come = k .come;
       }
 
-  -- ---- requests and noted lengths
-
-  pub held-requests : Each PayloadRange (heldAt (h .«held_count») b (placeOf c theHeld)) × Occurs (heldSlots (heldAt (h .«held_count») b (placeOf c theHeld))) b (placeOf c theHeld)
-  unfolding placeOf
-  held-requests =
-      held-in b bytes (h .«held_count») (placeOf c theHeld) (held-room (c .servers) (c .quota) b long (h .«held_count») (k .few-held)) (k .held)
+  -- ---- noted lengths
 
   noted-bound : (j : ℕ) → getD (numbersAt 4 (c .servers) b (placeOf c theNoted)) j 0 ≤ c .servers * c .quota
   unfolding notedFit notedAt
@@ -220,13 +215,10 @@ module _ (c : Context) (h : State) (b : List ℕ) (k : Checked c h b) (bytes : B
         log = log-ranges;
         votes = votes-ranges;
         membership = membership-ranges;
-        held-length = omega (arith, held-count (h .«held_count») b (placeOf c theHeld), k .few-held);
-        held = each-implied PayloadRange PayloadFits (λ p r. record { most = r .most; bytes = r .bytes }) (heldAt (h .«held_count») b (placeOf c theHeld)) (held-requests .0);
         noted-length = numbers-length 4 (c .servers) b (placeOf c theNoted);
         noted = noted-bound;
         once = differ-once _ differ;
         held-to-cuts = held-to-cuts;
         own-list = own-list;
-        quota-kept = omega (arith, held-count (h .«held_count») b (placeOf c theHeld), k .quota);
         mode = mode-is .0;
       }

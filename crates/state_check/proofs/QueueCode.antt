@@ -1,23 +1,27 @@
 -- A turn of the pass over the queue: the first of the slots that are left, and the others. t is the table of the ids that were met.
 -- Assumes nothing.
-use Prim.Native.Nat.{ℕ, _+_, _-_, _≤_, _<_}
+use Prim.Native.Nat.{ℕ, _+_, _*_, _-_, _≤_, _<_}
 use mathlib.Core.Path.{_≡_, refl, sym, ap, _∙_}
 use mathlib.Core.Bool.{Bool, true, false, not}
 use mathlib.Core.List.{List}
-use lib.ListN.{getD, set, replicate}
+use native.Mathlib.Omega.{arith}
+use lib.ListN.{length, getD, set, replicate}
 use Rattle.base.specs.Tests.{_and_}
-use Rattle.base.proofs.TestLaws.{and-no, both-yes}
+use Rattle.base.proofs.TestLaws.{and-no, both-yes, known}
 use Rattle.base.proofs.Branches.{and-false}
+use Rattle.base.specs.Bytes.{numberAt}
 use Rattle.base.specs.Lists.{everyAt}
 use Rattle.base.proofs.Entries.{every-again, every-denied, every-end}
 use Rattle.format.specs.Limits.{mostIds}
-use Rattle.format.specs.Types.{Context as FormatContext}
+use Rattle.format.specs.Types.{Id, Context as FormatContext}
+use Rattle.format.specs.Range.{idOk}
 use Rattle.format.specs.Read.{idAt}
+use Rattle.format.proofs.Ranges.{id-range}
 use Rattle.record.specs.declared.Context.{Context}
 use Rattle.record.specs.Context.{contextOf, ContextIn}
 use Rattle.record.specs.Values.{placeOf, idsBy}
 use Rattle.record.proofs.OnePass.{pass}
-use Rattle.record.proofs.Turns.{ids-start, ids-out, ids-twice, ids-again, ids-end}
+use Rattle.record.proofs.Turns.{place-in, ids-start, ids-out, ids-twice, ids-again, ids-end}
 use Rattle.engine.specs.Layout.{slotSize}
 use Rattle.state_check.specs.Slots.{queueSlotFits, queueSlotsFit, queueFits}
 
@@ -36,6 +40,15 @@ module _ (c : Context) (cuts m : ℕ) (b : List ℕ) (at : ℕ) where
       → v ≡ queueLeft (contextOf c) cuts t m b at → false ≡ v
   unfolding queueLeft
   queue-out t p v s h f g j = and-no _ _ (sym (ids-out c slotSize m b t at p _ s h f g refl)) ∙ sym j
+
+  -- An id that has a place in the table is in range: its creator's cut is among those of the servers.
+  pub creator-inside : (p : ℕ) → cuts + 2 * c .servers ≤ length b → p ≡ placeOf (contextOf c) (idAt b at) → p < mostIds
+      → cuts + (2 * numberAt 1 b at + 2) ≤ length b
+  unfolding contextOf idAt
+  creator-inside p l f g =
+      let x : Id = idAt b at in
+      let z = place-in (contextOf c) x p (known (idOk (contextOf c) x)) f g in
+      omega (arith, l, id-range (contextOf c) x (z .0) .creator)
 
   pub queue-twice : (t : List ℕ) (p : ℕ) (v : Bool) → 0 < m → p ≡ placeOf (contextOf c) (idAt b at) → p < mostIds → getD t p 0 ≡ 1
       → v ≡ queueLeft (contextOf c) cuts t m b at → false ≡ v

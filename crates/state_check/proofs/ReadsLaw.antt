@@ -4,7 +4,6 @@ use Prim.Native.Nat.{ℕ, _≤_, _<_, _^_}
 use mathlib.Core.Path.{_≡_, refl, sym, ap, _∙_}
 use mathlib.Core.Bool.{Bool, true, false}
 use mathlib.Core.List.{List}
-use native.Mathlib.Omega.{arith}
 use lib.ListN.{length}
 use Rattle.base.proofs.TestLaws.{and-holds, both-yes}
 use Rattle.base.specs.Bytes.{Bytes}
@@ -45,7 +44,7 @@ module _ (b : List ℕ) (bytes : Bytes b) (long : stateLength (serversIn b) (quo
   checks-read t =
       let k = checked (contextIn b) (headerIn b) b t in
       let f = formed (contextIn b) (headerIn b) b k bytes long id-small refl in
-      let kept = header-kept b bytes (omega (arith, header-room (serversIn b) (quotaIn b) b long)) in
+      let kept = header-kept b bytes (header-room (serversIn b) (quotaIn b) b long) in
       let w = rewritten (contextIn b) (headerIn b) b k bytes long id-small refl refl refl refl kept in
       let e : decoded b ≡ said (contextIn b) (headerIn b) b = decoded-said b in
       both-yes _ _ (ap wellFormed e ∙ facts-well-formed _ f) (ap (λ (x : List ℕ). same x b) (ap (λ (s : Server). image s b) e ∙ w) ∙ same-yes b)

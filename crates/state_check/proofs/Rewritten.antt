@@ -26,15 +26,15 @@ use Rattle.record.specs.declared.State.{State}
 use Rattle.replication.specs.Machine.WellFormed.{queue}
 use Rattle.replication.specs.Machine.WellFormedRanges.{ActionFits}
 use Rattle.replication.proofs.WellFormed.Facts.{facts-well-formed}
-use Rattle.engine.specs.Layout.{stateSize, theHeader, theCuts, theNoted, theHeld, theStates, theYellow, theOwn, theQueue, sections, sectionSize, offset, stateLength, headerSize}
-use Rattle.engine.specs.Image.{headerBytes, notedBytes, actionSlots, heldSlots, statesOver, section, parts, image}
-use Rattle.engine.specs.Decode.{actionsAt, heldAt}
+use Rattle.engine.specs.Layout.{stateSize, theHeader, theCuts, theNoted, theStates, theYellow, theOwn, theQueue, sections, sectionSize, offset, stateLength, headerSize}
+use Rattle.engine.specs.Image.{headerBytes, notedBytes, actionSlots, statesOver, section, parts, image}
+use Rattle.engine.specs.Decode.{actionsAt}
 use Rattle.engine.specs.Header.{statusOf, idOf, setOf, transitionalOf, lastOf as lastNumbers, markNumbers, headerOf, headerWritten}
-use Rattle.engine.proofs.Used.{action-slots-length, held-slots-length, noted-length, header-length}
+use Rattle.engine.proofs.Used.{action-slots-length, noted-length, header-length}
 use Rattle.engine.proofs.Fit.{SectionsFit, well-formed-fits}
 use Rattle.engine.proofs.HeaderLaws.{header-written}
 use Rattle.engine.proofs.InPlace.{image-patched, same-but}
-use Rattle.engine.proofs.Slots.{held-count, actions-count}
+use Rattle.engine.proofs.Slots.{actions-count}
 use Rattle.state_check.specs.Checks.{placeOf}
 use Rattle.state_check.proofs.Over.{occurs-over}
 use Rattle.state_check.proofs.Rooms.{cuts-room, noted-room, states-room, ids-room}
@@ -43,7 +43,7 @@ use Rattle.state_check.proofs.Configurations.{Regular, absent, there, r
 use Rattle.state_check.proofs.Modes.{senders-are}
 use Rattle.state_check.proofs.Checked.{Checked}
 use Rattle.state_check.proofs.Said.{said}
-use Rattle.state_check.proofs.Formed.{queue-in, own-in, held-requests, whole-queue, mode-is, formed}
+use Rattle.state_check.proofs.Formed.{queue-in, own-in, whole-queue, mode-is, formed}
 
 pub noted-written : (m : ℕ) (e : List ℕ) (at : ℕ) → Bytes e → at + 4 * m ≤ length e → Occurs (notedBytes (numbersAt 4 m e at)) e at
 unfolding notedBytes numbersAt bytesOf
@@ -101,7 +101,7 @@ module _ (c : Context) (h : State) (b : List ℕ) (k : Checked c h b) (bytes : B
         «green_length» = greens i;
         numbered = h .numbered;
         «own_count» = actions-count (h .«own_count») b (placeOf c theOwn) i;
-        «held_count» = held-count (h .«held_count») b (placeOf c theHeld) i;
+        sent = h .sent;
         attempt = h .attempt;
         last = h .last;
         mark = h .mark;
@@ -131,13 +131,6 @@ module _ (c : Context) (h : State) (b : List ℕ) (k : Checked c h b) (bytes : B
       let l : List ℕ = numbersAt 4 (c .servers) b (placeOf c theNoted) in
       used (c .servers) (c .quota) theNoted (notedBytes l) b (omega (arith, noted-length l, numbers-length 4 (c .servers) b (placeOf c theNoted)))
       (noted-written (c .servers) b (placeOf c theNoted) bytes (noted-room (c .servers) (c .quota) b long))
-
-  held-same : section (c .servers) (c .quota) theHeld b ≡ over (heldSlots (said c h b .held)) (section (c .servers) (c .quota) theHeld b)
-  unfolding sectionSize sections placeOf
-  held-same =
-      let l : List (List ℕ) = heldAt (h .«held_count») b (placeOf c theHeld) in
-      let r = held-requests c h b k bytes long small last-is in
-      used (c .servers) (c .quota) theHeld (heldSlots l) b (omega (arith, held-slots-length l (r .0), held-count (h .«held_count») b (placeOf c theHeld), k .few-held)) (r .1)
 
   states-kept : section (c .servers) (c .quota) theStates b
       ≡ statesOver (stateSize (c .servers) (c .quota)) (said c h b .membership .states) (section (c .servers) (c .quota) theStates b)
@@ -177,4 +170,4 @@ module _ (c : Context) (h : State) (b : List ℕ) (k : Checked c h b) (bytes : B
       let s = said c h b in
       let fits : SectionsFit s = well-formed-fits s (facts-well-formed s (formed c h b k bytes long small last-is)) in
       image-patched s fits b long [] tt
-      (same-but [] s b (λ z. header-same kept) (λ z. cuts-same) (λ z. noted-same) (λ z. held-same) (λ z. states-kept) (λ z. ids-same) (λ z. own-same) (λ z. queue-same))
+      (same-but [] s b (λ z. header-same kept) (λ z. cuts-same) (λ z. noted-same) (λ z. states-kept) (λ z. ids-same) (λ z. own-same) (λ z. queue-same))

@@ -6,14 +6,17 @@ use native.Mathlib.Omega.{arith}
 use lib.ListN.{length}
 use Rattle.base.specs.Lists.{sum}
 use Rattle.base.proofs.Sections.{begin-end}
-use Rattle.format.specs.Limits.{mostHeld}
-use Rattle.engine.specs.Layout.{heldSize, slotSize, stateSize, theCuts, theNoted, theHeld, theStates, theYellow, theOwn, theQueue, sections, sectionSize, offset, stateLength}
+use Rattle.engine.specs.Layout.{headerSize, slotSize, stateSize, theCuts, theNoted, theStates, theYellow, theOwn, theQueue, sections, sectionSize, offset, stateLength}
 use Rattle.format.specs.Places.{idSize}
 
 module _ (n q : ℕ) (b : List ℕ) (h : stateLength n q ≤ length b) where
   section-room : (k : ℕ) → offset n q k + sectionSize n q k ≤ length b
   unfolding offset sectionSize stateLength
   section-room k = omega (arith, begin-end (sections n q) k)
+
+  pub header-room : headerSize ≤ length b
+  unfolding stateLength sections sum
+  header-room = omega arith
 
   pub cuts-room : offset n q theCuts + 2 * n ≤ length b
   unfolding sectionSize sections
@@ -22,10 +25,6 @@ module _ (n q : ℕ) (b : List ℕ) (h : stateLength n q ≤ length b) where
   pub noted-room : offset n q theNoted + 4 * n ≤ length b
   unfolding sectionSize sections
   noted-room = section-room theNoted
-
-  pub held-room : (m : ℕ) → m ≤ mostHeld → offset n q theHeld + heldSize * m ≤ length b
-  unfolding sectionSize sections
-  held-room m l = omega (arith, section-room theHeld)
 
   pub states-room : offset n q theStates + n * stateSize n q ≤ length b
   unfolding sectionSize sections
@@ -42,8 +41,3 @@ module _ (n q : ℕ) (b : List ℕ) (h : stateLength n q ≤ length b) where
   pub queue-room : (m : ℕ) → m ≤ n * q → offset n q theQueue + slotSize * m ≤ length b
   unfolding sectionSize sections
   queue-room m l = omega (arith, section-room theQueue)
-
-  -- Header and held requests.
-  pub header-room : 844 ≤ length b
-  unfolding stateLength sections sum
-  header-room = omega arith

@@ -12,9 +12,9 @@ use Rattle.record.specs.Events.{lastIn, markIn}
 use Rattle.record.specs.Values.{componentOf, primaryOf, markOf}
 use Rattle.record.specs.declared.State.{State}
 use Rattle.replication.specs.Machine.Types.{Log, Votes, Membership, Server}
-use Rattle.engine.specs.Layout.{theCuts, theNoted, theHeld, theStates, theYellow, theOwn, theQueue}
+use Rattle.engine.specs.Layout.{theCuts, theNoted, theStates, theYellow, theOwn, theQueue}
 use Rattle.engine.specs.Header.{headerIn}
-use Rattle.engine.specs.Decode.{modeNamed, configurationAt, transitionalAt, actionsAt, heldAt, statesAt, decodedAs, serversIn, quotaIn, decoded}
+use Rattle.engine.specs.Decode.{modeNamed, configurationAt, transitionalAt, actionsAt, statesAt, decodedAs, serversIn, quotaIn, decoded}
 use Rattle.state_check.specs.Checks.{placeOf, contextIn}
 use Rattle.state_check.proofs.Configurations.{regularOf, transitionalIn}
 
@@ -25,6 +25,7 @@ logSaid c h b = record {
   cuts = numbersAt 2 (c .servers) b (placeOf c theCuts);
   own = actionsAt (h .«own_count») b (placeOf c theOwn);
   numbered = h .numbered;
+  sent = h .sent;
 }
 
 abbrev pub votesSaid : Context → State → List ℕ → Votes
@@ -53,7 +54,6 @@ said c h b = record {
   log = logSaid c h b;
   votes = votesSaid c h b;
   membership = membershipSaid c h b;
-  held = heldAt (h .«held_count») b (placeOf c theHeld);
   noted = numbersAt 4 (c .servers) b (placeOf c theNoted);
 }
 

@@ -13,19 +13,18 @@ use Rattle.base.proofs.TestLaws.{and-yes, and-no}
 use Rattle.base.proofs.Branches.{told-eq}
 use Rattle.base.specs.Bytes.{numberAt, numbersAt}
 use Rattle.base.specs.Lists.{sum}
-use Rattle.format.specs.Limits.{mostHeld}
 use Rattle.format.specs.Range.{cutsOk, idsInRange, idsDiffer, idsOk}
 use Rattle.format.specs.Read.{idsAt}
 use Rattle.record.specs.Context.{contextOf}
 use Rattle.record.specs.declared.Context.{Context}
-use Rattle.engine.specs.Layout.{theNoted, theHeld, theStates, theYellow, theOwn, theQueue, sections, stateSize, stateLength, offset, headerSize, slotSize, heldSize}
+use Rattle.engine.specs.Layout.{theNoted, theStates, theYellow, theOwn, theQueue, sections, stateSize, stateLength, offset, headerSize, slotSize}
 use Rattle.exchange.specs.declared.slots.Slots.{Slots}
 use Rattle.exchange.specs.Slots.{Space, slotsOf}
 use Rattle.format.specs.Places.{idSize}
-use Rattle.state_check.specs.Slots.{heldFit, cutsReach, queueFits, ownFits, notedFit}
+use Rattle.state_check.specs.Slots.{queueFits, ownFits, notedFit}
 use Rattle.state_check.specs.Collected.{collectedOk, StatesInside}
 use Rattle.state_check.specs.Checks.{placeOf, ownCut, queueCuts, ownNext, queueOk, Buffer}
-use Rattle.state_check.proofs.Rooms.{noted-room, held-room, states-room, ids-room, own-room, queue-room, header-room}
+use Rattle.state_check.proofs.Rooms.{cuts-room, noted-room, states-room, ids-room, own-room, queue-room}
 
 -- ---- a sum
 
@@ -54,20 +53,15 @@ module _ (c : Context) (b : List ℕ) (k : Buffer c b) where
   slots-space v here e =
       subst (λ (y : Slots). Space y b) (sym e) (record { servers = k .context .most; long = omega arith; inside = omega (arith, k .long) })
 
-  pub cut-room : headerSize + 2 * c .me + 2 ≤ length b
-  cut-room = omega (arith, header-room (c .servers) (c .quota) b (k .long), k .context .own, k .context .most)
-
   pub cuts-inside : headerSize + 2 * c .servers ≤ length b
-  cuts-inside = omega (arith, header-room (c .servers) (c .quota) b (k .long), k .context .most)
+  unfolding offset sections sum
+  cuts-inside = cuts-room (c .servers) (c .quota) b (k .long)
 
-  pub all-cuts-inside : headerSize + cutsReach ≤ length b
-  all-cuts-inside = omega (arith, header-room (c .servers) (c .quota) b (k .long))
+  pub cut-room : headerSize + 2 * c .me + 2 ≤ length b
+  cut-room = omega (arith, cuts-inside, k .context .own)
 
   pub noted-inside : (at : ℕ) → at ≡ offset (c .servers) (c .quota) theNoted → at + 4 * c .servers ≤ length b
   noted-inside at e = rw e (noted-room (c .servers) (c .quota) b (k .long))
-
-  pub held-inside : (at m : ℕ) → at ≡ offset (c .servers) (c .quota) theHeld → m ≤ mostHeld → at + heldSize * m ≤ length b
-  held-inside at m e l = rw e (held-room (c .servers) (c .quota) b (k .long) m l)
 
   pub ids-inside : (at m : ℕ) → at ≡ offset (c .servers) (c .quota) theYellow → m ≤ c .servers * c .quota → at + idSize * m ≤ length b
   ids-inside at m e l = rw e (ids-room (c .servers) (c .quota) b (k .long) m l)
@@ -92,10 +86,6 @@ module _ (c : Context) (b : List ℕ) where
   pub noted-told : (at : ℕ) (r : Bool) → at ≡ offset (c .servers) (c .quota) theNoted → r ≡ notedFit (contextOf c) b at → r ≡ notedFit (contextOf c) b (placeOf (contextOf c) theNoted)
   unfolding placeOf contextOf
   noted-told at r e f = f ∙ ap (notedFit (contextOf c) b) e
-
-  pub held-told : (at m : ℕ) (r : Bool) → at ≡ offset (c .servers) (c .quota) theHeld → r ≡ heldFit m b at → r ≡ heldFit m b (placeOf (contextOf c) theHeld)
-  unfolding placeOf contextOf
-  held-told at m r e f = f ∙ ap (heldFit m b) e
 
   pub no-ids : (m at : ℕ) → m ≡ 0 → true ≡ idsOk (contextOf c) (idsAt m b at)
   unfolding idsOk idsInRange idsDiffer idsAt _and_

@@ -13,21 +13,21 @@ use Rattle.base.specs.Bytes.{numberAt, zeroAt}
 use Rattle.base.specs.Lists.{everyAt}
 use Rattle.format.specs.Types.{Context}
 use Rattle.format.specs.Range.{lengthOk}
-use Rattle.engine.specs.Layout.{heldSize, slotSize}
+use Rattle.engine.specs.Layout.{slotSize}
 use Rattle.state_check.specs.Slots.{payloadFits, payloadRoom, slotFits, withinCutAt, queueSlotFits, ownSlotFits, ownFits, notedAt}
 use Rattle.format.specs.Places.{actionPayloadAt, actionGreenAt}
 
 -- ---- payloads
 
-pub payload-denied : (b : List ℕ) (room at m : ℕ) → m ≡ numberAt 1 b at → mostPayload < m → false ≡ payloadFits room b at
+pub payload-denied : (b : List ℕ) (at m : ℕ) → m ≡ numberAt 1 b at → mostPayload < m → false ≡ payloadFits b at
 unfolding payloadFits
-payload-denied b room at m e h = and-no (numberAt 1 b at ≤? mostPayload) _ (le-no _ mostPayload (rw e at h))
+payload-denied b at m e h = and-no (numberAt 1 b at ≤? mostPayload) _ (le-no _ mostPayload (rw e at h))
 
 pub payload-answered : (b : List ℕ) (at m : ℕ) (r : Bool) → m ≡ numberAt 1 b at → m ≤ mostPayload → r ≡ everyAt (zeroAt b) 1 (mostPayload - m) (at + 1 + m)
-    → r ≡ payloadFits heldSize b at
+    → r ≡ payloadFits b at
 unfolding payloadFits
 payload-answered b at m r e h k =
-    let p : mostPayload - m ≡ heldSize - (1 + m) = omega arith in
+    let p : mostPayload - m ≡ payloadRoom - (1 + m) = omega arith in
     let q : at + 1 + m ≡ at + (1 + m) = omega arith in
     and-yes r (numberAt 1 b at ≤? mostPayload) _ (le-yes _ mostPayload (rw e at h)) (rw (p, q, e) at k)
 
@@ -38,7 +38,7 @@ module _ (c : Context) (b : List ℕ) (at : ℕ) where
   unfolding slotFits
   slot-denied x t e f h = and-no (lengthOk c (numberAt 4 b (at + actionGreenAt))) _ (ap (lengthOk c) (sym e) ∙ sym f ∙ not-true t h)
 
-  pub slot-answered : (x : ℕ) (t r : Bool) → x ≡ numberAt 4 b (at + actionGreenAt) → t ≡ lengthOk c x → not t ≡ false → r ≡ payloadFits payloadRoom b (at + actionPayloadAt) → r ≡ slotFits c b at
+  pub slot-answered : (x : ℕ) (t r : Bool) → x ≡ numberAt 4 b (at + actionGreenAt) → t ≡ lengthOk c x → not t ≡ false → r ≡ payloadFits b (at + actionPayloadAt) → r ≡ slotFits c b at
   unfolding slotFits
   slot-answered x t r e f h k = and-yes r (lengthOk c (numberAt 4 b (at + actionGreenAt))) _ (ap (lengthOk c) (sym e) ∙ sym f ∙ not-false t h) k
 

@@ -1,4 +1,4 @@
--- Lists of slots: the code's tests of them, and what they say of the lists that are read of them.
+-- Lists of actions in slots: the code's tests of them, and what they say of the lists that are read of them.
 -- Assumes nothing.
 use Prim.Native.Nat.{ℕ, zero, suc, _+_, _*_, _≤_}
 use mathlib.Core.Path.{_≡_, refl, ap}
@@ -13,43 +13,20 @@ use Rattle.base.proofs.Occurs.{Occurs, occurs-nil, occurs-append, occurs-first,
 use Rattle.format.specs.Places.{actionPayloadAt}
 use Rattle.format.specs.Types.{Id, Context}
 use Rattle.format.specs.Range.{idOk, actionOk, idsInRange}
-use Rattle.format.specs.Read.{idAt, payloadAt, actionAt}
-use Rattle.format.specs.Write.{payloadBytes, actionBytes}
-use Rattle.format.proofs.Ranges.{ContextRange, PayloadRange, action-range}
+use Rattle.format.specs.Read.{idAt, actionAt}
+use Rattle.format.specs.Write.{actionBytes}
+use Rattle.format.proofs.Ranges.{ContextRange, action-range}
 use Rattle.format.proofs.Fields.{action-read}
 use Rattle.record.specs.Values.{idsBy}
 use Rattle.replication.specs.Machine.WellFormed.{idsIn}
 use Rattle.replication.specs.Machine.WellFormedRanges.{ActionFits}
 use Rattle.replication.proofs.WellFormed.Ranges.{id-facts, length-facts}
-use Rattle.engine.specs.Layout.{heldSize, slotSize}
-use Rattle.engine.specs.Image.{actionSlots, heldSlots}
-use Rattle.engine.specs.Decode.{actionsAt, heldAt}
-use Rattle.engine.proofs.Used.{action-slot-length, held-slot-length}
-use Rattle.state_check.specs.Slots.{heldFit, slotFits}
-use Rattle.state_check.proofs.Filled.{payload-in-range, held-occurs, action-occurs, occurring-held, occurring-action}
-
--- ---- held requests
-
-pub held-in : (b : List ℕ) → Bytes b → (m at : ℕ) → at + heldSize * m ≤ length b → heldFit m b at ≡ true
-    → Each PayloadRange (heldAt m b at) × Occurs (heldSlots (heldAt m b at)) b at
-unfolding heldFit heldAt everyAt heldSlots joined
-held-in b k zero at h t = (tt, occurs-nil b at)
-held-in b k (suc m) at h t =
-    let u = and-holds _ _ t in
-    let r = payload-in-range b k _ at (omega arith) (u .0) in
-    let more = held-in b k m (at + heldSize) (omega arith) (u .1) in
-    let place : at + length (slot heldSize (payloadBytes (payloadAt b at))) ≡ at + heldSize = ap (λ (i : ℕ). at + i) (held-slot-length (payloadAt b at) r) in
-    ((r, more .0), occurs-append _ _ b at (at + heldSize) place (held-occurs b k at (omega arith) (u .0)) (more .1))
-
-pub held-out : (b : List ℕ) (m at : ℕ) → Each PayloadRange (heldAt m b at) → Occurs (heldSlots (heldAt m b at)) b at → heldFit m b at ≡ true
-unfolding heldFit heldAt everyAt heldSlots joined
-held-out b zero at r o = refl
-held-out b (suc m) at r o =
-    let place : at + length (slot heldSize (payloadBytes (payloadAt b at))) ≡ at + heldSize = ap (λ (i : ℕ). at + i) (held-slot-length (payloadAt b at) (r .0)) in
-    both-yes _ _ (occurring-held b at (payloadAt b at) (r .0) (occurs-first (slot heldSize (payloadBytes (payloadAt b at))) _ b at o))
-    (held-out b m (at + heldSize) (r .1) (occurs-second (slot heldSize (payloadBytes (payloadAt b at))) _ b at (at + heldSize) place o))
-
--- ---- actions
+use Rattle.engine.specs.Layout.{slotSize}
+use Rattle.engine.specs.Image.{actionSlots}
+use Rattle.engine.specs.Decode.{actionsAt}
+use Rattle.engine.proofs.Used.{action-slot-length}
+use Rattle.state_check.specs.Slots.{slotFits}
+use Rattle.state_check.proofs.Filled.{payload-in-range, action-occurs, occurring-action}
 
 pub ids-by-number : (w m : ℕ) (b : List ℕ) (at : ℕ) → length (idsBy w m b at) ≡ m
 unfolding idsBy
@@ -66,7 +43,7 @@ module _ (c : Context) (b : List ℕ) where
   unfolding slotFits actionAt
   action-fits k at h i t =
       let u = and-holds _ _ t in
-      let r = payload-in-range b k _ (at + actionPayloadAt) (omega arith) (u .1) in
+      let r = payload-in-range b k (at + actionPayloadAt) (omega arith) (u .1) in
       record { id = id-facts c (idAt b at) i; greenLength = length-facts c (numberAt 4 b (at + 3)) (u .0); payload = record { most = r .most; bytes = r .bytes } }
 
   pub actions-in : Bytes b → (m at : ℕ) → at + slotSize * m ≤ length b → idsInRange c (idsBy slotSize m b at) ≡ true → everyAt (slotFits c b) slotSize m at ≡ true
@@ -77,7 +54,7 @@ module _ (c : Context) (b : List ℕ) where
       let u = and-holds _ _ t in
       let j = and-holds _ _ i in
       let p = and-holds _ _ (u .0) .1 in
-      let r = payload-in-range b k _ (at + actionPayloadAt) (omega arith) p in
+      let r = payload-in-range b k (at + actionPayloadAt) (omega arith) p in
       let more = actions-in k m (at + slotSize) (omega arith) (j .1) (u .1) in
       let place : at + length (slot slotSize (actionBytes (actionAt b at))) ≡ at + slotSize = ap (λ (n : ℕ). at + n) (action-slot-length (actionAt b at) r) in (
         (action-fits k at (omega arith) (j .0) (u .0), more .0),

@@ -16,10 +16,10 @@ use Rattle.replication.specs.Machine.Types.{Non-prim, Exchange-states, Exchange
 use Rattle.record.specs.Context.{readingContext, contextOf, ContextIn}
 use Rattle.record.specs.declared.Context.{Context as CodeContext}
 use Rattle.record.specs.declared.State.{State}
-use Rattle.engine.specs.Layout.{theCuts, theNoted, theHeld, theStates, theYellow, theOwn, theQueue, offset, stateLength}
+use Rattle.engine.specs.Layout.{theCuts, theNoted, theStates, theYellow, theOwn, theQueue, offset, stateLength}
 use Rattle.engine.specs.Image.{modeNumber}
 use Rattle.engine.specs.Header.{headerIn}
-use Rattle.state_check.specs.Slots.{heldFit, queueFits, ownFits, notedFit}
+use Rattle.state_check.specs.Slots.{queueFits, ownFits, notedFit}
 use Rattle.state_check.specs.Numbers.{numbersOk}
 use Rattle.state_check.specs.Collected.{collectedOk, plannedIn}
 
@@ -51,9 +51,9 @@ ownOk c own b = ownFits c (ownCut c b) own b (placeOf c theOwn)
 abbrev pub queueOk : Context → (actions : ℕ) → List ℕ → Bool
 queueOk c actions b = queueFits c (placeOf c theCuts) actions b (placeOf c theQueue)
 
--- Cuts, noted lengths and held requests; then so many yellow ids, own actions and actions in the queue.
+-- Cuts and noted lengths; then so many yellow ids, own actions and actions in the queue.
 unfoldable pub firstListsOk : Context → State → List ℕ → Bool
-firstListsOk c h b = cutsFit c h b and notedFit c b (placeOf c theNoted) and heldFit (h .«held_count») b (placeOf c theHeld)
+firstListsOk c h b = cutsFit c h b and notedFit c b (placeOf c theNoted)
 
 unfoldable pub lastListsOk : Context → (ids own actions : ℕ) → List ℕ → Bool
 lastListsOk c ids own actions b =

@@ -1,10 +1,10 @@
 -- What the code tests of the numbers h of a state.
 -- Assumes nothing.
-use Prim.Native.Nat.{ℕ, _+_, _*_, _≤_}
+use Prim.Native.Nat.{ℕ, _*_, _≤_}
 use mathlib.Core.Bool.{Bool}
 use Rattle.base.specs.Tests.{_and_, _≤?_, _=?_, pick}
 use Rattle.base.specs.Sets.{inside}
-use Rattle.format.specs.Limits.{mostHeld, layoutNumber}
+use Rattle.format.specs.Limits.{layoutNumber}
 use Rattle.format.specs.Types.{Context}
 use Rattle.format.specs.Range.{lengthOk, indexOk, setOk, statusOk, primaryOk, markOk, ownSetOk, insideLast}
 use Rattle.record.specs.declared.State.{State}
@@ -36,13 +36,13 @@ membershipOk c h =
 unfoldable pub roomOk : Context → (actions greens own ids : ℕ) → Bool
 roomOk c actions greens own ids = lengthOk c actions and greens ≤? actions and own ≤? c .quota and lengthOk c ids
 
--- "numbered plus held above q" does not apply.
-unfoldable pub quotaOk : Context → (numbered held : ℕ) → Bool
-quotaOk c numbered held = held ≤? mostHeld and numbered + held ≤? c .quota
+-- At most q actions are numbered, and none is sent that is not numbered.
+unfoldable pub quotaOk : Context → (numbered sent : ℕ) → Bool
+quotaOk c numbered sent = numbered ≤? c .quota and sent ≤? numbered
 
 unfoldable pub countsOk : Context → State → Bool
 countsOk c h =
-    roomOk c (h .«queue_length») (h .«green_length») (h .«own_count») (h .«yellow_count») and quotaOk c (h .numbered) (h .«held_count»)
+    roomOk c (h .«queue_length») (h .«green_length») (h .«own_count») (h .«yellow_count») and quotaOk c (h .numbered) (h .sent)
 
 unfoldable pub votesOk : Context → State → Bool
 votesOk c h =
@@ -55,5 +55,4 @@ numbersOk c h = h .layout =? layoutNumber and membershipOk c h and countsOk c h 
 pub record CountsIn (n q : ℕ) (h : State) : Type 0 where
   pub actions : h .«queue_length» ≤ n * q
   pub own : h .«own_count» ≤ q
-  pub held : h .«held_count» ≤ mostHeld
   pub ids : h .«yellow_count» ≤ n * q

@@ -13,32 +13,25 @@ use Rattle.format.specs.Places.{actionGreenAt, actionPayloadAt}
 use Rattle.format.specs.Types.{Context}
 use Rattle.format.specs.Range.{lengthOk, idsOk}
 use Rattle.record.specs.Values.{idsBy}
-use Rattle.engine.specs.Layout.{heldSize, slotSize}
+use Rattle.engine.specs.Layout.{slotSize}
 
--- A payload of at most 48 bytes, and zeros behind it: its length stands at `at`, and `room` bytes from there on are its.
-unfoldable pub payloadFits : ℕ → List ℕ → ℕ → Bool
-payloadFits room b at =
-    numberAt 1 b at ≤? mostPayload and everyAt (zeroAt b) 1 (room - (1 + numberAt 1 b at)) (at + (1 + numberAt 1 b at))
+-- How much of an action's slot its payload has, with its length.
+abbrev pub payloadRoom : ℕ
+payloadRoom = slotSize - actionPayloadAt
+
+-- A payload of at most 48 bytes, and zeros behind it in its room: its length stands at `at`.
+unfoldable pub payloadFits : List ℕ → ℕ → Bool
+payloadFits b at =
+    numberAt 1 b at ≤? mostPayload and everyAt (zeroAt b) 1 (payloadRoom - (1 + numberAt 1 b at)) (at + (1 + numberAt 1 b at))
 
 -- What the masks of payloads are: a test may gather all bytes of a payload's room under those from mostPayload - m on.
 pub record Masks (t : List ℕ) : Type 0 where
   pub payload : (j : ℕ) → j < mostPayload → getD t j 0 ≡ 0
   pub behind : (j : ℕ) → mostPayload ≤ j → j < 2 * mostPayload → getD t j 0 ≡ 255
 
-unfoldable pub heldFit : (m : ℕ) → List ℕ → ℕ → Bool
-heldFit m b at = everyAt (payloadFits heldSize b) heldSize m at
-
--- How much of an action's slot its payload has, with its length.
-abbrev pub payloadRoom : ℕ
-payloadRoom = slotSize - actionPayloadAt
-
 -- An action's green length and payload.
 unfoldable pub slotFits : Context → List ℕ → ℕ → Bool
-slotFits c b at = lengthOk c (numberAt 4 b (at + actionGreenAt)) and payloadFits payloadRoom b (at + actionPayloadAt)
-
--- A creator is any byte: so far from the first cut on the code may read.
-abbrev pub cutsReach : ℕ
-cutsReach = 2 * 256
+slotFits c b at = lengthOk c (numberAt 4 b (at + actionGreenAt)) and payloadFits b (at + actionPayloadAt)
 
 -- An action of the queue, its index at most its creator's cut; the cuts begin at `cuts`.
 unfoldable pub withinCutAt : List ℕ → (cuts at : ℕ) → Bool

@@ -101,14 +101,14 @@ fn room_ok(c: Context, actions: u32, greens: u32, own: u16, ids: u16) -> bool
     length_ok(c, ids as u32)
 }
 
-// Numbered and held actions together keep the quota.
-fn quota_ok(c: Context, numbered: u16, held: u16) -> bool
-    ensures { λ r. ⌜ r ≡ quotaOk (contextOf c) numbered held ⌝ }
+// Numbered actions keep the quota, and those sent are numbered.
+fn quota_ok(c: Context, numbered: u16, sent: u16) -> bool
+    ensures { λ r. ⌜ r ≡ quotaOk (contextOf c) numbered sent ⌝ }
 {
-    if (State::MOST_HELD as u16) < held {
+    if c.quota < numbered {
         return false;
     }
-    numbered as u32 + held as u32 <= c.quota as u32
+    sent <= numbered
 }
 
 fn counts_ok(c: Context, h: State) -> bool
@@ -124,7 +124,7 @@ fn counts_ok(c: Context, h: State) -> bool
     ) {
         return false;
     }
-    quota_ok(c, h.numbered, h.held_count)
+    quota_ok(c, h.numbered, h.sent)
 }
 
 fn votes_ok(c: Context, h: State) -> bool

@@ -4,24 +4,22 @@ ghost use Prim.Native.Nat.{_+_, _*_, _≤_};
 ghost use lib.ListN.{length};
 ghost use Rattle.base.specs.Bytes.{numbersAt};
 ghost use Rattle.base.specs.Lists.{sum};
-ghost use Rattle.format.specs.Limits.{mostServers, mostHeld};
+ghost use Rattle.format.specs.Limits.{mostServers};
 ghost use Rattle.format.specs.Range.{idsOk};
 ghost use Rattle.format.specs.Read.{idsAt};
-ghost use Rattle.engine.specs.Layout.{theNoted, theHeld, theStates, theYellow};
+ghost use Rattle.engine.specs.Layout.{theNoted, theStates, theYellow};
 ghost use Rattle.record.specs.Context.{contextOf};
-ghost use Rattle.state_check.specs.Slots.{heldFit, notedFit};
+ghost use Rattle.state_check.specs.Slots.{notedFit};
 ghost use Rattle.state_check.specs.Numbers.{CountsIn};
 ghost use Rattle.state_check.specs.Collected.{collectedOk};
 ghost use Rattle.state_check.specs.Checks.{placeOf, ownCut, queueCuts, ownNext, cutsFit, ownOk, queueOk, Buffer};
 ghost use Rattle.state_check.specs.Checks.{firstListsOk, lastListsOk, listsOk};
 use super::collected::collected_ok;
-use super::slots::held_fit;
 use super::slots::masks;
 use super::slots::noted_fit;
 use super::slots::own_fits;
 use super::slots::queue_fits;
 use engine::places::CUTS;
-use engine::places::held_at;
 use engine::places::noted_at;
 use engine::places::own_at;
 use engine::places::queue_at;
@@ -96,15 +94,6 @@ fn noted_ok(c: Context, b: &[u8]) -> bool
     noted_fit(c, b, at)
 }
 
-fn held_ok(c: Context, b: &[u8], count: usize) -> bool
-    requires { ⌜ Buffer c (now b) × (count ≤ mostHeld) ⌝ }
-    ensures { λ r. ⌜ r ≡ heldFit count (now (b .entry)) (placeOf (contextOf c) theHeld) ⌝ }
-{
-    let at = held_at(c.servers as u32, c.quota as u32) as usize;
-    let t = masks();
-    held_fit(b, at, count, &t)
-}
-
 // No table is laid out where there are no ids.
 fn yellow_ok(c: Context, b: &[u8], count: usize) -> bool
     requires { ⌜ Buffer c (now b) × (count ≤ c .servers * c .quota) ⌝ }
@@ -143,18 +132,15 @@ pub fn states_ok(c: Context, set: u8, configuration: u32, b: &[u8]) -> bool
     collected_ok(c, set, configuration, b, at)
 }
 
-// Cuts, noted lengths and held requests.
+// Cuts and noted lengths.
 fn first_lists_ok(c: Context, h: State, b: &[u8]) -> bool
-    requires { ⌜ Buffer c (now b) × CountsIn (c .servers) (c .quota) h ⌝ }
+    requires { ⌜ Buffer c (now b) ⌝ }
     ensures { λ r. ⌜ r ≡ firstListsOk (contextOf c) h (now (b .entry)) ⌝ }
 {
     if !cuts_fit(c, h, b) {
         return false;
     }
-    if !noted_ok(c, b) {
-        return false;
-    }
-    held_ok(c, b, h.held_count as usize)
+    noted_ok(c, b)
 }
 
 // Yellow ids, own list and queue.

@@ -3,12 +3,12 @@ ghost use mathlib.Core.Path.{_≡_};
 ghost use Prim.Native.Nat.{_+_, _*_, _-_, _≤_};
 ghost use lib.ListN.{length};
 ghost use Rattle.base.specs.Lists.{everyAt};
-ghost use Rattle.base.specs.Bytes.{zeroAt};
+ghost use Rattle.base.specs.Bytes.{numberAt, zeroAt};
 ghost use Rattle.format.specs.Limits.{mostPayload};
 ghost use Rattle.record.specs.Context.{contextOf, ContextIn};
-ghost use Rattle.state_check.specs.Slots.{Masks, payloadFits, heldFit, slotFits, notedAt, notedFit};
-ghost use Rattle.state_check.specs.Slots.{cutsReach, queueSlotFits, queueFits, ownReach, ownSlotFits, ownFits};
-ghost use Rattle.engine.specs.Layout.{slotSize, heldSize};
+ghost use Rattle.state_check.specs.Slots.{Masks, payloadRoom, payloadFits, slotFits, notedAt, notedFit};
+ghost use Rattle.state_check.specs.Slots.{queueSlotFits, queueFits, ownReach, ownSlotFits, ownFits};
+ghost use Rattle.engine.specs.Layout.{slotSize};
 use record::ActionHead;
 use record::Context;
 use record::State;
@@ -54,31 +54,14 @@ fn zeros(b: &[u8], at: usize, m: usize, t: &[u8; MASKS]) -> bool
 
 // A payload of at most 48 bytes, and zeros behind it.
 fn payload_fits(b: &[u8], at: usize, t: &[u8; MASKS]) -> bool
-    requires { ⌜ Masks (now t) × (at + heldSize ≤ length (now b)) ⌝ }
-    ensures { λ r. ⌜ r ≡ payloadFits heldSize (now (b .entry)) at ⌝ }
+    requires { ⌜ Masks (now t) × (at + payloadRoom ≤ length (now b)) ⌝ }
+    ensures { λ r. ⌜ r ≡ payloadFits (now (b .entry)) at ⌝ }
 {
     let m = num8(b, at) as usize;
     if State::MOST_PAYLOAD < m {
         return false;
     }
     zeros(b, at + 1, m, t)
-}
-
-// The held requests.
-pub fn held_fit(b: &[u8], at: usize, count: usize, t: &[u8; MASKS]) -> bool
-    requires { ⌜ Masks (now t) × (at + heldSize * count ≤ length (now b)) ⌝ }
-    ensures { λ r. ⌜ r ≡ heldFit count (now (b .entry)) at ⌝ }
-{
-    let mut here = at;
-    let mut left = count;
-    while 0 < left {
-        if !payload_fits(b, here, t) {
-            return false;
-        }
-        here += State::HELD;
-        left -= 1;
-    }
-    true
 }
 
 // An action's green length and payload.
@@ -92,9 +75,9 @@ fn slot_fits(c: Context, b: &[u8], at: usize, t: &[u8; MASKS]) -> bool
     payload_fits(b, at + ActionHead::PAYLOAD, t)
 }
 
-// An action of the queue: the cuts begin at `cuts`.
+// An action of the queue: the cuts begin at `cuts`, and its creator's is among them.
 fn queue_slot_fits(c: Context, b: &[u8], cuts: usize, at: usize, t: &[u8; MASKS]) -> bool
-    requires { ⌜ ContextIn c × Masks (now t) × (cuts + cutsReach ≤ length (now b)) × (at + slotSize ≤ length (now b)) ⌝ }
+    requires { ⌜ ContextIn c × Masks (now t) × (cuts + (2 * numberAt 1 (now b) at + 2) ≤ length (now b)) × (at + slotSize ≤ length (now b)) ⌝ }
     ensures { λ r. ⌜ r ≡ queueSlotFits (contextOf c) (now (b .entry)) cuts at ⌝ }
 {
     let creator = num8(b, at) as usize;
@@ -113,7 +96,7 @@ pub fn queue_fits(
     count: usize,
     t: &[u8; MASKS],
 ) -> bool
-    requires { ⌜ ContextIn c × Masks (now t) × (cuts + cutsReach ≤ length (now b)) × (at + slotSize * count ≤ length (now b)) ⌝ }
+    requires { ⌜ ContextIn c × Masks (now t) × (cuts + 2 * c .servers ≤ length (now b)) × (at + slotSize * count ≤ length (now b)) ⌝ }
     ensures { λ r. ⌜ r ≡ queueFits (contextOf c) cuts count (now (b .entry)) at ⌝ }
 {
     let mut met: [u8; State::MOST_IDS] = [0; State::MOST_IDS];
@@ -127,6 +110,7 @@ pub fn queue_fits(
         if met[p] == 1 {
             return false;
         }
+        // The id is in range, so its creator's cut is there to be read.
         if !queue_slot_fits(c, b, cuts, here, t) {
             return false;
         }

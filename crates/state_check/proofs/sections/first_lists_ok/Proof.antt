@@ -18,24 +18,5 @@ returns-2 : tie.Need-returns-2
 unfolding firstListsOk
 returns-2 c = search (needs, answers)
 
-cast-held-ok : tie.Need-cast-held-ok
-cast-held-ok c = search needs
-
-held-ok-requires : tie.Need-held-ok-requires
-held-ok-requires c κs = search needs
-
-returns-3 : tie.Need-returns-3
-unfolding firstListsOk
-returns-3 c = search (needs, answers)
-
 pub first-lists-ok-spec : {M : Type 1} → statement M
-first-lists-ok-spec =
-    tie.close
-    (tie.spec
-    cuts-fit-requires
-    returns
-    noted-ok-requires
-    returns-2
-    cast-held-ok
-    held-ok-requires
-    returns-3)
+first-lists-ok-spec = tie.close (tie.spec cuts-fit-requires returns noted-ok-requires returns-2)

@@ -1,4 +1,4 @@
-use Rattle.state_check.proofs.SectionCode.{all-cuts-inside, queue-inside, queue-told}
+use Rattle.state_check.proofs.SectionCode.{cuts-inside, queue-inside, queue-told}
 use borrow.Author.Needs.{needs}
 use Rattle.state_check.proofs.sections.queue_ok.Statement.{statement}
 use Rattle.state_check.proofs.sections.queue_ok.Tie as tie
@@ -22,7 +22,7 @@ cast-queue-fits : tie.Need-cast-queue-fits
 cast-queue-fits c = search needs
 
 queue-fits-requires : tie.Need-queue-fits-requires
-queue-fits-requires c κs = search (needs, all-cuts-inside, queue-inside)
+queue-fits-requires c κs = search (needs, cuts-inside, queue-inside)
 
 returns : tie.Need-returns
 returns c = search (needs, queue-told)

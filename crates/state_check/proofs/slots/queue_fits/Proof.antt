@@ -5,7 +5,7 @@ use lib.ListN.{length}
 use borrow.Author.Needs.{needs}
 use Rattle.record.specs.Context.{contextOf}
 use Rattle.state_check.specs.Slots.{queueFits}
-use Rattle.state_check.proofs.QueueCode.{queueLeft, queue-start, queue-out, queue-twice, queue-unfit, queue-again, queue-end}
+use Rattle.state_check.proofs.QueueCode.{queueLeft, queue-start, queue-out, creator-inside, queue-twice, queue-unfit, queue-again, queue-end}
 use Rattle.state_check.proofs.slots.queue_fits.Statement.{statement}
 use Rattle.state_check.proofs.slots.queue_fits.Tie as tie
 use Rattle.engine.specs.Layout.{slotSize}
@@ -33,7 +33,7 @@ returns-2 : tie.Need-returns-2 Inv-loop μ-loop
 returns-2 c = search (needs, queue-twice)
 
 queue-slot-fits-requires : tie.Need-queue-slot-fits-requires Inv-loop μ-loop
-queue-slot-fits-requires c κs = search needs
+queue-slot-fits-requires c κs = search (needs, creator-inside)
 
 returns-3 : tie.Need-returns-3 Inv-loop μ-loop
 returns-3 c = search (needs, queue-unfit)
