@@ -33,9 +33,9 @@ use Rattle.engine.proofs.Counts.{numbers, holds-counts, holds-place}
 use Rattle.engine.proofs.Slots.{actions-count}
 use Rattle.queue.proofs.ReadLaws.{actions-at, slot-read, slot-payload}
 use Rattle.outgoing.specs.Lent.{LentSuch}
-use Rattle.outgoing.specs.Resending.{oneOf, Sends}
+use Rattle.outgoing.specs.Resending.{oneOf, Sends, Room}
 use Rattle.outgoing.specs.Sending.{ownIn, sentBefore, asAction, ownAt, OwnIn}
-use Rattle.outgoing.proofs.LentLaws.{holds-part, holds-products}
+use Rattle.outgoing.proofs.LentLaws.{lent-header, holds-part, holds-products}
 
 -- ---- the slot p
 
@@ -156,8 +156,14 @@ module _ (P : Server → Type 0) (b o : List ℕ) (l : LentSuch P b o) where
       let c = lent-own .counts in
       omega (arith, m .quota, c .own, holds-products (l .state) b (l .holds) .quota, l .room)
 
-  pub behind-room : (low high : ℕ) → low ≡ sentBefore b → high ≡ ownCount b → mostRetransmission * (high - low) ≤ length o
-  behind-room low high e f = omega (arith, own-room)
+  pub count-ready : atOwnCount + 2 ≤ length b
+  count-ready = omega (arith, lent-header P b o l)
+
+  pub behind-room : (low high : ℕ) → high ≡ numberAt 2 b atOwnCount → Room 0 (high - low) o
+  behind-room low high e = omega (arith, own-room)
+
+  pub behind-high : (high : ℕ) → high ≡ numberAt 2 b atOwnCount → high ≤ ownCount b
+  behind-high high e = omega arith
 
   pub behind-fits : (low high r : ℕ) (xs : List Record) (o₁ : List ℕ) → high ≡ ownCount b → Sends (high - low) xs 0 o o₁ r → r < 4294967296
   behind-fits low high r xs o₁ e a = let c = lent-own .counts in omega (arith, a .most, c .own, c .sizes .quota)

@@ -1,5 +1,5 @@
-use Rattle.outgoing.proofs.WaitingLaws.{lent-own, behind-room, behind-fits, waiting-length, waiting-bytes}
-use Rattle.outgoing.proofs.LentLaws.{lent-counts, lent-header}
+use Rattle.outgoing.proofs.WaitingLaws.{lent-own, count-ready, behind-room, behind-high, behind-fits, waiting-length, waiting-bytes}
+use Rattle.outgoing.proofs.LentLaws.{lent-counts}
 use borrow.Author.Needs.{needs}
 use Rattle.outgoing.proofs.sending.send_records.Statement.{statement}
 use Rattle.outgoing.proofs.sending.send_records.Tie as tie
@@ -8,10 +8,10 @@ sent-before-requires : tie.Need-sent-before-requires
 sent-before-requires c κs = search (needs, lent-counts)
 
 num16-requires : tie.Need-num16-requires
-num16-requires c κs = search (needs, lent-header)
+num16-requires c κs = search (needs, count-ready)
 
 send-behind-requires : tie.Need-send-behind-requires
-send-behind-requires c κs = search (needs, lent-own, behind-room)
+send-behind-requires c κs = search (needs, lent-own, behind-room, behind-high)
 
 cast-result : tie.Need-cast-result
 cast-result c = search (needs, behind-fits)
