@@ -1,4 +1,4 @@
--- Rows 5, 6, 3 and 4 from the numbers h of a state s.
+-- Rows 5, 6 and 3 from the numbers h of a state s.
 -- Assumes nothing.
 use Prim.Native.Nat.{ℕ, _+_}
 use mathlib.Core.Path.{_≡_, refl, sym, ap, _∙_}
@@ -14,7 +14,7 @@ use Rattle.format.specs.Types.{Id, Action}
 use Rattle.record.specs.Values.{idOf}
 use Rattle.record.specs.declared.State.{State}
 use Rattle.replication.specs.Machine.Types.{Mode, Non-prim, Reg-prim, Trans-prim, Exchange-states, Exchange-actions, Construct, No, Un, Configuration, Server}
-use Rattle.replication.specs.Machine.Requests.{inRegular, sendsIn, sendsNow, quotaLeft, roomToHold}
+use Rattle.replication.specs.Machine.Requests.{inRegular, sendsIn, sendsNow, quotaLeft}
 use Rattle.replication.specs.Machine.Rules.{numberedOwn, regularDue, transitionalDue, memberOf, isOf, stateIn, cpcIn}
 use Rattle.engine.specs.Image.{modeNumber}
 use Rattle.engine.specs.Header.{statusOf, headerOf}
@@ -180,16 +180,6 @@ sends-formed h zero same s e =
     ∙ regular-told (s .membership .transitional)
     ∙ sends-zero (s .membership .mode) (inRegular (s .membership .transitional)) ((λ j. sym e j .mode) ∙ zero))
 
-pub quota-told : (h : State) (r : Bool) → r ≡ (h .numbered + h .«held_count» <? h .quota) → (s : Server) → h ≡ headerOf s → r ≡ quotaLeft s
-unfolding headerOf quotaLeft
-quota-told h r f s e = f ∙ (λ j. e j .numbered + e j .«held_count» <? e j .quota)
-
-pub room-sending : (h : State) (r : Bool) → r ≡ true → ((s : Server) → h ≡ headerOf s → r ≡ sendsNow (s .membership))
-    → (s : Server) → h ≡ headerOf s → true ≡ roomToHold s
-unfolding roomToHold _or_
-room-sending h r same f s e = let g : sendsNow (s .membership) ≡ true = sym (f s e) ∙ same in rw g
-
-pub room-holding : (h : State) (r : Bool) → r ≡ false → ((s : Server) → h ≡ headerOf s → r ≡ sendsNow (s .membership))
-    → (s : Server) → h ≡ headerOf s → ltb (h .«held_count») 16 ≡ roomToHold s
-unfolding headerOf roomToHold _or_ _<?_
-room-holding h r other f s e = let g : sendsNow (s .membership) ≡ false = sym (f s e) ∙ other in rw g (λ j. ltb (e j .«held_count») 16)
+pub quota-told : (h : State) (s : Server) → h ≡ headerOf s → ltb (h .numbered) (h .quota) ≡ quotaLeft s
+unfolding headerOf quotaLeft _<?_
+quota-told h s e = λ j. ltb (e j .numbered) (e j .quota)

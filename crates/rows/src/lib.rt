@@ -1,11 +1,9 @@
-// The conditions of rows 5, 6, 3 and 4 of document 01's 'Returned numbers', from the state's numbers alone.
+// The conditions of rows 5, 6 and 3 of document 01's 'Returned numbers', from the state's numbers alone.
 ghost use mathlib.Core.Path.{_≡_};
-ghost use Prim.Native.Nat.{_+_};
-ghost use Rattle.base.specs.Tests.{_<?_};
 ghost use Rattle.format.specs.Types.{Action};
 ghost use Rattle.record.specs.Values.{idOf};
 ghost use Rattle.replication.specs.Machine.Types.{Mode, Server};
-ghost use Rattle.replication.specs.Machine.Requests.{sendsNow, quotaLeft, roomToHold};
+ghost use Rattle.replication.specs.Machine.Requests.{sendsNow, quotaLeft};
 ghost use Rattle.replication.specs.Machine.Rules.{numberedOwn, regularDue, transitionalDue, memberOf, isOf, stateIn, cpcIn};
 ghost use Rattle.engine.specs.Image.{modeNumber};
 ghost use Rattle.engine.specs.Header.{headerOf};
@@ -107,26 +105,9 @@ pub fn sends_now(h: State) -> bool
     h.transitional_status != 1
 }
 
-// Whether so many numbered and held ones are together fewer than the quota.
-fn fewer(numbered: u16, held: u16, quota: u16) -> bool
-    ensures { λ r. ⌜ r ≡ (numbered + held <? quota) ⌝ }
-{
-    (numbered as u32 + (held as u32)) < quota as u32
-}
-
-// "actions numbered so far plus held ones already q" does not apply.
+// "3 counts numbered actions": already q does not apply.
 pub fn quota_left(h: State) -> bool
     ensures { λ r. ⌜ ((s : Server) → h ≡ headerOf s → r ≡ quotaLeft s) ⌝ }
 {
-    fewer(h.numbered, h.held_count, h.quota)
-}
-
-// "request to hold, 16 held" does not apply.
-pub fn room_to_hold(h: State) -> bool
-    ensures { λ r. ⌜ ((s : Server) → h ≡ headerOf s → r ≡ roomToHold s) ⌝ }
-{
-    if sends_now(h) {
-        return true;
-    }
-    h.held_count < State::MOST_HELD as u16
+    h.numbered < h.quota
 }

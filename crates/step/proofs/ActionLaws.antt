@@ -17,7 +17,7 @@ use Rattle.record.specs.declared.State.{State as Numbers}
 use Rattle.record.specs.declared.ActionHead.{ActionHead}
 use Rattle.record.specs.Values.{idOf, actionOf}
 use Rattle.replication.specs.Machine.Types.{Mode, Non-prim, Reg-prim, Trans-prim, Exchange-states, Exchange-actions, Construct, No, Un, Server, Outcome, contextOf, withLog, inMode}
-use Rattle.replication.specs.Machine.Rules.{Rule, reddening, greening, yellowing, lateInstalling, onAction, ruleFor, possible, fromMember, isIgnored, withinQuota, withinHeld}
+use Rattle.replication.specs.Machine.Rules.{Rule, reddening, greening, yellowing, lateInstalling, onAction, ruleFor, possible, fromMember, isIgnored, withinQuota}
 use Rattle.replication.specs.Machine.Step.{apply, answer, greenAndNote}
 use Rattle.replication.specs.Machine.Colours.{red, yellow}
 use Rattle.replication.specs.Machine.Install.{install}
@@ -207,7 +207,7 @@ module _ (h : Numbers) (x : ActionHead) (p b : List ℕ) (f : HoldsSuch (InForce
           (outside s (action a) (k .0) (k .1) (own s i) (rw (heard (s .membership .mode) a (k .0) (k .1)) (member s i ∙ not-true w n)))
 
       passes : not w ≡ false → (s : Server) → Holds s b → (k : Rule) → onAction (s .membership .mode) a ≡ some k → Passes s (action a) k
-      unfolding ruleFor withinQuota withinHeld _or_
+      unfolding ruleFor withinQuota _or_
       passes n s i k j =
           record {
             rule = j;
@@ -215,7 +215,6 @@ module _ (h : Numbers) (x : ActionHead) (p b : List ℕ) (f : HoldsSuch (InForce
             member = rw (heard (s .membership .mode) a k j)
                 (member s i ∙ not-false w n);
             quota = refl;
-            held = refl;
           }
 
       pub action-takes : not w ≡ false → HoldsSuch (Takes (h .mode) (actionOf x p)) b

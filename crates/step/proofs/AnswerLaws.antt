@@ -13,7 +13,7 @@ use Rattle.format.specs.Types.{Record}
 use Rattle.format.specs.Range.{contextOk, fieldsOk, recordOk}
 use Rattle.format.specs.Write.{recordBytes}
 use Rattle.replication.specs.Machine.Types.{Server, Outcome, refused, contextOf}
-use Rattle.replication.specs.Machine.Rules.{Rule, ruleFor, possible, fromMember, isIgnored, withinQuota, withinHeld}
+use Rattle.replication.specs.Machine.Rules.{Rule, ruleFor, possible, fromMember, isIgnored, withinQuota}
 use Rattle.replication.specs.Machine.Step.{quiet, stored, apply, applyRule, answer, inBytes}
 use Rattle.replication.specs.Machine.WellFormed.{ranges, wellFormed}
 use Rattle.replication.specs.Laws.RuleFits.{RuleFits}
@@ -24,7 +24,7 @@ use Rattle.step.specs.declared.Answer.{Answer}
 use Rattle.step.specs.Answers.{answered, outcomeOn, refusedWith, quietly, storedFirst}
 use Rattle.step.proofs.OutcomeLaws.{quiet-outcome, stored-outcome}
 
--- ---- rows 5, 6, 3 and 4
+-- ---- rows 5, 6 and 3
 
 -- The state takes the record by the rule k, and no row applies.
 pub record Passes (s : Server) (r : Record) (k : Rule) : Type 0 where
@@ -32,7 +32,6 @@ pub record Passes (s : Server) (r : Record) (k : Rule) : Type 0 where
   pub possible : possible s r ≡ true
   pub member : (isIgnored k or fromMember (s .membership) r) ≡ true
   pub quota : withinQuota s r ≡ true
-  pub held : withinHeld s r ≡ true
 
 module _ (s : Server) (r : Record) where
   by-rule : (x : Option Rule) → ruleFor (s .membership .mode) r ≡ x → answer s r ≡ applyRule x s r
@@ -69,14 +68,6 @@ module _ (s : Server) (r : Record) where
           (pick-yes (possible s r) (refused 3) _ _ p
           (pick-yes (isIgnored k or fromMember (s .membership) r) (refused 3) _ _ m (pick-no (withinQuota s r) (refused 3) _ _ q refl)))
 
-      pub above-held : withinQuota s r ≡ true → withinHeld s r ≡ false → answer s r ≡ refused 4
-      unfolding applyRule
-      above-held q w =
-          within (refused 4)
-          (pick-yes (possible s r) (refused 4) _ _ p
-          (pick-yes (isIgnored k or fromMember (s .membership) r) (refused 4) _ _ m
-          (pick-yes (withinQuota s r) (refused 4) _ _ q (pick-no (withinHeld s r) (refused 4) _ _ w refl))))
-
   pub passed : (k : Rule) → Passes s r k → answer s r ≡ apply k s
   unfolding applyRule
   passed k f =
@@ -84,7 +75,7 @@ module _ (s : Server) (r : Record) where
       ∙ sym
       (pick-yes (possible s r) (apply k s) _ _ (f .possible)
       (pick-yes (isIgnored k or fromMember (s .membership) r) (apply k s) _ _ (f .member)
-      (pick-yes (withinQuota s r) (apply k s) _ _ (f .quota) (pick-yes (withinHeld s r) (apply k s) _ _ (f .held) refl))))
+      (pick-yes (withinQuota s r) (apply k s) _ _ (f .quota) refl)))
 
   formed-context : wellFormed s ≡ true → contextOk (contextOf s) ≡ true
   unfolding wellFormed ranges
@@ -95,7 +86,7 @@ module _ (s : Server) (r : Record) where
   unfolding recordOk
   passed-fits k ok range f =
       rule-fits s k r (both-yes (contextOk (contextOf s)) (fieldsOk (contextOf s) r) (formed-context ok) range) (f .rule) (f .possible) (f .member)
-      (f .quota) (f .held)
+      (f .quota)
 
 pub not-there : {A : Type 0} (x : Option A) → isThere x ≡ false → x ≡ none
 unfolding isThere

@@ -42,11 +42,11 @@ use Rattle.engine.proofs.Counts.{numbers, holds-counts}
 -- ---- well-formed states on the way
 
 -- The membership and the last primary's index stay.
-pub formed-alike : (s : Server) (l : Log) (v : Votes) (h : List (List ℕ)) (w : List ℕ) → wellFormed s ≡ true → v .last .index ≡ s .votes .last .index
-    → Body (record { servers = s .servers; quota = s .quota; me = s .me; log = l; votes = v; membership = s .membership; held = h; noted = w })
-    → wellFormed (record { servers = s .servers; quota = s .quota; me = s .me; log = l; votes = v; membership = s .membership; held = h; noted = w }) ≡ true
-formed-alike s l v h w ok e b =
-    facts-well-formed _ (whole _ b (mode-kept (s .membership .mode) s l v h w e (well-formed-facts s ok .mode)))
+pub formed-alike : (s : Server) (l : Log) (v : Votes) (w : List ℕ) → wellFormed s ≡ true → v .last .index ≡ s .votes .last .index
+    → Body (record { servers = s .servers; quota = s .quota; me = s .me; log = l; votes = v; membership = s .membership; noted = w })
+    → wellFormed (record { servers = s .servers; quota = s .quota; me = s .me; log = l; votes = v; membership = s .membership; noted = w }) ≡ true
+formed-alike s l v w ok e b =
+    facts-well-formed _ (whole _ b (mode-kept (s .membership .mode) s l v w e (well-formed-facts s ok .mode)))
 
 module _ (s : Server) (a : Action) (ok : wellFormed s ≡ true) (d : Delivered s a) where
   pub green-formed : wellFormed (withLog (green a (s .log)) s) ≡ true
@@ -56,7 +56,7 @@ module _ (s : Server) (a : Action) (ok : wellFormed s ≡ true) (d : Delivered s
   pub noted-formed : wellFormed (greenAndNote a s) ≡ true
   unfolding greenAndNote
   noted-formed =
-      formed-alike s (green a (s .log)) (s .votes) (s .held) (note (a .id .creator) (a .greenLength) (s .noted)) ok refl
+      formed-alike s (green a (s .log)) (s .votes) (note (a .id .creator) (a .greenLength) (s .noted)) ok refl
       (green-and-note-body s (body s (well-formed-facts s ok)) a d)
 
   pub yellow-entered : isNext (s .log) a ≡ true → yellow a s ≡ withVotes (joinYellow (a .id) (s .votes)) (withLog (enter a (s .log)) s)
@@ -70,7 +70,7 @@ module _ (s : Server) (a : Action) (ok : wellFormed s ≡ true) (d : Delivered s
   pub joined-formed : isNext (s .log) a ≡ true → wellFormed (withVotes (joinYellow (a .id) (s .votes)) (withLog (enter a (s .log)) s)) ≡ true
   unfolding joinYellow
   joined-formed next =
-      formed-alike s (enter a (s .log)) (joinYellow (a .id) (s .votes)) (s .held) (s .noted) ok refl
+      formed-alike s (enter a (s .log)) (joinYellow (a .id) (s .votes)) (s .noted) ok refl
       (subst Body (yellow-entered next) (yellow-body s (body s (well-formed-facts s ok)) a d))
 
 -- ---- green, as the code makes it
@@ -104,7 +104,6 @@ module _ (h : ActionHead) (p b : List ℕ) where
       covers = record {
         servers = (refl, refl);
         quota = (refl, refl);
-        held = inl (omega arith);
         states = inl refl;
         ids = inl (omega arith);
         own = inl (omega arith);
@@ -149,7 +148,6 @@ module _ (h : ActionHead) (p b : List ℕ) where
       covers = record {
         servers = (refl, refl);
         quota = (refl, refl);
-        held = inl (omega arith);
         states = inl refl;
         ids = inr (begins-refl _);
         own = inl (omega arith);

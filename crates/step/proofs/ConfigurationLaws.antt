@@ -10,7 +10,7 @@ use Rattle.base.specs.Tests.{_or_, _=?_, pick}
 use Rattle.format.specs.Types.{Record, regular, transitional}
 use Rattle.record.specs.declared.State.{State as Numbers}
 use Rattle.replication.specs.Machine.Types.{Mode, Configuration, Server, Outcome, withVotes}
-use Rattle.replication.specs.Machine.Rules.{Rule, joining, joiningUnmarked, joiningYellow, leaving, onRegular, ruleFor, regularDue, transitionalDue, possible, fromMember, isIgnored, withinQuota, withinHeld}
+use Rattle.replication.specs.Machine.Rules.{Rule, joining, joiningUnmarked, joiningYellow, leaving, onRegular, ruleFor, regularDue, transitionalDue, possible, fromMember, isIgnored, withinQuota}
 use Rattle.replication.specs.Machine.Step.{join, unmarked, yellowValid, leave, apply, answer}
 use Rattle.replication.specs.Machine.WellFormedRanges.{ConfigurationFits}
 use Rattle.replication.specs.Laws.RuleFits.{RuleFits}
@@ -58,7 +58,7 @@ module _ (h : Numbers) (id set : ℕ) (b o : List ℕ) (f : LentSuch (InForce h 
       -- In the state of the number l it is taken by the rule k.
       module _ (l : ℕ) (k : Rule) (e : h .mode ≡ l) (i : onRegular (modeNamed l) c ≡ some k) (heard : isIgnored k ≡ false) where
         passes : (s : Server) → Holds s b → Passes s r k
-        unfolding ruleFor configurationOf possible fromMember withinQuota withinHeld _or_
+        unfolding ruleFor configurationOf possible fromMember withinQuota _or_
         passes s y =
             record {
               rule = numbers-at (λ m. onRegular m c ≡ some k) h s l (force s y .numbers) e i;
@@ -66,7 +66,6 @@ module _ (h : Numbers) (id set : ℕ) (b o : List ℕ) (f : LentSuch (InForce h 
                   ∙ not-false t n;
               member = rw heard refl;
               quota = refl;
-              held = refl;
             }
 
         ready : (RuleFits k (f .state) → ConfigurationFits (f .state .servers) (f .state .me) c)
@@ -153,7 +152,7 @@ module _ (h : Numbers) (set : ℕ) (b : List ℕ) (f : HoldsSuch (InForce h (tra
     pub transitional-left : (t : Bool) → ((s : Server) → h ≡ headerOf s → t ≡ transitionalDue (s .membership)) → (l ≡ 8 → ⊥) → not t ≡ false
         → (v : Answer) (z : List ℕ) → ((s : Server) (m : Mode) → Holds s b → l ≡ modeNumber m → z ≡ image (leave m set s) b) → v ≡ quietly
         → (s : Server) (o : List ℕ) → Holds s b → answered v z o ≡ outcomeOn (answer s (transitional set)) b o
-    unfolding ruleFor possible isIgnored fromMember withinQuota withinHeld _or_ apply
+    unfolding ruleFor possible isIgnored fromMember withinQuota _or_ apply
     transitional-left t d e n v z w q s o y =
         let k = leads (s .membership .mode) set (λ i. e (after s y ∙ i)) in
         let p : Passes s x (leaving (k .0) set) = record {
@@ -162,6 +161,5 @@ module _ (h : Numbers) (set : ℕ) (b : List ℕ) (f : HoldsSuch (InForce h (tra
               ∙ not-false t n;
           member = refl;
           quota = refl;
-          held = refl;
         } in
         quiet-as s (leave (k .0) set s) (answer s x) v b z o q (passed s x (leaving (k .0) set) p) (w s (k .0) y (after s y ∙ k .2))

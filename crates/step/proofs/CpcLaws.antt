@@ -13,7 +13,7 @@ use Rattle.format.specs.Types.{Record, cpc}
 use Rattle.format.specs.Range.{fieldsOk}
 use Rattle.record.specs.declared.State.{State as Numbers}
 use Rattle.replication.specs.Machine.Types.{Mode, Non-prim, Reg-prim, Trans-prim, Exchange-states, Exchange-actions, Construct, No, Un, Server, Outcome, contextOf}
-use Rattle.replication.specs.Machine.Rules.{Rule, ignoring, collectingCpc, collectingLateCpc, onCpc, ruleFor, possible, fromMember, isIgnored, withinQuota, withinHeld}
+use Rattle.replication.specs.Machine.Rules.{Rule, ignoring, collectingCpc, collectingLateCpc, onCpc, ruleFor, possible, fromMember, isIgnored, withinQuota}
 use Rattle.replication.specs.Machine.Step.{quiet, collectCpc, collectLateCpc, apply, answer}
 use Rattle.engine.specs.Image.{modeNumber, image}
 use Rattle.engine.specs.Header.{headerOf}
@@ -71,10 +71,10 @@ module _ (h : Numbers) (k id : ℕ) (b o : List ℕ) (f : LentSuch (InForce h (c
   force s y = lent-fact (InForce h r) b o s f y
 
   pub cpc-passed-over : h .mode ≡ 0 → (v : Answer) → v ≡ quietly → (s : Server) → Holds s b → answered v b o ≡ outcomeOn (answer s (cpc k id)) b o
-  unfolding modeNamed pick _=?_ onCpc ruleFor possible isIgnored withinQuota withinHeld _or_ apply modeNumber
+  unfolding modeNamed pick _=?_ onCpc ruleFor possible isIgnored withinQuota _or_ apply modeNumber
   cpc-passed-over m v q s y =
       let z : onCpc (s .membership .mode) k ≡ some ignoring = numbers-at (λ l. onCpc l k ≡ some ignoring) h s 0 (force s y .numbers) m refl in
-      quiet-as s s (answer s r) v b b o q (passed s r ignoring (record { rule = z; possible = refl; member = refl; quota = refl; held = refl }))
+      quiet-as s s (answer s r) v b b o q (passed s r ignoring (record { rule = z; possible = refl; member = refl; quota = refl }))
       (sym (y .written))
 
   module _ (m : h .mode ≡ 0 → ⊥) (t : Bool) (g : (l : Mode) (i : ℕ) → h .mode ≡ modeNumber l → t ≡ isThere (onCpc l i)) where
@@ -100,9 +100,9 @@ module _ (h : Numbers) (k id : ℕ) (b o : List ℕ) (f : LentSuch (InForce h (c
 
       module _ (n : not u ≡ false) where
         passes : (s : Server) → Holds s b → (j : Rule) → onCpc (s .membership .mode) k ≡ some j → isIgnored j ≡ false → Passes s r j
-        unfolding ruleFor possible withinQuota withinHeld _or_
+        unfolding ruleFor possible withinQuota _or_
         passes s y j z l =
-            record { rule = z; possible = refl; member = rw l (sym (d s (force s y .numbers)) ∙ not-false u n); quota = refl; held = refl }
+            record { rule = z; possible = refl; member = rw l (sym (d s (force s y .numbers)) ∙ not-false u n); quota = refl }
 
         -- ---- in Construct
 

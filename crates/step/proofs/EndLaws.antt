@@ -1,4 +1,4 @@
--- The end of an exchange in place: what the States decide, then an attempt or held requests.
+-- The end of an exchange in place: what the States decide, then an attempt, or what waits is sent.
 -- Assumes nothing.
 use Prim.Native.Nat.{ℕ, _+_, _*_, _≤_}
 use mathlib.Core.Path.{_≡_, refl, sym, ap, _∙_}
@@ -22,21 +22,19 @@ use Rattle.writer.specs.declared.records.Written.the-variants.{Next, Full}
 use Rattle.writer.specs.Written.{put, putOf}
 use Rattle.replication.specs.Machine.Types.{Non-prim, Votes, Configuration, Server, withMembership, withMode, inMode, contextOf}
 use Rattle.replication.specs.Machine.Exchange.{quorum, takenVotes, takenYellow, attempted}
-use Rattle.replication.specs.Machine.Requests.{madeOf, numbered, sendHeld, heldRecords}
+use Rattle.replication.specs.Machine.Requests.{sendWaiting, waitingRecords}
 use Rattle.replication.specs.Machine.Step.{theId, hereSet, hereId, collected, decided, attempting, stored, endExchange}
 use Rattle.replication.specs.Machine.WellFormed.{queue, wellFormed}
 use Rattle.replication.specs.Machine.WellFormedFacts.{Configured}
-use Rattle.engine.specs.Layout.{outLength}
+use Rattle.engine.specs.Layout.{headerSize, outLength}
 use Rattle.engine.specs.Image.{image}
 use Rattle.engine.specs.Header.{idOf, headerOf, headerIn}
 use Rattle.engine.proofs.HeaderLaws.{header-loaded}
 use Rattle.engine.proofs.InRange.{in-range}
 use Rattle.engine.specs.Holding.{Holds, HoldsSuch, HoldsSome}
-use Rattle.engine.proofs.InPlace.{such-fact, holds-some}
+use Rattle.engine.proofs.InPlace.{such-fact, holds-header, holds-some}
 use Rattle.updates.specs.declared.votes.VoteNumbers.{VoteNumbers}
-use Rattle.updates.specs.Sending.{SendReady}
 use Rattle.updates.specs.Standing.{voteNumbers}
-use Rattle.updates.proofs.Sent.{holds-ready}
 use Rattle.exchange.specs.declared.decided.TakenVotes.{TakenVotes}
 use Rattle.exchange.specs.Decided.{votesNumbers}
 use Rattle.exchange.specs.Table.{Listed}
@@ -98,7 +96,7 @@ unfolding endExchange
 end-attempting s t q = sym (pick-yes _ _ _ _ q refl)
 
 end-staying : (s t : Server) → quorum (collected t) (hereSet t) ≡ false
-    → endExchange s t ≡ stored s (sendHeld (inMode Non-prim (decided t))) (heldRecords (inMode Non-prim (decided t)))
+    → endExchange s t ≡ stored s (sendWaiting (inMode Non-prim (decided t))) (waitingRecords (inMode Non-prim (decided t)))
 unfolding endExchange
 end-staying s t q = sym (pick-no _ _ _ _ q refl)
 
@@ -116,7 +114,7 @@ Attempts t = Configured t × (t .membership .mode ≡ Non-prim) × (quorum (coll
 
 attempt-covers : (t : Server) → Covers t (decided t) (attempting (decided t))
 unfolding attempting attempted decided
-attempt-covers t = numbers-then t (decided t) (attempting (decided t)) (refl, refl) (refl, refl) refl refl refl refl refl
+attempt-covers t = numbers-then t (decided t) (attempting (decided t)) (refl, refl) (refl, refl) refl refl refl refl
 
 id-here : (d : Option Configuration) → idOf d ≡ theId d
 unfolding idOf theId
@@ -169,12 +167,11 @@ module _ (b o : List ℕ) (m : LentSuch Attempts b o) where
 abbrev pub Stays : Server → Type 0
 Stays t = Configured t × (t .membership .mode ≡ Non-prim) × (quorum (collected t) (hereSet t) ≡ false)
 
-stay-covers : (t : Server) → Covers t (decided t) (sendHeld (decided t))
-unfolding decided sendHeld numbered queue
+stay-covers : (t : Server) → Covers t (decided t) (sendWaiting (decided t))
+unfolding decided sendWaiting queue
 stay-covers t = record {
   servers = (refl, refl);
   quota = (refl, refl);
-  held = inr (begins-refl _);
   states = inl refl;
   ids = inl (omega arith);
   own = inr (begins-refl _);
@@ -186,28 +183,28 @@ idle-same : (t : Server) → Idle t → decided t ≡ inMode Non-prim (decided t
 unfolding decided
 idle-same t e = λ i. withMembership (withMode (e i) (t .membership)) (decided t)
 
--- The votes and noted lengths do not matter to held requests.
-same-records : (t : Server) → heldRecords t ≡ heldRecords (decided t)
-unfolding heldRecords madeOf decided
+-- The votes and noted lengths do not matter to what waits.
+same-records : (t : Server) → waitingRecords t ≡ waitingRecords (decided t)
+unfolding waitingRecords decided
 same-records t = refl
 
 module _ (b o : List ℕ) (m : LentSuch Stays b o) where
-  pub stay-ready : (c : List ℕ) → Decided b c → SendReady c
-  stay-ready c f = holds-ready (decided (m .state)) c (decided-holds (m .state) b c (m .holds) (m .fact .1) f)
+  pub stay-ready : (c : List ℕ) → Decided b c → headerSize ≤ length c
+  stay-ready c f = holds-header (decided (m .state)) c (decided-holds (m .state) b c (m .holds) (m .fact .1) f)
 
   pub stay-made : (n : ℕ) (o₁ c d : List ℕ)
-      → ((t : Server) → Holds t b → (n ≡ length (recordBytes (heldRecords t))) × (o₁ ≡ over (recordBytes (heldRecords t)) o))
-      → Decided b c → ((t : Server) → Holds t c → d ≡ image (sendHeld t) c) → (r : Answer) → r ≡ storedFirst n
+      → ((t : Server) → Holds t b → (n ≡ length (recordBytes (waitingRecords t))) × (o₁ ≡ over (recordBytes (waitingRecords t)) o))
+      → Decided b c → ((t : Server) → Holds t c → d ≡ image (sendWaiting t) c) → (r : Answer) → r ≡ storedFirst n
       → (s t : Server) → Holds t b → answered r d o₁ ≡ outcomeOn (endExchange s t) b o
   stay-made n o₁ c d f g k r a s t y =
       let z : Stays t = lent-fact Stays b o t m y in
       let u : Server = decided t in
-      let formed : wellFormed (sendHeld u) ≡ true = rw (idle-same t (z .1)) (staying-formed t (y .formed)) in
-      let made : d ≡ image (sendHeld u) b =
-      chained t u (sendHeld u) b y (decided-formed t (y .formed) (z .1)) formed (stay-covers t) c d (g t y) (k u (decided-holds t b c y (z .1) g)) in
-      stored-outcome s (sendHeld u) (heldRecords u) b o d o₁ n r a made (f t y .0 ∙ ap (λ v. length (recordBytes v)) (same-records t))
+      let formed : wellFormed (sendWaiting u) ≡ true = rw (idle-same t (z .1)) (staying-formed t (y .formed)) in
+      let made : d ≡ image (sendWaiting u) b =
+      chained t u (sendWaiting u) b y (decided-formed t (y .formed) (z .1)) formed (stay-covers t) c d (g t y) (k u (decided-holds t b c y (z .1) g)) in
+      stored-outcome s (sendWaiting u) (waitingRecords u) b o d o₁ n r a made (f t y .0 ∙ ap (λ v. length (recordBytes v)) (same-records t))
       (f t y .1 ∙ ap (λ v. over (recordBytes v) o) (same-records t))
-      ∙ (λ i. outcomeOn (stored s (sendHeld (idle-same t (z .1) i)) (heldRecords (idle-same t (z .1) i))) b o)
+      ∙ (λ i. outcomeOn (stored s (sendWaiting (idle-same t (z .1) i)) (waitingRecords (idle-same t (z .1) i))) b o)
       ∙ ap (λ v. outcomeOn v b o) (sym (end-staying s t (z .2)))
 
 -- ---- which of both

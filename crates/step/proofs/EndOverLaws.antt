@@ -6,14 +6,14 @@ use mathlib.Core.Bool.{true}
 use mathlib.Core.List.{List, [], _∷_, map}
 use mathlib.Core.Logic.{inl}
 use native.Mathlib.Omega.{arith}
-use lib.ListN.{length, length-append}
+use lib.ListN.{length}
 use Rattle.base.specs.Bytes.{joined, over}
 use Rattle.base.proofs.TestLaws.{pick-as}
 use Rattle.format.specs.Types.{Record, cpc}
 use Rattle.format.specs.Write.{write}
 use Rattle.replication.specs.Machine.Types.{Non-prim, Server, inMode}
 use Rattle.replication.specs.Machine.Exchange.{quorum, attempted}
-use Rattle.replication.specs.Machine.Requests.{madeOf, numbered, sendHeld, heldRecords}
+use Rattle.replication.specs.Machine.Requests.{sendWaiting, waitingRecords}
 use Rattle.replication.specs.Machine.Step.{hereSet, hereId, collected, decided, attempting, stored, sent, inBytes, endExchange}
 use Rattle.replication.specs.Machine.WellFormed.{queue, wellFormed}
 use Rattle.replication.specs.Machine.WellFormedFacts.{Configured}
@@ -42,11 +42,10 @@ end-mode w t = refl
 
 -- ---- from s to t, then to the end
 
--- The exchange has not changed what is held back, nor the yellow list.
+-- The exchange has not changed the yellow list.
 pub record Before (s t : Server) : Type 0 where
   pub servers : t .servers ≡ s .servers
   pub quota : t .quota ≡ s .quota
-  pub held : t .held ≡ s .held
   pub ids : t .votes .yellow .ids ≡ s .votes .yellow .ids
 
 module _ (s t : Server) (p : Before s t) where
@@ -55,22 +54,20 @@ module _ (s t : Server) (p : Before s t) where
   attempt-covers = record {
     servers = (p .servers, p .servers);
     quota = (p .quota, p .quota);
-    held = inl (omega arith);
     states = inl refl;
     ids = same-begins (s .votes .yellow .ids) (t .votes .yellow .ids) (attempting (decided t) .votes .yellow .ids) (p .ids);
     own = inl (omega arith);
     actions = inl (omega arith);
   }
 
-  stay-covers : Covers s t (sendHeld (inMode Non-prim (decided t)))
-  unfolding sendHeld numbered decided queue
+  stay-covers : Covers s t (sendWaiting (inMode Non-prim (decided t)))
+  unfolding sendWaiting decided queue
   stay-covers = record {
     servers = (p .servers, p .servers);
     quota = (p .quota, p .quota);
-    held = same-begins (s .held) (t .held) [] (p .held);
     states = inl refl;
     ids = same-begins (s .votes .yellow .ids) (t .votes .yellow .ids) (decided t .votes .yellow .ids) (p .ids);
-    own = inl (omega (arith, length-append (t .log .own) (madeOf (t .held) (inMode Non-prim (decided t)))));
+    own = inl (omega arith);
     actions = inl (omega arith);
   }
 
@@ -80,12 +77,12 @@ module _ (s t : Server) (p : Before s t) where
   end-over b c o r ok d e w =
       pick-as (λ v. outcomeOn v c o ≡ outcomeOn v b o) (quorum (collected t) (hereSet t))
       (stored w (attempting (decided t)) (cpc (t .me) (hereId t) ∷ []))
-      (stored w (sendHeld (inMode Non-prim (decided t))) (heldRecords (inMode Non-prim (decided t))))
+      (stored w (sendWaiting (inMode Non-prim (decided t))) (waitingRecords (inMode Non-prim (decided t))))
       (λ q. stored-over w (attempting (decided t)) (cpc (t .me) (hereId t) ∷ []) b c o
       (over-first (attempting (decided t)) (attempting-formed t ok d q) attempt-covers))
       (λ q.
-      stored-over w (sendHeld (inMode Non-prim (decided t))) (heldRecords (inMode Non-prim (decided t))) b c o
-      (over-first (sendHeld (inMode Non-prim (decided t))) (staying-formed t ok) stay-covers))
+      stored-over w (sendWaiting (inMode Non-prim (decided t))) (waitingRecords (inMode Non-prim (decided t))) b c o
+      (over-first (sendWaiting (inMode Non-prim (decided t))) (staying-formed t ok) stay-covers))
     where
       over-first : (u : Server) → wellFormed u ≡ true → Covers s t u → image u c ≡ image u b
       over-first u fine covers = ap (image u) e ∙ image-over s t u b r ok fine covers

@@ -36,7 +36,7 @@ come-read s b r = ap (λ (h : State). h .come) (header-loaded s b r)
 
 last-before : (k : ℕ) (a : Action) (s : Server) → Before s (inMode Non-prim (exchanged k a s))
 unfolding exchanged oneMore
-last-before k a s = record { servers = refl; quota = refl; held = refl; ids = refl }
+last-before k a s = record { servers = refl; quota = refl; ids = refl }
 
 module _ (h : ActionHead) (p b o : List ℕ) (planned come : ℕ)
     (m : LentSuch (λ s. Delivered s (actionOf h p) × (s .membership .mode ≡ Exchange-actions)) b o)

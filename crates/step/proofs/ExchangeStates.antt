@@ -9,7 +9,7 @@ use Rattle.base.proofs.TestLaws.{and-holds, lt-holds, le-fails, eq-fails}
 use Rattle.format.specs.Types.{Action, State}
 use Rattle.replication.specs.Machine.Types.{Mode, Non-prim, Exchange-states, Exchange-actions, Server, withLog, inMode}
 use Rattle.replication.specs.Machine.Exchange.{quorum, takenVotes, attempted}
-use Rattle.replication.specs.Machine.Requests.{numbered, sendHeld}
+use Rattle.replication.specs.Machine.Requests.{numbered, sendWaiting}
 use Rattle.replication.specs.Machine.Step.{hereSet, collected, decided, attempting, withState, allStatesIn, plannedNow, resending, placed, oneMore, exchanged, allCome}
 use Rattle.replication.specs.Machine.WellFormed.{wellFormed}
 use Rattle.replication.specs.Machine.WellFormedFacts.{Configured, StatesIn, ModeFits}
@@ -18,7 +18,7 @@ use Rattle.replication.proofs.WellFormed.Numbering.{placed-fits}
 use Rattle.replication.proofs.WellFormed.Decisions.{planned-bound}
 use Rattle.replication.proofs.WellFormed.Changes.{Body, body, whole, mode-changed, in-mode, collected-fit, here-below}
 use Rattle.replication.specs.Laws.RuleFits.{Delivered, StateCame}
-use Rattle.replication.proofs.WellFormed.Effects.{exchanged-body, send-held-body}
+use Rattle.replication.proofs.WellFormed.Effects.{exchanged-body, send-waiting-body}
 use Rattle.replication.proofs.WellFormed.Exchanges.{decided-body, attempting-body, with-state-body}
 use Rattle.replication.proofs.WellFormed.Modes.{all-in-facts}
 use Rattle.queue.proofs.Holding.{log-formed, log-fits}
@@ -83,11 +83,11 @@ module _ (s : Server) (ok : wellFormed s ≡ true) where
       (whole (attempting (decided s)) (attempting-body (decided s) (decided-body s in-body) (lt-holds _ _ (z .1)) (here-below s in-body (c .0) (c .1)))
       (c, lt-holds _ _ (z .0)))
 
-  pub staying-formed : wellFormed (sendHeld (inMode Non-prim (decided s))) ≡ true
-  unfolding sendHeld numbered decided
+  pub staying-formed : wellFormed (sendWaiting (inMode Non-prim (decided s))) ≡ true
+  unfolding sendWaiting numbered decided
   staying-formed =
-      facts-well-formed (sendHeld (inMode Non-prim (decided s)))
-      (whole (sendHeld (inMode Non-prim (decided s))) (send-held-body (inMode Non-prim (decided s)) (in-mode (decided s) (decided-body s in-body) Non-prim)) tt)
+      facts-well-formed (sendWaiting (inMode Non-prim (decided s)))
+      (whole (sendWaiting (inMode Non-prim (decided s))) (send-waiting-body (inMode Non-prim (decided s)) (in-mode (decided s) (decided-body s in-body) Non-prim)) tt)
 
   -- ---- States
 

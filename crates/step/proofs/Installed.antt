@@ -1,4 +1,4 @@
--- Install in place: in the state that it leads to, then an action coloured yellow, or the held requests sent.
+-- Install in place: in the state that it leads to, then an action coloured yellow, or what waits sent.
 -- Assumes nothing.
 use Prim.Native.Nat.{ℕ, zero, suc, _≤_, _<_}
 use mathlib.Core.Path.{_≡_, refl, sym, ap, subst, _∙_}
@@ -16,7 +16,7 @@ use Rattle.format.specs.Write.{write, recordBytes}
 use Rattle.replication.specs.Machine.Types.{Mode, Non-prim, Reg-prim, Trans-prim, Exchange-states, Exchange-actions, Construct, No, Un, Log, Server, withLog, withVotes, inMode, noYellow}
 use Rattle.replication.specs.Machine.Colours.{isNext, enter, joinYellow, yellow}
 use Rattle.replication.specs.Machine.Install.{idsUpTo, installVotes, install}
-use Rattle.replication.specs.Machine.Requests.{numbered, sendHeld, heldRecords}
+use Rattle.replication.specs.Machine.Requests.{sendWaiting, waitingRecords}
 use Rattle.replication.specs.Machine.Step.{stored, inBytes, installing}
 use Rattle.replication.specs.Machine.WellFormed.{queue, wellFormed}
 use Rattle.replication.specs.Machine.WellFormedFacts.{Configured, ModeFits}
@@ -24,7 +24,7 @@ use Rattle.replication.proofs.Step.Logs.{yellow-as}
 use Rattle.replication.proofs.Step.Numbered.{numbers-install}
 use Rattle.replication.proofs.WellFormed.Facts.{well-formed-facts, facts-well-formed}
 use Rattle.replication.proofs.WellFormed.Changes.{Body, body, whole, in-mode}
-use Rattle.replication.proofs.WellFormed.Effects.{install-body, send-held-body}
+use Rattle.replication.proofs.WellFormed.Effects.{install-body, send-waiting-body}
 use Rattle.replication.specs.Laws.RuleFits.{Delivered}
 use Rattle.engine.specs.Image.{modeNumber, image}
 use Rattle.engine.specs.Outcome.{word, resultOf}
@@ -75,12 +75,12 @@ module _ (k : ℕ) (s : Server) (m : Mode) (ok : wellFormed s ≡ true) (i : Ins
       facts-well-formed (inMode m (install s))
       (whole (inMode m (install s)) installed-body (primary-fits m k (i .from) (i .to) e (inMode m (install s)) (i .configured)))
 
-  pub sent-formed : wellFormed (sendHeld (inMode m (install s))) ≡ true
-  unfolding install sendHeld numbered
+  pub sent-formed : wellFormed (sendWaiting (inMode m (install s))) ≡ true
+  unfolding install sendWaiting
   sent-formed =
-      facts-well-formed (sendHeld (inMode m (install s)))
-      (whole (sendHeld (inMode m (install s))) (send-held-body (inMode m (install s)) installed-body)
-      (primary-fits m k (i .from) (i .to) e (sendHeld (inMode m (install s))) (i .configured)))
+      facts-well-formed (sendWaiting (inMode m (install s)))
+      (whole (sendWaiting (inMode m (install s))) (send-waiting-body (inMode m (install s)) installed-body)
+      (primary-fits m k (i .from) (i .to) e (sendWaiting (inMode m (install s))) (i .configured)))
 
 yellow-formed : (a : Action) (s : Server) → wellFormed s ≡ true → Delivered s a → wellFormed (yellow a s) ≡ true
 yellow-formed a s ok d = yellow-as (λ u. wellFormed u ≡ true) a s (λ e. joined-formed s a ok d e) (λ e. ok)
@@ -115,7 +115,6 @@ module _ (k : ℕ) (b c : List ℕ) (p : HoldsSuch (Installs k) b) (f : (s : Ser
       covers = record {
         servers = (refl, refl);
         quota = (refl, refl);
-        held = inl (omega arith);
         states = inr refl;
         ids = inr (begins-refl _);
         own = inr (begins-refl _);
@@ -151,7 +150,6 @@ yellow-covers m a s ok = yellow-as (Covers s t) a t entered (λ e. kept)
     entered e = record {
       servers = (refl, refl);
       quota = (refl, refl);
-      held = inl (omega arith);
       states = inl refl;
       ids = inl (omega arith);
       own = inr (begins-same _ _ (sym (own-kept s ok)));
@@ -167,7 +165,6 @@ yellow-covers m a s ok = yellow-as (Covers s t) a t entered (λ e. kept)
     kept = record {
       servers = (refl, refl);
       quota = (refl, refl);
-      held = inl (omega arith);
       states = inl refl;
       ids = inl (omega arith);
       own = inl (omega arith);
@@ -214,22 +211,13 @@ module _ (a : Action) (b : List ℕ) (p : HoldsSuch (λ s. Delivered s a × (s .
         (yellow-covers Trans-prim a s (r .formed)) c d (f s Trans-prim r refl) (g t held)
         ∙ ap (λ (x : Server). image x b) (yellow-in-mode Trans-prim a (install s))
 
--- ---- held requests sent
+-- ---- what waits is sent
 
-pub requests-sent : (b d o u : List ℕ) (n : ℕ) (a : Answer) → a ≡ storedFirst n
-    → ((s : Server) → Holds s b → (n ≡ length (recordBytes (heldRecords s))) × (u ≡ over (recordBytes (heldRecords s)) o))
-    → ((s : Server) → Holds s b → d ≡ image (sendHeld s) b)
-    → (s t : Server) → Holds t b → answered a d u ≡ outcomeOn (stored s (sendHeld t) (heldRecords t)) b o
-unfolding answered outcomeOn resultOf inBytes stored recordBytes word
-requests-sent b d o u n a e f g s t r =
-    λ i. record { number = e i .number; store = e i .store; sent = (ap (λ (x : Answer). x .sent) e ∙ f t r .0) i; state = g t r i; out = f t r .1 i }
-
-sent-covers : (t : Server) → wellFormed t ≡ true → Covers t (inMode Reg-prim (install t)) (sendHeld (inMode Reg-prim (install t)))
-unfolding install installVotes noYellow sendHeld numbered queue
+sent-covers : (t : Server) → wellFormed t ≡ true → Covers t (inMode Reg-prim (install t)) (sendWaiting (inMode Reg-prim (install t)))
+unfolding install installVotes noYellow sendWaiting queue
 sent-covers t ok = record {
   servers = (refl, refl);
   quota = (refl, refl);
-  held = inr (begins-refl _);
   states = inl refl;
   ids = inl (omega arith);
   own = inr (begins-same _ _ (sym (own-kept t ok)));
@@ -263,12 +251,12 @@ module _ (b o : List ℕ) (p : LentSuch (λ t. Configured t × (t .votes .last .
     primary-lent = record { state = inMode Reg-prim (install (p .state)); holds = primary-holds (p .state) (p .holds); fact = omega arith; room = p .room }
 
     pub primary-sent : (a : Answer) (d u : List ℕ)
-        → ((s t : Server) → Holds t c → answered a d u ≡ outcomeOn (stored s (sendHeld t) (heldRecords t)) c o)
+        → ((s t : Server) → Holds t c → answered a d u ≡ outcomeOn (stored s (sendWaiting t) (waitingRecords t)) c o)
         → (s t : Server) → Holds t b → answered a d u ≡ outcomeOn (installing s t) b o
     unfolding installing modeNumber
     primary-sent a d u g s t r =
         let v : Server = inMode Reg-prim (install t) in
         let held : Holds v c = primary-holds t r in
         g s v held
-        ∙ stored-over t v (sendHeld v) s (heldRecords v) b c o r (held .formed) (sent-formed 1 t Reg-prim (r .formed) (to-primary t r) refl)
+        ∙ stored-over t v (sendWaiting v) s (waitingRecords v) b c o r (held .formed) (sent-formed 1 t Reg-prim (r .formed) (to-primary t r) refl)
         (sent-covers t (r .formed)) (f t Reg-prim r refl)

@@ -13,7 +13,7 @@ use Rattle.base.specs.Tests.{pick}
 use Rattle.format.specs.Limits.{mostIndex}
 use Rattle.replication.specs.Machine.Types.{Mode, Non-prim, Reg-prim, Trans-prim, Exchange-states, Exchange-actions, Construct, No, Un, Server, contextOf, inMode}
 use Rattle.replication.specs.Machine.Install.{install}
-use Rattle.replication.specs.Machine.Requests.{numbered, sendHeld, heldRecords}
+use Rattle.replication.specs.Machine.Requests.{numbered, sendWaiting, waitingRecords}
 use Rattle.replication.specs.Machine.Step.{quiet, inBytes, collected, hereSet, plannedNow, withCpc, allCpcsIn, installing, collectCpc}
 use Rattle.replication.specs.Machine.WellFormed.{wellFormed}
 use Rattle.replication.specs.Machine.WellFormedFacts.{Configured, ModeFits}
@@ -89,7 +89,7 @@ module _ (k : ℕ) (b c o : List ℕ) (p : LentSuch (λ s. (k < s .servers) × (
 
     pub cpc-complete : all ≡ true → (a : Answer) (d u : List ℕ) → ((s t : Server) → Holds t c → answered a d u ≡ outcomeOn (installing s t) c o)
         → (s : Server) → Holds s b → answered a d u ≡ outcomeOn (collectCpc k s) b o
-    unfolding collectCpc installing pick withCpc install sendHeld numbered modeNumber
+    unfolding collectCpc installing pick withCpc install sendWaiting numbered modeNumber
     cpc-complete e a d u g s r =
         let t : Server = withCpc k s in
         let v : Server = inMode Reg-prim (install t) in
@@ -97,17 +97,16 @@ module _ (k : ℕ) (b c o : List ℕ) (p : LentSuch (λ s. (k < s .servers) × (
         let z : allCpcsIn t ≡ true = sym (told t held) ∙ e in
         rw z
         (g s t held
-        ∙ stored-over s t (sendHeld v) s (heldRecords v) b c o r (held .formed)
+        ∙ stored-over s t (sendWaiting v) s (waitingRecords v) b c o r (held .formed)
         (sent-formed 1 t Reg-prim (held .formed) (installs s r) refl) (covers s) (f s r))
       where
         installs : (s : Server) → Holds s b → Installs 1 (withCpc k s)
         installs s r = record { from = omega arith; to = omega arith; configured = may-install s r .0; index = may-install s r .1 }
 
-        covers : (s : Server) → Covers s (withCpc k s) (sendHeld (inMode Reg-prim (install (withCpc k s))))
+        covers : (s : Server) → Covers s (withCpc k s) (sendWaiting (inMode Reg-prim (install (withCpc k s))))
         covers s = record {
           servers = (refl, refl);
           quota = (refl, refl);
-          held = inr (begins-refl _);
           states = inr refl;
           ids = inr (begins-refl _);
           own = inr (begins-refl _);
@@ -151,7 +150,6 @@ module _ (k : ℕ) (b c : List ℕ) (m : HoldsSuch (λ s. (k < s .servers) × (s
         covers = record {
           servers = (refl, refl);
           quota = (refl, refl);
-          held = inl (omega arith);
           states = inl refl;
           ids = inl (omega arith);
           own = inl (omega arith);

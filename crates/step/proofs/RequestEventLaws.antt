@@ -1,4 +1,4 @@
--- Requests: rows 3 and 4, as the code tests them.
+-- Requests: row 3, as the code tests it.
 -- Assumes nothing.
 use mathlib.Core.Path.{_≡_, refl, sym, ap, _∙_}
 use mathlib.Core.Bool.{Bool, true, false, not}
@@ -9,17 +9,17 @@ use Rattle.base.specs.Tests.{_or_}
 use Rattle.format.specs.Types.{Record, request}
 use Rattle.record.specs.declared.State.{State as Numbers}
 use Rattle.replication.specs.Machine.Types.{Server, Outcome}
-use Rattle.replication.specs.Machine.Requests.{quotaLeft, roomToHold}
-use Rattle.replication.specs.Machine.Rules.{requesting, ruleFor, possible, fromMember, isIgnored, withinQuota, withinHeld}
+use Rattle.replication.specs.Machine.Requests.{quotaLeft}
+use Rattle.replication.specs.Machine.Rules.{requesting, ruleFor, possible, fromMember, isIgnored, withinQuota}
 use Rattle.replication.specs.Machine.Step.{requested, apply, answer}
-use Rattle.replication.specs.Machine.WellFormedRanges.{PayloadFits}
 use Rattle.engine.specs.Header.{headerOf}
 use Rattle.engine.specs.Holding.{Holds}
 use Rattle.step.specs.declared.Answer.{Answer}
 use Rattle.outgoing.specs.Lent.{LentSuch}
 use Rattle.step.specs.Answers.{answered, outcomeOn, InForce, refusedWith}
+use Rattle.step.specs.Events.{Asked}
 use Rattle.outgoing.proofs.LentFacts.{lent-fact}
-use Rattle.step.proofs.AnswerLaws.{Passes, above-quota, above-held, passed, passed-fits, refused-as}
+use Rattle.step.proofs.AnswerLaws.{Passes, above-quota, passed, passed-fits, refused-as}
 
 module _ (h : Numbers) (p b o : List ℕ) (f : LentSuch (InForce h (request p)) b o) (t : Bool)
     (g : (s : Server) → h ≡ headerOf s → t ≡ quotaLeft s) where
@@ -34,28 +34,18 @@ module _ (h : Numbers) (p b o : List ℕ) (f : LentSuch (InForce h (request p)) 
   quota-used n v q s y =
       refused-as (answer s r) v 3 b o q (above-quota s r (requesting p) refl refl refl (sym (g s (force s y .numbers)) ∙ not-true t n))
 
-  module _ (left : not t ≡ false) (u : Bool) (d : (s : Server) → h ≡ headerOf s → u ≡ roomToHold s) where
-    quota : (s : Server) → Holds s b → withinQuota s r ≡ true
-    unfolding withinQuota
-    quota s y = sym (g s (force s y .numbers)) ∙ not-false t left
+  module _ (left : not t ≡ false) where
+    passes : (s : Server) → Holds s b → Passes s r (requesting p)
+    unfolding ruleFor possible isIgnored fromMember withinQuota _or_
+    passes s y = record { rule = refl; possible = refl; member = refl; quota = sym (g s (force s y .numbers)) ∙ not-false t left }
 
-    pub held-full : not u ≡ true → (v : Answer) → v ≡ refusedWith 4 → (s : Server) → Holds s b → answered v b o ≡ outcomeOn (answer s (request p)) b o
-    unfolding ruleFor possible isIgnored fromMember withinHeld _or_
-    held-full n v q s y =
-        refused-as (answer s r) v 4 b o q (above-held s r (requesting p) refl refl refl (quota s y) (sym (d s (force s y .numbers)) ∙ not-true u n))
+    pub request-ready : LentSuch (Asked p h) b o
+    request-ready =
+        let s : Server = f .state in
+        let fits = passed-fits s r (requesting p) (f .holds .formed) (f .fact .range) (passes s (f .holds)) in
+        record { state = s; holds = f .holds; fact = (fits .0, fits .1, f .fact .numbers); room = f .room }
 
-    module _ (n : not u ≡ false) where
-      passes : (s : Server) → Holds s b → Passes s r (requesting p)
-      unfolding ruleFor possible isIgnored fromMember withinHeld _or_
-      passes s y = record { rule = refl; possible = refl; member = refl; quota = quota s y; held = sym (d s (force s y .numbers)) ∙ not-false u n }
-
-      pub request-ready : LentSuch (λ s. PayloadFits p × (quotaLeft s ≡ true) × (roomToHold s ≡ true) × (h ≡ headerOf s)) b o
-      request-ready =
-          let s : Server = f .state in
-          let fits = passed-fits s r (requesting p) (f .holds .formed) (f .fact .range) (passes s (f .holds)) in
-          record { state = s; holds = f .holds; fact = (fits .0, fits .1, fits .2, f .fact .numbers); room = f .room }
-
-      pub request-taken : (v : Answer) (c z : List ℕ) → ((s : Server) → Holds s b → answered v c z ≡ outcomeOn (requested p s) b o)
-          → (s : Server) → Holds s b → answered v c z ≡ outcomeOn (answer s (request p)) b o
-      unfolding apply
-      request-taken v c z w s y = w s y ∙ ap (λ (j : Outcome Record). outcomeOn j b o) (sym (passed s r (requesting p) (passes s y)))
+    pub request-taken : (v : Answer) (c z : List ℕ) → ((s : Server) → Holds s b → answered v c z ≡ outcomeOn (requested p s) b o)
+        → (s : Server) → Holds s b → answered v c z ≡ outcomeOn (answer s (request p)) b o
+    unfolding apply
+    request-taken v c z w s y = w s y ∙ ap (λ (j : Outcome Record). outcomeOn j b o) (sym (passed s r (requesting p) (passes s y)))

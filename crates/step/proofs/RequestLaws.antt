@@ -1,109 +1,110 @@
--- A request, sent or held.
+-- A request: numbered, and sent with what waits.
 -- Assumes nothing.
-use Prim.Native.Nat.{ℕ, _+_, _≤_, _<_}
+use Prim.Native.Nat.{ℕ, _≤_}
 use mathlib.Core.Path.{_≡_, refl, sym, ap, _∙_}
-use mathlib.Core.Bool.{Bool, true, false}
-use mathlib.Core.List.{List, [], _∷_, map}
+use mathlib.Core.Bool.{Bool, true, false, not}
+use mathlib.Core.List.{List, []}
+use mathlib.Core.Logic.{inl}
 use native.Mathlib.Omega.{arith}
-use mir.Syntax.{w32}
-use mir.Val.{Fits}
+use borrow.Author.Tests.{not-true, not-false}
 use lib.ListN.{length}
-use Rattle.base.specs.Bytes.{over}
-use Rattle.format.specs.Places.{actionSize}
-use Rattle.base.specs.Tests.{_or_}
-use Rattle.base.proofs.TestLaws.{pick-yes, pick-no, lt-holds, not-both}
-use Rattle.format.specs.Limits.{mostHeld}
-use Rattle.format.specs.Types.{Action, action}
-use Rattle.format.specs.Write.{write, lengthOf, recordBytes}
-use Rattle.format.proofs.Lengths.{write-length}
-use Rattle.record.specs.declared.ActionHead.{ActionHead}
+use Rattle.base.specs.Bytes.{joined, over}
+use Rattle.base.proofs.TestLaws.{pick-yes, pick-no}
+use Rattle.format.specs.Write.{recordBytes}
 use Rattle.record.specs.declared.State.{State}
-use Rattle.writer.specs.declared.records.Written.{Written}
-use Rattle.writer.specs.declared.records.Written.the-variants.{Next, Full}
-use Rattle.record.specs.Values.{actionOf}
-use Rattle.writer.specs.Written.{put, putOf}
 use Rattle.replication.specs.Machine.Types.{Server}
-use Rattle.replication.specs.Machine.Requests.{sendsNow, quotaLeft, roomToHold, madeOf, numbered, hold}
-use Rattle.replication.specs.Machine.Step.{stored, quiet, requested}
-use Rattle.engine.specs.Layout.{outLength}
+use Rattle.replication.specs.Machine.Requests.{sendsNow, quotaLeft, numbered, sendWaiting, waitingRecords}
+use Rattle.replication.specs.Machine.Step.{stored, inBytes, requested}
+use Rattle.replication.specs.Machine.WellFormed.{queue, wellFormed}
+use Rattle.replication.specs.Machine.WellFormedRanges.{PayloadFits}
+use Rattle.replication.proofs.WellFormed.Facts.{well-formed-facts}
+use Rattle.replication.proofs.WellFormed.Changes.{body}
+use Rattle.replication.proofs.WellFormed.Effects.{number-body, send-waiting-body}
 use Rattle.engine.specs.Header.{headerOf}
 use Rattle.engine.specs.Image.{image}
+use Rattle.engine.specs.Layout.{headerSize}
+use Rattle.engine.specs.Outcome.{word, resultOf}
 use Rattle.engine.specs.Holding.{Holds}
-use Rattle.updates.specs.Lists.{PayloadRoom, nextHead}
-use Rattle.updates.proofs.RequestLaws.{head-made}
+use Rattle.engine.proofs.Chained.{Covers, then-holds}
+use Rattle.updates.specs.Lists.{PayloadRoom}
 use Rattle.step.specs.declared.Answer.{Answer}
 use Rattle.outgoing.specs.Lent.{LentSuch}
-use Rattle.step.specs.Answers.{answered, outcomeOn, quietly, storedFirst}
+use Rattle.step.specs.Answers.{answered, outcomeOn, storedFirst}
+use Rattle.step.specs.Events.{Asked}
 use Rattle.outgoing.proofs.LentFacts.{lent-fact}
-use Rattle.outgoing.proofs.LentLaws.{lent-counts, holds-products, put-room, put-done, one-record}
-use Rattle.step.proofs.OutcomeLaws.{stored-outcome, quiet-outcome}
-use Rattle.step.specs.Events.{Sent, Asked}
+use Rattle.outgoing.proofs.LentLaws.{lent-counts, lent-header}
+use Rattle.step.proofs.ColoursLaws.{formed-alike}
+use Rattle.step.proofs.Installed.{stored-over}
+use Rattle.step.proofs.OutcomeLaws.{stored-outcome}
 
--- ---- what is asked for before each call
+-- ---- what waits is sent
 
-pub sent-payload : (p b o : List ℕ) → LentSuch (λ s. Sent p s) b o → PayloadRoom p b
-sent-payload p b o h = record { counts = lent-counts (λ s. Sent p s) b o h; short = h .fact .0 .most }
+pub waiting-ready : (P : Server → Type 0) (b o : List ℕ) → LentSuch P b o → headerSize ≤ length b
+waiting-ready = lent-header
 
-pub asked-payload : (p b o : List ℕ) (n : State) → LentSuch (λ s. Asked p n s) b o → PayloadRoom p b
-asked-payload p b o n h = record { counts = lent-counts (λ s. Asked p n s) b o h; short = h .fact .0 .most }
+pub waiting-put : (b d o u : List ℕ) (n : ℕ) (a : Answer) → a ≡ storedFirst n
+    → ((s : Server) → Holds s b → (n ≡ length (recordBytes (waitingRecords s))) × (u ≡ over (recordBytes (waitingRecords s)) o))
+    → ((s : Server) → Holds s b → d ≡ image (sendWaiting s) b)
+    → (s t : Server) → Holds t b → answered a d u ≡ outcomeOn (stored s (sendWaiting t) (waitingRecords t)) b o
+unfolding answered outcomeOn resultOf inBytes stored recordBytes word
+waiting-put b d o u n a e f g s t r =
+    λ i. record { number = e i .number; store = e i .store; sent = (ap (λ (x : Answer). x .sent) e ∙ f t r .0) i; state = g t r i; out = f t r .1 i }
 
-pub asked-sent : (p b o : List ℕ) (n : State) (t : Bool) → LentSuch (λ s. Asked p n s) b o
-    → ((s : Server) → n ≡ headerOf s → t ≡ sendsNow (s .membership)) → t ≡ true
-    → LentSuch (λ s. Sent p s) b o
-asked-sent p b o n t h f e =
-    let k = h .fact in
-    record { state = h .state; holds = h .holds; fact = (k .0, k .1, sym (f (h .state) (k .3)) ∙ e); room = h .room }
+-- ---- a request
 
--- ---- sent
+module _ (p : List ℕ) (s : Server) (ok : wellFormed s ≡ true) (fits : PayloadFits p) (left : quotaLeft s ≡ true) where
+  numbered-formed : wellFormed (numbered p s) ≡ true
+  unfolding numbered
+  numbered-formed = formed-alike s (numbered p s .log) (s .votes) (s .noted) ok refl (number-body s (body s (well-formed-facts s ok)) p fits left)
 
-module _ (p b o o₁ : List ℕ) (g : ActionHead) (w : Written) (h : LentSuch (λ s. Sent p s) b o)
-    (e : putOf w o₁ ≡ put (write (action (actionOf g p))) o) where
-  size : length (write (action (actionOf g p))) ≡ actionSize + length p
-  unfolding lengthOf actionOf
-  size = write-length (action (actionOf g p))
+  sent-formed : wellFormed (sendWaiting (numbered p s)) ≡ true
+  unfolding numbered sendWaiting
+  sent-formed =
+      formed-alike s (sendWaiting (numbered p s) .log) (s .votes) (s .noted) ok refl
+      (send-waiting-body (numbered p s) (number-body s (body s (well-formed-facts s ok)) p fits left))
 
-  room : length (write (action (actionOf g p))) ≤ length o
-  unfolding outLength
-  room = omega (arith, size, h .fact .0 .most, h .room, holds-products (h .state) b (h .holds) .two)
+  request-covers : Covers s (numbered p s) (sendWaiting (numbered p s))
+  unfolding numbered sendWaiting queue
+  request-covers =
+      record { servers = (refl, refl); quota = (refl, refl); states = inl refl; ids = inl (omega arith); own = inl (omega arith); actions = inl (omega arith) }
 
-  pub send-full : w ≡ Full → (r : Answer) (b₁ : List ℕ) (s : Server) → Holds s b → answered r b₁ o₁ ≡ outcomeOn (requested p s) b o
-  send-full f r b₁ s k = put-room (write (action (actionOf g p))) o o₁ w e room f
+module _ (p b o : List ℕ) (h : State) (l : LentSuch (λ s. Asked p h s) b o) where
+  pub asked-payload : PayloadRoom p b
+  asked-payload = record { counts = lent-counts (λ s. Asked p h s) b o l; short = l .fact .0 .most }
 
-  pub send-small : (m : ℕ) → w ≡ Next m → Fits w32 m
-  send-small m f = omega (arith, put-done (write (action (actionOf g p))) o o₁ w e m f .sized, size, h .fact .0 .most)
+  asked : (s : Server) → Holds s b → Asked p h s
+  asked s k = lent-fact (λ s. Asked p h s) b o s l k
 
-  pub send-done : (m : ℕ) (b₁ : List ℕ) (r : Answer) → g ≡ nextHead b → w ≡ Next m
-      → ((s : Server) → Holds s b → quotaLeft s ≡ true → b₁ ≡ image (numbered (p ∷ []) s) b) → r ≡ storedFirst m
-      → (s : Server) → Holds s b → answered r b₁ o₁ ≡ outcomeOn (requested p s) b o
-  unfolding requested
-  send-done m b₁ r i f d a s k =
-      let fact = lent-fact (λ t. Sent p t) b o s h k in
-      let x : List ℕ = write (action (actionOf g p)) in
-      let done = put-done x o o₁ w e m f in
-      let made : actionOf g p ∷ [] ≡ madeOf (p ∷ []) s = ap (λ (c : ActionHead). actionOf c p ∷ []) i ∙ head-made s b p k in
-      let bytes : x ≡ recordBytes (map action (madeOf (p ∷ []) s)) =
-      sym (one-record (action (actionOf g p))) ∙ ap (λ (l : List Action). recordBytes (map action l)) made in
-      let count : m ≡ length (recordBytes (map action (madeOf (p ∷ []) s))) = omega (arith, done .sized, ap length bytes) in
-      let out : o₁ ≡ over (recordBytes (map action (madeOf (p ∷ []) s))) o = done .filled ∙ ap (λ (y : List ℕ). over y o) bytes in
-      stored-outcome s (numbered (p ∷ []) s) (map action (madeOf (p ∷ []) s)) b o b₁ o₁ m r a (d s k (fact .1)) count out
-      ∙ ap (λ z. outcomeOn z b o)
-      (pick-yes (sendsNow (s .membership)) (stored s (numbered (p ∷ []) s) (map action (madeOf (p ∷ []) s))) _ _ (fact .2) refl)
+  module _ (c : List ℕ) (f : (s : Server) → Holds s b → quotaLeft s ≡ true → c ≡ image (numbered p s) b) (t : Bool)
+      (g : (s : Server) → h ≡ headerOf s → t ≡ sendsNow (s .membership)) where
+    numbered-holds : (s : Server) → Holds s b → Holds (numbered p s) c
+    unfolding numbered
+    numbered-holds s k =
+        let a = asked s k in
+        then-holds s (numbered p s) b c k (f s k (a .1)) refl refl (numbered-formed p s (k .formed) (a .0) (a .1))
 
--- ---- held
+    pub request-waits : not t ≡ true → (r : Answer) → r ≡ storedFirst 0 → (s : Server) → Holds s b → answered r c o ≡ outcomeOn (requested p s) b o
+    unfolding requested recordBytes joined over
+    request-waits n r e s k =
+        let a = asked s k in
+        let no : sendsNow (s .membership) ≡ false = sym (g s (a .2)) ∙ not-true t n in
+        stored-outcome s (numbered p s) [] b o c o 0 r e (f s k (a .1)) refl refl
+        ∙ ap (λ z. outcomeOn z b o) (pick-no (sendsNow (s .membership)) (stored s (numbered p s) []) _ _ no refl)
 
-or-else : (t u : Bool) → (t or u) ≡ true → t ≡ false → u ≡ true
-unfolding _or_
-or-else true u h e = not-both (sym e)
-or-else false u h e = h
+    pub request-lent : LentSuch (λ s. 0 ≤ 0) c o
+    unfolding numbered
+    request-lent = record { state = numbered p (l .state); holds = numbered-holds (l .state) (l .holds); fact = omega arith; room = l .room }
 
-pub hold-done : (p b o b₁ : List ℕ) (n : State) (t : Bool) (r : Answer) → LentSuch (λ s. Asked p n s) b o
-    → ((s : Server) → n ≡ headerOf s → t ≡ sendsNow (s .membership)) → t ≡ false
-    → ((s : Server) → Holds s b → length (s .held) < mostHeld → b₁ ≡ image (hold p s) b) → r ≡ quietly
-    → (s : Server) → Holds s b → answered r b₁ o ≡ outcomeOn (requested p s) b o
-unfolding requested roomToHold
-hold-done p b o b₁ n t r h f e d a s k =
-    let fact = lent-fact (λ u. Asked p n u) b o s h k in
-    let not : sendsNow (s .membership) ≡ false = sym (f s (fact .3)) ∙ e in
-    let few : length (s .held) < mostHeld = lt-holds (length (s .held)) mostHeld (or-else _ _ (fact .2) not) in
-    quiet-outcome s (hold p s) b o b₁ r a (d s k few)
-    ∙ ap (λ z. outcomeOn z b o) (pick-no (sendsNow (s .membership)) (quiet s (hold p s)) _ _ not refl)
+    pub request-sent : not t ≡ false → (r : Answer) (d u : List ℕ)
+        → ((s t : Server) → Holds t c → answered r d u ≡ outcomeOn (stored s (sendWaiting t) (waitingRecords t)) c o)
+        → (s : Server) → Holds s b → answered r d u ≡ outcomeOn (requested p s) b o
+    unfolding requested
+    request-sent n r d u w s k =
+        let a = asked s k in
+        let v : Server = numbered p s in
+        let y : Holds v c = numbered-holds s k in
+        let yes : sendsNow (s .membership) ≡ true = sym (g s (a .2)) ∙ not-false t n in
+        w s v y
+        ∙ stored-over s v (sendWaiting v) s (waitingRecords v) b c o k (y .formed) (sent-formed p s (k .formed) (a .0) (a .1))
+        (request-covers p s (k .formed) (a .0) (a .1)) (f s k (a .1))
+        ∙ ap (λ z. outcomeOn z b o) (pick-yes (sendsNow (s .membership)) (stored s (sendWaiting v) (waitingRecords v)) _ _ yes refl)

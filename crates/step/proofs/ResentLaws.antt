@@ -17,7 +17,7 @@ use Rattle.record.specs.declared.ActionHead.{ActionHead}
 use Rattle.record.specs.Values.{idOf, actionOf}
 use Rattle.replication.specs.Machine.Types.{Mode, Non-prim, Reg-prim, Trans-prim, Exchange-states, Exchange-actions, Construct, No, Un, Server, Outcome, withLog, contextOf}
 use Rattle.replication.specs.Machine.Colours.{red}
-use Rattle.replication.specs.Machine.Rules.{Rule, reddening, exchanging, onRetransmission, ruleFor, possible, fromMember, isIgnored, withinQuota, withinHeld}
+use Rattle.replication.specs.Machine.Rules.{Rule, reddening, exchanging, onRetransmission, ruleFor, possible, fromMember, isIgnored, withinQuota}
 use Rattle.replication.specs.Machine.Step.{exchange, apply, answer}
 use Rattle.replication.specs.Laws.RuleFits.{Delivered}
 use Rattle.engine.specs.Image.{modeNumber, image}
@@ -109,8 +109,8 @@ module _ (h : Numbers) (x : ActionHead) (p b o : List ℕ) (j i : ℕ) (f : Lent
 
       module _ (n : not w ≡ false) where
         passes : (s : Server) → Holds s b → (k : Rule) → onRetransmission (s .membership .mode) i a ≡ some k → isIgnored k ≡ false → Passes s r k
-        unfolding ruleFor withinQuota withinHeld _or_
-        passes s y k z l = record { rule = z; possible = own s y; member = rw l (member s y ∙ not-false w n); quota = refl; held = refl }
+        unfolding ruleFor withinQuota _or_
+        passes s y k z l = record { rule = z; possible = own s y; member = rw l (member s y ∙ not-false w n); quota = refl }
 
         -- ---- in an exchange
 

@@ -100,7 +100,7 @@ module _ (h : ActionHead) (p b c : List ℕ) (k : ℕ)
       let a : Action = actionOf h p in
       let y : More s = such-fact More b s m r in
       chained s (after s) (exchanged k a s) b r (placed-formed s (r .formed) k a (y .0)) (more-formed s (r .formed) (y .1) k a (y .0) (y .2))
-      (numbers-then s (after s) (exchanged k a s) (refl, refl) (refl, refl) refl refl refl refl refl) c d (f s r)
+      (numbers-then s (after s) (exchanged k a s) (refl, refl) (refl, refl) refl refl refl refl) c d (f s r)
       (g (after s) (placed-holds s r (y .0)))
 
   abbrev pub Last : Server → Type 0
@@ -117,7 +117,7 @@ module _ (h : ActionHead) (p b c : List ℕ) (k : ℕ)
       let y : Last s = such-fact Last b s m r in
       chained s (after s) (inMode Non-prim (exchanged k a s)) b r (placed-formed s (r .formed) k a (y .0))
       (last-formed s (r .formed) (y .1) k a (y .0))
-      (numbers-then s (after s) (inMode Non-prim (exchanged k a s)) (refl, refl) (refl, refl) refl refl refl refl refl) c d (f s r)
+      (numbers-then s (after s) (inMode Non-prim (exchanged k a s)) (refl, refl) (refl, refl) refl refl refl refl) c d (f s r)
       (g (after s) (placed-holds s r (y .0)))
 
 -- ---- to Non_prim, then one more
@@ -140,5 +140,5 @@ module _ (b c : List ℕ) (f : (s : Server) (o : Mode) → Holds s b → 0 ≡ m
     closed d g s r =
         chained s (inMode Non-prim s) (oneMore (inMode Non-prim s)) b r (non-prim-formed s (r .formed))
         (closed-formed s (r .formed) (such-fact (λ x. x .membership .mode ≡ Exchange-actions) b s m r))
-        (numbers-then s (inMode Non-prim s) (oneMore (inMode Non-prim s)) (refl, refl) (refl, refl) refl refl refl refl refl) c d (left s r)
+        (numbers-then s (inMode Non-prim s) (oneMore (inMode Non-prim s)) (refl, refl) (refl, refl) refl refl refl refl) c d (left s r)
         (g (inMode Non-prim s) (left-holds s r))

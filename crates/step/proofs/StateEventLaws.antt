@@ -13,7 +13,7 @@ use Rattle.format.specs.Range.{fieldsOk, stateOk}
 use Rattle.format.specs.Write.{write}
 use Rattle.record.specs.declared.State.{State as Numbers}
 use Rattle.replication.specs.Machine.Types.{Mode, Non-prim, Reg-prim, Trans-prim, Exchange-states, Exchange-actions, Construct, No, Un, Server, Outcome, contextOf}
-use Rattle.replication.specs.Machine.Rules.{ignoring, collectingState, onState, ruleFor, possible, fromMember, isIgnored, withinQuota, withinHeld}
+use Rattle.replication.specs.Machine.Rules.{ignoring, collectingState, onState, ruleFor, possible, fromMember, isIgnored, withinQuota}
 use Rattle.replication.specs.Machine.Step.{collectState, apply, answer}
 use Rattle.engine.specs.Image.{modeNumber}
 use Rattle.engine.specs.Header.{headerOf}
@@ -50,11 +50,11 @@ module _ (h : Numbers) (k id : ℕ) (e b o : List ℕ) (f : LentSuch (StateInFor
   pub state-ignored : h .mode ≡ 0 → (r : Answer) → r ≡ quietly
       → (s : Server) (x : State) → Holds s b → fieldsOk (contextOf s) (state x) ≡ true → write (state x) ≡ e → x .sender ≡ k → x .configuration ≡ id
       → answered r b o ≡ outcomeOn (answer s (state x)) b o
-  unfolding modeNamed pick _=?_ onState ruleFor possible isIgnored withinQuota withinHeld _or_ apply modeNumber
+  unfolding modeNamed pick _=?_ onState ruleFor possible isIgnored withinQuota _or_ apply modeNumber
   state-ignored m r q s x y g w a c =
       let z : onState (s .membership .mode) x ≡ some ignoring = numbers-at (λ l. onState l x ≡ some ignoring) h s 0 (numbers s y) m refl in
       quiet-as s s (answer s (state x)) r b b o q
-      (passed s (state x) ignoring (record { rule = z; possible = refl; member = refl; quota = refl; held = refl })) (sym (y .written))
+      (passed s (state x) ignoring (record { rule = z; possible = refl; member = refl; quota = refl })) (sym (y .written))
 
   pub state-untaken : (h .mode ≡ 0 → ⊥) → (h .mode ≡ 3 → ⊥) → (r : Answer) → r ≡ refusedWith 5
       → (s : Server) (x : State) → Holds s b → fieldsOk (contextOf s) (state x) ≡ true → write (state x) ≡ e → x .sender ≡ k → x .configuration ≡ id
@@ -79,9 +79,9 @@ module _ (h : Numbers) (k id : ℕ) (e b o : List ℕ) (f : LentSuch (StateInFor
         (outside s (state x) (collectingState x) (rule s x y) refl (sym (g s x (numbers s y) a c) ∙ not-true t n))
 
     passes : not t ≡ false → (s : Server) (x : State) → Holds s b → x .sender ≡ k → x .configuration ≡ id → Passes s (state x) (collectingState x)
-    unfolding ruleFor possible isIgnored withinQuota withinHeld _or_
+    unfolding ruleFor possible isIgnored withinQuota _or_
     passes n s x y a c =
-        record { rule = rule s x y; possible = refl; member = sym (g s x (numbers s y) a c) ∙ not-false t n; quota = refl; held = refl }
+        record { rule = rule s x y; possible = refl; member = sym (g s x (numbers s y) a c) ∙ not-false t n; quota = refl }
 
     pub state-came : not t ≡ false → LentSuch (Came k e) b o
     state-came n =

@@ -87,7 +87,7 @@ module _ (b o : List ℕ) (m : LentSuch Complete b o) where
       after-ended z d o₁ r g s t y =
           let u : Server = inMode Non-prim t in
           g s u (left-holds b c f t y)
-          ∙ end-over t u (record { servers = refl; quota = refl; held = refl; ids = refl }) b c o y (non-prim-formed t (y .formed))
+          ∙ end-over t u (record { servers = refl; quota = refl; ids = refl }) b c o y (non-prim-formed t (y .formed))
           (exchange-configured t (y .formed) (lent-fact Complete b o t m y .1)) (left b c f t y) s
           ∙ ap (λ v. outcomeOn v b o) (end-mode s t ∙ sym (after-none s t (eq-yes (plannedNow t) 0 (sym (told t y) ∙ z))))
 
@@ -95,7 +95,7 @@ module _ (b o : List ℕ) (m : LentSuch Complete b o) where
 
 state-before : (s : Server) (x : State) → Before s (withState x s)
 unfolding withState
-state-before s x = record { servers = refl; quota = refl; held = refl; ids = refl }
+state-before s x = record { servers = refl; quota = refl; ids = refl }
 
 state-mode : (s : Server) (x : State) → s .membership .mode ≡ Exchange-states → withState x s .membership .mode ≡ Exchange-states
 unfolding withState
@@ -103,7 +103,7 @@ state-mode s x e = e
 
 state-covers : (s : Server) (x : State) → Covers s (withState x s) (resending (withState x s))
 unfolding withState resending
-state-covers s x = numbers-then s (withState x s) (resending (withState x s)) (refl, refl) (refl, refl) refl refl refl refl refl
+state-covers s x = numbers-then s (withState x s) (resending (withState x s)) (refl, refl) (refl, refl) refl refl refl refl
 
 -- The last State, and what follows: over the bytes at the beginning.
 after-over : (s : Server) (x : State) (b c o : List ℕ) → Holds s b → StateCame s x → s .membership .mode ≡ Exchange-states

@@ -22,7 +22,7 @@ use Rattle.record.specs.Events.{actionFrom, stateFrom, recordOf}
 use Rattle.record.proofs.Callers.{action-placed, retransmission-placed, request-placed}
 use Rattle.replication.specs.Machine.Types.{Server, contextOf}
 use Rattle.replication.specs.Machine.Requests.{recovered}
-use Rattle.replication.specs.Machine.Rules.{recovering, ruleFor, possible, fromMember, isIgnored, withinQuota, withinHeld}
+use Rattle.replication.specs.Machine.Rules.{recovering, ruleFor, possible, fromMember, isIgnored, withinQuota}
 use Rattle.replication.specs.Machine.Step.{apply, answer}
 use Rattle.engine.specs.Image.{image}
 use Rattle.engine.specs.Holding.{Holds, HoldsSuch}
@@ -102,9 +102,9 @@ requested-done at m e b o c z v y s l = answered-part (λ p. request p) at m e v
 
 pub recovery-done : (b c : List ℕ) (v : Answer) → ((s : Server) → Holds s b → c ≡ image (recovered s) b) → v ≡ storedFirst 0
     → (s : Server) (o : List ℕ) → Holds s b → answered v c o ≡ outcomeOn (answer s recovery) b o
-unfolding ruleFor possible fromMember isIgnored withinQuota withinHeld _or_ apply
+unfolding ruleFor possible fromMember isIgnored withinQuota _or_ apply
 recovery-done b c v y q s o i =
-    let p : Passes s recovery recovering = record { rule = refl; possible = refl; member = refl; quota = refl; held = refl } in
+    let p : Passes s recovery recovering = record { rule = refl; possible = refl; member = refl; quota = refl } in
     stored-as s (recovered s) (answer s recovery) v b c o q (passed s recovery recovering p) (y s i)
 
 -- ---- kind by kind

@@ -36,7 +36,7 @@ voted-formed : (s : Server) (v : Votes) → wellFormed s ≡ true → Body (with
     → wellFormed (withVotes v s) ≡ true
 voted-formed s v ok b e =
     let g = well-formed-facts s ok in
-    facts-well-formed (withVotes v s) (whole (withVotes v s) b (mode-kept (s .membership .mode) s (s .log) v (s .held) (s .noted) e (g .mode)))
+    facts-well-formed (withVotes v s) (whole (withVotes v s) b (mode-kept (s .membership .mode) s (s .log) v (s .noted) e (g .mode)))
 
 pub unmarked-formed : (s : Server) → wellFormed s ≡ true → wellFormed (withVotes (unmarked (s .votes)) s) ≡ true
 unfolding unmarked
@@ -70,7 +70,6 @@ unfolding entering
 votes-covers s v c x e = record {
   servers = (refl, refl);
   quota = (refl, refl);
-  held = inr (begins-refl _);
   states = inr refl;
   ids = inr (subst (λ (l : List Id). Begins l (s .votes .yellow .ids)) (sym e) (begins-refl _));
   own = inr (begins-refl _);

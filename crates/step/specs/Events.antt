@@ -22,7 +22,7 @@ use Rattle.engine.specs.Image.{modeNumber}
 use Rattle.outgoing.specs.Lent.{Lent}
 use Rattle.step.specs.Answers.{InForce, answered, outcomeOn}
 use Rattle.replication.specs.Machine.WellFormedRanges.{PayloadFits}
-use Rattle.replication.specs.Machine.Requests.{quotaLeft, sendsNow, roomToHold}
+use Rattle.replication.specs.Machine.Requests.{quotaLeft}
 use mathlib.Core.Bool.{Bool, true, false}
 use Rattle.engine.specs.Header.{headerOf}
 use Rattle.replication.specs.Machine.Colours.{isNext, yellow}
@@ -65,13 +65,9 @@ numberOf (Refused k) = k
 
 -- ---- what is known of the state s before a change
 
--- A request that is sent.
-abbrev pub Sent : List ℕ → Server → Type 0
-Sent p s = PayloadFits p × (quotaLeft s ≡ true) × (sendsNow (s .membership) ≡ true)
-
--- Any that rows 3 and 4 let pass.
+-- A request that row 3 lets pass.
 abbrev pub Asked : List ℕ → Numbers → Server → Type 0
-Asked p h s = PayloadFits p × (quotaLeft s ≡ true) × (roomToHold s ≡ true) × (h ≡ headerOf s)
+Asked p h s = PayloadFits p × (quotaLeft s ≡ true) × (h ≡ headerOf s)
 
 -- The action a is delivered, and is its creator's next one.
 abbrev pub Next : Action → Server → Type 0

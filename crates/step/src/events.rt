@@ -37,7 +37,6 @@ use rows::is_of;
 use rows::numbered_own;
 use rows::quota_left;
 use rows::regular_due;
-use rows::room_to_hold;
 use rows::state_in;
 use rows::transitional_due;
 use updates::membership::leave;
@@ -248,9 +247,6 @@ pub fn on_request(state: &mut [u8], out: &mut [u8], h: State, payload: &[u8]) ->
 {
     if !quota_left(h) {
         return Answer::refused(3);
-    }
-    if !room_to_hold(h) {
-        return Answer::refused(4);
     }
     request(state, out, h, payload)
 }

@@ -34,7 +34,7 @@ use updates::exchanges::decide;
 use updates::exchanges::one_more;
 use updates::exchanges::resend;
 use updates::membership::set_mode;
-use updates::sending::send_held;
+use updates::requests::send_waiting;
 use updates::states::collect_state;
 use updates::votes::VoteNumbers;
 use writer::records::Written;
@@ -86,14 +86,14 @@ fn attempt_primary(state: &mut [u8], out: &mut [u8]) -> Answer
     Answer::stored(sent as u32)
 }
 
-// "else store, Non_prim": held requests are sent.
+// "else store, Non_prim": what waits is sent.
 fn stay(state: &mut [u8], out: &mut [u8]) -> Answer
     requires { ⌜ LentSuch (Ends false) (now state) (now out) ⌝ }
     ensures { λ r. ⌜ AnswersFor endExchange r state out ⌝ }
 {
     let sent = send_records(state, out);
     decide_all(state);
-    send_held(state);
+    send_waiting(state);
     Answer::stored(sent)
 }
 

@@ -1,12 +1,11 @@
 // Install, where the last CPC comes and where an action comes in Un.
 ghost use mathlib.Core.Path.{_≡_};
-ghost use Prim.Native.Nat.{_≤_, _<_};
+ghost use Prim.Native.Nat.{_<_};
 ghost use Rattle.format.specs.Limits.{mostIndex};
 ghost use Rattle.record.specs.Values.{actionOf};
 ghost use Rattle.replication.specs.Machine.Types.{Construct, No, Un, inMode};
 ghost use Rattle.replication.specs.Machine.Install.{install as installed};
-ghost use Rattle.replication.specs.Machine.Requests.{sendHeld, heldRecords};
-ghost use Rattle.replication.specs.Machine.Step.{stored, installing, collectCpc};
+ghost use Rattle.replication.specs.Machine.Step.{installing, collectCpc};
 ghost use Rattle.replication.specs.Machine.WellFormedFacts.{Configured};
 ghost use Rattle.replication.specs.Laws.RuleFits.{Delivered};
 ghost use Rattle.engine.specs.Holding.{HoldsSuch, Becomes};
@@ -16,14 +15,13 @@ ghost use Rattle.updates.specs.Lists.{BecomesIn};
 ghost use Rattle.step.specs.Events.{installedLate};
 use crate::Answer;
 use crate::colours::yellow;
+use crate::requests::send_all;
 use exchange::decided::all_cpcs_in;
 use install::installing::install;
-use outgoing::sending::send_records;
 use record::ActionHead;
 use record::State;
 use updates::membership::add_cpc;
 use updates::membership::set_mode;
-use updates::sending::send_held;
 
 // Install, and the state that it leads to; that one first, since row 8 bounds the primary index in Construct and Un.
 fn install_in(state: &mut [u8], mode: u8)
@@ -41,16 +39,6 @@ pub fn late_install(state: &mut [u8], head: ActionHead, payload: &[u8])
 {
     install_in(state, State::TRANS_PRIM);
     yellow(state, head, payload);
-}
-
-// "and sent in order on reaching those states"
-fn send_all(state: &mut [u8], out: &mut [u8]) -> Answer
-    requires { ⌜ LentSuch (λ s. 0 ≤ 0) (now state) (now out) ⌝ }
-    ensures { λ r. ⌜ AnswersFor (λ s t. stored s (sendHeld t) (heldRecords t)) r state out ⌝ }
-{
-    let sent = send_records(state, out);
-    send_held(state);
-    Answer::stored(sent)
 }
 
 // "Install, to Reg_prim"

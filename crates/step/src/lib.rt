@@ -4,7 +4,7 @@ ghost use Rattle.engine.specs.Outcome.{stepOn};
 ghost use Rattle.step.specs.Answers.{answered, refusedWith, quietly, storedFirst, sentOnly};
 
 pub mod colours; // colours.rt: actions that a state colours
-pub mod requests; // requests.rt: requests numbered and sent, or held
+pub mod requests; // requests.rt: requests numbered, and sent
 pub mod joining; // joining.rt: regular configurations
 pub mod installing; // installing.rt: Install
 pub mod exchanging; // exchanging.rt: States and retransmissions, and the end of an exchange

@@ -1,39 +1,35 @@
-// A request: numbered, put on the own list and sent, or held.
-ghost use Rattle.replication.specs.Machine.Step.{requested};
+// A request: numbered, put on the own list and stored; sent where requests are sent.
+ghost use Prim.Native.Nat.{_≤_};
+ghost use Rattle.replication.specs.Machine.Requests.{sendWaiting, waitingRecords};
+ghost use Rattle.replication.specs.Machine.Step.{stored, requested};
 ghost use Rattle.outgoing.specs.Lent.{LentSuch};
-ghost use Rattle.step.specs.Answers.{AnswersBy};
-ghost use Rattle.step.specs.Events.{Sent, Asked};
+ghost use Rattle.step.specs.Answers.{AnswersBy, AnswersFor};
+ghost use Rattle.step.specs.Events.{Asked};
 use crate::Answer;
+use outgoing::sending::send_records;
 use record::State;
 use rows::sends_now;
-use updates::requests::hold;
-use updates::requests::next_head;
 use updates::requests::number;
-use writer::records::Written;
-use writer::records::write_action;
+use updates::requests::send_waiting;
 
-// The request as an action: "numbered, put on the own list and stored first", then sent.
-fn send(state: &mut [u8], out: &mut [u8], payload: &[u8]) -> Answer
-    requires { ⌜ LentSuch (Sent (now payload)) (now state) (now out) ⌝ }
-    ensures { λ r. ⌜ AnswersBy (requested (now (payload .entry))) r state out ⌝ }
+// "sent, one time only, in order": all that waits.
+pub fn send_all(state: &mut [u8], out: &mut [u8]) -> Answer
+    requires { ⌜ LentSuch (λ s. 0 ≤ 0) (now state) (now out) ⌝ }
+    ensures { λ r. ⌜ AnswersFor (λ s t. stored s (sendWaiting t) (waitingRecords t)) r state out ⌝ }
 {
-    let head = next_head(state);
-    let w = write_action(out, head, payload);
-    let Written::Next(sent) = w else {
-        return Answer::quiet();
-    };
-    number(state, payload);
-    Answer::stored(sent as u32)
+    let sent = send_records(state, out);
+    send_waiting(state);
+    Answer::stored(sent)
 }
 
-// "Elsewhere held"; h are the state's numbers.
+// "numbered, put on the own list and stored whenever it comes"; h are the state's numbers.
 pub fn request(state: &mut [u8], out: &mut [u8], h: State, payload: &[u8]) -> Answer
     requires { ⌜ LentSuch (Asked (now payload) h) (now state) (now out) ⌝ }
     ensures { λ r. ⌜ AnswersBy (requested (now (payload .entry))) r state out ⌝ }
 {
-    if sends_now(h) {
-        return send(state, out, payload);
+    number(state, payload);
+    if !sends_now(h) {
+        return Answer::stored(0);
     }
-    hold(state, payload);
-    Answer::quiet()
+    send_all(state, out)
 }

@@ -3,11 +3,8 @@ use borrow.Author.Needs.{needs}
 use Rattle.rows.proofs.quota_left.Statement.{statement}
 use Rattle.rows.proofs.quota_left.Tie as tie
 
-fewer-requires : tie.Need-fewer-requires
-fewer-requires c κs = search needs
-
 returns : tie.Need-returns
 returns c = search (needs, quota-told)
 
 pub quota-left-spec : {M : Type 1} → statement M
-quota-left-spec = tie.close (tie.spec fewer-requires returns)
+quota-left-spec = tie.close (tie.spec returns)

@@ -9,8 +9,8 @@ send-records-requires c κs = search needs
 decide-all-requires : tie.Need-decide-all-requires
 decide-all-requires c κs = search needs
 
-send-held-requires : tie.Need-send-held-requires
-send-held-requires c κs =
+send-waiting-requires : tie.Need-send-waiting-requires
+send-waiting-requires c κs =
     stay-ready _ _ (c .before .before .before .before .before .before .before .before .before .before .before .before .pre) _
     (c .before .before .before .decide-all .ensures)
 
@@ -28,7 +28,7 @@ returns c =
     stay-made _ _
     (c .before .before .before .before .before .before .before .before .before .before .before .before .before .before .before .before .pre) _ _
     _ _ (c .before .before .before .before .before .before .before .before .before .before .before .send-records .ensures)
-    (c .before .before .before .before .before .before .before .decide-all .ensures) (c .before .before .before .send-held .ensures) _
+    (c .before .before .before .before .before .before .before .decide-all .ensures) (c .before .before .before .send-waiting .ensures) _
     (c .stored .ensures)
 
 pub stay-spec : {M : Type 1} → statement M
@@ -37,7 +37,7 @@ stay-spec =
     (tie.spec
     send-records-requires
     decide-all-requires
-    send-held-requires
+    send-waiting-requires
     stored-requires
     same-length
     same-length-2

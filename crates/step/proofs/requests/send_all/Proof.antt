@@ -1,14 +1,13 @@
-use Rattle.updates.proofs.Sent.{holds-ready}
-use Rattle.step.proofs.Installed.{requests-sent}
+use Rattle.step.proofs.RequestLaws.{waiting-ready, waiting-put}
 use borrow.Author.Needs.{needs}
-use Rattle.step.proofs.installing.send_all.Statement.{statement}
-use Rattle.step.proofs.installing.send_all.Tie as tie
+use Rattle.step.proofs.requests.send_all.Statement.{statement}
+use Rattle.step.proofs.requests.send_all.Tie as tie
 
 send-records-requires : tie.Need-send-records-requires
 send-records-requires c κs = search needs
 
-send-held-requires : tie.Need-send-held-requires
-send-held-requires c κs = search (needs, holds-ready)
+send-waiting-requires : tie.Need-send-waiting-requires
+send-waiting-requires c κs = search (needs, waiting-ready)
 
 stored-requires : tie.Need-stored-requires
 stored-requires c κs = search needs
@@ -20,14 +19,14 @@ same-length-2 : tie.Need-same-length-2
 same-length-2 c = search needs
 
 returns : tie.Need-returns
-returns c = search (needs, requests-sent)
+returns c = search (needs, waiting-put)
 
 pub send-all-spec : {M : Type 1} → statement M
 send-all-spec =
     tie.close
     (tie.spec
     send-records-requires
-    send-held-requires
+    send-waiting-requires
     stored-requires
     same-length
     same-length-2
