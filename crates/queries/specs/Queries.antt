@@ -10,6 +10,7 @@ use Rattle.format.specs.Places.{idSize}
 use Rattle.format.specs.Types.{Action}
 use Rattle.format.specs.Write.{idBytes, payloadBytes}
 use Rattle.replication.specs.Machine.Types.{Server}
+use Rattle.replication.specs.Machine.Requests.{waiting}
 use Rattle.engine.specs.Image.{modeNumber}
 use Rattle.engine.specs.Header.{statusOf, idOf, setOf, transitionalOf}
 use Rattle.engine.specs.Decode.{decoded, reads, greensIn}
@@ -35,7 +36,7 @@ summaryOf s = record {
   red = length (s .log .red);
   numbered = s .log .numbered;
   waiting = length (s .log .own);
-  held = length (s .held);
+  unsent = length (waiting (s .log));
   «primary_index» = s .votes .last .index;
   «primary_attempt» = s .votes .last .attempt;
   «primary_set» = s .votes .last .set;
@@ -60,7 +61,7 @@ noSummary k = record {
   red = 0;
   numbered = 0;
   waiting = 0;
-  held = 0;
+  unsent = 0;
   «primary_index» = 0;
   «primary_attempt» = 0;
   «primary_set» = 0;

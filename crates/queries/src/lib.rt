@@ -1,7 +1,11 @@
 // Reading a state's buffer: its numbers, and its green entries. The state is checked once a call.
 ghost use mathlib.Core.Path.{_≡_};
 ghost use Prim.Native.Nat.{_^_, _≤_, _<_};
+ghost use mathlib.Core.Bool.{true};
+ghost use lib.ListN.{length};
 ghost use Rattle.replication.specs.Machine.Types.{Server};
+ghost use Rattle.replication.specs.Machine.Requests.{waiting};
+ghost use Rattle.replication.specs.Machine.WellFormed.{wellFormed};
 ghost use Rattle.engine.specs.Header.{headerOf};
 ghost use Rattle.queries.specs.Queries.{summaryOf, noSummary, summaryOn, entriesOn, listed, refusedEntries, putEntries};
 ghost use Rattle.queries.specs.Reading.{ReadingsGiveAll, NewlyGreen};
@@ -14,6 +18,18 @@ use entries::put_entries;
 use record::State;
 use record::bytes::num32;
 use state_check::image_number;
+
+// How many own actions wait to be sent: of the last ones numbered, those that are on the own list.
+fn unsent(h: State) -> u16
+    requires { ⌜ h .sent ≤ h .numbered ⌝ }
+    ensures { λ r. ⌜ ((s : Server) → wellFormed s ≡ true → h ≡ headerOf s → r ≡ length (waiting (s .log))) ⌝ }
+{
+    let behind = h.numbered - h.sent;
+    if h.own_count < behind {
+        return h.own_count;
+    }
+    behind
+}
 
 // What a state says: 0 and its numbers, or what its buffer is refused with and zeros.
 #[repr(C)]
@@ -32,7 +48,7 @@ pub struct Summary {
     pub red: u32,
     pub numbered: u32,
     pub waiting: u32,
-    pub held: u32,
+    pub unsent: u32,
     pub primary_index: u32,
     pub primary_attempt: u32,
     pub primary_set: u32,
@@ -59,7 +75,7 @@ impl Summary {
             red: 0,
             numbered: 0,
             waiting: 0,
-            held: 0,
+            unsent: 0,
             primary_index: 0,
             primary_attempt: 0,
             primary_set: 0,
@@ -70,8 +86,8 @@ impl Summary {
 
     // Of a state with these numbers.
     fn of(h: State) -> Summary
-        requires { ⌜ h .«green_length» ≤ h .«queue_length» ⌝ }
-        ensures { λ r. ⌜ ((s : Server) → h ≡ headerOf s → r ≡ summaryOf s) ⌝ }
+        requires { ⌜ (h .«green_length» ≤ h .«queue_length») × (h .sent ≤ h .numbered) ⌝ }
+        ensures { λ r. ⌜ ((s : Server) → wellFormed s ≡ true → h ≡ headerOf s → r ≡ summaryOf s) ⌝ }
     {
         Summary {
             number: 0,
@@ -88,7 +104,7 @@ impl Summary {
             red: h.queue_length - h.green_length,
             numbered: h.numbered as u32,
             waiting: h.own_count as u32,
-            held: h.held_count as u32,
+            unsent: unsent(h) as u32,
             primary_index: h.last.index.0,
             primary_attempt: h.last.attempt.0,
             primary_set: h.last.set as u32,

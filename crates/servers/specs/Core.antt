@@ -6,9 +6,8 @@ use mathlib.Core.List.{List}
 use lib.ListN.{length, take, drop}
 use Rattle.base.specs.Tests.{_=?_, pick}
 use Rattle.base.specs.Bytes.{numberAt, zeros}
-use Rattle.format.specs.Limits.{mostHeld}
 use Rattle.format.specs.Places.{lengthSize, idSize, stateHeadSize, mostRetransmission}
-use Rattle.engine.specs.Layout.{headerSize, heldSize, slotSize}
+use Rattle.engine.specs.Layout.{headerSize, slotSize}
 use Rattle.engine.specs.Outcome.{Result}
 use Rattle.buffers.specs.Buffers.{Buffers, stepIn}
 use Rattle.buffers.specs.Sending.{cutRecords}
@@ -29,7 +28,7 @@ tableActions = tableServers * tableQuota
 -- The lengths of both buffers for them.
 abbrev pub stateRoom : ℕ
 stateRoom =
-    headerSize + 6 * tableServers + heldSize * mostHeld + tableServers * (stateHeadSize + 2 * tableServers + idSize * tableActions)
+    headerSize + 6 * tableServers + tableServers * (stateHeadSize + 2 * tableServers + idSize * tableActions)
     + idSize * tableActions + (slotSize * tableQuota + slotSize * tableActions)
 
 abbrev pub outRoom : ℕ

@@ -28,7 +28,6 @@ const SLOTS: usize = State::SLOT * QUOTA + State::SLOT * ACTIONS;
 // Both buffers for them, by the formulas of docs/LAYOUT.md.
 pub const STATE_ROOM: usize = State::SIZE
     + 6 * SERVERS
-    + State::HELD * State::MOST_HELD as usize
     + STATES
     + State::ID * ACTIONS
     + SLOTS;

@@ -37,7 +37,6 @@ const SLOTS: usize = State::SLOT * (State::MOST_QUOTA as usize + State::MOST_IDS
 // Both buffers at the largest sizes, by the formulas of docs/LAYOUT.md.
 const STATE_ROOM: usize = State::SIZE
     + 6 * SERVERS
-    + State::HELD * State::MOST_HELD as usize
     + STATES
     + State::IDS
     + SLOTS;

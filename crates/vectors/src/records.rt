@@ -40,8 +40,8 @@ fn limit_numbers(l: Limits) -> [u64; 13] {
         l.least_quota as u64,
         l.most_quota as u64,
         l.most_payload as u64,
-        l.most_held as u64,
         l.most_index as u64,
+        0,
         0,
         0,
         0,
@@ -53,6 +53,6 @@ fn limit_numbers(l: Limits) -> [u64; 13] {
 
 pub fn limits() {
     io::write_all(1, b"limits");
-    numbers(limit_numbers(Limits::all()), 7);
+    numbers(limit_numbers(Limits::all()), 6);
     io::write_all(1, b"\n");
 }

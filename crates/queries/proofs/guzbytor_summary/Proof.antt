@@ -1,4 +1,4 @@
-use Rattle.queries.proofs.SummaryLaws.{summary-refused, summary-header, summary-counts, summary-read}
+use Rattle.queries.proofs.SummaryLaws.{summary-refused, summary-header, summary-counts, summary-sent, summary-read}
 use borrow.Author.Needs.{needs}
 use Rattle.queries.proofs.guzbytor_summary.Statement.{statement}
 use Rattle.queries.proofs.guzbytor_summary.Tie as tie
@@ -16,7 +16,7 @@ load-requires : tie.Need-load-requires
 load-requires c κs = search (needs, summary-header)
 
 of-requires : tie.Need-of-requires
-of-requires c κs = search (needs, summary-counts)
+of-requires c κs = search (needs, summary-counts, summary-sent)
 
 returns-2 : tie.Need-returns-2
 returns-2 c = search (needs, summary-read)

@@ -37,14 +37,17 @@ cast-t11 c = omega (arith, c .struct-known10 .given)
 cast-t12 : tie.Need-cast-t12
 cast-t12 c = omega (arith, c .struct-known11 .given)
 
-cast-t13 : tie.Need-cast-t13
-cast-t13 c = omega (arith, c .struct-known12 .given)
+unsent-requires : tie.Need-unsent-requires
+unsent-requires c κs = search needs
 
 cast-t14 : tie.Need-cast-t14
-cast-t14 c = omega (arith, c .struct-known13 .given)
+cast-t14 c = search needs
 
 cast-t15 : tie.Need-cast-t15
-cast-t15 c = omega (arith, c .struct-known14 .given)
+cast-t15 c = omega (arith, c .struct-known12 .given)
+
+cast-t16 : tie.Need-cast-t16
+cast-t16 c = omega (arith, c .struct-known13 .given)
 
 returns : tie.Need-returns
 returns c = search (needs, summary-made)
@@ -64,7 +67,8 @@ of-spec =
     sub-t10
     cast-t11
     cast-t12
-    cast-t13
+    unsent-requires
     cast-t14
     cast-t15
+    cast-t16
     returns)
