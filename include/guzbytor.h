@@ -84,8 +84,7 @@ enum {
     GUZBYTOR_MOST_SERVERS = 8,
     GUZBYTOR_LEAST_QUOTA = 1,
     GUZBYTOR_MOST_QUOTA = 256,
-    GUZBYTOR_MOST_PAYLOAD = 48,
-    GUZBYTOR_MOST_HELD = 16
+    GUZBYTOR_MOST_PAYLOAD = 48
 };
 
 /* The longest green entry that a reading puts. */

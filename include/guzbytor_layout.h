@@ -24,7 +24,7 @@ enum {
     AT_GREEN = 24,
     AT_NUMBERED = 28,
     AT_OWN_COUNT = 30,
-    AT_HELD_COUNT = 32,
+    AT_SENT = 32,
     AT_ATTEMPT = 34,
     AT_LAST_INDEX = 38,
     AT_LAST_ATTEMPT = 42,
@@ -37,14 +37,13 @@ enum {
     AT_YELLOW_STATUS = 58,
     AT_YELLOW_COUNT = 59,
     HEADER_SIZE = 61,
-    IMAGE_LAYOUT = 9
+    IMAGE_LAYOUT = 10
 };
 
 /* Entries of its sections. */
 enum {
     CUT_SIZE = 2,
     NOTED_SIZE = 4,
-    HELD_SIZE = 49,
     ID_SIZE = 3,
     SLOT_SIZE = 56
 };

@@ -39,7 +39,7 @@ servers 3 quota 2
 crash 2
 2: recover
 
-// All meet again: A and C by position, C as red, B and D as red. 0 holds E meanwhile.
+// All meet again: A and C by position, C as red, B and D as red. E waits at 0 meanwhile.
 0 1: transitional {0,1}
 0 1 2: regular 4 {0,1,2}
 0 1 2: deliver 0 1 2

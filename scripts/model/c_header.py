@@ -23,7 +23,7 @@ PUBLIC = (
         ('KIND_' + kind.upper(), k) for k, kind in enumerate(records.KINDS) if kind]),
     ('Limits.', [
         ('FEWEST_SERVERS', layout.FEWEST_SERVERS), ('MOST_SERVERS', layout.MOST_SERVERS), ('LEAST_QUOTA', layout.LEAST_QUOTA),
-        ('MOST_QUOTA', layout.MOST_QUOTA), ('MOST_PAYLOAD', layout.MOST_PAYLOAD), ('MOST_HELD', layout.MOST_HELD)]),
+        ('MOST_QUOTA', layout.MOST_QUOTA), ('MOST_PAYLOAD', layout.MOST_PAYLOAD)]),
     ('The longest green entry that a reading puts.', [('MOST_ENTRY', size(ID) + 1 + layout.MOST_PAYLOAD)]),
     ('Operations on the register: a payload\'s first byte.', [('SET', register.SET), ('MOVE', register.MOVE), ('RETIRE', register.RETIRE)]),
     ('The register\'s buffer, and its limits.', [
@@ -35,7 +35,7 @@ GROUPS = (
     ('The state\'s image: fields of its header, which come first.', named('AT_', HEADER) + [('HEADER_SIZE', size(HEADER))]
      + [('IMAGE_' + name.upper(), value) for name, value in layout.FIXED.items()]),
     ('Entries of its sections.', [
-        ('CUT_SIZE', layout.CUT), ('NOTED_SIZE', layout.NOTED), ('HELD_SIZE', layout.HELD), ('ID_SIZE', size(ID)), ('SLOT_SIZE', layout.SLOT)]),
+        ('CUT_SIZE', layout.CUT), ('NOTED_SIZE', layout.NOTED), ('ID_SIZE', size(ID)), ('SLOT_SIZE', layout.SLOT)]),
     ('An action: in a slot, and in a record\'s body. Its payload follows.', named('ACTION_', ACTION) + [('ACTION_SIZE', size(ACTION))]),
     ('A retransmission: what stands before its action, and the longest record.', [
         ('RETRANSMISSION_SIZE', layout.RETRANSMISSION_HEAD), ('MOST_RETRANSMISSION', layout.MOST_RETRANSMISSION)]),

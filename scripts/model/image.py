@@ -1,7 +1,7 @@
 """The state's image in its buffer: the start's, and what the state check answers of any bytes (rows 7 and 8; docs/DECISIONS.md, 31 to 34)."""
 from . import layout
 from .exchange import has, planned
-from .layout import ACTION, HEADER, MODES, MOST_HELD, MOST_INDEX, MOST_PAYLOAD, size
+from .layout import ACTION, HEADER, MODES, MOST_INDEX, MOST_PAYLOAD, size
 from .records import Context, Refused, id_ok, read, unpacked
 
 
@@ -70,8 +70,8 @@ def header_ok(v):
     h = v.h
     return (all(h[name] == value for name, value in layout.FIXED.items()) and v.me < v.n and configurations_ok(v)
             and h['states'] & ~h['configuration.set'] == 0 and set_ok(v, h['cpcs']) and h['come'] <= 2 * v.all
-            and h['queue.count'] <= v.all and h['green'] <= h['queue.count'] and h['own.count'] <= v.q and h['held.count'] <= MOST_HELD
-            and h['numbered'] + h['held.count'] <= v.q and h['attempt'] <= MOST_INDEX and pair_ok(v, 'last')
+            and h['queue.count'] <= v.all and h['green'] <= h['queue.count'] and h['own.count'] <= v.q and h['numbered'] <= v.q
+            and h['sent'] <= h['numbered'] and h['attempt'] <= MOST_INDEX and pair_ok(v, 'last')
             and h['mark.status'] <= 1 and pair_ok(v, 'mark') and set_ok(v, h['mark.bits'])
             and h['yellow.status'] <= 1 and h['yellow.count'] <= v.all)
 
@@ -108,7 +108,7 @@ def slots(v, section, count):
 def lists_ok(v):
     yellow = [tuple(unpacked(layout.ID, v.data, v.at('yellow', k))) for k in range(v.h['yellow.count'])]
     own, queue = slots(v, 'own', v.h['own.count']), slots(v, 'queue', v.h['queue.count'])
-    if not all(filled(v, v.at('held', k)) for k in range(v.h['held.count'])) or not ids_ok(v, yellow) or own is None or queue is None:
+    if not ids_ok(v, yellow) or own is None or queue is None:
         return False
     cut = v.cut(v.me)
     return own == [(v.me, cut + 1 + k) for k in range(len(own))] and ids_ok(v, queue) and all(i <= v.cut(c) for c, i in queue)

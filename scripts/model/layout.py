@@ -2,7 +2,7 @@
 
 FEWEST_SERVERS, MOST_SERVERS = 2, 8
 LEAST_QUOTA, MOST_QUOTA = 1, 256
-MOST_PAYLOAD, MOST_HELD = 48, 16
+MOST_PAYLOAD = 48
 MOST_INDEX = 4_000_000_000
 MOST_PEGS, MOST_NAME = 4096, 24
 
@@ -22,7 +22,7 @@ HEADER = (
     + (('configuration.status', 1), ('configuration.id', 4), ('configuration.set', 1))
     + (('transitional.status', 1), ('transitional.set', 1))
     + (('states', 1), ('cpcs', 1), ('come', 4))
-    + (('queue.count', 4), ('green', 4), ('numbered', 2), ('own.count', 2), ('held.count', 2), ('attempt', 4))
+    + (('queue.count', 4), ('green', 4), ('numbered', 2), ('own.count', 2), ('sent', 2), ('attempt', 4))
     + LAST + MARK + (('yellow.status', 1), ('yellow.count', 2))
 )
 
@@ -33,7 +33,7 @@ PEG = (('length', 1), ('name', MOST_NAME)) + PLACE
 OPERATION = (('operation', 1), ('length', 1))
 
 # Fields of the header whose value every image has; another value is 8.
-FIXED = {'layout': 9}
+FIXED = {'layout': 10}
 
 
 def size(fields):
@@ -50,7 +50,6 @@ def places(fields, at=0):
 
 
 CUT, NOTED = 2, 4
-HELD = 1 + MOST_PAYLOAD
 SLOT = size(ACTION) + MOST_PAYLOAD
 RETRANSMISSION_HEAD = 1 + 4
 # A retransmission with the longest payload.
@@ -64,7 +63,7 @@ def state_slot(n, q):
 def sections(n, q):
     """Name to (offset, size of an entry)."""
     sizes = (
-        ('cuts', CUT, n), ('noted', NOTED, n), ('held', HELD, MOST_HELD), ('State', state_slot(n, q), n),
+        ('cuts', CUT, n), ('noted', NOTED, n), ('State', state_slot(n, q), n),
         ('yellow', size(ID), n * q), ('own', SLOT, q), ('queue', SLOT, n * q), ('end', 0, 0),
     )
     found, at = {}, size(HEADER)
@@ -122,7 +121,7 @@ def in_entry(at, fields, whole, words):
 
 
 def place(n, q, name):
-    """(offset, width) of a part of the image by its name, as `me`, `cuts.1`, `State.0.mark.set`, `queue.2.index`, `held.0.byte.47`."""
+    """(offset, width) of a part of the image by its name, as `me`, `cuts.1`, `State.0.mark.set`, `queue.2.index`, `own.0.byte.47`."""
     header = places(HEADER)
     if name in header:
         return header[name]
@@ -134,5 +133,5 @@ def place(n, q, name):
             return (at, entry)
         offset, width = in_state_record(n, words[2:])
         return (at + offset, width)
-    fields = {'cuts': (), 'noted': (), 'held': (('payload', 1),), 'yellow': ID, 'own': ACTION, 'queue': ACTION}[words[0]]
+    fields = {'cuts': (), 'noted': (), 'yellow': ID, 'own': ACTION, 'queue': ACTION}[words[0]]
     return in_entry(at, fields, entry, words[2:])

@@ -31,7 +31,7 @@ def with_lengths(text):
 
 # The page's names of sections.
 SECTIONS = {
-    'header': None, 'cuts': 'cuts', 'noted lengths': 'noted', 'held requests': 'held', 'collected States': 'State', 'yellow ids': 'yellow',
+    'header': None, 'cuts': 'cuts', 'noted lengths': 'noted', 'collected States': 'State', 'yellow ids': 'yellow',
     'own list': 'own', 'queue': 'queue', 'end': 'end',
 }
 

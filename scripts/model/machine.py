@@ -1,10 +1,9 @@
-"""One server of document 01: its state, and what each event does ('What each event does', 'Install', 'Returned numbers' rows 0 to 6)."""
+"""One server of document 01 with document 02's K1 and K4: its state, and what each event does ('What each event does', 'Install', 'Returned numbers' rows 0 to 6)."""
 import copy
 from dataclasses import dataclass, field
 
 from . import exchange
 from .exchange import CLEARED, has
-from .layout import MOST_HELD
 from .records import Context, Record, Refused, need, read
 
 
@@ -24,7 +23,7 @@ class Server:
     cuts: list = None
     own: list = field(default_factory=list)
     numbered: int = 0
-    held: list = field(default_factory=list)
+    sent: int = 0                   # up to which index own actions were sent
     noted: list = None
     attempt: int = 0
     last: tuple = None
@@ -95,19 +94,11 @@ def sends_now(s):
     return s.mode == 'Reg_prim' or s.mode == 'Non_prim' and s.configuration is not None and s.transitional is None
 
 
-def number(s, payloads):
-    """Numbered and put on the own list: the records to send."""
-    made = []
-    for p in payloads:
-        s.numbered += 1
-        made.append(Record('action', creator=s.me, index=s.numbered, green=len(s.green), payload=p))
-    s.own += made
-    return made
-
-
-def send_held(s):
-    made, s.held = number(s, s.held), []
-    return made
+def send_waiting(s):
+    """What is on the own list and was not sent, in order."""
+    waiting = [a for a in s.own if a.index > s.sent]
+    s.sent = s.numbered
+    return waiting
 
 
 # ---- exchange, Install
@@ -144,7 +135,7 @@ def end_exchange(s):
         s.mode = 'Construct'
         return [Record('CPC', sender=s.me, id=s.configuration[0])], True
     s.mode = 'Non_prim'
-    return send_held(s), True
+    return send_waiting(s), True
 
 
 def install(s):
@@ -208,7 +199,7 @@ def on_cpc(s, r):
         return [], False
     install(s)
     s.mode = 'Reg_prim'
-    return send_held(s), True
+    return send_waiting(s), True
 
 
 def on_regular(s, r):
@@ -226,14 +217,13 @@ def on_transitional(s, r):
 
 
 def on_request(s, r):
-    if sends_now(s):
-        return number(s, [r.payload]), True
-    s.held.append(r.payload)
-    return [], False
+    s.numbered += 1
+    s.own.append(Record('action', creator=s.me, index=s.numbered, green=len(s.green), payload=r.payload))
+    return send_waiting(s) if sends_now(s) else [], True
 
 
 def on_recovery(s, r):
-    s.mode, s.configuration, s.transitional, s.states, s.held = 'Non_prim', None, None, {}, []
+    s.mode, s.configuration, s.transitional, s.states = 'Non_prim', None, None, {}
     for a in list(s.own):
         enter_red(s, a)
     return [], True
@@ -282,8 +272,7 @@ def step(state, data):
         need(possible(s, r), 5)
         need(from_member(s, r), 6)
         if r.kind == 'request':
-            need(s.numbered + len(s.held) < s.quota, 3)
-            need(sends_now(s) or len(s.held) < MOST_HELD, 4)
+            need(s.numbered < s.quota, 3)
     except Refused as refused:
         return Outcome(refused.number, state)
     sent, store = TAKEN[r.kind][1](s, r)

@@ -9,13 +9,13 @@ import re
 import zlib
 
 from . import records, words
-from .layout import FEWEST_SERVERS, LEAST_QUOTA, MOST_HELD, MOST_INDEX, MOST_PAYLOAD, MOST_QUOTA, MOST_SERVERS
+from .layout import FEWEST_SERVERS, LEAST_QUOTA, MOST_INDEX, MOST_PAYLOAD, MOST_QUOTA, MOST_SERVERS
 from .records import Context, Refused
 
 FIELDS = {'servers': 'servers', 'quota': 'quota', 'server': 'me', 'configured': 'configured', 'last': 'last'}
 FEW_BYTES = 72
 ROOM_FILL = 238
-LIMITS = (FEWEST_SERVERS, MOST_SERVERS, LEAST_QUOTA, MOST_QUOTA, MOST_PAYLOAD, MOST_HELD, MOST_INDEX)
+LIMITS = (FEWEST_SERVERS, MOST_SERVERS, LEAST_QUOTA, MOST_QUOTA, MOST_PAYLOAD, MOST_INDEX)
 
 
 def context_of(w):
