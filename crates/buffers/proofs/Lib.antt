@@ -7,3 +7,4 @@ pub mod Entries
 pub mod Runs
 pub mod Agreement
 pub mod OutgoingLaws
+pub mod RequestLaws

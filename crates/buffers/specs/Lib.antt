@@ -3,3 +3,4 @@ pub mod Sending
 pub mod Daemons
 pub mod Claim
 pub mod Outgoing
+pub mod Requests

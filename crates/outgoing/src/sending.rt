@@ -54,7 +54,10 @@ fn send_own(state: &[u8], out: &mut [u8], at: usize, p: u16) -> usize
     requires { ⌜ OwnIn (now state) × (1 ≤ p) × (p ≤ ownCount (now state)) × (at + mostRetransmission ≤ length (now out)) ⌝ }
     ensures { λ r. ⌜ SendsTo 1 (oneOf (ownAt (now (state .entry)) p)) at out r ⌝ }
 {
-    let a = action_at(state, place_of(state, THE_OWN) + State::SLOT * (p as usize - 1));
+    let a = action_at(
+        state,
+        place_of(state, THE_OWN) + State::SLOT * (p as usize - 1),
+    );
     send_made(state, out, at, a)
 }
 

@@ -26,11 +26,7 @@ const STATES: usize = SERVERS * (StateHead::SIZE + 2 * SERVERS + State::ID * ACT
 const SLOTS: usize = State::SLOT * QUOTA + State::SLOT * ACTIONS;
 
 // Both buffers for them, by the formulas of docs/LAYOUT.md.
-pub const STATE_ROOM: usize = State::SIZE
-    + 6 * SERVERS
-    + STATES
-    + State::ID * ACTIONS
-    + SLOTS;
+pub const STATE_ROOM: usize = State::SIZE + 6 * SERVERS + STATES + State::ID * ACTIONS + SLOTS;
 
 pub const OUT_ROOM: usize = 2 * State::RETRANSMISSION * ACTIONS;
 

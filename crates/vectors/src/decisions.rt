@@ -35,11 +35,7 @@ const STATES: usize = SERVERS * (StateHead::SIZE + 2 * SERVERS + State::IDS);
 const SLOTS: usize = State::SLOT * (State::MOST_QUOTA as usize + State::MOST_IDS);
 
 // Both buffers at the largest sizes, by the formulas of docs/LAYOUT.md.
-const STATE_ROOM: usize = State::SIZE
-    + 6 * SERVERS
-    + STATES
-    + State::IDS
-    + SLOTS;
+const STATE_ROOM: usize = State::SIZE + 6 * SERVERS + STATES + State::IDS + SLOTS;
 
 const OUT_ROOM: usize = 2 * State::RETRANSMISSION * State::MOST_IDS;
 
