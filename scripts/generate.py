@@ -59,13 +59,14 @@ def vector_files():
 
 def files():
     """Path to bytes of every file."""
-    stories = {name: story.told(source(name + '.story')) for name in ('worked', 'partition', 'reunion', 'halves')}
+    stories = {name: story.told(source(name + '.story')) for name in ('worked', 'partition', 'reunion', 'halves', 'corner')}
     found = {}
     for name, told in stories.items():
         found.update(run_files(name, told))
     found['crates/replay/stdin'], found['crates/replay/stdout'] = found['samples/partition.bin'], found['samples/partition.txt']
     found['crates/examples/proofs/Worked.antt'] = worked_file(stories['worked'])
     found['crates/examples/proofs/PartitionRun.antt'] = proof_files.run_file(stories['partition'], SOURCES + 'partition.story').encode()
+    found['crates/examples/proofs/CornerRun.antt'] = proof_files.run_file(stories['corner'], SOURCES + 'corner.story').encode()
     found['docs/reunion.svg'] = picture(found['samples/reunion.bin'], found['samples/reunion.txt'])
     found['include/guzbytor_layout.h'] = c_header.header().encode()
     for name, page in (('include/guzbytor.h', c_header.public), ('docs/LAYOUT.md', layout_page.page), ('docs/RECORDS.md', records_page.page)):

@@ -14,3 +14,5 @@ pub mod CrossedConfigurations
 pub mod UnsafeInstall
 pub mod PartitionRun
 pub mod Partition
+pub mod CornerRun
+pub mod Corner
