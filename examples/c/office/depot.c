@@ -48,14 +48,14 @@ guzbytor_summary_answer depot_summary(const office *o, uint8_t k) {
 
 /* ---- requests */
 
-/* A request that was answered 0 must be stored. It is kept, to be compared in the end. */
+/* A request that was answered 0 must be within the quota, and stored. It is kept, to be compared in the end. */
 static void note_request(office *o, const event *e, guzbytor_register_step_answer a) {
     depot *d = &o->depots[e->server];
     if (a.number != 0 || e->bytes[GUZBYTOR_AT_KIND] != GUZBYTOR_KIND_REQUEST) {
         return;
     }
-    if (a.store != 1) {
-        wrong(o, "depot %u: a request is answered 0 and not stored", e->server);
+    if (d->asked == o->quota || a.store != 1) {
+        wrong(o, "depot %u: a request after %u of %u is answered 0, with the store word %u", e->server, d->asked, o->quota, a.store);
     }
     memcpy(d->payloads[d->asked++], e->bytes + GUZBYTOR_AT_BODY, e->length - GUZBYTOR_AT_BODY);
 }
