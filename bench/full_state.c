@@ -2,7 +2,6 @@
 #include "layout.h"
 
 #include <stdlib.h>
-#include <string.h>
 
 void put(uint8_t *b, size_t width, uint32_t v) {
     for (size_t i = width; i-- > 0; v >>= 8) {
@@ -49,9 +48,8 @@ static void put_state(uint8_t *b, size_t n, size_t q, size_t sender) {
 }
 
 full_state make_full_state(size_t n, size_t q, fullness what) {
-    size_t held = what != FULL_LISTS ? 0 : q > GUZBYTOR_MOST_HELD ? GUZBYTOR_MOST_HELD : q / 2;
-    size_t own = what == FULL_QUEUE ? 0 : q - held;
-    size_t cut = q - held - own; /* of the server itself, number 0 */
+    size_t own = what == FULL_OWN ? q : 0;
+    size_t cut = q - own; /* of the server itself, number 0 */
     size_t actions = (n - 1) * q + cut;
     full_state s = {calloc(1, state_length(n, q)), state_length(n, q), out_length(n, q), 0};
     uint8_t *b = s.bytes;
@@ -71,7 +69,7 @@ full_state make_full_state(size_t n, size_t q, fullness what) {
     put(b + AT_GREEN, 4, (uint32_t)(actions / 2));
     put(b + AT_NUMBERED, 2, (uint32_t)(cut + own));
     put(b + AT_OWN_COUNT, 2, (uint32_t)own);
-    put(b + AT_HELD_COUNT, 2, (uint32_t)held);
+    put(b + AT_SENT, 2, (uint32_t)(cut + own / 2));
     b[AT_LAST_SET] = all;
     b[AT_YELLOW_STATUS] = 1;
     put(b + AT_YELLOW_COUNT, 2, (uint32_t)(n * q));
@@ -79,10 +77,6 @@ full_state make_full_state(size_t n, size_t q, fullness what) {
         put(b + cuts_at() + CUT_SIZE * c, CUT_SIZE, (uint32_t)(c == 0 ? cut : q));
         put(b + noted_at(n) + NOTED_SIZE * c, NOTED_SIZE, 1);
         put_state(b + states_at(n) + c * state_slot(n, q), n, q, c);
-    }
-    for (size_t k = 0; k < held; k++) {
-        b[held_at(n) + HELD_SIZE * k] = PAYLOAD;
-        memset(b + held_at(n) + HELD_SIZE * k + 1, 7, PAYLOAD);
     }
     put_ids(b + yellow_at(n, q), n, q);
     for (size_t k = 0; k < own; k++) {
@@ -98,6 +92,6 @@ full_state make_full_state(size_t n, size_t q, fullness what) {
             }
         }
     }
-    s.used = held_at(n) + HELD_SIZE * held + n * state_slot(n, q) + ID_SIZE * n * q + SLOT_SIZE * (own + actions);
+    s.used = states_at(n) + n * state_slot(n, q) + ID_SIZE * n * q + SLOT_SIZE * (own + actions);
     return s;
 }

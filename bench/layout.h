@@ -18,11 +18,10 @@ typedef struct {
     size_t used;
 } full_state;
 
-/* What is full: two limits cannot be met at once, for numbered plus held is at most the quota. */
+/* What is full: not both at once, for an own action leaves the own list when it enters the queue. */
 typedef enum {
-    FULL_QUEUE, /* n q actions in the queue; then nothing is held and the own list is empty */
-    FULL_LISTS, /* held requests and own list at their limits together, every other server's actions in the queue */
-    FULL_OWN    /* q actions on the own list, nothing held, every other server's actions in the queue */
+    FULL_QUEUE, /* n q actions in the queue; then the own list is empty */
+    FULL_OWN    /* q actions on the own list, half of them not yet sent, and every other server's actions in the queue */
 } fullness;
 
 /* Where a State's record with n cuts has its green length, and its yellow ids. */
@@ -37,9 +36,7 @@ static inline size_t cuts_at(void) { return HEADER_SIZE; }
 
 static inline size_t noted_at(size_t n) { return cuts_at() + CUT_SIZE * n; }
 
-static inline size_t held_at(size_t n) { return noted_at(n) + NOTED_SIZE * n; }
-
-static inline size_t states_at(size_t n) { return held_at(n) + HELD_SIZE * GUZBYTOR_MOST_HELD; }
+static inline size_t states_at(size_t n) { return noted_at(n) + NOTED_SIZE * n; }
 
 static inline size_t yellow_at(size_t n, size_t q) { return states_at(n) + n * state_slot(n, q); }
 

@@ -20,8 +20,7 @@ static size_t number(const uint8_t *b, size_t width) {
 
 uint8_t or_of_used(const uint8_t *b) {
     size_t n = b[AT_SERVERS], q = number(b + AT_QUOTA, 2);
-    uint8_t all = or_of(b, held_at(n));
-    all |= or_of(b + held_at(n), HELD_SIZE * number(b + AT_HELD_COUNT, 2));
+    uint8_t all = or_of(b, states_at(n));
     for (size_t c = 0; c < n; c++) {
         if (b[AT_STATES] >> c & 1) {
             const uint8_t *s = b + states_at(n) + c * state_slot(n, q);

@@ -49,6 +49,7 @@ static full_state made(size_t n, size_t q, size_t kind) {
     put(b + AT_QUEUE_COUNT, 4, (uint32_t)actions);
     put(b + AT_GREEN, 4, (uint32_t)(actions / 2));
     put(b + AT_NUMBERED, 2, (uint32_t)cut);
+    put(b + AT_SENT, 2, (uint32_t)cut);
     for (size_t c = 0; c < n; c++) {
         put(b + cuts_at() + CUT_SIZE * c, CUT_SIZE, (uint32_t)cut);
     }
@@ -61,7 +62,7 @@ static full_state made(size_t n, size_t q, size_t kind) {
         memset(slot + ACTION_SIZE, 0, GUZBYTOR_MOST_PAYLOAD);
         memset(slot + ACTION_SIZE, 7, m);
     }
-    s.used = held_at(n) + SLOT_SIZE * actions + (KINDS[kind].ids ? ID_SIZE * n * q : 0) + (KINDS[kind].states ? n * state_slot(n, q) : 0);
+    s.used = states_at(n) + SLOT_SIZE * actions + (KINDS[kind].ids ? ID_SIZE * n * q : 0) + (KINDS[kind].states ? n * state_slot(n, q) : 0);
     return s;
 }
 

@@ -76,17 +76,17 @@ static bool configurations_ok(view s) {
 static bool numbers_ok(view s) {
     const uint8_t *b = s.b;
     size_t all = s.n * s.q;
-    uint32_t queue = num32(b + AT_QUEUE_COUNT), held = num16(b + AT_HELD_COUNT);
+    uint32_t queue = num32(b + AT_QUEUE_COUNT), numbered = num16(b + AT_NUMBERED);
     if (b[AT_ME] >= s.n || b[AT_STATE] > GUZBYTOR_UN || !configurations_ok(s)) {
         return false;
     }
     if ((b[AT_STATES] & ~b[AT_CONFIGURATION_SET]) != 0 || !set_ok(s, b[AT_CPCS]) || num32(b + AT_COME) > 2 * all) {
         return false;
     }
-    if (queue > all || num32(b + AT_GREEN) > queue || num16(b + AT_OWN_COUNT) > s.q || held > GUZBYTOR_MOST_HELD) {
+    if (queue > all || num32(b + AT_GREEN) > queue || num16(b + AT_OWN_COUNT) > s.q || numbered > s.q || num16(b + AT_SENT) > numbered) {
         return false;
     }
-    if (num16(b + AT_NUMBERED) + held > s.q || num32(b + AT_ATTEMPT) > MOST_INDEX || !primary_ok(s, b + AT_LAST_INDEX)) {
+    if (num32(b + AT_ATTEMPT) > MOST_INDEX || !primary_ok(s, b + AT_LAST_INDEX)) {
         return false;
     }
     return mark_ok(s, b + AT_MARK_STATUS) && b[AT_YELLOW_STATUS] <= 1 && num16(b + AT_YELLOW_COUNT) <= all;
@@ -95,8 +95,8 @@ static bool numbers_ok(view s) {
 static size_t cut_of(view s, size_t creator) { return num16(s.b + cuts_at() + CUT_SIZE * creator); }
 
 static bool first_lists_ok(view s) {
-    const uint8_t *noted = s.b + noted_at(s.n), *held = s.b + held_at(s.n);
-    size_t sum = 0, count = num16(s.b + AT_HELD_COUNT);
+    const uint8_t *noted = s.b + noted_at(s.n);
+    size_t sum = 0;
     for (size_t c = 0; c < s.n; c++) {
         size_t cut = cut_of(s, c);
         if (cut > s.q || num32(noted + NOTED_SIZE * c) > s.n * s.q) {
@@ -104,15 +104,7 @@ static bool first_lists_ok(view s) {
         }
         sum += cut;
     }
-    if (sum != num32(s.b + AT_QUEUE_COUNT) || cut_of(s, s.b[AT_ME]) + num16(s.b + AT_OWN_COUNT) != num16(s.b + AT_NUMBERED)) {
-        return false;
-    }
-    for (size_t k = 0; k < count; k++) {
-        if (!payload_ok(held + HELD_SIZE * k)) {
-            return false;
-        }
-    }
-    return true;
+    return sum == num32(s.b + AT_QUEUE_COUNT) && cut_of(s, s.b[AT_ME]) + num16(s.b + AT_OWN_COUNT) == num16(s.b + AT_NUMBERED);
 }
 
 static bool own_ok(view s) {

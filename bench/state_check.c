@@ -12,7 +12,7 @@ static const struct {
     size_t n, q;
 } SIZES[] = {{2, 16}, {4, 64}, {8, 256}};
 
-static const char *const NAMES[] = {"full queue", "full lists"};
+static const char *const NAMES[] = {"full queue", "full own list"};
 
 enum { COUNT = sizeof SIZES / sizeof SIZES[0], ROUNDS = 200 };
 
@@ -82,11 +82,11 @@ int main(void) {
             }
         }
     }
-    printf("\nstate       n   q   used bytes  ns/byte  plain C  ratio  to (2, 16)\n");
+    printf("\nstate          n   q   used bytes  ns/byte  plain C  ratio  to (2, 16)\n");
     for (int what = 0; what < 2; what++) {
         for (int i = 0; i < COUNT; i++) {
             double r = rattle[what][i], p = plain[what][i];
-            printf("%s  %zu %3zu  %11zu  %7.3f  %7.3f  %5.2f  %10.2f\n", NAMES[what], SIZES[i].n, SIZES[i].q, states[what][i].used, r, p, r / p,
+            printf("%-13s  %zu %3zu  %11zu  %7.3f  %7.3f  %5.2f  %10.2f\n", NAMES[what], SIZES[i].n, SIZES[i].q, states[what][i].used, r, p, r / p,
                    r / rattle[what][0]);
         }
     }

@@ -20,7 +20,7 @@ uint8_t *in_memory(size_t length) {
 
 size_t used_bytes(const uint8_t *b) {
     size_t n = b[AT_SERVERS], q = number(b + AT_QUOTA, 2);
-    size_t used = held_at(n) + HELD_SIZE * number(b + AT_HELD_COUNT, 2) + ID_SIZE * number(b + AT_YELLOW_COUNT, 2);
+    size_t used = states_at(n) + ID_SIZE * number(b + AT_YELLOW_COUNT, 2);
     for (size_t k = 0; k < n; k++) {
         used += b[AT_STATES] >> k & 1 ? GUZBYTOR_AT_VERSION + number(b + states_at(n) + k * state_slot(n, q), 2) : 0;
     }

@@ -24,8 +24,8 @@ enum {
     GUZBYTOR_TAKEN = 0,         /* store if the store word is 1, and wait for it; then send the records, in order, before the next event */
     GUZBYTOR_BAD_RECORD = 1,    /* bad length, version or kind: pass over the event and log it; the group layer brought what no engine wrote */
     GUZBYTOR_OUT_OF_RANGE = 2,  /* a number, set or list is out of range: as 1; of a start, a reading or lengths: the caller's own numbers are wrong */
-    GUZBYTOR_QUOTA_USED = 3,    /* a request, and this server's quota is used: tell the crew; no later request will be taken */
-    GUZBYTOR_HOLDS_FULL = 4,    /* a request that would be held, and 16 are: tell the crew to ask again later */
+    GUZBYTOR_QUOTA_USED = 3,    /* a request, and this server has numbered its quota: tell the crew; no later request will be taken */
+    GUZBYTOR_HOLDS_FULL = 4,    /* never returned: since document 02's K4 a request is numbered and stored whenever it comes, and none is held */
     GUZBYTOR_NOT_NOW = 5,       /* an event that cannot come in this state: a duty of the group layer was broken (docs/GROUP-LAYER.md); log it */
     GUZBYTOR_NOT_FROM_HERE = 6, /* a sender outside the configuration, another configuration's id, or a second State or CPC: as 5 */
     GUZBYTOR_SHORT_BUFFER = 7,  /* a buffer is shorter than guzbytor_lengths or guzbytor_register_length asks for: a mistake of the daemon's */
@@ -134,7 +134,8 @@ typedef struct {
 } guzbytor_step_answer;
 
 /* One event at one server: number 0 with the new state and the records put out, or the number that the event or the buffers are refused with.
-   A recovery is given the image stored last. */
+   A recovery is given the image stored last. A request that is taken gets its index and sets the store word, in every state: once it is stored no
+   crash loses it. */
 guzbytor_step_answer guzbytor_step(uint8_t *state, size_t state_length, const uint8_t *event, size_t event_length, uint8_t *out, size_t out_length);
 
 /* The number of the event that a burst stopped at (0: none was refused); of the last event taken the store word, and how many bytes of records the
@@ -173,9 +174,9 @@ typedef struct {
     uint32_t transitional_set;                    /* .. of these; else 0 */
     uint32_t green;                               /* entries that have their lasting place */
     uint32_t red;                                 /* entries that are known here and have none yet */
-    uint32_t numbered;                            /* own requests that have got an index, of `quota` */
-    uint32_t waiting;                             /* of these, stored and sent, but not yet come back */
-    uint32_t held;                                /* requests taken, kept in memory until they can be sent */
+    uint32_t numbered;                            /* own requests taken so far, each with its index and stored, of `quota` */
+    uint32_t waiting;                             /* of these, on the own list: stored, and not yet come back */
+    uint32_t unsent;                              /* of these, not yet sent: they are on reaching Reg_prim, or Non_prim at the end of an exchange */
     uint32_t primary_index, primary_attempt, primary_set; /* the last primary component known here */
     uint32_t attempt;
     uint32_t marked;                              /* 1: marked by an attempt at a primary component whose end is not known here */

@@ -2,6 +2,7 @@
 # How long outgoing records take to write, before and after a change (bench/README.md, 'Outgoing records'): bench/writing.c with the archive of
 # REV and with the working tree's, in turns; the best of each figure counts. Prints a Markdown table; ends with 1 where the two put out other bytes.
 # usage: bench_writing.sh REV [DIRECTORY]
+#   REV: of the working tree's layout, for both programs write states by bench/layout.h
 #   DIRECTORY: a clone at REV with its archive in dist/ (scripts/dist.sh); without it one is made, built and removed.
 set -eu
 turns=7
@@ -17,6 +18,8 @@ if [ $# -eq 2 ]; then
 fi
 cd "$(dirname "$0")/.."
 commit=$(git rev-parse --verify --quiet "$1^{commit}") || fail "no such revision: $1"
+layout() { sed -n 's/.*IMAGE_LAYOUT = \([0-9]*\).*/\1/p'; }
+[ "$(git show "$commit:include/guzbytor_layout.h" | layout)" = "$(layout <include/guzbytor_layout.h)" ] || fail "$1 has another layout of the state"
 if [ -n "$before" ]; then
     [ "$(git -C "$before" rev-parse HEAD)" = "$commit" ] || fail "$2 is not at $1"
     git -C "$before" diff --quiet HEAD || fail "$2 has changes that are not in $1"

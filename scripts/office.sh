@@ -1,7 +1,7 @@
 #!/bin/sh
 # Runs the office (examples/c/office) by the seeds 1 to COUNT, with every number of depots and many quotas: each run must end with all depots in one
-# primary component with equal green lists, and the register that they make. Runs that `replay` can take are recorded, and its lines compared with the
-# office's own. Then a register as a table and as a sheet (examples/c/sheet.c), which must be those under docs/.
+# primary component with equal green lists, which have every request that was answered 0, and the register that they make. Runs that `replay` can take
+# are recorded, and its lines compared with the office's own. Then a register as a table and as a sheet (examples/c/sheet.c), which must be those under docs/.
 # usage: office.sh [COUNT]       (default 1000)
 set -eu
 cd "$(dirname "$0")/.."

@@ -1,4 +1,5 @@
 #include "events.h"
+#include "guzbytor_layout.h"
 #include "office.h"
 
 #include <string.h>
@@ -45,16 +46,52 @@ guzbytor_summary_answer depot_summary(const office *o, uint8_t k) {
     return a;
 }
 
+/* ---- requests */
+
+/* A request that was answered 0 must be within the quota, and stored. It is kept, to be compared in the end. */
+static void note_request(office *o, const event *e, guzbytor_register_step_answer a) {
+    depot *d = &o->depots[e->server];
+    if (a.number != 0 || e->bytes[GUZBYTOR_AT_KIND] != GUZBYTOR_KIND_REQUEST) {
+        return;
+    }
+    if (d->asked == o->quota || a.store != 1) {
+        wrong(o, "depot %u: a request after %u of %u is answered 0, with the store word %u", e->server, d->asked, o->quota, a.store);
+    }
+    memcpy(d->payloads[d->asked++], e->bytes + GUZBYTOR_AT_BODY, e->length - GUZBYTOR_AT_BODY);
+}
+
+/* Own actions are put out in their order, one time only. */
+static void note_put(office *o, uint8_t k, const uint8_t *put) {
+    if (put[GUZBYTOR_AT_KIND] != GUZBYTOR_KIND_ACTION) {
+        return;
+    }
+    const uint8_t *action = put + GUZBYTOR_AT_BODY;
+    uint32_t index = (uint32_t)action[ACTION_INDEX] << 8 | action[ACTION_INDEX + 1];
+    if (action[ACTION_CREATOR] != k || index <= o->depots[k].sent || index > o->depots[k].asked) {
+        wrong(o, "depot %u sends action %u/%u after its own %u of %u", k, action[ACTION_CREATOR], index, o->depots[k].sent, o->depots[k].asked);
+    }
+    o->depots[k].sent = index;
+}
+
+/* In memory, and in the store that a recovery is given: every request that was answered 0 is numbered. Those that have not come back wait, and of these
+   the ones that were not put out are unsent; where requests are sent there are none. */
+static void test_requests(const office *o, uint8_t k, guzbytor_summary_answer a) {
+    const depot *d = &o->depots[k];
+    uint32_t back = a.numbered - a.waiting, gone = back > d->sent ? back : d->sent;
+    int sends = a.state == GUZBYTOR_REG_PRIM || (a.state == GUZBYTOR_NON_PRIM && a.configured && !a.transitional);
+    if (a.numbered != d->asked) {
+        wrong(o, "depot %u: %u requests were answered 0, and %u are numbered", k, d->asked, a.numbered);
+    }
+    if (a.unsent != a.numbered - gone || (sends && a.unsent != 0)) {
+        wrong(o, "depot %u: in state %u, %u of %u are unsent, with %u waiting and %u put out", k, a.state, a.unsent, a.numbered, a.waiting, d->sent);
+    }
+}
+
 /* ---- crashes */
 
-/* The running state and register are gone. What was asked is numbered, and so stored, or held, and so lost. */
+/* The running state and register are gone. */
 static void lose_memory(office *o, uint8_t k) {
     depot *d = &o->depots[k];
-    guzbytor_summary_answer a = depot_summary(o, k);
-    if (a.numbered + a.held != d->asked) {
-        wrong(o, "depot %u: %u requests are answered 0, %u numbered, %u held", k, d->asked, a.numbered, a.held);
-    }
-    d->numbered = a.numbered;
     d->up = 0;
     memset(d->image.bytes, WIPED, d->image.length);
     group_falls(&o->group, k, one_in(&o->draws, 2));
@@ -76,10 +113,7 @@ void depot_recovers(office *o, uint8_t k) {
         wrong(o, "depot %u cannot recover", k);
     }
     guzbytor_summary_answer a = depot_summary(o, k);
-    if (a.numbered != d->numbered) {
-        wrong(o, "depot %u: %u requests were numbered, %u are stored", k, d->numbered, a.numbered);
-    }
-    d->asked = a.numbered + a.held;
+    test_requests(o, k, a);
     d->green = a.green;
     d->refused = register_follows(o, k, d->image);
     d->up = 1;
@@ -101,6 +135,7 @@ static uint32_t send_records(office *o, uint8_t k, size_t length, uint32_t most)
     const uint8_t *out = o->depots[k].out.bytes;
     uint32_t put = 0;
     for (size_t at = 0; at < length; at += record_length(out + at), put++) {
+        note_put(o, k, out + at);
         if (put < most) {
             group_send(&o->group, k, out + at, record_length(out + at), o->journal.entries, put);
         }
@@ -108,37 +143,27 @@ static uint32_t send_records(office *o, uint8_t k, size_t length, uint32_t most)
     return put;
 }
 
-/* A request that was answered 0 is kept, to be compared in the end. A recovery drops what was held. */
-static void note_requests(depot *d, const event *e) {
-    if (e->bytes[GUZBYTOR_AT_KIND] == GUZBYTOR_KIND_REQUEST) {
-        memcpy(d->payloads[d->asked++], e->bytes + GUZBYTOR_AT_BODY, e->length - GUZBYTOR_AT_BODY);
-    }
-    if (e->bytes[GUZBYTOR_AT_KIND] == GUZBYTOR_KIND_RECOVERY) {
-        d->asked = d->numbered;
-    }
-}
-
 /* What the answers say turned green is what the state has. */
-static void count_greens(office *o, uint8_t k, guzbytor_register_step_answer a) {
+static void count_greens(office *o, uint8_t k, guzbytor_register_step_answer a, uint32_t green) {
     depot *d = &o->depots[k];
     d->green += a.greened;
     d->refused += a.refused;
-    if (depot_summary(o, k).green != d->green || a.refused > a.greened) {
-        wrong(o, "depot %u: an event turned %u green, and not %u", k, depot_summary(o, k).green - (d->green - a.greened), a.greened);
+    if (green != d->green || a.refused > a.greened) {
+        wrong(o, "depot %u: an event turned %u green, and not %u", k, green - (d->green - a.greened), a.greened);
     }
 }
 
 static void finish(office *o, const event *e, guzbytor_register_step_answer a, fate f) {
     depot *d = &o->depots[e->server];
-    count_greens(o, e->server, a);
+    guzbytor_summary_answer left = depot_summary(o, e->server);
+    count_greens(o, e->server, a, left.green);
+    note_request(o, e, a);
     if (a.store == 1) {
         store_image(&o->store, e->server, d->image);
     }
     uint32_t put = send_records(o, e->server, a.sent, f.most);
+    test_requests(o, e->server, left);
     journal_event(&o->journal, e, a.number, put, put < f.most ? put : f.most, d->state);
-    if (a.number == 0) {
-        note_requests(d, e);
-    }
     if (f.crash) {
         if (one_in(&o->draws, 4) && o->stores) {
             depot_stores(o, e->server); /* a further store may fall between an event and the crash */

@@ -138,7 +138,7 @@ static int was_asked(const office *o, const uint8_t *entry, uint32_t *found) {
     return memcmp(entry + ENTRY_FRONT - 1, o->depots[creator].payloads[index - 1], 1 + (size_t)entry[ENTRY_FRONT - 1]) == 0;
 }
 
-/* The green list is what was asked: each request once, as ids in a green list differ. */
+/* The green list is what was asked: each request that was answered 0, crashes or not, and each once, as ids in a green list differ. */
 static void compare_asked(const office *o, const list *l) {
     uint32_t found[GUZBYTOR_MOST_SERVERS] = {0};
     for (size_t at = 0; at < l->entries.length; at += ENTRY_FRONT + l->entries.bytes[at + ENTRY_FRONT - 1]) {
@@ -159,8 +159,8 @@ void depots_equal(const office *o) {
     for (uint8_t k = 0; k < o->servers; k++) {
         guzbytor_summary_answer a = depot_summary(o, k);
         list l = green_at(o, k);
-        if (a.state != GUZBYTOR_REG_PRIM || a.red != 0 || a.waiting != 0 || a.held != 0) {
-            wrong(o, "depot %u ends in state %u with %u red, %u waiting and %u held", k, a.state, a.red, a.waiting, a.held);
+        if (a.state != GUZBYTOR_REG_PRIM || a.red != 0 || a.waiting != 0) {
+            wrong(o, "depot %u ends in state %u with %u red and %u waiting, %u of these unsent", k, a.state, a.red, a.waiting, a.unsent);
         }
         if (a.green != l.count || a.green != o->depots[k].green || l.entries.length != first.entries.length ||
             memcmp(l.entries.bytes, first.entries.bytes, l.entries.length) != 0) {

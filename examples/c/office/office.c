@@ -1,6 +1,6 @@
 /* An office to try the engine in: depots in one process over a group layer in memory (group.h), by a seed. Lines drop and come back, depots crash and
-   recover, crews ask for pegs to be set, moved and retired (crews.c); in the end all lines are up, and all depots must have the same green list and the
-   register that it makes (greens.c). A daemon's duties are in depot.c.
+   recover, crews ask for pegs to be set, moved and retired (crews.c); in the end all lines are up, and all depots must have the same green list, of every
+   request that was answered 0, whatever crashed behind it, and the register that it makes (greens.c). A daemon's duties are in depot.c.
    usage: office SEED [-n DEPOTS] [-q QUOTA] [-m MOVES] [-d FOLDER] [-u] [-r RUN] [-l LINES] [-j JOURNAL] [-p PEGS]
           office -t [-n DEPOTS] [-q QUOTA] [-d FOLDER]
    -d  the folder of the stored images       -u  stores do not wait for the disk

@@ -8,17 +8,17 @@
 #include "journal.h"
 #include "store.h"
 
-/* A depot's daemon: the buffers that it lends the engine, and the requests that were answered 0 and that no crash has lost, each a length and its
-   bytes, in the order of their numbers. State and register are the two parts of one image, for they are stored as one. */
+/* A depot's daemon: the buffers that it lends the engine, and the requests that were answered 0, each a length and its bytes, in the order of their
+   numbers: no crash may lose one. State and register are the two parts of one image, for they are stored as one. */
 typedef struct {
     buffer image;
     buffer state;
     buffer pegs;
     buffer out;
     int up;
-    uint32_t numbered; /* when it last went down */
-    uint32_t green;    /* actions, as the answers count them .. */
-    uint32_t refused;  /* .. and operations of them that the register refused */
+    uint32_t green;   /* actions, as the answers count them .. */
+    uint32_t refused; /* .. and operations of them that the register refused */
+    uint32_t sent;    /* the index of the last own action that was put out */
     uint32_t asked;
     uint8_t payloads[GUZBYTOR_MOST_QUOTA][1 + GUZBYTOR_MOST_PAYLOAD];
 } depot;
@@ -91,7 +91,7 @@ uint32_t register_follows(const office *o, uint8_t k, buffer image);
    each follows its green list, and where the lists are equally long the registers have the same bytes in use. Primary components agree too. */
 void depots_agree(const office *o);
 
-/* All depots are in Reg_prim with equal green lists, which are the requests answered 0, and equal registers; nothing is red, waiting or held. */
+/* All depots are in Reg_prim with equal green lists, which are all requests that were ever answered 0, and equal registers; nothing is red or waiting. */
 void depots_equal(const office *o);
 
 #endif

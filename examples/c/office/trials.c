@@ -56,10 +56,15 @@ static int something_comes(office *o, uint8_t k) {
     return configuration_comes(o, k);
 }
 
+/* It is taken in every state, until the quota is used. */
 static void request_comes(office *o, uint8_t k) {
     uint8_t b[MOST_REQUEST], payload[GUZBYTOR_MOST_PAYLOAD];
     uint8_t length = crew_asks(&o->crews, payload);
-    depot_takes(o, &(event){.server = k, .bytes = b, .length = write_request(b, payload, length)});
+    uint32_t due = o->depots[k].asked < o->quota ? GUZBYTOR_TAKEN : GUZBYTOR_QUOTA_USED;
+    uint32_t number = depot_takes(o, &(event){.server = k, .bytes = b, .length = write_request(b, payload, length)});
+    if (number != due) {
+        wrong(o, "depot %u answers a request with %u, and not with %u", k, number, due);
+    }
 }
 
 /* A transitional configuration before any regular one, which nothing forbids. */
