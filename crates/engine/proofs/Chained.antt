@@ -12,7 +12,7 @@ use Rattle.base.specs.Bytes.{joined, over, zeros, slot}
 use Rattle.base.specs.Lists.{Begins}
 use Rattle.base.proofs.Prefixes.{begins-refl}
 use Rattle.format.specs.Types.{Action, State}
-use Rattle.format.specs.Write.{actionBytes, payloadBytes, idsBytes}
+use Rattle.format.specs.Write.{actionBytes, idsBytes}
 use Rattle.format.proofs.Lengths.{cuts-length, ids-length}
 use Rattle.replication.specs.Machine.Types.{Server}
 use Rattle.replication.specs.Machine.WellFormed.{queue, wellFormed}

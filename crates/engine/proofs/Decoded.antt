@@ -19,7 +19,7 @@ use Rattle.format.specs.Read.{idsAt}
 use Rattle.format.proofs.Fields.{cuts-read, ids-read}
 use Rattle.replication.specs.Machine.Types.{Server, contextOf}
 use Rattle.replication.specs.Machine.WellFormed.{queue}
-use Rattle.engine.specs.Layout.{stateSize, theHeader, theCuts, theNoted, theStates, theYellow, theOwn, theQueue, sections, sectionSize, offset, stateLength, atStates, atQueueLength, atGreenLength, atOwnCount, atSent, atYellowCount, sectionCount}
+use Rattle.engine.specs.Layout.{stateSize, theHeader, theCuts, theNoted, theStates, theYellow, theOwn, theQueue, sections, sectionSize, offset, stateLength, atStates, atQueueLength, atGreenLength, atOwnCount, atYellowCount, sectionCount}
 use Rattle.engine.specs.Image.{senders, section, parts, image}
 use Rattle.engine.specs.Decode.{modeNamed, actionsAt, statesAt, decodedAs, serversIn, quotaIn, decoded}
 use Rattle.engine.proofs.InRange.{InRange}

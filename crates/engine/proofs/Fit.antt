@@ -16,7 +16,7 @@ use Rattle.base.proofs.Sections.{Sized, Laid, begin-end, sized-rest, sized-leng
 use Rattle.base.proofs.Over.{over-length}
 use Rattle.format.specs.Types.{State, Context, state}
 use Rattle.format.specs.Write.{lengthOf}
-use Rattle.format.proofs.Ranges.{PayloadRange, ActionRange}
+use Rattle.format.proofs.Ranges.{ActionRange}
 use Rattle.format.proofs.IdCount.{ids-count}
 use Rattle.format.proofs.Lengths.{cuts-length, ids-length, write-length}
 use Rattle.format.proofs.WriteBytes.{cuts-bytes, ids-bytes}

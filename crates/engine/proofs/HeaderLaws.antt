@@ -14,7 +14,6 @@ use Rattle.format.specs.Read.{primaryAt, markAt}
 use Rattle.format.proofs.Lengths.{primary-length}
 use Rattle.format.proofs.Writing.{primary-written, mark-written}
 use Rattle.record.specs.declared.State.{State}
-use Rattle.record.specs.declared.Mark as declared
 use Rattle.writer.specs.Blocks.{yellowHeadBytes}
 use Rattle.record.specs.Events.{lastIn, markIn}
 use Rattle.record.specs.Values.{componentOf, markOf}

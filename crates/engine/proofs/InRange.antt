@@ -12,8 +12,8 @@ use Rattle.base.specs.Lists.{all, above, Each}
 use Rattle.base.proofs.ListLaws.{all-each, above-length}
 use Rattle.format.specs.Limits.{mostServers, mostIndex, mostIds}
 use Rattle.format.specs.Types.{Id, Action, State, Context}
-use Rattle.format.specs.Range.{actionOk, lengthOk, payloadOk, cutsOk, ownSetOk, idsInRange}
-use Rattle.format.proofs.Ranges.{ContextRange, context-range, length-range, set-range, index-range, configuration-range, PayloadRange, payload-range, ActionRange, action-range, PrimaryRange, primary-range, MarkRange, mark-range, YellowRange, yellow-range, StateRange, state-range}
+use Rattle.format.specs.Range.{actionOk, lengthOk, cutsOk, ownSetOk, idsInRange}
+use Rattle.format.proofs.Ranges.{ContextRange, context-range, length-range, set-range, index-range, configuration-range, ActionRange, action-range, PrimaryRange, primary-range, MarkRange, mark-range, YellowRange, yellow-range, StateRange, state-range}
 use Rattle.format.proofs.IdCount.{ids-count}
 use Rattle.replication.specs.Machine.Types.{Log, Configuration, Server, contextOf}
 use Rattle.replication.specs.Machine.Colours.{cut}

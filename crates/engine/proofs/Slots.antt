@@ -17,10 +17,10 @@ use Rattle.base.specs.Sets.{inSet, withMember}
 use Rattle.base.proofs.SetLaws.{in-empty, member-other, member-same, with-member-below}
 use Rattle.format.specs.Limits.{mostIds}
 use Rattle.format.specs.Types.{Action, State, Context, state, kindNumber, kindOf}
-use Rattle.format.specs.Write.{write, framed, bodyOf, stateBytes, actionBytes, payloadBytes}
-use Rattle.format.specs.Read.{payloadAt, actionAt, stateAt}
-use Rattle.format.proofs.Ranges.{ContextRange, PayloadRange, ActionRange}
-use Rattle.format.proofs.Fields.{payload-read, action-read, state-read}
+use Rattle.format.specs.Write.{write, framed, bodyOf, stateBytes, actionBytes}
+use Rattle.format.specs.Read.{actionAt, stateAt}
+use Rattle.format.proofs.Ranges.{ContextRange, ActionRange}
+use Rattle.format.proofs.Fields.{action-read, state-read}
 use Rattle.engine.specs.Layout.{slotSize, stateSize}
 use Rattle.engine.specs.Image.{senders, notedBytes, stateOver, statesOver, actionSlots}
 use Rattle.engine.specs.Decode.{actionsAt, statesAt}

@@ -13,10 +13,10 @@ use Rattle.base.proofs.BytesLaws.{joined-append, bytes-nil, bytes-small, bytes-
 use Rattle.base.specs.Lists.{Each}
 use Rattle.base.proofs.Over.{over-length, over-again, slot-length}
 use Rattle.format.specs.Types.{Id, Action, State, state}
-use Rattle.format.specs.Write.{write, idBytes, idsBytes, actionBytes, payloadBytes, primaryBytes, markBytes}
-use Rattle.format.proofs.Lengths.{action-length, payload-length}
+use Rattle.format.specs.Write.{write, idBytes, idsBytes, actionBytes, primaryBytes, markBytes}
+use Rattle.format.proofs.Lengths.{action-length}
 use Rattle.format.proofs.Ranges.{PayloadRange}
-use Rattle.format.proofs.WriteBytes.{action-bytes, payload-bytes, primary-bytes, mark-bytes, state-record-bytes}
+use Rattle.format.proofs.WriteBytes.{action-bytes, primary-bytes, mark-bytes, state-record-bytes}
 use Rattle.replication.specs.Machine.Types.{Configuration, Server}
 use Rattle.engine.specs.Layout.{slotSize, headerSize}
 use Rattle.engine.specs.Image.{configurationBytes, transitionalBytes, headerBytes, notedBytes, stateOver, statesOver, actionSlots}

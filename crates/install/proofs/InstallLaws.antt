@@ -33,7 +33,7 @@ use Rattle.queue.proofs.Holding.{log-formed, log-fits}
 use Rattle.updates.proofs.MembershipLaws.{Saved}
 use Rattle.install.specs.Swaps.{greenSwaps}
 use Rattle.install.specs.Table.{logIn, yellowsIn, Turned}
-use Rattle.install.proofs.SwapFits.{swaps-kept, swaps-append}
+use Rattle.install.proofs.SwapFits.{swaps-append}
 use Rattle.install.proofs.Turning.{turned-append}
 use Rattle.install.proofs.PassLaws.{cuts-kept}
 use Rattle.install.proofs.SwapLaws.{alike-greens, alike-itself, alike-same}

@@ -3,7 +3,7 @@
 use Prim.Native.Nat.{ℕ, zero, suc, _+_, _*_, _-_, _≤_, _<_}
 use mathlib.Core.Path.{_≡_, refl, sym, ap, subst, _∙_}
 use mathlib.Core.List.{List, [], _∷_, map}
-use mathlib.Core.Option.{Option, none, some}
+use mathlib.Core.Option.{Option, some}
 use native.Mathlib.Omega.{arith}
 use lib.ListN.{length, drop}
 use lib.Seq.{drop-length}
@@ -19,13 +19,13 @@ use Rattle.record.specs.declared.events.ActionAt.{ActionAt}
 use Rattle.record.specs.Events.{actionIn, actionFrom}
 use Rattle.replication.specs.Machine.Types.{Server, contextOf}
 use Rattle.replication.specs.Machine.Colours.{cut}
-use Rattle.replication.specs.Machine.Requests.{waiting, waitingRecords}
+use Rattle.replication.specs.Machine.Requests.{waitingRecords}
 use Rattle.replication.proofs.WellFormed.Facts.{well-formed-facts}
 use Rattle.replication.proofs.WellFormed.OwnList.{own-length, waiting-behind}
 use Rattle.engine.specs.Layout.{slotSize, theOwn, outLength, atNumbered, atOwnCount, atSent}
 use Rattle.engine.specs.Image.{actionSlots, parts}
-use Rattle.engine.specs.Decode.{actionsAt, decoded, decodedAs}
-use Rattle.engine.specs.Counts.{ownCount, numberedIn, sentIn, place, CountsIn}
+use Rattle.engine.specs.Decode.{decoded, decodedAs}
+use Rattle.engine.specs.Counts.{ownCount, place, CountsIn}
 use Rattle.engine.specs.Holding.{Holds}
 use Rattle.engine.proofs.InPlace.{holds-decoded}
 use Rattle.engine.proofs.InRange.{in-range}

@@ -36,4 +36,5 @@ pub mod Noted
 pub mod RequestsOrder
 pub mod RequestsSent
 pub mod RequestsHeld
+pub mod RequestsWaiting
 pub mod Requests

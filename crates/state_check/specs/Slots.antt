@@ -4,7 +4,7 @@ use Prim.Native.Nat.{ℕ, zero, suc, _+_, _*_, _-_, _≤_, _<_}
 use mathlib.Core.Path.{_≡_}
 use mathlib.Core.Bool.{Bool, true}
 use mathlib.Core.List.{List}
-use lib.ListN.{getD}
+use lib.ListN.{length, getD}
 use Rattle.base.specs.Tests.{_and_, _≤?_, _=?_}
 use Rattle.base.specs.Bytes.{numberAt, zeroAt}
 use Rattle.base.specs.Lists.{everyAt}
@@ -36,6 +36,10 @@ slotFits c b at = lengthOk c (numberAt 4 b (at + actionGreenAt)) and payloadFits
 -- An action of the queue, its index at most its creator's cut; the cuts begin at `cuts`.
 unfoldable pub withinCutAt : List ℕ → (cuts at : ℕ) → Bool
 withinCutAt b cuts at = numberAt 2 b (at + 1) ≤? numberAt 2 b (cuts + 2 * numberAt 1 b at)
+
+-- The cut of the creator of the action at `at` lies in the bytes b.
+abbrev pub CutInside : (cuts at : ℕ) → List ℕ → Type 0
+CutInside cuts at b = cuts + (2 * numberAt 1 b at + 2) ≤ length b
 
 unfoldable pub queueSlotFits : Context → List ℕ → (cuts at : ℕ) → Bool
 queueSlotFits c b cuts at = withinCutAt b cuts at and slotFits c b at

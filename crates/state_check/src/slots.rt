@@ -3,11 +3,11 @@ ghost use mathlib.Core.Path.{_≡_};
 ghost use Prim.Native.Nat.{_+_, _*_, _-_, _≤_};
 ghost use lib.ListN.{length};
 ghost use Rattle.base.specs.Lists.{everyAt};
-ghost use Rattle.base.specs.Bytes.{numberAt, zeroAt};
+ghost use Rattle.base.specs.Bytes.{zeroAt};
 ghost use Rattle.format.specs.Limits.{mostPayload};
 ghost use Rattle.record.specs.Context.{contextOf, ContextIn};
 ghost use Rattle.state_check.specs.Slots.{Masks, payloadRoom, payloadFits, slotFits, notedAt, notedFit};
-ghost use Rattle.state_check.specs.Slots.{queueSlotFits, queueFits, ownReach, ownSlotFits, ownFits};
+ghost use Rattle.state_check.specs.Slots.{CutInside, queueSlotFits, queueFits, ownReach, ownSlotFits, ownFits};
 ghost use Rattle.engine.specs.Layout.{slotSize};
 use record::ActionHead;
 use record::Context;
@@ -77,7 +77,7 @@ fn slot_fits(c: Context, b: &[u8], at: usize, t: &[u8; MASKS]) -> bool
 
 // An action of the queue: the cuts begin at `cuts`, and its creator's is among them.
 fn queue_slot_fits(c: Context, b: &[u8], cuts: usize, at: usize, t: &[u8; MASKS]) -> bool
-    requires { ⌜ ContextIn c × Masks (now t) × (cuts + (2 * numberAt 1 (now b) at + 2) ≤ length (now b)) × (at + slotSize ≤ length (now b)) ⌝ }
+    requires { ⌜ ContextIn c × Masks (now t) × CutInside cuts at (now b) × (at + slotSize ≤ length (now b)) ⌝ }
     ensures { λ r. ⌜ r ≡ queueSlotFits (contextOf c) (now (b .entry)) cuts at ⌝ }
 {
     let creator = num8(b, at) as usize;

@@ -12,7 +12,7 @@ use Rattle.base.proofs.Prefixes.{begins-same, begins-refl}
 use Rattle.base.specs.Tests.{pick}
 use Rattle.format.specs.Limits.{mostIndex}
 use Rattle.format.specs.Types.{Action, Record}
-use Rattle.format.specs.Write.{write, recordBytes}
+use Rattle.format.specs.Write.{write}
 use Rattle.replication.specs.Machine.Types.{Mode, Non-prim, Reg-prim, Trans-prim, Exchange-states, Exchange-actions, Construct, No, Un, Log, Server, withLog, withVotes, inMode, noYellow}
 use Rattle.replication.specs.Machine.Colours.{isNext, enter, joinYellow, yellow}
 use Rattle.replication.specs.Machine.Install.{idsUpTo, installVotes, install}
@@ -34,7 +34,7 @@ use Rattle.install.proofs.SwapFits.{swaps-kept}
 use Rattle.install.proofs.InstallLaws.{install-swaps}
 use Rattle.step.specs.declared.Answer.{Answer}
 use Rattle.outgoing.specs.Lent.{LentSuch}
-use Rattle.step.specs.Answers.{answered, outcomeOn, Installs, storedFirst}
+use Rattle.step.specs.Answers.{answered, outcomeOn, Installs}
 use Rattle.outgoing.proofs.LentFacts.{lent-fact}
 use Rattle.engine.proofs.Chained.{Covers, chained, then-holds}
 use Rattle.step.proofs.ColoursLaws.{joined-formed}

@@ -2,13 +2,13 @@
 -- Assumes nothing.
 use Prim.Native.Nat.{ℕ, _*_, _≤_}
 use mathlib.Core.Path.{_≡_, refl, ap, _∙_}
-use mathlib.Core.List.{List, []}
+use mathlib.Core.List.{List}
 use mathlib.Core.Logic.{inl, inr}
 use mathlib.Core.Option.{Option, none, some}
 use native.Mathlib.Nat.{mul-le-mul}
 use native.Mathlib.Omega.{arith}
 use lib.ListN.{length}
-use Rattle.base.proofs.Prefixes.{begins-refl, begins-append}
+use Rattle.base.proofs.Prefixes.{begins-refl}
 use Rattle.format.specs.Limits.{mostIndex, mostIds}
 use Rattle.format.specs.Write.{idsBytes}
 use Rattle.record.specs.declared.State.{State}

@@ -39,7 +39,7 @@ use Rattle.queue.proofs.Inside.{changed-at}
 use Rattle.queue.proofs.SlotLaws.{cut-set}
 use Rattle.updates.specs.Standing.{EnterRoom, dropped}
 use Rattle.updates.proofs.Changes.{changed-image, part-here}
-use Rattle.engine.proofs.Chained.{then-holds, Covers, same-begins, lists-chained}
+use Rattle.engine.proofs.Chained.{then-holds, Covers, lists-chained}
 use Rattle.updates.proofs.NumberLaws.{begun}
 use Rattle.updates.proofs.RecoveryLaws.{Following, log, all-entered}
 use Rattle.engine.specs.Counts.{place, mostActions}

@@ -3,24 +3,23 @@
 use Prim.Native.Nat.{ℕ, _+_, _*_, _-_, _≤_, _<_}
 use mathlib.Core.Path.{_≡_, refl, sym, ap, ap₂, _∙_}
 use mathlib.Core.Bool.{true}
-use mathlib.Core.List.{List, [], _∷_, _++_, append-nil, map}
+use mathlib.Core.List.{List, [], _∷_, _++_, map}
 use mathlib.Core.Logic.{inl}
 use native.Mathlib.Omega.{arith}
-use lib.ListN.{length, set, length-append, length-map, replicate}
-use Rattle.base.specs.Bytes.{bytesOf, numberAt, joined, over, zeros, slot}
+use lib.ListN.{length, set, length-append, length-map}
+use Rattle.base.specs.Bytes.{bytesOf, numberAt, over, slot}
 use Rattle.base.proofs.BytesLaws.{bytes-length}
 use Rattle.base.specs.Lists.{above, sum}
 use Rattle.base.proofs.ListLaws.{above-length}
 use Rattle.base.specs.Patched.{patched}
-use Rattle.base.proofs.PatchedLaws.{patched-next}
 use Rattle.base.proofs.Sections.{begin}
 use Rattle.base.proofs.Prefixes.{begins-refl}
 use Rattle.base.proofs.TestLaws.{lt-holds}
 use Rattle.base.proofs.Over.{slot-length, over-extended}
 use Rattle.format.specs.Limits.{mostPayload}
 use Rattle.format.specs.Types.{Id, Action}
-use Rattle.format.specs.Write.{actionBytes, payloadBytes}
-use Rattle.format.proofs.Lengths.{action-length, payload-length}
+use Rattle.format.specs.Write.{actionBytes}
+use Rattle.format.proofs.Lengths.{action-length}
 use Rattle.record.specs.Values.{idOf, actionOf}
 use Rattle.record.specs.declared.ActionHead.{ActionHead}
 use Rattle.record.specs.declared.State.{State}

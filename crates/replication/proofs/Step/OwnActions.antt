@@ -3,7 +3,7 @@
 use Prim.Native.Nat.{ℕ, _<_}
 use mathlib.Core.Path.{_≡_, refl}
 use mathlib.Core.Bool.{Bool, true}
-use mathlib.Core.List.{List, [], _∷_, List·Memᴰ, List·Memᴰ·head, List·Memᴰ·not-nil, List·Memᴰ·eq-of-singleton, Memᴰ·append-right, Memᴰ·of-map, Memᴰ·cast}
+use mathlib.Core.List.{List, List·Memᴰ, List·Memᴰ·head, List·Memᴰ·not-nil, List·Memᴰ·eq-of-singleton, Memᴰ·append-right, Memᴰ·of-map, Memᴰ·cast}
 use native.Mathlib.Omega.{arith}
 use Rattle.base.specs.Tests.{_<?_}
 use Rattle.base.proofs.TestLaws.{lt-holds}

@@ -6,7 +6,7 @@ use mathlib.Core.Bool.{true, false}
 use mathlib.Core.List.{List, [], _∷_, _++_}
 use mathlib.Core.Option.{none, Option·none-ne-some}
 use native.Mathlib.Omega.{arith}
-use lib.ListN.{length, set, length-append, length-replicate}
+use lib.ListN.{set, length-replicate}
 use Rattle.base.proofs.TestLaws.{lt-holds}
 use Rattle.base.specs.Lists.{above, Each}
 use Rattle.base.proofs.ListLaws.{each-append, each-implied, each-map, map-each, above-between}

@@ -3,16 +3,15 @@
 use Prim.Native.Nat.{ℕ, _<_}
 use mathlib.Core.Path.{_≡_, subst}
 use mathlib.Core.Bool.{true}
-use mathlib.Core.List.{List, [], _∷_, map}
-use native.Mathlib.Omega.{arith}
+use mathlib.Core.List.{List, [], _∷_}
 use Rattle.base.specs.Tests.{_=?_}
-use Rattle.base.proofs.TestLaws.{lt-holds, pick-as}
-use Rattle.format.specs.Types.{Action, State, Record, action, cpc}
+use Rattle.base.proofs.TestLaws.{pick-as}
+use Rattle.format.specs.Types.{Action, State, Record, cpc}
 use Rattle.replication.specs.Machine.Types.{Non-prim, Reg-prim, Exchange-states, Exchange-actions, Construct, Un, Server, Outcome, withVotes, inMode}
 use Rattle.replication.specs.Machine.Exchange.{quorum}
 use Rattle.replication.specs.Machine.Plan.{ownPart}
 use Rattle.replication.specs.Machine.Install.{install}
-use Rattle.replication.specs.Machine.Requests.{sendsNow, quotaLeft, numbered, madeOf, sendWaiting, waitingRecords}
+use Rattle.replication.specs.Machine.Requests.{sendsNow, quotaLeft, numbered, sendWaiting, waitingRecords}
 use Rattle.replication.specs.Machine.Rules.{Rule, ignoring, reddening, greening, yellowing, lateInstalling, exchanging, collectingState, collectingCpc, collectingLateCpc, joining, joiningUnmarked, joiningYellow, leaving, requesting, recovering}
 use Rattle.replication.specs.Machine.Step.{quiet, stored, sent, unmarked, yellowValid, join, hereSet, hereId, collected, decided, attempting, endExchange, withState, allStatesIn, plannedNow, resending, afterStates, collectState, oneMore, exchanged, allCome, exchange, withCpc, allCpcsIn, installing, collectCpc, collectLateCpc, requested, apply}
 use Rattle.replication.specs.Machine.WellFormedRanges.{PayloadFits}

@@ -7,9 +7,10 @@ use mathlib.Core.List.{List, [], _∷_, _++_, List·Memᴰ}
 use mathlib.Core.Option.{Option, none, some}
 use Rattle.base.specs.Lists.{at}
 use Rattle.format.specs.Types.{Id, Action, Context, action, request, says}
+use Rattle.format.specs.Range.{sizesOk}
 use Rattle.format.specs.Read.{read}
-use Rattle.replication.specs.Machine.Types.{Server, Outcome, taken, contextOf}
-use Rattle.replication.specs.Machine.Requests.{madeOf}
+use Rattle.replication.specs.Machine.Types.{Server, Outcome, taken, start, contextOf}
+use Rattle.replication.specs.Machine.Requests.{sendsNow, madeOf, waiting}
 use Rattle.replication.specs.Machine.Step.{step}
 use Rattle.replication.specs.Machine.WellFormed.{idsIn, queue, wellFormed}
 use Rattle.replication.specs.Images.{Images, started, arrive, leftBy, savedIn, lived}
@@ -37,8 +38,20 @@ pub record PutsAction (s : Server) (es : List (Option (List ℕ))) (j : ℕ) (a 
 -- Two actions put out are the server's own, and the later one has the higher index: none is put out twice.
 unfoldable pub OneTimeOnly : Type 0
 OneTimeOnly =
-    (s : Server) → wellFormed s ≡ true → (es : List (Option (List ℕ))) (j k : ℕ) (a b : Action) → j < k → PutsAction s es j a → PutsAction s es k b
+    (s : Server) → wellFormed s ≡ true → (es : List (Option (List ℕ))) (j k : ℕ) (a b : Action)
+    → j < k → PutsAction s es j a → PutsAction s es k b
     → (a .id .creator ≡ s .me) × (b .id .creator ≡ s .me) × (a .id .index < b .id .index)
+
+-- ---- "when the server reaches Reg_prim, or the part of Non_prim where requests are sent"
+
+-- Where requests are sent, nothing waits.
+unfoldable pub NothingWaits : Server → Type 0
+NothingWaits s = sendsNow (s .membership) ≡ true → waiting (s .log) ≡ []
+
+-- In every state that a server reaches from its start.
+unfoldable pub SentOnReaching : Type 0
+SentOnReaching =
+    (n q i : ℕ) → sizesOk n q ≡ true → i < n → (es : List (Option (List ℕ))) → OfBoth NothingWaits (lived (started (start n q i)) es)
 
 -- ---- nothing that was answered 0 is lost: "stored whenever it comes", "After a crash it is an own-list action like any other"
 
@@ -80,6 +93,7 @@ NeverFour = (s : Server) (e : List ℕ) → step s e ≡ Outcome.refused 4 → �
 
 pub record RequestsKept : Type 0 where
   pub one-time-only : OneTimeOnly
+  pub sent-on-reaching : SentOnReaching
   pub nothing-lost : NothingLost
   pub nothing-lost-in-runs : NothingLostInRuns
   pub never-four : NeverFour

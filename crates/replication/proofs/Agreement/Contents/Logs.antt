@@ -7,7 +7,7 @@ use native.Mathlib.Omega.{arith}
 use Rattle.base.proofs.TestLaws.{not-both}
 use Rattle.base.proofs.AtLaws.{some-same}
 use Rattle.format.specs.Types.{Action, Record, action, retransmission, says}
-use Rattle.replication.specs.Machine.Types.{Mode, Non-prim, Reg-prim, Exchange-actions, Construct, No, Configuration, Log, Server}
+use Rattle.replication.specs.Machine.Types.{Mode, Non-prim, Reg-prim, Exchange-actions, Construct, No, Configuration, Server}
 use Rattle.replication.specs.Machine.Requests.{sendsNow, numbered, sendWaiting}
 use Rattle.replication.specs.Machine.Step.{decided, attempting, withState, resending, oneMore, placed, exchanged, leave}
 use Rattle.replication.specs.Laws.Transitions as L

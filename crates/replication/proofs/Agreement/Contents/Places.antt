@@ -15,7 +15,6 @@ use Rattle.replication.specs.Machine.Exchange.{quorum}
 use Rattle.replication.specs.Machine.Step.{theSet, hereSet, collected, attempting, decided, withState, oneMore, exchanged, withCpc}
 use Rattle.replication.specs.Laws.Transitions as L
 use Rattle.replication.specs.Laws.Transitions.{Ends, Transition}
-use Rattle.replication.specs.Laws.Greens as G
 use Rattle.replication.specs.Runs.Run.{Run}
 use Rattle.replication.specs.Runs.Allowed.{Allowed}
 use Rattle.replication.proofs.Step.Control.{yellow-membership}
