@@ -175,7 +175,7 @@ typedef struct {
     uint32_t green;                               /* entries that have their lasting place */
     uint32_t red;                                 /* entries that are known here and have none yet */
     uint32_t numbered;                            /* own requests taken so far, each with its index and stored, of `quota` */
-    uint32_t waiting;                             /* of these, on the own list: stored, and not yet come back */
+    uint32_t on_own_list;                         /* of these, on the own list: stored, and not yet come back */
     uint32_t unsent;                              /* of these, not yet sent: they are on reaching Reg_prim, or Non_prim at the end of an exchange */
     uint32_t primary_index, primary_attempt, primary_set; /* the last primary component known here */
     uint32_t attempt;

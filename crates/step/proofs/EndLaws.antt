@@ -26,13 +26,13 @@ use Rattle.replication.specs.Machine.Requests.{sendWaiting, waitingRecords}
 use Rattle.replication.specs.Machine.Step.{theId, hereSet, hereId, collected, decided, attempting, stored, endExchange}
 use Rattle.replication.specs.Machine.WellFormed.{queue, wellFormed}
 use Rattle.replication.specs.Machine.WellFormedFacts.{Configured}
-use Rattle.engine.specs.Layout.{headerSize, outLength}
+use Rattle.engine.specs.Layout.{outLength}
 use Rattle.engine.specs.Image.{image}
 use Rattle.engine.specs.Header.{idOf, headerOf, headerIn}
 use Rattle.engine.proofs.HeaderLaws.{header-loaded}
 use Rattle.engine.proofs.InRange.{in-range}
 use Rattle.engine.specs.Holding.{Holds, HoldsSuch, HoldsSome}
-use Rattle.engine.proofs.InPlace.{such-fact, holds-header, holds-some}
+use Rattle.engine.proofs.InPlace.{such-fact, holds-some}
 use Rattle.updates.specs.declared.votes.VoteNumbers.{VoteNumbers}
 use Rattle.updates.specs.Standing.{voteNumbers}
 use Rattle.exchange.specs.declared.decided.TakenVotes.{TakenVotes}
@@ -45,7 +45,7 @@ use Rattle.outgoing.proofs.LentFacts.{lent-fact, lent-room}
 use Rattle.engine.proofs.Chained.{Covers, chained, then-holds, numbers-then}
 use Rattle.step.proofs.ExchangeStates.{decided-formed, attempting-formed, staying-formed}
 use Rattle.outgoing.proofs.LentLaws.{holds-products, put-room, put-done, one-record}
-use Rattle.step.proofs.OutcomeLaws.{stored-outcome}
+use Rattle.step.proofs.OutcomeLaws.{stored-outcome, stored-after}
 
 -- ---- what the States decide
 
@@ -183,29 +183,24 @@ idle-same : (t : Server) → Idle t → decided t ≡ inMode Non-prim (decided t
 unfolding decided
 idle-same t e = λ i. withMembership (withMode (e i) (t .membership)) (decided t)
 
--- The votes and noted lengths do not matter to what waits.
-same-records : (t : Server) → waitingRecords t ≡ waitingRecords (decided t)
-unfolding waitingRecords decided
-same-records t = refl
-
 module _ (b o : List ℕ) (m : LentSuch Stays b o) where
-  pub stay-ready : (c : List ℕ) → Decided b c → headerSize ≤ length c
-  stay-ready c f = holds-header (decided (m .state)) c (decided-holds (m .state) b c (m .holds) (m .fact .1) f)
+  pub stay-lent : (c : List ℕ) → Decided b c → LentSuch (λ s. 0 ≤ 0) c o
+  unfolding decided
+  stay-lent c f =
+      record { state = decided (m .state); holds = decided-holds (m .state) b c (m .holds) (m .fact .1) f; fact = omega arith; room = m .room }
 
-  pub stay-made : (n : ℕ) (o₁ c d : List ℕ)
-      → ((t : Server) → Holds t b → (n ≡ length (recordBytes (waitingRecords t))) × (o₁ ≡ over (recordBytes (waitingRecords t)) o))
-      → Decided b c → ((t : Server) → Holds t c → d ≡ image (sendWaiting t) c) → (r : Answer) → r ≡ storedFirst n
-      → (s t : Server) → Holds t b → answered r d o₁ ≡ outcomeOn (endExchange s t) b o
-  stay-made n o₁ c d f g k r a s t y =
-      let z : Stays t = lent-fact Stays b o t m y in
-      let u : Server = decided t in
-      let formed : wellFormed (sendWaiting u) ≡ true = rw (idle-same t (z .1)) (staying-formed t (y .formed)) in
-      let made : d ≡ image (sendWaiting u) b =
-      chained t u (sendWaiting u) b y (decided-formed t (y .formed) (z .1)) formed (stay-covers t) c d (g t y) (k u (decided-holds t b c y (z .1) g)) in
-      stored-outcome s (sendWaiting u) (waitingRecords u) b o d o₁ n r a made (f t y .0 ∙ ap (λ v. length (recordBytes v)) (same-records t))
-      (f t y .1 ∙ ap (λ v. over (recordBytes v) o) (same-records t))
+  pub stay-sent : (c : List ℕ) → Decided b c → (a : Answer) (d u : List ℕ)
+      → ((s t : Server) → Holds t c → answered a d u ≡ outcomeOn (stored s (sendWaiting t) (waitingRecords t)) c o)
+      → (s t : Server) → Holds t b → answered a d u ≡ outcomeOn (endExchange s t) b o
+  stay-sent c f a d u g s t r =
+      let z : Stays t = lent-fact Stays b o t m r in
+      let v : Server = decided t in
+      let held : Holds v c = decided-holds t b c r (z .1) f in
+      let formed : wellFormed (sendWaiting v) ≡ true = rw (idle-same t (z .1)) (staying-formed t (r .formed)) in
+      g s v held
+      ∙ stored-after t v (sendWaiting v) b c o r (held .formed) formed (stay-covers t) (f t r) s (waitingRecords v)
       ∙ (λ i. outcomeOn (stored s (sendWaiting (idle-same t (z .1) i)) (waitingRecords (idle-same t (z .1) i))) b o)
-      ∙ ap (λ v. outcomeOn v b o) (sym (end-staying s t (z .2)))
+      ∙ ap (λ w. outcomeOn w b o) (sym (end-staying s t (z .2)))
 
 -- ---- which of both
 

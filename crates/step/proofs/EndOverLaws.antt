@@ -1,39 +1,26 @@
 -- The end of an exchange after another change: its outcome over the bytes at the beginning.
 -- Assumes nothing.
 use Prim.Native.Nat.{ℕ}
-use mathlib.Core.Path.{_≡_, refl, ap, _∙_}
+use mathlib.Core.Path.{_≡_, refl}
 use mathlib.Core.Bool.{true}
-use mathlib.Core.List.{List, [], _∷_, map}
+use mathlib.Core.List.{List, [], _∷_}
 use mathlib.Core.Logic.{inl}
 use native.Mathlib.Omega.{arith}
-use lib.ListN.{length}
-use Rattle.base.specs.Bytes.{joined, over}
+use Rattle.base.specs.Bytes.{over}
 use Rattle.base.proofs.TestLaws.{pick-as}
 use Rattle.format.specs.Types.{Record, cpc}
-use Rattle.format.specs.Write.{write}
 use Rattle.replication.specs.Machine.Types.{Non-prim, Server, inMode}
 use Rattle.replication.specs.Machine.Exchange.{quorum, attempted}
 use Rattle.replication.specs.Machine.Requests.{sendWaiting, waitingRecords}
-use Rattle.replication.specs.Machine.Step.{hereSet, hereId, collected, decided, attempting, stored, sent, inBytes, endExchange}
+use Rattle.replication.specs.Machine.Step.{hereSet, hereId, collected, decided, attempting, stored, endExchange}
 use Rattle.replication.specs.Machine.WellFormed.{queue, wellFormed}
 use Rattle.replication.specs.Machine.WellFormedFacts.{Configured}
 use Rattle.engine.specs.Image.{image}
-use Rattle.engine.specs.Outcome.{resultOf, word}
 use Rattle.engine.specs.Holding.{Holds}
 use Rattle.step.specs.Answers.{outcomeOn}
-use Rattle.engine.proofs.Chained.{Covers, image-over, same-begins}
+use Rattle.engine.proofs.Chained.{Covers, same-begins}
+use Rattle.step.proofs.OutcomeLaws.{stored-after}
 use Rattle.step.proofs.ExchangeStates.{attempting-formed, staying-formed}
-
--- ---- outcomes over other bytes
-
-module _ (w u : Server) (rs : List Record) (b c o : List ℕ) (e : image u c ≡ image u b) where
-  pub stored-over : outcomeOn (stored w u rs) c o ≡ outcomeOn (stored w u rs) b o
-  unfolding outcomeOn stored inBytes resultOf word
-  stored-over = ap (λ (x : List ℕ). record { number = 0; store = 1; sent = length (joined (map write rs)); state = x; out = over (joined (map write rs)) o }) e
-
-  pub sent-over : outcomeOn (sent w u rs) c o ≡ outcomeOn (sent w u rs) b o
-  unfolding outcomeOn sent inBytes resultOf word
-  sent-over = ap (λ (x : List ℕ). record { number = 0; store = 0; sent = length (joined (map write rs)); state = x; out = over (joined (map write rs)) o }) e
 
 -- Where the state was does not matter to the end.
 pub end-mode : (w t : Server) → endExchange w (inMode Non-prim t) ≡ endExchange w t
@@ -78,11 +65,8 @@ module _ (s t : Server) (p : Before s t) where
       pick-as (λ v. outcomeOn v c o ≡ outcomeOn v b o) (quorum (collected t) (hereSet t))
       (stored w (attempting (decided t)) (cpc (t .me) (hereId t) ∷ []))
       (stored w (sendWaiting (inMode Non-prim (decided t))) (waitingRecords (inMode Non-prim (decided t))))
-      (λ q. stored-over w (attempting (decided t)) (cpc (t .me) (hereId t) ∷ []) b c o
-      (over-first (attempting (decided t)) (attempting-formed t ok d q) attempt-covers))
-      (λ q.
-      stored-over w (sendWaiting (inMode Non-prim (decided t))) (waitingRecords (inMode Non-prim (decided t))) b c o
-      (over-first (sendWaiting (inMode Non-prim (decided t))) (staying-formed t ok) stay-covers))
+      (λ q. after (attempting (decided t)) (attempting-formed t ok d q) attempt-covers (cpc (t .me) (hereId t) ∷ []))
+      (λ q. after (sendWaiting (inMode Non-prim (decided t))) (staying-formed t ok) stay-covers (waitingRecords (inMode Non-prim (decided t))))
     where
-      over-first : (u : Server) → wellFormed u ≡ true → Covers s t u → image u c ≡ image u b
-      over-first u fine covers = ap (image u) e ∙ image-over s t u b r ok fine covers
+      after : (u : Server) → wellFormed u ≡ true → Covers s t u → (rs : List Record) → outcomeOn (stored w u rs) c o ≡ outcomeOn (stored w u rs) b o
+      after u fine covers rs = stored-after s t u b c o r ok fine covers e w rs

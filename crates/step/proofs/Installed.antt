@@ -3,21 +3,19 @@
 use Prim.Native.Nat.{ℕ, zero, suc, _≤_, _<_}
 use mathlib.Core.Path.{_≡_, refl, sym, ap, subst, _∙_}
 use mathlib.Core.Bool.{Bool, true, false}
-use mathlib.Core.List.{List, [], _∷_, _++_, map}
+use mathlib.Core.List.{List, [], _∷_, _++_}
 use mathlib.Core.Logic.{inl, inr}
 use native.Mathlib.Omega.{arith}
-use lib.ListN.{length, length-append}
-use Rattle.base.specs.Bytes.{joined, over}
+use lib.ListN.{length-append}
 use Rattle.base.proofs.Prefixes.{begins-same, begins-refl}
 use Rattle.base.specs.Tests.{pick}
 use Rattle.format.specs.Limits.{mostIndex}
-use Rattle.format.specs.Types.{Action, Record}
-use Rattle.format.specs.Write.{write}
+use Rattle.format.specs.Types.{Action}
 use Rattle.replication.specs.Machine.Types.{Mode, Non-prim, Reg-prim, Trans-prim, Exchange-states, Exchange-actions, Construct, No, Un, Log, Server, withLog, withVotes, inMode, noYellow}
 use Rattle.replication.specs.Machine.Colours.{isNext, enter, joinYellow, yellow}
 use Rattle.replication.specs.Machine.Install.{idsUpTo, installVotes, install}
 use Rattle.replication.specs.Machine.Requests.{sendWaiting, waitingRecords}
-use Rattle.replication.specs.Machine.Step.{stored, inBytes, installing}
+use Rattle.replication.specs.Machine.Step.{stored, installing}
 use Rattle.replication.specs.Machine.WellFormed.{queue, wellFormed}
 use Rattle.replication.specs.Machine.WellFormedFacts.{Configured, ModeFits}
 use Rattle.replication.proofs.Step.Logs.{yellow-as}
@@ -27,7 +25,6 @@ use Rattle.replication.proofs.WellFormed.Changes.{Body, body, whole, in-mode}
 use Rattle.replication.proofs.WellFormed.Effects.{install-body, send-waiting-body}
 use Rattle.replication.specs.Laws.RuleFits.{Delivered}
 use Rattle.engine.specs.Image.{modeNumber, image}
-use Rattle.engine.specs.Outcome.{word, resultOf}
 use Rattle.engine.specs.Holding.{Holds, HoldsSuch, HoldsSome}
 use Rattle.engine.proofs.InPlace.{such-fact, holds-some}
 use Rattle.install.proofs.SwapFits.{swaps-kept}
@@ -37,6 +34,7 @@ use Rattle.outgoing.specs.Lent.{LentSuch}
 use Rattle.step.specs.Answers.{answered, outcomeOn, Installs}
 use Rattle.outgoing.proofs.LentFacts.{lent-fact}
 use Rattle.engine.proofs.Chained.{Covers, chained, then-holds}
+use Rattle.step.proofs.OutcomeLaws.{stored-after}
 use Rattle.step.proofs.ColoursLaws.{joined-formed}
 
 -- ---- well-formed states on the way
@@ -224,14 +222,6 @@ sent-covers t ok = record {
   actions = inl (omega arith);
 }
 
--- An outcome over the bytes at the beginning.
-pub stored-over : (s t u x : Server) (rs : List Record) (b c o : List ℕ) → Holds s b → wellFormed t ≡ true → wellFormed u ≡ true → Covers s t u
-    → c ≡ image t b → outcomeOn (stored x u rs) c o ≡ outcomeOn (stored x u rs) b o
-unfolding outcomeOn resultOf inBytes stored
-stored-over s t u x rs b c o r ok fine e f =
-    ap (λ (w : List ℕ). record { number = 0; store = word true; sent = length (joined (map write rs)); state = w; out = over (joined (map write rs)) o })
-    (chained s t u b r ok fine e c (image u c) f refl)
-
 module _ (b o : List ℕ) (p : LentSuch (λ t. Configured t × (t .votes .last .index < mostIndex)) b o) where
   to-primary : (t : Server) → Holds t b → Installs 1 t
   to-primary t r =
@@ -258,5 +248,5 @@ module _ (b o : List ℕ) (p : LentSuch (λ t. Configured t × (t .votes .last .
         let v : Server = inMode Reg-prim (install t) in
         let held : Holds v c = primary-holds t r in
         g s v held
-        ∙ stored-over t v (sendWaiting v) s (waitingRecords v) b c o r (held .formed) (sent-formed 1 t Reg-prim (r .formed) (to-primary t r) refl)
-        (sent-covers t (r .formed)) (f t Reg-prim r refl)
+        ∙ stored-after t v (sendWaiting v) b c o r (held .formed) (sent-formed 1 t Reg-prim (r .formed) (to-primary t r) refl)
+        (sent-covers t (r .formed)) (f t Reg-prim r refl) s (waitingRecords v)

@@ -30,7 +30,8 @@ use Rattle.outgoing.specs.Lent.{LentSuch}
 use Rattle.step.specs.Answers.{answered, outcomeOn, Installs, quietly, withLateCpc}
 use Rattle.outgoing.proofs.LentFacts.{lent-fact}
 use Rattle.engine.proofs.Chained.{Covers, chained, then-holds}
-use Rattle.step.proofs.Installed.{sent-formed, stored-over}
+use Rattle.step.proofs.Installed.{sent-formed}
+use Rattle.step.proofs.OutcomeLaws.{stored-after}
 use Rattle.engine.specs.Layout.{headerSize}
 
 -- ---- one CPC more
@@ -97,8 +98,8 @@ module _ (k : ℕ) (b c o : List ℕ) (p : LentSuch (λ s. (k < s .servers) × (
         let z : allCpcsIn t ≡ true = sym (told t held) ∙ e in
         rw z
         (g s t held
-        ∙ stored-over s t (sendWaiting v) s (waitingRecords v) b c o r (held .formed)
-        (sent-formed 1 t Reg-prim (held .formed) (installs s r) refl) (covers s) (f s r))
+        ∙ stored-after s t (sendWaiting v) b c o r (held .formed) (sent-formed 1 t Reg-prim (held .formed) (installs s r) refl) (covers s) (f s r) s
+        (waitingRecords v))
       where
         installs : (s : Server) → Holds s b → Installs 1 (withCpc k s)
         installs s r = record { from = omega arith; to = omega arith; configured = may-install s r .0; index = may-install s r .1 }

@@ -2,15 +2,19 @@
 -- Assumes nothing.
 use Prim.Native.Nat.{ℕ}
 use mathlib.Core.Path.{_≡_, ap, _∙_}
-use mathlib.Core.List.{List}
+use mathlib.Core.Bool.{true}
+use mathlib.Core.List.{List, map}
 use lib.ListN.{length}
 use Rattle.format.specs.Types.{Record}
-use Rattle.format.specs.Write.{recordBytes}
+use Rattle.format.specs.Write.{write, recordBytes}
 use Rattle.base.specs.Bytes.{joined, over}
 use Rattle.replication.specs.Machine.Types.{Server}
 use Rattle.replication.specs.Machine.Step.{quiet, stored, sent, inBytes}
+use Rattle.replication.specs.Machine.WellFormed.{wellFormed}
 use Rattle.engine.specs.Image.{image}
 use Rattle.engine.specs.Outcome.{resultOf, word}
+use Rattle.engine.specs.Holding.{Holds}
+use Rattle.engine.proofs.Chained.{Covers, image-over}
 use Rattle.step.specs.declared.Answer.{Answer}
 use Rattle.step.specs.Answers.{answered, outcomeOn, quietly, storedFirst, sentOnly}
 
@@ -31,3 +35,23 @@ pub quiet-outcome : (s t : Server) (b o b₁ : List ℕ) (r : Answer) → r ≡ 
 unfolding answered outcomeOn quiet inBytes resultOf word joined over
 quiet-outcome s t b o b₁ r e f =
     ap (λ (a : Answer). answered a b₁ o) e ∙ (λ i. record { number = 0; store = 0; sent = 0; state = f i; out = o })
+
+-- ---- over other bytes
+
+module _ (s u : Server) (rs : List Record) (b c o : List ℕ) (e : image u c ≡ image u b) where
+  stored-over : outcomeOn (stored s u rs) c o ≡ outcomeOn (stored s u rs) b o
+  unfolding outcomeOn stored inBytes resultOf word
+  stored-over = ap (λ (x : List ℕ). record { number = 0; store = 1; sent = length (joined (map write rs)); state = x; out = over (joined (map write rs)) o }) e
+
+  sent-over : outcomeOn (sent s u rs) c o ≡ outcomeOn (sent s u rs) b o
+  unfolding outcomeOn sent inBytes resultOf word
+  sent-over = ap (λ (x : List ℕ). record { number = 0; store = 0; sent = length (joined (map write rs)); state = x; out = over (joined (map write rs)) o }) e
+
+-- The bytes c, left by a change from r to t: the outcome that then leads to u, over the bytes at the beginning.
+module _ (r t u : Server) (b c o : List ℕ) (h : Holds r b) (ok : wellFormed t ≡ true) (fine : wellFormed u ≡ true) (covers : Covers r t u) (e : c ≡ image t b)
+    (s : Server) (rs : List Record) where
+  pub stored-after : outcomeOn (stored s u rs) c o ≡ outcomeOn (stored s u rs) b o
+  stored-after = stored-over s u rs b c o (ap (image u) e ∙ image-over r t u b h ok fine covers)
+
+  pub sent-after : outcomeOn (sent s u rs) c o ≡ outcomeOn (sent s u rs) b o
+  sent-after = sent-over s u rs b c o (ap (image u) e ∙ image-over r t u b h ok fine covers)

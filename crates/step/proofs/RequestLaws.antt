@@ -34,8 +34,7 @@ use Rattle.step.specs.Events.{Asked}
 use Rattle.outgoing.proofs.LentFacts.{lent-fact}
 use Rattle.outgoing.proofs.LentLaws.{lent-counts, lent-header}
 use Rattle.step.proofs.ColoursLaws.{formed-alike}
-use Rattle.step.proofs.Installed.{stored-over}
-use Rattle.step.proofs.OutcomeLaws.{stored-outcome}
+use Rattle.step.proofs.OutcomeLaws.{stored-outcome, stored-after}
 
 -- ---- what waits is sent
 
@@ -105,6 +104,6 @@ module _ (p b o : List ℕ) (h : State) (l : LentSuch (λ s. Asked p h s) b o) w
         let y : Holds v c = numbered-holds s k in
         let yes : sendsNow (s .membership) ≡ true = sym (g s (a .2)) ∙ not-false t n in
         w s v y
-        ∙ stored-over s v (sendWaiting v) s (waitingRecords v) b c o k (y .formed) (sent-formed p s (k .formed) (a .0) (a .1))
-        (request-covers p s (k .formed) (a .0) (a .1)) (f s k (a .1))
+        ∙ stored-after s v (sendWaiting v) b c o k (y .formed) (sent-formed p s (k .formed) (a .0) (a .1)) (request-covers p s (k .formed) (a .0) (a .1))
+        (f s k (a .1)) s (waitingRecords v)
         ∙ ap (λ z. outcomeOn z b o) (pick-yes (sendsNow (s .membership)) (stored s (sendWaiting v) (waitingRecords v)) _ _ yes refl)

@@ -32,11 +32,11 @@ use Rattle.step.specs.declared.Answer.{Answer}
 use Rattle.outgoing.specs.Lent.{LentSuch}
 use Rattle.step.specs.Answers.{answered, outcomeOn, Came, quietly, sentOnly}
 use Rattle.outgoing.proofs.LentFacts.{lent-fact}
-use Rattle.engine.proofs.Chained.{Covers, image-over, then-holds, numbers-then}
+use Rattle.engine.proofs.Chained.{Covers, then-holds, numbers-then}
 use Rattle.step.proofs.ExchangeStates.{non-prim-formed, exchange-configured, came-formed, resending-formed}
 use Rattle.step.proofs.EndLaws.{Ends}
-use Rattle.step.proofs.EndOverLaws.{sent-over, end-mode, Before, end-over}
-use Rattle.step.proofs.OutcomeLaws.{sent-outcome, quiet-outcome}
+use Rattle.step.proofs.EndOverLaws.{end-mode, Before, end-over}
+use Rattle.step.proofs.OutcomeLaws.{sent-after, sent-outcome, quiet-outcome}
 use Rattle.step.proofs.RetransmissionLaws.{left, left-holds}
 use Rattle.engine.proofs.Counts.{numbers, holds-counts}
 
@@ -117,8 +117,8 @@ after-over s x b c o r d e whole f =
     (sent s (resending t) (ownPart (t .servers) (t .me) (t .log) (collected t)))
     (λ z. end-over s t (state-before s x) b c o r ok (exchange-configured t ok (state-mode s x e)) f s)
     (λ z.
-    sent-over s (resending t) (ownPart (t .servers) (t .me) (t .log) (collected t)) b c o
-    (ap (image (resending t)) f ∙ image-over s t (resending t) b r ok (resending-formed t ok (state-mode s x e) whole z) (state-covers s x)))
+    sent-after s t (resending t) b c o r ok (resending-formed t ok (state-mode s x e) whole z) (state-covers s x) f s
+    (ownPart (t .servers) (t .me) (t .log) (collected t)))
 
 -- Bytes are the writing of one State in range.
 one-state : (c : Context) (x y : State) → contextOk c ≡ true → fieldsOk c (state x) ≡ true → fieldsOk c (state y) ≡ true

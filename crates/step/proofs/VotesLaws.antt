@@ -1,19 +1,17 @@
 -- A change of the votes, and then a regular configuration.
 -- Assumes nothing.
 use Prim.Native.Nat.{ℕ}
-use mathlib.Core.Path.{_≡_, refl, sym, ap, subst, _∙_}
+use mathlib.Core.Path.{_≡_, refl, sym, subst, _∙_}
 use mathlib.Core.Bool.{true}
-use mathlib.Core.List.{List, [], _∷_, map}
+use mathlib.Core.List.{List, [], _∷_}
 use mathlib.Core.Logic.{inr}
 use native.Mathlib.Omega.{arith}
-use lib.ListN.{length}
-use Rattle.base.specs.Bytes.{joined, over}
+use Rattle.base.specs.Bytes.{over}
 use Rattle.base.specs.Lists.{Begins}
 use Rattle.base.proofs.Prefixes.{begins-refl}
-use Rattle.format.specs.Types.{Id, Record, state}
-use Rattle.format.specs.Write.{write}
+use Rattle.format.specs.Types.{Id, state}
 use Rattle.replication.specs.Machine.Types.{Votes, Configuration, Server, withVotes}
-use Rattle.replication.specs.Machine.Step.{stored, inBytes, entering, ownState, join, unmarked, yellowValid}
+use Rattle.replication.specs.Machine.Step.{entering, ownState, join, unmarked, yellowValid}
 use Rattle.replication.specs.Machine.WellFormed.{wellFormed}
 use Rattle.replication.specs.Machine.WellFormedRanges.{ConfigurationFits}
 use Rattle.replication.proofs.WellFormed.Changes.{Body, body, whole, votes-changed}
@@ -21,14 +19,14 @@ use Rattle.replication.proofs.WellFormed.Exchanges.{entering-body, unmarked-bod
 use Rattle.replication.proofs.WellFormed.Facts.{well-formed-facts, facts-well-formed}
 use Rattle.replication.proofs.WellFormed.Kept.{mode-kept}
 use Rattle.engine.specs.Image.{image}
-use Rattle.engine.specs.Outcome.{resultOf, word}
 use Rattle.engine.specs.Holding.{Holds}
 use Rattle.updates.specs.Lists.{configurationOf}
 use Rattle.step.specs.declared.Answer.{Answer}
 use Rattle.outgoing.specs.Lent.{LentSuch}
 use Rattle.step.specs.Answers.{answered, outcomeOn}
-use Rattle.engine.proofs.Chained.{Covers, image-over, then-holds}
+use Rattle.engine.proofs.Chained.{Covers, then-holds}
 use Rattle.outgoing.proofs.LentFacts.{lent-fact}
+use Rattle.step.proofs.OutcomeLaws.{stored-after}
 
 -- ---- well-formed states on the way
 
@@ -76,12 +74,6 @@ votes-covers s v c x e = record {
   actions = inr (begins-refl _);
 }
 
-stored-over : (s u : Server) (rs : List Record) (b b₁ o : List ℕ) → image u b₁ ≡ image u b
-    → outcomeOn (stored s u rs) b₁ o ≡ outcomeOn (stored s u rs) b o
-unfolding outcomeOn stored inBytes resultOf word
-stored-over s u rs b b₁ o e =
-    λ i. record { number = 0; store = 1; sent = length (joined (map write rs)); state = e i; out = over (joined (map write rs)) o }
-
 -- From the votes of t to v, and then a configuration with the votes x.
 joined-over : (s t : Server) (v x : Votes) (c : Configuration) (b b₁ o : List ℕ) → Holds t b → b₁ ≡ image (withVotes v t) b
     → wellFormed (withVotes v t) ≡ true
@@ -91,8 +83,7 @@ unfolding join
 joined-over s t v x c b b₁ o r e ok fine f same =
     let u : Server = entering c (withVotes x t) in
     let last : wellFormed u ≡ true = entering-formed (withVotes x t) c fine f in
-    stored-over s u (state (ownState c (withVotes x t)) ∷ []) b b₁ o
-    (ap (image u) e ∙ image-over t (withVotes v t) u b r ok last (votes-covers t v c x same))
+    stored-after t (withVotes v t) u b b₁ o r ok last (votes-covers t v c x same) e s (state (ownState c (withVotes x t)) ∷ [])
 
 -- ---- as the code makes them
 

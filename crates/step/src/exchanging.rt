@@ -16,6 +16,7 @@ ghost use Rattle.outgoing.specs.Lent.{LentSuch};
 ghost use Rattle.step.specs.Answers.{Came, AnswersFor, AnswersBy};
 ghost use Rattle.step.specs.Events.{Ends, Retransmitted, NotLast, AnswersPlanned, AnswersCollected, withPlaced, exchangedLast};
 use crate::Answer;
+use crate::requests::send_all;
 use engine::header::load;
 use exchange::decided::TakenVotes;
 use exchange::decided::all_states_in;
@@ -24,7 +25,6 @@ use exchange::decided::quorum_here;
 use exchange::decided::taken_votes;
 use exchange::decided::taken_yellow;
 use outgoing::resending::send_part;
-use outgoing::sending::send_records;
 use queue::entering::red;
 use queue::greening::green;
 use record::ActionHead;
@@ -34,7 +34,6 @@ use updates::exchanges::decide;
 use updates::exchanges::one_more;
 use updates::exchanges::resend;
 use updates::membership::set_mode;
-use updates::requests::send_waiting;
 use updates::states::collect_state;
 use updates::votes::VoteNumbers;
 use writer::records::Written;
@@ -91,10 +90,8 @@ fn stay(state: &mut [u8], out: &mut [u8]) -> Answer
     requires { ⌜ LentSuch (Ends false) (now state) (now out) ⌝ }
     ensures { λ r. ⌜ AnswersFor endExchange r state out ⌝ }
 {
-    let sent = send_records(state, out);
     decide_all(state);
-    send_waiting(state);
-    Answer::stored(sent)
+    send_all(state, out)
 }
 
 // "the exchange ends": every State is in, and the state has become Non_prim already, in which every number and list may change alone.

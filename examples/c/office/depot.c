@@ -73,17 +73,17 @@ static void note_put(office *o, uint8_t k, const uint8_t *put) {
     o->depots[k].sent = index;
 }
 
-/* In memory, and in the store that a recovery is given: every request that was answered 0 is numbered. Those that have not come back wait, and of these
-   the ones that were not put out are unsent; where requests are sent there are none. */
+/* In memory, and in the store that a recovery is given: every request that was answered 0 is numbered. Those that have not come back are
+   on the own list, and of these the ones that were not put out are unsent; where requests are sent there are none. */
 static void test_requests(const office *o, uint8_t k, guzbytor_summary_answer a) {
     const depot *d = &o->depots[k];
-    uint32_t back = a.numbered - a.waiting, gone = back > d->sent ? back : d->sent;
+    uint32_t back = a.numbered - a.on_own_list, gone = back > d->sent ? back : d->sent;
     int sends = a.state == GUZBYTOR_REG_PRIM || (a.state == GUZBYTOR_NON_PRIM && a.configured && !a.transitional);
     if (a.numbered != d->asked) {
         wrong(o, "depot %u: %u requests were answered 0, and %u are numbered", k, d->asked, a.numbered);
     }
     if (a.unsent != a.numbered - gone || (sends && a.unsent != 0)) {
-        wrong(o, "depot %u: in state %u, %u of %u are unsent, with %u waiting and %u put out", k, a.state, a.unsent, a.numbered, a.waiting, d->sent);
+        wrong(o, "depot %u: in state %u, %u of %u are unsent, with %u on the own list and %u put out", k, a.state, a.unsent, a.numbered, a.on_own_list, d->sent);
     }
 }
 

@@ -91,7 +91,7 @@ uint32_t register_follows(const office *o, uint8_t k, buffer image);
    each follows its green list, and where the lists are equally long the registers have the same bytes in use. Primary components agree too. */
 void depots_agree(const office *o);
 
-/* All depots are in Reg_prim with equal green lists, which are all requests that were ever answered 0, and equal registers; nothing is red or waiting. */
+/* All depots are in Reg_prim with equal green lists, which are all requests that were ever answered 0, and equal registers; nothing is red or on an own list. */
 void depots_equal(const office *o);
 
 #endif

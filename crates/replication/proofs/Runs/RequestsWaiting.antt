@@ -1,10 +1,9 @@
 -- Where requests are sent, nothing waits: what leads there sends all, and what comes there numbers none that is not sent at once.
-use Prim.Native.Nat.{ℕ, zero, suc, _-_, _≤_, _<_}
+use Prim.Native.Nat.{ℕ, zero, suc, _-_, _≤_}
 use mathlib.Core.Path.{_≡_, refl, sym, ap, _∙_}
 use mathlib.Core.Bool.{Bool, true, false}
 use mathlib.Core.List.{List, [], _∷_}
 use mathlib.Core.Logic.{_⊎_, inl, inr}
-use mathlib.Core.Option.{Option}
 use native.Mathlib.Omega.{arith}
 use lib.ListN.{length, drop}
 use Rattle.base.specs.Tests.{_and_}
@@ -17,8 +16,7 @@ use Rattle.replication.specs.Machine.Install.{install}
 use Rattle.replication.specs.Machine.Requests.{inRegular, sendsIn, sendsNow, numbered, waiting, sendWaiting, recovered}
 use Rattle.replication.specs.Machine.Step.{entering, decided, attempting, withState, resending, oneMore, exchanged, withCpc, leave, greenAndNote, step}
 use Rattle.replication.specs.Machine.WellFormed.{wellFormed}
-use Rattle.replication.specs.Images.{started, lived}
-use Rattle.replication.specs.Laws.Images.{OfBoth}
+use Rattle.replication.specs.Images.{started}
 use Rattle.replication.specs.Laws.Order.{SameNumbers}
 use Rattle.replication.specs.Laws.Transitions as L
 use Rattle.replication.specs.Laws.Transitions.{Ends, Leads, Transition}
