@@ -1,4 +1,4 @@
-// Each kind of event: whether the state takes it, by rows 5, 6, 3 and 4, and what it does. h are the state's numbers.
+// Each kind of event: whether the state takes it, by rows 5, 6 and 3, and what it does. h are the state's numbers.
 ghost use mathlib.Core.Path.{_≡_};
 ghost use mathlib.Core.Bool.{true};
 ghost use Prim.Native.Nat.{ℕ, _<_};
