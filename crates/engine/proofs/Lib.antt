@@ -18,3 +18,4 @@ pub mod Counts
 pub mod StartLaws
 pub mod Taken
 pub mod Fields
+pub mod Unsent

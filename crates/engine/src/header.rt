@@ -1,9 +1,13 @@
 // The state's numbers, in the first section of its buffer.
 ghost use mathlib.Core.Path.{_≡_};
+ghost use mathlib.Core.Bool.{true};
 ghost use Prim.Native.Nat.{_≤_};
 ghost use lib.ListN.{length};
 ghost use Rattle.base.specs.Patched.{patched};
-ghost use Rattle.engine.specs.Header.{headerIn, membershipIn, membershipBytes, countsBytes, standingBytes, votesBytes, firstBytes};
+ghost use Rattle.replication.specs.Machine.Types.{Server};
+ghost use Rattle.replication.specs.Machine.Requests.{waiting};
+ghost use Rattle.replication.specs.Machine.WellFormed.{wellFormed};
+ghost use Rattle.engine.specs.Header.{headerOf, headerIn, membershipIn, membershipBytes, countsBytes, standingBytes, votesBytes, firstBytes};
 ghost use Rattle.engine.specs.Header.{headerWritten};
 ghost use Rattle.engine.specs.Layout.{headerSize, atQueueLength, atLast};
 use record::AttemptIndex;
@@ -87,6 +91,18 @@ pub fn load(state: &[u8]) -> State
         yellow_status: num8(state, State::AT_YELLOW),
         yellow_count: num16(state, State::AT_YELLOW_COUNT),
     }
+}
+
+// How many own actions wait to be sent: of the last ones numbered, those that are on the own list.
+pub fn unsent(h: State) -> u16
+    requires { ⌜ h .sent ≤ h .numbered ⌝ }
+    ensures { λ r. ⌜ ((s : Server) → wellFormed s ≡ true → h ≡ headerOf s → r ≡ length (waiting (s .log))) ⌝ }
+{
+    let behind = h.numbered - h.sent;
+    if h.own_count < behind {
+        return h.own_count;
+    }
+    behind
 }
 
 fn save_membership(state: &mut [u8], h: State)

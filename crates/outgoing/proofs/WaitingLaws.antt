@@ -2,12 +2,13 @@
 -- Assumes nothing.
 use Prim.Native.Nat.{ℕ, zero, suc, _+_, _*_, _-_, _≤_, _<_}
 use mathlib.Core.Path.{_≡_, refl, sym, ap, subst, _∙_}
+use mathlib.Core.Bool.{true}
 use mathlib.Core.List.{List, [], _∷_, map}
 use mathlib.Core.Option.{Option, some}
 use native.Mathlib.Omega.{arith}
 use lib.ListN.{length, drop}
 use lib.Seq.{drop-length}
-use Rattle.base.specs.Bytes.{numberAt, over}
+use Rattle.base.specs.Bytes.{over}
 use Rattle.base.specs.Lists.{at, atFront, gather, after, above}
 use Rattle.base.proofs.Occurs.{Occurs, occurs-first}
 use Rattle.base.proofs.Over.{over-front}
@@ -15,27 +16,28 @@ use Rattle.format.specs.Limits.{mostPayload}
 use Rattle.format.specs.Places.{mostRetransmission}
 use Rattle.format.specs.Types.{Action, Record, action}
 use Rattle.format.specs.Write.{recordBytes}
+use Rattle.record.specs.declared.State.{State}
 use Rattle.record.specs.declared.events.ActionAt.{ActionAt}
 use Rattle.record.specs.Events.{actionIn, actionFrom}
 use Rattle.replication.specs.Machine.Types.{Server, contextOf}
-use Rattle.replication.specs.Machine.Colours.{cut}
-use Rattle.replication.specs.Machine.Requests.{waitingRecords}
-use Rattle.replication.proofs.WellFormed.Facts.{well-formed-facts}
-use Rattle.replication.proofs.WellFormed.OwnList.{own-length, waiting-behind}
-use Rattle.engine.specs.Layout.{slotSize, theOwn, outLength, atNumbered, atOwnCount, atSent}
+use Rattle.replication.specs.Machine.Requests.{waiting, waitingRecords}
+use Rattle.replication.specs.Machine.WellFormed.{wellFormed}
+use Rattle.engine.specs.Layout.{slotSize, theOwn, outLength}
 use Rattle.engine.specs.Image.{actionSlots, parts}
 use Rattle.engine.specs.Decode.{decoded, decodedAs}
-use Rattle.engine.specs.Counts.{ownCount, place, CountsIn}
+use Rattle.engine.specs.Counts.{ownCount, place}
+use Rattle.engine.specs.Header.{headerOf, headerIn}
 use Rattle.engine.specs.Holding.{Holds}
+use Rattle.engine.proofs.HeaderLaws.{header-loaded}
+use Rattle.engine.proofs.Unsent.{waiting-within, waiting-last, sent-within}
 use Rattle.engine.proofs.InPlace.{holds-decoded}
 use Rattle.engine.proofs.InRange.{in-range}
 use Rattle.engine.proofs.Counts.{numbers, holds-counts, holds-place}
-use Rattle.engine.proofs.Slots.{actions-count}
 use Rattle.queue.proofs.ReadLaws.{actions-at, slot-read, slot-payload}
 use Rattle.outgoing.specs.Lent.{LentSuch}
 use Rattle.outgoing.specs.Resending.{oneOf, Sends, Room}
-use Rattle.outgoing.specs.Sending.{ownIn, sentBefore, asAction, ownAt, OwnIn}
-use Rattle.outgoing.proofs.LentLaws.{lent-header, holds-part, holds-products}
+use Rattle.outgoing.specs.Sending.{ownIn, asAction, ownAt, OwnIn}
+use Rattle.outgoing.proofs.LentLaws.{holds-part, holds-products}
 
 -- ---- the slot p
 
@@ -88,24 +90,6 @@ gather-behind xs k (suc m) e =
     ∙ ap (λ (l : List Record). action (s .it) ∷ l) (gather-behind xs (k + 1) m (omega arith) ∙ ap (λ (j : ℕ). map action (drop j xs)) next)
     ∙ ap (map action) (sym (s .rest))
 
--- ---- those sent are on the own list
-
-pub before-short : (b : List ℕ) → CountsIn b → sentBefore b ≤ ownCount b
-unfolding sentBefore
-before-short b c = omega (arith, c .sent)
-
-before-within : (b : List ℕ) → CountsIn b → sentBefore b + (ownCount b - sentBefore b) ≡ length (ownIn b)
-unfolding ownIn
-before-within b c = omega (arith, before-short b c, actions-count (ownCount b) b (place theOwn b))
-
-pub none-before : (b : List ℕ) (x y z : ℕ) → x ≡ numberAt 2 b atSent → y ≡ numberAt 2 b atOwnCount → z ≡ numberAt 2 b atNumbered → x + y ≤ z → 0 ≡ sentBefore b
-unfolding sentBefore
-none-before b x y z e f g h = omega (arith, e, f, g)
-
-pub some-before : (b : List ℕ) (x y z : ℕ) → x ≡ numberAt 2 b atSent → y ≡ numberAt 2 b atOwnCount → z ≡ numberAt 2 b atNumbered → z < x + y → x + y - z ≡ sentBefore b
-unfolding sentBefore
-some-before b x y z e f g h = omega (arith, e, f, g)
-
 -- ---- in a buffer that holds a state
 
 module _ (s : Server) (b : List ℕ) (r : Holds s b) where
@@ -128,20 +112,13 @@ module _ (s : Server) (b : List ℕ) (r : Holds s b) where
             slot-payload (contextOf s) (s .log .own) b (place theOwn b) k (i .context) (i .own) slots-there (omega (arith, numbers s b r .own));
       }
 
-  first-waits : sentBefore b ≡ s .log .sent - cut (s .log) (s .me)
-  unfolding sentBefore
-  first-waits =
-      let m = numbers s b r in
-      let f = well-formed-facts s (r .formed) .own-list in
-      omega (arith, m .sent, m .own, m .numbered, own-length (s .me) (s .log) f, f .numbered)
-
-  pub behind-waiting : gather (ownAt b) (above (sentBefore b) (ownCount b)) ≡ waitingRecords s
+  pub behind-waiting : gather (ownAt b) (above (ownCount b - length (waiting (s .log))) (ownCount b)) ≡ waitingRecords s
   unfolding ownAt above waitingRecords
   behind-waiting =
-      let f = well-formed-facts s (r .formed) in
-      let c = holds-counts s b r in
-      gather-behind (ownIn b) (sentBefore b) (ownCount b - sentBefore b) (before-within b c)
-      ∙ ap (map action) ((λ i. drop (first-waits i) (own-read i)) ∙ sym (waiting-behind (s .me) (s .log) (f .own-list)))
+      let w : ℕ = length (waiting (s .log)) in
+      let own : ownCount b ≡ length (s .log .own) = numbers s b r .own in
+      gather-behind (ownIn b) (ownCount b - w) (ownCount b - (ownCount b - w)) (omega (arith, own, ap length own-read))
+      ∙ ap (map action) ((λ i. drop (own i - w) (own-read i)) ∙ sym (waiting-last s (r .formed)))
 
 -- ---- lent
 
@@ -156,26 +133,43 @@ module _ (P : Server → Type 0) (b o : List ℕ) (l : LentSuch P b o) where
       let c = lent-own .counts in
       omega (arith, m .quota, c .own, holds-products (l .state) b (l .holds) .quota, l .room)
 
-  pub count-ready : atOwnCount + 2 ≤ length b
-  count-ready = omega (arith, lent-header P b o l)
+  module _ (h : State) (e : h ≡ headerIn b) where
+    said : (s : Server) → Holds s b → h ≡ headerOf s
+    said s r = e ∙ header-loaded s b r
 
-  pub behind-room : (low high : ℕ) → high ≡ numberAt 2 b atOwnCount → Room 0 (high - low) o
-  behind-room low high e = omega (arith, own-room)
+    pub sent-few : h .sent ≤ h .numbered
+    sent-few = sent-within h (l .state) (l .holds .formed) (said (l .state) (l .holds))
 
-  pub behind-high : (high : ℕ) → high ≡ numberAt 2 b atOwnCount → high ≤ ownCount b
-  behind-high high e = omega arith
+    pub own-high : h .«own_count» ≡ ownCount b
+    unfolding headerOf
+    own-high = ap (λ (x : State). x .«own_count») (said (l .state) (l .holds)) ∙ sym (numbers (l .state) b (l .holds) .own)
 
-  pub behind-fits : (low high r : ℕ) (xs : List Record) (o₁ : List ℕ) → high ≡ ownCount b → Sends (high - low) xs 0 o o₁ r → r < 4294967296
-  behind-fits low high r xs o₁ e a = let c = lent-own .counts in omega (arith, a .most, c .own, c .sizes .quota)
+    pub behind-high : h .«own_count» ≤ ownCount b
+    behind-high = omega (arith, own-high)
 
-module _ (b : List ℕ) (low high r : ℕ) (o o₁ : List ℕ) (e : low ≡ sentBefore b) (f : high ≡ ownCount b)
-    (a : Sends (high - low) (gather (ownAt b) (above low high)) 0 o o₁ r) (s : Server) (h : Holds s b) where
-  all-waiting : gather (ownAt b) (above low high) ≡ waitingRecords s
-  all-waiting = (λ i. gather (ownAt b) (above (e i) (f i))) ∙ behind-waiting s b h
+    pub behind-room : (low : ℕ) → Room 0 (h .«own_count» - low) o
+    behind-room low = omega (arith, own-high, own-room)
 
-  pub waiting-length : r ≡ length (recordBytes (waitingRecords s))
-  waiting-length = omega (arith, a .place, ap (λ (xs : List Record). length (recordBytes xs)) all-waiting)
+    pub behind-fits : (low r : ℕ) (xs : List Record) (o₁ : List ℕ) → Sends (h .«own_count» - low) xs 0 o o₁ r → r < 4294967296
+    behind-fits low r xs o₁ a = let c = lent-own .counts in omega (arith, own-high, a .most, c .own, c .sizes .quota)
 
-  pub waiting-bytes : o₁ ≡ over (recordBytes (waitingRecords s)) o
-  waiting-bytes =
-      a .bytes ∙ over-front (recordBytes (gather (ownAt b) (above low high))) o ∙ ap (λ (xs : List Record). over (recordBytes xs) o) all-waiting
+    module _ (w : ℕ) (f : (s : Server) → wellFormed s ≡ true → h ≡ headerOf s → w ≡ length (waiting (s .log))) where
+      pub unsent-few : w ≤ h .«own_count»
+      unsent-few =
+          let s = l .state in
+          let r = l .holds in
+          omega (arith, f s (r .formed) (said s r), waiting-within s (r .formed), own-high, numbers s b r .own)
+
+      module _ (r : ℕ) (o₁ : List ℕ) (a : Sends (h .«own_count» - (h .«own_count» - w)) (gather (ownAt b) (above (h .«own_count» - w) (h .«own_count»))) 0 o o₁ r)
+          (s : Server) (k : Holds s b) where
+        all-waiting : gather (ownAt b) (above (h .«own_count» - w) (h .«own_count»)) ≡ waitingRecords s
+        all-waiting = (λ i. gather (ownAt b) (above (own-high i - f s (k .formed) (said s k) i) (own-high i))) ∙ behind-waiting s b k
+
+        pub waiting-length : r ≡ length (recordBytes (waitingRecords s))
+        waiting-length = omega (arith, a .place, ap (λ (xs : List Record). length (recordBytes xs)) all-waiting)
+
+        pub waiting-bytes : o₁ ≡ over (recordBytes (waitingRecords s)) o
+        waiting-bytes =
+            a .bytes
+            ∙ over-front (recordBytes (gather (ownAt b) (above (h .«own_count» - w) (h .«own_count»)))) o
+            ∙ ap (λ (xs : List Record). over (recordBytes xs) o) all-waiting

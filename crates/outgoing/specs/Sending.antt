@@ -15,7 +15,7 @@ use Rattle.replication.specs.Machine.Step.{ownState}
 use Rattle.engine.specs.Layout.{slotSize, theOwn}
 use Rattle.engine.specs.Decode.{actionsAt}
 use Rattle.updates.specs.Lists.{configurationOf}
-use Rattle.engine.specs.Counts.{CountsIn, ownCount, numberedIn, sentIn, place}
+use Rattle.engine.specs.Counts.{CountsIn, ownCount, place}
 use Rattle.format.specs.Places.{actionPayloadAt}
 use Rattle.format.specs.Write.{recordBytes}
 use mathlib.Core.Path.{_≡_}
@@ -49,10 +49,6 @@ PutsOwn id r b o o′ =
 
 unfoldable pub ownIn : List ℕ → List Action
 ownIn b = actionsAt (ownCount b) b (place theOwn b)
-
--- How many of them were sent, or more: none waits in front of those.
-unfoldable pub sentBefore : List ℕ → ℕ
-sentBefore b = sentIn b + ownCount b - numberedIn b
 
 unfoldable pub asAction : Option Action → Option Record
 asAction none = none

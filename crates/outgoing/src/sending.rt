@@ -1,5 +1,4 @@
 // What waits on the own list, as records.
-ghost use mathlib.Core.Path.{_≡_};
 ghost use mathlib.Core.List.{[], _∷_};
 ghost use Prim.Native.Nat.{_+_, _-_, _≤_};
 ghost use lib.ListN.{length};
@@ -8,31 +7,19 @@ ghost use Rattle.format.specs.Places.{mostRetransmission};
 ghost use Rattle.format.specs.Types.{action};
 ghost use Rattle.record.specs.Events.{actionFrom};
 ghost use Rattle.replication.specs.Machine.Requests.{waitingRecords};
-ghost use Rattle.engine.specs.Counts.{CountsIn, ownCount};
+ghost use Rattle.engine.specs.Counts.{ownCount};
 ghost use Rattle.outgoing.specs.Lent.{LentSuch, PutsRecords};
 ghost use Rattle.outgoing.specs.Resending.{SendsTo, Room, PayloadInside, oneOf};
-ghost use Rattle.outgoing.specs.Sending.{sentBefore, OwnIn, ownAt};
+ghost use Rattle.outgoing.specs.Sending.{OwnIn, ownAt};
+use engine::header::load;
+use engine::header::unsent;
 use engine::places::THE_OWN;
 use engine::places::place_of;
 use record::State;
-use record::bytes::num16;
 use record::events::ActionAt;
 use record::frame::action_at;
 use writer::records::Written;
 use writer::records::write_action;
-
-// How many of the own list were sent: what waits stands behind them.
-fn sent_before(state: &[u8]) -> u16
-    requires { ⌜ CountsIn (now state) ⌝ }
-    ensures { λ r. ⌜ r ≡ sentBefore (now (state .entry)) ⌝ }
-{
-    let reached = num16(state, State::AT_SENT) + num16(state, State::AT_OWN_COUNT);
-    let numbered = num16(state, State::AT_NUMBERED);
-    if reached <= numbered {
-        return 0;
-    }
-    reached - numbered
-}
 
 // Writes an action that lies in the state: the place behind its record.
 fn send_made(state: &[u8], out: &mut [u8], at: usize, a: ActionAt) -> usize
@@ -75,12 +62,13 @@ fn send_behind(state: &[u8], out: &mut [u8], low: u16, high: u16) -> usize
     next
 }
 
-// What waits, in order, at the front of the outgoing buffer; how many bytes it has. The state is not changed.
+// What waits, the last ones of the own list in order, at the front of the outgoing buffer; how many bytes it has. The state is not changed.
 pub fn send_records(state: &[u8], out: &mut [u8]) -> u32
     requires { ⌜ LentSuch (λ s. 0 ≤ 0) (now state) (now out) ⌝ }
     ensures { λ r. ⌜ PutsRecords waitingRecords r (now (state .entry)) (now (out .entry)) (now (out .exit)) ⌝ }
 {
-    let low = sent_before(state);
-    let high = num16(state, State::AT_OWN_COUNT);
+    let h = load(state);
+    let high = h.own_count;
+    let low = high - unsent(h);
     send_behind(state, out, low, high) as u32
 }

@@ -1,19 +1,16 @@
 -- The summary, as the code makes it of the state's numbers.
 -- Assumes nothing.
-use Prim.Native.Nat.{ℕ, _-_, _≤_, _<_}
+use Prim.Native.Nat.{ℕ, _-_, _≤_}
 use mathlib.Core.Path.{_≡_, sym, ap, _∙_}
 use mathlib.Core.Bool.{true}
 use mathlib.Core.List.{List}
 use native.Mathlib.Omega.{arith}
-use lib.ListN.{length, length-drop}
+use lib.ListN.{length}
 use Rattle.base.proofs.TestLaws.{pick-eq, pick-ne}
 use Rattle.record.specs.declared.State.{State}
 use Rattle.replication.specs.Machine.Types.{Server}
-use Rattle.replication.specs.Machine.Colours.{cut}
 use Rattle.replication.specs.Machine.Requests.{waiting}
 use Rattle.replication.specs.Machine.WellFormed.{queue, wellFormed}
-use Rattle.replication.proofs.WellFormed.Facts.{well-formed-facts}
-use Rattle.replication.proofs.WellFormed.OwnList.{own-length, waiting-behind}
 use Rattle.engine.specs.Layout.{headerSize}
 use Rattle.engine.specs.Header.{headerOf, headerIn, lastOf, markNumbers}
 use Rattle.engine.specs.Decode.{decoded}
@@ -22,6 +19,7 @@ use Rattle.engine.specs.Outcome.{imageNumber}
 use Rattle.engine.proofs.HeaderLaws.{header-loaded}
 use Rattle.engine.proofs.InPlace.{holds-header}
 use Rattle.engine.proofs.Counts.{queue-parts}
+use Rattle.engine.proofs.Unsent.{sent-within}
 use Rattle.engine.proofs.Refusals.{whole-holds}
 use Rattle.queries.specs.declared.Summary.{Summary}
 use Rattle.queries.specs.Queries.{summaryOf, noSummary, summaryOn}
@@ -50,39 +48,6 @@ made h red unsent = record {
   marked = h .mark .status;
 }
 
--- Those that wait, counted from the numbers.
-module _ (s : Server) (ok : wellFormed s ≡ true) where
-  waiting-count : length (waiting (s .log)) ≡ length (s .log .own) - (s .log .sent - cut (s .log) (s .me))
-  waiting-count =
-      let f = well-formed-facts s ok in
-      ap length (waiting-behind (s .me) (s .log) (f .own-list)) ∙ length-drop (s .log .sent - cut (s .log) (s .me)) (s .log .own)
-
-  counted : length (s .log .own) ≡ s .log .numbered - cut (s .log) (s .me)
-  counted = own-length (s .me) (s .log) (well-formed-facts s ok .own-list)
-
-module _ (h : State) (s : Server) (ok : wellFormed s ≡ true) (e : h ≡ headerOf s) where
-  own-said : h .«own_count» ≡ length (s .log .own)
-  unfolding headerOf
-  own-said = ap (λ (x : State). x .«own_count») e
-
-  numbered-said : h .numbered ≡ s .log .numbered
-  unfolding headerOf
-  numbered-said = ap (λ (x : State). x .numbered) e
-
-  sent-said : h .sent ≡ s .log .sent
-  unfolding headerOf
-  sent-said = ap (λ (x : State). x .sent) e
-
-  pub all-unsent : h .«own_count» < h .numbered - h .sent → h .«own_count» ≡ length (waiting (s .log))
-  all-unsent l =
-      let f = well-formed-facts s ok in
-      omega (arith, own-said, numbered-said, sent-said, waiting-count s ok, counted s ok, f .own-list .numbered, f .log .sent)
-
-  pub some-unsent : h .numbered - h .sent ≤ h .«own_count» → h .numbered - h .sent ≡ length (waiting (s .log))
-  some-unsent l =
-      let f = well-formed-facts s ok in
-      omega (arith, own-said, numbered-said, sent-said, waiting-count s ok, counted s ok, f .own-list .numbered, f .log .sent)
-
 pub summary-made : (h : State) (unsent : ℕ) → ((s : Server) → wellFormed s ≡ true → h ≡ headerOf s → unsent ≡ length (waiting (s .log)))
     → (s : Server) → wellFormed s ≡ true → h ≡ headerOf s → made h (h .«queue_length» - h .«green_length») unsent ≡ summaryOf s
 unfolding summaryOf headerOf lastOf markNumbers
@@ -107,9 +72,7 @@ module _ (b : List ℕ) (n : ℕ) (e : n ≡ imageNumber b) where
       numbers = l ∙ header-loaded (decoded b) b read
 
       pub summary-sent : h .sent ≤ h .numbered
-      unfolding headerOf
-      summary-sent =
-          omega (arith, ap (λ (x : State). x .sent) numbers, ap (λ (x : State). x .numbered) numbers, well-formed-facts (decoded b) (read .formed) .log .sent)
+      summary-sent = sent-within h (decoded b) (read .formed) numbers
 
       pub summary-counts : h .«green_length» ≤ h .«queue_length»
       unfolding headerOf

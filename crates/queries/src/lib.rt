@@ -2,9 +2,7 @@
 ghost use mathlib.Core.Path.{_≡_};
 ghost use Prim.Native.Nat.{_^_, _≤_, _<_};
 ghost use mathlib.Core.Bool.{true};
-ghost use lib.ListN.{length};
 ghost use Rattle.replication.specs.Machine.Types.{Server};
-ghost use Rattle.replication.specs.Machine.Requests.{waiting};
 ghost use Rattle.replication.specs.Machine.WellFormed.{wellFormed};
 ghost use Rattle.engine.specs.Header.{headerOf};
 ghost use Rattle.queries.specs.Queries.{summaryOf, noSummary, summaryOn, entriesOn, listed, refusedEntries, putEntries};
@@ -13,23 +11,12 @@ ghost use Rattle.queries.specs.Reading.{ReadingsGiveAll, NewlyGreen};
 pub mod entries; // entries.rt: entries put one behind another
 
 use engine::header::load;
+use engine::header::unsent;
 use entries::MOST_ENTRY;
 use entries::put_entries;
 use record::State;
 use record::bytes::num32;
 use state_check::image_number;
-
-// How many own actions wait to be sent: of the last ones numbered, those that are on the own list.
-fn unsent(h: State) -> u16
-    requires { ⌜ h .sent ≤ h .numbered ⌝ }
-    ensures { λ r. ⌜ ((s : Server) → wellFormed s ≡ true → h ≡ headerOf s → r ≡ length (waiting (s .log))) ⌝ }
-{
-    let behind = h.numbered - h.sent;
-    if h.own_count < behind {
-        return h.own_count;
-    }
-    behind
-}
 
 // What a state says: 0 and its numbers, or what its buffer is refused with and zeros.
 #[repr(C)]

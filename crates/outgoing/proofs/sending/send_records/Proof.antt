@@ -1,14 +1,17 @@
-use Rattle.outgoing.proofs.WaitingLaws.{lent-own, count-ready, behind-room, behind-high, behind-fits, waiting-length, waiting-bytes}
-use Rattle.outgoing.proofs.LentLaws.{lent-counts}
+use Rattle.outgoing.proofs.WaitingLaws.{lent-own, sent-few, unsent-few, behind-room, behind-high, behind-fits, waiting-length, waiting-bytes}
+use Rattle.outgoing.proofs.LentLaws.{lent-header}
 use borrow.Author.Needs.{needs}
 use Rattle.outgoing.proofs.sending.send_records.Statement.{statement}
 use Rattle.outgoing.proofs.sending.send_records.Tie as tie
 
-sent-before-requires : tie.Need-sent-before-requires
-sent-before-requires c κs = search (needs, lent-counts)
+load-requires : tie.Need-load-requires
+load-requires c κs = search (needs, lent-header)
 
-num16-requires : tie.Need-num16-requires
-num16-requires c κs = search (needs, count-ready)
+unsent-requires : tie.Need-unsent-requires
+unsent-requires c κs = search (needs, sent-few)
+
+sub-low : tie.Need-sub-low
+sub-low c = search (needs, unsent-few)
 
 send-behind-requires : tie.Need-send-behind-requires
 send-behind-requires c κs = search (needs, lent-own, behind-room, behind-high)
@@ -26,8 +29,9 @@ pub send-records-spec : {M : Type 1} → statement M
 send-records-spec =
     tie.close
     (tie.spec
-    sent-before-requires
-    num16-requires
+    load-requires
+    unsent-requires
+    sub-low
     send-behind-requires
     cast-result
     same-length

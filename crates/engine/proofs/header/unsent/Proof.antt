@@ -1,7 +1,7 @@
-use Rattle.queries.proofs.SummaryLaws.{all-unsent, some-unsent}
+use Rattle.engine.proofs.Unsent.{all-unsent, some-unsent}
 use borrow.Author.Needs.{needs}
-use Rattle.queries.proofs.unsent.Statement.{statement}
-use Rattle.queries.proofs.unsent.Tie as tie
+use Rattle.engine.proofs.header.unsent.Statement.{statement}
+use Rattle.engine.proofs.header.unsent.Tie as tie
 
 sub-behind : tie.Need-sub-behind
 sub-behind c = search needs
