@@ -42,6 +42,11 @@ enum {
     GUZBYTOR_REGISTER_FULL = 13  /* a set of a name that is not there, and GUZBYTOR_MOST_PEGS stand: retire one first */
 };
 
+/* The number of a question on the register, behind 7 and 8. */
+enum {
+    GUZBYTOR_BAD_RECTANGLE = 12 /* a rectangle whose west exceeds its east, or its south its north: the caller's own numbers are wrong */
+};
+
 /* Written by scripts/generate.py from here .. */
 
 /* The eight states of a server. */
@@ -239,6 +244,25 @@ typedef struct {
 } guzbytor_register_find_answer;
 
 guzbytor_register_find_answer guzbytor_register_find(const uint8_t *pegs, size_t pegs_length, const uint8_t *name, size_t name_length);
+
+/* ---- pegs in the plane
+
+   All numbers are millimetres, over the whole range of their type; distances are exact, and nothing wraps. The register that is asked is never changed.
+   Each call costs the register's check and one pass over its pegs. */
+
+/* The pegs inside a rectangle, edges included, by byte order of name: a register in `answer`, which can be asked again, listed and printed as any other.
+   0; or 7 where `pegs` or `answer` is shorter than GUZBYTOR_REGISTER_LENGTH, 8 where `pegs` holds no register, 12 where west exceeds east or south exceeds
+   north, tested in this order, and `answer` is as it was. What `answer` held before is not read; what lies behind its last peg stays. */
+uint32_t guzbytor_register_rectangle(const uint8_t *pegs, size_t pegs_length, int32_t west, int32_t south, int32_t east, int32_t north, uint8_t *answer,
+                                     size_t answer_length);
+
+/* The pegs within `radius` of a point, at that distance too, in the same way: 0, 7 or 8. */
+uint32_t guzbytor_register_radius(const uint8_t *pegs, size_t pegs_length, int32_t easting, int32_t northing, uint32_t radius, uint8_t *answer,
+                                  size_t answer_length);
+
+/* The peg nearest to a point; of equally near ones that with the smallest name. Answered as a name that was searched: number 0 and found 1 with its slot and
+   place, or found 0, which only the empty register gets, or 7 or 8. */
+guzbytor_register_find_answer guzbytor_register_nearest(const uint8_t *pegs, size_t pegs_length, int32_t easting, int32_t northing);
 
 /* What guzbytor_step answers, how many actions the event turned green, and how many of these are operations that the register refused (9, 10, 11, 13). */
 typedef struct {

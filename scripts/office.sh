@@ -14,7 +14,7 @@ compile() {
     "${CC:-cc}" -std=c11 -D_POSIX_C_SOURCE=200809L -Wall -Wextra -O2 -Idist -Iinclude -Iexamples/c -Ibench "$@"
 }
 compile examples/c/office/*.c bench/plain_register.c dist/libguzbytor.a -o "$out/office"
-compile examples/c/sheet.c dist/libguzbytor.a -o "$out/sheet"
+compile examples/c/sheet.c examples/c/drawing.c dist/libguzbytor.a -o "$out/sheet"
 
 # Runs a seed; with a fourth word it is recorded too.
 run() {
@@ -50,7 +50,7 @@ awk '{ events += $3; crashes += $5; green += $7; refused += $9; pegs += $11 }
 echo "$equal of $count seeds ended equal; replay prints the same lines for $same of $recorded recorded"
 [ "$equal" -eq "$count" ] && [ "$same" -eq "$recorded" ] || exit 1
 
-# A run's register: the table, and the sheet (docs/STORY.md).
+# A run's register: the table, the sheet, and a part of it with the peg that is nearest to a point (docs/STORY.md).
 "$out/office" 7 -n 3 -q 16 -u -d "$out/depots" -p "$out/pegs.img" >/dev/null
 "$out/sheet" "$out/pegs.img" >"$out/pegs.txt"
 "$out/sheet" -s "$out/pegs.img" >"$out/sheet.svg"

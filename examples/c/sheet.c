@@ -1,13 +1,26 @@
 /* The pegs of a register, as a table, or drawn on a sheet as SVG, north up: a cross and a name for each. The register is a file with the bytes of its
    buffer, as `office -p` writes one, or standard input. Printable names (ASCII) are text, in the table in quotes; others are hexadecimal.
-   usage: sheet [-s] [FILE]      -s  the sheet */
-#include "pegs.h"
+   usage: sheet [-s] [-r WEST SOUTH EAST NORTH] [-w RADIUS] [-n EASTING NORTHING] [FILE]      (millimetres)
+   -s  the sheet
+   -r  the pegs inside a rectangle, edges included
+   -n  a point, with the peg of the whole register that is nearest to it
+   -w  of the pegs inside, those within so many millimetres of the point */
+#include "drawing.h"
+#include "shown.h"
 
-#include <stdio.h>
+#include <errno.h>
 #include <stdlib.h>
 #include <string.h>
 
-enum { MOST_SHOWN = 2 * GUZBYTOR_MOST_NAME + 3, MOST_METRES = 32 };
+static void fail(const char *what, uint32_t number) {
+    fprintf(stderr, "%s: %u\n", what, number);
+    exit(1);
+}
+
+static void usage(void) {
+    fprintf(stderr, "usage: sheet [-s] [-r WEST SOUTH EAST NORTH] [-w RADIUS] [-n EASTING NORTHING] [FILE]\n");
+    exit(1);
+}
 
 /* As much of a register as there is; its length. */
 static size_t read_pegs(const char *name, uint8_t *pegs) {
@@ -23,34 +36,79 @@ static size_t read_pegs(const char *name, uint8_t *pegs) {
     return length;
 }
 
-/* ---- names and metres */
+/* ---- the command line */
 
-static int is_printable(const uint8_t *slot) {
-    for (int i = 0; i < slot[0]; i++) {
-        if (peg_name(slot)[i] < ' ' || peg_name(slot)[i] > '~') {
-            return 0;
-        }
+typedef struct {
+    int is_drawn, has_sides, has_point, has_radius;
+    sides rectangle;
+    pointer point;
+    uint32_t radius;
+    const char *file;
+} request;
+
+static int64_t number_in(const char *word, int64_t low, int64_t high) {
+    char *end;
+    errno = 0;
+    long long value = word == NULL ? 0 : strtoll(word, &end, 10);
+    if (word == NULL || end == word || *end != '\0' || errno != 0 || value < low || value > high) {
+        usage();
     }
-    return 1;
+    return value;
 }
 
-/* How a name is shown, text between quotes or not. */
-static const char *shown_name(const uint8_t *slot, const char *quote) {
-    static char shown[MOST_SHOWN];
-    if (is_printable(slot)) {
-        snprintf(shown, sizeof shown, "%s%.*s%s", quote, slot[0], (const char *)peg_name(slot), quote);
-    } else {
-        for (int i = 0; i < slot[0]; i++) {
-            snprintf(shown + 2 * i, 3, "%02x", peg_name(slot)[i]);
+static int32_t coordinate_in(const char *word) { return (int32_t)number_in(word, INT32_MIN, INT32_MAX); }
+
+/* The next word, or NULL behind the last one. */
+static const char *next(char ***words) { return **words == NULL ? NULL : *(*words)++; }
+
+static request read_request(char **words) {
+    request r = {.point = {.index = -1}};
+    for (const char *word = next(&words); word != NULL; word = next(&words)) {
+        if (strcmp(word, "-s") == 0) {
+            r.is_drawn = 1;
+        } else if (strcmp(word, "-r") == 0) {
+            r.has_sides = 1;
+            r.rectangle.west = coordinate_in(next(&words));
+            r.rectangle.south = coordinate_in(next(&words));
+            r.rectangle.east = coordinate_in(next(&words));
+            r.rectangle.north = coordinate_in(next(&words));
+        } else if (strcmp(word, "-n") == 0) {
+            r.has_point = 1;
+            r.point.easting = coordinate_in(next(&words));
+            r.point.northing = coordinate_in(next(&words));
+        } else if (strcmp(word, "-w") == 0) {
+            r.has_radius = 1;
+            r.radius = (uint32_t)number_in(next(&words), 0, UINT32_MAX);
+        } else if (word[0] == '-' || r.file != NULL) {
+            usage();
+        } else {
+            r.file = word;
         }
     }
-    return shown;
+    if (r.has_radius && !r.has_point) {
+        usage();
+    }
+    return r;
 }
 
-static const char *metres(int64_t millimetres, char *text) {
-    uint64_t size = millimetres < 0 ? -(uint64_t)millimetres : (uint64_t)millimetres;
-    snprintf(text, MOST_METRES, "%s%llu.%03llu", millimetres < 0 ? "-" : "", (unsigned long long)size / 1000, (unsigned long long)size % 1000);
-    return text;
+/* ---- what is shown */
+
+/* The pegs asked for. An answer is a register, so that it can be asked in its turn. */
+static const uint8_t *chosen(const request *r, const uint8_t *pegs, size_t length) {
+    static uint8_t inside[GUZBYTOR_REGISTER_LENGTH], near[GUZBYTOR_REGISTER_LENGTH];
+    uint32_t number = 0;
+    if (r->has_sides) {
+        number = guzbytor_register_rectangle(pegs, length, r->rectangle.west, r->rectangle.south, r->rectangle.east, r->rectangle.north, inside, sizeof inside);
+        pegs = inside;
+    }
+    if (number == 0 && r->has_radius) {
+        number = guzbytor_register_radius(pegs, GUZBYTOR_REGISTER_LENGTH, r->point.easting, r->point.northing, r->radius, near, sizeof near);
+        pegs = near;
+    }
+    if (number != 0) {
+        fail(number == GUZBYTOR_BAD_RECTANGLE ? "no rectangle" : "no register", number);
+    }
+    return pegs;
 }
 
 static void print_table(const uint8_t *pegs) {
@@ -67,193 +125,36 @@ static void print_table(const uint8_t *pegs) {
     }
 }
 
-/* ---- the sheet: lengths on the page are tenths of a pixel */
-
-enum {
-    LEFT = 1000,  /* margins */
-    RIGHT = 300,
-    TOP = 300,
-    BOTTOM = 600,
-    WIDTH = 8000, /* of a sheet for few pegs; the more there are, the larger it is */
-    FEW = 150,
-    ARM = 40,     /* of a cross */
-    LETTER = 67,  /* the width of a letter, and the height of a line */
-    LINE = 120,
-    LEAST = 10000 /* millimetres from west to east */
-};
-
-/* What the frame shows: its corner, and millimetres from west to east; its size on the page. */
-typedef struct {
-    int64_t west, south, span, width, height;
-} frame;
-
-static int64_t across(const frame *f, int64_t easting) { return LEFT + (easting - f->west) * f->width / f->span; }
-
-static int64_t down(const frame *f, int64_t northing) { return TOP + f->height - (northing - f->south) * f->width / f->span; }
-
-/* All pegs, in the middle, with room around them. */
-static frame fitted(const uint8_t *pegs) {
-    int64_t west = 0, east = 0, south = 0, north = 0, large = 1;
-    for (size_t i = 0; i < peg_count(pegs); i++) {
-        int64_t e = peg_easting(pegs + peg_at(i)), n = peg_northing(pegs + peg_at(i));
-        west = i == 0 || e < west ? e : west;
-        east = i == 0 || e > east ? e : east;
-        south = i == 0 || n < south ? n : south;
-        north = i == 0 || n > north ? n : north;
+/* Which peg of the register is nearest to the point, and which of those shown that is. */
+static void point_out(request *r, const uint8_t *pegs, size_t length, const uint8_t *shown) {
+    guzbytor_register_find_answer nearest = guzbytor_register_nearest(pegs, length, r->point.easting, r->point.northing);
+    const uint8_t *slot = pegs + peg_at(nearest.index);
+    if (nearest.found) {
+        guzbytor_register_find_answer here = guzbytor_register_find(shown, GUZBYTOR_REGISTER_LENGTH, peg_name(slot), slot[0]);
+        r->point.index = here.found ? (long)here.index : -1;
     }
-    while ((int64_t)peg_count(pegs) > FEW * large * large) {
-        large++;
+    if (!r->is_drawn) {
+        printf("nearest: %s\n", nearest.found ? shown_name(slot, "\"") : "none");
     }
-    frame f = {.width = WIDTH * large, .height = WIDTH * large * 5 / 8};
-    int64_t wide = east - west, high = (north - south) * f.width / f.height;
-    f.span = (wide > high ? wide : high) * 9 / 8;
-    f.span = f.span < LEAST ? LEAST : f.span;
-    f.west = west - (f.span - wide) / 2;
-    f.south = south - (f.span * f.height / f.width - (north - south)) / 2;
-    return f;
-}
-
-/* 1, 2 or 5 and zeros: some six to the width of a small sheet. */
-static int64_t grid_step(const frame *f) {
-    int64_t most = 6 * f->width / WIDTH;
-    for (int64_t ten = 1;; ten *= 10) {
-        for (int64_t step = ten; step <= 5 * ten; step = step == ten ? 2 * ten : step + 3 * ten) {
-            if (f->span / step <= most) {
-                return step;
-            }
-        }
-    }
-}
-
-static int64_t first_line(int64_t from, int64_t step) {
-    int64_t line = from / step * step;
-    return line < from ? line + step : line;
-}
-
-static void draw_grid(const frame *f, int64_t step) {
-    char text[MOST_METRES];
-    for (int64_t e = first_line(f->west, step); across(f, e) <= LEFT + f->width; e += step) {
-        printf("<path class=\"grid\" d=\"M%lld %d v%lld\"/>", (long long)across(f, e), TOP, (long long)f->height);
-        printf("<text class=\"grid\" text-anchor=\"middle\" x=\"%lld\" y=\"%lld\">%s</text>\n", (long long)across(f, e),
-               (long long)(TOP + f->height + LINE + ARM), metres(e, text));
-    }
-    for (int64_t n = first_line(f->south, step); down(f, n) >= TOP; n += step) {
-        printf("<path class=\"grid\" d=\"M%d %lld h%lld\"/>", LEFT, (long long)down(f, n), (long long)f->width);
-        printf("<text class=\"grid\" text-anchor=\"end\" x=\"%d\" y=\"%lld\">%s</text>\n", LEFT - ARM, (long long)down(f, n) + ARM, metres(n, text));
-    }
-}
-
-/* ---- names beside their crosses */
-
-typedef struct {
-    int64_t x, y, width, height;
-} box;
-
-static int overlap(const box *a, const box *b) {
-    return a->x < b->x + b->width && b->x < a->x + a->width && a->y < b->y + b->height && b->y < a->y + a->height;
-}
-
-/* The first place beside the cross that is in the frame and free, or right of it. The first `count` boxes are taken. */
-static box placed(const frame *f, const box *cross, int64_t letters, const box *boxes, size_t count) {
-    static const int beside[][2] = {{2, 1}, {0, 1}, {1, 0}, {1, 2}, {2, 0}, {2, 2}, {0, 0}, {0, 2}};
-    box first = {0}, b = {.width = letters * LETTER, .height = LINE};
-    for (size_t k = 0; k < sizeof beside / sizeof beside[0]; k++) {
-        int64_t xs[] = {cross->x - b.width, cross->x + ARM - b.width / 2, cross->x + cross->width};
-        int64_t ys[] = {cross->y - LINE, cross->y + ARM - LINE / 2, cross->y + cross->height};
-        b.x = xs[beside[k][0]];
-        b.y = ys[beside[k][1]];
-        int is_free = b.x >= LEFT && b.x + b.width <= LEFT + f->width && b.y >= TOP && b.y + b.height <= TOP + f->height;
-        for (size_t i = 0; is_free && i < count; i++) {
-            is_free = !overlap(&b, &boxes[i]);
-        }
-        if (is_free) {
-            return b;
-        }
-        first = k == 0 ? b : first;
-    }
-    return first;
-}
-
-/* Text as SVG has it. */
-static void print_escaped(const char *text) {
-    for (; *text != '\0'; text++) {
-        switch (*text) {
-        case '&':
-            printf("&amp;");
-            break;
-        case '<':
-            printf("&lt;");
-            break;
-        case '>':
-            printf("&gt;");
-            break;
-        case '"':
-            printf("&quot;");
-            break;
-        case '\'':
-            printf("&#39;");
-            break;
-        default:
-            putchar(*text);
-        }
-    }
-}
-
-static void draw_pegs(const frame *f, const uint8_t *pegs) {
-    static box boxes[2 * GUZBYTOR_MOST_PEGS];
-    size_t count = peg_count(pegs);
-    for (size_t i = 0; i < count; i++) {
-        const uint8_t *slot = pegs + peg_at(i);
-        boxes[i] = (box){across(f, peg_easting(slot)) - ARM, down(f, peg_northing(slot)) - ARM, 2 * ARM, 2 * ARM};
-        printf("<path class=\"peg\" d=\"M%lld %lld h%d m%d %d v%d\"/>\n", (long long)boxes[i].x, (long long)boxes[i].y + ARM, 2 * ARM, -ARM, -ARM, 2 * ARM);
-    }
-    for (size_t i = 0; i < count; i++) {
-        const uint8_t *slot = pegs + peg_at(i);
-        const char *name = shown_name(slot, "");
-        box b = boxes[count + i] = placed(f, &boxes[i], (int64_t)strlen(name), boxes, count + i);
-        printf("<text%s x=\"%lld\" y=\"%lld\">", is_printable(slot) ? "" : " class=\"bytes\"", (long long)b.x, (long long)b.y + LINE * 3 / 4);
-        print_escaped(name);
-        printf("</text>\n");
-    }
-}
-
-static void draw_sheet(const uint8_t *pegs) {
-    frame f = fitted(pegs);
-    int64_t wide = LEFT + f.width + RIGHT, high = TOP + f.height + BOTTOM, step = grid_step(&f);
-    char text[MOST_METRES];
-    printf("<svg xmlns=\"http://www.w3.org/2000/svg\" xml:space=\"preserve\" width=\"%lld\" height=\"%lld\" viewBox=\"0 0 %lld %lld\">\n", (long long)wide / 10,
-           (long long)high / 10, (long long)wide, (long long)high);
-    printf("<style>text { font: 110px monospace; fill: #111 } .bytes { fill: #777; font-style: italic } text.grid { fill: #666 }\n");
-    printf("path { fill: none; stroke-width: 8; stroke: #333 } path.grid { stroke: #ddd } path.peg { stroke: #c0281f; stroke-width: 12 }</style>\n");
-    printf("<rect width=\"%lld\" height=\"%lld\" fill=\"#fff\"/>\n", (long long)wide, (long long)high);
-    draw_grid(&f, step);
-    printf("<path d=\"M%d %d h%lld v%lld h%lld z\"/>\n", LEFT, TOP, (long long)f.width, (long long)f.height, (long long)-f.width);
-    draw_pegs(&f, pegs);
-    printf("<text x=\"%d\" y=\"%lld\">%zu peg%s, grid %s m</text>\n", LEFT, (long long)(high - 3 * ARM), peg_count(pegs), peg_count(pegs) == 1 ? "" : "s",
-           metres(step, text));
-    printf("<path d=\"M%lld %d v-200 m-50 90 l50 -90 l50 90\"/><text text-anchor=\"middle\" x=\"%lld\" y=\"%d\">N</text>\n", (long long)(wide - RIGHT / 2),
-           TOP + 300, (long long)(wide - RIGHT / 2), TOP + 60);
-    printf("</svg>\n");
 }
 
 int main(int count, char **words) {
     static uint8_t pegs[GUZBYTOR_REGISTER_LENGTH];
-    int draws = count > 1 && strcmp(words[1], "-s") == 0;
-    const char *name = count > 1 + draws ? words[1 + draws] : NULL;
-    if (count > 2 + draws || (name != NULL && name[0] == '-')) {
-        fprintf(stderr, "usage: sheet [-s] [FILE]\n");
-        return 1;
-    }
-    size_t length = read_pegs(name, pegs);
+    request r = read_request(words + (count > 0));
+    size_t length = read_pegs(r.file, pegs);
     uint32_t number = guzbytor_register_find(pegs, length, NULL, 0).number;
     if (number != 0) {
-        fprintf(stderr, "no register: %u\n", number);
-        return 1;
+        fail("no register", number);
     }
-    if (draws) {
-        draw_sheet(pegs);
-    } else {
-        print_table(pegs);
+    const uint8_t *shown = chosen(&r, pegs, length);
+    if (!r.is_drawn) {
+        print_table(shown);
+    }
+    if (r.has_point) {
+        point_out(&r, pegs, length, shown);
+    }
+    if (r.is_drawn) {
+        draw_sheet(shown, r.has_sides ? &r.rectangle : NULL, r.has_point ? &r.point : NULL);
     }
     return ferror(stdout) || fflush(stdout) != 0;
 }

@@ -7,26 +7,32 @@
     cuts OPERATION # LABEL                    its payload cut at every byte
     many COUNT from K by STEP OPERATION       applied so often: K, K + STEP, .. in the last two bytes of its name and in the high half of its easting
     sweep NUMBER # LABEL                      each used byte raised by NUMBER in its turn: the name of no bytes is searched
+    inside WEST SOUTH EAST NORTH # LABEL      the pegs inside a rectangle, in an answer's buffer that holds 238 everywhere at first
+    within RADIUS of EASTING NORTHING # LABEL the pegs within so many millimetres of a point, likewise
+    nearest EASTING NORTHING # LABEL          the peg nearest to a point
+    questions COUNT from SEED # LABEL         so many of these three, drawn (questions.py)
 
 OPERATION is `set NAME EASTING NORTHING`, `move NAME EASTING NORTHING`, `retire NAME`, or `payload` and bytes in hexadecimal; `but operation 4`, `but
 length 3` change that byte alone, `but behind 1` puts so many zeros behind it. NAME is a text, or `x` and bytes in hexadecimal.
-In front of start, find and OPERATION: `lent -1` lends so many bytes more than the formula asks, `lent =2` so many; `with PART VALUE` changes a part
-for this line alone.
+In front of start, find, OPERATION and the last questions but the drawn ones: `lent -1` lends so many bytes more than the formula asks, `lent =2` so many;
+`answer -1` and `answer =2` lend so much of the answer's buffer; `with PART VALUE` changes a part for this line alone.
 
 A vector of the program is what it does (1 byte), the length lent (4), where bytes are changed (4), how many (1), these, and a payload or name. Many:
-the first K, STEP and COUNT, 2 bytes each, and the payload.
+the first K, STEP and COUNT, 2 bytes each, and the payload. A question: the length lent of the answer's buffer (4; not of the nearest peg), and its
+numbers, 4 bytes each.
 """
 import zlib
 from bisect import bisect_left
 
-from . import register, words
+from . import plane, questions, register, words
 from .layout import OPERATION, PEG, PEG_COUNT, REGISTER_LENGTH, in_register, places, size
 from .records import big
 
 ROOM, FILL, FEW_PEGS = REGISTER_LENGTH + 40, 238, 3
-START, APPLY, MANY, FIND, CHANGE = range(5)
+START, APPLY, MANY, FIND, CHANGE, INSIDE, WITHIN, NEAREST = range(8)
 KINDS = {'set': register.SET, 'move': register.MOVE, 'retire': register.RETIRE}
 NUMBER_SIZE = 2
+FOUND = '%d found %d index %d at %d %d'
 
 
 def text_of(w):
@@ -108,12 +114,12 @@ class Table:
     def lent(self, w):
         """The words in front: the length lent, and what is changed where."""
         found = {}
-        while w and w.left[0] in ('lent', 'with'):
-            if w.next() == 'lent':
-                word = w.next()
-                found['length'] = int(word[1:]) if word[0] == '=' else REGISTER_LENGTH + int(word)
-            else:
+        while kind := w.taken('lent', 'answer', 'with'):
+            if kind == 'with':
                 found.update(changed(w))
+            else:
+                word = w.next()
+                found['length' if kind == 'lent' else kind] = int(word[1:]) if word[0] == '=' else REGISTER_LENGTH + int(word)
         return found
 
     def vector(self, w):
@@ -132,10 +138,36 @@ class Table:
             return [(*self.run(START, b'', lambda b: told(*register.start(b)), **lent), '')]
         if w.taken('find'):
             return [(*self.find(text_of(w), **lent), '')]
+        if w.taken('inside'):
+            return [(*self.question('inside', [w.number() for _ in range(4)], **lent), '')]
+        if w.taken('within'):
+            most, point = w.number(), w.taken('of') and [w.number(), w.number()]
+            return [(*self.question('within', [*point, most], **lent), '')]
+        if w.taken('nearest'):
+            return [(*self.question('nearest', [w.number(), w.number()], **lent), '')]
+        if w.taken('questions'):
+            return self.questions(w.number(), w.taken('from') and w.number())
         return [(*self.apply(payload_of(w), **lent), '')]
 
     def find(self, name, **lent):
-        return self.run(FIND, name, lambda b: ('%d found %d index %d at %d %d' % register.find(b, name), b), **lent)
+        return self.run(FIND, name, lambda b: (FOUND % register.find(b, name), b), **lent)
+
+    def question(self, kind, numbers, answer=REGISTER_LENGTH, **lent):
+        rest = b''.join(big(k % 256 ** 4, 4) for k in numbers)
+        if kind == 'nearest':
+            return self.run(NEAREST, rest, lambda b: (FOUND % plane.nearest(b, *numbers), b), **lent)
+        ask, does = (plane.rectangle, INSIDE) if kind == 'inside' else (plane.radius, WITHIN)
+
+        def run(b):
+            held = bytes([FILL]) * ROOM
+            number, after = ask(b, held[:answer], *numbers)
+            return '%d' % number + changes(held, after + held[answer:]), b
+
+        return self.run(does, big(answer, 4) + rest, run, **lent)
+
+    def questions(self, count, seed):
+        places = sorted(register.read(self.base[:REGISTER_LENGTH]).values())
+        return [(*self.question(kind, numbers), ', %d %s' % (k + 1, kind)) for k, (kind, numbers) in enumerate(questions.drawn(count, seed, places))]
 
     def apply(self, data, **lent):
         def run(b):

@@ -72,6 +72,11 @@ module _ {A : Type 0} where
   at-among (y ∷ l) zero x e = List·Memᴰ·head (sym (some-same e))
   at-among (y ∷ l) (suc p) x e = List·Memᴰ·tail (at-among l p x e)
 
+  pub among-at : (l : List A) (x : A) → List·Memᴰ x l → (p : ℕ) × (at l p ≡ some x)
+  unfolding at
+  among-at (y ∷ l) x (List·Memᴰ·head e) = (0, ap some (sym e))
+  among-at (y ∷ l) x (List·Memᴰ·tail m) = let r = among-at l x m in (suc (r .0), r .1)
+
   pub at-single : (y : A) (p : ℕ) (x : A) → at (y ∷ []) p ≡ some x → (p ≡ 0) × (x ≡ y)
   unfolding at
   at-single y zero x e = (refl, sym (some-same e))

@@ -3,7 +3,7 @@
 use Prim.Native.Nat.{_≤_}
 use mathlib.Core.Path.{_≡_, refl, sym, ap, _∙_}
 use mathlib.Core.Bool.{Bool, true, false}
-use mathlib.Core.List.{List, [], _∷_, List·Memᴰ, List·Memᴰ·head, List·Memᴰ·tail}
+use mathlib.Core.List.{List, [], _∷_, _++_, List·Memᴰ, List·Memᴰ·head, List·Memᴰ·tail}
 use native.Mathlib.Omega.{arith}
 use lib.ListN.{length}
 use Rattle.base.specs.Tests.{pick}
@@ -27,6 +27,15 @@ module _ {A : Type 0} where
       go : Known (t a) → length (filter t x) ≤ length x → length (filter t (a ∷ x)) ≤ length (a ∷ x)
       go (holds h) k = omega (arith, ap length (filter-yes t a x h))
       go (fails h) k = omega (arith, ap length (filter-no t a x h))
+
+  pub filter-append : (t : A → Bool) (x y : List A) → filter t (x ++ y) ≡ filter t x ++ filter t y
+  unfolding filter pick
+  filter-append t [] y = refl
+  filter-append t (a ∷ x) y = go (known (t a)) (filter-append t x y)
+    where
+      go : Known (t a) → filter t (x ++ y) ≡ filter t x ++ filter t y → filter t ((a ∷ x) ++ y) ≡ filter t (a ∷ x) ++ filter t y
+      go (holds e) h = rw e (ap (λ z. a ∷ z) h)
+      go (fails e) h = rw e h
 
   -- Two tests that agree on every element.
   pub filter-same : (t u : A → Bool) (x : List A) → ((a : A) → List·Memᴰ a x → t a ≡ u a) → filter t x ≡ filter u x

@@ -28,3 +28,4 @@ pub mod Gathered
 pub mod Branches
 pub mod Shifts
 pub mod Over
+pub mod FirstLaws

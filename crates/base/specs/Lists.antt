@@ -66,6 +66,11 @@ at [] i = none
 at (x ∷ xs) zero = some x
 at (x ∷ xs) (suc i) = at xs i
 
+-- Where the first element that passes the test stands, counted from k.
+unfoldable pub firstFrom : {A : Type 0} → (A → Bool) → (k : ℕ) → List A → Option ℕ
+firstFrom t k [] = none
+firstFrom t k (x ∷ xs) = pick (t x) (some k) (firstFrom t (suc k) xs)
+
 unfoldable pub sum : List ℕ → ℕ
 sum [] = 0
 sum (x ∷ xs) = x + sum xs

@@ -6,7 +6,9 @@ ghost use Rattle.burst.specs.Burst.{burstOn, left};
 ghost use Rattle.queries.specs.Queries.{summaryOn, entriesOn, listed};
 ghost use Rattle.pegs.specs.Image.{registerLength};
 ghost use Rattle.pegs.specs.Outcome.{changed, emptyOn, applyOn, findOn};
+ghost use Rattle.pegs.specs.Queries.{regionOn, nearestOn};
 ghost use Rattle.register_check.specs.Answers.{located};
+ghost use Rattle.register_queries.specs.Arguments.{rectangle, disc, point};
 ghost use Rattle.register_step.specs.Answers.{AnswersJointly};
 ghost use Rattle.register_step.specs.Burst.{AnswersAll};
 use burst::BurstAnswer;
@@ -97,6 +99,44 @@ pub extern "C" fn guzbytor_register_find(register: &[u8], name: &[u8]) -> Regist
     ensures { λ r. ⌜ located r ≡ findOn (now (register .entry)) (now (name .entry)) ⌝ }
 {
     register_check::guzbytor_register_find(register, name)
+}
+
+#[no_mangle]
+pub extern "C" fn guzbytor_register_rectangle(
+    register: &[u8],
+    west: i32,
+    south: i32,
+    east: i32,
+    north: i32,
+    answer: &mut [u8],
+) -> u32
+    ensures { λ r. ⌜ changed r (now (answer .exit)) ≡ regionOn (rectangle west south east north) (now (register .entry)) (now (answer .entry)) ⌝ }
+{
+    register_queries::guzbytor_register_rectangle(register, west, south, east, north, answer)
+}
+
+#[no_mangle]
+pub extern "C" fn guzbytor_register_radius(
+    register: &[u8],
+    easting: i32,
+    northing: i32,
+    radius: u32,
+    answer: &mut [u8],
+) -> u32
+    ensures { λ r. ⌜ changed r (now (answer .exit)) ≡ regionOn (disc easting northing radius) (now (register .entry)) (now (answer .entry)) ⌝ }
+{
+    register_queries::guzbytor_register_radius(register, easting, northing, radius, answer)
+}
+
+#[no_mangle]
+pub extern "C" fn guzbytor_register_nearest(
+    register: &[u8],
+    easting: i32,
+    northing: i32,
+) -> RegisterFind
+    ensures { λ r. ⌜ located r ≡ nearestOn (now (register .entry)) (point easting northing) ⌝ }
+{
+    register_queries::guzbytor_register_nearest(register, easting, northing)
 }
 
 #[no_mangle]

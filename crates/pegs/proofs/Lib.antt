@@ -9,3 +9,6 @@ pub mod Kept
 pub mod Advance
 pub mod Listed
 pub mod PairsHold
+pub mod Regions
+pub mod Nearest
+pub mod QueryPairsHold

@@ -5,3 +5,7 @@ pub mod Claim
 pub mod Image
 pub mod Outcome
 pub mod Pairs
+pub mod Regions
+pub mod Queries
+pub mod QueriesClaim
+pub mod QueryPairs

@@ -44,7 +44,7 @@ pub struct RegisterFind {
 }
 
 impl RegisterFind {
-    fn none(number: u32) -> RegisterFind
+    pub fn none(number: u32) -> RegisterFind
         ensures { λ r. ⌜ located r ≡ notFound number ⌝ }
     {
         RegisterFind {
@@ -57,7 +57,7 @@ impl RegisterFind {
     }
 
     // The peg in the slot of this index.
-    fn peg(register: &[u8], index: usize) -> RegisterFind
+    pub fn peg(register: &[u8], index: usize) -> RegisterFind
         requires { ⌜ (index < mostPegs) × (countSize + pegSize * index + pegSize ≤ length (now register)) ⌝ }
         ensures { λ r. ⌜ located r ≡ foundIf index (some (pegAt (now (register .entry)) (countSize + pegSize * index) .place)) ⌝ }
     {

@@ -1,5 +1,6 @@
 // Runs vectors through the register's exported functions. A line of the input is a vector in hexadecimal, and from '#' on a label, which
 // is written behind the answer.
+mod questions;
 mod report;
 mod runs;
 mod vector;
@@ -9,8 +10,11 @@ use report::ROOM;
 use vector_tools::output::labelled;
 use vector_tools::text;
 
-// What the buffer holds at first.
-const FILL: u8 = 238;
+// What buffers hold at first.
+pub const FILL: u8 = 238;
+
+// All vectors.
+const MOST_INPUT: usize = 131072;
 
 fn answer(base: &mut [u8], digits: &[u8]) {
     let mut e = io::buffer();
@@ -38,7 +42,7 @@ fn lines(base: &mut [u8], s: &[u8]) {
 fn main() {
     labelled(b"length", guzbytor_register_length() as u64);
     io::write_all(1, b"\n");
-    let mut input = io::large_buffer();
+    let mut input: [u8; MOST_INPUT] = [0; MOST_INPUT];
     let n = io::read_full(0, &mut input);
     let mut base: [u8; ROOM] = [FILL; ROOM];
     lines(&mut base, &input[..n]);

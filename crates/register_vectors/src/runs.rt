@@ -1,11 +1,14 @@
 // What a vector does with the register.
 ghost use Prim.Native.Nat.{_≤_};
 ghost use lib.ListN.{length};
+use crate::questions::nearest;
+use crate::questions::region;
 use record::bytes::num8;
 use record::bytes::num16;
 use record::bytes::wider;
 use register::guzbytor_register_apply;
 use register::guzbytor_register_start;
+use register_check::RegisterFind;
 use register_check::guzbytor_register_find;
 use vector_tools::output::labelled;
 use vector_tools::output::number;
@@ -20,6 +23,12 @@ pub const MANY: u8 = 2;
 pub const FIND: u8 = 3;
 
 pub const CHANGE: u8 = 4;
+
+pub const INSIDE: u8 = 5;
+
+pub const WITHIN: u8 = 6;
+
+pub const NEAREST: u8 = 7;
 
 // The middle of the unsigned range.
 const MIDDLE: u32 = 2147483648;
@@ -42,8 +51,8 @@ fn signed(v: i32) {
     number((k - MIDDLE) as u64);
 }
 
-fn find(register: &[u8], name: &[u8]) {
-    let f = guzbytor_register_find(register, name);
+// What is given back of a peg.
+pub fn found(f: RegisterFind) {
     returned(f.number);
     labelled(b" found", f.found as u64);
     labelled(b" index", f.index as u64);
@@ -121,7 +130,7 @@ fn many(register: &mut [u8], e: &[u8]) {
     labelled(b" last", last);
 }
 
-fn returned(number: u32) {
+pub fn returned(number: u32) {
     io::print_decimal(1, number as u64);
 }
 
@@ -130,7 +139,9 @@ pub fn run(kind: u8, register: &mut [u8], e: &[u8]) {
         START => returned(guzbytor_register_start(register)),
         APPLY => returned(guzbytor_register_apply(register, e)),
         MANY => many(register, e),
-        FIND => find(register, e),
+        FIND => found(guzbytor_register_find(register, e)),
+        INSIDE | WITHIN => region(kind, register, e),
+        NEAREST => nearest(register, e),
         _ => {}
     }
 }

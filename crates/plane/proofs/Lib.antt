@@ -1,0 +1,3 @@
+pub mod Signed
+pub mod Tests
+pub mod Squares

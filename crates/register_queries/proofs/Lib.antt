@@ -1,0 +1,4 @@
+pub mod PointLaws
+pub mod Collected
+pub mod Along
+pub mod Answers

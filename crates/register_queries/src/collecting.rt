@@ -1,0 +1,46 @@
+// The pegs of a region, in their order: one loop for rectangles and radii.
+ghost use mathlib.Core.Path.{_≡_};
+ghost use Prim.Native.Nat.{_+_, _≤_};
+ghost use lib.ListN.{length};
+ghost use Rattle.base.specs.Bytes.{partAt};
+ghost use Rattle.base.specs.Patched.{patched};
+ghost use Rattle.pegs.specs.Image.{pegSize, registerLength, registerImage, pegsIn};
+ghost use Rattle.pegs.specs.Outcome.{registerNumber};
+ghost use Rattle.pegs.specs.Regions.{pegsInside};
+use crate::places::point_at;
+use plane::Region;
+use plane::in_region;
+use record::bytes::num16;
+use register_check::layout::COUNT_SIZE;
+use register_check::layout::PEG_SIZE;
+use writer::blocks::copy;
+use writer::parts::put16;
+
+// The slot at `from` in the answer's slot at `to`.
+fn copy_slot(register: &[u8], from: usize, answer: &mut [u8], to: usize)
+    requires { ⌜ (from + pegSize ≤ length (now register)) × (to + pegSize ≤ length (now answer)) ⌝ }
+    ensures { λ _. ⌜ now (answer .exit) ≡ patched to (partAt pegSize (now (register .entry)) from) (now (answer .entry)) ⌝ }
+{
+    let end = from + PEG_SIZE;
+    copy(answer, to, &register[from..end]);
+}
+
+// Each slot of the region is copied behind those before it, and their number is put in front.
+pub fn collect(register: &[u8], region: Region, answer: &mut [u8])
+    requires { ⌜ (registerNumber (now register) ≡ 0) × (registerLength ≤ length (now answer)) ⌝ }
+    ensures { λ _. ⌜ now (answer .exit) ≡ registerImage (pegsInside region (pegsIn (now (register .entry)))) (now (answer .entry)) ⌝ }
+{
+    let count = num16(register, 0) as usize;
+    let mut index: usize = 0;
+    let mut found: u16 = 0;
+    while index < count {
+        let from = COUNT_SIZE + PEG_SIZE * index;
+        index += 1;
+        if in_region(region, point_at(register, from)) {
+            let to = COUNT_SIZE + PEG_SIZE * found as usize;
+            copy_slot(register, from, answer, to);
+            found += 1;
+        }
+    }
+    put16(answer, 0, found);
+}
