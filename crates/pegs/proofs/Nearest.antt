@@ -22,7 +22,7 @@ use Rattle.plane.specs.declared.Point.{Point}
 use Rattle.pegs.specs.Names.{before}
 use Rattle.pegs.specs.Operations.{Peg}
 use Rattle.pegs.specs.Claim.{Sorted}
-use Rattle.pegs.specs.Regions.{distanceTo, isNearest, nearest}
+use Rattle.pegs.specs.Regions.{distanceTo, noNearer, isNearest, nearest}
 use Rattle.pegs.specs.QueriesClaim.{NearestTheorem}
 
 module _ (p : Point) where
@@ -34,13 +34,21 @@ module _ (p : Point) where
 
   -- ---- it is what the definition gives
 
+  no-nearer : (g h : Peg) → distanceTo p g ≤ distanceTo p h → noNearer p g h ≡ true
+  unfolding noNearer
+  no-nearer g h e = le-yes _ _ (omega (arith, e))
+
+  as-near : (g h : Peg) → noNearer p g h ≡ true → distanceTo p g ≤ distanceTo p h
+  unfolding noNearer
+  as-near g h e = omega (arith, le-holds _ _ e)
+
   pub closest-nearest : (l : List Peg) (k : ℕ) (g : Peg) → Closest l k g → nearest p l ≡ some k
   unfolding nearest isNearest
   closest-nearest l k g c =
       first-is (isNearest p l) l 0 k (record { element = g; stands = c .stands; passes = passes; earlier = earlier }) ∙ ap some (zero-add k)
     where
       passes : isNearest p l g ≡ true
-      passes = all-yes (λ h. distanceTo p g ≤? distanceTo p h) l (λ h m. let r = among-at l h m in le-yes _ _ (c .least (r .0) h (r .1)))
+      passes = all-yes (noNearer p g) l (λ h m. let r = among-at l h m in no-nearer g h (c .least (r .0) h (r .1)))
 
       earlier : (j : ℕ) (x : Peg) → j < k → at l j ≡ some x → isNearest p l x ≡ false
       earlier j x h e = go (known (isNearest p l x))
@@ -48,7 +56,7 @@ module _ (p : Point) where
           go : Known (isNearest p l x) → isNearest p l x ≡ false
           go (fails f) = f
           go (holds f) =
-              let z = le-holds _ _ (all-at (λ y. distanceTo p x ≤? distanceTo p y) l f k g (c .stands)) in
+              let z = as-near x g (all-at (noNearer p x) l f k g (c .stands)) in
               absurd (omega (arith, z, c .first j x h e))
 
   pub nearest-closest : (l : List Peg) (k : ℕ) → nearest p l ≡ some k → (g : Peg) × Closest l k g
@@ -57,7 +65,7 @@ module _ (p : Point) where
       let r = first-found (isNearest p l) l 0 k e in
       let f : First (isNearest p l) l k = subst (First (isNearest p l) l) (sym (r .1 ∙ zero-add (r .0))) (r .2) in
       let least : (i : ℕ) (h : Peg) → at l i ≡ some h → distanceTo p (f .element) ≤ distanceTo p h =
-      λ i h s. le-holds _ _ (all-at (λ y. distanceTo p (f .element) ≤? distanceTo p y) l (f .passes) i h s) in
+      λ i h s. as-near (f .element) h (all-at (noNearer p (f .element)) l (f .passes) i h s) in
       (f .element, record { stands = f .stands; least = least; first = farther f least })
     where
       -- One that is as near, in front of it, would be nearest too.
@@ -69,8 +77,7 @@ module _ (p : Point) where
           go (fails b) = le-fails _ _ b
           go (holds b) =
               let near : isNearest p l h ≡ true =
-              all-yes (λ y. distanceTo p h ≤? distanceTo p y) l
-              (λ y m. let r = among-at l y m in le-yes _ _ (omega (arith, le-holds _ _ b, least (r .0) y (r .1)))) in
+              all-yes (noNearer p h) l (λ y m. let r = among-at l y m in no-nearer h y (omega (arith, le-holds _ _ b, least (r .0) y (r .1)))) in
               not-both (sym (f .earlier i h low s) ∙ near)
 
   -- ---- along the list: of the first peg, then of one more

@@ -4,14 +4,14 @@ use mathlib.Core.Path.{refl}
 use Rattle.base.specs.Opened.{opened}
 use Rattle.plane.specs.Plane.{between, inRectangle, sidesRise, squared, squaredDistance, withinRadius}
 use Rattle.pegs.specs.Operations.{coordinate}
-use Rattle.pegs.specs.Regions.{pointOf, distanceTo, isNearest, nearest}
+use Rattle.pegs.specs.Regions.{pointOf, distanceTo, noNearer, isNearest, nearest}
 use Rattle.pegs.specs.QueryPairs.{QueryPairs}
 
 pub query-pairs-hold : QueryPairs
 unfolding
     opened
     between inRectangle sidesRise squared squaredDistance withinRadius
-    coordinate pointOf distanceTo isNearest nearest
+    coordinate pointOf distanceTo noNearer isNearest nearest
 query-pairs-hold = record {
   south-west = refl;
   north-east = refl;

@@ -69,12 +69,16 @@ sides-zero k s e = go (known (k =? 0))
     go (holds t) = (eq-holds k 0 t, pick-yes (k =? 0) s s k t refl ∙ e)
     go (fails t) = absurd (eq-fails k 0 t (pick-no (k =? 0) k s k t refl ∙ e))
 
+not-short : (b : List ℕ) → registerShort b ≡ false → registerLength ≤ length b
+unfolding registerShort
+not-short b e = lt-fails _ _ e
+
 pub answered : (a : Region) (r b : List ℕ) → regionNumber a r b ≡ 0 → Answered a r b
-unfolding regionNumber bothNumber registerShort
+unfolding regionNumber bothNumber
 answered a r b e =
     let s = sides-zero (bothNumber r b) (sidesNumber a) e in
-    let f = either-zero (length b <? registerLength) (registerNumber r) (s .0) in
-    record { both = s .0; sides = s .1; long = lt-fails _ _ (f .0); number = f .1 }
+    let f = either-zero _ (registerNumber r) (s .0) in
+    record { both = s .0; sides = s .1; long = omega (arith, not-short _ (f .0)); number = f .1 }
 
 pub region-taken : (a : Region) (r b : List ℕ) → regionNumber a r b ≡ 0 → regionOn a r b ≡ changed 0 (registerImage (pegsInside a (pegsIn r)) b)
 unfolding regionOn

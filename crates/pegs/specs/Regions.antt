@@ -28,9 +28,13 @@ pegsInside a l = filter (pegInside a) l
 unfoldable pub distanceTo : Point → Peg → ℕ
 distanceTo p g = squaredDistance p (pointOf (g .place))
 
+-- h is no nearer to p than g.
+unfoldable pub noNearer : Point → Peg → Peg → Bool
+noNearer p g h = distanceTo p g ≤? distanceTo p h
+
 -- No peg of l is nearer to p than g.
 unfoldable pub isNearest : Point → List Peg → Peg → Bool
-isNearest p l g = all (λ h. distanceTo p g ≤? distanceTo p h) l
+isNearest p l g = all (noNearer p g) l
 
 -- Which peg of a register it is, from 0 on: the first in byte order of name that no peg is nearer than.
 unfoldable pub nearest : Point → List Peg → Option ℕ
