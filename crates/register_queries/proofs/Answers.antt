@@ -6,11 +6,7 @@ use mathlib.Core.Bool.{Bool, true, false}
 use mathlib.Core.List.{List, [], _∷_}
 use mathlib.Core.Option.{some}
 use native.Mathlib.Omega.{arith}
-use lib.IntN.{ℤ}
 use lib.ListN.{length}
-use mir.Syntax.{w32}
-use mir.Val.{SFits}
-use mir.Facts.{toZ-ofZ}
 use Rattle.base.specs.Tests.{_=?_}
 use Rattle.base.specs.Lists.{at, firstFrom}
 use Rattle.base.proofs.AtLaws.{at-low}
@@ -20,7 +16,6 @@ use Rattle.plane.specs.declared.Rectangle.{Rectangle}
 use Rattle.plane.specs.declared.Region.{Region}
 use Rattle.plane.specs.declared.Region.the-variants.{Inside, Within}
 use Rattle.plane.specs.Plane.{sidesRise}
-use Rattle.plane.proofs.Signed.{bitsOf}
 use Rattle.pegs.specs.Operations.{Peg}
 use Rattle.pegs.specs.Register.{mostPegs}
 use Rattle.pegs.specs.Image.{countSize, pegSize, registerLength, registerImage, pegAt, pegCount, pegsIn}
@@ -31,7 +26,6 @@ use Rattle.pegs.proofs.ImageLaws.{number-zero, slots-count, slot-at, count-most
 use Rattle.pegs.proofs.Nearest.{nearest-closest}
 use Rattle.pegs.proofs.Regions.{Answered, answered, region-taken, region-refused}
 use Rattle.register_check.proofs.Held.{held-room}
-use Rattle.register_queries.specs.Arguments.{point, rectangle, disc}
 
 -- ---- 7 and 8
 
@@ -86,31 +80,6 @@ module _ (a : Region) (r b : List ℕ) (k : ℕ) (ok : k ≡ regionNumber a r b)
     pub region-collected : (c : List ℕ) → c ≡ registerImage (pegsInside a (pegsIn r)) b → changed k c ≡ regionOn a r b
     region-collected c f = ap₂ {A = ℕ} {B = List ℕ} {C = Changed} changed z f ∙ sym (region-taken a r b (sym ok ∙ z))
 
--- ---- a rectangle and a point, as the code has them of its arguments
-
-abbrev bitSides : (w s e n : ℤ) → Rectangle
-bitSides w s e n = record { west = bitsOf w; south = bitsOf s; east = bitsOf e; north = bitsOf n }
-
-bits-sides : (w s e n : ℤ) → SFits w32 w → SFits w32 s → SFits w32 e → SFits w32 n → bitSides w s e n ≡ record { west = w; south = s; east = e; north = n }
-bits-sides w s e n fw fs fe fn = λ i. record { west = toZ-ofZ fw i; south = toZ-ofZ fs i; east = toZ-ofZ fe i; north = toZ-ofZ fn i }
-
-abbrev bitPoint : (e n : ℤ) → Point
-bitPoint e n = record { easting = bitsOf e; northing = bitsOf n }
-
-bits-point : (e n : ℤ) → SFits w32 e → SFits w32 n → bitPoint e n ≡ point e n
-unfolding point
-bits-point e n fe fn = λ i. record { easting = toZ-ofZ fe i; northing = toZ-ofZ fn i }
-
-pub rectangle-given : (w s e n : ℤ) (r b c : List ℕ) (k : ℕ) → SFits w32 w → SFits w32 s → SFits w32 e → SFits w32 n
-    → changed k c ≡ regionOn (Inside (bitSides w s e n)) r b → changed k c ≡ regionOn (rectangle w s e n) r b
-unfolding rectangle
-rectangle-given w s e n r b c k fw fs fe fn h = h ∙ ap (λ (x : Rectangle). regionOn (Inside x) r b) (bits-sides w s e n fw fs fe fn)
-
-pub disc-given : (e n : ℤ) (m : ℕ) (r b c : List ℕ) (k : ℕ) → SFits w32 e → SFits w32 n
-    → changed k c ≡ regionOn (Within (bitPoint e n) m) r b → changed k c ≡ regionOn (disc e n m) r b
-unfolding disc
-disc-given e n m r b c k fe fn h = h ∙ ap (λ (x : Point). regionOn (Within x m) r b) (bits-point e n fe fn)
-
 -- ---- the nearest peg
 
 pub nearest-refused : (b : List ℕ) (p : Point) (k : ℕ) (r : Found) → k ≡ registerNumber b → (k ≡ 0 → ⊥) → r ≡ notFound k → r ≡ nearestOn b p
@@ -149,12 +118,6 @@ module _ (b : List ℕ) (p : Point) (k : ℕ) (ok : k ≡ registerNumber b) (z :
     pub nearest-room : countSize + pegSize * i + pegSize ≤ length b
     nearest-room = held-room b no-refusal i inside
 
-    nearest-found : (r : Found) → r ≡ foundIf i (some (pegAt b (countSize + pegSize * i) .place)) → r ≡ nearestOn b p
+    pub nearest-found : (r : Found) → r ≡ foundIf i (some (pegAt b (countSize + pegSize * i) .place)) → r ≡ nearestOn b p
     unfolding foundAt foundPeg
     nearest-found r h = searched r (h ∙ sym (ap (foundAt (pegsIn b)) e ∙ ap (foundPeg i) (slot-at b i inside)))
-
--- Of the point that the code makes of its arguments.
-module _ (b : List ℕ) (x y : ℤ) (fx : SFits w32 x) (fy : SFits w32 y) (k : ℕ) (ok : k ≡ registerNumber b) (z : k ≡ 0) (i : ℕ)
-    (e : nearest (bitPoint x y) (pegsIn b) ≡ some i) where
-  pub nearest-given : (r : Found) → r ≡ foundIf i (some (pegAt b (countSize + pegSize * i) .place)) → r ≡ nearestOn b (point x y)
-  nearest-given r h = nearest-found b (point x y) k ok z i (ap (λ (p : Point). nearest p (pegsIn b)) (sym (bits-point x y fx fy)) ∙ e) r h

@@ -6,11 +6,11 @@ use Rattle.plane.specs.declared.Point.{Point}
 use Rattle.plane.specs.declared.Region.{Region}
 use Rattle.plane.specs.declared.Region.the-variants.{Inside, Within}
 
-unfoldable pub point : (easting northing : ℤ) → Point
+abbrev pub point : (easting northing : ℤ) → Point
 point e n = record { easting = e; northing = n }
 
-unfoldable pub rectangle : (west south east north : ℤ) → Region
+abbrev pub rectangle : (west south east north : ℤ) → Region
 rectangle w s e n = Inside (record { west = w; south = s; east = e; north = n })
 
-unfoldable pub disc : (easting northing : ℤ) → (radius : ℕ) → Region
+abbrev pub disc : (easting northing : ℤ) → (radius : ℕ) → Region
 disc e n m = Within (point e n) m

@@ -1,4 +1,5 @@
-use Rattle.register_queries.proofs.Answers.{nearest-refused, count-there, nearest-none, nearest-few, nearest-room, nearest-given}
+use Rattle.register_queries.proofs.Answers.{nearest-refused, count-there, nearest-none, nearest-few, nearest-room}
+use Rattle.register_queries.proofs.Given.{nearest-given}
 use borrow.Author.Needs.{needs}
 use Rattle.register_queries.proofs.guzbytor_register_nearest.Statement.{statement}
 use Rattle.register_queries.proofs.guzbytor_register_nearest.Tie as tie

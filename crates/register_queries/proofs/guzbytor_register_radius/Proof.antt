@@ -1,4 +1,4 @@
-use Rattle.register_queries.proofs.Answers.{disc-given}
+use Rattle.register_queries.proofs.Given.{disc-given}
 use borrow.Author.Needs.{needs}
 use Rattle.register_queries.proofs.guzbytor_register_radius.Statement.{statement}
 use Rattle.register_queries.proofs.guzbytor_register_radius.Tie as tie

@@ -1,4 +1,4 @@
-use Rattle.register_queries.proofs.Answers.{rectangle-given}
+use Rattle.register_queries.proofs.Given.{rectangle-given}
 use borrow.Author.Needs.{needs}
 use Rattle.register_queries.proofs.guzbytor_register_rectangle.Statement.{statement}
 use Rattle.register_queries.proofs.guzbytor_register_rectangle.Tie as tie
