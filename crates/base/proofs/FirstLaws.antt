@@ -4,12 +4,11 @@ use Prim.Native.Nat.{ℕ, zero, suc, _+_, _<_}
 use mathlib.Core.Path.{_≡_, refl, sym, ap, _∙_}
 use mathlib.Core.Bool.{Bool, true, false}
 use mathlib.Core.List.{List, [], _∷_}
-use mathlib.Core.Option.{Option, none, some}
+use mathlib.Core.Option.{some}
 use native.Mathlib.Omega.{arith}
-use Rattle.base.specs.Tests.{pick}
 use Rattle.base.specs.Lists.{at, firstFrom}
 use Rattle.base.proofs.AtLaws.{none-some, some-same}
-use Rattle.base.proofs.TestLaws.{Known, known, holds, fails, not-both, pick-yes, pick-no}
+use Rattle.base.proofs.TestLaws.{Known, known, holds, fails, pick-yes, pick-no}
 
 module _ {A : Type 0} (t : A → Bool) where
   pub record First (l : List A) (i : ℕ) : Type 0 where

@@ -8,8 +8,8 @@ use mathlib.Core.Logic.{_↔_}
 use mathlib.Core.Option.{some}
 use native.Mathlib.Omega.{arith}
 use lib.ListN.{length}
-use Rattle.base.specs.Lists.{filter, Each}
-use Rattle.base.specs.Tests.{_<?_, _=?_, pick}
+use Rattle.base.specs.Lists.{filter}
+use Rattle.base.specs.Tests.{_=?_, pick}
 use Rattle.base.proofs.Filters.{filter-yes, filter-no, filter-all, filter-length}
 use Rattle.base.proofs.ListLaws.{each-filter}
 use Rattle.base.proofs.Members.{filter-has, filter-from}
@@ -25,7 +25,6 @@ use Rattle.pegs.specs.Queries.{bothNumber, sidesNumber, regionNumber, re
 use Rattle.pegs.specs.QueriesClaim.{RegionTheorem}
 use Rattle.pegs.proofs.PegLaws.{PegRange}
 use Rattle.pegs.proofs.ImageLaws.{number-zero, image-number, register-read}
-use Rattle.pegs.proofs.Kept.{Kept}
 use Rattle.pegs.proofs.Advance.{formed-kept, kept-formed}
 
 -- ---- a filter of pegs

@@ -1,6 +1,6 @@
 -- What is true of the answers on pegs in the plane. Document 02, K5.
 -- Assumes nothing.
-use Prim.Native.Nat.{ℕ, _≤_, _<_}
+use Prim.Native.Nat.{ℕ, _≤_}
 use mathlib.Core.Path.{_≡_}
 use mathlib.Core.Bool.{true}
 use mathlib.Core.List.{List, [], List·Memᴰ}
@@ -12,7 +12,7 @@ use Rattle.plane.specs.declared.Region.{Region}
 use Rattle.pegs.specs.Names.{before}
 use Rattle.pegs.specs.Operations.{Peg}
 use Rattle.pegs.specs.Claim.{Sorted}
-use Rattle.pegs.specs.Image.{formed, pegsIn, readRegister}
+use Rattle.pegs.specs.Image.{pegsIn, readRegister}
 use Rattle.pegs.specs.Outcome.{registerNumber}
 use Rattle.pegs.specs.Regions.{pegInside, pegsInside, distanceTo, nearest}
 use Rattle.pegs.specs.Queries.{regionOn}

@@ -2,13 +2,12 @@
 -- Assumes nothing.
 use mathlib.Core.Path.{_≡_}
 use mathlib.Core.Bool.{true, false}
-use mathlib.Core.List.{List, [], _∷_}
+use mathlib.Core.List.{[], _∷_}
 use mathlib.Core.Option.{none, some}
 use lib.IntN.{ℤ, pos, negsuc}
 use Rattle.plane.specs.declared.Point.{Point}
 use Rattle.plane.specs.declared.Rectangle.{Rectangle}
 use Rattle.plane.specs.Plane.{inRectangle, sidesRise, squaredDistance, withinRadius}
-use Rattle.pegs.specs.Operations.{Peg}
 use Rattle.pegs.specs.Pairs.{peg, short, longer}
 use Rattle.pegs.specs.Regions.{nearest}
 

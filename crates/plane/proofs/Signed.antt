@@ -1,8 +1,8 @@
 -- Signed numbers of 32 bits: compared, and how far apart two of them are.
 -- Assumes nothing.
-use Prim.Native.Nat.{ℕ, zero, suc, _+_, _-_, _^_, _≤_, _<_}
+use Prim.Native.Nat.{ℕ, zero, suc, _+_, _-_, _≤_, _<_}
 use mathlib.Core.Path.{_≡_, refl, sym, ap, ap₂, subst, _∙_}
-use mathlib.Core.Bool.{Bool, true, false, cond}
+use mathlib.Core.Bool.{Bool, false, cond}
 use native.Mathlib.Omega.{arith}
 use lib.Dec.{T, leb→le, le→leb}
 use lib.IntN.{ℤ, pos, negsuc, subℕ, _-ℤ_, natAbs}
@@ -10,9 +10,9 @@ use lib.Signed.{mag, leZ, nonNeg, _≤ℤ_}
 use mir.Syntax.{w32, w64}
 use mir.Val.{SFits, Fits, toZ, ofZ}
 use mir.Facts.{sfits-widen, toZ-ofZ}
-use Rattle.base.specs.Tests.{_and_, _<?_}
+use Rattle.base.specs.Tests.{_<?_}
 use Rattle.base.proofs.Branches.{told-le}
-use Rattle.base.proofs.TestLaws.{Known, known, holds, fails, not-both, le-fails, lt-holds, lt-fails, lt-no, and-yes, and-no}
+use Rattle.base.proofs.TestLaws.{Known, known, holds, fails, not-both, le-fails, lt-holds, lt-fails, lt-no}
 
 -- What the code has of a number: its bits, read.
 abbrev pub bitsOf : ℤ → ℤ

@@ -20,7 +20,7 @@ use record::bytes::num16;
 use record::bytes::num32;
 
 // Names are compared by words of four bytes; so many are a name with its filling.
-const WORD: usize = 4;
+pub const WORD: usize = 4;
 
 const WORDS: usize = MOST_NAME / WORD;
 

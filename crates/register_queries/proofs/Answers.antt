@@ -8,7 +8,7 @@ use mathlib.Core.Option.{some}
 use native.Mathlib.Omega.{arith}
 use lib.ListN.{length}
 use Rattle.base.specs.Tests.{_=?_}
-use Rattle.base.specs.Lists.{at, firstFrom}
+use Rattle.base.specs.Lists.{firstFrom}
 use Rattle.base.proofs.AtLaws.{at-low}
 use Rattle.base.proofs.TestLaws.{lt-yes, lt-no, eq-yes, eq-no, pick-yes, pick-no}
 use Rattle.plane.specs.declared.Point.{Point}

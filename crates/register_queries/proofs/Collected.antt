@@ -1,18 +1,17 @@
 -- The pegs of a region, as the code collects them.
 -- Assumes nothing.
-use Prim.Native.Nat.{ℕ, suc, _+_, _*_, _-_, _^_, _≤_, _<_}
+use Prim.Native.Nat.{ℕ, suc, _+_, _*_, _/_, _≤_, _<_}
 use mathlib.Core.Path.{_≡_, refl, sym, ap, ap₂, subst, _∙_}
 use mathlib.Core.Bool.{Bool, true, false}
 use mathlib.Core.List.{List, [], _∷_, _++_, map, map-append, append-assoc, append-nil}
-use mathlib.Core.Option.{some}
 use native.Mathlib.Omega.{arith}
 use lib.ListN.{length, take, drop, length-append, take-append-drop}
 use lib.Seq.{take-all}
-use Rattle.base.specs.Bytes.{bytesOf, partAt, joined, over}
-use Rattle.base.specs.Lists.{filter, at, Each}
+use Rattle.base.specs.Bytes.{Bytes, bytesOf, numberAt, partAt, joined, over}
+use Rattle.base.specs.Lists.{filter, Each}
 use Rattle.base.specs.Patched.{patched}
 use Rattle.base.proofs.AtLaws.{take-next}
-use Rattle.base.proofs.BytesLaws.{bytes-length, joined-append}
+use Rattle.base.proofs.BytesLaws.{bytes-length, bytes-number, joined-append, part-append, part-length}
 use Rattle.base.proofs.Filters.{filter-yes, filter-no, filter-append}
 use Rattle.base.proofs.ListLaws.{each-filter, each-first}
 use Rattle.base.proofs.Over.{over-front}
@@ -25,8 +24,13 @@ use Rattle.pegs.specs.Register.{mostPegs}
 use Rattle.pegs.specs.Image.{countSize, pegSize, registerLength, pegBytes, registerBytes, registerImage, pegAt, pegCount, pegsIn}
 use Rattle.pegs.specs.Outcome.{registerNumber}
 use Rattle.pegs.specs.Regions.{pointOf, pegInside, pegsInside}
+use Rattle.register_check.specs.Slots.{wordSize}
 use Rattle.pegs.proofs.PegLaws.{PegRange, peg-length, pegs-length}
 use Rattle.pegs.proofs.ImageLaws.{Holds, number-zero, formed-range, slots-count, slot-at, slot-occurs, slot-range, count-most}
+
+-- A slot is so many words, and a byte.
+abbrev pub slotWords : ℕ
+slotWords = pegSize / wordSize
 
 abbrev slots : List Peg → List ℕ
 slots l = joined (map pegBytes l)
@@ -36,10 +40,48 @@ unfolding joined
 slots-next l g =
     ap joined (map-append pegBytes l (g ∷ [])) ∙ joined-append (map pegBytes l) (pegBytes g ∷ []) ∙ ap (λ (x : List ℕ). slots l ++ x) (append-nil (pegBytes g))
 
--- As the code copies a slot.
-pub slot-copied : (b c c₁ : List ℕ) (from to : ℕ) → c₁ ≡ patched to (take (from + pegSize - from) (drop from b)) c → c₁ ≡ patched to (partAt pegSize b from) c
+-- ---- a slot, as the code copies it
+
+-- m bytes from `from` on are copied; then w more, as a number.
+part-next : (w m : ℕ) (b c₀ c c₁ : List ℕ) (from to v : ℕ) → Bytes b → from + m + w ≤ length b → to ≤ length c₀ → c ≡ patched to (partAt m b from) c₀
+    → v ≡ numberAt w b (from + m) → c₁ ≡ patched (to + m) (bytesOf w v) c → c₁ ≡ patched to (partAt (m + w) b from) c₀
+part-next w m b c₀ c c₁ from to v bytes h k e f g =
+    let long : m ≡ length (partAt m b from) = sym (part-length m b from (omega arith)) in
+    let more : bytesOf w v ≡ partAt w b (from + m) = ap (bytesOf w) f ∙ bytes-number w b (from + m) bytes h in
+    g
+    ∙ (λ i. patched (to + long i) (more i) (e i))
+    ∙ patched-next to (partAt m b from) (partAt w b (from + m)) c₀ k
+    ∙ ap (λ (x : List ℕ). patched to x c₀) (sym (part-append m w b from))
+
+-- So many words.
+pub record Copied (b : List ℕ) (from : ℕ) (c₀ : List ℕ) (to : ℕ) (c : List ℕ) (j : ℕ) : Type 0 where
+  pub size : length c ≡ length c₀
+  pub few : j ≤ slotWords
+  pub bytes : c ≡ patched to (partAt (wordSize * j) b from) c₀
+
+pub none-copied : (b c : List ℕ) (from to : ℕ) → Copied b from c to c 0
 unfolding partAt
-slot-copied b c c₁ from to e = let size : from + pegSize - from ≡ pegSize = omega arith in e ∙ ap (λ (n : ℕ). patched to (take n (drop from b)) c) size
+none-copied b c from to = record { size = refl; few = omega arith; bytes = sym (patched-none to c) }
+
+module _ (b c₀ c : List ℕ) (from to j : ℕ) (s : Copied b from c₀ to c j) (r : from + pegSize ≤ length b) (t : to + pegSize ≤ length c₀) (bytes : Bytes b) (v : ℕ) (c₁ : List ℕ) where
+  pub word-copied : j < slotWords → v ≡ numberAt wordSize b (from + wordSize * j) → length c₁ ≡ length c → c₁ ≡ patched (to + wordSize * j) (bytesOf wordSize v) c
+      → Copied b from c₀ to c₁ (j + 1)
+  word-copied h e l f =
+      let next : wordSize * j + wordSize ≡ wordSize * (j + 1) = omega arith in
+      record {
+        size = l ∙ s .size;
+        few = omega arith;
+        bytes =
+            part-next wordSize (wordSize * j) b c₀ c c₁ from to v bytes (omega arith) (omega arith) (s .bytes) e f
+            ∙ ap (λ (m : ℕ). patched to (partAt m b from) c₀) next;
+      }
+
+  pub slot-copied : slotWords ≤ j → v ≡ numberAt 1 b (from + wordSize * slotWords) → c₁ ≡ patched (to + wordSize * slotWords) (bytesOf 1 v) c
+      → c₁ ≡ patched to (partAt pegSize b from) c₀
+  slot-copied h e f =
+      let all : j ≡ slotWords = omega (arith, s .few) in
+      part-next 1 (wordSize * slotWords) b c₀ c c₁ from to v bytes (omega arith) (omega arith)
+      (s .bytes ∙ ap (λ (m : ℕ). patched to (partAt (wordSize * m) b from) c₀) all) e f
 
 module _ (b : List ℕ) (a : Region) where
   -- Of the first k pegs those of the region.

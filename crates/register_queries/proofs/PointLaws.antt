@@ -1,13 +1,12 @@
 -- A peg's point, and where its slot lies.
 -- Assumes nothing.
 use Prim.Native.Nat.{ℕ, _+_, _*_, _≤_, _<_}
-use mathlib.Core.Path.{_≡_, refl, sym, ap, _∙_}
+use mathlib.Core.Path.{_≡_, ap, _∙_}
 use mathlib.Core.List.{List}
 use native.Mathlib.Omega.{arith}
 use lib.IntN.{ℤ}
 use lib.ListN.{length}
 use Rattle.base.specs.Bytes.{numberAt}
-use Rattle.plane.specs.declared.Point.{Point}
 use Rattle.pegs.specs.Operations.{coordinate, coordinateSize, placeAt}
 use Rattle.pegs.specs.Image.{countSize, atPlace, pegSize, pegAt, pegCount}
 use Rattle.pegs.specs.Outcome.{registerNumber}

@@ -10,19 +10,33 @@ ghost use Rattle.pegs.specs.Regions.{pegsInside};
 use crate::places::point_at;
 use plane::Region;
 use plane::in_region;
+use record::bytes::num8;
 use record::bytes::num16;
+use record::bytes::num32;
+use register_check::checking::WORD;
 use register_check::layout::COUNT_SIZE;
 use register_check::layout::PEG_SIZE;
-use writer::blocks::copy;
+use writer::parts::put8;
 use writer::parts::put16;
+use writer::parts::put32;
+
+// A slot is copied by words, and its last byte alone.
+const WORDS: usize = PEG_SIZE / WORD;
+
+const LAST: usize = WORD * WORDS;
 
 // The slot at `from` in the answer's slot at `to`.
 fn copy_slot(register: &[u8], from: usize, answer: &mut [u8], to: usize)
     requires { ⌜ (from + pegSize ≤ length (now register)) × (to + pegSize ≤ length (now answer)) ⌝ }
     ensures { λ _. ⌜ now (answer .exit) ≡ patched to (partAt pegSize (now (register .entry)) from) (now (answer .entry)) ⌝ }
 {
-    let end = from + PEG_SIZE;
-    copy(answer, to, &register[from..end]);
+    let mut j: usize = 0;
+    while j < WORDS {
+        let word = num32(register, from + WORD * j);
+        put32(answer, to + WORD * j, word);
+        j += 1;
+    }
+    put8(answer, to + LAST, num8(register, from + LAST));
 }
 
 // Each slot of the region is copied behind those before it, and their number is put in front.

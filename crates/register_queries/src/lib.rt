@@ -8,10 +8,10 @@ ghost use Rattle.register_queries.specs.Arguments.{rectangle, disc, poin
 pub mod places; // places.rt: pegs as points
 pub mod collecting; // collecting.rt: the pegs of a region
 pub mod answering; // answering.rt: refusals, and the answer of a region
-pub mod nearing; // nearing.rt: the nearest peg
+pub mod nearest; // nearest.rt: the nearest peg
 
 use answering::answer_region;
-use nearing::nearest;
+use nearest::nearest_index;
 use plane::Point;
 use plane::Rectangle;
 use plane::Region;
@@ -72,6 +72,6 @@ pub extern "C" fn guzbytor_register_nearest(
     if count < 1 {
         return RegisterFind::none(0);
     }
-    let index = nearest(register, count, Point { easting, northing });
+    let index = nearest_index(register, count, Point { easting, northing });
     RegisterFind::peg(register, index)
 }

@@ -25,8 +25,8 @@ none-requires-2 c κs = search needs
 returns-2 : tie.Need-returns-2
 returns-2 c = search (needs, nearest-none)
 
-nearest-requires : tie.Need-nearest-requires
-nearest-requires c κs = search needs
+nearest-index-requires : tie.Need-nearest-index-requires
+nearest-index-requires c κs = search needs
 
 peg-requires : tie.Need-peg-requires
 peg-requires c κs = search (needs, nearest-few, nearest-room)
@@ -45,6 +45,6 @@ guzbytor-register-nearest-spec =
     cast-count
     none-requires-2
     returns-2
-    nearest-requires
+    nearest-index-requires
     peg-requires
     returns-3)

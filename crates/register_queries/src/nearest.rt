@@ -4,7 +4,7 @@ ghost use mathlib.Core.Option.{some};
 ghost use Prim.Native.Nat.{_<_};
 ghost use Rattle.pegs.specs.Image.{pegCount, pegsIn};
 ghost use Rattle.pegs.specs.Outcome.{registerNumber};
-ghost use Rattle.pegs.specs.Regions.{nearest as nearestOf};
+ghost use Rattle.pegs.specs.Regions.{nearest};
 use crate::places::point_at;
 use plane::Point;
 use plane::distances::shorter;
@@ -13,9 +13,9 @@ use register_check::layout::COUNT_SIZE;
 use register_check::layout::PEG_SIZE;
 
 // Which of the pegs it is. Only a nearer one takes the place of one in front of it, so that of equally near ones the first stays.
-pub fn nearest(register: &[u8], count: usize, p: Point) -> usize
+pub fn nearest_index(register: &[u8], count: usize, p: Point) -> usize
     requires { ⌜ (registerNumber (now register) ≡ 0) × (count ≡ pegCount (now register)) × (0 < count) ⌝ }
-    ensures { λ r. ⌜ nearestOf p (pegsIn (now (register .entry))) ≡ some r ⌝ }
+    ensures { λ r. ⌜ nearest p (pegsIn (now (register .entry))) ≡ some r ⌝ }
 {
     let mut best: usize = 0;
     let mut least = squared_distance(p, point_at(register, COUNT_SIZE));

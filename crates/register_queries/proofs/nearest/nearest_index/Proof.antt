@@ -2,8 +2,8 @@ use Rattle.register_queries.proofs.Along.{Along, along-first, along-nea
 use Rattle.register_queries.proofs.PointLaws.{first-room, slot-room}
 use borrow.Author.Needs.{needs}
 use Prim.Native.Nat.{_-_}
-use Rattle.register_queries.proofs.nearing.nearest.Statement.{statement}
-use Rattle.register_queries.proofs.nearing.nearest.Tie as tie
+use Rattle.register_queries.proofs.nearest.nearest_index.Statement.{statement}
+use Rattle.register_queries.proofs.nearest.nearest_index.Tie as tie
 
 abbrev Inv-loop : tie.InvT-loop
 Inv-loop register count p best₀ least₀ index₀ best least index = Along register p best least index
@@ -53,8 +53,8 @@ loop-again-2 c = search (needs, along-still)
 returns : tie.Need-returns Inv-loop μ-loop
 returns c = search (needs, along-end)
 
-pub nearest-spec : {M : Type 1} → statement M
-nearest-spec =
+pub nearest-index-spec : {M : Type 1} → statement M
+nearest-index-spec =
     tie.close
     (tie.spec
     Inv-loop
