@@ -9,14 +9,20 @@ use native.Mathlib.Omega.{arith}
 use borrow.Author.Tests.{not-true, not-false}
 use lib.IntN.{ℤ, pos}
 use lib.ListN.{length}
+use mir.Syntax.{w32}
+use mir.Val.{SFits}
+use mir.Facts.{toZ-ofZ}
 use Rattle.base.specs.Tests.{_=?_}
 use Rattle.base.specs.Bytes.{numberAt}
 use Rattle.base.specs.Lists.{isThere, at}
 use Rattle.base.proofs.AtLaws.{some-same}
 use Rattle.base.proofs.TestLaws.{eq-yes, eq-no, pick-yes, pick-no}
+use Rattle.plane.specs.declared.Point.{Point}
+use Rattle.plane.proofs.Signed.{bitsOf}
 use Rattle.pegs.specs.Operations.{Place, Peg, coordinate, coordinateSize, placeAt}
 use Rattle.pegs.specs.Register.{mostPegs, find}
 use Rattle.pegs.specs.Image.{countSize, atPlace, pegSize, pegAt, pegCount, pegsIn}
+use Rattle.pegs.specs.Regions.{pointOf}
 use Rattle.pegs.specs.Outcome.{Found, registerNumber, position, notFound, foundIf, findOn}
 use Rattle.pegs.proofs.Numbers.{not-there}
 use Rattle.pegs.proofs.Places.{found-at, found-low}
@@ -28,12 +34,21 @@ pub none-located : (k : ℕ) → located (record { number = k; found = 0; index 
 unfolding located notFound
 none-located k = refl
 
-pub peg-located : (b : List ℕ) (p k x y : ℕ) (e n : ℤ) → x ≡ numberAt coordinateSize b (p + atPlace) → y ≡ numberAt coordinateSize b (p + atPlace + coordinateSize)
-    → e ≡ coordinate x → n ≡ coordinate y
-    → located (record { number = 0; found = 1; index = k; easting = e; northing = n }) ≡ foundIf k (some (pegAt b p .place))
-unfolding located foundIf pegAt placeAt
-peg-located b p k x y e n h i f g =
-    λ j. record { number = 0; found = 1; index = k; easting = (f ∙ ap coordinate h) j; northing = (g ∙ ap coordinate i) j }
+pub point-read : (b : List ℕ) (p x y : ℕ) (e n : ℤ) → x ≡ numberAt coordinateSize b (p + atPlace) → y ≡ numberAt coordinateSize b (p + atPlace + coordinateSize)
+    → e ≡ coordinate x → n ≡ coordinate y → record { easting = e; northing = n } ≡ pointOf (pegAt b p .place)
+unfolding pointOf pegAt placeAt
+point-read b p x y e n h i f g = λ j. record { easting = (f ∙ ap coordinate h) j; northing = (g ∙ ap coordinate i) j }
+
+pub peg-located : (b : List ℕ) (p k : ℕ) (q : Point) → SFits w32 (q .easting) → SFits w32 (q .northing) → q ≡ pointOf (pegAt b p .place)
+    → located (record { number = 0; found = 1; index = k; easting = bitsOf (q .easting); northing = bitsOf (q .northing) }) ≡ foundIf k (some (pegAt b p .place))
+unfolding located foundIf pointOf
+peg-located b p k q fe fn e = λ j. record {
+  number = 0;
+  found = 1;
+  index = k;
+  easting = (toZ-ofZ fe ∙ ap (λ (x : Point). x .easting) e) j;
+  northing = (toZ-ofZ fn ∙ ap (λ (x : Point). x .northing) e) j;
+}
 
 -- ---- by the number and the search
 

@@ -11,17 +11,14 @@ ghost use Rattle.register_check.specs.Answers.{located};
 pub mod layout; // layout.rt: where the parts of a register lie
 pub mod names; // names.rt: names compared
 pub mod checking; // checking.rt: whether a buffer holds a register
-pub mod coordinates; // coordinates.rt: bits as millimetres
+pub mod coordinates; // coordinates.rt: bits as millimetres, pegs as points
 pub mod searching; // searching.rt: a peg searched by its name
 
 use checking::register_number;
-use coordinates::millimetres;
-use layout::AT_PLACE;
-use layout::COORDINATE_SIZE;
+use coordinates::point_at;
 use layout::COUNT_SIZE;
 use layout::PEG_SIZE;
 use layout::REGISTER_LENGTH;
-use record::bytes::num32;
 use searching::seek;
 
 // How long a register's buffer must be.
@@ -61,13 +58,13 @@ impl RegisterFind {
         requires { ⌜ (index < mostPegs) × (countSize + pegSize * index + pegSize ≤ length (now register)) ⌝ }
         ensures { λ r. ⌜ located r ≡ foundIf index (some (pegAt (now (register .entry)) (countSize + pegSize * index) .place)) ⌝ }
     {
-        let place = COUNT_SIZE + PEG_SIZE * index + AT_PLACE;
+        let place = point_at(register, COUNT_SIZE + PEG_SIZE * index);
         RegisterFind {
             number: 0,
             found: 1,
             index: index as u32,
-            easting: millimetres(num32(register, place)),
-            northing: millimetres(num32(register, place + COORDINATE_SIZE)),
+            easting: place.easting,
+            northing: place.northing,
         }
     }
 }

@@ -1,4 +1,4 @@
-pub mod PointLaws
+pub mod Slots
 pub mod Collected
 pub mod Along
 pub mod Answers

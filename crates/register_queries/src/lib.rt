@@ -5,7 +5,6 @@ ghost use Rattle.pegs.specs.Queries.{regionOn, nearestOn};
 ghost use Rattle.register_check.specs.Answers.{located};
 ghost use Rattle.register_queries.specs.Arguments.{rectangle, disc, point};
 
-pub mod places; // places.rt: pegs as points
 pub mod collecting; // collecting.rt: the pegs of a region
 pub mod answering; // answering.rt: refusals, and the answer of a region
 pub mod nearest; // nearest.rt: the nearest peg

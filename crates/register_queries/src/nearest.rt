@@ -5,10 +5,10 @@ ghost use Prim.Native.Nat.{_<_};
 ghost use Rattle.pegs.specs.Image.{pegCount, pegsIn};
 ghost use Rattle.pegs.specs.Outcome.{registerNumber};
 ghost use Rattle.pegs.specs.Regions.{nearest};
-use crate::places::point_at;
 use plane::Point;
 use plane::distances::shorter;
 use plane::distances::squared_distance;
+use register_check::coordinates::point_at;
 use register_check::layout::COUNT_SIZE;
 use register_check::layout::PEG_SIZE;
 

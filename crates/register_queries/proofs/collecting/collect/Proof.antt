@@ -1,5 +1,5 @@
 use Rattle.register_check.proofs.Searched.{count-room}
-use Rattle.register_queries.proofs.PointLaws.{slot-room}
+use Rattle.register_queries.proofs.Slots.{slot-room}
 use Rattle.register_queries.proofs.Collected.{Collected, none-collected, passed-over, copy-room, collected-next, collected-all}
 use borrow.Author.Needs.{needs}
 use Prim.Native.Nat.{_-_}

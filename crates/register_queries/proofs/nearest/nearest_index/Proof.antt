@@ -1,5 +1,5 @@
 use Rattle.register_queries.proofs.Along.{Along, along-first, along-nearer, along-still, along-end}
-use Rattle.register_queries.proofs.PointLaws.{first-room, slot-room}
+use Rattle.register_queries.proofs.Slots.{first-room, slot-room}
 use borrow.Author.Needs.{needs}
 use Prim.Native.Nat.{_-_}
 use Rattle.register_queries.proofs.nearest.nearest_index.Statement.{statement}

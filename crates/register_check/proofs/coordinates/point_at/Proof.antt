@@ -1,7 +1,7 @@
-use Rattle.register_queries.proofs.PointLaws.{point-read}
+use Rattle.register_check.proofs.Found.{point-read}
 use borrow.Author.Needs.{needs}
-use Rattle.register_queries.proofs.places.point_at.Statement.{statement}
-use Rattle.register_queries.proofs.places.point_at.Tie as tie
+use Rattle.register_check.proofs.coordinates.point_at.Statement.{statement}
+use Rattle.register_check.proofs.coordinates.point_at.Tie as tie
 
 add-place : tie.Need-add-place
 add-place c = search needs
