@@ -38,7 +38,8 @@ pub record NearestTheorem : Type 0 where
   -- It is in the register;
   pub there : (p : Point) (l : List Peg) (k : ℕ) → nearest p l ≡ some k → (g : Peg) × (at l k ≡ some g)
   -- none is nearer;
-  pub least : (p : Point) (l : List Peg) (k : ℕ) (g h : Peg) → nearest p l ≡ some k → at l k ≡ some g → List·Memᴰ h l → distanceTo p g ≤ distanceTo p h
+  pub least : (p : Point) (l : List Peg) (k : ℕ) (g h : Peg) → nearest p l ≡ some k → at l k ≡ some g → List·Memᴰ h l
+      → distanceTo p g ≤ distanceTo p h
   -- "the smaller name winning a tie": of an equally near one it is the smaller name.
   pub tie : (p : Point) (l : List Peg) (k : ℕ) (g h : Peg) → Sorted l → nearest p l ≡ some k → at l k ≡ some g → List·Memᴰ h l
       → distanceTo p h ≡ distanceTo p g → (h ≡ g → ⊥) → before (g .name) (h .name) ≡ true

@@ -1,4 +1,4 @@
-// Points in whole millimetres: whether one lies in a region, and which of two distances is shorter. Numbers are exact, and none wraps. Document 02, K5.
+// Points in whole millimetres: whether one lies in a region, and how far apart two are. Numbers are exact, and none wraps. Document 02, K5.
 ghost use mathlib.Core.Path.{_≡_};
 ghost use Rattle.plane.specs.Plane.{between as betweenOf, inRectangle, sidesRise, inRegion};
 
