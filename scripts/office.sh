@@ -55,7 +55,7 @@ echo "$equal of $count seeds ended equal; replay prints the same lines for $same
 "$out/sheet" "$out/pegs.img" >"$out/pegs.txt"
 "$out/sheet" -s "$out/pegs.img" >"$out/sheet.svg"
 cmp docs/sheet.svg "$out/sheet.svg"
-"$out/sheet" -s -r -100000 -50000 100000 50000 -n 20000 0 "$out/pegs.img" >"$out/part.svg"
+"$out/sheet" -s -r -100000 -125000 125000 0 -n 60000 -60000 "$out/pegs.img" >"$out/part.svg"
 cmp docs/part.svg "$out/part.svg"
 
 # A daemon refuses an image of another number of depots, of another depot, and one that is damaged.

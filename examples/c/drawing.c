@@ -13,6 +13,7 @@ enum {
     WIDTH = 8000, /* of a sheet for few pegs; the more there are, the larger it is */
     FEW = 150,
     ARM = 40,     /* of a cross */
+    RING = 80,    /* around the nearest peg */
     LETTER = 67,  /* the width of a letter, and the height of a line */
     LINE = 120,
     LEAST = 10000 /* millimetres from west to east */
@@ -104,8 +105,8 @@ static box placed(const frame *f, const box *cross, int64_t letters, const box *
     static const int beside[][2] = {{2, 1}, {0, 1}, {1, 0}, {1, 2}, {2, 0}, {2, 2}, {0, 0}, {0, 2}};
     box first = {0}, b = {.width = letters * LETTER, .height = LINE};
     for (size_t k = 0; k < sizeof beside / sizeof beside[0]; k++) {
-        int64_t xs[] = {cross->x - b.width, cross->x + ARM - b.width / 2, cross->x + cross->width};
-        int64_t ys[] = {cross->y - LINE, cross->y + ARM - LINE / 2, cross->y + cross->height};
+        int64_t xs[] = {cross->x - b.width, cross->x + cross->width / 2 - b.width / 2, cross->x + cross->width};
+        int64_t ys[] = {cross->y - LINE, cross->y + cross->height / 2 - LINE / 2, cross->y + cross->height};
         b.x = xs[beside[k][0]];
         b.y = ys[beside[k][1]];
         int is_free = b.x >= LEFT && b.x + b.width <= LEFT + f->width && b.y >= TOP && b.y + b.height <= TOP + f->height;
@@ -145,13 +146,20 @@ static void print_escaped(const char *text) {
     }
 }
 
-static void draw_pegs(const frame *f, const uint8_t *pegs) {
+/* Half the width of a peg's mark: a cross, with a ring around the nearest. */
+static int64_t reach(const uint8_t *slot, const pointer *point) {
+    int is_nearest = point != NULL && point->is_drawn && memcmp(slot, point->nearest, GUZBYTOR_REGISTER_PEG_SIZE) == 0;
+    return is_nearest ? RING : ARM;
+}
+
+static void draw_pegs(const frame *f, const uint8_t *pegs, const pointer *point) {
     static box boxes[2 * GUZBYTOR_MOST_PEGS];
     size_t count = peg_count(pegs);
     for (size_t i = 0; i < count; i++) {
         const uint8_t *slot = pegs + peg_at(i);
-        boxes[i] = (box){across(f, peg_easting(slot)) - ARM, down(f, peg_northing(slot)) - ARM, 2 * ARM, 2 * ARM};
-        printf("<path class=\"peg\" d=\"M%lld %lld h%d m%d %d v%d\"/>\n", (long long)boxes[i].x, (long long)boxes[i].y + ARM, 2 * ARM, -ARM, -ARM, 2 * ARM);
+        int64_t x = across(f, peg_easting(slot)), y = down(f, peg_northing(slot)), r = reach(slot, point);
+        boxes[i] = (box){x - r, y - r, 2 * r, 2 * r};
+        printf("<path class=\"peg\" d=\"M%lld %lld h%d m%d %d v%d\"/>\n", (long long)x - ARM, (long long)y, 2 * ARM, -ARM, -ARM, 2 * ARM);
     }
     for (size_t i = 0; i < count; i++) {
         const uint8_t *slot = pegs + peg_at(i);
@@ -170,15 +178,14 @@ static void draw_rectangle(const frame *f, const sides *r) {
 }
 
 /* A diamond at the point, if it is in the frame, and a ring around its nearest peg. */
-static void draw_pointer(const frame *f, const uint8_t *pegs, const pointer *point) {
+static void draw_pointer(const frame *f, const pointer *point) {
     int64_t x = across(f, point->easting), y = down(f, point->northing);
     if (x >= LEFT && x <= LEFT + f->width && y >= TOP && y <= TOP + f->height) {
         printf("<path class=\"point\" d=\"M%lld %lld l%d %d l%d %d l%d %d z\"/>\n", (long long)x, (long long)y - ARM, ARM, ARM, -ARM, ARM, -ARM, -ARM);
     }
-    if (point->index >= 0) {
-        const uint8_t *slot = pegs + peg_at((size_t)point->index);
-        printf("<circle class=\"point\" cx=\"%lld\" cy=\"%lld\" r=\"%d\"/>\n", (long long)across(f, peg_easting(slot)),
-               (long long)down(f, peg_northing(slot)), 2 * ARM);
+    if (point->is_drawn) {
+        printf("<circle class=\"point\" cx=\"%lld\" cy=\"%lld\" r=\"%d\"/>\n", (long long)across(f, peg_easting(point->nearest)),
+               (long long)down(f, peg_northing(point->nearest)), RING);
     }
 }
 
@@ -189,7 +196,8 @@ static void draw_caption(const frame *f, const uint8_t *pegs, const pointer *poi
     if (point != NULL) {
         printf(", nearest to %s ", metres(point->easting, text));
         printf("%s: ", metres(point->northing, text));
-        print_escaped(point->index < 0 ? "none on this sheet" : shown_name(pegs + peg_at((size_t)point->index), "\""));
+        print_escaped(point->nearest == NULL ? "none" : shown_name(point->nearest, "\""));
+        printf("%s", point->nearest == NULL || point->is_drawn ? "" : ", not on this sheet");
     }
     printf("</text>\n");
 }
@@ -208,9 +216,9 @@ void draw_sheet(const uint8_t *pegs, const sides *rectangle, const pointer *poin
     if (rectangle != NULL) {
         draw_rectangle(&f, rectangle);
     }
-    draw_pegs(&f, pegs);
+    draw_pegs(&f, pegs, point);
     if (point != NULL) {
-        draw_pointer(&f, pegs, point);
+        draw_pointer(&f, point);
     }
     draw_caption(&f, pegs, point, step);
     printf("<path d=\"M%lld %d v-200 m-50 90 l50 -90 l50 90\"/><text text-anchor=\"middle\" x=\"%lld\" y=\"%d\">N</text>\n", (long long)(wide - RIGHT / 2),

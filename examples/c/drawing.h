@@ -9,10 +9,11 @@ typedef struct {
     int32_t west, south, east, north;
 } sides;
 
-/* A point, and the peg nearest to it: which one of those drawn, or -1 where it is none of them. */
+/* A point, and the slot of the peg nearest to it, NULL where there is none; whether that peg is among those drawn. */
 typedef struct {
     int32_t easting, northing;
-    long index;
+    const uint8_t *nearest;
+    int is_drawn;
 } pointer;
 
 /* Prints the pegs of a register as SVG, north up: a cross and a name for each. The rectangle and the point are drawn where they are not NULL. */

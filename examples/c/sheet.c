@@ -62,7 +62,7 @@ static int32_t coordinate_in(const char *word) { return (int32_t)number_in(word,
 static const char *next(char ***words) { return **words == NULL ? NULL : *(*words)++; }
 
 static request read_request(char **words) {
-    request r = {.point = {.index = -1}};
+    request r = {0};
     for (const char *word = next(&words); word != NULL; word = next(&words)) {
         if (strcmp(word, "-s") == 0) {
             r.is_drawn = 1;
@@ -125,16 +125,12 @@ static void print_table(const uint8_t *pegs) {
     }
 }
 
-/* Which peg of the register is nearest to the point, and which of those shown that is. */
-static void point_out(request *r, const uint8_t *pegs, size_t length, const uint8_t *shown) {
-    guzbytor_register_find_answer nearest = guzbytor_register_nearest(pegs, length, r->point.easting, r->point.northing);
-    const uint8_t *slot = pegs + peg_at(nearest.index);
+/* Which peg of the register is nearest to the point, and whether it is among those shown. */
+static void point_out(pointer *point, const uint8_t *pegs, size_t length, const uint8_t *shown) {
+    guzbytor_register_find_answer nearest = guzbytor_register_nearest(pegs, length, point->easting, point->northing);
     if (nearest.found) {
-        guzbytor_register_find_answer here = guzbytor_register_find(shown, GUZBYTOR_REGISTER_LENGTH, peg_name(slot), slot[0]);
-        r->point.index = here.found ? (long)here.index : -1;
-    }
-    if (!r->is_drawn) {
-        printf("nearest: %s\n", nearest.found ? shown_name(slot, "\"") : "none");
+        point->nearest = pegs + peg_at(nearest.index);
+        point->is_drawn = (int)guzbytor_register_find(shown, GUZBYTOR_REGISTER_LENGTH, peg_name(point->nearest), point->nearest[0]).found;
     }
 }
 
@@ -147,14 +143,16 @@ int main(int count, char **words) {
         fail("no register", number);
     }
     const uint8_t *shown = chosen(&r, pegs, length);
-    if (!r.is_drawn) {
-        print_table(shown);
-    }
     if (r.has_point) {
-        point_out(&r, pegs, length, shown);
+        point_out(&r.point, pegs, length, shown);
     }
     if (r.is_drawn) {
         draw_sheet(shown, r.has_sides ? &r.rectangle : NULL, r.has_point ? &r.point : NULL);
+    } else {
+        print_table(shown);
+        if (r.has_point) {
+            printf("nearest: %s\n", r.point.nearest == NULL ? "none" : shown_name(r.point.nearest, "\""));
+        }
     }
     return ferror(stdout) || fflush(stdout) != 0;
 }
