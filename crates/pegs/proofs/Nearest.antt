@@ -5,24 +5,27 @@ use mathlib.Core.Path.{_≡_, refl, sym, ap, subst, _∙_}
 use mathlib.Core.Bool.{true, false}
 use mathlib.Core.List.{List, [], _∷_, List·Memᴰ}
 use mathlib.Core.Logic.{_↔_}
-use mathlib.Core.Option.{none, some}
+use mathlib.Core.Option.{Option, none, some}
 use native.Mathlib.Omega.{arith}
 use native.Mathlib.Nat.{zero-add}
 use lib.ListN.{length, take}
 use lib.Seq.{take-all}
 use Rattle.base.specs.Lists.{at, firstFrom}
-use Rattle.base.specs.Tests.{_≤?_, _<?_}
+use Rattle.base.specs.Tests.{_≤?_, _<?_, _=?_}
 use Rattle.base.proofs.AtLaws.{none-some, some-same, at-there, at-take, at-in-take, among-at}
 use Rattle.base.proofs.Filters.{all-yes}
 use Rattle.base.proofs.FirstLaws.{First, first-found, first-is}
 use Rattle.base.proofs.ListLaws.{each-at}
 use Rattle.base.proofs.QuantifierLaws.{all-at}
-use Rattle.base.proofs.TestLaws.{Known, known, holds, fails, not-both, le-yes, le-holds, le-fails, lt-holds, lt-fails}
+use Rattle.base.proofs.TestLaws.{Known, known, holds, fails, not-both, le-yes, le-holds, le-fails, lt-holds, lt-fails, eq-yes, pick-yes}
 use Rattle.plane.specs.declared.Point.{Point}
 use Rattle.pegs.specs.Names.{before}
 use Rattle.pegs.specs.Operations.{Peg}
 use Rattle.pegs.specs.Claim.{Sorted}
 use Rattle.pegs.specs.Regions.{distanceTo, noNearer, isNearest, nearest}
+use Rattle.pegs.specs.Image.{pegsIn}
+use Rattle.pegs.specs.Outcome.{registerNumber, Found, notFound, foundIf}
+use Rattle.pegs.specs.Queries.{foundPeg, foundAt, nearestOn}
 use Rattle.pegs.specs.QueriesClaim.{NearestTheorem}
 
 module _ (p : Point) where
@@ -184,9 +187,37 @@ module _ (p : Point) (l : List Peg) (k : ℕ) (e : nearest p l ≡ some k) where
             let z : j ≡ k = omega (arith, lt-fails k j t, lt-fails j k u) in
             absurd (other (some-same (sym f ∙ ap (at l) z ∙ s)))
 
+-- ---- what is said of it
+
+module _ (r : List ℕ) (p : Point) (ok : registerNumber r ≡ 0) where
+  told : nearestOn r p ≡ foundAt (pegsIn r) (nearest p (pegsIn r))
+  unfolding nearestOn
+  told = sym (pick-yes (registerNumber r =? 0) _ _ _ (eq-yes _ 0 ok) refl)
+
+  found-as : (o : Option ℕ) → nearest p (pegsIn r) ≡ o → nearestOn r p .found ≡ foundAt (pegsIn r) o .found
+  found-as o e = ap (λ (f : Found). f .found) (told ∙ ap (foundAt (pegsIn r)) e)
+
+  found-one : (k : ℕ) → nearest p (pegsIn r) ≡ some k → nearestOn r p .found ≡ 1
+  unfolding foundAt foundPeg foundIf
+  found-one k e =
+      let c = nearest-closest p (pegsIn r) k e in
+      found-as (some k) e ∙ ap (λ (x : Option Peg). foundPeg k x .found) (c .1 .stands)
+
+  said-none : nearestOn r p .found ≡ 0 → pegsIn r ≡ []
+  said-none h = go (nearest p (pegsIn r)) refl
+    where
+      go : (o : Option ℕ) → nearest p (pegsIn r) ≡ o → pegsIn r ≡ []
+      go none e = none-empty p (pegsIn r) .0 e
+      go (some k) e = absurd (omega (arith, h, found-one k e))
+
+  none-said : pegsIn r ≡ [] → nearestOn r p .found ≡ 0
+  unfolding foundAt notFound
+  none-said e = found-as none (none-empty p (pegsIn r) .1 e)
+
 pub nearest-theorem : NearestTheorem
 nearest-theorem = record {
   none-empty = none-empty;
+  said = λ r p ok. (said-none r p ok, none-said r p ok);
   there = stands-there;
   least = λ p l k g h e s m. none-nearer p l k e g h s m;
   tie = λ p l k g h sorted e s m d other. let r = among-at l h m in tie-behind p l k e g h s sorted (r .0) (r .1) d other;

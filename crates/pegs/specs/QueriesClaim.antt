@@ -15,7 +15,7 @@ use Rattle.pegs.specs.Claim.{Sorted}
 use Rattle.pegs.specs.Image.{pegsIn, readRegister}
 use Rattle.pegs.specs.Outcome.{registerNumber}
 use Rattle.pegs.specs.Regions.{pegInside, pegsInside, distanceTo, nearest}
-use Rattle.pegs.specs.Queries.{regionOn}
+use Rattle.pegs.specs.Queries.{regionOn, nearestOn}
 
 -- ---- pegs of a region
 
@@ -35,6 +35,7 @@ pub record RegionTheorem : Type 0 where
 pub record NearestTheorem : Type 0 where
   -- "An empty register has no nearest peg, and that is said only then."
   pub none-empty : (p : Point) (l : List Peg) → (nearest p l ≡ none) ↔ (l ≡ [])
+  pub said : (r : List ℕ) (p : Point) → registerNumber r ≡ 0 → (nearestOn r p .found ≡ 0) ↔ (pegsIn r ≡ [])
   -- It is in the register;
   pub there : (p : Point) (l : List Peg) (k : ℕ) → nearest p l ≡ some k → (g : Peg) × (at l k ≡ some g)
   -- none is nearer;
