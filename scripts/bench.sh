@@ -1,7 +1,6 @@
 #!/bin/sh
 # Builds the archive and times it (bench/README.md): the state check against one pass over the same bytes and against the same check in plain C, steps
-# against memcpy, bursts against steps over runs that it records first, and the register, alone, asked and
-# beside the state, against plain C.
+# against memcpy, bursts against steps over runs that it records first, and the register, alone, asked and beside the state, against plain C.
 set -eu
 cd "$(dirname "$0")/.."
 sh scripts/dist.sh
@@ -16,7 +15,6 @@ compile bench/step.c bench/plan.c bench/timed_step.c bench/trial.c bench/full_st
 compile bench/record.c dist/libguzbytor.a -o target/bench/record
 compile bench/burst.c target/bench/one_pass.o dist/libguzbytor.a -o target/bench/burst
 compile bench/register.c bench/made_pegs.c bench/plain_register.c target/bench/one_pass.o dist/libguzbytor.a -o target/bench/register
-target/bench/queries
 compile bench/queries.c bench/plain_queries.c bench/made_pegs.c bench/plain_register.c dist/libguzbytor.a -o target/bench/queries
 compile bench/register_step.c bench/trial.c bench/full_state.c bench/made_pegs.c bench/plain_register.c dist/libguzbytor.a -o target/bench/register_step
 target/bench/pass
