@@ -6,4 +6,5 @@ pub mod Lists
 pub mod Counts
 pub mod Quantifiers
 pub mod Text
+pub mod Lent
 pub mod Opened

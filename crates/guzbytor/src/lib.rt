@@ -6,9 +6,9 @@ ghost use Rattle.burst.specs.Burst.{burstOn, left};
 ghost use Rattle.queries.specs.Queries.{summaryOn, entriesOn, listed};
 ghost use Rattle.pegs.specs.Image.{registerLength};
 ghost use Rattle.pegs.specs.Outcome.{changed, emptyOn, applyOn, findOn};
-ghost use Rattle.pegs.specs.Queries.{regionOn, nearestOn};
+ghost use Rattle.pegs.specs.Queries.{nearestOn};
 ghost use Rattle.register_check.specs.Answers.{located};
-ghost use Rattle.register_queries.specs.Arguments.{rectangle, disc, point};
+ghost use Rattle.register_queries.specs.Arguments.{rectangle, disc, point, AnswersRegion};
 ghost use Rattle.register_step.specs.Answers.{AnswersJointly};
 ghost use Rattle.register_step.specs.Burst.{AnswersAll};
 use burst::BurstAnswer;
@@ -110,7 +110,7 @@ pub extern "C" fn guzbytor_register_rectangle(
     north: i32,
     answer: &mut [u8],
 ) -> u32
-    ensures { λ r. ⌜ changed r (now (answer .exit)) ≡ regionOn (rectangle west south east north) (now (register .entry)) (now (answer .entry)) ⌝ }
+    ensures { λ r. ⌜ AnswersRegion r (rectangle west south east north) register answer ⌝ }
 {
     register_queries::guzbytor_register_rectangle(register, west, south, east, north, answer)
 }
@@ -123,7 +123,7 @@ pub extern "C" fn guzbytor_register_radius(
     radius: u32,
     answer: &mut [u8],
 ) -> u32
-    ensures { λ r. ⌜ changed r (now (answer .exit)) ≡ regionOn (disc easting northing radius) (now (register .entry)) (now (answer .entry)) ⌝ }
+    ensures { λ r. ⌜ AnswersRegion r (disc easting northing radius) register answer ⌝ }
 {
     register_queries::guzbytor_register_radius(register, easting, northing, radius, answer)
 }

@@ -10,12 +10,6 @@ use Rattle.format.specs.Write.{recordBytes}
 use Rattle.replication.specs.Machine.Types.{Server}
 use Rattle.engine.specs.Layout.{outLength}
 use Rattle.engine.specs.Holding.{Holds}
-use denote.Ref.{RefT}
-use denote.Triple.Both.{Both}
-
--- A lent buffer, as a contract sees it: at entry and at exit.
-abbrev pub Lent : Type 0
-Lent = Both (RefT (List ℕ)) (RefT (List ℕ))
 
 -- The buffer b holds a state of which P is known, and o has room for all that an event puts out.
 pub record LentSuch (P : Server → Type 0) (b o : List ℕ) : Type 0 where

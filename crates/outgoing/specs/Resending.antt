@@ -19,7 +19,7 @@ use Rattle.engine.specs.Decode.{actionsAt, decoded, serversIn}
 use Rattle.engine.specs.Holding.{Holds}
 use Rattle.queue.specs.Queue.{QueueIn}
 use Rattle.install.specs.Table.{IndexedFrom}
-use Rattle.outgoing.specs.Lent.{Lent}
+use Rattle.base.specs.Lent.{Lent}
 use Rattle.format.specs.Places.{mostRetransmission}
 use Rattle.format.specs.Write.{recordBytes}
 use Rattle.engine.specs.Counts.{queueCount, place}

@@ -24,7 +24,8 @@ pub record RegionTheorem : Type 0 where
   pub listed : (a : Region) (l : List Peg) (g : Peg) → List·Memᴰ g (pegsInside a l) ↔ (List·Memᴰ g l × (pegInside a g ≡ true))
   pub ordered : (a : Region) (l : List Peg) → Sorted l → Sorted (pegsInside a l)
   -- The answer is a register, and can be asked again: of the same region it is the whole answer.
-  pub read : (a : Region) (r b : List ℕ) → regionOn a r b .number ≡ 0 → readRegister (regionOn a r b .register) ≡ some (pegsInside a (pegsIn r))
+  pub read : (a : Region) (r b : List ℕ) → regionOn a r b .number ≡ 0
+      → readRegister (regionOn a r b .register) ≡ some (pegsInside a (pegsIn r))
   pub number : (a : Region) (r b : List ℕ) → regionOn a r b .number ≡ 0 → registerNumber (regionOn a r b .register) ≡ 0
   pub again : (a : Region) (l : List Peg) → pegsInside a (pegsInside a l) ≡ pegsInside a l
   -- "no refusal changes anything lent"

@@ -1,7 +1,7 @@
 // Refusals of a question on a region, by their order, and its answer.
 ghost use mathlib.Core.Path.{_≡_};
-ghost use Rattle.pegs.specs.Outcome.{changed};
-ghost use Rattle.pegs.specs.Queries.{bothNumber, sidesNumber, regionNumber, regionOn};
+ghost use Rattle.pegs.specs.Queries.{bothNumber, sidesNumber, regionNumber};
+ghost use Rattle.register_queries.specs.Arguments.{AnswersRegion};
 use crate::collecting::collect;
 use plane::Region;
 use plane::sides_rise;
@@ -43,7 +43,7 @@ fn region_number(register: &[u8], region: Region, answer: &[u8]) -> u32
 
 // The pegs of the region, as a register in the answer's buffer; refused, nothing is changed.
 pub fn answer_region(register: &[u8], region: Region, answer: &mut [u8]) -> u32
-    ensures { λ r. ⌜ changed r (now (answer .exit)) ≡ regionOn region (now (register .entry)) (now (answer .entry)) ⌝ }
+    ensures { λ r. ⌜ AnswersRegion r region register answer ⌝ }
 {
     let number = region_number(register, region, answer);
     if number == 0 {

@@ -1,9 +1,8 @@
 // The pegs of a register in the plane: those of a region, as a register in a lent buffer, and the one nearest to a point. Document 02, K5.
 ghost use mathlib.Core.Path.{_≡_};
-ghost use Rattle.pegs.specs.Outcome.{changed};
-ghost use Rattle.pegs.specs.Queries.{regionOn, nearestOn};
+ghost use Rattle.pegs.specs.Queries.{nearestOn};
 ghost use Rattle.register_check.specs.Answers.{located};
-ghost use Rattle.register_queries.specs.Arguments.{rectangle, disc, point};
+ghost use Rattle.register_queries.specs.Arguments.{rectangle, disc, point, AnswersRegion};
 
 pub mod collecting; // collecting.rt: the pegs of a region
 pub mod answering; // answering.rt: refusals, and the answer of a region
@@ -28,7 +27,7 @@ pub extern "C" fn guzbytor_register_rectangle(
     north: i32,
     answer: &mut [u8],
 ) -> u32
-    ensures { λ r. ⌜ changed r (now (answer .exit)) ≡ regionOn (rectangle west south east north) (now (register .entry)) (now (answer .entry)) ⌝ }
+    ensures { λ r. ⌜ AnswersRegion r (rectangle west south east north) register answer ⌝ }
 {
     let sides = Rectangle {
         west,
@@ -48,7 +47,7 @@ pub extern "C" fn guzbytor_register_radius(
     radius: u32,
     answer: &mut [u8],
 ) -> u32
-    ensures { λ r. ⌜ changed r (now (answer .exit)) ≡ regionOn (disc easting northing radius) (now (register .entry)) (now (answer .entry)) ⌝ }
+    ensures { λ r. ⌜ AnswersRegion r (disc easting northing radius) register answer ⌝ }
 {
     let centre = Point { easting, northing };
     answer_region(register, Region::Within { centre, radius }, answer)

@@ -3,7 +3,7 @@
 use Prim.Native.Nat.{ℕ}
 use mathlib.Core.Path.{_≡_}
 use mathlib.Core.List.{List}
-use Rattle.outgoing.specs.Lent.{Lent}
+use Rattle.base.specs.Lent.{Lent}
 use Rattle.register_runs.specs.Joint.{Joint, jointNumber, jointOn}
 use Rattle.register_step.specs.declared.RegisterAnswer.{RegisterAnswer}
 use denote.Ref.{RefT, now}

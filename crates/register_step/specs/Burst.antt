@@ -6,7 +6,7 @@ use mathlib.Core.Bool.{Bool, true, false}
 use mathlib.Core.List.{List}
 use lib.ListN.{length, take, drop}
 use Rattle.base.specs.Tests.{_and_, _=?_, pick}
-use Rattle.outgoing.specs.Lent.{Lent}
+use Rattle.base.specs.Lent.{Lent}
 use Rattle.burst.specs.Burst.{nextOf, byNext}
 use Rattle.register_runs.specs.Joint.{Joint, jointNumber, jointOn}
 use Rattle.register_step.specs.declared.RegisterBurst.{RegisterBurst}

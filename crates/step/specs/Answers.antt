@@ -17,7 +17,7 @@ use Rattle.record.specs.declared.State.{State as Numbers}
 use Rattle.engine.specs.Header.{headerOf}
 use Rattle.engine.specs.Outcome.{Result, resultOf}
 use Rattle.engine.specs.Holding.{Holds}
-use Rattle.outgoing.specs.Lent.{Lent}
+use Rattle.base.specs.Lent.{Lent}
 use Rattle.step.specs.declared.Answer.{Answer}
 use denote.Ref.{now}
 

@@ -19,7 +19,7 @@ use Rattle.replication.specs.Machine.Types.{withLog, inMode, contextOf}
 use Rattle.replication.specs.Machine.Rules.{Rule, onAction, fromMember}
 use Rattle.replication.specs.Laws.RuleFits.{RuleFits, Delivered}
 use Rattle.engine.specs.Image.{modeNumber}
-use Rattle.outgoing.specs.Lent.{Lent}
+use Rattle.base.specs.Lent.{Lent}
 use Rattle.step.specs.Answers.{InForce, answered, outcomeOn}
 use Rattle.replication.specs.Machine.WellFormedRanges.{PayloadFits}
 use Rattle.replication.specs.Machine.Requests.{quotaLeft}
