@@ -30,7 +30,7 @@ fn rise(low: i32, high: i32) -> u64
 }
 
 // How far apart two coordinates are.
-fn gap(a: i32, b: i32) -> u64
+pub fn gap(a: i32, b: i32) -> u64
     ensures { λ r. ⌜ (r ≡ natAbs (a -ℤ b)) × (r < 4294967296) ⌝ }
 {
     if a <= b {

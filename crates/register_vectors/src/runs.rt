@@ -3,6 +3,7 @@ ghost use Prim.Native.Nat.{_≤_};
 ghost use lib.ListN.{length};
 use crate::questions::nearest;
 use crate::questions::region;
+use plane::distances::gap;
 use record::bytes::num8;
 use record::bytes::num16;
 use record::bytes::wider;
@@ -30,25 +31,15 @@ pub const WITHIN: u8 = 6;
 
 pub const NEAREST: u8 = 7;
 
-// The middle of the unsigned range.
-const MIDDLE: u32 = 2147483648;
-
-// A signed number, counted from the lowest one.
-fn from_lowest(v: i32) -> u32 {
-    let wide = v as i64;
-    let sum = wide + 2147483648;
-    sum as u32
-}
-
 // Millimetres, with their sign.
 fn signed(v: i32) {
-    let k = from_lowest(v);
-    if k < MIDDLE {
+    let size = gap(v, 0);
+    if v < 0 {
         io::write_all(1, b" -");
-        io::print_decimal(1, (MIDDLE - k) as u64);
+        io::print_decimal(1, size);
         return;
     }
-    number((k - MIDDLE) as u64);
+    number(size);
 }
 
 // What is given back of a peg.
