@@ -3,14 +3,14 @@
 use Prim.Native.Nat.{ℕ, zero, suc, _+_, _*_, _-_, _^_, _≤_, _<_}
 use mathlib.Core.Path.{_≡_, refl, ap, ap₂, subst, _∙_}
 use mathlib.Core.Bool.{true}
-use mathlib.Core.List.{List, [], _∷_, map}
+use mathlib.Core.List.{List, [], _∷_, _++_, map, map-append}
 use mathlib.Core.Option.{some}
 use native.Mathlib.Omega.{arith}
 use lib.ListN.{length, length-append}
 use Rattle.base.specs.Bytes.{bytesOf, numberAt, partAt, joined, zeros, slot}
 use Rattle.base.specs.Lists.{at, Each}
 use Rattle.base.proofs.AtLaws.{none-some, some-same}
-use Rattle.base.proofs.BytesLaws.{bytes-length}
+use Rattle.base.proofs.BytesLaws.{bytes-length, joined-append}
 use Rattle.base.proofs.Occurs.{Occurs, occurs-first, occurs-second, occurs-at, joined-parts, number-read}
 use Rattle.base.proofs.TestLaws.{le-holds, lt-holds, le-yes, lt-yes, and-holds, both-yes}
 use Rattle.base.proofs.Over.{slot-length}
@@ -51,6 +51,14 @@ unfolding joined
 pegs-length [] f = refl
 pegs-length (g ∷ l) f =
     length-append (pegBytes g) (joined (map pegBytes l)) ∙ omega (arith, peg-length g (f .0 .most), pegs-length l (f .1))
+
+-- ---- one behind another
+
+abbrev pub slots : List Peg → List ℕ
+slots l = joined (map pegBytes l)
+
+pub slots-append : (x y : List Peg) → slots (x ++ y) ≡ slots x ++ slots y
+slots-append x y = ap joined (map-append pegBytes x y) ∙ joined-append (map pegBytes x) (map pegBytes y)
 
 -- ---- reading
 

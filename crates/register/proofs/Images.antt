@@ -3,7 +3,7 @@
 use Prim.Native.Nat.{ℕ, zero, suc, _+_, _*_, _-_, _≤_, _<_}
 use mathlib.Core.Path.{_≡_, refl, sym, ap, ap₂, subst, _∙_}
 use mathlib.Core.Bool.{true}
-use mathlib.Core.List.{List, [], _∷_, _++_, map, map-append, append-assoc, append-nil}
+use mathlib.Core.List.{List, [], _∷_, _++_, append-assoc, append-nil}
 use native.Mathlib.Omega.{arith}
 use native.Mathlib.Nat.{zero-add}
 use lib.ListN.{length, take, drop, getD, length-append, length-drop, take-append-drop}
@@ -11,7 +11,7 @@ use lib.Seq.{length-take-le}
 use Rattle.base.specs.Bytes.{bytesOf, partAt, joined, over, slot}
 use Rattle.base.specs.Lists.{isThere, sum, Each}
 use Rattle.base.proofs.AtLaws.{some-same}
-use Rattle.base.proofs.BytesLaws.{bytes-length, joined-append}
+use Rattle.base.proofs.BytesLaws.{bytes-length}
 use Rattle.base.proofs.ListLaws.{each-first, each-second}
 use Rattle.base.proofs.Occurs.{Occurs, occurs-first, occurs-second}
 use Rattle.base.proofs.SameLaws.{same-holds}
@@ -22,18 +22,12 @@ use Rattle.pegs.specs.Register.{mostPegs, find}
 use Rattle.pegs.specs.Image.{countSize, atPlace, pegSize, pegBytes, registerBytes, registerImage, pegAt, pegCount, pegsIn}
 use Rattle.pegs.specs.Outcome.{position}
 use Rattle.pegs.proofs.Places.{formed-most, formed-sorted, found-at, found-low}
-use Rattle.pegs.proofs.PegLaws.{PegRange, peg-length, pegs-length}
+use Rattle.pegs.proofs.PegLaws.{PegRange, peg-length, pegs-length, slots, slots-append}
 use Rattle.pegs.proofs.ImageLaws.{Holds, formed-range, used-occurs, slots-count, slot-at, slot-occurs}
 use Rattle.register.specs.Changes.{slotAt, namedBytes, slotBytes, widened, inserted, removed, replaced}
 use Rattle.register.proofs.Made.{named-size}
 
 -- ---- slots
-
-abbrev slots : List Peg → List ℕ
-slots l = joined (map pegBytes l)
-
-slots-append : (x y : List Peg) → slots (x ++ y) ≡ slots x ++ slots y
-slots-append x y = ap joined (map-append pegBytes x y) ∙ joined-append (map pegBytes x) (map pegBytes y)
 
 abbrev pub placeBytes : Place → List ℕ
 placeBytes p = bytesOf coordinateSize (p .easting) ++ bytesOf coordinateSize (p .northing)

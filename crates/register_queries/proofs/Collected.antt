@@ -3,7 +3,7 @@
 use Prim.Native.Nat.{ℕ, suc, _+_, _*_, _/_, _≤_, _<_}
 use mathlib.Core.Path.{_≡_, refl, sym, ap, ap₂, subst, _∙_}
 use mathlib.Core.Bool.{Bool, true, false}
-use mathlib.Core.List.{List, [], _∷_, _++_, map, map-append, append-assoc, append-nil}
+use mathlib.Core.List.{List, [], _∷_, _++_, append-assoc, append-nil}
 use native.Mathlib.Omega.{arith}
 use lib.ListN.{length, take, drop, length-append, take-append-drop}
 use lib.Seq.{take-all}
@@ -11,7 +11,7 @@ use Rattle.base.specs.Bytes.{Bytes, bytesOf, numberAt, partAt, joined, over}
 use Rattle.base.specs.Lists.{filter, Each}
 use Rattle.base.specs.Patched.{patched}
 use Rattle.base.proofs.AtLaws.{take-next}
-use Rattle.base.proofs.BytesLaws.{bytes-length, bytes-number, joined-append, part-append, part-length}
+use Rattle.base.proofs.BytesLaws.{bytes-length, bytes-number, part-append, part-length}
 use Rattle.base.proofs.Filters.{filter-yes, filter-no, filter-append}
 use Rattle.base.proofs.ListLaws.{each-filter, each-first}
 use Rattle.base.proofs.Over.{over-front}
@@ -25,20 +25,16 @@ use Rattle.pegs.specs.Image.{countSize, pegSize, registerLength, pegBytes, regi
 use Rattle.pegs.specs.Outcome.{registerNumber}
 use Rattle.pegs.specs.Regions.{pointOf, pegInside, pegsInside}
 use Rattle.register_check.specs.Slots.{wordSize}
-use Rattle.pegs.proofs.PegLaws.{PegRange, peg-length, pegs-length}
+use Rattle.pegs.proofs.PegLaws.{PegRange, peg-length, pegs-length, slots, slots-append}
 use Rattle.pegs.proofs.ImageLaws.{Holds, number-zero, formed-range, slots-count, slot-at, slot-occurs, slot-range, count-most}
 
 -- A slot is so many words, and a byte.
 abbrev pub slotWords : ℕ
 slotWords = pegSize / wordSize
 
-abbrev slots : List Peg → List ℕ
-slots l = joined (map pegBytes l)
-
 slots-next : (l : List Peg) (g : Peg) → slots (l ++ (g ∷ [])) ≡ slots l ++ pegBytes g
 unfolding joined
-slots-next l g =
-    ap joined (map-append pegBytes l (g ∷ [])) ∙ joined-append (map pegBytes l) (pegBytes g ∷ []) ∙ ap (λ (x : List ℕ). slots l ++ x) (append-nil (pegBytes g))
+slots-next l g = slots-append l (g ∷ []) ∙ ap (λ (x : List ℕ). slots l ++ x) (append-nil (pegBytes g))
 
 -- ---- a slot, as the code copies it
 
