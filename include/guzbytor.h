@@ -7,8 +7,8 @@
    - The buffers of one call may not overlap.
    - There is no state but in the buffers: calls over different buffers may run at the same time in different threads; two calls over one buffer may not,
      unless both only read it.
-   - No function allocates, blocks, calls back or fails but by the number that it returns. A call needs some 11 KiB of stack at most (measured over the
-     costliest events at 8 servers with the quota 256, not proved): give a thread that calls it 64 KiB. */
+   - No function allocates, blocks, calls back or fails but by the number that it returns. A call takes 14 KiB of stack at most (14,104 bytes measured by
+     bench/stack.c, not proved): lend a thread that calls 32 KiB at least. */
 #ifndef GUZBYTOR_H
 #define GUZBYTOR_H
 
@@ -24,8 +24,8 @@ enum {
     GUZBYTOR_TAKEN = 0,         /* store if the store word is 1, and wait for it; then send the records, in order, before the next event */
     GUZBYTOR_BAD_RECORD = 1,    /* bad length, version or kind: pass over the event and log it; the group layer brought what no engine wrote */
     GUZBYTOR_OUT_OF_RANGE = 2,  /* a number, set or list is out of range: as 1; of a start, a reading or lengths: the caller's own numbers are wrong */
-    GUZBYTOR_QUOTA_USED = 3,    /* a request, and this server has numbered its quota: tell the crew; no later request will be taken */
-    GUZBYTOR_HOLDS_FULL = 4,    /* never returned: since document 02's K4 a request is numbered and stored whenever it comes, and none is held */
+    GUZBYTOR_QUOTA_USED = 3,    /* a request, and this server has numbered its quota: tell the crew; it takes no request any more, for good */
+                                /* 4 is reserved, and never returned (docs/RECORDS.md) */
     GUZBYTOR_NOT_NOW = 5,       /* an event that cannot come in this state: a duty of the group layer was broken (docs/GROUP-LAYER.md); log it */
     GUZBYTOR_NOT_FROM_HERE = 6, /* a sender outside the configuration, another configuration's id, or a second State or CPC: as 5 */
     GUZBYTOR_SHORT_BUFFER = 7,  /* a buffer is shorter than guzbytor_lengths or guzbytor_register_length asks for: a mistake of the daemon's */
@@ -118,7 +118,9 @@ enum {
 /* .. to here. */
 
 /* What guzbytor_lengths answers: GUZBYTOR_TAKEN and the required lengths of the state's and the outgoing buffer, or GUZBYTOR_OUT_OF_RANGE and zeros where
-   servers or quota is out of range. */
+   servers or quota is out of range.
+   The quota is how many requests each server ever takes: 1 to 256, the same at all servers, and never changed. Every later request gets
+   GUZBYTOR_QUOTA_USED, whatever has turned green by then, until document 02's K6 is built, which uses places again. */
 typedef struct {
     uint32_t number;
     uint32_t state;
@@ -127,7 +129,8 @@ typedef struct {
 
 guzbytor_lengths_answer guzbytor_lengths(uint32_t servers, uint32_t quota);
 
-/* Makes the start of server `me` in its buffer and returns 0; returns 7 where the buffer is too short and 2 where a number is out of range. */
+/* Makes the start of server `me` in its buffer and returns 0; returns 7 where the buffer is too short and 2 where a number is out of range. Once in the
+   life of a server: started anew it would number its requests from 1 again. The quota cannot be changed afterwards. */
 uint32_t guzbytor_start(uint8_t *state, size_t state_length, uint32_t servers, uint32_t quota, uint32_t me);
 
 /* The number returned, the store word (1: store the state before anything is sent), and how many bytes of records the outgoing buffer

@@ -1,6 +1,6 @@
 #!/usr/bin/env python3
 """Writes every recorded file of the repository from the stories and tables of vectors under samples/sources: what programs are given, what they
-must print, and the run that crates/examples proves allowed. What must come out is computed by scripts/model, a plain implementation of documents 01
+must print, and the runs that crates/examples proves allowed. What must come out is computed by scripts/model, a plain implementation of documents 01
 and 02.
 The numbers in include/, docs/LAYOUT.md and docs/RECORDS.md come from model/layout.py; scripts/picture.sh draws docs/reunion.svg.
 
@@ -17,6 +17,7 @@ from model import c_header, decision_vectors, layout_page, proof_files, record_v
 
 TOP = Path(__file__).resolve().parent.parent
 SOURCES = 'samples/sources/'
+MOST_REPLAYED = 4   # servers that `replay` takes
 
 
 def source(name):
@@ -59,14 +60,15 @@ def vector_files():
 
 def files():
     """Path to bytes of every file."""
-    stories = {name: story.told(source(name + '.story')) for name in ('worked', 'partition', 'reunion', 'halves', 'corner')}
+    stories = {name: story.told(source(name + '.story')) for name in ('worked', 'partition', 'reunion', 'halves', 'corner', 'odd', 'figure48')}
     found = {}
     for name, told in stories.items():
-        found.update(run_files(name, told))
+        if told.servers <= MOST_REPLAYED:
+            found.update(run_files(name, told))
     found['crates/replay/stdin'], found['crates/replay/stdout'] = found['samples/partition.bin'], found['samples/partition.txt']
     found['crates/examples/proofs/Worked.antt'] = worked_file(stories['worked'])
-    found['crates/examples/proofs/PartitionRun.antt'] = proof_files.run_file(stories['partition'], SOURCES + 'partition.story').encode()
-    found['crates/examples/proofs/CornerRun.antt'] = proof_files.run_file(stories['corner'], SOURCES + 'corner.story').encode()
+    for name in ('partition', 'corner', 'odd', 'figure48'):
+        found['crates/examples/proofs/%sRun.antt' % name.capitalize()] = proof_files.run_file(stories[name], SOURCES + name + '.story').encode()
     found['docs/reunion.svg'] = picture(found['samples/reunion.bin'], found['samples/reunion.txt'])
     found['include/guzbytor_layout.h'] = c_header.header().encode()
     for name, page in (('include/guzbytor.h', c_header.public), ('docs/LAYOUT.md', layout_page.page), ('docs/RECORDS.md', records_page.page)):

@@ -52,12 +52,12 @@ function payload(at, size,   k, t) {
 # How many letters are seen of a text.
 function letters(s) { gsub(/&[a-z0-9#]*;/, "x", s); return length(s) }
 
-# What an event shows beside its state: `what` it is, and its label.
+# What an event shows beside its state: `what` it is, and its label. An id may be 2^31 or more, which mawk prints as a whole number by %.0f alone.
 function read_event(e, at,   kind, body) {
     kind = byte[at + 4]; body = at + 5
     if (kind == 7 && returned[e] != 1) label[e] = payload(body + 1, byte[body])
     if (returned[e] != 0) { what[e] = "refused"; label[e] = label[e] "&#215;" returned[e] }
-    else if (kind == 5) { what[e] = "regular"; label[e] = number(body, 4) " " members(byte[body + 4]) }
+    else if (kind == 5) { what[e] = "regular"; label[e] = sprintf("%.0f ", number(body, 4)) members(byte[body + 4]) }
     else if (kind == 6) { what[e] = "transitional"; label[e] = members(byte[body]) }
     else if (kind == 7) what[e] = "request"
     else if (kind == 8) label[e] = what[e] = "recovery"

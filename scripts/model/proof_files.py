@@ -1,4 +1,4 @@
-"""The run of a story as definitions (crates/examples/proofs/PartitionRun.antt), and the audit of a recorded run (docs/AUDIT.md)."""
+"""The run of a story as definitions (PartitionRun.antt and its like in crates/examples/proofs), and the audit of a recorded run (docs/AUDIT.md)."""
 from .witness import Witness
 
 
@@ -30,7 +30,7 @@ def summary(story):
     return (
         '-- States first reached: ' + ', '.join('%s at %s' % x for x in modes.items()) + '.\n'
         + '-- Primary components first installed: ' + ', '.join('%s at %s' % x for x in primaries.items()) + '.\n'
-        + '-- Refused: ' + '; '.join('%s at %s' % (k, ', '.join(refused[k])) for k in sorted(refused)) + '.\n')
+        + '-- Refused: ' + ('; '.join('%s at %s' % (k, ', '.join(refused[k])) for k in sorted(refused)) or 'none') + '.\n')
 
 
 def places(story):
@@ -127,7 +127,7 @@ def audit_file(crate):
 -- Assumes nothing.
 use mathlib.Core.Path.{{_≡_, refl}}
 use mathlib.Core.Bool.{{true}}
-use Rattle.replication.specs.Runs.Strays.{{AllowedWithStrays}}
+use Rattle.replication.specs.Runs.Strays.{{AllowedWithStraysUp}}
 use Rattle.replication.specs.Runs.Claim.{{Agreement, Demand3}}
 use Rattle.replication.specs.Audit.Strays.{{auditWithStrays}}
 use Rattle.replication.specs.Audit.Opened.{{opened}}
@@ -140,12 +140,12 @@ passes : auditWithStrays servers quota run strays witness ≡ true
 unfolding opened digit pairsOf hex run strays witness
 passes = refl
 
-pub allowed : AllowedWithStrays servers quota run
+pub allowed : AllowedWithStraysUp servers quota run
 allowed = strays-sound servers quota run strays witness passes
 
 pub agrees : Agreement servers quota run
 unfolding Demand3
-agrees = demand3 servers quota run allowed
+agrees = demand3 servers quota run (allowed .allowed)
 '''
 
 
@@ -187,7 +187,7 @@ use lib.ListN.{{getD}}
 use Rattle.base.specs.Lists.{{all}}
 use Rattle.base.proofs.TestLaws.{{both-yes}}
 use Rattle.replication.specs.Runs.Run.{{Run, beginning}}
-use Rattle.replication.specs.Runs.Strays.{{without, AllowedWithStrays}}
+use Rattle.replication.specs.Runs.Strays.{{without, AllowedWithStraysUp}}
 use Rattle.replication.specs.Runs.Claim.{{Agreement, Demand3}}
 use Rattle.replication.specs.Audit.Verdict.{{Test, testsOf, tests, audit}}
 use Rattle.replication.specs.Audit.Strays.{{isOneOf, straysFrom, auditWithStrays}}
@@ -216,10 +216,10 @@ passes : auditWithStrays n q run places witness ≡ true
 unfolding auditWithStrays rest
 passes = both-yes _ _ strays all-fields
 
-pub allowed : AllowedWithStrays n q run
+pub allowed : AllowedWithStraysUp n q run
 allowed = strays-sound n q run places witness passes
 
 pub agrees : Agreement n q run
 unfolding Demand3
-agrees = demand3 n q run allowed
+agrees = demand3 n q run (allowed .allowed)
 '''

@@ -10,12 +10,14 @@ use Rattle.base.specs.Tests.{pick}
 use Rattle.base.proofs.TestLaws.{not-both}
 use Rattle.base.specs.Bytes.{joined}
 use Rattle.base.specs.Lists.{at, Begins}
+use Rattle.format.specs.Types.{Action}
 use Rattle.replication.specs.Machine.Types.{Server}
 use Rattle.replication.specs.Images.{Images, arrive}
 use Rattle.replication.specs.Runs.Run.{event, Run, worldAt, putOut, sentAt}
-use Rattle.replication.specs.Runs.Strays.{AllowedWithStrays}
+use Rattle.replication.specs.Runs.Strays.{AllowedWithStraysUp}
 use Rattle.replication.specs.Runs.Claim.{ListsAgree, storedGreen, memoryGreen, greenAt, IsPrimary, Agreement, Consequences, Demand3, Corollaries}
 use Rattle.replication.proofs.Agreement.Greens.Demand.{demand3, corollaries}
+use Rattle.replication.proofs.Agreement.Greens.KeptWhileUp.{kept-while-up}
 use Rattle.replication.proofs.Runs.Places.{put-out-at, sent-at}
 use Rattle.engine.specs.Decode.{greensIn}
 use Rattle.engine.specs.Outcome.{Result}
@@ -38,7 +40,7 @@ primary-held : (s : Server) (b : List ℕ) → Holds s b → s .votes .last ≡ 
 unfolding primaryIn
 primary-held s b h = ap (λ (t : Server). t .votes .last) (sym (holds-decoded s b h))
 
-module _ {n q : ℕ} {l : Run} (S : AllowedWithStrays n q l) (x : Lending) (long : LongEnough n q l x) where
+module _ {n q : ℕ} {l : Run} (S : AllowedWithStraysUp n q l) (x : Lending) (long : LongEnough n q l x) where
   abbrev daemons : ℕ → Daemons
   daemons p = daemonsAt n q l x p
 
@@ -88,11 +90,11 @@ module _ {n q : ℕ} {l : Run} (S : AllowedWithStrays n q l) (x : Lending) (long
 
   agree : Agreement n q l
   unfolding Demand3
-  agree = demand3 n q l S
+  agree = demand3 n q l (S .allowed)
 
   follow : Consequences n q l
   unfolding Corollaries
-  follow = corollaries n q l S
+  follow = corollaries n q l (S .allowed)
 
   stored-green : (p i : ℕ) → i < n → storedGreen n q l p i ≡ greensIn (daemons p .buffers i .store)
   unfolding storedGreen
@@ -128,6 +130,12 @@ module _ {n q : ℕ} {l : Run} (S : AllowedWithStrays n q l) (x : Lending) (long
         subst₂ (λ u v. ListsAgree u v) (stored-green p i h) (memory-green r j k d)
         (follow .later p r i j o h k (sym (at-server r j k .down) ∙ d));
     kept = λ p r i o h. subst₂ (λ u v. Begins u v) (stored-green p i h) (stored-green r i h) (follow .kept p r i o h);
+    while-up = λ p r i j k a o h m s e low.
+        let there = memory-green p i h (at-server p i h .down ∙ s .up) in
+        let shows = shown-green r j m in
+        ap (λ u. at u k) (sym shows)
+        ∙ kept-while-up .everywhere n q l (S .allowed) p r i j k a o h m s (ap (λ u. at u k) there ∙ e)
+        (subst (λ (u : List Action). k < length u) (sym shows) low);
   }
 
 pub buffers-demand : BuffersDemand

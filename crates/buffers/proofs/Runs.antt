@@ -10,7 +10,7 @@ use Rattle.base.proofs.TestLaws.{not-both, Known, holds, fails, known}
 use Rattle.base.specs.Lists.{at}
 use Rattle.base.proofs.AtLaws.{some-same}
 use Rattle.replication.specs.Runs.Run.{Entry, event, store, Run, World, beginning, worldAfter, heard, worldAt, heardAt}
-use Rattle.replication.specs.Runs.Strays.{AllowedWithStrays}
+use Rattle.replication.specs.Runs.Strays.{AllowedWithStraysUp}
 use Rattle.replication.proofs.Runs.Numbers.{numbers}
 use Rattle.replication.proofs.Runs.Places.{world-at-start, world-next, world-past, event-entry, event-not-store, of-event}
 use Rattle.replication.proofs.Runs.Strays.{kept, at-kept, world-kept}
@@ -21,40 +21,38 @@ use Rattle.buffers.proofs.RecoveryLaws.{recovery-bytes}
 use Rattle.buffers.proofs.Keeping.{KeepsWhere, keeps-where, begun-keeps, begun-sized}
 use Rattle.buffers.proofs.Entries.{Kept, Fits, entry-kept}
 
-module _ {n q : ℕ} {l : Run} (S : AllowedWithStrays n q l) where
+module _ {n q : ℕ} {l : Run} (S : AllowedWithStraysUp n q l) where
   -- ---- what the run says of its entries, strays included
 
   pub event-below : (p i k : ℕ) (e : List ℕ) → at l p ≡ some (event i e k) → i < n
-  event-below p i k e h = go (known (S .stray p))
+  event-below p i k e h = go (known (S .allowed .stray p))
     where
-      go : Known (S .stray p) → i < n
+      go : Known (S .allowed .stray p) → i < n
       go (holds s) =
-          let x = S .refused p _ h s in
+          let x = S .allowed .refused p _ h s in
           subst (λ (j : ℕ). j < n) (sym (event-entry (x .is) .0)) (x .there)
-      go (fails s) = S .rest .servers (kept (S .stray) p) i (of-event (at-kept (S .stray) l p _ h s))
+      go (fails s) = S .allowed .rest .servers (kept (S .allowed .stray) p) i (of-event (at-kept (S .allowed .stray) l p _ h s))
 
   -- A server that is down takes no event but a recovery.
   pub down-recovers : (p i k : ℕ) (e : List ℕ) → at l p ≡ some (event i e k) → worldAt n q l p .down i ≡ true → isRecovery e ≡ true
   unfolding heardAt heard
-  down-recovers p i k e h d = go (known (S .stray p))
+  down-recovers p i k e h d = go (known (S .allowed .stray p))
     where
-      go : Known (S .stray p) → isRecovery e ≡ true
-      go (holds s) =
-          let x = S .refused p _ h s in
-          not-both (sym (x .up) ∙ ap (worldAt n q l p .down) (sym (event-entry (x .is) .0)) ∙ d)
+      go : Known (S .allowed .stray p) → isRecovery e ≡ true
+      go (holds s) = not-both (sym (S .up p i k e h s) ∙ d)
       go (fails s) =
-          let there = at-kept (S .stray) l p _ h s in
-          let x = S .rest .recovers (kept (S .stray) p) i k e there (ap (λ (w : World). w .down i) (sym (world-kept S p)) ∙ d) in
+          let there = at-kept (S .allowed .stray) l p _ h s in
+          let x = S .allowed .rest .recovers (kept (S .allowed .stray) p) i k e there (ap (λ (w : World). w .down i) (sym (world-kept (S .allowed) p)) ∙ d) in
           subst (λ (b : List ℕ). isRecovery b ≡ true) (sym (event-entry (some-same (sym there ∙ x .here)) .1))
           (recovery-bytes _ (x .bytes) (x .heard))
 
   pub store-up : (p i : ℕ) → at l p ≡ some (store i) → worldAt n q l p .down i ≡ false
-  store-up p i h = go (known (S .stray p))
+  store-up p i h = go (known (S .allowed .stray p))
     where
-      go : Known (S .stray p) → worldAt n q l p .down i ≡ false
-      go (holds s) = event-not-store (sym (S .refused p _ h s .is))
+      go : Known (S .allowed .stray p) → worldAt n q l p .down i ≡ false
+      go (holds s) = event-not-store (sym (S .allowed .refused p _ h s .is))
       go (fails s) =
-          ap (λ (w : World). w .down i) (world-kept S p) ∙ S .rest .stores-up (kept (S .stray) p) i (at-kept (S .stray) l p _ h s)
+          ap (λ (w : World). w .down i) (world-kept (S .allowed) p) ∙ S .allowed .rest .stores-up (kept (S .allowed .stray) p) i (at-kept (S .allowed .stray) l p _ h s)
 
   module _ (x : Lending) (long : LongEnough n q l x) where
     pub out-room : (p i : ℕ) → outLength (worldAt n q l p .images i .memory .servers) (worldAt n q l p .images i .memory .quota) ≤ length (x .out p)
@@ -78,8 +76,8 @@ module _ {n q : ℕ} {l : Run} (S : AllowedWithStrays n q l) where
         subst (λ (w : World). Kept (length (x .first i .state)) w (daemonsAt n q l x 0) i) (sym (world-at-start n q l))
         (record {
           down = refl;
-          keeps = keeps-where (λ h. tt) (begun-keeps n q i (S .rest .sizes) b (x .first i) (long .first i b));
-          sized = begun-sized n q i (S .rest .sizes) b (x .first i) (long .first i b);
+          keeps = keeps-where (λ h. tt) (begun-keeps n q i (S .allowed .rest .sizes) b (x .first i) (long .first i b));
+          sized = begun-sized n q i (S .allowed .rest .sizes) b (x .first i) (long .first i b);
         })
     kept-at (suc p) i b = go (at l p) refl (kept-at p i b)
       where

@@ -68,6 +68,15 @@ cut-next b h = go (length b) refl
         from-next m b h
         ∙ ap (λ (r : List (List ℕ)). take (firstSize b) b ∷ r) (from-any m (length (drop (firstSize b) b)) (drop (firstSize b) b) (omega arith) (omega arith))
 
+-- A record that is as long as its length bytes say, before any bytes.
+pub cut-front : (v rest : List ℕ) → firstSize v ≡ length v → cutRecords (v ++ rest) ≡ v ∷ cutRecords rest
+cut-front v rest long =
+    let front : firstSize (v ++ rest) ≡ length v = ap (λ (m : ℕ). m + lengthSize) (number-front lengthSize v rest 0 (omega arith)) ∙ long in
+    let first : take (firstSize (v ++ rest)) (v ++ rest) ≡ v = take-at v rest (firstSize (v ++ rest)) (sym front) in
+    let behind : drop (firstSize (v ++ rest)) (v ++ rest) ≡ rest = drop-at v rest (firstSize (v ++ rest)) (sym front) in
+    cut-next (v ++ rest) (omega (arith, length-append v rest))
+    ∙ ap₂ {A = List ℕ} {B = List ℕ} {C = List (List ℕ)} (λ x y. x ∷ cutRecords y) first behind
+
 -- ---- written records
 
 frame-long : (c : Context) (r : Record) → recordOk c r ≡ true → firstSize (write r) ≡ length (write r)
@@ -80,15 +89,7 @@ written-cut : (c : Context) (rs : List Record) → Each (λ r. recordOk c r ≡ 
 unfolding joined
 written-cut c [] h = cut-short [] (omega arith)
 written-cut c (r ∷ rs) h =
-    let rest : List ℕ = joined (map write rs) in
-    let long : firstSize (write r) ≡ length (write r) = frame-long c r (h .0) in
-    let front : firstSize (write r ++ rest) ≡ length (write r) = ap (λ (m : ℕ). m + lengthSize) (number-front lengthSize (write r) rest 0 (omega arith))
-    ∙ long in
-    let first : take (firstSize (write r ++ rest)) (write r ++ rest) ≡ write r = take-at (write r) rest (firstSize (write r ++ rest)) (sym front) in
-    let behind : drop (firstSize (write r ++ rest)) (write r ++ rest) ≡ rest = drop-at (write r) rest (firstSize (write r ++ rest)) (sym front) in
-    cut-next (write r ++ rest) (omega (arith, length-append (write r) rest))
-    ∙ ap₂ {A = List ℕ} {B = List ℕ} {C = List (List ℕ)} (λ x y. x ∷ cutRecords y) first behind
-    ∙ ap (λ (l : List (List ℕ)). write r ∷ l) (written-cut c rs (h .1))
+    cut-front (write r) (joined (map write rs)) (frame-long c r (h .0)) ∙ ap (λ (l : List (List ℕ)). write r ∷ l) (written-cut c rs (h .1))
 
 own-peer : (s : Server) → wellFormed s ≡ true → Peer s (contextOf s)
 unfolding contextOk contextOf

@@ -9,11 +9,11 @@ use lib.ListN.{length, take}
 use Rattle.base.specs.Tests.{pick}
 use Rattle.base.specs.Bytes.{joined}
 use Rattle.base.specs.Lists.{at, Begins}
-use Rattle.format.specs.Types.{Primary}
+use Rattle.format.specs.Types.{Action, Primary}
 use Rattle.replication.specs.Images.{arrive}
 use Rattle.replication.specs.Runs.Run.{event, Run, worldAt, putOut, sentAt}
-use Rattle.replication.specs.Runs.Strays.{AllowedWithStrays}
-use Rattle.replication.specs.Runs.Claim.{ListsAgree, PrimariesAgree, IsPrimary}
+use Rattle.replication.specs.Runs.Strays.{AllowedWithStraysUp}
+use Rattle.replication.specs.Runs.Claim.{ListsAgree, PrimariesAgree, IsPrimary, StaysUp}
 use Rattle.engine.specs.Decode.{decoded, readImage, greensIn}
 use Rattle.engine.specs.Outcome.{Result, resultOf}
 use Rattle.buffers.specs.Buffers.{sourceIn, stepIn}
@@ -72,8 +72,13 @@ module _ (n q : ℕ) (l : Run) (x : Lending) where
     pub later : (p r i j : ℕ) → p ≤ r → i < n → j < n → daemons r .down j ≡ false
         → ListsAgree (greensIn (daemons p .buffers i .store)) (greensIn (daemons r .buffers j .state))
     pub kept : (p r i : ℕ) → p ≤ r → i < n → Begins (greensIn (daemons p .buffers i .store)) (greensIn (daemons r .buffers i .store))
+    -- What is green in the buffer of a server, stored or not, keeps its place while that server stays up: at every server that then has as many.
+    pub while-up : (p r i j k : ℕ) (a : Action) → p ≤ r → i < n → j < n → StaysUp n q l p r i
+        → at (greensIn (daemons p .buffers i .state)) k ≡ some a → k < length (greensIn (shown (daemons r) j))
+        → at (greensIn (shown (daemons r) j)) k ≡ some a
 
--- Demand 3 on buffers: for any bytes in the lent buffers, if they are long enough.
+-- Demand 3 on buffers: for any bytes in the lent buffers, if they are long enough. A crash loses the state's buffer, so stray events come to servers
+-- that are up.
 unfoldable pub BuffersDemand : Type 0
 BuffersDemand =
-    (n q : ℕ) (l : Run) → AllowedWithStrays n q l → (x : Lending) → LongEnough n q l x → BuffersFollow n q l x × BuffersAgree n q l x
+    (n q : ℕ) (l : Run) → AllowedWithStraysUp n q l → (x : Lending) → LongEnough n q l x → BuffersFollow n q l x × BuffersAgree n q l x

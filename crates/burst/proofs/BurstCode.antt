@@ -123,7 +123,7 @@ module _ (b₀ e o₀ b o : List ℕ) (n at : ℕ) (a : Along b₀ e o₀ b o n 
         pub along-refused : (r : BurstAnswer) → (y .number ≡ 0 → ⊥) → r ≡ stoppedBehind (y .number) n at → left r b₁ o₁ ≡ burstAll b₀ e o₀
         unfolding answered
         along-refused r z t =
-            let kept = refused-left b (take m ahead) o (a .ready) (λ q. z (sym (ap (λ (r : Result). r .number) step-is) ∙ q)) in
+            let kept = refused-left b (take m ahead) o (λ q. z (sym (ap (λ (r : Result). r .number) step-is) ∙ q)) in
             (λ i. left (t i) ((sym state-is ∙ kept .0) i) ((sym out-is ∙ kept .1) i))
             ∙ stopped-is (y .number)
             ∙ whole-is (stopped (y .number) b o) (λ d l. from-is d ∙ after-refused b o m (answered y b₁ o₁) _ z)

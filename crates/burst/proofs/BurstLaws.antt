@@ -1,13 +1,14 @@
 -- A burst by what comes next, and by the step of the event that does.
 -- Assumes nothing.
 use Prim.Native.Nat.{ℕ, suc, _+_}
-use mathlib.Core.Path.{_≡_, refl, sym, ap}
+use mathlib.Core.Path.{_≡_, refl, sym, ap, _∙_}
 use mathlib.Core.Bool.{Bool, true, false}
 use mathlib.Core.List.{List}
 use native.Mathlib.Nat.{zero-add}
 use native.Mathlib.Omega.{arith}
+use native.Mathlib.Decide.{ℕ-discrete}
 use lib.ListN.{take, drop}
-use Rattle.base.proofs.TestLaws.{pick-yes, pick-no, pick-eq, pick-ne}
+use Rattle.base.proofs.TestLaws.{not-both, pick-yes, pick-no, pick-eq, pick-ne, tests}
 use Rattle.engine.specs.Outcome.{Result, stepOn}
 use Rattle.burst.specs.declared.slices.Next.{Next}
 use Rattle.burst.specs.declared.slices.Next.the-variants.{Event, Stop}
@@ -48,6 +49,26 @@ module _ (b o : List ℕ) (m : ℕ) (r : Result) (rest : Burst) where
   pub after-silent : r .number ≡ 0 → silent r ≡ true → afterStep b o m r rest ≡ behind 1 m rest
   unfolding afterStep
   after-silent h s = sym (pick-eq (r .number) 0 _ _ _ h (pick-yes (silent r) _ _ _ s refl))
+
+-- ---- a step that a burst goes on behind
+
+module _ (r : Result) where
+  silent-stored : (r .store ≡ 0 → ⊥) → false ≡ silent r
+  unfolding silent
+  silent-stored h = search tests
+
+  silent-sent : r .store ≡ 0 → (r .sent ≡ 0 → ⊥) → false ≡ silent r
+  unfolding silent
+  silent-sent h k = search tests
+
+  -- It has stored and put out nothing.
+  pub silent-nothing : silent r ≡ true → (r .store ≡ 0) × (r .sent ≡ 0)
+  silent-nothing t = go (ℕ-discrete (r .store) 0) (ℕ-discrete (r .sent) 0)
+    where
+      go : Dec (r .store ≡ 0) → Dec (r .sent ≡ 0) → (r .store ≡ 0) × (r .sent ≡ 0)
+      go (yes h) (yes k) = (h, k)
+      go (yes h) (no k) = not-both (silent-sent h k ∙ t)
+      go (no h) k = not-both (silent-stored h ∙ t)
 
 -- ---- behind others
 

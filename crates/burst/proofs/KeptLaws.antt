@@ -1,9 +1,14 @@
--- Buffers whose number is 0 keep it through a step, and a refused event leaves them: so the state is checked once.
+-- Buffers whose number is 0 keep it through a step, so the state is checked once; a refused event leaves any buffers, and a step that puts out nothing the
+-- outgoing one.
 -- Assumes nothing.
 use Prim.Native.Nat.{ℕ}
-use mathlib.Core.Path.{_≡_, refl, sym, subst}
+use mathlib.Core.Path.{_≡_, refl, sym, ap, subst}
 use mathlib.Core.Bool.{true}
-use mathlib.Core.List.{List}
+use mathlib.Core.List.{List, [], _∷_}
+use native.Mathlib.Omega.{arith}
+use lib.ListN.{length}
+use Rattle.base.specs.Tests.{_=?_}
+use Rattle.base.proofs.TestLaws.{pick-either}
 use Rattle.base.specs.Bytes.{joined, over}
 use Rattle.replication.specs.Machine.Types.{Server, Outcome, refused, taken}
 use Rattle.replication.specs.Machine.Step.{step}
@@ -11,7 +16,7 @@ use Rattle.engine.specs.Image.{image}
 use Rattle.engine.specs.Decode.{decoded, reads}
 use Rattle.engine.specs.Outcome.{Result, refusal, resultOf, stepOn, stateNumber}
 use Rattle.engine.proofs.ImageLaws.{image-reads}
-use Rattle.engine.proofs.Refusals.{Ready, number-read, zero-read, zero-ready, step-read}
+use Rattle.engine.proofs.Refusals.{Ready, number-read, zero-read, zero-ready, step-read, step-by-number}
 use Rattle.engine.proofs.Taken.{taken-ready}
 use Rattle.buffers.proofs.Keeping.{holds-long}
 
@@ -38,11 +43,35 @@ module _ (b e o : List ℕ) (z : stateNumber b o ≡ 0) where
       go (taken t rs w g) h =
           ready-zero t (image t b) (over (joined rs) o) (taken-ready (decoded b) e t rs w g h b o (zero-ready b o z))
 
+-- ---- over any buffers
+
+pub over-none : (y o : List ℕ) → length y ≡ 0 → over y o ≡ o
+unfolding over
+over-none [] o h = refl
+over-none (b ∷ y) o h = absurd (omega arith)
+
+module _ (b e o : List ℕ) where
+  by-number : (P : Result → Type 0) → ((x : Outcome (List ℕ)) → P (resultOf x b o)) → ((k : ℕ) → P (refusal k b o)) → P (stepOn b e o)
+  by-number P f g = subst P (sym (step-by-number b e o)) (pick-either P (stateNumber b o =? 0) _ _ (f (step (decoded b) e)) (g (stateNumber b o)))
+
   -- All as before.
-  pub refused-left : (stepOn b e o .number ≡ 0 → ⊥) → (stepOn b e o .state ≡ b) × (stepOn b e o .out ≡ o)
+  pub step-left : (stepOn b e o .number ≡ 0 → ⊥) → stepOn b e o ≡ refusal (stepOn b e o .number) b o
   unfolding resultOf refusal
-  refused-left = by-outcome (λ (r : Result). (r .number ≡ 0 → ⊥) → (r .state ≡ b) × (r .out ≡ o)) go
+  step-left = by-number (λ (r : Result). (r .number ≡ 0 → ⊥) → r ≡ refusal (r .number) b o) go (λ k n. refl)
     where
-      go : (x : Outcome (List ℕ)) → step (decoded b) e ≡ x → (resultOf x b o .number ≡ 0 → ⊥) → (resultOf x b o .state ≡ b) × (resultOf x b o .out ≡ o)
-      go (refused k) h n = (refl, refl)
-      go (taken t rs w g) h n = absurd (n refl)
+      go : (x : Outcome (List ℕ)) → (resultOf x b o .number ≡ 0 → ⊥) → resultOf x b o ≡ refusal (resultOf x b o .number) b o
+      go (refused k) n = refl
+      go (taken t rs w g) n = absurd (n refl)
+
+  pub refused-left : (stepOn b e o .number ≡ 0 → ⊥) → (stepOn b e o .state ≡ b) × (stepOn b e o .out ≡ o)
+  unfolding refusal
+  refused-left n = let h = step-left n in (ap (λ (r : Result). r .state) h, ap (λ (r : Result). r .out) h)
+
+  -- A step that puts out nothing leaves the outgoing buffer.
+  pub step-unsent : stepOn b e o .sent ≡ 0 → stepOn b e o .out ≡ o
+  unfolding resultOf refusal
+  step-unsent = by-number (λ (r : Result). r .sent ≡ 0 → r .out ≡ o) go (λ k n. refl)
+    where
+      go : (x : Outcome (List ℕ)) → resultOf x b o .sent ≡ 0 → resultOf x b o .out ≡ o
+      go (refused k) n = refl
+      go (taken t rs w g) n = over-none (joined rs) o n

@@ -3,3 +3,10 @@ pub mod KeptLaws
 pub mod BurstLaws
 pub mod StepsLaws
 pub mod BurstCode
+pub mod Places
+pub mod Came
+pub mod Going
+pub mod Taking
+pub mod Serving
+pub mod Daemons
+pub mod Agreement

@@ -1,15 +1,18 @@
 -- What comes next in a slice: as the code finds it, and what is known of an event that comes next.
 -- Assumes nothing.
-use Prim.Native.Nat.{ℕ, _+_, _≤_, _<_}
+use Prim.Native.Nat.{ℕ, _+_, _-_, _≤_, _<_}
 use mathlib.Core.Path.{_≡_, refl, sym, ap, subst, _∙_}
 use mathlib.Core.Bool.{Bool, true, false}
 use mathlib.Core.List.{List}
 use native.Mathlib.Omega.{arith}
-use lib.ListN.{length, take}
-use Rattle.base.specs.Tests.{_<?_, pick}
-use Rattle.base.proofs.TestLaws.{not-both, pick-as, pick-yes, pick-no, pick-lt, pick-ge, lt-fails}
+use native.Mathlib.Decide.{decLt}
+use lib.ListN.{length, getD, take, drop, take-append-drop}
+use lib.Seq.{length-take-le, take-all}
+use Rattle.base.specs.Tests.{_<?_, _=?_, pick}
+use Rattle.base.proofs.TestLaws.{not-both, pick-as, pick-yes, pick-no, pick-lt, pick-ge, lt-fails, and-holds, eq-holds, Known, holds, fails, known}
 use Rattle.base.specs.Bytes.{numberAt}
-use Rattle.format.specs.Places.{lengthSize}
+use Rattle.base.proofs.BytesLaws.{number-front, number2}
+use Rattle.format.specs.Places.{lengthSize, atBody}
 use Rattle.buffers.specs.Buffers.{isRecovery}
 use Rattle.buffers.specs.Sending.{firstSize}
 use Rattle.burst.specs.declared.slices.Next.{Next}
@@ -121,3 +124,39 @@ whole-event f e m h = go (subst (Comes f e) h (comes f e))
   where
     go : Comes f e (Event m) → Whole f e m
     go (whole m w) = w
+
+module _ (f : Bool) (e : List ℕ) (m : ℕ) (w : Whole f e m) where
+  pub whole-length : length (take m e) ≡ m
+  whole-length = length-take-le m e (w .inside)
+
+  -- It is as long as its length bytes say.
+  pub whole-said : firstSize (take m e) ≡ length (take m e)
+  whole-said =
+      let front : numberAt lengthSize e 0 ≡ numberAt lengthSize (take m e) 0
+      = ap (λ (x : List ℕ). numberAt lengthSize x 0) (sym (take-append-drop m e))
+      ∙ number-front lengthSize (take m e) (drop m e) 0 (omega (arith, whole-length, w .size)) in
+      omega (arith, front, whole-length, w .size)
+
+-- ---- no event comes first
+
+event-not-stop : {X : Type 0} (m k : ℕ) → Event m ≡ Stop k → X
+event-not-stop m k h = let z : _≡_ {A = ℕ} 0 1 = cc in absurd (omega arith)
+
+recovery-size : (e : List ℕ) → isRecovery e ≡ true → firstSize e ≡ length e
+unfolding isRecovery
+recovery-size e h =
+    let p = and-holds (length e =? atBody) _ h in
+    let p₀ = and-holds (getD e 0 0 =? 0) _ (p .1) in
+    let p₁ = and-holds (getD e 1 0 =? atBody - lengthSize) _ (p₀ .1) in
+    omega (arith, number2 e 0, eq-holds (length e) atBody (p .0), eq-holds (getD e 0 0) 0 (p₀ .0), eq-holds (getD e 1 0) (atBody - lengthSize) (p₁ .0))
+
+-- A recovery that stands first is an event that comes next.
+pub stop-running : (e : List ℕ) (k : ℕ) → nextOf true e ≡ Stop k → isRecovery (take (firstSize e) e) ≡ false
+stop-running e k h = go (decLt (length e) (firstSize e)) (known (isRecovery (take (firstSize e) e)))
+  where
+    go : Dec (length e < firstSize e) → Known (isRecovery (take (firstSize e) e)) → isRecovery (take (firstSize e) e) ≡ false
+    go (no l) r = event-not-stop _ k (next-first true e (numberAt lengthSize e 0) (omega arith) refl (omega arith) refl ∙ h)
+    go (yes l) (fails r) = r
+    go (yes l) (holds r) =
+        let all : take (firstSize e) e ≡ e = take-all (firstSize e) e (omega arith) in
+        absurd (omega (arith, recovery-size e (ap isRecovery (sym all) ∙ r)))

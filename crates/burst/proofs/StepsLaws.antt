@@ -5,15 +5,13 @@ use mathlib.Core.Path.{_≡_, refl, sym, ap, subst, _∙_}
 use mathlib.Core.Bool.{Bool, true, false}
 use mathlib.Core.List.{List, [], _∷_, _++_, append-nil}
 use native.Mathlib.Omega.{arith}
-use lib.ListN.{length, take, drop, length-drop, take-append-drop}
-use lib.Seq.{length-take-le, take-add, drop-drop}
+use lib.ListN.{length, take, drop, length-drop}
+use lib.Seq.{take-add, drop-drop}
 use Rattle.base.specs.Tests.{_and_, _=?_, pick}
 use Rattle.base.proofs.TestLaws.{pick-as, and-holds, eq-holds, eq-fails, eq-no, Known, holds, fails, known}
 use Rattle.base.proofs.Branches.{and-true, and-false}
-use Rattle.base.specs.Bytes.{numberAt, joined}
-use Rattle.base.proofs.BytesLaws.{number-front}
+use Rattle.base.specs.Bytes.{joined}
 use Rattle.base.specs.Lists.{Each}
-use Rattle.format.specs.Places.{lengthSize}
 use Rattle.engine.specs.Outcome.{Result, refusal, stepOn, stateNumber}
 use Rattle.buffers.specs.Buffers.{isRecovery}
 use Rattle.buffers.specs.Sending.{firstSize}
@@ -21,7 +19,7 @@ use Rattle.burst.specs.declared.slices.Next.{Next}
 use Rattle.burst.specs.declared.slices.Next.the-variants.{Event, Stop}
 use Rattle.burst.specs.Burst.{nextOf, Burst, stopped, ended, behind, silent, afterStep, burstFrom, burstAll, burstOn}
 use Rattle.burst.specs.Steps.{untouched, stepsAfter, Stops, unready, spoke, halted, refused, IsSteps, BurstIsSteps}
-use Rattle.burst.proofs.NextLaws.{Whole, whole-event}
+use Rattle.burst.proofs.NextLaws.{Whole, whole-event, whole-said}
 use Rattle.burst.proofs.BurstLaws.{from-stop, from-event, after-refused, after-ended, after-silent}
 
 -- No event is a recovery behind another one.
@@ -79,15 +77,8 @@ module _ (f : Bool) (b e o : List ℕ) (m : ℕ) (w : Whole f e m) where
   abbrev r : Result
   r = stepOn b (take m e) o
 
-  size-taken : length (take m e) ≡ m
-  size-taken = length-take-le m e (w .inside)
-
   size-said : firstSize (take m e) ≡ length (take m e)
-  size-said =
-      let front : numberAt lengthSize e 0 ≡ numberAt lengthSize (take m e) 0
-      = ap (λ (x : List ℕ). numberAt lengthSize x 0) (sym (take-append-drop m e))
-      ∙ number-front lengthSize (take m e) (drop m e) 0 (omega (arith, size-taken, w .size)) in
-      omega (arith, front, size-taken, w .size)
+  size-said = whole-said f e m w
 
   module _ (z : r .number ≡ 0) where
     ended-steps : silent r ≡ false → IsSteps f b e o (ended m r)

@@ -1,2 +1,5 @@
 pub mod Burst
 pub mod Steps
+pub mod Calls
+pub mod Daemons
+pub mod Claim

@@ -4,6 +4,7 @@ ghost use Rattle.base.specs.Tests.{_and_, _=?_};
 ghost use Rattle.engine.specs.Outcome.{stateNumber};
 ghost use Rattle.burst.specs.Burst.{burstAll, burstOn, stoppedBehind, left};
 ghost use Rattle.burst.specs.Steps.{BurstIsSteps};
+ghost use Rattle.burst.specs.Claim.{BurstsFollow, BurstsAgree};
 
 pub mod slices; // slices.rt: what comes next in a slice
 
@@ -96,4 +97,14 @@ pub extern "C" fn guzbytor_burst(state: &mut [u8], events: &[u8], out: &mut [u8]
 // A burst is its single steps one after another. It does nothing: its contract is the theorem.
 pub fn burst_is_steps()
     ensures { λ _. ⌜ BurstIsSteps ⌝ }
+{}
+
+// Daemons that take several waiting events by one burst keep, before every call, what daemons keep that take each event of the same run by the step.
+pub fn bursts_follow()
+    ensures { λ _. ⌜ BurstsFollow ⌝ }
+{}
+
+// So in every allowed run the green lists and the primaries read from their buffers agree, and what they send is what the run says.
+pub fn bursts_agree()
+    ensures { λ _. ⌜ BurstsAgree ⌝ }
 {}

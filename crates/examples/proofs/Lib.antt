@@ -5,6 +5,7 @@ pub mod Shown
 pub mod Merge
 pub mod LateInstall
 pub mod Stores
+pub mod GroupCommit
 pub mod OutsidersMark
 pub mod CommonMark
 pub mod RefusedRules
@@ -16,3 +17,7 @@ pub mod PartitionRun
 pub mod Partition
 pub mod CornerRun
 pub mod Corner
+pub mod OddRun
+pub mod Odd
+pub mod Figure48Run
+pub mod Figure48

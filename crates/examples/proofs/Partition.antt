@@ -6,7 +6,7 @@ use mathlib.Core.Path.{_≡_, refl}
 use mathlib.Core.Bool.{true}
 use Rattle.replication.specs.Replay.{replay}
 use Rattle.replication.specs.Runs.Run.{Run}
-use Rattle.replication.specs.Runs.Strays.{AllowedWithStrays}
+use Rattle.replication.specs.Runs.Strays.{AllowedWithStraysUp}
 use Rattle.replication.specs.Runs.Claim.{Agreement, Demand3}
 use Rattle.replication.specs.Audit.Opened.{opened}
 use Rattle.replication.specs.Audit.Strays.{auditWithStrays}
@@ -27,10 +27,10 @@ unfolding opened rows digit pairsOf hex runOf run strays witness
 passes = refl
 
 -- Allowed without its strays ..
-pub allowed : AllowedWithStrays servers quota run
+pub allowed : AllowedWithStraysUp servers quota run
 allowed = strays-sound servers quota run strays witness passes
 
 -- .. and with them all agree.
 pub agrees : Agreement servers quota run
 unfolding Demand3
-agrees = demand3 servers quota run allowed
+agrees = demand3 servers quota run (allowed .allowed)

@@ -122,7 +122,7 @@ genuine-refused = (refl, refl)
 abbrev cut-by-crash-run : Run
 cut-by-crash-run =
     event 0 (write (regular 1 1)) 0
-    ∷ event 0 (write (request (65 ∷ []))) 0
+    ∷ event 0 (write (transitional 1)) 0
     ∷ []
 
 abbrev cut-by-crash-witness : Witness
@@ -175,22 +175,44 @@ stores-up-refused : Refused 2 2 stores-up-run stores-up-witness ("stores-up" ∷
 unfolding opened
 stores-up-refused = (refl, refl)
 
--- A store between a cut event and the next one is no crash.
+-- A store between a cut event and the next one is no crash, and a request that sends nothing is none either.
 abbrev stored-cut-run : Run
 stored-cut-run =
     event 0 (write (regular 1 1)) 0
     ∷ store 0
     ∷ event 0 (write (request (65 ∷ []))) 0
+    ∷ event 0 (write (transitional 1)) 0
     ∷ []
 
 abbrev stored-cut-witness : Witness
 stored-cut-witness = record {
   sources = [];
   names = [];
-  ords = 0 ∷ 1 ∷ 2 ∷ [];
+  ords = 0 ∷ 1 ∷ 2 ∷ 3 ∷ [];
   sendingOrds = [];
 }
 
 stored-cut-refused : Refused 2 2 stored-cut-run stored-cut-witness ("cut-by-crash" ∷ [])
 unfolding opened
 stored-cut-refused = (refl, refl)
+
+-- Behind a request whose record is not sent the next one's is.
+abbrev sent-behind-cut-run : Run
+sent-behind-cut-run =
+    event 1 (write (regular 1 2)) 1
+    ∷ event 1 (write (state (told 1 1 (0 ∷ 0 ∷ []) 0 0 (primary 0 0 3) unmarked no-yellow))) 0
+    ∷ event 1 (write (request (65 ∷ []))) 0
+    ∷ event 1 (write (request (66 ∷ []))) 1
+    ∷ []
+
+abbrev sent-behind-cut-witness : Witness
+sent-behind-cut-witness = record {
+  sources = [];
+  names = [];
+  ords = 0 ∷ 2 ∷ 3 ∷ 4 ∷ [];
+  sendingOrds = (1 ∷ []) ∷ [] ∷ [] ∷ (5 ∷ []) ∷ [];
+}
+
+sent-behind-cut-refused : Refused 2 2 sent-behind-cut-run sent-behind-cut-witness ("cut-by-crash" ∷ [])
+unfolding opened
+sent-behind-cut-refused = (refl, refl)

@@ -91,7 +91,7 @@ read-written c r ok =
     (record {
       kind = kindOf r;
       named = ap kindNamed (f .kindByte) ∙ kind-named (kindOf r);
-      frame = both-yes _ _ (eq-yes _ _ (omega (arith, f .long))) (both-yes _ _ (eq-yes _ _ (f .versionByte)) (eq-yes _ _ (b .long ∙ sym (write-length r))));
+      frame = both-yes _ _ (eq-yes _ _ (omega (arith, f .long))) (both-yes _ _ (rw (f .versionByte) (eq-yes _ _ refl)) (eq-yes _ _ (b .long ∙ sym (write-length r))));
       same = b .same;
       range = ok;
     })

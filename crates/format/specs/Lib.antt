@@ -5,4 +5,5 @@ pub mod Range
 pub mod Write
 pub mod Read
 pub mod Setup
+pub mod RoundTrip
 pub mod Opened

@@ -9,6 +9,7 @@ pub mod Kept
 pub mod Advance
 pub mod Listed
 pub mod PairsHold
+pub mod Refusals
 pub mod Regions
 pub mod Nearest
 pub mod QueryPairsHold

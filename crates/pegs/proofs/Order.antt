@@ -12,6 +12,15 @@ use Rattle.pegs.specs.Names.{before}
 
 -- ---- the order of names
 
+-- The first bytes decide, whatever follows; then what follows.
+is-lower : (a b : ℕ) (u v : List ℕ) → a < b → before (a ∷ u) (b ∷ v) ≡ true
+unfolding before _or_
+is-lower a b u v h = rw (lt-yes a b h)
+
+is-level : (a b : ℕ) (u v : List ℕ) → a ≡ b → before u v ≡ true → before (a ∷ u) (b ∷ v) ≡ true
+unfolding before _or_ _and_
+is-level a b u v h e = rw (lt-no a b (omega arith), eq-yes a b h, e)
+
 pub data First (a b : ℕ) (u v : List ℕ) : Type 0 where
   lower : a < b → First a b u v
   level : a ≡ b → before u v ≡ true → First a b u v
@@ -23,14 +32,6 @@ first? a b u v e = go (known (a <? b))
     go : Known (a <? b) → First a b u v
     go (holds f) = lower (lt-holds a b f)
     go (fails f) = let h = and-holds (a =? b) (before u v) (rw f at e) in level (eq-holds a b (h .0)) (h .1)
-
-is-lower : (a b : ℕ) (u v : List ℕ) → a < b → before (a ∷ u) (b ∷ v) ≡ true
-unfolding before _or_
-is-lower a b u v h = rw (lt-yes a b h)
-
-is-level : (a b : ℕ) (u v : List ℕ) → a ≡ b → before u v ≡ true → before (a ∷ u) (b ∷ v) ≡ true
-unfolding before _or_ _and_
-is-level a b u v h e = rw (lt-no a b (omega arith), eq-yes a b h, e)
 
 pub before-trans : (u v w : List ℕ) → before u v ≡ true → before v w ≡ true → before u w ≡ true
 unfolding before

@@ -16,6 +16,7 @@ unfolding
     leads rising pegFits formed
 pairs-hold = record {
   two-names = refl;
+  bytes-first = refl;
   again = refl;
   moved = refl;
   name-24 = refl;
@@ -35,6 +36,8 @@ pairs-hold = record {
   refused-move = refl;
   in-order = refl;
   out-of-order = refl;
+  bytes-in-order = refl;
+  bytes-out-of-order = refl;
   twice = refl;
   out-of-range = refl;
   highest = refl;

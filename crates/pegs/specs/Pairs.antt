@@ -30,6 +30,13 @@ short = 97 ∷ []
 abbrev pub longer : List ℕ
 longer = 97 ∷ 0 ∷ []
 
+-- The names `aa` and `b`.
+abbrev pub nameAa : List ℕ
+nameAa = 97 ∷ 97 ∷ []
+
+abbrev pub nameB : List ℕ
+nameB = 98 ∷ []
+
 -- 4,096 pegs: their names are the numbers from 1 on, in two bytes.
 abbrev pub full : List Peg
 full = map (λ k. peg (bytesOf 2 k) k k) (after 0 4096)
@@ -39,6 +46,8 @@ full = map (λ k. peg (bytesOf 2 k) k k) (after 0 4096)
 pub record Pairs : Type 0 where
   -- "Names count whole, every byte": these are two names, and the shorter one stands first.
   pub two-names : registerOf (placed setByte longer 3 4 ∷ placed setByte short 1 2 ∷ []) ≡ peg short 1 2 ∷ peg longer 3 4 ∷ []
+  -- "in byte order of name": bytes decide before lengths, `aa` stands before `b`.
+  pub bytes-first : registerOf (placed setByte nameB 1 2 ∷ placed setByte nameAa 3 4 ∷ []) ≡ peg nameAa 3 4 ∷ peg nameB 1 2 ∷ []
   -- "A retired name may be set again."
   pub again : registerOf (placed setByte short 1 2 ∷ retireOf short ∷ placed setByte short 3 4 ∷ []) ≡ peg short 3 4 ∷ []
   pub moved : registerOf (placed setByte short 1 2 ∷ placed moveByte short 3 4 ∷ []) ≡ peg short 3 4 ∷ []
@@ -64,6 +73,8 @@ pub record Pairs : Type 0 where
   -- "8 a register .. out of range or order or with a name twice"
   pub in-order : formed (peg short 1 2 ∷ peg longer 1 2 ∷ []) ≡ true
   pub out-of-order : formed (peg longer 1 2 ∷ peg short 1 2 ∷ []) ≡ false
+  pub bytes-in-order : formed (peg nameAa 3 4 ∷ peg nameB 1 2 ∷ []) ≡ true
+  pub bytes-out-of-order : formed (peg nameB 1 2 ∷ peg nameAa 3 4 ∷ []) ≡ false
   pub twice : formed (peg short 1 2 ∷ peg short 3 4 ∷ []) ≡ false
   pub out-of-range : formed (peg short 4294967296 2 ∷ []) ≡ false
   -- "signed 32-bit"

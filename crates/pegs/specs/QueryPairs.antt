@@ -1,15 +1,22 @@
 -- Closed instances of the rules for pegs in the plane, one table, one theorem. Document 02, K5.
 -- Assumes nothing.
+use Prim.Native.Nat.{ℕ, _-_, _*_}
 use mathlib.Core.Path.{_≡_}
 use mathlib.Core.Bool.{true, false}
-use mathlib.Core.List.{[], _∷_}
+use mathlib.Core.List.{List, [], _∷_}
 use mathlib.Core.Option.{none, some}
 use lib.IntN.{ℤ, pos, negsuc}
+use Rattle.base.specs.Bytes.{zeros}
 use Rattle.plane.specs.declared.Point.{Point}
 use Rattle.plane.specs.declared.Rectangle.{Rectangle}
+use Rattle.plane.specs.declared.Region.the-variants.{Inside}
 use Rattle.plane.specs.Plane.{inRectangle, sidesRise, squaredDistance, withinRadius}
 use Rattle.pegs.specs.Pairs.{peg, short, longer}
+use Rattle.pegs.specs.Register.{mostPegs}
+use Rattle.pegs.specs.Image.{pegSize, registerLength, registerImage}
+use Rattle.pegs.specs.Outcome.{changed}
 use Rattle.pegs.specs.Regions.{nearest}
+use Rattle.pegs.specs.Queries.{regionOn}
 
 -- ---- points and rectangles of the table
 
@@ -29,6 +36,28 @@ highest = pos 2147483647
 abbrev pub sheet : Rectangle
 sheet = sides (negsuc 9) (negsuc 19) (pos 30) (pos 40)
 
+-- The west side lies east of the east side.
+abbrev pub crossed : Rectangle
+crossed = sides (pos 6) (pos 0) (pos 5) (pos 9)
+
+-- ---- buffers of the table
+
+-- The empty register.
+abbrev pub blank : List ℕ
+blank = zeros registerLength
+
+-- One peg, on the sheet.
+abbrev pub onePeg : List ℕ
+onePeg = registerImage (peg short 1 2 ∷ []) blank
+
+-- As long, and no register: its one peg has no name.
+abbrev pub nameless : List ℕ
+nameless = 0 ∷ 1 ∷ zeros (pegSize * mostPegs)
+
+-- One byte below the formula.
+abbrev pub tooShort : List ℕ
+tooShort = zeros (registerLength - 1)
+
 -- ---- the table
 
 pub record QueryPairs : Type 0 where
@@ -43,6 +72,15 @@ pub record QueryPairs : Type 0 where
   pub one-point : sidesRise (sides (pos 5) (pos 6) (pos 5) (pos 6)) ≡ true
   pub west-of-east : sidesRise (sides (pos 6) (pos 0) (pos 5) (pos 9)) ≡ false
   pub south-of-north : sidesRise (sides (pos 0) (pos 6) (pos 9) (pos 5)) ≡ false
+  -- "Refused: 12 a rectangle whose low side exceeds its high side"; "Before these, here and later: 7 a buffer below its formula, then 8 a
+  -- register .. out of range or order or with a name twice; no refusal changes anything lent"
+  pub seven-first : regionOn (Inside crossed) [] [] ≡ changed 7 []
+  pub then-eight : regionOn (Inside crossed) nameless blank ≡ changed 8 blank
+  pub then-twelve : regionOn (Inside crossed) onePeg blank ≡ changed 12 blank
+  pub taken : regionOn (Inside sheet) onePeg blank ≡ changed 0 onePeg
+  -- The answer's buffer counts for 7 and never for 8: what it holds is not read.
+  pub answer-short : regionOn (Inside sheet) onePeg tooShort ≡ changed 7 tooShort
+  pub answer-nameless : regionOn (Inside sheet) onePeg nameless ≡ changed 0 onePeg
   -- "Distances use full-range coordinates without wrapping": twice the square of 2^32 - 1, more than 2^64
   pub across : squaredDistance (point lowest lowest) (point highest highest) ≡ 36893488130239234050
   -- "within a whole number of millimetres, 0 to 4,294,967,295": at the edge, and squares that differ by 1

@@ -9,7 +9,7 @@ pub fn names_are_given()
     ensures { λ _. ⌜ NamesTheorem ⌝ }
 {}
 
-// Instances of the register's rules: which payloads are operations, and the numbers that they get.
+// Instances of the register's rules: the order of names, which payloads are operations, and the numbers that they get.
 pub fn pairs()
     ensures { λ _. ⌜ Pairs ⌝ }
 {}
@@ -24,7 +24,7 @@ pub fn nearest_is_least()
     ensures { λ _. ⌜ NearestTheorem ⌝ }
 {}
 
-// Instances of the rules for pegs in the plane: edges, the largest distances, ties.
+// Instances of the rules for pegs in the plane: edges, the order of refusals, the largest distances, ties.
 pub fn query_pairs()
     ensures { λ _. ⌜ QueryPairs ⌝ }
 {}

@@ -13,9 +13,8 @@ use Rattle.replication.specs.Runs.Run.{event, crash, store}
 use Rattle.engine.specs.Outcome.{word}
 use Rattle.buffers.specs.Buffers.{isRecovery, sourceIn, keptAfter, saved}
 use Rattle.buffers.proofs.BufferLaws.{source-stored, source-running}
-use Rattle.register_runs.specs.Joint.{Joint, jointOn}
+use Rattle.register_runs.specs.Joint.{Joint, stepPart, jointOn}
 use Rattle.register_runs.specs.Depots.{Depot, savedAll, jointIn, depotAfter, Depots, depotsAfter}
-use Rattle.register_runs.proofs.JointLaws.{stepPart}
 
 -- ---- a store
 

@@ -10,34 +10,34 @@ use lib.ListN.{length, drop}
 use Rattle.base.specs.Tests.{pick}
 use Rattle.base.specs.Lists.{at}
 use Rattle.replication.specs.Machine.Types.{Server, start}
-use Rattle.replication.specs.Images.{started}
-use Rattle.replication.specs.Runs.Run.{Entry, store, Run, World, beginning, worldAfter, worldAt}
-use Rattle.replication.specs.Runs.Strays.{AllowedWithStrays}
+use Rattle.replication.specs.Images.{started, arrive}
+use Rattle.replication.specs.Runs.Run.{Entry, event, store, Run, World, beginning, worldAfter, worldAt}
+use Rattle.replication.specs.Runs.Strays.{AllowedWithStraysUp}
 use Rattle.replication.specs.Runs.Claim.{ListsAgree}
 use Rattle.replication.proofs.Runs.Places.{world-at-start, world-next, world-past}
 use Rattle.engine.specs.Decode.{decoded, greensIn}
 use Rattle.engine.specs.Holding.{Holds}
 use Rattle.engine.proofs.InPlace.{holds-decoded}
-use Rattle.buffers.specs.Buffers.{Buffers}
+use Rattle.buffers.specs.Buffers.{Buffers, sourceIn, stepIn}
 use Rattle.buffers.specs.Daemons.{Daemons, daemonsAfter, daemonsAt}
 use Rattle.buffers.specs.Claim.{shown, BuffersDemand}
 use Rattle.buffers.proofs.BufferLaws.{saved-state, saved-store}
 use Rattle.buffers.proofs.Entries.{Kept}
-use Rattle.buffers.proofs.Runs.{down-recovers, store-up, out-room, kept-at, event-keeps}
+use Rattle.buffers.proofs.Runs.{event-below, down-recovers, store-up, out-room, kept-at, event-keeps}
 use Rattle.buffers.proofs.Agreement.{buffers-demand}
 use Rattle.pegs.specs.Operations.{Peg}
 use Rattle.pegs.specs.Register.{advance}
 use Rattle.pegs.specs.Image.{registerBytes}
 use Rattle.pegs.specs.Outcome.{emptyOn}
-use Rattle.register_runs.specs.Joint.{payloads}
-use Rattle.register_runs.specs.Depots.{begunAll, Depots, Lent, LongEnoughAll, depotsAfter, depotsAt}
+use Rattle.register_runs.specs.Joint.{stepPart, payloads, jointOf}
+use Rattle.register_runs.specs.Depots.{begunAll, jointIn, Depots, Lent, LongEnoughAll, depotsAfter, depotsAt}
 use Rattle.register_runs.specs.Claim.{shownRegister, shownGreen, DepotsFollow, DepotsAgree}
 use Rattle.register_runs.proofs.Agreement.{same-folds, further-fold}
 use Rattle.register_runs.proofs.Holding.{HoldsFold, fold-read, fold-used, fold-empty}
 use Rattle.register_runs.proofs.Joining.{FoldsWhere}
-use Rattle.register_runs.proofs.Entries.{Follows, Fits, entry-follows}
+use Rattle.register_runs.proofs.Entries.{Follows, Fits, event-part, event-outcome, entry-follows}
 
-module _ {n q : ℕ} {l : Run} (S : AllowedWithStrays n q l) (x : Lent) (long : LongEnoughAll n q l x) where
+module _ {n q : ℕ} {l : Run} (S : AllowedWithStraysUp n q l) (x : Lent) (long : LongEnoughAll n q l x) where
   abbrev world : ℕ → World
   world p = worldAt n q l p
 
@@ -111,12 +111,30 @@ module _ {n q : ℕ} {l : Run} (S : AllowedWithStrays n q l) (x : Lent) (long : 
       let f = follows-at p i b in
       held-fold _ _ _ _ (ap (λ (y : Buffers). y .store) (f .states)) (kept p i b .keeps .store) (f .folds .store)
 
+  -- ---- what is answered
+
+  module _ (p i k : ℕ) (e : List ℕ) (h : at l p ≡ some (event i e k)) where
+    here : Follows (world p) (daemons p) (depots p) i
+    here = follows-at p i (event-below S p i k e h)
+
+    its : Fits (world p) (daemons p) (x .states .out p) i (event i e k)
+    its = fits p i (event i e k) h
+
+    answer-is : stepPart (jointIn (depots p .depot i) e (x .states .out p)) ≡ stepIn (daemons p .buffers i) e (x .states .out p)
+    answer-is = event-part _ _ _ _ _ _ here e (x .states .out p) (its .recovers e k refl) (its .keeps e k refl) (its .room)
+
+    outcome-is : jointIn (depots p .depot i) e (x .states .out p)
+        ≡ jointOf (arrive (world p .images i) e) (sourceIn (depots p .depot i .states) e) (sourceIn (depots p .depot i .registers) e) (x .states .out p)
+    outcome-is = event-outcome _ _ _ _ _ _ here e (x .states .out p) (its .recovers e k refl) (its .keeps e k refl) (its .room)
+
   pub depots-follow : DepotsFollow n q l x
   depots-follow = record {
     states = λ p i b. follows-at p i b .states;
     down = λ p i b. follows-at p i b .down;
     memory = λ p i b d. fold-read _ _ (memory-fold p i b d);
     store = λ p i b. fold-read _ _ (store-fold p i b);
+    answer = answer-is;
+    outcome = outcome-is;
   }
 
   -- ---- agreement

@@ -13,16 +13,16 @@ use Rattle.base.proofs.AtLaws.{upd-here, upd-elsewhere}
 use Rattle.replication.specs.Images.{Images, arrive, leftBy, savedIn}
 use Rattle.replication.specs.Runs.Run.{Entry, event, crash, store, World, downAfter, worldAfter}
 use Rattle.engine.specs.Layout.{outLength}
-use Rattle.engine.specs.Outcome.{Result}
-use Rattle.buffers.specs.Buffers.{Buffers, isRecovery, stepIn, keptAfter, saved}
+use Rattle.buffers.specs.Buffers.{Buffers, isRecovery, sourceIn, stepIn, keptAfter, saved}
 use Rattle.buffers.specs.Daemons.{Daemons, daemonsAfter}
 use Rattle.buffers.proofs.BufferLaws.{event-buffers, event-down, crash-buffers, crash-down, store-buffers}
 use Rattle.buffers.proofs.Keeping.{KeepsWhere}
+use Rattle.register_runs.specs.Joint.{stepPart, jointOf}
 use Rattle.register_runs.specs.Depots.{Depot, savedAll, jointIn, depotAfter, Depots, depotsAfter}
 use Rattle.register_runs.proofs.DepotLaws as depots
 use Rattle.register_runs.proofs.DepotLaws.{saved-states, saved-register, stored-register, event-depot, crash-depot, store-depot}
 use Rattle.register_runs.proofs.Holding.{HoldsFold}
-use Rattle.register_runs.proofs.Joining.{FoldsWhere, joint-part, states-after, registers-after}
+use Rattle.register_runs.proofs.Joining.{FoldsWhere, joint-part, joint-is, states-after, registers-after}
 
 -- A server's depot d: whether the server is down by the world, by a daemon without registers and by the depot; what it has; the daemon's buffers.
 pub record FollowsAs (u : Bool) (i : Images) (v : Bool) (b : Buffers) (w : Bool) (d : Depot) : Type 0 where
@@ -43,15 +43,8 @@ folds-where g f = record { memory = λ v. f .memory (g v); store = f .store }
 -- ---- at the entry's own server
 
 module _ (u : Bool) (i : Images) (v : Bool) (b : Buffers) (w : Bool) (d : Depot) (f : FollowsAs u i v b w d) where
-  event-follows : (e o : List ℕ) → (u ≡ true → isRecovery e ≡ true) → KeepsWhere (isRecovery e ≡ false) i b
-      → outLength (i .memory .servers) (i .memory .quota) ≤ length o
-      → FollowsAs (downAfter (arrive i e) u) (leftBy (arrive i e) i) (pick (stepIn b e o .number =? 0) false v) (keptAfter b (stepIn b e o))
-      (pick (jointIn d e o .number =? 0) false w) (depotAfter d (jointIn d e o))
-  event-follows e o recovers keeps room = record {
-    down = λ j. pick (number j =? 0) false (f .down j);
-    states = states-after i d e o k g room ∙ ap (λ (x : Buffers). keptAfter x (stepIn x e o)) (f .states);
-    folds = folds-where (λ h. tt) (registers-after i d e o k g room);
-  }
+  module _ (e o : List ℕ) (recovers : u ≡ true → isRecovery e ≡ true) (keeps : KeepsWhere (isRecovery e ≡ false) i b)
+      (room : outLength (i .memory .servers) (i .memory .quota) ≤ length o)
     where
       up : (u : Bool) → (u ≡ true → isRecovery e ≡ true) → isRecovery e ≡ false → u ≡ false
       up true h r = not-both (sym r ∙ h refl)
@@ -63,8 +56,19 @@ module _ (u : Bool) (i : Images) (v : Bool) (b : Buffers) (w : Bool) (d : Depot)
       g : FoldsWhere (isRecovery e ≡ false) i (d .registers)
       g = folds-where (λ r. up u recovers r) (f .folds)
 
-      number : jointIn d e o .number ≡ stepIn b e o .number
-      number = ap (λ (x : Result). x .number) (joint-part i d e o k g room) ∙ ap (λ (x : Buffers). stepIn x e o .number) (f .states)
+      pub event-part : stepPart (jointIn d e o) ≡ stepIn b e o
+      event-part = joint-part i d e o k g room ∙ ap (λ (x : Buffers). stepIn x e o) (f .states)
+
+      pub event-outcome : jointIn d e o ≡ jointOf (arrive i e) (sourceIn (d .states) e) (sourceIn (d .registers) e) o
+      event-outcome = joint-is i d e o k g room
+
+      event-follows : FollowsAs (downAfter (arrive i e) u) (leftBy (arrive i e) i) (pick (stepIn b e o .number =? 0) false v)
+          (keptAfter b (stepIn b e o)) (pick (jointIn d e o .number =? 0) false w) (depotAfter d (jointIn d e o))
+      event-follows = record {
+        down = λ j. pick (event-part j .number =? 0) false (f .down j);
+        states = states-after i d e o k g room ∙ ap (λ (x : Buffers). keptAfter x (stepIn x e o)) (f .states);
+        folds = folds-where (λ h. tt) (registers-after i d e o k g room);
+      }
 
   crash-follows : (c r : List ℕ)
       → FollowsAs true i true (record { state = c; store = b .store }) true

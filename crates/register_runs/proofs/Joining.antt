@@ -22,9 +22,9 @@ use Rattle.buffers.proofs.RecoveryLaws.{recovery-read}
 use Rattle.buffers.proofs.BufferLaws.{source-stored, source-running}
 use Rattle.buffers.proofs.Keeping.{KeepsWhere, formed-context, holds-long}
 use Rattle.buffers.proofs.Arriving.{source-holds, refused-running, room-here}
-use Rattle.register_runs.specs.Joint.{Joint, unjoined, jointOf}
+use Rattle.register_runs.specs.Joint.{Joint, stepPart, unjoined, jointOf}
 use Rattle.register_runs.specs.Depots.{Depot, jointIn, depotAfter}
-use Rattle.register_runs.proofs.JointLaws.{zero-joint, stepPart, joint-step, joint-read}
+use Rattle.register_runs.proofs.JointLaws.{zero-joint, joint-step, joint-read}
 use Rattle.register_runs.proofs.DepotLaws.{joint-source, left-states, left-register, left-word}
 use Rattle.register_runs.proofs.Holding.{HoldsFold, holds-taken}
 
@@ -74,7 +74,8 @@ module _ (i : Images) (d : Depot) (e o : List ℕ) (k : KeepsWhere (isRecovery e
     unfolding stepIn
     joint-part = ap (λ (x : Joint). stepPart x) (sym (joint-source d e o)) ∙ joint-step before register e o (source-folds .number)
 
-    joint-is : jointIn d e o ≡ jointOf (step s e) before register o
+    pub joint-is : jointIn d e o ≡ jointOf (arrive i e) before register o
+    unfolding arrive
     joint-is =
         sym (joint-source d e o)
         ∙ joint-read before register e o (zero-joint before register o state-zero (source-folds .number))

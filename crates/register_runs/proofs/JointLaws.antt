@@ -6,15 +6,15 @@ use mathlib.Core.Bool.{Bool, true, false}
 use mathlib.Core.List.{List}
 use native.Mathlib.Omega.{arith}
 use Rattle.base.specs.Tests.{_or_, _and_, _=?_, pick}
-use Rattle.base.proofs.TestLaws.{pick-eq}
+use Rattle.base.proofs.TestLaws.{pick-eq, choices}
 use Rattle.replication.specs.Machine.Types.{Outcome, refused, taken}
 use Rattle.replication.specs.Machine.Step.{step}
 use Rattle.engine.specs.Decode.{decoded, reads}
-use Rattle.engine.specs.Outcome.{Result, refusal, tooShort, resultOf, stepOn, stateNumber}
+use Rattle.engine.specs.Outcome.{refusal, tooShort, resultOf, stepOn, stateNumber}
 use Rattle.engine.proofs.Refusals.{step-by-number}
 use Rattle.pegs.specs.Image.{registerReads}
 use Rattle.pegs.specs.Outcome.{registerShort, registerNumber}
-use Rattle.register_runs.specs.Joint.{Joint, unjoined, jointOf, jointNumber, jointOn}
+use Rattle.register_runs.specs.Joint.{stepPart, unjoined, jointOf, jointNumber, jointOn}
 
 -- ---- the number of all three buffers
 
@@ -52,14 +52,10 @@ module _ (b r o : List ℕ) where
 
 -- ---- the answer
 
--- What the step answers too.
-abbrev pub stepPart : Joint → Result
-stepPart x = record { number = x .number; store = x .store; sent = x .sent; state = x .state; out = x .out }
-
 part-of : (x : Outcome (List ℕ)) (b r o : List ℕ) → stepPart (jointOf x b r o) ≡ resultOf x b o
 unfolding jointOf resultOf unjoined refusal
-part-of (refused k) b r o = refl
-part-of (taken t rs w g) b r o = refl
+part-of (refused k) b r o = search choices
+part-of (taken t rs w g) b r o = search choices
 
 part-picked : (c : Bool) (k : ℕ) (x : Outcome (List ℕ)) (b r o : List ℕ)
     → stepPart (pick c (jointOf x b r o) (unjoined k b r o)) ≡ pick c (resultOf x b o) (refusal k b o)

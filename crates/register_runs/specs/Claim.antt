@@ -7,18 +7,21 @@ use mathlib.Core.List.{List}
 use mathlib.Core.Option.{some}
 use lib.ListN.{length, drop}
 use Rattle.base.specs.Tests.{pick}
+use Rattle.base.specs.Lists.{at}
 use Rattle.format.specs.Types.{Action}
-use Rattle.replication.specs.Runs.Run.{Run, worldAt}
-use Rattle.replication.specs.Runs.Strays.{AllowedWithStrays}
+use Rattle.replication.specs.Images.{arrive}
+use Rattle.replication.specs.Runs.Run.{event, Run, worldAt}
+use Rattle.replication.specs.Runs.Strays.{AllowedWithStrays, AllowedWithStraysUp}
 use Rattle.replication.specs.Runs.Claim.{storedGreen, memoryGreen, greenAt}
 use Rattle.engine.specs.Decode.{greensIn}
+use Rattle.buffers.specs.Buffers.{sourceIn, stepIn}
 use Rattle.buffers.specs.Daemons.{daemonsAt}
 use Rattle.pegs.specs.Operations.{Peg}
 use Rattle.pegs.specs.Register.{advance, registerOf}
 use Rattle.pegs.specs.Image.{pegsIn, readRegister, usedIn}
-use Rattle.register_runs.specs.Joint.{payloads}
+use Rattle.register_runs.specs.Joint.{stepPart, payloads, jointOf}
 use Rattle.register_runs.specs.Registers.{registersAt}
-use Rattle.register_runs.specs.Depots.{Depots, Lent, LongEnoughAll, depotsAt}
+use Rattle.register_runs.specs.Depots.{jointIn, Depots, Lent, LongEnoughAll, depotsAt}
 
 -- ---- the machine's
 
@@ -60,6 +63,15 @@ module _ (n q : ℕ) (l : Run) (x : Lent) where
         → readRegister (depots p .depot i .registers .state) ≡ some (registerOf (payloads (greensIn (depots p .depot i .states .state))))
     pub store : (p i : ℕ) → i < n
         → readRegister (depots p .depot i .registers .store) ≡ some (registerOf (payloads (greensIn (depots p .depot i .states .store))))
+    -- Number, store word, length of records, state and outgoing buffer are the step's on the states' buffers: so what `BuffersFollow` says of
+    -- answers, bytes, records and what is sent holds of the joint step ..
+    pub answer : (p i k : ℕ) (e : List ℕ) → at l p ≡ some (event i e k)
+        → stepPart (jointIn (depots p .depot i) e (x .states .out p)) ≡ stepIn (daemonsAt n q l (x .states) p .buffers i) e (x .states .out p)
+    -- .. and all of its answer is made of the machine's: the actions that it counts and applies are those that turned green.
+    pub outcome : (p i k : ℕ) (e : List ℕ) → at l p ≡ some (event i e k)
+        → jointIn (depots p .depot i) e (x .states .out p)
+        ≡ jointOf (arrive (worldAt n q l p .images i) e) (sourceIn (depots p .depot i .states) e) (sourceIn (depots p .depot i .registers) e)
+        (x .states .out p)
 
   pub record DepotsAgree : Type 0 where
     -- "equal registers, byte for byte in use"
@@ -72,5 +84,5 @@ module _ (n q : ℕ) (l : Run) (x : Lent) where
 pub record RegistersClaim : Type 0 where
   pub folds : (n q : ℕ) (l : Run) → RegistersFold n q l
   pub agree : (n q : ℕ) (l : Run) → AllowedWithStrays n q l → RegistersAgree n q l
-  pub depots : (n q : ℕ) (l : Run) → AllowedWithStrays n q l → (x : Lent) → LongEnoughAll n q l x
+  pub depots : (n q : ℕ) (l : Run) → AllowedWithStraysUp n q l → (x : Lent) → LongEnoughAll n q l x
       → DepotsFollow n q l x × DepotsAgree n q l x

@@ -11,7 +11,7 @@ use Rattle.replication.specs.Machine.Types.{Outcome, refused, taken}
 use Rattle.replication.specs.Machine.Step.{step}
 use Rattle.engine.specs.Image.{image}
 use Rattle.engine.specs.Decode.{decoded, reads}
-use Rattle.engine.specs.Outcome.{word, tooShort}
+use Rattle.engine.specs.Outcome.{Result, word, tooShort}
 use Rattle.pegs.specs.Register.{refusals}
 use Rattle.pegs.specs.Image.{pegsIn, registerReads}
 use Rattle.pegs.specs.Outcome.{registerShort, appliedAll}
@@ -27,6 +27,10 @@ pub record Joint : Type 0 where
   pub state : List ℕ
   pub register : List ℕ
   pub out : List ℕ
+
+-- What the step answers too.
+abbrev pub stepPart : Joint → Result
+stepPart x = record { number = x .number; store = x .store; sent = x .sent; state = x .state; out = x .out }
 
 -- "no refusal changes anything lent"
 unfoldable pub unjoined : ℕ → (state register out : List ℕ) → Joint

@@ -18,8 +18,8 @@ use Rattle.burst.specs.declared.slices.Next.the-variants.{Event, Stop}
 use Rattle.burst.specs.Burst as engine
 use Rattle.burst.specs.Burst.{nextOf, byNext}
 use Rattle.burst.proofs.BurstLaws as steps
-use Rattle.register_runs.specs.Joint.{Joint, jointNumber, jointOn}
-use Rattle.register_runs.proofs.JointLaws.{joint-zero, stepPart, joint-step}
+use Rattle.register_runs.specs.Joint.{Joint, stepPart, jointNumber, jointOn}
+use Rattle.register_runs.proofs.JointLaws.{joint-zero, joint-step}
 use Rattle.register_step.specs.declared.carrying.Carried.{Carried}
 use Rattle.register_step.specs.Carrying.{CarryReady, carryOn, carriedBy}
 use Rattle.register_step.specs.Burst.{JointBurst, stopped, ended, behind, silent, afterJoint, burstFrom, burstAll, jointBurstOn, left, refusedBurst}

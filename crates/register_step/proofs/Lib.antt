@@ -3,3 +3,6 @@ pub mod JointLaws
 pub mod StepLaws
 pub mod CarryLaws
 pub mod BurstLaws
+pub mod Server
+pub mod Depots
+pub mod Agreement

@@ -20,8 +20,8 @@ use Rattle.burst.proofs.KeptLaws.{step-kept, refused-left}
 use Rattle.pegs.specs.Outcome.{registerNumber}
 use Rattle.step.specs.declared.Answer.{Answer}
 use Rattle.step.specs.Answers.{answered}
-use Rattle.register_runs.specs.Joint.{Joint, unjoined, jointNumber, jointOn}
-use Rattle.register_runs.proofs.JointLaws.{joint-zero, stepPart, joint-step}
+use Rattle.register_runs.specs.Joint.{Joint, stepPart, unjoined, jointNumber, jointOn}
+use Rattle.register_runs.proofs.JointLaws.{joint-zero, joint-step}
 use Rattle.register_step.specs.declared.carrying.Carried.{Carried}
 use Rattle.register_step.specs.declared.RegisterAnswer.{RegisterAnswer}
 use Rattle.register_step.specs.Carrying.{CarryReady, carryOn, carriedBy}
@@ -74,7 +74,7 @@ module _ (b r o : List ℕ) (ready : jointNumber b r o ≡ 0) where
     unfolding joined unjoined answered
     step-refused x n h =
         let number : stepOn b e o .number ≡ a .number = sym (ap (λ (v : Result). v .number) is-step) in
-        let kept = refused-left b e o ready-state (λ q. n (sym number ∙ q)) in
+        let kept = refused-left b e o (λ q. n (sym number ∙ q)) in
         let state : b₁ ≡ b = ap (λ (v : Result). v .state) is-step ∙ kept .0 in
         let out : o₁ ≡ o = ap (λ (v : Result). v .out) is-step ∙ kept .1 in
         (λ i. joined (h i) (state i) r (out i))

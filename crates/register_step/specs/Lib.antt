@@ -1,3 +1,5 @@
 pub mod Carrying
 pub mod Answers
 pub mod Burst
+pub mod Depots
+pub mod Claim

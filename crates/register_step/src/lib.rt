@@ -3,6 +3,7 @@ ghost use mathlib.Core.Path.{_≡_};
 ghost use Rattle.register_runs.specs.Joint.{jointNumber};
 ghost use Rattle.register_step.specs.Answers.{refusedWith, AnswersJointly, AllRead};
 ghost use Rattle.register_step.specs.Burst.{AnswersAll};
+ghost use Rattle.register_step.specs.Claim.{JointBurstsFollow, JointBurstsAgree};
 
 pub mod carrying; // carrying.rt: green actions applied to the register
 
@@ -147,3 +148,14 @@ pub extern "C" fn guzbytor_register_burst(
     }
     take_burst(state, register, events, out)
 }
+
+// Daemons that keep registers and take several waiting events by one burst keep, before every call, what daemons keep that take each event of the
+// same run by the joint step. It does nothing: its contract is the theorem.
+pub fn joint_bursts_follow()
+    ensures { λ _. ⌜ JointBurstsFollow ⌝ }
+{}
+
+// So in every allowed run their registers agree, byte for byte in use, where the green lists are equally long.
+pub fn joint_bursts_agree()
+    ensures { λ _. ⌜ JointBurstsAgree ⌝ }
+{}

@@ -37,4 +37,6 @@ pub mod RequestsOrder
 pub mod RequestsSent
 pub mod RequestsHeld
 pub mod RequestsWaiting
+pub mod EachSent
 pub mod Requests
+pub mod Taken

@@ -1,7 +1,7 @@
 // The replication machine of document 01, allowed runs, and their agreement: definitions and theorems, no running code.
 // A function here does nothing: its contract is a theorem.
 ghost use Rattle.replication.specs.Pairs.{Pairs};
-ghost use Rattle.replication.specs.Runs.Claim.{Demand3, Corollaries};
+ghost use Rattle.replication.specs.Runs.Claim.{Demand3, Corollaries, KeptWhileUp};
 ghost use Rattle.replication.specs.Runs.Noted.{NotedNeverFall};
 ghost use Rattle.replication.specs.Runs.Requests.{RequestsKept};
 
@@ -21,12 +21,18 @@ pub fn corollaries()
     ensures { λ _. ⌜ Corollaries ⌝ }
 {}
 
+// What a server has green keeps its place while that server stays up, at every server whose green list is so long, stored or not.
+pub fn kept_while_up()
+    ensures { λ _. ⌜ KeptWhileUp ⌝ }
+{}
+
 // "a noted length never falls", in every run.
 pub fn noted_never_fall()
     ensures { λ _. ⌜ NotedNeverFall ⌝ }
 {}
 
-// Document 02, K4: an action is sent one time only, in order; nothing that was answered 0 is lost; number 4 never occurs.
+// Document 02, K4: an action is sent one time only, in order; what counts as sent was put out, and all of the own list where requests are sent; what
+// is entered is not sent; nothing that was answered 0 is lost; a request is taken until the quota is used, 3 then; number 4 never occurs.
 pub fn requests_kept()
     ensures { λ _. ⌜ RequestsKept ⌝ }
 {}

@@ -27,3 +27,4 @@ pub mod OfLists
 pub mod OfPrimaries
 pub mod OfContents
 pub mod Demand
+pub mod KeptWhileUp

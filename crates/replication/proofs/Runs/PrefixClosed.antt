@@ -12,7 +12,7 @@ use Rattle.base.specs.Sets.{inSet}
 use Rattle.format.specs.Types.{Record, transitional, recovery, regular}
 use Rattle.replication.specs.Machine.Types.{Configuration}
 use Rattle.replication.specs.Runs.Run.{event, store, Run, members, worldAt, placeAt, putOut, sentAt}
-use Rattle.replication.specs.Runs.Happenings.{Message, isMessage, Configured, entry-at, sending-of, Crashes, Comes, Falls, Takes, Left, Sends, Delivers, Delivered, Passes, Causes}
+use Rattle.replication.specs.Runs.Happenings.{Message, isMessage, Configured, entry-at, sending-of, Comes, Falls, BehindCut, gone-down, unsent-request, Takes, Left, Sends, Delivers, Delivered, Passes, Causes}
 use Rattle.replication.specs.Runs.Allowed.{Allowed}
 use Rattle.replication.proofs.Runs.Beginnings as B
 use Rattle.replication.proofs.Runs.Deliveries.{delivered-where-sent, sent-before, delivered-before-leaving}
@@ -31,12 +31,17 @@ module _ (n q : ℕ) (l : Run) (A : Allowed n q l) (k : ℕ) where
       (g .0, ap (λ s. at s (A .source p .number)) (B.sent-in n q l k (A .source p .sending) (omega (arith, g .0, B.comes-low n q l k c))) ∙ g .1)
 
   cut-by-crash : (p r i x m : ℕ) (e f : List ℕ) → at (take k l) p ≡ some (event i e x) → x < length (putOut n q (take k l) p) → p < r
-      → at (take k l) r ≡ some (event i f m) → (y : ℕ) × Crashes (take k l) y i × (p < y) × (y < r)
+      → at (take k l) r ≡ some (event i f m) → BehindCut n q (take k l) p r i
   cut-by-crash p r i x m e f h o a g =
       let z = at-in-take k l p _ h in
-      let w = at-in-take k l r _ g in
-      let y = A .cut-by-crash p r i x m e f (z .1) (subst (λ s. x < length s) (B.put-out-in n q l k p (z .0)) o) a (w .1) in
-      (y .0, B.crash-in n q l k (y .0) i (omega (arith, w .0, y .3)) (y .1), y .2, y .3)
+      go (A .cut-by-crash p r i x m e f (z .1) (subst (λ s. x < length s) (B.put-out-in n q l k p (z .0)) o) a (w .1))
+    where
+      w : (r < k) × (at l r ≡ some (event i f m))
+      w = at-in-take k l r _ g
+
+      go : BehindCut n q l p r i → BehindCut n q (take k l) p r i
+      go (gone-down y c b d) = gone-down y (B.crash-in n q l k y i (omega (arith, w .0)) c) b d
+      go (unsent-request y c s) = unsent-request y (B.comes-in n q l k (w .0) c) (B.sent-in n q l k r (w .0) ∙ s)
 
   recovers : (p i x : ℕ) (e : List ℕ) → at (take k l) p ≡ some (event i e x) → worldAt n q (take k l) p .down i ≡ true → Comes n q (take k l) p i recovery
   recovers p i x e h d =

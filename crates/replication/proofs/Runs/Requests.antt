@@ -28,8 +28,10 @@ use Rattle.replication.proofs.Runs.ControlPart.{control-at, store-grows
 use Rattle.replication.proofs.Runs.LogActions.{EachIn, each-in}
 use Rattle.replication.proofs.Runs.Made.{Made, made-one, all-made}
 use Rattle.replication.proofs.Runs.Strays.{kept, at-kept, world-kept, taken-kept}
-use Rattle.replication.proofs.Runs.RequestsSent.{one-time-only}
+use Rattle.replication.proofs.Runs.RequestsSent.{one-time-only, entered-not-sent}
 use Rattle.replication.proofs.Runs.RequestsWaiting.{sent-on-reaching}
+use Rattle.replication.proofs.Runs.EachSent.{each-sent, all-put-out}
+use Rattle.replication.proofs.Runs.Taken.{until-quota}
 use Rattle.replication.proofs.Runs.RequestsHeld.{WasNumbered, numbered-there, answers, numbered-by, stored-next, nothing-lost}
 
 -- ---- an id is of some action
@@ -112,4 +114,14 @@ unfolding NeverFour
 never-four s e = T.never-four s e
 
 pub requests-kept : RequestsKept
-requests-kept = record { one-time-only = one-time-only; sent-on-reaching = sent-on-reaching; nothing-lost = nothing-lost; nothing-lost-in-runs = nothing-lost-in-runs; never-four = never-four }
+requests-kept = record {
+  one-time-only = one-time-only;
+  sent-on-reaching = sent-on-reaching;
+  each-sent = each-sent;
+  all-put-out = all-put-out;
+  entered-not-sent = entered-not-sent;
+  nothing-lost = nothing-lost;
+  nothing-lost-in-runs = nothing-lost-in-runs;
+  taken-until-quota = until-quota;
+  never-four = never-four;
+}

@@ -69,14 +69,14 @@ rise-order k (x ∷ xs) (suc i) (suc j) a b r h e f = rise-order (x .id .index) 
 action-same : {a b : Action} → action a ≡ action b → a ≡ b
 action-same e = cc
 
-waiting-order : (s t : Server) (rs : List Record) → OwnListFits (t .me) (t .log) → SendsWaiting s t rs
+waiting-order : (k : ℕ) (t : Server) (rs : List Record) → OwnListFits (t .me) (t .log) → SendsWaiting k t rs
     → (i j : ℕ) (a b : Action) → i < j → at rs i ≡ some (action a) → at rs j ≡ some (action b) → a .id .index < b .id .index
 unfolding unsent above
-waiting-order s t rs f w i j a b h p q =
-    let us = unsent (s .log .sent) (t .log .own) in
+waiting-order k t rs f w i j a b h p q =
+    let us = unsent k (t .log .own) in
     let x = at-map action us i (action a) (subst (λ y. at y i ≡ some (action a)) (w .records) p) in
     let y = at-map action us j (action b) (subst (λ z. at z j ≡ some (action b)) (w .records) q) in
-    let r = rise-filter (λ z. s .log .sent <? z .id .index) _ (t .log .own) (ids-rise _ _ _ (t .log .own) (f .ids)) in
+    let r = rise-filter (λ z. k <? z .id .index) _ (t .log .own) (ids-rise _ _ _ (t .log .own) (f .ids)) in
     omega (arith, rise-order _ us i j (x .0) (y .0) r h (x .1) (y .1), ap (λ z. z .id .index) (action-same (x .2)), ap (λ z. z .id .index) (action-same (y .2)))
 
 two-in-one : {X : Type 0} (r : Record) (i j : ℕ) (x y : Record) → i < j → at (r ∷ []) i ≡ some x → at (r ∷ []) j ≡ some y → X
@@ -90,10 +90,10 @@ sent-order (P.nothing c n) f i j a b h p q = none-some p
 sent-order (P.stateOnEntry c e m d n) f i j a b h p q = two-in-one _ i j _ _ h p q
 sent-order {s} (P.partOfPlan x e m d c g n) f i j a b h p q = not-both (own-sent {s = s} (P.partOfPlan x e m d c g n) a (at-among _ i _ p) .1)
 sent-order (P.cpcOnAttempt e c m n) f i j a b h p q = two-in-one _ i j _ _ h p q
-sent-order {s} {t = t} (P.requestAtOnce u us e c m n w) f i j a b h p q = waiting-order s t us f w i j a b h p q
+sent-order {t = t} (P.requestAtOnce u us e c m n w) f i j a b h p q = waiting-order _ t us f w i j a b h p q
 sent-order (P.requestWaits u e c n w) f i j a b h p q = none-some p
-sent-order {s} {t = t} (P.waitingAfterExchange us e c m n w) f i j a b h p q = waiting-order s t us f w i j a b h p q
-sent-order {s} {t = t} (P.waitingAfterInstall k d us e m c g n w) f i j a b h p q = waiting-order s t us f w i j a b h p q
+sent-order {t = t} (P.waitingAfterExchange us e c m n w) f i j a b h p q = waiting-order _ t us f w i j a b h p q
+sent-order {t = t} (P.waitingAfterInstall k d us e m c g n w) f i j a b h p q = waiting-order _ t us f w i j a b h p q
 
 -- Up to which index own actions were sent never falls.
 pub sent-rises : {s : Server} {r : Record} {t : Server} {rs : List Record} {c : Bool} → PutsOut s r t rs c → s .log .sent ≤ s .log .numbered

@@ -16,13 +16,16 @@ use Rattle.format.specs.Read.{read}
 use Rattle.format.specs.Write.{write}
 use Rattle.replication.specs.Machine.Types.{Server, Outcome, refused, taken}
 use Rattle.replication.specs.Machine.Step.{step}
-use Rattle.replication.specs.Machine.WellFormed.{wellFormed}
+use Rattle.replication.specs.Machine.WellFormed.{wellFormed, idsIn, queue}
+use Rattle.replication.specs.Machine.Colours.{cut}
+use Rattle.replication.specs.Machine.WellFormedRanges.{idCount}
+use Rattle.replication.proofs.WellFormed.Ids.{each-counted}
 use Rattle.replication.specs.Images.{Images, started, sourceOf, arrive, leftBy, savedIn, lived}
 use Rattle.replication.specs.Laws.Images.{OfBoth, next}
 use Rattle.replication.specs.Laws.Order.{SameServer, SameControl}
 use Rattle.replication.specs.Laws.Sending.{Peer}
 use Rattle.replication.specs.Runs.Run.{recordsOf}
-use Rattle.replication.specs.Runs.Requests.{putOutOver, PutsAction, OneTimeOnly}
+use Rattle.replication.specs.Runs.Requests.{putOutOver, PutsAction, OneTimeOnly, EnteredNotSent}
 use Rattle.replication.proofs.Step.Inversion.{taken-by}
 use Rattle.replication.proofs.Step.Moves.{moved}
 use Rattle.replication.proofs.Step.Growth.{transition-grows}
@@ -102,10 +105,10 @@ module _ (s : Server) where
   -- ---- one event
 
   -- A well-formed state of this server.
-  abbrev Good : Server → Type 0
+  abbrev pub Good : Server → Type 0
   Good u = (wellFormed u ≡ true) × SameServer s u
 
-  good-kept : (u : Server) (e : List ℕ) (t : Server) (bs : List (List ℕ)) (b : Bool) (g : List Action) → step u e ≡ taken t bs b g → Good u → Good t
+  pub good-kept : (u : Server) (e : List ℕ) (t : Server) (bs : List (List ℕ)) (b : Bool) (g : List Action) → step u e ≡ taken t bs b g → Good u → Good t
   good-kept u e t bs b g h (w, i) =
       let k = identity-kept u (moved (taken-by u e t bs b g h) .0) in
       (step-well-formed u e t bs b g w h, record { servers = k .servers ∙ i .servers; quota = k .quota ∙ i .quota; me = k .me ∙ i .me })
@@ -139,7 +142,7 @@ module _ (s : Server) where
         record {
           rises = sent-rises o (well-formed-facts u (v .0) .log .sent) (transition-grows m .numbers);
           creator = λ j x a p r. own-id a (at-among rs j _ (meant j x a p r)) .creator ∙ i .me;
-          above = λ j x a p r. own-sent o a (at-among rs j _ (meant j x a p r)) .0 .above;
+          above = λ j x a p r. own-sent o a (at-among rs j _ (meant j x a p r)) .0 .above (well-formed-facts u (v .0) .log .sent);
           within = λ j x a p r.
               let k = at-among rs j _ (meant j x a p r) in omega (arith, own-id a k .within, own-sent o a k .0 .sent);
           order = λ j k x y a c less p q r w. sent-order o (f .own-list) j k a c less (meant j x a p r) (meant k y c q w);
@@ -177,6 +180,27 @@ module _ (s : Server) where
   read-by : {es : List (Option (List ℕ))} {j : ℕ} {a : Action} (x : PutsAction s es j a) → ReadsAs (x .bytes) a
   read-by x = record { reader = x .reader; peer = x .peer; reads = x .reads }
 
+  -- ---- what is put out is not entered
+
+  not-entered : (i : Images) (e : List ℕ) → Sound i → (o : Outcome (List ℕ)) → arrive i e ≡ o → (j : ℕ) (x : List ℕ) (a : Action)
+      → at (recordsOf o) j ≡ some x → ReadsAs x a → List·Memᴰ (a .id) (idsIn (queue ((leftBy o i) .memory .log))) → ⊥
+  unfolding arrive leftBy recordsOf at
+  not-entered i e v (refused k) h j x a p r m = none-some p
+  not-entered i e v (taken t bs b g) h j x a p r m =
+      let w = source-of Good i e (v .both .store) (v .both .memory) in
+      let y = own-id (sourceOf i e) e t bs b g h w a (at-among (rs (sourceOf i e) e t bs b g h w) j _ (meant (sourceOf i e) e t bs b g h w j x a p r)) in
+      let f = well-formed-facts t (good-kept (sourceOf i e) e t bs b g h w .0) in
+      let ids = idsIn (queue (t .log)) in
+      let k = f .held-to-cuts .within (a .id) (each-in (λ d. 1 ≤ idCount d ids) ids (each-counted ids) (a .id) m) in
+      omega (arith, y .above, k, ap (cut (t .log)) (y .creator))
+
+  sound-lived : (i : Images) (es : List (Option (List ℕ))) → Sound i → Sound (lived i es)
+  unfolding lived next
+  sound-lived i [] v = v
+  sound-lived i (none ∷ es) v =
+      sound-lived (savedIn i) es (record { both = record { memory = v .both .memory; store = v .both .memory }; control = control-refl (i .memory) })
+  sound-lived i (some e ∷ es) v = sound-lived (next i e) es (sound-next i e v)
+
 pub one-time-only : OneTimeOnly
 unfolding OneTimeOnly started
 one-time-only s w es j k a b h x y =
@@ -186,3 +210,10 @@ one-time-only s w es j k a b h x y =
       o .creator k (y .bytes) b (y .out) (read-by s y),
       o .order j k (x .bytes) (y .bytes) a b h (x .out) (y .out) (read-by s x) (read-by s y),
     )
+
+pub entered-not-sent : EnteredNotSent
+unfolding EnteredNotSent started next
+entered-not-sent s w es e j x c a p q r m =
+    let good : Good s s = (w, record { servers = refl; quota = refl; me = refl }) in
+    let v = sound-lived s (started s) es (record { both = record { memory = good; store = good }; control = control-refl s }) in
+    not-entered s (lived (started s) es) e v (arrive (lived (started s) es) e) refl j x a p (record { reader = c; peer = q; reads = r }) m

@@ -17,11 +17,12 @@ use Rattle.replication.proofs.Step.Parts.{part-resent}
 other-kind : {X : Type 0} (x y : Record) → x ≡ y → (kindNumber (kindOf x) ≡ kindNumber (kindOf y) → ⊥) → X
 other-kind x y e n = absurd (n (ap (λ r. kindNumber (kindOf r)) e))
 
-not-waiting : {X : Type 0} (s t : Server) (rs : List Record) (x : Record) → SendsWaiting s t rs → List·Memᴰ x rs → (kindNumber (kindOf x) ≡ 1 → ⊥) → X
+not-waiting : {X : Type 0} (k : ℕ) (t : Server) (rs : List Record) (x : Record) → SendsWaiting k t rs → List·Memᴰ x rs
+    → (kindNumber (kindOf x) ≡ 1 → ⊥) → X
 unfolding kindNumber kindOf
-not-waiting s t rs x w m n =
-    let k = Memᴰ·of-map action (unsent (s .log .sent) (t .log .own)) (rw (w .records) at m) in
-    other-kind x (action (k .0)) (sym (k .2)) n
+not-waiting k t rs x w m n =
+    let y = Memᴰ·of-map action (unsent k (t .log .own)) (rw (w .records) at m) in
+    other-kind x (action (y .0)) (sym (y .2)) n
 
 resent-kind : (me : ℕ) (l : Log) (xs : List State) (x : Record) → Resent me l xs x → kindNumber (kindOf x) ≡ 2
 unfolding kindNumber kindOf
@@ -40,10 +41,10 @@ module _ {s : Server} {r : Record} {t : Server} where
       record { entered = c; brought = e; there = g; to = f; says = cc; alone = ap (λ y. y ∷ []) (sym h); stored = refl }
   state-sent (P.partOfPlan y e f g h i n) x m = not-resent t (state x) (part-resent (t .me) (t .log) (collected t) (state x) (t .servers) m) (λ z. omega arith)
   state-sent (P.cpcOnAttempt e q f n) x m = other-kind (state x) _ (List·Memᴰ·eq-of-singleton m) (λ z. omega arith)
-  state-sent (P.requestAtOnce o us e f g n w) x m = not-waiting s t us (state x) w m (λ z. omega arith)
+  state-sent (P.requestAtOnce o us e f g n w) x m = not-waiting _ t us (state x) w m (λ z. omega arith)
   state-sent (P.requestWaits o e f n w) x m = absurd (List·Memᴰ·not-nil m)
-  state-sent (P.waitingAfterExchange us e q f n w) x m = not-waiting s t us (state x) w m (λ z. omega arith)
-  state-sent (P.waitingAfterInstall j l us e f g h n w) x m = not-waiting s t us (state x) w m (λ z. omega arith)
+  state-sent (P.waitingAfterExchange us e q f n w) x m = not-waiting _ t us (state x) w m (λ z. omega arith)
+  state-sent (P.waitingAfterInstall j l us e f g h n w) x m = not-waiting _ t us (state x) w m (λ z. omega arith)
 
   pub part-sent : {rs : List Record} {b : Bool} → PutsOut s r t rs b → (k p : ℕ) (a : Action) → List·Memᴰ (retransmission k p a) rs
       → PartSent s r t rs b (retransmission k p a)
@@ -53,10 +54,10 @@ module _ {s : Server} {r : Record} {t : Server} where
   part-sent (P.partOfPlan y e f g h i n) k p a m =
       record { last = y; brought = e; from = f; to = g; complete = h; whole = refl; planned = part-resent (t .me) (t .log) (collected t) _ (t .servers) m; unstored = refl }
   part-sent (P.cpcOnAttempt e q f n) k p a m = other-kind (retransmission k p a) _ (List·Memᴰ·eq-of-singleton m) (λ z. omega arith)
-  part-sent (P.requestAtOnce o us e f g n w) k p a m = not-waiting s t us (retransmission k p a) w m (λ z. omega arith)
+  part-sent (P.requestAtOnce o us e f g n w) k p a m = not-waiting _ t us (retransmission k p a) w m (λ z. omega arith)
   part-sent (P.requestWaits o e f n w) k p a m = absurd (List·Memᴰ·not-nil m)
-  part-sent (P.waitingAfterExchange us e q f n w) k p a m = not-waiting s t us (retransmission k p a) w m (λ z. omega arith)
-  part-sent (P.waitingAfterInstall j l us e f g h n w) k p a m = not-waiting s t us (retransmission k p a) w m (λ z. omega arith)
+  part-sent (P.waitingAfterExchange us e q f n w) k p a m = not-waiting _ t us (retransmission k p a) w m (λ z. omega arith)
+  part-sent (P.waitingAfterInstall j l us e f g h n w) k p a m = not-waiting _ t us (retransmission k p a) w m (λ z. omega arith)
 
   pub cpc-sent : {rs : List Record} {b : Bool} → PutsOut s r t rs b → (k i : ℕ) → List·Memᴰ (cpc k i) rs → CpcSent s r t rs b k i
   unfolding kindNumber kindOf
@@ -66,7 +67,7 @@ module _ {s : Server} {r : Record} {t : Server} where
   cpc-sent (P.cpcOnAttempt e q f n) k i m =
       let h = List·Memᴰ·eq-of-singleton m in
       record { ended = e; agreed = q; to = f; sender = cc; configuration = cc; alone = ap (λ y. y ∷ []) (sym h); stored = refl }
-  cpc-sent (P.requestAtOnce o us e f g n w) k i m = not-waiting s t us (cpc k i) w m (λ z. omega arith)
+  cpc-sent (P.requestAtOnce o us e f g n w) k i m = not-waiting _ t us (cpc k i) w m (λ z. omega arith)
   cpc-sent (P.requestWaits o e f n w) k i m = absurd (List·Memᴰ·not-nil m)
-  cpc-sent (P.waitingAfterExchange us e q f n w) k i m = not-waiting s t us (cpc k i) w m (λ z. omega arith)
-  cpc-sent (P.waitingAfterInstall j l us e f g h n w) k i m = not-waiting s t us (cpc k i) w m (λ z. omega arith)
+  cpc-sent (P.waitingAfterExchange us e q f n w) k i m = not-waiting _ t us (cpc k i) w m (λ z. omega arith)
+  cpc-sent (P.waitingAfterInstall j l us e f g h n w) k i m = not-waiting _ t us (cpc k i) w m (λ z. omega arith)

@@ -1,6 +1,6 @@
 -- Own actions are numbered on from those numbered before, carry the green length of then and stand on the own list; those put out stood there,
 -- above those sent, and go out stored first.
-use Prim.Native.Nat.{ℕ, _<_}
+use Prim.Native.Nat.{ℕ, _≤_, _<_}
 use mathlib.Core.Path.{_≡_, refl}
 use mathlib.Core.Bool.{Bool, true}
 use mathlib.Core.List.{List, List·Memᴰ, List·Memᴰ·head, List·Memᴰ·not-nil, List·Memᴰ·eq-of-singleton, Memᴰ·append-right, Memᴰ·of-map, Memᴰ·cast}
@@ -39,19 +39,20 @@ request-own {s} (L.numbers p c) = made-own s _ p (record { numbered = refl; own 
 
 -- ---- the actions that an event puts out
 
--- Sent after s: an action on the own list of t, above those that s had sent.
+-- Sent after s: an action on the own list of t, above those that s had sent, if s had sent only what it had numbered.
 pub record Waited (s t : Server) (a : Action) : Type 0 where
   pub listed : List·Memᴰ a (t .log .own)
-  pub above : s .log .sent < a .id .index
+  pub above : s .log .sent ≤ s .log .numbered → s .log .sent < a .id .index
   pub sent : t .log .sent ≡ t .log .numbered
 
-waited : (s t : Server) (rs : List Record) (a : Action) → SendsWaiting s t rs → List·Memᴰ (action a) rs → Waited s t a
+waited : (s t : Server) (k : ℕ) (rs : List Record) (a : Action) → SendsWaiting k t rs → List·Memᴰ (action a) rs
+    → (s .log .sent ≤ s .log .numbered → s .log .sent ≤ k) → Waited s t a
 unfolding unsent
-waited s t rs a w m =
-    let k = Memᴰ·of-map action (unsent (s .log .sent) (t .log .own)) (rw (w .records) at m) in
-    let e : a ≡ k .0 = cc in
-    let f = filter-from (λ x. s .log .sent <? x .id .index) a (t .log .own) (Memᴰ·cast e (k .1)) in
-    record { listed = f .0; above = lt-holds _ _ (f .1); sent = w .sent }
+waited s t k rs a w m h =
+    let y = Memᴰ·of-map action (unsent k (t .log .own)) (rw (w .records) at m) in
+    let e : a ≡ y .0 = cc in
+    let f = filter-from (λ x. k <? x .id .index) a (t .log .own) (Memᴰ·cast e (y .1)) in
+    record { listed = f .0; above = λ z. omega (arith, h z, lt-holds _ _ (f .1)); sent = w .sent }
 
 resent-no-action : {X : Type 0} (me : ℕ) (l : Log) (xs : List State) (a : Action) → Resent me l xs (action a) → X
 resent-no-action me l xs a (P.asGreen p b m f e) = let z : _≡_ {A = ℕ} 0 1 = cc in absurd (omega arith)
@@ -64,7 +65,7 @@ own-sent (P.nothing b n) a m = absurd (List·Memᴰ·not-nil m)
 own-sent (P.stateOnEntry c e f g n) a m = let h = List·Memᴰ·eq-of-singleton m in let z : _≡_ {A = ℕ} 0 1 = cc in absurd (omega arith)
 own-sent {t = t} (P.partOfPlan x e f g h i n) a m = resent-no-action (t .me) (t .log) (collected t) a (part-resent (t .me) (t .log) (collected t) (action a) (t .servers) m)
 own-sent (P.cpcOnAttempt e q f n) a m = let h = List·Memᴰ·eq-of-singleton m in let z : _≡_ {A = ℕ} 0 1 = cc in absurd (omega arith)
-own-sent {s} {t = t} {rs} (P.requestAtOnce p us e f g n w) a m = (waited s t us a w m, refl)
+own-sent {s} {t = t} {rs} (P.requestAtOnce p us e f g n w) a m = (waited s t _ us a w m (λ z. omega arith), refl)
 own-sent (P.requestWaits p e f n w) a m = absurd (List·Memᴰ·not-nil m)
-own-sent {s} {t = t} (P.waitingAfterExchange us e q f n w) a m = (waited s t us a w m, refl)
-own-sent {s} {t = t} (P.waitingAfterInstall k i us e f g h n w) a m = (waited s t us a w m, refl)
+own-sent {s} {t = t} (P.waitingAfterExchange us e q f n w) a m = (waited s t _ us a w m (λ z. omega arith), refl)
+own-sent {s} {t = t} (P.waitingAfterInstall k i us e f g h n w) a m = (waited s t _ us a w m (λ z. omega arith), refl)

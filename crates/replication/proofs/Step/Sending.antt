@@ -1,9 +1,11 @@
 -- What a taken event puts out, and what it numbers.
-use mathlib.Core.Path.{_≡_, refl, ap}
+use Prim.Native.Nat.{ℕ}
+use mathlib.Core.Path.{_≡_, refl, ap, _∙_}
 use mathlib.Core.Bool.{Bool, true, false}
 use mathlib.Core.List.{List, map}
+use native.Mathlib.Omega.{arith}
 use Rattle.format.specs.Types.{Record, action}
-use Rattle.replication.specs.Machine.Types.{Server, inMode, Non-prim, Reg-prim}
+use Rattle.replication.specs.Machine.Types.{Server}
 use Rattle.replication.specs.Machine.Colours.{yellow}
 use Rattle.replication.specs.Machine.Install.{install}
 use Rattle.replication.specs.Machine.Requests.{numbered, unsent, waiting, sendWaiting, waitingRecords, recovered}
@@ -18,10 +20,12 @@ use Rattle.replication.specs.Laws.Sending.{SendsWaiting, PutsOut}
 use Rattle.replication.proofs.Step.Votes.{same-quorum}
 use Rattle.replication.proofs.Step.Numbered.{same-numbers, numbers-trans, numbers-red, numbers-reds, numbers-green, numbers-placed, numbers-install, numbers-yellow}
 
--- What sending what waits at u, a state on the way from s, puts out.
-pub waiting-sent : (s u : Server) → u .log .sent ≡ s .log .sent → SendsWaiting s (sendWaiting u) (waitingRecords u)
-unfolding sendWaiting waitingRecords waiting
-waiting-sent s u e = record { records = ap (λ k. map action (unsent k (u .log .own))) e; sent = refl }
+-- What waits at u, a state on the way to t, is what t has on its own list above those that u has sent.
+waiting-sent : (k : ℕ) (u t : Server) → u .log .own ≡ t .log .own → u .log .sent ≡ k → t .log .sent ≡ t .log .numbered
+    → SendsWaiting k t (waitingRecords u)
+unfolding waitingRecords waiting
+waiting-sent k u t o e f =
+    record { records = ap (λ x. map action (unsent (u .log .sent) x)) o ∙ ap (λ j. map action (unsent j (t .log .own))) e; sent = f }
 
 module _ (s : Server) where
   ends-out : (r : Record) (t u : Server) (rs : List Record) → EndsExchange s r → SameNumbers (s .log) (t .log) → collected t ≡ collected (hearing r s)
@@ -30,8 +34,8 @@ module _ (s : Server) where
   ends-out r t u rs e n c d (L.withQuorum q) =
       P.cpcOnAttempt e (same-quorum (collected t) (collected (hearing r s)) (hereSet t) (hereSet s) true c d q) refl n
   ends-out r t u rs e n c d (L.withoutQuorum q) =
-      P.waitingAfterExchange _ e (same-quorum (collected t) (collected (hearing r s)) (hereSet t) (hereSet s) false c d q) refl (n .numbered)
-      (waiting-sent s (inMode Non-prim (decided t)) (n .sent))
+      P.waitingAfterExchange rs e (same-quorum (collected t) (collected (hearing r s)) (hereSet t) (hereSet s) false c d q) refl (n .numbered)
+      (waiting-sent _ _ _ refl (omega (arith, n .sent, n .numbered)) refl)
 
   pub puts-out : {r : Record} {t : Server} {rs : List Record} {b : Bool} → Transition s r t rs b → PutsOut s r t rs b
   unfolding greenAndNote install exchanged oneMore withState resending withCpc sendWaiting entering ownState leave recovered hearing allStatesIn hereSet plannedNow collected numbered
@@ -49,9 +53,9 @@ module _ (s : Server) where
   puts-out (L.collectsLast x e c d) = P.partOfPlan x refl e refl c d (same-numbers _)
   puts-out (L.collectsWhole x u us e c d y) = ends-out _ (withState x s) u us (C.withStates e c) (same-numbers _) refl refl y
   puts-out (L.counts k i e c) = P.nothing _ (same-numbers _)
-  puts-out (L.installs k i e c) =
+  puts-out {rs = rs} (L.installs k i e c) =
       let n = numbers-install (s .votes .yellow .ids) (s .log) in
-      P.waitingAfterInstall k i _ refl e c refl (n .numbered) (waiting-sent s (inMode Reg-prim (install (withCpc k s))) (n .sent))
+      P.waitingAfterInstall k i rs refl e c refl (n .numbered) (waiting-sent _ _ _ refl (omega (arith, n .sent, n .numbered)) refl)
   puts-out (L.countsLate k i e c) = P.nothing _ (same-numbers _)
   puts-out (L.countsAllLate k i e c) = P.nothing _ (same-numbers _)
   puts-out (L.joins c e) = P.stateOnEntry c refl refl refl (same-numbers _)
@@ -59,6 +63,6 @@ module _ (s : Server) where
   puts-out (L.joinsUnmarked c e) = P.stateOnEntry c refl refl refl (same-numbers _)
   puts-out (L.joinsYellow c e) = P.stateOnEntry c refl refl refl (same-numbers _)
   puts-out (L.leaves m n x e q) = P.nothing _ (same-numbers _)
-  puts-out (L.sends q c) = P.requestAtOnce q _ refl c refl (record { numbered = refl; own = refl }) (waiting-sent s (numbered q s) refl)
+  puts-out (L.sends q c) = P.requestAtOnce q _ refl c refl (record { numbered = refl; own = refl }) (waiting-sent _ (numbered q s) _ refl refl refl)
   puts-out (L.numbers q c) = P.requestWaits q refl c (record { numbered = refl; own = refl }) refl
   puts-out L.recovers = P.nothing _ (numbers-reds (s .log .own) (s .log))

@@ -15,7 +15,7 @@ use Rattle.replication.specs.Machine.Types.{Configuration}
 use Rattle.replication.specs.Runs.Run.{Entry, event, crash, store, Run, serverOf, placeAt, sentAt}
 use Rattle.replication.specs.Runs.Happenings.{Message, isMessage, Configured, entry-at, sending-of, Comes, Takes, Sends, Delivers, Configures, to-regular, to-transitional}
 use Rattle.replication.specs.Audit.Witness.{Witness, sourceIn, nameIn, entryOrd, sendingOrdsAt, ordIn}
-use Rattle.replication.specs.Audit.Table.{Role, delivers, takes, transits, goes-down, comes-back, saves, neither, roleIn, Row, rowOf, table}
+use Rattle.replication.specs.Audit.Table.{Role, delivers, takes, transits, goes-down, comes-back, saves, asks, neither, roleIn, Row, rowOf, table}
 use Rattle.replication.specs.Audit.Clocks.{Stamps, numberOf, clockAt, stamps}
 use Rattle.replication.specs.Audit.Journal.{Sending, sendingIn, sendingsOf, Delivery, deliveryOf, deliveryBy, takingBy, transitionBy, changeBy, takingsIn, transitionsIn, changesIn, sendingsIn, deliveriesIn}
 use Rattle.replication.proofs.Verdicts.Rows.{rowAt, row-among, table-holds, table-is, row-place, row-server, row-after, row-sent, meaning, Meaning, role-of}
@@ -45,6 +45,7 @@ delivery-by (transits t) rs s x d h = none-some h
 delivery-by goes-down rs s x d h = none-some h
 delivery-by comes-back rs s x d h = none-some h
 delivery-by saves rs s x d h = none-some h
+delivery-by asks rs s x d h = none-some h
 delivery-by neither rs s x d h = none-some h
 
 module _ (n q : ℕ) (l : Run) (w : Witness) where

@@ -3,6 +3,7 @@
 use Prim.Native.Nat.{ℕ, zero, suc, _+_, _-_, _<_}
 use mathlib.Core.Path.{_≡_, refl, sym, ap, subst, _∙_}
 use mathlib.Core.Bool.{Bool, true}
+use mathlib.Core.Logic.{_⊎_, inl, inr}
 use mathlib.Core.List.{List, [], _∷_}
 use mathlib.Core.Option.{Option, some}
 use native.Mathlib.Omega.{arith}
@@ -15,11 +16,11 @@ use Rattle.base.proofs.QuantifierLaws.{Among, at-drop, among-filter, among-gath
 use Rattle.format.specs.Types.{Record, action, retransmission, state, cpc, regular, transitional, request, recovery, Reading, says, refused}
 use Rattle.replication.specs.Machine.Types.{Configuration}
 use Rattle.replication.specs.Runs.Run.{Entry, event, Run, serverOf, heard, placeAt}
-use Rattle.replication.specs.Runs.Happenings.{Configured, regularly, transitionally, Crashes, Falls, by-crash, by-recovery, Takes, Left, Configures, to-regular, to-transitional, Passes}
+use Rattle.replication.specs.Runs.Happenings.{Configured, regularly, transitionally, Crashes, Falls, by-crash, by-recovery, BehindCut, gone-down, unsent-request, Takes, Left, Configures, to-regular, to-transitional, Passes}
 use Rattle.replication.specs.Audit.Witness.{Witness, sourceIn, nameIn, entryOrd}
-use Rattle.replication.specs.Audit.Table.{Role, delivers, takes, transits, goes-down, comes-back, saves, neither, roleIn, Row, rowOf, table}
+use Rattle.replication.specs.Audit.Table.{Role, delivers, takes, transits, goes-down, comes-back, saves, asks, neither, roleIn, Row, rowOf, table}
 use Rattle.replication.specs.Audit.Journal.{Change, changeBy, settlesBy, settles, nextBy, nextChange, crashesBy, crashesNext, hasLeft, passageTo, passageFrom, leavingsIn, passagesIn}
-use Rattle.replication.proofs.Verdicts.Rows.{rowAt, table-holds, table-is, row-server, Meaning, meaning, role-of}
+use Rattle.replication.proofs.Verdicts.Rows.{rowAt, table-holds, table-is, row-server, Meaning, meaning, row-sent, role-of}
 use Rattle.replication.proofs.Verdicts.Entries.{taking-among, change-row, change-among}
 
 -- ---- a list of rows
@@ -32,6 +33,7 @@ Steady (transits s) = Unit {0}
 Steady goes-down = ⊥
 Steady comes-back = ⊥
 Steady saves = Unit {0}
+Steady asks = Unit {0}
 Steady neither = Unit {0}
 
 -- Nor does its configuration change.
@@ -42,6 +44,7 @@ Quiet (transits s) = ⊥
 Quiet goes-down = ⊥
 Quiet comes-back = ⊥
 Quiet saves = Unit {0}
+Quiet asks = Unit {0}
 Quiet neither = Unit {0}
 
 -- P holds of each row of the server i before the place k.
@@ -54,6 +57,7 @@ settles-by delivers b s h = h
 settles-by (takes c) b s h = refl
 settles-by (transits t) b s h = h
 settles-by saves b s h = h
+settles-by asks b s h = h
 settles-by neither b s h = h
 
 settles-yes : (i : ℕ) (rs : List Row) (k : ℕ) (r : Row) (c : Configuration) → at rs k ≡ some r → r .server ≡ i → r .role ≡ takes c → Until Steady i rs k
@@ -74,6 +78,7 @@ next-by : (o : Role) (y : Row) (b : Option Change) → Quiet o → nextBy o y b 
 unfolding nextBy
 next-by delivers y b s = refl
 next-by saves y b s = refl
+next-by asks y b s = refl
 next-by neither y b s = refl
 
 next-change-by : (o : Role) (y : Row) (b : Option Change) (d : Change) → changeBy o y ≡ some d → nextBy o y b ≡ some d
@@ -84,6 +89,7 @@ next-change-by (transits t) y b d h = h
 next-change-by goes-down y b d h = none-some h
 next-change-by comes-back y b d h = none-some h
 next-change-by saves y b d h = none-some h
+next-change-by asks y b d h = none-some h
 next-change-by neither y b d h = none-some h
 
 next-yes : (i : ℕ) (rs : List Row) (k : ℕ) (r : Row) (d : Change) → at rs k ≡ some r → r .server ≡ i → changeBy (r .role) r ≡ some d → Until Quiet i rs k
@@ -108,15 +114,23 @@ Eventful (transits s) = Unit {0}
 Eventful goes-down = ⊥
 Eventful comes-back = Unit {0}
 Eventful saves = ⊥
+Eventful asks = Unit {0}
 Eventful neither = Unit {0}
 
-no-crash : {X : Type 0} (o : Role) (b : Bool) → Eventful o → crashesBy o b ≡ true → X
+-- A request that sends nothing.
+abbrev Unsent : Role → List (List ℕ) → Type 0
+Unsent o s = (o ≡ asks) × (s ≡ [])
+
+-- No other event is passed over.
+no-crash : (o : Role) (s : List (List ℕ)) (b : Bool) → Eventful o → crashesBy o s b ≡ true → Unsent o s
 unfolding crashesBy
-no-crash delivers b v h = not-both h
-no-crash (takes c) b v h = not-both h
-no-crash (transits t) b v h = not-both h
-no-crash comes-back b v h = not-both h
-no-crash neither b v h = not-both h
+no-crash delivers s b v h = not-both h
+no-crash (takes c) s b v h = not-both h
+no-crash (transits t) s b v h = not-both h
+no-crash comes-back s b v h = not-both h
+no-crash asks [] b v h = (refl, refl)
+no-crash asks (x ∷ s) b v h = not-both h
+no-crash neither s b v h = not-both h
 
 -- In these rows a crash of the server i stands before the place k.
 record CrashBefore (i : ℕ) (rs : List Row) (k : ℕ) : Type 0 where
@@ -138,28 +152,38 @@ one-later i y rs k c = record {
   role = c .role;
 }
 
+-- Before an event of the server i stands its crash, or the event is a request that sends nothing.
 crash-before : (i : ℕ) (rs : List Row) (k : ℕ) (r : Row) → at rs k ≡ some r → r .server ≡ i → Eventful (r .role) → crashesNext i rs ≡ true
-    → CrashBefore i rs k
+    → CrashBefore i rs k ⊎ Unsent (r .role) (r .sent)
 unfolding crashesNext crashesBy at pick
 crash-before i [] k r e h v c = none-some e
 crash-before i (y ∷ rs) zero r e h v c =
     let f : y ≡ r = some-same e in
     let same : (y .server =? i) ≡ true = eq-yes (y .server) i (ap (λ z. z .server) f ∙ h) in
-    no-crash (r .role) (crashesNext i rs) v (subst (λ z. crashesBy (z .role) (crashesNext i rs) ≡ true) f (rw same at c))
-crash-before i (y ∷ rs) (suc k) r e h v c = go (known (y .server =? i)) (λ d. one-later i y rs k (crash-before i rs k r e h v d))
+    inr (no-crash (r .role) (r .sent) (crashesNext i rs) v (subst (λ z. crashesBy (z .role) (z .sent) (crashesNext i rs) ≡ true) f (rw same at c)))
+crash-before i (y ∷ rs) (suc k) r e h v c = go (known (y .server =? i)) (λ d. later (crash-before i rs k r e h v d))
   where
-    by-role : (o : Role) → y .role ≡ o → y .server ≡ i → crashesBy o (crashesNext i rs) ≡ true
-        → (crashesNext i rs ≡ true → CrashBefore i (y ∷ rs) (suc k)) → CrashBefore i (y ∷ rs) (suc k)
-    by-role goes-down g f d s = record { place = 0; row = y; before = omega arith; here = refl; its = f; role = g }
-    by-role saves g f d s = s d
-    by-role delivers g f d s = not-both d
-    by-role (takes x) g f d s = not-both d
-    by-role (transits x) g f d s = not-both d
-    by-role comes-back g f d s = not-both d
-    by-role neither g f d s = not-both d
+    Found : Type 0
+    Found = CrashBefore i (y ∷ rs) (suc k) ⊎ Unsent (r .role) (r .sent)
 
-    go : Known (y .server =? i) → (crashesNext i rs ≡ true → CrashBefore i (y ∷ rs) (suc k)) → CrashBefore i (y ∷ rs) (suc k)
-    go (holds f) s = by-role (y .role) refl (eq-holds (y .server) i f) (rw f at c) s
+    later : CrashBefore i rs k ⊎ Unsent (r .role) (r .sent) → Found
+    later (inl b) = inl (one-later i y rs k b)
+    later (inr b) = inr b
+
+    by-role : (o : Role) (xs : List (List ℕ)) → y .role ≡ o → y .server ≡ i → crashesBy o xs (crashesNext i rs) ≡ true
+        → (crashesNext i rs ≡ true → Found) → Found
+    by-role goes-down xs g f d s = inl (record { place = 0; row = y; before = omega arith; here = refl; its = f; role = g })
+    by-role saves xs g f d s = s d
+    by-role asks [] g f d s = s d
+    by-role asks (x ∷ xs) g f d s = not-both d
+    by-role delivers xs g f d s = not-both d
+    by-role (takes x) xs g f d s = not-both d
+    by-role (transits x) xs g f d s = not-both d
+    by-role comes-back xs g f d s = not-both d
+    by-role neither xs g f d s = not-both d
+
+    go : Known (y .server =? i) → (crashesNext i rs ≡ true → Found) → Found
+    go (holds f) s = by-role (y .role) (y .sent) refl (eq-holds (y .server) i f) (rw f at c) s
     go (fails f) s = s (rw f at c)
 
 eventful-role : (o : Reading Record) → Eventful (roleIn o)
@@ -187,6 +211,7 @@ module _ (n q : ℕ) (l : Run) (w : Witness) where
   steady-role p i goes-down m f = f (by-crash m)
   steady-role p i comes-back m f = f (by-recovery m)
   steady-role p i saves m f = tt
+  steady-role p i asks m f = tt
   steady-role p i neither m f = tt
 
   quiet-role : (p i : ℕ) (o : Role) → Meaning n q l w p i o → (Falls n q l p i → ⊥)
@@ -197,6 +222,7 @@ module _ (n q : ℕ) (l : Run) (w : Witness) where
   quiet-role p i goes-down m f g = f (by-crash m)
   quiet-role p i comes-back m f g = f (by-recovery m)
   quiet-role p i saves m f g = tt
+  quiet-role p i asks m f g = tt
   quiet-role p i neither m f g = tt
 
   -- What holds of a server's entries between p and r holds of its rows.
@@ -245,16 +271,24 @@ module _ (n q : ℕ) (l : Run) (w : Witness) where
       quiet-role x i (rowAt n q l w x z .role) (subst (λ j. Meaning n q l w x j (rowAt n q l w x z .role)) s (meaning n q l w x z e)) (f .steady x u v)
       (λ k. f .direct x k u v)))))
 
-  -- Before the next event of a server whose last one was cut lies a crash.
+  -- Before the next event of a server whose last one was cut lies a crash, or the event is a request that sends nothing.
   pub crash-between : (i p r m : ℕ) (f : List ℕ) → p < r → at l r ≡ some (event i f m) → crashesNext i (drop (suc p) rows) ≡ true
-      → (x : ℕ) × Crashes l x i × (p < x) × (x < r)
+      → BehindCut n q l p r i
   unfolding rowAt rowOf serverOf
   crash-between i p r m f less h c =
-      let y : Entry = event i f m in
-      let b = crash-before i (drop (suc p) rows) (r - suc p) (rowAt n q l w r y) (later-row p r y less h) refl (eventful-role (heard n q i (placeAt n q l i r) f)) c in
-      let x : ℕ = suc p + b .place in
-      let t = table-is n q l w x (b .row) (sym (at-drop (suc p) rows (b .place)) ∙ b .here) in
-      let role : rowAt n q l w x (t .0) .role ≡ goes-down = ap (λ z. z .role) (sym (t .2)) ∙ b .role in
-      let its : serverOf (t .0) ≡ i = sym (row-server n q l w x (t .0)) ∙ ap (λ z. z .server) (sym (t .2)) ∙ b .its in
-      let crash : Crashes l x i = subst (λ j. Crashes l x j) its (subst (Meaning n q l w x (serverOf (t .0))) role (meaning n q l w x (t .0) (t .1))) in
-      (x, crash, omega arith, omega (arith, b .before))
+      go (crash-before i (drop (suc p) rows) (r - suc p) here (later-row p r (event i f m) less h) refl (eventful-role (heard n q i (placeAt n q l i r) f)) c)
+    where
+      here : Row
+      here = rowAt n q l w r (event i f m)
+
+      go : CrashBefore i (drop (suc p) rows) (r - suc p) ⊎ Unsent (here .role) (here .sent) → BehindCut n q l p r i
+      go (inl b) =
+          let x : ℕ = suc p + b .place in
+          let t = table-is n q l w x (b .row) (sym (at-drop (suc p) rows (b .place)) ∙ b .here) in
+          let role : rowAt n q l w x (t .0) .role ≡ goes-down = ap (λ z. z .role) (sym (t .2)) ∙ b .role in
+          let its : serverOf (t .0) ≡ i = sym (row-server n q l w x (t .0)) ∙ ap (λ z. z .server) (sym (t .2)) ∙ b .its in
+          let crash : Crashes l x i = subst (λ j. Crashes l x j) its (subst (Meaning n q l w x (serverOf (t .0))) role (meaning n q l w x (t .0) (t .1))) in
+          gone-down x crash (omega arith) (omega (arith, b .before))
+      go (inr b) =
+          let asked = subst (Meaning n q l w r i) (b .0) (meaning n q l w r (event i f m) h) in
+          unsent-request (asked .0) (asked .1) (sym (row-sent n q l w r (event i f m) h) ∙ b .1)

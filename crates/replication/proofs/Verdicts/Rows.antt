@@ -18,7 +18,7 @@ use Rattle.replication.specs.Runs.Run.{Entry, event, crash, store, Run, 
 use Rattle.replication.specs.Runs.Happenings.{isMessage, Crashes, Comes, Takes}
 use Rattle.replication.specs.Audit.Witness.{Witness}
 use Rattle.replication.proofs.Runs.Places.{sent-by-store, place-next, put-out-at, sent-at, sent-by-crash}
-use Rattle.replication.specs.Audit.Table.{Role, delivers, takes, transits, goes-down, comes-back, saves, neither, roleIn, Row, rowOf, rowsFrom, table}
+use Rattle.replication.specs.Audit.Table.{Role, delivers, takes, transits, goes-down, comes-back, saves, asks, neither, roleIn, Row, rowOf, rowsFrom, table}
 
 -- ---- the walk
 
@@ -120,6 +120,7 @@ module _ (n q : ℕ) (l : Run) (w : Witness) where
   Meaning p i goes-down = Crashes l p i
   Meaning p i comes-back = Comes n q l p i recovery
   Meaning p i saves = at l p ≡ some (store i)
+  Meaning p i asks = (y : List ℕ) × Comes n q l p i (request y)
   Meaning p i neither = Unit {0}
 
   pub meaning : (p : ℕ) (y : Entry) → at l p ≡ some y → Meaning p (serverOf y) (rowAt p y .role)
@@ -138,7 +139,7 @@ module _ (n q : ℕ) (l : Run) (w : Witness) where
       go (says (cpc s t)) g = (cpc s t, comes _ g, refl)
       go (says (regular t s)) g = comes _ g
       go (says (transitional s)) g = comes _ g
-      go (says (request t)) g = tt
+      go (says (request t)) g = (t, comes _ g)
       go (says recovery) g = comes _ g
       go (refused t) g = tt
 

@@ -18,9 +18,9 @@ use Rattle.base.proofs.Deciding.{decided, lists-decided, options-decided}
 use Rattle.format.specs.Types.{Record, transitional, recovery}
 use Rattle.replication.specs.Machine.Types.{Configuration}
 use Rattle.replication.specs.Runs.Run.{Entry, event, crash, store, Run, serverOf, worldAt, placeAt, putOut, sentAt}
-use Rattle.replication.specs.Runs.Happenings.{Message, isMessage, Of, Crashes, Comes, Takes, Delivers}
+use Rattle.replication.specs.Runs.Happenings.{Message, isMessage, Of, Comes, BehindCut, Takes, Delivers}
 use Rattle.replication.specs.Audit.Witness.{Witness, sourceIn, nameIn}
-use Rattle.replication.specs.Audit.Table.{Role, delivers, takes, transits, goes-down, comes-back, saves, neither, Row, rowOf, table}
+use Rattle.replication.specs.Audit.Table.{Role, delivers, takes, transits, goes-down, comes-back, saves, asks, neither, Row, rowOf, table}
 use Rattle.replication.specs.Audit.Clocks.{stamps}
 use Rattle.replication.specs.Audit.Journal.{Delivery, Taking, Transition, Journal, crashesNext, sendingIn, sorted, journalOf}
 use Rattle.replication.specs.Audit.Rules.{servers, one-set, once, between, one-transitional, genuine, cut-by-crash, bringsBack, recovers, isStore, stores-up}
@@ -129,7 +129,7 @@ module _ (n q : ℕ) (l : Run) (w : Witness) where
       (g .earlier, g .sent ∙ ap some bytes)
 
   pub cut-by-crash-holds : cut-by-crash J ≡ true → (p r i k m : ℕ) (e f : List ℕ) → at l p ≡ some (event i e k) → k < length (putOut n q l p) → p < r
-      → at l r ≡ some (event i f m) → (x : ℕ) × Crashes l x i × (p < x) × (x < r)
+      → at l r ≡ some (event i f m) → BehindCut n q l p r i
   unfolding cut-by-crash journalOf sorted rowAt rowOf
   cut-by-crash-holds h p r i k m e f here cut less next =
       let test = all-among (λ (z : Row). z .cut implies crashesNext (z .server) (drop (suc (z .place)) (table n q l w))) (row-among n q l w p (event i e k) here) h in
@@ -154,6 +154,7 @@ module _ (n q : ℕ) (l : Run) (w : Witness) where
           let same : _≡_ {A = Option Entry} (some (event i e k)) (some (store i)) = sym here ∙ m in
           let z : _≡_ {A = ℕ} 0 1 = cc in
           absurd (omega arith)
+      go asks m b = not-both b
       go neither m b = not-both b
 
   pub stores-up-holds : stores-up J ≡ true → (p i : ℕ) → at l p ≡ some (store i) → worldAt n q l p .down i ≡ false

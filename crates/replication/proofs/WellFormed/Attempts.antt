@@ -3,19 +3,18 @@
 use Prim.Native.Nat.{ℕ, _<_}
 use mathlib.Core.Path.{_≡_, subst}
 use mathlib.Core.Bool.{true, false}
-use mathlib.Core.List.{[], _∷_}
 use native.Mathlib.Omega.{arith}
 use Rattle.base.specs.Tests.{_=?_}
 use Rattle.base.proofs.TestLaws.{and-holds, lt-holds, le-fails, eq-fails, pick-as}
 use Rattle.format.specs.Limits.{mostIndex}
-use Rattle.format.specs.Types.{Action, State, cpc}
+use Rattle.format.specs.Types.{Action, State}
 use Rattle.replication.specs.Machine.Types.{Non-prim, Reg-prim, Exchange-states, Exchange-actions, Construct, No, Un, Server, inMode, noYellow}
 use Rattle.replication.specs.Machine.Colours.{yellow}
 use Rattle.replication.specs.Machine.Exchange.{quorum, takenVotes, attempted}
 use Rattle.replication.specs.Machine.Plan.{ownPart}
 use Rattle.replication.specs.Machine.Install.{installVotes, install}
-use Rattle.replication.specs.Machine.Requests.{numbered, sendWaiting, waitingRecords}
-use Rattle.replication.specs.Machine.Step.{quiet, stored, sent, hereSet, hereId, collected, decided, attempting, endExchange, withState, allStatesIn, plannedNow, resending, afterStates, collectState, oneMore, exchanged, allCome, exchange, withCpc, allCpcsIn, installing, collectCpc, collectLateCpc}
+use Rattle.replication.specs.Machine.Requests.{numbered, sendWaiting}
+use Rattle.replication.specs.Machine.Step.{quiet, stored, sent, hereSet, collected, decided, attempting, endExchange, withState, allStatesIn, plannedNow, resending, afterStates, collectState, oneMore, exchanged, allCome, exchange, withCpc, allCpcsIn, installing, collectCpc, collectLateCpc}
 use Rattle.replication.specs.Machine.WellFormedFacts.{Configured, StatesIn, ModeFits}
 use Rattle.replication.proofs.WellFormed.Clauses.{WellFormed}
 use Rattle.replication.proofs.WellFormed.Changes.{Body, body, in-mode, mode-changed, here-below}
@@ -48,8 +47,7 @@ module _ (s t : Server) (b : Body t) (c : Configured t) where
   end-keeps : Keeps s (endExchange s t)
   unfolding endExchange stored
   end-keeps =
-      pick-as (Keeps s) (quorum (collected t) (hereSet t)) (stored s (attempting (decided t)) (cpc (t .me) (hereId t) ∷ []))
-      (stored s (sendWaiting (inMode Non-prim (decided t))) (waitingRecords (inMode Non-prim (decided t)))) attempting-keeps (λ h. giving-up-keeps)
+      pick-as (Keeps s) (quorum (collected t) (hereSet t)) _ _ attempting-keeps (λ h. giving-up-keeps)
 
   after-states-keeps : allStatesIn t ≡ true → Keeps s (afterStates s t)
   unfolding afterStates sent resending hereSet plannedNow collected

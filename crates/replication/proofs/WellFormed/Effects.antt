@@ -116,7 +116,7 @@ module _ (s : Server) (b : Body s) where
   unfolding numbered madeOf quotaLeft
   number-body p f q =
       log-changed s b (withOwn (madeOf p s) (s .log))
-      (numbering-fits (s .servers) (s .quota) (s .me) p (s .log) (b .sizes .own) (b .log) (lt-holds _ _ q) f)
+      (numbering-fits (s .servers) (s .quota) (s .me) p (s .log) (b .sizes .own) (b .log) (omega (arith, lt-holds _ _ q)) f)
 
   pub recovered-body : Body (recovered s)
   unfolding recovered idsIn noStates

@@ -63,13 +63,13 @@ module _ (me : ℕ) (l : Log) (f : OwnListFits me l) where
       ∙ length-map (above (cut l me) (l .numbered)) (ownId me)
       ∙ above-length (cut l me) (l .numbered)
 
-  pub waiting-short : length (waiting l) ≤ l .numbered
-  unfolding waiting unsent
-  waiting-short = omega (arith, filter-length (λ a. l .sent <? a .id .index) (l .own), own-length)
+  pub unsent-short : (k : ℕ) → length (unsent k (l .own)) ≤ l .numbered
+  unfolding unsent
+  unsent-short k = omega (arith, filter-length (λ a. k <? a .id .index) (l .own), own-length)
 
-  pub waiting-ids : Each (λ a. OwnId me l (a .id)) (waiting l)
-  unfolding waiting unsent
-  waiting-ids = each-filter (λ a. OwnId me l (a .id)) _ (l .own) own-ids
+  pub unsent-ids : (k : ℕ) → Each (λ a. OwnId me l (a .id)) (unsent k (l .own))
+  unfolding unsent
+  unsent-ids k = each-filter (λ a. OwnId me l (a .id)) _ (l .own) own-ids
 
   pub waiting-behind : waiting l ≡ drop (l .sent - cut l me) (l .own)
   unfolding waiting above

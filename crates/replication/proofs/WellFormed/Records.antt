@@ -27,7 +27,7 @@ use Rattle.replication.proofs.WellFormed.SentFacts.{senderOf, RecordFit
 use Rattle.replication.proofs.WellFormed.Held.{found-fact}
 use Rattle.replication.proofs.WellFormed.Logs.{LogFits}
 use Rattle.replication.proofs.WellFormed.Numbering.{queue-short}
-use Rattle.replication.proofs.WellFormed.OwnList.{OwnId, waiting-short, waiting-ids}
+use Rattle.replication.proofs.WellFormed.OwnList.{OwnId, unsent-short, unsent-ids}
 use Rattle.replication.proofs.WellFormed.Ranges.{ids-short}
 use Rattle.replication.proofs.WellFormed.Decisions.{green-bound, planned-bound}
 use Rattle.replication.proofs.WellFormed.Changes.{Body}
@@ -188,23 +188,23 @@ module _ (s : Server) (b : Body s) where
         yellow = b .votes .yellow;
       }
 
-  pub waiting-out : PutOut (s .servers) (s .quota) (s .me) (waitingRecords s)
-  unfolding waitingRecords waiting unsent
-  waiting-out =
-      short-out (s .servers) (s .quota) (s .me) (map action (waiting (s .log)))
-      (each-map (Short (s .servers) (s .quota) (s .me)) action (waiting (s .log))
+  unsent-out : (k : ℕ) → PutOut (s .servers) (s .quota) (s .me) (map action (unsent k (s .log .own)))
+  unfolding unsent
+  unsent-out k =
+      let xs = unsent k (s .log .own) in
+      short-out (s .servers) (s .quota) (s .me) (map action xs)
+      (each-map (Short (s .servers) (s .quota) (s .me)) action xs
       (each-implied (λ a. ActionFits (s .servers) (s .quota) a × OwnId (s .me) (s .log) (a .id)) (λ a. Short (s .servers) (s .quota) (s .me) (action a))
-      (λ a h. action-short (s .servers) (s .quota) (s .me) a (h .0) (h .1 .creator)) (waiting (s .log))
-      (each-both (ActionFits (s .servers) (s .quota)) (λ a. OwnId (s .me) (s .log) (a .id)) (waiting (s .log))
+      (λ a h. action-short (s .servers) (s .quota) (s .me) a (h .0) (h .1 .creator)) xs
+      (each-both (ActionFits (s .servers) (s .quota)) (λ a. OwnId (s .me) (s .log) (a .id)) xs
       (each-filter (ActionFits (s .servers) (s .quota)) _ (s .log .own) (b .log .ranges .own))
-      (waiting-ids (s .me) (s .log) (b .log .own-list)))))
-      (omega (
-        arith,
-        length-map (waiting (s .log)) action,
-        waiting-short (s .me) (s .log) (b .log .own-list),
-        b .log .ranges .numbered,
-        many .quota,
-      ))
+      (unsent-ids (s .me) (s .log) (b .log .own-list) k))))
+      (omega (arith, length-map xs action, unsent-short (s .me) (s .log) (b .log .own-list) k, b .log .ranges .numbered, many .quota))
+
+  -- What waits at u, which has the own list of s.
+  pub waiting-out : (u : Server) → s .log .own ≡ u .log .own → PutOut (s .servers) (s .quota) (s .me) (waitingRecords u)
+  unfolding waitingRecords waiting
+  waiting-out u e = subst (λ x. PutOut (s .servers) (s .quota) (s .me) (map action (unsent (u .log .sent) x))) e (unsent-out (u .log .sent))
 
   pub resent-out : (xs : List State) → Each (StateFits (s .servers) (s .quota)) xs → PutOut (s .servers) (s .quota) (s .me) (ownPart (s .servers) (s .me) (s .log) xs)
   resent-out xs f =

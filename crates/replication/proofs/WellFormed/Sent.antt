@@ -1,27 +1,27 @@
 -- Each rule puts out records that are in range and name the server as sender, not too many and not too long.
 -- Assumes nothing.
 use Prim.Native.Nat.{ℕ, _<_}
-use mathlib.Core.Path.{_≡_, subst}
+use mathlib.Core.Path.{_≡_, refl, subst}
 use mathlib.Core.Bool.{true}
-use mathlib.Core.List.{List, [], _∷_}
+use mathlib.Core.List.{List, []}
 use Rattle.base.specs.Tests.{_=?_}
 use Rattle.base.proofs.TestLaws.{pick-as}
-use Rattle.format.specs.Types.{Action, State, Record, cpc}
-use Rattle.replication.specs.Machine.Types.{Non-prim, Reg-prim, Exchange-states, Exchange-actions, Construct, Un, Server, Outcome, withVotes, inMode}
+use Rattle.format.specs.Types.{Action, State, Record}
+use Rattle.replication.specs.Machine.Types.{Exchange-states, Exchange-actions, Construct, Un, Server, Outcome, withVotes, inMode}
 use Rattle.replication.specs.Machine.Exchange.{quorum}
 use Rattle.replication.specs.Machine.Plan.{ownPart}
 use Rattle.replication.specs.Machine.Install.{install}
 use Rattle.replication.specs.Machine.Requests.{sendsNow, quotaLeft, numbered, sendWaiting, waitingRecords}
 use Rattle.replication.specs.Machine.Rules.{Rule, ignoring, reddening, greening, yellowing, lateInstalling, exchanging, collectingState, collectingCpc, collectingLateCpc, joining, joiningUnmarked, joiningYellow, leaving, requesting, recovering}
-use Rattle.replication.specs.Machine.Step.{quiet, stored, sent, unmarked, yellowValid, join, hereSet, hereId, collected, decided, attempting, endExchange, withState, allStatesIn, plannedNow, resending, afterStates, collectState, oneMore, exchanged, allCome, exchange, withCpc, allCpcsIn, installing, collectCpc, collectLateCpc, requested, apply}
+use Rattle.replication.specs.Machine.Step.{quiet, stored, sent, unmarked, yellowValid, join, hereSet, hereId, collected, decided, endExchange, withState, allStatesIn, plannedNow, resending, afterStates, collectState, oneMore, exchanged, allCome, exchange, withCpc, allCpcsIn, installing, collectCpc, collectLateCpc, requested, apply}
 use Rattle.replication.specs.Machine.WellFormedRanges.{PayloadFits}
 use Rattle.replication.specs.Machine.WellFormedFacts.{Configured, StatesIn, ModeFits}
 use Rattle.replication.proofs.WellFormed.Clauses.{WellFormed}
 use Rattle.replication.proofs.WellFormed.SentFacts.{PutOut}
-use Rattle.replication.proofs.WellFormed.Changes.{Body, body, in-mode, collected-fit, here-id-below}
+use Rattle.replication.proofs.WellFormed.Changes.{Body, body, collected-fit, here-id-below}
 use Rattle.replication.specs.Laws.RuleFits.{Delivered, StateCame, RuleFits}
 use Rattle.replication.proofs.WellFormed.Effects.{exchanged-body, install-body, number-body}
-use Rattle.replication.proofs.WellFormed.Exchanges.{decided-body, with-state-body, with-cpc-body, unmarked-body, yellow-valid-body}
+use Rattle.replication.proofs.WellFormed.Exchanges.{with-state-body, with-cpc-body, unmarked-body, yellow-valid-body}
 use Rattle.replication.proofs.WellFormed.Kept.{After}
 use Rattle.replication.proofs.WellFormed.Records.{none-out, cpc-out, state-out, waiting-out, resent-out}
 
@@ -35,12 +35,10 @@ PutBy s r = PutOut (s .servers) (s .quota) (s .me) r
 
 module _ (s t : Server) (b : Body t) (c : Configured t) where
   end-out : PutsOut t (endExchange s t)
-  unfolding endExchange stored decided
+  unfolding endExchange stored decided sendWaiting
   end-out =
-      pick-as (PutsOut t) (quorum (collected t) (hereSet t)) (stored s (attempting (decided t)) (cpc (t .me) (hereId t) ∷ []))
-      (stored s (sendWaiting (inMode Non-prim (decided t))) (waitingRecords (inMode Non-prim (decided t))))
-      (λ h. cpc-out t b (hereId t) (here-id-below t b (c .0) (c .1)))
-      (λ h. waiting-out (inMode Non-prim (decided t)) (in-mode (decided t) (decided-body t b) Non-prim))
+      pick-as (PutsOut t) (quorum (collected t) (hereSet t)) _ _ (λ h. cpc-out t b (hereId t) (here-id-below t b (c .0) (c .1)))
+      (λ h. waiting-out t b _ refl)
 
   states-out : PutsOut t (afterStates s t)
   unfolding afterStates sent
@@ -74,8 +72,8 @@ module _ (s : Server) (f : WellFormed s) where
   collectingCpc-out k h e =
       pick-as (PutsOut s) (allCpcsIn (withCpc k s)) (installing s (withCpc k s)) (quiet s (withCpc k s))
       (λ t.
-      waiting-out (inMode Reg-prim (install (withCpc k s)))
-      (in-mode (install (withCpc k s)) (install-body (withCpc k s) (with-cpc-body s (body s f) k h) ((subst (λ m. ModeFits m s) e (f .mode)) .1)) Reg-prim))
+      waiting-out (install (withCpc k s))
+      (install-body (withCpc k s) (with-cpc-body s (body s f) k h) ((subst (λ m. ModeFits m s) e (f .mode)) .1)) _ refl)
       (λ t. nothing-out)
 
   collectingLateCpc-out : (k : ℕ) → PutsOut s (collectLateCpc k s)
@@ -87,7 +85,7 @@ module _ (s : Server) (f : WellFormed s) where
   unfolding requested stored numbered
   requesting-out p g q =
       pick-as (PutsOut s) (sendsNow (s .membership)) (stored s (sendWaiting (numbered p s)) (waitingRecords (numbered p s))) (stored s (numbered p s) [])
-      (λ h. waiting-out (numbered p s) (number-body s (body s f) p g q)) (λ h. nothing-out)
+      (λ h. waiting-out (numbered p s) (number-body s (body s f) p g q) _ refl) (λ h. nothing-out)
 
   pub apply-out : (k : Rule) → RuleFits k s → PutsOut s (apply k s)
   unfolding apply quiet stored join

@@ -7,7 +7,7 @@ use lib.ListN.{length, getD}
 use Rattle.base.specs.Tests.{_<?_}
 use Rattle.base.specs.Lists.{upd}
 use Rattle.replication.specs.Runs.Happenings.{Message}
-use Rattle.replication.specs.Audit.Table.{Role, delivers, takes, transits, goes-down, comes-back, saves, neither, Row}
+use Rattle.replication.specs.Audit.Table.{Role, delivers, takes, transits, goes-down, comes-back, saves, asks, neither, Row}
 
 -- The messages of a run are numbered from 0 in the order of their sendings. A clock has, at each server's number, a bound: the messages of that
 -- server with lower numbers are known.
@@ -55,6 +55,7 @@ learnt s (transits t) m = []
 learnt s goes-down m = []
 learnt s comes-back m = []
 learnt s saves m = []
+learnt s asks m = []
 learnt s neither m = []
 
 unfoldable pub stampFor : Stamps → Row → Stamp

@@ -12,7 +12,7 @@ use Rattle.replication.specs.Machine.Types.{Configuration}
 use Rattle.replication.specs.Machine.Step.{theId}
 use Rattle.replication.specs.Runs.Run.{Place}
 use Rattle.replication.specs.Runs.Happenings.{Message, Configured, regularly, transitionally}
-use Rattle.replication.specs.Audit.Table.{Role, delivers, takes, transits, goes-down, comes-back, saves, neither, Row}
+use Rattle.replication.specs.Audit.Table.{Role, delivers, takes, transits, goes-down, comes-back, saves, asks, neither, Row}
 use Rattle.replication.specs.Audit.Clocks.{Stamps, numberOf, clockAt, stamps}
 
 -- ---- messages
@@ -68,6 +68,7 @@ deliveryBy (transits t) rs s r = none
 deliveryBy goes-down rs s r = none
 deliveryBy comes-back rs s r = none
 deliveryBy saves rs s r = none
+deliveryBy asks rs s r = none
 deliveryBy neither rs s r = none
 
 -- ---- configurations
@@ -85,6 +86,7 @@ takingBy (transits t) r = none
 takingBy goes-down r = none
 takingBy comes-back r = none
 takingBy saves r = none
+takingBy asks r = none
 takingBy neither r = none
 
 -- A transitional configuration that comes.
@@ -102,6 +104,7 @@ transitionBy (transits t) r = some (record { place = r .place; server = r .serve
 transitionBy goes-down r = none
 transitionBy comes-back r = none
 transitionBy saves r = none
+transitionBy asks r = none
 transitionBy neither r = none
 
 -- A configuration that comes, regular or transitional.
@@ -118,6 +121,7 @@ changeBy (transits t) r = some (record { place = r .place; server = r .server; o
 changeBy goes-down r = none
 changeBy comes-back r = none
 changeBy saves r = none
+changeBy asks r = none
 changeBy neither r = none
 
 -- ---- what comes later at the same server
@@ -130,6 +134,7 @@ settlesBy (transits t) later = later
 settlesBy goes-down later = false
 settlesBy comes-back later = false
 settlesBy saves later = later
+settlesBy asks later = later
 settlesBy neither later = later
 
 unfoldable pub settles : ℕ → List Row → Bool
@@ -144,25 +149,28 @@ nextBy (transits t) r later = changeBy (transits t) r
 nextBy goes-down r later = none
 nextBy comes-back r later = none
 nextBy saves r later = later
+nextBy asks r later = later
 nextBy neither r later = later
 
 unfoldable pub nextChange : ℕ → List Row → Option Change
 nextChange i [] = none
 nextChange i (r ∷ rs) = pick (r .server =? i) (nextBy (r .role) r (nextChange i rs)) (nextChange i rs)
 
--- In these rows the server i's next event or crash, if any, is a crash.
-unfoldable pub crashesBy : Role → Bool → Bool
-crashesBy delivers later = false
-crashesBy (takes c) later = false
-crashesBy (transits t) later = false
-crashesBy goes-down later = true
-crashesBy comes-back later = false
-crashesBy saves later = later
-crashesBy neither later = false
+-- In these rows the server i's next event or crash, if any, is a crash; requests are passed over that send nothing.
+unfoldable pub crashesBy : Role → (sent : List (List ℕ)) → Bool → Bool
+crashesBy delivers s later = false
+crashesBy (takes c) s later = false
+crashesBy (transits t) s later = false
+crashesBy goes-down s later = true
+crashesBy comes-back s later = false
+crashesBy saves s later = later
+crashesBy asks [] later = later
+crashesBy asks (x ∷ s) later = false
+crashesBy neither s later = false
 
 unfoldable pub crashesNext : ℕ → List Row → Bool
 crashesNext i [] = true
-crashesNext i (r ∷ rs) = pick (r .server =? i) (crashesBy (r .role) (crashesNext i rs)) (crashesNext i rs)
+crashesNext i (r ∷ rs) = pick (r .server =? i) (crashesBy (r .role) (r .sent) (crashesNext i rs)) (crashesNext i rs)
 
 unfoldable pub hasLeft : List Row → Taking → Bool
 hasLeft rs t = settles (t .server) (drop (suc (t .place)) rs)

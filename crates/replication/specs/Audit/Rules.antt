@@ -9,7 +9,7 @@ use Rattle.base.specs.Lists.{all, isThere, same}
 use Rattle.base.specs.Quantifiers.{_implies_, pairs, sameOption}
 use Rattle.format.specs.Range.{sizesOk}
 use Rattle.replication.specs.Audit.Same.{sameConfiguration}
-use Rattle.replication.specs.Audit.Table.{Role, delivers, takes, transits, goes-down, comes-back, saves, neither}
+use Rattle.replication.specs.Audit.Table.{Role, delivers, takes, transits, goes-down, comes-back, saves, asks, neither}
 use Rattle.replication.specs.Audit.Journal.{Journal, crashesNext}
 
 -- "All servers begin at the start, with one n and one q, each under its own number"
@@ -39,7 +39,8 @@ one-transitional j = all (λ a. not (isThere (a .before .transitional))) (j .tra
 unfoldable pub genuine : Journal → Bool
 genuine j = all (λ d. d .sending .message .sending <? d .place and sameOption same (d .sending .bytes) (some (d .bytes))) (j .deliveries)
 
--- "A crash may fall .. after it and its store, if any, with none or only the first few of its records sent"
+-- "A crash may fall .. after it and its store, if any, with none or only the first few of its records sent"; before it requests may come that send
+-- nothing.
 unfoldable pub cut-by-crash : Journal → Bool
 cut-by-crash j = all (λ r. r .cut implies crashesNext (r .server) (drop (suc (r .place)) (j .rows))) (j .rows)
 
@@ -51,6 +52,7 @@ bringsBack (transits t) = false
 bringsBack goes-down = true
 bringsBack comes-back = true
 bringsBack saves = true
+bringsBack asks = false
 bringsBack neither = false
 
 -- "that server's next event is then recovery, from its store."
@@ -64,6 +66,7 @@ isStore (transits t) = false
 isStore goes-down = false
 isStore comes-back = false
 isStore saves = true
+isStore asks = false
 isStore neither = false
 
 -- A store comes to a server that is up.

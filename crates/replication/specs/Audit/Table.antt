@@ -15,7 +15,7 @@ use Rattle.replication.specs.Runs.Happenings.{Message}
 use Rattle.replication.specs.Audit.Witness.{Witness, sourceIn, nameIn, entryOrd, sendingOrdsAt}
 
 -- What an entry is, in the thesis's terms: the delivery of a message, or of a configuration (regular; transitional, with its set), a crash, a
--- recovery, a store between events, or none of these (a request, or bytes that do not read).
+-- recovery, a store between events, a request, or none of these (bytes that do not read).
 pub data Role : Type 0 where
   delivers : Role
   takes : Configuration → Role
@@ -23,6 +23,7 @@ pub data Role : Type 0 where
   goes-down : Role
   comes-back : Role
   saves : Role
+  asks : Role
   neither : Role
 
 unfoldable pub roleIn : Reading Record → Role
@@ -32,7 +33,7 @@ roleIn (says (state x)) = delivers
 roleIn (says (cpc k i)) = delivers
 roleIn (says (regular i s)) = takes (record { id = i; set = s })
 roleIn (says (transitional s)) = transits s
-roleIn (says (request p)) = neither
+roleIn (says (request p)) = asks
 roleIn (says recovery) = comes-back
 roleIn (refused k) = neither
 

@@ -26,9 +26,9 @@ pub record Numbers (s t : Server) (p : List ℕ) : Type 0 where
   pub numbered : t .log .numbered ≡ s .log .numbered + 1
   pub own : t .log .own ≡ s .log .own ++ (madeOf p s ∷ [])
 
--- What t has on its own list and s had not sent is put out, and t has sent all that is numbered.
-pub record SendsWaiting (s t : Server) (rs : List Record) : Type 0 where
-  pub records : rs ≡ map action (unsent (s .log .sent) (t .log .own))
+-- What t has on its own list above the index k is put out, and t has sent all that is numbered.
+pub record SendsWaiting (k : ℕ) (t : Server) (rs : List Record) : Type 0 where
+  pub records : rs ≡ map action (unsent k (t .log .own))
   pub sent : t .log .sent ≡ t .log .numbered
 
 -- ---- the records
@@ -48,15 +48,15 @@ pub data PutsOut (s : Server) (r : Record) (t : Server) : List Record → Bool �
       → SameNumbers (s .log) (t .log) → PutsOut s r t (cpc (t .me) (hereId t) ∷ []) true
   -- "Request: sent in Reg_prim, and in Non_prim .."
   requestAtOnce : (p : List ℕ) (rs : List Record) → r ≡ request p → sendsNow (s .membership) ≡ true → t .membership ≡ s .membership
-      → Numbers s t p → SendsWaiting s t rs → PutsOut s r t rs true
+      → Numbers s t p → SendsWaiting (s .log .sent) t rs → PutsOut s r t rs true
   -- K4: "numbered, put on the own list and stored whenever it comes"
   requestWaits : (p : List ℕ) → r ≡ request p → sendsNow (s .membership) ≡ false → Numbers s t p → t .log .sent ≡ s .log .sent
       → PutsOut s r t [] true
   -- K4: "sent .. in order when the server reaches Reg_prim, or the part of Non_prim where requests are sent"
   waitingAfterExchange : (rs : List Record) → EndsExchange s r → quorum (statesWith r s) (hereSet s) ≡ false → modeOf t ≡ Non-prim
-      → t .log .numbered ≡ s .log .numbered → SendsWaiting s t rs → PutsOut s r t rs true
+      → t .log .numbered ≡ s .log .numbered → SendsWaiting (s .log .sent) t rs → PutsOut s r t rs true
   waitingAfterInstall : (k i : ℕ) (rs : List Record) → r ≡ cpc k i → modeOf s ≡ Construct → allCpcsIn (withCpc k s) ≡ true
-      → modeOf t ≡ Reg-prim → t .log .numbered ≡ s .log .numbered → SendsWaiting s t rs → PutsOut s r t rs true
+      → modeOf t ≡ Reg-prim → t .log .numbered ≡ s .log .numbered → SendsWaiting (s .log .sent) t rs → PutsOut s r t rs true
 
 -- An own action that t has numbered after s: its creator, its index above those that s has numbered and among those that t has; it carries the green
 -- length of s, and is on the own list.

@@ -1,4 +1,8 @@
--- Document 01, 'Returned numbers', row 8: which states are well-formed. In the row's order; what it does not name is accepted.
+-- Document 01, 'Returned numbers', row 8: which states are well-formed. In the row's order; since K4 "numbered plus held above q" is a range.
+-- What the row does not name is accepted (docs/DECISIONS.md, 32). "out of range" is read so that these are tested too (24, 31, 73):
+-- a configuration's set holds the server, a transitional one too and lies inside the configuration's, if any; a collected State stands at its
+-- sender's number and is of the configuration's id and of one of its members, so that there is none without a configuration; own actions are
+-- sent and entered up to the last numbered; at most 2 n q have come. Lists by server have n entries.
 -- Assumes nothing.
 use Prim.Native.Nat.{ℕ, _+_, _*_}
 use mathlib.Core.Bool.{Bool, true, false, not}

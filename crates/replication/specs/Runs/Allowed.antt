@@ -13,7 +13,7 @@ use Rattle.format.specs.Range.{sizesOk}
 use Rattle.format.specs.Types.{Record, transitional, recovery}
 use Rattle.replication.specs.Machine.Types.{Configuration}
 use Rattle.replication.specs.Runs.Run.{event, store, Run, worldAt, placeAt, members, putOut, sentAt}
-use Rattle.replication.specs.Runs.Happenings.{Message, isMessage, Configured, Happening, entry-at, sending-of, Of, Crashes, Comes, Falls}
+use Rattle.replication.specs.Runs.Happenings.{Message, isMessage, Configured, Happening, entry-at, sending-of, Of, Comes, Falls, BehindCut}
 use Rattle.replication.specs.Runs.Happenings.{Takes, Left, Sends, Delivers, Delivered, Configures, Passes, Causes, Precedes}
 
 pub record Allowed (n q : ℕ) (l : Run) : Type 0 where
@@ -42,9 +42,10 @@ pub record Allowed (n q : ℕ) (l : Run) : Type 0 where
   pub genuine : (p i k : ℕ) (e : List ℕ) (r : Record) → at l p ≡ some (event i e k) → Comes n q l p i r → isMessage r ≡ true
       → (source p .sending < p) × (at (sentAt n q l (source p .sending)) (source p .number) ≡ some e)
   -- "A crash may fall before an event, or after it and its store, if any, with none or only the first few of its records sent": the crash comes
-  -- before the server's next event.
+  -- before the server's next event. Beyond document 01 requests may come before it, none of their records sent: of a daemon that takes several
+  -- requests, stores once and then sends.
   pub cut-by-crash : (p r i k m : ℕ) (e f : List ℕ) → at l p ≡ some (event i e k) → k < length (putOut n q l p)
-      → p < r → at l r ≡ some (event i f m) → (x : ℕ) × Crashes l x i × (p < x) × (x < r)
+      → p < r → at l r ≡ some (event i f m) → BehindCut n q l p r i
   -- "that server's next event is then recovery, from its store."
   pub recovers : (p i k : ℕ) (e : List ℕ) → at l p ≡ some (event i e k) → worldAt n q l p .down i ≡ true → Comes n q l p i recovery
   -- A store comes to a server that is up.

@@ -4,7 +4,7 @@
 use Prim.Native.Nat.{ℕ, suc, _<_}
 use mathlib.Core.Path.{_≡_}
 use mathlib.Core.Bool.{Bool, true, false}
-use mathlib.Core.List.{List}
+use mathlib.Core.List.{List, []}
 use mathlib.Core.Option.{some}
 use lib.ListN.{length}
 use Rattle.base.specs.Lists.{at}
@@ -60,6 +60,12 @@ module _ (n q : ℕ) (l : Run) where
   pub data Falls (p i : ℕ) : Type 0 where
     by-crash : Crashes l p i → Falls p i
     by-recovery : Comes p i recovery → Falls p i
+
+  -- What comes to the server i at r, behind an event at p whose records were not all sent: it has gone down between, or this is a request, and
+  -- nothing of it is sent either.
+  pub data BehindCut (p r i : ℕ) : Type 0 where
+    gone-down : (x : ℕ) → Crashes l x i → p < x → x < r → BehindCut p r i
+    unsent-request : (y : List ℕ) → Comes r i (request y) → sentAt n q l r ≡ [] → BehindCut p r i
 
   -- deliver_conf_i(c) for a regular c.
   abbrev pub Takes : (p i : ℕ) → Configuration → Type 0

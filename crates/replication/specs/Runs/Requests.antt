@@ -1,6 +1,6 @@
 -- Document 02, K4: what becomes of requests. Of one server the events may be any, with recoveries and stores anywhere.
 -- Assumes nothing.
-use Prim.Native.Nat.{ℕ, _<_}
+use Prim.Native.Nat.{ℕ, _≤_, _<_}
 use mathlib.Core.Path.{_≡_}
 use mathlib.Core.Bool.{Bool, true}
 use mathlib.Core.List.{List, [], _∷_, _++_, List·Memᴰ}
@@ -35,7 +35,7 @@ pub record PutsAction (s : Server) (es : List (Option (List ℕ))) (j : ℕ) (a 
   pub peer : Peer s reader
   pub reads : read reader bytes ≡ says (action a)
 
--- Two actions put out are the server's own, and the later one has the higher index: none is put out twice.
+-- "is sent, one time only, in order": two actions put out are the server's own, and the later one has the higher index: none is put out twice.
 unfoldable pub OneTimeOnly : Type 0
 OneTimeOnly =
     (s : Server) → wellFormed s ≡ true → (es : List (Option (List ℕ))) (j k : ℕ) (a b : Action)
@@ -48,10 +48,33 @@ OneTimeOnly =
 unfoldable pub NothingWaits : Server → Type 0
 NothingWaits s = sendsNow (s .membership) ≡ true → waiting (s .log) ≡ []
 
--- In every state that a server reaches from its start.
+-- "is sent .. when the server reaches ..": so it is in every state that a server reaches from its start.
 unfoldable pub SentOnReaching : Type 0
 SentOnReaching =
     (n q i : ℕ) → sizesOk n q ≡ true → i < n → (es : List (Option (List ℕ))) → OfBoth NothingWaits (lived (started (start n q i)) es)
+
+-- "is sent": what counts as sent was put out, in every such state.
+unfoldable pub EachSent : Type 0
+EachSent =
+    (n q i : ℕ) → sizesOk n q ≡ true → i < n → (es : List (Option (List ℕ))) (a : Action)
+    → List·Memᴰ a (lived (started (start n q i)) es .memory .log .own) → a .id .index ≤ lived (started (start n q i)) es .memory .log .sent
+    → (j : ℕ) × PutsAction (start n q i) es j a
+
+-- "is sent .. when the server reaches ..": where requests are sent, every action on the own list was put out.
+unfoldable pub AllPutOut : Type 0
+AllPutOut =
+    (n q i : ℕ) → sizesOk n q ≡ true → i < n → (es : List (Option (List ℕ)))
+    → sendsNow (lived (started (start n q i)) es .memory .membership) ≡ true
+    → (a : Action) → List·Memᴰ a (lived (started (start n q i)) es .memory .log .own) → (j : ℕ) × PutsAction (start n q i) es j a
+
+-- ---- "once entered it is not sent"
+
+-- "once entered it is not sent": no action that an event puts out is entered in the state that it leaves.
+unfoldable pub EnteredNotSent : Type 0
+EnteredNotSent =
+    (s : Server) → wellFormed s ≡ true → (es : List (Option (List ℕ))) (e : List ℕ) (j : ℕ) (bytes : List ℕ) (c : Context) (a : Action)
+    → at (recordsOf (arrive (lived (started s) es) e)) j ≡ some bytes → Peer s c → read c bytes ≡ says (action a)
+    → List·Memᴰ (a .id) (idsIn (queue (next (lived (started s) es) e .memory .log))) → ⊥
 
 -- ---- nothing that was answered 0 is lost: "stored whenever it comes", "After a crash it is an own-list action like any other"
 
@@ -65,7 +88,7 @@ pub record TakesRequest (i : Images) (e p : List ℕ) (t : Server) (rs : List (L
   pub reads : read (contextOf (i .memory)) e ≡ says (request p)
   pub takes : arrive i e ≡ taken t rs b g
 
--- It stores, and whatever comes then, the action that it made of the request stays, in memory and store.
+-- "numbered, put on the own list and stored": it stores, and whatever comes then, the action that it made of the request stays, in memory and store.
 unfoldable pub NothingLost : Type 0
 NothingLost =
     (s : Server) → wellFormed s ≡ true
@@ -78,7 +101,7 @@ pub data HasAction (a : Action) (s : Server) : Type 0 where
   on-own-list : List·Memᴰ a (s .log .own) → HasAction a s
   entered : List·Memᴰ a (queue (s .log)) → HasAction a s
 
--- In every allowed run, stray events included, it is that very action.
+-- "an own-list action like any other": in every allowed run, stray events included, it is that very action.
 unfoldable pub NothingLostInRuns : Type 0
 NothingLostInRuns =
     (n q : ℕ) (l : Run) → AllowedWithStrays n q l
@@ -86,14 +109,30 @@ NothingLostInRuns =
     → at l x ≡ some (event i e k) → TakesRequest (worldAt n q l x .images i) e p t rs b g
     → (y : ℕ) → x < y → OfBoth (HasAction (madeOf p (worldAt n q l x .images i .memory))) (worldAt n q l y .images i)
 
+-- ---- "whenever it comes", "3 counts numbered actions"
+
+-- "numbered .. and stored whenever it comes": taken and stored below the quota, 3 else.
+pub record TakenUntilQuota : Type 0 where
+  pub below : (s : Server) (e p : List ℕ) → read (contextOf s) e ≡ says (request p) → s .log .numbered < s .quota
+      → (t : Server) × (rs : List (List ℕ)) × (g : List Action) × (step s e ≡ taken t rs true g)
+  pub used : (s : Server) (e p : List ℕ) → read (contextOf s) e ≡ says (request p) → s .quota ≤ s .log .numbered
+      → step s e ≡ Outcome.refused 3
+
 -- ---- "4 never occurs"
 
+-- "Holding ends, so 4 never occurs".
 unfoldable pub NeverFour : Type 0
 NeverFour = (s : Server) (e : List ℕ) → step s e ≡ Outcome.refused 4 → ⊥
+
+-- ---- all of it
 
 pub record RequestsKept : Type 0 where
   pub one-time-only : OneTimeOnly
   pub sent-on-reaching : SentOnReaching
+  pub each-sent : EachSent
+  pub all-put-out : AllPutOut
+  pub entered-not-sent : EnteredNotSent
   pub nothing-lost : NothingLost
   pub nothing-lost-in-runs : NothingLostInRuns
+  pub taken-until-quota : TakenUntilQuota
   pub never-four : NeverFour

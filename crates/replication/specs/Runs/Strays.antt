@@ -12,7 +12,7 @@ use Rattle.replication.specs.Images.{arrive}
 use Rattle.replication.specs.Runs.Run.{Entry, event, Run, World, worldAt}
 use Rattle.replication.specs.Runs.Allowed.{Allowed}
 
--- In the world w the entry x is an event that the machine refuses, at a server that is up.
+-- In the world w the entry x is an event that the machine refuses.
 pub record IsStray (n : ℕ) (w : World) (x : Entry) : Type 0 where
   pub server : ℕ
   pub bytes : List ℕ
@@ -20,7 +20,6 @@ pub record IsStray (n : ℕ) (w : World) (x : Entry) : Type 0 where
   pub number : ℕ
   pub is : x ≡ event server bytes sent
   pub there : server < n
-  pub up : w .down server ≡ false
   pub refusal : arrive (w .images server) bytes ≡ Outcome.refused number
 
 -- The run without the entries at the places that are named.
@@ -32,8 +31,13 @@ unfoldable pub without : (ℕ → Bool) → Run → Run
 without stray [] = []
 without stray (x ∷ l) = unless (stray 0) x (without (λ p. stray (suc p)) l)
 
--- Some events of the run, each refused by the machine at a server that is up, are named as strays; without them the run is allowed.
+-- Some events of the run, each refused by the machine, are named as strays; without them the run is allowed.
 pub record AllowedWithStrays (n q : ℕ) (l : Run) : Type 0 where
   pub stray : ℕ → Bool
   pub refused : (p : ℕ) (x : Entry) → at l p ≡ some x → stray p ≡ true → IsStray n (worldAt n q l p) x
   pub rest : Allowed n q (without stray l)
+
+-- .. and each of them comes to a server that is up: asked where a crash loses what a server had in memory, as of a daemon's buffers.
+pub record AllowedWithStraysUp (n q : ℕ) (l : Run) : Type 0 where
+  pub allowed : AllowedWithStrays n q l
+  pub up : (p i k : ℕ) (e : List ℕ) → at l p ≡ some (event i e k) → allowed .stray p ≡ true → worldAt n q l p .down i ≡ false
