@@ -188,6 +188,11 @@ typedef struct {
     uint32_t primary_index, primary_attempt, primary_set; /* the last primary component known here */
     uint32_t attempt;
     uint32_t marked;                              /* 1: marked by an attempt at a primary component whose end is not known here */
+    /* How far a meeting is: what has come of what this server waits for, one behind the other; with all of it a server in Construct goes to Reg_prim.
+       m is how many members configuration_set has. Each count is 0 in the states that are not named. */
+    uint32_t states_in;                           /* States, of m: in Exchange_states; Exchange_actions has all m */
+    uint32_t resent_in, resent_planned;           /* retransmissions, and of how many planned: in Exchange_actions */
+    uint32_t cpcs_in;                             /* CPCs, of m: in Construct, No and Un */
 } guzbytor_summary_answer;
 
 guzbytor_summary_answer guzbytor_summary(const uint8_t *state, size_t state_length);

@@ -67,7 +67,7 @@ def files():
             found.update(run_files(name, told))
     found['crates/replay/stdin'], found['crates/replay/stdout'] = found['samples/partition.bin'], found['samples/partition.txt']
     found['crates/examples/proofs/Worked.antt'] = worked_file(stories['worked'])
-    for name in ('partition', 'corner', 'odd', 'figure48'):
+    for name in ('partition', 'reunion', 'halves', 'corner', 'odd', 'figure48'):
         found['crates/examples/proofs/%sRun.antt' % name.capitalize()] = proof_files.run_file(stories[name], SOURCES + name + '.story').encode()
     found['docs/reunion.svg'] = picture(found['samples/reunion.bin'], found['samples/reunion.txt'])
     found['include/guzbytor_layout.h'] = c_header.header().encode()

@@ -1,7 +1,8 @@
 #!/bin/sh
 # Runs the office (examples/c/office) by the seeds 1 to COUNT, with every number of depots and many quotas: each run must end with all depots in one
 # primary component with equal green lists, which have every request that was answered 0, and the register that they make. Runs that `replay` can take
-# are recorded, and its lines compared with the office's own. Then a register as a table and as a sheet (examples/c/sheet.c), which must be those under docs/.
+# are recorded, and its lines compared with the office's own. Then a run that stops in a meeting, and a register as a table and as a sheet
+# (examples/c/sheet.c): all must be as under docs/.
 # usage: office.sh [COUNT]       (default 1000)
 set -eu
 cd "$(dirname "$0")/.."
@@ -49,6 +50,11 @@ awk '{ events += $3; crashes += $5; green += $7; refused += $9; pegs += $11 }
     END { print events " events, " crashes " crashes, " green " green, of these " refused " refused by the register, " pegs " pegs" }' "$out/all.txt"
 echo "$equal of $count seeds ended equal; replay prints the same lines for $same of $recorded recorded"
 [ "$equal" -eq "$count" ] && [ "$same" -eq "$recorded" ] || exit 1
+
+# A run that stops, and how far its meeting is, as docs/STORY.md has it.
+"$out/office" 332 -n 3 -q 16 -m 50 -u -d "$out/depots" -w | while IFS= read -r line; do
+    grep -qF "$line" docs/STORY.md || { echo "not in docs/STORY.md: $line" && exit 1; }
+done
 
 # A run's register: the table, the sheet, and a part of it with the peg that is nearest to a point (docs/STORY.md).
 "$out/office" 7 -n 3 -q 16 -u -d "$out/depots" -p "$out/pegs.img" >/dev/null

@@ -1,8 +1,9 @@
 #!/bin/sh
 # A picture of a run, as SVG: a band for each depot, events from left to right, in as many strips as the run needs.
 # usage: sh scripts/picture.sh RUN.bin LINES.txt > RUN.svg      (LINES.txt: what replay prints of RUN.bin)
-# The band's colour is the depot's state, the bar in it the depot's list: green entries below, red ones above. The run does not say when a depot
-# crashed: the stretch from its last event to its recovery is hatched. Needs a POSIX shell, awk and od.
+# The band's colour is the depot's state, the bar in it the depot's list: green entries below, red ones above. Below a regular configuration stands what
+# was delivered in it, and in the transitional one behind it: States, retransmissions, CPCs. The run does not say when a depot crashed: the stretch from
+# its last event to its recovery is hatched. Needs a POSIX shell, awk and od.
 set -eu
 if [ $# -ne 2 ] || [ ! -r "$1" ] || [ ! -r "$2" ]; then
     echo "usage: sh $0 RUN.bin LINES.txt > RUN.svg" >&2
@@ -55,6 +56,7 @@ function letters(s) { gsub(/&[a-z0-9#]*;/, "x", s); return length(s) }
 # What an event shows beside its state: `what` it is, and its label. An id may be 2^31 or more, which mawk prints as a whole number by %.0f alone.
 function read_event(e, at,   kind, body) {
     kind = byte[at + 4]; body = at + 5
+    if (returned[e] == 0) came[met[server[e]], kind]++
     if (kind == 7 && returned[e] != 1) label[e] = payload(body + 1, byte[body])
     if (returned[e] != 0) { what[e] = "refused"; label[e] = label[e] "&#215;" returned[e] }
     else if (kind == 5) { what[e] = "regular"; label[e] = sprintf("%.0f ", number(body, 4)) members(byte[body + 4]) }
@@ -64,7 +66,15 @@ function read_event(e, at,   kind, body) {
     seen[what[e]] = seen[state[e]] = 1
 }
 
-# Also where primary components are formed, and the last event before each recovery.
+# What was delivered in the configuration that came by the event e; so many of one kind, behind what is said already.
+function counted(t, m, one, more) { return m ? t (t == "" ? "" : ", ") m " " (m == 1 ? one : more) : t }
+function delivered(e,   t) {
+    t = counted("", came[e, 3] + 0, "State", "States"); t = counted(t, came[e, 2] + 0, "resent", "resent")
+    return counted(t, came[e, 4] + 0, "CPC", "CPCs")
+}
+
+# Also what stands below the bands: where primary components are formed, and what was delivered in a configuration. And the last event before each
+# recovery.
 function read_run(   e, at, k, known, last_event) {
     n = byte[4]; at = 7
     if (byte[3] != 9 || events < 1) fail("no events")
@@ -72,10 +82,15 @@ function read_run(   e, at, k, known, last_event) {
         if (at + 4 >= count || byte[at] != server[e]) fail("event " e " is not the one of the lines")
         read_event(e, at)
         k = server[e]
-        if (primary[e] > known[k] + 0 && state[e] ~ /^(Reg|Trans)_prim$/) forms[e] = "primary " primary[e]
-        if (what[e] == "recovery") down_since[e] = last_event[k] + 1
+        if (primary[e] > known[k] + 0 && state[e] ~ /^(Reg|Trans)_prim$/) { below[e] = "primary " primary[e]; below_kind[e] = "primary" }
+        if (what[e] == "regular") { met[k] = e; below_kind[e] = "meeting" }
+        if (what[e] == "recovery") { met[k] = 0; down_since[e] = last_event[k] + 1 }
         known[k] = primary[e]; last_event[k] = e
         at += 3 + number(at + 1, 2)
+    }
+    for (e in below_kind) {
+        if (below_kind[e] == "meeting" && delivered(e) != "") below[e] = delivered(e)
+        if (e in below) seen[below_kind[e]] = 1
     }
 }
 
@@ -116,10 +131,10 @@ function draw_above(y,   i, e, x, base) {
     }
 }
 
-function draw_below(y,   i, x) {
+function draw_below(y,   i, x, kind) {
     for (i = 1; i <= labels; i++) {
-        x = x_of(of[i])
-        line(x, y - band, y + row * lies[i], "primary"); text(x + 3, y + row * lies[i], "primary", forms[of[i]])
+        x = x_of(of[i]); kind = below_kind[of[i]]
+        line(x, kind == "primary" ? y - band : y, y + row * lies[i], kind); text(x + 3, y + row * lies[i], kind, below[of[i]])
     }
 }
 
@@ -173,7 +188,7 @@ function draw_strip(y,   e, k, x) {
         x = x_of(stop) + 6
         if (last == events) { text(x, y + band - 18, "end", greens[k] " green"); text(x, y + band - 4, "end", reds[k] " red") }
         y += band
-        e = arrange(k, forms); draw_below(y); y += row * e + 6
+        e = arrange(k, below); draw_below(y); y += row * e + 6
     }
     return y
 }
@@ -204,6 +219,7 @@ function legend(   i, s) {
     sample("regular", "4 {0,1}", "configuration 4 of depots 0 and 1"); sample("transitional", "{0,1}", "transitional configuration")
     sample("request", "P1", "request"); sample("refused", "&#215;5", "refused 5")
     sample("recovery", "recovery", "from the store"); sample("primary", "primary 2", "formed here")
+    sample("meeting", "3 States, 3 CPCs", "delivered in the configuration above")
     return base
 }
 
@@ -217,7 +233,7 @@ function head(w, h) {
     print "path.axis { stroke: #bbb; stroke-width: 1 } text.transitional { fill: #666 } path.transitional { stroke: #666; stroke-dasharray: 3 2 }"
     print "text.request { fill: #1f4e9c } path.request { stroke: #1f4e9c } path.triangle { fill: #1f4e9c }"
     print "text.recovery, text.refused { fill: #b00020 } path.recovery { stroke: #b00020; stroke-width: 2 } path.refused { stroke: #b00020 }"
-    print "text.primary { fill: #14602a } path.primary { stroke: #14602a; stroke-width: 1.5 }"
+    print "text.primary { fill: #14602a } path.primary { stroke: #14602a; stroke-width: 1.5 } text.meeting { fill: #666 } path.meeting { stroke: #999 }"
     print "</style>\n<defs><pattern id=\"down\" width=\"6\" height=\"6\" patternUnits=\"userSpaceOnUse\">"
     print "<path style=\"stroke: #b00020\" d=\"M0 6L6 0\"/></pattern></defs>\n<rect width=\"100%\" height=\"100%\" fill=\"white\"/>"
 }
@@ -225,7 +241,6 @@ function head(w, h) {
 END {
     if (failed) exit 1
     read_run()
-    for (e in forms) seen["primary"] = 1
     for (k = 0; k < n; k++) { now[k] = "Non_prim"; greens[k] = reds[k] = 0 }
     strips = int((events + most_events - 1) / most_events); per_strip = int((events + strips - 1) / strips)
     step = (page - left - right) / (per_strip + tail); if (step > most_step) step = most_step

@@ -29,3 +29,4 @@ pub mod Branches
 pub mod Shifts
 pub mod Over
 pub mod FirstLaws
+pub mod Counting

@@ -21,3 +21,11 @@ pub mod OddRun
 pub mod Odd
 pub mod Figure48Run
 pub mod Figure48
+pub mod ReunionRun
+pub mod Reunion
+pub mod HalvesRun
+pub mod Halves
+pub mod MarkLeft
+pub mod Meetings
+pub mod Settled
+pub mod Unsettled

@@ -14,18 +14,18 @@ use Rattle.replication.specs.Machine.WellFormed.{queue, wellFormed}
 use Rattle.engine.specs.Layout.{headerSize}
 use Rattle.engine.specs.Header.{headerOf, headerIn, lastOf, markNumbers}
 use Rattle.engine.specs.Decode.{decoded}
-use Rattle.engine.specs.Holding.{Holds}
+use Rattle.engine.specs.Holding.{Holds, HoldsSome, Computes}
 use Rattle.engine.specs.Outcome.{imageNumber}
 use Rattle.engine.proofs.HeaderLaws.{header-loaded}
-use Rattle.engine.proofs.InPlace.{holds-header}
+use Rattle.engine.proofs.InPlace.{holds-header, holds-some}
 use Rattle.engine.proofs.Counts.{queue-parts}
 use Rattle.engine.proofs.Unsent.{sent-within}
 use Rattle.engine.proofs.Refusals.{whole-holds}
 use Rattle.queries.specs.declared.Summary.{Summary}
-use Rattle.queries.specs.Queries.{summaryOf, noSummary, summaryOn}
+use Rattle.queries.specs.Queries.{statesIn, resentIn, resentPlanned, cpcsIn, summaryOf, noSummary, summaryOn}
 
-abbrev made : State → (red unsent : ℕ) → Summary
-made h red unsent = record {
+abbrev made : State → (red unsent states resent planned cpcs : ℕ) → Summary
+made h red unsent states resent planned cpcs = record {
   number = 0;
   servers = h .servers;
   quota = h .quota;
@@ -46,14 +46,24 @@ made h red unsent = record {
   «primary_set» = h .last .set;
   attempt = h .attempt .0;
   marked = h .mark .status;
+  «states_in» = states;
+  «resent_in» = resent;
+  «resent_planned» = planned;
+  «cpcs_in» = cpcs;
 }
 
-pub summary-made : (h : State) (unsent : ℕ) → ((s : Server) → wellFormed s ≡ true → h ≡ headerOf s → unsent ≡ length (waiting (s .log)))
-    → (s : Server) → wellFormed s ≡ true → h ≡ headerOf s → made h (h .«queue_length» - h .«green_length») unsent ≡ summaryOf s
+pub summary-made : (h : State) (unsent states resent planned cpcs : ℕ)
+    → ((s : Server) → wellFormed s ≡ true → h ≡ headerOf s → unsent ≡ length (waiting (s .log)))
+    → ((s : Server) → h ≡ headerOf s → states ≡ statesIn s)
+    → ((s : Server) → h ≡ headerOf s → resent ≡ resentIn s)
+    → ((s : Server) → h ≡ headerOf s → cpcs ≡ cpcsIn s)
+    → (s : Server) → wellFormed s ≡ true → h ≡ headerOf s → planned ≡ resentPlanned s
+    → made h (h .«queue_length» - h .«green_length») unsent states resent planned cpcs ≡ summaryOf s
 unfolding summaryOf headerOf lastOf markNumbers
-summary-made h unsent f s ok e =
+summary-made h unsent states resent planned cpcs f g i j s ok e k =
     let red : length (queue (s .log)) - length (s .log .green) ≡ length (s .log .red) = omega (arith, queue-parts (s .log)) in
-    ap (λ (x : State). made x (x .«queue_length» - x .«green_length») unsent) e ∙ (λ i. made (headerOf s) (red i) (f s ok e i))
+    ap (λ (x : State). made x (x .«queue_length» - x .«green_length») unsent states resent planned cpcs) e
+    ∙ (λ z. made (headerOf s) (red z) (f s ok e z) (g s e z) (i s e z) (k z) (j s e z))
 
 module _ (b : List ℕ) (n : ℕ) (e : n ≡ imageNumber b) where
   pub summary-refused : (r : Summary) → (n ≡ 0 → ⊥) → r ≡ noSummary n → r ≡ summaryOn b
@@ -63,6 +73,9 @@ module _ (b : List ℕ) (n : ℕ) (e : n ≡ imageNumber b) where
   module _ (z : n ≡ 0) where
     read : Holds (decoded b) b
     read = whole-holds b (sym e ∙ z)
+
+    pub summary-some : HoldsSome b
+    summary-some = holds-some (decoded b) b read
 
     pub summary-header : headerSize ≤ length b
     summary-header = holds-header (decoded b) b read
@@ -79,6 +92,7 @@ module _ (b : List ℕ) (n : ℕ) (e : n ≡ imageNumber b) where
       summary-counts =
           omega (arith, ap (λ (x : State). x .«green_length») numbers, ap (λ (x : State). x .«queue_length») numbers, queue-parts (decoded b .log))
 
-      pub summary-read : (r : Summary) → ((s : Server) → wellFormed s ≡ true → h ≡ headerOf s → r ≡ summaryOf s) → r ≡ summaryOn b
+      pub summary-read : (p : ℕ) (r : Summary) → Computes resentPlanned b p
+          → ((s : Server) → wellFormed s ≡ true → h ≡ headerOf s → p ≡ resentPlanned s → r ≡ summaryOf s) → r ≡ summaryOn b
       unfolding summaryOn
-      summary-read r k = pick-eq (imageNumber b) 0 r _ _ (sym e ∙ z) (k (decoded b) (read .formed) numbers)
+      summary-read p r f k = pick-eq (imageNumber b) 0 r _ _ (sym e ∙ z) (k (decoded b) (read .formed) numbers (f (decoded b) read))

@@ -1,22 +1,46 @@
 -- What a state's buffer says, for C: its numbers, and its green entries.
 -- Assumes nothing.
 use Prim.Native.Nat.{ℕ, _+_, _-_}
+use mathlib.Core.Bool.{Bool}
 use mathlib.Core.List.{List, [], _∷_, map}
 use lib.ListN.{length, drop}
 use Rattle.base.specs.Tests.{_or_, _≤?_, _<?_, _=?_, pick}
 use Rattle.base.specs.Bytes.{joined, over}
+use Rattle.base.specs.Sets.{size}
 use Rattle.format.specs.Limits.{mostPayload}
 use Rattle.format.specs.Places.{idSize}
 use Rattle.format.specs.Types.{Action}
 use Rattle.format.specs.Write.{idBytes, payloadBytes}
-use Rattle.replication.specs.Machine.Types.{Server}
+use Rattle.replication.specs.Machine.Types.{Mode, Exchange-states, Exchange-actions, Construct, No, Un, Server}
 use Rattle.replication.specs.Machine.Requests.{waiting}
+use Rattle.replication.specs.Machine.Step.{collected, plannedNow}
 use Rattle.engine.specs.Image.{modeNumber}
 use Rattle.engine.specs.Header.{statusOf, idOf, setOf, transitionalOf}
 use Rattle.engine.specs.Decode.{decoded, reads, greensIn}
 use Rattle.engine.specs.Outcome.{stateShort, imageNumber}
 use Rattle.queries.specs.declared.Summary.{Summary}
 use Rattle.queries.specs.declared.GreenEntries.{GreenEntries}
+
+-- ---- how far a meeting is: document 02, K13, "m States, the planned retransmissions and m CPCs have been delivered". Each count is 0 in the
+-- states in which it means nothing: the server may still hold what an earlier meeting left.
+
+unfoldable pub isIn : Mode → Server → Bool
+isIn m s = modeNumber (s .membership .mode) =? modeNumber m
+
+-- K13, "m States": those in. They come in Exchange_states; Exchange_actions has every member's.
+unfoldable pub statesIn : Server → ℕ
+statesIn s = pick (isIn Exchange-states s or isIn Exchange-actions s) (length (collected s)) 0
+
+-- K13, "the planned retransmissions": those that have come, and all of them. Exchange_actions begins with the plan, and with none come.
+unfoldable pub resentIn : Server → ℕ
+resentIn s = pick (isIn Exchange-actions s) (s .membership .come) 0
+
+unfoldable pub resentPlanned : Server → ℕ
+resentPlanned s = pick (isIn Exchange-actions s) (plannedNow s) 0
+
+-- K13, "m CPCs": those in. They come in Construct and, behind a transitional configuration, in No; Un is reached with every member's.
+unfoldable pub cpcsIn : Server → ℕ
+cpcsIn s = pick (isIn Construct s or isIn No s or isIn Un s) (size (s .membership .cpcs)) 0
 
 -- ---- the summary
 
@@ -42,6 +66,10 @@ summaryOf s = record {
   «primary_set» = s .votes .last .set;
   attempt = s .votes .attempt;
   marked = s .votes .mark .status;
+  «states_in» = statesIn s;
+  «resent_in» = resentIn s;
+  «resent_planned» = resentPlanned s;
+  «cpcs_in» = cpcsIn s;
 }
 
 -- Refused: the number, and zeros.
@@ -67,6 +95,10 @@ noSummary k = record {
   «primary_set» = 0;
   attempt = 0;
   marked = 0;
+  «states_in» = 0;
+  «resent_in» = 0;
+  «resent_planned» = 0;
+  «cpcs_in» = 0;
 }
 
 -- Of the state that the buffer holds; refused with 7 or 8 where it holds none.

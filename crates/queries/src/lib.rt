@@ -5,15 +5,21 @@ ghost use mathlib.Core.Bool.{true};
 ghost use Rattle.replication.specs.Machine.Types.{Server};
 ghost use Rattle.replication.specs.Machine.WellFormed.{wellFormed};
 ghost use Rattle.engine.specs.Header.{headerOf};
-ghost use Rattle.queries.specs.Queries.{summaryOf, noSummary, summaryOn, entriesOn, listed, refusedEntries, putEntries};
+ghost use Rattle.queries.specs.Queries.{resentPlanned, summaryOf, noSummary, summaryOn, entriesOn, listed};
+ghost use Rattle.queries.specs.Queries.{refusedEntries, putEntries};
 ghost use Rattle.queries.specs.Reading.{ReadingsGiveAll, NewlyGreen};
 
+pub mod meeting; // meeting.rt: how far a meeting is
 pub mod entries; // entries.rt: entries put one behind another
 
 use engine::header::load;
 use engine::header::unsent;
 use entries::MOST_ENTRY;
 use entries::put_entries;
+use meeting::cpcs_in;
+use meeting::resent_in;
+use meeting::resent_planned;
+use meeting::states_in;
 use record::State;
 use record::bytes::num32;
 use state_check::image_number;
@@ -41,6 +47,10 @@ pub struct Summary {
     pub primary_set: u32,
     pub attempt: u32,
     pub marked: u32,
+    pub states_in: u32,
+    pub resent_in: u32,
+    pub resent_planned: u32,
+    pub cpcs_in: u32,
 }
 
 impl Summary {
@@ -68,13 +78,17 @@ impl Summary {
             primary_set: 0,
             attempt: 0,
             marked: 0,
+            states_in: 0,
+            resent_in: 0,
+            resent_planned: 0,
+            cpcs_in: 0,
         }
     }
 
-    // Of a state with these numbers.
-    fn of(h: State) -> Summary
+    // Of a state with these numbers, and so many retransmissions planned.
+    fn of(h: State, planned: u32) -> Summary
         requires { ⌜ (h .«green_length» ≤ h .«queue_length») × (h .sent ≤ h .numbered) ⌝ }
-        ensures { λ r. ⌜ ((s : Server) → wellFormed s ≡ true → h ≡ headerOf s → r ≡ summaryOf s) ⌝ }
+        ensures { λ r. ⌜ ((s : Server) → wellFormed s ≡ true → h ≡ headerOf s → planned ≡ resentPlanned s → r ≡ summaryOf s) ⌝ }
     {
         Summary {
             number: 0,
@@ -97,6 +111,10 @@ impl Summary {
             primary_set: h.last.set as u32,
             attempt: h.attempt.0,
             marked: h.mark.status as u32,
+            states_in: states_in(h),
+            resent_in: resent_in(h),
+            resent_planned: planned,
+            cpcs_in: cpcs_in(h),
         }
     }
 }
@@ -109,7 +127,8 @@ pub extern "C" fn guzbytor_summary(state: &[u8]) -> Summary
     if number != 0 {
         return Summary::refused(number);
     }
-    Summary::of(load(state))
+    let planned = resent_planned(state);
+    Summary::of(load(state), planned)
 }
 
 // 0, how many entries are green in all, and how many of them were put in how many bytes; or the number of a refusal and zeros.

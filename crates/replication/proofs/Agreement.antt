@@ -5,3 +5,4 @@ pub mod Votes
 pub mod Primaries
 pub mod Contents
 pub mod Greens
+pub mod Settling

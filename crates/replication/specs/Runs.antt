@@ -5,3 +5,4 @@ pub mod Strays
 pub mod Claim
 pub mod Noted
 pub mod Requests
+pub mod Settling

@@ -4,6 +4,7 @@ ghost use Rattle.replication.specs.Pairs.{Pairs};
 ghost use Rattle.replication.specs.Runs.Claim.{Demand3, Corollaries, KeptWhileUp};
 ghost use Rattle.replication.specs.Runs.Noted.{NotedNeverFall};
 ghost use Rattle.replication.specs.Runs.Requests.{RequestsKept};
+ghost use Rattle.replication.specs.Runs.Settling.{Settling};
 
 // Document 01's pairs P1 to P8, P2 as document 02's K1 has it, and the pairs that pin K1's rule.
 pub fn pairs()
@@ -35,4 +36,10 @@ pub fn noted_never_fall()
 // is entered is not sent; nothing that was answered 0 is lost; a request is taken until the quota is used, 3 then; number 4 never occurs.
 pub fn requests_kept()
     ensures { λ _. ⌜ RequestsKept ⌝ }
+{}
+
+// Document 02, K13: what each member of a regular configuration with a quorum sends, from which delivery on it is in Reg_prim, and that
+// the members' green lists are equal then.
+pub fn settles()
+    ensures { λ _. ⌜ Settling ⌝ }
 {}

@@ -61,6 +61,9 @@ static void burst(office *o, uint8_t k, size_t most) {
     o->bursts += a.events > 1;
     for (size_t i = 0; i < a.events; i++) {
         group_delivered(&o->group, k);
+        if (i + 1 < a.events) {
+            note_came(o, &events[i]);
+        }
     }
     by_steps(o, events, a, copy);
     depot_finishes(o, &events[a.events - 1], (guzbytor_register_step_answer){0, a.store, a.sent, a.greened, a.refused});

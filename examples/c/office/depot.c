@@ -158,11 +158,15 @@ static void finish(office *o, const event *e, guzbytor_register_step_answer a, f
     guzbytor_summary_answer left = depot_summary(o, e->server);
     count_greens(o, e->server, a, left.green);
     note_request(o, e, a);
+    if (a.number == 0) {
+        note_came(o, e);
+    }
     if (a.store == 1) {
         store_image(&o->store, e->server, d->image);
     }
     uint32_t put = send_records(o, e->server, a.sent, f.most);
     test_requests(o, e->server, left);
+    test_meeting(o, e->server, left);
     journal_event(&o->journal, e, a.number, put, put < f.most ? put : f.most, d->state);
     if (f.crash) {
         if (one_in(&o->draws, 4) && o->stores) {

@@ -160,6 +160,7 @@ void depots_equal(const office *o) {
         guzbytor_summary_answer a = depot_summary(o, k);
         list l = green_at(o, k);
         if (a.state != GUZBYTOR_REG_PRIM || a.red != 0 || a.on_own_list != 0) {
+            depots_wait(o);
             wrong(o, "depot %u ends in state %u with %u red and %u on the own list, %u of these unsent", k, a.state, a.red, a.on_own_list, a.unsent);
         }
         if (a.green != l.count || a.green != o->depots[k].green || l.entries.length != first.entries.length ||

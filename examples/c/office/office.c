@@ -1,12 +1,14 @@
 /* An office to try the engine in: depots in one process over a group layer in memory (group.h), by a seed. Lines drop and come back, depots crash and
    recover, crews ask for pegs to be set, moved and retired (crews.c); in the end all lines are up, and all depots must have the same green list, of every
    request that was answered 0, whatever crashed behind it, and the register that it makes (greens.c). A daemon's duties are in depot.c.
-   usage: office SEED [-n DEPOTS] [-q QUOTA] [-m MOVES] [-d FOLDER] [-u] [-r RUN] [-l LINES] [-j JOURNAL] [-p PEGS]
+   usage: office SEED [-n DEPOTS] [-q QUOTA] [-m MOVES] [-d FOLDER] [-u] [-r RUN] [-l LINES] [-j JOURNAL] [-p PEGS | -w]
           office -t [-n DEPOTS] [-q QUOTA] [-d FOLDER]
    -d  the folder of the stored images       -u  stores do not wait for the disk
    -r  the run as input of `replay` (to 4 depots and a quota of 16; no further stores are drawn)
    -l  the lines that `replay` prints for it  -j  the journal of the run for scripts/audit.py
    -p  the register of all depots in the end, as it stands in the buffer (examples/c/sheet.c prints and draws it)
+   -w  stops behind the moves, with lines and depots down as they are: what still gets through comes, no configuration is formed any more, and of
+       each meeting that does not end it prints what has come of what its depots wait for
    -t  tests the images in the folder, and ends */
 #include "office.h"
 
@@ -24,6 +26,7 @@ typedef struct {
     const char *journal;
     const char *pegs;
     uint32_t moves;
+    int waits;
     int tests;
 } options;
 
@@ -38,7 +41,7 @@ void wrong(const office *o, const char *format, ...) {
 }
 
 static void usage(const char *why) {
-    fprintf(stderr, "%s\nusage: office SEED [-n DEPOTS] [-q QUOTA] [-m MOVES] [-d FOLDER] [-u] [-r RUN] [-l LINES] [-j JOURNAL] [-p PEGS]\n", why);
+    fprintf(stderr, "%s\nusage: office SEED [-n DEPOTS] [-q QUOTA] [-m MOVES] [-d FOLDER] [-u] [-r RUN] [-l LINES] [-j JOURNAL] [-p PEGS | -w]\n", why);
     fprintf(stderr, "       office -t [-n DEPOTS] [-q QUOTA] [-d FOLDER]\n");
     exit(1);
 }
@@ -90,6 +93,8 @@ static options read_options(int count, char **words, office *o) {
         const char *word = words[i];
         if (strcmp(word, "-u") == 0) {
             o->store.synced = 0;
+        } else if (strcmp(word, "-w") == 0) {
+            p.waits = 1;
         } else if (strcmp(word, "-t") == 0) {
             p.tests = 1;
         } else if (word[0] == '-' && word[1] != '\0' && word[2] == '\0' && i + 1 < count) {
@@ -102,6 +107,9 @@ static options read_options(int count, char **words, office *o) {
     }
     if ((p.seed == NULL) != p.tests || guzbytor_lengths(o->servers, o->quota).number != 0) {
         usage("a seed or -t, 2 to 8 depots and a quota of 1 to 256");
+    }
+    if (p.waits && p.pegs != NULL) {
+        usage("a run that stops has no register of all depots");
     }
     if (p.run != NULL && (o->servers > REPLAY_DEPOTS || o->quota > REPLAY_QUOTA)) {
         usage("replay takes 4 depots and a quota of 16 at most");
@@ -142,6 +150,17 @@ static void write_pegs(const office *o, const char *name) {
     }
 }
 
+/* How the run ended. */
+static void report(const office *o, const options *p) {
+    uint32_t waiting = p->waits ? depots_wait(o) : 0;
+    printf("seed %llu: %zu events, %zu crashes, ", (unsigned long long)o->seed, o->journal.events, o->crashes);
+    if (p->waits) {
+        printf("stopped, %u of %u depots in a meeting\n", waiting, o->servers);
+    } else {
+        printf("%u green, %u refused, %zu pegs, equal\n", o->depots[0].green, o->depots[0].refused, peg_count(o->depots[0].pegs.bytes));
+    }
+}
+
 static void run(office *o, const options *p) {
     o->seed = number(p->seed);
     o->draws.state = o->seed;
@@ -154,15 +173,18 @@ static void run(office *o, const options *p) {
     for (uint8_t k = 0; k < o->servers; k++) {
         depot_start(o, k);
     }
-    trial(o, p->moves);
-    trial_ends(o);
-    depots_equal(o);
+    trial(o, p->moves, p->waits);
+    if (p->waits) {
+        depots_agree(o);
+    } else {
+        trial_ends(o);
+        depots_equal(o);
+    }
     if (!journal_end(&o->journal)) {
         wrong(o, "a file is not whole");
     }
     write_pegs(o, p->pegs);
-    printf("seed %llu: %zu events, %zu crashes, %u green, %u refused, %zu pegs, equal\n", (unsigned long long)o->seed, o->journal.events, o->crashes,
-           o->depots[0].green, o->depots[0].refused, peg_count(o->depots[0].pegs.bytes));
+    report(o, p);
 }
 
 int main(int count, char **words) {

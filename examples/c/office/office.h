@@ -20,6 +20,7 @@ typedef struct {
     uint32_t refused; /* .. and operations of them that the register refused */
     uint32_t sent;    /* the index of the last own action that was put out */
     uint32_t asked;
+    uint32_t came[GUZBYTOR_KIND_SETUP]; /* events of each kind since the last regular configuration or recovery, that one too */
     uint8_t payloads[GUZBYTOR_MOST_QUOTA][1 + GUZBYTOR_MOST_PAYLOAD];
 } depot;
 
@@ -74,10 +75,22 @@ void depot_delivers(office *o, uint8_t k, size_t most);
 /* An event comes that no group layer should bring, or that does not read, or the buffers are short or damaged. It must be refused. */
 void depot_refuses(office *o, uint8_t k);
 
+/* ---- meeting.c: how far a meeting is */
+
+/* Counts an event that was taken. */
+void note_came(office *o, const event *e);
+
+/* What the engine says of a meeting is what has come. */
+void test_meeting(const office *o, uint8_t k, guzbytor_summary_answer a);
+
+/* Prints for each depot in a meeting that has not ended what has come of what it waits for; how many depots these are. */
+uint32_t depots_wait(const office *o);
+
 /* ---- trials.c */
 
-/* Lines drop and come back, depots crash and recover, requests come: so many moves, by the seed. */
-void trial(office *o, uint32_t moves);
+/* Lines drop and come back, depots crash and recover, requests come: so many moves, by the seed. Where it stops there, what still gets through on
+   the lines as they are comes, and no configuration is formed any more. */
+void trial(office *o, uint32_t moves, int stops);
 
 /* All lines are up and all depots recover, until nothing moves. */
 void trial_ends(office *o);

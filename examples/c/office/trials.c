@@ -184,7 +184,23 @@ static void befalls(office *o, const course *c, uint8_t k) {
     }
 }
 
-void trial(office *o, uint32_t moves) {
+/* What gets through on these lines comes; whether anything did. */
+static int gets_through(office *o, const course *c) {
+    int moved = 0;
+    for (uint8_t k = 0; k < o->servers; k++) {
+        while (group_receive(&o->group, k, heard_by(o, c, k), 0, &o->draws)) {
+            moved = 1;
+        }
+    }
+    for (uint8_t k = 0; k < o->servers; k++) {
+        while (something_comes(o, k)) {
+            moved = 1;
+        }
+    }
+    return moved;
+}
+
+void trial(office *o, uint32_t moves, int stops) {
     static const uint32_t paces[] = {3, 12, 40, 120}, crashes[] = {0, 40, 150, 600}, at_once[] = {1, 4, 16}, astray[] = {0, 1, 4};
     course c = {
         .pace = paces[below(&o->draws, 4)],
@@ -209,11 +225,13 @@ void trial(office *o, uint32_t moves) {
             depots_agree(o);
         }
     }
+    o->crash_in = 0;
+    while (stops && gets_through(o, &c)) {
+    }
 }
 
 void trial_ends(office *o) {
     course c = {.lines = {0}};
-    o->crash_in = 0;
     for (uint8_t k = 0; k < o->servers; k++) {
         if (!o->depots[k].up) {
             depot_recovers(o, k);
@@ -221,15 +239,6 @@ void trial_ends(office *o) {
     }
     for (int moved = 1; moved;) {
         moved = notices(o, &c, 0);
-        for (uint8_t k = 0; k < o->servers; k++) {
-            while (group_receive(&o->group, k, heard_by(o, &c, k), 0, &o->draws)) {
-                moved = 1;
-            }
-        }
-        for (uint8_t k = 0; k < o->servers; k++) {
-            while (something_comes(o, k)) {
-                moved = 1;
-            }
-        }
+        moved = gets_through(o, &c) || moved;
     }
 }

@@ -1,4 +1,4 @@
-use Rattle.queries.proofs.SummaryLaws.{summary-refused, summary-header, summary-counts, summary-sent, summary-read}
+use Rattle.queries.proofs.SummaryLaws.{summary-refused, summary-some, summary-header, summary-counts, summary-sent, summary-read}
 use borrow.Author.Needs.{needs}
 use Rattle.queries.proofs.guzbytor_summary.Statement.{statement}
 use Rattle.queries.proofs.guzbytor_summary.Tie as tie
@@ -12,6 +12,9 @@ refused-requires c κs = search needs
 returns : tie.Need-returns
 returns c = search (needs, summary-refused)
 
+resent-planned-requires : tie.Need-resent-planned-requires
+resent-planned-requires c κs = search (needs, summary-some)
+
 load-requires : tie.Need-load-requires
 load-requires c κs = search (needs, summary-header)
 
@@ -24,4 +27,4 @@ returns-2 c = search (needs, summary-read)
 pub guzbytor-summary-spec : {M : Type 1} → statement M
 guzbytor-summary-spec =
     tie.close
-    (tie.spec image-number-requires refused-requires returns load-requires of-requires returns-2)
+    (tie.spec image-number-requires refused-requires returns resent-planned-requires load-requires of-requires returns-2)

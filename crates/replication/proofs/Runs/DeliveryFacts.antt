@@ -10,18 +10,7 @@ use Rattle.format.specs.Types.{Action, Record, action, retransmission, state, c
 use Rattle.replication.specs.Machine.Types.{Configuration}
 use Rattle.replication.specs.Runs.Run.{Entry, event, crash, store, Run, Place, nowhere, heard, placeAt, heardAt, sentAt}
 use Rattle.replication.specs.Runs.Happenings.{Message, isMessage}
-
-unfoldable pub isConfiguration : Configuration → Option Configuration → Bool
-isConfiguration c none = false
-isConfiguration c (some d) = d .id =? c .id and d .set =? c .set
-
--- The server is in com(c): c is its last regular configuration.
-unfoldable pub within : Configuration → Place → Bool
-within c x = isConfiguration c (x .regular)
-
--- The server is in regular c: c is its latest configuration.
-unfoldable pub withinRegular : Configuration → Place → Bool
-withinRegular c x = within c x and not (isThere (x .transitional))
+unfoldable pub use Rattle.replication.specs.Runs.Settling.{isConfiguration, within, withinRegular}
 
 unfoldable pub saysMessage : Reading Record → Bool
 saysMessage (says r) = isMessage r

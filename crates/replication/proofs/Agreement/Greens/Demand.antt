@@ -11,7 +11,7 @@ use Rattle.replication.proofs.Agreement.Greens.OfContents.{content-part
 use Rattle.replication.proofs.Agreement.Greens.OfPrimaries.{primary-parts}
 use Rattle.replication.proofs.Agreement.Greens.Induction as I
 
-parts : {n q : ℕ} {l : Run} (A : Allowed n q l) → Parts A
+pub parts : {n q : ℕ} {l : Run} (A : Allowed n q l) → Parts A
 parts A = record { lists = list-parts; contents = content-parts A; primaries = primary-parts A }
 
 -- With no strays.
