@@ -115,13 +115,8 @@ module _ (P : Server → Type 0) (b : List ℕ) (such : HoldsSuch P b) where
     own-below me e =
         omega (arith, e, servers-held, own-read (such .state) b (such .holds), in-range (such .state) (such .holds .formed) .context .own)
 
-    pub lists-held : (x : Numbers) (c : Context) (o : List ℕ) → x ≡ headerIn b → c ≡ readingContext x → idSize * mostIds ≤ length o
-        → ListsFit (formatContext c) v b o
-    lists-held x c o e f l =
-        let s : Server = such .state in
-        let same : contextOf s ≡ formatContext c = sym (ap formatContext (f ∙ ap readingContext (header-same x e)) ∙ context-same s) in
-        subst (λ (y : Slots). ListsFit (formatContext c) y b o) (sym (held s (such .holds)))
-        (subst (λ (y : FormatContext). ListsFit y (slotsIn s) b o) same (holds-fit s b (such .holds) o l))
+    pub lists-held : (o : List ℕ) → idSize * mostIds ≤ length o → ListsFit v b o
+    lists-held o l = subst (λ (y : Slots). ListsFit y b o) (sym (held (such .state) (such .holds))) (holds-fit (such .state) b (such .holds) o l)
 
 pub red-within : (b : List ℕ) (v : Slots) (c : ℕ) → HoldsSuch (λ s. c < s .servers) b → Computes slotsIn b v → Within (v .servers) (Cut c)
 red-within b v c such held = cut-within (v .servers) c (omega (arith, such .fact, servers-held _ b such v held))

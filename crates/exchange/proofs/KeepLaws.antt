@@ -1,15 +1,14 @@
 -- The ids that are kept, written by the code.
 -- Assumes nothing.
 use Prim.Native.Nat.{ℕ, _+_, _*_, _-_, _≤_, _<_}
-use mathlib.Core.Path.{_≡_, refl, sym, ap, _∙_}
+use mathlib.Core.Path.{_≡_, refl, sym, ap, subst, _∙_}
 use mathlib.Core.Bool.{Bool, false}
 use mathlib.Core.List.{List, _∷_, _++_, append-assoc, append-nil}
 use native.Mathlib.Omega.{arith}
 use lib.Dec.{eqb}
 use lib.ListN.{length, getD, take, length-take}
-use Rattle.format.specs.Limits.{mostIds}
 use Rattle.base.specs.Tests.{_=?_, _and_, pick}
-use Rattle.base.proofs.TestLaws.{pick-yes, pick-no, and-no, and-yes, Known, known, holds, fails}
+use Rattle.base.proofs.TestLaws.{pick-yes, pick-no, and-no, and-yes, lt-yes, lt-no, Known, known, holds, fails}
 use Rattle.base.proofs.Branches.{told-eq}
 use Rattle.base.specs.Bytes.{joined, numberAt}
 use Rattle.base.specs.Lists.{filter}
@@ -21,24 +20,21 @@ use Rattle.format.specs.Read.{idAt, idsAt}
 use Rattle.format.specs.Write.{idBytes, idsBytes}
 use Rattle.format.proofs.Lengths.{id-length, ids-length}
 use Rattle.format.proofs.Writing.{ids-more}
-use Rattle.record.specs.Context.{contextOf, ContextIn}
-use Rattle.record.specs.Values.{idOf, placeOf}
-use Rattle.record.specs.declared.Context.{Context}
-use Rattle.exchange.specs.Table.{isKept, Keeps, Listed}
+use Rattle.record.specs.Values.{idOf}
+use Rattle.exchange.specs.Table.{placeIn, soughtIn, isKept, Keeps, Listed}
 use Rattle.format.specs.Places.{idSize}
-use Rattle.record.proofs.Turns.{small, place-out, place-in}
+use Rattle.exchange.proofs.PlaceLaws.{sought-count}
 
-pub kept-out : (c : Context) (r p : ℕ) (t : List ℕ) (d : Id) → ContextIn c → p ≡ placeOf (contextOf c) d → mostIds ≤ p
-    → false ≡ isKept (contextOf c) r t d
-unfolding isKept
-kept-out c r p t d s e h = and-no _ _ (place-out (contextOf c) d p (small c s) (known _) e h)
+-- p is the place of the id.
 
-pub kept-told : (c : Context) (r p : ℕ) (t : List ℕ) (d : Id) → p ≡ placeOf (contextOf c) d → p < mostIds
-    → eqb (getD t p 0) r ≡ isKept (contextOf c) r t d
+pub kept-out : (m r p : ℕ) (t e : List ℕ) (d : Id) → p ≡ placeIn d (soughtIn m e) → m ≤ p → false ≡ isKept (soughtIn m e) r t d
 unfolding isKept
-kept-told c r p t d e h =
-    let z = place-in (contextOf c) d p (known _) e h in
-    and-yes _ _ _ (z .0) (told-eq (getD t p 0) r ∙ ap (λ (i : ℕ). getD t i 0 =? r) (z .1))
+kept-out m r p t e d f h = and-no _ _ (lt-no _ _ (omega (arith, sought-count m e)))
+
+pub kept-told : (m r p : ℕ) (t e : List ℕ) (d : Id) → p ≡ placeIn d (soughtIn m e) → p < m → eqb (getD t p 0) r ≡ isKept (soughtIn m e) r t d
+unfolding isKept
+kept-told m r p t e d f h =
+    and-yes _ _ _ (lt-yes _ _ (omega (arith, sought-count m e))) (told-eq (getD t p 0) r ∙ ap (λ (i : ℕ). getD t i 0 =? r) f)
 
 pub kept-written : (e : List ℕ) (at x y i : ℕ) (o u : List ℕ) → x ≡ numberAt 1 e at → y ≡ numberAt 2 e (at + 1) → u ≡ patched i (idBytes (idOf x y)) o
     → u ≡ patched i (idBytes (idAt e at)) o
@@ -119,3 +115,17 @@ kept-end t e at count j w n o m h =
     let all : take (idSize * w) o ≡ idsBytes (filter t (idsAt count e at)) =
     sym (m .ids ∙ ap (λ (n : ℕ). take (idSize * w) o ++ idsBytes (filter t (idsAt n e (at + idSize * j)))) a ∙ append-nil (take (idSize * w) o)) in
     record { count = omega (arith, ap length all, length-take (idSize * w) o, ids-length (filter t (idsAt count e at)), m .most, m .room, m .size); bytes = all }
+
+-- The list that is sought is the first.
+pub sought-start : (t : Id → Bool) (e : List ℕ) (m : ℕ) (o : List ℕ) → idSize * m ≤ length o → Kept t e 0 m 0 0 (length o) o
+sought-start t e m o h = kept-start t e 0 m o h
+
+pub sought-end : (t : Id → Bool) (e : List ℕ) (m j w n : ℕ) (o : List ℕ) → Kept t e 0 m j w n o → m ≤ j → Listed w o (filter t (soughtIn m e))
+unfolding soughtIn
+sought-end t e m j w n o k h = kept-end t e 0 m j w n o k h
+
+pub sought-again : (t : Id → Bool) (e : List ℕ) (m j w q n : ℕ) (o u : List ℕ) → Kept t e 0 m j w n o → j < m → Keeps t e (idSize * j) w q o u
+    → Kept t e 0 m (j + 1) q n u
+sought-again t e m j w q n o u k h i =
+    let z : idSize * j ≡ 0 + idSize * j = omega arith in
+    kept-again t e 0 m j w q n o u k h (subst (λ (p : ℕ). Keeps t e p w q o u) z i)

@@ -1,6 +1,7 @@
 pub mod SlotLaws
 pub mod Collected
 pub mod ReadLaws
+pub mod PlaceLaws
 pub mod PlanLaws
 pub mod ResendLaws
 pub mod PassingLaws

@@ -39,11 +39,12 @@ module _ (s : Server) (b : List ℕ) (h : Holds s b) where
   unfolding contextOf
   most = let z = in-range s (h .formed) .context .sizes in mul-le-mul (z .most) (z .highest)
 
-  pub holds-fit : (o : List ℕ) → idSize * mostIds ≤ length o → ListsFit (contextOf s) (slotsIn s) b o
+  pub holds-fit : (o : List ℕ) → idSize * mostIds ≤ length o → ListsFit (slotsIn s) b o
   unfolding ListsFit ListInside slotsIn slotsOf slotAt stateSize
   holds-fit o m k l t =
       record {
         inside = omega (arith, few k l t, slot-inside (slotsIn s) b k (holds-room s b h .space) l);
         short = omega (arith, few k l t, most);
-        range = in-slot k l t .yellow .ids;
+        few = omega (arith, few k l t, most);
+        differ = in-slot k l t .yellow .differ;
       }

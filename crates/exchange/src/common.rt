@@ -5,16 +5,18 @@ ghost use lib.ListN.{length};
 ghost use Rattle.base.specs.Lists.{filter};
 ghost use Rattle.base.specs.Patched.{patched};
 ghost use Rattle.format.specs.Places.{idSize};
-ghost use Rattle.format.specs.Read.{idAt, idsAt};
+ghost use Rattle.format.specs.Read.{idAt};
 ghost use Rattle.format.specs.Write.{idBytes};
-ghost use Rattle.record.specs.Context.{contextOf, ContextIn};
-ghost use Rattle.exchange.specs.Slots.{Room, First, statesOf};
-ghost use Rattle.exchange.specs.Table.{isKept, Keeps, keptIds, Listed, ListsFit};
+ghost use Rattle.record.specs.Context.{ContextIn};
+ghost use Rattle.exchange.specs.Slots.{Room, First, statesOf, statesLeft};
+ghost use Rattle.exchange.specs.Table.{soughtIn, Sought, idsIn, isKept, Keeps, keptIds, Listed, ListsInside, ListsFit};
 ghost use Rattle.replication.specs.Machine.Exchange.{takenYellow};
 use crate::slots::Slots;
 use crate::slots::first;
 use crate::slots::head;
 use crate::slots::place;
+use crate::table::hints;
+use crate::table::place_among;
 use crate::table::raise_lists;
 use crate::yellow::yellow_voters;
 use record::Context;
@@ -22,16 +24,23 @@ use record::State;
 use record::StateHead;
 use record::bytes::num8;
 use record::bytes::num16;
-use record::lists::place_at;
 use writer::parts::put_id;
 
 // Whether the place of the id from `at` on tells `round`.
-fn is_kept(c: Context, e: &[u8], at: usize, round: u8, table: &[u8; State::MOST_IDS]) -> bool
-    requires { ⌜ ContextIn c × (at + idSize ≤ length (now e)) ⌝ }
-    ensures { λ r. ⌜ r ≡ isKept (contextOf c) round (now (table .entry)) (idAt (now (e .entry)) at) ⌝ }
+fn is_kept(
+    c: Context,
+    first: &[u8],
+    ids: usize,
+    hints: &[u16; State::MOST_IDS],
+    at: usize,
+    round: u8,
+    table: &[u8; State::MOST_IDS],
+) -> bool
+    requires { ⌜ ContextIn c × Sought ids (now first) × (at + idSize ≤ length (now first)) ⌝ }
+    ensures { λ r. ⌜ r ≡ isKept (soughtIn ids (now (first .entry))) round (now (table .entry)) (idAt (now (first .entry)) at) ⌝ }
 {
-    let p = place_at(c, e, at);
-    if State::MOST_IDS <= p {
+    let p = place_among(c, first, ids, hints, first, at);
+    if ids <= p {
         return false;
     }
     table[p] == round
@@ -48,61 +57,80 @@ fn put_kept(e: &[u8], at: usize, out: &mut [u8], count: usize)
 // Writes the id from `at` on if its place tells `round`: how many ids there are then.
 fn keep_at(
     c: Context,
-    e: &[u8],
+    first: &[u8],
+    ids: usize,
+    hints: &[u16; State::MOST_IDS],
     at: usize,
     round: u8,
     table: &[u8; State::MOST_IDS],
     out: &mut [u8],
     count: usize,
 ) -> usize
-    requires { ⌜ ContextIn c × (at + idSize ≤ length (now e)) × (idSize * count + idSize ≤ length (now out)) ⌝ }
-    ensures { λ r. ⌜ Keeps (isKept (contextOf c) round (now (table .entry))) (now (e .entry)) at count r (now (out .entry)) (now (out .exit)) ⌝ }
+    requires { ⌜ ContextIn c × Sought ids (now first) × (at + idSize ≤ length (now first)) × (idSize * count + idSize ≤ length (now out)) ⌝ }
+    ensures { λ r. ⌜ Keeps (isKept (soughtIn ids (now (first .entry))) round (now (table .entry))) (now (first .entry)) at count r (now (out .entry)) (now (out .exit)) ⌝ }
 {
-    if !is_kept(c, e, at, round, table) {
+    if !is_kept(c, first, ids, hints, at, round, table) {
         return count;
     }
-    put_kept(e, at, out, count);
+    put_kept(first, at, out, count);
     count + 1
 }
 
-// Writes the ids of the list whose places tell `round`: how many there are.
+// Writes the ids of the first list whose places tell `round`: how many there are.
 pub fn keep(
     c: Context,
-    e: &[u8],
-    at: usize,
-    count: usize,
+    first: &[u8],
+    ids: usize,
+    hints: &[u16; State::MOST_IDS],
     round: u8,
     table: &[u8; State::MOST_IDS],
     out: &mut [u8],
 ) -> usize
-    requires { ⌜ ContextIn c × (at + idSize * count ≤ length (now e)) × (idSize * count ≤ length (now out)) ⌝ }
-    ensures { λ r. ⌜ Listed r (now (out .exit)) (filter (isKept (contextOf c) round (now (table .entry))) (idsAt count (now (e .entry)) at)) ⌝ }
+    requires { ⌜ ContextIn c × Sought ids (now first) × (idSize * ids ≤ length (now out)) ⌝ }
+    ensures { λ r. ⌜ Listed r (now (out .exit)) (filter (isKept (soughtIn ids (now (first .entry))) round (now (table .entry))) (soughtIn ids (now (first .entry)))) ⌝ }
 {
     let mut kept = 0;
     let mut j = 0;
-    while j < count {
-        kept = keep_at(c, e, at + State::ID * j, round, table, out, kept);
+    while j < ids {
+        kept = keep_at(c, first, ids, hints, State::ID * j, round, table, out, kept);
         j += 1;
     }
     kept
 }
 
+// The ids of the first list that the list of every slot from `start` on has, too: how many there are.
+fn common_of(
+    c: Context,
+    first: &[u8],
+    ids: usize,
+    v: Slots,
+    state: &[u8],
+    start: usize,
+    out: &mut [u8],
+) -> usize
+    requires { ⌜ ContextIn c × Sought ids (now first) × Room v (now state) × (start ≤ v .servers) × ListsInside v (now state) × (idSize * ids ≤ length (now out)) ⌝ }
+    ensures { λ r. ⌜ Listed r (now (out .exit)) (keptIds (soughtIn ids (now (first .entry))) (statesLeft v (now (state .entry)) start)) ⌝ }
+{
+    let hints = hints(c, first, ids);
+    let mut table: [u8; State::MOST_IDS] = [0; State::MOST_IDS];
+    let round = raise_lists(c, first, ids, &hints, v, state, start, &mut table);
+    keep(c, first, ids, &hints, round, &table, out)
+}
+
 // The ids of the list in the slot `start` that every list behind it has, too: how many there are.
 fn common(c: Context, v: Slots, state: &[u8], start: usize, out: &mut [u8]) -> usize
-    requires { ⌜ ContextIn c × Room v (now state) × First v start × (start < v .servers) × ListsFit (contextOf c) v (now state) (now out) ⌝ }
-    ensures { λ r. ⌜ Listed r (now (out .exit)) (keptIds (contextOf c) v (now (state .entry)) start) ⌝ }
+    requires { ⌜ ContextIn c × Room v (now state) × First v start × (start < v .servers) × ListsFit v (now state) (now out) ⌝ }
+    ensures { λ r. ⌜ Listed r (now (out .exit)) (keptIds (idsIn v (now (state .entry)) start) (statesLeft v (now (state .entry)) (start + 1))) ⌝ }
 {
-    let mut table: [u8; State::MOST_IDS] = [0; State::MOST_IDS];
-    let round = raise_lists(c, v, state, start + 1, &mut table);
     let x = head(v, state, start);
-    let at = place(v, state, start);
-    keep(
+    let at = place(v, state, start) + (StateHead::SIZE + 2 * v.servers);
+    common_of(
         c,
         &state[at..],
-        StateHead::SIZE + 2 * v.servers,
         x.yellow_count as usize,
-        round,
-        &table,
+        v,
+        state,
+        start + 1,
         out,
     )
 }
@@ -110,7 +138,7 @@ fn common(c: Context, v: Slots, state: &[u8], start: usize, out: &mut [u8]) -> u
 // "the ids common to all those valid lists, in the order of the lowest-numbered such sender's list; else it is invalid and
 // empty": how many; their bytes are in `out`.
 pub fn taken_ids(c: Context, v: Slots, state: &[u8], out: &mut [u8]) -> usize
-    requires { ⌜ ContextIn c × Room v (now state) × ListsFit (contextOf c) v (now state) (now out) ⌝ }
+    requires { ⌜ ContextIn c × Room v (now state) × ListsFit v (now state) (now out) ⌝ }
     ensures { λ r. ⌜ Listed r (now (out .exit)) (takenYellow (statesOf v (now (state .entry))) .ids) ⌝ }
 {
     let set = yellow_voters(v, state);

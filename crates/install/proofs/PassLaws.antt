@@ -13,6 +13,7 @@ use Rattle.base.proofs.AtLaws.{take-next}
 use Rattle.base.specs.Bytes.{numberAt}
 use Rattle.base.specs.Lists.{above, after, at}
 use Rattle.base.proofs.ListLaws.{each-at, above-more}
+use Rattle.format.specs.Limits.{mostServers}
 use Rattle.format.specs.Types.{Id}
 use Rattle.format.specs.Read.{idAt, idsAt}
 use Rattle.record.specs.Values.{idOf}
@@ -26,7 +27,7 @@ use Rattle.engine.specs.Decode.{decoded, serversIn}
 use Rattle.queue.proofs.RedLaws.{cut-read}
 use Rattle.engine.specs.Holding.{HoldsSome}
 use Rattle.engine.proofs.InPlace.{such-decoded}
-use Rattle.install.specs.Table.{logIn, yellowsIn, idsOf, InTable, Indexed, Turned}
+use Rattle.install.specs.Table.{logIn, yellowsIn, idsOf, Indexed, Turned}
 use Rattle.install.proofs.SwapFits.{swaps-kept}
 use Rattle.install.proofs.Turning.{turned-decoded, turned-append, turned-none}
 use Rattle.engine.proofs.Counts.{numbers, holds-place}
@@ -82,13 +83,13 @@ module _ (b₀ : List ℕ) (s₀ : HoldsSome b₀) where
       ∙ ap (λ (q : ℕ). some (idAt b (q + idSize * j))) (yellow-place ds t b e ∙ sym f)
 
   pub yellow-in : (ds : List Id) (t b : List ℕ) (j n p : ℕ) → Turned ds b₀ t b → p ≡ place theYellow b₀ → n ≡ numberAt 2 b₀ atYellowCount → j < n
-      → InTable (numberAt 1 b (p + idSize * j)) (numberAt 2 b (p + idSize * j + 1))
+      → numberAt 1 b (p + idSize * j) < mostServers
   unfolding yellowsIn idAt
   yellow-in ds t b j n p e f g h =
       let v : Server = decoded b₀ in
       let facts = well-formed-facts v (such-decoded _ b₀ s₀ .formed) in
       let fits = each-at (IdFits (v .servers) (v .quota)) (v .votes .yellow .ids) j (idAt b (p + idSize * j)) (facts .votes .yellow .ids) (yellow-id ds t b j n p e f g h) in
-      record { creator = omega (arith, facts .sizes .most); least = fits .least; most = omega (arith, facts .sizes .highest) }
+      omega (arith, facts .sizes .most)
 
   pub yellow-again : (t b t₁ b₁ : List ℕ) (j n p : ℕ) → Turned (take j (yellowsIn b₀)) b₀ t b → p ≡ place theYellow b₀ → n ≡ numberAt 2 b₀ atYellowCount → j < n
       → Turned (idAt b (p + idSize * j) ∷ []) b t₁ b₁ → Turned (take (j + 1) (yellowsIn b₀)) b₀ t₁ b₁
@@ -113,15 +114,9 @@ module _ (b₀ : List ℕ) (s₀ : HoldsSome b₀) (c : ℕ) where
   unfolding logIn
   creator-cut h = cut-read (decoded b₀) b₀ c (such-decoded _ b₀ s₀) (omega (arith, numbers (decoded b₀) b₀ (such-decoded _ b₀ s₀) .servers))
 
-  pub creator-in : (k i : ℕ) → c < serversIn b₀ → k ≡ numberAt 2 b₀ (headerSize + 2 * c) → i < k → InTable c (i + 1)
-  unfolding logIn
-  creator-in k i h e l =
-      let facts = well-formed-facts (decoded b₀) (such-decoded _ b₀ s₀ .formed) in
-      record {
-        creator = omega (arith, facts .sizes .most, numbers (decoded b₀) b₀ (such-decoded _ b₀ s₀) .servers);
-        least = omega arith;
-        most = omega (arith, facts .log .cuts c, facts .sizes .highest, creator-cut h);
-      }
+  pub creator-in : c < serversIn b₀ → c < mostServers
+  creator-in h =
+      omega (arith, well-formed-facts (decoded b₀) (such-decoded _ b₀ s₀ .formed) .sizes .most, numbers (decoded b₀) b₀ (such-decoded _ b₀ s₀) .servers)
 
   pub creator-again : (t b t₁ b₁ : List ℕ) (i : ℕ) → Turned (map (idOf c) (above 0 i)) b₀ t b → Turned (idOf c (i + 1) ∷ []) b t₁ b₁
       → Turned (map (idOf c) (above 0 (i + 1))) b₀ t₁ b₁

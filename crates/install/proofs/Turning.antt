@@ -4,14 +4,11 @@ use Prim.Native.Nat.{ℕ, _+_, _*_, _≤_}
 use mathlib.Core.Path.{_≡_, refl, sym, ap, subst, _∙_}
 use mathlib.Core.Bool.{true}
 use mathlib.Core.List.{List, [], _++_}
-use mathlib.Core.Option.{some}
 use native.Mathlib.Omega.{arith}
-use lib.ListN.{length, getD}
-use Rattle.base.specs.Lists.{at}
+use lib.ListN.{length}
 use Rattle.format.specs.Limits.{mostIds}
 use Rattle.format.specs.Types.{Id, Action}
 use Rattle.format.specs.Write.{cutsBytes}
-use Rattle.record.specs.Values.{slot}
 use Rattle.replication.specs.Machine.Types.{Log, Server, withLog}
 use Rattle.replication.specs.Machine.WellFormed.{queue, wellFormed}
 use Rattle.engine.specs.Layout.{slotSize}
@@ -27,7 +24,6 @@ use Rattle.install.specs.Swaps.{greenSwaps}
 use Rattle.install.specs.Table.{logIn, Indexed, Turned}
 use Rattle.install.proofs.SwapFits.{swaps-kept, swaps-fits, swaps-append}
 use Rattle.engine.proofs.Counts.{holds-counts}
-use Rattle.install.proofs.TableLaws.{green-read}
 
 -- ---- the state that is left
 
@@ -88,20 +84,5 @@ turned-none b t r = record { written = sym (such-decoded _ b (r .holds) .written
 
 -- ---- a table by the state
 
-module _ (s : Server) (b t : List ℕ) (r : Holds s b) (size : length t ≡ mostIds)
-    (right : (k : ℕ) (a : Action) → length (s .log .green) ≤ k → at (queue (s .log)) k ≡ some a → getD t (slot (a .id)) 0 ≡ k) where
-  pub indexed-by : Indexed t b
-  unfolding logIn
-  indexed-by = record {
-    holds = holds-some s b r;
-    counts = holds-counts s b r;
-    size = size;
-    low = holds-counts s b r .green;
-    right = λ k a h e. decoded-right k a (omega (arith, green-read b (holds-some s b r))) e;
-  }
-    where
-      decoded-right : (k : ℕ) (a : Action) → length ((decoded b) .log .green) ≤ k → at (queue ((decoded b) .log)) k ≡ some a → getD t (slot (a .id)) 0 ≡ k
-      decoded-right =
-          subst
-          (λ (v : Server). (k : ℕ) (a : Action) → length (v .log .green) ≤ k → at (queue (v .log)) k ≡ some a → getD t (slot (a .id)) 0 ≡ k)
-          (sym (holds-decoded s b r)) right
+pub indexed-by : (s : Server) (b t : List ℕ) → Holds s b → length t ≡ mostIds → Indexed t b
+indexed-by s b t r size = record { holds = holds-some s b r; counts = holds-counts s b r; size = size; low = holds-counts s b r .green }

@@ -1,14 +1,13 @@
--- The table of places: where in the queue the red action of an id stands.
+-- The table of places: hints to where in the queue the action of an id stands.
 -- Assumes nothing.
 use Prim.Native.Nat.{ℕ, _+_, _*_, _≤_, _<_}
 use mathlib.Core.Path.{_≡_}
 use mathlib.Core.List.{List, map}
-use mathlib.Core.Option.{some}
-use lib.ListN.{length, getD, drop}
-use Rattle.base.specs.Lists.{above, at}
-use Rattle.format.specs.Limits.{mostServers, mostQuota, mostIds}
-use Rattle.format.specs.Types.{Id, Action}
-use Rattle.record.specs.Values.{idOf, slot}
+use lib.ListN.{length, drop}
+use Rattle.base.specs.Lists.{above}
+use Rattle.format.specs.Limits.{mostServers, mostIds}
+use Rattle.format.specs.Types.{Id}
+use Rattle.record.specs.Values.{idOf}
 use Rattle.replication.specs.Machine.Types.{Log, withLog}
 use Rattle.replication.specs.Machine.Colours.{cut}
 use Rattle.replication.specs.Machine.WellFormed.{queue}
@@ -41,30 +40,24 @@ placeFrom first d b = first + position d (drop first (queue (logIn b)))
 abbrev pub idIn : List ℕ → (k : ℕ) → Id
 idIn b k = idAt b (place theQueue b + slotSize * k)
 
--- An id that has a place in the table.
-pub record InTable (c i : ℕ) : Type 0 where
-  pub creator : c < mostServers
-  pub least : 1 ≤ i
-  pub most : i ≤ mostQuota
-
--- An id lies at `at`, and has a place in the table.
+-- An id lies at `at`, and its creator has places in the table.
 pub record IdInside (at : ℕ) (b : List ℕ) : Type 0 where
   pub inside : at + idSize ≤ length b
-  pub entry : InTable (numberAt 1 b at) (numberAt 2 b (at + 1))
+  pub creator : numberAt 1 b at < mostServers
 
--- The table t has the place in the queue of each action from the place `first` on at its id; what it has at other ids does not matter.
+-- The buffer b holds a state, and the table t has a place for each id of its queue, in which actions from the place `first` on are sought. What
+-- stands in the table does not matter.
 pub record IndexedFrom (first : ℕ) (t b : List ℕ) : Type 0 where
   pub holds : HoldsSome b
   pub counts : CountsIn b
   pub size : length t ≡ mostIds
   pub low : first ≤ queueCount b
-  pub right : (k : ℕ) (a : Action) → first ≤ k → at (queue (logIn b)) k ≡ some a → getD t (slot (a .id)) 0 ≡ k
 
--- That of the red actions.
+-- Red actions are sought.
 abbrev pub Indexed : (t b : List ℕ) → Type 0
 Indexed t b = IndexedFrom (greenCount b) t b
 
--- The actions with the ids ds turned green one after the other: the buffer b became c, and u is a table of c.
+-- The actions with the ids ds turned green one after the other: the buffer b became c, and u is a table for it.
 pub record Turned (ds : List Id) (b u c : List ℕ) : Type 0 where
   pub written : c ≡ image (withLog (greenSwaps ds (logIn b)) (decoded b)) b
   pub indexed : Indexed u c

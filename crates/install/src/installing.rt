@@ -14,7 +14,6 @@ use record::AttemptIndex;
 use record::LastPrimary;
 use record::PrimaryIndex;
 use record::State;
-use record::bytes::num32;
 use updates::numbers::save_numbers;
 
 // "yellow list green in order, ids not held passed over" .. "all other reds green by creator, then index"
@@ -22,8 +21,7 @@ pub fn install_log(state: &mut [u8])
     requires { ⌜ HoldsSome (now state) ⌝ }
     ensures { λ _. ⌜ Becomes (λ s. withLog (installLog (s .votes .yellow .ids) (s .log)) s) (now (state .entry)) (now (state .exit)) ⌝ }
 {
-    let green = num32(state, State::AT_GREEN_LENGTH) as usize;
-    let mut places = table(state, green);
+    let mut places = table(state);
     turn_yellow(state, &mut places);
     turn_rest(state, &mut places);
 }

@@ -1,16 +1,18 @@
-// The table of places: at each id, where in the queue its action stands, for the actions from a given place on. Any other entry is told by the
-// place that it names: the action there comes before that place, or has another id.
+// The table of places: at the place of an id, a hint to where in the queue its action stands. A hint is tested, and where it is wrong the queue is
+// searched from its front: so the answers do not rest on what the table has.
 ghost use mathlib.Core.Path.{_≡_};
 ghost use mathlib.Core.List.{[], _∷_};
-ghost use Prim.Native.Nat.{_+_, _*_, _≤_, _<_};
-ghost use Rattle.format.specs.Limits.{mostIds};
+ghost use Prim.Native.Nat.{_≤_, _<_};
+ghost use lib.ListN.{set};
+ghost use Rattle.format.specs.Limits.{mostServers, mostIds};
 ghost use Rattle.record.specs.Values.{idOf, slot};
 ghost use Rattle.engine.specs.Holding.{HoldsSome};
-ghost use Rattle.install.specs.Table.{placeFrom, InTable, IndexedFrom, Indexed, Turned, idIn};
+ghost use Rattle.install.specs.Table.{placeFrom, IndexedFrom, Indexed, Turned, idIn};
 ghost use Rattle.engine.specs.Counts.{queueCount, CountsIn};
 use crate::swapping::green_at;
 use engine::places::THE_QUEUE;
 use engine::places::place_of;
+use queue::finding::find;
 use record::State;
 use record::bytes::num8;
 use record::bytes::num16;
@@ -20,10 +22,10 @@ use writer::parts::is_id;
 
 // The place of an id in the table.
 pub fn entry(creator: u8, index: u16) -> usize
-    requires { ⌜ InTable creator index ⌝ }
+    requires { ⌜ creator < mostServers ⌝ }
     ensures { λ r. ⌜ (r ≡ slot (idOf creator index)) × (r < mostIds) ⌝ }
 {
-    creator as usize * State::MOST_QUOTA as usize + (index as usize - 1)
+    creator as usize * State::MOST_QUOTA as usize + index as usize % State::MOST_QUOTA as usize
 }
 
 // The same for the action at the place k of the queue.
@@ -35,14 +37,14 @@ pub fn entry_at(state: &[u8], k: usize) -> usize
     entry(num8(state, at), num16(state, at + 1))
 }
 
-// The table of the actions from the place `first` on.
-pub fn table(state: &[u8], first: usize) -> [u16; State::MOST_IDS]
-    requires { ⌜ HoldsSome (now state) × (first ≤ queueCount (now state)) ⌝ }
-    ensures { λ r. ⌜ IndexedFrom first r (now (state .entry)) ⌝ }
+// The table of all actions.
+pub fn table(state: &[u8]) -> [u16; State::MOST_IDS]
+    requires { ⌜ HoldsSome (now state) ⌝ }
+    ensures { λ r. ⌜ IndexedFrom 0 r (now (state .entry)) ⌝ }
 {
     let mut places: [u16; State::MOST_IDS] = [0; State::MOST_IDS];
     let count = num32(state, State::AT_QUEUE_LENGTH) as usize;
-    let mut k = first;
+    let mut k = 0;
     while k < count {
         let p = entry_at(state, k);
         places[p] = k as u16;
@@ -51,7 +53,40 @@ pub fn table(state: &[u8], first: usize) -> [u16; State::MOST_IDS]
     places
 }
 
-// The place in the queue, from `first` on, of the action with this id: the number of actions where there is none.
+// The place in the queue, from `first` on, of the action with this id, by a search: the number of actions where there is none.
+fn place_from(state: &[u8], first: usize, creator: u8, index: u16) -> usize
+    requires { ⌜ HoldsSome (now state) × CountsIn (now state) × (first ≤ queueCount (now state)) ⌝ }
+    ensures { λ r. ⌜ (r ≡ placeFrom first (idOf creator index) (now (state .entry))) × (first ≤ r) ⌝ }
+{
+    let at = place_of(state, THE_QUEUE) + State::SLOT * first;
+    let count = num32(state, State::AT_QUEUE_LENGTH) as usize - first;
+    first + find(state, at, count, creator, index)
+}
+
+// The same, at once where the hint k names the action.
+fn place_by(state: &[u8], first: usize, k: usize, creator: u8, index: u16) -> usize
+    requires { ⌜ HoldsSome (now state) × CountsIn (now state) × (first ≤ queueCount (now state)) ⌝ }
+    ensures { λ r. ⌜ (r ≡ placeFrom first (idOf creator index) (now (state .entry))) × (first ≤ r) ⌝ }
+{
+    let count = num32(state, State::AT_QUEUE_LENGTH) as usize;
+    if count <= k {
+        return place_from(state, first, creator, index);
+    }
+    if !is_id(
+        state,
+        place_of(state, THE_QUEUE) + State::SLOT * k,
+        creator,
+        index,
+    ) {
+        return place_from(state, first, creator, index);
+    }
+    if k < first {
+        return count;
+    }
+    k
+}
+
+// The same by the table.
 pub fn place_in(
     state: &[u8],
     places: &[u16; State::MOST_IDS],
@@ -59,31 +94,24 @@ pub fn place_in(
     creator: u8,
     index: u16,
 ) -> usize
-    requires { ⌜ IndexedFrom first (now places) (now state) × InTable creator index ⌝ }
+    requires { ⌜ IndexedFrom first (now places) (now state) × (creator < mostServers) ⌝ }
     ensures { λ r. ⌜ (r ≡ placeFrom first (idOf creator index) (now (state .entry))) × (first ≤ r) ⌝ }
 {
     let k = wider(places[entry(creator, index)]) as usize;
-    let count = num32(state, State::AT_QUEUE_LENGTH) as usize;
-    if k < first {
-        return count;
-    }
-    if count <= k {
-        return count;
-    }
-    if is_id(
-        state,
-        place_of(state, THE_QUEUE) + State::SLOT * k,
-        creator,
-        index,
-    ) {
-        return k;
-    }
-    count
+    place_by(state, first, k, creator, index)
+}
+
+// A hint to the place k of the queue, for the id whose place in the table is p.
+fn hint(places: &mut [u16; State::MOST_IDS], p: usize, k: usize)
+    requires { ⌜ (p < mostIds) × (k < mostIds) ⌝ }
+    ensures { λ _. ⌜ now (places .exit) ≡ set (now (places .entry)) p k ⌝ }
+{
+    places[p] = k as u16;
 }
 
 // The action with this id turns green if it is red: the lowest red one takes its place.
 pub fn turn_green(state: &mut [u8], places: &mut [u16; State::MOST_IDS], creator: u8, index: u16)
-    requires { ⌜ Indexed (now places) (now state) × InTable creator index ⌝ }
+    requires { ⌜ Indexed (now places) (now state) × (creator < mostServers) ⌝ }
     ensures { λ _. ⌜ Turned (idOf creator index ∷ []) (now (state .entry)) (now (places .exit)) (now (state .exit)) ⌝ }
 {
     let green = num32(state, State::AT_GREEN_LENGTH) as usize;
@@ -92,6 +120,8 @@ pub fn turn_green(state: &mut [u8], places: &mut [u16; State::MOST_IDS], creator
         return;
     }
     let lowest = entry_at(state, green);
+    let turned = entry(creator, index);
     green_at(state, k);
-    places[lowest] = k as u16;
+    hint(places, lowest, k);
+    hint(places, turned, green);
 }

@@ -10,7 +10,6 @@ ghost use Rattle.record.specs.Events.{actionFrom};
 ghost use Rattle.replication.specs.Machine.Step.{allStatesIn};
 ghost use Rattle.outgoing.specs.Lent.{LentSuch, PutsRecords};
 ghost use Rattle.queue.specs.Queue.{QueueIn};
-ghost use Rattle.install.specs.Table.{InTable};
 ghost use Rattle.outgoing.specs.Resending.{queueIn, SendsTo, Room, PayloadInside, Resends, partIn, Tabled, OwnNumber, allReds};
 ghost use Rattle.outgoing.specs.Resending.{fromPlace, atPosition, asRed, oneOf, Stated, greenPart, redPart, wholePart};
 ghost use Rattle.format.specs.Places.{mostRetransmission};
@@ -90,7 +89,7 @@ fn send_index(
     creator: u8,
     index: u16,
 ) -> usize
-    requires { ⌜ Tabled (now places) (now state) × InTable creator index × (at + mostRetransmission ≤ length (now out)) ⌝ }
+    requires { ⌜ Tabled (now places) (now state) × (creator < mostServers) × (at + mostRetransmission ≤ length (now out)) ⌝ }
     ensures { λ r. ⌜ SendsTo 1 (oneOf (asRed me (queueIn (now (state .entry))) creator index)) at out r ⌝ }
 {
     let k = place_in(state, places, 0, creator, index);
@@ -182,7 +181,7 @@ fn send_plan(state: &[u8], out: &mut [u8]) -> usize
 {
     let me = num8(state, State::AT_ME);
     let next = send_green(state, out, me);
-    let places = table(state, 0);
+    let places = table(state);
     send_reds(state, out, next, &places, me)
 }
 

@@ -1,45 +1,38 @@
--- A table of the ids that were met decides in one pass whether ids differ.
+-- One pass decides whether ids differ, each against those before it. A table of the ids that were met spares the comparison: an empty place says that
+-- the id is new. What a full place says has to be looked at.
 -- Assumes nothing.
-use Prim.Native.Nat.{ℕ, zero, suc, _≤_, _<_}
-use mathlib.Core.Path.{_≡_, refl, sym, _∙_}
+use Prim.Native.Nat.{ℕ, zero, suc, _+_, _*_, _≤_, _<_}
+use mathlib.Core.Path.{_≡_, refl, sym, ap, subst, _∙_}
 use mathlib.Core.Bool.{Bool, true, false, not}
-use mathlib.Core.List.{List, [], _∷_}
+use mathlib.Core.List.{List, [], _∷_, _++_}
+use native.Mathlib.Decide.{ℕ-discrete}
 use native.Mathlib.Omega.{arith}
-use lib.ListN.{length, getD, set, length-set, length-replicate, replicate}
+use lib.ListN.{length, getD, set, replicate}
 use lib.Seq.{getD-set-same, getD-set-other}
 use Rattle.format.specs.Limits.{mostServers, mostQuota, mostIds}
+use Rattle.base.specs.Lists.{Each}
 use Rattle.base.specs.Tests.{_=?_, _and_, _or_}
-use Rattle.base.proofs.TestLaws.{not-both, and-holds, both-yes, eq-holds, eq-yes}
-use Rattle.base.proofs.Branches.{and-false}
+use Rattle.base.proofs.TestLaws.{not-both, and-holds, eq-holds, eq-yes, eq-no, Known, known, holds, fails}
 use Rattle.format.specs.Types.{Id, Context}
 use Rattle.format.specs.Range.{idOk, sameId, hasId, idsDiffer, idsInRange, idsOk}
-use Rattle.format.proofs.Ranges.{IdRange, id-range}
-use Rattle.record.specs.Values.{slot}
+use Rattle.format.proofs.Ranges.{IdRange}
+use Rattle.record.specs.Values.{slot, Marked}
 
--- The id's place is set.
-unfoldable pub met : List ℕ → Id → Bool
-met t x = getD t (slot x) 0 =? 1
-
-unfoldable pub anyMet : List ℕ → List Id → Bool
-anyMet t [] = false
-anyMet t (x ∷ xs) = met t x or anyMet t xs
-
--- The pass over the ids that are left.
-unfoldable pub pass : Context → List ℕ → List Id → Bool
-pass c t [] = true
-pass c t (x ∷ xs) = idOk c x and not (met t x) and pass c (set t (slot x) 1) xs
+-- ---- places
 
 -- The context's numbers that a place rests on.
 pub record Small (c : Context) : Type 0 where
   pub servers : c .servers ≤ mostServers
-  pub quota : c .quota ≤ mostQuota
+
+-- A table of n times mostQuota places has one for each id in range.
+pub slot-below : (c : Context) (x : Id) → IdRange c x → slot x < c .servers * mostQuota
+unfolding slot
+slot-below c x h = omega arith
 
 pub slot-lt : (c : Context) (x : Id) → Small c → IdRange c x → slot x < mostIds
-unfolding slot
-slot-lt c x s h = omega arith
+slot-lt c x s h = omega (arith, slot-below c x h)
 
--- The same id has the same place, and another in range has another.
-
+-- The same id has the same place.
 pub same-slot : (x y : Id) → sameId x y ≡ true → slot y ≡ slot x
 unfolding sameId slot
 same-slot x y h =
@@ -48,14 +41,27 @@ same-slot x y h =
     let i : x .index ≡ y .index = eq-holds _ _ (a .1) in
     rw (d, i)
 
-pub other-slot : (c : Context) (x y : Id) → Small c → IdRange c x → IdRange c y → sameId x y ≡ false → slot y ≡ slot x → ⊥
-unfolding slot sameId
-other-slot c x y s a b f e =
-    let d : x .creator ≡ y .creator = omega arith in
-    let i : x .index ≡ y .index = omega arith in
-    not-both (sym f ∙ both-yes (x .creator =? y .creator) (x .index =? y .index) (eq-yes _ _ d) (eq-yes _ _ i))
+-- ---- the pass
 
--- To set the place of x is to have met each id of the list that is x.
+-- The pass over the ids that are left, behind those before them.
+unfoldable pub pass : Context → (before : List Id) → List Id → Bool
+pass c bs [] = true
+pass c bs (x ∷ xs) = idOk c x and not (hasId x bs) and pass c (bs ++ (x ∷ [])) xs
+
+unfoldable anyMet : List Id → List Id → Bool
+anyMet bs [] = false
+anyMet bs (x ∷ xs) = hasId x bs or anyMet bs xs
+
+eq-turned : (m n : ℕ) → (m =? n) ≡ (n =? m)
+eq-turned m n = go (ℕ-discrete m n)
+  where
+    go : Dec (m ≡ n) → (m =? n) ≡ (n =? m)
+    go (yes e) = eq-yes m n e ∙ sym (eq-yes n m (sym e))
+    go (no d) = eq-no m n d ∙ sym (eq-no n m (λ e. d (sym e)))
+
+same-turned : (x y : Id) → sameId x y ≡ sameId y x
+unfolding sameId
+same-turned x y = λ i. eq-turned (x .creator) (y .creator) i and eq-turned (x .index) (y .index) i
 
 swap : (b m a : Bool) → (b or m or a) ≡ (m or b or a)
 unfolding _or_
@@ -64,73 +70,85 @@ swap true false a = refl
 swap false true a = refl
 swap false false a = refl
 
-met-here : (t : List ℕ) (x y : Id) → slot x < length t → slot y ≡ slot x → met (set t (slot x) 1) y ≡ true
-unfolding met
-met-here t x y h e = rw (e, getD-set-same t (slot x) 1 0 h) (eq-yes 1 1 refl)
+has-last : (y x : Id) (bs : List Id) → hasId y (bs ++ (x ∷ [])) ≡ (sameId x y or hasId y bs)
+unfolding hasId
+has-last y x [] = ap (λ (u : Bool). u or false) (same-turned y x)
+has-last y x (b ∷ bs) = ap (λ (u : Bool). sameId y b or u) (has-last y x bs) ∙ swap (sameId y b) (sameId x y) (hasId y bs)
 
-met-there : (t : List ℕ) (x y : Id) → (slot y ≡ slot x → ⊥) → met (set t (slot x) 1) y ≡ met t y
-unfolding met
-met-there t x y n = rw (getD-set-other t (slot x) (slot y) 1 0 n)
+shuffle : (s h m a : Bool) → ((s or h) or m or a) ≡ ((s or m) or h or a)
+unfolding _or_
+shuffle true h m a = refl
+shuffle false true true a = refl
+shuffle false true false a = refl
+shuffle false false true a = refl
+shuffle false false false a = refl
 
-any-set-at : (c : Context) (t : List ℕ) (x y : Id) (ys : List Id) (b : Bool) → Small c → length t ≡ mostIds → IdRange c x → IdRange c y
-    → anyMet (set t (slot x) 1) ys ≡ (hasId x ys or anyMet t ys) → sameId x y ≡ b
-    → anyMet (set t (slot x) 1) (y ∷ ys) ≡ (hasId x (y ∷ ys) or anyMet t (y ∷ ys))
+any-last : (x : Id) (bs ys : List Id) → anyMet (bs ++ (x ∷ [])) ys ≡ (hasId x ys or anyMet bs ys)
 unfolding anyMet hasId _or_
-any-set-at c t x y ys true s l a b i e =
-    rw (e, met-here t x y (let z = slot-lt c x s a in omega arith) (same-slot x y e))
-any-set-at c t x y ys false s l a b i e =
-    rw (e, met-there t x y (other-slot c x y s a b e), i) (swap (met t y) (hasId x ys) (anyMet t ys))
+any-last x bs [] = refl
+any-last x bs (y ∷ ys) = (λ i. has-last y x bs i or any-last x bs ys i) ∙ shuffle (sameId x y) (hasId y bs) (hasId x ys) (anyMet bs ys)
 
-any-set : (c : Context) (t : List ℕ) (x : Id) (ys : List Id) → Small c → length t ≡ mostIds → IdRange c x → idsInRange c ys ≡ true
-    → anyMet (set t (slot x) 1) ys ≡ (hasId x ys or anyMet t ys)
-unfolding anyMet hasId idsInRange _or_
-any-set c t x [] s l a b = refl
-any-set c t x (y ∷ ys) s l a b =
-    let p = and-holds (idOk c y) (idsInRange c ys) b in
-    any-set-at c t x y ys (sameId x y) s l a (id-range c y (p .0)) (any-set c t x ys s l a (p .1)) refl
+sort : (a m r u v d : Bool) → (a and not m and r and not (u or v) and d) ≡ ((a and r) and not (m or v) and not u and d)
+unfolding _and_ _or_
+sort false m r u v d = refl
+sort true true true u v d = refl
+sort true true false u v d = refl
+sort true false false u v d = refl
+sort true false true true true d = refl
+sort true false true true false d = refl
+sort true false true false v d = refl
 
--- The pass answers whether all are in range, none was met, and all differ.
+-- The pass answers whether all are in range, none was before, and all differ.
+pass-law : (c : Context) (bs xs : List Id) → pass c bs xs ≡ (idsInRange c xs and not (anyMet bs xs) and idsDiffer xs)
+unfolding pass anyMet idsInRange idsDiffer _and_
+pass-law c bs [] = refl
+pass-law c bs (x ∷ xs) =
+    ap (λ (u : Bool). idOk c x and not (hasId x bs) and u) (pass-law c (bs ++ (x ∷ [])) xs)
+    ∙ ap (λ (u : Bool). idOk c x and not (hasId x bs) and idsInRange c xs and not u and idsDiffer xs) (any-last x bs xs)
+    ∙ sort (idOk c x) (hasId x bs) (idsInRange c xs) (hasId x xs) (anyMet bs xs) (idsDiffer xs)
 
-unfoldable pub clear : Context → List ℕ → List Id → Bool
-clear c t xs = idsInRange c xs and not (anyMet t xs) and idsDiffer xs
+none-before : (xs : List Id) → anyMet [] xs ≡ false
+unfolding anyMet hasId _or_
+none-before [] = refl
+none-before (x ∷ xs) = none-before xs
 
-shuffle : (u m v d : Bool) → (not u and not (m or v) and d) ≡ (not (u or v) and not m and d)
-unfolding _or_ _and_
-shuffle true m v d = refl
-shuffle false true true d = refl
-shuffle false true false d = refl
-shuffle false false v d = refl
+pub pass-starts : (c : Context) (xs : List Id) → idsOk c xs ≡ pass c [] xs
+unfolding idsOk _and_
+pass-starts c xs = sym (pass-law c [] xs ∙ ap (λ (u : Bool). idsInRange c xs and not u and idsDiffer xs) (none-before xs))
 
-pass-at : (c : Context) (t : List ℕ) (x : Id) (xs : List Id) (a b : Bool) → Small c → length t ≡ mostIds
-    → idOk c x ≡ a → idsInRange c xs ≡ b → pass c (set t (slot x) 1) xs ≡ clear c (set t (slot x) 1) xs
-    → pass c t (x ∷ xs) ≡ clear c t (x ∷ xs)
-unfolding pass clear anyMet idsInRange idsDiffer _and_
-pass-at c t x xs false b s l e f i = rw (e)
-pass-at c t x xs true false s l e f i = rw (e, i, f) (sym (and-false (not (met t x))))
-pass-at c t x xs true true s l e f i =
-    rw (e, i, f, any-set c t x xs s l (id-range c x e) f) (shuffle (met t x) (hasId x xs) (anyMet t xs) (idsDiffer xs))
+-- ---- the table
 
-pass-nil : (c : Context) (t : List ℕ) → pass c t [] ≡ clear c t []
-unfolding pass clear anyMet idsInRange idsDiffer _and_
-pass-nil c t = refl
+-- An id whose place is not set is none of those that set theirs.
+pub unmarked-new : (t : List ℕ) (x : Id) (bs : List Id) → Marked t bs → (getD t (slot x) 0 ≡ 1 → ⊥) → hasId x bs ≡ false
+unfolding hasId _or_
+unmarked-new t x [] m n = refl
+unmarked-new t x (b ∷ bs) m n = go (known (sameId x b)) (unmarked-new t x bs (m .1) n)
+  where
+    go : Known (sameId x b) → hasId x bs ≡ false → (sameId x b or hasId x bs) ≡ false
+    go (holds e) i = absurd (n (ap (λ (p : ℕ). getD t p 0) (sym (same-slot x b e)) ∙ m .0))
+    go (fails e) i = rw e i
 
-pub pass-law : (c : Context) (t : List ℕ) (xs : List Id) → Small c → length t ≡ mostIds → pass c t xs ≡ clear c t xs
-pass-law c t [] s l = pass-nil c t
-pass-law c t (x ∷ xs) s l =
-    pass-at c t x xs (idOk c x) (idsInRange c xs) s l refl refl (pass-law c (set t (slot x) 1) xs s (length-set t (slot x) 1 ∙ l))
+kept-set : (t : List ℕ) (p i : ℕ) → p < length t → getD t i 0 ≡ 1 → getD (set t p 1) i 0 ≡ 1
+kept-set t p i h e = go (ℕ-discrete i p)
+  where
+    go : Dec (i ≡ p) → getD (set t p 1) i 0 ≡ 1
+    go (yes d) = ap (λ (j : ℕ). getD (set t p 1) j 0) d ∙ getD-set-same t p 1 0 h
+    go (no d) = getD-set-other t p i 1 0 d ∙ e
 
--- A table of zeros: nothing was met.
+marked-on : (t : List ℕ) (p : ℕ) (bs : List Id) → p < length t → Marked t bs → Marked (set t p 1) bs
+marked-on t p [] h m = tt
+marked-on t p (b ∷ bs) h m = (kept-set t p (slot b) h (m .0), marked-on t p bs h (m .1))
 
+pub marked-last : (t : List ℕ) (x : Id) (bs : List Id) → getD t (slot x) 0 ≡ 1 → Marked t bs → Marked t (bs ++ (x ∷ []))
+marked-last t x [] e m = (e, tt)
+marked-last t x (b ∷ bs) e m = (m .0, marked-last t x bs e (m .1))
+
+pub marked-set : (t : List ℕ) (p : ℕ) (x : Id) (bs : List Id) → p ≡ slot x → p < length t → Marked t bs → Marked (set t p 1) (bs ++ (x ∷ []))
+marked-set t p x bs e h m =
+    marked-last (set t p 1) x bs (ap (λ (i : ℕ). getD (set t p 1) i 0) (sym e) ∙ getD-set-same t p 1 0 h) (marked-on t p bs h m)
+
+-- A table of zeros.
 pub getD-zeros : (n i : ℕ) → getD (replicate {A = ℕ} n 0) i 0 ≡ 0
 getD-zeros zero i = refl
 getD-zeros (suc n) zero = refl
 getD-zeros (suc n) (suc i) = getD-zeros n i
-
-none-met : (m : ℕ) (xs : List Id) → anyMet (replicate {A = ℕ} m 0) xs ≡ false
-unfolding anyMet met _=?_ _or_
-none-met m [] = refl
-none-met m (x ∷ xs) = rw (getD-zeros m (slot x)) (none-met m xs)
-
-pub pass-zeros : (c : Context) (xs : List Id) → Small c → idsOk c xs ≡ pass c (replicate {A = ℕ} mostIds 0) xs
-unfolding idsOk clear _and_
-pass-zeros c xs s = sym (pass-law c (replicate {A = ℕ} mostIds 0) xs s (length-replicate {A = ℕ} mostIds 0) ∙ rw (none-met mostIds xs))

@@ -1,28 +1,31 @@
 -- A turn of each loop over a list in bytes takes one entry off the front of what is left.
 -- Assumes nothing.
 use Prim.Native.Nat.{ℕ, zero, suc, _+_, _*_, _-_, _^_, _≤_, _<_}
-use mathlib.Core.Path.{_≡_, refl, sym, ap, _∙_}
+use mathlib.Core.Path.{_≡_, refl, sym, ap, subst, _∙_}
 use mathlib.Core.Bool.{Bool, true, false, not}
-use mathlib.Core.List.{List, [], _∷_}
+use mathlib.Core.List.{List, [], _∷_, _++_}
 use native.Mathlib.Nat.{mul-le-mul-left, mul-suc}
+use native.Mathlib.Numerals.{add-one}
 use native.Mathlib.Omega.{arith}
-use lib.ListN.{length, getD, set, replicate}
-use borrow.Author.Tests.{not-false}
+use lib.Dec.{eqb}
+use lib.ListN.{length, getD, set, length-set}
+use borrow.Author.Tests.{not-true, not-false}
 use mir.Syntax.{w64}
 use mir.Val.{Fits}
-use Rattle.format.specs.Limits.{mostIds}
+use Rattle.format.specs.Limits.{mostQuota, mostIds}
 use Rattle.format.specs.Places.{idSize}
-use Rattle.base.specs.Tests.{_≤?_, _=?_}
-use Rattle.base.proofs.TestLaws.{pick-yes, pick-no, and-yes, and-no, le-yes, le-no, eq-yes, eq-no, Known, known, holds, fails}
+use Rattle.base.specs.Tests.{_≤?_, _=?_, _and_}
+use Rattle.base.proofs.TestLaws.{not-both, pick-yes, pick-no, and-yes, and-no, both-yes, and-eq, and-ne, le-yes, le-no, Known, known, holds, fails}
+use Rattle.base.proofs.Branches.{or-yes, or-no, told-eq}
 use Rattle.base.specs.Bytes.{numberAt, numbersAt}
 use Rattle.format.specs.Types.{Id, Context as FormatContext}
-use Rattle.format.specs.Range.{cutsOk, idOk, idsOk}
+use Rattle.format.specs.Range.{cutsOk, idOk, sameId, hasId, idsOk}
 use Rattle.format.specs.Read.{idAt, idsAt}
 use Rattle.format.proofs.Ranges.{id-range}
 use Rattle.record.specs.declared.Context.{Context}
 use Rattle.record.specs.Context.{contextOf, ContextIn}
-use Rattle.record.specs.Values.{idOf, slot, placeOf, idsBy, IdsInside}
-use Rattle.record.proofs.OnePass.{Small, met, pass, slot-lt, pass-zeros}
+use Rattle.record.specs.Values.{idOf, slot, placeOf, idsBy, IdsInside, HasPlaces, Marked, Met}
+use Rattle.record.proofs.OnePass.{Small, pass, slot-lt, slot-below, pass-starts, unmarked-new, marked-last, marked-set}
 
 -- the cuts
 
@@ -96,11 +99,7 @@ next-inside w m e at h l =
 
 pub small : (c : Context) → ContextIn c → Small (contextOf c)
 unfolding contextOf
-small c h = record { servers = h .most; quota = h .largest }
-
-pub ids-start : (c : Context) (w m : ℕ) (e : List ℕ) (at : ℕ) → ContextIn c
-    → idsOk (contextOf c) (idsBy w m e at) ≡ pass (contextOf c) (replicate {A = ℕ} mostIds 0) (idsBy w m e at)
-ids-start c w m e at h = pass-zeros (contextOf c) (idsBy w m e at) (small c h)
+small c h = record { servers = h .most }
 
 -- An id has a place below 2048 exactly where it is in range.
 
@@ -119,43 +118,161 @@ place-in c x p (fails e) f g =
     let b : p ≡ mostIds = f ∙ sym (pick-no (idOk c x) _ _ _ e refl) in
     absurd (omega arith)
 
-pub ids-out : (c : Context) (w m : ℕ) (e t : List ℕ) (at p : ℕ) (v : Bool) → ContextIn c → 0 < m
-    → p ≡ placeOf (contextOf c) (idAt e at) → mostIds ≤ p → v ≡ pass (contextOf c) t (idsBy w m e at) → false ≡ v
-unfolding pass
-ids-out c w m e t at p v s h f g j =
-    let d : FormatContext = contextOf c in
-    let x : Id = idAt e at in
-    and-no (idOk d x) _ (place-out d x p (small c s) (known (idOk d x)) f g) ∙ sym (j ∙ ap (pass d t) (ids-more w m e at h))
+-- Such a place is in every table that has places for the servers.
+pub place-there : (c : Context) (x : Id) (p : ℕ) (t : List ℕ) → p ≡ placeOf (contextOf c) x → p < mostIds → HasPlaces (c .servers) t → p < length t
+unfolding contextOf
+place-there c x p t f g l =
+    let z = place-in (contextOf c) x p (known (idOk (contextOf c) x)) f g in
+    omega (arith, z .1, slot-below (contextOf c) x (id-range (contextOf c) x (z .0)))
 
-pub ids-twice : (c : FormatContext) (w m : ℕ) (e t : List ℕ) (at p : ℕ) (v : Bool) → 0 < m
-    → p ≡ placeOf c (idAt e at) → p < mostIds → getD t p 0 ≡ 1 → v ≡ pass c t (idsBy w m e at) → false ≡ v
-unfolding pass met
-ids-twice c w m e t at p v h f g y j =
-    let x : Id = idAt e at in
-    let z = place-in c x p (known (idOk c x)) f g in
-    let u : not (getD t (slot x) 0 =? 1) ≡ false = ap not (eq-yes _ 1 (rw (z .1) at y)) in
-    and-yes false (idOk c x) _ (z .0) (and-no (not (getD t (slot x) 0 =? 1)) _ u) ∙ sym (j ∙ ap (pass c t) (ids-more w m e at h))
+-- ---- whether an id is among others
 
-pub ids-again : (c : FormatContext) (w m : ℕ) (e t : List ℕ) (at p : ℕ) (v : Bool) → 0 < m
-    → p ≡ placeOf c (idAt e at) → p < mostIds → (getD t p 0 ≡ 1 → ⊥) → v ≡ pass c t (idsBy w m e at)
-    → v ≡ pass c (set t p 1) (idsBy w (m - 1) e (at + w))
-unfolding pass met
-ids-again c w m e t at p v h f g y j =
-    let x : Id = idAt e at in
-    let z = place-in c x p (known (idOk c x)) f g in
-    let u : not (getD t (slot x) 0 =? 1) ≡ true = ap not (eq-no _ 1 (rw (z .1) at y)) in
-    j ∙ ap (pass c t) (ids-more w m e at h) ∙ sym (and-yes _ (idOk c x) _ (z .0) (and-yes _ (not (getD t (slot x) 0 =? 1)) _ u (rw (z .1))))
+pub among-here : (d : Id) (w m : ℕ) (e : List ℕ) (at : ℕ) (v r : Bool) → 0 < m → r ≡ sameId d (idAt e at) → r ≡ true → v ≡ hasId d (idsBy w m e at) → true ≡ v
+unfolding hasId
+among-here d w m e at v r h f g j = or-yes _ _ (sym f ∙ g) ∙ sym (j ∙ ap (hasId d) (ids-more w m e at h))
 
-pub ids-end : (c : FormatContext) (w m : ℕ) (e t : List ℕ) (at : ℕ) (v : Bool) → m ≤ 0 → v ≡ pass c t (idsBy w m e at) → true ≡ v
-unfolding pass
-ids-end c w m e t at v h j = sym (j ∙ ap (pass c t) (ids-none w m e at h))
+pub among-again : (d : Id) (w m : ℕ) (e : List ℕ) (at : ℕ) (v r : Bool) → 0 < m → r ≡ sameId d (idAt e at) → r ≡ false → v ≡ hasId d (idsBy w m e at)
+    → v ≡ hasId d (idsBy w (m - 1) e (at + w))
+unfolding hasId
+among-again d w m e at v r h f g j = j ∙ ap (hasId d) (ids-more w m e at h) ∙ sym (or-no _ _ _ (sym f ∙ g) refl)
 
--- the place of an id
+pub among-end : (d : Id) (w m : ℕ) (e : List ℕ) (at : ℕ) (v : Bool) → m ≤ 0 → v ≡ hasId d (idsBy w m e at) → false ≡ v
+unfolding hasId
+among-end d w m e at v h j = sym (j ∙ ap (hasId d) (ids-none w m e at h))
 
-pub place-low : (c : FormatContext) (creator index : ℕ) (b : Bool) → b ≡ idOk c (idOf creator index) → not b ≡ false → 1 ≤ index
-unfolding idOf
-place-low c creator index b e h = id-range c (idOf creator index) (sym e ∙ not-false b h) .least
+and-grouped : (t u v : Bool) → (t and u and v) ≡ ((t and u) and v)
+unfolding _and_
+and-grouped true u v = refl
+and-grouped false u v = refl
+
+-- ---- one id against those before it
+
+module _ (c : Context) (bs : List Id) (d : Id) (p : ℕ) (t : List ℕ) where
+  pub met-out : ContextIn c → p ≡ placeOf (contextOf c) d → mostIds ≤ p → Met (contextOf c) bs d false t t
+  met-out s f g = record {
+    answer = and-no (idOk (contextOf c) d) _ (place-out (contextOf c) d p (small c s) (known _) f g);
+    marked = λ e. not-both e;
+    size = refl;
+  }
+
+  pub met-first : HasPlaces (c .servers) t → Marked t bs → p ≡ placeOf (contextOf c) d → p < mostIds → (getD t p 0 ≡ 1 → ⊥)
+      → Met (contextOf c) bs d true t (set t p 1)
+  met-first l m f g n =
+      let z = place-in (contextOf c) d p (known (idOk (contextOf c) d)) f g in
+      let new : hasId d bs ≡ false = unmarked-new t d bs m (λ y. n (ap (λ (i : ℕ). getD t i 0) (z .1) ∙ y)) in
+      record {
+        answer = sym (both-yes _ _ (z .0) (ap not new));
+        marked = λ _. marked-set t p d bs (z .1) (place-there c d p t f g l) m;
+        size = length-set t p 1;
+      }
+
+pub met-again : (c : Context) (bs : List Id) (p : ℕ) (t : List ℕ) (x y : ℕ) (e : List ℕ) (at : ℕ) (r : Bool) → Marked t bs → x ≡ numberAt 1 e at
+    → y ≡ numberAt 2 e (at + 1)
+    → p ≡ placeOf (contextOf c) (idAt e at) → p < mostIds → getD t p 0 ≡ 1 → r ≡ hasId (idOf x y) bs → Met (contextOf c) bs (idAt e at) (not r) t t
+unfolding idOf idAt
+met-again c bs p t x y e at r m a b f g n j =
+    let d : Id = idAt e at in
+    let z = place-in (contextOf c) d p (known (idOk (contextOf c) d)) f g in
+    record {
+      answer = and-yes _ _ _ (z .0) (ap not (j ∙ λ k. hasId (idOf (a k) (b k)) bs));
+      marked = λ _. marked-last t d bs (ap (λ (k : ℕ). getD t k 0) (sym (z .1)) ∙ n) m;
+      size = refl;
+    }
+
+-- ---- the pass: k of m ids were met, from `at` on, and the next is at `here`
+
+ids-next : (w k : ℕ) (e : List ℕ) (at : ℕ) → idsBy w (suc k) e at ≡ idsBy w k e at ++ (idAt e (at + w * k) ∷ [])
+unfolding idsBy
+ids-next w zero e at = let z : at ≡ at + w * 0 = omega arith in ap (λ (p : ℕ). idAt e p ∷ []) z
+ids-next w (suc k) e at =
+    let z : at + w + w * k ≡ at + w * suc k = omega (arith, mul-suc w k) in
+    ap (λ (l : List Id). idAt e at ∷ l) (ids-next w k e (at + w) ∙ ap (λ (p : ℕ). idsBy w k e (at + w) ++ (idAt e p ∷ [])) z)
+
+ids-last : (w k : ℕ) (e : List ℕ) (at : ℕ) → idsBy w (k + 1) e at ≡ idsBy w k e at ++ (idAt e (at + w * k) ∷ [])
+ids-last w k e at = ap (λ (m : ℕ). idsBy w m e at) (add-one k) ∙ ids-next w k e at
+
+pub record Along (w m : ℕ) (e : List ℕ) (at k here n : ℕ) (t : List ℕ) : Type 0 where
+  pub low : k ≤ m
+  pub place : here ≡ at + w * k
+  pub size : length t ≡ n
+  pub marked : Marked t (idsBy w k e at)
+
+module _ (w m : ℕ) (e : List ℕ) (at : ℕ) where
+  pub along-start : (t : List ℕ) → Along w m e at 0 at (length t) t
+  unfolding idsBy
+  along-start t = record { low = omega arith; place = omega arith; size = refl; marked = tt }
+
+  module _ (k here n : ℕ) (t : List ℕ) (a : Along w m e at k here n t) where
+    pub along-here : IdsInside w m e at → k < m → here + idSize ≤ length e
+    along-here i h = omega (arith, a .place, i .wide, i .inside, mul-le-mul-left w h, mul-suc w k)
+
+    pub along-before : IdsInside w m e at → k < m → IdsInside w k e at
+    along-before i h = record { wide = i .wide; inside = omega (arith, i .inside, mul-le-mul-left w h, mul-suc w k) }
+
+    pub along-fits : IdsInside w m e at → k < m → length e < 2 ^ 64 → Fits w64 (here + w)
+    along-fits i h l = record { fits = omega (arith, a .place, i .inside, mul-le-mul-left w h, mul-suc w k) }
+
+    pub along-places : (s : ℕ) → s * mostQuota ≤ n → HasPlaces s t
+    along-places s l = omega (arith, a .size)
+
+    pub along-again : (c : FormatContext) (r : Bool) (u : List ℕ) → k < m → Met c (idsBy w k e at) (idAt e here) r t u → not r ≡ false
+        → Along w m e at (k + 1) (here + w) n u
+    along-again c r u h j f = record {
+      low = omega arith;
+      place = omega (arith, a .place, mul-suc w k);
+      size = j .size ∙ a .size;
+      marked =
+          subst (Marked u) (sym (ids-last w k e at ∙ ap (λ (p : ℕ). idsBy w k e at ++ (idAt e p ∷ [])) (sym (a .place)))) (j .marked (not-false r f));
+    }
+
+    -- The answer for all, by what is left.
+
+    more : k < m → idsBy w (m - k) e here ≡ idAt e here ∷ idsBy w (m - (k + 1)) e (here + w)
+    more h =
+        let z : m - k - 1 ≡ m - (k + 1) = omega arith in
+        ids-more w (m - k) e here (omega arith) ∙ ap (λ (l : ℕ). idAt e here ∷ idsBy w l e (here + w)) z
+
+    pub pass-denied : (c : FormatContext) (r v : Bool) (u : List ℕ) → k < m → Met c (idsBy w k e at) (idAt e here) r t u → not r ≡ true
+        → v ≡ pass c (idsBy w k e at) (idsBy w (m - k) e here) → false ≡ v
+    unfolding pass
+    pass-denied c r v u h j f g =
+        let d : Id = idAt e here in
+        sym (g ∙ ap (pass c (idsBy w k e at)) (more h)
+        ∙ and-grouped (idOk c d) (not (hasId d (idsBy w k e at))) _
+        ∙ sym (and-no _ _ (sym (j .answer) ∙ not-true r f)))
+
+    pub pass-again : (c : FormatContext) (r v : Bool) (u : List ℕ) → k < m → Met c (idsBy w k e at) (idAt e here) r t u → not r ≡ false
+        → v ≡ pass c (idsBy w k e at) (idsBy w (m - k) e here)
+        → v ≡ pass c (idsBy w (k + 1) e at) (idsBy w (m - (k + 1)) e (here + w))
+    unfolding pass
+    pass-again c r v u h j f g =
+        let d : Id = idAt e here in
+        g ∙ ap (pass c (idsBy w k e at)) (more h)
+        ∙ and-grouped (idOk c d) (not (hasId d (idsBy w k e at))) _
+        ∙ sym (and-yes _ _ _ (sym (j .answer) ∙ not-false r f) refl)
+        ∙ ap (λ (l : List Id). pass c l (idsBy w (m - (k + 1)) e (here + w)))
+        (ap (λ (p : ℕ). idsBy w k e at ++ (idAt e p ∷ [])) (a .place) ∙ sym (ids-last w k e at))
+
+    pub pass-end : (c : FormatContext) (v : Bool) → m ≤ k → v ≡ pass c (idsBy w k e at) (idsBy w (m - k) e here) → true ≡ v
+    unfolding pass
+    pass-end c v h g = sym (g ∙ ap (pass c (idsBy w k e at)) (ids-none w (m - k) e here (omega arith)))
+
+pub pass-start : (c : FormatContext) (w m : ℕ) (e : List ℕ) (at : ℕ) → idsOk c (idsBy w m e at) ≡ pass c (idsBy w 0 e at) (idsBy w (m - 0) e at)
+unfolding idsBy
+pass-start c w m e at = let z : m ≡ m - 0 = omega arith in pass-starts c (idsBy w m e at) ∙ ap (λ (l : ℕ). pass c [] (idsBy w l e at)) z
+
+-- ---- the place of an id
 
 pub place-read : (c : FormatContext) (e : List ℕ) (at x y r : ℕ) → x ≡ numberAt 1 e at → y ≡ numberAt 2 e (at + 1) → r ≡ placeOf c (idOf x y) → r ≡ placeOf c (idAt e at)
 unfolding idOf idAt
 place-read c e at x y r a b h = h ∙ rw (a, b)
+
+-- ---- an id compared, field by field
+
+pub other-creator : (c i x at : ℕ) (e : List ℕ) → x ≡ numberAt 1 e at → (c ≡ x → ⊥) → false ≡ sameId (idOf c i) (idAt e at)
+unfolding sameId idOf idAt
+other-creator c i x at e f n = and-ne c (numberAt 1 e at) _ (λ g. n (g ∙ sym f))
+
+pub same-creator : (c i x y at : ℕ) (e : List ℕ) → x ≡ numberAt 1 e at → c ≡ x → y ≡ numberAt 2 e (at + 1) → eqb i y ≡ sameId (idOf c i) (idAt e at)
+unfolding sameId idOf idAt
+same-creator c i x y at e f g h = and-eq c (numberAt 1 e at) _ _ (g ∙ f) (told-eq i y ∙ ap (λ (m : ℕ). i =? m) h)

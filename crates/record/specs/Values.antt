@@ -1,14 +1,17 @@
 -- What the code's structs stand for.
 -- Assumes nothing.
-use Prim.Native.Nat.{ℕ, zero, suc, _+_, _*_, _-_, _≤_}
-use mathlib.Core.List.{List, [], _∷_}
-use lib.ListN.{length}
-use Rattle.base.specs.Tests.{pick}
+use Prim.Native.Nat.{ℕ, zero, suc, _+_, _*_, _%_, _≤_}
+use mathlib.Core.Path.{_≡_}
+use mathlib.Core.Bool.{Bool, true, not}
+use mathlib.Core.List.{List, [], _∷_, _++_}
+use lib.ListN.{length, getD}
+use Rattle.base.specs.Tests.{pick, _and_}
 use Rattle.base.specs.Bytes.{numbersAt}
+use Rattle.base.specs.Lists.{Each}
 use Rattle.format.specs.Limits.{mostQuota, mostIds}
 use Rattle.format.specs.Places.{idSize}
 use Rattle.format.specs.Types.{Id, Action, Primary, Mark as FormatMark, State, Record, retransmission, Context}
-use Rattle.format.specs.Range.{idOk}
+use Rattle.format.specs.Range.{idOk, hasId}
 use Rattle.format.specs.Read.{idAt, idsAt}
 use Rattle.record.specs.declared.PrimaryIndex.{PrimaryIndex}
 use Rattle.record.specs.declared.AttemptIndex.{AttemptIndex}
@@ -49,11 +52,12 @@ stateOf h cuts at ids start = record {
   yellow = record { status = h .«yellow_status»; ids = idsAt (h .«yellow_count») ids start };
 }
 
--- The reader's table of the ids that it has met has a place for each id that can be in range.
+-- A table of ids has mostQuota places for each creator. The place of an id is a hint: ids of a creator whose indexes lie within one run of
+-- mostQuota have places of their own, and those that lie farther apart may share one. So what stands at a place proves nothing of an id.
 unfoldable pub slot : Id → ℕ
-slot d = d .creator * mostQuota + (d .index - 1)
+slot d = d .creator * mostQuota + d .index % mostQuota
 
--- The place past the table's end stands for an id that is out of range.
+-- The place past every table's end stands for an id that is out of range.
 unfoldable pub placeOf : Context → Id → ℕ
 placeOf c d = pick (idOk c d) (slot d) mostIds
 
@@ -66,3 +70,18 @@ idsBy w (suc m) e at = idAt e at ∷ idsBy w m e (at + w)
 pub record IdsInside (w m : ℕ) (e : List ℕ) (at : ℕ) : Type 0 where
   pub wide : idSize ≤ w
   pub inside : at + w * m ≤ length e
+
+-- The table t has a place for each id of n creators.
+abbrev pub HasPlaces : (n : ℕ) → List ℕ → Type 0
+HasPlaces n t = n * mostQuota ≤ length t
+
+-- The ids xs have set their places in the table t.
+abbrev pub Marked : List ℕ → List Id → Type 0
+Marked t xs = Each (λ d. getD t (slot d) 0 ≡ 1) xs
+
+-- The answer r to whether the id d, behind the ids xs, is in range and none of them. If it is, the table u has the places of all of them set;
+-- it is as long as the table t, which it was.
+pub record Met (c : Context) (xs : List Id) (d : Id) (r : Bool) (t u : List ℕ) : Type 0 where
+  pub answer : r ≡ (idOk c d and not (hasId d xs))
+  pub marked : r ≡ true → Marked u (xs ++ (d ∷ []))
+  pub size : length u ≡ length t

@@ -245,6 +245,13 @@ impl State {
 
     pub const MOST_IDS: usize = State::MOST_SERVERS as usize * State::MOST_QUOTA as usize;
 
+    // Those of two, three and four servers.
+    pub const IDS_OF_2: usize = 2 * State::MOST_QUOTA as usize;
+
+    pub const IDS_OF_3: usize = 3 * State::MOST_QUOTA as usize;
+
+    pub const IDS_OF_4: usize = 4 * State::MOST_QUOTA as usize;
+
     // The bytes of so many.
     pub const IDS: usize = State::ID * State::MOST_IDS;
 

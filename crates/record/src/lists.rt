@@ -4,10 +4,10 @@ ghost use Prim.Native.Nat.{_+_, _*_, _≤_};
 ghost use lib.ListN.{length};
 ghost use Rattle.base.specs.Bytes.{numbersAt};
 ghost use Rattle.format.specs.Places.{idSize};
-ghost use Rattle.format.specs.Range.{cutsOk, idsOk};
+ghost use Rattle.format.specs.Range.{cutsOk, sameId, hasId, idsOk};
 ghost use Rattle.format.specs.Read.{idAt, idsAt};
 ghost use Rattle.record.specs.Context.{contextOf, ContextIn};
-ghost use Rattle.record.specs.Values.{idOf, placeOf, idsBy, IdsInside};
+ghost use Rattle.record.specs.Values.{idOf, placeOf, idsBy, IdsInside, HasPlaces, Marked, Met};
 use crate::ActionHead;
 use crate::Context;
 use crate::State;
@@ -39,7 +39,7 @@ fn place(c: Context, creator: u8, index: u16) -> usize
     if !id_ok(c, creator, index) {
         return State::MOST_IDS;
     }
-    creator as usize * State::MOST_QUOTA as usize + (index as usize - 1)
+    creator as usize * State::MOST_QUOTA as usize + index as usize % State::MOST_QUOTA as usize
 }
 
 pub fn place_at(c: Context, e: &[u8], at: usize) -> usize
@@ -49,28 +49,103 @@ pub fn place_at(c: Context, e: &[u8], at: usize) -> usize
     place(c, num8(e, at), num16(e, at + ActionHead::INDEX))
 }
 
-// Whether the `count` ids, each at the front of `step` bytes from `at` on, are in range and differ: one pass, which sets the
-// place of each id that it meets.
+// Whether the id at `at` is this one.
+fn is_at(e: &[u8], at: usize, creator: u8, index: u16) -> bool
+    requires { ⌜ at + idSize ≤ length (now e) ⌝ }
+    ensures { λ r. ⌜ r ≡ sameId (idOf creator index) (idAt (now (e .entry)) at) ⌝ }
+{
+    if creator != num8(e, at) {
+        return false;
+    }
+    index == num16(e, at + ActionHead::INDEX)
+}
+
+// Whether one of the `count` ids, each at the front of `step` bytes from `at` on, is this one.
+fn is_among(e: &[u8], at: usize, step: usize, count: usize, creator: u8, index: u16) -> bool
+    requires { ⌜ IdsInside step count (now e) at ⌝ }
+    ensures { λ r. ⌜ r ≡ hasId (idOf creator index) (idsBy step count (now (e .entry)) at) ⌝ }
+{
+    let mut here = at;
+    let mut left = count;
+    while 0 < left {
+        if is_at(e, here, creator, index) {
+            return true;
+        }
+        here += step;
+        left -= 1;
+    }
+    false
+}
+
+// Whether the id at `here` is in range and none of the `count` ids, each at the front of `step` bytes from `at` on, which have set their places in
+// the table `met`: it sets its own. Only where its place was set already, those before it are read again.
+pub fn is_new(
+    c: Context,
+    e: &[u8],
+    at: usize,
+    step: usize,
+    count: usize,
+    here: usize,
+    met: &mut [u8],
+) -> bool
+    requires { ⌜ ContextIn c × IdsInside step count (now e) at × (here + idSize ≤ length (now e)) × HasPlaces (c .servers) (now met) × Marked (now met) (idsBy step count (now e) at) ⌝ }
+    ensures { λ r. ⌜ Met (contextOf c) (idsBy step count (now (e .entry)) at) (idAt (now (e .entry)) here) r (now (met .entry)) (now (met .exit)) ⌝ }
+{
+    let p = place_at(c, e, here);
+    if State::MOST_IDS <= p {
+        return false;
+    }
+    if met[p] != 1 {
+        met[p] = 1;
+        return true;
+    }
+    !is_among(
+        e,
+        at,
+        step,
+        count,
+        num8(e, here),
+        num16(e, here + ActionHead::INDEX),
+    )
+}
+
+// Whether the `count` ids, each at the front of `step` bytes from `at` on, are in range and differ: one pass. What stands in the table does not
+// matter, but zeros spare the pass to read ids again.
+fn differ_by(c: Context, e: &[u8], at: usize, step: usize, count: usize, met: &mut [u8]) -> bool
+    requires { ⌜ ContextIn c × IdsInside step count (now e) at × HasPlaces (c .servers) (now met) ⌝ }
+    ensures { λ r. ⌜ r ≡ idsOk (contextOf c) (idsBy step count (now (e .entry)) at) ⌝ }
+{
+    let mut here = at;
+    let mut k = 0;
+    while k < count {
+        if !is_new(c, e, at, step, k, here, met) {
+            return false;
+        }
+        here += step;
+        k += 1;
+    }
+    true
+}
+
+// Whether the `count` ids, each at the front of `step` bytes from `at` on, are in range and differ. A table for few servers is short.
 pub fn ids_differ(c: Context, e: &[u8], at: usize, step: usize, count: usize) -> bool
     requires { ⌜ ContextIn c × IdsInside step count (now e) at ⌝ }
     ensures { λ r. ⌜ r ≡ idsOk (contextOf c) (idsBy step count (now (e .entry)) at) ⌝ }
 {
-    let mut met: [u8; State::MOST_IDS] = [0; State::MOST_IDS];
-    let mut here = at;
-    let mut left = count;
-    while 0 < left {
-        let p = place_at(c, e, here);
-        if State::MOST_IDS <= p {
-            return false;
-        }
-        if met[p] == 1 {
-            return false;
-        }
-        met[p] = 1;
-        here += step;
-        left -= 1;
+    if c.servers <= 2 {
+        let mut of_2: [u8; State::IDS_OF_2] = [0; State::IDS_OF_2];
+        return differ_by(c, e, at, step, count, &mut of_2);
     }
-    true
+    if c.servers <= 3 {
+        let mut of_3: [u8; State::IDS_OF_3] = [0; State::IDS_OF_3];
+        return differ_by(c, e, at, step, count, &mut of_3);
+    }
+    if c.servers <= 4 {
+        let mut of_4: [u8; State::IDS_OF_4] = [0; State::IDS_OF_4];
+        return differ_by(c, e, at, step, count, &mut of_4);
+    }
+    let mut met: [u8; State::MOST_IDS] = [0; State::MOST_IDS];
+    differ_by(c, e, at, step, count, &mut met)
 }
 
 // Whether the `count` ids from `at` on are in range and differ.

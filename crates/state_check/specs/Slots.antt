@@ -10,9 +10,9 @@ use Rattle.base.specs.Bytes.{numberAt, zeroAt}
 use Rattle.base.specs.Lists.{everyAt}
 use Rattle.format.specs.Limits.{mostQuota, mostPayload}
 use Rattle.format.specs.Places.{actionGreenAt, actionPayloadAt}
-use Rattle.format.specs.Types.{Context}
+use Rattle.format.specs.Types.{Id, Context}
 use Rattle.format.specs.Range.{lengthOk, idsOk}
-use Rattle.record.specs.Values.{idsBy}
+use Rattle.record.specs.Values.{idsBy, Met}
 use Rattle.engine.specs.Layout.{slotSize}
 
 -- How much of an action's slot its payload has, with its length.
@@ -50,6 +50,12 @@ queueSlotsFit c cuts m b at = everyAt (queueSlotFits c b cuts) slotSize m at
 -- The queue's m actions: their ids in range, none twice, and all else.
 unfoldable pub queueFits : Context → (cuts m : ℕ) → List ℕ → ℕ → Bool
 queueFits c cuts m b at = idsOk c (idsBy slotSize m b at) and queueSlotsFit c cuts m b at
+
+-- The answer r to whether the id d, behind the ids xs, is in range and none of them, and its slot fits else. The table t became u.
+pub record NextFits (c : Context) (xs : List Id) (d : Id) (fits r : Bool) (t u : List ℕ) : Type 0 where
+  pub new : Bool
+  pub met : Met c xs d new t u
+  pub answer : r ≡ (new and fits)
 
 -- The own cut is any number of two bytes: so high an index may be asked of the own list.
 abbrev pub ownReach : ℕ

@@ -6,8 +6,10 @@ ghost use Rattle.base.specs.Lists.{everyAt};
 ghost use Rattle.base.specs.Bytes.{zeroAt};
 ghost use Rattle.format.specs.Limits.{mostPayload};
 ghost use Rattle.record.specs.Context.{contextOf, ContextIn};
+ghost use Rattle.format.specs.Read.{idAt};
+ghost use Rattle.record.specs.Values.{idsBy, IdsInside, HasPlaces, Marked};
 ghost use Rattle.state_check.specs.Slots.{Masks, payloadRoom, payloadFits, slotFits, notedAt, notedFit};
-ghost use Rattle.state_check.specs.Slots.{CutInside, queueSlotFits, queueFits, ownReach, ownSlotFits, ownFits};
+ghost use Rattle.state_check.specs.Slots.{CutInside, queueSlotFits, NextFits, queueFits, ownReach, ownSlotFits, ownFits};
 ghost use Rattle.engine.specs.Layout.{slotSize};
 use record::ActionHead;
 use record::Context;
@@ -15,7 +17,7 @@ use record::State;
 use record::bytes::num8;
 use record::bytes::num16;
 use record::bytes::num32;
-use record::lists::place_at;
+use record::lists::is_new;
 use record::range::length_ok;
 
 // Masks of payloads: as many zeros as a payload may have bytes, then as many ones. From MOST_PAYLOAD - m on they let through what stands
@@ -87,7 +89,53 @@ fn queue_slot_fits(c: Context, b: &[u8], cuts: usize, at: usize, t: &[u8; MASKS]
     slot_fits(c, b, at, t)
 }
 
-// The queue, in one pass: the place of each id that it meets is set.
+// The slot at `here`, behind `k` others from `at` on: its id is new, and its place in the table of the ids that were met is set; and all else.
+fn next_fits(
+    c: Context,
+    b: &[u8],
+    cuts: usize,
+    at: usize,
+    k: usize,
+    here: usize,
+    t: &[u8; MASKS],
+    met: &mut [u8],
+) -> bool
+    requires { ⌜ ContextIn c × Masks (now t) × (cuts + 2 * c .servers ≤ length (now b)) × IdsInside slotSize k (now b) at × (here + slotSize ≤ length (now b)) × HasPlaces (c .servers) (now met) × Marked (now met) (idsBy slotSize k (now b) at) ⌝ }
+    ensures { λ r. ⌜ NextFits (contextOf c) (idsBy slotSize k (now (b .entry)) at) (idAt (now (b .entry)) here) (queueSlotFits (contextOf c) (now (b .entry)) cuts here) r (now (met .entry)) (now (met .exit)) ⌝ }
+{
+    if !is_new(c, b, at, State::SLOT, k, here, met) {
+        return false;
+    }
+    // The id is in range, so its creator's cut is there to be read.
+    queue_slot_fits(c, b, cuts, here, t)
+}
+
+// The queue, in one pass, by a table of the ids that were met.
+fn queue_fits_by(
+    c: Context,
+    b: &[u8],
+    cuts: usize,
+    at: usize,
+    count: usize,
+    t: &[u8; MASKS],
+    met: &mut [u8],
+) -> bool
+    requires { ⌜ ContextIn c × Masks (now t) × (cuts + 2 * c .servers ≤ length (now b)) × (at + slotSize * count ≤ length (now b)) × HasPlaces (c .servers) (now met) ⌝ }
+    ensures { λ r. ⌜ r ≡ queueFits (contextOf c) cuts count (now (b .entry)) at ⌝ }
+{
+    let mut here = at;
+    let mut k = 0;
+    while k < count {
+        if !next_fits(c, b, cuts, at, k, here, t, met) {
+            return false;
+        }
+        here += State::SLOT;
+        k += 1;
+    }
+    true
+}
+
+// The queue. A table for few servers is short.
 pub fn queue_fits(
     c: Context,
     b: &[u8],
@@ -99,26 +147,20 @@ pub fn queue_fits(
     requires { ⌜ ContextIn c × Masks (now t) × (cuts + 2 * c .servers ≤ length (now b)) × (at + slotSize * count ≤ length (now b)) ⌝ }
     ensures { λ r. ⌜ r ≡ queueFits (contextOf c) cuts count (now (b .entry)) at ⌝ }
 {
-    let mut met: [u8; State::MOST_IDS] = [0; State::MOST_IDS];
-    let mut here = at;
-    let mut left = count;
-    while 0 < left {
-        let p = place_at(c, b, here);
-        if State::MOST_IDS <= p {
-            return false;
-        }
-        if met[p] == 1 {
-            return false;
-        }
-        // The id is in range, so its creator's cut is there to be read.
-        if !queue_slot_fits(c, b, cuts, here, t) {
-            return false;
-        }
-        met[p] = 1;
-        here += State::SLOT;
-        left -= 1;
+    if c.servers <= 2 {
+        let mut of_2: [u8; State::IDS_OF_2] = [0; State::IDS_OF_2];
+        return queue_fits_by(c, b, cuts, at, count, t, &mut of_2);
     }
-    true
+    if c.servers <= 3 {
+        let mut of_3: [u8; State::IDS_OF_3] = [0; State::IDS_OF_3];
+        return queue_fits_by(c, b, cuts, at, count, t, &mut of_3);
+    }
+    if c.servers <= 4 {
+        let mut of_4: [u8; State::IDS_OF_4] = [0; State::IDS_OF_4];
+        return queue_fits_by(c, b, cuts, at, count, t, &mut of_4);
+    }
+    let mut met: [u8; State::MOST_IDS] = [0; State::MOST_IDS];
+    queue_fits_by(c, b, cuts, at, count, t, &mut met)
 }
 
 // An own action of the index k + 1.

@@ -1,14 +1,7 @@
-use Rattle.exchange.proofs.RaiseLaws.{slot-list-inside}
-use Rattle.exchange.proofs.CommonLaws.{fits-inside, first-inside, first-short, common-made}
+use Rattle.exchange.proofs.CommonLaws.{fits-inside, first-short, first-sought, common-made}
 use borrow.Author.Needs.{needs}
 use Rattle.exchange.proofs.common.common.Statement.{statement}
 use Rattle.exchange.proofs.common.common.Tie as tie
-
-add-raise-lists : tie.Need-add-raise-lists
-add-raise-lists c = search needs
-
-raise-lists-requires : tie.Need-raise-lists-requires
-raise-lists-requires c κs = search (needs, fits-inside)
 
 head-requires : tie.Need-head-requires
 head-requires c κs = search needs
@@ -16,26 +9,32 @@ head-requires c κs = search needs
 place-requires : tie.Need-place-requires
 place-requires c κs = search needs
 
-sub-keep : tie.Need-sub-keep
-sub-keep c = search needs
+mul-at : tie.Need-mul-at
+mul-at c = search needs
 
-part-keep-start : tie.Need-part-keep-start
-part-keep-start c = search needs
+add-at : tie.Need-add-at
+add-at c = search needs
 
-part-keep-end : tie.Need-part-keep-end
-part-keep-end c = search needs
+add-at-2 : tie.Need-add-at-2
+add-at-2 c = search needs
 
-mul-keep : tie.Need-mul-keep
-mul-keep c = search needs
+sub-common-of : tie.Need-sub-common-of
+sub-common-of c = search needs
 
-add-keep : tie.Need-add-keep
-add-keep c = search needs
+part-common-of-start : tie.Need-part-common-of-start
+part-common-of-start c = search needs
 
-cast-keep : tie.Need-cast-keep
-cast-keep c = search needs
+part-common-of-end : tie.Need-part-common-of-end
+part-common-of-end c = search needs
 
-keep-requires : tie.Need-keep-requires
-keep-requires c κs = (search needs, search (needs, slot-list-inside, first-inside), search (needs, first-short))
+cast-common-of : tie.Need-cast-common-of
+cast-common-of c = search needs
+
+add-common-of : tie.Need-add-common-of
+add-common-of c = search needs
+
+common-of-requires : tie.Need-common-of-requires
+common-of-requires c κs = (search needs, search (needs, first-sought), search needs, search needs, search (needs, fits-inside), search (needs, first-short))
 
 same-length : tie.Need-same-length
 same-length c = search needs
@@ -47,16 +46,16 @@ pub common-spec : {M : Type 1} → statement M
 common-spec =
     tie.close
     (tie.spec
-    add-raise-lists
-    raise-lists-requires
     head-requires
     place-requires
-    sub-keep
-    part-keep-start
-    part-keep-end
-    mul-keep
-    add-keep
-    cast-keep
-    keep-requires
+    mul-at
+    add-at
+    add-at-2
+    sub-common-of
+    part-common-of-start
+    part-common-of-end
+    cast-common-of
+    add-common-of
+    common-of-requires
     same-length
     returns)

@@ -3,8 +3,8 @@ use borrow.Author.Needs.{needs}
 use Rattle.exchange.proofs.common.is_kept.Statement.{statement}
 use Rattle.exchange.proofs.common.is_kept.Tie as tie
 
-place-at-requires : tie.Need-place-at-requires
-place-at-requires c κs = search needs
+place-among-requires : tie.Need-place-among-requires
+place-among-requires c κs = search needs
 
 returns : tie.Need-returns
 returns c = search (needs, kept-out)
@@ -16,4 +16,4 @@ returns-2 : tie.Need-returns-2
 returns-2 c = search (needs, kept-told)
 
 pub is-kept-spec : {M : Type 1} → statement M
-is-kept-spec = tie.close (tie.spec place-at-requires returns element-copy-out-result returns-2)
+is-kept-spec = tie.close (tie.spec place-among-requires returns element-copy-out-result returns-2)

@@ -3,8 +3,8 @@ use borrow.Author.Needs.{needs}
 use Rattle.exchange.proofs.table.raise_at.Statement.{statement}
 use Rattle.exchange.proofs.table.raise_at.Tie as tie
 
-place-at-requires : tie.Need-place-at-requires
-place-at-requires c κs = search needs
+place-among-requires : tie.Need-place-among-requires
+place-among-requires c κs = search needs
 
 returns : tie.Need-returns
 returns c = search (needs, raise-out)
@@ -28,7 +28,7 @@ pub raise-at-spec : {M : Type 1} → statement M
 raise-at-spec =
     tie.close
     (tie.spec
-    place-at-requires
+    place-among-requires
     returns
     element-copy-out-if2
     returns-2

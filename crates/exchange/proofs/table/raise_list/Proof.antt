@@ -1,5 +1,4 @@
-use Rattle.exchange.specs.Table.{raisedAll}
-use Rattle.record.specs.Context.{contextOf}
+use Rattle.exchange.specs.Table.{soughtIn, raisedAll}
 use Rattle.format.specs.Read.{idsAt}
 use Rattle.format.specs.Places.{idSize}
 use Prim.Native.Nat.{_*_}
@@ -12,10 +11,10 @@ use Rattle.exchange.proofs.table.raise_list.Statement.{statement}
 use Rattle.exchange.proofs.table.raise_list.Tie as tie
 
 abbrev Inv-loop : tie.InvT-loop
-Inv-loop c e at count round table₀ j₀ table j = (j ≤ count) × (raisedAll (contextOf c) round table₀ (idsAt count e at) ≡ raisedAll (contextOf c) round table (idsAt (count - j) e (at + idSize * j)))
+Inv-loop c first ids hints e at count round table₀ j₀ table j = (j ≤ count) × (raisedAll (soughtIn ids first) round table₀ (idsAt count e at) ≡ raisedAll (soughtIn ids first) round table (idsAt (count - j) e (at + idSize * j)))
 
 abbrev μ-loop : tie.MeasureT-loop
-μ-loop c e at count round table₀ j₀ table j = count - j
+μ-loop c first ids hints e at count round table₀ j₀ table j = count - j
 
 loop-holds : tie.Need-loop-holds Inv-loop μ-loop
 loop-holds c = search (needs, list-start)

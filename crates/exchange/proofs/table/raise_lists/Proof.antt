@@ -1,5 +1,5 @@
 use Rattle.exchange.proofs.RaiseLaws.{Met, met-start, met-again, met-end}
-use Rattle.record.specs.Context.{contextOf}
+use Rattle.exchange.specs.Table.{soughtIn}
 use borrow.Author.Needs.{needs}
 use native.Mathlib.Omega.{arith}
 use Prim.Native.Nat.{_-_}
@@ -7,10 +7,10 @@ use Rattle.exchange.proofs.table.raise_lists.Statement.{statement}
 use Rattle.exchange.proofs.table.raise_lists.Tie as tie
 
 abbrev Inv-loop : tie.InvT-loop
-Inv-loop c v state start table₀ round₀ k₀ table round k = Met (contextOf c) v state start k round table₀ table
+Inv-loop c first ids hints v state start table₀ round₀ k₀ table round k = Met (soughtIn ids first) v state start k round table₀ table
 
 abbrev μ-loop : tie.MeasureT-loop
-μ-loop c v state start table₀ round₀ k₀ table round k = v .servers - k
+μ-loop c first ids hints v state start table₀ round₀ k₀ table round k = v .servers - k
 
 loop-holds : tie.Need-loop-holds Inv-loop μ-loop
 loop-holds c = search (needs, met-start)

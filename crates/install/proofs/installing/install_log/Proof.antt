@@ -1,20 +1,13 @@
 use Rattle.install.proofs.InstallLaws.{log-installed}
-use Rattle.install.proofs.TableLaws.{green-inside, green-first, green-indexed}
 use borrow.Author.Needs.{needs}
 use Rattle.install.proofs.installing.install_log.Statement.{statement}
 use Rattle.install.proofs.installing.install_log.Tie as tie
 
-num32-requires : tie.Need-num32-requires
-num32-requires c κs = search (needs, green-inside)
-
-cast-green : tie.Need-cast-green
-cast-green c = search needs
-
 table-requires : tie.Need-table-requires
-table-requires c κs = search (needs, green-first)
+table-requires c κs = search needs
 
 turn-yellow-requires : tie.Need-turn-yellow-requires
-turn-yellow-requires c κs = search (needs, green-indexed)
+turn-yellow-requires c κs = search needs
 
 turn-rest-requires : tie.Need-turn-rest-requires
 turn-rest-requires c κs = search needs
@@ -27,4 +20,4 @@ returns c = search (needs, log-installed)
 
 pub install-log-spec : {M : Type 1} → statement M
 install-log-spec =
-    tie.close (tie.spec num32-requires cast-green table-requires turn-yellow-requires turn-rest-requires same-length returns)
+    tie.close (tie.spec table-requires turn-yellow-requires turn-rest-requires same-length returns)

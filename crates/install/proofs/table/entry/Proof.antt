@@ -1,5 +1,5 @@
-use Rattle.record.specs.Values.{idOf, slot}
 use native.Mathlib.Omega.{arith}
+use Rattle.record.specs.Values.{idOf, slot}
 use borrow.Author.Needs.{needs}
 use Rattle.install.proofs.table.entry.Statement.{statement}
 use Rattle.install.proofs.table.entry.Tie as tie
@@ -10,8 +10,11 @@ cast-result c = search needs
 mul-result : tie.Need-mul-result
 mul-result c = search needs
 
-sub-result : tie.Need-sub-result
-sub-result c = search needs
+cast-result-2 : tie.Need-cast-result-2
+cast-result-2 c = search needs
+
+rem-result : tie.Need-rem-result
+rem-result c = search needs
 
 add-result : tie.Need-add-result
 add-result c = search needs
@@ -21,4 +24,5 @@ unfolding slot idOf
 returns c = (omega arith, omega arith)
 
 pub entry-spec : {M : Type 1} → statement M
-entry-spec = tie.close (tie.spec cast-result mul-result sub-result add-result returns)
+entry-spec =
+    tie.close (tie.spec cast-result mul-result cast-result-2 rem-result add-result returns)

@@ -1,14 +1,14 @@
-use Rattle.install.proofs.TableLaws.{count-inside, Filled, filled-start, filled-again, filled-end}
-use Prim.Native.Nat.{_-_}
 use borrow.Author.Needs.{needs}
+use Prim.Native.Nat.{_-_}
+use Rattle.install.proofs.TableLaws.{count-inside, Filled, filled-start, filled-again, filled-end}
 use Rattle.install.proofs.table.table.Statement.{statement}
 use Rattle.install.proofs.table.table.Tie as tie
 
 abbrev Inv-loop : tie.InvT-loop
-Inv-loop state first places₀ count k₀ places k = Filled first k places state
+Inv-loop state places₀ count k₀ places k = Filled k places state
 
 abbrev μ-loop : tie.MeasureT-loop
-μ-loop state first places₀ count k₀ places k = count - k
+μ-loop state places₀ count k₀ places k = count - k
 
 num32-requires : tie.Need-num32-requires Inv-loop μ-loop
 num32-requires c κs = search (needs, count-inside)

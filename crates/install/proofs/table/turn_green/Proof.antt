@@ -1,5 +1,5 @@
-use Rattle.install.proofs.TurnLaws.{turned-passed, turned-swapped}
 use Rattle.install.proofs.TableLaws.{indexed-green}
+use Rattle.install.proofs.TurnLaws.{turned-passed, turned-swapped}
 use borrow.Author.Needs.{needs}
 use Rattle.install.proofs.table.turn_green.Statement.{statement}
 use Rattle.install.proofs.table.turn_green.Tie as tie
@@ -28,17 +28,17 @@ returns c = search (needs, turned-passed)
 entry-at-requires : tie.Need-entry-at-requires
 entry-at-requires c κs = search needs
 
+entry-requires : tie.Need-entry-requires
+entry-requires c κs = search needs
+
 green-at-requires : tie.Need-green-at-requires
 green-at-requires c κs = search needs
 
-cast-places : tie.Need-cast-places
-cast-places c = search needs
+hint-requires : tie.Need-hint-requires
+hint-requires c κs = search needs
 
-mul-places : tie.Need-mul-places
-mul-places c = search needs
-
-element-write-places : tie.Need-element-write-places
-element-write-places c = search needs
+hint-requires-2 : tie.Need-hint-requires-2
+hint-requires-2 c κs = search needs
 
 same-length-2 : tie.Need-same-length-2
 same-length-2 c = search needs
@@ -58,9 +58,9 @@ turn-green-spec =
     same-length
     returns
     entry-at-requires
+    entry-requires
     green-at-requires
-    cast-places
-    mul-places
-    element-write-places
+    hint-requires
+    hint-requires-2
     same-length-2
     returns-2)

@@ -1,6 +1,5 @@
-use Rattle.record.proofs.Turns.{place-low}
-use Rattle.record.specs.Values.{idOf, slot, placeOf}
 use Rattle.base.proofs.Branches.{answers}
+use Rattle.record.specs.Values.{idOf, slot, placeOf}
 use borrow.Author.Needs.{needs}
 use Rattle.record.proofs.lists.place.Statement.{statement}
 use Rattle.record.proofs.lists.place.Tie as tie
@@ -18,8 +17,11 @@ cast-result c = search needs
 mul-result : tie.Need-mul-result
 mul-result c = search needs
 
-sub-result : tie.Need-sub-result
-sub-result c = search (needs, place-low)
+cast-result-2 : tie.Need-cast-result-2
+cast-result-2 c = search needs
+
+rem-result : tie.Need-rem-result
+rem-result c = search needs
 
 add-result : tie.Need-add-result
 add-result c = search needs
@@ -31,4 +33,12 @@ returns-2 c = search (needs, answers)
 pub place-spec : {M : Type 1} → statement M
 place-spec =
     tie.close
-    (tie.spec id-ok-requires returns cast-result mul-result sub-result add-result returns-2)
+    (tie.spec
+    id-ok-requires
+    returns
+    cast-result
+    mul-result
+    cast-result-2
+    rem-result
+    add-result
+    returns-2)
