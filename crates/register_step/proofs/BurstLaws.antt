@@ -1,181 +1,228 @@
--- A burst with a register beside the engine's own, and as the code makes it.
+-- A burst with a register by its first event: what comes next, as a burst of one event, and the rest behind it.
 -- Assumes nothing.
-use Prim.Native.Nat.{ℕ, zero, suc}
+use Prim.Native.Nat.{ℕ, suc, _+_, _≤_}
 use mathlib.Core.Path.{_≡_, refl, sym, ap, subst, _∙_}
-use mathlib.Core.Bool.{Bool, true, false}
+use mathlib.Core.Bool.{Bool, true, false, not}
 use mathlib.Core.List.{List}
+use native.Mathlib.Nat.{zero-add}
+use native.Mathlib.Omega.{arith}
 use lib.ListN.{length, take, drop}
-use Rattle.base.specs.Bytes.{numberAt}
-use Rattle.base.specs.Tests.{_and_, _=?_}
-use Rattle.base.proofs.TestLaws.{Known, known, holds, fails, eq-holds, eq-fails, pick-yes, pick-no, pick-eq, pick-ne}
-use Rattle.engine.specs.Layout.{atGreenLength}
+use borrow.Author.Tests.{not-true, not-false}
+use Rattle.base.specs.Tests.{_and_, _or_, _=?_}
+use Rattle.base.proofs.TestLaws.{Known, known, holds, fails, not-both, and-holds, eq-holds, eq-fails, pick-yes, pick-no, pick-eq, pick-ne}
+use Rattle.base.proofs.Branches.{or-yes, or-no}
 use Rattle.engine.specs.Decode.{greensIn}
-use Rattle.engine.specs.Outcome.{Result, stepOn, stateNumber}
-use Rattle.engine.proofs.Refusals.{zero-whole}
-use Rattle.burst.specs.declared.BurstAnswer.{BurstAnswer}
 use Rattle.burst.specs.declared.slices.Next.{Next}
 use Rattle.burst.specs.declared.slices.Next.the-variants.{Event, Stop}
-use Rattle.burst.specs.Burst as engine
-use Rattle.burst.specs.Burst.{nextOf, byNext}
-use Rattle.burst.proofs.BurstLaws as steps
-use Rattle.register_runs.specs.Joint.{Joint, stepPart, jointNumber, jointOn}
-use Rattle.register_runs.proofs.JointLaws.{joint-zero, joint-step}
-use Rattle.register_step.specs.declared.carrying.Carried.{Carried}
-use Rattle.register_step.specs.Carrying.{CarryReady, carryOn, carriedBy}
-use Rattle.register_step.specs.Burst.{JointBurst, stopped, ended, behind, silent, afterJoint, burstFrom, burstAll, jointBurstOn, left, refusedBurst}
-use Rattle.register_step.proofs.Gains.{Gains, gains-none, gains-more, gains-carried}
-use Rattle.register_step.proofs.JointLaws.{joint-gains, joint-kept}
-use Rattle.register_step.proofs.StepLaws.{green-length, carry-ready}
+use Rattle.burst.specs.Burst.{nextOf}
+use Rattle.burst.proofs.NextLaws.{whole-event}
+use Rattle.burst.proofs.BurstLaws.{by-stop, by-event}
+use Rattle.register_runs.specs.Joint.{Joint, jointNumber, jointOn}
+use Rattle.register_step.specs.Burst.{JointBurst, stopped, ended, behind, silent, afterJoint, burstFrom}
+use Rattle.register_step.proofs.EventLaws.{joint-goes}
 
--- The burst y with the register is the engine's burst x from the state b, and the register r is carried on by what turned green.
-pub record Beside (b r : List ℕ) (x : engine.Burst) (y : JointBurst) : Type 0 where
-  pub same : record { number = y .number; events = y .events; bytes = y .bytes; store = y .store; sent = y .sent; state = y .state; out = y .out } ≡ x
-  pub ready : stateNumber (x .state) (x .out) ≡ 0
-  pub gains : Gains b r (x .state) (y .register) (y .greened) (y .refused)
+-- y, behind n events of m bytes together that have stored and put out nothing, turned g actions green and had j of their operations refused.
+unfoldable pub past : (n m g j : ℕ) → JointBurst → JointBurst
+past n m g j y = record {
+  number = y .number;
+  events = n + y .events;
+  bytes = m + y .bytes;
+  store = y .store;
+  sent = y .sent;
+  greened = g + y .greened;
+  refused = j + y .refused;
+  state = y .state;
+  register = y .register;
+  out = y .out;
+}
 
-beside : {b r : List ℕ} {x x′ : engine.Burst} {y y′ : JointBurst} → x ≡ x′ → y ≡ y′ → Beside b r x′ y′ → Beside b r x y
-beside {b} {r} {x} {x′} {y} {y′} p q h = subst (λ (u : engine.Burst). Beside b r u y) (sym p) (subst (Beside b r x′) (sym q) h)
+pub past-none : (y : JointBurst) → y ≡ past 0 0 0 0 y
+unfolding past
+past-none y = λ i. record {
+  number = y .number;
+  events = sym (zero-add (y .events)) i;
+  bytes = sym (zero-add (y .bytes)) i;
+  store = y .store;
+  sent = y .sent;
+  greened = sym (zero-add (y .greened)) i;
+  refused = sym (zero-add (y .refused)) i;
+  state = y .state;
+  register = y .register;
+  out = y .out;
+}
 
-module _ (b r o : List ℕ) (z : jointNumber b r o ≡ 0) where
-  beside-stopped : (k : ℕ) → Beside b r (engine.stopped k b o) (stopped k b r o)
-  unfolding engine.stopped stopped
-  beside-stopped k = record { same = refl; ready = joint-zero b r o z .0; gains = gains-none b r }
-
-  module _ (e : List ℕ) (m : ℕ) where
-    abbrev x : Result
-    x = stepOn b e o
-
-    abbrev y : Joint
-    y = jointOn b r e o
-
-    part : stepPart y ≡ x
-    part = joint-step b r e o (joint-zero b r o z .1)
-
-    after-ready : stateNumber (x .state) (x .out) ≡ 0
-    after-ready = joint-zero (x .state) (y .register) (x .out) (joint-kept b r e o z) .0
-
-    beside-ended : Beside b r (engine.ended m x) (ended m y)
-    unfolding engine.ended ended
-    beside-ended = record {
-      same = ap (engine.ended m) part;
-      ready = after-ready;
-      gains = joint-gains b r e o z;
+pub past-past : (n m g j n′ m′ g′ j′ : ℕ) (y : JointBurst) → past n m g j (past n′ m′ g′ j′ y) ≡ past (n + n′) (m + m′) (g + g′) (j + j′) y
+unfolding past
+past-past n m g j n′ m′ g′ j′ y =
+    let events : n + (n′ + y .events) ≡ n + n′ + y .events = omega arith in
+    let bytes : m + (m′ + y .bytes) ≡ m + m′ + y .bytes = omega arith in
+    let greened : g + (g′ + y .greened) ≡ g + g′ + y .greened = omega arith in
+    let refused : j + (j′ + y .refused) ≡ j + j′ + y .refused = omega arith in
+    λ i. record {
+      number = y .number;
+      events = events i;
+      bytes = bytes i;
+      store = y .store;
+      sent = y .sent;
+      greened = greened i;
+      refused = refused i;
+      state = y .state;
+      register = y .register;
+      out = y .out;
     }
 
-    beside-behind : (u : engine.Burst) (v : JointBurst) → Beside (x .state) (y .register) u v → Beside b r (engine.behind 1 m u) (behind m y v)
-    unfolding engine.behind behind
-    beside-behind u v h = record {
-      same = ap (engine.behind 1 m) (h .same);
-      ready = h .ready;
-      gains = gains-more (zero-whole (x .state) (x .out) after-ready) (joint-gains b r e o z) (joint-zero b r o z .1) (h .gains);
+-- ---- what comes next
+
+-- An event that has stored and put out nothing, and none behind it.
+behind-none : (m : ℕ) (x : Joint) → silent x ≡ true → behind m x (stopped 0 (x .state) (x .register) (x .out)) ≡ ended m x
+unfolding behind stopped ended silent
+behind-none m x s =
+    let still = and-holds (x .store =? 0) (x .sent =? 0) s in
+    let store : 0 ≡ x .store = sym (eq-holds (x .store) 0 (still .0)) in
+    let sent : 0 ≡ x .sent = sym (eq-holds (x .sent) 0 (still .1)) in
+    let bytes : m + 0 ≡ m = omega arith in
+    let greened : x .greened + 0 ≡ x .greened = omega arith in
+    let refused : x .refused + 0 ≡ x .refused = omega arith in
+    λ i. record {
+      number = 0;
+      events = 1;
+      bytes = bytes i;
+      store = store i;
+      sent = sent i;
+      greened = greened i;
+      refused = refused i;
+      state = x .state;
+      register = x .register;
+      out = x .out;
     }
 
-    silent-same : silent y ≡ engine.silent x
-    unfolding silent engine.silent
-    silent-same = ap engine.silent part
+module _ (f : Bool) (b r e o : List ℕ) where
+  pub from-stop : (k d : ℕ) → nextOf f e ≡ Stop k → burstFrom (suc d) f b r e o ≡ stopped k b r o
+  unfolding burstFrom
+  from-stop k d h = by-stop (nextOf f e) k _ _ h
 
-    number-same : y .number ≡ x .number
-    number-same = ap (λ (w : Result). w .number) part
+  module _ (m : ℕ) (h : nextOf f e ≡ Event m) where
+    -- The answer to the event, and the events behind it.
+    abbrev x : Joint
+    x = jointOn b r (take m e) o
 
-    -- The rest, from the state that the joint step leaves.
-    on-state : (d : ℕ) (f : List ℕ)
-        → Beside (x .state) (y .register) (engine.burstFrom d false (x .state) f (x .out)) (burstFrom d false (x .state) (y .register) f (x .out))
-        → Beside (x .state) (y .register) (engine.burstFrom d false (x .state) f (x .out)) (burstFrom d false (y .state) (y .register) f (y .out))
-    on-state d f h =
-        subst (λ (w : Result). Beside (x .state) (y .register) (engine.burstFrom d false (x .state) f (x .out)) (burstFrom d false (w .state) (y .register) f (w .out)))
-        (sym part) h
+    abbrev rest : ℕ → JointBurst
+    rest d = burstFrom d false (x .state) (x .register) (drop m e) (x .out)
 
-    beside-after : (u : engine.Burst) (v : JointBurst) → Beside (x .state) (y .register) u v → Beside b r (engine.afterStep b o m x u) (afterJoint b r o m y v)
+    from-event : (d : ℕ) → burstFrom (suc d) f b r e o ≡ afterJoint b r o m x (rest d)
+    unfolding burstFrom
+    from-event d = by-event (nextOf f e) m _ _ h
+
+    pub from-refused : (x .number ≡ 0 → ⊥) → (d : ℕ) → burstFrom (suc d) f b r e o ≡ stopped (x .number) b r o
     unfolding afterJoint
-    beside-after u v h = go (known (x .number =? 0)) (known (engine.silent x))
+    from-refused n d = from-event d ∙ sym (pick-ne (x .number) 0 _ _ _ n refl)
+
+    module _ (z : x .number ≡ 0) where
+      from-last : silent x ≡ false → (d : ℕ) → burstFrom (suc d) f b r e o ≡ ended m x
+      unfolding afterJoint
+      from-last s d = from-event d ∙ sym (pick-eq (x .number) 0 _ _ _ z (pick-no (silent x) _ _ _ s refl))
+
+      from-silent : silent x ≡ true → (d : ℕ) → burstFrom (suc d) f b r e o ≡ behind m x (rest d)
+      unfolding afterJoint
+      from-silent s d = from-event d ∙ sym (pick-eq (x .number) 0 _ _ _ z (pick-yes (silent x) _ _ _ s refl))
+
+      none-behind : rest 0 ≡ stopped 0 (x .state) (x .register) (x .out)
+      unfolding burstFrom
+      none-behind = refl
+
+      -- A burst of one event ends with it.
+      pub from-one : burstFrom 1 f b r e o ≡ ended m x
+      from-one = go (known (silent x))
+        where
+          go : Known (silent x) → burstFrom 1 f b r e o ≡ ended m x
+          go (fails s) = from-last s 0
+          go (holds s) = from-silent s 0 ∙ ap (behind m x) none-behind ∙ behind-none m x s
+
+  -- What comes next: nothing that is taken, or an event.
+  pub data First : Type 0 where
+    none : (k : ℕ) → ((d : ℕ) → burstFrom (suc d) f b r e o ≡ stopped k b r o) → First
+    event : (m : ℕ) → nextOf f e ≡ Event m → jointOn b r (take m e) o .number ≡ 0 → First
+
+  pub first : First
+  first = go (nextOf f e) refl
+    where
+      go : (n : Next) → nextOf f e ≡ n → First
+      go (Stop k) h = none k (λ d. from-stop k d h)
+      go (Event m) h = by (known (jointOn b r (take m e) o .number =? 0))
+        where
+          by : Known (jointOn b r (take m e) o .number =? 0) → First
+          by (fails n) = none (jointOn b r (take m e) o .number) (from-refused m h (eq-fails (jointOn b r (take m e) o .number) 0 n))
+          by (holds z) = event m h (eq-holds (jointOn b r (take m e) o .number) 0 z)
+
+-- ---- a burst of one event, and the rest behind it
+
+-- The burst y from the state b, over e: buffers whose number is 0, a green list that is longer by what y says, and no more than there is.
+pub record GoesOn (b e : List ℕ) (y : JointBurst) : Type 0 where
+  pub ready : jointNumber (y .state) (y .register) (y .out) ≡ 0
+  pub grown : length (greensIn (y .state)) ≡ length (greensIn b) + y .greened
+  pub fewer : y .refused ≤ y .greened
+  pub inside : y .bytes ≤ length e
+  pub few : y .events ≤ y .bytes
+
+-- Nothing is taken, or the event has stored or put out records.
+unfoldable pub lastOne : JointBurst → Bool
+lastOne y = y .events =? 0 or not (y .store =? 0 and y .sent =? 0)
+
+module _ (f : Bool) (b r e o : List ℕ) where
+  abbrev one : JointBurst
+  one = burstFrom 1 f b r e o
+
+  pub one-goes : jointNumber b r o ≡ 0 → GoesOn b e one
+  unfolding stopped ended
+  one-goes z = go (first f b r e o)
+    where
+      go : First f b r e o → GoesOn b e one
+      go (none k h) = subst (GoesOn b e) (sym (h 0))
+          (record { ready = z; grown = omega arith; fewer = omega arith; inside = omega arith; few = omega arith })
+      go (event m h n) =
+          let w = whole-event f e m h in
+          let g = joint-goes b r o z (take m e) in
+          subst (GoesOn b e) (sym (from-one f b r e o m h n))
+          (record { ready = g .ready; grown = g .grown; fewer = g .fewer; inside = w .inside; few = omega (arith, w .size) })
+
+  -- A burst that ends with its first event.
+  last-event : (m : ℕ) (h : nextOf f e ≡ Event m) (n : jointOn b r (take m e) o .number ≡ 0) → not (silent (jointOn b r (take m e) o)) ≡ lastOne one
+  unfolding ended lastOne silent _=?_
+  last-event m h n = or-no _ false _ refl refl ∙ ap lastOne (sym (from-one f b r e o m h n))
+
+  -- It is the whole burst.
+  pub one-whole : lastOne one ≡ true → (d : ℕ) → burstFrom (suc d) f b r e o ≡ one
+  one-whole q d = go (first f b r e o)
+    where
+      go : First f b r e o → burstFrom (suc d) f b r e o ≡ one
+      go (none k h) = h d ∙ sym (h 0)
+      go (event m h n) =
+          from-last f b r e o m h n (not-true (silent (jointOn b r (take m e) o)) (last-event m h n ∙ q)) d ∙ sym (from-one f b r e o m h n)
+
+  module _ (on : lastOne one ≡ false) where
+    none-last : (k : ℕ) → one ≡ stopped k b r o → ⊥
+    unfolding stopped lastOne _=?_
+    none-last k h = not-both (sym on ∙ ap lastOne h ∙ sym (or-yes true _ refl))
+
+    pub one-some : one .events ≡ 1
+    unfolding ended
+    one-some = go (first f b r e o)
       where
-        go : Known (x .number =? 0) → Known (engine.silent x) → Beside b r (engine.afterStep b o m x u) (afterJoint b r o m y v)
-        go (fails t) s =
-            let n : x .number ≡ 0 → ⊥ = eq-fails (x .number) 0 t in
-            beside
-            (steps.after-refused b o m x u n)
-            (sym (pick-ne (y .number) 0 (stopped (x .number) b r o) _ _ (λ q. n (sym number-same ∙ q)) (ap (λ (k : ℕ). stopped k b r o) (sym number-same))))
-            (beside-stopped (x .number))
-        go (holds t) (holds s) =
-            let n : x .number ≡ 0 = eq-holds (x .number) 0 t in
-            beside
-            (steps.after-silent b o m x u n s)
-            (sym (pick-eq (y .number) 0 (behind m y v) _ _ (number-same ∙ n) (pick-yes (silent y) (behind m y v) _ _ (silent-same ∙ s) refl)))
-            (beside-behind u v h)
-        go (holds t) (fails s) =
-            let n : x .number ≡ 0 = eq-holds (x .number) 0 t in
-            beside
-            (steps.after-ended b o m x u n s)
-            (sym (pick-eq (y .number) 0 (ended m y) _ _ (number-same ∙ n) (pick-no (silent y) (ended m y) _ _ (silent-same ∙ s) refl)))
-            beside-ended
+        go : First f b r e o → one .events ≡ 1
+        go (none k h) = absurd (none-last k (h 0))
+        go (event m h z) = ap (λ (y : JointBurst). y .events) (from-one f b r e o m h z)
 
--- ---- many events
-
-by-next : {b r : List ℕ} (n : Next) (s t : ℕ → engine.Burst) (u v : ℕ → JointBurst) → ((k : ℕ) → Beside b r (s k) (u k)) → ((m : ℕ) → Beside b r (t m) (v m))
-    → Beside b r (byNext n s t) (byNext n u v)
-unfolding byNext
-by-next (Stop k) s t u v f g = f k
-by-next (Event m) s t u v f g = g m
-
-pub beside-from : (d : ℕ) (f : Bool) (b r e o : List ℕ) → jointNumber b r o ≡ 0 → Beside b r (engine.burstFrom d f b e o) (burstFrom d f b r e o)
-unfolding engine.burstFrom burstFrom
-beside-from zero f b r e o z = beside-stopped b r o z 0
-beside-from (suc d) f b r e o z =
-    by-next (nextOf f e) _ _ _ _ (λ k. beside-stopped b r o z k)
-    (λ m. beside-after b r o z (take m e) m _ _
-    (on-state b r o z (take m e) m d (drop m e)
-    (beside-from d false (stepOn b (take m e) o .state) (jointOn b r (take m e) o .register) (drop m e) (stepOn b (take m e) o .out)
-    (joint-kept b r (take m e) o z))))
-
--- ---- as the code makes it
-
-pub burst-refused : (b r e o : List ℕ) (k : ℕ) → k ≡ jointNumber b r o → (k ≡ 0 → ⊥) → left (refusedBurst k) b r o ≡ jointBurstOn b r e o
-unfolding jointBurstOn left stopped
-burst-refused b r e o k is-k n =
-    pick-ne (jointNumber b r o) 0 (stopped k b r o) _ _ (λ z. n (is-k ∙ z)) (ap (λ (j : ℕ). stopped j b r o) is-k)
-
-module _ (b r e o : List ℕ) (ready : jointNumber b r o ≡ 0) (a : BurstAnswer) (b₁ o₁ : List ℕ) (is-burst : engine.left a b₁ o₁ ≡ engine.burstAll b e o) where
-  abbrev all : JointBurst
-  all = burstAll b r e o
-
-  whole : Beside b r (engine.left a b₁ o₁) all
-  unfolding engine.burstAll burstAll
-  whole = subst (λ (x : engine.Burst). Beside b r x all) (sym is-burst) (beside-from (suc (length e)) true b r e o ready)
-
-  kept : stateNumber b₁ o₁ ≡ 0
-  unfolding engine.left
-  kept = whole .ready
-
-  gains : Gains b r b₁ (all .register) (all .greened) (all .refused)
-  unfolding engine.left
-  gains = whole .gains
-
-  pub burst-carries : (green : ℕ) → green ≡ numberAt 4 b atGreenLength → CarryReady b₁ green r
-  burst-carries green h = carry-ready b r o ready b₁ o₁ (all .register) (all .greened) (all .refused) green kept gains h
-
-  pub burst-taken : (green : ℕ) (c : Carried) (r₁ : List ℕ) → green ≡ numberAt 4 b atGreenLength → carriedBy c r₁ ≡ carryOn (drop green (greensIn b₁)) r
-      → left (record {
-        number = a .number;
-        store = a .store;
-        sent = a .sent;
-        greened = c .greened;
-        refused = c .refused;
-        events = a .events;
-        bytes = a .bytes;
-      }) b₁ r₁ o₁ ≡ jointBurstOn b r e o
-  unfolding jointBurstOn left engine.left
-  burst-taken green c r₁ h q =
-      let t = gains-carried (zero-whole b₁ o₁ kept) gains green c r₁ (green-length b r o ready green h) q in
-      pick-eq (jointNumber b r o) 0 _ _ _ ready
-      (λ i. record {
-        number = sym (whole .same) i .number;
-        events = sym (whole .same) i .events;
-        bytes = sym (whole .same) i .bytes;
-        store = sym (whole .same) i .store;
-        sent = sym (whole .same) i .sent;
-        greened = t .0 i;
-        refused = t .1 i;
-        state = sym (whole .same) i .state;
-        register = t .2 i;
-        out = sym (whole .same) i .out;
-      })
+    -- The rest stands behind it.
+    pub one-more : (d : ℕ)
+        → burstFrom (suc d) f b r e o
+        ≡ past (one .events) (one .bytes) (one .greened) (one .refused) (burstFrom d false (one .state) (one .register) (drop (one .bytes) e) (one .out))
+    unfolding ended behind past
+    one-more d = go (first f b r e o)
+      where
+        go : First f b r e o → burstFrom (suc d) f b r e o
+            ≡ past (one .events) (one .bytes) (one .greened) (one .refused) (burstFrom d false (one .state) (one .register) (drop (one .bytes) e) (one .out))
+        go (none k h) = absurd (none-last k (h 0))
+        go (event m h z) =
+            from-silent f b r e o m h z (not-false (silent (jointOn b r (take m e) o)) (last-event m h z ∙ on)) d
+            ∙ ap (λ (y : JointBurst). past (y .events) (y .bytes) (y .greened) (y .refused) (burstFrom d false (y .state) (y .register) (drop (y .bytes) e) (y .out)))
+            (sym (from-one f b r e o m h z))

@@ -1,8 +1,8 @@
 -- What turned green between two states of a server, applied to its register.
 -- Assumes nothing.
-use Prim.Native.Nat.{ℕ, _+_, _≤_}
+use Prim.Native.Nat.{ℕ, _≤_}
 use mathlib.Core.Path.{_≡_, refl, sym, ap, subst, _∙_}
-use mathlib.Core.List.{List, [], _++_, append-nil, append-assoc, map-append}
+use mathlib.Core.List.{List, [], _++_, append-nil}
 use native.Mathlib.Omega.{arith}
 use lib.ListN.{length, drop, length-append}
 use Rattle.base.specs.Bytes.{Bytes}
@@ -17,11 +17,9 @@ use Rattle.engine.specs.Decode.{decoded, greensIn}
 use Rattle.engine.specs.Outcome.{imageNumber}
 use Rattle.engine.proofs.InRange.{in-range}
 use Rattle.engine.proofs.Refusals.{whole-holds}
-use Rattle.pegs.specs.Operations.{Peg}
-use Rattle.pegs.specs.Register.{advance, refusals}
+use Rattle.pegs.specs.Register.{refusals}
 use Rattle.pegs.specs.Image.{pegsIn}
-use Rattle.pegs.specs.Outcome.{registerNumber, appliedAll}
-use Rattle.pegs.proofs.Advance.{refusals-append, applied-all-append, applied-all}
+use Rattle.pegs.specs.Outcome.{appliedAll}
 use Rattle.register_runs.specs.Joint.{payloads, carried}
 use Rattle.register_step.specs.declared.carrying.Carried.{Carried}
 use Rattle.register_step.specs.Carrying.{CarriedOn, carryOn, carriedBy}
@@ -39,10 +37,6 @@ unfolding payloads carried appliedAll refusals
 gains-none b r =
     record { gained = []; greens = sym (append-nil (greensIn b)); greened = refl; refused = refl; register = refl }
 
-payloads-append : (x y : List Action) → payloads (x ++ y) ≡ payloads x ++ payloads y
-unfolding payloads
-payloads-append x y = map-append (λ a. a .payload) x y
-
 -- ---- payloads are bytes
 
 green-bytes : (b : List ℕ) → imageNumber b ≡ 0 → Each (λ a. Bytes (a .payload)) (greensIn b)
@@ -58,28 +52,6 @@ module _ {b r b₁ r₁ : List ℕ} {m k : ℕ} (z : imageNumber b₁ ≡ 0) (h 
   gained-bytes =
       each-map Bytes (λ a. a .payload) (h .gained)
       (each-second (λ a. Bytes (a .payload)) (greensIn b) (h .gained) (subst (Each (λ a. Bytes (a .payload))) (h .greens) (green-bytes b₁ z)))
-
-  -- One behind another.
-  pub gains-more : {b₂ r₂ : List ℕ} {m′ k′ : ℕ} → registerNumber r ≡ 0 → Gains b₁ r₁ b₂ r₂ m′ k′ → Gains b r b₂ r₂ (m + m′) (k + k′)
-  unfolding carried
-  gains-more {b₂} {r₂} {m′} {k′} y g =
-      let x : List Action = h .gained in
-      let all : payloads (x ++ g .gained) ≡ payloads x ++ payloads (g .gained) = payloads-append x (g .gained) in
-      let pegs : pegsIn r₁ ≡ advance (pegsIn r) (payloads x) = ap pegsIn (h .register) ∙ applied-all (payloads x) r y gained-bytes .pegs in
-      let sum : refusals (pegsIn r) (payloads (x ++ g .gained)) ≡ refusals (pegsIn r) (payloads x) + refusals (pegsIn r₁) (payloads (g .gained)) =
-      ap (refusals (pegsIn r)) all ∙ refusals-append (pegsIn r) (payloads x) (payloads (g .gained))
-      ∙ ap (λ (l : List Peg). refusals (pegsIn r) (payloads x) + refusals l (payloads (g .gained))) (sym pegs) in
-      record {
-        gained = x ++ g .gained;
-        greens = g .greens ∙ ap (λ (l : List Action). l ++ g .gained) (h .greens) ∙ append-assoc (greensIn b) x (g .gained);
-        greened = omega (arith, h .greened, g .greened, length-append x (g .gained));
-        refused = omega (arith, h .refused, g .refused, sum);
-        register =
-            g .register
-            ∙ ap (appliedAll (payloads (g .gained))) (h .register)
-            ∙ sym (applied-all-append (payloads x) (payloads (g .gained)) r)
-            ∙ ap (λ (ps : List (List ℕ)). appliedAll ps r) (sym all);
-      }
 
   -- As the code carries the register on.
   pub gains-carried : (green : ℕ) (c : Carried) (r₂ : List ℕ) → green ≡ length (greensIn b) → carriedBy c r₂ ≡ carryOn (drop green (greensIn b₁)) r

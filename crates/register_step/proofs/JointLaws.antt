@@ -22,8 +22,8 @@ use Rattle.burst.proofs.KeptLaws.{step-kept}
 use Rattle.pegs.specs.Image.{registerLength, registerReads}
 use Rattle.pegs.specs.Outcome.{registerShort, registerNumber}
 use Rattle.pegs.proofs.Advance.{applied-all}
-use Rattle.register_runs.specs.Joint.{Joint, unjoined, payloads, carried, jointOf, jointNumber, jointOn}
-use Rattle.register_runs.proofs.JointLaws.{joint-zero, zero-joint, joint-read}
+use Rattle.register_runs.specs.Joint.{Joint, stepPart, unjoined, payloads, carried, jointOf, jointNumber, jointOn}
+use Rattle.register_runs.proofs.JointLaws.{joint-zero, zero-joint, joint-step, joint-read}
 use Rattle.register_step.proofs.Gains.{Gains, gains-none, gained-bytes}
 
 -- ---- the buffers' number, as the code finds it
@@ -132,3 +132,6 @@ module _ (b r e o : List ℕ) (z : jointNumber b r o ≡ 0) where
       go : (w : Outcome (List ℕ)) → step (decoded b) e ≡ w → (resultOf w b o .number ≡ 0 → ⊥) → jointOf w b r o ≡ unjoined (resultOf w b o .number) b r o
       go (refused k) h n = refl
       go (taken t rs w g) h n = absurd (n refl)
+
+  pub step-same : x ≡ stepPart y
+  step-same = sym (joint-step b r e o register-zero)

@@ -1,8 +1,10 @@
 pub mod Gains
+pub mod CarryLaws
 pub mod JointLaws
 pub mod StepLaws
-pub mod CarryLaws
+pub mod EventLaws
 pub mod BurstLaws
+pub mod BurstCode
 pub mod Server
 pub mod Depots
 pub mod Agreement

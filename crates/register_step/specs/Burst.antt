@@ -1,11 +1,11 @@
 -- Events one behind another in one slice, each by the joint step: what a burst with a register answers.
 -- Assumes nothing.
-use Prim.Native.Nat.{ℕ, zero, suc, _+_}
+use Prim.Native.Nat.{ℕ, zero, suc, _+_, _^_, _<_}
 use mathlib.Core.Path.{_≡_}
-use mathlib.Core.Bool.{Bool, true, false}
+use mathlib.Core.Bool.{Bool, true, false, not}
 use mathlib.Core.List.{List}
 use lib.ListN.{length, take, drop}
-use Rattle.base.specs.Tests.{_and_, _=?_, pick}
+use Rattle.base.specs.Tests.{_and_, _or_, _=?_, pick}
 use Rattle.base.specs.Lent.{Lent}
 use Rattle.burst.specs.Burst.{nextOf, byNext}
 use Rattle.register_runs.specs.Joint.{Joint, jointNumber, jointOn}
@@ -112,6 +112,40 @@ left a b r o = record {
 -- The code's answer where the buffers are refused.
 abbrev pub refusedBurst : (number : ℕ) → RegisterBurst
 refusedBurst k = record { number = k; store = 0; sent = 0; greened = 0; refused = 0; events = 0; bytes = 0 }
+
+-- The code's answer of the burst y behind the burst x.
+abbrev pub followed : (x y : RegisterBurst) → RegisterBurst
+followed x y = record {
+  number = y .number;
+  store = y .store;
+  sent = y .sent;
+  greened = x .greened + y .greened;
+  refused = x .refused + y .refused;
+  events = x .events + y .events;
+  bytes = x .bytes + y .bytes;
+}
+
+-- The sums fit.
+pub record CanFollow (x y : RegisterBurst) : Type 0 where
+  pub greened : x .greened + y .greened < 2 ^ 32
+  pub refused : x .refused + y .refused < 2 ^ 32
+  pub events : x .events + y .events < 2 ^ 64
+  pub bytes : x .bytes + y .bytes < 2 ^ 64
+
+-- Nothing is taken, or the event has stored or put out records.
+unfoldable pub isLast : RegisterBurst → Bool
+isLast y = y .events =? 0 or not (y .store =? 0 and y .sent =? 0)
+
+-- The answer to the first of the events and the lent buffers afterwards are those of a burst of one event; whether it would stand first.
+abbrev pub AnswersFirst : RegisterBurst → (first : Bool) → (state register events out : Lent) → Type 0
+AnswersFirst a f b r e o =
+    left a (now (b .exit)) (now (r .exit)) (now (o .exit)) ≡ burstFrom 1 f (now (b .entry)) (now (r .entry)) (now (e .entry)) (now (o .entry))
+
+-- The same for the first behind the events of x.
+abbrev pub AnswersNext : (a x : RegisterBurst) → (state register events out : Lent) → Type 0
+AnswersNext a x b r e o =
+    left a (now (b .exit)) (now (r .exit)) (now (o .exit))
+    ≡ burstFrom 1 (x .events =? 0) (now (b .entry)) (now (r .entry)) (drop (x .bytes) (now (e .entry))) (now (o .entry))
 
 -- The answer to the events and the lent buffers afterwards are the burst's.
 abbrev pub AnswersAll : RegisterBurst → (state register events out : Lent) → Type 0

@@ -1,13 +1,17 @@
 // Events at one server that keeps a register, over the lent buffers: the engine's step, then every action that it turned green applied in order.
 ghost use mathlib.Core.Path.{_≡_};
+ghost use Prim.Native.Nat.{_≤_};
+ghost use lib.ListN.{length};
 ghost use Rattle.register_runs.specs.Joint.{jointNumber};
 ghost use Rattle.register_step.specs.Answers.{refusedWith, AnswersJointly, AllRead};
-ghost use Rattle.register_step.specs.Burst.{AnswersAll};
+ghost use Rattle.register_step.specs.Burst.{refusedBurst, CanFollow, followed, isLast, AnswersFirst, AnswersNext, AnswersAll};
 ghost use Rattle.register_step.specs.Claim.{JointBurstsFollow, JointBurstsAgree};
 
 pub mod carrying; // carrying.rt: green actions applied to the register
 
-use burst::take_events;
+use burst::slices::Next;
+use burst::slices::next_in;
+use burst::slices::stop_number;
 use carrying::carry;
 use record::State;
 use record::bytes::num32;
@@ -105,22 +109,109 @@ pub struct RegisterBurst {
     pub bytes: usize,
 }
 
-// Over buffers whose number is 0: the engine's burst, then all that it turned green.
+impl RegisterBurst {
+    // Nothing is taken.
+    fn stopped(number: u32) -> RegisterBurst
+        ensures { λ r. ⌜ r ≡ refusedBurst number ⌝ }
+    {
+        RegisterBurst {
+            number,
+            store: 0,
+            sent: 0,
+            greened: 0,
+            refused: 0,
+            events: 0,
+            bytes: 0,
+        }
+    }
+
+    // The next burst behind this one, which has stored and put out nothing.
+    fn then(self, next: RegisterBurst) -> RegisterBurst
+        requires { ⌜ CanFollow self next ⌝ }
+        ensures { λ r. ⌜ r ≡ followed self next ⌝ }
+    {
+        RegisterBurst {
+            number: next.number,
+            store: next.store,
+            sent: next.sent,
+            greened: self.greened + next.greened,
+            refused: self.refused + next.refused,
+            events: self.events + next.events,
+            bytes: self.bytes + next.bytes,
+        }
+    }
+
+    // Of a burst of one event: no event may follow it.
+    fn is_last(self) -> bool
+        ensures { λ r. ⌜ r ≡ isLast self ⌝ }
+    {
+        if self.events == 0 {
+            return true;
+        }
+        if self.store == 0 {
+            return self.sent != 0;
+        }
+        true
+    }
+}
+
+// Over buffers whose number is 0: the first of these events, as a burst of one; whether it would stand first.
+fn take_first(
+    state: &mut [u8],
+    register: &mut [u8],
+    events: &[u8],
+    first: bool,
+    out: &mut [u8],
+) -> RegisterBurst
+    requires { ⌜ AllRead state register out ⌝ }
+    ensures { λ r. ⌜ AnswersFirst r first state register events out ⌝ }
+{
+    let next = next_in(events, first);
+    let Next::Event(size) = next else {
+        return RegisterBurst::stopped(stop_number(next));
+    };
+    let a = take_event(state, register, &events[..size], out);
+    if a.number != 0 {
+        return RegisterBurst::stopped(a.number);
+    }
+    RegisterBurst {
+        number: 0,
+        store: a.store,
+        sent: a.sent,
+        greened: a.greened,
+        refused: a.refused,
+        events: 1,
+        bytes: size,
+    }
+}
+
+// What comes behind the events of `all`, as a burst of one.
+fn take_next(
+    all: RegisterBurst,
+    state: &mut [u8],
+    register: &mut [u8],
+    events: &[u8],
+    out: &mut [u8],
+) -> RegisterBurst
+    requires { ⌜ AllRead state register out × (all .bytes ≤ length (now events)) ⌝ }
+    ensures { λ r. ⌜ AnswersNext r all state register events out ⌝ }
+{
+    let at = all.bytes;
+    take_first(state, register, &events[at..], all.events == 0, out)
+}
+
+// Over buffers whose number is 0: they stay such, so that no event checks them anew. What an event turned green is applied before the next is taken.
 fn take_burst(state: &mut [u8], register: &mut [u8], events: &[u8], out: &mut [u8]) -> RegisterBurst
     requires { ⌜ AllRead state register out ⌝ }
     ensures { λ r. ⌜ AnswersAll r state register events out ⌝ }
 {
-    let from = num32(state, State::AT_GREEN_LENGTH);
-    let a = take_events(state, events, out);
-    let c = carry(state, register, from);
-    RegisterBurst {
-        number: a.number,
-        store: a.store,
-        sent: a.sent,
-        greened: c.greened,
-        refused: c.refused,
-        events: a.events,
-        bytes: a.bytes,
+    let mut all = RegisterBurst::stopped(0);
+    loop {
+        let next = take_next(all, state, register, events, out);
+        all = all.then(next);
+        if next.is_last() {
+            return all;
+        }
     }
 }
 
@@ -136,15 +227,7 @@ pub extern "C" fn guzbytor_register_burst(
 {
     let number = joint_number(state, register, out);
     if number != 0 {
-        return RegisterBurst {
-            number,
-            store: 0,
-            sent: 0,
-            greened: 0,
-            refused: 0,
-            events: 0,
-            bytes: 0,
-        };
+        return RegisterBurst::stopped(number);
     }
     take_burst(state, register, events, out)
 }

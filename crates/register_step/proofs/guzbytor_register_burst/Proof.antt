@@ -1,14 +1,18 @@
-use Rattle.register_step.proofs.BurstLaws.{burst-refused}
+use Rattle.register_step.proofs.BurstCode.{burst-refused}
 use borrow.Author.Needs.{needs}
 use Rattle.register_step.proofs.guzbytor_register_burst.Statement.{statement}
 use Rattle.register_step.proofs.guzbytor_register_burst.Tie as tie
 use Rattle.register_step.proofs.guzbytor_register_burst.Reads as reads
 use Rattle.register_step.proofs.guzbytor_register_burst.Lts as lts
 use Rattle.register_step.proofs.joint_number.Reads as joint-number-reads
+use Rattle.register_step.proofs.RegisterBurst.stopped.Reads as stopped-reads
 use Rattle.register_step.proofs.take_burst.Reads as take-burst-reads
 
 joint-number-requires : tie.Need-joint-number-requires
 joint-number-requires c κs = search needs
+
+stopped-requires : tie.Need-stopped-requires
+stopped-requires c κs = search needs
 
 same-length : tie.Need-same-length
 same-length c = search needs
@@ -42,6 +46,7 @@ guzbytor-register-burst-spec =
     tie.close
     (tie.spec
     joint-number-requires
+    stopped-requires
     same-length
     same-length-2
     same-length-3
