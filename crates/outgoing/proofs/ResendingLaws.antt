@@ -8,7 +8,7 @@ use native.Mathlib.Omega.{arith}
 use mir.Syntax.{w64}
 use mir.Val.{Fits}
 use lib.ListN.{length, take, drop, length-append, length-take}
-use Rattle.base.proofs.AtLaws.{at-take, at-past-take}
+use Rattle.base.proofs.AtLaws.{at-past-take}
 use Rattle.base.specs.Bytes.{numberAt, partAt, joined}
 use Rattle.base.proofs.Comparable.{gather-append}
 use Rattle.base.specs.Lists.{at, atFront, gather, after, above}
@@ -34,7 +34,8 @@ use Rattle.outgoing.specs.Resending.{queueIn, fromPlace, atPosition, asR
 use Rattle.outgoing.proofs.LentLaws.{Placed, rest-room, rest-done, one-record, records-append}
 use Rattle.format.specs.Places.{mostRetransmission}
 use Rattle.engine.specs.Counts.{queueCount, greenCount, place}
-use Rattle.queue.specs.Queue.{position, slotPlace, QueueIn}
+use Rattle.queue.specs.Queue.{position, slotPlace, greenSlot, QueueIn}
+use Rattle.queue.proofs.GreenHistory.{green-low, greensIn-at}
 use Rattle.engine.proofs.InPlace.{such-decoded}
 use Rattle.engine.specs.Decode.{decoded, decodedAs, greensIn}
 use native.Mathlib.Nat.{zero-add}
@@ -186,11 +187,14 @@ position-past b me g p i o e h =
     let past : at (take (greenCount b) (queueIn b)) (p - 1) ≡ none = at-past-take (greenCount b) (queueIn b) (p - 1) (omega arith) in
     subst (λ (x : Option Action). Sends 1 (oneOf (resent me p x)) i o o i) (sym past) (sends-none 1 i o)
 
-pub position-sent : (b : List ℕ) (me g p i r : ℕ) (o o₁ : List ℕ) → g ≡ numberAt 4 b atGreenLength → p ≤ g → 1 ≤ p
-    → Sends 1 (oneOf (fromPlace me p (queueIn b) (p - 1))) i o o₁ r → Sends 1 (oneOf (atPosition me (greensIn b) p)) i o o₁ r
-unfolding atPosition greensIn decoded decodedAs queueIn place fromPlace
-position-sent b me g p i r o o₁ e h l s =
-    let there : at (take (greenCount b) (queueIn b)) (p - 1) ≡ at (queueIn b) (p - 1) = at-take (greenCount b) (queueIn b) (p - 1) (omega arith) in
+pub position-sent : (b : List ℕ) (q : QueueIn b) (me g p k i r : ℕ) (o o₁ : List ℕ) → g ≡ numberAt 4 b atGreenLength → p ≤ g → 1 ≤ p → k ≡ greenSlot b (p - 1)
+    → Sends 1 (oneOf (fromPlace me p (queueIn b) k)) i o o₁ r → Sends 1 (oneOf (atPosition me (greensIn b) p)) i o o₁ r
+unfolding atPosition queueIn slotPlace fromPlace
+position-sent b q me g p k i r o o₁ e h l is-k s =
+    let there : at (greensIn b) (p - 1) ≡ at (queueIn b) k =
+    greensIn-at b q (p - 1) (omega arith)
+    ∙ sym (actions-at (queueCount b) b (place theQueue b) (greenSlot b (p - 1)) (green-low b q (p - 1) (omega arith)))
+    ∙ ap (at (queueIn b)) (sym is-k) in
     subst (λ (x : Option Action). Sends 1 (oneOf (resent me p x)) i o o₁ r) (sym there) s
 
 -- ---- an id

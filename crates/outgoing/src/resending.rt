@@ -22,6 +22,7 @@ use exchange::decided::resends_green;
 use exchange::decided::resends_red;
 use install::table::place_in;
 use install::table::table;
+use queue::history::green_slot;
 use record::State;
 use record::bytes::num8;
 use record::bytes::num32;
@@ -62,7 +63,14 @@ fn send_position(state: &[u8], out: &mut [u8], at: usize, me: u8, position: u32)
     if num32(state, State::AT_GREEN_LENGTH) < position {
         return at;
     }
-    send_slot(state, out, at, me, position, position as usize - 1)
+    send_slot(
+        state,
+        out,
+        at,
+        me,
+        position,
+        green_slot(state, position - 1),
+    )
 }
 
 // "resends positions from the shortest length + 1 to its own": those above `low` up to `high`.

@@ -1,16 +1,13 @@
 -- Green entries, as the code puts them one behind another.
 -- Assumes nothing.
-use Prim.Native.Nat.{ℕ, zero, suc, _+_, _*_, _-_, _^_, _≤_, _<_}
+use Prim.Native.Nat.{ℕ, suc, _+_, _*_, _-_, _^_, _≤_, _<_}
 use mathlib.Core.Path.{_≡_, refl, sym, ap, _∙_}
 use mathlib.Core.List.{List, [], _∷_, _++_, append-nil, append-assoc}
-use mathlib.Core.Option.{some}
 use native.Mathlib.Omega.{arith}
 use native.Mathlib.Nat.{zero-add}
-use lib.ListN.{length, take, drop, length-append}
-use lib.Seq.{length-take-le, drop-length}
+use lib.ListN.{length, drop, length-append}
+use lib.Seq.{drop-length}
 use Rattle.base.specs.Bytes.{numberAt, joined, over}
-use Rattle.base.specs.Lists.{at}
-use Rattle.base.proofs.AtLaws.{none-some, some-same, at-take}
 use Rattle.base.specs.Patched.{patched}
 use Rattle.base.proofs.PatchedLaws.{patched-next, patched-none}
 use Rattle.base.proofs.TestLaws.{pick-ge}
@@ -19,44 +16,14 @@ use Rattle.format.specs.Places.{actionPayloadAt, actionHeadSize}
 use Rattle.format.specs.Types.{Action}
 use Rattle.format.specs.Read.{actionAt}
 use Rattle.engine.specs.Layout.{slotSize, theQueue}
-use Rattle.engine.specs.Decode.{actionsAt, decodedAs, decoded, greensIn}
+use Rattle.engine.specs.Decode.{greensIn}
 use Rattle.engine.specs.Counts.{queueCount, greenCount, place}
-use Rattle.engine.proofs.Slots.{actions-count}
-use Rattle.queue.specs.Queue.{slotPlace, QueueIn}
+use Rattle.queue.specs.Queue.{slotPlace, greenSlot, QueueIn}
+use Rattle.queue.proofs.GreenHistory.{greensIn-count, green-low, greensIn-next}
 use Rattle.base.proofs.Over.{over-front}
-use Rattle.queue.proofs.ReadLaws.{actions-at}
 use Rattle.queries.specs.declared.GreenEntries.{GreenEntries}
 use Rattle.queries.specs.Queries.{entryBytes, entriesBytes, entryHeadSize, mostEntry, fitting, putting, listing, listed, putEntries}
 use Rattle.queries.proofs.EntryLaws.{slot-entry-length, entries-append, one-entry, first-fits, first-too-long, none-to-fit}
-
--- ---- the green list
-
-drop-next : {A : Type 0} (l : List A) (p : ℕ) (x : A) → at l p ≡ some x → drop p l ≡ x ∷ drop (suc p) l
-unfolding at
-drop-next [] p x e = none-some e
-drop-next (y ∷ l) zero x e = ap (λ z. z ∷ l) (some-same e)
-drop-next (y ∷ l) (suc p) x e = drop-next l p x e
-
-module _ (b : List ℕ) (q : QueueIn b) where
-  abbrev queued : List Action
-  queued = actionsAt (queueCount b) b (place theQueue b)
-
-  greensIn-read : greensIn b ≡ take (greenCount b) queued
-  unfolding greensIn decoded decodedAs place
-  greensIn-read = refl
-
-  pub greensIn-count : length (greensIn b) ≡ greenCount b
-  greensIn-count =
-      ap length greensIn-read ∙ length-take-le (greenCount b) queued (omega (arith, actions-count (queueCount b) b (place theQueue b), q .counts .green))
-
-  -- The next one lies in the slot k.
-  pub greensIn-next : (k : ℕ) → k < greenCount b → drop k (greensIn b) ≡ actionAt b (slotPlace b k) ∷ drop (suc k) (greensIn b)
-  unfolding slotPlace
-  greensIn-next k h =
-      drop-next (greensIn b) k (actionAt b (place theQueue b + slotSize * k))
-      (ap (λ (l : List Action). at l k) greensIn-read
-      ∙ at-take (greenCount b) queued k h
-      ∙ actions-at (queueCount b) b (place theQueue b) k (omega (arith, q .counts .green)))
 
 -- ---- the loop
 
@@ -125,26 +92,30 @@ module _ (b : List ℕ) (from : ℕ) (o₀ o : List ℕ) (k at : ℕ) (q : Queue
       ∙ ap (fitting (length o₀ - at)) (drop-length (greensIn b))
       ∙ none-to-fit (length o₀ - at)) green r e is-r
 
-  -- The slot k, with its payload's length.
-  module _ (green p m : ℕ) (e : green ≡ greenCount b) (h : k < green) (is-p : p ≡ place theQueue b) (is-m : m ≡ numberAt 1 b (p + slotSize * k + actionPayloadAt)) where
+  -- The slot s of the position k, with its payload's length.
+  module _ (green p s m : ℕ) (e : green ≡ greenCount b) (h : k < green) (is-p : p ≡ place theQueue b) (is-s : s ≡ greenSlot b k)
+      (is-m : m ≡ numberAt 1 b (p + slotSize * s + actionPayloadAt)) where
+    low : s < queueCount b
+    low = omega (arith, is-s, green-low b q k (omega arith))
+
     slot-short : m ≤ mostPayload
     unfolding slotPlace
     slot-short =
-        let here : p + slotSize * k + actionPayloadAt ≡ place theQueue b + slotSize * k + actionPayloadAt = omega arith in
-        omega (arith, q .payloads k (omega (arith, q .counts .green)), ap (numberAt 1 b) here)
+        let here : p + slotSize * s + actionPayloadAt ≡ place theQueue b + slotSize * s + actionPayloadAt = omega arith in
+        omega (arith, q .payloads s low, ap (numberAt 1 b) here)
 
-    pub slot-inside : p + slotSize * k + actionHeadSize + m ≤ length b
-    slot-inside = omega (arith, slot-short, q .counts .queueEnd, q .counts .queue, q .counts .green)
+    pub slot-inside : p + slotSize * s + actionHeadSize + m ≤ length b
+    slot-inside = omega (arith, slot-short, low, q .counts .queueEnd, q .counts .queue)
 
     abbrev x : Action
-    x = actionAt b (p + slotSize * k)
+    x = actionAt b (p + slotSize * s)
 
     next-is : drop k (greensIn b) ≡ x ∷ drop (suc k) (greensIn b)
     unfolding slotPlace
-    next-is = greensIn-next b q k (omega arith) ∙ ap (λ (n : ℕ). actionAt b (n + slotSize * k) ∷ drop (suc k) (greensIn b)) (sym is-p)
+    next-is = greensIn-next b q k (omega arith) ∙ (λ i. actionAt b (sym is-p i + slotSize * sym is-s i) ∷ drop (suc k) (greensIn b))
 
     size-is : length (entryBytes x) ≡ entryHeadSize + m
-    size-is = slot-entry-length b (p + slotSize * k) m is-m slot-inside
+    size-is = slot-entry-length b (p + slotSize * s) m is-m slot-inside
 
     pub along-full : (r : GreenEntries) → length o - at < entryHeadSize + m → r ≡ putEntries green (k - from) at → listed r o ≡ listing (greensIn b) from o₀
     along-full r l is-r =

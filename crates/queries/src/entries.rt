@@ -13,6 +13,7 @@ ghost use Rattle.queries.specs.Queries.{entryBytes, entryHeadSize, listi
 use crate::GreenEntries;
 use engine::places::THE_QUEUE;
 use engine::places::place_of;
+use queue::history::green_slot;
 use record::ActionHead;
 use record::State;
 use record::bytes::num8;
@@ -45,7 +46,7 @@ pub fn put_entries(state: &[u8], from: u32, green: u32, out: &mut [u8]) -> Green
     let mut k = from;
     let mut at: usize = 0;
     while k < green {
-        let slot = queue + State::SLOT * k as usize;
+        let slot = queue + State::SLOT * green_slot(state, k);
         let m = num8(state, slot + ActionHead::PAYLOAD) as usize;
         if out.len() - at < ENTRY_HEAD + m {
             return GreenEntries::put(green, k - from, at);

@@ -11,3 +11,4 @@ pub mod Positions
 pub mod Promoted
 pub mod GreenLaws
 pub mod ReadLaws
+pub mod GreenHistory

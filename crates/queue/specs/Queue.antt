@@ -35,6 +35,10 @@ redsIn b = actionsAt (queueCount b - greenCount b) b (place theQueue b + slotSiz
 unfoldable pub slotPlace : List ℕ → ℕ → ℕ
 slotPlace b k = place theQueue b + slotSize * k
 
+-- The slot of the green action that stands behind k others in the green history: the history begins with the first slot.
+unfoldable pub greenSlot : List ℕ → ℕ → ℕ
+greenSlot b k = k
+
 -- The numbers of the buffer are in range, and so is each payload of its queue.
 pub record QueueIn (b : List ℕ) : Type 0 where
   pub counts : CountsIn b

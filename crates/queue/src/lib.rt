@@ -4,3 +4,4 @@ pub mod slots; // slots.rt: one slot written, and slots moved
 pub mod finding; // finding.rt: an action by its id
 pub mod entering; // entering.rt: an action is entered
 pub mod greening; // greening.rt: an action turns green
+pub mod history; // history.rt: positions of the green history, and their slots

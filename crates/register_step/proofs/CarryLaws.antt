@@ -17,9 +17,9 @@ use Rattle.format.specs.Types.{Action}
 use Rattle.format.specs.Read.{payloadAt, actionAt}
 use Rattle.engine.specs.Layout.{slotSize, theQueue}
 use Rattle.engine.specs.Decode.{greensIn}
-use Rattle.engine.specs.Counts.{greenCount, place}
-use Rattle.queue.specs.Queue.{slotPlace, QueueIn}
-use Rattle.queries.proofs.EntriesCode.{greensIn-count, greensIn-next}
+use Rattle.engine.specs.Counts.{queueCount, greenCount, place}
+use Rattle.queue.specs.Queue.{slotPlace, greenSlot, QueueIn}
+use Rattle.queue.proofs.GreenHistory.{greensIn-count, green-low, greensIn-next}
 use Rattle.pegs.specs.Operations.{Peg}
 use Rattle.pegs.specs.Register.{payloadNumber, afterPayload, advance, refusals}
 use Rattle.pegs.specs.Image.{pegsIn}
@@ -137,23 +137,26 @@ module _ (b r₀ : List ℕ) (from : ℕ) (r : List ℕ) (k refused : ℕ) (read
       let size : green - from ≡ length (a .put) = omega (arith, a .count, a .high) in
       (λ i. record { greened = size i; refused = a .counted i; register = a .register i }) ∙ ap (λ (l : List Action). carryOn l r₀) (sym all)
 
-  -- The slot k.
-  module _ (green p : ℕ) (e : green ≡ greenCount b) (h : k < green) (is-p : p ≡ place theQueue b) where
+  -- The slot j of the position k.
+  module _ (green p j : ℕ) (e : green ≡ greenCount b) (h : k < green) (is-p : p ≡ place theQueue b) (is-j : j ≡ greenSlot b k) where
     abbrev s : ℕ
-    s = p + slotSize * k
+    s = p + slotSize * j
+
+    low : j < queueCount b
+    low = omega (arith, is-j, green-low b q k (omega arith))
 
     slot-short : numberAt 1 b (s + actionPayloadAt) ≤ mostPayload
     unfolding slotPlace
     slot-short =
-        let here : p + slotSize * k + actionPayloadAt ≡ place theQueue b + slotSize * k + actionPayloadAt = omega arith in
-        omega (arith, q .payloads k (omega (arith, q .counts .green)), ap (numberAt 1 b) here)
+        let here : p + slotSize * j + actionPayloadAt ≡ place theQueue b + slotSize * j + actionPayloadAt = omega arith in
+        omega (arith, q .payloads j low, ap (numberAt 1 b) here)
 
     pub slot-inside : s + actionHeadSize + numberAt 1 b (s + actionPayloadAt) ≤ length b
-    slot-inside = omega (arith, slot-short, q .counts .queueEnd, q .counts .queue, q .counts .green)
+    slot-inside = omega (arith, slot-short, low, q .counts .queueEnd, q .counts .queue)
 
     next-is : drop k (greensIn b) ≡ actionAt b s ∷ drop (suc k) (greensIn b)
     unfolding slotPlace
-    next-is = greensIn-next b q k (omega arith) ∙ ap (λ (n : ℕ). actionAt b (n + slotSize * k) ∷ drop (suc k) (greensIn b)) (sym is-p)
+    next-is = greensIn-next b q k (omega arith) ∙ (λ i. actionAt b (sym is-p i + slotSize * sym is-j i) ∷ drop (suc k) (greensIn b))
 
     payload-bytes : Bytes b → Bytes (actionAt b s .payload)
     unfolding actionAt payloadAt

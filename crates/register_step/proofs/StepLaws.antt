@@ -15,7 +15,7 @@ use Rattle.engine.proofs.InPlace.{holds-header}
 use Rattle.engine.proofs.Refusals.{zero-whole, zero-ready}
 use Rattle.queue.specs.Queue.{QueueIn}
 use Rattle.queue.proofs.ReadLaws.{holds-queue}
-use Rattle.queries.proofs.EntriesCode.{greensIn-count}
+use Rattle.queue.proofs.GreenHistory.{greensIn-count}
 use Rattle.burst.proofs.KeptLaws.{step-kept, refused-left}
 use Rattle.pegs.specs.Outcome.{registerNumber}
 use Rattle.step.specs.declared.Answer.{Answer}

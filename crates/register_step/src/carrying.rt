@@ -10,6 +10,7 @@ ghost use Rattle.pegs.specs.Outcome.{registerNumber};
 ghost use Rattle.register_step.specs.Carrying.{AppliedOne, CarryReady, carryOn, carriedBy};
 use engine::places::THE_QUEUE;
 use engine::places::place_of;
+use queue::history::green_slot;
 use record::ActionHead;
 use record::State;
 use record::bytes::num8;
@@ -47,7 +48,7 @@ pub fn carry(state: &[u8], register: &mut [u8], from: u32) -> Carried
     let mut k = from;
     let mut refused: u32 = 0;
     while k < green {
-        let slot = queue + State::SLOT * k as usize;
+        let slot = queue + State::SLOT * green_slot(state, k);
         refused += apply_slot(state, slot, register);
         k += 1;
     }

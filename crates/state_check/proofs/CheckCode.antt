@@ -13,7 +13,7 @@ use Rattle.base.proofs.TestLaws.{and-holds, and-yes, le-holds}
 use Rattle.base.proofs.Branches.{told-lt}
 use Rattle.base.specs.Bytes.{Bytes}
 use Rattle.base.specs.Sets.{inside}
-use Rattle.format.specs.Range.{contextOk, lengthOk}
+use Rattle.format.specs.Range.{contextOk}
 use Rattle.record.specs.Context.{contextOf, ContextIn}
 use Rattle.record.specs.declared.Context.{Context}
 use Rattle.record.specs.declared.State.{State}
@@ -23,7 +23,7 @@ use Rattle.engine.specs.Layout.{theStates, offset, stateLength}
 use Rattle.exchange.specs.declared.slots.Slots.{Slots}
 use Rattle.exchange.specs.Slots.{slotsOf, slotAt, statesOf}
 use Rattle.exchange.proofs.Collected.{present-states}
-use Rattle.state_check.specs.Numbers.{roomOk, countsOk, numbersOk, CountsIn}
+use Rattle.state_check.specs.Numbers.{queueCountOk, yellowCountOk, roomOk, countsOk, numbersOk, CountsIn}
 use Rattle.state_check.specs.Collected.{plannedIn}
 use Rattle.state_check.specs.Checks.{placeOf, exchangeOk, Buffer}
 
@@ -46,7 +46,7 @@ pub buffer-made : (c : Context) (b : List ℕ) (t : Bool) → Bytes b → stateL
 buffer-made c b t k l e f = record { context = context-made c t e f; bytes = k; long = l }
 
 pub counts-made : (c : Context) (h : State) (t : Bool) → t ≡ numbersOk (contextOf c) h → not t ≡ false → CountsIn (c .servers) (c .quota) h
-unfolding numbersOk countsOk roomOk lengthOk contextOf
+unfolding numbersOk countsOk roomOk queueCountOk yellowCountOk contextOf
 counts-made c h t e f =
     let a = and-holds _ _ (sym e ∙ not-false t f) in
     let counts = and-holds _ _ (and-holds _ _ (and-holds _ _ (a .1) .1) .0) in

@@ -10,13 +10,13 @@ use Rattle.base.specs.Lists.{sum}
 use Rattle.base.specs.Sets.{inside}
 use Rattle.format.specs.Limits.{layoutNumber}
 use Rattle.format.specs.Types.{Context}
-use Rattle.format.specs.Range.{contextOk, lengthOk, cutsOk, indexOk, setOk, statusOk, primaryOk, markOk, idsOk}
+use Rattle.format.specs.Range.{contextOk, cutsOk, indexOk, setOk, statusOk, primaryOk, markOk, idsOk}
 use Rattle.format.specs.Read.{idsAt}
 use Rattle.record.specs.Values.{primaryOf, markOf, idsBy}
 use Rattle.record.specs.declared.State.{State}
 use Rattle.engine.specs.Layout.{slotSize, theCuts, theNoted, theStates, theYellow, theOwn, theQueue}
 use Rattle.state_check.specs.Slots.{queueSlotsFit, queueFits, ownFits, notedFit}
-use Rattle.state_check.specs.Numbers.{regularOk, transitionalOk, membershipOk, roomOk, quotaOk, countsOk, votesOk, numbersOk}
+use Rattle.state_check.specs.Numbers.{queueCountOk, yellowCountOk, regularOk, transitionalOk, membershipOk, roomOk, quotaOk, countsOk, votesOk, numbersOk}
 use Rattle.state_check.specs.Collected.{collectedOk}
 use Rattle.state_check.specs.Checks.{placeOf, ownCut, queueCuts, ownNext, cutsFit, firstListsOk, lastListsOk, listsOk, modeOk, checksOf}
 
@@ -51,7 +51,7 @@ pub record Checked (c : Context) (h : State) (b : List ℕ) : Type 0 where
   pub mode : modeOk c h b ≡ true
 
 pub checked : (c : Context) (h : State) (b : List ℕ) → checksOf c h b ≡ true → Checked c h b
-unfolding checksOf numbersOk membershipOk countsOk roomOk quotaOk votesOk listsOk firstListsOk lastListsOk cutsFit queueCuts ownNext queueFits lengthOk
+unfolding checksOf numbersOk membershipOk countsOk roomOk quotaOk votesOk listsOk firstListsOk lastListsOk cutsFit queueCuts ownNext queueFits queueCountOk yellowCountOk
 checked c h b t =
     let a₁ = and-holds _ _ t in
     let a₂ = and-holds _ _ (a₁ .1) in
@@ -112,7 +112,7 @@ checked c h b t =
     }
 
 pub check : (c : Context) (h : State) (b : List ℕ) → Checked c h b → checksOf c h b ≡ true
-unfolding checksOf numbersOk membershipOk countsOk roomOk quotaOk votesOk listsOk firstListsOk lastListsOk cutsFit queueCuts ownNext queueFits lengthOk
+unfolding checksOf numbersOk membershipOk countsOk roomOk quotaOk votesOk listsOk firstListsOk lastListsOk cutsFit queueCuts ownNext queueFits queueCountOk yellowCountOk
 check c h b k =
     let membership = both-yes _ _ (k .regular) (both-yes _ _ (k .transitional) (both-yes _ _ (k .senders) (both-yes _ _ (k .members) (both-yes _ _ (k .cpcs) (le-yes _ _ (k .come)))))) in
     let room = both-yes _ _ (le-yes _ _ (k .few-actions)) (both-yes _ _ (le-yes _ _ (k .few-greens)) (both-yes _ _ (le-yes _ _ (k .few-own)) (le-yes _ _ (k .few-ids)))) in

@@ -14,7 +14,6 @@ use Rattle.base.proofs.TestLaws.{and-yes, and-no, eq-yes, eq-no, le-holds}
 use Rattle.base.proofs.Branches.{told-eq, or-yes, or-no}
 use Rattle.base.specs.Bytes.{numberAt, partAt}
 use Rattle.base.specs.Sets.{inSet}
-use Rattle.format.specs.Range.{lengthOk}
 use Rattle.format.specs.Read.{read}
 use Rattle.record.specs.Context.{contextOf, ContextIn}
 use Rattle.record.specs.Events.{stateFrom, recordOf}
@@ -28,6 +27,7 @@ use Rattle.record.specs.declared.events.Event.the-variants.{Action, Retransmiss
 use Rattle.record.specs.declared.reader.Reading.{Reading}
 use Rattle.record.specs.declared.reader.Reading.the-variants.{Good, Refused}
 use Rattle.engine.specs.Layout.{stateSize}
+use Rattle.state_check.specs.Numbers.{yellowCountOk}
 use Rattle.state_check.specs.Collected.{isState, saysState, idsInSlot, slotRecord, holdsState, collectedOk, StatesInside}
 use Rattle.format.specs.Places.{idSize, stateHeadSize, stateCountAt}
 
@@ -92,20 +92,20 @@ module _ (c : Context) (b : List ℕ) (at : ℕ) where
   unfolding stateSize
   count-inside h = omega arith
 
-  few : (x : ℕ) (t : Bool) → t ≡ lengthOk (contextOf c) x → not t ≡ false → x ≤ c .servers * c .quota
-  unfolding contextOf lengthOk
+  few : (x : ℕ) (t : Bool) → t ≡ yellowCountOk (contextOf c) x → not t ≡ false → x ≤ c .servers * c .quota
+  unfolding contextOf yellowCountOk
   few x t e h = le-holds x (c .servers * c .quota) (sym e ∙ not-false t h)
 
-  pub record-inside : (x : ℕ) (t : Bool) → at + stateSize (c .servers) (c .quota) ≤ length b → t ≡ lengthOk (contextOf c) x → not t ≡ false
+  pub record-inside : (x : ℕ) (t : Bool) → at + stateSize (c .servers) (c .quota) ≤ length b → t ≡ yellowCountOk (contextOf c) x → not t ≡ false
       → at + (stateHeadSize + 2 * c .servers + idSize * x) ≤ length b
   unfolding stateSize
   record-inside x t h e l = omega (arith, few x t e l)
 
-  pub slot-denied : (k i x : ℕ) (t : Bool) → x ≡ numberAt 2 b (at + (stateCountAt + 2 * c .servers)) → t ≡ lengthOk (contextOf c) x → not t ≡ true → false ≡ holdsState (contextOf c) k i b at
+  pub slot-denied : (k i x : ℕ) (t : Bool) → x ≡ numberAt 2 b (at + (stateCountAt + 2 * c .servers)) → t ≡ yellowCountOk (contextOf c) x → not t ≡ true → false ≡ holdsState (contextOf c) k i b at
   unfolding holdsState idsInSlot contextOf
-  slot-denied k i x t e f h = and-no (lengthOk (contextOf c) (numberAt 2 b (at + (stateCountAt + 2 * c .servers)))) _ (ap (lengthOk (contextOf c)) (sym e) ∙ sym f ∙ not-true t h)
+  slot-denied k i x t e f h = and-no (yellowCountOk (contextOf c) (numberAt 2 b (at + (stateCountAt + 2 * c .servers)))) _ (ap (yellowCountOk (contextOf c)) (sym e) ∙ sym f ∙ not-true t h)
 
-  pub slot-answered : (k i x : ℕ) (t u : Bool) (r : Reading) → x ≡ numberAt 2 b (at + (stateCountAt + 2 * c .servers)) → t ≡ lengthOk (contextOf c) x → not t ≡ false
+  pub slot-answered : (k i x : ℕ) (t u : Bool) (r : Reading) → x ≡ numberAt 2 b (at + (stateCountAt + 2 * c .servers)) → t ≡ yellowCountOk (contextOf c) x → not t ≡ false
       → meaning r (take (at + (stateHeadSize + 2 * c .servers + idSize * x) - at) (drop at b)) ≡ read (contextOf c) (take (at + (stateHeadSize + 2 * c .servers + idSize * x) - at) (drop at b))
       → ((e : List ℕ) → u ≡ saysState k i (meaning r e)) → u ≡ holdsState (contextOf c) k i b at
   unfolding holdsState idsInSlot slotRecord partAt contextOf
@@ -114,7 +114,7 @@ module _ (c : Context) (b : List ℕ) (at : ℕ) where
       let long : at + m - at ≡ m = omega arith in
       let part : take (at + m - at) (drop at b) ≡ take (stateHeadSize + 2 * c .servers + idSize * numberAt 2 b (at + (stateCountAt + 2 * c .servers))) (drop at b) =
       ap (λ (j : ℕ). take j (drop at b)) long ∙ ap (λ (j : ℕ). take (stateHeadSize + 2 * c .servers + idSize * j) (drop at b)) e in
-      and-yes u (lengthOk (contextOf c) (numberAt 2 b (at + (stateCountAt + 2 * c .servers)))) _ (ap (lengthOk (contextOf c)) (sym e) ∙ sym f ∙ not-false t h)
+      and-yes u (yellowCountOk (contextOf c) (numberAt 2 b (at + (stateCountAt + 2 * c .servers)))) _ (ap (yellowCountOk (contextOf c)) (sym e) ∙ sym f ∙ not-false t h)
       (s (take (at + m - at) (drop at b)) ∙ ap (saysState k i) (g ∙ ap (read (contextOf c)) part))
 
 -- ---- by the senders

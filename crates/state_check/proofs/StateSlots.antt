@@ -11,7 +11,7 @@ use Rattle.base.specs.Bytes.{Bytes, bytesOf, numberAt, partAt}
 use Rattle.base.proofs.BytesLaws.{part-length, bytes-part, numbers-length, number-drop}
 use Rattle.base.proofs.Occurs.{Occurs, occurs-at, occurs-drop, joined-parts}
 use Rattle.format.specs.Types.{State, Record, action, retransmission, state, cpc, regular, transitional, request, recovery, Context, Reading, says, refused, kindNumber, kindOf}
-use Rattle.format.specs.Range.{lengthOk, contextOk, stateOk, fieldsOk, recordOk}
+use Rattle.format.specs.Range.{contextOk, stateOk, fieldsOk, recordOk}
 use Rattle.format.specs.Read.{stateAt, yellowAt, read}
 use Rattle.format.specs.Write.{write, framed, bodyOf, stateBytes, lengthOf}
 use Rattle.format.proofs.Ranges.{ContextRange, state-range}
@@ -22,6 +22,7 @@ use Rattle.format.proofs.Writing.{ids-number}
 use Rattle.format.proofs.Reading.{read-in-range}
 use Rattle.format.proofs.RoundTrip.{read-written, written-read}
 use Rattle.engine.specs.Layout.{stateSize}
+use Rattle.state_check.specs.Numbers.{yellowCountOk}
 use Rattle.state_check.specs.Collected.{isState, saysState, idsInSlot, slotRecord, holdsState}
 use Rattle.format.specs.Places.{stateHeadSize, stateCountAt, stateYellowAt, idSize, stateCutsAt}
 
@@ -68,7 +69,7 @@ module _ (c : Context) (s : ContextRange c) (ok : contextOk c ≡ true) (b : Lis
 
   pub slot-in : Bytes b → (k i : ℕ) → at + stateSize (c .servers) (c .quota) ≤ length b → holdsState c k i b at ≡ true
       → Slot c k i b at (stateAt (c .servers) (drop at b))
-  unfolding holdsState lengthOk slotRecord recordOk fieldsOk stateSize
+  unfolding holdsState yellowCountOk slotRecord recordOk fieldsOk stateSize
   slot-in y k i h t =
       let n : ℕ = c .servers in
       let u = and-holds _ _ t in
@@ -112,7 +113,7 @@ module _ (c : Context) (s : ContextRange c) (ok : contextOk c ≡ true) (b : Lis
   slot-short f = omega (arith, record-length, state-ids-few f)
 
   pub slot-out : (k i : ℕ) → Slot c k i b at (stateAt (c .servers) (drop at b)) → holdsState c k i b at ≡ true
-  unfolding holdsState lengthOk slotRecord recordOk fieldsOk saysState isState
+  unfolding holdsState yellowCountOk slotRecord recordOk fieldsOk saysState isState
   slot-out k i d =
       let n : ℕ = c .servers in
       let x : State = stateAt n (drop at b) in

@@ -10,7 +10,6 @@ use Rattle.base.specs.Bytes.{Bytes, numberAt, partAt}
 use Rattle.base.specs.Sets.{inSet}
 use Rattle.format.specs.Types.{Context, Reading, says, refused}
 use Rattle.format.specs.Types.{Record, action, retransmission, state, cpc, regular, transitional, request, recovery}
-use Rattle.format.specs.Range.{lengthOk}
 use Rattle.format.specs.Read.{read}
 use Rattle.record.specs.Context.{ContextIn}
 use Rattle.record.specs.declared.Context.{Context as CodeContext}
@@ -18,6 +17,7 @@ use Rattle.replication.specs.Machine.Plan.{planned}
 use Rattle.engine.specs.Layout.{stateSize}
 use Rattle.engine.specs.Decode.{statesAt}
 use Rattle.format.specs.Places.{idSize, stateHeadSize, stateCountAt}
+use Rattle.state_check.specs.Numbers.{yellowCountOk}
 
 -- ---- a slot
 
@@ -47,7 +47,7 @@ slotRecord n b at = partAt (stateHeadSize + 2 * n + idSize * idsInSlot n b at) b
 -- The slot at `at` holds the record of a State of this sender in this configuration.
 unfoldable pub holdsState : Context → (sender configuration : ℕ) → List ℕ → ℕ → Bool
 holdsState c k i b at =
-    lengthOk c (idsInSlot (c .servers) b at) and saysState k i (read c (slotRecord (c .servers) b at))
+    yellowCountOk c (idsInSlot (c .servers) b at) and saysState k i (read c (slotRecord (c .servers) b at))
 
 -- m slots from `at` on, of the senders from the number k on; `here` is the set of those whose State is in.
 unfoldable pub collectedOk : Context → (here configuration m k : ℕ) → List ℕ → ℕ → Bool

@@ -6,7 +6,7 @@ use Rattle.base.specs.Tests.{_and_, _≤?_, _=?_, pick}
 use Rattle.base.specs.Sets.{inside}
 use Rattle.format.specs.Limits.{layoutNumber}
 use Rattle.format.specs.Types.{Context}
-use Rattle.format.specs.Range.{lengthOk, indexOk, setOk, statusOk, primaryOk, markOk, ownSetOk, insideLast}
+use Rattle.format.specs.Range.{indexOk, setOk, statusOk, primaryOk, markOk, ownSetOk, insideLast}
 use Rattle.record.specs.declared.State.{State}
 use Rattle.record.specs.Values.{primaryOf, markOf}
 
@@ -32,9 +32,17 @@ membershipOk c h =
     and setOk c (h .cpcs)
     and h .come ≤? 2 * (c .servers * c .quota)
 
+-- How many actions the queue may have: 0 to n × q.
+unfoldable pub queueCountOk : Context → ℕ → Bool
+queueCountOk c k = k ≤? c .servers * c .quota
+
+-- How many ids a yellow list may have: 0 to n × q.
+unfoldable pub yellowCountOk : Context → ℕ → Bool
+yellowCountOk c k = k ≤? c .servers * c .quota
+
 -- Every list has room, and the green actions are among those of the queue.
 unfoldable pub roomOk : Context → (actions greens own ids : ℕ) → Bool
-roomOk c actions greens own ids = lengthOk c actions and greens ≤? actions and own ≤? c .quota and lengthOk c ids
+roomOk c actions greens own ids = queueCountOk c actions and greens ≤? actions and own ≤? c .quota and yellowCountOk c ids
 
 -- At most q actions are numbered, and none is sent that is not numbered.
 unfoldable pub quotaOk : Context → (numbered sent : ℕ) → Bool

@@ -11,13 +11,13 @@ ghost use Rattle.record.specs.Context.{contextOf, ContextIn};
 ghost use Rattle.record.specs.Events.{recordOf};
 ghost use Rattle.record.specs.Reading.{meaning};
 ghost use Rattle.state_check.specs.Collected.{isState, saysState, holdsState, collectedOk, StatesInside};
+use crate::numbers::yellow_count_ok;
 use engine::places::state_size;
 use record::Context;
 use record::State;
 use record::StateHead;
 use record::bytes::num16;
 use record::events::Event;
-use record::range::length_ok;
 use record::reader::Reading;
 use record::reader::read;
 use record::sets::has;
@@ -72,7 +72,7 @@ fn holds_state(c: Context, sender: u8, configuration: u32, b: &[u8], at: usize) 
 {
     let n = c.servers as usize;
     let count = num16(b, at + (StateHead::COUNT + 2 * n));
-    if !length_ok(c, count as u32) {
+    if !yellow_count_ok(c, count as u32) {
         return false;
     }
     let end = at + (StateHead::SIZE + 2 * n + State::ID * count as usize);

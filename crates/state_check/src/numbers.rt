@@ -3,12 +3,11 @@ ghost use mathlib.Core.Path.{_≡_};
 ghost use Prim.Native.Nat.{_*_};
 ghost use Rattle.base.specs.Tests.{_≤?_};
 ghost use Rattle.record.specs.Context.{contextOf, ContextIn};
-ghost use Rattle.state_check.specs.Numbers.{regularOk, transitionalOk, membershipOk, roomOk, quotaOk, countsOk, votesOk, numbersOk};
+ghost use Rattle.state_check.specs.Numbers.{regularOk, transitionalOk, membershipOk, queueCountOk, yellowCountOk, roomOk, quotaOk, countsOk, votesOk, numbersOk};
 use record::Context;
 use record::State;
 use record::range::index_ok;
 use record::range::inside_last;
-use record::range::length_ok;
 use record::range::mark_ok;
 use record::range::own_set_ok;
 use record::range::primary_ok;
@@ -84,12 +83,28 @@ fn membership_ok(c: Context, h: State) -> bool
     come_ok(c, h.come)
 }
 
+// How many actions the queue may have.
+fn queue_count_ok(c: Context, count: u32) -> bool
+    requires { ⌜ ContextIn c ⌝ }
+    ensures { λ r. ⌜ r ≡ queueCountOk (contextOf c) count ⌝ }
+{
+    count <= product(c.servers as u32, c.quota as u32)
+}
+
+// How many ids a yellow list may have.
+pub fn yellow_count_ok(c: Context, count: u32) -> bool
+    requires { ⌜ ContextIn c ⌝ }
+    ensures { λ r. ⌜ r ≡ yellowCountOk (contextOf c) count ⌝ }
+{
+    count <= product(c.servers as u32, c.quota as u32)
+}
+
 // Every list has room, and the green actions are among those of the queue.
 fn room_ok(c: Context, actions: u32, greens: u32, own: u16, ids: u16) -> bool
     requires { ⌜ ContextIn c ⌝ }
     ensures { λ r. ⌜ r ≡ roomOk (contextOf c) actions greens own ids ⌝ }
 {
-    if !length_ok(c, actions) {
+    if !queue_count_ok(c, actions) {
         return false;
     }
     if actions < greens {
@@ -98,7 +113,7 @@ fn room_ok(c: Context, actions: u32, greens: u32, own: u16, ids: u16) -> bool
     if c.quota < own {
         return false;
     }
-    length_ok(c, ids as u32)
+    yellow_count_ok(c, ids as u32)
 }
 
 // Numbered actions keep the quota, and those sent are numbered.

@@ -9,8 +9,11 @@ num32-requires c κs = search needs
 returns : tie.Need-returns
 returns c = search (needs, position-past)
 
-sub-send-slot : tie.Need-sub-send-slot
-sub-send-slot c = search needs
+sub-green-slot : tie.Need-sub-green-slot
+sub-green-slot c = search needs
+
+green-slot-requires : tie.Need-green-slot-requires
+green-slot-requires c κs = search needs
 
 send-slot-requires : tie.Need-send-slot-requires
 send-slot-requires c κs = search needs
@@ -24,4 +27,11 @@ returns-2 c = search (needs, position-sent)
 pub send-position-spec : {M : Type 1} → statement M
 send-position-spec =
     tie.close
-    (tie.spec num32-requires returns sub-send-slot send-slot-requires same-length returns-2)
+    (tie.spec
+    num32-requires
+    returns
+    sub-green-slot
+    green-slot-requires
+    send-slot-requires
+    same-length
+    returns-2)

@@ -16,8 +16,8 @@ place-of-requires c κs = search needs
 loop-holds : tie.Need-loop-holds Inv-loop μ-loop
 loop-holds c = search (needs, along-starts)
 
-cast-slot : tie.Need-cast-slot Inv-loop μ-loop
-cast-slot c = search needs
+green-slot-requires : tie.Need-green-slot-requires Inv-loop μ-loop
+green-slot-requires c κs = search needs
 
 mul-slot : tie.Need-mul-slot Inv-loop μ-loop
 mul-slot c = search needs
@@ -90,7 +90,7 @@ put-entries-spec =
     μ-loop
     place-of-requires
     loop-holds
-    cast-slot
+    green-slot-requires
     mul-slot
     add-slot
     add-num8

@@ -8,6 +8,7 @@ use Rattle.register_step.proofs.carrying.carry.Tie as tie
 use Rattle.register_step.proofs.carrying.carry.Reads as reads
 use Rattle.register_step.proofs.carrying.carry.Lts as lts
 use Rattle.engine.proofs.places.place_of.Reads as place-of-reads
+use Rattle.queue.proofs.history.green_slot.Reads as green-slot-reads
 use Rattle.record.proofs.bytes.num32.Reads as num32-reads
 use Rattle.register_step.proofs.carrying.apply_slot.Reads as apply-slot-reads
 
@@ -26,8 +27,8 @@ place-of-requires c κs = search needs
 loop-holds : tie.Need-loop-holds Inv-loop μ-loop
 loop-holds c = search (needs, along-starts)
 
-cast-slot : tie.Need-cast-slot Inv-loop μ-loop
-cast-slot c = search needs
+green-slot-requires : tie.Need-green-slot-requires Inv-loop μ-loop
+green-slot-requires c κs = search needs
 
 mul-slot : tie.Need-mul-slot Inv-loop μ-loop
 mul-slot c = search needs
@@ -68,7 +69,7 @@ carry-spec =
     num32-requires
     place-of-requires
     loop-holds
-    cast-slot
+    green-slot-requires
     mul-slot
     add-slot
     apply-slot-requires

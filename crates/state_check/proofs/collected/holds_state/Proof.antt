@@ -18,11 +18,11 @@ add-num16-2 c = search needs
 num16-requires : tie.Need-num16-requires
 num16-requires c κs = search (needs, count-inside)
 
-cast-length-ok : tie.Need-cast-length-ok
-cast-length-ok c = search needs
+cast-yellow-count-ok : tie.Need-cast-yellow-count-ok
+cast-yellow-count-ok c = search needs
 
-length-ok-requires : tie.Need-length-ok-requires
-length-ok-requires c κs = search needs
+yellow-count-ok-requires : tie.Need-yellow-count-ok-requires
+yellow-count-ok-requires c κs = search needs
 
 returns : tie.Need-returns
 returns c = search (needs, slot-denied)
@@ -72,8 +72,8 @@ holds-state-spec =
     add-num16
     add-num16-2
     num16-requires
-    cast-length-ok
-    length-ok-requires
+    cast-yellow-count-ok
+    yellow-count-ok-requires
     returns
     mul-end
     add-end

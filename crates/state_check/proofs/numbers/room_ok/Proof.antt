@@ -6,8 +6,8 @@ use borrow.Author.Needs.{needs}
 use Rattle.state_check.proofs.numbers.room_ok.Statement.{statement}
 use Rattle.state_check.proofs.numbers.room_ok.Tie as tie
 
-length-ok-requires : tie.Need-length-ok-requires
-length-ok-requires c κs = search needs
+queue-count-ok-requires : tie.Need-queue-count-ok-requires
+queue-count-ok-requires c κs = search needs
 
 returns : tie.Need-returns
 unfolding roomOk contextOf
@@ -21,8 +21,8 @@ returns-3 : tie.Need-returns-3
 unfolding roomOk contextOf
 returns-3 c = search (needs, tests, answers) depth 8
 
-length-ok-requires-2 : tie.Need-length-ok-requires-2
-length-ok-requires-2 c κs = search needs
+yellow-count-ok-requires : tie.Need-yellow-count-ok-requires
+yellow-count-ok-requires c κs = search needs
 
 returns-4 : tie.Need-returns-4
 unfolding roomOk contextOf
@@ -31,4 +31,4 @@ returns-4 c = search (needs, tests, answers) depth 8
 pub room-ok-spec : {M : Type 1} → statement M
 room-ok-spec =
     tie.close
-    (tie.spec length-ok-requires returns returns-2 returns-3 length-ok-requires-2 returns-4)
+    (tie.spec queue-count-ok-requires returns returns-2 returns-3 yellow-count-ok-requires returns-4)

@@ -1,0 +1,53 @@
+-- The green list of a buffer, by the slots that its actions lie in.
+-- Assumes nothing.
+use Prim.Native.Nat.{ℕ, zero, suc, _<_}
+use mathlib.Core.Path.{_≡_, refl, ap, _∙_}
+use mathlib.Core.List.{List, [], _∷_}
+use mathlib.Core.Option.{some}
+use native.Mathlib.Omega.{arith}
+use lib.ListN.{length, take, drop}
+use lib.Seq.{length-take-le}
+use Rattle.base.specs.Lists.{at}
+use Rattle.base.proofs.AtLaws.{none-some, some-same, at-take}
+use Rattle.format.specs.Types.{Action}
+use Rattle.format.specs.Read.{actionAt}
+use Rattle.engine.specs.Layout.{theQueue}
+use Rattle.engine.specs.Decode.{actionsAt, decodedAs, decoded, greensIn}
+use Rattle.engine.specs.Counts.{queueCount, greenCount, place}
+use Rattle.engine.proofs.Slots.{actions-count}
+use Rattle.queue.specs.Queue.{slotPlace, greenSlot, QueueIn}
+use Rattle.queue.proofs.ReadLaws.{actions-at}
+
+drop-next : {A : Type 0} (l : List A) (p : ℕ) (x : A) → at l p ≡ some x → drop p l ≡ x ∷ drop (suc p) l
+unfolding at
+drop-next [] p x e = none-some e
+drop-next (y ∷ l) zero x e = ap (λ z. z ∷ l) (some-same e)
+drop-next (y ∷ l) (suc p) x e = drop-next l p x e
+
+module _ (b : List ℕ) (q : QueueIn b) where
+  abbrev queued : List Action
+  queued = actionsAt (queueCount b) b (place theQueue b)
+
+  greensIn-read : greensIn b ≡ take (greenCount b) queued
+  unfolding greensIn decoded decodedAs place
+  greensIn-read = refl
+
+  pub greensIn-count : length (greensIn b) ≡ greenCount b
+  greensIn-count =
+      ap length greensIn-read ∙ length-take-le (greenCount b) queued (omega (arith, actions-count (queueCount b) b (place theQueue b), q .counts .green))
+
+  module _ (k : ℕ) (h : k < greenCount b) where
+    pub green-low : greenSlot b k < queueCount b
+    unfolding greenSlot
+    green-low = omega (arith, q .counts .green)
+
+    -- The action at the position k lies in its slot.
+    pub greensIn-at : at (greensIn b) k ≡ some (actionAt b (slotPlace b (greenSlot b k)))
+    unfolding slotPlace greenSlot
+    greensIn-at =
+        ap (λ (l : List Action). at l k) greensIn-read
+        ∙ at-take (greenCount b) queued k h
+        ∙ actions-at (queueCount b) b (place theQueue b) k (omega (arith, q .counts .green))
+
+    pub greensIn-next : drop k (greensIn b) ≡ actionAt b (slotPlace b (greenSlot b k)) ∷ drop (suc k) (greensIn b)
+    greensIn-next = drop-next (greensIn b) k (actionAt b (slotPlace b (greenSlot b k))) greensIn-at
