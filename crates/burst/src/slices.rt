@@ -2,7 +2,7 @@
 ghost use mathlib.Core.Path.{_≡_};
 ghost use Rattle.buffers.specs.Buffers.{isRecovery};
 ghost use Rattle.burst.specs.Burst.{cutShort, nextOf, EndsIn, stopNumber};
-use record::bytes::num16;
+use octets::numbers::num16;
 use record::events::Event;
 use record::events::VERSION;
 

@@ -8,9 +8,9 @@ use super::sizes::HEADER;
 use super::sizes::ID;
 use super::sizes::SLOT;
 use super::sizes::STATE_HEAD;
+use octets::numbers::num8;
+use octets::numbers::num16;
 use record::State;
-use record::bytes::num8;
-use record::bytes::num16;
 use record::range::product;
 
 // The sections that lists lie in, by their numbers.

@@ -5,8 +5,8 @@ ghost use Rattle.replication.specs.Machine.Types.{start};
 ghost use Rattle.engine.specs.Layout.{StartRoom};
 ghost use Rattle.engine.specs.Image.{image};
 use crate::header::save;
+use octets::blocks::clear;
 use record::State;
-use writer::blocks::clear;
 
 // Makes the start: its numbers, and zeros for the cuts and noted lengths.
 pub fn begin(state: &mut [u8], servers: u8, quota: u16, me: u8)

@@ -19,11 +19,11 @@ use crate::table::hints;
 use crate::table::place_among;
 use crate::table::raise_lists;
 use crate::yellow::yellow_voters;
+use octets::numbers::num8;
+use octets::numbers::num16;
 use record::Context;
 use record::State;
 use record::StateHead;
-use record::bytes::num8;
-use record::bytes::num16;
 use writer::parts::put_id;
 
 // Whether the place of the id from `at` on tells `round`.

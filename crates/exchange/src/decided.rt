@@ -27,11 +27,11 @@ use crate::slots::Slots;
 use crate::slots::collected as collected_in;
 use crate::yellow::yellow_status;
 use engine::header::load;
+use octets::numbers::num8;
 use record::AttemptIndex;
 use record::LastPrimary;
 use record::Mark;
 use record::State;
-use record::bytes::num8;
 use record::sets::inside;
 
 // The votes that the States decide, but the yellow ids.

@@ -12,8 +12,8 @@ use crate::slots::Slots;
 use crate::slots::first;
 use crate::slots::head;
 use crate::slots::place;
+use octets::numbers::num16;
 use record::StateHead;
-use record::bytes::num16;
 use record::sets::has;
 
 // A number of a State: green length, attempt, or the cut of one creator.

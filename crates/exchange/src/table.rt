@@ -13,12 +13,12 @@ ghost use Rattle.exchange.specs.Table.{placeIn, soughtIn, Sought, raised
 use crate::slots::Slots;
 use crate::slots::head;
 use crate::slots::place;
+use octets::numbers::num8;
+use octets::numbers::num16;
+use octets::numbers::wider;
 use record::Context;
 use record::State;
 use record::StateHead;
-use record::bytes::num8;
-use record::bytes::num16;
-use record::bytes::wider;
 use record::lists::place_at;
 use record::sets::has;
 use writer::parts::is_id;

@@ -10,6 +10,7 @@ use crate::passes::turn_rest;
 use crate::passes::turn_yellow;
 use crate::table::table;
 use engine::header::load;
+use octets::numbers::num32;
 use record::AttemptIndex;
 use record::LastPrimary;
 use record::PrimaryIndex;

@@ -8,9 +8,9 @@ ghost use Rattle.engine.specs.Decode.{serversIn};
 use crate::table::turn_green;
 use engine::places::THE_YELLOW;
 use engine::places::place_of;
+use octets::numbers::num8;
+use octets::numbers::num16;
 use record::State;
-use record::bytes::num8;
-use record::bytes::num16;
 
 // The action with the id at `at` turns green if it is red.
 fn turn_at(state: &mut [u8], places: &mut [u16; State::MOST_IDS], at: usize)

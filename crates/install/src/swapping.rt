@@ -7,11 +7,11 @@ ghost use Rattle.install.specs.Swaps.{exchanged, greenAt};
 ghost use Rattle.engine.specs.Counts.{queueCount, greenCount, CountsIn};
 use engine::places::THE_QUEUE;
 use engine::places::place_of;
+use octets::blocks::copy;
+use octets::numbers::num32;
+use octets::numbers::put32;
 use queue::slots::slot_at;
 use record::State;
-use record::bytes::num32;
-use writer::blocks::copy;
-use writer::parts::put32;
 
 // The slots from i on and from j on change places.
 fn exchange(state: &mut [u8], i: usize, j: usize)

@@ -12,12 +12,12 @@ ghost use Rattle.engine.specs.Counts.{queueCount, CountsIn};
 use crate::swapping::green_at;
 use engine::places::THE_QUEUE;
 use engine::places::place_of;
+use octets::numbers::num8;
+use octets::numbers::num16;
+use octets::numbers::num32;
+use octets::numbers::wider;
 use queue::finding::find;
 use record::State;
-use record::bytes::num8;
-use record::bytes::num16;
-use record::bytes::num32;
-use record::bytes::wider;
 use writer::parts::is_id;
 
 // The place of an id in the table.

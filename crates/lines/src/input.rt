@@ -2,8 +2,8 @@
 ghost use mathlib.Core.Path.{_≡_};
 ghost use Rattle.format.specs.Types.{refused as refusedWith};
 ghost use Rattle.lines.specs.Input.{setupNumbers, setupOf, cutShort, nextOf};
-use record::bytes::num8;
-use record::bytes::num16;
+use octets::numbers::num8;
+use octets::numbers::num16;
 use record::events::Event;
 use record::events::VERSION;
 use record::range::sizes_ok;

@@ -7,8 +7,8 @@ ghost use Rattle.base.specs.Text.{decimal as decimalOf};
 ghost use Rattle.replication.specs.Replay.{modeName, header, inputLine, setupLine};
 ghost use Rattle.engine.specs.Decode.{modeNamed};
 ghost use Rattle.lines.specs.Lines.{headRoom, Put, lineRoom, spaced, ended, pairText, frontText, stateText, backText, shownLine};
+use octets::blocks::copy;
 use record::State;
-use writer::blocks::copy;
 
 // The most bytes that a line takes.
 pub const LINE_ROOM: usize = 164;

@@ -13,11 +13,11 @@ ghost use Rattle.queries.specs.Queries.{entryBytes, entryHeadSize, listi
 use crate::GreenEntries;
 use engine::places::THE_QUEUE;
 use engine::places::place_of;
+use octets::blocks::copy;
+use octets::numbers::num8;
 use queue::history::green_slot;
 use record::ActionHead;
 use record::State;
-use record::bytes::num8;
-use writer::blocks::copy;
 
 // An entry but its payload: an id, and the payload's length; and with the longest payload.
 const ENTRY_HEAD: usize = State::ID + 1;

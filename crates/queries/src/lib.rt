@@ -20,8 +20,8 @@ use meeting::cpcs_in;
 use meeting::resent_in;
 use meeting::resent_planned;
 use meeting::states_in;
+use octets::numbers::num32;
 use record::State;
-use record::bytes::num32;
 use state_check::image_number;
 
 // What a state says: 0 and its numbers, or what its buffer is refused with and zeros.

@@ -5,8 +5,8 @@ ghost use Rattle.engine.specs.Header.{headerOf};
 ghost use Rattle.engine.specs.Holding.{HoldsSome, Computes};
 ghost use Rattle.queries.specs.Queries.{statesIn, resentIn, resentPlanned, cpcsIn};
 use exchange::decided::planned_now;
+use octets::numbers::num8;
 use record::State;
-use record::bytes::num8;
 
 // "m States": those in, in both exchange states.
 pub fn states_in(h: State) -> u32

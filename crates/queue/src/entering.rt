@@ -9,14 +9,14 @@ use crate::slots::put_slot;
 use engine::places::THE_OWN;
 use engine::places::THE_QUEUE;
 use engine::places::place_of;
+use octets::moves::shift_down;
+use octets::numbers::num8;
+use octets::numbers::num16;
+use octets::numbers::num32;
+use octets::numbers::put16;
+use octets::numbers::put32;
 use record::ActionHead;
 use record::State;
-use record::bytes::num8;
-use record::bytes::num16;
-use record::bytes::num32;
-use writer::moves::shift_down;
-use writer::parts::put16;
-use writer::parts::put32;
 
 // An action behind the last one of the queue.
 fn append(state: &mut [u8], head: ActionHead, payload: &[u8])

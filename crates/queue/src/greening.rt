@@ -14,10 +14,10 @@ use crate::finding::find;
 use crate::slots::last_to_front;
 use engine::places::THE_QUEUE;
 use engine::places::place_of;
+use octets::numbers::num32;
+use octets::numbers::put32;
 use record::ActionHead;
 use record::State;
-use record::bytes::num32;
-use writer::parts::put32;
 
 // The slot k from `at` on goes to the front of those before it.
 fn promote(state: &mut [u8], at: usize, k: usize, green: u32)

@@ -7,11 +7,11 @@ ghost use Rattle.format.specs.Limits.{mostPayload};
 ghost use Rattle.record.specs.Values.{actionOf};
 ghost use Rattle.engine.specs.Layout.{slotSize};
 ghost use Rattle.queue.specs.Queue.{slotPut, lastToFront};
+use octets::blocks::clear;
+use octets::blocks::copy;
+use octets::moves::shift_up;
 use record::ActionHead;
 use record::State;
-use writer::blocks::clear;
-use writer::blocks::copy;
-use writer::moves::shift_up;
 use writer::parts::put_body;
 
 // An action's slot from `at` on: its bytes, filled up with zeros.

@@ -1,5 +1,4 @@
 pub mod Start
-pub mod Numbers
 pub mod Ranges
 pub mod OnePass
 pub mod Turns

@@ -146,9 +146,3 @@ marked-last t x (b ∷ bs) e m = (m .0, marked-last t x bs e (m .1))
 pub marked-set : (t : List ℕ) (p : ℕ) (x : Id) (bs : List Id) → p ≡ slot x → p < length t → Marked t bs → Marked (set t p 1) (bs ++ (x ∷ []))
 marked-set t p x bs e h m =
     marked-last (set t p 1) x bs (ap (λ (i : ℕ). getD (set t p 1) i 0) (sym e) ∙ getD-set-same t p 1 0 h) (marked-on t p bs h m)
-
--- A table of zeros.
-pub getD-zeros : (n i : ℕ) → getD (replicate {A = ℕ} n 0) i 0 ≡ 0
-getD-zeros zero i = refl
-getD-zeros (suc n) zero = refl
-getD-zeros (suc n) (suc i) = getD-zeros n i

@@ -14,13 +14,13 @@ use crate::Mark;
 use crate::PrimaryIndex;
 use crate::State;
 use crate::StateHead;
-use crate::bytes::num8;
-use crate::bytes::num16;
-use crate::bytes::num32;
 use crate::events::ActionAt;
 use crate::events::Event;
 use crate::events::StateAt;
 use crate::events::VERSION;
+use octets::numbers::num8;
+use octets::numbers::num16;
+use octets::numbers::num32;
 
 // The event that the bytes frame, its ranges not looked at; or none.
 pub enum Framed {

@@ -5,7 +5,6 @@ ghost use Rattle.format.specs.Limits.{mostServers};
 ghost use Rattle.record.specs.Context.{readingContext};
 ghost use Rattle.record.specs.Start.{startOf};
 
-pub mod bytes; // bytes.rt: numbers in bytes
 pub mod sets; // sets.rt: sets of servers
 pub mod range; // range.rt: which numbers and sets are in range
 pub mod lists; // lists.rt: lists in bytes

@@ -11,9 +11,9 @@ ghost use Rattle.record.specs.Values.{idOf, placeOf, idsBy, IdsInside, H
 use crate::ActionHead;
 use crate::Context;
 use crate::State;
-use crate::bytes::num8;
-use crate::bytes::num16;
 use crate::range::id_ok;
+use octets::numbers::num8;
+use octets::numbers::num16;
 
 // Whether each of the n cuts from `at` on is at most the quota.
 pub fn cuts_ok(e: &[u8], at: usize, n: usize, quota: u16) -> bool

@@ -13,38 +13,38 @@ use Rattle.base.specs.Patched.{patched}
 use Rattle.base.proofs.PatchedLaws.{patched-length, patched-next, lent-patched}
 use Rattle.base.proofs.Sections.{patched-inside}
 use Rattle.base.proofs.Stores.{two-blocks}
-use Rattle.format.specs.Write.{payloadBytes}
+use Rattle.octets.specs.Counted.{counted}
 use Rattle.pegs.specs.Operations.{mostName}
 use Rattle.pegs.specs.Image.{countSize, atPlace, pegSize}
 use Rattle.register.specs.Changes.{slotAt, RoomFor, SlotsIn, namedBytes, slotBytes, widened, inserted, removed, replaced}
 
 -- ---- a slot
 
-named-filled : (m : List ℕ) → payloadBytes m ++ zeros (mostName - length m) ≡ namedBytes m
-unfolding payloadBytes namedBytes joined slot
+named-filled : (m : List ℕ) → counted m ++ zeros (mostName - length m) ≡ namedBytes m
+unfolding namedBytes joined slot
 named-filled m =
     let z : List ℕ = zeros (mostName - length m) in
     append-assoc (bytesOf 1 (length m)) (m ++ []) z ∙ ap (λ (l : List ℕ). bytesOf 1 (length m) ++ l) (ap (λ (l : List ℕ). l ++ z) (append-nil m) ∙ sym (append-nil (m ++ z)))
 
-payload-size : (m : List ℕ) → length (payloadBytes m) ≡ 1 + length m
-unfolding payloadBytes joined
-payload-size m = length-append (bytesOf 1 (length m)) (m ++ []) ∙ omega (arith, bytes-length 1 (length m), ap length (append-nil m))
+counted-size : (m : List ℕ) → length (counted m) ≡ 1 + length m
+unfolding joined
+counted-size m = length-append (bytesOf 1 (length m)) (m ++ []) ∙ omega (arith, bytes-length 1 (length m), ap length (append-nil m))
 
 pub named-size : (m : List ℕ) → length m ≤ mostName → length (namedBytes m) ≡ atPlace
 unfolding zeros
 named-size m h =
     ap length (sym (named-filled m))
-    ∙ length-append (payloadBytes m) (zeros (mostName - length m))
-    ∙ omega (arith, payload-size m, length-replicate {A = ℕ} (mostName - length m) 0)
+    ∙ length-append (counted m) (zeros (mostName - length m))
+    ∙ omega (arith, counted-size m, length-replicate {A = ℕ} (mostName - length m) 0)
 
-pub name-put : (m s s₁ s₂ : List ℕ) (at : ℕ) → length m ≤ mostName → at + atPlace ≤ length s → s₁ ≡ patched at (payloadBytes m) s
+pub name-put : (m s s₁ s₂ : List ℕ) (at : ℕ) → length m ≤ mostName → at + atPlace ≤ length s → s₁ ≡ patched at (counted m) s
     → s₂ ≡ patched (at + (1 + length m)) (replicate {A = ℕ} (mostName - length m) 0) s₁ → s₂ ≡ patched at (namedBytes m) s
 unfolding zeros
 name-put m s s₁ s₂ at l h e f =
     let z : List ℕ = zeros (mostName - length m) in
-    f ∙ ap (λ (k : ℕ). patched (at + k) z s₁) (sym (payload-size m))
-    ∙ ap (patched (at + length (payloadBytes m)) z) e
-    ∙ patched-next at (payloadBytes m) z s (omega arith)
+    f ∙ ap (λ (k : ℕ). patched (at + k) z s₁) (sym (counted-size m))
+    ∙ ap (patched (at + length (counted m)) z) e
+    ∙ patched-next at (counted m) z s (omega arith)
     ∙ ap (λ (y : List ℕ). patched at y s) (named-filled m)
 
 pub slot-put : (m p s s₁ s₂ : List ℕ) (at : ℕ) → length m ≤ mostName → at + pegSize ≤ length s → s₁ ≡ patched at (namedBytes m) s

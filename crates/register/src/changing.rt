@@ -6,24 +6,24 @@ ghost use Rattle.base.specs.Patched.{patched};
 ghost use Rattle.pegs.specs.Operations.{mostName, placeSize};
 ghost use Rattle.pegs.specs.Image.{pegSize, atPlace};
 ghost use Rattle.register.specs.Changes.{namedBytes, slotBytes, RoomFor, SlotsIn, widened, inserted, removed, replaced};
+use octets::blocks::clear;
+use octets::blocks::copy;
+use octets::blocks::put_counted;
+use octets::moves::shift_down;
+use octets::moves::shift_up;
+use octets::numbers::put16;
 use register_check::layout::AT_PLACE;
 use register_check::layout::AT_SLOT_NAME;
 use register_check::layout::COUNT_SIZE;
 use register_check::layout::MOST_NAME;
 use register_check::layout::PEG_SIZE;
-use writer::blocks::clear;
-use writer::blocks::copy;
-use writer::moves::shift_down;
-use writer::moves::shift_up;
-use writer::parts::put_payload;
-use writer::parts::put16;
 
 // A name's length, and the name filled up with zeros, from `at` on.
 fn put_name(register: &mut [u8], at: usize, name: &[u8])
     requires { ⌜ (length (now name) ≤ mostName) × (at + atPlace ≤ length (now register)) ⌝ }
     ensures { λ _. ⌜ now (register .exit) ≡ patched at (namedBytes (now (name .entry))) (now (register .entry)) ⌝ }
 {
-    put_payload(register, at, name);
+    put_counted(register, at, name);
     clear(
         register,
         at + (AT_SLOT_NAME + name.len()),

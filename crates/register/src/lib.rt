@@ -10,18 +10,18 @@ pub mod changing; // changing.rt: a peg more, less, or elsewhere
 use changing::insert;
 use changing::remove;
 use changing::replace;
+use octets::numbers::num16;
+use octets::numbers::put16;
 use payload::AT_NAME;
 use payload::RETIRE;
 use payload::SET;
 use payload::Shape;
 use payload::shape_of;
-use record::bytes::num16;
 use register_check::checking::register_number;
 use register_check::layout::MOST_PEGS;
 use register_check::layout::REGISTER_LENGTH;
 use register_check::searching::Search;
 use register_check::searching::seek;
-use writer::parts::put16;
 
 // A move or a retire: "10 move or retire and the name is not there".
 fn change(register: &mut [u8], payload: &[u8], it: Shape, found: Search) -> u32

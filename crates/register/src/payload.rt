@@ -3,7 +3,7 @@ ghost use mathlib.Core.Path.{_≡_};
 ghost use Prim.Native.Nat.{_≤_};
 ghost use Rattle.pegs.specs.Operations.{mostName, nameFits, operationOf};
 ghost use Rattle.register.specs.Shapes.{shapeOf, sizeOf};
-use record::bytes::num8;
+use octets::numbers::num8;
 use register_check::layout::MOST_NAME;
 use register_check::layout::PLACE_SIZE;
 

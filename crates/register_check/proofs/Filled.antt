@@ -12,7 +12,7 @@ use Rattle.base.specs.Bytes.{numberAt, partAt, zeros, zeroAt}
 use Rattle.base.specs.Lists.{everyAt}
 use Rattle.base.proofs.TestLaws.{Known, known, holds, fails, lt-holds, lt-fails, eq-yes, eq-holds}
 use Rattle.base.proofs.Entries.{every-each, each-every}
-use Rattle.record.proofs.OnePass.{getD-zeros}
+use Rattle.base.proofs.ListLaws.{replicate-at}
 
 -- The m bytes from p on are zero.
 abbrev pub Zeros : List ℕ → (m p : ℕ) → Type 0
@@ -41,7 +41,7 @@ zeros-part (suc m) b p h z =
 
 pub part-zeros : (m : ℕ) (b : List ℕ) (p : ℕ) → partAt m b p ≡ zeros m → Zeros b m p
 unfolding partAt zeros
-part-zeros m b p e k l = sym (getD-drop p b k 0) ∙ sym (getD-take m (drop p b) k 0 l) ∙ ap (λ (x : List ℕ). getD x k 0) e ∙ getD-zeros m k
+part-zeros m b p e k l = sym (getD-drop p b k 0) ∙ sym (getD-take m (drop p b) k 0 l) ∙ ap (λ (x : List ℕ). getD x k 0) e ∙ replicate-at 0 m k
 
 -- ---- as a number
 

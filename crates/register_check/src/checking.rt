@@ -15,9 +15,9 @@ use super::layout::MOST_NAME;
 use super::layout::MOST_PEGS;
 use super::layout::PEG_SIZE;
 use super::layout::REGISTER_LENGTH;
-use record::bytes::num8;
-use record::bytes::num16;
-use record::bytes::num32;
+use octets::numbers::num8;
+use octets::numbers::num16;
+use octets::numbers::num32;
 
 // Names are compared by words of four bytes; so many are a name with its filling.
 pub const WORD: usize = 4;

@@ -7,8 +7,8 @@ ghost use Rattle.pegs.specs.Image.{pegSize, pegAt};
 ghost use Rattle.pegs.specs.Regions.{pointOf};
 use super::layout::AT_PLACE;
 use super::layout::COORDINATE_SIZE;
+use octets::numbers::num32;
 use plane::Point;
-use record::bytes::num32;
 
 // The millimetres that 32 bits are. The half of them with the highest bit set is below zero.
 pub fn millimetres(bits: u32) -> i32

@@ -14,8 +14,8 @@ use super::layout::COUNT_SIZE;
 use super::layout::PEG_SIZE;
 use super::names::is_same;
 use super::names::stands_before;
-use record::bytes::num8;
-use record::bytes::num16;
+use octets::numbers::num8;
+use octets::numbers::num16;
 
 // The name in the slot at `at` stands before this one.
 fn slot_before(register: &[u8], at: usize, name: &[u8]) -> bool

@@ -7,18 +7,18 @@ ghost use Rattle.base.specs.Patched.{patched};
 ghost use Rattle.pegs.specs.Image.{pegSize, registerLength, registerImage, pegsIn};
 ghost use Rattle.pegs.specs.Outcome.{registerNumber};
 ghost use Rattle.pegs.specs.Regions.{pegsInside};
+use octets::numbers::num8;
+use octets::numbers::num16;
+use octets::numbers::num32;
+use octets::numbers::put8;
+use octets::numbers::put16;
+use octets::numbers::put32;
 use plane::Region;
 use plane::in_region;
-use record::bytes::num8;
-use record::bytes::num16;
-use record::bytes::num32;
 use register_check::checking::WORD;
 use register_check::coordinates::point_at;
 use register_check::layout::COUNT_SIZE;
 use register_check::layout::PEG_SIZE;
-use writer::parts::put8;
-use writer::parts::put16;
-use writer::parts::put32;
 
 // A slot is copied by words, and its last byte alone.
 const WORDS: usize = PEG_SIZE / WORD;

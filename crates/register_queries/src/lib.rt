@@ -10,10 +10,10 @@ pub mod nearest; // nearest.rt: the nearest peg
 
 use answering::answer_region;
 use nearest::nearest_index;
+use octets::numbers::num16;
 use plane::Point;
 use plane::Rectangle;
 use plane::Region;
-use record::bytes::num16;
 use register_check::RegisterFind;
 use register_check::checking::register_number;
 

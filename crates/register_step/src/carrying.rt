@@ -10,11 +10,11 @@ ghost use Rattle.pegs.specs.Outcome.{registerNumber};
 ghost use Rattle.register_step.specs.Carrying.{AppliedOne, CarryReady, carryOn, carriedBy};
 use engine::places::THE_QUEUE;
 use engine::places::place_of;
+use octets::numbers::num8;
+use octets::numbers::num32;
 use queue::history::green_slot;
 use record::ActionHead;
 use record::State;
-use record::bytes::num8;
-use record::bytes::num32;
 use register::apply;
 
 // How many actions were applied, and how many operations of them were refused.

@@ -5,7 +5,7 @@ use crate::report::changes;
 use crate::runs::INSIDE;
 use crate::runs::found;
 use crate::runs::returned;
-use record::bytes::num32;
+use octets::numbers::num32;
 use register_check::coordinates::millimetres;
 use register_queries::guzbytor_register_nearest;
 use register_queries::guzbytor_register_radius;

@@ -1,5 +1,5 @@
 // What calls changed: nothing; or from which byte to which, and what the buffer then holds.
-use record::bytes::num16;
+use octets::numbers::num16;
 use register_check::layout::COUNT_SIZE;
 use register_check::layout::PEG_SIZE;
 use register_check::layout::REGISTER_LENGTH;

@@ -6,8 +6,8 @@ use crate::report::changes;
 use crate::runs::CHANGE;
 use crate::runs::MANY;
 use crate::runs::run;
-use record::bytes::num8;
-use record::bytes::num32;
+use octets::numbers::num8;
+use octets::numbers::num32;
 use vector_tools::patch::patch;
 
 const AT_LENGTH: usize = 1;

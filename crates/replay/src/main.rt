@@ -13,12 +13,12 @@ use lines::input::read_setup;
 use lines::line::HEAD_ROOM;
 use lines::line::header_line;
 use lines::line::setup_line;
+use octets::blocks::copy;
 use servers::SERVERS;
 use servers::Server;
 use servers::starting::begin;
 use turns::Going;
 use turns::passes::pass;
-use writer::blocks::copy;
 
 // More than a server byte and an event, which are at most 65,538 bytes.
 const INPUT_ROOM: usize = 131072;

@@ -8,7 +8,7 @@ ghost use Rattle.servers.specs.Core.{buffersOf, entryAfter, Behind, reco
 use crate::STATE_ROOM;
 use crate::Server;
 use burst::slices::is_recovery;
-use record::bytes::num16;
+use octets::numbers::num16;
 use record::events::Event;
 
 // The state that the event comes to.

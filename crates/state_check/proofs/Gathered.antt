@@ -19,7 +19,7 @@ use Rattle.base.proofs.TestLaws.{and-yes, and-no, le-holds, le-fails, eq-yes, e
 use Rattle.base.proofs.Branches.{and-true}
 use Rattle.base.specs.Lists.{everyAt}
 use Rattle.base.proofs.Entries.{every-more}
-use Rattle.record.proofs.OnePass.{getD-zeros}
+use Rattle.base.proofs.ListLaws.{replicate-at}
 use Rattle.state_check.specs.Slots.{Masks}
 
 -- An OR is zero where both are.
@@ -101,7 +101,7 @@ pub record MasksTo (j : ℕ) (t : List ℕ) : Type 0 where
 pub masks-start : MasksTo mostPayload (replicate {A = ℕ} (2 * mostPayload) 0)
 masks-start = record {
   long = length-replicate {A = ℕ} (2 * mostPayload) 0;
-  payload = λ i h. getD-zeros (2 * mostPayload) i;
+  payload = λ i h. replicate-at 0 (2 * mostPayload) i;
   behind = λ i h k. absurd (omega arith);
 }
 

@@ -25,9 +25,9 @@ use engine::places::own_at;
 use engine::places::queue_at;
 use engine::places::states_at;
 use engine::places::yellow_at;
+use octets::numbers::num16;
 use record::Context;
 use record::State;
-use record::bytes::num16;
 use record::lists::cuts_ok;
 use record::lists::ids_ok;
 

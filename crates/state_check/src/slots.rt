@@ -11,12 +11,12 @@ ghost use Rattle.record.specs.Values.{idsBy, IdsInside, HasPlaces, Marked};
 ghost use Rattle.state_check.specs.Slots.{Masks, payloadRoom, payloadFits, slotFits, notedAt, notedFit};
 ghost use Rattle.state_check.specs.Slots.{CutInside, queueSlotFits, NextFits, queueFits, ownReach, ownSlotFits, ownFits};
 ghost use Rattle.engine.specs.Layout.{slotSize};
+use octets::numbers::num8;
+use octets::numbers::num16;
+use octets::numbers::num32;
 use record::ActionHead;
 use record::Context;
 use record::State;
-use record::bytes::num8;
-use record::bytes::num16;
-use record::bytes::num32;
 use record::lists::is_new;
 use record::range::length_ok;
 

@@ -5,11 +5,11 @@ ghost use Rattle.replication.specs.Machine.Step.{greenAndNote};
 ghost use Rattle.replication.specs.Laws.RuleFits.{Delivered};
 ghost use Rattle.engine.specs.Holding.{HoldsSuch, Becomes};
 ghost use Rattle.step.specs.Events.{Next};
+use octets::numbers::num16;
 use queue::entering::enter;
 use queue::greening::green;
 use record::ActionHead;
 use record::State;
-use record::bytes::num16;
 use updates::notes::note;
 use updates::yellow::join_yellow;
 

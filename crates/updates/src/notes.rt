@@ -15,12 +15,12 @@ ghost use Rattle.updates.specs.Noting.{sentLength, notedSlot};
 use crate::states::state_place;
 use engine::places::THE_NOTED;
 use engine::places::place_of;
+use octets::numbers::num8;
+use octets::numbers::num32;
+use octets::numbers::put32;
 use record::State;
 use record::StateHead;
-use record::bytes::num8;
-use record::bytes::num32;
 use record::sets::has;
-use writer::parts::put32;
 
 // "a noted length never falls"
 pub fn note(state: &mut [u8], c: u8, l: u32)

@@ -16,13 +16,13 @@ use engine::header::load;
 use engine::places::THE_OWN;
 use engine::places::THE_QUEUE;
 use engine::places::place_of;
+use octets::blocks::copy_up;
+use octets::numbers::num8;
+use octets::numbers::num16;
+use octets::numbers::num32;
+use octets::numbers::put16;
+use octets::numbers::put32;
 use record::State;
-use record::bytes::num8;
-use record::bytes::num16;
-use record::bytes::num32;
-use writer::blocks::copy_up;
-use writer::parts::put16;
-use writer::parts::put32;
 
 fn put_queue(state: &mut [u8], queue: u32)
     requires { ⌜ headerSize ≤ length (now state) ⌝ }

@@ -13,13 +13,13 @@ use crate::numbers::save_numbers;
 use engine::header::load;
 use engine::places::THE_OWN;
 use engine::places::place_of;
+use octets::numbers::num8;
+use octets::numbers::num16;
+use octets::numbers::num32;
+use octets::numbers::put16;
 use queue::slots::put_slot;
 use record::ActionHead;
 use record::State;
-use record::bytes::num8;
-use record::bytes::num16;
-use record::bytes::num32;
-use writer::parts::put16;
 
 // The next own action but its payload.
 pub fn next_head(state: &[u8]) -> ActionHead

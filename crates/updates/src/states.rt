@@ -11,12 +11,12 @@ ghost use Rattle.updates.specs.Lists.{statePlace, NumberIn, CollectRoom,
 use engine::places::THE_STATES;
 use engine::places::place_of;
 use engine::places::state_size;
-use record::bytes::num8;
-use record::bytes::num16;
+use octets::blocks::copy;
+use octets::numbers::num8;
+use octets::numbers::num16;
+use octets::numbers::put8;
 use record::range::product;
 use record::sets::with_member;
-use writer::blocks::copy;
-use writer::parts::put8;
 
 // Where the slot of server k begins.
 pub fn state_place(state: &[u8], k: u8) -> usize

@@ -14,12 +14,12 @@ use engine::header::load;
 use engine::header::save;
 use engine::places::THE_YELLOW;
 use engine::places::place_of;
+use octets::blocks::copy;
 use record::AttemptIndex;
 use record::LastPrimary;
 use record::Mark;
 use record::PrimaryIndex;
 use record::State;
-use writer::blocks::copy;
 
 // The numbers of votes; the yellow ids lie beside them.
 pub struct VoteNumbers {

@@ -13,11 +13,11 @@ ghost use Rattle.engine.specs.Counts.{CountsIn};
 ghost use Rattle.updates.specs.Lists.{idAdded, BecomesYellow};
 use engine::places::THE_YELLOW;
 use engine::places::place_of;
+use octets::numbers::num16;
+use octets::numbers::put16;
 use record::State;
-use record::bytes::num16;
 use writer::parts::is_id;
 use writer::parts::put_id;
-use writer::parts::put16;
 
 // Whether this id is one of the `count` ids from `at` on.
 fn has_id(e: &[u8], at: usize, count: usize, creator: u8, index: u16) -> bool

@@ -1,5 +1,5 @@
 // Changed bytes of a buffer.
-use writer::blocks::copy;
+use octets::blocks::copy;
 
 // Changes the bytes from `at` on to those of src, if there is room.
 pub fn patch(buffer: &mut [u8], at: usize, src: &[u8]) {

@@ -2,8 +2,8 @@
 ghost use Prim.Native.Nat.{_≤_};
 ghost use lib.ListN.{length};
 use crate::writing;
+use octets::numbers::num16;
 use record::Context;
-use record::bytes::num16;
 use record::range::Limits;
 use vector_tools::output::numbers;
 

@@ -8,8 +8,8 @@ ghost use Prim.Native.Nat.{_<_};
 ghost use lib.ListN.{length};
 use crate::patch::patches;
 use engine::guzbytor_start;
-use record::bytes::num8;
-use record::bytes::num16;
+use octets::numbers::num8;
+use octets::numbers::num16;
 use state_check::state_number;
 use vector_tools::patch::patch;
 

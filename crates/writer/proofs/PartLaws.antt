@@ -1,17 +1,17 @@
 -- Blocks of bytes written one after another are one block: the parts of a record.
 -- Assumes nothing.
-use Prim.Native.Nat.{ℕ, _+_, _%_, _≤_}
-use mathlib.Core.Path.{_≡_, refl, sym, ap, _∙_}
+use Prim.Native.Nat.{ℕ, _+_, _≤_}
+use mathlib.Core.Path.{_≡_, refl, _∙_}
 use mathlib.Core.List.{List, [], _∷_, append-assoc, append-nil}
 use native.Mathlib.Omega.{arith}
 use lib.ListN.{length}
 use Rattle.base.specs.Bytes.{bytesOf, joined}
-use Rattle.base.proofs.BytesLaws.{bytes-length, bytes1}
+use Rattle.base.proofs.BytesLaws.{bytes-length}
 use Rattle.base.specs.Patched.{patched}
 use Rattle.base.proofs.Stores.{two-blocks, three-blocks, five-blocks}
 use Rattle.format.specs.Places.{actionPayloadAt, primaryAttemptAt, primarySetAt, primarySize, markIndexAt, markAttemptAt, markSetAt, markBitsAt, markSize}
 use Rattle.format.specs.Types.{Id}
-use Rattle.format.specs.Write.{idBytes, payloadBytes, primaryBytes, markBytes}
+use Rattle.format.specs.Write.{idBytes, primaryBytes, markBytes}
 use Rattle.format.proofs.Lengths.{id-length}
 use Rattle.record.specs.declared.AttemptIndex.{AttemptIndex}
 use Rattle.record.specs.declared.Mark.{Mark}
@@ -32,13 +32,6 @@ pub block-after-two : (at m k : ℕ) (b c d s s₁ s₂ : List ℕ) → at + k �
 block-after-two at m k b c d s s₁ s₂ h e f g = two-blocks at m k (joined (b ∷ c ∷ [])) d s s₁ s₂ h e f g ∙ rw joined-two
 
 pub ruleset blocks = (two-blocks, block-after-two, bytes-length, id-length, head-length)
-
-pub payload-blocks : (at k : ℕ) (p s s₁ s₂ : List ℕ) → at + k ≤ length s → s₁ ≡ patched at (bytesOf 1 (length p % 256)) s → s₂ ≡ patched (at + 1) p s₁
-    → s₂ ≡ patched at (payloadBytes p) s
-unfolding payloadBytes
-payload-blocks at k p s s₁ s₂ h e f =
-    let m : bytesOf 1 (length p % 256) ≡ bytesOf 1 (length p) = bytes1 (length p % 256) ∙ ap (λ (n : ℕ). n ∷ []) (omega arith) ∙ sym (bytes1 (length p)) in
-    two-blocks at 1 k (bytesOf 1 (length p)) p s s₁ s₂ h (rw m at e) f (bytes-length 1 (length p))
 
 -- ---- a primary component, and a mark
 

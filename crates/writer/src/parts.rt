@@ -1,47 +1,26 @@
-// Numbers, ids, actions, primary components and marks at a place: written, and an id compared.
+// Ids, actions, primary components and marks at a place: written, and an id compared.
 ghost use mathlib.Core.Path.{_≡_};
 ghost use Prim.Native.Nat.{_+_, _≤_};
 ghost use lib.ListN.{length};
-ghost use Rattle.base.specs.Bytes.{bytesOf};
 ghost use Rattle.base.specs.Patched.{patched};
 ghost use Rattle.format.specs.Places.{idSize, actionPayloadAt, actionHeadSize, primarySize, markSize, yellowHeadSize};
 ghost use Rattle.format.specs.Range.{sameId};
 ghost use Rattle.format.specs.Read.{idAt};
-ghost use Rattle.format.specs.Write.{idBytes, payloadBytes, actionBytes, primaryBytes, markBytes};
+ghost use Rattle.format.specs.Write.{idBytes, actionBytes, primaryBytes, markBytes};
 ghost use Rattle.record.specs.Values.{idOf, componentOf, markOf, actionOf};
 ghost use Rattle.writer.specs.Blocks.{headBytes, yellowHeadBytes};
-use crate::blocks::copy;
-use crate::blocks::put_number;
+use octets::blocks::put_counted;
+use octets::numbers::num8;
+use octets::numbers::num16;
+use octets::numbers::put8;
+use octets::numbers::put16;
+use octets::numbers::put32;
 use record::ActionHead;
 use record::AttemptIndex;
 use record::LastPrimary;
 use record::Mark;
 use record::PrimaryIndex;
 use record::StateHead;
-use record::bytes::num8;
-use record::bytes::num16;
-
-// A number of one byte; put16 and put32: of two and of four.
-pub fn put8(out: &mut [u8], at: usize, v: u8)
-    requires { ⌜ at + 1 ≤ length (now out) ⌝ }
-    ensures { λ _. ⌜ now (out .exit) ≡ patched at (bytesOf 1 v) (now (out .entry)) ⌝ }
-{
-    put_number(out, at, 1, v as u32);
-}
-
-pub fn put16(out: &mut [u8], at: usize, v: u16)
-    requires { ⌜ at + 2 ≤ length (now out) ⌝ }
-    ensures { λ _. ⌜ now (out .exit) ≡ patched at (bytesOf 2 v) (now (out .entry)) ⌝ }
-{
-    put_number(out, at, 2, v as u32);
-}
-
-pub fn put32(out: &mut [u8], at: usize, v: u32)
-    requires { ⌜ at + 4 ≤ length (now out) ⌝ }
-    ensures { λ _. ⌜ now (out .exit) ≡ patched at (bytesOf 4 v) (now (out .entry)) ⌝ }
-{
-    put_number(out, at, 4, v);
-}
 
 pub fn put_id(out: &mut [u8], at: usize, creator: u8, index: u16)
     requires { ⌜ at + idSize ≤ length (now out) ⌝ }
@@ -62,14 +41,6 @@ pub fn is_id(e: &[u8], at: usize, creator: u8, index: u16) -> bool
     index == num16(e, at + ActionHead::INDEX)
 }
 
-pub fn put_payload(out: &mut [u8], at: usize, payload: &[u8])
-    requires { ⌜ at + (1 + length (now payload)) ≤ length (now out) ⌝ }
-    ensures { λ _. ⌜ now (out .exit) ≡ patched at (payloadBytes (now (payload .entry))) (now (out .entry)) ⌝ }
-{
-    put8(out, at, (payload.len() % 256) as u8);
-    copy(out, at + 1, payload);
-}
-
 // An action's id and its creator's green length.
 pub fn put_head(out: &mut [u8], at: usize, head: ActionHead)
     requires { ⌜ at + actionPayloadAt ≤ length (now out) ⌝ }
@@ -85,7 +56,7 @@ pub fn put_body(out: &mut [u8], at: usize, head: ActionHead, payload: &[u8])
     ensures { λ _. ⌜ now (out .exit) ≡ patched at (actionBytes (actionOf head (now (payload .entry)))) (now (out .entry)) ⌝ }
 {
     put_head(out, at, head);
-    put_payload(out, at + ActionHead::PAYLOAD, payload);
+    put_counted(out, at + ActionHead::PAYLOAD, payload);
 }
 
 pub fn put_primary(out: &mut [u8], at: usize, index: PrimaryIndex, attempt: AttemptIndex, set: u8)

@@ -4,7 +4,7 @@ use Rattle.register.proofs.change.Statement.{statement}
 use Rattle.register.proofs.change.Tie as tie
 use Rattle.register.proofs.change.Reads as reads
 use Rattle.register.proofs.change.Lts as lts
-use Rattle.record.proofs.bytes.num16.Reads as num16-reads
+use Rattle.octets.proofs.numbers.num16.Reads as num16-reads
 use Rattle.register.proofs.changing.remove.Reads as remove-reads
 use Rattle.register.proofs.changing.replace.Reads as replace-reads
 

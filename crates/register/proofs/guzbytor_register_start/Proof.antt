@@ -4,7 +4,7 @@ use Rattle.register.proofs.guzbytor_register_start.Statement.{statement
 use Rattle.register.proofs.guzbytor_register_start.Tie as tie
 use Rattle.register.proofs.guzbytor_register_start.Reads as reads
 use Rattle.register.proofs.guzbytor_register_start.Lts as lts
-use Rattle.writer.proofs.parts.put16.Reads as put16-reads
+use Rattle.octets.proofs.numbers.put16.Reads as put16-reads
 
 returns : tie.Need-returns
 returns c = search (needs, start-short)

@@ -4,7 +4,7 @@ use Rattle.register.proofs.operate.Statement.{statement}
 use Rattle.register.proofs.operate.Tie as tie
 use Rattle.register.proofs.operate.Reads as reads
 use Rattle.register.proofs.operate.Lts as lts
-use Rattle.record.proofs.bytes.num16.Reads as num16-reads
+use Rattle.octets.proofs.numbers.num16.Reads as num16-reads
 use Rattle.register.proofs.change.Reads as change-reads
 use Rattle.register.proofs.changing.insert.Reads as insert-reads
 use Rattle.register_check.proofs.searching.seek.Reads as seek-reads

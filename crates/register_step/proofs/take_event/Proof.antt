@@ -4,7 +4,7 @@ use Rattle.register_step.proofs.take_event.Statement.{statement}
 use Rattle.register_step.proofs.take_event.Tie as tie
 use Rattle.register_step.proofs.take_event.Reads as reads
 use Rattle.register_step.proofs.take_event.Lts as lts
-use Rattle.record.proofs.bytes.num32.Reads as num32-reads
+use Rattle.octets.proofs.numbers.num32.Reads as num32-reads
 use Rattle.register_step.proofs.RegisterAnswer.refused.Reads as refused-reads
 use Rattle.register_step.proofs.carrying.carry.Reads as carry-reads
 use Rattle.step.proofs.taking.step.Reads as step-reads

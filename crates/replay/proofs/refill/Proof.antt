@@ -4,7 +4,7 @@ use Rattle.replay.proofs.refill.Statement.{statement}
 use Rattle.replay.proofs.refill.Tie as tie
 use Rattle.replay.proofs.refill.Reads as reads
 use Rattle.replay.proofs.refill.Lts as lts
-use Rattle.writer.proofs.blocks.copy.Reads as copy-reads
+use Rattle.octets.proofs.blocks.copy.Reads as copy-reads
 use Rattle.replay.proofs.read_some.Reads as read-some-reads
 
 slice-aggregate-copy : tie.Need-slice-aggregate-copy

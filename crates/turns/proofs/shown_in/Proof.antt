@@ -4,8 +4,8 @@ use Rattle.turns.proofs.shown_in.Statement.{statement}
 use Rattle.turns.proofs.shown_in.Tie as tie
 use Rattle.turns.proofs.shown_in.Reads as reads
 use Rattle.turns.proofs.shown_in.Lts as lts
-use Rattle.record.proofs.bytes.num32.Reads as num32-reads
-use Rattle.record.proofs.bytes.num8.Reads as num8-reads
+use Rattle.octets.proofs.numbers.num32.Reads as num32-reads
+use Rattle.octets.proofs.numbers.num8.Reads as num8-reads
 use Rattle.turns.proofs.difference.Reads as difference-reads
 
 num32-requires : tie.Need-num32-requires

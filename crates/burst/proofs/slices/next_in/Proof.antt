@@ -8,7 +8,7 @@ use Rattle.burst.proofs.slices.next_in.Reads as reads
 use Rattle.burst.proofs.slices.next_in.Lts as lts
 use Rattle.burst.proofs.slices.cut_short.Reads as cut-short-reads
 use Rattle.burst.proofs.slices.is_recovery.Reads as is-recovery-reads
-use Rattle.record.proofs.bytes.num16.Reads as num16-reads
+use Rattle.octets.proofs.numbers.num16.Reads as num16-reads
 
 returns : tie.Need-returns
 returns c = search (needs, next-none, stop-fits)

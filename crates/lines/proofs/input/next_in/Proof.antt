@@ -6,7 +6,7 @@ use Rattle.lines.proofs.input.next_in.Statement.{statement}
 use Rattle.lines.proofs.input.next_in.Tie as tie
 use Rattle.lines.proofs.input.next_in.Reads as reads
 use Rattle.lines.proofs.input.next_in.Lts as lts
-use Rattle.record.proofs.bytes.num16.Reads as num16-reads
+use Rattle.octets.proofs.numbers.num16.Reads as num16-reads
 use Rattle.lines.proofs.input.cut_short.Reads as cut-short-reads
 
 returns : tie.Need-returns

@@ -5,8 +5,8 @@ use Rattle.lines.proofs.input.read_setup.Tie as tie
 use Rattle.lines.proofs.input.read_setup.Reads as reads
 use Rattle.lines.proofs.input.read_setup.Lts as lts
 use Rattle.record.proofs.range.sizes_ok.Reads as sizes-ok-reads
-use Rattle.record.proofs.bytes.num16.Reads as num16-reads
-use Rattle.record.proofs.bytes.num8.Reads as num8-reads
+use Rattle.octets.proofs.numbers.num16.Reads as num16-reads
+use Rattle.octets.proofs.numbers.num8.Reads as num8-reads
 use Rattle.lines.proofs.input.Setup.refused.Reads as refused-reads
 
 refused-requires : tie.Need-refused-requires

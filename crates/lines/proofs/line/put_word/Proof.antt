@@ -4,7 +4,7 @@ use Rattle.lines.proofs.line.put_word.Statement.{statement}
 use Rattle.lines.proofs.line.put_word.Tie as tie
 use Rattle.lines.proofs.line.put_word.Reads as reads
 use Rattle.lines.proofs.line.put_word.Lts as lts
-use Rattle.writer.proofs.blocks.copy.Reads as copy-reads
+use Rattle.octets.proofs.blocks.copy.Reads as copy-reads
 
 copy-requires : tie.Need-copy-requires
 copy-requires c κs = search needs

@@ -5,8 +5,8 @@ use Rattle.queue.proofs.entering.append.Tie as tie
 use Rattle.queue.proofs.entering.append.Reads as reads
 use Rattle.queue.proofs.entering.append.Lts as lts
 use Rattle.queue.proofs.slots.put_slot.Reads as put-slot-reads
-use Rattle.writer.proofs.parts.put32.Reads as put32-reads
-use Rattle.record.proofs.bytes.num32.Reads as num32-reads
+use Rattle.octets.proofs.numbers.put32.Reads as put32-reads
+use Rattle.octets.proofs.numbers.num32.Reads as num32-reads
 
 num32-requires : tie.Need-num32-requires
 num32-requires c κs = search needs

@@ -5,7 +5,7 @@ use Rattle.queue.proofs.entering.enqueue.Tie as tie
 use Rattle.queue.proofs.entering.enqueue.Reads as reads
 use Rattle.queue.proofs.entering.enqueue.Lts as lts
 use Rattle.queue.proofs.entering.append.Reads as append-reads
-use Rattle.writer.proofs.parts.put16.Reads as put16-reads
+use Rattle.octets.proofs.numbers.put16.Reads as put16-reads
 
 append-requires : tie.Need-append-requires
 append-requires c κs = search needs

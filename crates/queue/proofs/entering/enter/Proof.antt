@@ -6,8 +6,8 @@ use Rattle.queue.proofs.entering.enter.Reads as reads
 use Rattle.queue.proofs.entering.enter.Lts as lts
 use Rattle.queue.proofs.entering.enqueue.Reads as enqueue-reads
 use Rattle.queue.proofs.entering.pop_own.Reads as pop-own-reads
-use Rattle.record.proofs.bytes.num16.Reads as num16-reads
-use Rattle.record.proofs.bytes.num8.Reads as num8-reads
+use Rattle.octets.proofs.numbers.num16.Reads as num16-reads
+use Rattle.octets.proofs.numbers.num8.Reads as num8-reads
 
 num8-requires : tie.Need-num8-requires
 num8-requires c κs = search needs

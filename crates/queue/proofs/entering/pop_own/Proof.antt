@@ -4,8 +4,8 @@ use Rattle.queue.proofs.entering.pop_own.Statement.{statement}
 use Rattle.queue.proofs.entering.pop_own.Tie as tie
 use Rattle.queue.proofs.entering.pop_own.Reads as reads
 use Rattle.queue.proofs.entering.pop_own.Lts as lts
-use Rattle.writer.proofs.moves.shift_down.Reads as shift-down-reads
-use Rattle.writer.proofs.parts.put16.Reads as put16-reads
+use Rattle.octets.proofs.moves.shift_down.Reads as shift-down-reads
+use Rattle.octets.proofs.numbers.put16.Reads as put16-reads
 
 mul-end : tie.Need-mul-end
 mul-end c = search needs

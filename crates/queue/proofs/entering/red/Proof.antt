@@ -5,7 +5,7 @@ use Rattle.queue.proofs.entering.red.Tie as tie
 use Rattle.queue.proofs.entering.red.Reads as reads
 use Rattle.queue.proofs.entering.red.Lts as lts
 use Rattle.queue.proofs.entering.enter.Reads as enter-reads
-use Rattle.record.proofs.bytes.num16.Reads as num16-reads
+use Rattle.octets.proofs.numbers.num16.Reads as num16-reads
 
 cast-num16 : tie.Need-cast-num16
 cast-num16 c = search needs

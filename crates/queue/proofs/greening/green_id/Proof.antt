@@ -7,7 +7,7 @@ use Rattle.queue.proofs.greening.green_id.Lts as lts
 use Rattle.queue.proofs.greening.promote.Reads as promote-reads
 use Rattle.queue.proofs.greening.red_count.Reads as red-count-reads
 use Rattle.queue.proofs.greening.red_place.Reads as red-place-reads
-use Rattle.record.proofs.bytes.num32.Reads as num32-reads
+use Rattle.octets.proofs.numbers.num32.Reads as num32-reads
 
 red-place-requires : tie.Need-red-place-requires
 red-place-requires c κs = search needs

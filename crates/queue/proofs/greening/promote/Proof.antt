@@ -5,7 +5,7 @@ use Rattle.queue.proofs.greening.promote.Tie as tie
 use Rattle.queue.proofs.greening.promote.Reads as reads
 use Rattle.queue.proofs.greening.promote.Lts as lts
 use Rattle.queue.proofs.slots.last_to_front.Reads as last-to-front-reads
-use Rattle.writer.proofs.parts.put32.Reads as put32-reads
+use Rattle.octets.proofs.numbers.put32.Reads as put32-reads
 
 mul-end : tie.Need-mul-end
 mul-end c = search needs

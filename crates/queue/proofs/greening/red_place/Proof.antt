@@ -6,7 +6,7 @@ use Rattle.queue.proofs.greening.red_place.Reads as reads
 use Rattle.queue.proofs.greening.red_place.Lts as lts
 use Rattle.queue.proofs.finding.find.Reads as find-reads
 use Rattle.queue.proofs.greening.red_count.Reads as red-count-reads
-use Rattle.record.proofs.bytes.num32.Reads as num32-reads
+use Rattle.octets.proofs.numbers.num32.Reads as num32-reads
 
 red-count-requires : tie.Need-red-count-requires
 red-count-requires c κs = search needs

@@ -4,9 +4,9 @@ use Rattle.queue.proofs.slots.last_to_front.Statement.{statement}
 use Rattle.queue.proofs.slots.last_to_front.Tie as tie
 use Rattle.queue.proofs.slots.last_to_front.Reads as reads
 use Rattle.queue.proofs.slots.last_to_front.Lts as lts
-use Rattle.writer.proofs.moves.shift_up.Reads as shift-up-reads
+use Rattle.octets.proofs.moves.shift_up.Reads as shift-up-reads
 use Rattle.queue.proofs.slots.slot_at.Reads as slot-at-reads
-use Rattle.writer.proofs.blocks.copy.Reads as copy-reads
+use Rattle.octets.proofs.blocks.copy.Reads as copy-reads
 
 sub-slot-at : tie.Need-sub-slot-at
 sub-slot-at c = search needs

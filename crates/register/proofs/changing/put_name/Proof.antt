@@ -4,11 +4,11 @@ use Rattle.register.proofs.changing.put_name.Statement.{statement}
 use Rattle.register.proofs.changing.put_name.Tie as tie
 use Rattle.register.proofs.changing.put_name.Reads as reads
 use Rattle.register.proofs.changing.put_name.Lts as lts
-use Rattle.writer.proofs.blocks.clear.Reads as clear-reads
-use Rattle.writer.proofs.parts.put_payload.Reads as put-payload-reads
+use Rattle.octets.proofs.blocks.clear.Reads as clear-reads
+use Rattle.octets.proofs.blocks.put_counted.Reads as put-counted-reads
 
-put-payload-requires : tie.Need-put-payload-requires
-put-payload-requires c κs = search needs
+put-counted-requires : tie.Need-put-counted-requires
+put-counted-requires c κs = search needs
 
 add-clear : tie.Need-add-clear
 add-clear c = search needs
@@ -32,7 +32,7 @@ pub put-name-spec : {M : Type 1} → statement M
 put-name-spec =
     tie.close
     (tie.spec
-    put-payload-requires
+    put-counted-requires
     add-clear
     add-clear-2
     sub-clear

@@ -4,7 +4,7 @@ use Rattle.register.proofs.changing.put_peg.Statement.{statement}
 use Rattle.register.proofs.changing.put_peg.Tie as tie
 use Rattle.register.proofs.changing.put_peg.Reads as reads
 use Rattle.register.proofs.changing.put_peg.Lts as lts
-use Rattle.writer.proofs.blocks.copy.Reads as copy-reads
+use Rattle.octets.proofs.blocks.copy.Reads as copy-reads
 use Rattle.register.proofs.changing.put_name.Reads as put-name-reads
 
 put-name-requires : tie.Need-put-name-requires

@@ -4,8 +4,8 @@ use Rattle.register.proofs.changing.remove.Statement.{statement}
 use Rattle.register.proofs.changing.remove.Tie as tie
 use Rattle.register.proofs.changing.remove.Reads as reads
 use Rattle.register.proofs.changing.remove.Lts as lts
-use Rattle.writer.proofs.moves.shift_down.Reads as shift-down-reads
-use Rattle.writer.proofs.parts.put16.Reads as put16-reads
+use Rattle.octets.proofs.moves.shift_down.Reads as shift-down-reads
+use Rattle.octets.proofs.numbers.put16.Reads as put16-reads
 
 mul-at : tie.Need-mul-at
 mul-at c = search needs

@@ -4,7 +4,7 @@ use Rattle.register.proofs.changing.replace.Statement.{statement}
 use Rattle.register.proofs.changing.replace.Tie as tie
 use Rattle.register.proofs.changing.replace.Reads as reads
 use Rattle.register.proofs.changing.replace.Lts as lts
-use Rattle.writer.proofs.blocks.copy.Reads as copy-reads
+use Rattle.octets.proofs.blocks.copy.Reads as copy-reads
 
 mul-copy : tie.Need-mul-copy
 mul-copy c = search needs

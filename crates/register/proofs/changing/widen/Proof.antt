@@ -4,8 +4,8 @@ use Rattle.register.proofs.changing.widen.Statement.{statement}
 use Rattle.register.proofs.changing.widen.Tie as tie
 use Rattle.register.proofs.changing.widen.Reads as reads
 use Rattle.register.proofs.changing.widen.Lts as lts
-use Rattle.writer.proofs.moves.shift_up.Reads as shift-up-reads
-use Rattle.writer.proofs.parts.put16.Reads as put16-reads
+use Rattle.octets.proofs.moves.shift_up.Reads as shift-up-reads
+use Rattle.octets.proofs.numbers.put16.Reads as put16-reads
 
 mul-at : tie.Need-mul-at
 mul-at c = search needs

@@ -4,7 +4,7 @@ use Rattle.register.proofs.payload.shape_of.Statement.{statement}
 use Rattle.register.proofs.payload.shape_of.Tie as tie
 use Rattle.register.proofs.payload.shape_of.Reads as reads
 use Rattle.register.proofs.payload.shape_of.Lts as lts
-use Rattle.record.proofs.bytes.num8.Reads as num8-reads
+use Rattle.octets.proofs.numbers.num8.Reads as num8-reads
 use Rattle.register.proofs.payload.name_fits.Reads as name-fits-reads
 use Rattle.register.proofs.payload.size_of.Reads as size-of-reads
 

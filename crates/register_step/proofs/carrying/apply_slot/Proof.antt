@@ -4,7 +4,7 @@ use Rattle.register_step.proofs.carrying.apply_slot.Statement.{statemen
 use Rattle.register_step.proofs.carrying.apply_slot.Tie as tie
 use Rattle.register_step.proofs.carrying.apply_slot.Reads as reads
 use Rattle.register_step.proofs.carrying.apply_slot.Lts as lts
-use Rattle.record.proofs.bytes.num8.Reads as num8-reads
+use Rattle.octets.proofs.numbers.num8.Reads as num8-reads
 use Rattle.register.proofs.apply.Reads as apply-reads
 
 add-num8 : tie.Need-add-num8

@@ -4,7 +4,7 @@ use Rattle.servers.proofs.stepping.behind.Statement.{statement}
 use Rattle.servers.proofs.stepping.behind.Tie as tie
 use Rattle.servers.proofs.stepping.behind.Reads as reads
 use Rattle.servers.proofs.stepping.behind.Lts as lts
-use Rattle.record.proofs.bytes.num16.Reads as num16-reads
+use Rattle.octets.proofs.numbers.num16.Reads as num16-reads
 
 num16-requires : tie.Need-num16-requires
 num16-requires c κs = search needs
