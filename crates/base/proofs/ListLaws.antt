@@ -77,6 +77,11 @@ module _ {A : Type 0} where
   each-at P (y ∷ ys) zero x h e = let f : y ≡ x = cc in rw (← f) (h .0)
   each-at P (y ∷ ys) (suc i) x h e = each-at P ys i x (h .1) e
 
+  pub at-each : (P : A → Type 0) (xs : List A) → ((i : ℕ) (x : A) → at xs i ≡ some x → P x) → Each P xs
+  unfolding at
+  at-each P [] h = tt
+  at-each P (x ∷ xs) h = (h 0 x refl, at-each P xs (λ i. h (suc i)))
+
   pub each-there : (P : A → Type 0) (xs : List A) (d : A) (k : ℕ) → k < length xs → Each P xs → P (getD xs k d)
   each-there P [] d k h e = absurd (omega arith)
   each-there P (x ∷ xs) d zero h e = e .0

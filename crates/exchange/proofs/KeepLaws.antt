@@ -5,11 +5,9 @@ use mathlib.Core.Path.{_≡_, refl, sym, ap, subst, _∙_}
 use mathlib.Core.Bool.{Bool, false}
 use mathlib.Core.List.{List, _∷_, _++_, append-assoc, append-nil}
 use native.Mathlib.Omega.{arith}
-use lib.Dec.{eqb}
 use lib.ListN.{length, getD, take, length-take}
 use Rattle.base.specs.Tests.{_=?_, _and_, pick}
-use Rattle.base.proofs.TestLaws.{pick-yes, pick-no, and-no, and-yes, lt-yes, lt-no, Known, known, holds, fails}
-use Rattle.base.proofs.Branches.{told-eq}
+use Rattle.base.proofs.TestLaws.{pick-yes, pick-no, and-yes, eq-yes, eq-no, lt-yes, Known, known, holds, fails}
 use Rattle.base.specs.Bytes.{joined, numberAt}
 use Rattle.base.specs.Lists.{filter}
 use Rattle.base.proofs.Filters.{filter-yes, filter-no}
@@ -21,20 +19,27 @@ use Rattle.format.specs.Write.{idBytes, idsBytes}
 use Rattle.format.proofs.Lengths.{id-length, ids-length}
 use Rattle.format.proofs.Writing.{ids-more}
 use Rattle.record.specs.Values.{idOf}
-use Rattle.exchange.specs.Table.{placeIn, soughtIn, isKept, Keeps, Listed}
+use Rattle.exchange.specs.Table.{placeIn, soughtIn, Sought, isKept, Keeps, Listed}
 use Rattle.format.specs.Places.{idSize}
-use Rattle.exchange.proofs.PlaceLaws.{sought-count}
+use Rattle.exchange.proofs.PlaceLaws.{sought-count, place-own}
 
--- p is the place of the id.
-
-pub kept-out : (m r p : ℕ) (t e : List ℕ) (d : Id) → p ≡ placeIn d (soughtIn m e) → m ≤ p → false ≡ isKept (soughtIn m e) r t d
+-- Whether the id number j is kept is told by its place.
+kept-told : (m r j : ℕ) (t e : List ℕ) → Sought m e → j < m → isKept (soughtIn m e) r t (idAt e (idSize * j)) ≡ (getD t j 0 =? r)
 unfolding isKept
-kept-out m r p t e d f h = and-no _ _ (lt-no _ _ (omega (arith, sought-count m e)))
+kept-told m r j t e s h =
+    let own : j ≡ placeIn (idAt e (idSize * j)) (soughtIn m e) = place-own m e j (idAt e (idSize * j)) s h refl in
+    sym (and-yes _ _ _ (lt-yes _ _ (omega (arith, sought-count m e))) (ap (λ (i : ℕ). getD t i 0 =? r) own))
 
-pub kept-told : (m r p : ℕ) (t e : List ℕ) (d : Id) → p ≡ placeIn d (soughtIn m e) → p < m → eqb (getD t p 0) r ≡ isKept (soughtIn m e) r t d
-unfolding isKept
-kept-told m r p t e d f h =
-    and-yes _ _ _ (lt-yes _ _ (omega (arith, sought-count m e))) (told-eq (getD t p 0) r ∙ ap (λ (i : ℕ). getD t i 0 =? r) f)
+pub keep-other : (m r j n : ℕ) (t e o : List ℕ) → Sought m e → j < m → (getD t j 0 ≡ r → ⊥) → Keeps (isKept (soughtIn m e) r t) e (idSize * j) n n o o
+keep-other m r j n t e o s h f =
+    let no = kept-told m r j t e s h ∙ eq-no _ _ f in
+    record { count = pick-no _ _ _ _ no refl; bytes = pick-no _ _ _ _ no refl }
+
+pub keep-here : (m r j n : ℕ) (t e o u : List ℕ) → Sought m e → j < m → getD t j 0 ≡ r → u ≡ patched (idSize * n) (idBytes (idAt e (idSize * j))) o
+    → Keeps (isKept (soughtIn m e) r t) e (idSize * j) n (n + 1) o u
+keep-here m r j n t e o u s h f g =
+    let yes = kept-told m r j t e s h ∙ eq-yes _ _ f in
+    record { count = pick-yes _ _ _ _ yes refl; bytes = pick-yes _ _ _ _ yes g }
 
 pub kept-written : (e : List ℕ) (at x y i : ℕ) (o u : List ℕ) → x ≡ numberAt 1 e at → y ≡ numberAt 2 e (at + 1) → u ≡ patched i (idBytes (idOf x y)) o
     → u ≡ patched i (idBytes (idAt e at)) o

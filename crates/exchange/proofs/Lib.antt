@@ -2,6 +2,7 @@ pub mod SlotLaws
 pub mod Collected
 pub mod ReadLaws
 pub mod PlaceLaws
+pub mod HintLaws
 pub mod PlanLaws
 pub mod ResendLaws
 pub mod PassingLaws

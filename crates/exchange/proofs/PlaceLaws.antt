@@ -7,8 +7,8 @@ use mathlib.Core.List.{List, [], _∷_}
 use native.Mathlib.Omega.{arith}
 use lib.ListN.{length, getD}
 use Rattle.base.specs.Bytes.{numberAt}
-use Rattle.base.specs.Tests.{pick, _or_, _≤?_}
-use Rattle.base.proofs.TestLaws.{not-both, le-holds, le-fails, pick-yes, pick-no, Known, known, holds, fails}
+use Rattle.base.specs.Tests.{pick, _and_, _or_, _≤?_, _<?_}
+use Rattle.base.proofs.TestLaws.{not-both, and-holds, le-holds, le-fails, lt-holds, pick-yes, pick-no, Known, known, holds, fails}
 use Rattle.format.specs.Types.{Id}
 use Rattle.format.specs.Places.{idSize}
 use Rattle.format.specs.Range.{sameId, hasId, idsDiffer}
@@ -85,13 +85,19 @@ pub sought-count : (m : ℕ) (e : List ℕ) → length (soughtIn m e) ≡ m
 unfolding soughtIn
 sought-count m e = ids-number m e 0
 
--- The hint k is right.
-pub hint-right : (m : ℕ) (e : List ℕ) (k : ℕ) (d : Id) (r : Bool) → Sought m e → k < m → r ≡ sameId d (idAt e (idSize * k)) → r ≡ true → k ≡ placeIn d (soughtIn m e)
+-- The id at the place k.
+pub place-own : (m : ℕ) (e : List ℕ) (k : ℕ) (d : Id) → Sought m e → k < m → d ≡ idAt e (idSize * k) → k ≡ placeIn d (soughtIn m e)
 unfolding soughtIn
-hint-right m e k d r s h f g =
+place-own m e k d s h f =
     let z : idSize * k ≡ 0 + idSize * k = omega arith in
-    place-at d (idsAt m e 0) k (s .differ) (omega (arith, ids-number m e 0))
-    (same-id-holds d (idAt e (idSize * k)) (sym f ∙ g) ∙ ap (idAt e) z ∙ sym (ids-get m e 0 k h))
+    place-at d (idsAt m e 0) k (s .differ) (omega (arith, ids-number m e 0)) (f ∙ ap (idAt e) z ∙ sym (ids-get m e 0 k h))
+
+-- The hint k is right.
+pub hint-right : (m : ℕ) (e : List ℕ) (k : ℕ) (d : Id) (r : Bool) → Sought m e → r ≡ (k <? m and sameId d (idAt e (idSize * k))) → r ≡ true
+    → k ≡ placeIn d (soughtIn m e)
+hint-right m e k d r s f g =
+    let both = and-holds (k <? m) _ (sym f ∙ g) in
+    place-own m e k d s (lt-holds k m (both .0)) (same-id-holds d (idAt e (idSize * k)) (both .1))
 
 -- ---- the search: the first of those that are left
 

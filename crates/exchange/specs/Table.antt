@@ -10,10 +10,13 @@ use Rattle.base.specs.Patched.{patched}
 use Rattle.base.specs.Sets.{inSet}
 use Rattle.base.specs.Tests.{_and_, _=?_, _<?_, pick}
 use Rattle.format.specs.Limits.{mostIds}
-use Rattle.format.specs.Types.{Id, State}
-use Rattle.format.specs.Range.{sameId, idsDiffer}
+use Rattle.format.specs.Types.{Id, State, Context}
+use Rattle.format.specs.Range.{sameId, idOk, idsDiffer}
 use Rattle.format.specs.Read.{idAt, idsAt}
 use Rattle.format.specs.Write.{idBytes, idsBytes}
+use Rattle.record.specs.declared.Context as declared
+use Rattle.record.specs.Context.{contextOf, ContextIn}
+use Rattle.record.specs.Values.{slot, Marked}
 use Rattle.exchange.specs.declared.slots.Slots.{Slots}
 use Rattle.exchange.specs.Slots.{slotAt, stateIn, ifMeant}
 use Rattle.format.specs.Places.{idSize, stateHeadSize}
@@ -31,6 +34,20 @@ pub record Sought (m : ℕ) (e : List ℕ) : Type 0 where
   pub inside : idSize * m ≤ length e
   pub few : m ≤ mostIds
   pub differ : idsDiffer (soughtIn m e) ≡ true
+
+-- The id d at the place k leaves a hint in the table h if it is in range.
+unfoldable pub hinted : Context → (k : ℕ) → Id → List ℕ → List ℕ
+hinted c k d h = pick (idOk c d) (set h (slot d) (k + 1)) h
+
+-- Each id in range of the list l has left one.
+unfoldable pub Hinted : Context → List Id → List ℕ → Type 0
+Hinted c l h = Marked h (filter (idOk c) l)
+
+-- The hints h to the places of the m ids in the bytes e, each id in range of the context c.
+pub record HintsFit (c : declared.Context) (m : ℕ) (e h : List ℕ) : Type 0 where
+  pub context : ContextIn c
+  pub sought : Sought m e
+  pub hinted : Hinted (contextOf c) (soughtIn m e) h
 
 -- The place of d tells r.
 unfoldable pub isKept : List Id → ℕ → List ℕ → Id → Bool

@@ -16,83 +16,64 @@ use crate::slots::first;
 use crate::slots::head;
 use crate::slots::place;
 use crate::table::hints;
-use crate::table::place_among;
 use crate::table::raise_lists;
 use crate::yellow::yellow_voters;
 use octets::numbers::num8;
 use octets::numbers::num16;
+use record::ActionHead;
 use record::Context;
 use record::State;
 use record::StateHead;
 use writer::parts::put_id;
-
-// Whether the place of the id from `at` on tells `round`.
-fn is_kept(
-    c: Context,
-    first: &[u8],
-    ids: usize,
-    hints: &[u16; State::MOST_IDS],
-    at: usize,
-    round: u8,
-    table: &[u8; State::MOST_IDS],
-) -> bool
-    requires { ⌜ ContextIn c × Sought ids (now first) × (at + idSize ≤ length (now first)) ⌝ }
-    ensures { λ r. ⌜ r ≡ isKept (soughtIn ids (now (first .entry))) round (now (table .entry)) (idAt (now (first .entry)) at) ⌝ }
-{
-    let p = place_among(c, first, ids, hints, first, at);
-    if ids <= p {
-        return false;
-    }
-    table[p] == round
-}
 
 // Writes the id from `at` on as the id number `count` of the list.
 fn put_kept(e: &[u8], at: usize, out: &mut [u8], count: usize)
     requires { ⌜ (at + idSize ≤ length (now e)) × (idSize * count + idSize ≤ length (now out)) ⌝ }
     ensures { λ _. ⌜ now (out .exit) ≡ patched (idSize * count) (idBytes (idAt (now (e .entry)) at)) (now (out .entry)) ⌝ }
 {
-    put_id(out, State::ID * count, num8(e, at), num16(e, at + 1));
+    put_id(
+        out,
+        State::ID * count,
+        num8(e, at),
+        num16(e, at + ActionHead::INDEX),
+    );
 }
 
-// Writes the id from `at` on if its place tells `round`: how many ids there are then.
+// Writes the id number `j` of the first list if its place tells `round`: how many ids there are then.
 fn keep_at(
-    c: Context,
     first: &[u8],
     ids: usize,
-    hints: &[u16; State::MOST_IDS],
-    at: usize,
+    j: usize,
     round: u8,
     table: &[u8; State::MOST_IDS],
     out: &mut [u8],
     count: usize,
 ) -> usize
-    requires { ⌜ ContextIn c × Sought ids (now first) × (at + idSize ≤ length (now first)) × (idSize * count + idSize ≤ length (now out)) ⌝ }
-    ensures { λ r. ⌜ Keeps (isKept (soughtIn ids (now (first .entry))) round (now (table .entry))) (now (first .entry)) at count r (now (out .entry)) (now (out .exit)) ⌝ }
+    requires { ⌜ Sought ids (now first) × (j < ids) × (idSize * count + idSize ≤ length (now out)) ⌝ }
+    ensures { λ r. ⌜ Keeps (isKept (soughtIn ids (now (first .entry))) round (now (table .entry))) (now (first .entry)) (idSize * j) count r (now (out .entry)) (now (out .exit)) ⌝ }
 {
-    if !is_kept(c, first, ids, hints, at, round, table) {
+    if table[j] != round {
         return count;
     }
-    put_kept(first, at, out, count);
+    put_kept(first, State::ID * j, out, count);
     count + 1
 }
 
 // Writes the ids of the first list whose places tell `round`: how many there are.
 pub fn keep(
-    c: Context,
     first: &[u8],
     ids: usize,
-    hints: &[u16; State::MOST_IDS],
     round: u8,
     table: &[u8; State::MOST_IDS],
     out: &mut [u8],
 ) -> usize
-    requires { ⌜ ContextIn c × Sought ids (now first) × (idSize * ids ≤ length (now out)) ⌝ }
+    requires { ⌜ Sought ids (now first) × (idSize * ids ≤ length (now out)) ⌝ }
     ensures { λ r. ⌜ Listed r (now (out .exit)) (filter (isKept (soughtIn ids (now (first .entry))) round (now (table .entry))) (soughtIn ids (now (first .entry)))) ⌝ }
 {
     let mut kept = 0;
     let mut j = 0;
     while j < ids {
-        kept = keep_at(c, first, ids, hints, State::ID * j, round, table, out, kept);
+        kept = keep_at(first, ids, j, round, table, out, kept);
         j += 1;
     }
     kept
@@ -114,7 +95,7 @@ fn common_of(
     let hints = hints(c, first, ids);
     let mut table: [u8; State::MOST_IDS] = [0; State::MOST_IDS];
     let round = raise_lists(c, first, ids, &hints, v, state, start, &mut table);
-    keep(c, first, ids, &hints, round, &table, out)
+    keep(first, ids, round, &table, out)
 }
 
 // The ids of the list in the slot `start` that every list behind it has, too: how many there are.

@@ -8,7 +8,7 @@ use native.Mathlib.Omega.{arith}
 use lib.ListN.{length, length-append, length-set}
 use Rattle.base.proofs.CountLaws.{count-append, count-single}
 use Rattle.base.specs.Lists.{Each}
-use Rattle.base.proofs.ListLaws.{each-append, each-set}
+use Rattle.base.proofs.ListLaws.{each-append, each-first, each-second, each-set}
 use Rattle.base.specs.Tests.{_≤?_}
 use Rattle.base.proofs.TestLaws.{le-holds, le-fails, Known, holds, fails, known}
 use Rattle.format.specs.Types.{Id, Action}
@@ -93,6 +93,21 @@ swaps-kept (d ∷ ds) l =
     let a = swap-kept d l in
     let b = swaps-kept ds (greenSwap d l) in
     record { cuts = b .cuts ∙ a .cuts; own = b .own ∙ a .own; numbered = b .numbered ∙ a .numbered; count = b .count ∙ a .count }
+
+-- What holds of every action still does.
+pub swap-each : (P : Action → Type 0) (d : Id) (l : Log) → Each P (queue l) → Each P (queue (greenSwap d l))
+unfolding queue greenFound
+swap-each P d l h = go (swap? d l)
+  where
+    reds : Each P (l .red)
+    reds = each-second P (l .green) (l .red) h
+
+    go : Swap d l → Each P (queue (greenSwap d l))
+    go (unmoved m e) = rw e h
+    go (moved k e) =
+        rw e (each-append P (l .green ++ (k .it ∷ [])) (swapOut (position d (l .red)) (l .red))
+        (each-append P (l .green) (k .it ∷ []) (each-first P (l .green) (l .red) h) (found-fact P d (l .red) (k .it) reds (k .found), tt))
+        (swap-out-each P (position d (l .red)) (l .red) reds))
 
 -- ---- row 8
 

@@ -5,18 +5,23 @@ use mathlib.Core.Path.{_≡_, sym, ap, _∙_, subst}
 use mathlib.Core.List.{List}
 use mathlib.Core.Option.{some}
 use native.Mathlib.Omega.{arith}
-use lib.ListN.{length, set, replicate, length-set, length-replicate}
+use lib.ListN.{length, getD, set, replicate, length-set, length-replicate}
+use lib.Seq.{getD-set-same}
+use native.Mathlib.Decide.{ℕ-discrete}
 use Rattle.base.proofs.AtLaws.{some-same, at-low}
 use Rattle.base.specs.Bytes.{numberAt}
 use Rattle.base.proofs.CountLaws.{count-map}
 use Rattle.base.specs.Lists.{at}
-use Rattle.base.proofs.ListLaws.{each-at}
+use Rattle.base.proofs.ListLaws.{each-at, at-each}
+use Rattle.base.specs.Tests.{_≤?_}
+use Rattle.base.proofs.TestLaws.{le-holds, le-fails, Known, holds, fails, known}
 use Rattle.format.specs.Limits.{mostServers, mostIds}
 use Rattle.format.specs.Types.{Id, Action}
 use Rattle.format.specs.Range.{sameId}
 use Rattle.format.specs.Read.{idAt, actionAt}
 use Rattle.format.proofs.Ranges.{ActionRange}
 use Rattle.record.specs.Values.{idOf, slot}
+use Rattle.record.proofs.OnePass.{kept-set}
 use Rattle.replication.specs.Machine.Types.{Server, contextOf}
 use Rattle.replication.specs.Machine.WellFormed.{queue, idsIn}
 use Rattle.engine.specs.Layout.{slotSize, atQueueLength, atGreenLength, theQueue}
@@ -82,11 +87,19 @@ green-inside b s = omega (arith, such-header _ b s)
 
 -- ---- filled
 
--- The places before k were hinted at.
+below : (j k : ℕ) → j < k + 1 → (j ≡ k → ⊥) → j < k
+below j k l d = go (known (k ≤? j))
+  where
+    go : Known (k ≤? j) → j < k
+    go (holds h) = absurd (d (omega (arith, l, le-holds k j h)))
+    go (fails h) = le-fails k j h
+
+-- The actions before k have left their hints.
 pub record Filled (k : ℕ) (t b : List ℕ) : Type 0 where
   pub counts : CountsIn b
   pub size : length t ≡ mostIds
   pub high : k ≤ queueCount b
+  pub left : (j : ℕ) (a : Action) → at (queue (logIn b)) j ≡ some a → j < k → 0 < getD t (slot (a .id)) 0
 
 module _ (b : List ℕ) (s : HoldsSome b) where
   pub green-read : greenCount b ≡ length (logIn b .green)
@@ -98,13 +111,41 @@ module _ (b : List ℕ) (s : HoldsSome b) where
   queue-count = numbers (decoded b) b (such-decoded _ b s) .queue
 
   pub filled-start : (t : List ℕ) → t ≡ replicate {A = ℕ} mostIds 0 → Filled 0 t b
-  filled-start t f = record { counts = such-counts _ b s; size = ap length f ∙ length-replicate {A = ℕ} mostIds 0; high = omega arith }
+  filled-start t f = record {
+    counts = such-counts _ b s;
+    size = ap length f ∙ length-replicate {A = ℕ} mostIds 0;
+    high = omega arith;
+    left = λ j a e h. absurd (omega arith);
+  }
 
-  pub filled-again : (k p n : ℕ) (t : List ℕ) → Filled k t b → n ≡ numberAt 4 b atQueueLength → k < n → Filled (k + 1) (set t p k) b
-  filled-again k p n t f count h = record { counts = f .counts; size = length-set t p k ∙ f .size; high = omega arith }
+  pub filled-again : (k p n : ℕ) (t u : List ℕ) → Filled k t b → n ≡ numberAt 4 b atQueueLength → k < n → p ≡ slot (idIn b k) → p < mostIds
+      → u ≡ set t p (k + 1) → Filled (k + 1) u b
+  unfolding logIn
+  filled-again k p n t u f count h e l made = record {
+    counts = f .counts;
+    size = ap length made ∙ length-set t p (k + 1) ∙ f .size;
+    high = omega arith;
+    left = λ j a there low. subst (λ (v : List ℕ). 0 < getD v (slot (a .id)) 0) (sym made) (go j a there low (ℕ-discrete j k));
+  }
+    where
+      inside : p < length t
+      inside = omega (arith, f .size)
 
-  pub filled-end : (k : ℕ) (t : List ℕ) → Filled k t b → IndexedFrom 0 t b
-  filled-end k t f = record { holds = s; counts = f .counts; size = f .size; low = omega arith }
+      go : (j : ℕ) (a : Action) → at (queue ((decoded b) .log)) j ≡ some a → j < k + 1 → Dec (j ≡ k) → 0 < getD (set t p (k + 1)) (slot (a .id)) 0
+      go j a there low (no d) =
+          kept-set t p (slot (a .id)) (k + 1) inside (omega arith) (f .left j a there (below j k low d))
+      go j a there low (yes d) =
+          let same : p ≡ slot (a .id) = e ∙ ap slot (read-id (decoded b) b (such-decoded _ b s) k a (ap (at (queue ((decoded b) .log))) (sym d) ∙ there)) in
+          omega (arith, ap (λ (i : ℕ). getD (set t p (k + 1)) i 0) same, getD-set-same t p (k + 1) 0 inside)
+
+  pub filled-end : (k n : ℕ) (t : List ℕ) → Filled k t b → n ≡ numberAt 4 b atQueueLength → n ≤ k → IndexedFrom 0 t b
+  filled-end k n t f count h = record {
+    holds = s;
+    counts = f .counts;
+    size = f .size;
+    low = omega arith;
+    hinted = at-each _ (queue (logIn b)) (λ j a e. f .left j a e (omega (arith, at-low (queue (logIn b)) j a e, queue-count, count, h)));
+  }
 
 -- The code's number of green actions.
 pub indexed-green : (g : ℕ) (t b : List ℕ) → g ≡ numberAt 4 b atGreenLength → Indexed t b → IndexedFrom g t b

@@ -7,9 +7,10 @@ use mathlib.Core.List.{List, [], _∷_, _++_}
 use mathlib.Core.Option.{some}
 use borrow.Author.Tests.{not-false}
 use native.Mathlib.Omega.{arith}
-use lib.ListN.{length, set, length-append, length-set, drop, length-drop}
+use lib.ListN.{length, getD, set, length-append, length-set, drop, length-drop}
 use lib.Seq.{drop-at}
 use Rattle.base.specs.Bytes.{numberAt}
+use Rattle.base.proofs.ListLaws.{each-at, each-implied}
 use Rattle.base.specs.Lists.{at}
 use Rattle.base.specs.Tests.{_≤?_}
 use Rattle.base.proofs.TestLaws.{le-holds, le-fails, Known, holds, fails, known}
@@ -30,9 +31,11 @@ use Rattle.engine.specs.Decode.{actionsAt}
 use Rattle.queue.proofs.Positions.{position-found, position-most, actions-drop}
 use Rattle.queue.proofs.ReadLaws.{find-at, queue-read}
 use Rattle.install.specs.Swaps.{greenSwap, greenSwaps, greenAt}
-use Rattle.install.specs.Table.{logIn, Indexed, Turned, placeFrom}
+use Rattle.record.specs.Values.{slot}
+use Rattle.record.proofs.OnePass.{kept-set}
+use Rattle.install.specs.Table.{logIn, Hinted, IndexedFrom, Indexed, Turned, placeFrom}
 use Rattle.install.proofs.Places.{position-at, same-place}
-use Rattle.install.proofs.SwapFits.{Swap, unmoved, moved, swap?}
+use Rattle.install.proofs.SwapFits.{Swap, unmoved, moved, swap?, swap-each}
 use Rattle.install.proofs.Swapped.{swap-image}
 use Rattle.install.proofs.TableLaws.{read-at, read-id, green-read, queue-count, queue-once}
 use Rattle.install.proofs.Turning.{swaps-hold, indexed-by}
@@ -123,6 +126,15 @@ module _ (first : ℕ) (b : List ℕ) (holds-some : HoldsSome b) (first-most : f
   pub entry-low : (n : ℕ) → n ≡ numberAt 4 b atQueueLength → first ≤ n
   entry-low n e = omega (arith, first-most)
 
+-- An id without a hint is that of no action.
+pub entry-absent : (first : ℕ) (t b : List ℕ) (d : Id) (p k n : ℕ) → IndexedFrom first t b → p ≡ slot d → k ≡ getD t p 0 → k < 1
+    → n ≡ numberAt 4 b atQueueLength → n ≡ placeFrom first d b
+entry-absent first t b d p k n x e f h j =
+    j ∙ not-found first b (x .holds) (x .low) d (λ m. let z = found-there first b (x .holds) (x .low) d m in
+    let there : 0 < getD t (slot (z .0 .id)) 0 = each-at _ (queue (logIn b)) (placeFrom first d b) (z .0) (x .hinted) (z .1) in
+    let same : slot (z .0 .id) ≡ p = ap slot (sym (z .2)) ∙ sym e in
+    omega (arith, there, ap (λ (i : ℕ). getD t i 0) same))
+
 -- The search from `first` on.
 pub place-searched : (first : ℕ) (b : List ℕ) (d : Id) (a n p : ℕ) → HoldsSome b → first ≤ queueCount b → a ≡ place theQueue b → n ≡ numberAt 4 b atQueueLength
     → p ≡ position d (actionsAt (n - first) b (a + slotSize * first)) → first + p ≡ placeFrom first d b
@@ -158,12 +170,24 @@ turned-passed t b d k n g x i e f h = go (swap? d ((decoded b) .log))
         absurd (omega (arith, red-place b d g (x .holds) i, queue-count b (x .holds), queue-parts ((decoded b) .log), s .count, ap length (s .whole), length-append (s .before) (s .it ∷ s .behind)))
 
 pub turned-swapped : (t b t₂ t₁ b₁ : List ℕ) (d : Id) (k n g p q : ℕ) → Indexed t b → k ≡ placeFrom g d b → n ≡ numberAt 4 b atQueueLength → k < n
-    → g ≡ numberAt 4 b atGreenLength → b₁ ≡ greenAt k b → t₂ ≡ set t p k → t₁ ≡ set t₂ q g → Turned (d ∷ []) b t₁ b₁
+    → g ≡ numberAt 4 b atGreenLength → b₁ ≡ greenAt k b → p < mostIds → q < mostIds → t₂ ≡ set t p (k + 1) → t₁ ≡ set t₂ q (g + 1)
+    → Turned (d ∷ []) b t₁ b₁
 unfolding logIn greenSwaps
-turned-swapped t b t₂ t₁ b₁ d k n g p q x q₀ f h i made one two = go (swap? d ((decoded b) .log))
+turned-swapped t b t₂ t₁ b₁ d k n g p q x q₀ f h i made low₁ low₂ one two = go (swap? d ((decoded b) .log))
   where
     e : k ≡ length ((decoded b) .log .green) + position d ((decoded b) .log .red)
     e = q₀ ∙ red-place b d g (x .holds) i
+
+    size₂ : length t₂ ≡ mostIds
+    size₂ = ap length one ∙ length-set t p (k + 1) ∙ x .size
+
+    hinted : Hinted t₁ (queue (greenSwap d ((decoded b) .log)))
+    hinted =
+        each-implied _ _ (λ a v. subst (λ (u : List ℕ). 0 < getD u (slot (a .id)) 0) (sym two)
+        (kept-set t₂ q (slot (a .id)) (g + 1) (omega (arith, size₂)) (omega arith)
+        (subst (λ (u : List ℕ). 0 < getD u (slot (a .id)) 0) (sym one) (kept-set t p (slot (a .id)) (k + 1) (omega (arith, x .size)) (omega arith) v))))
+        (queue (greenSwap d ((decoded b) .log)))
+        (swap-each _ d ((decoded b) .log) (x .hinted))
 
     go : Swap d ((decoded b) .log) → Turned (d ∷ []) b t₁ b₁
     go (unmoved m y) = absurd (omega (arith, e, queue-count b (x .holds), queue-parts ((decoded b) .log)))
@@ -171,5 +195,4 @@ turned-swapped t b t₂ t₁ b₁ d k n g p q x q₀ f h i made one two = go (sw
         let w : Server = decoded b in
         let r : Holds w b = such-decoded _ b (x .holds) in
         let written : b₁ ≡ image (withLog (greenSwap d (w .log)) w) b = made ∙ ap (λ (z : ℕ). greenAt z b) e ∙ swap-image w b r d s in
-        let size : length t₁ ≡ mostIds = ap length two ∙ length-set t₂ q g ∙ ap length one ∙ length-set t p k ∙ x .size in
-        record { written = written; indexed = indexed-by _ b₁ t₁ (swaps-hold w b b₁ r (d ∷ []) written) size }
+        record { written = written; indexed = indexed-by _ b₁ t₁ (swaps-hold w b b₁ r (d ∷ []) written) (ap length two ∙ length-set t₂ q (g + 1) ∙ size₂) hinted }

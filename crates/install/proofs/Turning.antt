@@ -21,7 +21,7 @@ use Rattle.engine.proofs.InPlace.{such-decoded, holds-decoded, image-holds, hol
 use Rattle.queue.proofs.Holding.{log-formed, log-fits}
 use Rattle.queue.proofs.GreenLaws.{log-image-over}
 use Rattle.install.specs.Swaps.{greenSwaps}
-use Rattle.install.specs.Table.{logIn, Indexed, Turned}
+use Rattle.install.specs.Table.{logIn, Hinted, Indexed, Turned}
 use Rattle.install.proofs.SwapFits.{swaps-kept, swaps-fits, swaps-append}
 use Rattle.engine.proofs.Counts.{holds-counts}
 
@@ -84,5 +84,12 @@ turned-none b t r = record { written = sym (such-decoded _ b (r .holds) .written
 
 -- ---- a table by the state
 
-pub indexed-by : (s : Server) (b t : List ℕ) → Holds s b → length t ≡ mostIds → Indexed t b
-indexed-by s b t r size = record { holds = holds-some s b r; counts = holds-counts s b r; size = size; low = holds-counts s b r .green }
+pub indexed-by : (s : Server) (b t : List ℕ) → Holds s b → length t ≡ mostIds → Hinted t (queue (s .log)) → Indexed t b
+unfolding logIn
+indexed-by s b t r size left = record {
+  holds = holds-some s b r;
+  counts = holds-counts s b r;
+  size = size;
+  low = holds-counts s b r .green;
+  hinted = subst (λ (v : Server). Hinted t (queue (v .log))) (sym (holds-decoded s b r)) left;
+}

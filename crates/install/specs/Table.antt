@@ -3,11 +3,11 @@
 use Prim.Native.Nat.{ℕ, _+_, _*_, _≤_, _<_}
 use mathlib.Core.Path.{_≡_}
 use mathlib.Core.List.{List, map}
-use lib.ListN.{length, drop}
-use Rattle.base.specs.Lists.{above}
+use lib.ListN.{length, getD, drop}
+use Rattle.base.specs.Lists.{above, Each}
 use Rattle.format.specs.Limits.{mostServers, mostIds}
-use Rattle.format.specs.Types.{Id}
-use Rattle.record.specs.Values.{idOf}
+use Rattle.format.specs.Types.{Id, Action}
+use Rattle.record.specs.Values.{idOf, slot}
 use Rattle.replication.specs.Machine.Types.{Log, withLog}
 use Rattle.replication.specs.Machine.Colours.{cut}
 use Rattle.replication.specs.Machine.WellFormed.{queue}
@@ -45,13 +45,18 @@ pub record IdInside (at : ℕ) (b : List ℕ) : Type 0 where
   pub inside : at + idSize ≤ length b
   pub creator : numberAt 1 b at < mostServers
 
--- The buffer b holds a state, and the table t has a place for each id of its queue, in which actions from the place `first` on are sought. What
--- stands in the table does not matter.
+-- Each of these actions has left a hint in the table t.
+abbrev pub Hinted : List ℕ → List Action → Type 0
+Hinted t l = Each (λ a. 0 < getD t (slot (a .id)) 0) l
+
+-- The buffer b holds a state, and the table t has a hint to each action of its queue, in which actions from the place `first` on are sought. Which
+-- place a hint tells does not matter.
 pub record IndexedFrom (first : ℕ) (t b : List ℕ) : Type 0 where
   pub holds : HoldsSome b
   pub counts : CountsIn b
   pub size : length t ≡ mostIds
   pub low : first ≤ queueCount b
+  pub hinted : Hinted t (queue (logIn b))
 
 -- Red actions are sought.
 abbrev pub Indexed : (t b : List ℕ) → Type 0

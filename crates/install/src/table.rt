@@ -1,8 +1,8 @@
-// The table of places: at the place of an id, a hint to where in the queue its action stands. A hint is tested, and where it is wrong the queue is
-// searched from its front: so the answers do not rest on what the table has.
+// The table of places: at the place of an id, a hint to where in the queue its action stands, or 0 where no action of the queue has an id with
+// this place. A hint is tested, and where it is wrong the queue is searched.
 ghost use mathlib.Core.Path.{_≡_};
 ghost use mathlib.Core.List.{[], _∷_};
-ghost use Prim.Native.Nat.{_≤_, _<_};
+ghost use Prim.Native.Nat.{_+_, _≤_, _<_};
 ghost use lib.ListN.{set};
 ghost use Rattle.format.specs.Limits.{mostServers, mostIds};
 ghost use Rattle.record.specs.Values.{idOf, slot};
@@ -37,6 +37,14 @@ pub fn entry_at(state: &[u8], k: usize) -> usize
     entry(num8(state, at), num16(state, at + 1))
 }
 
+// A hint to the place k of the queue, for the id whose place in the table is p: one more than k.
+fn hint(places: &mut [u16; State::MOST_IDS], p: usize, k: usize)
+    requires { ⌜ (p < mostIds) × (k < mostIds) ⌝ }
+    ensures { λ _. ⌜ now (places .exit) ≡ set (now (places .entry)) p (k + 1) ⌝ }
+{
+    places[p] = (k + 1) as u16;
+}
+
 // The table of all actions.
 pub fn table(state: &[u8]) -> [u16; State::MOST_IDS]
     requires { ⌜ HoldsSome (now state) ⌝ }
@@ -46,8 +54,7 @@ pub fn table(state: &[u8]) -> [u16; State::MOST_IDS]
     let count = num32(state, State::AT_QUEUE_LENGTH) as usize;
     let mut k = 0;
     while k < count {
-        let p = entry_at(state, k);
-        places[p] = k as u16;
+        hint(&mut places, entry_at(state, k), k);
         k += 1;
     }
     places
@@ -98,15 +105,10 @@ pub fn place_in(
     ensures { λ r. ⌜ (r ≡ placeFrom first (idOf creator index) (now (state .entry))) × (first ≤ r) ⌝ }
 {
     let k = wider(places[entry(creator, index)]) as usize;
-    place_by(state, first, k, creator, index)
-}
-
-// A hint to the place k of the queue, for the id whose place in the table is p.
-fn hint(places: &mut [u16; State::MOST_IDS], p: usize, k: usize)
-    requires { ⌜ (p < mostIds) × (k < mostIds) ⌝ }
-    ensures { λ _. ⌜ now (places .exit) ≡ set (now (places .entry)) p k ⌝ }
-{
-    places[p] = k as u16;
+    if k < 1 {
+        return num32(state, State::AT_QUEUE_LENGTH) as usize;
+    }
+    place_by(state, first, k - 1, creator, index)
 }
 
 // The action with this id turns green if it is red: the lowest red one takes its place.

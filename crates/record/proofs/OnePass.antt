@@ -118,31 +118,32 @@ pass-starts c xs = sym (pass-law c [] xs ∙ ap (λ (u : Bool). idsInRange c xs 
 
 -- ---- the table
 
--- An id whose place is not set is none of those that set theirs.
-pub unmarked-new : (t : List ℕ) (x : Id) (bs : List Id) → Marked t bs → (getD t (slot x) 0 ≡ 1 → ⊥) → hasId x bs ≡ false
+-- An id whose place is 0 is none of those that set theirs.
+pub unmarked-new : (t : List ℕ) (x : Id) (bs : List Id) → Marked t bs → getD t (slot x) 0 ≡ 0 → hasId x bs ≡ false
 unfolding hasId _or_
 unmarked-new t x [] m n = refl
 unmarked-new t x (b ∷ bs) m n = go (known (sameId x b)) (unmarked-new t x bs (m .1) n)
   where
     go : Known (sameId x b) → hasId x bs ≡ false → (sameId x b or hasId x bs) ≡ false
-    go (holds e) i = absurd (n (ap (λ (p : ℕ). getD t p 0) (sym (same-slot x b e)) ∙ m .0))
+    go (holds e) i = absurd (omega (arith, m .0, ap (λ (p : ℕ). getD t p 0) (same-slot x b e), n))
     go (fails e) i = rw e i
 
-kept-set : (t : List ℕ) (p i : ℕ) → p < length t → getD t i 0 ≡ 1 → getD (set t p 1) i 0 ≡ 1
-kept-set t p i h e = go (ℕ-discrete i p)
+pub kept-set : (t : List ℕ) (p i v : ℕ) → p < length t → 0 < v → 0 < getD t i 0 → 0 < getD (set t p v) i 0
+kept-set t p i v h w e = go (ℕ-discrete i p)
   where
-    go : Dec (i ≡ p) → getD (set t p 1) i 0 ≡ 1
-    go (yes d) = ap (λ (j : ℕ). getD (set t p 1) j 0) d ∙ getD-set-same t p 1 0 h
-    go (no d) = getD-set-other t p i 1 0 d ∙ e
+    go : Dec (i ≡ p) → 0 < getD (set t p v) i 0
+    go (yes d) = omega (arith, ap (λ (j : ℕ). getD (set t p v) j 0) d, getD-set-same t p v 0 h)
+    go (no d) = omega (arith, getD-set-other t p i v 0 d)
 
-marked-on : (t : List ℕ) (p : ℕ) (bs : List Id) → p < length t → Marked t bs → Marked (set t p 1) bs
-marked-on t p [] h m = tt
-marked-on t p (b ∷ bs) h m = (kept-set t p (slot b) h (m .0), marked-on t p bs h (m .1))
+pub marked-on : (t : List ℕ) (p v : ℕ) (bs : List Id) → p < length t → 0 < v → Marked t bs → Marked (set t p v) bs
+marked-on t p v [] h w m = tt
+marked-on t p v (b ∷ bs) h w m = (kept-set t p (slot b) v h w (m .0), marked-on t p v bs h w (m .1))
 
-pub marked-last : (t : List ℕ) (x : Id) (bs : List Id) → getD t (slot x) 0 ≡ 1 → Marked t bs → Marked t (bs ++ (x ∷ []))
+pub marked-last : (t : List ℕ) (x : Id) (bs : List Id) → 0 < getD t (slot x) 0 → Marked t bs → Marked t (bs ++ (x ∷ []))
 marked-last t x [] e m = (e, tt)
 marked-last t x (b ∷ bs) e m = (m .0, marked-last t x bs e (m .1))
 
-pub marked-set : (t : List ℕ) (p : ℕ) (x : Id) (bs : List Id) → p ≡ slot x → p < length t → Marked t bs → Marked (set t p 1) (bs ++ (x ∷ []))
-marked-set t p x bs e h m =
-    marked-last (set t p 1) x bs (ap (λ (i : ℕ). getD (set t p 1) i 0) (sym e) ∙ getD-set-same t p 1 0 h) (marked-on t p bs h m)
+pub marked-set : (t : List ℕ) (p v : ℕ) (x : Id) (bs : List Id) → p ≡ slot x → p < length t → 0 < v → Marked t bs → Marked (set t p v) (bs ++ (x ∷ []))
+marked-set t p v x bs e h w m =
+    let here : getD (set t p v) (slot x) 0 ≡ v = ap (λ (i : ℕ). getD (set t p v) i 0) (sym e) ∙ getD-set-same t p v 0 h in
+    marked-last (set t p v) x bs (omega (arith, here)) (marked-on t p v bs h w m)

@@ -155,27 +155,28 @@ module _ (c : Context) (bs : List Id) (d : Id) (p : ℕ) (t : List ℕ) where
     size = refl;
   }
 
-  pub met-first : HasPlaces (c .servers) t → Marked t bs → p ≡ placeOf (contextOf c) d → p < mostIds → (getD t p 0 ≡ 1 → ⊥)
+  pub met-first : HasPlaces (c .servers) t → Marked t bs → p ≡ placeOf (contextOf c) d → p < mostIds → getD t p 0 ≤ 0
       → Met (contextOf c) bs d true t (set t p 1)
   met-first l m f g n =
       let z = place-in (contextOf c) d p (known (idOk (contextOf c) d)) f g in
-      let new : hasId d bs ≡ false = unmarked-new t d bs m (λ y. n (ap (λ (i : ℕ). getD t i 0) (z .1) ∙ y)) in
+      let none : getD t p 0 ≡ 0 = omega (arith, n) in
+      let new : hasId d bs ≡ false = unmarked-new t d bs m (ap (λ (i : ℕ). getD t i 0) (sym (z .1)) ∙ none) in
       record {
         answer = sym (both-yes _ _ (z .0) (ap not new));
-        marked = λ _. marked-set t p d bs (z .1) (place-there c d p t f g l) m;
+        marked = λ _. marked-set t p 1 d bs (z .1) (place-there c d p t f g l) (omega arith) m;
         size = length-set t p 1;
       }
 
 pub met-again : (c : Context) (bs : List Id) (p : ℕ) (t : List ℕ) (x y : ℕ) (e : List ℕ) (at : ℕ) (r : Bool) → Marked t bs → x ≡ numberAt 1 e at
     → y ≡ numberAt 2 e (at + 1)
-    → p ≡ placeOf (contextOf c) (idAt e at) → p < mostIds → getD t p 0 ≡ 1 → r ≡ hasId (idOf x y) bs → Met (contextOf c) bs (idAt e at) (not r) t t
+    → p ≡ placeOf (contextOf c) (idAt e at) → p < mostIds → 0 < getD t p 0 → r ≡ hasId (idOf x y) bs → Met (contextOf c) bs (idAt e at) (not r) t t
 unfolding idOf idAt
 met-again c bs p t x y e at r m a b f g n j =
     let d : Id = idAt e at in
     let z = place-in (contextOf c) d p (known (idOk (contextOf c) d)) f g in
     record {
       answer = and-yes _ _ _ (z .0) (ap not (j ∙ λ k. hasId (idOf (a k) (b k)) bs));
-      marked = λ _. marked-last t d bs (ap (λ (k : ℕ). getD t k 0) (sym (z .1)) ∙ n) m;
+      marked = λ _. marked-last t d bs (omega (arith, n, ap (λ (k : ℕ). getD t k 0) (z .1))) m;
       size = refl;
     }
 
@@ -188,7 +189,7 @@ ids-next w (suc k) e at =
     let z : at + w + w * k ≡ at + w * suc k = omega (arith, mul-suc w k) in
     ap (λ (l : List Id). idAt e at ∷ l) (ids-next w k e (at + w) ∙ ap (λ (p : ℕ). idsBy w k e (at + w) ++ (idAt e p ∷ [])) z)
 
-ids-last : (w k : ℕ) (e : List ℕ) (at : ℕ) → idsBy w (k + 1) e at ≡ idsBy w k e at ++ (idAt e (at + w * k) ∷ [])
+pub ids-last : (w k : ℕ) (e : List ℕ) (at : ℕ) → idsBy w (k + 1) e at ≡ idsBy w k e at ++ (idAt e (at + w * k) ∷ [])
 ids-last w k e at = ap (λ (m : ℕ). idsBy w m e at) (add-one k) ∙ ids-next w k e at
 
 pub record Along (w m : ℕ) (e : List ℕ) (at k here n : ℕ) (t : List ℕ) : Type 0 where

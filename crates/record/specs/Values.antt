@@ -1,6 +1,6 @@
 -- What the code's structs stand for.
 -- Assumes nothing.
-use Prim.Native.Nat.{ℕ, zero, suc, _+_, _*_, _%_, _≤_}
+use Prim.Native.Nat.{ℕ, zero, suc, _+_, _*_, _%_, _≤_, _<_}
 use mathlib.Core.Path.{_≡_}
 use mathlib.Core.Bool.{Bool, true, not}
 use mathlib.Core.List.{List, [], _∷_, _++_}
@@ -53,7 +53,8 @@ stateOf h cuts at ids start = record {
 }
 
 -- A table of ids has mostQuota places for each creator. The place of an id is a hint: ids of a creator whose indexes lie within one run of
--- mostQuota have places of their own, and those that lie farther apart may share one. So what stands at a place proves nothing of an id.
+-- mostQuota have places of their own, and those that lie farther apart may share one. So a place that is 0 tells that no id which has set its
+-- place is this one; what any other says has to be looked at.
 unfoldable pub slot : Id → ℕ
 slot d = d .creator * mostQuota + d .index % mostQuota
 
@@ -77,7 +78,7 @@ HasPlaces n t = n * mostQuota ≤ length t
 
 -- The ids xs have set their places in the table t.
 abbrev pub Marked : List ℕ → List Id → Type 0
-Marked t xs = Each (λ d. getD t (slot d) 0 ≡ 1) xs
+Marked t xs = Each (λ d. 0 < getD t (slot d) 0) xs
 
 -- The answer r to whether the id d, behind the ids xs, is in range and none of them. If it is, the table u has the places of all of them set;
 -- it is as long as the table t, which it was.

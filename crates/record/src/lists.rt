@@ -95,18 +95,18 @@ pub fn is_new(
     if State::MOST_IDS <= p {
         return false;
     }
-    if met[p] != 1 {
-        met[p] = 1;
-        return true;
+    if 0 < met[p] {
+        return !is_among(
+            e,
+            at,
+            step,
+            count,
+            num8(e, here),
+            num16(e, here + ActionHead::INDEX),
+        );
     }
-    !is_among(
-        e,
-        at,
-        step,
-        count,
-        num8(e, here),
-        num16(e, here + ActionHead::INDEX),
-    )
+    met[p] = 1;
+    true
 }
 
 // Whether the `count` ids, each at the front of `step` bytes from `at` on, are in range and differ: one pass. What stands in the table does not

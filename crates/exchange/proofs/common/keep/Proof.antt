@@ -1,23 +1,20 @@
 use native.Mathlib.Omega.{arith}
-use borrow.Author.Needs.{needs}
-use Rattle.exchange.proofs.KeepLaws.{Kept, sought-start, sought-again, sought-end}
 use Prim.Native.Nat.{_-_}
 use lib.ListN.{length}
 use Rattle.exchange.specs.Table.{soughtIn, isKept}
+use Rattle.exchange.proofs.KeepLaws.{Kept, sought-start, sought-again, sought-end}
+use borrow.Author.Needs.{needs}
 use Rattle.exchange.proofs.common.keep.Statement.{statement}
 use Rattle.exchange.proofs.common.keep.Tie as tie
 
 abbrev Inv-loop : tie.InvT-loop
-Inv-loop c first ids hints round table out₀ kept₀ j₀ out kept j = Kept (isKept (soughtIn ids first) round table) first 0 ids j kept (length out₀) out
+Inv-loop first ids round table out₀ kept₀ j₀ out kept j = Kept (isKept (soughtIn ids first) round table) first 0 ids j kept (length out₀) out
 
 abbrev μ-loop : tie.MeasureT-loop
-μ-loop c first ids hints round table out₀ kept₀ j₀ out kept j = ids - j
+μ-loop first ids round table out₀ kept₀ j₀ out kept j = ids - j
 
 loop-holds : tie.Need-loop-holds Inv-loop μ-loop
 loop-holds c = search (needs, sought-start)
-
-mul-keep-at : tie.Need-mul-keep-at Inv-loop μ-loop
-mul-keep-at c = search needs
 
 keep-at-requires : tie.Need-keep-at-requires Inv-loop μ-loop
 keep-at-requires c κs = search needs
@@ -44,7 +41,6 @@ keep-spec =
     Inv-loop
     μ-loop
     loop-holds
-    mul-keep-at
     keep-at-requires
     add-j
     loop-less

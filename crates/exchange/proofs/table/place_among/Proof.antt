@@ -1,4 +1,4 @@
-use Rattle.exchange.proofs.PlaceLaws.{among-read}
+use Rattle.exchange.proofs.PlaceLaws.{hint-right, among-read}
 use borrow.Author.Needs.{needs}
 use Rattle.exchange.proofs.table.place_among.Statement.{statement}
 use Rattle.exchange.proofs.table.place_among.Tie as tie
@@ -12,32 +12,17 @@ add-num16 c = search needs
 num16-requires : tie.Need-num16-requires
 num16-requires c κs = search needs
 
-place-at-requires : tie.Need-place-at-requires
-place-at-requires c κs = search needs
-
-search-requires : tie.Need-search-requires
-search-requires c κs = search needs
+is-there-requires : tie.Need-is-there-requires
+is-there-requires c κs = search needs
 
 returns : tie.Need-returns
-returns c = search (needs, among-read)
+returns c = search (needs, among-read, hint-right)
 
-mul-wider : tie.Need-mul-wider
-mul-wider c = search needs
-
-element-copy-out-wider : tie.Need-element-copy-out-wider
-element-copy-out-wider c = search needs
-
-wider-requires : tie.Need-wider-requires
-wider-requires c κs = search needs
-
-cast-search-from : tie.Need-cast-search-from
-cast-search-from c = search needs
-
-search-from-requires : tie.Need-search-from-requires
-search-from-requires c κs = search needs
+place-hinted-requires : tie.Need-place-hinted-requires
+place-hinted-requires c κs = search needs
 
 returns-2 : tie.Need-returns-2
-returns-2 c = search (needs, among-read)
+returns-2 c = search needs
 
 pub place-among-spec : {M : Type 1} → statement M
 place-among-spec =
@@ -46,12 +31,7 @@ place-among-spec =
     num8-requires
     add-num16
     num16-requires
-    place-at-requires
-    search-requires
+    is-there-requires
     returns
-    mul-wider
-    element-copy-out-wider
-    wider-requires
-    cast-search-from
-    search-from-requires
+    place-hinted-requires
     returns-2)

@@ -1,6 +1,6 @@
-use borrow.Author.Needs.{needs}
 use Prim.Native.Nat.{_-_}
 use Rattle.install.proofs.TableLaws.{count-inside, Filled, filled-start, filled-again, filled-end}
+use borrow.Author.Needs.{needs}
 use Rattle.install.proofs.table.table.Statement.{statement}
 use Rattle.install.proofs.table.table.Tie as tie
 
@@ -22,14 +22,8 @@ loop-holds c = search (needs, filled-start)
 entry-at-requires : tie.Need-entry-at-requires Inv-loop μ-loop
 entry-at-requires c κs = search needs
 
-cast-places : tie.Need-cast-places Inv-loop μ-loop
-cast-places c = search needs
-
-mul-places : tie.Need-mul-places Inv-loop μ-loop
-mul-places c = search needs
-
-array-write-places : tie.Need-array-write-places Inv-loop μ-loop
-array-write-places c = search needs
+hint-requires : tie.Need-hint-requires Inv-loop μ-loop
+hint-requires c κs = search needs
 
 add-k : tie.Need-add-k Inv-loop μ-loop
 add-k c = search needs
@@ -53,9 +47,7 @@ table-spec =
     cast-count
     loop-holds
     entry-at-requires
-    cast-places
-    mul-places
-    array-write-places
+    hint-requires
     add-k
     loop-less
     loop-again

@@ -12,15 +12,6 @@ returns c = search (needs, met-out)
 slice-read-if2 : tie.Need-slice-read-if2
 slice-read-if2 c = search (needs, place-there)
 
-slice-write-met : tie.Need-slice-write-met
-slice-write-met c = search (needs, place-there)
-
-same-length : tie.Need-same-length
-same-length c = search needs
-
-returns-2 : tie.Need-returns-2
-returns-2 c = search (needs, met-first)
-
 num8-requires : tie.Need-num8-requires
 num8-requires c κs = search needs
 
@@ -33,8 +24,17 @@ num16-requires c κs = search needs
 is-among-requires : tie.Need-is-among-requires
 is-among-requires c κs = search needs
 
+same-length : tie.Need-same-length
+same-length c = search needs
+
+returns-2 : tie.Need-returns-2
+returns-2 c = search (needs, met-again)
+
+slice-write-met : tie.Need-slice-write-met
+slice-write-met c = search (needs, place-there)
+
 returns-3 : tie.Need-returns-3
-returns-3 c = search (needs, met-again)
+returns-3 c = search (needs, met-first)
 
 pub is-new-spec : {M : Type 1} → statement M
 is-new-spec =
@@ -43,11 +43,11 @@ is-new-spec =
     place-at-requires
     returns
     slice-read-if2
-    slice-write-met
-    same-length
-    returns-2
     num8-requires
     add-num16
     num16-requires
     is-among-requires
+    returns-2
+    slice-write-met
+    same-length
     returns-3)
