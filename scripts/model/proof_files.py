@@ -60,8 +60,7 @@ def run_file(story, source):
     rows = '\n    ∷ '.join([row(e) for e in story.entries] + ['[]'])
     size = '%d events at %d servers with the quota %d' % (len(story.events()), story.servers, story.quota)
     return f'''-- A run of {size}, written by scripts/generate.py from {source}.
-{summary(story)}-- Assumes nothing.
-use Prim.Native.Nat.{{ℕ}}
+{summary(story)}use Prim.Native.Nat.{{ℕ}}
 use mathlib.Core.List.{{List, [], _∷_}}
 use Rattle.replication.specs.Audit.Witness.{{Witness}}
 use Rattle.examples.proofs.Records.{{sent}}
@@ -95,7 +94,6 @@ def recorded_file(story, source):
     """The run of a journal."""
     entries = '\n    ∷ '.join([entry(e) for e in story.entries] + ['[]'])
     return f'''-- {source}: {len(story.entries)} entries at {story.servers} servers with the quota {story.quota}.
--- Assumes nothing.
 use Prim.Native.Nat.{{ℕ}}
 use mathlib.Core.List.{{List, [], _∷_}}
 use Rattle.replication.specs.Runs.Run.{{event, crash, store, Run}}
@@ -124,7 +122,6 @@ strays = {places(story)}
 def audit_file(crate):
     """The run is allowed, and so its green lists and primary components agree."""
     return f'''-- The recorded run is allowed, but for its strays, and all agree.
--- Assumes nothing.
 use mathlib.Core.Path.{{_≡_, refl}}
 use mathlib.Core.Bool.{{true}}
 use Rattle.replication.specs.Runs.Strays.{{AllowedWithStraysUp}}
@@ -153,7 +150,6 @@ def refused_file(crate, fields):
     """The audit refuses the run, and these fields fail."""
     names = ' ∷ '.join(['"%s"' % f for f in fields] + ['[]'])
     return f'''-- The audit refuses the recorded run: these fields of `Allowed` fail.
--- Assumes nothing.
 use mathlib.Core.Path.{{refl}}
 use mathlib.Core.List.{{[], _∷_}}
 use Rattle.replication.specs.Runs.Strays.{{without}}
@@ -178,7 +174,6 @@ unfolding opened digit pairsOf hex run places witness rest passed
 ''' for k, name in enumerate(fields))
     together = ''.join('both-yes _ _ %s (' % name for name in fields) + 'refl' + ')' * len(fields)
     return f'''-- The recorded run is allowed, but for its strays, and all agree: a lemma for each field of `Allowed`.
--- Assumes nothing.
 use Prim.Native.Nat.{{ℕ}}
 use mathlib.Core.Path.{{_≡_, refl}}
 use mathlib.Core.Bool.{{Bool, true, false}}

@@ -1,5 +1,4 @@
 -- For the code: a test that is returned as it stands, and a branch on what a call answered.
--- Assumes nothing.
 use Prim.Native.Nat.{ℕ}
 use mathlib.Core.Path.{_≡_, refl, sym, _∙_}
 use mathlib.Core.Bool.{Bool, true, false, not}

@@ -1,5 +1,4 @@
 -- Laws of the numbers in bytes, over every width.
--- Assumes nothing.
 use Prim.Native.Nat.{ℕ, zero, suc, _+_, _*_, _/_, _%_, _^_, _≤_, _<_}
 use mathlib.Core.Path.{_≡_, refl, sym, ap, ap₂, _∙_}
 use mathlib.Core.Bool.{true}
@@ -144,26 +143,6 @@ bytes-nil i = omega arith
 pub bytes-cons : (b : ℕ) (e : List ℕ) → b < 256 → Bytes e → Bytes (b ∷ e)
 bytes-cons b e h k zero = h
 bytes-cons b e h k (suc i) = k i
-
-pub bytes-append : (x y : List ℕ) → Bytes x → Bytes y → Bytes (x ++ y)
-bytes-append [] y h k = k
-bytes-append (b ∷ x) y h k = bytes-cons b (x ++ y) (h 0) (bytes-append x y (λ i. h (suc i)) k)
-
--- Each part is bytes.
-abbrev pub BytesEach : List (List ℕ) → Type 0
-BytesEach [] = Unit {0}
-BytesEach (x ∷ xs) = Bytes x × BytesEach xs
-
-pub bytes-joined : (xs : List (List ℕ)) → BytesEach xs → Bytes (joined xs)
-unfolding joined
-bytes-joined [] h = bytes-nil
-bytes-joined (x ∷ xs) h = bytes-append x (joined xs) (h .0) (bytes-joined xs (h .1))
-
-pub bytes-small : (w v : ℕ) → Bytes (bytesOf w v)
-unfolding bytesOf
-bytes-small zero v = bytes-nil
-bytes-small (suc w) v =
-    bytes-append (bytesOf w (v / 256)) (v % 256 ∷ []) (bytes-small w (v / 256)) (bytes-cons (v % 256) [] (omega arith) bytes-nil)
 
 pub bytes-take : (m : ℕ) (e : List ℕ) → Bytes e → Bytes (take m e)
 bytes-take zero e h = bytes-nil

@@ -1,18 +1,16 @@
 -- How many of the numbers below p pass a test, where each of them names a member of a set and none is named twice.
--- Assumes nothing.
 use Prim.Native.Nat.{ℕ, zero, suc, _+_, _≤_, _<_, _/_, _%_, _^_}
 use mathlib.Core.Path.{_≡_, refl, sym, ap, subst, _∙_}
-use mathlib.Core.Bool.{Bool, true, false}
-use mathlib.Core.List.{List, [], _∷_, map, List·Memᴰ, List·Memᴰ·cases-cons, Memᴰ·map, Memᴰ·of-map}
+use mathlib.Core.Bool.{Bool, true}
+use mathlib.Core.List.{List, _∷_, map, List·Memᴰ, List·Memᴰ·cases-cons, Memᴰ·map, Memᴰ·of-map}
 use mathlib.Core.Logic.{_⊎_, inl, inr}
 use native.Mathlib.Nat.{pow-succ'}
 use native.Mathlib.Omega.{arith}
 use lib.Count.{ones, ones-step}
 use lib.ListN.{length, length-map}
-use Rattle.base.specs.Tests.{_=?_}
 use Rattle.base.specs.Counts.{one}
 use Rattle.base.specs.Sets.{inSet, size}
-use Rattle.base.proofs.TestLaws.{not-both, eq-yes, eq-no, Known, holds, fails, known}
+use Rattle.base.proofs.TestLaws.{eq-yes, eq-no, Known, holds, fails, known}
 use Rattle.base.proofs.CountLaws.{one-yes, one-no}
 use Rattle.base.proofs.SetLaws.{in-set-zero, in-set-suc}
 use Rattle.base.proofs.Distinct.{Distinct, included-length, distinct-map}

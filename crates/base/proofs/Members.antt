@@ -1,5 +1,4 @@
 -- Elements of lists: where filters and lists of options keep them, and where gathered ones come from.
--- Assumes nothing.
 use Prim.Native.Nat.{ℕ, zero, suc}
 use mathlib.Core.Path.{_≡_, refl, sym, ap, _∙_}
 use mathlib.Core.Bool.{Bool, true, false}

@@ -1,23 +1,17 @@
 -- The laws of a list with a part of it replaced by another of the same length.
--- Assumes nothing.
 use Prim.Native.Nat.{ℕ, zero, suc, _+_, _≤_, _<_, zero-le}
 use mathlib.Core.Path.{_≡_, refl, sym, ap, _∙_}
 use mathlib.Core.List.{List, [], _∷_, _++_, append-assoc, append-nil}
 use native.Mathlib.Nat.{zero-add}
 use native.Mathlib.Omega.{arith}
-use lib.ListN.{length, getD, take, drop, set, length-append, length-take, length-drop, List·getD-append, take-append-drop}
-use lib.Seq.{take-append-le, drop-append-le, length-take-le, take-at, drop-at, drop-length, getD-take, drop-drop, take-append-seam, take-set-le, sets, sets-eq, paste, paste-zero, paste-suc}
-use Rattle.base.specs.Bytes.{partAt}
+use lib.ListN.{length, getD, take, drop, set, length-append, length-take, length-drop, List·getD-append}
+use lib.Seq.{length-take-le, take-at, drop-at, drop-length, getD-take, drop-drop, take-set-le, sets, sets-eq, paste, paste-zero, paste-suc}
 use Rattle.base.specs.Patched.{patched}
 
 module _ {A : Type 0} where
   pub patched-length : (at : ℕ) (b s : List A) → at + length b ≤ length s → length (patched at b s) ≡ length s
   unfolding patched
   patched-length at b s h = simp (length-append, length-take, length-drop) (omega arith)
-
-  pub patched-before : (at : ℕ) (b s : List A) → at ≤ length s → take at (patched at b s) ≡ take at s
-  unfolding patched
-  patched-before at b s h = take-at (take at s) (b ++ drop (at + length b) s) at (length-take-le at s h)
 
   pub patched-from : (at : ℕ) (b s : List A) → at ≤ length s → drop at (patched at b s) ≡ b ++ drop (at + length b) s
   unfolding patched
@@ -93,26 +87,3 @@ module _ {A : Type 0} where
   pub lent-patched : (at n : ℕ) (b s : List A) → length b ≡ n → take at s ++ (b ++ drop n (drop at s)) ≡ patched at b s
   unfolding patched
   lent-patched at n b s e = rw (drop-drop, e)
-
--- the part itself
-pub patched-part : (at : ℕ) (b s : List ℕ) → at ≤ length s → partAt (length b) (patched at b s) at ≡ b
-unfolding partAt
-patched-part at b s h =
-    ap (λ (l : List ℕ). take (length b) l) (patched-from at b s h) ∙ take-append-seam b (drop (at + length b) s)
-
--- A part in front of it is as it was.
-part-within : (m at to : ℕ) (s : List ℕ) → at + m ≤ to → to ≤ length s → partAt m s at ≡ partAt m (take to s) at
-unfolding partAt
-part-within m at to s h l =
-    let front : at ≤ length (take to s) = omega (arith, length-take to s) in
-    let inside : m ≤ length (drop at (take to s)) = omega (arith, length-take to s, length-drop at (take to s)) in
-    ap (λ (z : List ℕ). take m (drop at z)) (sym (take-append-drop to s))
-    ∙ ap (take m) (drop-append-le at (take to s) (drop to s) front)
-    ∙ take-append-le m (drop at (take to s)) (drop to s) inside
-
-pub patched-in-front : (m at to : ℕ) (b s : List ℕ) → at + m ≤ to → to + length b ≤ length s → partAt m (patched to b s) at ≡ partAt m s at
-patched-in-front m at to b s h k =
-    let l : to ≤ length s = omega arith in
-    part-within m at to (patched to b s) h (omega (arith, patched-length to b s k))
-    ∙ ap (λ (z : List ℕ). partAt m z at) (patched-before to b s l)
-    ∙ sym (part-within m at to s h l)

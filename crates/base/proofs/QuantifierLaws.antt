@@ -1,5 +1,4 @@
 -- What the tests of all, some and each two elements of a list say of its places, and where filters and gathered lists keep elements.
--- Assumes nothing.
 use Prim.Native.Nat.{ℕ, zero, suc, _+_, _<_}
 use mathlib.Core.Path.{_≡_, refl, sym, ap, subst, _∙_}
 use mathlib.Core.Bool.{Bool, true, false}

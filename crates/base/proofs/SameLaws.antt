@@ -1,5 +1,4 @@
 -- The test that two lists of numbers are the same.
--- Assumes nothing.
 use Prim.Native.Nat.{ℕ}
 use mathlib.Core.Path.{_≡_, refl}
 use mathlib.Core.Bool.{true}

@@ -1,5 +1,4 @@
 -- Laws of sets of servers: members of a union, of a common part and of a set with one more, inclusion by members, bounds.
--- Assumes nothing.
 use Prim.Native.Nat.{ℕ, zero, suc, _<_, _/_, _%_, _^_, min, max}
 use mathlib.Core.Path.{_≡_, refl, sym, ap, ap₂, _∙_}
 use mathlib.Core.Bool.{Bool, true, false}

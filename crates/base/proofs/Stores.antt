@@ -1,12 +1,11 @@
 -- A list after stores and copies as code makes them: parts of it replaced.
--- Assumes nothing.
 use Prim.Native.Nat.{ℕ, _+_, _≤_, _<_}
-use mathlib.Core.Path.{_≡_, sym, ap, ap₂, _∙_}
+use mathlib.Core.Path.{_≡_, refl, sym, ap, ap₂, subst, _∙_}
 use mathlib.Core.List.{List, [], _∷_, _++_, append-nil, append-assoc}
 use native.Mathlib.Nat.{zero-add}
 use native.Mathlib.Omega.{arith}
 use native.Mathlib.Numerals.{add-one}
-use lib.ListN.{length, getD, take, drop, set, replicate, length-append, length-drop, length-replicate}
+use lib.ListN.{length, getD, take, drop, set, replicate, length-append, length-drop, length-replicate, take-append-drop}
 use lib.Seq.{take-all, getD-drop, length-take-le}
 use Rattle.base.specs.Bytes.{partAt, joined}
 use Rattle.base.specs.Patched.{patched}
@@ -73,21 +72,38 @@ unfolding joined
 two-blocks at m k b c s s₁ s₂ h e f g =
     next-block at (at + m) b c s s₁ s₂ (omega arith) e f (omega arith) ∙ rw append-nil
 
--- three, and five
-module _ (at : ℕ) (b c d s s₁ s₂ s₃ : List ℕ) (i j : ℕ) (h : at ≤ length s) (e : s₁ ≡ patched at b s) (f : s₂ ≡ patched i c s₁) (g : s₃ ≡ patched j d s₂)
-    (m : i ≡ at + length b) (n : j ≡ i + length c) where
-  three-joined : s₃ ≡ patched at ((b ++ c) ++ d) s
-  three-joined = next-block at j (b ++ c) d s s₂ s₃ h (next-block at i b c s s₁ s₂ h e f m) g (omega (arith, length-append b c))
+-- Blocks one after another: each is written at its place.
+abbrev pub written : List ℕ → List (List ℕ) → List ℕ → List ℕ
+written [] bs s = s
+written (k ∷ ks) [] s = s
+written (k ∷ ks) (b ∷ bs) s = written ks bs (patched k b s)
 
-  pub three-blocks : s₃ ≡ patched at (joined (b ∷ c ∷ d ∷ [])) s
-  unfolding joined
-  three-blocks = three-joined ∙ ap (λ (l : List ℕ). patched at l s) (simp (append-nil, append-assoc))
+-- The first place is `at`, and each other one is where the block before it ends.
+abbrev pub Next : ℕ → List ℕ → List (List ℕ) → Type 0
+Next at [] [] = Unit {0}
+Next at [] (b ∷ bs) = ⊥
+Next at (k ∷ ks) [] = ⊥
+Next at (k ∷ ks) (b ∷ bs) = (k ≡ at) × Next (k + length b) ks bs
 
-  pub five-blocks : (x y s₄ s₅ : List ℕ) (k l : ℕ) → s₄ ≡ patched k x s₃ → s₅ ≡ patched l y s₄ → k ≡ j + length d → l ≡ k + length x
-      → s₅ ≡ patched at (joined (b ∷ c ∷ d ∷ x ∷ y ∷ [])) s
-  unfolding joined
-  five-blocks x y s₄ s₅ k l p q u v =
-      let four : s₄ ≡ patched at (((b ++ c) ++ d) ++ x) s =
-      next-block at k ((b ++ c) ++ d) x s s₃ s₄ h three-joined p (omega (arith, length-append (b ++ c) d, length-append b c)) in
-      next-block at l (((b ++ c) ++ d) ++ x) y s s₄ s₅ h four q (omega (arith, length-append ((b ++ c) ++ d) x, length-append (b ++ c) d, length-append b c))
-      ∙ ap (λ (z : List ℕ). patched at z s) (simp (append-nil, append-assoc))
+-- They are one block, behind a that was written before.
+written-behind : (at : ℕ) (a : List ℕ) (ks : List ℕ) (bs : List (List ℕ)) (s : List ℕ) → at ≤ length s → Next (at + length a) ks bs
+    → written ks bs (patched at a s) ≡ patched at (a ++ joined bs) s
+unfolding joined
+written-behind at a [] [] s h n = ap (λ (l : List ℕ). patched at l s) (sym (append-nil a))
+written-behind at a [] (b ∷ bs) s h n = absurd n
+written-behind at a (k ∷ ks) [] s h n = absurd n
+written-behind at a (k ∷ ks) (b ∷ bs) s h n =
+    let place : k + length b ≡ at + length (a ++ b) = omega (arith, n .0, length-append a b) in
+    ap (λ (t : List ℕ). written ks bs t) (next-block at k a b s (patched at a s) (patched k b (patched at a s)) h refl refl (n .0))
+    ∙ written-behind at (a ++ b) ks bs s h (subst (λ (m : ℕ). Next m ks bs) place (n .1))
+    ∙ ap (λ (l : List ℕ). patched at l s) (append-assoc a b (joined bs))
+
+-- The law of n blocks: written one after another they are written as one.
+pub blocks-joined : (at : ℕ) (ks : List ℕ) (bs : List (List ℕ)) (s : List ℕ) → at ≤ length s → Next at ks bs → written ks bs s ≡ patched at (joined bs) s
+unfolding joined patched
+blocks-joined at [] [] s h n = let e : at + 0 ≡ at = omega arith in rw e (sym (take-append-drop at s))
+blocks-joined at [] (b ∷ bs) s h n = absurd n
+blocks-joined at (k ∷ ks) [] s h n = absurd n
+blocks-joined at (k ∷ ks) (b ∷ bs) s h n =
+    ap (λ (m : ℕ). written ks bs (patched m b s)) (n .0)
+    ∙ written-behind at b ks bs s h (subst (λ (m : ℕ). Next (m + length b) ks bs) (n .0) (n .1))

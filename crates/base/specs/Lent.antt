@@ -1,5 +1,4 @@
 -- A lent buffer, as a contract sees it.
--- Assumes nothing.
 use Prim.Native.Nat.{ℕ}
 use mathlib.Core.List.{List}
 use denote.Ref.{RefT}

@@ -6,5 +6,6 @@ pub mod Lists
 pub mod Counts
 pub mod Quantifiers
 pub mod Text
+pub mod Refusals
 pub mod Lent
 pub mod Opened

@@ -1,5 +1,4 @@
 -- One name for all definitions of this crate: whoever unfolds it unfolds them, so that closed instances compute.
--- Assumes nothing.
 use Prim.Native.Nat.{ℕ}
 use lib.Count.{ones}
 use Rattle.base.specs.Bytes.{areBytes, bytesOf, numberAt, numbersAt, partAt, joined, over, zeros, slot, zeroAt}

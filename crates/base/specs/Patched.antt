@@ -1,5 +1,4 @@
 -- A list with a part of it replaced by another of the same length.
--- Assumes nothing.
 use Prim.Native.Nat.{ℕ, _+_}
 use mathlib.Core.List.{List, _++_}
 use lib.ListN.{length, take, drop}

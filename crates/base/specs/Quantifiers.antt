@@ -1,5 +1,4 @@
 -- Tests of each two elements of a list, elements by a number of theirs, and the test that two options are the same.
--- Assumes nothing.
 use Prim.Native.Nat.{ℕ}
 use mathlib.Core.Bool.{Bool, true, false}
 use mathlib.Core.List.{List, [], _∷_}

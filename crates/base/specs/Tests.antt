@@ -1,5 +1,4 @@
 -- Tests of numbers, their conjunction, and a choice by a test. Each definition is rigid (not an abbreviation), so that a search can match it.
--- Assumes nothing.
 use Prim.Native.Nat.{ℕ}
 use mathlib.Core.Bool.{Bool, true, false}
 use lib.Dec.{eqb, leb, ltb}

@@ -1,5 +1,4 @@
 -- Text as bytes: names, and numbers in decimal.
--- Assumes nothing.
 use Prim.Native.Nat.{ℕ, zero, suc, _+_, _/_, _%_}
 use Prim.Native.Char.{code}
 use Prim.Native.String.{String}

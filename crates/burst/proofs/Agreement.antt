@@ -1,5 +1,4 @@
 -- Demand 3 on the buffers of daemons that take events by bursts, from that of daemons that take each event by the step.
--- Assumes nothing.
 use Prim.Native.Nat.{ℕ, suc, _+_, _≤_}
 use mathlib.Core.Path.{_≡_, refl, sym, ap, subst, _∙_}
 use mathlib.Core.List.{List, []}
@@ -10,14 +9,14 @@ use Rattle.base.specs.Lists.{at, Begins}
 use Rattle.replication.specs.Runs.Run.{event, Run, putOut, sentAt}
 use Rattle.replication.specs.Runs.Strays.{AllowedWithStraysUp}
 use Rattle.replication.specs.Runs.Claim.{ListsAgree}
-use Rattle.engine.specs.Decode.{greensIn}
-use Rattle.engine.specs.Outcome.{Result, refusal}
-use Rattle.buffers.specs.Buffers.{stepIn}
-use Rattle.buffers.specs.Sending.{cutRecords}
-use Rattle.buffers.specs.Daemons.{Daemons, Lending}
-use Rattle.buffers.specs.Claim.{shown, HeldBy, BuffersFollow, BuffersAgree, BuffersDemand}
-use Rattle.buffers.proofs.SendingLaws.{cut-short}
-use Rattle.buffers.proofs.Agreement.{buffers-demand}
+use Rattle.image.specs.Decode.{greensIn}
+use Rattle.image.specs.Outcome.{Result, refusal}
+use Rattle.daemons.specs.Buffers.{stepIn}
+use Rattle.daemons.specs.Sending.{cutRecords}
+use Rattle.daemons.specs.Daemons.{Daemons, Lending}
+use Rattle.daemons.specs.Claim.{shown, HeldBy, BuffersFollow, BuffersAgree, BuffersDemand}
+use Rattle.daemons.proofs.SendingLaws.{cut-short}
+use Rattle.daemons.proofs.Agreement.{buffers-demand}
 use Rattle.burst.specs.Burst.{Burst}
 use Rattle.burst.specs.Calls.{Call, together, before, last, refused, keptAt, placeOf, ranBy}
 use Rattle.burst.specs.Daemons.{burstIn, cameIn, LongEnoughFor, system, byPlaces, stepwise}

@@ -1,5 +1,4 @@
 -- A burst, as the code makes it.
--- Assumes nothing.
 use Prim.Native.Nat.{ℕ, zero, suc, _+_, _-_, _^_, _≤_, _<_}
 use mathlib.Core.Path.{_≡_, refl, sym, ap, subst, _∙_}
 use mathlib.Core.Bool.{Bool, true, false, not}
@@ -14,7 +13,7 @@ use mir.Val.{Fits}
 use Rattle.base.specs.Tests.{_and_, _=?_}
 use Rattle.base.proofs.TestLaws.{pick-eq, pick-ne}
 use Rattle.format.specs.Places.{lengthSize}
-use Rattle.engine.specs.Outcome.{Result, stepOn, stateNumber}
+use Rattle.image.specs.Outcome.{Result, stepOn, stateNumber}
 use Rattle.step.specs.declared.Answer.{Answer}
 use Rattle.step.specs.Answers.{answered}
 use Rattle.burst.specs.declared.BurstAnswer.{BurstAnswer}

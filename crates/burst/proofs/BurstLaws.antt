@@ -1,5 +1,4 @@
 -- A burst by what comes next, and by the step of the event that does.
--- Assumes nothing.
 use Prim.Native.Nat.{ℕ, suc, _+_}
 use mathlib.Core.Path.{_≡_, refl, sym, ap, _∙_}
 use mathlib.Core.Bool.{Bool, true, false}
@@ -9,7 +8,7 @@ use native.Mathlib.Omega.{arith}
 use native.Mathlib.Decide.{ℕ-discrete}
 use lib.ListN.{take, drop}
 use Rattle.base.proofs.TestLaws.{not-both, pick-yes, pick-no, pick-eq, pick-ne, tests}
-use Rattle.engine.specs.Outcome.{Result, stepOn}
+use Rattle.image.specs.Outcome.{Result, stepOn}
 use Rattle.burst.specs.declared.slices.Next.{Next}
 use Rattle.burst.specs.declared.slices.Next.the-variants.{Event, Stop}
 use Rattle.burst.specs.Burst.{nextOf, Burst, stopped, ended, behind, silent, afterStep, byNext, burstFrom}

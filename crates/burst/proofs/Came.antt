@@ -1,5 +1,4 @@
 -- The events that came by a burst, one after another.
--- Assumes nothing.
 use Prim.Native.Nat.{ℕ, _+_}
 use mathlib.Core.Path.{_≡_, refl, sym, ap, ap₂, _∙_}
 use mathlib.Core.Bool.{Bool, true, false}
@@ -10,8 +9,8 @@ use lib.Seq.{take-add, drop-drop}
 use Rattle.base.specs.Tests.{_and_, _=?_, pick}
 use Rattle.base.proofs.TestLaws.{eq-no, pick-ne, pick-either}
 use Rattle.base.proofs.Branches.{and-true, and-false}
-use Rattle.buffers.specs.Sending.{cutRecords}
-use Rattle.buffers.proofs.SendingLaws.{cut-short, cut-front}
+use Rattle.daemons.specs.Sending.{cutRecords}
+use Rattle.daemons.proofs.SendingLaws.{cut-short, cut-front}
 use Rattle.burst.specs.declared.slices.Next.the-variants.{Event, Stop}
 use Rattle.burst.specs.Burst.{nextOf}
 use Rattle.burst.specs.Calls.{nextEvent, cameBy}

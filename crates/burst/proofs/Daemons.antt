@@ -1,5 +1,4 @@
 -- Daemons that take events by bursts keep what daemons keep that take each by the step.
--- Assumes nothing.
 use Prim.Native.Nat.{ℕ, suc, _+_, _<_}
 use mathlib.Core.Path.{_≡_, refl, sym, ap, subst}
 use mathlib.Core.Bool.{Bool, true, false}
@@ -11,12 +10,12 @@ use Rattle.base.specs.Tests.{_=?_, pick}
 use Rattle.base.proofs.TestLaws.{pick-as, eq-holds, eq-fails, choices, Known, holds, fails, known}
 use Rattle.base.specs.Lists.{at, upd}
 use Rattle.replication.specs.Runs.Run.{Entry, event, crash, Run}
-use Rattle.engine.specs.Outcome.{Result, refusal, stepOn, stateNumber}
-use Rattle.engine.proofs.Refusals.{step-refused}
-use Rattle.buffers.specs.Buffers.{Buffers, sourceIn, stepIn, keptAfter}
-use Rattle.buffers.specs.Sending.{firstSize}
-use Rattle.buffers.specs.Daemons.{Daemons, Lending, LongEnough, daemonsAfter, daemonsAt}
-use Rattle.buffers.proofs.BufferLaws.{source-running}
+use Rattle.image.specs.Outcome.{Result, refusal, stepOn, stateNumber}
+use Rattle.image.proofs.Refusals.{step-refused}
+use Rattle.daemons.specs.Buffers.{Buffers, sourceIn, stepIn, keptAfter}
+use Rattle.daemons.specs.Sending.{firstSize}
+use Rattle.daemons.specs.Daemons.{Daemons, Lending, LongEnough, daemonsAfter, daemonsAt}
+use Rattle.daemons.proofs.BufferLaws.{source-running}
 use Rattle.burst.specs.declared.slices.Next.the-variants.{Event, Stop}
 use Rattle.burst.specs.Burst.{nextOf, Burst, stopped, ended, behind, silent, afterStep, burstFrom, burstAll, burstOn}
 use Rattle.burst.specs.Calls.{Call, together, before, last, refused, System, keptAt, placeOf, ranBy, callOf}

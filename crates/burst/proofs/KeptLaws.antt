@@ -1,6 +1,5 @@
 -- Buffers whose number is 0 keep it through a step, so the state is checked once; a refused event leaves any buffers, and a step that puts out nothing the
 -- outgoing one.
--- Assumes nothing.
 use Prim.Native.Nat.{ℕ}
 use mathlib.Core.Path.{_≡_, refl, sym, ap, subst}
 use mathlib.Core.Bool.{true}
@@ -12,13 +11,13 @@ use Rattle.base.proofs.TestLaws.{pick-either}
 use Rattle.base.specs.Bytes.{joined, over}
 use Rattle.replication.specs.Machine.Types.{Server, Outcome, refused, taken}
 use Rattle.replication.specs.Machine.Step.{step}
-use Rattle.engine.specs.Image.{image}
-use Rattle.engine.specs.Decode.{decoded, reads}
-use Rattle.engine.specs.Outcome.{Result, refusal, resultOf, stepOn, stateNumber}
-use Rattle.engine.proofs.ImageLaws.{image-reads}
-use Rattle.engine.proofs.Refusals.{Ready, number-read, zero-read, zero-ready, step-read, step-by-number}
-use Rattle.engine.proofs.Taken.{taken-ready}
-use Rattle.buffers.proofs.Keeping.{holds-long}
+use Rattle.image.specs.Image.{image}
+use Rattle.image.specs.Decode.{decoded, reads}
+use Rattle.image.specs.Outcome.{Result, refusal, resultOf, stepOn, stateNumber}
+use Rattle.image.proofs.ImageLaws.{image-reads}
+use Rattle.image.proofs.Refusals.{Ready, number-read, zero-read, zero-ready, step-read, step-by-number}
+use Rattle.image.proofs.Taken.{taken-ready}
+use Rattle.daemons.proofs.Keeping.{holds-long}
 
 ready-zero : (s : Server) (b o : List ℕ) → Ready s b o → stateNumber b o ≡ 0
 ready-zero s b o r =

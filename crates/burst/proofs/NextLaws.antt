@@ -1,5 +1,4 @@
 -- What comes next in a slice: as the code finds it, and what is known of an event that comes next.
--- Assumes nothing.
 use Prim.Native.Nat.{ℕ, _+_, _-_, _≤_, _<_}
 use mathlib.Core.Path.{_≡_, refl, sym, ap, subst, _∙_}
 use mathlib.Core.Bool.{Bool, true, false}
@@ -13,8 +12,8 @@ use Rattle.base.proofs.TestLaws.{not-both, pick-as, pick-yes, pick-no, pick-lt,
 use Rattle.base.specs.Bytes.{numberAt}
 use Rattle.base.proofs.BytesLaws.{number-front, number2}
 use Rattle.format.specs.Places.{lengthSize, atBody}
-use Rattle.buffers.specs.Buffers.{isRecovery}
-use Rattle.buffers.specs.Sending.{firstSize}
+use Rattle.daemons.specs.Buffers.{isRecovery}
+use Rattle.daemons.specs.Sending.{firstSize}
 use Rattle.burst.specs.declared.slices.Next.{Next}
 use Rattle.burst.specs.declared.slices.Next.the-variants.{Event, Stop}
 use Rattle.burst.specs.Burst.{cutShort, nextOf, EndsIn, stopNumber}

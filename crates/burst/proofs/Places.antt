@@ -1,6 +1,5 @@
 -- Calls one after another, whatever is kept: the places of their entries in the run, and that what is kept before a call is what the entries of the calls
 -- before it make one after another.
--- Assumes nothing.
 use Prim.Native.Nat.{ℕ, zero, suc, _+_, _≤_, _<_}
 use mathlib.Core.Path.{_≡_, refl, sym, ap, subst, _∙_}
 use mathlib.Core.List.{[], _∷_, _++_, append-nil}

@@ -1,6 +1,5 @@
 -- Calls to many servers, whatever each of them keeps: every call makes what its entries make one after another, and the steps of a burst's events
 -- answer as the burst does.
--- Assumes nothing.
 use Prim.Native.Nat.{ℕ, zero, suc, _+_, _<_}
 use mathlib.Core.Path.{_≡_, refl, sym, ap, subst, _∙_, fun-ext}
 use mathlib.Core.Bool.{Bool, true, false}
@@ -12,7 +11,7 @@ use Rattle.base.specs.Tests.{_=?_, pick}
 use Rattle.base.specs.Lists.{at, upd}
 use Rattle.base.proofs.AtLaws.{none-some, some-same, at-low, at-single, at-map, Upd, here, elsewhere, upd?, upd-here}
 use Rattle.replication.specs.Runs.Run.{Entry, event, crash, Run}
-use Rattle.buffers.specs.Sending.{firstSize}
+use Rattle.daemons.specs.Sending.{firstSize}
 use Rattle.burst.specs.Calls.{Call, alone, together, cameBy, eventsAt, System, keptAt, placeOf, ranBy, callOf}
 use Rattle.burst.proofs.Places.{entry-at, entry-call, StandsAt, stands-at, through, inside, kept-follows}
 use Rattle.burst.proofs.Came.{came-first}

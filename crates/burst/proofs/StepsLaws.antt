@@ -1,5 +1,4 @@
 -- A burst is its single steps one after another.
--- Assumes nothing.
 use Prim.Native.Nat.{ℕ, zero, suc, _+_, _<_}
 use mathlib.Core.Path.{_≡_, refl, sym, ap, subst, _∙_}
 use mathlib.Core.Bool.{Bool, true, false}
@@ -12,9 +11,9 @@ use Rattle.base.proofs.TestLaws.{pick-as, and-holds, eq-holds, eq-fails, eq-no,
 use Rattle.base.proofs.Branches.{and-true, and-false}
 use Rattle.base.specs.Bytes.{joined}
 use Rattle.base.specs.Lists.{Each}
-use Rattle.engine.specs.Outcome.{Result, refusal, stepOn, stateNumber}
-use Rattle.buffers.specs.Buffers.{isRecovery}
-use Rattle.buffers.specs.Sending.{firstSize}
+use Rattle.image.specs.Outcome.{Result, refusal, stepOn, stateNumber}
+use Rattle.daemons.specs.Buffers.{isRecovery}
+use Rattle.daemons.specs.Sending.{firstSize}
 use Rattle.burst.specs.declared.slices.Next.{Next}
 use Rattle.burst.specs.declared.slices.Next.the-variants.{Event, Stop}
 use Rattle.burst.specs.Burst.{nextOf, Burst, stopped, ended, behind, silent, afterStep, burstFrom, burstAll, burstOn}

@@ -1,6 +1,5 @@
 -- A burst of one server, whatever that keeps: the events that came by it, given one after another to the step, leave what the burst leaves, and their
 -- steps answer as the burst does.
--- Assumes nothing.
 use Prim.Native.Nat.{ℕ, zero, suc, _+_, _<_}
 use mathlib.Core.Path.{_≡_, refl, sym, ap, subst, _∙_}
 use mathlib.Core.Bool.{Bool, true, false}
@@ -13,7 +12,7 @@ use Rattle.base.specs.Tests.{_=?_, pick}
 use Rattle.base.proofs.TestLaws.{pick-either, pick-eq, pick-ne}
 use Rattle.base.specs.Lists.{at}
 use Rattle.base.proofs.AtLaws.{none-some, some-same}
-use Rattle.buffers.specs.Sending.{firstSize}
+use Rattle.daemons.specs.Sending.{firstSize}
 use Rattle.burst.specs.declared.slices.Next.the-variants.{Event, Stop}
 use Rattle.burst.specs.Burst.{nextOf}
 use Rattle.burst.specs.Calls.{before, last, refused}

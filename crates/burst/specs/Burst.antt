@@ -1,14 +1,14 @@
 -- Events that stand one behind another in one slice, taken in order: what comes next in it, and what a burst answers.
--- Assumes nothing.
 use Prim.Native.Nat.{ℕ, zero, suc, _+_, _≤_}
 use mathlib.Core.Bool.{Bool, true, false}
 use mathlib.Core.List.{List}
 use lib.ListN.{length, take, drop}
 use Rattle.base.specs.Tests.{_and_, _<?_, _=?_, pick}
+use Rattle.base.specs.Refusals.{badRecord}
 use Rattle.format.specs.Places.{lengthSize}
-use Rattle.engine.specs.Outcome.{Result, stepOn, stateNumber}
-use Rattle.buffers.specs.Buffers.{isRecovery}
-use Rattle.buffers.specs.Sending.{firstSize}
+use Rattle.image.specs.Outcome.{Result, stepOn, stateNumber}
+use Rattle.daemons.specs.Buffers.{isRecovery}
+use Rattle.daemons.specs.Sending.{firstSize}
 use Rattle.burst.specs.declared.BurstAnswer.{BurstAnswer}
 use Rattle.burst.specs.declared.slices.Next.{Next}
 use Rattle.burst.specs.declared.slices.Next.the-variants.{Event, Stop}
@@ -17,7 +17,7 @@ use Rattle.burst.specs.declared.slices.Next.the-variants.{Event, Stop}
 
 -- "one cut short by the slice's end is not taken: number 1 where it stands first, 0 behind a taken one"
 unfoldable pub cutShort : (first : Bool) → Next
-cutShort f = pick f (Stop 1) (Stop 0)
+cutShort f = pick f (Stop badRecord) (Stop 0)
 
 -- An event of so many bytes, or the number with which the burst stops; whether it would stand first. "An event ends where its two length bytes say";
 -- "a recovery is taken only where it stands first; behind another event the burst stops before it with 0".

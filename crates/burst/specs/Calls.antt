@@ -1,5 +1,4 @@
 -- Calls of daemons where one call may take several events: the run that they make, and what is kept before each of them.
--- Assumes nothing.
 use Prim.Native.Nat.{ℕ, zero, suc, _<_}
 use mathlib.Core.Path.{_≡_}
 use mathlib.Core.Bool.{Bool}
@@ -9,7 +8,7 @@ use lib.ListN.{length, take, drop}
 use Rattle.base.specs.Tests.{_≤?_, _=?_, pick}
 use Rattle.base.specs.Lists.{at}
 use Rattle.replication.specs.Runs.Run.{Entry, event, Run}
-use Rattle.buffers.specs.Sending.{cutRecords}
+use Rattle.daemons.specs.Sending.{cutRecords}
 use Rattle.burst.specs.Burst.{nextOf, byNext}
 
 -- One entry of the run by itself (an event by the step, a crash, a store); or events of one server, one behind another in one slice, by one burst,

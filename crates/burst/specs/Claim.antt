@@ -1,6 +1,5 @@
 -- Daemons that take events by bursts keep what daemons keep that take each event of the same run by the step: so what is proved of these holds of
 -- them.
--- Assumes nothing.
 use Prim.Native.Nat.{ℕ, suc, _+_, _≤_, _<_}
 use mathlib.Core.Path.{_≡_}
 use mathlib.Core.Bool.{false}
@@ -11,12 +10,12 @@ use Rattle.base.specs.Lists.{at, Begins}
 use Rattle.replication.specs.Runs.Run.{event, putOut, sentAt}
 use Rattle.replication.specs.Runs.Strays.{AllowedWithStraysUp}
 use Rattle.replication.specs.Runs.Claim.{ListsAgree, PrimariesAgree, IsPrimary}
-use Rattle.engine.specs.Decode.{greensIn}
-use Rattle.engine.specs.Outcome.{Result, refusal}
-use Rattle.buffers.specs.Buffers.{stepIn}
-use Rattle.buffers.specs.Sending.{cutRecords}
-use Rattle.buffers.specs.Daemons.{Daemons, Lending, LongEnough}
-use Rattle.buffers.specs.Claim.{primaryIn, shown, HeldBy}
+use Rattle.image.specs.Decode.{greensIn}
+use Rattle.image.specs.Outcome.{Result, refusal}
+use Rattle.daemons.specs.Buffers.{stepIn}
+use Rattle.daemons.specs.Sending.{cutRecords}
+use Rattle.daemons.specs.Daemons.{Daemons, Lending, LongEnough}
+use Rattle.daemons.specs.Claim.{primaryIn, shown, HeldBy}
 use Rattle.burst.specs.Burst.{Burst}
 use Rattle.burst.specs.Calls.{Call, together, IsStep, keptAt, placeOf, ranBy, callOf}
 use Rattle.burst.specs.Daemons.{burstIn, cameIn, LongEnoughFor, system, byPlaces, stepwise}

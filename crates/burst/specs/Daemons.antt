@@ -1,5 +1,4 @@
 -- Daemons that take several waiting events by one burst: what they keep before each of their calls.
--- Assumes nothing.
 use Prim.Native.Nat.{ℕ, _≤_, _<_}
 use mathlib.Core.Path.{_≡_}
 use mathlib.Core.Bool.{false}
@@ -9,10 +8,10 @@ use lib.ListN.{length, take}
 use Rattle.base.specs.Tests.{_=?_, pick}
 use Rattle.base.specs.Lists.{at, upd}
 use Rattle.replication.specs.Runs.Run.{crash, Run}
-use Rattle.engine.specs.Layout.{outLength}
-use Rattle.buffers.specs.Buffers.{Buffers, Lent, sourceIn}
-use Rattle.buffers.specs.Sending.{firstSize}
-use Rattle.buffers.specs.Daemons.{Daemons, Lending, daemonsAfter, daemonsAt}
+use Rattle.image.specs.Layout.{outLength}
+use Rattle.daemons.specs.Buffers.{Buffers, Lent, sourceIn}
+use Rattle.daemons.specs.Sending.{firstSize}
+use Rattle.daemons.specs.Daemons.{Daemons, Lending, daemonsAfter, daemonsAt}
 use Rattle.burst.specs.Burst.{Burst, burstOn}
 use Rattle.burst.specs.Calls.{Call, alone, together, cameBy, eventsAt, System, ranBy, callOf}
 

@@ -1,5 +1,4 @@
 -- A burst is its single steps one after another.
--- Assumes nothing.
 use Prim.Native.Nat.{ℕ, _≤_, _<_}
 use mathlib.Core.Path.{_≡_}
 use mathlib.Core.Bool.{Bool, true, false}
@@ -8,9 +7,9 @@ use lib.ListN.{length, take, drop}
 use Rattle.base.specs.Tests.{_and_, _=?_, pick}
 use Rattle.base.specs.Bytes.{joined}
 use Rattle.base.specs.Lists.{Each}
-use Rattle.engine.specs.Outcome.{Result, refusal, stepOn, stateNumber}
-use Rattle.buffers.specs.Buffers.{isRecovery}
-use Rattle.buffers.specs.Sending.{firstSize}
+use Rattle.image.specs.Outcome.{Result, refusal, stepOn, stateNumber}
+use Rattle.daemons.specs.Buffers.{isRecovery}
+use Rattle.daemons.specs.Sending.{firstSize}
 use Rattle.burst.specs.declared.slices.Next.the-variants.{Event, Stop}
 use Rattle.burst.specs.Burst.{nextOf, Burst, silent, burstOn}
 

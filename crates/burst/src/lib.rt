@@ -1,7 +1,7 @@
 // Events one behind another in one slice, over the lent buffers: the state is checked once.
 ghost use mathlib.Core.Path.{_≡_};
 ghost use Rattle.base.specs.Tests.{_and_, _=?_};
-ghost use Rattle.engine.specs.Outcome.{stateNumber};
+ghost use Rattle.image.specs.Outcome.{stateNumber};
 ghost use Rattle.burst.specs.Burst.{burstAll, burstOn, stoppedBehind, left};
 ghost use Rattle.burst.specs.Steps.{BurstIsSteps};
 ghost use Rattle.burst.specs.Claim.{BurstsFollow, BurstsAgree};
@@ -83,8 +83,7 @@ pub fn take_events(state: &mut [u8], events: &[u8], out: &mut [u8]) -> BurstAnsw
 }
 
 // Many events at one server: the state's own number first, then the events in their order.
-#[no_mangle]
-pub extern "C" fn guzbytor_burst(state: &mut [u8], events: &[u8], out: &mut [u8]) -> BurstAnswer
+pub fn burst(state: &mut [u8], events: &[u8], out: &mut [u8]) -> BurstAnswer
     ensures { λ r. ⌜ left r (now (state .exit)) (now (out .exit)) ≡ burstOn (now (state .entry)) (now (events .entry)) (now (out .entry)) ⌝ }
 {
     let number = state_number(state, out);

@@ -1,7 +1,8 @@
 // What comes next in a slice of events one behind another.
 ghost use mathlib.Core.Path.{_≡_};
-ghost use Rattle.buffers.specs.Buffers.{isRecovery};
+ghost use Rattle.daemons.specs.Buffers.{isRecovery};
 ghost use Rattle.burst.specs.Burst.{cutShort, nextOf, EndsIn, stopNumber};
+use base::refusals::BAD_RECORD;
 use octets::numbers::num16;
 use record::events::Event;
 use record::events::VERSION;
@@ -25,7 +26,11 @@ pub fn stop_number(n: Next) -> u32
 fn cut_short(first: bool) -> Next
     ensures { λ r. ⌜ r ≡ cutShort first ⌝ }
 {
-    if first { Next::Stop(1) } else { Next::Stop(0) }
+    if first {
+        Next::Stop(BAD_RECORD)
+    } else {
+        Next::Stop(0)
+    }
 }
 
 // What a record with no body has in its low length byte.

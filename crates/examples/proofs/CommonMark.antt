@@ -1,6 +1,5 @@
 -- An allowed run: servers 1 and 2 attempt a primary component, go down before they know how the attempt ended, come back, meet again, and make one.
 -- Both sent the mark of their attempt, so by rule (c) the marks are cleared.
--- Assumes nothing.
 use mathlib.Core.Path.{_≡_, refl}
 use mathlib.Core.Bool.{true, false}
 use mathlib.Core.List.{[], _∷_}

@@ -1,7 +1,6 @@
 -- Document 02, K4 (CornerRun, samples/sources/corner.story): a corner keyed while States are exchanged, a power cut before it is sent, and the corner
 -- green at all in the end; another keyed in Construct, and sent when Install leads to Reg_prim. samples/corner.bin is its input, samples/corner.txt its
 -- output.
--- Assumes nothing.
 use mathlib.Core.Path.{_≡_, refl}
 use mathlib.Core.Bool.{true}
 use mathlib.Core.List.{[], _∷_, map}

@@ -2,7 +2,6 @@
 -- States first reached: Exchange_states at 1, Construct at 6, Reg_prim at 15, Trans_prim at 22, Non_prim at 32, Exchange_actions at 42.
 -- Primary components first installed: 1 at 15, 2 at 55.
 -- Refused: none.
--- Assumes nothing.
 use Prim.Native.Nat.{ℕ}
 use mathlib.Core.List.{List, [], _∷_}
 use Rattle.replication.specs.Audit.Witness.{Witness}

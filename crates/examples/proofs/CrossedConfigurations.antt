@@ -1,7 +1,6 @@
 -- A run that Specifications 2.3 and 2.4 forbid, and in which one index is installed twice. Server 1 takes configuration 1, sends its State and goes down;
 -- back, it attempts a primary component with 2 in configuration 2, and installs it. Server 2 goes down with its mark, and then takes configuration 1,
 -- which came to 1 before configuration 2: the State that 1 sent there has no mark, so by rule (b) the mark is cleared, and 2 makes another with 0.
--- Assumes nothing.
 use Prim.Native.Nat.{ℕ}
 use mathlib.Core.Path.{_≡_, refl, ap}
 use mathlib.Core.List.{[], _∷_}

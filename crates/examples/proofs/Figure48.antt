@@ -1,7 +1,6 @@
 -- The thesis's figure 4.8 carried on to a full merge (Figure48Run, samples/sources/figure48.story): p, q and r part, p alone, q and r to s and t. Of five
 -- messages sent before, m1 is delivered in the regular configuration by all three and m2 by p alone; p delivers the rest in its transitional
 -- configuration, q and r m2 and m4 in theirs, without m3 and so without m5. What p turned green is yellow at q and r, and keeps its place.
--- Assumes nothing.
 use mathlib.Core.Path.{_≡_, refl}
 use mathlib.Core.Bool.{true}
 use mathlib.Core.List.{[], _∷_, map}

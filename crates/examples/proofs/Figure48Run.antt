@@ -2,7 +2,6 @@
 -- States first reached: Exchange_states at 1, Construct at 8, Reg_prim at 20, Non_prim at 25, Trans_prim at 38, Exchange_actions at 61.
 -- Primary components first installed: 1 at 20, 2 at 103, 3 at 184.
 -- Refused: none.
--- Assumes nothing.
 use Prim.Native.Nat.{ℕ}
 use mathlib.Core.List.{List, [], _∷_}
 use Rattle.replication.specs.Audit.Witness.{Witness}

@@ -1,6 +1,5 @@
 -- An allowed run of a daemon that takes several requests, stores once and then sends: two servers make a primary component, and server 1 takes three
 -- requests. The first one's record is sent, then the server goes down. Its store has all three: recovery enters them red.
--- Assumes nothing.
 use mathlib.Core.Path.{_≡_, refl}
 use mathlib.Core.Bool.{true}
 use mathlib.Core.List.{[], _∷_}

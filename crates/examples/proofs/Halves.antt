@@ -1,6 +1,5 @@
 -- Document 02, K1: an office of four that splits two and two, and meets again (HalvesRun, samples/sources/halves.story). samples/halves.bin is its
 -- input, samples/halves.txt its output.
--- Assumes nothing.
 use mathlib.Core.Path.{_≡_, refl}
 use mathlib.Core.Bool.{true}
 use Rattle.replication.specs.Replay.{replay}

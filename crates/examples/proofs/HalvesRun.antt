@@ -2,7 +2,6 @@
 -- States first reached: Exchange_states at 1, Construct at 8, Reg_prim at 24, Trans_prim at 42, Non_prim at 62, Exchange_actions at 79.
 -- Primary components first installed: 1 at 24, 2 at 53, 3 at 107.
 -- Refused: none.
--- Assumes nothing.
 use Prim.Native.Nat.{ℕ}
 use mathlib.Core.List.{List, [], _∷_}
 use Rattle.replication.specs.Audit.Witness.{Witness}

@@ -1,7 +1,6 @@
 -- An allowed run: three servers attempt a primary component. Server 0 installs it and sends an action; 1 and 2 are cut off before the last CPC and get
 -- it in their transitional configurations, and 1 the action too: it installs from Un. Server 2 goes on from Un with its mark. Then 0 and 1 meet, both
 -- with a valid yellow list, and the action turns green with the next primary component.
--- Assumes nothing.
 use mathlib.Core.Path.{_≡_, refl}
 use mathlib.Core.Bool.{true, false}
 use mathlib.Core.List.{[], _∷_}

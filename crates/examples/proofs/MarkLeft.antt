@@ -1,6 +1,5 @@
 -- An allowed run: three servers attempt a primary component. Server 0 installs it; 1 and 2 are cut off before the last CPC, which comes to them in their
 -- transitional configuration, and go on from Un with their marks. They meet without 0: nothing says whether 0 has installed, and the marks are left.
--- Assumes nothing.
 use mathlib.Core.Path.{_≡_, refl}
 use mathlib.Core.Bool.{true}
 use mathlib.Core.List.{[], _∷_}

@@ -1,5 +1,4 @@
 -- Document 02, K13, on closed runs: regular configurations that reach all their members, and what is delivered there, counted by computation.
--- Assumes nothing.
 use Prim.Native.Nat.{ℕ, suc, _+_, _<_, _^_}
 use mathlib.Core.Path.{_≡_, sym, ap, subst, _∙_}
 use mathlib.Core.Bool.{Bool, true, false, not}

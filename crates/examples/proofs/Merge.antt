@@ -1,7 +1,6 @@
 -- An allowed run: three servers make a primary component and an action green. Server 2 sends another and is cut off; 0 and 1 make the next primary
 -- component and a further action green. Server 1 goes down, which loses that green action, comes back and meets 0 and 2: what each lacks is resent,
 -- green and red, and the three make the third primary component, with all three actions green.
--- Assumes nothing.
 use mathlib.Core.Path.{_≡_, refl}
 use mathlib.Core.Bool.{true, false}
 use mathlib.Core.List.{[], _∷_}

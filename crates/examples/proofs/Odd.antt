@@ -1,7 +1,6 @@
 -- What an allowed run may do though a group layer seldom does (OddRun, samples/sources/odd.story): a recovery without a crash, transitional sets of one
 -- at servers that both stay up, a transitional configuration before any regular one, a configuration that reaches two of its three members, a request
 -- whose record is not sent. samples/odd.bin is its input, samples/odd.txt its output.
--- Assumes nothing.
 use mathlib.Core.Path.{_≡_, refl}
 use mathlib.Core.Bool.{true}
 use mathlib.Core.List.{[], _∷_, map}

@@ -2,7 +2,6 @@
 -- States first reached: Exchange_states at 1, Construct at 6, Reg_prim at 18, Non_prim at 26, Trans_prim at 27, Exchange_actions at 45.
 -- Primary components first installed: 1 at 18, 2 at 63, 3 at 91.
 -- Refused: none.
--- Assumes nothing.
 use Prim.Native.Nat.{ℕ}
 use mathlib.Core.List.{List, [], _∷_}
 use Rattle.replication.specs.Audit.Witness.{Witness}

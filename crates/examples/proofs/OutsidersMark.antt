@@ -1,7 +1,6 @@
 -- An allowed run: server 2 attempts a primary component with 1 and goes down; 1, who knows nothing of it, makes one with 0; server 2 comes back with
 -- its mark and meets 0. The primary component that 0 knows is later than the mark and without 2, so by rule (a) the mark is cleared. Server 0 is
 -- half of that component's members and the lowest-numbered one: with 2 it makes the next.
--- Assumes nothing.
 use mathlib.Core.Path.{_≡_, refl}
 use mathlib.Core.Bool.{true, false}
 use mathlib.Core.List.{[], _∷_}

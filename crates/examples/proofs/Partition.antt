@@ -1,7 +1,6 @@
 -- A run at three servers that reaches all eight states (PartitionRun, samples/sources/partition.story): partitions, merges, a crash whose recovery enters an
 -- action of the own list, four primary components, one of them installed from Un too. It is allowed with strays, which are its events refused 5 or 6.
 -- samples/partition.bin is its input, samples/partition.txt its output.
--- Assumes nothing.
 use mathlib.Core.Path.{_≡_, refl}
 use mathlib.Core.Bool.{true}
 use Rattle.replication.specs.Replay.{replay}

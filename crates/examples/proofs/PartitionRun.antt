@@ -2,7 +2,6 @@
 -- States first reached: Exchange_states at 1, Construct at 12, Reg_prim at 23, Trans_prim at 33, Non_prim at 51, Exchange_actions at 61, No at 85, Un at 88.
 -- Primary components first installed: 1 at 23, 2 at 47, 3 at 84, 4 at 119.
 -- Refused: 1 at 68; 2 at 15; 3 at 126; 5 at 4, 11, 30; 6 at 22, 43.
--- Assumes nothing.
 use Prim.Native.Nat.{ℕ}
 use mathlib.Core.List.{List, [], _∷_}
 use Rattle.replication.specs.Audit.Witness.{Witness}

@@ -1,8 +1,7 @@
 -- Short names for the records of the runs.
--- Assumes nothing.
 use Prim.Native.Nat.{ℕ}
 use mathlib.Core.List.{List, []}
-use Rattle.format.specs.Types.{Id, Action, Primary, Mark, Yellow, State}
+use Rattle.format.specs.Types.{Id, Action, Primary, component, Mark, Yellow, State}
 use Rattle.replication.specs.Runs.Happenings.{Message}
 
 -- The record `number` of those sent at a place.
@@ -16,7 +15,7 @@ abbrev pub made : (creator index greenLength : ℕ) (payload : List ℕ) → Act
 made c i g p = record { id = named c i; greenLength = g; payload = p }
 
 abbrev pub primary : (index attempt set : ℕ) → Primary
-primary i a s = record { index = i; attempt = a; set = s }
+primary i a s = component i a s
 
 abbrev pub unmarked : Mark
 unmarked = record { status = 0; index = 0; attempt = 0; set = 0; bits = 0 }

@@ -1,5 +1,4 @@
 -- Runs that are refused, one for each of document 01's own sentences, and the tests that they fail.
--- Assumes nothing.
 use mathlib.Core.Path.{refl}
 use mathlib.Core.List.{[], _∷_}
 use Rattle.format.specs.Types.{action, state, regular, transitional, request, recovery}

@@ -1,6 +1,5 @@
 -- Three depots together, apart, one down, and together again (ReunionRun, samples/sources/reunion.story). samples/reunion.bin is its input,
 -- samples/reunion.txt its output.
--- Assumes nothing.
 use mathlib.Core.Path.{_≡_, refl}
 use mathlib.Core.Bool.{true}
 use Rattle.replication.specs.Replay.{replay}

@@ -1,5 +1,4 @@
 -- A run as rows: events in hexadecimal, with the lines that they print, and crashes.
--- Assumes nothing.
 use Prim.Native.Nat.{ℕ, _+_, _-_, _*_}
 use Prim.Native.String.{String}
 use mathlib.Core.List.{List, [], _∷_, _++_}

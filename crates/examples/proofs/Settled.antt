@@ -1,6 +1,5 @@
 -- Document 02, K13, is met: regular configurations of allowed runs that reach all their members and are quorums, with what is asked for in each. A
 -- member is in Reg_prim with the delivery that completes it, and before that in Construct.
--- Assumes nothing.
 use mathlib.Core.Path.{_≡_, refl}
 use mathlib.Core.Bool.{true, false}
 use mathlib.Core.List.{[], _∷_, map, List·Memᴰ, List·Memᴰ·head, List·Memᴰ·tail}

@@ -1,5 +1,4 @@
 -- What a run shows: the state of each entry's server after it, the primary components installed, and how marks are judged.
--- Assumes nothing.
 use Prim.Native.Nat.{ℕ}
 use Prim.Native.String.{String}
 use mathlib.Core.Path.{_≡_, refl, subst}

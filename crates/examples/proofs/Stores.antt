@@ -1,6 +1,5 @@
 -- An allowed run with stores between events: two servers make a primary component and an action green. Server 0 stores; server 1 takes a request whose
 -- record is not sent, stores once more, and goes down. Server 0 goes down too: what was green in its store keeps its place.
--- Assumes nothing.
 use mathlib.Core.Path.{_≡_, refl}
 use mathlib.Core.Bool.{true}
 use mathlib.Core.List.{[], _∷_}

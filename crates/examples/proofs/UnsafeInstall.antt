@@ -1,6 +1,5 @@
 -- A run that Specification 7.1 forbids, and in which one index is installed twice. Server 0 delivers both CPCs in the configuration of 0 and 1 and installs;
 -- server 1 leaves that configuration without 0's CPC, clears its mark, and makes another primary component with 2.
--- Assumes nothing.
 use Prim.Native.Nat.{ℕ}
 use mathlib.Core.Path.{_≡_, refl, sym, ap, subst, _∙_}
 use mathlib.Core.Bool.{Bool, true, not}

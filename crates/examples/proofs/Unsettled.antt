@@ -1,5 +1,4 @@
 -- Document 02, K13, where one premise fails: members that have all States and the planned retransmissions, and yet are not in Reg_prim.
--- Assumes nothing.
 use mathlib.Core.Path.{_≡_, refl}
 use mathlib.Core.Bool.{true, false}
 use mathlib.Core.List.{[], _∷_, map}

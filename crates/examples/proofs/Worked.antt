@@ -1,5 +1,4 @@
 -- Document 01, 'What `replay` prints': the worked example, byte for byte. samples/worked.bin is its input, samples/worked.txt its output.
--- Assumes nothing.
 use Prim.Native.Nat.{ℕ}
 use mathlib.Core.Path.{_≡_, refl}
 use mathlib.Core.List.{List, [], _∷_}

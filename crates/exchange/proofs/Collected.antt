@@ -1,5 +1,4 @@
 -- The collected States of a state are those in the slots of the buffer that holds it.
--- Assumes nothing.
 use Prim.Native.Nat.{ℕ, zero, suc, _+_}
 use mathlib.Core.Path.{_≡_, refl, sym, ap, _∙_}
 use mathlib.Core.Bool.{Bool, true, false}
@@ -13,13 +12,12 @@ use Rattle.base.specs.Sets.{inSet}
 use Rattle.format.specs.Read.{stateAt}
 use Rattle.replication.specs.Machine.Types.{Server}
 use Rattle.replication.specs.Machine.Step.{collected}
-use Rattle.engine.specs.Layout.{stateSize, theStates, offset}
-use Rattle.engine.specs.Image.{senders}
-use Rattle.engine.specs.Decode.{statesAt, decoded, decodedAs, serversIn, quotaIn}
-use Rattle.engine.specs.Header.{headerOf, headerIn}
-use Rattle.engine.proofs.HeaderLaws.{header-loaded}
-use Rattle.engine.proofs.ImageLaws.{decoded-image}
-use Rattle.engine.specs.Holding.{Holds}
+use Rattle.image.specs.Layout.{stateSize, theStates, offset}
+use Rattle.image.specs.Decode.{statesAt, decoded, decodedAs, serversIn, quotaIn}
+use Rattle.image.specs.Header.{headerOf, headerIn, senders}
+use Rattle.image.proofs.HeaderLaws.{header-loaded}
+use Rattle.image.proofs.ImageLaws.{decoded-image}
+use Rattle.image.specs.Holding.{Holds}
 use Rattle.exchange.specs.Slots.{slotsOf, slotsIn, slotAt, stateIn, statesFrom, statesOf}
 
 present-pick : {A : Type 0} (t : Bool) (x : A) (l : List (Option A)) → present (pick t (some x) none ∷ l) ≡ pick t (x ∷ present l) (present l)

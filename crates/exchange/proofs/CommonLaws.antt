@@ -1,5 +1,4 @@
 -- The ids common to the yellow lists that count.
--- Assumes nothing.
 use Prim.Native.Nat.{ℕ, zero, suc, _+_, _*_, _-_, _≤_, _<_}
 use mathlib.Core.Path.{_≡_, refl, sym, ap, subst, _∙_}
 use mathlib.Core.Bool.{Bool, true, false}
@@ -12,7 +11,6 @@ use Rattle.base.proofs.Branches.{or-yes}
 use Rattle.base.proofs.Over.{rest-whole}
 use Rattle.base.specs.Lists.{all, filter, Each}
 use Rattle.base.proofs.ListLaws.{replicate-at}
-use Rattle.base.specs.Sets.{inSet}
 use Rattle.format.specs.Types.{Id, State, Yellow}
 use Rattle.format.specs.Range.{sameId, hasId, idsDiffer}
 use Rattle.format.specs.Read.{idAt, idsAt}
@@ -125,9 +123,6 @@ fits-inside v b o f k l t = f k l t .inside
 pub first-fits : (v : Slots) (b o : List ℕ) (k : ℕ) → ListsFit v b o → First v k → k < v .servers → ListFits v b o k
 unfolding ListsFit
 first-fits v b o k f r h = f k h (r .there h)
-
-pub first-inside : (v : Slots) (b o : List ℕ) (k : ℕ) → ListsFit v b o → First v k → k < v .servers → ListInside v b k
-first-inside v b o k f r h = first-fits v b o k f r h .inside
 
 pub first-short : (v : Slots) (b o : List ℕ) (k : ℕ) (x : StateHead) → ListsFit v b o → First v k → k < v .servers
     → x ≡ headOf v b k

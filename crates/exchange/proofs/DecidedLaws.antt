@@ -1,5 +1,4 @@
 -- The decisions read from a buffer that holds a state are the machine's.
--- Assumes nothing.
 use Prim.Native.Nat.{ℕ, _*_, _≤_, _<_}
 use mathlib.Core.Path.{_≡_, refl, sym, ap, ap₂, subst, _∙_}
 use mathlib.Core.Bool.{Bool}
@@ -10,22 +9,22 @@ use lib.ListN.{length}
 use Rattle.format.specs.Limits.{mostIds}
 use Rattle.base.specs.Bytes.{numberAt}
 use Rattle.base.specs.Sets.{inside}
-use Rattle.format.specs.Types.{State, Context as FormatContext}
-use Rattle.record.specs.Context.{contextOf as formatContext, readingContext, lastOf as lastSet, ContextIn}
-use Rattle.record.specs.Values.{componentOf, primaryOf, markOf}
+use Rattle.format.specs.Types.{State}
+use Rattle.record.specs.Context.{readingContext, ContextIn}
+use Rattle.record.specs.Values.{primaryOf, markOf, lastOf}
 use Rattle.record.specs.declared.Context.{Context}
 use Rattle.record.specs.declared.LastPrimary.{LastPrimary}
 use Rattle.record.specs.declared.Mark.{Mark}
 use Rattle.record.specs.declared.State.{State as Numbers}
-use Rattle.replication.specs.Machine.Types.{Configuration, Server, contextOf, setOf as setIn}
+use Rattle.replication.specs.Machine.Types.{Configuration, Server, contextOf}
 use Rattle.replication.specs.Machine.Plan.{highest, lowest, resender, planned, isMe, cutIn, greenIn}
 use Rattle.replication.specs.Machine.Exchange.{takenPrimary, takenAttempt, takenYellow, ownMark, quorum, takenVotes}
 use Rattle.replication.specs.Machine.Step.{theSet, hereSet, collected, allStatesIn, allCpcsIn, plannedNow}
-use Rattle.engine.specs.Layout.{SizesIn, atMe, atConfigurationSet, atStates, atCpcs}
-use Rattle.engine.specs.Header.{headerOf, headerIn, statusOf, lastOf, markNumbers, setOf}
-use Rattle.engine.proofs.HeaderLaws.{header-loaded}
-use Rattle.engine.specs.Holding.{Holds, HoldsSuch, Computes}
-use Rattle.engine.proofs.InRange.{in-range}
+use Rattle.image.specs.Layout.{SizesIn, atMe, atConfigurationSet, atStates, atCpcs}
+use Rattle.image.specs.Header.{headerOf, headerIn, markNumbers, setOf}
+use Rattle.image.proofs.HeaderLaws.{header-loaded}
+use Rattle.image.specs.Holding.{Holds, HoldsSuch, Computes}
+use Rattle.image.proofs.InRange.{in-range}
 use Rattle.exchange.specs.declared.slots.Slots.{Slots}
 use Rattle.exchange.specs.declared.plan.Number.the-variants.{Green, Cut}
 use Rattle.exchange.specs.declared.decided.Part.{Part}
@@ -46,15 +45,6 @@ set-same : (d : Option Configuration) → setOf d ≡ theSet d
 unfolding setOf theSet
 set-same none = refl
 set-same (some d) = refl
-
-last-same : (d : Option Configuration) → lastSet (statusOf d) (setOf d) ≡ setIn d
-unfolding lastSet statusOf setOf setIn
-last-same none = refl
-last-same (some d) = refl
-
-context-same : (s : Server) → formatContext (readingContext (headerOf s)) ≡ contextOf s
-unfolding formatContext readingContext headerOf contextOf
-context-same s = λ i. record { servers = s .servers; quota = s .quota; self = s .me; last = last-same (s .membership .configuration) i }
 
 module _ (s : Server) (b : List ℕ) (h : Holds s b) where
   own-read : numberAt 1 b atMe ≡ s .me
@@ -157,7 +147,7 @@ module _ (b : List ℕ) (v : Slots) (held : Computes slotsIn b v) where
       → markOf m ≡ ownMark me (statesOf v b) (statesOf v b) → a ≡ takenAttempt (statesOf v b) → y ≡ takenYellow (statesOf v b) .status
       → Computes {A = TakenVotes} (λ s. votesNumbers (takenVotes (s .me) (collected s))) b
       (record { last = p; attempt = record { 0 = a }; mark = m; «yellow_status» = y })
-  unfolding votesNumbers takenVotes lastOf markNumbers primaryOf componentOf markOf
+  unfolding votesNumbers takenVotes lastOf markNumbers primaryOf markOf
   votes-told me a y p m e i j k l s h =
       (λ z. record { last = lastOf (i z); attempt = record { 0 = k z }; mark = markNumbers (j z); «yellow_status» = l z })
       ∙ ap₂ {A = ℕ} {B = List State} {C = TakenVotes} (λ n xs. votesNumbers (takenVotes n xs)) (e ∙ own-read s b h) (states-held s h)

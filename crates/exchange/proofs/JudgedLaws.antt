@@ -1,5 +1,4 @@
 -- What is left of each mark, and the quorum.
--- Assumes nothing.
 use Prim.Native.Nat.{ℕ, zero, suc, _+_, _-_, _≤_, _<_}
 use mathlib.Core.Path.{_≡_, refl, sym, ap, _∙_}
 use mathlib.Core.Bool.{Bool, true, false, not}
@@ -14,7 +13,7 @@ use Rattle.base.specs.Lists.{any}
 use Rattle.base.specs.Sets.{inSet, inside}
 use Rattle.format.specs.Limits.{mostIndex}
 use Rattle.format.specs.Types.{State, Primary, Mark as FormatMark}
-use Rattle.record.specs.Values.{componentOf, primaryOf, markOf}
+use Rattle.record.specs.Values.{primaryOf, markOf}
 use Rattle.record.specs.declared.LastPrimary.{LastPrimary}
 use Rattle.record.specs.declared.Mark.{Mark}
 use Rattle.record.specs.declared.StateHead.{StateHead}
@@ -197,7 +196,7 @@ module _ (xs : List State) (p : LastPrimary) (here : ℕ) (u : Bool) (e : primar
     most = f ∙ ap (λ (y : Primary). linearVote y here) e
 
     index : p .index .0 ≡ takenPrimary xs .index
-    unfolding primaryOf componentOf
+    unfolding primaryOf
     index = ap (λ (y : Primary). y .index) e
 
     pub quorum-few : not w ≡ true → false ≡ quorum xs here

@@ -1,5 +1,4 @@
 -- The yellow lists in the slots: where a buffer holds a state, they fit and their ids are in range.
--- Assumes nothing.
 use Prim.Native.Nat.{ℕ, _*_, _≤_, _<_}
 use mathlib.Core.Path.{_≡_, subst}
 use mathlib.Core.Bool.{true}
@@ -14,10 +13,10 @@ use Rattle.base.specs.Sets.{inSet}
 use Rattle.format.proofs.Ranges.{StateRange}
 use Rattle.format.proofs.IdCount.{ids-count}
 use Rattle.replication.specs.Machine.Types.{Server, contextOf}
-use Rattle.engine.specs.Layout.{stateSize}
-use Rattle.engine.specs.Image.{senders}
-use Rattle.engine.proofs.InRange.{CollectedRange, in-range}
-use Rattle.engine.specs.Holding.{Holds}
+use Rattle.image.specs.Layout.{stateSize}
+use Rattle.image.specs.Header.{senders}
+use Rattle.image.proofs.InRange.{CollectedRange, in-range}
+use Rattle.image.specs.Holding.{Holds}
 use Rattle.exchange.specs.Slots.{slotsOf, slotsIn, slotAt, stateIn}
 use Rattle.exchange.specs.Table.{idsIn, ListInside, ListsFit}
 use Rattle.exchange.proofs.SlotLaws.{slot-inside}

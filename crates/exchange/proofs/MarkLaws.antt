@@ -1,5 +1,4 @@
 -- Marks judged, computed from the slots.
--- Assumes nothing.
 use Prim.Native.Nat.{ℕ, _+_, _-_, _≤_, _<_}
 use mathlib.Core.Path.{_≡_, refl, sym, ap, ap₂, _∙_}
 use mathlib.Core.Bool.{Bool, true, false, not}
@@ -13,7 +12,7 @@ use Rattle.base.proofs.Branches.{told-eq, or-yes, or-no, and-answered, and-deni
 use Rattle.base.specs.Lists.{any, filter}
 use Rattle.base.specs.Sets.{inSet, withMember, union}
 use Rattle.format.specs.Types.{State, Mark as FormatMark}
-use Rattle.record.specs.Values.{componentOf, primaryOf, markOf, stateOf}
+use Rattle.record.specs.Values.{primaryOf, markOf, stateOf}
 use Rattle.record.specs.declared.LastPrimary.{LastPrimary}
 use Rattle.record.specs.declared.Mark.{Mark}
 use Rattle.record.specs.declared.StateHead.{StateHead}
@@ -76,12 +75,12 @@ like-told m o u s e h = and-yes _ _ _ (eq-yes _ _ s) (and-answered u _ _ _ e h (
 
 pub rule-a-low : (p : LastPrimary) (m : Mark) (sender : ℕ) → p .index .0 ≤ m .index .0 → (s : State) → s .sender ≡ sender → s .mark ≡ markOf m
     → false ≡ ruleA (primaryOf p) s
-unfolding ruleA primaryOf componentOf markOf
+unfolding ruleA primaryOf markOf
 rule-a-low p m sender h s e i = rw i (and-no _ _ (lt-no (m .index .0) (p .index .0) h))
 
 pub rule-a-told : (p : LastPrimary) (m : Mark) (sender : ℕ) (u : Bool) → m .index .0 < p .index .0 → u ≡ inSet sender (p .set)
     → (s : State) → s .sender ≡ sender → s .mark ≡ markOf m → not u ≡ ruleA (primaryOf p) s
-unfolding ruleA primaryOf componentOf markOf
+unfolding ruleA primaryOf markOf
 rule-a-told p m sender u h j s e i = rw (i, e, j) (and-yes _ _ _ (lt-yes (m .index .0) (p .index .0) h) refl)
 
 -- ---- rule (b)

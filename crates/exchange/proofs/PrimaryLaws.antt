@@ -1,18 +1,17 @@
 -- The taken primary, its group and the attempt, computed from the slots.
--- Assumes nothing.
 use Prim.Native.Nat.{ℕ, _+_, _-_, _≤_, _<_}
 use mathlib.Core.Path.{_≡_, refl, sym, ap, _∙_}
 use mathlib.Core.Bool.{Bool, true, false, not}
 use mathlib.Core.List.{List}
 use lib.Dec.{eqb}
 use borrow.Author.Tests.{not-false}
-use Rattle.base.specs.Tests.{_and_, _=?_, pick}
+use Rattle.base.specs.Tests.{_=?_, pick}
 use Rattle.base.proofs.TestLaws.{pick-yes, pick-no, and-no, and-yes, eq-yes, eq-no}
 use Rattle.base.proofs.Branches.{told-eq}
 use Rattle.base.specs.Lists.{filter}
 use Rattle.base.specs.Sets.{inSet}
-use Rattle.format.specs.Types.{State, Primary}
-use Rattle.record.specs.Values.{componentOf, primaryOf, stateOf}
+use Rattle.format.specs.Types.{State, Primary, firstPrimary}
+use Rattle.record.specs.Values.{primaryOf, lastOf, stateOf}
 use Rattle.record.specs.declared.LastPrimary.{LastPrimary}
 use Rattle.record.specs.declared.StateHead.{StateHead}
 use Rattle.replication.specs.Machine.Plan.{highest}
@@ -47,10 +46,10 @@ later-in t u p q r x e h i j =
 
 -- ---- the taken primary
 
-pub taken-none : (v : Slots) (b : List ℕ) (k : ℕ) → First v k → v .servers ≤ k
-    → primaryOf (record { index = record { 0 = 0 }; attempt = record { 0 = 0 }; set = 0 }) ≡ takenPrimary (statesOf v b)
-unfolding takenPrimary primaryOf componentOf
-taken-none v b k r h = sym (ap takenPrimary (r .rest b ∙ states-end v b k h))
+pub taken-none : (v : Slots) (b : List ℕ) (k : ℕ) (p : LastPrimary) → First v k → v .servers ≤ k → p ≡ lastOf (firstPrimary 0)
+    → primaryOf p ≡ takenPrimary (statesOf v b)
+unfolding takenPrimary primaryOf lastOf
+taken-none v b k p r h e = ap primaryOf e ∙ sym (ap takenPrimary (r .rest b ∙ states-end v b k h))
 
 pub taken-start : (v : Slots) (b : List ℕ) (k : ℕ) (p : LastPrimary) → First v k → k < v .servers → primaryOf p ≡ stateIn v b k .last
     → takenPrimary (statesOf v b) ≡ latest (primaryOf p) (statesFrom v b (v .servers - (k + 1)) (k + 1))
@@ -72,12 +71,12 @@ taken-end v b k p w h i = sym (fold-end latest v b k (primaryOf p) w h i)
 -- ---- the group and its attempt
 
 pub pair-not : (p x : LastPrimary) (s : State) → primaryOf x ≡ s .last → (x .index .0 ≡ p .index .0 → ⊥) → false ≡ samePair (primaryOf p) s
-unfolding samePair primaryOf componentOf
+unfolding samePair primaryOf
 pair-not p x s e n = and-no _ _ (eq-no _ _ (λ z. n (ap (λ (y : Primary). y .index) e ∙ z)))
 
 pub pair-told : (p x : LastPrimary) (s : State) → primaryOf x ≡ s .last → x .index .0 ≡ p .index .0
     → eqb (x .attempt .0) (p .attempt .0) ≡ samePair (primaryOf p) s
-unfolding samePair primaryOf componentOf
+unfolding samePair primaryOf
 pair-told p x s e i =
     and-yes _ _ _ (eq-yes _ _ (sym (ap (λ (y : Primary). y .index) e) ∙ i)) (told-eq (x .attempt .0) (p .attempt .0) ∙ ap (λ (m : ℕ). m =? p .attempt .0) (ap (λ (y : Primary). y .attempt) e))
 

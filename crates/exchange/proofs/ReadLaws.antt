@@ -1,5 +1,4 @@
 -- The numbers of a State, read from its slot.
--- Assumes nothing.
 use Prim.Native.Nat.{ℕ, _+_, _*_, _-_, _<_, _≤_}
 use mathlib.Core.Path.{_≡_, refl, sym, ap, _∙_}
 use mathlib.Core.List.{List}
@@ -13,7 +12,7 @@ use Rattle.format.specs.Read.{stateAt}
 use Rattle.record.specs.Events.{headIn, stateFrom}
 use Rattle.record.specs.Values.{stateOf}
 use Rattle.record.specs.declared.StateHead.{StateHead}
-use Rattle.record.proofs.Frames.{state-is}
+use Rattle.record.proofs.PartLaws.{state-is}
 use Rattle.replication.specs.Machine.Plan.{cutIn, greenIn}
 use Rattle.exchange.specs.declared.slots.Slots.{Slots}
 use Rattle.exchange.specs.declared.plan.Number.{Number}

@@ -1,5 +1,4 @@
 -- Where a buffer holds a state, its slots have room.
--- Assumes nothing.
 use Prim.Native.Nat.{ℕ, zero, suc, _+_, _*_, _^_, _<_}
 use mathlib.Core.Path.{_≡_, refl, sym, ap, _∙_}
 use mathlib.Core.Bool.{true}
@@ -9,7 +8,7 @@ use native.Mathlib.Nat.{zero-add, one-le-pow}
 use native.Mathlib.Omega.{arith}
 use lib.ListN.{length, getD, drop}
 use Rattle.base.specs.Tests.{pick}
-use Rattle.base.proofs.TestLaws.{pick-yes, holds}
+use Rattle.base.proofs.TestLaws.{pick-yes}
 use Rattle.base.proofs.Branches.{same-truth}
 use Rattle.base.specs.Lists.{isThere, sum}
 use Rattle.base.specs.Sets.{inSet, inside}
@@ -21,12 +20,12 @@ use Rattle.replication.specs.Machine.Step.{theSet, allFrom, allStatesIn, hereSe
 use Rattle.replication.specs.Machine.WellFormed.{wellFormed}
 use Rattle.replication.proofs.WellFormed.Facts.{well-formed-facts}
 use Rattle.replication.proofs.WellFormed.Modes.{from-facts, from-ok}
-use Rattle.engine.specs.Layout.{stateSize, sections, stateLength, theStates, offset}
-use Rattle.engine.specs.Image.{senders}
-use Rattle.engine.specs.Decode.{statesAt}
-use Rattle.engine.proofs.InRange.{in-range}
-use Rattle.engine.proofs.Slots.{in-senders}
-use Rattle.engine.specs.Holding.{Holds}
+use Rattle.image.specs.Layout.{stateSize, sections, stateLength, theStates, offset}
+use Rattle.image.specs.Header.{senders}
+use Rattle.image.specs.Decode.{statesAt}
+use Rattle.image.proofs.InRange.{in-range}
+use Rattle.image.proofs.Slots.{in-senders}
+use Rattle.image.specs.Holding.{Holds}
 use Rattle.exchange.specs.declared.slots.Slots.{Slots}
 use Rattle.exchange.specs.Slots.{Space, Room, slotsOf, slotsIn, slotAt, stateIn}
 use Rattle.exchange.proofs.Collected.{states-there}

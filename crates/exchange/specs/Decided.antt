@@ -1,11 +1,11 @@
 -- The numbers that the States decide, as the code's structs.
--- Assumes nothing.
 use Prim.Native.Nat.{ℕ}
 use mathlib.Core.List.{List}
 use Rattle.format.specs.Types.{State}
 use Rattle.replication.specs.Machine.Types.{Votes}
 use Rattle.replication.specs.Machine.Plan.{highest, lowest, resender, isMe}
-use Rattle.engine.specs.Header.{lastOf, markNumbers}
+use Rattle.image.specs.Header.{markNumbers}
+use Rattle.record.specs.Values.{lastOf}
 use Rattle.exchange.specs.declared.decided.TakenVotes.{TakenVotes}
 use Rattle.exchange.specs.declared.decided.Part.{Part}
 

@@ -1,5 +1,4 @@
 -- Tests of marks that the code makes of two marks, or of a mark and a State.
--- Assumes nothing.
 use Prim.Native.Nat.{ℕ}
 use mathlib.Core.Bool.{Bool, not}
 use mathlib.Core.List.{List}

@@ -1,5 +1,4 @@
 -- The numbers of a State that a plan or a decision takes the highest or the lowest of.
--- Assumes nothing.
 use Prim.Native.Nat.{ℕ, _<_}
 use Rattle.format.specs.Types.{State}
 use Rattle.replication.specs.Machine.Plan.{cutIn, greenIn}

@@ -1,5 +1,4 @@
 -- The choice between two primary components that the code makes.
--- Assumes nothing.
 use Rattle.base.specs.Tests.{pick}
 use Rattle.format.specs.Types.{Primary}
 use Rattle.replication.specs.Machine.Exchange.{later}

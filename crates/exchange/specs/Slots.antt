@@ -1,5 +1,4 @@
 -- The collected States in their slots, and some of them by a set of their senders.
--- Assumes nothing.
 use Prim.Native.Nat.{ℕ, zero, suc, _+_, _*_, _-_, _≤_, _<_}
 use mathlib.Core.Path.{_≡_}
 use mathlib.Core.Bool.{true}
@@ -13,10 +12,10 @@ use Rattle.format.specs.Read.{stateAt}
 use Rattle.record.specs.Events.{headIn}
 use Rattle.record.specs.declared.StateHead.{StateHead}
 use Rattle.replication.specs.Machine.Types.{Server}
-use Rattle.engine.specs.Layout.{stateSize, theStates, offset}
-use Rattle.engine.specs.Image.{senders}
+use Rattle.image.specs.Layout.{stateSize, theStates, offset}
+use Rattle.image.specs.Header.{senders}
 use Rattle.exchange.specs.declared.slots.Slots.{Slots}
-use Rattle.format.specs.Places.{stateHeadSize, stateCutsAt}
+use Rattle.format.specs.Places.{cutSize, stateHeadSize, stateCutsAt}
 
 -- The slots of a state with n servers and the quota q; `here` is the set of the senders whose State is in.
 unfoldable pub slotsOf : (n q here : ℕ) → Slots
@@ -40,7 +39,7 @@ stateIn v b k = stateAt (v .servers) (drop (slotAt v k) b)
 
 -- Its numbers, as the code reads them.
 unfoldable pub headOf : Slots → List ℕ → ℕ → StateHead
-headOf v b k = headIn (v .servers) (drop (slotAt v k) b) (stateCutsAt + 2 * v .servers)
+headOf v b k = headIn (v .servers) (drop (slotAt v k) b) (stateCutsAt + cutSize * v .servers)
 
 -- The States of the m slots from k on, of the senders that are meant.
 unfoldable pub statesFrom : Slots → List ℕ → (m k : ℕ) → List State
@@ -61,7 +60,7 @@ ifMeant v k x y = pick (inSet k (v .here)) x y
 -- The slots lie in the buffer, and a State's fixed parts fit in one.
 pub record Space (v : Slots) (b : List ℕ) : Type 0 where
   pub servers : v .servers ≤ mostServers
-  pub long : stateHeadSize + 2 * v .servers ≤ v .size
+  pub long : stateHeadSize + cutSize * v .servers ≤ v .size
   pub inside : v .at + v .servers * v .size ≤ length b
 
 -- And each State that is meant is its server's.

@@ -1,5 +1,4 @@
 -- The table by which the ids common to several lists are found in one pass over each: a place for each id of the first list, in its order.
--- Assumes nothing.
 use Prim.Native.Nat.{ℕ, suc, _+_, _*_, _≤_, _<_}
 use mathlib.Core.Path.{_≡_}
 use mathlib.Core.Bool.{Bool, true}
@@ -18,8 +17,8 @@ use Rattle.record.specs.declared.Context as declared
 use Rattle.record.specs.Context.{contextOf, ContextIn}
 use Rattle.record.specs.Values.{slot, Marked}
 use Rattle.exchange.specs.declared.slots.Slots.{Slots}
-use Rattle.exchange.specs.Slots.{slotAt, stateIn, ifMeant}
-use Rattle.format.specs.Places.{idSize, stateHeadSize}
+use Rattle.exchange.specs.Slots.{Room, slotAt, stateIn, statesLeft, ifMeant}
+use Rattle.format.specs.Places.{cutSize, idSize, stateHeadSize}
 
 -- Where the id d stands in the list: the number of its ids where it has none.
 unfoldable pub placeIn : Id → List Id → ℕ
@@ -61,6 +60,10 @@ unfoldable pub raisedAll : List Id → ℕ → List ℕ → List Id → List ℕ
 raisedAll l r t [] = t
 raisedAll l r t (d ∷ ds) = raisedAll l r (raised l r t d) ds
 
+-- The first list is that of m ids in the bytes e.
+abbrev pub raisedIn : (m : ℕ) → List ℕ → ℕ → List ℕ → List Id → List ℕ
+raisedIn m e r t ds = raisedAll (soughtIn m e) r t ds
+
 -- The yellow lists of these States, one after another.
 unfoldable pub raisedLists : List Id → ℕ → List ℕ → List State → List ℕ
 raisedLists l r t [] = t
@@ -80,22 +83,48 @@ pub record RaisedBy (l : List Id) (ys : List State) (r : ℕ) (t u : List ℕ) :
   pub count : r ≡ length ys
   pub table : u ≡ raisedLists l 0 t ys
 
+abbrev pub RaisedFrom : (m : ℕ) → List ℕ → List State → ℕ → (t u : List ℕ) → Type 0
+RaisedFrom m e ys r t u = RaisedBy (soughtIn m e) ys r t u
+
 -- The list in the slot k lies in the buffer.
 unfoldable pub ListInside : Slots → List ℕ → ℕ → Type 0
-ListInside v b k = slotAt v k + (stateHeadSize + 2 * v .servers + idSize * length (idsIn v b k)) ≤ length b
+ListInside v b k = slotAt v k + (stateHeadSize + cutSize * v .servers + idSize * length (idsIn v b k)) ≤ length b
 
 -- Those of the senders that are meant lie in it.
 unfoldable pub ListsInside : Slots → List ℕ → Type 0
 ListsInside v b = (k : ℕ) → k < v .servers → inSet k (v .here) ≡ true → ListInside v b k
+
+-- The slot k with its list, and the slots from k on with the lists of those that are meant.
+pub record SlotInside (v : Slots) (b : List ℕ) (k : ℕ) : Type 0 where
+  pub room : Room v b
+  pub low : k < v .servers
+  pub list : ListInside v b k
+
+pub record SlotsInside (v : Slots) (b : List ℕ) (k : ℕ) : Type 0 where
+  pub room : Room v b
+  pub most : k ≤ v .servers
+  pub lists : ListsInside v b
 
 -- If the id at `at` passes the test, it is one more: the bytes are o with n ids, and u with q.
 pub record Keeps (t : Id → Bool) (e : List ℕ) (at n q : ℕ) (o u : List ℕ) : Type 0 where
   pub count : q ≡ pick (t (idAt e at)) (n + 1) n
   pub bytes : u ≡ pick (t (idAt e at)) (patched (idSize * n) (idBytes (idAt e at)) o) o
 
+-- The id number j of the first list, of m ids in the bytes e, if its place in the table t tells r.
+abbrev pub KeepsAt : (m r j : ℕ) (e t : List ℕ) (n q : ℕ) (o u : List ℕ) → Type 0
+KeepsAt m r j e t n q o u = Keeps (isKept (soughtIn m e) r t) e (idSize * j) n q o u
+
+-- All ids of which that holds.
+abbrev pub keptOf : (m r : ℕ) (e t : List ℕ) → List Id
+keptOf m r e t = filter (isKept (soughtIn m e) r t) (soughtIn m e)
+
 -- Those of the list l that the table of the lists of the States ys tells to be in all of them.
 unfoldable pub keptIds : List Id → List State → List Id
 keptIds l ys = filter (isKept l (length ys) (raisedLists l 0 (replicate {A = ℕ} mostIds 0) ys)) l
+
+-- The ids of the list in the slot k that the lists of all slots behind it have, too.
+abbrev pub commonFrom : Slots → List ℕ → ℕ → List Id
+commonFrom v b k = keptIds (idsIn v b k) (statesLeft v b (k + 1))
 
 -- The bytes o begin with the ids ds, of which there are r.
 pub record Listed (r : ℕ) (o : List ℕ) (ds : List Id) : Type 0 where

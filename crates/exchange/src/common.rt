@@ -2,14 +2,13 @@
 ghost use mathlib.Core.Path.{_≡_};
 ghost use Prim.Native.Nat.{_+_, _*_, _≤_, _<_};
 ghost use lib.ListN.{length};
-ghost use Rattle.base.specs.Lists.{filter};
 ghost use Rattle.base.specs.Patched.{patched};
 ghost use Rattle.format.specs.Places.{idSize};
 ghost use Rattle.format.specs.Read.{idAt};
 ghost use Rattle.format.specs.Write.{idBytes};
 ghost use Rattle.record.specs.Context.{ContextIn};
 ghost use Rattle.exchange.specs.Slots.{Room, First, statesOf, statesLeft};
-ghost use Rattle.exchange.specs.Table.{soughtIn, Sought, idsIn, isKept, Keeps, keptIds, Listed, ListsInside, ListsFit};
+ghost use Rattle.exchange.specs.Table.{soughtIn, Sought, KeepsAt, keptOf, keptIds, commonFrom, Listed, SlotsInside, ListsFit};
 ghost use Rattle.replication.specs.Machine.Exchange.{takenYellow};
 use crate::slots::Slots;
 use crate::slots::first;
@@ -50,7 +49,7 @@ fn keep_at(
     count: usize,
 ) -> usize
     requires { ⌜ Sought ids (now first) × (j < ids) × (idSize * count + idSize ≤ length (now out)) ⌝ }
-    ensures { λ r. ⌜ Keeps (isKept (soughtIn ids (now (first .entry))) round (now (table .entry))) (now (first .entry)) (idSize * j) count r (now (out .entry)) (now (out .exit)) ⌝ }
+    ensures { λ r. ⌜ KeepsAt ids round j (now (first .entry)) (now (table .entry)) count r (now (out .entry)) (now (out .exit)) ⌝ }
 {
     if table[j] != round {
         return count;
@@ -68,7 +67,7 @@ pub fn keep(
     out: &mut [u8],
 ) -> usize
     requires { ⌜ Sought ids (now first) × (idSize * ids ≤ length (now out)) ⌝ }
-    ensures { λ r. ⌜ Listed r (now (out .exit)) (filter (isKept (soughtIn ids (now (first .entry))) round (now (table .entry))) (soughtIn ids (now (first .entry)))) ⌝ }
+    ensures { λ r. ⌜ Listed r (now (out .exit)) (keptOf ids round (now (first .entry)) (now (table .entry))) ⌝ }
 {
     let mut kept = 0;
     let mut j = 0;
@@ -89,7 +88,7 @@ fn common_of(
     start: usize,
     out: &mut [u8],
 ) -> usize
-    requires { ⌜ ContextIn c × Sought ids (now first) × Room v (now state) × (start ≤ v .servers) × ListsInside v (now state) × (idSize * ids ≤ length (now out)) ⌝ }
+    requires { ⌜ ContextIn c × Sought ids (now first) × SlotsInside v (now state) start × (idSize * ids ≤ length (now out)) ⌝ }
     ensures { λ r. ⌜ Listed r (now (out .exit)) (keptIds (soughtIn ids (now (first .entry))) (statesLeft v (now (state .entry)) start)) ⌝ }
 {
     let hints = hints(c, first, ids);
@@ -101,10 +100,10 @@ fn common_of(
 // The ids of the list in the slot `start` that every list behind it has, too: how many there are.
 fn common(c: Context, v: Slots, state: &[u8], start: usize, out: &mut [u8]) -> usize
     requires { ⌜ ContextIn c × Room v (now state) × First v start × (start < v .servers) × ListsFit v (now state) (now out) ⌝ }
-    ensures { λ r. ⌜ Listed r (now (out .exit)) (keptIds (idsIn v (now (state .entry)) start) (statesLeft v (now (state .entry)) (start + 1))) ⌝ }
+    ensures { λ r. ⌜ Listed r (now (out .exit)) (commonFrom v (now (state .entry)) start) ⌝ }
 {
     let x = head(v, state, start);
-    let at = place(v, state, start) + (StateHead::SIZE + 2 * v.servers);
+    let at = place(v, state, start) + (StateHead::SIZE + State::CUT * v.servers);
     common_of(
         c,
         &state[at..],

@@ -13,6 +13,7 @@ use crate::slots::first;
 use crate::slots::head;
 use crate::slots::place;
 use octets::numbers::num16;
+use record::State;
 use record::StateHead;
 use record::sets::has;
 
@@ -29,7 +30,7 @@ pub fn cut(v: Slots, state: &[u8], k: usize, c: usize) -> u16
     ensures { λ r. ⌜ r ≡ cutIn c (stateIn v (now (state .entry)) k) ⌝ }
 {
     let at = place(v, state, k);
-    num16(state, at + StateHead::CUTS + 2 * c)
+    num16(state, at + StateHead::CUTS + State::CUT * c)
 }
 
 // A number of the State in the slot k.

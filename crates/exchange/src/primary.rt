@@ -13,9 +13,7 @@ use crate::plan::highest;
 use crate::slots::Slots;
 use crate::slots::first;
 use crate::slots::head;
-use record::AttemptIndex;
 use record::LastPrimary;
-use record::PrimaryIndex;
 use record::sets::has;
 use record::sets::with_member;
 use votes::later;
@@ -55,11 +53,7 @@ pub fn taken_primary(v: Slots, state: &[u8]) -> LastPrimary
 {
     let start = first(v);
     if v.servers <= start {
-        return LastPrimary {
-            index: PrimaryIndex(0),
-            attempt: AttemptIndex(0),
-            set: 0,
-        };
+        return LastPrimary::first(0);
     }
     let mut p = last(v, state, start);
     let mut k = start + 1;

@@ -3,12 +3,13 @@ ghost use mathlib.Core.Path.{_≡_};
 ghost use Prim.Native.Nat.{_+_, _≤_, _<_};
 ghost use lib.ListN.{length};
 ghost use Rattle.format.specs.Limits.{mostServers};
-ghost use Rattle.engine.specs.Layout.{SizesIn};
+ghost use Rattle.image.specs.Layout.{SizesIn};
 ghost use Rattle.exchange.specs.Slots.{Space, First, slotsOf, slotAt, headOf, withHere};
-use engine::places::state_size;
-use engine::places::states_at;
+use image::places::state_size;
+use image::places::states_at;
+use record::State;
 use record::StateHead;
-use record::frame::state_head;
+use record::parts::state_head;
 use record::sets::has;
 
 // Where the slots lie, and which of them are meant: the slot of server k begins at `at` + k × `size`, and `here` is a set of
@@ -52,7 +53,7 @@ pub fn head(v: Slots, state: &[u8], k: usize) -> StateHead
     state_head(
         &state[at..],
         v.servers as u8,
-        StateHead::CUTS + 2 * v.servers,
+        StateHead::CUTS + State::CUT * v.servers,
     )
 }
 

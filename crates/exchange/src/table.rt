@@ -10,9 +10,9 @@ ghost use Rattle.format.specs.Range.{sameId};
 ghost use Rattle.format.specs.Read.{idAt, idsAt};
 ghost use Rattle.record.specs.Context.{contextOf, ContextIn};
 ghost use Rattle.record.specs.Values.{idOf};
-ghost use Rattle.exchange.specs.Slots.{Room, statesLeft};
-ghost use Rattle.exchange.specs.Table.{placeIn, soughtIn, Sought, hinted, Hinted, HintsFit, raised, raisedAll, RaisedAt, RaisedBy};
-ghost use Rattle.exchange.specs.Table.{idsIn, ListInside, ListsInside};
+ghost use Rattle.exchange.specs.Slots.{statesLeft};
+ghost use Rattle.exchange.specs.Table.{placeIn, soughtIn, Sought, hinted, Hinted, HintsFit, raised, raisedIn, RaisedAt, RaisedFrom};
+ghost use Rattle.exchange.specs.Table.{idsIn, SlotInside, SlotsInside};
 use crate::slots::Slots;
 use crate::slots::head;
 use crate::slots::place;
@@ -172,21 +172,11 @@ fn raise_list(
     table: &mut [u8; State::MOST_IDS],
 )
     requires { ⌜ HintsFit c ids (now first) (now hints) × (at + idSize * count ≤ length (now e)) × (round < mostServers) ⌝ }
-    ensures { λ _. ⌜ now (table .exit) ≡ raisedAll (soughtIn ids (now (first .entry))) round (now (table .entry)) (idsAt count (now (e .entry)) at) ⌝ }
+    ensures { λ _. ⌜ now (table .exit) ≡ raisedIn ids (now (first .entry)) round (now (table .entry)) (idsAt count (now (e .entry)) at) ⌝ }
 {
     let mut j = 0;
     while j < count {
-        raise_at(
-            c,
-            first,
-            ids,
-            hints,
-            e,
-            at + State::ID * j,
-            j,
-            round,
-            table,
-        );
+        raise_at(c, first, ids, hints, e, at + State::ID * j, j, round, table);
         j += 1;
     }
 }
@@ -203,8 +193,8 @@ fn raise_slot(
     round: u8,
     table: &mut [u8; State::MOST_IDS],
 )
-    requires { ⌜ HintsFit c ids (now first) (now hints) × Room v (now state) × (k < v .servers) × ListInside v (now state) k × (round < mostServers) ⌝ }
-    ensures { λ _. ⌜ now (table .exit) ≡ raisedAll (soughtIn ids (now (first .entry))) round (now (table .entry)) (idsIn v (now (state .entry)) k) ⌝ }
+    requires { ⌜ HintsFit c ids (now first) (now hints) × SlotInside v (now state) k × (round < mostServers) ⌝ }
+    ensures { λ _. ⌜ now (table .exit) ≡ raisedIn ids (now (first .entry)) round (now (table .entry)) (idsIn v (now (state .entry)) k) ⌝ }
 {
     let x = head(v, state, k);
     let at = place(v, state, k);
@@ -214,7 +204,7 @@ fn raise_slot(
         ids,
         hints,
         &state[at..],
-        StateHead::SIZE + 2 * v.servers,
+        StateHead::SIZE + State::CUT * v.servers,
         x.yellow_count as usize,
         round,
         table,
@@ -233,7 +223,7 @@ fn raise_turn(
     round: u8,
     table: &mut [u8; State::MOST_IDS],
 ) -> u8
-    requires { ⌜ HintsFit c ids (now first) (now hints) × Room v (now state) × (k < v .servers) × ListsInside v (now state) × (round < mostServers) ⌝ }
+    requires { ⌜ HintsFit c ids (now first) (now hints) × SlotsInside v (now state) k × (k < v .servers) × (round < mostServers) ⌝ }
     ensures { λ r. ⌜ RaisedAt (soughtIn ids (now (first .entry))) v (now (state .entry)) k round r (now (table .entry)) (now (table .exit)) ⌝ }
 {
     if !has(v.here, k) {
@@ -254,8 +244,8 @@ pub fn raise_lists(
     start: usize,
     table: &mut [u8; State::MOST_IDS],
 ) -> u8
-    requires { ⌜ HintsFit c ids (now first) (now hints) × Room v (now state) × (start ≤ v .servers) × ListsInside v (now state) ⌝ }
-    ensures { λ r. ⌜ RaisedBy (soughtIn ids (now (first .entry))) (statesLeft v (now (state .entry)) start) r (now (table .entry)) (now (table .exit)) ⌝ }
+    requires { ⌜ HintsFit c ids (now first) (now hints) × SlotsInside v (now state) start ⌝ }
+    ensures { λ r. ⌜ RaisedFrom ids (now (first .entry)) (statesLeft v (now (state .entry)) start) r (now (table .entry)) (now (table .exit)) ⌝ }
 {
     let mut round = 0;
     let mut k = start;

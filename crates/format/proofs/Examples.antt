@@ -1,5 +1,4 @@
 -- Records of each kind, their bytes, and what is read of bytes.
--- Assumes nothing.
 use Prim.Native.Nat.{ℕ}
 use mathlib.Core.Path.{_≡_, refl}
 use mathlib.Core.List.{List, [], _∷_, _++_}

@@ -1,5 +1,4 @@
 -- A record's frame: length, version, kind, and the body behind them.
--- Assumes nothing.
 use Prim.Native.Nat.{ℕ, _+_, _<_, _-_}
 use mathlib.Core.Path.{_≡_, refl, subst, _∙_}
 use mathlib.Core.List.{List}

@@ -6,6 +6,5 @@ pub mod Frame
 pub mod Writing
 pub mod Reading
 pub mod RoundTrip
-pub mod WriteBytes
 pub mod SetupLaws
 pub mod Examples

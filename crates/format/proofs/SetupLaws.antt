@@ -1,32 +1,24 @@
 -- The two laws of the set-up record.
--- Assumes nothing.
 use Prim.Native.Nat.{ℕ, _+_, _≤_, _-_}
 use mathlib.Core.Path.{_≡_, refl, sym, ap, _∙_}
 use mathlib.Core.Bool.{true}
 use mathlib.Core.List.{List, [], _∷_}
-use mathlib.Core.Logic.{_⊎_, inl, inr}
 use native.Mathlib.Omega.{arith}
 use lib.ListN.{length}
 use Rattle.base.proofs.TestLaws.{pick-yes, and-holds, both-yes, eq-yes, eq-holds}
 use Rattle.base.specs.Bytes.{Bytes, bytesOf, numberAt, joined}
-use Rattle.base.proofs.BytesLaws.{bytes-small, bytes-joined}
 use Rattle.base.proofs.Occurs.{Occurs, joined-parts, parts-joined, number-read, number-occurs}
 use Rattle.format.specs.Places.{lengthSize, atBody, setupQuotaAt, setupSize}
-use Rattle.format.specs.Types.{says, refused}
+use Rattle.format.specs.Types.{says}
 use Rattle.format.specs.Write.{framed}
 use Rattle.format.specs.Setup.{setupKind, Setup, writeSetup, setupIn, setupFrameOk, setupOk, readSetup}
 use Rattle.format.proofs.Ranges.{SizesRange, sizes-range}
-use Rattle.format.proofs.WriteBytes.{framed-bytes}
 use Rattle.format.proofs.Frame.{Frame, frame-read, frame-written}
-use Rattle.format.proofs.Reading.{says-refused, says-same, says-checked, refused-checked}
+use Rattle.format.proofs.Reading.{says-same, says-checked}
 
 pub setup-length : (s : Setup) → length (writeSetup s) ≡ setupSize
 unfolding writeSetup framed joined bytesOf
 setup-length s = refl
-
-pub setup-bytes : (s : Setup) → Bytes (writeSetup s)
-unfolding writeSetup
-setup-bytes s = framed-bytes setupKind _ (bytes-joined _ (bytes-small 1 (s .servers), (bytes-small 2 (s .quota), tt)))
 
 setup-body : Setup → List ℕ
 setup-body s = joined (bytesOf 1 (s .servers) ∷ bytesOf 2 (s .quota) ∷ [])
@@ -99,10 +91,3 @@ setup-in-range servers quota e s h =
     let framed = says-checked (setupFrameOk e) _ 1 s h in
     let ranged = says-checked (setupOk servers quota (setupIn e)) _ 2 s (framed .1) in
     ap (setupOk servers quota) (sym (says-same _ _ (ranged .1))) ∙ ranged .0
-
-pub setup-refusal-number : (servers quota : ℕ) (e : List ℕ) (k : ℕ) → readSetup servers quota e ≡ refused k → (k ≡ 1) ⊎ (k ≡ 2)
-unfolding readSetup
-setup-refusal-number servers quota e k h =
-    refused-checked (setupFrameOk e) _ 1 k h
-    (λ g. refused-checked (setupOk servers quota (setupIn e)) _ 2 k g (λ f. says-refused _ k f) (λ two. inr two))
-    (λ one. inl one)

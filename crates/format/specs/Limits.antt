@@ -1,5 +1,4 @@
 -- Document 01, 'The engine and its edges' and 'Records': the limits, each named once.
--- Assumes nothing.
 use Prim.Native.Nat.{ℕ, _+_, _*_}
 
 -- "Servers: 2 to 8, numbered from 0"

@@ -1,5 +1,4 @@
 -- One name for all definitions of this crate: whoever unfolds it unfolds them, so that closed instances compute.
--- Assumes nothing.
 use Prim.Native.Nat.{ℕ}
 use Rattle.base.specs.Opened.{opened as opened-base}
 use Rattle.format.specs.Range.{sizesOk, contextOk, idOk, lengthOk, payloadOk, actionOk, cutsOk, indexOk, setOk, statusOk, primaryOk, markOk}

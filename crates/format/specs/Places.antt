@@ -1,5 +1,4 @@
 -- Document 01, 'Records': where the parts of a record lie and how many bytes they take, each named once.
--- Assumes nothing.
 use Prim.Native.Nat.{ℕ, _+_, _-_}
 use Rattle.format.specs.Limits.{mostPayload}
 
@@ -79,9 +78,6 @@ senderAt = atBody
 abbrev pub actionSize : ℕ
 actionSize = atBody + actionHeadSize
 
-abbrev pub mostAction : ℕ
-mostAction = actionSize + mostPayload
-
 -- A retransmission: "sender (1), green position (4; 0 = red), then body 1".
 abbrev pub positionAt : ℕ
 positionAt = senderAt + 1
@@ -102,6 +98,10 @@ configurationIdAt = senderAt + 1
 
 abbrev pub cpcSize : ℕ
 cpcSize = configurationIdAt + 4
+
+-- A State's cuts: "n red cuts (2 each)".
+abbrev pub cutSize : ℕ
+cutSize = 2
 
 -- A State: cuts, then green length, attempt, last primary, mark and yellow list. The places behind the cuts are those of a State with no cuts.
 abbrev pub stateCutsAt : ℕ

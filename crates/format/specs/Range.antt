@@ -1,5 +1,4 @@
 -- Document 01, 'Records', second paragraph: which numbers, sets and lists are in range (refusal number 2 else).
--- Assumes nothing.
 use Prim.Native.Nat.{ℕ, _*_, _^_}
 use mathlib.Core.Bool.{Bool, true, false, not}
 use mathlib.Core.List.{List, [], _∷_}

@@ -1,6 +1,5 @@
 -- Document 01, 'Records' and 'Returned numbers': what an event's bytes say, or its refusal number, 1 before 2.
 -- Places are those of the whole event.
--- Assumes nothing.
 use Prim.Native.Nat.{ℕ, zero, suc, _+_, _*_}
 use mathlib.Core.Bool.{Bool}
 use mathlib.Core.List.{List, [], _∷_}
@@ -8,12 +7,13 @@ use mathlib.Core.Option.{Option, none, some}
 use lib.ListN.{length}
 use Rattle.base.specs.Tests.{_and_, _=?_, pick}
 use Rattle.base.specs.Bytes.{numberAt, numbersAt, partAt}
+use Rattle.base.specs.Refusals.{badRecord, outOfRange}
 use Rattle.format.specs.Limits.{version}
 use Rattle.format.specs.Places.{lengthSize, atVersion, atKind, atBody, idIndexAt, idSize, actionGreenAt, actionPayloadAt, actionSize}
 use Rattle.format.specs.Places.{primaryAttemptAt, primarySetAt, markIndexAt, markAttemptAt, markSetAt, markBitsAt}
 use Rattle.format.specs.Places.{yellowCountAt, yellowHeadSize, senderAt, positionAt, resentAt, retransmissionSize, configurationIdAt, cpcSize}
 use Rattle.format.specs.Places.{stateCutsAt, stateGreenAt, stateAttemptAt, stateLastAt, stateMarkAt, stateYellowAt, stateCountAt}
-use Rattle.format.specs.Places.{stateHeadSize}
+use Rattle.format.specs.Places.{cutSize, stateHeadSize}
 use Rattle.format.specs.Places.{regularSetAt, regularSize, transitionalSize, requestSize, recoverySize}
 use Rattle.format.specs.Types.{Id, Action, Primary, Mark, Yellow, State, Context, Reading, says, refused}
 use Rattle.format.specs.Types.{Record, action, retransmission, state, cpc, regular, transitional, request, recovery, Kind, kindNumber}
@@ -54,12 +54,12 @@ unfoldable pub stateAt : ℕ → List ℕ → State
 stateAt n e = record {
   sender = numberAt 1 e senderAt;
   configuration = numberAt 4 e configurationIdAt;
-  cuts = numbersAt 2 n e stateCutsAt;
-  greenLength = numberAt 4 e (stateGreenAt + 2 * n);
-  attempt = numberAt 4 e (stateAttemptAt + 2 * n);
-  last = primaryAt e (stateLastAt + 2 * n);
-  mark = markAt e (stateMarkAt + 2 * n);
-  yellow = yellowAt e (stateYellowAt + 2 * n);
+  cuts = numbersAt cutSize n e stateCutsAt;
+  greenLength = numberAt 4 e (stateGreenAt + cutSize * n);
+  attempt = numberAt 4 e (stateAttemptAt + cutSize * n);
+  last = primaryAt e (stateLastAt + cutSize * n);
+  mark = markAt e (stateMarkAt + cutSize * n);
+  yellow = yellowAt e (stateYellowAt + cutSize * n);
 }
 
 -- The kind that a kind byte names, if any.
@@ -78,7 +78,7 @@ kindNamed k =
 unfoldable pub lengthFor : Kind → ℕ → List ℕ → ℕ
 lengthFor ofAction n e = actionSize + numberAt 1 e (atBody + actionPayloadAt)
 lengthFor ofRetransmission n e = retransmissionSize + numberAt 1 e (resentAt + actionPayloadAt)
-lengthFor ofState n e = stateHeadSize + 2 * n + idSize * numberAt 2 e (stateCountAt + 2 * n)
+lengthFor ofState n e = stateHeadSize + cutSize * n + idSize * numberAt 2 e (stateCountAt + cutSize * n)
 lengthFor ofCpc n e = cpcSize
 lengthFor ofRegular n e = regularSize
 lengthFor ofTransitional n e = transitionalSize
@@ -102,11 +102,11 @@ recordIn ofRecovery n e = recovery
 
 -- "Checked in this order": 1, then 2.
 unfoldable pub readAs : Option Kind → Context → List ℕ → Reading Record
-readAs none c e = refused 1
+readAs none c e = refused badRecord
 readAs (some k) c e =
     pick (frameOk k (c .servers) e)
-    (pick (recordOk c (recordIn k (c .servers) e)) (says (recordIn k (c .servers) e)) (refused 2))
-    (refused 1)
+    (pick (recordOk c (recordIn k (c .servers) e)) (says (recordIn k (c .servers) e)) (refused outOfRange))
+    (refused badRecord)
 
 unfoldable pub read : Context → List ℕ → Reading Record
 read c e = readAs (kindNamed (numberAt 1 e atKind)) c e

@@ -1,5 +1,4 @@
 -- Demand 2: "each record written reads back the same, and each record read writes back the same bytes."
--- Assumes nothing.
 use Prim.Native.Nat.{ℕ}
 use mathlib.Core.Path.{_≡_}
 use mathlib.Core.Bool.{true}

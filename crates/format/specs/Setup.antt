@@ -1,11 +1,11 @@
 -- Document 01, 'What `replay` prints': "a set-up record (kind 9: n 1 byte, q 2 bytes)".
--- Assumes nothing.
 use Prim.Native.Nat.{ℕ, _+_}
 use mathlib.Core.Bool.{Bool}
 use mathlib.Core.List.{List, [], _∷_}
 use lib.ListN.{length}
 use Rattle.base.specs.Tests.{_and_, _≤?_, _=?_, pick}
 use Rattle.base.specs.Bytes.{bytesOf, numberAt, joined}
+use Rattle.base.specs.Refusals.{badRecord, outOfRange}
 use Rattle.format.specs.Limits.{version}
 use Rattle.format.specs.Places.{lengthSize, atVersion, atKind, atBody, setupQuotaAt, setupSize}
 use Rattle.format.specs.Types.{Reading, says, refused}
@@ -36,4 +36,4 @@ setupOk servers quota s = sizesOk (s .servers) (s .quota) and s .servers ≤? se
 
 unfoldable pub readSetup : (servers quota : ℕ) → List ℕ → Reading Setup
 readSetup servers quota e =
-    pick (setupFrameOk e) (pick (setupOk servers quota (setupIn e)) (says (setupIn e)) (refused 2)) (refused 1)
+    pick (setupFrameOk e) (pick (setupOk servers quota (setupIn e)) (says (setupIn e)) (refused outOfRange)) (refused badRecord)

@@ -1,5 +1,4 @@
 -- Document 01, 'Records': what the records say.
--- Assumes nothing.
 use Prim.Native.Nat.{ℕ}
 use mathlib.Core.List.{List}
 use mathlib.Core.Option.{Option}
@@ -20,6 +19,13 @@ pub record Primary : Type 0 where
   pub index : ℕ
   pub attempt : ℕ
   pub set : ℕ
+
+abbrev pub component : (index attempt set : ℕ) → Primary
+component i a s = record { index = i; attempt = a; set = s }
+
+-- The one with these members that no Install made.
+abbrev pub firstPrimary : (set : ℕ) → Primary
+firstPrimary s = component 0 0 s
 
 -- A mark (document 01's term: what a server stores of the primary component that it attempts to create,
 -- until it knows how the attempt ended): "mark status (1), index (4), attempt (4), set (1), bits (1)".

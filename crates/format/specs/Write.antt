@@ -1,12 +1,11 @@
 -- Document 01, 'Records': the bytes of a record.
--- Assumes nothing.
 use Prim.Native.Nat.{ℕ, _+_, _*_, _-_}
 use mathlib.Core.List.{List, [], _∷_, map}
 use lib.ListN.{length}
 use Rattle.base.specs.Bytes.{bytesOf, joined}
 use Rattle.format.specs.Limits.{version}
 use Rattle.format.specs.Places.{lengthSize, atBody, idSize, actionSize, retransmissionSize, stateHeadSize}
-use Rattle.format.specs.Places.{cpcSize, regularSize, transitionalSize, requestSize, recoverySize}
+use Rattle.format.specs.Places.{cutSize, cpcSize, regularSize, transitionalSize, requestSize, recoverySize}
 use Rattle.format.specs.Types.{Id, Action, Primary, Mark, Yellow, State, kindNumber, kindOf}
 use Rattle.format.specs.Types.{Record, action, retransmission, state, cpc, regular, transitional, request, recovery}
 
@@ -76,7 +75,7 @@ recordBytes rs = joined (map write rs)
 unfoldable pub lengthOf : Record → ℕ
 lengthOf (action a) = actionSize + length (a .payload)
 lengthOf (retransmission s p a) = retransmissionSize + length (a .payload)
-lengthOf (state s) = stateHeadSize + 2 * length (s .cuts) + idSize * length (s .yellow .ids)
+lengthOf (state s) = stateHeadSize + cutSize * length (s .cuts) + idSize * length (s .yellow .ids)
 lengthOf (cpc s i) = cpcSize
 lengthOf (regular i s) = regularSize
 lengthOf (transitional s) = transitionalSize

@@ -1,6 +1,7 @@
-// Every function that a daemon calls, in one archive: each is the one of the crate below that proves it, under the same name and equation.
+// Every function that a daemon calls, in one archive: each is a function of the crate below that proves it, under
+// its C name and with its equation. No other crate exports a C name.
 ghost use mathlib.Core.Path.{_≡_};
-ghost use Rattle.engine.specs.Outcome.{lengthsOf, started, startOn, stateNumber, stepOn};
+ghost use Rattle.image.specs.Outcome.{lengthsOf, started, startOn, stateNumber, stepOn};
 ghost use Rattle.step.specs.Answers.{answered};
 ghost use Rattle.burst.specs.Burst.{burstOn, left};
 ghost use Rattle.queries.specs.Queries.{summaryOn, entriesOn, listed};
@@ -12,7 +13,7 @@ ghost use Rattle.register_queries.specs.Arguments.{rectangle, disc, point, Answ
 ghost use Rattle.register_step.specs.Answers.{AnswersJointly};
 ghost use Rattle.register_step.specs.Burst.{AnswersAll};
 use burst::BurstAnswer;
-use engine::Lengths;
+use image::Lengths;
 use queries::GreenEntries;
 use queries::Summary;
 use register_check::RegisterFind;
@@ -24,42 +25,42 @@ use step::Answer;
 pub extern "C" fn guzbytor_lengths(servers: u32, quota: u32) -> Lengths
     ensures { λ r. ⌜ r ≡ lengthsOf servers quota ⌝ }
 {
-    engine::guzbytor_lengths(servers, quota)
+    image::lengths_of(servers, quota)
 }
 
 #[no_mangle]
 pub extern "C" fn guzbytor_start(state: &mut [u8], servers: u32, quota: u32, me: u32) -> u32
     ensures { λ r. ⌜ started r (now (state .exit)) ≡ startOn servers quota me (now (state .entry)) ⌝ }
 {
-    engine::guzbytor_start(state, servers, quota, me)
+    image::start(state, servers, quota, me)
 }
 
 #[no_mangle]
 pub extern "C" fn guzbytor_state_check(state: &[u8], out: &[u8]) -> u32
     ensures { λ r. ⌜ r ≡ stateNumber (now (state .entry)) (now (out .entry)) ⌝ }
 {
-    state_check::guzbytor_state_check(state, out)
+    state_check::state_number(state, out)
 }
 
 #[no_mangle]
 pub extern "C" fn guzbytor_step(state: &mut [u8], event: &[u8], out: &mut [u8]) -> Answer
     ensures { λ r. ⌜ answered r (now (state .exit)) (now (out .exit)) ≡ stepOn (now (state .entry)) (now (event .entry)) (now (out .entry)) ⌝ }
 {
-    step::guzbytor_step(state, event, out)
+    step::step_on(state, event, out)
 }
 
 #[no_mangle]
 pub extern "C" fn guzbytor_burst(state: &mut [u8], events: &[u8], out: &mut [u8]) -> BurstAnswer
     ensures { λ r. ⌜ left r (now (state .exit)) (now (out .exit)) ≡ burstOn (now (state .entry)) (now (events .entry)) (now (out .entry)) ⌝ }
 {
-    burst::guzbytor_burst(state, events, out)
+    burst::burst(state, events, out)
 }
 
 #[no_mangle]
 pub extern "C" fn guzbytor_summary(state: &[u8]) -> Summary
     ensures { λ r. ⌜ r ≡ summaryOn (now (state .entry)) ⌝ }
 {
-    queries::guzbytor_summary(state)
+    queries::summary_on(state)
 }
 
 #[no_mangle]
@@ -70,35 +71,35 @@ pub extern "C" fn guzbytor_green_entries(
 ) -> GreenEntries
     ensures { λ r. ⌜ listed r (now (entries .exit)) ≡ entriesOn (now (state .entry)) from (now (entries .entry)) ⌝ }
 {
-    queries::guzbytor_green_entries(state, from, entries)
+    queries::green_entries(state, from, entries)
 }
 
 #[no_mangle]
 pub extern "C" fn guzbytor_register_length() -> u32
     ensures { λ r. ⌜ r ≡ registerLength ⌝ }
 {
-    register_check::guzbytor_register_length()
+    register_check::register_length()
 }
 
 #[no_mangle]
 pub extern "C" fn guzbytor_register_start(register: &mut [u8]) -> u32
     ensures { λ r. ⌜ changed r (now (register .exit)) ≡ emptyOn (now (register .entry)) ⌝ }
 {
-    register::guzbytor_register_start(register)
+    register::start(register)
 }
 
 #[no_mangle]
 pub extern "C" fn guzbytor_register_apply(register: &mut [u8], payload: &[u8]) -> u32
     ensures { λ r. ⌜ changed r (now (register .exit)) ≡ applyOn (now (register .entry)) (now (payload .entry)) ⌝ }
 {
-    register::guzbytor_register_apply(register, payload)
+    register::apply_on(register, payload)
 }
 
 #[no_mangle]
 pub extern "C" fn guzbytor_register_find(register: &[u8], name: &[u8]) -> RegisterFind
     ensures { λ r. ⌜ located r ≡ findOn (now (register .entry)) (now (name .entry)) ⌝ }
 {
-    register_check::guzbytor_register_find(register, name)
+    register_check::find(register, name)
 }
 
 #[no_mangle]
@@ -112,7 +113,7 @@ pub extern "C" fn guzbytor_register_rectangle(
 ) -> u32
     ensures { λ r. ⌜ AnswersRegion r (rectangle west south east north) register answer ⌝ }
 {
-    register_queries::guzbytor_register_rectangle(register, west, south, east, north, answer)
+    register_queries::in_rectangle(register, west, south, east, north, answer)
 }
 
 #[no_mangle]
@@ -125,7 +126,7 @@ pub extern "C" fn guzbytor_register_radius(
 ) -> u32
     ensures { λ r. ⌜ AnswersRegion r (disc easting northing radius) register answer ⌝ }
 {
-    register_queries::guzbytor_register_radius(register, easting, northing, radius, answer)
+    register_queries::in_radius(register, easting, northing, radius, answer)
 }
 
 #[no_mangle]
@@ -136,7 +137,7 @@ pub extern "C" fn guzbytor_register_nearest(
 ) -> RegisterFind
     ensures { λ r. ⌜ located r ≡ nearestOn (now (register .entry)) (point easting northing) ⌝ }
 {
-    register_queries::guzbytor_register_nearest(register, easting, northing)
+    register_queries::nearest_on(register, easting, northing)
 }
 
 #[no_mangle]
@@ -148,7 +149,7 @@ pub extern "C" fn guzbytor_register_step(
 ) -> RegisterAnswer
     ensures { λ r. ⌜ AnswersJointly r state register event out ⌝ }
 {
-    register_step::guzbytor_register_step(state, register, event, out)
+    register_step::joint_step(state, register, event, out)
 }
 
 #[no_mangle]
@@ -160,5 +161,5 @@ pub extern "C" fn guzbytor_register_burst(
 ) -> RegisterBurst
     ensures { λ r. ⌜ AnswersAll r state register events out ⌝ }
 {
-    register_step::guzbytor_register_burst(state, register, events, out)
+    register_step::joint_burst(state, register, events, out)
 }

@@ -1,5 +1,4 @@
 -- Install by swaps.
--- Assumes nothing.
 use Prim.Native.Nat.{ℕ, _≤_}
 use mathlib.Core.Path.{_≡_, refl, sym, ap, ap₂, subst, _∙_}
 use mathlib.Core.Bool.{true}
@@ -19,16 +18,17 @@ use Rattle.replication.proofs.Step.ModeColours.{install-no-red}
 use Rattle.record.specs.declared.State.{State}
 use Rattle.replication.proofs.WellFormed.Logs.{install-log-fits}
 use Rattle.format.specs.Write.{idsBytes}
-use Rattle.engine.specs.Layout.{theCuts, theNoted, theStates, theYellow, theOwn, theQueue, stateLength}
-use Rattle.engine.specs.Image.{headerBytes, section, parts, image}
-use Rattle.engine.specs.Header.{headerOf, headerIn, lastOf}
-use Rattle.engine.proofs.InRange.{in-range}
-use Rattle.engine.proofs.HeaderLaws.{header-loaded}
-use Rattle.engine.specs.Decode.{decoded}
-use Rattle.engine.proofs.Fit.{well-formed-fits, image-section, image-rest}
-use Rattle.engine.proofs.Again.{parts-again}
-use Rattle.engine.specs.Holding.{Holds, HoldsSome}
-use Rattle.engine.proofs.InPlace.{holds-section, such-decoded, holds-decoded, image-holds, holds-some}
+use Rattle.image.specs.Layout.{theCuts, theNoted, theStates, theYellow, theOwn, theQueue, stateLength}
+use Rattle.image.specs.Image.{headerBytes, section, parts, image}
+use Rattle.image.specs.Header.{headerOf, headerIn}
+use Rattle.record.specs.Values.{lastOf}
+use Rattle.image.proofs.InRange.{in-range}
+use Rattle.image.proofs.HeaderLaws.{header-loaded}
+use Rattle.image.specs.Decode.{decoded}
+use Rattle.image.proofs.Fit.{well-formed-fits, image-section, image-rest}
+use Rattle.image.proofs.Again.{parts-again}
+use Rattle.image.specs.Holding.{Holds, HoldsSome}
+use Rattle.image.proofs.InPlace.{holds-section, such-decoded, holds-decoded, image-holds, holds-some}
 use Rattle.queue.proofs.Holding.{log-formed, log-fits}
 use Rattle.updates.proofs.MembershipLaws.{Saved}
 use Rattle.install.specs.Swaps.{greenSwaps}

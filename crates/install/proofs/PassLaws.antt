@@ -1,6 +1,5 @@
 -- The passes over the yellow list and over the cuts.
--- Assumes nothing.
-use Prim.Native.Nat.{ℕ, zero, suc, _+_, _*_, _-_, _≤_, _<_}
+use Prim.Native.Nat.{ℕ, zero, suc, _+_, _*_, _≤_, _<_}
 use mathlib.Core.Path.{_≡_, sym, ap, subst, _∙_}
 use mathlib.Core.List.{List, [], _∷_, _++_, append-assoc, append-nil, map, map-append}
 use mathlib.Core.Option.{some}
@@ -22,16 +21,16 @@ use Rattle.replication.specs.Machine.Colours.{cut}
 use Rattle.replication.specs.Machine.Install.{idsUpTo}
 use Rattle.replication.specs.Machine.WellFormedRanges.{IdFits}
 use Rattle.replication.proofs.WellFormed.Facts.{well-formed-facts}
-use Rattle.engine.specs.Layout.{theYellow, offset, headerSize, atServers, atYellowCount}
-use Rattle.engine.specs.Decode.{decoded, serversIn}
+use Rattle.image.specs.Layout.{theYellow, offset, headerSize, atServers, atYellowCount}
+use Rattle.image.specs.Decode.{decoded, serversIn}
 use Rattle.queue.proofs.RedLaws.{cut-read}
-use Rattle.engine.specs.Holding.{HoldsSome}
-use Rattle.engine.proofs.InPlace.{such-decoded}
+use Rattle.image.specs.Holding.{HoldsSome}
+use Rattle.image.proofs.InPlace.{such-decoded}
 use Rattle.install.specs.Table.{logIn, yellowsIn, idsOf, Indexed, Turned}
 use Rattle.install.proofs.SwapFits.{swaps-kept}
 use Rattle.install.proofs.Turning.{turned-decoded, turned-append, turned-none}
-use Rattle.engine.proofs.Counts.{numbers, holds-place}
-use Rattle.engine.specs.Counts.{yellowCount, place}
+use Rattle.image.proofs.Counts.{numbers, holds-place}
+use Rattle.image.specs.Counts.{yellowCount, place}
 use Rattle.updates.proofs.YellowLaws.{holds-ids}
 use Rattle.format.specs.Places.{idSize}
 

@@ -1,6 +1,5 @@
 -- The buffer after an action turned green by a swap is the image of the new state.
--- Assumes nothing.
-use Prim.Native.Nat.{ℕ, zero, suc, _+_, _*_, _-_, _≤_, _<_}
+use Prim.Native.Nat.{ℕ, zero, suc, _+_, _*_, _≤_, _<_}
 use mathlib.Core.Path.{_≡_, refl, sym, ap, ap₂, subst, _∙_}
 use mathlib.Core.List.{List, [], _∷_, _++_, append-assoc}
 use mathlib.Core.Option.{Option, some}
@@ -9,7 +8,7 @@ use native.Mathlib.Nat.{add-zero}
 use lib.ListN.{length, take, drop, set, length-append, length-set}
 use lib.Seq.{set-append-seam, take-append-add, drop-append-add}
 use Rattle.base.proofs.AtLaws.{none-some, some-same, at-low}
-use Rattle.base.specs.Bytes.{bytesOf, numberAt, partAt, joined, over, slot}
+use Rattle.base.specs.Bytes.{bytesOf, numberAt, partAt, over, slot}
 use Rattle.base.proofs.BytesLaws.{bytes-length}
 use Rattle.base.specs.Lists.{sum, at, Each}
 use Rattle.base.proofs.Gathered.{at-second}
@@ -20,24 +19,24 @@ use Rattle.format.specs.Types.{Id, Action}
 use Rattle.format.specs.Write.{actionBytes}
 use Rattle.replication.specs.Machine.Types.{Log, Server, withLog}
 use Rattle.replication.specs.Machine.WellFormed.{queue}
-use Rattle.engine.specs.Layout.{slotSize, theHeader, theQueue, sections, offset, atGreenLength}
-use Rattle.engine.specs.Image.{headerBytes, actionSlots, section, parts, image, fields}
-use Rattle.engine.proofs.InRange.{in-range}
-use Rattle.engine.proofs.Used.{ActionFits, action-slot-length, action-slots-length}
-use Rattle.engine.proofs.Fit.{well-formed-fits}
-use Rattle.engine.proofs.Decoded.{image-part}
-use Rattle.engine.specs.Holding.{Holds}
+use Rattle.image.specs.Layout.{slotSize, theHeader, theQueue, sections, offset, atGreenLength, atQueueLength}
+use Rattle.image.specs.Image.{headerBytes, actionSlots, section, parts, image}
+use Rattle.image.proofs.InRange.{in-range}
+use Rattle.image.proofs.Used.{ActionFits, action-slot-length, action-slots-length}
+use Rattle.image.proofs.Fit.{well-formed-fits}
+use Rattle.image.proofs.Decoded.{image-part}
+use Rattle.image.specs.Holding.{Holds}
 use Rattle.queue.specs.Queue.{position}
 use Rattle.install.specs.Swaps.{swapOut, greenFound, greenSwap, exchanged, greenAt}
 use Rattle.base.proofs.Over.{over-changed, used-part}
 use Rattle.queue.proofs.Inside.{changed-at}
-use Rattle.engine.proofs.Fields.{header-fields, fields-sized, field-changed, theGreenCount, theQueueCount}
+use Rattle.image.proofs.Fields.{opened-header}
 use Rattle.queue.proofs.SlotLaws.{slots-cons}
 use Rattle.queue.proofs.Positions.{Stands}
 use Rattle.queue.proofs.Promoted.{patched-middle}
 use Rattle.queue.proofs.Holding.{holds-changed, log-image}
-use Rattle.engine.specs.Counts.{place}
-use Rattle.engine.proofs.Counts.{numbers, holds-place}
+use Rattle.image.specs.Counts.{place}
+use Rattle.image.proofs.Counts.{numbers, holds-place}
 
 -- ---- lists
 
@@ -157,14 +156,10 @@ module _ (s : Server) (b : List ℕ) (r : Holds s b) (d : Id) (k : Stands d (s .
   same-length = ap length queue-after ∙ length-set (set (queue (s .log)) (length (s .log .green)) x) stands y ∙ length-set (queue (s .log)) (length (s .log .green)) x
 
   header-after : patched atGreenLength (bytesOf 4 (length (s .log .green) + 1)) (headerBytes s) ≡ headerBytes (withLog swappedLog s)
-  unfolding greenFound sum
+  unfolding greenFound opened-header
   header-after =
-      let t : Server = withLog swappedLog s in
-      let m : length (s .log .green) + 1 ≡ length (t .log .green) = sym (length-append (s .log .green) (x ∷ [])) in
-      ap (patched atGreenLength (bytesOf 4 (length (s .log .green) + 1))) (header-fields s)
-      ∙ field-changed (fields s) theGreenCount (bytesOf 4 (length (s .log .green) + 1)) (fields-sized s) (omega arith) (bytes-length 4 _)
-      ∙ ap₂ {A = ℕ} {B = ℕ} {C = List ℕ} (λ i j. joined (set (set (fields s) theGreenCount (bytesOf 4 i)) theQueueCount (bytesOf 4 j))) m (sym same-length)
-      ∙ sym (header-fields t)
+      ap₂ {A = ℕ} {B = ℕ} {C = List ℕ} (λ i j. patched atGreenLength (bytesOf 4 i) (patched atQueueLength (bytesOf 4 j) (headerBytes s)))
+      (sym (length-append (s .log .green) (x ∷ []))) (sym same-length)
 
   fits : Each ActionFits (queue (s .log))
   fits = well-formed-fits s (r .formed) .actions

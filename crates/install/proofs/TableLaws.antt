@@ -1,5 +1,4 @@
 -- The table of places: filled.
--- Assumes nothing.
 use Prim.Native.Nat.{ℕ, _+_, _*_, _≤_, _<_}
 use mathlib.Core.Path.{_≡_, sym, ap, _∙_, subst}
 use mathlib.Core.List.{List}
@@ -24,17 +23,17 @@ use Rattle.record.specs.Values.{idOf, slot}
 use Rattle.record.proofs.OnePass.{kept-set}
 use Rattle.replication.specs.Machine.Types.{Server, contextOf}
 use Rattle.replication.specs.Machine.WellFormed.{queue, idsIn}
-use Rattle.engine.specs.Layout.{slotSize, atQueueLength, atGreenLength, theQueue}
-use Rattle.engine.specs.Decode.{decoded}
-use Rattle.engine.proofs.InRange.{in-range}
-use Rattle.engine.specs.Holding.{Holds, HoldsSome}
-use Rattle.engine.proofs.InPlace.{such-decoded, such-header}
+use Rattle.image.specs.Layout.{slotSize, atQueueLength, atGreenLength, theQueue}
+use Rattle.image.specs.Decode.{decoded}
+use Rattle.image.proofs.InRange.{in-range}
+use Rattle.image.specs.Holding.{Holds, HoldsSome}
+use Rattle.image.proofs.InPlace.{such-decoded, such-header}
 use Rattle.queue.proofs.Holding.{log-fits}
 use Rattle.queue.proofs.ReadLaws.{queue-read, actions-at}
 use Rattle.install.specs.Table.{logIn, Indexed, IndexedFrom, idIn}
 use Rattle.install.proofs.SwapLaws.{Once}
-use Rattle.engine.specs.Counts.{queueCount, greenCount, place, CountsIn}
-use Rattle.engine.proofs.Counts.{numbers, such-counts}
+use Rattle.image.specs.Counts.{queueCount, greenCount, place, CountsIn}
+use Rattle.image.proofs.Counts.{numbers, such-counts}
 
 -- ---- the place of an id in the table
 
@@ -81,9 +80,6 @@ entry-in b k p x y s h e f g =
 
 pub count-inside : (b : List ℕ) → HoldsSome b → atQueueLength + 4 ≤ length b
 count-inside b s = omega (arith, such-header _ b s)
-
-pub green-inside : (b : List ℕ) → HoldsSome b → atGreenLength + 4 ≤ length b
-green-inside b s = omega (arith, such-header _ b s)
 
 -- ---- filled
 

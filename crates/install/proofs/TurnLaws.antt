@@ -1,7 +1,6 @@
 -- An action looked up by a hint, and turned green.
--- Assumes nothing.
 use Prim.Native.Nat.{ℕ, _+_, _*_, _-_, _^_, _≤_, _<_, zero, suc}
-use mathlib.Core.Path.{_≡_, sym, ap, subst, _∙_, refl}
+use mathlib.Core.Path.{_≡_, sym, ap, _∙_, refl, subst}
 use mathlib.Core.Bool.{Bool, true, false, not}
 use mathlib.Core.List.{List, [], _∷_, _++_}
 use mathlib.Core.Option.{some}
@@ -21,13 +20,13 @@ use Rattle.format.specs.Read.{idAt, actionAt}
 use Rattle.replication.specs.Machine.Types.{Log, Server, withLog}
 use Rattle.replication.specs.Machine.WellFormed.{queue}
 use Rattle.replication.proofs.WellFormed.Ids.{same-id-yes, same-id-holds}
-use Rattle.engine.specs.Layout.{slotSize, atQueueLength, atGreenLength, theQueue}
-use Rattle.engine.specs.Image.{image}
-use Rattle.engine.specs.Decode.{decoded}
-use Rattle.engine.specs.Holding.{Holds, HoldsSome}
-use Rattle.engine.proofs.InPlace.{such-decoded}
+use Rattle.image.specs.Layout.{slotSize, atQueueLength, atGreenLength, theQueue}
+use Rattle.image.specs.Image.{image}
+use Rattle.image.specs.Decode.{decoded}
+use Rattle.image.specs.Holding.{Holds, HoldsSome}
+use Rattle.image.proofs.InPlace.{such-decoded}
 use Rattle.queue.specs.Queue.{position}
-use Rattle.engine.specs.Decode.{actionsAt}
+use Rattle.image.specs.Decode.{actionsAt}
 use Rattle.queue.proofs.Positions.{position-found, position-most, actions-drop}
 use Rattle.queue.proofs.ReadLaws.{find-at, queue-read}
 use Rattle.install.specs.Swaps.{greenSwap, greenSwaps, greenAt}
@@ -39,13 +38,13 @@ use Rattle.install.proofs.SwapFits.{Swap, unmoved, moved, swap?, swap-e
 use Rattle.install.proofs.Swapped.{swap-image}
 use Rattle.install.proofs.TableLaws.{read-at, read-id, green-read, queue-count, queue-once}
 use Rattle.install.proofs.Turning.{swaps-hold, indexed-by}
-use Rattle.engine.specs.Counts.{queueCount, greenCount, place, CountsIn}
-use Rattle.engine.proofs.Slots.{actions-count}
+use Rattle.image.specs.Counts.{queueCount, greenCount, place, CountsIn}
+use Rattle.image.proofs.Slots.{actions-count}
 use mir.Syntax.{w64}
 use mir.Val.{Fits}
 use Rattle.base.proofs.QuantifierLaws.{at-drop}
 use Rattle.install.proofs.SwapLaws.{Once, cons-count}
-use Rattle.engine.proofs.Counts.{queue-parts}
+use Rattle.image.proofs.Counts.{queue-parts}
 
 -- ---- looked up
 

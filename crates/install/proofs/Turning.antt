@@ -1,6 +1,5 @@
 -- Actions turned green one after the other, in a buffer.
--- Assumes nothing.
-use Prim.Native.Nat.{ℕ, _+_, _*_, _≤_}
+use Prim.Native.Nat.{ℕ, _*_}
 use mathlib.Core.Path.{_≡_, refl, sym, ap, subst, _∙_}
 use mathlib.Core.Bool.{true}
 use mathlib.Core.List.{List, [], _++_}
@@ -11,19 +10,19 @@ use Rattle.format.specs.Types.{Id, Action}
 use Rattle.format.specs.Write.{cutsBytes}
 use Rattle.replication.specs.Machine.Types.{Log, Server, withLog}
 use Rattle.replication.specs.Machine.WellFormed.{queue, wellFormed}
-use Rattle.engine.specs.Layout.{slotSize}
-use Rattle.engine.specs.Image.{actionSlots, image}
-use Rattle.engine.specs.Decode.{decoded}
-use Rattle.engine.proofs.Used.{action-slots-length}
-use Rattle.engine.proofs.Fit.{well-formed-fits}
-use Rattle.engine.specs.Holding.{Holds, HoldsSome}
-use Rattle.engine.proofs.InPlace.{such-decoded, holds-decoded, image-holds, holds-some}
+use Rattle.image.specs.Layout.{slotSize}
+use Rattle.image.specs.Image.{actionSlots, image}
+use Rattle.image.specs.Decode.{decoded}
+use Rattle.image.proofs.Used.{action-slots-length}
+use Rattle.image.proofs.Fit.{well-formed-fits}
+use Rattle.image.specs.Holding.{Holds, HoldsSome}
+use Rattle.image.proofs.InPlace.{such-decoded, holds-decoded, image-holds, holds-some}
 use Rattle.queue.proofs.Holding.{log-formed, log-fits}
 use Rattle.queue.proofs.GreenLaws.{log-image-over}
 use Rattle.install.specs.Swaps.{greenSwaps}
 use Rattle.install.specs.Table.{logIn, Hinted, Indexed, Turned}
 use Rattle.install.proofs.SwapFits.{swaps-kept, swaps-fits, swaps-append}
-use Rattle.engine.proofs.Counts.{holds-counts}
+use Rattle.image.proofs.Counts.{holds-counts}
 
 -- ---- the state that is left
 

@@ -1,6 +1,5 @@
 -- Turning green without a shift: the action and the lowest red one change places. At Install all red actions turn green, so that
 -- the order in which the others wait does not matter.
--- Assumes nothing.
 use Prim.Native.Nat.{ℕ, zero, suc, _+_, _*_}
 use mathlib.Core.List.{List, [], _∷_, _++_}
 use mathlib.Core.Option.{Option, none, some}
@@ -10,9 +9,9 @@ use Rattle.base.specs.Patched.{patched}
 use Rattle.format.specs.Types.{Id, Action}
 use Rattle.replication.specs.Machine.Types.{Log}
 use Rattle.replication.specs.Machine.Colours.{find}
-use Rattle.engine.specs.Layout.{slotSize, atGreenLength, theQueue}
+use Rattle.image.specs.Layout.{slotSize, atGreenLength, theQueue}
 use Rattle.queue.specs.Queue.{position}
-use Rattle.engine.specs.Counts.{place, greenCount}
+use Rattle.image.specs.Counts.{place, greenCount}
 
 -- The list without its element at k, whose place the first one takes.
 unfoldable pub swapOut : ℕ → List Action → List Action

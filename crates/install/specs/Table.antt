@@ -1,5 +1,4 @@
 -- The table of places: hints to where in the queue the action of an id stands.
--- Assumes nothing.
 use Prim.Native.Nat.{ℕ, _+_, _*_, _≤_, _<_}
 use mathlib.Core.Path.{_≡_}
 use mathlib.Core.List.{List, map}
@@ -11,13 +10,13 @@ use Rattle.record.specs.Values.{idOf, slot}
 use Rattle.replication.specs.Machine.Types.{Log, withLog}
 use Rattle.replication.specs.Machine.Colours.{cut}
 use Rattle.replication.specs.Machine.WellFormed.{queue}
-use Rattle.engine.specs.Image.{image}
-use Rattle.engine.specs.Decode.{decoded}
-use Rattle.engine.specs.Holding.{HoldsSome}
+use Rattle.image.specs.Image.{image}
+use Rattle.image.specs.Decode.{decoded}
+use Rattle.image.specs.Holding.{HoldsSome}
 use Rattle.queue.specs.Queue.{position}
 use Rattle.install.specs.Swaps.{greenSwaps}
-use Rattle.engine.specs.Counts.{CountsIn, queueCount, greenCount, place}
-use Rattle.engine.specs.Layout.{theQueue, slotSize}
+use Rattle.image.specs.Counts.{CountsIn, queueCount, greenCount, place}
+use Rattle.image.specs.Layout.{theQueue, slotSize}
 use Rattle.format.specs.Read.{idAt}
 use Rattle.format.specs.Places.{idSize}
 use Rattle.base.specs.Bytes.{numberAt}

@@ -4,12 +4,13 @@ ghost use Prim.Native.Nat.{_+_, _<_};
 ghost use Rattle.format.specs.Read.{idAt};
 ghost use Rattle.replication.specs.Machine.Install.{idsUpTo};
 ghost use Rattle.install.specs.Table.{logIn, yellowsIn, idsOf, Indexed, Turned, IdInside};
-ghost use Rattle.engine.specs.Decode.{serversIn};
+ghost use Rattle.image.specs.Decode.{serversIn};
 use crate::table::turn_green;
-use engine::places::THE_YELLOW;
-use engine::places::place_of;
+use image::places::THE_YELLOW;
+use image::places::place_of;
 use octets::numbers::num8;
 use octets::numbers::num16;
+use record::ActionHead;
 use record::State;
 
 // The action with the id at `at` turns green if it is red.
@@ -18,7 +19,7 @@ fn turn_at(state: &mut [u8], places: &mut [u16; State::MOST_IDS], at: usize)
     ensures { λ _. ⌜ Turned (idAt (now (state .entry)) at ∷ []) (now (state .entry)) (now (places .exit)) (now (state .exit)) ⌝ }
 {
     let creator = num8(state, at);
-    let index = num16(state, at + 1);
+    let index = num16(state, at + ActionHead::INDEX);
     turn_green(state, places, creator, index);
 }
 
@@ -41,7 +42,7 @@ fn turn_creator(state: &mut [u8], places: &mut [u16; State::MOST_IDS], creator: 
     requires { ⌜ Indexed (now places) (now state) × (creator < serversIn (now state)) ⌝ }
     ensures { λ _. ⌜ Turned (idsOf creator (now (state .entry))) (now (state .entry)) (now (places .exit)) (now (state .exit)) ⌝ }
 {
-    let cut = num16(state, State::SIZE + 2 * creator as usize);
+    let cut = num16(state, State::SIZE + State::CUT * creator as usize);
     let mut i: u16 = 0;
     while i < cut {
         turn_green(state, places, creator, i + 1);

@@ -2,11 +2,11 @@
 ghost use mathlib.Core.Path.{_≡_};
 ghost use Prim.Native.Nat.{_+_, _*_, _≤_, _<_};
 ghost use lib.ListN.{length};
-ghost use Rattle.engine.specs.Layout.{slotSize};
+ghost use Rattle.image.specs.Layout.{slotSize};
 ghost use Rattle.install.specs.Swaps.{exchanged, greenAt};
-ghost use Rattle.engine.specs.Counts.{queueCount, greenCount, CountsIn};
-use engine::places::THE_QUEUE;
-use engine::places::place_of;
+ghost use Rattle.image.specs.Counts.{queueCount, greenCount, CountsIn};
+use image::places::THE_QUEUE;
+use image::places::place_of;
 use octets::blocks::copy;
 use octets::numbers::num32;
 use octets::numbers::put32;

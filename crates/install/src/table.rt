@@ -6,17 +6,18 @@ ghost use Prim.Native.Nat.{_+_, _≤_, _<_};
 ghost use lib.ListN.{set};
 ghost use Rattle.format.specs.Limits.{mostServers, mostIds};
 ghost use Rattle.record.specs.Values.{idOf, slot};
-ghost use Rattle.engine.specs.Holding.{HoldsSome};
+ghost use Rattle.image.specs.Holding.{HoldsSome};
 ghost use Rattle.install.specs.Table.{placeFrom, IndexedFrom, Indexed, Turned, idIn};
-ghost use Rattle.engine.specs.Counts.{queueCount, CountsIn};
+ghost use Rattle.image.specs.Counts.{queueCount, CountsIn};
 use crate::swapping::green_at;
-use engine::places::THE_QUEUE;
-use engine::places::place_of;
+use image::places::THE_QUEUE;
+use image::places::place_of;
 use octets::numbers::num8;
 use octets::numbers::num16;
 use octets::numbers::num32;
 use octets::numbers::wider;
 use queue::finding::find;
+use record::ActionHead;
 use record::State;
 use writer::parts::is_id;
 
@@ -34,7 +35,7 @@ pub fn entry_at(state: &[u8], k: usize) -> usize
     ensures { λ r. ⌜ (r ≡ slot (idIn (now (state .entry)) k)) × (r < mostIds) ⌝ }
 {
     let at = place_of(state, THE_QUEUE) + State::SLOT * k;
-    entry(num8(state, at), num16(state, at + 1))
+    entry(num8(state, at), num16(state, at + ActionHead::INDEX))
 }
 
 // A hint to the place k of the queue, for the id whose place in the table is p: one more than k.

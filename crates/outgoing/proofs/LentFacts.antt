@@ -1,13 +1,12 @@
 -- What is known of a state in lent buffers.
--- Assumes nothing.
 use Prim.Native.Nat.{ℕ, _≤_}
 use mathlib.Core.Path.{subst}
 use mathlib.Core.List.{List}
 use lib.ListN.{length}
 use Rattle.replication.specs.Machine.Types.{Server}
-use Rattle.engine.specs.Layout.{outLength}
-use Rattle.engine.specs.Holding.{Holds}
-use Rattle.engine.proofs.InPlace.{holds-one}
+use Rattle.image.specs.Layout.{outLength}
+use Rattle.image.specs.Holding.{Holds}
+use Rattle.image.proofs.InPlace.{holds-one}
 use Rattle.outgoing.specs.Lent.{LentSuch}
 
 pub lent-fact : (P : Server → Type 0) (b o : List ℕ) (s : Server) → LentSuch P b o → Holds s b → P s

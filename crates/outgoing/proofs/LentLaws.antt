@@ -1,5 +1,4 @@
 -- What buffers that are lent with a state give, and a record put into the outgoing one.
--- Assumes nothing.
 use Prim.Native.Nat.{ℕ, _+_, _-_, _≤_, _<_}
 use mathlib.Core.Path.{_≡_, refl, sym, ap, subst, _∙_}
 use mathlib.Core.List.{List, [], _∷_, _++_, append-nil, map, map-append}
@@ -21,15 +20,15 @@ use Rattle.replication.specs.Machine.Types.{Server}
 use Rattle.replication.proofs.WellFormed.Changes.{body}
 use Rattle.replication.proofs.WellFormed.Facts.{well-formed-facts}
 use Rattle.replication.proofs.WellFormed.Records.{Products, products}
-use Rattle.engine.specs.Layout.{offset, headerSize, theYellow, sectionCount}
-use Rattle.engine.specs.Image.{parts}
-use Rattle.engine.proofs.Decoded.{image-part}
-use Rattle.engine.proofs.Fit.{well-formed-fits}
-use Rattle.engine.specs.Holding.{Holds, HoldsSome}
-use Rattle.engine.proofs.InPlace.{holds-some}
+use Rattle.image.specs.Layout.{offset, headerSize, theYellow, sectionCount}
+use Rattle.image.specs.Image.{parts}
+use Rattle.image.proofs.Decoded.{image-part}
+use Rattle.image.proofs.Fit.{well-formed-fits}
+use Rattle.image.specs.Holding.{Holds, HoldsSome}
+use Rattle.image.proofs.InPlace.{holds-some}
 use Rattle.outgoing.specs.Lent.{LentSuch}
-use Rattle.engine.specs.Counts.{CountsIn, place}
-use Rattle.engine.proofs.Counts.{holds-counts}
+use Rattle.image.specs.Counts.{CountsIn, place}
+use Rattle.image.proofs.Counts.{holds-counts}
 
 module _ (P : Server → Type 0) (b o : List ℕ) (h : LentSuch P b o) where
   pub lent-some : HoldsSome b

@@ -1,5 +1,4 @@
 -- The parts of the plan: what a buffer says of its queue, and whose part is what.
--- Assumes nothing.
 use Prim.Native.Nat.{ℕ, suc, _+_, _*_, _-_, _≤_, _<_}
 use mathlib.Core.Path.{_≡_, refl, sym, ap, ap₂, subst, _∙_}
 use mathlib.Core.Bool.{true, false, not}
@@ -23,10 +22,10 @@ use Rattle.replication.specs.Machine.WellFormed.{queue}
 use Rattle.replication.proofs.WellFormed.Changes.{Body, body, collected-fit}
 use Rattle.replication.proofs.WellFormed.Decisions.{green-bound, cut-bound}
 use Rattle.replication.proofs.WellFormed.Facts.{well-formed-facts}
-use Rattle.engine.specs.Layout.{theQueue, outLength, atServers, atMe, atGreenLength}
-use Rattle.engine.specs.Decode.{actionsAt, decodedAs, serversIn, quotaIn, decoded, greensIn}
-use Rattle.engine.specs.Holding.{Holds, HoldsSuch, HoldsSome}
-use Rattle.engine.proofs.InPlace.{holds-decoded, holds-some}
+use Rattle.image.specs.Layout.{theQueue, outLength, atServers, atMe, atGreenLength}
+use Rattle.image.specs.Decode.{actionsAt, decodedAs, serversIn, quotaIn, decoded, greensIn}
+use Rattle.image.specs.Holding.{Holds, HoldsSuch, HoldsSome}
+use Rattle.image.proofs.InPlace.{holds-decoded, holds-some}
 use Rattle.queue.proofs.ReadLaws.{holds-queue}
 use Rattle.outgoing.specs.Lent.{LentSuch}
 use Rattle.exchange.specs.Decided.{partOf}
@@ -36,8 +35,8 @@ use Rattle.outgoing.specs.Resending.{redPart, redParts, wholePart}
 use Rattle.outgoing.proofs.ResendingLaws.{sends-none, sends-next}
 use Rattle.format.specs.Places.{mostRetransmission}
 use Rattle.format.specs.Write.{recordBytes}
-use Rattle.engine.specs.Counts.{queueCount, place, mostActions}
-use Rattle.engine.proofs.Counts.{numbers, holds-counts}
+use Rattle.image.specs.Counts.{queueCount, place, mostActions}
+use Rattle.image.proofs.Counts.{numbers, holds-counts}
 
 -- ---- a buffer that holds a state
 

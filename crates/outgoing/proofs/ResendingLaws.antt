@@ -1,5 +1,4 @@
 -- Records of actions written one after another.
--- Assumes nothing.
 use Prim.Native.Nat.{ℕ, _+_, _*_, _-_, _^_, _≤_, _<_}
 use mathlib.Core.Path.{_≡_, refl, sym, ap, ap₂, subst, _∙_}
 use mathlib.Core.List.{List, [], _∷_, _++_}
@@ -26,18 +25,18 @@ use Rattle.record.specs.Values.{idOf, actionOf}
 use Rattle.writer.specs.Written.{put, putOf}
 use Rattle.replication.specs.Machine.Colours.{find}
 use Rattle.replication.specs.Machine.Plan.{resent}
-use Rattle.engine.specs.Layout.{slotSize, atGreenLength, theQueue, atQueueLength}
-use Rattle.engine.proofs.Slots.{actions-count}
+use Rattle.image.specs.Layout.{slotSize, atGreenLength, theQueue, atQueueLength}
+use Rattle.image.proofs.Slots.{actions-count}
 use Rattle.queue.proofs.ReadLaws.{actions-at, slot-read, find-at, queue-read}
 use Rattle.install.specs.Table.{IndexedFrom, placeFrom, logIn}
 use Rattle.outgoing.specs.Resending.{queueIn, fromPlace, atPosition, asRed, oneOf, Sends}
 use Rattle.outgoing.proofs.LentLaws.{Placed, rest-room, rest-done, one-record, records-append}
 use Rattle.format.specs.Places.{mostRetransmission}
-use Rattle.engine.specs.Counts.{queueCount, greenCount, place}
+use Rattle.image.specs.Counts.{queueCount, greenCount, place}
 use Rattle.queue.specs.Queue.{position, slotPlace, greenSlot, QueueIn}
 use Rattle.queue.proofs.GreenHistory.{green-low, greensIn-at}
-use Rattle.engine.proofs.InPlace.{such-decoded}
-use Rattle.engine.specs.Decode.{decoded, decodedAs, greensIn}
+use Rattle.image.proofs.InPlace.{such-decoded}
+use Rattle.image.specs.Decode.{decoded, decodedAs, greensIn}
 use native.Mathlib.Nat.{zero-add}
 use lib.Seq.{take-all}
 use Rattle.replication.specs.Machine.WellFormed.{queue}

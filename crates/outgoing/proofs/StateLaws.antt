@@ -1,5 +1,4 @@
 -- The State that a server sends when a regular configuration comes.
--- Assumes nothing.
 use Prim.Native.Nat.{ℕ, _+_, _*_, _-_, _≤_}
 use mathlib.Core.Path.{_≡_, sym, ap, _∙_}
 use mathlib.Core.Bool.{true}
@@ -24,24 +23,24 @@ use Rattle.record.specs.declared.State as declared
 use Rattle.record.specs.declared.StateHead.{StateHead}
 use Rattle.writer.specs.declared.records.Written.{Written}
 use Rattle.writer.specs.declared.records.Written.the-variants.{Next, Full}
-use Rattle.record.specs.Values.{componentOf, primaryOf, markOf, stateOf}
+use Rattle.record.specs.Values.{primaryOf, markOf, stateOf, lastOf}
 use Rattle.writer.specs.Written.{put, putOf, putState}
 use Rattle.replication.specs.Machine.Types.{Server, contextOf}
 use Rattle.replication.specs.Machine.Step.{ownState}
-use Rattle.engine.specs.Layout.{theCuts, theYellow, sections, offset, stateLength, outLength, headerSize, mostStateSize}
-use Rattle.engine.specs.Header.{lastOf, markNumbers, headerOf, headerIn}
-use Rattle.engine.specs.Image.{parts}
-use Rattle.engine.proofs.Fit.{well-formed-fits}
-use Rattle.engine.proofs.HeaderLaws.{header-loaded}
-use Rattle.engine.proofs.InRange.{InRange, in-range}
-use Rattle.engine.specs.Holding.{Holds}
+use Rattle.image.specs.Layout.{theCuts, theYellow, sections, offset, stateLength, outLength, headerSize, mostStateSize}
+use Rattle.image.specs.Header.{markNumbers, headerOf, headerIn}
+use Rattle.image.specs.Image.{parts}
+use Rattle.image.proofs.Fit.{well-formed-fits}
+use Rattle.image.proofs.HeaderLaws.{header-loaded}
+use Rattle.image.proofs.InRange.{InRange, in-range}
+use Rattle.image.specs.Holding.{Holds}
 use Rattle.updates.specs.Lists.{configurationOf}
 use Rattle.outgoing.specs.Lent.{LentSuch}
 use Rattle.outgoing.specs.Sending.{ownHead, ownRecord}
 use Rattle.outgoing.proofs.LentFacts.{lent-room}
 use Rattle.outgoing.proofs.LentLaws.{holds-products, holds-part, put-room, put-done, one-record}
-use Rattle.engine.specs.Counts.{place}
-use Rattle.engine.proofs.Counts.{holds-place}
+use Rattle.image.specs.Counts.{place}
+use Rattle.image.proofs.Counts.{holds-place}
 
 pub numbers-taken : (b : List ℕ) (id : ℕ) (h : declared.State) (g : StateHead) → h ≡ headerIn b → g ≡ ownHead h id → g ≡ ownHead (headerIn b) id
 numbers-taken b id h g e f = f ∙ ap (λ (x : declared.State). ownHead x id) e
@@ -71,7 +70,7 @@ module _ (s : Server) (b : List ℕ) (r : Holds s b) where
 
   own-made : (id set : ℕ) → stateOf (ownHead (headerOf s) id) (drop headerSize b) 0 (drop (offset (s .servers) (s .quota) theYellow) b) 0
       ≡ ownState (configurationOf id set) s
-  unfolding stateOf ownHead headerOf lastOf markNumbers primaryOf componentOf markOf ownState configurationOf
+  unfolding stateOf ownHead headerOf lastOf markNumbers primaryOf markOf ownState configurationOf
   own-made id set =
       λ i. record {
         sender = s .me;

@@ -1,5 +1,4 @@
 -- What waits on the own list, as records one after another.
--- Assumes nothing.
 use Prim.Native.Nat.{ℕ, zero, suc, _+_, _*_, _-_, _≤_, _<_}
 use mathlib.Core.Path.{_≡_, refl, sym, ap, subst, _∙_}
 use mathlib.Core.Bool.{true}
@@ -22,17 +21,17 @@ use Rattle.record.specs.Events.{actionIn, actionFrom}
 use Rattle.replication.specs.Machine.Types.{Server, contextOf}
 use Rattle.replication.specs.Machine.Requests.{waiting, waitingRecords}
 use Rattle.replication.specs.Machine.WellFormed.{wellFormed}
-use Rattle.engine.specs.Layout.{slotSize, theOwn, outLength}
-use Rattle.engine.specs.Image.{actionSlots, parts}
-use Rattle.engine.specs.Decode.{decoded, decodedAs}
-use Rattle.engine.specs.Counts.{ownCount, place}
-use Rattle.engine.specs.Header.{headerOf, headerIn}
-use Rattle.engine.specs.Holding.{Holds}
-use Rattle.engine.proofs.HeaderLaws.{header-loaded}
-use Rattle.engine.proofs.Unsent.{waiting-within, waiting-last, sent-within}
-use Rattle.engine.proofs.InPlace.{holds-decoded}
-use Rattle.engine.proofs.InRange.{in-range}
-use Rattle.engine.proofs.Counts.{numbers, holds-counts, holds-place}
+use Rattle.image.specs.Layout.{slotSize, theOwn, outLength}
+use Rattle.image.specs.Image.{actionSlots, parts}
+use Rattle.image.specs.Decode.{decoded, decodedAs}
+use Rattle.image.specs.Counts.{ownCount, place}
+use Rattle.image.specs.Header.{headerOf, headerIn}
+use Rattle.image.specs.Holding.{Holds}
+use Rattle.image.proofs.HeaderLaws.{header-loaded}
+use Rattle.image.proofs.Unsent.{waiting-within, waiting-last, sent-within}
+use Rattle.image.proofs.InPlace.{holds-decoded}
+use Rattle.image.proofs.InRange.{in-range}
+use Rattle.image.proofs.Counts.{numbers, holds-counts, holds-place}
 use Rattle.queue.proofs.ReadLaws.{actions-at, slot-read, slot-payload}
 use Rattle.outgoing.specs.Lent.{LentSuch}
 use Rattle.outgoing.specs.Resending.{oneOf, Sends, Room}

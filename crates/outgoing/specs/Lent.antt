@@ -1,5 +1,4 @@
 -- What the code of a step may rely on in lent buffers, and records put into the outgoing one.
--- Assumes nothing.
 use Prim.Native.Nat.{ℕ, _≤_}
 use mathlib.Core.Path.{_≡_}
 use mathlib.Core.List.{List}
@@ -8,8 +7,8 @@ use Rattle.base.specs.Bytes.{over}
 use Rattle.format.specs.Types.{Record}
 use Rattle.format.specs.Write.{recordBytes}
 use Rattle.replication.specs.Machine.Types.{Server}
-use Rattle.engine.specs.Layout.{outLength}
-use Rattle.engine.specs.Holding.{Holds}
+use Rattle.image.specs.Layout.{outLength}
+use Rattle.image.specs.Holding.{Holds}
 
 -- The buffer b holds a state of which P is known, and o has room for all that an event puts out.
 pub record LentSuch (P : Server → Type 0) (b o : List ℕ) : Type 0 where

@@ -1,5 +1,4 @@
 -- One's part of the retransmission plan, over the buffers.
--- Assumes nothing.
 use Prim.Native.Nat.{ℕ, _+_, _*_, _-_, _≤_}
 use mathlib.Core.Path.{_≡_}
 use mathlib.Core.List.{List, [], _++_}
@@ -14,15 +13,15 @@ use Rattle.record.specs.Values.{idOf}
 use Rattle.replication.specs.Machine.Colours.{find}
 use Rattle.replication.specs.Machine.Plan.{resent, resendGreen, resendRed, ownPart}
 use Rattle.replication.specs.Machine.Step.{collected}
-use Rattle.engine.specs.Layout.{theQueue, atMe}
-use Rattle.engine.specs.Decode.{actionsAt, decoded, serversIn}
-use Rattle.engine.specs.Holding.{Holds}
+use Rattle.image.specs.Layout.{theQueue, atMe}
+use Rattle.image.specs.Decode.{actionsAt, decoded, serversIn}
+use Rattle.image.specs.Holding.{Holds}
 use Rattle.queue.specs.Queue.{QueueIn}
 use Rattle.install.specs.Table.{IndexedFrom}
 use Rattle.base.specs.Lent.{Lent}
 use Rattle.format.specs.Places.{mostRetransmission}
 use Rattle.format.specs.Write.{recordBytes}
-use Rattle.engine.specs.Counts.{queueCount, place}
+use Rattle.image.specs.Counts.{queueCount, place}
 use denote.Ref.{now}
 use Rattle.record.specs.declared.events.ActionAt.{ActionAt}
 use Rattle.replication.specs.Machine.Types.{Server}

@@ -1,5 +1,4 @@
 -- Records that are made of the bytes of a state's buffer.
--- Assumes nothing.
 use Prim.Native.Nat.{ℕ, _+_, _*_, _-_, _≤_, _<_}
 use mathlib.Core.List.{List, [], _∷_}
 use mathlib.Core.Option.{Option, none, some}
@@ -12,14 +11,14 @@ use Rattle.record.specs.declared.State.{State as Numbers}
 use Rattle.record.specs.declared.StateHead.{StateHead}
 use Rattle.replication.specs.Machine.Types.{Server}
 use Rattle.replication.specs.Machine.Step.{ownState}
-use Rattle.engine.specs.Layout.{slotSize, theOwn}
-use Rattle.engine.specs.Decode.{actionsAt}
+use Rattle.image.specs.Layout.{slotSize, theOwn}
+use Rattle.image.specs.Decode.{actionsAt}
 use Rattle.updates.specs.Lists.{configurationOf}
-use Rattle.engine.specs.Counts.{CountsIn, ownCount, place}
+use Rattle.image.specs.Counts.{CountsIn, ownCount, place}
 use Rattle.format.specs.Places.{actionPayloadAt}
 use Rattle.format.specs.Write.{recordBytes}
 use mathlib.Core.Path.{_≡_}
-use Rattle.engine.specs.Holding.{Holds}
+use Rattle.image.specs.Holding.{Holds}
 
 -- The numbers of the State that a server with the numbers h sends in the configuration of this id.
 unfoldable pub ownHead : Numbers → (id : ℕ) → StateHead

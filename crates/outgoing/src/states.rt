@@ -2,13 +2,13 @@
 ghost use mathlib.Core.Path.{_≡_};
 ghost use Prim.Native.Nat.{_≤_};
 ghost use lib.ListN.{length};
-ghost use Rattle.engine.specs.Header.{headerIn};
-ghost use Rattle.engine.specs.Layout.{headerSize};
+ghost use Rattle.image.specs.Header.{headerIn};
+ghost use Rattle.image.specs.Layout.{headerSize};
 ghost use Rattle.outgoing.specs.Lent.{LentSuch};
 ghost use Rattle.outgoing.specs.Sending.{ownHead, PutsOwn};
-use engine::header::load;
-use engine::places::THE_YELLOW;
-use engine::places::place_of;
+use image::header::load;
+use image::places::THE_YELLOW;
+use image::places::place_of;
 use record::State;
 use record::StateHead;
 use writer::records::Written;

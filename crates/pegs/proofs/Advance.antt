@@ -1,5 +1,4 @@
 -- The register after payloads, and its buffer.
--- Assumes nothing.
 use Prim.Native.Nat.{ℕ, _+_}
 use mathlib.Core.Path.{_≡_, refl, sym, ap, _∙_}
 use mathlib.Core.Bool.{true, false}
@@ -10,7 +9,7 @@ use lib.ListN.{length}
 use Rattle.base.specs.Tests.{_and_, _≤?_, _=?_}
 use Rattle.base.specs.Bytes.{Bytes}
 use Rattle.base.specs.Lists.{all, Each}
-use Rattle.base.proofs.ListLaws.{each-implied, each-all}
+use Rattle.base.proofs.ListLaws.{each-all}
 use Rattle.base.proofs.TestLaws.{le-yes, eq-holds, both-yes, pick-as}
 use Rattle.pegs.specs.Operations.{Peg, Operation, operationOf}
 use Rattle.pegs.specs.Register.{mostPegs, numberIf, payloadNumber, afterIf, afterPayload, advance, refusals}
@@ -20,7 +19,7 @@ use Rattle.pegs.proofs.Numbers.{after-refused}
 use Rattle.pegs.proofs.Places.{formed-most, formed-sorted, sorted-rising}
 use Rattle.pegs.proofs.PegLaws.{PegRange, range-fits}
 use Rattle.pegs.proofs.ImageLaws.{Holds, number-zero, formed-range, image-length, image-number, pegs-image, used-is}
-use Rattle.pegs.proofs.Kept.{Kept, kept-payload, kept-advance, GivesIf, payload-pegs}
+use Rattle.pegs.proofs.Kept.{Kept, kept-payload, payload-pegs}
 
 -- ---- one after another
 
@@ -51,11 +50,6 @@ formed-empty = refl
 
 pub formed-after : (p : List ℕ) (l : List Peg) → formed l ≡ true → Bytes p → formed (afterPayload p l) ≡ true
 formed-after p l ok b = kept-formed (afterPayload p l) (kept-payload PegRange p l (payload-pegs p b) (formed-kept l ok))
-
-pub formed-advance : (ps : List (List ℕ)) (l : List Peg) → formed l ≡ true → Each Bytes ps → formed (advance l ps) ≡ true
-formed-advance ps l ok b =
-    kept-formed (advance l ps)
-    (kept-advance PegRange ps l (each-implied Bytes (λ p. GivesIf PegRange (operationOf p)) payload-pegs ps b) (formed-kept l ok))
 
 -- ---- in the buffer
 

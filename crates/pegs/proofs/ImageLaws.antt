@@ -1,5 +1,4 @@
 -- The laws of a register's image over the bytes of its buffer.
--- Assumes nothing.
 use Prim.Native.Nat.{ℕ, _+_, _*_, _≤_, _<_}
 use mathlib.Core.Path.{_≡_, refl, sym, ap, subst, _∙_}
 use mathlib.Core.Bool.{Bool, true, false}
@@ -153,9 +152,6 @@ slot-at b k h = pegs-at (pegCount b) b countSize k h
 -- ---- a buffer that holds a register
 
 module _ (b : List ℕ) (h : Holds b) where
-  pub holds-number : registerNumber b ≡ 0
-  holds-number = ap registerNumber (sym (h .image)) ∙ image-number (pegsIn b) b (h .formed) (h .long)
-
   pub used-is : usedIn b ≡ registerBytes (pegsIn b)
   used-is = ap usedIn (sym (h .image)) ∙ image-used (pegsIn b) b (h .formed) (h .long)
 

@@ -1,5 +1,4 @@
 -- What every operation that is taken keeps of a register: its order, its bound, and a fact of each of its pegs.
--- Assumes nothing.
 use Prim.Native.Nat.{ℕ, suc, _+_, _≤_}
 use mathlib.Core.Path.{_≡_, refl, sym, ap, subst, _∙_}
 use mathlib.Core.Bool.{Bool, true}

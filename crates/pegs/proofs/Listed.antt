@@ -1,5 +1,4 @@
 -- What is in a register is what is found by its name; and the theorem of its names.
--- Assumes nothing.
 use Prim.Native.Nat.{ℕ}
 use mathlib.Core.Path.{_≡_, refl, sym, ap, _∙_}
 use mathlib.Core.Bool.{true, false}

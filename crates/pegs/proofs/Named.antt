@@ -1,5 +1,4 @@
 -- The names of a register are those whose last taken operation is a set or a move.
--- Assumes nothing.
 use Prim.Native.Nat.{ℕ}
 use mathlib.Core.Path.{_≡_, refl, sym, ap, _∙_}
 use mathlib.Core.Bool.{true, false}

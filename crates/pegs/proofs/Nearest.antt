@@ -1,5 +1,4 @@
 -- The nearest peg: found along the list, each peg compared with the nearest of those in front of it.
--- Assumes nothing.
 use Prim.Native.Nat.{ℕ, zero, suc, _≤_, _<_}
 use mathlib.Core.Path.{_≡_, refl, sym, ap, subst, _∙_}
 use mathlib.Core.Bool.{true, false}

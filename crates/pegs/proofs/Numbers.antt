@@ -1,5 +1,4 @@
 -- The numbers that operations get, and what a refused one leaves.
--- Assumes nothing.
 use Prim.Native.Nat.{ℕ, _≤_, _<_}
 use mathlib.Core.Path.{_≡_, refl, sym}
 use mathlib.Core.Bool.{true, false}

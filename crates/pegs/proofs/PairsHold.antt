@@ -1,5 +1,4 @@
 -- The pairs hold by computation.
--- Assumes nothing.
 use mathlib.Core.Path.{refl}
 use Rattle.base.specs.Opened.{opened}
 use Rattle.pegs.specs.Names.{before}

@@ -1,5 +1,4 @@
 -- Positions in a sorted register, and what an operation does there.
--- Assumes nothing.
 use Prim.Native.Nat.{ℕ, zero, suc, _≤_, _<_}
 use mathlib.Core.Path.{_≡_, refl, sym, ap, _∙_}
 use mathlib.Core.Bool.{true, false}
@@ -177,10 +176,6 @@ module _ (m : List ℕ) where
   pub at-other : (l : List Peg) → Sorted l → (g : Peg) → at l (position m l) ≡ some g → same m (g .name) ≡ false → find m l ≡ none
   unfolding foundIn
   at-other l s g e f = find-at l s ∙ ap foundIn e ∙ sym (pick-no (same m (g .name)) _ (some (g .place)) none f refl)
-
-  pub at-past : (l : List Peg) → Sorted l → at l (position m l) ≡ none → find m l ≡ none
-  unfolding foundIn
-  at-past l s e = find-at l s ∙ ap foundIn e
 
   -- The peg at the position of a name that is there.
   pub record Here (l : List Peg) : Type 0 where

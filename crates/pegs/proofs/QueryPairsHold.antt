@@ -1,5 +1,4 @@
 -- The pairs hold: what lent buffers get by laws, the others by computation.
--- Assumes nothing.
 use Prim.Native.Nat.{ℕ}
 use mathlib.Core.Path.{_≡_, refl, ap, _∙_}
 use mathlib.Core.List.{List, [], _∷_}

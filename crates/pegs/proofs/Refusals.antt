@@ -1,5 +1,4 @@
 -- The table's buffers, and the numbers of its rectangles over them: 7, then 8, then 12.
--- Assumes nothing.
 use Prim.Native.Nat.{_-_, _*_}
 use mathlib.Core.Path.{_≡_, refl, sym}
 use mathlib.Core.Bool.{true, false}

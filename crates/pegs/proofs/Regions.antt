@@ -1,5 +1,4 @@
 -- The pegs of a region: what is in them, their order, and their register in the answer's buffer.
--- Assumes nothing.
 use Prim.Native.Nat.{ℕ, _≤_}
 use mathlib.Core.Path.{_≡_, refl, sym, ap, _∙_}
 use mathlib.Core.Bool.{Bool, true, false}

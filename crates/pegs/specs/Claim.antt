@@ -1,5 +1,4 @@
 -- What a register is. Document 02, K2: "Its names are exactly those whose last taken operation is a set or a move, each at that one's place."
--- Assumes nothing.
 use Prim.Native.Nat.{ℕ, _≤_}
 use mathlib.Core.Path.{_≡_}
 use mathlib.Core.Bool.{true, false}

@@ -1,5 +1,4 @@
 -- The register in a lent buffer: how many pegs there are, then a slot for each, in their order (docs/LAYOUT.md).
--- Assumes nothing.
 use Prim.Native.Nat.{ℕ, zero, suc, _+_, _*_, _^_}
 use mathlib.Core.Bool.{Bool, true}
 use mathlib.Core.List.{List, [], _∷_, map}

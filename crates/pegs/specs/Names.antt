@@ -1,5 +1,4 @@
 -- Names of pegs and their order. Document 02, K2: "Names count whole, every byte."
--- Assumes nothing.
 use Prim.Native.Nat.{ℕ}
 use mathlib.Core.Bool.{Bool, true, false}
 use mathlib.Core.List.{List, [], _∷_}

@@ -1,5 +1,4 @@
 -- A payload as an operation on a peg. Document 02, K2.
--- Assumes nothing.
 use Prim.Native.Nat.{ℕ, _+_, _*_}
 use mathlib.Core.Bool.{Bool}
 use mathlib.Core.List.{List}

@@ -1,5 +1,4 @@
 -- What the exported functions on a register answer: numbers, and the bytes of its buffer. Document 02, K2.
--- Assumes nothing.
 use Prim.Native.Nat.{ℕ, suc}
 use mathlib.Core.Bool.{Bool}
 use mathlib.Core.List.{List, [], _∷_}
@@ -7,6 +6,7 @@ use mathlib.Core.Option.{Option, none, some}
 use lib.IntN.{ℤ, pos}
 use lib.ListN.{length}
 use Rattle.base.specs.Tests.{_<?_, _=?_, pick}
+use Rattle.base.specs.Refusals.{shortBuffer, badState}
 use Rattle.pegs.specs.Names.{before}
 use Rattle.pegs.specs.Operations.{Place, Peg, coordinate}
 use Rattle.pegs.specs.Register.{find, payloadNumber, afterPayload}
@@ -17,7 +17,7 @@ unfoldable pub registerShort : List ℕ → Bool
 registerShort r = length r <? registerLength
 
 unfoldable pub registerNumber : List ℕ → ℕ
-registerNumber r = pick (registerShort r) 7 (pick (registerReads r) 0 8)
+registerNumber r = pick (registerShort r) shortBuffer (pick (registerReads r) 0 badState)
 
 -- ---- start, and one operation
 
@@ -31,7 +31,7 @@ changed k r = record { number = k; register = r }
 
 -- The empty register.
 unfoldable pub emptyOn : List ℕ → Changed
-emptyOn r = pick (registerShort r) (changed 7 r) (changed 0 (registerImage [] r))
+emptyOn r = pick (registerShort r) (changed shortBuffer r) (changed 0 (registerImage [] r))
 
 -- "no refusal changes anything lent"
 unfoldable pub applied : (payload : List ℕ) → List Peg → List ℕ → Changed

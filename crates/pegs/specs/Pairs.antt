@@ -1,5 +1,4 @@
 -- Closed instances of the register's rules, one table, one theorem. Document 02, K2.
--- Assumes nothing.
 use Prim.Native.Nat.{ℕ}
 use mathlib.Core.Path.{_≡_}
 use mathlib.Core.Bool.{true, false}

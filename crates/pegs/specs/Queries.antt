@@ -1,10 +1,10 @@
 -- What the exported functions answer on pegs in the plane: numbers, and the bytes of a lent buffer. Document 02, K5.
--- Assumes nothing.
 use Prim.Native.Nat.{ℕ}
 use mathlib.Core.List.{List}
 use mathlib.Core.Option.{Option, none, some}
 use Rattle.base.specs.Lists.{at}
 use Rattle.base.specs.Tests.{_=?_, pick}
+use Rattle.base.specs.Refusals.{shortBuffer}
 use Rattle.plane.specs.declared.Point.{Point}
 use Rattle.plane.specs.declared.Region.{Region}
 use Rattle.plane.specs.declared.Region.the-variants.{Inside, Within}
@@ -18,11 +18,14 @@ use Rattle.pegs.specs.Regions.{pegsInside, nearest}
 
 -- "7 a buffer below its formula, then 8 a register .. out of range or order or with a name twice": the answer's buffer counts for 7, never for 8.
 unfoldable pub bothNumber : (register answer : List ℕ) → ℕ
-bothNumber r b = pick (registerShort b) 7 (registerNumber r)
+bothNumber r b = pick (registerShort b) shortBuffer (registerNumber r)
 
 -- "12 a rectangle whose low side exceeds its high side"
+abbrev pub badRectangle : ℕ
+badRectangle = 12
+
 unfoldable pub sidesNumber : Region → ℕ
-sidesNumber (Inside s) = pick (sidesRise s) 0 12
+sidesNumber (Inside s) = pick (sidesRise s) 0 badRectangle
 sidesNumber (Within p m) = 0
 
 unfoldable pub regionNumber : Region → (register answer : List ℕ) → ℕ

@@ -1,5 +1,4 @@
 -- What is true of the answers on pegs in the plane. Document 02, K5.
--- Assumes nothing.
 use Prim.Native.Nat.{ℕ, _≤_}
 use mathlib.Core.Path.{_≡_}
 use mathlib.Core.Bool.{true}

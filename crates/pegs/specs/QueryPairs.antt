@@ -1,5 +1,4 @@
 -- Closed instances of the rules for pegs in the plane, one table, one theorem. Document 02, K5.
--- Assumes nothing.
 use Prim.Native.Nat.{ℕ, _-_, _*_}
 use mathlib.Core.Path.{_≡_}
 use mathlib.Core.Bool.{true, false}

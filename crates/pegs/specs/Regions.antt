@@ -1,5 +1,4 @@
 -- The pegs of a register in a region of the plane, and the one nearest to a point. Document 02, K5.
--- Assumes nothing.
 use Prim.Native.Nat.{ℕ}
 use mathlib.Core.Bool.{Bool}
 use mathlib.Core.List.{List}

@@ -1,5 +1,4 @@
 -- The register of pegs that a list of payloads makes. Document 02, K2.
--- Assumes nothing.
 use Prim.Native.Nat.{ℕ, _+_}
 use mathlib.Core.List.{List, [], _∷_}
 use mathlib.Core.Option.{Option, none, some}
@@ -39,16 +38,31 @@ done (set m p) l = insert (record { name = m; place = p }) l
 done (move m p) l = replace (record { name = m; place = p }) l
 done (retire m) l = remove m l
 
--- ---- refusals: "9 set and the name is there, then 13 a set while 4,096 stand; 10 move or retire and the name is not there"; 0 where it is taken
+-- ---- refusals; 0 where it is taken
 
-unfoldable pub numberOf : Operation → List Peg → ℕ
-numberOf (set m p) l = pick (isThere (find m l)) 9 (pick (mostPegs ≤? length l) 13 0)
-numberOf (move m p) l = pick (isThere (find m l)) 0 10
-numberOf (retire m) l = pick (isThere (find m l)) 0 10
+-- "9 set and the name is there, ..
+abbrev pub pegThere : ℕ
+pegThere = 9
+
+-- .. then 13 a set while 4,096 stand; ..
+abbrev pub registerFull : ℕ
+registerFull = 13
+
+-- .. 10 move or retire and the name is not there"
+abbrev pub pegNotThere : ℕ
+pegNotThere = 10
 
 -- "11 the payload is no such operation, tested first"
+abbrev pub noOperation : ℕ
+noOperation = 11
+
+unfoldable pub numberOf : Operation → List Peg → ℕ
+numberOf (set m p) l = pick (isThere (find m l)) pegThere (pick (mostPegs ≤? length l) registerFull 0)
+numberOf (move m p) l = pick (isThere (find m l)) 0 pegNotThere
+numberOf (retire m) l = pick (isThere (find m l)) 0 pegNotThere
+
 unfoldable pub numberIf : Option Operation → List Peg → ℕ
-numberIf none l = 11
+numberIf none l = noOperation
 numberIf (some o) l = numberOf o l
 
 unfoldable pub payloadNumber : (payload : List ℕ) → List Peg → ℕ

@@ -1,5 +1,4 @@
 -- Points, rectangles and distances in the plane, in millimetres. Document 02, K5: all numbers are whole, and none wraps.
--- Assumes nothing.
 use Prim.Native.Nat.{ℕ, _+_, _*_}
 use mathlib.Core.Bool.{Bool}
 use lib.IntN.{ℤ, _-ℤ_, natAbs}

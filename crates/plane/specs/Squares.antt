@@ -1,5 +1,4 @@
 -- Numbers of up to 65 bits, as the code has them.
--- Assumes nothing.
 use Prim.Native.Nat.{ℕ, _+_, _*_, _<_}
 use mathlib.Core.Path.{_≡_}
 use Rattle.plane.specs.declared.distances.Square.{Square}

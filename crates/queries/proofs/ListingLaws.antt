@@ -1,5 +1,4 @@
 -- The answer with green entries, by the tests in their order; and as the code gives it.
--- Assumes nothing.
 use Prim.Native.Nat.{ℕ, _+_, _≤_, _<_}
 use mathlib.Core.Path.{_≡_, refl, sym, ap, _∙_}
 use mathlib.Core.Bool.{true, false}
@@ -10,13 +9,13 @@ use Rattle.base.specs.Bytes.{numberAt}
 use Rattle.base.specs.Tests.{_or_, _<?_}
 use Rattle.base.proofs.TestLaws.{Known, holds, fails, known, pick-yes, pick-no, pick-lt, or-fails, lt-yes, lt-no, lt-holds, lt-fails}
 use Rattle.base.proofs.Branches.{or-yes, or-no}
-use Rattle.engine.specs.Layout.{atGreenLength}
-use Rattle.engine.specs.Decode.{decoded, reads, greensIn}
-use Rattle.engine.specs.Holding.{Holds}
-use Rattle.engine.specs.Outcome.{stateShort, imageNumber}
-use Rattle.engine.proofs.InPlace.{holds-header}
-use Rattle.engine.proofs.Counts.{numbers}
-use Rattle.engine.proofs.Refusals.{image-short, image-unread, image-whole, whole-read, whole-holds}
+use Rattle.image.specs.Layout.{atGreenLength}
+use Rattle.image.specs.Decode.{decoded, reads, greensIn}
+use Rattle.image.specs.Holding.{Holds}
+use Rattle.image.specs.Outcome.{stateShort, imageNumber}
+use Rattle.image.proofs.InPlace.{holds-header}
+use Rattle.image.proofs.Counts.{numbers}
+use Rattle.image.proofs.Refusals.{image-short, image-unread, image-whole, whole-read, whole-holds}
 use Rattle.queue.specs.Queue.{QueueIn}
 use Rattle.queue.proofs.ReadLaws.{holds-queue}
 use Rattle.queries.specs.declared.GreenEntries.{GreenEntries}

@@ -1,5 +1,4 @@
 -- How far a meeting is, as the code counts it.
--- Assumes nothing.
 use Prim.Native.Nat.{ℕ, suc, _+_, _*_, _/_, _%_, _^_, _≤_, _<_}
 use mathlib.Core.Path.{_≡_, refl, sym, ap, _∙_}
 use mathlib.Core.Bool.{Bool, true, false}
@@ -25,13 +24,12 @@ use Rattle.replication.specs.Machine.Step.{collected, plannedNow}
 use Rattle.replication.proofs.WellFormed.Facts.{well-formed-facts}
 use Rattle.replication.proofs.WellFormed.Changes.{body, collected-fit}
 use Rattle.replication.proofs.WellFormed.Decisions.{planned-bound}
-use Rattle.engine.specs.Layout.{atMode}
-use Rattle.engine.specs.Image.{modeNumber, senders}
-use Rattle.engine.specs.Header.{headerOf, headerIn}
-use Rattle.engine.specs.Holding.{Holds, HoldsSome, Computes}
-use Rattle.engine.proofs.HeaderLaws.{header-loaded}
-use Rattle.engine.proofs.InRange.{in-range}
-use Rattle.engine.proofs.Slots.{in-senders, senders-below}
+use Rattle.image.specs.Layout.{atMode}
+use Rattle.image.specs.Header.{headerOf, headerIn, modeNumber, senders}
+use Rattle.image.specs.Holding.{Holds, HoldsSome, Computes}
+use Rattle.image.proofs.HeaderLaws.{header-loaded}
+use Rattle.image.proofs.InRange.{in-range}
+use Rattle.image.proofs.Slots.{in-senders, senders-below}
 use Rattle.queries.specs.Queries.{isIn, statesIn, resentIn, resentPlanned, cpcsIn}
 
 -- ---- a set's size

@@ -1,5 +1,4 @@
 -- Readings one behind another, and what turned green by an event.
--- Assumes nothing.
 use Prim.Native.Nat.{ℕ, _+_, _-_, _≤_}
 use mathlib.Core.Path.{_≡_, refl, sym, ap, ap₂, subst, _∙_}
 use mathlib.Core.List.{List, [], _∷_, _++_, append-nil}
@@ -20,14 +19,14 @@ use Rattle.replication.specs.Machine.Types.{Server, Outcome, refused, taken, co
 use Rattle.replication.specs.Machine.Step.{step}
 use Rattle.replication.specs.Machine.WellFormed.{queue}
 use Rattle.replication.proofs.Step.Growth.{green-gained}
-use Rattle.engine.specs.Image.{image}
-use Rattle.engine.specs.Decode.{decoded, greensIn}
-use Rattle.engine.specs.Holding.{Holds}
-use Rattle.engine.specs.Outcome.{imageNumber, Result, refusal, resultOf, stateNumber, stepOn}
-use Rattle.engine.proofs.InPlace.{holds-decoded}
-use Rattle.engine.proofs.InRange.{in-range}
-use Rattle.engine.proofs.Refusals.{zero-whole, zero-ready, zero-read, step-read, step-refused, whole-holds, holds-whole}
-use Rattle.engine.proofs.Taken.{taken-holds}
+use Rattle.image.specs.Image.{image}
+use Rattle.image.specs.Decode.{decoded, greensIn}
+use Rattle.image.specs.Holding.{Holds}
+use Rattle.image.specs.Outcome.{imageNumber, Result, refusal, resultOf, stateNumber, stepOn}
+use Rattle.image.proofs.InPlace.{holds-decoded}
+use Rattle.image.proofs.InRange.{in-range}
+use Rattle.image.proofs.Refusals.{zero-whole, zero-ready, zero-read, step-read, step-refused, whole-holds, holds-whole}
+use Rattle.image.proofs.Taken.{taken-holds}
 use Rattle.queries.specs.Queries.{entriesBytes, mostEntry, fitting, Listing, putting, entriesOn}
 use Rattle.queries.specs.Reading.{Reads, readings, ReadingsGiveAll, turnedGreen, GreenBy, NewlyGreen}
 use Rattle.queries.proofs.EntryLaws.{entry-length, entries-append, first-fits, fitting-taken}

@@ -1,5 +1,4 @@
 -- The summary, as the code makes it of the state's numbers.
--- Assumes nothing.
 use Prim.Native.Nat.{ℕ, _-_, _≤_}
 use mathlib.Core.Path.{_≡_, sym, ap, _∙_}
 use mathlib.Core.Bool.{true}
@@ -11,16 +10,17 @@ use Rattle.record.specs.declared.State.{State}
 use Rattle.replication.specs.Machine.Types.{Server}
 use Rattle.replication.specs.Machine.Requests.{waiting}
 use Rattle.replication.specs.Machine.WellFormed.{queue, wellFormed}
-use Rattle.engine.specs.Layout.{headerSize}
-use Rattle.engine.specs.Header.{headerOf, headerIn, lastOf, markNumbers}
-use Rattle.engine.specs.Decode.{decoded}
-use Rattle.engine.specs.Holding.{Holds, HoldsSome, Computes}
-use Rattle.engine.specs.Outcome.{imageNumber}
-use Rattle.engine.proofs.HeaderLaws.{header-loaded}
-use Rattle.engine.proofs.InPlace.{holds-header, holds-some}
-use Rattle.engine.proofs.Counts.{queue-parts}
-use Rattle.engine.proofs.Unsent.{sent-within}
-use Rattle.engine.proofs.Refusals.{whole-holds}
+use Rattle.image.specs.Layout.{headerSize}
+use Rattle.image.specs.Header.{headerOf, headerIn, markNumbers}
+use Rattle.record.specs.Values.{lastOf}
+use Rattle.image.specs.Decode.{decoded}
+use Rattle.image.specs.Holding.{Holds, HoldsSome, Computes}
+use Rattle.image.specs.Outcome.{imageNumber}
+use Rattle.image.proofs.HeaderLaws.{header-loaded}
+use Rattle.image.proofs.InPlace.{holds-header, holds-some}
+use Rattle.image.proofs.Counts.{queue-parts}
+use Rattle.image.proofs.Unsent.{sent-within}
+use Rattle.image.proofs.Refusals.{whole-holds}
 use Rattle.queries.specs.declared.Summary.{Summary}
 use Rattle.queries.specs.Queries.{statesIn, resentIn, resentPlanned, cpcsIn, summaryOf, noSummary, summaryOn}
 

@@ -1,5 +1,4 @@
 -- What a state's buffer says, for C: its numbers, and its green entries.
--- Assumes nothing.
 use Prim.Native.Nat.{ℕ, _+_, _-_}
 use mathlib.Core.Bool.{Bool}
 use mathlib.Core.List.{List, [], _∷_, map}
@@ -7,6 +6,7 @@ use lib.ListN.{length, drop}
 use Rattle.base.specs.Tests.{_or_, _≤?_, _<?_, _=?_, pick}
 use Rattle.base.specs.Bytes.{joined, over}
 use Rattle.base.specs.Sets.{size}
+use Rattle.base.specs.Refusals.{outOfRange, shortBuffer, badState}
 use Rattle.format.specs.Limits.{mostPayload}
 use Rattle.format.specs.Places.{idSize}
 use Rattle.format.specs.Types.{Action}
@@ -14,10 +14,9 @@ use Rattle.format.specs.Write.{idBytes, payloadBytes}
 use Rattle.replication.specs.Machine.Types.{Mode, Exchange-states, Exchange-actions, Construct, No, Un, Server}
 use Rattle.replication.specs.Machine.Requests.{waiting}
 use Rattle.replication.specs.Machine.Step.{collected, plannedNow}
-use Rattle.engine.specs.Image.{modeNumber}
-use Rattle.engine.specs.Header.{statusOf, idOf, setOf, transitionalOf}
-use Rattle.engine.specs.Decode.{decoded, reads, greensIn}
-use Rattle.engine.specs.Outcome.{stateShort, imageNumber}
+use Rattle.image.specs.Header.{statusOf, idOf, setOf, transitionalOf, modeNumber}
+use Rattle.image.specs.Decode.{decoded, reads, greensIn}
+use Rattle.image.specs.Outcome.{stateShort, imageNumber}
 use Rattle.queries.specs.declared.Summary.{Summary}
 use Rattle.queries.specs.declared.GreenEntries.{GreenEntries}
 
@@ -151,13 +150,13 @@ putting l x o = record {
 
 -- As many as fit of those behind the first `from`; 2 where there are not so many.
 unfoldable pub listing : (l : List Action) → (from : ℕ) → (out : List ℕ) → Listing
-listing l f o = pick (length l <? f) (unlisted 2 o) (putting l (fitting (length o) (drop f l)) o)
+listing l f o = pick (length l <? f) (unlisted outOfRange o) (putting l (fitting (length o) (drop f l)) o)
 
 -- 7 where a buffer is too short, then 8 where the state's does not read, then 2, then the entries.
 unfoldable pub entriesOn : (state : List ℕ) → (from : ℕ) → (out : List ℕ) → Listing
 entriesOn b f o =
-    pick (stateShort b or length o <? mostEntry) (unlisted 7 o)
-    (pick (reads b) (listing (greensIn b) f o) (unlisted 8 o))
+    pick (stateShort b or length o <? mostEntry) (unlisted shortBuffer o)
+    (pick (reads b) (listing (greensIn b) f o) (unlisted badState o))
 
 -- What the code leaves: its answer, and the lent buffer afterwards.
 unfoldable pub listed : GreenEntries → List ℕ → Listing

@@ -1,5 +1,4 @@
 -- What readings give: all green entries one behind another, and what turned green by an event.
--- Assumes nothing.
 use Prim.Native.Nat.{ℕ, _+_, _≤_, _<_}
 use mathlib.Core.Path.{_≡_}
 use mathlib.Core.List.{List, [], _∷_, _++_}
@@ -9,8 +8,8 @@ use Rattle.base.specs.Bytes.{over}
 use Rattle.format.specs.Types.{Action}
 use Rattle.replication.specs.Machine.Types.{Outcome, refused, taken}
 use Rattle.replication.specs.Machine.Step.{step}
-use Rattle.engine.specs.Decode.{decoded, greensIn}
-use Rattle.engine.specs.Outcome.{stepOn, imageNumber}
+use Rattle.image.specs.Decode.{decoded, greensIn}
+use Rattle.image.specs.Outcome.{stepOn, imageNumber}
 use Rattle.queries.specs.Queries.{entriesBytes, mostEntry, Listing, entriesOn}
 
 -- ---- readings one behind another

@@ -4,7 +4,7 @@ ghost use Prim.Native.Nat.{_^_, _≤_, _<_};
 ghost use mathlib.Core.Bool.{true};
 ghost use Rattle.replication.specs.Machine.Types.{Server};
 ghost use Rattle.replication.specs.Machine.WellFormed.{wellFormed};
-ghost use Rattle.engine.specs.Header.{headerOf};
+ghost use Rattle.image.specs.Header.{headerOf};
 ghost use Rattle.queries.specs.Queries.{resentPlanned, summaryOf, noSummary, summaryOn, entriesOn, listed};
 ghost use Rattle.queries.specs.Queries.{refusedEntries, putEntries};
 ghost use Rattle.queries.specs.Reading.{ReadingsGiveAll, NewlyGreen};
@@ -12,10 +12,12 @@ ghost use Rattle.queries.specs.Reading.{ReadingsGiveAll, NewlyGreen};
 pub mod meeting; // meeting.rt: how far a meeting is
 pub mod entries; // entries.rt: entries put one behind another
 
-use engine::header::load;
-use engine::header::unsent;
+use base::refusals::OUT_OF_RANGE;
+use base::refusals::SHORT_BUFFER;
 use entries::MOST_ENTRY;
 use entries::put_entries;
+use image::header::load;
+use image::header::unsent;
 use meeting::cpcs_in;
 use meeting::resent_in;
 use meeting::resent_planned;
@@ -119,8 +121,7 @@ impl Summary {
     }
 }
 
-#[no_mangle]
-pub extern "C" fn guzbytor_summary(state: &[u8]) -> Summary
+pub fn summary_on(state: &[u8]) -> Summary
     ensures { λ r. ⌜ r ≡ summaryOn (now (state .entry)) ⌝ }
 {
     let number = image_number(state);
@@ -169,16 +170,11 @@ impl GreenEntries {
 
 // The green entries behind the first `from`, as many as fit whole. 7 where a buffer is too short, then 8 where the state's holds no
 // well-formed state, then 2 where there are not so many.
-#[no_mangle]
-pub extern "C" fn guzbytor_green_entries(
-    state: &[u8],
-    from: u32,
-    entries: &mut [u8],
-) -> GreenEntries
+pub fn green_entries(state: &[u8], from: u32, entries: &mut [u8]) -> GreenEntries
     ensures { λ r. ⌜ listed r (now (entries .exit)) ≡ entriesOn (now (state .entry)) from (now (entries .entry)) ⌝ }
 {
     if entries.len() < MOST_ENTRY {
-        return GreenEntries::refused(7);
+        return GreenEntries::refused(SHORT_BUFFER);
     }
     let number = image_number(state);
     if number != 0 {
@@ -186,7 +182,7 @@ pub extern "C" fn guzbytor_green_entries(
     }
     let green = num32(state, State::AT_GREEN_LENGTH);
     if green < from {
-        return GreenEntries::refused(2);
+        return GreenEntries::refused(OUT_OF_RANGE);
     }
     put_entries(state, from, green, entries)
 }

@@ -1,8 +1,8 @@
 // How far a meeting is: document 02, K13.
 ghost use mathlib.Core.Path.{_≡_};
 ghost use Rattle.replication.specs.Machine.Types.{Server};
-ghost use Rattle.engine.specs.Header.{headerOf};
-ghost use Rattle.engine.specs.Holding.{HoldsSome, Computes};
+ghost use Rattle.image.specs.Header.{headerOf};
+ghost use Rattle.image.specs.Holding.{HoldsSome, Computes};
 ghost use Rattle.queries.specs.Queries.{statesIn, resentIn, resentPlanned, cpcsIn};
 use exchange::decided::planned_now;
 use octets::numbers::num8;

@@ -1,5 +1,4 @@
 -- The changes of the bytes, as the code makes them.
--- Assumes nothing.
 use Prim.Native.Nat.{ℕ, _+_, _*_, _-_, _≤_}
 use mathlib.Core.Path.{_≡_, sym, ap, ap₂, _∙_}
 use mathlib.Core.List.{List, _++_}
@@ -15,9 +14,9 @@ use Rattle.base.proofs.Sections.{patched-inside}
 use Rattle.format.specs.Write.{actionBytes}
 use Rattle.record.specs.declared.ActionHead.{ActionHead}
 use Rattle.record.specs.Values.{idOf, actionOf}
-use Rattle.engine.specs.Layout.{slotSize, headerSize, atQueueLength, atGreenLength, atOwnCount, theQueue}
+use Rattle.image.specs.Layout.{slotSize, headerSize, atQueueLength, atGreenLength, atOwnCount, theQueue}
 use Rattle.queue.specs.Queue.{appended, queued, popped, promoted}
-use Rattle.engine.specs.Counts.{place}
+use Rattle.image.specs.Counts.{place}
 
 pub appended-made : (h : ActionHead) (p s s₁ s₂ : List ℕ) (count r : ℕ) → count ≡ numberAt 4 s atQueueLength → r ≡ place theQueue s
     → s₁ ≡ patched (r + slotSize * count) (slot slotSize (actionBytes (actionOf h p))) s → s₂ ≡ patched atQueueLength (bytesOf 4 (count + 1)) s₁

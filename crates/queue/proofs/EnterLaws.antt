@@ -1,18 +1,16 @@
 -- An action is entered in the buffer.
--- Assumes nothing.
-use Prim.Native.Nat.{ℕ, _+_, _*_, _-_, _<_}
+use Prim.Native.Nat.{ℕ, _+_, _*_, _<_}
 use mathlib.Core.Path.{_≡_, sym, ap, ap₂, _∙_}
 use mathlib.Core.Bool.{true, false}
 use mathlib.Core.List.{List, [], _∷_, _++_, append-assoc}
 use native.Mathlib.Omega.{arith}
-use lib.ListN.{length, set, length-append}
-use Rattle.base.specs.Bytes.{bytesOf, joined, over, slot}
+use lib.ListN.{length, length-append}
+use Rattle.base.specs.Bytes.{bytesOf, over, slot}
 use Rattle.base.proofs.BytesLaws.{bytes-length}
-use Rattle.base.specs.Lists.{sum, above, Each}
+use Rattle.base.specs.Lists.{above, Each}
 use Rattle.base.proofs.ListLaws.{each-always, each-map}
 use Rattle.base.specs.Patched.{patched}
 use Rattle.base.specs.Tests.{pick}
-use Rattle.base.proofs.Sections.{sized-set}
 use Rattle.format.specs.Types.{Id, Action}
 use Rattle.format.specs.Range.{sameId}
 use Rattle.format.specs.Write.{cutsBytes, actionBytes}
@@ -24,11 +22,11 @@ use Rattle.replication.proofs.WellFormed.Clauses.{OwnListFits}
 use Rattle.replication.proofs.WellFormed.Ids.{same-id-yes, same-id-no}
 use Rattle.replication.proofs.WellFormed.Held.{remove-absent}
 use Rattle.replication.proofs.WellFormed.Logs.{ownId}
-use Rattle.engine.specs.Layout.{slotSize, atQueueLength, atOwnCount}
-use Rattle.engine.specs.Image.{headerBytes, actionSlots, fields}
-use Rattle.engine.proofs.Used.{ActionFits, action-slots-length, slots-append}
+use Rattle.image.specs.Layout.{slotSize, atQueueLength, atOwnCount}
+use Rattle.image.specs.Image.{headerBytes, actionSlots}
+use Rattle.image.proofs.Used.{ActionFits, action-slots-length, slots-append}
 use Rattle.base.proofs.Over.{over-extended, over-changed}
-use Rattle.engine.proofs.Fields.{fieldSizes, header-fields, fields-sized, field-changed, theQueueCount, theOwnCount}
+use Rattle.image.proofs.Fields.{opened-header}
 use Rattle.queue.proofs.SlotLaws.{slots-one, cut-set}
 
 -- ---- the header
@@ -39,38 +37,17 @@ one-more a l =
     length-append (l .green) (l .red ++ (a ∷ [])) ∙ omega (arith, length-append (l .green) (l .red), length-append (l .red) (a ∷ []))
 
 -- The counts of the queue and of the own list.
-header-counts : (s : Server) (u v : List ℕ) → length u ≡ 4 → length v ≡ 2
-    → (patched atQueueLength u (headerBytes s) ≡ joined (set (fields s) theQueueCount u))
-    × (patched atOwnCount v (joined (set (fields s) theQueueCount u)) ≡ joined (set (set (fields s) theQueueCount u) theOwnCount v))
-unfolding sum
-header-counts s u v e f = (
-  ap (patched atQueueLength u) (header-fields s) ∙ field-changed (fields s) theQueueCount u (fields-sized s) (omega arith) e,
-  field-changed (set (fields s) theQueueCount u) theOwnCount v (sized-set fieldSizes (fields s) theQueueCount u (fields-sized s) e) (omega arith) f,
-)
-
 pub header-entered : (s : Server) (a : Action) → length (remove (a .id) (s .log .own)) ≡ length (s .log .own)
     → patched atQueueLength (bytesOf 4 (length (queue (s .log)) + 1)) (headerBytes s) ≡ headerBytes (withLog (enter a (s .log)) s)
-unfolding enter
+unfolding enter opened-header
 header-entered s a e =
-    let t : Server = withLog (enter a (s .log)) s in
-    let u : List ℕ = bytesOf 4 (length (queue (s .log)) + 1) in
-    let m : length (queue (s .log)) + 1 ≡ length (queue (t .log)) = sym (one-more a (s .log)) in
-    header-counts s u (bytesOf 2 0) (bytes-length 4 _) (bytes-length 2 _) .0
-    ∙ ap₂ {A = ℕ} {B = ℕ} {C = List ℕ} (λ i j. joined (set (set (fields s) theQueueCount (bytesOf 4 i)) theOwnCount (bytesOf 2 j))) m (sym e)
-    ∙ sym (header-fields t)
+    ap₂ {A = ℕ} {B = ℕ} {C = List ℕ} (λ i j. patched atQueueLength (bytesOf 4 i) (patched atOwnCount (bytesOf 2 j) (headerBytes s))) (sym (one-more a (s .log))) (sym e)
 
 pub header-left : (s : Server) (a : Action) (k : ℕ) → k ≡ length (remove (a .id) (s .log .own))
     → patched atOwnCount (bytesOf 2 k) (patched atQueueLength (bytesOf 4 (length (queue (s .log)) + 1)) (headerBytes s)) ≡ headerBytes (withLog (enter a (s .log)) s)
-unfolding enter
+unfolding enter opened-header
 header-left s a k e =
-    let t : Server = withLog (enter a (s .log)) s in
-    let u : List ℕ = bytesOf 4 (length (queue (s .log)) + 1) in
-    let m : length (queue (s .log)) + 1 ≡ length (queue (t .log)) = sym (one-more a (s .log)) in
-    let x = header-counts s u (bytesOf 2 k) (bytes-length 4 _) (bytes-length 2 _) in
-    ap (patched atOwnCount (bytesOf 2 k)) (x .0)
-    ∙ x .1
-    ∙ ap₂ {A = ℕ} {B = ℕ} {C = List ℕ} (λ i j. joined (set (set (fields s) theQueueCount (bytesOf 4 i)) theOwnCount (bytesOf 2 j))) m e
-    ∙ sym (header-fields t)
+    ap₂ {A = ℕ} {B = ℕ} {C = List ℕ} (λ i j. patched atOwnCount (bytesOf 2 j) (patched atQueueLength (bytesOf 4 i) (headerBytes s))) (sym (one-more a (s .log))) e
 
 -- ---- the sections
 

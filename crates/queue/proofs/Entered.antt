@@ -1,5 +1,4 @@
 -- The buffer after an action was entered is the image of the new state.
--- Assumes nothing.
 use Prim.Native.Nat.{ℕ, suc, _+_, _*_, _-_, _≤_, _<_}
 use mathlib.Core.Path.{_≡_, refl, sym, ap, ap₂, subst, _∙_}
 use mathlib.Core.Bool.{true}
@@ -21,13 +20,13 @@ use Rattle.replication.specs.Machine.WellFormed.{idsIn, queue, wellFormed}
 use Rattle.replication.proofs.Step.Logs.{next-index}
 use Rattle.replication.proofs.WellFormed.Logs.{LogFits, ownId, enter-fits}
 use Rattle.replication.specs.Laws.RuleFits.{Delivered}
-use Rattle.engine.specs.Layout.{slotSize, stateSize, theHeader, theCuts, theNoted, theStates, theYellow, theOwn, theQueue, sections, offset, headerSize, atMe, atQueueLength, atOwnCount}
-use Rattle.engine.specs.Image.{headerBytes, notedBytes, statesOver, actionSlots, section, parts, image}
-use Rattle.engine.proofs.InRange.{in-range}
-use Rattle.engine.proofs.Used.{ActionFits, action-slot-length, action-slots-length}
-use Rattle.engine.proofs.Fit.{well-formed-fits}
-use Rattle.engine.specs.Holding.{Holds}
-use Rattle.engine.proofs.InPlace.{holds-section}
+use Rattle.image.specs.Layout.{slotSize, stateSize, theHeader, theCuts, theNoted, theStates, theYellow, theOwn, theQueue, sections, offset, headerSize, atMe, atQueueLength, atOwnCount}
+use Rattle.image.specs.Image.{headerBytes, notedBytes, statesOver, actionSlots, section, parts, image}
+use Rattle.image.proofs.InRange.{in-range}
+use Rattle.image.proofs.Used.{ActionFits, action-slot-length, action-slots-length}
+use Rattle.image.proofs.Fit.{well-formed-fits}
+use Rattle.image.specs.Holding.{Holds}
+use Rattle.image.proofs.InPlace.{holds-section}
 use Rattle.record.specs.declared.ActionHead.{ActionHead}
 use Rattle.record.specs.Values.{idOf, actionOf}
 use Rattle.queue.specs.Queue.{appended, queued, popped, RoomFor}
@@ -36,8 +35,8 @@ use Rattle.queue.proofs.Inside.{Changed, changed-at}
 use Rattle.queue.proofs.SlotLaws.{slots-cons}
 use Rattle.queue.proofs.Holding.{log-formed, log-fits, holds-changed, log-image}
 use Rattle.queue.proofs.EnterLaws.{one-more, header-entered, header-left, queue-entered, cuts-entered, others-stay, first-leaves}
-use Rattle.engine.specs.Counts.{place}
-use Rattle.engine.proofs.Counts.{numbers, holds-counts, holds-place}
+use Rattle.image.specs.Counts.{place}
+use Rattle.image.proofs.Counts.{numbers, holds-counts, holds-place}
 
 own-here : (s : Server) (b : List ℕ) → Holds s b
     → section (s .servers) (s .quota) theOwn b ≡ over (actionSlots (s .log .own)) (section (s .servers) (s .quota) theOwn b)

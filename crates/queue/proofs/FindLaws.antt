@@ -1,5 +1,4 @@
 -- The search for an id, slot by slot.
--- Assumes nothing.
 use Prim.Native.Nat.{ℕ, suc, _+_, _*_, _-_, _≤_, _<_}
 use mathlib.Core.Path.{_≡_, refl, sym, ap, _∙_}
 use mathlib.Core.Bool.{Bool, true, false}
@@ -9,8 +8,8 @@ use Rattle.base.proofs.TestLaws.{pick-yes, pick-no}
 use Rattle.format.specs.Types.{Id}
 use Rattle.format.specs.Range.{sameId}
 use Rattle.format.specs.Read.{idAt, actionAt}
-use Rattle.engine.specs.Layout.{slotSize}
-use Rattle.engine.specs.Decode.{actionsAt}
+use Rattle.image.specs.Layout.{slotSize}
+use Rattle.image.specs.Decode.{actionsAt}
 use Rattle.queue.specs.Queue.{position}
 
 more : (d : Id) (e : List ℕ) (at k m : ℕ) → k < m

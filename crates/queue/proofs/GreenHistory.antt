@@ -1,5 +1,4 @@
 -- The green list of a buffer, by the slots that its actions lie in.
--- Assumes nothing.
 use Prim.Native.Nat.{ℕ, zero, suc, _<_}
 use mathlib.Core.Path.{_≡_, refl, ap, _∙_}
 use mathlib.Core.List.{List, [], _∷_}
@@ -11,10 +10,10 @@ use Rattle.base.specs.Lists.{at}
 use Rattle.base.proofs.AtLaws.{none-some, some-same, at-take}
 use Rattle.format.specs.Types.{Action}
 use Rattle.format.specs.Read.{actionAt}
-use Rattle.engine.specs.Layout.{theQueue}
-use Rattle.engine.specs.Decode.{actionsAt, decodedAs, decoded, greensIn}
-use Rattle.engine.specs.Counts.{queueCount, greenCount, place}
-use Rattle.engine.proofs.Slots.{actions-count}
+use Rattle.image.specs.Layout.{theQueue}
+use Rattle.image.specs.Decode.{actionsAt, decodedAs, decoded, greensIn}
+use Rattle.image.specs.Counts.{queueCount, greenCount, place}
+use Rattle.image.proofs.Slots.{actions-count}
 use Rattle.queue.specs.Queue.{slotPlace, greenSlot, QueueIn}
 use Rattle.queue.proofs.ReadLaws.{actions-at}
 

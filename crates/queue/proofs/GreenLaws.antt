@@ -1,6 +1,5 @@
 -- Entered and then green: one image over another.
--- Assumes nothing.
-use Prim.Native.Nat.{ℕ, suc, _+_, _*_, _-_, _≤_}
+use Prim.Native.Nat.{ℕ, suc, _*_, _≤_}
 use mathlib.Core.Path.{_≡_, refl, sym, ap, subst, _∙_}
 use mathlib.Core.Bool.{true}
 use mathlib.Core.List.{List, [], _∷_, _++_}
@@ -19,21 +18,21 @@ use Rattle.replication.specs.Machine.WellFormed.{queue, wellFormed}
 use Rattle.replication.proofs.WellFormed.Held.{Greened, unmoved, moved, greened?}
 use Rattle.replication.proofs.WellFormed.Logs.{red-fits, green-id-fits}
 use Rattle.replication.specs.Laws.RuleFits.{Delivered}
-use Rattle.engine.specs.Layout.{slotSize, stateLength}
-use Rattle.engine.specs.Image.{actionSlots, image}
-use Rattle.engine.proofs.Used.{action-slots-length}
-use Rattle.engine.proofs.Fit.{well-formed-fits}
-use Rattle.engine.proofs.Again.{covering-over, image-twice}
-use Rattle.engine.specs.Holding.{Holds, HoldsSuch}
-use Rattle.engine.proofs.InPlace.{image-holds}
+use Rattle.image.specs.Layout.{slotSize, stateLength}
+use Rattle.image.specs.Image.{actionSlots, image}
+use Rattle.image.proofs.Used.{action-slots-length}
+use Rattle.image.proofs.Fit.{well-formed-fits}
+use Rattle.image.proofs.Again.{covering-over, image-twice}
+use Rattle.image.specs.Holding.{Holds, HoldsSuch}
+use Rattle.image.proofs.InPlace.{image-holds}
 use Rattle.record.specs.declared.ActionHead.{ActionHead}
 use Rattle.record.specs.Values.{idOf, actionOf}
 use Rattle.queue.specs.Queue.{position, RoomIfNext}
 use Rattle.queue.proofs.Positions.{position-found, position-none}
 use Rattle.queue.proofs.Holding.{log-formed, log-fits}
 use Rattle.queue.proofs.RedLaws.{room-if-next}
-use Rattle.engine.specs.Counts.{CountsIn}
-use Rattle.engine.proofs.Counts.{holds-counts}
+use Rattle.image.specs.Counts.{CountsIn}
+use Rattle.image.proofs.Counts.{holds-counts}
 
 -- The image of a state with longer lists over that of another.
 pub log-image-over : (s : Server) (l m : Log) (b : List ℕ) → wellFormed (withLog l s) ≡ true → stateLength (s .servers) (s .quota) ≤ length b

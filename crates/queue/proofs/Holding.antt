@@ -1,6 +1,5 @@
 -- What a buffer that holds a state says of its actions, and what its image becomes when the log changes.
--- Assumes nothing.
-use Prim.Native.Nat.{ℕ, _+_, _-_}
+use Prim.Native.Nat.{ℕ}
 use mathlib.Core.Path.{_≡_, refl, ap₂, subst, _∙_}
 use mathlib.Core.Bool.{true}
 use mathlib.Core.List.{List, [], _∷_, _++_}
@@ -13,10 +12,10 @@ use Rattle.replication.proofs.WellFormed.Facts.{well-formed-facts, facts-well-f
 use Rattle.replication.proofs.WellFormed.Changes.{body, whole, log-changed}
 use Rattle.replication.proofs.WellFormed.Kept.{mode-kept}
 use Rattle.replication.proofs.WellFormed.Logs.{LogFits}
-use Rattle.engine.specs.Layout.{stateSize, theCuts, theNoted, theStates, theYellow, theOwn, theQueue, sections, stateLength}
-use Rattle.engine.specs.Image.{headerBytes, notedBytes, statesOver, actionSlots, section, parts, image}
-use Rattle.engine.proofs.Fit.{well-formed-fits, image-laid}
-use Rattle.engine.specs.Holding.{Holds}
+use Rattle.image.specs.Layout.{stateSize, theCuts, theNoted, theStates, theYellow, theOwn, theQueue, sections, stateLength}
+use Rattle.image.specs.Image.{headerBytes, notedBytes, statesOver, actionSlots, section, parts, image}
+use Rattle.image.proofs.Fit.{well-formed-fits, image-laid}
+use Rattle.image.specs.Holding.{Holds}
 use Rattle.queue.proofs.Inside.{Changed}
 
 -- A state with another log.

@@ -1,5 +1,4 @@
 -- Slots written and moved: what they come to.
--- Assumes nothing.
 use Prim.Native.Nat.{ℕ, _+_, _-_, _≤_}
 use mathlib.Core.Path.{_≡_, sym, ap, ap₂, _∙_}
 use mathlib.Core.List.{List, _++_}
@@ -14,7 +13,7 @@ use Rattle.format.specs.Write.{actionBytes}
 use Rattle.format.proofs.Lengths.{action-length}
 use Rattle.record.specs.declared.ActionHead.{ActionHead}
 use Rattle.record.specs.Values.{actionOf}
-use Rattle.engine.specs.Layout.{slotSize}
+use Rattle.image.specs.Layout.{slotSize}
 use Rattle.format.specs.Limits.{mostPayload}
 use Rattle.format.specs.Places.{actionHeadSize}
 

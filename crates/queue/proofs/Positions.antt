@@ -1,5 +1,4 @@
 -- The place of an id among actions: what is found and what is left.
--- Assumes nothing.
 use Prim.Native.Nat.{ℕ, zero, suc, _+_, _*_, _-_, _≤_, _<_}
 use mathlib.Core.Path.{_≡_, refl, sym, ap, subst, _∙_}
 use mathlib.Core.Bool.{true, false}
@@ -13,8 +12,8 @@ use Rattle.format.specs.Types.{Id, Action}
 use Rattle.format.specs.Range.{sameId}
 use Rattle.replication.specs.Machine.Colours.{find, remove}
 use Rattle.replication.proofs.WellFormed.Ids.{same-id-holds}
-use Rattle.engine.specs.Layout.{slotSize}
-use Rattle.engine.specs.Decode.{actionsAt}
+use Rattle.image.specs.Layout.{slotSize}
+use Rattle.image.specs.Decode.{actionsAt}
 use Rattle.queue.specs.Queue.{position}
 
 -- The first action with the id d stands at the place k.

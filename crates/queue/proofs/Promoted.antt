@@ -1,13 +1,12 @@
 -- The buffer after an action turned green is the image of the new state.
--- Assumes nothing.
 use Prim.Native.Nat.{ℕ, _+_, _*_, _-_, _≤_, _<_}
 use mathlib.Core.Path.{_≡_, refl, sym, ap, ap₂, subst, _∙_}
 use mathlib.Core.List.{List, [], _∷_, _++_, append-assoc}
 use mathlib.Core.Option.{Option, none}
 use native.Mathlib.Omega.{arith}
-use lib.ListN.{length, drop, set, length-append}
+use lib.ListN.{length, drop, length-append}
 use lib.Seq.{take-at, drop-at}
-use Rattle.base.specs.Bytes.{bytesOf, numberAt, partAt, joined, over, slot}
+use Rattle.base.specs.Bytes.{bytesOf, numberAt, partAt, over, slot}
 use Rattle.base.proofs.BytesLaws.{bytes-length}
 use Rattle.base.specs.Lists.{sum, Each}
 use Rattle.base.proofs.ListLaws.{each-first, each-second}
@@ -18,25 +17,25 @@ use Rattle.format.specs.Write.{actionBytes}
 use Rattle.replication.specs.Machine.Types.{Server, withLog}
 use Rattle.replication.specs.Machine.Colours.{find, remove, promote, promoteFound, greenId}
 use Rattle.replication.specs.Machine.WellFormed.{queue}
-use Rattle.engine.specs.Layout.{slotSize, theHeader, theQueue, sections, offset, atQueueLength, atGreenLength}
-use Rattle.engine.specs.Image.{headerBytes, actionSlots, section, parts, image, fields}
-use Rattle.engine.specs.Decode.{actionsAt, decodedAs, decoded}
-use Rattle.engine.proofs.InRange.{in-range}
-use Rattle.engine.proofs.Used.{ActionFits, action-slot-length, action-slots-length, slots-append}
-use Rattle.engine.proofs.Fit.{well-formed-fits}
-use Rattle.engine.proofs.Slots.{actions-count}
-use Rattle.engine.proofs.Decoded.{image-part}
-use Rattle.engine.specs.Holding.{Holds}
-use Rattle.engine.proofs.InPlace.{holds-decoded}
+use Rattle.image.specs.Layout.{slotSize, theHeader, theQueue, sections, offset, atQueueLength, atGreenLength}
+use Rattle.image.specs.Image.{headerBytes, actionSlots, section, parts, image}
+use Rattle.image.specs.Decode.{actionsAt, decodedAs, decoded}
+use Rattle.image.proofs.InRange.{in-range}
+use Rattle.image.proofs.Used.{ActionFits, action-slot-length, action-slots-length, slots-append}
+use Rattle.image.proofs.Fit.{well-formed-fits}
+use Rattle.image.proofs.Slots.{actions-count}
+use Rattle.image.proofs.Decoded.{image-part}
+use Rattle.image.specs.Holding.{Holds}
+use Rattle.image.proofs.InPlace.{holds-decoded}
 use Rattle.queue.specs.Queue.{position, redsIn, promoted}
 use Rattle.base.proofs.Over.{over-changed, used-part}
 use Rattle.queue.proofs.Inside.{changed-at}
-use Rattle.engine.proofs.Fields.{header-fields, fields-sized, field-changed, theGreenCount, theQueueCount}
+use Rattle.image.proofs.Fields.{opened-header}
 use Rattle.queue.proofs.SlotLaws.{slots-one, slots-cons}
 use Rattle.queue.proofs.Positions.{Stands, position-found, position-none, actions-drop}
 use Rattle.queue.proofs.Holding.{holds-changed, log-image}
-use Rattle.engine.specs.Counts.{place}
-use Rattle.engine.proofs.Counts.{numbers, holds-counts, holds-place}
+use Rattle.image.specs.Counts.{place}
+use Rattle.image.proofs.Counts.{numbers, holds-counts, holds-place}
 
 -- ---- lists
 
@@ -51,14 +50,10 @@ patched-middle g y z v e =
 
 header-promoted : (s : Server) (x : Action) → length (queue (promote x (s .log))) ≡ length (queue (s .log))
     → patched atGreenLength (bytesOf 4 (length (s .log .green) + 1)) (headerBytes s) ≡ headerBytes (withLog (promote x (s .log)) s)
-unfolding promote sum
+unfolding promote opened-header
 header-promoted s x e =
-    let t : Server = withLog (promote x (s .log)) s in
-    let m : length (s .log .green) + 1 ≡ length (t .log .green) = sym (length-append (s .log .green) (x ∷ [])) in
-    ap (patched atGreenLength (bytesOf 4 (length (s .log .green) + 1))) (header-fields s)
-    ∙ field-changed (fields s) theGreenCount (bytesOf 4 (length (s .log .green) + 1)) (fields-sized s) (omega arith) (bytes-length 4 _)
-    ∙ ap₂ {A = ℕ} {B = ℕ} {C = List ℕ} (λ i j. joined (set (set (fields s) theGreenCount (bytesOf 4 i)) theQueueCount (bytesOf 4 j))) m (sym e)
-    ∙ sym (header-fields t)
+    ap₂ {A = ℕ} {B = ℕ} {C = List ℕ} (λ i j. patched atGreenLength (bytesOf 4 i) (patched atQueueLength (bytesOf 4 j) (headerBytes s)))
+    (sym (length-append (s .log .green) (x ∷ []))) (sym e)
 
 -- ---- the queue's section
 

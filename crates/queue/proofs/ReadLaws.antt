@@ -1,5 +1,4 @@
 -- Actions read from the slots of a buffer that holds a state.
--- Assumes nothing.
 use Prim.Native.Nat.{ℕ, zero, suc, _+_, _*_, _≤_, _<_}
 use mathlib.Core.Path.{_≡_, refl, sym, ap, ap₂, subst, _∙_}
 use mathlib.Core.List.{List, [], _∷_, _++_}
@@ -25,18 +24,18 @@ use Rattle.record.specs.Values.{idOf, actionOf}
 use Rattle.replication.specs.Machine.Types.{Server, contextOf}
 use Rattle.replication.specs.Machine.Colours.{find}
 use Rattle.replication.specs.Machine.WellFormed.{queue}
-use Rattle.engine.specs.Layout.{slotSize, atGreenLength, theQueue, offset}
-use Rattle.engine.specs.Image.{actionSlots, image, parts}
-use Rattle.engine.specs.Decode.{actionsAt, decodedAs, decoded}
-use Rattle.engine.specs.Holding.{Holds}
-use Rattle.engine.proofs.InPlace.{holds-decoded}
-use Rattle.engine.proofs.InRange.{in-range}
-use Rattle.engine.proofs.Decoded.{image-part}
-use Rattle.engine.proofs.Fit.{well-formed-fits}
-use Rattle.engine.proofs.Used.{action-slot-length}
-use Rattle.engine.proofs.Counts.{numbers, holds-counts, holds-place}
+use Rattle.image.specs.Layout.{slotSize, atGreenLength, theQueue, offset}
+use Rattle.image.specs.Image.{actionSlots, image, parts}
+use Rattle.image.specs.Decode.{actionsAt, decodedAs, decoded}
+use Rattle.image.specs.Holding.{Holds}
+use Rattle.image.proofs.InPlace.{holds-decoded}
+use Rattle.image.proofs.InRange.{in-range}
+use Rattle.image.proofs.Decoded.{image-part}
+use Rattle.image.proofs.Fit.{well-formed-fits}
+use Rattle.image.proofs.Used.{action-slot-length}
+use Rattle.image.proofs.Counts.{numbers, holds-counts, holds-place}
 use Rattle.queue.specs.Queue.{position, slotPlace, QueueIn}
-use Rattle.engine.specs.Counts.{queueCount, place}
+use Rattle.image.specs.Counts.{queueCount, place}
 
 -- ---- the lists
 

@@ -1,5 +1,4 @@
 -- The cut in the buffer decides whether an action is entered.
--- Assumes nothing.
 use Prim.Native.Nat.{ℕ, _+_, _*_, _<_}
 use mathlib.Core.Path.{_≡_, sym, ap, _∙_}
 use mathlib.Core.Bool.{true, false}
@@ -15,16 +14,16 @@ use Rattle.replication.specs.Machine.Types.{Log, Server, withLog}
 use Rattle.replication.specs.Machine.Colours.{cut, nextIndex, isNext, enter, red}
 use Rattle.replication.proofs.Step.Logs.{red-entered, red-ignored}
 use Rattle.replication.specs.Laws.RuleFits.{Delivered}
-use Rattle.engine.specs.Layout.{sections, offset, headerSize, atServers}
-use Rattle.engine.specs.Image.{image}
-use Rattle.engine.specs.Decode.{decodedAs, serversIn, quotaIn, decoded}
-use Rattle.engine.specs.Holding.{Holds}
-use Rattle.engine.proofs.InPlace.{holds-decoded}
+use Rattle.image.specs.Layout.{sections, offset, headerSize, atServers}
+use Rattle.image.specs.Image.{image}
+use Rattle.image.specs.Decode.{decodedAs, serversIn, quotaIn, decoded}
+use Rattle.image.specs.Holding.{Holds}
+use Rattle.image.proofs.InPlace.{holds-decoded}
 use Rattle.record.specs.declared.ActionHead.{ActionHead}
 use Rattle.record.specs.Values.{idOf, actionOf}
 use Rattle.queue.specs.Queue.{RoomFor, RoomIfNext}
 use Rattle.queue.proofs.Entered.{room-for}
-use Rattle.engine.proofs.Counts.{numbers, holds-counts}
+use Rattle.image.proofs.Counts.{numbers, holds-counts}
 
 pub cut-read : (s : Server) (b : List ℕ) (c : ℕ) → Holds s b → c < s .servers → numberAt 2 b (headerSize + 2 * c) ≡ cut (s .log) c
 unfolding cut decoded decodedAs serversIn quotaIn offset sections sum

@@ -1,6 +1,5 @@
 -- Slots of actions as bytes: joined lists, moved slots, cuts.
--- Assumes nothing.
-use Prim.Native.Nat.{ℕ, zero, suc, _+_, _*_, _-_, _/_, _%_, _<_}
+use Prim.Native.Nat.{ℕ, zero, suc, _+_, _*_, _/_, _%_, _<_}
 use mathlib.Core.Path.{_≡_, refl, sym, ap, _∙_}
 use mathlib.Core.List.{List, [], _∷_, _++_, append-nil}
 use native.Mathlib.Omega.{arith}
@@ -9,8 +8,8 @@ use Rattle.base.specs.Bytes.{bytesOf, joined, slot}
 use Rattle.base.specs.Patched.{patched}
 use Rattle.format.specs.Types.{Action}
 use Rattle.format.specs.Write.{cutsBytes, actionBytes}
-use Rattle.engine.specs.Layout.{slotSize}
-use Rattle.engine.specs.Image.{actionSlots}
+use Rattle.image.specs.Layout.{slotSize}
+use Rattle.image.specs.Image.{actionSlots}
 
 pub slots-one : (a : Action) → actionSlots (a ∷ []) ≡ slot slotSize (actionBytes a)
 unfolding actionSlots joined

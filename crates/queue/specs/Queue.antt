@@ -1,5 +1,4 @@
 -- Actions in a state's buffer: the numbers that say where they are, and what changes in place do to the bytes.
--- Assumes nothing.
 use Prim.Native.Nat.{ℕ, suc, _+_, _*_, _-_, _≤_, _<_}
 use mathlib.Core.Path.{_≡_}
 use mathlib.Core.List.{List, [], _∷_, _++_}
@@ -8,19 +7,19 @@ use Rattle.base.specs.Tests.{pick}
 use Rattle.base.specs.Bytes.{bytesOf, numberAt, partAt, slot}
 use Rattle.base.specs.Patched.{patched}
 use Rattle.format.specs.Limits.{mostPayload}
-use Rattle.format.specs.Places.{actionPayloadAt}
+use Rattle.format.specs.Places.{cutSize, actionPayloadAt}
 use Rattle.format.specs.Types.{Id, Action}
 use Rattle.format.specs.Range.{sameId}
 use Rattle.format.specs.Write.{actionBytes}
-use Rattle.engine.specs.Layout.{headerSize, slotSize, theQueue, atQueueLength, atGreenLength, atOwnCount}
-use Rattle.engine.specs.Image.{image}
-use Rattle.engine.specs.Holding.{Holds, BecomesWhere}
+use Rattle.image.specs.Layout.{headerSize, slotSize, theQueue, atQueueLength, atGreenLength, atOwnCount}
+use Rattle.image.specs.Image.{image}
+use Rattle.image.specs.Holding.{Holds, BecomesWhere}
 use Rattle.replication.specs.Machine.Types.{Server, withLog}
 use Rattle.replication.specs.Machine.Colours.{isNext, enter, red, green}
 use Rattle.replication.specs.Laws.RuleFits.{Delivered}
 use mathlib.Core.Bool.{true}
-use Rattle.engine.specs.Decode.{actionsAt, serversIn}
-use Rattle.engine.specs.Counts.{queueCount, greenCount, place, mostActions, CountsIn}
+use Rattle.image.specs.Decode.{actionsAt, serversIn}
+use Rattle.image.specs.Counts.{queueCount, greenCount, place, mostActions, CountsIn}
 
 -- How many actions stand before the first with the id d: all where there is none.
 unfoldable pub position : Id → List Action → ℕ
@@ -56,7 +55,7 @@ pub record RoomIfNext (c i m : ℕ) (b : List ℕ) : Type 0 where
   pub counts : CountsIn b
   pub creator : c < serversIn b
   pub short : m ≤ mostPayload
-  pub room : numberAt 2 b (headerSize + 2 * c) + 1 ≡ i → queueCount b < mostActions b
+  pub room : numberAt cutSize b (headerSize + cutSize * c) + 1 ≡ i → queueCount b < mostActions b
 
 -- The slot k from `at` on lies inside the buffer.
 pub record SlotIn (at k : ℕ) (b : List ℕ) : Type 0 where
@@ -95,7 +94,7 @@ appended a b = patched atQueueLength (bytesOf 4 (queueCount b + 1)) (slotPut (pl
 
 -- The same, and its creator's cut.
 unfoldable pub queued : Action → List ℕ → List ℕ
-queued a b = patched (headerSize + 2 * a .id .creator) (bytesOf 2 (a .id .index)) (appended a b)
+queued a b = patched (headerSize + cutSize * a .id .creator) (bytesOf cutSize (a .id .index)) (appended a b)
 
 -- The first of the m own actions from `at` on is left out.
 unfoldable pub popped : (at m : ℕ) → List ℕ → List ℕ

@@ -3,12 +3,12 @@ ghost use mathlib.Core.Path.{_≡_};
 ghost use Prim.Native.Nat.{_+_, _*_, _≤_};
 ghost use lib.ListN.{length};
 ghost use Rattle.record.specs.Values.{actionOf};
-ghost use Rattle.engine.specs.Layout.{slotSize, headerSize};
+ghost use Rattle.image.specs.Layout.{slotSize, headerSize};
 ghost use Rattle.queue.specs.Queue.{RoomFor, RoomIfNext, appended, queued, popped, BecomesEntered, BecomesRed};
 use crate::slots::put_slot;
-use engine::places::THE_OWN;
-use engine::places::THE_QUEUE;
-use engine::places::place_of;
+use image::places::THE_OWN;
+use image::places::THE_QUEUE;
+use image::places::place_of;
 use octets::moves::shift_down;
 use octets::numbers::num8;
 use octets::numbers::num16;
@@ -35,7 +35,11 @@ fn enqueue(state: &mut [u8], head: ActionHead, payload: &[u8])
     ensures { λ _. ⌜ now (state .exit) ≡ queued (actionOf head (now (payload .entry))) (now (state .entry)) ⌝ }
 {
     append(state, head, payload);
-    put16(state, State::SIZE + 2 * head.creator as usize, head.index);
+    put16(
+        state,
+        State::SIZE + State::CUT * head.creator as usize,
+        head.index,
+    );
 }
 
 // The first of the own actions is left out.
@@ -73,7 +77,7 @@ pub fn red(state: &mut [u8], head: ActionHead, payload: &[u8])
     requires { ⌜ RoomIfNext (head .creator) (head .index) (length (now payload)) (now state) ⌝ }
     ensures { λ _. ⌜ BecomesRed (actionOf head (now (payload .entry))) (now (state .entry)) (now (state .exit)) ⌝ }
 {
-    let cut = num16(state, State::SIZE + 2 * head.creator as usize);
+    let cut = num16(state, State::SIZE + State::CUT * head.creator as usize);
     if cut as u32 + 1 != head.index as u32 {
         return;
     }

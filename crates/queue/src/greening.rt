@@ -1,19 +1,19 @@
 // An action turns green.
 ghost use mathlib.Core.Path.{_≡_};
-ghost use Prim.Native.Nat.{_+_, _*_, _-_, _≤_, _<_};
+ghost use Prim.Native.Nat.{_+_, _*_, _-_, _≤_};
 ghost use Rattle.record.specs.Values.{idOf, actionOf};
 ghost use Rattle.replication.specs.Machine.Types.{withLog};
 ghost use Rattle.replication.specs.Machine.Colours.{greenId};
 ghost use Rattle.replication.specs.Laws.RuleFits.{Delivered};
-ghost use Rattle.engine.specs.Holding.{HoldsSuch, Becomes};
+ghost use Rattle.image.specs.Holding.{HoldsSuch, Becomes};
 ghost use Rattle.queue.specs.Queue.{position, redsIn, promoted, BecomesGreen, SlotIn};
-ghost use Rattle.engine.specs.Counts.{queueCount, greenCount, CountsIn};
+ghost use Rattle.image.specs.Counts.{queueCount, greenCount, CountsIn};
 ghost use Rattle.format.specs.Limits.{mostIds};
 use crate::entering::red;
 use crate::finding::find;
 use crate::slots::last_to_front;
-use engine::places::THE_QUEUE;
-use engine::places::place_of;
+use image::places::THE_QUEUE;
+use image::places::place_of;
 use octets::numbers::num32;
 use octets::numbers::put32;
 use record::ActionHead;

@@ -1,7 +1,7 @@
 // The green history: which slots its actions lie in.
 ghost use mathlib.Core.Path.{_≡_};
 ghost use Prim.Native.Nat.{_<_};
-ghost use Rattle.engine.specs.Counts.{queueCount, greenCount, CountsIn};
+ghost use Rattle.image.specs.Counts.{queueCount, greenCount, CountsIn};
 ghost use Rattle.queue.specs.Queue.{greenSlot};
 
 // The slot of the green action that stands behind k others in the green history.

@@ -5,7 +5,7 @@ ghost use lib.ListN.{length};
 ghost use Rattle.base.specs.Bytes.{partAt};
 ghost use Rattle.format.specs.Limits.{mostPayload};
 ghost use Rattle.record.specs.Values.{actionOf};
-ghost use Rattle.engine.specs.Layout.{slotSize};
+ghost use Rattle.image.specs.Layout.{slotSize};
 ghost use Rattle.queue.specs.Queue.{slotPut, lastToFront};
 use octets::blocks::clear;
 use octets::blocks::copy;

@@ -3,12 +3,5 @@ pub mod Ranges
 pub mod OnePass
 pub mod Turns
 pub mod Made
-pub mod Frames
-pub mod Heads
-pub mod Fields
-pub mod Arms
-pub mod Judged
-pub mod Placing
-pub mod Returns
-pub mod Callers
 pub mod SetCode
+pub mod PartLaws

@@ -1,10 +1,11 @@
 -- A struct that the code makes of numbers that it read is the one that the definition names.
--- Assumes nothing.
 use Prim.Native.Nat.{ℕ, _+_, _-_}
 use mathlib.Core.Path.{_≡_}
 use mathlib.Core.List.{List}
 use Rattle.format.specs.Places.{idIndexAt, actionGreenAt, actionPayloadAt, actionHeadSize, primaryAttemptAt, primarySetAt, markIndexAt, markAttemptAt, markSetAt, markBitsAt, senderAt, configurationIdAt, stateCutsAt, stateAttemptAt, stateLastAt, stateMarkAt, stateYellowAt, stateCountAt}
 use Rattle.base.specs.Bytes.{numberAt}
+use Rattle.format.specs.Read.{primaryAt}
+use Rattle.record.specs.Values.{lastOf}
 use Rattle.record.specs.Events.{actionIn, lastIn, markIn, headIn}
 use Rattle.record.specs.declared.LastPrimary.{LastPrimary}
 use Rattle.record.specs.declared.Mark.{Mark}
@@ -18,7 +19,7 @@ action-made e at x i g m a b c d = rw (a, b, c, d)
 
 pub last-made : (e : List ℕ) (at i a s : ℕ) → i ≡ numberAt 4 e at → a ≡ numberAt 4 e (at + primaryAttemptAt) → s ≡ numberAt 1 e (at + primarySetAt)
     → _≡_ {A = LastPrimary} (record { index = record { 0 = i }; attempt = record { 0 = a }; set = s }) (lastIn e at)
-unfolding lastIn
+unfolding lastIn lastOf primaryAt
 last-made e at i a s f g h = rw (f, g, h)
 
 pub mark-made : (e : List ℕ) (at t i a s b : ℕ) → t ≡ numberAt 1 e at → i ≡ numberAt 4 e (at + markIndexAt) → a ≡ numberAt 4 e (at + markAttemptAt) → s ≡ numberAt 1 e (at + markSetAt)

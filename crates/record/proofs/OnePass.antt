@@ -1,18 +1,16 @@
 -- One pass decides whether ids differ, each against those before it. A table of the ids that were met spares the comparison: an empty place says that
 -- the id is new. What a full place says has to be looked at.
--- Assumes nothing.
-use Prim.Native.Nat.{ℕ, zero, suc, _+_, _*_, _≤_, _<_}
-use mathlib.Core.Path.{_≡_, refl, sym, ap, subst, _∙_}
+use Prim.Native.Nat.{ℕ, _*_, _≤_, _<_}
+use mathlib.Core.Path.{_≡_, refl, sym, ap, _∙_}
 use mathlib.Core.Bool.{Bool, true, false, not}
 use mathlib.Core.List.{List, [], _∷_, _++_}
 use native.Mathlib.Decide.{ℕ-discrete}
 use native.Mathlib.Omega.{arith}
-use lib.ListN.{length, getD, set, replicate}
+use lib.ListN.{length, getD, set}
 use lib.Seq.{getD-set-same, getD-set-other}
 use Rattle.format.specs.Limits.{mostServers, mostQuota, mostIds}
-use Rattle.base.specs.Lists.{Each}
 use Rattle.base.specs.Tests.{_=?_, _and_, _or_}
-use Rattle.base.proofs.TestLaws.{not-both, and-holds, eq-holds, eq-yes, eq-no, Known, known, holds, fails}
+use Rattle.base.proofs.TestLaws.{and-holds, eq-holds, eq-yes, eq-no, Known, known, holds, fails}
 use Rattle.format.specs.Types.{Id, Context}
 use Rattle.format.specs.Range.{idOk, sameId, hasId, idsDiffer, idsInRange, idsOk}
 use Rattle.format.proofs.Ranges.{IdRange}

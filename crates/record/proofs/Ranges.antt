@@ -1,5 +1,4 @@
 -- What each range test of the code answers.
--- Assumes nothing.
 use Prim.Native.Nat.{ℕ, zero, suc, _*_, _^_, _%_, _≤_}
 use mathlib.Core.Path.{_≡_, refl, ap, _∙_}
 use mathlib.Core.Bool.{Bool, true}

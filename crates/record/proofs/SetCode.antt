@@ -1,5 +1,4 @@
 -- A byte's bits, as the code reads and sets them, are a set's members.
--- Assumes nothing.
 use Prim.Native.Nat.{ℕ, _*_, _%_, _^_, _≤_, _<_}
 use mathlib.Core.Path.{_≡_, sym, ap}
 use mathlib.Core.Bool.{false}

@@ -1,5 +1,4 @@
 -- The set of all servers, as the code makes it.
--- Assumes nothing.
 use Prim.Native.Nat.{ℕ, _*_, _-_, _%_, _^_, _≤_}
 use mathlib.Core.Path.{_≡_}
 use native.Mathlib.Nat.{mod-eq-of-lt, one-le-pow, pow-le-pow-right}

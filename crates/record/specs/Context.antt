@@ -1,5 +1,4 @@
 -- What an event is read against: the code's numbers, and the format's context that they stand for.
--- Assumes nothing.
 use Prim.Native.Nat.{ℕ, zero, suc, _≤_, _<_}
 use mathlib.Core.Option.{Option, none, some}
 use Rattle.format.specs.Limits.{fewestServers, mostServers, leastQuota, mostQuota}

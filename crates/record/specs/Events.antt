@@ -1,16 +1,16 @@
 -- What an event that was read stands for, together with its bytes.
--- Assumes nothing.
 use Prim.Native.Nat.{ℕ, _+_, _*_, _-_, _≤_}
 use mathlib.Core.Path.{_≡_}
 use mathlib.Core.List.{List}
 use lib.ListN.{length}
 use Rattle.base.specs.Bytes.{numberAt, partAt}
-use Rattle.format.specs.Places.{idIndexAt, idSize, actionGreenAt, actionPayloadAt, actionHeadSize, primaryAttemptAt, primarySetAt}
+use Rattle.format.specs.Places.{idIndexAt, idSize, actionGreenAt, actionPayloadAt, actionHeadSize}
 use Rattle.format.specs.Places.{markIndexAt, markAttemptAt, markSetAt, markBitsAt, senderAt, configurationIdAt}
-use Rattle.format.specs.Places.{stateCutsAt, stateAttemptAt, stateLastAt, stateMarkAt, stateYellowAt, stateCountAt}
+use Rattle.format.specs.Places.{cutSize, stateCutsAt, stateAttemptAt, stateLastAt, stateMarkAt, stateYellowAt, stateCountAt}
 use Rattle.format.specs.Types.{Action as FormatAction, State as FormatState, Record, action, retransmission, state, cpc, regular, transitional}
 use Rattle.format.specs.Types.{request, recovery}
-use Rattle.record.specs.Values.{actionOf, stateOf}
+use Rattle.format.specs.Read.{primaryAt}
+use Rattle.record.specs.Values.{lastOf, actionOf, stateOf}
 use Rattle.record.specs.declared.LastPrimary.{LastPrimary}
 use Rattle.record.specs.declared.Mark.{Mark}
 use Rattle.record.specs.declared.StateHead.{StateHead}
@@ -42,7 +42,7 @@ PayloadInside a e = a .«payload_at» + a .«payload_length» ≤ length e
 
 pub record ListsInside (n : ℕ) (s : StateAt) (e : List ℕ) : Type 0 where
   pub servers : s .head .servers ≡ n
-  pub cuts : s .«cuts_at» + 2 * s .head .servers ≤ length e
+  pub cuts : s .«cuts_at» + cutSize * s .head .servers ≤ length e
   pub ids : s .«yellow_at» + idSize * s .head .«yellow_count» ≤ length e
 
 unfoldable pub Inside : ℕ → Event → List ℕ → Type 0
@@ -65,11 +65,7 @@ actionIn e at = record {
 }
 
 unfoldable pub lastIn : List ℕ → ℕ → LastPrimary
-lastIn e at = record {
-  index = record { 0 = numberAt 4 e at };
-  attempt = record { 0 = numberAt 4 e (at + primaryAttemptAt) };
-  set = numberAt 1 e (at + primarySetAt);
-}
+lastIn e at = lastOf (primaryAt e at)
 
 unfoldable pub markIn : List ℕ → ℕ → Mark
 markIn e at = record {

@@ -2,6 +2,4 @@ pub mod Context
 pub mod Start
 pub mod Values
 pub mod Events
-pub mod Framed
-pub mod Reading
 pub mod Limits

@@ -1,5 +1,4 @@
 -- The code's limits are the format's.
--- Assumes nothing.
 use Rattle.format.specs.Limits.{fewestServers, mostServers, leastQuota, mostQuota, mostPayload, mostIndex}
 use Rattle.record.specs.declared.range.Limits.{Limits}
 

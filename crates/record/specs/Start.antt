@@ -1,9 +1,10 @@
 -- The numbers of a server's state at the start.
--- Assumes nothing.
 use Prim.Native.Nat.{ℕ}
 use Rattle.base.specs.Sets.{everyone}
 use Rattle.format.specs.Limits.{layoutNumber}
+use Rattle.format.specs.Types.{firstPrimary}
 use Rattle.record.specs.declared.State.{State}
+use Rattle.record.specs.Values.{lastOf}
 
 -- "At the start: Non_prim, no configuration, nothing held or marked, yellow invalid, attempt 0, last primary (index 0, attempt 0, all servers)."
 unfoldable pub startOf : (servers quota me : ℕ) → State
@@ -27,7 +28,7 @@ startOf n q i = record {
   «own_count» = 0;
   sent = 0;
   attempt = record { 0 = 0 };
-  last = record { index = record { 0 = 0 }; attempt = record { 0 = 0 }; set = everyone n };
+  last = lastOf (firstPrimary (everyone n));
   mark = record { status = 0; index = record { 0 = 0 }; attempt = record { 0 = 0 }; set = 0; bits = 0 };
   «yellow_status» = 0;
   «yellow_count» = 0;

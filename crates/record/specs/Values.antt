@@ -1,5 +1,4 @@
 -- What the code's structs stand for.
--- Assumes nothing.
 use Prim.Native.Nat.{ℕ, zero, suc, _+_, _*_, _%_, _≤_, _<_}
 use mathlib.Core.Path.{_≡_}
 use mathlib.Core.Bool.{Bool, true, not}
@@ -9,12 +8,10 @@ use Rattle.base.specs.Tests.{pick, _and_}
 use Rattle.base.specs.Bytes.{numbersAt}
 use Rattle.base.specs.Lists.{Each}
 use Rattle.format.specs.Limits.{mostQuota, mostIds}
-use Rattle.format.specs.Places.{idSize}
+use Rattle.format.specs.Places.{cutSize, idSize}
 use Rattle.format.specs.Types.{Id, Action, Primary, Mark as FormatMark, State, Record, retransmission, Context}
 use Rattle.format.specs.Range.{idOk, hasId}
 use Rattle.format.specs.Read.{idAt, idsAt}
-use Rattle.record.specs.declared.PrimaryIndex.{PrimaryIndex}
-use Rattle.record.specs.declared.AttemptIndex.{AttemptIndex}
 use Rattle.record.specs.declared.LastPrimary.{LastPrimary}
 use Rattle.record.specs.declared.Mark.{Mark}
 use Rattle.record.specs.declared.ActionHead.{ActionHead}
@@ -23,11 +20,12 @@ use Rattle.record.specs.declared.StateHead.{StateHead}
 unfoldable pub idOf : (creator index : ℕ) → Id
 idOf creator index = record { creator = creator; index = index }
 
-unfoldable pub componentOf : PrimaryIndex → AttemptIndex → (set : ℕ) → Primary
-componentOf i a s = record { index = i .0; attempt = a .0; set = s }
-
 unfoldable pub primaryOf : LastPrimary → Primary
-primaryOf p = componentOf (p .index) (p .attempt) (p .set)
+primaryOf p = record { index = p .index .0; attempt = p .attempt .0; set = p .set }
+
+-- The struct that stands for it.
+unfoldable pub lastOf : Primary → LastPrimary
+lastOf p = record { index = record { 0 = p .index }; attempt = record { 0 = p .attempt }; set = p .set }
 
 unfoldable pub markOf : Mark → FormatMark
 markOf m = record { status = m .status; index = m .index .0; attempt = m .attempt .0; set = m .set; bits = m .bits }
@@ -44,7 +42,7 @@ unfoldable pub stateOf : StateHead → (cuts : List ℕ) → (at : ℕ) → (ids
 stateOf h cuts at ids start = record {
   sender = h .sender;
   configuration = h .configuration;
-  cuts = numbersAt 2 (h .servers) cuts at;
+  cuts = numbersAt cutSize (h .servers) cuts at;
   greenLength = h .«green_length»;
   attempt = h .attempt .0;
   last = primaryOf (h .last);
@@ -80,9 +78,20 @@ HasPlaces n t = n * mostQuota ≤ length t
 abbrev pub Marked : List ℕ → List Id → Type 0
 Marked t xs = Each (λ d. 0 < getD t (slot d) 0) xs
 
+-- The id at `here` is to be met behind m ids, each at the front of w bytes from `at` on, which have set their places in the table t for n creators.
+pub record NextId (w m : ℕ) (e : List ℕ) (at here n : ℕ) (t : List ℕ) : Type 0 where
+  pub before : IdsInside w m e at
+  pub inside : here + idSize ≤ length e
+  pub places : HasPlaces n t
+  pub marked : Marked t (idsBy w m e at)
+
 -- The answer r to whether the id d, behind the ids xs, is in range and none of them. If it is, the table u has the places of all of them set;
 -- it is as long as the table t, which it was.
 pub record Met (c : Context) (xs : List Id) (d : Id) (r : Bool) (t u : List ℕ) : Type 0 where
   pub answer : r ≡ (idOk c d and not (hasId d xs))
   pub marked : r ≡ true → Marked u (xs ++ (d ∷ []))
   pub size : length u ≡ length t
+
+-- The same of the id at `here`.
+abbrev pub MetAt : Context → (w m : ℕ) → List ℕ → (at here : ℕ) → Bool → (t u : List ℕ) → Type 0
+MetAt c w m e at here r t u = Met c (idsBy w m e at) (idAt e here) r t u

@@ -3,14 +3,15 @@ ghost use mathlib.Core.Path.{_≡_};
 ghost use Prim.Native.Nat.{_≤_};
 ghost use Rattle.format.specs.Limits.{mostServers};
 ghost use Rattle.record.specs.Context.{readingContext};
+ghost use Rattle.format.specs.Types.{firstPrimary};
 ghost use Rattle.record.specs.Start.{startOf};
+ghost use Rattle.record.specs.Values.{lastOf};
 
 pub mod sets; // sets.rt: sets of servers
 pub mod range; // range.rt: which numbers and sets are in range
 pub mod lists; // lists.rt: lists in bytes
 pub mod events; // events.rt: an event that was read
-pub mod frame; // frame.rt: its frame
-pub mod reader; // reader.rt: what an event says
+pub mod parts; // parts.rt: parts of a record, read where they lie
 
 use events::Event;
 use sets::everyone;
@@ -34,6 +35,17 @@ impl LastPrimary {
     pub const SET: usize = LastPrimary::ATTEMPT + 4;
 
     pub const SIZE: usize = LastPrimary::SET + 1;
+
+    // The one with these members that no Install made.
+    pub fn first(set: u8) -> LastPrimary
+        ensures { λ r. ⌜ r ≡ lastOf (firstPrimary set) ⌝ }
+    {
+        LastPrimary {
+            index: PrimaryIndex(0),
+            attempt: AttemptIndex(0),
+            set,
+        }
+    }
 }
 
 // What a server stores of the primary component that it attempts to create.
@@ -239,6 +251,13 @@ impl State {
     // The longest retransmission.
     pub const RETRANSMISSION: usize = Event::RETRANSMISSION_SIZE + State::MOST_PAYLOAD;
 
+    // A creator's cut; a noted green length; both.
+    pub const CUT: usize = 2;
+
+    pub const NOTED: usize = 4;
+
+    pub const CUT_AND_NOTED: usize = State::CUT + State::NOTED;
+
     // An id, and how many there can be.
     pub const ID: usize = ActionHead::INDEX + 2;
 
@@ -260,11 +279,7 @@ impl State {
         requires { ⌜ servers ≤ mostServers ⌝ }
         ensures { λ r. ⌜ r ≡ startOf servers quota me ⌝ }
     {
-        let last = LastPrimary {
-            index: PrimaryIndex(0),
-            attempt: AttemptIndex(0),
-            set: everyone(servers),
-        };
+        let last = LastPrimary::first(everyone(servers));
         let mark = Mark {
             status: 0,
             index: PrimaryIndex(0),

@@ -3,11 +3,11 @@ ghost use mathlib.Core.Path.{_≡_};
 ghost use Prim.Native.Nat.{_+_, _*_, _≤_};
 ghost use lib.ListN.{length};
 ghost use Rattle.base.specs.Bytes.{numbersAt};
-ghost use Rattle.format.specs.Places.{idSize};
+ghost use Rattle.format.specs.Places.{cutSize, idSize};
 ghost use Rattle.format.specs.Range.{cutsOk, sameId, hasId, idsOk};
 ghost use Rattle.format.specs.Read.{idAt, idsAt};
 ghost use Rattle.record.specs.Context.{contextOf, ContextIn};
-ghost use Rattle.record.specs.Values.{idOf, placeOf, idsBy, IdsInside, HasPlaces, Marked, Met};
+ghost use Rattle.record.specs.Values.{idOf, placeOf, idsBy, IdsInside, HasPlaces, NextId, MetAt};
 use crate::ActionHead;
 use crate::Context;
 use crate::State;
@@ -17,12 +17,12 @@ use octets::numbers::num16;
 
 // Whether each of the n cuts from `at` on is at most the quota.
 pub fn cuts_ok(e: &[u8], at: usize, n: usize, quota: u16) -> bool
-    requires { ⌜ at + 2 * n ≤ length (now e) ⌝ }
+    requires { ⌜ at + cutSize * n ≤ length (now e) ⌝ }
     ensures { λ r. ⌜ r ≡ cutsOk quota (numbersAt 2 n (now (e .entry)) at) ⌝ }
 {
     let mut k = 0;
     while k < n {
-        let x = num16(e, at + 2 * k);
+        let x = num16(e, at + State::CUT * k);
         if quota < x {
             return false;
         }
@@ -88,8 +88,8 @@ pub fn is_new(
     here: usize,
     met: &mut [u8],
 ) -> bool
-    requires { ⌜ ContextIn c × IdsInside step count (now e) at × (here + idSize ≤ length (now e)) × HasPlaces (c .servers) (now met) × Marked (now met) (idsBy step count (now e) at) ⌝ }
-    ensures { λ r. ⌜ Met (contextOf c) (idsBy step count (now (e .entry)) at) (idAt (now (e .entry)) here) r (now (met .entry)) (now (met .exit)) ⌝ }
+    requires { ⌜ ContextIn c × NextId step count (now e) at here (c .servers) (now met) ⌝ }
+    ensures { λ r. ⌜ MetAt (contextOf c) step count (now (e .entry)) at here r (now (met .entry)) (now (met .exit)) ⌝ }
 {
     let p = place_at(c, e, here);
     if State::MOST_IDS <= p {

@@ -1,5 +1,4 @@
 -- The exported functions: the start, and one operation on a buffer that may hold anything.
--- Assumes nothing.
 use Prim.Native.Nat.{ℕ, _≤_, _<_}
 use mathlib.Core.Path.{_≡_, refl, sym, ap, _∙_}
 use mathlib.Core.List.{List, append-nil}

@@ -1,5 +1,4 @@
 -- What changes in place do to the bytes b of a register: by the place i of a peg and the number n of pegs.
--- Assumes nothing.
 use Prim.Native.Nat.{ℕ, _+_, _*_, _-_, _≤_, _<_}
 use mathlib.Core.List.{List, [], _∷_}
 use lib.ListN.{length}

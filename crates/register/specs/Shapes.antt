@@ -1,5 +1,4 @@
 -- What a payload is, as the code has it: the operation byte, and how long the name is.
--- Assumes nothing.
 use Prim.Native.Nat.{ℕ, _+_, _≤_}
 use mathlib.Core.Path.{_≡_}
 use mathlib.Core.List.{List}

@@ -7,6 +7,7 @@ ghost use Rattle.register.specs.Shapes.{Operates, Sought};
 pub mod payload; // payload.rt: what a payload is
 pub mod changing; // changing.rt: a peg more, less, or elsewhere
 
+use base::refusals::SHORT_BUFFER;
 use changing::insert;
 use changing::remove;
 use changing::replace;
@@ -20,6 +21,10 @@ use payload::shape_of;
 use register_check::checking::register_number;
 use register_check::layout::MOST_PEGS;
 use register_check::layout::REGISTER_LENGTH;
+use register_check::refusals::NO_OPERATION;
+use register_check::refusals::PEG_NOT_THERE;
+use register_check::refusals::PEG_THERE;
+use register_check::refusals::REGISTER_FULL;
 use register_check::searching::Search;
 use register_check::searching::seek;
 
@@ -29,7 +34,7 @@ fn change(register: &mut [u8], payload: &[u8], it: Shape, found: Search) -> u32
     ensures { λ r. ⌜ changed r (now (register .exit)) ≡ appliedTo (now (register .entry)) (now (payload .entry)) ⌝ }
 {
     if !found.there {
-        return 10;
+        return PEG_NOT_THERE;
     }
     let index = found.index;
     let count = num16(register, 0);
@@ -56,10 +61,10 @@ fn operate(register: &mut [u8], payload: &[u8], it: Shape) -> u32
     let count = num16(register, 0);
     let pegs = count as usize;
     if found.there {
-        return 9;
+        return PEG_THERE;
     }
     if MOST_PEGS <= pegs {
-        return 13;
+        return REGISTER_FULL;
     }
     insert(
         register,
@@ -78,18 +83,17 @@ pub fn apply(register: &mut [u8], payload: &[u8]) -> u32
 {
     let it = shape_of(payload);
     if it.operation == 0 {
-        return 11;
+        return NO_OPERATION;
     }
     operate(register, payload, it)
 }
 
 // Makes the empty register in its buffer. 7 where the buffer is too short: then it is as before.
-#[no_mangle]
-pub extern "C" fn guzbytor_register_start(register: &mut [u8]) -> u32
+pub fn start(register: &mut [u8]) -> u32
     ensures { λ r. ⌜ changed r (now (register .exit)) ≡ emptyOn (now (register .entry)) ⌝ }
 {
     if register.len() < REGISTER_LENGTH {
-        return 7;
+        return SHORT_BUFFER;
     }
     put16(register, 0, 0);
     0
@@ -97,8 +101,7 @@ pub extern "C" fn guzbytor_register_start(register: &mut [u8]) -> u32
 
 // Applies one payload: "7 a buffer below its formula, then 8 a register .. out of range or order or with a name twice", then the
 // numbers of the operation.
-#[no_mangle]
-pub extern "C" fn guzbytor_register_apply(register: &mut [u8], payload: &[u8]) -> u32
+pub fn apply_on(register: &mut [u8], payload: &[u8]) -> u32
     ensures { λ r. ⌜ changed r (now (register .exit)) ≡ applyOn (now (register .entry)) (now (payload .entry)) ⌝ }
 {
     let number = register_number(register);

@@ -1,5 +1,4 @@
 -- A slot that was tested: its name filled up with zeros, its peg in range, and the bytes of its peg.
--- Assumes nothing.
 use Prim.Native.Nat.{ℕ, _+_, _-_, _≤_}
 use mathlib.Core.Path.{_≡_, refl, sym, ap, subst, _∙_}
 use mathlib.Core.Bool.{true}

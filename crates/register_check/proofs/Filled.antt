@@ -1,5 +1,4 @@
 -- Zeros behind a name: as bytes, as a part of the buffer, and by words that may overlap.
--- Assumes nothing.
 use Prim.Native.Nat.{ℕ, zero, suc, _+_, _*_, _-_, _≤_, _<_}
 use mathlib.Core.Path.{_≡_, refl, sym, ap, ap₂, _∙_}
 use mathlib.Core.Bool.{true}

@@ -1,5 +1,4 @@
 -- A buffer that is not refused: its names, in order, each as long as its slot says.
--- Assumes nothing.
 use Prim.Native.Nat.{ℕ, _+_, _*_, _≤_, _<_}
 use mathlib.Core.Path.{_≡_}
 use mathlib.Core.List.{List}

@@ -1,5 +1,4 @@
 -- The order of names by words: filled up with zeros, two names are in the order of their numbers, and where these are equal in that of their lengths.
--- Assumes nothing.
 use Prim.Native.Nat.{ℕ, zero, suc, _+_, _*_, _-_, _≤_, _<_}
 use mathlib.Core.Path.{_≡_, refl, sym, ap, ap₂, _∙_}
 use mathlib.Core.Bool.{Bool, true, false}

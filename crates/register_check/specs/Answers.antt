@@ -1,5 +1,4 @@
 -- What the exported functions give back, in the definitions' terms.
--- Assumes nothing.
 use Rattle.pegs.specs.Outcome.{Found}
 use Rattle.register_check.specs.declared.RegisterFind.{RegisterFind}
 

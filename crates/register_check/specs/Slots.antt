@@ -1,5 +1,4 @@
 -- What the code tests of the slots of a register's buffer b, each slot once.
--- Assumes nothing.
 use Prim.Native.Nat.{ℕ, _+_, _*_, _-_, _/_, _≤_}
 use mathlib.Core.Path.{_≡_}
 use mathlib.Core.Bool.{Bool, true}

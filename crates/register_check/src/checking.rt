@@ -15,6 +15,8 @@ use super::layout::MOST_NAME;
 use super::layout::MOST_PEGS;
 use super::layout::PEG_SIZE;
 use super::layout::REGISTER_LENGTH;
+use base::refusals::BAD_STATE;
+use base::refusals::SHORT_BUFFER;
 use octets::numbers::num8;
 use octets::numbers::num16;
 use octets::numbers::num32;
@@ -174,10 +176,10 @@ pub fn register_number(register: &[u8]) -> u32
     ensures { λ r. ⌜ r ≡ registerNumber (now (register .entry)) ⌝ }
 {
     if register.len() < REGISTER_LENGTH {
-        return 7;
+        return SHORT_BUFFER;
     }
     if !register_reads(register) {
-        return 8;
+        return BAD_STATE;
     }
     0
 }

@@ -9,6 +9,7 @@ ghost use Rattle.pegs.specs.Outcome.{notFound, foundIf, findOn};
 ghost use Rattle.register_check.specs.Answers.{located};
 
 pub mod layout; // layout.rt: where the parts of a register lie
+pub mod refusals; // refusals.rt: its refusals, by name
 pub mod names; // names.rt: names compared
 pub mod checking; // checking.rt: whether a buffer holds a register
 pub mod coordinates; // coordinates.rt: bits as millimetres, pegs as points
@@ -22,8 +23,7 @@ use layout::REGISTER_LENGTH;
 use searching::seek;
 
 // How long a register's buffer must be.
-#[no_mangle]
-pub extern "C" fn guzbytor_register_length() -> u32
+pub fn register_length() -> u32
     ensures { λ r. ⌜ r ≡ registerLength ⌝ }
 {
     REGISTER_LENGTH as u32
@@ -70,8 +70,7 @@ impl RegisterFind {
 }
 
 // Where the peg of this name stands. 7 where the buffer is too short, then 8 where it holds no register.
-#[no_mangle]
-pub extern "C" fn guzbytor_register_find(register: &[u8], name: &[u8]) -> RegisterFind
+pub fn find(register: &[u8], name: &[u8]) -> RegisterFind
     ensures { λ r. ⌜ located r ≡ findOn (now (register .entry)) (now (name .entry)) ⌝ }
 {
     let number = register_number(register);

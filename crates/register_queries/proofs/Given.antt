@@ -1,5 +1,4 @@
 -- The numbers that an exported function is given, and what the code has of them: their bits, read.
--- Assumes nothing.
 use Prim.Native.Nat.{ℕ, _+_, _*_}
 use mathlib.Core.Path.{_≡_, sym, ap, _∙_}
 use mathlib.Core.List.{List}

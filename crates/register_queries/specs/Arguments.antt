@@ -1,5 +1,4 @@
 -- Regions and points, by the numbers that the exported functions take, and what is answered on a region.
--- Assumes nothing.
 use Prim.Native.Nat.{ℕ}
 use mathlib.Core.Path.{_≡_}
 use lib.IntN.{ℤ}

@@ -3,17 +3,19 @@ ghost use mathlib.Core.Path.{_≡_};
 ghost use Rattle.pegs.specs.Queries.{bothNumber, sidesNumber, regionNumber};
 ghost use Rattle.register_queries.specs.Arguments.{AnswersRegion};
 use crate::collecting::collect;
+use base::refusals::SHORT_BUFFER;
 use plane::Region;
 use plane::sides_rise;
 use register_check::checking::register_number;
 use register_check::layout::REGISTER_LENGTH;
+use register_check::refusals::BAD_RECTANGLE;
 
 // "7 a buffer below its formula, then 8 a register .. out of range or order or with a name twice": what the answer's buffer holds is not read.
 fn both_number(register: &[u8], answer: &[u8]) -> u32
     ensures { λ r. ⌜ r ≡ bothNumber (now (register .entry)) (now (answer .entry)) ⌝ }
 {
     if answer.len() < REGISTER_LENGTH {
-        return 7;
+        return SHORT_BUFFER;
     }
     register_number(register)
 }
@@ -28,7 +30,7 @@ fn sides_number(region: Region) -> u32
     if sides_rise(sides) {
         return 0;
     }
-    12
+    BAD_RECTANGLE
 }
 
 fn region_number(register: &[u8], region: Region, answer: &[u8]) -> u32

@@ -18,8 +18,7 @@ use register_check::RegisterFind;
 use register_check::checking::register_number;
 
 // The pegs inside a rectangle, edges included: 7, 8, then 12.
-#[no_mangle]
-pub extern "C" fn guzbytor_register_rectangle(
+pub fn in_rectangle(
     register: &[u8],
     west: i32,
     south: i32,
@@ -39,8 +38,7 @@ pub extern "C" fn guzbytor_register_rectangle(
 }
 
 // The pegs within so many millimetres of a point, the edge included: 7, then 8.
-#[no_mangle]
-pub extern "C" fn guzbytor_register_radius(
+pub fn in_radius(
     register: &[u8],
     easting: i32,
     northing: i32,
@@ -54,12 +52,7 @@ pub extern "C" fn guzbytor_register_radius(
 }
 
 // The peg nearest to a point, the smaller name winning a tie: 7, then 8. Only the empty register has none.
-#[no_mangle]
-pub extern "C" fn guzbytor_register_nearest(
-    register: &[u8],
-    easting: i32,
-    northing: i32,
-) -> RegisterFind
+pub fn nearest_on(register: &[u8], easting: i32, northing: i32) -> RegisterFind
     ensures { λ r. ⌜ located r ≡ nearestOn (now (register .entry)) (point easting northing) ⌝ }
 {
     let number = register_number(register);

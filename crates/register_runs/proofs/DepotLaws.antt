@@ -1,5 +1,4 @@
 -- What the definitions of a depot's buffers say, one way at a time.
--- Assumes nothing.
 use Prim.Native.Nat.{ℕ}
 use mathlib.Core.Path.{_≡_, refl, sym, subst, _∙_}
 use mathlib.Core.Bool.{Bool, true, false}
@@ -10,9 +9,9 @@ use Rattle.base.specs.Tests.{_=?_, pick}
 use Rattle.base.proofs.TestLaws.{choices, Known, holds, fails, known}
 use Rattle.base.proofs.AtLaws.{upd-here}
 use Rattle.replication.specs.Runs.Run.{event, crash, store}
-use Rattle.engine.specs.Outcome.{word}
-use Rattle.buffers.specs.Buffers.{isRecovery, sourceIn, keptAfter, saved}
-use Rattle.buffers.proofs.BufferLaws.{source-stored, source-running}
+use Rattle.image.specs.Outcome.{word}
+use Rattle.daemons.specs.Buffers.{isRecovery, sourceIn, keptAfter, saved}
+use Rattle.daemons.proofs.BufferLaws.{source-stored, source-running}
 use Rattle.register_runs.specs.Joint.{Joint, stepPart, jointOn}
 use Rattle.register_runs.specs.Depots.{Depot, savedAll, jointIn, depotAfter, Depots, depotsAfter}
 

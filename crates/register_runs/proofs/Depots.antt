@@ -1,6 +1,5 @@
 -- At every place of an allowed run, strays included: the depots' states are those of daemons without registers, each register's buffer reads as the
 -- fold of the green list beside it, and the registers agree.
--- Assumes nothing.
 use Prim.Native.Nat.{ℕ, zero, suc, _<_}
 use mathlib.Core.Path.{_≡_, refl, sym, ap, subst, subst₂, _∙_}
 use mathlib.Core.Bool.{Bool, true, false}
@@ -15,16 +14,16 @@ use Rattle.replication.specs.Runs.Run.{Entry, event, store, Run, World, beginni
 use Rattle.replication.specs.Runs.Strays.{AllowedWithStraysUp}
 use Rattle.replication.specs.Runs.Claim.{ListsAgree}
 use Rattle.replication.proofs.Runs.Places.{world-at-start, world-next, world-past}
-use Rattle.engine.specs.Decode.{decoded, greensIn}
-use Rattle.engine.specs.Holding.{Holds}
-use Rattle.engine.proofs.InPlace.{holds-decoded}
-use Rattle.buffers.specs.Buffers.{Buffers, sourceIn, stepIn}
-use Rattle.buffers.specs.Daemons.{Daemons, daemonsAfter, daemonsAt}
-use Rattle.buffers.specs.Claim.{shown, BuffersDemand}
-use Rattle.buffers.proofs.BufferLaws.{saved-state, saved-store}
-use Rattle.buffers.proofs.Entries.{Kept}
-use Rattle.buffers.proofs.Runs.{event-below, down-recovers, store-up, out-room, kept-at, event-keeps}
-use Rattle.buffers.proofs.Agreement.{buffers-demand}
+use Rattle.image.specs.Decode.{decoded, greensIn}
+use Rattle.image.specs.Holding.{Holds}
+use Rattle.image.proofs.InPlace.{holds-decoded}
+use Rattle.daemons.specs.Buffers.{Buffers, sourceIn, stepIn}
+use Rattle.daemons.specs.Daemons.{Daemons, daemonsAfter, daemonsAt}
+use Rattle.daemons.specs.Claim.{shown, BuffersDemand}
+use Rattle.daemons.proofs.BufferLaws.{saved-state, saved-store}
+use Rattle.daemons.proofs.Entries.{Kept}
+use Rattle.daemons.proofs.Runs.{event-below, down-recovers, store-up, out-room, kept-at, event-keeps}
+use Rattle.daemons.proofs.Agreement.{buffers-demand}
 use Rattle.pegs.specs.Operations.{Peg}
 use Rattle.pegs.specs.Register.{advance}
 use Rattle.pegs.specs.Image.{registerBytes}

@@ -1,5 +1,4 @@
 -- One entry of a run over the depots: the states' buffers stay those of daemons without registers, and the registers' buffers hold the folds.
--- Assumes nothing.
 use Prim.Native.Nat.{ℕ, _≤_}
 use mathlib.Core.Path.{_≡_, refl, sym, ap, subst, _∙_}
 use mathlib.Core.Bool.{Bool, true, false}
@@ -12,11 +11,11 @@ use Rattle.base.proofs.TestLaws.{not-both}
 use Rattle.base.proofs.AtLaws.{upd-here, upd-elsewhere}
 use Rattle.replication.specs.Images.{Images, arrive, leftBy, savedIn}
 use Rattle.replication.specs.Runs.Run.{Entry, event, crash, store, World, downAfter, worldAfter}
-use Rattle.engine.specs.Layout.{outLength}
-use Rattle.buffers.specs.Buffers.{Buffers, isRecovery, sourceIn, stepIn, keptAfter, saved}
-use Rattle.buffers.specs.Daemons.{Daemons, daemonsAfter}
-use Rattle.buffers.proofs.BufferLaws.{event-buffers, event-down, crash-buffers, crash-down, store-buffers}
-use Rattle.buffers.proofs.Keeping.{KeepsWhere}
+use Rattle.image.specs.Layout.{outLength}
+use Rattle.daemons.specs.Buffers.{Buffers, isRecovery, sourceIn, stepIn, keptAfter, saved}
+use Rattle.daemons.specs.Daemons.{Daemons, daemonsAfter}
+use Rattle.daemons.proofs.BufferLaws.{event-buffers, event-down, crash-buffers, crash-down, store-buffers}
+use Rattle.daemons.proofs.Keeping.{KeepsWhere}
 use Rattle.register_runs.specs.Joint.{stepPart, jointOf}
 use Rattle.register_runs.specs.Depots.{Depot, savedAll, jointIn, depotAfter, Depots, depotsAfter}
 use Rattle.register_runs.proofs.DepotLaws as depots

@@ -1,5 +1,4 @@
 -- Along every run each register, in memory and in store, is the fold of its server's green list.
--- Assumes nothing.
 use Prim.Native.Nat.{ℕ}
 use mathlib.Core.Path.{_≡_, refl, sym, ap, _∙_}
 use mathlib.Core.Bool.{Bool, true, false}

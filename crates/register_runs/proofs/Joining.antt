@@ -1,5 +1,4 @@
 -- One event over a server's state and register: the state's buffers are the step's, and the register's buffers hold the folds of what the event leaves.
--- Assumes nothing.
 use Prim.Native.Nat.{ℕ, _≤_}
 use mathlib.Core.Path.{_≡_, refl, sym, ap, subst, _∙_}
 use mathlib.Core.Bool.{Bool, false}
@@ -12,16 +11,16 @@ use Rattle.replication.specs.Machine.Types.{Server, Outcome, refused, taken, co
 use Rattle.replication.specs.Machine.Step.{step}
 use Rattle.replication.specs.Images.{Images, sourceOf, arrive, leftBy}
 use Rattle.replication.proofs.Runs.Refusals.{picked-true, picked-false}
-use Rattle.engine.specs.Layout.{outLength}
-use Rattle.engine.specs.Outcome.{word, stateNumber}
-use Rattle.engine.specs.Holding.{Holds}
-use Rattle.engine.proofs.InPlace.{holds-decoded}
-use Rattle.engine.proofs.Refusals.{number-read, whole-read, holds-whole}
-use Rattle.buffers.specs.Buffers.{Buffers, isRecovery, sourceIn, stepIn, keptAfter}
-use Rattle.buffers.proofs.RecoveryLaws.{recovery-read}
-use Rattle.buffers.proofs.BufferLaws.{source-stored, source-running}
-use Rattle.buffers.proofs.Keeping.{KeepsWhere, formed-context, holds-long}
-use Rattle.buffers.proofs.Arriving.{source-holds, refused-running, room-here}
+use Rattle.image.specs.Layout.{outLength}
+use Rattle.image.specs.Outcome.{word, stateNumber}
+use Rattle.image.specs.Holding.{Holds}
+use Rattle.image.proofs.InPlace.{holds-decoded}
+use Rattle.image.proofs.Refusals.{number-read, whole-read, holds-whole}
+use Rattle.daemons.specs.Buffers.{Buffers, isRecovery, sourceIn, stepIn, keptAfter}
+use Rattle.daemons.proofs.RecoveryLaws.{recovery-read}
+use Rattle.daemons.proofs.BufferLaws.{source-stored, source-running}
+use Rattle.daemons.proofs.Keeping.{KeepsWhere, formed-context, holds-long}
+use Rattle.daemons.proofs.Arriving.{source-holds, refused-running, room-here}
 use Rattle.register_runs.specs.Joint.{Joint, stepPart, unjoined, jointOf}
 use Rattle.register_runs.specs.Depots.{Depot, jointIn, depotAfter}
 use Rattle.register_runs.proofs.JointLaws.{zero-joint, joint-step, joint-read}

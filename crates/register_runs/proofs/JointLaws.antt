@@ -1,5 +1,4 @@
 -- The joint step beside the step: over a register that reads it is the step, and its register is carried on by what turned green.
--- Assumes nothing.
 use Prim.Native.Nat.{ℕ}
 use mathlib.Core.Path.{_≡_, refl, sym, ap, _∙_}
 use mathlib.Core.Bool.{Bool, true, false}
@@ -9,9 +8,9 @@ use Rattle.base.specs.Tests.{_or_, _and_, _=?_, pick}
 use Rattle.base.proofs.TestLaws.{pick-eq, choices}
 use Rattle.replication.specs.Machine.Types.{Outcome, refused, taken}
 use Rattle.replication.specs.Machine.Step.{step}
-use Rattle.engine.specs.Decode.{decoded, reads}
-use Rattle.engine.specs.Outcome.{refusal, tooShort, resultOf, stepOn, stateNumber}
-use Rattle.engine.proofs.Refusals.{step-by-number}
+use Rattle.image.specs.Decode.{decoded, reads}
+use Rattle.image.specs.Outcome.{refusal, tooShort, resultOf, stepOn, stateNumber}
+use Rattle.image.proofs.Refusals.{step-by-number}
 use Rattle.pegs.specs.Image.{registerReads}
 use Rattle.pegs.specs.Outcome.{registerShort, registerNumber}
 use Rattle.register_runs.specs.Joint.{stepPart, unjoined, jointOf, jointNumber, jointOn}

@@ -1,5 +1,4 @@
 -- Registers over runs: each is the fold of its server's green list, and over allowed runs they agree as the green lists do.
--- Assumes nothing.
 use Prim.Native.Nat.{ℕ, _≤_, _<_}
 use mathlib.Core.Path.{_≡_}
 use mathlib.Core.Bool.{false}
@@ -13,9 +12,9 @@ use Rattle.replication.specs.Images.{arrive}
 use Rattle.replication.specs.Runs.Run.{event, Run, worldAt}
 use Rattle.replication.specs.Runs.Strays.{AllowedWithStrays, AllowedWithStraysUp}
 use Rattle.replication.specs.Runs.Claim.{storedGreen, memoryGreen, greenAt}
-use Rattle.engine.specs.Decode.{greensIn}
-use Rattle.buffers.specs.Buffers.{sourceIn, stepIn}
-use Rattle.buffers.specs.Daemons.{daemonsAt}
+use Rattle.image.specs.Decode.{greensIn}
+use Rattle.daemons.specs.Buffers.{sourceIn, stepIn}
+use Rattle.daemons.specs.Daemons.{daemonsAt}
 use Rattle.pegs.specs.Operations.{Peg}
 use Rattle.pegs.specs.Register.{advance, registerOf}
 use Rattle.pegs.specs.Image.{pegsIn, readRegister, usedIn}

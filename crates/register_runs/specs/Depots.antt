@@ -1,5 +1,4 @@
 -- The daemons of a run's servers that keep a register beside each state, and call the joint step: what they keep at each place.
--- Assumes nothing.
 use Prim.Native.Nat.{ℕ, zero, suc, _≤_, _<_}
 use mathlib.Core.Bool.{Bool, true, false}
 use mathlib.Core.List.{List}
@@ -8,8 +7,8 @@ use lib.ListN.{length}
 use Rattle.base.specs.Tests.{_=?_, pick}
 use Rattle.base.specs.Lists.{at, upd}
 use Rattle.replication.specs.Runs.Run.{Entry, event, crash, store, Run}
-use Rattle.buffers.specs.Buffers.{Buffers, sourceIn, begun, saved}
-use Rattle.buffers.specs.Daemons.{Lending, LongEnough}
+use Rattle.daemons.specs.Buffers.{Buffers, sourceIn, begun, saved}
+use Rattle.daemons.specs.Daemons.{Lending, LongEnough}
 use Rattle.pegs.specs.Image.{registerLength}
 use Rattle.pegs.specs.Outcome.{emptyOn}
 use Rattle.register_runs.specs.Joint.{Joint, jointOn}

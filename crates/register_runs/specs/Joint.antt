@@ -1,17 +1,17 @@
 -- One event over a server's state and its register together, the joint step: the machine's step, then every action that it turned green applied to
 -- the register in order. Document 02, K2.
--- Assumes nothing.
 use Prim.Native.Nat.{ℕ}
 use mathlib.Core.List.{List, map}
 use lib.ListN.{length}
 use Rattle.base.specs.Tests.{_or_, _and_, _=?_, pick}
 use Rattle.base.specs.Bytes.{joined, over}
+use Rattle.base.specs.Refusals.{shortBuffer, badState}
 use Rattle.format.specs.Types.{Action}
 use Rattle.replication.specs.Machine.Types.{Outcome, refused, taken}
 use Rattle.replication.specs.Machine.Step.{step}
-use Rattle.engine.specs.Image.{image}
-use Rattle.engine.specs.Decode.{decoded, reads}
-use Rattle.engine.specs.Outcome.{Result, word, tooShort}
+use Rattle.image.specs.Image.{image}
+use Rattle.image.specs.Decode.{decoded, reads}
+use Rattle.image.specs.Outcome.{Result, word, tooShort}
 use Rattle.pegs.specs.Register.{refusals}
 use Rattle.pegs.specs.Image.{pegsIn, registerReads}
 use Rattle.pegs.specs.Outcome.{registerShort, appliedAll}
@@ -59,7 +59,7 @@ jointOf (taken t rs w g) b r o = record {
 
 -- "7 a buffer below its formula, then 8 a register .. out of range or order or with a name twice", over all three buffers.
 unfoldable pub jointNumber : (state register out : List ℕ) → ℕ
-jointNumber b r o = pick (tooShort b o or registerShort r) 7 (pick (reads b and registerReads r) 0 8)
+jointNumber b r o = pick (tooShort b o or registerShort r) shortBuffer (pick (reads b and registerReads r) 0 badState)
 
 unfoldable pub jointOn : (state register event out : List ℕ) → Joint
 jointOn b r e o = pick (jointNumber b r o =? 0) (jointOf (step (decoded b) e) b r o) (unjoined (jointNumber b r o) b r o)

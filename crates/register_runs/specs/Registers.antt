@@ -1,5 +1,4 @@
 -- The registers of a run's servers, in memory and in store, carried on by what each event turns green.
--- Assumes nothing.
 use Prim.Native.Nat.{ℕ}
 use mathlib.Core.List.{List, [], _∷_}
 use lib.ListN.{take}

@@ -1,5 +1,4 @@
 -- The registers of daemons that take events by joint bursts, from those of daemons that take each event by the joint step.
--- Assumes nothing.
 use Prim.Native.Nat.{ℕ, suc, _+_, _≤_}
 use mathlib.Core.Path.{_≡_, sym, ap, _∙_}
 use mathlib.Core.List.{List, []}
@@ -9,13 +8,13 @@ use lib.ListN.{length, take, drop}
 use Rattle.base.specs.Lists.{at}
 use Rattle.replication.specs.Runs.Run.{event, Run, putOut, sentAt}
 use Rattle.replication.specs.Runs.Strays.{AllowedWithStraysUp}
-use Rattle.engine.specs.Decode.{greensIn}
-use Rattle.buffers.specs.Buffers.{stepIn}
-use Rattle.buffers.specs.Sending.{cutRecords}
-use Rattle.buffers.specs.Daemons.{daemonsAt}
-use Rattle.buffers.specs.Claim.{BuffersFollow, BuffersDemand}
-use Rattle.buffers.proofs.SendingLaws.{cut-short}
-use Rattle.buffers.proofs.Agreement.{buffers-demand}
+use Rattle.image.specs.Decode.{greensIn}
+use Rattle.daemons.specs.Buffers.{stepIn}
+use Rattle.daemons.specs.Sending.{cutRecords}
+use Rattle.daemons.specs.Daemons.{daemonsAt}
+use Rattle.daemons.specs.Claim.{BuffersFollow, BuffersDemand}
+use Rattle.daemons.proofs.SendingLaws.{cut-short}
+use Rattle.daemons.proofs.Agreement.{buffers-demand}
 use Rattle.burst.specs.Calls.{Call, together, before, last, refused, keptAt, placeOf, ranBy}
 use Rattle.pegs.specs.Register.{advance, registerOf}
 use Rattle.pegs.specs.Image.{pegsIn, readRegister, usedIn}

@@ -1,5 +1,4 @@
 -- A burst with a register, as the code makes it: event by event.
--- Assumes nothing.
 use Prim.Native.Nat.{ℕ, zero, suc, _+_, _-_, _^_, _≤_, _<_}
 use mathlib.Core.Path.{_≡_, refl, sym, ap, subst, _∙_}
 use mathlib.Core.Bool.{Bool, true, false, not}
@@ -11,7 +10,7 @@ use lib.Seq.{length-take-le, take-all, drop-drop}
 use Rattle.base.specs.Tests.{_and_, _=?_}
 use Rattle.base.proofs.TestLaws.{and-yes, and-no, eq-yes, eq-no, pick-eq, pick-ne}
 use Rattle.base.proofs.Branches.{or-yes, or-no}
-use Rattle.engine.specs.Decode.{greensIn}
+use Rattle.image.specs.Decode.{greensIn}
 use Rattle.burst.specs.declared.slices.Next.{Next}
 use Rattle.burst.specs.declared.slices.Next.the-variants.{Event, Stop}
 use Rattle.burst.specs.Burst.{nextOf, EndsIn, stopNumber}

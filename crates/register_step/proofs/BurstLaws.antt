@@ -1,5 +1,4 @@
 -- A burst with a register by its first event: what comes next, as a burst of one event, and the rest behind it.
--- Assumes nothing.
 use Prim.Native.Nat.{ℕ, suc, _+_, _≤_}
 use mathlib.Core.Path.{_≡_, refl, sym, ap, subst, _∙_}
 use mathlib.Core.Bool.{Bool, true, false, not}
@@ -11,7 +10,7 @@ use borrow.Author.Tests.{not-true, not-false}
 use Rattle.base.specs.Tests.{_and_, _or_, _=?_}
 use Rattle.base.proofs.TestLaws.{Known, known, holds, fails, not-both, and-holds, eq-holds, eq-fails, pick-yes, pick-no, pick-eq, pick-ne}
 use Rattle.base.proofs.Branches.{or-yes, or-no}
-use Rattle.engine.specs.Decode.{greensIn}
+use Rattle.image.specs.Decode.{greensIn}
 use Rattle.burst.specs.declared.slices.Next.{Next}
 use Rattle.burst.specs.declared.slices.Next.the-variants.{Event, Stop}
 use Rattle.burst.specs.Burst.{nextOf}

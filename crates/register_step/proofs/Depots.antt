@@ -1,5 +1,4 @@
 -- Daemons that keep registers and take events by joint bursts keep what daemons keep that take each by the joint step.
--- Assumes nothing.
 use Prim.Native.Nat.{ℕ, suc, _+_, _<_}
 use mathlib.Core.Path.{_≡_, refl, sym, ap, _∙_}
 use mathlib.Core.Bool.{false}
@@ -9,8 +8,8 @@ use lib.ListN.{take}
 use Rattle.base.specs.Tests.{_=?_, pick}
 use Rattle.base.specs.Lists.{at, upd}
 use Rattle.replication.specs.Runs.Run.{Entry, event, crash, Run}
-use Rattle.buffers.specs.Buffers.{sourceIn}
-use Rattle.buffers.specs.Sending.{firstSize}
+use Rattle.daemons.specs.Buffers.{sourceIn}
+use Rattle.daemons.specs.Sending.{firstSize}
 use Rattle.burst.specs.Calls.{Call, together, before, last, refused, System, keptAt, placeOf, ranBy, callOf}
 use Rattle.burst.proofs.Going.{Answer, StepOf}
 use Rattle.burst.proofs.Places.{call-of}

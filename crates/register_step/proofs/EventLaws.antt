@@ -1,5 +1,4 @@
 -- One event by the joint step, as a burst needs it: the next event finds buffers whose number is 0 again.
--- Assumes nothing.
 use Prim.Native.Nat.{ℕ, suc, _+_, _≤_}
 use mathlib.Core.Path.{_≡_, refl, sym, ap, _∙_}
 use mathlib.Core.List.{List, [], _∷_}
@@ -9,10 +8,10 @@ use Rattle.base.specs.Tests.{_=?_}
 use Rattle.base.proofs.TestLaws.{Known, known, holds, fails, pick-yes, pick-no}
 use Rattle.format.specs.Limits.{mostIds}
 use Rattle.format.specs.Types.{Action}
-use Rattle.engine.specs.Decode.{decoded, greensIn}
-use Rattle.engine.specs.Outcome.{Result, stepOn}
-use Rattle.engine.specs.Counts.{greenCount}
-use Rattle.engine.proofs.Refusals.{zero-ready}
+use Rattle.image.specs.Decode.{decoded, greensIn}
+use Rattle.image.specs.Outcome.{Result, stepOn}
+use Rattle.image.specs.Counts.{greenCount}
+use Rattle.image.proofs.Refusals.{zero-ready}
 use Rattle.queue.specs.Queue.{QueueIn}
 use Rattle.queue.proofs.ReadLaws.{holds-queue}
 use Rattle.pegs.specs.Operations.{Peg}

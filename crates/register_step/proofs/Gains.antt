@@ -1,5 +1,4 @@
 -- What turned green between two states of a server, applied to its register.
--- Assumes nothing.
 use Prim.Native.Nat.{ℕ, _≤_}
 use mathlib.Core.Path.{_≡_, refl, sym, ap, subst, _∙_}
 use mathlib.Core.List.{List, [], _++_, append-nil}
@@ -13,10 +12,10 @@ use Rattle.format.specs.Types.{Action}
 use Rattle.format.proofs.Ranges.{ActionRange}
 use Rattle.replication.specs.Machine.Types.{Server, contextOf}
 use Rattle.replication.specs.Machine.WellFormed.{queue}
-use Rattle.engine.specs.Decode.{decoded, greensIn}
-use Rattle.engine.specs.Outcome.{imageNumber}
-use Rattle.engine.proofs.InRange.{in-range}
-use Rattle.engine.proofs.Refusals.{whole-holds}
+use Rattle.image.specs.Decode.{decoded, greensIn}
+use Rattle.image.specs.Outcome.{imageNumber}
+use Rattle.image.proofs.InRange.{in-range}
+use Rattle.image.proofs.Refusals.{whole-holds}
 use Rattle.pegs.specs.Register.{refusals}
 use Rattle.pegs.specs.Image.{pegsIn}
 use Rattle.pegs.specs.Outcome.{appliedAll}

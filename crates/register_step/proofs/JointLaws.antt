@@ -1,5 +1,4 @@
 -- The joint step beside the engine's own: the same answer, and the register carried on by what turned green.
--- Assumes nothing.
 use Prim.Native.Nat.{ℕ, _≤_, _<_}
 use mathlib.Core.Path.{_≡_, refl, sym, ap, subst, _∙_}
 use mathlib.Core.Bool.{Bool, true, false}
@@ -11,13 +10,13 @@ use Rattle.base.proofs.Branches.{or-yes, or-no}
 use Rattle.replication.specs.Machine.Types.{Server, Outcome, refused, taken}
 use Rattle.replication.specs.Machine.Step.{step}
 use Rattle.replication.proofs.Step.Growth.{green-gained}
-use Rattle.engine.specs.Image.{image}
-use Rattle.engine.specs.Decode.{decoded, reads, greensIn}
-use Rattle.engine.specs.Holding.{Holds}
-use Rattle.engine.specs.Outcome.{Result, refusal, tooShort, resultOf, stepOn, stateNumber, imageNumber}
-use Rattle.engine.proofs.InPlace.{holds-decoded}
-use Rattle.engine.proofs.Refusals.{zero-whole, zero-ready, zero-read, number-short, number-unread, number-read, step-read}
-use Rattle.engine.proofs.Taken.{taken-holds}
+use Rattle.image.specs.Image.{image}
+use Rattle.image.specs.Decode.{decoded, reads, greensIn}
+use Rattle.image.specs.Holding.{Holds}
+use Rattle.image.specs.Outcome.{Result, refusal, tooShort, resultOf, stepOn, stateNumber, imageNumber}
+use Rattle.image.proofs.InPlace.{holds-decoded}
+use Rattle.image.proofs.Refusals.{zero-whole, zero-ready, zero-read, number-short, number-unread, number-read, step-read}
+use Rattle.image.proofs.Taken.{taken-holds}
 use Rattle.burst.proofs.KeptLaws.{step-kept}
 use Rattle.pegs.specs.Image.{registerLength, registerReads}
 use Rattle.pegs.specs.Outcome.{registerShort, registerNumber}

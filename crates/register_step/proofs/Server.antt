@@ -1,5 +1,4 @@
 -- One server with a register: its joint step and its joint burst, as bursts over states of any type.
--- Assumes nothing.
 use Prim.Native.Nat.{ℕ, suc}
 use mathlib.Core.Path.{_≡_, refl, sym, ap, subst}
 use mathlib.Core.Bool.{Bool, true, false}
@@ -11,9 +10,9 @@ use Rattle.base.specs.Tests.{_=?_, pick}
 use Rattle.base.proofs.TestLaws.{pick-yes, pick-no, pick-either, pick-as, pick-eq, pick-ne, eq-holds, eq-fails, choices, Known, holds, fails, known}
 use Rattle.replication.specs.Machine.Types.{Outcome, refused, taken}
 use Rattle.replication.specs.Machine.Step.{step}
-use Rattle.engine.specs.Decode.{decoded}
-use Rattle.buffers.specs.Buffers.{sourceIn}
-use Rattle.buffers.proofs.BufferLaws.{source-running}
+use Rattle.image.specs.Decode.{decoded}
+use Rattle.daemons.specs.Buffers.{sourceIn}
+use Rattle.daemons.proofs.BufferLaws.{source-running}
 use Rattle.burst.specs.declared.slices.Next.the-variants.{Event, Stop}
 use Rattle.burst.specs.Burst as engine
 use Rattle.burst.specs.Burst.{nextOf}

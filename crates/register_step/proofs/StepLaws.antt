@@ -1,5 +1,4 @@
 -- The joint step, as the code makes it.
--- Assumes nothing.
 use Prim.Native.Nat.{ℕ, _+_, _≤_}
 use mathlib.Core.Path.{_≡_, sym, ap, subst, _∙_}
 use mathlib.Core.List.{List}
@@ -7,12 +6,12 @@ use native.Mathlib.Omega.{arith}
 use lib.ListN.{length, drop}
 use Rattle.base.specs.Bytes.{numberAt}
 use Rattle.base.proofs.TestLaws.{pick-ne}
-use Rattle.engine.specs.Layout.{atGreenLength}
-use Rattle.engine.specs.Decode.{decoded, greensIn}
-use Rattle.engine.specs.Holding.{Holds}
-use Rattle.engine.specs.Outcome.{Result, stepOn, stateNumber}
-use Rattle.engine.proofs.InPlace.{holds-header}
-use Rattle.engine.proofs.Refusals.{zero-whole, zero-ready}
+use Rattle.image.specs.Layout.{atGreenLength}
+use Rattle.image.specs.Decode.{decoded, greensIn}
+use Rattle.image.specs.Holding.{Holds}
+use Rattle.image.specs.Outcome.{Result, stepOn, stateNumber}
+use Rattle.image.proofs.InPlace.{holds-header}
+use Rattle.image.proofs.Refusals.{zero-whole, zero-ready}
 use Rattle.queue.specs.Queue.{QueueIn}
 use Rattle.queue.proofs.ReadLaws.{holds-queue}
 use Rattle.queue.proofs.GreenHistory.{greensIn-count}

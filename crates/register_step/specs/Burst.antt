@@ -1,5 +1,4 @@
 -- Events one behind another in one slice, each by the joint step: what a burst with a register answers.
--- Assumes nothing.
 use Prim.Native.Nat.{ℕ, zero, suc, _+_, _^_, _<_}
 use mathlib.Core.Path.{_≡_}
 use mathlib.Core.Bool.{Bool, true, false, not}

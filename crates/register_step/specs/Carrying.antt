@@ -1,11 +1,10 @@
 -- A register carried on by green actions, as the code does it.
--- Assumes nothing.
 use Prim.Native.Nat.{ℕ, _≤_}
 use mathlib.Core.Path.{_≡_}
 use mathlib.Core.List.{List, [], _∷_}
 use lib.ListN.{length}
 use Rattle.format.specs.Types.{Action}
-use Rattle.engine.specs.Counts.{greenCount}
+use Rattle.image.specs.Counts.{greenCount}
 use Rattle.queue.specs.Queue.{QueueIn}
 use Rattle.pegs.specs.Register.{refusals}
 use Rattle.pegs.specs.Image.{pegsIn}

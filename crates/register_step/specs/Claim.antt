@@ -1,6 +1,5 @@
 -- Daemons that keep registers and take events by joint bursts keep what daemons keep that take each event of the same run by the joint step: so what
 -- is proved of these holds of them.
--- Assumes nothing.
 use Prim.Native.Nat.{ℕ, suc, _+_, _≤_, _<_}
 use mathlib.Core.Path.{_≡_}
 use mathlib.Core.Bool.{false}
@@ -10,9 +9,9 @@ use lib.ListN.{length, take, drop}
 use Rattle.base.specs.Lists.{at}
 use Rattle.replication.specs.Runs.Run.{event, putOut, sentAt}
 use Rattle.replication.specs.Runs.Strays.{AllowedWithStraysUp}
-use Rattle.engine.specs.Decode.{greensIn}
-use Rattle.buffers.specs.Sending.{cutRecords}
-use Rattle.buffers.specs.Daemons.{daemonsAt}
+use Rattle.image.specs.Decode.{greensIn}
+use Rattle.daemons.specs.Sending.{cutRecords}
+use Rattle.daemons.specs.Daemons.{daemonsAt}
 use Rattle.burst.specs.Calls.{Call, together, IsStep, keptAt, placeOf, ranBy, callOf}
 use Rattle.pegs.specs.Register.{advance, registerOf}
 use Rattle.pegs.specs.Image.{pegsIn, readRegister, usedIn}

@@ -1,5 +1,4 @@
 -- Daemons that keep registers and take several waiting events by one joint burst: what they keep before each of their calls.
--- Assumes nothing.
 use Prim.Native.Nat.{ℕ, _≤_, _<_}
 use mathlib.Core.Bool.{false}
 use mathlib.Core.List.{List, [], _∷_}
@@ -8,8 +7,8 @@ use lib.ListN.{length, take}
 use Rattle.base.specs.Tests.{_=?_, pick}
 use Rattle.base.specs.Lists.{upd}
 use Rattle.replication.specs.Runs.Run.{Run}
-use Rattle.buffers.specs.Buffers.{sourceIn}
-use Rattle.buffers.specs.Sending.{firstSize}
+use Rattle.daemons.specs.Buffers.{sourceIn}
+use Rattle.daemons.specs.Sending.{firstSize}
 use Rattle.burst.specs.Calls.{Call, alone, together, cameBy, eventsAt, System, ranBy, callOf}
 use Rattle.burst.specs.Daemons.{LongEnoughFor}
 use Rattle.pegs.specs.Image.{registerLength}

@@ -9,6 +9,8 @@ ghost use Rattle.register_step.specs.Claim.{JointBurstsFollow, JointBurs
 
 pub mod carrying; // carrying.rt: green actions applied to the register
 
+use base::refusals::BAD_STATE;
+use base::refusals::SHORT_BUFFER;
 use burst::slices::Next;
 use burst::slices::next_in;
 use burst::slices::stop_number;
@@ -51,13 +53,17 @@ fn joint_number(state: &[u8], register: &[u8], out: &[u8]) -> u32
     ensures { λ r. ⌜ r ≡ jointNumber (now (state .entry)) (now (register .entry)) (now (out .entry)) ⌝ }
 {
     if register.len() < REGISTER_LENGTH {
-        return 7;
+        return SHORT_BUFFER;
     }
     let number = state_number(state, out);
     if number != 0 {
         return number;
     }
-    if register_reads(register) { 0 } else { 8 }
+    if register_reads(register) {
+        0
+    } else {
+        BAD_STATE
+    }
 }
 
 // Over buffers whose number is 0: the engine's step, then what it turned green.
@@ -81,8 +87,7 @@ fn take_event(state: &mut [u8], register: &mut [u8], event: &[u8], out: &mut [u8
 }
 
 // One event at one server with its register: the buffers' own number first, then the event.
-#[no_mangle]
-pub extern "C" fn guzbytor_register_step(
+pub fn joint_step(
     state: &mut [u8],
     register: &mut [u8],
     event: &[u8],
@@ -216,8 +221,7 @@ fn take_burst(state: &mut [u8], register: &mut [u8], events: &[u8], out: &mut [u
 }
 
 // Many events at one server with its register: each buffer is checked once.
-#[no_mangle]
-pub extern "C" fn guzbytor_register_burst(
+pub fn joint_burst(
     state: &mut [u8],
     register: &mut [u8],
     events: &[u8],

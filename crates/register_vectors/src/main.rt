@@ -5,7 +5,7 @@ mod report;
 mod runs;
 mod vector;
 
-use register_check::guzbytor_register_length;
+use register_check::register_length;
 use report::ROOM;
 use vector_tools::output::labelled;
 use vector_tools::text;
@@ -40,7 +40,7 @@ fn lines(base: &mut [u8], s: &[u8]) {
 }
 
 fn main() {
-    labelled(b"length", guzbytor_register_length() as u64);
+    labelled(b"length", register_length() as u64);
     io::write_all(1, b"\n");
     let mut input: [u8; MOST_INPUT] = [0; MOST_INPUT];
     let n = io::read_full(0, &mut input);

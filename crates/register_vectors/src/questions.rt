@@ -7,9 +7,9 @@ use crate::runs::found;
 use crate::runs::returned;
 use octets::numbers::num32;
 use register_check::coordinates::millimetres;
-use register_queries::guzbytor_register_nearest;
-use register_queries::guzbytor_register_radius;
-use register_queries::guzbytor_register_rectangle;
+use register_queries::in_radius;
+use register_queries::in_rectangle;
+use register_queries::nearest_on;
 
 const NUMBER: usize = 4;
 
@@ -43,9 +43,9 @@ fn ask(inside: bool, register: &[u8], e: &[u8], answer: &mut [u8]) -> u32 {
     if inside {
         let east = coordinate(e, THIRD);
         let north = coordinate(e, FOURTH);
-        return guzbytor_register_rectangle(register, easting, northing, east, north, answer);
+        return in_rectangle(register, easting, northing, east, north, answer);
     }
-    guzbytor_register_radius(register, easting, northing, bits(e, THIRD), answer)
+    in_radius(register, easting, northing, bits(e, THIRD), answer)
 }
 
 // The first bytes of the answer's buffer are lent.
@@ -71,5 +71,5 @@ pub fn region(kind: u8, register: &[u8], e: &[u8]) {
 }
 
 pub fn nearest(register: &[u8], e: &[u8]) {
-    found(guzbytor_register_nearest(register, coordinate(e, 0), coordinate(e, NUMBER)));
+    found(nearest_on(register, coordinate(e, 0), coordinate(e, NUMBER)));
 }

@@ -7,10 +7,10 @@ use octets::numbers::num8;
 use octets::numbers::num16;
 use octets::numbers::wider;
 use plane::distances::gap;
-use register::guzbytor_register_apply;
-use register::guzbytor_register_start;
+use register::apply_on;
+use register::start;
 use register_check::RegisterFind;
-use register_check::guzbytor_register_find;
+use register_check::find;
 use vector_tools::output::labelled;
 use vector_tools::output::number;
 use vector_tools::patch::patch;
@@ -89,7 +89,7 @@ fn apply_part(register: &mut [u8], payload: &[u8], n: usize) -> u32 {
     if payload.len() < n {
         return 0;
     }
-    guzbytor_register_apply(register, &payload[0..n])
+    apply_on(register, &payload[0..n])
 }
 
 // One of many.
@@ -127,10 +127,10 @@ pub fn returned(number: u32) {
 
 pub fn run(kind: u8, register: &mut [u8], e: &[u8]) {
     match kind {
-        START => returned(guzbytor_register_start(register)),
-        APPLY => returned(guzbytor_register_apply(register, e)),
+        START => returned(start(register)),
+        APPLY => returned(apply_on(register, e)),
         MANY => many(register, e),
-        FIND => found(guzbytor_register_find(register, e)),
+        FIND => found(find(register, e)),
         INSIDE | WITHIN => region(kind, register, e),
         NEAREST => nearest(register, e),
         _ => {}

@@ -1,5 +1,4 @@
 -- The passes of a part of the input, as the code makes them.
--- Assumes nothing.
 use Prim.Native.Nat.{ℕ, _+_, _-_, _^_, _≤_, _<_}
 use mathlib.Core.Path.{_≡_, refl, sym, ap, _∙_}
 use mathlib.Core.Bool.{Bool, true, false}
@@ -11,16 +10,16 @@ use mir.Syntax.{w8, w64}
 use mir.Val.{Fits}
 use Rattle.base.proofs.BytesLaws.{given-bytes}
 use Rattle.base.proofs.Over.{rest-whole}
-use Rattle.servers.specs.declared.Server.{Server}
-use Rattle.turns.specs.declared.Going.{Going}
-use Rattle.turns.specs.declared.Going.the-variants.{On, Read, Stop}
-use Rattle.turns.specs.declared.passes.Passed.{Passed}
+use Rattle.replay_servers.specs.declared.Server.{Server}
+use Rattle.replay_turns.specs.declared.Going.{Going}
+use Rattle.replay_turns.specs.declared.Going.the-variants.{On, Read, Stop}
+use Rattle.replay_turns.specs.declared.passes.Passed.{Passed}
 use Rattle.replay.specs.declared.Printed.{Printed}
 use Rattle.replay.specs.Reading.{linesRoom, Fed}
-use Rattle.turns.specs.Passes.{Progress, behind, passOf, passed}
+use Rattle.replay_turns.specs.Passes.{Progress, behind, passOf, passed}
 use Rattle.replay.specs.Parts.{partOf, asksMore, printed}
-use Rattle.turns.proofs.Goings.{on-read, on-stop}
-use Rattle.turns.proofs.PassLaws.{behind-none}
+use Rattle.replay_turns.proofs.Goings.{on-read, on-stop}
+use Rattle.replay_turns.proofs.PassLaws.{behind-none}
 use Rattle.replay.proofs.PartLaws.{pass-fed, pass-some, part-next, part-last, fed}
 
 -- What the passes so far have come to: all are what is left, behind them.

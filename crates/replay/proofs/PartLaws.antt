@@ -1,5 +1,4 @@
 -- All passes of one part of the input: what they take, and how the code makes them.
--- Assumes nothing.
 use Prim.Native.Nat.{ℕ, zero, suc, _-_, _≤_, _<_}
 use mathlib.Core.Path.{_≡_, refl, sym, ap, subst, _∙_}
 use mathlib.Core.Bool.{Bool, true}
@@ -9,17 +8,17 @@ use lib.ListN.{length, drop, length-drop}
 use Rattle.base.specs.Tests.{_<?_}
 use Rattle.base.proofs.TestLaws.{not-both, Known, holds, fails, known, lt-holds, lt-fails}
 use Rattle.base.specs.Bytes.{Bytes}
-use Rattle.servers.specs.declared.Server.{Server}
-use Rattle.turns.specs.declared.Going.{Going}
-use Rattle.turns.specs.declared.Going.the-variants.{On, Read, Stop}
+use Rattle.replay_servers.specs.declared.Server.{Server}
+use Rattle.replay_turns.specs.declared.Going.{Going}
+use Rattle.replay_turns.specs.declared.Going.the-variants.{On, Read, Stop}
 use Rattle.replay.specs.declared.Printed.{Printed}
-use Rattle.lines.specs.Lines.{lineRoom}
+use Rattle.replay_lines.specs.Lines.{lineRoom}
 use Rattle.replay.specs.Reading.{linesRoom, Fed}
-use Rattle.turns.specs.Turns.{Turned, turnOf}
-use Rattle.turns.specs.Passes.{Progress, none, behind, nextEvent, passFrom, passOf}
+use Rattle.replay_turns.specs.Turns.{Turned, turnOf}
+use Rattle.replay_turns.specs.Passes.{Progress, none, behind, nextEvent, passFrom, passOf}
 use Rattle.replay.specs.Parts.{partFrom, partOf, asksMore, printed}
-use Rattle.turns.proofs.Goings.{on-read, on-stop, Goes, on, read, stop, goes, if-on, if-off}
-use Rattle.turns.proofs.PassLaws.{Feeds, feeds-behind, turn-feeds, turn-some, from-full, from-on, from-end}
+use Rattle.replay_turns.proofs.Goings.{on-read, on-stop, Goes, on, read, stop, goes, if-on, if-off}
+use Rattle.replay_turns.proofs.PassLaws.{Feeds, feeds-behind, turn-feeds, turn-some, from-full, from-on, from-end}
 
 -- ---- what a pass takes
 

@@ -1,5 +1,4 @@
 -- What the turns print is what `replay` says.
--- Assumes nothing.
 use Prim.Native.Nat.{ℕ, suc, _+_, _≤_, _<_}
 use mathlib.Core.Path.{_≡_, refl, sym, ap, subst, _∙_}
 use mathlib.Core.Bool.{Bool, true, false}
@@ -8,7 +7,7 @@ use native.Mathlib.Omega.{arith}
 use lib.ListN.{length, getD, take, drop, length-append}
 use lib.Seq.{take-append-le, drop-append-le}
 use Rattle.format.specs.Places.{setupSize}
-use Rattle.servers.specs.Core.{tableServers, tableQuota}
+use Rattle.replay_servers.specs.Core.{tableServers, tableQuota}
 use Rattle.base.specs.Tests.{_<?_, _≤?_}
 use Rattle.base.proofs.TestLaws.{lt-yes, lt-no, le-yes, le-no, le-holds, and-holds, pick-as}
 use Rattle.base.specs.Bytes.{numberAt, partAt}
@@ -19,17 +18,17 @@ use Rattle.format.specs.Setup.{Setup, setupIn, setupFrameOk, setupOk, readSetup
 use Rattle.replication.specs.Machine.Types.{Server, start}
 use Rattle.replication.specs.Images.{Images, started}
 use Rattle.replication.specs.Replay.{header, inputLine, setupLine, recordLength, tableAfter, lineFor, events, afterSetup, replay}
-use Rattle.servers.specs.declared.Server as declared
-use Rattle.servers.specs.Starting.{freshTable}
-use Rattle.servers.specs.Table.{altered}
-use Rattle.servers.proofs.Tabled.{Tabled, fresh-tabled}
-use Rattle.lines.specs.declared.input.Next.{Next}
-use Rattle.lines.specs.declared.input.Next.the-variants.{Event, Wrong, More, Done}
-use Rattle.turns.specs.declared.Going.the-variants.{On, Read, Stop}
-use Rattle.lines.specs.Input.{setupNumbers, setupOf, nextOf}
-use Rattle.turns.specs.Turns.{lineAt, Turned, turnBy, turnOf}
-use Rattle.turns.proofs.Goings.{on-stop, read-stop}
-use Rattle.lines.proofs.InputLaws.{Whole, whole-event, Comes, wrong, cut, done, comes}
+use Rattle.replay_servers.specs.declared.Server as declared
+use Rattle.replay_servers.specs.Starting.{freshTable}
+use Rattle.replay_servers.specs.Table.{altered}
+use Rattle.replay_servers.proofs.Tabled.{Tabled, fresh-tabled}
+use Rattle.replay_lines.specs.declared.input.Next.{Next}
+use Rattle.replay_lines.specs.declared.input.Next.the-variants.{Event, Wrong, More, Done}
+use Rattle.replay_turns.specs.declared.Going.the-variants.{On, Read, Stop}
+use Rattle.replay_lines.specs.Input.{setupNumbers, setupOf, nextOf}
+use Rattle.replay_turns.specs.Turns.{lineAt, Turned, turnBy, turnOf}
+use Rattle.replay_turns.proofs.Goings.{on-stop, read-stop}
+use Rattle.replay_lines.proofs.InputLaws.{Whole, whole-event, Comes, wrong, cut, done, comes}
 use Rattle.replay.proofs.ShownLaws.{line-shown, table-shown}
 
 -- ---- the input

@@ -1,5 +1,4 @@
 -- What the program prints of an input that comes in parts is what `replay` says.
--- Assumes nothing.
 use Prim.Native.Nat.{ℕ, zero, suc, _-_, _≤_}
 use mathlib.Core.Path.{_≡_, refl, sym, ap, subst, _∙_}
 use mathlib.Core.Bool.{Bool, true, false}
@@ -8,7 +7,7 @@ use mathlib.Core.Option.{some}
 use native.Mathlib.Omega.{arith}
 use lib.ListN.{length, take, drop, length-drop, length-map}
 use Rattle.format.specs.Places.{setupSize}
-use Rattle.servers.specs.Core.{tableServers, tableQuota}
+use Rattle.replay_servers.specs.Core.{tableServers, tableQuota}
 use Rattle.base.specs.Tests.{_<?_, _=?_, pick}
 use Rattle.base.proofs.TestLaws.{pick-yes, pick-no, not-both, Known, holds, fails, known, lt-holds, lt-fails, eq-no, eq-holds, eq-fails}
 use Rattle.base.specs.Bytes.{joined}
@@ -16,18 +15,18 @@ use Rattle.base.specs.Lists.{Each, below}
 use Rattle.base.proofs.ListLaws.{below-length}
 use Rattle.replication.specs.Images.{Images}
 use Rattle.replication.specs.Replay.{header, setupLine, events, replay}
-use Rattle.servers.specs.declared.Server.{Server}
-use Rattle.servers.specs.Starting.{freshTable}
-use Rattle.lines.specs.declared.input.Setup.{Setup}
-use Rattle.turns.specs.declared.Going.the-variants.{On, Read, Stop}
-use Rattle.lines.specs.Input.{setupOf}
-use Rattle.lines.specs.Lines.{lineRoom}
-use Rattle.turns.specs.Turns.{Turned, turnOf}
-use Rattle.turns.specs.Passes as passes
-use Rattle.turns.specs.Passes.{Progress, nextEvent, passFrom, passOf}
+use Rattle.replay_servers.specs.declared.Server.{Server}
+use Rattle.replay_servers.specs.Starting.{freshTable}
+use Rattle.replay_lines.specs.declared.input.Setup.{Setup}
+use Rattle.replay_turns.specs.declared.Going.the-variants.{On, Read, Stop}
+use Rattle.replay_lines.specs.Input.{setupOf}
+use Rattle.replay_lines.specs.Lines.{lineRoom}
+use Rattle.replay_turns.specs.Turns.{Turned, turnOf}
+use Rattle.replay_turns.specs.Passes as passes
+use Rattle.replay_turns.specs.Passes.{Progress, nextEvent, passFrom, passOf}
 use Rattle.replay.specs.Parts.{partFrom, partOf, asksMore, partsFrom, printedOf, PrintsReplay}
-use Rattle.turns.proofs.Goings.{on-read, on-stop, read-stop, Goes, on, read, stop, goes}
-use Rattle.turns.proofs.PassLaws.{from-full, from-on, from-end}
+use Rattle.replay_turns.proofs.Goings.{on-read, on-stop, read-stop, Goes, on, read, stop, goes}
+use Rattle.replay_turns.proofs.PassLaws.{from-full, from-on, from-end}
 use Rattle.replay.proofs.PartLaws.{part-on, part-end, part-fed, part-off}
 use Rattle.replay.proofs.PrintsLaws.{prints-setup, prints-start, fresh}
 use Rattle.replay.proofs.PrintsTurns.{Stands, Leads, Right, stops, leads, right-none, right-behind, has-event, waits, step-leads, turn-stops}

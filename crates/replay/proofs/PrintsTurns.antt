@@ -1,5 +1,4 @@
 -- Where the program stands, and what one turn makes of that.
--- Assumes nothing.
 use Prim.Native.Nat.{ℕ, zero, suc, _+_, _-_, _%_, _^_, _≤_, _<_}
 use mathlib.Core.Path.{_≡_, refl, sym, ap, subst, _∙_}
 use mathlib.Core.Bool.{Bool, true}
@@ -13,17 +12,17 @@ use Rattle.base.specs.Bytes.{partAt}
 use Rattle.base.specs.Lists.{at}
 use Rattle.replication.specs.Images.{Images, arrive, leftBy}
 use Rattle.replication.specs.Replay.{tableAfter, events}
-use Rattle.servers.specs.declared.Server.{Server}
-use Rattle.servers.proofs.Tabled.{Tabled}
-use Rattle.lines.specs.declared.input.Next.{Next}
-use Rattle.lines.specs.declared.input.Next.the-variants.{Event, Wrong, More, Done}
-use Rattle.turns.specs.declared.Going.the-variants.{On, Read, Stop}
-use Rattle.lines.specs.Input.{nextOf}
-use Rattle.turns.specs.Turns.{Turned, turnBy, turnOf}
-use Rattle.turns.specs.Passes as passes
-use Rattle.turns.specs.Passes.{Progress, behind, nextEvent}
-use Rattle.turns.proofs.Goings.{on-read, on-stop, read-stop}
-use Rattle.lines.proofs.InputLaws.{whole-event}
+use Rattle.replay_servers.specs.declared.Server.{Server}
+use Rattle.replay_servers.proofs.Tabled.{Tabled}
+use Rattle.replay_lines.specs.declared.input.Next.{Next}
+use Rattle.replay_lines.specs.declared.input.Next.the-variants.{Event, Wrong, More, Done}
+use Rattle.replay_turns.specs.declared.Going.the-variants.{On, Read, Stop}
+use Rattle.replay_lines.specs.Input.{nextOf}
+use Rattle.replay_turns.specs.Turns.{Turned, turnBy, turnOf}
+use Rattle.replay_turns.specs.Passes as passes
+use Rattle.replay_turns.specs.Passes.{Progress, behind, nextEvent}
+use Rattle.replay_turns.proofs.Goings.{on-read, on-stop, read-stop}
+use Rattle.replay_lines.proofs.InputLaws.{whole-event}
 use Rattle.replay.proofs.PrintsLaws.{prints-event, keeps-event, prints-stop}
 
 -- ---- where the program stands

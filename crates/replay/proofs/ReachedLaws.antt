@@ -1,5 +1,4 @@
 -- What the program has printed where it ends is what `replay` says.
--- Assumes nothing.
 use Prim.Native.Nat.{ℕ}
 use mathlib.Core.Path.{_≡_, refl, sym, ap, _∙_}
 use mathlib.Core.Bool.{Bool, true, false}
@@ -10,11 +9,11 @@ use Rattle.format.specs.Places.{setupSize}
 use Rattle.base.proofs.TestLaws.{not-both, pick-eq}
 use Rattle.base.specs.Tests.{pick}
 use Rattle.replication.specs.Replay.{header, setupLine}
-use Rattle.servers.specs.declared.Server.{Server}
-use Rattle.servers.specs.Starting.{freshTable}
-use Rattle.lines.specs.declared.input.Setup.{Setup}
+use Rattle.replay_servers.specs.declared.Server.{Server}
+use Rattle.replay_servers.specs.Starting.{freshTable}
+use Rattle.replay_lines.specs.declared.input.Setup.{Setup}
 use Rattle.replay.specs.declared.Standing.{Standing}
-use Rattle.lines.specs.Input.{setupOf}
+use Rattle.replay_lines.specs.Input.{setupOf}
 use Rattle.replay.specs.Parts.{partOf, asksMore, partsFrom, printedOf, PrintsReplay}
 use Rattle.replay.specs.Reading.{linesRoom, Refilled}
 use Rattle.replay.specs.Advancing.{there, passesAt, Reached, starts, goesOn, ends, ServesReplay}

@@ -1,5 +1,4 @@
 -- What is read, as the code keeps it.
--- Assumes nothing.
 use Prim.Native.Nat.{ℕ, _+_, _-_, _≤_, _<_}
 use mathlib.Core.Path.{_≡_, refl, sym, ap, subst, _∙_}
 use mathlib.Core.Bool.{not, true, false}
@@ -14,8 +13,8 @@ use Rattle.base.proofs.TestLaws.{not-both}
 use Rattle.base.specs.Patched.{patched}
 use Rattle.io.specs.Counts.{Counts}
 use Rattle.io.proofs.Counting.{counts}
-use Rattle.servers.specs.declared.Server.{Server}
-use Rattle.servers.specs.Starting.{freshTable}
+use Rattle.replay_servers.specs.declared.Server.{Server}
+use Rattle.replay_servers.specs.Starting.{freshTable}
 use Rattle.replay.specs.declared.Filled.{Filled}
 use Rattle.replay.specs.declared.Printed.{Printed}
 use Rattle.replay.specs.declared.Standing.{Standing}

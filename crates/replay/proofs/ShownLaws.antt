@@ -1,5 +1,4 @@
 -- A line shows the outcome and the state of its server.
--- Assumes nothing.
 use Prim.Native.Nat.{ℕ, _-_, _<_}
 use mathlib.Core.Path.{_≡_, sym, ap, _∙_}
 use mathlib.Core.List.{List, [], _∷_}
@@ -15,22 +14,24 @@ use Rattle.replication.specs.Machine.WellFormed.{queue}
 use Rattle.replication.specs.Images.{Images, arrive, leftBy}
 use Rattle.replication.specs.Replay.{modeName, line, returned, sentCount, eventLine, tableAfter, lineFor}
 use Rattle.record.specs.declared.State as numbers
-use Rattle.engine.specs.Header.{lastOf, headerOf, headerIn}
-use Rattle.engine.specs.Decode.{modeNamed}
-use Rattle.engine.proofs.HeaderLaws.{header-loaded}
-use Rattle.engine.proofs.HeaderRead.{mode-named}
-use Rattle.engine.specs.Holding.{Holds}
+use Rattle.image.specs.Header.{headerOf, headerIn}
+use Rattle.record.specs.Values.{lastOf}
+use Rattle.image.specs.Decode.{modeNamed}
+use Rattle.image.proofs.HeaderLaws.{header-loaded}
+use Rattle.image.proofs.HeaderRead.{mode-named}
+use Rattle.image.specs.Holding.{Holds}
+use Rattle.format.specs.Read.{primaryAt}
 use Rattle.record.specs.Events.{lastIn}
-use Rattle.servers.specs.declared.Server as declared
-use Rattle.engine.specs.Layout.{atMode, atQueueLength, atGreenLength, atLast}
-use Rattle.servers.specs.declared.Reply.{Reply}
-use Rattle.servers.specs.declared.Stepped.{Stepped}
-use Rattle.servers.specs.Core.{coreOf}
-use Rattle.servers.specs.Table as table
-use Rattle.servers.specs.Table.{altered}
-use Rattle.servers.proofs.Tabled.{Tabled, entry-after, entry-arrives, reply-is, tabled-after}
-use Rattle.lines.specs.Lines.{shownLine}
-use Rattle.turns.specs.Turns.{shownOf, lineAt}
+use Rattle.replay_servers.specs.declared.Server as declared
+use Rattle.image.specs.Layout.{atMode, atQueueLength, atGreenLength, atLast}
+use Rattle.replay_servers.specs.declared.Reply.{Reply}
+use Rattle.replay_servers.specs.declared.Stepped.{Stepped}
+use Rattle.replay_servers.specs.Core.{coreOf}
+use Rattle.replay_servers.specs.Table as table
+use Rattle.replay_servers.specs.Table.{altered}
+use Rattle.replay_servers.proofs.Tabled.{Tabled, entry-after, entry-arrives, reply-is, tabled-after}
+use Rattle.replay_lines.specs.Lines.{shownLine}
+use Rattle.replay_turns.specs.Turns.{shownOf, lineAt}
 
 -- ---- a line
 
@@ -52,7 +53,7 @@ module _ (b : List ℕ) (s : Server) (h : headerIn b ≡ headerOf s) where
   red-read = omega (arith, held-read, green-read, length-append (s .log .green) (s .log .red))
 
   prim-read : numberAt 4 b atLast ≡ s .votes .last .index
-  unfolding headerIn headerOf lastIn lastOf
+  unfolding headerIn headerOf lastIn lastOf primaryAt
   prim-read = ap (λ (x : numbers.State). x .last .index .0) h
 
 -- The line shows the outcome and the state whose image the bytes hold.

@@ -1,5 +1,4 @@
 -- What the program does between two reads.
--- Assumes nothing.
 use Prim.Native.Nat.{ℕ, _^_, _≤_, _<_}
 use mathlib.Core.Path.{_≡_}
 use mathlib.Core.Bool.{true, false}
@@ -9,11 +8,11 @@ use Rattle.format.specs.Places.{setupSize}
 use Rattle.base.specs.Bytes.{joined}
 use Rattle.base.specs.Lists.{Each}
 use Rattle.replication.specs.Replay.{header, replay}
-use Rattle.servers.specs.Core.{tableServers, tableQuota}
-use Rattle.servers.specs.Starting.{freshTable}
+use Rattle.replay_servers.specs.Core.{tableServers, tableQuota}
+use Rattle.replay_servers.specs.Starting.{freshTable}
 use Rattle.replay.specs.declared.Standing.{Standing}
-use Rattle.lines.specs.Input.{setupOf}
-use Rattle.turns.specs.Passes.{Progress}
+use Rattle.replay_lines.specs.Input.{setupOf}
+use Rattle.replay_turns.specs.Passes.{Progress}
 use Rattle.replay.specs.Parts.{partOf, asksMore}
 use Rattle.replay.specs.Reading.{linesRoom, Refilled}
 

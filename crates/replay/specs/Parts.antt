@@ -1,5 +1,4 @@
 -- What the program prints of an input that comes in parts.
--- Assumes nothing.
 use Prim.Native.Nat.{ℕ, zero, suc, _^_, _≤_, _<_}
 use mathlib.Core.Path.{_≡_}
 use mathlib.Core.Bool.{Bool, true, false}
@@ -10,15 +9,15 @@ use Rattle.base.specs.Tests.{_=?_, pick}
 use Rattle.base.specs.Bytes.{joined}
 use Rattle.base.specs.Lists.{Each}
 use Rattle.replication.specs.Replay.{header, setupLine, replay}
-use Rattle.servers.specs.Core.{tableServers, tableQuota}
-use Rattle.servers.specs.declared.Server.{Server}
-use Rattle.servers.specs.Starting.{freshTable}
-use Rattle.lines.specs.declared.input.Setup.{Setup}
-use Rattle.turns.specs.declared.Going.{Going}
-use Rattle.turns.specs.declared.Going.the-variants.{On, Read, Stop}
-use Rattle.lines.specs.Input.{setupOf}
-use Rattle.lines.specs.Lines.{lineRoom}
-use Rattle.turns.specs.Passes.{Progress, none, behind, ifOn, passOf}
+use Rattle.replay_servers.specs.Core.{tableServers, tableQuota}
+use Rattle.replay_servers.specs.declared.Server.{Server}
+use Rattle.replay_servers.specs.Starting.{freshTable}
+use Rattle.replay_lines.specs.declared.input.Setup.{Setup}
+use Rattle.replay_turns.specs.declared.Going.{Going}
+use Rattle.replay_turns.specs.declared.Going.the-variants.{On, Read, Stop}
+use Rattle.replay_lines.specs.Input.{setupOf}
+use Rattle.replay_lines.specs.Lines.{lineRoom}
+use Rattle.replay_turns.specs.Passes.{Progress, none, behind, ifOn, passOf}
 use Rattle.replay.specs.declared.Printed.{Printed}
 
 -- ---- one part of the input

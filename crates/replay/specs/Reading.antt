@@ -1,5 +1,4 @@
 -- What the program keeps of its input.
--- Assumes nothing.
 use Prim.Native.Nat.{ℕ, _+_, _≤_, _<_}
 use mathlib.Core.Path.{_≡_}
 use mathlib.Core.Bool.{true}
@@ -7,7 +6,7 @@ use mathlib.Core.List.{List, _++_}
 use lib.ListN.{length, take}
 use Rattle.base.specs.Tests.{_=?_}
 use Rattle.io.specs.Counts.{Counts}
-use Rattle.lines.specs.Input.{eventRoom}
+use Rattle.replay_lines.specs.Input.{eventRoom}
 use Rattle.replay.specs.declared.Filled.{Filled}
 use Rattle.replay.specs.declared.Printed.{Printed}
 

@@ -1,5 +1,4 @@
 -- What one server has: its state in memory and its stored state, and what an event makes of them.
--- Assumes nothing.
 use Prim.Native.Nat.{ℕ}
 use mathlib.Core.Bool.{Bool, true, false}
 use mathlib.Core.List.{List, [], _∷_}

@@ -1,5 +1,4 @@
 -- One name for all definitions of this crate: whoever unfolds it unfolds them, so that closed instances compute.
--- Assumes nothing.
 use Prim.Native.Nat.{ℕ}
 use Rattle.format.specs.Opened.{opened as opened-format}
 use Rattle.replication.specs.Images.{started, isRecovery, sourceOf, arrive, leftBy, lived}

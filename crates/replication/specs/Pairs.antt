@@ -1,13 +1,12 @@
 -- Document 01, 'Pairs to prove (P), one table, one theorem', with those of document 02's K1. Each pair is a closed instance of a definition by
 -- which the step decides.
--- Assumes nothing.
 use Prim.Native.Nat.{ℕ}
 use mathlib.Core.Path.{_≡_}
 use mathlib.Core.Bool.{true, false}
 use mathlib.Core.List.{List, [], _∷_, map}
 use Rattle.base.specs.Lists.{above, below, filter}
 use Rattle.base.specs.Sets.{inSet}
-use Rattle.format.specs.Types.{Id, Action, State, retransmission}
+use Rattle.format.specs.Types.{Id, Action, component, State, retransmission}
 use Rattle.replication.specs.Machine.Types.{Log, Votes, withLog, withVotes, withYellow, clearedMark, noYellow, start}
 use Rattle.replication.specs.Machine.Colours.{reds, greenIds}
 use Rattle.replication.specs.Machine.Plan.{ownPart}
@@ -25,14 +24,14 @@ actionOf c i = record { id = idOf c i; greenLength = 0; payload = [] }
 
 -- Votes with a last primary of this set; with a valid yellow list; with a mark of the set {0,1,2}, no older than the last primary {1,2}.
 abbrev pub lastPrimary : (set : ℕ) → Votes
-lastPrimary s = record { last = record { index = 1; attempt = 1; set = s }; attempt = 0; mark = clearedMark; yellow = noYellow }
+lastPrimary s = record { last = component 1 1 s; attempt = 0; mark = clearedMark; yellow = noYellow }
 
 abbrev pub validYellow : List Id → Votes
 validYellow ds = withYellow (record { status = 1; ids = ds }) (lastPrimary 255)
 
 abbrev pub marked : (bits : ℕ) → Votes
 marked b = record {
-  last = record { index = 1; attempt = 1; set = 6 };
+  last = component 1 1 6;
   attempt = 1;
   mark = record { status = 1; index = 1; attempt = 1; set = 7; bits = b };
   yellow = noYellow;

@@ -1,5 +1,4 @@
 -- Document 01, 'What `replay` prints': from the bytes on standard input to the bytes printed.
--- Assumes nothing.
 use Prim.Native.Nat.{ℕ, zero, suc, _+_}
 use mathlib.Core.Bool.{true, false}
 use mathlib.Core.List.{List, [], _∷_, _++_, map}

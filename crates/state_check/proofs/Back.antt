@@ -1,5 +1,4 @@
 -- Where the bytes hold the image of the well-formed state that they say, the code's tests hold.
--- Assumes nothing.
 use Prim.Native.Nat.{ℕ, _+_, _*_, _-_, _≤_, _<_, _^_}
 use mathlib.Core.Path.{_≡_, refl, sym, ap, subst, _∙_}
 use mathlib.Core.Bool.{true}
@@ -24,7 +23,7 @@ use Rattle.format.specs.Range.{contextOk, lengthOk, actionOk, indexOk, statusOk
 use Rattle.format.proofs.Ranges.{ContextRange, context-range}
 use Rattle.format.proofs.Writing.{ids-number}
 use Rattle.record.specs.Context.{lastOf}
-use Rattle.record.specs.Values.{componentOf, primaryOf, idsBy}
+use Rattle.record.specs.Values.{primaryOf, idsBy}
 use Rattle.record.specs.declared.State.{State}
 use Rattle.replication.specs.Machine.Types.{Configuration}
 use Rattle.replication.specs.Machine.Colours.{cut}
@@ -37,16 +36,16 @@ use Rattle.replication.proofs.WellFormed.Clauses.{WellFormed}
 use Rattle.replication.proofs.WellFormed.Facts.{held-index}
 use Rattle.replication.proofs.WellFormed.Ids.{each-counted, once-differ}
 use Rattle.replication.proofs.WellFormed.Ranges.{cuts-ok, sizes-ok, length-ok, set-ok, action-ok, primary-ok, mark-ok, ids-ok, state-ok, own-set-facts, ids-short}
-use Rattle.engine.specs.Layout.{slotSize, stateSize, theCuts, theNoted, theStates, theYellow, theOwn, theQueue, sections, sectionSize, offset, sectionCount}
-use Rattle.engine.specs.Image.{modeNumber, senders, actionSlots, statesOver, section, parts, image}
-use Rattle.engine.specs.Decode.{modeNamed, actionsAt}
-use Rattle.engine.specs.Header.{headerOf}
-use Rattle.engine.proofs.InRange.{in-range}
-use Rattle.engine.proofs.Fit.{well-formed-fits}
-use Rattle.engine.proofs.Decoded.{image-part}
-use Rattle.engine.specs.Holding.{Holds}
-use Rattle.engine.proofs.InPlace.{holds-section}
-use Rattle.engine.proofs.Slots.{senders-below}
+use Rattle.image.specs.Layout.{slotSize, stateSize, theCuts, theNoted, theStates, theYellow, theOwn, theQueue, sections, sectionSize, offset, sectionCount}
+use Rattle.image.specs.Image.{actionSlots, statesOver, section, parts}
+use Rattle.image.specs.Decode.{modeNamed, actionsAt, regularOf, transitionalIn}
+use Rattle.image.specs.Header.{headerOf, modeNumber, senders}
+use Rattle.image.proofs.InRange.{in-range}
+use Rattle.image.proofs.Fit.{well-formed-fits}
+use Rattle.image.proofs.Decoded.{image-part}
+use Rattle.image.specs.Holding.{Holds}
+use Rattle.image.proofs.InPlace.{holds-section}
+use Rattle.image.proofs.Slots.{senders-below}
 use Rattle.state_check.specs.Slots.{slotFits, notedAt, notedFit}
 use Rattle.state_check.specs.Numbers.{regularOk, transitionalOk}
 use Rattle.state_check.specs.Collected.{plannedIn, collectedOk}
@@ -56,7 +55,7 @@ use Rattle.state_check.proofs.SlotLists.{ids-by-number, ids-of-actions,
 use Rattle.state_check.proofs.HeldIds.{WithinCuts, all-as-many}
 use Rattle.state_check.proofs.IdLists.{queue-out, own-out, run}
 use Rattle.state_check.proofs.StateLists.{Collected, states-out}
-use Rattle.state_check.proofs.Configurations.{Regular, absent, there as one-there, regular, regular-ok, regularOf, transitional-ok, transitionalIn, last-set}
+use Rattle.state_check.proofs.Configurations.{Regular, absent, there as one-there, regular, regular-ok, transitional-ok, last-set}
 use Rattle.state_check.proofs.Modes.{mode-out, in-states, all-in-inside}
 use Rattle.state_check.proofs.Checked.{Checked}
 use Rattle.state_check.proofs.Said.{said}
@@ -251,7 +250,7 @@ module _ (c : Context) (h : State) (b : List ℕ) (f : WellFormed (said c h b)) 
   set-small (one-there s o e) = own-set-facts c (h .«configuration_set») o .below
 
   mode-test : modeOk c h b ≡ true
-  unfolding modeOk exchangeOk plannedIn plannedNow collected primaryOf componentOf headerOf
+  unfolding modeOk exchangeOk plannedIn plannedNow collected primaryOf headerOf
   mode-test =
       let here = here-set regular-in in
       let number : h .mode ≡ modeNumber (modeNamed (h .mode)) = ap (λ (x : State). x .mode) same in

@@ -1,6 +1,5 @@
 -- What the code on a whole buffer answers.
--- Assumes nothing.
-use Prim.Native.Nat.{ℕ, _≤_, _<_}
+use Prim.Native.Nat.{ℕ, _≤_}
 use mathlib.Core.Path.{_≡_, sym, ap, _∙_}
 use mathlib.Core.Bool.{Bool, false, not}
 use mathlib.Core.List.{List}
@@ -8,7 +7,7 @@ use native.Mathlib.Omega.{arith}
 use lib.Dec.{ltb}
 use lib.ListN.{length}
 use borrow.Author.Tests.{not-false}
-use Rattle.base.specs.Tests.{_and_, _<?_}
+use Rattle.base.specs.Tests.{_<?_}
 use Rattle.base.proofs.TestLaws.{and-holds, and-yes, le-holds}
 use Rattle.base.proofs.Branches.{told-lt}
 use Rattle.base.specs.Bytes.{Bytes}
@@ -17,9 +16,9 @@ use Rattle.format.specs.Range.{contextOk}
 use Rattle.record.specs.Context.{contextOf, ContextIn}
 use Rattle.record.specs.declared.Context.{Context}
 use Rattle.record.specs.declared.State.{State}
-use Rattle.record.proofs.Placing.{context-in}
+use Rattle.reader.proofs.Placing.{context-in}
 use Rattle.replication.specs.Machine.Plan.{planned}
-use Rattle.engine.specs.Layout.{theStates, offset, stateLength}
+use Rattle.image.specs.Layout.{theStates, offset, stateLength}
 use Rattle.exchange.specs.declared.slots.Slots.{Slots}
 use Rattle.exchange.specs.Slots.{slotsOf, slotAt, statesOf}
 use Rattle.exchange.proofs.Collected.{present-states}

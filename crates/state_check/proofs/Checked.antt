@@ -1,5 +1,4 @@
 -- The conjunction of the code's tests, test by test.
--- Assumes nothing.
 use Prim.Native.Nat.{ℕ, _+_, _*_, _≤_}
 use mathlib.Core.Path.{_≡_}
 use mathlib.Core.Bool.{true}
@@ -14,7 +13,7 @@ use Rattle.format.specs.Range.{contextOk, cutsOk, indexOk, setOk, statusOk, pri
 use Rattle.format.specs.Read.{idsAt}
 use Rattle.record.specs.Values.{primaryOf, markOf, idsBy}
 use Rattle.record.specs.declared.State.{State}
-use Rattle.engine.specs.Layout.{slotSize, theCuts, theNoted, theStates, theYellow, theOwn, theQueue}
+use Rattle.image.specs.Layout.{slotSize, theCuts, theNoted, theStates, theYellow, theOwn, theQueue}
 use Rattle.state_check.specs.Slots.{queueSlotsFit, queueFits, ownFits, notedFit}
 use Rattle.state_check.specs.Numbers.{queueCountOk, yellowCountOk, regularOk, transitionalOk, membershipOk, roomOk, quotaOk, countsOk, votesOk, numbersOk}
 use Rattle.state_check.specs.Collected.{collectedOk}

@@ -1,5 +1,4 @@
 -- What the code on collected States answers.
--- Assumes nothing.
 use Prim.Native.Nat.{ℕ, suc, _+_, _*_, _-_, _≤_, _<_}
 use mathlib.Core.Path.{_≡_, refl, sym, ap, subst, _∙_}
 use mathlib.Core.Bool.{Bool, true, false, not}
@@ -17,16 +16,16 @@ use Rattle.base.specs.Sets.{inSet}
 use Rattle.format.specs.Read.{read}
 use Rattle.record.specs.Context.{contextOf, ContextIn}
 use Rattle.record.specs.Events.{stateFrom, recordOf}
-use Rattle.record.specs.Reading.{meaning}
+use Rattle.reader.specs.Reading.{meaning}
 use Rattle.record.specs.Values.{stateOf}
 use Rattle.record.specs.declared.Context.{Context}
 use Rattle.record.specs.declared.events.ActionAt.{ActionAt}
 use Rattle.record.specs.declared.events.StateAt.{StateAt}
 use Rattle.record.specs.declared.events.Event.{Event}
 use Rattle.record.specs.declared.events.Event.the-variants.{Action, Retransmission, State, Cpc, Regular, Transitional, Request, Recovery}
-use Rattle.record.specs.declared.reader.Reading.{Reading}
-use Rattle.record.specs.declared.reader.Reading.the-variants.{Good, Refused}
-use Rattle.engine.specs.Layout.{stateSize}
+use Rattle.reader.specs.declared.Reading.{Reading}
+use Rattle.reader.specs.declared.Reading.the-variants.{Good, Refused}
+use Rattle.image.specs.Layout.{stateSize}
 use Rattle.state_check.specs.Numbers.{yellowCountOk}
 use Rattle.state_check.specs.Collected.{isState, saysState, idsInSlot, slotRecord, holdsState, collectedOk, StatesInside}
 use Rattle.format.specs.Places.{idSize, stateHeadSize, stateCountAt}

@@ -1,5 +1,4 @@
 -- The numbers of the configurations: the code's tests of them, and what they say of the configurations that are read of them.
--- Assumes nothing.
 use Prim.Native.Nat.{ℕ, _<_, _^_}
 use mathlib.Core.Path.{_≡_, refl, sym, ap, subst, _∙_}
 use mathlib.Core.Bool.{Bool, true, false}
@@ -17,7 +16,8 @@ use Rattle.replication.specs.Machine.Types.{Configuration, setOf}
 use Rattle.replication.specs.Machine.Rules.{memberOf, isOf}
 use Rattle.replication.specs.Machine.WellFormedRanges.{ConfigurationFits, TransitionalFits}
 use Rattle.replication.proofs.WellFormed.Ranges.{own-set-facts, own-set-ok}
-use Rattle.engine.specs.Header.{statusOf, idOf, setOf as setNumber, transitionalOf}
+use Rattle.image.specs.Header.{statusOf, idOf, setOf as setNumber, transitionalOf}
+use Rattle.image.specs.Decode.{regularOf, transitionalIn}
 use Rattle.state_check.specs.Numbers.{regularOk, transitionalOk}
 
 -- A choice by a test, as what it comes to.
@@ -28,10 +28,6 @@ other : {A : Type 0} (t : Bool) (x y : A) → t ≡ false → pick t x y ≡ y
 other t x y h = sym (pick-no t y x y h refl)
 
 -- ---- the regular one
-
--- As its numbers say.
-unfoldable pub regularOf : State → Option Configuration
-regularOf h = pick (h .«configuration_status» =? 1) (some (record { id = h .«configuration_id»; set = h .«configuration_set» })) none
 
 pub data Regular (c : Context) (h : State) : Type 0 where
   absent : h .«configuration_status» ≡ 0 → h .«configuration_id» ≡ 0 → h .«configuration_set» ≡ 0 → regularOf h ≡ none → Regular c h
@@ -62,9 +58,6 @@ regular-ok c h (some x) p status id set f =
     ∙ both-yes _ _ (eq-yes _ _ status) (subst (λ (s : ℕ). ownSetOk c s ≡ true) (sym set) (own-set-ok c (x .set) (f x refl .set)))
 
 -- ---- the transitional one
-
-unfoldable pub transitionalIn : State → Option ℕ
-transitionalIn h = pick (h .«transitional_status» =? 1) (some (h .«transitional_set»)) none
 
 pub data Transitional (c : Context) (h : State) : Type 0 where
   absent : h .«transitional_status» ≡ 0 → h .«transitional_set» ≡ 0 → transitionalIn h ≡ none → Transitional c h

@@ -1,5 +1,4 @@
 -- Slots filled up with zeros: the code's tests of them say that their entries, written again, occur where they stand.
--- Assumes nothing.
 use Prim.Native.Nat.{ℕ, zero, suc, _+_, _-_, _≤_, _<_}
 use mathlib.Core.Path.{_≡_, refl, sym, ap, subst, _∙_}
 use mathlib.Core.Bool.{true}
@@ -9,7 +8,6 @@ use native.Mathlib.Omega.{arith}
 use lib.ListN.{length, getD, take, drop}
 use lib.Seq.{drop-cons, getD-take, getD-drop}
 use Rattle.format.specs.Places.{actionPayloadAt, actionHeadSize}
-use Rattle.base.specs.Tests.{_and_}
 use Rattle.base.proofs.TestLaws.{and-holds, both-yes, le-yes, le-holds, eq-yes, eq-holds}
 use Rattle.base.specs.Bytes.{Bytes, numberAt, partAt, zeros, slot, zeroAt}
 use Rattle.base.proofs.BytesLaws.{part-length, bytes-part}
@@ -22,7 +20,7 @@ use Rattle.format.specs.Read.{payloadAt, actionAt}
 use Rattle.format.proofs.Lengths.{action-length}
 use Rattle.format.proofs.Ranges.{PayloadRange}
 use Rattle.format.proofs.Writing.{action-written}
-use Rattle.engine.specs.Layout.{slotSize}
+use Rattle.image.specs.Layout.{slotSize}
 use Rattle.state_check.specs.Slots.{payloadFits, payloadRoom}
 
 -- ---- zeros

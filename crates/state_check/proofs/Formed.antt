@@ -1,5 +1,4 @@
 -- Where the code's tests hold, the bytes say a well-formed state.
--- Assumes nothing.
 use Prim.Native.Nat.{ℕ, _+_, _*_, _-_, _≤_, _<_, _^_}
 use mathlib.Core.Path.{_≡_, refl, sym, ap, subst, _∙_}
 use mathlib.Core.Bool.{true}
@@ -20,7 +19,7 @@ use Rattle.format.specs.Types.{State as Record, Context}
 use Rattle.format.specs.Range.{lengthOk, indexOk, statusOk, idsInRange, idsDiffer, idsOk}
 use Rattle.format.proofs.Ranges.{ContextRange, context-range}
 use Rattle.record.specs.Context.{lastOf}
-use Rattle.record.specs.Values.{componentOf, primaryOf, idsBy}
+use Rattle.record.specs.Values.{primaryOf, idsBy}
 use Rattle.record.specs.declared.State.{State}
 use Rattle.replication.specs.Machine.Colours.{cut}
 use Rattle.replication.specs.Machine.Step.{plannedNow, hereSet, theSet, collected}
@@ -30,9 +29,10 @@ use Rattle.replication.specs.Machine.WellFormedFacts.{Configured, ModeFits}
 use Rattle.replication.proofs.WellFormed.Clauses.{LogRanges, VotesRanges, CollectedFits, MembershipRanges, HeldToCuts, OwnListFits, WellFormed}
 use Rattle.replication.proofs.WellFormed.Ids.{counted-fact, differ-once}
 use Rattle.replication.proofs.WellFormed.Ranges.{cuts-facts, sizes-facts, length-facts, set-facts, primary-facts, mark-facts, ids-facts, state-facts}
-use Rattle.engine.specs.Layout.{slotSize, theCuts, theNoted, theStates, theOwn, theQueue, stateLength}
-use Rattle.engine.specs.Image.{modeNumber, actionSlots}
-use Rattle.engine.specs.Decode.{modeNamed, actionsAt}
+use Rattle.image.specs.Layout.{slotSize, theCuts, theNoted, theStates, theOwn, theQueue, stateLength}
+use Rattle.image.specs.Image.{actionSlots}
+use Rattle.image.specs.Header.{modeNumber}
+use Rattle.image.specs.Decode.{modeNamed, actionsAt, regularOf}
 use Rattle.state_check.specs.Slots.{notedAt, notedFit}
 use Rattle.state_check.specs.Collected.{plannedIn}
 use Rattle.state_check.specs.Checks.{placeOf, ownCut, exchangeOk, modeOk}
@@ -41,7 +41,7 @@ use Rattle.state_check.proofs.SlotLists.{ids-by-number, ids-of-actions,
 use Rattle.state_check.proofs.HeldIds.{WithinCuts, as-many-all}
 use Rattle.state_check.proofs.IdLists.{queue-slots, queue-within, own-slots, own-run, own-in-range, run}
 use Rattle.state_check.proofs.StateLists.{states-number, states-collected}
-use Rattle.state_check.proofs.Configurations.{Regular, absent, there, regular, regularOf, transitional, regular-fits, transitional-fits, member, of-it}
+use Rattle.state_check.proofs.Configurations.{Regular, absent, there, regular, transitional, regular-fits, transitional-fits, member, of-it}
 use Rattle.state_check.proofs.Modes.{mode-in, inside-all-in}
 use Rattle.state_check.proofs.Checked.{Checked}
 use Rattle.state_check.proofs.Said.{logSaid, votesSaid, membershipSaid, said}
@@ -202,7 +202,7 @@ module _ (c : Context) (h : State) (b : List ℕ) (k : Checked c h b) (bytes : B
   here-set (there s o e) = ap theSet e
 
   pub mode-is : ModeFits (modeNamed (h .mode)) (said c h b) × (modeNumber (modeNamed (h .mode)) ≡ h .mode)
-  unfolding modeOk exchangeOk plannedIn plannedNow collected primaryOf componentOf
+  unfolding modeOk exchangeOk plannedIn plannedNow collected primaryOf
   mode-is =
       mode-in (said c h b) _ _ _ (λ e. configured regular-in (eq-holds _ _ e))
       (λ e. let a = and-holds _ _ e in (inside-all-in (said c h b) (c .quota) (h .states) b (placeOf c theStates) refl (ap (λ (x : ℕ). inside x (h .states)) (here-set regular-in) ∙ a .0), lt-holds _ _ (a .1)))

@@ -1,6 +1,5 @@
 -- The test of a payload's filling gathers: the OR of all bytes of its room under the masks is zero exactly where each byte behind the
 -- payload is zero.
--- Assumes nothing.
 use Prim.Native.Nat.{ℕ, _+_, _*_, _-_, _≤_, _<_}
 use mathlib.Core.Path.{_≡_, refl, sym, _∙_}
 use mathlib.Core.Bool.{Bool, true, false}

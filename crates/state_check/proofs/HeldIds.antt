@@ -1,5 +1,4 @@
 -- Ids that differ and lie within the cuts are all the ids up to the cuts exactly if there are as many of them as the cuts have together.
--- Assumes nothing.
 use Prim.Native.Nat.{ℕ, zero, suc, _+_, _-_, _≤_, _<_}
 use mathlib.Core.Path.{_≡_, refl, ap, _∙_}
 use mathlib.Core.Bool.{true, false, not}
@@ -7,7 +6,6 @@ use mathlib.Core.List.{List, [], _∷_, map}
 use native.Mathlib.Decide.{ℕ-discrete}
 use native.Mathlib.Omega.{arith}
 use lib.ListN.{length, getD, length-append, length-map}
-use Rattle.base.specs.Tests.{_or_}
 use Rattle.base.proofs.TestLaws.{not-holds, and-holds, both-yes, Known, holds, fails, known}
 use Rattle.base.specs.Lists.{all, above, after, sum, Each}
 use Rattle.base.proofs.ListLaws.{each-all, each-map, each-implied, after-between, above-length}

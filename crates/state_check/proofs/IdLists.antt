@@ -1,6 +1,5 @@
 -- The ids of the queue and of the own list: the code's tests of them, and what they say of the cuts.
--- Assumes nothing.
-use Prim.Native.Nat.{ℕ, zero, suc, _+_, _*_, _-_, _≤_, _<_}
+use Prim.Native.Nat.{ℕ, zero, suc, _+_, _*_, _≤_, _<_}
 use mathlib.Core.Path.{_≡_, refl, ap, _∙_}
 use mathlib.Core.Bool.{true}
 use mathlib.Core.List.{List, _∷_, map}
@@ -17,7 +16,7 @@ use Rattle.format.specs.Range.{idOk, idsInRange}
 use Rattle.format.specs.Read.{idAt}
 use Rattle.format.proofs.Ranges.{id-range}
 use Rattle.record.specs.Values.{idsBy}
-use Rattle.engine.specs.Layout.{slotSize}
+use Rattle.image.specs.Layout.{slotSize}
 use Rattle.state_check.specs.Slots.{slotFits, withinCutAt, queueSlotFits, queueSlotsFit, ownSlotFits, ownFits}
 use Rattle.state_check.proofs.HeldIds.{WithinCuts}
 

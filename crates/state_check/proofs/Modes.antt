@@ -1,5 +1,4 @@
 -- The state's number: the code's test of it, and row 8's clauses on the eight states.
--- Assumes nothing.
 use Prim.Native.Nat.{ℕ, zero, suc, _+_, _<_, _^_}
 use mathlib.Core.Path.{_≡_, refl, sym, ap, _∙_}
 use mathlib.Core.Bool.{Bool, true, false}
@@ -18,9 +17,9 @@ use Rattle.format.specs.Types.{State}
 use Rattle.replication.specs.Machine.Types.{Mode, Non-prim, Reg-prim, Trans-prim, Exchange-states, Exchange-actions, Construct, No, Un, Server}
 use Rattle.replication.specs.Machine.Step.{hereSet, plannedNow}
 use Rattle.replication.specs.Machine.WellFormedFacts.{Configured, StatesIn, ModeFits}
-use Rattle.engine.specs.Image.{modeNumber, senders}
-use Rattle.engine.specs.Decode.{modeNamed, statesAt}
-use Rattle.engine.proofs.Slots.{in-senders, senders-below}
+use Rattle.image.specs.Header.{modeNumber, senders}
+use Rattle.image.specs.Decode.{modeNamed, statesAt}
+use Rattle.image.proofs.Slots.{in-senders, senders-below}
 use Rattle.state_check.specs.Checks.{modeTest}
 use Rattle.exchange.proofs.RoomLaws.{states-at}
 use Rattle.state_check.proofs.StateLists.{states-number}

@@ -1,5 +1,4 @@
 -- The number that is returned for the state's buffer, and for a pair of buffers.
--- Assumes nothing.
 use Prim.Native.Nat.{ℕ, _≤_, _<_}
 use mathlib.Core.Path.{_≡_, refl, sym, ap, subst, _∙_}
 use mathlib.Core.Bool.{Bool, true, false, not}
@@ -20,11 +19,11 @@ use Rattle.record.specs.declared.Context.{Context}
 use Rattle.record.specs.declared.State.{State}
 use Rattle.replication.specs.Machine.Types.{contextOf as contextOfState}
 use Rattle.replication.specs.Machine.WellFormed.{ranges, wellFormed}
-use Rattle.engine.specs.Layout.{sections, stateLength, outLength, leastStateLength, leastOutLength, headerSize, atServers, atQuota}
-use Rattle.engine.specs.Header.{headerIn}
-use Rattle.engine.specs.Decode.{serversIn, quotaIn, decodedAs, decoded, reads}
-use Rattle.engine.specs.Outcome.{stateShort, outShort, tooShort, stateNumber, imageNumber}
-use Rattle.engine.proofs.Refusals.{image-short, image-unread, image-whole, number-short, number-unread, number-read}
+use Rattle.image.specs.Layout.{sections, stateLength, outLength, leastStateLength, leastOutLength, headerSize, atServers, atQuota}
+use Rattle.image.specs.Header.{headerIn}
+use Rattle.image.specs.Decode.{serversIn, quotaIn, decodedAs, decoded, reads}
+use Rattle.image.specs.Outcome.{stateShort, outShort, tooShort, stateNumber, imageNumber}
+use Rattle.image.proofs.Refusals.{image-short, image-unread, image-whole, number-short, number-unread, number-read}
 use Rattle.state_check.specs.Checks.{contextIn, checksOf, checks}
 use Rattle.state_check.proofs.ReadsLaw.{reads-are-checks}
 

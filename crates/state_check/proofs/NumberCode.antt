@@ -1,5 +1,4 @@
 -- What the code on numbers answers.
--- Assumes nothing.
 use Prim.Native.Nat.{ℕ, _*_}
 use mathlib.Core.Path.{_≡_, ap, _∙_}
 use lib.Dec.{leb}

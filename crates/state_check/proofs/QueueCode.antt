@@ -1,5 +1,4 @@
 -- A turn of the pass over the queue: the first of the slots that are left, and the others. k of m slots were met, from `at` on, and the next is at `here`.
--- Assumes nothing.
 use Prim.Native.Nat.{ℕ, _+_, _*_, _-_, _≤_, _<_}
 use mathlib.Core.Path.{_≡_, refl, sym, ap, _∙_}
 use mathlib.Core.Bool.{Bool, true, false, not}
@@ -21,7 +20,7 @@ use Rattle.record.specs.Context.{contextOf}
 use Rattle.record.specs.Values.{idsBy, IdsInside, Met}
 use Rattle.record.proofs.OnePass.{pass}
 use Rattle.record.proofs.Turns.{Along, along-again, pass-start, pass-denied, pass-again, pass-end}
-use Rattle.engine.specs.Layout.{slotSize}
+use Rattle.image.specs.Layout.{slotSize}
 use Rattle.state_check.specs.Slots.{queueSlotFits, queueSlotsFit, NextFits, queueFits}
 
 -- What is left of the answer.

@@ -1,5 +1,4 @@
 -- The code's tests decide whether a buffer that is long enough holds the image of a well-formed state.
--- Assumes nothing.
 use Prim.Native.Nat.{ℕ, _≤_, _<_, _^_}
 use mathlib.Core.Path.{_≡_, refl, sym, ap, _∙_}
 use mathlib.Core.Bool.{Bool, true, false}
@@ -14,12 +13,12 @@ use Rattle.record.specs.Context.{contextOf, readingContext}
 use Rattle.replication.specs.Machine.Types.{Server}
 use Rattle.replication.specs.Machine.WellFormed.{wellFormed}
 use Rattle.replication.proofs.WellFormed.Facts.{well-formed-facts, facts-well-formed}
-use Rattle.engine.specs.Layout.{stateLength, atConfigurationId}
-use Rattle.engine.specs.Image.{image}
-use Rattle.engine.specs.Header.{headerIn}
-use Rattle.engine.specs.Decode.{serversIn, quotaIn, decoded, reads}
-use Rattle.engine.proofs.HeaderLaws.{header-kept, header-loaded}
-use Rattle.engine.specs.Holding.{Holds}
+use Rattle.image.specs.Layout.{stateLength, atConfigurationId}
+use Rattle.image.specs.Image.{image}
+use Rattle.image.specs.Header.{headerIn}
+use Rattle.image.specs.Decode.{serversIn, quotaIn, decoded, reads}
+use Rattle.image.proofs.HeaderLaws.{header-kept, header-loaded}
+use Rattle.image.specs.Holding.{Holds}
 use Rattle.state_check.specs.Checks.{contextIn, checks}
 use Rattle.state_check.proofs.Rooms.{header-room}
 use Rattle.state_check.proofs.Checked.{checked, check}

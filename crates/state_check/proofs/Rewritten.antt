@@ -1,6 +1,5 @@
 -- Where the code's tests hold, the state that the bytes say, written over them, leaves them as they are.
--- Assumes nothing.
-use Prim.Native.Nat.{ℕ, zero, suc, _+_, _*_, _-_, _≤_, _<_, _^_}
+use Prim.Native.Nat.{ℕ, zero, suc, _+_, _*_, _≤_, _<_, _^_}
 use mathlib.Core.Path.{_≡_, refl, sym, ap, _∙_}
 use mathlib.Core.List.{List, []}
 use native.Mathlib.Omega.{arith}
@@ -21,25 +20,25 @@ use Rattle.format.proofs.Lengths.{cuts-length, ids-length}
 use Rattle.format.proofs.Ranges.{PayloadRange, context-range}
 use Rattle.format.proofs.Writing.{cuts-written, ids-written, ids-number}
 use Rattle.record.specs.Context.{lastOf}
-use Rattle.record.specs.Values.{componentOf, primaryOf, markOf}
+use Rattle.record.specs.Values.{primaryOf, markOf, lastOf as lastNumbers}
 use Rattle.record.specs.declared.State.{State}
 use Rattle.replication.specs.Machine.WellFormed.{queue}
 use Rattle.replication.specs.Machine.WellFormedRanges.{ActionFits}
 use Rattle.replication.proofs.WellFormed.Facts.{facts-well-formed}
-use Rattle.engine.specs.Layout.{stateSize, theHeader, theCuts, theNoted, theStates, theYellow, theOwn, theQueue, sections, sectionSize, offset, stateLength, headerSize}
-use Rattle.engine.specs.Image.{headerBytes, notedBytes, actionSlots, statesOver, section, parts, image}
-use Rattle.engine.specs.Decode.{actionsAt}
-use Rattle.engine.specs.Header.{statusOf, idOf, setOf, transitionalOf, lastOf as lastNumbers, markNumbers, headerOf, headerWritten}
-use Rattle.engine.proofs.Used.{action-slots-length, noted-length, header-length}
-use Rattle.engine.proofs.Fit.{SectionsFit, well-formed-fits}
-use Rattle.engine.proofs.HeaderLaws.{header-written}
-use Rattle.engine.proofs.InPlace.{image-patched, same-but}
-use Rattle.engine.proofs.Slots.{actions-count}
+use Rattle.image.specs.Layout.{stateSize, theHeader, theCuts, theNoted, theStates, theYellow, theOwn, theQueue, sections, sectionSize, offset, stateLength, headerSize}
+use Rattle.image.specs.Image.{headerBytes, notedBytes, actionSlots, statesOver, section, parts, image}
+use Rattle.image.specs.Decode.{actionsAt, regularOf, transitionalIn}
+use Rattle.image.specs.Header.{statusOf, idOf, setOf, transitionalOf, markNumbers, headerOf, headerWritten}
+use Rattle.image.proofs.Used.{action-slots-length, noted-length, header-length}
+use Rattle.image.proofs.Fit.{SectionsFit, well-formed-fits}
+use Rattle.image.proofs.HeaderLaws.{header-written}
+use Rattle.image.proofs.InPlace.{image-patched, same-but}
+use Rattle.image.proofs.Slots.{actions-count}
 use Rattle.state_check.specs.Checks.{placeOf}
 use Rattle.state_check.proofs.Over.{occurs-over}
 use Rattle.state_check.proofs.Rooms.{cuts-room, noted-room, states-room, ids-room}
 use Rattle.state_check.proofs.StateLists.{states-same}
-use Rattle.state_check.proofs.Configurations.{Regular, absent, there, regular, regularOf, Transitional, transitional, transitionalIn}
+use Rattle.state_check.proofs.Configurations.{Regular, absent, there, regular, Transitional, transitional}
 use Rattle.state_check.proofs.Modes.{senders-are}
 use Rattle.state_check.proofs.Checked.{Checked}
 use Rattle.state_check.proofs.Said.{said}
@@ -75,7 +74,7 @@ module _ (c : Context) (h : State) (b : List ℕ) (k : Checked c h b) (bytes : B
     (small : h .«configuration_id» < 2 ^ 32) (last-is : c .last ≡ lastOf (h .«configuration_status») (h .«configuration_set»))
     (n-is : c .servers ≡ h .servers) (q-is : c .quota ≡ h .quota) (me-is : c .self ≡ h .me) where
   numbers-same : headerOf (said c h b) ≡ h
-  unfolding headerOf lastNumbers markNumbers primaryOf componentOf markOf setOk
+  unfolding headerOf lastNumbers markNumbers primaryOf markOf setOk
   numbers-same =
       let r = regular-numbers c h (regular c h (k .regular)) in
       let t = transitional-numbers c h (transitional c h (k .transitional)) in

@@ -1,12 +1,11 @@
 -- The used part of each section lies inside the buffer.
--- Assumes nothing.
 use Prim.Native.Nat.{ℕ, _+_, _*_, _≤_}
 use mathlib.Core.List.{List}
 use native.Mathlib.Omega.{arith}
 use lib.ListN.{length}
 use Rattle.base.specs.Lists.{sum}
 use Rattle.base.proofs.Sections.{begin-end}
-use Rattle.engine.specs.Layout.{headerSize, slotSize, stateSize, theCuts, theNoted, theStates, theYellow, theOwn, theQueue, sections, sectionSize, offset, stateLength}
+use Rattle.image.specs.Layout.{headerSize, slotSize, stateSize, theCuts, theNoted, theStates, theYellow, theOwn, theQueue, sections, sectionSize, offset, stateLength}
 use Rattle.format.specs.Places.{idSize}
 
 module _ (n q : ℕ) (b : List ℕ) (h : stateLength n q ≤ length b) where

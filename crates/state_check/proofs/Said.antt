@@ -1,22 +1,19 @@
 -- The state that the bytes say, over the numbers that they begin with.
--- Assumes nothing.
 use Prim.Native.Nat.{ℕ}
 use mathlib.Core.Path.{_≡_, refl}
 use mathlib.Core.List.{List}
 use lib.ListN.{take, drop}
 use Rattle.base.specs.Bytes.{numbersAt}
 use Rattle.format.specs.Types.{Context}
-use Rattle.format.specs.Read.{primaryAt, markAt, idsAt}
+use Rattle.format.specs.Read.{idsAt}
 use Rattle.record.specs.Context.{readingContext, contextOf}
-use Rattle.record.specs.Events.{lastIn, markIn}
-use Rattle.record.specs.Values.{componentOf, primaryOf, markOf}
+use Rattle.record.specs.Values.{primaryOf, markOf}
 use Rattle.record.specs.declared.State.{State}
 use Rattle.replication.specs.Machine.Types.{Log, Votes, Membership, Server}
-use Rattle.engine.specs.Layout.{theCuts, theNoted, theStates, theYellow, theOwn, theQueue}
-use Rattle.engine.specs.Header.{headerIn}
-use Rattle.engine.specs.Decode.{modeNamed, configurationAt, transitionalAt, actionsAt, statesAt, decodedAs, serversIn, quotaIn, decoded}
+use Rattle.image.specs.Layout.{theCuts, theNoted, theStates, theYellow, theOwn, theQueue}
+use Rattle.image.specs.Header.{headerIn}
+use Rattle.image.specs.Decode.{modeNamed, regularOf, transitionalIn, actionsAt, statesAt, decodedAs, serversIn, quotaIn, decoded}
 use Rattle.state_check.specs.Checks.{placeOf, contextIn}
-use Rattle.state_check.proofs.Configurations.{regularOf, transitionalIn}
 
 abbrev pub logSaid : Context → State → List ℕ → Log
 logSaid c h b = record {
@@ -58,5 +55,5 @@ said c h b = record {
 }
 
 pub decoded-said : (b : List ℕ) → decoded b ≡ said (contextIn b) (headerIn b) b
-unfolding decoded decodedAs serversIn quotaIn contextIn contextOf readingContext headerIn placeOf primaryOf componentOf lastIn primaryAt markOf markIn markAt regularOf configurationAt transitionalIn transitionalAt
+unfolding decoded decodedAs serversIn quotaIn contextIn contextOf readingContext placeOf
 decoded-said b = refl

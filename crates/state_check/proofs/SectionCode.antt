@@ -1,5 +1,4 @@
 -- What the code on the sections of the buffer answers.
--- Assumes nothing.
 use Prim.Native.Nat.{ℕ, zero, suc, _+_, _*_, _-_, _≤_, _<_}
 use mathlib.Core.Path.{_≡_, sym, ap, subst, _∙_}
 use mathlib.Core.Bool.{Bool, true, false, not}
@@ -17,7 +16,7 @@ use Rattle.format.specs.Range.{cutsOk, idsInRange, idsDiffer, idsOk}
 use Rattle.format.specs.Read.{idsAt}
 use Rattle.record.specs.Context.{contextOf}
 use Rattle.record.specs.declared.Context.{Context}
-use Rattle.engine.specs.Layout.{theNoted, theStates, theYellow, theOwn, theQueue, sections, stateSize, stateLength, offset, headerSize, slotSize}
+use Rattle.image.specs.Layout.{theNoted, theStates, theYellow, theOwn, theQueue, sections, stateSize, stateLength, offset, headerSize, slotSize}
 use Rattle.exchange.specs.declared.slots.Slots.{Slots}
 use Rattle.exchange.specs.Slots.{Space, slotsOf}
 use Rattle.format.specs.Places.{idSize}

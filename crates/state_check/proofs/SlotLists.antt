@@ -1,5 +1,4 @@
 -- Lists of actions in slots: the code's tests of them, and what they say of the lists that are read of them.
--- Assumes nothing.
 use Prim.Native.Nat.{ℕ, zero, suc, _+_, _*_, _≤_}
 use mathlib.Core.Path.{_≡_, refl, ap}
 use mathlib.Core.Bool.{true}
@@ -21,10 +20,10 @@ use Rattle.record.specs.Values.{idsBy}
 use Rattle.replication.specs.Machine.WellFormed.{idsIn}
 use Rattle.replication.specs.Machine.WellFormedRanges.{ActionFits}
 use Rattle.replication.proofs.WellFormed.Ranges.{id-facts, length-facts}
-use Rattle.engine.specs.Layout.{slotSize}
-use Rattle.engine.specs.Image.{actionSlots}
-use Rattle.engine.specs.Decode.{actionsAt}
-use Rattle.engine.proofs.Used.{action-slot-length}
+use Rattle.image.specs.Layout.{slotSize}
+use Rattle.image.specs.Image.{actionSlots}
+use Rattle.image.specs.Decode.{actionsAt}
+use Rattle.image.proofs.Used.{action-slot-length}
 use Rattle.state_check.specs.Slots.{slotFits}
 use Rattle.state_check.proofs.Filled.{payload-in-range, action-occurs, occurring-action}
 

@@ -1,5 +1,4 @@
 -- All slots of collected States: the code's test of them, and what it says of the list that is read of them.
--- Assumes nothing.
 use Prim.Native.Nat.{ℕ, zero, suc, _+_, _*_, _≤_}
 use mathlib.Core.Path.{_≡_, refl, sym, ap, ap₂, subst, _∙_}
 use mathlib.Core.Bool.{Bool, true, false, not}
@@ -9,7 +8,7 @@ use native.Mathlib.Nat.{add-zero, suc-mul}
 use native.Mathlib.Omega.{arith}
 use lib.ListN.{length, getD, take, drop}
 use lib.Seq.{take-at, drop-at}
-use Rattle.base.specs.Tests.{_and_, _or_, pick}
+use Rattle.base.specs.Tests.{_or_, pick}
 use Rattle.base.proofs.TestLaws.{pick-yes, pick-no, not-both, and-holds, both-yes, Known, holds, fails, known}
 use Rattle.base.specs.Bytes.{Bytes, partAt, over}
 use Rattle.base.proofs.BytesLaws.{part-length, part-append}
@@ -19,10 +18,10 @@ use Rattle.format.specs.Range.{contextOk, stateOk}
 use Rattle.format.specs.Read.{stateAt}
 use Rattle.format.specs.Write.{write}
 use Rattle.format.proofs.Ranges.{ContextRange}
-use Rattle.engine.specs.Layout.{stateSize}
-use Rattle.engine.specs.Image.{stateOver, statesOver}
-use Rattle.engine.specs.Decode.{statesAt}
-use Rattle.engine.proofs.Used.{state-over-length}
+use Rattle.image.specs.Layout.{stateSize}
+use Rattle.image.specs.Image.{stateOver, statesOver}
+use Rattle.image.specs.Decode.{statesAt}
+use Rattle.image.proofs.Used.{state-over-length}
 use Rattle.state_check.specs.Collected.{holdsState, collectedOk}
 use Rattle.state_check.proofs.Over.{occurs-over, over-occurs, first-same, second-same}
 use Rattle.state_check.proofs.StateSlots.{slot-in, slot-out, slot-short}

@@ -1,5 +1,4 @@
 -- The slots of collected States: the code reads the record in each, and that says what the slot holds.
--- Assumes nothing.
 use Prim.Native.Nat.{ℕ, _+_, _*_, _≤_}
 use mathlib.Core.Path.{_≡_, refl, sym, ap, ap₂, subst, _∙_}
 use mathlib.Core.Bool.{true}
@@ -21,7 +20,7 @@ use Rattle.format.proofs.Lengths.{write-length}
 use Rattle.format.proofs.Writing.{ids-number}
 use Rattle.format.proofs.Reading.{read-in-range}
 use Rattle.format.proofs.RoundTrip.{read-written, written-read}
-use Rattle.engine.specs.Layout.{stateSize}
+use Rattle.image.specs.Layout.{stateSize}
 use Rattle.state_check.specs.Numbers.{yellowCountOk}
 use Rattle.state_check.specs.Collected.{isState, saysState, idsInSlot, slotRecord, holdsState}
 use Rattle.format.specs.Places.{stateHeadSize, stateCountAt, stateYellowAt, idSize, stateCutsAt}

@@ -1,5 +1,4 @@
 -- What the code tests of a state's buffer: a conjunction of tests that take one pass each.
--- Assumes nothing.
 use Prim.Native.Nat.{ℕ, _+_, _*_, _≤_}
 use mathlib.Core.Bool.{Bool, true}
 use mathlib.Core.List.{List}
@@ -9,6 +8,7 @@ use Rattle.base.specs.Bytes.{Bytes, numberAt, numbersAt}
 use Rattle.base.specs.Lists.{sum}
 use Rattle.base.specs.Sets.{inside}
 use Rattle.format.specs.Limits.{mostIndex}
+use Rattle.format.specs.Places.{cutSize}
 use Rattle.format.specs.Types.{Context}
 use Rattle.format.specs.Range.{contextOk, cutsOk, idsOk}
 use Rattle.format.specs.Read.{idsAt}
@@ -16,9 +16,8 @@ use Rattle.replication.specs.Machine.Types.{Non-prim, Exchange-states, Exchange
 use Rattle.record.specs.Context.{readingContext, contextOf, ContextIn}
 use Rattle.record.specs.declared.Context.{Context as CodeContext}
 use Rattle.record.specs.declared.State.{State}
-use Rattle.engine.specs.Layout.{theCuts, theNoted, theStates, theYellow, theOwn, theQueue, offset, stateLength}
-use Rattle.engine.specs.Image.{modeNumber}
-use Rattle.engine.specs.Header.{headerIn}
+use Rattle.image.specs.Layout.{theCuts, theNoted, theStates, theYellow, theOwn, theQueue, offset, stateLength}
+use Rattle.image.specs.Header.{headerIn, modeNumber}
 use Rattle.state_check.specs.Slots.{queueFits, ownFits, notedFit}
 use Rattle.state_check.specs.Numbers.{numbersOk}
 use Rattle.state_check.specs.Collected.{collectedOk, plannedIn}
@@ -29,12 +28,12 @@ placeOf c k = offset (c .servers) (c .quota) k
 
 -- The server's own cut.
 unfoldable pub ownCut : Context → List ℕ → ℕ
-ownCut c b = numberAt 2 b (placeOf c theCuts + 2 * c .self)
+ownCut c b = numberAt cutSize b (placeOf c theCuts + cutSize * c .self)
 
 -- The cuts, with as many actions in the queue as they have together.
 unfoldable pub queueCuts : Context → (actions : ℕ) → List ℕ → Bool
 queueCuts c actions b =
-    cutsOk (c .quota) (numbersAt 2 (c .servers) b (placeOf c theCuts)) and sum (numbersAt 2 (c .servers) b (placeOf c theCuts)) =? actions
+    cutsOk (c .quota) (numbersAt cutSize (c .servers) b (placeOf c theCuts)) and sum (numbersAt cutSize (c .servers) b (placeOf c theCuts)) =? actions
 
 -- "own cut + 1 to the last numbered": so many are on the own list.
 unfoldable pub ownNext : Context → (own numbered : ℕ) → List ℕ → Bool

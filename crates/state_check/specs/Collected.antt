@@ -1,5 +1,4 @@
 -- What the code tests of the collected States in their slots, and what it computes of them.
--- Assumes nothing.
 use Prim.Native.Nat.{ℕ, zero, suc, _+_, _*_, _≤_}
 use mathlib.Core.Bool.{Bool, true, false, not}
 use mathlib.Core.List.{List}
@@ -14,9 +13,9 @@ use Rattle.format.specs.Read.{read}
 use Rattle.record.specs.Context.{ContextIn}
 use Rattle.record.specs.declared.Context.{Context as CodeContext}
 use Rattle.replication.specs.Machine.Plan.{planned}
-use Rattle.engine.specs.Layout.{stateSize}
-use Rattle.engine.specs.Decode.{statesAt}
-use Rattle.format.specs.Places.{idSize, stateHeadSize, stateCountAt}
+use Rattle.image.specs.Layout.{stateSize}
+use Rattle.image.specs.Decode.{statesAt}
+use Rattle.format.specs.Places.{cutSize, idSize, stateHeadSize, stateCountAt}
 use Rattle.state_check.specs.Numbers.{yellowCountOk}
 
 -- ---- a slot
@@ -38,11 +37,11 @@ saysState k i (refused m) = false
 
 -- How many yellow ids the record in the slot at `at` has.
 unfoldable pub idsInSlot : ℕ → List ℕ → ℕ → ℕ
-idsInSlot n b at = numberAt 2 b (at + (stateCountAt + 2 * n))
+idsInSlot n b at = numberAt 2 b (at + (stateCountAt + cutSize * n))
 
 -- The record in the slot at `at`.
 unfoldable pub slotRecord : ℕ → List ℕ → ℕ → List ℕ
-slotRecord n b at = partAt (stateHeadSize + 2 * n + idSize * idsInSlot n b at) b at
+slotRecord n b at = partAt (stateHeadSize + cutSize * n + idSize * idsInSlot n b at) b at
 
 -- The slot at `at` holds the record of a State of this sender in this configuration.
 unfoldable pub holdsState : Context → (sender configuration : ℕ) → List ℕ → ℕ → Bool

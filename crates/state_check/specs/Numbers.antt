@@ -1,5 +1,4 @@
 -- What the code tests of the numbers h of a state.
--- Assumes nothing.
 use Prim.Native.Nat.{ℕ, _*_, _≤_}
 use mathlib.Core.Bool.{Bool}
 use Rattle.base.specs.Tests.{_and_, _≤?_, _=?_, pick}

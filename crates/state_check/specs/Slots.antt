@@ -1,5 +1,4 @@
 -- What the code tests of the slots of a state's buffer b.
--- Assumes nothing.
 use Prim.Native.Nat.{ℕ, zero, suc, _+_, _*_, _-_, _≤_, _<_}
 use mathlib.Core.Path.{_≡_}
 use mathlib.Core.Bool.{Bool, true}
@@ -9,11 +8,14 @@ use Rattle.base.specs.Tests.{_and_, _≤?_, _=?_}
 use Rattle.base.specs.Bytes.{numberAt, zeroAt}
 use Rattle.base.specs.Lists.{everyAt}
 use Rattle.format.specs.Limits.{mostQuota, mostPayload}
-use Rattle.format.specs.Places.{actionGreenAt, actionPayloadAt}
+use Rattle.format.specs.Places.{cutSize, idIndexAt, actionGreenAt, actionPayloadAt}
 use Rattle.format.specs.Types.{Id, Context}
 use Rattle.format.specs.Range.{lengthOk, idsOk}
+use Rattle.format.specs.Read.{idAt}
+use Rattle.record.specs.declared.Context as declared
+use Rattle.record.specs.Context.{ContextIn}
 use Rattle.record.specs.Values.{idsBy, Met}
-use Rattle.engine.specs.Layout.{slotSize}
+use Rattle.image.specs.Layout.{notedSize, slotSize}
 
 -- How much of an action's slot its payload has, with its length.
 abbrev pub payloadRoom : ℕ
@@ -35,11 +37,11 @@ slotFits c b at = lengthOk c (numberAt 4 b (at + actionGreenAt)) and payloadFits
 
 -- An action of the queue, its index at most its creator's cut; the cuts begin at `cuts`.
 unfoldable pub withinCutAt : List ℕ → (cuts at : ℕ) → Bool
-withinCutAt b cuts at = numberAt 2 b (at + 1) ≤? numberAt 2 b (cuts + 2 * numberAt 1 b at)
+withinCutAt b cuts at = numberAt 2 b (at + idIndexAt) ≤? numberAt cutSize b (cuts + cutSize * numberAt 1 b at)
 
 -- The cut of the creator of the action at `at` lies in the bytes b.
 abbrev pub CutInside : (cuts at : ℕ) → List ℕ → Type 0
-CutInside cuts at b = cuts + (2 * numberAt 1 b at + 2) ≤ length b
+CutInside cuts at b = cuts + (cutSize * numberAt 1 b at + cutSize) ≤ length b
 
 unfoldable pub queueSlotFits : Context → List ℕ → (cuts at : ℕ) → Bool
 queueSlotFits c b cuts at = withinCutAt b cuts at and slotFits c b at
@@ -57,13 +59,24 @@ pub record NextFits (c : Context) (xs : List Id) (d : Id) (fits r : Bool) (t u :
   pub met : Met c xs d new t u
   pub answer : r ≡ (new and fits)
 
+-- The same of the slot at `here`, behind k others from `at` on.
+abbrev pub NextSlotFits : Context → (cuts k : ℕ) → List ℕ → (at here : ℕ) → Bool → (t u : List ℕ) → Type 0
+NextSlotFits c cuts k b at here r t u = NextFits c (idsBy slotSize k b at) (idAt b here) (queueSlotFits c b cuts here) r t u
+
+-- The m slots from `at` on and the servers' cuts lie in the bytes b; t are the masks of payloads.
+pub record QueueRoom (c : declared.Context) (cuts at m : ℕ) (b t : List ℕ) : Type 0 where
+  pub context : ContextIn c
+  pub masks : Masks t
+  pub cuts-end : cuts + cutSize * c .servers ≤ length b
+  pub slots-end : at + slotSize * m ≤ length b
+
 -- The own cut is any number of two bytes: so high an index may be asked of the own list.
 abbrev pub ownReach : ℕ
 ownReach = 65535 + mostQuota
 
 -- m own actions, of the indexes from k + 1 on.
 unfoldable pub ownSlotFits : Context → ℕ → List ℕ → ℕ → Bool
-ownSlotFits c k b at = numberAt 1 b at =? c .self and numberAt 2 b (at + 1) =? k + 1 and slotFits c b at
+ownSlotFits c k b at = numberAt 1 b at =? c .self and numberAt 2 b (at + idIndexAt) =? k + 1 and slotFits c b at
 
 unfoldable pub ownFits : Context → (k m : ℕ) → List ℕ → ℕ → Bool
 ownFits c k zero b at = true
@@ -71,7 +84,7 @@ ownFits c k (suc m) b at = ownSlotFits c k b at and ownFits c (k + 1) m b (at + 
 
 -- n noted lengths.
 unfoldable pub notedAt : Context → List ℕ → ℕ → Bool
-notedAt c b at = lengthOk c (numberAt 4 b at)
+notedAt c b at = lengthOk c (numberAt notedSize b at)
 
 unfoldable pub notedFit : Context → List ℕ → ℕ → Bool
-notedFit c b at = everyAt (notedAt c b) 4 (c .servers) at
+notedFit c b at = everyAt (notedAt c b) notedSize (c .servers) at

@@ -6,20 +6,20 @@ ghost use Prim.Native.Nat.{ℕ, _+_, _≤_};
 ghost use lib.ListN.{length};
 ghost use Rattle.base.specs.Tests.{_or_};
 ghost use Rattle.base.specs.Sets.{inSet};
-ghost use Rattle.engine.specs.Layout.{stateSize};
+ghost use Rattle.image.specs.Layout.{stateSize};
 ghost use Rattle.record.specs.Context.{contextOf, ContextIn};
 ghost use Rattle.record.specs.Events.{recordOf};
-ghost use Rattle.record.specs.Reading.{meaning};
+ghost use Rattle.reader.specs.Reading.{meaning};
 ghost use Rattle.state_check.specs.Collected.{isState, saysState, holdsState, collectedOk, StatesInside};
 use crate::numbers::yellow_count_ok;
-use engine::places::state_size;
+use image::places::state_size;
 use octets::numbers::num16;
+use reader::Reading;
+use reader::read;
 use record::Context;
 use record::State;
 use record::StateHead;
 use record::events::Event;
-use record::reader::Reading;
-use record::reader::read;
 use record::sets::has;
 
 // Whether an event is a State of this sender in this configuration.
@@ -71,11 +71,11 @@ fn holds_state(c: Context, sender: u8, configuration: u32, b: &[u8], at: usize) 
     ensures { λ r. ⌜ r ≡ holdsState (contextOf c) sender configuration (now (b .entry)) at ⌝ }
 {
     let n = c.servers as usize;
-    let count = num16(b, at + (StateHead::COUNT + 2 * n));
+    let count = num16(b, at + (StateHead::COUNT + State::CUT * n));
     if !yellow_count_ok(c, count as u32) {
         return false;
     }
-    let end = at + (StateHead::SIZE + 2 * n + State::ID * count as usize);
+    let end = at + (StateHead::SIZE + State::CUT * n + State::ID * count as usize);
     let reading = read(c, &b[at..end]);
     says_state(reading, sender, configuration)
 }

@@ -3,8 +3,8 @@ ghost use mathlib.Core.Path.{_≡_};
 ghost use Prim.Native.Nat.{_≤_};
 ghost use lib.ListN.{length};
 ghost use Rattle.base.specs.Bytes.{Bytes};
-ghost use Rattle.engine.specs.Layout.{headerSize, stateLength};
-ghost use Rattle.engine.specs.Outcome.{outShort, stateNumber, imageNumber};
+ghost use Rattle.image.specs.Layout.{headerSize, stateLength};
+ghost use Rattle.image.specs.Outcome.{outShort, stateNumber, imageNumber};
 ghost use Rattle.record.specs.Context.{contextOf};
 ghost use Rattle.state_check.specs.Checks.{exchangeOk, modeOk, checksOf, Buffer};
 
@@ -13,11 +13,13 @@ pub mod collected; // collected.rt: the collected States
 pub mod sections; // sections.rt: the sections of the buffer
 pub mod slots; // slots.rt: entries of one size
 
-use engine::header::load;
-use engine::sizes::out_length;
-use engine::sizes::state_length;
+use base::refusals::BAD_STATE;
+use base::refusals::SHORT_BUFFER;
 use exchange::plan::planned;
 use exchange::slots::collected as slots_of;
+use image::header::load;
+use image::sizes::out_length;
+use image::sizes::state_length;
 use numbers::numbers_ok;
 use octets::numbers::num8;
 use octets::numbers::num16;
@@ -89,7 +91,7 @@ pub fn image_number(state: &[u8]) -> u32
     ensures { λ r. ⌜ r ≡ imageNumber (now (state .entry)) ⌝ }
 {
     if state.len() < State::SIZE {
-        return 7;
+        return SHORT_BUFFER;
     }
     let h = load(state);
     let n = h.servers as u32;
@@ -97,15 +99,15 @@ pub fn image_number(state: &[u8]) -> u32
     if !sizes_ok(n, q) {
         let least = state_length(State::FEWEST_SERVERS as u32, State::LEAST_QUOTA as u32);
         if state.len() < least as usize {
-            return 7;
+            return SHORT_BUFFER;
         }
-        return 8;
+        return BAD_STATE;
     }
     if state.len() < state_length(n, q) as usize {
-        return 7;
+        return SHORT_BUFFER;
     }
     if !checks_ok(h.context(), h, state) {
-        return 8;
+        return BAD_STATE;
     }
     0
 }
@@ -129,19 +131,11 @@ pub fn state_number(state: &[u8], out: &[u8]) -> u32
     ensures { λ r. ⌜ r ≡ stateNumber (now (state .entry)) (now (out .entry)) ⌝ }
 {
     let number = image_number(state);
-    if number == 7 {
-        return 7;
+    if number == SHORT_BUFFER {
+        return SHORT_BUFFER;
     }
     if out_short(state, out) {
-        return 7;
+        return SHORT_BUFFER;
     }
     number
-}
-
-// The same for C.
-#[no_mangle]
-pub extern "C" fn guzbytor_state_check(state: &[u8], out: &[u8]) -> u32
-    ensures { λ r. ⌜ r ≡ stateNumber (now (state .entry)) (now (out .entry)) ⌝ }
-{
-    state_number(state, out)
 }

@@ -7,7 +7,8 @@ ghost use Rattle.base.specs.Lists.{sum};
 ghost use Rattle.format.specs.Limits.{mostServers};
 ghost use Rattle.format.specs.Range.{idsOk};
 ghost use Rattle.format.specs.Read.{idsAt};
-ghost use Rattle.engine.specs.Layout.{theNoted, theStates, theYellow};
+ghost use Rattle.image.specs.Layout.{theNoted, theStates, theYellow};
+ghost use Rattle.format.specs.Places.{cutSize};
 ghost use Rattle.record.specs.Context.{contextOf};
 ghost use Rattle.state_check.specs.Slots.{notedFit};
 ghost use Rattle.state_check.specs.Numbers.{CountsIn};
@@ -19,29 +20,29 @@ use super::slots::masks;
 use super::slots::noted_fit;
 use super::slots::own_fits;
 use super::slots::queue_fits;
-use engine::places::CUTS;
-use engine::places::noted_at;
-use engine::places::own_at;
-use engine::places::queue_at;
-use engine::places::states_at;
-use engine::places::yellow_at;
+use image::places::CUTS;
+use image::places::noted_at;
+use image::places::own_at;
+use image::places::queue_at;
+use image::places::states_at;
+use image::places::yellow_at;
 use octets::numbers::num16;
 use record::Context;
 use record::State;
 use record::lists::cuts_ok;
 use record::lists::ids_ok;
 
-// The sum of the n numbers of two bytes from `at` on.
+// The sum of the n cuts from `at` on.
 fn sum_of(b: &[u8], at: usize, n: usize) -> u32
-    requires { ⌜ (n ≤ mostServers) × (at + 2 * n ≤ length (now b)) ⌝ }
-    ensures { λ r. ⌜ r ≡ sum (numbersAt 2 n (now (b .entry)) at) ⌝ }
+    requires { ⌜ (n ≤ mostServers) × (at + cutSize * n ≤ length (now b)) ⌝ }
+    ensures { λ r. ⌜ r ≡ sum (numbersAt cutSize n (now (b .entry)) at) ⌝ }
 {
     let mut total: u32 = 0;
     let mut here = at;
     let mut left = n;
     while 0 < left {
         total += num16(b, here) as u32;
-        here += 2;
+        here += State::CUT;
         left -= 1;
     }
     total
@@ -52,7 +53,7 @@ fn own_cut(c: Context, b: &[u8]) -> u16
     requires { ⌜ Buffer c (now b) ⌝ }
     ensures { λ r. ⌜ r ≡ ownCut (contextOf c) (now (b .entry)) ⌝ }
 {
-    num16(b, CUTS as usize + 2 * c.me as usize)
+    num16(b, CUTS as usize + State::CUT * c.me as usize)
 }
 
 // The cuts, with as many actions in the queue as they have together.

@@ -6,11 +6,11 @@ ghost use Rattle.base.specs.Lists.{everyAt};
 ghost use Rattle.base.specs.Bytes.{zeroAt};
 ghost use Rattle.format.specs.Limits.{mostPayload};
 ghost use Rattle.record.specs.Context.{contextOf, ContextIn};
-ghost use Rattle.format.specs.Read.{idAt};
-ghost use Rattle.record.specs.Values.{idsBy, IdsInside, HasPlaces, Marked};
+ghost use Rattle.record.specs.Values.{HasPlaces, NextId};
 ghost use Rattle.state_check.specs.Slots.{Masks, payloadRoom, payloadFits, slotFits, notedAt, notedFit};
-ghost use Rattle.state_check.specs.Slots.{CutInside, queueSlotFits, NextFits, queueFits, ownReach, ownSlotFits, ownFits};
-ghost use Rattle.engine.specs.Layout.{slotSize};
+ghost use Rattle.state_check.specs.Slots.{CutInside, queueSlotFits, NextSlotFits, QueueRoom, queueFits, ownReach, ownSlotFits, ownFits};
+ghost use Rattle.format.specs.Places.{cutSize};
+ghost use Rattle.image.specs.Layout.{notedSize, slotSize};
 use octets::numbers::num8;
 use octets::numbers::num16;
 use octets::numbers::num32;
@@ -83,7 +83,7 @@ fn queue_slot_fits(c: Context, b: &[u8], cuts: usize, at: usize, t: &[u8; MASKS]
     ensures { λ r. ⌜ r ≡ queueSlotFits (contextOf c) (now (b .entry)) cuts at ⌝ }
 {
     let creator = num8(b, at) as usize;
-    if num16(b, cuts + 2 * creator) < num16(b, at + 1) {
+    if num16(b, cuts + State::CUT * creator) < num16(b, at + ActionHead::INDEX) {
         return false;
     }
     slot_fits(c, b, at, t)
@@ -100,8 +100,8 @@ fn next_fits(
     t: &[u8; MASKS],
     met: &mut [u8],
 ) -> bool
-    requires { ⌜ ContextIn c × Masks (now t) × (cuts + 2 * c .servers ≤ length (now b)) × IdsInside slotSize k (now b) at × (here + slotSize ≤ length (now b)) × HasPlaces (c .servers) (now met) × Marked (now met) (idsBy slotSize k (now b) at) ⌝ }
-    ensures { λ r. ⌜ NextFits (contextOf c) (idsBy slotSize k (now (b .entry)) at) (idAt (now (b .entry)) here) (queueSlotFits (contextOf c) (now (b .entry)) cuts here) r (now (met .entry)) (now (met .exit)) ⌝ }
+    requires { ⌜ QueueRoom c cuts here 1 (now b) (now t) × NextId slotSize k (now b) at here (c .servers) (now met) ⌝ }
+    ensures { λ r. ⌜ NextSlotFits (contextOf c) cuts k (now (b .entry)) at here r (now (met .entry)) (now (met .exit)) ⌝ }
 {
     if !is_new(c, b, at, State::SLOT, k, here, met) {
         return false;
@@ -120,7 +120,7 @@ fn queue_fits_by(
     t: &[u8; MASKS],
     met: &mut [u8],
 ) -> bool
-    requires { ⌜ ContextIn c × Masks (now t) × (cuts + 2 * c .servers ≤ length (now b)) × (at + slotSize * count ≤ length (now b)) × HasPlaces (c .servers) (now met) ⌝ }
+    requires { ⌜ QueueRoom c cuts at count (now b) (now t) × HasPlaces (c .servers) (now met) ⌝ }
     ensures { λ r. ⌜ r ≡ queueFits (contextOf c) cuts count (now (b .entry)) at ⌝ }
 {
     let mut here = at;
@@ -144,7 +144,7 @@ pub fn queue_fits(
     count: usize,
     t: &[u8; MASKS],
 ) -> bool
-    requires { ⌜ ContextIn c × Masks (now t) × (cuts + 2 * c .servers ≤ length (now b)) × (at + slotSize * count ≤ length (now b)) ⌝ }
+    requires { ⌜ QueueRoom c cuts at count (now b) (now t) ⌝ }
     ensures { λ r. ⌜ r ≡ queueFits (contextOf c) cuts count (now (b .entry)) at ⌝ }
 {
     if c.servers <= 2 {
@@ -171,7 +171,7 @@ fn own_slot_fits(c: Context, b: &[u8], k: usize, at: usize, t: &[u8; MASKS]) -> 
     if num8(b, at) != c.me {
         return false;
     }
-    if num16(b, at + 1) as usize != k + 1 {
+    if num16(b, at + ActionHead::INDEX) as usize != k + 1 {
         return false;
     }
     slot_fits(c, b, at, t)
@@ -197,7 +197,7 @@ pub fn own_fits(c: Context, b: &[u8], k: usize, at: usize, count: usize, t: &[u8
 }
 
 fn noted_at(c: Context, b: &[u8], at: usize) -> bool
-    requires { ⌜ ContextIn c × (at + 4 ≤ length (now b)) ⌝ }
+    requires { ⌜ ContextIn c × (at + notedSize ≤ length (now b)) ⌝ }
     ensures { λ r. ⌜ r ≡ notedAt (contextOf c) (now (b .entry)) at ⌝ }
 {
     length_ok(c, num32(b, at))
@@ -205,7 +205,7 @@ fn noted_at(c: Context, b: &[u8], at: usize) -> bool
 
 // The noted lengths.
 pub fn noted_fit(c: Context, b: &[u8], at: usize) -> bool
-    requires { ⌜ ContextIn c × (at + 4 * c .servers ≤ length (now b)) ⌝ }
+    requires { ⌜ ContextIn c × (at + notedSize * c .servers ≤ length (now b)) ⌝ }
     ensures { λ r. ⌜ r ≡ notedFit (contextOf c) (now (b .entry)) at ⌝ }
 {
     let mut here = at;
@@ -214,7 +214,7 @@ pub fn noted_fit(c: Context, b: &[u8], at: usize) -> bool
         if !noted_at(c, b, here) {
             return false;
         }
-        here += 4;
+        here += State::NOTED;
         left -= 1;
     }
     true

@@ -1,6 +1,5 @@
 -- Actions: rows 5 and 6, and the colour that the state gives, as the code tells them.
--- Assumes nothing.
-use Prim.Native.Nat.{ℕ, _<_}
+use Prim.Native.Nat.{ℕ}
 use mathlib.Core.Path.{_≡_, refl, sym, ap, subst, _∙_}
 use mathlib.Core.Bool.{Bool, true, false, not}
 use mathlib.Core.List.{List}
@@ -8,32 +7,32 @@ use mathlib.Core.Option.{some, Option·some-injective, Option·none-ne-some}
 use lib.ListN.{length}
 use borrow.Author.Tests.{not-true, not-false}
 use Rattle.base.specs.Tests.{_or_, _=?_, pick}
-use Rattle.base.proofs.TestLaws.{and-holds}
 use Rattle.base.specs.Lists.{isThere}
 use Rattle.base.proofs.ListLaws.{there}
+use Rattle.base.specs.Refusals.{notNow, notFromHere}
 use Rattle.format.specs.Types.{Action, Record, action}
-use Rattle.format.specs.Range.{fieldsOk, actionOk, idOk}
 use Rattle.record.specs.declared.State.{State as Numbers}
 use Rattle.record.specs.declared.ActionHead.{ActionHead}
 use Rattle.record.specs.Values.{idOf, actionOf}
-use Rattle.replication.specs.Machine.Types.{Mode, Non-prim, Reg-prim, Trans-prim, Exchange-states, Exchange-actions, Construct, No, Un, Server, Outcome, contextOf, withLog, inMode}
+use Rattle.replication.specs.Machine.Types.{Mode, Non-prim, Reg-prim, Trans-prim, Exchange-states, Exchange-actions, Construct, No, Un, Server, Outcome, withLog, inMode}
 use Rattle.replication.specs.Machine.Rules.{Rule, reddening, greening, yellowing, lateInstalling, onAction, ruleFor, possible, fromMember, isIgnored, withinQuota}
 use Rattle.replication.specs.Machine.Step.{apply, answer, greenAndNote}
 use Rattle.replication.specs.Machine.Colours.{red, yellow}
 use Rattle.replication.specs.Machine.Install.{install}
 use Rattle.replication.specs.Laws.RuleFits.{Delivered, RuleFits}
-use Rattle.engine.specs.Image.{modeNumber, image}
-use Rattle.engine.specs.Holding.{Holds, HoldsSuch}
-use Rattle.engine.proofs.InPlace.{such-fact}
-use Rattle.engine.specs.Decode.{modeNamed}
+use Rattle.image.specs.Image.{image}
+use Rattle.image.specs.Header.{modeNumber}
+use Rattle.image.specs.Holding.{Holds, HoldsSuch}
+use Rattle.image.proofs.InPlace.{such-fact}
+use Rattle.image.specs.Decode.{modeNamed}
 use Rattle.queue.specs.Queue.{RoomIfNext}
 use Rattle.queue.proofs.RedLaws.{room-if-next}
 use Rattle.step.specs.declared.Answer.{Answer}
 use Rattle.step.specs.Answers.{answered, outcomeOn, InForce, refusedWith, quietly, storedFirst}
 use Rattle.step.specs.Events.{Takes}
 use Rattle.step.proofs.AnswerLaws.{Passes, untaken, impossible, outside, passed, passed-fits, not-there, refused-as, quiet-as, stored-as}
-use Rattle.step.proofs.ForceLaws.{numbers-mode, below-eight, OwnNumbered, own-numbered, Member}
-use Rattle.rows.proofs.ModeLaws.{in-mode}
+use Rattle.step.proofs.ForceLaws.{numbers-mode, OwnNumbered, own-numbered, Member}
+use Rattle.guards.proofs.ModeLaws.{in-mode}
 
 -- ---- an action that they let pass
 
@@ -162,14 +161,10 @@ module _ (h : Numbers) (x : ActionHead) (p b : List ℕ) (f : HoldsSuch (InForce
   abbrev a : Action
   a = actionOf x p
 
-  pub creator-below : x .creator < 8
-  unfolding fieldsOk actionOk idOk actionOf idOf contextOf
-  creator-below = below-eight (f .state) b (x .creator) (f .holds) (and-holds _ _ (and-holds _ _ (f .fact .range) .0) .0)
-
   force : (s : Server) → Holds s b → InForce h (action a) s
   force s i = such-fact (InForce h (action a)) b s f i
 
-  pub action-unnumbered : (u : Bool) (r : Answer) → OwnNumbered h x u → not u ≡ true → r ≡ refusedWith 5
+  pub action-unnumbered : (u : Bool) (r : Answer) → OwnNumbered h x u → not u ≡ true → r ≡ refusedWith notNow
       → (s : Server) (o : List ℕ) → Holds s b → answered r b o ≡ outcomeOn (answer s (action (actionOf x p))) b o
   unfolding possible
   action-unnumbered u r d n q s o i =
@@ -179,7 +174,7 @@ module _ (h : Numbers) (x : ActionHead) (p b : List ℕ) (f : HoldsSuch (InForce
     table : (s : Server) → Holds s b → t ≡ isThere (onAction (s .membership .mode) a)
     table s i = g (s .membership .mode) a (numbers-mode h s (force s i .numbers))
 
-    pub action-untaken : (r : Answer) → not t ≡ true → r ≡ refusedWith 5
+    pub action-untaken : (r : Answer) → not t ≡ true → r ≡ refusedWith notNow
         → (s : Server) (o : List ℕ) → Holds s b → answered r b o ≡ outcomeOn (answer s (action (actionOf x p))) b o
     unfolding ruleFor
     action-untaken r n q s o i =
@@ -198,7 +193,7 @@ module _ (h : Numbers) (x : ActionHead) (p b : List ℕ) (f : HoldsSuch (InForce
       unfolding fromMember actionOf idOf
       member s i = sym (e s (force s i .numbers))
 
-      pub action-outside : (r : Answer) → not w ≡ true → r ≡ refusedWith 6
+      pub action-outside : (r : Answer) → not w ≡ true → r ≡ refusedWith notFromHere
           → (s : Server) (o : List ℕ) → Holds s b → answered r b o ≡ outcomeOn (answer s (action (actionOf x p))) b o
       unfolding ruleFor _or_
       action-outside r n q s o i =

@@ -1,13 +1,13 @@
 -- The machine's answer by its tests, and the code's answer for each way it ends.
--- Assumes nothing.
 use Prim.Native.Nat.{ℕ}
 use mathlib.Core.Path.{_≡_, refl, sym, ap, _∙_}
 use mathlib.Core.Bool.{true, false}
 use mathlib.Core.List.{List, []}
 use mathlib.Core.Option.{Option, none, some}
-use Rattle.base.specs.Tests.{_and_, _or_}
+use Rattle.base.specs.Tests.{_or_}
 use Rattle.base.proofs.TestLaws.{pick-yes, pick-no, and-holds, both-yes, not-both}
 use Rattle.base.specs.Bytes.{joined, over}
+use Rattle.base.specs.Refusals.{quotaUsed, notNow, notFromHere}
 use Rattle.base.specs.Lists.{isThere}
 use Rattle.format.specs.Types.{Record}
 use Rattle.format.specs.Range.{contextOk, fieldsOk, recordOk}
@@ -18,8 +18,8 @@ use Rattle.replication.specs.Machine.Step.{quiet, stored, apply, applyRule, ans
 use Rattle.replication.specs.Machine.WellFormed.{ranges, wellFormed}
 use Rattle.replication.specs.Laws.RuleFits.{RuleFits}
 use Rattle.replication.proofs.WellFormed.RuleFacts.{rule-fits}
-use Rattle.engine.specs.Image.{image}
-use Rattle.engine.specs.Outcome.{refusal, resultOf}
+use Rattle.image.specs.Image.{image}
+use Rattle.image.specs.Outcome.{refusal, resultOf}
 use Rattle.step.specs.declared.Answer.{Answer}
 use Rattle.step.specs.Answers.{answered, outcomeOn, refusedWith, quietly, storedFirst}
 use Rattle.step.proofs.OutcomeLaws.{quiet-outcome, stored-outcome}
@@ -38,35 +38,35 @@ module _ (s : Server) (r : Record) where
   unfolding answer
   by-rule x e = ap (λ (y : Option Rule). applyRule y s r) e
 
-  pub untaken : ruleFor (s .membership .mode) r ≡ none → answer s r ≡ refused 5
+  pub untaken : ruleFor (s .membership .mode) r ≡ none → answer s r ≡ refused notNow
   unfolding applyRule
   untaken e = by-rule none e
 
-  pub impossible : possible s r ≡ false → answer s r ≡ refused 5
+  pub impossible : possible s r ≡ false → answer s r ≡ refused notNow
   unfolding applyRule
   impossible p = go (ruleFor (s .membership .mode) r) refl
     where
-      go : (x : Option Rule) → ruleFor (s .membership .mode) r ≡ x → answer s r ≡ refused 5
+      go : (x : Option Rule) → ruleFor (s .membership .mode) r ≡ x → answer s r ≡ refused notNow
       go none e = untaken e
-      go (some k) e = by-rule (some k) e ∙ sym (pick-no (possible s r) (refused 5) _ _ p refl)
+      go (some k) e = by-rule (some k) e ∙ sym (pick-no (possible s r) (refused notNow) _ _ p refl)
 
   module _ (k : Rule) (e : ruleFor (s .membership .mode) r ≡ some k) (p : possible s r ≡ true) where
-    pub outside : (isIgnored k or fromMember (s .membership) r) ≡ false → answer s r ≡ refused 6
+    pub outside : (isIgnored k or fromMember (s .membership) r) ≡ false → answer s r ≡ refused notFromHere
     unfolding applyRule
     outside m =
         by-rule (some k) e ∙ sym
-        (pick-yes (possible s r) (refused 6) _ _ p (pick-no (isIgnored k or fromMember (s .membership) r) (refused 6) _ _ m refl))
+        (pick-yes (possible s r) (refused notFromHere) _ _ p (pick-no (isIgnored k or fromMember (s .membership) r) (refused notFromHere) _ _ m refl))
 
     module _ (m : (isIgnored k or fromMember (s .membership) r) ≡ true) where
       within : (x : Outcome Record) → _≡_ {A = Outcome Record} x (applyRule (some k) s r) → answer s r ≡ x
       within x f = by-rule (some k) e ∙ sym f
 
-      pub above-quota : withinQuota s r ≡ false → answer s r ≡ refused 3
+      pub above-quota : withinQuota s r ≡ false → answer s r ≡ refused quotaUsed
       unfolding applyRule
       above-quota q =
-          within (refused 3)
-          (pick-yes (possible s r) (refused 3) _ _ p
-          (pick-yes (isIgnored k or fromMember (s .membership) r) (refused 3) _ _ m (pick-no (withinQuota s r) (refused 3) _ _ q refl)))
+          within (refused quotaUsed)
+          (pick-yes (possible s r) (refused quotaUsed) _ _ p
+          (pick-yes (isIgnored k or fromMember (s .membership) r) (refused quotaUsed) _ _ m (pick-no (withinQuota s r) (refused quotaUsed) _ _ q refl)))
 
   pub passed : (k : Rule) → Passes s r k → answer s r ≡ apply k s
   unfolding applyRule

@@ -1,5 +1,4 @@
 -- Actions coloured in place: green with the creator's length noted, and yellow.
--- Assumes nothing.
 use Prim.Native.Nat.{ℕ, _+_, _*_, _≤_}
 use mathlib.Core.Path.{_≡_, refl, sym, ap, subst, _∙_}
 use mathlib.Core.Bool.{true, false}
@@ -26,18 +25,18 @@ use Rattle.replication.proofs.WellFormed.Kept.{mode-kept}
 use Rattle.replication.specs.Laws.RuleFits.{Delivered}
 use Rattle.record.specs.declared.ActionHead.{ActionHead}
 use Rattle.record.specs.Values.{idOf, actionOf}
-use Rattle.engine.specs.Image.{image}
-use Rattle.engine.specs.Holding.{Holds, HoldsSuch}
-use Rattle.engine.proofs.InPlace.{such-fact}
+use Rattle.image.specs.Image.{image}
+use Rattle.image.specs.Holding.{Holds, HoldsSuch}
+use Rattle.image.proofs.InPlace.{such-fact}
 use Rattle.queue.specs.Queue.{RoomFor}
 use Rattle.queue.proofs.Holding.{log-formed, log-fits}
 use Rattle.queue.proofs.Entered.{entered-formed, room-for}
 use Rattle.queue.proofs.RedLaws.{cut-read, room-if-next}
 use Rattle.updates.specs.Lists.{NumberIn}
-use Rattle.engine.proofs.Chained.{Covers, chained, then-holds}
-use Rattle.engine.specs.Layout.{headerSize}
-use Rattle.engine.specs.Counts.{CountsIn}
-use Rattle.engine.proofs.Counts.{numbers, holds-counts}
+use Rattle.image.proofs.Chained.{Covers, chained, then-holds}
+use Rattle.image.specs.Layout.{headerSize}
+use Rattle.image.specs.Counts.{CountsIn}
+use Rattle.image.proofs.Counts.{numbers, holds-counts}
 
 -- ---- well-formed states on the way
 

@@ -1,5 +1,4 @@
 -- Configurations: whether one can come, and where it leads.
--- Assumes nothing.
 use Prim.Native.Nat.{ℕ}
 use mathlib.Core.Path.{_≡_, refl, sym, ap, _∙_}
 use mathlib.Core.Bool.{Bool, true, false, not}
@@ -7,6 +6,7 @@ use mathlib.Core.List.{List}
 use mathlib.Core.Option.{some}
 use borrow.Author.Tests.{not-true, not-false}
 use Rattle.base.specs.Tests.{_or_, _=?_, pick}
+use Rattle.base.specs.Refusals.{notNow}
 use Rattle.format.specs.Types.{Record, regular, transitional}
 use Rattle.record.specs.declared.State.{State as Numbers}
 use Rattle.replication.specs.Machine.Types.{Mode, Configuration, Server, Outcome, withVotes}
@@ -14,16 +14,16 @@ use Rattle.replication.specs.Machine.Rules.{Rule, joining, joiningUnmarked, joi
 use Rattle.replication.specs.Machine.Step.{join, unmarked, yellowValid, leave, apply, answer}
 use Rattle.replication.specs.Machine.WellFormedRanges.{ConfigurationFits}
 use Rattle.replication.specs.Laws.RuleFits.{RuleFits}
-use Rattle.engine.specs.Image.{modeNumber, image}
-use Rattle.engine.specs.Header.{headerOf}
-use Rattle.engine.specs.Decode.{modeNamed}
-use Rattle.engine.specs.Holding.{Holds, HoldsSuch}
-use Rattle.engine.proofs.InPlace.{such-fact}
+use Rattle.image.specs.Image.{image}
+use Rattle.image.specs.Header.{headerOf, modeNumber}
+use Rattle.image.specs.Decode.{modeNamed}
+use Rattle.image.specs.Holding.{Holds, HoldsSuch}
+use Rattle.image.proofs.InPlace.{such-fact}
 use Rattle.updates.specs.Lists.{configurationOf}
 use Rattle.step.specs.declared.Answer.{Answer}
 use Rattle.outgoing.specs.Lent.{LentSuch}
 use Rattle.step.specs.Answers.{answered, outcomeOn, InForce, refusedWith, quietly}
-use Rattle.rows.specs.Modes.{modeAfter}
+use Rattle.guards.specs.Modes.{modeAfter}
 use Rattle.outgoing.proofs.LentFacts.{lent-fact}
 use Rattle.step.proofs.AnswerLaws.{Passes, untaken, impossible, passed, passed-fits, refused-as, quiet-as}
 use Rattle.step.proofs.ModeLaws.{regular-not, no-transitional, leads}
@@ -41,7 +41,7 @@ module _ (h : Numbers) (id set : ℕ) (b o : List ℕ) (f : LentSuch (InForce h 
   force : (s : Server) → Holds s b → InForce h r s
   force s y = lent-fact (InForce h r) b o s f y
 
-  pub regular-untaken : (h .mode ≡ 0 → ⊥) → (h .mode ≡ 7 → ⊥) → (h .mode ≡ 6 → ⊥) → (h .mode ≡ 2 → ⊥) → (v : Answer) → v ≡ refusedWith 5
+  pub regular-untaken : (h .mode ≡ 0 → ⊥) → (h .mode ≡ 7 → ⊥) → (h .mode ≡ 6 → ⊥) → (h .mode ≡ 2 → ⊥) → (v : Answer) → v ≡ refusedWith notNow
       → (s : Server) → Holds s b → answered v b o ≡ outcomeOn (answer s (regular id set)) b o
   unfolding ruleFor
   regular-untaken a₀ a₇ a₆ a₂ v q s y =
@@ -49,7 +49,7 @@ module _ (h : Numbers) (id set : ℕ) (b o : List ℕ) (f : LentSuch (InForce h 
       (untaken s r (regular-not (h .mode) a₀ a₇ a₆ a₂ (s .membership .mode) _ (numbers-mode h s (force s y .numbers))))
 
   module _ (t : Bool) (g : (s : Server) → h ≡ headerOf s → t ≡ regularDue (s .membership)) where
-    pub regular-early : not t ≡ true → (v : Answer) → v ≡ refusedWith 5 → (s : Server) → Holds s b
+    pub regular-early : not t ≡ true → (v : Answer) → v ≡ refusedWith notNow → (s : Server) → Holds s b
         → answered v b o ≡ outcomeOn (answer s (regular id set)) b o
     unfolding possible
     regular-early n v q s y = refused-as (answer s r) v 5 b o q (impossible s r (sym (g s (force s y .numbers)) ∙ not-true t n))
@@ -134,7 +134,7 @@ module _ (h : Numbers) (set : ℕ) (b : List ℕ) (f : HoldsSuch (InForce h (tra
   force-such s y = such-fact (InForce h x) b s f y
 
   pub transitional-second : (t : Bool) → ((s : Server) → h ≡ headerOf s → t ≡ transitionalDue (s .membership)) → not t ≡ true → (v : Answer)
-      → v ≡ refusedWith 5
+      → v ≡ refusedWith notNow
       → (s : Server) (o : List ℕ) → Holds s b → answered v b o ≡ outcomeOn (answer s (transitional set)) b o
   unfolding possible
   transitional-second t d n v q s o y = refused-as (answer s x) v 5 b o q (impossible s x (sym (d s (force-such s y .numbers)) ∙ not-true t n))
@@ -143,7 +143,7 @@ module _ (h : Numbers) (set : ℕ) (b : List ℕ) (f : HoldsSuch (InForce h (tra
     after : (s : Server) → Holds s b → l ≡ modeAfter (s .membership .mode)
     after s y = g (s .membership .mode) (numbers-mode h s (force-such s y .numbers))
 
-    pub transitional-untaken : l ≡ 8 → (v : Answer) → v ≡ refusedWith 5
+    pub transitional-untaken : l ≡ 8 → (v : Answer) → v ≡ refusedWith notNow
         → (s : Server) (o : List ℕ) → Holds s b → answered v b o ≡ outcomeOn (answer s (transitional set)) b o
     unfolding ruleFor
     transitional-untaken e v q s o y =

@@ -1,5 +1,4 @@
 -- CPCs: which states take them, and row 6.
--- Assumes nothing.
 use Prim.Native.Nat.{ℕ, _<_}
 use mathlib.Core.Path.{_≡_, refl, sym, ap, _∙_}
 use mathlib.Core.Bool.{Bool, true, false, not}
@@ -9,16 +8,17 @@ use borrow.Author.Tests.{not-true, not-false}
 use Rattle.base.specs.Tests.{_or_, _=?_, pick}
 use Rattle.base.proofs.TestLaws.{and-holds, not-both}
 use Rattle.base.specs.Lists.{isThere}
+use Rattle.base.specs.Refusals.{notNow, notFromHere}
 use Rattle.format.specs.Types.{Record, cpc}
 use Rattle.format.specs.Range.{fieldsOk}
 use Rattle.record.specs.declared.State.{State as Numbers}
 use Rattle.replication.specs.Machine.Types.{Mode, Non-prim, Reg-prim, Trans-prim, Exchange-states, Exchange-actions, Construct, No, Un, Server, Outcome, contextOf}
 use Rattle.replication.specs.Machine.Rules.{Rule, ignoring, collectingCpc, collectingLateCpc, onCpc, ruleFor, possible, fromMember, isIgnored, withinQuota}
 use Rattle.replication.specs.Machine.Step.{quiet, collectCpc, collectLateCpc, apply, answer}
-use Rattle.engine.specs.Image.{modeNumber, image}
-use Rattle.engine.specs.Header.{headerOf}
-use Rattle.engine.specs.Decode.{modeNamed}
-use Rattle.engine.specs.Holding.{Holds, HoldsSuch}
+use Rattle.image.specs.Image.{image}
+use Rattle.image.specs.Header.{headerOf, modeNumber}
+use Rattle.image.specs.Decode.{modeNamed}
+use Rattle.image.specs.Holding.{Holds, HoldsSuch}
 use Rattle.step.specs.declared.Answer.{Answer}
 use Rattle.outgoing.specs.Lent.{LentSuch}
 use Rattle.step.specs.Answers.{answered, outcomeOn, InForce, withLateCpc, refusedWith, quietly}
@@ -81,7 +81,7 @@ module _ (h : Numbers) (k id : ℕ) (b o : List ℕ) (f : LentSuch (InForce h (c
     table : (s : Server) → Holds s b → t ≡ isThere (onCpc (s .membership .mode) k)
     table s y = g (s .membership .mode) k (numbers-mode h s (force s y .numbers))
 
-    pub cpc-untaken : not t ≡ true → (v : Answer) → v ≡ refusedWith 5 → (s : Server) → Holds s b
+    pub cpc-untaken : not t ≡ true → (v : Answer) → v ≡ refusedWith notNow → (s : Server) → Holds s b
         → answered v b o ≡ outcomeOn (answer s (cpc k id)) b o
     unfolding ruleFor
     cpc-untaken n v q s y =
@@ -91,7 +91,7 @@ module _ (h : Numbers) (k id : ℕ) (b o : List ℕ) (f : LentSuch (InForce h (c
       there : (s : Server) → Holds s b → isThere (onCpc (s .membership .mode) k) ≡ true
       there s y = sym (table s y) ∙ not-false t taken
 
-      pub cpc-outside : not u ≡ true → (v : Answer) → v ≡ refusedWith 6 → (s : Server) → Holds s b
+      pub cpc-outside : not u ≡ true → (v : Answer) → v ≡ refusedWith notFromHere → (s : Server) → Holds s b
           → answered v b o ≡ outcomeOn (answer s (cpc k id)) b o
       unfolding ruleFor possible _or_
       cpc-outside n v q s y =

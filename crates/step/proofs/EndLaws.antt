@@ -1,6 +1,5 @@
 -- The end of an exchange in place: what the States decide, then an attempt, or what waits is sent.
--- Assumes nothing.
-use Prim.Native.Nat.{ℕ, _+_, _*_, _≤_}
+use Prim.Native.Nat.{ℕ, _*_, _≤_}
 use mathlib.Core.Path.{_≡_, refl, sym, ap, _∙_}
 use mathlib.Core.Bool.{Bool, true, false}
 use mathlib.Core.List.{List, [], _∷_}
@@ -26,13 +25,13 @@ use Rattle.replication.specs.Machine.Requests.{sendWaiting, waitingRecords}
 use Rattle.replication.specs.Machine.Step.{theId, hereSet, hereId, collected, decided, attempting, stored, endExchange}
 use Rattle.replication.specs.Machine.WellFormed.{queue, wellFormed}
 use Rattle.replication.specs.Machine.WellFormedFacts.{Configured}
-use Rattle.engine.specs.Layout.{outLength}
-use Rattle.engine.specs.Image.{image}
-use Rattle.engine.specs.Header.{idOf, headerOf, headerIn}
-use Rattle.engine.proofs.HeaderLaws.{header-loaded}
-use Rattle.engine.proofs.InRange.{in-range}
-use Rattle.engine.specs.Holding.{Holds, HoldsSuch, HoldsSome}
-use Rattle.engine.proofs.InPlace.{such-fact, holds-some}
+use Rattle.image.specs.Layout.{outLength}
+use Rattle.image.specs.Image.{image}
+use Rattle.image.specs.Header.{idOf, headerOf, headerIn}
+use Rattle.image.proofs.HeaderLaws.{header-loaded}
+use Rattle.image.proofs.InRange.{in-range}
+use Rattle.image.specs.Holding.{Holds, HoldsSuch, HoldsSome}
+use Rattle.image.proofs.InPlace.{such-fact, holds-some}
 use Rattle.updates.specs.declared.votes.VoteNumbers.{VoteNumbers}
 use Rattle.updates.specs.Standing.{voteNumbers}
 use Rattle.exchange.specs.declared.decided.TakenVotes.{TakenVotes}
@@ -42,7 +41,7 @@ use Rattle.step.specs.declared.Answer.{Answer}
 use Rattle.outgoing.specs.Lent.{LentSuch}
 use Rattle.step.specs.Answers.{answered, outcomeOn, storedFirst}
 use Rattle.outgoing.proofs.LentFacts.{lent-fact, lent-room}
-use Rattle.engine.proofs.Chained.{Covers, chained, then-holds, numbers-then}
+use Rattle.image.proofs.Chained.{Covers, chained, then-holds, numbers-then}
 use Rattle.step.proofs.ExchangeStates.{decided-formed, attempting-formed, staying-formed}
 use Rattle.outgoing.proofs.LentLaws.{holds-products, put-room, put-done, one-record}
 use Rattle.step.proofs.OutcomeLaws.{stored-outcome, stored-after}

@@ -1,12 +1,10 @@
 -- The end of an exchange after another change: its outcome over the bytes at the beginning.
--- Assumes nothing.
 use Prim.Native.Nat.{ℕ}
 use mathlib.Core.Path.{_≡_, refl}
 use mathlib.Core.Bool.{true}
 use mathlib.Core.List.{List, [], _∷_}
 use mathlib.Core.Logic.{inl}
 use native.Mathlib.Omega.{arith}
-use Rattle.base.specs.Bytes.{over}
 use Rattle.base.proofs.TestLaws.{pick-as}
 use Rattle.format.specs.Types.{Record, cpc}
 use Rattle.replication.specs.Machine.Types.{Non-prim, Server, inMode}
@@ -15,10 +13,10 @@ use Rattle.replication.specs.Machine.Requests.{sendWaiting, waitingRecords}
 use Rattle.replication.specs.Machine.Step.{hereSet, hereId, collected, decided, attempting, stored, endExchange}
 use Rattle.replication.specs.Machine.WellFormed.{queue, wellFormed}
 use Rattle.replication.specs.Machine.WellFormedFacts.{Configured}
-use Rattle.engine.specs.Image.{image}
-use Rattle.engine.specs.Holding.{Holds}
+use Rattle.image.specs.Image.{image}
+use Rattle.image.specs.Holding.{Holds}
 use Rattle.step.specs.Answers.{outcomeOn}
-use Rattle.engine.proofs.Chained.{Covers, same-begins}
+use Rattle.image.proofs.Chained.{Covers, same-begins}
 use Rattle.step.proofs.OutcomeLaws.{stored-after}
 use Rattle.step.proofs.ExchangeStates.{attempting-formed, staying-formed}
 

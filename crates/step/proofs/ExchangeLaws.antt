@@ -1,5 +1,4 @@
 -- A retransmission taken in, and the end after the last one.
--- Assumes nothing.
 use Prim.Native.Nat.{ℕ, _+_, _≤_, _<_}
 use mathlib.Core.Path.{_≡_, refl, ap, _∙_}
 use mathlib.Core.Bool.{true, false}
@@ -15,20 +14,20 @@ use Rattle.replication.specs.Machine.Types.{Non-prim, Exchange-actions, Server,
 use Rattle.replication.specs.Machine.Step.{collected, plannedNow, oneMore, exchanged, allCome, endExchange, exchange}
 use Rattle.replication.specs.Machine.WellFormedFacts.{Configured}
 use Rattle.replication.specs.Laws.RuleFits.{Delivered}
-use Rattle.engine.specs.Image.{image}
-use Rattle.engine.specs.Header.{headerOf, headerIn}
-use Rattle.engine.proofs.HeaderLaws.{header-loaded}
-use Rattle.engine.specs.Holding.{Holds, HoldsSuch}
+use Rattle.image.specs.Image.{image}
+use Rattle.image.specs.Header.{headerOf, headerIn}
+use Rattle.image.proofs.HeaderLaws.{header-loaded}
+use Rattle.image.specs.Holding.{Holds, HoldsSuch}
 use Rattle.step.specs.declared.Answer.{Answer}
 use Rattle.outgoing.specs.Lent.{LentSuch}
 use Rattle.step.specs.Answers.{answered, outcomeOn, quietly}
 use Rattle.outgoing.proofs.LentFacts.{lent-fact}
-use Rattle.engine.proofs.Chained.{then-holds}
+use Rattle.image.proofs.Chained.{then-holds}
 use Rattle.step.proofs.EndLaws.{Ends}
 use Rattle.step.proofs.EndOverLaws.{end-mode, Before, end-over}
 use Rattle.step.proofs.ExchangeStates.{awaiting, last-formed}
 use Rattle.step.proofs.OutcomeLaws.{quiet-outcome}
-use Rattle.engine.specs.Layout.{atCome}
+use Rattle.image.specs.Layout.{atCome}
 
 come-read : (s : Server) (b : List ℕ) → Holds s b → numberAt 4 b atCome ≡ s .membership .come
 unfolding headerIn headerOf

@@ -1,5 +1,4 @@
 -- The numbers of a state and a record in range in it: what the code's tests say.
--- Assumes nothing.
 use Prim.Native.Nat.{ℕ, _<_}
 use mathlib.Core.Path.{_≡_, refl, sym, ap, _∙_}
 use mathlib.Core.Bool.{Bool, true}
@@ -13,12 +12,11 @@ use Rattle.record.specs.declared.ActionHead.{ActionHead}
 use Rattle.record.specs.Values.{idOf, actionOf}
 use Rattle.replication.specs.Machine.Types.{Mode, Server, contextOf}
 use Rattle.replication.specs.Machine.Rules.{numberedOwn, memberOf}
-use Rattle.engine.specs.Image.{modeNumber}
-use Rattle.engine.specs.Header.{headerOf}
-use Rattle.engine.proofs.InRange.{in-range}
-use Rattle.engine.specs.Holding.{Holds}
-use Rattle.rows.proofs.ModeLaws.{at-mode}
-use Rattle.engine.specs.Decode.{modeNamed}
+use Rattle.image.specs.Header.{headerOf, modeNumber}
+use Rattle.image.proofs.InRange.{in-range}
+use Rattle.image.specs.Holding.{Holds}
+use Rattle.guards.proofs.ModeLaws.{at-mode}
+use Rattle.image.specs.Decode.{modeNamed}
 
 pub numbers-mode : (h : Numbers) (s : Server) → h ≡ headerOf s → h .mode ≡ modeNumber (s .membership .mode)
 unfolding headerOf

@@ -1,5 +1,4 @@
 -- Install in place: in the state that it leads to, then an action coloured yellow, or what waits sent.
--- Assumes nothing.
 use Prim.Native.Nat.{ℕ, zero, suc, _≤_, _<_}
 use mathlib.Core.Path.{_≡_, refl, sym, ap, subst, _∙_}
 use mathlib.Core.Bool.{Bool, true, false}
@@ -24,16 +23,17 @@ use Rattle.replication.proofs.WellFormed.Facts.{well-formed-facts, facts-well-f
 use Rattle.replication.proofs.WellFormed.Changes.{Body, body, whole, in-mode}
 use Rattle.replication.proofs.WellFormed.Effects.{install-body, send-waiting-body}
 use Rattle.replication.specs.Laws.RuleFits.{Delivered}
-use Rattle.engine.specs.Image.{modeNumber, image}
-use Rattle.engine.specs.Holding.{Holds, HoldsSuch, HoldsSome}
-use Rattle.engine.proofs.InPlace.{such-fact, holds-some}
+use Rattle.image.specs.Image.{image}
+use Rattle.image.specs.Header.{modeNumber}
+use Rattle.image.specs.Holding.{Holds, HoldsSuch, HoldsSome}
+use Rattle.image.proofs.InPlace.{such-fact, holds-some}
 use Rattle.install.proofs.SwapFits.{swaps-kept}
 use Rattle.install.proofs.InstallLaws.{install-swaps}
 use Rattle.step.specs.declared.Answer.{Answer}
 use Rattle.outgoing.specs.Lent.{LentSuch}
 use Rattle.step.specs.Answers.{answered, outcomeOn, Installs}
 use Rattle.outgoing.proofs.LentFacts.{lent-fact}
-use Rattle.engine.proofs.Chained.{Covers, chained, then-holds}
+use Rattle.image.proofs.Chained.{Covers, chained, then-holds}
 use Rattle.step.proofs.OutcomeLaws.{stored-after}
 use Rattle.step.proofs.ColoursLaws.{joined-formed}
 

@@ -1,5 +1,4 @@
 -- CPCs collected in place.
--- Assumes nothing.
 use Prim.Native.Nat.{ℕ, _≤_, _<_}
 use mathlib.Core.Path.{_≡_, refl, sym, subst, _∙_}
 use mathlib.Core.Bool.{Bool, true, false}
@@ -20,19 +19,20 @@ use Rattle.replication.specs.Machine.WellFormedFacts.{Configured, ModeFits}
 use Rattle.replication.proofs.WellFormed.Facts.{well-formed-facts, facts-well-formed}
 use Rattle.replication.proofs.WellFormed.Changes.{body, whole, in-mode}
 use Rattle.replication.proofs.WellFormed.Exchanges.{with-cpc-body}
-use Rattle.engine.specs.Image.{modeNumber, image}
-use Rattle.engine.specs.Outcome.{word, resultOf}
-use Rattle.engine.proofs.InRange.{in-range}
-use Rattle.engine.specs.Holding.{Holds, HoldsSuch, HoldsSome}
-use Rattle.engine.proofs.InPlace.{such-fact, holds-header, holds-some}
+use Rattle.image.specs.Image.{image}
+use Rattle.image.specs.Header.{modeNumber}
+use Rattle.image.specs.Outcome.{word, resultOf}
+use Rattle.image.proofs.InRange.{in-range}
+use Rattle.image.specs.Holding.{Holds, HoldsSuch, HoldsSome}
+use Rattle.image.proofs.InPlace.{such-fact, holds-header, holds-some}
 use Rattle.step.specs.declared.Answer.{Answer}
 use Rattle.outgoing.specs.Lent.{LentSuch}
 use Rattle.step.specs.Answers.{answered, outcomeOn, Installs, quietly, withLateCpc}
 use Rattle.outgoing.proofs.LentFacts.{lent-fact}
-use Rattle.engine.proofs.Chained.{Covers, chained, then-holds}
+use Rattle.image.proofs.Chained.{Covers, chained, then-holds}
 use Rattle.step.proofs.Installed.{sent-formed}
 use Rattle.step.proofs.OutcomeLaws.{stored-after}
-use Rattle.engine.specs.Layout.{headerSize}
+use Rattle.image.specs.Layout.{headerSize}
 
 -- ---- one CPC more
 

@@ -1,5 +1,4 @@
 -- A regular configuration's answer: the state stored, its State sent.
--- Assumes nothing.
 use Prim.Native.Nat.{ℕ}
 use mathlib.Core.Path.{_≡_}
 use mathlib.Core.List.{List}
@@ -8,8 +7,8 @@ use Rattle.base.specs.Bytes.{over}
 use Rattle.format.specs.Write.{recordBytes}
 use Rattle.replication.specs.Machine.Types.{Server}
 use Rattle.replication.specs.Machine.Step.{entering, join}
-use Rattle.engine.specs.Image.{image}
-use Rattle.engine.specs.Holding.{Holds}
+use Rattle.image.specs.Image.{image}
+use Rattle.image.specs.Holding.{Holds}
 use Rattle.updates.specs.Lists.{configurationOf}
 use Rattle.outgoing.specs.Sending.{ownRecord}
 use Rattle.step.specs.declared.Answer.{Answer}

@@ -1,5 +1,4 @@
 -- States by their numbers: which of them take an event.
--- Assumes nothing.
 use Prim.Native.Nat.{ℕ, _≤_, _<_}
 use mathlib.Core.Path.{_≡_, refl, sym, _∙_}
 use mathlib.Core.Bool.{true, false}
@@ -10,10 +9,10 @@ use Rattle.base.specs.Lists.{isThere}
 use Rattle.format.specs.Types.{Action}
 use Rattle.replication.specs.Machine.Types.{Mode, Non-prim, Reg-prim, Trans-prim, Exchange-states, Exchange-actions, Construct, No, Un, Configuration}
 use Rattle.replication.specs.Machine.Rules.{leaving, onAction, onRetransmission, onCpc, onRegular, onTransitional}
-use Rattle.engine.specs.Image.{modeNumber}
-use Rattle.engine.specs.Decode.{modeNamed}
-use Rattle.rows.specs.Modes.{modeAfter}
-use Rattle.rows.proofs.ModeLaws.{at-mode}
+use Rattle.image.specs.Header.{modeNumber}
+use Rattle.image.specs.Decode.{modeNamed}
+use Rattle.guards.specs.Modes.{modeAfter}
+use Rattle.guards.proofs.ModeLaws.{at-mode}
 
 -- ---- actions
 

@@ -1,5 +1,4 @@
 -- An outcome of the machine over both buffers, of its parts.
--- Assumes nothing.
 use Prim.Native.Nat.{ℕ}
 use mathlib.Core.Path.{_≡_, ap, _∙_}
 use mathlib.Core.Bool.{true}
@@ -11,10 +10,10 @@ use Rattle.base.specs.Bytes.{joined, over}
 use Rattle.replication.specs.Machine.Types.{Server}
 use Rattle.replication.specs.Machine.Step.{quiet, stored, sent, inBytes}
 use Rattle.replication.specs.Machine.WellFormed.{wellFormed}
-use Rattle.engine.specs.Image.{image}
-use Rattle.engine.specs.Outcome.{resultOf, word}
-use Rattle.engine.specs.Holding.{Holds}
-use Rattle.engine.proofs.Chained.{Covers, image-over}
+use Rattle.image.specs.Image.{image}
+use Rattle.image.specs.Outcome.{resultOf, word}
+use Rattle.image.specs.Holding.{Holds}
+use Rattle.image.proofs.Chained.{Covers, image-over}
 use Rattle.step.specs.declared.Answer.{Answer}
 use Rattle.step.specs.Answers.{answered, outcomeOn, quietly, storedFirst, sentOnly}
 

@@ -1,5 +1,4 @@
 -- The step over buffers whose number is 0: the event is read against the state that they hold.
--- Assumes nothing.
 use Prim.Native.Nat.{ℕ, _≤_}
 use mathlib.Core.Path.{_≡_, refl, sym, ap, subst, _∙_}
 use mathlib.Core.Bool.{true}
@@ -14,28 +13,28 @@ use Rattle.format.proofs.RoundTrip.{written-read}
 use Rattle.record.specs.declared.State.{State as Numbers}
 use Rattle.record.specs.declared.Context.{Context}
 use Rattle.record.specs.declared.events.Event.{Event}
-use Rattle.record.specs.declared.reader.Reading.{Reading}
-use Rattle.record.specs.declared.reader.Reading.the-variants.{Good, Refused}
+use Rattle.reader.specs.declared.Reading.{Reading}
+use Rattle.reader.specs.declared.Reading.the-variants.{Good, Refused}
 use Rattle.record.specs.Context.{readingContext, lastOf}
 use Rattle.record.specs.Context as code
 use Rattle.record.specs.Events.{recordOf}
-use Rattle.record.specs.Reading.{PlacedEvent, meaning, placed}
-use Rattle.record.proofs.Callers.{good-says, refused-says, good-placed}
+use Rattle.reader.specs.Reading.{PlacedEvent, meaning, placed}
+use Rattle.reader.proofs.Callers.{good-says, refused-says, good-placed}
 use Rattle.replication.specs.Machine.Types.{Configuration, Server, refused, contextOf, setOf}
 use Rattle.replication.specs.Machine.Step.{answer, onReading, inBytes, step}
-use Rattle.engine.specs.Header.{headerOf, headerIn, statusOf}
-use Rattle.engine.specs.Header as header
-use Rattle.engine.specs.Decode.{decoded}
-use Rattle.engine.specs.Outcome.{refusal, resultOf, stateNumber, stepOn}
-use Rattle.engine.proofs.HeaderLaws.{header-loaded}
-use Rattle.engine.specs.Holding.{Holds}
-use Rattle.engine.proofs.InPlace.{holds-header}
-use Rattle.engine.proofs.Refusals.{zero-read, zero-ready, step-read, step-refused}
+use Rattle.image.specs.Header.{headerOf, headerIn, statusOf}
+use Rattle.image.specs.Header as header
+use Rattle.image.specs.Decode.{decoded}
+use Rattle.image.specs.Outcome.{refusal, resultOf, stateNumber, stepOn}
+use Rattle.image.proofs.HeaderLaws.{header-loaded}
+use Rattle.image.specs.Holding.{Holds}
+use Rattle.image.proofs.InPlace.{holds-header}
+use Rattle.image.proofs.Refusals.{zero-read, zero-ready, step-read, step-refused}
 use Rattle.step.specs.declared.Answer.{Answer}
 use Rattle.outgoing.specs.Lent.{LentSuch}
 use Rattle.step.specs.Answers.{answered, outcomeOn, refusedWith}
 use Rattle.step.specs.Events.{ReadInForce, numberOf}
-use Rattle.engine.specs.Layout.{headerSize}
+use Rattle.image.specs.Layout.{headerSize}
 
 -- ---- the context
 

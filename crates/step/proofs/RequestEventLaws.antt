@@ -1,19 +1,19 @@
 -- Requests: row 3, as the code tests it.
--- Assumes nothing.
 use mathlib.Core.Path.{_≡_, refl, sym, ap, _∙_}
 use mathlib.Core.Bool.{Bool, true, false, not}
 use mathlib.Core.List.{List}
 use Prim.Native.Nat.{ℕ}
 use borrow.Author.Tests.{not-true, not-false}
 use Rattle.base.specs.Tests.{_or_}
+use Rattle.base.specs.Refusals.{quotaUsed}
 use Rattle.format.specs.Types.{Record, request}
 use Rattle.record.specs.declared.State.{State as Numbers}
 use Rattle.replication.specs.Machine.Types.{Server, Outcome}
 use Rattle.replication.specs.Machine.Requests.{quotaLeft}
 use Rattle.replication.specs.Machine.Rules.{requesting, ruleFor, possible, fromMember, isIgnored, withinQuota}
 use Rattle.replication.specs.Machine.Step.{requested, apply, answer}
-use Rattle.engine.specs.Header.{headerOf}
-use Rattle.engine.specs.Holding.{Holds}
+use Rattle.image.specs.Header.{headerOf}
+use Rattle.image.specs.Holding.{Holds}
 use Rattle.step.specs.declared.Answer.{Answer}
 use Rattle.outgoing.specs.Lent.{LentSuch}
 use Rattle.step.specs.Answers.{answered, outcomeOn, InForce, refusedWith}
@@ -29,7 +29,7 @@ module _ (h : Numbers) (p b o : List ℕ) (f : LentSuch (InForce h (request p)) 
   force : (s : Server) → Holds s b → InForce h r s
   force s y = lent-fact (InForce h r) b o s f y
 
-  pub quota-used : not t ≡ true → (v : Answer) → v ≡ refusedWith 3 → (s : Server) → Holds s b → answered v b o ≡ outcomeOn (answer s (request p)) b o
+  pub quota-used : not t ≡ true → (v : Answer) → v ≡ refusedWith quotaUsed → (s : Server) → Holds s b → answered v b o ≡ outcomeOn (answer s (request p)) b o
   unfolding ruleFor possible isIgnored fromMember withinQuota _or_
   quota-used n v q s y =
       refused-as (answer s r) v 3 b o q (above-quota s r (requesting p) refl refl refl (sym (g s (force s y .numbers)) ∙ not-true t n))

@@ -1,5 +1,4 @@
 -- A request: numbered, and sent with what waits.
--- Assumes nothing.
 use Prim.Native.Nat.{ℕ, _≤_}
 use mathlib.Core.Path.{_≡_, refl, sym, ap, _∙_}
 use mathlib.Core.Bool.{Bool, true, false, not}
@@ -20,12 +19,12 @@ use Rattle.replication.specs.Machine.WellFormedRanges.{PayloadFits}
 use Rattle.replication.proofs.WellFormed.Facts.{well-formed-facts}
 use Rattle.replication.proofs.WellFormed.Changes.{body}
 use Rattle.replication.proofs.WellFormed.Effects.{number-body, send-waiting-body}
-use Rattle.engine.specs.Header.{headerOf}
-use Rattle.engine.specs.Image.{image}
-use Rattle.engine.specs.Layout.{headerSize}
-use Rattle.engine.specs.Outcome.{word, resultOf}
-use Rattle.engine.specs.Holding.{Holds}
-use Rattle.engine.proofs.Chained.{Covers, then-holds}
+use Rattle.image.specs.Header.{headerOf}
+use Rattle.image.specs.Image.{image}
+use Rattle.image.specs.Layout.{headerSize}
+use Rattle.image.specs.Outcome.{word, resultOf}
+use Rattle.image.specs.Holding.{Holds}
+use Rattle.image.proofs.Chained.{Covers, then-holds}
 use Rattle.updates.specs.Lists.{PayloadRoom}
 use Rattle.step.specs.declared.Answer.{Answer}
 use Rattle.outgoing.specs.Lent.{LentSuch}

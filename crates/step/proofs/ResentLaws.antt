@@ -1,6 +1,5 @@
 -- Retransmissions: rows 5 and 6, as the code tests them.
--- Assumes nothing.
-use Prim.Native.Nat.{ℕ, _<_}
+use Prim.Native.Nat.{ℕ}
 use mathlib.Core.Path.{_≡_, refl, sym, ap, _∙_}
 use mathlib.Core.Bool.{Bool, true, false, not}
 use mathlib.Core.List.{List}
@@ -8,21 +7,22 @@ use mathlib.Core.Option.{some}
 use lib.ListN.{length}
 use borrow.Author.Tests.{not-true, not-false}
 use Rattle.base.specs.Tests.{_or_, _=?_, pick}
-use Rattle.base.proofs.TestLaws.{and-holds, not-both}
+use Rattle.base.proofs.TestLaws.{not-both}
 use Rattle.base.specs.Lists.{isThere}
+use Rattle.base.specs.Refusals.{notNow, notFromHere}
 use Rattle.format.specs.Types.{Action, Record, retransmission}
-use Rattle.format.specs.Range.{fieldsOk}
 use Rattle.record.specs.declared.State.{State as Numbers}
 use Rattle.record.specs.declared.ActionHead.{ActionHead}
 use Rattle.record.specs.Values.{idOf, actionOf}
-use Rattle.replication.specs.Machine.Types.{Mode, Non-prim, Reg-prim, Trans-prim, Exchange-states, Exchange-actions, Construct, No, Un, Server, Outcome, withLog, contextOf}
+use Rattle.replication.specs.Machine.Types.{Mode, Non-prim, Reg-prim, Trans-prim, Exchange-states, Exchange-actions, Construct, No, Un, Server, Outcome, withLog}
 use Rattle.replication.specs.Machine.Colours.{red}
 use Rattle.replication.specs.Machine.Rules.{Rule, reddening, exchanging, onRetransmission, ruleFor, possible, fromMember, isIgnored, withinQuota}
 use Rattle.replication.specs.Machine.Step.{exchange, apply, answer}
 use Rattle.replication.specs.Laws.RuleFits.{Delivered}
-use Rattle.engine.specs.Image.{modeNumber, image}
-use Rattle.engine.specs.Decode.{modeNamed}
-use Rattle.engine.specs.Holding.{Holds}
+use Rattle.image.specs.Image.{image}
+use Rattle.image.specs.Header.{modeNumber}
+use Rattle.image.specs.Decode.{modeNamed}
+use Rattle.image.specs.Holding.{Holds}
 use Rattle.queue.specs.Queue.{RoomIfNext}
 use Rattle.queue.proofs.RedLaws.{room-if-next}
 use Rattle.step.specs.declared.Answer.{Answer}
@@ -30,7 +30,7 @@ use Rattle.outgoing.specs.Lent.{LentSuch}
 use Rattle.step.specs.Answers.{answered, outcomeOn, InForce, refusedWith, quietly}
 use Rattle.outgoing.proofs.LentFacts.{lent-fact}
 use Rattle.step.proofs.AnswerLaws.{Passes, untaken, impossible, outside, passed, passed-fits, not-there, refused-as, quiet-as}
-use Rattle.step.proofs.ForceLaws.{numbers-mode, numbers-at, below-eight, OwnNumbered, own-numbered, Member}
+use Rattle.step.proofs.ForceLaws.{numbers-mode, numbers-at, OwnNumbered, own-numbered, Member}
 
 -- In Exchange_actions it is part of the exchange, elsewhere red.
 resent : (l : ℕ) (m : Mode) (i : ℕ) (a : Action) → l ≡ modeNumber m → (l ≡ 4 → ⊥) → isThere (onRetransmission m i a) ≡ true
@@ -65,14 +65,10 @@ module _ (h : Numbers) (x : ActionHead) (p b o : List ℕ) (j i : ℕ) (f : Lent
   abbrev r : Record
   r = retransmission j i a
 
-  pub sender-below : j < 8
-  unfolding fieldsOk contextOf
-  sender-below = below-eight (f .state) b j (f .holds) (and-holds _ _ (f .fact .range) .0)
-
   force : (s : Server) → Holds s b → InForce h r s
   force s y = lent-fact (InForce h r) b o s f y
 
-  pub resent-unnumbered : (u : Bool) (v : Answer) → OwnNumbered h x u → not u ≡ true → v ≡ refusedWith 5
+  pub resent-unnumbered : (u : Bool) (v : Answer) → OwnNumbered h x u → not u ≡ true → v ≡ refusedWith notNow
       → (s : Server) → Holds s b → answered v b o ≡ outcomeOn (answer s (retransmission j i (actionOf x p))) b o
   unfolding possible
   resent-unnumbered u v d n q s y =
@@ -82,7 +78,7 @@ module _ (h : Numbers) (x : ActionHead) (p b o : List ℕ) (j i : ℕ) (f : Lent
     table : (s : Server) → Holds s b → t ≡ isThere (onRetransmission (s .membership .mode) i a)
     table s y = g (s .membership .mode) i a (numbers-mode h s (force s y .numbers))
 
-    pub resent-untaken : (v : Answer) → not t ≡ true → v ≡ refusedWith 5
+    pub resent-untaken : (v : Answer) → not t ≡ true → v ≡ refusedWith notNow
         → (s : Server) → Holds s b → answered v b o ≡ outcomeOn (answer s (retransmission j i (actionOf x p))) b o
     unfolding ruleFor
     resent-untaken v n q s y =
@@ -100,7 +96,7 @@ module _ (h : Numbers) (x : ActionHead) (p b o : List ℕ) (j i : ℕ) (f : Lent
       unfolding fromMember
       member s y = sym (e s (force s y .numbers))
 
-      pub resent-outside : (v : Answer) → not w ≡ true → v ≡ refusedWith 6
+      pub resent-outside : (v : Answer) → not w ≡ true → v ≡ refusedWith notFromHere
           → (s : Server) → Holds s b → answered v b o ≡ outcomeOn (answer s (retransmission j i (actionOf x p))) b o
       unfolding ruleFor _or_
       resent-outside v n q s y =

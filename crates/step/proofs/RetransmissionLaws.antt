@@ -1,5 +1,4 @@
 -- Retransmissions taken in, in place.
--- Assumes nothing.
 use Prim.Native.Nat.{ℕ, _+_, _≤_, _<_}
 use mathlib.Core.Path.{_≡_, refl, sym, ap, _∙_}
 use mathlib.Core.Bool.{false}
@@ -16,15 +15,16 @@ use Rattle.replication.specs.Machine.Colours.{red, green}
 use Rattle.replication.specs.Machine.Step.{placed, exchanged, oneMore, allCome}
 use Rattle.replication.proofs.Agreement.Lists.Placed.{placed-next, placed-below, placed-red}
 use Rattle.replication.specs.Laws.RuleFits.{Delivered}
-use Rattle.engine.specs.Image.{modeNumber, image}
-use Rattle.engine.specs.Holding.{Holds, HoldsSuch, HoldsSome}
-use Rattle.engine.proofs.InPlace.{such-fact, holds-some}
+use Rattle.image.specs.Image.{image}
+use Rattle.image.specs.Header.{modeNumber}
+use Rattle.image.specs.Holding.{Holds, HoldsSuch, HoldsSome}
+use Rattle.image.proofs.InPlace.{such-fact, holds-some}
 use Rattle.queue.specs.Queue.{RoomIfNext}
 use Rattle.queue.proofs.RedLaws.{room-if-next}
-use Rattle.engine.proofs.Chained.{chained, then-holds, numbers-then}
+use Rattle.image.proofs.Chained.{chained, then-holds, numbers-then}
 use Rattle.step.proofs.ExchangeStates.{placed-formed, non-prim-formed, more-formed, closed-formed, last-formed}
-use Rattle.engine.specs.Layout.{atGreenLength}
-use Rattle.engine.proofs.Counts.{numbers, holds-counts}
+use Rattle.image.specs.Layout.{atGreenLength}
+use Rattle.image.proofs.Counts.{numbers, holds-counts}
 
 -- ---- one action, by its position
 

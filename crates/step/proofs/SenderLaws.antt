@@ -1,5 +1,4 @@
 -- Row 6 for States and CPCs, as the code tests it.
--- Assumes nothing.
 use Prim.Native.Nat.{ℕ}
 use mathlib.Core.Path.{_≡_, sym, ap, _∙_}
 use mathlib.Core.Bool.{Bool, true, false, not}
@@ -10,7 +9,7 @@ use Rattle.format.specs.Types.{State, state, cpc}
 use Rattle.record.specs.declared.State.{State as Numbers}
 use Rattle.replication.specs.Machine.Types.{Server}
 use Rattle.replication.specs.Machine.Rules.{memberOf, isOf, stateIn, cpcIn, fromMember}
-use Rattle.engine.specs.Header.{headerOf}
+use Rattle.image.specs.Header.{headerOf}
 use Rattle.step.proofs.ForceLaws.{Member}
 
 abbrev pub IsOf : Numbers → ℕ → Bool → Type 0

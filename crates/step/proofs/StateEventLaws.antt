@@ -1,5 +1,4 @@
 -- States: which states take them, and row 6.
--- Assumes nothing.
 use Prim.Native.Nat.{ℕ, _<_}
 use mathlib.Core.Path.{_≡_, refl, sym, ap, subst, _∙_}
 use mathlib.Core.Bool.{Bool, true, false, not}
@@ -8,6 +7,7 @@ use mathlib.Core.Option.{none, some}
 use borrow.Author.Tests.{not-true, not-false}
 use Rattle.base.specs.Tests.{_or_, _=?_, _<?_, pick}
 use Rattle.base.proofs.TestLaws.{and-holds}
+use Rattle.base.specs.Refusals.{notNow, notFromHere}
 use Rattle.format.specs.Types.{State, Record, state}
 use Rattle.format.specs.Range.{fieldsOk, stateOk}
 use Rattle.format.specs.Write.{write}
@@ -15,10 +15,9 @@ use Rattle.record.specs.declared.State.{State as Numbers}
 use Rattle.replication.specs.Machine.Types.{Mode, Non-prim, Reg-prim, Trans-prim, Exchange-states, Exchange-actions, Construct, No, Un, Server, Outcome, contextOf}
 use Rattle.replication.specs.Machine.Rules.{ignoring, collectingState, onState, ruleFor, possible, fromMember, isIgnored, withinQuota}
 use Rattle.replication.specs.Machine.Step.{collectState, apply, answer}
-use Rattle.engine.specs.Image.{modeNumber}
-use Rattle.engine.specs.Header.{headerOf}
-use Rattle.engine.specs.Decode.{modeNamed}
-use Rattle.engine.specs.Holding.{Holds}
+use Rattle.image.specs.Header.{headerOf, modeNumber}
+use Rattle.image.specs.Decode.{modeNamed}
+use Rattle.image.specs.Holding.{Holds}
 use Rattle.step.specs.declared.Answer.{Answer}
 use Rattle.outgoing.specs.Lent.{LentSuch}
 use Rattle.step.specs.Answers.{answered, outcomeOn, StateInForce, Came, refusedWith, quietly}
@@ -56,7 +55,7 @@ module _ (h : Numbers) (k id : ℕ) (e b o : List ℕ) (f : LentSuch (StateInFor
       quiet-as s s (answer s (state x)) r b b o q
       (passed s (state x) ignoring (record { rule = z; possible = refl; member = refl; quota = refl })) (sym (y .written))
 
-  pub state-untaken : (h .mode ≡ 0 → ⊥) → (h .mode ≡ 3 → ⊥) → (r : Answer) → r ≡ refusedWith 5
+  pub state-untaken : (h .mode ≡ 0 → ⊥) → (h .mode ≡ 3 → ⊥) → (r : Answer) → r ≡ refusedWith notNow
       → (s : Server) (x : State) → Holds s b → fieldsOk (contextOf s) (state x) ≡ true → write (state x) ≡ e → x .sender ≡ k → x .configuration ≡ id
       → answered r b o ≡ outcomeOn (answer s (state x)) b o
   unfolding ruleFor
@@ -70,7 +69,7 @@ module _ (h : Numbers) (k id : ℕ) (e b o : List ℕ) (f : LentSuch (StateInFor
     unfolding modeNamed pick _=?_ onState modeNumber
     rule s x y = numbers-at (λ l. onState l x ≡ some (collectingState x)) h s 3 (numbers s y) m refl
 
-    pub state-outside : not t ≡ true → (r : Answer) → r ≡ refusedWith 6
+    pub state-outside : not t ≡ true → (r : Answer) → r ≡ refusedWith notFromHere
         → (s : Server) (x : State) → Holds s b → fieldsOk (contextOf s) (state x) ≡ true → write (state x) ≡ e → x .sender ≡ k → x .configuration ≡ id
         → answered r b o ≡ outcomeOn (answer s (state x)) b o
     unfolding ruleFor possible isIgnored _or_

@@ -1,5 +1,4 @@
 -- States collected in place, and what follows the last of them.
--- Assumes nothing.
 use Prim.Native.Nat.{ℕ, _*_, _≤_}
 use mathlib.Core.Path.{_≡_, refl, sym, ap, subst, _∙_}
 use mathlib.Core.Bool.{Bool, true, false}
@@ -23,22 +22,23 @@ use Rattle.replication.specs.Machine.WellFormed.{wellFormed}
 use Rattle.replication.proofs.WellFormed.Facts.{well-formed-facts}
 use Rattle.replication.proofs.WellFormed.Ranges.{sizes-ok, state-ok, ids-short}
 use Rattle.replication.specs.Laws.RuleFits.{StateCame}
-use Rattle.engine.specs.Layout.{stateSize}
-use Rattle.engine.specs.Image.{modeNumber, image}
-use Rattle.engine.specs.Holding.{Holds, HoldsSome}
-use Rattle.engine.proofs.InPlace.{holds-some}
+use Rattle.image.specs.Layout.{stateSize}
+use Rattle.image.specs.Image.{image}
+use Rattle.image.specs.Header.{modeNumber}
+use Rattle.image.specs.Holding.{Holds, HoldsSome}
+use Rattle.image.proofs.InPlace.{holds-some}
 use Rattle.updates.specs.Lists.{CollectRoom}
 use Rattle.step.specs.declared.Answer.{Answer}
 use Rattle.outgoing.specs.Lent.{LentSuch}
 use Rattle.step.specs.Answers.{answered, outcomeOn, Came, quietly, sentOnly}
 use Rattle.outgoing.proofs.LentFacts.{lent-fact}
-use Rattle.engine.proofs.Chained.{Covers, then-holds, numbers-then}
+use Rattle.image.proofs.Chained.{Covers, then-holds, numbers-then}
 use Rattle.step.proofs.ExchangeStates.{non-prim-formed, exchange-configured, came-formed, resending-formed}
 use Rattle.step.proofs.EndLaws.{Ends}
 use Rattle.step.proofs.EndOverLaws.{end-mode, Before, end-over}
 use Rattle.step.proofs.OutcomeLaws.{sent-after, sent-outcome, quiet-outcome}
 use Rattle.step.proofs.RetransmissionLaws.{left, left-holds}
-use Rattle.engine.proofs.Counts.{numbers, holds-counts}
+use Rattle.image.proofs.Counts.{numbers, holds-counts}
 
 -- Every member's State is in.
 abbrev pub Complete : Server → Type 0

@@ -1,5 +1,4 @@
 -- An event that was read, kind by kind.
--- Assumes nothing.
 use Prim.Native.Nat.{ℕ, _+_, _-_}
 use mathlib.Core.Path.{_≡_, refl, sym, ap, subst, _∙_}
 use mathlib.Core.Bool.{true}
@@ -19,13 +18,13 @@ use Rattle.record.specs.declared.events.Event.the-variants.{Action, Retransmiss
 use Rattle.record.specs.Context.{readingContext}
 use Rattle.record.specs.Values.{actionOf, stateOf}
 use Rattle.record.specs.Events.{actionFrom, stateFrom, recordOf}
-use Rattle.record.proofs.Callers.{action-placed, retransmission-placed, request-placed}
+use Rattle.reader.proofs.Callers.{action-placed, retransmission-placed, request-placed}
 use Rattle.replication.specs.Machine.Types.{Server, contextOf}
 use Rattle.replication.specs.Machine.Requests.{recovered}
 use Rattle.replication.specs.Machine.Rules.{recovering, ruleFor, possible, fromMember, isIgnored, withinQuota}
 use Rattle.replication.specs.Machine.Step.{apply, answer}
-use Rattle.engine.specs.Image.{image}
-use Rattle.engine.specs.Holding.{Holds, HoldsSuch}
+use Rattle.image.specs.Image.{image}
+use Rattle.image.specs.Holding.{Holds, HoldsSuch}
 use Rattle.step.specs.declared.Answer.{Answer}
 use Rattle.outgoing.specs.Lent.{LentSuch}
 use Rattle.step.specs.Answers.{answered, outcomeOn, InForce, StateInForce, storedFirst}

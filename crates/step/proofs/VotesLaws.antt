@@ -1,12 +1,10 @@
 -- A change of the votes, and then a regular configuration.
--- Assumes nothing.
 use Prim.Native.Nat.{ℕ}
 use mathlib.Core.Path.{_≡_, refl, sym, subst, _∙_}
 use mathlib.Core.Bool.{true}
 use mathlib.Core.List.{List, [], _∷_}
 use mathlib.Core.Logic.{inr}
 use native.Mathlib.Omega.{arith}
-use Rattle.base.specs.Bytes.{over}
 use Rattle.base.specs.Lists.{Begins}
 use Rattle.base.proofs.Prefixes.{begins-refl}
 use Rattle.format.specs.Types.{Id, state}
@@ -18,13 +16,13 @@ use Rattle.replication.proofs.WellFormed.Changes.{Body, body, whole, votes-chan
 use Rattle.replication.proofs.WellFormed.Exchanges.{entering-body, unmarked-body}
 use Rattle.replication.proofs.WellFormed.Facts.{well-formed-facts, facts-well-formed}
 use Rattle.replication.proofs.WellFormed.Kept.{mode-kept}
-use Rattle.engine.specs.Image.{image}
-use Rattle.engine.specs.Holding.{Holds}
+use Rattle.image.specs.Image.{image}
+use Rattle.image.specs.Holding.{Holds}
 use Rattle.updates.specs.Lists.{configurationOf}
 use Rattle.step.specs.declared.Answer.{Answer}
 use Rattle.outgoing.specs.Lent.{LentSuch}
 use Rattle.step.specs.Answers.{answered, outcomeOn}
-use Rattle.engine.proofs.Chained.{Covers, then-holds}
+use Rattle.image.proofs.Chained.{Covers, then-holds}
 use Rattle.outgoing.proofs.LentFacts.{lent-fact}
 use Rattle.step.proofs.OutcomeLaws.{stored-after}
 

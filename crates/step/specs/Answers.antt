@@ -1,5 +1,4 @@
 -- What the code of a step answers, and what it may rely on.
--- Assumes nothing.
 use Prim.Native.Nat.{ℕ, _≤_, _<_}
 use mathlib.Core.Path.{_≡_}
 use mathlib.Core.Bool.{true}
@@ -14,9 +13,9 @@ use Rattle.replication.specs.Machine.Step.{inBytes, withCpc, allCpcsIn, answer}
 use Rattle.replication.specs.Machine.WellFormedFacts.{Configured}
 use Rattle.replication.specs.Laws.RuleFits.{StateCame}
 use Rattle.record.specs.declared.State.{State as Numbers}
-use Rattle.engine.specs.Header.{headerOf}
-use Rattle.engine.specs.Outcome.{Result, resultOf}
-use Rattle.engine.specs.Holding.{Holds}
+use Rattle.image.specs.Header.{headerOf}
+use Rattle.image.specs.Outcome.{Result, resultOf}
+use Rattle.image.specs.Holding.{Holds}
 use Rattle.base.specs.Lent.{Lent}
 use Rattle.step.specs.declared.Answer.{Answer}
 use denote.Ref.{now}

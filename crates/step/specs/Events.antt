@@ -1,5 +1,4 @@
 -- What the code of an event may rely on: the record that was read, and the state that takes it.
--- Assumes nothing.
 use Prim.Native.Nat.{ℕ, _+_, _≤_}
 use mathlib.Core.Path.{_≡_}
 use mathlib.Core.List.{List}
@@ -9,22 +8,21 @@ use Rattle.format.specs.Types.{Action, Record, State, state}
 use Rattle.format.specs.Write.{write}
 use Rattle.record.specs.declared.State.{State as Numbers}
 use Rattle.record.specs.declared.events.Event.{Event}
-use Rattle.record.specs.declared.reader.Reading.{Reading}
-use Rattle.record.specs.declared.reader.Reading.the-variants.{Good, Refused}
+use Rattle.reader.specs.declared.Reading.{Reading}
+use Rattle.reader.specs.declared.Reading.the-variants.{Good, Refused}
 use Rattle.record.specs.Context.{readingContext}
 use Rattle.record.specs.Events.{recordOf, actionFrom}
-use Rattle.record.specs.Reading.{PlacedEvent}
+use Rattle.reader.specs.Reading.{PlacedEvent}
 use Rattle.replication.specs.Machine.Types.{Non-prim, Trans-prim, Exchange-actions, Server}
 use Rattle.replication.specs.Machine.Types.{withLog, inMode, contextOf}
 use Rattle.replication.specs.Machine.Rules.{Rule, onAction, fromMember}
 use Rattle.replication.specs.Laws.RuleFits.{RuleFits, Delivered}
-use Rattle.engine.specs.Image.{modeNumber}
 use Rattle.base.specs.Lent.{Lent}
 use Rattle.step.specs.Answers.{InForce, answered, outcomeOn}
 use Rattle.replication.specs.Machine.WellFormedRanges.{PayloadFits}
 use Rattle.replication.specs.Machine.Requests.{quotaLeft}
 use mathlib.Core.Bool.{Bool, true, false}
-use Rattle.engine.specs.Header.{headerOf}
+use Rattle.image.specs.Header.{headerOf, modeNumber}
 use Rattle.replication.specs.Machine.Colours.{isNext, yellow}
 use Rattle.replication.specs.Machine.Install.{install}
 use Rattle.replication.specs.Machine.Step.{placed, exchanged, allCome, oneMore, collected, hereSet, apply, answer, collectState, plannedNow}
@@ -34,7 +32,7 @@ use Rattle.replication.specs.Machine.WellFormedFacts.{Configured}
 use Rattle.record.specs.declared.events.ActionAt.{ActionAt}
 use Rattle.step.specs.declared.Answer.{Answer}
 use denote.Ref.{now}
-use Rattle.engine.specs.Holding.{Holds}
+use Rattle.image.specs.Holding.{Holds}
 use Rattle.format.specs.Range.{fieldsOk}
 use Rattle.base.specs.Tests.{_=?_}
 

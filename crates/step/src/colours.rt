@@ -3,7 +3,7 @@ ghost use Rattle.record.specs.Values.{actionOf};
 ghost use Rattle.replication.specs.Machine.Colours.{yellow as yellowed};
 ghost use Rattle.replication.specs.Machine.Step.{greenAndNote};
 ghost use Rattle.replication.specs.Laws.RuleFits.{Delivered};
-ghost use Rattle.engine.specs.Holding.{HoldsSuch, Becomes};
+ghost use Rattle.image.specs.Holding.{HoldsSuch, Becomes};
 ghost use Rattle.step.specs.Events.{Next};
 use octets::numbers::num16;
 use queue::entering::enter;
@@ -36,7 +36,7 @@ pub fn yellow(state: &mut [u8], head: ActionHead, payload: &[u8])
     requires { ⌜ HoldsSuch (λ s. Delivered s (actionOf head (now payload))) (now state) ⌝ }
     ensures { λ _. ⌜ Becomes (yellowed (actionOf head (now (payload .entry)))) (now (state .entry)) (now (state .exit)) ⌝ }
 {
-    let cut = num16(state, State::SIZE + 2 * head.creator as usize);
+    let cut = num16(state, State::SIZE + State::CUT * head.creator as usize);
     if cut as u32 + 1 != head.index as u32 {
         return;
     }

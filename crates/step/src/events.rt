@@ -7,9 +7,8 @@ ghost use Rattle.format.specs.Types.{Action, action, retransmission, cpc, regul
 ghost use Rattle.record.specs.Values.{actionOf};
 ghost use Rattle.replication.specs.Machine.Types.{Mode, Server};
 ghost use Rattle.replication.specs.Machine.Rules.{onAction, onRetransmission, onCpc, fromMember};
-ghost use Rattle.engine.specs.Image.{modeNumber};
-ghost use Rattle.engine.specs.Header.{headerOf};
-ghost use Rattle.engine.specs.Holding.{HoldsSuch};
+ghost use Rattle.image.specs.Header.{headerOf, modeNumber};
+ghost use Rattle.image.specs.Holding.{HoldsSuch};
 ghost use Rattle.outgoing.specs.Lent.{LentSuch};
 ghost use Rattle.step.specs.Answers.{InForce, StateInForce, AnswersTo, AnswersToAlone};
 ghost use Rattle.step.specs.Events.{Takes, Colours, FromMember, AnswersState};
@@ -26,19 +25,22 @@ use crate::joining::join;
 use crate::joining::join_unmarked;
 use crate::joining::join_yellow;
 use crate::requests::request;
+use base::refusals::NOT_FROM_HERE;
+use base::refusals::NOT_NOW;
+use base::refusals::QUOTA_USED;
+use guards::NO_MODE;
+use guards::after_transitional;
+use guards::cpc_in;
+use guards::is_member;
+use guards::is_of;
+use guards::numbered_own;
+use guards::quota_left;
+use guards::regular_due;
+use guards::state_in;
+use guards::transitional_due;
 use queue::entering::red;
 use record::ActionHead;
 use record::State;
-use rows::NO_MODE;
-use rows::after_transitional;
-use rows::cpc_in;
-use rows::is_member;
-use rows::is_of;
-use rows::numbered_own;
-use rows::quota_left;
-use rows::regular_due;
-use rows::state_in;
-use rows::transitional_due;
 use updates::membership::leave;
 
 // An action that rows 5 and 6 let pass; `mode` is the state's number.
@@ -82,13 +84,13 @@ pub fn on_action(state: &mut [u8], h: State, head: ActionHead, payload: &[u8]) -
     ensures { λ r. ⌜ AnswersToAlone (action (actionOf head (now (payload .entry)))) r state ⌝ }
 {
     if !takes_action(h.mode) {
-        return Answer::refused(5);
+        return Answer::refused(NOT_NOW);
     }
     if !numbered_own(h, head.creator, head.index) {
-        return Answer::refused(5);
+        return Answer::refused(NOT_NOW);
     }
     if !is_member(h, head.creator) {
-        return Answer::refused(6);
+        return Answer::refused(NOT_FROM_HERE);
     }
     colour(state, h.mode, head, payload)
 }
@@ -117,13 +119,13 @@ pub fn on_retransmission(
     ensures { λ r. ⌜ AnswersTo (retransmission sender position (actionOf head (now (payload .entry)))) r state out ⌝ }
 {
     if !takes_retransmission(h.mode) {
-        return Answer::refused(5);
+        return Answer::refused(NOT_NOW);
     }
     if !numbered_own(h, head.creator, head.index) {
-        return Answer::refused(5);
+        return Answer::refused(NOT_NOW);
     }
     if !is_member(h, sender) {
-        return Answer::refused(6);
+        return Answer::refused(NOT_FROM_HERE);
     }
     if h.mode == State::EXCHANGE_ACTIONS {
         return exchange(state, out, position, head, payload);
@@ -155,10 +157,10 @@ pub fn on_state(state: &mut [u8], out: &mut [u8], h: State, k: u8, id: u32, even
         return Answer::quiet();
     }
     if h.mode != State::EXCHANGE_STATES {
-        return Answer::refused(5);
+        return Answer::refused(NOT_NOW);
     }
     if !state_from_member(h, k, id) {
-        return Answer::refused(6);
+        return Answer::refused(NOT_FROM_HERE);
     }
     collect(state, out, k, event)
 }
@@ -197,10 +199,10 @@ pub fn on_cpc(state: &mut [u8], out: &mut [u8], h: State, k: u8, id: u32) -> Ans
         return Answer::quiet();
     }
     if !takes_cpc(h.mode) {
-        return Answer::refused(5);
+        return Answer::refused(NOT_NOW);
     }
     if !cpc_from_member(h, k, id) {
-        return Answer::refused(6);
+        return Answer::refused(NOT_FROM_HERE);
     }
     if h.mode == State::CONSTRUCT {
         return collect_cpc(state, out, k);
@@ -214,7 +216,7 @@ pub fn on_regular(state: &mut [u8], out: &mut [u8], h: State, id: u32, set: u8) 
     ensures { λ r. ⌜ AnswersTo (regular id set) r state out ⌝ }
 {
     if !regular_due(h) {
-        return Answer::refused(5);
+        return Answer::refused(NOT_NOW);
     }
     let mode = h.mode;
     match mode {
@@ -222,7 +224,7 @@ pub fn on_regular(state: &mut [u8], out: &mut [u8], h: State, id: u32, set: u8) 
         State::UN => join(state, out, id, set),
         State::NO => join_unmarked(state, out, id, set),
         State::TRANS_PRIM => join_yellow(state, out, id, set),
-        _ => Answer::refused(5),
+        _ => Answer::refused(NOT_NOW),
     }
 }
 
@@ -232,10 +234,10 @@ pub fn on_transitional(state: &mut [u8], h: State, set: u8) -> Answer
 {
     let mode = after_transitional(h.mode);
     if mode == NO_MODE {
-        return Answer::refused(5);
+        return Answer::refused(NOT_NOW);
     }
     if !transitional_due(h) {
-        return Answer::refused(5);
+        return Answer::refused(NOT_NOW);
     }
     leave(state, mode, set);
     Answer::quiet()
@@ -246,7 +248,7 @@ pub fn on_request(state: &mut [u8], out: &mut [u8], h: State, payload: &[u8]) ->
     ensures { λ r. ⌜ AnswersTo (requestRecord (now (payload .entry))) r state out ⌝ }
 {
     if !quota_left(h) {
-        return Answer::refused(3);
+        return Answer::refused(QUOTA_USED);
     }
     request(state, out, h, payload)
 }

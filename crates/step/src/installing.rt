@@ -8,7 +8,7 @@ ghost use Rattle.replication.specs.Machine.Install.{install as installed};
 ghost use Rattle.replication.specs.Machine.Step.{installing, collectCpc};
 ghost use Rattle.replication.specs.Machine.WellFormedFacts.{Configured};
 ghost use Rattle.replication.specs.Laws.RuleFits.{Delivered};
-ghost use Rattle.engine.specs.Holding.{HoldsSuch, Becomes};
+ghost use Rattle.image.specs.Holding.{HoldsSuch, Becomes};
 ghost use Rattle.outgoing.specs.Lent.{LentSuch};
 ghost use Rattle.step.specs.Answers.{Installs, withLateCpc, AnswersBy, AnswersFor};
 ghost use Rattle.updates.specs.Lists.{BecomesIn};

@@ -1,6 +1,6 @@
 // One event at one server, over the lent buffers.
 ghost use mathlib.Core.Path.{_≡_};
-ghost use Rattle.engine.specs.Outcome.{stepOn};
+ghost use Rattle.image.specs.Outcome.{stepOn};
 ghost use Rattle.step.specs.Answers.{answered, refusedWith, quietly, storedFirst, sentOnly};
 
 pub mod colours; // colours.rt: actions that a state colours
@@ -69,8 +69,7 @@ impl Answer {
 }
 
 // One event at one server: the state's own number first, then the event.
-#[no_mangle]
-pub extern "C" fn guzbytor_step(state: &mut [u8], event: &[u8], out: &mut [u8]) -> Answer
+pub fn step_on(state: &mut [u8], event: &[u8], out: &mut [u8]) -> Answer
     ensures { λ r. ⌜ answered r (now (state .exit)) (now (out .exit)) ≡ stepOn (now (state .entry)) (now (event .entry)) (now (out .entry)) ⌝ }
 {
     let number = state_number(state, out);

@@ -6,9 +6,9 @@ ghost use Rattle.outgoing.specs.Lent.{LentSuch};
 ghost use Rattle.step.specs.Answers.{AnswersBy, AnswersFor};
 ghost use Rattle.step.specs.Events.{Asked};
 use crate::Answer;
+use guards::sends_now;
 use outgoing::sending::send_records;
 use record::State;
-use rows::sends_now;
 use updates::requests::number;
 use updates::requests::send_waiting;
 

@@ -3,8 +3,8 @@ ghost use mathlib.Core.Path.{_≡_};
 ghost use Rattle.base.specs.Bytes.{partAt};
 ghost use Rattle.format.specs.Types.{action as actionRecord, retransmission, request, recovery};
 ghost use Rattle.record.specs.Events.{actionFrom, recordOf};
-ghost use Rattle.engine.specs.Outcome.{stateNumber, stepOn};
-ghost use Rattle.engine.specs.Holding.{HoldsSuch};
+ghost use Rattle.image.specs.Outcome.{stateNumber, stepOn};
+ghost use Rattle.image.specs.Holding.{HoldsSuch};
 ghost use Rattle.outgoing.specs.Lent.{LentSuch};
 ghost use Rattle.step.specs.Answers.{answered, InForce, AnswersTo, AnswersToAlone};
 ghost use Rattle.step.specs.Events.{PartInForce, ReadInForce, numberOf, ActionInForce};
@@ -16,12 +16,12 @@ use crate::events::on_request;
 use crate::events::on_retransmission;
 use crate::events::on_state;
 use crate::events::on_transitional;
-use engine::header::load;
+use image::header::load;
+use reader::Reading;
+use reader::read;
 use record::State;
 use record::events::ActionAt;
 use record::events::Event;
-use record::reader::Reading;
-use record::reader::read;
 use updates::recovery::recover;
 
 fn act(state: &mut [u8], h: State, a: ActionAt, event: &[u8]) -> Answer

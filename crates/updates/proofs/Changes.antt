@@ -1,5 +1,4 @@
 -- From a buffer that holds a state to the image of another.
--- Assumes nothing.
 use Prim.Native.Nat.{ℕ, _<_}
 use mathlib.Core.Path.{_≡_, ap, ap₂, subst, _∙_}
 use mathlib.Core.List.{List, [], _++_}
@@ -8,11 +7,11 @@ use Rattle.base.specs.Bytes.{joined}
 use Rattle.base.proofs.Occurs.{Occurs}
 use Rattle.base.specs.Patched.{patched}
 use Rattle.replication.specs.Machine.Types.{Server}
-use Rattle.engine.specs.Layout.{sections, offset, stateLength, sectionCount}
-use Rattle.engine.specs.Image.{parts, image}
-use Rattle.engine.proofs.Decoded.{image-part}
-use Rattle.engine.proofs.Fit.{well-formed-fits}
-use Rattle.engine.specs.Holding.{Holds}
+use Rattle.image.specs.Layout.{sections, offset, stateLength, sectionCount}
+use Rattle.image.specs.Image.{parts, image}
+use Rattle.image.proofs.Decoded.{image-part}
+use Rattle.image.proofs.Fit.{well-formed-fits}
+use Rattle.image.specs.Holding.{Holds}
 use Rattle.queue.proofs.Inside.{Changed}
 
 -- Where the parts have become those of t.

@@ -1,6 +1,5 @@
 -- The premises of the operations can be met: a start of two servers with the quota 1, in any buffer that is long enough.
--- Assumes nothing.
-use Prim.Native.Nat.{ℕ, _≤_, _<_}
+use Prim.Native.Nat.{ℕ, _≤_}
 use mathlib.Core.Path.{_≡_, refl}
 use mathlib.Core.Bool.{true}
 use mathlib.Core.List.{List}
@@ -13,12 +12,12 @@ use Rattle.replication.specs.Machine.Types.{Server, start, contextOf}
 use Rattle.replication.specs.Machine.Requests.{quotaLeft}
 use Rattle.replication.specs.Machine.WellFormed.{wellFormed}
 use Rattle.replication.proofs.WellFormed.Runs.{start-well-formed}
-use Rattle.engine.specs.Layout.{stateLength}
-use Rattle.engine.specs.Image.{image}
-use Rattle.engine.proofs.ImageLaws.{image-again, image-length}
-use Rattle.engine.specs.Holding.{Holds}
-use Rattle.engine.specs.Counts.{CountsIn}
-use Rattle.engine.proofs.Counts.{holds-counts}
+use Rattle.image.specs.Layout.{stateLength}
+use Rattle.image.specs.Image.{image}
+use Rattle.image.proofs.ImageLaws.{image-again, image-length}
+use Rattle.image.specs.Holding.{Holds}
+use Rattle.image.specs.Counts.{CountsIn}
+use Rattle.image.proofs.Counts.{holds-counts}
 
 abbrev first : Server
 first = start 2 1 0

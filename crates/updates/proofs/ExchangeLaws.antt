@@ -1,5 +1,4 @@
 -- Exchanges in place.
--- Assumes nothing.
 use Prim.Native.Nat.{ℕ, _*_, _≤_}
 use mathlib.Core.Path.{_≡_, refl, ap, _∙_}
 use mathlib.Core.List.{List}
@@ -15,19 +14,19 @@ use Rattle.record.specs.declared.State.{State}
 use Rattle.replication.specs.Machine.Types.{Votes, Configuration, Server, withVotes, withNoted, contextOf}
 use Rattle.replication.specs.Machine.Exchange.{noteAll, takenVotes, attempted}
 use Rattle.replication.specs.Machine.Step.{oneMore, resending, attempting, collected, decided, theSet}
-use Rattle.engine.specs.Image.{image}
-use Rattle.engine.specs.Decode.{serversIn, quotaIn}
-use Rattle.engine.specs.Header.{headerOf, headerIn, setOf}
-use Rattle.engine.proofs.HeaderLaws.{header-loaded}
-use Rattle.engine.proofs.InRange.{in-range}
-use Rattle.engine.specs.Holding.{Holds, HoldsSome, HoldsSuch}
+use Rattle.image.specs.Image.{image}
+use Rattle.image.specs.Decode.{serversIn, quotaIn}
+use Rattle.image.specs.Header.{headerOf, headerIn, setOf}
+use Rattle.image.proofs.HeaderLaws.{header-loaded}
+use Rattle.image.proofs.InRange.{in-range}
+use Rattle.image.specs.Holding.{Holds, HoldsSome, HoldsSuch}
 use Rattle.updates.specs.declared.votes.VoteNumbers.{VoteNumbers}
 use Rattle.updates.specs.Lists.{YellowRoom}
 use Rattle.updates.specs.Standing.{voteNumbers, dropped}
-use Rattle.engine.proofs.Chained.{then-holds, Covers, numbers-first, lists-chained}
+use Rattle.image.proofs.Chained.{then-holds, Covers, numbers-first, lists-chained}
 use Rattle.updates.proofs.MembershipLaws.{Saved, membership-kept}
 use Rattle.updates.proofs.NoteAllLaws.{all-formed}
-use Rattle.engine.proofs.Counts.{numbers, holds-counts}
+use Rattle.image.proofs.Counts.{numbers, holds-counts}
 use Rattle.format.specs.Places.{idSize}
 
 -- ---- numbers only

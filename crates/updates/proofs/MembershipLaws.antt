@@ -1,5 +1,4 @@
 -- Changes of a state's membership in place.
--- Assumes nothing.
 use Prim.Native.Nat.{ℕ, zero, suc, _+_}
 use mathlib.Core.Path.{_≡_, refl, sym, ap, _∙_}
 use mathlib.Core.List.{List}
@@ -10,10 +9,10 @@ use Rattle.base.specs.Lists.{isThere, Begins}
 use Rattle.record.specs.declared.State.{State}
 use Rattle.replication.specs.Machine.Types.{Log, Votes, Mode, Membership, Server, withVotes, inMode, noStates}
 use Rattle.replication.specs.Machine.Step.{entering, leave, withCpc, unmarked, yellowValid}
-use Rattle.engine.specs.Image.{modeNumber, senders, image}
-use Rattle.engine.specs.Header.{headerOf, headerIn}
-use Rattle.engine.proofs.HeaderLaws.{header-loaded}
-use Rattle.engine.specs.Holding.{Holds}
+use Rattle.image.specs.Image.{image}
+use Rattle.image.specs.Header.{headerOf, headerIn, modeNumber, senders}
+use Rattle.image.proofs.HeaderLaws.{header-loaded}
+use Rattle.image.specs.Holding.{Holds}
 use Rattle.updates.specs.Lists.{changedTo, Shortened, configurationOf}
 
 -- No State is in.

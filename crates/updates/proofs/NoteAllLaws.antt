@@ -1,5 +1,4 @@
 -- The green lengths of all collected States noted, in place.
--- Assumes nothing.
 use Prim.Native.Nat.{ℕ, zero, suc, _+_, _*_, _≤_, _<_}
 use mathlib.Core.Path.{_≡_, refl, sym, ap, ap₂, subst, _∙_}
 use mathlib.Core.Bool.{Bool, true, false, not}
@@ -29,17 +28,17 @@ use Rattle.replication.proofs.WellFormed.Facts.{well-formed-facts, facts-well-f
 use Rattle.replication.proofs.WellFormed.Changes.{body, whole, noted-changed, collected-fit}
 use Rattle.replication.proofs.WellFormed.Decisions.{note-all-length, note-all-bound}
 use Rattle.replication.proofs.WellFormed.Kept.{mode-kept}
-use Rattle.engine.specs.Layout.{stateSize, theStates, atServers, atStates}
-use Rattle.engine.specs.Image.{image}
-use Rattle.engine.specs.Decode.{serversIn, quotaIn, statesAt, decoded, decodedAs}
-use Rattle.engine.specs.Holding.{Holds, HoldsSome}
-use Rattle.engine.proofs.InPlace.{holds-decoded, holds-header}
+use Rattle.image.specs.Layout.{stateSize, theStates, atServers, atStates}
+use Rattle.image.specs.Image.{image}
+use Rattle.image.specs.Decode.{serversIn, quotaIn, statesAt, decoded, decodedAs}
+use Rattle.image.specs.Holding.{Holds, HoldsSome}
+use Rattle.image.proofs.InPlace.{holds-decoded, holds-header}
 use Rattle.updates.specs.Lists.{NumberIn, statePlace}
 use Rattle.updates.specs.Noting.{noteSlot, noteFirst, sentLength}
-use Rattle.engine.proofs.Chained.{then-holds, Covers, numbers-first, lists-chained}
+use Rattle.image.proofs.Chained.{then-holds, Covers, numbers-first, lists-chained}
 use Rattle.format.specs.Places.{stateCutsAt}
-use Rattle.engine.specs.Counts.{place}
-use Rattle.engine.proofs.Counts.{numbers, holds-counts}
+use Rattle.image.specs.Counts.{place}
+use Rattle.image.proofs.Counts.{numbers, holds-counts}
 use Rattle.updates.proofs.StateLaws.{state-room}
 
 -- ---- slot by slot

@@ -1,5 +1,4 @@
 -- Noted lengths in place.
--- Assumes nothing.
 use Prim.Native.Nat.{ℕ, zero, suc, _+_, _*_, _≤_, _<_, max}
 use mathlib.Core.Path.{_≡_, refl, sym, ap, _∙_}
 use mathlib.Core.List.{List, [], _∷_, _++_}
@@ -13,20 +12,21 @@ use Rattle.base.specs.Patched.{patched}
 use Rattle.base.proofs.Sections.{begin}
 use Rattle.replication.specs.Machine.Types.{Server, withNoted}
 use Rattle.replication.specs.Machine.Colours.{note}
-use Rattle.engine.specs.Layout.{theNoted, sections, offset}
-use Rattle.engine.specs.Image.{headerBytes, notedBytes, section, parts, image}
-use Rattle.engine.specs.Decode.{serversIn, decoded, decodedAs}
-use Rattle.engine.proofs.InRange.{in-range}
-use Rattle.engine.proofs.Used.{noted-length}
-use Rattle.engine.specs.Holding.{Holds}
-use Rattle.engine.proofs.InPlace.{holds-decoded}
+use Rattle.image.specs.Layout.{theNoted, sections, offset}
+use Rattle.image.specs.Header.{headerOf}
+use Rattle.image.specs.Image.{headerBytes, notedBytes, section, parts, image}
+use Rattle.image.specs.Decode.{serversIn, decoded, decodedAs}
+use Rattle.image.proofs.InRange.{in-range}
+use Rattle.image.proofs.Used.{noted-length}
+use Rattle.image.specs.Holding.{Holds}
+use Rattle.image.proofs.InPlace.{holds-decoded}
 use Rattle.base.proofs.Over.{over-changed}
 use Rattle.queue.proofs.Inside.{changed-at}
 use Rattle.queue.proofs.Holding.{holds-changed}
 use Rattle.updates.specs.Lists.{NumberIn}
 use Rattle.updates.proofs.Changes.{changed-image}
-use Rattle.engine.specs.Counts.{place}
-use Rattle.engine.proofs.Counts.{numbers, holds-place}
+use Rattle.image.specs.Counts.{place}
+use Rattle.image.proofs.Counts.{numbers, holds-place}
 
 -- ---- one of the numbers
 
@@ -68,7 +68,7 @@ note-kept b c l at old h e f g s r =
 -- It rises.
 pub note-raised : (b b₁ : List ℕ) (c l at old : ℕ) → NumberIn c b → at ≡ place theNoted b → old ≡ numberAt 4 b (at + 4 * c) → old < l
     → b₁ ≡ patched (at + 4 * c) (bytesOf 4 l) b → (s : Server) → Holds s b → b₁ ≡ image (withNoted (note c l (s .noted)) s) b
-unfolding sections parts sum offset note headerBytes
+unfolding sections parts sum offset note headerBytes headerOf
 note-raised b b₁ c l at old h e f g k s r =
     let n : ℕ = s .servers in
     let q : ℕ = s .quota in

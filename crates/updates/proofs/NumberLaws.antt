@@ -1,5 +1,4 @@
 -- Only the header is written: the other sections stay, where the lists are the same or shorter.
--- Assumes nothing.
 use Prim.Native.Nat.{ℕ, zero, suc, _<_}
 use mathlib.Core.Path.{_≡_, refl, sym, ap, _∙_}
 use mathlib.Core.List.{List, [], _∷_, _++_}
@@ -16,13 +15,13 @@ use Rattle.format.specs.Write.{idsBytes, cutsBytes}
 use Rattle.record.specs.declared.State.{State}
 use Rattle.replication.specs.Machine.Types.{Log, Votes, Membership, Server, noStates}
 use Rattle.replication.specs.Machine.WellFormed.{queue}
-use Rattle.engine.specs.Layout.{stateSize, theHeader, theCuts, theNoted, theStates, theYellow, theOwn, theQueue, sections, sectionCount}
-use Rattle.engine.specs.Image.{headerBytes, notedBytes, stateOver, statesOver, actionSlots, section, parts, image}
-use Rattle.engine.specs.Header.{headerOf, headerWritten}
-use Rattle.engine.proofs.Used.{header-length, slots-append, ids-append}
-use Rattle.engine.proofs.HeaderLaws.{header-written, written-length}
-use Rattle.engine.specs.Holding.{Holds}
-use Rattle.engine.proofs.InPlace.{holds-section, over-less}
+use Rattle.image.specs.Layout.{stateSize, theHeader, theCuts, theNoted, theStates, theYellow, theOwn, theQueue, sections, sectionCount}
+use Rattle.image.specs.Image.{headerBytes, notedBytes, stateOver, statesOver, actionSlots, section, parts, image}
+use Rattle.image.specs.Header.{headerOf, headerWritten}
+use Rattle.image.proofs.Used.{header-length, slots-append, ids-append, written-length}
+use Rattle.image.proofs.HeaderLaws.{header-written}
+use Rattle.image.specs.Holding.{Holds}
+use Rattle.image.proofs.InPlace.{holds-section, over-less}
 use Rattle.updates.specs.Lists.{changedTo, Shortened}
 use Rattle.updates.proofs.Changes.{changed-image}
 use Rattle.queue.proofs.Inside.{changed-at}

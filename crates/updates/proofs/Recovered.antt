@@ -1,5 +1,4 @@
 -- Recovery in place: the own list behind the queue, then the numbers.
--- Assumes nothing.
 use Prim.Native.Nat.{ℕ, zero, suc, _+_, _*_, _-_, _≤_, _<_}
 use mathlib.Core.Path.{_≡_, refl, sym, ap, ap₂, _∙_}
 use mathlib.Core.Bool.{true}
@@ -25,25 +24,25 @@ use Rattle.replication.proofs.WellFormed.Changes.{body}
 use Rattle.replication.proofs.WellFormed.Effects.{recovered-body}
 use Rattle.replication.proofs.WellFormed.Facts.{well-formed-facts}
 use Rattle.replication.proofs.WellFormed.Logs.{LogFits, ownId}
-use Rattle.engine.specs.Layout.{theHeader, theCuts, theOwn, theQueue, sections, offset, headerSize, atMe, atQueueLength, atNumbered, atOwnCount, slotSize}
-use Rattle.engine.specs.Image.{headerBytes, actionSlots, section, parts, image, fields}
-use Rattle.engine.proofs.InRange.{in-range}
-use Rattle.engine.proofs.Fit.{well-formed-fits}
-use Rattle.engine.proofs.Used.{action-slots-length, slots-append}
-use Rattle.engine.specs.Holding.{Holds, HoldsSome}
-use Rattle.engine.proofs.InPlace.{holds-section}
-use Rattle.engine.proofs.Fields.{theQueueCount, theOwnCount, two-fields}
+use Rattle.image.specs.Layout.{theHeader, theCuts, theOwn, theQueue, sections, offset, headerSize, atMe, atQueueLength, atNumbered, atOwnCount, slotSize}
+use Rattle.image.specs.Image.{headerBytes, actionSlots, section, parts, image}
+use Rattle.image.proofs.InRange.{in-range}
+use Rattle.image.proofs.Fit.{well-formed-fits}
+use Rattle.image.proofs.Used.{action-slots-length, slots-append}
+use Rattle.image.specs.Holding.{Holds, HoldsSome}
+use Rattle.image.proofs.InPlace.{holds-section}
+use Rattle.image.proofs.Fields.{opened-header}
 use Rattle.queue.proofs.Holding.{log-fits, log-formed, holds-changed}
 use Rattle.base.proofs.Over.{over-extended, over-changed}
 use Rattle.queue.proofs.Inside.{changed-at}
 use Rattle.queue.proofs.SlotLaws.{cut-set}
 use Rattle.updates.specs.Standing.{EnterRoom, dropped}
 use Rattle.updates.proofs.Changes.{changed-image, part-here}
-use Rattle.engine.proofs.Chained.{then-holds, Covers, lists-chained}
+use Rattle.image.proofs.Chained.{then-holds, Covers, lists-chained}
 use Rattle.updates.proofs.NumberLaws.{begun}
 use Rattle.updates.proofs.RecoveryLaws.{Following, log, all-entered}
-use Rattle.engine.specs.Counts.{place, mostActions}
-use Rattle.engine.proofs.Counts.{numbers, holds-counts, holds-place}
+use Rattle.image.specs.Counts.{place, mostActions}
+use Rattle.image.proofs.Counts.{numbers, holds-counts, holds-place}
 
 -- ---- the own list
 
@@ -97,8 +96,9 @@ no-slots : (l : List Action) → actionSlots l ≡ actionSlots [] ++ actionSlots
 no-slots l = slots-append [] l
 
 counts-entered : (s : Server) (x : ℕ) → x ≡ length (queue (entered s))
-    → set (set (fields s) theQueueCount (bytesOf 4 x)) theOwnCount (bytesOf 2 0) ≡ fields (withLog (entered s) s)
-counts-entered s x e = ap (λ (k : ℕ). set (set (fields s) theQueueCount (bytesOf 4 k)) theOwnCount (bytesOf 2 0)) e
+    → patched atOwnCount (bytesOf 2 0) (patched atQueueLength (bytesOf 4 x) (headerBytes s)) ≡ headerBytes (withLog (entered s) s)
+unfolding opened-header
+counts-entered s x e = ap (λ (k : ℕ). patched atOwnCount (bytesOf 2 0) (patched atQueueLength (bytesOf 4 k) (headerBytes s))) e
 
 -- ---- as the code does it
 
@@ -163,8 +163,7 @@ own-entered b b₁ b₂ own count from to me c e₁ e₂ e₃ e₄ e₅ e₆ e�
     over-changed (cutsBytes (s .log .cuts)) w (section n q theCuts b) (2 * me) (omega (arith, cuts-length (s .log .cuts), bytes-length 2 c))
     ∙ ap (λ (v : List ℕ). over v (section n q theCuts b)) (cut-set (s .log .cuts) me c low ∙ raised) in
     let total : count + own ≡ length (queue (entered s)) = omega (arith, entered-count s) in
-    let header : patched atOwnCount z (patched atQueueLength y (headerBytes s)) ≡ headerBytes t =
-    two-fields s t theQueueCount theOwnCount y z (omega arith) (omega arith) (bytes-length 4 _) (bytes-length 2 0) (counts-entered s (count + own) total) in
+    let header : patched atOwnCount z (patched atQueueLength y (headerBytes s)) ≡ headerBytes t = counts-entered s (count + own) total in
     e₈
     ∙ ap (λ (v : List ℕ). patched (headerSize + 2 * me) w (patched atOwnCount z (patched atQueueLength y v))) e₇
     ∙ changed-image t _ b _ c₄ (λ j. set (set (set (set (parts n q s b) theQueue (more j)) theHeader (header j)) theCuts (cuts j)) theOwn (none j))

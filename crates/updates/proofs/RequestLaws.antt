@@ -1,6 +1,5 @@
 -- Requests in place: numbered, and sent.
--- Assumes nothing.
-use Prim.Native.Nat.{ℕ, _+_, _*_, _-_, _≤_, _<_}
+use Prim.Native.Nat.{ℕ, _+_, _*_, _≤_, _<_}
 use mathlib.Core.Path.{_≡_, refl, sym, ap, ap₂, _∙_}
 use mathlib.Core.Bool.{true}
 use mathlib.Core.List.{List, [], _∷_, _++_, map}
@@ -28,22 +27,22 @@ use Rattle.replication.specs.Machine.Colours.{cut}
 use Rattle.replication.specs.Machine.Requests.{quotaLeft, madeOf, numbered, sendWaiting}
 use Rattle.replication.specs.Machine.WellFormed.{idsIn, queue}
 use Rattle.replication.proofs.WellFormed.Facts.{well-formed-facts}
-use Rattle.engine.specs.Layout.{slotSize, theHeader, theOwn, sections, offset, atMe, atGreenLength, atNumbered, atOwnCount}
-use Rattle.engine.specs.Header.{headerOf, headerIn}
-use Rattle.engine.specs.Image.{headerBytes, actionSlots, section, parts, image, fields}
-use Rattle.engine.proofs.Fit.{well-formed-fits}
-use Rattle.engine.proofs.HeaderLaws.{header-loaded}
-use Rattle.engine.proofs.Used.{action-slots-length, slots-append}
-use Rattle.engine.specs.Holding.{Holds}
-use Rattle.engine.proofs.Fields.{theOwnCount, theNumbered, two-fields}
+use Rattle.image.specs.Layout.{slotSize, theHeader, theOwn, sections, offset, atMe, atGreenLength, atNumbered, atOwnCount}
+use Rattle.image.specs.Header.{headerOf, headerIn}
+use Rattle.image.specs.Image.{headerBytes, actionSlots, section, parts, image}
+use Rattle.image.proofs.Fit.{well-formed-fits}
+use Rattle.image.proofs.HeaderLaws.{header-loaded}
+use Rattle.image.proofs.Used.{action-slots-length, slots-append}
+use Rattle.image.specs.Holding.{Holds}
+use Rattle.image.proofs.Fields.{opened-header}
 use Rattle.queue.proofs.Holding.{holds-changed}
 use Rattle.queue.proofs.Inside.{changed-at}
 use Rattle.queue.proofs.SlotLaws.{slots-one}
 use Rattle.updates.specs.Lists.{nextHead, PayloadRoom}
 use Rattle.updates.proofs.Changes.{changed-image}
 use Rattle.updates.proofs.MembershipLaws.{Saved}
-use Rattle.engine.specs.Counts.{place}
-use Rattle.engine.proofs.Counts.{holds-place, numbers}
+use Rattle.image.specs.Counts.{place}
+use Rattle.image.proofs.Counts.{holds-place, numbers}
 
 -- The own list is no longer than what was numbered.
 pub own-short : (s : Server) (b : List ℕ) → Holds s b → length (s .log .own) ≤ s .log .numbered
@@ -70,9 +69,9 @@ head-made s b p r =
     λ i. record { id = record { creator = h i .me; index = h i .numbered + 1 }; greenLength = h i .«green_length»; payload = p }
 
 counts-written : (s : Server) (p : List ℕ) (x y : ℕ) → x ≡ s .log .numbered + 1 → y ≡ length (s .log .own ++ (madeOf p s ∷ []))
-    → set (set (fields s) theNumbered (bytesOf 2 x)) theOwnCount (bytesOf 2 y) ≡ fields (numbered p s)
-unfolding numbered queue
-counts-written s p x y e f = ap₂ {A = ℕ} {B = ℕ} {C = List (List ℕ)} (λ u v. set (set (fields s) theNumbered (bytesOf 2 u)) theOwnCount (bytesOf 2 v)) e f
+    → patched atOwnCount (bytesOf 2 y) (patched atNumbered (bytesOf 2 x) (headerBytes s)) ≡ headerBytes (numbered p s)
+unfolding numbered queue opened-header
+counts-written s p x y e f = ap₂ {A = ℕ} {B = ℕ} {C = List ℕ} (λ u v. patched atOwnCount (bytesOf 2 v) (patched atNumbered (bytesOf 2 u) (headerBytes s))) e f
 
 action-short : (h : ActionHead) (p : List ℕ) → length p ≤ mostPayload → length (actionBytes (actionOf h p)) ≤ slotSize
 unfolding actionOf
@@ -106,7 +105,7 @@ request-numbered p b b₁ at own num h room e₁ e₂ e₃ e₄ e₅ s r left =
     let more : own + 1 ≡ length (list ++ (madeOf p s ∷ [])) = omega (arith, count, length-append list (madeOf p s ∷ []), ap length made) in
     let less : num + 1 ≡ s .log .numbered + 1 = omega (arith, nums) in
     let header : patched atOwnCount (bytesOf 2 (own + 1)) (patched atNumbered (bytesOf 2 (num + 1)) (headerBytes s)) ≡ headerBytes t =
-    two-fields s t theNumbered theOwnCount (bytesOf 2 (num + 1)) (bytesOf 2 (own + 1)) (omega arith) (omega arith) (bytes-length 2 _) (bytes-length 2 _) (counts-written s p (num + 1) (own + 1) less more) in
+    counts-written s p (num + 1) (own + 1) less more in
     e₅
     ∙ changed-image t _ b _ three (ap₂ {A = List ℕ} {B = List ℕ} {C = List (List ℕ)} (λ u v. set (set (parts n q s b) theOwn v) theHeader u) header slots)
 

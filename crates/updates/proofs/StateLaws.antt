@@ -1,5 +1,4 @@
 -- A collected State in place.
--- Assumes nothing.
 use Prim.Native.Nat.{ℕ, zero, suc, _+_, _*_, _≤_, _<_}
 use mathlib.Core.Path.{_≡_, refl, sym, ap, ap₂, _∙_}
 use mathlib.Core.Bool.{Bool, true, false}
@@ -23,25 +22,25 @@ use Rattle.format.specs.Types.{State, state}
 use Rattle.format.specs.Write.{write}
 use Rattle.replication.specs.Machine.Types.{Server, contextOf}
 use Rattle.replication.specs.Machine.Step.{withState}
-use Rattle.engine.specs.Layout.{stateSize, theHeader, theStates, sections, sectionSize, offset, stateLength, atServers, atQuota, atStates, mostStateSize, mostStatesAt}
-use Rattle.engine.specs.Image.{headerBytes, senders, stateOver, statesOver, section, parts, image, fields}
+use Rattle.image.specs.Layout.{stateSize, theHeader, theStates, sections, sectionSize, offset, stateLength, atServers, atQuota, atStates, mostStateSize, mostStatesAt}
+use Rattle.image.specs.Image.{headerBytes, stateOver, statesOver, section, parts, image}
 use Rattle.record.specs.declared.State.{State as Numbers}
-use Rattle.engine.specs.Header.{headerOf, headerIn}
-use Rattle.engine.proofs.HeaderLaws.{header-loaded}
-use Rattle.engine.specs.Decode.{serversIn, quotaIn}
-use Rattle.engine.proofs.Fit.{well-formed-fits, section-length}
-use Rattle.engine.proofs.InRange.{in-range}
-use Rattle.engine.proofs.Used.{StateFits, state-over-length, first-slot, more-slots}
-use Rattle.engine.proofs.Slots.{in-senders, senders-below}
-use Rattle.engine.specs.Holding.{Holds}
-use Rattle.engine.proofs.InPlace.{holds-section}
-use Rattle.engine.proofs.Fields.{theSenders, one-field}
+use Rattle.image.specs.Header.{headerOf, headerIn, senders}
+use Rattle.image.proofs.HeaderLaws.{header-loaded}
+use Rattle.image.specs.Decode.{serversIn, quotaIn}
+use Rattle.image.proofs.Fit.{well-formed-fits, section-length}
+use Rattle.image.proofs.InRange.{in-range}
+use Rattle.image.proofs.Used.{StateFits, state-over-length, first-slot, more-slots}
+use Rattle.image.proofs.Slots.{in-senders, senders-below}
+use Rattle.image.specs.Holding.{Holds}
+use Rattle.image.proofs.InPlace.{holds-section}
+use Rattle.image.proofs.Fields.{opened-header}
 use Rattle.queue.proofs.Holding.{holds-changed}
 use Rattle.queue.proofs.Inside.{changed-at}
 use Rattle.updates.specs.Lists.{NumberIn, CollectRoom, statePlace, stateSlot}
 use Rattle.updates.proofs.Changes.{changed-image}
-use Rattle.engine.specs.Counts.{place}
-use Rattle.engine.proofs.Counts.{numbers, holds-place}
+use Rattle.image.specs.Counts.{place}
+use Rattle.image.proofs.Counts.{numbers, holds-place}
 use mir.Syntax.{w64}
 use mir.Val.{Fits}
 use Rattle.format.specs.Places.{stateCutsAt}
@@ -131,9 +130,9 @@ unfolding headerIn headerOf
 senders-read s b r = ap (λ (h : Numbers). h .states) (header-loaded s b r)
 
 senders-written : (s : Server) (x : State) (m : ℕ) → m ≡ senders 0 (set (s .membership .states) (x .sender) (some x))
-    → set (fields s) theSenders (bytesOf 1 m) ≡ fields (withState x s)
-unfolding withState
-senders-written s x m e = ap (λ (k : ℕ). set (fields s) theSenders (bytesOf 1 k)) e
+    → patched atStates (bytesOf 1 m) (headerBytes s) ≡ headerBytes (withState x s)
+unfolding withState opened-header
+senders-written s x m e = ap (λ (k : ℕ). patched atStates (bytesOf 1 k) (headerBytes s)) e
 
 pub state-collected : (k : ℕ) (e b b₁ : List ℕ) (at m : ℕ) → CollectRoom k e b → at ≡ statePlace k b
     → m ≡ withMember k (numberAt 1 b atStates) → b₁ ≡ patched atStates (bytesOf 1 m) (patched at e b)
@@ -168,8 +167,7 @@ state-collected k e b b₁ at m room e₁ e₂ e₃ s x r w from =
     ∙ state-put size xs (x .sender) x sec (f .states) (omega (arith, long, ap (λ (z : ℕ). z * size) count)) sender record-short holds in
     let more : m ≡ senders 0 (set xs (x .sender) (some x)) =
     e₂ ∙ ap₂ {A = ℕ} {B = ℕ} {C = ℕ} (λ i z. withMember i z) (sym from) (senders-read s b r) ∙ sender-more xs (x .sender) x sender few in
-    let header : patched atStates (bytesOf 1 m) (headerBytes s) ≡ headerBytes t =
-    one-field s t theSenders (bytesOf 1 m) (omega arith) (bytes-length 1 _) (senders-written s x m more) in
+    let header : patched atStates (bytesOf 1 m) (headerBytes s) ≡ headerBytes t = senders-written s x m more in
     e₃ ∙ changed-image t _ b _ two (ap₂ {A = List ℕ} {B = List ℕ} {C = List (List ℕ)} (λ u v. set (set (parts n q s b) theStates v) theHeader u) header put)
 
 -- ---- the code's numbers

@@ -1,5 +1,4 @@
 -- Other votes in place.
--- Assumes nothing.
 use Prim.Native.Nat.{ℕ, _+_, _*_, _≤_}
 use mathlib.Core.Path.{_≡_, refl, sym, ap, ap₂, _∙_}
 use mathlib.Core.List.{List}
@@ -14,14 +13,14 @@ use Rattle.base.specs.Bytes.{over}
 use Rattle.format.specs.Write.{idsBytes}
 use Rattle.record.specs.declared.State.{State}
 use Rattle.replication.specs.Machine.Types.{Votes, Server, withVotes}
-use Rattle.engine.specs.Layout.{theHeader, theYellow, sections, offset, stateLength}
-use Rattle.engine.specs.Image.{headerBytes, section, parts, image}
-use Rattle.engine.specs.Decode.{serversIn, quotaIn}
-use Rattle.engine.specs.Header.{headerOf, headerIn, headerWritten}
-use Rattle.engine.proofs.HeaderLaws.{header-loaded, header-written, written-length}
-use Rattle.engine.proofs.Used.{header-length}
-use Rattle.engine.specs.Holding.{Holds}
-use Rattle.engine.proofs.InPlace.{holds-section}
+use Rattle.image.specs.Layout.{theHeader, theYellow, sections, offset, stateLength}
+use Rattle.image.specs.Image.{headerBytes, section, parts, image}
+use Rattle.image.specs.Decode.{serversIn, quotaIn}
+use Rattle.image.specs.Header.{headerOf, headerIn, headerWritten}
+use Rattle.image.proofs.HeaderLaws.{header-loaded, header-written}
+use Rattle.image.proofs.Used.{header-length, written-length}
+use Rattle.image.specs.Holding.{Holds}
+use Rattle.image.proofs.InPlace.{holds-section}
 use Rattle.queue.proofs.Holding.{holds-changed}
 use Rattle.base.proofs.Over.{over-front}
 use Rattle.queue.proofs.Inside.{changed-at}
@@ -29,8 +28,8 @@ use Rattle.updates.specs.declared.votes.VoteNumbers.{VoteNumbers}
 use Rattle.updates.specs.Lists.{YellowRoom}
 use Rattle.updates.specs.Standing.{voteNumbers}
 use Rattle.updates.proofs.Changes.{changed-image}
-use Rattle.engine.specs.Counts.{place}
-use Rattle.engine.proofs.Counts.{numbers, holds-place}
+use Rattle.image.specs.Counts.{place}
+use Rattle.image.proofs.Counts.{numbers, holds-place}
 
 pub votes-taken : (e b b₁ b₂ : List ℕ) (at : ℕ) (h t : State) (x : VoteNumbers) → YellowRoom e b → h ≡ headerIn b
     → ((s : Server) (w : Votes) → h ≡ headerOf s → x ≡ voteNumbers w → t ≡ headerOf (withVotes w s)) → at ≡ place theYellow b → b₁ ≡ patched at e b

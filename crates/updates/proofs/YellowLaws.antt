@@ -1,5 +1,4 @@
 -- The yellow list in place.
--- Assumes nothing.
 use Prim.Native.Nat.{ℕ, suc, _+_, _*_, _-_, _≤_, _<_}
 use mathlib.Core.Path.{_≡_, refl, sym, ap, ap₂, _∙_}
 use mathlib.Core.Bool.{Bool, true, false, not}
@@ -22,20 +21,20 @@ use Rattle.format.proofs.Lengths.{id-length, ids-length}
 use Rattle.format.proofs.IdCount.{ids-count}
 use Rattle.replication.specs.Machine.Types.{Server, Votes, contextOf, withVotes}
 use Rattle.replication.specs.Machine.Colours.{addId, joinYellow}
-use Rattle.engine.specs.Layout.{theHeader, theYellow, sections, offset, atYellowCount}
-use Rattle.engine.specs.Image.{headerBytes, section, parts, image, fields}
-use Rattle.engine.proofs.InRange.{in-range}
-use Rattle.engine.proofs.Used.{ids-append}
-use Rattle.engine.specs.Holding.{Holds}
+use Rattle.image.specs.Layout.{theHeader, theYellow, sections, offset, atYellowCount}
+use Rattle.image.specs.Image.{headerBytes, section, parts, image}
+use Rattle.image.proofs.InRange.{in-range}
+use Rattle.image.proofs.Used.{ids-append}
+use Rattle.image.specs.Holding.{Holds}
 use Rattle.updates.proofs.Changes.{changed-image}
 use Rattle.base.proofs.Over.{over-extended}
 use Rattle.queue.proofs.Inside.{changed-at}
 use Rattle.queue.proofs.Holding.{holds-changed}
-use Rattle.engine.proofs.Fields.{theYellowCount, one-field}
-use Rattle.engine.specs.Counts.{yellowCount, place}
-use Rattle.engine.proofs.Counts.{numbers, holds-place}
-use Rattle.engine.specs.Decode.{decoded, decodedAs}
-use Rattle.engine.proofs.InPlace.{holds-decoded}
+use Rattle.image.proofs.Fields.{opened-header}
+use Rattle.image.specs.Counts.{yellowCount, place}
+use Rattle.image.proofs.Counts.{numbers, holds-place}
+use Rattle.image.specs.Decode.{decoded, decodedAs}
+use Rattle.image.proofs.InPlace.{holds-decoded}
 use Rattle.format.specs.Places.{idSize}
 
 -- The yellow ids, as they are read from the buffer.
@@ -105,8 +104,10 @@ yellow-more s b d r ok new =
 abbrev pub withIds : List Id → Votes → Votes
 withIds l v = record { last = v .last; attempt = v .attempt; mark = v .mark; yellow = record { status = v .yellow .status; ids = l } }
 
-count-written : (s : Server) (l : List Id) (m : ℕ) → m ≡ length l → set (fields s) theYellowCount (bytesOf 2 m) ≡ fields (withVotes (withIds l (s .votes)) s)
-count-written s l m e = ap (λ (k : ℕ). set (fields s) theYellowCount (bytesOf 2 k)) e
+count-written : (s : Server) (l : List Id) (m : ℕ) → m ≡ length l
+    → patched atYellowCount (bytesOf 2 m) (headerBytes s) ≡ headerBytes (withVotes (withIds l (s .votes)) s)
+unfolding opened-header
+count-written s l m e = ap (λ (k : ℕ). patched atYellowCount (bytesOf 2 k) (headerBytes s)) e
 
 -- An id behind the last one, and the count.
 pub id-added : (s : Server) (b b₁ b₂ : List ℕ) (d : Id) → Holds s b → length (s .votes .yellow .ids) + 1 ≤ s .servers * s .quota
@@ -128,8 +129,7 @@ id-added s b b₁ b₂ d r room e₁ e₂ =
     over-extended (idsBytes ids) (idBytes d) (section n q theYellow b)
     ∙ ap (λ (y : List ℕ). over y (section n q theYellow b)) (ap (λ (y : List ℕ). idsBytes ids ++ y) (sym (ids-one d)) ∙ sym (ids-append ids (d ∷ []))) in
     let more : yellowCount b + 1 ≡ length (ids ++ (d ∷ [])) = omega (arith, count, length-append ids (d ∷ [])) in
-    let header : patched atYellowCount (bytesOf 2 (yellowCount b + 1)) (headerBytes s) ≡ headerBytes t =
-    one-field s t theYellowCount (bytesOf 2 (yellowCount b + 1)) (omega arith) (bytes-length 2 _) (count-written s (ids ++ (d ∷ [])) (yellowCount b + 1) more) in
+    let header : patched atYellowCount (bytesOf 2 (yellowCount b + 1)) (headerBytes s) ≡ headerBytes t = count-written s (ids ++ (d ∷ [])) (yellowCount b + 1) more in
     e₂
     ∙ ap (patched atYellowCount (bytesOf 2 (yellowCount b + 1))) e₁
     ∙ changed-image t _ b _ two (ap₂ {A = List ℕ} {B = List ℕ} {C = List (List ℕ)} (λ x y. set (set (parts n q s b) theYellow y) theHeader x) header list)

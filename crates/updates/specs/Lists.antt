@@ -1,5 +1,4 @@
 -- The lists of a state in its buffer: what the code that changes them in place goes by.
--- Assumes nothing.
 use Prim.Native.Nat.{ℕ, _+_, _*_, _≤_, _<_}
 use mathlib.Core.List.{List}
 use mathlib.Core.Path.{_≡_}
@@ -12,13 +11,13 @@ use Rattle.format.specs.Places.{idSize}
 use Rattle.record.specs.declared.ActionHead.{ActionHead}
 use Rattle.replication.specs.Machine.Types.{Log, Votes, Configuration, Membership, Server, noStates, Mode, contextOf, withVotes}
 use Rattle.replication.specs.Machine.WellFormed.{queue}
-use Rattle.engine.specs.Layout.{headerSize, stateSize, theStates, atMe, atOwnCount, atNumbered, atQueueLength, atYellowCount}
-use Rattle.engine.specs.Decode.{serversIn, quotaIn}
-use Rattle.engine.specs.Counts.{greenCount, numberedIn, place, mostActions, CountsIn}
+use Rattle.image.specs.Layout.{headerSize, stateSize, theStates, atMe, atOwnCount, atNumbered, atQueueLength, atYellowCount}
+use Rattle.image.specs.Decode.{serversIn, quotaIn}
+use Rattle.image.specs.Counts.{greenCount, numberedIn, place, mostActions, CountsIn}
 use Rattle.record.specs.declared.State.{State}
-use Rattle.engine.specs.Header.{headerOf}
-use Rattle.engine.specs.Image.{modeNumber, image}
-use Rattle.engine.specs.Holding.{Holds, BecomesWhere}
+use Rattle.image.specs.Header.{headerOf, modeNumber}
+use Rattle.image.specs.Image.{image}
+use Rattle.image.specs.Holding.{Holds, BecomesWhere}
 use Rattle.replication.specs.Machine.Colours.{joinYellow}
 use Rattle.replication.specs.Machine.Requests.{quotaLeft}
 use Rattle.replication.specs.Machine.Step.{withState}

@@ -1,16 +1,15 @@
 -- The collected States' green lengths noted, slot by slot.
--- Assumes nothing.
 use Prim.Native.Nat.{ℕ, _+_, _*_}
 use mathlib.Core.List.{List}
 use mathlib.Core.Option.{Option, none, some}
 use lib.ListN.{take, getD}
 use Rattle.base.specs.Bytes.{numberAt}
 use Rattle.base.specs.Lists.{present}
-use Rattle.format.specs.Places.{stateCutsAt}
+use Rattle.format.specs.Places.{cutSize, stateCutsAt}
 use Rattle.format.specs.Types.{State}
 use Rattle.replication.specs.Machine.Colours.{note}
 use Rattle.replication.specs.Machine.Exchange.{noteAll}
-use Rattle.engine.specs.Decode.{serversIn}
+use Rattle.image.specs.Decode.{serversIn}
 use Rattle.updates.specs.Lists.{statePlace}
 use Rattle.replication.specs.Machine.Types.{Server, withNoted}
 
@@ -29,4 +28,4 @@ noteFirst k xs noted = noteAll (present (take k xs)) noted
 
 -- The green length in the State of server k in the buffer b: behind the cuts.
 unfoldable pub sentLength : (k : ℕ) → List ℕ → ℕ
-sentLength k b = numberAt 4 b (statePlace k b + (stateCutsAt + 2 * serversIn b))
+sentLength k b = numberAt 4 b (statePlace k b + (stateCutsAt + cutSize * serversIn b))

@@ -1,27 +1,28 @@
 -- Room in a buffer, and changes of whole parts of a state.
--- Assumes nothing.
 use Prim.Native.Nat.{ℕ, _+_, _*_, _≤_}
 use mathlib.Core.List.{List}
 use mathlib.Core.Option.{none}
 use lib.ListN.{length}
 use Rattle.base.specs.Bytes.{numberAt}
 use Rattle.replication.specs.Machine.Types.{Non-prim, Votes, Server, withMembership, noStates, withVotes}
-use Rattle.engine.specs.Layout.{headerSize, slotSize, atMe, theQueue}
-use Rattle.engine.specs.Header.{lastOf, markNumbers}
+use Rattle.format.specs.Places.{cutSize}
+use Rattle.image.specs.Layout.{headerSize, slotSize, atMe, theQueue}
+use Rattle.image.specs.Header.{markNumbers}
+use Rattle.record.specs.Values.{lastOf}
 use Rattle.updates.specs.declared.votes.VoteNumbers.{VoteNumbers}
-use Rattle.engine.specs.Counts.{place, CountsIn, ownCount, queueCount}
+use Rattle.image.specs.Counts.{place, CountsIn, ownCount, queueCount}
 use mathlib.Core.Path.{_≡_}
 use Rattle.format.specs.Write.{idsBytes}
 use Rattle.replication.specs.Machine.Exchange.{takenVotes}
 use Rattle.replication.specs.Machine.Step.{collected, decided}
-use Rattle.engine.specs.Image.{image}
-use Rattle.engine.specs.Holding.{Holds}
+use Rattle.image.specs.Image.{image}
+use Rattle.image.specs.Holding.{Holds}
 
 -- The own actions have room behind the queue.
 pub record EnterRoom (b : List ℕ) : Type 0 where
   pub counts : CountsIn b
   pub room : place theQueue b + (slotSize * queueCount b + slotSize * ownCount b) ≤ length b
-  pub cut : headerSize + 2 * numberAt 1 b atMe + 2 ≤ length b
+  pub cut : headerSize + cutSize * numberAt 1 b atMe + cutSize ≤ length b
 
 -- The numbers of votes: all but the yellow ids.
 unfoldable pub voteNumbers : Votes → VoteNumbers

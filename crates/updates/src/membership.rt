@@ -5,13 +5,12 @@ ghost use lib.ListN.{length};
 ghost use Rattle.format.specs.Limits.{mostServers};
 ghost use Rattle.replication.specs.Machine.Types.{Mode, Server, inMode};
 ghost use Rattle.replication.specs.Machine.Step.{entering, leave as left, withCpc};
-ghost use Rattle.engine.specs.Image.{modeNumber};
-ghost use Rattle.engine.specs.Header.{headerOf};
-ghost use Rattle.engine.specs.Holding.{Becomes};
+ghost use Rattle.image.specs.Header.{headerOf, modeNumber};
+ghost use Rattle.image.specs.Holding.{Becomes};
 ghost use Rattle.updates.specs.Lists.{configurationOf, NumbersOf, BecomesIn};
-ghost use Rattle.engine.specs.Layout.{headerSize};
+ghost use Rattle.image.specs.Layout.{headerSize};
 use crate::numbers::save_numbers;
-use engine::header::load;
+use image::header::load;
 use record::State;
 use record::sets::with_member;
 

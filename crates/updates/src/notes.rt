@@ -8,13 +8,13 @@ ghost use Rattle.replication.specs.Machine.Types.{withNoted};
 ghost use Rattle.replication.specs.Machine.Colours.{note as noted};
 ghost use Rattle.replication.specs.Machine.Exchange.{noteAll};
 ghost use Rattle.replication.specs.Machine.Step.{collected};
-ghost use Rattle.engine.specs.Layout.{headerSize, atStates};
-ghost use Rattle.engine.specs.Holding.{HoldsSome, Becomes};
+ghost use Rattle.image.specs.Layout.{headerSize, atStates};
+ghost use Rattle.image.specs.Holding.{HoldsSome, Becomes};
 ghost use Rattle.updates.specs.Lists.{NumberIn};
 ghost use Rattle.updates.specs.Noting.{sentLength, notedSlot};
 use crate::states::state_place;
-use engine::places::THE_NOTED;
-use engine::places::place_of;
+use image::places::THE_NOTED;
+use image::places::place_of;
 use octets::numbers::num8;
 use octets::numbers::num32;
 use octets::numbers::put32;
@@ -27,7 +27,7 @@ pub fn note(state: &mut [u8], c: u8, l: u32)
     requires { ⌜ NumberIn c (now state) ⌝ }
     ensures { λ _. ⌜ Becomes (λ s. withNoted (noted c l (s .noted)) s) (now (state .entry)) (now (state .exit)) ⌝ }
 {
-    let at = place_of(state, THE_NOTED) + 4 * c as usize;
+    let at = place_of(state, THE_NOTED) + State::NOTED * c as usize;
     let old = num32(state, at);
     if l <= old {
         return;
@@ -50,7 +50,7 @@ fn sent_length(state: &[u8], k: u8) -> u32
 {
     let at = state_place(state, k);
     let n = num8(state, State::AT_SERVERS) as usize;
-    num32(state, at + (StateHead::CUTS + 2 * n))
+    num32(state, at + (StateHead::CUTS + State::CUT * n))
 }
 
 // The green length of server k, if its State is in.

@@ -2,8 +2,8 @@
 ghost use Prim.Native.Nat.{_≤_};
 ghost use lib.ListN.{length};
 ghost use Rattle.updates.specs.Lists.{BecomesNumbered};
-ghost use Rattle.engine.specs.Layout.{headerSize};
-use engine::header::save;
+ghost use Rattle.image.specs.Layout.{headerSize};
+use image::header::save;
 use record::State;
 
 // Saves the numbers of the changed state.

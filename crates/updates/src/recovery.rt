@@ -7,15 +7,15 @@ ghost use Rattle.base.specs.Patched.{patched};
 ghost use Rattle.replication.specs.Machine.Types.{withLog};
 ghost use Rattle.replication.specs.Machine.Colours.{reds};
 ghost use Rattle.replication.specs.Machine.Requests.{recovered};
-ghost use Rattle.engine.specs.Holding.{HoldsSome, Becomes};
+ghost use Rattle.image.specs.Holding.{HoldsSome, Becomes};
 ghost use Rattle.updates.specs.Standing.{EnterRoom, dropped};
-ghost use Rattle.engine.specs.Layout.{headerSize};
+ghost use Rattle.image.specs.Layout.{headerSize};
 ghost use Rattle.updates.specs.Lists.{NumbersOf, queueCounts};
 use crate::numbers::save_numbers;
-use engine::header::load;
-use engine::places::THE_OWN;
-use engine::places::THE_QUEUE;
-use engine::places::place_of;
+use image::header::load;
+use image::places::THE_OWN;
+use image::places::THE_QUEUE;
+use image::places::place_of;
 use octets::blocks::copy_up;
 use octets::numbers::num8;
 use octets::numbers::num16;
@@ -50,7 +50,7 @@ fn enter_own(state: &mut [u8])
     let queue = num32(state, State::AT_QUEUE_LENGTH);
     let from = place_of(state, THE_OWN);
     let to = place_of(state, THE_QUEUE);
-    let at = State::SIZE + 2 * num8(state, State::AT_ME) as usize;
+    let at = State::SIZE + State::CUT * num8(state, State::AT_ME) as usize;
     let numbered = num16(state, State::AT_NUMBERED);
     copy_up(
         state,

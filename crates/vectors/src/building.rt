@@ -1,11 +1,11 @@
 // A state's buffer with a configuration and collected States.
 ghost use Prim.Native.Nat.{_≤_};
 ghost use Rattle.format.specs.Limits.{mostServers};
-use engine::guzbytor_start;
-use engine::header::load;
-use engine::header::save;
-use engine::places::state_size;
-use engine::places::states_at;
+use image::header::load;
+use image::header::save;
+use image::places::state_size;
+use image::places::states_at;
+use image::start;
 use octets::numbers::num16;
 use record::State;
 use record::events::Event;
@@ -118,7 +118,7 @@ pub fn build(state: &mut [u8], e: &[u8]) -> bool {
     }
     let n = byte(e, 0) as u32;
     let q = num16(e, 1) as u32;
-    if guzbytor_start(state, n, q, lowest(e[3]) as u32) != 0 {
+    if start(state, n, q, lowest(e[3]) as u32) != 0 {
         return false;
     }
     configure(state, e[3], e[4]);

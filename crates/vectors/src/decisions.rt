@@ -2,7 +2,7 @@
 // the collected States as records. Written are whether all States and CPCs are in, how many retransmissions are planned, the quorum, the
 // taken primary, the attempt, the yellow list, who resends what, and each member's mark as judged; or the number of the state check where
 // it is not 0.
-ghost use Rattle.engine.specs.Holding.{HoldsSome};
+ghost use Rattle.image.specs.Holding.{HoldsSome};
 use crate::building::build;
 use crate::building::number_of;
 use crate::building::senders;
@@ -30,12 +30,16 @@ use vector_tools::patch::put;
 
 const SERVERS: usize = State::MOST_SERVERS as usize;
 
-const STATES: usize = SERVERS * (StateHead::SIZE + 2 * SERVERS + State::IDS);
+const STATES: usize = SERVERS * (StateHead::SIZE + State::CUT * SERVERS + State::IDS);
 
 const SLOTS: usize = State::SLOT * (State::MOST_QUOTA as usize + State::MOST_IDS);
 
 // Both buffers at the largest sizes, by the formulas of docs/LAYOUT.md.
-const STATE_ROOM: usize = State::SIZE + 6 * SERVERS + STATES + State::IDS + SLOTS;
+const STATE_ROOM: usize = State::SIZE
+    + State::CUT_AND_NOTED * SERVERS
+    + STATES
+    + State::IDS
+    + SLOTS;
 
 const OUT_ROOM: usize = 2 * State::RETRANSMISSION * State::MOST_IDS;
 

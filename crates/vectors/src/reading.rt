@@ -1,9 +1,11 @@
 // An event that was read: its kind, its numbers in the record's order, and its lists.
 ghost use Prim.Native.Nat.{_+_, _*_, _≤_};
 ghost use lib.ListN.{length};
-ghost use Rattle.record.specs.Reading.{PlacedEvent, PlacedAction, PlacedRetransmission, PlacedState, PlacedPayload};
+ghost use Rattle.format.specs.Places.{cutSize, idSize};
+ghost use Rattle.reader.specs.Reading.{PlacedEvent, PlacedAction, PlacedRetransmission, PlacedState, PlacedPayload};
 use record::ActionHead;
 use record::Context;
+use record::State;
 use record::StateHead;
 use record::events::ActionAt;
 use record::events::Event;
@@ -99,19 +101,19 @@ fn state_numbers(h: StateHead) -> [u64; 13] {
 
 // The cuts in hexadecimal.
 fn cuts(e: &[u8], at: usize, n: usize)
-    requires { ⌜ at + 2 * n ≤ length (now e) ⌝ }
+    requires { ⌜ at + cutSize * n ≤ length (now e) ⌝ }
 {
     io::write_all(1, b" cuts ");
-    let end = at + 2 * n;
+    let end = at + State::CUT * n;
     hex(&e[at..end]);
 }
 
 // How many ids there are, and a digest of their bytes.
 fn ids(e: &[u8], at: usize, count: usize)
-    requires { ⌜ at + 3 * count ≤ length (now e) ⌝ }
+    requires { ⌜ at + idSize * count ≤ length (now e) ⌝ }
 {
     labelled(b" ids", count as u64);
-    let end = at + 3 * count;
+    let end = at + State::ID * count;
     bytes(&e[at..end]);
 }
 

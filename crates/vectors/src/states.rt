@@ -7,7 +7,8 @@ ghost use mathlib.Core.Path.{_≡_};
 ghost use Prim.Native.Nat.{_<_};
 ghost use lib.ListN.{length};
 use crate::patch::patches;
-use engine::guzbytor_start;
+use base::refusals::SHORT_BUFFER;
+use image::start;
 use octets::numbers::num8;
 use octets::numbers::num16;
 use state_check::state_number;
@@ -22,7 +23,7 @@ fn begin(base: &mut [u8], e: &[u8]) {
     if e.len() < 4 {
         return;
     }
-    guzbytor_start(
+    start(
         base,
         num8(e, 0) as u32,
         num16(e, 1) as u32,
@@ -68,7 +69,7 @@ fn counted(t: Tally, number: u32) -> Tally {
             unread: t.unread,
         };
     }
-    if number == 7 {
+    if number == SHORT_BUFFER {
         return Tally {
             read: t.read,
             short: std::num::wrapping_add_u64(t.short, 1),

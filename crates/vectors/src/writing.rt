@@ -1,11 +1,11 @@
 // What was read, written again: into a buffer with exactly enough room for one record or for two, and with one byte too few.
-ghost use Rattle.record.specs.Reading.{PlacedEvent, PlacedAction, PlacedRetransmission, PlacedState};
+ghost use Rattle.reader.specs.Reading.{PlacedEvent, PlacedAction, PlacedRetransmission, PlacedState};
 use crate::reading;
+use reader::Reading;
 use record::Context;
 use record::events::ActionAt;
 use record::events::Event;
 use record::events::StateAt;
-use record::reader::Reading;
 use vector_tools::output::bytes;
 use writer::records::Written;
 use writer::records::write_action;
@@ -79,7 +79,7 @@ fn reading(c: Context, s: &[u8], start: usize, end: usize) {
 }
 
 pub fn say(c: Context, e: &[u8]) {
-    let r = record::reader::read(c, e);
+    let r = reader::read(c, e);
     match r {
         Reading::Good(v) => reading::event(c, v, e),
         Reading::Refused(k) => reading::refused(k),
@@ -147,7 +147,7 @@ fn rooms(c: Context, v: Event, e: &[u8])
 }
 
 pub fn write(c: Context, e: &[u8]) {
-    let r = record::reader::read(c, e);
+    let r = reader::read(c, e);
     if let Reading::Good(v) = r {
         rooms(c, v, e);
     }

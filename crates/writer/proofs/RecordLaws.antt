@@ -1,16 +1,15 @@
 -- What each return of each writer is worth, but a State's.
--- Assumes nothing.
 use Prim.Native.Nat.{ℕ, _+_, _-_, _%_, _≤_, _<_}
 use mathlib.Core.Path.{_≡_, refl, sym, ap, _∙_}
 use mathlib.Core.Bool.{Bool, true, false, not}
-use mathlib.Core.List.{List}
+use mathlib.Core.List.{List, [], _∷_}
 use native.Mathlib.Omega.{arith}
 use lib.ListN.{length}
 use Rattle.base.specs.Bytes.{bytesOf}
 use Rattle.base.proofs.BytesLaws.{bytes-length}
 use Rattle.base.proofs.Over.{over-front}
 use Rattle.base.specs.Patched.{patched}
-use Rattle.base.proofs.Stores.{next-block, three-blocks}
+use Rattle.base.proofs.Stores.{next-block, blocks-joined}
 use Rattle.base.specs.Tests.{_≤?_}
 use Rattle.base.proofs.TestLaws.{pick-le, pick-gt, le-holds, le-fails, le-no, le-yes}
 use Rattle.format.specs.Limits.{version}
@@ -45,13 +44,17 @@ module _ (s s₁ s₂ s₃ : List ℕ) where
       → s₃ ≡ patched atKind (bytesOf 1 kind) s₂ → s₃ ≡ patched 0 (frameBytes follows kind) s
   unfolding frameBytes
   frame-put follows kind e f g =
-      three-blocks 0 _ _ _ s s₁ s₂ s₃ atVersion atKind (omega arith) e f g (omega (arith, bytes-length 2 follows)) (omega (arith, bytes-length 1 version))
+      rw (g, f, e)
+      (blocks-joined 0 (0 ∷ atVersion ∷ atKind ∷ []) (_ ∷ _ ∷ _ ∷ []) s (omega arith)
+      (refl, (omega (arith, bytes-length 2 follows), (omega (arith, bytes-length 1 version), tt))))
 
   pub opening-put : (follows kind sender number : ℕ) → s₁ ≡ patched 0 (frameBytes follows kind) s → s₂ ≡ patched senderAt (bytesOf 1 sender) s₁
       → s₃ ≡ patched positionAt (bytesOf 4 number) s₂ → s₃ ≡ patched 0 (openingBytes follows kind sender number) s
   unfolding openingBytes
   opening-put follows kind sender number e f g =
-      three-blocks 0 _ _ _ s s₁ s₂ s₃ senderAt positionAt (omega arith) e f g (omega (arith, frame-length follows kind)) (omega (arith, bytes-length 1 sender))
+      rw (g, f, e)
+      (blocks-joined 0 (0 ∷ senderAt ∷ positionAt ∷ []) (_ ∷ _ ∷ _ ∷ []) s (omega arith)
+      (refl, (omega (arith, frame-length follows kind), (omega (arith, bytes-length 1 sender), tt))))
 
 -- ---- the bytes b at the front of the rest s
 

@@ -1,19 +1,18 @@
 -- What each return of the writer of a State is worth.
--- Assumes nothing.
 use Prim.Native.Nat.{ℕ, _+_, _-_, _*_, _≤_, _<_}
 use mathlib.Core.Path.{_≡_, refl, sym, ap, _∙_}
-use mathlib.Core.List.{List, _++_}
+use mathlib.Core.List.{List, [], _∷_, _++_}
 use native.Mathlib.Omega.{arith}
 use mir.Val.{Fits}
 use mir.Syntax.{w8}
 use lib.ListN.{length, getD, take, length-append}
 use lib.Seq.{length-take-le}
-use Rattle.base.specs.Tests.{_≤?_, _and_}
+use Rattle.base.specs.Tests.{_≤?_}
 use Rattle.base.proofs.TestLaws.{pick-yes, pick-no, le-yes, le-no, both-yes, and-yes, and-no}
 use Rattle.base.specs.Bytes.{Bytes, bytesOf, numbersAt, partAt}
 use Rattle.base.proofs.BytesLaws.{bytes-length, numbers-length}
 use Rattle.base.specs.Patched.{patched}
-use Rattle.base.proofs.Stores.{next-block, five-blocks}
+use Rattle.base.proofs.Stores.{next-block, blocks-joined}
 use Rattle.format.specs.Places.{lengthSize, idSize, stateCutsAt, stateAttemptAt, stateLastAt, stateMarkAt, stateYellowAt, standingSize, stateHeadSize}
 use Rattle.format.specs.Types.{state, kindNumber, ofState}
 use Rattle.format.specs.Read.{idsAt}
@@ -21,7 +20,7 @@ use Rattle.format.specs.Write.{cutsBytes, idsBytes, primaryBytes, markBytes, wr
 use Rattle.format.proofs.Lengths.{cuts-length, ids-length, primary-length, mark-length, write-length}
 use Rattle.format.proofs.Writing.{cuts-written, ids-written, ids-number}
 use Rattle.record.specs.declared.StateHead.{StateHead}
-use Rattle.record.specs.Values.{componentOf, primaryOf, markOf, stateOf}
+use Rattle.record.specs.Values.{primaryOf, markOf, stateOf}
 use Rattle.writer.specs.declared.records.Written.the-variants.{Next, Full}
 use Rattle.writer.specs.Blocks.{openingBytes, yellowHeadBytes, standingBytes, listsSize, StateRoom}
 use Rattle.writer.specs.Written.{put, putOf, enough, putState}
@@ -46,13 +45,20 @@ ids-first n e b h =
 
 pub standing-put : (h : StateHead) (at : ℕ) (s s₁ s₂ s₃ s₄ s₅ : List ℕ) → at + standingSize ≤ length s → s₁ ≡ patched at (bytesOf 4 (h .«green_length»)) s
     → s₂ ≡ patched (at + (stateAttemptAt - stateCutsAt)) (bytesOf 4 (h .attempt .0)) s₁
-    → s₃ ≡ patched (at + (stateLastAt - stateCutsAt)) (primaryBytes (componentOf (h .last .index) (h .last .attempt) (h .last .set))) s₂
+    → s₃ ≡ patched (at + (stateLastAt - stateCutsAt)) (primaryBytes (primaryOf (h .last))) s₂
     → s₄ ≡ patched (at + (stateMarkAt - stateCutsAt)) (markBytes (markOf (h .mark))) s₃
     → s₅ ≡ patched (at + (stateYellowAt - stateCutsAt)) (yellowHeadBytes (h .«yellow_status») (h .«yellow_count»)) s₄ → s₅ ≡ patched at (standingBytes h) s
-unfolding standingBytes primaryOf
+unfolding standingBytes
 standing-put h at s s₁ s₂ s₃ s₄ s₅ l e f g i j =
-    five-blocks at _ _ _ s s₁ s₂ s₃ _ _ (omega arith) e f g (omega (arith, bytes-length 4 (h .«green_length»))) (omega (arith, bytes-length 4 (h .attempt .0)))
-    _ _ s₄ s₅ _ _ i j (omega (arith, primary-length (primaryOf (h .last)))) (omega (arith, mark-length (markOf (h .mark))))
+    rw (j, i, g, f, e)
+    (blocks-joined at (at ∷ (at + (stateAttemptAt - stateCutsAt)) ∷ (at + (stateLastAt - stateCutsAt)) ∷ (at + (stateMarkAt - stateCutsAt)) ∷ (at + (stateYellowAt - stateCutsAt)) ∷ [])
+    (_ ∷ _ ∷ _ ∷ _ ∷ _ ∷ []) s (omega arith) (
+      refl,
+      (
+        omega (arith, bytes-length 4 (h .«green_length»)),
+        (omega (arith, bytes-length 4 (h .attempt .0)), (omega (arith, primary-length (primaryOf (h .last))), (omega (arith, mark-length (markOf (h .mark))), tt))),
+      ),
+    ))
 
 -- ---- the whole record
 

@@ -1,5 +1,4 @@
 -- What a writer has put is read as the record that was written, and behind it the rest is as it was.
--- Assumes nothing.
 use Prim.Native.Nat.{ℕ, _≤_}
 use mathlib.Core.Path.{_≡_, refl, sym, ap, _∙_}
 use mathlib.Core.Bool.{Bool, true, false}
@@ -10,17 +9,14 @@ use lib.Seq.{drop-at, take-append-seam}
 use Rattle.base.specs.Tests.{_≤?_, pick}
 use Rattle.base.proofs.TestLaws.{le-holds}
 use Rattle.base.specs.Bytes.{over}
-use Rattle.base.proofs.Over.{over-length}
-use Rattle.format.specs.Types.{Record, state, Context, says}
+use Rattle.format.specs.Types.{Record, Context, says}
 use Rattle.format.specs.Range.{recordOk}
 use Rattle.format.specs.Read.{read}
 use Rattle.format.specs.Write.{write}
 use Rattle.format.proofs.RoundTrip.{read-written}
-use Rattle.record.specs.declared.StateHead.{StateHead}
-use Rattle.record.specs.Values.{stateOf}
 use Rattle.writer.specs.declared.records.Written.{Written}
 use Rattle.writer.specs.declared.records.Written.the-variants.{Next}
-use Rattle.writer.specs.Written.{Put, next, full, put, putOf, putState}
+use Rattle.writer.specs.Written.{Put, next, full, put, putOf}
 
 -- What a writer that answers `Next` ensures, as a put.
 pub answer-next : (w : Written) (z : Put) (n : ℕ) (rest : List ℕ) → putOf w rest ≡ z → w ≡ Next n → z ≡ next n rest
@@ -39,11 +35,6 @@ unfolding pick
 chosen-next true z old rest size e = (refl, e)
 chosen-next false z old rest size e = let c : _≡_ {A = ℕ} 0 1 = cc in absurd (omega arith)
 
-chosen-full : (t : Bool) (z : Put) (old rest : List ℕ) → (z ≡ full rest → rest ≡ old) → pick t z (full old) ≡ full rest → rest ≡ old
-unfolding pick
-chosen-full true z old rest h e = h e
-chosen-full false z old rest h e = cc
-
 next-size : (n m : ℕ) (x y : List ℕ) → next n x ≡ next m y → m ≡ n
 next-size n m x y e = cc
 
@@ -60,10 +51,6 @@ module _ (b old rest : List ℕ) (size : ℕ) (e : put b old ≡ next size rest)
   abbrev fitted : Fitted b old size rest
   fitted = put-fitted b old rest size e
 
-  -- the rest is as long as it was
-  pub put-length : length rest ≡ length old
-  put-length = ap length (fitted .filled) ∙ over-length b old (fitted .room)
-
   -- behind the record nothing has changed
   pub put-behind : drop size rest ≡ drop size old
   unfolding over
@@ -77,18 +64,3 @@ module _ (b old rest : List ℕ) (size : ℕ) (e : put b old ≡ next size rest)
 pub put-says : (c : Context) (r : Record) (old rest : List ℕ) (size : ℕ) → recordOk c r ≡ true → put (write r) old ≡ next size rest
     → read c (take size rest) ≡ says r
 put-says c r old rest size ok e = ap (read c) (put-front (write r) old rest size e) ∙ read-written c r ok
-
--- A put that is full leaves the rest.
-pub put-unchanged : (b old rest : List ℕ) → put b old ≡ full rest → rest ≡ old
-unfolding put
-put-unchanged b old rest e = chosen-full _ _ old rest (λ h. let c : _≡_ {A = ℕ} 0 1 = cc in absurd (omega arith)) e
-
--- The same of a State.
-pub state-put : (h : StateHead) (cuts ids old rest : List ℕ) (size : ℕ) → putState h cuts ids old ≡ next size rest
-    → put (write (state (stateOf h cuts 0 ids 0))) old ≡ next size rest
-unfolding putState
-state-put h cuts ids old rest size e = chosen-next _ _ old rest size e .1
-
-pub state-unchanged : (h : StateHead) (cuts ids old rest : List ℕ) → putState h cuts ids old ≡ full rest → rest ≡ old
-unfolding putState
-state-unchanged h cuts ids old rest e = chosen-full _ _ old rest (put-unchanged _ old rest) e

@@ -1,11 +1,10 @@
 -- Parts of records as bytes.
--- Assumes nothing.
 use Prim.Native.Nat.{ℕ, _+_, _*_, _≤_}
 use mathlib.Core.List.{List, [], _∷_}
 use lib.ListN.{length}
 use Rattle.base.specs.Bytes.{bytesOf, joined}
 use Rattle.format.specs.Limits.{version}
-use Rattle.format.specs.Places.{lengthSize, idSize, stateHeadSize}
+use Rattle.format.specs.Places.{lengthSize, cutSize, idSize, stateHeadSize}
 use Rattle.format.specs.Write.{idBytes, primaryBytes, markBytes}
 use Rattle.record.specs.declared.ActionHead.{ActionHead}
 use Rattle.record.specs.declared.StateHead.{StateHead}
@@ -40,10 +39,10 @@ standingBytes h =
 
 -- How many bytes the cuts and ids of a State have.
 abbrev pub listsSize : StateHead → ℕ
-listsSize h = 2 * h .servers + idSize * h .«yellow_count»
+listsSize h = cutSize * h .servers + idSize * h .«yellow_count»
 
 -- The bytes given hold all cuts and ids of a State, and the rest has room for it.
 pub record StateRoom (h : StateHead) (cuts ids rest : List ℕ) : Type 0 where
-  pub enoughCuts : 2 * h .servers ≤ length cuts
+  pub enoughCuts : cutSize * h .servers ≤ length cuts
   pub enoughIds : idSize * h .«yellow_count» ≤ length ids
   pub room : stateHeadSize + listsSize h ≤ length rest

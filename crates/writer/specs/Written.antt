@@ -1,6 +1,5 @@
 -- What a writer leaves in the outgoing buffer's unused rest: a record's bytes at its front.
 -- Document 02, K3: "writing one changes only its own bytes there".
--- Assumes nothing.
 use Prim.Native.Nat.{ℕ, _*_}
 use mathlib.Core.Path.{_≡_}
 use mathlib.Core.Bool.{Bool}
@@ -8,7 +7,7 @@ use mathlib.Core.List.{List}
 use lib.ListN.{length}
 use Rattle.base.specs.Tests.{_and_, _≤?_, pick}
 use Rattle.base.specs.Bytes.{over}
-use Rattle.format.specs.Places.{idSize}
+use Rattle.format.specs.Places.{cutSize, idSize}
 use Rattle.format.specs.Types.{State, state}
 use Rattle.format.specs.Write.{write}
 use Rattle.record.specs.declared.StateHead.{StateHead}
@@ -44,7 +43,7 @@ givenBytes h cuts ids = write (state (givenState h cuts ids))
 
 -- The bytes given, so many for cuts and so many for ids, hold all of a State's.
 abbrev pub enough : StateHead → (cuts ids : ℕ) → Bool
-enough h cuts ids = 2 * h .servers ≤? cuts and idSize * h .«yellow_count» ≤? ids
+enough h cuts ids = cutSize * h .servers ≤? cuts and idSize * h .«yellow_count» ≤? ids
 
 -- A State is written only then.
 unfoldable pub putState : StateHead → (cuts ids rest : List ℕ) → Put

@@ -7,7 +7,7 @@ ghost use Rattle.format.specs.Places.{idSize, actionPayloadAt, actionHeadSize, 
 ghost use Rattle.format.specs.Range.{sameId};
 ghost use Rattle.format.specs.Read.{idAt};
 ghost use Rattle.format.specs.Write.{idBytes, actionBytes, primaryBytes, markBytes};
-ghost use Rattle.record.specs.Values.{idOf, componentOf, markOf, actionOf};
+ghost use Rattle.record.specs.Values.{idOf, primaryOf, markOf, actionOf};
 ghost use Rattle.writer.specs.Blocks.{headBytes, yellowHeadBytes};
 use octets::blocks::put_counted;
 use octets::numbers::num8;
@@ -16,10 +16,8 @@ use octets::numbers::put8;
 use octets::numbers::put16;
 use octets::numbers::put32;
 use record::ActionHead;
-use record::AttemptIndex;
 use record::LastPrimary;
 use record::Mark;
-use record::PrimaryIndex;
 use record::StateHead;
 
 pub fn put_id(out: &mut [u8], at: usize, creator: u8, index: u16)
@@ -59,13 +57,13 @@ pub fn put_body(out: &mut [u8], at: usize, head: ActionHead, payload: &[u8])
     put_counted(out, at + ActionHead::PAYLOAD, payload);
 }
 
-pub fn put_primary(out: &mut [u8], at: usize, index: PrimaryIndex, attempt: AttemptIndex, set: u8)
+pub fn put_primary(out: &mut [u8], at: usize, last: LastPrimary)
     requires { ⌜ at + primarySize ≤ length (now out) ⌝ }
-    ensures { λ _. ⌜ now (out .exit) ≡ patched at (primaryBytes (componentOf index attempt set)) (now (out .entry)) ⌝ }
+    ensures { λ _. ⌜ now (out .exit) ≡ patched at (primaryBytes (primaryOf last)) (now (out .entry)) ⌝ }
 {
-    put32(out, at, index.0);
-    put32(out, at + LastPrimary::ATTEMPT, attempt.0);
-    put8(out, at + LastPrimary::SET, set);
+    put32(out, at, last.index.0);
+    put32(out, at + LastPrimary::ATTEMPT, last.attempt.0);
+    put8(out, at + LastPrimary::SET, last.set);
 }
 
 pub fn put_mark(out: &mut [u8], at: usize, mark: Mark)

@@ -123,16 +123,9 @@ fn put_standing(rest: &mut [u8], at: usize, head: StateHead)
     requires { ⌜ at + standingSize ≤ length (now rest) ⌝ }
     ensures { λ _. ⌜ now (rest .exit) ≡ patched at (standingBytes head) (now (rest .entry)) ⌝ }
 {
-    let last = head.last;
     put32(rest, at, head.green_length);
     put32(rest, at + StateHead::ATTEMPT, head.attempt.0);
-    put_primary(
-        rest,
-        at + StateHead::LAST,
-        last.index,
-        last.attempt,
-        last.set,
-    );
+    put_primary(rest, at + StateHead::LAST, head.last);
     put_mark(rest, at + StateHead::MARK, head.mark);
     put_yellow_head(
         rest,
@@ -147,7 +140,7 @@ fn put_state(rest: &mut [u8], head: StateHead, cuts: &[u8], ids: &[u8])
     requires { ⌜ StateRoom head (now cuts) (now ids) (now rest) ⌝ }
     ensures { λ _. ⌜ now (rest .exit) ≡ patched 0 (givenBytes head (now (cuts .entry)) (now (ids .entry))) (now (rest .entry)) ⌝ }
 {
-    let n = 2 * (head.servers as usize);
+    let n = State::CUT * (head.servers as usize);
     let m = State::ID * (head.yellow_count as usize);
     let follows = STATE_FOLLOWS + (n + m) as u32;
     put_opening(rest, follows, Event::STATE, head.sender, head.configuration);
@@ -160,7 +153,7 @@ fn put_state(rest: &mut [u8], head: StateHead, cuts: &[u8], ids: &[u8])
 pub fn write_state(rest: &mut [u8], head: StateHead, cuts: &[u8], ids: &[u8]) -> Written
     ensures { λ r. ⌜ putOf r (now (rest .exit)) ≡ putState head (now (cuts .entry)) (now (ids .entry)) (now (rest .entry)) ⌝ }
 {
-    let n = 2 * (head.servers as usize);
+    let n = State::CUT * (head.servers as usize);
     if cuts.len() < n {
         return Written::Full;
     }

@@ -3,8 +3,8 @@ use borrow.Author.Needs.{needs}
 use Rattle.guzbytor.proofs.guzbytor_register_radius.Statement.{statement}
 use Rattle.guzbytor.proofs.guzbytor_register_radius.Tie as tie
 
-guzbytor-register-radius-requires : tie.Need-guzbytor-register-radius-requires
-guzbytor-register-radius-requires c κs = search needs
+in-radius-requires : tie.Need-in-radius-requires
+in-radius-requires c κs = search needs
 
 same-length : tie.Need-same-length
 same-length c = search needs
@@ -14,4 +14,4 @@ returns c = search (needs, disc-given)
 
 pub guzbytor-register-radius-spec : {M : Type 1} → statement M
 guzbytor-register-radius-spec =
-    tie.close (tie.spec guzbytor-register-radius-requires same-length returns)
+    tie.close (tie.spec in-radius-requires same-length returns)

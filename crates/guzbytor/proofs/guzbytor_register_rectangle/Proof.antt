@@ -3,8 +3,8 @@ use borrow.Author.Needs.{needs}
 use Rattle.guzbytor.proofs.guzbytor_register_rectangle.Statement.{statement}
 use Rattle.guzbytor.proofs.guzbytor_register_rectangle.Tie as tie
 
-guzbytor-register-rectangle-requires : tie.Need-guzbytor-register-rectangle-requires
-guzbytor-register-rectangle-requires c κs = search needs
+in-rectangle-requires : tie.Need-in-rectangle-requires
+in-rectangle-requires c κs = search needs
 
 same-length : tie.Need-same-length
 same-length c = search needs
@@ -14,4 +14,4 @@ returns c = search (needs, rectangle-given)
 
 pub guzbytor-register-rectangle-spec : {M : Type 1} → statement M
 guzbytor-register-rectangle-spec =
-    tie.close (tie.spec guzbytor-register-rectangle-requires same-length returns)
+    tie.close (tie.spec in-rectangle-requires same-length returns)

@@ -1,6 +1,6 @@
 use lib.ListN.{length-take}
 use native.Mathlib.Omega.{arith}
-use Rattle.lines.proofs.InputLaws.{few-servers}
+use Rattle.replay_lines.proofs.InputLaws.{few-servers}
 use borrow.Author.Needs.{needs}
 use Rattle.replay.proofs.main.Statement.{statement}
 use Rattle.replay.proofs.main.Tie as tie
@@ -8,9 +8,9 @@ use Rattle.replay.proofs.main.Reads as reads
 use Rattle.replay.proofs.main.Lts as lts
 use Rattle.io.proofs.read_full.Reads as read-full-reads
 use Rattle.io.proofs.write_all.Reads as write-all-reads
-use Rattle.lines.proofs.input.read_setup.Reads as read-setup-reads
-use Rattle.lines.proofs.line.header_line.Reads as header-line-reads
-use Rattle.lines.proofs.line.setup_line.Reads as setup-line-reads
+use Rattle.replay_lines.proofs.input.read_setup.Reads as read-setup-reads
+use Rattle.replay_lines.proofs.line.header_line.Reads as header-line-reads
+use Rattle.replay_lines.proofs.line.setup_line.Reads as setup-line-reads
 use Rattle.replay.proofs.prints_replay.Reads as prints-replay-reads
 use Rattle.replay.proofs.serve.Reads as serve-reads
 use Rattle.replay.proofs.serves_replay.Reads as serves-replay-reads

@@ -7,7 +7,7 @@ use Rattle.replay.proofs.print_part.Tie as tie
 use Rattle.replay.proofs.print_part.Reads as reads
 use Rattle.replay.proofs.print_part.Lts as lts
 use Rattle.io.proofs.write_all.Reads as write-all-reads
-use Rattle.turns.proofs.passes.pass.Reads as pass-reads
+use Rattle.replay_turns.proofs.passes.pass.Reads as pass-reads
 
 abbrev Inv-loop : tie.InvT-loop
 Inv-loop servers first input ended lines₀ table₀ event₀ taken₀ lines table event taken =

@@ -6,7 +6,7 @@ use Rattle.replay.proofs.serve.Reads as reads
 use Rattle.replay.proofs.serve.Lts as lts
 use Rattle.replay.proofs.advance.Reads as advance-reads
 use Rattle.replay.proofs.refill.Reads as refill-reads
-use Rattle.servers.proofs.starting.begin.Reads as begin-reads
+use Rattle.replay_servers.proofs.starting.begin.Reads as begin-reads
 
 abbrev Inv-loop : tie.InvT-loop
 Inv-loop servers quota s₀ left₀ s left = Serving servers quota s

@@ -1,5 +1,4 @@
 -- The pairs hold by computation.
--- Assumes nothing.
 use mathlib.Core.Path.{refl}
 use Rattle.replication.specs.Pairs.{Pairs}
 use Rattle.replication.specs.Opened.{opened}

@@ -1,5 +1,4 @@
 -- What a server delivers in a configuration, in order, and what a message says.
--- Assumes nothing.
 use Prim.Native.Nat.{ℕ, zero, suc}
 use mathlib.Core.Bool.{Bool, false, not}
 use mathlib.Core.List.{List, [], _∷_, _++_, map}

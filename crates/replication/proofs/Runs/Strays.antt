@@ -1,5 +1,4 @@
 -- A run with strays and the run without them pass through the same worlds: what holds at every place of the one holds at every place of the other.
--- Assumes nothing.
 use Prim.Native.Nat.{ℕ, zero, suc, _≤_}
 use mathlib.Core.Path.{_≡_, refl, sym, ap, subst, subst₂, _∙_}
 use mathlib.Core.Bool.{Bool, true, false}

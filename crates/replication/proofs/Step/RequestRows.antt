@@ -17,20 +17,6 @@ use Rattle.replication.specs.Machine.Rules.{withinQuota}
 use Rattle.replication.specs.Laws.Rows.{kindIn, frameFits, recordNamed, recordOf, tested, row1, row2, row3}
 
 module _ (s : Server) (e : List ℕ) where
-  -- An event that rows 1 and 2 let pass reads as the record that its fields say.
-  pub reads-as : (r : Record) → row1 s e ≡ false → row2 s e ≡ false → recordOf s e ≡ some r → read (contextOf s) e ≡ says r
-  unfolding row1 row2 recordOf recordNamed read kindIn readAs frameFits tested contextOf pick
-  reads-as r n1 n2 q = go (kindIn e) refl
-    where
-      go : (x : Option Kind) → kindIn e ≡ x → readAs x (contextOf s) e ≡ says r
-      go none h = let z : recordNamed none (s .servers) e ≡ some r = subst (λ x. recordNamed x (s .servers) e ≡ some r) h q in cc
-      go (some k) h =
-          let f : frameOk k (s .servers) e ≡ true = not-false _ (subst (λ x. not (frameFits x (s .servers) e) ≡ false) h n1) in
-          let z : recordNamed (some k) (s .servers) e ≡ some r = subst (λ x. recordNamed x (s .servers) e ≡ some r) h q in
-          let y : recordIn k (s .servers) e ≡ r = cc in
-          let g : recordOk (contextOf s) r ≡ true = not-false _ (subst (λ x. tested (λ w. not (recordOk (contextOf s) w)) x ≡ false) q n2) in
-          rw (f, y, g)
-
   of-request : (f : Record → Bool) (X : Type 0) → ((p : List ℕ) → recordOf s e ≡ some (request p) → f (request p) ≡ true → X)
       → ((r : Record) → f r ≡ true → (p : List ℕ) × (r ≡ request p)) → tested f (recordOf s e) ≡ true → X
   unfolding tested

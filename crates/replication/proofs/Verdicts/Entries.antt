@@ -1,5 +1,4 @@
 -- What comes at a place of a run is in the journal's lists, with what the definitions say of it; and what is in them comes.
--- Assumes nothing.
 use Prim.Native.Nat.{ℕ, suc, _<_}
 use mathlib.Core.Path.{_≡_, refl, sym, ap, subst, subst₃, _∙_}
 use mathlib.Core.Bool.{true}

@@ -1,5 +1,4 @@
 -- What the audit finds by looking at a server's later rows: a configuration left, the next configuration, the crash after a cut event.
--- Assumes nothing.
 use Prim.Native.Nat.{ℕ, zero, suc, _+_, _-_, _<_}
 use mathlib.Core.Path.{_≡_, refl, sym, ap, subst, _∙_}
 use mathlib.Core.Bool.{Bool, true}

@@ -1,6 +1,5 @@
 -- Specification 6.1: where the witness's ord rises along the steps of each server and from sendings to deliveries, and is one for each
 -- configuration, it rises along the precedes relation.
--- Assumes nothing.
 use Prim.Native.Nat.{ℕ, zero, suc, _≤_, _<_}
 use mathlib.Core.Path.{_≡_, refl, sym, ap, subst, subst₂, subst₃, _∙_}
 use mathlib.Core.Bool.{true}

@@ -1,5 +1,4 @@
 -- What is sent, delivered and left in a regular configuration is in its part of the journal.
--- Assumes nothing.
 use Prim.Native.Nat.{ℕ, suc, _<_}
 use mathlib.Core.Path.{_≡_, refl, ap, subst, subst₂, _∙_, sym}
 use mathlib.Core.Bool.{true}

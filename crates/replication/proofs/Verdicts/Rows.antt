@@ -1,5 +1,4 @@
 -- The table of a run holds, at each place, what the definitions of `Runs` say of that place.
--- Assumes nothing.
 use Prim.Native.Nat.{ℕ, zero, suc, _+_, _<_}
 use mathlib.Core.Path.{_≡_, refl, sym, ap, ap₂, subst, _∙_}
 use mathlib.Core.Bool.{true}

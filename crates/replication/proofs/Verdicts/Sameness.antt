@@ -1,5 +1,4 @@
 -- The audit's tests whether two things are the same decide it.
--- Assumes nothing.
 use mathlib.Core.Path.{_≡_, ap}
 use mathlib.Core.Bool.{true}
 use Rattle.base.proofs.TestLaws.{not-both}

@@ -1,5 +1,4 @@
 -- The vector clocks of a table: each row knows what its server knew after its earlier rows, and what the sender of the message it delivers knew.
--- Assumes nothing.
 use Prim.Native.Nat.{ℕ, zero, suc, _+_, _≤_, _<_}
 use mathlib.Core.Path.{_≡_, refl, sym, ap, subst, _∙_}
 use mathlib.Core.List.{List, [], _∷_}

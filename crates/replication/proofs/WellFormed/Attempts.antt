@@ -1,5 +1,4 @@
 -- The rules of exchanges and of attempts to create a primary component keep the invariant.
--- Assumes nothing.
 use Prim.Native.Nat.{ℕ, _<_}
 use mathlib.Core.Path.{_≡_, subst}
 use mathlib.Core.Bool.{true, false}

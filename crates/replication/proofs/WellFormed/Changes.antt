@@ -1,5 +1,4 @@
 -- A change of one part of a state keeps row 8's clauses, apart from those on the eight states.
--- Assumes nothing.
 use Prim.Native.Nat.{ℕ, _*_, _^_, _≤_, _<_}
 use mathlib.Core.Path.{_≡_, sym, _∙_}
 use mathlib.Core.List.{List}

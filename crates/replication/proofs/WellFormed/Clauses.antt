@@ -1,6 +1,5 @@
 -- The facts of a well-formed state, clause by clause in row 8's order: they say what the test `wellFormed` says. Beside them, what every state that
 -- a run reaches satisfies.
--- Assumes nothing.
 use Prim.Native.Nat.{ℕ, _*_, _^_, _≤_, _<_}
 use mathlib.Core.Path.{_≡_}
 use mathlib.Core.Bool.{true}

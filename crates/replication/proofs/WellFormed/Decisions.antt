@@ -1,5 +1,4 @@
 -- What States in range decide is in range: votes, marks, yellow list, noted lengths, plan.
--- Assumes nothing.
 use Prim.Native.Nat.{ℕ, _*_, _^_, _≤_, _<_}
 use mathlib.Core.Path.{_≡_, refl, ap, _∙_}
 use mathlib.Core.Bool.{Bool, true, false, not}
@@ -21,6 +20,7 @@ use Rattle.replication.specs.Machine.Types.{Votes, clearedMark, noYellow
 use Rattle.replication.specs.Machine.Colours.{note}
 use Rattle.replication.specs.Machine.Plan.{highest, lowest, missing, cutIn, greenIn, planned}
 use Rattle.replication.specs.Machine.Exchange.{noteAll, later, latest, takenPrimary, samePair, updatedGroup, takenAttempt, isValid, commonYellow, takenYellow, isMarked, ruleA, ruleB, alike, joinBits, joinedBits, ruleC, keptMark, judgedMark, ownMark, takenVotes, attempted}
+use Rattle.replication.proofs.WellFormed.Ranges.{component-fits}
 use Rattle.replication.specs.Machine.WellFormedRanges.{IdFits, PrimaryFits, MarkFits, YellowFits, StateFits}
 use Rattle.replication.proofs.WellFormed.Clauses.{VotesRanges}
 
@@ -88,7 +88,7 @@ module _ (n q : ℕ) where
 
   pub taken-primary-fits : (xs : List State) → Each (StateFits n q) xs → PrimaryFits n (takenPrimary xs)
   unfolding takenPrimary
-  taken-primary-fits [] h = record { index = omega arith; attempt = omega arith; set = empty-below n }
+  taken-primary-fits [] h = component-fits n 0 0 _ (omega arith) (omega arith) (empty-below n)
   taken-primary-fits (x ∷ xs) h = latest-fits (x .last) xs (h .0 .last) (h .1)
 
   updated-each : (xs : List State) → Each (StateFits n q) xs → Each (StateFits n q) (updatedGroup xs)

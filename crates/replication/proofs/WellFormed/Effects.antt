@@ -1,5 +1,4 @@
 -- What the rules do to a state keeps row 8's clauses, apart from those on the eight states.
--- Assumes nothing.
 use Prim.Native.Nat.{ℕ, _+_, _*_, _≤_, _<_}
 use mathlib.Core.Path.{_≡_, ap}
 use mathlib.Core.Bool.{true, false}
@@ -28,6 +27,7 @@ use Rattle.replication.proofs.WellFormed.Ids.{SameId, same, other, same
 use Rattle.replication.specs.Laws.RuleFits.{Numbered}
 use Rattle.replication.proofs.WellFormed.Logs.{ownId, red-fits, reds-fits, green-fits, install-log-fits}
 use Rattle.replication.proofs.WellFormed.Numbering.{placed-fits, numbering-fits, sent-fits}
+use Rattle.replication.proofs.WellFormed.Ranges.{component-fits}
 use Rattle.replication.proofs.WellFormed.Decisions.{no-yellow-fits, planned-bound, note-length, note-bound}
 use Rattle.replication.proofs.WellFormed.Changes.{Body, log-changed, votes-changed, membership-changed, noted-changed, mode-changed, collected-fit, no-states}
 use Rattle.replication.specs.Laws.RuleFits.{Delivered}
@@ -37,7 +37,7 @@ use Rattle.replication.specs.Laws.RuleFits.{Delivered}
 install-votes-fits : (n q : ℕ) (v : Votes) → VotesRanges n q v → v .last .index < mostIndex → VotesRanges n q (installVotes v)
 unfolding installVotes
 install-votes-fits n q v f h = record {
-  last = record { index = omega arith; attempt = f .attempt; set = f .mark .set };
+  last = component-fits n _ _ _ (omega arith) (f .attempt) (f .mark .set);
   attempt = omega arith;
   mark = f .mark;
   yellow = no-yellow-fits n q;

@@ -1,5 +1,4 @@
 -- What exchanges and configurations do to a state keeps row 8's clauses, apart from those on the eight states.
--- Assumes nothing.
 use Prim.Native.Nat.{ℕ, _^_, _<_}
 use mathlib.Core.Path.{_≡_, sym, _∙_, subst}
 use mathlib.Core.Option.{none, some, Option·some-injective, Option·none-ne-some}

@@ -1,5 +1,4 @@
 -- The test `wellFormed` holds exactly if `WellFormed` does.
--- Assumes nothing.
 use Prim.Native.Nat.{_*_, _≤_}
 use mathlib.Core.Path.{_≡_}
 use mathlib.Core.Bool.{true}

@@ -1,5 +1,4 @@
 -- Outcomes that keep the invariant, and the parts of it that depend on which of the eight states it is.
--- Assumes nothing.
 use Prim.Native.Nat.{ℕ, _≤_}
 use mathlib.Core.Path.{_≡_, sym, subst}
 use mathlib.Core.Bool.{Bool}

@@ -1,5 +1,4 @@
 -- Row 8's clauses on the eight states hold exactly if `ModeFits` does.
--- Assumes nothing.
 use Prim.Native.Nat.{ℕ, zero, suc, _+_, _<_}
 use mathlib.Core.Path.{_≡_, refl, ap}
 use mathlib.Core.Bool.{Bool, true, false, not}

@@ -1,5 +1,4 @@
 -- Placing a retransmission's action and numbering keep the facts of a well-formed log; a log's length.
--- Assumes nothing.
 use Prim.Native.Nat.{ℕ, _+_, _*_, _≤_, _<_}
 use mathlib.Core.Path.{_≡_, sym, _∙_}
 use mathlib.Core.List.{List, [], _∷_, _++_, map, map-append}

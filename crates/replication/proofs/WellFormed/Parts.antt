@@ -1,5 +1,4 @@
 -- The tests on the parts of a state hold exactly if the facts of `WellFormedRanges` and `Clauses` do.
--- Assumes nothing.
 use Prim.Native.Nat.{ℕ, zero, suc, _+_, _≤_}
 use mathlib.Core.Path.{_≡_, refl, subst}
 use mathlib.Core.Bool.{true}

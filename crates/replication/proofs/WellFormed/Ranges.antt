@@ -1,5 +1,4 @@
 -- The range tests of the record format hold exactly if the facts of `WellFormedRanges` do.
--- Assumes nothing.
 use Prim.Native.Nat.{ℕ, zero, suc, _*_, _^_, _≤_, _<_}
 use mathlib.Core.Path.{_≡_, refl}
 use mathlib.Core.Bool.{true}
@@ -11,12 +10,15 @@ use Rattle.base.proofs.TestLaws.{and-holds, both-yes, le-yes, le-holds, lt-yes,
 use Rattle.base.proofs.BytesLaws.{are-bytes, bytes-are}
 use Rattle.base.specs.Lists.{Each}
 use Rattle.format.specs.Limits.{fewestServers, mostServers, leastQuota, mostQuota, mostPayload, mostIndex}
-use Rattle.format.specs.Types.{Id, Action, Primary, Mark, Yellow, State, Context}
+use Rattle.format.specs.Types.{Id, Action, Primary, component, Mark, Yellow, State, Context}
 use Rattle.format.specs.Range.{sizesOk, contextOk, idOk, lengthOk, payloadOk, actionOk, cutsOk, indexOk, setOk, statusOk, primaryOk, markOk, idsInRange, idsOk, yellowOk, configurationOk, stateOk, ownSetOk}
 use Rattle.format.proofs.IdCount.{ids-count}
 use Rattle.replication.specs.Machine.WellFormedRanges.{idCount, IdFits, PayloadFits, ActionFits, PrimaryFits, MarkFits, YellowFits, StateFits, OwnSetFits}
 use Rattle.replication.proofs.WellFormed.Clauses.{SizesFit}
 use Rattle.replication.proofs.WellFormed.Ids.{differ-once, once-differ}
+
+pub component-fits : (n i a s : ℕ) → i ≤ mostIndex → a ≤ mostIndex → s < 2 ^ n → PrimaryFits n (component i a s)
+component-fits n i a s f g h = record { index = f; attempt = g; set = h }
 
 -- ---- lists of numbers, by place
 

@@ -1,6 +1,5 @@
 -- Every record that a taken event puts out reads at every server with the same n and q as what was meant, and names its sender; how many records and
 -- bytes an event puts out.
--- Assumes nothing.
 use Prim.Native.Nat.{ℕ, _*_, _≤_}
 use mathlib.Core.Path.{_≡_, sym, subst}
 use mathlib.Core.Bool.{Bool, true}

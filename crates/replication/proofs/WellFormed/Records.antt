@@ -1,5 +1,4 @@
 -- The records of each kind that a server with a well-formed body puts out: in range, its own, few enough and short enough.
--- Assumes nothing.
 use Prim.Native.Nat.{ℕ, _+_, _*_, _-_, _^_, _≤_, _<_}
 use mathlib.Core.Path.{_≡_, refl, ap, subst}
 use mathlib.Core.Bool.{Bool, true, false}

@@ -1,5 +1,4 @@
 -- The start is well-formed, and so are both images of a server after any events: in a run no event returns 8.
--- Assumes nothing.
 use Prim.Native.Nat.{ℕ, _<_}
 use mathlib.Core.Path.{_≡_, sym, ap}
 use mathlib.Core.Bool.{true}
@@ -24,7 +23,7 @@ use Rattle.replication.proofs.Step.Inversion.{taken-by}
 use Rattle.replication.proofs.Step.Moves.{moved}
 use Rattle.replication.proofs.Step.Lifts.{lived-each}
 use Rattle.replication.proofs.Step.ModeColours.{colour-facts-kept}
-use Rattle.replication.proofs.WellFormed.Ranges.{sizes-facts}
+use Rattle.replication.proofs.WellFormed.Ranges.{component-fits, sizes-facts}
 use Rattle.replication.proofs.WellFormed.Facts.{facts-well-formed}
 use Rattle.replication.proofs.WellFormed.Decisions.{empty-below, cleared-mark-fits, no-yellow-fits}
 use Rattle.replication.proofs.WellFormed.Changes.{no-states}
@@ -49,7 +48,7 @@ module _ (n q i : ℕ) (sizes : sizesOk n q ≡ true) (own : i < n) where
       sent = omega arith;
     };
     votes = record {
-      last = record { index = omega arith; attempt = omega arith; set = everyone-below n };
+      last = component-fits n 0 0 _ (omega arith) (omega arith) (everyone-below n);
       attempt = omega arith;
       mark = cleared-mark-fits n;
       yellow = no-yellow-fits n q;

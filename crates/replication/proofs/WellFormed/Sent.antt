@@ -1,5 +1,4 @@
 -- Each rule puts out records that are in range and name the server as sender, not too many and not too long.
--- Assumes nothing.
 use Prim.Native.Nat.{ℕ, _<_}
 use mathlib.Core.Path.{_≡_, refl, subst}
 use mathlib.Core.Bool.{true}

@@ -1,5 +1,4 @@
 -- Document 01, 'Records' and 'What each event does': what is said of the records that a server puts out.
--- Assumes nothing.
 use Prim.Native.Nat.{ℕ, _*_, _^_, _≤_, _<_}
 use mathlib.Core.Path.{_≡_}
 use mathlib.Core.List.{List, map}

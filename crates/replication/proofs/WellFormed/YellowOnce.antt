@@ -1,12 +1,11 @@
 -- Row 8 allows yellow ids above the cuts. In Trans_prim such an id is on the yellow list already when its action is entered, and stands there once.
 -- No run reaches such a state.
--- Assumes nothing.
 use Prim.Native.Nat.{ℕ}
 use mathlib.Core.Path.{_≡_, refl}
 use mathlib.Core.Bool.{true}
 use mathlib.Core.List.{List, [], _∷_}
 use mathlib.Core.Option.{Option, none, some}
-use Rattle.format.specs.Types.{Id, Action, action}
+use Rattle.format.specs.Types.{Id, Action, firstPrimary, action}
 use Rattle.format.specs.Write.{write}
 use Rattle.replication.specs.Opened.{opened}
 use Rattle.replication.specs.Machine.Types.{Trans-prim, Server, Outcome, taken, refused, clearedMark}
@@ -26,7 +25,7 @@ before = record {
   quota = 1;
   me = 0;
   log = record { green = []; red = []; cuts = 0 ∷ 0 ∷ []; own = []; numbered = 0; sent = 0 };
-  votes = record { last = record { index = 0; attempt = 0; set = 3 }; attempt = 0; mark = clearedMark; yellow = record { status = 0; ids = yellowId ∷ [] } };
+  votes = record { last = firstPrimary 3; attempt = 0; mark = clearedMark; yellow = record { status = 0; ids = yellowId ∷ [] } };
   membership = record { mode = Trans-prim; configuration = some (record { id = 1; set = 3 }); transitional = some 3; states = none ∷ none ∷ []; cpcs = 0; come = 0 };
   noted = 0 ∷ 0 ∷ [];
 }

@@ -1,5 +1,4 @@
 -- Causality by vector clocks, in one walk of the table: of which messages' sendings each entry and each sending comes after.
--- Assumes nothing.
 use Prim.Native.Nat.{ℕ, zero, suc, _+_, max}
 use mathlib.Core.Bool.{Bool}
 use mathlib.Core.List.{List, [], _∷_}

@@ -1,5 +1,4 @@
 -- What the table holds, sorted by kind: sendings, deliveries, configurations taken, left and passed through.
--- Assumes nothing.
 use Prim.Native.Nat.{ℕ, suc}
 use mathlib.Core.Bool.{Bool, true, false}
 use mathlib.Core.List.{List, [], _∷_, map}

@@ -1,5 +1,4 @@
 -- One name for all definitions that an audit needs: whoever unfolds it unfolds them, so that closed audits compute.
--- Assumes nothing.
 use Prim.Native.Nat.{ℕ}
 use Rattle.base.specs.Quantifiers.{_implies_, pairs, addNew, eachOnce, withNumber, sameOption}
 use Rattle.replication.specs.Opened.{opened as opened-machine}

@@ -1,5 +1,4 @@
 -- Document 01's own sentences as tests: one for each field of `Allowed`, under its name.
--- Assumes nothing.
 use Prim.Native.Nat.{ℕ, suc}
 use mathlib.Core.Bool.{Bool, true, false, not}
 use mathlib.Core.Option.{some}

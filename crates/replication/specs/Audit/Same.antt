@@ -1,5 +1,4 @@
 -- Tests whether two messages, configurations or places are the same.
--- Assumes nothing.
 use mathlib.Core.Bool.{Bool, false}
 use mathlib.Core.Option.{Option}
 use Rattle.base.specs.Tests.{_and_, _=?_}

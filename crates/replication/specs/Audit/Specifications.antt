@@ -1,5 +1,4 @@
 -- The thesis's Specifications as tests: one for each field of `Allowed`, under its name.
--- Assumes nothing.
 use Prim.Native.Nat.{ℕ, suc}
 use mathlib.Core.Bool.{Bool, true, false}
 use mathlib.Core.List.{List, [], _∷_, map}

@@ -1,5 +1,4 @@
 -- An audit of a recorded run with strays: those named are refused by the machine at servers that are up, and the rest passes the audit.
--- Assumes nothing.
 use Prim.Native.Nat.{ℕ, suc}
 use mathlib.Core.Bool.{Bool, true, false, not}
 use mathlib.Core.List.{List, [], _∷_}

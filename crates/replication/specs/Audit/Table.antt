@@ -1,5 +1,4 @@
 -- A run as a table, made in one walk: for each place what stands there and what its server has there.
--- Assumes nothing.
 use Prim.Native.Nat.{ℕ, suc}
 use mathlib.Core.Bool.{Bool, false}
 use mathlib.Core.List.{List, [], _∷_}

@@ -1,6 +1,5 @@
 -- An audit of recorded runs: whether a run is allowed, with what it chose given as a witness. `audit-sound` (proofs/Verdicts/Sound) says that a run
 -- that passes is allowed.
--- Assumes nothing.
 use Prim.Native.Nat.{ℕ}
 use Prim.Native.String.{String}
 use mathlib.Core.Bool.{Bool, not}

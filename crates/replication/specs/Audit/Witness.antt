@@ -1,5 +1,4 @@
 -- What a run chooses (`Allowed`'s first three fields), as lists that can be recorded with it.
--- Assumes nothing.
 use Prim.Native.Nat.{ℕ}
 use mathlib.Core.List.{List, []}
 use lib.ListN.{getD}

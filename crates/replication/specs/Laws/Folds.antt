@@ -1,5 +1,4 @@
 -- Greening and yellowing as one fold over the delivered actions: each is entered if it is its creator's next.
--- Assumes nothing.
 use Prim.Native.Nat.{ℕ, _+_}
 use mathlib.Core.Path.{_≡_}
 use mathlib.Core.Bool.{Bool}

@@ -1,5 +1,4 @@
 -- The ways in which a taken event changes the green list.
--- Assumes nothing.
 use Prim.Native.Nat.{ℕ, _+_}
 use mathlib.Core.Path.{_≡_}
 use mathlib.Core.Bool.{true}

@@ -1,5 +1,4 @@
 -- Facts of both images of a server, and what ties one moment's images to the next's.
--- Assumes nothing.
 use Prim.Native.Nat.{ℕ}
 use mathlib.Core.List.{List}
 use Rattle.replication.specs.Machine.Types.{Server}

@@ -1,5 +1,4 @@
 -- For each kind of record that a taken event puts out: when it is put out, what it says, and what is put out with it.
--- Assumes nothing.
 use Prim.Native.Nat.{ℕ}
 use mathlib.Core.Path.{_≡_}
 use mathlib.Core.Bool.{Bool, true, false}

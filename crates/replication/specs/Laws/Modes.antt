@@ -1,5 +1,4 @@
 -- What a server's state (document 01's term; the type `Mode`) says of its votes, its configuration and its colours.
--- Assumes nothing.
 use Prim.Native.Nat.{ℕ, _+_}
 use mathlib.Core.Path.{_≡_}
 use mathlib.Core.Bool.{Bool, true, false}

@@ -1,5 +1,4 @@
 -- Orders and equalities of states that the laws of a step speak of.
--- Assumes nothing.
 use Prim.Native.Nat.{ℕ, _≤_, _<_}
 use mathlib.Core.Path.{_≡_}
 use mathlib.Core.Bool.{Bool, true, false}

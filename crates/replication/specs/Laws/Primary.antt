@@ -1,5 +1,4 @@
 -- What an event does in a primary component (Reg_prim, Trans_prim), and what it does to the configuration that the server has.
--- Assumes nothing.
 use Prim.Native.Nat.{ℕ}
 use mathlib.Core.Path.{_≡_}
 use mathlib.Core.List.{List, [], _∷_}

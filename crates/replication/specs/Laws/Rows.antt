@@ -1,6 +1,5 @@
 -- Document 01, 'Returned numbers': the rows from 1 on, each as a test of a state and an event, and the table's claim. Document 02, K4:
 -- "4 never occurs", so it has no row here.
--- Assumes nothing.
 use Prim.Native.Nat.{ℕ}
 use mathlib.Core.Path.{_≡_}
 use mathlib.Core.Bool.{Bool, true, false, not}

@@ -1,5 +1,4 @@
 -- A taken event: what it read, the rule that it took, and the transition that it made.
--- Assumes nothing.
 use Prim.Native.Nat.{ℕ}
 use mathlib.Core.Path.{_≡_}
 use mathlib.Core.Bool.{Bool, true, false}

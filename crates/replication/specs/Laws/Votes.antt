@@ -1,5 +1,4 @@
 -- How a taken event changes the last primary, the attempt, the mark and the yellow list.
--- Assumes nothing.
 use Prim.Native.Nat.{ℕ, _+_}
 use mathlib.Core.Path.{_≡_}
 use mathlib.Core.Bool.{true, false}

@@ -1,5 +1,4 @@
 -- Document 01, 'What each event does', second paragraph: Red, Yellow, Green.
--- Assumes nothing.
 use Prim.Native.Nat.{ℕ, _+_, max}
 use mathlib.Core.Bool.{Bool}
 use mathlib.Core.List.{List, [], _∷_, _++_}

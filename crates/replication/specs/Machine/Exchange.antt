@@ -1,5 +1,4 @@
 -- Document 01, 'End of exchange': what the collected States decide, in the order of their senders.
--- Assumes nothing.
 use Prim.Native.Nat.{ℕ, _+_, _*_}
 use mathlib.Core.Bool.{Bool, not}
 use mathlib.Core.List.{List, [], _∷_}
@@ -7,7 +6,7 @@ use Rattle.base.specs.Tests.{_and_, _or_, _=?_, _<?_, pick}
 use Rattle.base.specs.Lists.{all, any, filter}
 use Rattle.base.specs.Sets.{inSet, inside, withMember, size, common, union, lowestMember}
 use Rattle.format.specs.Limits.{mostServers, mostIndex}
-use Rattle.format.specs.Types.{Primary, Mark, Yellow, State}
+use Rattle.format.specs.Types.{Primary, firstPrimary, Mark, Yellow, State}
 use Rattle.format.specs.Range.{hasId}
 use Rattle.replication.specs.Machine.Types.{Votes, clearedMark, noYellow}
 use Rattle.replication.specs.Machine.Colours.{note}
@@ -29,7 +28,7 @@ latest p (x ∷ xs) = latest (pick (later p (x .last)) (x .last) p) xs
 
 -- The members' States are never none at all.
 unfoldable pub takenPrimary : List State → Primary
-takenPrimary [] = record { index = 0; attempt = 0; set = 0 }
+takenPrimary [] = firstPrimary 0
 takenPrimary (x ∷ xs) = latest (x .last) xs
 
 -- "all who sent that pair are the updated group"

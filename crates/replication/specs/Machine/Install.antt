@@ -1,9 +1,8 @@
 -- Document 01, 'Install'.
--- Assumes nothing.
 use Prim.Native.Nat.{ℕ, _+_}
 use mathlib.Core.List.{List, [], _∷_, _++_, map}
 use Rattle.base.specs.Lists.{above}
-use Rattle.format.specs.Types.{Id}
+use Rattle.format.specs.Types.{Id, component}
 use Rattle.replication.specs.Machine.Types.{Log, Votes, Server, withLog, withVotes, noYellow}
 use Rattle.replication.specs.Machine.Colours.{greenIds}
 
@@ -19,7 +18,7 @@ installLog yellows l = greenIds (idsUpTo 0 (l .cuts)) (greenIds yellows l)
 -- "then yellow empty and invalid; primary index + 1, its attempt the current one, its set the mark's; attempt 0"
 unfoldable pub installVotes : Votes → Votes
 installVotes v = record {
-  last = record { index = v .last .index + 1; attempt = v .attempt; set = v .mark .set };
+  last = component (v .last .index + 1) (v .attempt) (v .mark .set);
   attempt = 0;
   mark = v .mark;
   yellow = noYellow;

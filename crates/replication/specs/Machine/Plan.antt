@@ -1,5 +1,4 @@
 -- Document 01, 'Plan': who resends what, from the collected States alone, in the order of their senders.
--- Assumes nothing.
 use Prim.Native.Nat.{ℕ, _+_, _-_, max, min}
 use mathlib.Core.Bool.{Bool, false}
 use mathlib.Core.List.{List, [], _∷_, _++_, map}

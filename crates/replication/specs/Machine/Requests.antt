@@ -1,5 +1,4 @@
 -- Document 01, 'Request' and 'Recovery', with document 02's K4.
--- Assumes nothing.
 use Prim.Native.Nat.{ℕ, _+_}
 use mathlib.Core.Bool.{Bool, true, false}
 use mathlib.Core.List.{List, map}

@@ -1,5 +1,4 @@
 -- Document 01, 'What each event does': which state takes which event, and the conditions of rows 5, 6 and 3 of 'Returned numbers'.
--- Assumes nothing.
 use Prim.Native.Nat.{ℕ}
 use mathlib.Core.Bool.{Bool, true, false, not}
 use mathlib.Core.List.{List}

@@ -1,5 +1,4 @@
 -- Document 01, 'What each event does': each rule's effect, and the step.
--- Assumes nothing.
 use Prim.Native.Nat.{ℕ, _+_}
 use mathlib.Core.Bool.{Bool, true, false, not}
 use mathlib.Core.List.{List, [], _∷_, map}

@@ -1,12 +1,11 @@
 -- The state of one server, and what an event gives. Document 01, 'What each event does'.
--- Assumes nothing.
 use Prim.Native.Nat.{ℕ, _+_}
 use mathlib.Core.Bool.{Bool}
 use mathlib.Core.List.{List, [], _∷_, _++_}
 use mathlib.Core.Option.{Option, none, some}
 use lib.ListN.{replicate}
 use Rattle.base.specs.Sets.{everyone}
-use Rattle.format.specs.Types.{Action, Primary, Mark, Yellow, State, Context}
+use Rattle.format.specs.Types.{Action, Primary, firstPrimary, Mark, Yellow, State, Context}
 
 -- The eight states, named as document 01 names them. (`State` is the record of kind 3.)
 pub data Mode : Type 0 where
@@ -137,7 +136,7 @@ start n q i = record {
   quota = q;
   me = i;
   log = record { green = []; red = []; cuts = replicate {A = ℕ} n 0; own = []; numbered = 0; sent = 0 };
-  votes = record { last = record { index = 0; attempt = 0; set = everyone n }; attempt = 0; mark = clearedMark; yellow = noYellow };
+  votes = record { last = firstPrimary (everyone n); attempt = 0; mark = clearedMark; yellow = noYellow };
   membership = record { mode = Non-prim; configuration = none; transitional = none; states = noStates n; cpcs = 0; come = 0 };
   noted = replicate {A = ℕ} n 0;
 }

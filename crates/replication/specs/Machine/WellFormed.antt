@@ -3,7 +3,6 @@
 -- a configuration's set holds the server, a transitional one too and lies inside the configuration's, if any; a collected State stands at its
 -- sender's number and is of the configuration's id and of one of its members, so that there is none without a configuration; own actions are
 -- sent and entered up to the last numbered; at most 2 n q have come. Lists by server have n entries.
--- Assumes nothing.
 use Prim.Native.Nat.{ℕ, _+_, _*_}
 use mathlib.Core.Bool.{Bool, true, false, not}
 use mathlib.Core.List.{List, [], _∷_, _++_, map}

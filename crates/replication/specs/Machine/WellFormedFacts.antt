@@ -1,5 +1,4 @@
 -- Document 01, 'Returned numbers', row 8: the clauses on the eight states, as facts.
--- Assumes nothing.
 use Prim.Native.Nat.{ℕ, _<_}
 use mathlib.Core.Path.{_≡_}
 use mathlib.Core.Bool.{true}

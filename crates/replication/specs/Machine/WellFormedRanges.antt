@@ -1,5 +1,4 @@
 -- Document 01, 'Records': what it says of numbers and lists that the parts of a record are in range, with n servers and quota q.
--- Assumes nothing.
 use Prim.Native.Nat.{ℕ, _*_, _^_, _≤_, _<_}
 use mathlib.Core.Path.{_≡_}
 use mathlib.Core.Bool.{true}

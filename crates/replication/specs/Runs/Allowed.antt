@@ -1,6 +1,5 @@
 -- Document 01, 'Allowed runs': a field for each of its sentences, and for each of the thesis's Specifications 1 to 7 as that section reads them.
 -- What holds by definition (of `Run`, `worldAt`, `placeAt`, `Sends`) or is proved of the machine has no field; docs/DECISIONS.md says which.
--- Assumes nothing.
 use Prim.Native.Nat.{ℕ, _<_, _≤_}
 use mathlib.Core.Path.{_≡_}
 use mathlib.Core.Bool.{true, false}

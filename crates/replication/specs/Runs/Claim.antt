@@ -1,5 +1,4 @@
 -- Demand 3: what is claimed of every allowed run, stray events included, at the beginning and after each event, crash or store.
--- Assumes nothing.
 use Prim.Native.Nat.{ℕ, _≤_, _<_}
 use mathlib.Core.Path.{_≡_}
 use mathlib.Core.Bool.{Bool, true, false}
@@ -10,7 +9,7 @@ use lib.ListN.{length}
 use Rattle.base.specs.Tests.{pick}
 use Rattle.base.specs.Lists.{at, Begins}
 use Rattle.base.specs.Sets.{everyone}
-use Rattle.format.specs.Types.{Action, Primary}
+use Rattle.format.specs.Types.{Action, Primary, firstPrimary}
 use Rattle.replication.specs.Machine.Types.{Server, taken}
 use Rattle.replication.specs.Machine.Step.{installs}
 use Rattle.replication.specs.Images.{arrive, sourceOf}
@@ -43,7 +42,7 @@ module _ (n q : ℕ) (l : Run) where
 
   -- "Primary components are the start's and each Install's (index, attempt, set)."
   pub data IsPrimary : Primary → Type 0 where
-    of-start : IsPrimary (record { index = 0; attempt = 0; set = everyone n })
+    of-start : IsPrimary (firstPrimary (everyone n))
     of-install : (p i k : ℕ) (e : List ℕ) (t : Server) (r : List (List ℕ)) (b : Bool) (g : List Action) → at l p ≡ some (event i e k)
         → arrive (worldAt n q l p .images i) e ≡ taken t r b g → installs (sourceOf (worldAt n q l p .images i) e) e ≡ true
         → IsPrimary (t .votes .last)

@@ -1,6 +1,5 @@
 -- What happens in a run, in the thesis's terms (chapter 4): configuration changes, sendings, deliveries, crashes; causality, and the precedes
 -- relation.
--- Assumes nothing.
 use Prim.Native.Nat.{ℕ, suc, _<_}
 use mathlib.Core.Path.{_≡_}
 use mathlib.Core.Bool.{Bool, true, false}

@@ -1,5 +1,4 @@
 -- "a noted length never falls": of one event, and of a server in every run, allowed or not.
--- Assumes nothing.
 use Prim.Native.Nat.{ℕ, suc, _≤_}
 use mathlib.Core.Path.{_≡_}
 use mathlib.Core.Bool.{Bool, true}

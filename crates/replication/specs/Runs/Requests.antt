@@ -1,5 +1,4 @@
 -- Document 02, K4: what becomes of requests. Of one server the events may be any, with recoveries and stores anywhere.
--- Assumes nothing.
 use Prim.Native.Nat.{ℕ, _≤_, _<_}
 use mathlib.Core.Path.{_≡_}
 use mathlib.Core.Bool.{Bool, true}

@@ -1,5 +1,4 @@
 -- Document 01, 'Allowed runs': a run of all servers, and what stands at each of its places.
--- Assumes nothing.
 use Prim.Native.Nat.{ℕ}
 use mathlib.Core.Bool.{Bool, true, false}
 use mathlib.Core.List.{List, [], _∷_}

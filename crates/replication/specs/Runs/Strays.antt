@@ -1,6 +1,5 @@
 -- Demand 3, "refused events included": a run that is allowed once stray events are struck out, events that the machine refuses and that the group
 -- layer need not have had a right to bring.
--- Assumes nothing.
 use Prim.Native.Nat.{ℕ, suc, _<_}
 use mathlib.Core.Path.{_≡_}
 use mathlib.Core.Bool.{Bool, true, false}

@@ -1,4 +1,4 @@
-use Rattle.engine.proofs.SizeLaws.{sizes-answered}
+use Rattle.image.proofs.SizeLaws.{sizes-answered}
 use Rattle.state_check.proofs.NumberAnswer.{brief-seven, least-short, least-long, formula-short, context-long, checked-eight, checked-zero}
 use Rattle.base.proofs.BytesLaws.{given-bytes}
 use borrow.Author.Needs.{needs}

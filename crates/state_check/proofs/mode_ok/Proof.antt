@@ -4,7 +4,7 @@ use Rattle.state_check.specs.Checks.{modeTest, modeOk}
 use borrow.Author.Needs.{needs}
 use Rattle.state_check.proofs.mode_ok.Statement.{statement}
 use Rattle.state_check.proofs.mode_ok.Tie as tie
-use Rattle.engine.specs.Image.{modeNumber}
+use Rattle.image.specs.Header.{modeNumber}
 
 returns : tie.Need-returns
 unfolding modeOk modeTest modeNumber

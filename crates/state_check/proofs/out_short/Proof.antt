@@ -1,4 +1,4 @@
-use Rattle.engine.proofs.SizeLaws.{sizes-answered}
+use Rattle.image.proofs.SizeLaws.{sizes-answered}
 use Rattle.state_check.proofs.NumberAnswer.{out-by-least, out-by-formula}
 use borrow.Author.Needs.{needs}
 use Rattle.state_check.proofs.out_short.Statement.{statement}

@@ -1,6 +1,6 @@
 use Rattle.base.proofs.Branches.{told}
 use Rattle.format.specs.Types.{kindNumber}
-use Rattle.buffers.specs.Buffers.{isRecovery}
+use Rattle.daemons.specs.Buffers.{isRecovery}
 use Rattle.base.proofs.TestLaws.{tests}
 use borrow.Author.Needs.{needs}
 use Rattle.burst.proofs.slices.is_recovery.Statement.{statement}

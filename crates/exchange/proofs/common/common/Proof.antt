@@ -34,7 +34,12 @@ add-common-of : tie.Need-add-common-of
 add-common-of c = search needs
 
 common-of-requires : tie.Need-common-of-requires
-common-of-requires c κs = (search needs, search (needs, first-sought), search needs, search needs, search (needs, fits-inside), search (needs, first-short))
+common-of-requires c κs = (
+  search needs,
+  search (needs, first-sought),
+  record { room = search needs; most = search needs; lists = search (needs, fits-inside) },
+  search (needs, first-short),
+)
 
 same-length : tie.Need-same-length
 same-length c = search needs

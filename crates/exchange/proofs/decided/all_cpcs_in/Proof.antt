@@ -1,5 +1,5 @@
 use native.Mathlib.Omega.{arith}
-use Rattle.engine.proofs.InPlace.{such-header}
+use Rattle.image.proofs.InPlace.{such-header}
 use Rattle.exchange.proofs.DecidedLaws.{cpcs-told}
 use borrow.Author.Needs.{needs}
 use Rattle.exchange.proofs.decided.all_cpcs_in.Statement.{statement}

@@ -1,5 +1,5 @@
 use native.Mathlib.Omega.{arith}
-use Rattle.engine.proofs.InPlace.{such-header}
+use Rattle.image.proofs.InPlace.{such-header}
 use Rattle.exchange.proofs.DecidedLaws.{room-held, quorum-told}
 use borrow.Author.Needs.{needs}
 use Rattle.exchange.proofs.decided.quorum_here.Statement.{statement}

@@ -18,6 +18,9 @@ abbrev μ-loop : tie.MeasureT-loop
 first-requires : tie.Need-first-requires Inv-loop μ-loop
 first-requires c κs = search needs
 
+first-requires-2 : tie.Need-first-requires-2 Inv-loop μ-loop
+first-requires-2 c κs = search needs
+
 returns : tie.Need-returns Inv-loop μ-loop
 returns c = search (needs, taken-none)
 
@@ -52,6 +55,7 @@ taken-primary-spec =
     Inv-loop
     μ-loop
     first-requires
+    first-requires-2
     returns
     last-requires
     add-k

@@ -1,4 +1,4 @@
-use Rattle.engine.proofs.InPlace.{such-header}
+use Rattle.image.proofs.InPlace.{such-header}
 use Rattle.install.proofs.InstallLaws.{votes-low, votes-installed}
 use borrow.Author.Needs.{needs}
 use Rattle.install.proofs.installing.install_votes.Statement.{statement}

@@ -1,5 +1,6 @@
 use Rattle.replication.specs.Machine.Install.{installVotes}
-use Rattle.engine.specs.Header.{headerOf, lastOf, markNumbers}
+use Rattle.image.specs.Header.{headerOf, markNumbers}
+use Rattle.record.specs.Values.{lastOf}
 use borrow.Author.Needs.{needs}
 use Rattle.install.proofs.installing.next_primary.Statement.{statement}
 use Rattle.install.proofs.installing.next_primary.Tie as tie

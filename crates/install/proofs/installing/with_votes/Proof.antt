@@ -1,6 +1,6 @@
 use Rattle.replication.specs.Machine.Install.{installVotes}
 use Rattle.replication.specs.Machine.Types.{noYellow}
-use Rattle.engine.specs.Header.{headerOf}
+use Rattle.image.specs.Header.{headerOf}
 use borrow.Author.Needs.{needs}
 use Rattle.install.proofs.installing.with_votes.Statement.{statement}
 use Rattle.install.proofs.installing.with_votes.Tie as tie

@@ -1,6 +1,6 @@
 use borrow.Author.Needs.{needs}
 use Rattle.outgoing.proofs.ResendingLaws.{all-start, all-again, all-end}
-use Rattle.engine.specs.Decode.{greensIn}
+use Rattle.image.specs.Decode.{greensIn}
 use Rattle.outgoing.specs.Resending.{atPosition, Sends}
 use Rattle.base.specs.Lists.{gather, above}
 use Prim.Native.Nat.{_-_, _≤_}

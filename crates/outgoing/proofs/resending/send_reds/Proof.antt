@@ -5,7 +5,7 @@ use Prim.Native.Nat.{_*_, _-_, _≤_}
 use native.Mathlib.Omega.{arith}
 use Rattle.outgoing.proofs.resending.send_reds.Statement.{statement}
 use Rattle.outgoing.proofs.resending.send_reds.Tie as tie
-use Rattle.engine.specs.Decode.{quotaIn}
+use Rattle.image.specs.Decode.{quotaIn}
 
 abbrev Inv-loop : tie.InvT-loop
 Inv-loop state out₀ at table me servers next₀ c₀ out next c = (c ≤ servers) × Sends (c * quotaIn state) (redParts state c) at out₀ out next

@@ -4,7 +4,7 @@ use Rattle.outgoing.proofs.states.own_numbers.Statement.{statement}
 use Rattle.outgoing.proofs.states.own_numbers.Tie as tie
 use Rattle.outgoing.proofs.states.own_numbers.Reads as reads
 use Rattle.outgoing.proofs.states.own_numbers.Lts as lts
-use Rattle.engine.proofs.header.load.Reads as load-reads
+use Rattle.image.proofs.header.load.Reads as load-reads
 use Rattle.outgoing.proofs.states.own_head.Reads as own-head-reads
 
 load-requires : tie.Need-load-requires

@@ -1,5 +1,5 @@
 use native.Mathlib.Omega.{arith}
-use Rattle.engine.proofs.InPlace.{such-header}
+use Rattle.image.proofs.InPlace.{such-header}
 use Rattle.queries.proofs.MeetingLaws.{planned-few, planned-elsewhere, planned-counted}
 use borrow.Author.Needs.{needs}
 use Rattle.queries.proofs.meeting.resent_planned.Statement.{statement}

@@ -1,6 +1,6 @@
 use Rattle.queue.proofs.FindLaws.{find-start, find-found, find-again, find-end}
 use Rattle.queue.specs.Queue.{position}
-use Rattle.engine.specs.Decode.{actionsAt}
+use Rattle.image.specs.Decode.{actionsAt}
 use Rattle.record.specs.Values.{idOf}
 use Prim.Native.Nat.{_+_, _*_, _-_, _≤_}
 use mathlib.Core.Path.{_≡_}
@@ -10,7 +10,7 @@ use Rattle.queue.proofs.finding.find.Statement.{statement}
 use Rattle.queue.proofs.finding.find.Tie as tie
 use Rattle.queue.proofs.finding.find.Reads as reads
 use Rattle.queue.proofs.finding.find.Lts as lts
-use Rattle.engine.specs.Layout.{slotSize}
+use Rattle.image.specs.Layout.{slotSize}
 
 abbrev Inv-loop : tie.InvT-loop
 Inv-loop state at count creator index k₀ k = (k ≤ count) × (position (idOf creator index) (actionsAt count state at) ≡ k + position (idOf creator index) (actionsAt (count - k) state (at + slotSize * k)))

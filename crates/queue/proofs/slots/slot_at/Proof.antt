@@ -8,7 +8,7 @@ use native.Mathlib.Omega.{arith}
 use borrow.Author.Needs.{needs}
 use Rattle.queue.proofs.slots.slot_at.Statement.{statement}
 use Rattle.queue.proofs.slots.slot_at.Tie as tie
-use Rattle.engine.specs.Layout.{slotSize}
+use Rattle.image.specs.Layout.{slotSize}
 
 abbrev Inv-loop : tie.InvT-loop
 Inv-loop s at x₀ j₀ x j = (j ≤ slotSize) × (x ≡ patched 0 (take j (drop at s)) (replicate {A = ℕ} slotSize 0))

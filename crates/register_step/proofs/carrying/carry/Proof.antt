@@ -7,7 +7,7 @@ use Rattle.register_step.proofs.carrying.carry.Statement.{statement}
 use Rattle.register_step.proofs.carrying.carry.Tie as tie
 use Rattle.register_step.proofs.carrying.carry.Reads as reads
 use Rattle.register_step.proofs.carrying.carry.Lts as lts
-use Rattle.engine.proofs.places.place_of.Reads as place-of-reads
+use Rattle.image.proofs.places.place_of.Reads as place-of-reads
 use Rattle.queue.proofs.history.green_slot.Reads as green-slot-reads
 use Rattle.octets.proofs.numbers.num32.Reads as num32-reads
 use Rattle.register_step.proofs.carrying.apply_slot.Reads as apply-slot-reads

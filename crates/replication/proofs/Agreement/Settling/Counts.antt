@@ -113,10 +113,6 @@ module _ {n q : ℕ} {l : Run} (A : Allowed n q l) (c : Configuration) (r : Reac
       let b = state-at y f in
       state-comes-once A (coming A (a .comes) refl) (coming A (b .comes) refl) refl refl (a .inside) (b .inside) (sym (a .name) ∙ g ∙ b .name)
 
-  pub states-most : arrived n q l c ofState i p ≤ size (c .set)
-  states-most =
-      omega (arith, arrived-length n q l c ofState i p, most-members (brings n q l c ofState i) p (nameAt n q l i) n (c .set) small state-member state-once)
-
   pub states-all : everyStateIn (membershipAt n q l p i) ≡ true → arrived n q l c ofState i p ≡ size (c .set)
   unfolding kindNumber kindOf namedIn
   states-all full =

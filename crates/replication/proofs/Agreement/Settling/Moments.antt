@@ -31,7 +31,7 @@ use Rattle.replication.proofs.Agreement.Exchange.PastExchange.{ended-co
 use Rattle.replication.proofs.Agreement.Exchange.ResentTaken.{most-planned}
 use Rattle.replication.proofs.Agreement.Settling.Arrivals.{arrived-onward}
 use Rattle.replication.proofs.Agreement.Settling.Places.{undisturbed-earlier, undisturbed-place}
-use Rattle.replication.proofs.Agreement.Settling.Counts.{there-now, states-most, states-all, states-fewer, cpcs-most, cpcs-all, cpcs-fewer, resent-arrived}
+use Rattle.replication.proofs.Agreement.Settling.Counts.{there-now, states-all, states-fewer, cpcs-most, cpcs-all, cpcs-fewer, resent-arrived}
 use Rattle.replication.proofs.Agreement.Settling.States.{states-are}
 
 module _ {n q : ℕ} {l : Run} (A : Allowed n q l) (c : Configuration) (r : ReachesAll n q l c) (agreed : quorum (allStates n q l c r) (c .set) ≡ true) where

@@ -6,7 +6,7 @@ use mathlib.Core.List.{List}
 use mathlib.Core.Logic.{_⊎_, inl, inr}
 use mathlib.Core.Option.{some}
 use Rattle.base.proofs.TestLaws.{not-both}
-use Rattle.format.specs.Types.{Action, Record, action, retransmission, state, cpc, regular, transitional, request, recovery}
+use Rattle.format.specs.Types.{Action, component, Record, action, retransmission, state, cpc, regular, transitional, request, recovery}
 use Rattle.replication.specs.Machine.Types.{Mode, Non-prim, Reg-prim, Trans-prim, Exchange-states, Exchange-actions, Construct, No, Un, Votes, Configuration, Server, clearedMark}
 use Rattle.replication.specs.Machine.Colours.{yellow}
 use Rattle.replication.specs.Machine.Install.{install, installVotes}
@@ -74,6 +74,7 @@ pub record Installing (s t : Server) : Type 0 where
   pub index : t .votes .last .index ≡ s .votes .last .index + 1
   pub attempt : t .votes .last .attempt ≡ s .votes .attempt
   pub set : t .votes .last .set ≡ s .votes .mark .set
+  pub last : t .votes .last ≡ component (s .votes .last .index + 1) (s .votes .attempt) (s .votes .mark .set)
   pub mark : t .votes .mark ≡ s .votes .mark
 
 -- Whether the record r, if s takes it, installs a primary component.
@@ -145,6 +146,7 @@ module _ (s : Server) where
         index = ap (λ p. p .index) (y .last);
         attempt = ap (λ p. p .attempt) (y .last);
         set = ap (λ p. p .set) (y .last);
+        last = y .last;
         mark = y .mark;
       })
   votes-step {r} (L.exchanges k p a e c) = keeps refl (in-state Exchange-actions r _ e refl) (same-votes-refl _) (same-phase s _ refl refl refl)
@@ -159,7 +161,7 @@ module _ (s : Server) where
       (record { judged = withState x s; ends = y; exchanging = ap inExchange e; me = refl; votes = refl; configuration = refl; complete = λ f. c })
   votes-step {r} (L.counts k i e c) = keeps refl (in-state Construct r _ e c) (same-votes-refl _) (same-phase s _ refl refl refl)
   votes-step {r} (L.installs k i e c) =
-      installs refl (in-state Construct r _ e c) (record { from = inl e; to = inl refl; index = refl; attempt = refl; set = refl; mark = refl })
+      installs refl (in-state Construct r _ e c) (record { from = inl e; to = inl refl; index = refl; attempt = refl; set = refl; last = refl; mark = refl })
   votes-step {r} (L.countsLate k i e c) = keeps refl (in-state No r _ e refl) (same-votes-refl _) (same-phase s _ refl refl refl)
   votes-step {r} (L.countsAllLate k i e c) =
       keeps refl (in-state No r _ e refl) (same-votes-refl _) (same-phase s _ refl (ap inExchange (sym e)) (ap attempting (sym e)))

@@ -5,7 +5,7 @@ use native.Mathlib.Omega.{arith}
 use native.Mathlib.Decide.{decLt}
 use Rattle.base.proofs.Chains.{strong}
 use Rattle.base.specs.Sets.{everyone}
-use Rattle.format.specs.Types.{Primary, State}
+use Rattle.format.specs.Types.{Primary, firstPrimary, State}
 use Rattle.replication.specs.Machine.Types.{Configuration, Server, start}
 use Rattle.replication.specs.Machine.Step.{collected}
 use Rattle.replication.specs.Images.{started}
@@ -25,7 +25,7 @@ use Rattle.replication.proofs.Agreement.Votes.Rising.{image-votes}
 
 -- "last primary (index 0, attempt 0, all servers)"
 abbrev pub startPrimary : ℕ → Primary
-startPrimary n = record { index = 0; attempt = 0; set = everyone n }
+startPrimary n = firstPrimary (everyone n)
 
 module _ {n q : ℕ} {l : Run} (A : Allowed n q l) where
   -- Before p the primary a was installed in c, which j took at w, and i took d at e, no earlier in the one order than c.

@@ -5,7 +5,7 @@ use mathlib.Core.List.{List}
 use native.Mathlib.Omega.{arith}
 use Rattle.base.proofs.Chains.{strong}
 use Rattle.base.proofs.TestLaws.{not-both}
-use Rattle.format.specs.Types.{Primary, Mark, State}
+use Rattle.format.specs.Types.{Primary, component, Mark, State}
 use Rattle.replication.specs.Machine.Types.{Votes, Configuration, start, clearedMark}
 use Rattle.replication.specs.Machine.Exchange.{takenPrimary, takenAttempt, takenVotes, attempted, ownMark, judgedMark, keptMark}
 use Rattle.replication.specs.Machine.Step.{collected}
@@ -28,7 +28,7 @@ abbrev pub attemptMark : ℕ → List State → Mark
 attemptMark here xs = record { status = 1; index = takenPrimary xs .index; attempt = takenAttempt xs + 1; set = here; bits = 0 }
 
 abbrev pub attemptPrimary : ℕ → List State → Primary
-attemptPrimary here xs = record { index = takenPrimary xs .index + 1; attempt = takenAttempt xs + 1; set = here }
+attemptPrimary here xs = component (takenPrimary xs .index + 1) (takenAttempt xs + 1) here
 
 alike-trans : {m o u : Mark} → Alike m o → Alike o u → Alike m u
 alike-trans h k = record { status = k .status; index = k .index ∙ h .index; attempt = k .attempt ∙ h .attempt; set = k .set ∙ h .set }
@@ -76,10 +76,10 @@ module _ {n q : ℕ} {l : Run} (A : Allowed n q l) (X : ExchangeFacts n q l) whe
       let g = installing-at x in
       let e = sym (x .acts .memory-next) in
       let xs = markings-agree (a .marking) m in
-      let index = ap (λ s. s .votes .last .index) e ∙ g .index ∙ ap (λ z. z .index + 1) (a .votes .last ∙ marking-last (a .marking)) ∙ ap (λ z. takenPrimary z .index + 1) xs in
-      let attempt = ap (λ s. s .votes .last .attempt) e ∙ g .attempt ∙ a .votes .attempt ∙ marking-attempt (a .marking) ∙ ap (λ z. takenAttempt z + 1) xs in
-      let set = ap (λ s. s .votes .last .set) e ∙ g .set ∙ ap (λ z. z .set) (a .votes .mark ∙ marking-mark (a .marking)) in
-      λ z. record { index = index z; attempt = attempt z; set = set z }
+      let index = ap (λ z. z .index + 1) (a .votes .last ∙ marking-last (a .marking)) ∙ ap (λ z. takenPrimary z .index + 1) xs in
+      let attempt = a .votes .attempt ∙ marking-attempt (a .marking) ∙ ap (λ z. takenAttempt z + 1) xs in
+      let set = ap (λ z. z .set) (a .votes .mark ∙ marking-mark (a .marking)) in
+      ap (λ s. s .votes .last) e ∙ g .last ∙ (λ z. component (index z) (attempt z) (set z))
 
   -- ---- where a mark is from
 

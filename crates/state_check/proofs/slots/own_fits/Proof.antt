@@ -8,7 +8,7 @@ use Rattle.state_check.specs.Slots.{ownReach, ownFits}
 use Rattle.state_check.proofs.SlotCode.{own-again, own-denied, own-end}
 use Rattle.state_check.proofs.slots.own_fits.Statement.{statement}
 use Rattle.state_check.proofs.slots.own_fits.Tie as tie
-use Rattle.engine.specs.Layout.{slotSize}
+use Rattle.image.specs.Layout.{slotSize}
 
 abbrev Inv-loop : tie.InvT-loop
 Inv-loop c b k at count t here₀ left₀ i₀ here left i = (here + slotSize * left ≤ length b) × (i + left ≤ ownReach) × (ownFits (contextOf c) k count b at ≡ ownFits (contextOf c) i left b here)

@@ -3,10 +3,10 @@ use borrow.Author.Needs.{needs}
 use Prim.Native.Nat.{_-_}
 use mathlib.Core.Path.{_≡_}
 use lib.ListN.{length}
-use Rattle.engine.specs.Layout.{slotSize}
+use Rattle.image.specs.Layout.{slotSize}
 use Rattle.record.specs.Context.{contextOf}
 use Rattle.state_check.specs.Slots.{queueFits}
-use Rattle.record.proofs.Turns.{Along, along-start, along-before, along-fits, along-places}
+use Rattle.record.proofs.Turns.{Along, along-start, along-here, along-before, along-fits, along-places}
 use Rattle.state_check.proofs.QueueCode.{queueLeft, slots-inside, next-here, next-along, queue-start, queue-denied, queue-again, queue-end}
 use Rattle.state_check.proofs.slots.queue_fits_by.Statement.{statement}
 use Rattle.state_check.proofs.slots.queue_fits_by.Tie as tie
@@ -21,7 +21,15 @@ loop-holds : tie.Need-loop-holds Inv-loop μ-loop
 loop-holds c = search (needs, along-start, queue-start)
 
 next-fits-requires : tie.Need-next-fits-requires Inv-loop μ-loop
-next-fits-requires c κs = search (needs, slots-inside, next-here, along-before, along-places)
+next-fits-requires c κs = (
+  record { context = search needs; masks = search needs; cuts-end = search needs; slots-end = search (needs, next-here) },
+  record {
+    before = search (needs, slots-inside, along-before);
+    inside = search (needs, slots-inside, along-here);
+    places = search (needs, along-places);
+    marked = search needs;
+  },
+)
 
 same-length : tie.Need-same-length Inv-loop μ-loop
 same-length c = search needs

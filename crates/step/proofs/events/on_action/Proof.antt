@@ -7,8 +7,8 @@ use Rattle.step.proofs.events.on_action.Lts as lts
 use Rattle.step.proofs.Answer.refused.Reads as refused-reads
 use Rattle.step.proofs.events.colour.Reads as colour-reads
 use Rattle.step.proofs.events.takes_action.Reads as takes-action-reads
-use Rattle.rows.proofs.is_member.Reads as is-member-reads
-use Rattle.rows.proofs.numbered_own.Reads as numbered-own-reads
+use Rattle.guards.proofs.is_member.Reads as is-member-reads
+use Rattle.guards.proofs.numbered_own.Reads as numbered-own-reads
 
 takes-action-requires : tie.Need-takes-action-requires
 takes-action-requires c κs = search needs

@@ -8,7 +8,7 @@ use Rattle.step.proofs.Answer.refused.Reads as refused-reads
 use Rattle.step.proofs.joining.join.Reads as join-reads
 use Rattle.step.proofs.joining.join_unmarked.Reads as join-unmarked-reads
 use Rattle.step.proofs.joining.join_yellow.Reads as join-yellow-reads
-use Rattle.rows.proofs.regular_due.Reads as regular-due-reads
+use Rattle.guards.proofs.regular_due.Reads as regular-due-reads
 
 regular-due-requires : tie.Need-regular-due-requires
 regular-due-requires c κs = search needs

@@ -9,8 +9,8 @@ use Rattle.step.proofs.Answer.quiet.Reads as quiet-reads
 use Rattle.step.proofs.Answer.refused.Reads as refused-reads
 use Rattle.step.proofs.events.takes_retransmission.Reads as takes-retransmission-reads
 use Rattle.step.proofs.exchanging.exchange.Reads as exchange-reads
-use Rattle.rows.proofs.is_member.Reads as is-member-reads
-use Rattle.rows.proofs.numbered_own.Reads as numbered-own-reads
+use Rattle.guards.proofs.is_member.Reads as is-member-reads
+use Rattle.guards.proofs.numbered_own.Reads as numbered-own-reads
 
 takes-retransmission-requires : tie.Need-takes-retransmission-requires
 takes-retransmission-requires c κs = search needs

@@ -1,4 +1,4 @@
-use Rattle.engine.proofs.InPlace.{such-header}
+use Rattle.image.proofs.InPlace.{such-header}
 use Rattle.step.proofs.ConfigurationLaws.{transitional-untaken, transitional-second, transitional-left}
 use borrow.Author.Needs.{needs}
 use Rattle.step.proofs.events.on_transitional.Statement.{statement}
@@ -8,8 +8,8 @@ use Rattle.step.proofs.events.on_transitional.Lts as lts
 use Rattle.updates.proofs.membership.leave.Reads as leave-reads
 use Rattle.step.proofs.Answer.quiet.Reads as quiet-reads
 use Rattle.step.proofs.Answer.refused.Reads as refused-reads
-use Rattle.rows.proofs.after_transitional.Reads as after-transitional-reads
-use Rattle.rows.proofs.transitional_due.Reads as transitional-due-reads
+use Rattle.guards.proofs.after_transitional.Reads as after-transitional-reads
+use Rattle.guards.proofs.transitional_due.Reads as transitional-due-reads
 
 after-transitional-requires : tie.Need-after-transitional-requires
 after-transitional-requires c κs = search needs

@@ -1,5 +1,5 @@
 use Rattle.step.proofs.RetransmissionLaws.{left-some, closed}
-use Rattle.engine.proofs.InPlace.{such-header}
+use Rattle.image.proofs.InPlace.{such-header}
 use borrow.Author.Needs.{needs}
 use Rattle.step.proofs.exchanging.close.Statement.{statement}
 use Rattle.step.proofs.exchanging.close.Tie as tie

@@ -1,4 +1,4 @@
-use Rattle.engine.proofs.InPlace.{such-some}
+use Rattle.image.proofs.InPlace.{such-some}
 use Rattle.step.proofs.EndLaws.{taken-count, taken-room, all-decided}
 use lib.ListN.{length-take}
 use native.Mathlib.Omega.{arith}

@@ -1,5 +1,5 @@
 use Rattle.step.proofs.RetransmissionLaws.{place-room, green-few, place-next, place-zero, place-above, place-below}
-use Rattle.engine.proofs.InPlace.{such-header}
+use Rattle.image.proofs.InPlace.{such-header}
 use native.Mathlib.Omega.{arith}
 use borrow.Author.Needs.{needs}
 use Rattle.step.proofs.exchanging.place_action.Statement.{statement}

@@ -1,5 +1,5 @@
 use Rattle.step.proofs.Installed.{mode-some, mode-installed}
-use Rattle.engine.proofs.InPlace.{holds-header}
+use Rattle.image.proofs.InPlace.{holds-header}
 use borrow.Author.Needs.{needs}
 use Rattle.step.proofs.installing.install_in.Statement.{statement}
 use Rattle.step.proofs.installing.install_in.Tie as tie

@@ -1,4 +1,4 @@
-use Rattle.engine.proofs.InPlace.{such-some}
+use Rattle.image.proofs.InPlace.{such-some}
 use Rattle.step.proofs.TakingLaws.{recovery-done}
 use borrow.Author.Needs.{needs}
 use Rattle.step.proofs.taking.recovered.Statement.{statement}

@@ -4,9 +4,9 @@ use Rattle.step.proofs.taking.step.Statement.{statement}
 use Rattle.step.proofs.taking.step.Tie as tie
 use Rattle.step.proofs.taking.step.Reads as reads
 use Rattle.step.proofs.taking.step.Lts as lts
-use Rattle.engine.proofs.header.load.Reads as load-reads
+use Rattle.image.proofs.header.load.Reads as load-reads
 use Rattle.record.proofs.State.context.Reads as context-reads
-use Rattle.record.proofs.reader.read.Reads as read-reads
+use Rattle.reader.proofs.read.Reads as read-reads
 use Rattle.step.proofs.Answer.refused.Reads as refused-reads
 use Rattle.step.proofs.taking.number_of.Reads as number-of-reads
 use Rattle.step.proofs.taking.on_event.Reads as on-event-reads

@@ -1,4 +1,4 @@
-use Rattle.engine.proofs.InPlace.{such-header}
+use Rattle.image.proofs.InPlace.{such-header}
 use Rattle.updates.proofs.ExchangeLaws.{attempt-low, attempt-made}
 use borrow.Author.Needs.{needs}
 use Rattle.updates.proofs.exchanges.attempt.Statement.{statement}

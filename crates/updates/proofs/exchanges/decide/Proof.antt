@@ -1,4 +1,4 @@
-use Rattle.engine.proofs.InPlace.{such-some}
+use Rattle.image.proofs.InPlace.{such-some}
 use Rattle.updates.proofs.ExchangeLaws.{decided-room, decided-made}
 use borrow.Author.Needs.{needs}
 use Rattle.updates.proofs.exchanges.decide.Statement.{statement}

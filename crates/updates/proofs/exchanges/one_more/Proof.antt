@@ -1,4 +1,4 @@
-use Rattle.engine.proofs.InPlace.{such-header}
+use Rattle.image.proofs.InPlace.{such-header}
 use Rattle.updates.proofs.ExchangeLaws.{come-low, one-more-come}
 use borrow.Author.Needs.{needs}
 use Rattle.updates.proofs.exchanges.one_more.Statement.{statement}

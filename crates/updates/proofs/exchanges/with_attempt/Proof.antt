@@ -1,8 +1,8 @@
 use Rattle.updates.proofs.ExchangeLaws.{set-here}
-use Rattle.engine.specs.Image.{modeNumber}
 use Rattle.replication.specs.Machine.Exchange.{attempted}
 use Rattle.replication.specs.Machine.Step.{attempting, hereSet}
-use Rattle.engine.specs.Header.{headerOf, lastOf, markNumbers}
+use Rattle.image.specs.Header.{headerOf, markNumbers, modeNumber}
+use Rattle.record.specs.Values.{lastOf}
 use mathlib.Core.Path.{refl}
 use borrow.Author.Needs.{needs}
 use Rattle.updates.proofs.exchanges.with_attempt.Statement.{statement}

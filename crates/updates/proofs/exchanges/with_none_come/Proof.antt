@@ -1,6 +1,5 @@
-use Rattle.engine.specs.Image.{modeNumber}
 use Rattle.replication.specs.Machine.Step.{resending}
-use Rattle.engine.specs.Header.{headerOf}
+use Rattle.image.specs.Header.{headerOf, modeNumber}
 use mathlib.Core.Path.{refl}
 use Rattle.updates.proofs.exchanges.with_none_come.Statement.{statement}
 use Rattle.updates.proofs.exchanges.with_none_come.Tie as tie

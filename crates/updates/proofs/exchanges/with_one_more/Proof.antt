@@ -1,5 +1,5 @@
 use Rattle.replication.specs.Machine.Step.{oneMore}
-use Rattle.engine.specs.Header.{headerOf}
+use Rattle.image.specs.Header.{headerOf}
 use mathlib.Core.Path.{refl}
 use borrow.Author.Needs.{needs}
 use Rattle.updates.proofs.exchanges.with_one_more.Statement.{statement}

@@ -1,5 +1,4 @@
-use Rattle.engine.specs.Image.{modeNumber}
-use Rattle.engine.specs.Header.{headerOf, statusOf, idOf, setOf, transitionalOf}
+use Rattle.image.specs.Header.{headerOf, statusOf, idOf, setOf, transitionalOf, modeNumber}
 use Rattle.updates.specs.Lists.{configurationOf}
 use Rattle.replication.specs.Machine.Step.{entering}
 use Rattle.updates.proofs.MembershipLaws.{without-senders}

@@ -1,6 +1,6 @@
 use mathlib.Core.Path.{refl}
 use Rattle.replication.specs.Machine.Step.{withCpc}
-use Rattle.engine.specs.Header.{headerOf}
+use Rattle.image.specs.Header.{headerOf}
 use borrow.Author.Needs.{needs}
 use Rattle.updates.proofs.membership.with_cpc.Statement.{statement}
 use Rattle.updates.proofs.membership.with_cpc.Tie as tie

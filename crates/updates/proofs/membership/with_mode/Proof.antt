@@ -1,5 +1,5 @@
 use mathlib.Core.Path.{refl}
-use Rattle.engine.specs.Header.{headerOf}
+use Rattle.image.specs.Header.{headerOf}
 use Rattle.updates.proofs.membership.with_mode.Statement.{statement}
 use Rattle.updates.proofs.membership.with_mode.Tie as tie
 

@@ -1,6 +1,6 @@
 use mathlib.Core.Path.{refl}
 use Rattle.replication.specs.Machine.Step.{leave}
-use Rattle.engine.specs.Header.{headerOf, statusOf, transitionalOf}
+use Rattle.image.specs.Header.{headerOf, statusOf, transitionalOf}
 use Rattle.updates.proofs.membership.with_transitional.Statement.{statement}
 use Rattle.updates.proofs.membership.with_transitional.Tie as tie
 

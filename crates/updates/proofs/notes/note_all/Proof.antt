@@ -1,7 +1,7 @@
 use Rattle.updates.proofs.NoteAllLaws.{front-some, note-start, note-room, note-turn, note-end}
 use Rattle.updates.specs.Noting.{noteFirst}
-use Rattle.engine.specs.Holding.{Holds}
-use Rattle.engine.specs.Image.{image}
+use Rattle.image.specs.Holding.{Holds}
+use Rattle.image.specs.Image.{image}
 use Rattle.replication.specs.Machine.Types.{Server, withNoted}
 use lib.ListN.{length}
 use Prim.Native.Nat.{_≤_, _-_}

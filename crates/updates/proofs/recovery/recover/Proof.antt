@@ -1,5 +1,5 @@
 use Rattle.updates.proofs.Recovered.{enter-room, recovery-made}
-use Rattle.engine.proofs.InPlace.{such-header}
+use Rattle.image.proofs.InPlace.{such-header}
 use native.Mathlib.Omega.{arith}
 use borrow.Author.Needs.{needs}
 use Rattle.updates.proofs.recovery.recover.Statement.{statement}

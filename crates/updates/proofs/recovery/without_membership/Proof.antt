@@ -1,7 +1,6 @@
-use Rattle.engine.specs.Image.{modeNumber}
 use Rattle.updates.proofs.MembershipLaws.{without-senders}
 use Rattle.updates.specs.Standing.{dropped}
-use Rattle.engine.specs.Header.{headerOf, statusOf, idOf, setOf, transitionalOf}
+use Rattle.image.specs.Header.{headerOf, statusOf, idOf, setOf, transitionalOf, modeNumber}
 use mathlib.Core.Path.{refl}
 use Rattle.updates.proofs.recovery.without_membership.Statement.{statement}
 use Rattle.updates.proofs.recovery.without_membership.Tie as tie

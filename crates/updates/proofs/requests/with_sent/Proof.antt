@@ -1,6 +1,6 @@
 use Rattle.replication.specs.Machine.Requests.{sendWaiting}
 use Rattle.replication.specs.Machine.WellFormed.{queue}
-use Rattle.engine.specs.Header.{headerOf}
+use Rattle.image.specs.Header.{headerOf}
 use mathlib.Core.Path.{refl}
 use Rattle.updates.proofs.requests.with_sent.Statement.{statement}
 use Rattle.updates.proofs.requests.with_sent.Tie as tie

@@ -1,4 +1,4 @@
-use Rattle.engine.proofs.Counts.{sizes-read}
+use Rattle.image.proofs.Counts.{sizes-read}
 use Rattle.updates.proofs.StateLaws.{state-place-read, state-place-fits}
 use borrow.Author.Needs.{needs}
 use Rattle.updates.proofs.states.state_place.Statement.{statement}

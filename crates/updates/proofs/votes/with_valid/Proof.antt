@@ -1,6 +1,6 @@
 use mathlib.Core.Path.{refl}
 use Rattle.replication.specs.Machine.Step.{yellowValid}
-use Rattle.engine.specs.Header.{headerOf}
+use Rattle.image.specs.Header.{headerOf}
 use Rattle.updates.proofs.votes.with_valid.Statement.{statement}
 use Rattle.updates.proofs.votes.with_valid.Tie as tie
 

@@ -1,5 +1,5 @@
 use Rattle.updates.specs.Standing.{voteNumbers}
-use Rattle.engine.specs.Header.{headerOf}
+use Rattle.image.specs.Header.{headerOf}
 use mathlib.Core.Path.{refl}
 use Rattle.updates.proofs.votes.with_votes.Statement.{statement}
 use Rattle.updates.proofs.votes.with_votes.Tie as tie

@@ -1,7 +1,7 @@
 use mathlib.Core.Path.{refl}
 use Rattle.replication.specs.Machine.Step.{unmarked}
 use Rattle.replication.specs.Machine.Types.{clearedMark}
-use Rattle.engine.specs.Header.{headerOf, markNumbers}
+use Rattle.image.specs.Header.{headerOf, markNumbers}
 use Rattle.updates.proofs.votes.without_mark.Statement.{statement}
 use Rattle.updates.proofs.votes.without_mark.Tie as tie
 

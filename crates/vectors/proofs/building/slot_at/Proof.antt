@@ -1,4 +1,4 @@
-use Rattle.engine.proofs.SizeLaws.{sizes-answered}
+use Rattle.image.proofs.SizeLaws.{sizes-answered}
 use borrow.Author.Needs.{needs}
 use Rattle.vectors.proofs.building.slot_at.Statement.{statement}
 use Rattle.vectors.proofs.building.slot_at.Tie as tie

@@ -1,5 +1,5 @@
 use native.Mathlib.Omega.{arith}
-use Rattle.engine.proofs.InPlace.{such-header}
+use Rattle.image.proofs.InPlace.{such-header}
 use Rattle.vectors.proofs.Checked.{creator-held}
 use borrow.Author.Needs.{needs}
 use Rattle.vectors.proofs.decisions.part.Statement.{statement}

@@ -1,4 +1,4 @@
-use Rattle.record.proofs.Callers.{action-placed, retransmission-placed, state-placed, request-placed}
+use Rattle.reader.proofs.Callers.{action-placed, retransmission-placed, state-placed, request-placed}
 use borrow.Author.Needs.{needs}
 use Rattle.vectors.proofs.reading.event.Statement.{statement}
 use Rattle.vectors.proofs.reading.event.Tie as tie

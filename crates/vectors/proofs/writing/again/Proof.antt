@@ -1,4 +1,4 @@
-use Rattle.record.proofs.Callers.{action-placed, retransmission-placed, state-placed}
+use Rattle.reader.proofs.Callers.{action-placed, retransmission-placed, state-placed}
 use borrow.Author.Needs.{needs}
 use Rattle.vectors.proofs.writing.again.Statement.{statement}
 use Rattle.vectors.proofs.writing.again.Tie as tie

@@ -1,0 +1,75 @@
+// Parts of a record, as a state's buffer holds them too, read where they lie.
+ghost use mathlib.Core.Path.{_≡_};
+ghost use Prim.Native.Nat.{_+_, _≤_};
+ghost use lib.ListN.{length};
+ghost use Rattle.format.specs.Places.{actionHeadSize, primarySize, markSize, stateCutsAt, standingSize};
+ghost use Rattle.record.specs.Events.{actionIn, lastIn, markIn, headIn};
+use crate::ActionHead;
+use crate::AttemptIndex;
+use crate::LastPrimary;
+use crate::Mark;
+use crate::PrimaryIndex;
+use crate::StateHead;
+use crate::events::ActionAt;
+use crate::events::Event;
+use octets::numbers::num8;
+use octets::numbers::num16;
+use octets::numbers::num32;
+
+// The action from `at` on.
+pub fn action_at(e: &[u8], at: usize) -> ActionAt
+    requires { ⌜ at + actionHeadSize ≤ length (now e) ⌝ }
+    ensures { λ r. ⌜ r ≡ actionIn (now (e .entry)) at ⌝ }
+{
+    ActionAt {
+        head: ActionHead {
+            creator: num8(e, at),
+            index: num16(e, at + ActionHead::INDEX),
+            green_length: num32(e, at + ActionHead::GREEN_LENGTH),
+        },
+        payload_at: at + ActionHead::SIZE,
+        payload_length: num8(e, at + ActionHead::PAYLOAD) as usize,
+    }
+}
+
+pub fn last_at(e: &[u8], at: usize) -> LastPrimary
+    requires { ⌜ at + primarySize ≤ length (now e) ⌝ }
+    ensures { λ r. ⌜ r ≡ lastIn (now (e .entry)) at ⌝ }
+{
+    LastPrimary {
+        index: PrimaryIndex(num32(e, at)),
+        attempt: AttemptIndex(num32(e, at + LastPrimary::ATTEMPT)),
+        set: num8(e, at + LastPrimary::SET),
+    }
+}
+
+pub fn mark_at(e: &[u8], at: usize) -> Mark
+    requires { ⌜ at + markSize ≤ length (now e) ⌝ }
+    ensures { λ r. ⌜ r ≡ markIn (now (e .entry)) at ⌝ }
+{
+    Mark {
+        status: num8(e, at),
+        index: PrimaryIndex(num32(e, at + Mark::INDEX)),
+        attempt: AttemptIndex(num32(e, at + Mark::ATTEMPT)),
+        set: num8(e, at + Mark::SET),
+        bits: num8(e, at + Mark::BITS),
+    }
+}
+
+// The numbers of a State of this many servers. Those behind its cuts begin at `at`.
+pub fn state_head(e: &[u8], servers: u8, at: usize) -> StateHead
+    requires { ⌜ (stateCutsAt ≤ at) × (at + standingSize ≤ length (now e)) ⌝ }
+    ensures { λ r. ⌜ r ≡ headIn servers (now (e .entry)) at ⌝ }
+{
+    StateHead {
+        sender: num8(e, Event::SENDER),
+        configuration: num32(e, Event::NUMBER),
+        servers,
+        green_length: num32(e, at),
+        attempt: AttemptIndex(num32(e, at + StateHead::ATTEMPT)),
+        last: last_at(e, at + StateHead::LAST),
+        mark: mark_at(e, at + StateHead::MARK),
+        yellow_status: num8(e, at + StateHead::YELLOW),
+        yellow_count: num16(e, at + StateHead::YELLOW_COUNT),
+    }
+}
