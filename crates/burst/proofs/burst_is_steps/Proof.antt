@@ -1,11 +1,9 @@
 use Rattle.burst.proofs.StepsLaws.{burst-is-steps}
 use Rattle.burst.proofs.burst_is_steps.Statement.{statement}
 use Rattle.burst.proofs.burst_is_steps.Tie as tie
-use Rattle.burst.proofs.burst_is_steps.Reads as reads
-use Rattle.burst.proofs.burst_is_steps.Lts as lts
-
-returns : tie.Need-returns
-returns c = burst-is-steps
 
 pub burst-is-steps-spec : {M : Type 1} → statement M
-burst-is-steps-spec = tie.close (tie.spec returns)
+burst-is-steps-spec =
+    tie.close
+    (tie.spec
+    (λ c. burst-is-steps))  -- returns

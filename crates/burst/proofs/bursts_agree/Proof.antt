@@ -2,8 +2,8 @@ use Rattle.burst.proofs.Agreement.{bursts-agree}
 use Rattle.burst.proofs.bursts_agree.Statement.{statement}
 use Rattle.burst.proofs.bursts_agree.Tie as tie
 
-returns : tie.Need-returns
-returns c = bursts-agree
-
 pub bursts-agree-spec : {M : Type 1} → statement M
-bursts-agree-spec = tie.close (tie.spec returns)
+bursts-agree-spec =
+    tie.close
+    (tie.spec
+    (λ c. bursts-agree))  -- returns

@@ -3,8 +3,8 @@ use Rattle.daemons.proofs.Agreement.{buffers-demand}
 use Rattle.daemons.proofs.buffers_agree.Statement.{statement}
 use Rattle.daemons.proofs.buffers_agree.Tie as tie
 
-returns : tie.Need-returns
-returns c = buffers-demand
-
 pub buffers-agree-spec : {M : Type 1} → statement M
-buffers-agree-spec = tie.close (tie.spec returns)
+buffers-agree-spec =
+    tie.close
+    (tie.spec
+    (λ c. buffers-demand))  -- returns

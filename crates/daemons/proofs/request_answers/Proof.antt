@@ -3,8 +3,8 @@ use Rattle.daemons.proofs.RequestLaws.{request-answers}
 use Rattle.daemons.proofs.request_answers.Statement.{statement}
 use Rattle.daemons.proofs.request_answers.Tie as tie
 
-returns : tie.Need-returns
-returns c = request-answers
-
 pub request-answers-spec : {M : Type 1} → statement M
-request-answers-spec = tie.close (tie.spec returns)
+request-answers-spec =
+    tie.close
+    (tie.spec
+    (λ c. request-answers))  -- returns

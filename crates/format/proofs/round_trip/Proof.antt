@@ -16,8 +16,8 @@ round-trip = record {
   setup-in-range = setup-in-range;
 }
 
-returns : tie.Need-returns
-returns c = round-trip
-
 pub round-trip-spec : {M : Type 1} → statement M
-round-trip-spec = tie.close (tie.spec returns)
+round-trip-spec =
+    tie.close
+    (tie.spec
+    (λ c. round-trip))  -- returns

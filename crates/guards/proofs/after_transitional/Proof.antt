@@ -7,8 +7,6 @@ use Rattle.guards.proofs.ModeLaws.{after-as, after-none}
 use borrow.Author.Needs.{needs}
 use Rattle.guards.proofs.after_transitional.Statement.{statement}
 use Rattle.guards.proofs.after_transitional.Tie as tie
-use Rattle.guards.proofs.after_transitional.Reads as reads
-use Rattle.guards.proofs.after_transitional.Lts as lts
 
 returns : tie.Need-returns
 unfolding modeAfter modeNamed modeNumber pick _=?_
@@ -30,9 +28,13 @@ returns-5 : tie.Need-returns-5
 unfolding modeAfter modeNamed modeNumber pick _=?_
 returns-5 c = after-as _ _ 5 (c .match .keys5) refl
 
-returns-6 : tie.Need-returns-6
-returns-6 c = search (needs, after-none)
-
 pub after-transitional-spec : {M : Type 1} → statement M
 after-transitional-spec =
-    tie.close (tie.spec returns returns-2 returns-3 returns-4 returns-5 returns-6)
+    tie.close
+    (tie.spec
+    returns
+    returns-2
+    returns-3
+    returns-4
+    returns-5
+    (λ c. search (needs, after-none)))  -- returns-6

@@ -3,11 +3,9 @@ use borrow.Author.Needs.{needs}
 use Rattle.guards.proofs.cpc_in.Statement.{statement}
 use Rattle.guards.proofs.cpc_in.Tie as tie
 
-has-requires : tie.Need-has-requires
-has-requires c κs = search needs
-
-returns : tie.Need-returns
-returns c = search (needs, cpc-told)
-
 pub cpc-in-spec : {M : Type 1} → statement M
-cpc-in-spec = tie.close (tie.spec has-requires returns)
+cpc-in-spec =
+    tie.close
+    (tie.spec
+    (λ c κs. search needs)  -- has-requires
+    (λ c. search (needs, cpc-told)))  -- returns

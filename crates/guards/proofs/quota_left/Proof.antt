@@ -3,8 +3,8 @@ use borrow.Author.Needs.{needs}
 use Rattle.guards.proofs.quota_left.Statement.{statement}
 use Rattle.guards.proofs.quota_left.Tie as tie
 
-returns : tie.Need-returns
-returns c = search (needs, quota-told)
-
 pub quota-left-spec : {M : Type 1} → statement M
-quota-left-spec = tie.close (tie.spec returns)
+quota-left-spec =
+    tie.close
+    (tie.spec
+    (λ c. search (needs, quota-told)))  -- returns

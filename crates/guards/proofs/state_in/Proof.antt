@@ -3,11 +3,9 @@ use borrow.Author.Needs.{needs}
 use Rattle.guards.proofs.state_in.Statement.{statement}
 use Rattle.guards.proofs.state_in.Tie as tie
 
-has-requires : tie.Need-has-requires
-has-requires c κs = search needs
-
-returns : tie.Need-returns
-returns c = search (needs, state-told)
-
 pub state-in-spec : {M : Type 1} → statement M
-state-in-spec = tie.close (tie.spec has-requires returns)
+state-in-spec =
+    tie.close
+    (tie.spec
+    (λ c κs. search needs)  -- has-requires
+    (λ c. search (needs, state-told)))  -- returns

@@ -3,8 +3,8 @@ use borrow.Author.Needs.{needs}
 use Rattle.guards.proofs.transitional_due.Statement.{statement}
 use Rattle.guards.proofs.transitional_due.Tie as tie
 
-returns : tie.Need-returns
-returns c = search (needs, transitional-first)
-
 pub transitional-due-spec : {M : Type 1} → statement M
-transitional-due-spec = tie.close (tie.spec returns)
+transitional-due-spec =
+    tie.close
+    (tie.spec
+    (λ c. search (needs, transitional-first)))  -- returns

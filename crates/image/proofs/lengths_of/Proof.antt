@@ -5,18 +5,9 @@ use borrow.Author.Needs.{needs}
 use Rattle.image.proofs.lengths_of.Statement.{statement}
 use Rattle.image.proofs.lengths_of.Tie as tie
 
-sizes-ok-requires : tie.Need-sizes-ok-requires
-sizes-ok-requires c κs = search needs
-
 returns : tie.Need-returns
 unfolding lengthsOf
 returns c = search (needs, pick-denied)
-
-state-length-requires : tie.Need-state-length-requires
-state-length-requires c κs = search (needs, sizes-answered)
-
-out-length-requires : tie.Need-out-length-requires
-out-length-requires c κs = search (needs, sizes-answered)
 
 returns-2 : tie.Need-returns-2
 unfolding lengthsOf
@@ -25,4 +16,9 @@ returns-2 c = search (needs, pick-answered, lengths-made)
 pub lengths-of-spec : {M : Type 1} → statement M
 lengths-of-spec =
     tie.close
-    (tie.spec sizes-ok-requires returns state-length-requires out-length-requires returns-2)
+    (tie.spec
+    (λ c κs. search needs)  -- sizes-ok-requires
+    returns
+    (λ c κs. search (needs, sizes-answered))  -- state-length-requires
+    (λ c κs. search (needs, sizes-answered))  -- out-length-requires
+    returns-2)

@@ -3,8 +3,8 @@ use Rattle.pegs.proofs.Nearest.{nearest-theorem}
 use Rattle.pegs.proofs.nearest_is_least.Statement.{statement}
 use Rattle.pegs.proofs.nearest_is_least.Tie as tie
 
-returns : tie.Need-returns
-returns c = nearest-theorem
-
 pub nearest-is-least-spec : {M : Type 1} → statement M
-nearest-is-least-spec = tie.close (tie.spec returns)
+nearest-is-least-spec =
+    tie.close
+    (tie.spec
+    (λ c. nearest-theorem))  -- returns

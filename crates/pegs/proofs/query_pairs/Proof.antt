@@ -3,8 +3,8 @@ use Rattle.pegs.proofs.QueryPairsHold.{query-pairs-hold}
 use Rattle.pegs.proofs.query_pairs.Statement.{statement}
 use Rattle.pegs.proofs.query_pairs.Tie as tie
 
-returns : tie.Need-returns
-returns c = query-pairs-hold
-
 pub query-pairs-spec : {M : Type 1} → statement M
-query-pairs-spec = tie.close (tie.spec returns)
+query-pairs-spec =
+    tie.close
+    (tie.spec
+    (λ c. query-pairs-hold))  -- returns

@@ -7,15 +7,9 @@ use borrow.Author.Needs.{needs}
 use Rattle.reader.proofs.action_ok.Statement.{statement}
 use Rattle.reader.proofs.action_ok.Tie as tie
 
-id-ok-requires : tie.Need-id-ok-requires
-id-ok-requires c κs = search needs
-
 returns : tie.Need-returns
 unfolding actionOk actionFrom actionOf
 returns c = search (needs, answers)
-
-length-ok-requires : tie.Need-length-ok-requires
-length-ok-requires c κs = search needs
 
 returns-2 : tie.Need-returns-2
 unfolding actionOk actionFrom actionOf
@@ -26,4 +20,11 @@ unfolding actionOk actionFrom actionOf PayloadInside
 returns-3 c = search (needs, answers, payload-law)
 
 pub action-ok-spec : {M : Type 1} → statement M
-action-ok-spec = tie.close (tie.spec id-ok-requires returns length-ok-requires returns-2 returns-3)
+action-ok-spec =
+    tie.close
+    (tie.spec
+    (λ c κs. search needs)  -- id-ok-requires
+    returns
+    (λ c κs. search needs)  -- length-ok-requires
+    returns-2
+    returns-3)

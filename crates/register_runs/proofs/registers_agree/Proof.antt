@@ -13,8 +13,8 @@ registers-claim = record {
   depots = λ n q l S x long. (depots-follow S x long, depots-agree S x long);
 }
 
-returns : tie.Need-returns
-returns c = registers-claim
-
 pub registers-agree-spec : {M : Type 1} → statement M
-registers-agree-spec = tie.close (tie.spec returns)
+registers-agree-spec =
+    tie.close
+    (tie.spec
+    (λ c. registers-claim))  -- returns

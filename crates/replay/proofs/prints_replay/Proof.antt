@@ -3,8 +3,8 @@ use Rattle.replay.proofs.PrintsParts.{prints-replay}
 use Rattle.replay.proofs.prints_replay.Statement.{statement}
 use Rattle.replay.proofs.prints_replay.Tie as tie
 
-returns : tie.Need-returns
-returns c = prints-replay
-
 pub prints-replay-spec : {M : Type 1} → statement M
-prints-replay-spec = tie.close (tie.spec returns)
+prints-replay-spec =
+    tie.close
+    (tie.spec
+    (λ c. prints-replay))  -- returns

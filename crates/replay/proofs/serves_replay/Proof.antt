@@ -3,8 +3,8 @@ use Rattle.replay.proofs.ReachedLaws.{serves-replay}
 use Rattle.replay.proofs.serves_replay.Statement.{statement}
 use Rattle.replay.proofs.serves_replay.Tie as tie
 
-returns : tie.Need-returns
-returns c = serves-replay
-
 pub serves-replay-spec : {M : Type 1} → statement M
-serves-replay-spec = tie.close (tie.spec returns)
+serves-replay-spec =
+    tie.close
+    (tie.spec
+    (λ c. serves-replay))  -- returns

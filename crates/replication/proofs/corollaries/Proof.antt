@@ -3,8 +3,8 @@ use Rattle.replication.proofs.Agreement.Greens.Demand.{corollaries}
 use Rattle.replication.proofs.corollaries.Statement.{statement}
 use Rattle.replication.proofs.corollaries.Tie as tie
 
-returns : tie.Need-returns
-returns c = corollaries
-
 pub corollaries-spec : {M : Type 1} → statement M
-corollaries-spec = tie.close (tie.spec returns)
+corollaries-spec =
+    tie.close
+    (tie.spec
+    (λ c. corollaries))  -- returns

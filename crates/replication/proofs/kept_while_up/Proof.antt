@@ -3,8 +3,8 @@ use Rattle.replication.proofs.Agreement.Greens.KeptWhileUp.{kept-while-
 use Rattle.replication.proofs.kept_while_up.Statement.{statement}
 use Rattle.replication.proofs.kept_while_up.Tie as tie
 
-returns : tie.Need-returns
-returns c = kept-while-up
-
 pub kept-while-up-spec : {M : Type 1} → statement M
-kept-while-up-spec = tie.close (tie.spec returns)
+kept-while-up-spec =
+    tie.close
+    (tie.spec
+    (λ c. kept-while-up))  -- returns

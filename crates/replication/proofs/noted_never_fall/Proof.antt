@@ -3,8 +3,8 @@ use Rattle.replication.proofs.Runs.Noted.{never-fall}
 use Rattle.replication.proofs.noted_never_fall.Statement.{statement}
 use Rattle.replication.proofs.noted_never_fall.Tie as tie
 
-returns : tie.Need-returns
-returns c = never-fall
-
 pub noted-never-fall-spec : {M : Type 1} → statement M
-noted-never-fall-spec = tie.close (tie.spec returns)
+noted-never-fall-spec =
+    tie.close
+    (tie.spec
+    (λ c. never-fall))  -- returns

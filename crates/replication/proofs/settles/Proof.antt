@@ -3,8 +3,8 @@ use Rattle.replication.proofs.Agreement.Settling.Settled.{settling}
 use Rattle.replication.proofs.settles.Statement.{statement}
 use Rattle.replication.proofs.settles.Tie as tie
 
-returns : tie.Need-returns
-returns c = settling
-
 pub settles-spec : {M : Type 1} → statement M
-settles-spec = tie.close (tie.spec returns)
+settles-spec =
+    tie.close
+    (tie.spec
+    (λ c. settling))  -- returns

@@ -6,15 +6,9 @@ use borrow.Author.Needs.{needs}
 use Rattle.state_check.proofs.checks_ok.Statement.{statement}
 use Rattle.state_check.proofs.checks_ok.Tie as tie
 
-context-ok-requires : tie.Need-context-ok-requires
-context-ok-requires c κs = search needs
-
 returns : tie.Need-returns
 unfolding checksOf contextOf
 returns c = search (needs, answers) depth 8
-
-numbers-ok-requires : tie.Need-numbers-ok-requires
-numbers-ok-requires c κs = search (needs, context-made)
 
 returns-2 : tie.Need-returns-2
 unfolding checksOf contextOf
@@ -27,15 +21,9 @@ returns-3 : tie.Need-returns-3
 unfolding checksOf contextOf
 returns-3 c = search (needs, answers) depth 8
 
-states-ok-requires : tie.Need-states-ok-requires
-states-ok-requires c κs = search (needs, buffer-made)
-
 returns-4 : tie.Need-returns-4
 unfolding checksOf contextOf
 returns-4 c = search (needs, answers) depth 8
-
-mode-ok-requires : tie.Need-mode-ok-requires
-mode-ok-requires c κs = search (needs, buffer-made)
 
 returns-5 : tie.Need-returns-5
 unfolding checksOf contextOf
@@ -45,13 +33,13 @@ pub checks-ok-spec : {M : Type 1} → statement M
 checks-ok-spec =
     tie.close
     (tie.spec
-    context-ok-requires
+    (λ c κs. search needs)  -- context-ok-requires
     returns
-    numbers-ok-requires
+    (λ c κs. search (needs, context-made))  -- numbers-ok-requires
     returns-2
     lists-ok-requires
     returns-3
-    states-ok-requires
+    (λ c κs. search (needs, buffer-made))  -- states-ok-requires
     returns-4
-    mode-ok-requires
+    (λ c κs. search (needs, buffer-made))  -- mode-ok-requires
     returns-5)

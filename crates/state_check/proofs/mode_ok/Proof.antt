@@ -18,9 +18,6 @@ returns-3 : tie.Need-returns-3
 unfolding modeOk modeTest modeNumber
 returns-3 c = search (needs, tests, choices, told) depth 10
 
-exchange-ok-requires : tie.Need-exchange-ok-requires
-exchange-ok-requires c κs = search needs
-
 returns-4 : tie.Need-returns-4
 unfolding modeOk modeTest modeNumber
 returns-4 c = search (needs, tests, choices, told) depth 10
@@ -36,4 +33,11 @@ returns-6 c = search (needs, tests, choices, told) depth 10
 pub mode-ok-spec : {M : Type 1} → statement M
 mode-ok-spec =
     tie.close
-    (tie.spec returns returns-2 returns-3 exchange-ok-requires returns-4 returns-5 returns-6)
+    (tie.spec
+    returns
+    returns-2
+    returns-3
+    (λ c κs. search needs)  -- exchange-ok-requires
+    returns-4
+    returns-5
+    returns-6)

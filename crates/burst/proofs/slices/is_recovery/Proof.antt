@@ -5,36 +5,22 @@ use Rattle.base.proofs.TestLaws.{tests}
 use borrow.Author.Needs.{needs}
 use Rattle.burst.proofs.slices.is_recovery.Statement.{statement}
 use Rattle.burst.proofs.slices.is_recovery.Tie as tie
-use Rattle.burst.proofs.slices.is_recovery.Reads as reads
-use Rattle.burst.proofs.slices.is_recovery.Lts as lts
 
 returns : tie.Need-returns
 unfolding isRecovery kindNumber
 returns c = search (needs, tests, told) depth 12
 
-shared-slice-read-if2 : tie.Need-shared-slice-read-if2
-shared-slice-read-if2 c = search needs
-
 returns-2 : tie.Need-returns-2
 unfolding isRecovery kindNumber
 returns-2 c = search (needs, tests, told) depth 12
-
-shared-slice-read-if3 : tie.Need-shared-slice-read-if3
-shared-slice-read-if3 c = search needs
 
 returns-3 : tie.Need-returns-3
 unfolding isRecovery kindNumber
 returns-3 c = search (needs, tests, told) depth 12
 
-shared-slice-read-if4 : tie.Need-shared-slice-read-if4
-shared-slice-read-if4 c = search needs
-
 returns-4 : tie.Need-returns-4
 unfolding isRecovery kindNumber
 returns-4 c = search (needs, tests, told) depth 12
-
-shared-slice-read-result : tie.Need-shared-slice-read-result
-shared-slice-read-result c = search needs
 
 returns-5 : tie.Need-returns-5
 unfolding isRecovery kindNumber
@@ -45,11 +31,11 @@ is-recovery-spec =
     tie.close
     (tie.spec
     returns
-    shared-slice-read-if2
+    (λ c. search needs)  -- shared-slice-read-if2
     returns-2
-    shared-slice-read-if3
+    (λ c. search needs)  -- shared-slice-read-if3
     returns-3
-    shared-slice-read-if4
+    (λ c. search needs)  -- shared-slice-read-if4
     returns-4
-    shared-slice-read-result
+    (λ c. search needs)  -- shared-slice-read-result
     returns-5)

@@ -12,37 +12,16 @@ Inv-loop first ids round table out₀ kept₀ j₀ out kept j = Kept (isKept (so
 abbrev μ-loop : tie.MeasureT-loop
 μ-loop first ids round table out₀ kept₀ j₀ out kept j = ids - j
 
-loop-holds : tie.Need-loop-holds Inv-loop μ-loop
-loop-holds c = search (needs, sought-start)
-
-keep-at-requires : tie.Need-keep-at-requires Inv-loop μ-loop
-keep-at-requires c κs = search needs
-
-add-j : tie.Need-add-j Inv-loop μ-loop
-add-j c = search needs
-
-loop-less : tie.Need-loop-less Inv-loop μ-loop
-loop-less c = search needs
-
-loop-again : tie.Need-loop-again Inv-loop μ-loop
-loop-again c = search (needs, sought-again)
-
-same-length : tie.Need-same-length Inv-loop μ-loop
-same-length c = search needs
-
-returns : tie.Need-returns Inv-loop μ-loop
-returns c = search (needs, sought-end)
-
 pub keep-spec : {M : Type 1} → statement M
 keep-spec =
     tie.close
     (tie.spec
     Inv-loop
     μ-loop
-    loop-holds
-    keep-at-requires
-    add-j
-    loop-less
-    loop-again
-    same-length
-    returns)
+    (λ c. search (needs, sought-start))  -- loop-holds
+    (λ c κs. search needs)  -- keep-at-requires
+    (λ c. search needs)  -- add-j
+    (λ c. search needs)  -- loop-less
+    (λ c. search (needs, sought-again))  -- loop-again
+    (λ c. search needs)  -- same-length
+    (λ c. search (needs, sought-end)))  -- returns

@@ -5,17 +5,11 @@ use borrow.Author.Needs.{needs}
 use Rattle.exchange.proofs.decided.all_states_in.Statement.{statement}
 use Rattle.exchange.proofs.decided.all_states_in.Tie as tie
 
-num8-requires : tie.Need-num8-requires
-num8-requires c κs = omega (arith, such-header _ _ (c .before .pre))
-
-num8-requires-2 : tie.Need-num8-requires-2
-num8-requires-2 c κs = omega (arith, such-header _ _ (c .before .before .pre))
-
-inside-requires : tie.Need-inside-requires
-inside-requires c κs = search needs
-
-returns : tie.Need-returns
-returns c = search (needs, states-told)
-
 pub all-states-in-spec : {M : Type 1} → statement M
-all-states-in-spec = tie.close (tie.spec num8-requires num8-requires-2 inside-requires returns)
+all-states-in-spec =
+    tie.close
+    (tie.spec
+    (λ c κs. omega (arith, such-header _ _ (c .before .pre)))  -- num8-requires
+    (λ c κs. omega (arith, such-header _ _ (c .before .before .pre)))  -- num8-requires-2
+    (λ c κs. search needs)  -- inside-requires
+    (λ c. search (needs, states-told)))  -- returns

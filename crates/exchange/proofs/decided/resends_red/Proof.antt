@@ -5,21 +5,12 @@ use borrow.Author.Needs.{needs}
 use Rattle.exchange.proofs.decided.resends_red.Statement.{statement}
 use Rattle.exchange.proofs.decided.resends_red.Tie as tie
 
-held-slots-requires : tie.Need-held-slots-requires
-held-slots-requires c κs = search needs
-
-num8-requires : tie.Need-num8-requires
-num8-requires c κs = omega (arith, such-header _ _ (c .before .before .pre))
-
-cast-part-by : tie.Need-cast-part-by
-cast-part-by c = search needs
-
-part-by-requires : tie.Need-part-by-requires
-part-by-requires c κs = search (needs, room-held, red-within)
-
-returns : tie.Need-returns
-returns c = search (needs, red-told)
-
 pub resends-red-spec : {M : Type 1} → statement M
 resends-red-spec =
-    tie.close (tie.spec held-slots-requires num8-requires cast-part-by part-by-requires returns)
+    tie.close
+    (tie.spec
+    (λ c κs. search needs)  -- held-slots-requires
+    (λ c κs. omega (arith, such-header _ _ (c .before .before .pre)))  -- num8-requires
+    (λ c. search needs)  -- cast-part-by
+    (λ c κs. search (needs, room-held, red-within))  -- part-by-requires
+    (λ c. search (needs, red-told)))  -- returns

@@ -3,8 +3,8 @@ use Rattle.exchange.proofs.JudgedLaws.{kept-made}
 use Rattle.exchange.proofs.marks.kept.Statement.{statement}
 use Rattle.exchange.proofs.marks.kept.Tie as tie
 
-returns : tie.Need-returns
-returns c = search (needs, kept-made)
-
 pub kept-spec : {M : Type 1} → statement M
-kept-spec = tie.close (tie.spec returns)
+kept-spec =
+    tie.close
+    (tie.spec
+    (λ c. search (needs, kept-made)))  -- returns

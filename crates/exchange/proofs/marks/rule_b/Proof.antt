@@ -18,25 +18,15 @@ Inv-loop v state m found₀ k₀ found k = (k ≤ v .servers) × (any (against (
 abbrev μ-loop : tie.MeasureT-loop
 μ-loop v state m found₀ k₀ found k = v .servers - k
 
-loop-holds : tie.Need-loop-holds Inv-loop μ-loop
-loop-holds c = search (needs, any-start)
-
-against-at-requires : tie.Need-against-at-requires Inv-loop μ-loop
-against-at-requires c κs = search needs
-
-add-k : tie.Need-add-k Inv-loop μ-loop
-add-k c = omega arith
-
-loop-less : tie.Need-loop-less Inv-loop μ-loop
-loop-less c = omega arith
-
-loop-again : tie.Need-loop-again Inv-loop μ-loop
-loop-again c = search (needs, any-again)
-
-returns : tie.Need-returns Inv-loop μ-loop
-returns c = search (needs, rule-b-end)
-
 pub rule-b-spec : {M : Type 1} → statement M
 rule-b-spec =
     tie.close
-    (tie.spec Inv-loop μ-loop loop-holds against-at-requires add-k loop-less loop-again returns)
+    (tie.spec
+    Inv-loop
+    μ-loop
+    (λ c. search (needs, any-start))  -- loop-holds
+    (λ c κs. search needs)  -- against-at-requires
+    (λ c. omega arith)  -- add-k
+    (λ c. omega arith)  -- loop-less
+    (λ c. search (needs, any-again))  -- loop-again
+    (λ c. search (needs, rule-b-end)))  -- returns

@@ -15,25 +15,15 @@ Inv-loop v state f high₀ k₀ high k = (k ≤ v .servers) × (highestOf (numbe
 abbrev μ-loop : tie.MeasureT-loop
 μ-loop v state f high₀ k₀ high k = v .servers - k
 
-loop-holds : tie.Need-loop-holds Inv-loop μ-loop
-loop-holds c = search (needs, highest-start)
-
-raised-requires : tie.Need-raised-requires Inv-loop μ-loop
-raised-requires c κs = search needs
-
-add-k : tie.Need-add-k Inv-loop μ-loop
-add-k c = omega arith
-
-loop-less : tie.Need-loop-less Inv-loop μ-loop
-loop-less c = omega arith
-
-loop-again : tie.Need-loop-again Inv-loop μ-loop
-loop-again c = search (needs, highest-again)
-
-returns : tie.Need-returns Inv-loop μ-loop
-returns c = search (needs, highest-end)
-
 pub highest-spec : {M : Type 1} → statement M
 highest-spec =
     tie.close
-    (tie.spec Inv-loop μ-loop loop-holds raised-requires add-k loop-less loop-again returns)
+    (tie.spec
+    Inv-loop
+    μ-loop
+    (λ c. search (needs, highest-start))  -- loop-holds
+    (λ c κs. search needs)  -- raised-requires
+    (λ c. omega arith)  -- add-k
+    (λ c. omega arith)  -- loop-less
+    (λ c. search (needs, highest-again))  -- loop-again
+    (λ c. search (needs, highest-end)))  -- returns

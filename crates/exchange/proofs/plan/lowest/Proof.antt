@@ -15,49 +15,19 @@ Inv-loop v state f start low₀ k₀ low k = (k ≤ v .servers) × (lowestOf (nu
 abbrev μ-loop : tie.MeasureT-loop
 μ-loop v state f start low₀ k₀ low k = v .servers - k
 
-first-requires : tie.Need-first-requires Inv-loop μ-loop
-first-requires c κs = search needs
-
-returns : tie.Need-returns Inv-loop μ-loop
-returns c = search (needs, lowest-none)
-
-value-requires : tie.Need-value-requires Inv-loop μ-loop
-value-requires c κs = search needs
-
-add-k : tie.Need-add-k Inv-loop μ-loop
-add-k c = omega arith
-
-loop-holds : tie.Need-loop-holds Inv-loop μ-loop
-loop-holds c = search (needs, lowest-start)
-
-lowered-requires : tie.Need-lowered-requires Inv-loop μ-loop
-lowered-requires c κs = search needs
-
-add-k-2 : tie.Need-add-k-2 Inv-loop μ-loop
-add-k-2 c = omega arith
-
-loop-less : tie.Need-loop-less Inv-loop μ-loop
-loop-less c = omega arith
-
-loop-again : tie.Need-loop-again Inv-loop μ-loop
-loop-again c = search (needs, lowest-again)
-
-returns-2 : tie.Need-returns-2 Inv-loop μ-loop
-returns-2 c = search (needs, lowest-end)
-
 pub lowest-spec : {M : Type 1} → statement M
 lowest-spec =
     tie.close
     (tie.spec
     Inv-loop
     μ-loop
-    first-requires
-    returns
-    value-requires
-    add-k
-    loop-holds
-    lowered-requires
-    add-k-2
-    loop-less
-    loop-again
-    returns-2)
+    (λ c κs. search needs)  -- first-requires
+    (λ c. search (needs, lowest-none))  -- returns
+    (λ c κs. search needs)  -- value-requires
+    (λ c. omega arith)  -- add-k
+    (λ c. search (needs, lowest-start))  -- loop-holds
+    (λ c κs. search needs)  -- lowered-requires
+    (λ c. omega arith)  -- add-k-2
+    (λ c. omega arith)  -- loop-less
+    (λ c. search (needs, lowest-again))  -- loop-again
+    (λ c. search (needs, lowest-end)))  -- returns-2

@@ -15,49 +15,19 @@ Inv-loop v state total₀ c₀ total c = (c ≤ v .servers) × (total ≤ 429496
 abbrev μ-loop : tie.MeasureT-loop
 μ-loop v state total₀ c₀ total c = v .servers - c
 
-missing-requires : tie.Need-missing-requires Inv-loop μ-loop
-missing-requires c κs = search (needs, green-within)
-
-cast-total : tie.Need-cast-total Inv-loop μ-loop
-cast-total c = search needs
-
-loop-holds : tie.Need-loop-holds Inv-loop μ-loop
-loop-holds c = search (needs, planned-start)
-
-missing-requires-2 : tie.Need-missing-requires-2 Inv-loop μ-loop
-missing-requires-2 c κs = search (needs, cut-within)
-
-cast-total-2 : tie.Need-cast-total-2 Inv-loop μ-loop
-cast-total-2 c = search needs
-
-add-total : tie.Need-add-total Inv-loop μ-loop
-add-total c = omega arith
-
-add-c : tie.Need-add-c Inv-loop μ-loop
-add-c c = omega arith
-
-loop-less : tie.Need-loop-less Inv-loop μ-loop
-loop-less c = omega arith
-
-loop-again : tie.Need-loop-again Inv-loop μ-loop
-loop-again c = search (needs, planned-again)
-
-returns : tie.Need-returns Inv-loop μ-loop
-returns c = search (needs, planned-end)
-
 pub planned-spec : {M : Type 1} → statement M
 planned-spec =
     tie.close
     (tie.spec
     Inv-loop
     μ-loop
-    missing-requires
-    cast-total
-    loop-holds
-    missing-requires-2
-    cast-total-2
-    add-total
-    add-c
-    loop-less
-    loop-again
-    returns)
+    (λ c κs. search (needs, green-within))  -- missing-requires
+    (λ c. search needs)  -- cast-total
+    (λ c. search (needs, planned-start))  -- loop-holds
+    (λ c κs. search (needs, cut-within))  -- missing-requires-2
+    (λ c. search needs)  -- cast-total-2
+    (λ c. omega arith)  -- add-total
+    (λ c. omega arith)  -- add-c
+    (λ c. omega arith)  -- loop-less
+    (λ c. search (needs, planned-again))  -- loop-again
+    (λ c. search (needs, planned-end)))  -- returns

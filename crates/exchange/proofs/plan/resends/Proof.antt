@@ -15,41 +15,17 @@ Inv-loop v state f me high k₀ k = (k ≤ v .servers) × (isMe me (resender (nu
 abbrev μ-loop : tie.MeasureT-loop
 μ-loop v state f me high k₀ k = v .servers - k
 
-highest-requires : tie.Need-highest-requires Inv-loop μ-loop
-highest-requires c κs = search needs
-
-loop-holds : tie.Need-loop-holds Inv-loop μ-loop
-loop-holds c = search (needs, resends-start)
-
-is-value-requires : tie.Need-is-value-requires Inv-loop μ-loop
-is-value-requires c κs = search needs
-
-returns : tie.Need-returns Inv-loop μ-loop
-returns c = search (needs, resends-found)
-
-add-k : tie.Need-add-k Inv-loop μ-loop
-add-k c = omega arith
-
-loop-less : tie.Need-loop-less Inv-loop μ-loop
-loop-less c = omega arith
-
-loop-again : tie.Need-loop-again Inv-loop μ-loop
-loop-again c = search (needs, resends-again)
-
-returns-2 : tie.Need-returns-2 Inv-loop μ-loop
-returns-2 c = search (needs, resends-end)
-
 pub resends-spec : {M : Type 1} → statement M
 resends-spec =
     tie.close
     (tie.spec
     Inv-loop
     μ-loop
-    highest-requires
-    loop-holds
-    is-value-requires
-    returns
-    add-k
-    loop-less
-    loop-again
-    returns-2)
+    (λ c κs. search needs)  -- highest-requires
+    (λ c. search (needs, resends-start))  -- loop-holds
+    (λ c κs. search needs)  -- is-value-requires
+    (λ c. search (needs, resends-found))  -- returns
+    (λ c. omega arith)  -- add-k
+    (λ c. omega arith)  -- loop-less
+    (λ c. search (needs, resends-again))  -- loop-again
+    (λ c. search (needs, resends-end)))  -- returns-2

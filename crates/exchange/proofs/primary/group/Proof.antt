@@ -14,25 +14,15 @@ Inv-loop v state p set₀ k₀ set k = (k ≤ v .servers) × (set ≡ passingTo 
 abbrev μ-loop : tie.MeasureT-loop
 μ-loop v state p set₀ k₀ set k = v .servers - k
 
-loop-holds : tie.Need-loop-holds Inv-loop μ-loop
-loop-holds c = search (needs, passing-start)
-
-joined-at-requires : tie.Need-joined-at-requires Inv-loop μ-loop
-joined-at-requires c κs = search needs
-
-add-k : tie.Need-add-k Inv-loop μ-loop
-add-k c = omega arith
-
-loop-less : tie.Need-loop-less Inv-loop μ-loop
-loop-less c = omega arith
-
-loop-again : tie.Need-loop-again Inv-loop μ-loop
-loop-again c = search (needs, passing-again)
-
-returns : tie.Need-returns Inv-loop μ-loop
-returns c = search (needs, passing-end)
-
 pub group-spec : {M : Type 1} → statement M
 group-spec =
     tie.close
-    (tie.spec Inv-loop μ-loop loop-holds joined-at-requires add-k loop-less loop-again returns)
+    (tie.spec
+    Inv-loop
+    μ-loop
+    (λ c. search (needs, passing-start))  -- loop-holds
+    (λ c κs. search needs)  -- joined-at-requires
+    (λ c. omega arith)  -- add-k
+    (λ c. omega arith)  -- loop-less
+    (λ c. search (needs, passing-again))  -- loop-again
+    (λ c. search (needs, passing-end)))  -- returns

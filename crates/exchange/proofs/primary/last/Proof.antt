@@ -3,11 +3,9 @@ use borrow.Author.Needs.{needs}
 use Rattle.exchange.proofs.primary.last.Statement.{statement}
 use Rattle.exchange.proofs.primary.last.Tie as tie
 
-head-requires : tie.Need-head-requires
-head-requires c κs = search needs
-
-returns : tie.Need-returns
-returns c = search (needs, last-read)
-
 pub last-spec : {M : Type 1} → statement M
-last-spec = tie.close (tie.spec head-requires returns)
+last-spec =
+    tie.close
+    (tie.spec
+    (λ c κs. search needs)  -- head-requires
+    (λ c. search (needs, last-read)))  -- returns

@@ -14,28 +14,16 @@ Inv-loop v k₀ k = (k ≤ v .servers) × ((b : List ℕ) → statesOf v b ≡ s
 abbrev μ-loop : tie.MeasureT-loop
 μ-loop v k₀ k = v .servers - k
 
-loop-holds : tie.Need-loop-holds Inv-loop μ-loop
-loop-holds c = search (needs, states-start)
-
-has-requires : tie.Need-has-requires Inv-loop μ-loop
-has-requires c κs = omega arith
-
-returns : tie.Need-returns Inv-loop μ-loop
-returns c = search (needs, first-found)
-
-add-k : tie.Need-add-k Inv-loop μ-loop
-add-k c = omega arith
-
-loop-less : tie.Need-loop-less Inv-loop μ-loop
-loop-less c = omega arith
-
-loop-again : tie.Need-loop-again Inv-loop μ-loop
-loop-again c = search (needs, first-again)
-
-returns-2 : tie.Need-returns-2 Inv-loop μ-loop
-returns-2 c = search (needs, first-none)
-
 pub first-spec : {M : Type 1} → statement M
 first-spec =
     tie.close
-    (tie.spec Inv-loop μ-loop loop-holds has-requires returns add-k loop-less loop-again returns-2)
+    (tie.spec
+    Inv-loop
+    μ-loop
+    (λ c. search (needs, states-start))  -- loop-holds
+    (λ c κs. omega arith)  -- has-requires
+    (λ c. search (needs, first-found))  -- returns
+    (λ c. omega arith)  -- add-k
+    (λ c. omega arith)  -- loop-less
+    (λ c. search (needs, first-again))  -- loop-again
+    (λ c. search (needs, first-none)))  -- returns-2

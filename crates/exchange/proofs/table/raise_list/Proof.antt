@@ -16,41 +16,17 @@ Inv-loop c first ids hints e at count round table₀ j₀ table j = (j ≤ count
 abbrev μ-loop : tie.MeasureT-loop
 μ-loop c first ids hints e at count round table₀ j₀ table j = count - j
 
-loop-holds : tie.Need-loop-holds Inv-loop μ-loop
-loop-holds c = search (needs, list-start)
-
-mul-raise-at : tie.Need-mul-raise-at Inv-loop μ-loop
-mul-raise-at c = omega arith
-
-add-raise-at : tie.Need-add-raise-at Inv-loop μ-loop
-add-raise-at c = omega arith
-
-raise-at-requires : tie.Need-raise-at-requires Inv-loop μ-loop
-raise-at-requires c κs = search needs
-
-add-j : tie.Need-add-j Inv-loop μ-loop
-add-j c = omega arith
-
-loop-less : tie.Need-loop-less Inv-loop μ-loop
-loop-less c = omega arith
-
-loop-again : tie.Need-loop-again Inv-loop μ-loop
-loop-again c = search (needs, list-again)
-
-returns : tie.Need-returns Inv-loop μ-loop
-returns c = search (needs, list-end)
-
 pub raise-list-spec : {M : Type 1} → statement M
 raise-list-spec =
     tie.close
     (tie.spec
     Inv-loop
     μ-loop
-    loop-holds
-    mul-raise-at
-    add-raise-at
-    raise-at-requires
-    add-j
-    loop-less
-    loop-again
-    returns)
+    (λ c. search (needs, list-start))  -- loop-holds
+    (λ c. omega arith)  -- mul-raise-at
+    (λ c. omega arith)  -- add-raise-at
+    (λ c κs. search needs)  -- raise-at-requires
+    (λ c. omega arith)  -- add-j
+    (λ c. omega arith)  -- loop-less
+    (λ c. search (needs, list-again))  -- loop-again
+    (λ c. search (needs, list-end)))  -- returns

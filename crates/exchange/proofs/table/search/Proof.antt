@@ -15,41 +15,17 @@ Inv-loop first ids creator index k₀ k = (k ≤ ids) × (placeIn (idOf creator 
 abbrev μ-loop : tie.MeasureT-loop
 μ-loop first ids creator index k₀ k = ids - k
 
-loop-holds : tie.Need-loop-holds Inv-loop μ-loop
-loop-holds c = search (needs, search-start)
-
-mul-is-id : tie.Need-mul-is-id Inv-loop μ-loop
-mul-is-id c = search needs
-
-is-id-requires : tie.Need-is-id-requires Inv-loop μ-loop
-is-id-requires c κs = search needs
-
-returns : tie.Need-returns Inv-loop μ-loop
-returns c = search (needs, search-found)
-
-add-k : tie.Need-add-k Inv-loop μ-loop
-add-k c = search needs
-
-loop-less : tie.Need-loop-less Inv-loop μ-loop
-loop-less c = search needs
-
-loop-again : tie.Need-loop-again Inv-loop μ-loop
-loop-again c = search (needs, search-again)
-
-returns-2 : tie.Need-returns-2 Inv-loop μ-loop
-returns-2 c = search (needs, search-end)
-
 pub search-spec : {M : Type 1} → statement M
 search-spec =
     tie.close
     (tie.spec
     Inv-loop
     μ-loop
-    loop-holds
-    mul-is-id
-    is-id-requires
-    returns
-    add-k
-    loop-less
-    loop-again
-    returns-2)
+    (λ c. search (needs, search-start))  -- loop-holds
+    (λ c. search needs)  -- mul-is-id
+    (λ c κs. search needs)  -- is-id-requires
+    (λ c. search (needs, search-found))  -- returns
+    (λ c. search needs)  -- add-k
+    (λ c. search needs)  -- loop-less
+    (λ c. search (needs, search-again))  -- loop-again
+    (λ c. search (needs, search-end)))  -- returns-2

@@ -13,25 +13,15 @@ Inv-loop v state set₀ k₀ set k = (k ≤ v .servers) × (set ≡ passingTo is
 abbrev μ-loop : tie.MeasureT-loop
 μ-loop v state set₀ k₀ set k = v .servers - k
 
-loop-holds : tie.Need-loop-holds Inv-loop μ-loop
-loop-holds c = search (needs, passing-start)
-
-valid-at-requires : tie.Need-valid-at-requires Inv-loop μ-loop
-valid-at-requires c κs = search needs
-
-add-k : tie.Need-add-k Inv-loop μ-loop
-add-k c = omega arith
-
-loop-less : tie.Need-loop-less Inv-loop μ-loop
-loop-less c = omega arith
-
-loop-again : tie.Need-loop-again Inv-loop μ-loop
-loop-again c = search (needs, passing-again)
-
-returns : tie.Need-returns Inv-loop μ-loop
-returns c = search (needs, passing-end)
-
 pub valid-spec : {M : Type 1} → statement M
 valid-spec =
     tie.close
-    (tie.spec Inv-loop μ-loop loop-holds valid-at-requires add-k loop-less loop-again returns)
+    (tie.spec
+    Inv-loop
+    μ-loop
+    (λ c. search (needs, passing-start))  -- loop-holds
+    (λ c κs. search needs)  -- valid-at-requires
+    (λ c. omega arith)  -- add-k
+    (λ c. omega arith)  -- loop-less
+    (λ c. search (needs, passing-again))  -- loop-again
+    (λ c. search (needs, passing-end)))  -- returns

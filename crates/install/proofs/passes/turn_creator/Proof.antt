@@ -16,53 +16,20 @@ Inv-loop state₀ places₀ creator cut i₀ state places i = (i ≤ cut) × (le
 abbrev μ-loop : tie.MeasureT-loop
 μ-loop state₀ places₀ creator cut i₀ state places i = cut - i
 
-mul-num16 : tie.Need-mul-num16 Inv-loop μ-loop
-mul-num16 c = search needs
-
-add-num16 : tie.Need-add-num16 Inv-loop μ-loop
-add-num16 c = search needs
-
-num16-requires : tie.Need-num16-requires Inv-loop μ-loop
-num16-requires c κs = search needs
-
-loop-holds : tie.Need-loop-holds Inv-loop μ-loop
-loop-holds c = search (needs, creator-start)
-
-add-turn-green : tie.Need-add-turn-green Inv-loop μ-loop
-add-turn-green c = search needs
-
-turn-green-requires : tie.Need-turn-green-requires Inv-loop μ-loop
-turn-green-requires c κs = search (needs, creator-in)
-
-add-i : tie.Need-add-i Inv-loop μ-loop
-add-i c = search needs
-
-loop-less : tie.Need-loop-less Inv-loop μ-loop
-loop-less c = search needs
-
-loop-again : tie.Need-loop-again Inv-loop μ-loop
-loop-again c = search (needs, creator-again)
-
-same-length : tie.Need-same-length Inv-loop μ-loop
-same-length c = search needs
-
-returns : tie.Need-returns Inv-loop μ-loop
-returns c = search (needs, creator-end)
-
 pub turn-creator-spec : {M : Type 1} → statement M
 turn-creator-spec =
     tie.close
     (tie.spec
     Inv-loop
     μ-loop
-    mul-num16
-    add-num16
-    num16-requires
-    loop-holds
-    add-turn-green
-    turn-green-requires
-    add-i
-    loop-less
-    loop-again
-    same-length
-    returns)
+    (λ c. search needs)  -- mul-num16
+    (λ c. search needs)  -- add-num16
+    (λ c κs. search needs)  -- num16-requires
+    (λ c. search (needs, creator-start))  -- loop-holds
+    (λ c. search needs)  -- add-turn-green
+    (λ c κs. search (needs, creator-in))  -- turn-green-requires
+    (λ c. search needs)  -- add-i
+    (λ c. search needs)  -- loop-less
+    (λ c. search (needs, creator-again))  -- loop-again
+    (λ c. search needs)  -- same-length
+    (λ c. search (needs, creator-end)))  -- returns

@@ -14,41 +14,17 @@ Inv-loop state₀ places₀ n c₀ state places c = (c ≤ n) × (length state �
 abbrev μ-loop : tie.MeasureT-loop
 μ-loop state₀ places₀ n c₀ state places c = n - c
 
-num8-requires : tie.Need-num8-requires Inv-loop μ-loop
-num8-requires c κs = search needs
-
-loop-holds : tie.Need-loop-holds Inv-loop μ-loop
-loop-holds c = search (needs, rest-start)
-
-turn-creator-requires : tie.Need-turn-creator-requires Inv-loop μ-loop
-turn-creator-requires c κs = search (needs, rest-in)
-
-add-c : tie.Need-add-c Inv-loop μ-loop
-add-c c = search needs
-
-loop-less : tie.Need-loop-less Inv-loop μ-loop
-loop-less c = search needs
-
-loop-again : tie.Need-loop-again Inv-loop μ-loop
-loop-again c = search (needs, rest-again)
-
-same-length : tie.Need-same-length Inv-loop μ-loop
-same-length c = search needs
-
-returns : tie.Need-returns Inv-loop μ-loop
-returns c = search (needs, rest-end)
-
 pub turn-rest-spec : {M : Type 1} → statement M
 turn-rest-spec =
     tie.close
     (tie.spec
     Inv-loop
     μ-loop
-    num8-requires
-    loop-holds
-    turn-creator-requires
-    add-c
-    loop-less
-    loop-again
-    same-length
-    returns)
+    (λ c κs. search needs)  -- num8-requires
+    (λ c. search (needs, rest-start))  -- loop-holds
+    (λ c κs. search (needs, rest-in))  -- turn-creator-requires
+    (λ c. search needs)  -- add-c
+    (λ c. search needs)  -- loop-less
+    (λ c. search (needs, rest-again))  -- loop-again
+    (λ c. search needs)  -- same-length
+    (λ c. search (needs, rest-end)))  -- returns

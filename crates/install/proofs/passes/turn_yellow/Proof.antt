@@ -13,57 +13,21 @@ Inv-loop state₀ places₀ at count j₀ state places j = (j ≤ count) × (len
 abbrev μ-loop : tie.MeasureT-loop
 μ-loop state₀ places₀ at count j₀ state places j = count - j
 
-place-of-requires : tie.Need-place-of-requires Inv-loop μ-loop
-place-of-requires c κs = search needs
-
-num16-requires : tie.Need-num16-requires Inv-loop μ-loop
-num16-requires c κs = search needs
-
-cast-count : tie.Need-cast-count Inv-loop μ-loop
-cast-count c = search needs
-
-loop-holds : tie.Need-loop-holds Inv-loop μ-loop
-loop-holds c = search (needs, yellow-start)
-
-mul-turn-at : tie.Need-mul-turn-at Inv-loop μ-loop
-mul-turn-at c = search needs
-
-add-turn-at : tie.Need-add-turn-at Inv-loop μ-loop
-add-turn-at c = search needs
-
-turn-at-requires : tie.Need-turn-at-requires Inv-loop μ-loop
-turn-at-requires c κs = search (needs, yellow-in)
-
-add-j : tie.Need-add-j Inv-loop μ-loop
-add-j c = search needs
-
-loop-less : tie.Need-loop-less Inv-loop μ-loop
-loop-less c = search needs
-
-loop-again : tie.Need-loop-again Inv-loop μ-loop
-loop-again c = search (needs, yellow-again)
-
-same-length : tie.Need-same-length Inv-loop μ-loop
-same-length c = search needs
-
-returns : tie.Need-returns Inv-loop μ-loop
-returns c = search (needs, yellow-end)
-
 pub turn-yellow-spec : {M : Type 1} → statement M
 turn-yellow-spec =
     tie.close
     (tie.spec
     Inv-loop
     μ-loop
-    place-of-requires
-    num16-requires
-    cast-count
-    loop-holds
-    mul-turn-at
-    add-turn-at
-    turn-at-requires
-    add-j
-    loop-less
-    loop-again
-    same-length
-    returns)
+    (λ c κs. search needs)  -- place-of-requires
+    (λ c κs. search needs)  -- num16-requires
+    (λ c. search needs)  -- cast-count
+    (λ c. search (needs, yellow-start))  -- loop-holds
+    (λ c. search needs)  -- mul-turn-at
+    (λ c. search needs)  -- add-turn-at
+    (λ c κs. search (needs, yellow-in))  -- turn-at-requires
+    (λ c. search needs)  -- add-j
+    (λ c. search needs)  -- loop-less
+    (λ c. search (needs, yellow-again))  -- loop-again
+    (λ c. search needs)  -- same-length
+    (λ c. search (needs, yellow-end)))  -- returns

@@ -10,45 +10,18 @@ Inv-loop state places₀ count k₀ places k = Filled k places state
 abbrev μ-loop : tie.MeasureT-loop
 μ-loop state places₀ count k₀ places k = count - k
 
-num32-requires : tie.Need-num32-requires Inv-loop μ-loop
-num32-requires c κs = search (needs, count-inside)
-
-cast-count : tie.Need-cast-count Inv-loop μ-loop
-cast-count c = search needs
-
-loop-holds : tie.Need-loop-holds Inv-loop μ-loop
-loop-holds c = search (needs, filled-start)
-
-entry-at-requires : tie.Need-entry-at-requires Inv-loop μ-loop
-entry-at-requires c κs = search needs
-
-hint-requires : tie.Need-hint-requires Inv-loop μ-loop
-hint-requires c κs = search needs
-
-add-k : tie.Need-add-k Inv-loop μ-loop
-add-k c = search needs
-
-loop-less : tie.Need-loop-less Inv-loop μ-loop
-loop-less c = search needs
-
-loop-again : tie.Need-loop-again Inv-loop μ-loop
-loop-again c = search (needs, filled-again)
-
-returns : tie.Need-returns Inv-loop μ-loop
-returns c = search (needs, filled-end)
-
 pub table-spec : {M : Type 1} → statement M
 table-spec =
     tie.close
     (tie.spec
     Inv-loop
     μ-loop
-    num32-requires
-    cast-count
-    loop-holds
-    entry-at-requires
-    hint-requires
-    add-k
-    loop-less
-    loop-again
-    returns)
+    (λ c κs. search (needs, count-inside))  -- num32-requires
+    (λ c. search needs)  -- cast-count
+    (λ c. search (needs, filled-start))  -- loop-holds
+    (λ c κs. search needs)  -- entry-at-requires
+    (λ c κs. search needs)  -- hint-requires
+    (λ c. search needs)  -- add-k
+    (λ c. search needs)  -- loop-less
+    (λ c. search (needs, filled-again))  -- loop-again
+    (λ c. search (needs, filled-end)))  -- returns

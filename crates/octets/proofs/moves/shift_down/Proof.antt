@@ -15,35 +15,8 @@ Inv-loop s₀ w n i₀ s i = (i ≤ n) × (n ≡ length s₀ - w) × (length s �
 abbrev μ-loop : tie.MeasureT-loop
 μ-loop s₀ w n i₀ s i = n - i
 
-sub-n : tie.Need-sub-n Inv-loop μ-loop
-sub-n c = search needs
-
-loop-holds : tie.Need-loop-holds Inv-loop μ-loop
-loop-holds c = (omega arith, search needs, search needs, sym (patched-none _ _))
-
-add-s : tie.Need-add-s Inv-loop μ-loop
-add-s c = omega arith
-
-slice-read-s : tie.Need-slice-read-s Inv-loop μ-loop
-slice-read-s c = omega arith
-
-slice-write-s : tie.Need-slice-write-s Inv-loop μ-loop
-slice-write-s c = omega arith
-
-add-i : tie.Need-add-i Inv-loop μ-loop
-add-i c = omega arith
-
-loop-less : tie.Need-loop-less Inv-loop μ-loop
-loop-less c = omega arith
-
 loop-again : tie.Need-loop-again Inv-loop μ-loop
 loop-again c = (omega arith, search needs, simp length-set (omega arith), search (needs, down-turn))
-
-same-length : tie.Need-same-length Inv-loop μ-loop
-same-length c = search needs
-
-returns : tie.Need-returns Inv-loop μ-loop
-returns c = search (needs, down-end)
 
 pub shift-down-spec : {M : Type 1} → statement M
 shift-down-spec =
@@ -51,13 +24,13 @@ shift-down-spec =
     (tie.spec
     Inv-loop
     μ-loop
-    sub-n
-    loop-holds
-    add-s
-    slice-read-s
-    slice-write-s
-    add-i
-    loop-less
+    (λ c. search needs)  -- sub-n
+    (λ c. (omega arith, search needs, search needs, sym (patched-none _ _)))  -- loop-holds
+    (λ c. omega arith)  -- add-s
+    (λ c. omega arith)  -- slice-read-s
+    (λ c. omega arith)  -- slice-write-s
+    (λ c. omega arith)  -- add-i
+    (λ c. omega arith)  -- loop-less
     loop-again
-    same-length
-    returns)
+    (λ c. search needs)  -- same-length
+    (λ c. search (needs, down-end)))  -- returns

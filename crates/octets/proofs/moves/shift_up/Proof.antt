@@ -13,36 +13,12 @@ Inv-loop s₀ w i₀ s i = (i ≤ length s₀ - w) × (length s ≡ length s₀)
 abbrev μ-loop : tie.MeasureT-loop
 μ-loop s₀ w i₀ s i = i
 
-sub-i : tie.Need-sub-i Inv-loop μ-loop
-sub-i c = omega arith
-
-loop-holds : tie.Need-loop-holds Inv-loop μ-loop
-loop-holds c = (search needs, search needs, up-start _ _ (c .pre))
-
-sub-i-2 : tie.Need-sub-i-2 Inv-loop μ-loop
-sub-i-2 c = omega arith
-
-slice-read-s : tie.Need-slice-read-s Inv-loop μ-loop
-slice-read-s c = omega arith
-
-add-s : tie.Need-add-s Inv-loop μ-loop
-add-s c = omega arith
-
-slice-write-s : tie.Need-slice-write-s Inv-loop μ-loop
-slice-write-s c = omega arith
-
-loop-less : tie.Need-loop-less Inv-loop μ-loop
-loop-less c = omega arith
-
 loop-again : tie.Need-loop-again Inv-loop μ-loop
 loop-again c =
     let l = c .before .before .loop in
     let a = c .before .before .before .args in
     let e : l .i ≡ suc (l .i - 1) = omega arith in
     (omega arith, simp length-set (omega arith), up-turn _ _ _ _ (omega arith) (l .inv .2 ∙ ap (shifted (a .s .now) (a .w)) e))
-
-same-length : tie.Need-same-length Inv-loop μ-loop
-same-length c = c .before .loop .inv .1
 
 returns : tie.Need-returns Inv-loop μ-loop
 returns c =
@@ -57,13 +33,13 @@ shift-up-spec =
     (tie.spec
     Inv-loop
     μ-loop
-    sub-i
-    loop-holds
-    sub-i-2
-    slice-read-s
-    add-s
-    slice-write-s
-    loop-less
+    (λ c. omega arith)  -- sub-i
+    (λ c. (search needs, search needs, up-start _ _ (c .pre)))  -- loop-holds
+    (λ c. omega arith)  -- sub-i-2
+    (λ c. omega arith)  -- slice-read-s
+    (λ c. omega arith)  -- add-s
+    (λ c. omega arith)  -- slice-write-s
+    (λ c. omega arith)  -- loop-less
     loop-again
-    same-length
+    (λ c. c .before .loop .inv .1)  -- same-length
     returns)

@@ -16,32 +16,8 @@ Inv-loop out₀ at width number rest₀ k₀ out rest k =
 abbrev μ-loop : tie.MeasureT-loop
 μ-loop out₀ at width number rest₀ k₀ out rest k = k
 
-loop-holds : tie.Need-loop-holds Inv-loop μ-loop
-loop-holds c = search needs
-
-sub-k : tie.Need-sub-k Inv-loop μ-loop
-sub-k c = omega arith
-
-cast-out : tie.Need-cast-out Inv-loop μ-loop
-cast-out c = search needs
-
-add-out : tie.Need-add-out Inv-loop μ-loop
-add-out c = omega arith
-
-slice-write-out : tie.Need-slice-write-out Inv-loop μ-loop
-slice-write-out c = omega arith
-
-loop-less : tie.Need-loop-less Inv-loop μ-loop
-loop-less c = omega arith
-
 loop-again : tie.Need-loop-again Inv-loop μ-loop
 loop-again c = (simp length-set (omega arith), simp length-set (omega arith), search (needs, number-more))
-
-same-length : tie.Need-same-length Inv-loop μ-loop
-same-length c = search needs
-
-returns : tie.Need-returns Inv-loop μ-loop
-returns c = search (needs, number-all)
 
 pub put-number-spec : {M : Type 1} → statement M
 put-number-spec =
@@ -49,12 +25,12 @@ put-number-spec =
     (tie.spec
     Inv-loop
     μ-loop
-    loop-holds
-    sub-k
-    cast-out
-    add-out
-    slice-write-out
-    loop-less
+    (λ c. search needs)  -- loop-holds
+    (λ c. omega arith)  -- sub-k
+    (λ c. search needs)  -- cast-out
+    (λ c. omega arith)  -- add-out
+    (λ c. omega arith)  -- slice-write-out
+    (λ c. omega arith)  -- loop-less
     loop-again
-    same-length
-    returns)
+    (λ c. search needs)  -- same-length
+    (λ c. search (needs, number-all)))  -- returns

@@ -14,41 +14,17 @@ Inv-loop state out₀ at table me creator low high next₀ i₀ out next i =
 abbrev μ-loop : tie.MeasureT-loop
 μ-loop state out₀ at table me creator low high next₀ i₀ out next i = high - i
 
-loop-holds : tie.Need-loop-holds Inv-loop μ-loop
-loop-holds c = (omega arith, omega arith, search (needs, all-start))
-
-add-i : tie.Need-add-i Inv-loop μ-loop
-add-i c = search needs
-
-cast-send-index : tie.Need-cast-send-index Inv-loop μ-loop
-cast-send-index c = search needs
-
-send-index-requires : tie.Need-send-index-requires Inv-loop μ-loop
-send-index-requires c κs = search needs
-
-loop-less : tie.Need-loop-less Inv-loop μ-loop
-loop-less c = search needs
-
-loop-again : tie.Need-loop-again Inv-loop μ-loop
-loop-again c = (omega arith, omega arith, search (needs, all-again))
-
-same-length : tie.Need-same-length Inv-loop μ-loop
-same-length c = search needs
-
-returns : tie.Need-returns Inv-loop μ-loop
-returns c = search (needs, all-end)
-
 pub send-creator-spec : {M : Type 1} → statement M
 send-creator-spec =
     tie.close
     (tie.spec
     Inv-loop
     μ-loop
-    loop-holds
-    add-i
-    cast-send-index
-    send-index-requires
-    loop-less
-    loop-again
-    same-length
-    returns)
+    (λ c. (omega arith, omega arith, search (needs, all-start)))  -- loop-holds
+    (λ c. search needs)  -- add-i
+    (λ c. search needs)  -- cast-send-index
+    (λ c κs. search needs)  -- send-index-requires
+    (λ c. search needs)  -- loop-less
+    (λ c. (omega arith, omega arith, search (needs, all-again)))  -- loop-again
+    (λ c. search needs)  -- same-length
+    (λ c. search (needs, all-end)))  -- returns

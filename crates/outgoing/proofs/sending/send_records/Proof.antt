@@ -4,35 +4,14 @@ use borrow.Author.Needs.{needs}
 use Rattle.outgoing.proofs.sending.send_records.Statement.{statement}
 use Rattle.outgoing.proofs.sending.send_records.Tie as tie
 
-load-requires : tie.Need-load-requires
-load-requires c κs = search (needs, lent-header)
-
-unsent-requires : tie.Need-unsent-requires
-unsent-requires c κs = search (needs, sent-few)
-
-sub-low : tie.Need-sub-low
-sub-low c = search (needs, unsent-few)
-
-send-behind-requires : tie.Need-send-behind-requires
-send-behind-requires c κs = search (needs, lent-own, behind-room, behind-high)
-
-cast-result : tie.Need-cast-result
-cast-result c = search (needs, behind-fits)
-
-same-length : tie.Need-same-length
-same-length c = search needs
-
-returns : tie.Need-returns
-returns c = search (needs, waiting-length, waiting-bytes)
-
 pub send-records-spec : {M : Type 1} → statement M
 send-records-spec =
     tie.close
     (tie.spec
-    load-requires
-    unsent-requires
-    sub-low
-    send-behind-requires
-    cast-result
-    same-length
-    returns)
+    (λ c κs. search (needs, lent-header))  -- load-requires
+    (λ c κs. search (needs, sent-few))  -- unsent-requires
+    (λ c. search (needs, unsent-few))  -- sub-low
+    (λ c κs. search (needs, lent-own, behind-room, behind-high))  -- send-behind-requires
+    (λ c. search (needs, behind-fits))  -- cast-result
+    (λ c. search needs)  -- same-length
+    (λ c. search (needs, waiting-length, waiting-bytes)))  -- returns

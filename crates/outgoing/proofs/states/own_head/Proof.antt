@@ -2,8 +2,6 @@ use borrow.Author.Needs.{needs}
 use Rattle.outgoing.specs.Sending.{ownHead}
 use Rattle.outgoing.proofs.states.own_head.Statement.{statement}
 use Rattle.outgoing.proofs.states.own_head.Tie as tie
-use Rattle.outgoing.proofs.states.own_head.Reads as reads
-use Rattle.outgoing.proofs.states.own_head.Lts as lts
 
 returns : tie.Need-returns
 unfolding ownHead

@@ -3,15 +3,6 @@ use borrow.Author.Needs.{needs}
 use Rattle.plane.proofs.distances.rise.Statement.{statement}
 use Rattle.plane.proofs.distances.rise.Tie as tie
 
-cast-from : tie.Need-cast-from
-cast-from c = search (needs, wide-fits)
-
-cast-to : tie.Need-cast-to
-cast-to c = search (needs, wide-fits)
-
-sub-result : tie.Need-sub-result
-sub-result c = search (needs, difference-fits)
-
 cast-result : tie.Need-cast-result
 cast-result c = cast-fits (c .args .low) (c .args .high) (c .fits .low) (c .fits .high) (search needs)
 
@@ -19,4 +10,11 @@ returns : tie.Need-returns
 returns c = risen (c .args .low) (c .args .high) (c .fits .low) (c .fits .high) (search needs)
 
 pub rise-spec : {M : Type 1} → statement M
-rise-spec = tie.close (tie.spec cast-from cast-to sub-result cast-result returns)
+rise-spec =
+    tie.close
+    (tie.spec
+    (λ c. search (needs, wide-fits))  -- cast-from
+    (λ c. search (needs, wide-fits))  -- cast-to
+    (λ c. search (needs, difference-fits))  -- sub-result
+    cast-result
+    returns)

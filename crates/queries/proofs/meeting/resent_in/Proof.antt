@@ -3,11 +3,9 @@ use borrow.Author.Needs.{needs}
 use Rattle.queries.proofs.meeting.resent_in.Statement.{statement}
 use Rattle.queries.proofs.meeting.resent_in.Tie as tie
 
-returns : tie.Need-returns
-returns c = search (needs, resent-elsewhere)
-
-returns-2 : tie.Need-returns-2
-returns-2 c = search (needs, resent-counted)
-
 pub resent-in-spec : {M : Type 1} → statement M
-resent-in-spec = tie.close (tie.spec returns returns-2)
+resent-in-spec =
+    tie.close
+    (tie.spec
+    (λ c. search (needs, resent-elsewhere))  -- returns
+    (λ c. search (needs, resent-counted)))  -- returns-2

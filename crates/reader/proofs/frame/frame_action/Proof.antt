@@ -10,26 +10,18 @@ returns : tie.Need-returns
 unfolding lengthFor
 returns c = λ n. bad ofAction n _ (λ z. omega arith)
 
-num8-requires : tie.Need-num8-requires
-num8-requires c κs = search needs
-
-cast-m : tie.Need-cast-m
-cast-m c = search needs
-
-add-if2 : tie.Need-add-if2
-add-if2 c = search needs
-
 returns-2 : tie.Need-returns-2
 unfolding lengthFor
 returns-2 c = λ n. bad ofAction n _ (λ z. omega arith)
 
-action-at-requires : tie.Need-action-at-requires
-action-at-requires c κs = search needs
-
-returns-3 : tie.Need-returns-3
-returns-3 c = search (needs, action-good)
-
 pub frame-action-spec : {M : Type 1} → statement M
 frame-action-spec =
     tie.close
-    (tie.spec returns num8-requires cast-m add-if2 returns-2 action-at-requires returns-3)
+    (tie.spec
+    returns
+    (λ c κs. search needs)  -- num8-requires
+    (λ c. search needs)  -- cast-m
+    (λ c. search needs)  -- add-if2
+    returns-2
+    (λ c κs. search needs)  -- action-at-requires
+    (λ c. search (needs, action-good)))  -- returns-3

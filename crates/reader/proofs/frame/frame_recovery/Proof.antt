@@ -10,8 +10,9 @@ returns : tie.Need-returns
 unfolding lengthFor
 returns c = λ n. bad ofRecovery n _ (λ z. omega arith)
 
-returns-2 : tie.Need-returns-2
-returns-2 c = search (needs, recovery-good)
-
 pub frame-recovery-spec : {M : Type 1} → statement M
-frame-recovery-spec = tie.close (tie.spec returns returns-2)
+frame-recovery-spec =
+    tie.close
+    (tie.spec
+    returns
+    (λ c. search (needs, recovery-good)))  -- returns-2

@@ -10,21 +10,17 @@ returns : tie.Need-returns
 unfolding lengthFor
 returns c = λ n. bad ofRequest n _ (λ z. omega arith)
 
-num8-requires : tie.Need-num8-requires
-num8-requires c κs = search needs
-
-cast-m : tie.Need-cast-m
-cast-m c = search needs
-
-add-if2 : tie.Need-add-if2
-add-if2 c = search needs
-
 returns-2 : tie.Need-returns-2
 unfolding lengthFor
 returns-2 c = λ n. bad ofRequest n _ (λ z. omega arith)
 
-returns-3 : tie.Need-returns-3
-returns-3 c = search (needs, request-good)
-
 pub frame-request-spec : {M : Type 1} → statement M
-frame-request-spec = tie.close (tie.spec returns num8-requires cast-m add-if2 returns-2 returns-3)
+frame-request-spec =
+    tie.close
+    (tie.spec
+    returns
+    (λ c κs. search needs)  -- num8-requires
+    (λ c. search needs)  -- cast-m
+    (λ c. search needs)  -- add-if2
+    returns-2
+    (λ c. search (needs, request-good)))  -- returns-3

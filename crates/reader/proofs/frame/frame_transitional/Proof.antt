@@ -10,11 +10,10 @@ returns : tie.Need-returns
 unfolding lengthFor
 returns c = λ n. bad ofTransitional n _ (λ z. omega arith)
 
-num8-requires : tie.Need-num8-requires
-num8-requires c κs = search needs
-
-returns-2 : tie.Need-returns-2
-returns-2 c = search (needs, transitional-good)
-
 pub frame-transitional-spec : {M : Type 1} → statement M
-frame-transitional-spec = tie.close (tie.spec returns num8-requires returns-2)
+frame-transitional-spec =
+    tie.close
+    (tie.spec
+    returns
+    (λ c κs. search needs)  -- num8-requires
+    (λ c. search (needs, transitional-good)))  -- returns-2

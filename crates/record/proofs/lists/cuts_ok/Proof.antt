@@ -14,45 +14,18 @@ Inv-loop e at n quota k₀ k = (k ≤ n) × (cutsOk quota (numbersAt 2 n e at) �
 abbrev μ-loop : tie.MeasureT-loop
 μ-loop e at n quota k₀ k = n - k
 
-loop-holds : tie.Need-loop-holds Inv-loop μ-loop
-loop-holds c = search (needs, cuts-start)
-
-mul-num16 : tie.Need-mul-num16 Inv-loop μ-loop
-mul-num16 c = omega arith
-
-add-num16 : tie.Need-add-num16 Inv-loop μ-loop
-add-num16 c = omega arith
-
-num16-requires : tie.Need-num16-requires Inv-loop μ-loop
-num16-requires c κs = omega arith
-
-returns : tie.Need-returns Inv-loop μ-loop
-returns c = search (needs, cuts-high)
-
-add-k : tie.Need-add-k Inv-loop μ-loop
-add-k c = omega arith
-
-loop-less : tie.Need-loop-less Inv-loop μ-loop
-loop-less c = omega arith
-
-loop-again : tie.Need-loop-again Inv-loop μ-loop
-loop-again c = search (needs, cuts-again)
-
-returns-2 : tie.Need-returns-2 Inv-loop μ-loop
-returns-2 c = search (needs, cuts-end)
-
 pub cuts-ok-spec : {M : Type 1} → statement M
 cuts-ok-spec =
     tie.close
     (tie.spec
     Inv-loop
     μ-loop
-    loop-holds
-    mul-num16
-    add-num16
-    num16-requires
-    returns
-    add-k
-    loop-less
-    loop-again
-    returns-2)
+    (λ c. search (needs, cuts-start))  -- loop-holds
+    (λ c. omega arith)  -- mul-num16
+    (λ c. omega arith)  -- add-num16
+    (λ c κs. omega arith)  -- num16-requires
+    (λ c. search (needs, cuts-high))  -- returns
+    (λ c. omega arith)  -- add-k
+    (λ c. omega arith)  -- loop-less
+    (λ c. search (needs, cuts-again))  -- loop-again
+    (λ c. search (needs, cuts-end)))  -- returns-2

@@ -17,49 +17,19 @@ Inv-loop c e at step count met₀ here₀ k₀ met here k = Along step count e a
 abbrev μ-loop : tie.MeasureT-loop
 μ-loop c e at step count met₀ here₀ k₀ met here k = count - k
 
-loop-holds : tie.Need-loop-holds Inv-loop μ-loop
-loop-holds c = search (needs, along-start, pass-start)
-
-is-new-requires : tie.Need-is-new-requires Inv-loop μ-loop
-is-new-requires c κs = search (needs, along-here, along-before, along-places)
-
-same-length : tie.Need-same-length Inv-loop μ-loop
-same-length c = search needs
-
-returns : tie.Need-returns Inv-loop μ-loop
-returns c = search (needs, pass-denied)
-
-add-here : tie.Need-add-here Inv-loop μ-loop
-add-here c = search (needs, along-fits)
-
-add-k : tie.Need-add-k Inv-loop μ-loop
-add-k c = omega arith
-
-loop-less : tie.Need-loop-less Inv-loop μ-loop
-loop-less c = omega arith
-
-loop-again : tie.Need-loop-again Inv-loop μ-loop
-loop-again c = search (needs, along-again, pass-again)
-
-same-length-2 : tie.Need-same-length-2 Inv-loop μ-loop
-same-length-2 c = search needs
-
-returns-2 : tie.Need-returns-2 Inv-loop μ-loop
-returns-2 c = search (needs, pass-end)
-
 pub differ-by-spec : {M : Type 1} → statement M
 differ-by-spec =
     tie.close
     (tie.spec
     Inv-loop
     μ-loop
-    loop-holds
-    is-new-requires
-    same-length
-    returns
-    add-here
-    add-k
-    loop-less
-    loop-again
-    same-length-2
-    returns-2)
+    (λ c. search (needs, along-start, pass-start))  -- loop-holds
+    (λ c κs. search (needs, along-here, along-before, along-places))  -- is-new-requires
+    (λ c. search needs)  -- same-length
+    (λ c. search (needs, pass-denied))  -- returns
+    (λ c. search (needs, along-fits))  -- add-here
+    (λ c. omega arith)  -- add-k
+    (λ c. omega arith)  -- loop-less
+    (λ c. search (needs, along-again, pass-again))  -- loop-again
+    (λ c. search needs)  -- same-length-2
+    (λ c. search (needs, pass-end)))  -- returns-2

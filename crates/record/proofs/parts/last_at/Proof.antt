@@ -3,24 +3,13 @@ use borrow.Author.Needs.{needs}
 use Rattle.record.proofs.parts.last_at.Statement.{statement}
 use Rattle.record.proofs.parts.last_at.Tie as tie
 
-num32-requires : tie.Need-num32-requires
-num32-requires c κs = search needs
-
-add-num32 : tie.Need-add-num32
-add-num32 c = search needs
-
-num32-requires-2 : tie.Need-num32-requires-2
-num32-requires-2 c κs = search needs
-
-add-num8 : tie.Need-add-num8
-add-num8 c = search needs
-
-num8-requires : tie.Need-num8-requires
-num8-requires c κs = search needs
-
-returns : tie.Need-returns
-returns c = search (needs, last-made)
-
 pub last-at-spec : {M : Type 1} → statement M
 last-at-spec =
-    tie.close (tie.spec num32-requires add-num32 num32-requires-2 add-num8 num8-requires returns)
+    tie.close
+    (tie.spec
+    (λ c κs. search needs)  -- num32-requires
+    (λ c. search needs)  -- add-num32
+    (λ c κs. search needs)  -- num32-requires-2
+    (λ c. search needs)  -- add-num8
+    (λ c κs. search needs)  -- num8-requires
+    (λ c. search (needs, last-made)))  -- returns

@@ -5,15 +5,14 @@ use borrow.Author.Needs.{needs}
 use Rattle.record.proofs.range.set_ok.Statement.{statement}
 use Rattle.record.proofs.range.set_ok.Tie as tie
 
-cast-all : tie.Need-cast-all
-cast-all c = search needs
-
-shl-all : tie.Need-shl-all
-shl-all c = search needs
-
 returns : tie.Need-returns
 unfolding setOk contextOf
 returns c = search (needs, set-law)
 
 pub set-ok-spec : {M : Type 1} → statement M
-set-ok-spec = tie.close (tie.spec cast-all shl-all returns)
+set-ok-spec =
+    tie.close
+    (tie.spec
+    (λ c. search needs)  -- cast-all
+    (λ c. search needs)  -- shl-all
+    returns)

@@ -5,18 +5,15 @@ use borrow.Author.Needs.{needs}
 use Rattle.record.proofs.sets.has.Statement.{statement}
 use Rattle.record.proofs.sets.has.Tie as tie
 
-returns : tie.Need-returns
-returns c = search (needs, no-member)
-
-cast-result : tie.Need-cast-result
-cast-result c = search needs
-
-shr-result : tie.Need-shr-result
-shr-result c = search needs
-
 returns-2 : tie.Need-returns-2
 unfolding inSet
 returns-2 c = search (needs, told)
 
 pub has-spec : {M : Type 1} → statement M
-has-spec = tie.close (tie.spec returns cast-result shr-result returns-2)
+has-spec =
+    tie.close
+    (tie.spec
+    (λ c. search (needs, no-member))  -- returns
+    (λ c. search needs)  -- cast-result
+    (λ c. search needs)  -- shr-result
+    returns-2)

@@ -3,8 +3,8 @@ use Rattle.register_check.proofs.Found.{none-located}
 use Rattle.register_check.proofs.RegisterFind.none.Statement.{statement}
 use Rattle.register_check.proofs.RegisterFind.none.Tie as tie
 
-returns : tie.Need-returns
-returns c = search (needs, none-located)
-
 pub none-spec : {M : Type 1} → statement M
-none-spec = tie.close (tie.spec returns)
+none-spec =
+    tie.close
+    (tie.spec
+    (λ c. search (needs, none-located)))  -- returns

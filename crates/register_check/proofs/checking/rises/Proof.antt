@@ -12,77 +12,26 @@ Inv-loop b at next j₀ j = (j ≤ nameWords) × RisesFrom b at next j
 abbrev μ-loop : tie.MeasureT-loop
 μ-loop b at next j₀ j = nameWords - j
 
-loop-holds : tie.Need-loop-holds Inv-loop μ-loop
-loop-holds c = search (needs, rises-start)
-
-add-num32 : tie.Need-add-num32 Inv-loop μ-loop
-add-num32 c = omega arith
-
-mul-num32 : tie.Need-mul-num32 Inv-loop μ-loop
-mul-num32 c = omega arith
-
-add-num32-2 : tie.Need-add-num32-2 Inv-loop μ-loop
-add-num32-2 c = omega arith
-
-num32-requires : tie.Need-num32-requires Inv-loop μ-loop
-num32-requires c κs = search needs
-
-add-num32-3 : tie.Need-add-num32-3 Inv-loop μ-loop
-add-num32-3 c = omega arith
-
-mul-num32-2 : tie.Need-mul-num32-2 Inv-loop μ-loop
-mul-num32-2 c = omega arith
-
-add-num32-4 : tie.Need-add-num32-4 Inv-loop μ-loop
-add-num32-4 c = omega arith
-
-num32-requires-2 : tie.Need-num32-requires-2 Inv-loop μ-loop
-num32-requires-2 c κs = search needs
-
-returns : tie.Need-returns Inv-loop μ-loop
-returns c = search (needs, word-lower)
-
-returns-2 : tie.Need-returns-2 Inv-loop μ-loop
-returns-2 c = search (needs, word-higher)
-
-add-j : tie.Need-add-j Inv-loop μ-loop
-add-j c = omega arith
-
-loop-less : tie.Need-loop-less Inv-loop μ-loop
-loop-less c = omega arith
-
-loop-again : tie.Need-loop-again Inv-loop μ-loop
-loop-again c = search (needs, word-equal)
-
-num8-requires : tie.Need-num8-requires Inv-loop μ-loop
-num8-requires c κs = search needs
-
-num8-requires-2 : tie.Need-num8-requires-2 Inv-loop μ-loop
-num8-requires-2 c κs = search needs
-
-returns-3 : tie.Need-returns-3 Inv-loop μ-loop
-returns-3 c = search (needs, words-end)
-
 pub rises-spec : {M : Type 1} → statement M
 rises-spec =
     tie.close
     (tie.spec
     Inv-loop
     μ-loop
-    loop-holds
-    add-num32
-    mul-num32
-    add-num32-2
-    num32-requires
-    add-num32-3
-    mul-num32-2
-    add-num32-4
-    num32-requires-2
-    returns
-    returns-2
-    add-j
-    loop-less
-    loop-again
-    num8-requires
-    num8-requires-2
-    returns-3)
+    (λ c. search (needs, rises-start))  -- loop-holds
+    (λ c. omega arith)  -- add-num32
+    (λ c. omega arith)  -- mul-num32
+    (λ c. omega arith)  -- add-num32-2
+    (λ c κs. search needs)  -- num32-requires
+    (λ c. omega arith)  -- add-num32-3
+    (λ c. omega arith)  -- mul-num32-2
+    (λ c. omega arith)  -- add-num32-4
+    (λ c κs. search needs)  -- num32-requires-2
+    (λ c. search (needs, word-lower))  -- returns
+    (λ c. search (needs, word-higher))  -- returns-2
+    (λ c. omega arith)  -- add-j
+    (λ c. omega arith)  -- loop-less
+    (λ c. search (needs, word-equal))  -- loop-again
+    (λ c κs. search needs)  -- num8-requires
+    (λ c κs. search needs)  -- num8-requires-2
+    (λ c. search (needs, words-end)))  -- returns-3

@@ -13,45 +13,18 @@ Inv-loop u v i₀ i = (length u ≡ length v) × (i ≤ length u) × SameFrom u 
 abbrev μ-loop : tie.MeasureT-loop
 μ-loop u v i₀ i = length u - i
 
-returns : tie.Need-returns Inv-loop μ-loop
-returns c = search (needs, other-length)
-
-loop-holds : tie.Need-loop-holds Inv-loop μ-loop
-loop-holds c = search needs
-
-shared-slice-read-a : tie.Need-shared-slice-read-a Inv-loop μ-loop
-shared-slice-read-a c = omega arith
-
-shared-slice-read-b : tie.Need-shared-slice-read-b Inv-loop μ-loop
-shared-slice-read-b c = omega arith
-
-returns-2 : tie.Need-returns-2 Inv-loop μ-loop
-returns-2 c = search (needs, is-other)
-
-add-i : tie.Need-add-i Inv-loop μ-loop
-add-i c = omega arith
-
-loop-less : tie.Need-loop-less Inv-loop μ-loop
-loop-less c = omega arith
-
-loop-again : tie.Need-loop-again Inv-loop μ-loop
-loop-again c = search (needs, same-on)
-
-returns-3 : tie.Need-returns-3 Inv-loop μ-loop
-returns-3 c = search (needs, same-end)
-
 pub is-same-spec : {M : Type 1} → statement M
 is-same-spec =
     tie.close
     (tie.spec
     Inv-loop
     μ-loop
-    returns
-    loop-holds
-    shared-slice-read-a
-    shared-slice-read-b
-    returns-2
-    add-i
-    loop-less
-    loop-again
-    returns-3)
+    (λ c. search (needs, other-length))  -- returns
+    (λ c. search needs)  -- loop-holds
+    (λ c. omega arith)  -- shared-slice-read-a
+    (λ c. omega arith)  -- shared-slice-read-b
+    (λ c. search (needs, is-other))  -- returns-2
+    (λ c. omega arith)  -- add-i
+    (λ c. omega arith)  -- loop-less
+    (λ c. search (needs, same-on))  -- loop-again
+    (λ c. search (needs, same-end)))  -- returns-3

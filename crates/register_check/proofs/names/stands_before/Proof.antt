@@ -12,49 +12,19 @@ Inv-loop u v i₀ i = (i ≤ length u) × (i ≤ length v) × BeforeFrom u v i
 abbrev μ-loop : tie.MeasureT-loop
 μ-loop u v i₀ i = length u - i
 
-loop-holds : tie.Need-loop-holds Inv-loop μ-loop
-loop-holds c = search needs
-
-returns : tie.Need-returns Inv-loop μ-loop
-returns c = search (needs, ends-first)
-
-shared-slice-read-a : tie.Need-shared-slice-read-a Inv-loop μ-loop
-shared-slice-read-a c = omega arith
-
-shared-slice-read-b : tie.Need-shared-slice-read-b Inv-loop μ-loop
-shared-slice-read-b c = omega arith
-
-returns-2 : tie.Need-returns-2 Inv-loop μ-loop
-returns-2 c = search (needs, is-first)
-
-returns-3 : tie.Need-returns-3 Inv-loop μ-loop
-returns-3 c = search (needs, is-later)
-
-add-i : tie.Need-add-i Inv-loop μ-loop
-add-i c = omega arith
-
-loop-less : tie.Need-loop-less Inv-loop μ-loop
-loop-less c = omega arith
-
-loop-again : tie.Need-loop-again Inv-loop μ-loop
-loop-again c = search (needs, before-on)
-
-returns-4 : tie.Need-returns-4 Inv-loop μ-loop
-returns-4 c = search (needs, before-end)
-
 pub stands-before-spec : {M : Type 1} → statement M
 stands-before-spec =
     tie.close
     (tie.spec
     Inv-loop
     μ-loop
-    loop-holds
-    returns
-    shared-slice-read-a
-    shared-slice-read-b
-    returns-2
-    returns-3
-    add-i
-    loop-less
-    loop-again
-    returns-4)
+    (λ c. search needs)  -- loop-holds
+    (λ c. search (needs, ends-first))  -- returns
+    (λ c. omega arith)  -- shared-slice-read-a
+    (λ c. omega arith)  -- shared-slice-read-b
+    (λ c. search (needs, is-first))  -- returns-2
+    (λ c. search (needs, is-later))  -- returns-3
+    (λ c. omega arith)  -- add-i
+    (λ c. omega arith)  -- loop-less
+    (λ c. search (needs, before-on))  -- loop-again
+    (λ c. search (needs, before-end)))  -- returns-4

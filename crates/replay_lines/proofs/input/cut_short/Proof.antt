@@ -3,8 +3,6 @@ use Rattle.replay_lines.specs.Input.{cutShort}
 use Rattle.base.proofs.TestLaws.{pick-yes, pick-no}
 use Rattle.replay_lines.proofs.input.cut_short.Statement.{statement}
 use Rattle.replay_lines.proofs.input.cut_short.Tie as tie
-use Rattle.replay_lines.proofs.input.cut_short.Reads as reads
-use Rattle.replay_lines.proofs.input.cut_short.Lts as lts
 
 returns : tie.Need-returns
 unfolding cutShort

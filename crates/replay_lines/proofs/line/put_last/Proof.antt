@@ -3,22 +3,6 @@ use Rattle.replay_lines.proofs.LineLaws.{last-put}
 use borrow.Author.Needs.{needs}
 use Rattle.replay_lines.proofs.line.put_last.Statement.{statement}
 use Rattle.replay_lines.proofs.line.put_last.Tie as tie
-use Rattle.replay_lines.proofs.line.put_last.Reads as reads
-use Rattle.replay_lines.proofs.line.put_last.Lts as lts
-use Rattle.replay_lines.proofs.line.put_number.Reads as put-number-reads
-use Rattle.replay_lines.proofs.line.put_word.Reads as put-word-reads
-
-put-number-requires : tie.Need-put-number-requires
-put-number-requires c κs = search needs
-
-slice-aggregate-put-word : tie.Need-slice-aggregate-put-word
-slice-aggregate-put-word c = search needs
-
-put-word-requires : tie.Need-put-word-requires
-put-word-requires c κs = search needs
-
-same-length : tie.Need-same-length
-same-length c = search needs
 
 returns : tie.Need-returns
 unfolding ascii
@@ -27,4 +11,9 @@ returns c = search (needs, last-put)
 pub put-last-spec : {M : Type 1} → statement M
 put-last-spec =
     tie.close
-    (tie.spec put-number-requires slice-aggregate-put-word put-word-requires same-length returns)
+    (tie.spec
+    (λ c κs. search needs)  -- put-number-requires
+    (λ c. search needs)  -- slice-aggregate-put-word
+    (λ c κs. search needs)  -- put-word-requires
+    (λ c. search needs)  -- same-length
+    returns)

@@ -3,22 +3,6 @@ use Rattle.replay_lines.proofs.LineLaws.{setup-put}
 use borrow.Author.Needs.{needs}
 use Rattle.replay_lines.proofs.line.setup_line.Statement.{statement}
 use Rattle.replay_lines.proofs.line.setup_line.Tie as tie
-use Rattle.replay_lines.proofs.line.setup_line.Reads as reads
-use Rattle.replay_lines.proofs.line.setup_line.Lts as lts
-use Rattle.replay_lines.proofs.line.put_last.Reads as put-last-reads
-use Rattle.replay_lines.proofs.line.put_word.Reads as put-word-reads
-
-slice-aggregate-put-word : tie.Need-slice-aggregate-put-word
-slice-aggregate-put-word c = search needs
-
-put-word-requires : tie.Need-put-word-requires
-put-word-requires c κs = search needs
-
-put-last-requires : tie.Need-put-last-requires
-put-last-requires c κs = search needs
-
-same-length : tie.Need-same-length
-same-length c = search needs
 
 returns : tie.Need-returns
 unfolding ascii
@@ -27,4 +11,9 @@ returns c = search (needs, setup-put)
 pub setup-line-spec : {M : Type 1} → statement M
 setup-line-spec =
     tie.close
-    (tie.spec slice-aggregate-put-word put-word-requires put-last-requires same-length returns)
+    (tie.spec
+    (λ c. search needs)  -- slice-aggregate-put-word
+    (λ c κs. search needs)  -- put-word-requires
+    (λ c κs. search needs)  -- put-last-requires
+    (λ c. search needs)  -- same-length
+    returns)

@@ -14,36 +14,6 @@ Inv-loop c set configuration b at n size here₀ k₀ here k = (k ≤ c .servers
 abbrev μ-loop : tie.MeasureT-loop
 μ-loop c set configuration b at n size here₀ k₀ here k = c .servers - k
 
-cast-state-size : tie.Need-cast-state-size Inv-loop μ-loop
-cast-state-size c = search needs
-
-cast-state-size-2 : tie.Need-cast-state-size-2 Inv-loop μ-loop
-cast-state-size-2 c = search needs
-
-state-size-requires : tie.Need-state-size-requires Inv-loop μ-loop
-state-size-requires c κs = search needs
-
-cast-size : tie.Need-cast-size Inv-loop μ-loop
-cast-size c = search needs
-
-loop-holds : tie.Need-loop-holds Inv-loop μ-loop
-loop-holds c = search (needs, slots-left, collected-start)
-
-collected-at-requires : tie.Need-collected-at-requires Inv-loop μ-loop
-collected-at-requires c κs = search (needs, first-left)
-
-returns : tie.Need-returns Inv-loop μ-loop
-returns c = search (needs, collected-denied)
-
-add-here : tie.Need-add-here Inv-loop μ-loop
-add-here c = omega arith
-
-add-k : tie.Need-add-k Inv-loop μ-loop
-add-k c = omega arith
-
-loop-less : tie.Need-loop-less Inv-loop μ-loop
-loop-less c = omega arith
-
 loop-again : tie.Need-loop-again Inv-loop μ-loop
 loop-again c = (
   omega arith,
@@ -51,24 +21,21 @@ loop-again c = (
   collected-again _ _ _ _ _ _ _ _ _ (c .before .before .before .loop .inv .2) (omega arith) (c .before .collected-at .ensures) (c .if1 .left) (c .before .before .before .before .state-size .ensures .0),
 )
 
-returns-2 : tie.Need-returns-2 Inv-loop μ-loop
-returns-2 c = search (needs, collected-end)
-
 pub collected-ok-spec : {M : Type 1} → statement M
 collected-ok-spec =
     tie.close
     (tie.spec
     Inv-loop
     μ-loop
-    cast-state-size
-    cast-state-size-2
-    state-size-requires
-    cast-size
-    loop-holds
-    collected-at-requires
-    returns
-    add-here
-    add-k
-    loop-less
+    (λ c. search needs)  -- cast-state-size
+    (λ c. search needs)  -- cast-state-size-2
+    (λ c κs. search needs)  -- state-size-requires
+    (λ c. search needs)  -- cast-size
+    (λ c. search (needs, slots-left, collected-start))  -- loop-holds
+    (λ c κs. search (needs, first-left))  -- collected-at-requires
+    (λ c. search (needs, collected-denied))  -- returns
+    (λ c. omega arith)  -- add-here
+    (λ c. omega arith)  -- add-k
+    (λ c. omega arith)  -- loop-less
     loop-again
-    returns-2)
+    (λ c. search (needs, collected-end)))  -- returns-2

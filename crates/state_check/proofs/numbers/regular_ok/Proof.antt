@@ -17,12 +17,16 @@ returns-3 : tie.Need-returns-3
 unfolding regularOk
 returns-3 c = search (needs, tests, choices, answers, told) depth 8
 
-own-set-ok-requires : tie.Need-own-set-ok-requires
-own-set-ok-requires c κs = search needs
-
 returns-4 : tie.Need-returns-4
 unfolding regularOk
 returns-4 c = search (needs, tests, choices, answers, told) depth 8
 
 pub regular-ok-spec : {M : Type 1} → statement M
-regular-ok-spec = tie.close (tie.spec returns returns-2 returns-3 own-set-ok-requires returns-4)
+regular-ok-spec =
+    tie.close
+    (tie.spec
+    returns
+    returns-2
+    returns-3
+    (λ c κs. search needs)  -- own-set-ok-requires
+    returns-4)

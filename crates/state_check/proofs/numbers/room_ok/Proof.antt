@@ -6,9 +6,6 @@ use borrow.Author.Needs.{needs}
 use Rattle.state_check.proofs.numbers.room_ok.Statement.{statement}
 use Rattle.state_check.proofs.numbers.room_ok.Tie as tie
 
-queue-count-ok-requires : tie.Need-queue-count-ok-requires
-queue-count-ok-requires c κs = search needs
-
 returns : tie.Need-returns
 unfolding roomOk contextOf
 returns c = search (needs, tests, answers) depth 8
@@ -21,9 +18,6 @@ returns-3 : tie.Need-returns-3
 unfolding roomOk contextOf
 returns-3 c = search (needs, tests, answers) depth 8
 
-yellow-count-ok-requires : tie.Need-yellow-count-ok-requires
-yellow-count-ok-requires c κs = search needs
-
 returns-4 : tie.Need-returns-4
 unfolding roomOk contextOf
 returns-4 c = search (needs, tests, answers) depth 8
@@ -31,4 +25,10 @@ returns-4 c = search (needs, tests, answers) depth 8
 pub room-ok-spec : {M : Type 1} → statement M
 room-ok-spec =
     tie.close
-    (tie.spec queue-count-ok-requires returns returns-2 returns-3 yellow-count-ok-requires returns-4)
+    (tie.spec
+    (λ c κs. search needs)  -- queue-count-ok-requires
+    returns
+    returns-2
+    returns-3
+    (λ c κs. search needs)  -- yellow-count-ok-requires
+    returns-4)

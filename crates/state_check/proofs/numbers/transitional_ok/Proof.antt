@@ -14,15 +14,9 @@ returns-2 : tie.Need-returns-2
 unfolding transitionalOk contextOf
 returns-2 c = search (needs, tests, choices, answers, told) depth 8
 
-own-set-ok-requires : tie.Need-own-set-ok-requires
-own-set-ok-requires c κs = search needs
-
 returns-3 : tie.Need-returns-3
 unfolding transitionalOk contextOf
 returns-3 c = search (needs, tests, choices, answers, told) depth 8
-
-inside-last-requires : tie.Need-inside-last-requires
-inside-last-requires c κs = search needs
 
 returns-4 : tie.Need-returns-4
 unfolding transitionalOk contextOf
@@ -31,4 +25,10 @@ returns-4 c = search (needs, tests, choices, answers, told) depth 8
 pub transitional-ok-spec : {M : Type 1} → statement M
 transitional-ok-spec =
     tie.close
-    (tie.spec returns returns-2 own-set-ok-requires returns-3 inside-last-requires returns-4)
+    (tie.spec
+    returns
+    returns-2
+    (λ c κs. search needs)  -- own-set-ok-requires
+    returns-3
+    (λ c κs. search needs)  -- inside-last-requires
+    returns-4)

@@ -4,22 +4,13 @@ use borrow.Author.Needs.{needs}
 use Rattle.state_check.proofs.sections.last_lists_ok.Statement.{statement}
 use Rattle.state_check.proofs.sections.last_lists_ok.Tie as tie
 
-yellow-ok-requires : tie.Need-yellow-ok-requires
-yellow-ok-requires c κs = search needs
-
 returns : tie.Need-returns
 unfolding lastListsOk
 returns c = search (needs, answers)
 
-own-ok-requires : tie.Need-own-ok-requires
-own-ok-requires c κs = search needs
-
 returns-2 : tie.Need-returns-2
 unfolding lastListsOk
 returns-2 c = search (needs, answers)
-
-queue-ok-requires : tie.Need-queue-ok-requires
-queue-ok-requires c κs = search needs
 
 returns-3 : tie.Need-returns-3
 unfolding lastListsOk
@@ -28,4 +19,10 @@ returns-3 c = search (needs, answers)
 pub last-lists-ok-spec : {M : Type 1} → statement M
 last-lists-ok-spec =
     tie.close
-    (tie.spec yellow-ok-requires returns own-ok-requires returns-2 queue-ok-requires returns-3)
+    (tie.spec
+    (λ c κs. search needs)  -- yellow-ok-requires
+    returns
+    (λ c κs. search needs)  -- own-ok-requires
+    returns-2
+    (λ c κs. search needs)  -- queue-ok-requires
+    returns-3)

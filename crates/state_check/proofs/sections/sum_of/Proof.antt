@@ -15,45 +15,18 @@ Inv-loop b at n total₀ here₀ left₀ total here left = (here + 2 * left ≤ 
 abbrev μ-loop : tie.MeasureT-loop
 μ-loop b at n total₀ here₀ left₀ total here left = left
 
-loop-holds : tie.Need-loop-holds Inv-loop μ-loop
-loop-holds c = search (needs, sum-start)
-
-num16-requires : tie.Need-num16-requires Inv-loop μ-loop
-num16-requires c κs = search needs
-
-cast-total : tie.Need-cast-total Inv-loop μ-loop
-cast-total c = omega arith
-
-add-total : tie.Need-add-total Inv-loop μ-loop
-add-total c = omega arith
-
-add-here : tie.Need-add-here Inv-loop μ-loop
-add-here c = omega arith
-
-sub-left : tie.Need-sub-left Inv-loop μ-loop
-sub-left c = omega arith
-
-loop-less : tie.Need-loop-less Inv-loop μ-loop
-loop-less c = omega arith
-
-loop-again : tie.Need-loop-again Inv-loop μ-loop
-loop-again c = search (needs, sum-again)
-
-returns : tie.Need-returns Inv-loop μ-loop
-returns c = search (needs, sum-end)
-
 pub sum-of-spec : {M : Type 1} → statement M
 sum-of-spec =
     tie.close
     (tie.spec
     Inv-loop
     μ-loop
-    loop-holds
-    num16-requires
-    cast-total
-    add-total
-    add-here
-    sub-left
-    loop-less
-    loop-again
-    returns)
+    (λ c. search (needs, sum-start))  -- loop-holds
+    (λ c κs. search needs)  -- num16-requires
+    (λ c. omega arith)  -- cast-total
+    (λ c. omega arith)  -- add-total
+    (λ c. omega arith)  -- add-here
+    (λ c. omega arith)  -- sub-left
+    (λ c. omega arith)  -- loop-less
+    (λ c. search (needs, sum-again))  -- loop-again
+    (λ c. search (needs, sum-end)))  -- returns

@@ -12,23 +12,15 @@ Inv-loop t₀ j₀ t j = (mostPayload ≤ j) × MasksTo j t
 abbrev μ-loop : tie.MeasureT-loop
 μ-loop t₀ j₀ t j = 2 * mostPayload - j
 
-loop-holds : tie.Need-loop-holds Inv-loop μ-loop
-loop-holds c = search (needs, masks-start)
-
-array-write-t : tie.Need-array-write-t Inv-loop μ-loop
-array-write-t c = omega arith
-
-add-j : tie.Need-add-j Inv-loop μ-loop
-add-j c = omega arith
-
-loop-less : tie.Need-loop-less Inv-loop μ-loop
-loop-less c = omega arith
-
-loop-again : tie.Need-loop-again Inv-loop μ-loop
-loop-again c = search (needs, masks-again)
-
-returns : tie.Need-returns Inv-loop μ-loop
-returns c = search (needs, masks-end)
-
 pub masks-spec : {M : Type 1} → statement M
-masks-spec = tie.close (tie.spec Inv-loop μ-loop loop-holds array-write-t add-j loop-less loop-again returns)
+masks-spec =
+    tie.close
+    (tie.spec
+    Inv-loop
+    μ-loop
+    (λ c. search (needs, masks-start))  -- loop-holds
+    (λ c. omega arith)  -- array-write-t
+    (λ c. omega arith)  -- add-j
+    (λ c. omega arith)  -- loop-less
+    (λ c. search (needs, masks-again))  -- loop-again
+    (λ c. search (needs, masks-end)))  -- returns

@@ -16,33 +16,9 @@ Inv-loop c b at here₀ left₀ here left = (here + 4 * left ≤ length b) × (n
 abbrev μ-loop : tie.MeasureT-loop
 μ-loop c b at here₀ left₀ here left = left
 
-cast-left : tie.Need-cast-left Inv-loop μ-loop
-cast-left c = omega arith
-
 loop-holds : tie.Need-loop-holds Inv-loop μ-loop
 unfolding notedFit contextOf
 loop-holds c = search needs
-
-noted-at-requires : tie.Need-noted-at-requires Inv-loop μ-loop
-noted-at-requires c κs = search needs
-
-returns : tie.Need-returns Inv-loop μ-loop
-returns c = search (needs, every-denied)
-
-add-here : tie.Need-add-here Inv-loop μ-loop
-add-here c = omega arith
-
-sub-left : tie.Need-sub-left Inv-loop μ-loop
-sub-left c = omega arith
-
-loop-less : tie.Need-loop-less Inv-loop μ-loop
-loop-less c = omega arith
-
-loop-again : tie.Need-loop-again Inv-loop μ-loop
-loop-again c = search (needs, every-again)
-
-returns-2 : tie.Need-returns-2 Inv-loop μ-loop
-returns-2 c = search (needs, every-end)
 
 pub noted-fit-spec : {M : Type 1} → statement M
 noted-fit-spec =
@@ -50,12 +26,12 @@ noted-fit-spec =
     (tie.spec
     Inv-loop
     μ-loop
-    cast-left
+    (λ c. omega arith)  -- cast-left
     loop-holds
-    noted-at-requires
-    returns
-    add-here
-    sub-left
-    loop-less
-    loop-again
-    returns-2)
+    (λ c κs. search needs)  -- noted-at-requires
+    (λ c. search (needs, every-denied))  -- returns
+    (λ c. omega arith)  -- add-here
+    (λ c. omega arith)  -- sub-left
+    (λ c. omega arith)  -- loop-less
+    (λ c. search (needs, every-again))  -- loop-again
+    (λ c. search (needs, every-end)))  -- returns-2

@@ -16,45 +16,18 @@ Inv-loop c b k at count t here₀ left₀ i₀ here left i = (here + slotSize * 
 abbrev μ-loop : tie.MeasureT-loop
 μ-loop c b k at count t here₀ left₀ i₀ here left i = left
 
-loop-holds : tie.Need-loop-holds Inv-loop μ-loop
-loop-holds c = search needs
-
-own-slot-fits-requires : tie.Need-own-slot-fits-requires Inv-loop μ-loop
-own-slot-fits-requires c κs = search needs
-
-returns : tie.Need-returns Inv-loop μ-loop
-returns c = search (needs, own-denied)
-
-add-here : tie.Need-add-here Inv-loop μ-loop
-add-here c = omega arith
-
-add-i : tie.Need-add-i Inv-loop μ-loop
-add-i c = omega arith
-
-sub-left : tie.Need-sub-left Inv-loop μ-loop
-sub-left c = omega arith
-
-loop-less : tie.Need-loop-less Inv-loop μ-loop
-loop-less c = omega arith
-
-loop-again : tie.Need-loop-again Inv-loop μ-loop
-loop-again c = search (needs, own-again)
-
-returns-2 : tie.Need-returns-2 Inv-loop μ-loop
-returns-2 c = search (needs, own-end)
-
 pub own-fits-spec : {M : Type 1} → statement M
 own-fits-spec =
     tie.close
     (tie.spec
     Inv-loop
     μ-loop
-    loop-holds
-    own-slot-fits-requires
-    returns
-    add-here
-    add-i
-    sub-left
-    loop-less
-    loop-again
-    returns-2)
+    (λ c. search needs)  -- loop-holds
+    (λ c κs. search needs)  -- own-slot-fits-requires
+    (λ c. search (needs, own-denied))  -- returns
+    (λ c. omega arith)  -- add-here
+    (λ c. omega arith)  -- add-i
+    (λ c. omega arith)  -- sub-left
+    (λ c. omega arith)  -- loop-less
+    (λ c. search (needs, own-again))  -- loop-again
+    (λ c. search (needs, own-end)))  -- returns-2

@@ -17,9 +17,6 @@ Inv-loop c b cuts at count t met₀ here₀ k₀ met here k = Along slotSize cou
 abbrev μ-loop : tie.MeasureT-loop
 μ-loop c b cuts at count t met₀ here₀ k₀ met here k = count - k
 
-loop-holds : tie.Need-loop-holds Inv-loop μ-loop
-loop-holds c = search (needs, along-start, queue-start)
-
 next-fits-requires : tie.Need-next-fits-requires Inv-loop μ-loop
 next-fits-requires c κs = (
   record { context = search needs; masks = search needs; cuts-end = search needs; slots-end = search (needs, next-here) },
@@ -31,43 +28,19 @@ next-fits-requires c κs = (
   },
 )
 
-same-length : tie.Need-same-length Inv-loop μ-loop
-same-length c = search needs
-
-returns : tie.Need-returns Inv-loop μ-loop
-returns c = search (needs, queue-denied)
-
-add-here : tie.Need-add-here Inv-loop μ-loop
-add-here c = search (needs, slots-inside, along-fits)
-
-add-k : tie.Need-add-k Inv-loop μ-loop
-add-k c = omega arith
-
-loop-less : tie.Need-loop-less Inv-loop μ-loop
-loop-less c = omega arith
-
-loop-again : tie.Need-loop-again Inv-loop μ-loop
-loop-again c = search (needs, next-along, queue-again)
-
-same-length-2 : tie.Need-same-length-2 Inv-loop μ-loop
-same-length-2 c = search needs
-
-returns-2 : tie.Need-returns-2 Inv-loop μ-loop
-returns-2 c = search (needs, queue-end)
-
 pub queue-fits-by-spec : {M : Type 1} → statement M
 queue-fits-by-spec =
     tie.close
     (tie.spec
     Inv-loop
     μ-loop
-    loop-holds
+    (λ c. search (needs, along-start, queue-start))  -- loop-holds
     next-fits-requires
-    same-length
-    returns
-    add-here
-    add-k
-    loop-less
-    loop-again
-    same-length-2
-    returns-2)
+    (λ c. search needs)  -- same-length
+    (λ c. search (needs, queue-denied))  -- returns
+    (λ c. search (needs, slots-inside, along-fits))  -- add-here
+    (λ c. omega arith)  -- add-k
+    (λ c. omega arith)  -- loop-less
+    (λ c. search (needs, next-along, queue-again))  -- loop-again
+    (λ c. search needs)  -- same-length-2
+    (λ c. search (needs, queue-end)))  -- returns-2

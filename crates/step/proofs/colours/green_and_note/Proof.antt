@@ -3,14 +3,8 @@ use borrow.Author.Needs.{needs}
 use Rattle.step.proofs.colours.green_and_note.Statement.{statement}
 use Rattle.step.proofs.colours.green_and_note.Tie as tie
 
-green-requires : tie.Need-green-requires
-green-requires c κs = search needs
-
 note-requires : tie.Need-note-requires
 note-requires c κs = note-room _ _ _ _ (c .before .before .before .before .before .before .before .pre) (c .before .before .before .green .ensures)
-
-same-length : tie.Need-same-length
-same-length c = search needs
 
 returns : tie.Need-returns
 returns c =
@@ -20,4 +14,10 @@ returns c =
     (c .before .before .note .ensures)
 
 pub green-and-note-spec : {M : Type 1} → statement M
-green-and-note-spec = tie.close (tie.spec green-requires note-requires same-length returns)
+green-and-note-spec =
+    tie.close
+    (tie.spec
+    (λ c κs. search needs)  -- green-requires
+    note-requires
+    (λ c. search needs)  -- same-length
+    returns)

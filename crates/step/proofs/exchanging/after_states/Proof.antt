@@ -4,18 +4,6 @@ use borrow.Author.Needs.{needs}
 use Rattle.step.proofs.exchanging.after_states.Statement.{statement}
 use Rattle.step.proofs.exchanging.after_states.Tie as tie
 
-planned-now-requires : tie.Need-planned-now-requires
-planned-now-requires c κs = search (needs, lent-some)
-
-await-actions-requires : tie.Need-await-actions-requires
-await-actions-requires c κs = search needs
-
-same-length : tie.Need-same-length
-same-length c = search needs
-
-same-length-2 : tie.Need-same-length-2
-same-length-2 c = search needs
-
 returns : tie.Need-returns
 returns c =
     after-awaited _ _ (c .before .before .before .before .before .before .before .before .before .before .before .before .pre) _
@@ -30,12 +18,6 @@ end-exchange-requires c κs =
     after-ends _ _ (c .before .before .before .before .before .before .before .before .before .before .before .pre) _
     (c .before .before .before .before .before .before .before .planned-now .ensures) _ (c .before .before .before .before .set-mode .ensures)
 
-same-length-3 : tie.Need-same-length-3
-same-length-3 c = search needs
-
-same-length-4 : tie.Need-same-length-4
-same-length-4 c = search needs
-
 returns-2 : tie.Need-returns-2
 returns-2 c =
     after-ended _ _
@@ -49,13 +31,13 @@ pub after-states-spec : {M : Type 1} → statement M
 after-states-spec =
     tie.close
     (tie.spec
-    planned-now-requires
-    await-actions-requires
-    same-length
-    same-length-2
+    (λ c κs. search (needs, lent-some))  -- planned-now-requires
+    (λ c κs. search needs)  -- await-actions-requires
+    (λ c. search needs)  -- same-length
+    (λ c. search needs)  -- same-length-2
     returns
     set-mode-requires
     end-exchange-requires
-    same-length-3
-    same-length-4
+    (λ c. search needs)  -- same-length-3
+    (λ c. search needs)  -- same-length-4
     returns-2)

@@ -5,33 +5,6 @@ use borrow.Author.Needs.{needs}
 use Rattle.step.proofs.exchanging.attempt_primary.Statement.{statement}
 use Rattle.step.proofs.exchanging.attempt_primary.Tie as tie
 
-load-requires : tie.Need-load-requires
-load-requires c κs = lent-header _ _ _ (c .before .before .before .pre)
-
-write-cpc-requires : tie.Need-write-cpc-requires
-write-cpc-requires c κs = search needs
-
-enum-known-w : tie.Need-enum-known-w
-enum-known-w c = search needs
-
-enum-told : tie.Need-enum-told
-enum-told c = search needs
-
-quiet-requires : tie.Need-quiet-requires
-quiet-requires c κs = search needs
-
-same-length : tie.Need-same-length
-same-length c = search needs
-
-same-length-2 : tie.Need-same-length-2
-same-length-2 c = search needs
-
-returns : tie.Need-returns
-returns c = search (needs, attempt-full)
-
-decide-all-requires : tie.Need-decide-all-requires
-decide-all-requires c κs = search needs
-
 attempt-requires : tie.Need-attempt-requires
 attempt-requires c κs =
     attempt-some _ _
@@ -49,15 +22,6 @@ cast-stored c =
           (c .before .before .before .before .before .before .before .before .before .w .given .1),
     )
 
-stored-requires : tie.Need-stored-requires
-stored-requires c κs = search needs
-
-same-length-3 : tie.Need-same-length-3
-same-length-3 c = search needs
-
-same-length-4 : tie.Need-same-length-4
-same-length-4 c = search needs
-
 returns-2 : tie.Need-returns-2
 returns-2 c =
     attempt-made _ _
@@ -73,18 +37,18 @@ pub attempt-primary-spec : {M : Type 1} → statement M
 attempt-primary-spec =
     tie.close
     (tie.spec
-    load-requires
-    write-cpc-requires
-    enum-known-w
-    enum-told
-    quiet-requires
-    same-length
-    same-length-2
-    returns
-    decide-all-requires
+    (λ c κs. lent-header _ _ _ (c .before .before .before .pre))  -- load-requires
+    (λ c κs. search needs)  -- write-cpc-requires
+    (λ c. search needs)  -- enum-known-w
+    (λ c. search needs)  -- enum-told
+    (λ c κs. search needs)  -- quiet-requires
+    (λ c. search needs)  -- same-length
+    (λ c. search needs)  -- same-length-2
+    (λ c. search (needs, attempt-full))  -- returns
+    (λ c κs. search needs)  -- decide-all-requires
     attempt-requires
     cast-stored
-    stored-requires
-    same-length-3
-    same-length-4
+    (λ c κs. search needs)  -- stored-requires
+    (λ c. search needs)  -- same-length-3
+    (λ c. search needs)  -- same-length-4
     returns-2)

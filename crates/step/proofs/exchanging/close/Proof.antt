@@ -4,14 +4,8 @@ use borrow.Author.Needs.{needs}
 use Rattle.step.proofs.exchanging.close.Statement.{statement}
 use Rattle.step.proofs.exchanging.close.Tie as tie
 
-set-mode-requires : tie.Need-set-mode-requires
-set-mode-requires c κs = such-header _ _ (c .before .before .pre)
-
 one-more-requires : tie.Need-one-more-requires
 one-more-requires c κs = left-some _ _ (c .before .before .before .set-mode .ensures) (c .before .before .before .before .before .before .pre)
-
-same-length : tie.Need-same-length
-same-length c = search needs
 
 returns : tie.Need-returns
 returns c =
@@ -19,4 +13,10 @@ returns c =
     (c .before .before .before .before .before .before .before .before .before .pre) _ (c .before .before .one-more .ensures)
 
 pub close-spec : {M : Type 1} → statement M
-close-spec = tie.close (tie.spec set-mode-requires one-more-requires same-length returns)
+close-spec =
+    tie.close
+    (tie.spec
+    (λ c κs. such-header _ _ (c .before .before .pre))  -- set-mode-requires
+    one-more-requires
+    (λ c. search needs)  -- same-length
+    returns)

@@ -6,15 +6,6 @@ use borrow.Author.Needs.{needs}
 use Rattle.step.proofs.exchanging.decide_all.Statement.{statement}
 use Rattle.step.proofs.exchanging.decide_all.Tie as tie
 
-taken-votes-requires : tie.Need-taken-votes-requires
-taken-votes-requires c κs = search (needs, such-some)
-
-slice-aggregate-taken-yellow : tie.Need-slice-aggregate-taken-yellow
-slice-aggregate-taken-yellow c = search needs
-
-taken-yellow-requires : tie.Need-taken-yellow-requires
-taken-yellow-requires c κs = search (needs, such-some)
-
 mul-end : tie.Need-mul-end
 mul-end c =
     search (
@@ -28,9 +19,6 @@ cast-with-count c =
       needs,
       taken-count _ _ _ (c .before .before .before .before .before .before .before .pre) (c .before .taken-yellow .ensures),
     )
-
-with-count-requires : tie.Need-with-count-requires
-with-count-requires c κs = search needs
 
 array-share-prefix-ids : tie.Need-array-share-prefix-ids
 array-share-prefix-ids c =
@@ -53,9 +41,6 @@ decide-requires c κs =
     taken-room _ _ _ (c .before .before .before .before .before .before .before .before .before .before .pre)
     (c .before .before .before .before .taken-yellow .ensures)
 
-same-length : tie.Need-same-length
-same-length c = search needs
-
 returns : tie.Need-returns
 returns c =
     all-decided _ _ _ (c .before .before .before .before .before .before .before .before .before .before .before .before .before .pre)
@@ -67,14 +52,14 @@ pub decide-all-spec : {M : Type 1} → statement M
 decide-all-spec =
     tie.close
     (tie.spec
-    taken-votes-requires
-    slice-aggregate-taken-yellow
-    taken-yellow-requires
+    (λ c κs. search (needs, such-some))  -- taken-votes-requires
+    (λ c. search needs)  -- slice-aggregate-taken-yellow
+    (λ c κs. search (needs, such-some))  -- taken-yellow-requires
     mul-end
     cast-with-count
-    with-count-requires
+    (λ c κs. search needs)  -- with-count-requires
     array-share-prefix-ids
     slice-aggregate-decide
     decide-requires
-    same-length
+    (λ c. search needs)  -- same-length
     returns)

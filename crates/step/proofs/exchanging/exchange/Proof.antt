@@ -5,20 +5,8 @@ use borrow.Author.Needs.{needs}
 use Rattle.step.proofs.exchanging.exchange.Statement.{statement}
 use Rattle.step.proofs.exchanging.exchange.Tie as tie
 
-planned-now-requires : tie.Need-planned-now-requires
-planned-now-requires c κs = search (needs, lent-some)
-
 num32-requires : tie.Need-num32-requires
 num32-requires c κs = omega (arith, lent-header _ _ _ (c .before .before .before .before .before .before .pre))
-
-cast-if1 : tie.Need-cast-if1
-cast-if1 c = search needs
-
-add-if1 : tie.Need-add-if1
-add-if1 c = search needs
-
-take-last-requires : tie.Need-take-last-requires
-take-last-requires c κs = search needs
 
 end-exchange-requires : tie.Need-end-exchange-requires
 end-exchange-requires c κs =
@@ -26,12 +14,6 @@ end-exchange-requires c κs =
     (c .before .before .before .before .before .before .before .before .before .before .before .before .before .before .pre)
     (c .before .before .before .before .before .before .before .before .before .planned-now .ensures)
     (c .before .before .before .before .before .before .before .num32 .ensures) _ _ (c .before .before .before .before .take-last .ensures)
-
-same-length : tie.Need-same-length
-same-length c = search needs
-
-same-length-2 : tie.Need-same-length-2
-same-length-2 c = search needs
 
 returns : tie.Need-returns
 returns c =
@@ -48,12 +30,6 @@ take-in-requires c κs =
     more-such _ _ _ _ _ _ (c .before .before .before .before .before .before .before .before .before .pre)
     (c .before .before .before .before .planned-now .ensures) (c .before .before .num32 .ensures) (c .before .if1 .left)
 
-quiet-requires : tie.Need-quiet-requires
-quiet-requires c κs = search needs
-
-same-length-3 : tie.Need-same-length-3
-same-length-3 c = search needs
-
 returns-2 : tie.Need-returns-2
 returns-2 c =
     more-quiet _ _ _ _ _ _ (c .before .before .before .before .before .before .before .before .before .before .before .before .before .pre)
@@ -65,16 +41,16 @@ pub exchange-spec : {M : Type 1} → statement M
 exchange-spec =
     tie.close
     (tie.spec
-    planned-now-requires
+    (λ c κs. search (needs, lent-some))  -- planned-now-requires
     num32-requires
-    cast-if1
-    add-if1
-    take-last-requires
+    (λ c. search needs)  -- cast-if1
+    (λ c. search needs)  -- add-if1
+    (λ c κs. search needs)  -- take-last-requires
     end-exchange-requires
-    same-length
-    same-length-2
+    (λ c. search needs)  -- same-length
+    (λ c. search needs)  -- same-length-2
     returns
     take-in-requires
-    quiet-requires
-    same-length-3
+    (λ c κs. search needs)  -- quiet-requires
+    (λ c. search needs)  -- same-length-3
     returns-2)

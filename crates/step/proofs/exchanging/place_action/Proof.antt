@@ -5,18 +5,6 @@ use borrow.Author.Needs.{needs}
 use Rattle.step.proofs.exchanging.place_action.Statement.{statement}
 use Rattle.step.proofs.exchanging.place_action.Tie as tie
 
-num32-requires : tie.Need-num32-requires
-num32-requires c κs = omega (arith, such-header _ _ (c .before .before .before .pre))
-
-add-if1 : tie.Need-add-if1
-add-if1 c = search (needs, green-few _ _ _ (c .before .before .before .before .pre))
-
-green-requires : tie.Need-green-requires
-green-requires c κs = search needs
-
-same-length : tie.Need-same-length
-same-length c = search needs
-
 returns : tie.Need-returns
 returns c =
     place-next _ _ _ (c .before .before .before .before .before .before .before .before .before .pre) _ _
@@ -25,9 +13,6 @@ returns c =
 
 red-requires : tie.Need-red-requires
 red-requires c κs = place-room _ _ _ (c .before .before .before .before .before .before .before .pre)
-
-same-length-2 : tie.Need-same-length-2
-same-length-2 c = search needs
 
 returns-2 : tie.Need-returns-2
 returns-2 c =
@@ -38,17 +23,11 @@ returns-2 c =
 red-requires-2 : tie.Need-red-requires-2
 red-requires-2 c κs = place-room _ _ _ (c .before .before .before .before .before .before .before .before .pre)
 
-same-length-3 : tie.Need-same-length-3
-same-length-3 c = search needs
-
 returns-3 : tie.Need-returns-3
 returns-3 c =
     place-above _ _ _ (c .before .before .before .before .before .before .before .before .before .before .before .pre) _ _
     (c .before .before .before .before .before .before .before .num32 .ensures) _ (c .before .before .before .before .before .before .if1 .left)
     (c .before .before .before .before .if3 .taken) (c .before .before .red2 .ensures)
-
-same-length-4 : tie.Need-same-length-4
-same-length-4 c = search needs
 
 returns-4 : tie.Need-returns-4
 returns-4 c =
@@ -59,16 +38,16 @@ pub place-action-spec : {M : Type 1} → statement M
 place-action-spec =
     tie.close
     (tie.spec
-    num32-requires
-    add-if1
-    green-requires
-    same-length
+    (λ c κs. omega (arith, such-header _ _ (c .before .before .before .pre)))  -- num32-requires
+    (λ c. search (needs, green-few _ _ _ (c .before .before .before .before .pre)))  -- add-if1
+    (λ c κs. search needs)  -- green-requires
+    (λ c. search needs)  -- same-length
     returns
     red-requires
-    same-length-2
+    (λ c. search needs)  -- same-length-2
     returns-2
     red-requires-2
-    same-length-3
+    (λ c. search needs)  -- same-length-3
     returns-3
-    same-length-4
+    (λ c. search needs)  -- same-length-4
     returns-4)

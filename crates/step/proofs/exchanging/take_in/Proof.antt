@@ -3,15 +3,9 @@ use borrow.Author.Needs.{needs}
 use Rattle.step.proofs.exchanging.take_in.Statement.{statement}
 use Rattle.step.proofs.exchanging.take_in.Tie as tie
 
-place-action-requires : tie.Need-place-action-requires
-place-action-requires c κs = search needs
-
 one-more-requires : tie.Need-one-more-requires
 one-more-requires c κs =
     more-some _ _ _ _ _ (c .before .before .before .place-action .ensures) (c .before .before .before .before .before .before .before .pre)
-
-same-length : tie.Need-same-length
-same-length c = search needs
 
 returns : tie.Need-returns
 returns c =
@@ -19,4 +13,10 @@ returns c =
     (c .before .before .before .before .before .before .before .before .before .before .pre) (c .before .before .one-more .ensures)
 
 pub take-in-spec : {M : Type 1} → statement M
-take-in-spec = tie.close (tie.spec place-action-requires one-more-requires same-length returns)
+take-in-spec =
+    tie.close
+    (tie.spec
+    (λ c κs. search needs)  -- place-action-requires
+    one-more-requires
+    (λ c. search needs)  -- same-length
+    returns)

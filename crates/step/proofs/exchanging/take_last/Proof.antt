@@ -3,15 +3,9 @@ use borrow.Author.Needs.{needs}
 use Rattle.step.proofs.exchanging.take_last.Statement.{statement}
 use Rattle.step.proofs.exchanging.take_last.Tie as tie
 
-place-action-requires : tie.Need-place-action-requires
-place-action-requires c κs = search needs
-
 close-requires : tie.Need-close-requires
 close-requires c κs =
     last-such _ _ _ _ _ (c .before .before .before .place-action .ensures) (c .before .before .before .before .before .before .before .pre)
-
-same-length : tie.Need-same-length
-same-length c = search needs
 
 returns : tie.Need-returns
 returns c =
@@ -19,4 +13,10 @@ returns c =
     (c .before .before .before .before .before .before .before .before .before .before .pre) (c .before .before .close .ensures)
 
 pub take-last-spec : {M : Type 1} → statement M
-take-last-spec = tie.close (tie.spec place-action-requires close-requires same-length returns)
+take-last-spec =
+    tie.close
+    (tie.spec
+    (λ c κs. search needs)  -- place-action-requires
+    close-requires
+    (λ c. search needs)  -- same-length
+    returns)

@@ -10,26 +10,11 @@ add-cpc-requires c κs = cpc-room _ _ _ (c .before .before .before .pre .holds) 
 all-cpcs-in-requires : tie.Need-all-cpcs-in-requires
 all-cpcs-in-requires c κs = cpc-some _ _ _ _ (c .before .before .before .before .before .before .before .pre) (c .before .before .before .add-cpc .ensures)
 
-quiet-requires : tie.Need-quiet-requires
-quiet-requires c κs = search needs
-
-same-length : tie.Need-same-length
-same-length c = search needs
-
-returns : tie.Need-returns
-returns c = search (needs, cpc-waiting, not-true)
-
 install-all-requires : tie.Need-install-all-requires
 install-all-requires c κs =
     cpc-lent _ _ _ _
     (c .before .before .before .before .before .before .before .before .before .before .before .pre)
     (c .before .before .before .before .before .before .before .add-cpc .ensures)
-
-same-length-2 : tie.Need-same-length-2
-same-length-2 c = search needs
-
-same-length-3 : tie.Need-same-length-3
-same-length-3 c = search needs
 
 returns-2 : tie.Need-returns-2
 returns-2 c =
@@ -46,10 +31,10 @@ collect-cpc-spec =
     (tie.spec
     add-cpc-requires
     all-cpcs-in-requires
-    quiet-requires
-    same-length
-    returns
+    (λ c κs. search needs)  -- quiet-requires
+    (λ c. search needs)  -- same-length
+    (λ c. search (needs, cpc-waiting, not-true))  -- returns
     install-all-requires
-    same-length-2
-    same-length-3
+    (λ c. search needs)  -- same-length-2
+    (λ c. search needs)  -- same-length-3
     returns-2)

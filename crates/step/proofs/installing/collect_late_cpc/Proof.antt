@@ -10,9 +10,6 @@ add-cpc-requires c κs = cpc-room _ _ _ (c .before .before .pre .holds) (c .befo
 all-cpcs-in-requires : tie.Need-all-cpcs-in-requires
 all-cpcs-in-requires c κs = late-some _ _ _ (c .before .before .before .before .before .before .pre) (c .before .before .before .add-cpc .ensures)
 
-same-length : tie.Need-same-length
-same-length c = search needs
-
 returns : tie.Need-returns
 returns c =
     late-waiting _ _ _
@@ -26,9 +23,6 @@ set-mode-requires c κs =
     late-header _ _ _
     (c .before .before .before .before .before .before .before .before .before .pre)
     (c .before .before .before .before .before .before .add-cpc .ensures)
-
-same-length-2 : tie.Need-same-length-2
-same-length-2 c = search needs
 
 returns-2 : tie.Need-returns-2
 returns-2 c =
@@ -45,8 +39,8 @@ collect-late-cpc-spec =
     (tie.spec
     add-cpc-requires
     all-cpcs-in-requires
-    same-length
+    (λ c. search needs)  -- same-length
     returns
     set-mode-requires
-    same-length-2
+    (λ c. search needs)  -- same-length-2
     returns-2)

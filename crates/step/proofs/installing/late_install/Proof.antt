@@ -3,17 +3,11 @@ use borrow.Author.Needs.{needs}
 use Rattle.step.proofs.installing.late_install.Statement.{statement}
 use Rattle.step.proofs.installing.late_install.Tie as tie
 
-install-in-requires : tie.Need-install-in-requires
-install-in-requires c κs = late-installs _ _ (c .before .before .before .pre)
-
 yellow-requires : tie.Need-yellow-requires
 yellow-requires c κs =
     late-delivered _ _
     (c .before .before .before .before .before .before .before .pre)
     _ (c .before .before .before .install-in .ensures)
-
-same-length : tie.Need-same-length
-same-length c = search needs
 
 returns : tie.Need-returns
 returns c =
@@ -23,4 +17,10 @@ returns c =
     _ (c .before .before .yellow .ensures)
 
 pub late-install-spec : {M : Type 1} → statement M
-late-install-spec = tie.close (tie.spec install-in-requires yellow-requires same-length returns)
+late-install-spec =
+    tie.close
+    (tie.spec
+    (λ c κs. late-installs _ _ (c .before .before .before .pre))  -- install-in-requires
+    yellow-requires
+    (λ c. search needs)  -- same-length
+    returns)

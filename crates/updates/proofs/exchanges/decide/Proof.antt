@@ -4,17 +4,17 @@ use borrow.Author.Needs.{needs}
 use Rattle.updates.proofs.exchanges.decide.Statement.{statement}
 use Rattle.updates.proofs.exchanges.decide.Tie as tie
 
-note-all-requires : tie.Need-note-all-requires
-note-all-requires c κs = search (needs, such-some)
-
 take-votes-requires : tie.Need-take-votes-requires
 take-votes-requires c κs = decided-room _ _ _ (c .before .before .before .before .before .before .before .pre) (c .before .before .before .note-all .ensures)
-
-same-length : tie.Need-same-length
-same-length c = search needs
 
 returns : tie.Need-returns
 returns c = decided-made _ _ _ _ _ (c .before .before .before .before .before .before .note-all .ensures) (c .before .before .take-votes .ensures)
 
 pub decide-spec : {M : Type 1} → statement M
-decide-spec = tie.close (tie.spec note-all-requires take-votes-requires same-length returns)
+decide-spec =
+    tie.close
+    (tie.spec
+    (λ c κs. search (needs, such-some))  -- note-all-requires
+    take-votes-requires
+    (λ c. search needs)  -- same-length
+    returns)

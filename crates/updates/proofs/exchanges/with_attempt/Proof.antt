@@ -8,12 +8,13 @@ use borrow.Author.Needs.{needs}
 use Rattle.updates.proofs.exchanges.with_attempt.Statement.{statement}
 use Rattle.updates.proofs.exchanges.with_attempt.Tie as tie
 
-add-t7 : tie.Need-add-t7
-add-t7 c = search needs
-
 returns : tie.Need-returns
 unfolding headerOf attempting attempted hereSet modeNumber lastOf markNumbers
 returns c = λ s e. rw (e, set-here (s .membership .configuration)) refl
 
 pub with-attempt-spec : {M : Type 1} → statement M
-with-attempt-spec = tie.close (tie.spec add-t7 returns)
+with-attempt-spec =
+    tie.close
+    (tie.spec
+    (λ c. search needs)  -- add-t7
+    returns)

@@ -5,12 +5,13 @@ use borrow.Author.Needs.{needs}
 use Rattle.updates.proofs.membership.with_cpc.Statement.{statement}
 use Rattle.updates.proofs.membership.with_cpc.Tie as tie
 
-with-member-requires : tie.Need-with-member-requires
-with-member-requires c κs = search needs
-
 returns : tie.Need-returns
 unfolding headerOf withCpc
 returns c = λ s e. rw (c .with-member .ensures, e) refl
 
 pub with-cpc-spec : {M : Type 1} → statement M
-with-cpc-spec = tie.close (tie.spec with-member-requires returns)
+with-cpc-spec =
+    tie.close
+    (tie.spec
+    (λ c κs. search needs)  -- with-member-requires
+    returns)

@@ -17,29 +17,8 @@ Inv-loop state₀ n k₀ state k = (k ≤ n) × (length state ≡ length state�
 abbrev μ-loop : tie.MeasureT-loop
 μ-loop state₀ n k₀ state k = n - k
 
-num8-requires : tie.Need-num8-requires Inv-loop μ-loop
-num8-requires c κs = search (needs, front-some)
-
-loop-holds : tie.Need-loop-holds Inv-loop μ-loop
-loop-holds c = (omega arith, refl, note-start _)
-
-note-state-requires : tie.Need-note-state-requires Inv-loop μ-loop
-note-state-requires c κs = search (needs, note-room, c .before .before .loop .inv .2)
-
-add-k : tie.Need-add-k Inv-loop μ-loop
-add-k c = omega arith
-
-loop-less : tie.Need-loop-less Inv-loop μ-loop
-loop-less c = omega arith
-
 loop-again : tie.Need-loop-again Inv-loop μ-loop
 loop-again c = (omega arith, search needs, note-turn _ _ _ _ _ (c .before .before .before .before .before .before .num8 .ensures) (c .before .before .before .before .loop-test .taken) (c .before .before .before .before .before .loop .inv .2) (c .before .before .note-state .ensures))
-
-same-length : tie.Need-same-length Inv-loop μ-loop
-same-length c = search needs
-
-returns : tie.Need-returns Inv-loop μ-loop
-returns c = search (needs, note-end, c .before .loop .inv .2)
 
 pub note-all-spec : {M : Type 1} → statement M
 note-all-spec =
@@ -47,11 +26,11 @@ note-all-spec =
     (tie.spec
     Inv-loop
     μ-loop
-    num8-requires
-    loop-holds
-    note-state-requires
-    add-k
-    loop-less
+    (λ c κs. search (needs, front-some))  -- num8-requires
+    (λ c. (omega arith, refl, note-start _))  -- loop-holds
+    (λ c κs. search (needs, note-room, c .before .before .loop .inv .2))  -- note-state-requires
+    (λ c. omega arith)  -- add-k
+    (λ c. omega arith)  -- loop-less
     loop-again
-    same-length
-    returns)
+    (λ c. search needs)  -- same-length
+    (λ c. search (needs, note-end, c .before .loop .inv .2)))  -- returns

@@ -5,17 +5,17 @@ use borrow.Author.Needs.{needs}
 use Rattle.updates.proofs.recovery.recover.Statement.{statement}
 use Rattle.updates.proofs.recovery.recover.Tie as tie
 
-enter-own-requires : tie.Need-enter-own-requires
-enter-own-requires c κs = search (needs, enter-room)
-
 drop-membership-requires : tie.Need-drop-membership-requires
 drop-membership-requires c κs = omega (arith, such-header _ _ (c .before .before .before .before .before .before .pre))
-
-same-length : tie.Need-same-length
-same-length c = search needs
 
 returns : tie.Need-returns
 returns c = recovery-made _ _ _ (c .before .before .before .before .before .before .enter-own .ensures) (c .before .before .drop-membership .ensures)
 
 pub recover-spec : {M : Type 1} → statement M
-recover-spec = tie.close (tie.spec enter-own-requires drop-membership-requires same-length returns)
+recover-spec =
+    tie.close
+    (tie.spec
+    (λ c κs. search (needs, enter-room))  -- enter-own-requires
+    drop-membership-requires
+    (λ c. search needs)  -- same-length
+    returns)

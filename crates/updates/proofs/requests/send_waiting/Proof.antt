@@ -3,18 +3,6 @@ use borrow.Author.Needs.{needs}
 use Rattle.updates.proofs.requests.send_waiting.Statement.{statement}
 use Rattle.updates.proofs.requests.send_waiting.Tie as tie
 
-load-requires : tie.Need-load-requires
-load-requires c κs = search needs
-
-with-sent-requires : tie.Need-with-sent-requires
-with-sent-requires c κs = search needs
-
-save-numbers-requires : tie.Need-save-numbers-requires
-save-numbers-requires c κs = search needs
-
-same-length : tie.Need-same-length
-same-length c = search needs
-
 returns : tie.Need-returns
 returns c =
     waiting-marked _ _ _ _ (c .before .before .before .before .before .load .ensures) (c .before .before .before .before .with-sent .ensures)
@@ -23,4 +11,9 @@ returns c =
 pub send-waiting-spec : {M : Type 1} → statement M
 send-waiting-spec =
     tie.close
-    (tie.spec load-requires with-sent-requires save-numbers-requires same-length returns)
+    (tie.spec
+    (λ c κs. search needs)  -- load-requires
+    (λ c κs. search needs)  -- with-sent-requires
+    (λ c κs. search needs)  -- save-numbers-requires
+    (λ c. search needs)  -- same-length
+    returns)

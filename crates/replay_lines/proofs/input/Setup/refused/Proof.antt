@@ -2,8 +2,6 @@ use borrow.Author.Needs.{needs}
 use Rattle.replay_lines.specs.Input.{setupNumbers}
 use Rattle.replay_lines.proofs.input.Setup.refused.Statement.{statement}
 use Rattle.replay_lines.proofs.input.Setup.refused.Tie as tie
-use Rattle.replay_lines.proofs.input.Setup.refused.Reads as reads
-use Rattle.replay_lines.proofs.input.Setup.refused.Lts as lts
 
 returns : tie.Need-returns
 unfolding setupNumbers
