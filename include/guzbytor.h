@@ -7,7 +7,7 @@
    - The buffers of one call may not overlap.
    - There is no state but in the buffers: calls over different buffers may run at the same time in different threads; two calls over one buffer may not,
      unless both only read it.
-   - No function allocates, blocks, calls back or fails but by the number that it returns. A call takes 14 KiB of stack at most (14,104 bytes measured by
+   - No function allocates, blocks, calls back or fails but by the number that it returns. A call takes 20 KiB of stack at most (20,312 bytes measured by
      bench/stack.c, not proved): lend a thread that calls 32 KiB at least. */
 #ifndef GUZBYTOR_H
 #define GUZBYTOR_H

@@ -24,8 +24,8 @@ use record::Context;
 use record::State;
 use record::StateHead;
 use record::lists::place_at;
+use record::parts::is_id;
 use record::sets::has;
-use writer::parts::is_id;
 
 // The id at the place k leaves a hint to it: one more than k, since 0 stands where no id has left one.
 fn leave_hint(c: Context, first: &[u8], k: usize, t: &mut [u16; State::MOST_IDS])

@@ -19,7 +19,7 @@ use octets::numbers::wider;
 use queue::finding::find;
 use record::ActionHead;
 use record::State;
-use writer::parts::is_id;
+use record::parts::is_id;
 
 // The place of an id in the table.
 pub fn entry(creator: u8, index: u16) -> usize

@@ -7,7 +7,7 @@ ghost use Rattle.image.specs.Layout.{slotSize};
 ghost use Rattle.image.specs.Decode.{actionsAt};
 ghost use Rattle.queue.specs.Queue.{position};
 use record::State;
-use writer::parts::is_id;
+use record::parts::is_id;
 
 // How many of the `count` slots from `at` on come before the first with this id: all where there is none.
 pub fn find(state: &[u8], at: usize, count: usize, creator: u8, index: u16) -> usize

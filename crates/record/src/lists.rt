@@ -4,13 +4,14 @@ ghost use Prim.Native.Nat.{_+_, _*_, _≤_};
 ghost use lib.ListN.{length};
 ghost use Rattle.base.specs.Bytes.{numbersAt};
 ghost use Rattle.format.specs.Places.{cutSize, idSize};
-ghost use Rattle.format.specs.Range.{cutsOk, sameId, hasId, idsOk};
+ghost use Rattle.format.specs.Range.{cutsOk, hasId, idsOk};
 ghost use Rattle.format.specs.Read.{idAt, idsAt};
 ghost use Rattle.record.specs.Context.{contextOf, ContextIn};
 ghost use Rattle.record.specs.Values.{idOf, placeOf, idsBy, IdsInside, HasPlaces, NextId, MetAt};
 use crate::ActionHead;
 use crate::Context;
 use crate::State;
+use crate::parts::is_id;
 use crate::range::id_ok;
 use octets::numbers::num8;
 use octets::numbers::num16;
@@ -49,17 +50,6 @@ pub fn place_at(c: Context, e: &[u8], at: usize) -> usize
     place(c, num8(e, at), num16(e, at + ActionHead::INDEX))
 }
 
-// Whether the id at `at` is this one.
-fn is_at(e: &[u8], at: usize, creator: u8, index: u16) -> bool
-    requires { ⌜ at + idSize ≤ length (now e) ⌝ }
-    ensures { λ r. ⌜ r ≡ sameId (idOf creator index) (idAt (now (e .entry)) at) ⌝ }
-{
-    if creator != num8(e, at) {
-        return false;
-    }
-    index == num16(e, at + ActionHead::INDEX)
-}
-
 // Whether one of the `count` ids, each at the front of `step` bytes from `at` on, is this one.
 fn is_among(e: &[u8], at: usize, step: usize, count: usize, creator: u8, index: u16) -> bool
     requires { ⌜ IdsInside step count (now e) at ⌝ }
@@ -68,7 +58,7 @@ fn is_among(e: &[u8], at: usize, step: usize, count: usize, creator: u8, index: 
     let mut here = at;
     let mut left = count;
     while 0 < left {
-        if is_at(e, here, creator, index) {
+        if is_id(e, here, creator, index) {
             return true;
         }
         here += step;

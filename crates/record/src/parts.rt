@@ -2,8 +2,11 @@
 ghost use mathlib.Core.Path.{_≡_};
 ghost use Prim.Native.Nat.{_+_, _≤_};
 ghost use lib.ListN.{length};
-ghost use Rattle.format.specs.Places.{actionHeadSize, primarySize, markSize, stateCutsAt, standingSize};
+ghost use Rattle.format.specs.Places.{idSize, actionHeadSize, primarySize, markSize, stateCutsAt, standingSize};
+ghost use Rattle.format.specs.Range.{sameId};
+ghost use Rattle.format.specs.Read.{idAt};
 ghost use Rattle.record.specs.Events.{actionIn, lastIn, markIn, headIn};
+ghost use Rattle.record.specs.Values.{idOf};
 use crate::ActionHead;
 use crate::AttemptIndex;
 use crate::LastPrimary;
@@ -15,6 +18,17 @@ use crate::events::Event;
 use octets::numbers::num8;
 use octets::numbers::num16;
 use octets::numbers::num32;
+
+// Whether the id at `at` is this one.
+pub fn is_id(e: &[u8], at: usize, creator: u8, index: u16) -> bool
+    requires { ⌜ at + idSize ≤ length (now e) ⌝ }
+    ensures { λ r. ⌜ r ≡ sameId (idOf creator index) (idAt (now (e .entry)) at) ⌝ }
+{
+    if creator != num8(e, at) {
+        return false;
+    }
+    index == num16(e, at + ActionHead::INDEX)
+}
 
 // The action from `at` on.
 pub fn action_at(e: &[u8], at: usize) -> ActionAt

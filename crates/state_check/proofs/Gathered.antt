@@ -1,6 +1,6 @@
 -- The test of a payload's filling gathers: the OR of all bytes of its room under the masks is zero exactly where each byte behind the
 -- payload is zero.
-use Prim.Native.Nat.{ℕ, _+_, _*_, _-_, _≤_, _<_}
+use Prim.Native.Nat.{ℕ, _+_, _-_, _≤_, _<_}
 use mathlib.Core.Path.{_≡_, refl, sym, _∙_}
 use mathlib.Core.Bool.{Bool, true, false}
 use mathlib.Core.List.{List}
@@ -19,7 +19,7 @@ use Rattle.base.proofs.Branches.{and-true}
 use Rattle.base.specs.Lists.{everyAt}
 use Rattle.base.proofs.Entries.{every-more}
 use Rattle.base.proofs.ListLaws.{replicate-at}
-use Rattle.state_check.specs.Slots.{Masks}
+use Rattle.state_check.specs.Slots.{Masks, payloadSpace}
 
 -- An OR is zero where both are.
 
@@ -41,13 +41,13 @@ and-assoc false u v = refl
 
 -- What is left of the answer at turn j: nothing was met, and the bytes from the later of m and j on are zeros.
 unfoldable pub unread : (b : List ℕ) (at m all j : ℕ) → Bool
-unread b at m all j = all =? 0 and everyAt (zeroAt b) 1 (mostPayload - (m + (j - m))) (at + (m + (j - m)))
+unread b at m all j = all =? 0 and everyAt (zeroAt b) 1 (payloadSpace - (m + (j - m))) (at + (m + (j - m)))
 
-pub gather-start : (b : List ℕ) (at m : ℕ) → everyAt (zeroAt b) 1 (mostPayload - m) (at + m) ≡ unread b at m 0 0
+pub gather-start : (b : List ℕ) (at m : ℕ) → everyAt (zeroAt b) 1 (payloadSpace - m) (at + m) ≡ unread b at m 0 0
 unfolding unread
 gather-start b at m =
     let p : m + (0 - m) ≡ m = omega arith in
-    rw p (and-yes (everyAt (zeroAt b) 1 (mostPayload - m) (at + m)) (0 =? 0) _ (eq-yes 0 0 refl) refl)
+    rw p (and-yes (everyAt (zeroAt b) 1 (payloadSpace - m) (at + m)) (0 =? 0) _ (eq-yes 0 0 refl) refl)
 
 -- Under its mask a byte of the payload is nothing, and one behind it is as it is.
 
@@ -57,21 +57,21 @@ within b at m all j x h =
     let p : m + (j - m) ≡ m + (j + 1 - m) = omega arith in
     rw (and-zero-r x, or-zero-r all, p)
 
-behind : (b : List ℕ) (at m all j : ℕ) → m ≤ j → j < mostPayload → getD b (at + j) 0 < 256
+behind : (b : List ℕ) (at m all j : ℕ) → m ≤ j → j < payloadSpace → getD b (at + j) 0 < 256
     → unread b at m all j ≡ unread b at m (bitOr all (bitAnd (getD b (at + j) 0) 255)) (j + 1)
 unfolding unread zeroAt
 behind b at m all j h l f =
     let x = getD b (at + j) 0 in
     let p : m + (j - m) ≡ j = omega arith in
     let q : m + (j + 1 - m) ≡ j + 1 = omega arith in
-    let r : mostPayload - j - 1 ≡ mostPayload - (j + 1) = omega arith in
+    let r : payloadSpace - j - 1 ≡ payloadSpace - (j + 1) = omega arith in
     let s : at + j + 1 ≡ at + (j + 1) = omega arith in
     let k : bitAnd x 255 ≡ x = and-mask x 8 ∙ omega arith in
-    rw (p, q, k, or-none all x, every-more (zeroAt b) 1 (mostPayload - j) (at + j) (omega arith), r, s) (and-assoc _ _ _)
+    rw (p, q, k, or-none all x, every-more (zeroAt b) 1 (payloadSpace - j) (at + j) (omega arith), r, s) (and-assoc _ _ _)
 
 -- A turn, and the end.
 
-pub gather-again : (b t : List ℕ) (at m all j : ℕ) (v : Bool) → Masks t → ((i : ℕ) → Fits w8 (getD b i 0)) → m ≤ mostPayload → j < mostPayload
+pub gather-again : (b t : List ℕ) (at m all j : ℕ) (v : Bool) → Masks t → ((i : ℕ) → Fits w8 (getD b i 0)) → m ≤ mostPayload → j < payloadSpace
     → v ≡ unread b at m all j → v ≡ unread b at m (bitOr all (bitAnd (getD b (at + j) 0) (getD t (mostPayload - m + j) 0))) (j + 1)
 gather-again b t at m all j v masks fits h l e = e ∙ turn (known (m ≤? j))
   where
@@ -83,28 +83,28 @@ gather-again b t at m all j v masks fits h l e = e ∙ turn (known (m ≤? j))
         let z = masks .payload (mostPayload - m + j) (omega (arith, le-fails m j y)) in
         rw z (within b at m all j (getD b (at + j) 0) (le-fails m j y))
 
-pub gather-end : (b : List ℕ) (at m all j : ℕ) (v : Bool) → m ≤ mostPayload → mostPayload ≤ j → v ≡ unread b at m all j → eqb all 0 ≡ v
+pub gather-end : (b : List ℕ) (at m all j : ℕ) (v : Bool) → m ≤ mostPayload → payloadSpace ≤ j → v ≡ unread b at m all j → eqb all 0 ≡ v
 unfolding unread everyAt _=?_
 gather-end b at m all j v h l e =
-    let p : mostPayload - (m + (j - m)) ≡ 0 = omega arith in
+    let p : payloadSpace - (m + (j - m)) ≡ 0 = omega arith in
     and-true (all =? 0) ∙ sym (e ∙ rw p)
 
 -- ---- the masks
 
 -- The masks up to the one before j.
 pub record MasksTo (j : ℕ) (t : List ℕ) : Type 0 where
-  pub long : length t ≡ 2 * mostPayload
+  pub long : length t ≡ mostPayload + payloadSpace
   pub payload : (i : ℕ) → i < mostPayload → getD t i 0 ≡ 0
   pub behind : (i : ℕ) → mostPayload ≤ i → i < j → getD t i 0 ≡ 255
 
-pub masks-start : MasksTo mostPayload (replicate {A = ℕ} (2 * mostPayload) 0)
+pub masks-start : MasksTo mostPayload (replicate {A = ℕ} (mostPayload + payloadSpace) 0)
 masks-start = record {
-  long = length-replicate {A = ℕ} (2 * mostPayload) 0;
-  payload = λ i h. replicate-at 0 (2 * mostPayload) i;
+  long = length-replicate {A = ℕ} (mostPayload + payloadSpace) 0;
+  payload = λ i h. replicate-at 0 (mostPayload + payloadSpace) i;
   behind = λ i h k. absurd (omega arith);
 }
 
-pub masks-again : (t : List ℕ) (j : ℕ) → MasksTo j t → mostPayload ≤ j → j < 2 * mostPayload → MasksTo (j + 1) (set t j 255)
+pub masks-again : (t : List ℕ) (j : ℕ) → MasksTo j t → mostPayload ≤ j → j < mostPayload + payloadSpace → MasksTo (j + 1) (set t j 255)
 masks-again t j m h l = record {
   long = length-set t j 255 ∙ m .long;
   payload = λ i k. getD-set-other t j i 255 0 (λ e. omega arith) ∙ m .payload i k;
@@ -115,5 +115,5 @@ masks-again t j m h l = record {
     here i k n (holds y) = let e = eq-holds i j y in rw e (getD-set-same t j 255 0 (omega (arith, m .long)))
     here i k n (fails y) = getD-set-other t j i 255 0 (eq-fails i j y) ∙ m .behind i k (let z = eq-fails i j y in omega arith)
 
-pub masks-end : (t : List ℕ) (j : ℕ) → MasksTo j t → 2 * mostPayload ≤ j → Masks t
+pub masks-end : (t : List ℕ) (j : ℕ) → MasksTo j t → mostPayload + payloadSpace ≤ j → Masks t
 masks-end t j m h = record { payload = m .payload; behind = λ i k n. m .behind i k (omega arith) }

@@ -13,7 +13,7 @@ use Rattle.base.specs.Lists.{everyAt}
 use Rattle.format.specs.Types.{Context}
 use Rattle.format.specs.Range.{lengthOk}
 use Rattle.image.specs.Layout.{slotSize}
-use Rattle.state_check.specs.Slots.{payloadFits, payloadRoom, slotFits, withinCutAt, queueSlotFits, ownSlotFits, ownFits, notedAt}
+use Rattle.state_check.specs.Slots.{payloadFits, payloadRoom, payloadSpace, slotFits, withinCutAt, queueSlotFits, ownSlotFits, ownFits, notedAt}
 use Rattle.format.specs.Places.{actionPayloadAt, actionGreenAt}
 
 -- ---- payloads
@@ -22,11 +22,11 @@ pub payload-denied : (b : List ℕ) (at m : ℕ) → m ≡ numberAt 1 b at → m
 unfolding payloadFits
 payload-denied b at m e h = and-no (numberAt 1 b at ≤? mostPayload) _ (le-no _ mostPayload (rw e at h))
 
-pub payload-answered : (b : List ℕ) (at m : ℕ) (r : Bool) → m ≡ numberAt 1 b at → m ≤ mostPayload → r ≡ everyAt (zeroAt b) 1 (mostPayload - m) (at + 1 + m)
+pub payload-answered : (b : List ℕ) (at m : ℕ) (r : Bool) → m ≡ numberAt 1 b at → m ≤ mostPayload → r ≡ everyAt (zeroAt b) 1 (payloadSpace - m) (at + 1 + m)
     → r ≡ payloadFits b at
 unfolding payloadFits
 payload-answered b at m r e h k =
-    let p : mostPayload - m ≡ payloadRoom - (1 + m) = omega arith in
+    let p : payloadSpace - m ≡ payloadRoom - (1 + m) = omega arith in
     let q : at + 1 + m ≡ at + (1 + m) = omega arith in
     and-yes r (numberAt 1 b at ≤? mostPayload) _ (le-yes _ mostPayload (rw e at h)) (rw (p, q, e) at k)
 

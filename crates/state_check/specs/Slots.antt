@@ -8,7 +8,7 @@ use Rattle.base.specs.Tests.{_and_, _≤?_, _=?_}
 use Rattle.base.specs.Bytes.{numberAt, zeroAt}
 use Rattle.base.specs.Lists.{everyAt}
 use Rattle.format.specs.Limits.{mostQuota, mostPayload}
-use Rattle.format.specs.Places.{cutSize, idIndexAt, actionGreenAt, actionPayloadAt}
+use Rattle.format.specs.Places.{cutSize, idIndexAt, actionGreenAt, actionPayloadAt, actionHeadSize}
 use Rattle.format.specs.Types.{Id, Context}
 use Rattle.format.specs.Range.{lengthOk, idsOk}
 use Rattle.format.specs.Read.{idAt}
@@ -21,6 +21,10 @@ use Rattle.image.specs.Layout.{notedSize, slotSize}
 abbrev pub payloadRoom : ℕ
 payloadRoom = slotSize - actionPayloadAt
 
+-- The same without the length.
+abbrev pub payloadSpace : ℕ
+payloadSpace = slotSize - actionHeadSize
+
 -- A payload of at most 48 bytes, and zeros behind it in its room: its length stands at `at`.
 unfoldable pub payloadFits : List ℕ → ℕ → Bool
 payloadFits b at =
@@ -29,7 +33,7 @@ payloadFits b at =
 -- What the masks of payloads are: a test may gather all bytes of a payload's room under those from mostPayload - m on.
 pub record Masks (t : List ℕ) : Type 0 where
   pub payload : (j : ℕ) → j < mostPayload → getD t j 0 ≡ 0
-  pub behind : (j : ℕ) → mostPayload ≤ j → j < 2 * mostPayload → getD t j 0 ≡ 255
+  pub behind : (j : ℕ) → mostPayload ≤ j → j < mostPayload + payloadSpace → getD t j 0 ≡ 255
 
 -- An action's green length and payload.
 unfoldable pub slotFits : Context → List ℕ → ℕ → Bool

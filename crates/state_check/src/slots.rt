@@ -7,7 +7,7 @@ ghost use Rattle.base.specs.Bytes.{zeroAt};
 ghost use Rattle.format.specs.Limits.{mostPayload};
 ghost use Rattle.record.specs.Context.{contextOf, ContextIn};
 ghost use Rattle.record.specs.Values.{HasPlaces, NextId};
-ghost use Rattle.state_check.specs.Slots.{Masks, payloadRoom, payloadFits, slotFits, notedAt, notedFit};
+ghost use Rattle.state_check.specs.Slots.{Masks, payloadRoom, payloadSpace, payloadFits, slotFits, notedAt, notedFit};
 ghost use Rattle.state_check.specs.Slots.{CutInside, queueSlotFits, NextSlotFits, QueueRoom, queueFits, ownReach, ownSlotFits, ownFits};
 ghost use Rattle.format.specs.Places.{cutSize};
 ghost use Rattle.image.specs.Layout.{notedSize, slotSize};
@@ -20,9 +20,12 @@ use record::State;
 use record::lists::is_new;
 use record::range::length_ok;
 
-// Masks of payloads: as many zeros as a payload may have bytes, then as many ones. From MOST_PAYLOAD - m on they let through what stands
-// behind a payload of m bytes.
-pub const MASKS: usize = 2 * State::MOST_PAYLOAD;
+// A payload's space in a slot.
+const SPACE: usize = State::SLOT - ActionHead::SIZE;
+
+// Masks of payloads: as many zeros as a payload may have bytes, then as many ones as its space. From MOST_PAYLOAD - m on they let through what
+// stands behind a payload of m bytes.
+pub const MASKS: usize = State::MOST_PAYLOAD + SPACE;
 
 pub fn masks() -> [u8; MASKS]
     ensures { λ r. ⌜ Masks r ⌝ }
@@ -39,13 +42,13 @@ pub fn masks() -> [u8; MASKS]
 // Whether zeros stand behind a payload of m bytes, which begins at `at`: the OR of all its room under the masks, so that the time does not
 // go by m and the compiler can use wide instructions.
 fn zeros(b: &[u8], at: usize, m: usize, t: &[u8; MASKS]) -> bool
-    requires { ⌜ Masks (now t) × (m ≤ mostPayload) × (at + mostPayload ≤ length (now b)) ⌝ }
-    ensures { λ r. ⌜ r ≡ everyAt (zeroAt (now (b .entry))) 1 (mostPayload - m) (at + m) ⌝ }
+    requires { ⌜ Masks (now t) × (m ≤ mostPayload) × (at + payloadSpace ≤ length (now b)) ⌝ }
+    ensures { λ r. ⌜ r ≡ everyAt (zeroAt (now (b .entry))) 1 (payloadSpace - m) (at + m) ⌝ }
 {
     let from = State::MOST_PAYLOAD - m;
     let mut all: u8 = 0;
     let mut j = 0;
-    while j < State::MOST_PAYLOAD {
+    while j < SPACE {
         let x = b[at + j];
         let mask = t[from + j];
         all = all | (x & mask);

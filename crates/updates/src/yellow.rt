@@ -16,7 +16,7 @@ use image::places::place_of;
 use octets::numbers::num16;
 use octets::numbers::put16;
 use record::State;
-use writer::parts::is_id;
+use record::parts::is_id;
 use writer::parts::put_id;
 
 // Whether this id is one of the `count` ids from `at` on.

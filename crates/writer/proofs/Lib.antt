@@ -1,4 +1,3 @@
-pub mod IdLaws
 pub mod PartLaws
 pub mod RecordBytes
 pub mod RecordLaws

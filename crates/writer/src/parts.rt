@@ -1,17 +1,13 @@
-// Ids, actions, primary components and marks at a place: written, and an id compared.
+// Ids, actions, primary components and marks, written at a place.
 ghost use mathlib.Core.Path.{_≡_};
 ghost use Prim.Native.Nat.{_+_, _≤_};
 ghost use lib.ListN.{length};
 ghost use Rattle.base.specs.Patched.{patched};
 ghost use Rattle.format.specs.Places.{idSize, actionPayloadAt, actionHeadSize, primarySize, markSize, yellowHeadSize};
-ghost use Rattle.format.specs.Range.{sameId};
-ghost use Rattle.format.specs.Read.{idAt};
 ghost use Rattle.format.specs.Write.{idBytes, actionBytes, primaryBytes, markBytes};
 ghost use Rattle.record.specs.Values.{idOf, primaryOf, markOf, actionOf};
 ghost use Rattle.writer.specs.Blocks.{headBytes, yellowHeadBytes};
 use octets::blocks::put_counted;
-use octets::numbers::num8;
-use octets::numbers::num16;
 use octets::numbers::put8;
 use octets::numbers::put16;
 use octets::numbers::put32;
@@ -26,17 +22,6 @@ pub fn put_id(out: &mut [u8], at: usize, creator: u8, index: u16)
 {
     put8(out, at, creator);
     put16(out, at + ActionHead::INDEX, index);
-}
-
-// Whether the id at `at` is this one.
-pub fn is_id(e: &[u8], at: usize, creator: u8, index: u16) -> bool
-    requires { ⌜ at + idSize ≤ length (now e) ⌝ }
-    ensures { λ r. ⌜ r ≡ sameId (idOf creator index) (idAt (now (e .entry)) at) ⌝ }
-{
-    if creator != num8(e, at) {
-        return false;
-    }
-    index == num16(e, at + ActionHead::INDEX)
 }
 
 // An action's id and its creator's green length.

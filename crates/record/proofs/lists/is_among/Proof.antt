@@ -20,7 +20,7 @@ is-among-spec =
     Inv-loop
     μ-loop
     (λ c. search needs)  -- loop-holds
-    (λ c κs. search (needs, first-inside))  -- is-at-requires
+    (λ c κs. search (needs, first-inside))  -- is-id-requires
     (λ c. search (needs, among-here))  -- returns
     (λ c. search (needs, step-fits))  -- add-here
     (λ c. omega arith)  -- sub-left

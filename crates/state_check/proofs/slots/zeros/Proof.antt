@@ -4,16 +4,16 @@ use native.Mathlib.Omega.{arith}
 use borrow.Author.Needs.{needs}
 use Rattle.base.specs.Lists.{everyAt}
 use Rattle.base.specs.Bytes.{zeroAt}
-use Rattle.format.specs.Limits.{mostPayload}
+use Rattle.state_check.specs.Slots.{payloadSpace}
 use Rattle.state_check.proofs.Gathered.{unread, gather-start, gather-again, gather-end}
 use Rattle.state_check.proofs.slots.zeros.Statement.{statement}
 use Rattle.state_check.proofs.slots.zeros.Tie as tie
 
 abbrev Inv-loop : tie.InvT-loop
-Inv-loop b at m t from all₀ j₀ all j = (everyAt (zeroAt b) 1 (mostPayload - m) (at + m) ≡ unread b at m all j)
+Inv-loop b at m t from all₀ j₀ all j = (everyAt (zeroAt b) 1 (payloadSpace - m) (at + m) ≡ unread b at m all j)
 
 abbrev μ-loop : tie.MeasureT-loop
-μ-loop b at m t from all₀ j₀ all j = mostPayload - j
+μ-loop b at m t from all₀ j₀ all j = payloadSpace - j
 
 pub zeros-spec : {M : Type 1} → statement M
 zeros-spec =

@@ -1,10 +1,10 @@
 use Rattle.record.proofs.Turns.{other-creator, same-creator}
 use borrow.Author.Needs.{needs}
-use Rattle.record.proofs.lists.is_at.Statement.{statement}
-use Rattle.record.proofs.lists.is_at.Tie as tie
+use Rattle.record.proofs.parts.is_id.Statement.{statement}
+use Rattle.record.proofs.parts.is_id.Tie as tie
 
-pub is-at-spec : {M : Type 1} → statement M
-is-at-spec =
+pub is-id-spec : {M : Type 1} → statement M
+is-id-spec =
     tie.close
     (tie.spec
     (λ c κs. search needs)  -- num8-requires
