@@ -5,5 +5,6 @@ pub mod SwapFits
 pub mod Turning
 pub mod TableLaws
 pub mod TurnLaws
+pub mod NextLaws
 pub mod PassLaws
 pub mod InstallLaws

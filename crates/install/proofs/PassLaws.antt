@@ -1,13 +1,13 @@
 -- The passes over the yellow list and over the cuts.
-use Prim.Native.Nat.{ℕ, zero, suc, _+_, _*_, _≤_, _<_}
+use Prim.Native.Nat.{ℕ, zero, suc, _+_, _*_, _-_, _≤_, _<_}
 use mathlib.Core.Path.{_≡_, sym, ap, subst, _∙_}
 use mathlib.Core.List.{List, [], _∷_, _++_, append-assoc, append-nil, map, map-append}
 use mathlib.Core.Option.{some}
 use native.Mathlib.Nat.{add-zero}
 use native.Mathlib.Numerals.{add-one}
 use native.Mathlib.Omega.{arith}
-use lib.ListN.{length, getD, take}
-use lib.Seq.{take-all, take-suc, length-take-le}
+use lib.ListN.{length, getD, take, drop}
+use lib.Seq.{take-all, take-suc, length-take-le, drop-at}
 use Rattle.base.proofs.AtLaws.{take-next}
 use Rattle.base.specs.Bytes.{numberAt}
 use Rattle.base.specs.Lists.{above, after, at}
@@ -16,21 +16,25 @@ use Rattle.format.specs.Limits.{mostServers}
 use Rattle.format.specs.Types.{Id}
 use Rattle.format.specs.Read.{idAt, idsAt}
 use Rattle.record.specs.Values.{idOf}
-use Rattle.replication.specs.Machine.Types.{Server}
+use Rattle.replication.specs.Machine.Types.{Log, Server, withLog}
 use Rattle.replication.specs.Machine.Colours.{cut}
 use Rattle.replication.specs.Machine.Install.{idsUpTo}
+use Rattle.replication.specs.Machine.WellFormed.{queue}
 use Rattle.replication.specs.Machine.WellFormedRanges.{IdFits}
 use Rattle.replication.proofs.WellFormed.Facts.{well-formed-facts}
-use Rattle.image.specs.Layout.{theYellow, offset, headerSize, atServers, atYellowCount}
+use Rattle.image.specs.Layout.{theYellow, offset, headerSize, atServers, atYellowCount, atQueueLength}
+use Rattle.image.specs.Image.{image}
 use Rattle.image.specs.Decode.{decoded, serversIn}
 use Rattle.queue.proofs.RedLaws.{cut-read}
 use Rattle.image.specs.Holding.{HoldsSome}
 use Rattle.image.proofs.InPlace.{such-decoded}
-use Rattle.install.specs.Table.{logIn, yellowsIn, idsOf, Indexed, Turned}
+use Rattle.install.specs.Table.{logIn, yellowsIn, idsOf, Indexed, Turned, idIn, NextFrom, TurnedAt}
 use Rattle.install.proofs.SwapFits.{swaps-kept}
+use Rattle.install.proofs.NextLaws.{NoneOver, next-over, none-next, none-before, swaps-passed}
+use Rattle.install.proofs.TableLaws.{green-read}
 use Rattle.install.proofs.Turning.{turned-decoded, turned-append, turned-none}
 use Rattle.image.proofs.Counts.{numbers, holds-place}
-use Rattle.image.specs.Counts.{yellowCount, place}
+use Rattle.image.specs.Counts.{queueCount, yellowCount, greenCount, place}
 use Rattle.updates.proofs.YellowLaws.{holds-ids}
 use Rattle.format.specs.Places.{idSize}
 
@@ -102,6 +106,51 @@ module _ (b₀ : List ℕ) (s₀ : HoldsSome b₀) where
   pub yellow-end : (t b : List ℕ) (j n : ℕ) → Turned (take j (yellowsIn b₀)) b₀ t b → n ≡ numberAt 2 b₀ atYellowCount → n ≤ j → Turned (yellowsIn b₀) b₀ t b
   yellow-end t b j n e f h = turned-as (take j (yellowsIn b₀)) (yellowsIn b₀) b₀ t b (take-all j (yellowsIn b₀) (omega (arith, yellow-count))) e
 
+-- ---- one creator's next action
+
+module _ (t b : List ℕ) (x : Indexed t b) (c i k : ℕ) (next : NextFrom (greenCount b) c i k b) where
+  -- Ids of no red action are passed over.
+  passed : (m : ℕ) → i ≤ m → NoneOver c i m (drop (greenCount b) (queue (logIn b))) → Turned (map (idOf c) (above i m)) b t b
+  unfolding logIn above queue
+  passed m l none =
+      let l₀ : Log = (decoded b) .log in
+      let reds : drop (greenCount b) (l₀ .green ++ l₀ .red) ≡ l₀ .red = drop-at (l₀ .green) (l₀ .red) (greenCount b) (sym (green-read b (x .holds))) in
+      let whole : m ≡ i + (m - i) = omega arith in
+      let same = swaps-passed c i (m - i) l₀ (subst (λ (z : ℕ). NoneOver c i z (l₀ .red)) whole (subst (NoneOver c i m) reds none)) in
+      record { written = sym (ap (λ (z : Log). image (withLog z (decoded b)) b) same ∙ such-decoded _ b (x .holds) .written); indexed = x }
+
+  pub turned-to-end : (cut n : ℕ) → n ≡ numberAt 4 b atQueueLength → i < cut → n ≤ k → Turned (map (idOf c) (above i cut)) b t b
+  turned-to-end cut n e l h = passed cut (omega arith) (none-next b (x .holds) (greenCount b) c i k next cut (omega arith))
+
+  module _ (y : ℕ) (h : k < queueCount b) (index : y ≡ idIn b k .index) where
+    turned-short : (cut : ℕ) → i < cut → cut < y → Turned (map (idOf c) (above i cut)) b t b
+    turned-short cut l m = passed cut (omega arith) (none-before b (x .holds) (greenCount b) c i k next cut h (omega arith))
+
+    over : i < y
+    over = next-over b (greenCount b) c i k y index h next
+
+    turned-next : (t₁ b₁ : List ℕ) → Turned (idIn b k ∷ []) b t₁ b₁ → Turned (map (idOf c) (above i y)) b t₁ b₁
+    unfolding after idOf
+    turned-next t₁ b₁ turn =
+        let before : List Id = map (idOf c) (above i (y - 1)) in
+        let last : y - 1 + 1 ≡ y = omega (arith, over) in
+        let skipped = passed (y - 1) (omega (arith, over)) (none-before b (x .holds) (greenCount b) c i k next (y - 1) h (omega (arith, over))) in
+        let named : idIn b k ≡ idOf c (y - 1 + 1) = λ j. idOf (next .here h .0 j) ((sym index ∙ sym last) j) in
+        let ids : before ++ (idIn b k ∷ []) ≡ map (idOf c) (above i y) =
+        ap (λ (z : Id). before ++ (z ∷ [])) named
+        ∙ sym (map-append (idOf c) (above i (y - 1)) (after (y - 1) 1))
+        ∙ ap (map (idOf c)) (sym (above-more i (y - 1) 1 (omega (arith, over))))
+        ∙ ap (λ (z : ℕ). map (idOf c) (above i z)) last in
+        let turned = turned-append before (idIn b k ∷ []) b t b t₁ b₁ (x .holds) skipped turn in
+        turned-as (before ++ (idIn b k ∷ [])) (map (idOf c) (above i y)) b t₁ b₁ ids turned
+
+pub up-to-cut : (t b : List ℕ) → Indexed t b → (k cut y : ℕ) → k < queueCount b → y ≡ idIn b k .index → cut < y → TurnedAt k cut cut b t b
+up-to-cut t b x k cut y h e m c i next l = (l, omega arith, turned-short t b x c i k next y h e cut l m)
+
+pub up-to-next : (t b t₁ b₁ : List ℕ) → Indexed t b → (k cut y : ℕ) → k < queueCount b → y ≡ idIn b k .index → y ≤ cut → Turned (idIn b k ∷ []) b t₁ b₁
+    → TurnedAt k cut y b t₁ b₁
+up-to-next t b t₁ b₁ x k cut y h e m turn c i next l = (over t b x c i k next y h e, m, turned-next t b x c i k next y h e t₁ b₁ turn)
+
 -- ---- one creator
 
 pub creator-start : (b t : List ℕ) (c : ℕ) → Indexed t b → Turned (map (idOf c) (above 0 0)) b t b
@@ -117,13 +166,14 @@ module _ (b₀ : List ℕ) (s₀ : HoldsSome b₀) (c : ℕ) where
   creator-in h =
       omega (arith, well-formed-facts (decoded b₀) (such-decoded _ b₀ s₀ .formed) .sizes .most, numbers (decoded b₀) b₀ (such-decoded _ b₀ s₀) .servers)
 
-  pub creator-again : (t b t₁ b₁ : List ℕ) (i : ℕ) → Turned (map (idOf c) (above 0 i)) b₀ t b → Turned (idOf c (i + 1) ∷ []) b t₁ b₁
-      → Turned (map (idOf c) (above 0 (i + 1))) b₀ t₁ b₁
-  unfolding after
-  creator-again t b t₁ b₁ i e turn =
-      turned-as (map (idOf c) (above 0 i) ++ (idOf c (i + 1) ∷ [])) (map (idOf c) (above 0 (i + 1))) b₀ t₁ b₁
-      (sym (ap (map (idOf c)) (above-more 0 i 1 (omega arith)) ∙ map-append (idOf c) (above 0 i) (after i 1)))
-      (turned-append (map (idOf c) (above 0 i)) (idOf c (i + 1) ∷ []) b₀ t b t₁ b₁ s₀ e turn)
+  pub creator-again : (t b t₁ b₁ : List ℕ) (i r : ℕ) → Turned (map (idOf c) (above 0 i)) b₀ t b → i < r → Turned (map (idOf c) (above i r)) b t₁ b₁
+      → Turned (map (idOf c) (above 0 r)) b₀ t₁ b₁
+  unfolding above
+  creator-again t b t₁ b₁ i r e h turn =
+      let whole : i + (r - i) ≡ r = omega arith in
+      turned-as (map (idOf c) (above 0 i) ++ map (idOf c) (above i r)) (map (idOf c) (above 0 r)) b₀ t₁ b₁
+      (sym (ap (λ (z : ℕ). map (idOf c) (above 0 z)) (sym whole) ∙ ap (map (idOf c)) (above-more 0 i (r - i) (omega arith)) ∙ map-append (idOf c) (above 0 i) (above i r)))
+      (turned-append (map (idOf c) (above 0 i)) (map (idOf c) (above i r)) b₀ t b t₁ b₁ s₀ e turn)
 
   pub creator-end : (t b : List ℕ) (k i : ℕ) → c < serversIn b₀ → k ≡ numberAt 2 b₀ (headerSize + 2 * c) → i ≤ k → k ≤ i
       → Turned (map (idOf c) (above 0 i)) b₀ t b

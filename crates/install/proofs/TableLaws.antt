@@ -35,6 +35,16 @@ use Rattle.install.proofs.SwapLaws.{Once}
 use Rattle.image.specs.Counts.{queueCount, greenCount, place, CountsIn}
 use Rattle.image.proofs.Counts.{numbers, such-counts}
 
+-- ---- the id of a place
+
+pub creator-read : (b : List ℕ) (k p x : ℕ) → p ≡ place theQueue b → x ≡ numberAt 1 b (p + slotSize * k) → x ≡ idIn b k .creator
+unfolding idAt
+creator-read b k p x e f = f ∙ (λ i. numberAt 1 b (e i + slotSize * k))
+
+pub index-read : (b : List ℕ) (k p x : ℕ) → p ≡ place theQueue b → x ≡ numberAt 2 b (p + slotSize * k + 1) → x ≡ idIn b k .index
+unfolding idAt
+index-read b k p x e f = f ∙ (λ i. numberAt 2 b (e i + slotSize * k + 1))
+
 -- ---- the place of an id in the table
 
 module _ (s : Server) (b : List ℕ) (r : Holds s b) where
@@ -58,24 +68,16 @@ module _ (s : Server) (b : List ℕ) (r : Holds s b) where
       let h : k < queueCount b = omega (arith, at-low (queue (s .log)) k a e, numbers s b r .queue) in
       ap (λ (x : Action). x .id) (some-same (sym (read-at k h) ∙ e))
 
-pub entry-made : (b : List ℕ) (k p x y r : ℕ) → p ≡ place theQueue b → x ≡ numberAt 1 b (p + slotSize * k) → y ≡ numberAt 2 b (p + slotSize * k + 1)
-    → r ≡ slot (idOf x y) → r ≡ slot (idAt b (place theQueue b + slotSize * k))
-unfolding idAt idOf
-entry-made b k p x y r e f g m =
-    let same : idOf x y ≡ idAt b (place theQueue b + slotSize * k) =
-    (λ i. idOf (f i) (g i)) ∙ (λ i. idAt b (e i + slotSize * k)) in
-    m ∙ ap slot same
+pub entry-made : (b : List ℕ) (k x y r : ℕ) → x ≡ idIn b k .creator → y ≡ idIn b k .index → r ≡ slot (idOf x y) → r ≡ slot (idIn b k)
+unfolding idOf
+entry-made b k x y r f g m = m ∙ (λ i. slot (idOf (f i) (g i)))
 
-pub entry-in : (b : List ℕ) (k p x y : ℕ) → HoldsSome b → k < queueCount b → p ≡ place theQueue b → x ≡ numberAt 1 b (p + slotSize * k)
-    → y ≡ numberAt 2 b (p + slotSize * k + 1)
-    → x < mostServers
-unfolding idAt idOf
-entry-in b k p x y s h e f g =
+pub entry-in : (b : List ℕ) (k x : ℕ) → HoldsSome b → k < queueCount b → x ≡ idIn b k .creator → x < mostServers
+entry-in b k x s h f =
     let w : Server = decoded b in
     let a : Action = actionAt b (place theQueue b + slotSize * k) in
     let there = read-at w b (such-decoded _ b s) k h in
-    let d : idOf x y ≡ a .id = (λ i. idOf (f i) (g i)) ∙ (λ i. idAt b (e i + slotSize * k)) ∙ read-id w b (such-decoded _ b s) k a there in
-    let c : x ≡ a .id .creator = ap (λ (j : Id). j .creator) d in
+    let c : x ≡ a .id .creator = f ∙ ap (λ (j : Id). j .creator) (read-id w b (such-decoded _ b s) k a there) in
     omega (arith, creator-low w b (such-decoded _ b s) k a there)
 
 pub count-inside : (b : List ℕ) → HoldsSome b → atQueueLength + 4 ≤ length b
@@ -83,7 +85,7 @@ count-inside b s = omega (arith, such-header _ b s)
 
 -- ---- filled
 
-below : (j k : ℕ) → j < k + 1 → (j ≡ k → ⊥) → j < k
+pub below : (j k : ℕ) → j < k + 1 → (j ≡ k → ⊥) → j < k
 below j k l d = go (known (k ≤? j))
   where
     go : Known (k ≤? j) → j < k

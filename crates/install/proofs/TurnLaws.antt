@@ -32,7 +32,7 @@ use Rattle.queue.proofs.ReadLaws.{find-at, queue-read}
 use Rattle.install.specs.Swaps.{greenSwap, greenSwaps, greenAt}
 use Rattle.record.specs.Values.{slot}
 use Rattle.record.proofs.OnePass.{kept-set}
-use Rattle.install.specs.Table.{logIn, Hinted, IndexedFrom, Indexed, Turned, placeFrom}
+use Rattle.install.specs.Table.{logIn, Hinted, IndexedFrom, Indexed, Turned, placeFrom, idIn}
 use Rattle.install.proofs.Places.{position-at, same-place}
 use Rattle.install.proofs.SwapFits.{Swap, unmoved, moved, swap?, swap-each}
 use Rattle.install.proofs.Swapped.{swap-image}
@@ -107,19 +107,19 @@ module _ (first : ℕ) (b : List ℕ) (holds-some : HoldsSome b) (first-most : f
       same-place (queue ((decoded b) .log)) (queue-once (decoded b) b (such-decoded _ b holds-some)) k (placeFrom first d b) (y .0) (z .0) (y .1) (z .1) same in
       omega (arith, first-low))
 
+  -- The action stands where its id does.
+  found-at : (k : ℕ) (y : Action) → first ≤ k → at (queue (logIn b)) k ≡ some y → d ≡ y .id → k ≡ placeFrom first d b
+  unfolding placeFrom logIn
+  found-at k y low there named =
+      let at-k : first + (k - first) ≡ k = omega arith in
+      let rest-there : at rest (k - first) ≡ some y = at-drop first (queue ((decoded b) .log)) (k - first) ∙ ap (at (queue ((decoded b) .log))) at-k ∙ there in
+      let once : Once rest = once-from first (queue ((decoded b) .log)) (queue-once (decoded b) b (such-decoded _ b holds-some)) in
+      let stands : position d rest ≡ k - first = ap (λ (z : Id). position z rest) named ∙ position-at rest once (k - first) y rest-there in
+      omega arith
+
   pub entry-found : (k n a : ℕ) (has : Bool) → first ≤ k → n ≡ numberAt 4 b atQueueLength → k < n → a ≡ place theQueue b
       → has ≡ sameId d (idAt b (a + slotSize * k)) → not has ≡ false → k ≡ placeFrom first d b
-  unfolding placeFrom logIn
-  entry-found k n a has low j high q e h =
-      let w : Server = decoded b in
-      let r = such-decoded _ b holds-some in
-      let y = hint-named k n a has j high q e h in
-      let at-k : first + (k - first) ≡ k = omega arith in
-      let rest-there : at rest (k - first) ≡ some (y .0) =
-      at-drop first (queue ((decoded b) .log)) (k - first) ∙ ap (at (queue ((decoded b) .log))) at-k ∙ y .1 in
-      let stands : position d rest ≡ k - first =
-      ap (λ (z : Id). position z rest) (y .2) ∙ position-at rest (once-from first (queue ((decoded b) .log)) (queue-once w b r)) (k - first) (y .0) rest-there in
-      omega arith
+  entry-found k n a has low j high q e h = let y = hint-named k n a has j high q e h in found-at k (y .0) low (y .1) (y .2)
 
   -- The number of actions is not below.
   pub entry-low : (n : ℕ) → n ≡ numberAt 4 b atQueueLength → first ≤ n
@@ -168,12 +168,34 @@ turned-passed t b d k n g x i e f h = go (swap? d ((decoded b) .log))
     go (moved s p) =
         absurd (omega (arith, red-place b d g (x .holds) i, queue-count b (x .holds), queue-parts ((decoded b) .log), s .count, ap length (s .whole), length-append (s .before) (s .it ∷ s .behind)))
 
-pub turned-swapped : (t b t₂ t₁ b₁ : List ℕ) (d : Id) (k n g p q : ℕ) → Indexed t b → k ≡ placeFrom g d b → n ≡ numberAt 4 b atQueueLength → k < n
+-- The place has the id that was looked up.
+pub turned-id : (t b t₁ b₁ : List ℕ) (d : Id) (k n g : ℕ) → Indexed t b → g ≡ numberAt 4 b atGreenLength → k ≡ placeFrom g d b
+    → n ≡ numberAt 4 b atQueueLength → k < n → Turned (idIn b k ∷ []) b t₁ b₁ → Turned (d ∷ []) b t₁ b₁
+unfolding placeFrom logIn
+turned-id t b t₁ b₁ d k n g x i e f h turn =
+    let low : g ≤ queueCount b = omega (arith, x .low) in
+    let y = found-there g b (x .holds) low d (omega (arith, e, rest-count g b (x .holds) low d)) in
+    let there : at (queue ((decoded b) .log)) k ≡ some (y .0) = ap (at (queue ((decoded b) .log))) e ∙ y .1 in
+    subst (λ (z : Id). Turned (z ∷ []) b t₁ b₁) (read-id (decoded b) b (such-decoded _ b (x .holds)) k (y .0) there ∙ sym (y .2)) turn
+
+pub turned-swapped : (t b t₂ t₁ b₁ : List ℕ) (k g p q : ℕ) → Indexed t b → greenCount b ≤ k → k < queueCount b
     → g ≡ numberAt 4 b atGreenLength → b₁ ≡ greenAt k b → p < mostIds → q < mostIds → t₂ ≡ set t p (k + 1) → t₁ ≡ set t₂ q (g + 1)
-    → Turned (d ∷ []) b t₁ b₁
+    → Turned (idIn b k ∷ []) b t₁ b₁
 unfolding logIn greenSwaps
-turned-swapped t b t₂ t₁ b₁ d k n g p q x q₀ f h i made low₁ low₂ one two = go (swap? d ((decoded b) .log))
+turned-swapped t b t₂ t₁ b₁ k g p q x low h i made low₁ low₂ one two = go (swap? d ((decoded b) .log))
   where
+    d : Id
+    d = idIn b k
+
+    y : Action
+    y = actionAt b (place theQueue b + slotSize * k)
+
+    there : at (queue ((decoded b) .log)) k ≡ some y
+    there = read-at (decoded b) b (such-decoded _ b (x .holds)) k h
+
+    q₀ : k ≡ placeFrom g d b
+    q₀ = found-at g b (x .holds) (omega (arith, x .low)) d k y (omega arith) there (read-id (decoded b) b (such-decoded _ b (x .holds)) k y there)
+
     e : k ≡ length ((decoded b) .log .green) + position d ((decoded b) .log .red)
     e = q₀ ∙ red-place b d g (x .holds) i
 

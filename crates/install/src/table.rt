@@ -7,8 +7,8 @@ ghost use lib.ListN.{set};
 ghost use Rattle.format.specs.Limits.{mostServers, mostIds};
 ghost use Rattle.record.specs.Values.{idOf, slot};
 ghost use Rattle.image.specs.Holding.{HoldsSome};
-ghost use Rattle.install.specs.Table.{placeFrom, IndexedFrom, Indexed, Turned, idIn};
-ghost use Rattle.image.specs.Counts.{queueCount, CountsIn};
+ghost use Rattle.install.specs.Table.{placeFrom, IndexedFrom, Indexed, Turned, idIn, NextFrom, Nearer};
+ghost use Rattle.image.specs.Counts.{queueCount, greenCount, CountsIn};
 use crate::swapping::green_at;
 use image::places::THE_QUEUE;
 use image::places::place_of;
@@ -29,13 +29,31 @@ pub fn entry(creator: u8, index: u16) -> usize
     creator as usize * State::MOST_QUOTA as usize + index as usize % State::MOST_QUOTA as usize
 }
 
-// The same for the action at the place k of the queue.
+// The creator of the action at the place k of the queue.
+fn creator_at(state: &[u8], k: usize) -> u8
+    requires { ⌜ CountsIn (now state) × (k < queueCount (now state)) ⌝ }
+    ensures { λ r. ⌜ r ≡ idIn (now (state .entry)) k .creator ⌝ }
+{
+    num8(state, place_of(state, THE_QUEUE) + State::SLOT * k)
+}
+
+// Its index.
+pub fn index_at(state: &[u8], k: usize) -> u16
+    requires { ⌜ CountsIn (now state) × (k < queueCount (now state)) ⌝ }
+    ensures { λ r. ⌜ r ≡ idIn (now (state .entry)) k .index ⌝ }
+{
+    num16(
+        state,
+        place_of(state, THE_QUEUE) + State::SLOT * k + ActionHead::INDEX,
+    )
+}
+
+// The place of its id in the table.
 pub fn entry_at(state: &[u8], k: usize) -> usize
     requires { ⌜ HoldsSome (now state) × CountsIn (now state) × (k < queueCount (now state)) ⌝ }
     ensures { λ r. ⌜ (r ≡ slot (idIn (now (state .entry)) k)) × (r < mostIds) ⌝ }
 {
-    let at = place_of(state, THE_QUEUE) + State::SLOT * k;
-    entry(num8(state, at), num16(state, at + ActionHead::INDEX))
+    entry(creator_at(state, k), index_at(state, k))
 }
 
 // A hint to the place k of the queue, for the id whose place in the table is p: one more than k.
@@ -112,7 +130,97 @@ pub fn place_in(
     place_by(state, first, k - 1, creator, index)
 }
 
-// The action with this id turns green if it is red: the lowest red one takes its place.
+// Of the place `found`, which is the next one's before k, and k: the next one's before k + 1.
+fn nearer(state: &[u8], found: usize, k: usize, creator: u8, above: u16) -> usize
+    requires { ⌜ HoldsSome (now state) × CountsIn (now state) × (k < queueCount (now state)) ⌝ }
+    ensures { λ r. ⌜ Nearer k creator above found r (now (state .entry)) ⌝ }
+{
+    if creator_at(state, k) != creator {
+        return found;
+    }
+    let index = index_at(state, k);
+    if index <= above {
+        return found;
+    }
+    if num32(state, State::AT_QUEUE_LENGTH) as usize <= found {
+        return k;
+    }
+    if index_at(state, found) <= index {
+        return found;
+    }
+    k
+}
+
+// The place in the queue, from `first` on, of this creator's action with the least index over `above`, by a pass: the number of actions where
+// there is none.
+fn next_from(state: &[u8], first: usize, creator: u8, above: u16) -> usize
+    requires { ⌜ HoldsSome (now state) × CountsIn (now state) × (first ≤ queueCount (now state)) ⌝ }
+    ensures { λ r. ⌜ NextFrom first creator above r (now (state .entry)) ⌝ }
+{
+    let count = num32(state, State::AT_QUEUE_LENGTH) as usize;
+    let mut found = count;
+    let mut k = first;
+    while k < count {
+        found = nearer(state, found, k, creator, above);
+        k += 1;
+    }
+    found
+}
+
+// The same, at once where the hint, one more than a place, names the action with the next index.
+fn next_hinted(state: &[u8], first: usize, hint: usize, creator: u8, above: u16) -> usize
+    requires { ⌜ HoldsSome (now state) × CountsIn (now state) × (first ≤ queueCount (now state)) × (above < 65535) ⌝ }
+    ensures { λ r. ⌜ NextFrom first creator above r (now (state .entry)) ⌝ }
+{
+    if hint <= first {
+        return next_from(state, first, creator, above);
+    }
+    if (num32(state, State::AT_QUEUE_LENGTH) as usize) < hint {
+        return next_from(state, first, creator, above);
+    }
+    if !is_id(
+        state,
+        place_of(state, THE_QUEUE) + State::SLOT * (hint - 1),
+        creator,
+        above + 1,
+    ) {
+        return next_from(state, first, creator, above);
+    }
+    hint - 1
+}
+
+// The same by the table. Past the highest index there is none to look up.
+pub fn next_by(
+    state: &[u8],
+    places: &[u16; State::MOST_IDS],
+    first: usize,
+    creator: u8,
+    above: u16,
+) -> usize
+    requires { ⌜ IndexedFrom first (now places) (now state) × (creator < mostServers) ⌝ }
+    ensures { λ r. ⌜ NextFrom first creator above r (now (state .entry)) ⌝ }
+{
+    if above == u16::MAX {
+        return next_from(state, first, creator, above);
+    }
+    let hint = wider(places[entry(creator, above + 1)]) as usize;
+    next_hinted(state, first, hint, creator, above)
+}
+
+// The red action at the place k of the queue turns green: the lowest red one takes its place.
+pub fn turn_at_place(state: &mut [u8], places: &mut [u16; State::MOST_IDS], k: usize)
+    requires { ⌜ Indexed (now places) (now state) × (greenCount (now state) ≤ k) × (k < queueCount (now state)) ⌝ }
+    ensures { λ _. ⌜ Turned (idIn (now (state .entry)) k ∷ []) (now (state .entry)) (now (places .exit)) (now (state .exit)) ⌝ }
+{
+    let green = num32(state, State::AT_GREEN_LENGTH) as usize;
+    let lowest = entry_at(state, green);
+    let turned = entry_at(state, k);
+    green_at(state, k);
+    hint(places, lowest, k);
+    hint(places, turned, green);
+}
+
+// The action with this id turns green if it is red.
 pub fn turn_green(state: &mut [u8], places: &mut [u16; State::MOST_IDS], creator: u8, index: u16)
     requires { ⌜ Indexed (now places) (now state) × (creator < mostServers) ⌝ }
     ensures { λ _. ⌜ Turned (idOf creator index ∷ []) (now (state .entry)) (now (places .exit)) (now (state .exit)) ⌝ }
@@ -122,9 +230,5 @@ pub fn turn_green(state: &mut [u8], places: &mut [u16; State::MOST_IDS], creator
     if num32(state, State::AT_QUEUE_LENGTH) as usize <= k {
         return;
     }
-    let lowest = entry_at(state, green);
-    let turned = entry(creator, index);
-    green_at(state, k);
-    hint(places, lowest, k);
-    hint(places, turned, green);
+    turn_at_place(state, places, k);
 }

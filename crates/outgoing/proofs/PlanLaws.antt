@@ -30,9 +30,10 @@ use Rattle.queue.proofs.ReadLaws.{holds-queue}
 use Rattle.outgoing.specs.Lent.{LentSuch}
 use Rattle.exchange.specs.Decided.{partOf}
 use Rattle.exchange.specs.declared.decided.Part.{Part}
-use Rattle.outgoing.specs.Resending.{queueIn, atPosition, asRed, Sends, Stated, greenPart}
+use Rattle.outgoing.specs.Resending.{queueIn, atPosition, asRed, redsOf, Sends, Stated, greenPart}
 use Rattle.outgoing.specs.Resending.{redPart, redParts, wholePart}
 use Rattle.outgoing.proofs.ResendingLaws.{sends-none, sends-next}
+use Rattle.outgoing.proofs.HeldLaws.{reds-held}
 use Rattle.format.specs.Places.{mostRetransmission}
 use Rattle.format.specs.Write.{recordBytes}
 use Rattle.image.specs.Counts.{queueCount, place, mostActions}
@@ -125,19 +126,21 @@ module _ (b : List ℕ) (c : ℕ) (x : Part) (e : (t : Server) → Holds t b →
       (pick-no (x .mine) [] (gather (asRed me (queueIn b) c) (above (x .low) (x .high))) [] (not-true (x .mine) t) refl ∙ red-is me m)
       (sends-none _ i o)
 
-  pub red-room : (i : ℕ) (o : List ℕ) → i + mostRetransmission * quotaIn b ≤ length o → i + mostRetransmission * (x .high - x .low) ≤ length o
-  red-room i o l = omega (arith, reds-most)
+  pub red-room : (me i : ℕ) (o : List ℕ) → i + mostRetransmission * quotaIn b ≤ length o
+      → i + mostRetransmission * length (redsOf me c (x .low) (x .high) b) ≤ length o
+  red-room me i o l = omega (arith, reds-held b s me c (x .low) (x .high))
 
   pub red-high : x .high ≤ 256
   red-high = omega (arith, reds-most, s .queue .counts .sizes .quota)
 
   pub red-sent : (me i r : ℕ) (o o₁ : List ℕ) → me ≡ numberAt 1 b atMe → not (x .mine) ≡ false
-      → Sends (x .high - x .low) (gather (asRed me (queueIn b) c) (above (x .low) (x .high))) i o o₁ r
+      → Sends (length (redsOf me c (x .low) (x .high) b)) (redsOf me c (x .low) (x .high) b) i o o₁ r
       → Sends (quotaIn b) (redPart b c) i o o₁ r
+  unfolding redsOf
   red-sent me i r o o₁ m t a =
       same-sent (quotaIn b) i r _ (redPart b c) o o₁
       (pick-yes (x .mine) _ (gather (asRed me (queueIn b) c) (above (x .low) (x .high))) [] (not-false (x .mine) t) refl ∙ red-is me m)
-      (more-asked (x .high - x .low) (quotaIn b) i r _ o o₁ (omega (arith, reds-most)) a)
+      (more-asked _ (quotaIn b) i r _ o o₁ (reds-held b s me c (x .low) (x .high)) a)
 
 -- ---- every creator
 

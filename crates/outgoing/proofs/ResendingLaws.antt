@@ -21,25 +21,18 @@ use Rattle.record.specs.declared.events.ActionAt.{ActionAt}
 use Rattle.writer.specs.declared.records.Written.{Written}
 use Rattle.writer.specs.declared.records.Written.the-variants.{Next, Full}
 use Rattle.record.specs.Events.{actionIn, actionFrom}
-use Rattle.record.specs.Values.{idOf, actionOf}
+use Rattle.record.specs.Values.{actionOf}
 use Rattle.writer.specs.Written.{put, putOf}
-use Rattle.replication.specs.Machine.Colours.{find}
 use Rattle.replication.specs.Machine.Plan.{resent}
-use Rattle.image.specs.Layout.{slotSize, atGreenLength, theQueue, atQueueLength}
-use Rattle.image.proofs.Slots.{actions-count}
-use Rattle.queue.proofs.ReadLaws.{actions-at, slot-read, find-at, queue-read}
-use Rattle.install.specs.Table.{IndexedFrom, placeFrom, logIn}
-use Rattle.outgoing.specs.Resending.{queueIn, fromPlace, atPosition, asRed, oneOf, Sends}
+use Rattle.image.specs.Layout.{slotSize, atGreenLength, theQueue}
+use Rattle.queue.proofs.ReadLaws.{actions-at, slot-read}
+use Rattle.outgoing.specs.Resending.{queueIn, fromPlace, atPosition, oneOf, Sends}
 use Rattle.outgoing.proofs.LentLaws.{Placed, rest-room, rest-done, one-record, records-append}
 use Rattle.format.specs.Places.{mostRetransmission}
 use Rattle.image.specs.Counts.{queueCount, greenCount, place}
-use Rattle.queue.specs.Queue.{position, slotPlace, greenSlot, QueueIn}
+use Rattle.queue.specs.Queue.{slotPlace, greenSlot, QueueIn}
 use Rattle.queue.proofs.GreenHistory.{green-low, greensIn-at}
-use Rattle.image.proofs.InPlace.{such-decoded}
 use Rattle.image.specs.Decode.{decoded, decodedAs, greensIn}
-use native.Mathlib.Nat.{zero-add}
-use lib.Seq.{take-all}
-use Rattle.replication.specs.Machine.WellFormed.{queue}
 use Rattle.format.specs.Limits.{mostPayload}
 
 -- ---- none, one, and more
@@ -195,32 +188,6 @@ position-sent b q me g p k i r o o₁ e h l is-k s =
     ∙ sym (actions-at (queueCount b) b (place theQueue b) (greenSlot b (p - 1)) (green-low b q (p - 1) (omega arith)))
     ∙ ap (at (queueIn b)) (sym is-k) in
     subst (λ (x : Option Action). Sends 1 (oneOf (resent me p x)) i o o₁ r) (sym there) s
-
--- ---- an id
-
-module _ (b t : List ℕ) (c i k n : ℕ) (f : IndexedFrom 0 t b) (g : k ≡ placeFrom 0 (idOf c i) b) (m : n ≡ numberAt 4 b atQueueLength) where
-  stands : k ≡ position (idOf c i) (queueIn b)
-  unfolding placeFrom queueIn logIn
-  stands =
-      g ∙ zero-add (position (idOf c i) (queue ((decoded b) .log))) ∙ ap (position (idOf c i)) (sym (queue-read (decoded b) b (such-decoded _ b (f .holds))))
-
-  found : find (idOf c i) (queueIn b) ≡ at (queueIn b) k
-  found = find-at (idOf c i) (queueIn b) ∙ ap (at (queueIn b)) (sym stands)
-
-  past : n ≤ k → at (queueIn b) k ≡ none
-  unfolding queueIn
-  past h =
-      let all : length (queueIn b) ≡ queueCount b = actions-count (queueCount b) b (place theQueue b) in
-      ap (λ (l : List Action). at l k) (sym (take-all (length (queueIn b)) (queueIn b) (omega arith))) ∙ at-past-take (length (queueIn b)) (queueIn b) k (omega arith)
-
-  pub index-none : (me j : ℕ) (o : List ℕ) → n ≤ k → Sends 1 (oneOf (asRed me (queueIn b) c i)) j o o j
-  unfolding asRed oneOf resent atFront
-  index-none me j o h = subst (λ (x : Option Action). Sends 1 (oneOf (resent me 0 x)) j o o j) (sym (found ∙ past h)) (sends-none 1 j o)
-
-  pub index-sent : (me j r : ℕ) (o o₁ : List ℕ) → Sends 1 (oneOf (fromPlace me 0 (queueIn b) k)) j o o₁ r
-      → Sends 1 (oneOf (asRed me (queueIn b) c i)) j o o₁ r
-  unfolding asRed fromPlace
-  index-sent me j r o o₁ s = subst (λ (x : Option Action). Sends 1 (oneOf (resent me 0 x)) j o o₁ r) (sym found) s
 
 -- ---- all from `low` to `high`
 

@@ -1,13 +1,13 @@
 -- One's part of the retransmission plan, over the buffers.
-use Prim.Native.Nat.{ℕ, _+_, _*_, _-_, _≤_}
+use Prim.Native.Nat.{ℕ, _+_, _*_, _-_, _≤_, _<_}
 use mathlib.Core.Path.{_≡_}
 use mathlib.Core.List.{List, [], _++_}
 use mathlib.Core.Option.{Option}
 use lib.ListN.{length}
 use Rattle.base.specs.Bytes.{numberAt}
-use Rattle.base.specs.Lists.{at, atFront, gatherAll, below}
+use Rattle.base.specs.Lists.{at, atFront, gather, gatherAll, above, below}
 use Rattle.base.specs.Patched.{patched}
-use Rattle.format.specs.Limits.{mostPayload}
+use Rattle.format.specs.Limits.{mostServers, mostQuota, mostPayload}
 use Rattle.format.specs.Types.{Action, Record}
 use Rattle.record.specs.Values.{idOf}
 use Rattle.replication.specs.Machine.Colours.{find}
@@ -49,6 +49,10 @@ atPosition me l p = resent me p (at l (p - 1))
 unfoldable pub asRed : ℕ → List Action → ℕ → ℕ → Option Record
 asRed me l c i = resent me 0 (find (idOf c i) l)
 
+-- Those of the creator c's actions with the indexes above `low` up to `high` that are held.
+unfoldable pub redsOf : (me c low high : ℕ) → List ℕ → List Record
+redsOf me c low high b = gather (asRed me (queueIn b) c) (above low high)
+
 -- The records rs from `at` on, none longer than the longest retransmission, for each of m that were asked for; the place behind them is r.
 pub record Sends (m : ℕ) (rs : List Record) (at : ℕ) (old new : List ℕ) (r : ℕ) : Type 0 where
   pub place : r ≡ at + length (recordBytes rs)
@@ -64,6 +68,13 @@ SendsTo m rs at out r = Sends m rs at (now (out .entry)) (now (out .exit)) r
 abbrev pub Room : (at m : ℕ) → (o : List ℕ) → Type 0
 Room at m o = at + mostRetransmission * m ≤ length o
 
+-- Each of the records rs is asked for.
+abbrev pub SendsAll : List Record → (at : ℕ) → (out : Lent) → (r : ℕ) → Type 0
+SendsAll rs at out r = SendsTo (length rs) rs at out r
+
+abbrev pub RoomFor : List Record → (at : ℕ) → (o : List ℕ) → Type 0
+RoomFor rs at o = Room at (length rs) o
+
 -- The payload of an action that lies in the bytes b.
 pub record PayloadInside (a : ActionAt) (b : List ℕ) : Type 0 where
   pub short : a .«payload_length» ≤ mostPayload
@@ -73,6 +84,12 @@ pub record PayloadInside (a : ActionAt) (b : List ℕ) : Type 0 where
 pub record Tabled (t b : List ℕ) : Type 0 where
   pub queue : QueueIn b
   pub table : TableOf t b
+
+-- The same, for the creator c's indexes up to `high`.
+pub record IndexesIn (t : List ℕ) (c high : ℕ) (b : List ℕ) : Type 0 where
+  pub tabled : Tabled t b
+  pub creator : c < mostServers
+  pub most : high ≤ mostQuota
 
 -- The server's own number.
 abbrev pub OwnNumber : (me : ℕ) → List ℕ → Type 0

@@ -10,20 +10,21 @@ ghost use Rattle.record.specs.Events.{actionFrom};
 ghost use Rattle.replication.specs.Machine.Step.{allStatesIn};
 ghost use Rattle.outgoing.specs.Lent.{LentSuch, PutsRecords};
 ghost use Rattle.queue.specs.Queue.{QueueIn};
-ghost use Rattle.outgoing.specs.Resending.{queueIn, SendsTo, Room, PayloadInside, Resends, partIn, Tabled, OwnNumber, allReds};
-ghost use Rattle.outgoing.specs.Resending.{fromPlace, atPosition, asRed, oneOf, Stated, greenPart, redPart, wholePart};
+ghost use Rattle.outgoing.specs.Resending.{queueIn, SendsTo, Room, PayloadInside, Resends, partIn, IndexesIn, OwnNumber, allReds};
+ghost use Rattle.outgoing.specs.Resending.{fromPlace, atPosition, redsOf, RoomFor, SendsAll, oneOf, Stated, greenPart, redPart, wholePart};
 ghost use Rattle.format.specs.Places.{mostRetransmission};
 ghost use Rattle.image.specs.Decode.{serversIn, quotaIn, greensIn};
 ghost use Rattle.image.specs.Counts.{queueCount, mostActions};
-ghost use Rattle.format.specs.Limits.{mostServers, mostQuota};
 use exchange::decided::resends_green;
 use exchange::decided::resends_red;
 use image::places::THE_QUEUE;
 use image::places::place_of;
-use install::table::place_in;
+use install::table::index_at;
+use install::table::next_by;
 use install::table::table;
 use octets::numbers::num8;
 use octets::numbers::num32;
+use octets::numbers::wider;
 use queue::history::green_slot;
 use record::State;
 use record::events::ActionAt;
@@ -87,27 +88,45 @@ fn send_positions(state: &[u8], out: &mut [u8], at: usize, me: u8, low: u32, hig
     next
 }
 
-// The action of an id; one that is not held is left out.
-fn send_index(
+// How far a walk over a creator's indexes came: the index, and the place behind the records.
+struct Walk {
+    index: u32,
+    next: usize,
+}
+
+// The creator's next action over the index i, where it is not over `high`.
+fn send_next(
     state: &[u8],
     out: &mut [u8],
     at: usize,
     places: &[u16; State::MOST_IDS],
     me: u8,
     creator: u8,
-    index: u16,
-) -> usize
-    requires { ⌜ Tabled (now places) (now state) × (creator < mostServers) × (at + mostRetransmission ≤ length (now out)) ⌝ }
-    ensures { λ r. ⌜ SendsTo 1 (oneOf (asRed me (queueIn (now (state .entry))) creator index)) at out r ⌝ }
+    i: u32,
+    high: u32,
+) -> Walk
+    requires { ⌜ IndexesIn (now places) creator high (now state) × (i < high) × RoomFor (redsOf me creator i high (now state)) at (now out) ⌝ }
+    ensures { λ r. ⌜ (i < r .index) × (r .index ≤ high) × SendsAll (redsOf me creator i (r .index) (now (state .entry))) at out (r .next) ⌝ }
 {
-    let k = place_in(state, places, 0, creator, index);
+    let k = next_by(state, places, 0, creator, i as u16);
     if num32(state, State::AT_QUEUE_LENGTH) as usize <= k {
-        return at;
+        return Walk {
+            index: high,
+            next: at,
+        };
     }
-    send_slot(state, out, at, me, 0, k)
+    let index = wider(index_at(state, k));
+    if high < index {
+        return Walk {
+            index: high,
+            next: at,
+        };
+    }
+    let next = send_slot(state, out, at, me, 0, k);
+    Walk { index, next }
 }
 
-// "resends from the lowest cut + 1 to it, as red": the indexes above `low` up to `high`.
+// "resends from the lowest cut + 1 to it, as red": the indexes above `low` up to `high`. Only actions that are held cost a turn, and room.
 fn send_creator(
     state: &[u8],
     out: &mut [u8],
@@ -118,14 +137,15 @@ fn send_creator(
     low: u32,
     high: u32,
 ) -> usize
-    requires { ⌜ Tabled (now places) (now state) × (creator < mostServers) × (high ≤ mostQuota) × Room at (high - low) (now out) ⌝ }
-    ensures { λ r. ⌜ SendsTo (high - low) (gather (asRed me (queueIn (now (state .entry))) creator) (above low high)) at out r ⌝ }
+    requires { ⌜ IndexesIn (now places) creator high (now state) × RoomFor (redsOf me creator low high (now state)) at (now out) ⌝ }
+    ensures { λ r. ⌜ SendsAll (redsOf me creator low high (now (state .entry))) at out r ⌝ }
 {
     let mut next = at;
     let mut i = low;
     while i < high {
-        i += 1;
-        next = send_index(state, out, next, places, me, creator, i as u16);
+        let walk = send_next(state, out, next, places, me, creator, i, high);
+        i = walk.index;
+        next = walk.next;
     }
     next
 }

@@ -26,9 +26,7 @@ turn-creator-spec =
     (λ c. search needs)  -- add-num16
     (λ c κs. search needs)  -- num16-requires
     (λ c. search (needs, creator-start))  -- loop-holds
-    (λ c. search needs)  -- add-turn-green
-    (λ c κs. search (needs, creator-in))  -- turn-green-requires
-    (λ c. search needs)  -- add-i
+    (λ c κs. search (needs, creator-in))  -- turn-next-requires
     (λ c. search needs)  -- loop-less
     (λ c. search (needs, creator-again))  -- loop-again
     (λ c. search needs)  -- same-length

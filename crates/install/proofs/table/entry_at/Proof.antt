@@ -7,11 +7,7 @@ pub entry-at-spec : {M : Type 1} → statement M
 entry-at-spec =
     tie.close
     (tie.spec
-    (λ c κs. search needs)  -- place-of-requires
-    (λ c. search needs)  -- mul-at
-    (λ c. search needs)  -- add-at
-    (λ c κs. search needs)  -- num8-requires
-    (λ c. search needs)  -- add-num16
-    (λ c κs. search needs)  -- num16-requires
+    (λ c κs. search needs)  -- creator-at-requires
+    (λ c κs. search needs)  -- index-at-requires
     (λ c κs. search (needs, entry-in))  -- entry-requires
     (λ c. search (needs, entry-made)))  -- returns

@@ -1,5 +1,5 @@
 use Rattle.install.proofs.TableLaws.{indexed-green}
-use Rattle.install.proofs.TurnLaws.{turned-passed, turned-swapped}
+use Rattle.install.proofs.TurnLaws.{turned-passed, turned-id}
 use borrow.Author.Needs.{needs}
 use Rattle.install.proofs.table.turn_green.Statement.{statement}
 use Rattle.install.proofs.table.turn_green.Tie as tie
@@ -15,10 +15,6 @@ turn-green-spec =
     (λ c. search needs)  -- cast-if1
     (λ c. search needs)  -- same-length
     (λ c. search (needs, turned-passed))  -- returns
-    (λ c κs. search needs)  -- entry-at-requires
-    (λ c κs. search needs)  -- entry-requires
-    (λ c κs. search needs)  -- green-at-requires
-    (λ c κs. search needs)  -- hint-requires
-    (λ c κs. search needs)  -- hint-requires-2
+    (λ c κs. search needs)  -- turn-at-place-requires
     (λ c. search needs)  -- same-length-2
-    (λ c. search (needs, turned-swapped)))  -- returns-2
+    (λ c. search (needs, turned-id)))  -- returns-2

@@ -1,7 +1,7 @@
 use borrow.Author.Needs.{needs}
-use Rattle.outgoing.proofs.ResendingLaws.{all-start, all-again, all-end}
-use Rattle.outgoing.specs.Resending.{queueIn, asRed, Sends}
-use Rattle.base.specs.Lists.{gather, above}
+use Rattle.outgoing.proofs.WalkLaws.{walk-start, walk-room, walk-again, walk-end}
+use Rattle.outgoing.specs.Resending.{redsOf, Sends}
+use lib.ListN.{length}
 use Prim.Native.Nat.{_-_, _≤_}
 use native.Mathlib.Omega.{arith}
 use Rattle.outgoing.proofs.resending.send_creator.Statement.{statement}
@@ -9,7 +9,7 @@ use Rattle.outgoing.proofs.resending.send_creator.Tie as tie
 
 abbrev Inv-loop : tie.InvT-loop
 Inv-loop state out₀ at table me creator low high next₀ i₀ out next i =
-    (low ≤ i) × (i - low ≤ high - low) × Sends (i - low) (gather (asRed me (queueIn state) creator) (above low i)) at out₀ out next
+    (low ≤ i) × (i - low ≤ high - low) × Sends (length (redsOf me creator low i state)) (redsOf me creator low i state) at out₀ out next
 
 abbrev μ-loop : tie.MeasureT-loop
 μ-loop state out₀ at table me creator low high next₀ i₀ out next i = high - i
@@ -20,11 +20,9 @@ send-creator-spec =
     (tie.spec
     Inv-loop
     μ-loop
-    (λ c. (omega arith, omega arith, search (needs, all-start)))  -- loop-holds
-    (λ c. search needs)  -- add-i
-    (λ c. search needs)  -- cast-send-index
-    (λ c κs. search needs)  -- send-index-requires
+    (λ c. (omega arith, omega arith, search (needs, walk-start)))  -- loop-holds
+    (λ c κs. search (needs, walk-room))  -- send-next-requires
     (λ c. search needs)  -- loop-less
-    (λ c. (omega arith, omega arith, search (needs, all-again)))  -- loop-again
+    (λ c. (omega arith, omega arith, search (needs, walk-again)))  -- loop-again
     (λ c. search needs)  -- same-length
-    (λ c. search (needs, all-end)))  -- returns
+    (λ c. search (needs, walk-end)))  -- returns

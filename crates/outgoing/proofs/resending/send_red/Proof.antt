@@ -6,7 +6,7 @@ use Rattle.outgoing.proofs.resending.send_red.Tie as tie
 send-creator-requires : tie.Need-send-creator-requires
 send-creator-requires c κs =
     let e = c .before .before .before .resends-red .ensures in
-    (search needs, search needs, red-high _ _ _ e (search needs), search (needs, red-room _ _ _ e))
+    (record { tabled = search needs; creator = search needs; most = red-high _ _ _ e (search needs) }, search (needs, red-room _ _ _ e))
 
 pub send-red-spec : {M : Type 1} → statement M
 send-red-spec =
