@@ -7,7 +7,7 @@
    - The buffers of one call may not overlap.
    - There is no state but in the buffers: calls over different buffers may run at the same time in different threads; two calls over one buffer may not,
      unless both only read it.
-   - No function allocates, blocks, calls back or fails but by the number that it returns. A call takes 20 KiB of stack at most (20,312 bytes measured by
+   - No function allocates, blocks, calls back or fails but by the number that it returns. A call takes 21 KiB of stack at most (20,664 bytes measured by
      bench/stack.c, not proved): lend a thread that calls 32 KiB at least. */
 #ifndef GUZBYTOR_H
 #define GUZBYTOR_H
@@ -24,7 +24,8 @@ enum {
     GUZBYTOR_TAKEN = 0,         /* store if the store word is 1, and wait for it; then send the records, in order, before the next event */
     GUZBYTOR_BAD_RECORD = 1,    /* bad length, version or kind: pass over the event and log it; the group layer brought what no engine wrote */
     GUZBYTOR_OUT_OF_RANGE = 2,  /* a number, set or list is out of range: as 1; of a start, a reading or lengths: the caller's own numbers are wrong */
-    GUZBYTOR_QUOTA_USED = 3,    /* a request, and this server has numbered its quota: tell the crew; it takes no request any more, for good */
+    GUZBYTOR_QUOTA_USED = 3,    /* a request, and a quota of this server's own entries is not white yet: tell the crew to come back; with 65,535
+                                   requests numbered it takes none any more, for good */
                                 /* 4 is reserved, and never returned (docs/RECORDS.md) */
     GUZBYTOR_NOT_NOW = 5,       /* an event that cannot come in this state: a duty of the group layer was broken (docs/GROUP-LAYER.md); log it */
     GUZBYTOR_NOT_FROM_HERE = 6, /* a sender outside the configuration, another configuration's id, or a second State or CPC: as 5 */
@@ -71,7 +72,7 @@ enum {
 
 /* The version of records, and their kinds. */
 enum {
-    GUZBYTOR_VERSION = 1,
+    GUZBYTOR_VERSION = 2,
     GUZBYTOR_KIND_ACTION = 1,
     GUZBYTOR_KIND_RETRANSMISSION = 2,
     GUZBYTOR_KIND_STATE = 3,
@@ -119,8 +120,10 @@ enum {
 
 /* What guzbytor_lengths answers: GUZBYTOR_TAKEN and the required lengths of the state's and the outgoing buffer, or GUZBYTOR_OUT_OF_RANGE and zeros where
    servers or quota is out of range.
-   The quota is how many requests each server ever takes: 1 to 256, the same at all servers, and never changed. Every later request gets
-   GUZBYTOR_QUOTA_USED, whatever has turned green by then, until document 02's K6 is built, which uses places again. */
+   The quota is how many of a server's own entries may be without being white: 1 to 256, the same at all servers, and never changed. An entry that is green
+   on every server, as far as this one knows, becomes white: its place is used again. With a quota of own entries that are not white a request gets
+   GUZBYTOR_QUOTA_USED; one is taken again when a place is free. So while a server is away the others fill their quota and wait for it. A server takes 65,535
+   requests in its life. */
 typedef struct {
     uint32_t number;
     uint32_t state;
@@ -180,9 +183,10 @@ typedef struct {
     uint32_t configuration_id, configuration_set; /* .. this one; else 0 */
     uint32_t transitional;                        /* 1: a transitional one has come since then .. */
     uint32_t transitional_set;                    /* .. of these; else 0 */
-    uint32_t green;                               /* entries that have their lasting place */
+    uint32_t green;                               /* entries that have their lasting place, white ones included */
+    uint32_t white;                               /* the first ones of these: green on every server, and not in the state any more */
     uint32_t red;                                 /* entries that are known here and have none yet */
-    uint32_t numbered;                            /* own requests taken so far, each with its index and stored, of `quota` */
+    uint32_t numbered;                            /* own requests taken so far, each with its index and stored, of 65,535 */
     uint32_t on_own_list;                         /* of these, on the own list: stored, and not yet come back */
     uint32_t unsent;                              /* of these, not yet sent: they are on reaching Reg_prim, or Non_prim at the end of an exchange */
     uint32_t primary_index, primary_attempt, primary_set; /* the last primary component known here */
@@ -197,11 +201,13 @@ typedef struct {
 
 guzbytor_summary_answer guzbytor_summary(const uint8_t *state, size_t state_length);
 
-/* Number 0; how many entries are green in all; how many of them were put, and in how many bytes. Or 7, 8 or 2, in this order, and zeros: a buffer is too
-   short, the state's buffer holds no well-formed state, `from` exceeds the green length. */
+/* Number 0; how many entries are green in all, and how many of these, the first ones, are white; how many were put, and in how many bytes. Or 7, 8 or 2, in
+   this order, and zeros: a buffer is too short, the state's buffer holds no well-formed state, `from` exceeds the green length or is below the white length:
+   the entries asked for are not there, and later ones must not be taken for them. */
 typedef struct {
     uint32_t number;
     uint32_t green;
+    uint32_t white;
     uint32_t entries;
     uint32_t bytes;
 } guzbytor_green_entries_answer;
@@ -210,7 +216,10 @@ typedef struct {
    (2, the high byte first), payload length (1) and payload: GUZBYTOR_MOST_ENTRY bytes at most, and a shorter buffer gets 7. So at least one is put where
    `from` is below the green length; read on from `from` + `entries`. The state is checked once in a call, however many entries are put: lend room for
    what is wanted at once.
-   What an event turned green: note the green length before it (that of the last summary or reading); the entries behind it are those, in their order. */
+   What an event turned green: note the green length before it (that of the last summary or reading); the entries behind it are those, in their order. In an
+   allowed run a daemon that asks so after each event is never refused; nor one that asks after each burst.
+   White entries are gone from the state. A daemon that wants the whole history keeps what it reads, beside the state and stored with it, as the register is
+   kept; one that asks from 0 after a restart gets 2 once anything is white. */
 guzbytor_green_entries_answer guzbytor_green_entries(const uint8_t *state, size_t state_length, uint32_t from, uint8_t *entries, size_t entries_length);
 
 /* What green is worth. A red entry is known. A green one keeps its place while one server that has it green stays up or has it green in its store. So what

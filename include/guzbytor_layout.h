@@ -37,7 +37,7 @@ enum {
     AT_YELLOW_STATUS = 58,
     AT_YELLOW_COUNT = 59,
     HEADER_SIZE = 61,
-    IMAGE_LAYOUT = 10
+    IMAGE_LAYOUT = 11
 };
 
 /* Entries of its sections. */
@@ -45,7 +45,7 @@ enum {
     CUT_SIZE = 2,
     NOTED_SIZE = 4,
     ID_SIZE = 3,
-    SLOT_SIZE = 56
+    SLOT_SIZE = 60
 };
 
 /* An action: in a slot, and in a record's body. Its payload follows. */
@@ -53,14 +53,15 @@ enum {
     ACTION_CREATOR = 0,
     ACTION_INDEX = 1,
     ACTION_GREEN = 3,
-    ACTION_PAYLOAD = 7,
-    ACTION_SIZE = 8
+    ACTION_WHITE = 7,
+    ACTION_PAYLOAD = 11,
+    ACTION_SIZE = 12
 };
 
 /* A retransmission: what stands before its action, and the longest record. */
 enum {
     RETRANSMISSION_SIZE = 5,
-    MOST_RETRANSMISSION = 65
+    MOST_RETRANSMISSION = 69
 };
 
 /* A last primary, and a mark. */

@@ -43,7 +43,7 @@ crash 2
 0 1: transitional {0,1}
 0 1 2: regular 4 {0,1,2}
 0 1 2: deliver 0 1 2
-1: recovery but version 2 refused 1
+1: recovery but version 1 refused 1
 0: request "E"
 0 1 2: deliver 0 0 2 2
 
@@ -62,6 +62,6 @@ crash 2
 0 1 2: deliver 0 1 2
 0 1 2: deliver 0 0 0
 0 1 2: deliver 0 1 2
-0: request "F" refused 3                        // A and E are its quota
-1: request "G"
-0 1 2: deliver 1
+0: request "F"
+0: request "G" refused 3                        // E and F are its quota, A is white
+0 1 2: deliver 0

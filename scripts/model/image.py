@@ -1,7 +1,7 @@
 """The state's image in its buffer: the start's, and what the state check answers of any bytes (rows 7 and 8; docs/DECISIONS.md, 31 to 34)."""
 from . import layout
 from .exchange import has, planned
-from .layout import ACTION, HEADER, MODES, MOST_INDEX, MOST_PAYLOAD, size
+from .layout import ACTION, HEADER, MODES, MOST_INDEX, MOST_LENGTH, MOST_NUMBER, MOST_PAYLOAD, most_planned, size
 from .records import Context, Refused, id_ok, read, unpacked
 
 
@@ -69,8 +69,8 @@ def configurations_ok(v):
 def header_ok(v):
     h = v.h
     return (all(h[name] == value for name, value in layout.FIXED.items()) and v.me < v.n and configurations_ok(v)
-            and h['states'] & ~h['configuration.set'] == 0 and set_ok(v, h['cpcs']) and h['come'] <= 2 * v.all
-            and h['queue.count'] <= v.all and h['green'] <= h['queue.count'] and h['own.count'] <= v.q and h['numbered'] <= v.q
+            and h['states'] & ~h['configuration.set'] == 0 and set_ok(v, h['cpcs']) and h['come'] <= most_planned(v.n)
+            and h['queue.count'] <= v.all and h['green'] <= h['queue.count'] and h['own.count'] <= v.q and h['numbered'] <= MOST_NUMBER
             and h['sent'] <= h['numbered'] and h['attempt'] <= MOST_INDEX and pair_ok(v, 'last')
             and h['mark.status'] <= 1 and pair_ok(v, 'mark') and set_ok(v, h['mark.bits'])
             and h['yellow.status'] <= 1 and h['yellow.count'] <= v.all)
@@ -85,8 +85,9 @@ def filled(v, at):
 def cuts_ok(v):
     cuts = [v.cut(c) for c in range(v.n)]
     noted = unpacked((('noted', layout.NOTED),) * v.n, v.data, v.at('noted'))
-    return (all(c <= v.q for c in cuts) and sum(cuts) == v.h['queue.count'] and cuts[v.me] + v.h['own.count'] == v.h['numbered']
-            and all(k <= v.all for k in noted))
+    # "Number 8 counts white actions as held": what the cuts count and the queue lacks is white.
+    return (all(c <= MOST_NUMBER for c in cuts) and sum(cuts) >= v.h['queue.count'] and cuts[v.me] + v.h['own.count'] == v.h['numbered']
+            and all(k <= MOST_LENGTH for k in noted))
 
 
 def ids_ok(v, ids):
@@ -99,7 +100,7 @@ def slots(v, section, count):
     for k in range(count):
         at = v.at(section, k)
         a = fields(v.data, ACTION, at)
-        if a['green'] > v.all or not filled(v, at + size(ACTION) - 1):
+        if a['green'] > MOST_LENGTH or a['white'] > MOST_LENGTH or not filled(v, at + size(ACTION) - 1):
             return None
         ids.append((a['creator'], a['index']))
     return ids
@@ -110,8 +111,9 @@ def lists_ok(v):
     own, queue = slots(v, 'own', v.h['own.count']), slots(v, 'queue', v.h['queue.count'])
     if not ids_ok(v, yellow) or own is None or queue is None:
         return False
-    cut = v.cut(v.me)
-    return own == [(v.me, cut + 1 + k) for k in range(len(own))] and ids_ok(v, queue) and all(i <= v.cut(c) for c, i in queue)
+    cut, unwhite = v.cut(v.me), [sum(c == k for c, _ in queue) for k in range(v.n)]
+    return (own == [(v.me, cut + 1 + k) for k in range(len(own))] and ids_ok(v, queue) and all(i <= v.cut(c) for c, i in queue)
+            and all(k <= v.q for k in unwhite) and unwhite[v.me] + len(own) <= v.q)
 
 
 def collected(v):

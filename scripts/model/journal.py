@@ -5,19 +5,19 @@
     7 event 0 returned 0 put 0 sent 0 bytes 002c.. source 0 0 position 3
                                                                     it delivers the first record of those sent by the entry 0, which has the
                                                                     position 3 in its configuration's one order
-    9 event 0 returned 0 put 0 sent 0 bytes 000301.. name 1         it brings the transitional configuration 1
+    9 event 0 returned 0 put 0 sent 0 bytes 000302.. name 1         it brings the transitional configuration 1
     12 crash 1 · 15 store 0
 
 A line begins with its entry's number, by which sources name it; lines may be taken out or repeated.
 """
 import re
 
-from .records import Record
+from .records import KINDS, Record, VERSION
 from .story import Entry, Story
 
 EVENT = re.compile(r'event (\d+) returned (\d+) put (\d+) sent (\d+) bytes ([0-9a-f]*)'
                    r'(?: source (\d+) (\d+) position (\d+))?(?: name (\d+))?')
-REGULAR = bytes([0, 7, 1, 5])
+REGULAR = bytes([0, 7, VERSION, KINDS.index('regular')])
 
 
 def entry(text, place, here):

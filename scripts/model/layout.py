@@ -4,6 +4,9 @@ FEWEST_SERVERS, MOST_SERVERS = 2, 8
 LEAST_QUOTA, MOST_QUOTA = 1, 256
 MOST_PAYLOAD = 48
 MOST_INDEX = 4_000_000_000
+# K6: indexes of actions and cuts; positions and lengths.
+MOST_NUMBER = 65_535
+MOST_LENGTH = MOST_SERVERS * MOST_NUMBER
 MOST_PEGS, MOST_NAME = 4096, 24
 
 # By their numbers.
@@ -13,7 +16,7 @@ MODES = ('Non_prim', 'Reg_prim', 'Trans_prim', 'Exchange_states', 'Exchange_acti
 LAST = (('last.index', 4), ('last.attempt', 4), ('last.set', 1))
 MARK = (('mark.status', 1), ('mark.index', 4), ('mark.attempt', 4), ('mark.set', 1), ('mark.bits', 1))
 ID = (('creator', 1), ('index', 2))
-ACTION = ID + (('green', 4), ('payload', 1))
+ACTION = ID + (('green', 4), ('white', 4), ('payload', 1))
 FRAME = (('length', 2), ('version', 1), ('kind', 1))
 STATE_FRONT = FRAME + (('sender', 1), ('id', 4))
 STATE_REST = (('green', 4), ('attempt', 4)) + LAST + MARK + (('yellow.status', 1), ('yellow.count', 2))
@@ -33,7 +36,7 @@ PEG = (('length', 1), ('name', MOST_NAME)) + PLACE
 OPERATION = (('operation', 1), ('length', 1))
 
 # Fields of the header whose value every image has; another value is 8.
-FIXED = {'layout': 10}
+FIXED = {'layout': 11}
 
 
 def size(fields):
@@ -79,6 +82,11 @@ def state_length(n, q):
 
 def out_length(n, q):
     return 2 * MOST_RETRANSMISSION * n * q
+
+
+def most_planned(n):
+    """How many retransmissions can be planned."""
+    return MOST_LENGTH + n * MOST_NUMBER
 
 
 REGISTER_LENGTH = size(PEG_COUNT) + size(PEG) * MOST_PEGS

@@ -1,9 +1,10 @@
-"""One server of document 01 with document 02's K1 and K4: its state, and what each event does ('What each event does', 'Install', 'Returned numbers' rows 0 to 6)."""
+"""One server of document 01 with document 02's K1, K4 and K6: its state, and what each event does ('What each event does', 'Install', 'Returned numbers' rows 0 to 6)."""
 import copy
 from dataclasses import dataclass, field
 
 from . import exchange
 from .exchange import CLEARED, has
+from .layout import MOST_NUMBER
 from .records import Context, Record, Refused, need, read
 
 
@@ -25,6 +26,7 @@ class Server:
     numbered: int = 0
     sent: int = 0                   # up to which index own actions were sent
     noted: list = None
+    white: int = 0                  # how many of the first green actions are white
     attempt: int = 0
     last: tuple = None
     mark: tuple = CLEARED
@@ -45,6 +47,13 @@ class Server:
     def collected(self):
         return [self.states[k] for k in sorted(self.states)]
 
+    def copied(self):
+        """Records are never changed, so that lists of them are copied alone."""
+        s = copy.copy(self)
+        for name in ('states', 'cpcs', 'green', 'red', 'cuts', 'own', 'noted'):
+            setattr(s, name, getattr(s, name).copy())
+        return s
+
 
 @dataclass
 class Outcome:
@@ -54,14 +63,38 @@ class Outcome:
     store: bool = False
 
 
+# ---- white actions (K6)
+
+def places(s):
+    """What has a place: all entered that is not white."""
+    return s.green[s.white:] + s.red
+
+
+def unwhite(s, creator):
+    return sum(a.creator == creator for a in places(s))
+
+
+def take_white(s, a):
+    """"takes that white length if it is higher than its own, but never above its own green length" """
+    s.white = max(s.white, min(len(s.green), a.white))
+
+
+def whiten(s):
+    """"An action green on every server, by the noted green lengths, becomes white" """
+    s.white = max(s.white, min(len(s.green), min(s.noted)))
+
+
 # ---- colours
 
 def enter_red(s, a):
-    """Whether it was entered."""
+    """Whether it was entered. One whose creator has q unwhite ones here is passed over."""
     if a.index != s.cuts[a.creator] + 1:
         return False
+    take_white(s, a)
+    if unwhite(s, a.creator) >= s.quota:
+        return False
     s.cuts[a.creator] += 1
-    s.red.append(Record('action', creator=a.creator, index=a.index, green=a.green, payload=a.payload))
+    s.red.append(Record('action', **a.action()))
     s.own = [x for x in s.own if x.name() != a.name()]
     return True
 
@@ -80,7 +113,7 @@ def enter_green(s, a):
 
 
 def enter_yellow(s, a):
-    if enter_red(s, a) and a.name() not in s.yellow[1]:
+    if enter_red(s, a) and a.name() not in s.yellow[1] and len(s.yellow[1]) < s.servers * s.quota:
         s.yellow = (s.yellow[0], s.yellow[1] + (a.name(),))
 
 
@@ -89,6 +122,10 @@ def note(s, k, length):
 
 
 # ---- requests
+
+def quota_left(s):
+    return unwhite(s, s.me) + len(s.own) < s.quota and s.numbered < MOST_NUMBER
+
 
 def sends_now(s):
     return s.mode == 'Reg_prim' or s.mode == 'Non_prim' and s.configuration is not None and s.transitional is None
@@ -111,15 +148,16 @@ def join(s, r):
 
 
 def own_part(s):
+    """Of what has a place; a white action is left out."""
     states, sent = s.collected(), []
     if exchange.green_resender(states) == s.me:
         low, high = exchange.greens(states)
-        sent += [(p, s.green[p - 1]) for p in range(low + 1, high + 1) if p <= len(s.green)]
+        sent += [(p, s.green[p - 1]) for p in range(low + 1, high + 1) if s.white < p <= len(s.green)]
     for c in range(s.servers):
         if exchange.red_resender(states, c) == s.me:
             low, high = exchange.cuts(states, c)
-            sent += [(0, a) for i in range(low + 1, high + 1) for a in s.green + s.red if a.name() == (c, i)]
-    return [Record('retransmission', sender=s.me, position=p, creator=a.creator, index=a.index, green=a.green, payload=a.payload) for p, a in sent]
+            sent += [(0, a) for i in range(low + 1, high + 1) for a in places(s) if a.name() == (c, i)]
+    return [Record('retransmission', sender=s.me, position=p, **a.action()) for p, a in sent]
 
 
 def end_exchange(s):
@@ -218,7 +256,7 @@ def on_transitional(s, r):
 
 def on_request(s, r):
     s.numbered += 1
-    s.own.append(Record('action', creator=s.me, index=s.numbered, green=len(s.green), payload=r.payload))
+    s.own.append(Record('action', creator=s.me, index=s.numbered, green=len(s.green), white=s.white, payload=r.payload))
     return send_waiting(s) if sends_now(s) else [], True
 
 
@@ -253,8 +291,12 @@ def possible(s, r):
     return r.kind != 'transitional' or s.transitional is None
 
 
+def ignored(s, r):
+    return s.mode == 'Non_prim' and r.kind in ('State', 'CPC')
+
+
 def from_member(s, r):
-    if r.kind not in ('action', 'retransmission', 'State', 'CPC') or s.mode == 'Non_prim' and r.kind in ('State', 'CPC'):
+    if r.kind not in ('action', 'retransmission', 'State', 'CPC') or ignored(s, r):
         return True
     sender = r.creator if r.kind == 'action' else r.sender
     if s.configuration is None or not has(s.configuration[1], sender):
@@ -266,14 +308,17 @@ def from_member(s, r):
 
 def step(state, data):
     """The outcome of an event; a refusal leaves the state. For a recovery the state is the stored one."""
-    s = copy.deepcopy(state)
+    s = state.copied()
     try:
         r = read(s.context(), data)
         need(possible(s, r), 5)
         need(from_member(s, r), 6)
         if r.kind == 'request':
-            need(s.numbered < s.quota, 3)
+            need(quota_left(s), 3)
     except Refused as refused:
         return Outcome(refused.number, state)
+    ignoring = ignored(s, r)
     sent, store = TAKEN[r.kind][1](s, r)
+    if not ignoring:
+        whiten(s)
     return Outcome(0, s, sent, store)

@@ -9,13 +9,13 @@ import re
 import zlib
 
 from . import records, words
-from .layout import FEWEST_SERVERS, LEAST_QUOTA, MOST_INDEX, MOST_PAYLOAD, MOST_QUOTA, MOST_SERVERS
+from .layout import FEWEST_SERVERS, LEAST_QUOTA, MOST_INDEX, MOST_LENGTH, MOST_NUMBER, MOST_PAYLOAD, MOST_QUOTA, MOST_SERVERS
 from .records import Context, Refused
 
 FIELDS = {'servers': 'servers', 'quota': 'quota', 'server': 'me', 'configured': 'configured', 'last': 'last'}
 FEW_BYTES = 72
 ROOM_FILL = 238
-LIMITS = (FEWEST_SERVERS, MOST_SERVERS, LEAST_QUOTA, MOST_QUOTA, MOST_PAYLOAD, MOST_INDEX)
+LIMITS = (FEWEST_SERVERS, MOST_SERVERS, LEAST_QUOTA, MOST_QUOTA, MOST_PAYLOAD, MOST_INDEX, MOST_NUMBER, MOST_LENGTH)
 
 
 def context_of(w):
@@ -38,9 +38,9 @@ def numbers(*values):
 def shown(r):
     """What the program prints of a record that was read."""
     if r.kind == 'action':
-        return 'action' + numbers(r.creator, r.index, r.green) + ' payload ' + r.payload.decode()
+        return 'action' + numbers(r.creator, r.index, r.green, r.white) + ' payload ' + r.payload.decode()
     if r.kind == 'retransmission':
-        return 'retransmission' + numbers(r.sender, r.position) + ' action' + numbers(r.creator, r.index, r.green) + ' payload ' + r.payload.decode()
+        return 'retransmission' + numbers(r.sender, r.position) + ' action' + numbers(r.creator, r.index, r.green, r.white) + ' payload ' + r.payload.decode()
     if r.kind == 'State':
         status, ids = r.yellow
         cuts = b''.join(records.big(c, records.CUT) for c in r.cuts).hex()

@@ -2,9 +2,9 @@
 from dataclasses import dataclass
 
 from . import layout
-from .layout import ACTION, CUT, FRAME, ID, LAST, MARK, MOST_INDEX, MOST_PAYLOAD, RETRANSMISSION_HEAD, STATE_FRONT, STATE_REST, size
+from .layout import ACTION, CUT, FRAME, ID, LAST, MARK, MOST_INDEX, MOST_LENGTH, MOST_NUMBER, MOST_PAYLOAD, RETRANSMISSION_HEAD, STATE_FRONT, STATE_REST, size
 
-VERSION = 1
+VERSION = 2
 KINDS = ('', 'action', 'retransmission', 'State', 'CPC', 'regular', 'transitional', 'request', 'recovery', 'setup')
 
 
@@ -26,6 +26,7 @@ class Record:
     creator: int = 0
     index: int = 0
     green: int = 0
+    white: int = 0
     payload: bytes = b''
     id: int = 0
     set: int = 0
@@ -37,6 +38,10 @@ class Record:
 
     def name(self):
         return (self.creator, self.index)
+
+    def action(self):
+        """What an action says, without who resends it and where."""
+        return {'creator': self.creator, 'index': self.index, 'green': self.green, 'white': self.white, 'payload': self.payload}
 
 
 class Refused(Exception):
@@ -66,7 +71,7 @@ def framed(kind, body, version=VERSION):
 
 
 def action_body(r):
-    return packed(ACTION, (r.creator, r.index, r.green, len(r.payload))) + r.payload
+    return packed(ACTION, (r.creator, r.index, r.green, r.white, len(r.payload))) + r.payload
 
 
 def body(r):
@@ -110,8 +115,8 @@ def read_payload(data, at):
 
 def read_action(kind, data, at):
     need(at + size(ACTION) <= len(data), 1)
-    creator, index, green, _ = unpacked(ACTION, data, at)
-    return Record(kind, creator=creator, index=index, green=green, payload=read_payload(data, at + size(ACTION) - 1))
+    creator, index, green, white, _ = unpacked(ACTION, data, at)
+    return Record(kind, creator=creator, index=index, green=green, white=white, payload=read_payload(data, at + size(ACTION) - 1))
 
 
 def read_state(n, data):
@@ -157,23 +162,23 @@ def state_ok(c, r):
         return p[0] <= MOST_INDEX and p[1] <= MOST_INDEX and set_ok(p[2])
 
     status, ids = r.yellow
-    return (r.sender < c.servers and all(k <= c.quota for k in r.cuts) and r.green <= c.servers * c.quota and r.attempt <= MOST_INDEX
+    return (r.sender < c.servers and all(k <= MOST_NUMBER for k in r.cuts) and r.green <= MOST_LENGTH and r.attempt <= MOST_INDEX
             and pair_ok(r.last) and r.mark[0] <= 1 and pair_ok(r.mark[1:]) and set_ok(r.mark[4]) and status <= 1
-            and all(id_ok(c, d) for d in ids) and len(set(ids)) == len(ids))
+            and len(ids) <= c.servers * c.quota and all(id_ok(c, d) for d in ids) and len(set(ids)) == len(ids))
 
 
 def id_ok(c, d):
-    return d[0] < c.servers and 1 <= d[1] <= c.quota
+    return d[0] < c.servers and 1 <= d[1] <= MOST_NUMBER
 
 
 def range_ok(c, r):
     if not layout.sizes_ok(c.servers, c.quota) or c.me >= c.servers:
         return False
-    action_ok = id_ok(c, r.name()) and r.green <= c.servers * c.quota and len(r.payload) <= MOST_PAYLOAD
+    action_ok = id_ok(c, r.name()) and r.green <= MOST_LENGTH and r.white <= MOST_LENGTH and len(r.payload) <= MOST_PAYLOAD
     here = r.set < 1 << c.servers and r.set >> c.me & 1 == 1
     return {
         'action': action_ok,
-        'retransmission': action_ok and r.sender < c.servers and r.position <= c.servers * c.quota,
+        'retransmission': action_ok and r.sender < c.servers and r.position <= MOST_LENGTH,
         'State': r.kind == 'State' and state_ok(c, r),
         'CPC': r.sender < c.servers,
         'regular': here,

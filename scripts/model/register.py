@@ -4,6 +4,7 @@ import struct
 from .layout import MOST_NAME, MOST_PEGS, REGISTER_LENGTH
 
 SET, MOVE, RETIRE = 1, 2, 3
+KINDS = {'set': SET, 'move': MOVE, 'retire': RETIRE}
 COUNT, SLOT, PLACE = struct.Struct('>H'), struct.Struct('>B%dsii' % MOST_NAME), struct.Struct('>ii')
 
 
@@ -49,6 +50,16 @@ def folded(pegs, payloads):
         else:
             pegs[name] = place
     return pegs, numbers, left
+
+
+def table(pegs):
+    """As `sheet` prints it (examples/c/sheet.c), of names that are printable."""
+    def metres(k):
+        return '%s%d.%03d' % ('-' * (k < 0), abs(k) // 1000, abs(k) % 1000)
+
+    shown = [('"%s"' % name.decode(), *map(metres, place)) for name, place in sorted(pegs.items())]
+    widest = max(map(len, ['name'] + [name for name, *_ in shown]))
+    return ['%-*s  %12s  %12s' % (widest, *row) for row in [('name', 'easting (m)', 'northing (m)')] + shown]
 
 
 def used(pegs):

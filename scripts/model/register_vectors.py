@@ -30,7 +30,6 @@ from .records import big
 
 ROOM, FILL, FEW_PEGS = REGISTER_LENGTH + 40, 238, 3
 START, APPLY, MANY, FIND, CHANGE, INSIDE, WITHIN, NEAREST = range(8)
-KINDS = {'set': register.SET, 'move': register.MOVE, 'retire': register.RETIRE}
 NUMBER_SIZE = 2
 FOUND = '%d found %d index %d at %d %d'
 
@@ -45,8 +44,7 @@ def payload_of(w):
     if kind == 'payload':
         data, w.left = bytes.fromhex(''.join(w.left)), []
         return data
-    name = text_of(w)
-    data = bytearray(register.payload(KINDS[kind], name, () if kind == 'retire' else (w.number(), w.number())))
+    data = bytearray(words.operation(w, kind, text_of(w)))
     while w.taken('but'):
         part, value = w.next(), w.number()
         if part == 'behind':

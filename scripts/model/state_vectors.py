@@ -6,7 +6,7 @@
     sweep # LABEL                             how many changes of one byte leave 0, give 7 and give 8
 
 NAME is a part of the image (layout.place). VALUE is a number, a state's name, a set, a text, `x` and bytes in hexadecimal, an action or id
-`0/1`, `0/1:2:"peg"` (green length, payload), a State `<State 0 ..>`, or `none`: all of a field's parts zero. LENGTHS are `state` and
+`0/1`, `0/1:2:"peg"`, `0/1:2:1:"peg"` (green length, white length where not 0, payload), a State `<State 0 ..>`, or `none`: all of a field's parts zero. LENGTHS are `state` and
 `out`, each followed by a number of bytes more than required (-1: one too few), or by `=` and the length, `header` being that of the header.
 
 A vector of the program is 00 servers quota me; 01 patches; 02 lengths patches; 03 length; a patch is a place (2), a count (1) and bytes.
@@ -48,8 +48,9 @@ class Table:
             front, *more = text.split(':')
             data = records.packed(ID, words.Words(front).pair())
             if more:
-                payload = words.Words(more[1]).text() if more[1:] else b''
-                data += records.packed(ACTION[len(ID):], (int(more[0]), len(payload))) + payload
+                lengths = [int(word) for word in more if word.isdecimal()] + [0]
+                payload = words.Words(more[-1]).text() if not more[-1].isdecimal() else b''
+                data += records.packed(ACTION[len(ID):], (*lengths[:2], len(payload))) + payload
                 data += bytes(layout.SLOT - len(data))
             return data
         return records.big(MODES.index(text) if text in MODES else int(text), width)

@@ -6,13 +6,18 @@
     1: request "A" sent 0            how many of the event's records are sent, if not all: a crash must follow
     crash 1 · 1: recover
     0: CPC 1 id 9 refused 6          an event that is refused says so
+    0 1: has green 6 white 2 pegs 3  what these servers then have; `red` too; pegs in the register of the green actions
+    alike 0 1 2                      these servers have the same green actions
+    let day                          the lines up to `end` come where `day 1..25` stands, for each of these numbers in turn, which is put for each @
+        0: request set "A@" @000 500
+    end
 
 From '//' on is a comment. Events that are refused 5 or 6 are strays. Whatever else a record's event says must come by `deliver`.
 """
 import re
 from dataclasses import dataclass, field
 
-from . import records, words
+from . import records, register, words
 from .machine import Server, step
 from .records import Record
 
@@ -42,6 +47,7 @@ class Story:
     servers: int
     quota: int
     entries: list = field(default_factory=list)
+    left: list = field(default_factory=list)    # the servers' states in the end
 
     def events(self):
         return [e for e in self.entries if e.data is not None]
@@ -60,7 +66,7 @@ class Story:
 class Teller:
     def __init__(self, n, q):
         self.story = Story(n, q)
-        self.memory = [Server(n, q, k) for k in range(n)]
+        self.memory = self.story.left = [Server(n, q, k) for k in range(n)]
         self.stored = list(self.memory)
         self.sendings = {}      # (configuration, sender): [(place, number, bytes)]
         self.had = {}           # (server, configuration, sender): how many of them
@@ -102,9 +108,24 @@ class Teller:
         told = self.sendings.setdefault((self.here(k), k), [])
         told += [(place, i, records.write(r)) for i, r in enumerate(outcome.sent[:count])]
 
+    def has(self, k, w):
+        s = self.memory[k]
+        counts = {'green': len(s.green), 'white': s.white, 'red': len(s.red), 'pegs': len(pegs(s))}
+        while w:
+            name, count = w.next(), w.number()
+            if counts[name] != count:
+                raise ValueError('server %d has %s %d' % (k, name, counts[name]))
+
+    def alike(self, first, *others):
+        if any(self.memory[k].green != self.memory[first].green for k in others):
+            raise ValueError('their green actions differ')
+
     def line(self, text):
         if text.startswith('crash'):
             self.story.entries.append(Entry(int(text.split()[1])))
+            return
+        if text.startswith('alike'):
+            self.alike(*map(int, text.split()[1:]))
             return
         servers, _, rest = text.partition(':')
         for k in (int(word) for word in servers.split()):
@@ -113,19 +134,42 @@ class Teller:
                 while rest_words:
                     self.deliver(k, rest_words.number())
                 continue
+            if rest_words.taken('has'):
+                self.has(k, rest_words)
+                continue
             plain, refused, sent = re.fullmatch(r'(.*?)(?: refused (\d))?(?: sent (\d+))?', rest.strip()).groups()
             w = words.Words('recovery' if plain == 'recover' else plain)
             data = words.event(w, self.story.servers, self.story.quota)
             self.event(k, data, int(refused or 0), None, None if sent is None else int(sent))
 
 
+def pegs(s):
+    return register.folded({}, [a.payload for a in s.green])[0]
+
+
+def written_out(text):
+    """(number, line) of each line, with the blocks in their places."""
+    found, blocks = [], {}
+    into = found
+    for number, line in enumerate(text.splitlines(), 1):
+        line = line.split('//')[0].strip()
+        word, _, rest = line.partition(' ')
+        if word == 'let':
+            into = blocks[rest] = []
+        elif word == 'end':
+            into = found
+        elif word in blocks:
+            first, _, last = rest.partition('..')
+            into += [(k, part.replace('@', str(i))) for i in range(int(first), int(last or first) + 1) for k, part in blocks[word]]
+        elif line:
+            into.append((number, line))
+    return found
+
+
 def told(text):
     """The story of a text."""
     teller = None
-    for number, line in enumerate(text.splitlines(), 1):
-        line = line.split('//')[0].strip()
-        if not line:
-            continue
+    for number, line in written_out(text):
         try:
             if teller is None:
                 n, q = re.fullmatch(r'servers (\d+) quota (\d+)', line).groups()

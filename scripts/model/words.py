@@ -1,16 +1,17 @@
 """Records, sets and texts in words, for stories and tables of vectors.
 
-    action 0/1 green 2 "peg"                    creator/index; green length 0 and no payload where they are not said
+    action 0/1 green 2 white 1 "peg"            creator/index; lengths 0 and no payload where they are not said
     retransmission 1 at 3 0/1 "peg"             sender and position, then as an action
     State 0 id 7 cuts 1,0 green 1 attempt 2 last 1/1 {0,1} mark 1/2 {0,1} bits {0} yellow valid 0/1,1/2
-    CPC 1 id 7 · regular 7 {0,1} · transitional {0} · request "peg" · recovery · bytes 00 02 01 08
+    CPC 1 id 7 · regular 7 {0,1} · transitional {0} · request "peg" · recovery · bytes 00 02 02 08
+    request set "A1" 1000 -2500 · request move "A1" 1000 -2000 · request retire "A1"        an operation of the register as the payload
 
 `unmarked` in the place of `mark` gives a mark's fields with status 0, `status` a status of any value behind `mark` or `yellow`. A payload of so
 many letters and digits is `letters:48`; `{0..7}` is a set; `all` among yellow ids is every id, by creator, then index.
 """
 import re
 
-from . import records
+from . import records, register
 from .layout import ACTION, CUT, FRAME, RETRANSMISSION_HEAD, STATE_FRONT, STATE_REST, size
 from .records import Record
 
@@ -77,7 +78,8 @@ def ids_of(word, n, q):
 def action(w, **more):
     creator, index = w.pair()
     green = w.number() if w.taken('green') else 0
-    return Record(creator=creator, index=index, green=green, payload=w.text() if w.has_text() else b'', **more)
+    white = w.number() if w.taken('white') else 0
+    return Record(creator=creator, index=index, green=green, white=white, payload=w.text() if w.has_text() else b'', **more)
 
 
 def state(w, n, q, last):
@@ -103,6 +105,16 @@ def state(w, n, q, last):
     return r
 
 
+def operation(w, kind, name):
+    return register.payload(register.KINDS[kind], name, () if kind == 'retire' else (w.number(), w.number()))
+
+
+def asked(w):
+    """A request's payload: text, an operation of the register, or nothing."""
+    kind = w.taken(*register.KINDS)
+    return operation(w, kind, w.text()) if kind else w.text() if w.has_text() else b''
+
+
 def record(w, n, q, last=0):
     """The record that words say."""
     kind = w.next()
@@ -121,7 +133,7 @@ def record(w, n, q, last=0):
     if kind == 'transitional':
         return Record(kind, set=w.set())
     if kind == 'request':
-        return Record(kind, payload=w.text() if w.has_text() else b'')
+        return Record(kind, payload=asked(w))
     if kind == 'recovery':
         return Record(kind)
     raise ValueError(kind + ' is no kind of record')

@@ -1,12 +1,13 @@
--- Laws of lists: a fact of every element, counts, runs of numbers, elements by place.
+-- Laws of lists: a fact of every element, counts, runs of numbers, elements by place, what is behind a place.
 use Prim.Native.Nat.{ℕ, zero, suc, _+_, _-_, _*_, _≤_, _<_}
-use mathlib.Core.Path.{_≡_, refl, ap}
+use mathlib.Core.Path.{_≡_, refl, sym, ap, _∙_}
 use mathlib.Core.Bool.{Bool, true, false}
 use mathlib.Core.List.{List, [], _∷_, _++_, map}
 use mathlib.Core.Option.{Option, none, some}
 use native.Mathlib.Omega.{arith}
 use native.Mathlib.Decide.{ℕ-discrete}
-use lib.ListN.{length, getD, set, replicate, length-append}
+use lib.ListN.{length, getD, set, drop, replicate, length-append}
+use lib.Seq.{drop-drop}
 use Rattle.base.specs.Tests.{pick}
 use Rattle.base.proofs.TestLaws.{not-both, and-holds, both-yes}
 use Rattle.base.specs.Lists.{Each, all, filter, atFront, present, gather, gatherAll, after, above, below, isThere, at, sum}
@@ -236,3 +237,13 @@ bounded-set (x ∷ xs) zero v b h k zero = k
 bounded-set (x ∷ xs) zero v b h k (suc c) = h (suc c)
 bounded-set (x ∷ xs) (suc i) v b h k zero = h 0
 bounded-set (x ∷ xs) (suc i) v b h k (suc c) = bounded-set xs i v b (λ j. h (suc j)) k c
+
+-- ---- what is behind a place
+
+module _ {A : Type 0} where
+  pub drop-more : (v w : ℕ) (xs : List A) → v ≤ w → drop (w - v) (drop v xs) ≡ drop w xs
+  drop-more v w xs h = let e : v + (w - v) ≡ w = omega arith in drop-drop (w - v) v xs ∙ ap (λ k. drop k xs) e
+
+  -- Lists that are the same behind a place are so behind a later one.
+  pub drop-same : (v w : ℕ) (xs ys : List A) → v ≤ w → drop v xs ≡ drop v ys → drop w xs ≡ drop w ys
+  drop-same v w xs ys h e = sym (drop-more v w xs h) ∙ ap (drop (w - v)) e ∙ drop-more v w ys h

@@ -11,13 +11,17 @@ use Rattle.base.proofs.TestLaws.{pick-either}
 use Rattle.base.specs.Bytes.{joined, over}
 use Rattle.replication.specs.Machine.Types.{Server, Outcome, refused, taken}
 use Rattle.replication.specs.Machine.Step.{step}
-use Rattle.image.specs.Image.{image}
 use Rattle.image.specs.Decode.{decoded, reads}
-use Rattle.image.specs.Outcome.{Result, refusal, resultOf, stepOn, stateNumber}
+use Rattle.image.specs.Outcome.{Result, refusal, imageAfter, resultOf, stepOn, stateNumber}
+use Rattle.image.specs.Holding.{blanked}
 use Rattle.image.proofs.ImageLaws.{image-reads}
 use Rattle.image.proofs.Refusals.{Ready, number-read, zero-read, zero-ready, step-read, step-by-number}
 use Rattle.image.proofs.Taken.{taken-ready}
 use Rattle.daemons.proofs.Keeping.{holds-long}
+
+-- What an outcome of the event e makes of the buffers.
+abbrev answer : (b e o : List ℕ) → Outcome (List ℕ) → Result
+answer b e o x = resultOf (imageAfter (decoded b) e) x b o
 
 ready-zero : (s : Server) (b o : List ℕ) → Ready s b o → stateNumber b o ≡ 0
 ready-zero s b o r =
@@ -26,10 +30,10 @@ ready-zero s b o r =
     (subst (λ (x : List ℕ). reads x ≡ true) (h .written) (image-reads s b (h .formed) (h .long)))
 
 module _ (b e o : List ℕ) (z : stateNumber b o ≡ 0) where
-  machine-step : stepOn b e o ≡ resultOf (step (decoded b) e) b o
+  machine-step : stepOn b e o ≡ answer b e o (step (decoded b) e)
   machine-step = step-read b e o (decoded b) (zero-read b o z .0) (zero-ready b o z .read)
 
-  by-outcome : (P : Result → Type 0) → ((x : Outcome (List ℕ)) → step (decoded b) e ≡ x → P (resultOf x b o)) → P (stepOn b e o)
+  by-outcome : (P : Result → Type 0) → ((x : Outcome (List ℕ)) → step (decoded b) e ≡ x → P (answer b e o x)) → P (stepOn b e o)
   by-outcome P h = subst P (sym machine-step) (h (step (decoded b) e) refl)
 
   -- The next step need not check them.
@@ -37,10 +41,10 @@ module _ (b e o : List ℕ) (z : stateNumber b o ≡ 0) where
   unfolding resultOf refusal
   step-kept = by-outcome (λ (r : Result). stateNumber (r .state) (r .out) ≡ 0) go
     where
-      go : (x : Outcome (List ℕ)) → step (decoded b) e ≡ x → stateNumber (resultOf x b o .state) (resultOf x b o .out) ≡ 0
+      go : (x : Outcome (List ℕ)) → step (decoded b) e ≡ x → stateNumber (answer b e o x .state) (answer b e o x .out) ≡ 0
       go (refused k) h = z
       go (taken t rs w g) h =
-          ready-zero t (image t b) (over (joined rs) o) (taken-ready (decoded b) e t rs w g h b o (zero-ready b o z))
+          ready-zero (blanked t) (imageAfter (decoded b) e t b) (over (joined rs) o) (taken-ready (decoded b) e t rs w g h b o (zero-ready b o z))
 
 -- ---- over any buffers
 
@@ -50,7 +54,7 @@ over-none [] o h = refl
 over-none (b ∷ y) o h = absurd (omega arith)
 
 module _ (b e o : List ℕ) where
-  by-number : (P : Result → Type 0) → ((x : Outcome (List ℕ)) → P (resultOf x b o)) → ((k : ℕ) → P (refusal k b o)) → P (stepOn b e o)
+  by-number : (P : Result → Type 0) → ((x : Outcome (List ℕ)) → P (answer b e o x)) → ((k : ℕ) → P (refusal k b o)) → P (stepOn b e o)
   by-number P f g = subst P (sym (step-by-number b e o)) (pick-either P (stateNumber b o =? 0) _ _ (f (step (decoded b) e)) (g (stateNumber b o)))
 
   -- All as before.
@@ -58,7 +62,7 @@ module _ (b e o : List ℕ) where
   unfolding resultOf refusal
   step-left = by-number (λ (r : Result). (r .number ≡ 0 → ⊥) → r ≡ refusal (r .number) b o) go (λ k n. refl)
     where
-      go : (x : Outcome (List ℕ)) → (resultOf x b o .number ≡ 0 → ⊥) → resultOf x b o ≡ refusal (resultOf x b o .number) b o
+      go : (x : Outcome (List ℕ)) → (answer b e o x .number ≡ 0 → ⊥) → answer b e o x ≡ refusal (answer b e o x .number) b o
       go (refused k) n = refl
       go (taken t rs w g) n = absurd (n refl)
 
@@ -71,6 +75,6 @@ module _ (b e o : List ℕ) where
   unfolding resultOf refusal
   step-unsent = by-number (λ (r : Result). r .sent ≡ 0 → r .out ≡ o) go (λ k n. refl)
     where
-      go : (x : Outcome (List ℕ)) → resultOf x b o .sent ≡ 0 → resultOf x b o .out ≡ o
+      go : (x : Outcome (List ℕ)) → answer b e o x .sent ≡ 0 → answer b e o x .out ≡ o
       go (refused k) n = refl
       go (taken t rs w g) n = over-none (joined rs) o n

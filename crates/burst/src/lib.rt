@@ -103,7 +103,8 @@ pub fn bursts_follow()
     ensures { λ _. ⌜ BurstsFollow ⌝ }
 {}
 
-// So in every allowed run the green lists and the primaries read from their buffers agree, and what they send is what the run says.
+// So in every allowed run the green lists, white part included, and the primaries read from their buffers agree, and what they send is what the run
+// says.
 pub fn bursts_agree()
     ensures { λ _. ⌜ BurstsAgree ⌝ }
 {}

@@ -1,43 +1,44 @@
 -- Demand 3 on buffers, from demand 3 on the machine's states.
-use Prim.Native.Nat.{ℕ, _<_}
-use mathlib.Core.Path.{_≡_, refl, sym, ap, subst, subst₂, _∙_}
+use Prim.Native.Nat.{ℕ, suc, _≤_, _<_}
+use mathlib.Core.Path.{_≡_, refl, sym, ap, subst, _∙_}
 use mathlib.Core.Bool.{Bool, true, false}
 use mathlib.Core.List.{List}
 use mathlib.Core.Option.{some}
+use native.Mathlib.Omega.{arith}
 use lib.ListN.{length, take}
 use Rattle.base.specs.Tests.{pick}
 use Rattle.base.proofs.TestLaws.{not-both}
 use Rattle.base.specs.Bytes.{joined}
 use Rattle.base.specs.Lists.{at, Begins}
-use Rattle.format.specs.Types.{Action}
+use Rattle.base.proofs.Prefixes.{begins-length}
 use Rattle.replication.specs.Machine.Types.{Server}
 use Rattle.replication.specs.Images.{Images, arrive}
 use Rattle.replication.specs.Runs.Run.{event, Run, worldAt, putOut, sentAt}
 use Rattle.replication.specs.Runs.Strays.{AllowedWithStraysUp}
-use Rattle.replication.specs.Runs.Claim.{ListsAgree, storedGreen, memoryGreen, greenAt, IsPrimary, Agreement, Consequences, Demand3, Corollaries}
+use Rattle.replication.specs.Runs.Claim.{storedGreen, memoryGreen, greenAt, IsPrimary, Agreement, Consequences, Demand3, Corollaries}
+use Rattle.replication.specs.Runs.Whites.{WhiteWasStored}
 use Rattle.replication.proofs.Agreement.Greens.Demand.{demand3, corollaries}
 use Rattle.replication.proofs.Agreement.Greens.KeptWhileUp.{kept-while-up}
+use Rattle.replication.proofs.Agreement.Greens.Resending.{white-was-stored}
+use Rattle.replication.proofs.Runs.ControlPart.{store-below}
 use Rattle.replication.proofs.Runs.Places.{put-out-at, sent-at}
-use Rattle.image.specs.Decode.{greensIn}
+use Rattle.image.specs.Decode.{whiteIn}
 use Rattle.image.specs.Outcome.{Result}
-use Rattle.image.specs.Holding.{Holds}
+use Rattle.image.specs.Holding.{Holds, blanked}
 use Rattle.image.proofs.InPlace.{holds-decoded}
 use Rattle.daemons.specs.Buffers.{stepIn}
 use Rattle.daemons.specs.Sending.{cutRecords}
 use Rattle.daemons.specs.Daemons.{Daemons, Lending, LongEnough, daemonsAt}
-use Rattle.daemons.specs.Claim.{primaryIn, shown, HeldBy, running, stored, BuffersFollow, BuffersAgree, BuffersDemand}
+use Rattle.daemons.specs.Claim.{primaryIn, HistoryIn, shown, HeldBy, running, stored, BuffersFollow, BuffersAgree, BuffersDemand}
 use Rattle.daemons.proofs.Keeping.{holds-read}
 use Rattle.daemons.proofs.Arriving.{Arrives, answered, arrives}
 use Rattle.daemons.proofs.Entries.{Kept}
+use Rattle.daemons.proofs.Histories.{history-held, shown-agree}
 use Rattle.daemons.proofs.Runs.{out-room, event-keeps, kept-at}
 
-green-held : (s : Server) (b : List ℕ) → Holds s b → s .log .green ≡ greensIn b
-unfolding greensIn
-green-held s b h = ap (λ (t : Server). t .log .green) (sym (holds-decoded s b h))
-
-primary-held : (s : Server) (b : List ℕ) → Holds s b → s .votes .last ≡ primaryIn b
-unfolding primaryIn
-primary-held s b h = ap (λ (t : Server). t .votes .last) (sym (holds-decoded s b h))
+primary-held : (s : Server) (b : List ℕ) → Holds (blanked s) b → s .votes .last ≡ primaryIn b
+unfolding primaryIn blanked
+primary-held s b h = ap (λ (t : Server). t .votes .last) (sym (holds-decoded (blanked s) b h))
 
 module _ {n q : ℕ} {l : Run} (S : AllowedWithStraysUp n q l) (x : Lending) (long : LongEnough n q l x) where
   abbrev daemons : ℕ → Daemons
@@ -49,10 +50,10 @@ module _ {n q : ℕ} {l : Run} (S : AllowedWithStraysUp n q l) (x : Lending) (lo
   at-server : (p i : ℕ) → i < n → Kept (length (x .first i .state)) (worldAt n q l p) (daemons p) i
   at-server p i b = kept-at S x long p i b
 
-  state-holds : (p i : ℕ) → i < n → daemons p .down i ≡ false → Holds (images p i .memory) (daemons p .buffers i .state)
+  state-holds : (p i : ℕ) → i < n → daemons p .down i ≡ false → Holds (blanked (images p i .memory)) (daemons p .buffers i .state)
   state-holds p i b d = let k = at-server p i b in k .keeps .memory (sym (k .down) ∙ d)
 
-  store-holds : (p i : ℕ) → i < n → Holds (images p i .store) (daemons p .buffers i .store)
+  store-holds : (p i : ℕ) → i < n → Holds (blanked (images p i .store)) (daemons p .buffers i .store)
   store-holds p i b = at-server p i b .keeps .store
 
   -- ---- the daemons do what the machine does
@@ -95,22 +96,22 @@ module _ {n q : ℕ} {l : Run} (S : AllowedWithStraysUp n q l) (x : Lending) (lo
   unfolding Corollaries
   follow = corollaries n q l (S .allowed)
 
-  stored-green : (p i : ℕ) → i < n → storedGreen n q l p i ≡ greensIn (daemons p .buffers i .store)
+  stored-held : (p i : ℕ) → i < n → HistoryIn (daemons p .buffers i .store) (storedGreen n q l p i)
   unfolding storedGreen
-  stored-green p i b = green-held _ _ (store-holds p i b)
+  stored-held p i b = history-held _ _ (store-holds p i b) (at-server p i b .keeps .formed-store)
 
-  memory-green : (p i : ℕ) → i < n → daemons p .down i ≡ false → memoryGreen n q l p i ≡ greensIn (daemons p .buffers i .state)
+  running-held : (p i : ℕ) → i < n → daemons p .down i ≡ false → HistoryIn (daemons p .buffers i .state) (memoryGreen n q l p i)
   unfolding memoryGreen
-  memory-green p i b d = green-held _ _ (state-holds p i b d)
+  running-held p i b d = history-held _ _ (state-holds p i b d) (at-server p i b .keeps .formed)
 
-  shown-green : (p i : ℕ) → i < n → greenAt n q l p i ≡ greensIn (shown (daemons p) i)
+  shown-held : (p i : ℕ) → i < n → HistoryIn (shown (daemons p) i) (greenAt n q l p i)
   unfolding greenAt shown pick
-  shown-green p i b = go (worldAt n q l p .down i) (daemons p .down i) refl (at-server p i b .down)
+  shown-held p i b = go (worldAt n q l p .down i) (daemons p .down i) refl (at-server p i b .down)
     where
       go : (u v : Bool) → daemons p .down i ≡ v → v ≡ u
-          → pick u (storedGreen n q l p i) (memoryGreen n q l p i) ≡ greensIn (pick v (daemons p .buffers i .store) (daemons p .buffers i .state))
-      go true true d h = stored-green p i b
-      go false false d h = memory-green p i b d
+          → HistoryIn (pick v (daemons p .buffers i .store) (daemons p .buffers i .state)) (pick u (storedGreen n q l p i) (memoryGreen n q l p i))
+      go true true d h = stored-held p i b
+      go false false d h = running-held p i b d
       go true false d h = not-both h
       go false true d h = not-both (sym h)
 
@@ -119,22 +120,38 @@ module _ {n q : ℕ} {l : Run} (S : AllowedWithStraysUp n q l) (x : Lending) (lo
       subst (IsPrimary n q l) (primary-held _ _ (state-holds p i h d)) (follow .known p i h .0)
   held-primary p i b h stored = subst (IsPrimary n q l) (primary-held _ _ (store-holds p i h)) (follow .known p i h .1)
 
+  -- ---- what is white was read
+
+  white-held : (p i : ℕ) → i < n → daemons p .down i ≡ false → whiteIn (daemons p .buffers i .state) ≡ images p i .memory .white
+  unfolding whiteIn blanked
+  white-held p i b d = ap (λ (t : Server). t .white) (holds-decoded _ _ (state-holds p i b d))
+
+  white-before-it : (p i j : ℕ) → i < n → j < n → daemons (suc p) .down i ≡ false
+      → whiteIn (daemons (suc p) .buffers i .state) ≤ length (storedGreen n q l p j)
+  unfolding WhiteWasStored
+  white-before-it p i j h k d = omega (arith, white-held (suc p) i h d, white-was-stored n q l (S .allowed) p i j k)
+
+  stored-begins : (p i : ℕ) → Begins (storedGreen n q l p i) (memoryGreen n q l p i)
+  unfolding storedGreen memoryGreen
+  stored-begins p i = store-below n q l i p .greens
+
   pub buffers-agree : BuffersAgree n q l x
   buffers-agree = record {
-    green = λ p i j h k. subst₂ (λ u v. ListsAgree u v) (shown-green p i h) (shown-green p j k) (agree .green p i j h k);
+    history = shown-held;
+    stored-history = stored-held;
+    running-history = running-held;
+    green = agree .green;
+    shown-green = λ p i j w h k u v a b. shown-agree _ _ _ _ w (shown-held p i h) (shown-held p j k) u v a b (agree .green p i j h k);
+    stored-first = stored-begins;
+    white-stored = λ p i j h k d. omega (arith, white-before-it p i j h k d, stored-held p j k .size);
+    white-read = λ p i h u d. omega (arith, white-before-it p i i h h d, begins-length _ _ (stored-begins p i), running-held p i h u .size);
     primary = λ p r i j b c h k u v. agree .primary _ _ (held-primary p i b h u) (held-primary r j c k v);
     known = held-primary;
-    stored = λ p r i j h k. subst₂ (λ u v. ListsAgree u v) (stored-green p i h) (stored-green r j k) (follow .stored p r i j h k);
-    later = λ p r i j o h k d.
-        subst₂ (λ u v. ListsAgree u v) (stored-green p i h) (memory-green r j k d)
-        (follow .later p r i j o h k (sym (at-server r j k .down) ∙ d));
-    kept = λ p r i o h. subst₂ (λ u v. Begins u v) (stored-green p i h) (stored-green r i h) (follow .kept p r i o h);
+    stored = follow .stored;
+    later = λ p r i j o h k d. follow .later p r i j o h k (sym (at-server r j k .down) ∙ d);
+    kept = follow .kept;
     while-up = λ p r i j k a o h m s e low.
-        let there = memory-green p i h (at-server p i h .down ∙ s .up) in
-        let shows = shown-green r j m in
-        ap (λ u. at u k) (sym shows)
-        ∙ kept-while-up .everywhere n q l (S .allowed) p r i j k a o h m s (ap (λ u. at u k) there ∙ e)
-        (subst (λ (u : List Action). k < length u) (sym shows) low);
+        kept-while-up .everywhere n q l (S .allowed) p r i j k a o h m s e (omega (arith, low, shown-held r j m .size));
   }
 
 pub buffers-demand : BuffersDemand

@@ -13,26 +13,25 @@ use Rattle.format.specs.Types.{Action, recovery}
 use Rattle.replication.specs.Laws.Order.{SameServer}
 use Rattle.replication.specs.Machine.Types.{Server, Outcome, refused, taken, contextOf}
 use Rattle.replication.specs.Machine.Step.{step}
+use Rattle.replication.specs.Machine.WellFormed.{wellFormed}
 use Rattle.replication.specs.Images.{Images, sourceOf, arrive, leftBy}
 use Rattle.replication.specs.Replay.{returned}
 use Rattle.replication.specs.Runs.Run.{recordsOf}
 use Rattle.replication.proofs.Runs.Readings.{answer-refused}
 use Rattle.replication.proofs.Runs.Refusals.{picked-true, picked-false, recovery-taken}
-use Rattle.replication.proofs.Step.Identity.{identity-kept}
-use Rattle.replication.proofs.Step.Inversion.{taken-by}
+use Rattle.replication.proofs.Step.Identity.{taken-identity}
 use Rattle.replication.proofs.Step.Lifts.{source-of}
-use Rattle.replication.proofs.Step.Moves.{moved}
+use Rattle.replication.proofs.WellFormed.Steps.{step-well-formed}
 use Rattle.image.specs.Layout.{stateLength, outLength}
-use Rattle.image.specs.Image.{image}
-use Rattle.image.specs.Outcome.{Result, refusal, word, resultOf}
-use Rattle.image.proofs.ImageLaws.{image-length}
-use Rattle.image.specs.Holding.{Holds}
-use Rattle.image.proofs.Taken.{taken-holds}
+use Rattle.image.specs.Outcome.{Result, refusal, word, imageAfter, resultOf}
+use Rattle.image.specs.Holding.{Holds, blanked}
+use Rattle.image.proofs.Taken.{after-length, after-holds}
 use Rattle.daemons.specs.Buffers.{Buffers, isRecovery, sourceIn, stepIn, keptAfter}
 use Rattle.daemons.specs.Sending.{cutRecords}
 use Rattle.daemons.proofs.RecoveryLaws.{recovery-says, recovery-read}
 use Rattle.daemons.proofs.BufferLaws.{source-stored, source-running, kept-state, kept-stored, kept-unstored}
 use Rattle.daemons.proofs.SendingLaws.{cut-short, put-out-cut}
+use Rattle.daemons.proofs.Blanked.{result-alike}
 use Rattle.daemons.proofs.Keeping.{KeepsWhere, Keeps, Sized, same-itself, formed-context, holds-step}
 
 -- The answer r to an event with the outcome o.
@@ -67,23 +66,30 @@ module _ (i : Images) (b : Buffers) (e : List ℕ) (k : KeepsWhere (isRecovery e
 
   -- ---- the state that the event comes to
 
-  pub source-holds : Holds s before
+  pub source-holds : Holds (blanked s) before
   unfolding sourceOf
   source-holds =
-      subst (λ (t : Bool). Holds (pick t (i .store) (i .memory)) before)
+      subst (λ (t : Bool). Holds (blanked (pick t (i .store) (i .memory))) before)
       (sym (recovery-read (contextOf (i .memory)) e (formed-context (i .memory) (k .formed))))
       (go (known (isRecovery e)))
     where
-      go : Known (isRecovery e) → Holds (pick (isRecovery e) (i .store) (i .memory)) before
+      go : Known (isRecovery e) → Holds (blanked (pick (isRecovery e) (i .store) (i .memory))) before
       go (holds h) =
-          subst (λ (t : Server). Holds t before) (sym (picked-true (isRecovery e) (i .store) (i .memory) h))
-          (subst (Holds (i .store)) (source-stored b e h) (k .store))
+          subst (λ (t : Server). Holds (blanked t) before) (sym (picked-true (isRecovery e) (i .store) (i .memory) h))
+          (subst (Holds (blanked (i .store))) (source-stored b e h) (k .store))
       go (fails h) =
-          subst (λ (t : Server). Holds t before) (sym (picked-false (isRecovery e) (i .store) (i .memory) h))
-          (subst (Holds (i .memory)) (source-running b e h) (k .memory h))
+          subst (λ (t : Server). Holds (blanked t) before) (sym (picked-false (isRecovery e) (i .store) (i .memory) h))
+          (subst (Holds (blanked (i .memory))) (source-running b e h) (k .memory h))
+
+  pub source-formed : wellFormed s ≡ true
+  source-formed = source-of (λ (t : Server). wellFormed t ≡ true) i e (k .formed-store) (k .formed)
 
   pub source-same : SameServer (i .memory) s
   source-same = source-of (SameServer (i .memory)) i e (k .same) (same-itself (i .memory))
+
+  source-long : stateLength (s .servers) (s .quota) ≤ length before
+  unfolding blanked
+  source-long = source-holds .long
 
   source-length : (m : ℕ) → Sized m b → length before ≡ m
   source-length m z = go (known (isRecovery e))
@@ -99,18 +105,19 @@ module _ (i : Images) (b : Buffers) (e : List ℕ) (k : KeepsWhere (isRecovery e
       go : Known (isRecovery e) → isRecovery e ≡ false
       go (holds r) =
           absurd
-          (recovery-taken s m (answer-refused s e recovery m h (recovery-says (contextOf s) e (formed-context s (source-holds .formed)) r)))
+          (recovery-taken s m (answer-refused s e recovery m h (recovery-says (contextOf s) e (formed-context s source-formed) r)))
       go (fails r) = r
 
   -- ---- the outcome
 
-  refused-arrives : (m : ℕ) (z : List ℕ) → step s e ≡ refused m → Arrives i (refused m) b (resultOf (refused m) before z)
+  refused-arrives : (m : ℕ) (z : List ℕ) → step s e ≡ refused m → Arrives i (refused m) b (resultOf (imageAfter s e) (refused m) before z)
   unfolding resultOf refusal leftBy returned recordsOf joined
   refused-arrives m z h = record {
     kept = record {
       formed = k .formed;
-      memory = λ u. subst (Holds (i .memory)) state (k .memory running);
-      store = subst (Holds (i .store)) store (k .store);
+      formed-store = k .formed-store;
+      memory = λ u. subst (Holds (blanked (i .memory))) state (k .memory running);
+      store = subst (Holds (blanked (i .store))) store (k .store);
       same = k .same;
     };
     same = same-itself (i .memory);
@@ -130,14 +137,20 @@ module _ (i : Images) (b : Buffers) (e : List ℕ) (k : KeepsWhere (isRecovery e
       store = kept-unstored b (refusal m before z) (λ q. absurd (omega arith))
 
   taken-arrives : (t : Server) (rs : List (List ℕ)) (w : Bool) (g : List Action) (z : List ℕ) → step s e ≡ taken t rs w g
-      → Arrives i (taken t rs w g) b (resultOf (taken t rs w g) before z)
+      → Arrives i (taken t rs w g) b (resultOf (imageAfter s e) (taken t rs w g) before z)
   unfolding resultOf leftBy returned recordsOf over
   taken-arrives t rs w g z h = record {
-    kept = record { formed = here .formed; memory = λ u. subst (Holds t) state here; store = stored; same = same-stored };
+    kept = record {
+      formed = ok;
+      formed-store = pick-either (λ (u : Server). wellFormed u ≡ true) w t (i .store) ok (k .formed-store);
+      memory = λ u. subst (Holds (blanked t)) state here;
+      store = stored;
+      same = same-stored;
+    };
     same = same-memory;
     number = refl;
     bytes = front;
-    records = ap cutRecords front ∙ put-out-cut s e t rs w g (source-holds .formed) h;
+    records = ap cutRecords front ∙ put-out-cut s e t rs w g source-formed h;
     lengths = λ m y. record {
       state = ap length (sym state) ∙ size m y;
       store = word-stored (λ x. length x ≡ m) b r w refl (λ q. size m y) (λ q. y .store);
@@ -145,37 +158,37 @@ module _ (i : Images) (b : Buffers) (e : List ℕ) (k : KeepsWhere (isRecovery e
   }
     where
       r : Result
-      r = resultOf (taken t rs w g) before z
+      r = resultOf (imageAfter s e) (taken t rs w g) before z
 
       front : take (r .sent) (r .out) ≡ joined rs
       front = take-at (joined rs) (drop (length (joined rs)) z) (length (joined rs)) refl
 
-      here : Holds t (image t before)
-      here = taken-holds s e t rs w g h before source-holds
+      ok : wellFormed t ≡ true
+      ok = step-well-formed s e t rs w g source-formed h
 
-      state : image t before ≡ keptAfter b r .state
+      left : List ℕ
+      left = imageAfter s e t before
+
+      here : Holds (blanked t) left
+      here = after-holds s e t rs w g h source-formed before source-long
+
+      state : left ≡ keptAfter b r .state
       state = kept-state b r
 
-      same : SameServer s t
-      same = identity-kept s (moved (taken-by s e t rs w g h) .0)
-
       same-memory : SameServer (i .memory) t
-      same-memory = same-then (i .memory) s t source-same same
+      same-memory = same-then (i .memory) s t source-same (taken-identity s e t rs w g h)
 
-      room : stateLength (t .servers) (t .quota) ≤ length before
-      room = subst (λ (m : ℕ). m ≤ length before) (λ j. stateLength (sym (same .servers) j) (sym (same .quota) j)) (source-holds .long)
-
-      size : (m : ℕ) → Sized m b → length (image t before) ≡ m
-      size m y = image-length t before (here .formed) room ∙ source-length m y
+      size : (m : ℕ) → Sized m b → length left ≡ m
+      size m y = after-length s e t rs w g h source-formed before source-long ∙ source-length m y
 
       same-stored : SameServer t (pick w t (i .store))
       same-stored = pick-either (SameServer t) w t (i .store) (same-itself t) (same-twice (i .memory) t (i .store) same-memory (k .same))
 
-      stored : Holds (pick w t (i .store)) (keptAfter b r .store)
+      stored : Holds (blanked (pick w t (i .store))) (keptAfter b r .store)
       stored =
-          word-stored (Holds (pick w t (i .store))) b r w refl
-          (λ q. subst (λ (x : Server). Holds x (image t before)) (sym (picked-true w t (i .store) q)) here)
-          (λ q. subst (λ (x : Server). Holds x (b .store)) (sym (picked-false w t (i .store) q)) (k .store))
+          word-stored (Holds (blanked (pick w t (i .store)))) b r w refl
+          (λ q. subst (λ (x : Server). Holds (blanked x) left) (sym (picked-true w t (i .store) q)) here)
+          (λ q. subst (λ (x : Server). Holds (blanked x) (b .store)) (sym (picked-false w t (i .store) q)) (k .store))
 
   -- ---- the answer
 
@@ -183,14 +196,14 @@ module _ (i : Images) (b : Buffers) (e : List ℕ) (k : KeepsWhere (isRecovery e
     pub room-here : outLength (s .servers) (s .quota) ≤ length o
     room-here = subst (λ (m : ℕ). m ≤ length o) (λ j. outLength (sym (source-same .servers) j) (sym (source-same .quota) j)) room
 
-    pub answered : stepIn b e o ≡ resultOf (arrive i e) (sourceIn b e) o
-    unfolding arrive stepIn
-    answered = holds-step s before source-holds e o room-here
+    pub answered : stepIn b e o ≡ resultOf (imageAfter (sourceOf i e) e) (arrive i e) (sourceIn b e) o
+    unfolding arrive stepIn blanked
+    answered = holds-step (blanked s) before source-holds e o room-here ∙ result-alike s source-formed e before o
 
     pub arrives : Arrives i (arrive i e) b (stepIn b e o)
     unfolding arrive
     arrives = subst (λ (r : Result). Arrives i (step s e) b r) (sym answered) (go (step s e) refl)
       where
-        go : (x : Outcome (List ℕ)) → step s e ≡ x → Arrives i x b (resultOf x before o)
+        go : (x : Outcome (List ℕ)) → step s e ≡ x → Arrives i x b (resultOf (imageAfter s e) x before o)
         go (refused m) h = refused-arrives m o h
         go (taken t rs w g) h = taken-arrives t rs w g o h

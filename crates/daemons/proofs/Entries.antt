@@ -68,7 +68,13 @@ module _ (z : ℕ) (u : Bool) (i : Images) (v : Bool) (b : Buffers) (k : KeptAs 
   crash-kept : (c : List ℕ) → length c ≡ z → KeptAs z true i true (record { state = c; store = b .store })
   crash-kept c h = record {
     down = refl;
-    keeps = record { formed = k .keeps .formed; memory = λ f. not-both (sym f); store = k .keeps .store; same = k .keeps .same };
+    keeps = record {
+      formed = k .keeps .formed;
+      formed-store = k .keeps .formed-store;
+      memory = λ f. not-both (sym f);
+      store = k .keeps .store;
+      same = k .keeps .same;
+    };
     sized = record { state = h; store = k .sized .store };
   }
 

@@ -17,25 +17,29 @@ use Rattle.replication.specs.Images.{Images, started, savedIn}
 use Rattle.replication.proofs.WellFormed.Runs.{start-well-formed}
 use Rattle.image.specs.Layout.{stateLength, outLength}
 use Rattle.image.specs.Decode.{readImage}
-use Rattle.image.specs.Outcome.{stateShort, outShort, tooShort, resultOf, stepOn, startOn}
-use Rattle.image.proofs.ImageLaws.{image-length, image-again, read-image}
-use Rattle.image.specs.Holding.{Holds}
+use Rattle.image.specs.Outcome.{stateShort, outShort, tooShort, imageAfter, resultOf, stepOn, startOn}
+use Rattle.image.proofs.ImageLaws.{image-length, read-image}
+use Rattle.image.specs.Holding.{Holds, blanked}
+use Rattle.image.proofs.Blanks.{blank-same}
+use Rattle.image.proofs.Taken.{image-held}
 use Rattle.image.proofs.Refusals.{step-read, holds-long as state-long, holds-out-long}
 use Rattle.daemons.specs.Buffers.{Buffers, Lent, begun, saved}
 use Rattle.daemons.proofs.BufferLaws.{start-left, saved-state, saved-store}
 
--- The stored image is the stored state's; where U, the state's buffer holds the state in memory.
+-- The stored image is the stored state's, white actions blank; where U, the state's buffer holds the state in memory likewise.
 pub record KeepsWhere (U : Type 0) (i : Images) (b : Buffers) : Type 0 where
   pub formed : wellFormed (i .memory) ≡ true
-  pub memory : U → Holds (i .memory) (b .state)
-  pub store : Holds (i .store) (b .store)
+  pub formed-store : wellFormed (i .store) ≡ true
+  pub memory : U → Holds (blanked (i .memory)) (b .state)
+  pub store : Holds (blanked (i .store)) (b .store)
   pub same : SameServer (i .memory) (i .store)
 
 abbrev pub Keeps : Images → Buffers → Type 0
 Keeps i b = KeepsWhere (Unit {0}) i b
 
 pub keeps-where : {U W : Type 0} {i : Images} {b : Buffers} → (W → U) → KeepsWhere U i b → KeepsWhere W i b
-keeps-where f k = record { formed = k .formed; memory = λ v. k .memory (f v); store = k .store; same = k .same }
+keeps-where f k =
+    record { formed = k .formed; formed-store = k .formed-store; memory = λ v. k .memory (f v); store = k .store; same = k .same }
 
 pub same-itself : (s : Server) → SameServer s s
 same-itself s = record { servers = refl; quota = refl; me = refl }
@@ -53,26 +57,27 @@ formed-context s ok = and-holds _ _ (and-holds _ _ ok .0) .0
 
 module _ (s : Server) (b : List ℕ) (h : Holds s b) where
   pub holds-read : readImage b ≡ some s
-  holds-read = subst (λ (x : List ℕ). readImage x ≡ some s) (h .written) (read-image s b (h .formed) (h .long))
+  holds-read =
+      subst (λ (x : List ℕ). readImage x ≡ some s) (h .written)
+      (read-image s b (h .formed) (h .long) ∙ ap (λ (t : Server). some t) (blank-same s (h .blank)))
 
   -- Neither buffer is too short.
   pub holds-long : (o : List ℕ) → outLength (s .servers) (s .quota) ≤ length o → tooShort b o ≡ false
   unfolding tooShort
   holds-long o room = sym (or-no false (stateShort b) (outShort b o) (state-long s b h) (sym (holds-out-long s b h o room)))
 
-  pub holds-step : (e o : List ℕ) → outLength (s .servers) (s .quota) ≤ length o → stepOn b e o ≡ resultOf (step s e) b o
+  pub holds-step : (e o : List ℕ) → outLength (s .servers) (s .quota) ≤ length o → stepOn b e o ≡ resultOf (imageAfter s e) (step s e) b o
   holds-step e o room = step-read b e o s (holds-long o room) holds-read
 
 -- ---- the start
 
 module _ (n q i : ℕ) (sizes : sizesOk n q ≡ true) (own : i < n) where
   module _ (b : List ℕ) (long : stateLength n q ≤ length b) where
-    start-holds : Holds (start n q i) (startOn n q i b .state)
+    start-holds : Holds (blanked (start n q i)) (startOn n q i b .state)
     unfolding start
     start-holds =
-        let ok = start-well-formed n q i sizes own in
-        subst (Holds (start n q i)) (sym (start-left n q i b sizes long own))
-        (record { formed = ok; written = image-again (start n q i) b ok long; long = omega (arith, long, image-length (start n q i) b ok long) })
+        subst (Holds (blanked (start n q i))) (sym (start-left n q i b sizes long own))
+        (image-held (start n q i) b (start-well-formed n q i sizes own) long)
 
     start-length : length (startOn n q i b .state) ≡ length b
     unfolding start
@@ -89,8 +94,9 @@ module _ (n q i : ℕ) (sizes : sizesOk n q ≡ true) (own : i < n) where
     unfolding started begun
     begun-keeps = record {
       formed = start-well-formed n q i sizes own;
-      memory = λ u. subst (Holds (start n q i)) (saved-state made) (start-holds (b .state) long);
-      store = subst (Holds (start n q i)) (saved-store made) (start-holds (b .state) long);
+      formed-store = start-well-formed n q i sizes own;
+      memory = λ u. subst (Holds (blanked (start n q i))) (saved-state made) (start-holds (b .state) long);
+      store = subst (Holds (blanked (start n q i))) (saved-store made) (start-holds (b .state) long);
       same = same-itself (start n q i);
     }
 
@@ -106,8 +112,9 @@ module _ (n q i : ℕ) (sizes : sizesOk n q ≡ true) (own : i < n) where
 pub saved-keeps : (i : Images) (b : Buffers) → Keeps i b → Keeps (savedIn i) (saved b)
 saved-keeps i b k = record {
   formed = k .formed;
-  memory = λ u. subst (Holds (i .memory)) (saved-state b) (k .memory u);
-  store = subst (Holds (i .memory)) (saved-store b) (k .memory tt);
+  formed-store = k .formed;
+  memory = λ u. subst (Holds (blanked (i .memory))) (saved-state b) (k .memory u);
+  store = subst (Holds (blanked (i .memory))) (saved-store b) (k .memory tt);
   same = same-itself (i .memory);
 }
 

@@ -1,6 +1,8 @@
 pub mod RecoveryLaws
 pub mod BufferLaws
 pub mod Keeping
+pub mod Blanked
+pub mod Histories
 pub mod SendingLaws
 pub mod Arriving
 pub mod Entries

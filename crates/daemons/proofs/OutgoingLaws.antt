@@ -23,7 +23,7 @@ use Rattle.replication.proofs.Step.Table.{refused-some}
 use Rattle.replication.proofs.WellFormed.SentFacts.{PutOut}
 use Rattle.replication.proofs.WellFormed.Reads.{put-out-reads, step-put-out}
 use Rattle.image.specs.Decode.{decoded}
-use Rattle.image.specs.Outcome.{Result, refusal, resultOf, stepOn, stateNumber}
+use Rattle.image.specs.Outcome.{Result, refusal, imageAfter, resultOf, stepOn, stateNumber}
 use Rattle.image.proofs.Refusals.{Ready, zero-ready, step-refused}
 use Rattle.image.proofs.Taken.{out-fits}
 use Rattle.daemons.specs.Outgoing.{StandFrom, Outgoing, OutgoingRecords}
@@ -47,7 +47,7 @@ stand-from s (r ∷ rs) at end old new n h o k f =
 
 module _ (s : Server) (b e o : List ℕ) (ready : Ready s b o) where
   put-out : (t : Server) (rs : List Record) (w : Bool) (g : List Action) → PutOut (s .servers) (s .quota) (s .me) rs
-      → step s e ≡ taken t (map write rs) w g → Outgoing b e o (resultOf (taken t (map write rs) w g) b o)
+      → step s e ≡ taken t (map write rs) w g → Outgoing b e o (resultOf (imageAfter s e) (taken t (map write rs) w g) b o)
   unfolding resultOf recordBytes over partAt
   put-out t rs w g p h =
       let ok : wellFormed s ≡ true = ready .image .formed in
@@ -70,12 +70,12 @@ module _ (s : Server) (b e o : List ℕ) (ready : Ready s b o) where
             (drop-append-seam y rest) (λ c q. put-out-reads s ok c q rs p);
       }
 
-  by-outcome : (x : Outcome (List ℕ)) → step s e ≡ x → resultOf x b o .number ≡ 0 → Outgoing b e o (resultOf x b o)
+  by-outcome : (x : Outcome (List ℕ)) → step s e ≡ x → resultOf (imageAfter s e) x b o .number ≡ 0 → Outgoing b e o (resultOf (imageAfter s e) x b o)
   unfolding resultOf refusal
   by-outcome (refused k) h z = absurd (omega (arith, refused-some s e k h))
   by-outcome (taken t bs w g) h z =
       let p = step-put-out s e t bs w g (ready .image .formed) h in
-      subst (λ (l : List (List ℕ)). Outgoing b e o (resultOf (taken t l w g) b o)) (sym (p .1))
+      subst (λ (l : List (List ℕ)). Outgoing b e o (resultOf (imageAfter s e) (taken t l w g) b o)) (sym (p .1))
       (put-out t (p .0) w g (p .2) (subst (λ (l : List (List ℕ)). step s e ≡ taken t l w g) (p .1) h))
 
 -- The number 0 is returned only where the buffers are ready and the event is taken.

@@ -16,8 +16,8 @@ use Rattle.replication.specs.Runs.Requests.{TakesRequest}
 use Rattle.replication.proofs.Step.Table.{refused-some, never-four}
 use Rattle.replication.proofs.Runs.RequestsHeld.{answers}
 use Rattle.image.specs.Decode.{decoded, reads}
-use Rattle.image.specs.Image.{image}
-use Rattle.image.specs.Outcome.{Result, refusal, word, tooShort, resultOf, stepOn, stateNumber}
+use Rattle.image.specs.Outcome.{Result, refusal, word, tooShort, imageAfter, resultOf, stepOn, stateNumber}
+use Rattle.image.specs.Holding.{blanked}
 use Rattle.image.proofs.Refusals.{Ready, zero-ready, step-refused}
 use Rattle.image.proofs.InPlace.{holds-decoded}
 use Rattle.image.proofs.Taken.{taken-holds}
@@ -34,7 +34,7 @@ own-number b o z = go (known (tooShort b o)) (known (reads b))
     go (fails h) (holds k) = omega (arith, rw (h, k) at z)
     go (fails h) (fails k) = omega (arith, rw (h, k) at z)
 
-four-refused : (s : Server) (b e o : List ℕ) (x : Outcome (List ℕ)) → step s e ≡ x → resultOf x b o .number ≡ 4 → ⊥
+four-refused : (s : Server) (b e o : List ℕ) (x : Outcome (List ℕ)) → step s e ≡ x → resultOf (imageAfter s e) x b o .number ≡ 4 → ⊥
 unfolding resultOf refusal
 four-refused s b e o (refused k) h z = never-four s e (h ∙ ap (λ j. refused j) z)
 four-refused s b e o (taken t rs w g) h z = omega arith
@@ -59,14 +59,17 @@ module _ (b e o p : List ℕ) (reads-as : read (contextOf (decoded b)) e ≡ say
   unfolding started arrive sourceOf isRecovery pick
   takes t rs w g h = record { reads = reads-as; takes = rw reads-as h }
 
-  answered : (x : Outcome (List ℕ)) → step (decoded b) e ≡ x → resultOf x b o .number ≡ 0
-      → (resultOf x b o .store ≡ 1) × List·Memᴰ (madeOf p (decoded b)) (decoded (resultOf x b o .state) .log .own)
-  unfolding resultOf refusal word started
+  answered : (x : Outcome (List ℕ)) → step (decoded b) e ≡ x → resultOf (imageAfter (decoded b) e) x b o .number ≡ 0
+      → (resultOf (imageAfter (decoded b) e) x b o .store ≡ 1)
+      × List·Memᴰ (madeOf p (decoded b)) (decoded (resultOf (imageAfter (decoded b) e) x b o .state) .log .own)
+  unfolding resultOf refusal word started blanked
   answered (refused k) h z = absurd (omega (arith, refused-some (decoded b) e k h))
   answered (taken t rs w g) h z =
-      let a = answers (takes t rs w g h) in (
+      let a = answers (takes t rs w g h) in
+      let left : List ℕ = imageAfter (decoded b) e t b in (
         ap word (a .stores),
-        subst (λ (s : Server). List·Memᴰ (madeOf p (decoded b)) (s .log .own)) (sym (holds-decoded t (image t b) (taken-holds (decoded b) e t rs w g h b (ready .image)))) (a .own .listed),
+        subst (λ (s : Server). List·Memᴰ (madeOf p (decoded b)) (s .log .own))
+            (sym (holds-decoded (blanked t) left (taken-holds (decoded b) e t rs w g h b (ready .image)))) (a .own .listed),
       )
 
 pub request-stored : RequestStored

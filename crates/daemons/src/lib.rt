@@ -5,7 +5,8 @@ ghost use Rattle.daemons.specs.Outgoing.{OutgoingRecords};
 ghost use Rattle.daemons.specs.Requests.{RequestAnswers};
 
 // Daemons that keep each server's state and stored image in buffers, as the C interface says: in every allowed run, at every moment, the buffers hold
-// the machine's states, the green lists and the primaries read from them agree, and the records put out are the machine's.
+// the machine's states, white actions blank, the green lists, white part included, and the primaries read from the buffers agree, and the records put
+// out are the machine's.
 pub fn buffers_agree()
     ensures { λ _. ⌜ BuffersDemand ⌝ }
 {}

@@ -25,6 +25,7 @@ use Rattle.replication.specs.Runs.Settling.{memberState, allStates, plannedHere
 use Rattle.replication.proofs.Runs.Order.{inRegularOf}
 use Rattle.replication.proofs.Runs.DeliveryLists.{within-regular-holds, within-regular-yes}
 use Rattle.replication.proofs.Runs.Shifts.{Shift, to-regular, to-transitional, to-nowhere, stays, shift}
+use Rattle.replication.proofs.Agreement.Whites.Room.{roomy}
 use Rattle.replication.proofs.Agreement.Settling.Places.{undisturbed-place, place-undisturbed}
 use Rattle.replication.proofs.Agreement.Settling.Settled.{settling}
 use Rattle.examples.proofs.Rows.{digit, pairsOf, hex, runOf}
@@ -131,12 +132,12 @@ module _ (m : Meeting) where
   unfolding isWithin
   within-yes k p h =
       let y = and-holds _ _ h in
-      place-undisturbed (m .allowed) (m .configuration) (m .reaches) k p (y .0) (within-regular-holds (m .configuration) _ (y .1))
+      place-undisturbed (roomy (m .allowed)) (m .configuration) (m .reaches) k p (y .0) (within-regular-holds (m .configuration) _ (y .1))
 
   pub within-no : (k p : ℕ) → isWithin k p ≡ false → Within k p → ⊥
   unfolding isWithin
   within-no k p h u =
-      let y = undisturbed-place (m .allowed) (m .configuration) (m .reaches) k p u in
+      let y = undisturbed-place (roomy (m .allowed)) (m .configuration) (m .reaches) k p u in
       not-both (sym h ∙ both-yes _ _ (u .member) (within-regular-yes (m .configuration) _ y))
 
   -- ---- all has come

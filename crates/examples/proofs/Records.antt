@@ -11,8 +11,12 @@ sent s k = record { sending = s; number = k }
 abbrev pub named : (creator index : ℕ) → Id
 named c i = record { creator = c; index = i }
 
+-- An action numbered with so many green, and with so many of them white; with none white.
+abbrev pub madeWith : (creator index greenLength whiteLength : ℕ) (payload : List ℕ) → Action
+madeWith c i g w p = record { id = named c i; greenLength = g; whiteLength = w; payload = p }
+
 abbrev pub made : (creator index greenLength : ℕ) (payload : List ℕ) → Action
-made c i g p = record { id = named c i; greenLength = g; payload = p }
+made c i g p = madeWith c i g 0 p
 
 abbrev pub primary : (index attempt set : ℕ) → Primary
 primary i a s = component i a s

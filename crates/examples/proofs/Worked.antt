@@ -21,11 +21,11 @@ input =
     ∷ (1 ∷ write (regular 1 2))
     ∷ (1 ∷ write (state (ownState (record { id = 1; set = 2 }) (start 2 1 1))))
     ∷ (1 ∷ write (request (ascii "A")))
-    ∷ (1 ∷ write (action (record { id = record { creator = 1; index = 1 }; greenLength = 0; payload = ascii "A" })))
+    ∷ (1 ∷ write (action (record { id = record { creator = 1; index = 1 }; greenLength = 0; whiteLength = 0; payload = ascii "A" })))
     ∷ (1 ∷ write (request (ascii "B")))
     ∷ [])
 
-pub worked-input : input ≡ hex "000501090200010100070105000000010201002a0103010000000100000000000000000000000000000000000000000300000000000000000000000000000100040107014101000b010101000100000000014101000401070142"
+pub worked-input : input ≡ hex "000502090200010100070205000000010201002a0203010000000100000000000000000000000000000000000000000300000000000000000000000000000100040207014101000f02010100010000000000000000014101000402070142"
 unfolding opened input digit pairsOf hex
 worked-input = refl
 

@@ -16,7 +16,7 @@ use Rattle.image.specs.Layout.{stateSize, theStates, offset}
 use Rattle.image.specs.Decode.{statesAt, decoded, decodedAs, serversIn, quotaIn}
 use Rattle.image.specs.Header.{headerOf, headerIn, senders}
 use Rattle.image.proofs.HeaderLaws.{header-loaded}
-use Rattle.image.proofs.ImageLaws.{decoded-image}
+use Rattle.image.proofs.InPlace.{holds-decoded}
 use Rattle.image.specs.Holding.{Holds}
 use Rattle.exchange.specs.Slots.{slotsOf, slotsIn, slotAt, stateIn, statesFrom, statesOf}
 
@@ -40,7 +40,7 @@ unfolding decoded decodedAs serversIn quotaIn headerIn headerOf
 states-there s b h =
     let e : headerOf s ≡ headerIn b = sym (header-loaded s b h) in
     (λ i. statesAt (e i .servers) (e i .quota) (e i .states) (e i .servers) 0 b (offset (e i .servers) (e i .quota) theStates))
-    ∙ ap (λ (t : Server). t .membership .states) (ap decoded (sym (h .written)) ∙ decoded-image s b (h .formed) (h .long))
+    ∙ ap (λ (t : Server). t .membership .states) (holds-decoded s b h)
 
 -- The code's States are the machine's.
 pub collected-slots : (s : Server) (b : List ℕ) → Holds s b → statesOf (slotsIn s) b ≡ collected s

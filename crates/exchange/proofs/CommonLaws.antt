@@ -20,7 +20,7 @@ use Rattle.format.specs.Write.{idsBytes}
 use Rattle.replication.proofs.WellFormed.Ids.{same-id-yes}
 use Rattle.replication.specs.Machine.Types.{noYellow}
 use Rattle.replication.specs.Machine.Exchange.{commonYellow, takenYellow}
-use Rattle.record.specs.declared.StateHead.{StateHead}
+use Rattle.record.specs.declared.events.StateHead.{StateHead}
 use Rattle.exchange.specs.declared.slots.Slots.{Slots}
 use Rattle.exchange.specs.Slots.{First, withHere, slotAt, stateIn, statesLeft, statesOf, headOf}
 use Rattle.exchange.specs.Passing.{Voters}

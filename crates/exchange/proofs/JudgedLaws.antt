@@ -16,7 +16,7 @@ use Rattle.format.specs.Types.{State, Primary, Mark as FormatMark}
 use Rattle.record.specs.Values.{primaryOf, markOf}
 use Rattle.record.specs.declared.LastPrimary.{LastPrimary}
 use Rattle.record.specs.declared.Mark.{Mark}
-use Rattle.record.specs.declared.StateHead.{StateHead}
+use Rattle.record.specs.declared.events.StateHead.{StateHead}
 use Rattle.replication.specs.Machine.Types.{clearedMark}
 use Rattle.replication.specs.Machine.Exchange.{ruleA, ruleB, ruleC, joinedBits, keptMark, judgedMark, markLeft, ownMark, linearVote, takenPrimary, takenAttempt, quorum}
 use Rattle.exchange.specs.declared.slots.Slots.{Slots}

@@ -5,7 +5,7 @@ use mathlib.Core.Bool.{Bool}
 use mathlib.Core.List.{List, _∷_, _++_, append-assoc, append-nil}
 use native.Mathlib.Omega.{arith}
 use lib.ListN.{length, getD, take, length-take}
-use Rattle.base.specs.Tests.{_=?_, _and_, pick}
+use Rattle.base.specs.Tests.{_=?_, pick}
 use Rattle.base.proofs.TestLaws.{pick-yes, pick-no, and-yes, eq-yes, eq-no, lt-yes, Known, known, holds, fails}
 use Rattle.base.specs.Bytes.{joined, numberAt}
 use Rattle.base.specs.Lists.{filter}

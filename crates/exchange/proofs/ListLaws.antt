@@ -11,7 +11,6 @@ use Rattle.format.specs.Limits.{mostIds}
 use Rattle.base.proofs.ListLaws.{each-there}
 use Rattle.base.specs.Sets.{inSet}
 use Rattle.format.proofs.Ranges.{StateRange}
-use Rattle.format.proofs.IdCount.{ids-count}
 use Rattle.replication.specs.Machine.Types.{Server, contextOf}
 use Rattle.image.specs.Layout.{stateSize}
 use Rattle.image.specs.Header.{senders}
@@ -32,7 +31,7 @@ module _ (s : Server) (b : List ℕ) (h : Holds s b) where
 
   few : (k : ℕ) → k < s .servers → inSet k (senders 0 (s .membership .states)) ≡ true → length (idsIn (slotsIn s) b k) ≤ s .servers * s .quota
   unfolding contextOf
-  few k l t = let y = in-slot k l t .yellow in ids-count (contextOf s) _ (y .ids) (y .differ)
+  few k l t = in-slot k l t .yellow .few
 
   most : s .servers * s .quota ≤ mostIds
   unfolding contextOf

@@ -15,7 +15,7 @@ use Rattle.format.specs.Types.{State, Mark as FormatMark}
 use Rattle.record.specs.Values.{primaryOf, markOf, stateOf}
 use Rattle.record.specs.declared.LastPrimary.{LastPrimary}
 use Rattle.record.specs.declared.Mark.{Mark}
-use Rattle.record.specs.declared.StateHead.{StateHead}
+use Rattle.record.specs.declared.events.StateHead.{StateHead}
 use Rattle.replication.specs.Machine.Types.{clearedMark}
 use Rattle.replication.specs.Machine.Exchange.{isMarked, sameAttempt, ruleA, ruleB, alike, joinBits, joinedBits}
 use Rattle.exchange.specs.declared.slots.Slots.{Slots}

@@ -12,7 +12,7 @@ use Rattle.format.specs.Types.{Id}
 use Rattle.format.specs.Places.{idSize}
 use Rattle.format.specs.Range.{sameId, hasId, idsDiffer}
 use Rattle.format.specs.Read.{idAt, idsAt}
-use Rattle.format.proofs.IdCount.{noId, differ-at}
+use Rattle.format.proofs.IdsDiffer.{noId, differ-at}
 use Rattle.format.proofs.Writing.{ids-number, ids-more}
 use Rattle.record.specs.Values.{idOf}
 use Rattle.replication.proofs.WellFormed.Ids.{same-id-yes, same-id-holds}

@@ -13,7 +13,7 @@ use Rattle.base.specs.Sets.{inSet}
 use Rattle.format.specs.Types.{State, Primary, firstPrimary}
 use Rattle.record.specs.Values.{primaryOf, lastOf, stateOf}
 use Rattle.record.specs.declared.LastPrimary.{LastPrimary}
-use Rattle.record.specs.declared.StateHead.{StateHead}
+use Rattle.record.specs.declared.events.StateHead.{StateHead}
 use Rattle.replication.specs.Machine.Plan.{highest}
 use Rattle.replication.specs.Machine.Exchange.{later, latest, takenPrimary, samePair, updatedGroup, takenAttempt}
 use Rattle.exchange.specs.declared.slots.Slots.{Slots}

@@ -15,7 +15,7 @@ use Rattle.format.specs.Types.{Id, State}
 use Rattle.format.specs.Read.{idAt, idsAt}
 use Rattle.format.proofs.Writing.{ids-number, ids-more}
 use Rattle.record.specs.Values.{stateOf}
-use Rattle.record.specs.declared.StateHead.{StateHead}
+use Rattle.record.specs.declared.events.StateHead.{StateHead}
 use Rattle.exchange.specs.declared.slots.Slots.{Slots}
 use Rattle.exchange.specs.Slots.{slotAt, statesLeft, headOf}
 use Rattle.exchange.specs.Table.{placeIn, soughtIn, isKept, raised, raisedAll, raisedLists, RaisedAt, RaisedBy, idsIn, ListInside, ListsInside}

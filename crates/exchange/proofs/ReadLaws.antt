@@ -11,7 +11,7 @@ use Rattle.format.specs.Types.{State}
 use Rattle.format.specs.Read.{stateAt}
 use Rattle.record.specs.Events.{headIn, stateFrom}
 use Rattle.record.specs.Values.{stateOf}
-use Rattle.record.specs.declared.StateHead.{StateHead}
+use Rattle.record.specs.declared.events.StateHead.{StateHead}
 use Rattle.record.proofs.PartLaws.{state-is}
 use Rattle.replication.specs.Machine.Plan.{cutIn, greenIn}
 use Rattle.exchange.specs.declared.slots.Slots.{Slots}

@@ -11,7 +11,7 @@ use Rattle.base.specs.Sets.{inSet}
 use Rattle.format.specs.Types.{State, Primary, Yellow}
 use Rattle.record.specs.Values.{primaryOf, stateOf}
 use Rattle.record.specs.declared.LastPrimary.{LastPrimary}
-use Rattle.record.specs.declared.StateHead.{StateHead}
+use Rattle.record.specs.declared.events.StateHead.{StateHead}
 use Rattle.replication.specs.Machine.Types.{noYellow}
 use Rattle.replication.specs.Machine.Exchange.{takenPrimary, samePair, updatedGroup, isValid, commonYellow, takenYellow}
 use Rattle.exchange.specs.declared.slots.Slots.{Slots}

@@ -10,7 +10,7 @@ use Rattle.format.specs.Limits.{mostServers}
 use Rattle.format.specs.Types.{State}
 use Rattle.format.specs.Read.{stateAt}
 use Rattle.record.specs.Events.{headIn}
-use Rattle.record.specs.declared.StateHead.{StateHead}
+use Rattle.record.specs.declared.events.StateHead.{StateHead}
 use Rattle.replication.specs.Machine.Types.{Server}
 use Rattle.image.specs.Layout.{stateSize, theStates, offset}
 use Rattle.image.specs.Header.{senders}

@@ -22,7 +22,7 @@ use octets::numbers::num16;
 use record::ActionHead;
 use record::Context;
 use record::State;
-use record::StateHead;
+use record::events::StateHead;
 use writer::parts::put_id;
 
 // Writes the id from `at` on as the id number `count` of the list.

@@ -14,7 +14,7 @@ use crate::slots::head;
 use crate::slots::place;
 use octets::numbers::num16;
 use record::State;
-use record::StateHead;
+use record::events::StateHead;
 use record::sets::has;
 
 // A number of a State: green length, attempt, or the cut of one creator.

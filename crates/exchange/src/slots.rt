@@ -8,7 +8,7 @@ ghost use Rattle.exchange.specs.Slots.{Space, First, slotsOf, slotAt, he
 use image::places::state_size;
 use image::places::states_at;
 use record::State;
-use record::StateHead;
+use record::events::StateHead;
 use record::parts::state_head;
 use record::sets::has;
 

@@ -22,7 +22,7 @@ use octets::numbers::wider;
 use record::ActionHead;
 use record::Context;
 use record::State;
-use record::StateHead;
+use record::events::StateHead;
 use record::lists::place_at;
 use record::parts::is_id;
 use record::sets::has;

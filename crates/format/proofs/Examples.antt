@@ -22,19 +22,19 @@ opened = 0
 abbrev server1 : Context
 server1 = record { servers = 2; quota = 1; self = 1; last = none }
 
-setup-bytes : writeSetup (record { servers = 2; quota = 1 }) ≡ 0 ∷ 5 ∷ 1 ∷ 9 ∷ 2 ∷ 0 ∷ 1 ∷ []
+setup-bytes : writeSetup (record { servers = 2; quota = 1 }) ≡ 0 ∷ 5 ∷ 2 ∷ 9 ∷ 2 ∷ 0 ∷ 1 ∷ []
 unfolding opened
 setup-bytes = refl
 
-setup-read : readSetup 4 16 (0 ∷ 5 ∷ 1 ∷ 9 ∷ 2 ∷ 0 ∷ 1 ∷ []) ≡ says (record { servers = 2; quota = 1 })
+setup-read : readSetup 4 16 (0 ∷ 5 ∷ 2 ∷ 9 ∷ 2 ∷ 0 ∷ 1 ∷ []) ≡ says (record { servers = 2; quota = 1 })
 unfolding opened
 setup-read = refl
 
-regular-bytes : write (regular 1 2) ≡ 0 ∷ 7 ∷ 1 ∷ 5 ∷ 0 ∷ 0 ∷ 0 ∷ 1 ∷ 2 ∷ []
+regular-bytes : write (regular 1 2) ≡ 0 ∷ 7 ∷ 2 ∷ 5 ∷ 0 ∷ 0 ∷ 0 ∷ 1 ∷ 2 ∷ []
 unfolding opened
 regular-bytes = refl
 
-regular-read : read server1 (0 ∷ 7 ∷ 1 ∷ 5 ∷ 0 ∷ 0 ∷ 0 ∷ 1 ∷ 2 ∷ []) ≡ says (regular 1 2)
+regular-read : read server1 (0 ∷ 7 ∷ 2 ∷ 5 ∷ 0 ∷ 0 ∷ 0 ∷ 1 ∷ 2 ∷ []) ≡ says (regular 1 2)
 unfolding opened
 regular-read = refl
 
@@ -56,7 +56,7 @@ first-state = record {
 -- length, version, kind, sender, configuration; cuts, green length, attempt; last primary; mark; yellow
 abbrev first-state-bytes : List ℕ
 first-state-bytes =
-    (0 ∷ 42 ∷ 1 ∷ 3 ∷ 1 ∷ 0 ∷ 0 ∷ 0 ∷ 1 ∷ [])
+    (0 ∷ 42 ∷ 2 ∷ 3 ∷ 1 ∷ 0 ∷ 0 ∷ 0 ∷ 1 ∷ [])
     ++ (0 ∷ 0 ∷ 0 ∷ 0 ∷ 0 ∷ 0 ∷ 0 ∷ 0 ∷ 0 ∷ 0 ∷ 0 ∷ 0 ∷ [])
     ++ (0 ∷ 0 ∷ 0 ∷ 0 ∷ 0 ∷ 0 ∷ 0 ∷ 0 ∷ 3 ∷ [])
     ++ (0 ∷ 0 ∷ 0 ∷ 0 ∷ 0 ∷ 0 ∷ 0 ∷ 0 ∷ 0 ∷ 0 ∷ 0 ∷ [])
@@ -70,22 +70,22 @@ state-read : read server1 first-state-bytes ≡ says (state first-state)
 unfolding opened
 state-read = refl
 
-request-bytes : write (request (65 ∷ [])) ≡ 0 ∷ 4 ∷ 1 ∷ 7 ∷ 1 ∷ 65 ∷ []
+request-bytes : write (request (65 ∷ [])) ≡ 0 ∷ 4 ∷ 2 ∷ 7 ∷ 1 ∷ 65 ∷ []
 unfolding opened
 request-bytes = refl
 
-request-read : read server1 (0 ∷ 4 ∷ 1 ∷ 7 ∷ 1 ∷ 65 ∷ []) ≡ says (request (65 ∷ []))
+request-read : read server1 (0 ∷ 4 ∷ 2 ∷ 7 ∷ 1 ∷ 65 ∷ []) ≡ says (request (65 ∷ []))
 unfolding opened
 request-read = refl
 
 abbrev first-action : Action
-first-action = record { id = record { creator = 1; index = 1 }; greenLength = 0; payload = 65 ∷ [] }
+first-action = record { id = record { creator = 1; index = 1 }; greenLength = 0; whiteLength = 0; payload = 65 ∷ [] }
 
-action-bytes : write (action first-action) ≡ 0 ∷ 11 ∷ 1 ∷ 1 ∷ 1 ∷ 0 ∷ 1 ∷ 0 ∷ 0 ∷ 0 ∷ 0 ∷ 1 ∷ 65 ∷ []
+action-bytes : write (action first-action) ≡ 0 ∷ 15 ∷ 2 ∷ 1 ∷ 1 ∷ 0 ∷ 1 ∷ 0 ∷ 0 ∷ 0 ∷ 0 ∷ 0 ∷ 0 ∷ 0 ∷ 0 ∷ 1 ∷ 65 ∷ []
 unfolding opened
 action-bytes = refl
 
-action-read : read server1 (0 ∷ 11 ∷ 1 ∷ 1 ∷ 1 ∷ 0 ∷ 1 ∷ 0 ∷ 0 ∷ 0 ∷ 0 ∷ 1 ∷ 65 ∷ []) ≡ says (action first-action)
+action-read : read server1 (0 ∷ 15 ∷ 2 ∷ 1 ∷ 1 ∷ 0 ∷ 1 ∷ 0 ∷ 0 ∷ 0 ∷ 0 ∷ 0 ∷ 0 ∷ 0 ∷ 0 ∷ 1 ∷ 65 ∷ []) ≡ says (action first-action)
 unfolding opened
 action-read = refl
 
@@ -94,32 +94,32 @@ action-read = refl
 abbrev server0 : Context
 server0 = record { servers = 3; quota = 256; self = 0; last = some 3 }
 
-retransmission-bytes : write (retransmission 2 515 (record { id = record { creator = 0; index = 256 }; greenLength = 768; payload = 7 ∷ 8 ∷ [] }))
-    ≡ 0 ∷ 17 ∷ 1 ∷ 2 ∷ 2 ∷ 0 ∷ 0 ∷ 2 ∷ 3 ∷ 0 ∷ 1 ∷ 0 ∷ 0 ∷ 0 ∷ 3 ∷ 0 ∷ 2 ∷ 7 ∷ 8 ∷ []
+retransmission-bytes : write (retransmission 2 515 (record { id = record { creator = 0; index = 256 }; greenLength = 768; whiteLength = 5; payload = 7 ∷ 8 ∷ [] }))
+    ≡ 0 ∷ 21 ∷ 2 ∷ 2 ∷ 2 ∷ 0 ∷ 0 ∷ 2 ∷ 3 ∷ 0 ∷ 1 ∷ 0 ∷ 0 ∷ 0 ∷ 3 ∷ 0 ∷ 0 ∷ 0 ∷ 0 ∷ 5 ∷ 2 ∷ 7 ∷ 8 ∷ []
 unfolding opened
 retransmission-bytes = refl
 
-cpc-bytes : write (cpc 2 305419896) ≡ 0 ∷ 7 ∷ 1 ∷ 4 ∷ 2 ∷ 18 ∷ 52 ∷ 86 ∷ 120 ∷ []
+cpc-bytes : write (cpc 2 305419896) ≡ 0 ∷ 7 ∷ 2 ∷ 4 ∷ 2 ∷ 18 ∷ 52 ∷ 86 ∷ 120 ∷ []
 unfolding opened
 cpc-bytes = refl
 
-cpc-read : read server0 (0 ∷ 7 ∷ 1 ∷ 4 ∷ 2 ∷ 18 ∷ 52 ∷ 86 ∷ 120 ∷ []) ≡ says (cpc 2 305419896)
+cpc-read : read server0 (0 ∷ 7 ∷ 2 ∷ 4 ∷ 2 ∷ 18 ∷ 52 ∷ 86 ∷ 120 ∷ []) ≡ says (cpc 2 305419896)
 unfolding opened
 cpc-read = refl
 
-transitional-bytes : write (transitional 3) ≡ 0 ∷ 3 ∷ 1 ∷ 6 ∷ 3 ∷ []
+transitional-bytes : write (transitional 3) ≡ 0 ∷ 3 ∷ 2 ∷ 6 ∷ 3 ∷ []
 unfolding opened
 transitional-bytes = refl
 
-transitional-read : read server0 (0 ∷ 3 ∷ 1 ∷ 6 ∷ 3 ∷ []) ≡ says (transitional 3)
+transitional-read : read server0 (0 ∷ 3 ∷ 2 ∷ 6 ∷ 3 ∷ []) ≡ says (transitional 3)
 unfolding opened
 transitional-read = refl
 
-recovery-bytes : write recovery ≡ 0 ∷ 2 ∷ 1 ∷ 8 ∷ []
+recovery-bytes : write recovery ≡ 0 ∷ 2 ∷ 2 ∷ 8 ∷ []
 unfolding opened
 recovery-bytes = refl
 
-recovery-read : read server0 (0 ∷ 2 ∷ 1 ∷ 8 ∷ []) ≡ says recovery
+recovery-read : read server0 (0 ∷ 2 ∷ 2 ∷ 8 ∷ []) ≡ says recovery
 unfolding opened
 recovery-read = refl
 
@@ -129,44 +129,44 @@ empty-refused : read server0 [] ≡ refused 1
 unfolding opened
 empty-refused = refl
 
-version-refused : read server0 (0 ∷ 2 ∷ 2 ∷ 8 ∷ []) ≡ refused 1
+version-refused : read server0 (0 ∷ 2 ∷ 1 ∷ 8 ∷ []) ≡ refused 1
 unfolding opened
 version-refused = refl
 
 -- "Nothing may follow."
-more-refused : read server0 (0 ∷ 3 ∷ 1 ∷ 8 ∷ 0 ∷ []) ≡ refused 1
+more-refused : read server0 (0 ∷ 3 ∷ 2 ∷ 8 ∷ 0 ∷ []) ≡ refused 1
 unfolding opened
 more-refused = refl
 
 -- A set-up record is no event.
-kind-refused : read server0 (0 ∷ 5 ∷ 1 ∷ 9 ∷ 3 ∷ 1 ∷ 0 ∷ []) ≡ refused 1
+kind-refused : read server0 (0 ∷ 5 ∷ 2 ∷ 9 ∷ 3 ∷ 1 ∷ 0 ∷ []) ≡ refused 1
 unfolding opened
 kind-refused = refl
 
 -- The length comes before the range: a payload of 49 that is not there is 1, not 2.
-payload-refused : read server0 (0 ∷ 3 ∷ 1 ∷ 7 ∷ 49 ∷ []) ≡ refused 1
+payload-refused : read server0 (0 ∷ 3 ∷ 2 ∷ 7 ∷ 49 ∷ []) ≡ refused 1
 unfolding opened
 payload-refused = refl
 
--- "Indexes of actions run 1 to q"
-index-refused : read server1 (0 ∷ 11 ∷ 1 ∷ 1 ∷ 1 ∷ 0 ∷ 2 ∷ 0 ∷ 0 ∷ 0 ∷ 0 ∷ 1 ∷ 65 ∷ []) ≡ refused 2
+-- Indexes of actions run 1 to 65,535.
+index-refused : read server1 (0 ∷ 15 ∷ 2 ∷ 1 ∷ 1 ∷ 0 ∷ 0 ∷ 0 ∷ 0 ∷ 0 ∷ 0 ∷ 0 ∷ 0 ∷ 0 ∷ 0 ∷ 1 ∷ 65 ∷ []) ≡ refused 2
 unfolding opened
 index-refused = refl
 
 -- "A regular set holds the server itself"
-own-refused : read server1 (0 ∷ 7 ∷ 1 ∷ 5 ∷ 0 ∷ 0 ∷ 0 ∷ 1 ∷ 1 ∷ []) ≡ refused 2
+own-refused : read server1 (0 ∷ 7 ∷ 2 ∷ 5 ∷ 0 ∷ 0 ∷ 0 ∷ 2 ∷ 1 ∷ []) ≡ refused 2
 unfolding opened
 own-refused = refl
 
 -- "a transitional set .. lies inside the last regular one"
-outside-refused : read server0 (0 ∷ 3 ∷ 1 ∷ 6 ∷ 5 ∷ []) ≡ refused 2
+outside-refused : read server0 (0 ∷ 3 ∷ 2 ∷ 6 ∷ 5 ∷ []) ≡ refused 2
 unfolding opened
 outside-refused = refl
 
 -- "Ids in a yellow list differ."
 abbrev with-yellow : (creator : ℕ) → List ℕ
 with-yellow creator =
-    (0 ∷ 48 ∷ 1 ∷ 3 ∷ 1 ∷ 0 ∷ 0 ∷ 0 ∷ 1 ∷ [])
+    (0 ∷ 48 ∷ 2 ∷ 3 ∷ 1 ∷ 0 ∷ 0 ∷ 0 ∷ 1 ∷ [])
     ++ (0 ∷ 0 ∷ 0 ∷ 0 ∷ 0 ∷ 0 ∷ 0 ∷ 0 ∷ 0 ∷ 0 ∷ 0 ∷ 0 ∷ [])
     ++ (0 ∷ 0 ∷ 0 ∷ 0 ∷ 0 ∷ 0 ∷ 0 ∷ 0 ∷ 3 ∷ [])
     ++ (0 ∷ 0 ∷ 0 ∷ 0 ∷ 0 ∷ 0 ∷ 0 ∷ 0 ∷ 0 ∷ 0 ∷ 0 ∷ [])
@@ -191,6 +191,6 @@ unfolding opened
 twice-refused = refl
 
 -- `replay` "takes n to 4 and q to 16"
-setup-refused : readSetup 4 16 (0 ∷ 5 ∷ 1 ∷ 9 ∷ 5 ∷ 0 ∷ 1 ∷ []) ≡ refused 2
+setup-refused : readSetup 4 16 (0 ∷ 5 ∷ 2 ∷ 9 ∷ 5 ∷ 0 ∷ 1 ∷ []) ≡ refused 2
 unfolding opened
 setup-refused = refl

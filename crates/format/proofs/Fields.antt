@@ -10,15 +10,14 @@ use Rattle.base.proofs.TestLaws.{and-holds, le-holds}
 use Rattle.base.specs.Bytes.{bytesOf, numberAt, numbersAt, partAt}
 use Rattle.base.proofs.BytesLaws.{bytes-length}
 use Rattle.base.proofs.Occurs.{Occurs, joined-parts, occurs-at, number-read}
-use Rattle.format.specs.Limits.{mostQuota, mostIds}
-use Rattle.format.specs.Places.{atBody, idIndexAt, idSize, actionGreenAt, actionPayloadAt, primaryAttemptAt, primarySetAt, primarySize, markIndexAt, markAttemptAt, markSetAt, markBitsAt, markSize}
+use Rattle.format.specs.Limits.{mostNumber, mostIds}
+use Rattle.format.specs.Places.{atBody, idIndexAt, idSize, actionGreenAt, actionWhiteAt, actionPayloadAt, primaryAttemptAt, primarySetAt, primarySize, markIndexAt, markAttemptAt, markSetAt, markBitsAt, markSize}
 use Rattle.format.specs.Places.{yellowCountAt, yellowHeadSize, configurationIdAt, stateCutsAt, stateGreenAt, stateAttemptAt, stateLastAt, stateMarkAt, stateYellowAt, stateCountAt}
 use Rattle.format.specs.Types.{Id, Action, Primary, Mark, Yellow, State, Context}
 use Rattle.format.specs.Range.{cutsOk, idsInRange}
 use Rattle.format.specs.Write.{payloadBytes, idBytes, actionBytes, cutsBytes, primaryBytes, markBytes, idsBytes, yellowBytes, stateBytes}
 use Rattle.format.specs.Read.{payloadAt, idAt, actionAt, primaryAt, markAt, idsAt, yellowAt, stateAt}
 use Rattle.format.proofs.Ranges.{ContextRange, IdRange, id-range, PayloadRange, ActionRange, PrimaryRange, MarkRange, YellowRange, StateRange}
-use Rattle.format.proofs.IdCount.{ids-count}
 use Rattle.format.proofs.Lengths.{id-length, primary-length, mark-length, cuts-length}
 
 pub payload-read : (p e : List ℕ) (at : ℕ) → PayloadRange p → Occurs (payloadBytes p) e at → (numberAt 1 e at ≡ length p) × (payloadAt e at ≡ p)
@@ -44,8 +43,9 @@ action-read c a e at s r o =
     let parts = joined-parts _ e at o in
     let id : idAt e at ≡ a .id = id-read c (a .id) e at s (r .id) (parts .0) in
     let green : numberAt 4 e (at + actionGreenAt) ≡ a .greenLength = number-read 4 (at + actionGreenAt) (parts .1 .0) (omega (arith, id-length (a .id))) (omega arith) in
-    let payload = payload-read (a .payload) e (at + actionPayloadAt) (r .payload) (occurs-at (parts .1 .1 .0) (omega (arith, id-length (a .id)))) in
-    (payload .0, λ i. record { id = id i; greenLength = green i; payload = payload .1 i })
+    let white : numberAt 4 e (at + actionWhiteAt) ≡ a .whiteLength = number-read 4 (at + actionWhiteAt) (parts .1 .1 .0) (omega (arith, id-length (a .id))) (omega arith) in
+    let payload = payload-read (a .payload) e (at + actionPayloadAt) (r .payload) (occurs-at (parts .1 .1 .1 .0) (omega (arith, id-length (a .id)))) in
+    (payload .0, λ i. record { id = id i; greenLength = green i; whiteLength = white i; payload = payload .1 i })
 
 pub primary-read : (p : Primary) (e : List ℕ) (at : ℕ) → PrimaryRange p → Occurs (primaryBytes p) e at → primaryAt e at ≡ p
 unfolding primaryBytes primaryAt bytesOf
@@ -67,7 +67,7 @@ mark-read m e at r o =
     let bits : numberAt 1 e (at + markBitsAt) ≡ m .bits = number-read 1 (at + markBitsAt) (parts .1 .1 .1 .1 .0) (omega arith) (omega arith) in
     λ i. record { status = status i; index = index i; attempt = attempt i; set = set i; bits = bits i }
 
-pub cuts-read : (q : ℕ) (xs e : List ℕ) (at : ℕ) → q ≤ mostQuota → cutsOk q xs ≡ true → Occurs (cutsBytes xs) e at → numbersAt 2 (length xs) e at ≡ xs
+pub cuts-read : (q : ℕ) (xs e : List ℕ) (at : ℕ) → q ≤ mostNumber → cutsOk q xs ≡ true → Occurs (cutsBytes xs) e at → numbersAt 2 (length xs) e at ≡ xs
 unfolding cutsBytes numbersAt cutsOk bytesOf
 cuts-read q [] e at h ok o = refl
 cuts-read q (x ∷ xs) e at h ok o =
@@ -93,7 +93,7 @@ pub yellow-read : (c : Context) (y : Yellow) (e : List ℕ) (at : ℕ) → Conte
 unfolding yellowBytes yellowAt bytesOf
 yellow-read c y e at s r o =
     let parts = joined-parts _ e at o in
-    let few = ids-count c (y .ids) (r .ids) (r .differ) in
+    let few = r .few in
     let product : c .servers * c .quota ≤ mostIds = mul-le-mul (s .sizes .most) (s .sizes .highest) in
     let status : numberAt 1 e at ≡ y .status = number-read 1 at (parts .0) refl (omega arith) in
     let count : numberAt 2 e (at + yellowCountAt) ≡ length (y .ids) = number-read 2 (at + yellowCountAt) (parts .1 .0) (omega arith) (omega arith) in
@@ -110,7 +110,7 @@ state-read c x e s r o =
     let pair : (length (primaryBytes (x .last)) ≡ primarySize) × (length (markBytes (x .mark)) ≡ markSize) = (primary-length (x .last), mark-length (x .mark)) in
     let sender : numberAt 1 e atBody ≡ x .sender = number-read 1 atBody (parts .0) refl (omega arith) in
     let configuration : numberAt 4 e configurationIdAt ≡ x .configuration = number-read 4 configurationIdAt (parts .1 .0) refl (omega arith) in
-    let cuts : numbersAt 2 (length (x .cuts)) e stateCutsAt ≡ x .cuts = cuts-read (c .quota) (x .cuts) e stateCutsAt (s .sizes .highest) (r .cuts) (parts .1 .1 .0) in
+    let cuts : numbersAt 2 (length (x .cuts)) e stateCutsAt ≡ x .cuts = cuts-read mostNumber (x .cuts) e stateCutsAt (omega arith) (r .cuts) (parts .1 .1 .0) in
     let green : numberAt 4 e (stateGreenAt + 2 * n) ≡ x .greenLength = number-read 4 (stateGreenAt + 2 * n) (parts .1 .1 .1 .0) (omega arith) (omega arith) in
     let attempt : numberAt 4 e (stateAttemptAt + 2 * n) ≡ x .attempt = number-read 4 (stateAttemptAt + 2 * n) (parts .1 .1 .1 .1 .0) (omega arith) (omega arith) in
     let last : primaryAt e (stateLastAt + 2 * n) ≡ x .last =

@@ -14,7 +14,6 @@ use Rattle.format.specs.Types.{Id, Action, Primary, Mark, State, Record,
 use Rattle.format.specs.Range.{fieldsOk, recordOk}
 use Rattle.format.specs.Write.{framed, payloadBytes, idBytes, actionBytes, cutsBytes, primaryBytes, markBytes, idsBytes, yellowBytes, stateBytes, bodyOf, write, lengthOf}
 use Rattle.format.proofs.Ranges.{ContextRange, context-range, payload-range, action-range, state-range}
-use Rattle.format.proofs.IdCount.{ids-count}
 
 pub framed-length : (kind : ℕ) (body : List ℕ) → length (framed kind body) ≡ atBody + length body
 unfolding framed joined bytesOf
@@ -80,7 +79,7 @@ unfolding fieldsOk
 ids-short c s r ok =
     let y = state-range c s r ok .yellow in
     let product : c .servers * c .quota ≤ mostIds = mul-le-mul (r .sizes .most) (r .sizes .highest) in
-    omega (arith, ids-count c (s .yellow .ids) (y .ids) (y .differ))
+    omega (arith, y .few)
 
 length-short : (c : Context) (r : Record) → ContextRange c → fieldsOk c r ≡ true → lengthOf r ≤ mostState
 unfolding lengthOf fieldsOk

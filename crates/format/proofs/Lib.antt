@@ -1,5 +1,5 @@
 pub mod Ranges
-pub mod IdCount
+pub mod IdsDiffer
 pub mod Lengths
 pub mod Fields
 pub mod Frame

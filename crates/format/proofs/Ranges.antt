@@ -3,13 +3,13 @@ use Prim.Native.Nat.{ℕ, _*_, _^_, _≤_, _<_}
 use mathlib.Core.Path.{_≡_}
 use mathlib.Core.Bool.{true}
 use mathlib.Core.List.{List}
-use native.Mathlib.Nat.{mul-le-mul, pow-le-pow-right}
+use native.Mathlib.Nat.{pow-le-pow-right}
 use native.Mathlib.Omega.{arith}
 use lib.ListN.{length}
 use Rattle.base.proofs.TestLaws.{and-holds, le-holds, lt-holds, eq-holds}
 use Rattle.base.specs.Bytes.{Bytes}
 use Rattle.base.proofs.BytesLaws.{are-bytes}
-use Rattle.format.specs.Limits.{fewestServers, mostServers, leastQuota, mostQuota, mostPayload, mostIndex, mostIds}
+use Rattle.format.specs.Limits.{fewestServers, mostServers, leastQuota, mostQuota, mostPayload, mostIndex, mostNumber, mostLength}
 use Rattle.format.specs.Types.{Id, Action, Primary, Mark, Yellow, State, Context}
 use Rattle.format.specs.Range.{sizesOk, contextOk, idOk, lengthOk, payloadOk, actionOk, cutsOk, indexOk, setOk, statusOk, primaryOk, markOk, idsInRange, idsDiffer, idsOk, yellowOk, configurationOk, stateOk}
 
@@ -41,22 +41,18 @@ context-range c ok =
 pub record IdRange (c : Context) (d : Id) : Type 0 where
   pub creator : d .creator < c .servers
   pub least : 1 ≤ d .index
-  pub most : d .index ≤ c .quota
+  pub most : d .index ≤ mostNumber
 
 pub id-range : (c : Context) (d : Id) → idOk c d ≡ true → IdRange c d
 unfolding idOk
 id-range c d ok =
     let a = and-holds _ _ ok in
     let b = and-holds _ _ (a .1) in
-    record { creator = lt-holds (d .creator) (c .servers) (a .0); least = le-holds 1 (d .index) (b .0); most = le-holds (d .index) (c .quota) (b .1) }
+    record { creator = lt-holds (d .creator) (c .servers) (a .0); least = le-holds 1 (d .index) (b .0); most = le-holds (d .index) mostNumber (b .1) }
 
--- Every position and green length lies within 2,048.
-pub length-range : (c : Context) (l : ℕ) → ContextRange c → lengthOk c l ≡ true → l ≤ mostIds
+pub length-range : (l : ℕ) → lengthOk l ≡ true → l ≤ mostLength
 unfolding lengthOk
-length-range c l r ok =
-    let product : c .servers * c .quota ≤ mostIds = mul-le-mul (r .sizes .most) (r .sizes .highest) in
-    let below : l ≤ c .servers * c .quota = le-holds l (c .servers * c .quota) ok in
-    omega arith
+length-range l ok = le-holds l mostLength ok
 
 pub set-range : (c : Context) (s : ℕ) → ContextRange c → setOk c s ≡ true → s < 2 ^ mostServers
 unfolding setOk
@@ -87,7 +83,8 @@ payload-range p ok = let a = and-holds _ _ ok in record { most = le-holds (lengt
 
 pub record ActionRange (c : Context) (a : Action) : Type 0 where
   pub id : IdRange c (a .id)
-  pub greenLength : a .greenLength ≤ mostIds
+  pub greenLength : a .greenLength ≤ mostLength
+  pub whiteLength : a .whiteLength ≤ mostLength
   pub payload : PayloadRange (a .payload)
 
 pub action-range : (c : Context) (a : Action) → ContextRange c → actionOk c a ≡ true → ActionRange c a
@@ -95,7 +92,13 @@ unfolding actionOk
 action-range c a r ok =
     let x = and-holds _ _ ok in
     let y = and-holds _ _ (x .1) in
-    record { id = id-range c (a .id) (x .0); greenLength = length-range c (a .greenLength) r (y .0); payload = payload-range (a .payload) (y .1) }
+    let z = and-holds _ _ (y .1) in
+    record {
+      id = id-range c (a .id) (x .0);
+      greenLength = length-range (a .greenLength) (y .0);
+      whiteLength = length-range (a .whiteLength) (z .0);
+      payload = payload-range (a .payload) (z .1);
+    }
 
 pub record PrimaryRange (p : Primary) : Type 0 where
   pub index : p .index ≤ mostIndex
@@ -133,6 +136,7 @@ mark-range c m r ok =
 
 pub record YellowRange (c : Context) (y : Yellow) : Type 0 where
   pub status : y .status ≤ 1
+  pub few : length (y .ids) ≤ c .servers * c .quota
   pub ids : idsInRange c (y .ids) ≡ true
   pub differ : idsDiffer (y .ids) ≡ true
 
@@ -140,15 +144,16 @@ pub yellow-range : (c : Context) (y : Yellow) → yellowOk c y ≡ true → Yell
 unfolding yellowOk idsOk
 yellow-range c y ok =
     let a = and-holds _ _ ok in
-    let b = and-holds _ _ (a .1) in
-    record { status = status-range (y .status) (a .0); ids = b .0; differ = b .1 }
+    let d = and-holds _ _ (a .1) in
+    let b = and-holds _ _ (d .1) in
+    record { status = status-range (y .status) (a .0); few = le-holds _ _ (d .0); ids = b .0; differ = b .1 }
 
 pub record StateRange (c : Context) (s : State) : Type 0 where
   pub sender : s .sender < c .servers
   pub configuration : s .configuration < 2 ^ 32
   pub count : length (s .cuts) ≡ c .servers
-  pub cuts : cutsOk (c .quota) (s .cuts) ≡ true
-  pub greenLength : s .greenLength ≤ mostIds
+  pub cuts : cutsOk mostNumber (s .cuts) ≡ true
+  pub greenLength : s .greenLength ≤ mostLength
   pub attempt : s .attempt ≤ mostIndex
   pub last : PrimaryRange (s .last)
   pub mark : MarkRange (s .mark)
@@ -170,7 +175,7 @@ state-range c s r ok =
       configuration = configuration-range (s .configuration) (a₂ .0);
       count = eq-holds (length (s .cuts)) (c .servers) (a₃ .0);
       cuts = a₄ .0;
-      greenLength = length-range c (s .greenLength) r (a₅ .0);
+      greenLength = length-range (s .greenLength) (a₅ .0);
       attempt = index-range (s .attempt) (a₆ .0);
       last = primary-range c (s .last) r (a₇ .0);
       mark = mark-range c (s .mark) r (a₈ .0);

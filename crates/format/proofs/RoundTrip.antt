@@ -39,7 +39,7 @@ body-read c (retransmission i p a) e s ok o =
     let u = and-holds _ _ (t .1) in
     let parts = joined-parts _ e atBody o in
     let sender : numberAt 1 e senderAt ≡ i = number-read 1 senderAt (parts .0) refl (omega (arith, lt-holds i (c .servers) (t .0))) in
-    let position : numberAt 4 e positionAt ≡ p = number-read 4 positionAt (parts .1 .0) refl (omega (arith, length-range c p s (u .0))) in
+    let position : numberAt 4 e positionAt ≡ p = number-read 4 positionAt (parts .1 .0) refl (omega (arith, length-range p (u .0))) in
     let x = action-read c a e resentAt s (action-range c a s (u .1)) (parts .1 .1 .0) in
     record { long = ap (λ (m : ℕ). retransmissionSize + m) (x .0); same = λ i. retransmission (sender i) (position i) (x .1 i) }
 body-read c (state x) e s ok o =

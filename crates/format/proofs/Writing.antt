@@ -7,7 +7,7 @@ use lib.ListN.{length}
 use Rattle.base.specs.Bytes.{Bytes, bytesOf, numberAt, numbersAt, partAt}
 use Rattle.base.proofs.BytesLaws.{part-length, numbers-length}
 use Rattle.base.proofs.Occurs.{Occurs, parts-joined, occurs-nil, occurs-at, number-occurs, part-occurs}
-use Rattle.format.specs.Places.{atBody, idIndexAt, idSize, actionGreenAt, actionPayloadAt, actionHeadSize, primaryAttemptAt, primarySetAt, primarySize, markIndexAt, markAttemptAt, markSetAt, markBitsAt, markSize}
+use Rattle.format.specs.Places.{atBody, idIndexAt, idSize, actionGreenAt, actionWhiteAt, actionPayloadAt, actionHeadSize, primaryAttemptAt, primarySetAt, primarySize, markIndexAt, markAttemptAt, markSetAt, markBitsAt, markSize}
 use Rattle.format.specs.Places.{yellowCountAt, yellowHeadSize, configurationIdAt, stateCutsAt, stateGreenAt, stateAttemptAt, stateLastAt, stateMarkAt, stateYellowAt, stateCountAt, stateHeadSize}
 use Rattle.format.specs.Write.{payloadBytes, idBytes, actionBytes, cutsBytes, primaryBytes, markBytes, idsBytes, yellowBytes, stateBytes}
 use Rattle.format.specs.Read.{payloadAt, idAt, actionAt, primaryAt, markAt, idsAt, yellowAt, stateAt}
@@ -33,7 +33,10 @@ action-written e at b h =
       id-written e at b (omega arith),
       (
         number-occurs 4 e (at + actionGreenAt) (omega (arith, id-length (idAt e at))) b (omega arith),
-        (occurs-at (payload-written e (at + actionPayloadAt) b (omega arith)) (omega (arith, id-length (idAt e at))), tt),
+        (
+          number-occurs 4 e (at + actionWhiteAt) (omega (arith, id-length (idAt e at))) b (omega arith),
+          (occurs-at (payload-written e (at + actionPayloadAt) b (omega arith)) (omega (arith, id-length (idAt e at))), tt),
+        ),
       ),
     )
 

@@ -23,15 +23,27 @@ mostPayload = 48
 abbrev pub mostIndex : ℕ
 mostIndex = 4_000_000_000
 
--- "version byte 1"
+-- K6: "version byte 2 on all records, and version 1 gets number 1"
 abbrev pub version : ℕ
-version = 1
+version = 2
 
 -- The number of the layout of a state's image, which begins with it, so that none of another layout is misread. The first layout had no number and
--- began with the number of servers: no layout takes a number of servers (docs/LAYOUT.md). This is the third: requests are not held.
+-- began with the number of servers: no layout takes a number of servers (docs/LAYOUT.md). This is the fourth: white actions have no slot.
 abbrev pub layoutNumber : ℕ
-layoutNumber = mostServers + 2
+layoutNumber = mostServers + 3
 
--- How many ids there can be.
+-- K6: "indexes and cuts run to 65,535"
+abbrev pub mostNumber : ℕ
+mostNumber = 65_535
+
+-- K6: "and positions and lengths to 524,280"
+abbrev pub mostLength : ℕ
+mostLength = mostServers * mostNumber
+
+-- How many retransmissions can be planned among n servers.
+abbrev pub mostPlanned : ℕ → ℕ
+mostPlanned n = mostLength + n * mostNumber
+
+-- How many ids a yellow list can have.
 abbrev pub mostIds : ℕ
 mostIds = mostServers * mostQuota

@@ -24,12 +24,15 @@ idIndexAt = 1
 abbrev pub idSize : ℕ
 idSize = idIndexAt + 2
 
--- An action: id, "creator's green length (4), payload length (1), payload".
+-- An action: id, "creator's green length (4)", white length (4), "payload length (1), payload".
 abbrev pub actionGreenAt : ℕ
 actionGreenAt = idSize
 
+abbrev pub actionWhiteAt : ℕ
+actionWhiteAt = actionGreenAt + 4
+
 abbrev pub actionPayloadAt : ℕ
-actionPayloadAt = actionGreenAt + 4
+actionPayloadAt = actionWhiteAt + 4
 
 -- All but the payload.
 abbrev pub actionHeadSize : ℕ

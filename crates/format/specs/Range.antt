@@ -7,7 +7,7 @@ use lib.ListN.{length}
 use Rattle.base.specs.Tests.{_and_, _or_, _≤?_, _<?_, _=?_}
 use Rattle.base.specs.Bytes.{areBytes}
 use Rattle.base.specs.Sets.{inSet, inside}
-use Rattle.format.specs.Limits.{fewestServers, mostServers, leastQuota, mostQuota, mostPayload, mostIndex}
+use Rattle.format.specs.Limits.{fewestServers, mostServers, leastQuota, mostQuota, mostPayload, mostIndex, mostNumber, mostLength}
 use Rattle.format.specs.Types.{Id, Action, Primary, Mark, Yellow, State, Record, action, retransmission, state, cpc, regular, transitional}
 use Rattle.format.specs.Types.{request, recovery, Context}
 
@@ -19,22 +19,22 @@ sizesOk n q = fewestServers ≤? n and n ≤? mostServers and leastQuota ≤? q 
 unfoldable pub contextOk : Context → Bool
 contextOk c = sizesOk (c .servers) (c .quota) and c .self <? c .servers
 
--- "Indexes of actions run 1 to q"
+-- K6: "indexes and cuts run to 65,535"
 unfoldable pub idOk : Context → Id → Bool
-idOk c d = d .creator <? c .servers and 1 ≤? d .index and d .index ≤? c .quota
+idOk c d = d .creator <? c .servers and 1 ≤? d .index and d .index ≤? mostNumber
 
--- "positions and green lengths 0 to n × q"
-unfoldable pub lengthOk : Context → ℕ → Bool
-lengthOk c l = l ≤? c .servers * c .quota
+-- K6: "positions and lengths to 524,280"
+unfoldable pub lengthOk : ℕ → Bool
+lengthOk l = l ≤? mostLength
 
 -- "Payload: 0 to 48 bytes."
 unfoldable pub payloadOk : List ℕ → Bool
 payloadOk p = length p ≤? mostPayload and areBytes p
 
 unfoldable pub actionOk : Context → Action → Bool
-actionOk c a = idOk c (a .id) and lengthOk c (a .greenLength) and payloadOk (a .payload)
+actionOk c a = idOk c (a .id) and lengthOk (a .greenLength) and lengthOk (a .whiteLength) and payloadOk (a .payload)
 
--- "cuts 0 to q"
+-- Cuts up to this number.
 unfoldable pub cutsOk : ℕ → List ℕ → Bool
 cutsOk q [] = true
 cutsOk q (x ∷ xs) = x ≤? q and cutsOk q xs
@@ -76,8 +76,9 @@ idsInRange c (x ∷ xs) = idOk c x and idsInRange c xs
 unfoldable pub idsOk : Context → List Id → Bool
 idsOk c xs = idsInRange c xs and idsDiffer xs
 
+-- K6: "A yellow list has at most n × q ids"
 unfoldable pub yellowOk : Context → Yellow → Bool
-yellowOk c y = statusOk (y .status) and idsOk c (y .ids)
+yellowOk c y = statusOk (y .status) and length (y .ids) ≤? c .servers * c .quota and idsOk c (y .ids)
 
 -- A configuration id is any number of four bytes.
 unfoldable pub configurationOk : ℕ → Bool
@@ -88,8 +89,8 @@ stateOk c s =
     s .sender <? c .servers
     and configurationOk (s .configuration)
     and length (s .cuts) =? c .servers
-    and cutsOk (c .quota) (s .cuts)
-    and lengthOk c (s .greenLength)
+    and cutsOk mostNumber (s .cuts)
+    and lengthOk (s .greenLength)
     and indexOk (s .attempt)
     and primaryOk c (s .last)
     and markOk c (s .mark)
@@ -106,7 +107,7 @@ insideLast (some l) s = inside s l
 
 unfoldable pub fieldsOk : Context → Record → Bool
 fieldsOk c (action a) = actionOk c a
-fieldsOk c (retransmission s p a) = s <? c .servers and lengthOk c p and actionOk c a
+fieldsOk c (retransmission s p a) = s <? c .servers and lengthOk p and actionOk c a
 fieldsOk c (state s) = stateOk c s
 fieldsOk c (cpc s i) = s <? c .servers and configurationOk i
 fieldsOk c (regular i s) = configurationOk i and ownSetOk c s

@@ -9,11 +9,10 @@ use Rattle.base.specs.Tests.{_and_, _=?_, pick}
 use Rattle.base.specs.Bytes.{numberAt, numbersAt, partAt}
 use Rattle.base.specs.Refusals.{badRecord, outOfRange}
 use Rattle.format.specs.Limits.{version}
-use Rattle.format.specs.Places.{lengthSize, atVersion, atKind, atBody, idIndexAt, idSize, actionGreenAt, actionPayloadAt, actionSize}
-use Rattle.format.specs.Places.{primaryAttemptAt, primarySetAt, markIndexAt, markAttemptAt, markSetAt, markBitsAt}
-use Rattle.format.specs.Places.{yellowCountAt, yellowHeadSize, senderAt, positionAt, resentAt, retransmissionSize, configurationIdAt, cpcSize}
-use Rattle.format.specs.Places.{stateCutsAt, stateGreenAt, stateAttemptAt, stateLastAt, stateMarkAt, stateYellowAt, stateCountAt}
-use Rattle.format.specs.Places.{cutSize, stateHeadSize}
+use Rattle.format.specs.Places.{lengthSize, atVersion, atKind, atBody, idIndexAt, idSize, actionGreenAt, actionWhiteAt, actionPayloadAt}
+use Rattle.format.specs.Places.{actionSize, primaryAttemptAt, primarySetAt, markIndexAt, markAttemptAt, markSetAt, markBitsAt, yellowCountAt}
+use Rattle.format.specs.Places.{yellowHeadSize, senderAt, positionAt, resentAt, retransmissionSize, configurationIdAt, cpcSize, stateCutsAt}
+use Rattle.format.specs.Places.{stateGreenAt, stateAttemptAt, stateLastAt, stateMarkAt, stateYellowAt, stateCountAt, cutSize, stateHeadSize}
 use Rattle.format.specs.Places.{regularSetAt, regularSize, transitionalSize, requestSize, recoverySize}
 use Rattle.format.specs.Types.{Id, Action, Primary, Mark, Yellow, State, Context, Reading, says, refused}
 use Rattle.format.specs.Types.{Record, action, retransmission, state, cpc, regular, transitional, request, recovery, Kind, kindNumber}
@@ -27,7 +26,12 @@ unfoldable pub idAt : List ℕ → ℕ → Id
 idAt e at = record { creator = numberAt 1 e at; index = numberAt 2 e (at + idIndexAt) }
 
 unfoldable pub actionAt : List ℕ → ℕ → Action
-actionAt e at = record { id = idAt e at; greenLength = numberAt 4 e (at + actionGreenAt); payload = payloadAt e (at + actionPayloadAt) }
+actionAt e at = record {
+  id = idAt e at;
+  greenLength = numberAt 4 e (at + actionGreenAt);
+  whiteLength = numberAt 4 e (at + actionWhiteAt);
+  payload = payloadAt e (at + actionPayloadAt);
+}
 
 unfoldable pub primaryAt : List ℕ → ℕ → Primary
 primaryAt e at = record { index = numberAt 4 e at; attempt = numberAt 4 e (at + primaryAttemptAt); set = numberAt 1 e (at + primarySetAt) }

@@ -8,10 +8,12 @@ pub record Id : Type 0 where
   pub creator : ℕ
   pub index : ℕ
 
--- "1 action: creator (1 byte), index (2), creator's green length (4), payload length (1), payload."
+-- "1 action: creator (1 byte), index (2), creator's green length (4), payload length (1), payload."; K6: "Action bodies gain the creator's white
+-- length when numbered (4 bytes) after the green length".
 pub record Action : Type 0 where
   pub id : Id
   pub greenLength : ℕ
+  pub whiteLength : ℕ
   pub payload : List ℕ
 
 -- A primary component: "last primary's index (4), attempt (4), set (1)".

@@ -20,9 +20,9 @@ payloadBytes p = joined (bytesOf 1 (length p) ∷ p ∷ [])
 unfoldable pub idBytes : Id → List ℕ
 idBytes d = joined (bytesOf 1 (d .creator) ∷ bytesOf 2 (d .index) ∷ [])
 
--- "creator (1 byte), index (2), creator's green length (4), payload length (1), payload"
+-- "creator (1 byte), index (2), creator's green length (4)", white length (4), "payload length (1), payload"
 unfoldable pub actionBytes : Action → List ℕ
-actionBytes a = joined (idBytes (a .id) ∷ bytesOf 4 (a .greenLength) ∷ payloadBytes (a .payload) ∷ [])
+actionBytes a = joined (idBytes (a .id) ∷ bytesOf 4 (a .greenLength) ∷ bytesOf 4 (a .whiteLength) ∷ payloadBytes (a .payload) ∷ [])
 
 unfoldable pub cutsBytes : List ℕ → List ℕ
 cutsBytes [] = []

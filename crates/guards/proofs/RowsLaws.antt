@@ -1,19 +1,22 @@
 -- Rows 5, 6 and 3 from the numbers h of a state s.
-use Prim.Native.Nat.{ℕ, _+_}
+use Prim.Native.Nat.{ℕ, _+_, _-_, _≤_, _<_}
 use mathlib.Core.Path.{_≡_, refl, sym, ap, _∙_}
 use mathlib.Core.Bool.{Bool, true, false, not}
 use mathlib.Core.Option.{Option, none, some}
 use native.Mathlib.Omega.{arith}
 use lib.Dec.{eqb, leb, ltb}
+use lib.ListN.{length}
 use Rattle.base.specs.Tests.{_or_, _and_, _=?_, _≤?_, _<?_, pick}
-use Rattle.base.proofs.TestLaws.{eq-yes, eq-no}
+use Rattle.base.proofs.TestLaws.{eq-yes, eq-no, lt-yes, lt-no, and-yes, and-no}
 use Rattle.base.specs.Lists.{isThere}
 use Rattle.base.specs.Sets.{inSet}
+use Rattle.format.specs.Limits.{mostNumber}
 use Rattle.format.specs.Types.{Id, Action}
 use Rattle.record.specs.Values.{idOf}
 use Rattle.record.specs.declared.State.{State}
 use Rattle.replication.specs.Machine.Types.{Mode, Non-prim, Reg-prim, Trans-prim, Exchange-states, Exchange-actions, Construct, No, Un, Configuration, Server}
-use Rattle.replication.specs.Machine.Requests.{inRegular, sendsIn, sendsNow, quotaLeft}
+use Rattle.replication.specs.Machine.Colours.{unwhite}
+use Rattle.replication.specs.Machine.Requests.{inRegular, sendsIn, sendsNow, unwhiteOwn, quotaLeft}
 use Rattle.replication.specs.Machine.Rules.{numberedOwn, regularDue, transitionalDue, memberOf, isOf, stateIn, cpcIn}
 use Rattle.image.specs.Header.{statusOf, headerOf, modeNumber}
 use Rattle.image.specs.Header as numbers
@@ -178,6 +181,27 @@ sends-formed h zero same s e =
     ∙ regular-told (s .membership .transitional)
     ∙ sends-zero (s .membership .mode) (inRegular (s .membership .transitional)) ((λ j. sym e j .mode) ∙ zero))
 
-pub quota-told : (h : State) (s : Server) → h ≡ headerOf s → ltb (h .numbered) (h .quota) ≡ quotaLeft s
-unfolding headerOf quotaLeft _<?_
-quota-told h s e = λ j. ltb (e j .numbered) (e j .quota)
+module _ (h : State) (own : ℕ) where
+  -- What is entered takes the whole quota.
+  pub quota-entered : h .quota ≤ own → (s : Server) → h ≡ headerOf s → own ≡ unwhite (s .me) (s .white) (s .log) → false ≡ quotaLeft s
+  unfolding headerOf quotaLeft
+  quota-entered most s e f =
+      let q : h .quota ≡ s .quota = ap (λ (x : State). x .quota) e in
+      and-no (unwhiteOwn s <? s .quota) (s .log .numbered <? mostNumber) (lt-no (unwhiteOwn s) (s .quota) (omega arith))
+
+  -- With the own list it does.
+  pub quota-waiting : h .quota - own ≤ h .«own_count» → (s : Server) → h ≡ headerOf s → own ≡ unwhite (s .me) (s .white) (s .log) → false ≡ quotaLeft s
+  unfolding headerOf quotaLeft
+  quota-waiting most s e f =
+      let q : h .quota ≡ s .quota = ap (λ (x : State). x .quota) e in
+      let list : h .«own_count» ≡ length (s .log .own) = ap (λ (x : State). x .«own_count») e in
+      and-no (unwhiteOwn s <? s .quota) (s .log .numbered <? mostNumber) (lt-no (unwhiteOwn s) (s .quota) (omega arith))
+
+  pub quota-told : own < h .quota → h .«own_count» < h .quota - own → (s : Server) → h ≡ headerOf s → own ≡ unwhite (s .me) (s .white) (s .log)
+      → ltb (h .numbered) mostNumber ≡ quotaLeft s
+  unfolding headerOf quotaLeft _<?_
+  quota-told low less s e f =
+      let q : h .quota ≡ s .quota = ap (λ (x : State). x .quota) e in
+      let list : h .«own_count» ≡ length (s .log .own) = ap (λ (x : State). x .«own_count») e in
+      and-yes (ltb (h .numbered) mostNumber) (unwhiteOwn s <? s .quota) (s .log .numbered <? mostNumber) (lt-yes (unwhiteOwn s) (s .quota) (omega arith))
+      (λ j. ltb (e j .numbered) mostNumber)

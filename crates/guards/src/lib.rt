@@ -1,8 +1,9 @@
-// The conditions of rows 5, 6 and 3 of document 01's 'Returned numbers', from the state's numbers alone.
+// The conditions of rows 5, 6 and 3 of document 01's 'Returned numbers', from the state's numbers; row 3 also from a count of own actions.
 ghost use mathlib.Core.Path.{_≡_};
 ghost use Rattle.format.specs.Types.{Action};
 ghost use Rattle.record.specs.Values.{idOf};
 ghost use Rattle.replication.specs.Machine.Types.{Mode, Server};
+ghost use Rattle.replication.specs.Machine.Colours.{unwhite};
 ghost use Rattle.replication.specs.Machine.Requests.{sendsNow, quotaLeft};
 ghost use Rattle.replication.specs.Machine.Rules.{numberedOwn, regularDue, transitionalDue, memberOf, isOf, stateIn, cpcIn};
 ghost use Rattle.image.specs.Header.{headerOf, modeNumber};
@@ -104,9 +105,17 @@ pub fn sends_now(h: State) -> bool
     h.transitional_status != 1
 }
 
-// "3 counts numbered actions": already q does not apply.
-pub fn quota_left(h: State) -> bool
-    ensures { λ r. ⌜ ((s : Server) → h ≡ headerOf s → r ≡ quotaLeft s) ⌝ }
+// "Quota now bounds a creator's actions that are not white in its own state": `own` is how many of them have a slot, and the own list
+// holds the others. "Number 3 is given when either bound is reached, not before."
+pub fn quota_left(h: State, own: u32) -> bool
+    ensures { λ r. ⌜ ((s : Server) → h ≡ headerOf s → own ≡ unwhite (s .me) (s .white) (s .log) → r ≡ quotaLeft s) ⌝ }
 {
-    h.numbered < h.quota
+    let q = h.quota as u32;
+    if q <= own {
+        return false;
+    }
+    if q - own <= h.own_count as u32 {
+        return false;
+    }
+    h.numbered < State::MOST_NUMBER
 }

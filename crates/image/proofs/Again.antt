@@ -1,5 +1,5 @@
 -- A state written over the image of another: where no list has become shorter, nothing of the other one is left.
-use Prim.Native.Nat.{ℕ, _+_, _*_, _-_, _≤_, _<_}
+use Prim.Native.Nat.{ℕ, _*_, _≤_, _<_}
 use mathlib.Core.Path.{_≡_, refl, sym, ap, ap₂, _∙_}
 use mathlib.Core.List.{List, [], _∷_, _++_}
 use mathlib.Core.Logic.{_⊎_, inl, inr}
@@ -7,13 +7,15 @@ use mathlib.Core.Option.{Option}
 use native.Mathlib.Nat.{mul-le-mul-right}
 use native.Mathlib.Omega.{arith}
 use lib.ListN.{length, getD, drop}
-use lib.Seq.{drop-at, drop-drop}
+use lib.Seq.{drop-at}
 use Rattle.base.specs.Bytes.{joined, over}
+use Rattle.base.proofs.ListLaws.{drop-same}
 use Rattle.format.specs.Types.{State}
 use Rattle.format.specs.Write.{cutsBytes, idsBytes}
 use Rattle.replication.specs.Machine.Types.{Server}
 use Rattle.replication.specs.Machine.WellFormed.{queue}
 use Rattle.image.specs.Layout.{stateSize, theCuts, theNoted, theStates, theYellow, theOwn, theQueue, sections, sectionSize, stateLength, sectionCount}
+use Rattle.image.specs.Header.{shownLog}
 use Rattle.image.specs.Image.{headerBytes, notedBytes, statesOver, actionSlots, section, parts, image}
 use Rattle.image.proofs.Used.{states-over-again}
 use Rattle.image.proofs.Fit.{SectionsFit, section-length, image-rest, image-section}
@@ -23,13 +25,7 @@ use Rattle.image.proofs.Fit.{SectionsFit, section-length, image-rest, i
 pub over-over : (y z l : List ℕ) → length y ≤ length z → over z (over y l) ≡ over z l
 unfolding over
 over-over y z l h =
-    let m : length y + (length z - length y) ≡ length z = omega arith in
-    ap (λ (r : List ℕ). z ++ r)
-    (ap (λ (k : ℕ). drop k (y ++ drop (length y) l)) (sym m)
-    ∙ sym (drop-drop (length z - length y) (length y) (y ++ drop (length y) l))
-    ∙ ap (drop (length z - length y)) (drop-at y (drop (length y) l) (length y) refl)
-    ∙ drop-drop (length z - length y) (length y) l
-    ∙ ap (λ (k : ℕ). drop k l) m)
+    ap (λ (r : List ℕ). z ++ r) (drop-same (length y) (length z) (y ++ drop (length y) l) l h (drop-at y (drop (length y) l) (length y) refl))
 
 -- z over y over l leaves nothing of y: l holds y anyway, or y is no longer than z.
 abbrev pub CoversBytes : List ℕ → List ℕ → List ℕ → Type 0
@@ -52,7 +48,7 @@ states-covered size zs ys l c e a (inr h) =
 
 -- t with the sizes of s.
 abbrev pub alike : Server → Server → Server
-alike s t = record { servers = s .servers; quota = s .quota; me = t .me; log = t .log; votes = t .votes; membership = t .membership; noted = t .noted }
+alike s t = record { servers = s .servers; quota = s .quota; me = t .me; log = t .log; votes = t .votes; membership = t .membership; noted = t .noted; white = t .white }
 
 -- The lists of t over those of s over the bytes b.
 pub record Covering (s t : Server) (b : List ℕ) : Type 0 where
@@ -61,7 +57,7 @@ pub record Covering (s t : Server) (b : List ℕ) : Type 0 where
   pub states : (section (s .servers) (s .quota) theStates b ≡ statesOver (stateSize (s .servers) (s .quota)) (s .membership .states) (section (s .servers) (s .quota) theStates b)) ⊎ (t .membership .states ≡ s .membership .states)
   pub ids : CoversBytes (idsBytes (t .votes .yellow .ids)) (idsBytes (s .votes .yellow .ids)) (section (s .servers) (s .quota) theYellow b)
   pub own : CoversBytes (actionSlots (t .log .own)) (actionSlots (s .log .own)) (section (s .servers) (s .quota) theOwn b)
-  pub actions : CoversBytes (actionSlots (queue (t .log))) (actionSlots (queue (s .log))) (section (s .servers) (s .quota) theQueue b)
+  pub actions : CoversBytes (actionSlots (queue (shownLog t))) (actionSlots (queue (shownLog s))) (section (s .servers) (s .quota) theQueue b)
 
 module _ (s : Server) (f : SectionsFit s) (b : List ℕ) (h : stateLength (s .servers) (s .quota) ≤ length b) where
   module _ (t : Server) (c : Covering s t b) where
@@ -87,7 +83,7 @@ module _ (s : Server) (f : SectionsFit s) (b : List ℕ) (h : stateLength (s .se
         let collected = states in
         let ids = part theYellow (omega arith) (idsBytes (t .votes .yellow .ids)) (idsBytes (s .votes .yellow .ids)) refl (c .ids) in
         let own = part theOwn (omega arith) (actionSlots (t .log .own)) (actionSlots (s .log .own)) refl (c .own) in
-        let actions = part theQueue (omega arith) (actionSlots (queue (t .log))) (actionSlots (queue (s .log))) refl (c .actions) in
+        let actions = part theQueue (omega arith) (actionSlots (queue (shownLog t))) (actionSlots (queue (shownLog s))) refl (c .actions) in
         λ i. headerBytes (alike s t) ∷ cuts i ∷ noted i ∷ collected i ∷ ids i ∷ own i ∷ actions i ∷ []
 
     pub covering-over : image (alike s t) (image s b) ≡ image (alike s t) b

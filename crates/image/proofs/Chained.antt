@@ -16,17 +16,18 @@ use Rattle.format.proofs.Lengths.{cuts-length, ids-length}
 use Rattle.replication.specs.Machine.Types.{Server}
 use Rattle.replication.specs.Machine.WellFormed.{queue, wellFormed}
 use Rattle.image.specs.Layout.{slotSize, stateSize, theStates, theYellow, theOwn, theQueue, stateLength, sectionCount}
+use Rattle.image.specs.Header.{shownLog}
 use Rattle.image.specs.Image.{statesOver, actionSlots, section, parts, image}
 use Rattle.image.proofs.InRange.{in-range}
 use Rattle.image.proofs.Used.{action-slots-length, noted-length, slots-append, ids-append}
 use Rattle.image.proofs.Fit.{SectionsFit, well-formed-fits}
 use Rattle.image.proofs.Again.{CoversBytes, alike, Covering, covering-over}
-use Rattle.image.specs.Holding.{Holds}
+use Rattle.image.specs.Holding.{Blank, Holds}
 use Rattle.image.proofs.InPlace.{image-holds, holds-section, over-less}
 
 -- The buffer that a change left.
-pub then-holds : (s t : Server) (b c : List ℕ) → Holds s b → c ≡ image t b → t .servers ≡ s .servers → t .quota ≡ s .quota → wellFormed t ≡ true → Holds t c
-then-holds s t b c r f n q ok = subst (Holds t) (sym f) (image-holds s t b r n q ok)
+pub then-holds : (s t : Server) (b c : List ℕ) → Holds s b → c ≡ image t b → t .servers ≡ s .servers → t .quota ≡ s .quota → wellFormed t ≡ true → Blank t → Holds t c
+then-holds s t b c r f n q ok k = subst (Holds t) (sym f) (image-holds s t b r n q ok k)
 
 -- ---- from s to t, then from t to u
 
@@ -40,7 +41,7 @@ pub record Covers (s t u : Server) : Type 0 where
   pub states : (t .membership .states ≡ u .membership .states) ⊎ (t .membership .states ≡ s .membership .states)
   pub ids : Gone (s .votes .yellow .ids) (t .votes .yellow .ids) (u .votes .yellow .ids)
   pub own : Gone (s .log .own) (t .log .own) (u .log .own)
-  pub actions : Gone (queue (s .log)) (queue (t .log)) (queue (u .log))
+  pub actions : Gone (queue (shownLog s)) (queue (shownLog t)) (queue (shownLog u))
 
 same-length : {A : Type 0} (s t u : List A) → u ≡ t → Gone s t u
 same-length s t u e = inl (omega (arith, ap length e))
@@ -51,7 +52,7 @@ same-begins s t u e = inr (subst (Begins t) e (begins-refl t))
 -- The lists of t are those of u.
 pub numbers-then : (s t u : Server) → (t .servers ≡ s .servers) × (u .servers ≡ s .servers) → (t .quota ≡ s .quota) × (u .quota ≡ s .quota)
     → t .membership .states ≡ u .membership .states → u .votes .yellow .ids ≡ t .votes .yellow .ids → u .log .own ≡ t .log .own
-    → queue (u .log) ≡ queue (t .log)
+    → queue (shownLog u) ≡ queue (shownLog t)
     → Covers s t u
 numbers-then s t u n q states ids own actions = record {
   servers = n;
@@ -59,13 +60,13 @@ numbers-then s t u n q states ids own actions = record {
   states = inl states;
   ids = same-length (s .votes .yellow .ids) (t .votes .yellow .ids) (u .votes .yellow .ids) ids;
   own = same-length (s .log .own) (t .log .own) (u .log .own) own;
-  actions = same-length (queue (s .log)) (queue (t .log)) (queue (u .log)) actions;
+  actions = same-length (queue (shownLog s)) (queue (shownLog t)) (queue (shownLog u)) actions;
 }
 
 -- Those of t are those of s.
 pub numbers-first : (s t u : Server) → (t .servers ≡ s .servers) × (u .servers ≡ s .servers) → (t .quota ≡ s .quota) × (u .quota ≡ s .quota)
     → t .membership .states ≡ s .membership .states → t .votes .yellow .ids ≡ s .votes .yellow .ids → t .log .own ≡ s .log .own
-    → queue (t .log) ≡ queue (s .log)
+    → queue (shownLog t) ≡ queue (shownLog s)
     → Covers s t u
 numbers-first s t u n q states ids own actions = record {
   servers = n;
@@ -73,7 +74,7 @@ numbers-first s t u n q states ids own actions = record {
   states = inr states;
   ids = same-begins (s .votes .yellow .ids) (t .votes .yellow .ids) (u .votes .yellow .ids) ids;
   own = same-begins (s .log .own) (t .log .own) (u .log .own) own;
-  actions = same-begins (queue (s .log)) (queue (t .log)) (queue (u .log)) actions;
+  actions = same-begins (queue (shownLog s)) (queue (shownLog t)) (queue (shownLog u)) actions;
 }
 
 -- ---- lists as bytes
@@ -126,7 +127,7 @@ module _ (s t u : Server) (b : List ℕ) (r : Holds s b) (ok : wellFormed t ≡ 
   sizes =
       let n : t .servers ≡ u .servers = e .servers .0 ∙ sym (e .servers .1) in
       let q : t .quota ≡ u .quota = e .quota .0 ∙ sym (e .quota .1) in
-      λ i. record { servers = n i; quota = q i; me = u .me; log = u .log; votes = u .votes; membership = u .membership; noted = u .noted }
+      λ i. record { servers = n i; quota = q i; me = u .me; log = u .log; votes = u .votes; membership = u .membership; noted = u .noted; white = u .white }
 
   module _ (cuts : length (t .log .cuts) ≤ length (u .log .cuts)) (noted : length (t .noted) ≤ length (u .noted)) where
     covering : Covering t u b
@@ -146,9 +147,9 @@ module _ (s t u : Server) (b : List ℕ) (r : Holds s b) (ok : wellFormed t ≡ 
           (here theOwn (actionSlots (s .log .own)) (omega arith) refl)
           (λ h. omega (arith, action-slots-length (t .log .own) (fits .own), action-slots-least (u .log .own))) (e .own);
       actions =
-          covers actionSlots slots-append (queue (s .log)) (queue (t .log)) (queue (u .log)) (section (t .servers) (t .quota) theQueue b)
-          (here theQueue (actionSlots (queue (s .log))) (omega arith) refl)
-          (λ h. omega (arith, action-slots-length (queue (t .log)) (fits .actions), action-slots-least (queue (u .log)))) (e .actions);
+          covers actionSlots slots-append (queue (shownLog s)) (queue (shownLog t)) (queue (shownLog u)) (section (t .servers) (t .quota) theQueue b)
+          (here theQueue (actionSlots (queue (shownLog s))) (omega arith) refl)
+          (λ h. omega (arith, action-slots-length (queue (shownLog t)) (fits .actions), action-slots-least (queue (shownLog u)))) (e .actions);
     }
 
     -- The image of u over that of t is that over the bytes at the beginning, where cuts and noted lengths are no fewer in u.

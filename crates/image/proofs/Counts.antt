@@ -9,12 +9,11 @@ use Rattle.base.specs.Bytes.{numberAt}
 use Rattle.base.specs.Lists.{sum}
 use Rattle.format.specs.Limits.{mostIds}
 use Rattle.format.specs.Places.{idSize}
-use Rattle.format.proofs.IdCount.{ids-count}
 use Rattle.record.specs.declared.State.{State}
 use Rattle.replication.specs.Machine.Types.{Log, Server, contextOf}
 use Rattle.replication.specs.Machine.WellFormed.{queue}
 use Rattle.image.specs.Layout.{SizesIn, theYellow, theOwn, theQueue, sections, offset, stateLength, headerSize, slotSize, atServers, atQuota, atMe, theNoted}
-use Rattle.image.specs.Header.{headerOf, headerIn}
+use Rattle.image.specs.Header.{shownLog, headerOf, headerIn}
 use Rattle.image.specs.Decode.{serversIn, quotaIn}
 use Rattle.image.specs.Holding.{Holds, HoldsSuch}
 use Rattle.image.specs.Counts.{queueCount, greenCount, numberedIn, ownCount, sentIn, yellowCount, place, CountsIn}
@@ -25,8 +24,8 @@ pub record Numbers (s : Server) (b : List ℕ) : Type 0 where
   pub servers : serversIn b ≡ s .servers
   pub quota : quotaIn b ≡ s .quota
   pub me : numberAt 1 b atMe ≡ s .me
-  pub queue : queueCount b ≡ length (queue (s .log))
-  pub green : greenCount b ≡ length (s .log .green)
+  pub queue : queueCount b ≡ length (queue (shownLog s))
+  pub green : greenCount b ≡ length (shownLog s .green)
   pub numbered : numberedIn b ≡ s .log .numbered
   pub own : ownCount b ≡ length (s .log .own)
   pub sent : sentIn b ≡ s .log .sent
@@ -69,7 +68,7 @@ module _ (s : Server) (b : List ℕ) (r : Holds s b) where
         quota = ap (λ (h : State). h .quota) e;
         me = ap (λ (h : State). h .me) e;
         queue = ap (λ (h : State). h .«queue_length») e;
-        green = ap (λ (h : State). h .«green_length») e;
+        green = ap (λ (h : State). h .«green_count») e;
         numbered = ap (λ (h : State). h .numbered) e;
         own = ap (λ (h : State). h .«own_count») e;
         sent = ap (λ (h : State). h .sent) e;
@@ -89,10 +88,10 @@ module _ (s : Server) (b : List ℕ) (r : Holds s b) where
       let m = numbers in
       let n = numbers .servers in
       let q = numbers .quota in
-      let ids : length (s .votes .yellow .ids) ≤ s .servers * s .quota = ids-count (contextOf s) (s .votes .yellow .ids) (f .yellow .ids) (f .yellow .differ) in
+      let ids : length (s .votes .yellow .ids) ≤ s .servers * s .quota = f .yellow .few in
       let one : 1 * 1 ≤ s .servers * s .quota = mul-le-mul {n₁ = 1} {m₁ = 1} {n₂ = s .servers} {m₂ = s .quota} (omega (arith, z .fewest)) (omega (arith, z .least)) in
       let all : s .servers * s .quota ≤ mostIds = mul-le-mul (z .most) (z .highest) in
-      let parts : length (queue (s .log)) ≡ length (s .log .green) + length (s .log .red) = queue-parts (s .log) in
+      let parts : length (queue (shownLog s)) ≡ length (shownLog s .green) + length (s .log .red) = queue-parts (shownLog s) in
       let long : stateLength (serversIn b) (quotaIn b) ≤ length b = rw (n, q) (r .long) in
       record {
         sizes = record { servers = rw n (z .most); quota = rw q (z .highest) };
@@ -106,7 +105,7 @@ module _ (s : Server) (b : List ℕ) (r : Holds s b) where
         queueEnd = omega (arith, queue-end (serversIn b) (quotaIn b));
         queue = rw (m .queue, n, q) (f .queueCount);
         green = omega (arith, m .queue, m .green);
-        numbered = rw (m .numbered, q) (f .numbered);
+        numbered = rw (m .numbered) (f .numbered);
         own = rw (m .own, q) (f .ownCount);
         sent = rw (m .sent, m .numbered) (f .sent);
         yellow = rw (m .yellow, n, q) ids;

@@ -1,7 +1,7 @@
 -- What is read of an image is the state written.
 use Prim.Native.Nat.{ℕ, _+_, _*_, _≤_, _<_}
-use mathlib.Core.Path.{_≡_, sym, ap, _∙_}
-use mathlib.Core.List.{List, []}
+use mathlib.Core.Path.{_≡_, sym, ap, ap₂, _∙_}
+use mathlib.Core.List.{List, [], _++_}
 use mathlib.Core.Option.{Option, none}
 use native.Mathlib.Nat.{mul-le-mul-right}
 use native.Mathlib.Omega.{arith}
@@ -13,16 +13,18 @@ use Rattle.base.proofs.Occurs.{Occurs}
 use Rattle.base.proofs.Sections.{sized-at}
 use Rattle.base.specs.Sets.{inSet}
 use Rattle.base.proofs.Over.{used-part}
-use Rattle.format.specs.Types.{State}
+use Rattle.format.specs.Limits.{mostNumber}
+use Rattle.format.specs.Types.{Action, State}
 use Rattle.format.specs.Read.{idsAt}
 use Rattle.format.proofs.Fields.{cuts-read, ids-read}
 use Rattle.record.specs.Values.{primaryOf, lastOf, markOf}
 use Rattle.replication.specs.Machine.Types.{Server, contextOf}
 use Rattle.replication.specs.Machine.WellFormed.{queue}
 use Rattle.image.specs.Layout.{stateSize, theHeader, theCuts, theNoted, theStates, theYellow, theOwn, theQueue, sections, sectionSize, offset, stateLength, sectionCount}
-use Rattle.image.specs.Header.{senders, markNumbers, headerOf, headerIn}
+use Rattle.image.specs.Header.{shownLog, senders, markNumbers, headerOf, headerIn}
 use Rattle.image.specs.Image.{headerBytes, section, parts, image}
-use Rattle.image.specs.Decode.{regularOf, transitionalIn, actionsAt, statesAt, decodedAs, serversIn, quotaIn, decoded}
+use Rattle.image.specs.Decode.{blanks, whiteAt, regularOf, transitionalIn, actionsAt, statesAt, decodedAs, serversIn, quotaIn, decoded}
+use Rattle.image.specs.Holding.{blanked}
 use Rattle.image.proofs.InRange.{InRange}
 use Rattle.image.proofs.Fit.{SectionsFit, range-fits, section-length, parts-sized, image-section}
 use Rattle.image.proofs.Slots.{actions-read, noted-read, in-senders, states-read}
@@ -50,7 +52,7 @@ module _ (s : Server) (r : InRange s) (b : List ℕ) (h : stateLength (s .server
       let e : List ℕ = image s b in
       let at : ℕ = offset (s .servers) (s .quota) theCuts in
       ap (λ (m : ℕ). numbersAt 2 m e at) (sym (r .cutsCount))
-      ∙ cuts-read (s .quota) (s .log .cuts) e at (r .context .sizes .highest) (r .cuts) (used-part _ _ e at (at-section theCuts (omega arith)))
+      ∙ cuts-read mostNumber (s .log .cuts) e at (omega arith) (r .cuts) (used-part _ _ e at (at-section theCuts (omega arith)))
 
   noted-back : numbersAt 4 (s .servers) (image s b) (offset (s .servers) (s .quota) theNoted) ≡ s .noted
   unfolding parts
@@ -73,20 +75,27 @@ module _ (s : Server) (r : InRange s) (b : List ℕ) (h : stateLength (s .server
       let at : ℕ = offset (s .servers) (s .quota) theOwn in
       actions-read (contextOf s) (s .log .own) e at (r .context) (r .own) (used-part _ _ e at (at-section theOwn (omega arith)))
 
-  queue-back : actionsAt (length (queue (s .log))) (image s b) (offset (s .servers) (s .quota) theQueue) ≡ queue (s .log)
+  queue-back : actionsAt (length (queue (shownLog s))) (image s b) (offset (s .servers) (s .quota) theQueue) ≡ queue (shownLog s)
   unfolding parts
   queue-back =
       let e : List ℕ = image s b in
       let at : ℕ = offset (s .servers) (s .quota) theQueue in
-      actions-read (contextOf s) (queue (s .log)) e at (r .context) (r .actions) (used-part _ _ e at (at-section theQueue (omega arith)))
+      actions-read (contextOf s) (queue (shownLog s)) e at (r .context) (r .actions) (used-part _ _ e at (at-section theQueue (omega arith)))
 
-  green-back : take (length (s .log .green)) (actionsAt (length (queue (s .log))) (image s b) (offset (s .servers) (s .quota) theQueue)) ≡ s .log .green
-  unfolding queue
-  green-back = ap (take (length (s .log .green))) queue-back ∙ take-append-seam (s .log .green) (s .log .red)
+  white-back : whiteAt (s .servers) (s .quota) (headerOf s) (image s b) ≡ s .white
+  unfolding whiteAt headerOf
+  white-back = omega (arith, ap sum cuts-back, r .counted)
 
-  red-back : drop (length (s .log .green)) (actionsAt (length (queue (s .log))) (image s b) (offset (s .servers) (s .quota) theQueue)) ≡ s .log .red
+  green-back : blanks (whiteAt (s .servers) (s .quota) (headerOf s) (image s b)) ++ take (length (shownLog s .green)) (actionsAt (length (queue (shownLog s))) (image s b) (offset (s .servers) (s .quota) theQueue))
+      ≡ blanked s .log .green
+  unfolding queue blanked
+  green-back =
+      ap₂ {A = List Action} {B = List Action} {C = List Action} (λ x y. x ++ y) (ap blanks white-back)
+      (ap (take (length (shownLog s .green))) queue-back ∙ take-append-seam (shownLog s .green) (s .log .red))
+
+  red-back : drop (length (shownLog s .green)) (actionsAt (length (queue (shownLog s))) (image s b) (offset (s .servers) (s .quota) theQueue)) ≡ s .log .red
   unfolding queue
-  red-back = ap (drop (length (s .log .green))) queue-back ∙ drop-append-seam (s .log .green) (s .log .red)
+  red-back = ap (drop (length (shownLog s .green))) queue-back ∙ drop-append-seam (shownLog s .green) (s .log .red)
 
   states-back : statesAt (s .servers) (s .quota) (senders 0 (s .membership .states)) (s .servers) 0 (image s b) (offset (s .servers) (s .quota) theStates)
       ≡ s .membership .states
@@ -103,9 +112,9 @@ module _ (s : Server) (r : InRange s) (b : List ℕ) (h : stateLength (s .server
       ∙ states-read (contextOf s) (senders 0 xs) 0 xs (section (s .servers) (s .quota) theStates b) e at (r .context) (r .states) (range-fits s r .states) (omega arith) there
       (at-section theStates (omega arith))
 
-  -- The numbers of s with the lists in its image are s.
-  as-back : decodedAs (s .servers) (s .quota) (headerOf s) (image s b) ≡ s
-  unfolding decodedAs headerOf regularOf transitionalIn lastOf primaryOf markNumbers markOf
+  -- The numbers of s with the lists in its image are s, its white actions blank.
+  as-back : decodedAs (s .servers) (s .quota) (headerOf s) (image s b) ≡ blanked s
+  unfolding decodedAs blanked headerOf regularOf transitionalIn lastOf primaryOf markNumbers markOf
   as-back =
       λ i. record {
         servers = s .servers;
@@ -122,8 +131,9 @@ module _ (s : Server) (r : InRange s) (b : List ℕ) (h : stateLength (s .server
           come = s .membership .come;
         };
         noted = noted-back i;
+        white = white-back i;
       }
 
-  pub decoded-back : decoded (image s b) ≡ s
+  pub decoded-back : decoded (image s b) ≡ blanked s
   unfolding decoded serversIn quotaIn headerOf
   decoded-back = (λ i. decodedAs (header-back i .servers) (header-back i .quota) (header-back i) (image s b)) ∙ as-back

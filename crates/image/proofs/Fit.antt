@@ -16,7 +16,6 @@ use Rattle.base.proofs.Over.{over-length}
 use Rattle.format.specs.Types.{State, Context, state}
 use Rattle.format.specs.Write.{lengthOf}
 use Rattle.format.proofs.Ranges.{ActionRange}
-use Rattle.format.proofs.IdCount.{ids-count}
 use Rattle.format.proofs.Lengths.{cuts-length, ids-length, write-length}
 use Rattle.replication.specs.Machine.Types.{Server, contextOf}
 use Rattle.replication.specs.Machine.WellFormed.{queue, wellFormed}
@@ -24,6 +23,7 @@ use Rattle.image.specs.Layout.{stateSize, theCuts, theNoted, theStates, 
 use Rattle.image.specs.Image.{statesOver, section, parts, image}
 use Rattle.image.proofs.InRange.{CollectedRange, InRange, in-range}
 use Rattle.image.proofs.Used.{ActionFits, action-slots-length, noted-length, header-length, StateFits, states-over-length}
+use Rattle.image.specs.Header.{shownLog}
 
 -- The lists of s have room in their sections.
 pub record SectionsFit (s : Server) : Type 0 where
@@ -34,13 +34,13 @@ pub record SectionsFit (s : Server) : Type 0 where
   pub ids : length (s .votes .yellow .ids) ≤ s .servers * s .quota
   pub ownCount : length (s .log .own) ≤ s .quota
   pub own : Each ActionFits (s .log .own)
-  pub queueCount : length (queue (s .log)) ≤ s .servers * s .quota
-  pub actions : Each ActionFits (queue (s .log))
+  pub queueCount : length (queue (shownLog s)) ≤ s .servers * s .quota
+  pub actions : Each ActionFits (queue (shownLog s))
 
 state-fits : (c : Context) (x : Option State) → CollectedRange c x → StateFits (stateSize (c .servers) (c .quota)) x
 unfolding stateSize lengthOf
 state-fits c none r = tt
-state-fits c (some x) r = omega (arith, write-length (state x), r .count, ids-count c (x .yellow .ids) (r .yellow .ids) (r .yellow .differ))
+state-fits c (some x) r = omega (arith, write-length (state x), r .count, r .yellow .few)
 
 pub range-fits : (s : Server) → InRange s → SectionsFit s
 unfolding contextOf
@@ -51,11 +51,11 @@ range-fits s r =
       noted = omega (arith, r .notedCount);
       statesCount = omega (arith, r .statesCount);
       states = each-implied (CollectedRange c) (StateFits (stateSize (s .servers) (s .quota))) (λ x h. state-fits c x h) (s .membership .states) (r .states);
-      ids = ids-count c (s .votes .yellow .ids) (r .yellow .ids) (r .yellow .differ);
+      ids = r .yellow .few;
       ownCount = r .ownCount;
       own = each-implied (ActionRange c) ActionFits (λ a h. h .payload) (s .log .own) (r .own);
       queueCount = r .queueCount;
-      actions = each-implied (ActionRange c) ActionFits (λ a h. h .payload) (queue (s .log)) (r .actions);
+      actions = each-implied (ActionRange c) ActionFits (λ a h. h .payload) (queue (shownLog s)) (r .actions);
     }
 
 pub well-formed-fits : (s : Server) → wellFormed s ≡ true → SectionsFit s
@@ -88,7 +88,7 @@ module _ (s : Server) (f : SectionsFit s) (b : List ℕ) (h : stateLength (s .se
             over-section (s .servers) (s .quota) theYellow _ b (omega (arith, ids-length (s .votes .yellow .ids), f .ids)) h,
             (
               over-section (s .servers) (s .quota) theOwn _ b (omega (arith, action-slots-length (s .log .own) (f .own), f .ownCount)) h,
-              (over-section (s .servers) (s .quota) theQueue _ b (omega (arith, action-slots-length (queue (s .log)) (f .actions), f .queueCount)) h, tt),
+              (over-section (s .servers) (s .quota) theQueue _ b (omega (arith, action-slots-length (queue (shownLog s)) (f .actions), f .queueCount)) h, tt),
             ),
           ),
         ),

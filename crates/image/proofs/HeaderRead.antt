@@ -13,7 +13,6 @@ use Rattle.base.proofs.Occurs.{Occurs, number-read}
 use Rattle.format.specs.Limits.{mostServers, mostIds}
 use Rattle.format.specs.Write.{primaryBytes, markBytes}
 use Rattle.format.specs.Read.{primaryAt, markAt}
-use Rattle.format.proofs.IdCount.{ids-count}
 use Rattle.format.proofs.Fields.{primary-read, mark-read}
 use Rattle.record.specs.declared.State.{State}
 use Rattle.record.specs.Values.{primaryOf, lastOf, markOf}
@@ -21,9 +20,9 @@ use Rattle.record.specs.Events.{lastIn, markIn}
 use Rattle.writer.specs.Blocks.{yellowHeadBytes}
 use Rattle.replication.specs.Machine.Types.{Mode, Non-prim, Reg-prim, Trans-prim, Exchange-states, Exchange-actions, Construct, No, Un, Configuration, Server, contextOf}
 use Rattle.replication.specs.Machine.WellFormed.{queue}
-use Rattle.image.specs.Header.{modeNumber, statusOf, idOf, setOf, transitionalOf, markNumbers, headerOf, written, membershipBytes, countsBytes, headerWritten, headerIn}
+use Rattle.image.specs.Header.{shownLog, modeNumber, statusOf, idOf, setOf, transitionalOf, markNumbers, headerOf, written, membershipBytes, countsBytes, headerWritten, headerIn}
 use Rattle.image.specs.Decode.{modeNamed}
-use Rattle.image.specs.Layout.{atLayout, atServers, atQuota, atMe, atMode, atConfiguration, atConfigurationId, atConfigurationSet, atTransitional, atTransitionalSet, atStates, atCpcs, atCome, atQueueLength, atGreenLength, atNumbered, atOwnCount, atSent, atAttempt, atLast, atMark, atYellow, atYellowCount}
+use Rattle.image.specs.Layout.{atLayout, atServers, atQuota, atMe, atMode, atConfiguration, atConfigurationId, atConfigurationSet, atTransitional, atTransitionalSet, atStates, atCpcs, atCome, atQueueLength, atGreenCount, atNumbered, atOwnCount, atSent, atAttempt, atLast, atMark, atYellow, atYellowCount}
 use Rattle.image.proofs.InRange.{ConfigurationRange, TransitionalRange, InRange}
 use Rattle.image.proofs.Slots.{senders-below}
 
@@ -95,7 +94,7 @@ module _ (s : Server) (r : InRange s) (rest : List ℕ) where
       let sizes = r .context .sizes in
       let own = r .context .own in
       let product : s .servers * s .quota ≤ mostIds = mul-le-mul (sizes .most) (sizes .highest) in
-      let few = ids-count (contextOf s) (s .votes .yellow .ids) (r .yellow .ids) (r .yellow .differ) in
+      let few = r .yellow .few in
       λ i. record {
         layout = number 1 (h .layout) atLayout refl (omega arith) i;
         servers = number 1 (h .servers) atServers refl (omega arith) i;
@@ -111,7 +110,7 @@ module _ (s : Server) (r : InRange s) (rest : List ℕ) where
         cpcs = number 1 (h .cpcs) atCpcs refl (r .cpcs) i;
         come = number 4 (h .come) atCome refl (omega (arith, r .come)) i;
         «queue_length» = number 4 (h .«queue_length») atQueueLength refl (omega (arith, r .queueCount)) i;
-        «green_length» = number 4 (h .«green_length») atGreenLength refl (omega (arith, r .queueCount, length-append (s .log .green) (s .log .red))) i;
+        «green_count» = number 4 (h .«green_count») atGreenCount refl (omega (arith, r .queueCount, length-append (shownLog s .green) (s .log .red))) i;
         numbered = number 2 (h .numbered) atNumbered refl (omega (arith, r .numbered)) i;
         «own_count» = number 2 (h .«own_count») atOwnCount refl (omega (arith, r .ownCount)) i;
         sent = number 2 (h .sent) atSent refl (omega (arith, r .sent, r .numbered, r .context .sizes .highest)) i;

@@ -18,13 +18,16 @@ use Rattle.image.specs.Decode.{decoded, reads, readImage}
 use Rattle.image.proofs.InRange.{in-range}
 use Rattle.image.proofs.Fit.{well-formed-fits, image-fits}
 use Rattle.image.proofs.Again.{image-twice}
+use Rattle.image.specs.Holding.{blanked}
 use Rattle.image.proofs.Decoded.{decoded-back}
+use Rattle.image.proofs.Blanks.{image-blanked, blanked-formed}
 
 module _ (s : Server) (old : List ℕ) (ok : wellFormed s ≡ true) (h : stateLength (s .servers) (s .quota) ≤ length old) where
   pub image-length : length (image s old) ≡ length old
   image-length = image-fits s (well-formed-fits s ok) old h
 
-  pub decoded-image : decoded (image s old) ≡ s
+  -- What is read of the image is the state, its white actions blank.
+  pub decoded-image : decoded (image s old) ≡ blanked s
   decoded-image = decoded-back s (in-range s ok) old h
 
   pub image-again : image s (image s old) ≡ image s old
@@ -33,12 +36,12 @@ module _ (s : Server) (old : List ℕ) (ok : wellFormed s ≡ true) (h : stateLe
   pub image-reads : reads (image s old) ≡ true
   unfolding reads
   image-reads =
-      let again : image (decoded (image s old)) (image s old) ≡ image s old = ap (λ (t : Server). image t (image s old)) decoded-image ∙ image-again in
-      both-yes _ _ (ap wellFormed decoded-image ∙ ok) (ap (λ (c : List ℕ). same c (image s old)) again ∙ same-yes (image s old))
+      let again : image (decoded (image s old)) (image s old) ≡ image s old = ap (λ (t : Server). image t (image s old)) decoded-image ∙ image-blanked s (image s old) ∙ image-again in
+      both-yes _ _ (ap wellFormed decoded-image ∙ blanked-formed s ok) (ap (λ (c : List ℕ). same c (image s old)) again ∙ same-yes (image s old))
 
-  pub read-image : readImage (image s old) ≡ some s
+  pub read-image : readImage (image s old) ≡ some (blanked s)
   unfolding readImage
-  read-image = sym (pick-yes (reads (image s old)) (some s) _ _ image-reads (ap some (sym decoded-image)))
+  read-image = sym (pick-yes (reads (image s old)) (some (blanked s)) _ _ image-reads (ap some (sym decoded-image)))
 
 -- ---- what is read
 

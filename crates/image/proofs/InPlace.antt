@@ -16,15 +16,16 @@ use Rattle.replication.specs.Machine.WellFormed.{wellFormed}
 use Rattle.image.specs.Layout.{theHeader, theCuts, theNoted, theStates, theYellow, theOwn, theQueue, sections, sectionSize, offset, stateLength, headerSize, sectionCount}
 use Rattle.image.specs.Image.{section, parts, image}
 use Rattle.image.specs.Decode.{decoded, readImage}
-use Rattle.image.specs.Holding.{Holds, HoldsSuch, HoldsSome}
+use Rattle.image.specs.Holding.{Blank, Holds, HoldsSuch, HoldsSome}
 use Rattle.image.proofs.Fit.{SectionsFit, well-formed-fits, parts-sized, image-section}
+use Rattle.image.proofs.Blanks.{blank-same, decoded-blank}
 use Rattle.image.proofs.ImageLaws.{image-length, image-again, decoded-image, image-read}
 
 pub read-holds : (s : Server) (b : List ℕ) → readImage b ≡ some s → stateLength (s .servers) (s .quota) ≤ length b → Holds s b
-read-holds s b h l = let r = image-read b s h in record { formed = r .1; written = r .0; long = l }
+read-holds s b h l = let r = image-read b s h in record { formed = r .1; written = r .0; long = l; blank = subst Blank (sym (r .2)) (decoded-blank b) }
 
 pub holds-decoded : (s : Server) (b : List ℕ) → Holds s b → decoded b ≡ s
-holds-decoded s b r = ap decoded (sym (r .written)) ∙ decoded-image s b (r .formed) (r .long)
+holds-decoded s b r = ap decoded (sym (r .written)) ∙ decoded-image s b (r .formed) (r .long) ∙ blank-same s (r .blank)
 
 -- A buffer holds one state.
 pub holds-one : (s t : Server) (b : List ℕ) → Holds s b → Holds t b → s ≡ t
@@ -35,10 +36,11 @@ unfolding stateLength sections sum
 holds-header s b r = omega (arith, r .long)
 
 -- The image of a well-formed state is held.
-pub image-holds : (s t : Server) (b : List ℕ) → Holds s b → t .servers ≡ s .servers → t .quota ≡ s .quota → wellFormed t ≡ true → Holds t (image t b)
-image-holds s t b r e f ok =
+pub image-holds : (s t : Server) (b : List ℕ) → Holds s b → t .servers ≡ s .servers → t .quota ≡ s .quota → wellFormed t ≡ true → Blank t
+    → Holds t (image t b)
+image-holds s t b r e f ok k =
     let room : stateLength (t .servers) (t .quota) ≤ length b = subst (λ (m : ℕ). m ≤ length b) (λ i. stateLength (sym e i) (sym f i)) (r .long) in
-    record { formed = ok; written = image-again t b ok room; long = omega (arith, image-length t b ok room) }
+    record { formed = ok; written = image-again t b ok room; long = omega (arith, image-length t b ok room); blank = k }
 
 -- ---- a state of which something is known
 

@@ -1,5 +1,5 @@
 -- What a well-formed state's numbers and lists are, as far as its image has to hold them.
-use Prim.Native.Nat.{ℕ, suc, _+_, _*_, _^_, _≤_, _<_}
+use Prim.Native.Nat.{ℕ, suc, _+_, _*_, _-_, _^_, _≤_, _<_}
 use mathlib.Core.Path.{_≡_, refl, ap}
 use mathlib.Core.Bool.{true}
 use mathlib.Core.List.{List, [], _∷_, _++_}
@@ -7,16 +7,18 @@ use mathlib.Core.Option.{Option, none, some}
 use native.Mathlib.Omega.{arith}
 use lib.ListN.{length, length-map}
 use Rattle.base.proofs.TestLaws.{and-holds, both-yes, le-holds, eq-holds, not-both}
-use Rattle.base.specs.Lists.{all, above, Each}
-use Rattle.base.proofs.ListLaws.{all-each, above-length}
-use Rattle.format.specs.Limits.{mostServers, mostIndex, mostIds}
+use Rattle.base.specs.Lists.{all, above, sum, Each}
+use Rattle.base.proofs.ListLaws.{all-each, above-length, each-implied}
+use Rattle.format.specs.Limits.{mostServers, mostIndex, mostNumber, mostLength, mostPlanned}
 use Rattle.format.specs.Types.{Id, Action, State, Context}
-use Rattle.format.specs.Range.{actionOk, lengthOk, cutsOk, ownSetOk, idsInRange}
+use Rattle.format.specs.Range.{actionOk, lengthOk, cutsOk, ownSetOk}
 use Rattle.format.proofs.Ranges.{ContextRange, context-range, length-range, set-range, index-range, configuration-range, ActionRange, action-range, PrimaryRange, primary-range, MarkRange, mark-range, YellowRange, yellow-range, StateRange, state-range}
-use Rattle.format.proofs.IdCount.{ids-count}
 use Rattle.replication.specs.Machine.Types.{Log, Configuration, Server, contextOf}
 use Rattle.replication.specs.Machine.Colours.{cut}
 use Rattle.replication.specs.Machine.WellFormed.{logRanges, votesRanges, configurationFits, transitionalFits, collectedFits, collectedFit, membershipRanges, ranges, idsIn, queue, sameIds, ownListFits, wellFormed}
+use Rattle.replication.proofs.WellFormed.Facts.{well-formed-facts}
+use Rattle.replication.proofs.WellFormed.Sums.{places-most}
+use Rattle.image.specs.Header.{shownLog}
 
 abbrev pub ConfigurationRange : Option Configuration → Type 0
 ConfigurationRange none = Unit {0}
@@ -33,13 +35,14 @@ CollectedRange c (some x) = StateRange c x
 
 pub record InRange (s : Server) : Type 0 where
   pub context : ContextRange (contextOf s)
-  pub actions : Each (ActionRange (contextOf s)) (queue (s .log))
-  pub queueCount : length (queue (s .log)) ≤ s .servers * s .quota
+  pub actions : Each (ActionRange (contextOf s)) (queue (shownLog s))
+  pub queueCount : length (queue (shownLog s)) ≤ s .servers * s .quota
   pub cutsCount : length (s .log .cuts) ≡ s .servers
-  pub cuts : cutsOk (s .quota) (s .log .cuts) ≡ true
+  pub cuts : cutsOk mostNumber (s .log .cuts) ≡ true
+  pub counted : s .white + length (queue (shownLog s)) ≡ sum (s .log .cuts)
   pub own : Each (ActionRange (contextOf s)) (s .log .own)
   pub ownCount : length (s .log .own) ≤ s .quota
-  pub numbered : s .log .numbered ≤ s .quota
+  pub numbered : s .log .numbered ≤ mostNumber
   pub last : PrimaryRange (s .votes .last)
   pub attempt : s .votes .attempt ≤ mostIndex
   pub mark : MarkRange (s .votes .mark)
@@ -49,20 +52,15 @@ pub record InRange (s : Server) : Type 0 where
   pub statesCount : length (s .membership .states) ≡ s .servers
   pub states : Each (CollectedRange (contextOf s)) (s .membership .states)
   pub cpcs : s .membership .cpcs < 2 ^ mostServers
-  pub come : s .membership .come ≤ 2 * (s .servers * s .quota)
+  pub come : s .membership .come ≤ mostPlanned (s .servers)
   pub sent : s .log .sent ≤ s .log .numbered
   pub notedCount : length (s .noted) ≡ s .servers
-  pub noted : Each (λ l. l ≤ mostIds) (s .noted)
+  pub noted : Each (λ l. l ≤ mostLength) (s .noted)
 
 -- ---- the parts
 
 actions-range : (c : Context) → ContextRange c → (l : List Action) → all (actionOk c) l ≡ true → Each (ActionRange c) l
 actions-range c r l ok = all-each (actionOk c) (ActionRange c) (λ a h. action-range c a r h) l ok
-
-ids-in-range : (c : Context) (l : List Action) → all (actionOk c) l ≡ true → idsInRange c (idsIn l) ≡ true
-unfolding all idsInRange idsIn actionOk
-ids-in-range c [] ok = refl
-ids-in-range c (a ∷ l) ok = let t = and-holds _ _ ok in both-yes _ _ (and-holds _ _ (t .0) .0) (ids-in-range c l (t .1))
 
 all-append : (c : Context) (x y : List Action) → all (actionOk c) x ≡ true → all (actionOk c) y ≡ true → all (actionOk c) (x ++ y) ≡ true
 unfolding all
@@ -76,11 +74,7 @@ same-count [] (b ∷ y) h = not-both h
 same-count (a ∷ x) [] h = not-both h
 same-count (a ∷ x) (b ∷ y) h = ap suc (same-count x y (and-holds _ _ h .1))
 
-id-count : (l : List Action) → length (idsIn l) ≡ length l
-unfolding idsIn
-id-count l = length-map l (λ (a : Action). a .id)
-
-own-count : (me : ℕ) (l : Log) → ownListFits me l ≡ true → length (l .own) ≤ l .numbered
+own-count : (me : ℕ) (l : Log) → ownListFits me l ≡ true → length (l .own) ≤ l .numbered - cut l me
 unfolding ownListFits idsIn
 own-count me l ok =
     let t = and-holds _ _ ok in
@@ -116,7 +110,7 @@ collected-fit c r d k (x ∷ l) ok = let t = and-holds _ _ ok in (collected-fits
 -- ---- the whole
 
 pub in-range : (s : Server) → wellFormed s ≡ true → InRange s
-unfolding wellFormed ranges logRanges votesRanges membershipRanges contextOf queue
+unfolding wellFormed ranges logRanges votesRanges membershipRanges contextOf queue cut
 in-range s ok =
     let c : Context = contextOf s in
     let a₁ = and-holds _ _ ok in
@@ -128,6 +122,9 @@ in-range s ok =
     let b₃ = and-holds _ _ (b₂ .1) in
     let b₄ = and-holds _ _ (b₃ .1) in
     let b₅ = and-holds _ _ (b₄ .1) in
+    let b₆ = and-holds _ _ (b₅ .1) in
+    let a₅ = and-holds _ _ (a₄ .1) in
+    let f = well-formed-facts s ok in
     let r : ContextRange c = context-range c (b₁ .0) in
     let l₁ = and-holds _ _ (b₂ .0) in
     let l₂ = and-holds _ _ (l₁ .1) in
@@ -143,18 +140,21 @@ in-range s ok =
     let m₃ = and-holds _ _ (m₂ .1) in
     let m₄ = and-holds _ _ (m₃ .1) in
     let m₅ = and-holds _ _ (m₄ .1) in
-    let actions : all (actionOk c) (s .log .green ++ s .log .red) ≡ true = all-append c (s .log .green) (s .log .red) (l₁ .0) (l₂ .0) in
-    let numbered : s .log .numbered ≤ s .quota = le-holds (s .log .numbered) (s .quota) (l₆ .0) in
+    let actions : all (actionOk c) (shownLog s .green ++ s .log .red) ≡ true = all-append c (shownLog s .green) (s .log .red) (l₁ .0) (l₂ .0) in
     record {
       context = r;
-      actions = actions-range c r (s .log .green ++ s .log .red) actions;
+      actions = actions-range c r (shownLog s .green ++ s .log .red) actions;
       queueCount =
-          omega (arith, ids-count c (idsIn (s .log .green ++ s .log .red)) (ids-in-range c (s .log .green ++ s .log .red) actions) (a₂ .0), id-count (s .log .green ++ s .log .red));
+          places-most (s .servers) (s .quota) (shownLog s .green ++ s .log .red)
+          (each-implied (ActionRange c) (λ a. a .id .creator < s .servers) (λ a h. h .id .creator) (shownLog s .green ++ s .log .red)
+          (actions-range c r (shownLog s .green ++ s .log .red) actions))
+          (f .places .unwhites);
+      counted = f .places .counted;
       cutsCount = eq-holds (length (s .log .cuts)) (s .servers) (l₃ .0);
       cuts = l₄ .0;
       own = actions-range c r (s .log .own) (l₅ .0);
-      ownCount = omega (arith, own-count (s .me) (s .log) (a₄ .0));
-      numbered = numbered;
+      ownCount = omega (arith, own-count (s .me) (s .log) (a₅ .0), f .places .own-room);
+      numbered = le-holds (s .log .numbered) mostNumber (l₆ .0);
       sent = le-holds (s .log .sent) (s .log .numbered) (l₆ .1);
       last = primary-range c (s .votes .last) r (v₁ .0);
       attempt = index-range (s .votes .attempt) (v₂ .0);
@@ -165,7 +165,7 @@ in-range s ok =
       statesCount = eq-holds (length (s .membership .states)) (s .servers) (m₃ .0);
       states = collected-fit c r (s .membership .configuration) 0 (s .membership .states) (m₄ .0);
       cpcs = set-range c (s .membership .cpcs) r (m₅ .0);
-      come = le-holds (s .membership .come) (2 * (s .servers * s .quota)) (m₅ .1);
+      come = le-holds (s .membership .come) (mostPlanned (s .servers)) (m₅ .1);
       notedCount = eq-holds (length (s .noted)) (s .servers) (b₅ .0);
-      noted = all-each (lengthOk c) (λ l. l ≤ mostIds) (λ l h. length-range c l r h) (s .noted) (b₅ .1);
+      noted = all-each lengthOk (λ l. l ≤ mostLength) length-range (s .noted) (b₆ .0);
     }

@@ -9,6 +9,7 @@ pub mod PlaceLaws
 pub mod Loaded
 pub mod Saved
 pub mod Decoded
+pub mod Blanks
 pub mod ImageLaws
 pub mod InPlace
 pub mod Chained
@@ -17,5 +18,6 @@ pub mod HeaderLaws
 pub mod Counts
 pub mod StartLaws
 pub mod Taken
+pub mod Raising
 pub mod Fields
 pub mod Unsent

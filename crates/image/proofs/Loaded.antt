@@ -9,7 +9,7 @@ use Rattle.record.specs.declared.State.{State}
 use Rattle.record.specs.Events.{lastIn, markIn}
 use Rattle.image.specs.declared.header.Membership.{Membership}
 use Rattle.image.specs.Header.{headerIn, membershipIn}
-use Rattle.image.specs.Layout.{atLayout, atServers, atQuota, atMe, atMode, atConfiguration, atConfigurationId, atConfigurationSet, atTransitional, atTransitionalSet, atStates, atCpcs, atCome, atQueueLength, atGreenLength, atNumbered, atOwnCount, atSent, atAttempt, atLast, atMark, atYellow, atYellowCount}
+use Rattle.image.specs.Layout.{atLayout, atServers, atQuota, atMe, atMode, atConfiguration, atConfigurationId, atConfigurationSet, atTransitional, atTransitionalSet, atStates, atCpcs, atCome, atQueueLength, atGreenCount, atNumbered, atOwnCount, atSent, atAttempt, atLast, atMark, atYellow, atYellowCount}
 
 abbrev pub madeMembership : (layout servers quota me mode status id set transitional inside states cpcs come : ℕ) → Membership
 madeMembership layout servers quota me mode status id set transitional inside states cpcs come = record {
@@ -52,7 +52,7 @@ madeState m queue green numbered own held attempt last mark yellow count = recor
   cpcs = m .cpcs;
   come = m .come;
   «queue_length» = queue;
-  «green_length» = green;
+  «green_count» = green;
   numbered = numbered;
   «own_count» = own;
   sent = held;
@@ -64,7 +64,7 @@ madeState m queue green numbered own held attempt last mark yellow count = recor
 }
 
 pub state-loaded : (b : List ℕ) (m : Membership) (queue green numbered own held attempt : ℕ) (last : LastPrimary) (mark : Mark) (yellow count : ℕ)
-    → m ≡ membershipIn b → queue ≡ numberAt 4 b atQueueLength → green ≡ numberAt 4 b atGreenLength → numbered ≡ numberAt 2 b atNumbered → own ≡ numberAt 2 b atOwnCount
+    → m ≡ membershipIn b → queue ≡ numberAt 4 b atQueueLength → green ≡ numberAt 4 b atGreenCount → numbered ≡ numberAt 2 b atNumbered → own ≡ numberAt 2 b atOwnCount
     → held ≡ numberAt 2 b atSent → attempt ≡ numberAt 4 b atAttempt → last ≡ lastIn b atLast → mark ≡ markIn b atMark → yellow ≡ numberAt 1 b atYellow
     → count ≡ numberAt 2 b atYellowCount → madeState m queue green numbered own held attempt last mark yellow count ≡ headerIn b
 unfolding membershipIn

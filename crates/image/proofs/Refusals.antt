@@ -15,7 +15,7 @@ use Rattle.replication.specs.Machine.WellFormed.{ranges, wellFormed}
 use Rattle.image.specs.Layout.{stateLength, outLength}
 use Rattle.image.specs.Image.{image}
 use Rattle.image.specs.Decode.{decodedAs, decoded, serversIn, quotaIn, reads, readImage}
-use Rattle.image.specs.Outcome.{refusal, stateShort, outShort, tooShort, resultOf, stepFrom, stepOn, stateNumber, imageNumber}
+use Rattle.image.specs.Outcome.{refusal, stateShort, outShort, tooShort, imageAfter, resultOf, stepFrom, stepOn, stateNumber, imageNumber}
 use Rattle.image.proofs.ImageLaws.{image-read, image-reads}
 use Rattle.image.specs.Holding.{Holds}
 use Rattle.image.proofs.InPlace.{read-holds}
@@ -36,10 +36,10 @@ unread-refused b e o h k =
     sym (pick-no (tooShort b o) (refusal 8 b o) _ _ h (sym (ap (λ (x : Option Server). stepFrom x b e o) (unread b k))))
 
 -- The step of the state that is read.
-pub step-read : (b e o : List ℕ) (s : Server) → tooShort b o ≡ false → readImage b ≡ some s → stepOn b e o ≡ resultOf (step s e) b o
+pub step-read : (b e o : List ℕ) (s : Server) → tooShort b o ≡ false → readImage b ≡ some s → stepOn b e o ≡ resultOf (imageAfter s e) (step s e) b o
 unfolding stepOn stepFrom
 step-read b e o s h k =
-    sym (pick-no (tooShort b o) (resultOf (step s e) b o) _ _ h (sym (ap (λ (x : Option Server). stepFrom x b e o) k)))
+    sym (pick-no (tooShort b o) (resultOf (imageAfter s e) (step s e) b o) _ _ h (sym (ap (λ (x : Option Server). stepFrom x b e o) k)))
 
 -- ---- the number of a pair of buffers, and of the state's alone
 
@@ -181,10 +181,10 @@ unfolding tooShort
 zero-whole b o z = let r = zero-read b o z in image-whole b (or-fails (stateShort b) (outShort b o) (r .0) .0) (r .1)
 
 -- The step's answer by the number of its buffers: the machine's step of the state that they hold where it is 0, and else the refusal with it.
-pub step-by-number : (b e o : List ℕ) → stepOn b e o ≡ pick (stateNumber b o =? 0) (resultOf (step (decoded b) e) b o) (refusal (stateNumber b o) b o)
+pub step-by-number : (b e o : List ℕ) → stepOn b e o ≡ pick (stateNumber b o =? 0) (resultOf (imageAfter (decoded b) e) (step (decoded b) e) b o) (refusal (stateNumber b o) b o)
 step-by-number b e o = go (known (stateNumber b o =? 0))
   where
-    go : Known (stateNumber b o =? 0) → stepOn b e o ≡ pick (stateNumber b o =? 0) (resultOf (step (decoded b) e) b o) (refusal (stateNumber b o) b o)
+    go : Known (stateNumber b o =? 0) → stepOn b e o ≡ pick (stateNumber b o =? 0) (resultOf (imageAfter (decoded b) e) (step (decoded b) e) b o) (refusal (stateNumber b o) b o)
     go (holds h) =
         let z : stateNumber b o ≡ 0 = eq-holds (stateNumber b o) 0 h in
         pick-yes (stateNumber b o =? 0) (stepOn b e o) _ _ h (step-read b e o (decoded b) (zero-read b o z .0) (zero-ready b o z .read))

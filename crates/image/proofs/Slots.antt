@@ -14,7 +14,7 @@ use Rattle.base.specs.Lists.{isThere, Each}
 use Rattle.base.proofs.Occurs.{Occurs, occurs-first, occurs-second, occurs-at, occurs-drop, joined-parts, number-read}
 use Rattle.base.specs.Sets.{inSet, withMember}
 use Rattle.base.proofs.SetLaws.{in-empty, member-other, member-same, with-member-below}
-use Rattle.format.specs.Limits.{mostIds}
+use Rattle.format.specs.Limits.{mostLength}
 use Rattle.format.specs.Types.{Action, State, Context, state, kindNumber, kindOf}
 use Rattle.format.specs.Write.{write, framed, bodyOf, stateBytes, actionBytes}
 use Rattle.format.specs.Read.{actionAt, stateAt}
@@ -44,7 +44,7 @@ unfolding actionsAt
 actions-count zero b at = refl
 actions-count (suc m) b at = ap suc (actions-count m b (at + slotSize))
 
-pub noted-read : (l : List ℕ) (e : List ℕ) (at : ℕ) → Each (λ x. x ≤ mostIds) l → Occurs (notedBytes l) e at → numbersAt 4 (length l) e at ≡ l
+pub noted-read : (l : List ℕ) (e : List ℕ) (at : ℕ) → Each (λ x. x ≤ mostLength) l → Occurs (notedBytes l) e at → numbersAt 4 (length l) e at ≡ l
 unfolding notedBytes numbersAt bytesOf
 noted-read [] e at r o = refl
 noted-read (x ∷ l) e at r o =

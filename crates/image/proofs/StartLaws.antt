@@ -20,7 +20,6 @@ use Rattle.base.proofs.Branches.{pick-answered, pick-denied}
 use Rattle.base.proofs.Over.{zeros-length}
 use Rattle.format.specs.Limits.{fewestServers, leastQuota}
 use Rattle.format.specs.Range.{sizesOk}
-use Rattle.format.specs.Types.{State}
 use Rattle.format.specs.Write.{cutsBytes, idsBytes}
 use Rattle.record.specs.declared.State as declared
 use Rattle.record.specs.Start.{startOf}

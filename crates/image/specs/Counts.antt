@@ -3,9 +3,9 @@ use Prim.Native.Nat.{ℕ, _+_, _*_, _≤_}
 use mathlib.Core.List.{List}
 use lib.ListN.{length}
 use Rattle.base.specs.Bytes.{numberAt}
-use Rattle.format.specs.Limits.{mostIds}
+use Rattle.format.specs.Limits.{mostIds, mostNumber}
 use Rattle.format.specs.Places.{cutSize, idSize}
-use Rattle.image.specs.Layout.{atQueueLength, atGreenLength, atNumbered, atOwnCount, atSent, atYellowCount}
+use Rattle.image.specs.Layout.{atQueueLength, atGreenCount, atNumbered, atOwnCount, atSent, atYellowCount}
 use Rattle.image.specs.Layout.{SizesIn, headerSize, notedSize, slotSize, theNoted, theYellow, theOwn, theQueue, offset, stateLength}
 use Rattle.image.specs.Decode.{serversIn, quotaIn}
 
@@ -13,7 +13,7 @@ abbrev pub queueCount : List ℕ → ℕ
 queueCount b = numberAt 4 b atQueueLength
 
 abbrev pub greenCount : List ℕ → ℕ
-greenCount b = numberAt 4 b atGreenLength
+greenCount b = numberAt 4 b atGreenCount
 
 abbrev pub numberedIn : List ℕ → ℕ
 numberedIn b = numberAt 2 b atNumbered
@@ -48,7 +48,7 @@ pub record CountsIn (b : List ℕ) : Type 0 where
   pub queueEnd : place theQueue b + slotSize * mostActions b ≤ length b
   pub queue : queueCount b ≤ mostActions b
   pub green : greenCount b ≤ queueCount b
-  pub numbered : numberedIn b ≤ quotaIn b
+  pub numbered : numberedIn b ≤ mostNumber
   pub own : ownCount b ≤ quotaIn b
   pub sent : sentIn b ≤ numberedIn b
   pub yellow : yellowCount b ≤ mostActions b

@@ -1,12 +1,12 @@
 -- Reading an image back. Document 01, 'Returned numbers', row 8: a buffer reads exactly when it holds a well-formed state's image.
-use Prim.Native.Nat.{ℕ, zero, suc, _+_}
+use Prim.Native.Nat.{ℕ, zero, suc, _+_, _-_}
 use mathlib.Core.Bool.{Bool}
-use mathlib.Core.List.{List, [], _∷_}
+use mathlib.Core.List.{List, [], _∷_, _++_}
 use mathlib.Core.Option.{Option, none, some}
-use lib.ListN.{take, drop}
+use lib.ListN.{take, drop, replicate}
 use Rattle.base.specs.Tests.{_and_, _=?_, pick}
 use Rattle.base.specs.Bytes.{numbersAt}
-use Rattle.base.specs.Lists.{same}
+use Rattle.base.specs.Lists.{same, sum}
 use Rattle.base.specs.Sets.{inSet}
 use Rattle.format.specs.Types.{Action, State}
 use Rattle.format.specs.Read.{actionAt, idsAt, stateAt}
@@ -48,6 +48,17 @@ statesAt n q here zero k b at = []
 statesAt n q here (suc m) k b at =
     pick (inSet k here) (some (stateAt n (drop at b))) none ∷ statesAt n q here m (k + 1) b (at + stateSize n q)
 
+-- What stands for a white action: no byte of it is kept.
+unfoldable pub blank : Action
+blank = record { id = record { creator = 0; index = 0 }; greenLength = 0; whiteLength = 0; payload = [] }
+
+unfoldable pub blanks : ℕ → List Action
+blanks w = replicate {A = Action} w blank
+
+-- How many actions are white: all that were entered, by the cuts, but those with a slot.
+unfoldable pub whiteAt : (n q : ℕ) → Numbers → List ℕ → ℕ
+whiteAt n q h b = sum (numbersAt 2 n b (offset n q theCuts)) - h .«queue_length»
+
 -- The state of n servers with the quota q and the further numbers h, with the lists that the bytes b hold.
 unfoldable pub decodedAs : (n q : ℕ) → Numbers → List ℕ → Server
 decodedAs n q h b = record {
@@ -55,8 +66,8 @@ decodedAs n q h b = record {
   quota = q;
   me = h .me;
   log = record {
-    green = take (h .«green_length») (actionsAt (h .«queue_length») b (offset n q theQueue));
-    red = drop (h .«green_length») (actionsAt (h .«queue_length») b (offset n q theQueue));
+    green = blanks (whiteAt n q h b) ++ take (h .«green_count») (actionsAt (h .«queue_length») b (offset n q theQueue));
+    red = drop (h .«green_count») (actionsAt (h .«queue_length») b (offset n q theQueue));
     cuts = numbersAt 2 n b (offset n q theCuts);
     own = actionsAt (h .«own_count») b (offset n q theOwn);
     numbered = h .numbered;
@@ -77,6 +88,7 @@ decodedAs n q h b = record {
     come = h .come;
   };
   noted = numbersAt 4 n b (offset n q theNoted);
+  white = whiteAt n q h b;
 }
 
 unfoldable pub serversIn : List ℕ → ℕ
@@ -99,6 +111,10 @@ reads b = wellFormed (decoded b) and same (image (decoded b) b) b
 unfoldable pub readImage : List ℕ → Option Server
 readImage b = pick (reads b) (some (decoded b)) none
 
--- The green list that the bytes say.
+-- How many actions are white, as the bytes say.
+unfoldable pub whiteIn : List ℕ → ℕ
+whiteIn b = decoded b .white
+
+-- The green list that the bytes say, its white part blank.
 unfoldable pub greensIn : List ℕ → List Action
 greensIn b = decoded b .log .green

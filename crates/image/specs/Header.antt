@@ -16,11 +16,12 @@ use Rattle.record.specs.Values.{primaryOf, lastOf, markOf}
 use Rattle.record.specs.Events.{lastIn, markIn}
 use Rattle.writer.specs.Blocks.{yellowHeadBytes}
 use Rattle.replication.specs.Machine.Types.{Mode, Non-prim, Reg-prim, Trans-prim, Exchange-states, Exchange-actions, Construct, No, Un}
-use Rattle.replication.specs.Machine.Types.{Configuration, Server}
+use Rattle.replication.specs.Machine.Types.{Log, Configuration, Server}
+use Rattle.replication.specs.Machine.Colours.{shown}
 use Rattle.replication.specs.Machine.WellFormed.{queue}
 use Rattle.image.specs.declared.header.Membership.{Membership}
 use Rattle.image.specs.Layout.{atLayout, atServers, atQuota, atMe, atMode, atConfiguration, atConfigurationId}
-use Rattle.image.specs.Layout.{atConfigurationSet, atTransitional, atTransitionalSet, atStates, atCpcs, atCome, atQueueLength, atGreenLength}
+use Rattle.image.specs.Layout.{atConfigurationSet, atTransitional, atTransitionalSet, atStates, atCpcs, atCome, atQueueLength, atGreenCount}
 use Rattle.image.specs.Layout.{atNumbered, atOwnCount, atSent, atAttempt, atLast, atMark, atYellow, atYellowCount}
 
 -- ---- of a state
@@ -61,6 +62,10 @@ senders k (x ∷ xs) = pick (isThere x) (withMember k (senders (k + 1) xs)) (sen
 unfoldable pub markNumbers : Mark → declared.Mark
 markNumbers m = record { status = m .status; index = record { 0 = m .index }; attempt = record { 0 = m .attempt }; set = m .set; bits = m .bits }
 
+-- The log as the image shows it: K6: white actions have no slot.
+abbrev pub shownLog : Server → Log
+shownLog s = shown (s .white) (s .log)
+
 unfoldable pub headerOf : Server → State
 headerOf s = record {
   layout = layoutNumber;
@@ -76,8 +81,8 @@ headerOf s = record {
   states = senders 0 (s .membership .states);
   cpcs = s .membership .cpcs;
   come = s .membership .come;
-  «queue_length» = length (queue (s .log));
-  «green_length» = length (s .log .green);
+  «queue_length» = length (queue (shownLog s));
+  «green_count» = length (shownLog s .green);
   numbered = s .log .numbered;
   «own_count» = length (s .log .own);
   sent = s .log .sent;
@@ -117,7 +122,7 @@ membershipNumbers h =
 abbrev pub countsNumbers : State → List (ℕ × ℕ)
 countsNumbers h =
     (4, h .«queue_length»)
-    ∷ (4, h .«green_length»)
+    ∷ (4, h .«green_count»)
     ∷ (2, h .numbered)
     ∷ (2, h .«own_count»)
     ∷ (2, h .sent)
@@ -160,7 +165,7 @@ headerIn b = record {
   cpcs = numberAt 1 b atCpcs;
   come = numberAt 4 b atCome;
   «queue_length» = numberAt 4 b atQueueLength;
-  «green_length» = numberAt 4 b atGreenLength;
+  «green_count» = numberAt 4 b atGreenCount;
   numbered = numberAt 2 b atNumbered;
   «own_count» = numberAt 2 b atOwnCount;
   sent = numberAt 2 b atSent;

@@ -2,18 +2,28 @@
 use Prim.Native.Nat.{ℕ, _≤_}
 use mathlib.Core.Path.{_≡_}
 use mathlib.Core.Bool.{true}
-use mathlib.Core.List.{List}
-use lib.ListN.{length}
-use Rattle.replication.specs.Machine.Types.{Server}
+use mathlib.Core.List.{List, _++_}
+use lib.ListN.{length, drop}
+use Rattle.replication.specs.Machine.Types.{Server, withGreen}
 use Rattle.replication.specs.Machine.WellFormed.{wellFormed}
 use Rattle.image.specs.Layout.{stateLength}
 use Rattle.image.specs.Image.{image}
+use Rattle.image.specs.Decode.{blanks}
 
--- The buffer b, long enough, holds the image of s.
+-- The white actions of s are blank: a buffer keeps nothing of them.
+abbrev pub Blank : Server → Type 0
+Blank s = s .log .green ≡ blanks (s .white) ++ drop (s .white) (s .log .green)
+
+-- The state s with its white actions blank.
+unfoldable pub blanked : Server → Server
+blanked s = withGreen (blanks (s .white) ++ drop (s .white) (s .log .green)) s
+
+-- The buffer b, long enough, holds the image of s, whose white actions are blank.
 pub record Holds (s : Server) (b : List ℕ) : Type 0 where
   pub formed : wellFormed s ≡ true
   pub written : image s b ≡ b
   pub long : stateLength (s .servers) (s .quota) ≤ length b
+  pub blank : Blank s
 
 -- The buffer b holds a state of which P is known.
 pub record HoldsSuch (P : Server → Type 0) (b : List ℕ) : Type 0 where

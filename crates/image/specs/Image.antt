@@ -8,7 +8,7 @@ use Rattle.format.specs.Types.{Action, State, state}
 use Rattle.format.specs.Write.{write, actionBytes, cutsBytes, idsBytes}
 use Rattle.replication.specs.Machine.Types.{Server}
 use Rattle.replication.specs.Machine.WellFormed.{queue}
-use Rattle.image.specs.Header.{headerOf, headerWritten}
+use Rattle.image.specs.Header.{shownLog, headerOf, headerWritten}
 use Rattle.image.specs.Layout.{slotSize, stateSize, theCuts, theNoted, theStates, theYellow, theOwn}
 use Rattle.image.specs.Layout.{theQueue, sectionSize, offset, stateLength}
 
@@ -49,7 +49,7 @@ parts n q s old =
     ∷ statesOver (stateSize n q) (s .membership .states) (section n q theStates old)
     ∷ over (idsBytes (s .votes .yellow .ids)) (section n q theYellow old)
     ∷ over (actionSlots (s .log .own)) (section n q theOwn old)
-    ∷ over (actionSlots (queue (s .log))) (section n q theQueue old)
+    ∷ over (actionSlots (queue (shownLog s))) (section n q theQueue old)
     ∷ []
 
 -- The state s over the old bytes; "bytes past either unchanged".

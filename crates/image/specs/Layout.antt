@@ -49,11 +49,11 @@ atCome = atCpcs + 1
 abbrev pub atQueueLength : ℕ
 atQueueLength = atCome + 4
 
-abbrev pub atGreenLength : ℕ
-atGreenLength = atQueueLength + 4
+abbrev pub atGreenCount : ℕ
+atGreenCount = atQueueLength + 4
 
 abbrev pub atNumbered : ℕ
-atNumbered = atGreenLength + 4
+atNumbered = atGreenCount + 4
 
 abbrev pub atOwnCount : ℕ
 atOwnCount = atNumbered + 2
@@ -83,7 +83,7 @@ headerSize = atYellowCount + 2
 abbrev pub notedSize : ℕ
 notedSize = 4
 
--- An action: creator, index, green length, payload length and payload, filled up with zeros.
+-- An action: creator, index, green length, white length, payload length and payload, filled up with zeros.
 abbrev pub slotSize : ℕ
 slotSize = actionHeadSize + mostPayload
 

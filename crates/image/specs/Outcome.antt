@@ -8,7 +8,11 @@ use Rattle.base.specs.Tests.{_or_, _<?_, pick}
 use Rattle.base.specs.Bytes.{joined, over}
 use Rattle.base.specs.Refusals.{outOfRange, shortBuffer, badState}
 use Rattle.format.specs.Range.{sizesOk}
-use Rattle.replication.specs.Machine.Types.{Server, Outcome, refused, taken, start}
+use Rattle.format.specs.Types.{Record, Reading, says}
+use Rattle.format.specs.Read.{read}
+use Rattle.replication.specs.Machine.Types.{Server, Outcome, refused, taken, start, contextOf, withLog, withWhite}
+use Rattle.replication.specs.Machine.Rules.{Rule, ruleFor}
+use Rattle.replication.specs.Machine.White.{metLog, tookWhite}
 use Rattle.replication.specs.Machine.Step.{step}
 use Rattle.image.specs.declared.Lengths.{Lengths}
 use Rattle.image.specs.Layout.{stateLength, outLength, leastStateLength, leastOutLength}
@@ -43,14 +47,28 @@ outShort b o = pick (sizesOk (serversIn b) (quotaIn b)) (length o <? outLength (
 unfoldable pub tooShort : List ℕ → List ℕ → Bool
 tooShort b o = stateShort b or outShort b o
 
+-- K6: what the rule k at s, with t after it, leaves in the buffer b: one over the other the images of the state that its action meets, in Un after
+-- Install; of that with the white length that it takes; of t with that white length; and of t. A slot that is freed keeps what it held.
+unfoldable pub imagesBy : Option Rule → Server → Server → List ℕ → List ℕ
+imagesBy none s t b = image t b
+imagesBy (some k) s t b =
+    image t (image (withWhite (tookWhite k s) t) (image (withWhite (tookWhite k s) (withLog (metLog k s) s)) (image (withLog (metLog k s) s) b)))
+
+unfoldable pub imagesOn : Server → Reading Record → Server → List ℕ → List ℕ
+imagesOn s (says r) t b = imagesBy (ruleFor (s .membership .mode) r) s t b
+imagesOn s (Reading.refused k) t b = image t b
+
+unfoldable pub imageAfter : Server → List ℕ → Server → List ℕ → List ℕ
+imageAfter s e t b = imagesOn s (read (contextOf s) e) t b
+
 -- "new state, records, store word; bytes past either unchanged"
-unfoldable pub resultOf : Outcome (List ℕ) → List ℕ → List ℕ → Result
-resultOf (refused k) b o = refusal k b o
-resultOf (taken t r w g) b o = record { number = 0; store = word w; sent = length (joined r); state = image t b; out = over (joined r) o }
+unfoldable pub resultOf : (Server → List ℕ → List ℕ) → Outcome (List ℕ) → List ℕ → List ℕ → Result
+resultOf f (refused k) b o = refusal k b o
+resultOf f (taken t r w g) b o = record { number = 0; store = word w; sent = length (joined r); state = f t b; out = over (joined r) o }
 
 unfoldable pub stepFrom : Option Server → List ℕ → List ℕ → List ℕ → Result
 stepFrom none b e o = refusal badState b o
-stepFrom (some s) b e o = resultOf (step s e) b o
+stepFrom (some s) b e o = resultOf (imageAfter s e) (step s e) b o
 
 -- The step over the buffers: 7, then 8, then the machine's step.
 unfoldable pub stepOn : (state event out : List ℕ) → Result

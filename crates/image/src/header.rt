@@ -80,7 +80,7 @@ pub fn load(state: &[u8]) -> State
         cpcs: m.cpcs,
         come: m.come,
         queue_length: num32(state, State::AT_QUEUE_LENGTH),
-        green_length: num32(state, State::AT_GREEN_LENGTH),
+        green_count: num32(state, State::AT_GREEN_COUNT),
         numbered: num16(state, State::AT_NUMBERED),
         own_count: num16(state, State::AT_OWN_COUNT),
         sent: num16(state, State::AT_SENT),
@@ -142,7 +142,7 @@ fn save_counts(state: &mut [u8], h: State)
     ensures { λ _. ⌜ now (state .exit) ≡ patched atQueueLength (countsBytes h) (now (state .entry)) ⌝ }
 {
     let queue = h.queue_length;
-    let green = h.green_length;
+    let green = h.green_count;
     let numbered = h.numbered;
     let own = h.own_count;
     let sent = h.sent;

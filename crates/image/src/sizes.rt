@@ -2,7 +2,7 @@
 ghost use mathlib.Core.Path.{_≡_};
 ghost use Rattle.image.specs.Layout.{SizesIn, stateLength, outLength};
 use record::State;
-use record::StateHead;
+use record::events::StateHead;
 use record::range::product;
 
 // The fixed-size fields; a cut, alone and with a noted length; an action on the own list or in the queue; an id; a State with no cuts and no ids.

@@ -16,7 +16,6 @@ use Rattle.replication.specs.Machine.WellFormed.{wellFormed}
 use Rattle.replication.proofs.Step.Formed.{reds-differ}
 use Rattle.replication.proofs.Step.ModeColours.{install-no-red}
 use Rattle.record.specs.declared.State.{State}
-use Rattle.replication.proofs.WellFormed.Logs.{install-log-fits}
 use Rattle.format.specs.Write.{idsBytes}
 use Rattle.image.specs.Layout.{theCuts, theNoted, theStates, theYellow, theOwn, theQueue, stateLength}
 use Rattle.image.specs.Image.{headerBytes, section, parts, image}
@@ -28,13 +27,12 @@ use Rattle.image.specs.Decode.{decoded}
 use Rattle.image.proofs.Fit.{well-formed-fits, image-section, image-rest}
 use Rattle.image.proofs.Again.{parts-again}
 use Rattle.image.specs.Holding.{Holds, HoldsSome}
-use Rattle.image.proofs.InPlace.{holds-section, such-decoded, holds-decoded, image-holds, holds-some}
-use Rattle.queue.proofs.Holding.{log-formed, log-fits}
+use Rattle.image.proofs.InPlace.{holds-section, such-decoded, holds-decoded, holds-some}
 use Rattle.updates.proofs.MembershipLaws.{Saved}
 use Rattle.install.specs.Swaps.{greenSwaps}
 use Rattle.install.specs.Table.{logIn, yellowsIn, Turned}
 use Rattle.install.proofs.SwapFits.{swaps-append}
-use Rattle.install.proofs.Turning.{turned-append}
+use Rattle.install.proofs.Turning.{swaps-hold, turned-append}
 use Rattle.install.proofs.PassLaws.{cuts-kept}
 use Rattle.install.proofs.SwapLaws.{alike-greens, alike-itself, alike-same}
 
@@ -47,16 +45,13 @@ install-swaps s ok =
     (alike-greens (idsUpTo 0 (s .log .cuts)) _ _ (alike-greens (s .votes .yellow .ids) (s .log) (s .log) (alike-itself (s .log) (reds-differ s ok))))
     (install-no-red s ok)
 
-installed-formed : (s : Server) → wellFormed s ≡ true → wellFormed (withLog (installLog (s .votes .yellow .ids) (s .log)) s) ≡ true
-installed-formed s ok =
-    log-formed s (installLog (s .votes .yellow .ids) (s .log)) ok
-    (install-log-fits (s .servers) (s .quota) (s .me) (s .votes .yellow .ids) (s .log) (log-fits s ok))
-
 log-holds : (b b₁ : List ℕ) (s : Server) → Holds s b → b₁ ≡ image (withLog (installLog (s .votes .yellow .ids) (s .log)) s) b
     → Holds (withLog (installLog (s .votes .yellow .ids) (s .log)) s) b₁
 log-holds b b₁ s r e =
-    let t : Server = withLog (installLog (s .votes .yellow .ids) (s .log)) s in
-    subst (Holds t) (sym e) (image-holds s t b r refl refl (installed-formed s (r .formed)))
+    let ys : List Id = s .votes .yellow .ids in
+    let ds : List Id = ys ++ idsUpTo 0 (s .log .cuts) in
+    let same : greenSwaps ds (s .log) ≡ installLog ys (s .log) = swaps-append ys (idsUpTo 0 (s .log .cuts)) (s .log) ∙ install-swaps s (r .formed) in
+    subst (λ (l : Log). Holds (withLog l s) b₁) same (swaps-hold s b b₁ r ds (e ∙ ap (λ (l : Log). image (withLog l s) b) (sym same)))
 
 -- ---- as the code makes it
 
@@ -125,6 +120,7 @@ pub installed : (b b₁ b₂ : List ℕ) → ((s : Server) → Holds s b → b�
 unfolding install parts
 installed b b₁ b₂ f g s r =
     let t : Server = withLog (installLog (s .votes .yellow .ids) (s .log)) s in
-    g t (log-holds b b₁ s r (f s r))
+    let held : Holds t b₁ = log-holds b b₁ s r (f s r) in
+    g t held
     ∙ ap (image (withVotes (installVotes (s .votes)) t)) (f s r)
-    ∙ votes-over t b (installed-formed s (r .formed)) (r .long) (holds-section s b r theYellow (omega arith))
+    ∙ votes-over t b (held .formed) (r .long) (holds-section s b r theYellow (omega arith))

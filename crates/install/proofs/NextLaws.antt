@@ -27,7 +27,7 @@ use Rattle.image.proofs.InPlace.{such-decoded}
 use Rattle.image.specs.Counts.{queueCount, greenCount, place}
 use Rattle.image.specs.Decode.{decoded}
 use Rattle.image.specs.Holding.{HoldsSome}
-use Rattle.image.specs.Layout.{slotSize, atQueueLength, atGreenLength, theQueue}
+use Rattle.image.specs.Layout.{slotSize, atQueueLength, atGreenCount, theQueue}
 use Rattle.queue.proofs.ReadLaws.{find-at}
 use Rattle.queue.specs.Queue.{position}
 use Rattle.install.specs.Swaps.{greenFound, greenSwap, greenSwaps}
@@ -126,7 +126,7 @@ pub next-over : (b : List ℕ) (first c i k y : ℕ) → y ≡ idIn b k .index �
 next-over b first c i k y e h next = omega (arith, next .here h .1)
 
 -- Among red actions: the code's number of green ones.
-pub next-red : (b : List ℕ) (g c i k : ℕ) → g ≡ numberAt 4 b atGreenLength → NextFrom g c i k b → NextFrom (greenCount b) c i k b
+pub next-red : (b : List ℕ) (g c i k : ℕ) → g ≡ numberAt 4 b atGreenCount → NextFrom g c i k b → NextFrom (greenCount b) c i k b
 next-red b g c i k e next = subst (λ (m : ℕ). NextFrom m c i k b) e next
 
 -- ---- what is passed over

@@ -13,7 +13,7 @@ use Rattle.base.specs.Bytes.{numberAt}
 use Rattle.base.specs.Lists.{above, after, at}
 use Rattle.base.proofs.ListLaws.{each-at, above-more}
 use Rattle.format.specs.Limits.{mostServers}
-use Rattle.format.specs.Types.{Id}
+use Rattle.format.specs.Types.{Id, Action}
 use Rattle.format.specs.Read.{idAt, idsAt}
 use Rattle.record.specs.Values.{idOf}
 use Rattle.replication.specs.Machine.Types.{Log, Server, withLog}
@@ -23,6 +23,7 @@ use Rattle.replication.specs.Machine.WellFormed.{queue}
 use Rattle.replication.specs.Machine.WellFormedRanges.{IdFits}
 use Rattle.replication.proofs.WellFormed.Facts.{well-formed-facts}
 use Rattle.image.specs.Layout.{theYellow, offset, headerSize, atServers, atYellowCount, atQueueLength}
+use Rattle.image.specs.Header.{shownLog}
 use Rattle.image.specs.Image.{image}
 use Rattle.image.specs.Decode.{decoded, serversIn}
 use Rattle.queue.proofs.RedLaws.{cut-read}
@@ -114,7 +115,8 @@ module _ (t b : List ℕ) (x : Indexed t b) (c i k : ℕ) (next : NextFrom (gree
   unfolding logIn above queue
   passed m l none =
       let l₀ : Log = (decoded b) .log in
-      let reds : drop (greenCount b) (l₀ .green ++ l₀ .red) ≡ l₀ .red = drop-at (l₀ .green) (l₀ .red) (greenCount b) (sym (green-read b (x .holds))) in
+      let g : List Action = shownLog (decoded b) .green in
+      let reds : drop (greenCount b) (g ++ l₀ .red) ≡ l₀ .red = drop-at g (l₀ .red) (greenCount b) (sym (green-read b (x .holds))) in
       let whole : m ≡ i + (m - i) = omega arith in
       let same = swaps-passed c i (m - i) l₀ (subst (λ (z : ℕ). NoneOver c i z (l₀ .red)) whole (subst (NoneOver c i m) reds none)) in
       record { written = sym (ap (λ (z : Log). image (withLog z (decoded b)) b) same ∙ such-decoded _ b (x .holds) .written); indexed = x }
@@ -159,7 +161,7 @@ creator-start b t c r = turned-none b t r
 
 module _ (b₀ : List ℕ) (s₀ : HoldsSome b₀) (c : ℕ) where
   creator-cut : c < serversIn b₀ → numberAt 2 b₀ (headerSize + 2 * c) ≡ cut (logIn b₀) c
-  unfolding logIn
+  unfolding logIn cut
   creator-cut h = cut-read (decoded b₀) b₀ c (such-decoded _ b₀ s₀) (omega (arith, numbers (decoded b₀) b₀ (such-decoded _ b₀ s₀) .servers))
 
   pub creator-in : c < serversIn b₀ → c < mostServers

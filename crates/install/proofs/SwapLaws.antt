@@ -14,7 +14,8 @@ use Rattle.base.proofs.TestLaws.{le-holds, le-fails, Known, holds, fails, known
 use Rattle.format.specs.Types.{Id, Action}
 use Rattle.format.specs.Range.{sameId}
 use Rattle.replication.specs.Machine.Types.{Log}
-use Rattle.replication.specs.Machine.Colours.{find, remove, promote, promoteFound, greenId, greenIds}
+use Rattle.replication.specs.Machine.Colours.{find, remove, promote, promoteFound, greenId, greenIds, ofCreator}
+use Rattle.replication.proofs.WellFormed.Creators.{of-append}
 use Rattle.replication.proofs.WellFormed.Ids.{same-id-yes, same-id-holds}
 use Rattle.replication.proofs.WellFormed.Held.{actionCount, Found, absent, found, found?}
 use Rattle.queue.specs.Queue.{position}
@@ -89,6 +90,10 @@ rest-count e (y ∷ w) v =
     count-append (λ a. sameId e (a .id)) w (y ∷ v)
     ∙ omega (arith, cons-count e y v, cons-count e y (w ++ v), count-append (λ a. sameId e (a .id)) w v)
 
+rest-of : (c : ℕ) (u v : List Action) → ofCreator c (rest u v) ≡ ofCreator c u + ofCreator c v
+rest-of c [] v = of-append c [] v
+rest-of c (y ∷ w) v = of-append c w (y ∷ v) ∙ omega (arith, of-append c (y ∷ []) v, of-append c (y ∷ []) w)
+
 rest-find : (e : Id) (u v : List Action) → actionCount e (u ++ v) ≤ 1 → find e (rest u v) ≡ find e (u ++ v)
 rest-find e [] v h = refl
 rest-find e (y ∷ w) v h = find-moved e y w v h
@@ -107,6 +112,12 @@ module _ (d : Id) (l : List Action) (once : Once l) (k : Stands d l (position d 
       ap (actionCount e) (k .whole)
       ∙ whole-count e (k .before) (k .it) (k .behind)
       ∙ ap (λ (i : ℕ). one (sameId e (k .it .id)) + i) (sym (ap (actionCount e) swapped-as ∙ rest-count e (k .before) (k .behind)))
+
+  pub swapped-of : (c : ℕ) → ofCreator c l ≡ ofCreator c (k .it ∷ []) + ofCreator c (swapOut (position d l) l)
+  swapped-of c =
+      ap (ofCreator c) (k .whole)
+      ∙ of-append c (k .before) (k .it ∷ k .behind)
+      ∙ omega (arith, of-append c (k .it ∷ []) (k .behind), ap (ofCreator c) swapped-as, rest-of c (k .before) (k .behind))
 
   swapped-once : Once (swapOut (position d l) l)
   swapped-once e = omega (arith, swapped-count e, once e)

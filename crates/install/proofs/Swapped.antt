@@ -18,8 +18,11 @@ use Rattle.base.specs.Patched.{patched}
 use Rattle.format.specs.Types.{Id, Action}
 use Rattle.format.specs.Write.{actionBytes}
 use Rattle.replication.specs.Machine.Types.{Log, Server, withLog}
+use Rattle.replication.specs.Machine.Colours.{shown}
 use Rattle.replication.specs.Machine.WellFormed.{queue}
-use Rattle.image.specs.Layout.{slotSize, theHeader, theQueue, sections, offset, atGreenLength, atQueueLength}
+use Rattle.replication.proofs.WellFormed.Facts.{well-formed-facts}
+use Rattle.image.specs.Layout.{slotSize, theHeader, theQueue, sections, offset, atGreenCount, atQueueLength}
+use Rattle.image.specs.Header.{shownLog}
 use Rattle.image.specs.Image.{headerBytes, actionSlots, section, parts, image}
 use Rattle.image.proofs.InRange.{in-range}
 use Rattle.image.proofs.Used.{ActionFits, action-slot-length, action-slots-length}
@@ -28,6 +31,7 @@ use Rattle.image.proofs.Decoded.{image-part}
 use Rattle.image.specs.Holding.{Holds}
 use Rattle.queue.specs.Queue.{position}
 use Rattle.install.specs.Swaps.{swapOut, greenFound, greenSwap, exchanged, greenAt}
+use Rattle.install.proofs.SwapFits.{shown-found}
 use Rattle.base.proofs.Over.{over-changed, used-part}
 use Rattle.queue.proofs.Inside.{changed-at}
 use Rattle.image.proofs.Fields.{opened-header}
@@ -121,96 +125,104 @@ module _ (s : Server) (b : List ℕ) (r : Holds s b) (d : Id) (k : Stands d (s .
   abbrev pub swappedLog : Log
   swappedLog = greenFound (some x) (position d (s .log .red)) (s .log)
 
+  -- What the slots show of it.
+  abbrev pub swappedSlots : Log
+  swappedSlots = greenFound (some x) (position d (s .log .red)) (shownLog s)
+
+  slots-show : swappedSlots ≡ shown (s .white) swappedLog
+  slots-show = shown-found (s .white) (some x) (position d (s .log .red)) (s .log) (well-formed-facts s (r .formed) .white)
+
   abbrev pub stands : ℕ
-  stands = length (s .log .green) + position d (s .log .red)
+  stands = length (shownLog s .green) + position d (s .log .red)
 
   swap-as : greenSwap d (s .log) ≡ swappedLog
   unfolding greenSwap
   swap-as = ap (λ (o : Option Action). greenFound o (position d (s .log .red)) (s .log)) (k .found)
 
-  x-at : at (queue (s .log)) stands ≡ some x
+  x-at : at (queue (shownLog s)) stands ≡ some x
   unfolding queue
   x-at =
-      at-second (s .log .green) (s .log .red) (position d (s .log .red))
+      at-second (shownLog s .green) (s .log .red) (position d (s .log .red))
       ∙ ap₂ {A = List Action} {B = ℕ} {C = Option Action} (λ l i. at l i) (k .whole) (sym (k .count))
       ∙ at-first (k .before) x (k .behind)
 
-  pub y-at : at (queue (s .log)) (length (s .log .green)) ≡ some y
+  pub y-at : at (queue (shownLog s)) (length (shownLog s .green)) ≡ some y
   unfolding queue
   y-at =
-      let e : length (s .log .green) ≡ length (s .log .green) + 0 = omega arith in
-      ap (at (s .log .green ++ s .log .red)) e
-      ∙ at-second (s .log .green) (s .log .red) 0
+      let e : length (shownLog s .green) ≡ length (shownLog s .green) + 0 = omega arith in
+      ap (at (shownLog s .green ++ s .log .red)) e
+      ∙ at-second (shownLog s .green) (s .log .red) 0
       ∙ ap (λ (l : List Action). at l 0) (k .whole)
       ∙ lowest-at (k .before) x (k .behind)
 
-  pub queue-after : queue swappedLog ≡ set (set (queue (s .log)) (length (s .log .green)) x) stands y
+  pub queue-after : queue swappedSlots ≡ set (set (queue (shownLog s)) (length (shownLog s .green)) x) stands y
   unfolding queue greenFound
   queue-after =
-      ap₂ {A = ℕ} {B = List Action} {C = List Action} (λ i l. (s .log .green ++ (x ∷ [])) ++ swapOut i l) (sym (k .count)) (k .whole)
-      ∙ swapped-queue (s .log .green) (k .before) x (k .behind)
-      ∙ ap₂ {A = ℕ} {B = List Action} {C = List Action} (λ i l. set (set (s .log .green ++ l) (length (s .log .green)) x) (length (s .log .green) + i) y) (k .count)
+      ap₂ {A = ℕ} {B = List Action} {C = List Action} (λ i l. (shownLog s .green ++ (x ∷ [])) ++ swapOut i l) (sym (k .count)) (k .whole)
+      ∙ swapped-queue (shownLog s .green) (k .before) x (k .behind)
+      ∙ ap₂ {A = ℕ} {B = List Action} {C = List Action} (λ i l. set (set (shownLog s .green ++ l) (length (shownLog s .green)) x) (length (shownLog s .green) + i) y) (k .count)
       (sym (k .whole))
 
-  same-length : length (queue swappedLog) ≡ length (queue (s .log))
-  same-length = ap length queue-after ∙ length-set (set (queue (s .log)) (length (s .log .green)) x) stands y ∙ length-set (queue (s .log)) (length (s .log .green)) x
+  same-length : length (queue swappedSlots) ≡ length (queue (shownLog s))
+  same-length = ap length queue-after ∙ length-set (set (queue (shownLog s)) (length (shownLog s .green)) x) stands y ∙ length-set (queue (shownLog s)) (length (shownLog s .green)) x
 
-  header-after : patched atGreenLength (bytesOf 4 (length (s .log .green) + 1)) (headerBytes s) ≡ headerBytes (withLog swappedLog s)
+  header-after : patched atGreenCount (bytesOf 4 (length (shownLog s .green) + 1)) (headerBytes s) ≡ headerBytes (withLog swappedLog s)
   unfolding greenFound opened-header
   header-after =
-      ap₂ {A = ℕ} {B = ℕ} {C = List ℕ} (λ i j. patched atGreenLength (bytesOf 4 i) (patched atQueueLength (bytesOf 4 j) (headerBytes s)))
-      (sym (length-append (s .log .green) (x ∷ []))) (sym same-length)
+      ap₂ {A = ℕ} {B = ℕ} {C = List ℕ} (λ i j. patched atGreenCount (bytesOf 4 i) (patched atQueueLength (bytesOf 4 j) (headerBytes s)))
+      (sym (length-append (shownLog s .green) (x ∷ [])) ∙ ap (λ (l : Log). length (l .green)) slots-show)
+      (sym same-length ∙ ap (λ (l : Log). length (queue l)) slots-show)
 
-  fits : Each ActionFits (queue (s .log))
+  fits : Each ActionFits (queue (shownLog s))
   fits = well-formed-fits s (r .formed) .actions
 
   x-fits : ActionFits x
-  x-fits = each-at ActionFits (queue (s .log)) stands x fits x-at
+  x-fits = each-at ActionFits (queue (shownLog s)) stands x fits x-at
 
   y-fits : ActionFits y
-  y-fits = each-at ActionFits (queue (s .log)) (length (s .log .green)) y fits y-at
+  y-fits = each-at ActionFits (queue (shownLog s)) (length (shownLog s .green)) y fits y-at
 
-  pub x-low : stands < length (queue (s .log))
-  x-low = at-low (queue (s .log)) stands x x-at
+  pub x-low : stands < length (queue (shownLog s))
+  x-low = at-low (queue (shownLog s)) stands x x-at
 
-  y-low : length (s .log .green) < length (queue (s .log))
-  y-low = at-low (queue (s .log)) (length (s .log .green)) y y-at
+  y-low : length (shownLog s .green) < length (queue (shownLog s))
+  y-low = at-low (queue (shownLog s)) (length (shownLog s .green)) y y-at
 
   abbrev once-set : List Action
-  once-set = set (queue (s .log)) (length (s .log .green)) x
+  once-set = set (queue (shownLog s)) (length (shownLog s .green)) x
 
   once-fits : Each ActionFits once-set
-  once-fits = each-set ActionFits (queue (s .log)) (length (s .log .green)) x fits x-fits
+  once-fits = each-set ActionFits (queue (shownLog s)) (length (shownLog s .green)) x fits x-fits
 
   section-after : (l : List ℕ)
-      → patched (slotSize * stands) (slot slotSize (actionBytes y)) (patched (slotSize * length (s .log .green)) (slot slotSize (actionBytes x)) (over (actionSlots (queue (s .log))) l))
-      ≡ over (actionSlots (queue swappedLog)) l
+      → patched (slotSize * stands) (slot slotSize (actionBytes y)) (patched (slotSize * length (shownLog s .green)) (slot slotSize (actionBytes x)) (over (actionSlots (queue (shownLog s))) l))
+      ≡ over (actionSlots (queue (shown (s .white) swappedLog))) l
   section-after l =
       let a : List ℕ = slot slotSize (actionBytes x) in
       let c : List ℕ = slot slotSize (actionBytes y) in
-      let i : ℕ = slotSize * length (s .log .green) in
-      let size : length (actionSlots (queue (s .log))) ≡ slotSize * length (queue (s .log)) = action-slots-length (queue (s .log)) fits in
-      let size-set : length (actionSlots once-set) ≡ slotSize * length (queue (s .log)) = action-slots-length once-set once-fits ∙ ap (λ (m : ℕ). slotSize * m) (length-set (queue (s .log)) (length (s .log .green)) x) in
-      let first : patched i a (over (actionSlots (queue (s .log))) l) ≡ over (actionSlots once-set) l =
-      over-changed (actionSlots (queue (s .log))) a l i (omega (arith, action-slot-length x x-fits, y-low))
-      ∙ ap (λ (z : List ℕ). over z l) (slots-set (queue (s .log)) (length (s .log .green)) x fits x-fits y-low) in
+      let i : ℕ = slotSize * length (shownLog s .green) in
+      let size : length (actionSlots (queue (shownLog s))) ≡ slotSize * length (queue (shownLog s)) = action-slots-length (queue (shownLog s)) fits in
+      let size-set : length (actionSlots once-set) ≡ slotSize * length (queue (shownLog s)) = action-slots-length once-set once-fits ∙ ap (λ (m : ℕ). slotSize * m) (length-set (queue (shownLog s)) (length (shownLog s .green)) x) in
+      let first : patched i a (over (actionSlots (queue (shownLog s))) l) ≡ over (actionSlots once-set) l =
+      over-changed (actionSlots (queue (shownLog s))) a l i (omega (arith, action-slot-length x x-fits, y-low))
+      ∙ ap (λ (z : List ℕ). over z l) (slots-set (queue (shownLog s)) (length (shownLog s .green)) x fits x-fits y-low) in
       ap (patched (slotSize * stands) c) first
       ∙ over-changed (actionSlots once-set) c l (slotSize * stands) (omega (arith, action-slot-length y y-fits, x-low))
       ∙ ap (λ (z : List ℕ). over z l)
-      (slots-set once-set stands y once-fits y-fits (omega (arith, length-set (queue (s .log)) (length (s .log .green)) x, x-low)) ∙ ap actionSlots (sym queue-after))
+      (slots-set once-set stands y once-fits y-fits (omega (arith, length-set (queue (shownLog s)) (length (shownLog s .green)) x, x-low)) ∙ ap actionSlots (sym queue-after ∙ ap queue slots-show))
 
   -- The slots in the buffer.
-  queue-occurs : Occurs (actionSlots (queue (s .log))) b (offset (s .servers) (s .quota) theQueue)
+  queue-occurs : Occurs (actionSlots (queue (shownLog s))) b (offset (s .servers) (s .quota) theQueue)
   unfolding parts
   queue-occurs =
       let p : ℕ = offset (s .servers) (s .quota) theQueue in
-      let there = subst (λ (c : List ℕ). Occurs (over (actionSlots (queue (s .log))) (section (s .servers) (s .quota) theQueue b)) c p) (r .written) (image-part s (well-formed-fits s (r .formed)) b (r .long) theQueue (omega arith)) in
-      used-part (actionSlots (queue (s .log))) _ b p there
+      let there = subst (λ (c : List ℕ). Occurs (over (actionSlots (queue (shownLog s))) (section (s .servers) (s .quota) theQueue b)) c p) (r .written) (image-part s (well-formed-fits s (r .formed)) b (r .long) theQueue (omega arith)) in
+      used-part (actionSlots (queue (shownLog s))) _ b p there
 
-  slot-part : (j : ℕ) (a : Action) → ActionFits a → at (queue (s .log)) j ≡ some a
+  slot-part : (j : ℕ) (a : Action) → ActionFits a → at (queue (shownLog s)) j ≡ some a
       → partAt slotSize b (offset (s .servers) (s .quota) theQueue + slotSize * j) ≡ slot slotSize (actionBytes a)
   slot-part j a f e =
-      let o = slot-occurs (queue (s .log)) b (offset (s .servers) (s .quota) theQueue) j a fits e queue-occurs in
+      let o = slot-occurs (queue (shownLog s)) b (offset (s .servers) (s .quota) theQueue) j a fits e queue-occurs in
       ap (λ (m : ℕ). partAt m b (offset (s .servers) (s .quota) theQueue + slotSize * j)) (sym (action-slot-length a f)) ∙ o .part
 
   pub swap-image : greenAt stands b ≡ image (withLog (greenSwap d (s .log)) s) b
@@ -219,15 +231,15 @@ module _ (s : Server) (b : List ℕ) (r : Holds s b) (d : Id) (k : Stands d (s .
       let ws : List ℕ = sections (s .servers) (s .quota) in
       let n = numbers s b r in
       let p : ℕ = offset (s .servers) (s .quota) theQueue in
-      let g : ℕ = length (s .log .green) in
+      let g : ℕ = length (shownLog s .green) in
       let a : List ℕ = slot slotSize (actionBytes x) in
       let c : List ℕ = slot slotSize (actionBytes y) in
-      let room : length (queue (s .log)) ≤ s .servers * s .quota = in-range s (r .formed) .queueCount in
+      let room : length (queue (shownLog s)) ≤ s .servers * s .quota = in-range s (r .formed) .queueCount in
       let c₁ = changed-at ws _ b b (holds-changed s b r) theQueue (slotSize * g) (p + slotSize * g) a refl (omega arith) (omega (arith, action-slot-length x x-fits, y-low)) in
       let c₂ = changed-at ws _ b (patched (p + slotSize * g) a b) c₁ theQueue (slotSize * stands) (p + slotSize * stands) c refl (omega arith) (omega (arith, action-slot-length y y-fits, x-low)) in
-      let c₃ = changed-at ws _ b (patched (p + slotSize * stands) c (patched (p + slotSize * g) a b)) c₂ theHeader atGreenLength atGreenLength (bytesOf 4 (g + 1)) refl (omega arith) (omega (arith, bytes-length 4 (g + 1))) in
-      (λ i. patched atGreenLength (bytesOf 4 (n .green i + 1)) (exchanged (holds-place s b r theQueue i + slotSize * n .green i) (holds-place s b r theQueue i + slotSize * stands) b))
-      ∙ ap₂ {A = List ℕ} {B = List ℕ} {C = List ℕ} (λ u v. patched atGreenLength (bytesOf 4 (g + 1)) (patched (p + slotSize * stands) u (patched (p + slotSize * g) v b))) (slot-part g y y-fits y-at)
+      let c₃ = changed-at ws _ b (patched (p + slotSize * stands) c (patched (p + slotSize * g) a b)) c₂ theHeader atGreenCount atGreenCount (bytesOf 4 (g + 1)) refl (omega arith) (omega (arith, bytes-length 4 (g + 1))) in
+      (λ i. patched atGreenCount (bytesOf 4 (n .green i + 1)) (exchanged (holds-place s b r theQueue i + slotSize * n .green i) (holds-place s b r theQueue i + slotSize * stands) b))
+      ∙ ap₂ {A = List ℕ} {B = List ℕ} {C = List ℕ} (λ u v. patched atGreenCount (bytesOf 4 (g + 1)) (patched (p + slotSize * stands) u (patched (p + slotSize * g) v b))) (slot-part g y y-fits y-at)
       (slot-part stands x x-fits x-at)
       ∙ log-image s swappedLog b _ _ _ _ _ c₃ header-after refl refl (section-after (section (s .servers) (s .quota) theQueue b))
       ∙ ap (λ (l : Log). image (withLog l s) b) (sym swap-as)
@@ -238,8 +250,8 @@ pub exchange-made : (s x y s₁ s₂ : List ℕ) (i j : ℕ) → x ≡ partAt sl
 unfolding exchanged
 exchange-made s x y s₁ s₂ i j e f g h = h ∙ (λ t. patched j (e t) (g t)) ∙ (λ t. patched j (partAt slotSize s i) (patched i (f t) s))
 
-pub green-at-made : (s s₁ s₂ : List ℕ) (green p k : ℕ) → green ≡ numberAt 4 s atGreenLength → p ≡ place theQueue s → s₁ ≡ exchanged (p + slotSize * green) (p + slotSize * k) s
-    → s₂ ≡ patched atGreenLength (bytesOf 4 (green + 1)) s₁ → s₂ ≡ greenAt k s
+pub green-at-made : (s s₁ s₂ : List ℕ) (green p k : ℕ) → green ≡ numberAt 4 s atGreenCount → p ≡ place theQueue s → s₁ ≡ exchanged (p + slotSize * green) (p + slotSize * k) s
+    → s₂ ≡ patched atGreenCount (bytesOf 4 (green + 1)) s₁ → s₂ ≡ greenAt k s
 unfolding greenAt
 green-at-made s s₁ s₂ green p k e f g h =
-    h ∙ ap (patched atGreenLength (bytesOf 4 (green + 1))) g ∙ (λ t. patched atGreenLength (bytesOf 4 (e t + 1)) (exchanged (f t + slotSize * e t) (f t + slotSize * k) s))
+    h ∙ ap (patched atGreenCount (bytesOf 4 (green + 1))) g ∙ (λ t. patched atGreenCount (bytesOf 4 (e t + 1)) (exchanged (f t + slotSize * e t) (f t + slotSize * k) s))

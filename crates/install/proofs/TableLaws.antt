@@ -23,7 +23,8 @@ use Rattle.record.specs.Values.{idOf, slot}
 use Rattle.record.proofs.OnePass.{kept-set}
 use Rattle.replication.specs.Machine.Types.{Server, contextOf}
 use Rattle.replication.specs.Machine.WellFormed.{queue, idsIn}
-use Rattle.image.specs.Layout.{slotSize, atQueueLength, atGreenLength, theQueue}
+use Rattle.image.specs.Layout.{slotSize, atQueueLength, atGreenCount, theQueue}
+use Rattle.image.specs.Header.{shownLog}
 use Rattle.image.specs.Decode.{decoded}
 use Rattle.image.proofs.InRange.{in-range}
 use Rattle.image.specs.Holding.{Holds, HoldsSome}
@@ -48,24 +49,24 @@ index-read b k p x e f = f ∙ (λ i. numberAt 2 b (e i + slotSize * k + 1))
 -- ---- the place of an id in the table
 
 module _ (s : Server) (b : List ℕ) (r : Holds s b) where
-  creator-low : (k : ℕ) (a : Action) → at (queue (s .log)) k ≡ some a → a .id .creator < mostServers
+  creator-low : (k : ℕ) (a : Action) → at (queue (shownLog s)) k ≡ some a → a .id .creator < mostServers
   unfolding contextOf
   creator-low k a e =
-      omega (arith, in-range s (r .formed) .context .sizes .most, each-at (ActionRange (contextOf s)) (queue (s .log)) k a (in-range s (r .formed) .actions) e .id .creator)
+      omega (arith, in-range s (r .formed) .context .sizes .most, each-at (ActionRange (contextOf s)) (queue (shownLog s)) k a (in-range s (r .formed) .actions) e .id .creator)
 
-  pub queue-once : Once (queue (s .log))
+  pub queue-once : Once (queue (shownLog s))
   unfolding idsIn
   queue-once d =
-      omega (arith, log-fits s (r .formed) .once d, count-map (sameId d) (λ (a : Action). a .id) (queue (s .log)))
+      omega (arith, log-fits s (r .formed) .shows .once d, count-map (sameId d) (λ (a : Action). a .id) (queue (shownLog s)))
 
   -- What stands at the place k.
-  pub read-at : (k : ℕ) → k < queueCount b → at (queue (s .log)) k ≡ some (actionAt b (place theQueue b + slotSize * k))
+  pub read-at : (k : ℕ) → k < queueCount b → at (queue (shownLog s)) k ≡ some (actionAt b (place theQueue b + slotSize * k))
   read-at k h = ap (λ (l : List Action). at l k) (sym (queue-read s b r)) ∙ actions-at (queueCount b) b (place theQueue b) k h
 
-  pub read-id : (k : ℕ) (a : Action) → at (queue (s .log)) k ≡ some a → idAt b (place theQueue b + slotSize * k) ≡ a .id
+  pub read-id : (k : ℕ) (a : Action) → at (queue (shownLog s)) k ≡ some a → idAt b (place theQueue b + slotSize * k) ≡ a .id
   unfolding actionAt
   read-id k a e =
-      let h : k < queueCount b = omega (arith, at-low (queue (s .log)) k a e, numbers s b r .queue) in
+      let h : k < queueCount b = omega (arith, at-low (queue (shownLog s)) k a e, numbers s b r .queue) in
       ap (λ (x : Action). x .id) (some-same (sym (read-at k h) ∙ e))
 
 pub entry-made : (b : List ℕ) (k x y r : ℕ) → x ≡ idIn b k .creator → y ≡ idIn b k .index → r ≡ slot (idOf x y) → r ≡ slot (idIn b k)
@@ -129,11 +130,11 @@ module _ (b : List ℕ) (s : HoldsSome b) where
       inside : p < length t
       inside = omega (arith, f .size)
 
-      go : (j : ℕ) (a : Action) → at (queue ((decoded b) .log)) j ≡ some a → j < k + 1 → Dec (j ≡ k) → 0 < getD (set t p (k + 1)) (slot (a .id)) 0
+      go : (j : ℕ) (a : Action) → at (queue (shownLog (decoded b))) j ≡ some a → j < k + 1 → Dec (j ≡ k) → 0 < getD (set t p (k + 1)) (slot (a .id)) 0
       go j a there low (no d) =
           kept-set t p (slot (a .id)) (k + 1) inside (omega arith) (f .left j a there (below j k low d))
       go j a there low (yes d) =
-          let same : p ≡ slot (a .id) = e ∙ ap slot (read-id (decoded b) b (such-decoded _ b s) k a (ap (at (queue ((decoded b) .log))) (sym d) ∙ there)) in
+          let same : p ≡ slot (a .id) = e ∙ ap slot (read-id (decoded b) b (such-decoded _ b s) k a (ap (at (queue (shownLog (decoded b)))) (sym d) ∙ there)) in
           omega (arith, ap (λ (i : ℕ). getD (set t p (k + 1)) i 0) same, getD-set-same t p (k + 1) 0 inside)
 
   pub filled-end : (k n : ℕ) (t : List ℕ) → Filled k t b → n ≡ numberAt 4 b atQueueLength → n ≤ k → IndexedFrom 0 t b
@@ -146,5 +147,5 @@ module _ (b : List ℕ) (s : HoldsSome b) where
   }
 
 -- The code's number of green actions.
-pub indexed-green : (g : ℕ) (t b : List ℕ) → g ≡ numberAt 4 b atGreenLength → Indexed t b → IndexedFrom g t b
+pub indexed-green : (g : ℕ) (t b : List ℕ) → g ≡ numberAt 4 b atGreenCount → Indexed t b → IndexedFrom g t b
 indexed-green g t b e x = subst (λ (m : ℕ). IndexedFrom m t b) (sym e) x

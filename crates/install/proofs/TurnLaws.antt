@@ -18,9 +18,12 @@ use Rattle.format.specs.Types.{Id, Action}
 use Rattle.format.specs.Range.{sameId}
 use Rattle.format.specs.Read.{idAt, actionAt}
 use Rattle.replication.specs.Machine.Types.{Log, Server, withLog}
+use Rattle.replication.specs.Machine.Colours.{shown}
 use Rattle.replication.specs.Machine.WellFormed.{queue}
+use Rattle.replication.proofs.WellFormed.Facts.{well-formed-facts}
 use Rattle.replication.proofs.WellFormed.Ids.{same-id-yes, same-id-holds}
-use Rattle.image.specs.Layout.{slotSize, atQueueLength, atGreenLength, theQueue}
+use Rattle.image.specs.Layout.{slotSize, atQueueLength, atGreenCount, theQueue}
+use Rattle.image.specs.Header.{shownLog}
 use Rattle.image.specs.Image.{image}
 use Rattle.image.specs.Decode.{decoded}
 use Rattle.image.specs.Holding.{Holds, HoldsSome}
@@ -34,7 +37,7 @@ use Rattle.record.specs.Values.{slot}
 use Rattle.record.proofs.OnePass.{kept-set}
 use Rattle.install.specs.Table.{logIn, Hinted, IndexedFrom, Indexed, Turned, placeFrom, idIn}
 use Rattle.install.proofs.Places.{position-at, same-place}
-use Rattle.install.proofs.SwapFits.{Swap, unmoved, moved, swap?, swap-each}
+use Rattle.install.proofs.SwapFits.{Swap, unmoved, moved, swap?, swap-each, shown-swap}
 use Rattle.install.proofs.Swapped.{swap-image}
 use Rattle.install.proofs.TableLaws.{read-at, read-id, green-read, queue-count, queue-once}
 use Rattle.install.proofs.Turning.{swaps-hold, indexed-by}
@@ -65,7 +68,7 @@ module _ (first : ℕ) (b : List ℕ) (holds-some : HoldsSome b) (first-most : f
   unfolding placeFrom logIn
   found-there h =
       let k = position-found d rest h in
-      (k .it, sym (at-drop first (queue ((decoded b) .log)) (position d rest)) ∙ sym (find-at d rest) ∙ k .found, k .named)
+      (k .it, sym (at-drop first (queue (shownLog (decoded b))) (position d rest)) ∙ sym (find-at d rest) ∙ k .found, k .named)
 
   -- Where there is none, the place is the number of actions.
   not-found : (position d rest < length rest → ⊥) → queueCount b ≡ placeFrom first d b
@@ -91,7 +94,7 @@ module _ (first : ℕ) (b : List ℕ) (holds-some : HoldsSome b) (first-most : f
       let w : Server = decoded b in
       let r = such-decoded _ b holds-some in
       let y : Action = actionAt b (place theQueue b + slotSize * k) in
-      let there : at (queue ((decoded b) .log)) k ≡ some y = read-at w b r k (omega arith) in
+      let there : at (queue (shownLog (decoded b))) k ≡ some y = read-at w b r k (omega arith) in
       (y, there, same-id-holds d _ (sym e ∙ not-false has h) ∙ ap (λ (z : ℕ). idAt b (z + slotSize * k)) q ∙ read-id w b r k y there)
 
   -- One that stands before `first` stands nowhere else.
@@ -104,7 +107,7 @@ module _ (first : ℕ) (b : List ℕ) (holds-some : HoldsSome b) (first-most : f
       let same : sameId (y .0 .id) (z .0 .id) ≡ true =
       same-id-yes _ _ (ap (λ (i : Id). i .creator) (sym (y .2) ∙ z .2)) (ap (λ (i : Id). i .index) (sym (y .2) ∙ z .2)) in
       let here : k ≡ placeFrom first d b =
-      same-place (queue ((decoded b) .log)) (queue-once (decoded b) b (such-decoded _ b holds-some)) k (placeFrom first d b) (y .0) (z .0) (y .1) (z .1) same in
+      same-place (queue (shownLog (decoded b))) (queue-once (decoded b) b (such-decoded _ b holds-some)) k (placeFrom first d b) (y .0) (z .0) (y .1) (z .1) same in
       omega (arith, first-low))
 
   -- The action stands where its id does.
@@ -112,8 +115,8 @@ module _ (first : ℕ) (b : List ℕ) (holds-some : HoldsSome b) (first-most : f
   unfolding placeFrom logIn
   found-at k y low there named =
       let at-k : first + (k - first) ≡ k = omega arith in
-      let rest-there : at rest (k - first) ≡ some y = at-drop first (queue ((decoded b) .log)) (k - first) ∙ ap (at (queue ((decoded b) .log))) at-k ∙ there in
-      let once : Once rest = once-from first (queue ((decoded b) .log)) (queue-once (decoded b) b (such-decoded _ b holds-some)) in
+      let rest-there : at rest (k - first) ≡ some y = at-drop first (queue (shownLog (decoded b))) (k - first) ∙ ap (at (queue (shownLog (decoded b)))) at-k ∙ there in
+      let once : Once rest = once-from first (queue (shownLog (decoded b))) (queue-once (decoded b) b (such-decoded _ b holds-some)) in
       let stands : position d rest ≡ k - first = ap (λ (z : Id). position z rest) named ∙ position-at rest once (k - first) y rest-there in
       omega arith
 
@@ -139,7 +142,7 @@ pub place-searched : (first : ℕ) (b : List ℕ) (d : Id) (a n p : ℕ) → Hol
     → p ≡ position d (actionsAt (n - first) b (a + slotSize * first)) → first + p ≡ placeFrom first d b
 unfolding placeFrom logIn
 place-searched first b d a n p s low e f g =
-    let same : actionsAt (n - first) b (a + slotSize * first) ≡ drop first (queue ((decoded b) .log)) =
+    let same : actionsAt (n - first) b (a + slotSize * first) ≡ drop first (queue (shownLog (decoded b))) =
     (λ i. actionsAt (f i - first) b (e i + slotSize * first)) ∙ sym (actions-drop first (queueCount b) b (place theQueue b) low)
     ∙ ap (drop first) (queue-read (decoded b) b (such-decoded _ b s)) in
     ap (λ (m : ℕ). first + m) (g ∙ ap (position d) same)
@@ -158,7 +161,7 @@ red-place b d g s e =
     ap (λ (m : ℕ). m + position d (drop m (logIn b .green ++ logIn b .red))) (e ∙ green-read b s)
     ∙ ap (λ (l : List Action). length (logIn b .green) + position d l) (drop-at (logIn b .green) (logIn b .red) (length (logIn b .green)) refl)
 
-pub turned-passed : (t b : List ℕ) (d : Id) (k n g : ℕ) → Indexed t b → g ≡ numberAt 4 b atGreenLength → k ≡ placeFrom g d b
+pub turned-passed : (t b : List ℕ) (d : Id) (k n g : ℕ) → Indexed t b → g ≡ numberAt 4 b atGreenCount → k ≡ placeFrom g d b
     → n ≡ numberAt 4 b atQueueLength → n ≤ k → Turned (d ∷ []) b t b
 unfolding logIn greenSwaps
 turned-passed t b d k n g x i e f h = go (swap? d ((decoded b) .log))
@@ -166,20 +169,20 @@ turned-passed t b d k n g x i e f h = go (swap? d ((decoded b) .log))
     go : Swap d ((decoded b) .log) → Turned (d ∷ []) b t b
     go (unmoved m p) = record { written = sym (ap (λ (l : Log). image (withLog l (decoded b)) b) p ∙ such-decoded _ b (x .holds) .written); indexed = x }
     go (moved s p) =
-        absurd (omega (arith, red-place b d g (x .holds) i, queue-count b (x .holds), queue-parts ((decoded b) .log), s .count, ap length (s .whole), length-append (s .before) (s .it ∷ s .behind)))
+        absurd (omega (arith, red-place b d g (x .holds) i, queue-count b (x .holds), queue-parts (shownLog (decoded b)), s .count, ap length (s .whole), length-append (s .before) (s .it ∷ s .behind)))
 
 -- The place has the id that was looked up.
-pub turned-id : (t b t₁ b₁ : List ℕ) (d : Id) (k n g : ℕ) → Indexed t b → g ≡ numberAt 4 b atGreenLength → k ≡ placeFrom g d b
+pub turned-id : (t b t₁ b₁ : List ℕ) (d : Id) (k n g : ℕ) → Indexed t b → g ≡ numberAt 4 b atGreenCount → k ≡ placeFrom g d b
     → n ≡ numberAt 4 b atQueueLength → k < n → Turned (idIn b k ∷ []) b t₁ b₁ → Turned (d ∷ []) b t₁ b₁
 unfolding placeFrom logIn
 turned-id t b t₁ b₁ d k n g x i e f h turn =
     let low : g ≤ queueCount b = omega (arith, x .low) in
     let y = found-there g b (x .holds) low d (omega (arith, e, rest-count g b (x .holds) low d)) in
-    let there : at (queue ((decoded b) .log)) k ≡ some (y .0) = ap (at (queue ((decoded b) .log))) e ∙ y .1 in
+    let there : at (queue (shownLog (decoded b))) k ≡ some (y .0) = ap (at (queue (shownLog (decoded b)))) e ∙ y .1 in
     subst (λ (z : Id). Turned (z ∷ []) b t₁ b₁) (read-id (decoded b) b (such-decoded _ b (x .holds)) k (y .0) there ∙ sym (y .2)) turn
 
 pub turned-swapped : (t b t₂ t₁ b₁ : List ℕ) (k g p q : ℕ) → Indexed t b → greenCount b ≤ k → k < queueCount b
-    → g ≡ numberAt 4 b atGreenLength → b₁ ≡ greenAt k b → p < mostIds → q < mostIds → t₂ ≡ set t p (k + 1) → t₁ ≡ set t₂ q (g + 1)
+    → g ≡ numberAt 4 b atGreenCount → b₁ ≡ greenAt k b → p < mostIds → q < mostIds → t₂ ≡ set t p (k + 1) → t₁ ≡ set t₂ q (g + 1)
     → Turned (idIn b k ∷ []) b t₁ b₁
 unfolding logIn greenSwaps
 turned-swapped t b t₂ t₁ b₁ k g p q x low h i made low₁ low₂ one two = go (swap? d ((decoded b) .log))
@@ -190,28 +193,31 @@ turned-swapped t b t₂ t₁ b₁ k g p q x low h i made low₁ low₂ one two =
     y : Action
     y = actionAt b (place theQueue b + slotSize * k)
 
-    there : at (queue ((decoded b) .log)) k ≡ some y
+    there : at (queue (shownLog (decoded b))) k ≡ some y
     there = read-at (decoded b) b (such-decoded _ b (x .holds)) k h
 
     q₀ : k ≡ placeFrom g d b
     q₀ = found-at g b (x .holds) (omega (arith, x .low)) d k y (omega arith) there (read-id (decoded b) b (such-decoded _ b (x .holds)) k y there)
 
-    e : k ≡ length ((decoded b) .log .green) + position d ((decoded b) .log .red)
+    e : k ≡ length (shownLog (decoded b) .green) + position d ((decoded b) .log .red)
     e = q₀ ∙ red-place b d g (x .holds) i
 
     size₂ : length t₂ ≡ mostIds
     size₂ = ap length one ∙ length-set t p (k + 1) ∙ x .size
 
-    hinted : Hinted t₁ (queue (greenSwap d ((decoded b) .log)))
+    low-white : decoded b .white ≤ length ((decoded b) .log .green)
+    low-white = well-formed-facts (decoded b) (such-decoded _ b (x .holds) .formed) .white
+
+    hinted : Hinted t₁ (queue (shown (decoded b .white) (greenSwap d ((decoded b) .log))))
     hinted =
         each-implied _ _ (λ a v. subst (λ (u : List ℕ). 0 < getD u (slot (a .id)) 0) (sym two)
         (kept-set t₂ q (slot (a .id)) (g + 1) (omega (arith, size₂)) (omega arith)
         (subst (λ (u : List ℕ). 0 < getD u (slot (a .id)) 0) (sym one) (kept-set t p (slot (a .id)) (k + 1) (omega (arith, x .size)) (omega arith) v))))
-        (queue (greenSwap d ((decoded b) .log)))
-        (swap-each _ d ((decoded b) .log) (x .hinted))
+        (queue (shown (decoded b .white) (greenSwap d ((decoded b) .log))))
+        (subst (λ (l : Log). Hinted t (queue l)) (shown-swap (decoded b .white) d ((decoded b) .log) low-white) (swap-each _ d (shownLog (decoded b)) (x .hinted)))
 
     go : Swap d ((decoded b) .log) → Turned (d ∷ []) b t₁ b₁
-    go (unmoved m y) = absurd (omega (arith, e, queue-count b (x .holds), queue-parts ((decoded b) .log)))
+    go (unmoved m y) = absurd (omega (arith, e, queue-count b (x .holds), queue-parts (shownLog (decoded b))))
     go (moved s y) =
         let w : Server = decoded b in
         let r : Holds w b = such-decoded _ b (x .holds) in

@@ -9,7 +9,7 @@ use Rattle.base.specs.Patched.{patched}
 use Rattle.format.specs.Types.{Id, Action}
 use Rattle.replication.specs.Machine.Types.{Log}
 use Rattle.replication.specs.Machine.Colours.{find}
-use Rattle.image.specs.Layout.{slotSize, atGreenLength, theQueue}
+use Rattle.image.specs.Layout.{slotSize, atGreenCount, theQueue}
 use Rattle.queue.specs.Queue.{position}
 use Rattle.image.specs.Counts.{place, greenCount}
 
@@ -44,7 +44,7 @@ greenSwaps (d ∷ ds) l = greenSwaps ds (greenSwap d l)
 unfoldable pub exchanged : (i j : ℕ) → List ℕ → List ℕ
 exchanged i j b = patched j (partAt slotSize b i) (patched i (partAt slotSize b j) b)
 
--- The action at the place k of the queue and the lowest red one change places, and the green length is one more.
+-- The action at the place k of the queue and the lowest red one change places, and the green ones are one more.
 unfoldable pub greenAt : ℕ → List ℕ → List ℕ
 greenAt k b =
-    patched atGreenLength (bytesOf 4 (greenCount b + 1)) (exchanged (place theQueue b + slotSize * greenCount b) (place theQueue b + slotSize * k) b)
+    patched atGreenCount (bytesOf 4 (greenCount b + 1)) (exchanged (place theQueue b + slotSize * greenCount b) (place theQueue b + slotSize * k) b)

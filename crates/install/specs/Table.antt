@@ -11,6 +11,7 @@ use Rattle.record.specs.Values.{idOf, slot}
 use Rattle.replication.specs.Machine.Types.{Log, withLog}
 use Rattle.replication.specs.Machine.Colours.{cut}
 use Rattle.replication.specs.Machine.WellFormed.{queue}
+use Rattle.image.specs.Header.{shownLog}
 use Rattle.image.specs.Image.{image}
 use Rattle.image.specs.Decode.{decoded}
 use Rattle.image.specs.Holding.{HoldsSome}
@@ -22,8 +23,9 @@ use Rattle.format.specs.Read.{idAt}
 use Rattle.format.specs.Places.{idSize}
 use Rattle.base.specs.Bytes.{numberAt}
 
+-- The log as the slots of the buffer show it.
 unfoldable pub logIn : List ℕ → Log
-logIn b = (decoded b) .log
+logIn b = shownLog (decoded b)
 
 unfoldable pub yellowsIn : List ℕ → List Id
 yellowsIn b = (decoded b) .votes .yellow .ids
@@ -84,7 +86,7 @@ Indexed t b = IndexedFrom (greenCount b) t b
 
 -- The actions with the ids ds turned green one after the other: the buffer b became c, and u is a table for it.
 pub record Turned (ds : List Id) (b u c : List ℕ) : Type 0 where
-  pub written : c ≡ image (withLog (greenSwaps ds (logIn b)) (decoded b)) b
+  pub written : c ≡ image (withLog (greenSwaps ds ((decoded b) .log)) (decoded b)) b
   pub indexed : Indexed u c
 
 -- The creator c's red actions with the indexes over i up to r turned green, and r is not over `cut`.

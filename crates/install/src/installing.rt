@@ -58,7 +58,7 @@ fn with_votes(h: State) -> State
 }
 
 // The votes' part: the new primary component, "attempt 0", "yellow empty and invalid".
-fn install_votes(state: &mut [u8])
+pub fn install_votes(state: &mut [u8])
     requires { ⌜ HoldsSome (now state) ⌝ }
     ensures { λ _. ⌜ Becomes (λ s. withVotes (installVotes (s .votes)) s) (now (state .entry)) (now (state .exit)) ⌝ }
 {

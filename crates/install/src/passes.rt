@@ -48,7 +48,7 @@ fn next_red(state: &[u8], places: &[u16; State::MOST_IDS], creator: u8, i: u16) 
     requires { ⌜ Indexed (now places) (now state) × (creator < mostServers) ⌝ }
     ensures { λ r. ⌜ NextFrom (greenCount (now (state .entry))) creator i r (now (state .entry)) ⌝ }
 {
-    let green = num32(state, State::AT_GREEN_LENGTH) as usize;
+    let green = num32(state, State::AT_GREEN_COUNT) as usize;
     next_by(state, places, green, creator, i)
 }
 

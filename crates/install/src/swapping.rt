@@ -29,12 +29,12 @@ pub fn green_at(state: &mut [u8], k: usize)
     requires { ⌜ CountsIn (now state) × (greenCount (now state) ≤ k) × (k < queueCount (now state)) ⌝ }
     ensures { λ _. ⌜ now (state .exit) ≡ greenAt k (now (state .entry)) ⌝ }
 {
-    let green = num32(state, State::AT_GREEN_LENGTH);
+    let green = num32(state, State::AT_GREEN_COUNT);
     let at = place_of(state, THE_QUEUE);
     exchange(
         state,
         at + State::SLOT * green as usize,
         at + State::SLOT * k,
     );
-    put32(state, State::AT_GREEN_LENGTH, green + 1);
+    put32(state, State::AT_GREEN_COUNT, green + 1);
 }

@@ -4,7 +4,7 @@ ghost use mathlib.Core.Path.{_≡_};
 ghost use mathlib.Core.List.{[], _∷_};
 ghost use Prim.Native.Nat.{_+_, _≤_, _<_};
 ghost use lib.ListN.{set};
-ghost use Rattle.format.specs.Limits.{mostServers, mostIds};
+ghost use Rattle.format.specs.Limits.{mostServers, mostIds, mostNumber};
 ghost use Rattle.record.specs.Values.{idOf, slot};
 ghost use Rattle.image.specs.Holding.{HoldsSome};
 ghost use Rattle.install.specs.Table.{placeFrom, IndexedFrom, Indexed, Turned, idIn, NextFrom, Nearer};
@@ -169,7 +169,7 @@ fn next_from(state: &[u8], first: usize, creator: u8, above: u16) -> usize
 
 // The same, at once where the hint, one more than a place, names the action with the next index.
 fn next_hinted(state: &[u8], first: usize, hint: usize, creator: u8, above: u16) -> usize
-    requires { ⌜ HoldsSome (now state) × CountsIn (now state) × (first ≤ queueCount (now state)) × (above < 65535) ⌝ }
+    requires { ⌜ HoldsSome (now state) × CountsIn (now state) × (first ≤ queueCount (now state)) × (above < mostNumber) ⌝ }
     ensures { λ r. ⌜ NextFrom first creator above r (now (state .entry)) ⌝ }
 {
     if hint <= first {
@@ -200,7 +200,7 @@ pub fn next_by(
     requires { ⌜ IndexedFrom first (now places) (now state) × (creator < mostServers) ⌝ }
     ensures { λ r. ⌜ NextFrom first creator above r (now (state .entry)) ⌝ }
 {
-    if above == u16::MAX {
+    if above == State::MOST_NUMBER {
         return next_from(state, first, creator, above);
     }
     let hint = wider(places[entry(creator, above + 1)]) as usize;
@@ -212,7 +212,7 @@ pub fn turn_at_place(state: &mut [u8], places: &mut [u16; State::MOST_IDS], k: u
     requires { ⌜ Indexed (now places) (now state) × (greenCount (now state) ≤ k) × (k < queueCount (now state)) ⌝ }
     ensures { λ _. ⌜ Turned (idIn (now (state .entry)) k ∷ []) (now (state .entry)) (now (places .exit)) (now (state .exit)) ⌝ }
 {
-    let green = num32(state, State::AT_GREEN_LENGTH) as usize;
+    let green = num32(state, State::AT_GREEN_COUNT) as usize;
     let lowest = entry_at(state, green);
     let turned = entry_at(state, k);
     green_at(state, k);
@@ -225,7 +225,7 @@ pub fn turn_green(state: &mut [u8], places: &mut [u16; State::MOST_IDS], creator
     requires { ⌜ Indexed (now places) (now state) × (creator < mostServers) ⌝ }
     ensures { λ _. ⌜ Turned (idOf creator index ∷ []) (now (state .entry)) (now (places .exit)) (now (state .exit)) ⌝ }
 {
-    let green = num32(state, State::AT_GREEN_LENGTH) as usize;
+    let green = num32(state, State::AT_GREEN_COUNT) as usize;
     let k = place_in(state, places, green, creator, index);
     if num32(state, State::AT_QUEUE_LENGTH) as usize <= k {
         return;

@@ -26,6 +26,8 @@ use Rattle.image.proofs.Decoded.{image-part}
 use Rattle.image.proofs.Fit.{well-formed-fits}
 use Rattle.image.specs.Holding.{Holds, HoldsSome}
 use Rattle.image.proofs.InPlace.{holds-some}
+use Rattle.queue.specs.Queue.{QueueIn}
+use Rattle.queue.proofs.ReadLaws.{holds-queue}
 use Rattle.outgoing.specs.Lent.{LentSuch}
 use Rattle.image.specs.Counts.{CountsIn, place}
 use Rattle.image.proofs.Counts.{holds-counts}
@@ -36,6 +38,9 @@ module _ (P : Server → Type 0) (b o : List ℕ) (h : LentSuch P b o) where
 
   pub lent-counts : CountsIn b
   lent-counts = holds-counts (h .state) b (h .holds)
+
+  pub lent-queue : QueueIn b
+  lent-queue = holds-queue (h .state) b (h .holds)
 
   pub lent-header : headerSize ≤ length b
   lent-header = omega (arith, lent-counts .cuts)

@@ -1,11 +1,12 @@
 -- The parts of the plan: what a buffer says of its queue, and whose part is what.
-use Prim.Native.Nat.{ℕ, suc, _+_, _*_, _-_, _≤_, _<_}
+use Prim.Native.Nat.{ℕ, zero, suc, _+_, _*_, _≤_, _<_, max, min}
 use mathlib.Core.Path.{_≡_, refl, sym, ap, ap₂, subst, _∙_}
 use mathlib.Core.Bool.{true, false, not}
 use mathlib.Core.List.{List, [], _∷_, _++_, append-nil}
+use mathlib.Core.Option.{none}
 use native.Mathlib.Omega.{arith}
-use native.Mathlib.Nat.{mul-le-mul-right}
-use lib.ListN.{length, take-append-drop}
+use native.Mathlib.Decide.{decLt}
+use lib.ListN.{length, length-append}
 use borrow.Author.Tests.{not-true, not-false}
 use Rattle.base.specs.Bytes.{numberAt, over}
 use Rattle.base.proofs.Comparable.{gather-all-append}
@@ -13,31 +14,37 @@ use Rattle.base.specs.Lists.{gather, gatherAll, above, below}
 use Rattle.base.specs.Tests.{pick}
 use Rattle.base.proofs.TestLaws.{pick-yes, pick-no}
 use Rattle.base.proofs.Over.{over-front}
+use Rattle.format.specs.Limits.{mostNumber}
 use Rattle.format.specs.Types.{Record}
 use Rattle.record.specs.Values.{idOf}
 use Rattle.replication.specs.Machine.Types.{Server}
-use Rattle.replication.specs.Machine.Plan.{highest, missing, cutIn, greenIn, resendGreen, resendRed, ownPart}
+use Rattle.replication.specs.Machine.Colours.{placesOf}
+use Rattle.replication.specs.Machine.Plan.{missing, cutIn, greenIn, resent, resendGreen, resendRed, ownPart}
 use Rattle.replication.specs.Machine.Step.{collected}
 use Rattle.replication.specs.Machine.WellFormed.{queue}
+use Rattle.replication.proofs.Step.PartHeld.{part-held}
 use Rattle.replication.proofs.WellFormed.Changes.{Body, body, collected-fit}
-use Rattle.replication.proofs.WellFormed.Decisions.{green-bound, cut-bound}
+use Rattle.replication.proofs.WellFormed.Decisions.{cut-bound}
 use Rattle.replication.proofs.WellFormed.Facts.{well-formed-facts}
-use Rattle.image.specs.Layout.{theQueue, outLength, atServers, atMe, atGreenLength}
-use Rattle.image.specs.Decode.{actionsAt, decodedAs, serversIn, quotaIn, decoded, greensIn}
+use Rattle.image.specs.Header.{shownLog}
+use Rattle.image.specs.Layout.{outLength, atServers, atMe}
+use Rattle.image.specs.Decode.{decodedAs, serversIn, quotaIn, decoded, greensIn, whiteIn}
 use Rattle.image.specs.Holding.{Holds, HoldsSuch, HoldsSome}
 use Rattle.image.proofs.InPlace.{holds-decoded, holds-some}
-use Rattle.queue.proofs.ReadLaws.{holds-queue}
+use Rattle.image.proofs.InRange.{in-range}
+use Rattle.queue.proofs.ReadLaws.{holds-queue, queue-read}
 use Rattle.outgoing.specs.Lent.{LentSuch}
 use Rattle.exchange.specs.Decided.{partOf}
 use Rattle.exchange.specs.declared.decided.Part.{Part}
-use Rattle.outgoing.specs.Resending.{queueIn, atPosition, asRed, redsOf, Sends, Stated, greenPart}
+use Rattle.outgoing.specs.Resending.{queueIn, atPosition, asRed, greensOf, redsOf, Sends, Stated, PositionsIn, greenPart}
 use Rattle.outgoing.specs.Resending.{redPart, redParts, wholePart}
-use Rattle.outgoing.proofs.ResendingLaws.{sends-none, sends-next}
-use Rattle.outgoing.proofs.HeldLaws.{reds-held}
+use Rattle.outgoing.proofs.GatherLaws.{without-first, without-last}
+use Rattle.outgoing.proofs.ResendingLaws.{position-white, position-past}
+use Rattle.outgoing.proofs.WalkLaws.{none-sent-at, sent-next}
 use Rattle.format.specs.Places.{mostRetransmission}
 use Rattle.format.specs.Write.{recordBytes}
-use Rattle.image.specs.Counts.{queueCount, place, mostActions}
-use Rattle.image.proofs.Counts.{numbers, holds-counts}
+use Rattle.image.specs.Counts.{mostActions}
+use Rattle.image.proofs.Counts.{numbers, holds-counts, queue-parts}
 
 -- ---- a buffer that holds a state
 
@@ -47,57 +54,70 @@ module _ (s : Server) (b : List ℕ) (r : Holds s b) where
 
 -- ---- whose part is what
 
--- Room for more is room for fewer.
-more-asked : (m k p r : ℕ) (xs : List Record) (o o₁ : List ℕ) → m ≤ k → Sends m xs p o o₁ r → Sends k xs p o o₁ r
-more-asked m k p r xs o o₁ h s = record { place = s .place; most = omega (arith, s .most); size = s .size; bytes = s .bytes }
+same-sent : (p r : ℕ) (xs ys : List Record) (o o₁ : List ℕ) → xs ≡ ys → Sends (length xs) xs p o o₁ r → Sends (length ys) ys p o o₁ r
+same-sent p r xs ys o o₁ e s = subst (λ (l : List Record). Sends (length l) l p o o₁ r) e s
 
-same-sent : (m p r : ℕ) (xs ys : List Record) (o o₁ : List ℕ) → xs ≡ ys → Sends m xs p o o₁ r → Sends m ys p o o₁ r
-same-sent m p r xs ys o o₁ e s = subst (λ (l : List Record). Sends m l p o o₁ r) e s
+same-room : (p : ℕ) (xs ys : List Record) (o : List ℕ) → xs ≡ ys → p + mostRetransmission * length ys ≤ length o → p + mostRetransmission * length xs ≤ length o
+same-room p xs ys o e h = omega (arith, ap length e)
 
 pub stated-some : (b : List ℕ) → Stated b → HoldsSome b
 stated-some b s = holds-some (decoded b) b (s .holds)
 
-module _ (b : List ℕ) (s : Stated b) where
-  facts : Body (decoded b)
-  facts = body (decoded b) (well-formed-facts (decoded b) (s .holds .formed))
+-- ---- by position
 
-  green-high : highest greenIn (collected (decoded b)) ≤ mostActions b
-  unfolding decoded decodedAs place
-  green-high = green-bound (serversIn b) (quotaIn b) (collected (decoded b)) (collected-fit (decoded b) facts)
+pub positions-in : (b : List ℕ) (low high l h : ℕ) → Stated b → l ≡ max low (whiteIn b) → h ≡ min high (length (greensIn b)) → PositionsIn l h b
+positions-in b low high l h s e f = record { queue = s .queue; unwhite = omega arith; green = omega arith }
 
-  cut-high : (c : ℕ) → highest (cutIn c) (collected (decoded b)) ≤ quotaIn b
-  unfolding decoded decodedAs place
-  cut-high c = cut-bound (serversIn b) (quotaIn b) c (collected (decoded b)) (collected-fit (decoded b) facts)
+-- White ones and those past the green list may be left out.
+module _ (b : List ℕ) (s : Stated b) (me low high : ℕ) where
+  abbrev first : ℕ
+  first = max low (whiteIn b)
+
+  abbrev last : ℕ
+  last = min high (length (greensIn b))
+
+  white-none : (p : ℕ) → low < p → p ≤ first → atPosition me b p ≡ none
+  unfolding atPosition resent
+  white-none p over most = ap (resent me p) (position-white b (s .queue) p (omega arith))
+
+  past-none : (p : ℕ) → last < p → p ≤ high → atPosition me b p ≡ none
+  unfolding atPosition resent
+  past-none p over most = ap (resent me p) (position-past b (s .queue) p (omega arith))
+
+  positions-held : greensOf me first last b ≡ greensOf me low high b
+  positions-held =
+      sym (without-first (atPosition me b) low first high (omega arith) white-none ∙ without-last (atPosition me b) first last high (omega arith) past-none)
 
 module _ (b : List ℕ) (x : Part) (s : Stated b) (e : (t : Server) → Holds t b → x ≡ partOf greenIn (t .me) (collected t)) where
   greens : x ≡ partOf greenIn (decoded b .me) (collected (decoded b))
   greens = e (decoded b) (s .holds)
 
-  greens-most : x .high ≤ mostActions b
-  unfolding partOf
-  greens-most = omega (arith, ap (λ (y : Part). y .high) greens, green-high b s)
-
-  green-is : (me : ℕ) → me ≡ numberAt 1 b atMe → pick (x .mine) (gather (atPosition me (greensIn b)) (above (x .low) (x .high))) [] ≡ greenPart b
-  unfolding greenPart resendGreen missing partOf atPosition greensIn queueIn decoded decodedAs place
+  green-is : (me : ℕ) → me ≡ numberAt 1 b atMe → pick (x .mine) (greensOf me (x .low) (x .high) b) [] ≡ greenPart b
+  unfolding greenPart resendGreen missing partOf atPosition decoded decodedAs
   green-is me m =
-      ap₂ {A = ℕ} {B = Part} {C = List Record} (λ k y. pick (y .mine) (gather (atPosition k (greensIn b)) (above (y .low) (y .high))) []) m greens
+      ap₂ {A = ℕ} {B = Part} {C = List Record} (λ k y. pick (y .mine) (greensOf k (y .low) (y .high) b) []) m greens
 
-  pub green-none : (me : ℕ) (o : List ℕ) → me ≡ numberAt 1 b atMe → not (x .mine) ≡ true → Sends (mostActions b) (greenPart b) 0 o o 0
+  pub green-none : (me : ℕ) (o : List ℕ) → me ≡ numberAt 1 b atMe → not (x .mine) ≡ true → Sends (length (greenPart b)) (greenPart b) 0 o o 0
   green-none me o m t =
-      same-sent (mostActions b) 0 0 [] (greenPart b) o o
-      (pick-no (x .mine) [] (gather (atPosition me (greensIn b)) (above (x .low) (x .high))) [] (not-true (x .mine) t) refl ∙ green-is me m)
-      (sends-none _ 0 o)
+      none-sent-at (greenPart b)
+      (sym (pick-no (x .mine) [] (greensOf me (x .low) (x .high) b) [] (not-true (x .mine) t) refl ∙ green-is me m)) 0 o
 
-  pub green-room : (o : List ℕ) → mostRetransmission * mostActions b ≤ length o → 0 + mostRetransmission * (x .high - x .low) ≤ length o
-  green-room o h = omega (arith, greens-most)
+  module _ (me l h : ℕ) (m : me ≡ numberAt 1 b atMe) (t : not (x .mine) ≡ false) (f : l ≡ max (x .low) (whiteIn b)) (g : h ≡ min (x .high) (length (greensIn b))) where
+    green-whole : greensOf me l h b ≡ greenPart b
+    green-whole =
+        (λ i. greensOf me (f i) (g i) b)
+        ∙ positions-held b s me (x .low) (x .high)
+        ∙ pick-yes (x .mine) _ (greensOf me (x .low) (x .high) b) [] (not-false (x .mine) t) refl
+        ∙ green-is me m
 
-  pub green-sent : (me r : ℕ) (o o₁ : List ℕ) → me ≡ numberAt 1 b atMe → not (x .mine) ≡ false
-      → Sends (x .high - x .low) (gather (atPosition me (greensIn b)) (above (x .low) (x .high))) 0 o o₁ r
-      → Sends (mostActions b) (greenPart b) 0 o o₁ r
-  green-sent me r o o₁ m t a =
-      same-sent (mostActions b) 0 r _ (greenPart b) o o₁
-      (pick-yes (x .mine) _ (gather (atPosition me (greensIn b)) (above (x .low) (x .high))) [] (not-false (x .mine) t) refl ∙ green-is me m)
-      (more-asked (x .high - x .low) (mostActions b) 0 r _ o o₁ (omega (arith, greens-most)) a)
+    pub green-room : (o : List ℕ) → 0 + mostRetransmission * length (greenPart b) ≤ length o → 0 + mostRetransmission * length (greensOf me l h b) ≤ length o
+    green-room o k = same-room 0 (greensOf me l h b) (greenPart b) o green-whole k
+
+    pub green-sent : (r : ℕ) (o o₁ : List ℕ) → Sends (length (greensOf me l h b)) (greensOf me l h b) 0 o o₁ r
+        → Sends (length (greenPart b)) (greenPart b) 0 o o₁ r
+    green-sent r o o₁ a = same-sent 0 r (greensOf me l h b) (greenPart b) o o₁ green-whole a
+
+-- ---- by index
 
 pub stated-creator : (b : List ℕ) (c : ℕ) → Stated b → c < serversIn b → HoldsSuch (λ s. c < s .servers) b
 unfolding decoded decodedAs serversIn quotaIn
@@ -107,118 +127,156 @@ module _ (b : List ℕ) (c : ℕ) (x : Part) (e : (t : Server) → Holds t b →
   reds : x ≡ partOf (cutIn c) (decoded b .me) (collected (decoded b))
   reds = e (decoded b) (s .holds)
 
-  reds-most : x .high ≤ quotaIn b
+  facts : Body (decoded b .white) (decoded b)
+  facts = body (decoded b) (well-formed-facts (decoded b) (s .holds .formed))
+
+  pub red-high : x .high ≤ mostNumber
   unfolding partOf
-  reds-most = omega (arith, ap (λ (y : Part). y .high) reds, cut-high b s c)
+  red-high =
+      omega (
+        arith,
+        ap (λ (y : Part). y .high) reds,
+        cut-bound (decoded b .servers) (decoded b .quota) c (collected (decoded b)) (collected-fit (decoded b) facts),
+      )
 
-  held : decoded b .log .green ++ decoded b .log .red ≡ queueIn b
-  unfolding queueIn decoded decodedAs place
-  held = take-append-drop (numberAt 4 b atGreenLength) (actionsAt (queueCount b) b (place theQueue b))
+  held : queue (shownLog (decoded b)) ≡ queueIn b
+  unfolding queueIn
+  held = sym (queue-read (decoded b) b (s .holds))
 
-  red-is : (me : ℕ) → me ≡ numberAt 1 b atMe → pick (x .mine) (gather (asRed me (queueIn b) c) (above (x .low) (x .high))) [] ≡ redPart b c
-  unfolding redPart resendRed missing partOf asRed idOf decoded decodedAs place
+  red-is : (me : ℕ) → me ≡ numberAt 1 b atMe → pick (x .mine) (redsOf me c (x .low) (x .high) b) [] ≡ redPart b c
+  unfolding redPart resendRed placesOf missing partOf asRed idOf queue whiteIn decoded decodedAs
   red-is me m =
       (λ i. pick (reds i .mine) (gather (asRed (m i) (sym held i) c) (above (reds i .low) (reds i .high))) [])
 
-  pub red-none : (me i : ℕ) (o : List ℕ) → me ≡ numberAt 1 b atMe → not (x .mine) ≡ true → Sends (quotaIn b) (redPart b c) i o o i
+  pub red-none : (me i : ℕ) (o : List ℕ) → me ≡ numberAt 1 b atMe → not (x .mine) ≡ true → Sends (length (redPart b c)) (redPart b c) i o o i
   red-none me i o m t =
-      same-sent (quotaIn b) i i [] (redPart b c) o o
-      (pick-no (x .mine) [] (gather (asRed me (queueIn b) c) (above (x .low) (x .high))) [] (not-true (x .mine) t) refl ∙ red-is me m)
-      (sends-none _ i o)
+      none-sent-at (redPart b c) (sym (pick-no (x .mine) [] (redsOf me c (x .low) (x .high) b) [] (not-true (x .mine) t) refl ∙ red-is me m)) i o
 
-  pub red-room : (me i : ℕ) (o : List ℕ) → i + mostRetransmission * quotaIn b ≤ length o
-      → i + mostRetransmission * length (redsOf me c (x .low) (x .high) b) ≤ length o
-  red-room me i o l = omega (arith, reds-held b s me c (x .low) (x .high))
+  module _ (me i : ℕ) (m : me ≡ numberAt 1 b atMe) (t : not (x .mine) ≡ false) where
+    red-whole : redsOf me c (x .low) (x .high) b ≡ redPart b c
+    red-whole = pick-yes (x .mine) _ (redsOf me c (x .low) (x .high) b) [] (not-false (x .mine) t) refl ∙ red-is me m
 
-  pub red-high : x .high ≤ 256
-  red-high = omega (arith, reds-most, s .queue .counts .sizes .quota)
+    pub red-room : (o : List ℕ) → i + mostRetransmission * length (redPart b c) ≤ length o
+        → i + mostRetransmission * length (redsOf me c (x .low) (x .high) b) ≤ length o
+    red-room o l = same-room i (redsOf me c (x .low) (x .high) b) (redPart b c) o red-whole l
 
-  pub red-sent : (me i r : ℕ) (o o₁ : List ℕ) → me ≡ numberAt 1 b atMe → not (x .mine) ≡ false
-      → Sends (length (redsOf me c (x .low) (x .high) b)) (redsOf me c (x .low) (x .high) b) i o o₁ r
-      → Sends (quotaIn b) (redPart b c) i o o₁ r
-  unfolding redsOf
-  red-sent me i r o o₁ m t a =
-      same-sent (quotaIn b) i r _ (redPart b c) o o₁
-      (pick-yes (x .mine) _ (gather (asRed me (queueIn b) c) (above (x .low) (x .high))) [] (not-false (x .mine) t) refl ∙ red-is me m)
-      (more-asked _ (quotaIn b) i r _ o o₁ (reds-held b s me c (x .low) (x .high)) a)
+    pub red-sent : (r : ℕ) (o o₁ : List ℕ) → Sends (length (redsOf me c (x .low) (x .high) b)) (redsOf me c (x .low) (x .high) b) i o o₁ r
+        → Sends (length (redPart b c)) (redPart b c) i o o₁ r
+    red-sent r o o₁ a = same-sent i r (redsOf me c (x .low) (x .high) b) (redPart b c) o o₁ red-whole a
 
 -- ---- every creator
 
-pub reds-start : (b : List ℕ) (q i : ℕ) (o : List ℕ) → Sends (0 * q) (redParts b 0) i o o i
+pub reds-start : (b : List ℕ) (i : ℕ) (o : List ℕ) → Sends (length (redParts b 0)) (redParts b 0) i o o i
 unfolding redParts gatherAll below
-reds-start b q i o = sends-none (0 * q) i o
-
-rows : (c n q : ℕ) → c < n → (c + 1) * q ≤ n * q
-rows c n q h = mul-le-mul-right q (omega arith)
+reds-start b i o = none-sent-at (redParts b 0) refl i o
 
 pub reds-creator : (b : List ℕ) (c n : ℕ) → n ≡ numberAt 1 b atServers → c < n → c < serversIn b
 unfolding serversIn
 reds-creator b c n e h = omega arith
 
-pub reds-room : (b : List ℕ) (c n q i j : ℕ) (o o₁ : List ℕ) → n ≡ numberAt 1 b atServers → c < n → i + mostRetransmission * mostActions b ≤ length o
-    → Sends (c * quotaIn b) (redParts b c) i o o₁ j → j + mostRetransmission * quotaIn b ≤ length o₁
-unfolding serversIn
-reds-room b c n q i j o o₁ e h l a =
-    let m : (c + 1) * quotaIn b ≤ mostActions b = rows c (serversIn b) (quotaIn b) (omega arith) in
-    let k : (c + 1) * quotaIn b ≡ c * quotaIn b + quotaIn b = omega arith in
-    omega (arith, a .most, a .size)
-
 below-more : (m : ℕ) → below m ++ (m ∷ []) ≡ below (m + 1)
 unfolding below
 below-more m = let e : m + 1 ≡ suc m = omega arith in ap below (sym e)
 
-pub reds-again : (b : List ℕ) (c i j r : ℕ) (o o₁ o₂ : List ℕ) → i + mostRetransmission * mostActions b ≤ length o
-    → Sends (c * quotaIn b) (redParts b c) i o o₁ j → Sends (quotaIn b) (redPart b c) j o₁ o₂ r → Sends ((c + 1) * quotaIn b) (redParts b (c + 1)) i o o₂ r
+parts-more : (b : List ℕ) (c : ℕ) → redParts b c ++ redPart b c ≡ redParts b (c + 1)
 unfolding redParts gatherAll
-reds-again b c i j r o o₁ o₂ l a d =
-    let k : c * quotaIn b + quotaIn b ≡ (c + 1) * quotaIn b = omega arith in
-    let f : redParts b c ++ redPart b c ≡ redParts b (c + 1) =
+parts-more b c =
     ap (λ (y : List Record). redParts b c ++ y) (sym (append-nil (redPart b c)))
     ∙ sym (gather-all-append (redPart b) (below c) (c ∷ []))
-    ∙ ap (λ (y : List ℕ). gatherAll (redPart b) y) (below-more c) in
-    subst (λ (m : ℕ). Sends m (redParts b (c + 1)) i o o₂ r) k
-    (same-sent (c * quotaIn b + quotaIn b) i r (redParts b c ++ redPart b c) (redParts b (c + 1)) o o₂ f
-    (sends-next (c * quotaIn b) (quotaIn b) i j r (redParts b c) (redPart b c) o o₁ o₂ (omega arith) a d))
+    ∙ ap (λ (y : List ℕ). gatherAll (redPart b) y) (below-more c)
 
-pub reds-end : (b : List ℕ) (c n i r : ℕ) (o o₁ : List ℕ) → n ≡ numberAt 1 b atServers → c ≤ n → n ≤ c → Sends (c * quotaIn b) (redParts b c) i o o₁ r
-    → Sends (mostActions b) (redParts b (serversIn b)) i o o₁ r
+more-count : (b : List ℕ) (c : ℕ) → length (redParts b (c + 1)) ≡ length (redParts b c) + length (redPart b c)
+more-count b c = ap length (sym (parts-more b c)) ∙ length-append (redParts b c) (redPart b c)
+
+parts-count : (b : List ℕ) (c n : ℕ) → c ≤ n → length (redParts b c) ≤ length (redParts b n)
+parts-count b c zero h = let e : c ≡ 0 = omega arith in omega (arith, ap (λ (m : ℕ). length (redParts b m)) e)
+parts-count b c (suc n) h = go (decLt c (suc n)) (λ l. parts-count b c n l)
+  where
+    next : n + 1 ≡ suc n
+    next = omega arith
+
+    go : Dec (c < suc n) → (c ≤ n → length (redParts b c) ≤ length (redParts b n)) → length (redParts b c) ≤ length (redParts b (suc n))
+    go (yes l) less = omega (arith, less (omega arith), more-count b n, ap (λ (m : ℕ). length (redParts b m)) next)
+    go (no l) less = let e : c ≡ suc n = omega arith in omega (arith, ap (λ (m : ℕ). length (redParts b m)) e)
+
+pub reds-room : (b : List ℕ) (c n i j : ℕ) (o o₁ : List ℕ) → n ≡ numberAt 1 b atServers → c < n
+    → i + mostRetransmission * length (redParts b (serversIn b)) ≤ length o
+    → Sends (length (redParts b c)) (redParts b c) i o o₁ j → j + mostRetransmission * length (redPart b c) ≤ length o₁
+reds-room b c n i j o o₁ e h l a =
+    omega (arith, a .most, a .size, more-count b c, parts-count b (c + 1) (serversIn b) (omega (arith, reds-creator b c n e h)))
+
+pub reds-again : (b : List ℕ) (c i j r : ℕ) (o o₁ o₂ : List ℕ) → i + mostRetransmission * length (redParts b (serversIn b)) ≤ length o
+    → Sends (length (redParts b c)) (redParts b c) i o o₁ j → Sends (length (redPart b c)) (redPart b c) j o₁ o₂ r
+    → Sends (length (redParts b (c + 1))) (redParts b (c + 1)) i o o₂ r
+reds-again b c i j r o o₁ o₂ l a d =
+    same-sent i r (redParts b c ++ redPart b c) (redParts b (c + 1)) o o₂ (parts-more b c)
+    (sent-next i j r (redParts b c) (redPart b c) o o₁ o₂ (omega arith) a d)
+
+pub reds-end : (b : List ℕ) (c n i r : ℕ) (o o₁ : List ℕ) → n ≡ numberAt 1 b atServers → c ≤ n → n ≤ c
+    → Sends (length (redParts b c)) (redParts b c) i o o₁ r
+    → Sends (length (redParts b (serversIn b))) (redParts b (serversIn b)) i o o₁ r
 unfolding serversIn
-reds-end b c n i r o o₁ e h l a = subst (λ (m : ℕ). Sends (m * quotaIn b) (redParts b m) i o o₁ r) (omega arith) a
+reds-end b c n i r o o₁ e h l a = subst (λ (m : ℕ). Sends (length (redParts b m)) (redParts b m) i o o₁ r) (omega arith) a
 
 -- ---- the whole
 
-pub plan-sent : (b : List ℕ) (i r : ℕ) (o o₁ o₂ : List ℕ) → Sends (mostActions b) (greenPart b) 0 o o₁ i
-    → Sends (mostActions b) (redParts b (serversIn b)) i o₁ o₂ r
-    → Sends (2 * mostActions b) (wholePart b) 0 o o₂ r
+whole-count : (b : List ℕ) → length (wholePart b) ≡ length (greenPart b) + length (redParts b (serversIn b))
 unfolding wholePart
-plan-sent b i r o o₁ o₂ a d =
-    let k : mostActions b + mostActions b ≡ 2 * mostActions b = omega arith in
-    subst (λ (m : ℕ). Sends m (wholePart b) 0 o o₂ r) k
-    (sends-next (mostActions b) (mostActions b) 0 i r (greenPart b) (redParts b (serversIn b)) o o₁ o₂ (omega arith) a d)
+whole-count b = length-append (greenPart b) (redParts b (serversIn b))
+
+pub green-first : (b o : List ℕ) → 0 + mostRetransmission * length (wholePart b) ≤ length o → 0 + mostRetransmission * length (greenPart b) ≤ length o
+green-first b o h = omega (arith, whole-count b)
+
+pub reds-behind : (b : List ℕ) (i : ℕ) (o o₁ : List ℕ) → 0 + mostRetransmission * length (wholePart b) ≤ length o
+    → Sends (length (greenPart b)) (greenPart b) 0 o o₁ i → i + mostRetransmission * length (redParts b (serversIn b)) ≤ length o₁
+reds-behind b i o o₁ h a = omega (arith, whole-count b, a .most, a .size)
+
+pub plan-sent : (b : List ℕ) (i r : ℕ) (o o₁ o₂ : List ℕ) → Sends (length (greenPart b)) (greenPart b) 0 o o₁ i
+    → Sends (length (redParts b (serversIn b))) (redParts b (serversIn b)) i o₁ o₂ r
+    → Sends (length (wholePart b)) (wholePart b) 0 o o₂ r
+unfolding wholePart
+plan-sent b i r o o₁ o₂ a d = sent-next 0 i r (greenPart b) (redParts b (serversIn b)) o o₁ o₂ (omega arith) a d
+
+whole : (b : List ℕ) → wholePart b ≡ ownPart (decoded b .servers) (decoded b .me) (decoded b .white) (decoded b .log) (collected (decoded b))
+unfolding wholePart greenPart redPart redParts ownPart whiteIn decoded decodedAs
+whole b = refl
 
 pub lent-stated : (P : Server → Type 0) (b o : List ℕ) → LentSuch P b o → Stated b
 lent-stated P b o l = holds-stated (l .state) b (l .holds)
 
-pub plan-room : (P : Server → Type 0) (b o : List ℕ) → LentSuch P b o → 2 * mostRetransmission * mostActions b ≤ length o
+-- Each action that is held is sent at most once by its position and once by its index, however many are planned.
+whole-held : (b : List ℕ) → Stated b → length (wholePart b) ≤ 2 * mostActions b
+unfolding placesOf queue
+whole-held b s =
+    let t : Server = decoded b in
+    let m = numbers t b (s .holds) in
+    omega (
+      arith,
+      ap length (whole b),
+      part-held (t .servers) (t .me) (t .white) (t .log) (collected t),
+      in-range t (s .holds .formed) .queueCount,
+      queue-parts (shownLog t),
+      ap₂ {A = ℕ} {B = ℕ} {C = ℕ} (λ n q. n * q) (m .servers) (m .quota),
+    )
+
+pub plan-room : (P : Server → Type 0) (b o : List ℕ) → LentSuch P b o → 0 + mostRetransmission * length (wholePart b) ≤ length o
 unfolding outLength
 plan-room P b o l =
     let m = numbers (l .state) b (l .holds) in
-    subst (λ (k : ℕ). 2 * mostRetransmission * k ≤ length o) (λ i. sym (m .servers) i * sym (m .quota) i) (l .room)
+    let all : 2 * mostRetransmission * mostActions b ≤ length o =
+    subst (λ (k : ℕ). 2 * mostRetransmission * k ≤ length o) (λ i. sym (m .servers) i * sym (m .quota) i) (l .room) in
+    omega (arith, whole-held b (lent-stated P b o l))
 
-pub part-fits : (P : Server → Type 0) (b : List ℕ) (xs : List Record) (r : ℕ) (o o₁ : List ℕ) → LentSuch P b o
-    → Sends (2 * mostActions b) xs 0 o o₁ r → r < 4294967296
-part-fits P b xs r o o₁ l a = omega (arith, holds-counts (l .state) b (l .holds) .most, a .most)
+pub part-fits : (P : Server → Type 0) (b : List ℕ) (r : ℕ) (o o₁ : List ℕ) → LentSuch P b o
+    → Sends (length (wholePart b)) (wholePart b) 0 o o₁ r → r < 4294967296
+part-fits P b r o o₁ l a = omega (arith, holds-counts (l .state) b (l .holds) .most, a .most, whole-held b (lent-stated P b o l))
 
-whole : (b : List ℕ) → wholePart b ≡ ownPart (decoded b .servers) (decoded b .me) (decoded b .log) (collected (decoded b))
-unfolding wholePart greenPart redPart redParts ownPart decoded decodedAs place
-whole b = refl
+module _ (b : List ℕ) (r : ℕ) (o o₁ : List ℕ) (a : Sends (length (wholePart b)) (wholePart b) 0 o o₁ r) (s : Server) (h : Holds s b) where
+  own : wholePart b ≡ ownPart (s .servers) (s .me) (s .white) (s .log) (collected s)
+  own = whole b ∙ ap (λ (t : Server). ownPart (t .servers) (t .me) (t .white) (t .log) (collected t)) (holds-decoded s b h)
 
-module _ (b : List ℕ) (m r : ℕ) (o o₁ : List ℕ) (a : Sends m (wholePart b) 0 o o₁ r) (s : Server) (h : Holds s b) where
-  own : wholePart b ≡ ownPart (s .servers) (s .me) (s .log) (collected s)
-  own = whole b ∙ ap (λ (t : Server). ownPart (t .servers) (t .me) (t .log) (collected t)) (holds-decoded s b h)
-
-  pub part-length : r ≡ length (recordBytes (ownPart (s .servers) (s .me) (s .log) (collected s)))
+  pub part-length : r ≡ length (recordBytes (ownPart (s .servers) (s .me) (s .white) (s .log) (collected s)))
   part-length = omega (arith, a .place, ap (λ (xs : List Record). length (recordBytes xs)) own)
 
-  pub part-bytes : o₁ ≡ over (recordBytes (ownPart (s .servers) (s .me) (s .log) (collected s))) o
+  pub part-bytes : o₁ ≡ over (recordBytes (ownPart (s .servers) (s .me) (s .white) (s .log) (collected s))) o
   part-bytes = a .bytes ∙ over-front (recordBytes (wholePart b)) o ∙ ap (λ (xs : List Record). over (recordBytes xs) o) own

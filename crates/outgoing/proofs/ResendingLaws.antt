@@ -7,13 +7,16 @@ use native.Mathlib.Omega.{arith}
 use mir.Syntax.{w64}
 use mir.Val.{Fits}
 use lib.ListN.{length, take, drop, length-append, length-take}
+use lib.Seq.{take-length}
 use Rattle.base.proofs.AtLaws.{at-past-take}
-use Rattle.base.specs.Bytes.{numberAt, partAt, joined}
+use Rattle.base.specs.Bytes.{partAt, joined}
 use Rattle.base.proofs.Comparable.{gather-append}
 use Rattle.base.specs.Lists.{at, atFront, gather, after, above}
 use Rattle.base.proofs.ListLaws.{above-more}
 use Rattle.base.specs.Patched.{patched}
+use Rattle.base.proofs.TestLaws.{pick-le, pick-gt}
 use Rattle.base.proofs.PatchedLaws.{patched-length, patched-next, patched-none}
+use Rattle.format.specs.Read.{actionAt}
 use Rattle.format.specs.Types.{Action, Record, action, retransmission}
 use Rattle.format.specs.Write.{write, lengthOf, recordBytes}
 use Rattle.format.proofs.Lengths.{write-length}
@@ -23,16 +26,16 @@ use Rattle.writer.specs.declared.records.Written.the-variants.{Next, Full}
 use Rattle.record.specs.Events.{actionIn, actionFrom}
 use Rattle.record.specs.Values.{actionOf}
 use Rattle.writer.specs.Written.{put, putOf}
-use Rattle.replication.specs.Machine.Plan.{resent}
-use Rattle.image.specs.Layout.{slotSize, atGreenLength, theQueue}
+use Rattle.replication.specs.Machine.Plan.{resent, heldAt}
+use Rattle.image.specs.Layout.{slotSize, theQueue}
 use Rattle.queue.proofs.ReadLaws.{actions-at, slot-read}
-use Rattle.outgoing.specs.Resending.{queueIn, fromPlace, atPosition, oneOf, Sends}
+use Rattle.outgoing.specs.Resending.{queueIn, fromPlace, atPosition, oneOf, Sends, PositionsIn}
 use Rattle.outgoing.proofs.LentLaws.{Placed, rest-room, rest-done, one-record, records-append}
 use Rattle.format.specs.Places.{mostRetransmission}
 use Rattle.image.specs.Counts.{queueCount, greenCount, place}
 use Rattle.queue.specs.Queue.{slotPlace, greenSlot, QueueIn}
-use Rattle.queue.proofs.GreenHistory.{green-low, greensIn-at}
-use Rattle.image.specs.Decode.{decoded, decodedAs, greensIn}
+use Rattle.queue.proofs.GreenHistory.{greensIn-count, green-low, greensIn-at}
+use Rattle.image.specs.Decode.{decoded, greensIn, whiteIn}
 use Rattle.format.specs.Limits.{mostPayload}
 
 -- ---- none, one, and more
@@ -173,21 +176,42 @@ module _ (b : List ℕ) (k p : ℕ) (a : ActionAt) (q : QueueIn b) (h : k < queu
 
 -- ---- a position
 
-pub position-past : (b : List ℕ) (me g p i : ℕ) (o : List ℕ) → g ≡ numberAt 4 b atGreenLength → g < p → Sends 1 (oneOf (atPosition me (greensIn b) p)) i o o i
-unfolding atPosition greensIn decoded decodedAs queueIn place oneOf resent atFront
-position-past b me g p i o e h =
-    let past : at (take (greenCount b) (queueIn b)) (p - 1) ≡ none = at-past-take (greenCount b) (queueIn b) (p - 1) (omega arith) in
-    subst (λ (x : Option Action). Sends 1 (oneOf (resent me p x)) i o o i) (sym past) (sends-none 1 i o)
+module _ (b : List ℕ) (q : QueueIn b) (p : ℕ) where
+  -- Neither a white one nor one past the green list is held.
+  pub position-white : p ≤ whiteIn b → heldAt (whiteIn b) (decoded b .log) p ≡ none
+  unfolding heldAt
+  position-white h = sym (pick-le p (whiteIn b) none none (at (decoded b .log .green) (p - 1)) h refl)
 
-pub position-sent : (b : List ℕ) (q : QueueIn b) (me g p k i r : ℕ) (o o₁ : List ℕ) → g ≡ numberAt 4 b atGreenLength → p ≤ g → 1 ≤ p → k ≡ greenSlot b (p - 1)
-    → Sends 1 (oneOf (fromPlace me p (queueIn b) k)) i o o₁ r → Sends 1 (oneOf (atPosition me (greensIn b) p)) i o o₁ r
-unfolding atPosition queueIn slotPlace fromPlace
-position-sent b q me g p k i r o o₁ e h l is-k s =
-    let there : at (greensIn b) (p - 1) ≡ at (queueIn b) k =
-    greensIn-at b q (p - 1) (omega arith)
-    ∙ sym (actions-at (queueCount b) b (place theQueue b) (greenSlot b (p - 1)) (green-low b q (p - 1) (omega arith)))
-    ∙ ap (at (queueIn b)) (sym is-k) in
-    subst (λ (x : Option Action). Sends 1 (oneOf (resent me p x)) i o o₁ r) (sym there) s
+  held-green : whiteIn b < p → at (greensIn b) (p - 1) ≡ heldAt (whiteIn b) (decoded b .log) p
+  unfolding heldAt greensIn
+  held-green h = pick-gt p (whiteIn b) (at (greensIn b) (p - 1)) none (at (decoded b .log .green) (p - 1)) h refl
+
+  pub position-past : length (greensIn b) < p → heldAt (whiteIn b) (decoded b .log) p ≡ none
+  position-past h =
+      sym (held-green (omega (arith, greensIn-count b q)))
+      ∙ ap (λ (l : List Action). at l (p - 1)) (sym (take-length (greensIn b)))
+      ∙ at-past-take (length (greensIn b)) (greensIn b) (p - 1) (omega arith)
+
+  module _ (low : whiteIn b < p) (high : p ≤ length (greensIn b)) where
+    pub position-there : heldAt (whiteIn b) (decoded b .log) p ≡ some (actionAt b (slotPlace b (greenSlot b (p - 1))))
+    position-there = sym (held-green low) ∙ greensIn-at b q (p - 1) (omega arith) (omega (arith, greensIn-count b q))
+
+    position-slot : (k : ℕ) → k ≡ greenSlot b (p - 1) → at (queueIn b) k ≡ heldAt (whiteIn b) (decoded b .log) p
+    unfolding queueIn slotPlace
+    position-slot k is-k =
+        ap (at (queueIn b)) is-k
+        ∙ actions-at (queueCount b) b (place theQueue b) (greenSlot b (p - 1)) (green-low b q (p - 1) (omega arith) (omega (arith, greensIn-count b q)))
+        ∙ sym position-there
+
+pub position-end : (b : List ℕ) (p : ℕ) → PositionsIn (p - 1) p b → 1 ≤ p → p - 1 < whiteIn b + greenCount b
+position-end b p s h = omega (arith, s .green, greensIn-count b (s .queue))
+
+pub position-sent : (b : List ℕ) (me p k i r : ℕ) (o o₁ : List ℕ) → PositionsIn (p - 1) p b → 1 ≤ p → k ≡ greenSlot b (p - 1)
+    → Sends 1 (oneOf (fromPlace me p (queueIn b) k)) i o o₁ r → Sends 1 (oneOf (atPosition me b p)) i o o₁ r
+unfolding atPosition fromPlace
+position-sent b me p k i r o o₁ s h is-k a =
+    subst (λ (x : Option Action). Sends 1 (oneOf (resent me p x)) i o o₁ r)
+    (position-slot b (s .queue) p (omega (arith, s .unwhite)) (s .green) k is-k) a
 
 -- ---- all from `low` to `high`
 

@@ -14,13 +14,14 @@ use Rattle.base.proofs.Occurs.{Occurs, occurs-first, occurs-drop, occurs-at}
 use Rattle.base.specs.Tests.{_≤?_, _and_}
 use Rattle.base.proofs.TestLaws.{pick-yes, both-yes, le-yes}
 use Rattle.base.proofs.Over.{rest-whole}
+use Rattle.format.specs.Limits.{mostNumber}
 use Rattle.format.specs.Types.{Id, State, state}
 use Rattle.format.specs.Read.{idsAt}
 use Rattle.format.specs.Write.{write, lengthOf, cutsBytes, idsBytes, recordBytes}
 use Rattle.format.proofs.Fields.{cuts-read, ids-read}
 use Rattle.format.proofs.Lengths.{write-length}
 use Rattle.record.specs.declared.State as declared
-use Rattle.record.specs.declared.StateHead.{StateHead}
+use Rattle.record.specs.declared.events.StateHead.{StateHead}
 use Rattle.writer.specs.declared.records.Written.{Written}
 use Rattle.writer.specs.declared.records.Written.the-variants.{Next, Full}
 use Rattle.record.specs.Values.{primaryOf, markOf, stateOf, lastOf}
@@ -29,9 +30,11 @@ use Rattle.replication.specs.Machine.Types.{Server, contextOf}
 use Rattle.replication.specs.Machine.Step.{ownState}
 use Rattle.image.specs.Layout.{theCuts, theYellow, sections, offset, stateLength, outLength, headerSize, mostStateSize}
 use Rattle.image.specs.Header.{markNumbers, headerOf, headerIn}
+use Rattle.image.specs.Decode.{greensIn}
 use Rattle.image.specs.Image.{parts}
 use Rattle.image.proofs.Fit.{well-formed-fits}
 use Rattle.image.proofs.HeaderLaws.{header-loaded}
+use Rattle.image.proofs.InPlace.{holds-decoded}
 use Rattle.image.proofs.InRange.{InRange, in-range}
 use Rattle.image.specs.Holding.{Holds}
 use Rattle.updates.specs.Lists.{configurationOf}
@@ -42,8 +45,9 @@ use Rattle.outgoing.proofs.LentLaws.{holds-products, holds-part, put-ro
 use Rattle.image.specs.Counts.{place}
 use Rattle.image.proofs.Counts.{holds-place}
 
-pub numbers-taken : (b : List ℕ) (id : ℕ) (h : declared.State) (g : StateHead) → h ≡ headerIn b → g ≡ ownHead h id → g ≡ ownHead (headerIn b) id
-numbers-taken b id h g e f = f ∙ ap (λ (x : declared.State). ownHead x id) e
+pub numbers-taken : (b : List ℕ) (id k : ℕ) (h : declared.State) (g : StateHead) → h ≡ headerIn b → k ≡ length (greensIn b) → g ≡ ownHead h k id
+    → g ≡ ownHead (headerIn b) (length (greensIn b)) id
+numbers-taken b id k h g e i f = f ∙ (λ j. ownHead (e j) (i j) id)
 
 -- ---- the record made of the buffer's bytes
 
@@ -57,7 +61,7 @@ module _ (s : Server) (b : List ℕ) (r : Holds s b) where
       let there : Occurs (cutsBytes (s .log .cuts)) b (headerSize + 0) =
       occurs-first (cutsBytes (s .log .cuts)) _ b headerSize (holds-part s b r theCuts (omega arith)) in
       ap (λ (m : ℕ). numbersAt 2 m (drop headerSize b) 0) (sym (range .cutsCount))
-      ∙ cuts-read (s .quota) (s .log .cuts) (drop headerSize b) 0 (range .context .sizes .highest) (range .cuts) (occurs-drop headerSize 0 there)
+      ∙ cuts-read mostNumber (s .log .cuts) (drop headerSize b) 0 (omega arith) (range .cuts) (occurs-drop headerSize 0 there)
 
   own-ids : idsAt (length (s .votes .yellow .ids)) (drop (offset (s .servers) (s .quota) theYellow) b) 0 ≡ s .votes .yellow .ids
   unfolding parts over
@@ -68,7 +72,7 @@ module _ (s : Server) (b : List ℕ) (r : Holds s b) where
       occurs-at (occurs-first (idsBytes ids) _ b at (holds-part s b r theYellow (omega arith))) (omega arith) in
       ids-read (contextOf s) ids (drop at b) 0 (range .context) (range .yellow .ids) (occurs-drop at 0 there)
 
-  own-made : (id set : ℕ) → stateOf (ownHead (headerOf s) id) (drop headerSize b) 0 (drop (offset (s .servers) (s .quota) theYellow) b) 0
+  own-made : (id set : ℕ) → stateOf (ownHead (headerOf s) (length (s .log .green)) id) (drop headerSize b) 0 (drop (offset (s .servers) (s .quota) theYellow) b) 0
       ≡ ownState (configurationOf id set) s
   unfolding stateOf ownHead headerOf lastOf markNumbers primaryOf markOf ownState configurationOf
   own-made id set =
@@ -113,8 +117,12 @@ module _ (s : Server) (b : List ℕ) (r : Holds s b) where
   unfolding offset stateLength sections sum
   own-end = (omega (arith, r .long), omega (arith, r .long, well-formed-fits s (r .formed) .ids))
 
+  green-said : length (greensIn b) ≡ length (s .log .green)
+  unfolding greensIn
+  green-said = ap (λ (t : Server). length (t .log .green)) (holds-decoded s b r)
+
   -- What the writer leaves.
-  own-put : (o : List ℕ) (id set at : ℕ) (g : StateHead) → g ≡ ownHead (headerIn b) id → at ≡ place theYellow b
+  own-put : (o : List ℕ) (id set at : ℕ) (g : StateHead) → g ≡ ownHead (headerIn b) (length (greensIn b)) id → at ≡ place theYellow b
       → putState g (take (length b - headerSize) (drop headerSize b)) (take (length b - at) (drop at b)) o
       ≡ put (write (state (ownState (configurationOf id set) s))) o
   unfolding putState ownHead headerOf
@@ -122,7 +130,7 @@ module _ (s : Server) (b : List ℕ) (r : Holds s b) where
       let n : ℕ = s .servers in
       let m : ℕ = length (s .votes .yellow .ids) in
       let y : ℕ = offset (s .servers) (s .quota) theYellow in
-      let head : g ≡ ownHead (headerOf s) id = e ∙ ap (λ (h : declared.State). ownHead h id) (header-loaded s b r) in
+      let head : g ≡ ownHead (headerOf s) (length (s .log .green)) id = e ∙ (λ i. ownHead (header-loaded s b r i) (green-said i) id) in
       let there : at ≡ y = f ∙ holds-place s b r theYellow in
       let fits : (2 * n ≤? length (drop headerSize b) and 3 * m ≤? length (drop y b)) ≡ true =
       both-yes _ _ (le-yes (2 * n) (length (drop headerSize b)) (omega (arith, length-drop headerSize b, own-end .0)))
@@ -135,7 +143,7 @@ module _ (s : Server) (b : List ℕ) (r : Holds s b) where
 -- ---- as the code writes it
 
 module _ (b o o₁ : List ℕ) (id at : ℕ) (g : StateHead) (w : Written) (h : LentSuch (λ s. 0 ≤ 0) b o)
-    (i : g ≡ ownHead (headerIn b) id) (j : at ≡ place theYellow b)
+    (i : g ≡ ownHead (headerIn b) (length (greensIn b)) id) (j : at ≡ place theYellow b)
     (e : putOf w o₁ ≡ putState g (take (length b - headerSize) (drop headerSize b)) (take (length b - at) (drop at b)) o) where
   pub state-full : w ≡ Full → (m : ℕ) (s : Server) (set : ℕ) → Holds s b
       → (m ≡ length (recordBytes (ownRecord id set s))) × (o₁ ≡ over (recordBytes (ownRecord id set s)) o)

@@ -1,5 +1,5 @@
 -- One's part of the retransmission plan, over the buffers.
-use Prim.Native.Nat.{ℕ, _+_, _*_, _-_, _≤_, _<_}
+use Prim.Native.Nat.{ℕ, _+_, _*_, _≤_, _<_}
 use mathlib.Core.Path.{_≡_}
 use mathlib.Core.List.{List, [], _++_}
 use mathlib.Core.Option.{Option}
@@ -7,14 +7,14 @@ use lib.ListN.{length}
 use Rattle.base.specs.Bytes.{numberAt}
 use Rattle.base.specs.Lists.{at, atFront, gather, gatherAll, above, below}
 use Rattle.base.specs.Patched.{patched}
-use Rattle.format.specs.Limits.{mostServers, mostQuota, mostPayload}
+use Rattle.format.specs.Limits.{mostServers, mostNumber, mostPayload}
 use Rattle.format.specs.Types.{Action, Record}
 use Rattle.record.specs.Values.{idOf}
 use Rattle.replication.specs.Machine.Colours.{find}
-use Rattle.replication.specs.Machine.Plan.{resent, resendGreen, resendRed, ownPart}
+use Rattle.replication.specs.Machine.Plan.{resent, heldAt, resendGreen, resendRed, ownPart}
 use Rattle.replication.specs.Machine.Step.{collected}
 use Rattle.image.specs.Layout.{theQueue, atMe}
-use Rattle.image.specs.Decode.{actionsAt, decoded, serversIn}
+use Rattle.image.specs.Decode.{actionsAt, decoded, serversIn, whiteIn, greensIn}
 use Rattle.image.specs.Holding.{Holds}
 use Rattle.queue.specs.Queue.{QueueIn}
 use Rattle.install.specs.Table.{IndexedFrom}
@@ -41,16 +41,20 @@ TableOf t b = IndexedFrom 0 t b
 unfoldable pub fromPlace : (me position : ℕ) → List Action → ℕ → Option Record
 fromPlace me p l k = resent me p (at l k)
 
--- "resends positions .."
-unfoldable pub atPosition : ℕ → List Action → ℕ → Option Record
-atPosition me l p = resent me p (at l (p - 1))
+-- "resends positions ..": a white action is not held.
+unfoldable pub atPosition : (me : ℕ) → List ℕ → ℕ → Option Record
+atPosition me b p = resent me p (heldAt (whiteIn b) (decoded b .log) p)
 
 -- ".. as red"
 unfoldable pub asRed : ℕ → List Action → ℕ → ℕ → Option Record
 asRed me l c i = resent me 0 (find (idOf c i) l)
 
+-- The actions at the positions above `low` up to `high` that are held.
+abbrev pub greensOf : (me low high : ℕ) → List ℕ → List Record
+greensOf me low high b = gather (atPosition me b) (above low high)
+
 -- Those of the creator c's actions with the indexes above `low` up to `high` that are held.
-unfoldable pub redsOf : (me c low high : ℕ) → List ℕ → List Record
+abbrev pub redsOf : (me c low high : ℕ) → List ℕ → List Record
 redsOf me c low high b = gather (asRed me (queueIn b) c) (above low high)
 
 -- The records rs from `at` on, none longer than the longest retransmission, for each of m that were asked for; the place behind them is r.
@@ -89,7 +93,13 @@ pub record Tabled (t b : List ℕ) : Type 0 where
 pub record IndexesIn (t : List ℕ) (c high : ℕ) (b : List ℕ) : Type 0 where
   pub tabled : Tabled t b
   pub creator : c < mostServers
-  pub most : high ≤ mostQuota
+  pub most : high ≤ mostNumber
+
+-- The queue is in range, and the positions above `low` up to `high` have slots: none is white or past the green list.
+pub record PositionsIn (low high : ℕ) (b : List ℕ) : Type 0 where
+  pub queue : QueueIn b
+  pub unwhite : whiteIn b ≤ low
+  pub green : high ≤ length (greensIn b)
 
 -- The server's own number.
 abbrev pub OwnNumber : (me : ℕ) → List ℕ → Type 0
@@ -113,10 +123,10 @@ pub record Resends (t : List ℕ) (me : ℕ) (b : List ℕ) : Type 0 where
   pub mine : OwnNumber me b
 
 unfoldable pub greenPart : List ℕ → List Record
-greenPart b = resendGreen (decoded b .me) (decoded b .log) (collected (decoded b))
+greenPart b = resendGreen (decoded b .me) (whiteIn b) (decoded b .log) (collected (decoded b))
 
 unfoldable pub redPart : List ℕ → ℕ → List Record
-redPart b c = resendRed (decoded b .me) (decoded b .log) (collected (decoded b)) c
+redPart b c = resendRed (decoded b .me) (whiteIn b) (decoded b .log) (collected (decoded b)) c
 
 -- Of the first n creators.
 unfoldable pub redParts : List ℕ → ℕ → List Record
@@ -130,4 +140,4 @@ wholePart b = greenPart b ++ allReds b
 
 -- The part of the state s.
 abbrev pub partIn : Server → List Record
-partIn s = ownPart (s .servers) (s .me) (s .log) (collected s)
+partIn s = ownPart (s .servers) (s .me) (s .white) (s .log) (collected s)

@@ -8,7 +8,7 @@ use Rattle.base.specs.Lists.{at}
 use Rattle.format.specs.Limits.{mostPayload}
 use Rattle.format.specs.Types.{Action, Record, action, state}
 use Rattle.record.specs.declared.State.{State as Numbers}
-use Rattle.record.specs.declared.StateHead.{StateHead}
+use Rattle.record.specs.declared.events.StateHead.{StateHead}
 use Rattle.replication.specs.Machine.Types.{Server}
 use Rattle.replication.specs.Machine.Step.{ownState}
 use Rattle.image.specs.Layout.{slotSize, theOwn}
@@ -20,13 +20,13 @@ use Rattle.format.specs.Write.{recordBytes}
 use mathlib.Core.Path.{_≡_}
 use Rattle.image.specs.Holding.{Holds}
 
--- The numbers of the State that a server with the numbers h sends in the configuration of this id.
-unfoldable pub ownHead : Numbers → (id : ℕ) → StateHead
-ownHead h id = record {
+-- The numbers of the State that a server with the numbers h and a green history of this length sends in the configuration of this id.
+unfoldable pub ownHead : Numbers → (green id : ℕ) → StateHead
+ownHead h green id = record {
   sender = h .me;
   configuration = id;
   servers = h .servers;
-  «green_length» = h .«green_length»;
+  «green_length» = green;
   attempt = h .attempt;
   last = h .last;
   mark = h .mark;

@@ -2,19 +2,19 @@
 ghost use mathlib.Core.Path.{_≡_};
 ghost use mathlib.Core.Bool.{true};
 ghost use mathlib.Core.List.{[], _∷_};
-ghost use Prim.Native.Nat.{_+_, _*_, _-_, _≤_, _<_};
+ghost use Prim.Native.Nat.{_+_, _-_, _≤_, _<_, max, min};
 ghost use lib.ListN.{length};
-ghost use Rattle.base.specs.Lists.{gather, above};
 ghost use Rattle.format.specs.Types.{retransmission};
 ghost use Rattle.record.specs.Events.{actionFrom};
 ghost use Rattle.replication.specs.Machine.Step.{allStatesIn};
 ghost use Rattle.outgoing.specs.Lent.{LentSuch, PutsRecords};
 ghost use Rattle.queue.specs.Queue.{QueueIn};
-ghost use Rattle.outgoing.specs.Resending.{queueIn, SendsTo, Room, PayloadInside, Resends, partIn, IndexesIn, OwnNumber, allReds};
-ghost use Rattle.outgoing.specs.Resending.{fromPlace, atPosition, redsOf, RoomFor, SendsAll, oneOf, Stated, greenPart, redPart, wholePart};
+ghost use Rattle.outgoing.specs.Resending.{queueIn, SendsTo, PayloadInside, Resends, partIn, PositionsIn, IndexesIn, OwnNumber, allReds};
+ghost use Rattle.outgoing.specs.Resending.{fromPlace, atPosition, greensOf, redsOf, RoomFor, SendsAll, oneOf, Stated};
+ghost use Rattle.outgoing.specs.Resending.{greenPart, redPart, wholePart};
 ghost use Rattle.format.specs.Places.{mostRetransmission};
-ghost use Rattle.image.specs.Decode.{serversIn, quotaIn, greensIn};
-ghost use Rattle.image.specs.Counts.{queueCount, mostActions};
+ghost use Rattle.image.specs.Decode.{serversIn, greensIn, whiteIn};
+ghost use Rattle.image.specs.Counts.{queueCount};
 use exchange::decided::resends_green;
 use exchange::decided::resends_red;
 use image::places::THE_QUEUE;
@@ -25,7 +25,9 @@ use install::table::table;
 use octets::numbers::num8;
 use octets::numbers::num32;
 use octets::numbers::wider;
+use queue::history::green_length;
 use queue::history::green_slot;
+use queue::history::white_length;
 use record::State;
 use record::events::ActionAt;
 use record::parts::action_at;
@@ -56,14 +58,11 @@ fn send_slot(state: &[u8], out: &mut [u8], at: usize, me: u8, position: u32, k: 
     send_action(state, out, at, me, position, a)
 }
 
-// A green position; one past the green list is left out.
+// The action at a position, which has a slot.
 fn send_position(state: &[u8], out: &mut [u8], at: usize, me: u8, position: u32) -> usize
-    requires { ⌜ QueueIn (now state) × (1 ≤ position) × (at + mostRetransmission ≤ length (now out)) ⌝ }
-    ensures { λ r. ⌜ SendsTo 1 (oneOf (atPosition me (greensIn (now (state .entry))) position)) at out r ⌝ }
+    requires { ⌜ PositionsIn (position - 1) position (now state) × (1 ≤ position) × (at + mostRetransmission ≤ length (now out)) ⌝ }
+    ensures { λ r. ⌜ SendsTo 1 (oneOf (atPosition me (now (state .entry)) position)) at out r ⌝ }
 {
-    if num32(state, State::AT_GREEN_LENGTH) < position {
-        return at;
-    }
     send_slot(
         state,
         out,
@@ -74,10 +73,10 @@ fn send_position(state: &[u8], out: &mut [u8], at: usize, me: u8, position: u32)
     )
 }
 
-// "resends positions from the shortest length + 1 to its own": those above `low` up to `high`.
+// Those above `low` up to `high`.
 fn send_positions(state: &[u8], out: &mut [u8], at: usize, me: u8, low: u32, high: u32) -> usize
-    requires { ⌜ QueueIn (now state) × Room at (high - low) (now out) ⌝ }
-    ensures { λ r. ⌜ SendsTo (high - low) (gather (atPosition me (greensIn (now (state .entry)))) (above low high)) at out r ⌝ }
+    requires { ⌜ PositionsIn low high (now state) × RoomFor (greensOf me low high (now state)) at (now out) ⌝ }
+    ensures { λ r. ⌜ SendsAll (greensOf me low high (now (state .entry))) at out r ⌝ }
 {
     let mut next = at;
     let mut p = low;
@@ -86,6 +85,30 @@ fn send_positions(state: &[u8], out: &mut [u8], at: usize, me: u8, low: u32, hig
         next = send_position(state, out, next, me, p);
     }
     next
+}
+
+// The position above which actions are resent: `low`, or that of the last white action. "An action that the resender does not hold is left out".
+fn above_white(state: &[u8], low: u32) -> u32
+    requires { ⌜ QueueIn (now state) ⌝ }
+    ensures { λ r. ⌜ r ≡ max low (whiteIn (now (state .entry))) ⌝ }
+{
+    let white = white_length(state);
+    if low < white {
+        return white;
+    }
+    low
+}
+
+// The last position that is resent: `high`, or that of the last green action.
+fn up_to_green(state: &[u8], high: u32) -> u32
+    requires { ⌜ QueueIn (now state) ⌝ }
+    ensures { λ r. ⌜ r ≡ min high (length (greensIn (now (state .entry)))) ⌝ }
+{
+    let green = green_length(state);
+    if green < high {
+        return green;
+    }
+    high
 }
 
 // How far a walk over a creator's indexes came: the index, and the place behind the records.
@@ -152,14 +175,16 @@ fn send_creator(
 
 // "the server with the longest green list resends positions from the shortest length + 1 to its own."
 fn send_green(state: &[u8], out: &mut [u8], me: u8) -> usize
-    requires { ⌜ Stated (now state) × OwnNumber me (now state) × (mostRetransmission * mostActions (now state) ≤ length (now out)) ⌝ }
-    ensures { λ r. ⌜ SendsTo (mostActions (now (state .entry))) (greenPart (now (state .entry))) 0 out r ⌝ }
+    requires { ⌜ Stated (now state) × OwnNumber me (now state) × RoomFor (greenPart (now state)) 0 (now out) ⌝ }
+    ensures { λ r. ⌜ SendsAll (greenPart (now (state .entry))) 0 out r ⌝ }
 {
     let part = resends_green(state);
     if !part.mine {
         return 0;
     }
-    send_positions(state, out, 0, me, part.low, part.high)
+    let low = above_white(state, part.low);
+    let high = up_to_green(state, part.high);
+    send_positions(state, out, 0, me, low, high)
 }
 
 // "for each creator the server with the highest cut resends from the lowest cut + 1 to it, as red."
@@ -169,16 +194,16 @@ fn send_red(
     at: usize,
     places: &[u16; State::MOST_IDS],
     me: u8,
-    creator: u8,
+    c: u8,
 ) -> usize
-    requires { ⌜ Resends (now places) me (now state) × (creator < serversIn (now state)) × Room at (quotaIn (now state)) (now out) ⌝ }
-    ensures { λ r. ⌜ SendsTo (quotaIn (now (state .entry))) (redPart (now (state .entry)) creator) at out r ⌝ }
+    requires { ⌜ Resends (now places) me (now state) × (c < serversIn (now state)) × RoomFor (redPart (now state) c) at (now out) ⌝ }
+    ensures { λ r. ⌜ SendsAll (redPart (now (state .entry)) c) at out r ⌝ }
 {
-    let part = resends_red(state, creator as usize);
+    let part = resends_red(state, c as usize);
     if !part.mine {
         return at;
     }
-    send_creator(state, out, at, places, me, creator, part.low, part.high)
+    send_creator(state, out, at, places, me, c, part.low, part.high)
 }
 
 // The same for every creator.
@@ -189,8 +214,8 @@ fn send_reds(
     places: &[u16; State::MOST_IDS],
     me: u8,
 ) -> usize
-    requires { ⌜ Resends (now places) me (now state) × Room at (mostActions (now state)) (now out) ⌝ }
-    ensures { λ r. ⌜ SendsTo (mostActions (now (state .entry))) (allReds (now (state .entry))) at out r ⌝ }
+    requires { ⌜ Resends (now places) me (now state) × RoomFor (allReds (now state)) at (now out) ⌝ }
+    ensures { λ r. ⌜ SendsAll (allReds (now (state .entry))) at out r ⌝ }
 {
     let servers = num8(state, State::AT_SERVERS);
     let mut next = at;
@@ -204,8 +229,8 @@ fn send_reds(
 
 // All of them: the place behind the last.
 fn send_plan(state: &[u8], out: &mut [u8]) -> usize
-    requires { ⌜ Stated (now state) × (2 * mostRetransmission * mostActions (now state) ≤ length (now out)) ⌝ }
-    ensures { λ r. ⌜ SendsTo (2 * mostActions (now (state .entry))) (wholePart (now (state .entry))) 0 out r ⌝ }
+    requires { ⌜ Stated (now state) × RoomFor (wholePart (now state)) 0 (now out) ⌝ }
+    ensures { λ r. ⌜ SendsAll (wholePart (now (state .entry))) 0 out r ⌝ }
 {
     let me = num8(state, State::AT_ME);
     let next = send_green(state, out, me);

@@ -3,20 +3,22 @@ ghost use mathlib.Core.Path.{_≡_};
 ghost use Prim.Native.Nat.{_≤_};
 ghost use lib.ListN.{length};
 ghost use Rattle.image.specs.Header.{headerIn};
-ghost use Rattle.image.specs.Layout.{headerSize};
+ghost use Rattle.image.specs.Decode.{greensIn};
+ghost use Rattle.queue.specs.Queue.{QueueIn};
 ghost use Rattle.outgoing.specs.Lent.{LentSuch};
 ghost use Rattle.outgoing.specs.Sending.{ownHead, PutsOwn};
 use image::header::load;
 use image::places::THE_YELLOW;
 use image::places::place_of;
+use queue::history::green_length;
 use record::State;
-use record::StateHead;
+use record::events::StateHead;
 use writer::records::Written;
 use writer::records::write_state;
 
-// The numbers of the State that a server with the numbers h sends in this configuration.
-fn own_head(h: State, id: u32) -> StateHead
-    ensures { λ r. ⌜ r ≡ ownHead h id ⌝ }
+// The numbers of the State that a server with the numbers h and a green history of this length sends in this configuration.
+fn own_head(h: State, green_length: u32, id: u32) -> StateHead
+    ensures { λ r. ⌜ r ≡ ownHead h «green_length» id ⌝ }
 {
     let attempt = h.attempt;
     let last = h.last;
@@ -25,7 +27,7 @@ fn own_head(h: State, id: u32) -> StateHead
         sender: h.me,
         configuration: id,
         servers: h.servers,
-        green_length: h.green_length,
+        green_length,
         attempt,
         last,
         mark,
@@ -36,11 +38,11 @@ fn own_head(h: State, id: u32) -> StateHead
 
 // The same, from the state's buffer.
 fn own_numbers(state: &[u8], id: u32) -> StateHead
-    requires { ⌜ headerSize ≤ length (now state) ⌝ }
-    ensures { λ r. ⌜ r ≡ ownHead (headerIn (now (state .entry))) id ⌝ }
+    requires { ⌜ QueueIn (now state) ⌝ }
+    ensures { λ r. ⌜ r ≡ ownHead (headerIn (now (state .entry))) (length (greensIn (now (state .entry)))) id ⌝ }
 {
     let h = load(state);
-    own_head(h, id)
+    own_head(h, green_length(state), id)
 }
 
 // The server's State, at the front of the outgoing buffer; how many bytes it has.

@@ -9,19 +9,21 @@ use lib.Seq.{drop-length}
 use Rattle.base.specs.Bytes.{numberAt, joined, over}
 use Rattle.base.specs.Patched.{patched}
 use Rattle.base.proofs.PatchedLaws.{patched-next, patched-none}
-use Rattle.base.proofs.TestLaws.{pick-ge}
+use Rattle.base.specs.Tests.{_or_, _<?_}
+use Rattle.base.proofs.TestLaws.{pick-no}
 use Rattle.format.specs.Limits.{mostPayload}
 use Rattle.format.specs.Places.{actionPayloadAt, actionHeadSize}
 use Rattle.format.specs.Types.{Action}
 use Rattle.format.specs.Read.{actionAt}
 use Rattle.image.specs.Layout.{slotSize, theQueue}
-use Rattle.image.specs.Decode.{greensIn}
+use Rattle.image.specs.Decode.{greensIn, whiteIn}
 use Rattle.image.specs.Counts.{queueCount, greenCount, place}
 use Rattle.queue.specs.Queue.{slotPlace, greenSlot, QueueIn}
 use Rattle.queue.proofs.GreenHistory.{greensIn-count, green-low, greensIn-next}
 use Rattle.base.proofs.Over.{over-front}
 use Rattle.queries.specs.declared.GreenEntries.{GreenEntries}
 use Rattle.queries.specs.Queries.{entryBytes, entriesBytes, entryHeadSize, mostEntry, fitting, putting, listing, listed, putEntries}
+use Rattle.queries.proofs.ListingLaws.{in-list}
 use Rattle.queries.proofs.EntryLaws.{slot-entry-length, entries-append, one-entry, first-fits, first-too-long, none-to-fit}
 
 -- ---- the loop
@@ -29,7 +31,8 @@ use Rattle.queries.proofs.EntryLaws.{slot-entry-length, entries-append,
 -- Entries put so far: k and `at` are the places behind them, and what fits of the whole is these and what fits of the rest.
 pub record Along (b : List ℕ) (from : ℕ) (o₀ o : List ℕ) (k at : ℕ) : Type 0 where
   pub size : length o ≡ length o₀
-  pub high : k ≤ greenCount b
+  pub low : whiteIn b ≤ from
+  pub high : k ≤ length (greensIn b)
   pub put : List Action
   pub count : from + length put ≡ k
   pub place : at ≡ length (entriesBytes put)
@@ -38,12 +41,14 @@ pub record Along (b : List ℕ) (from : ℕ) (o₀ o : List ℕ) (k at : ℕ) : 
   pub bytes : o ≡ patched 0 (entriesBytes put) o₀
   pub rest : fitting (length o₀) (drop from (greensIn b)) ≡ put ++ fitting (length o₀ - at) (drop k (greensIn b))
 
-pub along-starts : (b : List ℕ) (from green : ℕ) (o : List ℕ) → green ≡ greenCount b → from ≤ green → Along b from o o from 0
+pub along-starts : (b : List ℕ) (from white green : ℕ) (o : List ℕ) → white ≡ whiteIn b → green ≡ length (greensIn b) → white ≤ from → from ≤ green
+    → Along b from o o from 0
 unfolding entriesBytes joined
-along-starts b from green o e h =
+along-starts b from white green o d e l h =
     let room : length o ≡ length o - 0 = omega arith in
     record {
       size = refl;
+      low = omega arith;
       high = omega arith;
       put = [];
       count = omega arith;
@@ -60,42 +65,51 @@ module _ (b : List ℕ) (from : ℕ) (o₀ o : List ℕ) (k at : ℕ) (q : Queue
 
   -- The bytes are few enough for 32 bits.
   pub along-few : at < 2 ^ 32
-  along-few = omega (arith, a .most, a .count, a .high, q .counts .green, q .counts .queue, q .counts .most)
+  along-few = omega (arith, a .most, a .count, a .low, a .high, greensIn-count b q, q .counts .green, q .counts .queue, q .counts .most)
 
   -- Nothing more fits: the answer.
   module _ (done : fitting (length o₀ - at) (drop k (greensIn b)) ≡ []) where
     chosen : a .put ≡ fitting (length o₀) (drop from (greensIn b))
     chosen = sym (a .rest ∙ ap (λ (x : List Action). a .put ++ x) done ∙ append-nil (a .put))
 
-    along-answer : (green : ℕ) (r : GreenEntries) → green ≡ greenCount b → r ≡ putEntries green (k - from) at → listed r o ≡ listing (greensIn b) from o₀
+    along-answer : (white green : ℕ) (r : GreenEntries) → white ≡ whiteIn b → green ≡ length (greensIn b) → r ≡ putEntries green white (k - from) at
+        → listed r o ≡ listing (whiteIn b) (greensIn b) from o₀
     unfolding listed listing putting
-    along-answer green r e is-r =
-        let green-is : green ≡ length (greensIn b) = e ∙ sym (greensIn-count b q) in
+    along-answer white green r d e is-r =
         let entries : k - from ≡ length (a .put) = omega (arith, a .count) in
         let put : o ≡ over (entriesBytes (a .put)) o₀ = a .bytes ∙ over-front (entriesBytes (a .put)) o₀ in
         ap (λ (y : GreenEntries). listed y o) is-r
-        ∙ pick-ge (length (greensIn b)) from _ _ _ (omega (arith, a .count, a .high, greensIn-count b q))
+        ∙ pick-no (from <? whiteIn b or length (greensIn b) <? from) _ _ _ (in-list (whiteIn b) (greensIn b) from (a .low) (omega (arith, a .count, a .high)))
         (λ i. record {
           number = 0;
-          green = green-is i;
+          green = e i;
+          white = d i;
           entries = (entries ∙ ap length chosen) i;
           bytes = (a .place ∙ ap (λ (x : List Action). length (entriesBytes x)) chosen) i;
           out = (put ∙ ap (λ (x : List Action). over (entriesBytes x) o₀) chosen) i;
         })
 
-  pub along-ends : (green : ℕ) (r : GreenEntries) → green ≡ greenCount b → green ≤ k → r ≡ putEntries green (k - from) at → listed r o ≡ listing (greensIn b) from o₀
-  along-ends green r e h is-r =
-      let last : k ≡ length (greensIn b) = omega (arith, a .high, greensIn-count b q) in
+  pub along-ends : (white green : ℕ) (r : GreenEntries) → white ≡ whiteIn b → green ≡ length (greensIn b) → green ≤ k
+      → r ≡ putEntries green white (k - from) at → listed r o ≡ listing (whiteIn b) (greensIn b) from o₀
+  along-ends white green r d e h is-r =
+      let last : k ≡ length (greensIn b) = omega (arith, a .high) in
       along-answer
       (ap (λ (n : ℕ). fitting (length o₀ - at) (drop n (greensIn b))) last
       ∙ ap (fitting (length o₀ - at)) (drop-length (greensIn b))
-      ∙ none-to-fit (length o₀ - at)) green r e is-r
+      ∙ none-to-fit (length o₀ - at)) white green r d e is-r
+
+  -- A position before the last one has a slot.
+  pub along-behind : whiteIn b ≤ k
+  along-behind = omega (arith, along-low, a .low)
+
+  pub along-inside : (green : ℕ) → green ≡ length (greensIn b) → k < green → k < whiteIn b + greenCount b
+  along-inside green e h = omega (arith, greensIn-count b q)
 
   -- The slot s of the position k, with its payload's length.
-  module _ (green p s m : ℕ) (e : green ≡ greenCount b) (h : k < green) (is-p : p ≡ place theQueue b) (is-s : s ≡ greenSlot b k)
+  module _ (green p s m : ℕ) (e : green ≡ length (greensIn b)) (h : k < green) (is-p : p ≡ place theQueue b) (is-s : s ≡ greenSlot b k)
       (is-m : m ≡ numberAt 1 b (p + slotSize * s + actionPayloadAt)) where
     low : s < queueCount b
-    low = omega (arith, is-s, green-low b q k (omega arith))
+    low = omega (arith, is-s, green-low b q k along-behind (along-inside green e h))
 
     slot-short : m ≤ mostPayload
     unfolding slotPlace
@@ -111,15 +125,16 @@ module _ (b : List ℕ) (from : ℕ) (o₀ o : List ℕ) (k at : ℕ) (q : Queue
 
     next-is : drop k (greensIn b) ≡ x ∷ drop (suc k) (greensIn b)
     unfolding slotPlace
-    next-is = greensIn-next b q k (omega arith) ∙ (λ i. actionAt b (sym is-p i + slotSize * sym is-s i) ∷ drop (suc k) (greensIn b))
+    next-is = greensIn-next b q k along-behind (along-inside green e h) ∙ (λ i. actionAt b (sym is-p i + slotSize * sym is-s i) ∷ drop (suc k) (greensIn b))
 
     size-is : length (entryBytes x) ≡ entryHeadSize + m
     size-is = slot-entry-length b (p + slotSize * s) m is-m slot-inside
 
-    pub along-full : (r : GreenEntries) → length o - at < entryHeadSize + m → r ≡ putEntries green (k - from) at → listed r o ≡ listing (greensIn b) from o₀
-    along-full r l is-r =
+    pub along-full : (white : ℕ) (r : GreenEntries) → white ≡ whiteIn b → length o - at < entryHeadSize + m → r ≡ putEntries green white (k - from) at
+        → listed r o ≡ listing (whiteIn b) (greensIn b) from o₀
+    along-full white r d l is-r =
         along-answer
-        (ap (fitting (length o₀ - at)) next-is ∙ first-too-long (length o₀ - at) x (drop (suc k) (greensIn b)) (omega (arith, size-is, a .size))) green r e is-r
+        (ap (fitting (length o₀ - at)) next-is ∙ first-too-long (length o₀ - at) x (drop (suc k) (greensIn b)) (omega (arith, size-is, a .size))) white green r d e is-r
 
     module _ (l : entryHeadSize + m ≤ length o - at) where
       pub along-room : at + (entryHeadSize + m) ≤ length o
@@ -134,6 +149,7 @@ module _ (b : List ℕ) (from : ℕ) (o₀ o : List ℕ) (k at : ℕ) (q : Queue
           let next : suc k ≡ k + 1 = omega arith in
           record {
             size = same ∙ a .size;
+            low = a .low;
             high = omega arith;
             put = a .put ++ (x ∷ []);
             count = omega (arith, long, a .count);

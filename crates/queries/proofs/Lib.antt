@@ -1,6 +1,6 @@
 pub mod EntryLaws
-pub mod EntriesCode
 pub mod ListingLaws
+pub mod EntriesCode
 pub mod MeetingLaws
 pub mod SummaryLaws
 pub mod ReadingLaws

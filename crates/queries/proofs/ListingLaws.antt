@@ -1,27 +1,46 @@
 -- The answer with green entries, by the tests in their order; and as the code gives it.
-use Prim.Native.Nat.{ℕ, _+_, _≤_, _<_}
+use Prim.Native.Nat.{ℕ, _≤_, _<_}
 use mathlib.Core.Path.{_≡_, refl, sym, ap, _∙_}
-use mathlib.Core.Bool.{true, false}
+use mathlib.Core.Bool.{Bool, true, false}
 use mathlib.Core.List.{List}
 use native.Mathlib.Omega.{arith}
 use lib.ListN.{length, drop}
-use Rattle.base.specs.Bytes.{numberAt}
 use Rattle.base.specs.Tests.{_or_, _<?_}
-use Rattle.base.proofs.TestLaws.{Known, holds, fails, known, pick-yes, pick-no, pick-lt, or-fails, lt-yes, lt-no, lt-holds, lt-fails}
+use Rattle.base.proofs.TestLaws.{Known, holds, fails, known, pick-yes, pick-no, or-fails, lt-yes, lt-no, lt-fails}
 use Rattle.base.proofs.Branches.{or-yes, or-no}
-use Rattle.image.specs.Layout.{atGreenLength}
-use Rattle.image.specs.Decode.{decoded, reads, greensIn}
+use Rattle.format.specs.Types.{Action}
+use Rattle.image.specs.Decode.{decoded, reads, greensIn, whiteIn}
 use Rattle.image.specs.Holding.{Holds}
 use Rattle.image.specs.Outcome.{stateShort, imageNumber}
-use Rattle.image.proofs.InPlace.{holds-header}
-use Rattle.image.proofs.Counts.{numbers}
 use Rattle.image.proofs.Refusals.{image-short, image-unread, image-whole, whole-read, whole-holds}
 use Rattle.queue.specs.Queue.{QueueIn}
 use Rattle.queue.proofs.ReadLaws.{holds-queue}
 use Rattle.queries.specs.declared.GreenEntries.{GreenEntries}
 use Rattle.queries.specs.Queries.{mostEntry, fitting, Listing, unlisted, putting, listing, entriesOn, listed, refusedEntries}
 
+-- ---- the positions that can be asked for: those from w on, up to the list's length
+
+module _ (w : ℕ) (l : List Action) (f : ℕ) where
+  pub in-list : w ≤ f → f ≤ length l → (f <? w or length l <? f) ≡ false
+  in-list h k = sym (or-no false (f <? w) (length l <? f) (lt-no f w h) (sym (lt-no (length l) f k)))
+
+  before-list : f < w → (f <? w or length l <? f) ≡ true
+  before-list h = sym (or-yes (f <? w) (length l <? f) (lt-yes f w h))
+
+  past-list : length l < f → (f <? w or length l <? f) ≡ true
+  past-list h = go (known (f <? w))
+    where
+      go : Known (f <? w) → (f <? w or length l <? f) ≡ true
+      go (holds t) = sym (or-yes (f <? w) (length l <? f) t)
+      go (fails t) = sym (or-no true (f <? w) (length l <? f) t (sym (lt-yes (length l) f h)))
+
 module _ (b : List ℕ) (f : ℕ) (o : List ℕ) where
+  abbrev outside : Bool
+  outside = f <? whiteIn b or length (greensIn b) <? f
+
+  abbrev answer : Listing
+  answer = listing (whiteIn b) (greensIn b) f o
+
   on-short : (stateShort b or length o <? mostEntry) ≡ true → entriesOn b f o ≡ unlisted 7 o
   unfolding entriesOn
   on-short h = sym (pick-yes (stateShort b or length o <? mostEntry) _ _ _ h refl)
@@ -30,17 +49,17 @@ module _ (b : List ℕ) (f : ℕ) (o : List ℕ) where
   unfolding entriesOn
   on-unread h k = sym (pick-no (stateShort b or length o <? mostEntry) _ _ _ h (pick-no (reads b) _ _ _ k refl))
 
-  on-read : (stateShort b or length o <? mostEntry) ≡ false → reads b ≡ true → entriesOn b f o ≡ listing (greensIn b) f o
+  on-read : (stateShort b or length o <? mostEntry) ≡ false → reads b ≡ true → entriesOn b f o ≡ answer
   unfolding entriesOn
   on-read h k = sym (pick-no (stateShort b or length o <? mostEntry) _ _ _ h (pick-yes (reads b) _ _ _ k refl))
 
-  on-past : length (greensIn b) < f → listing (greensIn b) f o ≡ unlisted 2 o
+  on-outside : outside ≡ true → answer ≡ unlisted 2 o
   unfolding listing
-  on-past h = sym (pick-lt (length (greensIn b)) f _ _ _ h refl)
+  on-outside h = sym (pick-yes outside _ _ _ h refl)
 
-  on-put : f ≤ length (greensIn b) → listing (greensIn b) f o ≡ putting (greensIn b) (fitting (length o) (drop f (greensIn b))) o
+  on-put : outside ≡ false → answer ≡ putting (whiteIn b) (greensIn b) (fitting (length o) (drop f (greensIn b))) o
   unfolding listing
-  on-put h = sym (pick-no (length (greensIn b) <? f) _ _ _ (lt-no (length (greensIn b)) f h) refl)
+  on-put h = sym (pick-no outside _ _ _ h refl)
 
   both-long : stateShort b ≡ false → mostEntry ≤ length o → (stateShort b or length o <? mostEntry) ≡ false
   both-long h l = sym (or-no false (stateShort b) (length o <? mostEntry) h (sym (lt-no (length o) mostEntry l)))
@@ -51,26 +70,30 @@ module _ (b : List ℕ) (f : ℕ) (o : List ℕ) where
   pub record Put : Type 0 where
     pub whole : imageNumber b ≡ 0
     pub room : mostEntry ≤ length o
+    pub behind : whiteIn b ≤ f
     pub inside : f ≤ length (greensIn b)
 
-  pub put-is : Put → entriesOn b f o ≡ putting (greensIn b) (fitting (length o) (drop f (greensIn b))) o
-  put-is p = let r = whole-read b (p .whole) in on-read (both-long (r .0) (p .room)) (r .1) ∙ on-put (p .inside)
+  pub put-is : Put → entriesOn b f o ≡ putting (whiteIn b) (greensIn b) (fitting (length o) (drop f (greensIn b))) o
+  put-is p =
+      let r = whole-read b (p .whole) in
+      on-read (both-long (r .0) (p .room)) (r .1) ∙ on-put (in-list (whiteIn b) (greensIn b) f (p .behind) (p .inside))
 
   pub put-when : entriesOn b f o .number ≡ 0 → Put
   unfolding unlisted
-  put-when z = go (known (stateShort b or length o <? mostEntry)) (known (reads b)) (known (length (greensIn b) <? f))
+  put-when z = go (known (stateShort b or length o <? mostEntry)) (known (reads b)) (known outside)
     where
-      go : Known (stateShort b or length o <? mostEntry) → Known (reads b) → Known (length (greensIn b) <? f) → Put
+      go : Known (stateShort b or length o <? mostEntry) → Known (reads b) → Known outside → Put
       go (holds t) u v = absurd (omega (arith, z, ap (λ (x : Listing). x .number) (on-short t)))
       go (fails t) (fails u) v = absurd (omega (arith, z, ap (λ (x : Listing). x .number) (on-unread t u)))
-      go (fails t) (holds u) (holds v) =
-          absurd (omega (arith, z, ap (λ (x : Listing). x .number) (on-read t u ∙ on-past (lt-holds (length (greensIn b)) f v))))
+      go (fails t) (holds u) (holds v) = absurd (omega (arith, z, ap (λ (x : Listing). x .number) (on-read t u ∙ on-outside v)))
       go (fails t) (holds u) (fails v) =
           let r = or-fails (stateShort b) (length o <? mostEntry) t in
+          let i = or-fails (f <? whiteIn b) (length (greensIn b) <? f) v in
           record {
             whole = image-whole b (r .0) u;
             room = lt-fails (length o) mostEntry (r .1);
-            inside = lt-fails (length (greensIn b)) f v;
+            behind = lt-fails f (whiteIn b) (i .0);
+            inside = lt-fails (length (greensIn b)) f (i .1);
           }
 
   -- ---- the code's answers
@@ -99,18 +122,20 @@ module _ (b : List ℕ) (f : ℕ) (o : List ℕ) where
       read : Holds (decoded b) b
       read = whole-holds b (sym e ∙ z)
 
-      pub green-number : atGreenLength + 4 ≤ length b
-      green-number = omega (arith, holds-header (decoded b) b read)
-
       pub whole-queue : QueueIn b
       whole-queue = holds-queue (decoded b) b read
 
-      is-read : entriesOn b f o ≡ listing (greensIn b) f o
+      is-read : entriesOn b f o ≡ answer
       is-read = let r = whole-read b (sym e ∙ z) in on-read (both-long (r .0) room) (r .1)
 
-      pub past-entries : (g : ℕ) (r : GreenEntries) → g ≡ numberAt 4 b atGreenLength → g < f → r ≡ refusedEntries 2 → listed r o ≡ entriesOn b f o
-      unfolding greensIn
-      past-entries g r k l m = refused-is 2 r m ∙ sym (is-read ∙ on-past (omega (arith, numbers (decoded b) b read .green)))
+      is-outside : (r : GreenEntries) → outside ≡ true → r ≡ refusedEntries 2 → listed r o ≡ entriesOn b f o
+      is-outside r t m = refused-is 2 r m ∙ sym (is-read ∙ on-outside t)
 
-      pub put-listed : (x : Listing) → x ≡ listing (greensIn b) f o → x ≡ entriesOn b f o
+      pub white-entries : (w : ℕ) (r : GreenEntries) → w ≡ whiteIn b → f < w → r ≡ refusedEntries 2 → listed r o ≡ entriesOn b f o
+      white-entries w r k l m = is-outside r (before-list (whiteIn b) (greensIn b) f (omega arith)) m
+
+      pub past-entries : (g : ℕ) (r : GreenEntries) → g ≡ length (greensIn b) → g < f → r ≡ refusedEntries 2 → listed r o ≡ entriesOn b f o
+      past-entries g r k l m = is-outside r (past-list (whiteIn b) (greensIn b) f (omega arith)) m
+
+      pub put-listed : (x : Listing) → x ≡ answer → x ≡ entriesOn b f o
       put-listed x h = h ∙ sym is-read

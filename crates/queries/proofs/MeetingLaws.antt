@@ -1,10 +1,10 @@
 -- How far a meeting is, as the code counts it.
-use Prim.Native.Nat.{ℕ, suc, _+_, _*_, _/_, _%_, _^_, _≤_, _<_}
+use Prim.Native.Nat.{ℕ, suc, _+_, _/_, _%_, _^_, _≤_, _<_}
 use mathlib.Core.Path.{_≡_, refl, sym, ap, _∙_}
 use mathlib.Core.Bool.{Bool, true, false}
 use mathlib.Core.List.{List, [], _∷_}
 use mathlib.Core.Option.{Option, none, some}
-use native.Mathlib.Nat.{zero-add, pow-succ', mul-le-mul}
+use native.Mathlib.Nat.{zero-add, pow-succ'}
 use native.Mathlib.Omega.{arith}
 use lib.Count.{ones, ones-step}
 use lib.ListN.{length, getD}
@@ -15,7 +15,6 @@ use Rattle.base.specs.Sets.{inSet, size}
 use Rattle.base.proofs.TestLaws.{eq-yes, eq-no, eq-holds, eq-fails, pick-yes, pick-no, Known, holds, fails, known}
 use Rattle.base.proofs.Branches.{or-yes, or-no}
 use Rattle.base.proofs.SetLaws.{in-set-zero, in-set-suc}
-use Rattle.format.specs.Limits.{mostIds}
 use Rattle.format.specs.Types.{State}
 use Rattle.record.specs.declared.State.{State as Numbers}
 use Rattle.replication.specs.Machine.Types.{Mode, Non-prim, Reg-prim, Trans-prim, Exchange-states, Exchange-actions, Construct, No, Un}
@@ -128,9 +127,8 @@ unfolding plannedNow contextOf
 planned-few b p w f =
     let s : Server = w .state in
     let g = in-range s (w .holds .formed) .context .sizes in
-    let all : s .servers * s .quota ≤ mostIds = mul-le-mul (g .most) (g .highest) in
     let most = planned-bound (s .servers) (s .quota) (collected s) (collected-fit s (body s (well-formed-facts s (w .holds .formed)))) in
-    omega (arith, f s (w .holds))
+    omega (arith, g .most, f s (w .holds))
 
 module _ (b : List ℕ) (m : ℕ) (k : m ≡ numberAt 1 b atMode) where
   mode-read : (s : Server) → Holds s b → m ≡ headerOf s .mode

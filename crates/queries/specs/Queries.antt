@@ -15,7 +15,7 @@ use Rattle.replication.specs.Machine.Types.{Mode, Exchange-states, Exchange-act
 use Rattle.replication.specs.Machine.Requests.{waiting}
 use Rattle.replication.specs.Machine.Step.{collected, plannedNow}
 use Rattle.image.specs.Header.{statusOf, idOf, setOf, transitionalOf, modeNumber}
-use Rattle.image.specs.Decode.{decoded, reads, greensIn}
+use Rattle.image.specs.Decode.{decoded, reads, greensIn, whiteIn}
 use Rattle.image.specs.Outcome.{stateShort, imageNumber}
 use Rattle.queries.specs.declared.Summary.{Summary}
 use Rattle.queries.specs.declared.GreenEntries.{GreenEntries}
@@ -56,6 +56,7 @@ summaryOf s = record {
   transitional = statusOf (s .membership .transitional);
   «transitional_set» = transitionalOf (s .membership .transitional);
   green = length (s .log .green);
+  white = s .white;
   red = length (s .log .red);
   numbered = s .log .numbered;
   «on_own_list» = length (s .log .own);
@@ -85,6 +86,7 @@ noSummary k = record {
   transitional = 0;
   «transitional_set» = 0;
   green = 0;
+  white = 0;
   red = 0;
   numbered = 0;
   «on_own_list» = 0;
@@ -126,45 +128,49 @@ unfoldable pub fitting : (room : ℕ) → List Action → List Action
 fitting r [] = []
 fitting r (a ∷ l) = pick (length (entryBytes a) ≤? r) (a ∷ fitting (r - length (entryBytes a)) l) []
 
--- The number returned; how many entries are green in all; how many of them were put, in how many bytes; and the lent buffer afterwards.
+-- The number returned; how many entries are green in all, and how many of these are white; how many were put, in how many bytes; and the lent
+-- buffer afterwards.
 pub record Listing : Type 0 where
   pub number : ℕ
   pub green : ℕ
+  pub white : ℕ
   pub entries : ℕ
   pub bytes : ℕ
   pub out : List ℕ
 
 -- All as before, and zeros.
 unfoldable pub unlisted : (number : ℕ) → (out : List ℕ) → Listing
-unlisted k o = record { number = k; green = 0; entries = 0; bytes = 0; out = o }
+unlisted k o = record { number = k; green = 0; white = 0; entries = 0; bytes = 0; out = o }
 
--- These of the green list l are put at the front of o.
-unfoldable pub putting : (l chosen : List Action) → (out : List ℕ) → Listing
-putting l x o = record {
+-- These of the green list l, whose first w are white, are put at the front of o.
+unfoldable pub putting : (w : ℕ) → (l chosen : List Action) → (out : List ℕ) → Listing
+putting w l x o = record {
   number = 0;
   green = length l;
+  white = w;
   entries = length x;
   bytes = length (entriesBytes x);
   out = over (entriesBytes x) o;
 }
 
--- As many as fit of those behind the first `from`; 2 where there are not so many.
-unfoldable pub listing : (l : List Action) → (from : ℕ) → (out : List ℕ) → Listing
-listing l f o = pick (length l <? f) (unlisted outOfRange o) (putting l (fitting (length o) (drop f l)) o)
+-- As many as fit of those behind the first `from`. 2 where there are not so many, and where the next one is white: the state keeps none of them, and
+-- later ones must not be taken for them.
+unfoldable pub listing : (w : ℕ) → (l : List Action) → (from : ℕ) → (out : List ℕ) → Listing
+listing w l f o = pick (f <? w or length l <? f) (unlisted outOfRange o) (putting w l (fitting (length o) (drop f l)) o)
 
 -- 7 where a buffer is too short, then 8 where the state's does not read, then 2, then the entries.
 unfoldable pub entriesOn : (state : List ℕ) → (from : ℕ) → (out : List ℕ) → Listing
 entriesOn b f o =
     pick (stateShort b or length o <? mostEntry) (unlisted shortBuffer o)
-    (pick (reads b) (listing (greensIn b) f o) (unlisted badState o))
+    (pick (reads b) (listing (whiteIn b) (greensIn b) f o) (unlisted badState o))
 
 -- What the code leaves: its answer, and the lent buffer afterwards.
 unfoldable pub listed : GreenEntries → List ℕ → Listing
-listed r o = record { number = r .number; green = r .green; entries = r .entries; bytes = r .bytes; out = o }
+listed r o = record { number = r .number; green = r .green; white = r .white; entries = r .entries; bytes = r .bytes; out = o }
 
 -- The code's answer where it refuses, and where it has put entries.
 abbrev pub refusedEntries : (number : ℕ) → GreenEntries
-refusedEntries k = record { number = k; green = 0; entries = 0; bytes = 0 }
+refusedEntries k = record { number = k; green = 0; white = 0; entries = 0; bytes = 0 }
 
-abbrev pub putEntries : (green entries bytes : ℕ) → GreenEntries
-putEntries g n m = record { number = 0; green = g; entries = n; bytes = m }
+abbrev pub putEntries : (green white entries bytes : ℕ) → GreenEntries
+putEntries g w n m = record { number = 0; green = g; white = w; entries = n; bytes = m }

@@ -1,4 +1,4 @@
--- What readings give: all green entries one behind another, and what turned green by an event.
+-- What readings give: all green entries that are not white one behind another, and what turned green by an event.
 use Prim.Native.Nat.{ℕ, _+_, _≤_, _<_}
 use mathlib.Core.Path.{_≡_}
 use mathlib.Core.List.{List, [], _∷_, _++_}
@@ -8,7 +8,7 @@ use Rattle.base.specs.Bytes.{over}
 use Rattle.format.specs.Types.{Action}
 use Rattle.replication.specs.Machine.Types.{Outcome, refused, taken}
 use Rattle.replication.specs.Machine.Step.{step}
-use Rattle.image.specs.Decode.{decoded, greensIn}
+use Rattle.image.specs.Decode.{decoded, greensIn, whiteIn}
 use Rattle.image.specs.Outcome.{stepOn, imageNumber}
 use Rattle.queries.specs.Queries.{entriesBytes, mostEntry, Listing, entriesOn}
 
@@ -17,7 +17,10 @@ use Rattle.queries.specs.Queries.{entriesBytes, mostEntry, Listing, entr
 -- The answer x to a reading of the state b behind the first `from` entries, into the buffer o.
 pub record Reads (b : List ℕ) (from : ℕ) (o : List ℕ) (x : Listing) : Type 0 where
   pub green : x .green ≡ length (greensIn b)
-  -- Its entries are the next ones of the green list, in their order, in front of what o holds behind them.
+  pub white : x .white ≡ whiteIn b
+  -- None of its entries is white, so none is blank.
+  pub behind : whiteIn b ≤ from
+  -- They are the next ones of the green list, in their order, in front of what o holds behind them.
   pub inside : from + x .entries ≤ length (greensIn b)
   pub bytes : x .bytes ≡ length (entriesBytes (take (x .entries) (drop from (greensIn b))))
   pub out : x .out ≡ over (entriesBytes (take (x .entries) (drop from (greensIn b)))) o
@@ -32,9 +35,10 @@ readings b f (o ∷ os) = take (entriesOn b f o .bytes) (entriesOn b f o .out) +
 
 pub record ReadingsGiveAll : Type 0 where
   pub reading : (b : List ℕ) (from : ℕ) (o : List ℕ) → entriesOn b from o .number ≡ 0 → Reads b from o (entriesOn b from o)
-  -- Readings one behind another, as many as there are entries at most, give all that is green.
+  -- Readings one behind another, as many as there are entries at most, give all that is green behind the first `from`, if none of it is white.
   pub all : (b : List ℕ) (from : ℕ) (os : List (List ℕ)) → imageNumber b ≡ 0 → Each (λ o. mostEntry ≤ length o) os
-      → from ≤ length (greensIn b) → length (greensIn b) ≤ from + length os → readings b from os ≡ entriesBytes (drop from (greensIn b))
+      → whiteIn b ≤ from → from ≤ length (greensIn b) → length (greensIn b) ≤ from + length os
+      → readings b from os ≡ entriesBytes (drop from (greensIn b))
 
 -- ---- what turned green
 
@@ -48,10 +52,14 @@ pub record GreenBy (b e o : List ℕ) : Type 0 where
   -- Both states can be read ..
   pub before : imageNumber b ≡ 0
   pub after : imageNumber (stepOn b e o .state) ≡ 0
-  -- .. the new one has the old one's green list, and behind it what the machine's step names, in its order ..
-  pub gained : greensIn (stepOn b e o .state) ≡ greensIn b ++ turnedGreen (step (decoded b) e)
-  -- .. which so stands behind the old length.
-  pub behind : drop (length (greensIn b)) (greensIn (stepOn b e o .state)) ≡ turnedGreen (step (decoded b) e)
+  -- .. the new green list is as long as the old one and what the machine's step names as newly green, ..
+  pub size : length (greensIn (stepOn b e o .state)) ≡ length (greensIn b) + length (turnedGreen (step (decoded b) e))
+  -- .. and behind its white part, which is blank, it is those two one behind the other, in their order.
+  pub gained : drop (whiteIn (stepOn b e o .state)) (greensIn (stepOn b e o .state))
+      ≡ drop (whiteIn (stepOn b e o .state)) (greensIn b ++ turnedGreen (step (decoded b) e))
+  -- Where nothing of it is white already, what turned green so stands behind the old length.
+  pub behind : whiteIn (stepOn b e o .state) ≤ length (greensIn b)
+      → drop (length (greensIn b)) (greensIn (stepOn b e o .state)) ≡ turnedGreen (step (decoded b) e)
 
 unfoldable pub NewlyGreen : Type 0
 NewlyGreen = (b e o : List ℕ) → stepOn b e o .number ≡ 0 → GreenBy b e o

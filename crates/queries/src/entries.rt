@@ -6,8 +6,7 @@ ghost use Rattle.base.specs.Bytes.{numberAt};
 ghost use Rattle.base.specs.Patched.{patched};
 ghost use Rattle.format.specs.Places.{actionPayloadAt, actionHeadSize};
 ghost use Rattle.format.specs.Read.{actionAt};
-ghost use Rattle.image.specs.Counts.{greenCount};
-ghost use Rattle.image.specs.Decode.{greensIn};
+ghost use Rattle.image.specs.Decode.{greensIn, whiteIn};
 ghost use Rattle.queue.specs.Queue.{QueueIn};
 ghost use Rattle.queries.specs.Queries.{entryBytes, entryHeadSize, listing, listed};
 use crate::GreenEntries;
@@ -37,10 +36,12 @@ fn put_entry(state: &[u8], slot: usize, m: usize, out: &mut [u8], at: usize)
     copy(out, at + State::ID, &state[payload..end]);
 }
 
-// Those behind the first `from` that fit.
-pub fn put_entries(state: &[u8], from: u32, green: u32, out: &mut [u8]) -> GreenEntries
-    requires { ⌜ QueueIn (now state) × (green ≡ greenCount (now state)) × (from ≤ green) ⌝ }
-    ensures { λ r. ⌜ listed r (now (out .exit)) ≡ listing (greensIn (now (state .entry))) from (now (out .entry)) ⌝ }
+// Those behind the first `from` that fit. All that are not white have a slot.
+pub fn put_entries(state: &[u8], from: u32, white: u32, green: u32, out: &mut [u8]) -> GreenEntries
+    requires { ⌜ QueueIn (now state) × (white ≡ whiteIn (now state)) × (green ≡ length (greensIn (now state))) ⌝ }
+    requires { ⌜ (white ≤ from) × (from ≤ green) ⌝ }
+    ensures { λ r. ⌜ listed r (now (out .exit))
+        ≡ listing (whiteIn (now (state .entry))) (greensIn (now (state .entry))) from (now (out .entry)) ⌝ }
 {
     let queue = place_of(state, THE_QUEUE);
     let mut k = from;
@@ -49,11 +50,11 @@ pub fn put_entries(state: &[u8], from: u32, green: u32, out: &mut [u8]) -> Green
         let slot = queue + State::SLOT * green_slot(state, k);
         let m = num8(state, slot + ActionHead::PAYLOAD) as usize;
         if out.len() - at < ENTRY_HEAD + m {
-            return GreenEntries::put(green, k - from, at);
+            return GreenEntries::put(green, white, k - from, at);
         }
         put_entry(state, slot, m, out, at);
         at += ENTRY_HEAD + m;
         k += 1;
     }
-    GreenEntries::put(green, k - from, at)
+    GreenEntries::put(green, white, k - from, at)
 }

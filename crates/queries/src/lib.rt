@@ -2,6 +2,7 @@
 ghost use mathlib.Core.Path.{_≡_};
 ghost use Prim.Native.Nat.{_^_, _≤_, _<_};
 ghost use mathlib.Core.Bool.{true};
+ghost use lib.ListN.{length};
 ghost use Rattle.replication.specs.Machine.Types.{Server};
 ghost use Rattle.replication.specs.Machine.WellFormed.{wellFormed};
 ghost use Rattle.image.specs.Header.{headerOf};
@@ -22,7 +23,8 @@ use meeting::cpcs_in;
 use meeting::resent_in;
 use meeting::resent_planned;
 use meeting::states_in;
-use octets::numbers::num32;
+use queue::history::green_length;
+use queue::history::white_length;
 use record::State;
 use state_check::image_number;
 
@@ -40,6 +42,7 @@ pub struct Summary {
     pub transitional: u32,
     pub transitional_set: u32,
     pub green: u32,
+    pub white: u32,
     pub red: u32,
     pub numbered: u32,
     pub on_own_list: u32,
@@ -71,6 +74,7 @@ impl Summary {
             transitional: 0,
             transitional_set: 0,
             green: 0,
+            white: 0,
             red: 0,
             numbered: 0,
             on_own_list: 0,
@@ -87,10 +91,11 @@ impl Summary {
         }
     }
 
-    // Of a state with these numbers, and so many retransmissions planned.
-    fn of(h: State, planned: u32) -> Summary
-        requires { ⌜ (h .«green_length» ≤ h .«queue_length») × (h .sent ≤ h .numbered) ⌝ }
-        ensures { λ r. ⌜ ((s : Server) → wellFormed s ≡ true → h ≡ headerOf s → planned ≡ resentPlanned s → r ≡ summaryOf s) ⌝ }
+    // Of a state with these numbers, a green history of this length, so many of it white, and so many retransmissions planned.
+    fn of(h: State, history: u32, white: u32, planned: u32) -> Summary
+        requires { ⌜ (h .«green_count» ≤ h .«queue_length») × (h .sent ≤ h .numbered) ⌝ }
+        ensures { λ r. ⌜ ((s : Server) → wellFormed s ≡ true → h ≡ headerOf s → history ≡ length (s .log .green) → white ≡ s .white
+            → planned ≡ resentPlanned s → r ≡ summaryOf s) ⌝ }
     {
         Summary {
             number: 0,
@@ -103,8 +108,9 @@ impl Summary {
             configuration_set: h.configuration_set as u32,
             transitional: h.transitional_status as u32,
             transitional_set: h.transitional_set as u32,
-            green: h.green_length,
-            red: h.queue_length - h.green_length,
+            green: history,
+            white,
+            red: h.queue_length - h.green_count,
             numbered: h.numbered as u32,
             on_own_list: h.own_count as u32,
             unsent: unsent(h) as u32,
@@ -129,14 +135,21 @@ pub fn summary_on(state: &[u8]) -> Summary
         return Summary::refused(number);
     }
     let planned = resent_planned(state);
-    Summary::of(load(state), planned)
+    Summary::of(
+        load(state),
+        green_length(state),
+        white_length(state),
+        planned,
+    )
 }
 
-// 0, how many entries are green in all, and how many of them were put in how many bytes; or the number of a refusal and zeros.
+// 0, how many entries are green in all, how many of these are white, and how many were put in how many bytes; or the number of a refusal
+// and zeros.
 #[repr(C)]
 pub struct GreenEntries {
     pub number: u32,
     pub green: u32,
+    pub white: u32,
     pub entries: u32,
     pub bytes: u32,
 }
@@ -149,19 +162,21 @@ impl GreenEntries {
         GreenEntries {
             number,
             green: 0,
+            white: 0,
             entries: 0,
             bytes: 0,
         }
     }
 
-    // So many of those that are green, in so many bytes.
-    fn put(green: u32, entries: u32, bytes: usize) -> GreenEntries
+    // So many entries in so many bytes, out of so many that are green, the first of which are white.
+    fn put(green: u32, white: u32, entries: u32, bytes: usize) -> GreenEntries
         requires { ⌜ bytes < 2 ^ 32 ⌝ }
-        ensures { λ r. ⌜ r ≡ putEntries green entries bytes ⌝ }
+        ensures { λ r. ⌜ r ≡ putEntries green white entries bytes ⌝ }
     {
         GreenEntries {
             number: 0,
             green,
+            white,
             entries,
             bytes: bytes as u32,
         }
@@ -169,7 +184,8 @@ impl GreenEntries {
 }
 
 // The green entries behind the first `from`, as many as fit whole. 7 where a buffer is too short, then 8 where the state's holds no
-// well-formed state, then 2 where there are not so many.
+// well-formed state, then 2 where there are not so many, or where the next one is white: it is not there, and a later one must not be
+// taken for it.
 pub fn green_entries(state: &[u8], from: u32, entries: &mut [u8]) -> GreenEntries
     ensures { λ r. ⌜ listed r (now (entries .exit)) ≡ entriesOn (now (state .entry)) from (now (entries .entry)) ⌝ }
 {
@@ -180,15 +196,19 @@ pub fn green_entries(state: &[u8], from: u32, entries: &mut [u8]) -> GreenEntrie
     if number != 0 {
         return GreenEntries::refused(number);
     }
-    let green = num32(state, State::AT_GREEN_LENGTH);
+    let white = white_length(state);
+    if from < white {
+        return GreenEntries::refused(OUT_OF_RANGE);
+    }
+    let green = green_length(state);
     if green < from {
         return GreenEntries::refused(OUT_OF_RANGE);
     }
-    put_entries(state, from, green, entries)
+    put_entries(state, from, white, green, entries)
 }
 
-// Readings one behind another give all green entries; green lengths before and after an event tell what turned green. They do
-// nothing: their contracts are the theorems.
+// Readings one behind another give all green entries that are not white; green lengths before and after an event tell what turned green.
+// They do nothing: their contracts are the theorems.
 pub fn readings_give_all()
     ensures { λ _. ⌜ ReadingsGiveAll ⌝ }
 {}

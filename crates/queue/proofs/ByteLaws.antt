@@ -14,8 +14,8 @@ use Rattle.base.proofs.Sections.{patched-inside}
 use Rattle.format.specs.Write.{actionBytes}
 use Rattle.record.specs.declared.ActionHead.{ActionHead}
 use Rattle.record.specs.Values.{idOf, actionOf}
-use Rattle.image.specs.Layout.{slotSize, headerSize, atQueueLength, atGreenLength, atOwnCount, theQueue}
-use Rattle.queue.specs.Queue.{appended, queued, popped, promoted}
+use Rattle.image.specs.Layout.{slotSize, headerSize, atQueueLength, atGreenCount, atOwnCount, theQueue}
+use Rattle.queue.specs.Queue.{appended, queued, popped, shifted, promoted}
 use Rattle.image.specs.Counts.{place}
 
 pub appended-made : (h : ActionHead) (p s s₁ s₂ : List ℕ) (count r : ℕ) → count ≡ numberAt 4 s atQueueLength → r ≡ place theQueue s
@@ -32,31 +32,39 @@ pub queued-made : (h : ActionHead) (p s s₁ s₂ : List ℕ) → s₁ ≡ appen
 unfolding queued actionOf idOf
 queued-made h p s s₁ s₂ e f = f ∙ ap (patched (headerSize + 2 * h .creator) (bytesOf 2 (h .index))) e
 
-made-of : (s y : List ℕ) (a v w : ℕ) → v ≡ w → y ≡ patched 0 (drop slotSize (take v (drop a s))) (take v (drop a s))
-    → y ≡ patched 0 (drop slotSize (partAt w s a)) (partAt w s a)
+made-of : (s y : List ℕ) (a v w d : ℕ) → v ≡ w → y ≡ patched 0 (drop d (take v (drop a s))) (take v (drop a s))
+    → y ≡ patched 0 (drop d (partAt w s a)) (partAt w s a)
 unfolding partAt
-made-of s y a v w m n = n ∙ ap (λ (i : ℕ). patched 0 (drop slotSize (take i (drop a s))) (take i (drop a s))) m
+made-of s y a v w d m n = n ∙ ap (λ (i : ℕ). patched 0 (drop d (take i (drop a s))) (take i (drop a s))) m
 
-pub popped-made : (s y s₂ : List ℕ) (a e own : ℕ) → 1 ≤ own → a + slotSize * own ≤ length s → e ≡ a + slotSize * own
-    → y ≡ patched 0 (drop slotSize (take (e - a) (drop a s))) (take (e - a) (drop a s))
-    → s₂ ≡ patched atOwnCount (bytesOf 2 (own - 1)) (take a s ++ (y ++ drop (e - a) (drop a s))) → s₂ ≡ popped a own s
-unfolding popped
-popped-made s y s₂ a e own l h f g k =
-    let w : ℕ = slotSize * own in
+-- The w bytes from a on, moved down by d.
+moved-down : (s y : List ℕ) (a e w d : ℕ) → a + w ≤ length s → e ≡ a + w → y ≡ patched 0 (drop d (take (e - a) (drop a s))) (take (e - a) (drop a s))
+    → take a s ++ (y ++ drop (e - a) (drop a s)) ≡ patched a (drop d (partAt w s a)) s
+moved-down s y a e w d h f g =
     let size : e - a ≡ w = omega arith in
     let p : List ℕ = partAt w s a in
-    let x : List ℕ = drop slotSize p in
+    let x : List ℕ = drop d p in
     let long : length p ≡ w = part-length w s a h in
-    let short : length x ≡ w - slotSize = length-drop slotSize p ∙ omega arith in
-    let made : y ≡ patched 0 x p = made-of s y a (e - a) (slotSize * own) size g in
+    let short : length x ≡ w - d = length-drop d p ∙ omega arith in
+    let made : y ≡ patched 0 x p = made-of s y a (e - a) w d size g in
     let same : length y ≡ w = ap length made ∙ patched-length 0 x p (omega arith) ∙ long in
-    let whole : take a s ++ (y ++ drop (e - a) (drop a s)) ≡ patched a x s =
     ap (λ (m : ℕ). take a s ++ (y ++ drop m (drop a s))) size
     ∙ lent-patched a w y s same
     ∙ ap (λ (z : List ℕ). patched a z s) made
     ∙ sym (patched-inside a 0 w x s (omega arith) h)
-    ∙ ap (λ (m : ℕ). patched m x s) (add-zero a) in
-    k ∙ ap (patched atOwnCount (bytesOf 2 (own - 1))) whole
+    ∙ ap (λ (m : ℕ). patched m x s) (add-zero a)
+
+pub popped-made : (s y s₂ : List ℕ) (a e own : ℕ) → a + slotSize * own ≤ length s → e ≡ a + slotSize * own
+    → y ≡ patched 0 (drop slotSize (take (e - a) (drop a s))) (take (e - a) (drop a s))
+    → s₂ ≡ patched atOwnCount (bytesOf 2 (own - 1)) (take a s ++ (y ++ drop (e - a) (drop a s))) → s₂ ≡ popped a own s
+unfolding popped
+popped-made s y s₂ a e own h f g k = k ∙ ap (patched atOwnCount (bytesOf 2 (own - 1))) (moved-down s y a e (slotSize * own) slotSize h f g)
+
+pub shifted-made : (s y s₂ : List ℕ) (a e m k : ℕ) → a + slotSize * m ≤ length s → e ≡ a + slotSize * m
+    → y ≡ patched 0 (drop (slotSize * k) (take (e - a) (drop a s))) (take (e - a) (drop a s))
+    → s₂ ≡ patched atQueueLength (bytesOf 4 (m - k)) (take a s ++ (y ++ drop (e - a) (drop a s))) → s₂ ≡ shifted a m k s
+unfolding shifted
+shifted-made s y s₂ a e m k h f g j = j ∙ ap (patched atQueueLength (bytesOf 4 (m - k))) (moved-down s y a e (slotSize * m) (slotSize * k) h f g)
 
 drop-take : (m n : ℕ) (l : List ℕ) → m ≤ length l → drop m (take (m + n) l) ≡ take n (drop m l)
 drop-take m n l h = ap (drop m) (take-add m n l) ∙ drop-at (take m l) (take n (drop m l)) m (length-take-le m l h)
@@ -76,7 +84,7 @@ front-made s y a k w h f g =
 
 pub promoted-made : (s y s₂ : List ℕ) (a e k g : ℕ) → a + (slotSize * k + slotSize) ≤ length s → e ≡ a + (slotSize * k + slotSize)
     → y ≡ drop (length (take (e - a) (drop a s)) - slotSize) (take (e - a) (drop a s)) ++ take (length (take (e - a) (drop a s)) - slotSize) (take (e - a) (drop a s))
-    → s₂ ≡ patched atGreenLength (bytesOf 4 g) (take a s ++ (y ++ drop (e - a) (drop a s))) → s₂ ≡ promoted a k g s
+    → s₂ ≡ patched atGreenCount (bytesOf 4 g) (take a s ++ (y ++ drop (e - a) (drop a s))) → s₂ ≡ promoted a k g s
 unfolding promoted
 promoted-made s y s₂ a e k g h f made j =
     let w : ℕ = slotSize * k + slotSize in
@@ -86,5 +94,5 @@ promoted-made s y s₂ a e k g h f made j =
     let long : length x ≡ w =
     length-append (partAt slotSize s (a + slotSize * k)) (partAt (slotSize * k) s a)
     ∙ omega (arith, part-length slotSize s (a + slotSize * k) (omega arith), part-length (slotSize * k) s a (omega arith)) in
-    j ∙ ap (patched atGreenLength (bytesOf 4 g))
+    j ∙ ap (patched atGreenCount (bytesOf 4 g))
     (ap₂ {A = List ℕ} {B = ℕ} {C = List ℕ} (λ z m. take a s ++ (z ++ drop m (drop a s))) same size ∙ lent-patched a w x s long)

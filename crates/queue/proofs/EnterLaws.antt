@@ -23,6 +23,7 @@ use Rattle.replication.proofs.WellFormed.Ids.{same-id-yes, same-id-no}
 use Rattle.replication.proofs.WellFormed.Held.{remove-absent}
 use Rattle.replication.proofs.WellFormed.Logs.{ownId}
 use Rattle.image.specs.Layout.{slotSize, atQueueLength, atOwnCount}
+use Rattle.image.specs.Header.{shownLog}
 use Rattle.image.specs.Image.{headerBytes, actionSlots}
 use Rattle.image.proofs.Used.{ActionFits, action-slots-length, slots-append}
 use Rattle.base.proofs.Over.{over-extended, over-changed}
@@ -38,16 +39,16 @@ one-more a l =
 
 -- The counts of the queue and of the own list.
 pub header-entered : (s : Server) (a : Action) → length (remove (a .id) (s .log .own)) ≡ length (s .log .own)
-    → patched atQueueLength (bytesOf 4 (length (queue (s .log)) + 1)) (headerBytes s) ≡ headerBytes (withLog (enter a (s .log)) s)
+    → patched atQueueLength (bytesOf 4 (length (queue (shownLog s)) + 1)) (headerBytes s) ≡ headerBytes (withLog (enter a (s .log)) s)
 unfolding enter opened-header
 header-entered s a e =
-    ap₂ {A = ℕ} {B = ℕ} {C = List ℕ} (λ i j. patched atQueueLength (bytesOf 4 i) (patched atOwnCount (bytesOf 2 j) (headerBytes s))) (sym (one-more a (s .log))) (sym e)
+    ap₂ {A = ℕ} {B = ℕ} {C = List ℕ} (λ i j. patched atQueueLength (bytesOf 4 i) (patched atOwnCount (bytesOf 2 j) (headerBytes s))) (sym (one-more a (shownLog s))) (sym e)
 
 pub header-left : (s : Server) (a : Action) (k : ℕ) → k ≡ length (remove (a .id) (s .log .own))
-    → patched atOwnCount (bytesOf 2 k) (patched atQueueLength (bytesOf 4 (length (queue (s .log)) + 1)) (headerBytes s)) ≡ headerBytes (withLog (enter a (s .log)) s)
+    → patched atOwnCount (bytesOf 2 k) (patched atQueueLength (bytesOf 4 (length (queue (shownLog s)) + 1)) (headerBytes s)) ≡ headerBytes (withLog (enter a (s .log)) s)
 unfolding enter opened-header
 header-left s a k e =
-    ap₂ {A = ℕ} {B = ℕ} {C = List ℕ} (λ i j. patched atOwnCount (bytesOf 2 j) (patched atQueueLength (bytesOf 4 i) (headerBytes s))) (sym (one-more a (s .log))) e
+    ap₂ {A = ℕ} {B = ℕ} {C = List ℕ} (λ i j. patched atOwnCount (bytesOf 2 j) (patched atQueueLength (bytesOf 4 i) (headerBytes s))) (sym (one-more a (shownLog s))) e
 
 -- ---- the sections
 

@@ -11,16 +11,17 @@ use Rattle.base.proofs.BytesLaws.{bytes-length}
 use Rattle.base.specs.Lists.{sum, above, Each}
 use Rattle.base.proofs.ListLaws.{above-next}
 use Rattle.base.specs.Patched.{patched}
+use Rattle.base.proofs.TestLaws.{eq-yes}
 use Rattle.base.proofs.Sections.{laid-part}
 use Rattle.format.specs.Types.{Id, Action}
 use Rattle.format.specs.Write.{cutsBytes, idsBytes, actionBytes}
 use Rattle.replication.specs.Machine.Types.{Server, withLog}
-use Rattle.replication.specs.Machine.Colours.{cut, remove, isNext, enter}
+use Rattle.replication.specs.Machine.Colours.{cut, nextIndex, remove, isNext, enter, placesOf, unwhite}
 use Rattle.replication.specs.Machine.WellFormed.{idsIn, queue, wellFormed}
-use Rattle.replication.proofs.Step.Logs.{next-index}
-use Rattle.replication.proofs.WellFormed.Logs.{LogFits, ownId, enter-fits}
-use Rattle.replication.specs.Laws.RuleFits.{Delivered}
+use Rattle.replication.proofs.Step.Logs.{next-index, red-entered}
+use Rattle.replication.proofs.WellFormed.Logs.{HasPlace, LogFits, ownId, red-fits}
 use Rattle.image.specs.Layout.{slotSize, stateSize, theHeader, theCuts, theNoted, theStates, theYellow, theOwn, theQueue, sections, offset, headerSize, atMe, atQueueLength, atOwnCount}
+use Rattle.image.specs.Header.{shownLog}
 use Rattle.image.specs.Image.{headerBytes, notedBytes, statesOver, actionSlots, section, parts, image}
 use Rattle.image.proofs.InRange.{in-range}
 use Rattle.image.proofs.Used.{ActionFits, action-slot-length, action-slots-length}
@@ -29,7 +30,7 @@ use Rattle.image.specs.Holding.{Holds}
 use Rattle.image.proofs.InPlace.{holds-section}
 use Rattle.record.specs.declared.ActionHead.{ActionHead}
 use Rattle.record.specs.Values.{idOf, actionOf}
-use Rattle.queue.specs.Queue.{appended, queued, popped, RoomFor}
+use Rattle.queue.specs.Queue.{Placed, appended, queued, popped, RoomFor}
 use Rattle.base.proofs.Over.{over-front, over-take}
 use Rattle.queue.proofs.Inside.{Changed, changed-at}
 use Rattle.queue.proofs.SlotLaws.{slots-cons}
@@ -50,34 +51,43 @@ nothing-leaves : (d : Id) → remove d [] ≡ []
 unfolding remove
 nothing-leaves d = refl
 
-module _ (s : Server) (a : Action) (b : List ℕ) (r : Holds s b) (d : Delivered s a) (next : isNext (s .log) a ≡ true) where
-  entered-fits : LogFits (s .servers) (s .quota) (s .me) (enter a (s .log))
-  entered-fits = enter-fits (s .servers) (s .quota) (s .me) a (s .log) (log-fits s (r .formed)) (d .fits) (next-index (s .log) a next) (d .own)
+pub has-place : (s : Server) (a : Action) → Placed s a → HasPlace (s .quota) (s .white) a (s .log)
+unfolding isNext nextIndex unwhite placesOf queue
+has-place s a d e = d .room (eq-yes _ _ e)
+
+module _ (s : Server) (a : Action) (b : List ℕ) (r : Holds s b) (d : Placed s a) (next : isNext (s .log) a ≡ true) where
+  entered-fits : LogFits (s .servers) (s .quota) (s .me) (s .white) (enter a (s .log))
+  entered-fits =
+      subst (LogFits (s .servers) (s .quota) (s .me) (s .white)) (red-entered a (s .log) next)
+      (red-fits (s .servers) (s .quota) (s .me) (s .white) a (s .log) (log-fits s (r .formed)) (d .delivered .fits) (d .delivered .own) (has-place s a d))
 
   pub entered-formed : wellFormed (withLog (enter a (s .log)) s) ≡ true
   unfolding enter
   entered-formed = log-formed s (enter a (s .log)) (r .formed) entered-fits
 
-  entered-room : length (queue (s .log)) + 1 ≤ s .servers * s .quota
-  entered-room = omega (arith, in-range (withLog (enter a (s .log)) s) entered-formed .queueCount, one-more a (s .log))
+  entered-room : length (queue (shownLog s)) + 1 ≤ s .servers * s .quota
+  unfolding enter
+  entered-room =
+      let more : length (queue (shownLog (withLog (enter a (s .log)) s))) ≡ length (queue (shownLog s)) + 1 = one-more a (shownLog s) in
+      omega (arith, in-range (withLog (enter a (s .log)) s) entered-formed .queueCount)
 
   pub room-for : RoomFor (a .id .creator) (length (a .payload)) b
   room-for =
       let m = numbers s b r in
       record {
         counts = holds-counts s b r;
-        creator = rw (m .servers) (d .fits .id .creator);
-        short = d .fits .payload .most;
+        creator = rw (m .servers) (d .delivered .fits .creator);
+        short = d .delivered .fits .payload .most;
         room = rw (m .servers, m .quota, m .queue) (omega (arith, entered-room));
       }
 
   -- ---- the bytes
 
   abbrev slotted : List ℕ
-  slotted = patched (offset (s .servers) (s .quota) theQueue + slotSize * length (queue (s .log))) (slot slotSize (actionBytes a)) b
+  slotted = patched (offset (s .servers) (s .quota) theQueue + slotSize * length (queue (shownLog s))) (slot slotSize (actionBytes a)) b
 
   abbrev counted : List ℕ
-  counted = patched atQueueLength (bytesOf 4 (length (queue (s .log)) + 1)) slotted
+  counted = patched atQueueLength (bytesOf 4 (length (queue (shownLog s)) + 1)) slotted
 
   all-but-own : queued a b ≡ patched (headerSize + 2 * a .id .creator) (bytesOf 2 (a .id .index)) counted
   unfolding queued appended
@@ -89,26 +99,26 @@ module _ (s : Server) (a : Action) (b : List ℕ) (r : Holds s b) (d : Delivered
       (patched (holds-place s b r theQueue i + slotSize * m .queue i) (slot slotSize (actionBytes a)) b))
 
   queued-changed : Changed (sections (s .servers) (s .quota))
-      (patched atQueueLength (bytesOf 4 (length (queue (s .log)) + 1)) (headerBytes s)
+      (patched atQueueLength (bytesOf 4 (length (queue (shownLog s)) + 1)) (headerBytes s)
       ∷ patched (2 * a .id .creator) (bytesOf 2 (a .id .index)) (over (cutsBytes (s .log .cuts)) (section (s .servers) (s .quota) theCuts b))
       ∷ over (notedBytes (s .noted)) (section (s .servers) (s .quota) theNoted b)
       ∷ statesOver (stateSize (s .servers) (s .quota)) (s .membership .states) (section (s .servers) (s .quota) theStates b)
       ∷ over (idsBytes (s .votes .yellow .ids)) (section (s .servers) (s .quota) theYellow b)
       ∷ over (actionSlots (s .log .own)) (section (s .servers) (s .quota) theOwn b)
-      ∷ patched (slotSize * length (queue (s .log))) (slot slotSize (actionBytes a)) (over (actionSlots (queue (s .log))) (section (s .servers) (s .quota) theQueue b))
+      ∷ patched (slotSize * length (queue (shownLog s))) (slot slotSize (actionBytes a)) (over (actionSlots (queue (shownLog s))) (section (s .servers) (s .quota) theQueue b))
       ∷ [])
       b (queued a b)
   unfolding parts sections offset sum
   queued-changed =
       let ws : List ℕ = sections (s .servers) (s .quota) in
-      let size : length (slot slotSize (actionBytes a)) ≡ slotSize = action-slot-length a (record { most = d .fits .payload .most; bytes = d .fits .payload .bytes }) in
-      let c₁ = changed-at ws _ b b (holds-changed s b r) theQueue (slotSize * length (queue (s .log))) _ (slot slotSize (actionBytes a)) refl (omega arith) (omega (arith, entered-room)) in
-      let c₂ = changed-at ws _ b slotted c₁ theHeader atQueueLength atQueueLength (bytesOf 4 (length (queue (s .log)) + 1)) refl (omega arith) (omega (arith, bytes-length 4 (length (queue (s .log)) + 1))) in
-      let c₃ = changed-at ws _ b counted c₂ theCuts (2 * a .id .creator) (headerSize + 2 * a .id .creator) (bytesOf 2 (a .id .index)) refl (omega arith) (omega (arith, bytes-length 2 (a .id .index), d .fits .id .creator)) in
+      let size : length (slot slotSize (actionBytes a)) ≡ slotSize = action-slot-length a (record { most = d .delivered .fits .payload .most; bytes = d .delivered .fits .payload .bytes }) in
+      let c₁ = changed-at ws _ b b (holds-changed s b r) theQueue (slotSize * length (queue (shownLog s))) _ (slot slotSize (actionBytes a)) refl (omega arith) (omega (arith, entered-room)) in
+      let c₂ = changed-at ws _ b slotted c₁ theHeader atQueueLength atQueueLength (bytesOf 4 (length (queue (shownLog s)) + 1)) refl (omega arith) (omega (arith, bytes-length 4 (length (queue (shownLog s)) + 1))) in
+      let c₃ = changed-at ws _ b counted c₂ theCuts (2 * a .id .creator) (headerSize + 2 * a .id .creator) (bytesOf 2 (a .id .index)) refl (omega arith) (omega (arith, bytes-length 2 (a .id .index), d .delivered .fits .creator)) in
       rw all-but-own c₃
 
   cuts-room : a .id .creator < length (s .log .cuts)
-  cuts-room = omega (arith, log-fits s (r .formed) .ranges .cuts-length, d .fits .id .creator)
+  cuts-room = omega (arith, log-fits s (r .formed) .shows .ranges .cuts-length, d .delivered .fits .creator)
 
   -- The own list stays.
   entered-other : remove (a .id) (s .log .own) ≡ s .log .own → queued a b ≡ image (withLog (enter a (s .log)) s) b
@@ -116,7 +126,7 @@ module _ (s : Server) (a : Action) (b : List ℕ) (r : Holds s b) (d : Delivered
   entered-other e =
       log-image s (enter a (s .log)) b (queued a b) _ _ _ _ queued-changed (header-entered s a (ap length e)) (cuts-entered a (s .log) _ cuts-room)
       (ap (λ (l : List Action). over (actionSlots l) (section (s .servers) (s .quota) theOwn b)) (sym e))
-      (queue-entered a (s .log) _ _ (well-formed-fits s (r .formed) .actions) refl)
+      (queue-entered a (shownLog s) _ _ (well-formed-fits s (r .formed) .actions) refl)
 
   -- The own list's part of the buffer.
   own-part : partAt (slotSize * length (s .log .own)) (queued a b) (offset (s .servers) (s .quota) theOwn) ≡ actionSlots (s .log .own)
@@ -150,18 +160,18 @@ module _ (s : Server) (a : Action) (b : List ℕ) (r : Holds s b) (d : Delivered
       log-image s (enter a (s .log)) b _ _ _ _ _ c₂ (header-left s a (m - 1) (omega (arith, ap length g))) (cuts-entered a (s .log) _ cuts-room)
       (ap₂ {A = List ℕ} {B = List ℕ} {C = List ℕ} (λ u v. patched 0 u v) (left ∙ ap actionSlots (sym g)) over-own
       ∙ over-front (actionSlots (remove (a .id) (s .log .own))) (section (s .servers) (s .quota) theOwn b))
-      (queue-entered a (s .log) _ _ (f .actions) refl)
+      (queue-entered a (shownLog s) _ _ (f .actions) refl)
 
   -- The first of the own list is this action, if it is an own one.
   first-own : (x : Action) (rest : List Action) → s .log .own ≡ x ∷ rest → a .id .creator ≡ s .me → x .id ≡ a .id
-  unfolding idsIn
+  unfolding idsIn cut
   first-own x rest e c =
       let f = log-fits s (r .formed) in
       let k : cut (s .log) (s .me) + 1 ≡ a .id .index = omega (arith, ap (cut (s .log)) c, next-index (s .log) a next) in
       let ids : idsIn (x ∷ rest) ≡ ownId (s .me) (cut (s .log) (s .me) + 1) ∷ map (ownId (s .me)) (above (cut (s .log) (s .me) + 1) (s .log .numbered)) =
       ap idsIn (sym e)
-      ∙ f .own-list .ids
-      ∙ ap (map (ownId (s .me))) (above-next (cut (s .log) (s .me)) (s .log .numbered) (omega (arith, d .own c))) in
+      ∙ f .shows .own-list .ids
+      ∙ ap (map (ownId (s .me))) (above-next (cut (s .log) (s .me)) (s .log .numbered) (omega (arith, d .delivered .own c))) in
       let first : x .id ≡ ownId (s .me) (cut (s .log) (s .me) + 1) = heads ids in
       first ∙ (λ i. record { creator = sym c i; index = k i })
 
@@ -169,14 +179,14 @@ module _ (s : Server) (a : Action) (b : List ℕ) (r : Holds s b) (d : Delivered
 
 module _ (h : ActionHead) (p b : List ℕ) where
   pub enter-other : (me : ℕ) (c : List ℕ) → me ≡ numberAt 1 b atMe → (h .creator ≡ me → ⊥) → c ≡ queued (actionOf h p) b
-      → (s : Server) → Holds s b → Delivered s (actionOf h p) → isNext (s .log) (actionOf h p) ≡ true → c ≡ image (withLog (enter (actionOf h p) (s .log)) s) b
+      → (s : Server) → Holds s b → Placed s (actionOf h p) → isNext (s .log) (actionOf h p) ≡ true → c ≡ image (withLog (enter (actionOf h p) (s .log)) s) b
   unfolding actionOf idOf
   enter-other me c e n f s r d next =
       f ∙ entered-other s (actionOf h p) b r d next
-      (others-stay (s .me) (actionOf h p) (s .log) (log-fits s (r .formed) .own-list) (λ g. n (g ∙ sym (numbers s b r .me) ∙ sym e)))
+      (others-stay (s .me) (actionOf h p) (shownLog s) (log-fits s (r .formed) .shows .own-list) (λ g. n (g ∙ sym (numbers s b r .me) ∙ sym e)))
 
   pub enter-none : (own : ℕ) (c : List ℕ) → own ≡ numberAt 2 b atOwnCount → own ≡ 0 → c ≡ queued (actionOf h p) b
-      → (s : Server) → Holds s b → Delivered s (actionOf h p) → isNext (s .log) (actionOf h p) ≡ true → c ≡ image (withLog (enter (actionOf h p) (s .log)) s) b
+      → (s : Server) → Holds s b → Placed s (actionOf h p) → isNext (s .log) (actionOf h p) ≡ true → c ≡ image (withLog (enter (actionOf h p) (s .log)) s) b
   enter-none own c e n f s r d next = f ∙ go (s .log .own) refl
     where
       go : (l : List Action) → s .log .own ≡ l → queued (actionOf h p) b ≡ image (withLog (enter (actionOf h p) (s .log)) s) b
@@ -185,7 +195,7 @@ module _ (h : ActionHead) (p b : List ℕ) where
 
   pub enter-own : (me own at : ℕ) (c₁ c₂ : List ℕ) → me ≡ numberAt 1 b atMe → own ≡ numberAt 2 b atOwnCount → at ≡ place theOwn b → (h .creator ≡ me) → (own ≡ 0 → ⊥)
       → c₁ ≡ queued (actionOf h p) b → c₂ ≡ popped at own c₁
-      → (s : Server) → Holds s b → Delivered s (actionOf h p) → isNext (s .log) (actionOf h p) ≡ true → c₂ ≡ image (withLog (enter (actionOf h p) (s .log)) s) b
+      → (s : Server) → Holds s b → Placed s (actionOf h p) → isNext (s .log) (actionOf h p) ≡ true → c₂ ≡ image (withLog (enter (actionOf h p) (s .log)) s) b
   unfolding actionOf idOf
   enter-own me own at c₁ c₂ e o k m n f g s r d next = go (s .log .own) refl
     where

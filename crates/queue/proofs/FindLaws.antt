@@ -12,10 +12,11 @@ use Rattle.image.specs.Layout.{slotSize}
 use Rattle.image.specs.Decode.{actionsAt}
 use Rattle.queue.specs.Queue.{position}
 
-more : (d : Id) (e : List ℕ) (at k m : ℕ) → k < m
+-- The first of the slots that are left.
+pub more : (e : List ℕ) (at k m : ℕ) → k < m
     → actionsAt (m - k) e (at + slotSize * k) ≡ actionAt e (at + slotSize * k) ∷ actionsAt (m - (k + 1)) e (at + slotSize * (k + 1))
 unfolding actionsAt
-more d e at k m h =
+more e at k m h =
     let a : m - k ≡ suc (m - (k + 1)) = omega arith in
     let b : at + slotSize * (k + 1) ≡ at + slotSize * k + slotSize = omega arith in
     ap (λ (i : ℕ). actionsAt i e (at + slotSize * k)) a ∙ rw b
@@ -31,7 +32,7 @@ pub find-found : (d : Id) (e : List ℕ) (at k m p : ℕ) (t : Bool) → k < m �
 unfolding position actionAt
 find-found d e at k m p t h f g j =
     let here : 0 ≡ position d (actionsAt (m - k) e (at + slotSize * k)) =
-    pick-yes (sameId d (idAt e (at + slotSize * k))) 0 0 _ (sym f ∙ g) refl ∙ sym (ap (position d) (more d e at k m h)) in
+    pick-yes (sameId d (idAt e (at + slotSize * k))) 0 0 _ (sym f ∙ g) refl ∙ sym (ap (position d) (more e at k m h)) in
     omega arith
 
 pub find-again : (d : Id) (e : List ℕ) (at k m p : ℕ) (t : Bool) → k < m → t ≡ sameId d (idAt e (at + slotSize * k)) → t ≡ false
@@ -39,7 +40,7 @@ pub find-again : (d : Id) (e : List ℕ) (at k m p : ℕ) (t : Bool) → k < m �
 unfolding position actionAt
 find-again d e at k m p t h f g j =
     let there : suc (position d (actionsAt (m - (k + 1)) e (at + slotSize * (k + 1)))) ≡ position d (actionsAt (m - k) e (at + slotSize * k)) =
-    pick-no (sameId d (idAt e (at + slotSize * k))) _ _ _ (sym f ∙ g) refl ∙ sym (ap (position d) (more d e at k m h)) in
+    pick-no (sameId d (idAt e (at + slotSize * k))) _ _ _ (sym f ∙ g) refl ∙ sym (ap (position d) (more e at k m h)) in
     omega arith
 
 pub find-end : (d : Id) (e : List ℕ) (at k m p : ℕ) → k ≤ m → m ≤ k → p ≡ k + position d (actionsAt (m - k) e (at + slotSize * k)) → m ≡ p

@@ -12,3 +12,6 @@ pub mod Promoted
 pub mod GreenLaws
 pub mod ReadLaws
 pub mod GreenHistory
+pub mod WhiteLaws
+pub mod ShiftLaws
+pub mod CountLaws

@@ -4,9 +4,8 @@ ghost use Prim.Native.Nat.{_+_, _*_, _-_, _≤_};
 ghost use Rattle.record.specs.Values.{idOf, actionOf};
 ghost use Rattle.replication.specs.Machine.Types.{withLog};
 ghost use Rattle.replication.specs.Machine.Colours.{greenId};
-ghost use Rattle.replication.specs.Laws.RuleFits.{Delivered};
 ghost use Rattle.image.specs.Holding.{HoldsSuch, Becomes};
-ghost use Rattle.queue.specs.Queue.{position, redsIn, promoted, BecomesGreen, SlotIn};
+ghost use Rattle.queue.specs.Queue.{position, redsIn, promoted, Placed, BecomesGreen, SlotIn};
 ghost use Rattle.image.specs.Counts.{queueCount, greenCount, CountsIn};
 ghost use Rattle.format.specs.Limits.{mostIds};
 use crate::entering::red;
@@ -26,7 +25,7 @@ fn promote(state: &mut [u8], at: usize, k: usize, green: u32)
 {
     let end = at + (State::SLOT * k + State::SLOT);
     last_to_front(&mut state[at..end]);
-    put32(state, State::AT_GREEN_LENGTH, green + 1);
+    put32(state, State::AT_GREEN_COUNT, green + 1);
 }
 
 // How many red actions there are.
@@ -34,7 +33,7 @@ fn red_count(state: &[u8]) -> usize
     requires { ⌜ CountsIn (now state) ⌝ }
     ensures { λ r. ⌜ r ≡ queueCount (now (state .entry)) - greenCount (now (state .entry)) ⌝ }
 {
-    (num32(state, State::AT_QUEUE_LENGTH) - num32(state, State::AT_GREEN_LENGTH)) as usize
+    (num32(state, State::AT_QUEUE_LENGTH) - num32(state, State::AT_GREEN_COUNT)) as usize
 }
 
 // How many red actions come before the first with this id: all where there is none.
@@ -43,7 +42,7 @@ fn red_place(state: &[u8], creator: u8, index: u16) -> usize
     ensures { λ r. ⌜ r ≡ position (idOf creator index) (redsIn (now (state .entry))) ⌝ }
 {
     let reds = red_count(state);
-    let green = num32(state, State::AT_GREEN_LENGTH);
+    let green = num32(state, State::AT_GREEN_COUNT);
     find(
         state,
         place_of(state, THE_QUEUE) + State::SLOT * green as usize,
@@ -62,7 +61,7 @@ pub fn green_id(state: &mut [u8], creator: u8, index: u16)
     if red_count(state) <= k {
         return;
     }
-    let green = num32(state, State::AT_GREEN_LENGTH);
+    let green = num32(state, State::AT_GREEN_COUNT);
     promote(
         state,
         place_of(state, THE_QUEUE) + State::SLOT * green as usize,
@@ -73,7 +72,7 @@ pub fn green_id(state: &mut [u8], creator: u8, index: u16)
 
 // "As red, then" green.
 pub fn green(state: &mut [u8], head: ActionHead, payload: &[u8])
-    requires { ⌜ HoldsSuch (λ s. Delivered s (actionOf head (now payload))) (now state) ⌝ }
+    requires { ⌜ HoldsSuch (λ s. Placed s (actionOf head (now payload))) (now state) ⌝ }
     ensures { λ _. ⌜ BecomesGreen (actionOf head (now (payload .entry))) (now (state .entry)) (now (state .exit)) ⌝ }
 {
     red(state, head, payload);

@@ -6,8 +6,8 @@ use mathlib.Core.List.{List}
 use lib.Dec.{leb, ltb}
 use mir.Syntax.{w32}
 use mir.Val.{Fits}
-use Rattle.format.specs.Limits.{mostPayload}
-use Rattle.base.specs.Tests.{_<?_}
+use Rattle.format.specs.Limits.{mostPayload, mostLength}
+use Rattle.base.specs.Tests.{_≤?_, _<?_}
 use Rattle.base.proofs.TestLaws.{and-yes, and-lt}
 use Rattle.base.proofs.Branches.{told-lt, and-true, and-answered}
 use Rattle.base.specs.Bytes.{Bytes}
@@ -36,12 +36,12 @@ pub arm-action : (c : Context) (v : Event) (e : List ℕ) (a : ActionAt) (r : Bo
 unfolding fieldsOk recordOf Inside
 arm-action c v e a r h f g = judged-as c v (Action a) e f r (g e (h .bytes) (inside-as c v (Action a) e f h))
 
-pub retransmission-answered : (c : Context) (s p : ℕ) (a : ActionAt) (b r : Bool) → s < c .servers → b ≡ lengthOk (contextOf c) p → not b ≡ false
+pub retransmission-answered : (c : Context) (s p : ℕ) (a : ActionAt) (b r : Bool) → s < c .servers → b ≡ (p ≤? mostLength) → not b ≡ false
     → ((d : List ℕ) → Bytes d → PayloadInside a d → r ≡ actionOk (contextOf c) (actionFrom a d))
     → (e : List ℕ) → Bytes e → PayloadInside a e → r ≡ fieldsOk (contextOf c) (retransmission s p (actionFrom a e))
-unfolding fieldsOk contextOf
+unfolding fieldsOk contextOf lengthOk
 retransmission-answered c s p a b r h f g k e i j =
-    and-lt s (c .servers) r _ h (and-answered b (lengthOk (contextOf c) p) r (actionOk (contextOf c) (actionFrom a e)) f g (k e i j))
+    and-lt s (c .servers) r _ h (and-answered b (p ≤? mostLength) r (actionOk (contextOf c) (actionFrom a e)) f g (k e i j))
 
 pub arm-retransmission : (c : Context) (v : Event) (e : List ℕ) (s p : ℕ) (a : ActionAt) (r : Bool) → Readable c v e → v ≡ Retransmission s p a
     → ((d : List ℕ) → Bytes d → PayloadInside a d → r ≡ fieldsOk (contextOf c) (retransmission s p (actionFrom a d))) → r ≡ fieldsOk (contextOf c) (recordOf v e)

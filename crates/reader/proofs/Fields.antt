@@ -1,24 +1,28 @@
 -- The ranges of an event's parts, as the code tests them.
-use Prim.Native.Nat.{ℕ, _+_, _≤_}
+use Prim.Native.Nat.{ℕ, _+_, _*_, _≤_, _<_}
 use mathlib.Core.Path.{_≡_, refl, sym, _∙_}
 use mathlib.Core.Bool.{Bool, true, false, not}
 use mathlib.Core.List.{List}
+use native.Mathlib.Omega.{arith}
 use lib.ListN.{length}
 use lib.Dec.{leb}
 use mir.Syntax.{w32}
 use mir.Val.{Fits}
-use Rattle.format.specs.Limits.{mostPayload}
+use Rattle.format.specs.Limits.{mostPayload, mostNumber}
 use Rattle.base.specs.Tests.{_≤?_, _<?_, _and_}
-use Rattle.base.proofs.TestLaws.{lt-yes, eq-yes}
+use Rattle.base.proofs.TestLaws.{lt-yes, eq-yes, and-yes, and-le, and-gt}
 use Rattle.base.proofs.Branches.{told-le, and-true, and-false, and-answered, and-denied}
 use Rattle.base.specs.Bytes.{Bytes, partAt}
 use Rattle.base.proofs.BytesLaws.{part-length, part-are-bytes, numbers-length}
 use Rattle.format.specs.Types.{Context as FormatContext, State as FormatState}
 use Rattle.format.specs.Range.{payloadOk, lengthOk, cutsOk, indexOk, primaryOk, markOk, statusOk, idsOk, yellowOk, configurationOk, stateOk}
+use Rattle.format.specs.Read.{idsAt}
+use Rattle.format.proofs.Writing.{ids-number}
 use Rattle.record.specs.Context.{contextOf}
 use Rattle.record.specs.Values.{stateOf}
 use Rattle.record.specs.Events.{stateFrom, ListsInside}
 use Rattle.reader.specs.Reading.{numbersOk, listsOk}
+use Rattle.record.proofs.Ranges.{cuts-law}
 use Rattle.record.specs.declared.Context.{Context}
 use Rattle.record.specs.declared.events.StateAt.{StateAt}
 
@@ -32,6 +36,25 @@ payload-law e at m b h = rw (part-length m e at h, part-are-bytes m e at b) (tol
 pub configuration-law : (i : ℕ) → Fits w32 i → configurationOk i ≡ true
 unfolding configurationOk
 configuration-law i h = lt-yes i _ (h .fits)
+
+-- A State's lists: its cuts are in range, and p is how many ids its yellow list can have.
+module _ (c : Context) (s : StateAt) (e : List ℕ) (p : ℕ) (b : Bytes e) (h : p ≡ c .servers * c .quota) where
+  cuts-in : cutsOk mostNumber (stateFrom s e .cuts) ≡ true
+  unfolding stateFrom stateOf
+  cuts-in = cuts-law (s .head .servers) e (s .«cuts_at») b
+
+  number : length (stateFrom s e .yellow .ids) ≡ s .head .«yellow_count»
+  unfolding stateFrom stateOf
+  number = ids-number (s .head .«yellow_count») e (s .«yellow_at»)
+
+  pub lists-denied : p < s .head .«yellow_count» → false ≡ listsOk (contextOf c) (stateFrom s e)
+  unfolding listsOk contextOf
+  lists-denied g = and-yes _ _ _ cuts-in (and-gt _ (c .servers * c .quota) _ (omega (arith, number)))
+
+  pub lists-answered : (r : Bool) → s .head .«yellow_count» ≤ p → r ≡ idsOk (contextOf c) (idsAt (s .head .«yellow_count») e (s .«yellow_at»))
+      → r ≡ listsOk (contextOf c) (stateFrom s e)
+  unfolding listsOk contextOf stateFrom stateOf
+  lists-answered r g k = and-yes _ _ _ cuts-in (and-le _ (c .servers * c .quota) _ _ (omega (arith, number)) k)
 
 -- A State's ranges are those of its numbers and those of its lists.
 
@@ -51,13 +74,13 @@ state-split c s h k =
     sym
     (shuffle
     (s .sender <? c .servers)
-    (cutsOk (c .quota) (s .cuts))
-    (lengthOk c (s .greenLength))
+    (cutsOk mostNumber (s .cuts))
+    (lengthOk (s .greenLength))
     (indexOk (s .attempt))
     (primaryOk c (s .last))
     (markOk c (s .mark))
     (statusOk (s .yellow .status))
-    (idsOk c (s .yellow .ids)))
+    (length (s .yellow .ids) ≤? c .servers * c .quota and idsOk c (s .yellow .ids)))
     ∙ rw (h, eq-yes (length (s .cuts)) (c .servers) k)
 
 state-parts : (c : Context) (s : StateAt) (e : List ℕ) → Fits w32 (s .head .configuration) → ListsInside (c .servers) s e

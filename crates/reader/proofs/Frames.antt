@@ -15,7 +15,7 @@ use Rattle.record.specs.Values.{idOf, actionOf}
 use Rattle.record.specs.Events.{actionFrom, recordOf, Inside, PayloadInside, ListsInside, actionIn, headIn}
 use Rattle.record.proofs.PartLaws.{behind, stateIn, state-is}
 use Rattle.reader.specs.Framed.{bodyIn, found, FoundInside, Answers}
-use Rattle.record.specs.declared.StateHead.{StateHead}
+use Rattle.record.specs.declared.events.StateHead.{StateHead}
 use Rattle.record.specs.declared.events.ActionAt.{ActionAt}
 use Rattle.record.specs.declared.events.Event.{Event}
 use Rattle.record.specs.declared.events.Event.the-variants.{Action, Retransmission, State, Cpc, Regular, Transitional, Request, Recovery}

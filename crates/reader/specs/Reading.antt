@@ -4,9 +4,9 @@ use mathlib.Core.Path.{_≡_}
 use mathlib.Core.Bool.{Bool, true}
 use mathlib.Core.List.{List}
 use lib.ListN.{length}
-use Rattle.base.specs.Tests.{_and_, _<?_}
+use Rattle.base.specs.Tests.{_and_, _≤?_, _<?_}
 use Rattle.base.specs.Bytes.{Bytes}
-use Rattle.format.specs.Limits.{mostPayload}
+use Rattle.format.specs.Limits.{mostPayload, mostNumber, mostLength}
 use Rattle.format.specs.Places.{cutSize, idSize}
 use Rattle.format.specs.Types.{Context as FormatContext, Action as FormatAction, State as FormatState, Record, Reading as FormatReading, says}
 use Rattle.format.specs.Types.{refused}
@@ -36,14 +36,14 @@ JudgesAction a r test = (e : List ℕ) → Bytes e → PayloadInside a e → r �
 unfoldable pub numbersOk : FormatContext → FormatState → Bool
 numbersOk c s =
     s .sender <? c .servers
-    and lengthOk c (s .greenLength)
+    and lengthOk (s .greenLength)
     and indexOk (s .attempt)
     and primaryOk c (s .last)
     and markOk c (s .mark)
     and statusOk (s .yellow .status)
 
 unfoldable pub listsOk : FormatContext → FormatState → Bool
-listsOk c s = cutsOk (c .quota) (s .cuts) and idsOk c (s .yellow .ids)
+listsOk c s = cutsOk mostNumber (s .cuts) and length (s .yellow .ids) ≤? c .servers * c .quota and idsOk c (s .yellow .ids)
 
 -- "Where an answer is an enum, a definition gives this paper's number and values for each of its cases": e is the event's bytes.
 unfoldable pub meaning : Reading → List ℕ → FormatReading Record
@@ -55,20 +55,21 @@ meaning (Refused k) e = refused k
 pub record PlacedAction (c : Context) (a : ActionAt) (e : List ℕ) : Type 0 where
   pub creator : a .head .creator < c .servers
   pub least : 1 ≤ a .head .index
-  pub most : a .head .index ≤ c .quota
-  pub green : a .head .«green_length» ≤ c .servers * c .quota
+  pub most : a .head .index ≤ mostNumber
+  pub green : a .head .«green_length» ≤ mostLength
+  pub white : a .head .«white_length» ≤ mostLength
   pub short : a .«payload_length» ≤ mostPayload
   pub inside : a .«payload_at» + a .«payload_length» ≤ length e
 
 pub record PlacedRetransmission (c : Context) (s p : ℕ) (a : ActionAt) (e : List ℕ) : Type 0 where
   pub sender : s < c .servers
-  pub position : p ≤ c .servers * c .quota
+  pub position : p ≤ mostLength
   pub action : PlacedAction c a e
 
 pub record PlacedState (c : Context) (s : StateAt) (e : List ℕ) : Type 0 where
   pub sender : s .head .sender < c .servers
   pub servers : s .head .servers ≡ c .servers
-  pub green : s .head .«green_length» ≤ c .servers * c .quota
+  pub green : s .head .«green_length» ≤ mostLength
   pub cuts : s .«cuts_at» + cutSize * s .head .servers ≤ length e
   pub ids : s .«yellow_at» + idSize * s .head .«yellow_count» ≤ length e
   pub count : s .head .«yellow_count» ≤ c .servers * c .quota

@@ -1,7 +1,6 @@
 // The frame of an event: its length, version and kind, and where the parts of its body lie.
 ghost use mathlib.Core.Path.{_≡_};
 ghost use Prim.Native.Nat.{ℕ, _+_, _*_};
-ghost use lib.ListN.{length};
 ghost use Rattle.base.specs.Bytes.{Bytes};
 ghost use Rattle.format.specs.Types.{ofAction, ofRetransmission, ofState, ofCpc, ofRegular, ofTransitional, ofRequest, ofRecovery};
 ghost use Rattle.reader.specs.Framed.{headOk, bodyIn, framedIn, Answers};
@@ -9,10 +8,9 @@ use octets::numbers::num8;
 use octets::numbers::num16;
 use octets::numbers::num32;
 use record::State;
-use record::StateHead;
-use record::events::ActionAt;
 use record::events::Event;
 use record::events::StateAt;
+use record::events::StateHead;
 use record::events::VERSION;
 use record::parts::action_at;
 use record::parts::state_head;

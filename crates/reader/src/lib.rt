@@ -18,11 +18,10 @@ use frame::Framed;
 use frame::framed_event;
 use record::Context;
 use record::State;
-use record::StateHead;
 use record::events::ActionAt;
 use record::events::Event;
 use record::events::StateAt;
-use record::lists::cuts_ok;
+use record::events::StateHead;
 use record::lists::ids_ok;
 use record::range::context_ok;
 use record::range::id_ok;
@@ -32,6 +31,7 @@ use record::range::length_ok;
 use record::range::mark_ok;
 use record::range::own_set_ok;
 use record::range::primary_ok;
+use record::range::product;
 use record::range::status_ok;
 
 // The event, or the number that it is refused with.
@@ -54,7 +54,10 @@ fn action_ok(c: Context, a: ActionAt) -> bool
     if !id_ok(c, a.head.creator, a.head.index) {
         return false;
     }
-    if !length_ok(c, a.head.green_length) {
+    if !length_ok(a.head.green_length) {
+        return false;
+    }
+    if !length_ok(a.head.white_length) {
         return false;
     }
     a.payload_length <= State::MOST_PAYLOAD
@@ -67,7 +70,7 @@ fn retransmission_ok(c: Context, sender: u8, position: u32, action: ActionAt) ->
     if c.servers <= sender {
         return false;
     }
-    if !length_ok(c, position) {
+    if !length_ok(position) {
         return false;
     }
     action_ok(c, action)
@@ -83,17 +86,17 @@ fn transitional_ok(c: Context, set: u8) -> bool
     inside_last(c, set)
 }
 
+// Cuts of two bytes are always in range. K6: "A yellow list has at most n × q ids": these are counted before they are compared.
 fn lists_ok(c: Context, s: StateAt, e: &[u8]) -> bool
     requires { ⌜ ContextIn c × ListsInside (c .servers) s (now e) ⌝ }
     ensures { λ r. ⌜ r ≡ listsOk (contextOf c) (stateFrom s (now (e .entry))) ⌝ }
 {
-    let cuts_at = s.cuts_at;
-    let n = s.head.servers as usize;
-    if !cuts_ok(e, cuts_at, n, c.quota) {
+    let count = s.head.yellow_count;
+    if product(c.servers as u32, c.quota as u32) < count as u32 {
         return false;
     }
     let yellow_at = s.yellow_at;
-    ids_ok(c, e, yellow_at, s.head.yellow_count as usize)
+    ids_ok(c, e, yellow_at, count as usize)
 }
 
 fn numbers_ok(c: Context, s: StateHead) -> bool
@@ -103,7 +106,7 @@ fn numbers_ok(c: Context, s: StateHead) -> bool
     if c.servers <= s.sender {
         return false;
     }
-    if !length_ok(c, s.green_length) {
+    if !length_ok(s.green_length) {
         return false;
     }
     if !index_ok(s.attempt.0) {

@@ -2,20 +2,27 @@
 use Prim.Native.Nat.{ℕ, _+_, _-_}
 use mathlib.Core.Path.{_≡_}
 use mathlib.Core.List.{List}
-use Rattle.format.specs.Places.{idIndexAt, actionGreenAt, actionPayloadAt, actionHeadSize, primaryAttemptAt, primarySetAt, markIndexAt, markAttemptAt, markSetAt, markBitsAt, senderAt, configurationIdAt, stateCutsAt, stateAttemptAt, stateLastAt, stateMarkAt, stateYellowAt, stateCountAt}
+use Rattle.format.specs.Places.{idIndexAt, actionGreenAt, actionWhiteAt, actionPayloadAt, actionHeadSize, primaryAttemptAt, primarySetAt, markIndexAt, markAttemptAt, markSetAt, markBitsAt, senderAt, configurationIdAt, stateCutsAt, stateAttemptAt, stateLastAt, stateMarkAt, stateYellowAt, stateCountAt}
 use Rattle.base.specs.Bytes.{numberAt}
 use Rattle.format.specs.Read.{primaryAt}
 use Rattle.record.specs.Values.{lastOf}
 use Rattle.record.specs.Events.{actionIn, lastIn, markIn, headIn}
 use Rattle.record.specs.declared.LastPrimary.{LastPrimary}
 use Rattle.record.specs.declared.Mark.{Mark}
-use Rattle.record.specs.declared.StateHead.{StateHead}
+use Rattle.record.specs.declared.events.StateHead.{StateHead}
 use Rattle.record.specs.declared.events.ActionAt.{ActionAt}
 
-pub action-made : (e : List ℕ) (at x i g m : ℕ) → x ≡ numberAt 1 e at → i ≡ numberAt 2 e (at + idIndexAt) → g ≡ numberAt 4 e (at + actionGreenAt) → m ≡ numberAt 1 e (at + actionPayloadAt)
-    → _≡_ {A = ActionAt} (record { head = record { creator = x; index = i; «green_length» = g }; «payload_at» = at + actionHeadSize; «payload_length» = m }) (actionIn e at)
+pub action-made : (e : List ℕ) (at x i g w m : ℕ) → x ≡ numberAt 1 e at → i ≡ numberAt 2 e (at + idIndexAt) → g ≡ numberAt 4 e (at + actionGreenAt)
+    → w ≡ numberAt 4 e (at + actionWhiteAt) → m ≡ numberAt 1 e (at + actionPayloadAt)
+    → _≡_ {A = ActionAt}
+    (record {
+      head = record { creator = x; index = i; «green_length» = g; «white_length» = w };
+      «payload_at» = at + actionHeadSize;
+      «payload_length» = m;
+    })
+    (actionIn e at)
 unfolding actionIn
-action-made e at x i g m a b c d = rw (a, b, c, d)
+action-made e at x i g w m a b c d f = rw (a, b, c, d, f)
 
 pub last-made : (e : List ℕ) (at i a s : ℕ) → i ≡ numberAt 4 e at → a ≡ numberAt 4 e (at + primaryAttemptAt) → s ≡ numberAt 1 e (at + primarySetAt)
     → _≡_ {A = LastPrimary} (record { index = record { 0 = i }; attempt = record { 0 = a }; set = s }) (lastIn e at)

@@ -7,7 +7,7 @@ use Rattle.format.specs.Places.{stateCutsAt, stateAttemptAt, stateLastAt, state
 use Rattle.format.specs.Read.{primaryAt, markAt, yellowAt, stateAt}
 use Rattle.record.specs.Values.{primaryOf, lastOf, markOf, stateOf}
 use Rattle.record.specs.Events.{stateFrom, lastIn, markIn, headIn}
-use Rattle.record.specs.declared.StateHead.{StateHead}
+use Rattle.record.specs.declared.events.StateHead.{StateHead}
 use Rattle.record.specs.declared.events.StateAt.{StateAt}
 
 -- where its n cuts end

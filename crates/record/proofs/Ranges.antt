@@ -1,17 +1,22 @@
 -- What each range test of the code answers.
-use Prim.Native.Nat.{ℕ, zero, suc, _*_, _^_, _%_, _≤_}
-use mathlib.Core.Path.{_≡_, refl, ap, _∙_}
+use Prim.Native.Nat.{ℕ, zero, suc, _+_, _*_, _^_, _%_, _≤_}
+use mathlib.Core.Path.{_≡_, refl, _∙_}
 use mathlib.Core.Bool.{Bool, true}
+use mathlib.Core.List.{List}
 use native.Mathlib.Omega.{arith}
 use native.Mathlib.Nat.{mul-le-mul-right, pow-le-pow-right, mod-eq-of-lt}
 use lib.Dec.{leb, ltb}
-use mir.Syntax.{w32}
+use mir.Syntax.{w16, w32}
 use mir.Val.{Fits}
-use Rattle.base.specs.Tests.{_≤?_, _<?_}
+use Rattle.base.specs.Tests.{_and_, _≤?_, _<?_}
+use Rattle.base.specs.Bytes.{Bytes, numbersAt}
 use Rattle.base.specs.Sets.{inside}
-use Rattle.base.proofs.Branches.{told-le, told-lt}
-use Rattle.format.specs.Limits.{mostServers}
-use Rattle.format.specs.Range.{insideLast}
+use Rattle.base.proofs.TestLaws.{le-yes, both-yes}
+use Rattle.base.proofs.Branches.{told-le, told-lt, and-true}
+use Rattle.base.proofs.BytesLaws.{number-lt}
+use Rattle.format.specs.Limits.{mostServers, mostNumber}
+use Rattle.format.specs.Places.{cutSize}
+use Rattle.format.specs.Range.{cutsOk, insideLast}
 use Rattle.record.specs.Context.{lastOf}
 
 -- n × q
@@ -22,8 +27,15 @@ product-most n m h = mul-le-mul-right m h
 pub product-fits : (n m : ℕ) → n ≤ mostServers → m ≤ 65535 → Fits w32 (n * m)
 product-fits n m h k = omega (arith, product-most n m h)
 
-pub length-law : (l n q p : ℕ) → p ≡ n * q → leb l p ≡ (l ≤? n * q)
-length-law l n q p h = ap (leb l) h ∙ told-le l (n * q)
+-- indexes and cuts: any number of two bytes is one
+
+pub index-law : (i : ℕ) → Fits w16 i → leb 1 i ≡ (1 ≤? i and i ≤? mostNumber)
+index-law i h = rw (le-yes i mostNumber (omega (arith, h .fits))) (told-le 1 i ∙ and-true (1 ≤? i))
+
+pub cuts-law : (n : ℕ) (e : List ℕ) (at : ℕ) → Bytes e → cutsOk mostNumber (numbersAt cutSize n e at) ≡ true
+unfolding cutsOk numbersAt
+cuts-law zero e at b = refl
+cuts-law (suc n) e at b = both-yes _ _ (le-yes _ mostNumber (omega (arith, number-lt cutSize e at b))) (cuts-law n e (at + cutSize) b)
 
 -- sets
 

@@ -13,53 +13,18 @@ use mir.Syntax.{w64}
 use mir.Val.{Fits}
 use Rattle.format.specs.Limits.{mostQuota, mostIds}
 use Rattle.format.specs.Places.{idSize}
-use Rattle.base.specs.Tests.{_≤?_, _=?_, _and_}
-use Rattle.base.proofs.TestLaws.{not-both, pick-yes, pick-no, and-yes, and-no, both-yes, and-eq, and-ne, le-yes, le-no, Known, known, holds, fails}
+use Rattle.base.specs.Tests.{_=?_, _and_}
+use Rattle.base.proofs.TestLaws.{not-both, pick-yes, pick-no, and-yes, and-no, both-yes, and-eq, and-ne, Known, known, holds, fails}
 use Rattle.base.proofs.Branches.{or-yes, or-no, told-eq}
-use Rattle.base.specs.Bytes.{numberAt, numbersAt}
+use Rattle.base.specs.Bytes.{numberAt}
 use Rattle.format.specs.Types.{Id, Context as FormatContext}
-use Rattle.format.specs.Range.{cutsOk, idOk, sameId, hasId, idsOk}
+use Rattle.format.specs.Range.{idOk, sameId, hasId, idsOk}
 use Rattle.format.specs.Read.{idAt, idsAt}
 use Rattle.format.proofs.Ranges.{id-range}
 use Rattle.record.specs.declared.Context.{Context}
 use Rattle.record.specs.Context.{contextOf, ContextIn}
 use Rattle.record.specs.Values.{idOf, slot, placeOf, idsBy, IdsInside, HasPlaces, Marked, Met}
 use Rattle.record.proofs.OnePass.{Small, pass, slot-lt, slot-below, pass-starts, unmarked-new, marked-last, marked-set}
-
--- the cuts
-
-numbers-more : (w : ℕ) (e : List ℕ) (at k m : ℕ) → k < m
-    → numbersAt w (m - k) e (at + w * k) ≡ numberAt w e (at + w * k) ∷ numbersAt w (m - (k + 1)) e (at + w * (k + 1))
-unfolding numbersAt
-numbers-more w e at k m h =
-    let a : m - k ≡ suc (m - (k + 1)) = omega arith in
-    let b : at + w * (k + 1) ≡ at + w * k + w = omega arith in
-    ap (λ (i : ℕ). numbersAt w i e (at + w * k)) a ∙ rw b
-
-numbers-none : (w : ℕ) (e : List ℕ) (at k m : ℕ) → m ≤ k → numbersAt w (m - k) e at ≡ []
-unfolding numbersAt
-numbers-none w e at k m h = let a : m - k ≡ 0 = omega arith in ap (λ (i : ℕ). numbersAt w i e at) a
-
-pub cuts-start : (e : List ℕ) (at m q : ℕ) → cutsOk q (numbersAt 2 m e at) ≡ cutsOk q (numbersAt 2 (m - 0) e (at + 2 * 0))
-cuts-start e at m q =
-    let a : m - 0 ≡ m = omega arith in
-    let b : at + 2 * 0 ≡ at = omega arith in
-    rw (a, b)
-
-pub cuts-high : (e : List ℕ) (at k m q x : ℕ) (w : Bool) → k < m → x ≡ numberAt 2 e (at + 2 * k) → q < x
-    → w ≡ cutsOk q (numbersAt 2 (m - k) e (at + 2 * k)) → false ≡ w
-unfolding cutsOk
-cuts-high e at k m q x w h f g j = and-no (numberAt 2 e (at + 2 * k) ≤? q) _ (le-no _ q (rw f at g)) ∙ sym (j ∙ ap (cutsOk q) (numbers-more 2 e at k m h))
-
-pub cuts-again : (e : List ℕ) (at k m q x : ℕ) (w : Bool) → k < m → x ≡ numberAt 2 e (at + 2 * k) → x ≤ q
-    → w ≡ cutsOk q (numbersAt 2 (m - k) e (at + 2 * k)) → w ≡ cutsOk q (numbersAt 2 (m - (k + 1)) e (at + 2 * (k + 1)))
-unfolding cutsOk
-cuts-again e at k m q x w h f g j =
-    j ∙ ap (cutsOk q) (numbers-more 2 e at k m h) ∙ sym (and-yes _ (numberAt 2 e (at + 2 * k) ≤? q) _ (le-yes _ q (rw f at g)) refl)
-
-pub cuts-end : (e : List ℕ) (at k m q : ℕ) (w : Bool) → m ≤ k → w ≡ cutsOk q (numbersAt 2 (m - k) e (at + 2 * k)) → true ≡ w
-unfolding cutsOk
-cuts-end e at k m q w h j = sym (j ∙ ap (cutsOk q) (numbers-none 2 e (at + 2 * k) k m h))
 
 -- the ids
 

@@ -4,7 +4,7 @@ use mathlib.Core.Path.{_≡_}
 use mathlib.Core.List.{List}
 use lib.ListN.{length}
 use Rattle.base.specs.Bytes.{numberAt, partAt}
-use Rattle.format.specs.Places.{idIndexAt, idSize, actionGreenAt, actionPayloadAt, actionHeadSize}
+use Rattle.format.specs.Places.{idIndexAt, idSize, actionGreenAt, actionWhiteAt, actionPayloadAt, actionHeadSize}
 use Rattle.format.specs.Places.{markIndexAt, markAttemptAt, markSetAt, markBitsAt, senderAt, configurationIdAt}
 use Rattle.format.specs.Places.{cutSize, stateCutsAt, stateAttemptAt, stateLastAt, stateMarkAt, stateYellowAt, stateCountAt}
 use Rattle.format.specs.Types.{Action as FormatAction, State as FormatState, Record, action, retransmission, state, cpc, regular, transitional}
@@ -13,7 +13,7 @@ use Rattle.format.specs.Read.{primaryAt}
 use Rattle.record.specs.Values.{lastOf, actionOf, stateOf}
 use Rattle.record.specs.declared.LastPrimary.{LastPrimary}
 use Rattle.record.specs.declared.Mark.{Mark}
-use Rattle.record.specs.declared.StateHead.{StateHead}
+use Rattle.record.specs.declared.events.StateHead.{StateHead}
 use Rattle.record.specs.declared.events.ActionAt.{ActionAt}
 use Rattle.record.specs.declared.events.StateAt.{StateAt}
 use Rattle.record.specs.declared.events.Event.{Event}
@@ -59,7 +59,12 @@ Inside n Recovery e = Unit {0}
 
 unfoldable pub actionIn : List ℕ → ℕ → ActionAt
 actionIn e at = record {
-  head = record { creator = numberAt 1 e at; index = numberAt 2 e (at + idIndexAt); «green_length» = numberAt 4 e (at + actionGreenAt) };
+  head = record {
+    creator = numberAt 1 e at;
+    index = numberAt 2 e (at + idIndexAt);
+    «green_length» = numberAt 4 e (at + actionGreenAt);
+    «white_length» = numberAt 4 e (at + actionWhiteAt);
+  };
   «payload_at» = at + actionHeadSize;
   «payload_length» = numberAt 1 e (at + actionPayloadAt);
 }

@@ -1,5 +1,5 @@
 -- The code's limits are the format's.
-use Rattle.format.specs.Limits.{fewestServers, mostServers, leastQuota, mostQuota, mostPayload, mostIndex}
+use Rattle.format.specs.Limits.{fewestServers, mostServers, leastQuota, mostQuota, mostPayload, mostIndex, mostNumber, mostLength}
 use Rattle.record.specs.declared.range.Limits.{Limits}
 
 unfoldable pub theLimits : Limits
@@ -10,4 +10,6 @@ theLimits = record {
   «most_quota» = mostQuota;
   «most_payload» = mostPayload;
   «most_index» = mostIndex;
+  «most_number» = mostNumber;
+  «most_length» = mostLength;
 }

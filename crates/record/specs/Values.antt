@@ -15,7 +15,7 @@ use Rattle.format.specs.Read.{idAt, idsAt}
 use Rattle.record.specs.declared.LastPrimary.{LastPrimary}
 use Rattle.record.specs.declared.Mark.{Mark}
 use Rattle.record.specs.declared.ActionHead.{ActionHead}
-use Rattle.record.specs.declared.StateHead.{StateHead}
+use Rattle.record.specs.declared.events.StateHead.{StateHead}
 
 unfoldable pub idOf : (creator index : ℕ) → Id
 idOf creator index = record { creator = creator; index = index }
@@ -31,7 +31,12 @@ unfoldable pub markOf : Mark → FormatMark
 markOf m = record { status = m .status; index = m .index .0; attempt = m .attempt .0; set = m .set; bits = m .bits }
 
 unfoldable pub actionOf : ActionHead → (payload : List ℕ) → Action
-actionOf h p = record { id = idOf (h .creator) (h .index); greenLength = h .«green_length»; payload = p }
+actionOf h p = record {
+  id = idOf (h .creator) (h .index);
+  greenLength = h .«green_length»;
+  whiteLength = h .«white_length»;
+  payload = p;
+}
 
 -- A retransmission of an action.
 abbrev pub resent : (sender position : ℕ) → ActionHead → (payload : List ℕ) → Record

@@ -1,15 +1,53 @@
 // An event that was read: its numbers, and where its lists lie in its bytes.
 use crate::ActionHead;
-use crate::StateHead;
+use crate::AttemptIndex;
+use crate::LastPrimary;
+use crate::Mark;
 
 // A record's version byte.
-pub const VERSION: u8 = 1;
+pub const VERSION: u8 = 2;
 
 // An action. Its payload is the `payload_length` bytes from `payload_at` on.
 pub struct ActionAt {
     pub head: ActionHead,
     pub payload_at: usize,
     pub payload_length: usize,
+}
+
+// A State but its cuts and its yellow ids; how many there are of each.
+pub struct StateHead {
+    pub sender: u8,
+    pub configuration: u32,
+    pub servers: u8,
+    pub green_length: u32,
+    pub attempt: AttemptIndex,
+    pub last: LastPrimary,
+    pub mark: Mark,
+    pub yellow_status: u8,
+    pub yellow_count: u16,
+}
+
+impl StateHead {
+    // Where a State's cuts begin in its record: sender and configuration id stand before them.
+    pub const CUTS: usize = Event::SENDER + 1 + 4;
+
+    // What stands behind the cuts, each from their end on: green length, attempt, last primary, mark, and the yellow list's status and count.
+    pub const ATTEMPT: usize = 4;
+
+    pub const LAST: usize = StateHead::ATTEMPT + 4;
+
+    pub const MARK: usize = StateHead::LAST + LastPrimary::SIZE;
+
+    pub const YELLOW: usize = StateHead::MARK + Mark::SIZE;
+
+    pub const YELLOW_COUNT: usize = StateHead::YELLOW + 1;
+
+    pub const STANDING: usize = StateHead::YELLOW_COUNT + 2;
+
+    // A State with no cuts and no ids, and where the yellow list's count is in it.
+    pub const SIZE: usize = StateHead::CUTS + StateHead::STANDING;
+
+    pub const COUNT: usize = StateHead::CUTS + StateHead::YELLOW_COUNT;
 }
 
 // A State. Its cuts, two bytes for each server, begin at `cuts_at`, and its yellow ids, three bytes each, at `yellow_at`.

@@ -9,7 +9,7 @@ ghost use Rattle.record.specs.Values.{lastOf};
 
 pub mod sets; // sets.rt: sets of servers
 pub mod range; // range.rt: which numbers and sets are in range
-pub mod lists; // lists.rt: lists in bytes
+pub mod lists; // lists.rt: lists of ids in bytes
 pub mod events; // events.rt: an event that was read
 pub mod parts; // parts.rt: parts of a record, read where they lie
 
@@ -74,54 +74,21 @@ pub struct ActionHead {
     pub creator: u8,
     pub index: u16,
     pub green_length: u32,
+    pub white_length: u32,
 }
 
 impl ActionHead {
-    // Where the index lies in an id; then the green length and the payload's length in an action.
+    // Where the index lies in an id; then the creator's green and white length and the payload's length in an action.
     pub const INDEX: usize = 1;
 
     pub const GREEN_LENGTH: usize = State::ID;
 
-    pub const PAYLOAD: usize = ActionHead::GREEN_LENGTH + 4;
+    pub const WHITE_LENGTH: usize = ActionHead::GREEN_LENGTH + 4;
+
+    pub const PAYLOAD: usize = ActionHead::WHITE_LENGTH + 4;
 
     // With the payload's length.
     pub const SIZE: usize = ActionHead::PAYLOAD + 1;
-}
-
-// A State but its cuts and its yellow ids; how many there are of each.
-pub struct StateHead {
-    pub sender: u8,
-    pub configuration: u32,
-    pub servers: u8,
-    pub green_length: u32,
-    pub attempt: AttemptIndex,
-    pub last: LastPrimary,
-    pub mark: Mark,
-    pub yellow_status: u8,
-    pub yellow_count: u16,
-}
-
-impl StateHead {
-    // Where a State's cuts begin in its record: sender and configuration id stand before them.
-    pub const CUTS: usize = Event::SENDER + 1 + 4;
-
-    // What stands behind the cuts, each from their end on: green length, attempt, last primary, mark, and the yellow list's status and count.
-    pub const ATTEMPT: usize = 4;
-
-    pub const LAST: usize = StateHead::ATTEMPT + 4;
-
-    pub const MARK: usize = StateHead::LAST + LastPrimary::SIZE;
-
-    pub const YELLOW: usize = StateHead::MARK + Mark::SIZE;
-
-    pub const YELLOW_COUNT: usize = StateHead::YELLOW + 1;
-
-    pub const STANDING: usize = StateHead::YELLOW_COUNT + 2;
-
-    // A State with no cuts and no ids, and where the yellow list's count is in it.
-    pub const SIZE: usize = StateHead::CUTS + StateHead::STANDING;
-
-    pub const COUNT: usize = StateHead::CUTS + StateHead::YELLOW_COUNT;
 }
 
 // What a record is read against. `configured` is 0 where there was no regular configuration since the start or the last
@@ -134,7 +101,8 @@ pub struct Context {
     pub set: u8,
 }
 
-// The numbers of a server's state, in the order of its buffer. Its lists lie beside them.
+// The numbers of a server's state, in the order of its buffer. Its lists lie beside them. The queue holds what is not white: `green_count` is how
+// many of its first actions are green.
 pub struct State {
     pub layout: u8,
     pub servers: u8,
@@ -150,7 +118,7 @@ pub struct State {
     pub cpcs: u8,
     pub come: u32,
     pub queue_length: u32,
-    pub green_length: u32,
+    pub green_count: u32,
     pub numbered: u16,
     pub own_count: u16,
     pub sent: u16,
@@ -175,6 +143,11 @@ impl State {
 
     pub const MOST_INDEX: u32 = 4_000_000_000;
 
+    // Indexes of actions and cuts run to the first, positions and lengths to the second.
+    pub const MOST_NUMBER: u16 = 65_535;
+
+    pub const MOST_LENGTH: u32 = State::MOST_SERVERS as u32 * State::MOST_NUMBER as u32;
+
     // The numbers of the eight states.
     pub const NON_PRIM: u8 = 0;
 
@@ -193,7 +166,7 @@ impl State {
     pub const UN: u8 = 7;
 
     // The number of this layout, with which every image begins: no number of servers, with which those of the first layout began.
-    pub const LAYOUT: u8 = State::MOST_SERVERS + 2;
+    pub const LAYOUT: u8 = State::MOST_SERVERS + 3;
 
     // Where each number begins in the state's buffer, behind the one before it (docs/LAYOUT.md).
     pub const AT_LAYOUT: usize = 0;
@@ -224,9 +197,9 @@ impl State {
 
     pub const AT_QUEUE_LENGTH: usize = State::AT_COME + 4;
 
-    pub const AT_GREEN_LENGTH: usize = State::AT_QUEUE_LENGTH + 4;
+    pub const AT_GREEN_COUNT: usize = State::AT_QUEUE_LENGTH + 4;
 
-    pub const AT_NUMBERED: usize = State::AT_GREEN_LENGTH + 4;
+    pub const AT_NUMBERED: usize = State::AT_GREEN_COUNT + 4;
 
     pub const AT_OWN_COUNT: usize = State::AT_NUMBERED + 2;
 
@@ -258,7 +231,7 @@ impl State {
 
     pub const CUT_AND_NOTED: usize = State::CUT + State::NOTED;
 
-    // An id, and how many there can be.
+    // An id, and how many a yellow list can have.
     pub const ID: usize = ActionHead::INDEX + 2;
 
     pub const MOST_IDS: usize = State::MOST_SERVERS as usize * State::MOST_QUOTA as usize;
@@ -302,7 +275,7 @@ impl State {
             cpcs: 0,
             come: 0,
             queue_length: 0,
-            green_length: 0,
+            green_count: 0,
             numbered: 0,
             own_count: 0,
             sent: 0,

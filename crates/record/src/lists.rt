@@ -1,10 +1,9 @@
-// The lists in an event's bytes: a State's cuts and its yellow ids.
+// Lists of ids in bytes: whether they are in range and differ.
 ghost use mathlib.Core.Path.{_≡_};
 ghost use Prim.Native.Nat.{_+_, _*_, _≤_};
 ghost use lib.ListN.{length};
-ghost use Rattle.base.specs.Bytes.{numbersAt};
-ghost use Rattle.format.specs.Places.{cutSize, idSize};
-ghost use Rattle.format.specs.Range.{cutsOk, hasId, idsOk};
+ghost use Rattle.format.specs.Places.{idSize};
+ghost use Rattle.format.specs.Range.{hasId, idsOk};
 ghost use Rattle.format.specs.Read.{idAt, idsAt};
 ghost use Rattle.record.specs.Context.{contextOf, ContextIn};
 ghost use Rattle.record.specs.Values.{idOf, placeOf, idsBy, IdsInside, HasPlaces, NextId, MetAt};
@@ -15,22 +14,6 @@ use crate::parts::is_id;
 use crate::range::id_ok;
 use octets::numbers::num8;
 use octets::numbers::num16;
-
-// Whether each of the n cuts from `at` on is at most the quota.
-pub fn cuts_ok(e: &[u8], at: usize, n: usize, quota: u16) -> bool
-    requires { ⌜ at + cutSize * n ≤ length (now e) ⌝ }
-    ensures { λ r. ⌜ r ≡ cutsOk quota (numbersAt 2 n (now (e .entry)) at) ⌝ }
-{
-    let mut k = 0;
-    while k < n {
-        let x = num16(e, at + State::CUT * k);
-        if quota < x {
-            return false;
-        }
-        k += 1;
-    }
-    true
-}
 
 // The place of an id in range, and State::MOST_IDS for any other.
 fn place(c: Context, creator: u8, index: u16) -> usize

@@ -12,9 +12,9 @@ use crate::AttemptIndex;
 use crate::LastPrimary;
 use crate::Mark;
 use crate::PrimaryIndex;
-use crate::StateHead;
 use crate::events::ActionAt;
 use crate::events::Event;
+use crate::events::StateHead;
 use octets::numbers::num8;
 use octets::numbers::num16;
 use octets::numbers::num32;
@@ -40,6 +40,7 @@ pub fn action_at(e: &[u8], at: usize) -> ActionAt
             creator: num8(e, at),
             index: num16(e, at + ActionHead::INDEX),
             green_length: num32(e, at + ActionHead::GREEN_LENGTH),
+            white_length: num32(e, at + ActionHead::WHITE_LENGTH),
         },
         payload_at: at + ActionHead::SIZE,
         payload_length: num8(e, at + ActionHead::PAYLOAD) as usize,

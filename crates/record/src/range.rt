@@ -1,8 +1,9 @@
 // Which numbers, sets and lists are in range: document 01, 'Records', second paragraph.
 ghost use mathlib.Core.Path.{_≡_};
 ghost use Prim.Native.Nat.{_*_, _≤_};
-ghost use Rattle.format.specs.Limits.{mostServers};
-ghost use Rattle.format.specs.Range.{sizesOk, contextOk, idOk, lengthOk, indexOk, setOk, statusOk, primaryOk, markOk, ownSetOk, insideLast};
+ghost use Rattle.base.specs.Tests.{_≤?_};
+ghost use Rattle.format.specs.Limits.{mostServers, mostLength};
+ghost use Rattle.format.specs.Range.{sizesOk, contextOk, idOk, indexOk, setOk, statusOk, primaryOk, markOk, ownSetOk, insideLast};
 ghost use Rattle.record.specs.Context.{contextOf, lastOf, ContextIn};
 ghost use Rattle.record.specs.Limits.{theLimits};
 ghost use Rattle.record.specs.Values.{idOf, primaryOf, markOf};
@@ -21,6 +22,8 @@ pub struct Limits {
     pub most_quota: u16,
     pub most_payload: usize,
     pub most_index: u32,
+    pub most_number: u16,
+    pub most_length: u32,
 }
 
 impl Limits {
@@ -34,6 +37,8 @@ impl Limits {
             most_quota: State::MOST_QUOTA,
             most_payload: State::MOST_PAYLOAD,
             most_index: State::MOST_INDEX,
+            most_number: State::MOST_NUMBER,
+            most_length: State::MOST_LENGTH,
         }
     }
 }
@@ -63,17 +68,14 @@ pub fn context_ok(c: Context) -> bool
     c.me < c.servers
 }
 
-// "Indexes of actions run 1 to q"
+// K6: "indexes and cuts run to 65,535", the most that two bytes hold.
 pub fn id_ok(c: Context, creator: u8, index: u16) -> bool
     ensures { λ r. ⌜ r ≡ idOk (contextOf c) (idOf creator index) ⌝ }
 {
     if c.servers <= creator {
         return false;
     }
-    if index < 1 {
-        return false;
-    }
-    index <= c.quota
+    1 <= index
 }
 
 pub fn product(n: u32, m: u32) -> u32
@@ -83,12 +85,11 @@ pub fn product(n: u32, m: u32) -> u32
     n * m
 }
 
-// "positions and green lengths 0 to n × q"
-pub fn length_ok(c: Context, length: u32) -> bool
-    requires { ⌜ ContextIn c ⌝ }
-    ensures { λ r. ⌜ r ≡ lengthOk (contextOf c) length ⌝ }
+// K6: "positions and lengths to 524,280"
+pub fn length_ok(length: u32) -> bool
+    ensures { λ r. ⌜ r ≡ (length ≤? mostLength) ⌝ }
 {
-    length <= product(c.servers as u32, c.quota as u32)
+    length <= State::MOST_LENGTH
 }
 
 // "Primary and attempt indexes run 0 to 4,000,000,000."

@@ -1,36 +1,37 @@
 -- At every place of an allowed run, strays included: the depots' states are those of daemons without registers, each register's buffer reads as the
--- fold of the green list beside it, and the registers agree.
+-- fold of its server's whole green list, and the registers agree.
 use Prim.Native.Nat.{ℕ, zero, suc, _<_}
-use mathlib.Core.Path.{_≡_, refl, sym, ap, subst, subst₂, _∙_}
+use mathlib.Core.Path.{_≡_, refl, sym, ap, subst, _∙_}
 use mathlib.Core.Bool.{Bool, true, false}
 use mathlib.Core.List.{List, []}
 use mathlib.Core.Option.{Option, none, some}
+use native.Mathlib.Omega.{arith}
 use lib.ListN.{length, drop}
 use Rattle.base.specs.Tests.{pick}
+use Rattle.base.proofs.TestLaws.{not-both}
 use Rattle.base.specs.Lists.{at}
-use Rattle.replication.specs.Machine.Types.{Server, start}
-use Rattle.replication.specs.Images.{started, arrive}
-use Rattle.replication.specs.Runs.Run.{Entry, event, store, Run, World, beginning, worldAfter, worldAt}
+use Rattle.replication.specs.Machine.Types.{start}
+use Rattle.replication.specs.Images.{started, sourceOf, arrive}
+use Rattle.replication.specs.Runs.Run.{Entry, event, Run, World, beginning, worldAfter, worldAt}
 use Rattle.replication.specs.Runs.Strays.{AllowedWithStraysUp}
-use Rattle.replication.specs.Runs.Claim.{ListsAgree}
+use Rattle.replication.specs.Runs.Claim.{storedGreen, memoryGreen, greenAt}
 use Rattle.replication.proofs.Runs.Places.{world-at-start, world-next, world-past}
-use Rattle.image.specs.Decode.{decoded, greensIn}
-use Rattle.image.specs.Holding.{Holds}
-use Rattle.image.proofs.InPlace.{holds-decoded}
+use Rattle.image.specs.Decode.{greensIn}
+use Rattle.image.specs.Outcome.{imageAfter}
 use Rattle.daemons.specs.Buffers.{Buffers, sourceIn, stepIn}
 use Rattle.daemons.specs.Daemons.{Daemons, daemonsAfter, daemonsAt}
-use Rattle.daemons.specs.Claim.{shown, BuffersDemand}
+use Rattle.daemons.specs.Claim.{HistoryIn, shown, BuffersAgree, BuffersDemand}
 use Rattle.daemons.proofs.BufferLaws.{saved-state, saved-store}
 use Rattle.daemons.proofs.Entries.{Kept}
 use Rattle.daemons.proofs.Runs.{event-below, down-recovers, store-up, out-room, kept-at, event-keeps}
 use Rattle.daemons.proofs.Agreement.{buffers-demand}
 use Rattle.pegs.specs.Operations.{Peg}
 use Rattle.pegs.specs.Register.{advance}
-use Rattle.pegs.specs.Image.{registerBytes}
+use Rattle.pegs.specs.Image.{registerBytes, pegsIn}
 use Rattle.pegs.specs.Outcome.{emptyOn}
 use Rattle.register_runs.specs.Joint.{stepPart, payloads, jointOf}
 use Rattle.register_runs.specs.Depots.{begunAll, jointIn, Depots, Lent, LongEnoughAll, depotsAfter, depotsAt}
-use Rattle.register_runs.specs.Claim.{shownRegister, shownGreen, DepotsFollow, DepotsAgree}
+use Rattle.register_runs.specs.Claim.{shownRegister, shownGreen, FoldIn, DepotsFollow, DepotsAgree}
 use Rattle.register_runs.proofs.Agreement.{same-folds, further-fold}
 use Rattle.register_runs.proofs.Holding.{HoldsFold, fold-read, fold-used, fold-empty}
 use Rattle.register_runs.proofs.Joining.{FoldsWhere}
@@ -92,23 +93,36 @@ module _ {n q : ℕ} {l : Run} (S : AllowedWithStraysUp n q l) (x : Lent) (long 
   kept : (p i : ℕ) → i < n → Kept (length (x .states .first i .state)) (world p) (daemons p) i
   kept p i b = kept-at S (x .states) (long .states) p i b
 
-  -- The fold of the green list that the state's bytes say.
-  held-fold : (s : Server) (b c r : List ℕ) → c ≡ b → Holds s b → HoldsFold (s .log .green) r → HoldsFold (greensIn c) r
-  unfolding greensIn
-  held-fold s b c r e h f = subst (λ (t : Server). HoldsFold (t .log .green) r) (sym (holds-decoded s b h) ∙ ap decoded (sym e)) f
+  memory-fold : (p i : ℕ) → i < n → depots p .down i ≡ false → HoldsFold (memoryGreen n q l p i) (depots p .depot i .registers .state)
+  unfolding memoryGreen
+  memory-fold p i b d = let f = follows-at p i b in f .folds .memory (sym (kept p i b .down) ∙ sym (f .down) ∙ d)
 
-  memory-fold : (p i : ℕ) → i < n → depots p .down i ≡ false
-      → HoldsFold (greensIn (depots p .depot i .states .state)) (depots p .depot i .registers .state)
-  memory-fold p i b d =
-      let f = follows-at p i b in
-      let k = kept p i b in
-      let up : world p .down i ≡ false = sym (k .down) ∙ sym (f .down) ∙ d in
-      held-fold _ _ _ _ (ap (λ (y : Buffers). y .state) (f .states)) (k .keeps .memory up) (f .folds .memory up)
+  store-fold : (p i : ℕ) → i < n → HoldsFold (storedGreen n q l p i) (depots p .depot i .registers .store)
+  unfolding storedGreen
+  store-fold p i b = follows-at p i b .folds .store
 
-  store-fold : (p i : ℕ) → i < n → HoldsFold (greensIn (depots p .depot i .states .store)) (depots p .depot i .registers .store)
-  store-fold p i b =
+  -- ---- beside the states
+
+  agree : BuffersAgree n q l (x .states)
+  unfolding BuffersDemand
+  agree = buffers-demand n q l S (x .states) (long .states) .1
+
+  memory-in : (p i : ℕ) → i < n → depots p .down i ≡ false
+      → FoldIn (depots p .depot i .states .state) (depots p .depot i .registers .state) (memoryGreen n q l p i)
+  memory-in p i b d =
       let f = follows-at p i b in
-      held-fold _ _ _ _ (ap (λ (y : Buffers). y .store) (f .states)) (kept p i b .keeps .store) (f .folds .store)
+      record {
+        history =
+            subst (λ (y : Buffers). HistoryIn (y .state) (memoryGreen n q l p i)) (sym (f .states))
+            (agree .running-history p i b (sym (f .down) ∙ d));
+        register = fold-read _ _ (memory-fold p i b d);
+      }
+
+  store-in : (p i : ℕ) → i < n → FoldIn (depots p .depot i .states .store) (depots p .depot i .registers .store) (storedGreen n q l p i)
+  store-in p i b = record {
+    history = subst (λ (y : Buffers). HistoryIn (y .store) (storedGreen n q l p i)) (sym (follows-at p i b .states)) (agree .stored-history p i b);
+    register = fold-read _ _ (store-fold p i b);
+  }
 
   -- ---- what is answered
 
@@ -123,48 +137,48 @@ module _ {n q : ℕ} {l : Run} (S : AllowedWithStraysUp n q l) (x : Lent) (long 
     answer-is = event-part _ _ _ _ _ _ here e (x .states .out p) (its .recovers e k refl) (its .keeps e k refl) (its .room)
 
     outcome-is : jointIn (depots p .depot i) e (x .states .out p)
-        ≡ jointOf (arrive (world p .images i) e) (sourceIn (depots p .depot i .states) e) (sourceIn (depots p .depot i .registers) e) (x .states .out p)
+        ≡ jointOf (imageAfter (sourceOf (world p .images i) e) e) (arrive (world p .images i) e) (sourceIn (depots p .depot i .states) e) (sourceIn (depots p .depot i .registers) e) (x .states .out p)
     outcome-is = event-outcome _ _ _ _ _ _ here e (x .states .out p) (its .recovers e k refl) (its .keeps e k refl) (its .room)
 
   pub depots-follow : DepotsFollow n q l x
   depots-follow = record {
     states = λ p i b. follows-at p i b .states;
     down = λ p i b. follows-at p i b .down;
-    memory = λ p i b d. fold-read _ _ (memory-fold p i b d);
-    store = λ p i b. fold-read _ _ (store-fold p i b);
+    memory = memory-in;
+    store = store-in;
     answer = answer-is;
     outcome = outcome-is;
   }
 
   -- ---- agreement
 
-  shown-fold : (p i : ℕ) → i < n → HoldsFold (shownGreen (depots p) i) (shownRegister (depots p) i)
-  unfolding shownGreen shownRegister pick
-  shown-fold p i b = go (depots p .down i) refl
+  shown-fold : (p i : ℕ) → i < n → HoldsFold (greenAt n q l p i) (shownRegister (depots p) i)
+  unfolding greenAt shownRegister pick
+  shown-fold p i b = go (world p .down i) (depots p .down i) refl (follows-at p i b .down ∙ kept p i b .down)
     where
-      go : (v : Bool) → depots p .down i ≡ v
-          → HoldsFold (greensIn (pick v (depots p .depot i .states .store) (depots p .depot i .states .state)))
-          (pick v (depots p .depot i .registers .store) (depots p .depot i .registers .state))
-      go true d = store-fold p i b
-      go false d = memory-fold p i b d
+      go : (u v : Bool) → depots p .down i ≡ v → v ≡ u
+          → HoldsFold (pick u (storedGreen n q l p i) (memoryGreen n q l p i)) (pick v (depots p .depot i .registers .store) (depots p .depot i .registers .state))
+      go true true d h = store-fold p i b
+      go false false d h = memory-fold p i b d
+      go true false d h = not-both h
+      go false true d h = not-both (sym h)
 
-  shown-green : (p i : ℕ) → i < n → greensIn (shown (daemons p) i) ≡ shownGreen (depots p) i
+  -- The green length that the bytes say.
+  shown-length : (p i : ℕ) → i < n → length (shownGreen (depots p) i) ≡ length (greenAt n q l p i)
   unfolding shownGreen shown
-  shown-green p i b =
+  shown-length p i b =
       let f = follows-at p i b in
-      sym (λ j. greensIn (pick (f .down j) (f .states j .store) (f .states j .state)))
-
-  lists : (p i j : ℕ) → i < n → j < n → ListsAgree (shownGreen (depots p) i) (shownGreen (depots p) j)
-  unfolding BuffersDemand
-  lists p i j h k =
-      subst₂ (λ u v. ListsAgree u v) (shown-green p i h) (shown-green p j k)
-      (buffers-demand n q l S (x .states) (long .states) .1 .green p i j h k)
+      (λ j. length (greensIn (pick (f .down j) (f .states j .store) (f .states j .state)))) ∙ sym (agree .history p i b .size)
 
   pub depots-agree : DepotsAgree n q l x
   depots-agree = record {
     equal = λ p i j h k e.
-        fold-used _ _ (shown-fold p i h) ∙ ap registerBytes (same-folds _ _ (lists p i j h k) e) ∙ sym (fold-used _ _ (shown-fold p j k));
+        fold-used _ _ (shown-fold p i h)
+        ∙ ap registerBytes (same-folds _ _ (agree .green p i j h k) (sym (shown-length p i h) ∙ e ∙ shown-length p j k))
+        ∙ sym (fold-used _ _ (shown-fold p j k));
     further = λ p i j h k e.
-        shown-fold p j k .pegs ∙ further-fold _ _ (lists p i j h k) e
-        ∙ ap (λ (r : List Peg). advance r (payloads (drop (length (shownGreen (depots p) i)) (shownGreen (depots p) j)))) (sym (shown-fold p i h .pegs));
+        shown-fold p j k .pegs
+        ∙ further-fold _ _ (agree .green p i j h k) (omega (arith, e, shown-length p i h, shown-length p j k))
+        ∙ ap (λ (r : List Peg). advance r (payloads (drop (length (greenAt n q l p i)) (greenAt n q l p j)))) (sym (shown-fold p i h .pegs))
+        ∙ ap (λ (m : ℕ). advance (pegsIn (shownRegister (depots p) i)) (payloads (drop m (greenAt n q l p j)))) (sym (shown-length p i h));
   }

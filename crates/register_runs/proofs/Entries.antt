@@ -9,9 +9,10 @@ use lib.ListN.{length}
 use Rattle.base.specs.Tests.{_=?_, pick}
 use Rattle.base.proofs.TestLaws.{not-both}
 use Rattle.base.proofs.AtLaws.{upd-here, upd-elsewhere}
-use Rattle.replication.specs.Images.{Images, arrive, leftBy, savedIn}
+use Rattle.replication.specs.Images.{Images, sourceOf, arrive, leftBy, savedIn}
 use Rattle.replication.specs.Runs.Run.{Entry, event, crash, store, World, downAfter, worldAfter}
 use Rattle.image.specs.Layout.{outLength}
+use Rattle.image.specs.Outcome.{imageAfter}
 use Rattle.daemons.specs.Buffers.{Buffers, isRecovery, sourceIn, stepIn, keptAfter, saved}
 use Rattle.daemons.specs.Daemons.{Daemons, daemonsAfter}
 use Rattle.daemons.proofs.BufferLaws.{event-buffers, event-down, crash-buffers, crash-down, store-buffers}
@@ -58,7 +59,7 @@ module _ (u : Bool) (i : Images) (v : Bool) (b : Buffers) (w : Bool) (d : Depot)
       pub event-part : stepPart (jointIn d e o) ≡ stepIn b e o
       event-part = joint-part i d e o k g room ∙ ap (λ (x : Buffers). stepIn x e o) (f .states)
 
-      pub event-outcome : jointIn d e o ≡ jointOf (arrive i e) (sourceIn (d .states) e) (sourceIn (d .registers) e) o
+      pub event-outcome : jointIn d e o ≡ jointOf (imageAfter (sourceOf i e) e) (arrive i e) (sourceIn (d .states) e) (sourceIn (d .registers) e) o
       event-outcome = joint-is i d e o k g room
 
       event-follows : FollowsAs (downAfter (arrive i e) u) (leftBy (arrive i e) i) (pick (stepIn b e o .number =? 0) false v)

@@ -1,7 +1,7 @@
 -- One event over a server's state and register: the state's buffers are the step's, and the register's buffers hold the folds of what the event leaves.
 use Prim.Native.Nat.{ℕ, _≤_}
 use mathlib.Core.Path.{_≡_, refl, sym, ap, subst, _∙_}
-use mathlib.Core.Bool.{Bool, false}
+use mathlib.Core.Bool.{Bool, true, false}
 use mathlib.Core.List.{List}
 use lib.ListN.{length}
 use Rattle.base.specs.Tests.{pick}
@@ -9,21 +9,22 @@ use Rattle.base.proofs.TestLaws.{not-both, Known, holds, fails, known}
 use Rattle.format.specs.Types.{Action}
 use Rattle.replication.specs.Machine.Types.{Server, Outcome, refused, taken, contextOf}
 use Rattle.replication.specs.Machine.Step.{step}
+use Rattle.replication.specs.Machine.WellFormed.{wellFormed}
 use Rattle.replication.specs.Images.{Images, sourceOf, arrive, leftBy}
 use Rattle.replication.proofs.Runs.Refusals.{picked-true, picked-false}
 use Rattle.image.specs.Layout.{outLength}
-use Rattle.image.specs.Outcome.{word, stateNumber}
-use Rattle.image.specs.Holding.{Holds}
+use Rattle.image.specs.Outcome.{word, stateNumber, imageAfter}
+use Rattle.image.specs.Holding.{Holds, blanked}
 use Rattle.image.proofs.InPlace.{holds-decoded}
 use Rattle.image.proofs.Refusals.{number-read, whole-read, holds-whole}
 use Rattle.daemons.specs.Buffers.{Buffers, isRecovery, sourceIn, stepIn, keptAfter}
 use Rattle.daemons.proofs.RecoveryLaws.{recovery-read}
 use Rattle.daemons.proofs.BufferLaws.{source-stored, source-running}
 use Rattle.daemons.proofs.Keeping.{KeepsWhere, formed-context, holds-long}
-use Rattle.daemons.proofs.Arriving.{source-holds, refused-running, room-here}
+use Rattle.daemons.proofs.Arriving.{source-holds, source-formed, refused-running, room-here}
 use Rattle.register_runs.specs.Joint.{Joint, stepPart, unjoined, jointOf}
 use Rattle.register_runs.specs.Depots.{Depot, jointIn, depotAfter}
-use Rattle.register_runs.proofs.JointLaws.{zero-joint, joint-step, joint-read}
+use Rattle.register_runs.proofs.JointLaws.{zero-joint, joint-step, joint-read, joint-alike}
 use Rattle.register_runs.proofs.DepotLaws.{joint-source, left-states, left-register, left-word}
 use Rattle.register_runs.proofs.Holding.{HoldsFold, holds-taken}
 
@@ -60,12 +61,17 @@ module _ (i : Images) (d : Depot) (e o : List ℕ) (k : KeepsWhere (isRecovery e
             subst (λ (t : Server). HoldsFold (t .log .green) register) (sym (picked-false (isRecovery e) (i .store) (i .memory) h))
             (subst (HoldsFold (i .memory .log .green)) (source-running (d .registers) e h) (f .memory h))
 
-    held : Holds s before
+    held : Holds (blanked s) before
     held = source-holds i (d .states) e k
 
+    formed : wellFormed s ≡ true
+    formed = source-formed i (d .states) e k
+
     state-zero : stateNumber before o ≡ 0
+    unfolding blanked
     state-zero =
-        number-read before o (holds-long s before held o (room-here i (d .states) e k o room)) (whole-read before (holds-whole s before held) .1)
+        number-read before o (holds-long (blanked s) before held o (room-here i (d .states) e k o room))
+        (whole-read before (holds-whole (blanked s) before held) .1)
 
     -- ---- the answer
 
@@ -73,12 +79,13 @@ module _ (i : Images) (d : Depot) (e o : List ℕ) (k : KeepsWhere (isRecovery e
     unfolding stepIn
     joint-part = ap (λ (x : Joint). stepPart x) (sym (joint-source d e o)) ∙ joint-step before register e o (source-folds .number)
 
-    pub joint-is : jointIn d e o ≡ jointOf (arrive i e) before register o
+    pub joint-is : jointIn d e o ≡ jointOf (imageAfter s e) (arrive i e) before register o
     unfolding arrive
     joint-is =
         sym (joint-source d e o)
         ∙ joint-read before register e o (zero-joint before register o state-zero (source-folds .number))
-        ∙ ap (λ (t : Server). jointOf (step t e) before register o) (holds-decoded s before held)
+        ∙ ap (λ (t : Server). jointOf (imageAfter t e) (step t e) before register o) (holds-decoded (blanked s) before held)
+        ∙ joint-alike s formed e before register o
 
     -- ---- what it leaves
 
@@ -86,7 +93,7 @@ module _ (i : Images) (d : Depot) (e o : List ℕ) (k : KeepsWhere (isRecovery e
     states-after = left-states d (jointIn d e o) ∙ ap (keptAfter (d .states)) joint-part
 
     taken-folds : (t : Server) (rs : List (List ℕ)) (w : Bool) (g : List Action) → step s e ≡ taken t rs w g
-        → FoldsWhere (Unit {0}) (leftBy (taken t rs w g) i) (depotAfter d (jointOf (taken t rs w g) before register o) .registers)
+        → FoldsWhere (Unit {0}) (leftBy (taken t rs w g) i) (depotAfter d (jointOf (imageAfter s e) (taken t rs w g) before register o) .registers)
     unfolding leftBy jointOf
     taken-folds t rs w g h = record {
       memory = λ u. subst (HoldsFold (t .log .green)) (left-register d x) new;
@@ -97,13 +104,13 @@ module _ (i : Images) (d : Depot) (e o : List ℕ) (k : KeepsWhere (isRecovery e
     }
       where
         x : Joint
-        x = jointOf (taken t rs w g) before register o
+        x = jointOf (imageAfter s e) (taken t rs w g) before register o
 
         new : HoldsFold (t .log .green) (x .register)
-        new = holds-taken s e t rs w g h (held .formed) register source-folds
+        new = holds-taken s e t rs w g h formed register source-folds
 
     refused-folds : (m : ℕ) → step s e ≡ refused m
-        → FoldsWhere (Unit {0}) (leftBy (refused m) i) (depotAfter d (jointOf (refused m) before register o) .registers)
+        → FoldsWhere (Unit {0}) (leftBy (refused m) i) (depotAfter d (jointOf (imageAfter s e) (refused m) before register o) .registers)
     unfolding leftBy jointOf unjoined word
     refused-folds m h = record {
       memory = λ u. subst (HoldsFold (i .memory .log .green)) (source-running (d .registers) e running ∙ left-register d x) (f .memory running);
@@ -111,7 +118,7 @@ module _ (i : Images) (d : Depot) (e o : List ℕ) (k : KeepsWhere (isRecovery e
     }
       where
         x : Joint
-        x = jointOf (refused m) before register o
+        x = jointOf (imageAfter s e) (refused m) before register o
 
         running : isRecovery e ≡ false
         running = refused-running i (d .states) e k m h
@@ -121,6 +128,6 @@ module _ (i : Images) (d : Depot) (e o : List ℕ) (k : KeepsWhere (isRecovery e
     registers-after =
         subst (λ (x : Joint). FoldsWhere (Unit {0}) (leftBy (step s e) i) (depotAfter d x .registers)) (sym joint-is) (go (step s e) refl)
       where
-        go : (x : Outcome (List ℕ)) → step s e ≡ x → FoldsWhere (Unit {0}) (leftBy x i) (depotAfter d (jointOf x before register o) .registers)
+        go : (x : Outcome (List ℕ)) → step s e ≡ x → FoldsWhere (Unit {0}) (leftBy x i) (depotAfter d (jointOf (imageAfter s e) x before register o) .registers)
         go (refused m) h = refused-folds m h
         go (taken t rs w g) h = taken-folds t rs w g h

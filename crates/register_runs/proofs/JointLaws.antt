@@ -6,11 +6,14 @@ use mathlib.Core.List.{List}
 use native.Mathlib.Omega.{arith}
 use Rattle.base.specs.Tests.{_or_, _and_, _=?_, pick}
 use Rattle.base.proofs.TestLaws.{pick-eq, choices}
-use Rattle.replication.specs.Machine.Types.{Outcome, refused, taken}
+use Rattle.replication.specs.Machine.Types.{Server, Outcome, refused, taken}
 use Rattle.replication.specs.Machine.Step.{step}
+use Rattle.replication.specs.Machine.WellFormed.{wellFormed}
 use Rattle.image.specs.Decode.{decoded, reads}
-use Rattle.image.specs.Outcome.{refusal, tooShort, resultOf, stepOn, stateNumber}
+use Rattle.image.specs.Outcome.{refusal, tooShort, imageAfter, resultOf, stepOn, stateNumber}
+use Rattle.image.specs.Holding.{blanked}
 use Rattle.image.proofs.Refusals.{step-by-number}
+use Rattle.daemons.proofs.Blanked.{refused-alike, taken-alike}
 use Rattle.pegs.specs.Image.{registerReads}
 use Rattle.pegs.specs.Outcome.{registerShort, registerNumber}
 use Rattle.register_runs.specs.Joint.{stepPart, unjoined, jointOf, jointNumber, jointOn}
@@ -51,27 +54,40 @@ module _ (b r o : List ℕ) where
 
 -- ---- the answer
 
-part-of : (x : Outcome (List ℕ)) (b r o : List ℕ) → stepPart (jointOf x b r o) ≡ resultOf x b o
+part-of : (f : Server → List ℕ → List ℕ) (x : Outcome (List ℕ)) (b r o : List ℕ) → stepPart (jointOf f x b r o) ≡ resultOf f x b o
 unfolding jointOf resultOf unjoined refusal
-part-of (refused k) b r o = search choices
-part-of (taken t rs w g) b r o = search choices
+part-of f (refused k) b r o = search choices
+part-of f (taken t rs w g) b r o = search choices
 
-part-picked : (c : Bool) (k : ℕ) (x : Outcome (List ℕ)) (b r o : List ℕ)
-    → stepPart (pick c (jointOf x b r o) (unjoined k b r o)) ≡ pick c (resultOf x b o) (refusal k b o)
+part-picked : (c : Bool) (k : ℕ) (f : Server → List ℕ → List ℕ) (x : Outcome (List ℕ)) (b r o : List ℕ)
+    → stepPart (pick c (jointOf f x b r o) (unjoined k b r o)) ≡ pick c (resultOf f x b o) (refusal k b o)
 unfolding pick unjoined refusal
-part-picked true k x b r o = part-of x b r o
-part-picked false k x b r o = refl
+part-picked true k f x b r o = part-of f x b r o
+part-picked false k f x b r o = refl
 
 module _ (b r e o : List ℕ) where
   -- Number, store word, bytes of records and both of the step's buffers are the step's.
   pub joint-step : registerNumber r ≡ 0 → stepPart (jointOn b r e o) ≡ stepOn b e o
   unfolding jointOn
   joint-step z =
-      part-picked (jointNumber b r o =? 0) (jointNumber b r o) (step (decoded b) e) b r o
-      ∙ ap (λ (k : ℕ). pick (k =? 0) (resultOf (step (decoded b) e) b o) (refusal k b o)) (joint-number b r o z)
+      part-picked (jointNumber b r o =? 0) (jointNumber b r o) (imageAfter (decoded b) e) (step (decoded b) e) b r o
+      ∙ ap (λ (k : ℕ). pick (k =? 0) (resultOf (imageAfter (decoded b) e) (step (decoded b) e) b o) (refusal k b o)) (joint-number b r o z)
       ∙ sym (step-by-number b e o)
 
   -- The machine's step of the state that the buffers hold.
-  pub joint-read : jointNumber b r o ≡ 0 → jointOn b r e o ≡ jointOf (step (decoded b) e) b r o
+  pub joint-read : jointNumber b r o ≡ 0 → jointOn b r e o ≡ jointOf (imageAfter (decoded b) e) (step (decoded b) e) b r o
   unfolding jointOn
-  joint-read z = sym (pick-eq (jointNumber b r o) 0 (jointOf (step (decoded b) e) b r o) _ _ z refl)
+  joint-read z = sym (pick-eq (jointNumber b r o) 0 (jointOf (imageAfter (decoded b) e) (step (decoded b) e) b r o) _ _ z refl)
+
+-- The answer from a server's state is that from the state in its buffer, whose white actions are blank.
+pub joint-alike : (s : Server) → wellFormed s ≡ true → (e b r o : List ℕ)
+    → jointOf (imageAfter (blanked s) e) (step (blanked s) e) b r o ≡ jointOf (imageAfter s e) (step s e) b r o
+unfolding jointOf
+joint-alike s ok e b r o = go (step s e) refl
+  where
+    go : (x : Outcome (List ℕ)) → step s e ≡ x → jointOf (imageAfter (blanked s) e) (step (blanked s) e) b r o ≡ jointOf (imageAfter s e) x b r o
+    go (refused k) h = ap (λ (y : Outcome (List ℕ)). jointOf (imageAfter (blanked s) e) y b r o) (refused-alike s ok e k h)
+    go (taken t rs w g) h =
+        let a = taken-alike s ok e t rs w g h in
+        ap (λ (y : Outcome (List ℕ)). jointOf (imageAfter (blanked s) e) y b r o) (a .answer)
+        ∙ ap (λ (c : List ℕ). jointOf (λ u d. c) (taken t rs w g) b r o) (a .images b)

@@ -1,4 +1,5 @@
--- Registers over runs: each is the fold of its server's green list, and over allowed runs they agree as the green lists do.
+-- Registers over runs: each is the fold of its server's green list, white part included, and over allowed runs they agree as the green lists do.
+-- Document 02, K6: "the register, stored whenever the state is, keeps what white entries did."
 use Prim.Native.Nat.{ℕ, _≤_, _<_}
 use mathlib.Core.Path.{_≡_}
 use mathlib.Core.Bool.{false}
@@ -8,13 +9,15 @@ use lib.ListN.{length, drop}
 use Rattle.base.specs.Tests.{pick}
 use Rattle.base.specs.Lists.{at}
 use Rattle.format.specs.Types.{Action}
-use Rattle.replication.specs.Images.{arrive}
+use Rattle.replication.specs.Images.{sourceOf, arrive}
 use Rattle.replication.specs.Runs.Run.{event, Run, worldAt}
 use Rattle.replication.specs.Runs.Strays.{AllowedWithStrays, AllowedWithStraysUp}
 use Rattle.replication.specs.Runs.Claim.{storedGreen, memoryGreen, greenAt}
 use Rattle.image.specs.Decode.{greensIn}
+use Rattle.image.specs.Outcome.{imageAfter}
 use Rattle.daemons.specs.Buffers.{sourceIn, stepIn}
 use Rattle.daemons.specs.Daemons.{daemonsAt}
+use Rattle.daemons.specs.Claim.{HistoryIn}
 use Rattle.pegs.specs.Operations.{Peg}
 use Rattle.pegs.specs.Register.{advance, registerOf}
 use Rattle.pegs.specs.Image.{pegsIn, readRegister, usedIn}
@@ -49,19 +52,24 @@ shownRegister d i = pick (d .down i) (d .depot i .registers .store) (d .depot i 
 unfoldable pub shownGreen : Depots → ℕ → List Action
 shownGreen d i = greensIn (pick (d .down i) (d .depot i .states .store) (d .depot i .states .state))
 
+-- The register's buffer r reads as the fold of the whole history g, white part included, of the state in the buffer b beside it.
+pub record FoldIn (b r : List ℕ) (g : List Action) : Type 0 where
+  pub history : HistoryIn b g
+  pub register : readRegister r ≡ some (registerOf (payloads g))
+
 module _ (n q : ℕ) (l : Run) (x : Lent) where
   abbrev depots : ℕ → Depots
   depots p = depotsAt n q l x p
 
   -- The states' buffers are those of daemons without registers, so all that is proved of these holds of them. Each register's buffer reads as the
-  -- fold of the green list in the state's buffer beside it.
+  -- fold of the whole history of the state's buffer beside it, which is the machine's by the run alone.
   pub record DepotsFollow : Type 0 where
     pub states : (p i : ℕ) → i < n → depots p .depot i .states ≡ daemonsAt n q l (x .states) p .buffers i
     pub down : (p i : ℕ) → i < n → depots p .down i ≡ daemonsAt n q l (x .states) p .down i
     pub memory : (p i : ℕ) → i < n → depots p .down i ≡ false
-        → readRegister (depots p .depot i .registers .state) ≡ some (registerOf (payloads (greensIn (depots p .depot i .states .state))))
+        → FoldIn (depots p .depot i .states .state) (depots p .depot i .registers .state) (memoryGreen n q l p i)
     pub store : (p i : ℕ) → i < n
-        → readRegister (depots p .depot i .registers .store) ≡ some (registerOf (payloads (greensIn (depots p .depot i .states .store))))
+        → FoldIn (depots p .depot i .states .store) (depots p .depot i .registers .store) (storedGreen n q l p i)
     -- Number, store word, length of records, state and outgoing buffer are the step's on the states' buffers: so what `BuffersFollow` says of
     -- answers, bytes, records and what is sent holds of the joint step ..
     pub answer : (p i k : ℕ) (e : List ℕ) → at l p ≡ some (event i e k)
@@ -69,8 +77,8 @@ module _ (n q : ℕ) (l : Run) (x : Lent) where
     -- .. and all of its answer is made of the machine's: the actions that it counts and applies are those that turned green.
     pub outcome : (p i k : ℕ) (e : List ℕ) → at l p ≡ some (event i e k)
         → jointIn (depots p .depot i) e (x .states .out p)
-        ≡ jointOf (arrive (worldAt n q l p .images i) e) (sourceIn (depots p .depot i .states) e) (sourceIn (depots p .depot i .registers) e)
-        (x .states .out p)
+        ≡ jointOf (imageAfter (sourceOf (worldAt n q l p .images i) e) e) (arrive (worldAt n q l p .images i) e)
+        (sourceIn (depots p .depot i .states) e) (sourceIn (depots p .depot i .registers) e) (x .states .out p)
 
   pub record DepotsAgree : Type 0 where
     -- "equal registers, byte for byte in use"
@@ -78,7 +86,7 @@ module _ (n q : ℕ) (l : Run) (x : Lent) where
         → usedIn (shownRegister (depots p) i) ≡ usedIn (shownRegister (depots p) j)
     pub further : (p i j : ℕ) → i < n → j < n → length (shownGreen (depots p) i) ≤ length (shownGreen (depots p) j)
         → pegsIn (shownRegister (depots p) j)
-        ≡ advance (pegsIn (shownRegister (depots p) i)) (payloads (drop (length (shownGreen (depots p) i)) (shownGreen (depots p) j)))
+        ≡ advance (pegsIn (shownRegister (depots p) i)) (payloads (drop (length (shownGreen (depots p) i)) (greenAt n q l p j)))
 
 pub record RegistersClaim : Type 0 where
   pub folds : (n q : ℕ) (l : Run) → RegistersFold n q l

@@ -1,5 +1,5 @@
 -- One event over a server's state and its register together, the joint step: the machine's step, then every action that it turned green applied to
--- the register in order. Document 02, K2.
+-- the register in order, be it white by then. Document 02, K2 and K6.
 use Prim.Native.Nat.{ℕ}
 use mathlib.Core.List.{List, map}
 use lib.ListN.{length}
@@ -7,11 +7,10 @@ use Rattle.base.specs.Tests.{_or_, _and_, _=?_, pick}
 use Rattle.base.specs.Bytes.{joined, over}
 use Rattle.base.specs.Refusals.{shortBuffer, badState}
 use Rattle.format.specs.Types.{Action}
-use Rattle.replication.specs.Machine.Types.{Outcome, refused, taken}
+use Rattle.replication.specs.Machine.Types.{Server, Outcome, refused, taken}
 use Rattle.replication.specs.Machine.Step.{step}
-use Rattle.image.specs.Image.{image}
 use Rattle.image.specs.Decode.{decoded, reads}
-use Rattle.image.specs.Outcome.{Result, word, tooShort}
+use Rattle.image.specs.Outcome.{Result, word, tooShort, imageAfter}
 use Rattle.pegs.specs.Register.{refusals}
 use Rattle.pegs.specs.Image.{pegsIn, registerReads}
 use Rattle.pegs.specs.Outcome.{registerShort, appliedAll}
@@ -43,16 +42,16 @@ payloads l = map (λ a. a .payload) l
 unfoldable pub carried : List Action → List ℕ → List ℕ
 carried g r = appliedAll (payloads g) r
 
--- The actions are those that the outcome names as newly green.
-unfoldable pub jointOf : Outcome (List ℕ) → (state register out : List ℕ) → Joint
-jointOf (refused k) b r o = unjoined k b r o
-jointOf (taken t rs w g) b r o = record {
+-- The actions are those that the outcome names as newly green; f is what the step leaves in the state's buffer.
+unfoldable pub jointOf : (Server → List ℕ → List ℕ) → Outcome (List ℕ) → (state register out : List ℕ) → Joint
+jointOf f (refused k) b r o = unjoined k b r o
+jointOf f (taken t rs w g) b r o = record {
   number = 0;
   store = word w;
   sent = length (joined rs);
   greened = length g;
   refused = refusals (pegsIn r) (payloads g);
-  state = image t b;
+  state = f t b;
   register = carried g r;
   out = over (joined rs) o;
 }
@@ -62,4 +61,5 @@ unfoldable pub jointNumber : (state register out : List ℕ) → ℕ
 jointNumber b r o = pick (tooShort b o or registerShort r) shortBuffer (pick (reads b and registerReads r) 0 badState)
 
 unfoldable pub jointOn : (state register event out : List ℕ) → Joint
-jointOn b r e o = pick (jointNumber b r o =? 0) (jointOf (step (decoded b) e) b r o) (unjoined (jointNumber b r o) b r o)
+jointOn b r e o =
+    pick (jointNumber b r o =? 0) (jointOf (imageAfter (decoded b) e) (step (decoded b) e) b r o) (unjoined (jointNumber b r o) b r o)

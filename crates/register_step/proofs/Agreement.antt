@@ -8,7 +8,7 @@ use lib.ListN.{length, take, drop}
 use Rattle.base.specs.Lists.{at}
 use Rattle.replication.specs.Runs.Run.{event, Run, putOut, sentAt}
 use Rattle.replication.specs.Runs.Strays.{AllowedWithStraysUp}
-use Rattle.image.specs.Decode.{greensIn}
+use Rattle.replication.specs.Runs.Claim.{storedGreen, memoryGreen, greenAt}
 use Rattle.daemons.specs.Buffers.{stepIn}
 use Rattle.daemons.specs.Sending.{cutRecords}
 use Rattle.daemons.specs.Daemons.{daemonsAt}
@@ -16,11 +16,11 @@ use Rattle.daemons.specs.Claim.{BuffersFollow, BuffersDemand}
 use Rattle.daemons.proofs.SendingLaws.{cut-short}
 use Rattle.daemons.proofs.Agreement.{buffers-demand}
 use Rattle.burst.specs.Calls.{Call, together, before, last, refused, keptAt, placeOf, ranBy}
-use Rattle.pegs.specs.Register.{advance, registerOf}
-use Rattle.pegs.specs.Image.{pegsIn, readRegister, usedIn}
+use Rattle.pegs.specs.Register.{advance}
+use Rattle.pegs.specs.Image.{pegsIn, usedIn}
 use Rattle.register_runs.specs.Joint.{Joint, stepPart, unjoined, payloads}
 use Rattle.register_runs.specs.Depots.{jointIn, Depots, Lent, LongEnoughAll}
-use Rattle.register_runs.specs.Claim.{shownRegister, shownGreen, DepotsFollow, DepotsAgree}
+use Rattle.register_runs.specs.Claim.{shownRegister, shownGreen, FoldIn, DepotsFollow, DepotsAgree}
 use Rattle.register_runs.proofs.Depots.{depots-follow, depots-agree}
 use Rattle.register_step.specs.Burst.{JointBurst}
 use Rattle.register_step.specs.Depots.{burstIn, cameIn, LongEnoughForAll, system, byPlaces, stepwise}
@@ -101,12 +101,10 @@ module _ (n q : ℕ) (cs : List Call) (x : Lent) (S : AllowedWithStraysUp n q (r
     states = λ j i b. ap (λ (d : Depots). d .depot i .states) (same j) ∙ follow .states (place j) i b;
     down = λ j i b. ap (λ (d : Depots). d .down i) (same j) ∙ follow .down (place j) i b;
     memory = λ j i b u.
-        coe 1 0
-        (t. readRegister (same j t .depot i .registers .state) ≡ some (registerOf (payloads (greensIn (same j t .depot i .states .state)))))
+        coe 1 0 (t. FoldIn (same j t .depot i .states .state) (same j t .depot i .registers .state) (memoryGreen n q run (place j) i))
         (follow .memory (place j) i b (ap (λ (d : Depots). d .down i) (sym (same j)) ∙ u));
     store = λ j i b.
-        coe 1 0
-        (t. readRegister (same j t .depot i .registers .store) ≡ some (registerOf (payloads (greensIn (same j t .depot i .states .store)))))
+        coe 1 0 (t. FoldIn (same j t .depot i .states .store) (same j t .depot i .registers .store) (storedGreen n q run (place j) i))
         (follow .store (place j) i b);
     equal = λ j i k a b.
         coe 1 0
@@ -115,7 +113,7 @@ module _ (n q : ℕ) (cs : List Call) (x : Lent) (S : AllowedWithStraysUp n q (r
     further = λ j i k a b.
         coe 1 0
         (t. length (shownGreen (same j t) i) ≤ length (shownGreen (same j t) k) → pegsIn (shownRegister (same j t) k)
-        ≡ advance (pegsIn (shownRegister (same j t) i)) (payloads (drop (length (shownGreen (same j t) i)) (shownGreen (same j t) k))))
+        ≡ advance (pegsIn (shownRegister (same j t) i)) (payloads (drop (length (shownGreen (same j t) i)) (greenAt n q run (place j) k))))
         (agree .further (place j) i k a b);
     sent = λ j i k m e y h is l.
         let v = calls-follow n q cs x .taken j i k m e y h is (omega arith) in sent-last j i k m e (v .0) y h is (v .1) l;

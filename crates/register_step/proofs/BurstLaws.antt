@@ -155,7 +155,7 @@ module _ (f : Bool) (b r e o : List ℕ) where
 
 -- ---- a burst of one event, and the rest behind it
 
--- The burst y from the state b, over e: buffers whose number is 0, a green list that is longer by what y says, and no more than there is.
+-- The burst y from the state b, over e: buffers whose number is 0, a green history that is longer by what y says, and no more than there is.
 pub record GoesOn (b e : List ℕ) (y : JointBurst) : Type 0 where
   pub ready : jointNumber (y .state) (y .register) (y .out) ≡ 0
   pub grown : length (greensIn (y .state)) ≡ length (greensIn b) + y .greened

@@ -10,12 +10,12 @@ use Rattle.base.specs.Bytes.{Bytes, numberAt, partAt}
 use Rattle.base.specs.Tests.{_=?_, pick}
 use Rattle.base.proofs.BytesLaws.{bytes-part}
 use Rattle.base.proofs.TestLaws.{pick-eq, pick-ne}
-use Rattle.format.specs.Limits.{mostPayload}
+use Rattle.format.specs.Limits.{mostPayload, mostLength}
 use Rattle.format.specs.Places.{actionPayloadAt, actionHeadSize}
 use Rattle.format.specs.Types.{Action}
 use Rattle.format.specs.Read.{payloadAt, actionAt}
 use Rattle.image.specs.Layout.{slotSize, theQueue}
-use Rattle.image.specs.Decode.{greensIn}
+use Rattle.image.specs.Decode.{greensIn, whiteIn}
 use Rattle.image.specs.Counts.{queueCount, greenCount, place}
 use Rattle.queue.specs.Queue.{slotPlace, greenSlot, QueueIn}
 use Rattle.queue.proofs.GreenHistory.{greensIn-count, green-low, greensIn-next}
@@ -25,7 +25,7 @@ use Rattle.pegs.specs.Image.{pegsIn}
 use Rattle.pegs.specs.Outcome.{Changed, registerNumber, changed, applied, appliedAll}
 use Rattle.pegs.proofs.Advance.{advance-append, refusals-append, applied-number, applied-zero, applied-pegs, applied-all-next}
 use Rattle.register_runs.specs.Joint.{payloads, carried}
-use Rattle.register_step.specs.Carrying.{CarryReady, carryOn, carriedBy, AppliedOne}
+use Rattle.register_step.specs.Carrying.{CarryReady, CarriesOn, carryOn, carriedBy, AppliedOne}
 
 -- ---- one action
 
@@ -74,7 +74,8 @@ module _ (b r : List ℕ) (p m k : ℕ) (r₁ : List ℕ) (is-m : m ≡ numberAt
 -- Those applied so far: k is the place behind them.
 pub record Along (b r₀ : List ℕ) (from : ℕ) (r : List ℕ) (k refused : ℕ) : Type 0 where
   pub size : length r ≡ length r₀
-  pub high : k ≤ greenCount b
+  pub low : whiteIn b ≤ k
+  pub high : k ≤ whiteIn b + greenCount b
   pub put : List Action
   pub count : from + length put ≡ k
   pub number : registerNumber r ≡ 0
@@ -88,6 +89,7 @@ pub along-starts : (b r : List ℕ) (from : ℕ) → CarryReady b from r → Alo
 unfolding payloads carried appliedAll refusals advance
 along-starts b r from h = record {
   size = refl;
+  low = h .low;
   high = h .inside;
   put = [];
   count = omega arith;
@@ -98,6 +100,9 @@ along-starts b r from h = record {
   register = refl;
   pegs = refl;
 }
+
+pub ready-below : (b r : List ℕ) (from green : ℕ) → CarryReady b from r → green ≡ length (greensIn b) → from ≤ green
+ready-below b r from green h e = omega (arith, h .inside, greensIn-count b (h .queue))
 
 payloads-next : (l : List Action) (a : Action) → payloads (l ++ (a ∷ [])) ≡ payloads l ++ (a .payload ∷ [])
 unfolding payloads
@@ -119,30 +124,34 @@ module _ (b r₀ : List ℕ) (from : ℕ) (r : List ℕ) (k refused : ℕ) (read
   q : QueueIn b
   q = ready .queue
 
-  pub along-low : from ≤ k
-  along-low = omega (arith, a .count)
+  pub along-inside : (green : ℕ) → green ≡ length (greensIn b) → k < green → k < whiteIn b + greenCount b
+  along-inside green e h = omega (arith, greensIn-count b q)
 
-  -- Few enough for 32 bits.
-  pub along-few : refused + 1 < 2 ^ 32
-  along-few = omega (arith, a .few, a .count, a .high, q .counts .green, q .counts .queue, q .counts .most)
+  module _ (green : ℕ) (e : green ≡ length (greensIn b)) (h : green ≤ k) where
+    all-put : drop from (greensIn b) ≡ a .put
+    all-put =
+        let last : k ≡ length (greensIn b) = omega (arith, a .high, greensIn-count b q) in
+        a .rest ∙ ap (λ (n : ℕ). a .put ++ drop n (greensIn b)) last ∙ ap (λ (l : List Action). a .put ++ l) (drop-length (greensIn b)) ∙ append-nil (a .put)
 
-  pub along-ends : (green : ℕ) → green ≡ greenCount b → green ≤ k
-      → carriedBy (record { greened = green - from; refused = refused }) r ≡ carryOn (drop from (greensIn b)) r₀
-  unfolding carriedBy carryOn
-  along-ends green e h =
-      let last : k ≡ length (greensIn b) = omega (arith, a .high, greensIn-count b q) in
-      let all : drop from (greensIn b) ≡ a .put =
-      a .rest ∙ ap (λ (n : ℕ). a .put ++ drop n (greensIn b)) last ∙ ap (λ (l : List Action). a .put ++ l) (drop-length (greensIn b)) ∙ append-nil (a .put) in
-      let size : green - from ≡ length (a .put) = omega (arith, a .count, a .high) in
-      (λ i. record { greened = size i; refused = a .counted i; register = a .register i }) ∙ ap (λ (l : List Action). carryOn l r₀) (sym all)
+    pub along-ends : carriedBy (record { greened = green - from; refused = refused }) r ≡ carryOn (drop from (greensIn b)) r₀
+    unfolding carriedBy carryOn
+    along-ends =
+        let size : green - from ≡ length (a .put) = omega (arith, a .count, a .high, greensIn-count b q) in
+        (λ i. record { greened = size i; refused = a .counted i; register = a .register i }) ∙ ap (λ (l : List Action). carryOn l r₀) (sym all-put)
+
+    pub along-onward : CarriesOn (drop from (greensIn b)) r₀ r
+    along-onward = record { number = a .number; pegs = a .pegs ∙ ap (λ (l : List Action). advance (pegsIn r₀) (payloads l)) (sym all-put) }
 
   -- The slot j of the position k.
-  module _ (green p j : ℕ) (e : green ≡ greenCount b) (h : k < green) (is-p : p ≡ place theQueue b) (is-j : j ≡ greenSlot b k) where
+  module _ (green p j : ℕ) (e : green ≡ length (greensIn b)) (h : k < green) (is-p : p ≡ place theQueue b) (is-j : j ≡ greenSlot b k) where
     abbrev s : ℕ
     s = p + slotSize * j
 
+    inside : k < whiteIn b + greenCount b
+    inside = omega (arith, greensIn-count b q)
+
     low : j < queueCount b
-    low = omega (arith, is-j, green-low b q k (omega arith))
+    low = omega (arith, is-j, green-low b q k (a .low) inside)
 
     slot-short : numberAt 1 b (s + actionPayloadAt) ≤ mostPayload
     unfolding slotPlace
@@ -155,14 +164,15 @@ module _ (b r₀ : List ℕ) (from : ℕ) (r : List ℕ) (k refused : ℕ) (read
 
     next-is : drop k (greensIn b) ≡ actionAt b s ∷ drop (suc k) (greensIn b)
     unfolding slotPlace
-    next-is = greensIn-next b q k (omega arith) ∙ (λ i. actionAt b (sym is-p i + slotSize * sym is-j i) ∷ drop (suc k) (greensIn b))
+    next-is = greensIn-next b q k (a .low) inside ∙ (λ i. actionAt b (sym is-p i + slotSize * sym is-j i) ∷ drop (suc k) (greensIn b))
 
     payload-bytes : Bytes b → Bytes (actionAt b s .payload)
     unfolding actionAt payloadAt
     payload-bytes y = bytes-part (numberAt 1 b (s + actionPayloadAt)) b (s + actionPayloadAt + 1) y
 
-    pub one-more : (w : ℕ) (r₁ : List ℕ) → AppliedOne (actionAt b s) r w r₁ → refused + w < 2 ^ 32
-    one-more w r₁ o = omega (arith, o .refused-is, refusals-few (actionAt b s .payload) (pegsIn r), along-few)
+    -- Few enough for 32 bits.
+    pub one-more : green ≤ mostLength → (w : ℕ) (r₁ : List ℕ) → AppliedOne (actionAt b s) r w r₁ → refused + w < 2 ^ 32
+    one-more f w r₁ o = omega (arith, o .refused-is, refusals-few (actionAt b s .payload) (pegsIn r), a .few, a .count)
 
     pub along-on : (w : ℕ) (r₁ : List ℕ) → Bytes b → length r₁ ≡ length r → AppliedOne (actionAt b s) r w r₁ → Along b r₀ from r₁ (k + 1) (refused + w)
     unfolding carried
@@ -176,7 +186,8 @@ module _ (b r₀ : List ℕ) (from : ℕ) (r : List ℕ) (k refused : ℕ) (read
         ∙ ap (λ (l : List Peg). refusals (pegsIn r₀) (payloads (a .put)) + refusals l (x .payload ∷ [])) (sym (a .pegs)) in
         record {
           size = same ∙ a .size;
-          high = omega arith;
+          low = omega (arith, a .low);
+          high = omega (arith, inside);
           put = a .put ++ (x ∷ []);
           count = omega (arith, long, a .count);
           number = ap registerNumber (o .register-is) ∙ applied-zero (x .payload) r (a .number) (payload-bytes y);

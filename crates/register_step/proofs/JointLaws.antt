@@ -1,21 +1,25 @@
 -- The joint step beside the engine's own: the same answer, and the register carried on by what turned green.
-use Prim.Native.Nat.{ℕ, _≤_, _<_}
+use Prim.Native.Nat.{ℕ, _+_, _≤_, _<_}
 use mathlib.Core.Path.{_≡_, refl, sym, ap, subst, _∙_}
 use mathlib.Core.Bool.{Bool, true, false}
 use mathlib.Core.List.{List}
-use lib.ListN.{length}
+use lib.ListN.{length, length-append}
 use Rattle.base.specs.Tests.{_and_, _or_, _<?_, pick}
 use Rattle.base.proofs.TestLaws.{Known, known, holds, fails, pick-yes, pick-no, and-yes, and-no, lt-yes, lt-no}
 use Rattle.base.proofs.Branches.{or-yes, or-no}
+use Rattle.format.specs.Types.{Action}
 use Rattle.replication.specs.Machine.Types.{Server, Outcome, refused, taken}
 use Rattle.replication.specs.Machine.Step.{step}
+use Rattle.replication.specs.Machine.WellFormed.{wellFormed}
 use Rattle.replication.proofs.Step.Growth.{green-gained}
-use Rattle.image.specs.Image.{image}
+use Rattle.replication.proofs.WellFormed.Facts.{well-formed-facts}
+use Rattle.replication.proofs.WellFormed.Steps.{step-well-formed}
 use Rattle.image.specs.Decode.{decoded, reads, greensIn}
-use Rattle.image.specs.Holding.{Holds}
-use Rattle.image.specs.Outcome.{Result, refusal, tooShort, resultOf, stepOn, stateNumber, imageNumber}
+use Rattle.image.specs.Holding.{Holds, blanked}
+use Rattle.image.specs.Outcome.{Result, refusal, tooShort, imageAfter, resultOf, stepOn, stateNumber}
 use Rattle.image.proofs.InPlace.{holds-decoded}
-use Rattle.image.proofs.Refusals.{zero-whole, zero-ready, zero-read, number-short, number-unread, number-read, step-read}
+use Rattle.image.proofs.Blanks.{blanked-length}
+use Rattle.image.proofs.Refusals.{zero-ready, zero-read, number-short, number-unread, number-read, step-read}
 use Rattle.image.proofs.Taken.{taken-holds}
 use Rattle.burst.proofs.KeptLaws.{step-kept}
 use Rattle.pegs.specs.Image.{registerLength, registerReads}
@@ -23,7 +27,8 @@ use Rattle.pegs.specs.Outcome.{registerShort, registerNumber}
 use Rattle.pegs.proofs.Advance.{applied-all}
 use Rattle.register_runs.specs.Joint.{Joint, stepPart, unjoined, payloads, carried, jointOf, jointNumber, jointOn}
 use Rattle.register_runs.proofs.JointLaws.{joint-zero, zero-joint, joint-step, joint-read}
-use Rattle.register_step.proofs.Gains.{Gains, gains-none, gained-bytes}
+use Rattle.register_runs.proofs.Holding.{gained-bytes}
+use Rattle.register_step.proofs.Gains.{Gains, gains-none}
 
 -- ---- the buffers' number, as the code finds it
 
@@ -86,34 +91,48 @@ module _ (b r e o : List ℕ) (z : jointNumber b r o ≡ 0) where
   register-zero : registerNumber r ≡ 0
   register-zero = joint-zero b r o z .1
 
-  machine : x ≡ resultOf (step (decoded b) e) b o
+  machine : x ≡ resultOf (imageAfter (decoded b) e) (step (decoded b) e) b o
   machine = step-read b e o (decoded b) (zero-read b o state-zero .0) (zero-ready b o state-zero .read)
 
-  by-outcome : (P : Result → Joint → Type 0) → ((w : Outcome (List ℕ)) → step (decoded b) e ≡ w → P (resultOf w b o) (jointOf w b r o)) → P x y
-  by-outcome P h = subst (λ (v : Result). P v y) (sym machine) (subst (P (resultOf (step (decoded b) e) b o)) (sym (joint-read b r e o z)) (h (step (decoded b) e) refl))
+  abbrev left : Server → List ℕ → List ℕ
+  left = imageAfter (decoded b) e
+
+  by-outcome : (P : Result → Joint → Type 0)
+      → ((w : Outcome (List ℕ)) → step (decoded b) e ≡ w → P (resultOf left w b o) (jointOf left w b r o)) → P x y
+  by-outcome P h =
+      subst (λ (v : Result). P v y) (sym machine)
+      (subst (P (resultOf left (step (decoded b) e) b o)) (sym (joint-read b r e o z)) (h (step (decoded b) e) refl))
+
+  -- The green history of the state that a taken event leaves is longer by what turned green.
+  taken-grown : (t : Server) (rs : List (List ℕ)) (w : Bool) (g : List Action) → step (decoded b) e ≡ taken t rs w g
+      → length (greensIn (left t b)) ≡ length (greensIn b) + length g
+  unfolding greensIn
+  taken-grown t rs w g h =
+      let held : Holds (decoded b) b = zero-ready b o state-zero .image in
+      let ok : wellFormed t ≡ true = step-well-formed (decoded b) e t rs w g (held .formed) h in
+      ap (λ (s : Server). length (s .log .green)) (holds-decoded (blanked t) (left t b) (taken-holds (decoded b) e t rs w g h b held))
+      ∙ blanked-length t (well-formed-facts t ok .white)
+      ∙ ap length (green-gained (decoded b) e t rs w g h)
+      ∙ length-append (decoded b .log .green) g
 
   pub joint-gains : Gains b r (x .state) (y .register) (y .greened) (y .refused)
-  unfolding resultOf jointOf refusal unjoined greensIn
+  unfolding resultOf jointOf refusal unjoined
   joint-gains = by-outcome (λ v w. Gains b r (v .state) (w .register) (w .greened) (w .refused)) go
     where
       go : (w : Outcome (List ℕ)) → step (decoded b) e ≡ w
-          → Gains b r (resultOf w b o .state) (jointOf w b r o .register) (jointOf w b r o .greened) (jointOf w b r o .refused)
+          → Gains b r (resultOf left w b o .state) (jointOf left w b r o .register) (jointOf left w b r o .greened) (jointOf left w b r o .refused)
       go (refused k) h = gains-none b r
-      go (taken t rs w g) h =
-          let new : Holds t (image t b) = taken-holds (decoded b) e t rs w g h b (zero-ready b o state-zero .image) in
-          record {
-            gained = g;
-            greens = ap (λ (s : Server). s .log .green) (holds-decoded t (image t b) new) ∙ green-gained (decoded b) e t rs w g h;
-            greened = refl;
-            refused = refl;
-            register = refl;
-          }
+      go (taken t rs w g) h = record {
+        gained = g;
+        grown = taken-grown t rs w g h;
+        bytes = gained-bytes (decoded b) e t rs w g h (zero-ready b o state-zero .image .formed);
+        greened = refl;
+        refused = refl;
+        register = refl;
+      }
 
   state-kept : stateNumber (x .state) (x .out) ≡ 0
   state-kept = step-kept b e o state-zero
-
-  state-whole : imageNumber (x .state) ≡ 0
-  state-whole = zero-whole (x .state) (x .out) state-kept
 
   -- The next event need not check them.
   pub joint-kept : jointNumber (x .state) (y .register) (x .out) ≡ 0
@@ -121,14 +140,14 @@ module _ (b r e o : List ℕ) (z : jointNumber b r o ≡ 0) where
   joint-kept =
       let g = joint-gains in
       zero-joint (x .state) (y .register) (x .out) state-kept
-      (ap registerNumber (g .register) ∙ applied-all (payloads (g .gained)) r register-zero (gained-bytes state-whole g) .number)
+      (ap registerNumber (g .register) ∙ applied-all (payloads (g .gained)) r register-zero (g .bytes) .number)
 
   -- "no refusal changes anything lent"
   pub refused-joint : (x .number ≡ 0 → ⊥) → y ≡ unjoined (x .number) b r o
   unfolding resultOf jointOf refusal
   refused-joint = by-outcome (λ v w. (v .number ≡ 0 → ⊥) → w ≡ unjoined (v .number) b r o) go
     where
-      go : (w : Outcome (List ℕ)) → step (decoded b) e ≡ w → (resultOf w b o .number ≡ 0 → ⊥) → jointOf w b r o ≡ unjoined (resultOf w b o .number) b r o
+      go : (w : Outcome (List ℕ)) → step (decoded b) e ≡ w → (resultOf left w b o .number ≡ 0 → ⊥) → jointOf left w b r o ≡ unjoined (resultOf left w b o .number) b r o
       go (refused k) h n = refl
       go (taken t rs w g) h n = absurd (n refl)
 

@@ -1,4 +1,6 @@
 pub mod Gains
+pub mod MetCarry
+pub mod EventStages
 pub mod CarryLaws
 pub mod JointLaws
 pub mod StepLaws

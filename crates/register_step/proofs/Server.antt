@@ -8,9 +8,10 @@ use lib.ListN.{length, take, drop}
 use Rattle.base.specs.Bytes.{joined}
 use Rattle.base.specs.Tests.{_=?_, pick}
 use Rattle.base.proofs.TestLaws.{pick-yes, pick-no, pick-either, pick-as, pick-eq, pick-ne, eq-holds, eq-fails, choices, Known, holds, fails, known}
-use Rattle.replication.specs.Machine.Types.{Outcome, refused, taken}
+use Rattle.replication.specs.Machine.Types.{Server as State, Outcome, refused, taken}
 use Rattle.replication.specs.Machine.Step.{step}
 use Rattle.image.specs.Decode.{decoded}
+use Rattle.image.specs.Outcome.{imageAfter}
 use Rattle.daemons.specs.Buffers.{sourceIn}
 use Rattle.daemons.proofs.BufferLaws.{source-running}
 use Rattle.burst.specs.declared.slices.Next.the-variants.{Event, Stop}
@@ -48,7 +49,10 @@ answersOf x = record {
 }
 
 module _ (b r e o : List ℕ) where
-  by-number : (P : Joint → Type 0) → ((x : Outcome (List ℕ)) → P (jointOf x b r o)) → ((k : ℕ) → P (unjoined k b r o)) → P (jointOn b r e o)
+  abbrev left : State → List ℕ → List ℕ
+  left = imageAfter (decoded b) e
+
+  by-number : (P : Joint → Type 0) → ((x : Outcome (List ℕ)) → P (jointOf left x b r o)) → ((k : ℕ) → P (unjoined k b r o)) → P (jointOn b r e o)
   unfolding jointOn
   by-number P f g = pick-either P (jointNumber b r o =? 0) _ _ (f (step (decoded b) e)) (g (jointNumber b r o))
 
@@ -56,7 +60,7 @@ module _ (b r e o : List ℕ) where
   unfolding jointOf unjoined
   joint-left = by-number (λ (a : Joint). (a .number ≡ 0 → ⊥) → a ≡ unjoined (a .number) b r o) go (λ k n. refl)
     where
-      go : (x : Outcome (List ℕ)) → (jointOf x b r o .number ≡ 0 → ⊥) → jointOf x b r o ≡ unjoined (jointOf x b r o .number) b r o
+      go : (x : Outcome (List ℕ)) → (jointOf left x b r o .number ≡ 0 → ⊥) → jointOf left x b r o ≡ unjoined (jointOf left x b r o .number) b r o
       go (refused k) n = refl
       go (taken t rs w g) n = absurd (n refl)
 
@@ -69,7 +73,7 @@ module _ (b r e o : List ℕ) where
   unfolding jointOf unjoined
   joint-unsent = by-number (λ (a : Joint). a .sent ≡ 0 → a .out ≡ o) go (λ k n. refl)
     where
-      go : (x : Outcome (List ℕ)) → jointOf x b r o .sent ≡ 0 → jointOf x b r o .out ≡ o
+      go : (x : Outcome (List ℕ)) → jointOf left x b r o .sent ≡ 0 → jointOf left x b r o .out ≡ o
       go (refused k) n = refl
       go (taken t rs w g) n = over-none (joined rs) o n
 

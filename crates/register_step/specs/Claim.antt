@@ -9,15 +9,15 @@ use lib.ListN.{length, take, drop}
 use Rattle.base.specs.Lists.{at}
 use Rattle.replication.specs.Runs.Run.{event, putOut, sentAt}
 use Rattle.replication.specs.Runs.Strays.{AllowedWithStraysUp}
-use Rattle.image.specs.Decode.{greensIn}
+use Rattle.replication.specs.Runs.Claim.{storedGreen, memoryGreen, greenAt}
 use Rattle.daemons.specs.Sending.{cutRecords}
 use Rattle.daemons.specs.Daemons.{daemonsAt}
 use Rattle.burst.specs.Calls.{Call, together, IsStep, keptAt, placeOf, ranBy, callOf}
-use Rattle.pegs.specs.Register.{advance, registerOf}
-use Rattle.pegs.specs.Image.{pegsIn, readRegister, usedIn}
+use Rattle.pegs.specs.Register.{advance}
+use Rattle.pegs.specs.Image.{pegsIn, usedIn}
 use Rattle.register_runs.specs.Joint.{Joint, stepPart, unjoined, payloads}
 use Rattle.register_runs.specs.Depots.{jointIn, Depots, Lent, LongEnoughAll}
-use Rattle.register_runs.specs.Claim.{shownRegister, shownGreen}
+use Rattle.register_runs.specs.Claim.{shownRegister, shownGreen, FoldIn}
 use Rattle.register_step.specs.Burst.{JointBurst}
 use Rattle.register_step.specs.Depots.{burstIn, cameIn, LongEnoughForAll, system, byPlaces, stepwise}
 
@@ -53,21 +53,23 @@ module _ (n q : ℕ) (cs : List Call) (x : Lent) where
     pub long : LongEnoughForAll n q cs x → LongEnoughAll n q (ranBy (system n q cs x)) (byPlaces n q cs x)
 
   -- The states' buffers before each call are those of daemons without registers that take each event by the step; each register's buffer reads as
-  -- the fold of the green list in the state's buffer beside it; the registers agree as the green lists do; and what is sent is what the run says.
+  -- the fold of the whole history, white part included, of the state's buffer beside it, which is the machine's by the run alone; the registers
+  -- agree as the green lists do; and what is sent is what the run says.
   pub record CallsAgree : Type 0 where
     pub states : (j i : ℕ) → i < n
         → depots j .depot i .states ≡ daemonsAt n q (ranBy (system n q cs x)) (byPlaces n q cs x .states) (place j) .buffers i
     pub down : (j i : ℕ) → i < n → depots j .down i ≡ daemonsAt n q (ranBy (system n q cs x)) (byPlaces n q cs x .states) (place j) .down i
     pub memory : (j i : ℕ) → i < n → depots j .down i ≡ false
-        → readRegister (depots j .depot i .registers .state) ≡ some (registerOf (payloads (greensIn (depots j .depot i .states .state))))
+        → FoldIn (depots j .depot i .states .state) (depots j .depot i .registers .state) (memoryGreen n q (ranBy (system n q cs x)) (place j) i)
     pub store : (j i : ℕ) → i < n
-        → readRegister (depots j .depot i .registers .store) ≡ some (registerOf (payloads (greensIn (depots j .depot i .states .store))))
+        → FoldIn (depots j .depot i .states .store) (depots j .depot i .registers .store) (storedGreen n q (ranBy (system n q cs x)) (place j) i)
     -- "equal registers, byte for byte in use"
     pub equal : (j i k : ℕ) → i < n → k < n → length (shownGreen (depots j) i) ≡ length (shownGreen (depots j) k)
         → usedIn (shownRegister (depots j) i) ≡ usedIn (shownRegister (depots j) k)
     pub further : (j i k : ℕ) → i < n → k < n → length (shownGreen (depots j) i) ≤ length (shownGreen (depots j) k)
         → pegsIn (shownRegister (depots j) k)
-        ≡ advance (pegsIn (shownRegister (depots j) i)) (payloads (drop (length (shownGreen (depots j) i)) (shownGreen (depots j) k)))
+        ≡ advance (pegsIn (shownRegister (depots j) i))
+        (payloads (drop (length (shownGreen (depots j) i)) (greenAt n q (ranBy (system n q cs x)) (place j) k)))
     -- The first k records that a burst leaves in the outgoing buffer are those that the run says were sent, by the last event taken ..
     pub sent : (j i k m : ℕ) (e : List ℕ) (y : JointBurst) → at cs j ≡ some (together i e k)
         → burstIn (depots j .depot i) e (x .states .out j) ≡ y → suc m ≡ y .events

@@ -6,16 +6,18 @@ ghost use Rattle.base.specs.Bytes.{numberAt};
 ghost use Rattle.format.specs.Places.{actionPayloadAt, actionHeadSize};
 ghost use Rattle.format.specs.Read.{actionAt};
 ghost use Rattle.image.specs.Decode.{greensIn};
+ghost use Rattle.image.specs.Holding.{HoldsSome};
 ghost use Rattle.pegs.specs.Outcome.{registerNumber};
-ghost use Rattle.register_step.specs.Carrying.{AppliedOne, CarryReady, carryOn, carriedBy};
+ghost use Rattle.register_step.specs.Carrying.{AppliedOne, CarryReady, CarriesOn, CarriesMet, carryOn, carriedBy};
 use image::places::THE_QUEUE;
 use image::places::place_of;
 use octets::numbers::num8;
-use octets::numbers::num32;
+use queue::history::green_length;
 use queue::history::green_slot;
 use record::ActionHead;
 use record::State;
 use register::apply;
+use step::meeting::meet;
 
 // How many actions were applied, and how many operations of them were refused.
 pub struct Carried {
@@ -38,12 +40,13 @@ fn apply_slot(state: &[u8], slot: usize, register: &mut [u8]) -> u32
     1
 }
 
-// Those behind the first `from`, in their order.
+// Those behind the first `from` of the green history, in their order: none of them is white.
 pub fn carry(state: &[u8], register: &mut [u8], from: u32) -> Carried
     requires { ⌜ CarryReady (now state) from (now register) ⌝ }
     ensures { λ r. ⌜ carriedBy r (now (register .exit)) ≡ carryOn (drop from (greensIn (now (state .entry)))) (now (register .entry)) ⌝ }
+    ensures { λ _. ⌜ CarriesOn (drop from (greensIn (now (state .entry)))) (now (register .entry)) (now (register .exit)) ⌝ }
 {
-    let green = num32(state, State::AT_GREEN_LENGTH);
+    let green = green_length(state);
     let queue = place_of(state, THE_QUEUE);
     let mut k = from;
     let mut refused: u32 = 0;
@@ -56,4 +59,14 @@ pub fn carry(state: &[u8], register: &mut [u8], from: u32) -> Carried
         greened: green - from,
         refused,
     }
+}
+
+// What the event turns green before its action's white length is taken: some of it may be white before the event's first stage ends.
+pub fn carry_met(state: &mut [u8], register: &mut [u8], event: &[u8]) -> Carried
+    requires { ⌜ HoldsSome (now state) × (registerNumber (now register) ≡ 0) ⌝ }
+    ensures { λ r. ⌜ CarriesMet r state register event ⌝ }
+{
+    let from = green_length(state);
+    meet(state, event);
+    carry(state, register, from)
 }

@@ -1,4 +1,4 @@
-// Events at one server that keeps a register, over the lent buffers: the engine's step, then every action that it turned green applied in order.
+// Events at one server that keeps a register, over the lent buffers: the engine's step, and every action that it turns green applied in order.
 ghost use mathlib.Core.Path.{_≡_};
 ghost use Prim.Native.Nat.{_≤_};
 ghost use lib.ListN.{length};
@@ -15,12 +15,13 @@ use burst::slices::Next;
 use burst::slices::next_in;
 use burst::slices::stop_number;
 use carrying::carry;
-use octets::numbers::num32;
-use record::State;
+use carrying::carry_met;
+use queue::history::green_length;
 use register_check::checking::register_reads;
 use register_check::layout::REGISTER_LENGTH;
 use state_check::state_number;
-use step::taking::step;
+use step::taking::act;
+use step::taking::raise;
 
 // The number returned, the store word (1: state and register are stored first, as one), how many bytes of records the outgoing buffer begins with,
 // how many actions turned green, and how many operations of them were refused.
@@ -66,23 +67,26 @@ fn joint_number(state: &[u8], register: &[u8], out: &[u8]) -> u32
     }
 }
 
-// Over buffers whose number is 0: the engine's step, then what it turned green.
+// Over buffers whose number is 0: the engine's step, and what it turns green before that can be white.
 fn take_event(state: &mut [u8], register: &mut [u8], event: &[u8], out: &mut [u8]) -> RegisterAnswer
     requires { ⌜ AllRead state register out ⌝ }
     ensures { λ r. ⌜ AnswersJointly r state register event out ⌝ }
 {
-    let green = num32(state, State::AT_GREEN_LENGTH);
-    let a = step(state, event, out);
-    if a.number != 0 {
-        return RegisterAnswer::refused(a.number);
+    let first = carry_met(state, register, event);
+    let from = green_length(state);
+    let a = act(state, event, out);
+    let answer = a.answer;
+    if answer.number != 0 {
+        return RegisterAnswer::refused(answer.number);
     }
-    let c = carry(state, register, green);
+    let rest = carry(state, register, from);
+    raise(state, a.raises);
     RegisterAnswer {
         number: 0,
-        store: a.store,
-        sent: a.sent,
-        greened: c.greened,
-        refused: c.refused,
+        store: answer.store,
+        sent: answer.sent,
+        greened: first.greened + rest.greened,
+        refused: first.refused + rest.refused,
     }
 }
 

@@ -15,7 +15,7 @@ use Rattle.base.proofs.BytesLaws.{number-drop, number-front}
 use Rattle.base.specs.Lists.{at, below}
 use Rattle.format.specs.Types.{Reading, says, refused}
 use Rattle.format.specs.Setup.{Setup, setupIn, setupFrameOk, setupOk, readSetup}
-use Rattle.replication.specs.Machine.Types.{Server, start}
+use Rattle.replication.specs.Machine.Types.{start}
 use Rattle.replication.specs.Images.{Images, started}
 use Rattle.replication.specs.Replay.{header, inputLine, setupLine, recordLength, tableAfter, lineFor, events, afterSetup, replay}
 use Rattle.replay_servers.specs.declared.Server as declared

@@ -22,7 +22,6 @@ use Rattle.replay_turns.specs.declared.Going.the-variants.{On, Read, Stop}
 use Rattle.replay_lines.specs.Input.{setupOf}
 use Rattle.replay_lines.specs.Lines.{lineRoom}
 use Rattle.replay_turns.specs.Turns.{Turned, turnOf}
-use Rattle.replay_turns.specs.Passes as passes
 use Rattle.replay_turns.specs.Passes.{Progress, nextEvent, passFrom, passOf}
 use Rattle.replay.specs.Parts.{partFrom, partOf, asksMore, partsFrom, printedOf, PrintsReplay}
 use Rattle.replay_turns.proofs.Goings.{on-read, on-stop, read-stop, Goes, on, read, stop, goes}

@@ -15,7 +15,6 @@ use Rattle.replication.specs.Replay.{returned, sentCount}
 use Rattle.replication.specs.Runs.Run.{recordsOf}
 use Rattle.image.specs.Layout.{outLength}
 use Rattle.image.specs.Outcome.{Result}
-use Rattle.image.specs.Holding.{Holds}
 use Rattle.daemons.specs.Buffers.{stepIn, keptAfter}
 use Rattle.daemons.proofs.Keeping as keeping
 use Rattle.daemons.proofs.Arriving as arriving
@@ -24,20 +23,10 @@ use Rattle.replay_servers.specs.declared.Stepped.{Stepped}
 use Rattle.replay_servers.specs.Core.{outRoom, buffersOf, entryAfter, recordsIn, afterStep, coreOf}
 use Rattle.replay_servers.proofs.CoreLaws.{kept-refused}
 
--- Both buffers of the entry hold the images of the server's states, and the outgoing buffer has room for what an event puts out.
+-- Both buffers of the entry hold the images of the server's states, white actions blank, and the outgoing buffer has room for what an event puts out.
 pub record Keeps (i : Images) (s : declared.Server) : Type 0 where
-  pub memory : Holds (i .memory) (s .state)
-  pub store : Holds (i .store) (s .store)
-  pub same : SameServer (i .memory) (i .store)
+  pub kept : keeping.Keeps i (buffersOf s)
   pub room : outLength (i .memory .servers) (i .memory .quota) ≤ outRoom
-
--- The same of the entry as a daemon's buffers.
-as-buffers : (i : Images) (s : declared.Server) → Keeps i s → keeping.Keeps i (buffersOf s)
-as-buffers i s k = record { formed = k .memory .formed; memory = λ u. k .memory; store = k .store; same = k .same }
-
-pub as-entry : (i : Images) (s : declared.Server) → keeping.Keeps i (buffersOf s)
-    → outLength (i .memory .servers) (i .memory .quota) ≤ outRoom → Keeps i s
-as-entry i s k room = record { memory = k .memory tt; store = k .store; same = k .same; room = room }
 
 -- ---- one event
 
@@ -70,7 +59,7 @@ module _ (i : Images) (s : declared.Server) (e : List ℕ) (k : Keeps i s) where
 
   over-buffers : arriving.Arrives i (arrive i e) (buffersOf s) answer
   over-buffers =
-      arriving.arrives i (buffersOf s) e (keeping.keeps-where (λ h. tt) (as-buffers i s k)) (zeros outRoom) (omega (arith, k .room, zeros-length outRoom))
+      arriving.arrives i (buffersOf s) e (keeping.keeps-where (λ h. tt) (k .kept)) (zeros outRoom) (omega (arith, k .room, zeros-length outRoom))
 
   abbrev after : declared.Server
   after = entryAfter s (answer .number) (answer .store) (answer .state)
@@ -86,7 +75,7 @@ module _ (i : Images) (s : declared.Server) (e : List ℕ) (k : Keeps i s) where
           let left : i ≡ leftBy (arrive i e) i = refused-left (arrive i e) i (λ z. some (over-buffers .number ∙ z)) in
           let entry : s ≡ after = kept-refused s (answer .number) (answer .store) (answer .state) some in
           subst (λ (x : Images). keeping.Keeps x (buffersOf after)) left
-          (subst (λ (t : declared.Server). keeping.Keeps i (buffersOf t)) entry (as-buffers i s k))
+          (subst (λ (t : declared.Server). keeping.Keeps i (buffersOf t)) entry (k .kept))
 
   entry-room : outLength (leftBy (arrive i e) i .memory .servers) (leftBy (arrive i e) i .memory .quota) ≤ outRoom
   entry-room =
@@ -96,7 +85,7 @@ module _ (i : Images) (s : declared.Server) (e : List ℕ) (k : Keeps i s) where
   pub arrives : Arrives i (arrive i e) (coreOf s e)
   unfolding coreOf afterStep recordsIn
   arrives = record {
-    entry = as-entry _ _ entry-keeps entry-room;
+    entry = record { kept = entry-keeps; room = entry-room };
     number = over-buffers .number;
     sent = ap length (over-buffers .records) ∙ count-put (arrive i e);
   }

@@ -18,7 +18,7 @@ use Rattle.daemons.specs.Buffers.{saved, begun}
 use Rattle.daemons.proofs.Keeping.{begun-keeps}
 use Rattle.replay_servers.specs.declared.Server.{Server}
 use Rattle.replay_servers.specs.Starting.{alike, freshOf, freshTable}
-use Rattle.replay_servers.proofs.Keeping.{Keeps, as-entry}
+use Rattle.replay_servers.proofs.Keeping.{Keeps}
 use Rattle.replay_servers.specs.Core.{tableServers, tableQuota, stateRoom, outRoom, buffersOf}
 
 -- ---- as the code makes it
@@ -61,5 +61,7 @@ module _ (n q k : ℕ) (sizes : sizesOk n q ≡ true) (few : n ≤ tableServers)
 
   pub fresh-keeps : Keeps (started (start n q k)) (freshOf n q k)
   unfolding started freshOf alike begun saved start
-  fresh-keeps =
-      as-entry _ _ (begun-keeps n q k sizes own (buffersOf (alike (zeros stateRoom))) (record { long = long; alike = refl })) (out-room n q few small)
+  fresh-keeps = record {
+    kept = begun-keeps n q k sizes own (buffersOf (alike (zeros stateRoom))) (record { long = long; alike = refl });
+    room = out-room n q few small;
+  }

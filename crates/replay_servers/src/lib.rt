@@ -8,7 +8,7 @@ pub mod starting; // starting.rt: the table at the start
 pub mod stepping; // stepping.rt: what a step takes and leaves
 
 use record::State;
-use record::StateHead;
+use record::events::StateHead;
 use step::step_on;
 use stepping::kept;
 use stepping::records;

@@ -1,14 +1,20 @@
 -- One event of the input, as the code makes it.
-use Prim.Native.Nat.{ℕ, _+_, _-_, _≤_, _<_}
-use mathlib.Core.Path.{_≡_, sym, ap, _∙_}
+use Prim.Native.Nat.{ℕ, _+_, _*_, _-_, _≤_, _<_}
+use mathlib.Core.Path.{_≡_, sym, ap, ap₂, _∙_}
 use mathlib.Core.Bool.{Bool}
 use mathlib.Core.List.{List}
 use native.Mathlib.Omega.{arith}
 use lib.ListN.{length, getD, take, drop}
-use Rattle.replay_servers.specs.Core.{tableServers}
-use Rattle.base.specs.Bytes.{numberAt, partAt}
+use Rattle.replay_servers.specs.Core.{tableServers, stateRoom}
+use Rattle.base.specs.Bytes.{Bytes, numberAt, partAt}
+use Rattle.base.proofs.BytesLaws.{number-lt}
+use Rattle.base.specs.Lists.{sum}
 use Rattle.replication.specs.Replay.{inputLine}
-use Rattle.image.specs.Layout.{atMode, atQueueLength, atGreenLength, atLast}
+use Rattle.format.specs.Places.{cutSize}
+use Rattle.image.specs.Layout.{headerSize, atServers, atMode, atQueueLength, atGreenCount, atLast}
+use Rattle.image.specs.Header.{headerIn}
+use Rattle.image.specs.Decode.{whiteAt, decodedAs, decoded, serversIn, whiteIn}
+use Rattle.image.specs.Counts.{queueCount, greenCount}
 use Rattle.replay_servers.specs.declared.Server.{Server}
 use Rattle.replay_servers.specs.declared.Reply.{Reply}
 use Rattle.replay_servers.specs.Table.{none, altered, replied}
@@ -22,20 +28,32 @@ use Rattle.replay_lines.specs.Lines.{headRoom, Put, lineRoom, shownLine}
 use Rattle.replay_turns.specs.Turns.{shownOf, lineAt, Turned, turned, turnBy, turnOf}
 use Rattle.replay_lines.proofs.InputLaws.{whole-event}
 
-pub shown-made : (event server : ℕ) (reply : Reply) (b : List ℕ) (held green prim mode red : ℕ) → held ≡ numberAt 4 b atQueueLength
-    → green ≡ numberAt 4 b atGreenLength → prim ≡ numberAt 4 b atLast → mode ≡ numberAt 1 b atMode → red ≡ held - green
-    → record { number = event; server = server; returned = reply .number; mode = mode; red = red; green = green; prim = prim; sent = reply .sent }
+-- An entry of the table has room for as many cuts as a byte can say.
+pub cuts-inside : (b : List ℕ) → Bytes b → length b ≡ stateRoom → headerSize + cutSize * serversIn b ≤ length b
+unfolding serversIn headerIn
+cuts-inside b k l = omega (arith, number-lt 1 b atServers k)
+
+white-is : (b : List ℕ) (held entered white : ℕ) → held ≡ numberAt 4 b atQueueLength → entered ≡ sum (decoded b .log .cuts)
+    → white ≡ entered - held → white ≡ whiteIn b
+unfolding whiteIn decoded decodedAs whiteAt headerIn
+white-is b held entered white h e w = w ∙ ap₂ {A = ℕ} {B = ℕ} {C = ℕ} (λ x y. x - y) e h
+
+pub shown-made : (event server : ℕ) (reply : Reply) (b : List ℕ) (held green prim entered white mode red : ℕ) → held ≡ numberAt 4 b atQueueLength
+    → green ≡ numberAt 4 b atGreenCount → prim ≡ numberAt 4 b atLast → entered ≡ sum (decoded b .log .cuts) → white ≡ entered - held
+    → mode ≡ numberAt 1 b atMode → red ≡ held - green
+    → record { number = event; server = server; returned = reply .number; mode = mode; red = red; green = white + green; prim = prim; sent = reply .sent }
     ≡ shownOf event server reply b
 unfolding shownOf
-shown-made event server reply b held green prim mode red h g p m r =
-    let red-is : red ≡ numberAt 4 b atQueueLength - numberAt 4 b atGreenLength = omega arith in
+shown-made event server reply b held green prim entered white mode red h g p e w m r =
+    let red-is : red ≡ queueCount b - greenCount b = omega arith in
+    let green-is : white + green ≡ whiteIn b + greenCount b = omega (arith, white-is b held entered white h e w) in
     λ i. record {
       number = event;
       server = server;
       returned = reply .number;
       mode = m i;
       red = red-is i;
-      green = g i;
+      green = green-is i;
       prim = p i;
       sent = reply .sent;
     }

@@ -2,9 +2,11 @@
 use Prim.Native.Nat.{ℕ, _+_, _-_}
 use mathlib.Core.Bool.{Bool}
 use mathlib.Core.List.{List, []}
-use lib.ListN.{length, getD, take}
+use lib.ListN.{getD, take}
 use Rattle.base.specs.Bytes.{numberAt, partAt}
-use Rattle.image.specs.Layout.{atMode, atQueueLength, atGreenLength, atLast}
+use Rattle.image.specs.Layout.{atMode, atLast}
+use Rattle.image.specs.Decode.{whiteIn}
+use Rattle.image.specs.Counts.{queueCount, greenCount}
 use Rattle.replay_servers.specs.declared.Server.{Server}
 use Rattle.replay_servers.specs.declared.Reply.{Reply}
 use Rattle.replay_servers.specs.Table.{none, altered, replied}
@@ -18,15 +20,15 @@ use Rattle.replay_turns.specs.declared.Turn.{Turn}
 use Rattle.replay_lines.specs.Input.{nextOf}
 use Rattle.replay_lines.specs.Lines.{shownLine}
 
--- What a line shows of a reply and of the state whose bytes are b.
+-- What a line shows of a reply and of the state whose bytes are b. K6: "`replay` counts white ones as green", and these have no slot.
 unfoldable pub shownOf : (event server : ℕ) → Reply → List ℕ → Shown
 shownOf event server reply b = record {
   number = event;
   server = server;
   returned = reply .number;
   mode = numberAt 1 b atMode;
-  red = numberAt 4 b atQueueLength - numberAt 4 b atGreenLength;
-  green = numberAt 4 b atGreenLength;
+  red = queueCount b - greenCount b;
+  green = whiteIn b + greenCount b;
   prim = numberAt 4 b atLast;
   sent = reply .sent;
 }

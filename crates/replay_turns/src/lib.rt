@@ -2,7 +2,7 @@
 ghost use mathlib.Core.Path.{_≡_};
 ghost use Prim.Native.Nat.{_+_, _-_, _≤_, _<_};
 ghost use lib.ListN.{length, getD};
-ghost use Rattle.replay_servers.specs.Core.{tableServers};
+ghost use Rattle.replay_servers.specs.Core.{tableServers, stateRoom};
 ghost use Rattle.io.specs.Counts.{Counts};
 ghost use Rattle.replay_servers.specs.Table.{altered};
 ghost use Rattle.replay_lines.specs.Lines.{Put, lineRoom};
@@ -13,6 +13,7 @@ pub mod passes; // passes.rt: turns one after another
 
 use octets::numbers::num8;
 use octets::numbers::num32;
+use queue::history::entered_count;
 use record::State;
 use replay_lines::input::Next;
 use replay_lines::input::next_in;
@@ -21,7 +22,6 @@ use replay_lines::line::event_line;
 use replay_lines::line::input_line;
 use replay_servers::Reply;
 use replay_servers::SERVERS;
-use replay_servers::STATE_ROOM;
 use replay_servers::Server;
 use replay_servers::run_one;
 
@@ -34,12 +34,15 @@ fn difference(m: u32, n: u32) -> u32
     m - n
 }
 
-// "Red counts held actions not green; prim is the primary index; sent counts records put out."
-fn shown_in(event: u64, server: u8, reply: Reply, b: &[u8; STATE_ROOM]) -> Shown
+// "Red counts held actions not green; prim is the primary index; sent counts records put out." K6: "`replay` counts white ones as green":
+// those that were entered and have no slot.
+fn shown_in(event: u64, server: u8, reply: Reply, b: &[u8]) -> Shown
+    requires { ⌜ length (now b) ≡ stateRoom ⌝ }
     ensures { λ r. ⌜ r ≡ shownOf event server reply (now (b .entry)) ⌝ }
 {
     let held = num32(b, State::AT_QUEUE_LENGTH);
-    let green = num32(b, State::AT_GREEN_LENGTH);
+    let green = num32(b, State::AT_GREEN_COUNT);
+    let white = difference(entered_count(b), held);
     let prim = num32(b, State::AT_LAST);
     Shown {
         number: event,
@@ -47,7 +50,7 @@ fn shown_in(event: u64, server: u8, reply: Reply, b: &[u8; STATE_ROOM]) -> Shown
         returned: reply.number as u64,
         mode: num8(b, State::AT_MODE),
         red: difference(held, green) as u64,
-        green: green as u64,
+        green: white as u64 + green as u64,
         prim: prim as u64,
         sent: reply.sent as u64,
     }

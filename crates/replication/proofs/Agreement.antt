@@ -2,6 +2,7 @@ pub mod Terms
 pub mod Lists
 pub mod Exchange
 pub mod Votes
+pub mod Whites
 pub mod Primaries
 pub mod Contents
 pub mod Greens

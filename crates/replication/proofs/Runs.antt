@@ -5,6 +5,7 @@ pub mod Shifts
 pub mod Entries
 pub mod Beginnings
 pub mod Deliveries
+pub mod Roomy
 pub mod PrefixClosed
 pub mod Lived
 pub mod Numbers
@@ -33,7 +34,9 @@ pub mod DeliveryLists
 pub mod Agreement
 pub mod Strays
 pub mod Noted
+pub mod Whitened
 pub mod RequestsOrder
+pub mod EnteredSince
 pub mod RequestsSent
 pub mod RequestsHeld
 pub mod RequestsWaiting

@@ -5,6 +5,12 @@ pub mod Logs
 pub mod Numbered
 pub mod SameHeld
 pub mod Growth
+pub mod Whites
+pub mod WhiteKept
+pub mod LogsAlike
+pub mod RulesAlike
+pub mod Alike
+pub mod PartHeld
 pub mod Lifts
 pub mod Control
 pub mod Table

@@ -6,8 +6,13 @@ pub mod Parts
 pub mod Modes
 pub mod Facts
 pub mod Held
+pub mod Creators
 pub mod Logs
+pub mod Colours
+pub mod Whole
 pub mod Numbering
+pub mod Counts
+pub mod Sums
 pub mod OwnList
 pub mod Decisions
 pub mod Changes
@@ -15,10 +20,12 @@ pub mod RuleFacts
 pub mod Effects
 pub mod Exchanges
 pub mod Kept
+pub mod Places
 pub mod Actions
 pub mod Attempts
 pub mod Apply
 pub mod Steps
+pub mod Stages
 pub mod Runs
 pub mod Records
 pub mod Sent

@@ -5,6 +5,7 @@ pub mod Exchange
 pub mod Install
 pub mod Requests
 pub mod Rules
+pub mod White
 pub mod Step
 pub mod WellFormed
 pub mod WellFormedRanges

@@ -20,7 +20,7 @@ abbrev pub idOf : (creator index : ℕ) → Id
 idOf c i = record { creator = c; index = i }
 
 abbrev pub actionOf : (creator index : ℕ) → Action
-actionOf c i = record { id = idOf c i; greenLength = 0; payload = [] }
+actionOf c i = record { id = idOf c i; greenLength = 0; whiteLength = 0; payload = [] }
 
 -- Votes with a last primary of this set; with a valid yellow list; with a mark of the set {0,1,2}, no older than the last primary {1,2}.
 abbrev pub lastPrimary : (set : ℕ) → Votes
@@ -76,7 +76,7 @@ pub record Pairs : Type 0 where
       ≡ record { status = 1; ids = idOf 0 3 ∷ [] }
   -- "P6 green lengths 2,5,5: server 1 resends 3,4,5."
   pub p6 :
-      map (λ k. ownPart 8 k (greenTo 5) (greenAt 2 0 ∷ greenAt 5 1 ∷ greenAt 5 2 ∷ [])) (1 ∷ 2 ∷ [])
+      map (λ k. ownPart 8 k 0 (greenTo 5) (greenAt 2 0 ∷ greenAt 5 1 ∷ greenAt 5 2 ∷ [])) (1 ∷ 2 ∷ [])
       ≡ (retransmission 1 3 (actionOf 0 3) ∷ retransmission 1 4 (actionOf 0 4) ∷ retransmission 1 5 (actionOf 0 5) ∷ []) ∷ [] ∷ []
   -- "P7 mark set {0,1,2}, bits {0,1}, 2 comes marked alike: cleared."
   pub p7 : judgedMark (sentBy 5 (marked 3) 0 ∷ sentBy 5 (marked 0) 2 ∷ []) (sentBy 5 (marked 3) 0) ≡ clearedMark

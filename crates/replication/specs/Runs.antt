@@ -3,6 +3,7 @@ pub mod Happenings
 pub mod Allowed
 pub mod Strays
 pub mod Claim
+pub mod Whites
 pub mod Noted
 pub mod Requests
 pub mod Settling

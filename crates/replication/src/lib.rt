@@ -2,6 +2,7 @@
 // A function here does nothing: its contract is a theorem.
 ghost use Rattle.replication.specs.Pairs.{Pairs};
 ghost use Rattle.replication.specs.Runs.Claim.{Demand3, Corollaries, KeptWhileUp};
+ghost use Rattle.replication.specs.Runs.Whites.{NotedGreenIsWhite, WhitesAreGreen, WhiteWasStored, NothingGone, NonePassedOver};
 ghost use Rattle.replication.specs.Runs.Noted.{NotedNeverFall};
 ghost use Rattle.replication.specs.Runs.Requests.{RequestsKept};
 ghost use Rattle.replication.specs.Runs.Settling.{Settling};
@@ -42,4 +43,29 @@ pub fn requests_kept()
 // the members' green lists are equal then.
 pub fn settles()
     ensures { λ _. ⌜ Settling ⌝ }
+{}
+
+// Document 02, K6: in every run what is green on every server, by the noted lengths, is white.
+pub fn noted_green_is_white()
+    ensures { λ _. ⌜ NotedGreenIsWhite ⌝ }
+{}
+
+// Document 02, K6: in every allowed run an action white anywhere is green in every server's store.
+pub fn whites_are_green()
+    ensures { λ _. ⌜ WhitesAreGreen ⌝ }
+{}
+
+// .. and was so before the event that turned it white.
+pub fn white_was_stored()
+    ensures { λ _. ⌜ WhiteWasStored ⌝ }
+{}
+
+// Document 02, K6: nothing that an exchange in an allowed run must resend is ever gone.
+pub fn nothing_gone()
+    ensures { λ _. ⌜ NothingGone ⌝ }
+{}
+
+// Document 02, K6: no allowed run passes over an action for which there is no place.
+pub fn none_passed_over()
+    ensures { λ _. ⌜ NonePassedOver ⌝ }
 {}

@@ -95,7 +95,7 @@ module _ (b : List ℕ) (k : Bytes b) where
       let m : ℕ = numberAt 1 b (at + actionPayloadAt) in
       let u = and-holds _ _ t in
       let l : m ≤ mostPayload = le-holds _ _ (u .0) in
-      let long : length (actionBytes (actionAt b at)) ≡ actionHeadSize + m = omega (arith, action-length (actionAt b at), payload-long (at + 7) l (omega arith)) in
+      let long : length (actionBytes (actionAt b at)) ≡ actionHeadSize + m = omega (arith, action-length (actionAt b at), payload-long (at + actionPayloadAt) l (omega arith)) in
       filled slotSize (actionHeadSize + m) (actionBytes (actionAt b at)) b at long h (omega arith) (action-written b at k (omega arith)) (sym (moved slotSize actionPayloadAt m b at) ∙ u .1)
 
 -- ---- and back

@@ -1,5 +1,5 @@
 -- Where the code's tests hold, the bytes say a well-formed state.
-use Prim.Native.Nat.{ℕ, _+_, _*_, _-_, _≤_, _<_, _^_}
+use Prim.Native.Nat.{ℕ, _+_, _-_, _≤_, _<_, _^_}
 use mathlib.Core.Path.{_≡_, refl, sym, ap, subst, _∙_}
 use mathlib.Core.Bool.{true}
 use mathlib.Core.List.{List, _++_}
@@ -15,39 +15,45 @@ use Rattle.base.specs.Lists.{above, Each}
 use Rattle.base.proofs.ListLaws.{all-each, each-first, each-second, each-bounded}
 use Rattle.base.specs.Sets.{inside}
 use Rattle.base.proofs.Occurs.{Occurs}
-use Rattle.format.specs.Types.{State as Record, Context}
+use Rattle.format.specs.Limits.{mostNumber, mostLength}
+use Rattle.format.specs.Types.{Id, Action, State as Record, Context}
 use Rattle.format.specs.Range.{lengthOk, indexOk, statusOk, idsInRange, idsDiffer, idsOk}
-use Rattle.format.proofs.Ranges.{ContextRange, context-range}
+use Rattle.format.proofs.Ranges.{ContextRange, context-range, length-range}
+use Rattle.format.proofs.Writing.{ids-number}
+use Rattle.record.proofs.Ranges.{cuts-law}
 use Rattle.record.specs.Context.{lastOf}
 use Rattle.record.specs.Values.{primaryOf, idsBy}
 use Rattle.record.specs.declared.State.{State}
-use Rattle.replication.specs.Machine.Colours.{cut}
+use Rattle.replication.specs.Machine.Types.{Log}
+use Rattle.replication.specs.Machine.Colours.{cut, ofCreator}
 use Rattle.replication.specs.Machine.Step.{plannedNow, hereSet, theSet, collected}
 use Rattle.replication.specs.Machine.WellFormed.{idsIn, queue}
 use Rattle.replication.specs.Machine.WellFormedRanges.{ActionFits}
 use Rattle.replication.specs.Machine.WellFormedFacts.{Configured, ModeFits}
-use Rattle.replication.proofs.WellFormed.Clauses.{LogRanges, VotesRanges, CollectedFits, MembershipRanges, HeldToCuts, OwnListFits, WellFormed}
+use Rattle.replication.proofs.WellFormed.Clauses.{LogRanges, VotesRanges, CollectedFits, MembershipRanges, heldCount, PlacesFit, OwnListFits, WellFormed}
 use Rattle.replication.proofs.WellFormed.Ids.{counted-fact, differ-once}
-use Rattle.replication.proofs.WellFormed.Ranges.{cuts-facts, sizes-facts, length-facts, set-facts, primary-facts, mark-facts, ids-facts, state-facts}
-use Rattle.image.specs.Layout.{slotSize, theCuts, theNoted, theStates, theOwn, theQueue, stateLength}
+use Rattle.replication.proofs.WellFormed.Ranges.{cuts-facts, sizes-facts, set-facts, primary-facts, mark-facts, ids-facts, state-facts}
+use Rattle.image.specs.Layout.{slotSize, theCuts, theNoted, theStates, theYellow, theOwn, theQueue, stateLength}
 use Rattle.image.specs.Image.{actionSlots}
 use Rattle.image.specs.Header.{modeNumber}
-use Rattle.image.specs.Decode.{modeNamed, actionsAt, regularOf}
+use Rattle.image.specs.Decode.{modeNamed, actionsAt, regularOf, whiteAt}
 use Rattle.state_check.specs.Slots.{notedAt, notedFit}
+use Rattle.state_check.specs.Tally.{quotasFit}
 use Rattle.state_check.specs.Collected.{plannedIn}
-use Rattle.state_check.specs.Checks.{placeOf, ownCut, exchangeOk, modeOk}
+use Rattle.state_check.specs.Checks.{placeOf, ownCut, queueIn, exchangeOk, modeOk}
+use Rattle.image.proofs.Slots.{actions-count}
+use Rattle.state_check.proofs.Quotas.{quota-held}
 use Rattle.state_check.proofs.Rooms.{states-room, own-room, queue-room}
-use Rattle.state_check.proofs.SlotLists.{ids-by-number, ids-of-actions, actions-in}
-use Rattle.state_check.proofs.HeldIds.{WithinCuts, as-many-all}
-use Rattle.state_check.proofs.IdLists.{queue-slots, queue-within, own-slots, own-run, own-in-range, run}
+use Rattle.state_check.proofs.SlotLists.{ids-of-actions, actions-in}
+use Rattle.state_check.proofs.IdLists.{WithinCuts, queue-slots, queue-within, own-slots, own-run, own-in-range, run}
 use Rattle.state_check.proofs.StateLists.{states-number, states-collected}
 use Rattle.state_check.proofs.Configurations.{Regular, absent, there, regular, transitional, regular-fits, transitional-fits, member, of-it}
 use Rattle.state_check.proofs.Modes.{mode-in, inside-all-in}
 use Rattle.state_check.proofs.Checked.{Checked}
-use Rattle.state_check.proofs.Said.{logSaid, votesSaid, membershipSaid, said}
+use Rattle.state_check.proofs.Said.{whiteSaid, logSaid, shownSaid, shown-said, white-said, votesSaid, membershipSaid, said}
 
 module _ (c : Context) (h : State) (b : List ℕ) (k : Checked c h b) (bytes : Bytes b) (long : stateLength (c .servers) (c .quota) ≤ length b)
-    (small : h .«configuration_id» < 2 ^ 32) (last-is : c .last ≡ lastOf (h .«configuration_status») (h .«configuration_set»)) where
+    (small : h .«configuration_id» < 2 ^ 32) (number-small : h .numbered ≤ mostNumber) (last-is : c .last ≡ lastOf (h .«configuration_status») (h .«configuration_set»)) where
   context-in : ContextRange c
   context-in = context-range c (k .context)
 
@@ -66,18 +72,18 @@ module _ (c : Context) (h : State) (b : List ℕ) (k : Checked c h b) (bytes : B
   unfolding placeOf
   queue-in =
       actions-in c b bytes (h .«queue_length») (placeOf c theQueue) (queue-room (c .servers) (c .quota) b long (h .«queue_length») (k .few-actions)) ids-in-range
-      (queue-slots c b (placeOf c theCuts) (h .«queue_length») (placeOf c theQueue) (k .queue))
+      (queue-slots b (placeOf c theCuts) (h .«queue_length») (placeOf c theQueue) (k .queue))
 
-  pub whole-queue : queue (logSaid c h b) ≡ actionsAt (h .«queue_length») b (placeOf c theQueue)
+  pub whole-queue : queue (shownSaid c h b) ≡ actionsAt (h .«queue_length») b (placeOf c theQueue)
   unfolding queue
-  whole-queue = take-append-drop (h .«green_length») (actionsAt (h .«queue_length») b (placeOf c theQueue))
+  whole-queue = take-append-drop (h .«green_count») (actionsAt (h .«queue_length») b (placeOf c theQueue))
 
-  queue-ids : idsIn (queue (logSaid c h b)) ≡ idsBy slotSize (h .«queue_length») b (placeOf c theQueue)
+  queue-ids : idsIn (queue (shownSaid c h b)) ≡ idsBy slotSize (h .«queue_length») b (placeOf c theQueue)
   queue-ids = ap idsIn whole-queue ∙ ids-of-actions (h .«queue_length») b (placeOf c theQueue)
 
-  both-parts : Each (ActionFits (c .servers) (c .quota)) (logSaid c h b .green ++ logSaid c h b .red)
+  both-parts : Each (ActionFits (c .servers) (c .quota)) (shownSaid c h b .green ++ shownSaid c h b .red)
   both-parts =
-      subst (Each (ActionFits (c .servers) (c .quota))) (sym (take-append-drop (h .«green_length») (actionsAt (h .«queue_length») b (placeOf c theQueue)))) (queue-in .0)
+      subst (Each (ActionFits (c .servers) (c .quota))) (sym (take-append-drop (h .«green_count») (actionsAt (h .«queue_length») b (placeOf c theQueue)))) (queue-in .0)
 
   own-cut : cut (logSaid c h b) (c .self) ≡ ownCut c b
   unfolding cut ownCut
@@ -85,7 +91,7 @@ module _ (c : Context) (h : State) (b : List ℕ) (k : Checked c h b) (bytes : B
 
   pub own-ids-in-range : idsInRange c (idsBy slotSize (h .«own_count») b (placeOf c theOwn)) ≡ true
   own-ids-in-range =
-      own-in-range c b (ownCut c b) (h .«own_count») (placeOf c theOwn) (k .own) (context-in .own) (omega (arith, k .own-next, k .quota))
+      own-in-range c b (ownCut c b) (h .«own_count») (placeOf c theOwn) (k .own) (context-in .own) (omega (arith, k .own-next, number-small))
 
   pub own-in : Each (ActionFits (c .servers) (c .quota)) (actionsAt (h .«own_count») b (placeOf c theOwn))
       × Occurs (actionSlots (actionsAt (h .«own_count») b (placeOf c theOwn))) b (placeOf c theOwn)
@@ -94,36 +100,40 @@ module _ (c : Context) (h : State) (b : List ℕ) (k : Checked c h b) (bytes : B
       actions-in c b bytes (h .«own_count») (placeOf c theOwn) (own-room (c .servers) (c .quota) b long (h .«own_count») (k .few-own)) own-ids-in-range
       (own-slots c b (ownCut c b) (h .«own_count») (placeOf c theOwn) (k .own))
 
-  log-ranges : LogRanges (c .servers) (c .quota) (logSaid c h b)
+  log-ranges : LogRanges (c .servers) (c .quota) (shownSaid c h b)
   unfolding cut
   log-ranges =
       record {
-        green = each-first (ActionFits (c .servers) (c .quota)) (logSaid c h b .green) (logSaid c h b .red) both-parts;
-        red = each-second (ActionFits (c .servers) (c .quota)) (logSaid c h b .green) (logSaid c h b .red) both-parts;
+        green = each-first (ActionFits (c .servers) (c .quota)) (shownSaid c h b .green) (shownSaid c h b .red) both-parts;
+        red = each-second (ActionFits (c .servers) (c .quota)) (shownSaid c h b .green) (shownSaid c h b .red) both-parts;
         cuts-length = numbers-length 2 (c .servers) b (placeOf c theCuts);
-        cuts = cuts-facts (c .quota) (numbersAt 2 (c .servers) b (placeOf c theCuts)) (k .cuts);
+        cuts = cuts-facts mostNumber (numbersAt 2 (c .servers) b (placeOf c theCuts)) (cuts-law (c .servers) b (placeOf c theCuts) bytes);
         own = own-in .0;
-        numbered = k .quota;
+        numbered = number-small;
         sent = k .sent;
       }
 
-  within : Each (WithinCuts (numbersAt 2 (c .servers) b (placeOf c theCuts))) (idsIn (queue (logSaid c h b)))
+  within : Each (WithinCuts (numbersAt 2 (c .servers) b (placeOf c theCuts))) (idsIn (queue (shownSaid c h b)))
   within =
       subst (Each (WithinCuts (numbersAt 2 (c .servers) b (placeOf c theCuts)))) (sym queue-ids)
       (queue-within c b (placeOf c theCuts) (h .«queue_length») (placeOf c theQueue) ids-in-range (k .queue))
 
-  differ : idsDiffer (idsIn (queue (logSaid c h b))) ≡ true
+  differ : idsDiffer (idsIn (queue (shownSaid c h b))) ≡ true
   differ = ap idsDiffer queue-ids ∙ ids-differ
 
-  id-count : length (idsIn (queue (logSaid c h b))) ≡ h .«queue_length»
-  id-count = ap length queue-ids ∙ ids-by-number slotSize (h .«queue_length») b (placeOf c theQueue)
-
-  held-to-cuts : HeldToCuts (logSaid c h b)
+  held-within : (d : Id) → 1 ≤ heldCount d (shownSaid c h b) → d .index ≤ cut (shownSaid c h b) (d .creator)
   unfolding cut
-  held-to-cuts =
+  held-within d m = counted-fact (WithinCuts (shownSaid c h b .cuts)) d (idsIn (queue (shownSaid c h b))) within m
+
+  -- Each creator's actions that have a place, and the own list.
+  places-fit : PlacesFit (c .servers) (c .quota) (c .self) (whiteSaid c h b) (shownSaid c h b)
+  unfolding whiteAt quotasFit placeOf cut
+  places-fit =
+      let actions : List Action = queueIn c (h .«queue_length») b in
       record {
-        within = λ d m. counted-fact (WithinCuts (logSaid c h b .cuts)) d (idsIn (queue (logSaid c h b))) within m .1;
-        entered = λ d low high. as-many-all (idsIn (queue (logSaid c h b))) (logSaid c h b .cuts) differ within (id-count ∙ sym (k .as-many)) d low high;
+        counted = omega (arith, k .few-held, ap length whole-queue, actions-count (h .«queue_length») b (placeOf c theQueue));
+        unwhites = λ j l. subst (λ (xs : List Action). ofCreator j xs ≤ c .quota) (sym whole-queue) (quota-held (c .servers) (c .quota) actions (k .quotas) j l);
+        own-room = subst (λ (xs : List Action). ofCreator (c .self) xs + h .numbered ≤ c .quota + cut (shownSaid c h b) (c .self)) (sym whole-queue) (omega (arith, k .own-room, own-cut));
       }
 
   own-list : OwnListFits (c .self) (logSaid c h b)
@@ -149,7 +159,7 @@ module _ (c : Context) (h : State) (b : List ℕ) (k : Checked c h b) (bytes : B
         last = primary-facts c _ (k .last);
         attempt = le-holds _ _ (k .attempt);
         mark = mark-facts c _ (k .mark);
-        yellow = record { status = le-holds _ _ (k .status); ids = ids-facts c _ (u .0); once = differ-once _ (u .1) };
+        yellow = record { status = le-holds _ _ (k .status); few = omega (arith, ids-number (h .«yellow_count») b (placeOf c theYellow), k .few-ids); ids = ids-facts c _ (u .0); once = differ-once _ (u .1) };
       }
 
   -- ---- the membership
@@ -183,12 +193,12 @@ module _ (c : Context) (h : State) (b : List ℕ) (k : Checked c h b) (bytes : B
 
   -- ---- noted lengths
 
-  noted-bound : (j : ℕ) → getD (numbersAt 4 (c .servers) b (placeOf c theNoted)) j 0 ≤ c .servers * c .quota
+  noted-bound : (j : ℕ) → getD (numbersAt 4 (c .servers) b (placeOf c theNoted)) j 0 ≤ mostLength
   unfolding notedFit notedAt
   noted-bound =
-      each-bounded (c .servers * c .quota) (numbersAt 4 (c .servers) b (placeOf c theNoted))
-      (all-each (lengthOk c) (λ l. l ≤ c .servers * c .quota) (length-facts c) (numbersAt 4 (c .servers) b (placeOf c theNoted))
-      (sym (every-number (lengthOk c) 4 (c .servers) b (placeOf c theNoted)) ∙ k .noted))
+      each-bounded mostLength (numbersAt 4 (c .servers) b (placeOf c theNoted))
+      (all-each lengthOk (λ l. l ≤ mostLength) length-range (numbersAt 4 (c .servers) b (placeOf c theNoted))
+      (sym (every-number lengthOk 4 (c .servers) b (placeOf c theNoted)) ∙ k .noted))
 
   -- ---- the state's name
 
@@ -209,16 +219,20 @@ module _ (c : Context) (h : State) (b : List ℕ) (k : Checked c h b) (bytes : B
       (λ e. lt-holds _ _ e) (h .mode) (k .mode)
 
   pub formed : WellFormed (said c h b)
+  unfolding cut
   formed =
+      let shown = shown-said c h b in
       record {
         sizes = sizes-facts c (k .context);
-        log = log-ranges;
+        log = subst (LogRanges (c .servers) (c .quota)) (sym shown) log-ranges;
         votes = votes-ranges;
         membership = membership-ranges;
         noted-length = numbers-length 4 (c .servers) b (placeOf c theNoted);
         noted = noted-bound;
-        once = differ-once _ differ;
-        held-to-cuts = held-to-cuts;
+        white = white-said c h b;
+        once = subst (λ (l : Log). (d : Id) → heldCount d l ≤ 1) (sym shown) (differ-once _ differ);
+        within = subst (λ (l : Log). (d : Id) → 1 ≤ heldCount d l → d .index ≤ cut (logSaid c h b) (d .creator)) (sym shown) held-within;
+        places = subst (PlacesFit (c .servers) (c .quota) (c .self) (whiteSaid c h b)) (sym shown) places-fit;
         own-list = own-list;
         mode = mode-is .0;
       }

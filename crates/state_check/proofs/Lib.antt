@@ -1,6 +1,5 @@
 pub mod Filled
 pub mod SlotLists
-pub mod HeldIds
 pub mod Over
 pub mod StateSlots
 pub mod StateLists
@@ -8,15 +7,18 @@ pub mod IdLists
 pub mod Configurations
 pub mod Modes
 pub mod Rooms
+pub mod Quotas
 pub mod Checked
 pub mod Said
 pub mod Formed
 pub mod Rewritten
+pub mod LogBack
 pub mod Back
 pub mod ReadsLaw
 pub mod Gathered
 pub mod SlotCode
 pub mod QueueCode
+pub mod TallyCode
 pub mod NumberCode
 pub mod CollectedCode
 pub mod SectionCode

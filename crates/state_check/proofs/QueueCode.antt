@@ -25,7 +25,7 @@ use Rattle.state_check.specs.Slots.{queueSlotFits, queueSlotsFit, NextFi
 
 -- What is left of the answer.
 unfoldable pub queueLeft : FormatContext → (cuts m : ℕ) → (b : List ℕ) → (at k here : ℕ) → Bool
-queueLeft c cuts m b at k here = pass c (idsBy slotSize k b at) (idsBy slotSize (m - k) b here) and everyAt (queueSlotFits c b cuts) slotSize (m - k) here
+queueLeft c cuts m b at k here = pass c (idsBy slotSize k b at) (idsBy slotSize (m - k) b here) and everyAt (queueSlotFits b cuts) slotSize (m - k) here
 
 pub slots-inside : (m : ℕ) (b : List ℕ) (at : ℕ) → at + slotSize * m ≤ length b → IdsInside slotSize m b at
 slots-inside m b at h = record { wide = omega arith; inside = h }
@@ -49,7 +49,7 @@ module _ (c : FormatContext) (xs : List Id) (d : Id) (f r : Bool) (t u : List �
 module _ (c : FormatContext) (cuts m : ℕ) (b : List ℕ) (at : ℕ) where
   pub queue-start : queueFits c cuts m b at ≡ queueLeft c cuts m b at 0 at
   unfolding queueFits queueSlotsFit queueLeft
-  queue-start = let z : m ≡ m - 0 = omega arith in λ i. pass-start c slotSize m b at i and everyAt (queueSlotFits c b cuts) slotSize (z i) at
+  queue-start = let z : m ≡ m - 0 = omega arith in λ i. pass-start c slotSize m b at i and everyAt (queueSlotFits b cuts) slotSize (z i) at
 
   module _ (k here n : ℕ) (t : List ℕ) (a : Along slotSize m b at k here n t) where
     pub next-here : k < m → at + slotSize * m ≤ length b → here + slotSize ≤ length b
@@ -60,7 +60,7 @@ module _ (c : FormatContext) (cuts m : ℕ) (b : List ℕ) (at : ℕ) where
     next-along r f u h j e =
         along-again slotSize m b at k here n t a c (j .new) u h (j .met) (ap not (and-holds _ _ (sym (j .answer) ∙ not-false r e) .0))
 
-    pub queue-denied : (r v : Bool) (u : List ℕ) → k < m → NextFits c (idsBy slotSize k b at) (idAt b here) (queueSlotFits c b cuts here) r t u → not r ≡ true
+    pub queue-denied : (r v : Bool) (u : List ℕ) → k < m → NextFits c (idsBy slotSize k b at) (idAt b here) (queueSlotFits b cuts here) r t u → not r ≡ true
         → v ≡ queueLeft c cuts m b at k here → false ≡ v
     unfolding queueLeft
     queue-denied r v u h j f g = go (known (j .new))
@@ -71,11 +71,11 @@ module _ (c : FormatContext) (cuts m : ℕ) (b : List ℕ) (at : ℕ) where
         go : Known (j .new) → false ≡ v
         go (fails e) = and-no _ _ (sym (pass-denied slotSize m b at k here n t a c (j .new) _ u h (j .met) (ap not e) refl)) ∙ sym g
         go (holds e) =
-            let q : queueSlotFits c b cuts here ≡ false = and-yes _ _ _ e refl ∙ sym (j .answer) ∙ not-true r f in
-            let z = every-denied (queueSlotFits c b cuts) slotSize (m - k) here _ _ refl (omega arith) refl (ap not q) in
+            let q : queueSlotFits b cuts here ≡ false = and-yes _ _ _ e refl ∙ sym (j .answer) ∙ not-true r f in
+            let z = every-denied (queueSlotFits b cuts) slotSize (m - k) here _ _ refl (omega arith) refl (ap not q) in
             and-false p ∙ ap (λ (x : Bool). p and x) z ∙ sym g
 
-    pub queue-again : (r v : Bool) (u : List ℕ) → k < m → NextFits c (idsBy slotSize k b at) (idAt b here) (queueSlotFits c b cuts here) r t u → not r ≡ false
+    pub queue-again : (r v : Bool) (u : List ℕ) → k < m → NextFits c (idsBy slotSize k b at) (idAt b here) (queueSlotFits b cuts here) r t u → not r ≡ false
         → v ≡ queueLeft c cuts m b at k here
         → v ≡ queueLeft c cuts m b at (k + 1) (here + slotSize)
     unfolding queueLeft
@@ -83,10 +83,10 @@ module _ (c : FormatContext) (cuts m : ℕ) (b : List ℕ) (at : ℕ) where
         let both = and-holds _ _ (sym (j .answer) ∙ not-false r f) in
         let x = pass-again slotSize m b at k here n t a c (j .new) _ u h (j .met) (ap not (both .0)) refl in
         let s : m - k - 1 ≡ m - (k + 1) = omega arith in
-        let y = every-again (queueSlotFits c b cuts) slotSize (m - k) here _ _ refl (omega arith) refl (ap not (both .1)) in
-        g ∙ (λ o. x o and (y ∙ ap (λ (l : ℕ). everyAt (queueSlotFits c b cuts) slotSize l (here + slotSize)) s) o)
+        let y = every-again (queueSlotFits b cuts) slotSize (m - k) here _ _ refl (omega arith) refl (ap not (both .1)) in
+        g ∙ (λ o. x o and (y ∙ ap (λ (l : ℕ). everyAt (queueSlotFits b cuts) slotSize l (here + slotSize)) s) o)
 
     pub queue-end : (v : Bool) → m ≤ k → v ≡ queueLeft c cuts m b at k here → true ≡ v
     unfolding queueLeft
     queue-end v h g =
-        sym (g ∙ both-yes _ _ (sym (pass-end slotSize m b at k here n t a c _ h refl)) (sym (every-end (queueSlotFits c b cuts) slotSize (m - k) here _ refl (omega arith))))
+        sym (g ∙ both-yes _ _ (sym (pass-end slotSize m b at k here n t a c _ h refl)) (sym (every-end (queueSlotFits b cuts) slotSize (m - k) here _ refl (omega arith))))

@@ -12,6 +12,7 @@ use Rattle.base.specs.Lists.{sum, Each}
 use Rattle.base.proofs.ListLaws.{each-implied}
 use Rattle.base.proofs.Occurs.{Occurs, occurs-nil, occurs-append, number-occurs}
 use Rattle.base.proofs.Sections.{patchedAll}
+use Rattle.format.specs.Limits.{mostNumber}
 use Rattle.format.specs.Types.{Action, Context}
 use Rattle.format.specs.Range.{setOk}
 use Rattle.format.specs.Read.{idsAt}
@@ -22,13 +23,14 @@ use Rattle.format.proofs.Writing.{cuts-written, ids-written, ids-number}
 use Rattle.record.specs.Context.{lastOf}
 use Rattle.record.specs.Values.{primaryOf, markOf, lastOf as lastNumbers}
 use Rattle.record.specs.declared.State.{State}
+use Rattle.replication.specs.Machine.Types.{Log}
 use Rattle.replication.specs.Machine.WellFormed.{queue}
 use Rattle.replication.specs.Machine.WellFormedRanges.{ActionFits}
 use Rattle.replication.proofs.WellFormed.Facts.{facts-well-formed}
 use Rattle.image.specs.Layout.{stateSize, theHeader, theCuts, theNoted, theStates, theYellow, theOwn, theQueue, sections, sectionSize, offset, stateLength, headerSize}
 use Rattle.image.specs.Image.{headerBytes, notedBytes, actionSlots, statesOver, section, parts, image}
 use Rattle.image.specs.Decode.{actionsAt, regularOf, transitionalIn}
-use Rattle.image.specs.Header.{statusOf, idOf, setOf, transitionalOf, markNumbers, headerOf, headerWritten}
+use Rattle.image.specs.Header.{shownLog, statusOf, idOf, setOf, transitionalOf, markNumbers, headerOf, headerWritten}
 use Rattle.image.proofs.Used.{action-slots-length, noted-length, header-length}
 use Rattle.image.proofs.Fit.{SectionsFit, well-formed-fits}
 use Rattle.image.proofs.HeaderLaws.{header-written}
@@ -41,7 +43,7 @@ use Rattle.state_check.proofs.StateLists.{states-same}
 use Rattle.state_check.proofs.Configurations.{Regular, absent, there, regular, Transitional, transitional}
 use Rattle.state_check.proofs.Modes.{senders-are}
 use Rattle.state_check.proofs.Checked.{Checked}
-use Rattle.state_check.proofs.Said.{said}
+use Rattle.state_check.proofs.Said.{shown-said, said}
 use Rattle.state_check.proofs.Formed.{queue-in, own-in, whole-queue, mode-is, formed}
 
 pub noted-written : (m : ℕ) (e : List ℕ) (at : ℕ) → Bytes e → at + 4 * m ≤ length e → Occurs (notedBytes (numbersAt 4 m e at)) e at
@@ -71,7 +73,7 @@ module _ (c : Context) (h : State) where
   transitional-numbers (there s o l e) = (ap statusOf e ∙ sym s, ap transitionalOf e)
 
 module _ (c : Context) (h : State) (b : List ℕ) (k : Checked c h b) (bytes : Bytes b) (long : stateLength (c .servers) (c .quota) ≤ length b)
-    (small : h .«configuration_id» < 2 ^ 32) (last-is : c .last ≡ lastOf (h .«configuration_status») (h .«configuration_set»))
+    (small : h .«configuration_id» < 2 ^ 32) (number-small : h .numbered ≤ mostNumber) (last-is : c .last ≡ lastOf (h .«configuration_status») (h .«configuration_set»))
     (n-is : c .servers ≡ h .servers) (q-is : c .quota ≡ h .quota) (me-is : c .self ≡ h .me) where
   numbers-same : headerOf (said c h b) ≡ h
   unfolding headerOf lastNumbers markNumbers primaryOf markOf setOk
@@ -79,15 +81,18 @@ module _ (c : Context) (h : State) (b : List ℕ) (k : Checked c h b) (bytes : B
       let r = regular-numbers c h (regular c h (k .regular)) in
       let t = transitional-numbers c h (transitional c h (k .transitional)) in
       let states = senders-are (c .servers) (c .quota) (h .states) b (placeOf c theStates) (lt-holds _ _ (k .senders)) in
-      let actions : length (queue (said c h b .log)) ≡ h .«queue_length» = ap length (whole-queue c h b k bytes long small last-is) ∙ actions-count (h .«queue_length») b (placeOf c theQueue) in
-      let greens : length (said c h b .log .green) ≡ h .«green_length» =
-      length-take-le (h .«green_length») (actionsAt (h .«queue_length») b (placeOf c theQueue)) (omega (arith, k .few-greens, actions-count (h .«queue_length») b (placeOf c theQueue))) in
+      let shown = shown-said c h b in
+      let actions : length (queue (shownLog (said c h b))) ≡ h .«queue_length» =
+      ap (λ (l : Log). length (queue l)) shown ∙ ap length (whole-queue c h b k bytes long small number-small last-is) ∙ actions-count (h .«queue_length») b (placeOf c theQueue) in
+      let greens : length (shownLog (said c h b) .green) ≡ h .«green_count» =
+      ap (λ (l : Log). length (l .green)) shown
+      ∙ length-take-le (h .«green_count») (actionsAt (h .«queue_length») b (placeOf c theQueue)) (omega (arith, k .few-greens, actions-count (h .«queue_length») b (placeOf c theQueue))) in
       λ i. record {
         layout = sym (k .layout) i;
         servers = n-is i;
         quota = q-is i;
         me = me-is i;
-        mode = mode-is c h b k bytes long small last-is .1 i;
+        mode = mode-is c h b k bytes long small number-small last-is .1 i;
         «configuration_status» = r .0 i;
         «configuration_id» = r .1 i;
         «configuration_set» = r .2 i;
@@ -97,7 +102,7 @@ module _ (c : Context) (h : State) (b : List ℕ) (k : Checked c h b) (bytes : B
         cpcs = h .cpcs;
         come = h .come;
         «queue_length» = actions i;
-        «green_length» = greens i;
+        «green_count» = greens i;
         numbered = h .numbered;
         «own_count» = actions-count (h .«own_count») b (placeOf c theOwn) i;
         sent = h .sent;
@@ -150,23 +155,23 @@ module _ (c : Context) (h : State) (b : List ℕ) (k : Checked c h b) (bytes : B
   unfolding sectionSize sections placeOf
   own-same =
       let l : List Action = actionsAt (h .«own_count») b (placeOf c theOwn) in
-      let r = own-in c h b k bytes long small last-is in
+      let r = own-in c h b k bytes long small number-small last-is in
       used (c .servers) (c .quota) theOwn (actionSlots l) b
       (omega (arith, action-slots-length l (payloads-fit (c .servers) (c .quota) l (r .0)), actions-count (h .«own_count») b (placeOf c theOwn), k .few-own)) (r .1)
 
-  queue-same : section (c .servers) (c .quota) theQueue b ≡ over (actionSlots (queue (said c h b .log))) (section (c .servers) (c .quota) theQueue b)
+  queue-same : section (c .servers) (c .quota) theQueue b ≡ over (actionSlots (queue (shownLog (said c h b)))) (section (c .servers) (c .quota) theQueue b)
   unfolding sectionSize sections placeOf
   queue-same =
       let l : List Action = actionsAt (h .«queue_length») b (placeOf c theQueue) in
-      let r = queue-in c h b k bytes long small last-is in
+      let r = queue-in c h b k bytes long small number-small last-is in
       used (c .servers) (c .quota) theQueue (actionSlots l) b
       (omega (arith, action-slots-length l (payloads-fit (c .servers) (c .quota) l (r .0)), actions-count (h .«queue_length») b (placeOf c theQueue), k .few-actions)) (r .1)
-      ∙ ap (λ (x : List Action). over (actionSlots x) (section (c .servers) (c .quota) theQueue b)) (sym (whole-queue c h b k bytes long small last-is))
+      ∙ ap (λ (x : List Action). over (actionSlots x) (section (c .servers) (c .quota) theQueue b)) (sym (ap queue (shown-said c h b) ∙ whole-queue c h b k bytes long small number-small last-is))
 
   pub rewritten : Occurs (headerWritten h) b 0 → image (said c h b) b ≡ b
   unfolding parts patchedAll
   rewritten kept =
       let s = said c h b in
-      let fits : SectionsFit s = well-formed-fits s (facts-well-formed s (formed c h b k bytes long small last-is)) in
+      let fits : SectionsFit s = well-formed-fits s (facts-well-formed s (formed c h b k bytes long small number-small last-is)) in
       image-patched s fits b long [] tt
       (same-but [] s b (λ z. header-same kept) (λ z. cuts-same) (λ z. noted-same) (λ z. states-kept) (λ z. ids-same) (λ z. own-same) (λ z. queue-same))

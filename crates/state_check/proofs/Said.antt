@@ -1,29 +1,59 @@
 -- The state that the bytes say, over the numbers that they begin with.
-use Prim.Native.Nat.{ℕ}
-use mathlib.Core.Path.{_≡_, refl}
-use mathlib.Core.List.{List}
-use lib.ListN.{take, drop}
+use Prim.Native.Nat.{ℕ, _≤_}
+use mathlib.Core.Path.{_≡_, refl, ap}
+use mathlib.Core.List.{List, _++_}
+use native.Mathlib.Omega.{arith}
+use lib.ListN.{length, take, drop, length-append, length-replicate}
 use Rattle.base.specs.Bytes.{numbersAt}
-use Rattle.format.specs.Types.{Context}
+use Rattle.format.specs.Types.{Action, Context}
 use Rattle.format.specs.Read.{idsAt}
 use Rattle.record.specs.Context.{readingContext, contextOf}
 use Rattle.record.specs.Values.{primaryOf, markOf}
 use Rattle.record.specs.declared.State.{State}
 use Rattle.replication.specs.Machine.Types.{Log, Votes, Membership, Server}
+use Rattle.replication.specs.Machine.Colours.{shown}
 use Rattle.image.specs.Layout.{theCuts, theNoted, theStates, theYellow, theOwn, theQueue}
 use Rattle.image.specs.Header.{headerIn}
-use Rattle.image.specs.Decode.{modeNamed, regularOf, transitionalIn, actionsAt, statesAt, decodedAs, serversIn, quotaIn, decoded}
+use Rattle.image.specs.Decode.{modeNamed, regularOf, transitionalIn, actionsAt, statesAt, blank, blanks, whiteAt, decodedAs, serversIn, quotaIn, decoded}
+use Rattle.image.proofs.Blanks.{behind-blanks}
 use Rattle.state_check.specs.Checks.{placeOf, contextIn}
 
-abbrev pub logSaid : Context → State → List ℕ → Log
-logSaid c h b = record {
-  green = take (h .«green_length») (actionsAt (h .«queue_length») b (placeOf c theQueue));
-  red = drop (h .«green_length») (actionsAt (h .«queue_length») b (placeOf c theQueue));
+-- How many actions are white.
+abbrev pub whiteSaid : Context → State → List ℕ → ℕ
+whiteSaid c h b = whiteAt (c .servers) (c .quota) h b
+
+-- The green actions that have a place, and behind them the red ones.
+abbrev pub greenSaid : Context → State → List ℕ → List Action
+greenSaid c h b = take (h .«green_count») (actionsAt (h .«queue_length») b (placeOf c theQueue))
+
+abbrev pub redSaid : Context → State → List ℕ → List Action
+redSaid c h b = drop (h .«green_count») (actionsAt (h .«queue_length») b (placeOf c theQueue))
+
+-- The log with these green actions.
+abbrev pub logWith : Context → State → List ℕ → List Action → Log
+logWith c h b greens = record {
+  green = greens;
+  red = redSaid c h b;
   cuts = numbersAt 2 (c .servers) b (placeOf c theCuts);
   own = actionsAt (h .«own_count») b (placeOf c theOwn);
   numbered = h .numbered;
   sent = h .sent;
 }
+
+-- The white ones are blank in the log; its places show none of them.
+abbrev pub logSaid : Context → State → List ℕ → Log
+logSaid c h b = logWith c h b (blanks (whiteSaid c h b) ++ greenSaid c h b)
+
+abbrev pub shownSaid : Context → State → List ℕ → Log
+shownSaid c h b = logWith c h b (greenSaid c h b)
+
+pub shown-said : (c : Context) (h : State) (b : List ℕ) → shown (whiteSaid c h b) (logSaid c h b) ≡ shownSaid c h b
+shown-said c h b = ap (logWith c h b) (behind-blanks (whiteSaid c h b) (greenSaid c h b))
+
+-- None is white that is not green.
+pub white-said : (c : Context) (h : State) (b : List ℕ) → whiteSaid c h b ≤ length (logSaid c h b .green)
+unfolding blanks
+white-said c h b = omega (arith, length-append (blanks (whiteSaid c h b)) (greenSaid c h b), length-replicate (whiteSaid c h b) blank)
 
 abbrev pub votesSaid : Context → State → List ℕ → Votes
 votesSaid c h b = record {
@@ -52,6 +82,7 @@ said c h b = record {
   votes = votesSaid c h b;
   membership = membershipSaid c h b;
   noted = numbersAt 4 (c .servers) b (placeOf c theNoted);
+  white = whiteSaid c h b;
 }
 
 pub decoded-said : (b : List ℕ) → decoded b ≡ said (contextIn b) (headerIn b) b

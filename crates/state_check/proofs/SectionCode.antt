@@ -1,18 +1,16 @@
 -- What the code on the sections of the buffer answers.
 use Prim.Native.Nat.{ℕ, zero, suc, _+_, _*_, _-_, _≤_, _<_}
 use mathlib.Core.Path.{_≡_, sym, ap, subst, _∙_}
-use mathlib.Core.Bool.{Bool, true, false, not}
+use mathlib.Core.Bool.{Bool, true}
 use mathlib.Core.List.{List}
 use native.Mathlib.Omega.{arith}
-use lib.Dec.{eqb}
+use lib.Dec.{eqb, leb}
 use lib.ListN.{length}
-use borrow.Author.Tests.{not-true, not-false}
-use Rattle.base.specs.Tests.{_and_}
-use Rattle.base.proofs.TestLaws.{and-yes, and-no}
-use Rattle.base.proofs.Branches.{told-eq}
+use Rattle.base.specs.Tests.{_and_, _≤?_}
+use Rattle.base.proofs.Branches.{told-eq, told-le}
 use Rattle.base.specs.Bytes.{numberAt, numbersAt}
 use Rattle.base.specs.Lists.{sum}
-use Rattle.format.specs.Range.{cutsOk, idsInRange, idsDiffer, idsOk}
+use Rattle.format.specs.Range.{idsInRange, idsDiffer, idsOk}
 use Rattle.format.specs.Read.{idsAt}
 use Rattle.record.specs.Context.{contextOf}
 use Rattle.record.specs.declared.Context.{Context}
@@ -100,14 +98,9 @@ module _ (c : Context) (b : List ℕ) where
   unfolding placeOf contextOf
   own-told at x m r e f g = g ∙ λ i. ownFits (contextOf c) (f i) m b (e i)
 
-  pub cuts-denied : (actions : ℕ) (t : Bool) → t ≡ cutsOk (c .quota) (numbersAt 2 (c .servers) b headerSize) → not t ≡ true → false ≡ queueCuts (contextOf c) actions b
+  pub cuts-answered : (actions x : ℕ) → x ≡ sum (numbersAt 2 (c .servers) b headerSize) → leb actions x ≡ queueCuts (contextOf c) actions b
   unfolding queueCuts placeOf contextOf offset sections sum
-  cuts-denied actions t e h = and-no _ _ (sym e ∙ not-true t h)
-
-  pub cuts-answered : (actions x : ℕ) (t : Bool) → t ≡ cutsOk (c .quota) (numbersAt 2 (c .servers) b headerSize) → not t ≡ false → x ≡ sum (numbersAt 2 (c .servers) b headerSize)
-      → eqb x actions ≡ queueCuts (contextOf c) actions b
-  unfolding queueCuts placeOf contextOf offset sections sum
-  cuts-answered actions x t e h f = and-yes _ _ _ (sym e ∙ not-false t h) (ap (λ (i : ℕ). eqb i actions) f ∙ told-eq _ actions)
+  cuts-answered actions x e = ap (leb actions) e ∙ told-le actions _
 
   pub next-told : (x own numbered : ℕ) → x ≡ ownCut (contextOf c) b → eqb (x + own) numbered ≡ ownNext (contextOf c) own numbered b
   unfolding ownNext
@@ -116,6 +109,9 @@ module _ (c : Context) (b : List ℕ) where
   pub queue-told : (at m : ℕ) (r : Bool) → at ≡ offset (c .servers) (c .quota) theQueue → r ≡ queueFits (contextOf c) headerSize m b at → r ≡ queueOk (contextOf c) m b
   unfolding placeOf contextOf offset sections sum
   queue-told at m r e f = f ∙ ap (queueFits (contextOf c) headerSize m b) e
+
+  pub room-told : (x entered numbered : ℕ) → x ≡ ownCut (contextOf c) b → leb (entered + numbered) (c .quota + x) ≡ (entered + numbered ≤? c .quota + ownCut (contextOf c) b)
+  room-told x entered numbered e = ap (λ (i : ℕ). leb (entered + numbered) (c .quota + i)) e ∙ told-le (entered + numbered) (c .quota + ownCut (contextOf c) b)
 
   pub states-told : (at s i : ℕ) (r : Bool) → at ≡ offset (c .servers) (c .quota) theStates → r ≡ collectedOk (contextOf c) s i (c .servers) 0 b at
       → r ≡ collectedOk (contextOf c) s i (c .servers) 0 b (placeOf (contextOf c) theStates)

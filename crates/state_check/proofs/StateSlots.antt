@@ -14,7 +14,6 @@ use Rattle.format.specs.Range.{contextOk, stateOk, fieldsOk, recordOk}
 use Rattle.format.specs.Read.{stateAt, yellowAt, read}
 use Rattle.format.specs.Write.{write, framed, bodyOf, stateBytes, lengthOf}
 use Rattle.format.proofs.Ranges.{ContextRange, state-range}
-use Rattle.format.proofs.IdCount.{ids-count}
 use Rattle.format.proofs.Fields.{state-read}
 use Rattle.format.proofs.Lengths.{write-length}
 use Rattle.format.proofs.Writing.{ids-number}
@@ -101,7 +100,7 @@ module _ (c : Context) (s : ContextRange c) (ok : contextOk c ≡ true) (b : Lis
   state-ids-few f =
       let x : State = stateAt (c .servers) (drop at b) in
       let r = state-range c x s f in
-      omega (arith, ids-of-state, ids-count c (x .yellow .ids) (r .yellow .ids) (r .yellow .differ))
+      omega (arith, ids-of-state, r .yellow .few)
 
   record-length : length (write (state (stateAt (c .servers) (drop at b)))) ≡ stateHeadSize + 2 * c .servers + idSize * idsInSlot (c .servers) b at
   unfolding lengthOf

@@ -1,24 +1,27 @@
 -- What the code tests of a state's buffer: a conjunction of tests that take one pass each.
-use Prim.Native.Nat.{ℕ, _+_, _*_, _≤_}
+use Prim.Native.Nat.{ℕ, _+_, _*_, _≤_, _<_}
 use mathlib.Core.Bool.{Bool, true}
 use mathlib.Core.List.{List}
 use lib.ListN.{length}
 use Rattle.base.specs.Tests.{_and_, _≤?_, _<?_, _=?_, pick}
 use Rattle.base.specs.Bytes.{Bytes, numberAt, numbersAt}
-use Rattle.base.specs.Lists.{sum}
+use Rattle.base.specs.Lists.{sum, Each}
 use Rattle.base.specs.Sets.{inside}
 use Rattle.format.specs.Limits.{mostIndex}
 use Rattle.format.specs.Places.{cutSize}
-use Rattle.format.specs.Types.{Context}
-use Rattle.format.specs.Range.{contextOk, cutsOk, idsOk}
+use Rattle.format.specs.Types.{Action, Context}
+use Rattle.format.specs.Range.{contextOk, idsOk}
 use Rattle.format.specs.Read.{idsAt}
 use Rattle.replication.specs.Machine.Types.{Non-prim, Exchange-states, Exchange-actions, Un}
+use Rattle.replication.specs.Machine.Colours.{ofCreator}
 use Rattle.record.specs.Context.{readingContext, contextOf, ContextIn}
 use Rattle.record.specs.declared.Context.{Context as CodeContext}
 use Rattle.record.specs.declared.State.{State}
 use Rattle.image.specs.Layout.{theCuts, theNoted, theStates, theYellow, theOwn, theQueue, offset, stateLength}
+use Rattle.image.specs.Decode.{actionsAt}
 use Rattle.image.specs.Header.{headerIn, modeNumber}
 use Rattle.state_check.specs.Slots.{queueFits, ownFits, notedFit}
+use Rattle.state_check.specs.Tally.{quotasFit}
 use Rattle.state_check.specs.Numbers.{numbersOk}
 use Rattle.state_check.specs.Collected.{collectedOk, plannedIn}
 
@@ -30,10 +33,9 @@ placeOf c k = offset (c .servers) (c .quota) k
 unfoldable pub ownCut : Context → List ℕ → ℕ
 ownCut c b = numberAt cutSize b (placeOf c theCuts + cutSize * c .self)
 
--- The cuts, with as many actions in the queue as they have together.
+-- K6: "Number 8 counts white actions as held": those that were entered, by the cuts, and have no place in the queue.
 unfoldable pub queueCuts : Context → (actions : ℕ) → List ℕ → Bool
-queueCuts c actions b =
-    cutsOk (c .quota) (numbersAt cutSize (c .servers) b (placeOf c theCuts)) and sum (numbersAt cutSize (c .servers) b (placeOf c theCuts)) =? actions
+queueCuts c actions b = actions ≤? sum (numbersAt cutSize (c .servers) b (placeOf c theCuts))
 
 -- "own cut + 1 to the last numbered": so many are on the own list.
 unfoldable pub ownNext : Context → (own numbered : ℕ) → List ℕ → Bool
@@ -50,6 +52,17 @@ ownOk c own b = ownFits c (ownCut c b) own b (placeOf c theOwn)
 abbrev pub queueOk : Context → (actions : ℕ) → List ℕ → Bool
 queueOk c actions b = queueFits c (placeOf c theCuts) actions b (placeOf c theQueue)
 
+-- So many actions of the queue.
+abbrev pub queueIn : Context → (actions : ℕ) → List ℕ → List Action
+queueIn c actions b = actionsAt actions b (placeOf c theQueue)
+
+-- The own actions of the queue and those that are numbered and not entered are at most q together.
+unfoldable pub ownRoom : Context → (numbered actions : ℕ) → List ℕ → Bool
+ownRoom c numbered actions b = ofCreator (c .self) (queueIn c actions b) + numbered ≤? c .quota + ownCut c b
+
+unfoldable pub placesOk : Context → (numbered actions : ℕ) → List ℕ → Bool
+placesOk c numbered actions b = quotasFit (c .servers) (c .quota) (queueIn c actions b) and ownRoom c numbered actions b
+
 -- Cuts and noted lengths; then so many yellow ids, own actions and actions in the queue.
 unfoldable pub firstListsOk : Context → State → List ℕ → Bool
 firstListsOk c h b = cutsFit c h b and notedFit c b (placeOf c theNoted)
@@ -59,7 +72,10 @@ lastListsOk c ids own actions b =
     idsOk c (idsAt ids b (placeOf c theYellow)) and ownOk c own b and queueOk c actions b
 
 unfoldable pub listsOk : Context → State → List ℕ → Bool
-listsOk c h b = firstListsOk c h b and lastListsOk c (h .«yellow_count») (h .«own_count») (h .«queue_length») b
+listsOk c h b =
+    firstListsOk c h b
+    and lastListsOk c (h .«yellow_count») (h .«own_count») (h .«queue_length») b
+    and placesOk c (h .numbered) (h .«queue_length») b
 
 -- Every member's State is in, and not all planned retransmissions have come.
 unfoldable pub exchangeOk : Context → State → List ℕ → Bool
@@ -100,3 +116,8 @@ pub record Buffer (c : CodeContext) (b : List ℕ) : Type 0 where
   pub context : ContextIn c
   pub bytes : Bytes b
   pub long : stateLength (c .servers) (c .quota) ≤ length b
+
+-- So many actions of the queue, which has room for them, and each is of one of the servers.
+pub record CreatorsIn (c : CodeContext) (actions : ℕ) (b : List ℕ) : Type 0 where
+  pub few : actions ≤ c .servers * c .quota
+  pub creators : Each (λ a. a .id .creator < c .servers) (queueIn (contextOf c) actions b)

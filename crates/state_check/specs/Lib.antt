@@ -1,4 +1,5 @@
 pub mod Slots
+pub mod Tally
 pub mod Numbers
 pub mod Collected
 pub mod Checks

@@ -3,7 +3,7 @@ use Prim.Native.Nat.{ℕ, _*_, _≤_}
 use mathlib.Core.Bool.{Bool}
 use Rattle.base.specs.Tests.{_and_, _≤?_, _=?_, pick}
 use Rattle.base.specs.Sets.{inside}
-use Rattle.format.specs.Limits.{layoutNumber}
+use Rattle.format.specs.Limits.{layoutNumber, mostPlanned}
 use Rattle.format.specs.Types.{Context}
 use Rattle.format.specs.Range.{indexOk, setOk, statusOk, primaryOk, markOk, ownSetOk, insideLast}
 use Rattle.record.specs.declared.State.{State}
@@ -29,7 +29,7 @@ membershipOk c h =
     and setOk c (h .states)
     and inside (h .states) (h .«configuration_set»)
     and setOk c (h .cpcs)
-    and h .come ≤? 2 * (c .servers * c .quota)
+    and h .come ≤? mostPlanned (c .servers)
 
 -- How many actions the queue may have: 0 to n × q.
 unfoldable pub queueCountOk : Context → ℕ → Bool
@@ -43,13 +43,9 @@ yellowCountOk c k = k ≤? c .servers * c .quota
 unfoldable pub roomOk : Context → (actions greens own ids : ℕ) → Bool
 roomOk c actions greens own ids = queueCountOk c actions and greens ≤? actions and own ≤? c .quota and yellowCountOk c ids
 
--- At most q actions are numbered, and none is sent that is not numbered.
-unfoldable pub quotaOk : Context → (numbered sent : ℕ) → Bool
-quotaOk c numbered sent = numbered ≤? c .quota and sent ≤? numbered
-
+-- And no own action is sent that is not numbered.
 unfoldable pub countsOk : Context → State → Bool
-countsOk c h =
-    roomOk c (h .«queue_length») (h .«green_length») (h .«own_count») (h .«yellow_count») and quotaOk c (h .numbered) (h .sent)
+countsOk c h = roomOk c (h .«queue_length») (h .«green_count») (h .«own_count») (h .«yellow_count») and h .sent ≤? h .numbered
 
 unfoldable pub votesOk : Context → State → Bool
 votesOk c h =

@@ -18,8 +18,8 @@ use reader::Reading;
 use reader::read;
 use record::Context;
 use record::State;
-use record::StateHead;
 use record::events::Event;
+use record::events::StateHead;
 use record::sets::has;
 
 // Whether an event is a State of this sender in this configuration.

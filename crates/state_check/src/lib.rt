@@ -12,6 +12,7 @@ pub mod numbers; // numbers.rt: the numbers of the state
 pub mod collected; // collected.rt: the collected States
 pub mod sections; // sections.rt: the sections of the buffer
 pub mod slots; // slots.rt: entries of one size
+pub mod tally; // tally.rt: how many actions each server has in the queue
 
 use base::refusals::BAD_STATE;
 use base::refusals::SHORT_BUFFER;

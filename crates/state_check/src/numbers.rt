@@ -1,9 +1,9 @@
 // The numbers of the state: which are in range, and which belong together.
 ghost use mathlib.Core.Path.{_≡_};
-ghost use Prim.Native.Nat.{_*_};
 ghost use Rattle.base.specs.Tests.{_≤?_};
+ghost use Rattle.format.specs.Limits.{mostPlanned};
 ghost use Rattle.record.specs.Context.{contextOf, ContextIn};
-ghost use Rattle.state_check.specs.Numbers.{regularOk, transitionalOk, membershipOk, queueCountOk, yellowCountOk, roomOk, quotaOk};
+ghost use Rattle.state_check.specs.Numbers.{regularOk, transitionalOk, membershipOk, queueCountOk, yellowCountOk, roomOk};
 ghost use Rattle.state_check.specs.Numbers.{countsOk, votesOk, numbersOk};
 use record::Context;
 use record::State;
@@ -56,9 +56,9 @@ fn transitional_ok(c: Context, h: State) -> bool
 // At most as many retransmissions as can be planned.
 fn come_ok(c: Context, come: u32) -> bool
     requires { ⌜ ContextIn c ⌝ }
-    ensures { λ r. ⌜ r ≡ (come ≤? 2 * (c .servers * c .quota)) ⌝ }
+    ensures { λ r. ⌜ r ≡ (come ≤? mostPlanned (c .servers)) ⌝ }
 {
-    come <= 2 * product(c.servers as u32, c.quota as u32)
+    come <= State::MOST_LENGTH + product(c.servers as u32, State::MOST_NUMBER as u32)
 }
 
 fn membership_ok(c: Context, h: State) -> bool
@@ -117,16 +117,7 @@ fn room_ok(c: Context, actions: u32, greens: u32, own: u16, ids: u16) -> bool
     yellow_count_ok(c, ids as u32)
 }
 
-// Numbered actions keep the quota, and those sent are numbered.
-fn quota_ok(c: Context, numbered: u16, sent: u16) -> bool
-    ensures { λ r. ⌜ r ≡ quotaOk (contextOf c) numbered sent ⌝ }
-{
-    if c.quota < numbered {
-        return false;
-    }
-    sent <= numbered
-}
-
+// And those sent are numbered.
 fn counts_ok(c: Context, h: State) -> bool
     requires { ⌜ ContextIn c ⌝ }
     ensures { λ r. ⌜ r ≡ countsOk (contextOf c) h ⌝ }
@@ -134,13 +125,13 @@ fn counts_ok(c: Context, h: State) -> bool
     if !room_ok(
         c,
         h.queue_length,
-        h.green_length,
+        h.green_count,
         h.own_count,
         h.yellow_count,
     ) {
         return false;
     }
-    quota_ok(c, h.numbered, h.sent)
+    h.sent <= h.numbered
 }
 
 fn votes_ok(c: Context, h: State) -> bool

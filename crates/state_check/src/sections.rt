@@ -4,6 +4,7 @@ ghost use Prim.Native.Nat.{_+_, _*_, _≤_};
 ghost use lib.ListN.{length};
 ghost use Rattle.base.specs.Bytes.{numbersAt};
 ghost use Rattle.base.specs.Lists.{sum};
+ghost use Rattle.base.specs.Tests.{_≤?_};
 ghost use Rattle.format.specs.Limits.{mostServers};
 ghost use Rattle.format.specs.Range.{idsOk};
 ghost use Rattle.format.specs.Read.{idsAt};
@@ -14,12 +15,14 @@ ghost use Rattle.state_check.specs.Slots.{notedFit};
 ghost use Rattle.state_check.specs.Numbers.{CountsIn};
 ghost use Rattle.state_check.specs.Collected.{collectedOk};
 ghost use Rattle.state_check.specs.Checks.{placeOf, ownCut, queueCuts, ownNext, cutsFit, ownOk, queueOk, Buffer};
-ghost use Rattle.state_check.specs.Checks.{firstListsOk, lastListsOk, listsOk};
+ghost use Rattle.state_check.specs.Checks.{firstListsOk, lastListsOk, placesOk, listsOk, CreatorsIn};
 use super::collected::collected_ok;
 use super::slots::masks;
 use super::slots::noted_fit;
 use super::slots::own_fits;
 use super::slots::queue_fits;
+use super::tally::tally;
+use super::tally::tally_fits;
 use image::places::CUTS;
 use image::places::noted_at;
 use image::places::own_at;
@@ -29,7 +32,6 @@ use image::places::yellow_at;
 use octets::numbers::num16;
 use record::Context;
 use record::State;
-use record::lists::cuts_ok;
 use record::lists::ids_ok;
 
 // The sum of the n cuts from `at` on.
@@ -56,17 +58,14 @@ fn own_cut(c: Context, b: &[u8]) -> u16
     num16(b, CUTS as usize + State::CUT * c.me as usize)
 }
 
-// The cuts, with as many actions in the queue as they have together.
+// No more actions in the queue than were entered, by the cuts: the others are white.
 fn queue_cuts(c: Context, actions: u32, b: &[u8]) -> bool
     requires { ⌜ Buffer c (now b) ⌝ }
     ensures { λ r. ⌜ r ≡ queueCuts (contextOf c) actions (now (b .entry)) ⌝ }
 {
     let n = c.servers as usize;
     let at = CUTS as usize;
-    if !cuts_ok(b, at, n, c.quota) {
-        return false;
-    }
-    sum_of(b, at, n) == actions
+    actions <= sum_of(b, at, n)
 }
 
 // The own list goes from the own cut to the last numbered.
@@ -125,6 +124,29 @@ fn queue_ok(c: Context, b: &[u8], count: usize) -> bool
     queue_fits(c, b, CUTS as usize, at, count, &t)
 }
 
+// The own actions of the queue, of which there are `entered`, and those that are numbered and not entered are at most q together.
+fn own_room(c: Context, entered: u16, numbered: u16, b: &[u8]) -> bool
+    requires { ⌜ Buffer c (now b) ⌝ }
+    ensures { λ r. ⌜ r ≡ (entered + numbered ≤? c .quota + ownCut (contextOf c) (now (b .entry))) ⌝ }
+{
+    let cut = own_cut(c, b) as u32;
+    entered as u32 + numbered as u32 <= c.quota as u32 + cut
+}
+
+// "its q bounds only those not white": those that have a place in the queue.
+fn places_ok(c: Context, numbered: u16, actions: u32, b: &[u8]) -> bool
+    requires { ⌜ Buffer c (now b) × CreatorsIn c actions (now b) ⌝ }
+    ensures { λ r. ⌜ r ≡ placesOk (contextOf c) numbered actions (now (b .entry)) ⌝ }
+{
+    let at = queue_at(c.servers as u32, c.quota as u32) as usize;
+    let t = tally(b, at, actions as usize);
+    if !tally_fits(c, &t) {
+        return false;
+    }
+    let me = c.me as usize;
+    own_room(c, t[me], numbered, b)
+}
+
 pub fn states_ok(c: Context, set: u8, configuration: u32, b: &[u8]) -> bool
     requires { ⌜ Buffer c (now b) ⌝ }
     ensures { λ r. ⌜ r ≡ collectedOk (contextOf c) set configuration (c .servers) 0 (now (b .entry)) (placeOf (contextOf c) theStates) ⌝ }
@@ -165,5 +187,8 @@ pub fn lists_ok(c: Context, h: State, b: &[u8]) -> bool
     if !first_lists_ok(c, h, b) {
         return false;
     }
-    last_lists_ok(c, h.yellow_count, h.own_count, h.queue_length, b)
+    if !last_lists_ok(c, h.yellow_count, h.own_count, h.queue_length, b) {
+        return false;
+    }
+    places_ok(c, h.numbered, h.queue_length, b)
 }

@@ -9,7 +9,6 @@ ghost use Rattle.record.specs.Context.{contextOf, ContextIn};
 ghost use Rattle.record.specs.Values.{HasPlaces, NextId};
 ghost use Rattle.state_check.specs.Slots.{Masks, payloadRoom, payloadSpace, payloadFits, slotFits, notedAt, notedFit};
 ghost use Rattle.state_check.specs.Slots.{CutInside, queueSlotFits, NextSlotFits, QueueRoom, queueFits, ownReach, ownSlotFits, ownFits};
-ghost use Rattle.format.specs.Places.{cutSize};
 ghost use Rattle.image.specs.Layout.{notedSize, slotSize};
 use octets::numbers::num8;
 use octets::numbers::num16;
@@ -69,27 +68,30 @@ fn payload_fits(b: &[u8], at: usize, t: &[u8; MASKS]) -> bool
     zeros(b, at + 1, m, t)
 }
 
-// An action's green length and payload.
-fn slot_fits(c: Context, b: &[u8], at: usize, t: &[u8; MASKS]) -> bool
-    requires { ⌜ ContextIn c × Masks (now t) × (at + slotSize ≤ length (now b)) ⌝ }
-    ensures { λ r. ⌜ r ≡ slotFits (contextOf c) (now (b .entry)) at ⌝ }
+// An action's green length, white length and payload.
+fn slot_fits(b: &[u8], at: usize, t: &[u8; MASKS]) -> bool
+    requires { ⌜ Masks (now t) × (at + slotSize ≤ length (now b)) ⌝ }
+    ensures { λ r. ⌜ r ≡ slotFits (now (b .entry)) at ⌝ }
 {
-    if !length_ok(c, num32(b, at + ActionHead::GREEN_LENGTH)) {
+    if !length_ok(num32(b, at + ActionHead::GREEN_LENGTH)) {
+        return false;
+    }
+    if !length_ok(num32(b, at + ActionHead::WHITE_LENGTH)) {
         return false;
     }
     payload_fits(b, at + ActionHead::PAYLOAD, t)
 }
 
 // An action of the queue: the cuts begin at `cuts`, and its creator's is among them.
-fn queue_slot_fits(c: Context, b: &[u8], cuts: usize, at: usize, t: &[u8; MASKS]) -> bool
-    requires { ⌜ ContextIn c × Masks (now t) × CutInside cuts at (now b) × (at + slotSize ≤ length (now b)) ⌝ }
-    ensures { λ r. ⌜ r ≡ queueSlotFits (contextOf c) (now (b .entry)) cuts at ⌝ }
+fn queue_slot_fits(b: &[u8], cuts: usize, at: usize, t: &[u8; MASKS]) -> bool
+    requires { ⌜ Masks (now t) × CutInside cuts at (now b) × (at + slotSize ≤ length (now b)) ⌝ }
+    ensures { λ r. ⌜ r ≡ queueSlotFits (now (b .entry)) cuts at ⌝ }
 {
     let creator = num8(b, at) as usize;
     if num16(b, cuts + State::CUT * creator) < num16(b, at + ActionHead::INDEX) {
         return false;
     }
-    slot_fits(c, b, at, t)
+    slot_fits(b, at, t)
 }
 
 // The slot at `here`, behind `k` others from `at` on: its id is new, and its place in the table of the ids that were met is set; and all else.
@@ -110,7 +112,7 @@ fn next_fits(
         return false;
     }
     // The id is in range, so its creator's cut is there to be read.
-    queue_slot_fits(c, b, cuts, here, t)
+    queue_slot_fits(b, cuts, here, t)
 }
 
 // The queue, in one pass, by a table of the ids that were met.
@@ -177,7 +179,7 @@ fn own_slot_fits(c: Context, b: &[u8], k: usize, at: usize, t: &[u8; MASKS]) -> 
     if num16(b, at + ActionHead::INDEX) as usize != k + 1 {
         return false;
     }
-    slot_fits(c, b, at, t)
+    slot_fits(b, at, t)
 }
 
 // Own actions of the indexes from k + 1 on.
@@ -199,11 +201,11 @@ pub fn own_fits(c: Context, b: &[u8], k: usize, at: usize, count: usize, t: &[u8
     true
 }
 
-fn noted_at(c: Context, b: &[u8], at: usize) -> bool
-    requires { ⌜ ContextIn c × (at + notedSize ≤ length (now b)) ⌝ }
-    ensures { λ r. ⌜ r ≡ notedAt (contextOf c) (now (b .entry)) at ⌝ }
+fn noted_at(b: &[u8], at: usize) -> bool
+    requires { ⌜ at + notedSize ≤ length (now b) ⌝ }
+    ensures { λ r. ⌜ r ≡ notedAt (now (b .entry)) at ⌝ }
 {
-    length_ok(c, num32(b, at))
+    length_ok(num32(b, at))
 }
 
 // The noted lengths.
@@ -214,7 +216,7 @@ pub fn noted_fit(c: Context, b: &[u8], at: usize) -> bool
     let mut here = at;
     let mut left = c.servers as usize;
     while 0 < left {
-        if !noted_at(c, b, here) {
+        if !noted_at(b, here) {
             return false;
         }
         here += State::NOTED;

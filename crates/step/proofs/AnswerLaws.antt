@@ -14,14 +14,14 @@ use Rattle.format.specs.Range.{contextOk, fieldsOk, recordOk}
 use Rattle.format.specs.Write.{recordBytes}
 use Rattle.replication.specs.Machine.Types.{Server, Outcome, refused, contextOf}
 use Rattle.replication.specs.Machine.Rules.{Rule, ruleFor, possible, fromMember, isIgnored, withinQuota}
-use Rattle.replication.specs.Machine.Step.{quiet, stored, apply, applyRule, answer, inBytes}
+use Rattle.replication.specs.Machine.Step.{quiet, stored, apply, inBytes}
 use Rattle.replication.specs.Machine.WellFormed.{ranges, wellFormed}
 use Rattle.replication.specs.Laws.RuleFits.{RuleFits}
 use Rattle.replication.proofs.WellFormed.RuleFacts.{rule-fits}
 use Rattle.image.specs.Image.{image}
 use Rattle.image.specs.Outcome.{refusal, resultOf}
 use Rattle.step.specs.declared.Answer.{Answer}
-use Rattle.step.specs.Answers.{answered, outcomeOn, refusedWith, quietly, storedFirst}
+use Rattle.step.specs.Answers.{answered, outcomeOn, byRows, ruled, refusedWith, quietly, storedFirst}
 use Rattle.step.proofs.OutcomeLaws.{quiet-outcome, stored-outcome}
 
 -- ---- rows 5, 6 and 3
@@ -33,49 +33,72 @@ pub record Passes (s : Server) (r : Record) (k : Rule) : Type 0 where
   pub member : (isIgnored k or fromMember (s .membership) r) ≡ true
   pub quota : withinQuota s r ≡ true
 
-module _ (s : Server) (r : Record) where
-  by-rule : (x : Option Rule) → ruleFor (s .membership .mode) r ≡ x → answer s r ≡ applyRule x s r
-  unfolding answer
-  by-rule x e = ap (λ (y : Option Rule). applyRule y s r) e
+-- Where f is what is made of the rule.
+module _ (f : Rule → Server → Outcome Record) (s : Server) (r : Record) where
+  abbrev rows : Outcome Record
+  rows = byRows f (ruleFor (s .membership .mode) r) s r
 
-  pub untaken : ruleFor (s .membership .mode) r ≡ none → answer s r ≡ refused notNow
-  unfolding applyRule
-  untaken e = by-rule none e
+  by-rule : (x : Option Rule) → ruleFor (s .membership .mode) r ≡ x → rows ≡ byRows f x s r
+  by-rule x e = ap (λ (y : Option Rule). byRows f y s r) e
 
-  pub impossible : possible s r ≡ false → answer s r ≡ refused notNow
-  unfolding applyRule
-  impossible p = go (ruleFor (s .membership .mode) r) refl
+  pub rows-untaken : ruleFor (s .membership .mode) r ≡ none → byRows f (ruleFor (s .membership .mode) r) s r ≡ refused notNow
+  unfolding byRows
+  rows-untaken e = by-rule none e
+
+  pub rows-impossible : possible s r ≡ false → byRows f (ruleFor (s .membership .mode) r) s r ≡ refused notNow
+  unfolding byRows
+  rows-impossible p = go (ruleFor (s .membership .mode) r) refl
     where
-      go : (x : Option Rule) → ruleFor (s .membership .mode) r ≡ x → answer s r ≡ refused notNow
-      go none e = untaken e
+      go : (x : Option Rule) → ruleFor (s .membership .mode) r ≡ x → rows ≡ refused notNow
+      go none e = rows-untaken e
       go (some k) e = by-rule (some k) e ∙ sym (pick-no (possible s r) (refused notNow) _ _ p refl)
 
   module _ (k : Rule) (e : ruleFor (s .membership .mode) r ≡ some k) (p : possible s r ≡ true) where
-    pub outside : (isIgnored k or fromMember (s .membership) r) ≡ false → answer s r ≡ refused notFromHere
-    unfolding applyRule
-    outside m =
+    pub rows-outside : (isIgnored k or fromMember (s .membership) r) ≡ false → byRows f (ruleFor (s .membership .mode) r) s r ≡ refused notFromHere
+    unfolding byRows
+    rows-outside m =
         by-rule (some k) e ∙ sym
         (pick-yes (possible s r) (refused notFromHere) _ _ p (pick-no (isIgnored k or fromMember (s .membership) r) (refused notFromHere) _ _ m refl))
 
-    module _ (m : (isIgnored k or fromMember (s .membership) r) ≡ true) where
-      within : (x : Outcome Record) → _≡_ {A = Outcome Record} x (applyRule (some k) s r) → answer s r ≡ x
-      within x f = by-rule (some k) e ∙ sym f
+    pub rows-above : (isIgnored k or fromMember (s .membership) r) ≡ true → withinQuota s r ≡ false
+        → byRows f (ruleFor (s .membership .mode) r) s r ≡ refused quotaUsed
+    unfolding byRows
+    rows-above m q =
+        by-rule (some k) e ∙ sym
+        (pick-yes (possible s r) (refused quotaUsed) _ _ p
+        (pick-yes (isIgnored k or fromMember (s .membership) r) (refused quotaUsed) _ _ m (pick-no (withinQuota s r) (refused quotaUsed) _ _ q refl)))
 
-      pub above-quota : withinQuota s r ≡ false → answer s r ≡ refused quotaUsed
-      unfolding applyRule
-      above-quota q =
-          within (refused quotaUsed)
-          (pick-yes (possible s r) (refused quotaUsed) _ _ p
-          (pick-yes (isIgnored k or fromMember (s .membership) r) (refused quotaUsed) _ _ m (pick-no (withinQuota s r) (refused quotaUsed) _ _ q refl)))
-
-  pub passed : (k : Rule) → Passes s r k → answer s r ≡ apply k s
-  unfolding applyRule
-  passed k f =
-      by-rule (some k) (f .rule)
+  pub rows-passed : (k : Rule) → Passes s r k → byRows f (ruleFor (s .membership .mode) r) s r ≡ f k s
+  unfolding byRows
+  rows-passed k g =
+      by-rule (some k) (g .rule)
       ∙ sym
-      (pick-yes (possible s r) (apply k s) _ _ (f .possible)
-      (pick-yes (isIgnored k or fromMember (s .membership) r) (apply k s) _ _ (f .member)
-      (pick-yes (withinQuota s r) (apply k s) _ _ (f .quota) refl)))
+      (pick-yes (possible s r) (f k s) _ _ (g .possible)
+      (pick-yes (isIgnored k or fromMember (s .membership) r) (f k s) _ _ (g .member)
+      (pick-yes (withinQuota s r) (f k s) _ _ (g .quota) refl)))
+
+-- The rule alone.
+module _ (s : Server) (r : Record) where
+  pub untaken : ruleFor (s .membership .mode) r ≡ none → ruled s r ≡ refused notNow
+  unfolding ruled
+  untaken e = rows-untaken apply s r e
+
+  pub impossible : possible s r ≡ false → ruled s r ≡ refused notNow
+  unfolding ruled
+  impossible p = rows-impossible apply s r p
+
+  module _ (k : Rule) (e : ruleFor (s .membership .mode) r ≡ some k) (p : possible s r ≡ true) where
+    pub outside : (isIgnored k or fromMember (s .membership) r) ≡ false → ruled s r ≡ refused notFromHere
+    unfolding ruled
+    outside m = rows-outside apply s r k e p m
+
+    pub above-quota : (isIgnored k or fromMember (s .membership) r) ≡ true → withinQuota s r ≡ false → ruled s r ≡ refused quotaUsed
+    unfolding ruled
+    above-quota m q = rows-above apply s r k e p m q
+
+  pub passed : (k : Rule) → Passes s r k → ruled s r ≡ apply k s
+  unfolding ruled
+  passed k f = rows-passed apply s r k f
 
   formed-context : wellFormed s ≡ true → contextOk (contextOf s) ≡ true
   unfolding wellFormed ranges

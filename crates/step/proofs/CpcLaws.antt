@@ -14,14 +14,14 @@ use Rattle.format.specs.Range.{fieldsOk}
 use Rattle.record.specs.declared.State.{State as Numbers}
 use Rattle.replication.specs.Machine.Types.{Mode, Non-prim, Reg-prim, Trans-prim, Exchange-states, Exchange-actions, Construct, No, Un, Server, Outcome, contextOf}
 use Rattle.replication.specs.Machine.Rules.{Rule, ignoring, collectingCpc, collectingLateCpc, onCpc, ruleFor, possible, fromMember, isIgnored, withinQuota}
-use Rattle.replication.specs.Machine.Step.{quiet, collectCpc, collectLateCpc, apply, answer}
+use Rattle.replication.specs.Machine.Step.{quiet, collectCpc, collectLateCpc, apply}
 use Rattle.image.specs.Image.{image}
 use Rattle.image.specs.Header.{headerOf, modeNumber}
 use Rattle.image.specs.Decode.{modeNamed}
 use Rattle.image.specs.Holding.{Holds, HoldsSuch}
 use Rattle.step.specs.declared.Answer.{Answer}
 use Rattle.outgoing.specs.Lent.{LentSuch}
-use Rattle.step.specs.Answers.{answered, outcomeOn, InForce, withLateCpc, refusedWith, quietly}
+use Rattle.step.specs.Answers.{answered, outcomeOn, ruled, InForce, withLateCpc, refusedWith, quietly}
 use Rattle.outgoing.proofs.LentFacts.{lent-fact}
 use Rattle.step.proofs.AnswerLaws.{Passes, untaken, outside, passed, passed-fits, not-there, refused-as, quiet-as}
 use Rattle.step.proofs.ForceLaws.{numbers-mode, numbers-at, below-eight}
@@ -70,11 +70,11 @@ module _ (h : Numbers) (k id : ℕ) (b o : List ℕ) (f : LentSuch (InForce h (c
   force : (s : Server) → Holds s b → InForce h r s
   force s y = lent-fact (InForce h r) b o s f y
 
-  pub cpc-passed-over : h .mode ≡ 0 → (v : Answer) → v ≡ quietly → (s : Server) → Holds s b → answered v b o ≡ outcomeOn (answer s (cpc k id)) b o
+  pub cpc-passed-over : h .mode ≡ 0 → (v : Answer) → v ≡ quietly → (s : Server) → Holds s b → answered v b o ≡ outcomeOn (ruled s (cpc k id)) b o
   unfolding modeNamed pick _=?_ onCpc ruleFor possible isIgnored withinQuota _or_ apply modeNumber
   cpc-passed-over m v q s y =
       let z : onCpc (s .membership .mode) k ≡ some ignoring = numbers-at (λ l. onCpc l k ≡ some ignoring) h s 0 (force s y .numbers) m refl in
-      quiet-as s s (answer s r) v b b o q (passed s r ignoring (record { rule = z; possible = refl; member = refl; quota = refl }))
+      quiet-as s s (ruled s r) v b b o q (passed s r ignoring (record { rule = z; possible = refl; member = refl; quota = refl }))
       (sym (y .written))
 
   module _ (m : h .mode ≡ 0 → ⊥) (t : Bool) (g : (l : Mode) (i : ℕ) → h .mode ≡ modeNumber l → t ≡ isThere (onCpc l i)) where
@@ -82,21 +82,21 @@ module _ (h : Numbers) (k id : ℕ) (b o : List ℕ) (f : LentSuch (InForce h (c
     table s y = g (s .membership .mode) k (numbers-mode h s (force s y .numbers))
 
     pub cpc-untaken : not t ≡ true → (v : Answer) → v ≡ refusedWith notNow → (s : Server) → Holds s b
-        → answered v b o ≡ outcomeOn (answer s (cpc k id)) b o
+        → answered v b o ≡ outcomeOn (ruled s (cpc k id)) b o
     unfolding ruleFor
     cpc-untaken n v q s y =
-        refused-as (answer s r) v 5 b o q (untaken s r (not-there (onCpc (s .membership .mode) k) (sym (table s y) ∙ not-true t n)))
+        refused-as (ruled s r) v 5 b o q (untaken s r (not-there (onCpc (s .membership .mode) k) (sym (table s y) ∙ not-true t n)))
 
     module _ (taken : not t ≡ false) (u : Bool) (d : (s : Server) → h ≡ headerOf s → u ≡ fromMember (s .membership) (cpc k id)) where
       there : (s : Server) → Holds s b → isThere (onCpc (s .membership .mode) k) ≡ true
       there s y = sym (table s y) ∙ not-false t taken
 
       pub cpc-outside : not u ≡ true → (v : Answer) → v ≡ refusedWith notFromHere → (s : Server) → Holds s b
-          → answered v b o ≡ outcomeOn (answer s (cpc k id)) b o
+          → answered v b o ≡ outcomeOn (ruled s (cpc k id)) b o
       unfolding ruleFor possible _or_
       cpc-outside n v q s y =
           let j = heard (h .mode) (s .membership .mode) k (numbers-mode h s (force s y .numbers)) m (there s y) in
-          refused-as (answer s r) v 6 b o q (outside s r (j .0) (j .1) refl (rw (j .2) (sym (d s (force s y .numbers)) ∙ not-true u n)))
+          refused-as (ruled s r) v 6 b o q (outside s r (j .0) (j .1) refl (rw (j .2) (sym (d s (force s y .numbers)) ∙ not-true u n)))
 
       module _ (n : not u ≡ false) where
         passes : (s : Server) → Holds s b → (j : Rule) → onCpc (s .membership .mode) k ≡ some j → isIgnored j ≡ false → Passes s r j
@@ -123,7 +123,7 @@ module _ (h : Numbers) (k id : ℕ) (b o : List ℕ) (f : LentSuch (InForce h (c
             }
 
         pub cpc-installed : h .mode ≡ 5 → (v : Answer) (c z : List ℕ) → ((s : Server) → Holds s b → answered v c z ≡ outcomeOn (collectCpc k s) b o)
-            → (s : Server) → Holds s b → answered v c z ≡ outcomeOn (answer s (cpc k id)) b o
+            → (s : Server) → Holds s b → answered v c z ≡ outcomeOn (ruled s (cpc k id)) b o
         unfolding apply
         cpc-installed e v c z y s l =
             y s l ∙ ap (λ (j : Outcome Record). outcomeOn j b o) (sym (passed s r (collectingCpc k) (constructing e s l)))
@@ -146,7 +146,7 @@ module _ (h : Numbers) (k id : ℕ) (b o : List ℕ) (f : LentSuch (InForce h (c
             }
 
         pub late-cpc-taken : (h .mode ≡ 5 → ⊥) → (v : Answer) (c : List ℕ) → ((s : Server) → Holds s b → c ≡ image (withLateCpc k s) b) → v ≡ quietly
-            → (s : Server) → Holds s b → answered v c o ≡ outcomeOn (answer s (cpc k id)) b o
+            → (s : Server) → Holds s b → answered v c o ≡ outcomeOn (ruled s (cpc k id)) b o
         unfolding apply
         late-cpc-taken e v c y q s l =
-            quiet-as s (withLateCpc k s) (answer s r) v b c o q (passed s r (collectingLateCpc k) (waiting e s l) ∙ late-quiet k s) (y s l)
+            quiet-as s (withLateCpc k s) (ruled s r) v b c o q (passed s r (collectingLateCpc k) (waiting e s l) ∙ late-quiet k s) (y s l)

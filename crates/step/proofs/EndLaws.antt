@@ -13,7 +13,6 @@ use Rattle.base.proofs.TestLaws.{pick-yes, pick-no}
 use Rattle.base.specs.Bytes.{over}
 use Rattle.format.specs.Types.{cpc}
 use Rattle.format.specs.Write.{write, idsBytes, lengthOf, recordBytes}
-use Rattle.format.proofs.IdCount.{ids-count}
 use Rattle.format.proofs.Lengths.{write-length}
 use Rattle.record.specs.declared.State.{State}
 use Rattle.writer.specs.declared.records.Written.{Written}
@@ -54,9 +53,7 @@ Idle t = t .membership .mode ≡ Non-prim
 -- The yellow ids that are taken are no more than there are ids.
 taken-few : (t : Server) (b : List ℕ) → Holds t b → Idle t → length (takenYellow (collected t) .ids) ≤ t .servers * t .quota
 unfolding decided takenVotes contextOf
-taken-few t b r e =
-    let y = in-range (decided t) (decided-formed t (r .formed) e) .yellow in
-    ids-count (contextOf (decided t)) (takenYellow (collected t) .ids) (y .ids) (y .differ)
+taken-few t b r e = in-range (decided t) (decided-formed t (r .formed) e) .yellow .few
 
 module _ (b o₁ : List ℕ) (count : ℕ) (m : HoldsSuch Idle b) (listed : (s : Server) → Holds s b → Listed count o₁ (takenYellow (collected s) .ids)) where
   idle : (t : Server) → Holds t b → Idle t
@@ -104,7 +101,7 @@ Decided b c = (t : Server) → Holds t b → c ≡ image (decided t) b
 
 decided-holds : (t : Server) (b c : List ℕ) → Holds t b → Idle t → Decided b c → Holds (decided t) c
 unfolding decided
-decided-holds t b c r e f = then-holds t (decided t) b c r (f t r) refl refl (decided-formed t (r .formed) e)
+decided-holds t b c r e f = then-holds t (decided t) b c r (f t r) refl refl (decided-formed t (r .formed) e) (r .blank)
 
 -- ---- "attempt + 1, mark .., store, send CPC, Construct"
 

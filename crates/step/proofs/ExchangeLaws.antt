@@ -10,10 +10,9 @@ use Rattle.format.specs.Types.{Action}
 use Rattle.record.specs.declared.ActionHead.{ActionHead}
 use Rattle.record.specs.declared.State.{State}
 use Rattle.record.specs.Values.{actionOf}
-use Rattle.replication.specs.Machine.Types.{Non-prim, Exchange-actions, Server, inMode}
-use Rattle.replication.specs.Machine.Step.{collected, plannedNow, oneMore, exchanged, allCome, endExchange, exchange}
+use Rattle.replication.specs.Machine.Types.{Non-prim, Server, inMode}
+use Rattle.replication.specs.Machine.Step.{collected, plannedNow, placed, oneMore, exchanged, allCome, endExchange, exchange}
 use Rattle.replication.specs.Machine.WellFormedFacts.{Configured}
-use Rattle.replication.specs.Laws.RuleFits.{Delivered}
 use Rattle.image.specs.Image.{image}
 use Rattle.image.specs.Header.{headerOf, headerIn}
 use Rattle.image.proofs.HeaderLaws.{header-loaded}
@@ -23,6 +22,8 @@ use Rattle.outgoing.specs.Lent.{LentSuch}
 use Rattle.step.specs.Answers.{answered, outcomeOn, quietly}
 use Rattle.outgoing.proofs.LentFacts.{lent-fact}
 use Rattle.image.proofs.Chained.{then-holds}
+use Rattle.step.specs.Events.{Retransmitted, NotLast}
+use Rattle.step.proofs.BlankLaws.{placed-begins, grown-still}
 use Rattle.step.proofs.EndLaws.{Ends}
 use Rattle.step.proofs.EndOverLaws.{end-mode, Before, end-over}
 use Rattle.step.proofs.ExchangeStates.{awaiting, last-formed}
@@ -37,33 +38,33 @@ last-before : (k : ℕ) (a : Action) (s : Server) → Before s (inMode Non-prim 
 unfolding exchanged oneMore
 last-before k a s = record { servers = refl; quota = refl; ids = refl }
 
-module _ (h : ActionHead) (p b o : List ℕ) (planned come : ℕ)
-    (m : LentSuch (λ s. Delivered s (actionOf h p) × (s .membership .mode ≡ Exchange-actions)) b o)
+module _ (h : ActionHead) (p b o : List ℕ) (planned come k : ℕ) (m : LentSuch (Retransmitted k (actionOf h p)) b o)
     (told : (s : Server) → Holds s b → planned ≡ plannedNow s) (e : come ≡ numberAt 4 b atCome) where
-  taken : (s : Server) → Holds s b → Delivered s (actionOf h p) × (s .membership .mode ≡ Exchange-actions)
-  taken s r = lent-fact (λ t. Delivered t (actionOf h p) × (t .membership .mode ≡ Exchange-actions)) b o s m r
+  taken : (s : Server) → Holds s b → Retransmitted k (actionOf h p) s
+  taken s r = lent-fact (Retransmitted k (actionOf h p)) b o s m r
 
-  all-come : (k : ℕ) → planned ≤ come + 1 → (s : Server) → Holds s b → allCome (exchanged k (actionOf h p) s) ≡ true
+  all-come : planned ≤ come + 1 → (s : Server) → Holds s b → allCome (exchanged k (actionOf h p) s) ≡ true
   unfolding allCome exchanged oneMore plannedNow collected
-  all-come k l s r = le-yes _ _ (omega (arith, told s r, e, come-read s b r))
+  all-come l s r = le-yes _ _ (omega (arith, told s r, e, come-read s b r))
 
   more-come : come + 1 < planned → (s : Server) → Holds s b → allCome (oneMore s) ≡ false
   unfolding allCome oneMore plannedNow collected
   more-come l s r = le-no _ _ (omega (arith, told s r, e, come-read s b r))
 
   -- The log does not matter to it.
-  not-all : (k : ℕ) → come + 1 < planned → (s : Server) → Holds s b → allCome (exchanged k (actionOf h p) s) ≡ false
+  not-all : come + 1 < planned → (s : Server) → Holds s b → allCome (exchanged k (actionOf h p) s) ≡ false
   unfolding allCome exchanged oneMore plannedNow collected
-  not-all k l s r = le-no _ _ (omega (arith, told s r, e, come-read s b r))
+  not-all l s r = le-no _ _ (omega (arith, told s r, e, come-read s b r))
 
   -- ---- the last one
 
-  module _ (k : ℕ) (c : List ℕ) (f : (s : Server) → Holds s b → c ≡ image (inMode Non-prim (exchanged k (actionOf h p) s)) b) where
+  module _ (c : List ℕ) (f : (s : Server) → Holds s b → c ≡ image (inMode Non-prim (exchanged k (actionOf h p) s)) b) where
     last-holds : (s : Server) → Holds s b → Holds (inMode Non-prim (exchanged k (actionOf h p) s)) c
     unfolding exchanged oneMore
     last-holds s r =
         then-holds s (inMode Non-prim (exchanged k (actionOf h p) s)) b c r (f s r) refl refl
         (last-formed s (r .formed) (taken s r .1) k (actionOf h p) (taken s r .0))
+        (grown-still s (placed k (actionOf h p) (s .log) .green) (r .formed) (r .blank) (placed-begins k (actionOf h p) (s .log)))
 
     last-configured : (s : Server) → Holds s b → Configured (inMode Non-prim (exchanged k (actionOf h p) s))
     unfolding exchanged oneMore
@@ -88,18 +89,18 @@ module _ (h : ActionHead) (p b o : List ℕ) (planned come : ℕ)
         ∙ end-over s (inMode Non-prim t) (last-before k (actionOf h p) s) b c o y
         (last-formed s (y .formed) (taken s y .1) k (actionOf h p) (taken s y .0))
         (last-configured s y) (f s y) s
-        ∙ ap (λ v. outcomeOn v b o) (end-mode s t ∙ pick-yes _ _ _ _ (all-come k l s y) refl)
+        ∙ ap (λ v. outcomeOn v b o) (end-mode s t ∙ pick-yes _ _ _ _ (all-come l s y) refl)
 
   -- ---- another
 
   pub more-such : come + 1 < planned
-      → HoldsSuch (λ s. Delivered s (actionOf h p) × (s .membership .mode ≡ Exchange-actions) × (allCome (oneMore s) ≡ false)) b
+      → HoldsSuch (NotLast k (actionOf h p)) b
   more-such l = record { state = m .state; holds = m .holds; fact = (m .fact .0, m .fact .1, more-come l (m .state) (m .holds)) }
 
-  pub more-quiet : come + 1 < planned → (k : ℕ) (c : List ℕ) → ((s : Server) → Holds s b → c ≡ image (exchanged k (actionOf h p) s) b) → (r : Answer)
+  pub more-quiet : come + 1 < planned → (c : List ℕ) → ((s : Server) → Holds s b → c ≡ image (exchanged k (actionOf h p) s) b) → (r : Answer)
       → r ≡ quietly
       → (s : Server) → Holds s b → answered r c o ≡ outcomeOn (exchange k (actionOf h p) s) b o
   unfolding exchange
-  more-quiet l k c f r a s y =
+  more-quiet l c f r a s y =
       quiet-outcome s (exchanged k (actionOf h p) s) b o c r a (f s y)
-      ∙ ap (λ v. outcomeOn v b o) (pick-no _ _ _ _ (not-all k l s y) refl)
+      ∙ ap (λ v. outcomeOn v b o) (pick-no _ _ _ _ (not-all l s y) refl)

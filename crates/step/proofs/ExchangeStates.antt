@@ -16,18 +16,20 @@ use Rattle.replication.proofs.WellFormed.Facts.{well-formed-facts, facts-well-f
 use Rattle.replication.proofs.WellFormed.Numbering.{placed-fits}
 use Rattle.replication.proofs.WellFormed.Decisions.{planned-bound}
 use Rattle.replication.proofs.WellFormed.Changes.{Body, body, whole, mode-changed, in-mode, collected-fit, here-below}
-use Rattle.replication.specs.Laws.RuleFits.{Delivered, StateCame}
+use Rattle.replication.specs.Laws.RuleFits.{StateCame}
 use Rattle.replication.proofs.WellFormed.Effects.{exchanged-body, send-waiting-body}
 use Rattle.replication.proofs.WellFormed.Exchanges.{decided-body, attempting-body, with-state-body}
 use Rattle.replication.proofs.WellFormed.Modes.{all-in-facts}
 use Rattle.queue.proofs.Holding.{log-formed, log-fits}
+use Rattle.queue.proofs.Entered.{has-place}
+use Rattle.step.specs.Events.{PlacedAt}
 
 -- A state known to be m.
-formed-at : (t : Server) (m : Mode) → t .membership .mode ≡ m → Body t → ModeFits m t → wellFormed t ≡ true
+formed-at : (t : Server) (m : Mode) → t .membership .mode ≡ m → Body (t .white) t → ModeFits m t → wellFormed t ≡ true
 formed-at t m e b f = facts-well-formed t (whole t b (subst (λ n. ModeFits n t) (sym e) f))
 
 module _ (s : Server) (ok : wellFormed s ≡ true) where
-  in-body : Body s
+  in-body : Body (s .white) s
   in-body = body s (well-formed-facts s ok)
 
   fits-at : (m : Mode) → s .membership .mode ≡ m → ModeFits m s
@@ -35,9 +37,10 @@ module _ (s : Server) (ok : wellFormed s ≡ true) where
 
   -- ---- retransmissions
 
-  pub placed-formed : (k : ℕ) (a : Action) → Delivered s a → wellFormed (withLog (placed k a (s .log)) s) ≡ true
+  pub placed-formed : (k : ℕ) (a : Action) → PlacedAt k a s → wellFormed (withLog (placed k a (s .log)) s) ≡ true
   placed-formed k a d =
-      log-formed s (placed k a (s .log)) ok (placed-fits (s .servers) (s .quota) (s .me) k a (s .log) (log-fits s ok) (d .fits) (d .own))
+      log-formed s (placed k a (s .log)) ok
+      (placed-fits (s .servers) (s .quota) (s .me) (s .white) k a (s .log) (log-fits s ok) (d .delivered .fits) (d .delivered .own) (λ h. has-place s a (d .room h)))
 
   pub non-prim-formed : wellFormed (inMode Non-prim s) ≡ true
   non-prim-formed = facts-well-formed (inMode Non-prim s) (whole (inMode Non-prim s) (in-mode s in-body Non-prim) tt)
@@ -46,10 +49,13 @@ module _ (s : Server) (ok : wellFormed s ≡ true) where
     pub awaiting : Configured s × StatesIn s × (s .membership .come < plannedNow s)
     awaiting = fits-at Exchange-actions e
 
-    pub more-formed : (k : ℕ) (a : Action) → Delivered s a → allCome (oneMore s) ≡ false → wellFormed (exchanged k a s) ≡ true
+    placed-body : (k : ℕ) (a : Action) → PlacedAt k a s → Body (s .white) (exchanged k a s)
+    placed-body k a d = exchanged-body s in-body a (d .delivered) k (λ h. has-place s a (d .room h)) (awaiting .2)
+
+    pub more-formed : (k : ℕ) (a : Action) → PlacedAt k a s → allCome (oneMore s) ≡ false → wellFormed (exchanged k a s) ≡ true
     unfolding exchanged oneMore allCome plannedNow collected hereSet
     more-formed k a d h =
-        formed-at (exchanged k a s) Exchange-actions e (exchanged-body s in-body a d k (awaiting .2)) (awaiting .0, awaiting .1, le-fails _ _ h)
+        formed-at (exchanged k a s) Exchange-actions e (placed-body k a d) (awaiting .0, awaiting .1, le-fails _ _ h)
 
     pub closed-formed : wellFormed (oneMore (inMode Non-prim s)) ≡ true
     unfolding oneMore plannedNow
@@ -60,11 +66,11 @@ module _ (s : Server) (ok : wellFormed s ≡ true) where
         (omega (arith, awaiting .2, planned-bound (s .servers) (s .quota) (collected s) (collected-fit s in-body))))
         tt)
 
-    pub last-formed : (k : ℕ) (a : Action) → Delivered s a → wellFormed (inMode Non-prim (exchanged k a s)) ≡ true
+    pub last-formed : (k : ℕ) (a : Action) → PlacedAt k a s → wellFormed (inMode Non-prim (exchanged k a s)) ≡ true
     unfolding exchanged oneMore
     last-formed k a d =
         facts-well-formed (inMode Non-prim (exchanged k a s))
-        (whole (inMode Non-prim (exchanged k a s)) (in-mode (exchanged k a s) (exchanged-body s in-body a d k (awaiting .2)) Non-prim) tt)
+        (whole (inMode Non-prim (exchanged k a s)) (in-mode (exchanged k a s) (placed-body k a d) Non-prim) tt)
 
   -- ---- the end
 

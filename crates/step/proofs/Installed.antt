@@ -1,28 +1,22 @@
--- Install in place: in the state that it leads to, then an action coloured yellow, or what waits sent.
+-- Install in place, in the state that it leads to; then what waits is sent.
 use Prim.Native.Nat.{ℕ, zero, suc, _≤_, _<_}
-use mathlib.Core.Path.{_≡_, refl, sym, ap, subst, _∙_}
-use mathlib.Core.Bool.{Bool, true, false}
-use mathlib.Core.List.{List, [], _∷_, _++_}
+use mathlib.Core.Path.{_≡_, refl, sym, ap, _∙_}
+use mathlib.Core.Bool.{true}
+use mathlib.Core.List.{List}
 use mathlib.Core.Logic.{inl, inr}
 use native.Mathlib.Omega.{arith}
-use lib.ListN.{length-append}
 use Rattle.base.proofs.Prefixes.{begins-same, begins-refl}
-use Rattle.base.specs.Tests.{pick}
 use Rattle.format.specs.Limits.{mostIndex}
-use Rattle.format.specs.Types.{Action}
-use Rattle.replication.specs.Machine.Types.{Mode, Non-prim, Reg-prim, Trans-prim, Exchange-states, Exchange-actions, Construct, No, Un, Log, Server, withLog, withVotes, inMode, noYellow}
-use Rattle.replication.specs.Machine.Colours.{isNext, enter, joinYellow, yellow}
-use Rattle.replication.specs.Machine.Install.{idsUpTo, installVotes, install}
+use Rattle.replication.specs.Machine.Types.{Mode, Non-prim, Reg-prim, Trans-prim, Exchange-states, Exchange-actions, Construct, No, Un, Log, Server, inMode, noYellow}
+use Rattle.replication.specs.Machine.Install.{idsUpTo, installLog, installVotes, install}
 use Rattle.replication.specs.Machine.Requests.{sendWaiting, waitingRecords}
 use Rattle.replication.specs.Machine.Step.{stored, installing}
 use Rattle.replication.specs.Machine.WellFormed.{queue, wellFormed}
 use Rattle.replication.specs.Machine.WellFormedFacts.{Configured, ModeFits}
-use Rattle.replication.proofs.Step.Logs.{yellow-as}
-use Rattle.replication.proofs.Step.Numbered.{numbers-install}
+use Rattle.replication.proofs.Step.Growth.{install-grows}
 use Rattle.replication.proofs.WellFormed.Facts.{well-formed-facts, facts-well-formed}
 use Rattle.replication.proofs.WellFormed.Changes.{Body, body, whole, in-mode}
 use Rattle.replication.proofs.WellFormed.Effects.{install-body, send-waiting-body}
-use Rattle.replication.specs.Laws.RuleFits.{Delivered}
 use Rattle.image.specs.Image.{image}
 use Rattle.image.specs.Header.{modeNumber}
 use Rattle.image.specs.Holding.{Holds, HoldsSuch, HoldsSome}
@@ -35,12 +29,12 @@ use Rattle.step.specs.Answers.{answered, outcomeOn, Installs}
 use Rattle.outgoing.proofs.LentFacts.{lent-fact}
 use Rattle.image.proofs.Chained.{Covers, chained, then-holds}
 use Rattle.step.proofs.OutcomeLaws.{stored-after}
-use Rattle.step.proofs.ColoursLaws.{joined-formed}
+use Rattle.step.proofs.BlankLaws.{grown-still}
 
 -- ---- well-formed states on the way
 
 -- In Reg_prim and Trans_prim row 8 asks for a configuration only.
-primary-fits : (m : Mode) (k : ℕ) → 1 ≤ k → k ≤ 2 → k ≡ modeNumber m → (s : Server) → Configured s → ModeFits m s
+pub primary-fits : (m : Mode) (k : ℕ) → 1 ≤ k → k ≤ 2 → k ≡ modeNumber m → (s : Server) → Configured s → ModeFits m s
 unfolding modeNumber
 primary-fits Non-prim k h l e s c = tt
 primary-fits Reg-prim k h l e s c = c
@@ -59,12 +53,12 @@ primary-mode (suc (suc zero)) h l = (Trans-prim, refl)
 primary-mode (suc (suc (suc k))) h l = absurd (omega arith)
 
 module _ (k : ℕ) (s : Server) (m : Mode) (ok : wellFormed s ≡ true) (i : Installs k s) (e : k ≡ modeNumber m) where
-  mode-formed : wellFormed (inMode m s) ≡ true
+  pub mode-formed : wellFormed (inMode m s) ≡ true
   mode-formed =
       facts-well-formed (inMode m s)
       (whole (inMode m s) (in-mode s (body s (well-formed-facts s ok)) m) (primary-fits m k (i .from) (i .to) e (inMode m s) (i .configured)))
 
-  installed-body : Body (inMode m (install s))
+  installed-body : Body (s .white) (inMode m (install s))
   installed-body = in-mode (install s) (install-body s (body s (well-formed-facts s ok)) (i .index)) m
 
   pub installed-formed : wellFormed (inMode m (install s)) ≡ true
@@ -80,9 +74,6 @@ module _ (k : ℕ) (s : Server) (m : Mode) (ok : wellFormed s ≡ true) (i : Ins
       (whole (sendWaiting (inMode m (install s))) (send-waiting-body (inMode m (install s)) installed-body)
       (primary-fits m k (i .from) (i .to) e (sendWaiting (inMode m (install s))) (i .configured)))
 
-yellow-formed : (a : Action) (s : Server) → wellFormed s ≡ true → Delivered s a → wellFormed (yellow a s) ≡ true
-yellow-formed a s ok d = yellow-as (λ u. wellFormed u ≡ true) a s (λ e. joined-formed s a ok d e) (λ e. ok)
-
 own-kept : (s : Server) → wellFormed s ≡ true → (install s) .log .own ≡ s .log .own
 unfolding install
 own-kept s ok =
@@ -93,8 +84,8 @@ own-kept s ok =
 -- ---- Install in a state of a primary component
 
 module _ (k : ℕ) (b c : List ℕ) (p : HoldsSuch (Installs k) b) (f : (s : Server) (m : Mode) → Holds s b → k ≡ modeNumber m → c ≡ image (inMode m s) b) where
-  mode-holds : (s : Server) (m : Mode) → Holds s b → k ≡ modeNumber m → Holds (inMode m s) c
-  mode-holds s m r e = then-holds s (inMode m s) b c r (f s m r e) refl refl (mode-formed k s m (r .formed) (such-fact (Installs k) b s p r) e)
+  pub mode-holds : (s : Server) (m : Mode) → Holds s b → k ≡ modeNumber m → Holds (inMode m s) c
+  mode-holds s m r e = then-holds s (inMode m s) b c r (f s m r e) refl refl (mode-formed k s m (r .formed) (such-fact (Installs k) b s p r) e) (r .blank)
 
   pub mode-some : HoldsSome c
   mode-some =
@@ -123,91 +114,9 @@ module _ (k : ℕ) (b c : List ℕ) (p : HoldsSuch (Installs k) b) (f : (s : Ser
 installed-holds : (k : ℕ) (b c : List ℕ) → ((s : Server) (m : Mode) → Holds s b → k ≡ modeNumber m → c ≡ image (inMode m (install s)) b)
     → (s : Server) (m : Mode) → Holds s b → Installs k s → k ≡ modeNumber m → Holds (inMode m (install s)) c
 unfolding install
-installed-holds k b c f s m r i e = then-holds s (inMode m (install s)) b c r (f s m r e) refl refl (installed-formed k s m (r .formed) i e)
-
--- ---- in Un, with an action yellow after it
-
-yellow-in-mode : (m : Mode) (a : Action) (s : Server) → yellow a (inMode m s) ≡ inMode m (yellow a s)
-unfolding yellow pick
-yellow-in-mode m a s = go (isNext (s .log) a)
-  where
-    go : (t : Bool)
-        → pick t (withVotes (joinYellow (a .id) (s .votes)) (withLog (enter a (s .log)) (inMode m s))) (inMode m s)
-        ≡ inMode m (pick t (withVotes (joinYellow (a .id) (s .votes)) (withLog (enter a (s .log)) s)) s)
-    go true = refl
-    go false = refl
-
-yellow-covers : (m : Mode) (a : Action) (s : Server) → wellFormed s ≡ true → Covers s (inMode m (install s)) (yellow a (inMode m (install s)))
-unfolding install installVotes noYellow enter queue
-yellow-covers m a s ok = yellow-as (Covers s t) a t entered (λ e. kept)
-  where
-    t : Server
-    t = inMode m (install s)
-
-    entered : isNext (t .log) a ≡ true → Covers s t (withVotes (joinYellow (a .id) (t .votes)) (withLog (enter a (t .log)) t))
-    entered e = record {
-      servers = (refl, refl);
-      quota = (refl, refl);
-      states = inl refl;
-      ids = inl (omega arith);
-      own = inr (begins-same _ _ (sym (own-kept s ok)));
-      actions = inl (omega (
-        arith,
-        length-append (t .log .green) (t .log .red),
-        length-append (t .log .green) (t .log .red ++ (a ∷ [])),
-        length-append (t .log .red) (a ∷ []),
-      ));
-    }
-
-    kept : Covers s t t
-    kept = record {
-      servers = (refl, refl);
-      quota = (refl, refl);
-      states = inl refl;
-      ids = inl (omega arith);
-      own = inl (omega arith);
-      actions = inl (omega arith);
-    }
-
-module _ (a : Action) (b : List ℕ) (p : HoldsSuch (λ s. Delivered s a × (s .membership .mode ≡ Un)) b) where
-  such : (s : Server) → Holds s b → Delivered s a × (s .membership .mode ≡ Un)
-  such s r = such-fact (λ x. Delivered x a × (x .membership .mode ≡ Un)) b s p r
-
-  late : (s : Server) → Holds s b → Installs 2 s
-  late s r =
-      let f : Configured s × (s .votes .last .index < mostIndex) = subst (λ o. ModeFits o s) (such s r .1) (well-formed-facts s (r .formed) .mode) in
-      record { from = omega arith; to = omega arith; configured = f .0; index = f .1 }
-
-  pub late-installs : HoldsSuch (Installs 2) b
-  late-installs = record { state = p .state; holds = p .holds; fact = late (p .state) (p .holds) }
-
-  module _ (c : List ℕ) (f : (s : Server) (m : Mode) → Holds s b → 2 ≡ modeNumber m → c ≡ image (inMode m (install s)) b) where
-    late-holds : (s : Server) → Holds s b → Holds (inMode Trans-prim (install s)) c
-    unfolding modeNumber
-    late-holds s r = installed-holds 2 b c f s Trans-prim r (late s r) refl
-
-    still-delivered : (s : Server) → Holds s b → Delivered (inMode Trans-prim (install s)) a
-    unfolding install
-    still-delivered s r =
-        let d : Delivered s a = such s r .0 in
-        record { fits = d .fits; own = λ e. omega (arith, d .own e, numbers-install (s .votes .yellow .ids) (s .log) .numbered) }
-
-    pub late-delivered : HoldsSuch (λ s. Delivered s a) c
-    late-delivered = record {
-      state = inMode Trans-prim (install (p .state));
-      holds = late-holds (p .state) (p .holds);
-      fact = still-delivered (p .state) (p .holds);
-    }
-
-    pub late-yellow : (d : List ℕ) → ((t : Server) → Holds t c → d ≡ image (yellow a t) c) → (s : Server) → Holds s b
-        → d ≡ image (inMode Trans-prim (yellow a (install s))) b
-    unfolding modeNumber
-    late-yellow d g s r =
-        let t : Server = inMode Trans-prim (install s) in
-        let held : Holds t c = late-holds s r in
-        chained s t (yellow a t) b r (held .formed) (yellow-formed a t (held .formed) (still-delivered s r))
-        (yellow-covers Trans-prim a s (r .formed)) c d (f s Trans-prim r refl) (g t held)
-        ∙ ap (λ (x : Server). image x b) (yellow-in-mode Trans-prim a (install s))
+installed-holds k b c f s m r i e =
+    then-holds s (inMode m (install s)) b c r (f s m r e) refl refl (installed-formed k s m (r .formed) i e)
+    (grown-still s (installLog (s .votes .yellow .ids) (s .log) .green) (r .formed) (r .blank) (install-grows (s .votes .yellow .ids) (s .log) .greens))
 
 -- ---- what waits is sent
 

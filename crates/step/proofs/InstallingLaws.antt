@@ -55,7 +55,7 @@ cpc-formed k s ok h =
 
 pub cpc-holds : (k : ℕ) (s : Server) (b c : List ℕ) → Holds s b → k < s .servers → c ≡ image (withCpc k s) b → Holds (withCpc k s) c
 unfolding withCpc
-cpc-holds k s b c r h e = then-holds s (withCpc k s) b c r e refl refl (cpc-formed k s (r .formed) h)
+cpc-holds k s b c r h e = then-holds s (withCpc k s) b c r e refl refl (cpc-formed k s (r .formed) h) (r .blank)
 
 pub cpc-room : (k : ℕ) (s : Server) (b : List ℕ) → Holds s b → k < s .servers → (headerSize ≤ length b) × (k < 8)
 unfolding contextOf

@@ -1,4 +1,10 @@
 pub mod AnswerLaws
+pub mod BlankLaws
+pub mod RuleLaws
+pub mod SieveLaws
+pub mod StageLaws
+pub mod KindLaws
+pub mod LateLaws
 pub mod ModeLaws
 pub mod ForceLaws
 pub mod ActionLaws
@@ -9,6 +15,9 @@ pub mod CpcLaws
 pub mod ConfigurationLaws
 pub mod RequestEventLaws
 pub mod TakingLaws
+pub mod StageEnds
+pub mod RaiseLaws
+pub mod IgnoredLaws
 pub mod ReadingLaws
 pub mod ColoursLaws
 pub mod Installed
@@ -23,3 +32,5 @@ pub mod RequestLaws
 pub mod JoinLaws
 pub mod VotesLaws
 pub mod StatesLaws
+pub mod MeetLaws
+pub mod MetLaws

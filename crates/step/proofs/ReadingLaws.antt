@@ -1,7 +1,10 @@
 -- The step over buffers whose number is 0: the event is read against the state that they hold.
 use Prim.Native.Nat.{ℕ, _≤_}
 use mathlib.Core.Path.{_≡_, refl, sym, ap, subst, _∙_}
-use mathlib.Core.Bool.{true}
+use mathlib.Core.Bool.{Bool, true, false, not}
+use lib.Dec.{eqb}
+use Rattle.base.specs.Tests.{_and_, _=?_}
+use Rattle.base.proofs.TestLaws.{eq-yes, eq-no}
 use mathlib.Core.List.{List}
 use mathlib.Core.Option.{Option, none, some}
 use lib.ListN.{length}
@@ -20,21 +23,25 @@ use Rattle.record.specs.Context as code
 use Rattle.record.specs.Events.{recordOf}
 use Rattle.reader.specs.Reading.{PlacedEvent, meaning, placed}
 use Rattle.reader.proofs.Callers.{good-says, refused-says, good-placed}
-use Rattle.replication.specs.Machine.Types.{Configuration, Server, refused, contextOf, setOf}
-use Rattle.replication.specs.Machine.Step.{answer, onReading, inBytes, step}
-use Rattle.image.specs.Header.{headerOf, headerIn, statusOf}
+use Rattle.replication.specs.Machine.Types.{Mode, Configuration, Server, Outcome, refused, taken, contextOf, setOf}
+use Rattle.replication.specs.Machine.Rules.{Rule, ruleFor}
+use Rattle.replication.specs.Machine.Step.{inBytes}
+use Rattle.image.specs.Header.{headerOf, headerIn, statusOf, modeNumber}
 use Rattle.image.specs.Header as header
 use Rattle.image.specs.Decode.{decoded}
-use Rattle.image.specs.Outcome.{refusal, resultOf, stateNumber, stepOn}
+use Rattle.image.specs.Outcome.{Result, refusal, resultOf, stateNumber, stepOn}
 use Rattle.image.proofs.HeaderLaws.{header-loaded}
 use Rattle.image.specs.Holding.{Holds}
-use Rattle.image.proofs.InPlace.{holds-header}
-use Rattle.image.proofs.Refusals.{zero-read, zero-ready, step-read, step-refused}
+use Rattle.image.proofs.InPlace.{holds-header, holds-one}
+use Rattle.image.proofs.Refusals.{zero-ready, step-refused}
 use Rattle.step.specs.declared.Answer.{Answer}
 use Rattle.outgoing.specs.Lent.{LentSuch}
-use Rattle.step.specs.Answers.{answered, outcomeOn, refusedWith}
+use Rattle.step.specs.Answers.{answered, refusedWith}
+use Rattle.step.specs.Stages.{unraised, imagesBefore, unraisedOn, unraisedBy, unraisedStep, isTaken, ignoredBy, raisesBy, raises}
 use Rattle.step.specs.Events.{ReadInForce, numberOf}
 use Rattle.image.specs.Layout.{headerSize}
+use Rattle.step.proofs.ForceLaws.{numbers-mode}
+use Rattle.step.proofs.StageLaws.{AboveZero, unraised-above}
 
 -- ---- the context
 
@@ -77,22 +84,25 @@ module _ (b e o : List ℕ) (z : stateNumber b o ≡ 0) (h : Numbers) (l : h ≡
   same-context : code.contextOf c ≡ contextOf s
   same-context = ap code.contextOf (q ∙ ap readingContext numbers) ∙ reading-context s
 
-  by-reading : (x : FormatReading Record) → read (code.contextOf c) e ≡ x → stepOn b e o ≡ resultOf (inBytes (onReading s x)) b o
-  unfolding step
-  by-reading x f =
-      step-read b e o s (zero-read b o z .0) (zero-ready b o z .read)
-      ∙ ap (λ (y : FormatReading Record). resultOf (inBytes (onReading s y)) b o) (ap (λ (y : FormatContext). read y e) (sym same-context) ∙ f)
+  read-here : (x : FormatReading Record) → read (code.contextOf c) e ≡ x → read (contextOf s) e ≡ x
+  read-here x f = ap (λ (y : FormatContext). read y e) (sym same-context) ∙ f
 
   -- "A record that does not read ends the step with its number."
-  pub step-unread : (k n : ℕ) (v : Answer) → r ≡ Refused k → n ≡ numberOf r → v ≡ refusedWith n → answered v b o ≡ stepOn b e o
-  unfolding answered resultOf inBytes onReading refusal numberOf
-  step-unread k n v f g w =
-      ap (λ (y : Answer). answered y b o) (w ∙ ap (λ (i : ℕ). refusedWith i) (g ∙ ap numberOf f))
-      ∙ sym (by-reading (format.refused k) (refused-says c r k e said f))
+  pub act-unread : (k n : ℕ) (v : Answer) → r ≡ Refused k → n ≡ numberOf r → v ≡ refusedWith n
+      → (t : Server) → Holds t b → (answered v b o ≡ unraisedStep t e b o) × (false ≡ raises t e)
+  unfolding answered refusal numberOf unraisedStep unraisedBy raises raisesBy
+  act-unread k n v f g w t i =
+      let x = read-here (format.refused k) (refused-says c r k e said f) in
+      let same : s ≡ t = holds-one s t b holds i in
+      subst (λ (u : Server). (answered v b o ≡ unraisedStep u e b o) × (false ≡ raises u e)) same (
+        ap (λ (y : Answer). answered y b o) (w ∙ ap (λ (m : ℕ). refusedWith m) (g ∙ ap numberOf f))
+            ∙ ap (λ (y : FormatReading Record). unraisedBy s y b o) (sym x),
+        ap (raisesBy s) (sym x),
+      )
 
   module _ (v : Event) (f : r ≡ Good v) where
-    pub step-ready : placed c r e → LentSuch (ReadInForce h v e) b o
-    step-ready p =
+    pub act-ready : placed c r e → LentSuch (ReadInForce h v e) b o
+    act-ready p =
         let good : PlacedEvent c v e = good-placed c r v e p f in
         record {
           state = s;
@@ -105,10 +115,40 @@ module _ (b e o : List ℕ) (z : stateNumber b o ≡ 0) (h : Numbers) (l : h ≡
           room = zero-ready b o z .room;
         }
 
-    pub step-taken : (a : Answer) (b₁ o₁ : List ℕ) → ((t : Server) → Holds t b → answered a b₁ o₁ ≡ outcomeOn (answer t (recordOf v e)) b o)
-        → answered a b₁ o₁ ≡ stepOn b e o
-    unfolding outcomeOn onReading
-    step-taken a b₁ o₁ y = y s holds ∙ sym (by-reading (says (recordOf v e)) (good-says c r v e said f))
+    module _ (x : Answer) (b₁ o₁ : List ℕ) (y : (t : Server) → Holds t b → answered x b₁ o₁ ≡ unraisedOn t (recordOf v e) b o) (g : Bool)
+        (ignored : (m : Mode) (e : List ℕ) → h .mode ≡ modeNumber m → g ≡ ignoredBy (ruleFor m (recordOf v e))) where
+      here-read : read (contextOf s) e ≡ says (recordOf v e)
+      here-read = read-here (says (recordOf v e)) (good-says c r v e said f)
+
+      -- The number is 0 where the event is taken.
+      number-told : (w : Outcome Record) (k : Option Rule) → answered x b₁ o₁ ≡ resultOf (imagesBefore k s) (inBytes w) b o → AboveZero w
+          → (x .number =? 0) ≡ isTaken w
+      unfolding answered resultOf inBytes refusal isTaken
+      number-told (refused j) k i l = ap (λ (u : Result). u .number =? 0) i ∙ eq-no j 0 l
+      number-told (taken t rs st n) k i l = ap (λ (u : Result). u .number =? 0) i ∙ eq-yes 0 0 refl
+
+      acted : answered x b₁ o₁ ≡ unraisedStep s e b o
+      unfolding unraisedStep unraisedBy
+      acted = y s holds ∙ ap (λ (u : FormatReading Record). unraisedBy s u b o) (sym here-read)
+
+      raising : raises s e ≡ (not g and (x .number =? 0))
+      unfolding raises raisesBy unraisedOn
+      raising =
+          ap (raisesBy s) here-read
+          ∙ (λ j. not (sym (ignored (s .membership .mode) e (numbers-mode h s numbers)) j) and
+          sym (number-told (unraised s (recordOf v e)) (ruleFor (s .membership .mode) (recordOf v e)) (y s holds) (unraised-above s (recordOf v e))) j)
+
+      both : (a : Bool) → a ≡ (not g and (x .number =? 0)) → (t : Server) → Holds t b → (answered x b₁ o₁ ≡ unraisedStep t e b o) × (a ≡ raises t e)
+      both a w t i =
+          subst (λ (u : Server). (answered x b₁ o₁ ≡ unraisedStep u e b o) × (a ≡ raises u e)) (holds-one s t b holds i) (acted, w ∙ sym raising)
+
+      pub act-ignored : g ≡ true → (t : Server) → Holds t b → (answered x b₁ o₁ ≡ unraisedStep t e b o) × (false ≡ raises t e)
+      unfolding _and_
+      act-ignored l = both false (rw l refl)
+
+      pub act-taken : g ≡ false → (t : Server) → Holds t b → (answered x b₁ o₁ ≡ unraisedStep t e b o) × (eqb (x .number) 0 ≡ raises t e)
+      unfolding _and_ _=?_
+      act-taken l = both (eqb (x .number) 0) (rw l refl)
 
 -- ---- the step by the state's number
 

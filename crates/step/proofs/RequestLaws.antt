@@ -31,7 +31,7 @@ use Rattle.outgoing.specs.Lent.{LentSuch}
 use Rattle.step.specs.Answers.{answered, outcomeOn, storedFirst}
 use Rattle.step.specs.Events.{Asked}
 use Rattle.outgoing.proofs.LentFacts.{lent-fact}
-use Rattle.outgoing.proofs.LentLaws.{lent-counts, lent-header}
+use Rattle.outgoing.proofs.LentLaws.{lent-header}
 use Rattle.step.proofs.ColoursLaws.{formed-alike}
 use Rattle.step.proofs.OutcomeLaws.{stored-outcome, stored-after}
 
@@ -53,13 +53,13 @@ waiting-put b d o u n a e f g s t r =
 module _ (p : List ℕ) (s : Server) (ok : wellFormed s ≡ true) (fits : PayloadFits p) (left : quotaLeft s ≡ true) where
   numbered-formed : wellFormed (numbered p s) ≡ true
   unfolding numbered
-  numbered-formed = formed-alike s (numbered p s .log) (s .votes) (s .noted) ok refl (number-body s (body s (well-formed-facts s ok)) p fits left)
+  numbered-formed = formed-alike s (numbered p s .log) (s .votes) (s .noted) ok refl (number-body s (body s (well-formed-facts s ok)) p refl fits left)
 
   sent-formed : wellFormed (sendWaiting (numbered p s)) ≡ true
   unfolding numbered sendWaiting
   sent-formed =
       formed-alike s (sendWaiting (numbered p s) .log) (s .votes) (s .noted) ok refl
-      (send-waiting-body (numbered p s) (number-body s (body s (well-formed-facts s ok)) p fits left))
+      (send-waiting-body (numbered p s) (number-body s (body s (well-formed-facts s ok)) p refl fits left))
 
   request-covers : Covers s (numbered p s) (sendWaiting (numbered p s))
   unfolding numbered sendWaiting queue
@@ -68,7 +68,7 @@ module _ (p : List ℕ) (s : Server) (ok : wellFormed s ≡ true) (fits : Payloa
 
 module _ (p b o : List ℕ) (h : State) (l : LentSuch (λ s. Asked p h s) b o) where
   pub asked-payload : PayloadRoom p b
-  asked-payload = record { counts = lent-counts (λ s. Asked p h s) b o l; short = l .fact .0 .most }
+  asked-payload = record { holds = record { state = l .state; holds = l .holds; fact = l .fact .1 }; short = l .fact .0 .most }
 
   asked : (s : Server) → Holds s b → Asked p h s
   asked s k = lent-fact (λ s. Asked p h s) b o s l k
@@ -79,7 +79,7 @@ module _ (p b o : List ℕ) (h : State) (l : LentSuch (λ s. Asked p h s) b o) w
     unfolding numbered
     numbered-holds s k =
         let a = asked s k in
-        then-holds s (numbered p s) b c k (f s k (a .1)) refl refl (numbered-formed p s (k .formed) (a .0) (a .1))
+        then-holds s (numbered p s) b c k (f s k (a .1)) refl refl (numbered-formed p s (k .formed) (a .0) (a .1)) (k .blank)
 
     pub request-waits : not t ≡ true → (r : Answer) → r ≡ storedFirst 0 → (s : Server) → Holds s b → answered r c o ≡ outcomeOn (requested p s) b o
     unfolding requested recordBytes joined over

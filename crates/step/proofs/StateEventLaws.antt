@@ -14,13 +14,13 @@ use Rattle.format.specs.Write.{write}
 use Rattle.record.specs.declared.State.{State as Numbers}
 use Rattle.replication.specs.Machine.Types.{Mode, Non-prim, Reg-prim, Trans-prim, Exchange-states, Exchange-actions, Construct, No, Un, Server, Outcome, contextOf}
 use Rattle.replication.specs.Machine.Rules.{ignoring, collectingState, onState, ruleFor, possible, fromMember, isIgnored, withinQuota}
-use Rattle.replication.specs.Machine.Step.{collectState, apply, answer}
+use Rattle.replication.specs.Machine.Step.{collectState, apply}
 use Rattle.image.specs.Header.{headerOf, modeNumber}
 use Rattle.image.specs.Decode.{modeNamed}
 use Rattle.image.specs.Holding.{Holds}
 use Rattle.step.specs.declared.Answer.{Answer}
 use Rattle.outgoing.specs.Lent.{LentSuch}
-use Rattle.step.specs.Answers.{answered, outcomeOn, StateInForce, Came, refusedWith, quietly}
+use Rattle.step.specs.Answers.{answered, outcomeOn, ruled, StateInForce, Came, refusedWith, quietly}
 use Rattle.outgoing.proofs.LentFacts.{lent-fact}
 use Rattle.step.proofs.AnswerLaws.{Passes, untaken, outside, passed, passed-fits, refused-as, quiet-as}
 use Rattle.step.proofs.ForceLaws.{numbers-mode, numbers-at, below-eight}
@@ -48,19 +48,19 @@ module _ (h : Numbers) (k id : ℕ) (e b o : List ℕ) (f : LentSuch (StateInFor
 
   pub state-ignored : h .mode ≡ 0 → (r : Answer) → r ≡ quietly
       → (s : Server) (x : State) → Holds s b → fieldsOk (contextOf s) (state x) ≡ true → write (state x) ≡ e → x .sender ≡ k → x .configuration ≡ id
-      → answered r b o ≡ outcomeOn (answer s (state x)) b o
+      → answered r b o ≡ outcomeOn (ruled s (state x)) b o
   unfolding modeNamed pick _=?_ onState ruleFor possible isIgnored withinQuota _or_ apply modeNumber
   state-ignored m r q s x y g w a c =
       let z : onState (s .membership .mode) x ≡ some ignoring = numbers-at (λ l. onState l x ≡ some ignoring) h s 0 (numbers s y) m refl in
-      quiet-as s s (answer s (state x)) r b b o q
+      quiet-as s s (ruled s (state x)) r b b o q
       (passed s (state x) ignoring (record { rule = z; possible = refl; member = refl; quota = refl })) (sym (y .written))
 
   pub state-untaken : (h .mode ≡ 0 → ⊥) → (h .mode ≡ 3 → ⊥) → (r : Answer) → r ≡ refusedWith notNow
       → (s : Server) (x : State) → Holds s b → fieldsOk (contextOf s) (state x) ≡ true → write (state x) ≡ e → x .sender ≡ k → x .configuration ≡ id
-      → answered r b o ≡ outcomeOn (answer s (state x)) b o
+      → answered r b o ≡ outcomeOn (ruled s (state x)) b o
   unfolding ruleFor
   state-untaken m n r q s x y g w a c =
-      refused-as (answer s (state x)) r 5 b o q
+      refused-as (ruled s (state x)) r 5 b o q
       (untaken s (state x) (no-state (h .mode) (s .membership .mode) x (numbers-mode h s (numbers s y)) m n))
 
   module _ (m : h .mode ≡ 3) (t : Bool)
@@ -71,10 +71,10 @@ module _ (h : Numbers) (k id : ℕ) (e b o : List ℕ) (f : LentSuch (StateInFor
 
     pub state-outside : not t ≡ true → (r : Answer) → r ≡ refusedWith notFromHere
         → (s : Server) (x : State) → Holds s b → fieldsOk (contextOf s) (state x) ≡ true → write (state x) ≡ e → x .sender ≡ k → x .configuration ≡ id
-        → answered r b o ≡ outcomeOn (answer s (state x)) b o
+        → answered r b o ≡ outcomeOn (ruled s (state x)) b o
     unfolding ruleFor possible isIgnored _or_
     state-outside n r q s x y i w a c =
-        refused-as (answer s (state x)) r 6 b o q
+        refused-as (ruled s (state x)) r 6 b o q
         (outside s (state x) (collectingState x) (rule s x y) refl (sym (g s x (numbers s y) a c) ∙ not-true t n))
 
     passes : not t ≡ false → (s : Server) (x : State) → Holds s b → x .sender ≡ k → x .configuration ≡ id → Passes s (state x) (collectingState x)
@@ -99,7 +99,7 @@ module _ (h : Numbers) (k id : ℕ) (e b o : List ℕ) (f : LentSuch (StateInFor
         → ((s : Server) (x : State) → Holds s b → fieldsOk (contextOf s) (state x) ≡ true → write (state x) ≡ e → answered r c z
         ≡ outcomeOn (collectState x s) b o)
         → (s : Server) (x : State) → Holds s b → fieldsOk (contextOf s) (state x) ≡ true → write (state x) ≡ e → x .sender ≡ k → x .configuration ≡ id
-        → answered r c z ≡ outcomeOn (answer s (state x)) b o
+        → answered r c z ≡ outcomeOn (ruled s (state x)) b o
     unfolding apply
     state-collected n r c z j s x y i w a d =
         j s x y i w ∙ ap (λ (v : Outcome Record). outcomeOn v b o) (sym (passed s (state x) (collectingState x) (passes n s x y a d)))

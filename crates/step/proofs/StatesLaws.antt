@@ -20,7 +20,7 @@ use Rattle.replication.specs.Machine.Plan.{ownPart}
 use Rattle.replication.specs.Machine.Step.{collected, sent, withState, allStatesIn, plannedNow, resending, endExchange, afterStates, collectState}
 use Rattle.replication.specs.Machine.WellFormed.{wellFormed}
 use Rattle.replication.proofs.WellFormed.Facts.{well-formed-facts}
-use Rattle.replication.proofs.WellFormed.Ranges.{sizes-ok, state-ok, ids-short}
+use Rattle.replication.proofs.WellFormed.Ranges.{sizes-ok, state-ok}
 use Rattle.replication.specs.Laws.RuleFits.{StateCame}
 use Rattle.image.specs.Layout.{stateSize}
 use Rattle.image.specs.Image.{image}
@@ -45,7 +45,7 @@ abbrev pub Complete : Server → Type 0
 Complete t = (allStatesIn t ≡ true) × (t .membership .mode ≡ Exchange-states)
 
 after-planned : (s t : Server) → (plannedNow t =? 0) ≡ false
-    → afterStates s t ≡ sent s (resending t) (ownPart (t .servers) (t .me) (t .log) (collected t))
+    → afterStates s t ≡ sent s (resending t) (ownPart (t .servers) (t .me) (t .white) (t .log) (collected t))
 unfolding afterStates
 after-planned s t e = sym (pick-no _ _ _ _ e refl)
 
@@ -58,11 +58,11 @@ module _ (b o : List ℕ) (m : LentSuch Complete b o) where
 
   pub part-sent : (n : ℕ) (o₁ c : List ℕ)
       → ((t : Server) → Holds t b
-      → (n ≡ length (recordBytes (ownPart (t .servers) (t .me) (t .log) (collected t)))) × (o₁ ≡ over (recordBytes (ownPart (t .servers) (t .me) (t .log) (collected t))) o))
+      → (n ≡ length (recordBytes (ownPart (t .servers) (t .me) (t .white) (t .log) (collected t)))) × (o₁ ≡ over (recordBytes (ownPart (t .servers) (t .me) (t .white) (t .log) (collected t))) o))
       → ((t : Server) → Holds t b → c ≡ image (resending t) b) → (r : Answer) → r ≡ sentOnly n
       → (s t : Server) → Holds t b → (plannedNow t =? 0) ≡ false → answered r c o₁ ≡ outcomeOn (afterStates s t) b o
   part-sent n o₁ c f g r a s t y e =
-      sent-outcome s (resending t) (ownPart (t .servers) (t .me) (t .log) (collected t)) b o c o₁ n r a (g t y) (f t y .0) (f t y .1)
+      sent-outcome s (resending t) (ownPart (t .servers) (t .me) (t .white) (t .log) (collected t)) b o c o₁ n r a (g t y) (f t y .0) (f t y .1)
       ∙ ap (λ v. outcomeOn v b o) (sym (after-planned s t e))
 
   -- ---- after them
@@ -114,11 +114,11 @@ after-over s x b c o r d e whole f =
     let t : Server = withState x s in
     let ok : wellFormed t ≡ true = came-formed s (r .formed) e x d in
     pick-as (λ v. outcomeOn v c o ≡ outcomeOn v b o) (plannedNow t =? 0) (endExchange s t)
-    (sent s (resending t) (ownPart (t .servers) (t .me) (t .log) (collected t)))
+    (sent s (resending t) (ownPart (t .servers) (t .me) (t .white) (t .log) (collected t)))
     (λ z. end-over s t (state-before s x) b c o r ok (exchange-configured t ok (state-mode s x e)) f s)
     (λ z.
     sent-after s t (resending t) b c o r ok (resending-formed t ok (state-mode s x e) whole z) (state-covers s x) f s
-    (ownPart (t .servers) (t .me) (t .log) (collected t)))
+    (ownPart (t .servers) (t .me) (t .white) (t .log) (collected t)))
 
 -- Bytes are the writing of one State in range.
 one-state : (c : Context) (x y : State) → contextOk c ≡ true → fieldsOk c (state x) ≡ true → fieldsOk c (state y) ≡ true
@@ -142,8 +142,7 @@ module _ (k : ℕ) (e b o : List ℕ) (m : LentSuch (Came k e) b o) where
       let f = m .fact .came .fits in
       let n = numbers s b r .servers in
       let q = numbers s b r .quota in
-      let ids : length (x .yellow .ids) ≤ s .servers * s .quota = ids-short (s .servers) (s .quota) (x .yellow .ids) (f .yellow .ids)
-      (f .yellow .once) in
+      let ids : length (x .yellow .ids) ≤ s .servers * s .quota = f .yellow .few in
       let size : length (write (state x)) ≡ length e = ap length (m .fact .written) in
       record {
         number = record { counts = holds-counts s b r; below = rw n (omega (arith, f .sender, m .fact .sender)) };
@@ -165,7 +164,7 @@ module _ (k : ℕ) (e b o : List ℕ) (m : LentSuch (Came k e) b o) where
   module _ (c : List ℕ) (f : (s : Server) (x : State) → Holds s b → write (state x) ≡ e → x .sender ≡ k → c ≡ image (withState x s) b) where
     got-holds : (s : Server) (x : State) → Holds s b → StateCame s x × (x .sender ≡ k) → write (state x) ≡ e → Holds (withState x s) c
     unfolding withState
-    got-holds s x r d w = then-holds s (withState x s) b c r (f s x r w (d .1)) refl refl (came-formed s (r .formed) (mode s r) x (d .0))
+    got-holds s x r d w = then-holds s (withState x s) b c r (f s x r w (d .1)) refl refl (came-formed s (r .formed) (mode s r) x (d .0)) (r .blank)
 
     pub collect-some : HoldsSome c
     collect-some =

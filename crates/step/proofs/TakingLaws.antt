@@ -1,14 +1,12 @@
 -- An event that was read, kind by kind.
-use Prim.Native.Nat.{ℕ, _+_, _-_}
+use Prim.Native.Nat.{ℕ, _+_, _-_, max, min}
 use mathlib.Core.Path.{_≡_, refl, sym, ap, subst, _∙_}
-use mathlib.Core.Bool.{true}
 use mathlib.Core.List.{List}
 use native.Mathlib.Omega.{arith}
-use lib.ListN.{take, drop}
+use lib.ListN.{length, take, drop}
 use Rattle.base.specs.Bytes.{partAt}
-use Rattle.base.specs.Tests.{_or_}
-use Rattle.format.specs.Types.{State as FormatState, Record, action, retransmission, state, cpc, regular, transitional, request, recovery}
-use Rattle.format.specs.Range.{fieldsOk}
+use Rattle.base.specs.Tests.{_or_, pick}
+use Rattle.format.specs.Types.{Record, action, retransmission, state, cpc, regular, transitional, request, recovery}
 use Rattle.format.specs.Write.{write}
 use Rattle.record.specs.declared.State.{State as Numbers}
 use Rattle.record.specs.declared.events.ActionAt.{ActionAt}
@@ -19,18 +17,23 @@ use Rattle.record.specs.Context.{readingContext}
 use Rattle.record.specs.Values.{actionOf, stateOf}
 use Rattle.record.specs.Events.{actionFrom, stateFrom, recordOf}
 use Rattle.reader.proofs.Callers.{action-placed, retransmission-placed, request-placed}
-use Rattle.replication.specs.Machine.Types.{Server, contextOf}
+use Rattle.replication.specs.Machine.Types.{Server, withWhite}
 use Rattle.replication.specs.Machine.Requests.{recovered}
 use Rattle.replication.specs.Machine.Rules.{recovering, ruleFor, possible, fromMember, isIgnored, withinQuota}
-use Rattle.replication.specs.Machine.Step.{apply, answer}
+use Rattle.replication.specs.Machine.White.{highestWhite, metLog, isRecovering, tookWhite, sieved}
+use Rattle.replication.specs.Machine.Step.{apply}
 use Rattle.image.specs.Image.{image}
-use Rattle.image.specs.Holding.{Holds, HoldsSuch}
+use Rattle.image.specs.Holding.{Holds, HoldsSuch, HoldsSome, Computes, blanked}
+use Rattle.image.proofs.InPlace.{holds-some}
+use Rattle.image.proofs.Raising.{recovering-at}
 use Rattle.step.specs.declared.Answer.{Answer}
 use Rattle.outgoing.specs.Lent.{LentSuch}
-use Rattle.step.specs.Answers.{answered, outcomeOn, InForce, StateInForce, storedFirst}
+use Rattle.step.specs.Answers.{answered, outcomeOn, ruled, InForce, StateInForce, storedFirst}
 use Rattle.step.specs.Events.{PartInForce, ReadInForce}
-use Rattle.outgoing.proofs.LentFacts.{lent-fact}
-use Rattle.step.proofs.AnswerLaws.{Passes, passed, stored-as}
+use Rattle.step.specs.Stages.{unraisedOn}
+use Rattle.step.proofs.AnswerLaws.{Passes, stored-as}
+use Rattle.step.proofs.SieveLaws.{took-holds}
+use Rattle.step.proofs.StageLaws.{core-done}
 
 -- ---- a part of the bytes, as the code lends it
 
@@ -52,9 +55,9 @@ module _ (f : List ℕ → Record) (h : Numbers) (at m : ℕ) (e b : List ℕ) w
   held-part l =
       subst (λ (p : List ℕ). HoldsSuch (InForce h (f p)) b) (sliced at m e) (record { state = l .state; holds = l .holds; fact = l .fact .force })
 
-answered-part : (f : List ℕ → Record) (at m : ℕ) (e : List ℕ) (v : Answer) (b o c z : List ℕ) (s : Server)
-    → answered v c z ≡ outcomeOn (answer s (f (take (at + m - at) (drop at e)))) b o → answered v c z ≡ outcomeOn (answer s (f (partAt m e at))) b o
-answered-part f at m e v b o c z s y = y ∙ ap (λ (p : List ℕ). outcomeOn (answer s (f p)) b o) (sym (sliced at m e))
+acted-part : (f : List ℕ → Record) (at m : ℕ) (e : List ℕ) (v : Answer) (b o c z : List ℕ) (s : Server)
+    → answered v c z ≡ unraisedOn s (f (take (at + m - at) (drop at e))) b o → answered v c z ≡ unraisedOn s (f (partAt m e at)) b o
+acted-part f at m e v b o c z s y = y ∙ ap (λ (p : List ℕ). unraisedOn s (f p) b o) (sym (sliced at m e))
 
 module _ (h : Numbers) (a : ActionAt) (e b : List ℕ) where
   abbrev at : ℕ
@@ -76,35 +79,49 @@ module _ (h : Numbers) (a : ActionAt) (e b : List ℕ) where
 
 module _ (a : ActionAt) (e b c : List ℕ) (v : Answer) where
   pub act-done : ((s : Server) (o : List ℕ) → Holds s b
-      → answered v c o ≡ outcomeOn (answer s (action (actionOf (a .head) (payloadLent a e)))) b o)
-      → (s : Server) (o : List ℕ) → Holds s b → answered v c o ≡ outcomeOn (answer s (action (actionFrom a e))) b o
+      → answered v c o ≡ unraisedOn s (action (actionOf (a .head) (payloadLent a e))) b o)
+      → (s : Server) (o : List ℕ) → Holds s b → answered v c o ≡ unraisedOn s (action (actionFrom a e)) b o
   unfolding actionFrom
-  act-done y s o i = answered-part (λ p. action (actionOf (a .head) p)) (a .«payload_at») (a .«payload_length») e v b o c o s (y s o i)
+  act-done y s o i = acted-part (λ p. action (actionOf (a .head) p)) (a .«payload_at») (a .«payload_length») e v b o c o s (y s o i)
 
   pub resent-done : (k i : ℕ) (o z : List ℕ) → ((s : Server) → Holds s b
-      → answered v c z ≡ outcomeOn (answer s (retransmission k i (actionOf (a .head) (payloadLent a e)))) b o)
-      → (s : Server) → Holds s b → answered v c z ≡ outcomeOn (answer s (retransmission k i (actionFrom a e))) b o
+      → answered v c z ≡ unraisedOn s (retransmission k i (actionOf (a .head) (payloadLent a e))) b o)
+      → (s : Server) → Holds s b → answered v c z ≡ unraisedOn s (retransmission k i (actionFrom a e)) b o
   unfolding actionFrom
   resent-done k i o z y s l =
-      answered-part (λ p. retransmission k i (actionOf (a .head) p)) (a .«payload_at») (a .«payload_length») e v b o c z s (y s l)
+      acted-part (λ p. retransmission k i (actionOf (a .head) p)) (a .«payload_at») (a .«payload_length») e v b o c z s (y s l)
 
 pub requested-ready : (h : Numbers) (at m : ℕ) (e b o : List ℕ) → LentSuch (PartInForce h (request (partAt m e at)) at m e) b o
     → LentSuch (InForce h (request (take (at + m - at) (drop at e)))) b o
 requested-ready h at m e b o l = lent-part (λ p. request p) h at m e b o l
 
 pub requested-done : (at m : ℕ) (e b o c z : List ℕ) (v : Answer)
-    → ((s : Server) → Holds s b → answered v c z ≡ outcomeOn (answer s (request (take (at + m - at) (drop at e)))) b o)
-    → (s : Server) → Holds s b → answered v c z ≡ outcomeOn (answer s (request (partAt m e at))) b o
-requested-done at m e b o c z v y s l = answered-part (λ p. request p) at m e v b o c z s (y s l)
+    → ((s : Server) → Holds s b → answered v c z ≡ outcomeOn (ruled s (request (take (at + m - at) (drop at e)))) b o)
+    → (s : Server) → Holds s b → answered v c z ≡ outcomeOn (ruled s (request (partAt m e at))) b o
+requested-done at m e b o c z v y s l = y s l ∙ ap (λ (p : List ℕ). outcomeOn (ruled s (request p)) b o) (sym (sliced at m e))
 
 -- ---- recovery
 
-pub recovery-done : (b c : List ℕ) (v : Answer) → ((s : Server) → Holds s b → c ≡ image (recovered s) b) → v ≡ storedFirst 0
-    → (s : Server) (o : List ℕ) → Holds s b → answered v c o ≡ outcomeOn (answer s recovery) b o
-unfolding ruleFor possible fromMember isIgnored withinQuota _or_ apply
-recovery-done b c v y q s o i =
-    let p : Passes s recovery recovering = record { rule = refl; possible = refl; member = refl; quota = refl } in
-    stored-as s (recovered s) (answer s recovery) v b c o q (passed s recovery recovering p) (y s i)
+module _ (b c : List ℕ) (to : ℕ) (e : Computes (λ s. highestWhite (s .log .own)) b to)
+    (f : (s : Server) → Holds s b → c ≡ image (withWhite (max (s .white) (min (length (s .log .green)) to)) s) b) where
+  took : (s : Server) → Holds s b → c ≡ image (withWhite (tookWhite recovering s) s) b
+  unfolding tookWhite isRecovering pick
+  took s i = f s i ∙ ap (λ (k : ℕ). image (withWhite (max (s .white) (min (length (s .log .green)) k)) s) b) (e s i)
+
+  pub recovery-ready : (P : Server → Type 0) → HoldsSuch P b → HoldsSome c
+  unfolding metLog
+  recovery-ready P h =
+      holds-some (blanked (withWhite (tookWhite recovering (h .state)) (h .state))) c
+      (took-holds recovering (h .state) b c (h .holds) refl (took (h .state) (h .holds)))
+
+  pub recovery-done : (d : List ℕ) (v : Answer) → ((s : Server) → Holds s c → d ≡ image (recovered s) c) → v ≡ storedFirst 0
+      → (s : Server) (o : List ℕ) → Holds s b → answered v d o ≡ unraisedOn s recovery b o
+  unfolding ruleFor possible fromMember isIgnored withinQuota _or_ apply sieved metLog
+  recovery-done d v y q s o i =
+      let p : Passes s recovery recovering = record { rule = refl; possible = refl; member = refl; quota = refl } in
+      let t : Server = blanked (withWhite (tookWhite recovering s) s) in
+      core-done s recovery recovering p b o i refl (λ w x. recovering-at w s) c (took s i) v d o
+      (stored-as t (recovered t) (apply recovering t) v c d o q refl (y t (took-holds recovering s b c i refl (took s i))))
 
 -- ---- kind by kind
 
@@ -175,63 +192,3 @@ module _ (h : Numbers) (v : Event) (e b o : List ℕ) (f : LentSuch (ReadInForce
   pub arm-recovery : v ≡ Recovery → HoldsSuch (InForce h recovery) b
   unfolding recordOf
   arm-recovery q = record { state = f .state; holds = f .holds; fact = force-as Recovery q }
-
--- ---- and their answers
-
-module _ (v : Event) (e b o c z : List ℕ) (r : Answer) where
-  done-as : (w : Event) → v ≡ w → ((s : Server) → Holds s b → answered r c z ≡ outcomeOn (answer s (recordOf w e)) b o)
-      → (s : Server) → Holds s b → answered r c z ≡ outcomeOn (answer s (recordOf v e)) b o
-  done-as w q y s i = y s i ∙ ap (λ (u : Event). outcomeOn (answer s (recordOf u e)) b o) (sym q)
-
-  pub retransmission-done : (k i : ℕ) (a : ActionAt) → v ≡ Retransmission k i a
-      → ((s : Server) → Holds s b → answered r c z ≡ outcomeOn (answer s (retransmission k i (actionFrom a e))) b o)
-      → (s : Server) → Holds s b → answered r c z ≡ outcomeOn (answer s (recordOf v e)) b o
-  unfolding recordOf
-  retransmission-done k i a q y = done-as (Retransmission k i a) q y
-
-  pub state-done : (x : StateAt) → v ≡ State x
-      → ((s : Server) (y : FormatState) → Holds s b → fieldsOk (contextOf s) (state y) ≡ true → write (state y) ≡ e → y .sender ≡ x .head .sender
-      → y .configuration ≡ x .head .configuration
-      → answered r c z ≡ outcomeOn (answer s (state y)) b o)
-      → (h : Numbers) → LentSuch (ReadInForce h v e) b o → (s : Server) → Holds s b → answered r c z ≡ outcomeOn (answer s (recordOf v e)) b o
-  unfolding recordOf stateFrom stateOf
-  state-done x q y h f =
-      let written : write (state (stateFrom x e)) ≡ e = subst (λ (u : Event). write (recordOf u e) ≡ e) q (f .fact .written) in
-      let range : (s : Server) → Holds s b → fieldsOk (contextOf s) (state (stateFrom x e)) ≡ true
-      = λ s i. subst (λ (u : Event). fieldsOk (contextOf s) (recordOf u e) ≡ true) q (lent-fact (ReadInForce h v e) b o s f i .force .range)
-      in
-      done-as (State x) q (λ s i. y s (stateFrom x e) i (range s i) written refl refl)
-
-  pub cpc-done : (k i : ℕ) → v ≡ Cpc k i → ((s : Server) → Holds s b → answered r c z ≡ outcomeOn (answer s (cpc k i)) b o)
-      → (s : Server) → Holds s b → answered r c z ≡ outcomeOn (answer s (recordOf v e)) b o
-  unfolding recordOf
-  cpc-done k i q y = done-as (Cpc k i) q y
-
-  pub regular-done : (i k : ℕ) → v ≡ Regular i k → ((s : Server) → Holds s b → answered r c z ≡ outcomeOn (answer s (regular i k)) b o)
-      → (s : Server) → Holds s b → answered r c z ≡ outcomeOn (answer s (recordOf v e)) b o
-  unfolding recordOf
-  regular-done i k q y = done-as (Regular i k) q y
-
-  pub request-done : (at m : ℕ) → v ≡ Request at m → ((s : Server) → Holds s b → answered r c z ≡ outcomeOn (answer s (request (partAt m e at))) b o)
-      → (s : Server) → Holds s b → answered r c z ≡ outcomeOn (answer s (recordOf v e)) b o
-  unfolding recordOf
-  request-done at m q y = done-as (Request at m) q y
-
--- Those that leave the outgoing buffer as it is.
-module _ (v : Event) (e b o c : List ℕ) (r : Answer) where
-  pub action-done : (a : ActionAt) → v ≡ Action a
-      → ((s : Server) (z : List ℕ) → Holds s b → answered r c z ≡ outcomeOn (answer s (action (actionFrom a e))) b z)
-      → (s : Server) → Holds s b → answered r c o ≡ outcomeOn (answer s (recordOf v e)) b o
-  unfolding recordOf
-  action-done a q y = done-as v e b o c o r (Action a) q (λ s i. y s o i)
-
-  pub transitional-done : (k : ℕ) → v ≡ Transitional k
-      → ((s : Server) (z : List ℕ) → Holds s b → answered r c z ≡ outcomeOn (answer s (transitional k)) b z)
-      → (s : Server) → Holds s b → answered r c o ≡ outcomeOn (answer s (recordOf v e)) b o
-  unfolding recordOf
-  transitional-done k q y = done-as v e b o c o r (Transitional k) q (λ s i. y s o i)
-
-  pub recovered-done : v ≡ Recovery → ((s : Server) (z : List ℕ) → Holds s b → answered r c z ≡ outcomeOn (answer s recovery) b z)
-      → (s : Server) → Holds s b → answered r c o ≡ outcomeOn (answer s (recordOf v e)) b o
-  unfolding recordOf
-  recovered-done q y = done-as v e b o c o r Recovery q (λ s i. y s o i)

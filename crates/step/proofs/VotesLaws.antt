@@ -28,7 +28,7 @@ use Rattle.step.proofs.OutcomeLaws.{stored-after}
 
 -- ---- well-formed states on the way
 
-voted-formed : (s : Server) (v : Votes) → wellFormed s ≡ true → Body (withVotes v s) → v .last .index ≡ s .votes .last .index
+voted-formed : (s : Server) (v : Votes) → wellFormed s ≡ true → Body (s .white) (withVotes v s) → v .last .index ≡ s .votes .last .index
     → wellFormed (withVotes v s) ≡ true
 voted-formed s v ok b e =
     let g = well-formed-facts s ok in
@@ -49,7 +49,7 @@ valid-formed s ok =
       last = b .votes .last;
       attempt = b .votes .attempt;
       mark = b .votes .mark;
-      yellow = record { status = omega arith; ids = y .ids; once = y .once };
+      yellow = record { status = omega arith; few = y .few; ids = y .ids; once = y .once };
     }))
     refl
 
@@ -90,7 +90,7 @@ module _ (id set : ℕ) (b o b₁ : List ℕ) (h : LentSuch (λ s. Configuration
       → LentSuch (λ s. ConfigurationFits (s .servers) (s .me) (configurationOf id set)) b₁ o
   changed-lent v e ok =
       let s : Server = h .state in
-      record { state = withVotes v s; holds = then-holds s (withVotes v s) b b₁ (h .holds) e refl refl ok; fact = h .fact; room = h .room }
+      record { state = withVotes v s; holds = then-holds s (withVotes v s) b b₁ (h .holds) e refl refl ok (h .holds .blank); fact = h .fact; room = h .room }
 
   fits : (t : Server) → Holds t b → ConfigurationFits (t .servers) (t .me) (configurationOf id set)
   fits t r = lent-fact (λ s. ConfigurationFits (s .servers) (s .me) (configurationOf id set)) b o t h r
@@ -106,7 +106,7 @@ module _ (id set : ℕ) (b o b₁ : List ℕ) (h : LentSuch (λ s. Configuration
     unmarked-joined b₂ o₁ r f s t k =
         let v : Votes = unmarked (t .votes) in
         let ok : wellFormed (withVotes v t) ≡ true = unmarked-formed t (k .formed) in
-        f s (withVotes v t) (then-holds t (withVotes v t) b b₁ k (d t k) refl refl ok)
+        f s (withVotes v t) (then-holds t (withVotes v t) b b₁ k (d t k) refl refl ok (k .blank))
         ∙ joined-over s t v v (configurationOf id set) b b₁ o k (d t k) ok ok (fits t k) refl
 
   module _ (d : (s : Server) → Holds s b → b₁ ≡ image (withVotes (yellowValid (s .votes)) s) b) where
@@ -120,5 +120,5 @@ module _ (id set : ℕ) (b o b₁ : List ℕ) (h : LentSuch (λ s. Configuration
     valid-joined b₂ o₁ r f s t k =
         let v : Votes = yellowValid (t .votes) in
         let ok : wellFormed (withVotes v t) ≡ true = valid-formed t (k .formed) in
-        f s (withVotes v t) (then-holds t (withVotes v t) b b₁ k (d t k) refl refl ok)
+        f s (withVotes v t) (then-holds t (withVotes v t) b b₁ k (d t k) refl refl ok (k .blank))
         ∙ joined-over s t v (unmarked v) (configurationOf id set) b b₁ o k (d t k) ok (unmarked-formed (withVotes v t) ok) (fits t k) refl

@@ -3,17 +3,21 @@ use Prim.Native.Nat.{ℕ, _≤_, _<_}
 use mathlib.Core.Path.{_≡_}
 use mathlib.Core.Bool.{true}
 use mathlib.Core.List.{List}
-use Rattle.base.specs.Tests.{pick}
+use mathlib.Core.Option.{Option, none, some}
+use Rattle.base.specs.Refusals.{quotaUsed, notNow, notFromHere}
+use Rattle.base.specs.Tests.{_or_, pick}
 use Rattle.format.specs.Limits.{mostIndex}
 use Rattle.format.specs.Types.{State, Record, state}
 use Rattle.format.specs.Range.{fieldsOk}
 use Rattle.format.specs.Write.{write}
-use Rattle.replication.specs.Machine.Types.{Exchange-states, Un, Server, Outcome, inMode, contextOf}
-use Rattle.replication.specs.Machine.Step.{inBytes, withCpc, allCpcsIn, answer}
+use Rattle.replication.specs.Machine.Types.{Exchange-states, Un, Server, Outcome, refused, inMode, contextOf}
+use Rattle.replication.specs.Machine.Rules.{Rule, ruleFor, possible, fromMember, isIgnored, withinQuota}
+use Rattle.replication.specs.Machine.Step.{inBytes, withCpc, allCpcsIn, apply}
 use Rattle.replication.specs.Machine.WellFormedFacts.{Configured}
 use Rattle.replication.specs.Laws.RuleFits.{StateCame}
 use Rattle.record.specs.declared.State.{State as Numbers}
 use Rattle.image.specs.Header.{headerOf}
+use Rattle.image.specs.Image.{image}
 use Rattle.image.specs.Outcome.{Result, resultOf}
 use Rattle.image.specs.Holding.{Holds}
 use Rattle.base.specs.Lent.{Lent}
@@ -26,7 +30,23 @@ answered a b o = record { number = a .number; store = a .store; sent = a .sent; 
 
 -- An outcome of the machine over both buffers.
 unfoldable pub outcomeOn : Outcome Record → List ℕ → List ℕ → Result
-outcomeOn x b o = resultOf (inBytes x) b o
+outcomeOn x b o = resultOf image (inBytes x) b o
+
+-- ---- the answer to a record
+
+-- Rows 5, 6 and 3, as in the machine's `applyRule`; where none applies, what f makes of the rule.
+unfoldable pub byRows : (Rule → Server → Outcome Record) → Option Rule → Server → Record → Outcome Record
+byRows f none s r = refused notNow
+byRows f (some k) s r =
+    pick (possible s r)
+    (pick (isIgnored k or fromMember (s .membership) r) (pick (withinQuota s r) (f k s) (refused quotaUsed)) (refused notFromHere))
+    (refused notNow)
+
+-- The rule alone, with neither sieve nor raise: for a record that carries no action this is all but the raise.
+unfoldable pub ruled : Server → Record → Outcome Record
+ruled s r = byRows apply (ruleFor (s .membership .mode) r) s r
+
+-- ---- what the contracts say
 
 -- From buffers b and o, the first of which holds s, the answer and both buffers afterwards are what the outcome of s makes of them ..
 abbrev pub AnswersAs : (Server → Outcome Record) → Answer → (b b′ o o′ : List ℕ) → Type 0
@@ -40,13 +60,13 @@ AnswersAlone f r b b′ = (s : Server) (o : List ℕ) → Holds s b → answered
 abbrev pub AnswersBy : (Server → Outcome Record) → Answer → (state out : Lent) → Type 0
 AnswersBy f r b o = AnswersAs f r (now (b .entry)) (now (b .exit)) (now (o .entry)) (now (o .exit))
 
--- The answer to the record x.
+-- The answer to the record x, which carries no action.
 abbrev pub AnswersTo : Record → Answer → (state out : Lent) → Type 0
-AnswersTo x r b o = AnswersBy (λ s. answer s x) r b o
+AnswersTo x r b o = AnswersBy (λ s. ruled s x) r b o
 
 -- .. and where the outgoing buffer is not lent.
 abbrev pub AnswersToAlone : Record → Answer → (state : Lent) → Type 0
-AnswersToAlone x r b = AnswersAlone (λ s. answer s x) r (now (b .entry)) (now (b .exit))
+AnswersToAlone x r b = AnswersAlone (λ s. ruled s x) r (now (b .entry)) (now (b .exit))
 
 -- The outcome of a state t that the server s has become in the same event.
 abbrev pub AnswersFor : (Server → Server → Outcome Record) → Answer → (state out : Lent) → Type 0

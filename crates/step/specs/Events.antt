@@ -13,19 +13,22 @@ use Rattle.reader.specs.declared.Reading.the-variants.{Good, Refused}
 use Rattle.record.specs.Context.{readingContext}
 use Rattle.record.specs.Events.{recordOf, actionFrom}
 use Rattle.reader.specs.Reading.{PlacedEvent}
-use Rattle.replication.specs.Machine.Types.{Non-prim, Trans-prim, Exchange-actions, Server}
+use Rattle.replication.specs.Machine.Types.{Non-prim, Trans-prim, Exchange-actions, Un, Server}
 use Rattle.replication.specs.Machine.Types.{withLog, inMode, contextOf}
-use Rattle.replication.specs.Machine.Rules.{Rule, onAction, fromMember}
-use Rattle.replication.specs.Laws.RuleFits.{RuleFits, Delivered}
+use Rattle.replication.specs.Machine.Rules.{Rule, lateInstalling, onAction, fromMember}
+use Rattle.replication.specs.Machine.White.{full, sifted}
+use Rattle.replication.specs.Laws.RuleFits.{Delivered}
+use Rattle.queue.specs.Queue.{Placed}
 use Rattle.base.specs.Lent.{Lent}
-use Rattle.step.specs.Answers.{InForce, answered, outcomeOn}
+use Rattle.step.specs.Answers.{InForce, answered, outcomeOn, ruled}
+use Rattle.step.specs.Stages.{coreImages}
 use Rattle.replication.specs.Machine.WellFormedRanges.{PayloadFits}
 use Rattle.replication.specs.Machine.Requests.{quotaLeft}
 use mathlib.Core.Bool.{Bool, true, false}
 use Rattle.image.specs.Header.{headerOf, modeNumber}
 use Rattle.replication.specs.Machine.Colours.{isNext, yellow}
 use Rattle.replication.specs.Machine.Install.{install}
-use Rattle.replication.specs.Machine.Step.{placed, exchanged, allCome, oneMore, collected, hereSet, apply, answer, collectState, plannedNow}
+use Rattle.replication.specs.Machine.Step.{placed, exchanged, allCome, oneMore, collected, hereSet, apply, collectState, plannedNow}
 use Rattle.replication.specs.Machine.Step.{afterStates}
 use Rattle.replication.specs.Machine.Exchange.{quorum}
 use Rattle.replication.specs.Machine.WellFormedFacts.{Configured}
@@ -34,14 +37,15 @@ use Rattle.step.specs.declared.Answer.{Answer}
 use denote.Ref.{now}
 use Rattle.image.specs.Holding.{Holds}
 use Rattle.format.specs.Range.{fieldsOk}
-use Rattle.base.specs.Tests.{_=?_}
+use Rattle.base.specs.Tests.{_and_, _=?_, _≤?_}
 
--- The server s, in the state of this number, takes the action a.
+-- The server s, in the state of this number, which is not Un, takes the action a, and has a place for it if it is its creator's next.
 pub record Takes (mode : ℕ) (a : Action) (s : Server) : Type 0 where
   pub number : mode ≡ modeNumber (s .membership .mode)
   pub rule : Rule
   pub taken : onAction (s .membership .mode) a ≡ some rule
-  pub fits : RuleFits rule s
+  pub early : s .membership .mode ≡ Un → ⊥
+  pub placed : Placed s a
 
 -- ---- records in the bytes e of an event
 
@@ -67,17 +71,22 @@ numberOf (Refused k) = k
 abbrev pub Asked : List ℕ → Numbers → Server → Type 0
 Asked p h s = PayloadFits p × (quotaLeft s ≡ true) × (h ≡ headerOf s)
 
--- The action a is delivered, and is its creator's next one.
+-- The action a is its creator's next one, and has a place.
 abbrev pub Next : Action → Server → Type 0
-Next a s = Delivered s a × (isNext (s .log) a ≡ true)
+Next a s = Placed s a × (isNext (s .log) a ≡ true)
+
+-- It comes for the position p; "one at a lower nonzero position is ignored" and needs no place.
+pub record PlacedAt (p : ℕ) (a : Action) (s : Server) : Type 0 where
+  pub delivered : Delivered s a
+  pub room : (1 ≤? p and p ≤? length (s .log .green)) ≡ false → Placed s a
 
 -- It is retransmitted ..
-abbrev pub Retransmitted : Action → Server → Type 0
-Retransmitted a s = Delivered s a × (s .membership .mode ≡ Exchange-actions)
+abbrev pub Retransmitted : (p : ℕ) → Action → Server → Type 0
+Retransmitted p a s = PlacedAt p a s × (s .membership .mode ≡ Exchange-actions)
 
 -- .. and not the last.
-abbrev pub NotLast : Action → Server → Type 0
-NotLast a s = Delivered s a × (s .membership .mode ≡ Exchange-actions) × (allCome (oneMore s) ≡ false)
+abbrev pub NotLast : (p : ℕ) → Action → Server → Type 0
+NotLast p a s = PlacedAt p a s × (s .membership .mode ≡ Exchange-actions) × (allCome (oneMore s) ≡ false)
 
 -- The exchange ends, with a quorum or without.
 abbrev pub Ends : Bool → Server → Type 0
@@ -104,7 +113,7 @@ FromMember k id h r =
 abbrev pub AnswersState : (k id : ℕ) → (e : List ℕ) → Answer → (state out : Lent) → Type 0
 AnswersState k id e r b o =
     (s : Server) (x : State) → Holds s (now (b .entry)) → fieldsOk (contextOf s) (state x) ≡ true → write (state x) ≡ e → x .sender ≡ k
-    → x .configuration ≡ id → answered r (now (b .exit)) (now (o .exit)) ≡ outcomeOn (answer s (state x)) (now (b .entry)) (now (o .entry))
+    → x .configuration ≡ id → answered r (now (b .exit)) (now (o .exit)) ≡ outcomeOn (ruled s (state x)) (now (b .entry)) (now (o .entry))
 
 -- What its collection makes.
 abbrev pub AnswersCollected : (e : List ℕ) → Answer → (state out : Lent) → Type 0
@@ -131,3 +140,9 @@ exchangedLast p a s = inMode Non-prim (exchanged p a s)
 -- "Un: .. an action .. Install, yellow, Trans_prim"
 abbrev pub installedLate : Action → Server → Server
 installedLate a s = inMode Trans-prim (yellow a (install s))
+
+-- In Un before the raise: Install's part of the log, the action's white length taken, then the rest.
+abbrev pub BecomesInstalled : Action → (b b′ : List ℕ) → Type 0
+BecomesInstalled a b b′ =
+    (s : Server) → Holds s b
+    → b′ ≡ coreImages (lateInstalling a) s (installedLate (sifted (full (lateInstalling a) s) a) s) b

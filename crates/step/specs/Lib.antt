@@ -1,2 +1,4 @@
 pub mod Answers
 pub mod Events
+pub mod Stages
+pub mod Meeting

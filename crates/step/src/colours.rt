@@ -2,8 +2,8 @@
 ghost use Rattle.record.specs.Values.{actionOf};
 ghost use Rattle.replication.specs.Machine.Colours.{yellow as yellowed};
 ghost use Rattle.replication.specs.Machine.Step.{greenAndNote};
-ghost use Rattle.replication.specs.Laws.RuleFits.{Delivered};
 ghost use Rattle.image.specs.Holding.{HoldsSuch, Becomes};
+ghost use Rattle.queue.specs.Queue.{Placed};
 ghost use Rattle.step.specs.Events.{Next};
 use octets::numbers::num16;
 use queue::entering::enter;
@@ -15,7 +15,7 @@ use updates::yellow::join_yellow;
 
 // "Reg_prim: action green; the creator's green length is noted"
 pub fn green_and_note(state: &mut [u8], head: ActionHead, payload: &[u8])
-    requires { ⌜ HoldsSuch (λ s. Delivered s (actionOf head (now payload))) (now state) ⌝ }
+    requires { ⌜ HoldsSuch (λ s. Placed s (actionOf head (now payload))) (now state) ⌝ }
     ensures { λ _. ⌜ Becomes (greenAndNote (actionOf head (now (payload .entry)))) (now (state .entry)) (now (state .exit)) ⌝ }
 {
     green(state, head, payload);
@@ -33,7 +33,7 @@ fn enter_yellow(state: &mut [u8], head: ActionHead, payload: &[u8])
 
 // "as red, and its id joins the yellow list if it was entered"
 pub fn yellow(state: &mut [u8], head: ActionHead, payload: &[u8])
-    requires { ⌜ HoldsSuch (λ s. Delivered s (actionOf head (now payload))) (now state) ⌝ }
+    requires { ⌜ HoldsSuch (λ s. Placed s (actionOf head (now payload))) (now state) ⌝ }
     ensures { λ _. ⌜ Becomes (yellowed (actionOf head (now (payload .entry)))) (now (state .entry)) (now (state .exit)) ⌝ }
 {
     let cut = num16(state, State::SIZE + State::CUT * head.creator as usize);

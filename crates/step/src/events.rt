@@ -12,6 +12,7 @@ ghost use Rattle.image.specs.Holding.{HoldsSuch};
 ghost use Rattle.outgoing.specs.Lent.{LentSuch};
 ghost use Rattle.step.specs.Answers.{InForce, StateInForce, AnswersTo, AnswersToAlone};
 ghost use Rattle.step.specs.Events.{Takes, Colours, FromMember, AnswersState};
+ghost use Rattle.step.specs.Stages.{Acts, ActsAlone};
 ghost use Rattle.format.specs.Limits.{mostServers};
 use crate::Answer;
 use crate::colours::green_and_note;
@@ -25,6 +26,8 @@ use crate::joining::join;
 use crate::joining::join_unmarked;
 use crate::joining::join_yellow;
 use crate::requests::request;
+use crate::sieve::pass;
+use crate::sieve::pass_at;
 use base::refusals::NOT_FROM_HERE;
 use base::refusals::NOT_NOW;
 use base::refusals::QUOTA_USED;
@@ -38,12 +41,13 @@ use guards::quota_left;
 use guards::regular_due;
 use guards::state_in;
 use guards::transitional_due;
+use queue::counting::count_of;
 use queue::entering::red;
 use record::ActionHead;
 use record::State;
 use updates::membership::leave;
 
-// An action that rows 5 and 6 let pass; `mode` is the state's number.
+// An action that rows 5 and 6 and the sieve let pass; `mode` is the state's number, which is not that of Un.
 fn colour(state: &mut [u8], mode: u8, head: ActionHead, payload: &[u8]) -> Answer
     requires { ⌜ HoldsSuch (Takes mode (actionOf head (now payload))) (now state) ⌝ }
     ensures { λ r. ⌜ Colours (actionOf head (now (payload .entry))) r state ⌝ }
@@ -56,10 +60,6 @@ fn colour(state: &mut [u8], mode: u8, head: ActionHead, payload: &[u8]) -> Answe
         State::TRANS_PRIM => {
             yellow(state, head, payload);
             Answer::quiet()
-        }
-        State::UN => {
-            late_install(state, head, payload);
-            Answer::stored(0)
         }
         _ => {
             red(state, head, payload);
@@ -81,7 +81,7 @@ fn takes_action(mode: u8) -> bool
 
 pub fn on_action(state: &mut [u8], h: State, head: ActionHead, payload: &[u8]) -> Answer
     requires { ⌜ HoldsSuch (InForce h (action (actionOf head (now payload)))) (now state) ⌝ }
-    ensures { λ r. ⌜ AnswersToAlone (action (actionOf head (now (payload .entry)))) r state ⌝ }
+    ensures { λ r. ⌜ ActsAlone (action (actionOf head (now (payload .entry)))) r state ⌝ }
 {
     if !takes_action(h.mode) {
         return Answer::refused(NOT_NOW);
@@ -92,7 +92,12 @@ pub fn on_action(state: &mut [u8], h: State, head: ActionHead, payload: &[u8]) -
     if !is_member(h, head.creator) {
         return Answer::refused(NOT_FROM_HERE);
     }
-    colour(state, h.mode, head, payload)
+    if h.mode == State::UN {
+        late_install(state, head, payload);
+        return Answer::stored(0);
+    }
+    let x = pass(state, head);
+    colour(state, h.mode, x, payload)
 }
 
 // Whether a state takes a retransmission.
@@ -116,7 +121,7 @@ pub fn on_retransmission(
     payload: &[u8],
 ) -> Answer
     requires { ⌜ LentSuch (InForce h (retransmission sender position (actionOf head (now payload)))) (now state) (now out) ⌝ }
-    ensures { λ r. ⌜ AnswersTo (retransmission sender position (actionOf head (now (payload .entry)))) r state out ⌝ }
+    ensures { λ r. ⌜ Acts (retransmission sender position (actionOf head (now (payload .entry)))) r state out ⌝ }
 {
     if !takes_retransmission(h.mode) {
         return Answer::refused(NOT_NOW);
@@ -128,9 +133,11 @@ pub fn on_retransmission(
         return Answer::refused(NOT_FROM_HERE);
     }
     if h.mode == State::EXCHANGE_ACTIONS {
-        return exchange(state, out, position, head, payload);
+        let x = pass_at(state, position, head);
+        return exchange(state, out, position, x, payload);
     }
-    red(state, head, payload);
+    let x = pass(state, head);
+    red(state, x, payload);
     Answer::quiet()
 }
 
@@ -247,7 +254,7 @@ pub fn on_request(state: &mut [u8], out: &mut [u8], h: State, payload: &[u8]) ->
     requires { ⌜ LentSuch (InForce h (requestRecord (now payload))) (now state) (now out) ⌝ }
     ensures { λ r. ⌜ AnswersTo (requestRecord (now (payload .entry))) r state out ⌝ }
 {
-    if !quota_left(h) {
+    if !quota_left(h, count_of(state, h.me)) {
         return Answer::refused(QUOTA_USED);
     }
     request(state, out, h, payload)

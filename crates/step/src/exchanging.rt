@@ -6,14 +6,13 @@ ghost use Rattle.record.specs.Values.{actionOf};
 ghost use Rattle.replication.specs.Machine.Types.{Non-prim, Exchange-states, Exchange-actions, Votes, Server, inMode};
 ghost use Rattle.replication.specs.Machine.Step.{exchanged, oneMore, decided, endExchange, allStatesIn, afterStates, exchange as exchangedBy};
 ghost use Rattle.replication.specs.Machine.WellFormedFacts.{Configured};
-ghost use Rattle.replication.specs.Laws.RuleFits.{Delivered};
 ghost use Rattle.image.specs.Image.{image};
 ghost use Rattle.image.specs.Holding.{Holds, HoldsSuch, Becomes};
 ghost use Rattle.updates.specs.Standing.{voteNumbers};
 ghost use Rattle.exchange.specs.Decided.{votesNumbers};
 ghost use Rattle.outgoing.specs.Lent.{LentSuch};
 ghost use Rattle.step.specs.Answers.{Came, AnswersFor, AnswersBy};
-ghost use Rattle.step.specs.Events.{Ends, Retransmitted, NotLast, AnswersPlanned, AnswersCollected, withPlaced, exchangedLast};
+ghost use Rattle.step.specs.Events.{Ends, PlacedAt, Retransmitted, NotLast, AnswersPlanned, AnswersCollected, withPlaced, exchangedLast};
 use crate::Answer;
 use crate::requests::send_all;
 use exchange::decided::TakenVotes;
@@ -27,6 +26,7 @@ use octets::numbers::num32;
 use outgoing::resending::send_part;
 use queue::entering::red;
 use queue::greening::green;
+use queue::history::green_length;
 use record::ActionHead;
 use updates::exchanges::attempt;
 use updates::exchanges::decide;
@@ -144,10 +144,10 @@ pub fn collect(state: &mut [u8], out: &mut [u8], k: u8, event: &[u8]) -> Answer
 
 // "a retransmission at position green length + 1 is green; one at a lower nonzero position is ignored; any other is red."
 fn place_action(state: &mut [u8], position: u32, head: ActionHead, payload: &[u8])
-    requires { ⌜ HoldsSuch (λ s. Delivered s (actionOf head (now payload))) (now state) ⌝ }
+    requires { ⌜ HoldsSuch (PlacedAt position (actionOf head (now payload))) (now state) ⌝ }
     ensures { λ _. ⌜ Becomes (withPlaced position (actionOf head (now (payload .entry)))) (now (state .entry)) (now (state .exit)) ⌝ }
 {
-    let length = num32(state, record::State::AT_GREEN_LENGTH);
+    let length = green_length(state);
     if position == length + 1 {
         green(state, head, payload);
         return;
@@ -163,7 +163,7 @@ fn place_action(state: &mut [u8], position: u32, head: ActionHead, payload: &[u8
 
 // One that is not the last.
 fn take_in(state: &mut [u8], position: u32, head: ActionHead, payload: &[u8])
-    requires { ⌜ HoldsSuch (NotLast (actionOf head (now payload))) (now state) ⌝ }
+    requires { ⌜ HoldsSuch (NotLast position (actionOf head (now payload))) (now state) ⌝ }
     ensures { λ _. ⌜ Becomes (exchanged position (actionOf head (now (payload .entry)))) (now (state .entry)) (now (state .exit)) ⌝ }
 {
     place_action(state, position, head, payload);
@@ -181,7 +181,7 @@ fn close(state: &mut [u8])
 
 // The last one, after which the exchange ends.
 fn take_last(state: &mut [u8], position: u32, head: ActionHead, payload: &[u8])
-    requires { ⌜ HoldsSuch (Retransmitted (actionOf head (now payload))) (now state) ⌝ }
+    requires { ⌜ HoldsSuch (Retransmitted position (actionOf head (now payload))) (now state) ⌝ }
     ensures { λ _. ⌜ Becomes (exchangedLast position (actionOf head (now (payload .entry)))) (now (state .entry)) (now (state .exit)) ⌝ }
 {
     place_action(state, position, head, payload);
@@ -196,7 +196,7 @@ pub fn exchange(
     head: ActionHead,
     payload: &[u8],
 ) -> Answer
-    requires { ⌜ LentSuch (Retransmitted (actionOf head (now payload))) (now state) (now out) ⌝ }
+    requires { ⌜ LentSuch (Retransmitted position (actionOf head (now payload))) (now state) (now out) ⌝ }
     ensures { λ r. ⌜ AnswersBy (exchangedBy position (actionOf head (now (payload .entry)))) r state out ⌝ }
 {
     let planned = planned_now(state);

@@ -3,8 +3,8 @@ ghost use mathlib.Core.Path.{_≡_};
 ghost use Prim.Native.Nat.{_<_};
 ghost use Rattle.format.specs.Limits.{mostIndex};
 ghost use Rattle.record.specs.Values.{actionOf};
-ghost use Rattle.replication.specs.Machine.Types.{Construct, No, Un, inMode};
-ghost use Rattle.replication.specs.Machine.Install.{install as installed};
+ghost use Rattle.replication.specs.Machine.Types.{Trans-prim, Construct, No, Un, inMode, withVotes};
+ghost use Rattle.replication.specs.Machine.Install.{installVotes, install as installed};
 ghost use Rattle.replication.specs.Machine.Step.{installing, collectCpc};
 ghost use Rattle.replication.specs.Machine.WellFormedFacts.{Configured};
 ghost use Rattle.replication.specs.Laws.RuleFits.{Delivered};
@@ -12,12 +12,15 @@ ghost use Rattle.image.specs.Holding.{HoldsSuch, Becomes};
 ghost use Rattle.outgoing.specs.Lent.{LentSuch};
 ghost use Rattle.step.specs.Answers.{Installs, withLateCpc, AnswersBy, AnswersFor};
 ghost use Rattle.updates.specs.Lists.{BecomesIn};
-ghost use Rattle.step.specs.Events.{installedLate};
+ghost use Rattle.step.specs.Events.{BecomesInstalled};
 use crate::Answer;
 use crate::colours::yellow;
 use crate::requests::send_all;
+use crate::sieve::pass;
 use exchange::decided::all_cpcs_in;
 use install::installing::install;
+use install::installing::install_log;
+use install::installing::install_votes;
 use record::ActionHead;
 use record::State;
 use updates::membership::add_cpc;
@@ -32,13 +35,24 @@ fn install_in(state: &mut [u8], mode: u8)
     install(state);
 }
 
-// "Un: action does Install, then yellow"
+// The rest of Install in Un, and Trans_prim.
+fn end_install(state: &mut [u8])
+    requires { ⌜ HoldsSuch (Installs 2) (now state) ⌝ }
+    ensures { λ _. ⌜ Becomes (λ s. inMode Trans-prim (withVotes (installVotes (s .votes)) s)) (now (state .entry)) (now (state .exit)) ⌝ }
+{
+    set_mode(state, State::TRANS_PRIM);
+    install_votes(state);
+}
+
+// "Un: action does Install, then yellow". The action meets the log after Install: the white length is taken there.
 pub fn late_install(state: &mut [u8], head: ActionHead, payload: &[u8])
     requires { ⌜ HoldsSuch (λ s. Delivered s (actionOf head (now payload)) × (s .membership .mode ≡ Un)) (now state) ⌝ }
-    ensures { λ _. ⌜ Becomes (installedLate (actionOf head (now (payload .entry)))) (now (state .entry)) (now (state .exit)) ⌝ }
+    ensures { λ _. ⌜ BecomesInstalled (actionOf head (now (payload .entry))) (now (state .entry)) (now (state .exit)) ⌝ }
 {
-    install_in(state, State::TRANS_PRIM);
-    yellow(state, head, payload);
+    install_log(state);
+    let x = pass(state, head);
+    end_install(state);
+    yellow(state, x, payload);
 }
 
 // "Install, to Reg_prim"

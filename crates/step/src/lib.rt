@@ -8,8 +8,10 @@ pub mod requests; // requests.rt: requests numbered, and sent
 pub mod joining; // joining.rt: regular configurations
 pub mod installing; // installing.rt: Install
 pub mod exchanging; // exchanging.rt: States and retransmissions, and the end of an exchange
+pub mod sieve; // sieve.rt: what is taken before an action is entered
 pub mod events; // events.rt: each kind of event
-pub mod taking; // taking.rt: an event as it comes
+pub mod taking; // taking.rt: an event as it comes, and the raise behind it
+pub mod meeting; // meeting.rt: what an action meets in Un
 
 use state_check::state_number;
 use taking::step;
@@ -66,6 +68,12 @@ impl Answer {
             sent,
         }
     }
+}
+
+// What an event was answered, and whether the raise of the white length is due behind it.
+pub struct Act {
+    pub answer: Answer,
+    pub raises: bool,
 }
 
 // One event at one server: the state's own number first, then the event.

@@ -1,13 +1,22 @@
 // An event as it comes: read against the state, and taken by its kind. h are the state's numbers.
 ghost use mathlib.Core.Path.{_≡_};
+ghost use mathlib.Core.List.{List};
+ghost use Prim.Native.Nat.{ℕ};
 ghost use Rattle.base.specs.Bytes.{partAt};
+ghost use Rattle.base.specs.Tests.{pick};
 ghost use Rattle.format.specs.Types.{action as actionRecord, retransmission, request, recovery};
 ghost use Rattle.record.specs.Events.{actionFrom, recordOf};
+ghost use Rattle.image.specs.Header.{modeNumber};
 ghost use Rattle.image.specs.Outcome.{stateNumber, stepOn};
-ghost use Rattle.image.specs.Holding.{HoldsSuch};
+ghost use Rattle.replication.specs.Machine.Rules.{ruleFor};
+ghost use Rattle.replication.specs.Machine.Types.{Mode};
+ghost use Rattle.image.specs.Holding.{HoldsSuch, HoldsSome, Becomes};
 ghost use Rattle.outgoing.specs.Lent.{LentSuch};
-ghost use Rattle.step.specs.Answers.{answered, InForce, AnswersTo, AnswersToAlone};
+ghost use Rattle.step.specs.Answers.{answered, InForce, AnswersTo};
 ghost use Rattle.step.specs.Events.{PartInForce, ReadInForce, numberOf, ActionInForce};
+ghost use Rattle.step.specs.Stages.{Acts, ActsAlone, ActsOn, ignoredBy};
+ghost use Rattle.updates.specs.White.{whitened};
+use crate::Act;
 use crate::Answer;
 use crate::events::on_action;
 use crate::events::on_cpc;
@@ -17,16 +26,19 @@ use crate::events::on_retransmission;
 use crate::events::on_state;
 use crate::events::on_transitional;
 use image::header::load;
+use queue::shifting::raise_white;
 use reader::Reading;
 use reader::read;
 use record::State;
 use record::events::ActionAt;
 use record::events::Event;
+use updates::recovery::highest_white;
 use updates::recovery::recover;
+use updates::white::whiten;
 
-fn act(state: &mut [u8], h: State, a: ActionAt, event: &[u8]) -> Answer
+fn delivered(state: &mut [u8], h: State, a: ActionAt, event: &[u8]) -> Answer
     requires { ⌜ HoldsSuch (ActionInForce actionRecord h a (now event)) (now state) ⌝ }
-    ensures { λ r. ⌜ AnswersToAlone (actionRecord (actionFrom a (now (event .entry)))) r state ⌝ }
+    ensures { λ r. ⌜ ActsAlone (actionRecord (actionFrom a (now (event .entry)))) r state ⌝ }
 {
     let at = a.payload_at;
     let end = at + a.payload_length;
@@ -44,7 +56,7 @@ fn resent(
     event: &[u8],
 ) -> Answer
     requires { ⌜ LentSuch (ActionInForce (retransmission sender position) h a (now event)) (now state) (now out) ⌝ }
-    ensures { λ r. ⌜ AnswersTo (retransmission sender position (actionFrom a (now (event .entry)))) r state out ⌝ }
+    ensures { λ r. ⌜ Acts (retransmission sender position (actionFrom a (now (event .entry)))) r state out ⌝ }
 {
     let at = a.payload_at;
     let end = at + a.payload_length;
@@ -67,22 +79,23 @@ fn requested(
     on_request(state, out, h, &event[at..end])
 }
 
-// "Non_prim, no configuration, .. stored."
+// "Non_prim, no configuration, .. stored." The own list is entered: the highest white length on it is taken first.
 fn recovered(state: &mut [u8], h: State) -> Answer
     requires { ⌜ HoldsSuch (InForce h recovery) (now state) ⌝ }
-    ensures { λ r. ⌜ AnswersToAlone recovery r state ⌝ }
+    ensures { λ r. ⌜ ActsAlone recovery r state ⌝ }
 {
+    raise_white(state, highest_white(state));
     recover(state);
     Answer::stored(0)
 }
 
-// The event v, which was read from the bytes `event`.
+// The event v, which was read from the bytes `event`, but for the raise.
 fn on_event(state: &mut [u8], out: &mut [u8], h: State, v: Event, event: &[u8]) -> Answer
     requires { ⌜ LentSuch (ReadInForce h v (now event)) (now state) (now out) ⌝ }
-    ensures { λ r. ⌜ AnswersTo (recordOf v (now (event .entry))) r state out ⌝ }
+    ensures { λ r. ⌜ Acts (recordOf v (now (event .entry))) r state out ⌝ }
 {
     match v {
-        Event::Action(action) => act(state, h, action, event),
+        Event::Action(action) => delivered(state, h, action, event),
         Event::Retransmission {
             sender,
             position,
@@ -113,15 +126,66 @@ fn number_of(r: Reading) -> u32
     }
 }
 
-// One event, over buffers whose number is 0. "A record that does not read ends the step with its number."
-pub fn step(state: &mut [u8], event: &[u8], out: &mut [u8]) -> Answer
+// "Non_prim: .. State and CPC ignored."
+fn is_ignored(mode: u8, v: Event) -> bool
+    ensures { λ r. ⌜ ((m : Mode) (e : List ℕ) → mode ≡ modeNumber m → r ≡ ignoredBy (ruleFor m (recordOf v e))) ⌝ }
+{
+    match v {
+        Event::State(_) => mode == State::NON_PRIM,
+        Event::Cpc { .. } => mode == State::NON_PRIM,
+        Event::Action(_) => false,
+        Event::Retransmission { .. } => false,
+        Event::Regular { .. } => false,
+        Event::Transitional { .. } => false,
+        Event::Request { .. } => false,
+        Event::Recovery => false,
+    }
+}
+
+// One event but for the raise, over buffers whose number is 0: what it turned green is still there. "A record that does not read ends the step with
+// its number."
+pub fn act(state: &mut [u8], event: &[u8], out: &mut [u8]) -> Act
     requires { ⌜ stateNumber (now state) (now out) ≡ 0 ⌝ }
-    ensures { λ r. ⌜ answered r (now (state .exit)) (now (out .exit)) ≡ stepOn (now (state .entry)) (now (event .entry)) (now (out .entry)) ⌝ }
+    ensures { λ r. ⌜ ActsOn (now (event .entry)) r state out ⌝ }
 {
     let h = load(state);
     let r = read(h.context(), event);
     let Reading::Good(v) = r else {
-        return Answer::refused(number_of(r));
+        return Act {
+            answer: Answer::refused(number_of(r)),
+            raises: false,
+        };
     };
-    on_event(state, out, h, v, event)
+    let ignored = is_ignored(h.mode, v);
+    let answer = on_event(state, out, h, v, event);
+    if ignored {
+        return Act {
+            answer,
+            raises: false,
+        };
+    }
+    Act {
+        answer,
+        raises: answer.number == 0,
+    }
+}
+
+// The raise behind it: "An action green on every server, by the noted green lengths, becomes white".
+pub fn raise(state: &mut [u8], raises: bool)
+    requires { ⌜ HoldsSome (now state) ⌝ }
+    ensures { λ _. ⌜ Becomes (λ s. pick raises (whitened s) s) (now (state .entry)) (now (state .exit)) ⌝ }
+{
+    if raises {
+        whiten(state);
+    }
+}
+
+// One event, over buffers whose number is 0.
+pub fn step(state: &mut [u8], event: &[u8], out: &mut [u8]) -> Answer
+    requires { ⌜ stateNumber (now state) (now out) ≡ 0 ⌝ }
+    ensures { λ r. ⌜ answered r (now (state .exit)) (now (out .exit)) ≡ stepOn (now (state .entry)) (now (event .entry)) (now (out .entry)) ⌝ }
+{
+    let a = act(state, event, out);
+    raise(state, a.raises);
+    a.answer
 }

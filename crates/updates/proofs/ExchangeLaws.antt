@@ -4,11 +4,10 @@ use mathlib.Core.Path.{_≡_, refl, ap, _∙_}
 use mathlib.Core.List.{List}
 use mathlib.Core.Logic.{inl, inr}
 use mathlib.Core.Option.{Option, none, some}
-use native.Mathlib.Nat.{mul-le-mul}
 use native.Mathlib.Omega.{arith}
 use lib.ListN.{length}
 use Rattle.base.proofs.Prefixes.{begins-refl}
-use Rattle.format.specs.Limits.{mostIndex, mostIds}
+use Rattle.format.specs.Limits.{mostIndex, mostServers, mostPlanned}
 use Rattle.format.specs.Write.{idsBytes}
 use Rattle.record.specs.declared.State.{State}
 use Rattle.replication.specs.Machine.Types.{Votes, Configuration, Server, withVotes, withNoted, contextOf}
@@ -66,14 +65,13 @@ membership-dropped h t b b₁ e f g s r =
 
 -- ---- the numbers' ranges
 
-pub come-low : (b : List ℕ) (h : State) → HoldsSome b → h ≡ headerIn b → h .come ≤ 2 * mostIds
+pub come-low : (b : List ℕ) (h : State) → HoldsSome b → h ≡ headerIn b → h .come ≤ mostPlanned mostServers
 unfolding headerOf contextOf
 come-low b h w e =
     let s : Server = w .state in
     let g = in-range s (w .holds .formed) in
     let f : h .come ≡ s .membership .come = ap (λ (x : State). x .come) (e ∙ header-loaded s b (w .holds)) in
-    let all : s .servers * s .quota ≤ mostIds = mul-le-mul (g .context .sizes .most) (g .context .sizes .highest) in
-    omega (arith, g .come)
+    omega (arith, g .come, g .context .sizes .most)
 
 pub attempt-low : (b : List ℕ) (h : State) → HoldsSome b → h ≡ headerIn b → h .attempt .0 ≤ mostIndex
 unfolding headerOf
@@ -91,7 +89,7 @@ abbrev AllNoted : List ℕ → List ℕ → Type 0
 AllNoted b c = (s : Server) → Holds s b → c ≡ image (withNoted (noteAll (collected s) (s .noted)) s) b
 
 noted-holds : (b c : List ℕ) → AllNoted b c → (s : Server) → Holds s b → Holds (withNoted (noteAll (collected s) (s .noted)) s) c
-noted-holds b c f s r = then-holds s (withNoted (noteAll (collected s) (s .noted)) s) b c r (f s r) refl refl (all-formed s (r .formed))
+noted-holds b c f s r = then-holds s (withNoted (noteAll (collected s) (s .noted)) s) b c r (f s r) refl refl (all-formed s (r .formed)) (r .blank)
 
 pub decided-room : (e b c : List ℕ) → HoldsSuch (λ s. length e ≤ idSize * (s .servers * s .quota)) b → AllNoted b c → YellowRoom e c
 decided-room e b c h f =

@@ -11,3 +11,4 @@ pub mod Examples
 pub mod RecoveryLaws
 pub mod Recovered
 pub mod ExchangeLaws
+pub mod WhiteLaws

@@ -16,6 +16,7 @@ use Rattle.base.specs.Lists.{present, atFront, Each}
 use Rattle.base.specs.Sets.{inSet}
 use Rattle.base.specs.Tests.{pick}
 use Rattle.base.proofs.TestLaws.{pick-yes, pick-no}
+use Rattle.format.specs.Limits.{mostLength}
 use Rattle.format.specs.Types.{State}
 use Rattle.format.specs.Read.{stateAt}
 use Rattle.replication.specs.Machine.Types.{Server, withNoted}
@@ -68,7 +69,7 @@ first-each P (suc k) (some x ∷ xs) h = (h .0, first-each P k xs (h .1))
 
 -- ---- well-formed all along
 
-pub noted-formed : (s : Server) (l : List ℕ) → wellFormed s ≡ true → length l ≡ length (s .noted) → ((c : ℕ) → getD l c 0 ≤ s .servers * s .quota)
+pub noted-formed : (s : Server) (l : List ℕ) → wellFormed s ≡ true → length l ≡ length (s .noted) → ((c : ℕ) → getD l c 0 ≤ mostLength)
     → wellFormed (withNoted l s) ≡ true
 noted-formed s l ok e f =
     let g = well-formed-facts s ok in
@@ -109,7 +110,7 @@ unfolding serversIn
 note-room b c k n h e l f =
     let s : Server = h .state in
     let r : Holds s b = h .holds in
-    let t : Holds (firstNoted k s) c = then-holds s (firstNoted k s) b c r (f s r) refl refl (first-formed k s (r .formed)) in
+    let t : Holds (firstNoted k s) c = then-holds s (firstNoted k s) b c r (f s r) refl refl (first-formed k s (r .formed)) (r .blank) in
     record { counts = holds-counts (firstNoted k s) c t; below = omega (arith, numbers s b r .servers, numbers (firstNoted k s) c t .servers) }
 
 pub note-turn : (b c d : List ℕ) (k n : ℕ) → n ≡ numberAt 1 b atServers → k < n → ((s : Server) → Holds s b → c ≡ image (firstNoted k s) b)
@@ -120,7 +121,7 @@ note-turn b c d k n e l f g s r =
     let t : Server = firstNoted k s in
     let m : List ℕ = noteSlot (getD (s .membership .states) k none) (t .noted) in
     let ok = first-formed k s (r .formed) in
-    let held : Holds t c = then-holds s t b c r (f s r) refl refl ok in
+    let held : Holds t c = then-holds s t b c r (f s r) refl refl ok (r .blank) in
     let count : length (s .membership .states) ≡ s .servers = body s (well-formed-facts s (r .formed)) .membership .states-length in
     let same : m ≡ noteFirst (k + 1) (s .membership .states) (s .noted) =
     sym (first-more k (s .membership .states) (s .noted) (omega (arith, numbers s b r .servers))) ∙ ap (λ (j : ℕ). noteFirst j (s .membership .states) (s .noted)) (sym (add-one k)) in

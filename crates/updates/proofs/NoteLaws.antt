@@ -1,24 +1,25 @@
 -- Noted lengths in place.
-use Prim.Native.Nat.{ℕ, zero, suc, _+_, _*_, _≤_, _<_, max}
-use mathlib.Core.Path.{_≡_, refl, sym, ap, _∙_}
+use Prim.Native.Nat.{ℕ, zero, suc, _+_, _*_, _-_, _≤_, _<_, max, min}
+use mathlib.Core.Path.{_≡_, refl, sym, ap, ap₂, _∙_}
 use mathlib.Core.List.{List, [], _∷_, _++_}
 use native.Mathlib.Omega.{arith}
 use lib.ListN.{length, getD, set}
 use lib.Seq.{set-getD}
-use Rattle.base.specs.Bytes.{bytesOf, numberAt, over}
+use Rattle.base.specs.Bytes.{bytesOf, numberAt, numbersAt, over}
 use Rattle.base.proofs.BytesLaws.{bytes-length, numbers-at}
 use Rattle.base.specs.Lists.{sum}
 use Rattle.base.specs.Patched.{patched}
 use Rattle.base.proofs.Sections.{begin}
-use Rattle.replication.specs.Machine.Types.{Server, withNoted}
+use Rattle.replication.specs.Machine.Types.{Server, withNoted, contextOf}
 use Rattle.replication.specs.Machine.Colours.{note}
-use Rattle.image.specs.Layout.{theNoted, sections, offset}
+use Rattle.replication.specs.Machine.White.{least}
+use Rattle.image.specs.Layout.{theNoted, sections, offset, atServers}
 use Rattle.image.specs.Header.{headerOf}
 use Rattle.image.specs.Image.{headerBytes, notedBytes, section, parts, image}
 use Rattle.image.specs.Decode.{serversIn, decoded, decodedAs}
 use Rattle.image.proofs.InRange.{in-range}
 use Rattle.image.proofs.Used.{noted-length}
-use Rattle.image.specs.Holding.{Holds}
+use Rattle.image.specs.Holding.{Holds, HoldsSome}
 use Rattle.image.proofs.InPlace.{holds-decoded}
 use Rattle.base.proofs.Over.{over-changed}
 use Rattle.queue.proofs.Inside.{changed-at}
@@ -26,7 +27,7 @@ use Rattle.queue.proofs.Holding.{holds-changed}
 use Rattle.updates.specs.Lists.{NumberIn}
 use Rattle.updates.proofs.Changes.{changed-image}
 use Rattle.image.specs.Counts.{place}
-use Rattle.image.proofs.Counts.{numbers, holds-place}
+use Rattle.image.proofs.Counts.{numbers, holds-counts, holds-place}
 
 -- ---- one of the numbers
 
@@ -82,3 +83,57 @@ note-raised b b₁ c l at old h e f g k s r =
     over-changed (notedBytes (s .noted)) (bytesOf 4 l) (section n q theNoted b) (4 * c) (omega (arith, bytes-length 4 l, noted-length (s .noted)))
     ∙ ap (λ (y : List ℕ). over y (section n q theNoted b)) (noted-set (s .noted) c l below ∙ ap (λ (m : ℕ). notedBytes (set (s .noted) c m)) high) in
     k ∙ changed-image (withNoted (note c l (s .noted)) s) _ b _ one (ap (λ (y : List ℕ). set (parts n q s b) theNoted y) list)
+
+-- ---- the least of them
+
+least-next : (l x : ℕ) (xs : List ℕ) → least (l ∷ x ∷ xs) ≡ least (min l x ∷ xs)
+unfolding least
+least-next l x [] = refl
+least-next l x (y ∷ ys) = omega arith
+
+numbers-more : (b : List ℕ) (at k n : ℕ) → k < n → numbersAt 4 (n - k) b (at + 4 * k) ≡ numberAt 4 b (at + 4 * k) ∷ numbersAt 4 (n - (k + 1)) b (at + 4 * (k + 1))
+unfolding numbersAt
+numbers-more b at k n h =
+    let e : n - k ≡ suc (n - (k + 1)) = omega arith in
+    let f : at + 4 * (k + 1) ≡ at + 4 * k + 4 = omega arith in
+    ap (λ (i : ℕ). numbersAt 4 i b (at + 4 * k)) e ∙ rw f
+
+-- There are noted lengths, and they lie in the buffer.
+pub some-noted : (b : List ℕ) (n : ℕ) → HoldsSome b → n ≡ numberAt 1 b atServers → 1 ≤ n
+unfolding serversIn contextOf
+some-noted b n h e = omega (arith, numbers (h .state) b (h .holds) .servers, in-range (h .state) (h .holds .formed) .context .sizes .fewest)
+
+pub noted-inside : (b : List ℕ) (at n : ℕ) → HoldsSome b → at ≡ place theNoted b → n ≡ numberAt 1 b atServers → at + 4 * n ≤ length b
+unfolding serversIn
+noted-inside b at n h e f =
+    let c = holds-counts (h .state) b (h .holds) in
+    omega (arith, c .notedEnd, c .yellowEnd, c .ownEnd, c .queueEnd)
+
+pub first-inside : (b : List ℕ) (at n : ℕ) → HoldsSome b → at ≡ place theNoted b → n ≡ numberAt 1 b atServers → at + 4 ≤ length b
+first-inside b at n h e f = omega (arith, some-noted b n h f, noted-inside b at n h e f)
+
+pub least-start : (b : List ℕ) (at n l : ℕ) → 1 ≤ n → l ≡ numberAt 4 b at → least (numbersAt 4 n b at) ≡ least (l ∷ numbersAt 4 (n - 1) b (at + 4 * 1))
+least-start b at n l h e =
+    let f : at + 4 * 0 ≡ at = omega arith in
+    let g : n - 0 ≡ n = omega arith in
+    ap₂ {A = ℕ} {B = ℕ} {C = ℕ} (λ i j. least (numbersAt 4 i b j)) (sym g) (sym f)
+    ∙ ap least (numbers-more b at 0 n h)
+    ∙ ap (λ (x : ℕ). least (x ∷ numbersAt 4 (n - 1) b (at + 4 * 1))) (ap (numberAt 4 b) f ∙ sym e)
+
+pub least-again : (b : List ℕ) (at n k l x y w : ℕ) → k < n → x ≡ numberAt 4 b (at + 4 * k) → y ≡ min l x → w ≡ least (l ∷ numbersAt 4 (n - k) b (at + 4 * k))
+    → w ≡ least (y ∷ numbersAt 4 (n - (k + 1)) b (at + 4 * (k + 1)))
+least-again b at n k l x y w h e f g =
+    let rest : List ℕ = numbersAt 4 (n - (k + 1)) b (at + 4 * (k + 1)) in
+    g
+    ∙ ap (λ (m : List ℕ). least (l ∷ m)) (numbers-more b at k n h)
+    ∙ least-next l (numberAt 4 b (at + 4 * k)) rest
+    ∙ ap (λ (z : ℕ). least (z ∷ rest)) (ap (min l) (sym e) ∙ sym f)
+
+pub least-end : (b : List ℕ) (at n k l : ℕ) → n ≤ k → at ≡ place theNoted b → n ≡ numberAt 1 b atServers → least (numbersAt 4 n b at) ≡ least (l ∷ numbersAt 4 (n - k) b (at + 4 * k))
+    → (s : Server) → Holds s b → l ≡ least (s .noted)
+unfolding least numbersAt decoded decodedAs place serversIn
+least-end b at n k l h e f g s r =
+    let none : n - k ≡ 0 = omega arith in
+    sym (g ∙ ap (λ (i : ℕ). least (l ∷ numbersAt 4 i b (at + 4 * k))) none)
+    ∙ ap₂ {A = ℕ} {B = ℕ} {C = ℕ} (λ i j. least (numbersAt 4 i b j)) f e
+    ∙ ap (λ (t : Server). least (t .noted)) (holds-decoded s b r)

@@ -14,10 +14,11 @@ use Rattle.format.specs.Types.{Action, State as Collected}
 use Rattle.format.specs.Write.{idsBytes, cutsBytes}
 use Rattle.record.specs.declared.State.{State}
 use Rattle.replication.specs.Machine.Types.{Log, Votes, Membership, Server, noStates}
+use Rattle.replication.specs.Machine.Colours.{shown}
 use Rattle.replication.specs.Machine.WellFormed.{queue}
 use Rattle.image.specs.Layout.{stateSize, theHeader, theCuts, theNoted, theStates, theYellow, theOwn, theQueue, sections, sectionCount}
 use Rattle.image.specs.Image.{headerBytes, notedBytes, stateOver, statesOver, actionSlots, section, parts, image}
-use Rattle.image.specs.Header.{headerOf, headerWritten}
+use Rattle.image.specs.Header.{headerOf, shownLog, headerWritten}
 use Rattle.image.proofs.Used.{header-length, slots-append, ids-append, written-length}
 use Rattle.image.proofs.HeaderLaws.{header-written}
 use Rattle.image.specs.Holding.{Holds}
@@ -59,7 +60,7 @@ module _ (s : Server) (b : List ℕ) (r : Holds s b) where
       begun (idsBytes (s .votes .yellow .ids)) (idsBytes (v .yellow .ids)) (idsBytes (e .yellow .0)) (section n q theYellow b) (ap idsBytes (e .yellow .1) ∙ ids-append (v .yellow .ids) (e .yellow .0)) (here theYellow (omega arith)) in
       let own : over (actionSlots (s .log .own)) (section n q theOwn b) ≡ over (actionSlots (l .own)) (section n q theOwn b) =
       begun (actionSlots (s .log .own)) (actionSlots (l .own)) (actionSlots (e .own .0)) (section n q theOwn b) (ap actionSlots (e .own .1) ∙ slots-append (l .own) (e .own .0)) (here theOwn (omega arith)) in
-      let actions : over (actionSlots (queue (s .log))) (section n q theQueue b) ≡ over (actionSlots (queue l)) (section n q theQueue b) =
+      let actions : over (actionSlots (queue (shownLog s))) (section n q theQueue b) ≡ over (actionSlots (queue (shown (s .white) l))) (section n q theQueue b) =
       ap (λ (x : List Action). over (actionSlots x) (section n q theQueue b)) (sym (e .queued)) in
       λ i. headerBytes (changedTo s l v m)
       ∷ cuts i

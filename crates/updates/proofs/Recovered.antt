@@ -1,11 +1,11 @@
 -- Recovery in place: the own list behind the queue, then the numbers.
 use Prim.Native.Nat.{ℕ, zero, suc, _+_, _*_, _-_, _≤_, _<_}
-use mathlib.Core.Path.{_≡_, refl, sym, ap, ap₂, _∙_}
+use mathlib.Core.Path.{_≡_, refl, sym, ap, ap₂, subst, _∙_}
 use mathlib.Core.Bool.{true}
 use mathlib.Core.List.{List, [], _∷_, _++_, append-assoc, map, head-eq-of-cons-eq, tail-eq-of-cons-eq}
 use mathlib.Core.Logic.{inl, inr}
 use native.Mathlib.Omega.{arith}
-use lib.ListN.{length, getD, set, length-append, length-map}
+use lib.ListN.{length, drop, getD, set, length-append, length-map}
 use Rattle.base.specs.Bytes.{bytesOf, numberAt, partAt, over}
 use Rattle.base.proofs.BytesLaws.{bytes-length}
 use Rattle.base.specs.Lists.{sum, after, above}
@@ -17,7 +17,7 @@ use Rattle.format.specs.Types.{Id, Action}
 use Rattle.format.specs.Write.{cutsBytes}
 use Rattle.format.proofs.Lengths.{cuts-length}
 use Rattle.replication.specs.Machine.Types.{Log, Server, withLog, contextOf}
-use Rattle.replication.specs.Machine.Colours.{cut, reds}
+use Rattle.replication.specs.Machine.Colours.{cut, reds, shown}
 use Rattle.replication.specs.Machine.Requests.{recovered}
 use Rattle.replication.specs.Machine.WellFormed.{idsIn, queue, wellFormed}
 use Rattle.replication.proofs.WellFormed.Changes.{body}
@@ -25,14 +25,15 @@ use Rattle.replication.proofs.WellFormed.Effects.{recovered-body}
 use Rattle.replication.proofs.WellFormed.Facts.{well-formed-facts}
 use Rattle.replication.proofs.WellFormed.Logs.{LogFits, ownId}
 use Rattle.image.specs.Layout.{theHeader, theCuts, theOwn, theQueue, sections, offset, headerSize, atMe, atQueueLength, atNumbered, atOwnCount, slotSize}
+use Rattle.image.specs.Header.{shownLog}
 use Rattle.image.specs.Image.{headerBytes, actionSlots, section, parts, image}
 use Rattle.image.proofs.InRange.{in-range}
 use Rattle.image.proofs.Fit.{well-formed-fits}
 use Rattle.image.proofs.Used.{action-slots-length, slots-append}
-use Rattle.image.specs.Holding.{Holds, HoldsSome}
+use Rattle.image.specs.Holding.{Blank, Holds, HoldsSome}
 use Rattle.image.proofs.InPlace.{holds-section}
 use Rattle.image.proofs.Fields.{opened-header}
-use Rattle.queue.proofs.Holding.{log-fits, log-formed, holds-changed}
+use Rattle.queue.proofs.Holding.{log-formed, holds-changed}
 use Rattle.base.proofs.Over.{over-extended, over-changed}
 use Rattle.queue.proofs.Inside.{changed-at}
 use Rattle.queue.proofs.SlotLaws.{cut-set}
@@ -59,7 +60,7 @@ entered s =
 own-in : (s : Server) → wellFormed s ≡ true → reds (s .log .own) (s .log) ≡ entered s
 unfolding above cut contextOf
 own-in s ok =
-    let f = log-fits s ok in
+    let f = well-formed-facts s ok in
     let g = in-range s ok in
     all-entered (s .me) (s .log .green) (s .log .numbered) (s .log .sent) (s .log .own) (s .log .red) (s .log .cuts) (omega (arith, g .cutsCount, g .context .own))
     (following (s .me) (cut (s .log) (s .me)) (s .log .numbered - cut (s .log) (s .me)) (s .log .own) (f .own-list .ids))
@@ -67,26 +68,26 @@ own-in s ok =
 own-count : (s : Server) → wellFormed s ≡ true → cut (s .log) (s .me) + length (s .log .own) ≡ s .log .numbered
 unfolding idsIn
 own-count s ok =
-    let f = log-fits s ok .own-list in
+    let f = well-formed-facts s ok .own-list in
     omega (arith, f .numbered, ap length (f .ids), length-map (s .log .own) (λ (a : Action). a .id), length-map {B = Id} (above (cut (s .log) (s .me)) (s .log .numbered)) (ownId (s .me)), above-length (cut (s .log) (s .me)) (s .log .numbered))
 
-entered-fits : (s : Server) → wellFormed s ≡ true → LogFits (s .servers) (s .quota) (s .me) (reds (s .log .own) (s .log))
+entered-fits : (s : Server) → wellFormed s ≡ true → LogFits (s .servers) (s .quota) (s .me) (s .white) (reds (s .log .own) (s .log))
 unfolding recovered
 entered-fits s ok = recovered-body s (body s (well-formed-facts s ok)) .log
 
 pub entered-formed : (s : Server) → wellFormed s ≡ true → wellFormed (withLog (reds (s .log .own) (s .log)) s) ≡ true
 entered-formed s ok = log-formed s (reds (s .log .own) (s .log)) ok (entered-fits s ok)
 
-entered-queue : (s : Server) → queue (s .log) ++ s .log .own ≡ queue (entered s)
+entered-queue : (s : Server) → queue (shownLog s) ++ s .log .own ≡ queue (shown (s .white) (entered s))
 unfolding queue
-entered-queue s = append-assoc (s .log .green) (s .log .red) (s .log .own)
+entered-queue s = append-assoc (drop (s .white) (s .log .green)) (s .log .red) (s .log .own)
 
-entered-count : (s : Server) → length (queue (entered s)) ≡ length (queue (s .log)) + length (s .log .own)
-entered-count s = ap length (sym (entered-queue s)) ∙ length-append (queue (s .log)) (s .log .own)
+entered-count : (s : Server) → length (queue (shown (s .white) (entered s))) ≡ length (queue (shownLog s)) + length (s .log .own)
+entered-count s = ap length (sym (entered-queue s)) ∙ length-append (queue (shownLog s)) (s .log .own)
 
-entered-room : (s : Server) → wellFormed s ≡ true → length (queue (s .log)) + length (s .log .own) ≤ s .servers * s .quota
+entered-room : (s : Server) → wellFormed s ≡ true → length (queue (shownLog s)) + length (s .log .own) ≤ s .servers * s .quota
 entered-room s ok =
-    omega (arith, in-range (withLog (reds (s .log .own) (s .log)) s) (entered-formed s ok) .queueCount, ap (λ (l : Log). length (queue l)) (own-in s ok), entered-count s)
+    omega (arith, in-range (withLog (reds (s .log .own) (s .log)) s) (entered-formed s ok) .queueCount, ap (λ (l : Log). length (queue (shown (s .white) l))) (own-in s ok), entered-count s)
 
 own-here : (s : Server) (b : List ℕ) → Holds s b → Occurs (actionSlots (s .log .own)) b (offset (s .servers) (s .quota) theOwn)
 unfolding parts over
@@ -95,7 +96,7 @@ own-here s b r = occurs-first (actionSlots (s .log .own)) _ b (offset (s .server
 no-slots : (l : List Action) → actionSlots l ≡ actionSlots [] ++ actionSlots l
 no-slots l = slots-append [] l
 
-counts-entered : (s : Server) (x : ℕ) → x ≡ length (queue (entered s))
+counts-entered : (s : Server) (x : ℕ) → x ≡ length (queue (shown (s .white) (entered s)))
     → patched atOwnCount (bytesOf 2 0) (patched atQueueLength (bytesOf 4 x) (headerBytes s)) ≡ headerBytes (withLog (entered s) s)
 unfolding opened-header
 counts-entered s x e = ap (λ (k : ℕ). patched atOwnCount (bytesOf 2 0) (patched atQueueLength (bytesOf 4 k) (headerBytes s))) e
@@ -127,7 +128,7 @@ own-entered b b₁ b₂ own count from to me c e₁ e₂ e₃ e₄ e₅ e₆ e�
     let q : ℕ = s .quota in
     let t : Server = withLog (entered s) s in
     let list : List Action = s .log .own in
-    let all : List Action = queue (s .log) in
+    let all : List Action = queue (shownLog s) in
     let i = numbers s b r in
     let f = well-formed-fits s (r .formed) in
     let g = in-range s (r .formed) in
@@ -153,7 +154,7 @@ own-entered b b₁ b₂ own count from to me c e₁ e₂ e₃ e₄ e₅ e₆ e�
     let c₂ = changed-at (sections n q) _ b _ c₁ theHeader atQueueLength atQueueLength y refl (omega arith) (omega (arith, bytes-length 4 (count + own))) in
     let c₃ = changed-at (sections n q) _ b _ c₂ theHeader atOwnCount atOwnCount z refl (omega arith) (omega (arith, bytes-length 2 0)) in
     let c₄ = changed-at (sections n q) _ b _ c₃ theCuts (2 * me) (headerSize + 2 * me) w refl (omega arith) (omega (arith, bytes-length 2 c, g .cutsCount)) in
-    let more : patched (length (actionSlots all)) x (over (actionSlots all) (section n q theQueue b)) ≡ over (actionSlots (queue (entered s))) (section n q theQueue b) =
+    let more : patched (length (actionSlots all)) x (over (actionSlots all) (section n q theQueue b)) ≡ over (actionSlots (queue (shown (s .white) (entered s)))) (section n q theQueue b) =
     over-extended (actionSlots all) x (section n q theQueue b)
     ∙ ap (λ (v : List ℕ). over v (section n q theQueue b)) (ap (λ (v : List ℕ). actionSlots all ++ v) slots ∙ sym (slots-append all list) ∙ ap actionSlots (entered-queue s)) in
     let none : over (actionSlots list) (section n q theOwn b) ≡ over (actionSlots []) (section n q theOwn b) =
@@ -162,7 +163,7 @@ own-entered b b₁ b₂ own count from to me c e₁ e₂ e₃ e₄ e₅ e₆ e�
     let cuts : patched (2 * me) w (over (cutsBytes (s .log .cuts)) (section n q theCuts b)) ≡ over (cutsBytes (entered s .cuts)) (section n q theCuts b) =
     over-changed (cutsBytes (s .log .cuts)) w (section n q theCuts b) (2 * me) (omega (arith, cuts-length (s .log .cuts), bytes-length 2 c))
     ∙ ap (λ (v : List ℕ). over v (section n q theCuts b)) (cut-set (s .log .cuts) me c low ∙ raised) in
-    let total : count + own ≡ length (queue (entered s)) = omega (arith, entered-count s) in
+    let total : count + own ≡ length (queue (shown (s .white) (entered s))) = omega (arith, entered-count s) in
     let header : patched atOwnCount z (patched atQueueLength y (headerBytes s)) ≡ headerBytes t = counts-entered s (count + own) total in
     e₈
     ∙ ap (λ (v : List ℕ). patched (headerSize + 2 * me) w (patched atOwnCount z (patched atQueueLength y v))) e₇
@@ -170,6 +171,9 @@ own-entered b b₁ b₂ own count from to me c e₁ e₂ e₃ e₄ e₅ e₆ e�
     ∙ ap (λ (l : Log). image (withLog l s) b) (sym (own-in s (r .formed)))
 
 -- ---- the whole
+
+entered-blank : (s : Server) → wellFormed s ≡ true → Blank s → Blank (withLog (reds (s .log .own) (s .log)) s)
+entered-blank s ok k = subst (λ (l : Log). Blank (withLog l s)) (sym (own-in s ok)) k
 
 entered-covers : (s : Server) (l : Log) → Covers s (withLog l s) (dropped (withLog l s))
 unfolding dropped
@@ -188,4 +192,5 @@ unfolding recovered dropped
 recovery-made b c d f g s r =
     let t : Server = withLog (reds (s .log .own) (s .log)) s in
     let ok = entered-formed s (r .formed) in
-    lists-chained s t (dropped t) b r ok (entered-covers s (t .log)) (omega arith) (omega arith) c d (f s r) (g t (then-holds s t b c r (f s r) refl refl ok))
+    let held : Holds t c = then-holds s t b c r (f s r) refl refl ok (entered-blank s (r .formed) (r .blank)) in
+    lists-chained s t (dropped t) b r ok (entered-covers s (t .log)) (omega arith) (omega arith) c d (f s r) (g t held)

@@ -2,71 +2,88 @@
 use Prim.Native.Nat.{ℕ, _+_, _*_, _≤_, _<_}
 use mathlib.Core.Path.{_≡_, refl, sym, ap, ap₂, _∙_}
 use mathlib.Core.Bool.{true}
-use mathlib.Core.List.{List, [], _∷_, _++_, map}
+use mathlib.Core.List.{List, [], _∷_, _++_}
 use mathlib.Core.Logic.{inl}
 use native.Mathlib.Omega.{arith}
-use lib.ListN.{length, set, length-append, length-map}
+use lib.ListN.{length, set, length-append}
 use Rattle.base.specs.Bytes.{bytesOf, numberAt, over, slot}
 use Rattle.base.proofs.BytesLaws.{bytes-length}
-use Rattle.base.specs.Lists.{above, sum}
-use Rattle.base.proofs.ListLaws.{above-length}
+use Rattle.base.specs.Lists.{sum}
 use Rattle.base.specs.Patched.{patched}
+use Rattle.base.specs.Tests.{_<?_}
 use Rattle.base.proofs.Sections.{begin}
 use Rattle.base.proofs.Prefixes.{begins-refl}
-use Rattle.base.proofs.TestLaws.{lt-holds}
+use Rattle.base.proofs.TestLaws.{lt-holds, and-holds}
 use Rattle.base.proofs.Over.{slot-length, over-extended}
-use Rattle.format.specs.Limits.{mostPayload}
-use Rattle.format.specs.Types.{Id, Action}
+use Rattle.format.specs.Limits.{mostPayload, mostNumber}
+use Rattle.format.specs.Types.{Action}
 use Rattle.format.specs.Write.{actionBytes}
 use Rattle.format.proofs.Lengths.{action-length}
 use Rattle.record.specs.Values.{idOf, actionOf}
 use Rattle.record.specs.declared.ActionHead.{ActionHead}
 use Rattle.record.specs.declared.State.{State}
 use Rattle.replication.specs.Machine.Types.{Server}
-use Rattle.replication.specs.Machine.Colours.{cut}
-use Rattle.replication.specs.Machine.Requests.{quotaLeft, madeOf, numbered, sendWaiting}
-use Rattle.replication.specs.Machine.WellFormed.{idsIn, queue}
-use Rattle.replication.proofs.WellFormed.Facts.{well-formed-facts}
-use Rattle.image.specs.Layout.{slotSize, theHeader, theOwn, sections, offset, atMe, atGreenLength, atNumbered, atOwnCount}
+use Rattle.replication.specs.Machine.Requests.{unwhiteOwn, quotaLeft, madeOf, numbered, sendWaiting}
+use Rattle.replication.specs.Machine.WellFormed.{queue}
+use Rattle.image.specs.Layout.{slotSize, theHeader, theOwn, sections, offset, atMe, atNumbered, atOwnCount}
 use Rattle.image.specs.Header.{headerOf, headerIn}
 use Rattle.image.specs.Image.{headerBytes, actionSlots, section, parts, image}
 use Rattle.image.proofs.Fit.{well-formed-fits}
 use Rattle.image.proofs.HeaderLaws.{header-loaded}
 use Rattle.image.proofs.Used.{action-slots-length, slots-append}
-use Rattle.image.specs.Holding.{Holds}
+use Rattle.image.specs.Holding.{Holds, HoldsSuch, Computes}
+use Rattle.image.proofs.InPlace.{holds-header}
 use Rattle.image.proofs.Fields.{opened-header}
 use Rattle.queue.proofs.Holding.{holds-changed}
 use Rattle.queue.proofs.Inside.{changed-at}
 use Rattle.queue.proofs.SlotLaws.{slots-one}
-use Rattle.updates.specs.Lists.{nextHead, PayloadRoom}
+use mir.Syntax.{w16}
+use mir.Val.{Fits}
+use Rattle.updates.specs.Lists.{nextHead, MayNumber, PayloadRoom, SlotRoom}
 use Rattle.updates.proofs.Changes.{changed-image}
 use Rattle.updates.proofs.MembershipLaws.{Saved}
 use Rattle.image.specs.Counts.{place}
-use Rattle.image.proofs.Counts.{holds-place, numbers}
+use Rattle.image.proofs.Counts.{holds-place, holds-counts, numbers}
 
--- The own list is no longer than what was numbered.
-pub own-short : (s : Server) (b : List ℕ) → Holds s b → length (s .log .own) ≤ s .log .numbered
-unfolding idsIn
-own-short s b r =
-    let f = well-formed-facts s (r .formed) .own-list in
-    let same : length (map (λ (a : Action). a .id) (s .log .own)) ≡ length (map {B = Id} (λ (i : ℕ). record { creator = s .me; index = i }) (above (cut (s .log) (s .me)) (s .log .numbered))) = ap length (f .ids) in
-    omega (arith, same, length-map (s .log .own) (λ (a : Action). a .id), length-map {B = Id} (above (cut (s .log) (s .me)) (s .log .numbered)) (λ (i : ℕ). record { creator = s .me; index = i }), above-length (cut (s .log) (s .me)) (s .log .numbered))
-
-quota-left : (s : Server) → quotaLeft s ≡ true → s .log .numbered < s .quota
+-- There is room on the own list, and a next index.
+quota-left : (s : Server) → quotaLeft s ≡ true → (length (s .log .own) < s .quota) × (s .log .numbered < mostNumber)
 unfolding quotaLeft
-quota-left s h = lt-holds (s .log .numbered) (s .quota) h
+quota-left s h =
+    let t = and-holds (unwhiteOwn s <? s .quota) (s .log .numbered <? mostNumber) h in
+    (omega (arith, lt-holds (unwhiteOwn s) (s .quota) (t .0)), lt-holds (s .log .numbered) mostNumber (t .1))
 
-pub head-read : (b : List ℕ) (x y z : ℕ) → x ≡ numberAt 1 b atMe → y ≡ numberAt 2 b atNumbered → z ≡ numberAt 4 b atGreenLength
-    → record { creator = x; index = y + 1; «green_length» = z } ≡ nextHead b
+-- The same as the code adds.
+pub index-fits : (b : List ℕ) (x : ℕ) → HoldsSuch MayNumber b → x ≡ numberAt 2 b atNumbered → Fits w16 (x + 1)
+index-fits b x h e = omega (arith, numbers (h .state) b (h .holds) .numbered, quota-left (h .state) (h .fact) .1)
+
+pub own-fits : (b : List ℕ) (x : ℕ) → HoldsSuch MayNumber b → x ≡ numberAt 2 b atOwnCount → Fits w16 (x + 1)
+own-fits b x h e =
+    let c = holds-counts (h .state) b (h .holds) in
+    omega (arith, c .own, c .sizes .quota)
+
+-- Behind the own list is room for a slot.
+pub own-room : (p b : List ℕ) (at own : ℕ) → PayloadRoom p b → at ≡ place theOwn b → own ≡ numberAt 2 b atOwnCount → SlotRoom slotSize (at + slotSize * own) p b
+own-room p b at own room e f =
+    let s : Server = room .holds .state in
+    let c = holds-counts s b (room .holds .holds) in
+    record {
+      short = room .short;
+      room = omega (arith, c .ownEnd, c .queueEnd, c .own, c .some);
+      header = holds-header s b (room .holds .holds);
+    }
+
+pub head-read : (b : List ℕ) (x y z w : ℕ) → x ≡ numberAt 1 b atMe → y ≡ numberAt 2 b atNumbered → Computes (λ s. length (s .log .green)) b z
+    → Computes (λ s. s .white) b w
+    → (s : Server) → Holds s b → record { creator = x; index = y + 1; «green_length» = z; «white_length» = w } ≡ nextHead s
 unfolding nextHead
-head-read b x y z e f g = λ i. record { creator = e i; index = f i + 1; «green_length» = g i }
+head-read b x y z w e f g k s r =
+    let i = numbers s b r in
+    λ j. record { creator = (e ∙ i .me) j; index = (f ∙ i .numbered) j + 1; «green_length» = g s r j; «white_length» = k s r j }
 
 -- The action that the code makes of the payload p.
-pub head-made : (s : Server) (b : List ℕ) (p : List ℕ) → Holds s b → actionOf (nextHead b) p ≡ madeOf p s
-unfolding actionOf nextHead idOf madeOf headerIn headerOf
-head-made s b p r =
-    let h : headerIn b ≡ headerOf s = header-loaded s b r in
-    λ i. record { id = record { creator = h i .me; index = h i .numbered + 1 }; greenLength = h i .«green_length»; payload = p }
+pub head-made : (s : Server) (p : List ℕ) → actionOf (nextHead s) p ≡ madeOf p s
+unfolding actionOf nextHead idOf madeOf
+head-made s p = refl
 
 counts-written : (s : Server) (p : List ℕ) (x y : ℕ) → x ≡ s .log .numbered + 1 → y ≡ length (s .log .own ++ (madeOf p s ∷ []))
     → patched atOwnCount (bytesOf 2 y) (patched atNumbered (bytesOf 2 x) (headerBytes s)) ≡ headerBytes (numbered p s)
@@ -77,7 +94,7 @@ action-short : (h : ActionHead) (p : List ℕ) → length p ≤ mostPayload → 
 unfolding actionOf
 action-short h p l = omega (arith, action-length (actionOf h p))
 
-pub request-numbered : (p b b₁ : List ℕ) (at own num : ℕ) (h : ActionHead) → PayloadRoom p b → at ≡ place theOwn b → own ≡ numberAt 2 b atOwnCount → num ≡ numberAt 2 b atNumbered → h ≡ nextHead b
+pub request-numbered : (p b b₁ : List ℕ) (at own num : ℕ) (h : ActionHead) → PayloadRoom p b → at ≡ place theOwn b → own ≡ numberAt 2 b atOwnCount → num ≡ numberAt 2 b atNumbered → Computes nextHead b h
     → b₁ ≡ patched atOwnCount (bytesOf 2 (own + 1)) (patched atNumbered (bytesOf 2 (num + 1)) (patched (at + slotSize * own) (slot slotSize (actionBytes (actionOf h p))) b))
     → (s : Server) → Holds s b → quotaLeft s ≡ true → b₁ ≡ image (numbered p s) b
 unfolding sections parts sum offset numbered queue
@@ -94,11 +111,11 @@ request-numbered p b b₁ at own num h room e₁ e₂ e₃ e₄ e₅ s r left =
     let long : length x ≡ slotSize = slot-length slotSize (actionBytes (actionOf h p)) (action-short h p (room .short)) in
     let there : at + slotSize * own ≡ begin (sections n q) theOwn + length (actionSlots list) =
     ap₂ {A = ℕ} {B = ℕ} {C = ℕ} (λ u v. u + v) (e₁ ∙ holds-place s b r theOwn) (ap (λ (m : ℕ). slotSize * m) count ∙ sym size) in
-    let fits : length (actionSlots list) + length x ≤ slotSize * q = omega (arith, own-short s b r, quota-left s left) in
+    let fits : length (actionSlots list) + length x ≤ slotSize * q = omega (arith, quota-left s left .0) in
     let one = changed-at (sections n q) (parts n q s b) b b (holds-changed s b r) theOwn (length (actionSlots list)) (at + slotSize * own) x there (omega arith) fits in
     let two = changed-at (sections n q) _ b _ one theHeader atNumbered atNumbered (bytesOf 2 (num + 1)) refl (omega arith) (omega (arith, bytes-length 2 (num + 1))) in
     let three = changed-at (sections n q) _ b _ two theHeader atOwnCount atOwnCount (bytesOf 2 (own + 1)) refl (omega arith) (omega (arith, bytes-length 2 (own + 1))) in
-    let made : actionOf h p ∷ [] ≡ madeOf p s ∷ [] = ap (λ (x : Action). x ∷ []) (ap (λ (g : ActionHead). actionOf g p) e₄ ∙ head-made s b p r) in
+    let made : actionOf h p ∷ [] ≡ madeOf p s ∷ [] = ap (λ (x : Action). x ∷ []) (ap (λ (g : ActionHead). actionOf g p) (e₄ s r) ∙ head-made s p) in
     let slots : patched (length (actionSlots list)) x (over (actionSlots list) (section n q theOwn b)) ≡ over (actionSlots (list ++ (madeOf p s ∷ []))) (section n q theOwn b) =
     over-extended (actionSlots list) x (section n q theOwn b)
     ∙ ap (λ (y : List ℕ). over y (section n q theOwn b)) (ap (λ (y : List ℕ). actionSlots list ++ y) (sym (slots-one (actionOf h p)) ∙ ap actionSlots made) ∙ sym (slots-append list (madeOf p s ∷ []))) in

@@ -1,29 +1,27 @@
 -- The yellow list in place.
 use Prim.Native.Nat.{ℕ, suc, _+_, _*_, _-_, _≤_, _<_}
 use mathlib.Core.Path.{_≡_, refl, sym, ap, ap₂, _∙_}
-use mathlib.Core.Bool.{Bool, true, false, not}
+use mathlib.Core.Bool.{Bool, true, false}
 use mathlib.Core.List.{List, [], _∷_, _++_, append-nil}
-use native.Mathlib.Decide.{ℕ-discrete}
 use native.Mathlib.Omega.{arith}
 use lib.ListN.{length, set, length-append}
-use Rattle.base.specs.Tests.{_and_, _or_, _=?_}
-use Rattle.base.proofs.TestLaws.{pick-yes, pick-no, both-yes, and-holds, or-fails, not-holds, eq-yes, eq-no}
+use Rattle.base.specs.Tests.{_or_}
+use Rattle.base.proofs.TestLaws.{pick-yes, pick-no, pick-lt, pick-ge}
 use Rattle.base.specs.Bytes.{bytesOf, numberAt, joined, over}
 use Rattle.base.proofs.BytesLaws.{bytes-length}
 use Rattle.base.specs.Lists.{sum}
 use Rattle.base.specs.Patched.{patched}
 use Rattle.base.proofs.Sections.{begin}
-use Rattle.format.specs.Types.{Id, Context}
-use Rattle.format.specs.Range.{idOk, sameId, hasId, idsDiffer, idsInRange}
+use Rattle.format.specs.Limits.{mostServers}
+use Rattle.format.specs.Types.{Id}
+use Rattle.format.specs.Range.{sameId, hasId}
 use Rattle.format.specs.Read.{idAt, idsAt}
 use Rattle.format.specs.Write.{idBytes, idsBytes}
 use Rattle.format.proofs.Lengths.{id-length, ids-length}
-use Rattle.format.proofs.IdCount.{ids-count}
-use Rattle.replication.specs.Machine.Types.{Server, Votes, contextOf, withVotes}
-use Rattle.replication.specs.Machine.Colours.{addId, joinYellow}
-use Rattle.image.specs.Layout.{theHeader, theYellow, sections, offset, atYellowCount}
+use Rattle.replication.specs.Machine.Types.{Server, Votes, withVotes}
+use Rattle.replication.specs.Machine.Colours.{addId, addWithin, joinYellow}
+use Rattle.image.specs.Layout.{theHeader, theYellow, sections, offset, atServers, atQuota, atYellowCount}
 use Rattle.image.specs.Image.{headerBytes, section, parts, image}
-use Rattle.image.proofs.InRange.{in-range}
 use Rattle.image.proofs.Used.{ids-append}
 use Rattle.image.specs.Holding.{Holds}
 use Rattle.updates.proofs.Changes.{changed-image}
@@ -31,9 +29,9 @@ use Rattle.base.proofs.Over.{over-extended}
 use Rattle.queue.proofs.Inside.{changed-at}
 use Rattle.queue.proofs.Holding.{holds-changed}
 use Rattle.image.proofs.Fields.{opened-header}
-use Rattle.image.specs.Counts.{yellowCount, place}
+use Rattle.image.specs.Counts.{yellowCount, place, mostActions, CountsIn}
 use Rattle.image.proofs.Counts.{numbers, holds-place}
-use Rattle.image.specs.Decode.{decoded, decodedAs}
+use Rattle.image.specs.Decode.{decoded, decodedAs, serversIn, quotaIn}
 use Rattle.image.proofs.InPlace.{holds-decoded}
 use Rattle.format.specs.Places.{idSize}
 
@@ -47,56 +45,6 @@ holds-ids s b r = ap (λ (x : Server). x .votes .yellow .ids) (holds-decoded s b
 pub ids-one : (d : Id) → idsBytes (d ∷ []) ≡ idBytes d
 unfolding idsBytes joined
 ids-one d = simp append-nil
-
--- ---- one id more
-
-in-range-more : (c : Context) (xs : List Id) (d : Id) → idsInRange c xs ≡ true → idOk c d ≡ true → idsInRange c (xs ++ (d ∷ [])) ≡ true
-unfolding idsInRange
-in-range-more c [] d h k = both-yes _ _ k refl
-in-range-more c (x ∷ xs) d h k = let t = and-holds _ _ h in both-yes _ _ (t .0) (in-range-more c xs d (t .1) k)
-
--- Equality either way.
-equal-swapped : (a b : ℕ) → (a =? b) ≡ (b =? a)
-equal-swapped a b = go (ℕ-discrete a b)
-  where
-    go : Dec (a ≡ b) → (a =? b) ≡ (b =? a)
-    go (yes e) = eq-yes a b e ∙ sym (eq-yes b a (sym e))
-    go (no e) = eq-no a b e ∙ sym (eq-no b a (λ f. e (sym f)))
-
-swapped : (a b i j : ℕ) → (b =? a and j =? i) ≡ false → (a =? b and i =? j) ≡ false
-swapped a b i j h = rw (equal-swapped a b, equal-swapped i j) h
-
-other-way : (x d : Id) → sameId d x ≡ false → sameId x d ≡ false
-unfolding sameId
-other-way x d h = swapped (x .creator) (d .creator) (x .index) (d .index) h
-
-or-both : (t u : Bool) → t ≡ false → u ≡ false → (t or u) ≡ false
-unfolding _or_
-or-both true u h k = h
-or-both false u h k = k
-
-has-more : (x d : Id) (xs : List Id) → hasId x xs ≡ false → sameId x d ≡ false → hasId x (xs ++ (d ∷ [])) ≡ false
-unfolding hasId
-has-more x d [] h k = or-both (sameId x d) false k refl
-has-more x d (y ∷ xs) h k = let t = or-fails (sameId x y) (hasId x xs) h in or-both (sameId x y) _ (t .0) (has-more x d xs (t .1) k)
-
-differ-more : (xs : List Id) (d : Id) → idsDiffer xs ≡ true → hasId d xs ≡ false → idsDiffer (xs ++ (d ∷ [])) ≡ true
-unfolding idsDiffer hasId
-differ-more [] d h k = both-yes _ _ refl refl
-differ-more (x ∷ xs) d h k =
-    let t = and-holds (not (hasId x xs)) (idsDiffer xs) h in
-    let u = or-fails (sameId d x) (hasId d xs) k in
-    both-yes (not (hasId x (xs ++ (d ∷ [])))) (idsDiffer (xs ++ (d ∷ []))) (ap not (has-more x d xs (not-holds (hasId x xs) (t .0)) (other-way x d (u .0)))) (differ-more xs d (t .1) (u .1))
-
--- There is room for an id that is not there yet.
-yellow-more : (s : Server) (b : List ℕ) (d : Id) → Holds s b → idOk (contextOf s) d ≡ true → hasId d (s .votes .yellow .ids) ≡ false
-    → length (s .votes .yellow .ids) + 1 ≤ s .servers * s .quota
-unfolding contextOf
-yellow-more s b d r ok new =
-    let f = in-range s (r .formed) in
-    let ids : List Id = s .votes .yellow .ids in
-    let all = ids-count (contextOf s) (ids ++ (d ∷ [])) (in-range-more (contextOf s) ids d (f .yellow .ids) ok) (differ-more ids d (f .yellow .differ) new) in
-    omega (arith, all, length-append ids (d ∷ []))
 
 -- ---- a yellow list of other ids
 
@@ -136,26 +84,64 @@ id-added s b b₁ b₂ d r room e₁ e₂ =
 
 -- ---- the operation
 
+-- The sizes as the code reads them.
+pub servers-low : (b : List ℕ) (n : ℕ) → CountsIn b → n ≡ numberAt 1 b atServers → n ≤ mostServers
+unfolding serversIn
+servers-low b n c e = omega (arith, c .sizes .servers)
+
+pub quota-low : (b : List ℕ) (q : ℕ) → CountsIn b → q ≡ numberAt 2 b atQuota → q ≤ 65535
+unfolding quotaIn
+quota-low b q c e = omega (arith, c .sizes .quota)
+
+pub product-read : (b : List ℕ) (n q r : ℕ) → n ≡ numberAt 1 b atServers → q ≡ numberAt 2 b atQuota → r ≡ n * q → r ≡ mostActions b
+unfolding serversIn quotaIn
+product-read b n q r e f g = rw (g, e, f)
+
+-- The list is full.
+pub list-full : (d : Id) (b : List ℕ) (m most : ℕ) → m ≡ numberAt 2 b atYellowCount → most ≡ mostActions b → most ≤ m
+    → (s : Server) → Holds s b → b ≡ image (withVotes (joinYellow (s .servers * s .quota) d (s .votes)) s) b
+unfolding joinYellow addWithin
+list-full d b m most e₁ e₂ h s r =
+    let ids : List Id = s .votes .yellow .ids in
+    let n = numbers s b r in
+    let sized : mostActions b ≡ s .servers * s .quota = λ i. n .servers i * n .quota i in
+    sym (r .written)
+    ∙ ap (λ (l : List Id). image (withVotes (withIds l (s .votes)) s) b) (pick-ge (length ids) (s .servers * s .quota) ids (addId d ids) ids (omega (arith, n .yellow)) refl)
+
+-- There is room in it.
+room-in : (s : Server) (b : List ℕ) → Holds s b → yellowCount b < mostActions b → length (s .votes .yellow .ids) < s .servers * s .quota
+room-in s b r h =
+    let n = numbers s b r in
+    let sized : mostActions b ≡ s .servers * s .quota = λ i. n .servers i * n .quota i in
+    omega (arith, n .yellow)
+
 -- The id is there already.
-pub id-there : (d : Id) (b : List ℕ) (at m : ℕ) (t : Bool) → at ≡ place theYellow b → m ≡ numberAt 2 b atYellowCount → t ≡ hasId d (idsAt m b at) → t ≡ true
-    → (s : Server) → Holds s b → idOk (contextOf s) d ≡ true → b ≡ image (withVotes (joinYellow d (s .votes)) s) b
-unfolding joinYellow addId
-id-there d b at m t e₁ e₂ e₃ here s r ok =
+pub id-there : (d : Id) (b : List ℕ) (at m : ℕ) (t : Bool) → yellowCount b < mostActions b → at ≡ place theYellow b → m ≡ numberAt 2 b atYellowCount
+    → t ≡ hasId d (idsAt m b at) → t ≡ true
+    → (s : Server) → Holds s b → b ≡ image (withVotes (joinYellow (s .servers * s .quota) d (s .votes)) s) b
+unfolding joinYellow addWithin addId
+id-there d b at m t room e₁ e₂ e₃ here s r =
     let ids : List Id = s .votes .yellow .ids in
     let has : hasId d ids ≡ true = ap (hasId d) (sym (holds-ids s b r)) ∙ rw (← e₁, ← e₂) (sym e₃ ∙ here) in
-    sym (r .written) ∙ ap (λ (l : List Id). image (withVotes (withIds l (s .votes)) s) b) (pick-yes (hasId d ids) ids ids (ids ++ (d ∷ [])) has refl)
+    sym (r .written)
+    ∙ ap (λ (l : List Id). image (withVotes (withIds l (s .votes)) s) b)
+    (pick-lt (length ids) (s .servers * s .quota) ids (addId d ids) ids (room-in s b r room) (pick-yes (hasId d ids) ids ids (ids ++ (d ∷ [])) has refl))
 
 -- It is not.
-pub id-new : (d : Id) (b b₂ : List ℕ) (at m : ℕ) (t : Bool) → at ≡ place theYellow b → m ≡ numberAt 2 b atYellowCount → t ≡ hasId d (idsAt m b at) → t ≡ false
+pub id-new : (d : Id) (b b₂ : List ℕ) (at m : ℕ) (t : Bool) → yellowCount b < mostActions b → at ≡ place theYellow b → m ≡ numberAt 2 b atYellowCount
+    → t ≡ hasId d (idsAt m b at) → t ≡ false
     → b₂ ≡ patched atYellowCount (bytesOf 2 (m + 1)) (patched (at + idSize * m) (idBytes d) b)
-    → (s : Server) → Holds s b → idOk (contextOf s) d ≡ true → b₂ ≡ image (withVotes (joinYellow d (s .votes)) s) b
-unfolding joinYellow addId
-id-new d b b₂ at m t e₁ e₂ e₃ away f s r ok =
+    → (s : Server) → Holds s b → b₂ ≡ image (withVotes (joinYellow (s .servers * s .quota) d (s .votes)) s) b
+unfolding joinYellow addWithin addId
+id-new d b b₂ at m t room e₁ e₂ e₃ away f s r =
     let ids : List Id = s .votes .yellow .ids in
+    let more : List Id = ids ++ (d ∷ []) in
+    let less = room-in s b r room in
     let new : hasId d ids ≡ false = ap (hasId d) (sym (holds-ids s b r)) ∙ rw (← e₁, ← e₂) (sym e₃ ∙ away) in
     let made : b₂ ≡ patched atYellowCount (bytesOf 2 (yellowCount b + 1)) (patched (place theYellow b + idSize * yellowCount b) (idBytes d) b) = rw (← e₁, ← e₂) f in
-    id-added s b _ b₂ d r (yellow-more s b d r ok new) refl made
-    ∙ ap (λ (l : List Id). image (withVotes (withIds l (s .votes)) s) b) (pick-no (hasId d ids) (ids ++ (d ∷ [])) ids (ids ++ (d ∷ [])) new refl)
+    id-added s b _ b₂ d r (omega (arith, less)) refl made
+    ∙ ap (λ (l : List Id). image (withVotes (withIds l (s .votes)) s) b)
+    (pick-lt (length ids) (s .servers * s .quota) more (addId d ids) ids less (pick-no (hasId d ids) more ids more new refl))
 
 -- ---- ids in bytes, one by one
 

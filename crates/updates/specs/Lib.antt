@@ -1,3 +1,4 @@
 pub mod Lists
 pub mod Noting
 pub mod Standing
+pub mod White

@@ -4,35 +4,39 @@ use mathlib.Core.List.{List}
 use mathlib.Core.Path.{_≡_}
 use mathlib.Core.Logic.{_⊎_}
 use lib.ListN.{length}
-use Rattle.base.specs.Bytes.{numberAt, bytesOf}
+use Rattle.base.specs.Bytes.{bytesOf}
 use Rattle.base.specs.Lists.{Begins}
 use Rattle.format.specs.Limits.{mostPayload}
 use Rattle.format.specs.Places.{idSize}
 use Rattle.record.specs.declared.ActionHead.{ActionHead}
-use Rattle.replication.specs.Machine.Types.{Log, Votes, Configuration, Membership, Server, noStates, Mode, contextOf, withVotes}
+use Rattle.replication.specs.Machine.Types.{Log, Votes, Configuration, Membership, Server, noStates, Mode, withVotes}
 use Rattle.replication.specs.Machine.WellFormed.{queue}
-use Rattle.image.specs.Layout.{headerSize, stateSize, theStates, atMe, atOwnCount, atNumbered, atQueueLength, atYellowCount}
+use Rattle.image.specs.Layout.{headerSize, stateSize, theStates, atOwnCount, atNumbered, atQueueLength, atYellowCount}
 use Rattle.image.specs.Decode.{serversIn, quotaIn}
-use Rattle.image.specs.Counts.{greenCount, numberedIn, place, mostActions, CountsIn}
+use Rattle.image.specs.Counts.{place, mostActions, CountsIn}
 use Rattle.record.specs.declared.State.{State}
-use Rattle.image.specs.Header.{headerOf, modeNumber}
+use Rattle.image.specs.Header.{headerOf, shownLog, modeNumber}
 use Rattle.image.specs.Image.{image}
-use Rattle.image.specs.Holding.{Holds, BecomesWhere}
-use Rattle.replication.specs.Machine.Colours.{joinYellow}
+use Rattle.image.specs.Holding.{Holds, HoldsSuch, Becomes}
+use Rattle.replication.specs.Machine.Colours.{joinYellow, shown}
 use Rattle.replication.specs.Machine.Requests.{quotaLeft}
 use Rattle.replication.specs.Machine.Step.{withState}
 use Rattle.format.specs.Types.{Id, State as Sent, state}
 use Rattle.format.specs.Write.{write, idBytes}
-use Rattle.format.specs.Range.{idOk}
 use Rattle.base.specs.Patched.{patched}
 use mathlib.Core.Bool.{true}
 
 unfoldable pub configurationOf : (id set : ℕ) → Configuration
 configurationOf id set = record { id = id; set = set }
 
--- The next own action but its payload: the server's number, the next index, the green length.
-unfoldable pub nextHead : List ℕ → ActionHead
-nextHead b = record { creator = numberAt 1 b atMe; index = numberedIn b + 1; «green_length» = greenCount b }
+-- The next own action but its payload: the server's number, the next index, the lengths of the green history and of its white part.
+unfoldable pub nextHead : Server → ActionHead
+nextHead s = record {
+  creator = s .me;
+  index = s .log .numbered + 1;
+  «green_length» = length (s .log .green);
+  «white_length» = s .white;
+}
 
 -- Room for a yellow list of these bytes.
 pub record YellowRoom (e b : List ℕ) : Type 0 where
@@ -57,9 +61,12 @@ pub record CollectRoom (k : ℕ) (e b : List ℕ) : Type 0 where
   pub number : NumberIn k b
   pub short : length e ≤ stateSlot b
 
--- Room for the payload p.
+abbrev pub MayNumber : Server → Type 0
+MayNumber s = quotaLeft s ≡ true
+
+-- A request with the payload p may be numbered.
 pub record PayloadRoom (p b : List ℕ) : Type 0 where
-  pub counts : CountsIn b
+  pub holds : HoldsSuch MayNumber b
   pub short : length p ≤ mostPayload
 
 -- Room for a slot of this size with the payload p from `at` on.
@@ -72,12 +79,21 @@ pub record SlotRoom (size at : ℕ) (p b : List ℕ) : Type 0 where
 
 -- The state s with another log, other votes and another membership.
 abbrev pub changedTo : Server → Log → Votes → Membership → Server
-changedTo s l v m = record { servers = s .servers; quota = s .quota; me = s .me; log = l; votes = v; membership = m; noted = s .noted }
+changedTo s l v m = record {
+  servers = s .servers;
+  quota = s .quota;
+  me = s .me;
+  log = l;
+  votes = v;
+  membership = m;
+  noted = s .noted;
+  white = s .white;
+}
 
 -- Its lists are those of s or beginnings of them, and its States are those of s or dropped: only numbers change in the buffer.
 pub record Shortened (s : Server) (l : Log) (v : Votes) (m : Membership) : Type 0 where
   pub cuts : l .cuts ≡ s .log .cuts
-  pub queued : queue l ≡ queue (s .log)
+  pub queued : queue (shown (s .white) l) ≡ queue (shownLog s)
   pub own : Begins (l .own) (s .log .own)
   pub yellow : Begins (v .yellow .ids) (s .votes .yellow .ids)
   pub states : (m .states ≡ s .membership .states) ⊎ (m .states ≡ noStates (s .servers))
@@ -102,12 +118,9 @@ BecomesIn k f b b′ = (s : Server) (m : Mode) → Holds s b → k ≡ modeNumbe
 abbrev pub BecomesCollected : (k : ℕ) → (e b b′ : List ℕ) → Type 0
 BecomesCollected k e b b′ = (s : Server) (x : Sent) → Holds s b → write (state x) ≡ e → x .sender ≡ k → b′ ≡ image (withState x s) b
 
--- The id d joins the yellow list.
+-- The id d joins the yellow list, unless that is full.
 abbrev pub BecomesYellow : Id → (b b′ : List ℕ) → Type 0
-BecomesYellow d b b′ = BecomesWhere (λ s. idOk (contextOf s) d ≡ true) (λ s. withVotes (joinYellow d (s .votes)) s) b b′
-
-abbrev pub MayNumber : Server → Type 0
-MayNumber s = quotaLeft s ≡ true
+BecomesYellow d b b′ = Becomes (λ s. withVotes (joinYellow (s .servers * s .quota) d (s .votes)) s) b b′
 
 -- ---- changes of the bytes b
 

@@ -1,7 +1,7 @@
 // Exchanges: how many retransmissions have come, and the end.
 ghost use Prim.Native.Nat.{_*_, _≤_};
 ghost use lib.ListN.{length};
-ghost use Rattle.format.specs.Limits.{mostIndex, mostIds};
+ghost use Rattle.format.specs.Limits.{mostIndex, mostServers, mostPlanned};
 ghost use Rattle.replication.specs.Machine.Step.{oneMore, resending, attempting};
 ghost use Rattle.image.specs.Holding.{HoldsSome, HoldsSuch, Becomes};
 ghost use Rattle.updates.specs.Standing.{BecomesDecided};
@@ -18,7 +18,7 @@ use record::Mark;
 use record::State;
 
 fn with_one_more(h: State) -> State
-    requires { ⌜ h .come ≤ 2 * mostIds ⌝ }
+    requires { ⌜ h .come ≤ mostPlanned mostServers ⌝ }
     ensures { λ r. ⌜ NumbersOf oneMore h r ⌝ }
 {
     let come = h.come + 1;

@@ -9,3 +9,4 @@ pub mod notes; // notes.rt: noted lengths
 pub mod states; // states.rt: collected States
 pub mod exchanges; // exchanges.rt: retransmissions come, the end of an exchange
 pub mod recovery; // recovery.rt: recovery
+pub mod white; // white.rt: white lengths taken, actions turned white

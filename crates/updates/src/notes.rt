@@ -1,15 +1,16 @@
 // Noted lengths in a state's buffer.
 ghost use mathlib.Core.Path.{_≡_};
-ghost use Prim.Native.Nat.{_≤_};
+ghost use Prim.Native.Nat.{_≤_, min};
 ghost use lib.ListN.{length};
 ghost use Rattle.base.specs.Bytes.{numberAt};
 ghost use Rattle.base.specs.Sets.{inSet};
 ghost use Rattle.replication.specs.Machine.Types.{withNoted};
 ghost use Rattle.replication.specs.Machine.Colours.{note as noted};
 ghost use Rattle.replication.specs.Machine.Exchange.{noteAll};
+ghost use Rattle.replication.specs.Machine.White.{least};
 ghost use Rattle.replication.specs.Machine.Step.{collected};
 ghost use Rattle.image.specs.Layout.{headerSize, atStates};
-ghost use Rattle.image.specs.Holding.{HoldsSome, Becomes};
+ghost use Rattle.image.specs.Holding.{HoldsSome, Becomes, Computes};
 ghost use Rattle.updates.specs.Lists.{NumberIn};
 ghost use Rattle.updates.specs.Noting.{sentLength, notedSlot};
 use crate::states::state_place;
@@ -19,7 +20,7 @@ use octets::numbers::num8;
 use octets::numbers::num32;
 use octets::numbers::put32;
 use record::State;
-use record::StateHead;
+use record::events::StateHead;
 use record::sets::has;
 
 // "a noted length never falls"
@@ -33,6 +34,32 @@ pub fn note(state: &mut [u8], c: u8, l: u32)
         return;
     }
     put32(state, at, l);
+}
+
+fn lower(x: u32, y: u32) -> u32
+    ensures { λ r. ⌜ r ≡ min x y ⌝ }
+{
+    if y < x {
+        return y;
+    }
+    x
+}
+
+// The least noted length: so many actions are green on every server.
+pub fn least_noted(state: &[u8]) -> u32
+    requires { ⌜ HoldsSome (now state) ⌝ }
+    ensures { λ r. ⌜ Computes (λ s. least (s .noted)) (now (state .entry)) r ⌝ }
+{
+    let at = place_of(state, THE_NOTED);
+    let servers = num8(state, State::AT_SERVERS) as usize;
+    let mut low = num32(state, at);
+    let mut k: usize = 1;
+    while k < servers {
+        let length = num32(state, at + State::NOTED * k);
+        low = lower(low, length);
+        k += 1;
+    }
+    low
 }
 
 // Whether the State of server k is in.

@@ -1,13 +1,14 @@
 // Recovery: the own list entered red, and what was collected dropped.
 ghost use mathlib.Core.Path.{_≡_};
-ghost use Prim.Native.Nat.{_+_, _≤_};
+ghost use Prim.Native.Nat.{_+_, _≤_, max};
 ghost use lib.ListN.{length};
 ghost use Rattle.base.specs.Bytes.{bytesOf};
 ghost use Rattle.base.specs.Patched.{patched};
 ghost use Rattle.replication.specs.Machine.Types.{withLog};
 ghost use Rattle.replication.specs.Machine.Colours.{reds};
 ghost use Rattle.replication.specs.Machine.Requests.{recovered};
-ghost use Rattle.image.specs.Holding.{HoldsSome, Becomes};
+ghost use Rattle.replication.specs.Machine.White.{highestWhite};
+ghost use Rattle.image.specs.Holding.{HoldsSome, Becomes, Computes};
 ghost use Rattle.updates.specs.Standing.{EnterRoom, dropped};
 ghost use Rattle.image.specs.Layout.{headerSize};
 ghost use Rattle.updates.specs.Lists.{NumbersOf, queueCounts};
@@ -22,7 +23,34 @@ use octets::numbers::num16;
 use octets::numbers::num32;
 use octets::numbers::put16;
 use octets::numbers::put32;
+use record::ActionHead;
 use record::State;
+
+fn higher(x: u32, y: u32) -> u32
+    ensures { λ r. ⌜ r ≡ max x y ⌝ }
+{
+    if x < y {
+        return y;
+    }
+    x
+}
+
+// The highest white length on the own list: a recovery enters that list, and takes it before.
+pub fn highest_white(state: &[u8]) -> u32
+    requires { ⌜ HoldsSome (now state) ⌝ }
+    ensures { λ r. ⌜ Computes (λ s. highestWhite (s .log .own)) (now (state .entry)) r ⌝ }
+{
+    let at = place_of(state, THE_OWN);
+    let own = num16(state, State::AT_OWN_COUNT) as usize;
+    let mut high: u32 = 0;
+    let mut k: usize = 0;
+    while k < own {
+        let length = num32(state, at + State::SLOT * k + ActionHead::WHITE_LENGTH);
+        high = higher(high, length);
+        k += 1;
+    }
+    high
+}
 
 fn put_queue(state: &mut [u8], queue: u32)
     requires { ⌜ headerSize ≤ length (now state) ⌝ }

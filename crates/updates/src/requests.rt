@@ -5,9 +5,8 @@ ghost use lib.ListN.{length};
 ghost use Rattle.record.specs.Values.{actionOf};
 ghost use Rattle.replication.specs.Machine.Requests.{numbered as withNumbered, sendWaiting};
 ghost use Rattle.image.specs.Layout.{slotSize, headerSize};
-ghost use Rattle.image.specs.Holding.{Becomes, BecomesWhere};
+ghost use Rattle.image.specs.Holding.{HoldsSuch, Becomes, BecomesWhere, Computes};
 ghost use Rattle.updates.specs.Lists.{PayloadRoom, SlotRoom, nextHead, ownCounts, NumbersOf, MayNumber};
-ghost use Rattle.image.specs.Counts.{CountsIn};
 ghost use Rattle.queue.specs.Queue.{slotPut};
 use crate::numbers::save_numbers;
 use image::header::load;
@@ -15,21 +14,23 @@ use image::places::THE_OWN;
 use image::places::place_of;
 use octets::numbers::num8;
 use octets::numbers::num16;
-use octets::numbers::num32;
 use octets::numbers::put16;
+use queue::history::green_length;
+use queue::history::white_length;
 use queue::slots::put_slot;
 use record::ActionHead;
 use record::State;
 
 // The next own action but its payload.
 pub fn next_head(state: &[u8]) -> ActionHead
-    requires { ⌜ CountsIn (now state) ⌝ }
-    ensures { λ r. ⌜ r ≡ nextHead (now (state .entry)) ⌝ }
+    requires { ⌜ HoldsSuch MayNumber (now state) ⌝ }
+    ensures { λ r. ⌜ Computes nextHead (now (state .entry)) r ⌝ }
 {
     ActionHead {
         creator: num8(state, State::AT_ME),
         index: num16(state, State::AT_NUMBERED) + 1,
-        green_length: num32(state, State::AT_GREEN_LENGTH),
+        green_length: green_length(state),
+        white_length: white_length(state),
     }
 }
 

@@ -19,7 +19,7 @@ use octets::numbers::num8;
 use record::LastPrimary;
 use record::Mark;
 use record::State;
-use record::StateHead;
+use record::events::StateHead;
 use record::sets::has;
 use state_check::state_number;
 use vector_tools::output::flag;

@@ -6,10 +6,10 @@ ghost use Rattle.reader.specs.Reading.{PlacedEvent, PlacedAction, PlacedRetrans
 use record::ActionHead;
 use record::Context;
 use record::State;
-use record::StateHead;
 use record::events::ActionAt;
 use record::events::Event;
 use record::events::StateAt;
+use record::events::StateHead;
 use vector_tools::output::bytes;
 use vector_tools::output::hex;
 use vector_tools::output::labelled;
@@ -48,7 +48,7 @@ fn action_numbers(h: ActionHead) -> [u64; 13] {
         h.creator as u64,
         h.index as u64,
         h.green_length as u64,
-        0,
+        h.white_length as u64,
         0,
         0,
         0,
@@ -66,7 +66,7 @@ fn action(c: Context, a: ActionAt, e: &[u8])
 {
     name(Event::ACTION);
     let h = a.head;
-    numbers(action_numbers(h), 3);
+    numbers(action_numbers(h), 4);
     let at = a.payload_at;
     payload(e, at, a.payload_length);
 }

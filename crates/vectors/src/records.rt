@@ -41,8 +41,8 @@ fn limit_numbers(l: Limits) -> [u64; 13] {
         l.most_quota as u64,
         l.most_payload as u64,
         l.most_index as u64,
-        0,
-        0,
+        l.most_number as u64,
+        l.most_length as u64,
         0,
         0,
         0,
@@ -53,6 +53,6 @@ fn limit_numbers(l: Limits) -> [u64; 13] {
 
 pub fn limits() {
     io::write_all(1, b"limits");
-    numbers(limit_numbers(Limits::all()), 6);
+    numbers(limit_numbers(Limits::all()), 8);
     io::write_all(1, b"\n");
 }

@@ -1,6 +1,6 @@
 -- Blocks of bytes written one after another are one block: the parts of a record.
 use Prim.Native.Nat.{ℕ, _+_, _≤_}
-use mathlib.Core.Path.{_≡_, refl, _∙_}
+use mathlib.Core.Path.{_≡_, refl, ap, _∙_}
 use mathlib.Core.List.{List, [], _∷_, append-assoc, append-nil}
 use native.Mathlib.Omega.{arith}
 use lib.ListN.{length}
@@ -8,28 +8,43 @@ use Rattle.base.specs.Bytes.{bytesOf, joined}
 use Rattle.base.proofs.BytesLaws.{bytes-length}
 use Rattle.base.specs.Patched.{patched}
 use Rattle.base.proofs.Stores.{two-blocks, blocks-joined}
-use Rattle.format.specs.Places.{actionPayloadAt, primaryAttemptAt, primarySetAt, primarySize, markIndexAt, markAttemptAt, markSetAt, markBitsAt, markSize}
-use Rattle.format.specs.Types.{Id}
-use Rattle.format.specs.Write.{idBytes, primaryBytes, markBytes}
+use Rattle.format.specs.Places.{actionGreenAt, actionWhiteAt, actionPayloadAt, actionHeadSize, primaryAttemptAt, primarySetAt, primarySize, markIndexAt, markAttemptAt, markSetAt, markBitsAt, markSize}
+use Rattle.format.specs.Write.{payloadBytes, idBytes, actionBytes, primaryBytes, markBytes}
 use Rattle.format.proofs.Lengths.{id-length}
+use Rattle.record.specs.declared.ActionHead.{ActionHead}
 use Rattle.record.specs.declared.LastPrimary.{LastPrimary}
 use Rattle.record.specs.declared.Mark.{Mark}
-use Rattle.record.specs.Values.{primaryOf, markOf}
+use Rattle.record.specs.Values.{idOf, primaryOf, markOf, actionOf}
+use Rattle.writer.specs.Blocks.{headBytes}
 
-pub head-length : (d : Id) (v : ℕ) → length (joined (idBytes d ∷ bytesOf 4 v ∷ [])) ≡ actionPayloadAt
-unfolding idBytes joined bytesOf
-head-length d v = refl
+pub ruleset blocks = (two-blocks, bytes-length, id-length)
 
-joined-two : (b c d : List ℕ) → joined (joined (b ∷ c ∷ []) ∷ d ∷ []) ≡ joined (b ∷ c ∷ d ∷ [])
-unfolding joined
-joined-two b c d = simp (append-nil, append-assoc)
+-- ---- an action
 
--- two in one, and d next after it
-pub block-after-two : (at m k : ℕ) (b c d s s₁ s₂ : List ℕ) → at + k ≤ length s → s₁ ≡ patched at (joined (b ∷ c ∷ [])) s → s₂ ≡ patched (at + m) d s₁
-    → length (joined (b ∷ c ∷ [])) ≡ m → s₂ ≡ patched at (joined (b ∷ c ∷ d ∷ [])) s
-block-after-two at m k b c d s s₁ s₂ h e f g = two-blocks at m k (joined (b ∷ c ∷ [])) d s s₁ s₂ h e f g ∙ rw joined-two
+module _ (h : ActionHead) where
+  head-length : length (headBytes h) ≡ actionPayloadAt
+  unfolding headBytes idBytes joined bytesOf
+  head-length = refl
 
-pub ruleset blocks = (two-blocks, block-after-two, bytes-length, id-length, head-length)
+  body-joined : (p : List ℕ) → joined (headBytes h ∷ payloadBytes p ∷ []) ≡ actionBytes (actionOf h p)
+  unfolding headBytes actionBytes actionOf joined
+  body-joined p = simp (append-nil, append-assoc)
+
+module _ (at : ℕ) (h : ActionHead) (s s₁ s₂ : List ℕ) where
+  pub head-blocks : (s₃ : List ℕ) → at + actionPayloadAt ≤ length s → s₁ ≡ patched at (idBytes (idOf (h .creator) (h .index))) s
+      → s₂ ≡ patched (at + actionGreenAt) (bytesOf 4 (h .«green_length»)) s₁ → s₃ ≡ patched (at + actionWhiteAt) (bytesOf 4 (h .«white_length»)) s₂
+      → s₃ ≡ patched at (headBytes h) s
+  unfolding headBytes
+  head-blocks s₃ l e f g =
+      rw (g, f, e)
+      (blocks-joined at (at ∷ (at + actionGreenAt) ∷ (at + actionWhiteAt) ∷ []) (_ ∷ _ ∷ _ ∷ []) s (omega arith)
+      (refl, (omega (arith, id-length (idOf (h .creator) (h .index))), (omega (arith, bytes-length 4 (h .«green_length»)), tt))))
+
+  pub body-blocks : (p : List ℕ) → at + (actionHeadSize + length p) ≤ length s → s₁ ≡ patched at (headBytes h) s
+      → s₂ ≡ patched (at + actionPayloadAt) (payloadBytes p) s₁ → s₂ ≡ patched at (actionBytes (actionOf h p)) s
+  body-blocks p l e f =
+      two-blocks at actionPayloadAt (actionHeadSize + length p) (headBytes h) (payloadBytes p) s s₁ s₂ l e f (head-length h)
+      ∙ ap (λ (b : List ℕ). patched at b s) (body-joined h p)
 
 -- ---- a primary component, and a mark
 

@@ -12,7 +12,7 @@ use Rattle.format.specs.Read.{idsAt}
 use Rattle.format.specs.Write.{framed, actionBytes, cutsBytes, primaryBytes, markBytes, idsBytes, yellowBytes, stateBytes, bodyOf, write}
 use Rattle.format.proofs.Lengths.{action-length, primary-length, mark-length}
 use Rattle.record.specs.declared.ActionHead.{ActionHead}
-use Rattle.record.specs.declared.StateHead.{StateHead}
+use Rattle.record.specs.declared.events.StateHead.{StateHead}
 use Rattle.record.specs.Values.{primaryOf, markOf, actionOf, stateOf}
 use Rattle.writer.specs.Blocks.{frameBytes, openingBytes, yellowHeadBytes, standingBytes}
 

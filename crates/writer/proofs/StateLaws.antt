@@ -19,7 +19,7 @@ use Rattle.format.specs.Read.{idsAt}
 use Rattle.format.specs.Write.{cutsBytes, idsBytes, primaryBytes, markBytes, write, lengthOf}
 use Rattle.format.proofs.Lengths.{cuts-length, ids-length, primary-length, mark-length, write-length}
 use Rattle.format.proofs.Writing.{cuts-written, ids-written, ids-number}
-use Rattle.record.specs.declared.StateHead.{StateHead}
+use Rattle.record.specs.declared.events.StateHead.{StateHead}
 use Rattle.record.specs.Values.{primaryOf, markOf, stateOf}
 use Rattle.writer.specs.declared.records.Written.the-variants.{Next, Full}
 use Rattle.writer.specs.Blocks.{openingBytes, yellowHeadBytes, standingBytes, listsSize, StateRoom}

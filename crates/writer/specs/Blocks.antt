@@ -7,10 +7,10 @@ use Rattle.format.specs.Limits.{version}
 use Rattle.format.specs.Places.{lengthSize, cutSize, idSize, stateHeadSize}
 use Rattle.format.specs.Write.{idBytes, primaryBytes, markBytes}
 use Rattle.record.specs.declared.ActionHead.{ActionHead}
-use Rattle.record.specs.declared.StateHead.{StateHead}
+use Rattle.record.specs.declared.events.StateHead.{StateHead}
 use Rattle.record.specs.Values.{idOf, primaryOf, markOf}
 
--- "Two length bytes (counting what follows them), version byte 1, kind byte"
+-- "Two length bytes (counting what follows them)", version byte, "kind byte"
 unfoldable pub frameBytes : (follows kind : ℕ) → List ℕ
 frameBytes follows kind = joined (bytesOf lengthSize follows ∷ bytesOf 1 version ∷ bytesOf 1 kind ∷ [])
 
@@ -18,9 +18,9 @@ frameBytes follows kind = joined (bytesOf lengthSize follows ∷ bytesOf 1 versi
 unfoldable pub openingBytes : (follows kind sender number : ℕ) → List ℕ
 openingBytes follows kind sender number = joined (frameBytes follows kind ∷ bytesOf 1 sender ∷ bytesOf 4 number ∷ [])
 
--- "creator (1 byte), index (2), creator's green length (4)"
+-- "creator (1 byte), index (2), creator's green length (4)", white length (4)
 unfoldable pub headBytes : ActionHead → List ℕ
-headBytes h = joined (idBytes (idOf (h .creator) (h .index)) ∷ bytesOf 4 (h .«green_length») ∷ [])
+headBytes h = joined (idBytes (idOf (h .creator) (h .index)) ∷ bytesOf 4 (h .«green_length») ∷ bytesOf 4 (h .«white_length») ∷ [])
 
 -- "yellow status (1), count (2)"
 unfoldable pub yellowHeadBytes : (status count : ℕ) → List ℕ

@@ -10,7 +10,7 @@ use Rattle.base.specs.Bytes.{over}
 use Rattle.format.specs.Places.{cutSize, idSize}
 use Rattle.format.specs.Types.{State, state}
 use Rattle.format.specs.Write.{write}
-use Rattle.record.specs.declared.StateHead.{StateHead}
+use Rattle.record.specs.declared.events.StateHead.{StateHead}
 use Rattle.record.specs.Values.{stateOf}
 use Rattle.writer.specs.declared.records.Written.{Written}
 use Rattle.writer.specs.declared.records.Written.the-variants.{Next, Full}

@@ -14,7 +14,7 @@ use octets::numbers::put32;
 use record::ActionHead;
 use record::LastPrimary;
 use record::Mark;
-use record::StateHead;
+use record::events::StateHead;
 
 pub fn put_id(out: &mut [u8], at: usize, creator: u8, index: u16)
     requires { ⌜ at + idSize ≤ length (now out) ⌝ }
@@ -24,13 +24,14 @@ pub fn put_id(out: &mut [u8], at: usize, creator: u8, index: u16)
     put16(out, at + ActionHead::INDEX, index);
 }
 
-// An action's id and its creator's green length.
+// An action's id and its creator's green and white length.
 pub fn put_head(out: &mut [u8], at: usize, head: ActionHead)
     requires { ⌜ at + actionPayloadAt ≤ length (now out) ⌝ }
     ensures { λ _. ⌜ now (out .exit) ≡ patched at (headBytes head) (now (out .entry)) ⌝ }
 {
     put_id(out, at, head.creator, head.index);
     put32(out, at + ActionHead::GREEN_LENGTH, head.green_length);
+    put32(out, at + ActionHead::WHITE_LENGTH, head.white_length);
 }
 
 // An action, as actions and retransmissions have it.

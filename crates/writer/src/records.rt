@@ -21,8 +21,8 @@ use octets::numbers::put8;
 use octets::numbers::put32;
 use record::ActionHead;
 use record::State;
-use record::StateHead;
 use record::events::Event;
+use record::events::StateHead;
 use record::events::VERSION;
 
 // How many bytes the record has, so that the next one goes behind them; or no room: then the rest is as it was.

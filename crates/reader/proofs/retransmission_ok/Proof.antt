@@ -1,5 +1,5 @@
 use Rattle.reader.proofs.Arms.{retransmission-answered}
-use Rattle.format.specs.Range.{fieldsOk}
+use Rattle.format.specs.Range.{fieldsOk, lengthOk}
 use Rattle.record.specs.Context.{contextOf}
 use Rattle.base.proofs.TestLaws.{tests}
 use Rattle.base.proofs.Branches.{answers}
@@ -8,11 +8,11 @@ use Rattle.reader.proofs.retransmission_ok.Statement.{statement}
 use Rattle.reader.proofs.retransmission_ok.Tie as tie
 
 returns : tie.Need-returns
-unfolding fieldsOk contextOf
+unfolding fieldsOk contextOf lengthOk
 returns c = search (needs, tests, answers)
 
 returns-2 : tie.Need-returns-2
-unfolding fieldsOk contextOf
+unfolding fieldsOk contextOf lengthOk
 returns-2 c = search (needs, tests, answers)
 
 pub retransmission-ok-spec : {M : Type 1} → statement M

@@ -1,8 +1,10 @@
+pub mod Whole
 pub mod Plan
 pub mod Logs
 pub mod Sent
 pub mod Agreeable
 pub mod Collected
+pub mod White
 pub mod Placing
 pub mod Come
 pub mod Gained

@@ -26,5 +26,8 @@ pub mod Induction
 pub mod OfLists
 pub mod OfPrimaries
 pub mod OfContents
+pub mod Whole
+pub mod NothingGone
+pub mod Resending
 pub mod Demand
 pub mod KeptWhileUp

@@ -10,7 +10,7 @@ use Rattle.base.proofs.Rising.{Alike, Initial, included-begins, comparable}
 use Rattle.replication.specs.Machine.Types.{Configuration}
 use Rattle.replication.specs.Runs.Run.{Run, Place}
 use Rattle.replication.specs.Runs.Happenings.{Left}
-use Rattle.replication.specs.Runs.Allowed.{Allowed}
+use Rattle.replication.proofs.Runs.Roomy.{Roomy as Allowed}
 use Rattle.replication.proofs.Runs.DeliveryFacts.{within, withinRegular, deliveryPlaces, delivered}
 use Rattle.replication.proofs.Runs.Deliveries.{Delivery}
 use Rattle.replication.proofs.Runs.Order.{time, lower-delivered, left-delivered}
@@ -27,21 +27,21 @@ module _ {n q : ℕ} {l : Run} (A : Allowed n q l) (c : Configuration) where
   com-narrow : Narrow (within c)
   com-narrow x h = within-holds c x h
 
-  alike : (t u : Place → Bool) → Narrow t → Narrow u → (i j p r : ℕ) → Alike (A .source) (time A) (deliveryPlaces n q l t i p) (deliveryPlaces n q l u j r)
+  alike : (t u : Place → Bool) → Narrow t → Narrow u → (i j p r : ℕ) → Alike (A .allowed .source) (time A) (deliveryPlaces n q l t i p) (deliveryPlaces n q l u j r)
   alike t u f g i j p r = record {
     numbers = λ a b k m e.
         let x = listed A t i p a k in
         let y = listed A u j r b m in
-        A .same-message a b i j (A .source a) (x .delivery) (subst (λ z. Delivery A b j z) (sym e) (y .delivery));
+        A .allowed .same-message a b i j (A .allowed .source a) (x .delivery) (subst (λ z. Delivery A b j z) (sym e) (y .delivery));
     labels = λ a b k m e.
         let x = listed A t i p a k in
         let y = listed A u j r b m in
-        A .one-order a b i j (A .source a) (A .source b) (x .delivery) (y .delivery) (f _ (x .there) ∙ sym (g _ (y .there))) e;
+        A .allowed .one-order a b i j (A .allowed .source a) (A .allowed .source b) (x .delivery) (y .delivery) (f _ (x .there) ∙ sym (g _ (y .there))) e;
   }
 
   -- What is lower than a delivery in regular c, and is delivered at all, was delivered before it.
   regular-initial : (u : Place → Bool) → Narrow u → (i j p r : ℕ)
-      → Initial (A .source) (time A) (deliveryPlaces n q l (withinRegular c) i p) (deliveryPlaces n q l u j r)
+      → Initial (A .allowed .source) (time A) (deliveryPlaces n q l (withinRegular c) i p) (deliveryPlaces n q l u j r)
   regular-initial u g i j p r a b k m h =
       let x = listed A (withinRegular c) i p a k in
       let y = listed A u j r b m in
@@ -54,20 +54,20 @@ module _ {n q : ℕ} {l : Run} (A : Allowed n q l) (c : Configuration) where
 
   -- In one regular configuration the messages that two servers have delivered, each at any moment, agree: one list begins the other.
   pub regular-agreement : (i j p r : ℕ)
-      → Begins (delivered n q l (A .source) (withinRegular c) i p) (delivered n q l (A .source) (withinRegular c) j r)
-      ⊎ Begins (delivered n q l (A .source) (withinRegular c) j r) (delivered n q l (A .source) (withinRegular c) i p)
+      → Begins (delivered n q l (A .allowed .source) (withinRegular c) i p) (delivered n q l (A .allowed .source) (withinRegular c) j r)
+      ⊎ Begins (delivered n q l (A .allowed .source) (withinRegular c) j r) (delivered n q l (A .allowed .source) (withinRegular c) i p)
   unfolding delivered
   regular-agreement i j p r =
-      comparable (A .source) (time A) (deliveryPlaces n q l (withinRegular c) i p) (deliveryPlaces n q l (withinRegular c) j r)
+      comparable (A .allowed .source) (time A) (deliveryPlaces n q l (withinRegular c) i p) (deliveryPlaces n q l (withinRegular c) j r)
       (places-rise A (withinRegular c) i p) (places-rise A (withinRegular c) j r) (alike _ _ regular-narrow regular-narrow i j p r)
       (regular-initial _ regular-narrow i j p r) (regular-initial _ regular-narrow j i r p)
 
   -- A server that has left com(c) has delivered in it, first and in the same order, all that another delivers in regular c.
   pub left-agreement : (i j p r : ℕ) (x : Left n q l j c) → x .r ≤ r
-      → Begins (delivered n q l (A .source) (withinRegular c) i p) (delivered n q l (A .source) (within c) j r)
+      → Begins (delivered n q l (A .allowed .source) (withinRegular c) i p) (delivered n q l (A .allowed .source) (within c) j r)
   unfolding delivered
   left-agreement i j p r x h =
-      included-begins (A .source) (time A) (deliveryPlaces n q l (withinRegular c) i p) (deliveryPlaces n q l (within c) j r)
+      included-begins (A .allowed .source) (time A) (deliveryPlaces n q l (withinRegular c) i p) (deliveryPlaces n q l (within c) j r)
       (places-rise A (withinRegular c) i p) (places-rise A (within c) j r) (alike _ _ regular-narrow com-narrow i j p r)
       (regular-initial _ com-narrow i j p r)
       (λ a k.
@@ -80,10 +80,10 @@ module _ {n q : ℕ} {l : Run} (A : Allowed n q l) (c : Configuration) where
       })
 
   -- What a server delivers in regular c begins what it delivers in com(c).
-  pub regular-begins-com : (i p r : ℕ) → p ≤ r → Begins (delivered n q l (A .source) (withinRegular c) i p) (delivered n q l (A .source) (within c) i r)
+  pub regular-begins-com : (i p r : ℕ) → p ≤ r → Begins (delivered n q l (A .allowed .source) (withinRegular c) i p) (delivered n q l (A .allowed .source) (within c) i r)
   unfolding delivered
   regular-begins-com i p r h =
-      included-begins (A .source) (time A) (deliveryPlaces n q l (withinRegular c) i p) (deliveryPlaces n q l (within c) i r)
+      included-begins (A .allowed .source) (time A) (deliveryPlaces n q l (withinRegular c) i p) (deliveryPlaces n q l (within c) i r)
       (places-rise A (withinRegular c) i p) (places-rise A (within c) i r) (alike _ _ regular-narrow com-narrow i i p r)
       (regular-initial _ com-narrow i i p r)
       (λ a k.

@@ -1,24 +1,25 @@
 -- What a place of an allowed run does to one server: the event that it takes, what that says, and the transition that it makes.
 use Prim.Native.Nat.{ℕ, suc}
-use mathlib.Core.Path.{_≡_, sym, ap, _∙_}
+use mathlib.Core.Path.{_≡_, refl, sym, ap, _∙_}
 use mathlib.Core.Bool.{Bool, true, false}
 use mathlib.Core.List.{List, [], map}
 use mathlib.Core.Option.{some}
 use Rattle.base.specs.Tests.{pick}
 use Rattle.base.specs.Lists.{at}
 use Rattle.base.proofs.AtLaws.{some-same}
-use Rattle.format.specs.Types.{Action, Record, recovery, says, refused}
+use Rattle.format.specs.Types.{Action, Record, recovery, says}
 use Rattle.format.specs.Read.{read}
 use Rattle.format.specs.Write.{write}
-use Rattle.replication.specs.Machine.Types.{Server, Outcome, taken, contextOf}
+use Rattle.replication.specs.Machine.Types.{Server, Outcome, taken, withWhite, contextOf}
 use Rattle.replication.specs.Machine.Requests.{recovered}
 use Rattle.replication.specs.Machine.Rules.{recovering, ruleFor}
 use Rattle.replication.specs.Machine.Step.{apply, stored, step}
+use Rattle.replication.specs.Machine.White.{full, sieved, whiteAfter}
 use Rattle.replication.specs.Images.{savedIn, isRecovery, arrive}
 use Rattle.replication.specs.Laws.Transitions.{TakenBy, Transition}
 use Rattle.replication.specs.Runs.Run.{event, store, Run, nowhere, moved, recordsOf, worldAt, placeAt, heardAt, putOut}
 use Rattle.replication.specs.Runs.Happenings.{Of, Crashes, Comes}
-use Rattle.replication.specs.Runs.Allowed.{Allowed}
+use Rattle.replication.proofs.Runs.Roomy.{Roomy as Allowed}
 use Rattle.replication.proofs.Step.Inversion.{taken-by}
 use Rattle.replication.proofs.Step.Moves as M
 use Rattle.replication.proofs.Runs.Places.{put-out-at}
@@ -42,16 +43,18 @@ module _ (n q : ℕ) (l : Run) where
     pub here : at l p ≡ some (event i bytes sent)
     pub up : worldAt n q l p .down i ≡ false
     pub after : Server
+    pub white : ℕ
     pub written : List (List ℕ)
     pub stores : Bool
     pub greened : List Action
-    pub arrives : arrive (worldAt n q l p .images i) bytes ≡ taken after written stores greened
-    pub by : TakenBy (memoryAt p i) bytes after written stores greened
+    pub arrives : arrive (worldAt n q l p .images i) bytes ≡ taken (withWhite white after) written stores greened
+    pub by : TakenBy (memoryAt p i) bytes (withWhite white after) written stores greened
     pub heard : heardAt n q l p i bytes ≡ says (by .event)
     pub running : isRecovery (says (by .event)) ≡ false
+    pub room : full (by .rule) (memoryAt p i) ≡ false
     pub moves : Transition (memoryAt p i) (by .event) after (by .records) stores
-    pub memory-next : memoryAt (suc p) i ≡ after
-    pub store-next : storeAt (suc p) i ≡ pick stores after (storeAt p i)
+    pub memory-next : memoryAt (suc p) i ≡ withWhite white after
+    pub store-next : storeAt (suc p) i ≡ pick stores (withWhite white after) (storeAt p i)
     pub down-next : worldAt n q l (suc p) .down i ≡ false
     pub place-next : placeAt n q l i (suc p) ≡ moved (says (by .event)) (placeAt n q l i p)
     pub put : putOut n q l p ≡ map write (by .records)
@@ -59,8 +62,10 @@ module _ (n q : ℕ) (l : Run) where
   -- The server i recovers from its store.
   pub record Recovers (p i : ℕ) : Type 0 where
     pub comes : Comes n q l p i recovery
-    pub memory-next : memoryAt (suc p) i ≡ recovered (storeAt p i)
-    pub store-next : storeAt (suc p) i ≡ recovered (storeAt p i)
+    pub white : ℕ
+    pub white-is : white ≡ whiteAfter recovering (storeAt p i) (recovered (storeAt p i))
+    pub memory-next : memoryAt (suc p) i ≡ withWhite white (recovered (storeAt p i))
+    pub store-next : storeAt (suc p) i ≡ withWhite white (recovered (storeAt p i))
     pub down-next : worldAt n q l (suc p) .down i ≡ false
     pub place-next : placeAt n q l i (suc p) ≡ nowhere
     pub put : putOut n q l p ≡ []
@@ -93,12 +98,12 @@ module _ (n q : ℕ) (l : Run) where
 
 -- A recovery leaves the recovered store, stored, and sends nothing.
 recovery-takes : {s : Server} {e : List ℕ} {t : Server} {bs : List (List ℕ)} {b : Bool} {g : List Action} (x : TakenBy s e t bs b g)
-    → x .event ≡ recovery → (t ≡ recovered s) × (bs ≡ []) × (b ≡ true)
-unfolding ruleFor apply stored
+    → x .event ≡ recovery → (t ≡ withWhite (whiteAfter recovering s (recovered s)) (recovered s)) × (bs ≡ []) × (b ≡ true)
+unfolding ruleFor apply stored sieved
 recovery-takes {s} {e} {t} {bs} {b} {g} x h =
     let k : recovering ≡ x .rule = some-same (ap (ruleFor (s .membership .mode)) (sym h) ∙ x .ruled) in
-    let o = ap (λ z. apply z s) k ∙ x .applied in
-    (outcome-after o, x .written ∙ ap (map write) (outcome-records o), outcome-stores o)
+    let o = ap (λ z. apply (sieved (full (x .rule) s) z) s) k ∙ x .applied in
+    (x .raise ∙ ap (λ z. withWhite (whiteAfter z s (x .core)) (x .core)) (sym k) ∙ ap (λ u. withWhite (whiteAfter recovering s u) u) (outcome-after o), x .written ∙ ap (map write) (outcome-records o), outcome-stores o)
   where
     outcome-after : {u v : Server} {rs us : List Record} {c d : Bool} {y z : List Action} → taken u rs c y ≡ taken v us d z → v ≡ u
     outcome-after w = cc
@@ -122,6 +127,8 @@ module _ {n q : ℕ} {l : Run} (A : Allowed n q l) (p i : ℕ) where
       recovers
       (record {
         comes = record { bytes = e; sent = k; here = h; heard = s };
+        white = whiteAfter recovering (storeAt n q l p i) (recovered (storeAt n q l p i));
+        white-is = refl;
         memory-next = ap (λ z. z .memory) m ∙ w .0;
         store-next = ap (λ z. z .store) m ∙ ap (λ z. pick z t (storeAt n q l p i)) (w .2) ∙ w .0;
         down-next = d;
@@ -137,17 +144,19 @@ module _ {n q : ℕ} {l : Run} (A : Allowed n q l) (p i : ℕ) where
         sent = k;
         here = h;
         up = u;
-        after = t;
+        after = y .core;
+        white = whiteAfter (y .rule) (memoryAt n q l p i) (y .core);
         written = bs;
         stores = b;
         greened = g;
-        arrives = a;
-        by = y;
+        arrives = a ∙ ap (λ u. taken u bs b g) (y .raise);
+        by = record { event = y .event; rule = y .rule; records = y .records; reads = y .reads; ruled = y .ruled; can = y .can; member = y .member; quota = y .quota; core = y .core; applied = y .applied; raise = refl; written = y .written };
         heard = w;
         running = ap isRecovery (sym w) ∙ r;
-        moves = M.moved y .0;
-        memory-next = ap (λ z. z .memory) m;
-        store-next = ap (λ z. z .store) m;
+        room = A .room p i (y .event) (y .rule) (record { bytes = e; sent = k; here = h; heard = w }) u (y .ruled);
+        moves = M.moved-whole y (A .room p i (y .event) (y .rule) (record { bytes = e; sent = k; here = h; heard = w }) u (y .ruled));
+        memory-next = ap (λ z. z .memory) m ∙ y .raise;
+        store-next = ap (λ z. z .store) m ∙ ap (λ u. pick b u (storeAt n q l p i)) (y .raise);
         down-next = d;
         place-next = c ∙ ap (λ z. moved z (placeAt n q l i p)) w;
         put = put-out-at n q l p i k e h ∙ ap recordsOf a ∙ y .written;
@@ -183,6 +192,6 @@ module _ {n q : ℕ} {l : Run} (A : Allowed n q l) (p i : ℕ) where
       go : T.Turn n q l p i → AllowedTurn n q l p i
       go (T.rests o m c d) = rests o m c d
       go (T.crashes x m c d) = crashes x m c d
-      go (T.saves x m c d) = saves x m c d (A .stores-up p i x)
+      go (T.saves x m c d) = saves x m c d (A .allowed .stores-up p i x)
       go (T.refuses e k z h a m c d) = refusing e k z h a m c d (source A p i k e h)
       go (T.acts e k t bs b g h a m c d) = acting e k t bs b g h a m c d (source A p i k e h)

@@ -10,8 +10,8 @@ use Rattle.replication.specs.Machine.Requests.{recovered}
 use Rattle.replication.specs.Laws.Order.{SameControl, Grows}
 use Rattle.replication.specs.Laws.Transitions.{Transition}
 use Rattle.replication.specs.Runs.Run.{Run}
-use Rattle.replication.specs.Runs.Allowed.{Allowed}
-use Rattle.replication.proofs.Step.Control.{same, control-refl, control-trans, unstored-keeps, control-stored}
+use Rattle.replication.proofs.Runs.Roomy.{Roomy as Allowed}
+use Rattle.replication.proofs.Step.Control.{same, control-raised, control-refl, control-trans, unstored-keeps, control-stored}
 use Rattle.replication.proofs.Step.Growth.{grows-refl, grows-trans, transition-grows, taken-grows}
 use Rattle.replication.proofs.Step.Numbered.{numbers-reds}
 use Rattle.replication.proofs.Runs.Lived.{at-place}
@@ -56,7 +56,7 @@ module _ {n q : ℕ} {l : Run} (A : Allowed n q l) where
       acting x false e =
           inl
           (subst (λ y. SameControl (memoryAt n q l p i) y) (sym (x .memory-next))
-          (unstored-keeps (subst (λ b. Transition (memoryAt n q l p i) (x .by .event) (x .after) (x .by .records) b) e (x .moves))))
+          (control-raised (x .white) (unstored-keeps (subst (λ b. Transition (memoryAt n q l p i) (x .by .event) (x .after) (x .by .records) b) e (x .moves)))))
 
       go : AllowedTurn n q l p i → SameControl (memoryAt n q l p i) (memoryAt n q l (suc p) i) ⊎ ((x : Acts n q l p i) × (x .stores ≡ true))
       go (rests o m c d) = inl (control-same _ _ (ap (λ y. y .memory) m))
@@ -66,7 +66,7 @@ module _ {n q : ℕ} {l : Run} (A : Allowed n q l) where
       go (recovers x) =
           inl
           (subst (λ y. SameControl (memoryAt n q l p i) y) (sym (x .memory-next))
-          (control-trans (control-sym (control-at n q l i p)) (recovered-control (storeAt n q l p i))))
+          (control-raised (x .white) (control-trans (control-sym (control-at n q l i p)) (recovered-control (storeAt n q l p i)))))
       go (acts x) = acting x (x .stores) refl
 
   -- The number of numbered actions never falls.

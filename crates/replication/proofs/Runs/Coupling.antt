@@ -12,9 +12,10 @@ use Rattle.format.specs.Types.{Action, Record, action, retransmission, state, c
 use Rattle.format.specs.Read.{read}
 use Rattle.replication.specs.Machine.Types.{Server, Outcome, taken, start, setOf, contextOf}
 use Rattle.replication.specs.Machine.Step.{step}
+use Rattle.replication.specs.Machine.White.{full, sievedRecord}
 use Rattle.replication.specs.Images.{Images, started, isRecovery, sourceOf, arrive}
 use Rattle.replication.specs.Runs.Run.{event, Run, beginning, Place, nowhere, heard, moved, worldAt, placeAt, heardAt}
-use Rattle.replication.specs.Runs.Allowed.{Allowed}
+use Rattle.replication.proofs.Runs.Roomy.{Roomy as Allowed}
 use Rattle.replication.proofs.Step.Inversion.{taken-by}
 use Rattle.replication.proofs.Step.Moves as M
 use Rattle.replication.proofs.Runs.Places.{world-at-start, place-at-start, event-entry}
@@ -62,9 +63,20 @@ module _ (n q : ℕ) (l : Run) (p i : ℕ) (e : List ℕ) where
           let m = reads-alike _ (numbers n q i l p .memory) (c u) in
           from-memory u r (source-picked _ false (ap isRecovery m ∙ r)) m
       go (fails r) true u =
-          let x = A .recovers p i k e h u in
+          let x = A .allowed .recovers p i k e h u in
           let f = event-entry (some-same (sym (x .here) ∙ h)) in
           not-both (sym r ∙ ap isRecovery (ap (heardAt n q l p i) (sym (f .1)) ∙ x .heard))
+
+place-sieved : (b : Bool) (r : Record) (c : Place) → moved (says (sievedRecord b r)) c ≡ moved (says r) c
+unfolding moved sievedRecord
+place-sieved b (action a) c = refl
+place-sieved b (retransmission k p a) c = refl
+place-sieved b (state x) c = refl
+place-sieved b (cpc k i) c = refl
+place-sieved b (regular i t) c = refl
+place-sieved b (transitional t) c = refl
+place-sieved b (request p) c = refl
+place-sieved b recovery c = refl
 
 module _ {n q : ℕ} {l : Run} (A : Allowed n q l) where
   -- A refused event leaves the run's configurations as they are: those that would change them are taken.
@@ -79,13 +91,13 @@ module _ {n q : ℕ} {l : Run} (A : Allowed n q l) where
   refused-place p i k z e s h d c r m a (says (regular j u)) x =
       absurd
       (regular-taken s j u z d
-      (λ y. A .between p i (record { id = j; set = u }) (y .configuration) (record { bytes = e; sent = k; here = h; heard = x })
+      (λ y. A .allowed .between p i (record { id = j; set = u }) (y .configuration) (record { bytes = e; sent = k; here = h; heard = x })
       (sym (ap (λ w. w .regular) c) ∙ y .there) (sym (ap (λ w. w .transitional) c) ∙ y .none-after))
       (answer-refused s e _ z a (m ∙ x)))
   refused-place p i k z e s h d c r m a (says (transitional u)) x =
       absurd
       (transitional-taken s u z d
-      (ap (λ w. w .transitional) c ∙ A .one-transitional p i u (record { bytes = e; sent = k; here = h; heard = x }))
+      (ap (λ w. w .transitional) c ∙ A .allowed .one-transitional p i u (record { bytes = e; sent = k; here = h; heard = x }))
       (answer-refused s e _ z a (m ∙ x)))
   refused-place p i k z e s h d c r m a (says (request u)) x = refl
   refused-place p i k z e s h d c r m a (says recovery) x = not-both (sym r ∙ ap isRecovery x)
@@ -96,7 +108,7 @@ module _ {n q : ℕ} {l : Run} (A : Allowed n q l) where
       → read (contextOf s) e ≡ x → placeOf s ≡ c → placeOf t ≡ moved x c
   taken-place s e t bs b g x c h r d =
       let y = taken-by s e t bs b g h in
-      transition-place (M.moved y .0) ∙ ap (λ w. moved w (placeOf s)) (sym (y .reads) ∙ r) ∙ ap (moved x) d
+      ap placeOf (y .raise) ∙ transition-place (M.moved y .0) ∙ place-sieved (full (y .rule) s) (y .event) (placeOf s) ∙ ap (λ w. moved w (placeOf s)) (sym (y .reads) ∙ r) ∙ ap (moved x) d
 
   pub coupled : (p i : ℕ) → worldAt n q l p .down i ≡ false → placeOf (worldAt n q l p .images i .memory) ≡ placeAt n q l i p
   unfolding beginning started start nowhere moved arrive

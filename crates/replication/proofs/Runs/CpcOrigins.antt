@@ -8,13 +8,13 @@ use Rattle.base.specs.Tests.{_or_, _=?_}
 use Rattle.base.proofs.TestLaws.{not-both, eq-holds, Known, holds, fails, known}
 use Rattle.base.specs.Sets.{inSet, withMember}
 use Rattle.base.proofs.SetLaws.{in-empty, in-with-member}
-use Rattle.format.specs.Types.{Record, cpc, regular}
+use Rattle.format.specs.Types.{Record, cpc}
 use Rattle.replication.specs.Machine.Types.{Construct, Configuration, Membership}
 use Rattle.replication.specs.Machine.Step.{theId, hereId}
 use Rattle.replication.specs.Laws.Votes.{EndsExchange}
 use Rattle.replication.specs.Runs.Run.{Run, placeAt}
 use Rattle.replication.specs.Runs.Happenings.{isMessage, Comes}
-use Rattle.replication.specs.Runs.Allowed.{Allowed}
+use Rattle.replication.proofs.Runs.Roomy.{Roomy as Allowed}
 use Rattle.replication.proofs.Step.Kinds.{cpc-sent}
 use Rattle.replication.proofs.Runs.AllowedTurns.{memoryAt, Acts}
 use Rattle.replication.proofs.Runs.Sending.{Puts}

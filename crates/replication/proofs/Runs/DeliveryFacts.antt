@@ -1,12 +1,11 @@
 -- What a server delivers in a configuration, in order, and what a message says.
 use Prim.Native.Nat.{ℕ, zero, suc}
-use mathlib.Core.Bool.{Bool, false, not}
+use mathlib.Core.Bool.{Bool, false}
 use mathlib.Core.List.{List, [], _∷_, _++_, map}
 use mathlib.Core.Option.{Option, none, some}
 use Rattle.base.specs.Tests.{_and_, _=?_, pick}
-use Rattle.base.specs.Lists.{at, isThere, gather}
+use Rattle.base.specs.Lists.{at, gather}
 use Rattle.format.specs.Types.{Action, Record, action, retransmission, state, cpc, regular, transitional, request, recovery, Reading, says, refused}
-use Rattle.replication.specs.Machine.Types.{Configuration}
 use Rattle.replication.specs.Runs.Run.{Entry, event, crash, store, Run, Place, nowhere, heard, placeAt, heardAt, sentAt}
 use Rattle.replication.specs.Runs.Happenings.{Message, isMessage}
 unfoldable pub use Rattle.replication.specs.Runs.Settling.{isConfiguration, within, withinRegular}

@@ -15,7 +15,7 @@ use Rattle.format.specs.Types.{Record, Reading, says, refused}
 use Rattle.replication.specs.Machine.Types.{Configuration}
 use Rattle.replication.specs.Runs.Run.{Entry, event, crash, store, Run, Place, placeAt}
 use Rattle.replication.specs.Runs.Happenings.{Message, isMessage}
-use Rattle.replication.specs.Runs.Allowed.{Allowed}
+use Rattle.replication.proofs.Runs.Roomy.{Roomy as Allowed}
 use Rattle.replication.proofs.Runs.DeliveryFacts.{isConfiguration, within, withinRegular, saysMessage, deliversBy, deliversAt, deliveryPlaces, delivered}
 use Rattle.replication.proofs.Runs.Shifts.{comes-of}
 use Rattle.replication.proofs.Runs.Deliveries.{Delivery}
@@ -75,11 +75,11 @@ no-more true xs x e = not-both (sym e)
 no-more false xs x e = append-nil xs
 
 module _ {n q : ℕ} {l : Run} (A : Allowed n q l) (t : Place → Bool) (i : ℕ) where
-  pub delivers-holds : (p : ℕ) → deliversAt n q l t i p ≡ true → Delivery A p i (A .source p) × (t (placeAt n q l i p) ≡ true)
+  pub delivers-holds : (p : ℕ) → deliversAt n q l t i p ≡ true → Delivery A p i (A .allowed .source p) × (t (placeAt n q l i p) ≡ true)
   unfolding deliversAt deliversBy
   delivers-holds p h = go (at l p) refl h
     where
-      go : (x : Option Entry) → at l p ≡ x → deliversBy n q l t i p x ≡ true → Delivery A p i (A .source p) × (t (placeAt n q l i p) ≡ true)
+      go : (x : Option Entry) → at l p ≡ x → deliversBy n q l t i p x ≡ true → Delivery A p i (A .allowed .source p) × (t (placeAt n q l i p) ≡ true)
       go none e h = not-both h
       go (some (crash j)) e h = not-both h
       go (some (store j)) e h = not-both h
@@ -119,25 +119,25 @@ module _ {n q : ℕ} {l : Run} (A : Allowed n q l) (t : Place → Bool) (i : ℕ
       go (holds e) = let h = delivers-holds p e in absurd (f _ (h .0) (h .1))
       go (fails e) = places-no p e
 
-  map-more : (p : ℕ) (xs ys : List ℕ) → ys ≡ xs ++ (p ∷ []) → map (A .source) ys ≡ map (A .source) xs ++ (A .source p ∷ [])
-  map-more p xs ys e = ap (map (A .source)) e ∙ map-append (A .source) xs (p ∷ [])
+  map-more : (p : ℕ) (xs ys : List ℕ) → ys ≡ xs ++ (p ∷ []) → map (A .allowed .source) ys ≡ map (A .allowed .source) xs ++ (A .allowed .source p ∷ [])
+  map-more p xs ys e = ap (map (A .allowed .source)) e ∙ map-append (A .allowed .source) xs (p ∷ [])
 
   -- A delivery adds its message; nothing else does.
   pub delivered-more : (p : ℕ) (m : Message) → Delivery A p i m → t (placeAt n q l i p) ≡ true
-      → delivered n q l (A .source) t i (suc p) ≡ delivered n q l (A .source) t i p ++ (m ∷ [])
+      → delivered n q l (A .allowed .source) t i (suc p) ≡ delivered n q l (A .allowed .source) t i p ++ (m ∷ [])
   unfolding delivered
-  delivered-more p m d h = map-more p (deliveryPlaces n q l t i p) (deliveryPlaces n q l t i (suc p)) (places-more p m d h) ∙ ap (λ z. delivered n q l (A .source) t i p ++ (z ∷ [])) (d .which)
+  delivered-more p m d h = map-more p (deliveryPlaces n q l t i p) (deliveryPlaces n q l t i (suc p)) (places-more p m d h) ∙ ap (λ z. delivered n q l (A .allowed .source) t i p ++ (z ∷ [])) (d .which)
 
   pub delivered-same : (p : ℕ) → ((m : Message) → Delivery A p i m → t (placeAt n q l i p) ≡ true → ⊥)
-      → delivered n q l (A .source) t i (suc p) ≡ delivered n q l (A .source) t i p
+      → delivered n q l (A .allowed .source) t i (suc p) ≡ delivered n q l (A .allowed .source) t i p
   unfolding delivered
-  delivered-same p f = ap (map (A .source)) (places-same p f)
+  delivered-same p f = ap (map (A .allowed .source)) (places-same p f)
 
   -- ---- what is in it
 
   pub record Listed (p x : ℕ) : Type 0 where
     pub earlier : x < p
-    pub delivery : Delivery A x i (A .source x)
+    pub delivery : Delivery A x i (A .allowed .source x)
     pub there : t (placeAt n q l i x) ≡ true
 
   pub listed : (p x : ℕ) → List·Memᴰ x (deliveryPlaces n q l t i p) → Listed p x
@@ -158,7 +158,7 @@ module _ {n q : ℕ} {l : Run} (A : Allowed n q l) (t : Place → Bool) (i : ℕ
               let h = delivers-holds p e in
               record {
                 earlier = omega arith;
-                delivery = subst (λ z. Delivery A z i (A .source z)) (sym s) (h .0);
+                delivery = subst (λ z. Delivery A z i (A .allowed .source z)) (sym s) (h .0);
                 there = subst (λ z. t (placeAt n q l i z) ≡ true) (sym s) (h .1);
               }
       go (fails e) f = longer (f (subst (List·Memᴰ x) (places-no p e) m))

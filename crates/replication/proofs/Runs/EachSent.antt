@@ -17,13 +17,13 @@ use Rattle.base.proofs.Members.{filter-has}
 use Rattle.format.specs.Types.{Id, Action, Record, action, says}
 use Rattle.format.specs.Read.{read}
 use Rattle.format.specs.Write.{write}
-use Rattle.replication.specs.Machine.Types.{Log, Server, Outcome, refused, taken, start, contextOf}
+use Rattle.replication.specs.Machine.Types.{Log, Server, Outcome, refused, taken, start, withWhite, contextOf}
 use Rattle.replication.specs.Machine.Colours.{find, isNext, enter, promote}
 use Rattle.replication.specs.Machine.Requests.{madeOf, unsent, waiting}
 use Rattle.replication.specs.Machine.Step.{step}
 use Rattle.replication.specs.Images.{Images, started, sourceOf, arrive, leftBy, savedIn, lived}
 use Rattle.replication.specs.Laws.Images.{OfBoth, next}
-use Rattle.replication.specs.Laws.Transitions.{Transition}
+use Rattle.replication.specs.Laws.Transitions.{Transition, TakenBy}
 use Rattle.replication.specs.Laws.Sending as P
 use Rattle.replication.specs.Laws.Sending.{Numbers, SendsWaiting, PutsOut, Peer}
 use Rattle.replication.specs.Runs.Run.{recordsOf}
@@ -70,6 +70,10 @@ module _ (s : Server) where
 record CountsSent (a : Action) (s : Server) : Type 0 where
   pub listed : List·Memᴰ a (s .log .own)
   pub sent : a .id .index ≤ s .log .sent
+
+-- Whatever is white.
+counts-lowered : {a : Action} {s : Server} (w : ℕ) → CountsSent a (withWhite w s) → CountsSent a s
+counts-lowered w x = record { listed = x .listed; sent = x .sent }
 
 module _ (a : Action) where
   -- What an event marks as sent it puts out.
@@ -129,15 +133,15 @@ module _ (s : Server) (a : Action) where
 
   of-event : (u : Server) (e : List ℕ) (t : Server) (bs : List (List ℕ)) (b : Bool) (g : List Action) → step u e ≡ taken t bs b g → Good s u
       → CountsSent a t → CountsSent a u ⊎ Out bs
-  of-event u e t bs b g h v x = go (counted a u t (own-from u m) (well-formed-facts u (v .0) .log .sent) x (puts-out u m))
+  of-event u e t bs b g h v x =
+      let m = moved d .0 in go (counted a u (d .core) (own-from u m) (well-formed-facts u (v .0) .log .sent) (counts-lowered _ (subst (CountsSent a) (d .raise) x)) (puts-out u m))
     where
-      m : Transition u (taken-by u e t bs b g h .event) t (taken-by u e t bs b g h .records) b
-      m = moved (taken-by u e t bs b g h) .0
+      d : TakenBy u e t bs b g
+      d = taken-by u e t bs b g h
 
-      go : CountsSent a u ⊎ List·Memᴰ (action a) (taken-by u e t bs b g h .records) → CountsSent a u ⊎ Out bs
+      go : CountsSent a u ⊎ List·Memᴰ (action a) (d .records) → CountsSent a u ⊎ Out bs
       go (inl y) = inl y
       go (inr k) =
-          let d = taken-by u e t bs b g h in
           let each = put-out-reads u (v .0) (contextOf s) (self-peer u v) (d .records) (taken-put-out u e t bs b g (v .0) d) in
           inr (
             write (action a),

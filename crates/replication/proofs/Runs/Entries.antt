@@ -5,7 +5,6 @@ use mathlib.Core.Option.{none, some}
 use native.Mathlib.Omega.{arith}
 use native.Mathlib.Decide.{decLt}
 use Rattle.base.proofs.AtLaws.{none-some, some-same}
-use Rattle.format.specs.Types.{regular, transitional}
 use Rattle.replication.specs.Machine.Types.{Configuration}
 use Rattle.replication.specs.Runs.Run.{Run, nowhere, placeAt}
 use Rattle.replication.specs.Runs.Happenings.{Falls, Takes}

@@ -11,7 +11,7 @@ use Rattle.base.specs.Lists.{Each}
 use Rattle.base.proofs.ListLaws.{each-append, each-implied}
 use Rattle.format.specs.Types.{Id, Action, Record, action, retransmission, state, cpc, regular, transitional, request, recovery}
 use Rattle.replication.specs.Machine.Types.{Non-prim, Reg-prim, Log, Server, inMode}
-use Rattle.replication.specs.Machine.Colours.{find, isNext, enter, red, reds, promote, promoteFound, greenId, greenIds, green, yellow}
+use Rattle.replication.specs.Machine.Colours.{find, isNext, enter, red, reds, promote, promoteFound, greenId, greenIds, green}
 use Rattle.replication.specs.Machine.Install.{installLog, install}
 use Rattle.replication.specs.Machine.Requests.{madeOf, numbered, sendWaiting, recovered}
 use Rattle.replication.specs.Machine.Step.{entering, decided, attempting, withState, resending, placed, oneMore, exchanged, withCpc, leave, greenAndNote}

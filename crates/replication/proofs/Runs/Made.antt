@@ -1,8 +1,8 @@
 -- Every action held, on an own list, sent or resent was made once, by its creator's numbering: an id fixes the action everywhere in a run.
+use lib.ListN.{drop}
 use Prim.Native.Nat.{ℕ, zero, suc, _+_, _-_, _≤_, _<_}
 use mathlib.Core.Path.{_≡_, refl, sym, ap, subst, _∙_}
-use mathlib.Core.List.{List, [], _∷_, _++_, map, List·Memᴰ, List·Memᴰ·head, List·Memᴰ·tail, List·Memᴰ·not-nil}
-use mathlib.Core.Option.{some}
+use mathlib.Core.List.{List, [], _∷_, map, List·Memᴰ, List·Memᴰ·head, List·Memᴰ·tail, List·Memᴰ·not-nil}
 use native.Mathlib.Omega.{arith}
 use native.Mathlib.Decide.{decLt}
 use Rattle.base.proofs.TestLaws.{pick-either}
@@ -10,9 +10,9 @@ use Rattle.base.specs.Lists.{above, after, Each}
 use Rattle.base.proofs.AtLaws.{at-among}
 use Rattle.base.proofs.Chains.{strong}
 use Rattle.base.proofs.ListLaws.{each-append, each-implied}
-use Rattle.format.specs.Types.{Id, Action, State, Record, action, retransmission, state, cpc, regular, transitional, request, recovery}
-use Rattle.replication.specs.Machine.Types.{Configuration, Log, start}
-use Rattle.replication.specs.Machine.Colours.{find}
+use Rattle.format.specs.Types.{Action, State, Record, action, retransmission, state, cpc, regular, transitional, request, recovery}
+use Rattle.replication.specs.Machine.Types.{Configuration, Log, start, withWhite}
+use Rattle.replication.specs.Machine.Colours.{placesOf}
 use Rattle.replication.specs.Machine.Requests.{madeOf}
 use Rattle.replication.specs.Machine.WellFormed.{idsIn}
 use Rattle.replication.specs.Images.{started}
@@ -22,10 +22,11 @@ use Rattle.replication.specs.Laws.Sending as P
 use Rattle.replication.specs.Laws.Sending.{Own, Resent}
 use Rattle.replication.specs.Runs.Run.{Run, beginning, worldAt}
 use Rattle.replication.specs.Runs.Happenings.{Message, isMessage, Comes}
-use Rattle.replication.specs.Runs.Allowed.{Allowed}
+use Rattle.replication.proofs.Runs.Roomy.{Roomy as Allowed}
 use Rattle.replication.proofs.Step.Kinds.{part-sent}
-use Rattle.replication.proofs.Step.OwnActions.{own-sent, request-own}
-use Rattle.replication.proofs.WellFormed.Held.{found-fact}
+use Rattle.replication.proofs.Step.Parts.{held-stands}
+use Rattle.replication.proofs.Step.OwnActions.{own-sent, own-raised, request-own}
+use Rattle.replication.proofs.WellFormed.Held.{found-fact, each-drop}
 use Rattle.replication.proofs.Runs.Places.{world-at-start, of-event}
 use Rattle.replication.proofs.Runs.Numbers.{numbers, invariant-at}
 use Rattle.replication.proofs.Runs.Deliveries.{Delivery}
@@ -35,6 +36,16 @@ use Rattle.replication.proofs.Runs.Sending.{Puts}
 use Rattle.replication.proofs.Runs.Origins.{origin}
 use Rattle.replication.proofs.Runs.StateOrigins.{puts-among, puts-by}
 use Rattle.replication.proofs.Runs.LogActions.{EachIn, carried, each-in, each-after, each-recovered, each-in-implied}
+
+-- What is resent is in the log.
+pub resent-in : (Q : Action → Type 0) (k w : ℕ) (m : Log) (xs : List State) (j p : ℕ) (a : Action) → EachIn Q m → Resent k w m xs (retransmission j p a) → Q a
+unfolding placesOf
+resent-in Q k w m xs j p a h (P.asGreen u b i e f) =
+    let z : b ≡ a = cc in subst Q z (each-in Q (m .green) (h .green) b (at-among (m .green) (u - 1) b (held-stands w m u b e)))
+resent-in Q k w m xs j p a h (P.asRed c u b i e f) =
+    let z : b ≡ a = cc in
+    subst Q z
+    (found-fact Q _ (placesOf w m) b (each-append Q (drop w (m .green)) (m .red) (each-drop Q w (m .green) (h .green)) (h .red)) e)
 
 -- In a list whose ids run on from k, an id is of one action.
 ids-above : (me k m : ℕ) (xs : List Action) → idsIn xs ≡ map (λ i. record { creator = me; index = i }) (after k m) → (a : Action) → List·Memᴰ a xs
@@ -74,12 +85,15 @@ module _ {n q : ℕ} {l : Run} (A : Allowed n q l) where
     pub earlier : place < p
     pub server : ℕ
     pub act : Acts n q l place server
+    pub payload : List ℕ
+    pub asked : act .by .event ≡ request payload
+    pub is : a ≡ madeOf payload (memoryAt n q l place server)
     pub own : Own (memoryAt n q l place server) (memoryAt n q l (suc place) server) a
 
-  made-later : {p r : ℕ} {a : Action} → p ≤ r → Made p a → Made r a
-  made-later h x = record { place = x .place; earlier = omega (arith, x .earlier); server = x .server; act = x .act; own = x .own }
+  unfoldable pub made-later : {p r : ℕ} {a : Action} → p ≤ r → Made p a → Made r a
+  made-later h x = record { place = x .place; earlier = omega (arith, x .earlier); server = x .server; act = x .act; payload = x .payload; asked = x .asked; is = x .is; own = x .own }
 
-  made-by : {p : ℕ} {a : Action} (x : Made p a) → a .id .creator ≡ x .server
+  pub made-by : {p : ℕ} {a : Action} (x : Made p a) → a .id .creator ≡ x .server
   made-by x = x .own .creator ∙ numbers n q (x .server) l (x .place) .memory .me
 
   -- No index is given twice.
@@ -103,7 +117,7 @@ module _ {n q : ℕ} {l : Run} (A : Allowed n q l) where
   made-one {p} {r} {a} {b} x y e =
       let s : x .server ≡ y .server = sym (made-by x) ∙ ap (λ d. d .creator) e ∙ made-by y in
       let v = numbered-once x y e s in
-      let w = invariant-at n q (x .server) (A .sizes) (A .servers (x .place) (x .server) (of-event (x .act .here))) l (suc (x .place)) .memory .well-formed .own-list in
+      let w = invariant-at n q (x .server) (A .allowed .sizes) (A .allowed .servers (x .place) (x .server) (of-event (x .act .here))) l (suc (x .place)) .memory .well-formed .own-list in
       one-of-id _ _ _ (memoryAt n q l (suc (x .place)) (x .server) .log .own) (w .ids) a b (x .own .listed)
       (subst (λ k. List·Memᴰ b (memoryAt n q l (suc k) (x .server) .log .own)) (sym v)
       (subst (λ k. List·Memᴰ b (memoryAt n q l (suc (y .place)) k .log .own)) (sym s) (y .own .listed)))
@@ -114,26 +128,20 @@ module _ {n q : ℕ} {l : Run} (A : Allowed n q l) where
   abbrev AllMade : ℕ → Type 0
   AllMade p = (i : ℕ) → OfBoth (λ s. EachIn (Made p) (s .log)) (worldAt n q l p .images i)
 
-  own-made : (p i : ℕ) (x : Acts n q l p i) (u : List ℕ) → x .by .event ≡ request u → Made (suc p) (madeOf u (memoryAt n q l p i))
+  unfoldable pub own-made : (p i : ℕ) (x : Acts n q l p i) (u : List ℕ) → x .by .event ≡ request u → Made (suc p) (madeOf u (memoryAt n q l p i))
   own-made p i x u e = record {
     place = p;
     earlier = omega arith;
     server = i;
     act = x;
-    own = subst (λ t. Own (memoryAt n q l p i) t (madeOf u (memoryAt n q l p i))) (sym (x .memory-next)) (request-own (subst (λ r. Transition (memoryAt n q l p i) r (x .after) (x .by .records) (x .stores)) e (x .moves)));
+    payload = u;
+    asked = e;
+    is = refl;
+    own = subst (λ t. Own (memoryAt n q l p i) t (madeOf u (memoryAt n q l p i))) (sym (x .memory-next)) (own-raised _ (request-own (subst (λ r. Transition (memoryAt n q l p i) r (x .after) (x .by .records) (x .stores)) e (x .moves))));
   }
 
   each-later : (p r : ℕ) (m : Log) → p ≤ r → EachIn (Made p) m → EachIn (Made r) m
   each-later p r m h = each-in-implied (Made p) (Made r) (λ a. made-later h) m
-
-  found-in : {P : Action → Type 0} (d : Id) (m : Log) (a : Action) → EachIn P m → find d (m .green ++ m .red) ≡ some a → P a
-  found-in {P} d m a h e = found-fact P d (m .green ++ m .red) a (each-append P (m .green) (m .red) (h .green) (h .red)) e
-
-  resent-made : (v k : ℕ) (m : Log) (xs : List State) (j p : ℕ) (a : Action) → EachIn (Made v) m → Resent k m xs (retransmission j p a) → Made v a
-  resent-made v k m xs j p a h (P.asGreen u b i e f) =
-      let z : b ≡ a = cc in
-      subst (Made v) z (each-in (Made v) (m .green) (h .green) b (at-among (m .green) (u - 1) b e))
-  resent-made v k m xs j p a h (P.asRed c u b i e f) = let z : b ≡ a = cc in subst (Made v) z (found-in _ m b h e)
 
   -- What a record put out carries was made.
   put-made : (v k j : ℕ) (c : Configuration) (r : Record) (x : Puts A v k j c r) → EachIn (Made (suc v)) (memoryAt n q l (suc v) k .log)
@@ -142,7 +150,7 @@ module _ {n q : ℕ} {l : Run} (A : Allowed n q l) where
       let w = own-sent (puts-by A x) a (puts-among A x) .0 in
       (each-in (Made (suc v)) _ (subst (λ t. EachIn (Made (suc v)) (t .log)) (x .act .memory-next) h .own) a (w .listed), tt)
   put-made v k j c (retransmission w p a) x h =
-      (resent-made (suc v) _ _ _ w p a (subst (λ t. EachIn (Made (suc v)) (t .log)) (x .act .memory-next) h) (part-sent (puts-by A x) w p a (puts-among A x) .planned), tt)
+      (resent-in (Made (suc v)) _ _ _ _ w p a (subst (λ t. EachIn (Made (suc v)) (t .log)) (x .act .memory-next) h) (part-sent (puts-by A x) w p a (puts-among A x) .planned), tt)
   put-made v k j c (state y) x h = tt
   put-made v k j c (cpc w y) x h = tt
   put-made v k j c (regular w y) x h = tt
@@ -158,10 +166,10 @@ module _ {n q : ℕ} {l : Run} (A : Allowed n q l) where
       (put-made (m .sending) (o .sender) (m .number) (o .configuration) (d .what) (o .puts) (h (suc (m .sending)) (o .earlier) (o .sender) .memory))
 
   -- What an event's record carries was made: it carries something only if it is a delivery.
-  carried-made : (p i : ℕ) → ((x : ℕ) → x ≤ p → AllMade x) → (r : Record) → Comes n q l p i r → Each (Made p) (carried r)
+  pub carried-made : (p i : ℕ) → ((x : ℕ) → x ≤ p → AllMade x) → (r : Record) → Comes n q l p i r → Each (Made p) (carried r)
   unfolding isMessage
-  carried-made p i h (action a) c = delivery-made p i h (A .source p) (record { what = action a; comes = c; message = refl; which = refl })
-  carried-made p i h (retransmission k u a) c = delivery-made p i h (A .source p) (record { what = retransmission k u a; comes = c; message = refl; which = refl })
+  carried-made p i h (action a) c = delivery-made p i h (A .allowed .source p) (record { what = action a; comes = c; message = refl; which = refl })
+  carried-made p i h (retransmission k u a) c = delivery-made p i h (A .allowed .source p) (record { what = retransmission k u a; comes = c; message = refl; which = refl })
   carried-made p i h (state y) c = tt
   carried-made p i h (cpc k u) c = tt
   carried-made p i h (regular k u) c = tt
@@ -204,7 +212,7 @@ module _ {n q : ℕ} {l : Run} (A : Allowed n q l) where
             memory = subst (λ s. EachIn (Made (suc p)) (s .log)) (sym (x .memory-next)) r;
             store =
                 subst (λ s. EachIn (Made (suc p)) (s .log)) (sym (x .store-next))
-                (pick-either (λ s. EachIn (Made (suc p)) (s .log)) (x .stores) (x .after) (storeAt n q l p i) r (before .store));
+                (pick-either (λ s. EachIn (Made (suc p)) (s .log)) (x .stores) (withWhite (x .white) (x .after)) (storeAt n q l p i) r (before .store));
           }
 
   -- Every action in a log, in memory or store, held or on an own list, was made.

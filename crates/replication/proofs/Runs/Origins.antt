@@ -18,7 +18,7 @@ use Rattle.replication.specs.Laws.Sending.{Peer}
 use Rattle.replication.proofs.WellFormed.SentFacts.{senderOf}
 use Rattle.replication.specs.Runs.Run.{Run, Place, nowhere, heard, placeAt, heardAt, sentAt}
 use Rattle.replication.specs.Runs.Happenings.{Message, Sends}
-use Rattle.replication.specs.Runs.Allowed.{Allowed}
+use Rattle.replication.proofs.Runs.Roomy.{Roomy as Allowed}
 use Rattle.replication.proofs.Runs.DeliveryFacts.{recordFrom, recordIn, recordOf}
 use Rattle.replication.proofs.WellFormed.Reads.{put-out-reads, taken-put-out}
 use Rattle.replication.proofs.Runs.Places.{of-one, of-event}
@@ -42,18 +42,18 @@ module _ {n q : ℕ} {l : Run} (A : Allowed n q l) where
     pub here : placeAt n q l i p .regular ≡ some configuration
 
   pub positive : 0 < n
-  positive = omega (arith, sizes-range n q (A .sizes) .fewest)
+  positive = omega (arith, sizes-range n q (A .allowed .sizes) .fewest)
 
   module _ {p i k : ℕ} {c : Configuration} {r : Record} (x : Puts A p i k c r) where
     own : i < n
-    own = A .servers p i (of-event (x .act .here))
+    own = A .allowed .servers p i (of-event (x .act .here))
 
     -- What is put out reads as what was meant, at every server and in every configuration.
     pub puts-read : (j : ℕ) (y : Place) → j < n → heard n q j y (write r) ≡ says r
     unfolding heard
     puts-read j y h =
         let s = numbers n q i l p .memory in
-        let f = well-formed-at n q i (A .sizes) own l p .memory in
+        let f = well-formed-at n q i (A .allowed .sizes) own l p .memory in
         let c : Context = record { servers = n; quota = q; self = j; last = setOf (y .regular) } in
         let peer : Peer (memoryAt n q l p i) c = record { servers = sym (s .servers); quota = sym (s .quota); self = h } in
         each-at (λ z. read c (write z) ≡ says z) (x .act .by .records) k r
@@ -64,7 +64,7 @@ module _ {n q : ℕ} {l : Run} (A : Allowed n q l) where
     pub puts-named : senderOf r ≡ some i
     puts-named =
         let s = numbers n q i l p .memory in
-        let f = well-formed-at n q i (A .sizes) own l p .memory in
+        let f = well-formed-at n q i (A .allowed .sizes) own l p .memory in
         each-at (λ z. senderOf z ≡ some (memoryAt n q l p i .me)) (x .act .by .records) k r
         (taken-put-out _ (x .act .bytes) _ _ _ _ f (x .act .by) .own)
         (x .record-there)
@@ -82,7 +82,7 @@ module _ {n q : ℕ} {l : Run} (A : Allowed n q l) where
 
   sending : {p i : ℕ} {m : Message} (d : Delivery A p i m) → Sending p i m (d .comes .bytes)
   sending {p} {i} {m} d =
-      let g = A .genuine p i (d .comes .sent) (d .comes .bytes) (d .what) (d .comes .here) (d .comes) (d .message) in
+      let g = A .allowed .genuine p i (d .comes .sent) (d .comes .bytes) (d .what) (d .comes .here) (d .comes) (d .message) in
       let t = subst (λ z. at (sentAt n q l (z .sending)) (z .number) ≡ some (d .comes .bytes)) (d .which) (g .1) in
       let u = sent-put-out A (m .sending) (m .number) (d .comes .bytes) t in
       record {
@@ -100,11 +100,11 @@ module _ {n q : ℕ} {l : Run} (A : Allowed n q l) where
   unfolding heardAt
   said-what {p} {i} {m} d u =
       says-same
-      (sym (puts-read (u .puts) i (placeAt n q l i p) (A .servers p i (comes-of (d .comes)))) ∙ ap (heard n q i (placeAt n q l i p)) (sym (u .bytes)) ∙ d .comes .heard)
+      (sym (puts-read (u .puts) i (placeAt n q l i p) (A .allowed .servers p i (comes-of (d .comes)))) ∙ ap (heard n q i (placeAt n q l i p)) (sym (u .bytes)) ∙ d .comes .heard)
 
   pub origin : {p i : ℕ} {m : Message} (d : Delivery A p i m) → Origin p i m (d .what)
   origin {p} {i} {m} d =
-      let s = A .same-configuration p i m d in
+      let s = A .allowed .same-configuration p i m d in
       let u = sending d in
       let e = said-what d u in
       let v : s .0 ≡ u .sender = of-one (s .2 .mine) (of-event (u .puts .act .here)) in

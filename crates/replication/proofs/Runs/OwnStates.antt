@@ -18,7 +18,7 @@ use Rattle.replication.specs.Laws.Modes.{InRegular}
 use Rattle.replication.specs.Laws.Order.{SameControl, AtMost, inExchange, OwnStateTrue, hearing}
 use Rattle.replication.specs.Runs.Run.{Run, placeAt}
 use Rattle.replication.specs.Runs.Happenings.{Comes, Falls, by-crash, by-recovery, Takes}
-use Rattle.replication.specs.Runs.Allowed.{Allowed}
+use Rattle.replication.proofs.Runs.Roomy.{Roomy as Allowed}
 use Rattle.replication.proofs.Step.Formed.{every-state-in}
 use Rattle.replication.proofs.Step.VotesOrder.{at-most-same, at-most-refl, at-most-trans, votes-rise}
 use Rattle.replication.proofs.WellFormed.Modes.{all-in-facts}
@@ -100,7 +100,7 @@ module _ {n q : ℕ} {l : Run} (A : Allowed n q l) where
           × (y .yellow ≡ memoryAt n q l p i .votes .yellow)
       go (v, w, h, g) t =
           let z : memoryAt n q l (suc v) i .votes ≡ memoryAt n q l p i .votes =
-          ap (λ a. memoryAt n q l (suc a) i .votes) (A .once v (t .took-at) i c (w .took) (t .took)) ∙ sym (t .votes e)
+          ap (λ a. memoryAt n q l (suc a) i .votes) (A .allowed .once v (t .took-at) i c (w .took) (t .took)) ∙ sym (t .votes e)
           in (
             ap (λ a. a .last) (w .is) ∙ ap (λ a. a .last) z,
             ap (λ a. a .attempt) (w .is) ∙ ap (λ a. a .attempt) z,
@@ -121,13 +121,13 @@ module _ {n q : ℕ} {l : Run} (A : Allowed n q l) where
         ∙ subst (λ z. inSet z (c .set) ≡ true) (numbers n q i l p .memory .me) (w .configuration c r .set .own)))
       where
         own : i < n
-        own = A .servers p i (of-event (x .here))
+        own = A .allowed .servers p i (of-event (x .here))
 
         h : HeardSame (memoryAt n q l p i) (hearing (x .by .event) (memoryAt n q l p i))
         h = hearing-same (x .by .event) (memoryAt n q l p i)
 
         w : MembershipRanges (memoryAt n q l p i .servers) (memoryAt n q l p i .quota) (memoryAt n q l p i .me) (memoryAt n q l p i .membership)
-        w = invariant-at n q i (A .sizes) own l p .memory .well-formed .membership
+        w = invariant-at n q i (A .allowed .sizes) own l p .memory .well-formed .membership
 
         long : length (hearing (x .by .event) (memoryAt n q l p i) .membership .states) ≡ hearing (x .by .event) (memoryAt n q l p i) .servers
         long =
@@ -179,7 +179,7 @@ module _ {n q : ℕ} {l : Run} (A : Allowed n q l) where
     acts-rise =
         subst (λ t. AtMost (memoryAt n q l p i .votes) (t .votes)) (sym (x .memory-next))
         (votes-rise (x .moves)
-        (λ e. every-state-in (memoryAt n q l p i) (well-formed-at n q i (A .sizes) (A .servers p i (of-event (x .here))) l p .memory) e) own-state-true)
+        (λ e. every-state-in (memoryAt n q l p i) (well-formed-at n q i (A .allowed .sizes) (A .allowed .servers p i (of-event (x .here))) l p .memory) e) own-state-true)
 
   pub votes-rise-next : (p i : ℕ) → AtMost (memoryAt n q l p i .votes) (memoryAt n q l (suc p) i .votes)
   votes-rise-next p i = go (control-next A p i)

@@ -9,13 +9,13 @@ use lib.ListN.{length, take}
 use Rattle.base.specs.Lists.{at}
 use Rattle.base.proofs.AtLaws.{at-in-take, some-same}
 use Rattle.base.specs.Sets.{inSet}
-use Rattle.format.specs.Types.{Record, transitional, recovery, regular}
+use Rattle.format.specs.Types.{Record, transitional, recovery}
 use Rattle.replication.specs.Machine.Types.{Configuration}
 use Rattle.replication.specs.Runs.Run.{event, store, Run, members, worldAt, placeAt, putOut, sentAt}
 use Rattle.replication.specs.Runs.Happenings.{Message, isMessage, Configured, entry-at, sending-of, Comes, Falls, BehindCut, gone-down, unsent-request, Takes, Left, Sends, Delivers, Delivered, Passes, Causes}
 use Rattle.replication.specs.Runs.Allowed.{Allowed}
 use Rattle.replication.proofs.Runs.Beginnings as B
-use Rattle.replication.proofs.Runs.Deliveries.{delivered-where-sent, sent-before, delivered-before-leaving}
+use Rattle.replication.proofs.Runs.Deliveries.{where-sent, sending-before, delivery-before-leaving}
 
 module _ (n q : ℕ) (l : Run) (A : Allowed n q l) (k : ℕ) where
   place-same : (i p : ℕ) → p < k → placeAt n q (take k l) i p ≡ placeAt n q l i p
@@ -59,7 +59,7 @@ module _ (n q : ℕ) (l : Run) (A : Allowed n q l) (k : ℕ) where
       let e = B.delivers-whole n q l k (A .source) (A .name) d in
       let h = B.delivers-low n q l k (A .source) (A .name) d in
       let x = A .same-configuration p i m e in
-      (x .0, x .1, B.sends-in n q l k (omega (arith, sent-before A e)) (x .2), ap (λ c. c .regular) (place-same i p h) ∙ x .3)
+      (x .0, x .1, B.sends-in n q l k (omega (arith, sending-before (A .genuine) e)) (x .2), ap (λ c. c .regular) (place-same i p h) ∙ x .3)
 
   one-delivery : (p r i : ℕ) (m : Message) → Delivers n q (take k l) (A .source) (A .name) p i m → Delivers n q (take k l) (A .source) (A .name) r i m
       → placeAt n q (take k l) i p ≡ placeAt n q (take k l) i r
@@ -78,7 +78,7 @@ module _ (n q : ℕ) (l : Run) (A : Allowed n q l) (k : ℕ) where
   met : (i : ℕ) (m : Message) (c : Configuration) (j : ℕ) → Sends n q l j m c → Left n q (take k l) i c → Delivered n q l (A .source) (A .name) i m
       → Delivered n q (take k l) (A .source) (A .name) i m
   met i m c j s x d =
-      let h = delivered-before-leaving A (d .it) (delivered-where-sent A (d .it) s) (B.left-whole n q l k x) in
+      let h = delivery-before-leaving (A .once) (d .it) (where-sent (A .same-configuration) (d .it) s) (B.left-whole n q l k x) in
       record { place = d .place; it = B.delivers-in n q l k (A .source) (A .name) (omega (arith, h .1, B.left-low n q l k x)) (d .it) }
 
   self-delivery : (i : ℕ) (m : Message) (c : Configuration) → Sends n q (take k l) i m c → Left n q (take k l) i c

@@ -17,7 +17,7 @@ use Rattle.replication.specs.Laws.Modes.{InRegular}
 use Rattle.replication.specs.Laws.Transitions as L
 use Rattle.replication.specs.Laws.Transitions.{Leads}
 use Rattle.replication.specs.Runs.Run.{Run, placeAt}
-use Rattle.replication.specs.Runs.Allowed.{Allowed}
+use Rattle.replication.proofs.Runs.Roomy.{Roomy as Allowed}
 use Rattle.replication.proofs.WellFormed.Modes.{from-facts}
 use Rattle.replication.proofs.Runs.Order.{taker-member}
 use Rattle.replication.proofs.Runs.Shifts.{comes-of}
@@ -158,7 +158,7 @@ progress-step {n} {k} l i M.recovers h = not-both (sym (in-empty k) ∙ i)
 module _ {n q : ℕ} {l : Run} (A : Allowed n q l) where
   -- A server that has c is one of the servers, and a member of c.
   pub stay-member : (i p : ℕ) (c : Configuration) → placeAt n q l i p .regular ≡ some c → (i < n) × (inSet i (c .set) ≡ true)
-  stay-member i p c e = let h = had n q l p i c e in (A .servers (h .took-at) i (comes-of (h .took)), taker-member (h .took))
+  stay-member i p c e = let h = had n q l p i c e in (A .allowed .servers (h .took-at) i (comes-of (h .took)), taker-member (h .took))
 
   pub progress : (i : ℕ) (c : Configuration) (p : ℕ) → placeAt n q l i p .regular ≡ some c → Progress n (membershipAt n q l p i)
   unfolding theSet
@@ -166,7 +166,7 @@ module _ {n q : ℕ} {l : Run} (A : Allowed n q l) where
       in-stay n q l i c (λ p. Progress n (membershipAt n q l p i))
       (λ t h.
       subst (Progress n) (sym (entering-membership A t i c h))
-      (record { not-all-in = no-states-in n i (c .set) (A .servers t i (comes-of h)) (taker-member h); no-cpcs = refl }))
+      (record { not-all-in = no-states-in n i (c .set) (A .allowed .servers t i (comes-of h)) (taker-member h); no-cpcs = refl }))
       (λ p a b f g h. go p b h (stay-step A p i f))
     where
       go : (p : ℕ) → placeAt n q l i (suc p) .regular ≡ some c → Progress n (membershipAt n q l p i) → StayStep A p i

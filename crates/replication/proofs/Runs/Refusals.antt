@@ -8,11 +8,13 @@ use Rattle.base.proofs.TestLaws.{not-both}
 use Rattle.base.specs.Lists.{isThere}
 use Rattle.base.proofs.AtLaws.{none-some}
 use Rattle.format.specs.Types.{Record, regular, transitional, recovery}
-use Rattle.replication.specs.Machine.Types.{Mode, Non-prim, Reg-prim, Trans-prim, Exchange-states, Exchange-actions, Construct, No, Un, Configuration, Server, Outcome, refused}
+use Rattle.replication.specs.Machine.Types.{Mode, Non-prim, Reg-prim, Trans-prim, Exchange-states, Exchange-actions, Construct, No, Un, Configuration, Server, Outcome, refused, taken}
 use Rattle.replication.specs.Machine.Rules.{Rule, onRegular, onTransitional, ruleFor, regularDue, transitionalDue, possible, isIgnored, fromMember, withinQuota}
 use Rattle.replication.specs.Machine.Step.{apply, applyRule, answer}
+use Rattle.replication.specs.Machine.White.{full, sieved, sievedRecord, raised}
+use Rattle.replication.proofs.Step.Inversion.{not-taken}
 use Rattle.replication.specs.Laws.Modes.{InRegular}
-use Rattle.replication.proofs.Step.Moves.{Moves, rule-moves}
+use Rattle.replication.proofs.Step.Moves.{Moves, rule-moves, rule-sieved}
 use Rattle.replication.proofs.Runs.Modes.{Stands, Standing}
 
 moves-no-refusal : (s : Server) (r : Record) (o : Outcome Record) (z : ℕ) → o ≡ refused z → Moves s r o → ⊥
@@ -33,13 +35,19 @@ unfolding _or_
 or-true true d e = refl
 or-true false d e = e
 
+raised-refused : (k : Rule) (s : Server) (o : Outcome Record) (y : ℕ) → raised k s o ≡ refused y → o ≡ refused y
+unfolding raised
+raised-refused k s (refused j) y u = u
+raised-refused k s (taken t rs m g) y u = not-taken (sym u)
+
 -- An event that has a rule in the state and meets no row of the table is taken.
 pub not-refused : (s : Server) (r : Record) (k : Rule) → ruleFor (s .membership .mode) r ≡ some k → possible s r ≡ true
     → (isIgnored k or fromMember (s .membership) r) ≡ true → withinQuota s r ≡ true → (z : ℕ) → answer s r ≡ refused z → ⊥
 unfolding answer applyRule
-not-refused s r k e a b c z h = moves-no-refusal s r (apply k s) z (sym f ∙ h) (rule-moves s r k e)
+not-refused s r k e a b c z h = moves-no-refusal s (sievedRecord (full k s) r) (apply (sieved (full k s) k) s) z (raised-refused k s (apply (sieved (full k s) k) s) z (sym f ∙ h))
+    (rule-moves s (sievedRecord (full k s) r) (sieved (full k s) k) (rule-sieved (s .membership .mode) (full k s) r k e))
   where
-    f : answer s r ≡ apply k s
+    f : answer s r ≡ raised k s (apply (sieved (full k s) k) s)
     f = ap (λ x. applyRule x s r) e ∙ picked-true _ _ _ a ∙ picked-true _ _ _ b ∙ picked-true _ _ _ c
 
 -- ---- the events of the group layer

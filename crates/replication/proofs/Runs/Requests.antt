@@ -27,6 +27,7 @@ use Rattle.replication.proofs.Runs.AllowedTurns.{memoryAt, storeAt}
 use Rattle.replication.proofs.Runs.ControlPart.{control-at, store-grows-between}
 use Rattle.replication.proofs.Runs.LogActions.{EachIn, each-in}
 use Rattle.replication.proofs.Runs.Made.{Made, made-one, all-made}
+use Rattle.replication.proofs.Agreement.Whites.Room.{roomy}
 use Rattle.replication.proofs.Runs.Strays.{kept, at-kept, world-kept, taken-kept}
 use Rattle.replication.proofs.Runs.RequestsSent.{one-time-only, entered-not-sent}
 use Rattle.replication.proofs.Runs.RequestsWaiting.{sent-on-reaching}
@@ -63,7 +64,10 @@ module _ (n q i : ℕ) (sizes : sizesOk n q ≡ true) (own : i < n) (l : Run) wh
   there-later d x y h w =
       let v = invariant-at n q i sizes own l y in
       let o = numbered-later d x y h w in
-      record { memory = numbered-there d _ (v .memory .well-formed) (o .memory); store = numbered-there d _ (v .store .well-formed) (o .store) }
+      record {
+        memory = numbered-there d _ (v .memory .well-formed) (o .memory) (record { long = v .memory .well-formed .log .cuts-length; held = v .memory .whole .held-to-cuts .entered d (o .memory .least) });
+        store = numbered-there d _ (v .store .well-formed) (o .store) (record { long = v .store .well-formed .log .cuts-length; held = v .store .whole .held-to-cuts .entered d (o .store .least) });
+      }
 
   -- What the event of a request leaves.
   left-by-request : (x k : ℕ) (e p : List ℕ) (t : Server) (rs : List (List ℕ)) (b : Bool) (g : List Action)
@@ -75,10 +79,10 @@ module _ (n q i : ℕ) (sizes : sizesOk n q ≡ true) (own : i < n) (l : Run) wh
 
 module _ {n q : ℕ} {l : Run} (S : AllowedWithStrays n q l) where
   -- Every action in a log was made.
-  made-at : (y i : ℕ) → OfBoth (λ s. EachIn (Made (S .rest) (kept (S .stray) y)) (s .log)) (worldAt n q l y .images i)
+  made-at : (y i : ℕ) → OfBoth (λ s. EachIn (Made (roomy (S .rest)) (kept (S .stray) y)) (s .log)) (worldAt n q l y .images i)
   made-at y i =
-      subst (λ w. OfBoth (λ s. EachIn (Made (S .rest) (kept (S .stray) y)) (s .log)) (w .images i)) (sym (world-kept S y))
-      (all-made (S .rest) (kept (S .stray) y) i)
+      subst (λ w. OfBoth (λ s. EachIn (Made (roomy (S .rest)) (kept (S .stray) y)) (s .log)) (w .images i)) (sym (world-kept S y))
+      (all-made (roomy (S .rest)) (kept (S .stray) y) i)
 
   module _ (x i k : ℕ) (e p : List ℕ) (t : Server) (rs : List (List ℕ)) (b : Bool) (g : List Action)
       (h : at l x ≡ some (event i e k)) (r : TakesRequest (worldAt n q l x .images i) e p t rs b g)
@@ -92,12 +96,12 @@ module _ {n q : ℕ} {l : Run} (S : AllowedWithStrays n q l) where
       left : worldAt n q l (suc x) .images i ≡ started t
       left = left-by-request n q i (S .rest .sizes) there l x k e p t rs b g h r
 
-      made : Made (S .rest) (kept (S .stray) (suc x)) a
+      made : Made (roomy (S .rest)) (kept (S .stray) (suc x)) a
       unfolding started
-      made = each-in _ (t .log .own) (subst (λ y. EachIn (Made (S .rest) (kept (S .stray) (suc x))) (y .memory .log)) left (made-at (suc x) i .memory) .own) a (answers r .own .listed)
+      made = each-in _ (t .log .own) (subst (λ y. EachIn (Made (roomy (S .rest)) (kept (S .stray) (suc x))) (y .memory .log)) left (made-at (suc x) i .memory) .own) a (answers r .own .listed)
 
-      that-action : (y : ℕ) (s : Server) → EachIn (Made (S .rest) (kept (S .stray) y)) (s .log) → HasId (a .id) s → HasAction a s
-      that-action y s m d = let z = with-id (a .id) s d in subst (λ c. HasAction c s) (made-one (S .rest) (of-each s (z .0) m (z .1)) made (z .2)) (z .1)
+      that-action : (y : ℕ) (s : Server) → EachIn (Made (roomy (S .rest)) (kept (S .stray) y)) (s .log) → HasId (a .id) s → HasAction a s
+      that-action y s m d = let z = with-id (a .id) s d in subst (λ c. HasAction c s) (made-one (roomy (S .rest)) (of-each s (z .0) m (z .1)) made (z .2)) (z .1)
 
       stays : (y : ℕ) → x < y → OfBoth (HasAction a) (worldAt n q l y .images i)
       unfolding started

@@ -13,6 +13,7 @@ use Rattle.replication.specs.Machine.Types.{Server, taken}
 use Rattle.replication.specs.Machine.Colours.{cut}
 use Rattle.replication.specs.Machine.Requests.{madeOf}
 use Rattle.replication.specs.Machine.Step.{step}
+use Rattle.replication.specs.Machine.White.{full, sievedRecord}
 use Rattle.replication.specs.Machine.WellFormed.{idsIn, queue, wellFormed}
 use Rattle.replication.specs.Images.{Images, started, isRecovery, sourceOf, arrive, leftBy, lived}
 use Rattle.replication.specs.Laws.Images.{OfBoth, next}
@@ -24,14 +25,15 @@ use Rattle.replication.specs.Runs.Requests.{HasId, TakesRequest, Nothing
 use Rattle.replication.proofs.Step.Inversion.{taken-by}
 use Rattle.replication.proofs.Step.Moves.{moved}
 use Rattle.replication.proofs.Step.Growth.{taken-grows}
-use Rattle.replication.proofs.Step.Identity.{identity-kept}
-use Rattle.replication.proofs.Step.OwnActions.{request-own}
+use Rattle.replication.proofs.Step.Identity.{taken-identity}
+use Rattle.replication.proofs.Step.OwnActions.{own-raised, request-own}
 use Rattle.replication.proofs.Step.Lifts.{lived-each}
 use Rattle.replication.proofs.WellFormed.Clauses.{WellFormed}
 use Rattle.replication.proofs.WellFormed.Facts.{well-formed-facts}
 use Rattle.replication.proofs.WellFormed.Ids.{counted-has, has-member}
 use Rattle.replication.proofs.WellFormed.Logs.{ownId}
-use Rattle.replication.proofs.WellFormed.Steps.{step-well-formed}
+use Rattle.replication.proofs.WellFormed.Steps.{step-well-formed, step-log-kept}
+use Rattle.replication.proofs.WellFormed.Whole.{HeldOf, enter-held, held-held}
 use Rattle.replication.proofs.Runs.Shifts.{says-same}
 use Rattle.replication.proofs.Runs.LogActions.{each-of}
 
@@ -43,12 +45,12 @@ pub record WasNumbered (d : Id) (s : Server) : Type 0 where
   pub least : 1 ≤ d .index
   pub most : d .index ≤ s .log .numbered
 
-module _ (d : Id) (s : Server) (f : WellFormed s) (w : WasNumbered d s) where
+module _ (d : Id) (s : Server) (f : WellFormed s) (w : WasNumbered d s) (there : HeldOf (s .servers) d (s .log)) where
   held : d .index ≤ cut (s .log) (s .me) → HasId d s
   held h =
       R.entered
       (has-member d (idsIn (queue (s .log)))
-      (counted-has d (idsIn (queue (s .log))) (f .held-to-cuts .entered d (w .least) (omega (arith, h, ap (cut (s .log)) (w .creator))))))
+      (counted-has d (idsIn (queue (s .log))) (there .held (omega (arith, h, ap (cut (s .log)) (w .creator))))))
 
   listed : cut (s .log) (s .me) < d .index → HasId d s
   listed h =
@@ -83,17 +85,17 @@ module _ {i : Images} {e p : List ℕ} {t : Server} {rs : List (List ℕ)} {b : 
   from-memory = ap (λ r. step (pick (isRecovery r) (i .store) (i .memory)) e) (sym (x .reads)) ∙ x .takes
 
   pub answers : Answers (i .memory) t p b
+  unfolding sievedRecord
   answers =
       let d = taken-by (i .memory) e t rs b g from-memory in
       let same : d .event ≡ request p = says-same (sym (d .reads) ∙ x .reads) in
-      let m : Transition (i .memory) (request p) t (d .records) b = subst (λ r. Transition (i .memory) r t (d .records) b) same (moved d .0) in
-      record { stores = request-stores m; own = request-own m }
+      let m : Transition (i .memory) (request p) (d .core) (d .records) b = subst (λ r. Transition (i .memory) (sievedRecord (full (d .rule) (i .memory)) r) (d .core) (d .records) b) same (moved d .0) in
+      record { stores = request-stores m; own = subst (λ u. Own (i .memory) u (madeOf p (i .memory))) (sym (d .raise)) (own-raised _ (request-own m)) }
 
   pub numbered-by : WasNumbered (madeOf p (i .memory) .id) t
   numbered-by =
       let o = answers .own in
-      let d = taken-by (i .memory) e t rs b g from-memory in
-      record { creator = o .creator ∙ sym (identity-kept (i .memory) (moved d .0) .me); least = omega (arith, o .above); most = o .within }
+      record { creator = o .creator ∙ sym (taken-identity (i .memory) e t rs b g from-memory .me); least = omega (arith, o .above); most = o .within }
 
   -- Both images are then what it left.
   pub stored-next : next i e ≡ started t
@@ -102,22 +104,33 @@ module _ {i : Images} {e p : List ℕ} {t : Server} {rs : List (List ℕ)} {b : 
 
 -- ---- over any events
 
--- A well-formed state that has numbered d.
+-- A well-formed state that has numbered d and, if it entered it, holds it.
 abbrev Has : Id → Server → Type 0
-Has d s = (wellFormed s ≡ true) × WasNumbered d s
+Has d s = (wellFormed s ≡ true) × WasNumbered d s × HeldOf (s .servers) d (s .log)
+
+held-kept : (d : Id) (s : Server) (e : List ℕ) (t : Server) (bs : List (List ℕ)) (b : Bool) (g : List Action) → step s e ≡ taken t bs b g → wellFormed s ≡ true
+    → HeldOf (s .servers) d (s .log) → HeldOf (t .servers) d (t .log)
+held-kept d s e t bs b g h w f =
+    subst (λ n. HeldOf n d (t .log)) (sym (taken-identity s e t bs b g h .servers))
+    (step-log-kept s e t bs b g (HeldOf (s .servers) d) (enter-held (s .servers) d) (held-held (s .servers) d) (well-formed-facts s w) (taken-by s e t bs b g h) f)
 
 has-kept : (d : Id) (s : Server) (e : List ℕ) (t : Server) (bs : List (List ℕ)) (b : Bool) (g : List Action) → step s e ≡ taken t bs b g → Has d s → Has d t
-has-kept d s e t bs b g h (w, n) = (
+has-kept d s e t bs b g h (w, n, f) = (
   step-well-formed s e t bs b g w h,
   record {
-    creator = n .creator ∙ sym (identity-kept s (moved (taken-by s e t bs b g h) .0) .me);
+    creator = n .creator ∙ sym (taken-identity s e t bs b g h .me);
     least = n .least;
     most = omega (arith, n .most, taken-grows s e t bs b g h .numbers);
   },
+  held-kept d s e t bs b g h w f,
 )
 
 has-there : (d : Id) (s : Server) → Has d s → HasId d s
-has-there d s (w, n) = numbered-there d s (well-formed-facts s w) n
+has-there d s (w, n, f) = numbered-there d s (well-formed-facts s w) n f
+
+-- What is not numbered is not entered.
+not-yet : (d : Id) (s : Server) → WellFormed s → d .creator ≡ s .me → s .log .numbered < d .index → HeldOf (s .servers) d (s .log)
+not-yet d s f e h = record { long = f .log .cuts-length; held = λ k. absurd (omega (arith, f .own-list .numbered, ap (cut (s .log)) e, k)) }
 
 pub nothing-lost : NothingLost
 unfolding NothingLost started
@@ -133,7 +146,11 @@ nothing-lost s w es fs e p t rs b g x = (answers x .stores, record { memory = ha
     before = lived-each (λ u. wellFormed u ≡ true) (λ u f v bs c h k z. step-well-formed u f v bs c h z k) (started s) es (record { memory = w; store = w })
 
     made : Has d t
-    made = (step-well-formed (i .memory) e t rs b g (before .memory) (from-memory x), numbered-by x)
+    made = (
+      step-well-formed (i .memory) e t rs b g (before .memory) (from-memory x),
+      numbered-by x,
+      held-kept d (i .memory) e t rs b g (from-memory x) (before .memory) (not-yet d (i .memory) (well-formed-facts (i .memory) (before .memory)) (answers x .own .creator) (answers x .own .above)),
+    )
 
     after : OfBoth (Has d) (lived (next i e) fs)
     after = subst (λ j. OfBoth (Has d) (lived j fs)) (sym (stored-next x)) (lived-each (Has d) (has-kept d) (started t) fs (record { memory = made; store = made }))

@@ -14,12 +14,11 @@ use Rattle.base.proofs.Gathered.{at-either}
 use Rattle.format.specs.Types.{Action, Record, Context, action, says}
 use Rattle.format.specs.Read.{read}
 use Rattle.format.specs.Write.{write}
-use Rattle.replication.specs.Machine.Types.{Server, Outcome, refused, taken}
+use Rattle.replication.specs.Machine.Types.{Server, Outcome, refused, taken, withWhite}
 use Rattle.replication.specs.Machine.Step.{step}
-use Rattle.replication.specs.Machine.WellFormed.{wellFormed, idsIn, queue}
-use Rattle.replication.specs.Machine.Colours.{cut}
-use Rattle.replication.specs.Machine.WellFormedRanges.{idCount}
-use Rattle.replication.proofs.WellFormed.Ids.{each-counted}
+use Rattle.replication.specs.Machine.WellFormed.{wellFormed, idsIn}
+use Rattle.replication.specs.Machine.Colours.{cut, placesOf}
+use Rattle.replication.specs.Machine.White.{whiteAfter}
 use Rattle.replication.specs.Images.{Images, started, sourceOf, arrive, leftBy, savedIn, lived}
 use Rattle.replication.specs.Laws.Images.{OfBoth, next}
 use Rattle.replication.specs.Laws.Order.{SameServer, SameControl}
@@ -29,10 +28,10 @@ use Rattle.replication.specs.Runs.Requests.{putOutOver, PutsAction, OneT
 use Rattle.replication.proofs.Step.Inversion.{taken-by}
 use Rattle.replication.proofs.Step.Moves.{moved}
 use Rattle.replication.proofs.Step.Growth.{transition-grows}
-use Rattle.replication.proofs.Step.Identity.{identity-kept}
+use Rattle.replication.proofs.Step.Identity.{taken-identity}
 use Rattle.replication.proofs.Step.Sending.{puts-out}
 use Rattle.replication.proofs.Step.OwnActions.{own-sent}
-use Rattle.replication.proofs.Step.Lifts.{source-of, next-each, next-pair}
+use Rattle.replication.proofs.Step.Lifts.{source-of, next-each, next-pair, lived-each}
 use Rattle.replication.proofs.Step.Control.{control-refl, control-trans, unstored-control}
 use Rattle.replication.proofs.WellFormed.Facts.{well-formed-facts}
 use Rattle.replication.proofs.WellFormed.Steps.{step-well-formed}
@@ -40,6 +39,7 @@ use Rattle.replication.proofs.WellFormed.OwnList.{OwnId, own-ids}
 use Rattle.replication.proofs.WellFormed.Reads.{put-out-reads, taken-put-out}
 use Rattle.replication.proofs.Runs.Shifts.{says-same}
 use Rattle.replication.proofs.Runs.LogActions.{each-in}
+use Rattle.replication.proofs.Runs.EnteredSince.{Since, since-itself, since-kept, entered-within}
 use Rattle.replication.proofs.Runs.RequestsOrder.{sent-order, sent-rises}
 
 -- ---- records put out, as bytes
@@ -110,7 +110,7 @@ module _ (s : Server) where
 
   pub good-kept : (u : Server) (e : List ℕ) (t : Server) (bs : List (List ℕ)) (b : Bool) (g : List Action) → step u e ≡ taken t bs b g → Good u → Good t
   good-kept u e t bs b g h (w, i) =
-      let k = identity-kept u (moved (taken-by u e t bs b g h) .0) in
+      let k = taken-identity u e t bs b g h in
       (step-well-formed u e t bs b g w h, record { servers = k .servers ∙ i .servers; quota = k .quota ∙ i .quota; me = k .me ∙ i .me })
 
   module _ (u : Server) (e : List ℕ) (t : Server) (bs : List (List ℕ)) (b : Bool) (g : List Action) (h : step u e ≡ taken t bs b g) (v : Good u) where
@@ -127,26 +127,32 @@ module _ (s : Server) where
         let same : y .0 ≡ action a = says-same (sym w ∙ ap (read (r .reader)) (sym (y .2)) ∙ r .reads) in
         y .1 ∙ ap some same
 
-    own-id : (a : Action) → List·Memᴰ (action a) rs → OwnId (t .me) (t .log) (a .id)
+    abbrev core : Server
+    core = taken-by u e t bs b g h .core
+
+    good-core : Good (withWhite (whiteAfter (taken-by u e t bs b g h .rule) u core) core)
+    good-core = subst Good (taken-by u e t bs b g h .raise) (good-kept u e t bs b g h v)
+
+    own-id : (a : Action) → List·Memᴰ (action a) rs → OwnId (core .me) (core .log) (a .id)
     own-id a k =
         let o = puts-out u (moved (taken-by u e t bs b g h) .0) in
-        each-in (λ x. OwnId (t .me) (t .log) (x .id)) (t .log .own) (own-ids (t .me) (t .log) (well-formed-facts t (good-kept u e t bs b g h v .0) .own-list)) a (own-sent o a k .0 .listed)
+        each-in (λ x. OwnId (core .me) (core .log) (x .id)) (core .log .own) (own-ids (core .me) (core .log) (well-formed-facts _ (good-core .0) .own-list)) a (own-sent o a k .0 .listed)
 
     event-in-order : InOrder (u .log .sent) (t .log .sent) bs
     event-in-order =
         let d = taken-by u e t bs b g h in
         let m = moved d .0 in
         let o = puts-out u m in
-        let f = well-formed-facts t (good-kept u e t bs b g h v .0) in
-        let i = good-kept u e t bs b g h v .1 in
-        record {
+        let f = well-formed-facts _ (good-core .0) in
+        let i = good-core .1 in
+        subst (λ w. InOrder (u .log .sent) (w .log .sent) bs) (sym (d .raise)) (record {
           rises = sent-rises o (well-formed-facts u (v .0) .log .sent) (transition-grows m .numbers);
           creator = λ j x a p r. own-id a (at-among rs j _ (meant j x a p r)) .creator ∙ i .me;
           above = λ j x a p r. own-sent o a (at-among rs j _ (meant j x a p r)) .0 .above (well-formed-facts u (v .0) .log .sent);
           within = λ j x a p r.
               let k = at-among rs j _ (meant j x a p r) in omega (arith, own-id a k .within, own-sent o a k .0 .sent);
           order = λ j k x y a c less p q r w. sent-order o (f .own-list) j k a c less (meant j x a p r) (meant k y c q w);
-        }
+        })
 
   -- ---- over any events
 
@@ -182,17 +188,17 @@ module _ (s : Server) where
 
   -- ---- what is put out is not entered
 
-  not-entered : (i : Images) (e : List ℕ) → Sound i → (o : Outcome (List ℕ)) → arrive i e ≡ o → (j : ℕ) (x : List ℕ) (a : Action)
-      → at (recordsOf o) j ≡ some x → ReadsAs x a → List·Memᴰ (a .id) (idsIn (queue ((leftBy o i) .memory .log))) → ⊥
+  not-entered : wellFormed s ≡ true → (i : Images) (e : List ℕ) → Sound i → OfBoth (Since s) i → (o : Outcome (List ℕ)) → arrive i e ≡ o
+      → (j : ℕ) (x : List ℕ) (a : Action) → at (recordsOf o) j ≡ some x → ReadsAs x a
+      → List·Memᴰ (a .id) (idsIn (placesOf (s .white) ((leftBy o i) .memory .log))) → ⊥
   unfolding arrive leftBy recordsOf at
-  not-entered i e v (refused k) h j x a p r m = none-some p
-  not-entered i e v (taken t bs b g) h j x a p r m =
+  not-entered f i e v since (refused k) h j x a p r m = none-some p
+  not-entered f i e v since (taken t bs b g) h j x a p r m =
       let w = source-of Good i e (v .both .store) (v .both .memory) in
       let y = own-id (sourceOf i e) e t bs b g h w a (at-among (rs (sourceOf i e) e t bs b g h w) j _ (meant (sourceOf i e) e t bs b g h w j x a p r)) in
-      let f = well-formed-facts t (good-kept (sourceOf i e) e t bs b g h w .0) in
-      let ids = idsIn (queue (t .log)) in
-      let k = f .held-to-cuts .within (a .id) (each-in (λ d. 1 ≤ idCount d ids) ids (each-counted ids) (a .id) m) in
-      omega (arith, y .above, k, ap (cut (t .log)) (y .creator))
+      let k = entered-within s f t (since-kept s (sourceOf i e) e t bs b g h (source-of (Since s) i e (since .store) (since .memory))) (a .id) m in
+      let c = taken-by (sourceOf i e) e t bs b g h .raise in
+      omega (arith, y .above, k, ap (λ u. cut (u .log) (a .id .creator)) c, ap (cut (core (sourceOf i e) e t bs b g h w .log)) (y .creator))
 
   sound-lived : (i : Images) (es : List (Option (List ℕ))) → Sound i → Sound (lived i es)
   unfolding lived next
@@ -216,4 +222,5 @@ unfolding EnteredNotSent started next
 entered-not-sent s w es e j x c a p q r m =
     let good : Good s s = (w, record { servers = refl; quota = refl; me = refl }) in
     let v = sound-lived s (started s) es (record { both = record { memory = good; store = good }; control = control-refl s }) in
-    not-entered s (lived (started s) es) e v (arrive (lived (started s) es) e) refl j x a p (record { reader = c; peer = q; reads = r }) m
+    let since = lived-each (Since s) (since-kept s) (started s) es (record { memory = since-itself s w; store = since-itself s w }) in
+    not-entered s w (lived (started s) es) e v since (arrive (lived (started s) es) e) refl j x a p (record { reader = c; peer = q; reads = r }) m

@@ -1,6 +1,6 @@
 -- Where requests are sent, nothing waits: what leads there sends all, and what comes there numbers none that is not sent at once.
 use Prim.Native.Nat.{ℕ, zero, suc, _-_, _≤_}
-use mathlib.Core.Path.{_≡_, refl, sym, ap, _∙_}
+use mathlib.Core.Path.{_≡_, refl, sym, ap, subst, _∙_}
 use mathlib.Core.Bool.{Bool, true, false}
 use mathlib.Core.List.{List, [], _∷_}
 use mathlib.Core.Logic.{_⊎_, inl, inr}
@@ -15,11 +15,12 @@ use Rattle.replication.specs.Machine.Colours.{cut}
 use Rattle.replication.specs.Machine.Install.{install}
 use Rattle.replication.specs.Machine.Requests.{inRegular, sendsIn, sendsNow, numbered, waiting, sendWaiting, recovered}
 use Rattle.replication.specs.Machine.Step.{entering, decided, attempting, withState, resending, oneMore, exchanged, withCpc, leave, greenAndNote, step}
+use Rattle.replication.specs.Machine.White.{full, sievedRecord}
 use Rattle.replication.specs.Machine.WellFormed.{wellFormed}
 use Rattle.replication.specs.Images.{started}
 use Rattle.replication.specs.Laws.Order.{SameNumbers}
 use Rattle.replication.specs.Laws.Transitions as L
-use Rattle.replication.specs.Laws.Transitions.{Ends, Leads, Transition}
+use Rattle.replication.specs.Laws.Transitions.{Ends, Leads, Transition, TakenBy}
 use Rattle.replication.specs.Runs.Requests.{NothingWaits, SentOnReaching}
 use Rattle.replication.proofs.Step.Control.{yellow-membership}
 use Rattle.replication.proofs.Step.Growth.{transition-grows}
@@ -112,16 +113,20 @@ Sending s = (wellFormed s ≡ true) × (sendsNow (s .membership) ≡ true → Al
 
 sending-kept : (s : Server) (e : List ℕ) (t : Server) (bs : List (List ℕ)) (b : Bool) (g : List Action) → step s e ≡ taken t bs b g → Sending s → Sending t
 unfolding cut
-sending-kept s e t bs b g h (ok, f) = (step-well-formed s e t bs b g ok h, λ z. go (reaches x z))
+sending-kept s e t bs b g h (ok, f) =
+    (step-well-formed s e t bs b g ok h, subst (λ u. sendsNow (u .membership) ≡ true → AllOut u) (sym (y .raise)) (λ z. go (reaches x z)))
   where
-    x : Transition s (taken-by s e t bs b g h .event) t (taken-by s e t bs b g h .records) b
-    x = moved (taken-by s e t bs b g h) .0
+    y : TakenBy s e t bs b g
+    y = taken-by s e t bs b g h
 
-    kept : AllOut s → SameNumbers (s .log) (t .log) → AllOut t
+    x : Transition s (sievedRecord (full (y .rule) s) (y .event)) (y .core) (y .records) b
+    x = moved y .0
+
+    kept : AllOut s → SameNumbers (s .log) (y .core .log) → AllOut (y .core)
     kept (inl a) n = inl (omega (arith, n .numbered, n .sent))
-    kept (inr a) n = inr (omega (arith, n .numbered, transition-grows x .cuts (s .me), ap (cut (t .log)) (identity-kept s x .me)))
+    kept (inr a) n = inr (omega (arith, n .numbered, transition-grows x .cuts (s .me), ap (cut (y .core .log)) (identity-kept s x .me)))
 
-    go : Reaches s t → AllOut t
+    go : Reaches s (y .core) → AllOut (y .core)
     go (inr y) = inl y
     go (inl y) = kept (f (y .0)) (y .1)
 

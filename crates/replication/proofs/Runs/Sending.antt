@@ -9,7 +9,7 @@ use Rattle.base.specs.Tests.{_and_}
 use Rattle.base.proofs.TestLaws.{not-both}
 use Rattle.base.specs.Lists.{at, isThere}
 use Rattle.base.proofs.AtLaws.{none-some, some-same, at-in-take, at-map}
-use Rattle.format.specs.Types.{Record, regular, transitional, says}
+use Rattle.format.specs.Types.{Record, regular, says}
 use Rattle.format.specs.Write.{write}
 use Rattle.replication.specs.Machine.Types.{Mode, Reg-prim, Exchange-states, Exchange-actions, Construct, Configuration, Server}
 use Rattle.replication.specs.Machine.Install.{install}
@@ -21,7 +21,7 @@ use Rattle.replication.specs.Laws.Transitions as L
 use Rattle.replication.specs.Laws.Transitions.{Ends, Transition}
 use Rattle.replication.specs.Runs.Run.{Entry, event, crash, store, Run, placeAt, heardAt, putOut, sentAt}
 use Rattle.replication.specs.Runs.Happenings.{Comes, Takes}
-use Rattle.replication.specs.Runs.Allowed.{Allowed}
+use Rattle.replication.proofs.Runs.Roomy.{Roomy as Allowed}
 use Rattle.replication.proofs.Step.Apart.{sends-in}
 use Rattle.replication.proofs.Runs.Places.{event-not-store, sent-by-store, event-entry, event-not-crash, of-event, sent-at, sent-past, sent-by-crash}
 use Rattle.replication.proofs.Runs.Shifts.{says-same, comes-once, comes-of, crash-says-nothing}
@@ -116,7 +116,7 @@ module _ {n q : ℕ} {l : Run} (A : Allowed n q l) where
       (λ x.
       let s = coupled A p i (x .up) in
       regular-taken _ _ _ (x .number) (standing n q l i p .memory)
-      (λ y. A .between p i c (y .configuration) t (sym (ap (λ w. w .regular) s) ∙ y .there) (sym (ap (λ w. w .transitional) s) ∙ y .none-after))
+      (λ y. A .allowed .between p i c (y .configuration) t (sym (ap (λ w. w .regular) s) ∙ y .there) (sym (ap (λ w. w .transitional) s) ∙ y .none-after))
       (answer-refused _ (x .bytes) _ (x .number) (x .refusal) (x .reads ∙ refused-change p i _ t x)))
 
   -- ---- what is sent

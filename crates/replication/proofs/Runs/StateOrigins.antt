@@ -12,14 +12,14 @@ use lib.Seq.{getD-set-same, getD-set-other, set-out}
 use Rattle.base.specs.Lists.{at}
 use Rattle.base.proofs.AtLaws.{none-some, some-same, at-among}
 use Rattle.base.specs.Sets.{inSet}
-use Rattle.format.specs.Types.{State, Record, state, regular}
+use Rattle.format.specs.Types.{State, Record, state}
 use Rattle.replication.specs.Machine.Types.{Configuration, Membership, noStates}
 use Rattle.replication.specs.Machine.Step.{ownState}
 use Rattle.replication.proofs.WellFormed.SentFacts.{senderOf}
 use Rattle.replication.specs.Laws.Sending.{PutsOut}
 use Rattle.replication.specs.Runs.Run.{Run, placeAt}
 use Rattle.replication.specs.Runs.Happenings.{isMessage, Comes, Takes}
-use Rattle.replication.specs.Runs.Allowed.{Allowed}
+use Rattle.replication.proofs.Runs.Roomy.{Roomy as Allowed}
 use Rattle.replication.proofs.Step.Kinds.{state-sent}
 use Rattle.replication.proofs.Step.Sending.{puts-out}
 use Rattle.replication.proofs.Runs.Deliveries.{Delivery}
@@ -104,6 +104,7 @@ module _ {n q : ℕ} {l : Run} (A : Allowed n q l) where
 
   -- A State is put out on entering a configuration, and is the own one.
   pub state-entered : {v k j : ℕ} {c : Configuration} {x : State} → Puts A v k j c (state x) → Entered v k c x × (j ≡ 0)
+  unfolding ownState
   state-entered {v} {k} {j} {c} {x} u =
       let h = state-sent (puts-by u) x (puts-among u) in
       let e : h .entered ≡ c = some-same (sym (h .there) ∙ puts-configuration u) in (
@@ -118,7 +119,7 @@ module _ {n q : ℕ} {l : Run} (A : Allowed n q l) where
   pub record Came (p i : ℕ) (c : Configuration) (r : Record) : Type 0 where
     pub place : ℕ
     pub earlier : place < p
-    pub delivery : Delivery A place i (A .source place)
+    pub delivery : Delivery A place i (A .allowed .source place)
     pub what : delivery .what ≡ r
     pub here : placeAt n q l i place .regular ≡ some c
 
@@ -145,11 +146,11 @@ module _ {n q : ℕ} {l : Run} (A : Allowed n q l) where
       let w = some-same (sym (o .here) ∙ x .here) in
       record {
         sender = o .sender;
-        sending = A .source (x .place) .sending;
-        number = A .source (x .place) .number;
+        sending = A .allowed .source (x .place) .sending;
+        number = A .allowed .source (x .place) .number;
         puts =
-            subst (λ y. Puts A (A .source (x .place) .sending) (o .sender) (A .source (x .place) .number) y r) w
-            (subst (λ y. Puts A (A .source (x .place) .sending) (o .sender) (A .source (x .place) .number) (o .configuration) y) (x .what) (o .puts));
+            subst (λ y. Puts A (A .allowed .source (x .place) .sending) (o .sender) (A .allowed .source (x .place) .number) y r) w
+            (subst (λ y. Puts A (A .allowed .source (x .place) .sending) (o .sender) (A .allowed .source (x .place) .number) (o .configuration) y) (x .what) (o .puts));
         earlier = omega (arith, o .earlier, x .earlier);
         named = ap senderOf (sym (x .what)) ∙ o .named;
         member = subst (λ y. inSet (o .sender) (y .set) ≡ true) w (o .member);

@@ -9,9 +9,8 @@ use Rattle.format.specs.Types.{regular}
 use Rattle.replication.specs.Machine.Types.{Configuration, Membership}
 use Rattle.replication.specs.Runs.Run.{Run, nowhere, worldAt, placeAt}
 use Rattle.replication.specs.Runs.Happenings.{isMessage, Comes, Falls, by-crash, by-recovery, Takes}
-use Rattle.replication.specs.Runs.Allowed.{Allowed}
+use Rattle.replication.proofs.Runs.Roomy.{Roomy as Allowed}
 use Rattle.replication.proofs.Runs.Places.{place-at-start}
-use Rattle.replication.proofs.Runs.Turns as T
 use Rattle.replication.proofs.Runs.Shifts as S
 use Rattle.replication.proofs.Runs.Numbers.{numbers}
 use Rattle.replication.proofs.Runs.Coupling.{coupled}
@@ -86,7 +85,7 @@ module _ {n q : ℕ} {l : Run} (A : Allowed n q l) where
   pub acts-membership : (p i : ℕ) (x : Acts n q l p i) → MembershipStep n (membershipAt n q l p i) (x .by .event) (membershipAt n q l (suc p) i)
   acts-membership p i x =
       subst (λ k. MembershipStep k (membershipAt n q l p i) (x .by .event) (membershipAt n q l (suc p) i)) (numbers n q i l p .memory .servers)
-      (subst (λ s. MembershipStep _ (membershipAt n q l p i) (x .by .event) (s .membership)) (sym (x .memory-next)) (membership-step _ (x .moves)))
+      (subst (λ s. MembershipStep (memoryAt n q l p i .servers) (membershipAt n q l p i) (x .by .event) (s .membership)) (sym (x .memory-next)) (membership-step _ (x .moves)))
 
   -- Taking c enters it.
   pub entering-membership : (p i : ℕ) (c : Configuration) → Takes n q l p i c

@@ -1,5 +1,5 @@
 -- A run with strays and the run without them pass through the same worlds: what holds at every place of the one holds at every place of the other.
-use Prim.Native.Nat.{ℕ, zero, suc, _≤_}
+use Prim.Native.Nat.{ℕ, zero, suc, _+_, _≤_}
 use mathlib.Core.Path.{_≡_, refl, sym, ap, subst, subst₂, _∙_}
 use mathlib.Core.Bool.{Bool, true, false}
 use mathlib.Core.List.{List, [], _∷_}
@@ -64,6 +64,16 @@ kept-stray s p h = rw h
 kept-other : (s : ℕ → Bool) (p : ℕ) → s 0 ≡ false → kept s (suc p) ≡ suc (kept (next s) p)
 unfolding kept pick
 kept-other s p h = rw h
+
+-- A stray leaves the place, another entry leads to the next one.
+pub kept-next : (s : ℕ → Bool) (p : ℕ) → kept s (suc p) ≡ kept s p + pick (s p) 0 1
+unfolding kept
+kept-next s zero = omega arith
+kept-next s (suc p) = go (known (s 0)) (kept-next (next s) p)
+  where
+    go : Known (s 0) → kept (next s) (suc p) ≡ kept (next s) p + pick (s (suc p)) 0 1 → kept s (suc (suc p)) ≡ kept s (suc p) + pick (s (suc p)) 0 1
+    go (holds e) a = omega (arith, kept-stray s (suc p) e, kept-stray s p e, a)
+    go (fails e) a = omega (arith, kept-other s (suc p) e, kept-other s p e, a)
 
 without-stray : (s : ℕ → Bool) (x : Entry) (l : Run) → s 0 ≡ true → without s (x ∷ l) ≡ without (next s) l
 unfolding without unless

@@ -1,13 +1,12 @@
 -- The control part (last primary, attempt, mark, numbered, sent) changes only in events that store, so memory and store agree on it.
 use Prim.Native.Nat.{ℕ}
-use mathlib.Core.Path.{_≡_, refl, ap, _∙_}
+use mathlib.Core.Path.{_≡_, refl, sym, ap, subst, _∙_}
 use mathlib.Core.Bool.{false}
 use mathlib.Core.List.{List}
 use mathlib.Core.Option.{Option}
 use Rattle.format.specs.Types.{Action, Record}
-use Rattle.replication.specs.Machine.Types.{Server, taken}
+use Rattle.replication.specs.Machine.Types.{Server, taken, withWhite}
 use Rattle.replication.specs.Machine.Colours.{enter, joinYellow, yellow}
-use Rattle.replication.specs.Machine.Requests.{numbered}
 use Rattle.replication.specs.Machine.Step.{withState, resending, oneMore, exchanged, withCpc, leave, greenAndNote, step}
 use Rattle.replication.specs.Images.{started, lived}
 use Rattle.replication.specs.Laws.Transitions as L
@@ -54,9 +53,12 @@ unstored-keeps {s} (L.countsLate k i e c) = same refl (same-numbers _)
 unstored-keeps {s} (L.countsAllLate k i e c) = same refl (same-numbers _)
 unstored-keeps {s} (L.leaves m n x e q) = same refl (same-numbers _)
 
+pub control-raised : {s t : Server} (w : ℕ) → SameControl s t → SameControl s (withWhite w t)
+control-raised w k = record { last = k .last; attempt = k .attempt; mark = k .mark; numbered = k .numbered; sent = k .sent }
+
 -- An event that does not store leaves the control part.
 pub unstored-control : (s : Server) (e : List ℕ) (t : Server) (bs : List (List ℕ)) (g : List Action) → step s e ≡ taken t bs false g → SameControl s t
-unstored-control s e t bs g h = unstored-keeps (moved (taken-by s e t bs false g h) .0)
+unstored-control s e t bs g h = let x = taken-by s e t bs false g h in subst (λ u. SameControl s u) (sym (x .raise)) (control-raised _ (unstored-keeps (moved x .0)))
 
 -- ---- over a run
 

@@ -1,14 +1,15 @@
 -- With no red action, greening appends the action if it is entered; yellowing adds its id if it is entered: one fold over the delivered actions.
-use Prim.Native.Nat.{ℕ}
+use Prim.Native.Nat.{ℕ, _*_, _<_}
 use mathlib.Core.Path.{_≡_, refl, sym, ap, _∙_}
 use mathlib.Core.Bool.{true, false}
 use mathlib.Core.List.{List, [], _∷_, _++_, append-nil}
 use mathlib.Core.Option.{some}
 use Rattle.base.specs.Tests.{pick}
-use Rattle.base.proofs.TestLaws.{Known, holds, fails, known}
+use lib.ListN.{length}
+use Rattle.base.proofs.TestLaws.{lt-yes, Known, holds, fails, known}
 use Rattle.format.specs.Types.{Action}
 use Rattle.replication.specs.Machine.Types.{Log, Server}
-use Rattle.replication.specs.Machine.Colours.{find, remove, cut, nextIndex, isNext, enter, red, promote, promoteFound, greenId, green, joinYellow, yellow}
+use Rattle.replication.specs.Machine.Colours.{find, remove, cut, nextIndex, isNext, enter, promote, promoteFound, greenId, green, addWithin, joinYellow, yellow}
 use Rattle.replication.specs.Laws.Folds.{follows, cutsWith, cutsAfter, entered, addIds, Greened, Yellowed}
 use Rattle.replication.proofs.Step.Logs.{red-entered, red-ignored, yellow-as}
 use Rattle.replication.proofs.WellFormed.Ids.{same-id-yes}
@@ -49,13 +50,17 @@ green-one a l r = go (known (isNext l a))
         let f : follows (l .cuts) a ≡ false = sym (next-follows l a) ∙ e in
         rw (green-ignored a l r e) (record { green = rw f (sym (append-nil (l .green))); red = r; cuts = rw f })
 
-pub yellow-one : (a : Action) (s : Server) → Yellowed (a ∷ []) s (yellow a s)
-unfolding joinYellow addIds enter entered cutsAfter cutsWith pick
-yellow-one a s =
+-- If it is entered, the yellow list has room for its id.
+abbrev pub YellowRoom : Server → Action → Type 0
+YellowRoom s a = isNext (s .log) a ≡ true → length (s .votes .yellow .ids) < s .servers * s .quota
+
+pub yellow-one : (a : Action) (s : Server) → YellowRoom s a → Yellowed (a ∷ []) s (yellow a s)
+unfolding joinYellow addWithin addIds enter entered cutsAfter cutsWith pick
+yellow-one a s room =
     yellow-as (Yellowed (a ∷ []) s) a s
     (λ e.
     let f : follows (s .log .cuts) a ≡ true = sym (next-follows (s .log) a) ∙ e in
-    record { ids = rw f; status = refl; green = refl; red = rw f; cuts = rw f })
+    record { ids = rw (f, lt-yes _ _ (room e)); status = refl; green = refl; red = rw f; cuts = rw f })
     (λ e.
     let f : follows (s .log .cuts) a ≡ false = sym (next-follows (s .log) a) ∙ e in
     record { ids = rw f; status = refl; green = refl; red = rw f (sym (append-nil _)); cuts = rw f })

@@ -1,15 +1,15 @@
 -- The number of servers, the quota and the own number never change.
 use Prim.Native.Nat.{ℕ}
-use mathlib.Core.Path.{_≡_, refl, _∙_}
+use mathlib.Core.Path.{_≡_, refl, sym, subst, _∙_}
 use mathlib.Core.Bool.{Bool}
 use mathlib.Core.List.{List}
 use mathlib.Core.Option.{Option}
 use Rattle.format.specs.Types.{Action, Record}
-use Rattle.replication.specs.Machine.Types.{Server}
+use Rattle.replication.specs.Machine.Types.{Server, taken}
 use Rattle.replication.specs.Machine.Colours.{yellow}
 use Rattle.replication.specs.Machine.Install.{install}
 use Rattle.replication.specs.Machine.Requests.{numbered, sendWaiting, recovered}
-use Rattle.replication.specs.Machine.Step.{entering, decided, attempting, withState, resending, oneMore, exchanged, withCpc, leave, greenAndNote}
+use Rattle.replication.specs.Machine.Step.{entering, decided, attempting, withState, resending, oneMore, exchanged, withCpc, leave, greenAndNote, step}
 use Rattle.replication.specs.Images.{started, lived}
 use Rattle.replication.specs.Laws.Transitions as L
 use Rattle.replication.specs.Laws.Transitions.{Ends, Transition}
@@ -60,11 +60,17 @@ module _ (s : Server) where
   identity-kept (L.numbers q c) = same refl refl refl
   identity-kept L.recovers = same refl refl refl
 
+pub taken-identity : (s : Server) (e : List ℕ) (t : Server) (bs : List (List ℕ)) (b : Bool) (g : List Action) → step s e ≡ taken t bs b g → SameServer s t
+taken-identity s e t bs b g h =
+    let x = taken-by s e t bs b g h in
+    let k = identity-kept s (moved x .0) in
+    subst (λ u. SameServer s u) (sym (x .raise)) (same (k .servers) (k .quota) (k .me))
+
 -- Every image of a server has the start's n, q and number.
 pub identity : (s : Server) (es : List (Option (List ℕ))) → OfBoth (SameServer s) (lived (started s) es)
 unfolding started
 identity s es =
     lived-each (SameServer s)
-    (λ u e t bs b g h p. let i = identity-kept u (moved (taken-by u e t bs b g h) .0) in
+    (λ u e t bs b g h p. let i = taken-identity u e t bs b g h in
     same (i .servers ∙ p .servers) (i .quota ∙ p .quota) (i .me ∙ p .me))
     (started s) es (record { memory = same refl refl refl; store = same refl refl refl })

@@ -9,9 +9,10 @@ use Rattle.base.specs.Tests.{_or_, pick}
 use Rattle.format.specs.Types.{Action, Record, Reading, says}
 use Rattle.format.specs.Read.{read}
 use Rattle.format.specs.Write.{write}
-use Rattle.replication.specs.Machine.Types.{Server, Outcome, refused, taken, contextOf}
+use Rattle.replication.specs.Machine.Types.{Server, Outcome, refused, taken, withWhite, contextOf}
 use Rattle.replication.specs.Machine.Rules.{Rule, ruleFor, possible, fromMember, isIgnored, withinQuota}
-use Rattle.replication.specs.Machine.Step.{applyRule, answer, onReading, inBytes, step}
+use Rattle.replication.specs.Machine.Step.{apply, applyRule, answer, onReading, inBytes, step}
+use Rattle.replication.specs.Machine.White.{full, sieved, whiteAfter, raised}
 use Rattle.replication.specs.Laws.Transitions.{TakenBy}
 
 -- A refusal is nothing taken.
@@ -24,6 +25,13 @@ passed : (c : Bool) (o : Outcome Record) (k : ℕ) (t : Server) (rs : List Recor
 unfolding pick
 passed true o k t rs b g e = (refl, e)
 passed false o k t rs b g e = not-taken e
+
+-- What a raised outcome is raised from.
+unraised : (k : Rule) (s : Server) (o : Outcome Record) (t : Server) (rs : List Record) (b : Bool) (g : List Action) → raised k s o ≡ taken t rs b g
+    → (u : Server) × (o ≡ taken u rs b g) × (t ≡ withWhite (whiteAfter k s u) u)
+unfolding raised
+unraised k s (refused j) t rs b g e = not-taken e
+unraised k s (taken u rs₁ b₁ g₁) t rs b g e = (u, cc, cc)
 
 as-records : (o : Outcome Record) (t : Server) (bs : List (List ℕ)) (b : Bool) (g : List Action) → inBytes o ≡ taken t bs b g
     → (rs : List Record) × (o ≡ taken t rs b g) × (bs ≡ map write rs)
@@ -40,7 +48,8 @@ module _ (s : Server) (e : List ℕ) (t : Server) (bs : List (List ℕ)) (b : Bo
       let x = passed (possible s r) _ 5 t rs b g h in
       let y = passed (isIgnored k or fromMember (s .membership) r) _ 6 t rs b g (x .1) in
       let z = passed (withinQuota s r) _ 3 t rs b g (y .1) in
-      record { event = r; rule = k; records = rs; reads = p; ruled = q; can = x .0; member = y .0; quota = z .0; applied = z .1; written = w }
+      let v = unraised k s (apply (sieved (full k s) k) s) t rs b g (z .1) in
+      record { event = r; rule = k; records = rs; reads = p; ruled = q; can = x .0; member = y .0; quota = z .0; core = v .0; applied = v .1; raise = v .2; written = w }
 
   by-reading : (x : Reading Record) → read (contextOf s) e ≡ x → inBytes (onReading s x) ≡ taken t bs b g → TakenBy s e t bs b g
   unfolding onReading answer

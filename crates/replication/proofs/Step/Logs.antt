@@ -1,5 +1,5 @@
 -- What every transition keeps of a log, once for all facts that entering, greening and numbering keep.
-use Prim.Native.Nat.{ℕ, _+_}
+use Prim.Native.Nat.{ℕ, _+_, _*_}
 use mathlib.Core.Path.{_≡_, refl, sym}
 use mathlib.Core.Bool.{Bool, true, false}
 use mathlib.Core.List.{List, [], _∷_}
@@ -33,7 +33,7 @@ red-ignored a l e = rw e
 
 -- Yellow, by cases.
 pub yellow-as : (P : Server → Type 0) (a : Action) (s : Server)
-    → (isNext (s .log) a ≡ true → P (withVotes (joinYellow (a .id) (s .votes)) (withLog (enter a (s .log)) s))) → (isNext (s .log) a ≡ false → P s) → P (yellow a s)
+    → (isNext (s .log) a ≡ true → P (withVotes (joinYellow (s .servers * s .quota) (a .id) (s .votes)) (withLog (enter a (s .log)) s))) → (isNext (s .log) a ≡ false → P s) → P (yellow a s)
 unfolding yellow
 yellow-as P a s entered ignored = pick-as P (isNext (s .log) a) _ s entered ignored
 

@@ -3,6 +3,10 @@ use mathlib.Core.Path.{_≡_, refl, sym, ap, subst, _∙_}
 use mathlib.Core.Bool.{Bool, true}
 use mathlib.Core.List.{List, [], _∷_, map, List·Memᴰ, List·Memᴰ·not-nil, List·Memᴰ·append-cases, Memᴰ·map}
 use mathlib.Core.Logic.{_⊎_, inl, inr}
+use Prim.Native.Nat.{_*_, _≤_}
+use native.Mathlib.Omega.{arith}
+use native.Mathlib.Nat.{mul-le-mul}
+use Rattle.base.specs.Lists.{Each}
 use Rattle.format.specs.Types.{Action, Yellow, Record}
 use Rattle.replication.specs.Machine.Types.{Mode, Non-prim, Reg-prim, Trans-prim, Exchange-states, Exchange-actions, Server, noYellow}
 use Rattle.replication.specs.Machine.Colours.{yellow}
@@ -15,12 +19,19 @@ use Rattle.replication.specs.Laws.Transitions.{Ends, Leads, Transition}
 use Rattle.replication.specs.Laws.Modes.{ColourFacts, ColourFactsOf}
 use Rattle.replication.specs.Laws.Folds.{entered, addIds, Yellowed}
 use Rattle.replication.proofs.Step.Control.{yellow-membership}
-use Rattle.replication.proofs.Step.Folds.{green-one, yellow-one}
+use Rattle.replication.proofs.Step.Folds.{green-one, YellowRoom, yellow-one}
+use Rattle.replication.proofs.WellFormed.Facts.{well-formed-facts}
+use Rattle.replication.proofs.Runs.LogActions.{carried}
 use Rattle.replication.proofs.Step.Yellows.{add-ids-keeps, add-ids-joins}
 use Rattle.replication.proofs.Step.Reds.{install-empties}
 use Rattle.replication.proofs.Step.Formed.{reds-differ, reds-within}
 
 -- ---- the colours
+
+pub two-places : (s : Server) → wellFormed s ≡ true → 2 ≤ s .servers * s .quota
+two-places s w =
+    let z = well-formed-facts s w .sizes in
+    omega (arith, mul-le-mul {n₁ = 2} {m₁ = 1} {n₂ = s .servers} {m₂ = s .quota} (z .fewest) (z .least))
 
 pub install-no-red : (s : Server) → wellFormed s ≡ true → (installLog (s .votes .yellow .ids) (s .log)) .red ≡ []
 install-no-red s w = install-empties (s .votes .yellow .ids) (s .log) (reds-differ s w) (reds-within s w)
@@ -58,33 +69,34 @@ module _ (s : Server) (formed : wellFormed s ≡ true) where
   end-colours t u rs (L.withQuorum q) = tt
   end-colours t u rs (L.withoutQuorum q) = tt
 
-  pub colour-facts-kept : {r : Record} {t : Server} {rs : List Record} {b : Bool} → Transition s r t rs b → ColourFactsOf s → ColourFactsOf t
+  pub colour-facts-kept : {r : Record} {t : Server} {rs : List Record} {b : Bool} → Transition s r t rs b
+      → (s .membership .mode ≡ Trans-prim → Each (YellowRoom s) (carried r)) → ColourFactsOf s → ColourFactsOf t
   unfolding greenAndNote install installVotes noYellow exchanged oneMore withState resending withCpc sendWaiting numbered entering leave recovered
-  colour-facts-kept (L.ignoresState x e) p = p
-  colour-facts-kept (L.ignoresCpc k i e) p = p
-  colour-facts-kept (L.reddens a e) p = back Non-prim _ _ e tt
-  colour-facts-kept (L.reddensResent k i a e) p = back Non-prim _ _ e tt
-  colour-facts-kept (L.reddensInExchange a e) p = back Exchange-states _ _ e tt
-  colour-facts-kept (L.greens a e) p = let q = at Reg-prim e p in back Reg-prim _ _ e (q .0, green-one a (s .log) (q .1) .red)
-  colour-facts-kept (L.yellows a e) p =
+  colour-facts-kept (L.ignoresState x e) room p = p
+  colour-facts-kept (L.ignoresCpc k i e) room p = p
+  colour-facts-kept (L.reddens a e) room p = back Non-prim _ _ e tt
+  colour-facts-kept (L.reddensResent k i a e) room p = back Non-prim _ _ e tt
+  colour-facts-kept (L.reddensInExchange a e) room p = back Exchange-states _ _ e tt
+  colour-facts-kept (L.greens a e) room p = let q = at Reg-prim e p in back Reg-prim _ _ e (q .0, green-one a (s .log) (q .1) .red)
+  colour-facts-kept (L.yellows a e) room p =
       let q = at Trans-prim e p in
-      rw (yellow-membership a s) (back Trans-prim _ _ e (yellow-covers s (yellow a s) (a ∷ []) (yellow-one a s) (q .0) (q .1)))
-  colour-facts-kept (L.installsLate a e) p =
-      yellow-covers (install s) (yellow a (install s)) (a ∷ []) (yellow-one a (install s)) refl (λ x m. absurd (List·Memᴰ·not-nil (rw (install-no-red s formed) at m)))
-  colour-facts-kept (L.exchanges k i a e c) p = back Exchange-actions _ _ e tt
-  colour-facts-kept (L.exchangesLast k i a u us e c x) p = end-colours (exchanged i a s) u us x
-  colour-facts-kept (L.collects x e c) p = p
-  colour-facts-kept (L.collectsLast x e c d) p = tt
-  colour-facts-kept (L.collectsWhole x u us e c d y) p = end-colours (withState x s) u us y
-  colour-facts-kept (L.counts k i e c) p = p
-  colour-facts-kept (L.installs k i e c) p = (refl, install-no-red s formed)
-  colour-facts-kept (L.countsLate k i e c) p = p
-  colour-facts-kept (L.countsAllLate k i e c) p = tt
-  colour-facts-kept (L.joins c e) p = tt
-  colour-facts-kept (L.joinsMarked c e) p = tt
-  colour-facts-kept (L.joinsUnmarked c e) p = tt
-  colour-facts-kept (L.joinsYellow c e) p = tt
-  colour-facts-kept (L.leaves m n x e q) p = leads-colours (s .votes .yellow) (s .log .red) q (at m e p)
-  colour-facts-kept (L.sends q c) p = p
-  colour-facts-kept (L.numbers q c) p = p
-  colour-facts-kept L.recovers p = tt
+      rw (yellow-membership a s) (back Trans-prim _ _ e (yellow-covers s (yellow a s) (a ∷ []) (yellow-one a s (room e .0)) (q .0) (q .1)))
+  colour-facts-kept (L.installsLate a e) room p =
+      yellow-covers (install s) (yellow a (install s)) (a ∷ []) (yellow-one a (install s) (λ h. omega (arith, two-places s formed))) refl (λ x m. absurd (List·Memᴰ·not-nil (rw (install-no-red s formed) at m)))
+  colour-facts-kept (L.exchanges k i a e c) room p = back Exchange-actions _ _ e tt
+  colour-facts-kept (L.exchangesLast k i a u us e c x) room p = end-colours (exchanged i a s) u us x
+  colour-facts-kept (L.collects x e c) room p = p
+  colour-facts-kept (L.collectsLast x e c d) room p = tt
+  colour-facts-kept (L.collectsWhole x u us e c d y) room p = end-colours (withState x s) u us y
+  colour-facts-kept (L.counts k i e c) room p = p
+  colour-facts-kept (L.installs k i e c) room p = (refl, install-no-red s formed)
+  colour-facts-kept (L.countsLate k i e c) room p = p
+  colour-facts-kept (L.countsAllLate k i e c) room p = tt
+  colour-facts-kept (L.joins c e) room p = tt
+  colour-facts-kept (L.joinsMarked c e) room p = tt
+  colour-facts-kept (L.joinsUnmarked c e) room p = tt
+  colour-facts-kept (L.joinsYellow c e) room p = tt
+  colour-facts-kept (L.leaves m n x e q) room p = leads-colours (s .votes .yellow) (s .log .red) q (at m e p)
+  colour-facts-kept (L.sends q c) room p = p
+  colour-facts-kept (L.numbers q c) room p = p
+  colour-facts-kept L.recovers room p = tt

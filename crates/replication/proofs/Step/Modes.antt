@@ -118,4 +118,4 @@ module _ (s : Server) where
 pub mode-facts : (n q i : ℕ) (es : List (Option (List ℕ))) → OfBoth ModeFactsOf (lived (started (start n q i)) es)
 unfolding start started
 mode-facts n q i es =
-    lived-each ModeFactsOf (λ s e t bs b g h p. mode-facts-kept s (moved (taken-by s e t bs b g h) .0) p) (started (start n q i)) es (record { memory = tt; store = tt })
+    lived-each ModeFactsOf (λ s e t bs b g h p. let x = taken-by s e t bs b g h in subst ModeFactsOf (sym (x .raise)) (mode-facts-kept s (moved x .0) p)) (started (start n q i)) es (record { memory = tt; store = tt })

@@ -1,17 +1,18 @@
 -- Each rule's effect is one of the transitions: the one case split over states, records and the tests that the rules make.
 use Prim.Native.Nat.{ℕ}
-use mathlib.Core.Path.{_≡_, refl, subst}
-use mathlib.Core.Bool.{Bool, true}
+use mathlib.Core.Path.{_≡_, refl, ap, subst, _∙_}
+use mathlib.Core.Bool.{Bool, true, false}
 use mathlib.Core.List.{List}
 use mathlib.Core.Option.{Option, none, some}
-use Rattle.base.specs.Tests.{_=?_}
+use Rattle.base.specs.Tests.{_=?_, pick}
 use Rattle.base.proofs.TestLaws.{pick-as}
 use Rattle.format.specs.Types.{Action, State, Record, action, retransmission, state, cpc, regular, transitional, request, recovery}
-use Rattle.replication.specs.Machine.Types.{Mode, Non-prim, Reg-prim, Trans-prim, Exchange-states, Exchange-actions, Construct, No, Un, Server, Outcome, refused, taken}
+use Rattle.replication.specs.Machine.Types.{Mode, Non-prim, Reg-prim, Trans-prim, Exchange-states, Exchange-actions, Construct, No, Un, Configuration, Server, Outcome, refused, taken}
 use Rattle.replication.specs.Machine.Exchange.{quorum}
 use Rattle.replication.specs.Machine.Requests.{sendsNow}
 use Rattle.replication.specs.Machine.Rules.{Rule, onAction, onRetransmission, onState, onCpc, onRegular, onTransitional, ruleFor}
 use Rattle.replication.specs.Machine.Step.{greened, quiet, stored, sent, join, hereSet, collected, endExchange, withState, allStatesIn, plannedNow, afterStates, collectState, exchanged, allCome, exchange, withCpc, allCpcsIn, installing, collectCpc, collectLateCpc, requested, apply}
+use Rattle.replication.specs.Machine.White.{sifted, full, sieved, sievedRecord}
 use Rattle.replication.specs.Laws.Transitions as L
 use Rattle.replication.specs.Laws.Transitions.{TakenBy, Ends, Transition}
 
@@ -118,6 +119,109 @@ module _ (s : Server) where
 pub rule-moves : (s : Server) (r : Record) (k : Rule) → ruleFor (s .membership .mode) r ≡ some k → Moves s r (apply k s)
 rule-moves s r k e = subst (Ruled s r) e (by-record s r)
 
+-- The sieve commutes with the choice of the rule.
+abbrev sievedIn : Bool → Option Rule → Option Rule
+sievedIn b none = none
+sievedIn b (some k) = some (sieved b k)
+
+sieved-action : (m : Mode) (b : Bool) (a : Action) → onAction m (sifted b a) ≡ sievedIn b (onAction m a)
+unfolding onAction sieved
+sieved-action Non-prim b a = refl
+sieved-action Reg-prim b a = refl
+sieved-action Trans-prim b a = refl
+sieved-action Exchange-states b a = refl
+sieved-action Exchange-actions b a = refl
+sieved-action Construct b a = refl
+sieved-action No b a = refl
+sieved-action Un b a = refl
+
+sieved-retransmission : (m : Mode) (b : Bool) (p : ℕ) (a : Action) → onRetransmission m p (sifted b a) ≡ sievedIn b (onRetransmission m p a)
+unfolding onRetransmission sieved
+sieved-retransmission Non-prim b p a = refl
+sieved-retransmission Reg-prim b p a = refl
+sieved-retransmission Trans-prim b p a = refl
+sieved-retransmission Exchange-states b p a = refl
+sieved-retransmission Exchange-actions b p a = refl
+sieved-retransmission Construct b p a = refl
+sieved-retransmission No b p a = refl
+sieved-retransmission Un b p a = refl
+
+sieved-state : (m : Mode) (b : Bool) (x : State) → onState m x ≡ sievedIn b (onState m x)
+unfolding onState sieved
+sieved-state Non-prim b x = refl
+sieved-state Reg-prim b x = refl
+sieved-state Trans-prim b x = refl
+sieved-state Exchange-states b x = refl
+sieved-state Exchange-actions b x = refl
+sieved-state Construct b x = refl
+sieved-state No b x = refl
+sieved-state Un b x = refl
+
+sieved-cpc : (m : Mode) (b : Bool) (k : ℕ) → onCpc m k ≡ sievedIn b (onCpc m k)
+unfolding onCpc sieved
+sieved-cpc Non-prim b k = refl
+sieved-cpc Reg-prim b k = refl
+sieved-cpc Trans-prim b k = refl
+sieved-cpc Exchange-states b k = refl
+sieved-cpc Exchange-actions b k = refl
+sieved-cpc Construct b k = refl
+sieved-cpc No b k = refl
+sieved-cpc Un b k = refl
+
+sieved-regular : (m : Mode) (b : Bool) (c : Configuration) → onRegular m c ≡ sievedIn b (onRegular m c)
+unfolding onRegular sieved
+sieved-regular Non-prim b c = refl
+sieved-regular Reg-prim b c = refl
+sieved-regular Trans-prim b c = refl
+sieved-regular Exchange-states b c = refl
+sieved-regular Exchange-actions b c = refl
+sieved-regular Construct b c = refl
+sieved-regular No b c = refl
+sieved-regular Un b c = refl
+
+sieved-transitional : (m : Mode) (b : Bool) (x : ℕ) → onTransitional m x ≡ sievedIn b (onTransitional m x)
+unfolding onTransitional sieved
+sieved-transitional Non-prim b x = refl
+sieved-transitional Reg-prim b x = refl
+sieved-transitional Trans-prim b x = refl
+sieved-transitional Exchange-states b x = refl
+sieved-transitional Exchange-actions b x = refl
+sieved-transitional Construct b x = refl
+sieved-transitional No b x = refl
+sieved-transitional Un b x = refl
+
+rule-sieved-in : (m : Mode) (b : Bool) (r : Record) → ruleFor m (sievedRecord b r) ≡ sievedIn b (ruleFor m r)
+unfolding ruleFor sievedRecord sieved
+rule-sieved-in m b (action a) = sieved-action m b a
+rule-sieved-in m b (retransmission k p a) = sieved-retransmission m b p a
+rule-sieved-in m b (state x) = sieved-state m b x
+rule-sieved-in m b (cpc k i) = sieved-cpc m b k
+rule-sieved-in m b (regular i x) = sieved-regular m b (record { id = i; set = x })
+rule-sieved-in m b (transitional x) = sieved-transitional m b x
+rule-sieved-in m b (request p) = refl
+rule-sieved-in m b recovery = refl
+
+pub rule-sieved : (m : Mode) (b : Bool) (r : Record) (k : Rule) → ruleFor m r ≡ some k → ruleFor m (sievedRecord b r) ≡ some (sieved b k)
+rule-sieved m b r k e = rule-sieved-in m b r ∙ ap (sievedIn b) e
+
+pub sieved-none : (r : Record) → sievedRecord false r ≡ r
+unfolding sievedRecord sifted pick
+sieved-none (action a) = refl
+sieved-none (retransmission k p a) = refl
+sieved-none (state x) = refl
+sieved-none (cpc k i) = refl
+sieved-none (regular i x) = refl
+sieved-none (transitional x) = refl
+sieved-none (request p) = refl
+sieved-none recovery = refl
+
 pub moved : {s : Server} {e : List ℕ} {t : Server} {bs : List (List ℕ)} {b : Bool} {g : List Action} (x : TakenBy s e t bs b g)
-    → Transition s (x .event) t (x .records) b × (g ≡ greened s t)
-moved {s} x = subst (Moves s (x .event)) (x .applied) (rule-moves s (x .event) (x .rule) (x .ruled))
+    → Transition s (sievedRecord (full (x .rule) s) (x .event)) (x .core) (x .records) b × (g ≡ greened s (x .core))
+moved {s} x =
+    let f = full (x .rule) s in
+    subst (Moves s (sievedRecord f (x .event))) (x .applied) (rule-moves s (sievedRecord f (x .event)) (sieved f (x .rule)) (rule-sieved (s .membership .mode) f (x .event) (x .rule) (x .ruled)))
+
+-- With room for every action that comes the sieve lets all through.
+pub moved-whole : {s : Server} {e : List ℕ} {t : Server} {bs : List (List ℕ)} {b : Bool} {g : List Action} (x : TakenBy s e t bs b g)
+    → full (x .rule) s ≡ false → Transition s (x .event) (x .core) (x .records) b
+moved-whole {s} {b = b} x h = subst (λ r. Transition s r (x .core) (x .records) b) (ap (λ f. sievedRecord f (x .event)) h ∙ sieved-none (x .event)) (moved x .0)

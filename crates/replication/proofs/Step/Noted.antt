@@ -1,6 +1,6 @@
 -- In a taken event no noted length falls.
 use Prim.Native.Nat.{ℕ, _≤_}
-use mathlib.Core.Path.{_≡_, refl, ap}
+use mathlib.Core.Path.{_≡_, refl, sym, ap, subst}
 use mathlib.Core.Bool.{Bool}
 use mathlib.Core.List.{List, [], _∷_}
 use native.Mathlib.Omega.{arith}
@@ -86,4 +86,5 @@ module _ (s : Server) where
   transition-rises L.recovers = same _ refl
 
 pub taken-rises : (s : Server) (e : List ℕ) (t : Server) (bs : List (List ℕ)) (b : Bool) (g : List Action) → step s e ≡ taken t bs b g → NotedRise s t
-taken-rises s e t bs b g h = transition-rises s (moved (taken-by s e t bs b g h) .0)
+unfolding NotedRise
+taken-rises s e t bs b g h = let x = taken-by s e t bs b g h in subst (λ u. NotedRise s u) (sym (x .raise)) (transition-rises s (moved x .0))

@@ -9,7 +9,7 @@ use Rattle.base.specs.Tests.{_<?_}
 use Rattle.base.proofs.TestLaws.{lt-holds}
 use Rattle.base.proofs.Members.{filter-from}
 use Rattle.format.specs.Types.{Action, State, Record, action, request}
-use Rattle.replication.specs.Machine.Types.{Log, Server}
+use Rattle.replication.specs.Machine.Types.{Log, Server, withWhite}
 use Rattle.replication.specs.Machine.Requests.{numbered, sendWaiting}
 use Rattle.replication.specs.Machine.Requests.{madeOf, numbered, unsent, sendWaiting}
 use Rattle.replication.specs.Machine.Step.{collected}
@@ -28,10 +28,14 @@ made-own s t p n = record {
   above = omega arith;
   within = omega (arith, n .numbered);
   green-length = refl;
+  white-length = refl;
   listed = rw (n .own) (Memᴰ·append-right (s .log .own) (List·Memᴰ·head refl));
 }
 
 -- What a taken request makes is newly numbered, and on the own list.
+pub own-raised : {s t : Server} {a : Action} (w : ℕ) → Own s t a → Own s (withWhite w t) a
+own-raised w o = record { creator = o .creator; above = o .above; within = o .within; green-length = o .green-length; white-length = o .white-length; listed = o .listed }
+
 pub request-own : {s : Server} {p : List ℕ} {t : Server} {rs : List Record} {b : Bool} → Transition s (request p) t rs b → Own s t (madeOf p s)
 unfolding numbered sendWaiting
 request-own {s} (L.sends p c) = made-own s _ p (record { numbered = refl; own = refl })
@@ -54,16 +58,16 @@ waited s t k rs a w m h =
     let f = filter-from (λ x. k <? x .id .index) a (t .log .own) (Memᴰ·cast e (y .1)) in
     record { listed = f .0; above = λ z. omega (arith, h z, lt-holds _ _ (f .1)); sent = w .sent }
 
-resent-no-action : {X : Type 0} (me : ℕ) (l : Log) (xs : List State) (a : Action) → Resent me l xs (action a) → X
-resent-no-action me l xs a (P.asGreen p b m f e) = let z : _≡_ {A = ℕ} 0 1 = cc in absurd (omega arith)
-resent-no-action me l xs a (P.asRed c i b m f e) = let z : _≡_ {A = ℕ} 0 1 = cc in absurd (omega arith)
+resent-no-action : {X : Type 0} (me w : ℕ) (l : Log) (xs : List State) (a : Action) → Resent me w l xs (action a) → X
+resent-no-action me w l xs a (P.asGreen p b m f e) = let z : _≡_ {A = ℕ} 0 1 = cc in absurd (omega arith)
+resent-no-action me w l xs a (P.asRed c i b m f e) = let z : _≡_ {A = ℕ} 0 1 = cc in absurd (omega arith)
 
 -- An action that an event puts out waited on the own list, and is stored first.
 pub own-sent : {s : Server} {r : Record} {t : Server} {rs : List Record} {b : Bool} → PutsOut s r t rs b → (a : Action) → List·Memᴰ (action a) rs
     → Waited s t a × (b ≡ true)
 own-sent (P.nothing b n) a m = absurd (List·Memᴰ·not-nil m)
 own-sent (P.stateOnEntry c e f g n) a m = let h = List·Memᴰ·eq-of-singleton m in let z : _≡_ {A = ℕ} 0 1 = cc in absurd (omega arith)
-own-sent {t = t} (P.partOfPlan x e f g h i n) a m = resent-no-action (t .me) (t .log) (collected t) a (part-resent (t .me) (t .log) (collected t) (action a) (t .servers) m)
+own-sent {t = t} (P.partOfPlan x e f g h i n) a m = resent-no-action (t .me) (t .white) (t .log) (collected t) a (part-resent (t .me) (t .white) (t .log) (collected t) (action a) (t .servers) m)
 own-sent (P.cpcOnAttempt e q f n) a m = let h = List·Memᴰ·eq-of-singleton m in let z : _≡_ {A = ℕ} 0 1 = cc in absurd (omega arith)
 own-sent {s} {t = t} {rs} (P.requestAtOnce p us e f g n w) a m = (waited s t _ us a w m (λ z. omega arith), refl)
 own-sent (P.requestWaits p e f n w) a m = absurd (List·Memᴰ·not-nil m)

@@ -4,6 +4,7 @@ use mathlib.Core.Path.{_≡_, refl, sym, subst, _∙_}
 use mathlib.Core.Bool.{Bool, true, false}
 use mathlib.Core.List.{List, [], append-nil}
 use Rattle.base.specs.Tests.{_=?_}
+use Rattle.base.specs.Lists.{Each}
 use Rattle.base.proofs.TestLaws.{eq-fails, not-both}
 use Rattle.format.specs.Types.{Record}
 use Rattle.replication.specs.Machine.Types.{Mode, Non-prim, Reg-prim, Trans-prim, Exchange-states, Exchange-actions, Construct, No, Un, Server}
@@ -16,7 +17,8 @@ use Rattle.replication.specs.Laws.Folds.{entered, cutsAfter}
 use Rattle.replication.specs.Laws.Primary as S
 use Rattle.replication.specs.Laws.Primary.{RegularStep, TransitionalStep}
 use Rattle.replication.proofs.Step.Apart.{modeNumber, other-mode, sends-in}
-use Rattle.replication.proofs.Step.Folds.{green-one, yellow-one}
+use Rattle.replication.proofs.Step.Folds.{green-one, YellowRoom, yellow-one}
+use Rattle.replication.proofs.Runs.LogActions.{carried}
 use Rattle.replication.proofs.Step.Control.{yellow-membership}
 
 regular-sends : (m : Mode) (r : Bool) → m ≡ Reg-prim → sendsIn m r ≡ true
@@ -84,30 +86,30 @@ module _ (s : Server) (here : s .membership .mode ≡ Trans-prim) where
   leads-ending m n e L.interruptsActions = not-there Exchange-actions e refl
   leads-ending m n e L.interruptsConstruct = not-there Construct e refl
 
-  pub transitional-step : {r : Record} {t : Server} {rs : List Record} {b : Bool} → Transition s r t rs b → TransitionalStep s r t
+  pub transitional-step : {r : Record} {t : Server} {rs : List Record} {b : Bool} → Transition s r t rs b → Each (YellowRoom s) (carried r) → TransitionalStep s r t
   unfolding modeNumber _=?_ numbered entering sendsNow sendWaiting
-  transitional-step (L.ignoresState x e) = not-there Non-prim e refl
-  transitional-step (L.ignoresCpc k i e) = not-there Non-prim e refl
-  transitional-step (L.reddens a e) = not-there Non-prim e refl
-  transitional-step (L.reddensResent k i a e) = not-there Non-prim e refl
-  transitional-step (L.reddensInExchange a e) = not-there Exchange-states e refl
-  transitional-step (L.greens a e) = not-there Reg-prim e refl
-  transitional-step (L.yellows a e) = S.TransitionalStep.delivers a refl (yellow-membership a s) (yellow-one a s)
-  transitional-step (L.installsLate a e) = not-there Un e refl
-  transitional-step (L.exchanges k i a e c) = not-there Exchange-actions e refl
-  transitional-step (L.exchangesLast k i a u us e c x) = not-there Exchange-actions e refl
-  transitional-step (L.collects x e c) = not-there Exchange-states e refl
-  transitional-step (L.collectsLast x e c d) = not-there Exchange-states e refl
-  transitional-step (L.collectsWhole x u us e c d y) = not-there Exchange-states e refl
-  transitional-step (L.counts k i e c) = not-there Construct e refl
-  transitional-step (L.installs k i e c) = not-there Construct e refl
-  transitional-step (L.countsLate k i e c) = not-there No e refl
-  transitional-step (L.countsAllLate k i e c) = not-there No e refl
-  transitional-step (L.joins c e) = not-there Non-prim e refl
-  transitional-step (L.joinsMarked c e) = not-there Un e refl
-  transitional-step (L.joinsUnmarked c e) = not-there No e refl
-  transitional-step (L.joinsYellow c e) = S.TransitionalStep.joins c refl refl refl refl
-  transitional-step (L.leaves m n x e q) = leads-ending m n e q
-  transitional-step (L.sends q c) = sends-in _ _ c (λ e. not-there Non-prim e refl) (λ e. not-there Reg-prim e refl)
-  transitional-step (L.numbers q c) = S.TransitionalStep.numbers q refl refl refl (record { green = refl; red = refl; cuts = refl })
-  transitional-step L.recovers = S.TransitionalStep.recovers refl
+  transitional-step (L.ignoresState x e) room = not-there Non-prim e refl
+  transitional-step (L.ignoresCpc k i e) room = not-there Non-prim e refl
+  transitional-step (L.reddens a e) room = not-there Non-prim e refl
+  transitional-step (L.reddensResent k i a e) room = not-there Non-prim e refl
+  transitional-step (L.reddensInExchange a e) room = not-there Exchange-states e refl
+  transitional-step (L.greens a e) room = not-there Reg-prim e refl
+  transitional-step (L.yellows a e) room = S.TransitionalStep.delivers a refl (yellow-membership a s) (yellow-one a s (room .0))
+  transitional-step (L.installsLate a e) room = not-there Un e refl
+  transitional-step (L.exchanges k i a e c) room = not-there Exchange-actions e refl
+  transitional-step (L.exchangesLast k i a u us e c x) room = not-there Exchange-actions e refl
+  transitional-step (L.collects x e c) room = not-there Exchange-states e refl
+  transitional-step (L.collectsLast x e c d) room = not-there Exchange-states e refl
+  transitional-step (L.collectsWhole x u us e c d y) room = not-there Exchange-states e refl
+  transitional-step (L.counts k i e c) room = not-there Construct e refl
+  transitional-step (L.installs k i e c) room = not-there Construct e refl
+  transitional-step (L.countsLate k i e c) room = not-there No e refl
+  transitional-step (L.countsAllLate k i e c) room = not-there No e refl
+  transitional-step (L.joins c e) room = not-there Non-prim e refl
+  transitional-step (L.joinsMarked c e) room = not-there Un e refl
+  transitional-step (L.joinsUnmarked c e) room = not-there No e refl
+  transitional-step (L.joinsYellow c e) room = S.TransitionalStep.joins c refl refl refl refl
+  transitional-step (L.leaves m n x e q) room = leads-ending m n e q
+  transitional-step (L.sends q c) room = sends-in _ _ c (λ e. not-there Non-prim e refl) (λ e. not-there Reg-prim e refl)
+  transitional-step (L.numbers q c) room = S.TransitionalStep.numbers q refl refl refl (record { green = refl; red = refl; cuts = refl })
+  transitional-step L.recovers room = S.TransitionalStep.recovers refl

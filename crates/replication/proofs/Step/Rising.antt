@@ -1,26 +1,27 @@
 -- From event to event (last primary's index, its attempt, attempt) never falls, in memory and in the store.
 use Prim.Native.Nat.{ℕ}
-use mathlib.Core.Path.{_≡_, sym}
+use mathlib.Core.Path.{_≡_, sym, subst}
 use mathlib.Core.Bool.{Bool, true, false}
 use mathlib.Core.List.{List}
 use Rattle.base.specs.Tests.{pick}
 use Rattle.format.specs.Types.{Action}
 use Rattle.replication.specs.Machine.Types.{Server, Outcome, refused, taken}
 use Rattle.replication.specs.Machine.Step.{step}
+use Rattle.replication.specs.Machine.White.{full}
 use Rattle.replication.specs.Machine.WellFormed.{wellFormed}
 use Rattle.replication.specs.Images.{Images, sourceOf, arrive, leftBy}
-use Rattle.replication.specs.Laws.Order.{AtMost, SameControl, OwnStateTrueAt}
+use Rattle.replication.specs.Laws.Order.{AtMost, SameControl, OwnStateTrue, OwnStateTrueAt}
 use Rattle.replication.proofs.Step.Inversion.{taken-by}
 use Rattle.replication.proofs.Step.Moves.{moved}
 use Rattle.replication.proofs.Step.Formed.{every-state-in}
 use Rattle.replication.proofs.Step.Lifts.{source-of}
-use Rattle.replication.proofs.Step.VotesOrder.{at-most-same, at-most-refl, at-most-trans, votes-rise}
+use Rattle.replication.proofs.Step.VotesOrder.{hearing-sieved, at-most-same, at-most-refl, at-most-trans, votes-rise}
 
 pub taken-votes-rise : (s : Server) (e : List ℕ) (t : Server) (bs : List (List ℕ)) (b : Bool) (g : List Action) → step s e ≡ taken t bs b g
     → wellFormed s ≡ true → OwnStateTrueAt s e → AtMost (s .votes) (t .votes)
 taken-votes-rise s e t bs b g h w own =
     let x = taken-by s e t bs b g h in
-    votes-rise (moved x .0) (every-state-in s w) (own (x .event) (x .reads))
+    subst (λ u. AtMost (s .votes) (u .votes)) (sym (x .raise)) (votes-rise (moved x .0) (every-state-in s w) (subst OwnStateTrue (sym (hearing-sieved (full (x .rule) s) (x .event) s)) (own (x .event) (x .reads))))
 
 -- ---- the images
 

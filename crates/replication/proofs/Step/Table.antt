@@ -15,9 +15,10 @@ use Rattle.format.specs.Read.{frameOk, recordIn, readAs, read}
 use Rattle.replication.specs.Machine.Types.{Server, Outcome, refused, taken, contextOf}
 use Rattle.replication.specs.Machine.Rules.{Rule, ruleFor, possible, fromMember, isIgnored, withinQuota}
 use Rattle.replication.specs.Machine.Step.{apply, applyRule, answer, onReading, inBytes, step}
+use Rattle.replication.specs.Machine.White.{full, sieved, sievedRecord, raised}
 use Rattle.replication.specs.Laws.Rows as R
 use Rattle.replication.specs.Laws.Rows.{kindIn, frameFits, recordNamed, recordOf, tested, ignores, row1, row2, row5, row6, row3, Refuses, firstRow, NoRow}
-use Rattle.replication.proofs.Step.Moves.{Moves, rule-moves}
+use Rattle.replication.proofs.Step.Moves.{Moves, rule-moves, rule-sieved}
 
 -- What the table says of an outcome.
 abbrev Answers : Server → List ℕ → Outcome (List ℕ) → Type 0
@@ -45,6 +46,11 @@ module _ (s : Server) (e : List ℕ) where
   applied (refused k) r m n = absurd m
   applied (taken t rs b g) r m n = n
 
+  raised-applied : (k : Rule) (o : Outcome Record) (r : Record) → Moves s r o → NoRow s e → Answers s e (inBytes (raised k s o))
+  unfolding inBytes raised
+  raised-applied k (refused j) r m n = absurd m
+  raised-applied k (taken t rs b g) r m n = n
+
   by-rule : (r : Record) (x : Option Rule) → recordOf s e ≡ some r → row1 s e ≡ false → row2 s e ≡ false
       → ruleFor (s .membership .mode) r ≡ x → Answers s e (inBytes (applyRule x s r))
   unfolding applyRule inBytes row5 row6 row3 isThere ignores _and_ _or_
@@ -56,7 +62,7 @@ module _ (s : Server) (e : List ℕ) where
       (λ p6. let n6 : row6 s e ≡ false = at-record _ r false q (rw (h, neither, p6)) in
       chosen (withinQuota s r) _ _
       (λ p3. let n3 : row3 s e ≡ false = at-record _ r false q (rw p3) in
-      applied (apply k s) r (rule-moves s r k h) (record { not1 = n1; not2 = n2; not5 = n5; not6 = n6; not3 = n3 }))
+      raised-applied k (apply (sieved (full k s) k) s) (sievedRecord (full k s) r) (rule-moves s (sievedRecord (full k s) r) (sieved (full k s) k) (rule-sieved (s .membership .mode) (full k s) r k h)) (record { not1 = n1; not2 = n2; not5 = n5; not6 = n6; not3 = n3 }))
       (λ p3. R.by-row3 n1 n2 n5 n6 (at-record _ r true q (rw p3))))
       (λ p6. R.by-row6 n1 n2 n5 (at-record _ r true q (rw (h, neither, p6)))))
       (λ p5. R.by-row5 n1 n2 (at-record _ r true q (rw (h, p5))))

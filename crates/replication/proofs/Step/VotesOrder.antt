@@ -11,6 +11,7 @@ use Rattle.format.specs.Types.{State, Record, action, retransmission, state, cp
 use Rattle.replication.specs.Machine.Types.{Exchange-actions, Votes, Server}
 use Rattle.replication.specs.Machine.Exchange.{takenPrimary, takenAttempt}
 use Rattle.replication.specs.Machine.Step.{collected, withState, allStatesIn}
+use Rattle.replication.specs.Machine.White.{sievedRecord}
 use Rattle.replication.specs.Laws.Transitions.{Transition}
 use Rattle.replication.specs.Laws.Order.{AtMost, by-index, by-primary, by-attempt, inExchange, OwnStateTrue, hearing}
 use Rattle.replication.specs.Laws.Votes as C
@@ -51,6 +52,17 @@ module _ (s t : Server) (r : Record) where
           let j : x .last .attempt ≡ takenPrimary (collected (hearing r s)) .attempt = omega (arith, lt-fails _ _ z) in
           by-attempt (omega (arith, ap (λ w. w .index) p, ap (λ w. w .index) f)) (omega (arith, ap (λ w. w .attempt) p, ap (λ w. w .attempt) f))
           (omega (arith, taken-attempt-covers x (collected (hearing r s)) m h j))
+
+pub hearing-sieved : (b : Bool) (r : Record) (s : Server) → hearing (sievedRecord b r) s ≡ hearing r s
+unfolding hearing sievedRecord
+hearing-sieved b (action a) s = refl
+hearing-sieved b (retransmission k p a) s = refl
+hearing-sieved b (state x) s = refl
+hearing-sieved b (cpc k i) s = refl
+hearing-sieved b (regular i c) s = refl
+hearing-sieved b (transitional c) s = refl
+hearing-sieved b (request p) s = refl
+hearing-sieved b recovery s = refl
 
 pub hearing-keeps : (r : Record) (s : Server) → (hearing r s .votes ≡ s .votes) × (hearing r s .membership .mode ≡ s .membership .mode)
 unfolding hearing withState

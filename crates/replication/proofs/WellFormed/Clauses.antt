@@ -1,17 +1,18 @@
 -- The facts of a well-formed state, clause by clause in row 8's order: they say what the test `wellFormed` says. Beside them, what every state that
 -- a run reaches satisfies.
-use Prim.Native.Nat.{ℕ, _*_, _^_, _≤_, _<_}
+use Prim.Native.Nat.{ℕ, _+_, _^_, _≤_, _<_}
 use mathlib.Core.Path.{_≡_}
 use mathlib.Core.Bool.{true}
-use mathlib.Core.List.{List, _++_, map}
+use mathlib.Core.List.{List, [], _++_, map, List·Memᴰ}
 use mathlib.Core.Option.{Option, none, some}
 use lib.ListN.{length, getD}
-use Rattle.base.specs.Lists.{Each, above}
-use Rattle.format.specs.Limits.{fewestServers, mostServers, leastQuota, mostQuota, mostIndex}
+use Rattle.base.specs.Lists.{Each, above, sum}
+use Rattle.format.specs.Limits.{fewestServers, mostServers, leastQuota, mostQuota, mostIndex, mostNumber, mostLength, mostPlanned}
 use Rattle.format.specs.Types.{Id, Action, State}
 use Rattle.replication.specs.Machine.Types.{Mode, Non-prim, Reg-prim, Trans-prim, Exchange-states, Exchange-actions, Construct, No, Un, Log, Votes, Configuration, Membership, Server}
 use Rattle.replication.specs.Machine.Colours.{cut}
 use Rattle.replication.specs.Machine.Rules.{memberOf, isOf}
+use Rattle.replication.specs.Machine.Colours.{ofCreator, shown}
 use Rattle.replication.specs.Machine.WellFormed.{idsIn, queue}
 use Rattle.replication.specs.Machine.WellFormedRanges.{idCount, ActionFits, PrimaryFits, MarkFits, YellowFits, StateFits, ConfigurationFits, TransitionalFits}
 use Rattle.replication.specs.Machine.WellFormedFacts.{ModeFits}
@@ -31,9 +32,9 @@ pub record LogRanges (n q : ℕ) (l : Log) : Type 0 where
   pub green : Each (ActionFits n q) (l .green)
   pub red : Each (ActionFits n q) (l .red)
   pub cuts-length : length (l .cuts) ≡ n
-  pub cuts : (c : ℕ) → cut l c ≤ q
+  pub cuts : (c : ℕ) → cut l c ≤ mostNumber
   pub own : Each (ActionFits n q) (l .own)
-  pub numbered : l .numbered ≤ q
+  pub numbered : l .numbered ≤ mostNumber
   pub sent : l .sent ≤ l .numbered
 
 pub record VotesRanges (n q : ℕ) (v : Votes) : Type 0 where
@@ -55,7 +56,7 @@ pub record MembershipRanges (n q me : ℕ) (m : Membership) : Type 0 where
   pub states-length : length (m .states) ≡ n
   pub states : (k : ℕ) (x : State) → getD (m .states) k none ≡ some x → CollectedFits n q (m .configuration) k x
   pub cpcs : m .cpcs < 2 ^ n
-  pub come : m .come ≤ 2 * (n * q)
+  pub come : m .come ≤ mostPlanned n
 
 -- ---- "an id twice in one list" does not apply
 
@@ -75,17 +76,32 @@ pub record OwnListFits (me : ℕ) (l : Log) : Type 0 where
   pub numbered : cut l me ≤ l .numbered
   pub ids : idsIn (l .own) ≡ map (λ i. record { creator = me; index = i }) (above (cut l me) (l .numbered))
 
+-- ---- K6: "Number 8 counts white actions as held, and its q bounds only those not white."
+
+pub record PlacesFit (n q me w : ℕ) (l : Log) : Type 0 where
+  pub counted : w + length (queue l) ≡ sum (l .cuts)
+  pub unwhites : (c : ℕ) → c < n → ofCreator c (queue l) ≤ q
+  pub own-room : ofCreator me (queue l) + l .numbered ≤ q + cut l me
+
+-- What a state that a run reaches holds, white actions too.
+pub record Whole (l : Log) : Type 0 where
+  pub least : (d : Id) → 1 ≤ heldCount d l → 1 ≤ d .index
+  pub once : (d : Id) → heldCount d l ≤ 1
+  pub held-to-cuts : HeldToCuts l
+
 -- ---- the whole
 
 pub record WellFormed (s : Server) : Type 0 where
   pub sizes : SizesFit (s .servers) (s .quota) (s .me)
-  pub log : LogRanges (s .servers) (s .quota) (s .log)
+  pub log : LogRanges (s .servers) (s .quota) (shown (s .white) (s .log))
   pub votes : VotesRanges (s .servers) (s .quota) (s .votes)
   pub membership : MembershipRanges (s .servers) (s .quota) (s .me) (s .membership)
   pub noted-length : length (s .noted) ≡ s .servers
-  pub noted : (c : ℕ) → getD (s .noted) c 0 ≤ s .servers * s .quota
-  pub once : (d : Id) → heldCount d (s .log) ≤ 1
-  pub held-to-cuts : HeldToCuts (s .log)
+  pub noted : (c : ℕ) → getD (s .noted) c 0 ≤ mostLength
+  pub white : s .white ≤ length (s .log .green)
+  pub once : (d : Id) → heldCount d (shown (s .white) (s .log)) ≤ 1
+  pub within : (d : Id) → 1 ≤ heldCount d (shown (s .white) (s .log)) → d .index ≤ cut (s .log) (d .creator)
+  pub places : PlacesFit (s .servers) (s .quota) (s .me) (s .white) (shown (s .white) (s .log))
   pub own-list : OwnListFits (s .me) (s .log)
   pub mode : ModeFits (s .membership .mode) s
 
@@ -100,12 +116,17 @@ pub record YellowGained (delivered : List Action) (s t : Server) : Type 0 where
   pub ids : t .votes .yellow .ids ≡ s .votes .yellow .ids ++ map (λ a. a .id) (entered (s .log .cuts) delivered)
   pub within : YellowWithinCuts t
 
--- So it is in Reg_prim and Trans_prim: Install empties the list, and there "its id joins the yellow list if it was entered". Row 8 does not ask for
--- it; with it each id that joins is new.
+-- Each id of the yellow list is of a red action.
+pub record YellowRed (s : Server) : Type 0 where
+  pub within : YellowWithinCuts s
+  pub reds : (d : Id) → List·Memᴰ d (s .votes .yellow .ids) → List·Memᴰ d (idsIn (s .log .red))
+
+-- In Reg_prim the list is empty, for Install empties it; in Trans_prim "its id joins the yellow list if it was entered". Row 8 does not ask for it; with
+-- it each id that joins is new, and the list is not full.
 abbrev pub YellowEntered : Mode → Server → Type 0
 YellowEntered Non-prim s = Unit {0}
-YellowEntered Reg-prim s = YellowWithinCuts s
-YellowEntered Trans-prim s = YellowWithinCuts s
+YellowEntered Reg-prim s = s .votes .yellow .ids ≡ []
+YellowEntered Trans-prim s = YellowRed s
 YellowEntered Exchange-states s = Unit {0}
 YellowEntered Exchange-actions s = Unit {0}
 YellowEntered Construct s = Unit {0}
@@ -115,4 +136,5 @@ YellowEntered Un s = Unit {0}
 -- What every state that a run reaches satisfies.
 pub record Invariant (s : Server) : Type 0 where
   pub well-formed : WellFormed s
+  pub whole : Whole (s .log)
   pub yellow : YellowEntered (s .membership .mode) s

@@ -8,12 +8,13 @@ use native.Mathlib.Nat.{one-le-pow}
 use lib.ListN.{length, getD, set, length-set, length-map}
 use Rattle.base.specs.Tests.{_and_, _=?_, pick}
 use Rattle.base.specs.Lists.{all, filter, below, Each}
+use Rattle.base.proofs.Filters.{filter-length}
 use Rattle.base.proofs.ListLaws.{each-implied, each-filter, each-map, each-always, above-length, below-length, sum-bound, bounded-set}
 use Rattle.base.specs.Counts.{count}
 use Rattle.base.proofs.CountLaws.{count-filter}
 use Rattle.base.specs.Sets.{union, withMember}
 use Rattle.base.proofs.SetLaws.{union-below, with-member-below}
-use Rattle.format.specs.Limits.{mostIndex}
+use Rattle.format.specs.Limits.{mostIndex, mostNumber, mostLength, mostPlanned}
 use Rattle.format.specs.Types.{Primary, State}
 use Rattle.format.specs.Range.{sameId, hasId}
 use Rattle.replication.specs.Machine.Types.{Votes, clearedMark, noYellow}
@@ -40,7 +41,7 @@ cleared-mark-fits n = record { status = omega arith; index = omega arith; attemp
 
 pub no-yellow-fits : (n q : ℕ) → YellowFits n q noYellow
 unfolding noYellow count
-no-yellow-fits n q = record { status = omega arith; ids = tt; once = λ d. omega arith }
+no-yellow-fits n q = record { status = omega arith; few = omega arith; ids = tt; once = λ d. omega arith }
 
 -- ---- the plan
 
@@ -54,15 +55,15 @@ unfolding missing
 missing-length f xs = omega (arith, above-length (lowest f xs) (highest f xs))
 
 module _ (n q : ℕ) where
-  pub green-bound : (xs : List State) → Each (StateFits n q) xs → highest greenIn xs ≤ n * q
+  pub green-bound : (xs : List State) → Each (StateFits n q) xs → highest greenIn xs ≤ mostLength
   unfolding greenIn
-  green-bound xs h = highest-bound greenIn (n * q) xs (each-implied (StateFits n q) (λ x. greenIn x ≤ n * q) (λ x f. f .greenLength) xs h)
+  green-bound xs h = highest-bound greenIn mostLength xs (each-implied (StateFits n q) (λ x. greenIn x ≤ mostLength) (λ x f. f .greenLength) xs h)
 
-  pub cut-bound : (c : ℕ) (xs : List State) → Each (StateFits n q) xs → highest (cutIn c) xs ≤ q
+  pub cut-bound : (c : ℕ) (xs : List State) → Each (StateFits n q) xs → highest (cutIn c) xs ≤ mostNumber
   unfolding cutIn
-  cut-bound c xs h = highest-bound (cutIn c) q xs (each-implied (StateFits n q) (λ x. cutIn c x ≤ q) (λ x f. f .cuts c) xs h)
+  cut-bound c xs h = highest-bound (cutIn c) mostNumber xs (each-implied (StateFits n q) (λ x. cutIn c x ≤ mostNumber) (λ x f. f .cuts c) xs h)
 
-  pub planned-bound : (xs : List State) → Each (StateFits n q) xs → planned n xs ≤ 2 * (n * q)
+  pub planned-bound : (xs : List State) → Each (StateFits n q) xs → planned n xs ≤ mostPlanned n
   unfolding planned
   planned-bound xs h =
       omega (
@@ -71,12 +72,12 @@ module _ (n q : ℕ) where
         green-bound xs h,
         below-length n,
         length-map (below n) (λ c. length (missing (cutIn c) xs)),
-        ap (λ k. k * q) (length-map (below n) (λ c. length (missing (cutIn c) xs)) ∙ below-length n),
-        sum-bound q (map (λ c. length (missing (cutIn c) xs)) (below n))
-            (each-map (λ k. k ≤ q) (λ c. length (missing (cutIn c) xs)) (below n) (each-always (λ c. length (missing (cutIn c) xs) ≤ q) each (below n))),
+        ap (λ k. k * mostNumber) (length-map (below n) (λ c. length (missing (cutIn c) xs)) ∙ below-length n),
+        sum-bound mostNumber (map (λ c. length (missing (cutIn c) xs)) (below n))
+            (each-map (λ k. k ≤ mostNumber) (λ c. length (missing (cutIn c) xs)) (below n) (each-always (λ c. length (missing (cutIn c) xs) ≤ mostNumber) each (below n))),
       )
     where
-      each : (c : ℕ) → length (missing (cutIn c) xs) ≤ q
+      each : (c : ℕ) → length (missing (cutIn c) xs) ≤ mostNumber
       each c = omega (arith, missing-length (cutIn c) xs, cut-bound c xs h)
 
   -- ---- the primary and the attempt
@@ -108,6 +109,7 @@ module _ (n q : ℕ) where
   common-yellow-fits [] h = no-yellow-fits n q
   common-yellow-fits (x ∷ xs) h = record {
     status = omega arith;
+    few = omega (arith, filter-length (λ d. all (λ y. hasId d (y .yellow .ids)) xs) (x .yellow .ids), h .0 .yellow .few);
     ids = each-filter (IdFits n q) (λ d. all (λ y. hasId d (y .yellow .ids)) xs) (x .yellow .ids) (h .0 .yellow .ids);
     once = λ d. omega (arith, count-filter (sameId d) (λ e. all (λ y. hasId e (y .yellow .ids)) xs) (x .yellow .ids), h .0 .yellow .once d);
   }
@@ -177,9 +179,9 @@ unfolding noteAll
 note-all-length [] noted = refl
 note-all-length (x ∷ xs) noted = note-all-length xs (note (x .sender) (x .greenLength) noted) ∙ note-length (x .sender) (x .greenLength) noted
 
-pub note-all-bound : (n q : ℕ) (xs : List State) (noted : List ℕ) → Each (StateFits n q) xs → ((k : ℕ) → getD noted k 0 ≤ n * q)
-    → (k : ℕ) → getD (noteAll xs noted) k 0 ≤ n * q
+pub note-all-bound : (n q : ℕ) (xs : List State) (noted : List ℕ) → Each (StateFits n q) xs → ((k : ℕ) → getD noted k 0 ≤ mostLength)
+    → (k : ℕ) → getD (noteAll xs noted) k 0 ≤ mostLength
 unfolding noteAll
 note-all-bound n q [] noted h f = f
 note-all-bound n q (x ∷ xs) noted h f =
-    note-all-bound n q xs (note (x .sender) (x .greenLength) noted) (h .1) (note-bound (n * q) (x .sender) (x .greenLength) noted f (h .0 .greenLength))
+    note-all-bound n q xs (note (x .sender) (x .greenLength) noted) (h .1) (note-bound mostLength (x .sender) (x .greenLength) noted f (h .0 .greenLength))

@@ -11,7 +11,6 @@ use Rattle.base.proofs.SetLaws.{with-member-below}
 use Rattle.format.specs.Limits.{mostIndex}
 use Rattle.format.specs.Types.{State}
 use Rattle.replication.specs.Machine.Types.{Mode, Construct, Configuration, Server, withVotes, noStates, withMode, withTransitional, withStates, withCpcs}
-use Rattle.replication.specs.Machine.Colours.{yellow}
 use Rattle.replication.specs.Machine.Exchange.{noteAll, takenVotes, attempted}
 use Rattle.replication.specs.Machine.Step.{entering, unmarked, yellowValid, hereSet, collected, decided, attempting, withState, withCpc, leave}
 use Rattle.replication.specs.Machine.WellFormedRanges.{ConfigurationFits, TransitionalFits}
@@ -21,10 +20,10 @@ use Rattle.replication.proofs.WellFormed.Decisions.{empty-below, cleare
 use Rattle.replication.proofs.WellFormed.Changes.{Body, votes-changed, membership-changed, noted-changed, in-mode, collected-fit, no-states}
 use Rattle.replication.specs.Laws.RuleFits.{StateCame}
 
-module _ (s : Server) (b : Body s) where
+module _ {w : ℕ} (s : Server) (b : Body w s) where
   -- ---- exchanges
 
-  pub decided-body : Body (decided s)
+  pub decided-body : Body w (decided s)
   unfolding decided
   decided-body =
       noted-changed (withVotes (takenVotes (s .me) (collected s)) s)
@@ -32,13 +31,13 @@ module _ (s : Server) (b : Body s) where
       (noteAll (collected s) (s .noted)) (note-all-length (collected s) (s .noted))
       (note-all-bound (s .servers) (s .quota) (collected s) (s .noted) (collected-fit s b) (b .noted))
 
-  pub attempting-body : s .votes .attempt < mostIndex → hereSet s < 2 ^ s .servers → Body (attempting s)
+  pub attempting-body : s .votes .attempt < mostIndex → hereSet s < 2 ^ s .servers → Body w (attempting s)
   unfolding attempting
   attempting-body h l =
       in-mode (withVotes (attempted (hereSet s) (s .votes)) s)
       (votes-changed s b (attempted (hereSet s) (s .votes)) (attempted-fits (s .servers) (s .quota) (hereSet s) (s .votes) (b .votes) h l)) Construct
 
-  pub with-state-body : (x : State) → StateCame s x → Body (withState x s)
+  pub with-state-body : (x : State) → StateCame s x → Body w (withState x s)
   unfolding withState
   with-state-body x c =
       membership-changed s b
@@ -65,7 +64,7 @@ module _ (s : Server) (b : Body s) where
               (record { fits = c .fits; sender = sym p; member = rw p (c .member); configuration = c .configuration })
           go (no p) = b .membership .states k y (sym (getD-set-other (s .membership .states) (x .sender) k (some x) none p) ∙ e)
 
-  pub with-cpc-body : (k : ℕ) → k < s .servers → Body (withCpc k s)
+  pub with-cpc-body : (k : ℕ) → k < s .servers → Body w (withCpc k s)
   unfolding withCpc
   with-cpc-body k h =
       membership-changed s b
@@ -81,7 +80,7 @@ module _ (s : Server) (b : Body s) where
 
   -- ---- configurations
 
-  pub entering-body : (c : Configuration) → ConfigurationFits (s .servers) (s .me) c → Body (entering c s)
+  pub entering-body : (c : Configuration) → ConfigurationFits (s .servers) (s .me) c → Body w (entering c s)
   unfolding entering noStates
   entering-body c f =
       membership-changed s b
@@ -95,13 +94,13 @@ module _ (s : Server) (b : Body s) where
         come = b .membership .come;
       })
 
-  pub unmarked-body : Body (withVotes (unmarked (s .votes)) s)
+  pub unmarked-body : Body w (withVotes (unmarked (s .votes)) s)
   unfolding unmarked
   unmarked-body =
       votes-changed s b (unmarked (s .votes))
       (record { last = b .votes .last; attempt = b .votes .attempt; mark = cleared-mark-fits (s .servers); yellow = b .votes .yellow })
 
-  pub yellow-valid-body : Body (withVotes (yellowValid (unmarked (s .votes))) s)
+  pub yellow-valid-body : Body w (withVotes (yellowValid (unmarked (s .votes))) s)
   unfolding yellowValid unmarked
   yellow-valid-body =
       votes-changed s b (yellowValid (unmarked (s .votes)))
@@ -109,10 +108,10 @@ module _ (s : Server) (b : Body s) where
         last = b .votes .last;
         attempt = b .votes .attempt;
         mark = cleared-mark-fits (s .servers);
-        yellow = record { status = omega arith; ids = b .votes .yellow .ids; once = b .votes .yellow .once };
+        yellow = record { status = omega arith; few = b .votes .yellow .few; ids = b .votes .yellow .ids; once = b .votes .yellow .once };
       })
 
-  pub leave-body : (m : Mode) (t : ℕ) → TransitionalFits (s .servers) (s .me) (s .membership .configuration) t → Body (leave m t s)
+  pub leave-body : (m : Mode) (t : ℕ) → TransitionalFits (s .servers) (s .me) (s .membership .configuration) t → Body w (leave m t s)
   unfolding leave
   leave-body m t f =
       membership-changed s b

@@ -1,12 +1,12 @@
 -- How finding, removing, entering and promoting actions change which ids are held.
-use Prim.Native.Nat.{ℕ, _+_, _<_}
+use Prim.Native.Nat.{ℕ, _+_, _<_, zero, suc}
 use mathlib.Core.Path.{_≡_, refl, sym, ap, _∙_, subst}
 use mathlib.Core.Bool.{true, false}
 use mathlib.Core.List.{List, [], _∷_, _++_, map}
 use mathlib.Core.Option.{none, some}
 use native.Mathlib.Omega.{arith}
 use native.Mathlib.Decide.{ℕ-discrete}
-use lib.ListN.{length}
+use lib.ListN.{length, drop}
 use lib.Seq.{getD-set-same, getD-set-other}
 use Rattle.base.specs.Tests.{pick}
 use Rattle.base.proofs.TestLaws.{Known, holds, fails, known}
@@ -54,6 +54,11 @@ found-fact P d (a ∷ l) x h e = go (known (sameId d (a .id))) (λ f. found-fact
     go : Known (sameId d (a .id)) → (find d l ≡ some x → P x) → P x
     go (holds t) more = let f : a ≡ x = cc in subst P f (h .0)
     go (fails t) more = more (rw t at e)
+
+pub each-drop : (P : Action → Type 0) (w : ℕ) (l : List Action) → Each P l → Each P (drop w l)
+each-drop P zero l h = h
+each-drop P (suc w) [] h = tt
+each-drop P (suc w) (a ∷ l) h = each-drop P w l (h .1)
 
 pub each-remove : (P : Action → Type 0) (d : Id) (l : List Action) → Each P l → Each P (remove d l)
 unfolding remove pick

@@ -62,7 +62,7 @@ module _ (me : ℕ) (l : Log) (f : OwnListFits me l) where
       ∙ length-map (above (cut l me) (l .numbered)) (ownId me)
       ∙ above-length (cut l me) (l .numbered)
 
-  pub unsent-short : (k : ℕ) → length (unsent k (l .own)) ≤ l .numbered
+  pub unsent-short : (k : ℕ) → length (unsent k (l .own)) ≤ l .numbered - cut l me
   unfolding unsent
   unsent-short k = omega (arith, filter-length (λ a. k <? a .id .index) (l .own), own-length)
 

@@ -1,5 +1,9 @@
 -- The tests on the parts of a state hold exactly if the facts of `WellFormedRanges` and `Clauses` do.
-use Prim.Native.Nat.{ℕ, zero, suc, _+_, _≤_}
+use Rattle.base.specs.Tests.{_≤?_}
+use Rattle.base.proofs.Distinct.{below-has}
+use Rattle.base.specs.Lists.{below}
+use Rattle.format.specs.Limits.{mostNumber}
+use Prim.Native.Nat.{ℕ, zero, suc, _+_, _≤_, _<_}
 use mathlib.Core.Path.{_≡_, refl, subst}
 use mathlib.Core.Bool.{true}
 use mathlib.Core.List.{List, [], _∷_}
@@ -7,18 +11,17 @@ use mathlib.Core.Option.{Option, none, some}
 use native.Mathlib.Omega.{arith}
 use lib.ListN.{getD}
 use Rattle.base.proofs.TestLaws.{not-both, and-holds, both-yes, le-yes, le-holds, lt-yes, lt-holds, eq-yes, eq-holds}
-use Rattle.base.proofs.ListLaws.{all-each, each-all, each-map, map-each}
-use Rattle.base.specs.Sets.{inside}
+use Rattle.base.proofs.ListLaws.{all-each, each-all, each-map, map-each, below-each}
 use Rattle.format.specs.Types.{Id, State, Context}
-use Rattle.format.specs.Range.{actionOk, indexOk, configurationOk, insideLast, hasId}
+use Rattle.format.specs.Range.{actionOk, indexOk, configurationOk, insideLast}
 use Rattle.replication.specs.Machine.Types.{Log, Votes, Configuration, Membership, setOf}
-use Rattle.replication.specs.Machine.Colours.{cut}
+use Rattle.replication.specs.Machine.Colours.{cut, ofCreator}
 use Rattle.replication.specs.Machine.Rules.{memberOf, isOf}
-use Rattle.replication.specs.Machine.Install.{idsUpTo}
-use Rattle.replication.specs.Machine.WellFormed.{logRanges, votesRanges, configurationFits, transitionalFits, collectedFits, collectedFit, membershipRanges, idsIn, queue, withinCut, heldToCuts, ownListFits}
+use Rattle.replication.specs.Machine.WellFormed.{logRanges, votesRanges, configurationFits, transitionalFits, collectedFits, collectedFit, membershipRanges, idsIn, queue, withinCut, withinCuts, placesFit, ownListFits}
 use Rattle.replication.specs.Machine.WellFormedRanges.{ActionFits, ConfigurationFits, TransitionalFits}
-use Rattle.replication.proofs.WellFormed.Clauses.{LogRanges, VotesRanges, CollectedFits, MembershipRanges, heldCount, HeldToCuts, OwnListFits}
-use Rattle.replication.proofs.WellFormed.Ids.{each-counted, counted-fact, has-counted, counted-has, same-ids-holds, same-ids-yes, up-to-each, each-up-to}
+use Rattle.replication.proofs.WellFormed.Clauses.{LogRanges, VotesRanges, CollectedFits, MembershipRanges, heldCount, PlacesFit, OwnListFits}
+use Rattle.replication.proofs.Runs.LogActions.{each-in}
+use Rattle.replication.proofs.WellFormed.Ids.{each-counted, counted-fact, same-ids-holds, same-ids-yes}
 use Rattle.replication.proofs.WellFormed.Ranges.{cuts-facts, cuts-ok, set-facts, set-ok, action-facts, action-ok, primary-facts, primary-ok, mark-facts, mark-ok, yellow-facts, yellow-ok, state-facts, state-ok, own-set-facts, own-set-ok}
 
 module _ (c : Context) where
@@ -35,7 +38,7 @@ module _ (c : Context) where
         green = all-each (actionOk c) (ActionFits (c .servers) (c .quota)) (action-facts c) (l .green) (a₁ .0);
         red = all-each (actionOk c) (ActionFits (c .servers) (c .quota)) (action-facts c) (l .red) (a₂ .0);
         cuts-length = eq-holds _ _ (a₃ .0);
-        cuts = cuts-facts (c .quota) (l .cuts) (a₄ .0);
+        cuts = cuts-facts mostNumber (l .cuts) (a₄ .0);
         own = all-each (actionOk c) (ActionFits (c .servers) (c .quota)) (action-facts c) (l .own) (a₅ .0);
         numbered = le-holds _ _ (a₆ .0);
         sent = le-holds _ _ (a₆ .1);
@@ -47,7 +50,7 @@ module _ (c : Context) where
       both-yes _ _ (each-all (actionOk c) (ActionFits (c .servers) (c .quota)) (action-ok c) (l .green) (f .green))
       (both-yes _ _ (each-all (actionOk c) (ActionFits (c .servers) (c .quota)) (action-ok c) (l .red) (f .red))
       (both-yes _ _ (eq-yes _ _ (f .cuts-length))
-      (both-yes _ _ (cuts-ok (c .quota) (l .cuts) (f .cuts))
+      (both-yes _ _ (cuts-ok mostNumber (l .cuts) (f .cuts))
       (both-yes _ _ (each-all (actionOk c) (ActionFits (c .servers) (c .quota)) (action-ok c) (l .own) (f .own))
       (both-yes _ _ (le-yes _ _ (f .numbered)) (le-yes _ _ (f .sent)))))))
 
@@ -158,31 +161,33 @@ Within l d = d .index ≤ cut l (d .creator)
 abbrev Held : Log → Id → Type 0
 Held l d = 1 ≤ heldCount d l
 
-pub held-to-cuts-facts : (l : Log) → heldToCuts l ≡ true → HeldToCuts l
-unfolding heldToCuts withinCut idsIn cut
-held-to-cuts-facts l h = record { within = within; entered = entered }
-  where
-    within : (d : Id) → 1 ≤ heldCount d l → d .index ≤ cut l (d .creator)
-    within d m =
-        counted-fact (Within l) d (idsIn (queue l))
-        (each-map (Within l) (λ a. a .id) (queue l) (all-each (withinCut l) (λ a. Within l (a .id)) (λ a t. le-holds _ _ t) (queue l) (and-holds _ _ h .0))) m
+pub within-facts : (l : Log) → withinCuts l ≡ true → (d : Id) → 1 ≤ heldCount d l → d .index ≤ cut l (d .creator)
+unfolding withinCuts withinCut idsIn cut
+within-facts l h d m =
+    counted-fact (Within l) d (idsIn (queue l))
+    (each-map (Within l) (λ a. a .id) (queue l) (all-each (withinCut l) (λ a. Within l (a .id)) (λ a t. le-holds _ _ t) (queue l) h)) m
 
-    entered : (d : Id) → 1 ≤ d .index → d .index ≤ cut l (d .creator) → 1 ≤ heldCount d l
-    entered d low high =
-        let z : 0 + d .creator ≡ d .creator = omega arith in
-        rw z at
-        (each-up-to (Held l) 0 (l .cuts) (all-each (λ x. hasId x (idsIn (queue l))) (Held l) (λ x t. has-counted x (idsIn (queue l)) t) (idsUpTo 0 (l .cuts)) (and-holds _ _ h .1))
-        (d .creator) (d .index) low high)
+pub within-ok : (l : Log) → ((d : Id) → 1 ≤ heldCount d l → d .index ≤ cut l (d .creator)) → withinCuts l ≡ true
+unfolding withinCuts withinCut idsIn cut
+within-ok l f =
+    each-all (withinCut l) (λ a. Held l (a .id)) (λ a m. le-yes _ _ (f (a .id) m)) (queue l) (map-each (Held l) (λ a. a .id) (queue l) (each-counted (idsIn (queue l))))
 
-pub held-to-cuts-ok : (l : Log) → HeldToCuts l → heldToCuts l ≡ true
-unfolding heldToCuts withinCut idsIn cut
-held-to-cuts-ok l f =
-    both-yes _ _
-    (each-all (withinCut l) (λ a. Held l (a .id)) (λ a m. le-yes _ _ (f .within (a .id) m)) (queue l) (map-each (Held l) (λ a. a .id) (queue l) (each-counted (idsIn (queue l)))))
-    (each-all (λ x. hasId x (idsIn (queue l))) (Held l) (λ x m. counted-has x (idsIn (queue l)) m) (idsUpTo 0 (l .cuts)) (up-to-each (Held l) 0 (l .cuts) up-to))
-  where
-    up-to : (c i : ℕ) → 1 ≤ i → i ≤ getD (l .cuts) c 0 → Held l (record { creator = 0 + c; index = i })
-    up-to c i low high = let z : 0 + c ≡ c = omega arith in rw z (f .entered (record { creator = c; index = i }) low high)
+pub places-facts : (n q me w : ℕ) (l : Log) → placesFit n q me w l ≡ true → PlacesFit n q me w l
+unfolding placesFit
+places-facts n q me w l h =
+    let a = and-holds _ _ h in
+    let b = and-holds _ _ (a .1) in
+    record {
+      counted = eq-holds _ _ (a .0);
+      unwhites = λ c k. each-in (λ c. ofCreator c (queue l) ≤ q) (below n) (all-each (λ c. ofCreator c (queue l) ≤? q) (λ c. ofCreator c (queue l) ≤ q) (λ c t. le-holds _ _ t) (below n) (b .0)) c (below-has n c k);
+      own-room = le-holds _ _ (b .1);
+    }
+
+pub places-ok : (n q me w : ℕ) (l : Log) → PlacesFit n q me w l → placesFit n q me w l ≡ true
+unfolding placesFit
+places-ok n q me w l f =
+    both-yes _ _ (eq-yes _ _ (f .counted))
+    (both-yes _ _ (each-all (λ c. ofCreator c (queue l) ≤? q) (λ c. c < n) (λ c k. le-yes _ _ (f .unwhites c k)) (below n) (below-each n)) (le-yes _ _ (f .own-room)))
 
 pub own-list-facts : (me : ℕ) (l : Log) → ownListFits me l ≡ true → OwnListFits me l
 unfolding ownListFits

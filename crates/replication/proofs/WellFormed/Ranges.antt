@@ -1,19 +1,18 @@
 -- The range tests of the record format hold exactly if the facts of `WellFormedRanges` do.
-use Prim.Native.Nat.{ℕ, zero, suc, _*_, _^_, _≤_, _<_}
+use Prim.Native.Nat.{ℕ, zero, suc, _^_, _≤_, _<_}
 use mathlib.Core.Path.{_≡_, refl}
 use mathlib.Core.Bool.{true}
 use mathlib.Core.List.{List, [], _∷_}
-use mathlib.Core.Option.{none}
 use native.Mathlib.Omega.{arith}
 use lib.ListN.{length, getD}
 use Rattle.base.proofs.TestLaws.{and-holds, both-yes, le-yes, le-holds, lt-yes, lt-holds, eq-yes, eq-holds}
 use Rattle.base.proofs.BytesLaws.{are-bytes, bytes-are}
 use Rattle.base.specs.Lists.{Each}
-use Rattle.format.specs.Limits.{fewestServers, mostServers, leastQuota, mostQuota, mostPayload, mostIndex}
+use Rattle.format.specs.Limits.{fewestServers, mostServers, leastQuota, mostQuota, mostPayload, mostIndex, mostNumber, mostLength}
 use Rattle.format.specs.Types.{Id, Action, Primary, component, Mark, Yellow, State, Context}
 use Rattle.format.specs.Range.{sizesOk, contextOk, idOk, lengthOk, payloadOk, actionOk, cutsOk, indexOk, setOk, statusOk, primaryOk, markOk, idsInRange, idsOk, yellowOk, configurationOk, stateOk, ownSetOk}
-use Rattle.format.proofs.IdCount.{ids-count}
-use Rattle.replication.specs.Machine.WellFormedRanges.{idCount, IdFits, PayloadFits, ActionFits, PrimaryFits, MarkFits, YellowFits, StateFits, OwnSetFits}
+use Rattle.format.proofs.Ranges.{length-range}
+use Rattle.replication.specs.Machine.WellFormedRanges.{IdFits, PayloadFits, ActionFits, PrimaryFits, MarkFits, YellowFits, StateFits, OwnSetFits}
 use Rattle.replication.proofs.WellFormed.Clauses.{SizesFit}
 use Rattle.replication.proofs.WellFormed.Ids.{differ-once, once-differ}
 
@@ -66,15 +65,11 @@ pub payload-ok : (p : List ℕ) → PayloadFits p → payloadOk p ≡ true
 unfolding payloadOk
 payload-ok p f = both-yes _ _ (le-yes (length p) mostPayload (f .most)) (bytes-are p (f .bytes))
 
+pub length-ok : (l : ℕ) → l ≤ mostLength → lengthOk l ≡ true
+unfolding lengthOk
+length-ok l h = le-yes l mostLength h
+
 module _ (c : Context) where
-  pub length-facts : (l : ℕ) → lengthOk c l ≡ true → l ≤ c .servers * c .quota
-  unfolding lengthOk
-  length-facts l h = le-holds l (c .servers * c .quota) h
-
-  pub length-ok : (l : ℕ) → l ≤ c .servers * c .quota → lengthOk c l ≡ true
-  unfolding lengthOk
-  length-ok l h = le-yes l (c .servers * c .quota) h
-
   pub set-facts : (s : ℕ) → setOk c s ≡ true → s < 2 ^ c .servers
   unfolding setOk
   set-facts s h = lt-holds s (2 ^ c .servers) h
@@ -88,24 +83,31 @@ module _ (c : Context) where
   id-facts d h =
       let a = and-holds _ _ h in
       let b = and-holds _ _ (a .1) in
-      record { creator = lt-holds (d .creator) (c .servers) (a .0); least = le-holds 1 (d .index) (b .0); most = le-holds (d .index) (c .quota) (b .1) }
+      record { creator = lt-holds (d .creator) (c .servers) (a .0); least = le-holds 1 (d .index) (b .0); most = le-holds (d .index) mostNumber (b .1) }
 
   pub id-ok : (d : Id) → IdFits (c .servers) (c .quota) d → idOk c d ≡ true
   unfolding idOk
   id-ok d f =
-      both-yes _ _ (lt-yes (d .creator) (c .servers) (f .creator)) (both-yes _ _ (le-yes 1 (d .index) (f .least)) (le-yes (d .index) (c .quota) (f .most)))
+      both-yes _ _ (lt-yes (d .creator) (c .servers) (f .creator)) (both-yes _ _ (le-yes 1 (d .index) (f .least)) (le-yes (d .index) mostNumber (f .most)))
 
   pub action-facts : (a : Action) → actionOk c a ≡ true → ActionFits (c .servers) (c .quota) a
   unfolding actionOk
   action-facts a h =
       let x = and-holds _ _ h in
       let y = and-holds _ _ (x .1) in
-      record { id = id-facts (a .id) (x .0); greenLength = length-facts (a .greenLength) (y .0); payload = payload-facts (a .payload) (y .1) }
+      let z = and-holds _ _ (y .1) in
+      record {
+        id = id-facts (a .id) (x .0);
+        greenLength = length-range (a .greenLength) (y .0);
+        whiteLength = length-range (a .whiteLength) (z .0);
+        payload = payload-facts (a .payload) (z .1);
+      }
 
   pub action-ok : (a : Action) → ActionFits (c .servers) (c .quota) a → actionOk c a ≡ true
   unfolding actionOk
   action-ok a f =
-      both-yes _ _ (id-ok (a .id) (f .id)) (both-yes _ _ (length-ok (a .greenLength) (f .greenLength)) (payload-ok (a .payload) (f .payload)))
+      both-yes _ _ (id-ok (a .id) (f .id)) (both-yes _ _ (length-ok (a .greenLength) (f .greenLength))
+      (both-yes _ _ (length-ok (a .whiteLength) (f .whiteLength)) (payload-ok (a .payload) (f .payload))))
 
   pub primary-facts : (p : Primary) → primaryOk c p ≡ true → PrimaryFits (c .servers) p
   unfolding primaryOk indexOk
@@ -152,15 +154,18 @@ module _ (c : Context) where
   ids-ok (x ∷ xs) f = both-yes _ _ (id-ok x (f .0)) (ids-ok xs (f .1))
 
   pub yellow-facts : (y : Yellow) → yellowOk c y ≡ true → YellowFits (c .servers) (c .quota) y
-  unfolding yellowOk idsOk statusOk
+  unfolding yellowOk statusOk idsOk
   yellow-facts y h =
       let a = and-holds _ _ h in
-      let b = and-holds _ _ (a .1) in
-      record { status = le-holds (y .status) 1 (a .0); ids = ids-facts (y .ids) (b .0); once = differ-once (y .ids) (b .1) }
+      let d = and-holds _ _ (a .1) in
+      let b = and-holds _ _ (d .1) in
+      record { status = le-holds (y .status) 1 (a .0); few = le-holds _ _ (d .0); ids = ids-facts (y .ids) (b .0); once = differ-once (y .ids) (b .1) }
 
   pub yellow-ok : (y : Yellow) → YellowFits (c .servers) (c .quota) y → yellowOk c y ≡ true
-  unfolding yellowOk idsOk statusOk
-  yellow-ok y f = both-yes _ _ (le-yes (y .status) 1 (f .status)) (both-yes _ _ (ids-ok (y .ids) (f .ids)) (once-differ (y .ids) (f .once)))
+  unfolding yellowOk statusOk idsOk
+  yellow-ok y f =
+      both-yes _ _ (le-yes (y .status) 1 (f .status))
+      (both-yes _ _ (le-yes _ _ (f .few)) (both-yes _ _ (ids-ok (y .ids) (f .ids)) (once-differ (y .ids) (f .once))))
 
   pub state-facts : (x : State) → stateOk c x ≡ true → StateFits (c .servers) (c .quota) x
   unfolding stateOk configurationOk indexOk
@@ -177,8 +182,8 @@ module _ (c : Context) where
         sender = lt-holds (x .sender) (c .servers) (a₁ .0);
         configuration = lt-holds (x .configuration) (2 ^ 32) (a₂ .0);
         cuts-length = eq-holds (length (x .cuts)) (c .servers) (a₃ .0);
-        cuts = cuts-facts (c .quota) (x .cuts) (a₄ .0);
-        greenLength = length-facts (x .greenLength) (a₅ .0);
+        cuts = cuts-facts mostNumber (x .cuts) (a₄ .0);
+        greenLength = length-range (x .greenLength) (a₅ .0);
         attempt = le-holds (x .attempt) mostIndex (a₆ .0);
         last = primary-facts (x .last) (a₇ .0);
         mark = mark-facts (x .mark) (a₈ .0);
@@ -191,7 +196,7 @@ module _ (c : Context) where
       both-yes _ _ (lt-yes (x .sender) (c .servers) (f .sender))
       (both-yes _ _ (lt-yes (x .configuration) (2 ^ 32) (f .configuration))
       (both-yes _ _ (eq-yes (length (x .cuts)) (c .servers) (f .cuts-length))
-      (both-yes _ _ (cuts-ok (c .quota) (x .cuts) (f .cuts))
+      (both-yes _ _ (cuts-ok mostNumber (x .cuts) (f .cuts))
       (both-yes _ _ (length-ok (x .greenLength) (f .greenLength))
       (both-yes _ _ (le-yes (x .attempt) mostIndex (f .attempt))
       (both-yes _ _ (primary-ok (x .last) (f .last)) (both-yes _ _ (mark-ok (x .mark) (f .mark)) (yellow-ok (x .yellow) (f .yellow)))))))))
@@ -203,10 +208,3 @@ module _ (c : Context) where
   pub own-set-ok : (s : ℕ) → OwnSetFits (c .servers) (c .self) s → ownSetOk c s ≡ true
   unfolding ownSetOk
   own-set-ok s f = both-yes _ _ (set-ok s (f .below)) (f .own)
-
--- Ids in range that differ are at most n × q.
-pub ids-short : (n q : ℕ) (xs : List Id) → Each (IdFits n q) xs → ((d : Id) → idCount d xs ≤ 1) → length xs ≤ n * q
-ids-short n q xs f once = ids-count context xs (ids-ok context xs f) (once-differ xs once)
-  where
-    context : Context
-    context = record { servers = n; quota = q; self = 0; last = none }

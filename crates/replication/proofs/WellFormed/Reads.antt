@@ -18,24 +18,27 @@ use Rattle.format.specs.Write.{write}
 use Rattle.format.proofs.RoundTrip.{read-written}
 use Rattle.replication.specs.Machine.Types.{Server, taken}
 use Rattle.replication.specs.Machine.Step.{apply, step}
+use Rattle.replication.specs.Machine.White.{full, sieved, tookWhite}
 use Rattle.replication.specs.Machine.WellFormed.{wellFormed}
 use Rattle.replication.proofs.WellFormed.Clauses.{SizesFit}
 use Rattle.replication.proofs.WellFormed.SentFacts.{RecordFits, PutOut}
 use Rattle.replication.specs.Laws.Sending.{Peer}
 use Rattle.replication.specs.Laws.Transitions.{TakenBy}
 use Rattle.replication.proofs.Step.Inversion.{taken-by}
+use Rattle.replication.proofs.WellFormed.RuleFacts.{sieved-fits}
 use Rattle.replication.proofs.WellFormed.Ranges.{sizes-ok, length-ok, action-ok, state-ok}
 use Rattle.replication.proofs.WellFormed.Facts.{well-formed-facts}
 use Rattle.replication.proofs.WellFormed.Kept.{after-taken}
 use Rattle.replication.proofs.WellFormed.Steps.{taken-fits}
 use Rattle.replication.proofs.WellFormed.Sent.{apply-out}
+use Rattle.replication.proofs.WellFormed.Places.{rule-place, met-sieved, took-rises, took-low}
 
 -- ---- in range for a reader
 
 fields-fit : (c : Context) (r : Record) → RecordFits (c .servers) (c .quota) r → fieldsOk c r ≡ true
 unfolding fieldsOk configurationOk
 fields-fit c (action a) f = action-ok c a f
-fields-fit c (retransmission k p a) f = both-yes _ _ (lt-yes _ _ (f .0)) (both-yes _ _ (length-ok c p (f .1)) (action-ok c a (f .2)))
+fields-fit c (retransmission k p a) f = both-yes _ _ (lt-yes _ _ (f .0)) (both-yes _ _ (length-ok p (f .1)) (action-ok c a (f .2)))
 fields-fit c (state x) f = state-ok c x f
 fields-fit c (cpc k i) f = both-yes _ _ (lt-yes _ _ (f .0)) (lt-yes _ _ (f .1))
 fields-fit c (regular i t) f = absurd f
@@ -73,8 +76,11 @@ module _ (s : Server) (f : wellFormed s ≡ true) (c : Context) (p : Peer s c) w
 module _ (s : Server) (e : List ℕ) (t : Server) (bs : List (List ℕ)) (b : Bool) (g : List Action) (f : wellFormed s ≡ true) where
   pub taken-put-out : (d : TakenBy s e t bs b g) → PutOut (s .servers) (s .quota) (s .me) (d .records)
   taken-put-out d =
-      after-taken (λ u r. PutOut (s .servers) (s .quota) (s .me) r) (apply (d .rule) s) t (d .records) b g (d .applied)
-      (apply-out s (well-formed-facts s f) (d .rule) (taken-fits s e t bs b g d))
+      after-taken (λ u r. PutOut (s .servers) (s .quota) (s .me) r) (apply (sieved (full (d .rule) s) (d .rule)) s) (d .core) (d .records) b g (d .applied)
+      (let k = d .rule in
+      apply-out s (well-formed-facts s f) (tookWhite k s) (took-rises k s) (sieved (full k s) k)
+      (subst (λ l. tookWhite k s ≤ length (l .green)) (sym (met-sieved s (full k s) k)) (took-low k s (well-formed-facts s f .white)))
+      (sieved-fits (full k s) k s (taken-fits s e t bs b g d)) (rule-place k s))
 
   pub step-put-out : step s e ≡ taken t bs b g → (rs : List Record) × (bs ≡ map write rs) × PutOut (s .servers) (s .quota) (s .me) rs
   step-put-out h = let d = taken-by s e t bs b g h in (d .records, d .written, taken-put-out d)

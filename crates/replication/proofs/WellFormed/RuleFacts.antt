@@ -1,9 +1,10 @@
 -- What each rule may rely on: the record was in range, the state takes it by this rule, and rows 5, 6 and 3 do not apply.
 use Prim.Native.Nat.{ℕ, _<_}
 use mathlib.Core.Path.{_≡_, refl, subst}
-use mathlib.Core.Bool.{true}
+use mathlib.Core.Bool.{Bool, true, false}
 use mathlib.Core.Option.{none, some, Option·some-injective, Option·none-ne-some}
-use Rattle.base.specs.Tests.{_or_}
+use native.Mathlib.Omega.{arith}
+use Rattle.base.specs.Tests.{_or_, pick}
 use Rattle.base.proofs.TestLaws.{and-holds, eq-yes, le-holds, lt-holds}
 use Rattle.format.specs.Types.{Action, State, Record, action, retransmission, state, cpc, regular, transitional, request, recovery}
 use Rattle.format.specs.Range.{actionOk, configurationOk, fieldsOk, recordOk}
@@ -12,11 +13,38 @@ use Rattle.replication.specs.Machine.Rules.{Rule, ignoring, reddening, g
 use Rattle.replication.specs.Laws.Transitions.{stays, parts, interruptsStates, interruptsActions, interruptsConstruct}
 use Rattle.replication.specs.Machine.WellFormedRanges.{StateFits, ConfigurationFits, TransitionalFits}
 use Rattle.replication.proofs.WellFormed.Ranges.{payload-facts, action-facts, state-facts, own-set-facts}
+use Rattle.replication.specs.Machine.White.{beyond, sifted, sieved}
 use Rattle.replication.specs.Laws.RuleFits.{Delivered, RuleFits}
+use Rattle.replication.proofs.WellFormed.Logs.{came}
+
+-- What the sieve leaves is delivered too.
+sifted-delivered : (b : Bool) (s : Server) (a : Action) → Delivered s a → Delivered s (sifted b a)
+unfolding sifted beyond pick
+sifted-delivered false s a d = d
+sifted-delivered true s a d =
+    record { fits = record { creator = d .fits .creator; most = omega arith; greenLength = d .fits .greenLength; whiteLength = d .fits .whiteLength; payload = d .fits .payload }; own = λ e. omega arith }
+
+pub sieved-fits : (b : Bool) (k : Rule) (s : Server) → RuleFits k s → RuleFits (sieved b k) s
+unfolding sieved
+sieved-fits b ignoring s f = f
+sieved-fits b (reddening a) s f = sifted-delivered b s a f
+sieved-fits b (greening a) s f = (sifted-delivered b s a (f .0), f .1)
+sieved-fits b (yellowing a) s f = (sifted-delivered b s a (f .0), f .1)
+sieved-fits b (lateInstalling a) s f = (sifted-delivered b s a (f .0), f .1)
+sieved-fits b (exchanging p a) s f = (sifted-delivered b s a (f .0), f .1)
+sieved-fits b (collectingState x) s f = f
+sieved-fits b (collectingCpc k) s f = f
+sieved-fits b (collectingLateCpc k) s f = f
+sieved-fits b (joining c) s f = f
+sieved-fits b (joiningUnmarked c) s f = f
+sieved-fits b (joiningYellow c) s f = f
+sieved-fits b (leaving m t) s f = f
+sieved-fits b (requesting p) s f = f
+sieved-fits b recovering s f = f
 
 delivered : (s : Server) (a : Action) → actionOk (contextOf s) a ≡ true → numberedOwn s a ≡ true → Delivered s a
 unfolding contextOf numberedOwn _or_
-delivered s a ok own = record { fits = action-facts (contextOf s) a ok; own = λ e. le-holds _ _ (rw (eq-yes _ _ e) at own) }
+delivered s a ok own = record { fits = came (s .servers) (s .quota) a (action-facts (contextOf s) a ok); own = λ e. le-holds _ _ (rw (eq-yes _ _ e) at own) }
 
 -- ---- one table after another
 

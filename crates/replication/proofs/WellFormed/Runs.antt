@@ -1,21 +1,21 @@
 -- The start is well-formed, and so are both images of a server after any events: in a run no event returns 8.
-use Prim.Native.Nat.{ℕ, _<_}
-use mathlib.Core.Path.{_≡_, sym, ap}
+use Prim.Native.Nat.{ℕ, zero, suc, _<_}
+use mathlib.Core.Path.{_≡_, refl, sym, ap, subst}
 use mathlib.Core.Bool.{true}
 use mathlib.Core.List.{List, map}
 use mathlib.Core.Option.{Option, none, Option·none-ne-some}
 use native.Mathlib.Omega.{arith}
-use lib.ListN.{length-replicate}
+use lib.ListN.{replicate, length-replicate}
 use Rattle.base.proofs.TestLaws.{both-yes, lt-yes}
 use Rattle.base.proofs.ListLaws.{replicate-at}
-use Rattle.base.specs.Lists.{after, above}
+use Rattle.base.specs.Lists.{after, above, sum}
 use Rattle.base.specs.Counts.{count}
 use Rattle.base.proofs.SetLaws.{everyone-below}
 use Rattle.format.specs.Range.{sizesOk, contextOk}
 use Rattle.replication.specs.Machine.Types.{start, noStates}
-use Rattle.replication.specs.Machine.Colours.{cut}
+use Rattle.replication.specs.Machine.Colours.{cut, ofCreator}
 use Rattle.replication.specs.Machine.WellFormed.{idsIn, queue, wellFormed}
-use Rattle.replication.proofs.WellFormed.Clauses.{SizesFit, WellFormed, Invariant}
+use Rattle.replication.proofs.WellFormed.Clauses.{SizesFit, WellFormed, Whole, Invariant}
 use Rattle.replication.specs.Images.{started, lived}
 use Rattle.replication.specs.Laws.Images.{OfBoth}
 use Rattle.replication.specs.Laws.Modes.{ColourFactsOf}
@@ -27,7 +27,12 @@ use Rattle.replication.proofs.WellFormed.Ranges.{component-fits, sizes-
 use Rattle.replication.proofs.WellFormed.Facts.{facts-well-formed}
 use Rattle.replication.proofs.WellFormed.Decisions.{empty-below, cleared-mark-fits, no-yellow-fits}
 use Rattle.replication.proofs.WellFormed.Changes.{no-states}
-use Rattle.replication.proofs.WellFormed.Steps.{step-well-formed, step-invariant}
+use Rattle.replication.proofs.WellFormed.Steps.{step-invariant, yellow-rooms}
+
+sum-zeros : (n : ℕ) → sum (replicate n 0) ≡ 0
+unfolding sum
+sum-zeros zero = refl
+sum-zeros (suc n) = omega (arith, sum-zeros n)
 
 module _ (n q i : ℕ) (sizes : sizesOk n q ≡ true) (own : i < n) where
   start-sizes : SizesFit n q i
@@ -35,7 +40,7 @@ module _ (n q i : ℕ) (sizes : sizesOk n q ≡ true) (own : i < n) where
   start-sizes = sizes-facts (record { servers = n; quota = q; self = i; last = none }) (both-yes _ _ sizes (lt-yes i n own))
 
   start-facts : WellFormed (start n q i)
-  unfolding start cut count idsIn queue noStates above after
+  unfolding start cut count idsIn queue noStates above after ofCreator
   start-facts = record {
     sizes = start-sizes;
     log = record {
@@ -63,8 +68,10 @@ module _ (n q i : ℕ) (sizes : sizesOk n q ≡ true) (own : i < n) where
     };
     noted-length = length-replicate n 0;
     noted = λ c. omega (arith, replicate-at {A = ℕ} 0 n c);
+    white = omega arith;
     once = λ d. omega arith;
-    held-to-cuts = record { within = λ d h. absurd (omega arith); entered = λ d low high. absurd (omega (arith, replicate-at {A = ℕ} 0 n (d .creator))) };
+    within = λ d h. absurd (omega arith);
+    places = record { counted = sym (sum-zeros n); unwhites = λ c h. omega arith; own-room = omega arith };
     own-list = record { numbered = omega (arith, replicate-at {A = ℕ} 0 n i); ids = ap (λ k. map (λ j. record { creator = i; index = j }) (above k 0)) (sym (replicate-at {A = ℕ} 0 n i)) };
     mode = tt;
   }
@@ -72,9 +79,17 @@ module _ (n q i : ℕ) (sizes : sizesOk n q ≡ true) (own : i < n) where
   pub start-well-formed : wellFormed (start n q i) ≡ true
   start-well-formed = facts-well-formed (start n q i) start-facts
 
+  start-whole : Whole ((start n q i) .log)
+  unfolding start cut count idsIn queue
+  start-whole = record {
+    least = λ d h. absurd (omega arith);
+    once = λ d. omega arith;
+    held-to-cuts = record { within = λ d h. absurd (omega arith); entered = λ d low high. absurd (omega (arith, replicate-at {A = ℕ} 0 n (d .creator))) };
+  }
+
   pub start-invariant : Invariant (start n q i)
   unfolding start
-  start-invariant = record { well-formed = start-facts; yellow = tt }
+  start-invariant = record { well-formed = start-facts; whole = start-whole; yellow = tt }
 
   -- ---- after any events
 
@@ -92,7 +107,11 @@ module _ (n q i : ℕ) (sizes : sizesOk n q ≡ true) (own : i < n) where
   pub colour-facts : (es : List (Option (List ℕ))) → OfBoth ColourFactsOf (lived (started (start n q i)) es)
   unfolding start started
   colour-facts es =
-      let both = lived-each (λ s. (wellFormed s ≡ true) × ColourFactsOf s)
-      (λ s e t bs b g h p. (step-well-formed s e t bs b g (p .0) h, colour-facts-kept s (p .0) (moved (taken-by s e t bs b g h) .0) (p .1)))
-      (started (start n q i)) es (record { memory = (start-well-formed, tt); store = (start-well-formed, tt) }) in
+      let both = lived-each (λ s. Invariant s × ColourFactsOf s)
+      (λ s e t bs b g h p. (
+        step-invariant s e t bs b g (p .0) h,
+        let x = taken-by s e t bs b g h in
+            subst ColourFactsOf (sym (x .raise)) (colour-facts-kept s (facts-well-formed s (p .0 .well-formed)) (moved x .0) (yellow-rooms s e t bs b g (p .0) x) (p .1)),
+      ))
+      (started (start n q i)) es (record { memory = (start-invariant, tt); store = (start-invariant, tt) }) in
       record { memory = both .memory .1; store = both .store .1 }

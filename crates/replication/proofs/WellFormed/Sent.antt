@@ -1,9 +1,10 @@
 -- Each rule puts out records that are in range and name the server as sender, not too many and not too long.
-use Prim.Native.Nat.{ℕ, _<_}
+use Prim.Native.Nat.{ℕ, _≤_, _<_}
 use mathlib.Core.Path.{_≡_, refl, subst}
-use mathlib.Core.Bool.{true}
+use mathlib.Core.Bool.{true, false}
 use mathlib.Core.List.{List, []}
-use Rattle.base.specs.Tests.{_=?_}
+use lib.ListN.{length}
+use Rattle.base.specs.Tests.{_and_, _=?_, _≤?_}
 use Rattle.base.proofs.TestLaws.{pick-as}
 use Rattle.format.specs.Types.{Action, State, Record}
 use Rattle.replication.specs.Machine.Types.{Exchange-states, Exchange-actions, Construct, Un, Server, Outcome, withVotes, inMode}
@@ -22,6 +23,9 @@ use Rattle.replication.specs.Laws.RuleFits.{Delivered, StateCame, RuleFi
 use Rattle.replication.proofs.WellFormed.Effects.{exchanged-body, install-body, number-body}
 use Rattle.replication.proofs.WellFormed.Exchanges.{with-state-body, with-cpc-body, unmarked-body, yellow-valid-body}
 use Rattle.replication.proofs.WellFormed.Kept.{After}
+use Rattle.replication.proofs.WellFormed.Logs.{HasPlace}
+use Rattle.replication.proofs.WellFormed.Places.{RulePlace, raised-body}
+use Rattle.replication.specs.Machine.White.{metLog}
 use Rattle.replication.proofs.WellFormed.Records.{none-out, cpc-out, state-out, waiting-out, resent-out}
 
 abbrev pub PutsOut : Server → Outcome Record → Type 0
@@ -32,18 +36,18 @@ PutBy s r = PutOut (s .servers) (s .quota) (s .me) r
 
 -- ---- the end of an exchange, at t
 
-module _ (s t : Server) (b : Body t) (c : Configured t) where
+module _ {w : ℕ} (s t : Server) (b : Body w t) (c : Configured t) where
   end-out : PutsOut t (endExchange s t)
   unfolding endExchange stored decided sendWaiting
   end-out =
       pick-as (PutsOut t) (quorum (collected t) (hereSet t)) _ _ (λ h. cpc-out t b (hereId t) (here-id-below t b (c .0) (c .1)))
       (λ h. waiting-out t b _ refl)
 
-  states-out : PutsOut t (afterStates s t)
+  states-out : t .white ≡ w → PutsOut t (afterStates s t)
   unfolding afterStates sent
-  states-out =
-      pick-as (PutsOut t) (plannedNow t =? 0) (endExchange s t) (sent s (resending t) (ownPart (t .servers) (t .me) (t .log) (collected t))) (λ h. end-out)
-      (λ h. resent-out t b (collected t) (collected-fit t b))
+  states-out e =
+      pick-as (PutsOut t) (plannedNow t =? 0) (endExchange s t) (sent s (resending t) (ownPart (t .servers) (t .me) (t .white) (t .log) (collected t))) (λ h. end-out)
+      (λ h. resent-out t b e (collected t) (collected-fit t b))
 
 -- ---- the rules
 
@@ -51,11 +55,11 @@ module _ (s : Server) (f : WellFormed s) where
   nothing-out : PutBy s []
   nothing-out = none-out (s .servers) (s .quota) (s .me)
 
-  exchanging-out : (p : ℕ) (a : Action) → Delivered s a → s .membership .mode ≡ Exchange-actions → PutsOut s (exchange p a s)
+  exchanging-out : {w : ℕ} → Body w s → (p : ℕ) (a : Action) → Delivered s a → ((1 ≤? p and p ≤? length (s .log .green)) ≡ false → HasPlace (s .quota) w a (s .log)) → s .membership .mode ≡ Exchange-actions → PutsOut s (exchange p a s)
   unfolding exchange quiet exchanged oneMore
-  exchanging-out p a d e =
+  exchanging-out b p a d z e =
       pick-as (PutsOut s) (allCome (exchanged p a s)) (endExchange s (exchanged p a s)) (quiet s (exchanged p a s))
-      (λ h. end-out s (exchanged p a s) (exchanged-body s (body s f) a d p (fits .2)) (fits .0)) (λ h. nothing-out)
+      (λ h. end-out s (exchanged p a s) (exchanged-body s b a d p z (fits .2)) (fits .0)) (λ h. nothing-out)
     where
       fits : Configured s × StatesIn s × (s .membership .come < plannedNow s)
       fits = subst (λ m. ModeFits m s) e (f .mode)
@@ -64,7 +68,7 @@ module _ (s : Server) (f : WellFormed s) where
   unfolding collectState quiet withState
   collectingState-out x c e =
       pick-as (PutsOut s) (allStatesIn (withState x s)) (afterStates s (withState x s)) (quiet s (withState x s))
-      (λ h. states-out s (withState x s) (with-state-body s (body s f) x c) (subst (λ m. ModeFits m s) e (f .mode))) (λ h. nothing-out)
+      (λ h. states-out s (withState x s) (with-state-body s (body s f) x c) (subst (λ m. ModeFits m s) e (f .mode)) refl) (λ h. nothing-out)
 
   collectingCpc-out : (k : ℕ) → k < s .servers → s .membership .mode ≡ Construct → PutsOut s (collectCpc k s)
   unfolding collectCpc installing quiet stored withCpc install
@@ -84,22 +88,22 @@ module _ (s : Server) (f : WellFormed s) where
   unfolding requested stored numbered
   requesting-out p g q =
       pick-as (PutsOut s) (sendsNow (s .membership)) (stored s (sendWaiting (numbered p s)) (waitingRecords (numbered p s))) (stored s (numbered p s) [])
-      (λ h. waiting-out (numbered p s) (number-body s (body s f) p g q) _ refl) (λ h. nothing-out)
+      (λ h. waiting-out (numbered p s) (number-body s (body s f) p refl g q) _ refl) (λ h. nothing-out)
 
-  pub apply-out : (k : Rule) → RuleFits k s → PutsOut s (apply k s)
-  unfolding apply quiet stored join
-  apply-out ignoring r = nothing-out
-  apply-out (reddening a) r = nothing-out
-  apply-out (greening a) r = nothing-out
-  apply-out (yellowing a) r = nothing-out
-  apply-out (lateInstalling a) r = nothing-out
-  apply-out (exchanging p a) r = exchanging-out p a (r .0) (r .1)
-  apply-out (collectingState x) r = collectingState-out x (r .0) (r .1)
-  apply-out (collectingCpc k) r = collectingCpc-out k (r .0) (r .1)
-  apply-out (collectingLateCpc k) r = collectingLateCpc-out k
-  apply-out (joining c) r = state-out s (body s f) c r
-  apply-out (joiningUnmarked c) r = state-out (withVotes (unmarked (s .votes)) s) (unmarked-body s (body s f)) c r
-  apply-out (joiningYellow c) r = state-out (withVotes (yellowValid (unmarked (s .votes))) s) (yellow-valid-body s (body s f)) c r
-  apply-out (leaving m t) r = nothing-out
-  apply-out (requesting p) r = requesting-out p (r .0) (r .1)
-  apply-out recovering r = nothing-out
+  pub apply-out : (w : ℕ) → s .white ≤ w → (k : Rule) → w ≤ length (metLog k s .green) → RuleFits k s → RulePlace w k s → PutsOut s (apply k s)
+  unfolding apply quiet stored join metLog
+  apply-out w rise ignoring low r h = nothing-out
+  apply-out w rise (reddening a) low r h = nothing-out
+  apply-out w rise (greening a) low r h = nothing-out
+  apply-out w rise (yellowing a) low r h = nothing-out
+  apply-out w rise (lateInstalling a) low r h = nothing-out
+  apply-out w rise (exchanging p a) low r h = exchanging-out (raised-body s (body s f) rise low) p a (r .0) h (r .1)
+  apply-out w rise (collectingState x) low r h = collectingState-out x (r .0) (r .1)
+  apply-out w rise (collectingCpc k) low r h = collectingCpc-out k (r .0) (r .1)
+  apply-out w rise (collectingLateCpc k) low r h = collectingLateCpc-out k
+  apply-out w rise (joining c) low r h = state-out s (body s f) c r
+  apply-out w rise (joiningUnmarked c) low r h = state-out (withVotes (unmarked (s .votes)) s) (unmarked-body s (body s f)) c r
+  apply-out w rise (joiningYellow c) low r h = state-out (withVotes (yellowValid (unmarked (s .votes))) s) (yellow-valid-body s (body s f)) c r
+  apply-out w rise (leaving m t) low r h = nothing-out
+  apply-out w rise (requesting p) low r h = requesting-out p (r .0) (r .1)
+  apply-out w rise recovering low r h = nothing-out

@@ -6,6 +6,7 @@ use mathlib.Core.Option.{Option, none, some}
 use lib.ListN.{length}
 use Rattle.base.specs.Bytes.{joined}
 use Rattle.base.specs.Lists.{Each}
+use Rattle.format.specs.Limits.{mostLength}
 use Rattle.format.specs.Places.{mostRetransmission}
 use Rattle.format.specs.Types.{Record, action, retransmission, state, cpc, regular, transitional, request, recovery}
 use Rattle.format.specs.Write.{write}
@@ -25,7 +26,7 @@ senderOf recovery = none
 -- In range for every server with the same n and q.
 abbrev pub RecordFits : ℕ → ℕ → Record → Type 0
 RecordFits n q (action a) = ActionFits n q a
-RecordFits n q (retransmission k p a) = (k < n) × (p ≤ n * q) × ActionFits n q a
+RecordFits n q (retransmission k p a) = (k < n) × (p ≤ mostLength) × ActionFits n q a
 RecordFits n q (state x) = StateFits n q x
 RecordFits n q (cpc k i) = (k < n) × (i < 2 ^ 32)
 RecordFits n q (regular i t) = ⊥

@@ -16,7 +16,7 @@ abbrev yellowId : Id
 yellowId = record { creator = 1; index = 1 }
 
 abbrev yellowAction : Action
-yellowAction = record { id = yellowId; greenLength = 0; payload = [] }
+yellowAction = record { id = yellowId; greenLength = 0; whiteLength = 0; payload = [] }
 
 -- Server 0 of 2, quota 1, in Trans_prim: nothing held, and server 1's first action on the yellow list.
 abbrev before : Server
@@ -28,6 +28,7 @@ before = record {
   votes = record { last = firstPrimary 3; attempt = 0; mark = clearedMark; yellow = record { status = 0; ids = yellowId ∷ [] } };
   membership = record { mode = Trans-prim; configuration = some (record { id = 1; set = 3 }); transitional = some 3; states = none ∷ none ∷ []; cpcs = 0; come = 0 };
   noted = 0 ∷ 0 ∷ [];
+  white = 0;
 }
 
 -- The red actions and the yellow ids of the new state.

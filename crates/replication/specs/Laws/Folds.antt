@@ -7,7 +7,7 @@ use lib.ListN.{getD, set}
 use Rattle.base.specs.Tests.{_=?_, pick}
 use Rattle.format.specs.Types.{Id, Action}
 use Rattle.replication.specs.Machine.Types.{Log, Server}
-use Rattle.replication.specs.Machine.Colours.{green, addId, yellow}
+use Rattle.replication.specs.Machine.Colours.{green, addId}
 
 -- "an action is entered only if its index is its creator's cut plus one"
 unfoldable pub follows : List ℕ → Action → Bool

@@ -30,8 +30,8 @@ pub record PartSent (s : Server) (r : Record) (t : Server) (rs : List Record) (b
   pub from : modeOf s ≡ Exchange-states
   pub to : modeOf t ≡ Exchange-actions
   pub complete : allStatesIn t ≡ true
-  pub whole : rs ≡ ownPart (t .servers) (t .me) (t .log) (collected t)
-  pub planned : Resent (t .me) (t .log) (collected t) e
+  pub whole : rs ≡ ownPart (t .servers) (t .me) (t .white) (t .log) (collected t)
+  pub planned : Resent (t .me) (t .white) (t .log) (collected t) e
   pub unstored : b ≡ false
 
 -- The CPC of k in the configuration i: at the end of an exchange with a quorum, alone, stored first.

@@ -58,7 +58,7 @@ ignores (some k) = isIgnored k
 unfoldable pub row6 : Server → List ℕ → Bool
 row6 s e = tested (λ r. not (ignores (ruleFor (modeOf s) r)) and not (fromMember (s .membership) r)) (recordOf s e)
 
--- "request, actions numbered so far .. already q"
+-- K6: "Number 3 is given when either bound is reached, not before."
 unfoldable pub row3 : Server → List ℕ → Bool
 row3 s e = tested (λ r. not (withinQuota s r)) (recordOf s e)
 

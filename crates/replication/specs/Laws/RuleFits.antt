@@ -2,6 +2,7 @@
 use Prim.Native.Nat.{ℕ, _≤_, _<_}
 use mathlib.Core.Path.{_≡_}
 use mathlib.Core.Bool.{true}
+use Rattle.format.specs.Limits.{mostNumber, mostLength}
 use Rattle.format.specs.Types.{Action, State}
 use Rattle.replication.specs.Machine.Types.{Reg-prim, Trans-prim, Exchange-states, Exchange-actions, Construct, No, Un}
 use Rattle.replication.specs.Machine.Types.{Server, modeOf}
@@ -9,16 +10,24 @@ use Rattle.replication.specs.Machine.Requests.{quotaLeft}
 use Rattle.replication.specs.Machine.Rules.{Rule, ignoring, reddening, greening, yellowing, lateInstalling, exchanging, collectingState}
 use Rattle.replication.specs.Machine.Rules.{collectingCpc, collectingLateCpc, joining, joiningUnmarked, joiningYellow, leaving, requesting}
 use Rattle.replication.specs.Machine.Rules.{recovering, memberOf, isOf}
-use Rattle.replication.specs.Machine.WellFormedRanges.{PayloadFits, ActionFits, StateFits, ConfigurationFits, TransitionalFits}
+use Rattle.replication.specs.Machine.WellFormedRanges.{PayloadFits, StateFits, ConfigurationFits, TransitionalFits}
 use Rattle.replication.specs.Laws.Transitions.{Leads}
 
 -- An own action is among those numbered.
 abbrev pub Numbered : (me k : ℕ) → Action → Type 0
 Numbered me k a = a .id .creator ≡ me → a .id .index ≤ k
 
+-- What is asked of an action that comes: its index is asked to be 1 or more only by being entered.
+pub record Came (n q : ℕ) (a : Action) : Type 0 where
+  pub creator : a .id .creator < n
+  pub most : a .id .index ≤ mostNumber
+  pub greenLength : a .greenLength ≤ mostLength
+  pub whiteLength : a .whiteLength ≤ mostLength
+  pub payload : PayloadFits (a .payload)
+
 -- An action that was delivered, or resent: in range, and numbered already if it is the server's own.
 pub record Delivered (s : Server) (a : Action) : Type 0 where
-  pub fits : ActionFits (s .servers) (s .quota) a
+  pub fits : Came (s .servers) (s .quota) a
   pub own : Numbered (s .me) (s .log .numbered) a
 
 -- A State that row 6 does not refuse.

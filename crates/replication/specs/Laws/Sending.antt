@@ -1,18 +1,17 @@
 -- What a taken event puts out and numbers.
-use Prim.Native.Nat.{ℕ, _+_, _-_, _≤_, _<_}
+use Prim.Native.Nat.{ℕ, _+_, _≤_, _<_}
 use mathlib.Core.Path.{_≡_}
 use mathlib.Core.Bool.{Bool, true, false}
 use mathlib.Core.List.{List, [], _∷_, _++_, map, List·Memᴰ}
 use mathlib.Core.Option.{some}
 use lib.ListN.{length}
 use Rattle.base.specs.Tests.{_=?_}
-use Rattle.base.specs.Lists.{at}
 use Rattle.format.specs.Types.{Action, State, Record, Context, action, retransmission, state, cpc, regular, request}
 use Rattle.replication.specs.Machine.Types.{Non-prim, Reg-prim, Exchange-states, Exchange-actions, Construct}
 use Rattle.replication.specs.Machine.Types.{Log, Configuration, Server, modeOf}
-use Rattle.replication.specs.Machine.Colours.{find}
+use Rattle.replication.specs.Machine.Colours.{find, placesOf}
 use Rattle.replication.specs.Machine.Exchange.{quorum}
-use Rattle.replication.specs.Machine.Plan.{missing, cutIn, greenIn, ownPart}
+use Rattle.replication.specs.Machine.Plan.{missing, cutIn, greenIn, heldAt, ownPart}
 use Rattle.replication.specs.Machine.Requests.{sendsNow, madeOf, unsent}
 use Rattle.replication.specs.Machine.Step.{ownState, hereSet, hereId, collected, allStatesIn, plannedNow, withCpc, allCpcsIn}
 use Rattle.replication.specs.Laws.Order.{SameNumbers}
@@ -41,7 +40,7 @@ pub data PutsOut (s : Server) (r : Record) (t : Server) : List Record → Bool �
   -- "When every member's State is in: send one's part of the plan, to Exchange_actions."
   partOfPlan : (x : State) → r ≡ state x → modeOf s ≡ Exchange-states → modeOf t ≡ Exchange-actions → allStatesIn t ≡ true
       → (plannedNow t =? 0) ≡ false → SameNumbers (s .log) (t .log)
-      → PutsOut s r t (ownPart (t .servers) (t .me) (t .log) (collected t)) false
+      → PutsOut s r t (ownPart (t .servers) (t .me) (t .white) (t .log) (collected t)) false
   -- "attempt + 1, mark .., store, send CPC, Construct"
   cpcOnAttempt : EndsExchange s r → quorum (statesWith r s) (hereSet s) ≡ true → modeOf t ≡ Construct
       → SameNumbers (s .log) (t .log) → PutsOut s r t (cpc (t .me) (hereId t) ∷ []) true
@@ -58,21 +57,23 @@ pub data PutsOut (s : Server) (r : Record) (t : Server) : List Record → Bool �
       → modeOf t ≡ Reg-prim → t .log .numbered ≡ s .log .numbered → SendsWaiting (s .log .sent) t rs → PutsOut s r t rs true
 
 -- An own action that t has numbered after s: its creator, its index above those that s has numbered and among those that t has; it carries the green
--- length of s, and is on the own list.
+-- and the white length of s, and is on the own list.
 pub record Own (s t : Server) (a : Action) : Type 0 where
   pub creator : a .id .creator ≡ s .me
   pub above : s .log .numbered < a .id .index
   pub within : a .id .index ≤ t .log .numbered
   pub green-length : a .greenLength ≡ length (s .log .green)
+  pub white-length : a .whiteLength ≡ s .white
   pub listed : List·Memᴰ a (t .log .own)
 
--- A record of one's part of the plan: "positions from the shortest length + 1", or "for each creator .. from the lowest cut + 1 .., as red".
-pub data Resent (me : ℕ) (l : Log) (xs : List State) (r : Record) : Type 0 where
-  asGreen : (p : ℕ) (a : Action) → List·Memᴰ p (missing greenIn xs) → at (l .green) (p - 1) ≡ some a
-      → r ≡ retransmission me p a → Resent me l xs r
+-- A record of one's part of the plan: "positions from the shortest length + 1", or "for each creator .. from the lowest cut + 1 .., as red", of what
+-- is held and not white.
+pub data Resent (me w : ℕ) (l : Log) (xs : List State) (r : Record) : Type 0 where
+  asGreen : (p : ℕ) (a : Action) → List·Memᴰ p (missing greenIn xs) → heldAt w l p ≡ some a
+      → r ≡ retransmission me p a → Resent me w l xs r
   asRed : (c i : ℕ) (a : Action) → List·Memᴰ i (missing (cutIn c) xs)
-      → find (record { creator = c; index = i }) (l .green ++ l .red) ≡ some a
-      → r ≡ retransmission me 0 a → Resent me l xs r
+      → find (record { creator = c; index = i }) (placesOf w l) ≡ some a
+      → r ≡ retransmission me 0 a → Resent me w l xs r
 
 -- ---- who reads them
 

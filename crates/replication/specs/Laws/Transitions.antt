@@ -9,7 +9,7 @@ use Rattle.format.specs.Types.{Action, State, Record, action, retransmission, s
 use Rattle.format.specs.Read.{read}
 use Rattle.format.specs.Write.{write}
 use Rattle.replication.specs.Machine.Types.{Mode, Non-prim, Reg-prim, Trans-prim, Exchange-states, Exchange-actions, Construct, No, Un}
-use Rattle.replication.specs.Machine.Types.{Configuration, Server, taken, withLog, withVotes, inMode, modeOf, contextOf}
+use Rattle.replication.specs.Machine.Types.{Configuration, Server, taken, withLog, withVotes, withWhite, inMode, modeOf, contextOf}
 use Rattle.replication.specs.Machine.Colours.{red, yellow}
 use Rattle.replication.specs.Machine.Exchange.{quorum}
 use Rattle.replication.specs.Machine.Install.{install}
@@ -19,6 +19,7 @@ use Rattle.replication.specs.Machine.Rules.{Rule, ruleFor, possible, fro
 use Rattle.replication.specs.Machine.Step.{entering, ownState, unmarked, yellowValid, hereSet, hereId, collected, decided, attempting}
 use Rattle.replication.specs.Machine.Step.{withState, allStatesIn, plannedNow, resending, exchanged, allCome, withCpc, allCpcsIn, leave}
 use Rattle.replication.specs.Machine.Step.{greenAndNote, apply}
+use Rattle.replication.specs.Machine.White.{full, sieved, whiteAfter}
 
 -- ---- the rule
 
@@ -32,7 +33,9 @@ pub record TakenBy (s : Server) (e : List ℕ) (t : Server) (bs : List (List ℕ
   pub can : possible s event ≡ true
   pub member : (isIgnored rule or fromMember (s .membership) event) ≡ true
   pub quota : withinQuota s event ≡ true
-  pub applied : apply rule s ≡ taken t records b g
+  pub core : Server
+  pub applied : apply (sieved (full rule s) rule) s ≡ taken core records b g
+  pub raise : t ≡ withWhite (whiteAfter rule s core) core
   pub written : bs ≡ map write records
 
 -- ---- the transition: each rule with the state that has it and the tests that it makes
@@ -72,7 +75,7 @@ pub data Transition (s : Server) : Record → Server → List Record → Bool �
   collects : (x : State) → modeOf s ≡ Exchange-states → allStatesIn (withState x s) ≡ false
       → Transition s (state x) (withState x s) [] false
   collectsLast : (x : State) → modeOf s ≡ Exchange-states → allStatesIn (withState x s) ≡ true → (plannedNow (withState x s) =? 0) ≡ false
-      → Transition s (state x) (resending (withState x s)) (ownPart (s .servers) (s .me) (s .log) (collected (withState x s))) false
+      → Transition s (state x) (resending (withState x s)) (ownPart (s .servers) (s .me) (s .white) (s .log) (collected (withState x s))) false
   collectsWhole : (x : State) (t : Server) (rs : List Record) → modeOf s ≡ Exchange-states → allStatesIn (withState x s) ≡ true
       → (plannedNow (withState x s) =? 0) ≡ true → Ends (withState x s) t rs → Transition s (state x) t rs true
   -- a CPC that is not the last; the last; the same after a transitional configuration

@@ -1,10 +1,10 @@
 -- Document 01, 'What each event does', second paragraph: Red, Yellow, Green.
-use Prim.Native.Nat.{ℕ, _+_, max}
+use Prim.Native.Nat.{ℕ, suc, _+_, _*_, max}
 use mathlib.Core.Bool.{Bool}
 use mathlib.Core.List.{List, [], _∷_, _++_}
 use mathlib.Core.Option.{Option, none, some}
-use lib.ListN.{getD, set}
-use Rattle.base.specs.Tests.{_=?_, pick}
+use lib.ListN.{length, drop, getD, set}
+use Rattle.base.specs.Tests.{_=?_, _<?_, pick}
 use Rattle.format.specs.Types.{Id, Action}
 use Rattle.format.specs.Range.{sameId, hasId}
 use Rattle.replication.specs.Machine.Types.{Log, Votes, Server, withLog, withVotes, withYellow}
@@ -85,13 +85,36 @@ green a l = greenId (a .id) (red a l)
 unfoldable pub addId : Id → List Id → List Id
 addId d ids = pick (hasId d ids) ids (ids ++ (d ∷ []))
 
-unfoldable pub joinYellow : Id → Votes → Votes
-joinYellow d v = withYellow (record { status = v .yellow .status; ids = addId d (v .yellow .ids) }) v
+-- K6: "A yellow list has at most n × q ids; none joins a full one."
+unfoldable pub addWithin : ℕ → Id → List Id → List Id
+addWithin most d ids = pick (length ids <? most) (addId d ids) ids
+
+unfoldable pub joinYellow : ℕ → Id → Votes → Votes
+joinYellow most d v = withYellow (record { status = v .yellow .status; ids = addWithin most d (v .yellow .ids) }) v
 
 unfoldable pub yellow : Action → Server → Server
-yellow a s = pick (isNext (s .log) a) (withVotes (joinYellow (a .id) (s .votes)) (withLog (enter a (s .log)) s)) s
+yellow a s = pick (isNext (s .log) a) (withVotes (joinYellow (s .servers * s .quota) (a .id) (s .votes)) (withLog (enter a (s .log)) s)) s
 
 -- ---- noted lengths: "a noted length never falls"
 
 unfoldable pub note : ℕ → ℕ → List ℕ → List ℕ
 note c l noted = set noted c (max (getD noted c 0) l)
+
+-- ---- K6: what has a place
+
+-- How many of these actions the server c made.
+unfoldable pub ofCreator : ℕ → List Action → ℕ
+ofCreator c [] = 0
+ofCreator c (a ∷ l) = pick (a .id .creator =? c) (suc (ofCreator c l)) (ofCreator c l)
+
+-- What has a place: all entered that is not white.
+unfoldable pub placesOf : ℕ → Log → List Action
+placesOf w l = drop w (l .green) ++ l .red
+
+-- The log with the first w green actions left out: what a state's places show.
+abbrev pub shown : ℕ → Log → Log
+shown w l = record { green = drop w (l .green); red = l .red; cuts = l .cuts; own = l .own; numbered = l .numbered; sent = l .sent }
+
+-- How many actions of the creator c are entered and not white, the first w green ones being white.
+unfoldable pub unwhite : ℕ → ℕ → Log → ℕ
+unwhite c w l = ofCreator c (placesOf w l)

@@ -4,11 +4,11 @@ use mathlib.Core.Bool.{Bool, false}
 use mathlib.Core.List.{List, [], _∷_, _++_, map}
 use mathlib.Core.Option.{Option, none, some}
 use lib.ListN.{length, getD}
-use Rattle.base.specs.Tests.{_=?_, pick}
+use Rattle.base.specs.Tests.{_=?_, _≤?_, pick}
 use Rattle.base.specs.Lists.{gather, gatherAll, above, below, at, sum}
 use Rattle.format.specs.Types.{Action, State, Record, retransmission}
 use Rattle.replication.specs.Machine.Types.{Log}
-use Rattle.replication.specs.Machine.Colours.{find}
+use Rattle.replication.specs.Machine.Colours.{find, placesOf}
 
 -- ---- the numbers of the plan: f is the green length, or the cut of one creator
 
@@ -57,18 +57,21 @@ unfoldable pub resent : ℕ → ℕ → Option Action → Option Record
 resent me position none = none
 resent me position (some a) = some (retransmission me position a)
 
+-- The green action at the position p, of those that are not white: w are. A white action is left out.
+unfoldable pub heldAt : ℕ → Log → ℕ → Option Action
+heldAt w l p = pick (p ≤? w) none (at (l .green) (p - 1))
+
 -- "the server with the longest green list resends positions from the shortest length + 1 to its own."
-unfoldable pub resendGreen : ℕ → Log → List State → List Record
-resendGreen me l xs =
-    pick (isMe me (resender greenIn xs)) (gather (λ p. resent me p (at (l .green) (p - 1))) (missing greenIn xs)) []
+unfoldable pub resendGreen : (me w : ℕ) → Log → List State → List Record
+resendGreen me w l xs = pick (isMe me (resender greenIn xs)) (gather (λ p. resent me p (heldAt w l p)) (missing greenIn xs)) []
 
 -- "Then for each creator the server with the highest cut resends from the lowest cut + 1 to it, as red." "An action that the resender does not
 -- hold is left out, yet counts as planned."
-unfoldable pub resendRed : ℕ → Log → List State → ℕ → List Record
-resendRed me l xs c =
+unfoldable pub resendRed : (me w : ℕ) → Log → List State → ℕ → List Record
+resendRed me w l xs c =
     pick (isMe me (resender (cutIn c) xs))
-    (gather (λ i. resent me 0 (find (record { creator = c; index = i }) (l .green ++ l .red))) (missing (cutIn c) xs))
+    (gather (λ i. resent me 0 (find (record { creator = c; index = i }) (placesOf w l))) (missing (cutIn c) xs))
     []
 
-unfoldable pub ownPart : ℕ → ℕ → Log → List State → List Record
-ownPart n me l xs = resendGreen me l xs ++ gatherAll (resendRed me l xs) (below n)
+unfoldable pub ownPart : (n me w : ℕ) → Log → List State → List Record
+ownPart n me w l xs = resendGreen me w l xs ++ gatherAll (resendRed me w l xs) (below n)

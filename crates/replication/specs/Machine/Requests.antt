@@ -6,10 +6,11 @@ use mathlib.Core.Option.{Option, none, some}
 use lib.ListN.{length}
 use Rattle.base.specs.Tests.{_and_, _<?_}
 use Rattle.base.specs.Lists.{filter, isThere}
+use Rattle.format.specs.Limits.{mostNumber}
 use Rattle.format.specs.Types.{Action, Record, action}
 use Rattle.replication.specs.Machine.Types.{Mode, Non-prim, Reg-prim, Trans-prim, Exchange-states, Exchange-actions, Construct, No, Un}
 use Rattle.replication.specs.Machine.Types.{Log, Membership, Server, withLog, withMembership, withOwn, withSent, noStates}
-use Rattle.replication.specs.Machine.Colours.{reds}
+use Rattle.replication.specs.Machine.Colours.{reds, unwhite}
 
 -- The latest configuration since start or recovery is regular.
 unfoldable pub inRegular : Option ℕ → Bool
@@ -30,15 +31,21 @@ sendsIn Un r = false
 unfoldable pub sendsNow : Membership → Bool
 sendsNow m = sendsIn (m .mode) (isThere (m .configuration) and inRegular (m .transitional))
 
--- Document 02, K4: "3 counts numbered actions". Already q does not apply.
-unfoldable pub quotaLeft : Server → Bool
-quotaLeft s = s .log .numbered <? s .quota
+-- Document 02, K6: "Quota now bounds a creator's actions that are not white in its own state": the own ones entered, and K4's on the own list.
+abbrev pub unwhiteOwn : Server → ℕ
+unwhiteOwn s = unwhite (s .me) (s .white) (s .log) + length (s .log .own)
 
--- K4: "A request is now numbered, put on the own list and stored whenever it comes"; "It carries the green length of when it was numbered."
+-- "indexes and cuts run to 65,535"; "Number 3 is given when either bound is reached, not before."
+unfoldable pub quotaLeft : Server → Bool
+quotaLeft s = unwhiteOwn s <? s .quota and s .log .numbered <? mostNumber
+
+-- K4: "A request is now numbered, put on the own list and stored whenever it comes"; "It carries the green length of when it was numbered."; K6:
+-- "Action bodies gain the creator's white length when numbered".
 unfoldable pub madeOf : List ℕ → Server → Action
 madeOf p s = record {
   id = record { creator = s .me; index = s .log .numbered + 1 };
   greenLength = length (s .log .green);
+  whiteLength = s .white;
   payload = p;
 }
 

@@ -19,6 +19,7 @@ use Rattle.replication.specs.Machine.Plan.{planned, ownPart}
 use Rattle.replication.specs.Machine.Exchange.{noteAll, takenVotes, attempted, quorum}
 use Rattle.replication.specs.Machine.Install.{install}
 use Rattle.replication.specs.Machine.Requests.{sendsNow, numbered, sendWaiting, waitingRecords, recovered}
+use Rattle.replication.specs.Machine.White.{full, sieved, raised}
 use Rattle.replication.specs.Machine.Rules.{Rule, ignoring, reddening, greening, yellowing, lateInstalling, exchanging, collectingState}
 use Rattle.replication.specs.Machine.Rules.{collectingCpc, collectingLateCpc, joining, joiningUnmarked, joiningYellow, leaving, requesting}
 use Rattle.replication.specs.Machine.Rules.{recovering, ruleFor, possible, fromMember, isIgnored, withinQuota}
@@ -134,7 +135,7 @@ resending s = withMembership (withMode Exchange-actions (withCome 0 (s .membersh
 
 unfoldable pub afterStates : Server → Server → Outcome Record
 afterStates s t =
-    pick (plannedNow t =? 0) (endExchange s t) (sent s (resending t) (ownPart (t .servers) (t .me) (t .log) (collected t)))
+    pick (plannedNow t =? 0) (endExchange s t) (sent s (resending t) (ownPart (t .servers) (t .me) (t .white) (t .log) (collected t)))
 
 unfoldable pub collectState : State → Server → Outcome Record
 collectState x s = pick (allStatesIn (withState x s)) (afterStates s (withState x s)) (quiet s (withState x s))
@@ -216,7 +217,7 @@ applyRule none s r = refused 5
 applyRule (some k) s r =
     pick (possible s r)
     (pick (isIgnored k or fromMember (s .membership) r)
-    (pick (withinQuota s r) (apply k s) (refused 3))
+    (pick (withinQuota s r) (raised k s (apply (sieved (full k s) k) s)) (refused 3))
     (refused 6))
     (refused 5)
 

@@ -54,6 +54,7 @@ pub record Server : Type 0 where
   pub votes : Votes
   pub membership : Membership
   pub noted : List ℕ
+  pub white : ℕ
 
 -- What an event gives: its refusal number, or the new state, the records to send in order, whether to store first, and the actions that turned
 -- green, in order.
@@ -65,7 +66,7 @@ pub data Outcome (R : Type 0) : Type 0 where
 
 -- The server s with these parts.
 abbrev parts : Server → Log → Votes → Membership → List ℕ → Server
-parts s l v m d = record { servers = s .servers; quota = s .quota; me = s .me; log = l; votes = v; membership = m; noted = d }
+parts s l v m d = record { servers = s .servers; quota = s .quota; me = s .me; log = l; votes = v; membership = m; noted = d; white = s .white }
 
 abbrev pub withLog : Log → Server → Server
 withLog l s = parts s l (s .votes) (s .membership) (s .noted)
@@ -78,6 +79,25 @@ withMembership m s = parts s (s .log) (s .votes) m (s .noted)
 
 abbrev pub withNoted : List ℕ → Server → Server
 withNoted d s = parts s (s .log) (s .votes) (s .membership) d
+
+abbrev pub withWhite : ℕ → Server → Server
+withWhite w s = record {
+  servers = s .servers;
+  quota = s .quota;
+  me = s .me;
+  log = s .log;
+  votes = s .votes;
+  membership = s .membership;
+  noted = s .noted;
+  white = w;
+}
+
+-- The green list g.
+abbrev pub withGreens : List Action → Log → Log
+withGreens g l = record { green = g; red = l .red; cuts = l .cuts; own = l .own; numbered = l .numbered; sent = l .sent }
+
+abbrev pub withGreen : List Action → Server → Server
+withGreen g s = withLog (withGreens g (s .log)) s
 
 -- One more numbered, on the own list.
 abbrev pub withOwn : Action → Log → Log
@@ -139,6 +159,7 @@ start n q i = record {
   votes = record { last = firstPrimary (everyone n); attempt = 0; mark = clearedMark; yellow = noYellow };
   membership = record { mode = Non-prim; configuration = none; transitional = none; states = noStates n; cpcs = 0; come = 0 };
   noted = replicate {A = ℕ} n 0;
+  white = 0;
 }
 
 -- ---- what a record is read against

@@ -2,23 +2,23 @@
 -- What the row does not name is accepted (docs/DECISIONS.md, 32). "out of range" is read so that these are tested too (24, 31, 73):
 -- a configuration's set holds the server, a transitional one too and lies inside the configuration's, if any; a collected State stands at its
 -- sender's number and is of the configuration's id and of one of its members, so that there is none without a configuration; own actions are
--- sent and entered up to the last numbered; at most 2 n q have come. Lists by server have n entries.
-use Prim.Native.Nat.{ℕ, _+_, _*_}
+-- sent and entered up to the last numbered; no more have come than can be planned. Lists by server have n entries.
+use Prim.Native.Nat.{ℕ, _+_}
 use mathlib.Core.Bool.{Bool, true, false, not}
 use mathlib.Core.List.{List, [], _∷_, _++_, map}
 use mathlib.Core.Option.{Option, none, some}
 use lib.ListN.{length}
 use Rattle.base.specs.Tests.{_and_, _=?_, _≤?_, _<?_}
-use Rattle.base.specs.Lists.{all, above, isThere}
+use Rattle.base.specs.Lists.{all, above, below, sum, isThere}
 use Rattle.base.specs.Sets.{inSet, inside}
-use Rattle.format.specs.Limits.{mostIndex}
+use Rattle.format.specs.Limits.{mostIndex, mostNumber, mostPlanned}
 use Rattle.format.specs.Types.{Id, Action, State, Context}
 use Rattle.format.specs.Range.{contextOk, lengthOk, actionOk, cutsOk, indexOk, setOk, ownSetOk, primaryOk, markOk, yellowOk}
-use Rattle.format.specs.Range.{configurationOk, stateOk, sameId, hasId, idsDiffer}
+use Rattle.format.specs.Range.{configurationOk, stateOk, sameId, idsDiffer}
 use Rattle.replication.specs.Machine.Types.{Mode, Non-prim, Reg-prim, Trans-prim, Exchange-states, Exchange-actions, Construct, No, Un}
 use Rattle.replication.specs.Machine.Types.{Log, Votes, Configuration, Membership, Server, contextOf}
 use Rattle.replication.specs.Machine.Colours.{cut}
-use Rattle.replication.specs.Machine.Install.{idsUpTo}
+use Rattle.replication.specs.Machine.Colours.{ofCreator, shown}
 use Rattle.replication.specs.Machine.Step.{allStatesIn, allCome}
 
 -- ---- "a number or set out of range"
@@ -28,9 +28,9 @@ logRanges c l =
     all (actionOk c) (l .green)
     and all (actionOk c) (l .red)
     and length (l .cuts) =? c .servers
-    and cutsOk (c .quota) (l .cuts)
+    and cutsOk mostNumber (l .cuts)
     and all (actionOk c) (l .own)
-    and l .numbered ≤? c .quota
+    and l .numbered ≤? mostNumber
     and l .sent ≤? l .numbered
 
 unfoldable pub votesRanges : Context → Votes → Bool
@@ -63,16 +63,17 @@ membershipRanges c m =
     and length (m .states) =? c .servers
     and collectedFit c (m .configuration) 0 (m .states)
     and setOk c (m .cpcs)
-    and m .come ≤? 2 * (c .servers * c .quota)
+    and m .come ≤? mostPlanned (c .servers)
 
 unfoldable pub ranges : Context → Server → Bool
 ranges c s =
     contextOk c
-    and logRanges c (s .log)
+    and logRanges c (shown (s .white) (s .log))
     and votesRanges c (s .votes)
     and membershipRanges c (s .membership)
     and length (s .noted) =? c .servers
-    and all (lengthOk c) (s .noted)
+    and all lengthOk (s .noted)
+    and s .white ≤? length (s .log .green)
 
 -- ---- "an id twice in one list"; the ids of a yellow list differ by its range
 
@@ -87,8 +88,15 @@ queue l = l .green ++ l .red
 unfoldable pub withinCut : Log → Action → Bool
 withinCut l a = a .id .index ≤? cut l (a .id .creator)
 
-unfoldable pub heldToCuts : Log → Bool
-heldToCuts l = all (withinCut l) (queue l) and all (λ d. hasId d (idsIn (queue l))) (idsUpTo 0 (l .cuts))
+unfoldable pub withinCuts : Log → Bool
+withinCuts l = all (withinCut l) (queue l)
+
+-- K6: "Number 8 counts white actions as held, and its q bounds only those not white."
+unfoldable pub placesFit : (n q me w : ℕ) → Log → Bool
+placesFit n q me w l =
+    w + length (queue l) =? sum (l .cuts)
+    and all (λ c. ofCreator c (queue l) ≤? q) (below n)
+    and ofCreator me (queue l) + l .numbered ≤? q + cut l me
 
 -- ---- "an own list that is not own cut + 1 to the last numbered"
 
@@ -120,7 +128,8 @@ modeFits Un s = isThere (s .membership .configuration) and s .votes .last .index
 unfoldable pub wellFormed : Server → Bool
 wellFormed s =
     ranges (contextOf s) s
-    and idsDiffer (idsIn (queue (s .log)))
-    and heldToCuts (s .log)
+    and idsDiffer (idsIn (queue (shown (s .white) (s .log))))
+    and withinCuts (shown (s .white) (s .log))
+    and placesFit (s .servers) (s .quota) (s .me) (s .white) (shown (s .white) (s .log))
     and ownListFits (s .me) (s .log)
     and modeFits (s .membership .mode) s

@@ -9,7 +9,7 @@ use Rattle.base.specs.Bytes.{Bytes}
 use Rattle.base.specs.Lists.{Each}
 use Rattle.base.specs.Counts.{count}
 use Rattle.base.specs.Sets.{inSet}
-use Rattle.format.specs.Limits.{mostPayload, mostIndex}
+use Rattle.format.specs.Limits.{mostPayload, mostIndex, mostNumber, mostLength}
 use Rattle.format.specs.Types.{Id, Action, Primary, Mark, Yellow, State}
 use Rattle.format.specs.Range.{sameId, insideLast}
 use Rattle.replication.specs.Machine.Types.{Configuration, setOf}
@@ -18,11 +18,11 @@ use Rattle.replication.specs.Machine.Types.{Configuration, setOf}
 abbrev pub idCount : Id → List Id → ℕ
 idCount d xs = count (sameId d) xs
 
--- "Indexes of actions run 1 to q"
+-- K6: "indexes and cuts run to 65,535"
 pub record IdFits (n q : ℕ) (d : Id) : Type 0 where
   pub creator : d .creator < n
   pub least : 1 ≤ d .index
-  pub most : d .index ≤ q
+  pub most : d .index ≤ mostNumber
 
 -- "Payload: 0 to 48 bytes."
 pub record PayloadFits (p : List ℕ) : Type 0 where
@@ -31,7 +31,8 @@ pub record PayloadFits (p : List ℕ) : Type 0 where
 
 pub record ActionFits (n q : ℕ) (a : Action) : Type 0 where
   pub id : IdFits n q (a .id)
-  pub greenLength : a .greenLength ≤ n * q
+  pub greenLength : a .greenLength ≤ mostLength
+  pub whiteLength : a .whiteLength ≤ mostLength
   pub payload : PayloadFits (a .payload)
 
 pub record PrimaryFits (n : ℕ) (p : Primary) : Type 0 where
@@ -49,6 +50,7 @@ pub record MarkFits (n : ℕ) (m : Mark) : Type 0 where
 -- "Ids in a yellow list differ."
 pub record YellowFits (n q : ℕ) (y : Yellow) : Type 0 where
   pub status : y .status ≤ 1
+  pub few : length (y .ids) ≤ n * q
   pub ids : Each (IdFits n q) (y .ids)
   pub once : (d : Id) → idCount d (y .ids) ≤ 1
 
@@ -56,8 +58,8 @@ pub record StateFits (n q : ℕ) (x : State) : Type 0 where
   pub sender : x .sender < n
   pub configuration : x .configuration < 2 ^ 32
   pub cuts-length : length (x .cuts) ≡ n
-  pub cuts : (c : ℕ) → getD (x .cuts) c 0 ≤ q
-  pub greenLength : x .greenLength ≤ n * q
+  pub cuts : (c : ℕ) → getD (x .cuts) c 0 ≤ mostNumber
+  pub greenLength : x .greenLength ≤ mostLength
   pub attempt : x .attempt ≤ mostIndex
   pub last : PrimaryFits n (x .last)
   pub mark : MarkFits n (x .mark)

@@ -3,13 +3,16 @@ use Prim.Native.Nat.{ℕ, _≤_, _<_}
 use mathlib.Core.Path.{_≡_}
 use mathlib.Core.Bool.{Bool, true}
 use mathlib.Core.List.{List, [], _∷_, _++_, List·Memᴰ}
+use mathlib.Core.Logic.{_⊎_}
 use mathlib.Core.Option.{Option, none, some}
 use Rattle.base.specs.Lists.{at}
+use Rattle.format.specs.Limits.{mostNumber}
 use Rattle.format.specs.Types.{Id, Action, Context, action, request, says}
 use Rattle.format.specs.Range.{sizesOk}
 use Rattle.format.specs.Read.{read}
 use Rattle.replication.specs.Machine.Types.{Server, Outcome, taken, start, contextOf}
-use Rattle.replication.specs.Machine.Requests.{sendsNow, madeOf, waiting}
+use Rattle.replication.specs.Machine.Colours.{placesOf}
+use Rattle.replication.specs.Machine.Requests.{sendsNow, unwhiteOwn, madeOf, waiting}
 use Rattle.replication.specs.Machine.Step.{step}
 use Rattle.replication.specs.Machine.WellFormed.{idsIn, queue, wellFormed}
 use Rattle.replication.specs.Images.{Images, started, arrive, leftBy, savedIn, lived}
@@ -68,12 +71,13 @@ AllPutOut =
 
 -- ---- "once entered it is not sent"
 
--- "once entered it is not sent": no action that an event puts out is entered in the state that it leaves.
+-- "once entered it is not sent": no action that an event puts out is entered in the state that it leaves. Those white in s, which number 8 only
+-- counts, are left out; a start has none.
 unfoldable pub EnteredNotSent : Type 0
 EnteredNotSent =
     (s : Server) → wellFormed s ≡ true → (es : List (Option (List ℕ))) (e : List ℕ) (j : ℕ) (bytes : List ℕ) (c : Context) (a : Action)
     → at (recordsOf (arrive (lived (started s) es) e)) j ≡ some bytes → Peer s c → read c bytes ≡ says (action a)
-    → List·Memᴰ (a .id) (idsIn (queue (next (lived (started s) es) e .memory .log))) → ⊥
+    → List·Memᴰ (a .id) (idsIn (placesOf (s .white) (next (lived (started s) es) e .memory .log))) → ⊥
 
 -- ---- nothing that was answered 0 is lost: "stored whenever it comes", "After a crash it is an own-list action like any other"
 
@@ -108,13 +112,15 @@ NothingLostInRuns =
     → at l x ≡ some (event i e k) → TakesRequest (worldAt n q l x .images i) e p t rs b g
     → (y : ℕ) → x < y → OfBoth (HasAction (madeOf p (worldAt n q l x .images i .memory))) (worldAt n q l y .images i)
 
--- ---- "whenever it comes", "3 counts numbered actions"
+-- ---- "whenever it comes"; K6: "Number 3 is given when either bound is reached, not before."
 
--- "numbered .. and stored whenever it comes": taken and stored below the quota, 3 else.
+-- "numbered .. and stored whenever it comes": taken and stored below both bounds, 3 else.
 pub record TakenUntilQuota : Type 0 where
-  pub below : (s : Server) (e p : List ℕ) → read (contextOf s) e ≡ says (request p) → s .log .numbered < s .quota
+  pub below : (s : Server) (e p : List ℕ) → read (contextOf s) e ≡ says (request p)
+      → unwhiteOwn s < s .quota → s .log .numbered < mostNumber
       → (t : Server) × (rs : List (List ℕ)) × (g : List Action) × (step s e ≡ taken t rs true g)
-  pub used : (s : Server) (e p : List ℕ) → read (contextOf s) e ≡ says (request p) → s .quota ≤ s .log .numbered
+  pub used : (s : Server) (e p : List ℕ) → read (contextOf s) e ≡ says (request p)
+      → (s .quota ≤ unwhiteOwn s) ⊎ (mostNumber ≤ s .log .numbered)
       → step s e ≡ Outcome.refused 3
 
 -- ---- "4 never occurs"

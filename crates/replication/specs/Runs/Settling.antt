@@ -117,9 +117,10 @@ module _ (n q : ℕ) (l : Run) (c : Configuration) where
     pub record Settles : Type 0 where
       -- "each member sends its State,"
       pub sends-state : (k : ℕ) → inSet k (c .set) ≡ true → putOut n q l (r .took k) ≡ write (state (stateOf k)) ∷ []
-      -- "after m States its part of the plan,": with nothing planned its part is empty, and its CPC goes out with the last State.
+      -- "after m States its part of the plan,": the whole of it, nothing white left out (K6). With nothing planned it is empty, and its CPC goes out
+      -- with the last State.
       pub sends-part : (k p : ℕ) → Undisturbed k (suc p) → arrived ofState k p < howManyMembers → arrived ofState k (suc p) ≡ howManyMembers
-          → 0 < plannedHere → putOut n q l p ≡ map write (ownPart n k (worldAt n q l p .images k .memory .log) allStates)
+          → 0 < plannedHere → putOut n q l p ≡ map write (ownPart n k 0 (worldAt n q l p .images k .memory .log) allStates)
       -- "after the planned retransmissions its CPC,"
       pub sends-cpc : (k p : ℕ) → Undisturbed k (suc p) → Exchanged k (suc p) → (Exchanged k p → ⊥)
           → putOut n q l p ≡ write (cpc k (c .id)) ∷ []

@@ -1,4 +1,4 @@
-use Rattle.outgoing.proofs.PlanLaws.{stated-some, plan-sent}
+use Rattle.outgoing.proofs.PlanLaws.{stated-some, green-first, reds-behind, plan-sent}
 use borrow.Author.Needs.{needs}
 use Rattle.outgoing.proofs.resending.send_plan.Statement.{statement}
 use Rattle.outgoing.proofs.resending.send_plan.Tie as tie
@@ -8,8 +8,8 @@ send-plan-spec =
     tie.close
     (tie.spec
     (λ c κs. search needs)  -- num8-requires
-    (λ c κs. search needs)  -- send-green-requires
+    (λ c κs. search (needs, green-first))  -- send-green-requires
     (λ c κs. search (needs, stated-some))  -- table-requires
-    (λ c κs. search needs)  -- send-reds-requires
+    (λ c κs. search (needs, reds-behind))  -- send-reds-requires
     (λ c. search needs)  -- same-length
     (λ c. search (needs, plan-sent)))  -- returns

@@ -1,8 +1,7 @@
 use borrow.Author.Needs.{needs}
-use Rattle.outgoing.proofs.ResendingLaws.{all-start, all-again, all-end}
-use Rattle.image.specs.Decode.{greensIn}
-use Rattle.outgoing.specs.Resending.{atPosition, Sends}
-use Rattle.base.specs.Lists.{gather, above}
+use Rattle.outgoing.proofs.WalkLaws.{walk-start, position-in, position-room, position-again, walk-end}
+use Rattle.outgoing.specs.Resending.{greensOf, Sends}
+use lib.ListN.{length}
 use Prim.Native.Nat.{_-_, _≤_}
 use native.Mathlib.Omega.{arith}
 use Rattle.outgoing.proofs.resending.send_positions.Statement.{statement}
@@ -10,7 +9,7 @@ use Rattle.outgoing.proofs.resending.send_positions.Tie as tie
 
 abbrev Inv-loop : tie.InvT-loop
 Inv-loop state out₀ at me low high next₀ p₀ out next p =
-    (low ≤ p) × (p - low ≤ high - low) × Sends (p - low) (gather (atPosition me (greensIn state)) (above low p)) at out₀ out next
+    (low ≤ p) × (p - low ≤ high - low) × Sends (length (greensOf me low p state)) (greensOf me low p state) at out₀ out next
 
 abbrev μ-loop : tie.MeasureT-loop
 μ-loop state out₀ at me low high next₀ p₀ out next p = high - p
@@ -21,10 +20,10 @@ send-positions-spec =
     (tie.spec
     Inv-loop
     μ-loop
-    (λ c. (omega arith, omega arith, search (needs, all-start)))  -- loop-holds
+    (λ c. (omega arith, omega arith, search (needs, walk-start)))  -- loop-holds
     (λ c. search needs)  -- add-p
-    (λ c κs. search needs)  -- send-position-requires
+    (λ c κs. (search (needs, position-in), omega arith, search (needs, position-room)))  -- send-position-requires
     (λ c. search needs)  -- loop-less
-    (λ c. (omega arith, omega arith, search (needs, all-again)))  -- loop-again
+    (λ c. (omega arith, omega arith, search (needs, position-again)))  -- loop-again
     (λ c. search needs)  -- same-length
-    (λ c. search (needs, all-end)))  -- returns
+    (λ c. search (needs, walk-end)))  -- returns

@@ -1,14 +1,14 @@
 use borrow.Author.Needs.{needs}
 use Rattle.outgoing.proofs.PlanLaws.{reds-start, reds-creator, reds-room, reds-again, reds-end}
 use Rattle.outgoing.specs.Resending.{redParts, Sends}
-use Prim.Native.Nat.{_*_, _-_, _≤_}
+use lib.ListN.{length}
+use Prim.Native.Nat.{_-_, _≤_}
 use native.Mathlib.Omega.{arith}
 use Rattle.outgoing.proofs.resending.send_reds.Statement.{statement}
 use Rattle.outgoing.proofs.resending.send_reds.Tie as tie
-use Rattle.image.specs.Decode.{quotaIn}
 
 abbrev Inv-loop : tie.InvT-loop
-Inv-loop state out₀ at table me servers next₀ c₀ out next c = (c ≤ servers) × Sends (c * quotaIn state) (redParts state c) at out₀ out next
+Inv-loop state out₀ at table me servers next₀ c₀ out next c = (c ≤ servers) × Sends (length (redParts state c)) (redParts state c) at out₀ out next
 
 abbrev μ-loop : tie.MeasureT-loop
 μ-loop state out₀ at table me servers next₀ c₀ out next c = servers - c

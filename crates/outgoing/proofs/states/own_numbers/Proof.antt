@@ -8,5 +8,6 @@ own-numbers-spec =
     tie.close
     (tie.spec
     (λ c κs. search needs)  -- load-requires
+    (λ c κs. search needs)  -- green-length-requires
     (λ c κs. search needs)  -- own-head-requires
     (λ c. search (needs, numbers-taken)))  -- returns

@@ -1,5 +1,5 @@
 use Rattle.outgoing.proofs.StateLaws.{state-full, state-small, state-done}
-use Rattle.outgoing.proofs.LentLaws.{lent-header, lent-yellow, lent-counts}
+use Rattle.outgoing.proofs.LentLaws.{lent-header, lent-yellow, lent-counts, lent-queue}
 use borrow.Author.Needs.{needs}
 use Rattle.outgoing.proofs.states.send_state.Statement.{statement}
 use Rattle.outgoing.proofs.states.send_state.Tie as tie
@@ -14,7 +14,7 @@ pub send-state-spec : {M : Type 1} → statement M
 send-state-spec =
     tie.close
     (tie.spec
-    (λ c κs. search (needs, lent-header))  -- own-numbers-requires
+    (λ c κs. search (needs, lent-queue))  -- own-numbers-requires
     (λ c κs. search (needs, lent-counts))  -- place-of-requires
     (λ c. search (needs, lent-header))  -- sub-write-state
     (λ c. search (needs, lent-header))  -- part-write-state-start

@@ -1,14 +1,14 @@
-use Rattle.queries.proofs.EntriesCode.{Along, along-starts, along-low, along-few, along-ends, slot-inside, along-full, along-room, along-on}
+use Rattle.queries.proofs.EntriesCode.{Along, along-starts, along-low, along-few, along-ends, along-behind, along-inside, slot-inside, along-full, along-room, along-on}
 use Prim.Native.Nat.{_-_}
 use borrow.Author.Needs.{needs}
 use Rattle.queries.proofs.entries.put_entries.Statement.{statement}
 use Rattle.queries.proofs.entries.put_entries.Tie as tie
 
 abbrev Inv-loop : tie.InvT-loop
-Inv-loop state from green out₀ queue k₀ at₀ out k at = Along state from out₀ out k at
+Inv-loop state from white green out₀ queue k₀ at₀ out k at = Along state from out₀ out k at
 
 abbrev μ-loop : tie.MeasureT-loop
-μ-loop state from green out₀ queue k₀ at₀ out k at = green - k
+μ-loop state from white green out₀ queue k₀ at₀ out k at = green - k
 
 pub put-entries-spec : {M : Type 1} → statement M
 put-entries-spec =
@@ -18,7 +18,7 @@ put-entries-spec =
     μ-loop
     (λ c κs. search needs)  -- place-of-requires
     (λ c. search (needs, along-starts))  -- loop-holds
-    (λ c κs. search needs)  -- green-slot-requires
+    (λ c κs. search (needs, along-behind, along-inside))  -- green-slot-requires
     (λ c. search needs)  -- mul-slot
     (λ c. search needs)  -- add-slot
     (λ c. search needs)  -- add-num8

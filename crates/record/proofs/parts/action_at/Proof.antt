@@ -12,8 +12,10 @@ action-at-spec =
     (λ c κs. search needs)  -- num16-requires
     (λ c. search needs)  -- add-num32
     (λ c κs. search needs)  -- num32-requires
-    (λ c. search needs)  -- add-t9
+    (λ c. search needs)  -- add-num32-2
+    (λ c κs. search needs)  -- num32-requires-2
+    (λ c. search needs)  -- add-t11
     (λ c. search needs)  -- add-num8
     (λ c κs. search needs)  -- num8-requires-2
-    (λ c. search needs)  -- cast-t12
+    (λ c. search needs)  -- cast-t14
     (λ c. search (needs, action-made)))  -- returns

@@ -1,4 +1,4 @@
-use Rattle.register_step.proofs.CarryLaws.{Along, along-starts, along-low, along-ends, slot-inside, one-more, along-on}
+use Rattle.register_step.proofs.CarryLaws.{Along, along-starts, ready-below, along-inside, along-ends, along-onward, slot-inside, one-more, along-on}
 use Rattle.base.proofs.BytesLaws.{given-bytes}
 use Prim.Native.Nat.{_-_}
 use borrow.Author.Needs.{needs}
@@ -18,10 +18,10 @@ carry-spec =
     (tie.spec
     Inv-loop
     μ-loop
-    (λ c κs. search needs)  -- num32-requires
+    (λ c κs. search needs)  -- green-length-requires
     (λ c κs. search needs)  -- place-of-requires
     (λ c. search (needs, along-starts))  -- loop-holds
-    (λ c κs. search needs)  -- green-slot-requires
+    (λ c κs. search (needs, along-inside))  -- green-slot-requires
     (λ c. search needs)  -- mul-slot
     (λ c. search needs)  -- add-slot
     (λ c κs. search (needs, slot-inside))  -- apply-slot-requires
@@ -29,6 +29,6 @@ carry-spec =
     (λ c. search needs)  -- add-k
     (λ c. omega arith)  -- loop-less
     (λ c. search (needs, along-on, given-bytes))  -- loop-again
-    (λ c. search (needs, along-low))  -- sub-t15
+    (λ c. search (needs, ready-below))  -- sub-t15
     (λ c. search needs)  -- same-length
-    (λ c. search (needs, along-ends)))  -- returns
+    (λ c. search (needs, along-ends, along-onward)))  -- returns

@@ -5,21 +5,20 @@ use mathlib.Core.Bool.{true}
 use mathlib.Core.List.{List, List·Memᴰ}
 use mathlib.Core.Option.{some}
 use native.Mathlib.Omega.{arith}
-use Rattle.base.specs.Lists.{at, present}
+use Rattle.base.specs.Lists.{present}
 use Rattle.base.proofs.AtLaws.{some-same}
 use Rattle.base.proofs.Members.{present-has, present-from}
 use Rattle.base.specs.Sets.{inSet}
 use Rattle.format.specs.Types.{State}
 use Rattle.replication.specs.Machine.Types.{Configuration}
-use Rattle.replication.specs.Machine.Plan.{highest, lowest, resender, ownPart}
+use Rattle.replication.specs.Machine.Plan.{highest, lowest, resender}
 use Rattle.replication.specs.Machine.Step.{ownState}
 use Rattle.replication.specs.Runs.Run.{Run}
-use Rattle.replication.specs.Runs.Happenings.{Message, Takes}
-use Rattle.replication.specs.Runs.Allowed.{Allowed}
+use Rattle.replication.specs.Runs.Happenings.{Takes}
+use Rattle.replication.proofs.Runs.Roomy.{Roomy as Allowed}
 use Rattle.replication.proofs.Step.Taken.{highest-covers}
 use Rattle.replication.proofs.Runs.Numbers.{numbers}
 use Rattle.replication.proofs.Runs.Entries.{had}
-use Rattle.replication.proofs.Runs.Deliveries.{Delivery}
 use Rattle.replication.proofs.Runs.AllowedTurns.{memoryAt}
 use Rattle.replication.proofs.Runs.Memberships.{statesIn, everyStateIn}
 use Rattle.replication.proofs.Runs.Stays.{membershipAt}
@@ -27,9 +26,7 @@ use Rattle.replication.proofs.Runs.Progress.{stay-member}
 use Rattle.replication.proofs.Agreement.Exchange.Stages.{InCom}
 use Rattle.replication.proofs.Agreement.Exchange.Collected.{complete-in}
 use Rattle.replication.proofs.Agreement.Exchange.SameStates.{collected-sent, complete-same}
-use Rattle.replication.proofs.Agreement.Exchange.Retransmissions.{PartMessage}
 use Rattle.replication.proofs.Agreement.Contents.Plan.{lowest-covered, resender-highest, someone-resends}
-use Rattle.replication.proofs.Agreement.Contents.Sent.{resending-log, part-same, part-delivered}
 
 module _ {n q : ℕ} {l : Run} (A : Allowed n q l) where
   -- A server that has c took it.
@@ -71,7 +68,7 @@ module _ {n q : ℕ} {l : Run} (A : Allowed n q l) where
     sent-one {e} {k} t m =
         let s = complete-in A i0 c p0 here full k (m .0) (m .1) in
         let y = collected-sent A p0 i0 c here k (s .0) (s .1) in
-        let z : y .0 .at ≡ e = A .once (y .0 .at) e k c (y .0 .took) t in (
+        let z : y .0 .at ≡ e = A .allowed .once (y .0 .at) e k c (y .0 .took) t in (
           subst (λ w. List·Memᴰ w statesOf) (y .0 .says ∙ ap (λ v. ownState c (memoryAt n q l (suc v) k)) z)
               (present-has (s .0) (membershipAt n q l p0 i0 .states) k (s .1)),
           omega (arith, y .1),
@@ -105,7 +102,7 @@ module _ {n q : ℕ} {l : Run} (A : Allowed n q l) where
     pub resender-same : {f : State → ℕ} {e k : ℕ} (r : Resender f) → resender f statesOf ≡ some k → Takes n q l e k c → (r .server ≡ k) × (r .at-place ≡ e)
     resender-same {f} {e} {k} r h t =
         let s : r .server ≡ k = some-same (sym (r .named) ∙ h) in
-        (s, A .once (r .at-place) e k c (subst (λ j. Takes n q l (r .at-place) j c) s (r .took)) t)
+        (s, A .allowed .once (r .at-place) e k c (subst (λ j. Takes n q l (r .at-place) j c) s (r .took)) t)
 
     pub resender-has : (f : State → ℕ) {e k : ℕ} → resender f statesOf ≡ some k → Takes n q l e k c → f (ownState c (memoryAt n q l (suc e) k)) ≡ highest f statesOf
     resender-has f {e} {k} h t =
@@ -123,14 +120,3 @@ module _ {n q : ℕ} {l : Run} (A : Allowed n q l) where
     pub sent-between : (f : State → ℕ) {e k : ℕ} → Takes n q l e k c → (k < n) × (inSet k (c .set) ≡ true)
         → (lowest f statesOf ≤ f (ownState c (memoryAt n q l (suc e) k))) × (f (ownState c (memoryAt n q l (suc e) k)) ≤ highest f statesOf)
     sent-between f t m = let x = sent-one t m .0 in (lowest-covered f _ statesOf x, highest-covers f _ statesOf x)
-
-    -- ---- what is resent
-
-    -- A message of the part of the plan that the server k sent: its place in the part, planned from these States and from what k held when it took c.
-    pub message-at : {x i k e : ℕ} {m : Message} → PartMessage A m k c → (d : Delivery A x i m) → Takes n q l e k c
-        → at (ownPart n k (memoryAt n q l (suc e) k .log) statesOf) (m .number) ≡ some (d .what)
-    message-at {x} {i} {k} {e} {m} u d t =
-        let v = m .sending in
-        let g = resending-log A t v (u .put .before) (u .put .after) (u .put .collecting) (u .put .resending) in
-        let s = states-same (suc v) k (u .put .after) (u .put .complete) in
-        sym (ap (λ z. at (ownPart n k (memoryAt n q l (suc v) k .log) z) (m .number)) s ∙ ap (λ z. at z (m .number)) (part-same n k _ _ statesOf g)) ∙ part-delivered A u d

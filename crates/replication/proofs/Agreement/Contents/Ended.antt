@@ -17,7 +17,7 @@ use Rattle.replication.specs.Machine.Plan.{highest, lowest, resender, cu
 use Rattle.replication.specs.Machine.Step.{ownState}
 use Rattle.replication.specs.Runs.Run.{Run}
 use Rattle.replication.specs.Runs.Happenings.{Takes}
-use Rattle.replication.specs.Runs.Allowed.{Allowed}
+use Rattle.replication.proofs.Runs.Roomy.{Roomy as Allowed}
 use Rattle.replication.proofs.Runs.AllowedTurns.{memoryAt}
 use Rattle.replication.proofs.Runs.Memberships.{statesIn, everyStateIn, plannedIn}
 use Rattle.replication.proofs.Runs.Stays.{membershipAt}
@@ -68,7 +68,7 @@ module _ {n q : ℕ} {l : Run} (A : Allowed n q l) (y i : ℕ) (c : Configuratio
           let x = at-there (had .green) (highest greenIn states - 1) (omega (arith, k)) in
           let j = part-has-position n (r .server) had states (highest greenIn states) (x .0) (r .named) h (omega arith) (x .1) in
           gained .positions (r .server) (highest greenIn states) (x .0)
-          (all-came A c (suc y) i b full count (r .at-place) (r .server) (r .took) (member A c (suc y) i b full y most G (r .took) .0) (j .0) _ (j .1))
+          (all-came A c (suc y) i b full y most G count (r .at-place) (r .server) (r .took) (member A c (suc y) i b full y most G (r .took) .0) (j .0) _ (j .1))
 
   green-longest : greenIdsAt n q l (suc y) i ≡ longest A c (suc y) i b full y most G
   green-longest =
@@ -105,7 +105,7 @@ module _ {n q : ℕ} {l : Run} (A : Allowed n q l) (y i : ℕ) (c : Configuratio
           let j = part-has-index n (r .server) had states d (highest (cutIn d) states) (x .0) inn (r .named) h (omega arith) (x .1) in
           let w =
           gained .indexes (r .server) (x .0)
-          (all-came A c (suc y) i b full count (r .at-place) (r .server) (r .took) (member A c (suc y) i b full y most G (r .took) .0) (j .0) _ (j .1))
+          (all-came A c (suc y) i b full y most G count (r .at-place) (r .server) (r .took) (member A c (suc y) i b full y most G (r .took) .0) (j .0) _ (j .1))
           in
           let z = subst (λ u. u .index ≤ cut (memoryAt n q l (suc y) i .log) (u .creator)) (sym (found-id f (had .green ++ had .red) (x .0) (x .1))) w in
           omega (arith, z, gained .high-cuts d)

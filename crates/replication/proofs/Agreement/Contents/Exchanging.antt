@@ -7,10 +7,10 @@ use native.Mathlib.Decide.{decLt}
 use Rattle.base.proofs.TestLaws.{not-both}
 use Rattle.format.specs.Types.{Action, retransmission, says}
 use Rattle.replication.specs.Machine.Types.{Mode, Non-prim, Reg-prim, Trans-prim, Exchange-states, Exchange-actions, Construct, No, Un, Configuration}
-use Rattle.replication.proofs.WellFormed.Clauses.{WellFormed}
+use Rattle.replication.proofs.WellFormed.Clauses.{Invariant}
 use Rattle.replication.specs.Runs.Run.{Run}
 use Rattle.replication.specs.Runs.Happenings.{isMessage, Comes, Takes}
-use Rattle.replication.specs.Runs.Allowed.{Allowed}
+use Rattle.replication.proofs.Runs.Roomy.{Roomy as Allowed}
 use Rattle.replication.proofs.Runs.Numbers.{numbers, invariant-at}
 use Rattle.replication.proofs.Runs.Shifts.{comes-once}
 use Rattle.replication.proofs.Runs.AllowedTurns.{memoryAt}
@@ -48,8 +48,8 @@ module _ {n q : ℕ} {l : Run} (A : Allowed n q l) (c : Configuration) (p0 i0 : 
   abbrev GainedBy : ℕ → Type 0
   GainedBy y = Gained A c p0 i0 here full t most G (memoryAt n q l y i .log) y i
 
-  formed : (y : ℕ) → InCom n q l y i c → WellFormed (memoryAt n q l y i)
-  formed y a = invariant-at n q i (A .sizes) (stay-member A i y c a .0) l y .memory .well-formed
+  formed : (y : ℕ) → InCom n q l y i c → Invariant (memoryAt n q l y i)
+  formed y a = invariant-at n q i (A .allowed .sizes) (stay-member A i y c a .0) l y .memory
 
   -- By the end of Exchange_states no retransmission has come.
   none-came : (y : ℕ) → InCom n q l y i c → membershipAt n q l y i .mode ≡ Exchange-states → (k p : ℕ) (a : Action) → Came A c (suc y) i (retransmission k p a) → ⊥
@@ -106,7 +106,7 @@ module _ {n q : ℕ} {l : Run} (A : Allowed n q l) (c : Configuration) (p0 i0 : 
             after
             (gained-same A c p0 i0 here full t most G s
             (one-more A c p0 i0 here full t most G (subst (λ r. Comes n q l y i r) e (acting A x)) a (held-exactly _ (formed y a))
-            (formed y a .log .cuts-length ∙ numbers n q i l y .memory .servers) g))
+            (formed y a .well-formed .log .cuts-length ∙ numbers n q i l y .memory .servers) g))
 
     -- From a place in the exchange to the next.
     pub gained-next : stage (membershipAt n q l y i .mode) ≤ 1 → (membershipAt n q l y i .mode ≡ Exchange-actions → GainedBy y) → GainedBy (suc y)

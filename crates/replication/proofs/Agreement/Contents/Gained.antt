@@ -24,7 +24,7 @@ use Rattle.replication.specs.Machine.WellFormed.{idsIn, queue}
 use Rattle.replication.proofs.WellFormed.Clauses.{heldCount}
 use Rattle.replication.specs.Runs.Run.{Run}
 use Rattle.replication.specs.Runs.Happenings.{isMessage, Comes, Takes}
-use Rattle.replication.specs.Runs.Allowed.{Allowed}
+use Rattle.replication.proofs.Runs.Roomy.{Roomy as Allowed}
 use Rattle.replication.proofs.WellFormed.Held.{Found, absent, found, found?}
 use Rattle.replication.proofs.Runs.Numbers.{invariant-at}
 use Rattle.replication.proofs.Runs.Shifts.{comes-of, comes-once}
@@ -95,10 +95,10 @@ module _ {n q : ℕ} {l : Run} (A : Allowed n q l) (c : Configuration) (p0 i0 : 
 
   -- One who took c is a member.
   pub member : {e k : ℕ} → Takes n q l e k c → (k < n) × (inSet k (c .set) ≡ true)
-  member {e} {k} w = (A .servers e k (comes-of w), taker-member w)
+  member {e} {k} w = (A .allowed .servers e k (comes-of w), taker-member w)
 
   pub exact : {e k : ℕ} → Takes n q l e k c → (p : ℕ) → HeldExactly (memoryAt n q l p k .log)
-  exact {e} {k} w p = held-exactly (memoryAt n q l p k) (invariant-at n q k (A .sizes) (member w .0) l p .memory .well-formed)
+  exact {e} {k} w p = held-exactly (memoryAt n q l p k) (invariant-at n q k (A .allowed .sizes) (member w .0) l p .memory)
 
   -- ---- what members had when they took c
 
@@ -202,15 +202,15 @@ module _ {n q : ℕ} {l : Run} (A : Allowed n q l) (c : Configuration) (p0 i0 : 
         index j b (inl z) = omega (arith, g .indexes j b z, s .cuts (b .id .creator))
         index j b (inr z) = subst (λ x. x .id .index ≤ cut w (x .id .creator)) (sym (z .1)) (s .raised (sym (z .0)))
 
-    message : PartMessage A (A .source y) k c
+    message : PartMessage A (A .allowed .source y) k c
     unfolding isMessage
     message = part-message A (coming A come refl) refl inside
 
     -- One by position.
-    position-more : {m : Log} → HeldExactly m → Gained m y i → (e : ℕ) → Takes n q l e k c → (s : Numbered A c p0 i0 here full y i k p a e)
+    position-more : {m : Log} → HeldExactly m → Gained m y i → (e : ℕ) → Takes n q l e k c → (s : Numbered A c p0 i0 here full t most G y i k p a e)
         → resender greenIn states ≡ some k → lowest greenIn states < p → at (memoryAt n q l (suc e) k .log .green) (p - 1) ≡ some a
         → ((j : ℕ) (b : Action) → lowest greenIn states < j → j < p → at (memoryAt n q l (suc e) k .log .green) (j - 1) ≡ some b
-        → (u : ℕ) × (u < s .number) × (at (partFrom A c p0 i0 here full e k) u ≡ some (retransmission k j b)))
+        → (u : ℕ) × (u < s .number) × (at (partFrom A c p0 i0 here full t most G e k) u ≡ some (retransmission k j b)))
         → PlacedAt longest highCut p a m (placed p a m)
     position-more {m} x g e took s r low there before =
         placed-position longest highCut a m (g .begins) (g .high-cuts) bound x longest-fifo p (omega arith) (next (decLt (lowest greenIn states) (p - 1))) in-longest
@@ -234,12 +234,12 @@ module _ {n q : ℕ} {l : Run} (A : Allowed n q l) (c : Configuration) (p0 i0 : 
             omega (arith, g .positions k (p - 1) (b .0) (s .before (w .0) (retransmission k (p - 1) (b .0)) (w .1) (w .2)))
 
     -- One as red, the action d of its creator.
-    index-more : {m : Log} → length (m .cuts) ≡ n → Gained m y i → (e : ℕ) → Takes n q l e k c → (s : Numbered A c p0 i0 here full y i k p a e) (d : Id)
+    index-more : {m : Log} → length (m .cuts) ≡ n → Gained m y i → (e : ℕ) → Takes n q l e k c → (s : Numbered A c p0 i0 here full t most G y i k p a e) (d : Id)
         → d .creator < n → resender (cutIn (d .creator)) states ≡ some k → lowest (cutIn (d .creator)) states < d .index → d .index ≤ highCut (d .creator)
         → d ≡ a .id
         → ((j : ℕ) (b : Action) → lowest (cutIn (d .creator)) states < j → j < d .index
         → find (record { creator = d .creator; index = j }) (memoryAt n q l (suc e) k .log .green ++ memoryAt n q l (suc e) k .log .red) ≡ some b
-        → (u : ℕ) × (u < s .number) × (at (partFrom A c p0 i0 here full e k) u ≡ some (retransmission k 0 b)))
+        → (u : ℕ) × (u < s .number) × (at (partFrom A c p0 i0 here full t most G e k) u ≡ some (retransmission k 0 b)))
         → PlacedAt longest highCut 0 a m (placed 0 a m)
     unfolding cutIn ownState cut
     index-more {m} h g e took s d inn r low high same before =
@@ -267,8 +267,8 @@ module _ {n q : ℕ} {l : Run} (A : Allowed n q l) (c : Configuration) (p0 i0 : 
         took : Takes n q l e k c
         took = took-it A (message .put .before) .1
 
-        num : Numbered A c p0 i0 here full y i k p a e
-        num = numbered A c p0 i0 here full y i k p a e come inside took
+        num : Numbered A c p0 i0 here full t most G y i k p a e
+        num = numbered A c p0 i0 here full t most G y i k p a e come inside took
 
         go : PartRecord n k (memoryAt n q l (suc e) k .log) states (num .number) (retransmission k p a) → PlacedAt longest highCut p a m (placed p a m)
         go (by-position u b s r low high there before) =

@@ -19,7 +19,7 @@ use Rattle.replication.specs.Laws.Transitions.{Ends, Leads, Transition}
 use Rattle.replication.specs.Laws.Order.{SameHeld}
 use Rattle.replication.specs.Runs.Run.{Run}
 use Rattle.replication.specs.Runs.Happenings.{Falls, Takes}
-use Rattle.replication.specs.Runs.Allowed.{Allowed}
+use Rattle.replication.proofs.Runs.Roomy.{Roomy as Allowed}
 use Rattle.replication.proofs.Step.SameHeld.{held-refl, held-same, held-trans}
 use Rattle.replication.proofs.Step.Control.{yellow-membership}
 use Rattle.replication.proofs.Step.Greens.{yellow-green}
@@ -34,7 +34,7 @@ use Rattle.replication.proofs.Agreement.Exchange.Stages.{remains, stage
 use Rattle.replication.proofs.Agreement.Exchange.Endings.{ends-decide}
 use Rattle.replication.proofs.Agreement.Exchange.Marked.{marked-here}
 use Rattle.replication.proofs.Agreement.Exchange.SameStates as S
-use Rattle.replication.proofs.Agreement.Exchange.Installs.{Installing, on-cpc, on-action, installs-on}
+use Rattle.replication.proofs.Agreement.Exchange.Installs.{Installing, on-cpc, on-action, installing-lowered, installs-on}
 use Rattle.replication.proofs.Agreement.Lists.Held.{HeldExactly, held-exactly}
 use Rattle.replication.proofs.Agreement.Lists.Install.{install-same}
 use Rattle.replication.proofs.Agreement.Contents.Agreeable.{greenIdsAt, Agreeable, agreeable-earlier}
@@ -198,7 +198,7 @@ module _ {n q : ℕ} {l : Run} (A : Allowed n q l) where
   installs-green {p} {i} x =
       ap (λ s. s .log .green) (x .acts .memory-next)
       ∙ install-green (x .acts .moves)
-      (subst (λ t. Installing (memoryAt n q l p i) t (x .acts .by .event)) (x .acts .memory-next) (installs-on A x))
+      (installing-lowered (x .acts .white) (subst (λ t. Installing (memoryAt n q l p i) t (x .acts .by .event)) (x .acts .memory-next) (installs-on A x)))
 
   -- The yellow list after the end of an exchange.
   pub ended-yellow : {p i : ℕ} {c : Configuration} (x : EndsAt n q l p i c) → memoryAt n q l (suc p) i .votes .yellow ≡ takenYellow (collected (x .judged))
@@ -237,7 +237,7 @@ module _ {n q : ℕ} {l : Run} (A : Allowed n q l) where
         ∙ ap (λ w. w .yellow) (sym (v .votes))
 
     exact : (p i : ℕ) → InCom n q l p i c → HeldExactly (memoryAt n q l p i .log)
-    exact p i h = held-exactly (memoryAt n q l p i) (invariant-at n q i (A .sizes) (stay-member A i p c h .0) l p .memory .well-formed)
+    exact p i h = held-exactly (memoryAt n q l p i) (invariant-at n q i (A .allowed .sizes) (stay-member A i p c h .0) l p .memory)
 
     pub same-install-ids : greenIdsAt n q l (suc p) i ≡ greenIdsAt n q l (suc r) j
     same-install-ids =

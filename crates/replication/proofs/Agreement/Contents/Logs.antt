@@ -15,7 +15,7 @@ use Rattle.replication.specs.Laws.Transitions.{Ends, Transition}
 use Rattle.replication.specs.Laws.Order.{SameHeld}
 use Rattle.replication.specs.Runs.Run.{Run, heardAt}
 use Rattle.replication.specs.Runs.Happenings.{isMessage, Comes, Falls, by-crash, by-recovery, Takes}
-use Rattle.replication.specs.Runs.Allowed.{Allowed}
+use Rattle.replication.proofs.Runs.Roomy.{Roomy as Allowed}
 use Rattle.replication.proofs.Step.Apart.{sends-in}
 use Rattle.replication.proofs.Step.SameHeld.{held-refl}
 use Rattle.replication.proofs.Runs.Places.{event-not-store, event-entry}

@@ -16,7 +16,7 @@ use Rattle.replication.specs.Machine.Step.{theSet, hereSet, collected, a
 use Rattle.replication.specs.Laws.Transitions as L
 use Rattle.replication.specs.Laws.Transitions.{Ends, Transition}
 use Rattle.replication.specs.Runs.Run.{Run}
-use Rattle.replication.specs.Runs.Allowed.{Allowed}
+use Rattle.replication.proofs.Runs.Roomy.{Roomy as Allowed}
 use Rattle.replication.proofs.Step.Control.{yellow-membership}
 use Rattle.replication.proofs.Runs.Stays.{membershipAt, stay-transitional}
 use Rattle.replication.proofs.Agreement.Terms.{EndsAt, MarksAt}

@@ -18,7 +18,8 @@ use Rattle.base.proofs.Gathered.{at-first, at-second, at-either, gathered-above
 use Rattle.format.specs.Types.{Action, State, Record, retransmission}
 use Rattle.replication.specs.Machine.Types.{Log}
 use Rattle.replication.specs.Machine.Colours.{find}
-use Rattle.replication.specs.Machine.Plan.{highest, lowest, lowestFrom, firstWith, resender, missing, cutIn, greenIn, isMe, resent, resendGreen, resendRed, ownPart}
+use Rattle.replication.specs.Machine.Plan.{highest, lowest, lowestFrom, firstWith, resender, missing, cutIn, greenIn, isMe, resent}
+use Rattle.replication.proofs.Agreement.Contents.Whole.{wholeGreen, wholeRed, wholePart}
 use Rattle.replication.proofs.Runs.LogActions.{each-in}
 
 -- ---- the numbers of the plan
@@ -92,7 +93,7 @@ module _ (f : State → ℕ) where
 
 module _ (n k : ℕ) (l : Log) (xs : List State) where
   abbrev part : List Record
-  part = ownPart n k l xs
+  part = wholePart n k l xs
 
   -- The record number j of the part: which it is, and what stands before it.
   pub data PartRecord (j : ℕ) (r : Record) : Type 0 where
@@ -116,8 +117,8 @@ module _ (n k : ℕ) (l : Log) (xs : List State) where
   resent-yes p o a e = ap (resent k p) e
 
   -- Where it stands in the part, if it stands there by position.
-  position-at : (j : ℕ) (r : Record) → at (resendGreen k l xs) j ≡ some r → PartRecord j r
-  unfolding resendGreen pick at missing ownPart
+  position-at : (j : ℕ) (r : Record) → at (wholeGreen k l xs) j ≡ some r → PartRecord j r
+  unfolding wholeGreen pick at missing wholePart
   position-at j r e = go (known (isMe k (resender greenIn xs)))
     where
       go : Known (isMe k (resender greenIn xs)) → PartRecord j r
@@ -127,12 +128,12 @@ module _ (n k : ℕ) (l : Log) (xs : List State) where
           by-position (g .of) (s .0) (s .2) (is-me k _ h) (g .low) (g .high) (s .1)
           (λ i b u v w.
           let x = g .lower i (retransmission k i b) u v (resent-yes i _ b w) in
-          (x .0, x .1, at-first (resendGreen k l xs) _ (x .0) _ (rw h (x .2))))
+          (x .0, x .1, at-first (wholeGreen k l xs) _ (x .0) _ (rw h (x .2))))
       go (fails h) = none-some (rw h at e)
 
-  index-at : (j u c : ℕ) (r : Record) → c < n → at (resendRed k l xs c) u ≡ some r
-      → ((v : ℕ) (z : Record) → v < u → at (resendRed k l xs c) v ≡ some z → (w : ℕ) × (w < j) × (at part w ≡ some z)) → PartRecord j r
-  unfolding resendRed pick at missing
+  index-at : (j u c : ℕ) (r : Record) → c < n → at (wholeRed k l xs c) u ≡ some r
+      → ((v : ℕ) (z : Record) → v < u → at (wholeRed k l xs c) v ≡ some z → (w : ℕ) × (w < j) × (at part w ≡ some z)) → PartRecord j r
+  unfolding wholeRed pick at missing
   index-at j u c r b e f = go (known (isMe k (resender (cutIn c) xs)))
     where
       go : Known (isMe k (resender (cutIn c) xs)) → PartRecord j r
@@ -147,38 +148,38 @@ module _ (n k : ℕ) (l : Log) (xs : List State) where
       go (fails h) = none-some (rw h at e)
 
   pub part-record : (j : ℕ) (r : Record) → at part j ≡ some r → PartRecord j r
-  unfolding ownPart
-  part-record j r e = go (at-either (resendGreen k l xs) (gatherAll (resendRed k l xs) (below n)) j r e)
+  unfolding wholePart
+  part-record j r e = go (at-either (wholeGreen k l xs) (gatherAll (wholeRed k l xs) (below n)) j r e)
     where
-      go : (at (resendGreen k l xs) j ≡ some r)
-          ⊎ ((i : ℕ) × (j ≡ length (resendGreen k l xs) + i) × (at (gatherAll (resendRed k l xs) (below n)) i ≡ some r)) → PartRecord j r
+      go : (at (wholeGreen k l xs) j ≡ some r)
+          ⊎ ((i : ℕ) × (j ≡ length (wholeGreen k l xs) + i) × (at (gatherAll (wholeRed k l xs) (below n)) i ≡ some r)) → PartRecord j r
       go (inl h) = position-at j r h
       go (inr h) =
-          let g = gathered-part (resendRed k l xs) (below n) (h .0) r (h .2) in
+          let g = gathered-part (wholeRed k l xs) (below n) (h .0) r (h .2) in
           index-at j (g .number) (g .of) r (each-in (λ i. i < n) (below n) (below-each n) (g .of) (g .among)) (g .there)
           (λ v z w x. (
-            length (resendGreen k l xs) + (g .from + v),
+            length (wholeGreen k l xs) + (g .from + v),
             omega (arith, h .1, g .here),
-            at-second (resendGreen k l xs) (gatherAll (resendRed k l xs) (below n)) (g .from + v) ∙ g .whole v z x,
+            at-second (wholeGreen k l xs) (gatherAll (wholeRed k l xs) (below n)) (g .from + v) ∙ g .whole v z x,
           ))
 
   -- What the part has.
   pub part-has-position : (p : ℕ) (a : Action) → resender greenIn xs ≡ some k → lowest greenIn xs < p → p ≤ highest greenIn xs → at (l .green) (p - 1) ≡ some a
       → (j : ℕ) × (at part j ≡ some (retransmission k p a))
-  unfolding resendGreen pick missing ownPart
+  unfolding wholeGreen pick missing wholePart
   part-has-position p a e u v h =
       let g =
       above-gathered (λ i. resent k i (at (l .green) (i - 1))) (lowest greenIn xs) (highest greenIn xs) p (retransmission k p a) u v (resent-yes p _ a h)
       in
-      (g .0, at-first (resendGreen k l xs) _ (g .0) _ (rw (me-is k _ e) (g .1)))
+      (g .0, at-first (wholeGreen k l xs) _ (g .0) _ (rw (me-is k _ e) (g .1)))
 
   pub part-has-index : (c i : ℕ) (a : Action) → c < n → resender (cutIn c) xs ≡ some k → lowest (cutIn c) xs < i → i ≤ highest (cutIn c) xs
       → find (record { creator = c; index = i }) (l .green ++ l .red) ≡ some a → (j : ℕ) × (at part j ≡ some (retransmission k 0 a))
-  unfolding resendRed pick missing ownPart
+  unfolding wholeRed pick missing wholePart
   part-has-index c i a b e u v h =
       let g =
       above-gathered (λ x. resent k 0 (find (record { creator = c; index = x }) (l .green ++ l .red))) (lowest (cutIn c) xs) (highest (cutIn c) xs) i
       (retransmission k 0 a) u v (resent-yes 0 _ a h)
       in
-      let r = part-gathered (resendRed k l xs) (below n) c (retransmission k 0 a) (below-has n c b) (g .0) (rw (me-is k _ e) (g .1)) in
-      (length (resendGreen k l xs) + r .0, at-second (resendGreen k l xs) (gatherAll (resendRed k l xs) (below n)) (r .0) ∙ r .1)
+      let r = part-gathered (wholeRed k l xs) (below n) c (retransmission k 0 a) (below-has n c b) (g .0) (rw (me-is k _ e) (g .1)) in
+      (length (wholeGreen k l xs) + r .0, at-second (wholeGreen k l xs) (gatherAll (wholeRed k l xs) (below n)) (r .0) ∙ r .1)

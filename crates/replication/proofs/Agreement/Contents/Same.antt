@@ -12,7 +12,7 @@ use Rattle.replication.specs.Machine.Colours.{cut}
 use Rattle.replication.specs.Machine.Plan.{highest, resender, cutIn, greenIn}
 use Rattle.replication.specs.Machine.WellFormed.{idsIn}
 use Rattle.replication.specs.Runs.Run.{Run}
-use Rattle.replication.specs.Runs.Allowed.{Allowed}
+use Rattle.replication.proofs.Runs.Roomy.{Roomy as Allowed}
 use Rattle.replication.proofs.Runs.Numbers.{numbers, invariant-at}
 use Rattle.replication.proofs.Runs.AllowedTurns.{memoryAt}
 use Rattle.replication.proofs.Runs.Memberships.{statesIn}
@@ -63,7 +63,7 @@ module _ {n q : ℕ} {l : Run} (A : Allowed n q l) where
         (r .took))
 
     cuts-length : (p k : ℕ) → InCom n q l p k c → length (memoryAt n q l p k .log .cuts) ≡ n
-    cuts-length p k h = invariant-at n q k (A .sizes) (stay-member A k p c h .0) l p .memory .well-formed .log .cuts-length ∙ numbers n q k l p .memory .servers
+    cuts-length p k h = invariant-at n q k (A .allowed .sizes) (stay-member A k p c h .0) l p .memory .well-formed .log .cuts-length ∙ numbers n q k l p .memory .servers
 
     pub same-cuts : memoryAt n q l (suc y) i .log .cuts ≡ memoryAt n q l (suc z) j .log .cuts
     unfolding cut

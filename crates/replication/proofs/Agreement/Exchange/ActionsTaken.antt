@@ -18,7 +18,7 @@ use Rattle.replication.specs.Machine.Step.{theSet}
 use Rattle.replication.proofs.WellFormed.SentFacts.{senderOf}
 use Rattle.replication.specs.Runs.Run.{Run, placeAt}
 use Rattle.replication.specs.Runs.Happenings.{Message, isMessage, Comes, Sends}
-use Rattle.replication.specs.Runs.Allowed.{Allowed}
+use Rattle.replication.proofs.Runs.Roomy.{Roomy as Allowed}
 use Rattle.replication.proofs.Runs.Numbers.{numbers, invariant-at}
 use Rattle.replication.proofs.Runs.Deliveries.{Delivery}
 use Rattle.replication.proofs.Runs.Order.{inRegularOf}
@@ -78,7 +78,7 @@ module _ {n q : ℕ} {l : Run} (A : Allowed n q l) where
   unfolding theSet
   every-cpc-in p i c here f =
       let h = stay-configuration A p i c here in
-      let w = invariant-at n q i (A .sizes) (stay-member A i p c here .0) l p .memory .well-formed .membership .configuration c h .set .below in
+      let w = invariant-at n q i (A .allowed .sizes) (stay-member A i p c here .0) l p .memory .well-formed .membership .configuration c h .set .below in
       ap (λ d. inside (theSet d) (membershipAt n q l p i .cpcs)) h
       ∙ members-inside n (c .set) (membershipAt n q l p i .cpcs) (subst (λ z. c .set < 2 ^ z) (numbers n q i l p .memory .servers) w) (λ k a m. f k m)
 
@@ -115,7 +115,7 @@ module _ {n q : ℕ} {l : Run} (A : Allowed n q l) where
   sender-installed {m} {k} {c} x e = progress-in n _ Reg-prim e (progress A k c (suc (m .sending)) (x .after))
 
   module _ (p i : ℕ) (a : Action) (come : Comes n q l p i (action a)) (c : Configuration) (here : InCom n q l p i c) where
-    message : ActionMessage (A .source p) (a .id .creator) c
+    message : ActionMessage (A .allowed .source p) (a .id .creator) c
     unfolding isMessage
     message = action-message (coming A come refl) refl here
 
@@ -124,9 +124,9 @@ module _ {n q : ℕ} {l : Run} (A : Allowed n q l) where
     unfolding isMessage
     not-attempting x f = go (message .sender-in)
       where
-        go : SendsActions (membershipAt n q l (suc (A .source p .sending)) (a .id .creator) .mode) → ⊥
+        go : SendsActions (membershipAt n q l (suc (A .allowed .source p .sending)) (a .id .creator) .mode) → ⊥
         go (inl e) =
-            one-decision p (suc (A .source p .sending)) i (a .id .creator) c here (message .after) (x .ended .all-in) (x .agreed) (sender-settled message e)
+            one-decision p (suc (A .allowed .source p .sending)) i (a .id .creator) c here (message .after) (x .ended .all-in) (x .agreed) (sender-settled message e)
         go (inr e) =
             not-both (sym (x .not-all-cpcs) ∙ every-cpc-delivered (message .sends) (message .after) (sender-installed message e) (coming A come refl) here f)
 
@@ -135,8 +135,8 @@ module _ {n q : ℕ} {l : Run} (A : Allowed n q l) where
     unfolding isMessage stage
     past = past-exchange A (message .sends) (message .after) (go (message .sender-in)) (λ e. message .regular) (coming A come refl) here
       where
-        go : SendsActions (membershipAt n q l (suc (A .source p .sending)) (a .id .creator) .mode)
-            → 2 ≤ stage (membershipAt n q l (suc (A .source p .sending)) (a .id .creator) .mode)
+        go : SendsActions (membershipAt n q l (suc (A .allowed .source p .sending)) (a .id .creator) .mode)
+            → 2 ≤ stage (membershipAt n q l (suc (A .allowed .source p .sending)) (a .id .creator) .mode)
         go (inl e) = omega (arith, ap stage e)
         go (inr e) = omega (arith, ap stage e)
 

@@ -13,7 +13,7 @@ use Rattle.replication.specs.Machine.Rules.{Rule, ruleFor, possible, mem
 use Rattle.replication.specs.Images.{isRecovery}
 use Rattle.replication.specs.Runs.Run.{Run, heardAt}
 use Rattle.replication.specs.Runs.Happenings.{isMessage, Comes}
-use Rattle.replication.specs.Runs.Allowed.{Allowed}
+use Rattle.replication.proofs.Runs.Roomy.{Roomy as Allowed}
 use Rattle.replication.proofs.Runs.Places.{event-entry}
 use Rattle.replication.proofs.Runs.Refusals.{not-refused}
 use Rattle.replication.proofs.Runs.Readings.{answer-refused}
@@ -46,7 +46,7 @@ message-within s (request p) h = not-both h
 message-within s recovery h = refl
 
 -- What comes as a message is a delivery.
-abbrev pub coming : {n q : ℕ} {l : Run} (A : Allowed n q l) {p i : ℕ} {r : Record} → Comes n q l p i r → isMessage r ≡ true → Delivery A p i (A .source p)
+abbrev pub coming : {n q : ℕ} {l : Run} (A : Allowed n q l) {p i : ℕ} {r : Record} → Comes n q l p i r → isMessage r ≡ true → Delivery A p i (A .allowed .source p)
 coming A {r = r} c h = record { what = r; comes = c; message = h; which = refl }
 
 -- The server i takes an event at p, and it says r.

@@ -14,7 +14,7 @@ use Rattle.format.specs.Types.{Record}
 use Rattle.replication.specs.Machine.Types.{Exchange-states, Configuration}
 use Rattle.replication.specs.Runs.Run.{Run}
 use Rattle.replication.specs.Runs.Happenings.{Message, entry-at, sending-of, Sends, Comes, Causes, in-turn, sends, carries, through}
-use Rattle.replication.specs.Runs.Allowed.{Allowed}
+use Rattle.replication.proofs.Runs.Roomy.{Roomy as Allowed}
 use Rattle.replication.proofs.Runs.Shifts.{comes-of}
 use Rattle.replication.proofs.Runs.Deliveries.{Delivery, delivered-where-sent}
 use Rattle.replication.proofs.Runs.Origins.{origin, delivery-says}
@@ -28,7 +28,7 @@ use Rattle.replication.proofs.Agreement.Exchange.States.{states-recorde
 module _ {n q : ℕ} {l : Run} (A : Allowed n q l) where
   -- The message of what came.
   abbrev pub messageOf : {p i : ℕ} {c : Configuration} {r : Record} → Came A p i c r → Message
-  messageOf w = A .source (w .place)
+  messageOf w = A .allowed .source (w .place)
 
   came-sent : {p i : ℕ} {c : Configuration} {r : Record} (w : Came A p i c r) → (j : ℕ) × Sends n q l j (messageOf w) c
   came-sent w =
@@ -36,20 +36,20 @@ module _ {n q : ℕ} {l : Run} (A : Allowed n q l) where
       (o .sender, subst (λ d. Sends n q l (o .sender) (messageOf w) d) (some-same (sym (o .here) ∙ w .here)) (o .sends))
 
   module _ {m : Message} {k : ℕ} {c : Configuration} (s : Sends n q l k m c) {r : Record} (w : Came A (suc (m .sending)) k c r) where
-    precedes : Causes n q l (A .source) (A .name) (sending-of (messageOf w)) (sending-of m)
+    precedes : Causes n q l (A .allowed .source) (A .allowed .name) (sending-of (messageOf w)) (sending-of m)
     precedes = through (carries k (messageOf w) (w .delivery)) (go (decLt (w .place) (m .sending)))
       where
-        go : Dec (w .place < m .sending) → Causes n q l (A .source) (A .name) (entry-at (w .place)) (sending-of m)
+        go : Dec (w .place < m .sending) → Causes n q l (A .allowed .source) (A .allowed .name) (entry-at (w .place)) (sending-of m)
         go (yes h) = through (in-turn k (comes-of (w .delivery .comes)) (s .mine) h) (sends m (s .out))
         go (no h) =
             let e : m .sending ≡ w .place = omega (arith, w .earlier) in
-            subst (λ x. Causes n q l (A .source) (A .name) (entry-at x) (sending-of m)) e (sends m (s .out))
+            subst (λ x. Causes n q l (A .allowed .source) (A .allowed .name) (entry-at x) (sending-of m)) e (sends m (s .out))
 
     -- What came to the sender by the sending came to whoever delivers the message, before it, and is the same message.
     pub came-before : {p i : ℕ} → Delivery A p i m → (y : Came A p i c r) × (messageOf y ≡ messageOf w)
     came-before {p} {i} d =
         let t = came-sent w in
-        let x = A .causal p (t .0) k i (messageOf w) m c (t .1) s precedes d in
+        let x = A .allowed .causal p (t .0) k i (messageOf w) m c (t .1) s precedes d in
         let v = x .1 .which in (
           record {
             place = x .0;

@@ -17,7 +17,7 @@ use Rattle.replication.specs.Machine.Types.{Mode, Non-prim, Reg-prim, Tr
 use Rattle.replication.specs.Machine.Step.{theSet, hereSet, allStatesIn}
 use Rattle.replication.proofs.WellFormed.Clauses.{WellFormed}
 use Rattle.replication.specs.Runs.Run.{Run}
-use Rattle.replication.specs.Runs.Allowed.{Allowed}
+use Rattle.replication.proofs.Runs.Roomy.{Roomy as Allowed}
 use Rattle.replication.proofs.WellFormed.Modes.{all-in-facts, all-in-ok}
 use Rattle.replication.proofs.Runs.Numbers.{numbers, invariant-at}
 use Rattle.replication.proofs.Runs.AllowedTurns.{memoryAt}
@@ -91,7 +91,7 @@ state-stays n k m o r s h e = go (states-grow s h)
 
 module _ {n q : ℕ} {l : Run} (A : Allowed n q l) (i : ℕ) (c : Configuration) (p : ℕ) (here : InCom n q l p i c) where
   formed : WellFormed (memoryAt n q l p i)
-  formed = invariant-at n q i (A .sizes) (stay-member A i p c here .0) l p .memory .well-formed
+  formed = invariant-at n q i (A .allowed .sizes) (stay-member A i p c here .0) l p .memory .well-formed
 
   servers : memoryAt n q l p i .servers ≡ n
   servers = numbers n q i l p .memory .servers

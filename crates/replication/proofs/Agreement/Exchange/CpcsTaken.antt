@@ -14,7 +14,7 @@ use Rattle.replication.specs.Machine.Rules.{ignoring, collectingCpc, col
 use Rattle.replication.specs.Machine.Step.{theSet}
 use Rattle.replication.specs.Runs.Run.{Run}
 use Rattle.replication.specs.Runs.Happenings.{isMessage, Comes}
-use Rattle.replication.specs.Runs.Allowed.{Allowed}
+use Rattle.replication.proofs.Runs.Roomy.{Roomy as Allowed}
 use Rattle.replication.proofs.Runs.CpcOrigins.{cpcs-came}
 use Rattle.replication.proofs.Runs.Progress.{Installable, progress-in, progress}
 use Rattle.replication.proofs.Runs.Memberships as M
@@ -90,7 +90,7 @@ module _ {n : ℕ} {m : Membership} where
 
 module _ {n q : ℕ} {l : Run} (A : Allowed n q l) where
   module _ (p i k x : ℕ) (come : Comes n q l p i (cpc k x)) (c : Configuration) (here : InCom n q l p i c) where
-    message : CpcMessage A (A .source p) k c × (x ≡ c .id)
+    message : CpcMessage A (A .allowed .source p) k c × (x ≡ c .id)
     unfolding isMessage
     message = cpc-message A (coming A come refl) refl here
 

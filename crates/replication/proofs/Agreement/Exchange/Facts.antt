@@ -1,7 +1,7 @@
 -- What the exchange gives to the arguments on votes and green lists, in every allowed run.
 use Prim.Native.Nat.{ℕ}
 use Rattle.replication.specs.Runs.Run.{Run}
-use Rattle.replication.specs.Runs.Allowed.{Allowed}
+use Rattle.replication.proofs.Runs.Roomy.{Roomy as Allowed}
 use Rattle.replication.proofs.Agreement.Terms.{ExchangeFacts}
 use Rattle.replication.proofs.Agreement.Exchange.SameStates as S
 use Rattle.replication.proofs.Agreement.Exchange.Marked as M

@@ -7,14 +7,14 @@ use native.Mathlib.Omega.{arith}
 use Rattle.base.proofs.TestLaws.{not-both}
 use Rattle.base.specs.Sets.{inSet}
 use Rattle.format.specs.Types.{Action, Record, action, cpc, transitional, says}
-use Rattle.replication.specs.Machine.Types.{Mode, Non-prim, Reg-prim, Trans-prim, Exchange-states, Exchange-actions, Construct, No, Un, Configuration, Server}
+use Rattle.replication.specs.Machine.Types.{Mode, Non-prim, Reg-prim, Trans-prim, Exchange-states, Exchange-actions, Construct, No, Un, Configuration, Server, withWhite}
 use Rattle.replication.specs.Machine.Rules.{onAction, onRetransmission, onState, onCpc, onRegular, onTransitional, ruleFor}
 use Rattle.replication.specs.Machine.Requests.{numbered, sendWaiting}
 use Rattle.replication.specs.Machine.Step.{installsBy}
 use Rattle.replication.specs.Laws.Transitions as L
 use Rattle.replication.specs.Laws.Transitions.{Leads, Transition}
 use Rattle.replication.specs.Runs.Run.{Run, moved, placeAt}
-use Rattle.replication.specs.Runs.Allowed.{Allowed}
+use Rattle.replication.proofs.Runs.Roomy.{Roomy as Allowed}
 use Rattle.replication.proofs.Runs.Deliveries.{sent-before}
 use Rattle.replication.proofs.Runs.AllowedTurns.{memoryAt}
 use Rattle.replication.proofs.Runs.Progress.{Installable, Progress, progress-in, progress}
@@ -72,13 +72,21 @@ module _ (s : Server) where
   installing (L.numbers p c) h = not-both h
   installing L.recovers h = not-both h
 
+installing-raised : {s t : Server} {r : Record} (w : ℕ) → Installing s t r → Installing s (withWhite w t) r
+installing-raised w (on-cpc k i e f) = on-cpc k i e f
+installing-raised w (on-action a e f) = on-action a e f
+
+pub installing-lowered : {s t : Server} {r : Record} (w : ℕ) → Installing s (withWhite w t) r → Installing s t r
+installing-lowered w (on-cpc k i e f) = on-cpc k i e f
+installing-lowered w (on-action a e f) = on-action a e f
+
 -- ---- in a run
 
 module _ {n q : ℕ} {l : Run} (A : Allowed n q l) where
   pub installs-on : {p i : ℕ} {c : Configuration} (x : InstallsAt n q l p i c) → Installing (memoryAt n q l p i) (memoryAt n q l (suc p) i) (x .acts .by .event)
   installs-on {p} {i} x =
       subst (λ t. Installing (memoryAt n q l p i) t (x .acts .by .event)) (sym (x .acts .memory-next))
-      (installing (memoryAt n q l p i) (x .acts .moves) (ap (λ z. installsBy z (memoryAt n q l p i)) (x .acts .by .ruled) ∙ x .installs))
+      (installing-raised (x .acts .white) (installing (memoryAt n q l p i) (x .acts .moves) (ap (λ z. installsBy z (memoryAt n q l p i)) (x .acts .by .ruled) ∙ x .installs)))
 
   -- Installing keeps the configuration.
   pub installs-here : {p i : ℕ} {c : Configuration} → InstallsAt n q l p i c → InCom n q l (suc p) i c

@@ -11,7 +11,7 @@ use Rattle.format.specs.Types.{Action, Record, action, says}
 use Rattle.replication.specs.Machine.Types.{Non-prim, Reg-prim, Un, No, Configuration}
 use Rattle.replication.specs.Runs.Run.{Run, placeAt}
 use Rattle.replication.specs.Runs.Happenings.{isMessage, Comes, Takes, Left}
-use Rattle.replication.specs.Runs.Allowed.{Allowed}
+use Rattle.replication.proofs.Runs.Roomy.{Roomy as Allowed}
 use Rattle.replication.proofs.Runs.Entries.{had}
 use Rattle.replication.proofs.Runs.Modes.{standing-in, standing}
 use Rattle.replication.proofs.Runs.Order.{inRegularOf, still-regular, left-delivered}
@@ -44,18 +44,18 @@ module _ {n q : ℕ} {l : Run} (A : Allowed n q l) where
       here : InCom n q l (suc p) i c
       here = installs-here A x
 
-      by-action : (a : Action) → membershipAt n q l p i .mode ≡ Un → (m : ActionMessage A (A .source p) (a .id .creator) c) → HasEveryCpc c
+      by-action : (a : Action) → membershipAt n q l p i .mode ≡ Un → (m : ActionMessage A (A .allowed .source p) (a .id .creator) c) → HasEveryCpc c
       by-action a e m = at (m .sender-in)
         where
           late : Installable n (membershipAt n q l p i)
           late = progress-in n _ Un e (progress A i c p (x .here))
 
-          at : SendsActions (membershipAt n q l (suc (A .source p .sending)) (a .id .creator) .mode) → HasEveryCpc c
+          at : SendsActions (membershipAt n q l (suc (A .allowed .source p .sending)) (a .id .creator) .mode) → HasEveryCpc c
           at (inl f) =
               absurd
-              (one-decision A p (suc (A .source p .sending)) i (a .id .creator) c (x .here) (m .after) (late .ended .all-in) (late .agreed)
+              (one-decision A p (suc (A .allowed .source p .sending)) i (a .id .creator) c (x .here) (m .after) (late .ended .all-in) (late .agreed)
               (sender-settled A m f))
-          at (inr f) = record { place = suc (A .source p .sending); server = a .id .creator; in-regular = m .in-regular; with-all = sender-installed A m f }
+          at (inr f) = record { place = suc (A .allowed .source p .sending); server = a .id .creator; in-regular = m .in-regular; with-all = sender-installed A m f }
 
       go : (r : Record) → x .acts .by .event ≡ r → Installing (memoryAt n q l p i) (memoryAt n q l (suc p) i) r → HasEveryCpc c
       go r e (on-cpc k d f g) =

@@ -5,7 +5,7 @@ use native.Mathlib.Omega.{arith}
 use Rattle.replication.specs.Machine.Types.{Mode, Configuration}
 use Rattle.replication.specs.Runs.Run.{Run}
 use Rattle.replication.specs.Runs.Happenings.{Falls}
-use Rattle.replication.specs.Runs.Allowed.{Allowed}
+use Rattle.replication.proofs.Runs.Roomy.{Roomy as Allowed}
 use Rattle.replication.proofs.Runs.Entries.{had}
 use Rattle.replication.proofs.Runs.AllowedTurns.{memoryAt}
 use Rattle.replication.proofs.Runs.Stays.{membershipAt}
@@ -38,7 +38,7 @@ module _ {n q : ℕ} {l : Run} (A : Allowed n q l) where
   up-since p r i c a b y h k =
       let u = had n q l p i c a in
       let v = had n q l r i c b in
-      u .steady y (omega (arith, v .earlier, A .once (u .took-at) (v .took-at) i c (u .took) (v .took))) k
+      u .steady y (omega (arith, v .earlier, A .allowed .once (u .took-at) (v .took-at) i c (u .took) (v .took))) k
 
   pub marked-here : (p i : ℕ) (c : Configuration) (m : Mode) → Within n q l p i c → memoryAt n q l p i .membership .mode ≡ m → AfterMarking n q l m
       → (r : ℕ) × (r < p) × MarksAt n q l r i c × ((y : ℕ) → r < y → y < p → Falls n q l y i → ⊥)

@@ -10,7 +10,7 @@ use Rattle.replication.specs.Machine.Types.{Configuration}
 use Rattle.replication.proofs.WellFormed.SentFacts.{senderOf}
 use Rattle.replication.specs.Runs.Run.{Run}
 use Rattle.replication.specs.Runs.Happenings.{Message, Sends}
-use Rattle.replication.specs.Runs.Allowed.{Allowed}
+use Rattle.replication.proofs.Runs.Roomy.{Roomy as Allowed}
 use Rattle.replication.proofs.Runs.Deliveries.{Delivery}
 use Rattle.replication.proofs.Runs.Sending.{Puts}
 use Rattle.replication.proofs.Runs.Origins.{origin}

@@ -12,7 +12,7 @@ use Rattle.replication.specs.Machine.Step.{step}
 use Rattle.replication.specs.Images.{isRecovery, arrive}
 use Rattle.replication.specs.Runs.Run.{Run, heardAt}
 use Rattle.replication.specs.Runs.Happenings.{isMessage, Comes}
-use Rattle.replication.specs.Runs.Allowed.{Allowed}
+use Rattle.replication.proofs.Runs.Roomy.{Roomy as Allowed}
 use Rattle.replication.proofs.Runs.Places.{event-entry}
 use Rattle.replication.proofs.Runs.Coupling.{Source, from-store, from-memory, source}
 use Rattle.replication.proofs.Runs.AllowedTurns.{memoryAt, Acts, Refuses}
@@ -29,7 +29,7 @@ taken-refused e = let z : _≡_ {A = ℕ} 0 1 = cc in absurd (omega arith)
 module _ {n q : ℕ} {l : Run} (A : Allowed n q l) where
   -- A delivery has a configuration.
   delivered-in : (p i : ℕ) (r : Record) → Comes n q l p i r → isMessage r ≡ true → (c : Configuration) × InCom n q l p i c
-  delivered-in p i r come h = let s = A .same-configuration p i (A .source p) (coming A come h) in (s .1, s .3)
+  delivered-in p i r come h = let s = A .allowed .same-configuration p i (A .allowed .source p) (coming A come h) in (s .1, s .3)
 
   -- A record of the kinds 1 to 4 that comes to a server is taken.
   pub delivery-taken : (p i : ℕ) (r : Record) → Comes n q l p i r → isMessage r ≡ true → TakenAt n q l p i r

@@ -14,7 +14,7 @@ use Rattle.replication.specs.Machine.Types.{Mode, Non-prim, Reg-prim, Tr
 use Rattle.replication.specs.Machine.Plan.{planned}
 use Rattle.replication.specs.Runs.Run.{Run}
 use Rattle.replication.specs.Runs.Happenings.{Message, isMessage, Comes, Sends}
-use Rattle.replication.specs.Runs.Allowed.{Allowed}
+use Rattle.replication.proofs.Runs.Roomy.{Roomy as Allowed}
 use Rattle.replication.proofs.Runs.Deliveries.{Delivery}
 use Rattle.replication.proofs.Runs.Order.{delivered-once}
 use Rattle.replication.proofs.Runs.StateOrigins.{Came}
@@ -32,7 +32,7 @@ use Rattle.replication.proofs.Agreement.Exchange.Tally.{TallyOf, none-y
 module _ {n q : ℕ} {l : Run} (A : Allowed n q l) where
   -- The retransmissions that came to a server in com(c) are as many messages.
   pub messages-differ : (i : ℕ) (c : Configuration) (p x y : ℕ) → List·Memᴰ x (passing (resentAt n q l c i) p) → List·Memᴰ y (passing (resentAt n q l c i) p)
-      → A .source x ≡ A .source y → x ≡ y
+      → A .allowed .source x ≡ A .allowed .source y → x ≡ y
   unfolding isMessage
   messages-differ i c p x y h k e =
       let u = resent-holds n q l c i x (passing-in (resentAt n q l c i) p x h .1) in
@@ -45,14 +45,14 @@ module _ {n q : ℕ} {l : Run} (A : Allowed n q l) where
   unfolding isMessage
   resent-included {m} {k} {p} {i} {c} s d =
       let z =
-      included-length (map (A .source) (passing (resentAt n q l c k) (suc (m .sending)))) (map (A .source) (passing (resentAt n q l c i) p))
-      (distinct-map (A .source) (passing (resentAt n q l c k) (suc (m .sending))) (messages-differ k c (suc (m .sending)))
+      included-length (map (A .allowed .source) (passing (resentAt n q l c k) (suc (m .sending)))) (map (A .allowed .source) (passing (resentAt n q l c i) p))
+      (distinct-map (A .allowed .source) (passing (resentAt n q l c k) (suc (m .sending))) (messages-differ k c (suc (m .sending)))
       (passing-distinct (resentAt n q l c k) (suc (m .sending))))
-      (λ y h. let x = Memᴰ·of-map (A .source) _ h in Memᴰ·cast (sym (x .2)) (one (x .0) (x .1)))
+      (λ y h. let x = Memᴰ·of-map (A .allowed .source) _ h in Memᴰ·cast (sym (x .2)) (one (x .0) (x .1)))
       in
-      omega (arith, z, length-map (passing (resentAt n q l c k) (suc (m .sending))) (A .source), length-map (passing (resentAt n q l c i) p) (A .source))
+      omega (arith, z, length-map (passing (resentAt n q l c k) (suc (m .sending))) (A .allowed .source), length-map (passing (resentAt n q l c i) p) (A .allowed .source))
     where
-      one : (x : ℕ) → List·Memᴰ x (passing (resentAt n q l c k) (suc (m .sending))) → List·Memᴰ (A .source x) (map (A .source) (passing (resentAt n q l c i) p))
+      one : (x : ℕ) → List·Memᴰ x (passing (resentAt n q l c k) (suc (m .sending))) → List·Memᴰ (A .allowed .source x) (map (A .allowed .source) (passing (resentAt n q l c i) p))
       one x h =
           let e = passing-in (resentAt n q l c k) (suc (m .sending)) x h in
           let u = resent-holds n q l c k x (e .1) in
@@ -62,7 +62,7 @@ module _ {n q : ℕ} {l : Run} (A : Allowed n q l) where
           let v = came-before A s w d in
           let y = v .0 in
           let f = resent-yes n q l c i (y .place) _ _ _ (subst (λ r. Comes n q l (y .place) i r) (y .what) (y .delivery .comes)) (y .here) in
-          Memᴰ·cast (sym (v .1)) (Memᴰ·map (A .source) (passing-has (resentAt n q l c i) p (y .place) (y .earlier) f))
+          Memᴰ·cast (sym (v .1)) (Memᴰ·map (A .allowed .source) (passing-has (resentAt n q l c i) p (y .place) (y .earlier) f))
 
   -- An exchange that has ended had as many as planned.
   pub ended-count : (p i : ℕ) (c : Configuration) → InCom n q l p i c → 2 ≤ stage (membershipAt n q l p i .mode)

@@ -15,7 +15,7 @@ use Rattle.replication.specs.Laws.Transitions as L
 use Rattle.replication.specs.Laws.Transitions.{Ends, Leads}
 use Rattle.replication.specs.Runs.Run.{Run}
 use Rattle.replication.specs.Runs.Happenings.{Falls, Takes}
-use Rattle.replication.specs.Runs.Allowed.{Allowed}
+use Rattle.replication.proofs.Runs.Roomy.{Roomy as Allowed}
 use Rattle.replication.proofs.Step.Formed.{every-state-in}
 use Rattle.replication.proofs.Runs.Modes.{Stands, standing}
 use Rattle.replication.proofs.Runs.Numbers.{numbers, well-formed-at}
@@ -151,7 +151,7 @@ module _ {n q : ℕ} {l : Run} (A : Allowed n q l) (i : ℕ) (c : Configuration)
           → MembershipStep n (membershipAt n q l p i) (x .by .event) (membershipAt n q l (suc p) i) → Phase n q l p i c → Phase n q l (suc p) i c
       going p a x k m (exchanging h) =
           moving p a h x
-          (exchange-move (memoryAt n q l p i) h (every-state-in _ (well-formed-at n q i (A .sizes) (stay-member A i p c a .0) l p .memory)) k (x .moves))
+          (exchange-move (memoryAt n q l p i) h (every-state-in _ (well-formed-at n q i (A .allowed .sizes) (stay-member A i p c a .0) l p .memory)) k (x .moves))
       going p a x k m (marked r u y h) = marked r (omega arith) y (omega (arith, stage-rises m k))
       going p a x k m (settled r u y w h) = settled r (omega arith) y w (settled-step m k h .0)
       going p a x k m (interrupted t h w) = let z = settled-step m k h in let v = z .1 t w in interrupted (v .0) (z .0) (v .1)

@@ -16,7 +16,7 @@ use Rattle.replication.specs.Machine.Types.{Mode, Non-prim, Reg-prim, Tr
 use Rattle.replication.specs.Machine.Rules.{reddening, onRetransmission, ruleFor, fromMember, isIgnored}
 use Rattle.replication.specs.Runs.Run.{Entry, Run, serverOf}
 use Rattle.replication.specs.Runs.Happenings.{isMessage, Of, Comes}
-use Rattle.replication.specs.Runs.Allowed.{Allowed}
+use Rattle.replication.proofs.Runs.Roomy.{Roomy as Allowed}
 use Rattle.replication.proofs.Runs.AllowedTurns.{memoryAt}
 use Rattle.replication.proofs.Runs.Memberships.{statesIn, everyStateIn, plannedIn}
 use Rattle.replication.proofs.Runs.Stays.{membershipAt}
@@ -46,27 +46,27 @@ module _ {n q : ℕ} {l : Run} (A : Allowed n q l) where
 
     -- The number, among all that are planned, of the retransmission that comes at x.
     pub planNumber : ℕ → ℕ
-    planNumber x = total (ownerOf (at l (A .source x .sending))) (share n statesHere) + A .source x .number
+    planNumber x = total (ownerOf (at l (A .allowed .source x .sending))) (share n statesHere) + A .allowed .source x .number
 
     pub record Resent (x : ℕ) : Type 0 where
       pub sender : ℕ
-      pub message : PartMessage A (A .source x) sender c
-      pub number : planNumber x ≡ total sender (share n statesHere) + A .source x .number
-      pub below-share : A .source x .number < share n statesHere sender
+      pub message : PartMessage A (A .allowed .source x) sender c
+      pub number : planNumber x ≡ total sender (share n statesHere) + A .allowed .source x .number
+      pub below-share : A .allowed .source x .number < share n statesHere sender
 
     pub resent : (x : ℕ) → List·Memᴰ x (passing (resentAt n q l c i) t) → Resent x
     unfolding isMessage planNumber
     resent x h =
         let u = resent-holds n q l c i x (passing-in (resentAt n q l c i) t x h .1) in
         let m = part-message A (coming A (u .3) refl) refl (u .4) in
-        let v = suc (A .source x .sending) in
+        let v = suc (A .allowed .source x .sending) in
         let e = complete-same A v p (u .0) i c (m .put .after) here (m .put .complete) complete in
-        let w = part-within n (u .0) (memoryAt n q l v (u .0) .log) (statesIn (membershipAt n q l v (u .0))) in
+        let w = part-within n (u .0) (memoryAt n q l (A .allowed .source x .sending) (u .0) .white) (memoryAt n q l v (u .0) .log) (statesIn (membershipAt n q l v (u .0))) in
         record {
           sender = u .0;
           message = m;
-          number = ap (λ z. total z (share n (statesIn (membershipAt n q l p i))) + A .source x .number) (owner (m .sends .mine));
-          below-share = subst (λ z. A .source x .number < share n (present z) (u .0)) e (omega (arith, w, m .put .below-length));
+          number = ap (λ z. total z (share n (statesIn (membershipAt n q l p i))) + A .allowed .source x .number) (owner (m .sends .mine));
+          below-share = subst (λ z. A .allowed .source x .number < share n (present z) (u .0)) e (omega (arith, w, m .put .below-length));
         }
 
     pub number-below : (x : ℕ) → List·Memᴰ x (passing (resentAt n q l c i) t) → planNumber x < plannedIn n (membershipAt n q l p i)
@@ -77,8 +77,8 @@ module _ {n q : ℕ} {l : Run} (A : Allowed n q l) where
           arith,
           y .number,
           shares-planned n (statesIn (membershipAt n q l p i)),
-          slot-below n (share n (statesIn (membershipAt n q l p i))) (y .sender) (A .source x .number)
-              (A .servers (A .source x .sending) (y .sender) (m .sends .mine)) (y .below-share),
+          slot-below n (share n (statesIn (membershipAt n q l p i))) (y .sender) (A .allowed .source x .number)
+              (A .allowed .servers (A .allowed .source x .sending) (y .sender) (m .sends .mine)) (y .below-share),
         )
 
     -- Retransmissions with one number are one.
@@ -87,10 +87,10 @@ module _ {n q : ℕ} {l : Run} (A : Allowed n q l) where
         let u = resent x h in
         let w = resent y k in
         let z =
-        slot-same (share n statesHere) (u .sender) (A .source x .number) (w .sender) (A .source y .number) (u .below-share) (w .below-share)
+        slot-same (share n statesHere) (u .sender) (A .allowed .source x .number) (w .sender) (A .allowed .source y .number) (u .below-share) (w .below-share)
         (sym (u .number) ∙ e ∙ w .number)
         in
-        let f = one-place A (subst (λ j. PartMessage A (A .source x) j c) (z .0) (u .message)) (w .message) in
+        let f = one-place A (subst (λ j. PartMessage A (A .allowed .source x) j c) (z .0) (u .message)) (w .message) in
         messages-differ A i c t x y h k (same-message f (z .1))
 
     -- However long one waits, no more come than are planned.
@@ -112,7 +112,7 @@ module _ {n q : ℕ} {l : Run} (A : Allowed n q l) where
           ap length (passing-more (resentAt n q l c i) p (resent-yes n q l c i p k x a come here)),
         ))
 
-    message : PartMessage A (A .source p) k c
+    message : PartMessage A (A .allowed .source p) k c
     unfolding isMessage
     message = part-message A (coming A come refl) refl here
 

@@ -1,4 +1,5 @@
 -- Retransmissions in one configuration: each server sends its part of the plan once, with all States in; in Exchange_actions those that come are taken.
+use Rattle.replication.proofs.Step.WhiteKept.{white-kept}
 use Prim.Native.Nat.{ℕ, suc, _≤_, _<_}
 use mathlib.Core.Path.{_≡_, refl, sym, ap, subst, _∙_}
 use mathlib.Core.Bool.{Bool, true, false, not}
@@ -12,20 +13,20 @@ use Rattle.base.proofs.AtLaws.{at-low}
 use Rattle.base.specs.Lists.{at}
 use Rattle.base.specs.Sets.{inSet}
 use Rattle.format.specs.Types.{Action, Record, action, retransmission, state, cpc, regular, transitional, request, recovery, Reading, says, refused}
-use Rattle.replication.specs.Machine.Types.{Exchange-states, Exchange-actions, Configuration, Server}
+use Rattle.replication.specs.Machine.Types.{Exchange-states, Exchange-actions, Configuration, withWhite}
 use Rattle.replication.specs.Machine.Plan.{ownPart}
 use Rattle.replication.specs.Machine.Rules.{exchanging, onRetransmission, ruleFor, numberedOwn, possible, fromMember, isIgnored}
 use Rattle.replication.specs.Machine.Step.{hereSet, collected, allStatesIn}
 use Rattle.replication.proofs.WellFormed.SentFacts.{senderOf}
 use Rattle.replication.specs.Runs.Run.{Entry, event, crash, store, Run, placeAt, heardAt}
 use Rattle.replication.specs.Runs.Happenings.{Message, isMessage, Comes, Sends}
-use Rattle.replication.specs.Runs.Allowed.{Allowed}
+use Rattle.replication.proofs.Runs.Roomy.{Roomy as Allowed}
 use Rattle.replication.proofs.Runs.DeliveryFacts.{within}
 use Rattle.replication.proofs.Step.Kinds.{part-sent}
 use Rattle.replication.proofs.Runs.Deliveries.{Delivery}
 use Rattle.replication.proofs.Runs.DeliveryLists.{within-holds, within-yes}
 use Rattle.replication.proofs.Runs.Numbers.{numbers}
-use Rattle.replication.proofs.Runs.AllowedTurns.{memoryAt}
+use Rattle.replication.proofs.Runs.AllowedTurns.{memoryAt, Acts}
 use Rattle.replication.proofs.Runs.ControlPart.{numbered-between}
 use Rattle.replication.proofs.Runs.Sending.{Puts}
 use Rattle.replication.proofs.Runs.StateOrigins.{puts-among, puts-by}
@@ -112,21 +113,23 @@ module _ {n q : ℕ} {l : Run} (A : Allowed n q l) where
     pub collecting : membershipAt n q l v k .mode ≡ Exchange-states
     pub resending : membershipAt n q l (suc v) k .mode ≡ Exchange-actions
     pub complete : everyStateIn (membershipAt n q l (suc v) k) ≡ true
-    pub below-length : j < length (ownPart n k (memoryAt n q l (suc v) k .log) (statesIn (membershipAt n q l (suc v) k)))
+    pub below-length : j < length (ownPart n k (memoryAt n q l v k .white) (memoryAt n q l (suc v) k .log) (statesIn (membershipAt n q l (suc v) k)))
 
-  -- The part of the plan of the server k at v, as the States that it has collected say.
+  -- The part of the plan that the server k put out at v, as the States that it had collected say: of what was not white before.
   abbrev pub partOf : ℕ → ℕ → List Record
-  partOf v k = ownPart n k (memoryAt n q l v k .log) (statesIn (membershipAt n q l v k))
+  partOf v k = ownPart n k (memoryAt n q l v k .white) (memoryAt n q l (suc v) k .log) (statesIn (membershipAt n q l (suc v) k))
 
-  pub part-of : (v k : ℕ) (t : Server) → memoryAt n q l v k ≡ t → ownPart (t .servers) (t .me) (t .log) (collected t) ≡ partOf v k
+  pub part-of : (v k : ℕ) (x : Acts n q l v k) → ownPart (x .after .servers) (x .after .me) (x .after .white) (x .after .log) (collected (x .after)) ≡ partOf v k
   unfolding collected
-  part-of v k t e =
-      let o = numbers n q k l v .memory in
-      ap (λ s. ownPart (s .servers) (s .me) (s .log) (statesIn (s .membership))) (sym e)
-      ∙ (λ z. ownPart (o .servers z) (o .me z) (memoryAt n q l v k .log) (statesIn (membershipAt n q l v k)))
+  part-of v k x =
+      let o = numbers n q k l (suc v) .memory in
+      let e : withWhite (x .white) (x .after) ≡ memoryAt n q l (suc v) k = sym (x .memory-next) in
+      let w : x .after .white ≡ memoryAt n q l v k .white = white-kept (x .moves) in
+      ap (λ s. ownPart (s .servers) (s .me) (x .after .white) (s .log) (statesIn (s .membership))) e
+      ∙ (λ z. ownPart (o .servers z) (o .me z) (w z) (memoryAt n q l (suc v) k .log) (statesIn (membershipAt n q l (suc v) k)))
 
   part-put : {v k j x y : ℕ} {a : Action} {c : Configuration} → Puts A v k j c (retransmission x y a) → PartPut v k j c
-  unfolding stage allStatesIn hereSet
+  unfolding stage allStatesIn hereSet collected
   part-put {v} {k} {j} {x} {y} {a} {c} u =
       let w = part-sent (puts-by A u) x y a (puts-among A u) in
       let z = ap (λ o. o .regular) (u .in-regular) in
@@ -138,7 +141,7 @@ module _ {n q : ℕ} {l : Run} (A : Allowed n q l) where
         resending = t;
         complete = subst (λ s. everyStateIn (s .membership) ≡ true) (sym (u .act .memory-next)) (w .complete);
         below-length =
-            subst (λ rs. j < length rs) (part-of (suc v) k (u .act .after) (u .act .memory-next))
+            subst (λ rs. j < length rs) (part-of v k (u .act))
             (subst (λ rs. j < length rs) (w .whole) (at-low (u .act .by .records) j _ (u .record-there)));
       }
 
@@ -177,7 +180,7 @@ module _ {n q : ℕ} {l : Run} (A : Allowed n q l) where
           (omega (arith, x .own .within, numbered-between A (x .server) (suc (x .place)) p (x .earlier)))
 
   module _ (p i : ℕ) (k x : ℕ) (a : Action) (come : Comes n q l p i (retransmission k x a)) (c : Configuration) (here : InCom n q l p i c) where
-    message : PartMessage (A .source p) k c
+    message : PartMessage (A .allowed .source p) k c
     unfolding isMessage
     message = part-message (coming A come refl) refl here
 

@@ -6,7 +6,7 @@ use Rattle.replication.specs.Machine.Types.{Configuration}
 use Rattle.replication.specs.Machine.Exchange.{takenPrimary, takenYellow, takenAttempt, quorum, takenVotes, attempted}
 use Rattle.replication.specs.Machine.Step.{collected}
 use Rattle.replication.specs.Runs.Run.{Run}
-use Rattle.replication.specs.Runs.Allowed.{Allowed}
+use Rattle.replication.proofs.Runs.Roomy.{Roomy as Allowed}
 use Rattle.replication.proofs.Agreement.Terms.{EndsAt}
 use Rattle.replication.proofs.Agreement.Votes.Turns.{votesAt, lastAt, Decides, with-quorum, without-quorum, ended, ended-last}
 use Rattle.replication.proofs.Agreement.Exchange.SameStates.{same-states}

@@ -13,7 +13,7 @@ use Rattle.format.specs.Types.{State}
 use Rattle.replication.specs.Machine.Types.{Configuration}
 use Rattle.replication.specs.Machine.Step.{ownState, hereSet, allStatesIn, collected}
 use Rattle.replication.specs.Runs.Run.{Run}
-use Rattle.replication.specs.Runs.Allowed.{Allowed}
+use Rattle.replication.proofs.Runs.Roomy.{Roomy as Allowed}
 use Rattle.replication.proofs.Runs.Deliveries.{sent-before}
 use Rattle.replication.proofs.Runs.AllowedTurns.{memoryAt}
 use Rattle.replication.proofs.Runs.Coupling.{coupled}
@@ -35,14 +35,14 @@ module _ {n q : ℕ} {l : Run} (A : Allowed n q l) where
   collected-sent p i c here k x e =
       let h = states-came A i c p here k x e in
       let w = h .0 in
-      let m = subst (λ z. StateMessage A (A .source (w .place)) z c x) (sym (h .1)) (state-message A (w .delivery) (w .what) (w .here)) in
-      let s : SentState n q l k c x = record { at = A .source (w .place) .sending; took = m .entered .took; says = m .entered .is } in
+      let m = subst (λ z. StateMessage A (A .allowed .source (w .place)) z c x) (sym (h .1)) (state-message A (w .delivery) (w .what) (w .here)) in
+      let s : SentState n q l k c x = record { at = A .allowed .source (w .place) .sending; took = m .entered .took; says = m .entered .is } in
       (s, omega (arith, sent-before A (w .delivery), w .earlier), m .member)
 
   -- A server's State in one configuration is one.
   pub sent-same : {k : ℕ} {c : Configuration} {x y : State} → SentState n q l k c x → SentState n q l k c y → x ≡ y
   sent-same {k} {c} {x} {y} u v =
-      u .says ∙ ap (λ z. ownState c (memoryAt n q l (suc z) k)) (A .once (u .at) (v .at) k c (u .took) (v .took)) ∙ sym (v .says)
+      u .says ∙ ap (λ z. ownState c (memoryAt n q l (suc z) k)) (A .allowed .once (u .at) (v .at) k c (u .took) (v .took)) ∙ sym (v .says)
 
   -- A server collects only members' States.
   pub collected-only : (p i : ℕ) (c : Configuration) → InCom n q l p i c → (k : ℕ) → inSet k (c .set) ≡ false

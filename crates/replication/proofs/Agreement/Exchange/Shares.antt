@@ -1,18 +1,18 @@
 -- The plan shared out: each member's part is within its share, and the shares together are what is planned.
-use Prim.Native.Nat.{ℕ, _+_, _-_, _≤_}
+use Prim.Native.Nat.{ℕ, _+_, _≤_}
 use mathlib.Core.Bool.{Bool, true, false}
-use mathlib.Core.List.{List, [], _++_}
+use mathlib.Core.List.{List, []}
 use mathlib.Core.Option.{Option, none, some}
 use native.Mathlib.Omega.{arith}
 use lib.ListN.{length, length-append}
 use Rattle.base.specs.Tests.{pick}
-use Rattle.base.specs.Lists.{below, gatherAll, at}
+use Rattle.base.specs.Lists.{below, gatherAll}
 use Rattle.base.proofs.ListLaws.{gather-length, gather-all-length}
 use Rattle.base.proofs.Totals.{total, total-sum, total-add, total-most, total-none, total-swap, total-one}
 use Rattle.format.specs.Types.{State}
 use Rattle.replication.specs.Machine.Types.{Log}
-use Rattle.replication.specs.Machine.Colours.{find}
-use Rattle.replication.specs.Machine.Plan.{resender, missing, cutIn, greenIn, planned, isMe, resent, resendGreen, resendRed, ownPart}
+use Rattle.replication.specs.Machine.Colours.{find, placesOf}
+use Rattle.replication.specs.Machine.Plan.{resender, missing, cutIn, greenIn, planned, isMe, resent, resendGreen, resendRed, ownPart, heldAt}
 
 -- What the server k is to resend by f.
 shareBy : (State → ℕ) → List State → ℕ → ℕ
@@ -27,26 +27,26 @@ unfolding pick
 picked-length true rs m h = h
 picked-length false rs m h = omega arith
 
-module _ (n k : ℕ) (g : Log) (xs : List State) where
-  red-length : (c : ℕ) → length (resendRed k g xs c) ≤ shareBy (cutIn c) xs k
+module _ (n k w : ℕ) (g : Log) (xs : List State) where
+  red-length : (c : ℕ) → length (resendRed k w g xs c) ≤ shareBy (cutIn c) xs k
   unfolding resendRed shareBy
   red-length c =
       picked-length (isMe k (resender (cutIn c) xs)) _ _
-      (gather-length (λ i. resent k 0 (find (record { creator = c; index = i }) (g .green ++ g .red))) (missing (cutIn c) xs))
+      (gather-length (λ i. resent k 0 (find (record { creator = c; index = i }) (placesOf w g))) (missing (cutIn c) xs))
 
-  green-length : length (resendGreen k g xs) ≤ shareBy greenIn xs k
+  green-length : length (resendGreen k w g xs) ≤ shareBy greenIn xs k
   unfolding resendGreen shareBy
-  green-length = picked-length (isMe k (resender greenIn xs)) _ _ (gather-length (λ p. resent k p (at (g .green) (p - 1))) (missing greenIn xs))
+  green-length = picked-length (isMe k (resender greenIn xs)) _ _ (gather-length (λ p. resent k p (heldAt w g p)) (missing greenIn xs))
 
   -- One's part of the plan is within one's share.
-  pub part-within : length (ownPart n k g xs) ≤ share n xs k
+  pub part-within : length (ownPart n k w g xs) ≤ share n xs k
   unfolding ownPart share
   part-within =
       omega (
         arith,
-        length-append (resendGreen k g xs) (gatherAll (resendRed k g xs) (below n)),
+        length-append (resendGreen k w g xs) (gatherAll (resendRed k w g xs) (below n)),
         green-length,
-        gather-all-length (resendRed k g xs) (λ c. shareBy (cutIn c) xs k) red-length (below n),
+        gather-all-length (resendRed k w g xs) (λ c. shareBy (cutIn c) xs k) red-length (below n),
         total-sum n (λ c. shareBy (cutIn c) xs k),
       )
 

@@ -14,7 +14,7 @@ use Rattle.replication.specs.Laws.Transitions as L
 use Rattle.replication.specs.Laws.Transitions.{Leads}
 use Rattle.replication.specs.Runs.Run.{Run, nowhere, placeAt}
 use Rattle.replication.specs.Runs.Happenings.{Comes, Falls, by-recovery, Takes}
-use Rattle.replication.specs.Runs.Allowed.{Allowed}
+use Rattle.replication.proofs.Runs.Roomy.{Roomy as Allowed}
 use Rattle.replication.proofs.Runs.Shifts as S
 use Rattle.replication.proofs.Runs.Entries.{had}
 use Rattle.replication.proofs.Runs.Memberships as M
@@ -114,7 +114,7 @@ module _ {n q : ℕ} {l : Run} (A : Allowed n q l) (i : ℕ) (c : Configuration)
   between {p} {r} {x} a b f g =
       let h = had n q l p i c a in
       let k = had n q l r i c b in
-      k .kept x (omega (arith, h .earlier, A .once (h .took-at) (k .took-at) i c (h .took) (k .took))) g
+      k .kept x (omega (arith, h .earlier, A .allowed .once (h .took-at) (k .took-at) i c (h .took) (k .took))) g
 
   kept-at : (P : Membership → Type 0) → KeptInStay n P → (x : ℕ) → (Falls n q l x i → ⊥) → ((d : Configuration) → Takes n q l x i d → ⊥)
       → P (membershipAt n q l x i) → P (membershipAt n q l (suc x) i)
@@ -131,7 +131,7 @@ module _ {n q : ℕ} {l : Run} (A : Allowed n q l) (i : ℕ) (c : Configuration)
   onward P f p r a b g =
       let h = had n q l p i c a in
       let k = had n q l r i c b in
-      let s = A .once (h .took-at) (k .took-at) i c (h .took) (k .took) in
+      let s = A .allowed .once (h .took-at) (k .took-at) i c (h .took) (k .took) in
       chain (λ m o. P m → P o) (λ m u. u) (λ m o w u v x. v (u x)) (λ x. membershipAt n q l x i) p r g
       (λ x u v. kept-at P f x (k .steady x (omega (arith, h .earlier, s)) v) (λ d. k .alone x d (omega (arith, h .earlier, s)) v))
 

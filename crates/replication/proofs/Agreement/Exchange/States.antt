@@ -18,7 +18,7 @@ use Rattle.replication.specs.Machine.Step.{ownState}
 use Rattle.replication.proofs.WellFormed.SentFacts.{senderOf}
 use Rattle.replication.specs.Runs.Run.{Run}
 use Rattle.replication.specs.Runs.Happenings.{Message, isMessage, Comes, Sends}
-use Rattle.replication.specs.Runs.Allowed.{Allowed}
+use Rattle.replication.proofs.Runs.Roomy.{Roomy as Allowed}
 use Rattle.replication.proofs.Runs.Deliveries.{Delivery}
 use Rattle.replication.proofs.Runs.Order.{delivered-once}
 use Rattle.replication.proofs.Runs.StateOrigins.{Entered, state-entered, states-came}
@@ -48,7 +48,7 @@ module _ {n q : ℕ} {l : Run} (A : Allowed n q l) where
 
   -- A server sends one State in a configuration.
   pub one-state : {m m′ : Message} {k : ℕ} {c : Configuration} {x y : State} → StateMessage m k c x → StateMessage m′ k c y → m ≡ m′
-  one-state {m} {m′} {k} {c} u v = same-message (A .once (m .sending) (m′ .sending) k c (u .entered .took) (v .entered .took)) (u .first ∙ sym (v .first))
+  one-state {m} {m′} {k} {c} u v = same-message (A .allowed .once (m .sending) (m′ .sending) k c (u .entered .took) (v .entered .took)) (u .first ∙ sym (v .first))
 
   -- A server's State comes once to each server.
   pub state-comes-once : {p r i : ℕ} {m m′ : Message} {c : Configuration} {x y : State} (d : Delivery A p i m) (e : Delivery A r i m′) → d .what ≡ state x
@@ -60,7 +60,7 @@ module _ {n q : ℕ} {l : Run} (A : Allowed n q l) where
   -- ---- a State that comes is taken
 
   module _ (p i : ℕ) (x : State) (come : Comes n q l p i (state x)) (c : Configuration) (here : InCom n q l p i c) where
-    message : StateMessage (A .source p) (x .sender) c x
+    message : StateMessage (A .allowed .source p) (x .sender) c x
     unfolding isMessage
     message = state-message (coming A come refl) refl here
 
@@ -77,7 +77,7 @@ module _ {n q : ℕ} {l : Run} (A : Allowed n q l) where
         go (fails e) = e
 
     sender-below : x .sender < n
-    sender-below = A .servers (A .source p .sending) (x .sender) (message .sends .mine)
+    sender-below = A .allowed .servers (A .allowed .source p .sending) (x .sender) (message .sends .mine)
 
     -- The server lacks a State, so it is in Exchange_states or was interrupted.
     not-past : {X : Type 0} (m : Mode) → membershipAt n q l p i .mode ≡ m → 1 ≤ stage m → (modeNumber m ≡ 0 → ⊥) → X

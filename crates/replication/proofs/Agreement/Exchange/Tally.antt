@@ -10,14 +10,14 @@ use lib.ListN.{length}
 use Rattle.base.proofs.TestLaws.{not-both, eq-holds, le-holds, Known, holds, fails, known}
 use Rattle.base.specs.Lists.{present}
 use Rattle.base.proofs.Passing.{passing, passing-more, passing-same, passing-none, passing-longer}
-use Rattle.format.specs.Types.{State, Record, transitional, says}
+use Rattle.format.specs.Types.{State, Record, says}
 use Rattle.replication.specs.Machine.Types.{Mode, Non-prim, Reg-prim, Exchange-states, Exchange-actions, Construct, No, Un, Configuration, Membership}
 use Rattle.replication.specs.Machine.Plan.{planned}
 use Rattle.replication.specs.Laws.Transitions as L
 use Rattle.replication.specs.Laws.Transitions.{Leads}
 use Rattle.replication.specs.Runs.Run.{Run}
 use Rattle.replication.specs.Runs.Happenings.{Comes, Falls, Takes}
-use Rattle.replication.specs.Runs.Allowed.{Allowed}
+use Rattle.replication.proofs.Runs.Roomy.{Roomy as Allowed}
 use Rattle.replication.proofs.Runs.Shifts.{says-same, comes-once}
 use Rattle.replication.proofs.Runs.Entries.{had}
 use Rattle.replication.proofs.Runs.AllowedTurns.{Acts}
@@ -135,7 +135,7 @@ module _ {n q : ℕ} {l : Run} (A : Allowed n q l) (i : ℕ) (c : Configuration)
   before-none t h = ap length (passing-none (resentAt n q l c i) (suc t) (λ x k e. early x k (resent-holds n q l c i x e .4)))
     where
       early : (x : ℕ) → x < suc t → InCom n q l x i c → ⊥
-      early x k a = let y = had n q l x i c a in omega (arith, y .earlier, A .once (y .took-at) t i c (y .took) h)
+      early x k a = let y = had n q l x i c a in omega (arith, y .earlier, A .allowed .once (y .took-at) t i c (y .took) h)
 
   counts-at : (p : ℕ) (r : Record) → InCom n q l p i c → Comes n q l p i r → Counts r (resentCount p) (resentCount (suc p))
   unfolding saysResent

@@ -17,15 +17,15 @@ use Rattle.replication.specs.Laws.Modes as M
 use Rattle.replication.specs.Laws.Order.{inExchange}
 use Rattle.replication.specs.Runs.Run.{Run}
 use Rattle.replication.specs.Runs.Happenings.{Takes}
-use Rattle.replication.specs.Runs.Allowed.{Allowed}
+use Rattle.replication.proofs.Runs.Roomy.{Roomy as Allowed}
 use Rattle.replication.proofs.Runs.AllowedTurns.{memoryAt, storeAt, Acts}
 use Rattle.replication.proofs.Runs.Modes.{standing, standing-in}
 use Rattle.replication.proofs.Agreement.Terms.{Image, in-memory, in-store, Within, EndsAt, InstallsAt, installed, ExchangeFacts}
-use Rattle.replication.proofs.Agreement.Votes.Turns.{lastAt}
+use Rattle.replication.proofs.Agreement.Votes.Turns.{ends-at, lastAt}
 use Rattle.replication.proofs.Agreement.Votes.Judging.{Alike}
 use Rattle.replication.proofs.Agreement.Votes.Unique.{unique-install}
 use Rattle.replication.proofs.Agreement.Greens.Beginnings.{Prefix, prefix-trans, prefix-to, prefix-from, comparable-beginnings}
-use Rattle.replication.proofs.Agreement.Greens.Terms.{greens, plus, validYellow, markOfInstall, residue, Answers, by-yellow, by-attempt, by-mark}
+use Rattle.replication.proofs.Agreement.Greens.Terms.{greens, plus, validYellow, markOfInstall, residue, Answers, by-yellow, by-attempt, by-mark, answers-raised, answers-lowered}
 use Rattle.replication.proofs.Agreement.Greens.Parts.{Parts}
 use Rattle.replication.proofs.Agreement.Greens.Invariant.{UpTo}
 use Rattle.replication.proofs.Agreement.Greens.Residues.{residue-shrinks, residue-reach}
@@ -35,7 +35,7 @@ use Rattle.replication.proofs.Agreement.Greens.Steps as S
 use Rattle.replication.proofs.Agreement.Greens.Steps.{GreenStep, green-step}
 use Rattle.replication.proofs.Agreement.Greens.Images.{ImageStep, kept, fallen, restored, acted, image-step, configured-within}
 use Rattle.replication.proofs.Agreement.Greens.Reaching.{recovered-greens}
-use Rattle.replication.proofs.Agreement.Greens.Earlier.{Earlier, earlier, earlier-residue, ends-here}
+use Rattle.replication.proofs.Agreement.Greens.Earlier.{Earlier, earlier, earlier-residue}
 use Rattle.replication.proofs.Agreement.Greens.Bases.{grown}
 use Rattle.replication.proofs.Agreement.Greens.Covering.{answers-in}
 use Rattle.replication.proofs.Agreement.Greens.Silence.{install-mark, silent}
@@ -174,9 +174,9 @@ module _ {n q : ℕ} {l : Run} (A : Allowed n q l) (X : ExchangeFacts n q l) whe
           unchanged (by-attempt f) = not-both (sym (idle b) ∙ f)
           unchanged (by-mark o f) = by-mark o (λ b. f (subst (λ z. Alike (markOfInstall A x) (z .mark)) (sym v) b))
       acting E {s} y (S.ends b j) e a =
-          let z = ends-here A y b j in
+          let z = ends-at A _ _ y b j in
           prefix-to
-          (E p i s d c (z .0) x h (z .1) (j .exchanging) (ap (λ w. w .votes .last .index) (y .memory-next) ∙ e) (subst (λ w. Answers A x s w) (sym (y .memory-next)) a) m)
+          (E p i s d c (z .0) x h (z .1) (j .exchanging) (ap (λ w. w .votes .last .index) (y .memory-next) ∙ e) (subst (λ w. Answers A x s w) (sym (y .memory-next)) (answers-raised A x (y .white) a)) m)
           (ap known-list (y .memory-next))
       acting E {s} y (S.installs k b o j) e a = absurd (silent A X y o x e a)
       acting E {s} y (S.unmarks k b g v) e a =
@@ -207,10 +207,10 @@ module _ {n q : ℕ} {l : Run} (A : Allowed n q l) (X : ExchangeFacts n q l) whe
           go (kept z f) = before z e a
           go (fallen f g) =
               prefix-to (before stored (ap (λ z. z .votes .last .index) (sym g) ∙ e) (subst (λ z. Answers A x s z) g a)) (ap known-list (sym g))
-          go (restored f g) =
-              prefix-to (before stored (ap (λ z. z .votes .last .index) (sym g) ∙ e) (restoring (subst (λ z. Answers A x s z) g a)))
+          go (restored f k g) =
+              prefix-to (before stored (ap (λ z. z .votes .last .index) (sym g) ∙ e) (restoring (answers-lowered A x k (subst (λ z. Answers A x s z) g a))))
               (ap (λ z. plus z (validYellow w)) (sym (recovered-greens A w)) ∙ ap known-list (sym g))
           go (acted z g) =
               prefix-to
-              (acting E z (green-step (memoryAt n q l t s) (z .moves)) (ap (λ w. w .votes .last .index) (sym g) ∙ e) (subst (λ z. Answers A x s z) g a))
+              (acting E z (green-step (memoryAt n q l t s) (z .moves)) (ap (λ w. w .votes .last .index) (sym g) ∙ e) (answers-lowered A x (z .white) (subst (λ z. Answers A x s z) g a)))
               (ap known-list (sym g))

@@ -9,11 +9,11 @@ use Rattle.replication.specs.Machine.Requests.{recovered}
 use Rattle.replication.specs.Machine.Step.{collected, unmarked, yellowValid}
 use Rattle.replication.specs.Laws.Order.{inExchange}
 use Rattle.replication.specs.Runs.Run.{Run}
-use Rattle.replication.specs.Runs.Allowed.{Allowed}
+use Rattle.replication.proofs.Runs.Roomy.{Roomy as Allowed}
 use Rattle.replication.proofs.Step.Growth.{transition-grows}
 use Rattle.replication.proofs.Runs.AllowedTurns.{memoryAt, storeAt, Acts}
 use Rattle.replication.proofs.Agreement.Terms.{Image, in-memory, in-store, EndsAt, InstallsAt, installed, ExchangeFacts}
-use Rattle.replication.proofs.Agreement.Votes.Turns.{lastAt, ended-last}
+use Rattle.replication.proofs.Agreement.Votes.Turns.{ends-at, lastAt, ended-last}
 use Rattle.replication.proofs.Agreement.Votes.Judging.{taken-from}
 use Rattle.replication.proofs.Agreement.Votes.Collected.{own-state, state-from}
 use Rattle.replication.proofs.Agreement.Votes.Unique.{unique-install}
@@ -26,7 +26,7 @@ use Rattle.replication.proofs.Agreement.Greens.Steps as S
 use Rattle.replication.proofs.Agreement.Greens.Steps.{GreenStep, green-step}
 use Rattle.replication.proofs.Agreement.Greens.Images.{ImageStep, kept, fallen, restored, acted, image-step}
 use Rattle.replication.proofs.Agreement.Greens.Reaching.{installs-here, base-after, recovered-greens}
-use Rattle.replication.proofs.Agreement.Greens.Earlier.{ends-here, taker-image, ending-agreeable, earlier}
+use Rattle.replication.proofs.Agreement.Greens.Earlier.{taker-image, ending-agreeable, earlier}
 
 pub grown : {n q : ℕ} {l : Run} {t s : ℕ} (x : Acts n q l t s) → Prefix (greens (memoryAt n q l t s)) (greens (x .after))
 grown {n} {q} {l} {t} {s} x = grows-greens (memoryAt n q l t s) (x .after) (transition-grows (x .moves))
@@ -63,7 +63,7 @@ module _ {n q : ℕ} {l : Run} (A : Allowed n q l) (X : ExchangeFacts n q l) (P 
     acting {s} y (S.delivers a b v m) e = prefix-trans (base-in x h (omega arith) (in-memory (y .up)) (ap (λ z. z .index) (sym v) ∙ e)) (grown y)
     acting {s} y (S.exchanges a b v) e = prefix-trans (base-in x h (omega arith) (in-memory (y .up)) (ap (λ z. z .last .index) (sym v) ∙ e)) (grown y)
     acting {s} y (S.ends b j) e =
-        let z = ends-here A y b j in
+        let z = ends-at A _ _ y b j in
         prefix-to
         (taken-base x h (z .1) (j .exchanging) (ap (λ w. w .index) (sym (ended-last (z .1))) ∙ ap (λ w. w .votes .last .index) (y .memory-next) ∙ e))
         (ap greens (y .memory-next))
@@ -85,7 +85,7 @@ module _ {n q : ℕ} {l : Run} (A : Allowed n q l) (X : ExchangeFacts n q l) (P 
         go : ImageStep n q l t s u → Prefix (baseOf A x) (greens u)
         go (kept z f) = base-in x h (omega arith) z e
         go (fallen f g) = prefix-to (base-in x h (omega arith) stored (ap (λ z. z .votes .last .index) (sym g) ∙ e)) (ap greens (sym g))
-        go (restored f g) =
+        go (restored f k g) =
             prefix-to (base-in x h (omega arith) stored (ap (λ z. z .votes .last .index) (sym g) ∙ e)) (sym (recovered-greens A (storeAt n q l t s)) ∙ ap greens (sym g))
         go (acted z g) =
             prefix-to (acting z (green-step (memoryAt n q l t s) (z .moves)) (ap (λ w. w .votes .last .index) (sym g) ∙ e)) (ap greens (sym g))

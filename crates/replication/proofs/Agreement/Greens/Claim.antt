@@ -12,7 +12,7 @@ use Rattle.format.specs.Types.{Action}
 use Rattle.replication.specs.Machine.Types.{Server}
 use Rattle.replication.specs.Machine.WellFormed.{idsIn}
 use Rattle.replication.specs.Runs.Run.{Run, worldAt}
-use Rattle.replication.specs.Runs.Allowed.{Allowed}
+use Rattle.replication.proofs.Runs.Roomy.{Roomy as Allowed}
 use Rattle.replication.specs.Runs.Claim.{ListsAgree, storedGreen, memoryGreen, greenAt, Agreement}
 use Rattle.replication.proofs.Runs.AllowedTurns.{memoryAt, storeAt}
 use Rattle.replication.proofs.Runs.ControlPart.{store-grows-between}

@@ -11,7 +11,7 @@ use Rattle.format.specs.Types.{Id}
 use Rattle.replication.specs.Machine.Types.{Configuration, Server}
 use Rattle.replication.specs.Runs.Run.{Run}
 use Rattle.replication.specs.Runs.Happenings.{Takes}
-use Rattle.replication.specs.Runs.Allowed.{Allowed}
+use Rattle.replication.proofs.Runs.Roomy.{Roomy as Allowed}
 use Rattle.replication.proofs.Runs.AllowedTurns.{memoryAt}
 use Rattle.replication.proofs.Runs.Entries.{had}
 use Rattle.replication.proofs.Runs.Order.{taker-member}
@@ -68,7 +68,7 @@ module _ {n q : ℕ} {l : Run} (A : Allowed n q l) (X : ExchangeFacts n q l) whe
   -- All who take the configuration of an Install have done so before it.
   pub takers-before : {p i e k : ℕ} {c : Configuration} → InstallsAt n q l p i c → Takes n q l e k c → e < p
   takers-before {p} {i} {e} {k} {c} x t =
-      let r = X .all-marked p i c x k (A .servers e k (comes-of t)) (taker-member t) in
+      let r = X .all-marked p i c x k (A .allowed .servers e k (comes-of t)) (taker-member t) in
       omega (arith, taken-before A t (ap (λ z. z .regular) (r .2 .ending .here)), r .1)
 
   module _ (P : Parts A) {t : ℕ} (I : Invariant A t) where

@@ -16,7 +16,7 @@ use Rattle.replication.specs.Machine.WellFormed.{idsIn}
 use Rattle.replication.specs.Laws.Modes as M
 use Rattle.replication.specs.Laws.Modes.{Attempts, ModeFacts}
 use Rattle.replication.specs.Runs.Run.{Run}
-use Rattle.replication.specs.Runs.Allowed.{Allowed}
+use Rattle.replication.proofs.Runs.Roomy.{Roomy as Allowed}
 use Rattle.replication.proofs.Runs.AllowedTurns.{memoryAt}
 use Rattle.replication.proofs.Runs.Modes.{mode-facts-at}
 use Rattle.replication.proofs.Runs.Numbers.{invariant-at}
@@ -59,7 +59,7 @@ module _ {n q : ℕ} {l : Run} (A : Allowed n q l) where
       u = memoryAt n q l p i
 
       low : u .votes .yellow .status ≤ 1
-      low = invariant-at n q i (A .sizes) (A .servers p i (of-event (x .acts .here))) l p .memory .well-formed .votes .yellow .status
+      low = invariant-at n q i (A .allowed .sizes) (A .allowed .servers p i (of-event (x .acts .here))) l p .memory .well-formed .votes .yellow .status
 
       go : Known (u .votes .yellow .status =? 1) → validYellow u ≡ u .votes .yellow .ids
       go (holds h) = rw h
@@ -83,7 +83,7 @@ module _ {n q : ℕ} {l : Run} (A : Allowed n q l) where
         let u = memoryAt n q l t j in
         let f = installing-yellow y in
         let m : Image n q l t j u = in-memory (y .acts .up) in
-        let w = invariant-at n q j (A .sizes) (A .servers t j (of-event (y .acts .here))) l t .memory .well-formed in
+        let w = invariant-at n q j (A .allowed .sizes) (A .allowed .servers t j (of-event (y .acts .here))) l t .memory in
         let g : idsIn ((installLog (u .votes .yellow .ids) (u .log)) .green) ≡ baseOf A y = sym (ap (λ z. idsIn z) (installed-green y)) ∙ base-after A y in
         let r = P .lists .installs-yellow u (u .votes .yellow .ids) w
         (subst (λ z. Each (λ d. d .index ≤ cut (u .log) (d .creator)) z) f (U t (omega arith) .yellow-entered j u m))

@@ -20,7 +20,7 @@ use Rattle.replication.specs.Laws.Modes as M
 use Rattle.replication.specs.Laws.Order.{inExchange}
 use Rattle.replication.specs.Runs.Run.{Run}
 use Rattle.replication.specs.Runs.Happenings.{Takes}
-use Rattle.replication.specs.Runs.Allowed.{Allowed}
+use Rattle.replication.proofs.Runs.Roomy.{Roomy as Allowed}
 use Rattle.replication.proofs.Runs.AllowedTurns.{memoryAt, storeAt}
 use Rattle.replication.proofs.Runs.ControlPart.{store-below}
 use Rattle.replication.proofs.Runs.Entries.{had}
@@ -150,7 +150,7 @@ module _ {n q : ℕ} {l : Run} (A : Allowed n q l) (X : ExchangeFacts n q l) (P 
     -- A present member of c marked in c before it took e.
     marked-before : {k w : ℕ} → inSet k (c .set) ≡ true → Takes n q l w k e → (z : ℕ) × (z < suc w) × MarksAt n q l z k c
     marked-before {k} {w} a o =
-        let b = X .all-marked p i c x k (A .servers w k (comes-of o)) a in
+        let b = X .all-marked p i c x k (A .allowed .servers w k (comes-of o)) a in
         let v = marking-taken (b .2) in (
           b .0,
           omega (

@@ -1,30 +1,13 @@
 -- Demand 3: in every allowed run all green lists agree, and all primary components; so they do with stray events.
-use Prim.Native.Nat.{ℕ}
-use Rattle.replication.specs.Runs.Run.{Run}
-use Rattle.replication.specs.Runs.Allowed.{Allowed}
-use Rattle.replication.specs.Runs.Claim.{Agreement, Consequences, Demand3, Corollaries}
+use Rattle.replication.specs.Runs.Claim.{Demand3, Corollaries}
 use Rattle.replication.proofs.Runs.Strays.{strays-agree, strays-follow}
-use Rattle.replication.proofs.Agreement.Exchange.Facts.{exchange-facts}
-use Rattle.replication.proofs.Agreement.Greens.Parts.{Parts}
-use Rattle.replication.proofs.Agreement.Greens.OfLists.{list-parts}
-use Rattle.replication.proofs.Agreement.Greens.OfContents.{content-parts}
-use Rattle.replication.proofs.Agreement.Greens.OfPrimaries.{primary-parts}
-use Rattle.replication.proofs.Agreement.Greens.Induction as I
-
-pub parts : {n q : ℕ} {l : Run} (A : Allowed n q l) → Parts A
-parts A = record { lists = list-parts; contents = content-parts A; primaries = primary-parts A }
-
--- With no strays.
-pub agreement : {n q : ℕ} {l : Run} → Allowed n q l → Agreement n q l
-agreement A = I.agreement A (exchange-facts A) (parts A)
-
-pub consequences : {n q : ℕ} {l : Run} → Allowed n q l → Consequences n q l
-consequences A = I.consequences A (exchange-facts A) (parts A)
+use Rattle.replication.proofs.Agreement.Greens.Whole.{agreement, consequences}
+use Rattle.replication.proofs.Agreement.Whites.Room.{roomy}
 
 pub demand3 : Demand3
 unfolding Demand3
-demand3 n q l S = strays-agree S (agreement (S .rest))
+demand3 n q l S = strays-agree S (agreement (roomy (S .rest)))
 
 pub corollaries : Corollaries
 unfolding Corollaries
-corollaries n q l S = strays-follow S (consequences (S .rest))
+corollaries n q l S = strays-follow S (consequences (roomy (S .rest)))

@@ -1,25 +1,16 @@
 -- A primary component that is known was installed before; all its Installs give the same, so a fact of one is a fact of all. The end of an exchange, with its place.
 use Prim.Native.Nat.{ℕ, suc, _≤_, _<_}
-use mathlib.Core.Path.{_≡_, refl, sym, subst, _∙_}
-use mathlib.Core.Bool.{true}
+use mathlib.Core.Path.{_≡_, sym, subst}
 use native.Mathlib.Omega.{arith}
 use Rattle.replication.specs.Machine.Types.{Configuration, Server}
 use Rattle.replication.specs.Runs.Run.{Run}
 use Rattle.replication.specs.Runs.Happenings.{Takes}
-use Rattle.replication.specs.Runs.Allowed.{Allowed}
-use Rattle.replication.proofs.Step.Formed.{every-state-in}
-use Rattle.replication.proofs.WellFormed.Facts.{facts-well-formed}
-use Rattle.replication.proofs.Runs.Places.{of-event}
-use Rattle.replication.proofs.Runs.Numbers.{numbers, invariant-at}
-use Rattle.replication.proofs.Runs.Modes.{standing}
-use Rattle.replication.proofs.Runs.Coupling.{coupled}
-use Rattle.replication.proofs.Runs.OwnStates.{exchange-regular}
+use Rattle.replication.proofs.Runs.Roomy.{Roomy as Allowed}
 use Rattle.replication.proofs.Runs.Order.{taker-member}
 use Rattle.replication.proofs.Runs.Shifts.{comes-of}
 use Rattle.replication.proofs.Runs.Sending.{regular-acts}
-use Rattle.replication.proofs.Runs.AllowedTurns.{memoryAt, Acts}
+use Rattle.replication.proofs.Runs.AllowedTurns.{memoryAt}
 use Rattle.replication.proofs.Agreement.Terms.{Image, in-memory, EndsAt, InstallsAt, installed, ExchangeFacts}
-use Rattle.replication.proofs.Agreement.Votes.Changes.{Ending}
 use Rattle.replication.proofs.Agreement.Votes.Turns.{lastAt}
 use Rattle.replication.proofs.Agreement.Votes.Attempts.{installed-index}
 use Rattle.replication.proofs.Agreement.Votes.Unique.{unique-install}
@@ -44,29 +35,6 @@ module _ {n q : ℕ} {l : Run} (A : Allowed n q l) where
   pub earlier-residue : {p i r : ℕ} {c : Configuration} (x : InstallsAt n q l p i c) (e : Earlier x r) (t d : ℕ) → residue A x t d ≡ residue A (e .install) t d
   earlier-residue x e t d = same-residue A x (e .install) (e .base) (e .cuts) t d
 
-  -- ---- the end of an exchange
-
-  pub ends-here : {t s : ℕ} (x : Acts n q l t s) → x .stores ≡ true → Ending (memoryAt n q l t s) (x .after) (x .by .records)
-      → (c : Configuration) × (y : EndsAt n q l t s c) × (y .acts ≡ x)
-  ends-here {t} {s} x b j =
-      let m = memoryAt n q l t s in
-      let g = exchange-regular (m .membership .mode) (m .membership .configuration) (m .membership .transitional) (j .exchanging) (standing n q l s t .memory) in
-      let w = invariant-at n q s (A .sizes) (A .servers t s (of-event (x .here))) l t .memory .well-formed in (
-        g .configuration,
-        record {
-          acts = x;
-          judged = j .judged;
-          ends = j .ends;
-          stores = b;
-          here = sym (coupled A t s (x .up)) ∙ (λ z. record { regular = g .there z; transitional = g .none-after z });
-          of-me = j .me ∙ numbers n q s l t .memory .me;
-          votes = j .votes;
-          configuration = j .configuration ∙ g .there;
-          complete = j .complete (every-state-in m (facts-well-formed m w));
-        },
-        refl,
-      )
-
   pub taker-image : {e k : ℕ} {c : Configuration} → Takes n q l e k c → Image n q l (suc e) k (memoryAt n q l (suc e) k)
   taker-image {e} {k} {c} t = in-memory (regular-acts A e k c t .0 .down-next)
 
@@ -74,8 +42,8 @@ module _ {n q : ℕ} {l : Run} (A : Allowed n q l) where
     -- All members have taken the configuration before one ends its exchange.
     pub enders-before : {p i e k : ℕ} {c : Configuration} → EndsAt n q l p i c → Takes n q l e k c → e < p
     enders-before {p} {i} {e} {k} {c} x t =
-        let r = X .states-sent p i c x k (A .servers e k (comes-of t)) (taker-member t) in
-        omega (arith, A .once e (r .2 .at) k c t (r .2 .took), r .3)
+        let r = X .states-sent p i c x k (A .allowed .servers e k (comes-of t)) (taker-member t) in
+        omega (arith, A .allowed .once e (r .2 .at) k c t (r .2 .took), r .3)
 
     module _ (P : Parts A) {t : ℕ} (U : UpTo A t) where
       pub ending-agreeable : {p i : ℕ} {c : Configuration} → p ≤ t → EndsAt n q l p i c → Agreeable A c

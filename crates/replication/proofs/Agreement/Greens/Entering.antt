@@ -14,15 +14,16 @@ use Rattle.replication.specs.Machine.Colours.{cut}
 use Rattle.replication.specs.Machine.Exchange.{commonYellow}
 use Rattle.replication.specs.Machine.Requests.{recovered}
 use Rattle.replication.specs.Machine.Step.{collected, unmarked, yellowValid}
-use Rattle.replication.proofs.WellFormed.Clauses.{YellowEntered, YellowWithinCuts}
+use Rattle.replication.proofs.WellFormed.Clauses.{YellowEntered, YellowRed}
 use Rattle.replication.specs.Laws.Order.{inExchange}
 use Rattle.replication.specs.Laws.Transitions as L
 use Rattle.replication.specs.Runs.Run.{Run}
-use Rattle.replication.specs.Runs.Allowed.{Allowed}
+use Rattle.replication.proofs.Runs.Roomy.{Roomy as Allowed}
 use Rattle.replication.proofs.Step.Growth.{transition-grows}
 use Rattle.replication.proofs.Runs.AllowedTurns.{memoryAt, storeAt, Acts}
 use Rattle.replication.proofs.Runs.Numbers.{invariant-at}
 use Rattle.replication.proofs.Runs.Places.{of-event}
+use Rattle.replication.proofs.Agreement.Votes.Turns.{ends-at}
 use Rattle.replication.proofs.Agreement.Terms.{Image, in-memory, in-store, EndsAt, ExchangeFacts}
 use Rattle.replication.proofs.Agreement.Greens.Terms.{validYellow}
 use Rattle.replication.proofs.Agreement.Greens.Parts.{Parts}
@@ -30,7 +31,7 @@ use Rattle.replication.proofs.Agreement.Greens.Invariant.{UpTo}
 use Rattle.replication.proofs.Agreement.Greens.Steps as S
 use Rattle.replication.proofs.Agreement.Greens.Steps.{GreenStep, green-step}
 use Rattle.replication.proofs.Agreement.Greens.Images.{ImageStep, kept, fallen, restored, acted, image-step}
-use Rattle.replication.proofs.Agreement.Greens.Earlier.{ends-here, ending-agreeable}
+use Rattle.replication.proofs.Agreement.Greens.Earlier.{ending-agreeable}
 use Rattle.replication.proofs.Agreement.Greens.Silence.{no-yellow-after}
 use Rattle.replication.proofs.Agreement.Greens.Answering.{all-valid}
 use Rattle.replication.proofs.Agreement.Greens.Gathered.{YellowTaken, invalid, valid, yellow-taken, valid-sender, sender-yellow}
@@ -80,16 +81,16 @@ module _ {n q : ℕ} {l : Run} (A : Allowed n q l) (X : ExchangeFacts n q l) (P 
   acting y (S.delivers k b v o) = none-entered (y .after .log) _ (no-valid-yellow (y .after) (no-yellow-after A y b))
   acting y (S.exchanges k b v) = same-yellow y (ap (λ z. z .yellow) v)
   acting {s} y (S.ends b j) =
-      let z = ends-here A y b j in
+      let z = ends-at A _ _ y b j in
       subst (λ u. Entered (u .log) (validYellow u)) (y .memory-next) (ending (z .1) (j .exchanging) (yellow-taken A X P U (z .1)))
   acting y (S.installs k b o j) = none-entered (y .after .log) _ (no-valid-yellow (y .after) (no-yellow-after A y o))
   acting y (S.unmarks k b g v) = same-yellow y (ap (λ z. z .yellow) v)
   acting {s} y (S.makesValid o r k b g v) =
       let u = memoryAt n q l t s in
-      let w = invariant-at n q s (A .sizes) (A .servers t s (of-event (y .here))) l t .memory .yellow in
-      let e : YellowWithinCuts u = subst (λ m. YellowEntered m u) k w in
+      let w = invariant-at n q s (A .allowed .sizes) (A .allowed .servers t s (of-event (y .here))) l t .memory .yellow in
+      let e : YellowRed u = subst (λ m. YellowEntered m u) k w in
       subst₂ (λ m z. Entered m z) (sym g)
-      (sym (ap (λ z. pick (z .yellow .status =? 1) (z .yellow .ids) []) v ∙ all-valid (u .votes .yellow .ids))) e
+      (sym (ap (λ z. pick (z .yellow .status =? 1) (z .yellow .ids) []) v ∙ all-valid (u .votes .yellow .ids))) (e .within)
 
   pub yellow-entered-after : (s : ℕ) (u : Server) → Image n q l (suc t) s u → Each (λ d. d .index ≤ cut (u .log) (d .creator)) (validYellow u)
   unfolding recovered validYellow
@@ -104,7 +105,7 @@ module _ {n q : ℕ} {l : Run} (A : Allowed n q l) (X : ExchangeFacts n q l) (P 
       go : ImageStep n q l t s u → Entered (u .log) (validYellow u)
       go (kept z f) = U t (omega arith) .yellow-entered s u z
       go (fallen f g) = subst (λ z. Entered (z .log) (validYellow z)) (sym g) stored
-      go (restored f g) =
+      go (restored f k g) =
           subst (λ z. Entered (z .log) (validYellow z)) (sym g)
           (entered-more (w .log) (recovered w .log) (validYellow w) (transition-grows {s = w} L.recovers .cuts) stored)
       go (acted z g) = subst (λ z. Entered (z .log) (validYellow z)) (sym g) (acting z (green-step (memoryAt n q l t s) (z .moves)))

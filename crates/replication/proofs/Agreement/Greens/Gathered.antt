@@ -17,7 +17,7 @@ use Rattle.replication.specs.Machine.Step.{collected, ownState}
 use Rattle.replication.specs.Machine.WellFormed.{idsIn}
 use Rattle.replication.specs.Laws.Order.{inExchange}
 use Rattle.replication.specs.Runs.Run.{Run}
-use Rattle.replication.specs.Runs.Allowed.{Allowed}
+use Rattle.replication.proofs.Runs.Roomy.{Roomy as Allowed}
 use Rattle.replication.proofs.Runs.AllowedTurns.{memoryAt}
 use Rattle.replication.proofs.Agreement.Terms.{Image, EndsAt, ExchangeFacts}
 use Rattle.replication.proofs.Agreement.Votes.Turns.{votesAt}

@@ -7,12 +7,12 @@ use Rattle.base.specs.Tests.{pick}
 use Rattle.base.proofs.TestLaws.{not-both, Known, holds, fails, known}
 use Rattle.base.specs.Lists.{at}
 use Rattle.base.proofs.AtLaws.{some-same}
-use Rattle.replication.specs.Machine.Types.{Server, Configuration}
+use Rattle.replication.specs.Machine.Types.{Server, Configuration, withWhite}
 use Rattle.replication.specs.Machine.Requests.{recovered}
 use Rattle.replication.specs.Images.{isRecovery, savedIn}
 use Rattle.replication.specs.Runs.Run.{store, Run, worldAt, heardAt}
 use Rattle.replication.specs.Runs.Happenings.{Falls, by-crash, by-recovery}
-use Rattle.replication.specs.Runs.Allowed.{Allowed}
+use Rattle.replication.proofs.Runs.Roomy.{Roomy as Allowed}
 use Rattle.replication.proofs.Runs.AllowedTurns.{memoryAt, storeAt, Acts, Refuses, Recovers, AllowedTurn, rests, crashes, saves, refuses, recovers, acts, allowed-turn}
 use Rattle.replication.proofs.Runs.Coupling.{coupled}
 use Rattle.replication.proofs.Runs.Places.{event-not-store, crash-not-store, event-entry, event-not-crash}
@@ -23,8 +23,8 @@ module _ (n q : ℕ) (l : Run) where
   pub data ImageStep (t s : ℕ) (u : Server) : Type 0 where
     kept : Image n q l t s u → (Falls n q l t s → ⊥) → ImageStep t s u
     fallen : Falls n q l t s → u ≡ storeAt n q l t s → ImageStep t s u
-    restored : Falls n q l t s → u ≡ recovered (storeAt n q l t s) → ImageStep t s u
-    acted : (x : Acts n q l t s) → u ≡ x .after → ImageStep t s u
+    restored : Falls n q l t s → (w : ℕ) → u ≡ withWhite w (recovered (storeAt n q l t s)) → ImageStep t s u
+    acted : (x : Acts n q l t s) → u ≡ withWhite (x .white) (x .after) → ImageStep t s u
 
 module _ {n q : ℕ} {l : Run} where
   refused-no-fall : {t s : ℕ} → Refuses n q l t s → Falls n q l t s → ⊥
@@ -57,10 +57,10 @@ module _ {n q : ℕ} {l : Run} where
   image-acted {t} {s} x in-store = go (known (x .stores))
     where
       go : Known (x .stores) → ImageStep n q l t s (storeAt n q l (suc t) s)
-      go (holds h) = acted x (x .store-next ∙ ap (λ b. pick b (x .after) (storeAt n q l t s)) h)
+      go (holds h) = acted x (x .store-next ∙ ap (λ b. pick b (withWhite (x .white) (x .after)) (storeAt n q l t s)) h)
       go (fails h) =
           let f : Image n q l t s (storeAt n q l t s) = in-store in
-          kept (subst (λ v. Image n q l t s v) (sym (x .store-next ∙ ap (λ b. pick b (x .after) (storeAt n q l t s)) h)) f) (acts-no-fall x)
+          kept (subst (λ v. Image n q l t s v) (sym (x .store-next ∙ ap (λ b. pick b (withWhite (x .white) (x .after)) (storeAt n q l t s)) h)) f) (acts-no-fall x)
 
   image-crashed : {t s : ℕ} {u : Server} → Falls n q l t s → worldAt n q l (suc t) .images s ≡ worldAt n q l t .images s → worldAt n q l (suc t) .down s ≡ true
       → Image n q l (suc t) s u → ImageStep n q l t s u
@@ -82,8 +82,8 @@ module _ {n q : ℕ} {l : Run} where
   store-no-fall x (by-recovery c) = event-not-store (some-same (sym (c .here) ∙ x))
 
   image-restored : {t s : ℕ} {u : Server} → Recovers n q l t s → Image n q l (suc t) s u → ImageStep n q l t s u
-  image-restored x (in-memory h) = restored (by-recovery (x .comes)) (x .memory-next)
-  image-restored x in-store = restored (by-recovery (x .comes)) (x .store-next)
+  image-restored x (in-memory h) = restored (by-recovery (x .comes)) (x .white) (x .memory-next)
+  image-restored x in-store = restored (by-recovery (x .comes)) (x .white) (x .store-next)
 
 module _ {n q : ℕ} {l : Run} (A : Allowed n q l) where
   pub image-step : {t s : ℕ} {u : Server} → Image n q l (suc t) s u → ImageStep n q l t s u

@@ -7,7 +7,7 @@ use Rattle.base.specs.Sets.{inSet}
 use Rattle.replication.specs.Machine.Types.{Configuration, Server}
 use Rattle.replication.specs.Machine.Colours.{cut}
 use Rattle.replication.specs.Runs.Run.{Run}
-use Rattle.replication.specs.Runs.Allowed.{Allowed}
+use Rattle.replication.proofs.Runs.Roomy.{Roomy as Allowed}
 use Rattle.replication.proofs.Agreement.Terms.{Image, InstallsAt, installed}
 use Rattle.replication.proofs.Agreement.Votes.Judging.{Alike}
 use Rattle.replication.proofs.Agreement.Greens.Beginnings.{Prefix}

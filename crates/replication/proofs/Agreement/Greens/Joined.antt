@@ -13,19 +13,19 @@ use Rattle.base.specs.Tests.{_or_, _=?_}
 use Rattle.base.proofs.TestLaws.{and-holds, eq-holds, not-both, Known, holds, fails}
 use Rattle.base.proofs.TestLaws as T
 use Rattle.format.specs.Types.{Mark, State}
-use Rattle.replication.specs.Machine.Types.{Configuration, Server, clearedMark}
+use Rattle.replication.specs.Machine.Types.{Configuration, Server, clearedMark, withWhite}
 use Rattle.replication.specs.Machine.Exchange.{alike, isMarked, sameAttempt, joinBits, joinedBits, judgedMark, keptMark}
 use Rattle.replication.specs.Machine.Requests.{recovered}
 use Rattle.replication.specs.Machine.Step.{collected, unmarked, yellowValid}
 use Rattle.replication.specs.Laws.Order.{inExchange}
 use Rattle.replication.specs.Runs.Run.{Run}
 use Rattle.replication.specs.Runs.Happenings.{Takes, Falls}
-use Rattle.replication.specs.Runs.Allowed.{Allowed}
+use Rattle.replication.proofs.Runs.Roomy.{Roomy as Allowed}
 use Rattle.replication.proofs.Runs.AllowedTurns.{memoryAt, storeAt, Acts}
 use Rattle.replication.proofs.Runs.ControlPart.{store-below, store-grows-between}
 use Rattle.replication.proofs.Runs.Entries.{had}
 use Rattle.replication.proofs.Agreement.Terms.{Image, in-memory, in-store, Within, EndsAt, InstallsAt, installed, ExchangeFacts}
-use Rattle.replication.proofs.Agreement.Votes.Turns.{votesAt, Decides, with-quorum, without-quorum, ended, ended-last}
+use Rattle.replication.proofs.Agreement.Votes.Turns.{ends-at, votesAt, Decides, with-quorum, without-quorum, ended, ended-last}
 use Rattle.replication.proofs.Agreement.Votes.Events.{taken-before}
 use Rattle.replication.proofs.Agreement.Votes.Judging.{Alike, Judged, cleared, kept, judged?}
 use Rattle.replication.proofs.Agreement.Votes.Collected.{StateOf, own-state, own-mark-judged}
@@ -44,7 +44,6 @@ use Rattle.replication.proofs.Agreement.Greens.Steps.{GreenStep, green-
 use Rattle.replication.proofs.Agreement.Greens.Images as M
 use Rattle.replication.proofs.Agreement.Greens.Images.{ImageStep, image-step}
 use Rattle.replication.proofs.Agreement.Greens.Reaching.{recovered-greens}
-use Rattle.replication.proofs.Agreement.Greens.Earlier.{ends-here}
 use Rattle.replication.proofs.Agreement.Greens.Bases.{grown}
 use Rattle.replication.proofs.Agreement.Greens.Gathered.{Sender, sender}
 use Rattle.replication.proofs.Agreement.Greens.Leaving.{like-marked, Departed, with-none, by-fall, departed, kept-alike}
@@ -210,8 +209,8 @@ module _ {n q : ℕ} {l : Run} (A : Allowed n q l) (X : ExchangeFacts n q l) (P 
         go (S.delivers a o v m) = same m (omega (arith, ap (λ z. z .index) v))
         go (S.exchanges a o v) = same (ap (λ z. z .mark) v) (omega (arith, ap (λ z. z .last .index) v))
         go (S.ends o j) =
-            let z = ends-here A y o j in
-            subst (λ w. G.Known A x (suc t) d w) (y .memory-next) (ending (z .1) (j .exchanging) (ended (z .1)))
+            let z = ends-at A _ _ y o j in
+            G.known-lowered A x (y .white) (subst (λ w. G.Known A x (suc t) d w) (y .memory-next) (ending (z .1) (j .exchanging) (ended (z .1))))
         go (S.installs k o a j) = same (j .mark) (omega (arith, j .index))
         go (S.unmarks a o f v) = absurd (omega (arith, ap (λ z. z .mark .status) v, h .status))
         go (S.makesValid a r o f g′ v) = absurd (omega (arith, ap (λ z. z .mark .status) v, h .status))
@@ -236,11 +235,11 @@ module _ {n q : ℕ} {l : Run} (A : Allowed n q l) (X : ExchangeFacts n q l) (P 
             subst (λ z. G.Known A x (suc t) d z) (sym g)
             (known-further (omega arith) (omega arith) prefix-refl
             (from-store (subst (λ z. Alike (markOfInstall A x) (z .votes .mark)) g h) (ap (λ z. inSet d (z .votes .mark .bits)) (sym g) ∙ b)))
-        go (M.restored f g) =
+        go (M.restored f k g) =
             subst (λ z. G.Known A x (suc t) d z) (sym g)
-            (known-further {u = w} {v = recovered w} (omega arith) (omega arith) (prefix-to prefix-refl (sym (recovered-greens A w)))
+            (known-further {u = w} {v = withWhite k (recovered w)} (omega arith) (omega arith) (prefix-to prefix-refl (sym (recovered-greens A w)))
             (from-store (subst (λ z. Alike (markOfInstall A x) (z .votes .mark)) g h) (ap (λ z. inSet d (z .votes .mark .bits)) (sym g) ∙ b)))
         go (M.acted z g) =
             subst (λ v. G.Known A x (suc t) d v) (sym g)
-            (acting d z (green-step (memoryAt n q l t s) (z .moves)) (subst (λ v. Alike (markOfInstall A x) (v .votes .mark)) g h)
-            (ap (λ v. inSet d (v .votes .mark .bits)) (sym g) ∙ b))
+            (G.known-raised A x (z .white) (acting d z (green-step (memoryAt n q l t s) (z .moves)) (subst (λ v. Alike (markOfInstall A x) (v .votes .mark)) g h)
+            (ap (λ v. inSet d (v .votes .mark .bits)) (sym g) ∙ b)))

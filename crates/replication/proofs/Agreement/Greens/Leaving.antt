@@ -4,6 +4,7 @@ use mathlib.Core.Path.{_≡_, sym, ap, subst, _∙_}
 use mathlib.Core.List.{List, List·Memᴰ}
 use mathlib.Core.Option.{some}
 use native.Mathlib.Omega.{arith}
+use Rattle.base.specs.Lists.{Each}
 use Rattle.base.proofs.Chains.{strong}
 use Rattle.base.proofs.AtLaws.{some-same}
 use Rattle.base.proofs.TestLaws.{not-both, Known, holds, fails, known}
@@ -17,8 +18,10 @@ use Rattle.replication.specs.Laws.Primary.{TransitionalStep}
 use Rattle.replication.specs.Runs.Run.{Run, placeAt, beginning}
 use Rattle.replication.proofs.Runs.DeliveryFacts.{within}
 use Rattle.replication.specs.Runs.Happenings.{Takes, Falls}
-use Rattle.replication.specs.Runs.Allowed.{Allowed}
+use Rattle.replication.proofs.Runs.Roomy.{Roomy as Allowed}
+use Rattle.replication.proofs.Step.Folds.{YellowRoom}
 use Rattle.replication.proofs.Step.Primary.{transitional-step}
+use Rattle.replication.proofs.Runs.LogActions.{carried}
 use Rattle.replication.proofs.Runs.AllowedTurns.{memoryAt, Acts}
 use Rattle.replication.proofs.Runs.DeliveryLists.{within-holds, within-yes}
 use Rattle.replication.proofs.Runs.Entries.{had}
@@ -106,7 +109,7 @@ module _ {n q : ℕ} {l : Run} (A : Allowed n q l) (X : ExchangeFacts n q l) {p 
         no-trans : (e : Configuration) → Takes n q l t d e → u .membership .mode ≡ Trans-prim → ⊥
         no-trans e k m =
             let y = regular-acts A t d e k in
-            step (y .0) (y .1) (transitional-step u m (y .0 .moves))
+            step (y .0) (y .1) (transitional-step u m (y .0 .moves) (subst (λ r. Each (YellowRoom u) (carried r)) (sym (y .1)) tt))
           where
             step : (y : Acts n q l t d) → y .by .event ≡ regular (e .id) (e .set) → TransitionalStep u (y .by .event) (y .after) → ⊥
             step y f (Q.delivers a r b g) = clash (sym f ∙ r)
@@ -152,7 +155,7 @@ module _ {n q : ℕ} {l : Run} (A : Allowed n q l) (X : ExchangeFacts n q l) {p 
         out w =
             let a = had n q l (suc (own .2 .took-at)) d c (w .here) in
             let b = had n q l t d e (ap (λ z. z .regular) (y .here)) in
-            let same : b .took-at ≡ own .2 .took-at = A .once (b .took-at) (own .2 .took-at) d e (b .took) (own .2 .took) in
+            let same : b .took-at ≡ own .2 .took-at = A .allowed .once (b .took-at) (own .2 .took-at) d e (b .took) (own .2 .took) in
             let f : c ≡ e = some-same (sym (w .here) ∙ b .kept (suc (own .2 .took-at)) (omega (arith, same)) (own .2 .earlier)) in
             o (within-place A (ap (λ z. z .regular) (y .here) ∙ ap (λ z. some z) (sym f)))
 

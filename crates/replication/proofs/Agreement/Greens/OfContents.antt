@@ -20,7 +20,7 @@ use Rattle.replication.specs.Images.{isRecovery}
 use Rattle.replication.specs.Laws.Order.{inExchange}
 use Rattle.replication.specs.Runs.Run.{Run, Place, placeAt, moved}
 use Rattle.replication.specs.Runs.Happenings.{Takes}
-use Rattle.replication.specs.Runs.Allowed.{Allowed}
+use Rattle.replication.proofs.Runs.Roomy.{Roomy as Allowed}
 use Rattle.replication.proofs.Runs.AllowedTurns.{memoryAt, Acts}
 use Rattle.replication.proofs.Runs.Memberships.{everyStateIn}
 use Rattle.replication.proofs.Runs.Numbers.{numbers, invariant-at}
@@ -73,12 +73,12 @@ exchange-place recovery m k c e f h = not-both (sym h)
 
 module _ {n q : ℕ} {l : Run} (A : Allowed n q l) where
   -- Of those who took c before t.
-  agreeable-before : {c : Configuration} (t : ℕ) → Agreeable A c → C.Agreeable n q l t c
+  pub agreeable-before : {c : Configuration} (t : ℕ) → Agreeable A c → C.Agreeable n q l t c
   agreeable-before t G =
       record { comparable = λ e f j k a b x y. comparable-lists (G .comparable e f j k x y); fifo = λ e j a x. G .fifo e j x .follows }
 
   taker : {e k : ℕ} {c : Configuration} → Takes n q l e k c → (k < n) × (inSet k (c .set) ≡ true)
-  taker {e} {k} t = (A .servers e k (comes-of t), taker-member t)
+  taker {e} {k} t = (A .allowed .servers e k (comes-of t), taker-member t)
 
   -- ---- the end
 
@@ -114,7 +114,7 @@ module _ {n q : ℕ} {l : Run} (A : Allowed n q l) where
     ends-cuts e k t a = go (decLt a n)
       where
         cuts-length : length (memoryAt n q l (suc e) k .log .cuts) ≡ n
-        cuts-length = invariant-at n q k (A .sizes) (taker t .0) l (suc e) .memory .well-formed .log .cuts-length ∙ numbers n q k l (suc e) .memory .servers
+        cuts-length = invariant-at n q k (A .allowed .sizes) (taker t .0) l (suc e) .memory .well-formed .log .cuts-length ∙ numbers n q k l (suc e) .memory .servers
 
         go : Dec (a < n) → cut (memoryAt n q l (suc e) k .log) a ≤ cut (memoryAt n q l (suc p) i .log) a
         go (yes h) =

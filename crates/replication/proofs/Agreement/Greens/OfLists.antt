@@ -9,7 +9,7 @@ use Rattle.replication.specs.Machine.Types.{Server}
 use Rattle.replication.specs.Machine.Colours.{cut}
 use Rattle.replication.specs.Machine.Install.{installLog}
 use Rattle.replication.specs.Machine.WellFormed.{idsIn}
-use Rattle.replication.proofs.WellFormed.Clauses.{WellFormed}
+use Rattle.replication.proofs.WellFormed.Clauses.{Invariant}
 use Rattle.replication.proofs.Runs.LogActions.{each-in}
 use Rattle.replication.proofs.Agreement.Lists.Plus.{plus-grown, plus-joins}
 use Rattle.replication.proofs.Agreement.Lists.Common.{yellow-begins}
@@ -21,7 +21,7 @@ use Rattle.replication.proofs.Agreement.Greens.Beginnings.{Prefix, comp
 use Rattle.replication.proofs.Agreement.Greens.Terms.{greens, plus, Fifo}
 use Rattle.replication.proofs.Agreement.Greens.Parts.{ListParts}
 
-installs-yellow : (s : Server) (ys : List Id) → WellFormed s → Each (λ d. d .index ≤ cut (s .log) (d .creator)) ys → Fifo (plus (greens s) ys)
+installs-yellow : (s : Server) (ys : List Id) → Invariant s → Each (λ d. d .index ≤ cut (s .log) (d .creator)) ys → Fifo (plus (greens s) ys)
     → Prefix (plus (greens s) ys) (idsIn ((installLog ys (s .log)) .green)) × Fifo (idsIn ((installLog ys (s .log)) .green))
 unfolding cut
 installs-yellow s ys w h f =

@@ -21,7 +21,7 @@ use Rattle.replication.specs.Laws.Order.{inExchange}
 use Rattle.replication.specs.Runs.Run.{Run, placeAt}
 use Rattle.replication.proofs.Runs.DeliveryFacts.{withinRegular}
 use Rattle.replication.specs.Runs.Happenings.{Takes}
-use Rattle.replication.specs.Runs.Allowed.{Allowed}
+use Rattle.replication.proofs.Runs.Roomy.{Roomy as Allowed}
 use Rattle.replication.proofs.Runs.AllowedTurns.{memoryAt}
 use Rattle.replication.proofs.Runs.Entries.{Had, had}
 use Rattle.replication.proofs.Runs.Made.{all-made}
@@ -38,7 +38,7 @@ use Rattle.replication.proofs.Agreement.Primaries.Leaving as L
 use Rattle.replication.proofs.Agreement.Primaries.Leaving.{reached, reached-comparable, green-whole, leaves-from-un}
 use Rattle.replication.proofs.Agreement.Primaries.Orders.{reached-fifo, yellow-joins, yellow-fifo}
 use Rattle.replication.proofs.Agreement.Greens.Beginnings.{Prefix, Comparable, lists-comparable, prefix-to, prefix-from}
-use Rattle.replication.proofs.Agreement.Greens.Terms.{greens, plus, Fifo, baseOf, cutsOf, reach}
+use Rattle.replication.proofs.Agreement.Greens.Terms.{greens, plus, baseOf, cutsOf, reach}
 use Rattle.replication.proofs.Agreement.Greens.Parts.{PrimaryParts}
 use Rattle.replication.proofs.Agreement.Greens.Residues.{within-place}
 use Rattle.replication.proofs.Agreement.Contents.Same.{same-actions}

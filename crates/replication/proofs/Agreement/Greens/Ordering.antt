@@ -15,9 +15,10 @@ use Rattle.replication.specs.Machine.Step.{collected, unmarked, yellowVa
 use Rattle.replication.specs.Machine.WellFormed.{idsIn}
 use Rattle.replication.specs.Laws.Order.{inExchange}
 use Rattle.replication.specs.Runs.Run.{Run}
-use Rattle.replication.specs.Runs.Allowed.{Allowed}
+use Rattle.replication.proofs.Runs.Roomy.{Roomy as Allowed}
 use Rattle.replication.proofs.Runs.AllowedTurns.{memoryAt, storeAt, Acts}
 use Rattle.replication.proofs.Runs.Modes.{standing, standing-in}
+use Rattle.replication.proofs.Agreement.Votes.Turns.{ends-at}
 use Rattle.replication.proofs.Agreement.Terms.{Image, in-memory, in-store, Within, EndsAt, ExchangeFacts}
 use Rattle.replication.proofs.Agreement.Lists.Plus.{plus-nil}
 use Rattle.replication.proofs.Agreement.Greens.Beginnings.{Prefix, prefix-trans, take-begins}
@@ -30,7 +31,6 @@ use Rattle.replication.proofs.Agreement.Greens.Steps as S
 use Rattle.replication.proofs.Agreement.Greens.Steps.{GreenStep, green-step}
 use Rattle.replication.proofs.Agreement.Greens.Images.{ImageStep, kept, fallen, restored, acted, image-step, configured-within}
 use Rattle.replication.proofs.Agreement.Greens.Reaching.{recovered-greens, reached-after}
-use Rattle.replication.proofs.Agreement.Greens.Earlier.{ends-here}
 use Rattle.replication.proofs.Agreement.Greens.Bases.{grown}
 use Rattle.replication.proofs.Agreement.Greens.Covering.{base-fifo-after}
 use Rattle.replication.proofs.Agreement.Greens.Silence.{no-yellow-after}
@@ -101,7 +101,7 @@ module _ {n q : ℕ} {l : Run} (A : Allowed n q l) (X : ExchangeFacts n q l) (P 
       (P .lists .growth-fifo (greens (memoryAt n q l t s)) (greens (y .after)) (validYellow (memoryAt n q l t s)) (U t (omega arith) .fifo s _ (in-memory (y .up))) (grown y)
       (acted-fifo y))
   acting-fifo {s} y (S.ends b j) =
-      let z = ends-here A y b j in
+      let z = ends-at A _ _ y b j in
       subst (λ u. Fifo (known-list u)) (y .memory-next) (ending-fifo (z .1) (j .exchanging) (yellow-taken A X P U (z .1)))
   acting-fifo y (S.installs k b o j) = invalid-fifo y (no-yellow-after A y o)
   acting-fifo {s} y (S.unmarks k b g v) =
@@ -127,7 +127,7 @@ module _ {n q : ℕ} {l : Run} (A : Allowed n q l) (X : ExchangeFacts n q l) (P 
       go : ImageStep n q l t s u → Fifo (known-list u)
       go (kept z f) = U t (omega arith) .fifo s u z
       go (fallen f g) = subst (λ z. Fifo (known-list z)) (sym g) stored
-      go (restored f g) =
+      go (restored f k g) =
           subst (λ z. Fifo (known-list z)) (sym g)
           (subst (λ z. Fifo (plus z (validYellow (storeAt n q l t s)))) (sym (recovered-greens A (storeAt n q l t s))) stored)
       go (acted z g) = subst (λ z. Fifo (known-list z)) (sym g) (acting-fifo z (green-step (memoryAt n q l t s) (z .moves)))

@@ -12,11 +12,11 @@ use Rattle.replication.specs.Machine.Colours.{cut}
 use Rattle.replication.specs.Machine.Exchange.{commonYellow}
 use Rattle.replication.specs.Machine.Install.{installLog}
 use Rattle.replication.specs.Machine.WellFormed.{idsIn}
-use Rattle.replication.proofs.WellFormed.Clauses.{WellFormed}
+use Rattle.replication.proofs.WellFormed.Clauses.{Invariant}
 use Rattle.replication.specs.Laws.Order.{inExchange}
 use Rattle.replication.specs.Runs.Run.{Run}
 use Rattle.replication.specs.Runs.Happenings.{Takes, Falls}
-use Rattle.replication.specs.Runs.Allowed.{Allowed}
+use Rattle.replication.proofs.Runs.Roomy.{Roomy as Allowed}
 use Rattle.replication.proofs.Runs.AllowedTurns.{memoryAt, Acts}
 use Rattle.replication.proofs.Agreement.Terms.{Within, EndsAt, InstallsAt, installed}
 use Rattle.replication.proofs.Agreement.Greens.Beginnings.{Prefix, Comparable}
@@ -36,7 +36,7 @@ pub record ListParts : Type 0 where
   -- More green, the yellow list as it was.
   pub growth-fifo : (g g′ ys : List Id) → Fifo (plus g ys) → Prefix g g′ → Fifo g′ → Fifo (plus g′ ys)
   -- Install: the yellow ids, all held, come directly above the green ones.
-  pub installs-yellow : (s : Server) (ys : List Id) → WellFormed s → Each (λ d. d .index ≤ cut (s .log) (d .creator)) ys → Fifo (plus (greens s) ys)
+  pub installs-yellow : (s : Server) (ys : List Id) → Invariant s → Each (λ d. d .index ≤ cut (s .log) (d .creator)) ys → Fifo (plus (greens s) ys)
       → Prefix (plus (greens s) ys) (idsIn ((installLog ys (s .log)) .green)) × Fifo (idsIn ((installLog ys (s .log)) .green))
 
 module _ {n q : ℕ} {l : Run} (A : Allowed n q l) where

@@ -13,7 +13,7 @@ use Rattle.replication.specs.Machine.WellFormed.{idsIn}
 use Rattle.replication.specs.Laws.Greens as G
 use Rattle.replication.specs.Laws.Greens.{GreenChange}
 use Rattle.replication.specs.Runs.Run.{Run, moved, placeAt}
-use Rattle.replication.specs.Runs.Allowed.{Allowed}
+use Rattle.replication.proofs.Runs.Roomy.{Roomy as Allowed}
 use Rattle.replication.proofs.Step.Greens.{reds-green, green-changes}
 use Rattle.replication.proofs.Runs.AllowedTurns.{memoryAt, storeAt, Acts}
 use Rattle.replication.proofs.Runs.Modes.{standing, standing-in}
@@ -97,5 +97,5 @@ module _ {n q : ℕ} {l : Run} (A : Allowed n q l) where
         go : ImageStep n q l t s u → Reached A (suc t) s (greens u)
         go (kept z f) = reached-next A X f (U t (omega arith) .reached s u z)
         go (fallen f e) = subst (λ v. Reached A (suc t) s (greens v)) (sym e) from-store
-        go (restored f e) = subst (λ v. Reached A (suc t) s (greens v)) (sym e) (subst (λ g. Reached A (suc t) s g) (sym (recovered-greens (storeAt n q l t s))) from-store)
+        go (restored f w e) = subst (λ v. Reached A (suc t) s (greens v)) (sym e) (subst (λ g. Reached A (suc t) s g) (sym (recovered-greens (storeAt n q l t s))) from-store)
         go (acted x e) = subst (λ v. Reached A (suc t) s (greens v)) (sym e) (acting x (green-changes (memoryAt n q l t s) (x .moves)))

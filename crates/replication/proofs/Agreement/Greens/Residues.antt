@@ -17,7 +17,7 @@ use Rattle.replication.specs.Laws.Folds.{entered}
 use Rattle.replication.specs.Runs.Run.{Run, nowhere, placeAt}
 use Rattle.replication.proofs.Runs.DeliveryFacts.{withinRegular}
 use Rattle.replication.specs.Runs.Happenings.{Falls}
-use Rattle.replication.specs.Runs.Allowed.{Allowed}
+use Rattle.replication.proofs.Runs.Roomy.{Roomy as Allowed}
 use Rattle.replication.proofs.Runs.AllowedTurns.{storeAt}
 use Rattle.replication.proofs.Runs.DeliveryLists.{within-holds, within-yes}
 use Rattle.replication.proofs.Runs.Entries.{had}
@@ -119,7 +119,7 @@ module _ {n q : ℕ} {l : Run} (A : Allowed n q l) where
         never y a f =
             let u = had n q l t d c (w .here) in
             let v = had n q l y d c (f .1 .here) in
-            u .steady y (omega (arith, v .earlier, A .once (v .took-at) (u .took-at) d c (v .took) (u .took))) a (f .0)
+            u .steady y (omega (arith, v .earlier, A .allowed .once (v .took-at) (u .took-at) d c (v .took) (u .took))) a (f .0)
 
     -- A member's residue after its fall begins every list that has what was green at the Install and what it had stored.
     pub residue-stored : (y t d : ℕ) (z : List Id) → y < t → Falls n q l y d → Within n q l y d c → Prefix (greens (storeAt n q l y d)) (reach A x d)

@@ -10,7 +10,7 @@ use Rattle.replication.specs.Laws.Modes as M
 use Rattle.replication.specs.Laws.Modes.{Attained, ModeFacts, ModeFactsOf, ColourFactsOf, ColourFacts}
 use Rattle.replication.specs.Laws.Images.{OfBoth}
 use Rattle.replication.specs.Runs.Run.{Run}
-use Rattle.replication.specs.Runs.Allowed.{Allowed}
+use Rattle.replication.proofs.Runs.Roomy.{Roomy as Allowed}
 use Rattle.replication.proofs.WellFormed.Runs.{colour-facts}
 use Rattle.replication.proofs.Runs.Lived.{at-place}
 use Rattle.replication.proofs.Runs.AllowedTurns.{memoryAt, Acts}
@@ -65,7 +65,7 @@ module _ {n q : ℕ} {l : Run} (A : Allowed n q l) where
 
   colours-after : {t s : ℕ} → Acts n q l t s → ColourFactsOf (memoryAt n q l (suc t) s)
   colours-after {t} {s} y =
-      at-place n q l (OfBoth ColourFactsOf) s (colour-facts n q s (A .sizes) (A .servers t s (of-event (y .here)))) (suc t) .memory
+      at-place n q l (OfBoth ColourFactsOf) s (colour-facts n q s (A .allowed .sizes) (A .allowed .servers t s (of-event (y .here)))) (suc t) .memory
 
   -- Yellow is not valid.
   pub no-yellow-after : {t s : ℕ} (y : Acts n q l t s) → InPrimary (y .after) → y .after .votes .yellow .status ≡ 0

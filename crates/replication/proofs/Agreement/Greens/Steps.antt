@@ -160,5 +160,5 @@ pub mark-set-at : (n q : ℕ) (l : Run) (i p : ℕ) → OfBoth MarkSetOf (worldA
 unfolding start
 mark-set-at n q l i p =
     let both = each-at-place n q l (λ s. ModeFactsOf s × MarkSetOf s)
-    (λ s e t bs b g h f. let m = moved (taken-by s e t bs b g h) .0 in (mode-facts-kept s m (f .0), mark-set-kept s m (f .0) (f .1))) i (tt, tt) p in
+    (λ s e t bs b g h f. let x = taken-by s e t bs b g h in let m = moved x .0 in subst (λ u. ModeFactsOf u × MarkSetOf u) (sym (x .raise)) (mode-facts-kept s m (f .0), mark-set-kept s m (f .0) (f .1))) i (tt, tt) p in
     record { memory = both .memory .1; store = both .store .1 }

@@ -8,14 +8,14 @@ use Rattle.base.specs.Lists.{Begins}
 use Rattle.base.specs.Tests.{pick}
 use Rattle.base.proofs.TestLaws.{not-both}
 use Rattle.format.specs.Types.{Action, Record}
-use Rattle.replication.specs.Machine.Types.{Configuration, Server}
+use Rattle.replication.specs.Machine.Types.{Configuration, Server, withWhite}
 use Rattle.replication.specs.Machine.WellFormed.{idsIn}
 use Rattle.replication.specs.Laws.Order.{Grows}
 use Rattle.replication.specs.Laws.Transitions as L
 use Rattle.replication.specs.Laws.Transitions.{Transition}
 use Rattle.replication.specs.Runs.Run.{Run}
 use Rattle.replication.specs.Runs.Happenings.{Takes}
-use Rattle.replication.specs.Runs.Allowed.{Allowed}
+use Rattle.replication.proofs.Runs.Roomy.{Roomy as Allowed}
 use Rattle.replication.proofs.Runs.AllowedTurns.{memoryAt, storeAt, Acts}
 use Rattle.replication.proofs.Runs.ControlPart.{store-grows-between}
 use Rattle.replication.proofs.Runs.Sending.{regular-acts}
@@ -67,7 +67,7 @@ module _ {n q : ℕ} {l : Run} (A : Allowed n q l) where
   -- What is stored is the memory.
   pub stored-next : {p i : ℕ} (x : Acts n q l p i) → x .stores ≡ true → storeAt n q l (suc p) i ≡ memoryAt n q l (suc p) i
   unfolding pick
-  stored-next {p} {i} x h = x .store-next ∙ ap (λ b. pick b (x .after) (storeAt n q l p i)) h ∙ sym (x .memory-next)
+  stored-next {p} {i} x h = x .store-next ∙ ap (λ b. pick b (withWhite (x .white) (x .after)) (storeAt n q l p i)) h ∙ sym (x .memory-next)
 
   pub takes-stored : {p i : ℕ} {c : Configuration} → Takes n q l p i c → storeAt n q l (suc p) i ≡ memoryAt n q l (suc p) i
   unfolding isRegular

@@ -8,14 +8,14 @@ use lib.ListN.{length, take}
 use Rattle.base.specs.Tests.{_and_, _=?_, pick}
 use Rattle.base.specs.Sets.{inSet}
 use Rattle.format.specs.Types.{Id, Mark}
-use Rattle.replication.specs.Machine.Types.{Configuration, Server}
+use Rattle.replication.specs.Machine.Types.{Configuration, Server, withWhite}
 use Rattle.replication.specs.Machine.WellFormed.{idsIn}
 use Rattle.replication.specs.Laws.Folds.{entered}
 use Rattle.replication.specs.Laws.Modes.{attempting}
 use Rattle.replication.specs.Runs.Run.{Run, placeAt}
 use Rattle.replication.proofs.Runs.DeliveryFacts.{within, withinRegular}
 use Rattle.replication.specs.Runs.Happenings.{Falls, Takes}
-use Rattle.replication.specs.Runs.Allowed.{Allowed}
+use Rattle.replication.proofs.Runs.Roomy.{Roomy as Allowed}
 use Rattle.replication.proofs.Runs.Shifts.{Shift, to-regular, to-transitional, to-nowhere, stays, shift}
 use Rattle.replication.proofs.Runs.AllowedTurns.{memoryAt, storeAt}
 use Rattle.replication.proofs.Agreement.Terms.{Within, InstallsAt, installed}
@@ -101,6 +101,25 @@ module _ {n q : ℕ} {l : Run} (A : Allowed n q l) where
     nothing-more : reach x d ≡ baseOf x → Known x t d u
     fell : (y : ℕ) → y < t → Falls n q l y d → Within n q l y d c → installed n q l x .index ≤ u .votes .last .index
         → Prefix (greens (storeAt n q l y d)) (greens u) → Known x t d u
+
+  -- A raise changes neither.
+  pub answers-raised : {p i : ℕ} {c : Configuration} (x : InstallsAt n q l p i c) {s : ℕ} {u : Server} (w : ℕ) → Answers x s u → Answers x s (withWhite w u)
+  answers-raised x w (by-yellow e) = by-yellow e
+  answers-raised x w (by-attempt e) = by-attempt e
+  answers-raised x w (by-mark h f) = by-mark h f
+
+  pub answers-lowered : {p i : ℕ} {c : Configuration} (x : InstallsAt n q l p i c) {s : ℕ} {u : Server} (w : ℕ) → Answers x s (withWhite w u) → Answers x s u
+  answers-lowered x w (by-yellow e) = by-yellow e
+  answers-lowered x w (by-attempt e) = by-attempt e
+  answers-lowered x w (by-mark h f) = by-mark h f
+
+  pub known-raised : {p i : ℕ} {c : Configuration} (x : InstallsAt n q l p i c) {t d : ℕ} {u : Server} (w : ℕ) → Known x t d u → Known x t d (withWhite w u)
+  known-raised x w (nothing-more e) = nothing-more e
+  known-raised x w (fell y h f g k o) = fell y h f g k o
+
+  pub known-lowered : {p i : ℕ} {c : Configuration} (x : InstallsAt n q l p i c) {t d : ℕ} {u : Server} (w : ℕ) → Known x t d (withWhite w u) → Known x t d u
+  known-lowered x w (nothing-more e) = nothing-more e
+  known-lowered x w (fell y h f g k o) = fell y h f g k o
 
   -- When they took c, its members had comparable green lists, each in order.
   pub record Agreeable (c : Configuration) : Type 0 where

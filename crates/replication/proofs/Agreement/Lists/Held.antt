@@ -16,11 +16,10 @@ use Rattle.replication.specs.Machine.Types.{Log, Server}
 use Rattle.replication.specs.Machine.Colours.{cut, promote, promoteFound, greenId, greenIds, addId}
 use Rattle.replication.specs.Machine.WellFormed.{idsIn}
 use Rattle.replication.specs.Machine.WellFormedRanges.{idCount}
-use Rattle.replication.proofs.WellFormed.Clauses.{heldCount, WellFormed}
+use Rattle.replication.proofs.WellFormed.Clauses.{heldCount, Invariant}
 use Rattle.replication.specs.Laws.Folds.{addIds}
 use Rattle.replication.proofs.WellFormed.Ids.{same-id-yes, has-counted, counted-has, has-member}
 use Rattle.replication.proofs.WellFormed.Held.{actionCount, held-parts, Found, absent, found, found?, Greened, unmoved, moved, greened?}
-use Rattle.replication.proofs.WellFormed.Facts.{held-index}
 use Rattle.replication.proofs.Agreement.Lists.Plus.{plus, member-has, add-there, add-new}
 
 -- The held ids are each creator's 1 to its cut, each once.
@@ -29,8 +28,8 @@ pub record HeldExactly (l : Log) : Type 0 where
   pub within : (d : Id) → 1 ≤ heldCount d l → (1 ≤ d .index) × (d .index ≤ cut l (d .creator))
   pub entered : (d : Id) → 1 ≤ d .index → d .index ≤ cut l (d .creator) → 1 ≤ heldCount d l
 
-pub held-exactly : (s : Server) → WellFormed s → HeldExactly (s .log)
-held-exactly s f = record { once = f .once; within = held-index s f; entered = f .held-to-cuts .entered }
+pub held-exactly : (s : Server) → Invariant s → HeldExactly (s .log)
+held-exactly s f = record { once = f .whole .once; within = λ d h. (f .whole .least d h, f .whole .held-to-cuts .within d h); entered = f .whole .held-to-cuts .entered }
 
 -- By these cuts the id d is held.
 unfoldable pub isHeld : List ℕ → Id → Bool

@@ -16,7 +16,7 @@ use Rattle.replication.specs.Machine.Colours.{cut, greenIds, addId}
 use Rattle.replication.specs.Machine.Install.{idsUpTo, installLog}
 use Rattle.replication.specs.Machine.WellFormed.{idsIn}
 use Rattle.replication.proofs.WellFormed.Clauses.{heldCount}
-use Rattle.replication.specs.Laws.Folds.{addIds, entered}
+use Rattle.replication.specs.Laws.Folds.{addIds}
 use Rattle.replication.proofs.Runs.LogActions.{each-in}
 use Rattle.replication.proofs.WellFormed.Ids.{counted-has, has-member, up-to-each}
 use Rattle.replication.proofs.WellFormed.Held.{actionCount}

@@ -20,7 +20,7 @@ use Rattle.format.specs.Types.{Action, Record, action, retransmission, state, c
 use Rattle.replication.specs.Machine.Types.{Configuration}
 use Rattle.replication.specs.Runs.Run.{Run, Place, placeAt}
 use Rattle.replication.specs.Runs.Happenings.{isMessage, Comes, Left}
-use Rattle.replication.specs.Runs.Allowed.{Allowed}
+use Rattle.replication.proofs.Runs.Roomy.{Roomy as Allowed}
 use Rattle.replication.proofs.Runs.DeliveryFacts.{within, withinRegular, actionIn, recordOf, deliversAt, deliveryPlaces, delivered, deliveredRecords, deliveredActions}
 use Rattle.replication.proofs.Runs.Agreement.{regular-agreement, left-agreement, regular-begins-com}
 use Rattle.replication.proofs.Runs.Deliveries.{Delivery}
@@ -43,17 +43,17 @@ gather-no-more f xs x e = gather-append f xs (x ∷ []) ∙ ap (λ o. gather f x
 module _ {n q : ℕ} {l : Run} (A : Allowed n q l) where
   -- The actions that the server i delivers before p while its place passes the test, in order.
   abbrev pub actedIn : (Place → Bool) → ℕ → ℕ → List Action
-  actedIn t i p = deliveredActions n q l (A .source) t i p
+  actedIn t i p = deliveredActions n q l (A .allowed .source) t i p
 
   module _ (t : Place → Bool) (i : ℕ) where
     -- A delivered action is added.
     pub acted-more : (p : ℕ) (a : Action) → Comes n q l p i (action a) → t (placeAt n q l i p) ≡ true → actedIn t i (suc p) ≡ actedIn t i p ++ (a ∷ [])
     unfolding deliveredActions deliveredRecords actionIn isMessage
     acted-more p a x h =
-        let d : Delivery A p i (A .source p) = coming A x refl in
-        ap (λ ms. gather actionIn (gather (recordOf n q l) ms)) (delivered-more A t i p (A .source p) d h)
-        ∙ ap (gather actionIn) (gather-more (recordOf n q l) (delivered n q l (A .source) t i p) (A .source p) (action a) (delivery-says A d))
-        ∙ gather-more actionIn (deliveredRecords n q l (A .source) t i p) (action a) a refl
+        let d : Delivery A p i (A .allowed .source p) = coming A x refl in
+        ap (λ ms. gather actionIn (gather (recordOf n q l) ms)) (delivered-more A t i p (A .allowed .source p) d h)
+        ∙ ap (gather actionIn) (gather-more (recordOf n q l) (delivered n q l (A .allowed .source) t i p) (A .allowed .source p) (action a) (delivery-says A d))
+        ∙ gather-more actionIn (deliveredRecords n q l (A .allowed .source) t i p) (action a) a refl
 
     -- A place adds an action that comes there, or nothing.
     pub data ActedNext (p : ℕ) : Type 0 where
@@ -63,11 +63,11 @@ module _ {n q : ℕ} {l : Run} (A : Allowed n q l) where
     other : (p : ℕ) (r : Record) → Comes n q l p i r → isMessage r ≡ true → t (placeAt n q l i p) ≡ true → actionIn r ≡ none → ActedNext p
     unfolding deliveredActions deliveredRecords
     other p r x m h e =
-        let d : Delivery A p i (A .source p) = coming A x m in
+        let d : Delivery A p i (A .allowed .source p) = coming A x m in
         adds-nothing
-        (ap (λ ms. gather actionIn (gather (recordOf n q l) ms)) (delivered-more A t i p (A .source p) d h)
-        ∙ ap (gather actionIn) (gather-more (recordOf n q l) (delivered n q l (A .source) t i p) (A .source p) r (delivery-says A d))
-        ∙ gather-no-more actionIn (deliveredRecords n q l (A .source) t i p) r e)
+        (ap (λ ms. gather actionIn (gather (recordOf n q l) ms)) (delivered-more A t i p (A .allowed .source p) d h)
+        ∙ ap (gather actionIn) (gather-more (recordOf n q l) (delivered n q l (A .allowed .source) t i p) (A .allowed .source p) r (delivery-says A d))
+        ∙ gather-no-more actionIn (deliveredRecords n q l (A .allowed .source) t i p) r e)
 
     pub acted-next : (p : ℕ) → ActedNext p
     unfolding deliveredActions deliveredRecords actionIn
@@ -114,11 +114,11 @@ module _ {n q : ℕ} {l : Run} (A : Allowed n q l) where
     acted-grows p r h =
         begins-gather actionIn _ _
         (begins-gather (recordOf n q l) _ _
-        (chain (λ x y. Begins x y) begins-refl begins-trans (λ x. delivered n q l (A .source) t i x) p r h (λ x a b. next x)))
+        (chain (λ x y. Begins x y) begins-refl begins-trans (λ x. delivered n q l (A .allowed .source) t i x) p r h (λ x a b. next x)))
       where
-        next : (x : ℕ) → Begins (delivered n q l (A .source) t i x) (delivered n q l (A .source) t i (suc x))
+        next : (x : ℕ) → Begins (delivered n q l (A .allowed .source) t i x) (delivered n q l (A .allowed .source) t i (suc x))
         next x =
-            begins-map (A .source) (deliveryPlaces n q l t i x) (deliveryPlaces n q l t i (suc x))
+            begins-map (A .allowed .source) (deliveryPlaces n q l t i x) (deliveryPlaces n q l t i (suc x))
             (begins-append (deliveryPlaces n q l t i x) (pick (deliversAt n q l t i x) (x ∷ []) []))
 
     -- What no place between p and r adds to stays.
@@ -147,8 +147,8 @@ module _ {n q : ℕ} {l : Run} (A : Allowed n q l) where
     unfolding Comparable deliveredActions deliveredRecords
     acted-agreement i j p r = go (regular-agreement A c i j p r)
       where
-        go : Begins (delivered n q l (A .source) (withinRegular c) i p) (delivered n q l (A .source) (withinRegular c) j r)
-            ⊎ Begins (delivered n q l (A .source) (withinRegular c) j r) (delivered n q l (A .source) (withinRegular c) i p)
+        go : Begins (delivered n q l (A .allowed .source) (withinRegular c) i p) (delivered n q l (A .allowed .source) (withinRegular c) j r)
+            ⊎ Begins (delivered n q l (A .allowed .source) (withinRegular c) j r) (delivered n q l (A .allowed .source) (withinRegular c) i p)
             → Begins (actedIn (withinRegular c) i p) (actedIn (withinRegular c) j r) ⊎ Begins (actedIn (withinRegular c) j r) (actedIn (withinRegular c) i p)
         go (inl h) = inl (begins-gather actionIn _ _ (begins-gather (recordOf n q l) _ _ h))
         go (inr h) = inr (begins-gather actionIn _ _ (begins-gather (recordOf n q l) _ _ h))

@@ -15,7 +15,7 @@ use Rattle.replication.specs.Machine.Step.{collected, decided, attemptin
 use Rattle.replication.specs.Laws.Transitions as L
 use Rattle.replication.specs.Laws.Transitions.{Ends, Leads}
 use Rattle.replication.specs.Runs.Run.{Run}
-use Rattle.replication.specs.Runs.Allowed.{Allowed}
+use Rattle.replication.proofs.Runs.Roomy.{Roomy as Allowed}
 use Rattle.replication.proofs.Runs.AllowedTurns.{memoryAt}
 use Rattle.replication.proofs.Runs.Coupling.{coupled}
 use Rattle.replication.proofs.Runs.Memberships as M
@@ -132,7 +132,7 @@ module _ {n q : ℕ} {l : Run} (A : Allowed n q l) where
   base-installed {p} {i} {c} x = ap (λ s. s .log .green) (x .acts .memory-next) ∙ go (early-step (memoryAt n q l p i) formed (installs-before x) (x .acts .moves)) (x .acts .by .event) refl (installs-on A x)
     where
       formed : wellFormed (memoryAt n q l p i) ≡ true
-      formed = well-formed-at n q i (A .sizes) (stay-member A i p c (x .here) .0) l p .memory
+      formed = well-formed-at n q i (A .allowed .sizes) (stay-member A i p c (x .here) .0) l p .memory
 
       primary : inPrimary (x .acts .after .membership .mode) ≡ true
       primary = subst (λ s. inPrimary (s .membership .mode) ≡ true) (x .acts .memory-next) (installs-primary x)

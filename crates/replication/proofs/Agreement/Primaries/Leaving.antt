@@ -16,7 +16,7 @@ use Rattle.replication.specs.Machine.WellFormed.{idsIn}
 use Rattle.replication.specs.Laws.Folds.{cutsAfter, entered}
 use Rattle.replication.specs.Runs.Run.{Run, placeAt}
 use Rattle.replication.specs.Runs.Happenings.{isMessage, Comes, Falls, Takes, Left}
-use Rattle.replication.specs.Runs.Allowed.{Allowed}
+use Rattle.replication.proofs.Runs.Roomy.{Roomy as Allowed}
 use Rattle.replication.proofs.Runs.DeliveryFacts.{within, withinRegular}
 use Rattle.replication.proofs.Step.Folds.{entered-append}
 use Rattle.replication.proofs.Runs.AllowedTurns.{memoryAt}
@@ -130,7 +130,7 @@ module _ {n q : ℕ} {l : Run} (A : Allowed n q l) where
       none-at z b y k (yes e) =
           let v = had n q l z d c k in
           let w = had n q l p d c here in
-          v .steady p (omega (arith, w .earlier, A .once (v .took-at) (w .took-at) d c (v .took) (w .took))) e f
+          v .steady p (omega (arith, w .earlier, A .allowed .once (v .took-at) (w .took-at) d c (v .took) (w .took))) e f
       none-at z b y k (no e) = let s : p ≡ z = omega arith in unchanging refl y (subst (λ w. Falls n q l w d) s f)
 
   -- Who falls in com(c) had installed there, or never delivers an action there.

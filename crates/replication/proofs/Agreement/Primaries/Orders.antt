@@ -14,10 +14,10 @@ use Rattle.replication.specs.Machine.Types.{Trans-prim, Configuration}
 use Rattle.replication.specs.Machine.Colours.{cut}
 use Rattle.replication.specs.Machine.Install.{installLog}
 use Rattle.replication.specs.Machine.WellFormed.{idsIn, queue}
-use Rattle.replication.proofs.WellFormed.Clauses.{WellFormed}
+use Rattle.replication.proofs.WellFormed.Clauses.{Invariant}
 use Rattle.replication.specs.Laws.Folds.{entered}
 use Rattle.replication.specs.Runs.Run.{Run, Place, placeAt}
-use Rattle.replication.specs.Runs.Allowed.{Allowed}
+use Rattle.replication.proofs.Runs.Roomy.{Roomy as Allowed}
 use Rattle.replication.proofs.Runs.DeliveryFacts.{within, withinRegular}
 use Rattle.replication.proofs.Step.ModeColours.{install-no-red}
 use Rattle.replication.proofs.WellFormed.Ids.{has-counted}
@@ -54,11 +54,11 @@ module _ {n q : ℕ} {l : Run} (A : Allowed n q l) where
     server : i < n
     server = stay-member A i u c (x .here) .0
 
-    now : WellFormed (memoryAt n q l u i)
-    now = invariant-at n q i (A .sizes) server l u .memory .well-formed
+    now : Invariant (memoryAt n q l u i)
+    now = invariant-at n q i (A .allowed .sizes) server l u .memory
 
     cuts-length : length (cutsOf A x) ≡ n
-    cuts-length = now .log .cuts-length ∙ numbers n q i l u .memory .servers
+    cuts-length = now .well-formed .log .cuts-length ∙ numbers n q i l u .memory .servers
 
     -- Every action that a member delivers there has its creator's cut.
     creators : (t : Place → Bool) → ((y : Place) → t y ≡ true → within c y ≡ true) → (d p : ℕ) → Creators (cutsOf A x) (actedIn A t d p)
@@ -74,7 +74,7 @@ module _ {n q : ℕ} {l : Run} (A : Allowed n q l) where
         let after = installLog (s .votes .yellow .ids) (s .log) in
         let e = base-installed A x in
         ap (λ g. createdBy k (idsIn g)) e
-        ∙ green-created after (install-exactly (s .votes .yellow .ids) (s .log) (held-exactly s now)) (install-no-red s (well-formed-at n q i (A .sizes) server l u .memory))
+        ∙ green-created after (install-exactly (s .votes .yellow .ids) (s .log) (held-exactly s now)) (install-no-red s (well-formed-at n q i (A .allowed .sizes) server l u .memory))
         (subst (λ g. Fifo (idsIn g)) e f) k
         ∙ ap (λ z. getD z k 0) (install-cuts (s .votes .yellow .ids) (s .log))
 
@@ -110,7 +110,7 @@ module _ {n q : ℕ} {l : Run} (A : Allowed n q l) where
       unfolding queue
       yellow-once d =
           let s = memoryAt n q l p i in
-          let w = invariant-at n q i (A .sizes) server l p .memory .well-formed .once d in
+          let w = invariant-at n q i (A .allowed .sizes) server l p .memory .whole .once d in
           subst (λ z. count (sameId d) z ≤ 1) (ids-append (s .log .green) (s .log .red) ∙ ap (λ z. idsIn (s .log .green) ++ z) (in-trans .red)) w
 
       -- No yellow id is green.

@@ -2,24 +2,25 @@
 use Prim.Native.Nat.{ℕ, suc, _<_}
 use mathlib.Core.Path.{_≡_, refl, sym, ap, subst, subst₂, _∙_}
 use mathlib.Core.Bool.{Bool, true}
-use mathlib.Core.List.{[], _∷_, _++_, append-nil}
+use mathlib.Core.List.{List, [], _∷_, _++_, append-nil}
 use mathlib.Core.Option.{some}
 use native.Mathlib.Omega.{arith}
 use Rattle.base.proofs.AtLaws.{some-same}
 use Rattle.base.specs.Lists.{Begins}
 use Rattle.base.proofs.TestLaws.{not-both}
-use Rattle.format.specs.Types.{Action, action, cpc}
-use Rattle.replication.specs.Machine.Types.{Trans-prim, Un, Configuration, Server}
+use Rattle.format.specs.Types.{Record, Action, action, cpc}
+use Rattle.replication.specs.Machine.Types.{Trans-prim, Un, Configuration, Server, withWhite}
 use Rattle.replication.specs.Machine.Rules.{ruleFor, onAction, onCpc}
 use Rattle.replication.specs.Machine.Step.{installsBy}
-use Rattle.replication.proofs.WellFormed.Clauses.{YellowWithinCuts, YellowEntered}
+use Rattle.replication.proofs.WellFormed.Clauses.{YellowRed, YellowEntered}
 use Rattle.replication.specs.Laws.Primary as S
 use Rattle.replication.specs.Laws.Primary.{RegularStep, TransitionalStep}
 use Rattle.replication.specs.Runs.Run.{Run, Place, placeAt, heardAt}
 use Rattle.replication.specs.Runs.Happenings.{isMessage, Comes, Falls, by-crash, by-recovery, Takes}
-use Rattle.replication.specs.Runs.Allowed.{Allowed}
+use Rattle.replication.proofs.Runs.Roomy.{Roomy as Allowed}
 use Rattle.replication.proofs.Runs.DeliveryFacts.{within, withinRegular}
 use Rattle.replication.proofs.Step.Primary.{regular-step, transitional-step}
+use Rattle.replication.proofs.WellFormed.Steps.{yellow-rooms-whole}
 use Rattle.replication.proofs.Runs.AllowedTurns.{memoryAt, Acts, Refuses, AllowedTurn, rests, crashes, saves, refuses, recovers, acts, allowed-turn}
 use Rattle.replication.proofs.Runs.DeliveryLists.{within-holds, within-yes, within-regular-yes}
 use Rattle.replication.proofs.Runs.Entries.{had}
@@ -39,6 +40,34 @@ use Rattle.replication.proofs.Agreement.Primaries.Parts.{InRegPrim, InT
 use Rattle.replication.proofs.Agreement.Primaries.Steps.{beforeInstall, isAction, other-record, EarlyStep, goes-on, reddens, settles, installs, installs-late, leaves, early-step}
 use Rattle.replication.proofs.Agreement.Primaries.Terms.{begins-nothing, base, cutsOf, regularly, inCom, past-exchanging, creator-cut, colours-at, regular-place, not-regular, PrimaryPhase, early, settled, regular, transitional}
 
+-- A raise changes none of it.
+reg-raised : {b : List Action} {k : List ℕ} {x y : List Action} {t : Server} (w : ℕ) → InRegPrim b k x y t → InRegPrim b k x y (withWhite w t)
+reg-raised w h = record { mode = h .mode; green = h .green; cuts-now = h .cuts-now; all-regular = h .all-regular; yellow = h .yellow; red = h .red }
+
+trans-raised : {b : List Action} {k : List ℕ} {x y : List Action} {t : Server} (w : ℕ) → InTransPrim b k x y t → InTransPrim b k x y (withWhite w t)
+trans-raised w h = record { mode = h .mode; green = h .green; cuts-now = h .cuts-now; red = h .red; ids = h .ids }
+
+early-raised : {s : Server} {r : Record} {t : Server} (w : ℕ) → EarlyStep s r t → EarlyStep s r (withWhite w t)
+early-raised w (goes-on e f) = goes-on e f
+early-raised w (reddens a e f) = reddens a e f
+early-raised w (settles e) = settles e
+early-raised w (installs k i e f g h o) = installs k i e f g h (reg-raised w o)
+early-raised w (installs-late a e f g h) = installs-late a e f g (λ z. trans-raised w (h z))
+early-raised w (leaves e) = leaves e
+
+regular-raised : {s : Server} {r : Record} {t : Server} (w : ℕ) → RegularStep s r t → RegularStep s r (withWhite w t)
+regular-raised w (S.RegularStep.delivers a e f g h) = S.RegularStep.delivers a e f g h
+regular-raised w (S.RegularStep.sends p e f g h) = S.RegularStep.sends p e f g h
+regular-raised w (S.RegularStep.leaves x e f g h) = S.RegularStep.leaves x e f g h
+regular-raised w (S.RegularStep.recovers e) = S.RegularStep.recovers e
+
+transitional-raised : {s : Server} {r : Record} {t : Server} (w : ℕ) → TransitionalStep s r t → TransitionalStep s r (withWhite w t)
+transitional-raised w (S.TransitionalStep.delivers a e f y) =
+    S.TransitionalStep.delivers a e f (record { ids = y .ids; status = y .status; green = y .green; red = y .red; cuts = y .cuts })
+transitional-raised w (S.TransitionalStep.numbers p e f g h) = S.TransitionalStep.numbers p e f g h
+transitional-raised w (S.TransitionalStep.joins c e f g h) = S.TransitionalStep.joins c e f g h
+transitional-raised w (S.TransitionalStep.recovers e) = S.TransitionalStep.recovers e
+
 module _ {n q : ℕ} {l : Run} (A : Allowed n q l) (i : ℕ) (c : Configuration) where
   -- No action has come to a server when it takes c.
   taking : (t : ℕ) → Takes n q l t i c → PrimaryPhase A (suc t) i c
@@ -48,7 +77,7 @@ module _ {n q : ℕ} {l : Run} (A : Allowed n q l) (i : ℕ) (c : Configuration)
       (acted-none A (within c) i (suc t)
       (λ x a b y k.
       let z = had n q l x i c (within-holds c (placeAt n q l i x) k) in
-      omega (arith, z .earlier, A .once (z .took-at) t i c (z .took) h)))
+      omega (arith, z .earlier, A .allowed .once (z .took-at) t i c (z .took) h)))
 
   -- Nothing of it changes.
   unchanged : (p : ℕ) → memoryAt n q l (suc p) i ≡ memoryAt n q l p i → ((a : Action) → Comes n q l p i (action a) → ⊥) → PrimaryPhase A p i c
@@ -126,8 +155,8 @@ module _ {n q : ℕ} {l : Run} (A : Allowed n q l) (i : ℕ) (c : Configuration)
     server : i < n
     server = stay-member A i p c here .0
 
-    entered-yellow : now .membership .mode ≡ Trans-prim → YellowWithinCuts now
-    entered-yellow e = subst (λ o. YellowEntered o now) e (invariant-at n q i (A .sizes) server l p .memory .yellow)
+    entered-yellow : now .membership .mode ≡ Trans-prim → YellowRed now
+    entered-yellow e = subst (λ o. YellowEntered o now) e (invariant-at n q i (A .allowed .sizes) server l p .memory .yellow)
 
     module _ (r : ℕ) (b : r < p) (y : InstallsAt n q l r i c) where
       from-regular : InRegPrim (base A y) (cutsOf A y) (regularly A c i p) (inCom A c i p) now → RegularStep now (x .by .event) after → PrimaryPhase A (suc p) i c
@@ -155,7 +184,7 @@ module _ {n q : ℕ} {l : Run} (A : Allowed n q l) (i : ℕ) (c : Configuration)
           let z = an-action a e in
           let t = standing-in now Trans-prim (h .mode) (standing n q l i p .memory) in
           transitional r (omega arith) y
-          (yellowed-kept (base A y) (cutsOf A y) _ _ _ _ (a ∷ []) now after h (ap (λ o. o .mode) m) v (entered-yellow (h .mode))
+          (yellowed-kept (base A y) (cutsOf A y) _ _ _ _ (a ∷ []) now after h (ap (λ o. o .mode) m) v (entered-yellow (h .mode) .within)
           (creator-cut A p i a z c here, tt) (still-regular (t .set) (t .after)) (acted-more A (within c) i p a z in-com))
       from-transitional h (S.TransitionalStep.numbers d e m v g) =
           let same = still (λ a z. other-record _ a (ap isAction e) z) in
@@ -168,14 +197,14 @@ module _ {n q : ℕ} {l : Run} (A : Allowed n q l) (i : ℕ) (c : Configuration)
     taken (early e k) =
         from-early k
         (subst (λ t. EarlyStep now (x .by .event) t) (sym (x .memory-next))
-        (early-step now (well-formed-at n q i (A .sizes) server l p .memory) e (x .moves)))
+        (early-raised (x .white) (early-step now (well-formed-at n q i (A .allowed .sizes) server l p .memory) e (x .moves))))
     taken (settled e) = settled (settled-step (acts-membership A p i x) kept e .0)
     taken (regular r b y h) =
         from-regular r b y h
-        (subst (λ t. RegularStep now (x .by .event) t) (sym (x .memory-next)) (regular-step now (h .mode) (colours-at A p i server .memory) (x .moves)))
+        (subst (λ t. RegularStep now (x .by .event) t) (sym (x .memory-next)) (regular-raised (x .white) (regular-step now (h .mode) (colours-at A p i server .memory) (x .moves))))
     taken (transitional r b y h) =
         from-transitional r b y h
-        (subst (λ t. TransitionalStep now (x .by .event) t) (sym (x .memory-next)) (transitional-step now (h .mode) (x .moves)))
+        (subst (λ t. TransitionalStep now (x .by .event) t) (sym (x .memory-next)) (transitional-raised (x .white) (transitional-step now (h .mode) (x .moves) (yellow-rooms-whole now (x .bytes) (withWhite (x .white) (x .after)) (x .written) (x .stores) (x .greened) (invariant-at n q i (A .allowed .sizes) server l p .memory) (x .by) (x .room) (h .mode)))))
 
   -- ---- the stay
 

@@ -3,11 +3,12 @@ use Prim.Native.Nat.{ℕ, _<_}
 use mathlib.Core.Path.{_≡_, refl, sym, ap, subst, _∙_}
 use mathlib.Core.Bool.{Bool, true, false}
 use mathlib.Core.List.{List, [], _∷_, _++_, append-nil}
+use native.Mathlib.Omega.{arith}
 use lib.ListN.{length}
 use Rattle.base.proofs.TestLaws.{not-both}
 use Rattle.format.specs.Types.{Action, Record, action, retransmission, state, cpc, regular, transitional, request, recovery}
 use Rattle.replication.specs.Machine.Types.{Mode, Non-prim, Reg-prim, Trans-prim, Exchange-states, Exchange-actions, Construct, No, Un, Server, inMode, noYellow}
-use Rattle.replication.specs.Machine.Colours.{yellow}
+use Rattle.replication.specs.Machine.Colours.{enter, yellow}
 use Rattle.replication.specs.Machine.Install.{installLog, install, installVotes}
 use Rattle.replication.specs.Machine.Requests.{numbered, sendWaiting, sendsNow}
 use Rattle.replication.specs.Machine.Step.{withCpc, allCpcsIn, decided, attempting, withState, resending, oneMore, exchanged, leave}
@@ -16,8 +17,9 @@ use Rattle.replication.specs.Laws.Folds.{entered, cutsAfter, Yellowed}
 use Rattle.replication.specs.Laws.Transitions as L
 use Rattle.replication.specs.Laws.Transitions.{Ends, Leads, Transition}
 use Rattle.replication.proofs.Step.Apart.{sends-in}
+use Rattle.replication.proofs.Step.Logs.{yellow-as}
 use Rattle.replication.proofs.Step.Folds.{yellow-one}
-use Rattle.replication.proofs.Step.ModeColours.{install-no-red}
+use Rattle.replication.proofs.Step.ModeColours.{two-places, install-no-red}
 use Rattle.replication.proofs.Agreement.Exchange.Stages.{remains}
 use Rattle.replication.proofs.Agreement.Lists.Install.{install-cuts}
 use Rattle.replication.proofs.Agreement.Primaries.Parts.{InRegPrim, InTransPrim, yellowed-kept}
@@ -65,8 +67,8 @@ unfolding sendWaiting numbered install withCpc
 regular-green s k = refl
 
 late-green : (s : Server) (a : Action) → (yellow a (install s)) .log .green ≡ (installLog (s .votes .yellow .ids) (s .log)) .green
-unfolding install
-late-green s a = yellow-one a (install s) .green
+unfolding install enter
+late-green s a = yellow-as (λ t. t .log .green ≡ (install s) .log .green) a (install s) (λ e. refl) (λ e. refl)
 
 module _ (s : Server) (formed : wellFormed s ≡ true) where
   installed-regular : (k : ℕ) → let t = sendWaiting (inMode Reg-prim (install (withCpc k s))) in InRegPrim (t .log .green) (s .log .cuts) [] [] t
@@ -93,14 +95,18 @@ module _ (s : Server) (formed : wellFormed s ≡ true) where
         ids = ap (λ z. idsIn ((install s) .log .green) ++ z) refl ∙ ap (λ z. idsIn z ++ []) (sym (append-nil ((install s) .log .green))) ∙ append-nil _;
       }
 
+  late-one : (a : Action) → Yellowed (a ∷ []) (install s) (yellow a (install s))
+  unfolding install installVotes noYellow
+  late-one a = yellow-one a (install s) (λ h. omega (arith, two-places s formed))
+
   late-yellowed : (a : Action) → Yellowed (a ∷ []) (inMode Trans-prim (install s)) (inMode Trans-prim (yellow a (install s)))
-  late-yellowed a = let y = yellow-one a (install s) in record { ids = y .ids; status = y .status; green = y .green; red = y .red; cuts = y .cuts }
+  late-yellowed a = let y = late-one a in record { ids = y .ids; status = y .status; green = y .green; red = y .red; cuts = y .cuts }
 
   yellowed-late : (a : Action) → a .id .creator < length (s .log .cuts)
       → InTransPrim ((yellow a (install s)) .log .green) (s .log .cuts) [] (a ∷ []) (inMode Trans-prim (yellow a (install s)))
   unfolding install installVotes noYellow
   yellowed-late a h =
-      subst (λ g. InTransPrim g (s .log .cuts) [] (a ∷ []) (inMode Trans-prim (yellow a (install s)))) (sym (yellow-one a (install s) .green))
+      subst (λ g. InTransPrim g (s .log .cuts) [] (a ∷ []) (inMode Trans-prim (yellow a (install s)))) (sym (late-green s a))
       (yellowed-kept ((install s) .log .green) (s .log .cuts) [] [] [] (a ∷ []) (a ∷ []) (inMode Trans-prim (install s)) (inMode Trans-prim (yellow a (install s)))
       installed-late refl (late-yellowed a) tt (rw (install-cuts (s .votes .yellow .ids) (s .log)) h, tt) refl refl)
 

@@ -16,7 +16,7 @@ use Rattle.replication.specs.Laws.Images.{OfBoth}
 use Rattle.replication.specs.Laws.Modes.{ColourFactsOf}
 use Rattle.replication.specs.Runs.Run.{Run, worldAt, placeAt}
 use Rattle.replication.specs.Runs.Happenings.{isMessage, Comes}
-use Rattle.replication.specs.Runs.Allowed.{Allowed}
+use Rattle.replication.proofs.Runs.Roomy.{Roomy as Allowed}
 use Rattle.replication.proofs.Runs.DeliveryFacts.{within, withinRegular}
 use Rattle.replication.proofs.WellFormed.Runs.{colour-facts}
 use Rattle.replication.proofs.Runs.AllowedTurns.{memoryAt}
@@ -58,12 +58,12 @@ module _ {n q : ℕ} {l : Run} (A : Allowed n q l) where
   -- ---- a delivered action
 
   module _ (p i : ℕ) (a : Action) (come : Comes n q l p i (action a)) (c : Configuration) (here : InCom n q l p i c) where
-    message : ActionMessage A (A .source p) (a .id .creator) c
+    message : ActionMessage A (A .allowed .source p) (a .id .creator) c
     unfolding isMessage
     message = action-message A (coming A come refl) refl here
 
     pub creator-server : a .id .creator < n
-    creator-server = stay-member A (a .id .creator) (suc (A .source p .sending)) c (message .after) .0
+    creator-server = stay-member A (a .id .creator) (suc (A .allowed .source p .sending)) c (message .after) .0
 
     pub past-exchanging : membershipAt n q l p i .mode ≡ Exchange-states → ⊥
     unfolding isMessage stage
@@ -74,8 +74,8 @@ module _ {n q : ℕ} {l : Run} (A : Allowed n q l) where
           ap stage e,
         )
       where
-        go : SendsActions (membershipAt n q l (suc (A .source p .sending)) (a .id .creator) .mode)
-            → 2 ≤ stage (membershipAt n q l (suc (A .source p .sending)) (a .id .creator) .mode)
+        go : SendsActions (membershipAt n q l (suc (A .allowed .source p .sending)) (a .id .creator) .mode)
+            → 2 ≤ stage (membershipAt n q l (suc (A .allowed .source p .sending)) (a .id .creator) .mode)
         go (inl f) = omega (arith, ap stage f)
         go (inr f) = omega (arith, ap stage f)
 
@@ -85,12 +85,12 @@ module _ {n q : ℕ} {l : Run} (A : Allowed n q l) where
       omega (
         arith,
         creator-server p i a come c here,
-        invariant-at n q i (A .sizes) (stay-member A i p c here .0) l p .memory .well-formed .log .cuts-length,
+        invariant-at n q i (A .allowed .sizes) (stay-member A i p c here .0) l p .memory .well-formed .log .cuts-length,
         numbers n q i l p .memory .servers,
       )
 
   pub colours-at : (p i : ℕ) → i < n → OfBoth ColourFactsOf (worldAt n q l p .images i)
-  colours-at p i h = at-place n q l (OfBoth ColourFactsOf) i (colour-facts n q i (A .sizes) h) p
+  colours-at p i h = at-place n q l (OfBoth ColourFactsOf) i (colour-facts n q i (A .allowed .sizes) h) p
 
   -- ---- regular or transitional
 

@@ -1,7 +1,7 @@
 -- Which records of one kind come to a server in a regular configuration, and how many.
 use Prim.Native.Nat.{ℕ, zero, suc, _≤_, _<_}
-use mathlib.Core.Path.{_≡_, refl, sym, ap, subst, _∙_}
-use mathlib.Core.Bool.{Bool, true, false}
+use mathlib.Core.Path.{_≡_, refl, ap, subst, _∙_}
+use mathlib.Core.Bool.{Bool, true}
 use mathlib.Core.Option.{Option, none, some}
 use native.Mathlib.Omega.{arith}
 use native.Mathlib.Decide.{decLt}
@@ -9,10 +9,10 @@ use lib.ListN.{length}
 use Rattle.base.specs.Tests.{pick}
 use Rattle.base.specs.Lists.{at}
 use Rattle.base.proofs.TestLaws.{not-both, eq-holds, eq-yes, and-holds, both-yes, Known, holds, fails, known}
-use Rattle.base.proofs.Passing.{passing, passing-more, passing-same}
+use Rattle.base.proofs.Passing.{passing}
 use Rattle.format.specs.Types.{Action, State, Record, action, retransmission, state, cpc, regular, transitional, request, recovery, kindNumber, kindOf, Kind, Reading, says, refused}
 use Rattle.replication.specs.Machine.Types.{Configuration}
-use Rattle.replication.specs.Runs.Run.{Entry, event, crash, store, Run, placeAt, heardAt}
+use Rattle.replication.specs.Runs.Run.{Entry, event, crash, store, Run, placeAt}
 use Rattle.replication.specs.Runs.Happenings.{Comes}
 use Rattle.replication.specs.Runs.Settling.{saysKind, howMany, bringsBy, brings, arrived}
 use Rattle.replication.proofs.Runs.DeliveryLists.{within-regular-holds, within-regular-yes}

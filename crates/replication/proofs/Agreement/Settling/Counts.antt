@@ -1,5 +1,5 @@
 -- States, retransmissions and CPCs that have come to an undisturbed member, by count: all are in exactly when as many have come as there are.
-use Prim.Native.Nat.{ℕ, suc, _≤_, _<_, _^_}
+use Prim.Native.Nat.{ℕ, _≤_, _<_, _^_}
 use mathlib.Core.Path.{_≡_, refl, sym, ap, subst, _∙_}
 use mathlib.Core.Bool.{Bool, true, false}
 use mathlib.Core.Option.{Option, none, some}
@@ -10,17 +10,16 @@ use Rattle.base.specs.Lists.{at, isThere}
 use Rattle.base.specs.Sets.{inSet, inside, size}
 use Rattle.base.proofs.TestLaws.{not-both, Known, holds, fails, known}
 use Rattle.base.proofs.SetLaws.{inside-member, members-inside}
-use Rattle.base.proofs.Passing.{passing}
 use Rattle.base.proofs.Counting.{passing-alike, most-members, all-members, fewer-members}
 use Rattle.format.specs.Types.{State, Record, action, retransmission, state, cpc, regular, transitional, request, recovery, kindNumber, kindOf, ofState, ofRetransmission, ofCpc, Reading, says, refused}
-use Rattle.replication.specs.Machine.Types.{Mode, Non-prim, Exchange-states, Configuration}
+use Rattle.replication.specs.Machine.Types.{Non-prim, Exchange-states, Configuration}
 use Rattle.replication.specs.Machine.Step.{theSet}
 use Rattle.replication.specs.Runs.Run.{Entry, event, crash, store, Run, placeAt, heardAt}
 use Rattle.replication.specs.Runs.Happenings.{isMessage, Comes}
-use Rattle.replication.specs.Runs.Allowed.{Allowed}
+use Rattle.replication.proofs.Runs.Roomy.{Roomy as Allowed}
 use Rattle.replication.specs.Runs.Settling.{brings, arrived, ReachesAll, Undisturbed}
 use Rattle.replication.proofs.Runs.Order.{inRegularOf, still-regular}
-use Rattle.replication.proofs.Runs.StateOrigins.{Came, states-came}
+use Rattle.replication.proofs.Runs.StateOrigins.{states-came}
 use Rattle.replication.proofs.Runs.CpcOrigins.{cpcs-came}
 use Rattle.replication.proofs.Runs.Memberships.{everyStateIn, everyCpcIn}
 use Rattle.replication.proofs.Runs.Stays.{membershipAt, stay-configuration}
@@ -28,8 +27,8 @@ use Rattle.replication.proofs.Agreement.Votes.Collected.{taken-below}
 use Rattle.replication.proofs.Agreement.Exchange.Stages.{InCom}
 use Rattle.replication.proofs.Agreement.Exchange.Answers.{coming}
 use Rattle.replication.proofs.Agreement.Exchange.Collected.{complete-in, in-complete}
-use Rattle.replication.proofs.Agreement.Exchange.States.{StateMessage, state-message, state-comes-once, states-recorded}
-use Rattle.replication.proofs.Agreement.Exchange.Cpcs.{CpcMessage, cpc-message, cpc-comes-once}
+use Rattle.replication.proofs.Agreement.Exchange.States.{state-message, state-comes-once, states-recorded}
+use Rattle.replication.proofs.Agreement.Exchange.Cpcs.{cpc-message, cpc-comes-once}
 use Rattle.replication.proofs.Agreement.Exchange.CpcsTaken.{cpcs-recorded}
 use Rattle.replication.proofs.Agreement.Exchange.Retransmissions.{resentAt, resent-yes, resent-holds}
 use Rattle.replication.proofs.Agreement.Exchange.Tally.{resentCount}
@@ -103,7 +102,7 @@ module _ {n q : ℕ} {l : Run} (A : Allowed n q l) (c : Configuration) (r : Reac
   state-member x h e =
       let y = state-at x e in
       let m = state-message A (coming A (y .comes) refl) refl (y .inside) in
-      (subst (λ z. z < n) (sym (y .name)) (A .servers (A .source x .sending) _ (m .sends .mine)), ap (λ z. inSet z (c .set)) (y .name) ∙ m .member)
+      (subst (λ z. z < n) (sym (y .name)) (A .allowed .servers (A .allowed .source x .sending) _ (m .sends .mine)), ap (λ z. inSet z (c .set)) (y .name) ∙ m .member)
 
   state-once : (x y : ℕ) → x < p → y < p → brings n q l c ofState i x ≡ true → brings n q l c ofState i y ≡ true
       → nameAt n q l i x ≡ nameAt n q l i y → x ≡ y
@@ -174,7 +173,7 @@ module _ {n q : ℕ} {l : Run} (A : Allowed n q l) (c : Configuration) (r : Reac
   cpc-member x h e =
       let y = cpc-at x e in
       let m = cpc-message A (coming A (y .comes) refl) refl (y .inside) .0 in
-      (subst (λ z. z < n) (sym (y .name)) (A .servers (A .source x .sending) _ (m .sends .mine)), ap (λ z. inSet z (c .set)) (y .name) ∙ m .member)
+      (subst (λ z. z < n) (sym (y .name)) (A .allowed .servers (A .allowed .source x .sending) _ (m .sends .mine)), ap (λ z. inSet z (c .set)) (y .name) ∙ m .member)
 
   cpc-once : (x y : ℕ) → x < p → y < p → brings n q l c ofCpc i x ≡ true → brings n q l c ofCpc i y ≡ true
       → nameAt n q l i x ≡ nameAt n q l i y → x ≡ y

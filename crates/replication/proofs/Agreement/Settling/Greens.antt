@@ -1,8 +1,8 @@
 -- The delivery with which all that is asked for has arrived is an Install; so the members' green lists are then equal, and hold what any of them had coloured.
 use Prim.Native.Nat.{ℕ, suc, _+_, _≤_, _<_}
 use mathlib.Core.Path.{_≡_, refl, sym, ap, subst, _∙_}
-use mathlib.Core.Bool.{true, false}
-use mathlib.Core.List.{List, [], _∷_, _++_, map, List·Memᴰ, List·Memᴰ·head, List·Memᴰ·tail, Memᴰ·map, Memᴰ·of-map, Memᴰ·cast}
+use mathlib.Core.Bool.{true}
+use mathlib.Core.List.{List, [], _∷_, _++_, List·Memᴰ, List·Memᴰ·head, List·Memᴰ·tail, Memᴰ·map, Memᴰ·of-map, Memᴰ·cast}
 use mathlib.Core.Logic.{inl}
 use mathlib.Core.Option.{some}
 use native.Mathlib.Omega.{arith}
@@ -11,8 +11,7 @@ use lib.ListN.{getD}
 use Rattle.base.specs.Lists.{Each}
 use Rattle.base.specs.Sets.{inSet}
 use Rattle.base.proofs.ListLaws.{each-append}
-use Rattle.base.proofs.TestLaws.{not-both}
-use Rattle.format.specs.Types.{Id, Action, Record, ofCpc}
+use Rattle.format.specs.Types.{Action, Record, ofCpc}
 use Rattle.replication.specs.Machine.Types.{Mode, Non-prim, Reg-prim, Trans-prim, Exchange-states, Exchange-actions, Construct, No, Un, Configuration}
 use Rattle.replication.specs.Machine.Colours.{cut}
 use Rattle.replication.specs.Machine.Exchange.{quorum}
@@ -21,10 +20,9 @@ use Rattle.replication.specs.Laws.Modes.{ColourFacts, ColourFactsOf}
 use Rattle.replication.specs.Laws.Order.{inExchange}
 use Rattle.replication.specs.Runs.Run.{Run}
 use Rattle.replication.specs.Runs.Happenings.{Takes}
-use Rattle.replication.specs.Runs.Allowed.{Allowed}
+use Rattle.replication.proofs.Runs.Roomy.{Roomy as Allowed}
 use Rattle.replication.specs.Runs.Claim.{memoryGreen}
-use Rattle.replication.specs.Runs.Settling.{arrived, ReachesAll, Undisturbed, Arrived, ArrivesAt, allStates}
-use Rattle.replication.proofs.WellFormed.Clauses.{heldCount}
+use Rattle.replication.specs.Runs.Settling.{ReachesAll, Undisturbed, ArrivesAt, allStates}
 use Rattle.replication.proofs.WellFormed.Ids.{has-counted}
 use Rattle.replication.proofs.WellFormed.Runs.{colour-facts}
 use Rattle.replication.proofs.Step.Growth.{transition-grows}
@@ -35,7 +33,6 @@ use Rattle.replication.proofs.Runs.Lived.{at-place}
 use Rattle.replication.proofs.Runs.Made.{Made, made-one, all-made}
 use Rattle.replication.proofs.Runs.Modes.{standing, standing-in}
 use Rattle.replication.proofs.Runs.Numbers.{invariant-at}
-use Rattle.replication.proofs.Runs.Order.{taker-member}
 use Rattle.replication.proofs.Runs.Progress.{stay-member}
 use Rattle.replication.proofs.Runs.Shifts as S
 use Rattle.replication.proofs.Runs.Stays.{membershipAt, placed-up}
@@ -50,7 +47,7 @@ use Rattle.replication.proofs.Agreement.Contents.Installed.{Completing,
 use Rattle.replication.proofs.Agreement.Contents.Places.{marks-ended}
 use Rattle.replication.proofs.Agreement.Contents.Same.{same-greens}
 use Rattle.replication.proofs.Agreement.Greens.Comparing.{takers-before}
-use Rattle.replication.proofs.Agreement.Greens.Demand.{parts}
+use Rattle.replication.proofs.Agreement.Greens.Whole.{parts}
 use Rattle.replication.proofs.Agreement.Greens.Induction.{invariant}
 use Rattle.replication.proofs.Agreement.Greens.Taking.{agreeable}
 use Rattle.replication.proofs.Agreement.Greens.Terms.{baseOf}
@@ -94,7 +91,7 @@ module _ {n q : ℕ} {l : Run} (A : Allowed n q l) (c : Configuration) (r : Reac
     then : (y : ℕ) → y ≤ suc p → InCom n q l y k c → Undisturbed n q l c r k y
     then y h e =
         let z = had n q l y k c e in
-        undisturbed-earlier A c r (omega (arith, z .earlier, A .once (z .took-at) (r .took k) k c (z .took) (r .takes k (x .undisturbed .member)))) h (x .undisturbed)
+        undisturbed-earlier A c r (omega (arith, z .earlier, A .allowed .once (z .took-at) (r .took k) k c (z .took) (r .takes k (x .undisturbed .member)))) h (x .undisturbed)
 
     -- It installs there.
     pub installs-then : InstallsAt n q l p k c
@@ -152,7 +149,7 @@ module _ {n q : ℕ} {l : Run} (A : Allowed n q l) (c : Configuration) (r : Reac
 
     no-red : memoryAt n q l (suc p) k .log .red ≡ []
     no-red =
-        let h = at-place n q l (OfBoth ColourFactsOf) k (colour-facts n q k (A .sizes) (stay-member A k (suc p) c (after k p x) .0)) (suc p) .memory in
+        let h = at-place n q l (OfBoth ColourFactsOf) k (colour-facts n q k (A .allowed .sizes) (stay-member A k (suc p) c (after k p x) .0)) (suc p) .memory in
         subst (λ m. ColourFacts m (memoryAt n q l (suc p) k .votes .yellow) (memoryAt n q l (suc p) k .log .red)) (in-reg-prim k p x) h .1
 
     took-in : (e j : ℕ) → Takes n q l e j c → InCom n q l (suc e) j c
@@ -165,7 +162,7 @@ module _ {n q : ℕ} {l : Run} (A : Allowed n q l) (c : Configuration) (r : Reac
         go (S.stays f g m) = absurd (S.stays-no-regular f t)
 
     exact : (i t : ℕ) → InCom n q l t i c → HeldExactly (memoryAt n q l t i .log)
-    exact i t h = held-exactly (memoryAt n q l t i) (invariant-at n q i (A .sizes) (stay-member A i t c h .0) l t .memory .well-formed)
+    exact i t h = held-exactly (memoryAt n q l t i) (invariant-at n q i (A .allowed .sizes) (stay-member A i t c h .0) l t .memory)
 
     now-hold : (j : ℕ) → inSet j (c .set) ≡ true → (a : Action)
         → List·Memᴰ a (memoryAt n q l (suc (r .took j)) j .log .green ++ memoryAt n q l (suc (r .took j)) j .log .red)

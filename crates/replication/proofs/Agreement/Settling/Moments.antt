@@ -1,9 +1,8 @@
 -- Where an undisturbed member stands, by what has come to it: in Reg_prim exactly when m States, the planned retransmissions and m CPCs have.
 use Prim.Native.Nat.{ℕ, zero, suc, _≤_, _<_}
 use mathlib.Core.Path.{_≡_, refl, sym, ap, subst, _∙_}
-use mathlib.Core.Bool.{true, false}
-use mathlib.Core.Logic.{_↔_}
-use mathlib.Core.Option.{Option, none, some}
+use mathlib.Core.Bool.{true}
+use mathlib.Core.Option.{none}
 use native.Mathlib.Omega.{arith}
 use native.Mathlib.Decide.{decLt, ℕ-discrete}
 use Rattle.base.specs.Sets.{size}
@@ -17,21 +16,20 @@ use Rattle.replication.specs.Machine.Step.{theSet}
 use Rattle.replication.specs.Laws.Modes.{InRegular, InTransitional}
 use Rattle.replication.specs.Runs.Run.{Run}
 use Rattle.replication.specs.Runs.Happenings.{Takes}
-use Rattle.replication.specs.Runs.Allowed.{Allowed}
+use Rattle.replication.proofs.Runs.Roomy.{Roomy as Allowed}
 use Rattle.replication.specs.Runs.Settling.{arrived, ReachesAll, Undisturbed, Exchanged, Arrived, ArrivesAt, allStates, plannedHere}
 use Rattle.replication.proofs.Runs.AllowedTurns.{memoryAt}
-use Rattle.replication.proofs.Runs.Memberships.{everyStateIn, everyCpcIn, plannedIn, quorumIn}
+use Rattle.replication.proofs.Runs.Memberships.{everyStateIn, plannedIn}
 use Rattle.replication.proofs.Runs.Modes.{standing, standing-in}
 use Rattle.replication.proofs.Runs.Progress.{Ended, Progress, progress-in, progress}
 use Rattle.replication.proofs.Runs.Stays.{membershipAt, entering-membership, stay-configuration, stay-transitional}
 use Rattle.replication.proofs.Step.Apart.{modeNumber, other-mode}
 use Rattle.replication.proofs.Agreement.Exchange.Stages.{stage, InCom}
-use Rattle.replication.proofs.Agreement.Exchange.Tally.{resentCount, tally, later-count}
+use Rattle.replication.proofs.Agreement.Exchange.Tally.{tally, later-count}
 use Rattle.replication.proofs.Agreement.Exchange.PastExchange.{ended-count}
 use Rattle.replication.proofs.Agreement.Exchange.ResentTaken.{most-planned}
-use Rattle.replication.proofs.Agreement.Settling.Arrivals.{arrived-onward}
 use Rattle.replication.proofs.Agreement.Settling.Places.{undisturbed-earlier, undisturbed-place}
-use Rattle.replication.proofs.Agreement.Settling.Counts.{there-now, states-all, states-fewer, cpcs-most, cpcs-all, cpcs-fewer, resent-arrived}
+use Rattle.replication.proofs.Agreement.Settling.Counts.{there-now, states-all, states-fewer, cpcs-all, cpcs-fewer, resent-arrived}
 use Rattle.replication.proofs.Agreement.Settling.States.{states-are}
 
 module _ {n q : ℕ} {l : Run} (A : Allowed n q l) (c : Configuration) (r : ReachesAll n q l c) (agreed : quorum (allStates n q l c r) (c .set) ≡ true) where

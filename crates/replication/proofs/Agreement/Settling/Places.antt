@@ -11,7 +11,7 @@ use Rattle.format.specs.Types.{transitional}
 use Rattle.replication.specs.Machine.Types.{Configuration}
 use Rattle.replication.specs.Runs.Run.{Run, placeAt}
 use Rattle.replication.specs.Runs.Happenings.{Comes, Takes}
-use Rattle.replication.specs.Runs.Allowed.{Allowed}
+use Rattle.replication.proofs.Runs.Roomy.{Roomy as Allowed}
 use Rattle.replication.specs.Runs.Settling.{ReachesAll, Undisturbed}
 use Rattle.replication.proofs.Runs.Entries.{Had, had}
 use Rattle.replication.proofs.Runs.Order.{inRegularOf}
@@ -37,7 +37,7 @@ module _ {n q : ℕ} {l : Run} (A : Allowed n q l) (c : Configuration) (r : Reac
       taking t (S.stays f g m) = absurd (S.stays-no-regular f t)
 
       staying : r .took k < p → placeAt n q l k p ≡ inRegularOf c → S.Shift n q l p k → placeAt n q l k (suc p) ≡ inRegularOf c
-      staying h e (S.to-regular d x m) = absurd (A .between p k d c x (ap (λ y. y .regular) e) (ap (λ y. y .transitional) e))
+      staying h e (S.to-regular d x m) = absurd (A .allowed .between p k d c x (ap (λ y. y .regular) e) (ap (λ y. y .transitional) e))
       staying h e (S.to-transitional s x m) = absurd (u .no-transitional p s h (omega arith) x)
       staying h e (S.to-nowhere f m) = absurd (u .no-fall p h (omega arith) f)
       staying h e (S.stays f g m) = m ∙ e
@@ -62,7 +62,7 @@ module _ {n q : ℕ} {l : Run} (A : Allowed n q l) (c : Configuration) (r : Reac
       h = had n q l p k c (ap (λ y. y .regular) e)
 
       same : h .took-at ≡ r .took k
-      same = A .once (h .took-at) (r .took k) k c (h .took) (r .takes k m)
+      same = A .allowed .once (h .took-at) (r .took k) k c (h .took) (r .takes k m)
 
       came : (x s : ℕ) → r .took k < x → x < p → Comes n q l x k (transitional s) → S.Shift n q l x k → ⊥
       came x s a b t (S.to-regular d y w) = S.transitional-not-regular t y

@@ -5,50 +5,48 @@ use mathlib.Core.Path.{_≡_, refl, sym, ap, subst, _∙_}
 use mathlib.Core.Bool.{Bool, true, false}
 use mathlib.Core.List.{List, [], _∷_, map}
 use mathlib.Core.Logic.{_⊎_, inl, inr}
-use mathlib.Core.Option.{Option, none, some}
+use mathlib.Core.Option.{some}
 use native.Mathlib.Omega.{arith}
 use native.Mathlib.Decide.{decLt}
-use lib.ListN.{length, take}
+use lib.ListN.{length}
 use lib.Seq.{take-all}
 use Rattle.base.specs.Lists.{at, present}
 use Rattle.base.specs.Sets.{inSet, size}
-use Rattle.base.specs.Tests.{_=?_}
 use Rattle.base.proofs.TestLaws.{not-both, eq-holds}
-use Rattle.format.specs.Types.{State, Record, state, cpc, regular, kindNumber, kindOf, ofState}
+use Rattle.format.specs.Types.{State, Record, state, cpc, regular, kindNumber, ofState}
 use Rattle.format.specs.Write.{write}
-use Rattle.replication.specs.Machine.Types.{Mode, Non-prim, Reg-prim, Trans-prim, Exchange-states, Exchange-actions, Construct, No, Un, Configuration, Server}
+use Rattle.replication.specs.Machine.Types.{Non-prim, Exchange-states, Exchange-actions, Construct, Configuration, Server}
 use Rattle.replication.specs.Machine.Exchange.{quorum}
 use Rattle.replication.specs.Machine.Plan.{planned, ownPart}
-use Rattle.replication.specs.Machine.Step.{entering, ownState, theSet, theId, hereSet, hereId, collected, plannedNow, withState, resending, decided, attempting}
-use Rattle.replication.specs.Machine.Requests.{sendWaiting, numbered}
+use Rattle.replication.specs.Machine.Step.{entering, ownState, theSet, theId, hereSet, hereId, collected, plannedNow, withState, resending}
 use Rattle.replication.specs.Laws.Transitions as L
 use Rattle.replication.specs.Laws.Transitions.{Ends, Transition}
 use Rattle.replication.specs.Runs.Run.{event, Run, putOut, sentAt}
 use Rattle.replication.specs.Runs.Happenings.{isMessage, Comes, by-crash, BehindCut, gone-down, unsent-request}
-use Rattle.replication.specs.Runs.Allowed.{Allowed}
+use Rattle.replication.proofs.Runs.Roomy.{Roomy as Allowed}
 use Rattle.replication.specs.Runs.Settling.{arrived, ReachesAll, Undisturbed, Exchanged, stateOf, allStates, plannedHere}
-use Rattle.replication.proofs.Runs.AllowedTurns.{memoryAt, Acts}
+use Rattle.replication.proofs.Runs.AllowedTurns.{memoryAt}
 use Rattle.replication.proofs.Runs.Entries.{had}
 use Rattle.replication.proofs.Runs.Memberships.{statesIn, everyStateIn}
 use Rattle.replication.proofs.Runs.Numbers.{numbers}
-use Rattle.replication.proofs.Runs.Places.{sent-at, sent-past, sent-by-crash}
-use Rattle.replication.proofs.Runs.Progress.{progress-in, progress}
+use Rattle.replication.proofs.Runs.Places.{sent-at}
 use Rattle.replication.proofs.Runs.Sending.{regular-acts}
 use Rattle.replication.proofs.Runs.Shifts.{comes-once}
-use Rattle.replication.proofs.Runs.Stays.{membershipAt, entering-membership}
+use Rattle.replication.proofs.Runs.Stays.{membershipAt}
 use Rattle.replication.proofs.Step.Apart.{modeNumber, other-mode}
-use Rattle.replication.proofs.Agreement.Terms.{EndsAt, MarksAt}
+use Rattle.replication.proofs.Agreement.Terms.{MarksAt}
 use Rattle.replication.proofs.Agreement.Exchange.Stages.{stage, first-stage, InCom, between, stage-onward}
 use Rattle.replication.proofs.Agreement.Exchange.Endings.{ends-decide, ends-membership}
 use Rattle.replication.proofs.Agreement.Exchange.Collected.{states-in}
 use Rattle.replication.proofs.Agreement.Exchange.Marked.{marked-in-stay}
 use Rattle.replication.proofs.Agreement.Exchange.SameStates as S
 use Rattle.replication.proofs.Agreement.Exchange.States.{state-taken}
+use Rattle.replication.proofs.Agreement.Greens.NothingGone.{nothing-gone}
 use Rattle.replication.proofs.Agreement.Settling.Arrivals.{is-state, arrived-risen, brings-holds}
 use Rattle.replication.proofs.Agreement.Settling.Places.{undisturbed-earlier}
 use Rattle.replication.proofs.Agreement.Settling.Counts.{there-now}
 use Rattle.replication.proofs.Agreement.Settling.States.{states-are}
-use Rattle.replication.proofs.Agreement.Settling.Moments.{no-transitional-now, collecting-lacks, past-collecting, marked-exchanged, exchanged-marked, not-settled}
+use Rattle.replication.proofs.Agreement.Settling.Moments.{no-transitional-now, collecting-lacks, past-collecting, marked-exchanged, exchanged-marked}
 
 -- ---- one step
 
@@ -59,16 +57,21 @@ entry-records (L.joinsMarked c e) = refl
 entry-records (L.joinsUnmarked c e) = refl
 entry-records (L.joinsYellow c e) = refl
 
--- A State with which Exchange_states ends, something being planned: one's part of the plan.
+-- A State with which Exchange_states ends, something being planned: one's part of the plan, in Exchange_actions.
+record PartPut (s t : Server) (rs : List Record) : Type 0 where
+  part : rs ≡ ownPart (s .servers) (s .me) (s .white) (s .log) (collected t)
+  mode : t .membership .mode ≡ Exchange-actions
+  log : t .log ≡ s .log
+
 part-records : {s t : Server} {x : State} {rs : List Record} {b : Bool} → Transition s (state x) t rs b → s .membership .mode ≡ Exchange-states
-    → 1 ≤ stage (t .membership .mode) → 0 < planned (s .servers) (collected t) → rs ≡ ownPart (s .servers) (s .me) (s .log) (collected t)
+    → 1 ≤ stage (t .membership .mode) → 0 < planned (s .servers) (collected t) → PartPut s t rs
 unfolding stage modeNumber withState resending collected plannedNow
 part-records (L.ignoresState x e) h k w = other-mode h e (λ z. omega arith)
 part-records (L.collects x e c) h k w = absurd (omega (arith, ap stage e))
-part-records (L.collectsLast x e c d) h k w = refl
+part-records (L.collectsLast x e c d) h k w = record { part = refl; mode = refl; log = refl }
 part-records {s} (L.collectsWhole x t rs e c d y) h k w = whole y w
   where
-    whole : {u : Server} {us : List Record} → Ends (withState x s) u us → 0 < planned (s .servers) (collected u) → us ≡ ownPart (s .servers) (s .me) (s .log) (collected u)
+    whole : {u : Server} {us : List Record} → Ends (withState x s) u us → 0 < planned (s .servers) (collected u) → PartPut s u us
     whole v z = absurd (omega (arith, eq-holds _ _ d, ap (λ m. planned (s .servers) (present (m .states))) (ends-membership v .1)))
 
 -- With a quorum, one's CPC.
@@ -80,7 +83,7 @@ cpc-records (L.withoutQuorum h) e = not-both (sym h ∙ e)
 
 module _ {n q : ℕ} {l : Run} (A : Allowed n q l) (c : Configuration) (r : ReachesAll n q l c) where
   pub sends-state : (k : ℕ) → inSet k (c .set) ≡ true → putOut n q l (r .took k) ≡ write (state (stateOf n q l c r k)) ∷ []
-  unfolding stateOf
+  unfolding stateOf ownState
   sends-state k m =
       let x = regular-acts A (r .took k) k c (r .takes k m) in
       let y = entry-records (subst (λ z. Transition (memoryAt n q l (r .took k) k) z (x .0 .after) (x .0 .by .records) (x .0 .stores)) (x .1) (x .0 .moves)) in
@@ -96,7 +99,7 @@ module _ {n q : ℕ} {l : Run} (A : Allowed n q l) (c : Configuration) (r : Reac
       cut (unsent-request z d s) = not-both (ap isMessage (comes-once d later) ∙ message)
 
       go : Dec (j < length (putOut n q l p)) → sentAt n q l p ≡ putOut n q l p
-      go (yes b) = cut (A .cut-by-crash p x k j (later .sent) e (later .bytes) now b g (later .here))
+      go (yes b) = cut (A .allowed .cut-by-crash p x k j (later .sent) e (later .bytes) now b g (later .here))
       go (no b) = sent-at n q l p k j e now ∙ take-all j (putOut n q l p) (omega arith)
 
   module _ (agreed : quorum (allStates n q l c r) (c .set) ≡ true) (k p : ℕ) (u : Undisturbed n q l c r k (suc p)) where
@@ -107,10 +110,10 @@ module _ {n q : ℕ} {l : Run} (A : Allowed n q l) (c : Configuration) (r : Reac
     before : InCom n q l p k c → Undisturbed n q l c r k p
     before h =
         let y = had n q l p k c h in
-        undisturbed-earlier A c r (omega (arith, y .earlier, A .once (y .took-at) (r .took k) k c (y .took) (r .takes k (u .member)))) (omega arith) u
+        undisturbed-earlier A c r (omega (arith, y .earlier, A .allowed .once (y .took-at) (r .took k) k c (y .took) (r .takes k (u .member)))) (omega arith) u
 
     pub sends-part : arrived n q l c ofState k p < size (c .set) → arrived n q l c ofState k (suc p) ≡ size (c .set) → 0 < plannedHere n q l c r
-        → putOut n q l p ≡ map write (ownPart n k (memoryAt n q l p k .log) (allStates n q l c r))
+        → putOut n q l p ≡ map write (ownPart n k 0 (memoryAt n q l p k .log) (allStates n q l c r))
     unfolding stage plannedHere kindNumber collected
     sends-part few all some-planned =
         let y = brings-holds n q l c ofState k p (arrived-risen n q l c ofState k p (omega (arith, all))) in
@@ -118,7 +121,7 @@ module _ {n q : ℕ} {l : Run} (A : Allowed n q l) (c : Configuration) (r : Reac
         part (s .0) (subst (λ z. Comes n q l p k z) (s .1) (y .1)) (ap (λ z. z .regular) (y .3))
       where
         part : (x : State) → Comes n q l p k (state x) → InCom n q l p k c
-            → putOut n q l p ≡ map write (ownPart n k (memoryAt n q l p k .log) (allStates n q l c r))
+            → putOut n q l p ≡ map write (ownPart n k 0 (memoryAt n q l p k .log) (allStates n q l c r))
         part x come here =
             let t = state-taken A p k x come c here in
             let a = t .0 in
@@ -130,7 +133,15 @@ module _ {n q : ℕ} {l : Run} (A : Allowed n q l) (c : Configuration) (r : Reac
             (omega (arith, late, ap (λ w. stage (w .membership .mode)) (a .memory-next)))
             (omega (arith, some-planned, f))
             in
-            a .put ∙ ap (map write) (z ∙ (λ j. ownPart (o .servers j) (o .me j) (memoryAt n q l p k .log) (e j)))
+            let log : memoryAt n q l (suc p) k .log ≡ memoryAt n q l p k .log = ap (λ w. w .log) (a .memory-next) ∙ z .log in
+            let came : collected (a .after) ≡ statesIn (membershipAt n q l (suc p) k) = sym (ap (λ w. statesIn (w .membership)) (a .memory-next)) in
+            let there = nothing-gone A p k c here after collecting (ap (λ w. w .membership .mode) (a .memory-next) ∙ z .mode) full in
+            a .put
+            ∙ ap (map write)
+            (z .part
+            ∙ (λ j. ownPart (o .servers j) (o .me j) (memoryAt n q l p k .white) (sym log j) (came j))
+            ∙ there
+            ∙ (λ j. ownPart n k 0 (log j) (states-are A c r k (suc p) after full j)))
           where
             collecting : membershipAt n q l p k .mode ≡ Exchange-states
             collecting = go (decLt 0 (stage (membershipAt n q l p k .mode)))

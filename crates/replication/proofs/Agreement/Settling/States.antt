@@ -1,7 +1,7 @@
 -- A member that has all States has those that the members sent on taking the configuration.
 use Prim.Native.Nat.{ℕ, zero, suc, _≤_, _<_}
 use mathlib.Core.Path.{_≡_, refl, sym, ap, _∙_}
-use mathlib.Core.Bool.{true, false}
+use mathlib.Core.Bool.{true}
 use mathlib.Core.List.{List, [], _∷_, _++_}
 use mathlib.Core.Option.{Option, none, some}
 use native.Mathlib.Omega.{arith}
@@ -13,12 +13,11 @@ use Rattle.base.specs.Sets.{inSet}
 use Rattle.base.proofs.AtLaws.{none-some, some-same, at-there, take-next}
 use Rattle.base.proofs.Comparable.{gather-append}
 use Rattle.base.proofs.TestLaws.{Known, holds, fails, known}
-use Rattle.format.specs.Types.{State}
 use Rattle.replication.specs.Machine.Types.{Configuration}
 use Rattle.replication.specs.Machine.Step.{ownState}
 use Rattle.replication.specs.Runs.Run.{Run}
-use Rattle.replication.specs.Runs.Allowed.{Allowed}
-use Rattle.replication.specs.Runs.Settling.{ReachesAll, Undisturbed, stateOf, memberState, allStates}
+use Rattle.replication.proofs.Runs.Roomy.{Roomy as Allowed}
+use Rattle.replication.specs.Runs.Settling.{ReachesAll, stateOf, memberState, allStates}
 use Rattle.replication.proofs.Runs.AllowedTurns.{memoryAt}
 use Rattle.replication.proofs.Runs.Memberships.{statesIn, everyStateIn}
 use Rattle.replication.proofs.Runs.Stays.{membershipAt}
@@ -66,7 +65,7 @@ module _ {n q : ℕ} {l : Run} (A : Allowed n q l) (c : Configuration) (r : Reac
       let x = complete-in A i c p here full k h m in
       let y = collected-sent A p i c here k (x .0) (x .1) .0 in
       rw m (x .1
-      ∙ ap some (y .says ∙ ap (λ z. ownState c (memoryAt n q l (suc z) k)) (A .once (y .at) (r .took k) k c (y .took) (r .takes k m))))
+      ∙ ap some (y .says ∙ ap (λ z. ownState c (memoryAt n q l (suc z) k)) (A .allowed .once (y .at) (r .took k) k c (y .took) (r .takes k m))))
   at-member k h (fails m) = rw m (collected-only A p i c here k m)
 
   pub states-are : statesIn (membershipAt n q l p i) ≡ allStates n q l c r

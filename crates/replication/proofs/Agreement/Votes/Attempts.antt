@@ -11,7 +11,7 @@ use Rattle.replication.specs.Machine.Step.{collected}
 use Rattle.replication.specs.Laws.Order.{AtMost, by-index, by-primary, by-attempt}
 use Rattle.replication.specs.Runs.Run.{Run}
 use Rattle.replication.specs.Runs.Happenings.{Takes}
-use Rattle.replication.specs.Runs.Allowed.{Allowed}
+use Rattle.replication.proofs.Runs.Roomy.{Roomy as Allowed}
 use Rattle.replication.proofs.Step.Taken.{NotLater, lower, level, taken-covers, taken-attempt-covers}
 use Rattle.replication.proofs.Runs.Entries.{Had, had}
 use Rattle.replication.proofs.Runs.OwnStates.{votes-rise-between}

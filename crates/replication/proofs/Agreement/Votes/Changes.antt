@@ -7,7 +7,7 @@ use mathlib.Core.Logic.{_⊎_, inl, inr}
 use mathlib.Core.Option.{some}
 use Rattle.base.proofs.TestLaws.{not-both}
 use Rattle.format.specs.Types.{Action, component, Record, action, retransmission, state, cpc, regular, transitional, request, recovery}
-use Rattle.replication.specs.Machine.Types.{Mode, Non-prim, Reg-prim, Trans-prim, Exchange-states, Exchange-actions, Construct, No, Un, Votes, Configuration, Server, clearedMark}
+use Rattle.replication.specs.Machine.Types.{Mode, Non-prim, Reg-prim, Trans-prim, Exchange-states, Exchange-actions, Construct, No, Un, Votes, Configuration, Server, clearedMark, withWhite}
 use Rattle.replication.specs.Machine.Colours.{yellow}
 use Rattle.replication.specs.Machine.Install.{install, installVotes}
 use Rattle.replication.specs.Machine.Requests.{numbered, sendWaiting, recovered}
@@ -57,6 +57,13 @@ pub record Joins (s : Server) (c : Configuration) (t : Server) : Type 0 where
   pub last : t .votes .last ≡ s .votes .last
   pub attempt : t .votes .attempt ≡ s .votes .attempt
   pub mark : MarkJoins s t
+
+mark-raised : {s t : Server} (w : ℕ) → MarkJoins s t → MarkJoins s (withWhite w t)
+mark-raised w (mark-kept e) = mark-kept e
+mark-raised w (mark-cleared h e) = mark-cleared h e
+
+pub joins-raised : {s : Server} {c : Configuration} {t : Server} (w : ℕ) → Joins s c t → Joins s c (withWhite w t)
+joins-raised w j = record { mode = j .mode; configuration = j .configuration; last = j .last; attempt = j .attempt; mark = mark-raised w (j .mark) }
 
 -- The exchange ends; `judged` is the state whose collected States are judged.
 pub record Ending (s : Server) (t : Server) (rs : List Record) : Type 0 where

@@ -18,7 +18,7 @@ use Rattle.replication.specs.Machine.Exchange.{ownMark, judgedMark}
 use Rattle.replication.specs.Machine.Step.{ownState, collected}
 use Rattle.replication.specs.Runs.Run.{Run, heard, heardAt}
 use Rattle.replication.specs.Runs.Happenings.{Takes}
-use Rattle.replication.specs.Runs.Allowed.{Allowed}
+use Rattle.replication.proofs.Runs.Roomy.{Roomy as Allowed}
 use Rattle.replication.proofs.Runs.Entries.{Had, had}
 use Rattle.replication.proofs.Runs.Numbers.{numbers}
 use Rattle.replication.proofs.Runs.Order.{taker-member}
@@ -90,7 +90,7 @@ module _ {n q : ℕ} {l : Run} (A : Allowed n q l) (X : ExchangeFacts n q l) {p 
       let r = state-from t m in
       let same : r .0 ≡ k = sym (r .2 .sender) ∙ e in
       let z : StateOf n q l p k c t = subst (λ j. StateOf n q l p j c t) same (r .2) in
-      z .says ∙ ap (λ a. ownState c (memoryAt n q l (suc a) k)) (A .once (z .took-at) (y .took-at) k c (z .took) (y .took)) ∙ sym (y .says)
+      z .says ∙ ap (λ a. ownState c (memoryAt n q l (suc a) k)) (A .allowed .once (z .took-at) (y .took-at) k c (z .took) (y .took)) ∙ sym (y .says)
 
   -- The own mark is judged on the own State.
   pub own-mark-judged : (s : State) → List·Memᴰ s (collected (x .judged)) → StateOf n q l p i c s

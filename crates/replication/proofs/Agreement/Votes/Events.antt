@@ -14,7 +14,7 @@ use Rattle.replication.specs.Laws.Modes as M
 use Rattle.replication.specs.Laws.Order.{inExchange}
 use Rattle.replication.specs.Runs.Run.{Run, placeAt}
 use Rattle.replication.specs.Runs.Happenings.{Takes}
-use Rattle.replication.specs.Runs.Allowed.{Allowed}
+use Rattle.replication.proofs.Runs.Roomy.{Roomy as Allowed}
 use Rattle.replication.proofs.Runs.Shifts.{regular-same, takes-same}
 use Rattle.replication.proofs.Runs.Entries.{Had, had}
 use Rattle.replication.proofs.Runs.Coupling.{coupled}
@@ -46,7 +46,7 @@ module _ {n q : ℕ} {l : Run} where
       go (C.keeps r o v s) = not-both (sym o ∙ yes-installs)
       go (C.joins c e o j) = not-both (sym o ∙ yes-installs)
       go (C.ends r o b j) = not-both (sym o ∙ yes-installs)
-      go (C.installs r o j) = subst (λ t. Installing (memoryAt n q l p i) t) (sym (x .acts .memory-next)) j
+      go (C.installs r o j) = subst (λ t. Installing (memoryAt n q l p i) t) (sym (x .acts .memory-next)) (record { from = j .from; to = j .to; index = j .index; attempt = j .attempt; set = j .set; last = j .last; mark = j .mark })
 
   -- After an end of an exchange, or an Install, the server is in no exchange.
   pub ends-exchange : {p i : ℕ} {c : Configuration} → EndsAt n q l p i c → inExchange (modeAt n q l (suc p) i) ≡ false
@@ -83,7 +83,7 @@ module _ {n q : ℕ} {l : Run} (A : Allowed n q l) where
       go (C.joins d f o j) =
           let g = regular-same (sym f ∙ e) in
           let h : d ≡ c = λ z. record { id = g .0 z; set = g .1 z } in
-          subst (λ t. Joins (memoryAt n q l p i) c t) (sym (x .memory-next)) (subst (λ y. Joins (memoryAt n q l p i) y (x .after)) h j)
+          subst (λ t. Joins (memoryAt n q l p i) c t) (sym (x .memory-next)) (C.joins-raised (x .white) (subst (λ y. Joins (memoryAt n q l p i) y (x .after)) h j))
       go (C.ends r o b j) = not-both (sym r ∙ ap isRegular e)
       go (C.installs r o j) = not-both (sym r ∙ ap isRegular e)
 
@@ -111,7 +111,7 @@ module _ {n q : ℕ} {l : Run} (A : Allowed n q l) where
 
   -- A server has a configuration only after taking it.
   pub taken-before : {w p i : ℕ} {c : Configuration} → Takes n q l w i c → placeAt n q l i p .regular ≡ some c → w < p
-  taken-before {w} {p} {i} {c} t h = let x = had n q l p i c h in omega (arith, A .once w (x .took-at) i c t (x .took), x .earlier)
+  taken-before {w} {p} {i} {c} t h = let x = had n q l p i c h in omega (arith, A .allowed .once w (x .took-at) i c t (x .took), x .earlier)
 
   -- What a server does in c without taking a configuration comes before the configurations that it takes after c.
   pub done-before : {w e p i : ℕ} {c d : Configuration} → Takes n q l w i c → Takes n q l e i d → placeAt n q l i p .regular ≡ some c
@@ -122,7 +122,7 @@ module _ {n q : ℕ} {l : Run} (A : Allowed n q l) where
       x = had n q l p i c h
 
       s : w ≡ x .took-at
-      s = A .once w (x .took-at) i c t (x .took)
+      s = A .allowed .once w (x .took-at) i c t (x .took)
 
       go : Dec (e < p) → Dec (p < e) → p < e
       go (yes a) b = absurd (x .alone e d (omega (arith, s)) a u)

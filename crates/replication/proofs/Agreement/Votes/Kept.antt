@@ -19,7 +19,7 @@ use Rattle.replication.specs.Laws.Modes.{ModeFacts, attempting}
 use Rattle.replication.specs.Laws.Order.{inExchange}
 use Rattle.replication.specs.Runs.Run.{Run}
 use Rattle.replication.specs.Runs.Happenings.{Takes}
-use Rattle.replication.specs.Runs.Allowed.{Allowed}
+use Rattle.replication.proofs.Runs.Roomy.{Roomy as Allowed}
 use Rattle.replication.proofs.Runs.Coupling.{coupled}
 use Rattle.replication.proofs.Runs.Modes.{mode-facts-at}
 use Rattle.replication.proofs.Runs.Order.{taker-member}

@@ -15,7 +15,7 @@ use Rattle.replication.specs.Laws.Modes.{attempting}
 use Rattle.replication.specs.Laws.Order.{inExchange}
 use Rattle.replication.specs.Runs.Run.{Run, beginning}
 use Rattle.replication.specs.Runs.Happenings.{Takes}
-use Rattle.replication.specs.Runs.Allowed.{Allowed}
+use Rattle.replication.proofs.Runs.Roomy.{Roomy as Allowed}
 use Rattle.replication.proofs.Runs.Places.{world-at-start}
 use Rattle.replication.proofs.Runs.Coupling.{coupled}
 use Rattle.replication.proofs.Runs.AllowedTurns.{memoryAt}

@@ -13,7 +13,7 @@ use Rattle.replication.specs.Machine.Exchange.{takenPrimary, judgedMark,
 use Rattle.replication.specs.Machine.Step.{collected}
 use Rattle.replication.specs.Runs.Run.{Run}
 use Rattle.replication.specs.Runs.Happenings.{Takes}
-use Rattle.replication.specs.Runs.Allowed.{Allowed}
+use Rattle.replication.proofs.Runs.Roomy.{Roomy as Allowed}
 use Rattle.replication.proofs.Step.Taken.{NotLater, lower, level, taken-covers}
 use Rattle.replication.proofs.Runs.Entries.{had}
 use Rattle.replication.proofs.Runs.Order.{taker-member, configurations-ordered}

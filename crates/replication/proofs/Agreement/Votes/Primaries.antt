@@ -10,13 +10,13 @@ use Rattle.base.proofs.TestLaws.{not-both}
 use Rattle.base.specs.Lists.{at}
 use Rattle.base.proofs.AtLaws.{some-same}
 use Rattle.format.specs.Types.{Action, Primary, recovery, says}
-use Rattle.replication.specs.Machine.Types.{Configuration, Server, Outcome, taken}
+use Rattle.replication.specs.Machine.Types.{Configuration, Server, Outcome, taken, withWhite}
 use Rattle.replication.specs.Machine.Rules.{ruleFor}
 use Rattle.replication.specs.Machine.Step.{step, installsBy, installsOn}
 use Rattle.replication.specs.Machine.Step as S
 use Rattle.replication.specs.Images.{isRecovery, sourceOf, arrive}
 use Rattle.replication.specs.Runs.Run.{event, Run, worldAt, heardAt}
-use Rattle.replication.specs.Runs.Allowed.{Allowed}
+use Rattle.replication.proofs.Runs.Roomy.{Roomy as Allowed}
 use Rattle.replication.specs.Runs.Claim.{IsPrimary, of-start, of-install, PrimariesAgree}
 use Rattle.replication.proofs.Runs.Places.{event-not-store, of-event, event-entry, event-not-crash}
 use Rattle.replication.proofs.Runs.Coupling.{Source, from-store, from-memory, source}
@@ -101,7 +101,7 @@ module _ {n q : ℕ} {l : Run} (A : Allowed n q l) where
 
   pub installed-is : {p i : ℕ} {c : Configuration} (x : InstallsAt n q l p i c) → IsPrimary n q l (installed n q l x)
   installed-is {p} {i} x =
-      of-install p i (x .acts .sent) (x .acts .bytes) (x .acts .after) (x .acts .written) (x .acts .stores) (x .acts .greened) (x .acts .here) (x .acts .arrives)
+      of-install p i (x .acts .sent) (x .acts .bytes) (withWhite (x .acts .white) (x .acts .after)) (x .acts .written) (x .acts .stores) (x .acts .greened) (x .acts .here) (x .acts .arrives)
       (installs-alike p i (x .acts) ∙ x .installs)
 
   module _ (X : ExchangeFacts n q l) where

@@ -5,7 +5,7 @@ use native.Mathlib.Omega.{arith}
 use Rattle.replication.specs.Machine.Types.{Server}
 use Rattle.replication.specs.Laws.Order.{AtMost, by-index, by-primary, by-attempt}
 use Rattle.replication.specs.Runs.Run.{Run}
-use Rattle.replication.specs.Runs.Allowed.{Allowed}
+use Rattle.replication.proofs.Runs.Roomy.{Roomy as Allowed}
 use Rattle.replication.proofs.Runs.ControlPart.{control-at}
 use Rattle.replication.proofs.Runs.OwnStates.{votes-rise-between}
 use Rattle.replication.proofs.Agreement.Terms.{Image, in-memory, in-store}

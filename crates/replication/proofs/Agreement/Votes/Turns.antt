@@ -1,12 +1,12 @@
 -- What each place of an allowed run does to the votes of a server.
 use Prim.Native.Nat.{ℕ, suc}
-use mathlib.Core.Path.{_≡_, sym, ap, subst, _∙_}
+use mathlib.Core.Path.{_≡_, refl, sym, ap, subst, _∙_}
 use mathlib.Core.Bool.{true, false}
 use mathlib.Core.List.{List}
 use mathlib.Core.Logic.{_⊎_, inl, inr}
 use mathlib.Core.Option.{Option, none, some}
-use Rattle.format.specs.Types.{Primary, State, Record, regular, says}
-use Rattle.replication.specs.Machine.Types.{Mode, Non-prim, Construct, Un, Votes, Configuration, Server}
+use Rattle.format.specs.Types.{Primary, State, Record, says}
+use Rattle.replication.specs.Machine.Types.{Mode, Non-prim, Construct, Un, Votes, Configuration, Server, withWhite}
 use Rattle.replication.specs.Machine.Exchange.{takenPrimary, quorum, takenVotes, attempted}
 use Rattle.replication.specs.Machine.Requests.{numbered, sendWaiting, recovered}
 use Rattle.replication.specs.Machine.Step.{theSet, hereSet, collected, decided, attempting, installsBy}
@@ -16,7 +16,7 @@ use Rattle.replication.specs.Laws.Transitions as L
 use Rattle.replication.specs.Laws.Transitions.{Ends}
 use Rattle.replication.specs.Runs.Run.{Run, worldAt, placeAt}
 use Rattle.replication.specs.Runs.Happenings.{Takes}
-use Rattle.replication.specs.Runs.Allowed.{Allowed}
+use Rattle.replication.proofs.Runs.Roomy.{Roomy as Allowed}
 use Rattle.replication.proofs.Step.Formed.{every-state-in}
 use Rattle.replication.proofs.WellFormed.Facts.{facts-well-formed}
 use Rattle.replication.proofs.Runs.Places.{of-event}
@@ -28,7 +28,7 @@ use Rattle.replication.proofs.Runs.AllowedTurns.{memoryAt, Acts, Recove
 use Rattle.replication.proofs.Runs.OwnStates.{exchange-regular}
 use Rattle.replication.proofs.Agreement.Terms.{EndsAt, InstallsAt}
 use Rattle.replication.proofs.Agreement.Votes.Changes as C
-use Rattle.replication.proofs.Agreement.Votes.Changes.{SameVotes, Stays, Joins, VotesStep, votes-step, same-membership, outside}
+use Rattle.replication.proofs.Agreement.Votes.Changes.{SameVotes, Stays, Joins, Ending, VotesStep, votes-step, same-membership, outside}
 
 module _ (n q : ℕ) (l : Run) where
   abbrev pub votesAt : ℕ → ℕ → Votes
@@ -59,19 +59,19 @@ installer-placed s (inl e) h = let g = standing-in s Construct e h in (g .config
 installer-placed s (inr e) h = let g = standing-in s Un e h in (g .configuration, g .there)
 
 module _ {n q : ℕ} {l : Run} where
-  decides : (p i : ℕ) (c : Configuration) (j t : Server) (rs : List Record) → Ends j t rs → memoryAt n q l (suc p) i ≡ t → j .me ≡ i
+  decides : (p i : ℕ) (c : Configuration) (j t : Server) (rs : List Record) → Ends j t rs → (w : ℕ) → memoryAt n q l (suc p) i ≡ withWhite w t → j .me ≡ i
       → j .membership .configuration ≡ some c → Decides n q l p i c (collected j)
   unfolding attempting decided sendWaiting numbered hereSet theSet
-  decides p i c j t rs (L.withQuorum h) e m d =
+  decides p i c j t rs (L.withQuorum h) w e m d =
       let k : theSet (j .membership .configuration) ≡ c .set = ap theSet d in
       with-quorum (ap (quorum (collected j)) (sym k) ∙ h)
       (ap (λ s. s .votes) e ∙ (λ z. attempted (k z) (takenVotes (m z) (collected j)))) (ap (λ s. s .membership .mode) e) (ap (λ s. s .membership .configuration) e ∙ d)
-  decides p i c j t rs (L.withoutQuorum h) e m d =
+  decides p i c j t rs (L.withoutQuorum h) w e m d =
       without-quorum (ap (λ s. quorum (collected j) (theSet s)) (sym d) ∙ h) (ap (λ s. s .votes) e ∙ ap (λ z. takenVotes z (collected j)) m)
       (ap (λ s. s .membership .mode) e)
 
   pub ended : {p i : ℕ} {c : Configuration} (x : EndsAt n q l p i c) → Decides n q l p i c (collected (x .judged))
-  ended {p} {i} {c} x = decides p i c (x .judged) (x .acts .after) (x .acts .by .records) (x .ends) (x .acts .memory-next) (x .of-me) (x .configuration)
+  ended {p} {i} {c} x = decides p i c (x .judged) (x .acts .after) (x .acts .by .records) (x .ends) (x .acts .white) (x .acts .memory-next) (x .of-me) (x .configuration)
 
   pub ended-last : {p i : ℕ} {c : Configuration} (x : EndsAt n q l p i c) → lastAt n q l (suc p) i ≡ takenPrimary (collected (x .judged))
   unfolding attempted takenVotes
@@ -86,29 +86,35 @@ module _ {n q : ℕ} {l : Run} (A : Allowed n q l) where
       → memoryAt n q l p i .membership .transitional ≡ t → placeAt n q l i p ≡ record { regular = c; transitional = t }
   place-known p i u c t e f = sym (coupled A p i u) ∙ (λ j. record { regular = e j; transitional = f j })
 
-  acting : (p i : ℕ) (x : Acts n q l p i) → VotesStep (memoryAt n q l p i) (x .by .event) (x .after) (x .by .records) (x .stores) → VotesTurn n q l p i
-  acting p i x (C.keeps r o v s) =
-      keeps (subst (λ t. SameVotes (votesAt n q l p i) (t .votes)) (sym (x .memory-next)) v) (subst (λ t. Stays (memoryAt n q l p i) t) (sym (x .memory-next)) s)
-  acting p i x (C.joins c e o j) =
-      joins c (record { bytes = x .bytes; sent = x .sent; here = x .here; heard = x .heard ∙ ap says e })
-      (subst (λ t. Joins (memoryAt n q l p i) c t) (sym (x .memory-next)) j)
-  acting p i x (C.ends r o b j) =
+  -- An exchange that ends, ends in the server's configuration.
+  pub ends-at : (p i : ℕ) (x : Acts n q l p i) → x .stores ≡ true → (j : Ending (memoryAt n q l p i) (x .after) (x .by .records))
+      → (c : Configuration) × (y : EndsAt n q l p i c) × (y .judged ≡ j .judged)
+  ends-at p i x b j =
       let s = memoryAt n q l p i in
       let g = exchange-regular (s .membership .mode) (s .membership .configuration) (s .membership .transitional) (j .exchanging) (standing n q l i p .memory) in
-      let w = invariant-at n q i (A .sizes) (A .servers p i (of-event (x .here))) l p .memory .well-formed in
-      ends (g .configuration)
-      (record {
-        acts = x;
-        judged = j .judged;
-        ends = j .ends;
-        stores = b;
-        here = place-known p i (x .up) (some (g .configuration)) none (g .there) (g .none-after);
-        of-me = j .me ∙ numbers n q i l p .memory .me;
-        votes = j .votes;
-        configuration = j .configuration ∙ g .there;
-        complete = j .complete (every-state-in s (facts-well-formed s w));
-      })
-      (j .exchanging)
+      let w = invariant-at n q i (A .allowed .sizes) (A .allowed .servers p i (of-event (x .here))) l p .memory .well-formed in (
+        g .configuration,
+        record {
+          acts = x;
+          judged = j .judged;
+          ends = j .ends;
+          stores = b;
+          here = place-known p i (x .up) (some (g .configuration)) none (g .there) (g .none-after);
+          of-me = j .me ∙ numbers n q i l p .memory .me;
+          votes = j .votes;
+          configuration = j .configuration ∙ g .there;
+          complete = j .complete (every-state-in s (facts-well-formed s w));
+        },
+        refl,
+      )
+
+  acting : (p i : ℕ) (x : Acts n q l p i) → VotesStep (memoryAt n q l p i) (x .by .event) (x .after) (x .by .records) (x .stores) → VotesTurn n q l p i
+  acting p i x (C.keeps r o v s) =
+      keeps (subst (λ t. SameVotes (votesAt n q l p i) (t .votes)) (sym (x .memory-next)) v) (subst (λ t. Stays (memoryAt n q l p i) t) (sym (x .memory-next)) (record { exchange = s .exchange; attempt = s .attempt }))
+  acting p i x (C.joins c e o j) =
+      joins c (record { bytes = x .bytes; sent = x .sent; here = x .here; heard = x .heard ∙ ap says e })
+      (subst (λ t. Joins (memoryAt n q l p i) c t) (sym (x .memory-next)) (C.joins-raised (x .white) j))
+  acting p i x (C.ends r o b j) = let y = ends-at p i x b j in ends (y .0) (y .1) (j .exchanging)
   acting p i x (C.installs r o j) =
       let s = memoryAt n q l p i in
       let k = ap (λ z. installsBy z s) (sym (x .by .ruled)) ∙ o in

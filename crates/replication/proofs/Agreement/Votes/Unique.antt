@@ -11,7 +11,7 @@ use Rattle.replication.specs.Machine.Exchange.{takenPrimary}
 use Rattle.replication.specs.Machine.Step.{collected}
 use Rattle.replication.specs.Runs.Run.{Run}
 use Rattle.replication.specs.Runs.Happenings.{Takes}
-use Rattle.replication.specs.Runs.Allowed.{Allowed}
+use Rattle.replication.proofs.Runs.Roomy.{Roomy as Allowed}
 use Rattle.replication.proofs.Runs.Places.{of-event}
 use Rattle.replication.proofs.Runs.Numbers.{numbers, invariant-at}
 use Rattle.replication.proofs.Agreement.Terms.{Image, MarksAt, InstallsAt, installed, ExchangeFacts}
@@ -55,7 +55,7 @@ module _ {n q : ℕ} {l : Run} (A : Allowed n q l) (X : ExchangeFacts n q l) whe
 
   last-below : (p i : ℕ) → i < n → lastAt n q l p i .set < 2 ^ n
   last-below p i h =
-      subst (λ z. lastAt n q l p i .set < 2 ^ z) (numbers n q i l p .memory .servers) (invariant-at n q i (A .sizes) h l p .memory .well-formed .votes .last .set)
+      subst (λ z. lastAt n q l p i .set < 2 ^ z) (numbers n q i l p .memory .servers) (invariant-at n q i (A .allowed .sizes) h l p .memory .well-formed .votes .last .set)
 
   one-install-next : (k : ℕ) → OneInstall n q l k → OneInstall n q l (suc k)
   unfolding OneInstall OneKnown
@@ -91,7 +91,7 @@ module _ {n q : ℕ} {l : Run} (A : Allowed n q l) (X : ExchangeFacts n q l) whe
 
       common-member : (t : ℕ) × (inSet t (takenPrimary xs .set) ≡ true) × (inSet t (c .set) ≡ true) × (inSet t (d .set) ≡ true)
       common-member =
-          let below = last-below (suc (mark-c .marked-at)) i (A .servers p i (of-event (x .acts .here))) in
+          let below = last-below (suc (mark-c .marked-at)) i (A .allowed .servers p i (of-event (x .acts .here))) in
           quorums-meet n xs ys (c .set) (d .set) one-taken (subst (λ z. z .set < 2 ^ n) last-c below) (mark-c .marking .has-quorum) (mark-d .marking .has-quorum)
 
       at-c : (s : State) × List·Memᴰ s xs × StateOf n q l (mark-c .marked-at) (common-member .0) c s

@@ -1,4 +1,4 @@
-use Rattle.record.proofs.Ranges.{length-law}
+use Rattle.state_check.proofs.NumberCode.{most-told}
 use Rattle.record.specs.Context.{contextOf}
 use Rattle.state_check.specs.Numbers.{queueCountOk}
 use borrow.Author.Needs.{needs}
@@ -7,7 +7,7 @@ use Rattle.state_check.proofs.numbers.queue_count_ok.Tie as tie
 
 returns : tie.Need-returns
 unfolding queueCountOk contextOf
-returns c = search (needs, length-law)
+returns c = search (needs, most-told)
 
 pub queue-count-ok-spec : {M : Type 1} → statement M
 queue-count-ok-spec =

@@ -1,4 +1,4 @@
-use Rattle.record.proofs.Ranges.{length-law}
+use Rattle.state_check.proofs.NumberCode.{most-told}
 use Rattle.record.specs.Context.{contextOf}
 use Rattle.state_check.specs.Numbers.{yellowCountOk}
 use borrow.Author.Needs.{needs}
@@ -7,7 +7,7 @@ use Rattle.state_check.proofs.numbers.yellow_count_ok.Tie as tie
 
 returns : tie.Need-returns
 unfolding yellowCountOk contextOf
-returns c = search (needs, length-law)
+returns c = search (needs, most-told)
 
 pub yellow-count-ok-spec : {M : Type 1} → statement M
 yellow-count-ok-spec =

@@ -1,4 +1,4 @@
-use Rattle.state_check.proofs.SectionCode.{cuts-inside, cuts-denied, cuts-answered}
+use Rattle.state_check.proofs.SectionCode.{cuts-inside, cuts-answered}
 use borrow.Author.Needs.{needs}
 use Rattle.state_check.proofs.sections.queue_cuts.Statement.{statement}
 use Rattle.state_check.proofs.sections.queue_cuts.Tie as tie
@@ -9,7 +9,5 @@ queue-cuts-spec =
     (tie.spec
     (λ c. search needs)  -- cast-n
     (λ c. search needs)  -- cast-at
-    (λ c κs. search (needs, cuts-inside))  -- cuts-ok-requires
-    (λ c. search (needs, cuts-denied))  -- returns
     (λ c κs. search (needs, cuts-inside))  -- sum-of-requires
-    (λ c. search (needs, cuts-answered)))  -- returns-2
+    (λ c. search (needs, cuts-answered)))  -- returns

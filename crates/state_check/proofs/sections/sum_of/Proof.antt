@@ -4,13 +4,14 @@ use native.Mathlib.Omega.{arith}
 use lib.ListN.{length}
 use Rattle.base.specs.Bytes.{numbersAt}
 use Rattle.base.specs.Lists.{sum}
+use Rattle.format.specs.Limits.{mostNumber, mostLength}
 use Rattle.state_check.proofs.SectionCode.{sum-start, sum-again, sum-end}
 use borrow.Author.Needs.{needs}
 use Rattle.state_check.proofs.sections.sum_of.Statement.{statement}
 use Rattle.state_check.proofs.sections.sum_of.Tie as tie
 
 abbrev Inv-loop : tie.InvT-loop
-Inv-loop b at n total₀ here₀ left₀ total here left = (here + 2 * left ≤ length b) × (total + 65535 * left ≤ 524280) × (total + sum (numbersAt 2 left b here) ≡ sum (numbersAt 2 n b at))
+Inv-loop b at n total₀ here₀ left₀ total here left = (here + 2 * left ≤ length b) × (total + mostNumber * left ≤ mostLength) × (total + sum (numbersAt 2 left b here) ≡ sum (numbersAt 2 n b at))
 
 abbrev μ-loop : tie.MeasureT-loop
 μ-loop b at n total₀ here₀ left₀ total here left = left

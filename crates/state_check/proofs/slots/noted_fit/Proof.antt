@@ -11,14 +11,18 @@ use Rattle.state_check.proofs.slots.noted_fit.Statement.{statement}
 use Rattle.state_check.proofs.slots.noted_fit.Tie as tie
 
 abbrev Inv-loop : tie.InvT-loop
-Inv-loop c b at here₀ left₀ here left = (here + 4 * left ≤ length b) × (notedFit (contextOf c) b at ≡ everyAt (notedAt (contextOf c) b) 4 left here)
+Inv-loop b at here₀ left₀ here left = (here + 4 * left ≤ length b) × (everyAt (notedAt b) 4 left₀ here₀ ≡ everyAt (notedAt b) 4 left here)
 
 abbrev μ-loop : tie.MeasureT-loop
-μ-loop c b at here₀ left₀ here left = left
+μ-loop b at here₀ left₀ here left = left
 
-loop-holds : tie.Need-loop-holds Inv-loop μ-loop
+returns : tie.Need-returns Inv-loop μ-loop
 unfolding notedFit contextOf
-loop-holds c = search needs
+returns c = search (needs, every-denied)
+
+returns-2 : tie.Need-returns-2 Inv-loop μ-loop
+unfolding notedFit contextOf
+returns-2 c = search (needs, every-end)
 
 pub noted-fit-spec : {M : Type 1} → statement M
 noted-fit-spec =
@@ -27,11 +31,11 @@ noted-fit-spec =
     Inv-loop
     μ-loop
     (λ c. omega arith)  -- cast-left
-    loop-holds
+    (λ c. search needs)  -- loop-holds
     (λ c κs. search needs)  -- noted-at-requires
-    (λ c. search (needs, every-denied))  -- returns
+    returns
     (λ c. omega arith)  -- add-here
     (λ c. omega arith)  -- sub-left
     (λ c. omega arith)  -- loop-less
     (λ c. search (needs, every-again))  -- loop-again
-    (λ c. search (needs, every-end)))  -- returns-2
+    returns-2)

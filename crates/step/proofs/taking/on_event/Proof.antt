@@ -1,4 +1,5 @@
-use Rattle.step.proofs.TakingLaws.{arm-action, arm-retransmission, arm-state, arm-cpc, arm-regular, arm-transitional, arm-request, arm-recovery, action-done, retransmission-done, state-done, cpc-done, regular-done, transitional-done, request-done, recovered-done}
+use Rattle.step.proofs.TakingLaws.{arm-action, arm-retransmission, arm-state, arm-cpc, arm-regular, arm-transitional, arm-request, arm-recovery}
+use Rattle.step.proofs.KindLaws.{action-done, retransmission-done, state-done, cpc-done, regular-done, transitional-done, request-done, recovered-done}
 use borrow.Author.Needs.{needs}
 use Rattle.step.proofs.taking.on_event.Statement.{statement}
 use Rattle.step.proofs.taking.on_event.Tie as tie
@@ -8,7 +9,7 @@ on-event-spec =
     tie.close
     (tie.spec
     (λ c. search needs)  -- enum-known-v
-    (λ c κs. search (needs, arm-action))  -- act-requires
+    (λ c κs. search (needs, arm-action))  -- delivered-requires
     (λ c. search needs)  -- enum-known-v-2
     (λ c κs. search (needs, arm-retransmission))  -- resent-requires
     (λ c. search needs)  -- enum-known-v-3

@@ -1,14 +1,12 @@
-use Rattle.record.specs.Values.{actionOf}
-use Rattle.writer.specs.Blocks.{headBytes}
-use Rattle.format.specs.Write.{payloadBytes, actionBytes}
-use Rattle.writer.proofs.PartLaws.{blocks}
+use Rattle.format.specs.Write.{payloadBytes}
+use Rattle.writer.proofs.PartLaws.{body-blocks}
 use borrow.Author.Needs.{needs}
 use Rattle.writer.proofs.parts.put_body.Statement.{statement}
 use Rattle.writer.proofs.parts.put_body.Tie as tie
 
 returns : tie.Need-returns
-unfolding actionBytes payloadBytes headBytes actionOf
-returns c = search (needs, blocks)
+unfolding payloadBytes
+returns c = search (needs, body-blocks)
 
 pub put-body-spec : {M : Type 1} → statement M
 put-body-spec =

@@ -1,12 +1,7 @@
-use Rattle.writer.specs.Blocks.{headBytes}
-use Rattle.writer.proofs.PartLaws.{blocks}
+use Rattle.writer.proofs.PartLaws.{head-blocks}
 use borrow.Author.Needs.{needs}
 use Rattle.writer.proofs.parts.put_head.Statement.{statement}
 use Rattle.writer.proofs.parts.put_head.Tie as tie
-
-returns : tie.Need-returns
-unfolding headBytes
-returns c = search (needs, blocks)
 
 pub put-head-spec : {M : Type 1} → statement M
 put-head-spec =
@@ -15,5 +10,7 @@ put-head-spec =
     (λ c κs. search needs)  -- put-id-requires
     (λ c. search needs)  -- add-put32
     (λ c κs. search needs)  -- put32-requires
+    (λ c. search needs)  -- add-put32-2
+    (λ c κs. search needs)  -- put32-requires-2
     (λ c. search needs)  -- same-length
-    returns)
+    (λ c. search (needs, head-blocks)))  -- returns
