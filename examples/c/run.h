@@ -16,14 +16,16 @@ typedef struct {
     size_t length;
 } buffer;
 
-static inline buffer lent(size_t length) {
-    buffer b = {malloc(length > 0 ? length : 1), length};
-    if (b.bytes == NULL) {
+static inline void *grown(void *old, size_t size) {
+    void *p = realloc(old, size > 0 ? size : 1);
+    if (p == NULL) {
         fprintf(stderr, "no memory\n");
         exit(1);
     }
-    return b;
+    return p;
 }
+
+static inline buffer lent(size_t length) { return (buffer){grown(NULL, length), length}; }
 
 static inline buffer copied(buffer b) {
     buffer copy = lent(b.length);

@@ -7,9 +7,9 @@
 
 enum { DISTRICT = 400000 }; /* millimetres from side to side */
 
-crews crews_come(uint64_t seed) {
+crews crews_come(uint64_t seed, int fresh) {
     static const uint32_t names[] = {6, 40, 600};
-    crews c = {.draws = {~seed}};
+    crews c = {.draws = {~seed}, .fresh = fresh};
     c.names = names[below(&c.draws, 3)];
     c.far = one_in(&c.draws, 4);
     return c;
@@ -92,4 +92,21 @@ static uint8_t no_operation(crews *c, uint8_t *payload) {
     }
 }
 
-uint8_t crew_asks(crews *c, uint8_t *payload) { return one_in(&c->draws, 8) ? no_operation(c, payload) : operation(c, payload); }
+/* A set of a name that no other request has. */
+static uint8_t fresh_peg(crews *c, uint8_t *payload) {
+    char text[GUZBYTOR_MOST_NAME + 1];
+    payload[0] = GUZBYTOR_SET;
+    payload[1] = (uint8_t)snprintf(text, sizeof text, "P%u", ++c->asked);
+    memcpy(payload + 2, text, payload[1]);
+    size_t length = 2 + (size_t)payload[1];
+    length += put_coordinate(c, payload + length);
+    length += put_coordinate(c, payload + length);
+    return (uint8_t)length;
+}
+
+uint8_t crew_asks(crews *c, uint8_t *payload) {
+    if (c->fresh) {
+        return fresh_peg(c, payload);
+    }
+    return one_in(&c->draws, 8) ? no_operation(c, payload) : operation(c, payload);
+}

@@ -11,9 +11,11 @@ typedef struct {
     draws draws;
     uint32_t names; /* of pegs that they speak of: the fewer, the more is refused */
     int far;        /* coordinates of the whole range, and not of one district */
+    int fresh;      /* every request sets a peg of a name of its own .. */
+    uint32_t asked; /* .. and so many have */
 } crews;
 
-crews crews_come(uint64_t seed);
+crews crews_come(uint64_t seed, int fresh);
 
 /* A payload, of GUZBYTOR_MOST_PAYLOAD bytes at most; its length. */
 uint8_t crew_asks(crews *c, uint8_t *payload);

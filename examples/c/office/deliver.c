@@ -1,4 +1,5 @@
-/* Deliveries: one by one, or several in a burst. */
+/* What the group layer has for a depot: configurations, and records, one by one or several in a burst. */
+#include "events.h"
 #include "office.h"
 
 #include <string.h>
@@ -71,7 +72,8 @@ static void burst(office *o, uint8_t k, size_t most) {
     free(copy.bytes);
 }
 
-void depot_delivers(office *o, uint8_t k, size_t most) {
+/* The record that waits for a depot comes, or up to `most` of them in a burst. */
+static void record_comes(office *o, uint8_t k, size_t most) {
     const record *r = group_record(&o->group, k, 0);
     if (r == NULL) {
         return;
@@ -85,5 +87,47 @@ void depot_delivers(office *o, uint8_t k, size_t most) {
     uint32_t number = depot_takes(o, &e);
     if (number != 0) {
         wrong(o, "depot %u refuses a record with %u", k, number);
+    }
+}
+
+static int configuration_comes(office *o, uint8_t k) {
+    uint8_t b[REGULAR_SIZE];
+    event e = {.server = k, .bytes = b};
+    const transitional *t = group_parts(&o->group, k);
+    const configuration *c = t == NULL ? group_joins(&o->group, k) : NULL;
+    if (t != NULL) {
+        e.length = write_transitional(b, t->set);
+        e.name = t->name;
+    } else if (c != NULL) {
+        e.length = write_regular(b, c->id, c->set);
+    } else {
+        return 0;
+    }
+    uint32_t number = depot_takes(o, &e);
+    if (number != 0) {
+        wrong(o, "depot %u refuses a configuration with %u", k, number);
+    }
+    return 1;
+}
+
+int something_comes(office *o, uint8_t k) {
+    if (!o->depots[k].up) {
+        return 0;
+    }
+    if (group_record(&o->group, k, 0) != NULL) {
+        record_comes(o, k, one_in(&o->draws, 2) ? 1 : 1 + below(&o->draws, 12));
+        return 1;
+    }
+    return configuration_comes(o, k);
+}
+
+void parts_alone(office *o, uint8_t k) {
+    uint8_t b[TRANSITIONAL_SIZE];
+    if (o->group.members[k].in == NULL && !o->group.members[k].parted) {
+        size_t length = write_transitional(b, (uint8_t)(only(k) | below(&o->draws, 1u << o->servers)));
+        event e = {.server = k, .bytes = b, .length = length, .name = group_parts_alone(&o->group, k)};
+        if (depot_takes(o, &e) != 0) {
+            wrong(o, "depot %u refuses a transitional configuration", k);
+        }
     }
 }

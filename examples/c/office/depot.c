@@ -1,5 +1,4 @@
 #include "events.h"
-#include "guzbytor_layout.h"
 #include "office.h"
 
 #include <string.h>
@@ -34,7 +33,9 @@ void depot_start(office *o, uint8_t k) {
         guzbytor_register_start(d->pegs.bytes, d->pegs.length) != 0) {
         wrong(o, "depot %u cannot start", k);
     }
-    store_image(&o->store, k, d->image);
+    d->history = history_start();
+    d->payloads = grown(NULL, MOST_REQUESTS * sizeof *d->payloads);
+    store_all(&o->store, k, d->image, &d->history);
     d->up = 1;
 }
 
@@ -46,53 +47,14 @@ guzbytor_summary_answer depot_summary(const office *o, uint8_t k) {
     return a;
 }
 
-/* ---- requests */
-
-/* A request that was answered 0 must be within the quota, and stored. It is kept, to be compared in the end. */
-static void note_request(office *o, const event *e, guzbytor_register_step_answer a) {
-    depot *d = &o->depots[e->server];
-    if (a.number != 0 || e->bytes[GUZBYTOR_AT_KIND] != GUZBYTOR_KIND_REQUEST) {
-        return;
-    }
-    if (d->asked == o->quota || a.store != 1) {
-        wrong(o, "depot %u: a request after %u of %u is answered 0, with the store word %u", e->server, d->asked, o->quota, a.store);
-    }
-    memcpy(d->payloads[d->asked++], e->bytes + GUZBYTOR_AT_BODY, e->length - GUZBYTOR_AT_BODY);
-}
-
-/* Own actions are put out in their order, one time only. */
-static void note_put(office *o, uint8_t k, const uint8_t *put) {
-    if (put[GUZBYTOR_AT_KIND] != GUZBYTOR_KIND_ACTION) {
-        return;
-    }
-    const uint8_t *action = put + GUZBYTOR_AT_BODY;
-    uint32_t index = (uint32_t)action[ACTION_INDEX] << 8 | action[ACTION_INDEX + 1];
-    if (action[ACTION_CREATOR] != k || index <= o->depots[k].sent || index > o->depots[k].asked) {
-        wrong(o, "depot %u sends action %u/%u after its own %u of %u", k, action[ACTION_CREATOR], index, o->depots[k].sent, o->depots[k].asked);
-    }
-    o->depots[k].sent = index;
-}
-
-/* In memory, and in the store that a recovery is given: every request that was answered 0 is numbered. Those that have not come back are
-   on the own list, and of these the ones that were not put out are unsent; where requests are sent there are none. */
-static void test_requests(const office *o, uint8_t k, guzbytor_summary_answer a) {
-    const depot *d = &o->depots[k];
-    uint32_t back = a.numbered - a.on_own_list, gone = back > d->sent ? back : d->sent;
-    int sends = a.state == GUZBYTOR_REG_PRIM || (a.state == GUZBYTOR_NON_PRIM && a.configured && !a.transitional);
-    if (a.numbered != d->asked) {
-        wrong(o, "depot %u: %u requests were answered 0, and %u are numbered", k, d->asked, a.numbered);
-    }
-    if (a.unsent != a.numbered - gone || (sends && a.unsent != 0)) {
-        wrong(o, "depot %u: in state %u, %u of %u are unsent, with %u on the own list and %u put out", k, a.state, a.unsent, a.numbered, a.on_own_list, d->sent);
-    }
-}
-
 /* ---- crashes */
 
-/* The running state and register are gone. */
+/* The running state and register are gone, and what was read and not stored. */
 static void lose_memory(office *o, uint8_t k) {
     depot *d = &o->depots[k];
     d->up = 0;
+    free(d->history.bytes);
+    d->history = history_start();
     memset(d->image.bytes, WIPED, d->image.length);
     group_falls(&o->group, k, one_in(&o->draws, 2));
 }
@@ -109,13 +71,13 @@ void depot_recovers(office *o, uint8_t k) {
     if (d->up) {
         lose_memory(o, k);
     }
-    if (!store_load(&o->store, k, d->image)) {
+    if (!store_load(&o->store, k, d->image, &d->history)) {
         wrong(o, "depot %u cannot recover", k);
     }
     guzbytor_summary_answer a = depot_summary(o, k);
     test_requests(o, k, a);
     d->green = a.green;
-    d->refused = register_follows(o, k, d->image);
+    d->refused = register_follows(o, k, d->image, &d->history);
     d->up = 1;
     uint32_t number = depot_takes(o, &(event){.server = k, .bytes = bytes, .length = write_recovery(bytes)});
     if (number != 0) {
@@ -123,10 +85,16 @@ void depot_recovers(office *o, uint8_t k) {
     }
 }
 
-/* ---- one event: step, store state and register where the word says, then send, in order */
+/* ---- one event: step, read what turned green, store all where the word says, then send, in order */
+
+static void stores(office *o, uint8_t k) {
+    depot *d = &o->depots[k];
+    store_all(&o->store, k, d->image, &d->history);
+    d->stored = d->history.count;
+}
 
 void depot_stores(office *o, uint8_t k) {
-    store_image(&o->store, k, o->depots[k].image);
+    stores(o, k);
     journal_store(&o->journal, k);
 }
 
@@ -155,14 +123,14 @@ static void count_greens(office *o, uint8_t k, guzbytor_register_step_answer a, 
 
 static void finish(office *o, const event *e, guzbytor_register_step_answer a, fate f) {
     depot *d = &o->depots[e->server];
-    guzbytor_summary_answer left = depot_summary(o, e->server);
+    guzbytor_summary_answer left = depot_reads(o, e->server);
     count_greens(o, e->server, a, left.green);
-    note_request(o, e, a);
+    note_request(o, e, a, left.green);
     if (a.number == 0) {
         note_came(o, e);
     }
     if (a.store == 1) {
-        store_image(&o->store, e->server, d->image);
+        stores(o, e->server);
     }
     uint32_t put = send_records(o, e->server, a.sent, f.most);
     test_requests(o, e->server, left);
@@ -177,10 +145,11 @@ static void finish(office *o, const event *e, guzbytor_register_step_answer a, f
 }
 
 /* A crash in the middle of the store: the event has not come, and what the daemon had before it is lost too. */
-static void cut_store(office *o, uint8_t k, buffer before) {
+static void cut_store(office *o, uint8_t k) {
     depot *d = &o->depots[k];
-    store_cut(&o->store, k, d->image, below(&o->draws, (uint32_t)d->image.length + 1));
-    memcpy(d->image.bytes, before.bytes, before.length);
+    depot_reads(o, k);
+    size_t length = d->history.length - d->history.stored + d->image.length;
+    store_cut(&o->store, k, d->image, &d->history, below(&o->draws, (uint32_t)length + 1));
     depot_crashes(o, k);
 }
 
@@ -193,14 +162,12 @@ void depot_finishes(office *o, const event *e, guzbytor_register_step_answer a) 
 uint32_t depot_takes(office *o, const event *e) {
     depot *d = &o->depots[e->server];
     fate f = drawn_fate(o);
-    buffer before = f.cuts_store ? copied(d->image) : (buffer){NULL, 0};
     guzbytor_register_step_answer a = guzbytor_register_step(d->state.bytes, d->state.length, d->pegs.bytes, d->pegs.length, e->bytes, e->length,
                                                              d->out.bytes, d->out.length);
     if (f.cuts_store && a.store == 1) {
-        cut_store(o, e->server, before);
+        cut_store(o, e->server);
     } else {
         finish(o, e, a, f);
     }
-    free(before.bytes);
     return a.number;
 }

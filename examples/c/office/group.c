@@ -2,15 +2,6 @@
 
 #include <string.h>
 
-static void *grown(void *old, size_t size) {
-    void *p = realloc(old, size);
-    if (p == NULL) {
-        fprintf(stderr, "no memory\n");
-        exit(1);
-    }
-    return p;
-}
-
 /* Ids differ, and use all of their 32 bits: an odd factor makes a permutation. */
 uint32_t group_new_id(group *g) { return g->count++ * 2654435761u + g->salt; }
 

@@ -32,7 +32,7 @@ static size_t outsiders_action(office *o, uint8_t k, uint8_t *b) {
 /* An own action with an index that this depot has not numbered. */
 static size_t unnumbered_action(office *o, uint8_t k, uint8_t *b) {
     uint32_t index = depot_summary(o, k).numbered + 1;
-    if (index > o->quota) {
+    if (index > MOST_REQUESTS) {
         return 0;
     }
     memset(b, 0, GUZBYTOR_AT_BODY + ACTION_SIZE);
@@ -48,7 +48,7 @@ static size_t unreadable(office *o, uint8_t k, uint8_t *b) {
     switch (below(&o->draws, 4)) {
     case 0: /* a bad version */
         length = write_request(b, payload, 1);
-        b[GUZBYTOR_AT_VERSION] = (uint8_t)(GUZBYTOR_VERSION + 1 + below(&o->draws, 200));
+        b[GUZBYTOR_AT_VERSION] = (uint8_t)(GUZBYTOR_VERSION + 1 + below(&o->draws, 255));
         return length;
     case 1: /* a bad kind */
         return write_frame(b, (uint8_t)(GUZBYTOR_KIND_SETUP + below(&o->draws, 200)), 0);
@@ -84,10 +84,22 @@ static void refuses_buffers(office *o, uint8_t k) {
     free(out.bytes);
 }
 
+/* What is white is gone from the state, and what is not green is not there. */
+static void refuses_reading(office *o, uint8_t k) {
+    uint8_t part[GUZBYTOR_MOST_ENTRY] = {0}, before[GUZBYTOR_MOST_ENTRY] = {0};
+    buffer state = o->depots[k].state;
+    guzbytor_summary_answer a = depot_summary(o, k);
+    uint32_t from = a.white > 0 && one_in(&o->draws, 2) ? below(&o->draws, a.white) : a.green + 1 + below(&o->draws, 9);
+    guzbytor_green_entries_answer r = guzbytor_green_entries(state.bytes, state.length, from, part, sizeof part);
+    if (r.number != GUZBYTOR_OUT_OF_RANGE || r.green + r.white + r.entries + r.bytes != 0 || memcmp(part, before, sizeof part) != 0) {
+        wrong(o, "depot %u: reading behind %u, with %u white and %u green, is answered %u", k, from, a.white, a.green, r.number);
+    }
+}
+
 void depot_refuses(office *o, uint8_t k) {
     uint8_t b[MOST_REQUEST];
     size_t length = 0;
-    switch (below(&o->draws, 5)) {
+    switch (below(&o->draws, 6)) {
     case 0:
         length = second_configuration(o, k, b);
         break;
@@ -99,6 +111,9 @@ void depot_refuses(office *o, uint8_t k) {
         break;
     case 3:
         refuses_buffers(o, k);
+        break;
+    case 4:
+        refuses_reading(o, k);
         break;
     default:
         length = unreadable(o, k, b);

@@ -1,8 +1,11 @@
 /* An office to try the engine in: depots in one process over a group layer in memory (group.h), by a seed. Lines drop and come back, depots crash and
-   recover, crews ask for pegs to be set, moved and retired (crews.c); in the end all lines are up, and all depots must have the same green list, of every
-   request that was answered 0, whatever crashed behind it, and the register that it makes (greens.c). A daemon's duties are in depot.c.
-   usage: office SEED [-n DEPOTS] [-q QUOTA] [-m MOVES] [-d FOLDER] [-u] [-r RUN] [-l LINES] [-j JOURNAL] [-p PEGS | -w]
+   recover, crews ask for pegs to be set, moved and retired (crews.c); in the end all lines are up, and all depots must have the same green list, of
+   every request that was answered 0, whatever crashed behind it, and the register that it makes (greens.c). A daemon's duties are in depot.c.
+   usage: office SEED [-n DEPOTS] [-q QUOTA] [-m MOVES] [-k REQUESTS] [-f] [-d FOLDER] [-u]
+                 [-r RUN] [-l LINES] [-j JOURNAL] [-p PEGS | -w]
           office -t [-n DEPOTS] [-q QUOTA] [-d FOLDER]
+   -k  behind the moves each depot that has crews takes so many requests more, the first and the last of them with all in touch
+   -f  every request sets a peg that no other one sets
    -d  the folder of the stored images       -u  stores do not wait for the disk
    -r  the run as input of `replay` (to 4 depots and a quota of 16; no further stores are drawn)
    -l  the lines that `replay` prints for it  -j  the journal of the run for scripts/audit.py
@@ -26,6 +29,7 @@ typedef struct {
     const char *journal;
     const char *pegs;
     uint32_t moves;
+    uint32_t more;
     int waits;
     int tests;
 } options;
@@ -41,7 +45,8 @@ void wrong(const office *o, const char *format, ...) {
 }
 
 static void usage(const char *why) {
-    fprintf(stderr, "%s\nusage: office SEED [-n DEPOTS] [-q QUOTA] [-m MOVES] [-d FOLDER] [-u] [-r RUN] [-l LINES] [-j JOURNAL] [-p PEGS | -w]\n", why);
+    fprintf(stderr, "%s\nusage: office SEED [-n DEPOTS] [-q QUOTA] [-m MOVES] [-k REQUESTS] [-f] [-d FOLDER] [-u]\n", why);
+    fprintf(stderr, "              [-r RUN] [-l LINES] [-j JOURNAL] [-p PEGS | -w]\n");
     fprintf(stderr, "       office -t [-n DEPOTS] [-q QUOTA] [-d FOLDER]\n");
     exit(1);
 }
@@ -66,6 +71,9 @@ static void read_option(char letter, const char *word, office *o, options *p) {
         break;
     case 'm':
         p->moves = (uint32_t)number(word);
+        break;
+    case 'k':
+        p->more = (uint32_t)number(word);
         break;
     case 'd':
         o->store.folder = word;
@@ -93,6 +101,8 @@ static options read_options(int count, char **words, office *o) {
         const char *word = words[i];
         if (strcmp(word, "-u") == 0) {
             o->store.synced = 0;
+        } else if (strcmp(word, "-f") == 0) {
+            o->crews.fresh = 1;
         } else if (strcmp(word, "-w") == 0) {
             p.waits = 1;
         } else if (strcmp(word, "-t") == 0) {
@@ -129,15 +139,16 @@ static FILE *opened(const char *name) {
 /* Whether every image in the folder is one that a daemon would start from. */
 static int test_images(const office *o) {
     buffer image = new_image(o->servers, o->quota);
+    history h = history_start();
     int bad = 0;
     for (uint8_t k = 0; k < o->servers; k++) {
-        if (store_load(&o->store, k, image)) {
-            printf("depot %u: %u green, %zu pegs\n", k, guzbytor_summary(state_of(image).bytes, state_of(image).length).green,
-                   peg_count(pegs_of(image).bytes));
+        if (store_load(&o->store, k, image, &h)) {
+            printf("depot %u: %u green, %u of them white, %zu pegs\n", k, h.count, h.white, peg_count(pegs_of(image).bytes));
         } else {
             bad = 1;
         }
     }
+    free(h.bytes);
     free(image.bytes);
     return bad;
 }
@@ -152,21 +163,27 @@ static void write_pegs(const office *o, const char *name) {
 
 /* How the run ended. */
 static void report(const office *o, const options *p) {
-    uint32_t waiting = p->waits ? depots_wait(o) : 0;
+    const depot *d = &o->depots[0];
+    uint32_t waiting = p->waits ? depots_wait(o) : 0, past = 0;
     printf("seed %llu: %zu events, %zu crashes, ", (unsigned long long)o->seed, o->journal.events, o->crashes);
     if (p->waits) {
         printf("stopped, %u of %u depots in a meeting\n", waiting, o->servers);
-    } else {
-        printf("%u green, %u refused, %zu pegs, equal\n", o->depots[0].green, o->depots[0].refused, peg_count(o->depots[0].pegs.bytes));
+        return;
     }
+    for (uint8_t k = 0; k < o->servers; k++) {
+        past += o->depots[k].asked > o->quota;
+    }
+    printf("%u green, %u white, %u refused, %zu pegs, %u depots past the quota, %zu requests answered 3, equal\n", d->green, d->history.white,
+           d->refused, peg_count(d->pegs.bytes), past, o->quota_used);
 }
 
 static void run(office *o, const options *p) {
     o->seed = number(p->seed);
     o->draws.state = o->seed;
-    o->crews = crews_come(o->seed);
+    o->crews = crews_come(o->seed, o->crews.fresh);
     o->stores = p->run == NULL;
     o->group = (group){.servers = o->servers, .salt = (uint32_t)drawn(&o->draws)};
+    o->careful = one_in(&o->draws, 2);
     o->journal = (journal){.run = opened(p->run), .lines = opened(p->lines), .journal = opened(p->journal)};
     journal_begin(&o->journal, o->servers, o->quota);
     store_open(&o->store);
@@ -179,6 +196,10 @@ static void run(office *o, const options *p) {
     } else {
         trial_ends(o);
         depots_equal(o);
+        if (p->more > 0) {
+            trial_goes_on(o, p->more);
+            depots_equal(o);
+        }
     }
     if (!journal_end(&o->journal)) {
         wrong(o, "a file is not whole");
@@ -199,6 +220,8 @@ int main(int count, char **words) {
     group_end(&o.group);
     for (uint8_t k = 0; k < o.servers; k++) {
         free(o.depots[k].image.bytes);
+        free(o.depots[k].history.bytes);
+        free(o.depots[k].payloads);
         free(o.depots[k].out.bytes);
     }
     return 0;

@@ -1,8 +1,9 @@
-/* A depot's stored image, state and register as one: a file of its own in one folder, a checksum in front. */
+/* What a depot stores: its image, state and register as one, and its history. The history is a file that grows; the image is a file that is replaced,
+   and says how much of the history goes with it. What the history's file has behind that is of a store that was cut: the next one writes over it. */
 #ifndef STORE_H
 #define STORE_H
 
-#include "../run.h"
+#include "history.h"
 
 typedef struct {
     const char *folder;
@@ -21,13 +22,14 @@ buffer pegs_of(buffer image);
 /* Makes the folder, if it is not there. */
 void store_open(const store *s);
 
-/* Stores an image: returns once it is on the disk. The file that was there is whole until then. */
-void store_image(const store *s, uint8_t me, buffer image);
+/* Stores both: returns once they are on the disk. What was stored before is whole until then. */
+void store_all(const store *s, uint8_t me, buffer image, history *h);
 
-/* What a power cut in the middle of storing leaves: the file beside, of `length` bytes; the stored image is as before. */
-void store_cut(const store *s, uint8_t me, buffer image, size_t length);
+/* What a power cut in the middle of storing leaves: of what is to be written `length` bytes; what was stored before is whole. */
+void store_cut(const store *s, uint8_t me, buffer image, const history *h, size_t length);
 
-/* Reads the image stored last. 0, and a message, where it is not whole, holds no well-formed state or register, or is of other depots. */
-int store_load(const store *s, uint8_t me, buffer image);
+/* Reads both as they were stored last. 0, and a message, where they are not whole, hold no well-formed state or register, or are of other depots; the
+   history is empty then. */
+int store_load(const store *s, uint8_t me, buffer image, history *h);
 
 #endif

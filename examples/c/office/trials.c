@@ -9,6 +9,7 @@ typedef struct {
     uint32_t requests;  /* at most so many with each move */
     uint32_t at_once;   /* records received one after another, at most */
     uint32_t astray_in; /* a record comes out of its order once in so many; 0: never */
+    uint8_t idle;       /* these depots have no crews */
 } course;
 
 /* The depots that are up and that k has a line to, itself too. */
@@ -20,63 +21,6 @@ static uint8_t heard_by(const office *o, const course *c, uint8_t k) {
         }
     }
     return set;
-}
-
-/* ---- what comes to a depot */
-
-static int configuration_comes(office *o, uint8_t k) {
-    uint8_t b[REGULAR_SIZE];
-    event e = {.server = k, .bytes = b};
-    const transitional *t = group_parts(&o->group, k);
-    const configuration *c = t == NULL ? group_joins(&o->group, k) : NULL;
-    if (t != NULL) {
-        e.length = write_transitional(b, t->set);
-        e.name = t->name;
-    } else if (c != NULL) {
-        e.length = write_regular(b, c->id, c->set);
-    } else {
-        return 0;
-    }
-    uint32_t number = depot_takes(o, &e);
-    if (number != 0) {
-        wrong(o, "depot %u refuses a configuration with %u", k, number);
-    }
-    return 1;
-}
-
-/* What the group layer has for a depot next, if anything. */
-static int something_comes(office *o, uint8_t k) {
-    if (!o->depots[k].up) {
-        return 0;
-    }
-    if (group_record(&o->group, k, 0) != NULL) {
-        depot_delivers(o, k, one_in(&o->draws, 2) ? 1 : 1 + below(&o->draws, 12));
-        return 1;
-    }
-    return configuration_comes(o, k);
-}
-
-/* It is taken in every state, until the quota is used. */
-static void request_comes(office *o, uint8_t k) {
-    uint8_t b[MOST_REQUEST], payload[GUZBYTOR_MOST_PAYLOAD];
-    uint8_t length = crew_asks(&o->crews, payload);
-    uint32_t due = o->depots[k].asked < o->quota ? GUZBYTOR_TAKEN : GUZBYTOR_QUOTA_USED;
-    uint32_t number = depot_takes(o, &(event){.server = k, .bytes = b, .length = write_request(b, payload, length)});
-    if (number != due) {
-        wrong(o, "depot %u answers a request with %u, and not with %u", k, number, due);
-    }
-}
-
-/* A transitional configuration before any regular one, which nothing forbids. */
-static void parts_alone(office *o, uint8_t k) {
-    uint8_t b[TRANSITIONAL_SIZE];
-    if (o->group.members[k].in == NULL && !o->group.members[k].parted) {
-        size_t length = write_transitional(b, (uint8_t)(only(k) | below(&o->draws, 1u << o->servers)));
-        event e = {.server = k, .bytes = b, .length = length, .name = group_parts_alone(&o->group, k)};
-        if (depot_takes(o, &e) != 0) {
-            wrong(o, "depot %u refuses a transitional configuration", k);
-        }
-    }
 }
 
 /* ---- lines and the group layer */
@@ -200,6 +144,21 @@ static int gets_through(office *o, const course *c) {
     return moved;
 }
 
+/* Crews come to depots here and there, to a full one now and then; a daemon without crews tells its green length. */
+static void crews_ask(office *o, const course *c) {
+    for (uint32_t left = below(&o->draws, c->requests + 1); left > 0; left--) {
+        uint8_t k = (uint8_t)below(&o->draws, o->servers);
+        if (!o->depots[k].up) {
+            continue;
+        }
+        if (has(c->idle, k)) {
+            depot_tells(o, k);
+        } else if (crew_may_come(o, k) || (free_places(o, k) == 0 && one_in(&o->draws, 16))) {
+            crew_comes(o, k);
+        }
+    }
+}
+
 void trial(office *o, uint32_t moves, int stops) {
     static const uint32_t paces[] = {3, 12, 40, 120}, crashes[] = {0, 40, 150, 600}, at_once[] = {1, 4, 16}, astray[] = {0, 1, 4};
     course c = {
@@ -208,17 +167,12 @@ void trial(office *o, uint32_t moves, int stops) {
         .requests = 1 + below(&o->draws, 4),
         .at_once = at_once[below(&o->draws, 3)],
         .astray_in = astray[below(&o->draws, 3)],
+        .idle = (uint8_t)(one_in(&o->draws, 4) ? drawn(&o->draws) : 0),
     };
     o->crash_in = crashes[below(&o->draws, 4)];
     for (uint32_t i = 0; i < moves; i++) {
-        uint8_t k = (uint8_t)below(&o->draws, o->servers);
-        befalls(o, &c, k);
-        for (uint32_t left = below(&o->draws, c.requests + 1); left > 0; left--) {
-            k = (uint8_t)below(&o->draws, o->servers);
-            if (o->depots[k].up && (o->depots[k].asked < o->quota || one_in(&o->draws, 16))) {
-                request_comes(o, k);
-            }
-        }
+        befalls(o, &c, (uint8_t)below(&o->draws, o->servers));
+        crews_ask(o, &c);
         some_time_passes(o, &c);
         if (one_in(&o->draws, c.change_in)) {
             change_lines(o, &c);
@@ -230,6 +184,22 @@ void trial(office *o, uint32_t moves, int stops) {
     }
 }
 
+/* On these lines, until nothing moves. */
+static int settles(office *o, const course *c) {
+    int any = 0;
+    for (int moved = 1; moved;) {
+        moved = 0;
+        for (uint8_t k = 0; k < o->servers; k++) {
+            moved = notices(o, c, k) || moved;
+        }
+        moved = gets_through(o, c) || moved;
+        any = any || moved;
+    }
+    return any;
+}
+
+/* A mark can be left though all depots are there: where one of its set has another mark, of the same index and attempt. The later of two such marks
+   is cleared first, and the next configuration clears the other. */
 void trial_ends(office *o) {
     course c = {.lines = {0}};
     for (uint8_t k = 0; k < o->servers; k++) {
@@ -237,8 +207,82 @@ void trial_ends(office *o) {
             depot_recovers(o, k);
         }
     }
-    for (int moved = 1; moved;) {
-        moved = notices(o, &c, 0);
-        moved = gets_through(o, &c) || moved;
+    settles(o, &c);
+    for (uint8_t more = 1; more < o->servers && depot_summary(o, 0).state == GUZBYTOR_NON_PRIM; more++) {
+        group_form(&o->group, heard_by(o, &c, 0), &o->draws);
+        settles(o, &c);
     }
+}
+
+/* ---- going on */
+
+/* Crews come as their daemon lets them, until `left` of them have been taken, and to a full depot in vain; whether anything was taken. */
+static int some_are_taken(office *o, uint8_t k, uint32_t *left) {
+    uint32_t before = *left;
+    for (uint32_t most = 1 + below(&o->draws, o->quota); most > 0 && *left > 0 && crew_may_come(o, k); most--) {
+        *left -= crew_comes(o, k) == GUZBYTOR_TAKEN;
+    }
+    if (*left > 0 && free_places(o, k) == 0) {
+        crew_comes(o, k);
+        *left = o->depots[k].asked == MOST_REQUESTS ? 0 : *left; /* no place comes free any more */
+    }
+    return *left < before || depot_tells(o, k);
+}
+
+/* On these lines, until all have been taken or nothing moves; whether all have. */
+static int all_are_taken(office *o, const course *c, uint32_t *left) {
+    for (int moved = 1; moved;) {
+        uint32_t waiting = 0;
+        for (uint8_t k = 0; k < o->servers; k++) {
+            waiting += left[k];
+        }
+        moved = 0;
+        for (uint8_t k = 0; k < o->servers && waiting > 0; k++) {
+            moved = some_are_taken(o, k, &left[k]) || moved;
+        }
+        moved = settles(o, c) || moved;
+        if (waiting == 0) {
+            return 1;
+        }
+    }
+    return 0;
+}
+
+/* With all in touch. Careful daemons never come to wait for each other; others do, until a configuration is formed: then all have told all. */
+static void all_in_touch(office *o, uint32_t *left) {
+    course c = {.lines = {0}};
+    while (!all_are_taken(o, &c, left)) {
+        if (o->careful && o->quota > 1) {
+            wrong(o, "all lines are up, and crews wait for places");
+        }
+        group_form(&o->group, heard_by(o, &c, 0), &o->draws);
+        settles(o, &c);
+        for (uint8_t k = 0; k < o->servers; k++) {
+            guzbytor_summary_answer a = depot_summary(o, k);
+            if (a.white != a.green) {
+                wrong(o, "depot %u: behind a meeting of all, %u of %u are white", k, a.white, a.green);
+            }
+        }
+    }
+}
+
+static void want(const office *o, uint8_t idle, uint32_t *left, uint32_t each) {
+    for (uint8_t k = 0; k < o->servers; k++) {
+        left[k] += has(idle, k) ? 0 : each;
+    }
+}
+
+void trial_goes_on(office *o, uint32_t each) {
+    uint32_t left[GUZBYTOR_MOST_SERVERS] = {0}, apart = each / 4;
+    course c = {.lines = {0}, .idle = (uint8_t)(!o->crews.fresh && one_in(&o->draws, 4) ? drawn(&o->draws) : 0)};
+    want(o, c.idle, left, each / 2);
+    all_in_touch(o, left);
+    for (uint8_t k = 0; k < o->servers / 3u + 1; k++) {
+        c.lines[below(&o->draws, o->servers)] = 1;
+    }
+    want(o, c.idle, left, apart);
+    all_are_taken(o, &c, left);
+    depots_agree(o);
+    want(o, c.idle, left, each - each / 2 - apart);
+    all_in_touch(o, left);
 }
