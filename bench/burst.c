@@ -162,17 +162,24 @@ static void measure(run *r, row *x) {
     keep_best(&x->pass, timed_check(r, x, 1));
 }
 
+/* How many actions the queue has. */
+static size_t held_in(const uint8_t *b) {
+    const uint8_t *count = b + AT_QUEUE_COUNT;
+    return (size_t)count[0] << 24 | (size_t)count[1] << 16 | (size_t)count[2] << 8 | count[3];
+}
+
 /* The mean over the rows from `first` on, of an action. */
 static void print_rows(const run *r, size_t first, const char *which) {
-    double way[WAY_COUNT] = {0}, check = 0, pass = 0, rows = (double)(r->count - first);
+    double way[WAY_COUNT] = {0}, check = 0, pass = 0, held = 0, rows = (double)(r->count - first);
     for (size_t k = first; k < r->count; k++) {
         for (size_t w = 0; w < WAY_COUNT; w++) {
             way[w] += r->rows[k].way[w] / ROW / rows;
         }
         check += r->rows[k].check / rows;
         pass += r->rows[k].pass / rows;
+        held += (double)held_in(r->rows[k].state) / rows;
     }
-    printf("%zu %3zu  %-8s  %7.0f %7.0f ", r->servers, r->quota, which, pass, check);
+    printf("%zu %3zu  %-4s  %5.0f  %5.0f %5.0f ", r->servers, r->quota, which, held, pass, check);
     for (size_t w = 0; w < WAY_COUNT; w++) {
         printf(" %7.0f (%6.2f, %5.3f)", way[w], way[w] / pass, way[w] / way[0]);
     }
@@ -194,19 +201,21 @@ int main(int count, char **words) {
             }
         }
     }
-    printf("\nns of an action in Reg_prim at server 0 (to one pass over the used bytes, to a step); the check's share of it in percent: of a step, of a burst of 32\n");
-    printf("n   q  rows         pass   check   step                    burst of 1              burst of 8              burst of 32             step    32\n");
+    printf("\nns of an action in Reg_prim at server 0 (to one pass over the used bytes, to a step); held: actions in the queue as a row begins\n");
+    printf("the check's share in percent, last: of a step, of a burst of 32\n");
+    printf("n   q  rows   held   pass check   step                    burst of 1              burst of 8              "
+           "burst of 32             step    32\n");
     for (int i = 0; i + 1 < count; i++) {
         print_rows(&runs[i], 0, "all");
         print_rows(&runs[i], runs[i].count - 1, "last");
     }
-    printf("one more action in a burst: ns, and to the first run\n");
+    printf("one more action in a burst, in the last row: ns, and to the first run\n");
     double first = 0;
     for (int i = 0; i + 1 < count; i++) {
         const row *x = &runs[i].rows[runs[i].count - 1];
         double more = (x->way[WAY_COUNT - 1] - x->burst_of_8) / (ROW - 8);
         first = i == 0 ? more : first;
-        printf("%zu %3zu  %6.1f  %5.2f\n", runs[i].servers, runs[i].quota, more, more / first);
+        printf("%zu %3zu  held %4zu  %6.1f  %5.2f\n", runs[i].servers, runs[i].quota, held_in(x->state), more, more / first);
     }
     return 0;
 }

@@ -10,6 +10,9 @@
 /* The payloads of full states, and the bytes of put_action. */
 enum { PAYLOAD = 40, ACTION = ACTION_SIZE + PAYLOAD };
 
+/* The highest index, and the longest green list. */
+enum { MOST_NUMBER = 65535, MOST_LENGTH = GUZBYTOR_MOST_SERVERS * MOST_NUMBER };
+
 /* A state's buffer with its required length, the outgoing buffer's, and how many bytes of the state are in use. */
 typedef struct {
     uint8_t *bytes;
@@ -51,11 +54,12 @@ static inline size_t out_length(size_t n, size_t q) { return 2 * MOST_RETRANSMIS
 /* The number v in `width` bytes, big-endian. */
 void put(uint8_t *b, size_t width, uint32_t v);
 
-/* An action with its payload: in a slot zeros stand behind it. */
-void put_action(uint8_t *b, size_t creator, size_t index);
+/* An action with its payload, whose creator then had so many entries green and white: in a slot zeros stand behind it. */
+void put_action(uint8_t *b, size_t creator, size_t index, size_t told);
 
-/* A state in Exchange_actions: every State is in, each with n q yellow ids, and one retransmission is to come. */
-full_state make_full_state(size_t n, size_t q, fullness what);
+/* A state in Exchange_actions, in which `white` actions of each creator are white and the next q ones held: every State is in, each with n q yellow
+   ids, and one retransmission is to come. Every server has told the white length, so that what tells no higher one turns nothing white. */
+full_state make_full_state(size_t n, size_t q, size_t white, fullness what);
 
 /* An OR of the used bytes, in one pass: of a state, of a register. */
 uint8_t or_of_used(const uint8_t *state);

@@ -35,7 +35,7 @@ static double seconds(void) {
 
 /* A full state without what the kind leaves out: the queue's actions of the lowest indexes stand first. */
 static full_state made(size_t n, size_t q, size_t kind) {
-    full_state s = make_full_state(n, q, FULL_QUEUE);
+    full_state s = make_full_state(n, q, 0, FULL_QUEUE);
     size_t cut = KINDS[kind].parts == 0 ? 0 : q / KINDS[kind].parts, actions = n * cut;
     uint8_t *b = s.bytes;
     if (!KINDS[kind].states) {

@@ -1,8 +1,7 @@
-/* The state check in plain C: document 01, 'Returned numbers', rows 7 and 8. */
+/* The state check in plain C: document 01, 'Returned numbers', rows 7 and 8, as K6 changed them. */
 #include "layout.h"
 
 #include <stdbool.h>
-#include <string.h>
 
 typedef struct {
     const uint8_t *b;
@@ -24,22 +23,28 @@ static bool mark_ok(view s, const uint8_t *b) {
     return b[MARK_STATUS] <= 1 && primary_ok(s, b + MARK_INDEX) && set_ok(s, b[MARK_BITS]);
 }
 
-/* Ids, one at the front of each of `count` entries: in range, and none of them twice. */
-static bool ids_ok(view s, const uint8_t *b, size_t count, size_t step) {
-    uint8_t met[GUZBYTOR_MOST_SERVERS * GUZBYTOR_MOST_QUOTA];
-    memset(met, 0, sizeof met);
+/* A bit for each id; all are 0 between two calls. */
+static uint8_t met[GUZBYTOR_MOST_SERVERS][(MOST_NUMBER + 1) / 8];
+
+/* Ids, one at the front of each of `count` entries: how many come before one that is out of range or there twice. */
+static size_t ids_before_bad(view s, const uint8_t *b, size_t count, size_t step) {
     for (size_t k = 0; k < count; k++, b += step) {
         size_t creator = b[ACTION_CREATOR], index = num16(b + ACTION_INDEX);
-        if (creator >= s.n || index < 1 || index > s.q) {
-            return false;
+        if (creator >= s.n || index < 1 || (met[creator][index / 8] >> index % 8 & 1) != 0) {
+            return k;
         }
-        uint8_t *m = &met[creator * GUZBYTOR_MOST_QUOTA + index - 1];
-        if (*m) {
-            return false;
-        }
-        *m = 1;
+        met[creator][index / 8] |= (uint8_t)(1u << index % 8);
     }
-    return true;
+    return count;
+}
+
+/* In range, and none of them twice. */
+static bool ids_ok(view s, const uint8_t *b, size_t count, size_t step) {
+    size_t good = ids_before_bad(s, b, count, step);
+    for (size_t k = 0; k < good; k++, b += step) {
+        met[b[ACTION_CREATOR]][num16(b + ACTION_INDEX) / 8] = 0;
+    }
+    return good == count;
 }
 
 static bool payload_ok(const uint8_t *b) {
@@ -54,8 +59,8 @@ static bool payload_ok(const uint8_t *b) {
     return true;
 }
 
-static bool slot_ok(view s, const uint8_t *b) {
-    return num32(b + ACTION_GREEN) <= s.n * s.q && payload_ok(b + ACTION_PAYLOAD);
+static bool slot_ok(const uint8_t *b) {
+    return num32(b + ACTION_GREEN) <= MOST_LENGTH && num32(b + ACTION_WHITE) <= MOST_LENGTH && payload_ok(b + ACTION_PAYLOAD);
 }
 
 static bool configurations_ok(view s) {
@@ -76,14 +81,14 @@ static bool configurations_ok(view s) {
 static bool numbers_ok(view s) {
     const uint8_t *b = s.b;
     size_t all = s.n * s.q;
-    uint32_t queue = num32(b + AT_QUEUE_COUNT), numbered = num16(b + AT_NUMBERED);
+    uint32_t queue = num32(b + AT_QUEUE_COUNT);
     if (b[AT_ME] >= s.n || b[AT_STATE] > GUZBYTOR_UN || !configurations_ok(s)) {
         return false;
     }
-    if ((b[AT_STATES] & ~b[AT_CONFIGURATION_SET]) != 0 || !set_ok(s, b[AT_CPCS]) || num32(b + AT_COME) > 2 * all) {
+    if ((b[AT_STATES] & ~b[AT_CONFIGURATION_SET]) != 0 || !set_ok(s, b[AT_CPCS]) || num32(b + AT_COME) > MOST_LENGTH + s.n * MOST_NUMBER) {
         return false;
     }
-    if (queue > all || num32(b + AT_GREEN) > queue || num16(b + AT_OWN_COUNT) > s.q || numbered > s.q || num16(b + AT_SENT) > numbered) {
+    if (queue > all || num32(b + AT_GREEN) > queue || num16(b + AT_OWN_COUNT) > s.q || num16(b + AT_SENT) > num16(b + AT_NUMBERED)) {
         return false;
     }
     if (num32(b + AT_ATTEMPT) > MOST_INDEX || !primary_ok(s, b + AT_LAST_INDEX)) {
@@ -98,35 +103,35 @@ static bool first_lists_ok(view s) {
     const uint8_t *noted = s.b + noted_at(s.n);
     size_t sum = 0;
     for (size_t c = 0; c < s.n; c++) {
-        size_t cut = cut_of(s, c);
-        if (cut > s.q || num32(noted + NOTED_SIZE * c) > s.n * s.q) {
+        if (num32(noted + NOTED_SIZE * c) > MOST_LENGTH) {
             return false;
         }
-        sum += cut;
+        sum += cut_of(s, c);
     }
-    return sum == num32(s.b + AT_QUEUE_COUNT) && cut_of(s, s.b[AT_ME]) + num16(s.b + AT_OWN_COUNT) == num16(s.b + AT_NUMBERED);
+    return sum >= num32(s.b + AT_QUEUE_COUNT) && cut_of(s, s.b[AT_ME]) + num16(s.b + AT_OWN_COUNT) == num16(s.b + AT_NUMBERED);
 }
 
 static bool own_ok(view s) {
     const uint8_t *b = s.b + own_at(s.n, s.q);
     size_t count = num16(s.b + AT_OWN_COUNT), cut = cut_of(s, s.b[AT_ME]);
     for (size_t k = 0; k < count; k++, b += SLOT_SIZE) {
-        if (b[ACTION_CREATOR] != s.b[AT_ME] || num16(b + ACTION_INDEX) != cut + 1 + k || !slot_ok(s, b)) {
+        if (b[ACTION_CREATOR] != s.b[AT_ME] || num16(b + ACTION_INDEX) != cut + 1 + k || !slot_ok(b)) {
             return false;
         }
     }
     return true;
 }
 
-/* As many actions as the cuts have together, no id twice, none above its creator's cut: so all of them. */
+/* No id twice, none above its creator's cut, and at most a quota of each creator's, with the own list of the own ones. */
 static bool queue_ok(view s) {
     const uint8_t *b = s.b + queue_at(s.n, s.q);
-    size_t count = num32(s.b + AT_QUEUE_COUNT);
+    size_t count = num32(s.b + AT_QUEUE_COUNT), held[GUZBYTOR_MOST_SERVERS] = {0};
+    held[s.b[AT_ME]] = num16(s.b + AT_OWN_COUNT);
     if (!ids_ok(s, b, count, SLOT_SIZE)) {
         return false;
     }
     for (size_t k = 0; k < count; k++, b += SLOT_SIZE) {
-        if (num16(b + ACTION_INDEX) > cut_of(s, b[ACTION_CREATOR]) || !slot_ok(s, b)) {
+        if (num16(b + ACTION_INDEX) > cut_of(s, b[ACTION_CREATOR]) || ++held[b[ACTION_CREATOR]] > s.q || !slot_ok(b)) {
             return false;
         }
     }
@@ -142,12 +147,7 @@ static bool state_ok(view s, const uint8_t *b, size_t sender) {
     if (b[STATE_SENDER] != sender || num32(b + STATE_ID) != num32(s.b + AT_CONFIGURATION_ID)) {
         return false;
     }
-    for (size_t c = 0; c < s.n; c++) {
-        if (num16(b + STATE_CUTS + CUT_SIZE * c) > s.q) {
-            return false;
-        }
-    }
-    if (num32(rest + REST_GREEN) > s.n * s.q || num32(rest + REST_ATTEMPT) > MOST_INDEX) {
+    if (num32(rest + REST_GREEN) > MOST_LENGTH || num32(rest + REST_ATTEMPT) > MOST_INDEX) {
         return false;
     }
     return primary_ok(s, rest + REST_LAST_INDEX) && mark_ok(s, rest + REST_MARK_STATUS) && rest[REST_YELLOW_STATUS] <= 1 &&

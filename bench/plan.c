@@ -11,9 +11,10 @@ static void put_payload(uint8_t *slot, size_t length) {
     }
 }
 
-trial resend(size_t n, size_t q, size_t payload, size_t me) {
+trial resend(size_t n, size_t q, size_t white, size_t payload, size_t me) {
     size_t part = me == 0 ? 2 * n * q * (GUZBYTOR_AT_BODY + RETRANSMISSION_SIZE + ACTION_SIZE + payload) : 0;
-    trial t = begun(make_full_state(n, q, FULL_QUEUE), GUZBYTOR_KIND_STATE, state_slot(n, q) - GUZBYTOR_AT_BODY, GUZBYTOR_EXCHANGE_ACTIONS, part);
+    full_state s = make_full_state(n, q, white, FULL_QUEUE);
+    trial t = begun(s, GUZBYTOR_KIND_STATE, state_slot(n, q) - GUZBYTOR_AT_BODY, GUZBYTOR_EXCHANGE_ACTIONS, part);
     uint8_t *b = t.state.bytes;
     b[AT_ME] = (uint8_t)me;
     b[AT_STATE] = GUZBYTOR_EXCHANGE_STATES;
@@ -24,10 +25,12 @@ trial resend(size_t n, size_t q, size_t payload, size_t me) {
     }
     uint8_t *states = b + states_at(n);
     memcpy(t.event, states + (n - 1) * state_slot(n, q), t.event_length);
-    memset(t.event + STATE_CUTS, 0, rest_at(n) + REST_ATTEMPT - STATE_CUTS);
-    put(states + STATE_CUTS + CUT_SIZE, CUT_SIZE, (uint32_t)q);
+    for (size_t c = 0; c < n; c++) {
+        put(t.event + STATE_CUTS + CUT_SIZE * c, CUT_SIZE, (uint32_t)white);
+    }
+    put(states + STATE_CUTS + CUT_SIZE, CUT_SIZE, (uint32_t)(white + q));
     for (size_t k = 0; k + 1 < n; k++) {
-        put(states + k * state_slot(n, q) + rest_at(n) + REST_GREEN, 4, (uint32_t)(n * q));
+        put(states + k * state_slot(n, q) + rest_at(n) + REST_GREEN, 4, (uint32_t)(n * (white + q)));
     }
     return t;
 }

@@ -1,5 +1,7 @@
-/* Writes a run at n servers with the quota q: all meet, and then requests come in rounds, as many at each server, until the quota is used; each
-   round's actions are delivered to everyone before the next round. In the form of samples/: a set-up record, then server byte and event, repeated. */
+/* Writes a run at n servers with the quota q: all meet, and then requests come in rounds, as many at each server, until each has made a quota; each
+   round's actions are delivered to everyone before the next round. MAKERS servers make requests: with all of them the entries of a round turn white
+   in the next one; with fewer none does, for the others never tell what they have green, and the queue fills. In the form of samples/: a set-up
+   record, then server byte and event, repeated. */
 #include "run.h"
 
 #include <string.h>
@@ -82,11 +84,12 @@ static void begin(uint8_t servers, uint16_t quota) {
 }
 
 int main(int count, char **words) {
-    int servers = count == 4 ? atoi(words[1]) : 0, quota = count == 4 ? atoi(words[2]) : 0;
-    if (servers < GUZBYTOR_FEWEST_SERVERS || servers > GUZBYTOR_MOST_SERVERS || quota < GUZBYTOR_LEAST_QUOTA || quota > GUZBYTOR_MOST_QUOTA) {
-        fail("usage: record SERVERS QUOTA RUN");
+    int servers = count == 5 ? atoi(words[1]) : 0, quota = count == 5 ? atoi(words[2]) : 0, makers = count == 5 ? atoi(words[3]) : 0;
+    if (servers < GUZBYTOR_FEWEST_SERVERS || servers > GUZBYTOR_MOST_SERVERS || quota < GUZBYTOR_LEAST_QUOTA || quota > GUZBYTOR_MOST_QUOTA ||
+        makers < 1 || makers > servers) {
+        fail("usage: record SERVERS QUOTA MAKERS RUN");
     }
-    office.run = fopen(words[3], "wb");
+    office.run = fopen(words[4], "wb");
     if (office.run == NULL) {
         fail("the run cannot be written");
     }
@@ -96,7 +99,7 @@ int main(int count, char **words) {
     }
     settle();
     for (int made = 0; made < quota; made += REQUESTS) {
-        for (uint8_t k = 0; k < servers; k++) {
+        for (uint8_t k = 0; k < makers; k++) {
             for (int i = 0; i < REQUESTS && made + i < quota; i++) {
                 request(k);
             }

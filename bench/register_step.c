@@ -41,7 +41,7 @@ static void put_payload(uint8_t *action, size_t k, size_t pegs) {
 
 /* The last CPC comes, and n q actions turn green: their ids in order, those on the yellow list first. */
 static trial many(size_t pegs) {
-    trial t = install(N, Q);
+    trial t = install(N, Q, 0);
     uint8_t *slot = t.state.bytes + queue_at(N, Q);
     for (size_t k = 0; k < N * Q; k++, slot += SLOT_SIZE) {
         put_payload(slot, slot[ACTION_CREATOR] * (size_t)Q + number(slot + ACTION_INDEX, 2) - 1, pegs);
@@ -51,7 +51,7 @@ static trial many(size_t pegs) {
 
 /* In Reg_prim the last actions of the last server come, all others being there: `count` events, one behind another. */
 static trial some(size_t pegs, size_t count) {
-    trial t = begun(make_full_state(N, Q, FULL_QUEUE), GUZBYTOR_KIND_ACTION, count * (GUZBYTOR_AT_BODY + SLOT_SIZE), GUZBYTOR_REG_PRIM, 0);
+    trial t = begun(make_full_state(N, Q, 0, FULL_QUEUE), GUZBYTOR_KIND_ACTION, count * (GUZBYTOR_AT_BODY + SLOT_SIZE), GUZBYTOR_REG_PRIM, 0);
     uint8_t *b = t.state.bytes, *from = b + queue_at(N, Q), *to = from, *event = t.event;
     b[AT_STATE] = GUZBYTOR_REG_PRIM;
     put(b + AT_QUEUE_COUNT, 4, (uint32_t)(N * Q - count));
@@ -65,7 +65,7 @@ static trial some(size_t pegs, size_t count) {
     }
     for (size_t k = 0; k < count; k++) {
         uint8_t action[SLOT_SIZE];
-        put_action(action, N - 1, Q - count + 1 + k);
+        put_action(action, N - 1, Q - count + 1 + k, 0);
         put_payload(action, k, pegs);
         size_t length = ACTION_SIZE + (size_t)action[ACTION_PAYLOAD];
         put(event + GUZBYTOR_AT_LENGTH, 2, (uint32_t)(GUZBYTOR_AT_BODY - GUZBYTOR_AT_VERSION + length));

@@ -127,7 +127,7 @@ int main(void) {
     int at[CALL_COUNT] = {0};
     const uint8_t *pegs = make_register(LONG_NAMES, GUZBYTOR_MOST_PEGS);
     for (int e = 0; e < COSTLY_COUNT; e++) {
-        trials[e] = COSTLY[e].make(N, Q);
+        trials[e] = COSTLY[e].make(N, Q, 0);
         longest = trials[e].event_length > longest ? trials[e].event_length : longest;
     }
     lent.state = in_memory(state_length(N, Q));

@@ -14,7 +14,10 @@ static const struct {
 
 static const char *const NAMES[] = {"full queue", "full own list"};
 
-enum { COUNT = sizeof SIZES / sizeof SIZES[0], ROUNDS = 200 };
+/* How many actions of each creator are white in the states that are changed; in those that are timed none is. */
+static const size_t WHITES[] = {0, 100, 60000};
+
+enum { WHITE_COUNT = sizeof WHITES / sizeof WHITES[0], COUNT = sizeof SIZES / sizeof SIZES[0], ROUNDS = 200 };
 
 static double seconds(void) {
     struct timespec t;
@@ -35,7 +38,7 @@ static double timed(check *f, const full_state *s, const uint8_t *out, size_t ca
 }
 
 /* Both checks answer alike where bytes are changed: one of the first 200, or any one. */
-static void agree(const full_state *s, const uint8_t *out) {
+static void agree(const full_state *s, size_t white, const uint8_t *out) {
     size_t changes = 200000000 / s->length, refused = 0;
     uint64_t random = 1;
     for (size_t i = 0; i < changes; i++) {
@@ -52,8 +55,8 @@ static void agree(const full_state *s, const uint8_t *out) {
         refused += rattle != 0;
         s->bytes[at] = old;
     }
-    printf("%zu servers, quota %zu: %zu changed states, %zu of them refused, by both alike\n", (size_t)s->bytes[AT_SERVERS],
-           (size_t)s->bytes[AT_QUOTA] << 8 | s->bytes[AT_QUOTA + 1], changes, refused);
+    printf("%zu servers, quota %zu, %zu white of each: %zu changed states, %zu of them refused, by both alike\n", (size_t)s->bytes[AT_SERVERS],
+           (size_t)s->bytes[AT_QUOTA] << 8 | s->bytes[AT_QUOTA + 1], white, changes, refused);
 }
 
 int main(void) {
@@ -65,8 +68,12 @@ int main(void) {
     }
     for (int what = 0; what < 2; what++) {
         for (int i = 0; i < COUNT; i++) {
-            states[what][i] = make_full_state(SIZES[i].n, SIZES[i].q, (fullness)what);
-            agree(&states[what][i], out);
+            for (int w = 0; w < WHITE_COUNT; w++) {
+                full_state s = make_full_state(SIZES[i].n, SIZES[i].q, WHITES[w], (fullness)what);
+                agree(&s, WHITES[w], out);
+                free(s.bytes);
+            }
+            states[what][i] = make_full_state(SIZES[i].n, SIZES[i].q, 0, (fullness)what);
         }
     }
     /* The best of several rounds; the two checks and all sizes take turns, so that a busy machine slows all of them. */

@@ -16,7 +16,7 @@ int main(void) {
     uint8_t *state = in_memory(state_length(GUZBYTOR_MOST_SERVERS, GUZBYTOR_MOST_QUOTA)), *out = in_memory(out_length(GUZBYTOR_MOST_SERVERS, GUZBYTOR_MOST_QUOTA));
     for (int e = 0; e < COSTLY_COUNT; e++) {
         for (int i = 0; i < SIZE_COUNT; i++) {
-            trials[e][i] = COSTLY[e].make(SIZES[i].n, SIZES[i].q);
+            trials[e][i] = COSTLY[e].make(SIZES[i].n, SIZES[i].q, 0);
             trials[e][i].state.used = used_bytes(trials[e][i].state.bytes);
             try_once(COSTLY[e].name, &trials[e][i], state, out);
         }

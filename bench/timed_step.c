@@ -7,10 +7,10 @@
 #include <string.h>
 #include <time.h>
 
-static double seconds(void) {
+double now_ns(void) {
     struct timespec t;
     clock_gettime(CLOCK_MONOTONIC, &t);
-    return (double)t.tv_sec + 1e-9 * (double)t.tv_nsec;
+    return 1e9 * (double)t.tv_sec + (double)t.tv_nsec;
 }
 
 static guzbytor_step_answer stepped(const trial *t, uint8_t *state, uint8_t *out) {
@@ -27,21 +27,21 @@ void try_once(const char *name, const trial *t, uint8_t *state, uint8_t *out) {
 }
 
 double copied(uint8_t *to, const uint8_t *from, size_t length, size_t calls) {
-    double start = seconds();
+    double start = now_ns();
     for (size_t i = 0; i < calls; i++) {
         memcpy(to, from, length);
         __asm__ volatile("" : : "r"(to) : "memory");
     }
-    return 1e9 * (seconds() - start) / (double)calls;
+    return (now_ns() - start) / (double)calls;
 }
 
 double laid_out_and_stepped(const trial *t, uint8_t *state, uint8_t *out, size_t calls) {
-    double start = seconds();
+    double start = now_ns();
     for (size_t i = 0; i < calls; i++) {
         memcpy(state, t->state.bytes, t->state.length);
         stepped(t, state, out);
     }
-    return 1e9 * (seconds() - start) / (double)calls;
+    return (now_ns() - start) / (double)calls;
 }
 
 void keep_best(double *best, double now) {

@@ -4,6 +4,8 @@
 
 #include "trial.h"
 
+double now_ns(void);
+
 /* One step, which must come out as the trial says, or the program ends. */
 void try_once(const char *name, const trial *t, uint8_t *state, uint8_t *out);
 

@@ -36,8 +36,8 @@ trial begun(full_state s, uint8_t kind, size_t body, uint8_t mode_after, size_t 
     return t;
 }
 
-trial install(size_t n, size_t q) {
-    trial t = begun(make_full_state(n, q, FULL_QUEUE), GUZBYTOR_KIND_CPC, CPC_BODY, GUZBYTOR_REG_PRIM, 0);
+trial install(size_t n, size_t q, size_t white) {
+    trial t = begun(make_full_state(n, q, white, FULL_QUEUE), GUZBYTOR_KIND_CPC, CPC_BODY, GUZBYTOR_REG_PRIM, 0);
     uint8_t *b = t.state.bytes;
     b[AT_STATE] = GUZBYTOR_CONSTRUCT;
     b[AT_CPCS] = everyone(n - 1);
@@ -49,5 +49,20 @@ trial install(size_t n, size_t q) {
     put(b + AT_YELLOW_COUNT, 2, (uint32_t)(n * q / 2));
     t.event[GUZBYTOR_AT_BODY] = (uint8_t)(n - 1);
     put(t.event + GUZBYTOR_AT_BODY + 1, 4, 1);
+    return t;
+}
+
+trial telling(size_t n, size_t q, size_t white, size_t count, size_t others) {
+    trial t = begun(make_full_state(n, q, white, FULL_QUEUE), GUZBYTOR_KIND_ACTION, ACTION, GUZBYTOR_REG_PRIM, 0);
+    uint8_t *b = t.state.bytes;
+    b[AT_STATE] = GUZBYTOR_REG_PRIM;
+    put(b + AT_QUEUE_COUNT, 4, (uint32_t)(n * q - 1));
+    put(b + AT_GREEN, 4, (uint32_t)(n * q - 1));
+    put(b + cuts_at() + CUT_SIZE * (n - 1), CUT_SIZE, (uint32_t)(white + q - 1));
+    for (size_t c = 0; c + 1 < n; c++) {
+        put(b + noted_at(n) + NOTED_SIZE * c, NOTED_SIZE, (uint32_t)(n * white + others));
+    }
+    put_action(t.event + GUZBYTOR_AT_BODY, n - 1, white + q, n * white);
+    put(t.event + GUZBYTOR_AT_BODY + ACTION_GREEN, 4, (uint32_t)(n * white + count));
     return t;
 }

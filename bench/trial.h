@@ -28,7 +28,11 @@ size_t used_bytes(const uint8_t *b);
 /* An event of a kind with room for its body. */
 trial begun(full_state s, uint8_t kind, size_t body, uint8_t mode_after, size_t sent_after);
 
-/* The last CPC comes: half of n q red actions are on the yellow list. All turn green. */
-trial install(size_t n, size_t q);
+/* The last CPC comes: half of n q red actions are on the yellow list. All turn green. Of each creator `white` actions are white, here and below. */
+trial install(size_t n, size_t q, size_t white);
+
+/* In Reg_prim the last action of all comes, all others being green. It tells that its creator has `count` green that are not white; all other servers
+   have told `others`: the fewer of the two turn white. */
+trial telling(size_t n, size_t q, size_t white, size_t count, size_t others);
 
 #endif

@@ -44,7 +44,7 @@ static uint64_t hash_of(const uint8_t *b, size_t length) {
 }
 
 static writing made(size_t n, size_t q, size_t payload, uint8_t *state, uint8_t *out) {
-    writing w = {.n = n, .q = q, .payload = payload, .whole = resend(n, q, payload, 0), .empty = resend(n, q, payload, 1)};
+    writing w = {.n = n, .q = q, .payload = payload, .whole = resend(n, q, 0, payload, 0), .empty = resend(n, q, 0, payload, 1)};
     w.whole.state.used = used_bytes(w.whole.state.bytes);
     w.empty.state.used = used_bytes(w.empty.state.bytes);
     if (w.whole.state.used != w.empty.state.used) {
