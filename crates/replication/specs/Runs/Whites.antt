@@ -23,12 +23,14 @@ use Rattle.replication.specs.Runs.Claim.{storedGreen, memoryGreen}
 
 -- ---- "An action green on every server, by the noted green lengths, becomes white"
 
--- At every moment of every run, allowed or not, in memory and in store: where the first k actions are green here, and on every server by the noted
--- lengths, they are white.
+-- Where the first k actions are green at s, and on every server by the noted lengths, they are white.
+abbrev pub WhiteIfNoted : (n k : ℕ) → Server → Type 0
+WhiteIfNoted n k s = k ≤ length (s .log .green) → ((c : ℕ) → c < n → k ≤ getD (s .noted) c 0) → k ≤ s .white
+
+-- At every moment of every run, allowed or not, in memory and in store.
 unfoldable pub NotedGreenIsWhite : Type 0
 NotedGreenIsWhite =
-    (n q : ℕ) → sizesOk n q ≡ true → (l : Run) (p i k : ℕ) → i < n
-    → OfBoth (λ s. k ≤ length (s .log .green) → ((c : ℕ) → c < n → k ≤ getD (s .noted) c 0) → k ≤ s .white) (worldAt n q l p .images i)
+    (n q : ℕ) → sizesOk n q ≡ true → (l : Run) (p i k : ℕ) → i < n → OfBoth (WhiteIfNoted n k) (worldAt n q l p .images i)
 
 -- ---- "In an allowed run an action white anywhere is green in every server's store."
 
