@@ -73,6 +73,7 @@ module _ {A : Type 0} where
 
   pub among_at : (l : List A) (x : A) → Memᴰ x l → (p : ℕ) × (at l p ≡ some x)
   unfolding at
+  among_at [] x x3 = elim x3 [ ]
   among_at (y ∷ l) x (Memᴰ.head e) = (0, ap some (sym e))
   among_at (y ∷ l) x (Memᴰ.tail m) = let r = among_at l x m in (suc r.0, r.1)
 

@@ -59,5 +59,6 @@ module _ {A : Type 0} where
 
   pub all_member : (t : A → Bool) (x : List A) (a : A) → all t x ≡ true → Memᴰ a x → t a ≡ true
   unfolding all
+  all_member t [] a h x3 = elim x3 [ ]
   all_member t (b ∷ x) a h (Memᴰ.head e) = ap t e ∙ (and_holds _ _ h).0
   all_member t (b ∷ x) a h (Memᴰ.tail m) = all_member t x a (and_holds _ _ h).1 m

@@ -144,6 +144,7 @@ module _ {A B : Type 0} (f : A → List B) where
 
   pub part_gathered : (xs : List A) (x : A) (y : B) → Memᴰ x xs → (i : ℕ) → at (f x) i ≡ some y → (j : ℕ) × (at (gather_all f xs) j ≡ some y)
   unfolding gather_all
+  part_gathered [] x y x4 i h = elim x4 [ ]
   part_gathered (z ∷ xs) x y (Memᴰ.head e) i h = (i, at_first (f z) (gather_all f xs) i y (ap (λ w. at (f w) i) (sym e) ∙ h))
   part_gathered (z ∷ xs) x y (Memᴰ.tail m) i h =
       let r = part_gathered xs x y m i h in

@@ -15,6 +15,7 @@ module _ {A : Type 0} where
   -- An element that passes the test is among those that pass.
   pub filter_has : (t : A → Bool) (x : A) (l : List A) → Memᴰ x l → t x ≡ true → Memᴰ x (filter t l)
   unfolding filter pick
+  filter_has t x [] x3 h = elim x3 [ ]
   filter_has t x (y ∷ l) (Memᴰ.head e) h = rw (ap t (sym e), h) (Memᴰ.head e)
   filter_has t x (y ∷ l) (Memᴰ.tail m) h = go (known (t y)) (filter_has t x l m h)
     where
@@ -55,6 +56,7 @@ module _ {A : Type 0} where
   -- Whether some element passes.
   pub any_yes : (t : A → Bool) (x : A) (l : List A) → Memᴰ x l → t x ≡ true → any t l ≡ true
   unfolding any ◌or◌
+  any_yes t x [] x3 h = elim x3 [ ]
   any_yes t x (y ∷ l) (Memᴰ.head e) h = rw (ap t (sym e), h)
   any_yes t x (y ∷ l) (Memᴰ.tail m) h = go (known (t y)) (any_yes t x l m h)
     where

@@ -1,4 +1,6 @@
 // Events one behind another in one slice, over the lent buffers: the state is checked once.
+#![tactic(auto)]
+
 ghost use Rattle.std.specs.Prelude.{◌≡◌};
 ghost use Rattle.base.specs.Tests.{◌and◌, ◌=?◌};
 ghost use Rattle.image.specs.Outcome.{state_number};
@@ -16,7 +18,7 @@ use step::taking::step;
 // The number of the event that the burst stopped at (0: none was refused), the store word of the last event taken and how many bytes of its records
 // the outgoing buffer begins with, and how many events and bytes were taken.
 #[repr(C)]
-#[derive(Drop)]
+#[derive(Clone, Copy)]
 pub struct BurstAnswer {
     pub number: u32,
     pub store: u32,

@@ -8,7 +8,7 @@ use octets::numbers::num16;
 use record::events::{Event, VERSION};
 
 // An event of so many bytes, or the number with which the burst stops.
-#[derive(Drop)]
+#[derive(Clone, Copy)]
 pub enum Next {
     Event(usize),
     Stop(u32),

@@ -1,5 +1,7 @@
 // Demand 3 on the buffers of daemons, what the outgoing buffer holds, and what a request's answer says: definitions and theorems, no running code.
 // The functions here do nothing: their contracts are the theorems.
+#![tactic(auto)]
+
 ghost use Rattle.daemons.specs.Claim.{BuffersDemand};
 ghost use Rattle.daemons.specs.Outgoing.{OutgoingRecords};
 ghost use Rattle.daemons.specs.Requests.{RequestAnswers};

@@ -24,7 +24,7 @@ use record::sets::inside;
 use record::{AttemptIndex, LastPrimary, Mark, State};
 
 // The votes that the States decide, but the yellow ids.
-#[derive(Drop)]
+#[derive(Clone, Copy)]
 pub struct TakenVotes {
     pub last: LastPrimary,
     pub attempt: AttemptIndex,
@@ -33,7 +33,7 @@ pub struct TakenVotes {
 }
 
 // Whether the server resends, and what: those above `low` up to `high`.
-#[derive(Drop)]
+#[derive(Clone, Copy)]
 pub struct Part {
     pub mine: bool,
     pub low: u32,

@@ -1,4 +1,6 @@
 // What the collected States decide: the plan of retransmissions, and the end of the exchange. All is read where the States lie.
+#![tactic(auto)]
+
 pub mod slots; // slots.rt: the States in their slots
 pub mod plan; // plan.rt: who resends what
 pub mod primary; // primary.rt: the primary component and its group

@@ -14,7 +14,7 @@ use record::events::StateHead;
 use record::sets::has;
 
 // A number of a State: green length, attempt, or the cut of one creator.
-#[derive(Drop)]
+#[derive(Clone, Copy)]
 pub enum Number {
     Green,
     Attempt,

@@ -12,7 +12,7 @@ use record::sets::has;
 
 // Where the slots lie, and which of them are meant: the slot of server k begins at `at` + k × `size`, and `here` is a set of
 // servers.
-#[derive(Drop)]
+#[derive(Clone, Copy)]
 pub struct Slots {
     pub servers: usize,
     pub size: usize,

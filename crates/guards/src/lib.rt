@@ -1,4 +1,6 @@
 // The conditions of rows 5, 6 and 3 of document 01's 'Returned numbers', from the state's numbers; row 3 also from a count of own actions.
+#![tactic(auto)]
+
 ghost use Rattle.std.specs.Prelude.{◌≡◌};
 ghost use Rattle.format.specs.Types.{Action};
 ghost use Rattle.record.specs.Values.{id_of};

@@ -1,5 +1,7 @@
 // Every function that a daemon calls, in one archive: each is a function of the crate below that proves it, under
 // its C name and with its equation. No other crate exports a C name.
+#![tactic(auto)]
+
 ghost use Rattle.std.specs.Prelude.{◌≡◌};
 ghost use Rattle.image.specs.Outcome.{lengths_of, started, start_on, state_number, step_on};
 ghost use Rattle.step.specs.Answers.{answered};

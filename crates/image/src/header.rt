@@ -14,7 +14,7 @@ use record::{AttemptIndex, State};
 use writer::parts::{put_mark, put_primary, put_yellow_head};
 
 // The first ones: layout, sizes, state and configurations.
-#[derive(Drop)]
+#[derive(Clone, Copy)]
 pub struct Membership {
     pub layout: u8,
     pub servers: u8,

@@ -1,4 +1,6 @@
 // The state's image in a lent buffer: its numbers and sections, how long both buffers must be, and the start.
+#![tactic(auto)]
+
 ghost use Rattle.std.specs.Prelude.{◌≡◌};
 ghost use Rattle.image.specs.Outcome.{lengths_of, started, start_on};
 
@@ -15,7 +17,7 @@ use starting::begin;
 
 // 0 and the required lengths of both buffers, or 2 where servers or quota is out of range.
 #[repr(C)]
-#[derive(Drop)]
+#[derive(Clone, Copy)]
 pub struct Lengths {
     pub number: u32,
     pub state: u32,

@@ -1,4 +1,5 @@
 // Bytes in a lent slice: numbers read and written, blocks stored, and bytes moved.
+#![tactic(auto)]
 
 pub mod numbers; // numbers.rt: numbers in bytes
 pub mod blocks; // blocks.rt: blocks of bytes

@@ -100,7 +100,7 @@ fn up_to_green(state: &[u8], high: u32) -> u32
 }
 
 // How far a walk over a creator's indexes came: the index, and the place behind the records.
-#[derive(Drop)]
+#[derive(Clone, Copy)]
 struct Walk {
     index: u32,
     next: usize,

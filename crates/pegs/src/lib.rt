@@ -1,4 +1,6 @@
 // The peg register: definitions and theorems, no running code. A function here does nothing: its contract is a theorem.
+#![tactic(auto)]
+
 ghost use Rattle.pegs.specs.Claim.{NamesTheorem};
 ghost use Rattle.pegs.specs.Pairs.{Pairs};
 ghost use Rattle.pegs.specs.QueriesClaim.{RegionTheorem, NearestTheorem};

@@ -7,7 +7,7 @@ ghost use Rattle.plane.specs.Squares.{Holds, value};
 use crate::Point;
 
 // A squared distance: half of it, rounded down, and what is left, 0 or 1.
-#[derive(Drop)]
+#[derive(Clone, Copy)]
 pub struct Square {
     pub half: u64,
     pub odd: u64,

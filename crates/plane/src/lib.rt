@@ -1,4 +1,6 @@
 // Points in whole millimetres: whether one lies in a region, and how far apart two are. Numbers are exact, and none wraps. Document 02, K5.
+#![tactic(auto)]
+
 ghost use Rattle.std.specs.Prelude.{◌≡◌};
 ghost use Rattle.plane.specs.Plane.{between as betweenOf, in_rectangle, sides_rise, in_region};
 
@@ -7,14 +9,14 @@ pub mod distances; // distances.rt: squared distances
 use distances::within;
 
 // In millimetres.
-#[derive(Drop)]
+#[derive(Clone, Copy)]
 pub struct Point {
     pub easting: i32,
     pub northing: i32,
 }
 
 // Its sides.
-#[derive(Drop)]
+#[derive(Clone, Copy)]
 pub struct Rectangle {
     pub west: i32,
     pub south: i32,
@@ -22,7 +24,7 @@ pub struct Rectangle {
     pub north: i32,
 }
 
-#[derive(Drop)]
+#[derive(Clone, Copy)]
 pub enum Region {
     Inside(Rectangle),
     Within { centre: Point, radius: u32 },

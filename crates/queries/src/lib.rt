@@ -1,4 +1,6 @@
 // Reading a state's buffer: its numbers, and its green entries. The state is checked once a call.
+#![tactic(auto)]
+
 ghost use Rattle.std.specs.Prelude.{◌≡◌, ◌^◌, ◌≤◌, ◌<◌, true, length};
 ghost use Rattle.replication.specs.Machine.Types.{Server};
 ghost use Rattle.replication.specs.Machine.WellFormed.{well_formed};
@@ -20,7 +22,7 @@ use state_check::image_number;
 
 // What a state says: 0 and its numbers, or what its buffer is refused with and zeros.
 #[repr(C)]
-#[derive(Drop)]
+#[derive(Clone, Copy)]
 pub struct Summary {
     pub number: u32,
     pub servers: u32,
@@ -137,7 +139,7 @@ pub fn summary_on(state: &[u8]) -> Summary
 // 0, how many entries are green in all, how many of these are white, and how many were put in how many bytes; or the number of a refusal
 // and zeros.
 #[repr(C)]
-#[derive(Drop)]
+#[derive(Clone, Copy)]
 pub struct GreenEntries {
     pub number: u32,
     pub green: u32,

@@ -1,4 +1,5 @@
 // Actions in a state's buffer: the queue and the own list, changed in place.
+#![tactic(auto)]
 
 pub mod slots; // slots.rt: one slot written, and slots moved
 pub mod finding; // finding.rt: an action by its id

@@ -10,7 +10,7 @@ use record::events::{Event, StateAt, StateHead, VERSION};
 use record::parts::{action_at, state_head};
 
 // The event that the bytes frame, its ranges not looked at; or none.
-#[derive(Drop)]
+#[derive(Clone, Copy)]
 pub enum Framed {
     Good(Event),
     Bad,

@@ -1,4 +1,6 @@
 // The reader: what an event's bytes say to a server, or the number that they are refused with.
+#![tactic(auto)]
+
 ghost use Rattle.std.specs.Prelude.{◌≡◌, List, ℕ};
 ghost use Rattle.format.specs.Read.{read as read_of};
 ghost use Rattle.format.specs.Range.{action_ok, state_ok, fields_ok};
@@ -21,7 +23,7 @@ use record::range::{
 use record::{Context, State};
 
 // The event, or the number that it is refused with.
-#[derive(Drop)]
+#[derive(Clone, Copy)]
 pub enum Reading {
     Good(Event),
     Refused(u8),

@@ -5,7 +5,7 @@ use crate::{ActionHead, AttemptIndex, LastPrimary, Mark};
 pub const VERSION: u8 = 2;
 
 // An action. Its payload is the `payload_length` bytes from `payload_at` on.
-#[derive(Drop)]
+#[derive(Clone, Copy)]
 pub struct ActionAt {
     pub head: ActionHead,
     pub payload_at: usize,
@@ -13,7 +13,7 @@ pub struct ActionAt {
 }
 
 // A State but its cuts and its yellow ids; how many there are of each.
-#[derive(Drop)]
+#[derive(Clone, Copy)]
 pub struct StateHead {
     pub sender: u8,
     pub configuration: u32,
@@ -50,14 +50,14 @@ impl StateHead {
 }
 
 // A State. Its cuts, two bytes for each server, begin at `cuts_at`, and its yellow ids, three bytes each, at `yellow_at`.
-#[derive(Drop)]
+#[derive(Clone, Copy)]
 pub struct StateAt {
     pub head: StateHead,
     pub cuts_at: usize,
     pub yellow_at: usize,
 }
 
-#[derive(Drop)]
+#[derive(Clone, Copy)]
 pub enum Event {
     Action(ActionAt),
     Retransmission {

@@ -1,4 +1,6 @@
 // Records: the types that the reader, the writers and the engine share, and document 01's limits.
+#![tactic(auto)]
+
 ghost use Rattle.std.specs.Prelude.{◌≡◌, ◌≤◌};
 ghost use Rattle.format.specs.Limits.{most_servers_limit};
 ghost use Rattle.record.specs.Context.{reading_context};
@@ -16,14 +18,14 @@ use events::Event;
 use sets::everyone;
 
 // The index of a primary component, and that of an attempt to create one: neither stands for the other.
-#[derive(Drop)]
+#[derive(Clone, Copy)]
 pub struct PrimaryIndex(pub u32);
 
-#[derive(Drop)]
+#[derive(Clone, Copy)]
 pub struct AttemptIndex(pub u32);
 
 // The last primary component that a server knows of.
-#[derive(Drop)]
+#[derive(Clone, Copy)]
 pub struct LastPrimary {
     pub index: PrimaryIndex,
     pub attempt: AttemptIndex,
@@ -51,7 +53,7 @@ impl LastPrimary {
 }
 
 // What a server stores of the primary component that it attempts to create.
-#[derive(Drop)]
+#[derive(Clone, Copy)]
 pub struct Mark {
     pub status: u8,
     pub index: PrimaryIndex,
@@ -73,7 +75,7 @@ impl Mark {
 }
 
 // An action but its payload.
-#[derive(Drop)]
+#[derive(Clone, Copy)]
 pub struct ActionHead {
     pub creator: u8,
     pub index: u16,
@@ -97,7 +99,7 @@ impl ActionHead {
 
 // What a record is read against. `configured` is 0 where there was no regular configuration since the start or the last
 // recovery; `set` is then not looked at.
-#[derive(Drop)]
+#[derive(Clone, Copy)]
 pub struct Context {
     pub servers: u8,
     pub quota: u16,
@@ -108,7 +110,7 @@ pub struct Context {
 
 // The numbers of a server's state, in the order of its buffer. Its lists lie beside them. The queue holds what is not white: `green_count` is how
 // many of its first actions are green.
-#[derive(Drop)]
+#[derive(Clone, Copy)]
 pub struct State {
     pub layout: u8,
     pub servers: u8,

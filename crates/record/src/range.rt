@@ -11,7 +11,7 @@ use crate::sets::{has, inside};
 use crate::{Context, LastPrimary, Mark, State};
 
 // The limits as one value.
-#[derive(Drop)]
+#[derive(Clone, Copy)]
 pub struct Limits {
     pub fewest_servers: u8,
     pub most_servers: u8,

@@ -1,4 +1,6 @@
 // The register changed in its lent buffer: its start, and one operation. Document 02, K2.
+#![tactic(auto)]
+
 ghost use Rattle.std.specs.Prelude.{◌≡◌};
 ghost use Rattle.pegs.specs.Operations.{set_byte};
 ghost use Rattle.pegs.specs.Outcome.{register_number, changed, empty_on, applied_to, apply_on};

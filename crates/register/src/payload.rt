@@ -7,7 +7,7 @@ use octets::numbers::num8;
 use register_check::layout::{MOST_NAME, PLACE_SIZE};
 
 // The operation byte, and how long the name is: 0 and 0 of no operation.
-#[derive(Drop)]
+#[derive(Clone, Copy)]
 pub struct Shape {
     pub operation: u8,
     pub name: usize,

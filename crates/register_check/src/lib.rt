@@ -1,4 +1,6 @@
 // A register of pegs in a lent buffer: whether it is one, and what stands in it.
+#![tactic(auto)]
+
 ghost use Rattle.std.specs.Prelude.{◌≡◌, ◌+◌, ◌*◌, ◌≤◌, ◌<◌, length};
 ghost use Rattle.std.proofs.Math.Option.{some};
 ghost use Rattle.pegs.specs.Register.{most_pegs};
@@ -28,7 +30,7 @@ pub fn register_length() -> u32
 // 0, and 1 with which peg of the register it is, from 0 on, and its place in millimetres; or zeros where there is none of that name. Or the
 // number of a refusal and zeros.
 #[repr(C)]
-#[derive(Drop)]
+#[derive(Clone, Copy)]
 pub struct RegisterFind {
     pub number: u32,
     pub found: u32,

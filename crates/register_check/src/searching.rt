@@ -51,7 +51,7 @@ pub fn position(register: &[u8], name: &[u8]) -> usize
 }
 
 // Where the name belongs, and whether it is there.
-#[derive(Drop)]
+#[derive(Clone, Copy)]
 pub struct Search {
     pub index: usize,
     pub there: bool,

@@ -1,4 +1,6 @@
 // The pegs of a register in the plane: those of a region, as a register in a lent buffer, and the one nearest to a point. Document 02, K5.
+#![tactic(auto)]
+
 ghost use Rattle.std.specs.Prelude.{◌≡◌};
 ghost use Rattle.pegs.specs.Queries.{nearest_on};
 ghost use Rattle.register_check.specs.Answers.{located};

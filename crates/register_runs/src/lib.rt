@@ -1,4 +1,6 @@
 // Registers over runs: definitions and a theorem, no running code. The function here does nothing: its contract is the theorem.
+#![tactic(auto)]
+
 ghost use Rattle.register_runs.specs.Claim.{RegistersClaim};
 
 // Daemons that keep a register beside each server's state and call the joint step: at every moment each register is the fold of that server's green

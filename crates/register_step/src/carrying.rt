@@ -16,7 +16,7 @@ use register::apply;
 use step::meeting::meet;
 
 // How many actions were applied, and how many operations of them were refused.
-#[derive(Drop)]
+#[derive(Clone, Copy)]
 pub struct Carried {
     pub greened: u32,
     pub refused: u32,

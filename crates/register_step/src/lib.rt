@@ -1,4 +1,6 @@
 // Events at one server that keeps a register, over the lent buffers: the engine's step, and every action that it turns green applied in order.
+#![tactic(auto)]
+
 ghost use Rattle.std.specs.Prelude.{◌≡◌, ◌≤◌, length};
 ghost use Rattle.register_runs.specs.Joint.{joint_number};
 ghost use Rattle.register_step.specs.Answers.{refusedWith, AnswersJointly, AllRead};
@@ -19,7 +21,7 @@ use step::taking::{act, raise};
 // The number returned, the store word (1: state and register are stored first, as one), how many bytes of records the outgoing buffer begins with,
 // how many actions turned green, and how many operations of them were refused.
 #[repr(C)]
-#[derive(Drop)]
+#[derive(Clone, Copy)]
 pub struct RegisterAnswer {
     pub number: u32,
     pub store: u32,
@@ -102,7 +104,7 @@ pub fn joint_step(
 
 // As a burst's answer, with how many actions all its events turned green, and how many operations of these were refused.
 #[repr(C)]
-#[derive(Drop)]
+#[derive(Clone, Copy)]
 pub struct RegisterBurst {
     pub number: u32,
     pub store: u32,

@@ -1,5 +1,7 @@
 // Runs vectors through the register's exported functions. A line of the input is a vector in hexadecimal, and from '#' on a label, which
 // is written behind the answer.
+#![tactic(auto)]
+
 mod questions;
 mod report;
 mod runs;

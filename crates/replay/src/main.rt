@@ -1,5 +1,7 @@
 // Replays events at a table of servers: the set-up record and the events come on standard input, a line for each event goes to
 // standard output.
+#![tactic(auto)]
+
 ghost use Rattle.std.specs.Prelude.{◌≡◌, ◌≤◌, ◌<◌, length};
 ghost use Rattle.io.specs.Counts.{IsPrefixLen};
 ghost use Rattle.replay_servers.specs.Core.{table_servers};
@@ -22,7 +24,7 @@ const INPUT_ROOM: usize = 131072;
 const LINES_ROOM: usize = 16384;
 
 // The table after a part of the input, the number of the next event, how many bytes were taken, and whether there may be more.
-#[derive(Drop)]
+#[derive(Clone, Copy)]
 struct Printed {
     table: [Server; SERVERS],
     event: u64,
@@ -71,7 +73,7 @@ fn print_part(t: [Server; SERVERS], servers: u8, first: u64, input: &[u8], ended
 }
 
 // Bytes that are read and not yet taken; whether the input has ended with them.
-#[derive(Drop)]
+#[derive(Clone, Copy)]
 struct Filled {
     bytes: [u8; INPUT_ROOM],
     count: usize,
@@ -104,7 +106,7 @@ fn refill(old: &[u8]) -> Filled
 
 // Where the program stands between two reads: the table, the number of the next event, what is there of the input, and whether there
 // may be more.
-#[derive(Drop)]
+#[derive(Clone, Copy)]
 struct Standing {
     table: [Server; SERVERS],
     event: u64,

@@ -10,7 +10,7 @@ use record::range::sizes_ok;
 use replay_servers::{QUOTA, SERVERS};
 
 // The number that the set-up is refused with, or 0; how many servers, and the quota.
-#[derive(Drop)]
+#[derive(Clone, Copy)]
 pub struct Setup {
     pub number: u8,
     pub servers: u8,
@@ -80,7 +80,7 @@ pub fn read_setup(e: &[u8]) -> Setup
 
 // What comes next: an event of so many bytes behind its server byte; a wrong input and its number; what is there is not yet a whole
 // event; the input's end.
-#[derive(Drop)]
+#[derive(Clone, Copy)]
 pub enum Next {
     Event(usize),
     Wrong(u8),

@@ -1,3 +1,5 @@
 // The bytes that `replay` reads and prints: its input, and its lines.
+#![tactic(auto)]
+
 pub mod input; // input.rt: the set-up record, and what comes next
 pub mod line; // line.rt: lines, put into a lent buffer

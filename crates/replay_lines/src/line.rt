@@ -116,7 +116,7 @@ fn put_rest(
 }
 
 // What an event's line shows.
-#[derive(Drop)]
+#[derive(Clone, Copy)]
 pub struct Shown {
     pub number: u64,
     pub server: u64,

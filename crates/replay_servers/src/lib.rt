@@ -1,5 +1,7 @@
 // The servers of one program: one event at one server by value, and the table of servers, lent to one routine that alters the
 // named server's entry.
+#![tactic(auto)]
+
 ghost use Rattle.std.specs.Prelude.{◌≡◌};
 ghost use Rattle.replay_servers.specs.Core.{core_of, Alters};
 ghost use Rattle.replay_servers.specs.Table.{altered, replied};
@@ -33,20 +35,20 @@ pub const STATE_ROOM: usize = State::SIZE
 pub const OUT_ROOM: usize = 2 * State::RETRANSMISSION * ACTIONS;
 
 // A server's state in memory and its stored state.
-#[derive(Drop)]
+#[derive(Clone, Copy)]
 pub struct Server {
     pub state: [u8; STATE_ROOM],
     pub store: [u8; STATE_ROOM],
 }
 
 // The number returned, and how many records were put out.
-#[derive(Drop)]
+#[derive(Clone, Copy)]
 pub struct Reply {
     pub number: u32,
     pub sent: usize,
 }
 
-#[derive(Drop)]
+#[derive(Clone, Copy)]
 pub struct Stepped {
     pub server: Server,
     pub reply: Reply,
@@ -90,7 +92,7 @@ pub fn dispatch(t: &mut [Server], k: usize, e: &[u8]) -> Reply
     }
 }
 
-#[derive(Drop)]
+#[derive(Clone, Copy)]
 pub struct Ran {
     pub table: [Server; SERVERS],
     pub reply: Reply,

@@ -1,4 +1,6 @@
 // One event of the input at the table of servers, and its line.
+#![tactic(auto)]
+
 ghost use Rattle.std.specs.Prelude.{◌≡◌, ◌+◌, ◌-◌, ◌<◌, ◌≤◌, length, slice_index};
 ghost use Rattle.replay_servers.specs.Core.{table_servers, state_room};
 ghost use Rattle.io.specs.Counts.{IsPrefixLen};
@@ -55,7 +57,7 @@ fn shown(event: u64, server: u8, reply: Reply, s: Server) -> Shown
 }
 
 // The table after an event, and the length of its line.
-#[derive(Drop)]
+#[derive(Clone, Copy)]
 struct Answered {
     table: [Server; SERVERS],
     length: usize,
@@ -75,7 +77,7 @@ fn answer(t: [Server; SERVERS], event: u64, k: u8, e: &[u8], out: &mut [u8]) -> 
 }
 
 // What comes after a turn: the next one, more input, or nothing.
-#[derive(Drop)]
+#[derive(Clone, Copy)]
 pub enum Going {
     On,
     Read,
@@ -83,7 +85,7 @@ pub enum Going {
 }
 
 // The table after a turn, how many bytes of the input it took, the length of its line, and what comes after it.
-#[derive(Drop)]
+#[derive(Clone, Copy)]
 pub struct Turn {
     pub table: [Server; SERVERS],
     pub taken: usize,

@@ -10,7 +10,7 @@ use replay_servers::{SERVERS, Server};
 
 // The table after some turns, the number of the next event, how many bytes of the input they took, the length of their lines, and
 // what comes after them: `On` where there is no room for another line.
-#[derive(Drop)]
+#[derive(Clone, Copy)]
 pub struct Passed {
     pub table: [Server; SERVERS],
     pub event: u64,

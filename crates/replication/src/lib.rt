@@ -1,5 +1,7 @@
 // The replication machine of document 01, allowed runs, and their agreement: definitions and theorems, no running code.
 // A function here does nothing: its contract is a theorem.
+#![tactic(auto)]
+
 ghost use Rattle.replication.specs.Pairs.{Pairs};
 ghost use Rattle.replication.specs.Runs.Claim.{Demand3, Corollaries, KeptWhileUp};
 ghost use Rattle.replication.specs.Runs.Whites.{NotedGreenIsWhite, WhitesAreGreen, WhiteWasStored, NothingGone, NonePassedOver};

@@ -1,4 +1,6 @@
 // The state's own part of a step: whether the buffers are long enough, and whether the state's buffer holds a well-formed state.
+#![tactic(auto)]
+
 ghost use Rattle.std.specs.Prelude.{◌≡◌, ◌≤◌, length};
 ghost use Rattle.base.specs.Bytes.{Bytes};
 ghost use Rattle.image.specs.Layout.{header_size, state_length};

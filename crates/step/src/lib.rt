@@ -1,4 +1,6 @@
 // One event at one server, over the lent buffers.
+#![tactic(auto)]
+
 ghost use Rattle.std.specs.Prelude.{◌≡◌};
 ghost use Rattle.image.specs.Outcome.{step_on};
 ghost use Rattle.step.specs.Answers.{answered, refusedWith, quietly, storedFirst, sentOnly};
@@ -18,7 +20,7 @@ use taking::step;
 
 // The number returned, the store word (1: store first), and how many bytes of records the outgoing buffer begins with.
 #[repr(C)]
-#[derive(Drop)]
+#[derive(Clone, Copy)]
 pub struct Answer {
     pub number: u32,
     pub store: u32,
@@ -72,7 +74,7 @@ impl Answer {
 }
 
 // What an event was answered, and whether the raise of the white length is due behind it.
-#[derive(Drop)]
+#[derive(Clone, Copy)]
 pub struct Act {
     pub answer: Answer,
     pub raises: bool,

@@ -1,4 +1,5 @@
 // The lists of a state in its buffer, changed in place.
+#![tactic(auto)]
 
 pub mod numbers; // numbers.rt: numbers alone
 pub mod yellow; // yellow.rt: the yellow list

@@ -15,7 +15,7 @@ use octets::blocks::copy;
 use record::{AttemptIndex, LastPrimary, Mark, PrimaryIndex, State};
 
 // The numbers of votes; the yellow ids lie beside them.
-#[derive(Drop)]
+#[derive(Clone, Copy)]
 pub struct VoteNumbers {
     pub last: LastPrimary,
     pub attempt: AttemptIndex,

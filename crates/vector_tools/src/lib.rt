@@ -1,4 +1,5 @@
 // What programs that run vectors share.
+#![tactic(auto)]
 
 pub mod output; // output.rt: numbers and bytes, written
 pub mod patch; // patch.rt: bytes laid over a buffer

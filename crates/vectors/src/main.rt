@@ -1,6 +1,8 @@
 // Runs vectors: of records through the reader and the writers, of states through the state check, of collected States through the
 // exchange's decisions. A line of the input is a vector in hexadecimal, and from '#' on a label, which is written behind the answer. A line
 // that begins with '=' is the heading of a group. What a line that begins with 'w' says is written again too.
+#![tactic(auto)]
+
 mod building;
 mod decisions;
 mod patch;
@@ -12,7 +14,7 @@ mod writing;
 use vector_tools::text;
 
 // What the vectors of a group are run through.
-#[derive(Drop)]
+#[derive(Clone, Copy)]
 enum Group {
     Nothing,
     Records,

@@ -53,7 +53,7 @@ fn answer(base: &[u8], e: &[u8]) {
 }
 
 // How many changes left 0, gave 7 and gave 8.
-#[derive(Drop)]
+#[derive(Clone, Copy)]
 struct Tally {
     read: u64,
     short: u64,

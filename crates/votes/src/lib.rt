@@ -1,4 +1,6 @@
 // Last primaries: which of two is the later one, and whether those here are a quorum of one.
+#![tactic(auto)]
+
 ghost use Rattle.std.specs.Prelude.{◌≡◌};
 ghost use Rattle.base.specs.Sets.{lowest_member};
 ghost use Rattle.format.specs.Limits.{most_servers_limit};

@@ -17,7 +17,7 @@ use record::events::{Event, StateHead, VERSION};
 use record::{ActionHead, State};
 
 // How many bytes the record has, so that the next one goes behind them; or no room: then the rest is as it was.
-#[derive(Drop)]
+#[derive(Clone, Copy)]
 pub enum Written {
     Next(usize),
     Full,

@@ -1,0 +1,31 @@
+use Rattle.burst.proofs.BurstCode.{along_starts, along_stops, along_inside, along_less, end_fits, taken_fits, along_refused, along_ends, along_on}
+use Prim.Native.Nat.{◌-◌}
+use borrow.Author.Rules.{rules}
+use Rattle.burst.proofs.take_events.Goals as goal
+
+pub loop-size-init : goal.loop-size-init
+loop-size-init c = search (rules, along_starts)
+
+pub returns-in_default : goal.returns-in_default
+returns-in_default c = search (rules, along_stops)
+
+pub overflow_add-end : goal.overflow_add-end
+overflow_add-end c = search (rules, end_fits)
+
+pub slice_bounds-step-end : goal.slice_bounds-step-end
+slice_bounds-step-end c = search (rules, along_inside)
+
+pub returns-then-a-ne0 : goal.returns-then-a-ne0
+returns-then-a-ne0 c = search (rules, along_refused)
+
+pub overflow_add-taken : goal.overflow_add-taken
+overflow_add-taken c = search (rules, taken_fits)
+
+pub returns-then-not-is_silent : goal.returns-then-not-is_silent
+returns-then-not-is_silent c = search (rules, along_ends)
+
+pub loop-size-smaller : goal.loop-size-smaller
+loop-size-smaller c = search (rules, along_less)
+
+pub loop-size-preserved : goal.loop-size-preserved
+loop-size-preserved c = search (rules, along_on)

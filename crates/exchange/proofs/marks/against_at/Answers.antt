@@ -1,0 +1,13 @@
+use Rattle.base.proofs.Branches.{pick_denied}
+use Rattle.exchange.proofs.AnyLaws.{found_already, found_now}
+use borrow.Author.Rules.{rules}
+use Rattle.exchange.proofs.marks.against_at.Goals as goal
+
+pub returns-then-not-has : goal.returns-then-not-has
+returns-then-not-has c = search (rules, pick_denied)
+
+pub returns-then-found : goal.returns-then-found
+returns-then-found c = search (rules, found_already)
+
+pub returns : goal.returns
+returns c = search (rules, found_now)

@@ -1,0 +1,20 @@
+use borrow.Author.Rules.{rules}
+use native.Mathlib.Omega.{arith}
+use Prim.Native.Nat.{◌-◌}
+use Rattle.exchange.proofs.PassingLaws.{passing_start, passing_again, passing_end}
+use Rattle.exchange.proofs.primary.group.Goals as goal
+
+pub loop-k-init : goal.loop-k-init
+loop-k-init c = search (rules, passing_start)
+
+pub overflow_add-k : goal.overflow_add-k
+overflow_add-k c = omega arith
+
+pub loop-k-smaller : goal.loop-k-smaller
+loop-k-smaller c = omega arith
+
+pub loop-k-preserved : goal.loop-k-preserved
+loop-k-preserved c = search (rules, passing_again)
+
+pub returns : goal.returns
+returns c = search (rules, passing_end)

@@ -1,0 +1,20 @@
+use Rattle.exchange.proofs.RaiseLaws.{met_start, met_again, met_end}
+use borrow.Author.Rules.{rules}
+use native.Mathlib.Omega.{arith}
+use Prim.Native.Nat.{◌-◌}
+use Rattle.exchange.proofs.table.raise_lists.Goals as goal
+
+pub loop-k-init : goal.loop-k-init
+loop-k-init c = search (rules, met_start)
+
+pub overflow_add-k : goal.overflow_add-k
+overflow_add-k c = omega arith
+
+pub loop-k-smaller : goal.loop-k-smaller
+loop-k-smaller c = omega arith
+
+pub loop-k-preserved : goal.loop-k-preserved
+loop-k-preserved c = search (rules, met_again)
+
+pub returns : goal.returns
+returns c = search (rules, met_end)

@@ -1,0 +1,9 @@
+use Rattle.plane.proofs.Tests.{between_on, between_off}
+use borrow.Author.Rules.{rules}
+use Rattle.plane.proofs.between.Goals as goal
+
+pub returns-then-low-z : goal.returns-then-low-z
+returns-then-low-z c = search (rules, between_on)
+
+pub returns : goal.returns
+returns c = search (rules, between_off)

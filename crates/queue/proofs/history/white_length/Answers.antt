@@ -1,0 +1,7 @@
+use Rattle.queue.proofs.WhiteLaws.{white_made, white_computed}
+use native.Mathlib.Omega.{arith}
+use borrow.Author.Rules.{rules}
+use Rattle.queue.proofs.history.white_length.Goals as goal
+
+pub returns : goal.returns
+returns c = ((search (rules, white_made), omega arith), search (rules, white_computed))

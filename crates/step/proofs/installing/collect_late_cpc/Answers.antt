@@ -1,0 +1,32 @@
+use Rattle.step.proofs.InstallingLaws.{cpc_room, late_some, late_header, late_waiting, late_complete}
+use borrow.Author.Tests.{not-true, not-false}
+use Rattle.step.proofs.installing.collect_late_cpc.Goals as goal
+
+pub add_cpc-requires : goal.add_cpc-requires
+add_cpc-requires c = cpc_room _ _ _ c.requires.holds c.requires.fact.0
+
+pub all_cpcs_in-requires : goal.all_cpcs_in-requires
+all_cpcs_in-requires c = late_some _ _ _ c.requires c.add_cpc.ensures
+
+pub returns-then-not-all_cpcs_in : goal.returns-then-not-all_cpcs_in
+returns-then-not-all_cpcs_in c =
+    late_waiting _ _ _
+    c.requires
+    c.add_cpc.ensures
+    _ c.all_cpcs_in.ensures
+    (not-true _ c.if-not-all_cpcs_in.true)
+
+pub set_mode-requires : goal.set_mode-requires
+set_mode-requires c =
+    late_header _ _ _
+    c.requires
+    c.add_cpc.ensures
+
+pub returns : goal.returns
+returns c =
+    late_complete _ _ _
+    c.requires
+    c.add_cpc.ensures
+    _ c.all_cpcs_in.ensures
+    _ (not-false _ c.if-not-all_cpcs_in.false)
+    c.set_mode.ensures

@@ -1,0 +1,6 @@
+use Rattle.updates.proofs.Changes.{two_stores}
+use borrow.Author.Rules.{rules}
+use Rattle.updates.proofs.states.put_state.Goals as goal
+
+pub returns : goal.returns
+returns c = search (rules, two_stores)

@@ -1,0 +1,6 @@
+use Rattle.vectors.proofs.Checked.{zero_holds}
+use Rattle.std.proofs.Common.{rules}
+use Rattle.vectors.proofs.decisions.decide.Goals as goal
+
+pub answers-requires : goal.answers-requires
+answers-requires c = search (rules, zero_holds)

@@ -1,0 +1,6 @@
+use Rattle.vectors.proofs.Checked.{zero_holds}
+use Rattle.std.proofs.Common.{rules}
+use Rattle.vectors.proofs.decisions.own_part.Goals as goal
+
+pub part-p-requires : goal.part-p-requires
+part-p-requires c = search (rules, zero_holds)
