@@ -26,6 +26,7 @@ use Rattle.pegs.proofs.Kept.{Kept, NameRange, GivesIf, kept_none, kept_advance, 
 -- ---- found and listed
 
 listed_found : (g : Peg) (l : List Peg) → Once l → Memᴰ g l → find g.name l ≡ some g.place
+listed_found g [] o x'' = elim x'' [ ]
 listed_found g (h ∷ l) o (Memᴰ.head e) =
     found_here g.name h l (ap (λ (x : Peg). same g.name x.name) (sym e) ∙ same_yes g.name) ∙ ap (λ (x : Peg). some x.place) (sym e)
 listed_found g (h ∷ l) o (Memᴰ.tail m) = go (known (same g.name h.name)) (listed_found g l o.1 m)
