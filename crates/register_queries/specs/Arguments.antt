@@ -1,5 +1,5 @@
 -- Regions and points, by the numbers that the exported functions take, and what is answered on a region.
-use Rattle.std.specs.Prelude.{ℕ, ◌≡◌, ℤ}
+use Rattle.std.specs.Prelude.{ℕ, ◌≡◌, ℤ, List}
 use Rattle.base.specs.Lent.{Lent}
 use Rattle.plane.specs.declared.Point.{Point}
 use Rattle.plane.specs.declared.Region.{Region}
@@ -17,5 +17,5 @@ abbrev pub disc : (easting northing : ℤ) → (radius : ℕ) → Region
 disc e n m = Within (point e n) m
 
 -- The number returned, and the answer's buffer afterwards, are those of the region.
-abbrev pub AnswersRegion : (number : ℕ) → Region → (register answer : Lent) → Type 0
-AnswersRegion k a r b = changed k b.exit.now ≡ region_on a r.entry.now b.entry.now
+abbrev pub AnswersRegion : (number : ℕ) → Region → (register : List ℕ) → (answer : Lent) → Type 0
+AnswersRegion k a r b = changed k b.exit.now ≡ region_on a r b.entry.now

@@ -3,7 +3,7 @@ use Rattle.std.specs.Prelude.{ℕ, ◌≡◌, List}
 use Rattle.base.specs.Lent.{Lent}
 use Rattle.register_runs.specs.Joint.{Joint, joint_number, joint_on}
 use Rattle.register_step.specs.declared.RegisterAnswer.{RegisterAnswer}
-use Rattle.std.specs.Borrow.{Bor}
+use Rattle.std.specs.Borrow.{MutBor}
 
 -- An answer, and the three buffers afterwards.
 unfoldable pub joined : RegisterAnswer → (state register out : List ℕ) → Joint
@@ -23,10 +23,10 @@ abbrev pub refusedWith : (number : ℕ) → RegisterAnswer
 refusedWith k = record { number = k; store = 0; sent = 0; greened = 0; refused = 0 }
 
 -- The answer to the event and the lent buffers afterwards are the joint step's.
-abbrev pub AnswersJointly : RegisterAnswer → (state register event out : Lent) → Type 0
+abbrev pub AnswersJointly : RegisterAnswer → (state register : Lent) → (event : List ℕ) → (out : Lent) → Type 0
 AnswersJointly a b r e o =
-    joined a b.exit.now r.exit.now o.exit.now ≡ joint_on b.entry.now r.entry.now e.entry.now o.entry.now
+    joined a b.exit.now r.exit.now o.exit.now ≡ joint_on b.entry.now r.entry.now e o.entry.now
 
 -- The three buffers as they are lent have the number 0.
-abbrev pub AllRead : (state register out : Bor (List ℕ)) → Type 0
+abbrev pub AllRead : (state register out : MutBor (List ℕ)) → Type 0
 AllRead b r o = joint_number b.now r.now o.now ≡ 0

@@ -131,17 +131,17 @@ unfoldable pub is_last : RegisterBurst → Bool
 is_last y = y.events =? 0 or not (y.store =? 0 and y.sent =? 0)
 
 -- The answer to the first of the events and the lent buffers afterwards are those of a burst of one event; whether it would stand first.
-abbrev pub AnswersFirst : RegisterBurst → (first : Bool) → (state register events out : Lent) → Type 0
+abbrev pub AnswersFirst : RegisterBurst → (first : Bool) → (state register : Lent) → (events : List ℕ) → (out : Lent) → Type 0
 AnswersFirst a f b r e o =
-    left a b.exit.now r.exit.now o.exit.now ≡ burst_from 1 f b.entry.now r.entry.now e.entry.now o.entry.now
+    left a b.exit.now r.exit.now o.exit.now ≡ burst_from 1 f b.entry.now r.entry.now e o.entry.now
 
 -- The same for the first behind the events of x.
-abbrev pub AnswersNext : (a x : RegisterBurst) → (state register events out : Lent) → Type 0
+abbrev pub AnswersNext : (a x : RegisterBurst) → (state register : Lent) → (events : List ℕ) → (out : Lent) → Type 0
 AnswersNext a x b r e o =
     left a b.exit.now r.exit.now o.exit.now
-    ≡ burst_from 1 (x.events =? 0) b.entry.now r.entry.now (drop x.bytes e.entry.now) o.entry.now
+    ≡ burst_from 1 (x.events =? 0) b.entry.now r.entry.now (drop x.bytes e) o.entry.now
 
 -- The answer to the events and the lent buffers afterwards are the burst's.
-abbrev pub AnswersAll : RegisterBurst → (state register events out : Lent) → Type 0
+abbrev pub AnswersAll : RegisterBurst → (state register : Lent) → (events : List ℕ) → (out : Lent) → Type 0
 AnswersAll a b r e o =
-    left a b.exit.now r.exit.now o.exit.now ≡ joint_burst_on b.entry.now r.entry.now e.entry.now o.entry.now
+    left a b.exit.now r.exit.now o.exit.now ≡ joint_burst_on b.entry.now r.entry.now e o.entry.now

@@ -52,7 +52,7 @@ pub record CarriedMet (c : Carried) (b b₁ r r₁ e : List ℕ) (s : Server) : 
   pub carried : carried_by c r₁ ≡ carry_on (greened s (met s e)) r
   pub onward : CarriesOn (greened s (met s e)) r r₁
 
-abbrev pub CarriesMet : Carried → (state register event : Lent) → Type 0
+abbrev pub CarriesMet : Carried → (state register : Lent) → (event : List ℕ) → Type 0
 CarriesMet c b r e =
     (s : Server) → Holds s b.entry.now
-    → CarriedMet c b.entry.now b.exit.now r.entry.now r.exit.now e.entry.now s
+    → CarriedMet c b.entry.now b.exit.now r.entry.now r.exit.now e s
