@@ -42,6 +42,7 @@ each_of P [] f = tt
 each_of P (x ∷ xs) f = (f x (Memᴰ.head refl), each_of P xs (λ y m. f y (Memᴰ.tail m)))
 
 pub each_in : {A : Type 0} (P : A → Type 0) (xs : List A) → Each P xs → (x : A) → Memᴰ x xs → P x
+each_in {A = A} P [] h x x4 = elim x4 [ ]
 each_in P (y ∷ xs) h x (Memᴰ.head e) = subst P (sym e) h.0
 each_in P (y ∷ xs) h x (Memᴰ.tail m) = each_in P xs h.1 x m
 

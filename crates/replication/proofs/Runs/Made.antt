@@ -65,6 +65,8 @@ ids_above me k (suc m) (x ∷ xs) e a (Memᴰ.tail h) =
 one_of_id : (me k m : ℕ) (xs : List Action) → ids_in xs ≡ map (λ i. record { creator = me; index = i }) (after k m) → (a b : Action) → Memᴰ a xs
     → Memᴰ b xs → a.id ≡ b.id → a ≡ b
 unfolding after ids_in
+one_of_id me k (suc m) [] e a b h g i = elim h [ ]
+one_of_id me k zero [] e a b h g i = elim h [ ]
 one_of_id me k zero (x ∷ xs) e a b h g i = let z : ◌≡◌ {A = ℕ} 0 1 = cc in absurd (omega arith)
 one_of_id me k (suc m) (x ∷ xs) e a b (Memᴰ.head f) (Memᴰ.head g) i = f ∙ sym g
 one_of_id me k (suc m) (x ∷ xs) e a b (Memᴰ.head f) (Memᴰ.tail g) i =
@@ -92,7 +94,7 @@ module _ {n q : ℕ} {l : Run} (A : Allowed n q l) where
     pub own : Own (memory_at n q l place server) (memory_at n q l (suc place) server) a
 
   unfoldable pub made_later : {p r : ℕ} {a : Action} → p ≤ r → Made p a → Made r a
-  made_later h x = record { place = x.place; earlier = omega (arith, x.earlier); server = x.server; act = x.act; payload = x.payload; asked = x.asked; is = x.is; own_val = x.own }
+  made_later h x = record { place = x.place; earlier = omega (arith, x.earlier); server = x.server; act = x.act; payload = x.payload; asked = x.asked; is = x.is; own = x.own }
 
   pub made_by : {p : ℕ} {a : Action} (x : Made p a) → a.id.creator ≡ x.server
   made_by x = x.own.creator ∙ (numbers n q x.server l x.place).memory.me
@@ -138,7 +140,7 @@ module _ {n q : ℕ} {l : Run} (A : Allowed n q l) where
     payload = u;
     asked = e;
     is = refl;
-    own_val = subst (λ t. Own (memory_at n q l p i) t (made_of u (memory_at n q l p i))) (sym x.memory_next) (own_raised _ (request_own (subst (λ r. Transition (memory_at n q l p i) r x.after x.by.records x.stores) e x.moves)));
+    own = subst (λ t. Own (memory_at n q l p i) t (made_of u (memory_at n q l p i))) (sym x.memory_next) (own_raised _ (request_own (subst (λ r. Transition (memory_at n q l p i) r x.after x.by.records x.stores) e x.moves)));
   }
 
   each_later : (p r : ℕ) (m : Log) → p ≤ r → EachIn (Made p) m → EachIn (Made r) m

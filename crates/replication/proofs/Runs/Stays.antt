@@ -22,6 +22,8 @@ use Rattle.replication.proofs.Runs.Memberships.{entered_in, MembershipStep, memb
 -- A regular configuration is entered.
 pub regular_enters : {n : ℕ} {m o : Membership} {i s : ℕ} → MembershipStep n m (regular i s) o → o ≡ entered_in n (record { id = i; set = s }) m
 unfolding is_message
+regular_enters {n = n} {m = m} {i = i} {s = s} (M.attempts _ o x5 _) = elim x5 [ ]
+regular_enters {n = n} {m = m} {i = i} {s = s} (M.settles _ o x6 _) = elim x6 [ ]
 regular_enters (M.ignores r e f) = not_both e
 regular_enters (M.joins c o e j) = refl
 

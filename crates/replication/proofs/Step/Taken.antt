@@ -58,21 +58,24 @@ pick_later p q = go (known (later p q))
 latest_rises : (p : Primary) (xs : List State) → NotLater p (latest p xs)
 unfolding latest
 latest_rises p [] = not_later_refl p
-latest_rises p (x ∷ xs) = not_later_trans (pick_later p x.last).0 (latest_rises _ xs)
+latest_rises p (x ∷ xs) = not_later_trans (pick_later p x.last).0 (latest_rises (pick (later p x.last) x.last p) xs)
 
 latest_covers : (x : State) (p : Primary) (xs : List State) → Memᴰ x xs → NotLater x.last (latest p xs)
 unfolding latest
-latest_covers x p (y ∷ xs) (Memᴰ.head e) = rw e (not_later_trans (pick_later p y.last).1 (latest_rises _ xs))
-latest_covers x p (y ∷ xs) (Memᴰ.tail m) = latest_covers x _ xs m
+latest_covers x p [] x'' = elim x'' [ ]
+latest_covers x p (y ∷ xs) (Memᴰ.head e) = rw e (not_later_trans (pick_later p y.last).1 (latest_rises (pick (later p y.last) y.last p) xs))
+latest_covers x p (y ∷ xs) (Memᴰ.tail m) = latest_covers x (pick (later p y.last) y.last p) xs m
 
 -- No State's last primary is later than the taken one.
 pub taken_covers : (x : State) (xs : List State) → Memᴰ x xs → NotLater x.last (taken_primary xs)
 unfolding taken_primary
+taken_covers x [] x'' = elim x'' [ ]
 taken_covers x (y ∷ xs) (Memᴰ.head e) = rw e (latest_rises y.last xs)
 taken_covers x (y ∷ xs) (Memᴰ.tail m) = latest_covers x y.last xs m
 
 pub highest_covers : (f : State → ℕ) (x : State) (xs : List State) → Memᴰ x xs → f x ≤ highest f xs
 unfolding highest
+highest_covers f x [] x'' = elim x'' [ ]
 highest_covers f x (y ∷ xs) (Memᴰ.head e) = omega (arith, ap f e)
 highest_covers f x (y ∷ xs) (Memᴰ.tail m) = omega (arith, highest_covers f x xs m)
 

@@ -43,6 +43,7 @@ add_ids_keeps x (d ∷ ds) ids m = add_ids_keeps x ds (add_id d ids) (add_keeps 
 
 pub add_ids_joins : (x : Id) (ds ids : List Id) → Memᴰ x ds → Memᴰ x (add_ids ds ids)
 unfolding add_ids
+add_ids_joins x [] ids x'' = elim x'' [ ]
 add_ids_joins x (d ∷ ds) ids (Memᴰ.head e) = add_ids_keeps x ds (add_id d ids) (rw e (add_joins d ids))
 add_ids_joins x (d ∷ ds) ids (Memᴰ.tail m) = add_ids_joins x ds (add_id d ids) m
 

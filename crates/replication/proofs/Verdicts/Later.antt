@@ -52,6 +52,8 @@ Until P i rs k = (x : ℕ) (y : Row) → x < k → at rs x ≡ some y → y.serv
 
 settles_by_lem : (o : Role) (b : Bool) → Steady o → b ≡ true → settles_by o b ≡ true
 unfolding settles_by
+settles_by_lem comes_back b s h = elim s [ ]
+settles_by_lem goes_down b s h = elim s [ ]
 settles_by_lem delivers b s h = h
 settles_by_lem (takes c) b s h = refl
 settles_by_lem (transits t) b s h = h
@@ -75,6 +77,10 @@ settles_yes i (y ∷ rs) (suc k) r c e h t u = go (known (y.server =? i)) (settl
 
 next_by_lem : (o : Role) (y : Row) (b : Option Change) → Quiet o → next_by o y b ≡ b
 unfolding next_by
+next_by_lem (takes _) y b s = elim s [ ]
+next_by_lem (transits set) y b s = elim s [ ]
+next_by_lem comes_back y b s = elim s [ ]
+next_by_lem goes_down y b s = elim s [ ]
 next_by_lem delivers y b s = refl
 next_by_lem saves y b s = refl
 next_by_lem asks y b s = refl
@@ -123,6 +129,8 @@ Unsent o s = (o ≡ asks) × (s ≡ [])
 -- No other event is passed over.
 no_crash : (o : Role) (s : List (List ℕ)) (b : Bool) → Eventful o → crashes_by o s b ≡ true → Unsent o s
 unfolding crashes_by
+no_crash goes_down s b v h = elim v [ ]
+no_crash saves s b v h = elim v [ ]
 no_crash delivers s b v h = not_both h
 no_crash (takes c) s b v h = not_both h
 no_crash (transits t) s b v h = not_both h

@@ -111,6 +111,21 @@ ends_yellow (L.without_quorum h) = refl
 install_green : {s t : Server} {r : Record} {rs : List Record} {b : Bool} → Transition s r t rs b → Installing s t r
     → t.log.green ≡ (install_log s.votes.yellow.ids s.log).green
 unfolding mode_number install with_cpc send_waiting numbered
+install_green {s = s} (L.collects _ _ _) h = elim h [ ]
+install_green {s = s} (L.collects_last _ _ _ _) h = elim h [ ]
+install_green {s = s} (L.exchanges k p a _ _) h = elim h [ ]
+install_green {s = s} (L.ignores_state _ _) h = elim h [ ]
+install_green {s = s} (L.joins c _) h = elim h [ ]
+install_green {s = s} (L.joins_marked c _) h = elim h [ ]
+install_green {s = s} (L.joins_unmarked c _) h = elim h [ ]
+install_green {s = s} (L.joins_yellow c _) h = elim h [ ]
+install_green {s = s} (L.leaves from to _ _ _) h = elim h [ ]
+install_green {s = s} (L.numbers p _) h = elim h [ ]
+install_green {s = s} (L.reddens_resent k p a _) h = elim h [ ]
+install_green {s = s} (L.sends p _) h = elim h [ ]
+install_green {s = s} L.recovers h = elim h [ ]
+install_green {s = s} {t = t} {rs = rs} (L.collects_whole _ _ _ _ _ _ _) h = elim h [ ]
+install_green {s = s} {t = t} {rs = rs} (L.exchanges_last k p a _ _ _ _ _) h = elim h [ ]
 install_green {s} (L.installs_late a e) h = yellow_green a (install s)
 install_green (L.installs k i e c) h = refl
 install_green {s} (L.reddens a e) (on_action_lem b f g) = other_mode e f (λ z. omega arith)

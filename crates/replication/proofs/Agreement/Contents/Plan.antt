@@ -41,11 +41,13 @@ module _ (f : State → ℕ) where
 
   from_covered : (m : ℕ) (x : State) (xs : List State) → Memᴰ x xs → lowest_from f m xs ≤ f x
   unfolding lowest_from
+  from_covered m x [] x3 = elim x3 [ ]
   from_covered m x (y ∷ xs) (Memᴰ.head e) = omega (arith, from_low (min m (f y)) xs, ap f e)
   from_covered m x (y ∷ xs) (Memᴰ.tail h) = from_covered (min m (f y)) x xs h
 
   pub lowest_covered : (x : State) (xs : List State) → Memᴰ x xs → lowest f xs ≤ f x
   unfolding lowest
+  lowest_covered x [] x'' = elim x'' [ ]
   lowest_covered x (y ∷ xs) (Memᴰ.head e) = omega (arith, from_low (f y) xs, ap f e)
   lowest_covered x (y ∷ xs) (Memᴰ.tail h) = from_covered (f y) x xs h
 
@@ -67,6 +69,7 @@ module _ (f : State → ℕ) where
 
   some_with : (v : ℕ) (xs : List State) (x : State) → Memᴰ x xs → f x ≡ v → (k : ℕ) × (first_with f v xs ≡ some k)
   unfolding first_with pick
+  some_with v [] x m e = elim m [ ]
   some_with v (y ∷ xs) x m e = go (known (f y =? v)) m (λ h. some_with v xs x h e)
     where
       go : Known (f y =? v) → Memᴰ x (y ∷ xs) → (Memᴰ x xs → (k : ℕ) × (first_with f v xs ≡ some k)) → (k : ℕ) × (first_with f v (y ∷ xs) ≡ some k)
@@ -87,6 +90,7 @@ module _ (f : State → ℕ) where
   -- Some server is the resender.
   pub someone_resends : (x : State) (xs : List State) → Memᴰ x xs → (k : ℕ) × (resender f xs ≡ some k)
   unfolding resender
+  someone_resends x [] m = elim m [ ]
   someone_resends x (y ∷ xs) m = let h = highest_is y xs in some_with _ (y ∷ xs) h.0 h.1 h.2
 
 -- ---- one's part

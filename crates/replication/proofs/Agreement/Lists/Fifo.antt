@@ -38,7 +38,7 @@ pub follows_below : (n : ℕ) (f g : ℕ → ℕ) (x : List Id) → ((c : ℕ) �
 follows_below n f g [] e b h = tt
 follows_below n f g (d ∷ x) e b h = (
   omega (arith, h.0, e d.creator b.0),
-  follows_below n _ _ x (λ c l. ap (λ k. k + one (d.creator =? c)) (e c l)) b.1 h.1,
+  follows_below n (λ c. f c + one (d.creator =? c)) (λ c. g c + one (d.creator =? c)) x (λ c l. ap (λ k. k + one (d.creator =? c)) (e c l)) b.1 h.1,
 )
 
 -- ---- one list behind another
@@ -46,16 +46,16 @@ follows_below n f g (d ∷ x) e b h = (
 pub follows_append : (f : ℕ → ℕ) (x y : List Id) → Follows f x → Follows (λ c. f c + created_by c x) y → Follows f (x ++ y)
 unfolding count
 follows_append f [] y h k = follows_same _ f y (λ c. omega arith) k
-follows_append f (d ∷ x) y h k = (h.0, follows_append _ x y h.1 (follows_same _ _ y (λ c. omega arith) k))
+follows_append f (d ∷ x) y h k = (h.0, follows_append (λ c. f c + one (d.creator =? c)) x y h.1 (follows_same _ _ y (λ c. omega arith) k))
 
 pub follows_first : (f : ℕ → ℕ) (x y : List Id) → Follows f (x ++ y) → Follows f x
 follows_first f [] y h = tt
-follows_first f (d ∷ x) y h = (h.0, follows_first _ x y h.1)
+follows_first f (d ∷ x) y h = (h.0, follows_first (λ c. f c + one (d.creator =? c)) x y h.1)
 
 pub follows_second : (f : ℕ → ℕ) (x y : List Id) → Follows f (x ++ y) → Follows (λ c. f c + created_by c x) y
 unfolding count
 follows_second f [] y h = follows_same f _ y (λ c. omega arith) h
-follows_second f (d ∷ x) y h = follows_same _ _ y (λ c. omega arith) (follows_second _ x y h.1)
+follows_second f (d ∷ x) y h = follows_same _ _ y (λ c. omega arith) (follows_second (λ c. f c + one (d.creator =? c)) x y h.1)
 
 pub begins_fifo : (x y : List Id) → Begins x y → Fifo y → Fifo x
 unfolding Begins
@@ -69,15 +69,16 @@ self c = one_yes _ (eq_yes c c refl)
 pub follows_within : (f : ℕ → ℕ) (x : List Id) (d : Id) → Follows f x → Memᴰ d x
     → (f d.creator < d.index) × (d.index ≤ f d.creator + created_by d.creator x)
 unfolding count
+follows_within f [] d h x3 = elim x3 [ ]
 follows_within f (e ∷ x) d h (Memᴰ.head p) =
     subst (λ z. (f z.creator < z.index) × (z.index ≤ f z.creator + created_by z.creator (e ∷ x))) (sym p)
     (omega (arith, h.0), omega (arith, h.0, self e.creator))
-follows_within f (e ∷ x) d h (Memᴰ.tail m) = let k = follows_within _ x d h.1 m in (omega (arith, k.0), omega (arith, k.1))
+follows_within f (e ∷ x) d h (Memᴰ.tail m) = let k = follows_within (λ c. f c + one (e.creator =? c)) x d h.1 m in (omega (arith, k.0), omega (arith, k.1))
 
 pub follows_has : (f : ℕ → ℕ) (x : List Id) → Follows f x → (c i : ℕ) → f c < i → i ≤ f c + created_by c x → Memᴰ (record { creator = c; index = i }) x
 unfolding count
 follows_has f [] h c i low high = absurd (omega arith)
-follows_has f (d ∷ x) h c i low high = go (known (d.creator =? c)) (ℕ_discrete i (f c + 1)) (λ l m. follows_has _ x h.1 c i l m)
+follows_has f (d ∷ x) h c i low high = go (known (d.creator =? c)) (ℕ_discrete i (f c + 1)) (λ l m. follows_has (λ c. f c + one (d.creator =? c)) x h.1 c i l m)
   where
     go : Known (d.creator =? c) → Dec (i ≡ f c + 1)
         → (f c + one (d.creator =? c) < i → i ≤ f c + one (d.creator =? c) + created_by c x → Memᴰ (record { creator = c; index = i }) x)

@@ -34,6 +34,7 @@ Once x = (d : Id) → id_count d x ≤ 1
 
 pub member_has : (d : Id) (x : List Id) → Memᴰ d x → has_id d x ≡ true
 unfolding has_id ◌or◌
+member_has d [] x'' = elim x'' [ ]
 member_has d (e ∷ x) (Memᴰ.head p) = rw (same_id_yes d e (ap (λ y. y.creator) p) (ap (λ y. y.index) p))
 member_has d (e ∷ x) (Memᴰ.tail m) = go (known (same_id d e)) (member_has d x m)
   where

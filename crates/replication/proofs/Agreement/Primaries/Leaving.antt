@@ -44,6 +44,8 @@ entered_begins g cuts x y h = begins_behind g (entered cuts x) (entered cuts y) 
 -- Who takes a regular configuration was in one of four states.
 regular_joins : {n : ℕ} {m o : Membership} {i s : ℕ} → MembershipStep n m (regular i s) o → (x : Mode) × (m.mode ≡ x) × Joinable x
 unfolding is_message
+regular_joins {n = n} {m = m} {i = i} {s = s} (M.attempts _ o x5 _) = elim x5 [ ]
+regular_joins {n = n} {m = m} {i = i} {s = s} (M.settles _ o x6 _) = elim x6 [ ]
 regular_joins (M.ignores r e f) = not_both e
 regular_joins (M.joins c x e j) = (x, e, j)
 

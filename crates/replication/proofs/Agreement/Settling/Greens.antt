@@ -71,6 +71,7 @@ in_exchange_lem Un h = absurd (omega arith)
 -- An action of a list of made ones is in another that has its id.
 module _ {n q : ℕ} {l : Run} (A : Allowed n q l) where
   each_in : (P : Action → Type 0) (xs : List Action) → Each P xs → (a : Action) → Memᴰ a xs → P a
+  each_in P [] h a x'' = elim x'' [ ]
   each_in P (x ∷ xs) h a (Memᴰ.head e) = subst P (sym e) h.0
   each_in P (x ∷ xs) h a (Memᴰ.tail m) = each_in P xs h.1 a m
 
