@@ -19,6 +19,7 @@ RULESET = re.compile(r"^([ \t]*)(?:pub )?ruleset (" + NAME + r")")
 HEAD = re.compile(r"^([ \t]*)(?:pub )?(module|record|data|mutual)\b ?(" + NAME + r")?")
 USED = re.compile(r"^(?:pub )?use ([\w.+-]+)\.\{([^}]*)\}", re.M)
 BOUND = re.compile(r"\b(?:let (?:mut )?|for )(\w+)\b|\b(\w+)\s*:(?!:)")
+ALIAS = re.compile(r" as (" + NAME + r")(?=[,}])")
 COMMENT = re.compile(r"(?:--|//).*$", re.M)
 # document 01's states keep their capital, and a type is in camel case
 GIVEN = {"P3-coloured": "P3Coloured", "outOfRange": "out_of_range"}
@@ -49,13 +50,14 @@ def pages():
 
 
 def of_a_function(path):
-    return path.endswith(("/Proof.antt", "/Invariants.antt", "/Answers.antt"))
+    return "/specs/" not in path and path.endswith(("/Proof.antt", "/Invariants.antt", "/Answers.antt"))
 
 
 def declared(files):
     """The names that files of specs/ and lemmas declare, the fields among them, and the library's names that files import."""
     names, fields, library = set(), set(), set()
     for path, text in files.items():
+        names |= set(ALIAS.findall(text))
         if not path.endswith(".antt"):
             continue
         for m in USED.finditer(text):

@@ -29,7 +29,7 @@ use Rattle.replication.proofs.Agreement.Whites.Room.{roomy}
 use Rattle.replication.proofs.Agreement.Settling.Places.{undisturbed_place, place_undisturbed}
 use Rattle.replication.proofs.Agreement.Settling.Settled.{settling}
 use Rattle.examples.proofs.Rows.{digit, pairs_of, hex, run_of}
-use Rattle.examples.proofs.Shown.{opened as opened-run}
+use Rattle.examples.proofs.Shown.{opened as opened_run}
 
 -- ---- a configuration reaches its members
 
@@ -197,7 +197,7 @@ module _ (m : Meeting) where
 -- One name for what closed meetings unfold.
 unfoldable pub opened : ℕ
 unfolding
-    opened-run digit pairs_of hex run_of
+    opened_run digit pairs_of hex run_of
     heard_at put_out_by put_out is_configuration within within_regular says_kind how_many brings_by brings arrived state_of member_state all_states planned_here
     comes_into reaches_at meeting states_of is_quorum asked delivered is_within mode_at coloured memory_green green_of
 opened = 0

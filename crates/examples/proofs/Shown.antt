@@ -19,7 +19,7 @@ use Rattle.replication.specs.Runs.Run.{Entry, event, crash, store, Run, server_o
 use Rattle.replication.specs.Runs.Claim.{IsPrimary, of_install}
 use Rattle.replication.specs.Audit.Witness.{Witness}
 use Rattle.replication.specs.Audit.Verdict.{audit, report}
-use Rattle.replication.specs.Audit.Opened.{opened as opened-audit}
+use Rattle.replication.specs.Audit.Opened.{opened as opened_audit}
 
 -- An entry's server, and after it that server's state, green length and last primary's index.
 pub record Shown : Type 0 where
@@ -88,5 +88,5 @@ abbrev pub Refused : (n q : ℕ) → Run → Witness → List String → Type 0
 Refused n q l w names = (audit n q l w ≡ false) × (report n q l w ≡ names)
 
 unfoldable pub opened : ℕ
-unfolding opened-audit shown_by shown_from shown last_of_outcome installed_by installed_from installed rules_on own_rules judged installs_by installs_on installs
+unfolding opened_audit shown_by shown_from shown last_of_outcome installed_by installed_from installed rules_on own_rules judged installs_by installs_on installs
 opened = 0

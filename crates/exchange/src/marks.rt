@@ -5,9 +5,9 @@ ghost use Rattle.format.specs.Types.{State as FormatState};
 ghost use Rattle.record.specs.Values.{primary_of, mark_of};
 ghost use Rattle.replication.specs.Machine.Types.{cleared_mark};
 ghost use Rattle.replication.specs.Machine.Exchange.{taken_primary, same_attempt_of, rule_a, rule_b, joined_bits};
-ghost use Rattle.replication.specs.Machine.Exchange.{judged_mark, mark_left, own_mark, quorum as hasQuorum};
+ghost use Rattle.replication.specs.Machine.Exchange.{judged_mark, mark_left, own_mark, quorum as has_quorum_of};
 ghost use Rattle.exchange.specs.Slots.{Room, state_in, states_of, if_meant};
-ghost use Rattle.exchange.specs.Marks.{against as isAgainst, likewise as isLikewise, joined_with, with_bits, is_left};
+ghost use Rattle.exchange.specs.Marks.{against as is_against, likewise as is_likewise, joined_with, with_bits, is_left};
 
 use crate::primary::{taken_attempt, taken_primary};
 use crate::slots::{Slots, head};
@@ -39,7 +39,7 @@ fn same_attempt(m: Mark, o: Mark) -> bool
 
 // "alike in index, attempt and set"
 fn likewise(m: Mark, o: Mark) -> bool
-    ensures { result ≡ isLikewise (mark_of m) (mark_of o) }
+    ensures { result ≡ is_likewise (mark_of m) (mark_of o) }
 {
     if o.status != 1 {
         return false;
@@ -63,7 +63,7 @@ fn rule_a(p: LastPrimary, sender: u8, m: Mark) -> bool
 // Whether the State in the slot k clears the mark by rule (b).
 fn against(v: Slots, state: &[u8], k: usize, m: Mark) -> bool
     requires { Room v state.now × (k < v.servers) }
-    ensures { result ≡ isAgainst (mark_of m) (state_in v state.now k) }
+    ensures { result ≡ is_against (mark_of m) (state_in v state.now k) }
 {
     let x = head(v, state, k);
     if !has(m.set, x.sender as usize) {
@@ -77,7 +77,7 @@ fn against(v: Slots, state: &[u8], k: usize, m: Mark) -> bool
 
 fn against_at(v: Slots, state: &[u8], k: usize, m: Mark, found: bool) -> bool
     requires { Room v state.now × (k < v.servers) }
-    ensures { result ≡ if_meant v k (found or isAgainst (mark_of m) (state_in v state.now k)) found }
+    ensures { result ≡ if_meant v k (found or is_against (mark_of m) (state_in v state.now k)) found }
 {
     if !has(v.here, k) {
         return found;
@@ -210,7 +210,7 @@ pub fn own_mark(v: Slots, state: &[u8], me: usize, p: LastPrimary) -> Mark
 // document 02's K1 decides.
 pub fn quorum(v: Slots, state: &[u8], here: u8) -> bool
     requires { Room v state.now }
-    ensures { result ≡ hasQuorum (states_of v state.now) here }
+    ensures { result ≡ has_quorum_of (states_of v state.now) here }
 {
     let p = taken_primary(v, state);
     if mark_left(v, state, p) {

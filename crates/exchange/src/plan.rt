@@ -2,7 +2,7 @@
 ghost use Rattle.std.specs.Prelude.{◌≡◌, ◌<◌, max, min, length};
 ghost use Rattle.base.specs.Sets.{in_set};
 ghost use Rattle.base.specs.Tests.{◌and◌, ◌=?◌};
-ghost use Rattle.replication.specs.Machine.Plan.{highest as highestOf, lowest as lowest_of, missing as missingOf, planned as plannedOf};
+ghost use Rattle.replication.specs.Machine.Plan.{highest as highest_of, lowest as lowest_of, missing as missing_of, planned as planned_of};
 ghost use Rattle.replication.specs.Machine.Plan.{resender, is_me, cut_in};
 ghost use Rattle.exchange.specs.Slots.{Space, Room, state_in, states_of, if_meant};
 ghost use Rattle.exchange.specs.Numbers.{number_in, Within};
@@ -59,7 +59,7 @@ fn raised(v: Slots, state: &[u8], k: usize, f: Number, high: u32) -> u32
 // The highest of the States that are meant.
 pub fn highest(v: Slots, state: &[u8], f: Number) -> u32
     requires { Space v state.now × Within v.servers f }
-    ensures { result ≡ highestOf (number_in f) (states_of v state.now) }
+    ensures { result ≡ highest_of (number_in f) (states_of v state.now) }
 {
     let mut high = 0;
     let mut k = 0;
@@ -131,7 +131,7 @@ pub fn resends(v: Slots, state: &[u8], f: Number, me: usize) -> bool
 // How many are resent: "from the shortest length + 1 to its own", "from the lowest cut + 1 to it".
 pub fn missing(v: Slots, state: &[u8], f: Number) -> u32
     requires { Space v state.now × Within v.servers f }
-    ensures { result ≡ length (missingOf (number_in f) (states_of v state.now)) }
+    ensures { result ≡ length (missing_of (number_in f) (states_of v state.now)) }
 {
     let low = lowest(v, state, f);
     let high = highest(v, state, f);
@@ -144,7 +144,7 @@ pub fn missing(v: Slots, state: &[u8], f: Number) -> u32
 // How many retransmissions are planned, those left out too.
 pub fn planned(v: Slots, state: &[u8]) -> u64
     requires { Space v state.now }
-    ensures { result ≡ plannedOf v.servers (states_of v state.now) }
+    ensures { result ≡ planned_of v.servers (states_of v state.now) }
 {
     let mut total = missing(v, state, Number::Green) as u64;
     let mut c = 0;

@@ -1,6 +1,6 @@
 -- One name for all definitions of this crate: whoever unfolds it unfolds them, so that closed instances compute.
 use Rattle.std.specs.Prelude.{ℕ}
-use Rattle.base.specs.Opened.{opened as opened-base}
+use Rattle.base.specs.Opened.{opened as opened_base}
 use Rattle.format.specs.Range.{sizes_ok, context_ok, id_ok, length_ok, payload_ok, action_ok, cuts_ok, index_ok, set_ok, status_ok, primary_ok, mark_ok}
 use Rattle.format.specs.Range.{same_id, has_id, ids_differ, ids_in_range, ids_ok, yellow_ok, configuration_ok, state_ok, own_set_ok, inside_last}
 use Rattle.format.specs.Range.{fields_ok, record_ok}
@@ -32,5 +32,5 @@ unfolding framed payload_bytes id_bytes action_bytes cuts_bytes primary_bytes ma
 opened_writing = 0
 
 unfoldable pub opened : ℕ
-unfolding opened-base opened_ranges opened_lists opened_reading opened_setup opened_writing
+unfolding opened_base opened_ranges opened_lists opened_reading opened_setup opened_writing
 opened = 0

@@ -112,7 +112,7 @@ pub extern "C" fn guzbytor_register_rectangle(
     north: i32,
     answer: &mut [u8],
 ) -> u32
-    ensures { AnswersRegion result (rectangle west south east north) register answer }
+    ensures { AnswersRegion result (rectangle west south east north) register.now answer }
 {
     register_queries::in_rectangle(register, west, south, east, north, answer)
 }
@@ -125,7 +125,7 @@ pub extern "C" fn guzbytor_register_radius(
     radius: u32,
     answer: &mut [u8],
 ) -> u32
-    ensures { AnswersRegion result (disc easting northing radius) register answer }
+    ensures { AnswersRegion result (disc easting northing radius) register.now answer }
 {
     register_queries::in_radius(register, easting, northing, radius, answer)
 }
@@ -148,7 +148,7 @@ pub extern "C" fn guzbytor_register_step(
     event: &[u8],
     out: &mut [u8],
 ) -> RegisterAnswer
-    ensures { AnswersJointly result state register event out }
+    ensures { AnswersJointly result state register event.now out }
 {
     register_step::joint_step(state, register, event, out)
 }
@@ -160,7 +160,7 @@ pub extern "C" fn guzbytor_register_burst(
     events: &[u8],
     out: &mut [u8],
 ) -> RegisterBurst
-    ensures { AnswersAll result state register events out }
+    ensures { AnswersAll result state register events.now out }
 {
     register_step::joint_burst(state, register, events, out)
 }

@@ -2,7 +2,7 @@
 #![tactic(auto)]
 
 ghost use Rattle.std.specs.Prelude.{◌≡◌};
-ghost use Rattle.plane.specs.Plane.{between as betweenOf, in_rectangle, sides_rise, in_region};
+ghost use Rattle.plane.specs.Plane.{between as between_of, in_rectangle, sides_rise, in_region};
 
 pub mod distances; // distances.rt: squared distances
 
@@ -31,7 +31,7 @@ pub enum Region {
 }
 
 fn between(low: i32, high: i32, z: i32) -> bool
-    ensures { result ≡ betweenOf low high z }
+    ensures { result ≡ between_of low high z }
 {
     if low <= z {
         return z <= high;

@@ -1,6 +1,6 @@
 // A set of servers as a byte: bit k is server k.
 ghost use Rattle.std.specs.Prelude.{◌≡◌, ◌≤◌, ◌<◌};
-ghost use Rattle.base.specs.Sets.{in_set, inside as isInside, with_member, everyone as setOfAll};
+ghost use Rattle.base.specs.Sets.{in_set, inside as is_inside, with_member, everyone as set_of_all};
 ghost use Rattle.format.specs.Limits.{most_servers_limit};
 
 // Whether server k is in the set.
@@ -15,7 +15,7 @@ pub fn has(set: u8, k: usize) -> bool
 
 // Whether each member of s is in t.
 pub fn inside(s: u8, t: u8) -> bool
-    ensures { result ≡ isInside s t }
+    ensures { result ≡ is_inside s t }
 {
     s & t == s
 }
@@ -31,7 +31,7 @@ pub fn with_member(set: u8, k: usize) -> u8
 // The set of all servers.
 pub fn everyone(servers: u8) -> u8
     requires { servers ≤ most_servers_limit }
-    ensures { result ≡ setOfAll servers }
+    ensures { result ≡ set_of_all servers }
 {
     let all: u32 = 1 << servers;
     (all - 1) as u8

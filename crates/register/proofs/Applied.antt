@@ -19,7 +19,7 @@ use Rattle.pegs.specs.Operations.{Place, Peg, Operation, set, move, retire, set_
 use Rattle.pegs.specs.Register.{most_pegs, find, number_of, number_if, payload_number, done, after, after_if, after_payload}
 use Rattle.pegs.specs.Image.{register_image, pegs_in}
 use Rattle.pegs.specs.Outcome.{register_number, changed, applied, position}
-use Rattle.pegs.proofs.Numbers.{set_there as number-there, set_full as number-full, set_taken as number-taken, move_absent, retire_absent, after_taken}
+use Rattle.pegs.proofs.Numbers.{set_there as number_there, set_full as number_full, set_taken as number_taken, move_absent, retire_absent, after_taken}
 use Rattle.pegs.proofs.Places.{formed_most, formed_sorted, position_most, insert_at, replace_at, remove_at, found_low}
 use Rattle.pegs.proofs.ImageLaws.{Holds, number_zero, slots_count}
 use Rattle.register_check.specs.declared.searching.Search.{Search}
@@ -158,14 +158,14 @@ module _ (b p : List ℕ) (t : Shape) (s : Search) (w : Sought t s p b) where
         go (retires a e) = absurd (omega (arith, o, a))
 
     pub set_there : s.there ≡ true → changed 9 b ≡ applied p (pegs_in b) b
-    set_there h = refused_as p _ l b set_is 9 (number-there name peg.place l (sym w.there ∙ h)) (λ e. absurd (omega arith))
+    set_there h = refused_as p _ l b set_is 9 (number_there name peg.place l (sym w.there ∙ h)) (λ e. absurd (omega arith))
 
     module _ (n : ℕ) (h : s.there ≡ false) (count : n ≡ number_at 2 b 0) where
       absent : is_there (find name l) ≡ false
       absent = sym w.there ∙ h
 
       pub set_full : most_pegs ≤ n → changed 13 b ≡ applied p (pegs_in b) b
-      set_full m = refused_as p _ l b set_is 13 (number-full name peg.place l absent (omega (arith, counted n count))) (λ e. absurd (omega arith))
+      set_full m = refused_as p _ l b set_is 13 (number_full name peg.place l absent (omega (arith, counted n count))) (λ e. absurd (omega arith))
 
       pub set_taken : n < most_pegs → (c : List ℕ) → ((i : ℕ) → Fits w8 (get_or p i 0)) → c ≡ inserted s.index n (lent_name t p) (lent_place t p) b
           → changed 0 c ≡ applied p (pegs_in b) b
@@ -173,7 +173,7 @@ module _ (b p : List ℕ) (t : Shape) (s : Search) (w : Sought t s p b) where
       set_taken m c y e =
           let room : length l < most_pegs = omega (arith, counted n count) in
           let q = place_given p t w.operates (not_retire p t w.operates o) y in
-          taken_as p _ l b set_is c (number-taken name peg.place l absent (le_no most_pegs (length l) room))
+          taken_as p _ l b set_is c (number_taken name peg.place l absent (le_no most_pegs (length l) room))
           (e ∙ (λ i. inserted (w.index i) (counted n count i) (name_lent p t i) (q i) b)
           ∙ insert_image b held (position name l) peg (position_most name l) room (name_size p t w.operates)
           ∙ ap (λ (x : List Peg). register_image x b) (sym (insert_at peg l)))

@@ -44,9 +44,9 @@ module _ (u v : List ℕ) (i a b : ℕ) (e : BeforeFrom u v i) (h : i < length u
   unfolding ◌or◌
   is_first l = sym (e ∙ before_more u v i h k ∙ rw (← p, ← q, lt_yes a b l))
 
-  pub is_later : b < a → false ≡ before u v
+  pub is_later_lem : b < a → false ≡ before u v
   unfolding ◌or◌ ◌and◌
-  is_later l = sym (e ∙ before_more u v i h k ∙ rw (← p, ← q, lt_no a b (omega arith), eq_no a b (λ z. omega arith)))
+  is_later_lem l = sym (e ∙ before_more u v i h k ∙ rw (← p, ← q, lt_no a b (omega arith), eq_no a b (λ z. omega arith)))
 
   pub before_on : b ≤ a → a ≤ b → BeforeFrom u v (i + 1)
   unfolding ◌or◌ ◌and◌

@@ -45,7 +45,7 @@ fn region_number(register: &[u8], region: Region, answer: &[u8]) -> u32
 
 // The pegs of the region, as a register in the answer's buffer; refused, nothing is changed.
 pub fn answer_region(register: &[u8], region: Region, answer: &mut [u8]) -> u32
-    ensures { AnswersRegion result region register answer }
+    ensures { AnswersRegion result region register.now answer }
 {
     let number = region_number(register, region, answer);
     if number == 0 {

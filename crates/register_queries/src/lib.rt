@@ -26,7 +26,7 @@ pub fn in_rectangle(
     north: i32,
     answer: &mut [u8],
 ) -> u32
-    ensures { AnswersRegion result (rectangle west south east north) register answer }
+    ensures { AnswersRegion result (rectangle west south east north) register.now answer }
 {
     let sides = Rectangle {
         west,
@@ -45,7 +45,7 @@ pub fn in_radius(
     radius: u32,
     answer: &mut [u8],
 ) -> u32
-    ensures { AnswersRegion result (disc easting northing radius) register answer }
+    ensures { AnswersRegion result (disc easting northing radius) register.now answer }
 {
     let centre = Point { easting, northing };
     answer_region(register, Region::Within { centre, radius }, answer)

@@ -35,14 +35,14 @@ use Rattle.register_runs.proofs.JointLaws.{joint_zero, joint_step, joint_read}
 use Rattle.register_step.specs.declared.carrying.Carried.{Carried}
 use Rattle.register_step.specs.declared.RegisterAnswer.{RegisterAnswer}
 use Rattle.register_step.specs.Carrying.{CarriedOn, CarryReady, CarriesOn, CarriedMet, carry_on, carried_by}
-use Rattle.register_step.specs.Answers.{joined, refusedWith}
+use Rattle.register_step.specs.Answers.{joined, refused_with}
 use Rattle.register_step.proofs.MetCarry.{held_greens, held_few}
 use Rattle.register_step.proofs.EventStages.{greens_of, Shows, there, there_number, first_shows, first_refuses, same_step, greens_split, refused_unmet}
 use Rattle.register_step.proofs.EventLaws.{refusals_below, payloads_count}
 
 -- ---- buffers whose number is not 0
 
-pub answer_refused : (b r e o : List ℕ) (k : ℕ) (a : RegisterAnswer) → k ≡ joint_number b r o → (k ≡ 0 → ⊥) → a ≡ refusedWith k
+pub answer_refused : (b r e o : List ℕ) (k : ℕ) (a : RegisterAnswer) → k ≡ joint_number b r o → (k ≡ 0 → ⊥) → a ≡ refused_with k
     → joined a b r o ≡ joint_on b r e o
 unfolding joint_on joined unjoined
 answer_refused b r e o k a q n h =
@@ -140,7 +140,7 @@ module _ (b r o : List ℕ) (ready : joint_number b r o ≡ 0) where
       event_raises = raise_ready b₁ e o event_number a b₂ o₂ y
 
       -- The event is refused.
-      pub event_refused : (x : RegisterAnswer) → (a.answer.number ≡ 0 → ⊥) → x ≡ refusedWith a.answer.number → joined x b₂ r₁ o₂ ≡ joint_on b r e o
+      pub event_refused : (x : RegisterAnswer) → (a.answer.number ≡ 0 → ⊥) → x ≡ refused_with a.answer.number → joined x b₂ r₁ o₂ ≡ joint_on b r e o
       unfolding joined answered refusal greened joint_of unjoined
       event_refused x n h =
           let number : a.answer.number ≡ (unraised_step m e b₁ o).number = ap (λ (v : Result). v.number) acted in

@@ -19,8 +19,8 @@ joined a b r o = record {
 }
 
 -- "no refusal changes anything lent"
-abbrev pub refusedWith : (number : ℕ) → RegisterAnswer
-refusedWith k = record { number = k; store = 0; sent = 0; greened = 0; refused = 0 }
+abbrev pub refused_with : (number : ℕ) → RegisterAnswer
+refused_with k = record { number = k; store = 0; sent = 0; greened = 0; refused = 0 }
 
 -- The answer to the event and the lent buffers afterwards are the joint step's.
 abbrev pub AnswersJointly : RegisterAnswer → (state register : Lent) → (event : List ℕ) → (out : Lent) → Type 0

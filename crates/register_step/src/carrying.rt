@@ -61,7 +61,7 @@ pub fn carry(state: &[u8], register: &mut [u8], from: u32) -> Carried
 // What the event turns green before its action's white length is taken: some of it may be white before the event's first stage ends.
 pub fn carry_met(state: &mut [u8], register: &mut [u8], event: &[u8]) -> Carried
     requires { HoldsSome state.old × (register_number register.old ≡ 0) }
-    ensures { CarriesMet result state register event }
+    ensures { CarriesMet result state register event.now }
 {
     let from = green_length(state);
     meet(state, event);

@@ -3,7 +3,7 @@
 
 ghost use Rattle.std.specs.Prelude.{◌≡◌, ◌≤◌, length};
 ghost use Rattle.register_runs.specs.Joint.{joint_number};
-ghost use Rattle.register_step.specs.Answers.{refusedWith, AnswersJointly, AllRead};
+ghost use Rattle.register_step.specs.Answers.{refused_with, AnswersJointly, AllRead};
 ghost use Rattle.register_step.specs.Burst.{refused_burst, CanFollow, followed, is_last, AnswersFirst, AnswersNext, AnswersAll};
 ghost use Rattle.register_step.specs.Claim.{JointBurstsFollow, JointBurstsAgree};
 
@@ -33,7 +33,7 @@ pub struct RegisterAnswer {
 impl RegisterAnswer {
     // "no refusal changes anything lent"
     fn refused(number: u32) -> RegisterAnswer
-        ensures { result ≡ refusedWith number }
+        ensures { result ≡ refused_with number }
     {
         RegisterAnswer {
             number,
@@ -66,7 +66,7 @@ fn joint_number(state: &[u8], register: &[u8], out: &[u8]) -> u32
 // Over buffers whose number is 0: the engine's step, and what it turns green before that can be white.
 fn take_event(state: &mut [u8], register: &mut [u8], event: &[u8], out: &mut [u8]) -> RegisterAnswer
     requires { AllRead state register out }
-    ensures { AnswersJointly result state register event out }
+    ensures { AnswersJointly result state register event.now out }
 {
     let first = carry_met(state, register, event);
     let from = green_length(state);
@@ -93,7 +93,7 @@ pub fn joint_step(
     event: &[u8],
     out: &mut [u8],
 ) -> RegisterAnswer
-    ensures { AnswersJointly result state register event out }
+    ensures { AnswersJointly result state register event.now out }
 {
     let number = joint_number(state, register, out);
     if number != 0 {
@@ -170,7 +170,7 @@ fn take_first(
     out: &mut [u8],
 ) -> RegisterBurst
     requires { AllRead state register out }
-    ensures { AnswersFirst result first state register events out }
+    ensures { AnswersFirst result first state register events.now out }
 {
     let next = next_in(events, first);
     let Next::Event(size) = next else {
@@ -200,7 +200,7 @@ fn take_next(
     out: &mut [u8],
 ) -> RegisterBurst
     requires { AllRead state register out × (all.bytes ≤ length events.now) }
-    ensures { AnswersNext result all state register events out }
+    ensures { AnswersNext result all state register events.now out }
 {
     let at = all.bytes;
     take_first(state, register, &events[at..], all.events == 0, out)
@@ -209,7 +209,7 @@ fn take_next(
 // Over buffers whose number is 0: they stay such, so that no event checks them anew. What an event turned green is applied before the next is taken.
 fn take_burst(state: &mut [u8], register: &mut [u8], events: &[u8], out: &mut [u8]) -> RegisterBurst
     requires { AllRead state register out }
-    ensures { AnswersAll result state register events out }
+    ensures { AnswersAll result state register events.now out }
 {
     let mut all = RegisterBurst::stopped(0);
     loop {
@@ -228,7 +228,7 @@ pub fn joint_burst(
     events: &[u8],
     out: &mut [u8],
 ) -> RegisterBurst
-    ensures { AnswersAll result state register events out }
+    ensures { AnswersAll result state register events.now out }
 {
     let number = joint_number(state, register, out);
     if number != 0 {

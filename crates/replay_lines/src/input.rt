@@ -1,6 +1,6 @@
 // The input: the set-up record, then server byte and event, repeated.
 ghost use Rattle.std.specs.Prelude.{◌≡◌};
-ghost use Rattle.format.specs.Types.{refused as refusedWith};
+ghost use Rattle.format.specs.Types.{refused as refused_with};
 ghost use Rattle.replay_lines.specs.Input.{setup_numbers, setup_of, cut_short, next_of};
 
 use octets::numbers::{num8, num16};
@@ -30,7 +30,7 @@ impl Setup {
     const FOLLOWING: u16 = (Setup::SIZE - Event::LENGTH_SIZE) as u16;
 
     fn refused(number: u8) -> Setup
-        ensures { result ≡ setup_numbers (refusedWith number) }
+        ensures { result ≡ setup_numbers (refused_with number) }
     {
         Setup {
             number,

@@ -1,7 +1,7 @@
 // Lines, put into a lent buffer word by word. Each function takes the place where the line's text ends so far and answers where it
 // ends then.
 ghost use Rattle.std.specs.Prelude.{◌+◌, ◌≤◌, ◌++◌, length};
-ghost use Rattle.base.specs.Text.{decimal as decimalOf};
+ghost use Rattle.base.specs.Text.{decimal as decimal_of};
 ghost use Rattle.replication.specs.Replay.{mode_name, header, input_line, setup_line};
 ghost use Rattle.image.specs.Decode.{mode_named};
 ghost use Rattle.replay_lines.specs.Lines.{head_room, Put, line_room, spaced, ended, pair_text, front_text, state_text, back_text, shown_line};
@@ -25,7 +25,7 @@ fn put_word(out: &mut [u8], at: usize, w: &[u8]) -> usize
 
 fn put_number(out: &mut [u8], at: usize, v: u64) -> usize
     requires { at + 20 ≤ length out.old }
-    ensures { Put (decimalOf v) 20 at result out.old out.new }
+    ensures { Put (decimal_of v) 20 at result out.old out.new }
 {
     let mut digits = [0u8; 20];
     let k = io::decimal(v, &mut digits);
@@ -35,7 +35,7 @@ fn put_number(out: &mut [u8], at: usize, v: u64) -> usize
 // A number and a space.
 fn put_spaced(out: &mut [u8], at: usize, v: u64) -> usize
     requires { at + 21 ≤ length out.old }
-    ensures { Put (spaced (decimalOf v)) 21 at result out.old out.new }
+    ensures { Put (spaced (decimal_of v)) 21 at result out.old out.new }
 {
     let next = put_number(out, at, v);
     put_word(out, next, b" ")
@@ -44,7 +44,7 @@ fn put_spaced(out: &mut [u8], at: usize, v: u64) -> usize
 // A number, and the line's end.
 fn put_last(out: &mut [u8], at: usize, v: u64) -> usize
     requires { at + 21 ≤ length out.old }
-    ensures { Put (ended (decimalOf v)) 21 at result out.old out.new }
+    ensures { Put (ended (decimal_of v)) 21 at result out.old out.new }
 {
     let next = put_number(out, at, v);
     put_word(out, next, b"\n")

@@ -1,6 +1,6 @@
 -- One name for all definitions of this crate: whoever unfolds it unfolds them, so that closed instances compute.
 use Rattle.std.specs.Prelude.{ℕ}
-use Rattle.format.specs.Opened.{opened as opened-format}
+use Rattle.format.specs.Opened.{opened as opened_format}
 use Rattle.replication.specs.Images.{started, is_recovery, source_of, arrive, left_by, lived}
 use Rattle.replication.specs.Machine.Colours.{find, remove, cut, next_index, is_next, enter, red, reds, promote, promote_found, green_id}
 use Rattle.replication.specs.Machine.Colours.{green_ids, green, add_id, add_within, join_yellow, yellow, note}
@@ -33,7 +33,7 @@ use Rattle.replication.specs.Replay.{line_for, events, after_setup, replay}
 
 unfoldable pub opened : ℕ
 unfolding
-    opened-format
+    opened_format
     started is_recovery source_of arrive left_by lived
     find remove cut next_index is_next enter red reds promote promote_found green_id green_ids green add_id add_within join_yellow yellow note
     note_all later latest taken_primary same_pair updated_group taken_attempt is_valid common_yellow taken_yellow is_marked same_attempt_of rule_a rule_b alike

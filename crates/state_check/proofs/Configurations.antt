@@ -16,7 +16,7 @@ use Rattle.replication.specs.Machine.Types.{Configuration, set_of}
 use Rattle.replication.specs.Machine.Rules.{member_of, is_of}
 use Rattle.replication.specs.Machine.WellFormedRanges.{ConfigurationFits, TransitionalFits}
 use Rattle.replication.proofs.WellFormed.Ranges.{own_set_facts, own_set_ok_lem}
-use Rattle.image.specs.Header.{status_of, id_of, set_of as setNumber, transitional_of}
+use Rattle.image.specs.Header.{status_of, id_of, set_of as set_number, transitional_of}
 use Rattle.image.specs.Decode.{regular_of, transitional_in}
 use Rattle.state_check.specs.Numbers.{regular_ok, transitional_ok}
 
@@ -49,8 +49,8 @@ regular c h t = go (known (h.configuration_status =? 0))
 
 -- From its numbers, if they are what is written of it.
 pub regular_ok_lem : (c : Context) (h : State) (d : Option Configuration) → regular_of h ≡ d → h.configuration_status ≡ status_of d → h.configuration_id ≡ id_of d
-    → h.configuration_set ≡ setNumber d → ((x : Configuration) → d ≡ some x → ConfigurationFits c.servers c.self x) → regular_ok c h ≡ true
-unfolding regular_ok status_of id_of setNumber
+    → h.configuration_set ≡ set_number d → ((x : Configuration) → d ≡ some x → ConfigurationFits c.servers c.self x) → regular_ok c h ≡ true
+unfolding regular_ok status_of id_of set_number
 regular_ok_lem c h none p status id set f =
     picked (h.configuration_status =? 0) _ _ (eq_yes _ _ status) ∙ both_yes _ _ (eq_yes _ _ id) (eq_yes _ _ set)
 regular_ok_lem c h (some x) p status id set f =

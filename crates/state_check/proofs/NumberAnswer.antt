@@ -17,7 +17,7 @@ use Rattle.format.specs.Range.{sizes_ok, context_ok}
 use Rattle.record.specs.Context.{context_of, reading_context}
 use Rattle.record.specs.declared.Context.{Context}
 use Rattle.record.specs.declared.State.{State}
-use Rattle.replication.specs.Machine.Types.{context_of as contextOfState}
+use Rattle.replication.specs.Machine.Types.{context_of as context_of_state}
 use Rattle.replication.specs.Machine.WellFormed.{ranges, well_formed}
 use Rattle.image.specs.Layout.{sections, state_length, out_length, least_state_length, least_out_length, header_size, at_servers, at_quota}
 use Rattle.image.specs.Header.{header_in}
@@ -56,7 +56,7 @@ brief_seven b h = sym (image_short b (go (known (state_short b))))
 -- ---- sizes out of range
 
 no_context : (b : List ℕ) → sizes_ok (servers_in b) (quota_in b) ≡ false → reads b ≡ false
-unfolding reads well_formed ranges contextOfState context_ok decoded decoded_as
+unfolding reads well_formed ranges context_of_state context_ok decoded decoded_as
 no_context b g = sym (and_no _ _ (sym (and_no _ _ (sym (and_no _ _ (sym (and_no _ _ g)))))))
 
 module _ (b : List ℕ) (h : State) (e : h ≡ header_in b) (t : Bool) (f : t ≡ sizes_ok h.servers h.quota) where

@@ -21,7 +21,7 @@ use Rattle.format.proofs.Lengths.{cuts_length, ids_length}
 use Rattle.format.proofs.Ranges.{PayloadRange, context_range}
 use Rattle.format.proofs.Writing.{cuts_written, ids_written, ids_number}
 use Rattle.record.specs.Context.{last_of}
-use Rattle.record.specs.Values.{primary_of, mark_of, last_of as lastNumbers}
+use Rattle.record.specs.Values.{primary_of, mark_of, last_of as last_numbers}
 use Rattle.record.specs.declared.State.{State}
 use Rattle.replication.specs.Machine.Types.{Log}
 use Rattle.replication.specs.Machine.WellFormed.{queue}
@@ -76,7 +76,7 @@ module _ (c : Context) (h : State) (b : List ℕ) (k : Checked c h b) (bytes : B
     (small : h.configuration_id < 2 ^ 32) (number_small : h.numbered ≤ most_number_limit) (last_is : c.last ≡ last_of h.configuration_status h.configuration_set)
     (n-is : c.servers ≡ h.servers) (q-is : c.quota ≡ h.quota) (me_is : c.self ≡ h.me) where
   numbers_same : header_of (said c h b) ≡ h
-  unfolding header_of lastNumbers mark_numbers primary_of mark_of set_ok
+  unfolding header_of last_numbers mark_numbers primary_of mark_of set_ok
   numbers_same =
       let r = regular_numbers c h (regular c h k.regular) in
       let t = transitional_numbers c h (transitional c h k.transitional) in

@@ -29,7 +29,7 @@ use Rattle.image.specs.Decode.{mode_named}
 use Rattle.queue.specs.Queue.{Placed, RoomIfNext}
 use Rattle.queue.proofs.RedLaws.{room_if_next}
 use Rattle.step.specs.declared.Answer.{Answer}
-use Rattle.step.specs.Answers.{answered, outcomeOn, InForce, refusedWith, quietly, storedFirst}
+use Rattle.step.specs.Answers.{answered, outcome_on, InForce, refused_with, quietly, stored_first_of}
 use Rattle.step.specs.Events.{Takes, installed_late}
 use Rattle.step.specs.Stages.{Sifts, sieving, unraised, core_images, unraised_on}
 use Rattle.step.proofs.AnswerLaws.{Passes, rows_untaken, rows_impossible, rows_outside, passed_fits, not_there, quiet_as}
@@ -77,7 +77,7 @@ module _ (n : ℕ) (x : ActionHead) (p b : List ℕ) (h : HoldsSuch (Takes n (ac
   module _ (c : List ℕ) (r : Answer) where
     pub green_done : n ≡ 1 → ((s : Server) → Holds s b → c ≡ image (green_and_note (action_of x p) s) b) → r ≡ quietly
         → (s : Server) (o : List ℕ) (k : Rule) → Holds s b → on_action s.membership.mode (action_of x p) ≡ some k
-        → answered r c o ≡ outcomeOn (apply k s) b o
+        → answered r c o ≡ outcome_on (apply k s) b o
     unfolding mode_named pick ◌=?◌ on_action apply mode_number
     green_done e f q s o k i t =
         let j = rule_at s 1 (greening act) (such_fact _ b s h i) e refl in
@@ -85,7 +85,7 @@ module _ (n : ℕ) (x : ActionHead) (p b : List ℕ) (h : HoldsSuch (Takes n (ac
 
     pub yellow_done : n ≡ 2 → ((s : Server) → Holds s b → c ≡ image (yellow (action_of x p) s) b) → r ≡ quietly
         → (s : Server) (o : List ℕ) (k : Rule) → Holds s b → on_action s.membership.mode (action_of x p) ≡ some k
-        → answered r c o ≡ outcomeOn (apply k s) b o
+        → answered r c o ≡ outcome_on (apply k s) b o
     unfolding mode_named pick ◌=?◌ on_action apply mode_number
     yellow_done e f q s o k i t =
         let j = rule_at s 2 (yellowing act) (such_fact _ b s h i) e refl in
@@ -94,7 +94,7 @@ module _ (n : ℕ) (x : ActionHead) (p b : List ℕ) (h : HoldsSuch (Takes n (ac
     pub red_done : (n ≡ 1 → ⊥) → (n ≡ 2 → ⊥)
         → ((s : Server) → Holds s b → Placed s (action_of x p) → c ≡ image (with_log (red (action_of x p) s.log) s) b) → r ≡ quietly
         → (s : Server) (o : List ℕ) (k : Rule) → Holds s b → on_action s.membership.mode (action_of x p) ≡ some k
-        → answered r c o ≡ outcomeOn (apply k s) b o
+        → answered r c o ≡ outcome_on (apply k s) b o
     unfolding apply
     red_done u v f q s o k i t =
         let g : Takes n act s = such_fact _ b s h i in
@@ -125,7 +125,7 @@ module _ (h : Numbers) (x : ActionHead) (p b : List ℕ) (f : HoldsSuch (InForce
   force : (s : Server) → Holds s b → InForce h (action a) s
   force s i = such_fact (InForce h (action a)) b s f i
 
-  pub action_unnumbered : (u : Bool) (r : Answer) → OwnNumbered h x u → not u ≡ true → r ≡ refusedWith not_now
+  pub action_unnumbered : (u : Bool) (r : Answer) → OwnNumbered h x u → not u ≡ true → r ≡ refused_with not_now
       → (s : Server) (o : List ℕ) → Holds s b → answered r b o ≡ unraised_on s (action (action_of x p)) b o
   unfolding possible unraised
   action_unnumbered u r d n q s o i =
@@ -135,7 +135,7 @@ module _ (h : Numbers) (x : ActionHead) (p b : List ℕ) (f : HoldsSuch (InForce
     table : (s : Server) → Holds s b → t ≡ is_there (on_action s.membership.mode a)
     table s i = g s.membership.mode a (numbers_mode h s (force s i).numbers)
 
-    pub action_untaken : (r : Answer) → not t ≡ true → r ≡ refusedWith not_now
+    pub action_untaken : (r : Answer) → not t ≡ true → r ≡ refused_with not_now
         → (s : Server) (o : List ℕ) → Holds s b → answered r b o ≡ unraised_on s (action (action_of x p)) b o
     unfolding rule_for unraised
     action_untaken r n q s o i =
@@ -154,7 +154,7 @@ module _ (h : Numbers) (x : ActionHead) (p b : List ℕ) (f : HoldsSuch (InForce
       unfolding from_member action_of id_of
       member s i = sym (e s (force s i).numbers)
 
-      pub action_outside : (r : Answer) → not w ≡ true → r ≡ refusedWith not_from_here
+      pub action_outside : (r : Answer) → not w ≡ true → r ≡ refused_with not_from_here
           → (s : Server) (o : List ℕ) → Holds s b → answered r b o ≡ unraised_on s (action (action_of x p)) b o
       unfolding rule_for ◌or◌ unraised
       action_outside r n q s o i =
@@ -200,7 +200,7 @@ module _ (h : Numbers) (x : ActionHead) (p b : List ℕ) (f : HoldsSuch (InForce
         pub action_installed : h.mode ≡ 7 → (c : List ℕ) (r : Answer)
             → ((s : Server) → Holds s b
             → c ≡ core_images (late_installing (action_of x p)) s (installed_late (sifted (full (late_installing (action_of x p)) s) (action_of x p)) s) b)
-            → r ≡ storedFirst 0 → (s : Server) (o : List ℕ) → Holds s b → answered r c o ≡ unraised_on s (action (action_of x p)) b o
+            → r ≡ stored_first_of 0 → (s : Server) (o : List ℕ) → Holds s b → answered r c o ≡ unraised_on s (action (action_of x p)) b o
         unfolding sieving sieved apply
         action_installed e c r g q s o i =
             stored_on s (action a) (late_installing a) (late_rule e s i) b o (installed_late (sifted (full (late_installing a) s) a) s) refl r c q (g s i)
@@ -246,7 +246,7 @@ module _ (h : Numbers) (x : ActionHead) (p b : List ℕ) (f : HoldsSuch (InForce
 
           pub action_coloured : (r : Answer) (d : List ℕ)
               → ((s : Server) (o : List ℕ) (k : Rule) → Holds s c → on_action s.membership.mode (action_of y p) ≡ some k → answered r d o
-              ≡ outcomeOn (apply k s) c o)
+              ≡ outcome_on (apply k s) c o)
               → (s : Server) (o : List ℕ) → Holds s b → answered r d o ≡ unraised_on s (action (action_of x p)) b o
           unfolding blanked
           action_coloured r d z s o i =
@@ -255,4 +255,4 @@ module _ (h : Numbers) (x : ActionHead) (p b : List ℕ) (f : HoldsSuch (InForce
               core_done s (action a) k.0 (passes n s i k.0 k.1) b o i q.met q.at c
               ((sift p).0 s i ∙ ap (λ (v : ℕ). image (with_white v s) b) (sym q.took)) r d o
               (z (here s) o (sieved (full (reddening a) s) k.0) (here_holds s i) (sieved_rule s i k.0 k.1)
-              ∙ (λ j. outcomeOn (apply (sieved (sym q.sieves j) k.0) (blanked (with_white (sym q.took j) s))) c o))
+              ∙ (λ j. outcome_on (apply (sieved (sym q.sieves j) k.0) (blanked (with_white (sym q.took j) s))) c o))

@@ -21,7 +21,7 @@ use Rattle.replication.proofs.WellFormed.RuleFacts.{rule_fits}
 use Rattle.image.specs.Image.{image}
 use Rattle.image.specs.Outcome.{refusal, result_of}
 use Rattle.step.specs.declared.Answer.{Answer}
-use Rattle.step.specs.Answers.{answered, outcomeOn, byRows, ruled, refusedWith, quietly, storedFirst}
+use Rattle.step.specs.Answers.{answered, outcome_on, by_rows, ruled, refused_with, quietly, stored_first_of}
 use Rattle.step.proofs.OutcomeLaws.{quiet_outcome, stored_outcome}
 
 -- ---- rows 5, 6 and 3
@@ -36,17 +36,17 @@ pub record Passes (s : Server) (r : Record) (k : Rule) : Type 0 where
 -- Where f is what is made of the rule.
 module _ (f : Rule → Server → Outcome Record) (s : Server) (r : Record) where
   abbrev rows : Outcome Record
-  rows = byRows f (rule_for s.membership.mode r) s r
+  rows = by_rows f (rule_for s.membership.mode r) s r
 
-  by_rule : (x : Option Rule) → rule_for s.membership.mode r ≡ x → rows ≡ byRows f x s r
-  by_rule x e = ap (λ (y : Option Rule). byRows f y s r) e
+  by_rule : (x : Option Rule) → rule_for s.membership.mode r ≡ x → rows ≡ by_rows f x s r
+  by_rule x e = ap (λ (y : Option Rule). by_rows f y s r) e
 
-  pub rows_untaken : rule_for s.membership.mode r ≡ none → byRows f (rule_for s.membership.mode r) s r ≡ refused not_now
-  unfolding byRows
+  pub rows_untaken : rule_for s.membership.mode r ≡ none → by_rows f (rule_for s.membership.mode r) s r ≡ refused not_now
+  unfolding by_rows
   rows_untaken e = by_rule none e
 
-  pub rows_impossible : possible s r ≡ false → byRows f (rule_for s.membership.mode r) s r ≡ refused not_now
-  unfolding byRows
+  pub rows_impossible : possible s r ≡ false → by_rows f (rule_for s.membership.mode r) s r ≡ refused not_now
+  unfolding by_rows
   rows_impossible p = go (rule_for s.membership.mode r) refl
     where
       go : (x : Option Rule) → rule_for s.membership.mode r ≡ x → rows ≡ refused not_now
@@ -54,22 +54,22 @@ module _ (f : Rule → Server → Outcome Record) (s : Server) (r : Record) wher
       go (some k) e = by_rule (some k) e ∙ sym (pick_no (possible s r) (refused not_now) _ _ p refl)
 
   module _ (k : Rule) (e : rule_for s.membership.mode r ≡ some k) (p : possible s r ≡ true) where
-    pub rows_outside : (is_ignored k or from_member s.membership r) ≡ false → byRows f (rule_for s.membership.mode r) s r ≡ refused not_from_here
-    unfolding byRows
+    pub rows_outside : (is_ignored k or from_member s.membership r) ≡ false → by_rows f (rule_for s.membership.mode r) s r ≡ refused not_from_here
+    unfolding by_rows
     rows_outside m =
         by_rule (some k) e ∙ sym
         (pick_yes (possible s r) (refused not_from_here) _ _ p (pick_no (is_ignored k or from_member s.membership r) (refused not_from_here) _ _ m refl))
 
     pub rows_above : (is_ignored k or from_member s.membership r) ≡ true → within_quota s r ≡ false
-        → byRows f (rule_for s.membership.mode r) s r ≡ refused quota_used
-    unfolding byRows
+        → by_rows f (rule_for s.membership.mode r) s r ≡ refused quota_used
+    unfolding by_rows
     rows_above m q =
         by_rule (some k) e ∙ sym
         (pick_yes (possible s r) (refused quota_used) _ _ p
         (pick_yes (is_ignored k or from_member s.membership r) (refused quota_used) _ _ m (pick_no (within_quota s r) (refused quota_used) _ _ q refl)))
 
-  pub rows_passed : (k : Rule) → Passes s r k → byRows f (rule_for s.membership.mode r) s r ≡ f k s
-  unfolding byRows
+  pub rows_passed : (k : Rule) → Passes s r k → by_rows f (rule_for s.membership.mode r) s r ≡ f k s
+  unfolding by_rows
   rows_passed k g =
       by_rule (some k) g.rule
       ∙ sym
@@ -118,15 +118,15 @@ not_there (some y) e = not_both (sym e)
 
 -- ---- the code's answers
 
-pub refused_as : (x : Outcome Record) (a : Answer) (k : ℕ) (b o : List ℕ) → a ≡ refusedWith k → x ≡ refused k → answered a b o ≡ outcomeOn x b o
-unfolding answered outcomeOn in_bytes result_of refusal
-refused_as x a k b o e f = ap (λ (y : Answer). answered y b o) e ∙ ap (λ (y : Outcome Record). outcomeOn y b o) (sym f)
+pub refused_as : (x : Outcome Record) (a : Answer) (k : ℕ) (b o : List ℕ) → a ≡ refused_with k → x ≡ refused k → answered a b o ≡ outcome_on x b o
+unfolding answered outcome_on in_bytes result_of refusal
+refused_as x a k b o e f = ap (λ (y : Answer). answered y b o) e ∙ ap (λ (y : Outcome Record). outcome_on y b o) (sym f)
 
 pub quiet_as : (s t : Server) (x : Outcome Record) (a : Answer) (b c o : List ℕ) → a ≡ quietly → x ≡ quiet s t → c ≡ image t b
-    → answered a c o ≡ outcomeOn x b o
-quiet_as s t x a b c o e f g = quiet_outcome s t b o c a e g ∙ ap (λ (y : Outcome Record). outcomeOn y b o) (sym f)
+    → answered a c o ≡ outcome_on x b o
+quiet_as s t x a b c o e f g = quiet_outcome s t b o c a e g ∙ ap (λ (y : Outcome Record). outcome_on y b o) (sym f)
 
-pub stored_as : (s t : Server) (x : Outcome Record) (a : Answer) (b c o : List ℕ) → a ≡ storedFirst 0 → x ≡ stored s t [] → c ≡ image t b
-    → answered a c o ≡ outcomeOn x b o
+pub stored_as : (s t : Server) (x : Outcome Record) (a : Answer) (b c o : List ℕ) → a ≡ stored_first_of 0 → x ≡ stored s t [] → c ≡ image t b
+    → answered a c o ≡ outcome_on x b o
 unfolding record_bytes joined over
-stored_as s t x a b c o e f g = stored_outcome s t [] b o c o 0 a e g refl refl ∙ ap (λ (y : Outcome Record). outcomeOn y b o) (sym f)
+stored_as s t x a b c o e f g = stored_outcome s t [] b o c o 0 a e g refl refl ∙ ap (λ (y : Outcome Record). outcome_on y b o) (sym f)

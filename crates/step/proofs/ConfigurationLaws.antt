@@ -22,7 +22,7 @@ use Rattle.image.proofs.InPlace.{such_fact}
 use Rattle.updates.specs.Lists.{configuration_of}
 use Rattle.step.specs.declared.Answer.{Answer}
 use Rattle.outgoing.specs.Lent.{LentSuch}
-use Rattle.step.specs.Answers.{answered, outcomeOn, ruled, InForce, refusedWith, quietly}
+use Rattle.step.specs.Answers.{answered, outcome_on, ruled, InForce, refused_with, quietly}
 use Rattle.guards.specs.Modes.{mode_after}
 use Rattle.outgoing.proofs.LentFacts.{lent_fact}
 use Rattle.step.proofs.AnswerLaws.{Passes, untaken, impossible, passed, passed_fits, refused_as, quiet_as}
@@ -41,16 +41,16 @@ module _ (h : Numbers) (id set : ℕ) (b o : List ℕ) (f : LentSuch (InForce h 
   force : (s : Server) → Holds s b → InForce h r s
   force s y = lent_fact (InForce h r) b o s f y
 
-  pub regular_untaken : (h.mode ≡ 0 → ⊥) → (h.mode ≡ 7 → ⊥) → (h.mode ≡ 6 → ⊥) → (h.mode ≡ 2 → ⊥) → (v : Answer) → v ≡ refusedWith not_now
-      → (s : Server) → Holds s b → answered v b o ≡ outcomeOn (ruled s (regular id set)) b o
+  pub regular_untaken : (h.mode ≡ 0 → ⊥) → (h.mode ≡ 7 → ⊥) → (h.mode ≡ 6 → ⊥) → (h.mode ≡ 2 → ⊥) → (v : Answer) → v ≡ refused_with not_now
+      → (s : Server) → Holds s b → answered v b o ≡ outcome_on (ruled s (regular id set)) b o
   unfolding rule_for
   regular_untaken a₀ a₇ a₆ a₂ v q s y =
       refused_as (ruled s r) v 5 b o q
       (untaken s r (regular_not h.mode a₀ a₇ a₆ a₂ s.membership.mode _ (numbers_mode h s (force s y).numbers)))
 
   module _ (t : Bool) (g : (s : Server) → h ≡ header_of s → t ≡ regular_due s.membership) where
-    pub regular_early : not t ≡ true → (v : Answer) → v ≡ refusedWith not_now → (s : Server) → Holds s b
-        → answered v b o ≡ outcomeOn (ruled s (regular id set)) b o
+    pub regular_early : not t ≡ true → (v : Answer) → v ≡ refused_with not_now → (s : Server) → Holds s b
+        → answered v b o ≡ outcome_on (ruled s (regular id set)) b o
     unfolding possible
     regular_early n v q s y = refused_as (ruled s r) v 5 b o q (impossible s r (sym (g s (force s y).numbers) ∙ not-true t n))
 
@@ -80,9 +80,9 @@ module _ (h : Numbers) (id set : ℕ) (b o : List ℕ) (f : LentSuch (InForce h 
               room = f.room;
             }
 
-        taken : (v : Answer) (x z : List ℕ) (s : Server) → Holds s b → answered v x z ≡ outcomeOn (apply k s) b o
-            → answered v x z ≡ outcomeOn (ruled s r) b o
-        taken v x z s y w = w ∙ ap (λ (j : Outcome Record). outcomeOn j b o) (sym (passed s r k (passes s y)))
+        taken : (v : Answer) (x z : List ℕ) (s : Server) → Holds s b → answered v x z ≡ outcome_on (apply k s) b o
+            → answered v x z ≡ outcome_on (ruled s r) b o
+        taken v x z s y w = w ∙ ap (λ (j : Outcome Record). outcome_on j b o) (sym (passed s r k (passes s y)))
 
       pub first_ready : h.mode ≡ 0 → LentSuch (λ s. ConfigurationFits s.servers s.me (configuration_of id set)) b o
       unfolding mode_named pick ◌=?◌ on_regular is_ignored mode_number
@@ -101,26 +101,26 @@ module _ (h : Numbers) (id set : ℕ) (b o : List ℕ) (f : LentSuch (InForce h 
       trans_ready e = ready 2 (joining_yellow c) e refl refl (λ x. x)
 
       module _ (v : Answer) (x z : List ℕ) where
-        pub first_joined : h.mode ≡ 0 → ((s u : Server) → Holds u b → answered v x z ≡ outcomeOn (join s (configuration_of id set) u) b o)
-            → (s : Server) → Holds s b → answered v x z ≡ outcomeOn (ruled s (regular id set)) b o
+        pub first_joined : h.mode ≡ 0 → ((s u : Server) → Holds u b → answered v x z ≡ outcome_on (join s (configuration_of id set) u) b o)
+            → (s : Server) → Holds s b → answered v x z ≡ outcome_on (ruled s (regular id set)) b o
         unfolding mode_named pick ◌=?◌ on_regular is_ignored apply mode_number
         first_joined e w s y = taken 0 (joining c) e refl refl v x z s y (w s s y)
 
-        pub un_joined : h.mode ≡ 7 → ((s u : Server) → Holds u b → answered v x z ≡ outcomeOn (join s (configuration_of id set) u) b o)
-            → (s : Server) → Holds s b → answered v x z ≡ outcomeOn (ruled s (regular id set)) b o
+        pub un_joined : h.mode ≡ 7 → ((s u : Server) → Holds u b → answered v x z ≡ outcome_on (join s (configuration_of id set) u) b o)
+            → (s : Server) → Holds s b → answered v x z ≡ outcome_on (ruled s (regular id set)) b o
         unfolding mode_named pick ◌=?◌ on_regular is_ignored apply mode_number
         un_joined e w s y = taken 7 (joining c) e refl refl v x z s y (w s s y)
 
         pub no_joined : h.mode ≡ 6
-            → ((s u : Server) → Holds u b → answered v x z ≡ outcomeOn (join s (configuration_of id set) (with_votes (unmarked u.votes) u)) b o)
-            → (s : Server) → Holds s b → answered v x z ≡ outcomeOn (ruled s (regular id set)) b o
+            → ((s u : Server) → Holds u b → answered v x z ≡ outcome_on (join s (configuration_of id set) (with_votes (unmarked u.votes) u)) b o)
+            → (s : Server) → Holds s b → answered v x z ≡ outcome_on (ruled s (regular id set)) b o
         unfolding mode_named pick ◌=?◌ on_regular is_ignored apply mode_number
         no_joined e w s y = taken 6 (joining_unmarked c) e refl refl v x z s y (w s s y)
 
         pub trans_joined : h.mode ≡ 2
             → ((s u : Server) → Holds u b → answered v x z
-            ≡ outcomeOn (join s (configuration_of id set) (with_votes (yellow_valid (unmarked u.votes)) u)) b o)
-            → (s : Server) → Holds s b → answered v x z ≡ outcomeOn (ruled s (regular id set)) b o
+            ≡ outcome_on (join s (configuration_of id set) (with_votes (yellow_valid (unmarked u.votes)) u)) b o)
+            → (s : Server) → Holds s b → answered v x z ≡ outcome_on (ruled s (regular id set)) b o
         unfolding mode_named pick ◌=?◌ on_regular is_ignored apply mode_number
         trans_joined e w s y = taken 2 (joining_yellow c) e refl refl v x z s y (w s s y)
 
@@ -134,8 +134,8 @@ module _ (h : Numbers) (set : ℕ) (b : List ℕ) (f : HoldsSuch (InForce h (tra
   force_such s y = such_fact (InForce h x) b s f y
 
   pub transitional_second : (t : Bool) → ((s : Server) → h ≡ header_of s → t ≡ transitional_due s.membership) → not t ≡ true → (v : Answer)
-      → v ≡ refusedWith not_now
-      → (s : Server) (o : List ℕ) → Holds s b → answered v b o ≡ outcomeOn (ruled s (transitional set)) b o
+      → v ≡ refused_with not_now
+      → (s : Server) (o : List ℕ) → Holds s b → answered v b o ≡ outcome_on (ruled s (transitional set)) b o
   unfolding possible
   transitional_second t d n v q s o y = refused_as (ruled s x) v 5 b o q (impossible s x (sym (d s (force_such s y).numbers) ∙ not-true t n))
 
@@ -143,15 +143,15 @@ module _ (h : Numbers) (set : ℕ) (b : List ℕ) (f : HoldsSuch (InForce h (tra
     after : (s : Server) → Holds s b → l ≡ mode_after s.membership.mode
     after s y = g s.membership.mode (numbers_mode h s (force_such s y).numbers)
 
-    pub transitional_untaken : l ≡ 8 → (v : Answer) → v ≡ refusedWith not_now
-        → (s : Server) (o : List ℕ) → Holds s b → answered v b o ≡ outcomeOn (ruled s (transitional set)) b o
+    pub transitional_untaken : l ≡ 8 → (v : Answer) → v ≡ refused_with not_now
+        → (s : Server) (o : List ℕ) → Holds s b → answered v b o ≡ outcome_on (ruled s (transitional set)) b o
     unfolding rule_for
     transitional_untaken e v q s o y =
         refused_as (ruled s x) v 5 b o q (untaken s x (no_transitional s.membership.mode set (sym (after s y) ∙ e)))
 
     pub transitional_left : (t : Bool) → ((s : Server) → h ≡ header_of s → t ≡ transitional_due s.membership) → (l ≡ 8 → ⊥) → not t ≡ false
         → (v : Answer) (z : List ℕ) → ((s : Server) (m : Mode) → Holds s b → l ≡ mode_number m → z ≡ image (leave m set s) b) → v ≡ quietly
-        → (s : Server) (o : List ℕ) → Holds s b → answered v z o ≡ outcomeOn (ruled s (transitional set)) b o
+        → (s : Server) (o : List ℕ) → Holds s b → answered v z o ≡ outcome_on (ruled s (transitional set)) b o
     unfolding rule_for possible is_ignored from_member within_quota ◌or◌ apply
     transitional_left t d e n v z w q s o y =
         let k = leads s.membership.mode set (λ i. e (after s y ∙ i)) in

@@ -21,7 +21,7 @@ use Rattle.image.specs.Decode.{mode_named}
 use Rattle.image.specs.Holding.{Holds, HoldsSuch}
 use Rattle.step.specs.declared.Answer.{Answer}
 use Rattle.outgoing.specs.Lent.{LentSuch}
-use Rattle.step.specs.Answers.{answered, outcomeOn, ruled, InForce, withLateCpc, refusedWith, quietly}
+use Rattle.step.specs.Answers.{answered, outcome_on, ruled, InForce, with_late_cpc, refused_with, quietly}
 use Rattle.outgoing.proofs.LentFacts.{lent_fact}
 use Rattle.step.proofs.AnswerLaws.{Passes, untaken, outside, passed, passed_fits, not_there, refused_as, quiet_as}
 use Rattle.step.proofs.ForceLaws.{numbers_mode, numbers_at_lem, below_eight}
@@ -55,8 +55,8 @@ unfolding pick
 quiet_either true s t u = refl
 quiet_either false s t u = refl
 
-late_quiet : (k : ℕ) (s : Server) → collect_late_cpc k s ≡ quiet s (withLateCpc k s)
-unfolding collect_late_cpc withLateCpc
+late_quiet : (k : ℕ) (s : Server) → collect_late_cpc k s ≡ quiet s (with_late_cpc k s)
+unfolding collect_late_cpc with_late_cpc
 late_quiet k s = quiet_either _ s _ _
 
 module _ (h : Numbers) (k id : ℕ) (b o : List ℕ) (f : LentSuch (InForce h (cpc k id)) b o) where
@@ -70,7 +70,7 @@ module _ (h : Numbers) (k id : ℕ) (b o : List ℕ) (f : LentSuch (InForce h (c
   force : (s : Server) → Holds s b → InForce h r s
   force s y = lent_fact (InForce h r) b o s f y
 
-  pub cpc_passed_over : h.mode ≡ 0 → (v : Answer) → v ≡ quietly → (s : Server) → Holds s b → answered v b o ≡ outcomeOn (ruled s (cpc k id)) b o
+  pub cpc_passed_over : h.mode ≡ 0 → (v : Answer) → v ≡ quietly → (s : Server) → Holds s b → answered v b o ≡ outcome_on (ruled s (cpc k id)) b o
   unfolding mode_named pick ◌=?◌ on_cpc rule_for possible is_ignored within_quota ◌or◌ apply mode_number
   cpc_passed_over m v q s y =
       let z : on_cpc s.membership.mode k ≡ some ignoring = numbers_at_lem (λ l. on_cpc l k ≡ some ignoring) h s 0 (force s y).numbers m refl in
@@ -81,8 +81,8 @@ module _ (h : Numbers) (k id : ℕ) (b o : List ℕ) (f : LentSuch (InForce h (c
     table : (s : Server) → Holds s b → t ≡ is_there (on_cpc s.membership.mode k)
     table s y = g s.membership.mode k (numbers_mode h s (force s y).numbers)
 
-    pub cpc_untaken : not t ≡ true → (v : Answer) → v ≡ refusedWith not_now → (s : Server) → Holds s b
-        → answered v b o ≡ outcomeOn (ruled s (cpc k id)) b o
+    pub cpc_untaken : not t ≡ true → (v : Answer) → v ≡ refused_with not_now → (s : Server) → Holds s b
+        → answered v b o ≡ outcome_on (ruled s (cpc k id)) b o
     unfolding rule_for
     cpc_untaken n v q s y =
         refused_as (ruled s r) v 5 b o q (untaken s r (not_there (on_cpc s.membership.mode k) (sym (table s y) ∙ not-true t n)))
@@ -91,8 +91,8 @@ module _ (h : Numbers) (k id : ℕ) (b o : List ℕ) (f : LentSuch (InForce h (c
       there : (s : Server) → Holds s b → is_there (on_cpc s.membership.mode k) ≡ true
       there s y = sym (table s y) ∙ not-false t taken
 
-      pub cpc_outside : not u ≡ true → (v : Answer) → v ≡ refusedWith not_from_here → (s : Server) → Holds s b
-          → answered v b o ≡ outcomeOn (ruled s (cpc k id)) b o
+      pub cpc_outside : not u ≡ true → (v : Answer) → v ≡ refused_with not_from_here → (s : Server) → Holds s b
+          → answered v b o ≡ outcome_on (ruled s (cpc k id)) b o
       unfolding rule_for possible ◌or◌
       cpc_outside n v q s y =
           let j = heard h.mode s.membership.mode k (numbers_mode h s (force s y).numbers) m (there s y) in
@@ -122,11 +122,11 @@ module _ (h : Numbers) (k id : ℕ) (b o : List ℕ) (f : LentSuch (InForce h (c
               room = f.room;
             }
 
-        pub cpc_installed : h.mode ≡ 5 → (v : Answer) (c z : List ℕ) → ((s : Server) → Holds s b → answered v c z ≡ outcomeOn (collect_cpc k s) b o)
-            → (s : Server) → Holds s b → answered v c z ≡ outcomeOn (ruled s (cpc k id)) b o
+        pub cpc_installed : h.mode ≡ 5 → (v : Answer) (c z : List ℕ) → ((s : Server) → Holds s b → answered v c z ≡ outcome_on (collect_cpc k s) b o)
+            → (s : Server) → Holds s b → answered v c z ≡ outcome_on (ruled s (cpc k id)) b o
         unfolding apply
         cpc_installed e v c z y s l =
-            y s l ∙ ap (λ (j : Outcome Record). outcomeOn j b o) (sym (passed s r (collecting_cpc k) (constructing e s l)))
+            y s l ∙ ap (λ (j : Outcome Record). outcome_on j b o) (sym (passed s r (collecting_cpc k) (constructing e s l)))
 
         -- ---- in No
 
@@ -145,8 +145,8 @@ module _ (h : Numbers) (k id : ℕ) (b o : List ℕ) (f : LentSuch (InForce h (c
                   (waiting e s f.holds);
             }
 
-        pub late_cpc_taken : (h.mode ≡ 5 → ⊥) → (v : Answer) (c : List ℕ) → ((s : Server) → Holds s b → c ≡ image (withLateCpc k s) b) → v ≡ quietly
-            → (s : Server) → Holds s b → answered v c o ≡ outcomeOn (ruled s (cpc k id)) b o
+        pub late_cpc_taken : (h.mode ≡ 5 → ⊥) → (v : Answer) (c : List ℕ) → ((s : Server) → Holds s b → c ≡ image (with_late_cpc k s) b) → v ≡ quietly
+            → (s : Server) → Holds s b → answered v c o ≡ outcome_on (ruled s (cpc k id)) b o
         unfolding apply
         late_cpc_taken e v c y q s l =
-            quiet_as s (withLateCpc k s) (ruled s r) v b c o q (passed s r (collecting_late_cpc k) (waiting e s l) ∙ late_quiet k s) (y s l)
+            quiet_as s (with_late_cpc k s) (ruled s r) v b c o q (passed s r (collecting_late_cpc k) (waiting e s l) ∙ late_quiet k s) (y s l)

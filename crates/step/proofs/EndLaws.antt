@@ -38,7 +38,7 @@ use Rattle.exchange.specs.Decided.{votes_numbers}
 use Rattle.exchange.specs.Table.{Listed}
 use Rattle.step.specs.declared.Answer.{Answer}
 use Rattle.outgoing.specs.Lent.{LentSuch}
-use Rattle.step.specs.Answers.{answered, outcomeOn, storedFirst}
+use Rattle.step.specs.Answers.{answered, outcome_on, stored_first_of}
 use Rattle.outgoing.proofs.LentFacts.{lent_fact, lent_room}
 use Rattle.image.proofs.Chained.{Covers, chained, then_holds, numbers_then}
 use Rattle.step.proofs.ExchangeStates.{decided_formed, attempting_formed, staying_formed}
@@ -128,7 +128,7 @@ module _ (b o : List ℕ) (m : LentSuch Attempts b o) where
         let f : h ≡ header_of t = e ∙ header_loaded t b r in
         (λ i. cpc (f i).me (f i).configuration_id) ∙ ap (cpc t.me) (id_here t.membership.configuration)
 
-    pub attempt_full : w ≡ Full → (r : Answer) (b₁ : List ℕ) (s t : Server) → Holds t b → answered r b₁ o₁ ≡ outcomeOn (end_exchange s t) b o
+    pub attempt_full : w ≡ Full → (r : Answer) (b₁ : List ℕ) (s t : Server) → Holds t b → answered r b₁ o₁ ≡ outcome_on (end_exchange s t) b o
     unfolding out_length length_of
     attempt_full f r b₁ s t k =
         put_room (write (cpc h.me h.configuration_id)) o o₁ w p
@@ -140,8 +140,8 @@ module _ (b o : List ℕ) (m : LentSuch Attempts b o) where
         omega (arith, write_length (cpc h.me h.configuration_id), (put_done (write (cpc h.me h.configuration_id)) o o₁ w p n f).sized)
 
     pub attempt_made : (n : ℕ) → w ≡ Next n → (c d : List ℕ) → Decided b c → ((t : Server) → Holds t c → d ≡ image (attempting t) c) → (r : Answer)
-        → r ≡ storedFirst n
-        → (s t : Server) → Holds t b → answered r d o₁ ≡ outcomeOn (end_exchange s t) b o
+        → r ≡ stored_first_of n
+        → (s t : Server) → Holds t b → answered r d o₁ ≡ outcome_on (end_exchange s t) b o
     attempt_made n f c d g k r a s t y =
         let z : Attempts t = lent_fact Attempts b o t m y in
         let x : List ℕ = write (cpc h.me h.configuration_id) in
@@ -150,7 +150,7 @@ module _ (b o : List ℕ) (m : LentSuch Attempts b o) where
         stored_outcome s (attempting (decided t)) (cpc t.me (here_id t) ∷ []) b o d o₁ n r a (over_decided t y z c d g k)
         (omega (arith, done.sized, ap length bytes))
         (done.filled ∙ ap (λ (l : List ℕ). over l o) bytes)
-        ∙ ap (λ v. outcomeOn v b o) (sym (end_attempting s t z.2))
+        ∙ ap (λ v. outcome_on v b o) (sym (end_attempting s t z.2))
       where
         over_decided : (t : Server) → Holds t b → Attempts t → (c d : List ℕ) → Decided b c → ((t : Server) → Holds t c → d ≡ image (attempting t) c)
             → d ≡ image (attempting (decided t)) b
@@ -186,8 +186,8 @@ module _ (b o : List ℕ) (m : LentSuch Stays b o) where
       record { state = decided m.state; holds = decided_holds m.state b c m.holds m.fact.1 f; fact = omega arith; room = m.room }
 
   pub stay_sent : (c : List ℕ) → Decided b c → (a : Answer) (d u : List ℕ)
-      → ((s t : Server) → Holds t c → answered a d u ≡ outcomeOn (stored s (send_waiting t) (waiting_records t)) c o)
-      → (s t : Server) → Holds t b → answered a d u ≡ outcomeOn (end_exchange s t) b o
+      → ((s t : Server) → Holds t c → answered a d u ≡ outcome_on (stored s (send_waiting t) (waiting_records t)) c o)
+      → (s t : Server) → Holds t b → answered a d u ≡ outcome_on (end_exchange s t) b o
   stay_sent c f a d u g s t r =
       let z : Stays t = lent_fact Stays b o t m r in
       let v : Server = decided t in
@@ -195,8 +195,8 @@ module _ (b o : List ℕ) (m : LentSuch Stays b o) where
       let formed : well_formed (send_waiting v) ≡ true = rw (idle_same t z.1) (staying_formed t r.formed) in
       g s v held
       ∙ stored_after t v (send_waiting v) b c o r held.formed formed (stay_covers t) (f t r) s (waiting_records v)
-      ∙ (λ i. outcomeOn (stored s (send_waiting (idle_same t z.1 i)) (waiting_records (idle_same t z.1 i))) b o)
-      ∙ ap (λ w. outcomeOn w b o) (sym (end_staying s t z.2))
+      ∙ (λ i. outcome_on (stored s (send_waiting (idle_same t z.1 i)) (waiting_records (idle_same t z.1 i))) b o)
+      ∙ ap (λ w. outcome_on w b o) (sym (end_staying s t z.2))
 
 -- ---- which of both
 

@@ -15,7 +15,7 @@ use Rattle.replication.specs.Machine.WellFormed.{queue, well_formed}
 use Rattle.replication.specs.Machine.WellFormedFacts.{Configured}
 use Rattle.image.specs.Image.{image}
 use Rattle.image.specs.Holding.{Holds}
-use Rattle.step.specs.Answers.{outcomeOn}
+use Rattle.step.specs.Answers.{outcome_on}
 use Rattle.image.proofs.Chained.{Covers, same_begins}
 use Rattle.step.proofs.OutcomeLaws.{stored_after}
 use Rattle.step.proofs.ExchangeStates.{attempting_formed, staying_formed}
@@ -57,14 +57,14 @@ module _ (s t : Server) (p : Before s t) where
   }
 
   pub end_over : (b c o : List ℕ) → Holds s b → well_formed t ≡ true → Configured t → c ≡ image t b → (w : Server)
-      → outcomeOn (end_exchange w t) c o ≡ outcomeOn (end_exchange w t) b o
+      → outcome_on (end_exchange w t) c o ≡ outcome_on (end_exchange w t) b o
   unfolding end_exchange
   end_over b c o r ok d e w =
-      pick_as (λ v. outcomeOn v c o ≡ outcomeOn v b o) (quorum (collected t) (here_set t))
+      pick_as (λ v. outcome_on v c o ≡ outcome_on v b o) (quorum (collected t) (here_set t))
       (stored w (attempting (decided t)) (cpc t.me (here_id t) ∷ []))
       (stored w (send_waiting (in_mode Non_prim (decided t))) (waiting_records (in_mode Non_prim (decided t))))
       (λ q. after (attempting (decided t)) (attempting_formed t ok d q) attempt_covers (cpc t.me (here_id t) ∷ []))
       (λ q. after (send_waiting (in_mode Non_prim (decided t))) (staying_formed t ok) stay_covers (waiting_records (in_mode Non_prim (decided t))))
     where
-      after : (u : Server) → well_formed u ≡ true → Covers s t u → (rs : List Record) → outcomeOn (stored w u rs) c o ≡ outcomeOn (stored w u rs) b o
+      after : (u : Server) → well_formed u ≡ true → Covers s t u → (rs : List Record) → outcome_on (stored w u rs) c o ≡ outcome_on (stored w u rs) b o
       after u fine covers rs = stored_after s t u b c o r ok fine covers e w rs

@@ -19,7 +19,7 @@ use Rattle.image.proofs.HeaderLaws.{header_loaded}
 use Rattle.image.specs.Holding.{Holds, HoldsSuch}
 use Rattle.step.specs.declared.Answer.{Answer}
 use Rattle.outgoing.specs.Lent.{LentSuch}
-use Rattle.step.specs.Answers.{answered, outcomeOn, quietly}
+use Rattle.step.specs.Answers.{answered, outcome_on, quietly}
 use Rattle.outgoing.proofs.LentFacts.{lent_fact}
 use Rattle.image.proofs.Chained.{then_holds}
 use Rattle.step.specs.Events.{Retransmitted, NotLast}
@@ -80,8 +80,8 @@ module _ (h : ActionHead) (p b o : List ℕ) (planned come k : ℕ) (m : LentSuc
     }
 
     pub last_ended : planned ≤ come + 1 → (d o₁ : List ℕ) (r : Answer)
-        → ((s t : Server) → Holds t c → answered r d o₁ ≡ outcomeOn (end_exchange s t) c o)
-        → (s : Server) → Holds s b → answered r d o₁ ≡ outcomeOn (exchange k (action_of h p) s) b o
+        → ((s t : Server) → Holds t c → answered r d o₁ ≡ outcome_on (end_exchange s t) c o)
+        → (s : Server) → Holds s b → answered r d o₁ ≡ outcome_on (exchange k (action_of h p) s) b o
     unfolding exchange
     last_ended l d o₁ r g s y =
         let t : Server = exchanged k (action_of h p) s in
@@ -89,7 +89,7 @@ module _ (h : ActionHead) (p b o : List ℕ) (planned come k : ℕ) (m : LentSuc
         ∙ end_over s (in_mode Non_prim t) (last_before k (action_of h p) s) b c o y
         (last_formed s y.formed (taken s y).1 k (action_of h p) (taken s y).0)
         (last_configured s y) (f s y) s
-        ∙ ap (λ v. outcomeOn v b o) (end_mode s t ∙ pick_yes _ _ _ _ (all_come l s y) refl)
+        ∙ ap (λ v. outcome_on v b o) (end_mode s t ∙ pick_yes _ _ _ _ (all_come l s y) refl)
 
   -- ---- another
 
@@ -99,8 +99,8 @@ module _ (h : ActionHead) (p b o : List ℕ) (planned come k : ℕ) (m : LentSuc
 
   pub more_quiet : come + 1 < planned → (c : List ℕ) → ((s : Server) → Holds s b → c ≡ image (exchanged k (action_of h p) s) b) → (r : Answer)
       → r ≡ quietly
-      → (s : Server) → Holds s b → answered r c o ≡ outcomeOn (exchange k (action_of h p) s) b o
+      → (s : Server) → Holds s b → answered r c o ≡ outcome_on (exchange k (action_of h p) s) b o
   unfolding exchange
   more_quiet l c f r a s y =
       quiet_outcome s (exchanged k (action_of h p) s) b o c r a (f s y)
-      ∙ ap (λ v. outcomeOn v b o) (pick_no _ _ _ _ (not_all l s y) refl)
+      ∙ ap (λ v. outcome_on v b o) (pick_no _ _ _ _ (not_all l s y) refl)

@@ -25,7 +25,7 @@ use Rattle.install.proofs.SwapFits.{swaps_kept}
 use Rattle.install.proofs.InstallLaws.{install_swaps}
 use Rattle.step.specs.declared.Answer.{Answer}
 use Rattle.outgoing.specs.Lent.{LentSuch}
-use Rattle.step.specs.Answers.{answered, outcomeOn, Installs}
+use Rattle.step.specs.Answers.{answered, outcome_on, Installs}
 use Rattle.outgoing.proofs.LentFacts.{lent_fact}
 use Rattle.image.proofs.Chained.{Covers, chained, then_holds}
 use Rattle.step.proofs.OutcomeLaws.{stored_after}
@@ -150,8 +150,8 @@ module _ (b o : List ℕ) (p : LentSuch (λ t. Configured t × (t.votes.last.ind
     primary_lent = record { state = in_mode Reg_prim (install p.state); holds = primary_holds p.state p.holds; fact = omega arith; room = p.room }
 
     pub primary_sent : (a : Answer) (d u : List ℕ)
-        → ((s t : Server) → Holds t c → answered a d u ≡ outcomeOn (stored s (send_waiting t) (waiting_records t)) c o)
-        → (s t : Server) → Holds t b → answered a d u ≡ outcomeOn (installing s t) b o
+        → ((s t : Server) → Holds t c → answered a d u ≡ outcome_on (stored s (send_waiting t) (waiting_records t)) c o)
+        → (s t : Server) → Holds t b → answered a d u ≡ outcome_on (installing s t) b o
     unfolding installing mode_number
     primary_sent a d u g s t r =
         let v : Server = in_mode Reg_prim (install t) in

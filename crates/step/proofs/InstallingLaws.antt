@@ -27,7 +27,7 @@ use Rattle.image.specs.Holding.{Holds, HoldsSuch, HoldsSome}
 use Rattle.image.proofs.InPlace.{such_fact, holds_header, holds_some}
 use Rattle.step.specs.declared.Answer.{Answer}
 use Rattle.outgoing.specs.Lent.{LentSuch}
-use Rattle.step.specs.Answers.{answered, outcomeOn, Installs, quietly, withLateCpc}
+use Rattle.step.specs.Answers.{answered, outcome_on, Installs, quietly, with_late_cpc}
 use Rattle.outgoing.proofs.LentFacts.{lent_fact}
 use Rattle.image.proofs.Chained.{Covers, chained, then_holds}
 use Rattle.step.proofs.Installed.{sent_formed}
@@ -82,14 +82,14 @@ module _ (k : ℕ) (b c o : List ℕ) (p : LentSuch (λ s. (k < s.servers) × (s
   cpc_lent = record { state = with_cpc k p.state; holds = collected_holds p.state p.holds; fact = may_install p.state p.holds; room = p.room }
 
   module _ (all : Bool) (told : (t : Server) → Holds t c → all ≡ all_cpcs_in t) where
-    pub cpc_waiting : all ≡ false → (a : Answer) → a ≡ quietly → (s : Server) → Holds s b → answered a c o ≡ outcomeOn (collect_cpc k s) b o
-    unfolding collect_cpc pick answered outcomeOn result_of in_bytes quiet word over joined
+    pub cpc_waiting : all ≡ false → (a : Answer) → a ≡ quietly → (s : Server) → Holds s b → answered a c o ≡ outcome_on (collect_cpc k s) b o
+    unfolding collect_cpc pick answered outcome_on result_of in_bytes quiet word over joined
     cpc_waiting e a g s r =
         let z : all_cpcs_in (with_cpc k s) ≡ false = sym (told (with_cpc k s) (collected_holds s r)) ∙ e in
         rw (z, g, f s r)
 
-    pub cpc_complete : all ≡ true → (a : Answer) (d u : List ℕ) → ((s t : Server) → Holds t c → answered a d u ≡ outcomeOn (installing s t) c o)
-        → (s : Server) → Holds s b → answered a d u ≡ outcomeOn (collect_cpc k s) b o
+    pub cpc_complete : all ≡ true → (a : Answer) (d u : List ℕ) → ((s t : Server) → Holds t c → answered a d u ≡ outcome_on (installing s t) c o)
+        → (s : Server) → Holds s b → answered a d u ≡ outcome_on (collect_cpc k s) b o
     unfolding collect_cpc installing pick with_cpc install send_waiting numbered mode_number
     cpc_complete e a d u g s r =
         let t : Server = with_cpc k s in
@@ -128,15 +128,15 @@ module _ (k : ℕ) (b c : List ℕ) (m : HoldsSuch (λ s. (k < s.servers) × (s.
   such s r = such_fact (λ x. (k < x.servers) × (x.membership.mode ≡ No)) b s m r
 
   module _ (all : Bool) (told : (t : Server) → Holds t c → all ≡ all_cpcs_in t) where
-    pub late_waiting : all ≡ false → (s : Server) → Holds s b → c ≡ image (withLateCpc k s) b
-    unfolding withLateCpc pick
+    pub late_waiting : all ≡ false → (s : Server) → Holds s b → c ≡ image (with_late_cpc k s) b
+    unfolding with_late_cpc pick
     late_waiting e s r =
         let g : all_cpcs_in (with_cpc k s) ≡ false = sym (told (with_cpc k s) (cpc_holds k s b c r (such s r).0 (f s r))) ∙ e in
         rw g (f s r)
 
     pub late_complete : (d : List ℕ) → all ≡ true → ((t : Server) (o : Mode) → Holds t c → 7 ≡ mode_number o → d ≡ image (in_mode o t) c)
-        → (s : Server) → Holds s b → d ≡ image (withLateCpc k s) b
-    unfolding withLateCpc pick with_cpc mode_number
+        → (s : Server) → Holds s b → d ≡ image (with_late_cpc k s) b
+    unfolding with_late_cpc pick with_cpc mode_number
     late_complete d e g s r =
         let t : Server = with_cpc k s in
         let held : Holds t c = cpc_holds k s b c r (such s r).0 (f s r) in

@@ -29,7 +29,7 @@ use Rattle.image.proofs.Raising.{white_kept}
 use Rattle.outgoing.specs.Lent.{LentSuch}
 use Rattle.outgoing.proofs.LentFacts.{lent_fact}
 use Rattle.step.specs.declared.Answer.{Answer}
-use Rattle.step.specs.Answers.{answered, outcomeOn, byRows, ruled}
+use Rattle.step.specs.Answers.{answered, outcome_on, by_rows, ruled}
 use Rattle.step.specs.Events.{ReadInForce}
 use Rattle.step.specs.Stages.{sieving, unraised, core_images, images_before, unraised_on}
 
@@ -50,28 +50,28 @@ module _ (s : Server) (b o : List ℕ) (held : Holds s b) where
 
   module _ (r : Record) (k : Rule) (f : Bare k s) where
     abbrev Same : Outcome Record → Type 0
-    Same x = result_of (core_images k s) (in_bytes x) b o ≡ outcomeOn x b o
+    Same x = result_of (core_images k s) (in_bytes x) b o ≡ outcome_on x b o
 
     same_rule : (x : Outcome Record) → apply k s ≡ x → Same x
-    unfolding outcomeOn result_of in_bytes
+    unfolding outcome_on result_of in_bytes
     same_rule (refused j) e = refl
     same_rule (taken t rs z g) e =
         ap (λ (c : List ℕ). record { number = 0; store = word z; sent = length (joined (map write rs)); state = c; out = over (joined (map write rs)) o })
         (bare_image k f t (rw e at (white_kept k s)))
 
     same_refused : (j : ℕ) → Same (refused j)
-    unfolding outcomeOn result_of in_bytes
+    unfolding outcome_on result_of in_bytes
     same_refused j = refl
 
-    same_rows : Same (byRows apply (some k) s r)
-    unfolding byRows
+    same_rows : Same (by_rows apply (some k) s r)
+    unfolding by_rows
     same_rows =
         pick_either Same (possible s r) _ _
         (pick_either Same (is_ignored k or from_member s.membership r) _ _
         (pick_either Same (within_quota s r) _ _ (same_rule (apply k s) refl) (same_refused 3)) (same_refused 6)) (same_refused 5)
 
-    sieved_rows : byRows sieving (some k) s r ≡ byRows apply (some k) s r
-    unfolding byRows sieving
+    sieved_rows : by_rows sieving (some k) s r ≡ by_rows apply (some k) s r
+    unfolding by_rows sieving
     sieved_rows =
         ap
         (λ (j : Rule).
@@ -79,12 +79,12 @@ module _ (s : Server) (b o : List ℕ) (held : Holds s b) where
         f.sieves
 
   -- The first stage is the rule alone.
-  bare_on : (r : Record) → ((k : Rule) → rule_for s.membership.mode r ≡ some k → Bare k s) → unraised_on s r b o ≡ outcomeOn (ruled s r) b o
-  unfolding unraised_on unraised ruled byRows outcomeOn result_of in_bytes images_before
+  bare_on : (r : Record) → ((k : Rule) → rule_for s.membership.mode r ≡ some k → Bare k s) → unraised_on s r b o ≡ outcome_on (ruled s r) b o
+  unfolding unraised_on unraised ruled by_rows outcome_on result_of in_bytes images_before
   bare_on r f = go (rule_for s.membership.mode r) refl
     where
       go : (x : Option Rule) → rule_for s.membership.mode r ≡ x
-          → result_of (images_before x s) (in_bytes (byRows sieving x s r)) b o ≡ outcomeOn (byRows apply x s r) b o
+          → result_of (images_before x s) (in_bytes (by_rows sieving x s r)) b o ≡ outcome_on (by_rows apply x s r) b o
       go none e = refl
       go (some k) e =
           ap (λ (y : Outcome Record). result_of (core_images k s) (in_bytes y) b o) (sieved_rows r k (f k e)) ∙ same_rows r k (f k e)
@@ -167,7 +167,7 @@ module _ (v : Event) (e b o c z : List ℕ) (r : Answer) where
   pub state_done : (x : StateAt) → v ≡ State x
       → ((s : Server) (y : FormatState) → Holds s b → fields_ok (context_of s) (state y) ≡ true → write (state y) ≡ e → y.sender ≡ x.head.sender
       → y.configuration ≡ x.head.configuration
-      → answered r c z ≡ outcomeOn (ruled s (state y)) b o)
+      → answered r c z ≡ outcome_on (ruled s (state y)) b o)
       → (h : Numbers) → LentSuch (ReadInForce h v e) b o → (s : Server) → Holds s b → answered r c z ≡ unraised_on s (record_of v e) b o
   unfolding record_of state_from state_of rule_for
   state_done x q y h f =
@@ -178,19 +178,19 @@ module _ (v : Event) (e b o c z : List ℕ) (r : Answer) where
       done_as (State x) q
       (λ s i. y s (state_from x e) i (range s i) written refl refl ∙ sym (bare_on s b o i (state (state_from x e)) (bare_state s s.membership.mode (state_from x e))))
 
-  pub cpc_done : (k i : ℕ) → v ≡ Cpc k i → ((s : Server) → Holds s b → answered r c z ≡ outcomeOn (ruled s (cpc k i)) b o)
+  pub cpc_done : (k i : ℕ) → v ≡ Cpc k i → ((s : Server) → Holds s b → answered r c z ≡ outcome_on (ruled s (cpc k i)) b o)
       → (s : Server) → Holds s b → answered r c z ≡ unraised_on s (record_of v e) b o
   unfolding record_of rule_for
   cpc_done k i q y = done_as (Cpc k i) q (λ s h. y s h ∙ sym (bare_on s b o h (cpc k i) (bare_cpc s s.membership.mode k)))
 
-  pub regular_done : (i k : ℕ) → v ≡ Regular i k → ((s : Server) → Holds s b → answered r c z ≡ outcomeOn (ruled s (regular i k)) b o)
+  pub regular_done : (i k : ℕ) → v ≡ Regular i k → ((s : Server) → Holds s b → answered r c z ≡ outcome_on (ruled s (regular i k)) b o)
       → (s : Server) → Holds s b → answered r c z ≡ unraised_on s (record_of v e) b o
   unfolding record_of rule_for
   regular_done i k q y =
       done_as (Regular i k) q
       (λ s h. y s h ∙ sym (bare_on s b o h (regular i k) (bare_regular s s.membership.mode (record { id = i; set = k }))))
 
-  pub request_done : (at m : ℕ) → v ≡ Request at m → ((s : Server) → Holds s b → answered r c z ≡ outcomeOn (ruled s (request (part_at m e at))) b o)
+  pub request_done : (at m : ℕ) → v ≡ Request at m → ((s : Server) → Holds s b → answered r c z ≡ outcome_on (ruled s (request (part_at m e at))) b o)
       → (s : Server) → Holds s b → answered r c z ≡ unraised_on s (record_of v e) b o
   unfolding record_of rule_for
   request_done at m q y =
@@ -205,7 +205,7 @@ module _ (v : Event) (e b o c : List ℕ) (r : Answer) where
   action_done a q y = done_as v e b o c o r (Action a) q (λ s i. y s o i)
 
   pub transitional_done : (k : ℕ) → v ≡ Transitional k
-      → ((s : Server) (z : List ℕ) → Holds s b → answered r c z ≡ outcomeOn (ruled s (transitional k)) b z)
+      → ((s : Server) (z : List ℕ) → Holds s b → answered r c z ≡ outcome_on (ruled s (transitional k)) b z)
       → (s : Server) → Holds s b → answered r c o ≡ unraised_on s (record_of v e) b o
   unfolding record_of rule_for
   transitional_done k q y =

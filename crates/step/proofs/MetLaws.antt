@@ -83,16 +83,16 @@ meeting s e = go (read (context_of s) e) refl
     stays : (r : Record) → read (context_of s) e ≡ says r → met_in s r ≡ s → Meeting s e
     stays r f q = Meeting.same (ap (met_on s) f ∙ q)
 
-    by_rows : (a : Action) → read (context_of s) e ≡ says (action a) → s.membership.mode ≡ Un → Known (possible s (action a))
+    by_rows_lem : (a : Action) → read (context_of s) e ≡ says (action a) → s.membership.mode ≡ Un → Known (possible s (action a))
         → Known (from_member s.membership (action a)) → Meeting s e
-    by_rows a f un (fails p) m = stays (action a) f (row_stays s (action a) 5 (rows_impossible sieving s (action a) p))
-    by_rows a f un (holds p) (fails m) =
+    by_rows_lem a f un (fails p) m = stays (action a) f (row_stays s (action a) 5 (rows_impossible sieving s (action a) p))
+    by_rows_lem a f un (holds p) (fails m) =
         stays (action a) f (row_stays s (action a) 6 (rows_outside sieving s (action a) (late_installing a) (late_rule s a un) p (late_member s a false m)))
-    by_rows a f un (holds p) (holds m) = Meeting.late a f un p m (ap (met_on s) f ∙ action_met s a un p m)
+    by_rows_lem a f un (holds p) (holds m) = Meeting.late a f un p m (ap (met_on s) f ∙ action_met s a un p m)
 
     by_mode : (a : Action) → read (context_of s) e ≡ says (action a) → Known (mode_number s.membership.mode =? 7) → Meeting s e
     by_mode a f (fails n) = stays (action a) f (early_stays s (not_un s a n) (action a))
-    by_mode a f (holds n) = by_rows a f (is_un s a n) (known (possible s (action a))) (known (from_member s.membership (action a)))
+    by_mode a f (holds n) = by_rows_lem a f (is_un s a n) (known (possible s (action a))) (known (from_member s.membership (action a)))
 
     go : (x : Reading Record) → read (context_of s) e ≡ x → Meeting s e
     go (format.refused k) f = Meeting.same (ap (met_on s) f)

@@ -36,7 +36,7 @@ use Rattle.image.proofs.InPlace.{holds_header, holds_one}
 use Rattle.image.proofs.Refusals.{zero_ready, step_refused}
 use Rattle.step.specs.declared.Answer.{Answer}
 use Rattle.outgoing.specs.Lent.{LentSuch}
-use Rattle.step.specs.Answers.{answered, refusedWith}
+use Rattle.step.specs.Answers.{answered, refused_with}
 use Rattle.step.specs.Stages.{unraised, images_before, unraised_on, unraised_by, unraised_step, is_taken, ignored_by, raises_by, raises}
 use Rattle.step.specs.Events.{ReadInForce, number_of}
 use Rattle.image.specs.Layout.{header_size}
@@ -88,14 +88,14 @@ module _ (b e o : List ℕ) (z : state_number b o ≡ 0) (h : Numbers) (l : h �
   read_here x f = ap (λ (y : FormatContext). read y e) (sym same_context) ∙ f
 
   -- "A record that does not read ends the step with its number."
-  pub act_unread : (k n : ℕ) (v : Answer) → r ≡ Refused k → n ≡ number_of r → v ≡ refusedWith n
+  pub act_unread : (k n : ℕ) (v : Answer) → r ≡ Refused k → n ≡ number_of r → v ≡ refused_with n
       → (t : Server) → Holds t b → (answered v b o ≡ unraised_step t e b o) × (false ≡ raises t e)
   unfolding answered refusal number_of unraised_step unraised_by raises raises_by
   act_unread k n v f g w t i =
       let x = read_here (format.refused k) (refused_says c r k e said f) in
       let same : s ≡ t = holds_one s t b holds i in
       subst (λ (u : Server). (answered v b o ≡ unraised_step u e b o) × (false ≡ raises u e)) same (
-        ap (λ (y : Answer). answered y b o) (w ∙ ap (λ (m : ℕ). refusedWith m) (g ∙ ap number_of f))
+        ap (λ (y : Answer). answered y b o) (w ∙ ap (λ (m : ℕ). refused_with m) (g ∙ ap number_of f))
             ∙ ap (λ (y : FormatReading Record). unraised_by s y b o) (sym x),
         ap (raises_by s) (sym x),
       )
@@ -152,7 +152,7 @@ module _ (b e o : List ℕ) (z : state_number b o ≡ 0) (h : Numbers) (l : h �
 
 -- ---- the step by the state's number
 
-pub step_numbered : (b e o : List ℕ) (n : ℕ) (v : Answer) → n ≡ state_number b o → (n ≡ 0 → ⊥) → v ≡ refusedWith n → answered v b o ≡ step_on b e o
+pub step_numbered : (b e o : List ℕ) (n : ℕ) (v : Answer) → n ≡ state_number b o → (n ≡ 0 → ⊥) → v ≡ refused_with n → answered v b o ≡ step_on b e o
 unfolding answered refusal
 step_numbered b e o n v f g w =
-    ap (λ (y : Answer). answered y b o) (w ∙ ap (λ (i : ℕ). refusedWith i) f) ∙ sym (step_refused b e o (λ i. g (f ∙ i)))
+    ap (λ (y : Answer). answered y b o) (w ∙ ap (λ (i : ℕ). refused_with i) f) ∙ sym (step_refused b e o (λ i. g (f ∙ i)))

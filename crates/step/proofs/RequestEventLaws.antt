@@ -17,7 +17,7 @@ use Rattle.image.specs.Header.{header_of}
 use Rattle.image.specs.Holding.{Holds, Computes}
 use Rattle.step.specs.declared.Answer.{Answer}
 use Rattle.outgoing.specs.Lent.{LentSuch}
-use Rattle.step.specs.Answers.{answered, outcomeOn, ruled, InForce, refusedWith}
+use Rattle.step.specs.Answers.{answered, outcome_on, ruled, InForce, refused_with}
 use Rattle.step.specs.Events.{Asked}
 use Rattle.outgoing.proofs.LentFacts.{lent_fact}
 use Rattle.step.proofs.AnswerLaws.{Passes, above_quota, passed, passed_fits, refused_as}
@@ -37,7 +37,7 @@ module _ (h : Numbers) (p b o : List ℕ) (f : LentSuch (InForce h (request p)) 
       let e = (force s y).numbers in
       told s e (own s y ∙ ap (λ (k : ℕ). unwhite k s.white s.log) (ap (λ (n : Numbers). n.me) e))
 
-  pub quota_used_lem : not t ≡ true → (v : Answer) → v ≡ refusedWith quota_used → (s : Server) → Holds s b → answered v b o ≡ outcomeOn (ruled s (request p)) b o
+  pub quota_used_lem : not t ≡ true → (v : Answer) → v ≡ refused_with quota_used → (s : Server) → Holds s b → answered v b o ≡ outcome_on (ruled s (request p)) b o
   unfolding rule_for possible is_ignored from_member within_quota ◌or◌
   quota_used_lem n v q s y =
       refused_as (ruled s r) v 3 b o q (above_quota s r (requesting p) refl refl refl (sym (left_told s y) ∙ not-true t n))
@@ -53,7 +53,7 @@ module _ (h : Numbers) (p b o : List ℕ) (f : LentSuch (InForce h (request p)) 
         let fits = passed_fits s r (requesting p) f.holds.formed f.fact.range (passes s f.holds) in
         record { state = s; holds = f.holds; fact = (fits.0, fits.1, f.fact.numbers); room = f.room }
 
-    pub request_taken : (v : Answer) (c z : List ℕ) → ((s : Server) → Holds s b → answered v c z ≡ outcomeOn (requested p s) b o)
-        → (s : Server) → Holds s b → answered v c z ≡ outcomeOn (ruled s (request p)) b o
+    pub request_taken : (v : Answer) (c z : List ℕ) → ((s : Server) → Holds s b → answered v c z ≡ outcome_on (requested p s) b o)
+        → (s : Server) → Holds s b → answered v c z ≡ outcome_on (ruled s (request p)) b o
     unfolding apply
-    request_taken v c z w s y = w s y ∙ ap (λ (j : Outcome Record). outcomeOn j b o) (sym (passed s r (requesting p) (passes s y)))
+    request_taken v c z w s y = w s y ∙ ap (λ (j : Outcome Record). outcome_on j b o) (sym (passed s r (requesting p) (passes s y)))

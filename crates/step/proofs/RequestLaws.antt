@@ -28,7 +28,7 @@ use Rattle.image.proofs.Chained.{Covers, then_holds}
 use Rattle.updates.specs.Lists.{PayloadRoom}
 use Rattle.step.specs.declared.Answer.{Answer}
 use Rattle.outgoing.specs.Lent.{LentSuch}
-use Rattle.step.specs.Answers.{answered, outcomeOn, storedFirst}
+use Rattle.step.specs.Answers.{answered, outcome_on, stored_first_of}
 use Rattle.step.specs.Events.{Asked}
 use Rattle.outgoing.proofs.LentFacts.{lent_fact}
 use Rattle.outgoing.proofs.LentLaws.{lent_header}
@@ -40,11 +40,11 @@ use Rattle.step.proofs.OutcomeLaws.{stored_outcome, stored_after}
 pub waiting_ready : (P : Server → Type 0) (b o : List ℕ) → LentSuch P b o → header_size ≤ length b
 waiting_ready = lent_header
 
-pub waiting_put : (b d o u : List ℕ) (n : ℕ) (a : Answer) → a ≡ storedFirst n
+pub waiting_put : (b d o u : List ℕ) (n : ℕ) (a : Answer) → a ≡ stored_first_of n
     → ((s : Server) → Holds s b → (n ≡ length (record_bytes (waiting_records s))) × (u ≡ over (record_bytes (waiting_records s)) o))
     → ((s : Server) → Holds s b → d ≡ image (send_waiting s) b)
-    → (s t : Server) → Holds t b → answered a d u ≡ outcomeOn (stored s (send_waiting t) (waiting_records t)) b o
-unfolding answered outcomeOn result_of in_bytes stored record_bytes word
+    → (s t : Server) → Holds t b → answered a d u ≡ outcome_on (stored s (send_waiting t) (waiting_records t)) b o
+unfolding answered outcome_on result_of in_bytes stored record_bytes word
 waiting_put b d o u n a e f g s t r =
     λ i. record { number = (e i).number; store = (e i).store; sent = (ap (λ (x : Answer). x.sent) e ∙ (f t r).0) i; state = g t r i; out = (f t r).1 i }
 
@@ -81,21 +81,21 @@ module _ (p b o : List ℕ) (h : State) (l : LentSuch (λ s. Asked p h s) b o) w
         let a = asked s k in
         then_holds s (numbered p s) b c k (f s k a.1) refl refl (numbered_formed p s k.formed a.0 a.1) k.blank
 
-    pub request_waits_lem : not t ≡ true → (r : Answer) → r ≡ storedFirst 0 → (s : Server) → Holds s b → answered r c o ≡ outcomeOn (requested p s) b o
+    pub request_waits_lem : not t ≡ true → (r : Answer) → r ≡ stored_first_of 0 → (s : Server) → Holds s b → answered r c o ≡ outcome_on (requested p s) b o
     unfolding requested record_bytes joined over
     request_waits_lem n r e s k =
         let a = asked s k in
         let no : sends_now s.membership ≡ false = sym (g s a.2) ∙ not-true t n in
         stored_outcome s (numbered p s) [] b o c o 0 r e (f s k a.1) refl refl
-        ∙ ap (λ z. outcomeOn z b o) (pick_no (sends_now s.membership) (stored s (numbered p s) []) _ _ no refl)
+        ∙ ap (λ z. outcome_on z b o) (pick_no (sends_now s.membership) (stored s (numbered p s) []) _ _ no refl)
 
     pub request_lent : LentSuch (λ s. 0 ≤ 0) c o
     unfolding numbered
     request_lent = record { state = numbered p l.state; holds = numbered_holds l.state l.holds; fact = omega arith; room = l.room }
 
     pub request_sent : not t ≡ false → (r : Answer) (d u : List ℕ)
-        → ((s t : Server) → Holds t c → answered r d u ≡ outcomeOn (stored s (send_waiting t) (waiting_records t)) c o)
-        → (s : Server) → Holds s b → answered r d u ≡ outcomeOn (requested p s) b o
+        → ((s t : Server) → Holds t c → answered r d u ≡ outcome_on (stored s (send_waiting t) (waiting_records t)) c o)
+        → (s : Server) → Holds s b → answered r d u ≡ outcome_on (requested p s) b o
     unfolding requested
     request_sent n r d u w s k =
         let a = asked s k in
@@ -105,4 +105,4 @@ module _ (p b o : List ℕ) (h : State) (l : LentSuch (λ s. Asked p h s) b o) w
         w s v y
         ∙ stored_after s v (send_waiting v) b c o k y.formed (sent_formed p s k.formed a.0 a.1) (request_covers p s k.formed a.0 a.1)
         (f s k a.1) s (waiting_records v)
-        ∙ ap (λ z. outcomeOn z b o) (pick_yes (sends_now s.membership) (stored s (send_waiting v) (waiting_records v)) _ _ yes refl)
+        ∙ ap (λ z. outcome_on z b o) (pick_yes (sends_now s.membership) (stored s (send_waiting v) (waiting_records v)) _ _ yes refl)

@@ -28,7 +28,7 @@ use Rattle.queue.specs.Queue.{Placed, RoomIfNext}
 use Rattle.queue.proofs.RedLaws.{room_if_next}
 use Rattle.step.specs.declared.Answer.{Answer}
 use Rattle.outgoing.specs.Lent.{LentSuch}
-use Rattle.step.specs.Answers.{answered, outcomeOn, InForce, refusedWith, quietly}
+use Rattle.step.specs.Answers.{answered, outcome_on, InForce, refused_with, quietly}
 use Rattle.step.specs.Events.{PlacedAt, Retransmitted}
 use Rattle.step.specs.Stages.{Sifts, sieving, unraised, unraised_on}
 use Rattle.outgoing.proofs.LentFacts.{lent_fact}
@@ -85,7 +85,7 @@ module _ (h : Numbers) (x : ActionHead) (p b o : List ℕ) (j i : ℕ) (f : Lent
   force : (s : Server) → Holds s b → InForce h r s
   force s y = lent_fact (InForce h r) b o s f y
 
-  pub resent_unnumbered : (u : Bool) (v : Answer) → OwnNumbered h x u → not u ≡ true → v ≡ refusedWith not_now
+  pub resent_unnumbered : (u : Bool) (v : Answer) → OwnNumbered h x u → not u ≡ true → v ≡ refused_with not_now
       → (s : Server) → Holds s b → answered v b o ≡ unraised_on s (retransmission j i (action_of x p)) b o
   unfolding possible unraised
   resent_unnumbered u v d n q s y =
@@ -95,7 +95,7 @@ module _ (h : Numbers) (x : ActionHead) (p b o : List ℕ) (j i : ℕ) (f : Lent
     table : (s : Server) → Holds s b → t ≡ is_there (on_retransmission s.membership.mode i a)
     table s y = g s.membership.mode i a (numbers_mode h s (force s y).numbers)
 
-    pub resent_untaken : (v : Answer) → not t ≡ true → v ≡ refusedWith not_now
+    pub resent_untaken : (v : Answer) → not t ≡ true → v ≡ refused_with not_now
         → (s : Server) → Holds s b → answered v b o ≡ unraised_on s (retransmission j i (action_of x p)) b o
     unfolding rule_for unraised
     resent_untaken v n q s y =
@@ -113,7 +113,7 @@ module _ (h : Numbers) (x : ActionHead) (p b o : List ℕ) (j i : ℕ) (f : Lent
       unfolding from_member
       member s y = sym (e s (force s y).numbers)
 
-      pub resent_outside : (v : Answer) → not w ≡ true → v ≡ refusedWith not_from_here
+      pub resent_outside : (v : Answer) → not w ≡ true → v ≡ refused_with not_from_here
           → (s : Server) → Holds s b → answered v b o ≡ unraised_on s (retransmission j i (action_of x p)) b o
       unfolding rule_for ◌or◌ unraised
       resent_outside v n q s y =
@@ -164,12 +164,12 @@ module _ (h : Numbers) (x : ActionHead) (p b o : List ℕ) (j i : ℕ) (f : Lent
               }
 
           pub resent_exchanged : (v : Answer) (d z : List ℕ)
-              → ((s : Server) → Holds s c → answered v d z ≡ outcomeOn (exchange i (action_of y p) s) c o)
+              → ((s : Server) → Holds s c → answered v d z ≡ outcome_on (exchange i (action_of y p) s) c o)
               → (s : Server) → Holds s b → answered v d z ≡ unraised_on s (retransmission j i (action_of x p)) b o
           unfolding apply sieved met_log
           resent_exchanged v d z e s l =
               core_done s r (exchanging i a) (planned s l) b o l refl (exchanging_plain i a s) c ((sift p).0 s l) v d z
-              (e (there_state s) (there_holds s l) ∙ ap (λ (k : Action). outcomeOn (exchange i k (there_state s)) c o) ((sift p).1 s l))
+              (e (there_state s) (there_holds s l) ∙ ap (λ (k : Action). outcome_on (exchange i k (there_state s)) c o) ((sift p).1 s l))
 
         -- ---- elsewhere
 
@@ -202,4 +202,4 @@ module _ (h : Numbers) (x : ActionHead) (p b o : List ℕ) (j i : ℕ) (f : Lent
               let t : Server = here s in
               core_done s r (reddening a) (alone s l) b o l refl (plain_red a s).at c ((sift p).0 s l) v d o
               (quiet_as t (with_log (red (action_of y p) t.log) t) (apply (reddening (action_of y p)) t) v c d o q refl (e t (here_holds s l) (here_placed s l))
-              ∙ ap (λ (k : Action). outcomeOn (apply (reddening k) t) c o) ((sift p).1 s l))
+              ∙ ap (λ (k : Action). outcome_on (apply (reddening k) t) c o) ((sift p).1 s l))

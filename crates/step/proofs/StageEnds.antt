@@ -14,7 +14,7 @@ use Rattle.replication.specs.Machine.Rules.{Rule, rule_for, possible, from_membe
 use Rattle.replication.specs.Machine.Step.{apply_rule, answer, on_reading, in_bytes, step}
 use Rattle.replication.specs.Machine.White.{white_after, raised}
 use Rattle.image.specs.Outcome.{refusal, result_of}
-use Rattle.step.specs.Answers.{byRows}
+use Rattle.step.specs.Answers.{by_rows}
 use Rattle.step.specs.Stages.{sieving, unraised, images_before, unraised_on, unraised_by, unraised_step, is_taken, ignored_by, raises_by, raises}
 
 -- ---- the machine's answer is the first stage, raised
@@ -24,7 +24,7 @@ raised_in_lem none s x = x
 raised_in_lem (some k) s x = raised k s x
 
 unraised_answer : (s : Server) (r : Record) → answer s r ≡ raised_in_lem (rule_for s.membership.mode r) s (unraised s r)
-unfolding answer unraised apply_rule byRows sieving raised_in_lem raised pick
+unfolding answer unraised apply_rule by_rows sieving raised_in_lem raised pick
 unraised_answer s r = go (rule_for s.membership.mode r)
   where
     rows : (k : Rule) (x y z : Bool) (o : Outcome Record)
@@ -34,11 +34,11 @@ unraised_answer s r = go (rule_for s.membership.mode r)
     rows k true false z o = refl
     rows k false y z o = refl
 
-    go : (x : Option Rule) → apply_rule x s r ≡ raised_in_lem x s (byRows sieving x s r)
+    go : (x : Option Rule) → apply_rule x s r ≡ raised_in_lem x s (by_rows sieving x s r)
     go none = refl
     go (some k) = rows k (possible s r) (is_ignored k or from_member s.membership r) (within_quota s r) (sieving k s)
 
-unraised_rows : (s : Server) (r : Record) → unraised s r ≡ byRows sieving (rule_for s.membership.mode r) s r
+unraised_rows : (s : Server) (r : Record) → unraised s r ≡ by_rows sieving (rule_for s.membership.mode r) s r
 unfolding unraised
 unraised_rows s r = refl
 
@@ -51,7 +51,7 @@ pub data Stage (s : Server) (e : List ℕ) : Type 0 where
       → step s e ≡ taken (with_white (white_after k s core) core) (map write rs) z g → Stage s e
 
 pub stage : (s : Server) (e : List ℕ) → Stage s e
-unfolding unraised_step unraised_by unraised_on raises raises_by step on_reading in_bytes result_of refusal is_taken raised_in_lem raised ◌and◌ not ignored_by byRows
+unfolding unraised_step unraised_by unraised_on raises raises_by step on_reading in_bytes result_of refusal is_taken raised_in_lem raised ◌and◌ not ignored_by by_rows
 stage s e = go (read (context_of s) e) refl
   where
     by_reading : (x : Reading Record) → read (context_of s) e ≡ x → step s e ≡ in_bytes (on_reading s x)
@@ -83,7 +83,7 @@ stage s e = go (read (context_of s) e) refl
     with_rule r f none g (taken core rs z n) h = never (sym (none_refused r g) ∙ h)
       where
         none_refused : (r : Record) → rule_for s.membership.mode r ≡ none → unraised s r ≡ refused 5
-        none_refused r g = unraised_rows s r ∙ ap (λ (x : Option Rule). byRows sieving x s r) g
+        none_refused r g = unraised_rows s r ∙ ap (λ (x : Option Rule). by_rows sieving x s r) g
 
         never : ◌≡◌ {A = Outcome Record} (refused 5) (taken core rs z n) → Stage s e
         never p = not_both (ap is_taken p)

@@ -23,14 +23,14 @@ use Rattle.image.specs.Holding.{Holds, blanked}
 use Rattle.image.specs.Outcome.{refusal, result_of, word}
 use Rattle.image.proofs.Raising.{at_white, outcome_blanked, outcome_at}
 use Rattle.step.specs.declared.Answer.{Answer}
-use Rattle.step.specs.Answers.{answered, outcomeOn, byRows, refusedWith, storedFirst}
+use Rattle.step.specs.Answers.{answered, outcome_on, by_rows, refused_with, stored_first_of}
 use Rattle.step.specs.Stages.{sieving, unraised, core_images, images_before, unraised_on}
 use Rattle.step.proofs.AnswerLaws.{Passes, rows_passed}
 use Rattle.step.proofs.SieveLaws.{took_low_here}
 
 -- ---- a row refuses
 
-pub refused_on : (s : Server) (r : Record) (a : Answer) (k : ℕ) (b o : List ℕ) → a ≡ refusedWith k → unraised s r ≡ refused k
+pub refused_on : (s : Server) (r : Record) (a : Answer) (k : ℕ) (b o : List ℕ) → a ≡ refused_with k → unraised s r ≡ refused k
     → answered a b o ≡ unraised_on s r b o
 unfolding answered unraised_on in_bytes result_of refusal
 refused_on s r a k b o e f =
@@ -79,10 +79,10 @@ taken_above (refused k) h = absurd h
 taken_above (taken t r b g) h = tt
 
 pub unraised_above : (s : Server) (r : Record) → AboveZero (unraised s r)
-unfolding unraised byRows sieving
+unfolding unraised by_rows sieving
 unraised_above s r = go (rule_for s.membership.mode r)
   where
-    go : (x : Option Rule) → AboveZero (byRows sieving x s r)
+    go : (x : Option Rule) → AboveZero (by_rows sieving x s r)
     go none = λ e. omega (arith, e)
     go (some k) =
         pick_either AboveZero (possible s r) _ _
@@ -109,9 +109,9 @@ module _ (s : Server) (r : Record) (k : Rule) (f : Passes s r k) (b o : List ℕ
   -- From the buffer c, in which the white length was taken, the rule's effect.
   pub core_done : Holds s b → met_log k s ≡ s.log → ((w : ℕ) (x : Bool) → apply (sieved x k) (with_white w s) ≡ at_white w (apply (sieved x k) s))
       → (c : List ℕ) → c ≡ image (with_white (took_white k s) s) b → (v : Answer) (d z : List ℕ)
-      → answered v d z ≡ outcomeOn (apply (sieved (full k s) k) (blanked (with_white (took_white k s) s))) c o
+      → answered v d z ≡ outcome_on (apply (sieved (full k s) k) (blanked (with_white (took_white k s) s))) c o
       → answered v d z ≡ unraised_on s r b o
-  unfolding outcomeOn sieving core_images
+  unfolding outcome_on sieving core_images
   core_done held met at c e v d z h =
       let w : ℕ = took_white k s in
       let j : Rule = sieved (full k s) k in
@@ -125,7 +125,7 @@ module _ (s : Server) (r : Record) (k : Rule) (f : Passes s r k) (b o : List ℕ
       ∙ sym core_on
 
   -- A rule that stores, and sends nothing.
-  pub stored_on : (t : Server) → sieving k s ≡ stored s t [] → (v : Answer) (c : List ℕ) → v ≡ storedFirst 0 → c ≡ core_images k s t b
+  pub stored_on : (t : Server) → sieving k s ≡ stored s t [] → (v : Answer) (c : List ℕ) → v ≡ stored_first_of 0 → c ≡ core_images k s t b
       → answered v c o ≡ unraised_on s r b o
   unfolding answered result_of in_bytes stored word joined over
   stored_on t e v c g h =

@@ -20,7 +20,7 @@ use Rattle.image.specs.Decode.{mode_named}
 use Rattle.image.specs.Holding.{Holds}
 use Rattle.step.specs.declared.Answer.{Answer}
 use Rattle.outgoing.specs.Lent.{LentSuch}
-use Rattle.step.specs.Answers.{answered, outcomeOn, ruled, StateInForce, Came, refusedWith, quietly}
+use Rattle.step.specs.Answers.{answered, outcome_on, ruled, StateInForce, Came, refused_with, quietly}
 use Rattle.outgoing.proofs.LentFacts.{lent_fact}
 use Rattle.step.proofs.AnswerLaws.{Passes, untaken, outside, passed, passed_fits, refused_as, quiet_as}
 use Rattle.step.proofs.ForceLaws.{numbers_mode, numbers_at_lem, below_eight}
@@ -48,16 +48,16 @@ module _ (h : Numbers) (k id : ℕ) (e b o : List ℕ) (f : LentSuch (StateInFor
 
   pub state_ignored : h.mode ≡ 0 → (r : Answer) → r ≡ quietly
       → (s : Server) (x : State) → Holds s b → fields_ok (context_of s) (state x) ≡ true → write (state x) ≡ e → x.sender ≡ k → x.configuration ≡ id
-      → answered r b o ≡ outcomeOn (ruled s (state x)) b o
+      → answered r b o ≡ outcome_on (ruled s (state x)) b o
   unfolding mode_named pick ◌=?◌ on_state rule_for possible is_ignored within_quota ◌or◌ apply mode_number
   state_ignored m r q s x y g w a c =
       let z : on_state s.membership.mode x ≡ some ignoring = numbers_at_lem (λ l. on_state l x ≡ some ignoring) h s 0 (numbers s y) m refl in
       quiet_as s s (ruled s (state x)) r b b o q
       (passed s (state x) ignoring (record { rule = z; possible = refl; member = refl; quota = refl })) (sym y.written)
 
-  pub state_untaken : (h.mode ≡ 0 → ⊥) → (h.mode ≡ 3 → ⊥) → (r : Answer) → r ≡ refusedWith not_now
+  pub state_untaken : (h.mode ≡ 0 → ⊥) → (h.mode ≡ 3 → ⊥) → (r : Answer) → r ≡ refused_with not_now
       → (s : Server) (x : State) → Holds s b → fields_ok (context_of s) (state x) ≡ true → write (state x) ≡ e → x.sender ≡ k → x.configuration ≡ id
-      → answered r b o ≡ outcomeOn (ruled s (state x)) b o
+      → answered r b o ≡ outcome_on (ruled s (state x)) b o
   unfolding rule_for
   state_untaken m n r q s x y g w a c =
       refused_as (ruled s (state x)) r 5 b o q
@@ -69,9 +69,9 @@ module _ (h : Numbers) (k id : ℕ) (e b o : List ℕ) (f : LentSuch (StateInFor
     unfolding mode_named pick ◌=?◌ on_state mode_number
     rule s x y = numbers_at_lem (λ l. on_state l x ≡ some (collecting_state x)) h s 3 (numbers s y) m refl
 
-    pub state_outside : not t ≡ true → (r : Answer) → r ≡ refusedWith not_from_here
+    pub state_outside : not t ≡ true → (r : Answer) → r ≡ refused_with not_from_here
         → (s : Server) (x : State) → Holds s b → fields_ok (context_of s) (state x) ≡ true → write (state x) ≡ e → x.sender ≡ k → x.configuration ≡ id
-        → answered r b o ≡ outcomeOn (ruled s (state x)) b o
+        → answered r b o ≡ outcome_on (ruled s (state x)) b o
     unfolding rule_for possible is_ignored ◌or◌
     state_outside n r q s x y i w a c =
         refused_as (ruled s (state x)) r 6 b o q
@@ -97,9 +97,9 @@ module _ (h : Numbers) (k id : ℕ) (e b o : List ℕ) (f : LentSuch (StateInFor
 
     pub state_collected : not t ≡ false → (r : Answer) (c z : List ℕ)
         → ((s : Server) (x : State) → Holds s b → fields_ok (context_of s) (state x) ≡ true → write (state x) ≡ e → answered r c z
-        ≡ outcomeOn (collect_state x s) b o)
+        ≡ outcome_on (collect_state x s) b o)
         → (s : Server) (x : State) → Holds s b → fields_ok (context_of s) (state x) ≡ true → write (state x) ≡ e → x.sender ≡ k → x.configuration ≡ id
-        → answered r c z ≡ outcomeOn (ruled s (state x)) b o
+        → answered r c z ≡ outcome_on (ruled s (state x)) b o
     unfolding apply
     state_collected n r c z j s x y i w a d =
-        j s x y i w ∙ ap (λ (v : Outcome Record). outcomeOn v b o) (sym (passed s (state x) (collecting_state x) (passes n s x y a d)))
+        j s x y i w ∙ ap (λ (v : Outcome Record). outcome_on v b o) (sym (passed s (state x) (collecting_state x) (passes n s x y a d)))

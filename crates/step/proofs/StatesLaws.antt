@@ -30,7 +30,7 @@ use Rattle.image.proofs.InPlace.{holds_some}
 use Rattle.updates.specs.Lists.{CollectRoom}
 use Rattle.step.specs.declared.Answer.{Answer}
 use Rattle.outgoing.specs.Lent.{LentSuch}
-use Rattle.step.specs.Answers.{answered, outcomeOn, Came, quietly, sentOnly}
+use Rattle.step.specs.Answers.{answered, outcome_on, Came, quietly, sent_only}
 use Rattle.outgoing.proofs.LentFacts.{lent_fact}
 use Rattle.image.proofs.Chained.{Covers, then_holds, numbers_then}
 use Rattle.step.proofs.ExchangeStates.{non_prim_formed, exchange_configured, came_formed, resending_formed}
@@ -59,18 +59,18 @@ module _ (b o : List ℕ) (m : LentSuch Complete b o) where
   pub part_sent : (n : ℕ) (o₁ c : List ℕ)
       → ((t : Server) → Holds t b
       → (n ≡ length (record_bytes (own_part t.servers t.me t.white t.log (collected t)))) × (o₁ ≡ over (record_bytes (own_part t.servers t.me t.white t.log (collected t))) o))
-      → ((t : Server) → Holds t b → c ≡ image (resending t) b) → (r : Answer) → r ≡ sentOnly n
-      → (s t : Server) → Holds t b → (planned_now t =? 0) ≡ false → answered r c o₁ ≡ outcomeOn (after_states s t) b o
+      → ((t : Server) → Holds t b → c ≡ image (resending t) b) → (r : Answer) → r ≡ sent_only n
+      → (s t : Server) → Holds t b → (planned_now t =? 0) ≡ false → answered r c o₁ ≡ outcome_on (after_states s t) b o
   part_sent n o₁ c f g r a s t y e =
       sent_outcome s (resending t) (own_part t.servers t.me t.white t.log (collected t)) b o c o₁ n r a (g t y) (f t y).0 (f t y).1
-      ∙ ap (λ v. outcomeOn v b o) (sym (after_planned s t e))
+      ∙ ap (λ v. outcome_on v b o) (sym (after_planned s t e))
 
   -- ---- after them
 
   module _ (x : ℕ) (told : (t : Server) → Holds t b → x ≡ planned_now t) where
     pub after_awaited : (x ≡ 0 → ⊥) → (c o₁ : List ℕ) (r : Answer)
-        → ((s t : Server) → Holds t b → (planned_now t =? 0) ≡ false → answered r c o₁ ≡ outcomeOn (after_states s t) b o)
-        → (s t : Server) → Holds t b → answered r c o₁ ≡ outcomeOn (after_states s t) b o
+        → ((s t : Server) → Holds t b → (planned_now t =? 0) ≡ false → answered r c o₁ ≡ outcome_on (after_states s t) b o)
+        → (s t : Server) → Holds t b → answered r c o₁ ≡ outcome_on (after_states s t) b o
     after_awaited n c o₁ r f s t y = f s t y (eq_no (planned_now t) 0 (λ e. n (told t y ∙ e)))
 
     module _ (c : List ℕ) (f : (s : Server) (p : Mode) → Holds s b → 0 ≡ mode_number p → c ≡ image (in_mode p s) b) where
@@ -82,14 +82,14 @@ module _ (b o : List ℕ) (m : LentSuch Complete b o) where
         room = m.room;
       }
 
-      pub after_ended : x ≡ 0 → (d o₁ : List ℕ) (r : Answer) → ((s t : Server) → Holds t c → answered r d o₁ ≡ outcomeOn (end_exchange s t) c o)
-          → (s t : Server) → Holds t b → answered r d o₁ ≡ outcomeOn (after_states s t) b o
+      pub after_ended : x ≡ 0 → (d o₁ : List ℕ) (r : Answer) → ((s t : Server) → Holds t c → answered r d o₁ ≡ outcome_on (end_exchange s t) c o)
+          → (s t : Server) → Holds t b → answered r d o₁ ≡ outcome_on (after_states s t) b o
       after_ended z d o₁ r g s t y =
           let u : Server = in_mode Non_prim t in
           g s u (left_holds b c f t y)
           ∙ end_over t u (record { servers = refl; quota = refl; ids = refl }) b c o y (non_prim_formed t y.formed)
           (exchange_configured t y.formed (lent_fact Complete b o t m y).1) (left b c f t y) s
-          ∙ ap (λ v. outcomeOn v b o) (end_mode s t ∙ sym (after_none s t (eq_yes (planned_now t) 0 (sym (told t y) ∙ z))))
+          ∙ ap (λ v. outcome_on v b o) (end_mode s t ∙ sym (after_none s t (eq_yes (planned_now t) 0 (sym (told t y) ∙ z))))
 
 -- ---- a State is collected
 
@@ -108,12 +108,12 @@ state_covers s x = numbers_then s (with_state x s) (resending (with_state x s)) 
 -- The last State, and what follows: over the bytes at the beginning.
 after_over : (s : Server) (x : State) (b c o : List ℕ) → Holds s b → StateCame s x → s.membership.mode ≡ Exchange_states
     → all_states_in (with_state x s) ≡ true
-    → c ≡ image (with_state x s) b → outcomeOn (after_states s (with_state x s)) c o ≡ outcomeOn (after_states s (with_state x s)) b o
+    → c ≡ image (with_state x s) b → outcome_on (after_states s (with_state x s)) c o ≡ outcome_on (after_states s (with_state x s)) b o
 unfolding after_states
 after_over s x b c o r d e whole f =
     let t : Server = with_state x s in
     let ok : well_formed t ≡ true = came_formed s r.formed e x d in
-    pick_as (λ v. outcomeOn v c o ≡ outcomeOn v b o) (planned_now t =? 0) (end_exchange s t)
+    pick_as (λ v. outcome_on v c o ≡ outcome_on v b o) (planned_now t =? 0) (end_exchange s t)
     (sent s (resending t) (own_part t.servers t.me t.white t.log (collected t)))
     (λ z. end_over s t (state_before s x) b c o r ok (exchange_configured t ok (state_mode s x e)) f s)
     (λ z.
@@ -177,12 +177,12 @@ module _ (k : ℕ) (e b o : List ℕ) (m : LentSuch (Came k e) b o) where
 
       pub collect_waiting : all ≡ false → (r : Answer) → r ≡ quietly
           → (s : Server) (x : State) → Holds s b → fields_ok (context_of s) (state x) ≡ true → write (state x) ≡ e
-          → answered r c o ≡ outcomeOn (collect_state x s) b o
+          → answered r c o ≡ outcome_on (collect_state x s) b o
       unfolding collect_state
       collect_waiting z r a s x y ok w =
           let d = came s x y ok w in
           quiet_outcome s (with_state x s) b o c r a (f s x y w d.1)
-          ∙ ap (λ v. outcomeOn v b o) (pick_no _ _ _ _ (in_told s x y d w ∙ z) refl)
+          ∙ ap (λ v. outcome_on v b o) (pick_no _ _ _ _ (in_told s x y d w ∙ z) refl)
 
       pub collect_complete : all ≡ true → LentSuch Complete c o
       unfolding with_state
@@ -196,13 +196,13 @@ module _ (k : ℕ) (e b o : List ℕ) (m : LentSuch (Came k e) b o) where
             room = m.room;
           }
 
-      pub collect_done : all ≡ true → (d o₁ : List ℕ) (r : Answer) → ((s t : Server) → Holds t c → answered r d o₁ ≡ outcomeOn (after_states s t) c o)
+      pub collect_done : all ≡ true → (d o₁ : List ℕ) (r : Answer) → ((s t : Server) → Holds t c → answered r d o₁ ≡ outcome_on (after_states s t) c o)
           → (s : Server) (x : State) → Holds s b → fields_ok (context_of s) (state x) ≡ true → write (state x) ≡ e
-          → answered r d o₁ ≡ outcomeOn (collect_state x s) b o
+          → answered r d o₁ ≡ outcome_on (collect_state x s) b o
       unfolding collect_state
       collect_done z d o₁ r g s x y ok w =
           let h = came s x y ok w in
           let whole : all_states_in (with_state x s) ≡ true = in_told s x y h w ∙ z in
           g s (with_state x s) (got_holds s x y h w)
           ∙ after_over s x b c o y h.0 (mode s y) whole (f s x y w h.1)
-          ∙ ap (λ v. outcomeOn v b o) (pick_yes _ _ _ _ whole refl)
+          ∙ ap (λ v. outcome_on v b o) (pick_yes _ _ _ _ whole refl)

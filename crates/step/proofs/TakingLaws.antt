@@ -28,7 +28,7 @@ use Rattle.image.proofs.InPlace.{holds_some}
 use Rattle.image.proofs.Raising.{recovering_at}
 use Rattle.step.specs.declared.Answer.{Answer}
 use Rattle.outgoing.specs.Lent.{LentSuch}
-use Rattle.step.specs.Answers.{answered, outcomeOn, ruled, InForce, StateInForce, storedFirst}
+use Rattle.step.specs.Answers.{answered, outcome_on, ruled, InForce, StateInForce, stored_first_of}
 use Rattle.step.specs.Events.{PartInForce, ReadInForce}
 use Rattle.step.specs.Stages.{unraised_on}
 use Rattle.step.proofs.AnswerLaws.{Passes, stored_as}
@@ -96,9 +96,9 @@ pub requested_ready : (h : Numbers) (at m : ℕ) (e b o : List ℕ) → LentSuch
 requested_ready h at m e b o l = lent_part (λ p. request p) h at m e b o l
 
 pub requested_done : (at m : ℕ) (e b o c z : List ℕ) (v : Answer)
-    → ((s : Server) → Holds s b → answered v c z ≡ outcomeOn (ruled s (request (take (at + m - at) (drop at e)))) b o)
-    → (s : Server) → Holds s b → answered v c z ≡ outcomeOn (ruled s (request (part_at m e at))) b o
-requested_done at m e b o c z v y s l = y s l ∙ ap (λ (p : List ℕ). outcomeOn (ruled s (request p)) b o) (sym (sliced at m e))
+    → ((s : Server) → Holds s b → answered v c z ≡ outcome_on (ruled s (request (take (at + m - at) (drop at e)))) b o)
+    → (s : Server) → Holds s b → answered v c z ≡ outcome_on (ruled s (request (part_at m e at))) b o
+requested_done at m e b o c z v y s l = y s l ∙ ap (λ (p : List ℕ). outcome_on (ruled s (request p)) b o) (sym (sliced at m e))
 
 -- ---- recovery
 
@@ -114,7 +114,7 @@ module _ (b c : List ℕ) (to : ℕ) (e : Computes (λ s. highest_white s.log.ow
       holds_some (blanked (with_white (took_white recovering h.state) h.state)) c
       (took_holds recovering h.state b c h.holds refl (took h.state h.holds))
 
-  pub recovery_done : (d : List ℕ) (v : Answer) → ((s : Server) → Holds s c → d ≡ image (recovered s) c) → v ≡ storedFirst 0
+  pub recovery_done : (d : List ℕ) (v : Answer) → ((s : Server) → Holds s c → d ≡ image (recovered s) c) → v ≡ stored_first_of 0
       → (s : Server) (o : List ℕ) → Holds s b → answered v d o ≡ unraised_on s recovery b o
   unfolding rule_for possible from_member is_ignored within_quota ◌or◌ apply sieved met_log
   recovery_done d v y q s o i =

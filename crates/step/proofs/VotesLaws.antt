@@ -21,7 +21,7 @@ use Rattle.image.specs.Holding.{Holds}
 use Rattle.updates.specs.Lists.{configuration_of}
 use Rattle.step.specs.declared.Answer.{Answer}
 use Rattle.outgoing.specs.Lent.{LentSuch}
-use Rattle.step.specs.Answers.{answered, outcomeOn}
+use Rattle.step.specs.Answers.{answered, outcome_on}
 use Rattle.image.proofs.Chained.{Covers, then_holds}
 use Rattle.outgoing.proofs.LentFacts.{lent_fact}
 use Rattle.step.proofs.OutcomeLaws.{stored_after}
@@ -76,7 +76,7 @@ votes_covers s v c x e = record {
 joined_over : (s t : Server) (v x : Votes) (c : Configuration) (b b₁ o : List ℕ) → Holds t b → b₁ ≡ image (with_votes v t) b
     → well_formed (with_votes v t) ≡ true
     → well_formed (with_votes x t) ≡ true → ConfigurationFits t.servers t.me c → v.yellow.ids ≡ t.votes.yellow.ids
-    → outcomeOn (join s c (with_votes x t)) b₁ o ≡ outcomeOn (join s c (with_votes x t)) b o
+    → outcome_on (join s c (with_votes x t)) b₁ o ≡ outcome_on (join s c (with_votes x t)) b o
 unfolding join
 joined_over s t v x c b b₁ o r e ok fine f same =
     let u : Server = entering c (with_votes x t) in
@@ -100,8 +100,8 @@ module _ (id set : ℕ) (b o b₁ : List ℕ) (h : LentSuch (λ s. Configuration
     unmarked_lent = let s : Server = h.state in changed_lent (unmarked s.votes) (d s h.holds) (unmarked_formed s h.holds.formed)
 
     pub unmarked_joined : (b₂ o₁ : List ℕ) (r : Answer)
-        → ((s t : Server) → Holds t b₁ → answered r b₂ o₁ ≡ outcomeOn (join s (configuration_of id set) t) b₁ o)
-        → (s t : Server) → Holds t b → answered r b₂ o₁ ≡ outcomeOn (join s (configuration_of id set) (with_votes (unmarked t.votes) t)) b o
+        → ((s t : Server) → Holds t b₁ → answered r b₂ o₁ ≡ outcome_on (join s (configuration_of id set) t) b₁ o)
+        → (s t : Server) → Holds t b → answered r b₂ o₁ ≡ outcome_on (join s (configuration_of id set) (with_votes (unmarked t.votes) t)) b o
     unfolding unmarked
     unmarked_joined b₂ o₁ r f s t k =
         let v : Votes = unmarked t.votes in
@@ -114,8 +114,8 @@ module _ (id set : ℕ) (b o b₁ : List ℕ) (h : LentSuch (λ s. Configuration
     valid_lent = let s : Server = h.state in changed_lent (yellow_valid s.votes) (d s h.holds) (valid_formed s h.holds.formed)
 
     pub valid_joined : (b₂ o₁ : List ℕ) (r : Answer)
-        → ((s t : Server) → Holds t b₁ → answered r b₂ o₁ ≡ outcomeOn (join s (configuration_of id set) (with_votes (unmarked t.votes) t)) b₁ o)
-        → (s t : Server) → Holds t b → answered r b₂ o₁ ≡ outcomeOn (join s (configuration_of id set) (with_votes (yellow_valid (unmarked t.votes)) t)) b o
+        → ((s t : Server) → Holds t b₁ → answered r b₂ o₁ ≡ outcome_on (join s (configuration_of id set) (with_votes (unmarked t.votes) t)) b₁ o)
+        → (s t : Server) → Holds t b → answered r b₂ o₁ ≡ outcome_on (join s (configuration_of id set) (with_votes (yellow_valid (unmarked t.votes)) t)) b o
     unfolding unmarked yellow_valid
     valid_joined b₂ o₁ r f s t k =
         let v : Votes = yellow_valid t.votes in

@@ -25,32 +25,32 @@ unfoldable pub answered : Answer → List ℕ → List ℕ → Result
 answered a b o = record { number = a.number; store = a.store; sent = a.sent; state = b; out = o }
 
 -- An outcome of the machine over both buffers.
-unfoldable pub outcomeOn : Outcome Record → List ℕ → List ℕ → Result
-outcomeOn x b o = result_of image (in_bytes x) b o
+unfoldable pub outcome_on : Outcome Record → List ℕ → List ℕ → Result
+outcome_on x b o = result_of image (in_bytes x) b o
 
 -- ---- the answer to a record
 
 -- Rows 5, 6 and 3, as in the machine's `apply_rule`; where none applies, what f makes of the rule.
-unfoldable pub byRows : (Rule → Server → Outcome Record) → Option Rule → Server → Record → Outcome Record
-byRows f none s r = refused not_now
-byRows f (some k) s r =
+unfoldable pub by_rows : (Rule → Server → Outcome Record) → Option Rule → Server → Record → Outcome Record
+by_rows f none s r = refused not_now
+by_rows f (some k) s r =
     pick (possible s r)
     (pick (is_ignored k or from_member s.membership r) (pick (within_quota s r) (f k s) (refused quota_used)) (refused not_from_here))
     (refused not_now)
 
 -- The rule alone, with neither sieve nor raise: for a record that carries no action this is all but the raise.
 unfoldable pub ruled : Server → Record → Outcome Record
-ruled s r = byRows apply (rule_for s.membership.mode r) s r
+ruled s r = by_rows apply (rule_for s.membership.mode r) s r
 
 -- ---- what the contracts say
 
 -- From buffers b and o, the first of which holds s, the answer and both buffers afterwards are what the outcome of s makes of them ..
 abbrev pub AnswersAs : (Server → Outcome Record) → Answer → (b b' o o' : List ℕ) → Type 0
-AnswersAs f r b b' o o' = (s : Server) → Holds s b → answered r b' o' ≡ outcomeOn (f s) b o
+AnswersAs f r b b' o o' = (s : Server) → Holds s b → answered r b' o' ≡ outcome_on (f s) b o
 
 -- .. and where the outgoing buffer is not lent, whatever that holds.
 abbrev pub AnswersAlone : (Server → Outcome Record) → Answer → (b b' : List ℕ) → Type 0
-AnswersAlone f r b b' = (s : Server) (o : List ℕ) → Holds s b → answered r b' o ≡ outcomeOn (f s) b o
+AnswersAlone f r b b' = (s : Server) (o : List ℕ) → Holds s b → answered r b' o ≡ outcome_on (f s) b o
 
 -- The same of the lent buffers themselves.
 abbrev pub AnswersBy : (Server → Outcome Record) → Answer → (state out : Lent) → Type 0
@@ -68,23 +68,23 @@ AnswersToAlone x r b = AnswersAlone (λ s. ruled s x) r b.entry.now b.exit.now
 abbrev pub AnswersFor : (Server → Server → Outcome Record) → Answer → (state out : Lent) → Type 0
 AnswersFor f r b o =
     (s t : Server) → Holds t b.entry.now
-    → answered r b.exit.now o.exit.now ≡ outcomeOn (f s t) b.entry.now o.entry.now
+    → answered r b.exit.now o.exit.now ≡ outcome_on (f s t) b.entry.now o.entry.now
 
 -- A refusal leaves both buffers as they are.
-abbrev pub refusedWith : ℕ → Answer
-refusedWith k = record { number = k; store = 0; sent = 0 }
+abbrev pub refused_with : ℕ → Answer
+refused_with k = record { number = k; store = 0; sent = 0 }
 
 -- Nothing stored, nothing sent.
 abbrev pub quietly : Answer
 quietly = record { number = 0; store = 0; sent = 0 }
 
 -- So many bytes sent, with the state stored first.
-abbrev pub storedFirst : ℕ → Answer
-storedFirst m = record { number = 0; store = 1; sent = m }
+abbrev pub stored_first_of : ℕ → Answer
+stored_first_of m = record { number = 0; store = 1; sent = m }
 
 -- So many bytes sent, with nothing stored.
-abbrev pub sentOnly : ℕ → Answer
-sentOnly m = record { number = 0; store = 0; sent = m }
+abbrev pub sent_only : ℕ → Answer
+sent_only m = record { number = 0; store = 0; sent = m }
 
 -- The bytes e are those of a State that the server s collects from its sender k.
 pub record Came (k : ℕ) (e : List ℕ) (s : Server) : Type 0 where
@@ -95,8 +95,8 @@ pub record Came (k : ℕ) (e : List ℕ) (s : Server) : Type 0 where
   pub mode : s.membership.mode ≡ Exchange_states
 
 -- The CPC of k in No: "all CPCs in, to Un".
-unfoldable pub withLateCpc : ℕ → Server → Server
-withLateCpc k s = pick (all_cpcs_in (with_cpc k s)) (in_mode Un (with_cpc k s)) (with_cpc k s)
+unfoldable pub with_late_cpc : ℕ → Server → Server
+with_late_cpc k s = pick (all_cpcs_in (with_cpc k s)) (in_mode Un (with_cpc k s)) (with_cpc k s)
 
 -- k is the number of Reg_prim or Trans_prim, in which s may be after Install: it has a configuration, and its primary index can rise.
 pub record Installs (k : ℕ) (s : Server) : Type 0 where

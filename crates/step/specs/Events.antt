@@ -17,7 +17,7 @@ use Rattle.replication.specs.Machine.White.{full, sifted}
 use Rattle.replication.specs.Laws.RuleFits.{Delivered}
 use Rattle.queue.specs.Queue.{Placed}
 use Rattle.base.specs.Lent.{Lent}
-use Rattle.step.specs.Answers.{InForce, answered, outcomeOn, ruled}
+use Rattle.step.specs.Answers.{InForce, answered, outcome_on, ruled}
 use Rattle.step.specs.Stages.{core_images}
 use Rattle.replication.specs.Machine.WellFormedRanges.{PayloadFits}
 use Rattle.replication.specs.Machine.Requests.{quota_left}
@@ -97,7 +97,7 @@ ActionInForce f h a e = PartInForce h (f (action_from a e)) a.payload_at a.paylo
 abbrev pub Colours : Action → Answer → (state : Lent) → Type 0
 Colours a r b =
     (s : Server) (o : List ℕ) (k : Rule) → Holds s b.entry.now → on_action s.membership.mode a ≡ some k
-    → answered r b.exit.now o ≡ outcomeOn (apply k s) b.entry.now o
+    → answered r b.exit.now o ≡ outcome_on (apply k s) b.entry.now o
 
 -- Whether a State of server k in the configuration `id` is from a member.
 abbrev pub FromMember : (k id : ℕ) → Numbers → Bool → Type 0
@@ -108,19 +108,19 @@ FromMember k id h r =
 abbrev pub AnswersState : (k id : ℕ) → (e : List ℕ) → Answer → (state out : Lent) → Type 0
 AnswersState k id e r b o =
     (s : Server) (x : State) → Holds s b.entry.now → fields_ok (context_of s) (state x) ≡ true → write (state x) ≡ e → x.sender ≡ k
-    → x.configuration ≡ id → answered r b.exit.now o.exit.now ≡ outcomeOn (ruled s (state x)) b.entry.now o.entry.now
+    → x.configuration ≡ id → answered r b.exit.now o.exit.now ≡ outcome_on (ruled s (state x)) b.entry.now o.entry.now
 
 -- What its collection makes.
 abbrev pub AnswersCollected : (e : List ℕ) → Answer → (state out : Lent) → Type 0
 AnswersCollected e r b o =
     (s : Server) (x : State) → Holds s b.entry.now → fields_ok (context_of s) (state x) ≡ true → write (state x) ≡ e
-    → answered r b.exit.now o.exit.now ≡ outcomeOn (collect_state x s) b.entry.now o.entry.now
+    → answered r b.exit.now o.exit.now ≡ outcome_on (collect_state x s) b.entry.now o.entry.now
 
 -- All States are in, and retransmissions are planned.
 abbrev pub AnswersPlanned : Answer → (state out : Lent) → Type 0
 AnswersPlanned r b o =
     (s t : Server) → Holds t b.entry.now → (planned_now t =? 0) ≡ false
-    → answered r b.exit.now o.exit.now ≡ outcomeOn (after_states s t) b.entry.now o.entry.now
+    → answered r b.exit.now o.exit.now ≡ outcome_on (after_states s t) b.entry.now o.entry.now
 
 -- ---- changes of a state
 

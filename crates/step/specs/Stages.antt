@@ -17,7 +17,7 @@ use Rattle.image.specs.Holding.{Holds, Becomes}
 use Rattle.image.specs.Outcome.{Result, refusal, result_of}
 use Rattle.step.specs.declared.Answer.{Answer}
 use Rattle.step.specs.declared.Act.{Act}
-use Rattle.step.specs.Answers.{answered, byRows}
+use Rattle.step.specs.Answers.{answered, by_rows}
 
 -- ---- the first stage
 
@@ -27,7 +27,7 @@ sieving k s = apply (sieved (full k s) k) s
 
 -- As the machine's `answer`, without the raise.
 unfoldable pub unraised : Server → Record → Outcome Record
-unraised s r = byRows sieving (rule_for s.membership.mode r) s r
+unraised s r = by_rows sieving (rule_for s.membership.mode r) s r
 
 -- What the rule k at s, with t after it, leaves in the buffer b before the raise: `images_by` without its last image.
 unfoldable pub core_images : Rule → Server → Server → List ℕ → List ℕ

@@ -1,7 +1,7 @@
 // Each kind of event: whether the state takes it, by rows 5, 6 and 3, and what it does. h are the state's numbers.
 ghost use Rattle.std.specs.Prelude.{◌≡◌, true, ℕ, ◌<◌};
 ghost use Rattle.base.specs.Lists.{is_there};
-ghost use Rattle.format.specs.Types.{Action, action, retransmission, cpc, regular, transitional, request as requestRecord};
+ghost use Rattle.format.specs.Types.{Action, action, retransmission, cpc, regular, transitional, request as request_record};
 ghost use Rattle.record.specs.Values.{action_of};
 ghost use Rattle.replication.specs.Machine.Types.{Mode, Server};
 ghost use Rattle.replication.specs.Machine.Rules.{on_action, on_retransmission, on_cpc, from_member};
@@ -234,8 +234,8 @@ pub fn on_transitional(state: &mut [u8], h: State, set: u8) -> Answer
 }
 
 pub fn on_request(state: &mut [u8], out: &mut [u8], h: State, payload: &[u8]) -> Answer
-    requires { LentSuch (InForce h (requestRecord payload.now)) state.old out.old }
-    ensures { AnswersTo (requestRecord payload.now) result state out }
+    requires { LentSuch (InForce h (request_record payload.now)) state.old out.old }
+    ensures { AnswersTo (request_record payload.now) result state out }
 {
     if !quota_left(h, count_of(state, h.me)) {
         return Answer::refused(QUOTA_USED);

@@ -2,7 +2,7 @@
 ghost use Rattle.std.specs.Prelude.{◌≡◌, true, false, length};
 ghost use Rattle.record.specs.Values.{action_of};
 ghost use Rattle.replication.specs.Machine.Types.{Non_prim, Exchange_states, Exchange_actions, Votes, Server, in_mode};
-ghost use Rattle.replication.specs.Machine.Step.{exchanged, one_more, decided, end_exchange, all_states_in, after_states, exchange as exchangedBy};
+ghost use Rattle.replication.specs.Machine.Step.{exchanged, one_more, decided, end_exchange, all_states_in, after_states, exchange as exchanged_by};
 ghost use Rattle.replication.specs.Machine.WellFormedFacts.{Configured};
 ghost use Rattle.image.specs.Image.{image};
 ghost use Rattle.image.specs.Holding.{Holds, HoldsSuch, Becomes};
@@ -189,7 +189,7 @@ pub fn exchange(
     payload: &[u8],
 ) -> Answer
     requires { LentSuch (Retransmitted position (action_of head payload.now)) state.old out.old }
-    ensures { AnswersBy (exchangedBy position (action_of head payload.now)) result state out }
+    ensures { AnswersBy (exchanged_by position (action_of head payload.now)) result state out }
 {
     let planned = planned_now(state);
     let come = num32(state, record::State::AT_COME);

@@ -9,7 +9,7 @@ ghost use Rattle.replication.specs.Machine.WellFormedFacts.{Configured};
 ghost use Rattle.replication.specs.Laws.RuleFits.{Delivered};
 ghost use Rattle.image.specs.Holding.{HoldsSuch, Becomes};
 ghost use Rattle.outgoing.specs.Lent.{LentSuch};
-ghost use Rattle.step.specs.Answers.{Installs, withLateCpc, AnswersBy, AnswersFor};
+ghost use Rattle.step.specs.Answers.{Installs, with_late_cpc, AnswersBy, AnswersFor};
 ghost use Rattle.updates.specs.Lists.{BecomesIn};
 ghost use Rattle.step.specs.Events.{BecomesInstalled};
 
@@ -75,7 +75,7 @@ pub fn collect_cpc(state: &mut [u8], out: &mut [u8], k: u8) -> Answer
 // "No: all CPCs in, to Un"
 pub fn collect_late_cpc(state: &mut [u8], k: u8)
     requires { HoldsSuch (λ s. (k < s.servers) × (s.membership.mode ≡ No)) state.old }
-    ensures { Becomes (withLateCpc k) state.old state.new }
+    ensures { Becomes (with_late_cpc k) state.old state.new }
 {
     add_cpc(state, k);
     if !all_cpcs_in(state) {

@@ -3,7 +3,7 @@
 
 ghost use Rattle.std.specs.Prelude.{◌≡◌};
 ghost use Rattle.image.specs.Outcome.{step_on};
-ghost use Rattle.step.specs.Answers.{answered, refusedWith, quietly, storedFirst, sentOnly};
+ghost use Rattle.step.specs.Answers.{answered, refused_with, quietly, stored_first_of, sent_only};
 
 pub mod colours; // colours.rt: actions that a state colours
 pub mod requests; // requests.rt: requests numbered, and sent
@@ -30,7 +30,7 @@ pub struct Answer {
 impl Answer {
     // "all as before"
     pub fn refused(number: u32) -> Answer
-        ensures { result ≡ refusedWith number }
+        ensures { result ≡ refused_with number }
     {
         Answer {
             number,
@@ -52,7 +52,7 @@ impl Answer {
 
     // "stored first"
     pub fn stored(sent: u32) -> Answer
-        ensures { result ≡ storedFirst sent }
+        ensures { result ≡ stored_first_of sent }
     {
         Answer {
             number: 0,
@@ -63,7 +63,7 @@ impl Answer {
 
     // Sent with nothing stored.
     pub fn sent(sent: u32) -> Answer
-        ensures { result ≡ sentOnly sent }
+        ensures { result ≡ sent_only sent }
     {
         Answer {
             number: 0,

@@ -2,7 +2,7 @@
 ghost use Rattle.std.specs.Prelude.{◌≡◌, List, ℕ};
 ghost use Rattle.base.specs.Bytes.{part_at};
 ghost use Rattle.base.specs.Tests.{pick};
-ghost use Rattle.format.specs.Types.{action as actionRecord, retransmission, request, recovery};
+ghost use Rattle.format.specs.Types.{action as action_record, retransmission, request, recovery};
 ghost use Rattle.record.specs.Events.{action_from, record_of};
 ghost use Rattle.image.specs.Header.{mode_number};
 ghost use Rattle.image.specs.Outcome.{state_number, step_on};
@@ -28,8 +28,8 @@ use updates::recovery::{highest_white, recover};
 use updates::white::whiten;
 
 fn delivered(state: &mut [u8], h: State, a: ActionAt, event: &[u8]) -> Answer
-    requires { HoldsSuch (ActionInForce actionRecord h a event.now) state.old }
-    ensures { ActsAlone (actionRecord (action_from a event.now)) result state }
+    requires { HoldsSuch (ActionInForce action_record h a event.now) state.old }
+    ensures { ActsAlone (action_record (action_from a event.now)) result state }
 {
     let at = a.payload_at;
     let end = at + a.payload_length;

@@ -1,7 +1,7 @@
 // Requests in a state's buffer: numbered, on the own list, and sent.
 ghost use Rattle.std.specs.Prelude.{◌≡◌, ◌+◌, ◌*◌, ◌≤◌, length};
 ghost use Rattle.record.specs.Values.{action_of};
-ghost use Rattle.replication.specs.Machine.Requests.{numbered as withNumbered, send_waiting};
+ghost use Rattle.replication.specs.Machine.Requests.{numbered as with_numbered, send_waiting};
 ghost use Rattle.image.specs.Layout.{slot_size, header_size};
 ghost use Rattle.image.specs.Holding.{HoldsSuch, Becomes, BecomesWhere, Computes};
 ghost use Rattle.updates.specs.Lists.{PayloadRoom, SlotRoom, next_head, own_counts, NumbersOf, MayNumber};
@@ -48,7 +48,7 @@ fn push_own(state: &mut [u8], at: usize, head: ActionHead, payload: &[u8], numbe
 // "numbered, put on the own list"
 pub fn number(state: &mut [u8], payload: &[u8])
     requires { PayloadRoom payload.now state.old }
-    ensures { BecomesWhere MayNumber (withNumbered payload.now) state.old state.new }
+    ensures { BecomesWhere MayNumber (with_numbered payload.now) state.old state.new }
 {
     let at = place_of(state, THE_OWN);
     let own = num16(state, State::AT_OWN_COUNT);

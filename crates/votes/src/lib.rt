@@ -5,7 +5,7 @@ ghost use Rattle.std.specs.Prelude.{◌≡◌};
 ghost use Rattle.base.specs.Sets.{lowest_member};
 ghost use Rattle.format.specs.Limits.{most_servers_limit};
 ghost use Rattle.record.specs.Values.{primary_of};
-ghost use Rattle.replication.specs.Machine.Exchange.{later as isLater, linear_vote};
+ghost use Rattle.replication.specs.Machine.Exchange.{later as is_later, linear_vote};
 
 use record::LastPrimary;
 use record::sets::has;
@@ -37,7 +37,7 @@ pub fn linear_vote(p: LastPrimary, here: u8) -> bool
 
 // Whether r has a higher (index, attempt) than p.
 pub fn later(p: LastPrimary, r: LastPrimary) -> bool
-    ensures { result ≡ isLater (primary_of p) (primary_of r) }
+    ensures { result ≡ is_later (primary_of p) (primary_of r) }
 {
     if p.index.0 < r.index.0 {
         return true;

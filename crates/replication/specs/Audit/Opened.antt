@@ -1,7 +1,7 @@
 -- One name for all definitions that an audit needs: whoever unfolds it unfolds them, so that closed audits compute.
 use Rattle.std.specs.Prelude.{ℕ}
 use Rattle.base.specs.Quantifiers.{◌implies◌, pairs, add_new, each_once, with_number, same_option}
-use Rattle.replication.specs.Opened.{opened as opened-machine}
+use Rattle.replication.specs.Opened.{opened as opened_machine}
 use Rattle.replication.specs.Runs.Run.{server_of, beginning, down_after, world_after, world_through, nowhere, heard, moved, place_after}
 use Rattle.replication.specs.Runs.Run.{place_through, members_in, members, records_of, world_at, place_at}
 use Rattle.replication.specs.Runs.Strays.{unless, without}
@@ -26,7 +26,7 @@ use Rattle.replication.specs.Audit.Strays.{is_refused, is_stray, strays_from, is
 unfoldable pub opened : ℕ
 unfolding
     ◌implies◌ pairs add_new each_once with_number same_option
-    opened-machine
+    opened_machine
     server_of beginning down_after world_after world_through nowhere heard moved place_after place_through members_in members records_of world_at place_at
     unless without
     source_in name_in entry_ord sending_ords_at ord_in

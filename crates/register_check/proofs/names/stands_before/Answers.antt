@@ -1,7 +1,7 @@
 use borrow.Author.Rules.{rules}
 use native.Mathlib.Omega.{arith}
 use Prim.Native.Nat.{◌-◌}
-use Rattle.register_check.proofs.Compared.{ends_first, is_first, is_later, before_on, before_end}
+use Rattle.register_check.proofs.Compared.{ends_first, is_first, is_later_lem, before_on, before_end}
 use Rattle.register_check.proofs.names.stands_before.Goals as goal
 
 pub returns-then-v-i : goal.returns-then-v-i
@@ -17,7 +17,7 @@ pub returns-then-a-b : goal.returns-then-a-b
 returns-then-a-b c = search (rules, is_first)
 
 pub returns-then-b-a : goal.returns-then-b-a
-returns-then-b-a c = search (rules, is_later)
+returns-then-b-a c = search (rules, is_later_lem)
 
 pub overflow_add-i : goal.overflow_add-i
 overflow_add-i c = omega arith
