@@ -140,14 +140,19 @@ def chosen(files, names, fields, all_names):
     return new, said
 
 
-def code(text, new, fields, rust=False):
+def aliases(text):
+    """Modules that the file calls by a name in lower case."""
+    return set(re.findall(r"^(?:pub )?use [\w.]+(?: as |\.)([a-z]\w*)$", text, re.M)) | set(re.findall(r"^[ \t]*(?:pub )?module ([a-z]\w*)", text, re.M))
+
+
+def code(text, new, fields, rust=False, modules=()):
     def one(m):
         n = m.group()
         if n not in new or (rust and snake(n) == n):
             return n
         if m.start() and text[m.start() - 1] == ".":
             before = re.search(r"([\w'-]+)\.$", text[: m.start()][-80:])
-            if n not in fields and not (before and before.group(1)[0].isupper()):
+            if n not in fields and not (before and (before.group(1)[0].isupper() or before.group(1) in modules)):
                 return n
         return new[n]
 
@@ -165,11 +170,11 @@ def turn(path, text, new, fields):
     if path.endswith(".edit"):
         rust = "file: src/" in text
         return "\n".join(code(l, new, fields, rust) if l.startswith(("old:", "new:")) else said(l, new, fields) for l in text.split("\n"))
-    out, at = [], 0
+    out, at, modules = [], 0, aliases(text)
     for m in COMMENT.finditer(text):
-        out += [code(text[at : m.start()], new, fields, path.endswith(".rt")), said(m.group(), new, fields)]
+        out += [code(text[at : m.start()], new, fields, path.endswith(".rt"), modules), said(m.group(), new, fields)]
         at = m.end()
-    return "".join(out) + code(text[at:], new, fields, path.endswith(".rt"))
+    return "".join(out) + code(text[at:], new, fields, path.endswith(".rt"), modules)
 
 
 def main(argv):

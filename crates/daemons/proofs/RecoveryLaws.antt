@@ -66,11 +66,11 @@ module _ (c : Context) (e : List ℕ) where
       (subst (λ k. frame_ok k c.servers e ≡ true) kind r.frame)
 
   -- The test of the bytes is the test of what they say.
-  pub recovery_read : context_ok c ≡ true → images.isRecovery (read c e) ≡ is_recovery e
-  unfolding images.isRecovery
+  pub recovery_read : context_ok c ≡ true → images.is_recovery (read c e) ≡ is_recovery e
+  unfolding images.is_recovery
   recovery_read ok = go (known (is_recovery e))
     where
-      other : (x : Reading Record) → read c e ≡ x → is_recovery e ≡ false → images.isRecovery x ≡ is_recovery e
+      other : (x : Reading Record) → read c e ≡ x → is_recovery e ≡ false → images.is_recovery x ≡ is_recovery e
       other (says (action a)) p h = sym h
       other (says (retransmission k q a)) p h = sym h
       other (says (state x)) p h = sym h
@@ -81,6 +81,6 @@ module _ (c : Context) (e : List ℕ) where
       other (says recovery) p h = not_both (sym h ∙ recovery_bytes p)
       other (refused k) p h = sym h
 
-      go : Known (is_recovery e) → images.isRecovery (read c e) ≡ is_recovery e
-      go (holds h) = ap images.isRecovery (recovery_says ok h) ∙ sym h
+      go : Known (is_recovery e) → images.is_recovery (read c e) ≡ is_recovery e
+      go (holds h) = ap images.is_recovery (recovery_says ok h) ∙ sym h
       go (fails h) = other (read c e) refl h

@@ -83,8 +83,8 @@ unfolding member_of status_of
 no_member k none other = refl
 no_member k (some c) other = absurd (other refl)
 
-a_member : (k : ℕ) (x : Option Configuration) → status_of x ≡ 1 → in_set k (numbers.setOf x) ≡ member_of x k
-unfolding member_of status_of numbers.setOf
+a_member : (k : ℕ) (x : Option Configuration) → status_of x ≡ 1 → in_set k (numbers.set_of x) ≡ member_of x k
+unfolding member_of status_of numbers.set_of
 a_member k none same = absurd (omega arith)
 a_member k (some c) same = refl
 

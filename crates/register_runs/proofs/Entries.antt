@@ -109,7 +109,7 @@ module _ (w : World) (b : Daemons) (d : Depots) (o c r : List ℕ) (i : ℕ) (f 
       let its : event j e m ≡ event i e m = ap (λ (y : ℕ). event y e m) (sym h) in
       subst (λ (x : Entry). Follows (world_after w x) (daemons_after b o c (some x)) (depots_after d o c r (some x)) i) (sym its)
       (follows_as (sym (upd_here w.down i _)) (sym (upd_here w.images i _)) (sym (event_down b o c i e m)) (sym (event_buffers b o c i e m))
-      (sym (depots.event-down d o c r i e m)) (sym (event_depot d o c r i e m))
+      (sym (depots.event_down d o c r i e m)) (sym (event_depot d o c r i e m))
       (event_follows _ _ _ _ _ _ f e o (g.recovers e m its) (g.keeps e m its) g.room))
 
   by_crash : (j : ℕ) → Dec (i ≡ j) → Follows (world_after w (crash j)) (daemons_after b o c (some (crash j))) (depots_after d o c r (some (crash j))) i
@@ -119,7 +119,7 @@ module _ (w : World) (b : Daemons) (d : Depots) (o c r : List ℕ) (i : ℕ) (f 
       (sym (upd_elsewhere d.down j _ i h)) (sym (upd_elsewhere d.depot j _ i h)) f
   by_crash j (yes h) =
       subst (λ (y : ℕ). Follows (world_after w (crash y)) (daemons_after b o c (some (crash y))) (depots_after d o c r (some (crash y))) i) h
-      (follows_as (sym (upd_here w.down i _)) refl (sym (crash_down b o c i)) (sym (crash_buffers b o c i)) (sym (depots.crash-down d o c r i))
+      (follows_as (sym (upd_here w.down i _)) refl (sym (crash_down b o c i)) (sym (crash_buffers b o c i)) (sym (depots.crash_down d o c r i))
       (sym (crash_depot d o c r i)) (crash_follows _ _ _ _ _ _ f c r))
 
   by_store : (j : ℕ) → Dec (i ≡ j) → Fits w b o i (store j)

@@ -147,7 +147,7 @@ server = record {
 -- A step that a burst goes on behind has stored and put out nothing.
 silent_nothing : (a : Joint) → silent a ≡ true → (a.store ≡ 0) × (a.sent ≡ 0)
 unfolding silent engine.silent
-silent_nothing a t = steps.silent-nothing (step_part a) t
+silent_nothing a t = steps.silent_nothing (step_part a) t
 
 module _ (d : ℕ) (f : Bool) (s : Both) (e o : List ℕ) where
   abbrev from : ℕ → Bool → Both → (e o : List ℕ) → JointBurst

@@ -53,10 +53,10 @@ count_whole e sent r h g = g ∙ ap records_in (sym (take_all sent e h))
 
 module _ (s : Server) (e : List ℕ) (t : Bool) (answer : t ≡ is_recovery e) where
   pub source_stored : t ≡ true → s.store ≡ source_in (buffers_of s) e
-  source_stored h = laws.source-stored (buffers_of s) e (sym answer ∙ h)
+  source_stored h = laws.source_stored (buffers_of s) e (sym answer ∙ h)
 
   pub source_running : t ≡ false → s.state ≡ source_in (buffers_of s) e
-  source_running h = laws.source-running (buffers_of s) e (sym answer ∙ h)
+  source_running h = laws.source_running (buffers_of s) e (sym answer ∙ h)
 
 -- ---- the place behind a record
 

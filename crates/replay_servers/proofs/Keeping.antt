@@ -59,7 +59,7 @@ module _ (i : Images) (s : declared.Server) (e : List ℕ) (k : Keeps i s) where
 
   over_buffers : arriving.Arrives i (arrive i e) (buffers_of s) answer
   over_buffers =
-      arriving.arrives i (buffers_of s) e (keeping.keeps-where (λ h. tt) k.kept) (zeros out_room) (omega (arith, k.room, zeros_length out_room))
+      arriving.arrives i (buffers_of s) e (keeping.keeps_where (λ h. tt) k.kept) (zeros out_room) (omega (arith, k.room, zeros_length out_room))
 
   abbrev after : declared.Server
   after = entry_after s answer.number answer.store answer.state

@@ -45,8 +45,8 @@ use Rattle.step.proofs.StageLaws.{AboveZero, unraised_above}
 
 -- ---- the context
 
-last_set : (c : Option Configuration) → last_of (status_of c) (header.setOf c) ≡ set_of c
-unfolding last_of status_of header.setOf set_of
+last_set : (c : Option Configuration) → last_of (status_of c) (header.set_of c) ≡ set_of c
+unfolding last_of status_of header.set_of set_of
 last_set none = refl
 last_set (some c) = refl
 
