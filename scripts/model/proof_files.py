@@ -47,7 +47,7 @@ witness = record {{
       {listed([str(k) for k in w.names], 20)};
   ords =
       {listed([str(k) for k in w.ords], 20)};
-  sendingOrds =
+  sending_ords =
       {listed([numbers(k) for k in w.sending_ords], 10)};
 }}
 '''
@@ -61,10 +61,10 @@ def run_file(story, source):
     size = '%d events at %d servers with the quota %d' % (len(story.events()), story.servers, story.quota)
     return f'''-- A run of {size}, written by scripts/generate.py from {source}.
 {summary(story)}use Prim.Native.Nat.{{ℕ}}
-use mathlib.Core.List.{{List, [], _∷_}}
-use Rattle·replication.specs.Audit.Witness.{{Witness}}
-use Rattle·examples·proofs.proofs.Records.{{sent}}
-use Rattle·examples·proofs.proofs.Rows.{{Row, row, cut, down}}
+use mathlib.Core.List.{{List, [], ◌∷◌}}
+use Rattle.replication.specs.Audit.Witness.{{Witness}}
+use Rattle.examples.proofs.Records.{{sent}}
+use Rattle.examples.proofs.Rows.{{Row, row, cut, down}}
 
 abbrev pub servers : ℕ
 servers = {story.servers}
@@ -95,11 +95,11 @@ def recorded_file(story, source):
     entries = '\n    ∷ '.join([entry(e) for e in story.entries] + ['[]'])
     return f'''-- {source}: {len(story.entries)} entries at {story.servers} servers with the quota {story.quota}.
 use Prim.Native.Nat.{{ℕ}}
-use mathlib.Core.List.{{List, [], _∷_}}
-use Rattle·replication.specs.Runs.Run.{{event, crash, store, Run}}
-use Rattle·replication.specs.Audit.Witness.{{Witness}}
-use Rattle·examples.proofs.Records.{{sent}}
-use Rattle·examples.proofs.Rows.{{hex}}
+use mathlib.Core.List.{{List, [], ◌∷◌}}
+use Rattle.replication.specs.Runs.Run.{{event, crash, store, Run}}
+use Rattle.replication.specs.Audit.Witness.{{Witness}}
+use Rattle.examples.proofs.Records.{{sent}}
+use Rattle.examples.proofs.Rows.{{hex}}
 
 abbrev pub servers : ℕ
 servers = {story.servers}
@@ -122,27 +122,27 @@ strays = {places(story)}
 def audit_file(crate):
     """The run is allowed, and so its green lists and primary components agree."""
     return f'''-- The recorded run is allowed, but for its strays, and all agree.
-use mathlib.Core.Path.{{_≡_, refl}}
+use mathlib.Core.Path.{{◌≡◌, refl}}
 use mathlib.Core.Bool.{{true}}
-use Rattle·replication.specs.Runs.Strays.{{AllowedWithStraysUp}}
-use Rattle·replication.specs.Runs.Claim.{{Agreement, Demand3}}
-use Rattle·replication.specs.Audit.Strays.{{auditWithStrays}}
-use Rattle·replication.specs.Audit.Opened.{{opened}}
-use Rattle·replication.proofs.Verdicts.Strays.{{strays-sound}}
-use Rattle·replication.proofs.Agreement.Greens.Demand.{{demand3}}
-use Rattle·examples.proofs.Rows.{{digit, pairsOf, hex}}
-use Rattle·{crate}·proofs.proofs.Run.{{servers, quota, run, strays, witness}}
+use Rattle.replication.specs.Runs.Strays.{{AllowedWithStraysUp}}
+use Rattle.replication.specs.Runs.Claim.{{Agreement, Demand3}}
+use Rattle.replication.specs.Audit.Strays.{{audit_with_strays}}
+use Rattle.replication.specs.Audit.Opened.{{opened}}
+use Rattle.replication.proofs.Verdicts.Strays.{{strays_sound}}
+use Rattle.replication.proofs.Agreement.Greens.Demand.{{demand3}}
+use Rattle.examples.proofs.Rows.{{digit, pairs_of, hex}}
+use Rattle.{crate}.proofs.Run.{{servers, quota, run, strays, witness}}
 
-passes : auditWithStrays servers quota run strays witness ≡ true
-unfolding opened digit pairsOf hex run strays witness
+passes : audit_with_strays servers quota run strays witness ≡ true
+unfolding opened digit pairs_of hex run strays witness
 passes = refl
 
 pub allowed : AllowedWithStraysUp servers quota run
-allowed = strays-sound servers quota run strays witness passes
+allowed = strays_sound servers quota run strays witness passes
 
 pub agrees : Agreement servers quota run
 unfolding Demand3
-agrees = demand3 servers quota run (allowed .allowed)
+agrees = demand3 servers quota run allowed.allowed
 '''
 
 
@@ -151,15 +151,15 @@ def refused_file(crate, fields):
     names = ' ∷ '.join(['"%s"' % f for f in fields] + ['[]'])
     return f'''-- The audit refuses the recorded run: these fields of `Allowed` fail.
 use mathlib.Core.Path.{{refl}}
-use mathlib.Core.List.{{[], _∷_}}
-use Rattle·replication.specs.Runs.Strays.{{without}}
-use Rattle·replication.specs.Audit.Strays.{{isOneOf}}
-use Rattle·examples.proofs.Rows.{{digit, pairsOf, hex}}
-use Rattle·examples.proofs.Shown.{{Refused, opened}}
-use Rattle·{crate}·proofs.proofs.Run.{{servers, quota, run, strays, witness}}
+use mathlib.Core.List.{{[], ◌∷◌}}
+use Rattle.replication.specs.Runs.Strays.{{without}}
+use Rattle.replication.specs.Audit.Strays.{{is_one_of}}
+use Rattle.examples.proofs.Rows.{{digit, pairs_of, hex}}
+use Rattle.examples.proofs.Shown.{{Refused, opened}}
+use Rattle.{crate}.proofs.Run.{{servers, quota, run, strays, witness}}
 
-refused : Refused servers quota (without (isOneOf strays) run) witness ({names})
-unfolding opened digit pairsOf hex run strays witness
+refused : Refused servers quota (without (is_one_of strays) run) witness ({names})
+unfolding opened digit pairs_of hex run strays witness
 refused = (refl, refl)
 '''
 
@@ -169,52 +169,52 @@ def fields_file(crate, fields):
     no field: it says that the machine refuses the strays."""
     lemmas = ''.join(f'''
 {name} : passed {k} ≡ true
-unfolding opened digit pairsOf hex run places witness rest passed
+unfolding opened digit pairs_of hex run places witness rest passed
 {name} = refl
 ''' for k, name in enumerate(fields))
-    together = ''.join('both-yes _ _ %s (' % name for name in fields) + 'refl' + ')' * len(fields)
+    together = ''.join('both_yes _ _ %s (' % name for name in fields) + 'refl' + ')' * len(fields)
     return f'''-- The recorded run is allowed, but for its strays, and all agree: a lemma for each field of `Allowed`.
 use Prim.Native.Nat.{{ℕ}}
-use mathlib.Core.Path.{{_≡_, refl}}
+use mathlib.Core.Path.{{◌≡◌, refl}}
 use mathlib.Core.Bool.{{Bool, true, false}}
 use mathlib.Core.List.{{map}}
-use lib.ListN.{{getD}}
-use Rattle·base.specs.Lists.{{all}}
-use Rattle·base.proofs.TestLaws.{{both-yes}}
-use Rattle·replication.specs.Runs.Run.{{Run, beginning}}
-use Rattle·replication.specs.Runs.Strays.{{without, AllowedWithStraysUp}}
-use Rattle·replication.specs.Runs.Claim.{{Agreement, Demand3}}
-use Rattle·replication.specs.Audit.Verdict.{{Test, testsOf, tests, audit}}
-use Rattle·replication.specs.Audit.Strays.{{isOneOf, straysFrom, auditWithStrays}}
-use Rattle·replication.specs.Audit.Opened.{{opened}}
-use Rattle·replication.proofs.Verdicts.Strays.{{strays-sound}}
-use Rattle·replication.proofs.Agreement.Greens.Demand.{{demand3}}
-use Rattle·examples.proofs.Rows.{{digit, pairsOf, hex}}
-use Rattle·{crate}·proofs.proofs.Run.{{servers as n, quota as q, run, strays as places, witness}}
+use lib.ListN.{{get_or}}
+use Rattle.base.specs.Lists.{{all}}
+use Rattle.base.proofs.TestLaws.{{both_yes}}
+use Rattle.replication.specs.Runs.Run.{{Run, beginning}}
+use Rattle.replication.specs.Runs.Strays.{{without, AllowedWithStraysUp}}
+use Rattle.replication.specs.Runs.Claim.{{Agreement, Demand3}}
+use Rattle.replication.specs.Audit.Verdict.{{Test, tests_of, tests, audit}}
+use Rattle.replication.specs.Audit.Strays.{{is_one_of, strays_from, audit_with_strays}}
+use Rattle.replication.specs.Audit.Opened.{{opened}}
+use Rattle.replication.proofs.Verdicts.Strays.{{strays_sound}}
+use Rattle.replication.proofs.Agreement.Greens.Demand.{{demand3}}
+use Rattle.examples.proofs.Rows.{{digit, pairs_of, hex}}
+use Rattle.{crate}.proofs.Run.{{servers as n, quota as q, run, strays as places, witness}}
 
 unfoldable pub rest : Run
-rest = without (isOneOf places) run
+rest = without (is_one_of places) run
 
 unfoldable pub passed : ℕ → Bool
-passed k = getD (map (λ (t : Test). t .passed) (tests n q rest witness)) k false
+passed k = get_or (map (λ (t : Test). t.passed) (tests n q rest witness)) k false
 
-strays : straysFrom n (isOneOf places) (beginning n q) run ≡ true
-unfolding opened digit pairsOf hex run places
+strays : strays_from n (is_one_of places) (beginning n q) run ≡ true
+unfolding opened digit pairs_of hex run places
 strays = refl
 {lemmas}
-all-fields : audit n q rest witness ≡ true
-unfolding audit tests testsOf all passed
-all-fields =
+all_fields : audit n q rest witness ≡ true
+unfolding audit tests tests_of all passed
+all_fields =
     {together}
 
-passes : auditWithStrays n q run places witness ≡ true
-unfolding auditWithStrays rest
-passes = both-yes _ _ strays all-fields
+passes : audit_with_strays n q run places witness ≡ true
+unfolding audit_with_strays rest
+passes = both_yes _ _ strays all_fields
 
 pub allowed : AllowedWithStraysUp n q run
-allowed = strays-sound n q run places witness passes
+allowed = strays_sound n q run places witness passes
 
 pub agrees : Agreement n q run
 unfolding Demand3
-agrees = demand3 n q run (allowed .allowed)
+agrees = demand3 n q run allowed.allowed
 '''
