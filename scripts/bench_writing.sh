@@ -2,7 +2,7 @@
 # How long outgoing records take to write, before and after a change (bench/README.md, 'Outgoing records'): bench/writing.c with the archive of
 # REV and with the working tree's, in turns; the best of each figure counts. Prints a Markdown table; ends with 1 where the two put out other bytes.
 # usage: bench_writing.sh REV [DIRECTORY]
-#   REV: of the working tree's layout, for both programs write states by bench/layout.h
+#   REV: of the working tree's layout, for both programs write states by bench/layout.h, and for its toolchain
 #   DIRECTORY: a clone at REV with its archive in dist/ (scripts/dist.sh); without it one is made, built and removed.
 set -eu
 turns=7
@@ -34,9 +34,7 @@ if [ -z "$before" ]; then
     before=$temporary/before
     git clone -q --no-checkout . "$before"
     git -C "$before" checkout -q --detach "$commit"
-    # Crates that are the same in both need not be proved again.
-    cp -R target "$before/target"
-    rm -rf "$before/target/staticlib"
+    # Of crates that are the same in both rt begins with what it kept here.
     sh "$before/scripts/dist.sh" >&2
 fi
 

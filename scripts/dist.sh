@@ -3,10 +3,10 @@
 # checksums. The folder can be moved: the pkg-config file goes by where it lies.
 set -eu
 cd "$(dirname "$0")/.."
-rt staticlib guzbytor
+(cd crates/guzbytor && rt lib)
 rm -rf dist
 mkdir dist
-cp target/staticlib/libguzbytor.a include/guzbytor.h dist/
+cp crates/guzbytor/out/libguzbytor.a include/guzbytor.h dist/
 rt version >dist/TOOLCHAIN
 # What two depots must have alike: the version of records, and the layout of stored images.
 number() { sed -n "s/.*\b$2 = \([0-9]*\).*/\1/p" "include/$1"; }

@@ -9,7 +9,7 @@ cd "$(dirname "$0")/.."
 count=${1:-1000}
 out=target/office
 mkdir -p "$out"
-rt check replay
+(cd crates/replay && rt run <stdin | cmp - stdout)
 sh scripts/dist.sh
 compile() {
     "${CC:-cc}" -std=c11 -D_POSIX_C_SOURCE=200809L -Wall -Wextra -O2 -Idist -Iinclude -Iexamples/c -Ibench "$@"
@@ -44,7 +44,7 @@ while [ "$seed" -lt "$count" ]; do
     fi
     recorded=$((recorded + 1))
     if run "$seed" "$depots" "$quota" recorded; then equal=$((equal + 1)); fi
-    target/bin/replay <"$out/run.bin" >"$out/replay.txt"
+    crates/replay/out/replay <"$out/run.bin" >"$out/replay.txt"
     if cmp "$out/lines.txt" "$out/replay.txt"; then same=$((same + 1)); fi
 done
 awk '{ events += $3; crashes += $5; green += $7; white += $9; refused += $11; pegs += $13; past += $15; full += $20 }
