@@ -1,4 +1,3 @@
-use Prim.Native.Nat.{◌-◌}
 use native.Mathlib.Omega.{arith}
 use Rattle.state_check.proofs.CollectedCode.{slots_left, first_left, rest_left, collected_start, collected_again, collected_denied, collected_end}
 use borrow.Author.Rules.{rules}
