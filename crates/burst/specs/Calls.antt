@@ -1,6 +1,6 @@
 -- Calls of daemons where one call may take several events: the run that they make, and what is kept before each of them.
 use Rattle.std.specs.Prelude.{ℕ, zero, suc, ◌<◌, ◌≡◌, Bool, List, [], ◌∷◌, ◌++◌, map, length, take, drop}
-use Rattle.std.proofs.Math.Option.{Option·elim}
+use Rattle.std.proofs.Math.Option.{Option-elim}
 use Rattle.base.specs.Tests.{◌≤?◌, ◌=?◌, pick}
 use Rattle.base.specs.Lists.{at}
 use Rattle.replication.specs.Runs.Run.{Entry, event, Run}
@@ -50,12 +50,12 @@ module _ {K : Type 0} (s : System K) where
   -- Before the call j.
   unfoldable pub kept_at : ℕ → K
   kept_at zero = s.first
-  kept_at (suc j) = Option·elim (at s.calls j) (kept_at j) (λ c. s.after j (kept_at j) c)
+  kept_at (suc j) = Option-elim (at s.calls j) (kept_at j) (λ c. s.after j (kept_at j) c)
 
   -- The entries of the calls before the call j.
   unfoldable pub ran_to : ℕ → Run
   ran_to zero = []
-  ran_to (suc j) = ran_to j ++ Option·elim (at s.calls j) [] (λ c. s.entries j (kept_at j) c)
+  ran_to (suc j) = ran_to j ++ Option-elim (at s.calls j) [] (λ c. s.entries j (kept_at j) c)
 
   -- The place of the run at which the call j begins.
   unfoldable pub place_of : ℕ → ℕ

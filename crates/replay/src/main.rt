@@ -16,6 +16,7 @@ use replay_servers::starting::begin;
 use replay_servers::{SERVERS, Server};
 use replay_turns::Going;
 use replay_turns::passes::pass;
+use std::io::{Read, Stdin};
 
 // More than a server byte and an event, which are at most 65,538 bytes.
 const INPUT_ROOM: usize = 131072;
@@ -80,23 +81,25 @@ struct Filled {
     ended: bool,
 }
 
-// What is read at once.
-fn read_some(room: &mut [u8]) -> usize
+// What is read at once; a read that fails ends the input.
+fn read_some(mut stdin: Stdin, room: &mut [u8]) -> usize
     ensures { result ≤ length room.new }
 {
-    let got = libc::read(0, room);
-    io::count(got, room)
+    match stdin.read(room) {
+        Ok(n) => n,
+        Err(_) => 0,
+    }
 }
 
 // These bytes, and behind them what is read at once.
-fn refill(old: &[u8]) -> Filled
+fn refill(stdin: Stdin, old: &[u8]) -> Filled
     requires { length old.now < input_room }
     ensures { Refilled old.now result }
 {
     let mut bytes: [u8; INPUT_ROOM] = [0; INPUT_ROOM];
     let m = old.len();
     copy(&mut bytes, 0, old);
-    let n = read_some(&mut bytes[m..]);
+    let n = read_some(stdin, &mut bytes[m..]);
     Filled {
         bytes,
         count: m + n,
@@ -115,7 +118,7 @@ struct Standing {
 }
 
 // The events that are there, and then what is read at once.
-fn advance(servers: u8, s: Standing) -> Standing
+fn advance(stdin: Stdin, servers: u8, s: Standing) -> Standing
     requires { (servers ≤ table_servers) × IsPrefixLen s.filled.count s.filled.bytes }
     ensures { Advanced servers s result }
 {
@@ -134,7 +137,7 @@ fn advance(servers: u8, s: Standing) -> Standing
         };
     }
     let taken = r.taken;
-    let next = refill(&bytes[taken..count]);
+    let next = refill(stdin, &bytes[taken..count]);
     Standing {
         table: a,
         event: r.event,
@@ -144,12 +147,12 @@ fn advance(servers: u8, s: Standing) -> Standing
 }
 
 // Events from the input's start on, until it ends or is wrong.
-fn serve(servers: u8, quota: u16) -> Standing
+fn serve(stdin: Stdin, servers: u8, quota: u16) -> Standing
     requires { servers ≤ table_servers }
     ensures { Served servers quota result }
 {
     let table = begin(servers, quota);
-    let filled = refill(b"");
+    let filled = refill(stdin, b"");
     let mut s = Standing {
         table,
         event: 1,
@@ -160,7 +163,7 @@ fn serve(servers: u8, quota: u16) -> Standing
     let mut left: u64 = 18446744073709551615;
     while 0 < left {
         left -= 1;
-        let r = advance(servers, s);
+        let r = advance(stdin, servers, s);
         if !r.more {
             return r;
         }
@@ -179,7 +182,7 @@ fn serves_replay()
     ensures { ServesReplay }
 {}
 
-fn main() {
+fn main(rt: HostRuntime) {
     prints_replay();
     serves_replay();
     let mut head: [u8; Setup::SIZE] = [0; Setup::SIZE];
@@ -193,5 +196,5 @@ fn main() {
     }
     let k = header_line(&mut out);
     io::write_all(1, &out[..k]);
-    serve(s.servers, s.quota);
+    serve(rt.stdin(), s.servers, s.quota);
 }

@@ -1,5 +1,4 @@
 pub mod CoreLaws
-pub mod Entry
 pub mod Keeping
 pub mod StartingLaws
 pub mod Tabled

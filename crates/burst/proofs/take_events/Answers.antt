@@ -1,5 +1,4 @@
 use Rattle.burst.proofs.BurstCode.{along_starts, along_stops, along_inside, along_less, end_fits, taken_fits, along_refused, along_ends, along_on}
-use Prim.Native.Nat.{◌-◌}
 use borrow.Author.Rules.{rules}
 use Rattle.burst.proofs.take_events.Goals as goal
 

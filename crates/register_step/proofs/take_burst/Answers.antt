@@ -1,5 +1,4 @@
 use Rattle.register_step.proofs.BurstCode.{along_starts, can_follow, along_ends, along_less, along_on}
-use Prim.Native.Nat.{◌-◌}
 use borrow.Author.Rules.{rules}
 use Rattle.register_step.proofs.take_burst.Goals as goal
 

@@ -1,5 +1,4 @@
 use Rattle.replay.proofs.PartCode.{printing_starts, printing_on, printing_fits, printing_less, part_reads, part_stops}
-use Prim.Native.Nat.{◌-◌}
 use borrow.Author.Rules.{rules}
 use Rattle.replay.proofs.print_part.Goals as goal
 

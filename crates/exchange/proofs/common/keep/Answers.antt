@@ -1,4 +1,3 @@
-use Prim.Native.Nat.{◌-◌}
 use Rattle.exchange.proofs.KeepLaws.{sought_start, sought_again, sought_end}
 use borrow.Author.Rules.{rules}
 use Rattle.exchange.proofs.common.keep.Goals as goal

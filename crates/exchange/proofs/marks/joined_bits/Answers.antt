@@ -1,6 +1,5 @@
 use borrow.Author.Rules.{rules}
 use native.Mathlib.Omega.{arith}
-use Prim.Native.Nat.{◌-◌}
 use Rattle.exchange.proofs.MarkLaws.{join_start, join_again, join_end}
 use Rattle.exchange.proofs.marks.joined_bits.Goals as goal
 

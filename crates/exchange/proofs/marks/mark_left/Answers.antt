@@ -1,7 +1,6 @@
 use Rattle.exchange.proofs.AnyLaws.{any_start, any_again}
 use borrow.Author.Rules.{rules}
 use native.Mathlib.Omega.{arith}
-use Prim.Native.Nat.{◌-◌}
 use Rattle.exchange.proofs.JudgedLaws.{left_end}
 use Rattle.exchange.proofs.marks.mark_left.Goals as goal
 

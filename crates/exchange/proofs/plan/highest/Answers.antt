@@ -1,6 +1,5 @@
 use borrow.Author.Rules.{rules}
 use native.Mathlib.Omega.{arith}
-use Prim.Native.Nat.{◌-◌}
 use Rattle.exchange.proofs.PlanLaws.{highest_start, highest_again, highest_end}
 use Rattle.exchange.proofs.plan.highest.Goals as goal
 

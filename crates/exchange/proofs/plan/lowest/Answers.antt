@@ -1,6 +1,5 @@
 use borrow.Author.Rules.{rules}
 use native.Mathlib.Omega.{arith}
-use Prim.Native.Nat.{◌-◌}
 use Rattle.exchange.proofs.PlanLaws.{lowest_none, lowest_start, lowest_again, lowest_end}
 use Rattle.exchange.proofs.plan.lowest.Goals as goal
 

@@ -1,6 +1,5 @@
 use borrow.Author.Rules.{rules}
 use native.Mathlib.Omega.{arith}
-use Prim.Native.Nat.{◌-◌}
 use Rattle.exchange.proofs.ResendLaws.{planned_start, planned_again, planned_end, green_within, cut_within}
 use Rattle.exchange.proofs.plan.planned.Goals as goal
 

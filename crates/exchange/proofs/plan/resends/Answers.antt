@@ -1,6 +1,5 @@
 use borrow.Author.Rules.{rules}
 use native.Mathlib.Omega.{arith}
-use Prim.Native.Nat.{◌-◌}
 use Rattle.exchange.proofs.ResendLaws.{resends_start, resends_found, resends_again, resends_end}
 use Rattle.exchange.proofs.plan.resends.Goals as goal
 

@@ -1,6 +1,5 @@
 use borrow.Author.Rules.{rules}
 use native.Mathlib.Omega.{arith}
-use Prim.Native.Nat.{◌-◌}
 use Rattle.exchange.proofs.PassingLaws.{passing_start, passing_again, passing_end}
 use Rattle.exchange.proofs.primary.group.Goals as goal
 

@@ -1,6 +1,5 @@
 use borrow.Author.Rules.{rules}
 use native.Mathlib.Omega.{arith}
-use Prim.Native.Nat.{◌-◌}
 use Rattle.exchange.proofs.PrimaryLaws.{taken_none, taken_start, taken_again, taken_end}
 use Rattle.exchange.proofs.primary.taken_primary.Goals as goal
 

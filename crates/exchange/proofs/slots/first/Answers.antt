@@ -1,6 +1,5 @@
 use borrow.Author.Rules.{rules}
 use native.Mathlib.Omega.{arith}
-use Prim.Native.Nat.{◌-◌}
 use Rattle.exchange.proofs.SlotLaws.{states_start, first_found, first_again, first_none}
 use Rattle.exchange.proofs.slots.first.Goals as goal
 

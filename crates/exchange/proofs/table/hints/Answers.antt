@@ -1,4 +1,3 @@
-use Prim.Native.Nat.{◌-◌}
 use Rattle.record.proofs.Turns.{small}
 use Rattle.exchange.proofs.HintLaws.{hints_start, hints_again, hints_end}
 use borrow.Author.Rules.{rules}

@@ -1,6 +1,5 @@
 use borrow.Author.Rules.{rules}
 use native.Mathlib.Omega.{arith}
-use Prim.Native.Nat.{◌-◌}
 use Rattle.exchange.proofs.RaiseLaws.{list_start, list_again, list_end}
 use Rattle.exchange.proofs.table.raise_list.Goals as goal
 

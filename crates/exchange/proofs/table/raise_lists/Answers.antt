@@ -1,7 +1,6 @@
 use Rattle.exchange.proofs.RaiseLaws.{met_start, met_again, met_end}
 use borrow.Author.Rules.{rules}
 use native.Mathlib.Omega.{arith}
-use Prim.Native.Nat.{◌-◌}
 use Rattle.exchange.proofs.table.raise_lists.Goals as goal
 
 pub loop-k-init : goal.loop-k-init

@@ -1,5 +1,4 @@
 use borrow.Author.Rules.{rules}
-use Prim.Native.Nat.{◌-◌}
 use Rattle.exchange.proofs.PlaceLaws.{search_start, search_found, search_again, search_end}
 use Rattle.exchange.proofs.table.search.Goals as goal
 

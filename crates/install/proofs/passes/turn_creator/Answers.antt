@@ -1,5 +1,4 @@
 use Rattle.install.proofs.PassLaws.{creator_start, creator_in, creator_again, creator_end}
-use Prim.Native.Nat.{◌-◌}
 use borrow.Author.Rules.{rules}
 use Rattle.install.proofs.passes.turn_creator.Goals as goal
 

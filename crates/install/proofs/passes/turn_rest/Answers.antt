@@ -1,5 +1,4 @@
 use Rattle.install.proofs.PassLaws.{rest_start, rest_in, rest_again, rest_end}
-use Prim.Native.Nat.{◌-◌}
 use borrow.Author.Rules.{rules}
 use Rattle.install.proofs.passes.turn_rest.Goals as goal
 

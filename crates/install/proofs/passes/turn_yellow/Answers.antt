@@ -1,5 +1,4 @@
 use Rattle.install.proofs.PassLaws.{yellow_start, yellow_in, yellow_again, yellow_end_lem}
-use Prim.Native.Nat.{◌-◌}
 use borrow.Author.Rules.{rules}
 use Rattle.install.proofs.passes.turn_yellow.Goals as goal
 

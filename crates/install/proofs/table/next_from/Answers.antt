@@ -1,4 +1,3 @@
-use Prim.Native.Nat.{◌-◌}
 use native.Mathlib.Omega.{arith}
 use Rattle.install.proofs.NextLaws.{next_start, next_again, next_end}
 use borrow.Author.Rules.{rules}

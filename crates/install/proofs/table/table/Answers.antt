@@ -1,4 +1,3 @@
-use Prim.Native.Nat.{◌-◌}
 use Rattle.install.proofs.TableLaws.{count_inside, filled_start, filled_again, filled_end}
 use borrow.Author.Rules.{rules}
 use Rattle.install.proofs.table.table.Goals as goal

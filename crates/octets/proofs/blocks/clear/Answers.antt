@@ -1,7 +1,6 @@
 use borrow.Author.Rules.{rules}
 use native.Mathlib.Omega.{arith}
 use mathlib.Core.Path.{sym}
-use Prim.Native.Nat.{◌-◌}
 use lib.ListN.{length-set}
 use Rattle.base.proofs.PatchedLaws.{patched_none}
 use Rattle.octets.proofs.Zeros.{clear_more, clear_all}

@@ -1,7 +1,6 @@
 use borrow.Author.Rules.{rules}
 use native.Mathlib.Omega.{arith}
 use mathlib.Core.Path.{sym}
-use Prim.Native.Nat.{◌-◌}
 use lib.ListN.{length-set}
 use Rattle.base.proofs.Stores.{copy_more, copy_all}
 use Rattle.base.proofs.PatchedLaws.{patched_none}

@@ -1,7 +1,6 @@
 use Rattle.base.proofs.Stores.{up_more, up_all}
 use Rattle.base.proofs.PatchedLaws.{patched_none}
 use lib.ListN.{length-set}
-use Prim.Native.Nat.{◌-◌}
 use mathlib.Core.Path.{refl, sym}
 use native.Mathlib.Omega.{arith}
 use borrow.Author.Rules.{rules}

@@ -1,7 +1,6 @@
 use Rattle.base.proofs.Shifts.{down_turn, down_end}
 use Rattle.base.proofs.PatchedLaws.{patched_none}
 use lib.ListN.{length-set}
-use Prim.Native.Nat.{◌-◌}
 use mathlib.Core.Path.{sym}
 use native.Mathlib.Omega.{arith}
 use borrow.Author.Rules.{rules}

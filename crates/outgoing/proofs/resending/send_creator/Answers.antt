@@ -1,6 +1,5 @@
 use borrow.Author.Rules.{rules}
 use Rattle.outgoing.proofs.WalkLaws.{walk_start, walk_room, walk_again, walk_end}
-use Prim.Native.Nat.{◌-◌}
 use native.Mathlib.Omega.{arith}
 use Rattle.outgoing.proofs.resending.send_creator.Goals as goal
 

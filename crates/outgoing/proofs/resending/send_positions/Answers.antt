@@ -1,6 +1,5 @@
 use borrow.Author.Rules.{rules}
 use Rattle.outgoing.proofs.WalkLaws.{walk_start, position_in, position_room, position_again, walk_end}
-use Prim.Native.Nat.{◌-◌}
 use native.Mathlib.Omega.{arith}
 use Rattle.outgoing.proofs.resending.send_positions.Goals as goal
 

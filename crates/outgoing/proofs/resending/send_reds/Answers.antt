@@ -1,6 +1,5 @@
 use borrow.Author.Rules.{rules}
 use Rattle.outgoing.proofs.PlanLaws.{reds_start, reds_creator, reds_room, reds_again, reds_end}
-use Prim.Native.Nat.{◌-◌}
 use native.Mathlib.Omega.{arith}
 use Rattle.outgoing.proofs.resending.send_reds.Goals as goal
 

@@ -1,6 +1,5 @@
 use borrow.Author.Rules.{rules}
 use Rattle.outgoing.proofs.ResendingLaws.{all_start, all_again, all_end}
-use Prim.Native.Nat.{◌-◌}
 use native.Mathlib.Omega.{arith}
 use Rattle.outgoing.proofs.sending.send_behind.Goals as goal
 

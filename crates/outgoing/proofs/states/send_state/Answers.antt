@@ -22,10 +22,10 @@ pub slice_bounds-write_state-start-2 : goal.slice_bounds-write_state-start-2
 slice_bounds-write_state-start-2 c = search (rules, lent_yellow)
 
 pub returns-in_default : goal.returns-in_default
-returns-in_default c = state_full _ _ _ _ _ _ _ c.requires c.own_numbers-head.ensures c.before.before.before.before.before.before.before.before.place_of.ensures c.write_state-w.ensures (search rules) _
+returns-in_default c = state_full _ _ _ _ _ _ _ c.requires c.own_numbers-head.ensures c.place_of-at.ensures c.write_state-w.ensures (search rules) _
 
 pub overflow_cast-result : goal.overflow_cast-result
 overflow_cast-result c = search (rules, state_small)
 
 pub returns : goal.returns
-returns c = state_done _ _ _ _ _ _ _ c.requires c.own_numbers-head.ensures c.before.before.before.before.before.before.before.before.before.place_of.ensures c.write_state-w.ensures _ (search rules)
+returns c = state_done _ _ _ _ _ _ _ c.requires c.own_numbers-head.ensures c.place_of-at.ensures c.write_state-w.ensures _ (search rules)

@@ -1,5 +1,4 @@
 use Rattle.queries.proofs.EntriesCode.{along_starts, along_low, along_few, along_ends, along_behind, along_inside, slot_inside, along_full, along_room, along_on}
-use Prim.Native.Nat.{◌-◌}
 use borrow.Author.Rules.{rules}
 use Rattle.queries.proofs.entries.put_entries.Goals as goal
 

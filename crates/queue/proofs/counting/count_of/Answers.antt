@@ -1,5 +1,4 @@
 use Rattle.queue.proofs.CountLaws.{count_start, count_next, count_end}
-use Prim.Native.Nat.{◌-◌}
 use native.Mathlib.Omega.{arith}
 use borrow.Author.Rules.{rules}
 use Rattle.queue.proofs.counting.count_of.Goals as goal

@@ -1,5 +1,4 @@
 use Rattle.queue.proofs.FindLaws.{find_start, find_found, find_again, find_end}
-use Prim.Native.Nat.{◌-◌}
 use native.Mathlib.Omega.{arith}
 use borrow.Author.Rules.{rules}
 use Rattle.queue.proofs.finding.find.Goals as goal

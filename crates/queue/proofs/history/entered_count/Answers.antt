@@ -1,5 +1,4 @@
 use Rattle.queue.proofs.WhiteLaws.{sum_start, sum_next, sum_end, sum_low}
-use Prim.Native.Nat.{◌-◌}
 use native.Mathlib.Omega.{arith}
 use borrow.Author.Rules.{rules}
 use Rattle.queue.proofs.history.entered_count.Goals as goal

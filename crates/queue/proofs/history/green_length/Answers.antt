@@ -4,4 +4,7 @@ use borrow.Author.Rules.{rules}
 use Rattle.queue.proofs.history.green_length.Goals as goal
 
 pub returns : goal.returns
-returns c = ((search (rules, green_made), omega arith), search (rules, green_computed))
+returns c = record {
+  value = (search (rules, green_made), omega arith);
+  computes = search (rules, green_computed);
+}

@@ -4,4 +4,7 @@ use borrow.Author.Rules.{rules}
 use Rattle.queue.proofs.history.white_length.Goals as goal
 
 pub returns : goal.returns
-returns c = ((search (rules, white_made), omega arith), search (rules, white_computed))
+returns c = record {
+  value = (search (rules, white_made), omega arith);
+  computes = search (rules, white_computed);
+}

@@ -1,6 +1,5 @@
 use Rattle.base.proofs.Stores.{read_more, read_all}
 use Rattle.base.proofs.PatchedLaws.{patched_none}
-use Prim.Native.Nat.{◌-◌}
 use mathlib.Core.Path.{sym}
 use native.Mathlib.Omega.{arith}
 use borrow.Author.Rules.{rules}

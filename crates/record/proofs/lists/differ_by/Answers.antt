@@ -1,6 +1,5 @@
 use native.Mathlib.Omega.{arith}
 use borrow.Author.Rules.{rules}
-use Prim.Native.Nat.{◌-◌}
 use Rattle.record.proofs.Turns.{along_start, along_here, along_before, along_fits, along_places, along_again, pass_start, pass_denied, pass_again, pass_end}
 use Rattle.record.proofs.lists.differ_by.Goals as goal
 

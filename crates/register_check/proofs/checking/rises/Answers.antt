@@ -1,6 +1,5 @@
 use borrow.Author.Rules.{rules}
 use native.Mathlib.Omega.{arith}
-use Prim.Native.Nat.{◌-◌}
 use Rattle.register_check.proofs.CheckCode.{rises_start, word_lower, word_higher, word_equal, words_end}
 use Rattle.register_check.proofs.checking.rises.Goals as goal
 

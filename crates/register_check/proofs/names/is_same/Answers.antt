@@ -1,6 +1,5 @@
 use borrow.Author.Rules.{rules}
 use native.Mathlib.Omega.{arith}
-use Prim.Native.Nat.{◌-◌}
 use Rattle.register_check.proofs.Compared.{other_length, is_other_lem, same_on, same_end}
 use Rattle.register_check.proofs.names.is_same.Goals as goal
 

@@ -1,6 +1,5 @@
 use borrow.Author.Rules.{rules}
 use native.Mathlib.Omega.{arith}
-use Prim.Native.Nat.{◌-◌}
 use Rattle.register_check.proofs.Compared.{ends_first, is_first, is_later_lem, before_on, before_end}
 use Rattle.register_check.proofs.names.stands_before.Goals as goal
 

@@ -1,6 +1,5 @@
 use borrow.Author.Rules.{rules}
 use native.Mathlib.Omega.{arith}
-use Prim.Native.Nat.{◌-◌}
 use Rattle.register_check.proofs.Searched.{count_room, between_first, middle_room, middle_name, upper_half, lower_half}
 use Rattle.register_check.proofs.searching.position.Goals as goal
 

@@ -2,7 +2,6 @@ use Rattle.register_check.proofs.Searched.{count_room}
 use Rattle.register_queries.proofs.Slots.{slot_room}
 use Rattle.register_queries.proofs.Collected.{none_collected, passed_over, copy_room, collected_next, collected_all}
 use borrow.Author.Rules.{rules}
-use Prim.Native.Nat.{◌-◌}
 use Rattle.register_queries.proofs.collecting.collect.Goals as goal
 
 pub num16-count-requires : goal.num16-count-requires

@@ -1,7 +1,6 @@
 use Rattle.base.proofs.BytesLaws.{given_bytes_lem}
 use Rattle.register_queries.proofs.Collected.{none_copied, word_copied, slot_copied}
 use borrow.Author.Rules.{rules}
-use Prim.Native.Nat.{◌-◌}
 use Rattle.register_queries.proofs.collecting.copy_slot.Goals as goal
 
 pub loop-j-init : goal.loop-j-init

@@ -1,7 +1,6 @@
 use Rattle.register_queries.proofs.Along.{along_first, along_nearer, along_still, along_end}
 use Rattle.register_queries.proofs.Slots.{first_room, slot_room}
 use borrow.Author.Rules.{rules}
-use Prim.Native.Nat.{◌-◌}
 use Rattle.register_queries.proofs.nearest.nearest_index.Goals as goal
 
 pub point_at-requires : goal.point_at-requires

@@ -1,6 +1,5 @@
 use Rattle.register_step.proofs.CarryLaws.{along_starts, ready_below, along_inside, along_ends, along_onward, slot_inside, one_more_lem, along_on}
 use Rattle.base.proofs.BytesLaws.{given_bytes_lem}
-use Prim.Native.Nat.{◌-◌}
 use borrow.Author.Rules.{rules}
 use native.Mathlib.Omega.{arith}
 use Rattle.register_step.proofs.carrying.carry.Goals as goal

@@ -1,4 +1,3 @@
-use Prim.Native.Nat.{◌-◌}
 use borrow.Author.Rules.{rules}
 use Rattle.replay_servers.proofs.CoreLaws.{count_again, count_end}
 use Rattle.replay_servers.proofs.stepping.count.Goals as goal

@@ -1,5 +1,5 @@
 use Rattle.replay_turns.proofs.PassCode.{along_starts, along_on, along_fits, along_less, pass_full, full_counts, pass_reads, pass_stops, ends_counts}
-use Rattle.std.proofs.Common.{◌-◌, rules}
+use Rattle.std.proofs.Common.{rules}
 use Rattle.replay_turns.proofs.passes.pass.Reads as reads
 use Rattle.replay_turns.proofs.passes.pass.Lts as lts
 use Rattle.replay_turns.proofs.take_turn.Reads as take-turn-reads

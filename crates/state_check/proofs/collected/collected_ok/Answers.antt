@@ -1,7 +1,8 @@
-use Prim.Native.Nat.{◌-◌}
 use native.Mathlib.Omega.{arith}
 use Rattle.state_check.proofs.CollectedCode.{slots_left, first_left, rest_left, collected_start, collected_again, collected_denied, collected_end}
 use borrow.Author.Rules.{rules}
+use mathlib.Core.Path.{ap}
+use mathlib.Core.Bool.{not}
 use Rattle.state_check.proofs.collected.collected_ok.Goals as goal
 
 pub loop-k-init : goal.loop-k-init
@@ -26,7 +27,7 @@ pub loop-k-preserved : goal.loop-k-preserved
 loop-k-preserved c = (
   omega arith,
   search (rules, rest_left),
-  collected_again _ _ _ _ _ _ _ _ _ c.loop-k.invariant.2 (omega arith) c.collected_at.ensures c.if-not-collected_at.false c.state_size-size.ensures.0,
+  collected_again _ _ _ _ _ _ _ _ _ c.loop-k.invariant.2 (omega arith) c.collected_at.ensures (ap not c.if-not-collected_at.false) c.state_size-size.ensures.0,
 )
 
 pub returns : goal.returns

@@ -1,6 +1,5 @@
 use native.Mathlib.Omega.{arith}
 use borrow.Author.Rules.{rules}
-use Prim.Native.Nat.{◌-◌}
 use Rattle.record.proofs.Turns.{along_start, along_here, along_before, along_fits, along_places}
 use Rattle.state_check.proofs.QueueCode.{slots_inside, next_here, next_along, queue_start, queue_denied, queue_again, queue_end_lem}
 use Rattle.state_check.proofs.slots.queue_fits_by.Goals as goal

@@ -24,7 +24,7 @@ overflow_cast-sent c =
           c.requires
           _ c.load-h.ensures
           _ _ c.write_cpc-w.ensures _
-          c.w-1.given.1,
+          c.in-Next.is,
     )
 
 pub returns : goal.returns
@@ -34,6 +34,6 @@ returns c =
     _
     c.load-h.ensures
     _ _ c.write_cpc-w.ensures
-    _ c.w-1.given.1 _ _
+    _ c.in-Next.is _ _
     c.decide_all.ensures c.attempt.ensures _
     c.stored.ensures

@@ -1,6 +1,8 @@
 use Rattle.step.proofs.InstallingLaws.{cpc_room, cpc_some, cpc_lent, cpc_waiting, cpc_complete}
 use borrow.Author.Rules.{rules}
 use borrow.Author.Tests.{not-true, not-false}
+use mathlib.Core.Path.{ap}
+use mathlib.Core.Bool.{not}
 use Rattle.step.proofs.installing.collect_cpc.Goals as goal
 
 pub add_cpc-requires : goal.add_cpc-requires
@@ -24,5 +26,5 @@ returns c =
     c.requires
     c.add_cpc.ensures
     _ c.all_cpcs_in.ensures
-    (not-false _ c.if-not-all_cpcs_in.false)
+    (not-false _ (ap not c.if-not-all_cpcs_in.false))
     _ _ _ c.install_all.ensures

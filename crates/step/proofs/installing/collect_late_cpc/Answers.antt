@@ -1,5 +1,7 @@
 use Rattle.step.proofs.InstallingLaws.{cpc_room, late_some, late_header, late_waiting, late_complete}
 use borrow.Author.Tests.{not-true, not-false}
+use mathlib.Core.Path.{ap}
+use mathlib.Core.Bool.{not}
 use Rattle.step.proofs.installing.collect_late_cpc.Goals as goal
 
 pub add_cpc-requires : goal.add_cpc-requires
@@ -14,7 +16,7 @@ returns-then-not-all_cpcs_in c =
     c.requires
     c.add_cpc.ensures
     _ c.all_cpcs_in.ensures
-    (not-true _ c.if-not-all_cpcs_in.true)
+    (not-true _ (ap not c.if-not-all_cpcs_in.true))
 
 pub set_mode-requires : goal.set_mode-requires
 set_mode-requires c =
@@ -28,5 +30,5 @@ returns c =
     c.requires
     c.add_cpc.ensures
     _ c.all_cpcs_in.ensures
-    _ (not-false _ c.if-not-all_cpcs_in.false)
+    _ (not-false _ (ap not c.if-not-all_cpcs_in.false))
     c.set_mode.ensures

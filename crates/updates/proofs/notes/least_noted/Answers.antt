@@ -1,7 +1,6 @@
 use Rattle.updates.proofs.NoteLaws.{some_noted, noted_inside, first_inside, least_start, least_again, least_end}
 use Rattle.image.proofs.Counts.{such_counts}
 use Rattle.image.proofs.InPlace.{such_header}
-use Prim.Native.Nat.{◌-◌}
 use native.Mathlib.Omega.{arith}
 use borrow.Author.Rules.{rules}
 use Rattle.updates.proofs.notes.least_noted.Goals as goal

@@ -1,5 +1,4 @@
 use Rattle.updates.proofs.NoteAllLaws.{front_some, note_start, note_room, note_turn, note_end}
-use Prim.Native.Nat.{◌-◌}
 use mathlib.Core.Path.{refl}
 use native.Mathlib.Omega.{arith}
 use borrow.Author.Rules.{rules}

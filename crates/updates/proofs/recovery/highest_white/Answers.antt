@@ -1,7 +1,6 @@
 use Rattle.updates.proofs.RecoveryLaws.{own_inside, highest_start, highest_again, highest_end}
 use Rattle.image.proofs.Counts.{such_counts}
 use Rattle.image.proofs.InPlace.{such_header}
-use Prim.Native.Nat.{◌-◌}
 use native.Mathlib.Omega.{arith}
 use borrow.Author.Rules.{rules}
 use Rattle.updates.proofs.recovery.highest_white.Goals as goal

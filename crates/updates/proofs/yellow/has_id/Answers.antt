@@ -1,5 +1,4 @@
 use borrow.Author.Rules.{rules}
-use Prim.Native.Nat.{◌-◌}
 use native.Mathlib.Omega.{arith}
 use Rattle.updates.proofs.YellowLaws.{has_start, has_found, has_again, has_end}
 use Rattle.updates.proofs.yellow.has_id.Goals as goal
