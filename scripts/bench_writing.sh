@@ -2,7 +2,7 @@
 # How long outgoing records take to write, before and after a change (bench/README.md, 'Outgoing records'): bench/writing.c with the archive of
 # REV and with the working tree's, in turns; the best of each figure counts. Prints a Markdown table; ends with 1 where the two put out other bytes.
 # usage: bench_writing.sh REV [DIRECTORY]
-#   REV: of the working tree's layout, for both programs write states by bench/layout.h, and for its toolchain
+#   REV: of the working tree's layout, for both programs write states by bench/layout.h; today's toolchain must prove it too
 #   DIRECTORY: a clone at REV with its archive in dist/ (scripts/dist.sh); without it one is made, built and removed.
 set -eu
 turns=7
