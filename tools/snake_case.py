@@ -146,8 +146,13 @@ def aliases(text):
 
 
 def code(text, new, fields, rust=False, modules=()):
+    # what stands in quotes is data
+    within = [m.span() for m in re.finditer(r'"[^"\n]*"', text)]
+
     def one(m):
         n = m.group()
+        if any(a < m.start() < b for a, b in within):
+            return n
         if n not in new or (rust and snake(n) == n):
             return n
         if m.start() and text[m.start() - 1] == ".":

@@ -24,7 +24,7 @@ same_configuration_witness = record {
   sending_ords = (1 ∷ []) ∷ (3 ∷ []) ∷ [] ∷ [];
 }
 
-same_configuration_refused : Refused 2 2 same_configuration_run same_configuration_witness ("same_configuration_lem" ∷ [])
+same_configuration_refused : Refused 2 2 same_configuration_run same_configuration_witness ("same-configuration" ∷ [])
 unfolding opened
 same_configuration_refused = (refl, refl)
 
@@ -45,7 +45,7 @@ one_delivery_witness = record {
   sending_ords = (1 ∷ []) ∷ [] ∷ [] ∷ [] ∷ [];
 }
 
-one_delivery_refused : Refused 2 2 one_delivery_run one_delivery_witness ("one_delivery" ∷ "same_message_lem" ∷ [])
+one_delivery_refused : Refused 2 2 one_delivery_run one_delivery_witness ("one-delivery" ∷ "same-message" ∷ [])
 unfolding opened
 one_delivery_refused = (refl, refl)
 
@@ -86,7 +86,7 @@ self_delivery_witness = record {
   sending_ords = (1 ∷ []) ∷ [] ∷ (4 ∷ []) ∷ [];
 }
 
-self_delivery_refused : Refused 2 2 self_delivery_run self_delivery_witness ("self_delivery" ∷ [])
+self_delivery_refused : Refused 2 2 self_delivery_run self_delivery_witness ("self-delivery" ∷ [])
 unfolding opened
 self_delivery_refused = (refl, refl)
 

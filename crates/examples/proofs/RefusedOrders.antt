@@ -54,7 +54,7 @@ same_moment_witness = record {
   sending_ords = (1 ∷ []) ∷ [] ∷ [] ∷ (5 ∷ []) ∷ (7 ∷ []) ∷ [] ∷ [] ∷ (11 ∷ []) ∷ [];
 }
 
-same_moment_refused : Refused 2 2 same_moment_run same_moment_witness ("same_moment" ∷ [])
+same_moment_refused : Refused 2 2 same_moment_run same_moment_witness ("same-moment" ∷ [])
 unfolding opened
 same_moment_refused = (refl, refl)
 
@@ -79,7 +79,7 @@ same_message_witness = record {
   sending_ords = (1 ∷ []) ∷ (3 ∷ []) ∷ [] ∷ [] ∷ [] ∷ [] ∷ [] ∷ [] ∷ [];
 }
 
-same_message_refused : Refused 2 2 same_message_run same_message_witness ("same_message_lem" ∷ [])
+same_message_refused : Refused 2 2 same_message_run same_message_witness ("same-message" ∷ [])
 unfolding opened
 same_message_refused = (refl, refl)
 
@@ -100,7 +100,7 @@ one_order_witness = record {
   sending_ords = (1 ∷ []) ∷ (2 ∷ []) ∷ [] ∷ [] ∷ [];
 }
 
-one_order_refused : Refused 2 2 one_order_run one_order_witness ("one_order" ∷ [])
+one_order_refused : Refused 2 2 one_order_run one_order_witness ("one-order" ∷ [])
 unfolding opened
 one_order_refused = (refl, refl)
 

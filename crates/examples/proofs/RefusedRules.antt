@@ -94,7 +94,7 @@ one_transitional_witness = record {
   sending_ords = (1 ∷ []) ∷ [] ∷ [] ∷ [];
 }
 
-one_transitional_refused : Refused 2 2 one_transitional_run one_transitional_witness ("one_transitional" ∷ [])
+one_transitional_refused : Refused 2 2 one_transitional_run one_transitional_witness ("one-transitional" ∷ [])
 unfolding opened
 one_transitional_refused = (refl, refl)
 
@@ -132,7 +132,7 @@ cut_by_crash_witness = record {
   sending_ords = [];
 }
 
-cut_by_crash_refused : Refused 2 2 cut_by_crash_run cut_by_crash_witness ("cut_by_crash" ∷ [])
+cut_by_crash_refused : Refused 2 2 cut_by_crash_run cut_by_crash_witness ("cut-by-crash" ∷ [])
 unfolding opened
 cut_by_crash_refused = (refl, refl)
 
@@ -170,7 +170,7 @@ stores_up_witness = record {
   sending_ords = [];
 }
 
-stores_up_refused : Refused 2 2 stores_up_run stores_up_witness ("stores_up" ∷ [])
+stores_up_refused : Refused 2 2 stores_up_run stores_up_witness ("stores-up" ∷ [])
 unfolding opened
 stores_up_refused = (refl, refl)
 
@@ -191,7 +191,7 @@ stored_cut_witness = record {
   sending_ords = [];
 }
 
-stored_cut_refused : Refused 2 2 stored_cut_run stored_cut_witness ("cut_by_crash" ∷ [])
+stored_cut_refused : Refused 2 2 stored_cut_run stored_cut_witness ("cut-by-crash" ∷ [])
 unfolding opened
 stored_cut_refused = (refl, refl)
 
@@ -212,6 +212,6 @@ sent_behind_cut_witness = record {
   sending_ords = (1 ∷ []) ∷ [] ∷ [] ∷ (5 ∷ []) ∷ [];
 }
 
-sent_behind_cut_refused : Refused 2 2 sent_behind_cut_run sent_behind_cut_witness ("cut_by_crash" ∷ [])
+sent_behind_cut_refused : Refused 2 2 sent_behind_cut_run sent_behind_cut_witness ("cut-by-crash" ∷ [])
 unfolding opened
 sent_behind_cut_refused = (refl, refl)
