@@ -76,8 +76,10 @@ pub fn alter(s: &mut Server, e: &[u8]) -> Reply
     let old = *s;
     let r = core(old, e);
     let new = r.server;
-    s.state = new.state;
-    s.store = new.store;
+    let state = new.state;
+    let store = new.store;
+    s.state = state;
+    s.store = store;
     r.reply
 }
 
