@@ -4,7 +4,7 @@ ghost use Rattle.format.specs.Limits.{most_ids};
 ghost use Rattle.format.specs.Places.{id_size};
 ghost use Rattle.replication.specs.Machine.Types.{Server};
 ghost use Rattle.replication.specs.Machine.Plan.{green_in, cut_in};
-ghost use Rattle.replication.specs.Machine.Exchange.{taken_votes, taken_yellow, quorum as has_quorum_of};
+ghost use Rattle.replication.specs.Machine.Exchange.{taken_votes, taken_yellow, quorum as has_quorum};
 ghost use Rattle.replication.specs.Machine.Step.{here_set, collected, all_states_in, all_cpcs_in, planned_now};
 ghost use Rattle.image.specs.Holding.{Holds, HoldsSuch, HoldsSome, Computes};
 ghost use Rattle.exchange.specs.Slots.{Room, slots_in, states_of};
@@ -114,7 +114,7 @@ pub fn resends_red(state: &[u8], c: usize) -> Part
 // Whether the members here are a quorum.
 pub fn quorum_here(state: &[u8]) -> bool
     requires { HoldsSome state.now }
-    ensures { Computes (λ s. has_quorum_of (collected s) (here_set s)) state.now result }
+    ensures { Computes (λ s. has_quorum (collected s) (here_set s)) state.now result }
 {
     let v = held_slots(state);
     quorum(v, state, num8(state, State::AT_CONFIGURATION_SET))

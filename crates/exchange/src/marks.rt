@@ -5,7 +5,7 @@ ghost use Rattle.format.specs.Types.{State as FormatState};
 ghost use Rattle.record.specs.Values.{primary_of, mark_of};
 ghost use Rattle.replication.specs.Machine.Types.{cleared_mark};
 ghost use Rattle.replication.specs.Machine.Exchange.{taken_primary, same_attempt_of, rule_a, rule_b, joined_bits};
-ghost use Rattle.replication.specs.Machine.Exchange.{judged_mark, mark_left, own_mark, quorum as has_quorum_of};
+ghost use Rattle.replication.specs.Machine.Exchange.{judged_mark, mark_left, own_mark, quorum as has_quorum};
 ghost use Rattle.exchange.specs.Slots.{Room, state_in, states_of, if_meant};
 ghost use Rattle.exchange.specs.Marks.{against as is_against, likewise as is_likewise, joined_with, with_bits, is_left};
 
@@ -210,7 +210,7 @@ pub fn own_mark(v: Slots, state: &[u8], me: usize, p: LastPrimary) -> Mark
 // document 02's K1 decides.
 pub fn quorum(v: Slots, state: &[u8], here: u8) -> bool
     requires { Room v state.now }
-    ensures { result ≡ has_quorum_of (states_of v state.now) here }
+    ensures { result ≡ has_quorum (states_of v state.now) here }
 {
     let p = taken_primary(v, state);
     if mark_left(v, state, p) {

@@ -29,7 +29,7 @@ use Rattle.image.specs.Decode.{mode_named}
 use Rattle.queue.specs.Queue.{Placed, RoomIfNext}
 use Rattle.queue.proofs.RedLaws.{room_if_next}
 use Rattle.step.specs.declared.Answer.{Answer}
-use Rattle.step.specs.Answers.{answered, outcome_on, InForce, refused_with, quietly, stored_first_of}
+use Rattle.step.specs.Answers.{answered, outcome_on, InForce, refused_with, quietly, stored_first}
 use Rattle.step.specs.Events.{Takes, installed_late}
 use Rattle.step.specs.Stages.{Sifts, sieving, unraised, core_images, unraised_on}
 use Rattle.step.proofs.AnswerLaws.{Passes, rows_untaken, rows_impossible, rows_outside, passed_fits, not_there, quiet_as}
@@ -200,7 +200,7 @@ module _ (h : Numbers) (x : ActionHead) (p b : List ℕ) (f : HoldsSuch (InForce
         pub action_installed : h.mode ≡ 7 → (c : List ℕ) (r : Answer)
             → ((s : Server) → Holds s b
             → c ≡ core_images (late_installing (action_of x p)) s (installed_late (sifted (full (late_installing (action_of x p)) s) (action_of x p)) s) b)
-            → r ≡ stored_first_of 0 → (s : Server) (o : List ℕ) → Holds s b → answered r c o ≡ unraised_on s (action (action_of x p)) b o
+            → r ≡ stored_first 0 → (s : Server) (o : List ℕ) → Holds s b → answered r c o ≡ unraised_on s (action (action_of x p)) b o
         unfolding sieving sieved apply
         action_installed e c r g q s o i =
             stored_on s (action a) (late_installing a) (late_rule e s i) b o (installed_late (sifted (full (late_installing a) s) a) s) refl r c q (g s i)

@@ -21,7 +21,7 @@ use Rattle.replication.proofs.WellFormed.RuleFacts.{rule_fits}
 use Rattle.image.specs.Image.{image}
 use Rattle.image.specs.Outcome.{refusal, result_of}
 use Rattle.step.specs.declared.Answer.{Answer}
-use Rattle.step.specs.Answers.{answered, outcome_on, by_rows, ruled, refused_with, quietly, stored_first_of}
+use Rattle.step.specs.Answers.{answered, outcome_on, by_rows, ruled, refused_with, quietly, stored_first}
 use Rattle.step.proofs.OutcomeLaws.{quiet_outcome, stored_outcome}
 
 -- ---- rows 5, 6 and 3
@@ -126,7 +126,7 @@ pub quiet_as : (s t : Server) (x : Outcome Record) (a : Answer) (b c o : List �
     → answered a c o ≡ outcome_on x b o
 quiet_as s t x a b c o e f g = quiet_outcome s t b o c a e g ∙ ap (λ (y : Outcome Record). outcome_on y b o) (sym f)
 
-pub stored_as : (s t : Server) (x : Outcome Record) (a : Answer) (b c o : List ℕ) → a ≡ stored_first_of 0 → x ≡ stored s t [] → c ≡ image t b
+pub stored_as : (s t : Server) (x : Outcome Record) (a : Answer) (b c o : List ℕ) → a ≡ stored_first 0 → x ≡ stored s t [] → c ≡ image t b
     → answered a c o ≡ outcome_on x b o
 unfolding record_bytes joined over
 stored_as s t x a b c o e f g = stored_outcome s t [] b o c o 0 a e g refl refl ∙ ap (λ (y : Outcome Record). outcome_on y b o) (sym f)

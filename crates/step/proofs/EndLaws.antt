@@ -38,7 +38,7 @@ use Rattle.exchange.specs.Decided.{votes_numbers}
 use Rattle.exchange.specs.Table.{Listed}
 use Rattle.step.specs.declared.Answer.{Answer}
 use Rattle.outgoing.specs.Lent.{LentSuch}
-use Rattle.step.specs.Answers.{answered, outcome_on, stored_first_of}
+use Rattle.step.specs.Answers.{answered, outcome_on, stored_first}
 use Rattle.outgoing.proofs.LentFacts.{lent_fact, lent_room}
 use Rattle.image.proofs.Chained.{Covers, chained, then_holds, numbers_then}
 use Rattle.step.proofs.ExchangeStates.{decided_formed, attempting_formed, staying_formed}
@@ -140,7 +140,7 @@ module _ (b o : List ℕ) (m : LentSuch Attempts b o) where
         omega (arith, write_length (cpc h.me h.configuration_id), (put_done (write (cpc h.me h.configuration_id)) o o₁ w p n f).sized)
 
     pub attempt_made : (n : ℕ) → w ≡ Next n → (c d : List ℕ) → Decided b c → ((t : Server) → Holds t c → d ≡ image (attempting t) c) → (r : Answer)
-        → r ≡ stored_first_of n
+        → r ≡ stored_first n
         → (s t : Server) → Holds t b → answered r d o₁ ≡ outcome_on (end_exchange s t) b o
     attempt_made n f c d g k r a s t y =
         let z : Attempts t = lent_fact Attempts b o t m y in

@@ -15,10 +15,10 @@ use Rattle.image.specs.Outcome.{result_of, word}
 use Rattle.image.specs.Holding.{Holds}
 use Rattle.image.proofs.Chained.{Covers, image_over}
 use Rattle.step.specs.declared.Answer.{Answer}
-use Rattle.step.specs.Answers.{answered, outcome_on, quietly, stored_first_of, sent_only}
+use Rattle.step.specs.Answers.{answered, outcome_on, quietly, stored_first, sent_only}
 
 module _ (s t : Server) (rs : List Record) (b o b₁ o₁ : List ℕ) (m : ℕ) (r : Answer) where
-  pub stored_outcome : r ≡ stored_first_of m → b₁ ≡ image t b → m ≡ length (record_bytes rs) → o₁ ≡ over (record_bytes rs) o
+  pub stored_outcome : r ≡ stored_first m → b₁ ≡ image t b → m ≡ length (record_bytes rs) → o₁ ≡ over (record_bytes rs) o
       → answered r b₁ o₁ ≡ outcome_on (stored s t rs) b o
   unfolding answered outcome_on stored in_bytes result_of word record_bytes
   stored_outcome e f g h =

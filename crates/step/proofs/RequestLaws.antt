@@ -28,7 +28,7 @@ use Rattle.image.proofs.Chained.{Covers, then_holds}
 use Rattle.updates.specs.Lists.{PayloadRoom}
 use Rattle.step.specs.declared.Answer.{Answer}
 use Rattle.outgoing.specs.Lent.{LentSuch}
-use Rattle.step.specs.Answers.{answered, outcome_on, stored_first_of}
+use Rattle.step.specs.Answers.{answered, outcome_on, stored_first}
 use Rattle.step.specs.Events.{Asked}
 use Rattle.outgoing.proofs.LentFacts.{lent_fact}
 use Rattle.outgoing.proofs.LentLaws.{lent_header}
@@ -40,7 +40,7 @@ use Rattle.step.proofs.OutcomeLaws.{stored_outcome, stored_after}
 pub waiting_ready : (P : Server → Type 0) (b o : List ℕ) → LentSuch P b o → header_size ≤ length b
 waiting_ready = lent_header
 
-pub waiting_put : (b d o u : List ℕ) (n : ℕ) (a : Answer) → a ≡ stored_first_of n
+pub waiting_put : (b d o u : List ℕ) (n : ℕ) (a : Answer) → a ≡ stored_first n
     → ((s : Server) → Holds s b → (n ≡ length (record_bytes (waiting_records s))) × (u ≡ over (record_bytes (waiting_records s)) o))
     → ((s : Server) → Holds s b → d ≡ image (send_waiting s) b)
     → (s t : Server) → Holds t b → answered a d u ≡ outcome_on (stored s (send_waiting t) (waiting_records t)) b o
@@ -81,7 +81,7 @@ module _ (p b o : List ℕ) (h : State) (l : LentSuch (λ s. Asked p h s) b o) w
         let a = asked s k in
         then_holds s (numbered p s) b c k (f s k a.1) refl refl (numbered_formed p s k.formed a.0 a.1) k.blank
 
-    pub request_waits_lem : not t ≡ true → (r : Answer) → r ≡ stored_first_of 0 → (s : Server) → Holds s b → answered r c o ≡ outcome_on (requested p s) b o
+    pub request_waits_lem : not t ≡ true → (r : Answer) → r ≡ stored_first 0 → (s : Server) → Holds s b → answered r c o ≡ outcome_on (requested p s) b o
     unfolding requested record_bytes joined over
     request_waits_lem n r e s k =
         let a = asked s k in

@@ -23,7 +23,7 @@ use Rattle.image.specs.Holding.{Holds, blanked}
 use Rattle.image.specs.Outcome.{refusal, result_of, word}
 use Rattle.image.proofs.Raising.{at_white, outcome_blanked, outcome_at}
 use Rattle.step.specs.declared.Answer.{Answer}
-use Rattle.step.specs.Answers.{answered, outcome_on, by_rows, refused_with, stored_first_of}
+use Rattle.step.specs.Answers.{answered, outcome_on, by_rows, refused_with, stored_first}
 use Rattle.step.specs.Stages.{sieving, unraised, core_images, images_before, unraised_on}
 use Rattle.step.proofs.AnswerLaws.{Passes, rows_passed}
 use Rattle.step.proofs.SieveLaws.{took_low_here}
@@ -125,7 +125,7 @@ module _ (s : Server) (r : Record) (k : Rule) (f : Passes s r k) (b o : List ℕ
       ∙ sym core_on
 
   -- A rule that stores, and sends nothing.
-  pub stored_on : (t : Server) → sieving k s ≡ stored s t [] → (v : Answer) (c : List ℕ) → v ≡ stored_first_of 0 → c ≡ core_images k s t b
+  pub stored_on : (t : Server) → sieving k s ≡ stored s t [] → (v : Answer) (c : List ℕ) → v ≡ stored_first 0 → c ≡ core_images k s t b
       → answered v c o ≡ unraised_on s r b o
   unfolding answered result_of in_bytes stored word joined over
   stored_on t e v c g h =

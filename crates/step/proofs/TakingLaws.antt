@@ -28,7 +28,7 @@ use Rattle.image.proofs.InPlace.{holds_some}
 use Rattle.image.proofs.Raising.{recovering_at}
 use Rattle.step.specs.declared.Answer.{Answer}
 use Rattle.outgoing.specs.Lent.{LentSuch}
-use Rattle.step.specs.Answers.{answered, outcome_on, ruled, InForce, StateInForce, stored_first_of}
+use Rattle.step.specs.Answers.{answered, outcome_on, ruled, InForce, StateInForce, stored_first}
 use Rattle.step.specs.Events.{PartInForce, ReadInForce}
 use Rattle.step.specs.Stages.{unraised_on}
 use Rattle.step.proofs.AnswerLaws.{Passes, stored_as}
@@ -114,7 +114,7 @@ module _ (b c : List ℕ) (to : ℕ) (e : Computes (λ s. highest_white s.log.ow
       holds_some (blanked (with_white (took_white recovering h.state) h.state)) c
       (took_holds recovering h.state b c h.holds refl (took h.state h.holds))
 
-  pub recovery_done : (d : List ℕ) (v : Answer) → ((s : Server) → Holds s c → d ≡ image (recovered s) c) → v ≡ stored_first_of 0
+  pub recovery_done : (d : List ℕ) (v : Answer) → ((s : Server) → Holds s c → d ≡ image (recovered s) c) → v ≡ stored_first 0
       → (s : Server) (o : List ℕ) → Holds s b → answered v d o ≡ unraised_on s recovery b o
   unfolding rule_for possible from_member is_ignored within_quota ◌or◌ apply sieved met_log
   recovery_done d v y q s o i =

@@ -79,8 +79,8 @@ abbrev pub quietly : Answer
 quietly = record { number = 0; store = 0; sent = 0 }
 
 -- So many bytes sent, with the state stored first.
-abbrev pub stored_first_of : ℕ → Answer
-stored_first_of m = record { number = 0; store = 1; sent = m }
+abbrev pub stored_first : ℕ → Answer
+stored_first m = record { number = 0; store = 1; sent = m }
 
 -- So many bytes sent, with nothing stored.
 abbrev pub sent_only : ℕ → Answer

@@ -3,7 +3,7 @@
 
 ghost use Rattle.std.specs.Prelude.{◌≡◌};
 ghost use Rattle.image.specs.Outcome.{step_on};
-ghost use Rattle.step.specs.Answers.{answered, refused_with, quietly, stored_first_of, sent_only};
+ghost use Rattle.step.specs.Answers.{answered, refused_with, quietly, stored_first, sent_only};
 
 pub mod colours; // colours.rt: actions that a state colours
 pub mod requests; // requests.rt: requests numbered, and sent
@@ -52,7 +52,7 @@ impl Answer {
 
     // "stored first"
     pub fn stored(sent: u32) -> Answer
-        ensures { result ≡ stored_first_of sent }
+        ensures { result ≡ stored_first sent }
     {
         Answer {
             number: 0,
