@@ -6,7 +6,7 @@ use Prim.Native.Nat.{ℕ}
 use mathlib.Core.List.{List, [], ◌∷◌}
 use Rattle.replication.specs.Audit.Witness.{Witness}
 use Rattle.examples.proofs.Records.{sent}
-use Rattle.examples.proofs.Rows.{Row, row, cut, down}
+use Rattle.examples.proofs.Rows.{Row, row}
 
 abbrev pub servers : ℕ
 servers = 5

@@ -9,7 +9,6 @@ use native.Mathlib.Omega.{arith}
 use native.Mathlib.Decide.{dec_lt, ℕ_discrete}
 use lib.ListN.{length, get_or, set}
 use lib.Seq.{get_or-set_same, get_or-set_other, set_out}
-use Rattle.base.specs.Lists.{at}
 use Rattle.base.proofs.AtLaws.{none_some, some_same, at_among}
 use Rattle.base.specs.Sets.{in_set}
 use Rattle.format.specs.Types.{State, Record, state}

@@ -15,7 +15,6 @@ use Rattle.replication.specs.Machine.Exchange.{note_all, taken_votes, attempted}
 use Rattle.replication.specs.Machine.Step.{entering, unmarked, yellow_valid, here_set, collected, decided, attempting, with_state, with_cpc, leave}
 use Rattle.replication.specs.Machine.WellFormedRanges.{ConfigurationFits, TransitionalFits}
 use Rattle.replication.proofs.WellFormed.Clauses.{CollectedFits}
-use Rattle.replication.proofs.WellFormed.Ids.{same}
 use Rattle.replication.proofs.WellFormed.Decisions.{empty_below, cleared_mark_fits, taken_votes_fits, attempted_fits, note_all_length, note_all_bound}
 use Rattle.replication.proofs.WellFormed.Changes.{Body, votes_changed, membership_changed, noted_changed, in_mode_lem, collected_fit_lem, no_states_lem}
 use Rattle.replication.specs.Laws.RuleFits.{StateCame}

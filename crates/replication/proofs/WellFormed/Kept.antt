@@ -18,7 +18,7 @@ use Rattle.replication.specs.Machine.WellFormedFacts.{ModeFits}
 use Rattle.replication.proofs.WellFormed.Clauses.{YellowRed, YellowEntered}
 use Rattle.replication.proofs.Step.Logs.{red_entered, red_ignored}
 use Rattle.replication.proofs.Step.Growth.{red_grows}
-use Rattle.replication.proofs.WellFormed.Changes.{Body, body}
+use Rattle.replication.proofs.WellFormed.Changes.{Body}
 
 -- ---- a fact of the state and the records of an outcome
 

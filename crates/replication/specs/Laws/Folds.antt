@@ -3,7 +3,7 @@ use Rattle.std.specs.Prelude.{ℕ, ◌+◌, ◌≡◌, Bool, List, [], ◌∷◌
 use Rattle.base.specs.Tests.{◌=?◌, pick}
 use Rattle.format.specs.Types.{Id, Action}
 use Rattle.replication.specs.Machine.Types.{Log, Server}
-use Rattle.replication.specs.Machine.Colours.{green, add_id}
+use Rattle.replication.specs.Machine.Colours.{add_id}
 
 -- "an action is entered only if its index is its creator's cut plus one"
 unfoldable pub follows : List ℕ → Action → Bool
