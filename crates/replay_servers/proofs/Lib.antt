@@ -2,4 +2,3 @@ pub mod CoreLaws
 pub mod Keeping
 pub mod StartingLaws
 pub mod Tabled
-pub mod TableLaws
