@@ -16,12 +16,14 @@ loop-preserved c = search (rules, printing_on)
 
 pub returns-in-Read : goal.returns-in-Read
 returns-in-Read c =
-    part_reads _ _ _ _ _ _ _ _ _ c.loop.invariant _ _
+    let h = part_reads _ _ _ _ _ _ _ _ _ c.loop.invariant _ _
     c.pass-r.ensures.out_after
-    c.shared_slice_known-1.given (search rules)
+    c.shared_slice_known-1.given (search rules) in
+    record { value = h.0; fed = h.1 }
 
 pub returns-in-Stop : goal.returns-in-Stop
 returns-in-Stop c =
-    part_stops _ _ _ _ _ _ _ _ _ c.loop.invariant _ _
+    let h = part_stops _ _ _ _ _ _ _ _ _ c.loop.invariant _ _
     c.pass-r.ensures.out_after
-    c.shared_slice_known-1.given (search rules)
+    c.shared_slice_known-1.given (search rules) in
+    record { value = h.0; fed = h.1 }
