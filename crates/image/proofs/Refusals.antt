@@ -13,7 +13,6 @@ use Rattle.replication.specs.Machine.Types.{Server, context_of}
 use Rattle.replication.specs.Machine.Step.{step}
 use Rattle.replication.specs.Machine.WellFormed.{ranges, well_formed}
 use Rattle.image.specs.Layout.{state_length, out_length}
-use Rattle.image.specs.Image.{image}
 use Rattle.image.specs.Decode.{decoded_as, decoded, servers_in, quota_in, reads, read_image}
 use Rattle.image.specs.Outcome.{refusal, state_short, out_short, too_short, image_after, result_of, step_from, step_on, state_number, image_number}
 use Rattle.image.proofs.ImageLaws.{image_read, image_reads}

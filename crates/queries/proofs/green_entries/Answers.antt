@@ -21,7 +21,10 @@ pub returns-then-green-from : goal.returns-then-green-from
 returns-then-green-from c = search (rules, past_entries)
 
 pub put_entries-requires : goal.put_entries-requires
-put_entries-requires c = ((search (rules, whole_queue), search rules, search rules), (search rules, search rules))
+put_entries-requires c = record {
+  queue_in = (search (rules, whole_queue), search rules, search rules);
+  white_le_from = (search rules, search rules);
+}
 
 pub returns : goal.returns
 returns c = search (rules, put_listed)

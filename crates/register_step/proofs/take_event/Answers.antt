@@ -27,11 +27,11 @@ raise-requires c =
 
 pub overflow_add-result : goal.overflow_add-result
 overflow_add-result c =
-    search (rules, greened_few _ _ _ c.requires _ _ _ _ c.carry_met-first.ensures _ _ _ c.act-a.ensures _ c.green_length-from.ensures.value.0 _ _ c.carry-rest.ensures)
+    search (rules, greened_few _ _ _ c.requires _ _ _ _ c.carry_met-first.ensures _ _ _ c.act-a.ensures _ c.green_length-from.ensures.value.0 _ _ (c.carry-rest.ensures.register_after, c.carry-rest.ensures.carries_on))
 
 pub overflow_add-result-2 : goal.overflow_add-result-2
 overflow_add-result-2 c =
-    search (rules, refused_few _ _ _ c.requires _ _ _ _ c.carry_met-first.ensures _ _ _ c.act-a.ensures _ c.green_length-from.ensures.value.0 _ _ c.carry-rest.ensures)
+    search (rules, refused_few _ _ _ c.requires _ _ _ _ c.carry_met-first.ensures _ _ _ c.act-a.ensures _ c.green_length-from.ensures.value.0 _ _ (c.carry-rest.ensures.register_after, c.carry-rest.ensures.carries_on))
 
 pub shape_of-state : goal.shape_of-state
 shape_of-state c = search (rules, c.raise, c.act-a, c.carry_met-first)
@@ -44,4 +44,4 @@ shape_of-out c = search (rules, c.act-a)
 
 pub returns : goal.returns
 returns c =
-    event_done _ _ _ c.requires _ _ _ _ c.carry_met-first.ensures _ _ _ c.act-a.ensures _ c.green_length-from.ensures.value.0 _ _ c.carry-rest.ensures _ (search rules) c.raise.ensures
+    event_done _ _ _ c.requires _ _ _ _ c.carry_met-first.ensures _ _ _ c.act-a.ensures _ c.green_length-from.ensures.value.0 _ _ (c.carry-rest.ensures.register_after, c.carry-rest.ensures.carries_on) _ (search rules) c.raise.ensures

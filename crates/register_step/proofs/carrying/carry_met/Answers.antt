@@ -11,4 +11,4 @@ carry-requires c =
 
 pub returns : goal.returns
 returns c =
-    met_done _ _ _ c.requires.0 c.requires.1 _ c.green_length-from.ensures.value.0 _ c.meet.ensures _ _ c.carry.ensures
+    met_done _ _ _ c.requires.0 c.requires.1 _ c.green_length-from.ensures.value.0 _ c.meet.ensures _ _ (c.carry.ensures.register_after, c.carry.ensures.carries_on)
