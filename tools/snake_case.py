@@ -197,8 +197,6 @@ def main(argv):
         if turned != text:
             with open(path, "w", encoding="utf-8") as f:
                 f.write(turned)
-    with open("/tmp/snake_case.txt", "w") as f:
-        f.writelines(f"{n} {t}\n" for n, t in sorted(new.items()))
 
 
 if __name__ == "__main__":
