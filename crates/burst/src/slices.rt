@@ -3,7 +3,7 @@ ghost use Rattle.std.specs.Prelude.{◌≡◌};
 ghost use Rattle.daemons.specs.Buffers.{is_recovery};
 ghost use Rattle.burst.specs.Burst.{cut_short, next_of, EndsIn, stop_number};
 
-use base::refusals::BAD_RECORD;
+use refusals::BAD_RECORD;
 use octets::numbers::num16;
 use record::events::{Event, VERSION};
 

@@ -9,9 +9,9 @@ pub mod sizes; // sizes.rt: how long the buffers must be
 pub mod places; // places.rt: where the sections begin
 pub mod starting; // starting.rt: the start in its buffer
 
-use base::refusals::{OUT_OF_RANGE, SHORT_BUFFER};
 use record::State;
 use record::range::sizes_ok;
+use refusals::{OUT_OF_RANGE, SHORT_BUFFER};
 use sizes::{out_length, state_length};
 use starting::begin;
 

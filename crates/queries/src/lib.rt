@@ -12,7 +12,7 @@ ghost use Rattle.queries.specs.Reading.{ReadingsGiveAll, NewlyGreen};
 pub mod meeting; // meeting.rt: how far a meeting is
 pub mod entries; // entries.rt: entries put one behind another
 
-use base::refusals::{OUT_OF_RANGE, SHORT_BUFFER};
+use refusals::{OUT_OF_RANGE, SHORT_BUFFER};
 use entries::{MOST_ENTRY, put_entries};
 use image::header::{load, unsent};
 use meeting::{cpcs_in, resent_in, resent_planned, states_in};

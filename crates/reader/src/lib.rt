@@ -12,7 +12,6 @@ ghost use Rattle.reader.specs.Reading.{Readable, JudgesAction, numbers_ok, lists
 
 pub mod frame; // frame.rt: the frame of an event
 
-use base::refusals::{BAD_RECORD, OUT_OF_RANGE};
 use frame::{Framed, framed_event};
 use record::events::{ActionAt, Event, StateAt, StateHead};
 use record::lists::ids_ok;
@@ -21,6 +20,7 @@ use record::range::{
     status_ok,
 };
 use record::{Context, State};
+use refusals::{BAD_RECORD, OUT_OF_RANGE};
 
 // The event, or the number that it is refused with.
 #[derive(Clone, Copy)]

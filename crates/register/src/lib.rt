@@ -9,7 +9,7 @@ ghost use Rattle.register.specs.Shapes.{Operates, Sought};
 pub mod payload; // payload.rt: what a payload is
 pub mod changing; // changing.rt: a peg more, less, or elsewhere
 
-use base::refusals::SHORT_BUFFER;
+use refusals::SHORT_BUFFER;
 use changing::{insert, remove, replace};
 use octets::numbers::{num16, put16};
 use payload::{AT_NAME, RETIRE, SET, Shape, shape_of};

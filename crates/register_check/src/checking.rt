@@ -9,7 +9,7 @@ ghost use Rattle.pegs.specs.Outcome.{register_number};
 ghost use Rattle.register_check.specs.Slots.{long_size, slot_reads, next_reads, slots_read, Tested};
 
 use super::layout::{AT_SLOT_NAME, COUNT_SIZE, MOST_NAME, MOST_PEGS, PEG_SIZE, REGISTER_LENGTH};
-use base::refusals::{BAD_STATE, SHORT_BUFFER};
+use refusals::{BAD_STATE, SHORT_BUFFER};
 use octets::numbers::{num8, num16, num32};
 
 // Names are compared by words of four bytes; so many are a name with its filling.

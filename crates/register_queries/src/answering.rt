@@ -4,7 +4,7 @@ ghost use Rattle.pegs.specs.Queries.{both_number, sides_number, region_number};
 ghost use Rattle.register_queries.specs.Arguments.{AnswersRegion};
 
 use crate::collecting::collect;
-use base::refusals::SHORT_BUFFER;
+use refusals::SHORT_BUFFER;
 use plane::{Region, sides_rise};
 use register_check::checking::register_number;
 use register_check::layout::REGISTER_LENGTH;

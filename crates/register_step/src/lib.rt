@@ -9,7 +9,7 @@ ghost use Rattle.register_step.specs.Claim.{JointBurstsFollow, JointBurstsAgree}
 
 pub mod carrying; // carrying.rt: green actions applied to the register
 
-use base::refusals::{BAD_STATE, SHORT_BUFFER};
+use refusals::{BAD_STATE, SHORT_BUFFER};
 use burst::slices::{Next, next_in, stop_number};
 use carrying::{carry, carry_met};
 use queue::history::green_length;

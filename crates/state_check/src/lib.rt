@@ -14,7 +14,7 @@ pub mod sections; // sections.rt: the sections of the buffer
 pub mod slots; // slots.rt: entries of one size
 pub mod tally; // tally.rt: how many actions each server has in the queue
 
-use base::refusals::{BAD_STATE, SHORT_BUFFER};
+use refusals::{BAD_STATE, SHORT_BUFFER};
 use exchange::plan::planned;
 use exchange::slots::collected as slots_of;
 use image::header::load;

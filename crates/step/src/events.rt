@@ -20,7 +20,7 @@ use crate::installing::{collect_cpc, collect_late_cpc, late_install};
 use crate::joining::{join, join_unmarked, join_yellow};
 use crate::requests::request;
 use crate::sieve::{pass, pass_at};
-use base::refusals::{NOT_FROM_HERE, NOT_NOW, QUOTA_USED};
+use refusals::{NOT_FROM_HERE, NOT_NOW, QUOTA_USED};
 use guards::{
     NO_MODE, after_transitional, cpc_in, is_member, is_of, numbered_own, quota_left, regular_due,
     state_in, transitional_due,

@@ -6,7 +6,7 @@
 ghost use Rattle.std.specs.Prelude.{◌≡◌, ◌<◌, length};
 
 use crate::patch::patches;
-use base::refusals::SHORT_BUFFER;
+use refusals::SHORT_BUFFER;
 use image::start;
 use octets::numbers::{num8, num16};
 use state_check::state_number;
