@@ -14,7 +14,7 @@ ghost use Rattle.writer.specs.Written.{Puts, given_bytes, put_of, put_state};
 
 use crate::parts::{put_body, put_mark, put_primary, put_yellow_head};
 use octets::blocks::copy;
-use octets::numbers::{put_number, put8, put32};
+use octets::numbers::{put8, put16, put32};
 use record::events::{Event, StateHead, VERSION};
 use record::{ActionHead, Kind, State};
 
@@ -28,7 +28,7 @@ const STATE_FOLLOWS: u32 = (StateHead::SIZE - Event::LENGTH_SIZE) as u32;
 const CPC_FOLLOWS: u32 = (Event::CPC_SIZE - Event::LENGTH_SIZE) as u32;
 
 // Two length bytes tell a length modulo this.
-const LENGTH_MODULUS: usize = 65536;
+const LENGTH_MODULUS: u32 = 65536;
 
 // Whether `size` bytes and `more` behind them lie inside `length` bytes.
 fn fits(length: usize, size: usize, more: usize) -> bool
@@ -42,7 +42,7 @@ fn put_frame(rest: &mut [u8], follows: u32, kind: Kind)
     requires { at_body ≤ length rest.old }
     ensures { rest.new ≡ patched 0 (frame_bytes follows (kind_number (the_kind kind))) rest.old }
 {
-    put_number(rest, 0, Event::LENGTH_SIZE, follows);
+    put16(rest, 0, (follows % LENGTH_MODULUS) as u16);
     put8(rest, Event::VERSION_AT, VERSION);
     put8(rest, Event::KIND_AT, u8::from(kind));
 }
@@ -76,7 +76,7 @@ pub fn write_action(rest: &mut [u8], head: ActionHead, payload: &[u8]) -> Option
     if !fits(rest.len(), Event::ACTION_SIZE, size) {
         return None;
     }
-    let follows = ACTION_FOLLOWS + (size % LENGTH_MODULUS) as u32;
+    let follows = ACTION_FOLLOWS + (size % LENGTH_MODULUS as usize) as u32;
     put_frame(rest, follows, Kind::Action);
     put_body(rest, Event::BODY, head, payload);
     Some(Event::ACTION_SIZE + size)
@@ -96,7 +96,7 @@ pub fn write_retransmission(
     if !fits(rest.len(), Event::RETRANSMISSION_SIZE, size) {
         return None;
     }
-    let follows = RETRANSMISSION_FOLLOWS + (size % LENGTH_MODULUS) as u32;
+    let follows = RETRANSMISSION_FOLLOWS + (size % LENGTH_MODULUS as usize) as u32;
     put_opening(rest, follows, Kind::Retransmission, sender, position);
     put_body(rest, Event::RESENT, head, payload);
     Some(Event::RETRANSMISSION_SIZE + size)
