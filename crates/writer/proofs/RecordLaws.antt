@@ -5,6 +5,8 @@ use mathlib.Core.Bool.{Bool, true, false, not}
 use mathlib.Core.List.{List, [], ◌∷◌}
 use native.Mathlib.Omega.{arith}
 use Rattle.std.specs.Prelude.{Some, None}
+use lib.Dec.{leb}
+use Rattle.base.proofs.Branches.{told_le}
 use lib.ListN.{length}
 use Rattle.base.specs.Bytes.{bytes_of}
 use Rattle.base.proofs.BytesLaws.{bytes_length}
@@ -27,15 +29,15 @@ use Rattle.writer.proofs.RecordBytes.{frame_length, opening_length, cpc_bytes, a
 -- ---- how `fits` answers
 
 module _ (l size more : ℕ) where
-  pub fits_not : l < size → false ≡ (size + more ≤? l)
-  fits_not h = sym (le_no (size + more) l (omega arith))
+  pub fits_not : l < size → leb size l ≡ (size + more ≤? l)
+  fits_not h = told_le size l ∙ le_no size l h ∙ sym (le_no (size + more) l (omega arith))
 
   fits_by : (b : Bool) → size ≤ l → (b ≡ true → more ≤ l - size) → (b ≡ false → l - size < more) → b ≡ (size + more ≤? l)
   fits_by true h y n = let z = y refl in sym (le_yes (size + more) l (omega arith))
   fits_by false h y n = let z = n refl in sym (le_no (size + more) l (omega arith))
 
-  pub fits_rest : size ≤ l → (more ≤? l - size) ≡ (size + more ≤? l)
-  fits_rest h = fits_by (more ≤? l - size) h (le_holds more (l - size)) (le_fails more (l - size))
+  pub fits_rest : size ≤ l → leb more (l - size) ≡ (size + more ≤? l)
+  fits_rest h = told_le more (l - size) ∙ fits_by (more ≤? l - size) h (le_holds more (l - size)) (le_fails more (l - size))
 
 -- ---- what every record begins with
 
