@@ -21,12 +21,10 @@ fn has_id(e: &[u8], at: usize, count: usize, creator: u8, index: u16) -> bool
     requires { at + id_size * count ≤ length e.now }
     ensures { result ≡ has_id (id_of creator index) (ids_at count e.now at) }
 {
-    let mut k: usize = 0;
-    while k < count {
+    for k in 0..count {
         if is_id(e, at + State::ID * k, creator, index) {
             return true;
         }
-        k += 1;
     }
     false
 }
