@@ -1,7 +1,7 @@
 -- A turn of each loop over a list in bytes takes one entry off the front of what is left.
 use Prim.Native.Nat.{ℕ, zero, suc, ◌+◌, ◌*◌, ◌-◌, ◌^◌, ◌≤◌, ◌<◌}
 use mathlib.Core.Path.{◌≡◌, refl, sym, ap, subst, ◌∙◌}
-use mathlib.Core.Bool.{Bool, true, false, not}
+use mathlib.Core.Bool.{Bool, true, false, not, ◌&&◌}
 use mathlib.Core.List.{List, [], ◌∷◌, ◌++◌}
 use native.Mathlib.Nat.{mul-le-mul_left, mul-suc}
 use native.Mathlib.Numerals.{add-one}
@@ -13,17 +13,18 @@ use mir.Syntax.{w64}
 use mir.Val.{Fits}
 use Rattle.format.specs.Limits.{most_quota_limit, most_ids}
 use Rattle.format.specs.Places.{id_size}
-use Rattle.base.specs.Tests.{◌=?◌, ◌and◌}
-use Rattle.base.proofs.TestLaws.{not_both, pick_yes, pick_no, and_yes, and_no, both_yes, and_eq, and_ne, Known, known, holds, fails}
+use Rattle.base.specs.Tests.{◌and◌}
+use Rattle.base.proofs.TestLaws.{not_both, pick_yes, pick_no, and_yes, and_no, both_yes, Known, known, holds, fails}
 use Rattle.base.proofs.Branches.{or_yes, or_no, told_eq}
-use Rattle.base.specs.Bytes.{number_at}
 use Rattle.format.specs.Types.{Id, Context as FormatContext}
 use Rattle.format.specs.Range.{id_ok, same_id, has_id, ids_ok}
 use Rattle.format.specs.Read.{id_at, ids_at}
 use Rattle.format.proofs.Ranges.{id_range}
 use Rattle.record.specs.declared.Context.{Context}
 use Rattle.record.specs.Context.{context_of, ContextIn}
-use Rattle.record.specs.Values.{id_of, slot, place_of, ids_by, IdsInside, HasPlaces, Marked, Met}
+use Rattle.record.specs.declared.ActionId.{ActionId}
+use Rattle.record.specs.Events.{id_in}
+use Rattle.record.specs.Values.{id_of, the_id, slot, place_of, ids_by, IdsInside, HasPlaces, Marked, Met}
 use Rattle.record.proofs.OnePass.{Small, pass, slot_lt, slot_below, pass_starts, unmarked_new, marked_last, marked_set}
 
 -- the ids
@@ -131,15 +132,14 @@ module _ (c : Context) (bs : List Id) (d : Id) (p : ℕ) (t : List ℕ) where
         size = length-set t p 1;
       }
 
-pub met_again : (c : Context) (bs : List Id) (p : ℕ) (t : List ℕ) (x y : ℕ) (e : List ℕ) (at : ℕ) (r : Bool) → Marked t bs → x ≡ number_at 1 e at
-    → y ≡ number_at 2 e (at + 1)
-    → p ≡ place_of (context_of c) (id_at e at) → p < most_ids → 0 < get_or t p 0 → r ≡ has_id (id_of x y) bs → Met (context_of c) bs (id_at e at) (not r) t t
+pub met_again : (c : Context) (bs : List Id) (p : ℕ) (t : List ℕ) (x : ActionId) (e : List ℕ) (at : ℕ) (r : Bool) → Marked t bs → x ≡ id_in e at
+    → p ≡ place_of (context_of c) (id_at e at) → p < most_ids → 0 < get_or t p 0 → r ≡ has_id (the_id x) bs → Met (context_of c) bs (id_at e at) (not r) t t
 unfolding id_of id_at
-met_again c bs p t x y e at r m a b f g n j =
+met_again c bs p t x e at r m a f g n j =
     let d : Id = id_at e at in
     let z = place_in_lem (context_of c) d p (known (id_ok (context_of c) d)) f g in
     record {
-      answer = and_yes _ _ _ z.0 (ap not (j ∙ λ k. has_id (id_of (a k) (b k)) bs));
+      answer = and_yes _ _ _ z.0 (ap not (j ∙ ap (λ (i : ActionId). has_id (the_id i) bs) a));
       marked = λ _. marked_last t d bs (omega (arith, n, ap (λ (k : ℕ). get_or t k 0) z.1)) m;
       size = refl;
     }
@@ -228,16 +228,20 @@ pass_start c w m e at = let z : m ≡ m - 0 = omega arith in pass_starts c (ids_
 
 -- ---- the place of an id
 
-pub place_read : (c : FormatContext) (e : List ℕ) (at x y r : ℕ) → x ≡ number_at 1 e at → y ≡ number_at 2 e (at + 1) → r ≡ place_of c (id_of x y) → r ≡ place_of c (id_at e at)
+pub place_read : (c : FormatContext) (e : List ℕ) (at r : ℕ) (d : ActionId) → d ≡ id_in e at → r ≡ place_of c (the_id d) → r ≡ place_of c (id_at e at)
 unfolding id_of id_at
-place_read c e at x y r a b h = h ∙ rw (a, b)
+place_read c e at r d a h = h ∙ ap (λ (x : ActionId). place_of c (the_id x)) a
 
--- ---- an id compared, field by field
+-- ---- an id compared with the one at a place
 
-pub other_creator : (c i x at : ℕ) (e : List ℕ) → x ≡ number_at 1 e at → (c ≡ x → ⊥) → false ≡ same_id (id_of c i) (id_at e at)
+both_told : (a b : Bool) → (a && b) ≡ (a and b)
+unfolding ◌and◌
+both_told true b = refl
+both_told false b = refl
+
+pub same_read : (d x : ActionId) (e : List ℕ) (at : ℕ) (r : Bool) → x ≡ id_in e at → r ≡ (eqb d.creator x.creator && eqb d.index x.index)
+    → r ≡ same_id (the_id d) (id_at e at)
 unfolding same_id id_of id_at
-other_creator c i x at e f n = and_ne c (number_at 1 e at) _ (λ g. n (g ∙ sym f))
-
-pub same_creator : (c i x y at : ℕ) (e : List ℕ) → x ≡ number_at 1 e at → c ≡ x → y ≡ number_at 2 e (at + 1) → eqb i y ≡ same_id (id_of c i) (id_at e at)
-unfolding same_id id_of id_at
-same_creator c i x y at e f g h = and_eq c (number_at 1 e at) _ _ (g ∙ f) (told_eq i y ∙ ap (λ (m : ℕ). i =? m) h)
+same_read d x e at r f g =
+    g ∙ both_told (eqb d.creator x.creator) (eqb d.index x.index) ∙ (λ i. told_eq d.creator x.creator i and told_eq d.index x.index i)
+    ∙ ap (λ (y : ActionId). same_id (the_id d) (the_id y)) f

@@ -10,11 +10,18 @@ use Rattle.format.specs.Range.{id_ok, has_id}
 use Rattle.format.specs.Read.{id_at, ids_at}
 use Rattle.record.specs.declared.LastPrimary.{LastPrimary}
 use Rattle.record.specs.declared.Mark.{Mark}
+use Rattle.record.specs.declared.ActionId.{ActionId}
 use Rattle.record.specs.declared.ActionHead.{ActionHead}
 use Rattle.record.specs.declared.events.StateHead.{StateHead}
 
 unfoldable pub id_of : (creator index : ℕ) → Id
 id_of creator index = record { creator = creator; index = index }
+
+abbrev pub the_id : ActionId → Id
+the_id d = id_of d.creator d.index
+
+abbrev pub id_in_head : ActionHead → ActionId
+id_in_head h = record { creator = h.creator; index = h.index }
 
 unfoldable pub primary_of : LastPrimary → Primary
 primary_of p = record { index = p.index.0; attempt = p.attempt.0; set = p.set }

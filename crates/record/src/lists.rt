@@ -4,40 +4,40 @@ ghost use Rattle.format.specs.Places.{id_size};
 ghost use Rattle.format.specs.Range.{has_id, ids_ok};
 ghost use Rattle.format.specs.Read.{id_at, ids_at};
 ghost use Rattle.record.specs.Context.{context_of, ContextIn};
-ghost use Rattle.record.specs.Values.{id_of, place_of, ids_by, IdsInside, HasPlaces, NextId, MetAt};
+ghost use Rattle.record.specs.Values.{the_id, place_of, ids_by, IdsInside, HasPlaces, NextId, MetAt};
 
-use crate::parts::is_id;
+use crate::parts::id_at as id_read;
 use crate::range::id_ok;
-use crate::{ActionHead, Context, State};
-use octets::numbers::{num8, num16};
+use crate::{ActionId, Context, State};
 
 // The place of an id in range, and State::MOST_IDS for any other.
-fn place(c: Context, creator: u8, index: u16) -> usize
+fn place(c: Context, id: ActionId) -> usize
     requires { ContextIn c }
-    ensures { result ≡ place_of (context_of c) (id_of creator index) }
+    ensures { result ≡ place_of (context_of c) (the_id id) }
 {
-    if !id_ok(c, creator, index) {
+    if !id_ok(c, id) {
         return State::MOST_IDS;
     }
-    creator as usize * State::MOST_QUOTA as usize + index as usize % State::MOST_QUOTA as usize
+    id.creator as usize * State::MOST_QUOTA as usize
+        + id.index as usize % State::MOST_QUOTA as usize
 }
 
 pub fn place_at(c: Context, e: &[u8], at: usize) -> usize
     requires { ContextIn c × (at + id_size ≤ length e.now) }
     ensures { result ≡ place_of (context_of c) (id_at e.now at) }
 {
-    place(c, num8(e, at), num16(e, at + ActionHead::INDEX))
+    place(c, id_read(e, at))
 }
 
 // Whether one of the `count` ids, each at the front of `step` bytes from `at` on, is this one.
-fn is_among(e: &[u8], at: usize, step: usize, count: usize, creator: u8, index: u16) -> bool
+fn is_among(e: &[u8], at: usize, step: usize, count: usize, id: ActionId) -> bool
     requires { IdsInside step count e.now at }
-    ensures { result ≡ has_id (id_of creator index) (ids_by step count e.now at) }
+    ensures { result ≡ has_id (the_id id) (ids_by step count e.now at) }
 {
     let mut here = at;
     let mut left = count;
     while 0 < left {
-        if is_id(e, here, creator, index) {
+        if id.is_at(e, here) {
             return true;
         }
         here += step;
@@ -65,14 +65,7 @@ pub fn is_new(
         return false;
     }
     if 0 < met[p] {
-        return !is_among(
-            e,
-            at,
-            step,
-            count,
-            num8(e, here),
-            num16(e, here + ActionHead::INDEX),
-        );
+        return !is_among(e, at, step, count, id_read(e, here));
     }
     met[p] = 1;
     true

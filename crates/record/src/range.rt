@@ -5,10 +5,10 @@ ghost use Rattle.format.specs.Limits.{most_servers_limit, most_length_limit};
 ghost use Rattle.format.specs.Range.{sizes_ok, context_ok, id_ok, index_ok, set_ok, status_ok, primary_ok, mark_ok, own_set_ok, inside_last};
 ghost use Rattle.record.specs.Context.{context_of, last_of, ContextIn};
 ghost use Rattle.record.specs.Limits.{the_limits};
-ghost use Rattle.record.specs.Values.{id_of, primary_of, mark_of};
+ghost use Rattle.record.specs.Values.{the_id, primary_of, mark_of};
 
 use crate::sets::{has, inside};
-use crate::{Context, LastPrimary, Mark, State};
+use crate::{ActionId, Context, LastPrimary, Mark, State};
 
 // The limits as one value.
 #[derive(Clone, Copy)]
@@ -66,13 +66,10 @@ pub fn context_ok(c: Context) -> bool
 }
 
 // K6: "indexes and cuts run to 65,535", the most that two bytes hold.
-pub fn id_ok(c: Context, creator: u8, index: u16) -> bool
-    ensures { result ≡ id_ok (context_of c) (id_of creator index) }
+pub fn id_ok(c: Context, id: ActionId) -> bool
+    ensures { result ≡ id_ok (context_of c) (the_id id) }
 {
-    if c.servers <= creator {
-        return false;
-    }
-    1 <= index
+    id.creator < c.servers && 1 <= id.index
 }
 
 pub fn product(n: u32, m: u32) -> u32

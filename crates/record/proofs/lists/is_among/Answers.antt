@@ -3,11 +3,11 @@ use borrow.Author.Rules.{rules}
 use Rattle.record.proofs.Turns.{first_inside, step_fits, next_inside, among_here, among_again, among_end}
 use Rattle.record.proofs.lists.is_among.Goals as goal
 
-pub is_id-requires : goal.is_id-requires
-is_id-requires c = search (rules, first_inside)
+pub is_at-requires : goal.is_at-requires
+is_at-requires c = search (rules, first_inside)
 
-pub returns-then-is_id : goal.returns-then-is_id
-returns-then-is_id c = search (rules, among_here)
+pub returns-then-is_at : goal.returns-then-is_at
+returns-then-is_at c = search (rules, among_here)
 
 pub overflow_add-here : goal.overflow_add-here
 overflow_add-here c = search (rules, step_fits)

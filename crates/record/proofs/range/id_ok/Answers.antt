@@ -6,10 +6,10 @@ use Rattle.record.proofs.Ranges.{index_law}
 use borrow.Author.Rules.{rules}
 use Rattle.record.proofs.range.id_ok.Goals as goal
 
-pub returns-then-c-creator : goal.returns-then-c-creator
+pub returns-else-id-c : goal.returns-else-id-c
 unfolding id_ok context_of id_of
-returns-then-c-creator c = search (rules, tests)
+returns-else-id-c c = search (rules, tests)
 
-pub returns : goal.returns
+pub returns-then-id-c : goal.returns-then-id-c
 unfolding id_ok context_of id_of
-returns c = search (rules, tests, index_law)
+returns-then-id-c c = search (rules, tests, index_law)
