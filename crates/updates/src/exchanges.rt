@@ -9,7 +9,7 @@ ghost use Rattle.format.specs.Places.{id_size};
 use crate::notes::note_all;
 use crate::numbers::change;
 use crate::votes::{VoteNumbers, take_votes};
-use record::{AttemptIndex, Mark, State};
+use record::{AttemptIndex, Mark, Mode, State};
 
 // A retransmission has come.
 pub fn one_more(state: &mut [u8])
@@ -33,7 +33,7 @@ pub fn resend(state: &mut [u8])
     change(
         state,
         |h| State {
-            mode: State::EXCHANGE_ACTIONS,
+            mode: u8::from(Mode::ExchangeActions),
             come: 0,
             ..h
         },
@@ -55,7 +55,7 @@ pub fn attempt(state: &mut [u8])
             bits: 0,
         };
         State {
-            mode: State::CONSTRUCT,
+            mode: u8::from(Mode::Construct),
             attempt,
             mark,
             ..h

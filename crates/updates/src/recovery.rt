@@ -15,7 +15,7 @@ use crate::numbers::change;
 use image::places::{THE_OWN, THE_QUEUE, place_of};
 use octets::blocks::copy_up;
 use octets::numbers::{num8, num16, num32, put16, put32};
-use record::{ActionHead, State};
+use record::{ActionHead, Mode, State};
 
 // The highest white length on the own list: a recovery enters that list, and takes it before.
 pub fn highest_white(state: &[u8]) -> u32
@@ -77,7 +77,7 @@ fn drop_membership(state: &mut [u8])
     change(
         state,
         |h| State {
-            mode: State::NON_PRIM,
+            mode: u8::from(Mode::NonPrim),
             configuration_status: 0,
             configuration_id: 0,
             configuration_set: 0,

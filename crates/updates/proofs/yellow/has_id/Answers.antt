@@ -5,8 +5,8 @@ use Rattle.updates.proofs.yellow.has_id.Goals as goal
 pub loop-k-init : goal.loop-k-init
 loop-k-init c = search (rules, has_start)
 
-pub returns-then-is_id : goal.returns-then-is_id
-returns-then-is_id c = search (rules, has_found)
+pub returns-then-is_at : goal.returns-then-is_at
+returns-then-is_at c = search (rules, has_found)
 
 pub loop-k-preserved : goal.loop-k-preserved
 loop-k-preserved c = search (rules, has_again)
