@@ -6,3 +6,4 @@ pub mod Made
 pub mod SetCode
 pub mod PartLaws
 pub mod Codes
+pub mod Chains

@@ -1,5 +1,5 @@
 -- What the code's structs stand for.
-use Rattle.std.specs.Prelude.{ℕ, zero, suc, ◌+◌, ◌*◌, ◌%◌, ◌≤◌, ◌<◌, ◌≡◌, Bool, true, not, List, [], ◌∷◌, ◌++◌, length, get_or}
+use Rattle.std.specs.Prelude.{ℕ, zero, suc, ◌+◌, ◌*◌, ◌%◌, ◌≤◌, ◌<◌, ◌≡◌, Bool, true, not, List, [], ◌∷◌, ◌++◌, length, get_or, Option, Some, None}
 use Rattle.base.specs.Tests.{pick, ◌and◌}
 use Rattle.base.specs.Bytes.{numbers_at}
 use Rattle.base.specs.Lists.{Each}
@@ -64,7 +64,11 @@ state_of h cuts at ids start = record {
 unfoldable pub slot : Id → ℕ
 slot d = d.creator * most_quota_limit + d.index % most_quota_limit
 
--- The place past every table's end stands for an id that is out of range.
+-- An id that is out of range has none.
+unfoldable pub table_place : Context → Id → Option ℕ
+table_place c d = pick (id_ok c d) (Some (slot d)) None
+
+-- The same, where the place past every table's end stands for none. Goes when its users have gone over.
 unfoldable pub place_of : Context → Id → ℕ
 place_of c d = pick (id_ok c d) (slot d) most_ids
 

@@ -1,9 +1,9 @@
-use Rattle.record.proofs.Turns.{place_there, met_out, met_first, met_again}
 use borrow.Author.Rules.{rules}
-use Rattle.record.proofs.lists.is_new.Goals as goal
+use Rattle.record.proofs.Turns.{place_there, met_out, met_first, met_again}
+use Rattle.record.proofs.lists.Ids.is_new.Goals as goal
 
-pub returns-then-p-ge-MOST_IDS : goal.returns-then-p-ge-MOST_IDS
-returns-then-p-ge-MOST_IDS c = search (rules, met_out)
+pub returns-in_default : goal.returns-in_default
+returns-in_default c = search (rules, met_out)
 
 pub bounds-met-p : goal.bounds-met-p
 bounds-met-p c = search (rules, place_there)
