@@ -5,10 +5,7 @@ use Rattle.base.specs.Patched.{patched}
 use Rattle.pegs.specs.Operations.{most_name}
 use Rattle.pegs.specs.Register.{most_pegs}
 use Rattle.pegs.specs.Image.{count_size, at_place, peg_size, register_length}
-
--- Where the slot i begins.
-abbrev pub slot_at : ℕ → ℕ
-slot_at i = count_size + peg_size * i
+use Rattle.register_check.specs.Slots.{slot_at}
 
 -- Room for one peg more, in the slot i.
 pub record RoomFor (i n : ℕ) (b : List ℕ) : Type 0 where

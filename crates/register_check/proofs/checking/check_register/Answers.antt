@@ -1,6 +1,6 @@
-use Rattle.register_check.proofs.CheckCode.{number_seven, number_eight, number_nought}
+use Rattle.register_check.proofs.CheckCode.{number_eight, number_nought, number_seven}
 use borrow.Author.Rules.{rules}
-use Rattle.register_check.proofs.checking.register_number.Goals as goal
+use Rattle.register_check.proofs.checking.check_register.Goals as goal
 
 pub returns-then-register-lt-REGISTER_LENGTH : goal.returns-then-register-lt-REGISTER_LENGTH
 returns-then-register-lt-REGISTER_LENGTH c = search (rules, number_seven)
