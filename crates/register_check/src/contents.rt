@@ -1,6 +1,7 @@
 // The register that a lent buffer holds: how many pegs there are, and each one's name and place.
 ghost use Rattle.std.specs.Prelude.{◌≡◌, ◌<◌, length};
-ghost use Rattle.pegs.specs.Image.{peg_count, peg_at};
+ghost use Rattle.base.specs.Bytes.{part_at};
+ghost use Rattle.pegs.specs.Image.{peg_count, peg_size, peg_at};
 ghost use Rattle.pegs.specs.Outcome.{register_number};
 ghost use Rattle.pegs.specs.Regions.{point_of};
 ghost use Rattle.register_check.specs.Slots.{slot_at};
@@ -29,6 +30,15 @@ impl<'a> Register<'a> {
         ensures { result ≡ peg_count self.entry.bytes.now }
     {
         usize::from(num16(self.bytes, 0))
+    }
+
+    // The bytes of the slot of this index.
+    pub fn slot(self, index: usize) -> &'a [u8]
+        requires { index < peg_count self.bytes.now }
+        ensures { result.now ≡ part_at peg_size self.entry.bytes.now (slot_at index) }
+    {
+        let at = COUNT_SIZE + PEG_SIZE * index;
+        &self.bytes[at..at + PEG_SIZE]
     }
 
     pub fn name(self, index: usize) -> &'a [u8]
