@@ -33,6 +33,9 @@ module _ (e n : ℤ) (fe : SFits w32 e) (fn : SFits w32 n) where
       → changed k c ≡ region_on (disc e n m) r b
   disc_given m r b c k h = h ∙ (λ i. region_on (disc (to_z-of_z fe i) (to_z-of_z fn i) m) r b)
 
+  pub nearest_point : (b : List ℕ) (r : Found) → r ≡ nearest_on b (point (bits_of e) (bits_of n)) → r ≡ nearest_on b (point e n)
+  nearest_point b r h = h ∙ ap (nearest_on b) point_bits
+
   module _ (b : List ℕ) (r : Found) (c : List ℕ) (h : c ≡ b) (ok : register_number c ≡ 0) where
     pub none_given : none ≡ nearest (point (bits_of e) (bits_of n)) (pegs_in c) → r ≡ not_found 0 → r ≡ nearest_on b (point e n)
     none_given f g = nearest_none b (point e n) r c h ok (f ∙ ap (λ (p : Point). nearest p (pegs_in c)) point_bits) g
