@@ -116,9 +116,8 @@ pub extern "C" fn guzbytor_register_rectangle(
 ) -> u32
     ensures { AnswersRegion result (rectangle west south east north) register.now answer }
 {
-    answer_number(register_queries::in_rectangle(
-        register, west, south, east, north, answer,
-    ))
+    let asked = register_queries::in_rectangle(register, west, south, east, north, answer);
+    answer_number(asked)
 }
 
 #[unsafe(no_mangle)]
@@ -131,9 +130,8 @@ pub extern "C" fn guzbytor_register_radius(
 ) -> u32
     ensures { AnswersRegion result (disc easting northing radius) register.now answer }
 {
-    answer_number(register_queries::in_radius(
-        register, easting, northing, radius, answer,
-    ))
+    let asked = register_queries::in_radius(register, easting, northing, radius, answer);
+    answer_number(asked)
 }
 
 #[unsafe(no_mangle)]
