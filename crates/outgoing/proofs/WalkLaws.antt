@@ -181,8 +181,13 @@ module _ (b : List ℕ) (me c low high i q : ℕ) (o o₁ : List ℕ) (l : low �
     red_room room =
         walk_room (as_red me (queue_in b) c) low o i q o₁ l a x.index high n.over n.most (ap length (n.alone me) ∙ one_red) room
 
-    pub red_again : (r : ℕ) (y : List ℕ) → Sends 1 (one_of (from_place me 0 (queue_in b) x.place)) (rest q o₁) y r
+    again : (r : ℕ) (y : List ℕ) → Sends 1 (one_of (from_place me 0 (queue_in b) x.place)) (rest q o₁) y r
         → Sends (length (reds_of me c low x.index b)) (reds_of me c low x.index b) o (restored q o₁ y) (q + r)
-    red_again r y d =
+    again r y d =
         walk_again (as_red me (queue_in b) c) low o i q o₁ l a x.index r y n.over
         (one_sent (one_of (from_place me 0 (queue_in b) x.place)) (reds_of me c i x.index b) r (rest q o₁) y (n.alone me) one_red d)
+
+    pub red_again : (j : ℕ) → j ≡ x.index → (r : ℕ) (y : List ℕ) → Sends 1 (one_of (from_place me 0 (queue_in b) x.place)) (rest q o₁) y r
+        → Sends (length (reds_of me c low j b)) (reds_of me c low j b) o (restored q o₁ y) (q + r)
+    red_again j same r y d =
+        subst (λ (k : ℕ). Sends (length (reds_of me c low k b)) (reds_of me c low k b) o (restored q o₁ y) (q + r)) (sym same) (again r y d)

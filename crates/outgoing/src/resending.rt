@@ -122,13 +122,7 @@ fn send_green(state: &[u8], out: &mut [u8], me: u8) -> usize
 }
 
 // "for each creator the server with the highest cut resends from the lowest cut + 1 to it, as red."
-fn send_red(
-    state: &[u8],
-    out: &mut [u8],
-    places: &[u16; State::MOST_IDS],
-    me: u8,
-    c: u8,
-) -> usize
+fn send_red(state: &[u8], out: &mut [u8], places: &[u16; State::MOST_IDS], me: u8, c: u8) -> usize
     requires { Resends places.now me state.now × (c < servers_in state.now) × RoomFor (red_part state.now c) out.old }
     ensures { SendsAll (red_part state.now c) out result }
 {

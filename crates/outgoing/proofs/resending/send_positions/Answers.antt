@@ -10,8 +10,8 @@ loop-p-init c = (omega arith, search (rules, walk_start))
 pub slice_bounds-send_position-start : goal.slice_bounds-send_position-start
 slice_bounds-send_position-start c = search (rules, sent_inside)
 
-pub send_position-requires : goal.send_position-requires
-send_position-requires c = (search (rules, position_in), omega arith, search (rules, position_room))
+pub send_position-sent-requires : goal.send_position-sent-requires
+send_position-sent-requires c = (search (rules, position_in), omega arith, search (rules, position_room))
 
 pub overflow_add-sent : goal.overflow_add-sent
 overflow_add-sent c = search (rules, sent_fits)

@@ -9,8 +9,8 @@ loop-c-init c = search (rules, reds_start)
 pub slice_bounds-send_red-start : goal.slice_bounds-send_red-start
 slice_bounds-send_red-start c = search (rules, sent_inside)
 
-pub send_red-requires : goal.send_red-requires
-send_red-requires c = search (rules, reds_creator, reds_room)
+pub send_red-sent-requires : goal.send_red-sent-requires
+send_red-sent-requires c = search (rules, reds_creator, reds_room)
 
 pub overflow_add-sent : goal.overflow_add-sent
 overflow_add-sent c = search (rules, sent_fits)

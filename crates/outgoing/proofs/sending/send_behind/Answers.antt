@@ -9,8 +9,8 @@ loop-p-init c = (omega arith, search (rules, all_start))
 pub slice_bounds-send_own-start : goal.slice_bounds-send_own-start
 slice_bounds-send_own-start c = search (rules, sent_inside)
 
-pub send_own-requires : goal.send_own-requires
-send_own-requires c = (search rules, omega arith, omega arith, search (rules, all_room))
+pub send_own-sent-requires : goal.send_own-sent-requires
+send_own-sent-requires c = (search rules, omega arith, omega arith, search (rules, all_room))
 
 pub overflow_add-sent : goal.overflow_add-sent
 overflow_add-sent c = search (rules, sent_fits)

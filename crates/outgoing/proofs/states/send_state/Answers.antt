@@ -25,4 +25,5 @@ pub overflow_cast-result : goal.overflow_cast-result
 overflow_cast-result c = search (rules, state_small)
 
 pub returns : goal.returns
-returns c = search (rules, state_done)
+returns c =
+    state_done _ _ _ _ _ _ _ _ c.requires c.own_numbers-head.ensures c.place_of-at.ensures c.write_state-size.ensures c.unwrap_or.ensures
